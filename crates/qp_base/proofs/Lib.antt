@@ -1,0 +1,2 @@
+pub mod MemShelfLemmas
+pub mod SinkLemmas

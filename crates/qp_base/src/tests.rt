@@ -1,0 +1,113 @@
+//! Tests.
+
+use crate::{
+    DirShelf, FILE_LIMIT, Gate, MemShelf, MemSink, NoGate, Shelf, ShelfFault, Sink, SinkFault,
+    StdSink,
+};
+use arrayvec::ArrayString;
+use std::alloc::Global;
+use std::test::Fail;
+use std::{env, fs, process};
+
+/// What one load answers: the bytes of the file, or the fault.
+fn answer<S: Shelf>(
+    shelf: &mut S,
+    alloc: Global,
+    name: &str,
+    want: Result<&[u8], ShelfFault>,
+) -> bool {
+    match (shelf.load(alloc, name), want) {
+        (Ok(file), Ok(bytes)) => file.as_slice() == bytes,
+        (Err(fault), Err(wanted)) => fault == wanted,
+        _ => false,
+    }
+}
+
+fn two_files(alloc: Global) -> Result<MemShelf, Fail> {
+    let mut files = Vec::new(alloc);
+    files.push((ArrayString::from("a")?, Vec::from_slice(alloc, b"first")?))?;
+    files.push((ArrayString::from("a")?, Vec::from_slice(alloc, b"second")?))?;
+    files.push((ArrayString::from("b")?, Vec::new(alloc)))?;
+    Ok(MemShelf::new(files, vec![in alloc; 1]?))
+}
+
+#[test]
+fn a_shelf_in_memory_loads_what_it_holds(rt: HostRuntime) -> Result<(), Fail> {
+    let alloc = rt.alloc();
+    let mut shelf = two_files(alloc)?;
+    assert!(rt;
+        answer(&mut shelf, alloc, "a", Ok(b"first")),
+        "the first pair of a name counts"
+    );
+    assert!(rt;
+        answer(&mut shelf, alloc, "a", Err(ShelfFault::Failed)),
+        "load 1 fails"
+    );
+    assert!(rt; answer(&mut shelf, alloc, "c", Err(ShelfFault::Absent)));
+    assert!(rt; answer(&mut shelf, alloc, "b", Ok(b"")));
+    Ok(())
+}
+
+#[test]
+fn a_file_beyond_the_limit_is_too_long(rt: HostRuntime) -> Result<(), Fail> {
+    let alloc = rt.alloc();
+    for (len, is_loaded) in [(67108864, true), (67108865, false)] {
+        let mut files = Vec::new(alloc);
+        files.push((ArrayString::from("long")?, vec![in alloc; 0u8; len]?))?;
+        let mut shelf = MemShelf::new(files, Vec::new(alloc));
+        match shelf.load(alloc, "long") {
+            Ok(file) => assert!(rt; is_loaded && file.len() == len),
+            Err(ShelfFault::TooLong { len }) => assert!(rt; !is_loaded && len == 67108865),
+            Err(_) => assert!(rt; false, "neither loaded nor too long"),
+        }
+    }
+    Ok(())
+}
+
+#[test]
+fn a_shelf_on_disk_loads_a_file(rt: HostRuntime) -> Result<(), Fail> {
+    let alloc = rt.alloc();
+    let folder = env::temp_dir(&rt)?;
+    let folder = folder.to_str().unwrap_or("");
+    let id = process::id(rt.process());
+    let path = format!(in alloc; "{folder}/qp_base_{id}.txt")?;
+    let path = path.as_str();
+    let mut shelf = DirShelf::new(&rt);
+    assert!(rt; answer(&mut shelf, alloc, path, Err(ShelfFault::Absent)));
+    fs::write(&rt, path, "hello, shelf\n")?;
+    assert!(rt; answer(&mut shelf, alloc, path, Ok(b"hello, shelf\n")));
+    fs::remove_file(&rt, path)?;
+    assert!(rt;
+        answer(&mut shelf, alloc, folder, Err(ShelfFault::Failed)),
+        "a folder is no file"
+    );
+    Ok(())
+}
+
+#[test]
+fn a_sink_in_memory_keeps_what_its_faults_leave(rt: HostRuntime) -> Result<(), Fail> {
+    // Puts `ab`, `cd`, `efg` and `h` into six bytes of room, with put 1 failing after so many bytes.
+    let cases: [(u64, &[u8]); 3] = [(0, b"abefgh"), (1, b"abcefg"), (9, b"abcdef")];
+    for (kept, want) in cases {
+        let failing = vec![in rt.alloc(); (1, kept), (1, 2)]?;
+        let mut sink = MemSink::new(rt.alloc(), 6, failing).map_err(|_| std::alloc::AllocError)?;
+        assert_eq!(rt; sink.put(b"ab"), Ok(()));
+        assert_eq!(rt; sink.put(b"cd"), Err(SinkFault::Failed));
+        let _ = sink.put(b"efg");
+        let _ = sink.put(b"h");
+        assert_eq!(rt; sink.bytes(), want, "keeping {kept}");
+    }
+    Ok(())
+}
+
+#[test]
+fn a_standard_sink_writes(rt: HostRuntime) {
+    assert_eq!(rt; StdSink::out(&rt).put(b"to standard output\n"), Ok(()));
+    assert_eq!(rt; StdSink::notes(&rt).put(b"to standard error\n"), Ok(()));
+}
+
+#[test]
+fn no_gate_does_nothing(rt: HostRuntime) {
+    NoGate.at(0, 1);
+    assert_eq!(rt; FILE_LIMIT, 67108864);
+}
