@@ -1,0 +1,90 @@
+//! Resolving the names of an expression.
+
+ghost use Rattle.std.specs.Prelude.{◌≡◌, ◌<◌, ◌≤◌, false, true, length, slice_get, IfOk, IfErr, IfSome, IfNone};
+ghost use Rattle.qp_chart.specs.Terms.{term_of};
+ghost use Rattle.std.specs.List.{list_any, position};
+ghost use Rattle.qp_chart.specs.Binding.{is_named, words, has_word, knows, Binds, IsCause};
+
+use crate::expression::Bound;
+use crate::text::Name;
+use crate::trees::{BindFault, Expr};
+use std::alloc::Global;
+
+/// Resolves the names of an expression: `vars` are the names of the variables, and `params` is the number of
+/// parameters of the event. A name that isn't known comes before a parameter that isn't.
+pub fn bind(alloc: Global, e: &Expr, vars: &[Name], params: u8) -> Result<Bound, BindFault>
+    requires { length vars.now ≤ 16 }
+    ensures ok { IfOk result (Binds (words vars.now) params (term_of e.now)) }
+    ensures refused { IfErr result (IsCause (words vars.now) params (term_of e.now)) }
+    ensures known_first { result ≡ Err BindFault.NoParameter → knows (words vars.now) (term_of e.now) ≡ true }
+{
+    if is_known(e, vars) {
+        resolve(alloc, e, vars, params)
+    } else {
+        Err(BindFault::NoName)
+    }
+}
+
+// Whether each variable of the expression is one of `vars`.
+#[tactic(auto, unfolding(crate::specs::Terms::term_of, crate::specs::Binding::knows))]
+pub(crate) fn is_known(e: &Expr, vars: &[Name]) -> bool
+    ensures { result ≡ knows (words vars.now) (term_of e.now) }
+{
+    match e {
+        Expr::Num(_) | Expr::Ok | Expr::Me | Expr::Par(_) => true,
+        Expr::Var(name) => has_name(name, vars),
+        Expr::One(_, x) => is_known(x, vars),
+        Expr::Two(_, x, y) => {
+            let left = is_known(x, vars);
+            left && is_known(y, vars)
+        }
+    }
+}
+
+// The bound expression, or the first fault from the left.
+#[tactic(auto, unfolding(crate::specs::Terms::term_of, crate::specs::Binding::knows, crate::specs::Binding::reaches, crate::specs::Binding::named, crate::specs::Expr::InRange))]
+fn resolve(alloc: Global, e: &Expr, vars: &[Name], params: u8) -> Result<Bound, BindFault>
+    requires { length vars.now ≤ 16 }
+    ensures ok { IfOk result (Binds (words vars.now) params (term_of e.now)) }
+    ensures refused { IfErr result (IsCause (words vars.now) params (term_of e.now)) }
+{
+    match e {
+        Expr::Num(n) => Ok(Bound::Num(*n)),
+        Expr::Var(name) => match place(name, vars) {
+            Some(v) => Ok(Bound::Var(v as u8)),
+            None => Err(BindFault::NoName),
+        },
+        Expr::Ok => Ok(Bound::Ok),
+        Expr::Me => Ok(Bound::Me),
+        Expr::Par(j) => {
+            if 1 <= *j && *j <= params {
+                Ok(Bound::Par(*j))
+            } else {
+                Err(BindFault::NoParameter)
+            }
+        }
+        Expr::One(op, x) => {
+            let inner = resolve(alloc, x, vars, params)?;
+            Ok(Bound::One(*op, Box::new(alloc, inner)?))
+        }
+        Expr::Two(op, x, y) => {
+            let left = resolve(alloc, x, vars, params)?;
+            let right = resolve(alloc, y, vars, params)?;
+            Ok(Bound::Two(*op, Box::new(alloc, left)?, Box::new(alloc, right)?))
+        }
+    }
+}
+
+// The first place of a name among the variables.
+fn place(name: &Name, vars: &[Name]) -> Option<usize>
+    ensures { result ≡ position (is_named name.now.bytes) vars.now }
+{
+    vars.iter().position(|v| v == name)
+}
+
+// Whether a name is among the variables.
+fn has_name(name: &Name, vars: &[Name]) -> bool
+    ensures { result ≡ list_any (is_named name.now.bytes) vars.now }
+{
+    vars.iter().any(|v| v == name)
+}

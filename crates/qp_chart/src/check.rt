@@ -1,0 +1,131 @@
+//! The check that makes a chart of what a file says.
+ghost use Rattle.std.specs.Prelude.{◌≡◌, ◌≤◌, length, map, None, IfOk, IfErr};
+ghost use Rattle.qp_chart.specs.Faults.{IsFault, first_in};
+ghost use Rattle.qp_chart.specs.Parents.{parents_of, parent_number};
+ghost use Rattle.qp_chart.specs.ChartFaults.{chart_fault, frame_fault, timer_fault, parent_at};
+ghost use Rattle.qp_chart.specs.Pairs.{Corresponds};
+ghost use Rattle.qp_chart.specs.ChartOf.{IsTimerOf, IsChartOf};
+ghost use Rattle.qp_chart.specs.LegalTree.{IsLegal};
+ghost use Rattle.qp_chart.specs.Readable.{IsReadable};
+
+use crate::checked::{Chart, Timer, Timers, Vars};
+use crate::fault::ChartFault;
+use crate::fit::signal_is_static;
+use crate::parents::check_tree;
+use crate::place::Part;
+use crate::raw::{Names, RawChart, RawState, RawTimer};
+use crate::scope::Scope;
+use crate::state_check::checked_states;
+use crate::statements::checked_acts;
+use crate::tables::tables_of;
+use crate::text::Name;
+use crate::{code, key};
+use std::alloc::{AllocError, Global};
+
+impl Chart {
+    /// Checks a chart and resolves its names.
+    ///
+    /// Of several faults it answers the first in the order of the file; the path begins below the chart.
+    pub fn check(alloc: Global, raw: &RawChart, names: &Names) -> Result<Chart, ChartFault>
+        requires { IsReadable names.now raw.now }
+        ensures ok { IfOk result (λ chart. (chart_fault names.now raw.now ≡ None) × IsChartOf names.now raw.now chart) }
+        ensures legal { IfOk result IsLegal }
+        ensures fault { IfErr result (IsFault (chart_fault names.now raw.now)) }
+    {
+        let scope = Scope {
+            names,
+            chart: raw,
+            tables: tables_of(alloc, raw, names)?,
+        };
+        let (timer, parents) = checked_frame(alloc, &scope)?;
+        let init = scope.state(&raw.init, &[], key::INIT)?;
+        let init_do = checked_acts(
+            alloc,
+            &scope,
+            None,
+            &[],
+            key::INIT_DO,
+            raw.init_do.as_slice(),
+        )?;
+        let state = checked_states(alloc, &scope, parents.as_slice(), raw.state.as_slice())?;
+        Ok(Chart {
+            name: raw.name,
+            init,
+            init_do,
+            vars: copied_vars(alloc, raw.vars.as_slice())?,
+            timer,
+            state,
+        })
+    }
+}
+
+/// The time events, and the parents of the states, which make a tree.
+fn checked_frame(alloc: Global, scope: &Scope<'_>) -> Result<(Timers, Vec<Option<u8>>), ChartFault>
+    requires timers { length scope.now.chart.now.timer ≤ 8 }
+    requires states { length scope.now.chart.now.state ≤ 64 }
+    ensures ok { IfOk result (λ frame. (frame_fault scope.now.names.now scope.now.chart.now ≡ None) × Corresponds (IsTimerOf scope.now.names.now) scope.now.chart.now.timer frame.0 × (frame.1.items ≡ parents_of scope.now.chart.now)) }
+    ensures fault { IfErr result (IsFault (frame_fault scope.now.names.now scope.now.chart.now)) }
+{
+    let timers = checked_timers(alloc, scope, scope.chart.timer.as_slice())?;
+    let parents = checked_parents(alloc, scope, scope.chart.state.as_slice())?;
+    check_tree(parents.as_slice())?;
+    Ok((timers, parents))
+}
+
+/// The time events in order.
+fn checked_timers(alloc: Global, scope: &Scope<'_>, raws: &[RawTimer]) -> Result<Timers, ChartFault>
+    requires { length raws.now ≤ 8 }
+    ensures ok { IfOk result (λ timers. (first_in (timer_fault scope.now.names.now) 1 raws.now ≡ None) × Corresponds (IsTimerOf scope.now.names.now) raws.now timers) }
+    ensures fault { IfErr result (IsFault (first_in (timer_fault scope.now.names.now) 1 raws.now)) }
+{
+    let mut timers = Vec::new(alloc);
+    for (i, raw) in raws.iter().enumerate() {
+        let timer = checked_timer(scope, i as u16 + 1, raw)?;
+        timers.push(timer)?;
+    }
+    Ok(Timers { items: timers })
+}
+
+/// One time event.
+fn checked_timer(scope: &Scope<'_>, place: u16, raw: &RawTimer) -> Result<Timer, ChartFault>
+    ensures ok { IfOk result (λ timer. (timer_fault scope.now.names.now place raw.now ≡ None) × IsTimerOf scope.now.names.now raw.now timer) }
+    ensures fault { IfErr result (IsFault (timer_fault scope.now.names.now place raw.now)) }
+{
+    let at = [Part::Key(key::TIMER), Part::Pos(place)];
+    let signal = scope.signal(&raw.signal, &at, key::SIGNAL)?;
+    if !signal_is_static(scope, &raw.signal) {
+        return Err(ChartFault::below(code::RANGE, &at, &[Part::Key(key::SIGNAL)]));
+    }
+    Ok(Timer {
+        name: raw.name,
+        signal,
+        rate: raw.rate,
+    })
+}
+
+/// The parents of the states in order.
+fn checked_parents(
+    alloc: Global,
+    scope: &Scope<'_>,
+    raws: &[RawState],
+) -> Result<Vec<Option<u8>>, ChartFault>
+    requires { length raws.now ≤ 64 }
+    ensures ok { IfOk result (λ parents. (first_in (parent_at scope.now.chart.now) 1 raws.now ≡ None) × (parents.items ≡ map (λ raw. parent_number scope.now.chart.now raw) raws.now)) }
+    ensures fault { IfErr result (IsFault (first_in (parent_at scope.now.chart.now) 1 raws.now)) }
+{
+    let mut parents = Vec::new(alloc);
+    for (i, raw) in raws.iter().enumerate() {
+        let at = [Part::Key(key::STATE), Part::Pos(i as u16 + 1)];
+        let parent = scope.optional_state(&raw.parent, &at, key::PARENT)?;
+        parents.push(parent)?;
+    }
+    Ok(parents)
+}
+
+/// The variables with their first values.
+fn copied_vars(alloc: Global, vars: &[(Name, i64)]) -> Result<Vars, AllocError>
+    ensures { IfOk result (λ copied. copied ≡ vars.now) }
+{
+    let items = vars.iter().copied().collect(alloc)?;
+    Ok(Vars { items })
+}

@@ -1,0 +1,74 @@
+//! The value of an expression.
+
+ghost use Rattle.std.specs.Prelude.{◌≡◌, ℕ, length};
+ghost use Rattle.qp_chart.specs.Expr.{InRange, value_of, unary_value, binary_value, names_in, of_truth};
+
+use crate::expression::{Binary, Bound, Unary};
+
+/// What the names of an expression stand for: the object's variables in ascending name, the parameters of the event,
+/// the object's last answer and its priority.
+#[derive(Clone, Copy)]
+pub struct Env<'a> {
+    pub vars: &'a [i64],
+    pub pars: &'a [u64],
+    pub ok: i64,
+    pub me: u8,
+}
+
+/// The value of an expression. It takes no memory.
+#[tactic(auto, unfolding(crate::specs::Expr::value_of, crate::specs::Expr::InRange))]
+pub fn eval(e: &Bound, env: &Env<'_>) -> i64
+    requires { InRange (length env.now.vars.now) (length env.now.pars.now) e.now }
+    ensures { result ≡ value_of (names_in env.now) e.now }
+{
+    match e {
+        Bound::Num(n) => *n,
+        Bound::Var(v) => env.vars[*v as usize],
+        Bound::Ok => env.ok,
+        Bound::Me => i64::from(env.me),
+        Bound::Par(j) => env.pars[*j as usize - 1].cast_signed(),
+        Bound::One(op, x) => unary(*op, eval(x, env)),
+        Bound::Two(op, x, y) => {
+            let left = eval(x, env);
+            binary(*op, left, eval(y, env))
+        }
+    }
+}
+
+#[tactic(auto, unfolding(crate::specs::Expr::unary_value))]
+fn unary(op: Unary, x: i64) -> i64
+    ensures { result ≡ unary_value op x }
+{
+    match op {
+        Unary::Minus => x.wrapping_neg(),
+        Unary::Not => truth(x == 0),
+    }
+}
+
+#[tactic(auto, unfolding(crate::specs::Expr::binary_value))]
+fn binary(op: Binary, x: i64, y: i64) -> i64
+    ensures { result ≡ binary_value op x y }
+{
+    match op {
+        Binary::Or => truth(x != 0 || y != 0),
+        Binary::And => truth(x != 0 && y != 0),
+        Binary::Equal => truth(x == y),
+        Binary::Differs => truth(x != y),
+        Binary::Below => truth(x < y),
+        Binary::AtMost => truth(x <= y),
+        Binary::Above => truth(x > y),
+        Binary::AtLeast => truth(x >= y),
+        Binary::Plus => x.wrapping_add(y),
+        Binary::Minus => x.wrapping_sub(y),
+        Binary::Times => x.wrapping_mul(y),
+        Binary::Over => { if y == 0 { 0 } else { x.wrapping_div(y) } }
+        Binary::Rest => { if y == 0 { 0 } else { x.wrapping_rem(y) } }
+    }
+}
+
+// 1 or 0.
+fn truth(holds: bool) -> i64
+    ensures { result ≡ of_truth holds }
+{
+    i64::from(holds)
+}

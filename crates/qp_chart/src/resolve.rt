@@ -1,0 +1,247 @@
+//! Actions with their names resolved.
+ghost use Rattle.std.specs.Prelude.{◌≡◌, All, Some, None, map, true, IfOk, IfErr};
+ghost use Rattle.std.specs.Option.{is_some};
+ghost use Rattle.qp_chart.specs.Pairs.{Corresponds};
+ghost use Rattle.qp_chart.specs.Terms.{term_of, event_of, order_of, command_of, address_of};
+ghost use Rattle.qp_chart.specs.RawNumbers.{signal_number, timer_number, variable_number};
+ghost use Rattle.qp_chart.specs.ActionFaults.{IsAllowed, IsSound, command_known, command_in_range, command_fits, event_known, event_fits, receiver_known, is_byte, params_in};
+ghost use Rattle.qp_chart.specs.ActionOf.{IsBoundOf, IsTargetOf, IsEventOf, IsByteOf, IsPlainOf, IsActOf};
+ghost use Rattle.qp_chart.specs.Faults.{IsFault};
+
+use crate::actions::{Act, Plain, Plains, Target};
+use crate::binding::bind;
+use crate::expression::{Bound, Bounds};
+use crate::fault::ChartFault;
+use crate::scope::Scope;
+use crate::text::Name;
+use crate::trees::{Action, BindFault, EventTree, Expr, PlainAction, Receiver};
+use std::alloc::Global;
+
+/// An expression whose names are declared.
+pub(crate) fn bound(
+    alloc: Global,
+    scope: &Scope<'_>,
+    params: u8,
+    e: &Expr,
+) -> Result<Bound, ChartFault>
+    requires { IsSound scope.now.chart.now params (term_of e.now) }
+    ensures ok { IfOk result (IsBoundOf scope.now.chart.now params (term_of e.now)) }
+    ensures memory { IfErr result (IsFault None) }
+{
+    match bind(alloc, e, scope.tables.vars.as_slice(), params) {
+        Ok(bound) => Ok(bound),
+        Err(BindFault::Memory) => Err(ChartFault::Memory),
+        Err(BindFault::NoName) => unreachable!(),
+        Err(BindFault::NoParameter) => unreachable!(),
+    }
+}
+
+/// The parameters of an event.
+fn bounds(
+    alloc: Global,
+    scope: &Scope<'_>,
+    params: u8,
+    exprs: &[Expr],
+) -> Result<Bounds, ChartFault>
+    requires { All (λ e. IsSound scope.now.chart.now params (term_of e)) exprs.now }
+    ensures ok { IfOk result (λ pars. Corresponds (IsBoundOf scope.now.chart.now params) (map term_of exprs.now) pars) }
+    ensures memory { IfErr result (IsFault None) }
+{
+    let mut items = Vec::new(alloc);
+    for e in exprs {
+        let item = bound(alloc, scope, params, e)?;
+        items.push(item)?;
+    }
+    Ok(Bounds { items })
+}
+
+fn declared_signal(scope: &Scope<'_>, name: &Name) -> u16
+    requires { is_some (signal_number scope.now.names.now name.now.bytes) ≡ true }
+    ensures { signal_number scope.now.names.now name.now.bytes ≡ Some result }
+{
+    match scope.signal_number(name) {
+        Some(number) => number,
+        None => unreachable!(),
+    }
+}
+
+fn declared_timer(scope: &Scope<'_>, name: &Name) -> u8
+    requires { is_some (timer_number scope.now.chart.now name.now.bytes) ≡ true }
+    ensures { timer_number scope.now.chart.now name.now.bytes ≡ Some result }
+{
+    match scope.timer_number(name) {
+        Some(number) => number,
+        None => unreachable!(),
+    }
+}
+
+fn declared_variable(scope: &Scope<'_>, name: &Name) -> u8
+    requires { is_some (variable_number scope.now.chart.now name.now.bytes) ≡ true }
+    ensures { variable_number scope.now.chart.now name.now.bytes ≡ Some result }
+{
+    match scope.variable_number(name) {
+        Some(number) => number,
+        None => unreachable!(),
+    }
+}
+
+fn target(scope: &Scope<'_>, to: &Receiver) -> Target
+    requires { receiver_known scope.now.names.now (address_of to.now) ≡ true }
+    ensures { IsTargetOf scope.now.names.now (address_of to.now) result }
+{
+    match to {
+        Receiver::Me => Target::Me,
+        Receiver::Object(name) => match scope.object_named(name) {
+            Some(object) => Target::Object(object.priority),
+            None => unreachable!(),
+        },
+    }
+}
+
+/// A margin or a reserve.
+fn byte(number: Option<i64>) -> Option<u8>
+    requires { is_byte number ≡ true }
+    ensures { IsByteOf number result }
+{
+    match number {
+        Some(number) => Some(number as u8),
+        None => None,
+    }
+}
+
+/// The signal of an event, and its parameters.
+fn event(
+    alloc: Global,
+    scope: &Scope<'_>,
+    params: u8,
+    event: &EventTree,
+) -> Result<(u16, Bounds), ChartFault>
+    requires known { event_known scope.now.names.now scope.now.chart.now (event_of event.now) ≡ true }
+    requires fits { event_fits scope.now.names.now params (event_of event.now) ≡ true }
+    ensures ok { IfOk result (λ e. IsEventOf scope.now.names.now scope.now.chart.now params (event_of event.now) e.0 e.1) }
+    ensures memory { IfErr result (IsFault None) }
+{
+    let signal = declared_signal(scope, &event.signal);
+    let pars = bounds(alloc, scope, params, event.pars.as_slice())?;
+    Ok((signal, pars))
+}
+
+/// An action that may stand within `locked`.
+#[tactic(auto, unfolding(crate::specs::Terms::order_of, crate::specs::ActionFaults::order_known, crate::specs::ActionFaults::order_in_range, crate::specs::ActionFaults::order_fits, crate::specs::ActionOf::IsPlainOf))]
+fn resolved_plain(
+    alloc: Global,
+    scope: &Scope<'_>,
+    inside: Option<u8>,
+    plain: &PlainAction,
+) -> Result<Plain, ChartFault>
+    requires { IsAllowed scope.now.names.now scope.now.chart.now inside (order_of plain.now) }
+    ensures ok { IfOk result (IsPlainOf scope.now.names.now scope.now.chart.now (params_in inside) (order_of plain.now)) }
+    ensures memory { IfErr result (IsFault None) }
+{
+    let params = inside.unwrap_or(0);
+    match plain {
+        PlainAction::Set { var, value } => Ok(Plain::Set {
+            var: declared_variable(scope, var),
+            value: bound(alloc, scope, params, value)?,
+        }),
+        PlainAction::Say(value) => Ok(Plain::Say(bound(alloc, scope, params, value)?)),
+        PlainAction::Post {
+            to,
+            event: posted,
+            margin,
+            reserve,
+        } => {
+            let (sig, pars) = event(alloc, scope, params, posted)?;
+            Ok(Plain::Post {
+                to: target(scope, to),
+                sig,
+                pars,
+                margin: byte(*margin),
+                reserve: byte(*reserve),
+            })
+        }
+        PlainAction::Lifo {
+            event: posted,
+            reserve,
+        } => {
+            let (sig, pars) = event(alloc, scope, params, posted)?;
+            let reserve = byte(*reserve);
+            Ok(Plain::Lifo { sig, pars, reserve })
+        }
+        PlainAction::Forward { to, margin } => Ok(Plain::Forward {
+            to: target(scope, to),
+            margin: byte(*margin),
+        }),
+        PlainAction::Publish {
+            event: posted,
+            reserve,
+        } => {
+            let (sig, pars) = event(alloc, scope, params, posted)?;
+            let reserve = byte(*reserve);
+            Ok(Plain::Publish { sig, pars, reserve })
+        }
+        PlainAction::Defer => Ok(Plain::Defer),
+        PlainAction::Recall => Ok(Plain::Recall),
+        PlainAction::Flush => Ok(Plain::Flush),
+        PlainAction::Subscribe(signal) => Ok(Plain::Subscribe(declared_signal(scope, signal))),
+        PlainAction::Unsubscribe(signal) => Ok(Plain::Unsubscribe(declared_signal(scope, signal))),
+        PlainAction::Arm {
+            timer,
+            ticks,
+            interval,
+        } => Ok(Plain::Arm {
+            timer: declared_timer(scope, timer),
+            ticks: bound(alloc, scope, params, ticks)?,
+            interval: bound(alloc, scope, params, interval)?,
+        }),
+        PlainAction::Rearm { timer, ticks } => Ok(Plain::Rearm {
+            timer: declared_timer(scope, timer),
+            ticks: bound(alloc, scope, params, ticks)?,
+        }),
+        PlainAction::Disarm { timer } => Ok(Plain::Disarm {
+            timer: declared_timer(scope, timer),
+        }),
+    }
+}
+
+/// The actions of a `locked`.
+fn resolved_plains(
+    alloc: Global,
+    scope: &Scope<'_>,
+    inside: Option<u8>,
+    plains: &[PlainAction],
+) -> Result<Plains, ChartFault>
+    requires { All (λ plain. IsAllowed scope.now.names.now scope.now.chart.now inside (order_of plain)) plains.now }
+    ensures ok { IfOk result (λ acts. Corresponds (IsPlainOf scope.now.names.now scope.now.chart.now (params_in inside)) (map order_of plains.now) acts) }
+    ensures memory { IfErr result (IsFault None) }
+{
+    let mut items = Vec::new(alloc);
+    for plain in plains {
+        let item = resolved_plain(alloc, scope, inside, plain)?;
+        items.push(item)?;
+    }
+    Ok(Plains { items })
+}
+
+/// An action. `inside` is the number of parameters of the row's signal; `None` stands outside a row.
+#[tactic(auto, unfolding(crate::specs::Terms::command_of, crate::specs::ActionFaults::command_known, crate::specs::ActionFaults::command_in_range, crate::specs::ActionFaults::command_fits, crate::specs::ActionOf::IsActOf))]
+pub(crate) fn resolved(
+    alloc: Global,
+    scope: &Scope<'_>,
+    inside: Option<u8>,
+    action: &Action,
+) -> Result<Act, ChartFault>
+    requires known { command_known scope.now.names.now scope.now.chart.now (command_of action.now) ≡ true }
+    requires in_range { command_in_range scope.now.names.now (command_of action.now) ≡ true }
+    requires fits { command_fits scope.now.names.now inside (command_of action.now) ≡ true }
+    ensures ok { IfOk result (IsActOf scope.now.names.now scope.now.chart.now (params_in inside) (command_of action.now)) }
+    ensures memory { IfErr result (IsFault None) }
+{
+    match action {
+        Action::Plain(plain) => Ok(Act::Plain(resolved_plain(alloc, scope, inside, plain)?)),
+        Action::Locked { ceiling, acts } => Ok(Act::Locked {
+            ceiling: *ceiling as u8,
+            acts: resolved_plains(alloc, scope, inside, acts.as_slice())?,
+        }),
+    }
+}

@@ -1,0 +1,121 @@
+//! Actions and guards of a chart, from their texts.
+ghost use Rattle.std.specs.Prelude.{◌≡◌, ◌+◌, ◌≤◌, ◌∷◌, ◌++◌, [], length, None, IfOk, IfErr};
+ghost use Rattle.qp_chart.specs.declared.place.Part.TheVariants.{Key};
+ghost use Rattle.qp_chart.specs.declared.key.TheConstants.{WHEN};
+ghost use Rattle.qp_chart.specs.Reading.{term_of_text};
+ghost use Rattle.qp_chart.specs.Pairs.{Corresponds};
+ghost use Rattle.qp_chart.specs.Faults.{IsFault};
+ghost use Rattle.qp_chart.specs.ActionFaults.{text_fault, texts_fault, when_fault, guard_fault};
+ghost use Rattle.qp_chart.specs.ActionOf.{IsActOfText, IsBoundOfText, IsGuardOf};
+
+use crate::action_parser::read_action;
+use crate::actions::{Act, Acts};
+use crate::expression::Bound;
+use crate::fault::ChartFault;
+use crate::fit::{is_fit, is_in_range, is_known, reaches};
+use crate::parser::read_expr;
+use crate::place::Part;
+use crate::resolve::{bound, resolved};
+use crate::scope::Scope;
+use crate::text::Text;
+use crate::trees::ExprFault;
+use crate::{code, key};
+use std::alloc::Global;
+
+/// The actions of the texts in the list at this key. `inside` is the number of parameters of the row's signal; `None` stands outside a row.
+pub(crate) fn checked_acts(
+    alloc: Global,
+    scope: &Scope<'_>,
+    inside: Option<u8>,
+    at: &[Part],
+    list: u8,
+    texts: &[Text],
+) -> Result<Acts, ChartFault>
+    requires place { length at.now ≤ 6 }
+    requires few { length texts.now ≤ 16 }
+    ensures ok { IfOk result (λ acts. (texts_fault scope.now.names.now scope.now.chart.now inside at.now list texts.now ≡ None) × Corresponds (IsActOfText scope.now.names.now scope.now.chart.now inside) texts.now acts) }
+    ensures fault { IfErr result (IsFault (texts_fault scope.now.names.now scope.now.chart.now inside at.now list texts.now)) }
+{
+    let mut items = Vec::new(alloc);
+    for (i, text) in texts.iter().enumerate() {
+        let rest = [Part::Key(list), Part::Pos(i as u16 + 1)];
+        let act = checked_act(alloc, scope, inside, at, &rest, text.as_str())?;
+        items.push(act)?;
+    }
+    Ok(Acts { items })
+}
+
+/// The action of a text at the place that `rest` leads to from the place `at`.
+fn checked_act(
+    alloc: Global,
+    scope: &Scope<'_>,
+    inside: Option<u8>,
+    at: &[Part],
+    rest: &[Part],
+    text: &str,
+) -> Result<Act, ChartFault>
+    requires { length at.now + length rest.now ≤ 8 }
+    ensures ok { IfOk result (λ act. (text_fault scope.now.names.now scope.now.chart.now inside (at.now ++ rest.now) text.now ≡ None) × IsActOfText scope.now.names.now scope.now.chart.now inside text.now act) }
+    ensures fault { IfErr result (IsFault (text_fault scope.now.names.now scope.now.chart.now inside (at.now ++ rest.now) text.now)) }
+{
+    let action = match read_action(alloc, text) {
+        Ok(action) => action,
+        Err(ExprFault::Memory) => return Err(ChartFault::Memory),
+        Err(ExprFault::Bad) => return Err(ChartFault::below(code::BAD_TEXT, at, rest)),
+    };
+    if !is_known(scope, &action) {
+        return Err(ChartFault::below(code::NO_SUCH_NAME, at, rest));
+    }
+    if !is_in_range(scope, &action) {
+        return Err(ChartFault::below(code::RANGE, at, rest));
+    }
+    if !is_fit(scope, inside, &action) {
+        return Err(ChartFault::below(code::WRONG_ARITY, at, rest));
+    }
+    resolved(alloc, scope, inside, &action)
+}
+
+/// The optional guard of a row at this place, whose signal has so many parameters.
+pub(crate) fn checked_guard(
+    alloc: Global,
+    scope: &Scope<'_>,
+    params: u8,
+    at: &[Part],
+    when: &Option<Text>,
+) -> Result<Option<Bound>, ChartFault>
+    requires { length at.now ≤ 6 }
+    ensures ok { IfOk result (λ guard. (when_fault scope.now.chart.now params (at.now ++ Key WHEN ∷ []) when.now ≡ None) × IsGuardOf scope.now.chart.now params when.now guard) }
+    ensures fault { IfErr result (IsFault (when_fault scope.now.chart.now params (at.now ++ Key WHEN ∷ []) when.now)) }
+{
+    match when {
+        Some(text) => Ok(Some(checked_expr(alloc, scope, params, at, text.as_str())?)),
+        None => Ok(None),
+    }
+}
+
+/// The guard of this text.
+fn checked_expr(
+    alloc: Global,
+    scope: &Scope<'_>,
+    params: u8,
+    at: &[Part],
+    text: &str,
+) -> Result<Bound, ChartFault>
+    requires { length at.now ≤ 6 }
+    ensures ok { IfOk result (λ b. (guard_fault scope.now.chart.now params (at.now ++ Key WHEN ∷ []) (term_of_text text.now) ≡ None) × IsBoundOfText scope.now.chart.now params text.now b) }
+    ensures fault { IfErr result (IsFault (guard_fault scope.now.chart.now params (at.now ++ Key WHEN ∷ []) (term_of_text text.now))) }
+{
+    let rest = [Part::Key(key::WHEN)];
+    let e = match read_expr(alloc, text) {
+        Ok(e) => e,
+        Err(ExprFault::Memory) => return Err(ChartFault::Memory),
+        Err(ExprFault::Bad) => return Err(ChartFault::below(code::BAD_TEXT, at, &rest)),
+    };
+    if !scope.knows(&e) {
+        return Err(ChartFault::below(code::NO_SUCH_NAME, at, &rest));
+    }
+    if !reaches(&e, params) {
+        return Err(ChartFault::below(code::WRONG_ARITY, at, &rest));
+    }
+    bound(alloc, scope, params, &e)
+}
