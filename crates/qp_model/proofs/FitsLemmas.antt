@@ -1,0 +1,361 @@
+-- Which kinds of records a call makes: an assertion only as the last, deferral only for `defer`, `recall` and `flush`, and no note of a step.
+use Rattle.std.proofs.Common.{◌≡◌, ℕ, zero, suc, Bool, true, false, ◌&&◌, ◌||◌, List, [], ◌∷◌, ◌++◌, refl, sym, ◌∙◌, ap, subst, inl, inr, Option, Some, None, append_assoc}
+use Rattle.std.specs.Bool.{MatchBool}
+use Rattle.std.specs.List.{list_all}
+use Rattle.qp_model.specs.declared.systems.System.{System}
+use Rattle.qp_model.specs.declared.bodies.Entry.{Entry}
+use Rattle.qp_model.specs.declared.bodies.Body.{Body}
+use Rattle.qp_model.specs.declared.bodies.Body.TheVariants as item
+use Rattle.qp_model.specs.Told.{Told, plain}
+use Rattle.qp_model.specs.Calls as call
+use Rattle.qp_model.specs.Calls.{Call, Answer, Granted, Refused, Flushed, AtQueue, AtPool, AtTimer, AtTicks, AtFront, is_assertion}
+use Rattle.qp_model.specs.Shapes.{Fits, MakesBlock, MakesNew, again_by, MakesAgain, MakesAgainNow, Posts, PostsFront, PostsNew, PostsNewFront, Forwards, PostsOne, PostsToAll, PostsUpTo, NoBlockFor, Drops, releases_by, Releases, Flushes, Publishes, PublishesFirst, PublishesLast, raising, restoring, Defers, Recalls, Subscribes, Unsubscribes, Arms, Rearms, Disarms}
+use Rattle.qp_model.specs.ObjectShape.{is_assert}
+
+-- a record of a call that is neither deferral nor an assertion
+unfoldable pub is_calm : Body → Bool
+is_calm (item.New p n b from sig pars) = true
+is_calm (item.Short p n free reserve) = true
+is_calm (item.Inc p b r) = true
+is_calm (item.Dec p b d k) = true
+is_calm (item.Back p n b to) = true
+is_calm (item.Post a f l m e) = true
+is_calm (item.Lifo f l m e) = true
+is_calm (item.Full a f l m margin) = true
+is_calm (item.Pub sig n set) = true
+is_calm (item.Lock c) = true
+is_calm (item.Unlock c) = true
+is_calm (item.Sub sig n) = true
+is_calm (item.Unsub sig n) = true
+is_calm (item.Same sig n) = true
+is_calm (item.Arm t n ticks interval) = true
+is_calm (item.Disarm t n former) = true
+is_calm (item.Rearm t n former ticks) = true
+is_calm (item.Idle t n) = true
+is_calm _ = false
+
+-- a record of deferral
+unfoldable pub is_deferral : Body → Bool
+is_deferral (item.Defer e) = true
+is_deferral item.NoDefer = true
+is_deferral (item.Recall e) = true
+is_deferral item.NoRecall = true
+is_deferral (item.Flush e) = true
+is_deferral _ = false
+
+-- a call that is no matter of the deferred list
+unfoldable pub is_other : Call → Bool
+is_other call.Defer = false
+is_other call.Recall = false
+is_other call.Flush = false
+is_other _ = true
+
+-- every record is calm
+abbrev pub Calm : List Told → Type 0
+Calm g = list_all (λ t. is_calm t.body) g ≡ true
+
+-- every record is calm, or of deferral
+abbrev pub Usual : List Told → Type 0
+Usual g = list_all (λ t. is_calm t.body || is_deferral t.body) g ≡ true
+
+and-left : (x y : Bool) → (x && y) ≡ true → x ≡ true
+and-left true y h = refl
+and-left false y h = h
+
+and-right : (x y : Bool) → (x && y) ≡ true → y ≡ true
+and-right true y h = h
+and-right false y h = absurd (cc)
+
+and-both : (x y : Bool) → x ≡ true → y ≡ true → (x && y) ≡ true
+and-both x y h k = rw (h, k) refl
+
+pub all-append : {X : Type 0} (f : X → Bool) (xs ys : List X) → list_all f xs ≡ true → list_all f ys ≡ true → list_all f (xs ++ ys) ≡ true
+all-append f [] ys h k = k
+all-append f (x ∷ xs) ys h k = and-both (f x) (list_all f (xs ++ ys)) (and-left (f x) (list_all f xs) h) (all-append f xs ys (and-right (f x) (list_all f xs) h) k)
+
+pub calm-append : (g h : List Told) → Calm g → Calm h → Calm (g ++ h)
+calm-append g h a b = all-append (λ t. is_calm t.body) g h a b
+
+pub usual-append : (g h : List Told) → Usual g → Usual h → Usual (g ++ h)
+usual-append g h a b = all-append (λ t. is_calm t.body || is_deferral t.body) g h a b
+
+-- calm records are usual ones
+pub usual : (g : List Told) → Calm g → Usual g
+usual [] h = refl
+usual (t ∷ g) h =
+    and-both (is_calm t.body || is_deferral t.body) (list_all (λ t. is_calm t.body || is_deferral t.body) g)
+    (rw (and-left (is_calm t.body) (list_all (λ t. is_calm t.body) g) h) refl) (usual g (and-right (is_calm t.body) (list_all (λ t. is_calm t.body) g) h))
+
+calm-same : {g h : List Told} → g ≡ h → Calm h → Calm g
+calm-same {g} {h} e k = subst (λ us. Calm us) (sym e) k
+
+one : (t : Told) → is_calm t.body ≡ true → Calm (t ∷ [])
+one t h = rw h refl
+
+-- the parts of the shapes
+pub calm-drops : (e : Entry) (rel : List Told) → Drops e rel → Calm rel
+unfolding Drops is_calm
+calm-drops e rel h = by_pool e.pool h
+  where
+    by_case : Releases e.pool e.block e.name rel → list_all (λ t. is_calm t.body) rel ≡ true
+    by_case (inl k) = rw k.2 refl
+    by_case (inr k) = rw k.2 refl
+
+    by_pool : (p : ℕ) → releases_by p e rel → list_all (λ t. is_calm t.body) rel ≡ true
+    by_pool zero h = rw h refl
+    by_pool (suc p) h = by_case h
+
+calm-again : (old : Entry) (head : List Told) (e : Entry) → MakesAgain old head e → Calm head
+unfolding MakesAgain is_calm
+calm-again old head e h = by_pool old.pool h
+  where
+    by_pool : (p : ℕ) → again_by p old head e → list_all (λ t. is_calm t.body) head ≡ true
+    by_pool zero h = rw h.0 refl
+    by_pool (suc p) h = rw h.1 refl
+
+calm-again_now : (now : Option Entry) (head : List Told) (e : Entry) → MakesAgainNow now head e → Calm head
+unfolding MakesAgainNow
+calm-again_now None head e h = absurd h
+calm-again_now (Some now) head e h = calm-again now head e h
+
+calm-new : (fixed : Bool) (sizes : List ℕ) (sig : ℕ) (pars : List ℕ) (reserve : Option ℕ) (head : List Told) (e : Entry) → MakesNew fixed sizes sig pars reserve head e → Calm head
+unfolding MakesNew MakesBlock is_calm
+calm-new true sizes sig pars reserve head e h = rw h.0 refl
+calm-new false sizes sig pars reserve head e h = rw h.6 refl
+
+-- the records end in an assertion, and those before it are so
+unfoldable pub Ending : (List Told → Type 0) → List Told → Type 0
+Ending P g = (front : List Told) × (t : Told) × P front × (is_assert t.body ≡ true) × (g ≡ front ++ (t ∷ []))
+
+-- an answer's records: calm, or calm up to an assertion
+unfoldable pub Answers : (List Told → Type 0) → Answer → List Told → Type 0
+unfolding Ending
+Answers P answer g = MatchBool (is_assertion answer) (Ending P g) (P g)
+
+no_block-calm : (fixed : Bool) (sizes pars : List ℕ) (reserve : Option ℕ) (answer : Answer) (g : List Told) → NoBlockFor fixed sizes pars reserve answer g → Answers Calm answer g
+unfolding NoBlockFor Answers Ending is_calm
+no_block-calm fixed sizes pars None AtPool g h = ([], plain (item.NoBlock h.0 h.1), refl, refl, h.4)
+no_block-calm fixed sizes pars (Some r) Refused g h = rw h.5 refl
+no_block-calm fixed sizes pars None Granted g h = absurd h
+no_block-calm fixed sizes pars None Refused g h = absurd h
+no_block-calm fixed sizes pars None (Flushed n) g h = absurd h
+no_block-calm fixed sizes pars None AtQueue g h = absurd h
+no_block-calm fixed sizes pars None AtTimer g h = absurd h
+no_block-calm fixed sizes pars None AtTicks g h = absurd h
+no_block-calm fixed sizes pars None AtFront g h = absurd h
+no_block-calm fixed sizes pars (Some r) Granted g h = absurd h
+no_block-calm fixed sizes pars (Some r) (Flushed n) g h = absurd h
+no_block-calm fixed sizes pars (Some r) AtQueue g h = absurd h
+no_block-calm fixed sizes pars (Some r) AtPool g h = absurd h
+no_block-calm fixed sizes pars (Some r) AtTimer g h = absurd h
+no_block-calm fixed sizes pars (Some r) AtTicks g h = absurd h
+no_block-calm fixed sizes pars (Some r) AtFront g h = absurd h
+
+posts-calm : (ring to : ℕ) (margin : Option ℕ) (head : List Told) (e : Entry) (answer : Answer) (g : List Told) → Calm head → Posts ring to margin head e answer g → Answers Calm answer g
+unfolding Posts Answers Ending is_calm
+posts-calm ring to margin head e Granted g c h = calm-same h.3 (calm-append head (plain (item.Post to h.0 h.1 h.2 e) ∷ []) c (one (plain (item.Post to h.0 h.1 h.2 e)) refl))
+posts-calm ring to (Some k) head e Refused g c h =
+    calm-same h.4 (calm-append head (plain (item.Full to h.0 h.1 h.2 k) ∷ h.3) c (calm-append (plain (item.Full to h.0 h.1 h.2 k) ∷ []) h.3 (one (plain (item.Full to h.0 h.1 h.2 k)) refl) (calm-drops e h.3 h.5)))
+posts-calm ring to None head e Refused g c h = absurd h
+posts-calm ring to None head e AtQueue g c h = (head, plain (item.NoEntry to h.0 h.1 h.2), c, refl, h.3)
+posts-calm ring to (Some k) head e AtQueue g c h = absurd h
+posts-calm ring to None head e (Flushed n) g c h = absurd h
+posts-calm ring to (Some k) head e (Flushed n) g c h = absurd h
+posts-calm ring to None head e AtPool g c h = absurd h
+posts-calm ring to (Some k) head e AtPool g c h = absurd h
+posts-calm ring to None head e AtTimer g c h = absurd h
+posts-calm ring to (Some k) head e AtTimer g c h = absurd h
+posts-calm ring to None head e AtTicks g c h = absurd h
+posts-calm ring to (Some k) head e AtTicks g c h = absurd h
+posts-calm ring to None head e AtFront g c h = absurd h
+posts-calm ring to (Some k) head e AtFront g c h = absurd h
+
+front-calm : (o : ℕ) (head : List Told) (e : Entry) (answer : Answer) (g : List Told) → Calm head → PostsFront o head e answer g → Answers Calm answer g
+unfolding PostsFront Answers Ending is_calm
+front-calm o head e Granted g c h = calm-same h.3 (calm-append head (plain (item.Lifo h.0 h.1 h.2 e) ∷ []) c (one (plain (item.Lifo h.0 h.1 h.2 e)) refl))
+front-calm o head e AtFront g c h = (head, plain (item.NoLifo o h.0 h.1 h.2), c, refl, h.3)
+front-calm o head e Refused g c h = absurd h
+front-calm o head e (Flushed n) g c h = absurd h
+front-calm o head e AtQueue g c h = absurd h
+front-calm o head e AtPool g c h = absurd h
+front-calm o head e AtTimer g c h = absurd h
+front-calm o head e AtTicks g c h = absurd h
+
+post_one-calm : (ring : ℕ) (e : Entry) (to : ℕ) (answer : Answer) (g : List Told) → PostsOne ring e to answer g → Answers Calm answer g
+unfolding PostsOne
+post_one-calm ring e to answer g h = posts-calm ring to None h.0 h.1 answer g (calm-again e h.0 h.1 h.2) h.3
+
+all-calm : (rings : ℕ → ℕ) (e : Entry) (ms : List ℕ) (g : List Told) → PostsToAll rings e ms g → Calm g
+unfolding PostsToAll Answers
+all-calm rings e [] g h = rw h refl
+all-calm rings e (to ∷ others) g h = calm-same h.2 (calm-append h.0 h.1 (post_one-calm (rings to) e to Granted h.0 h.3) (all-calm rings e others h.1 h.4))
+
+-- records before those that end in an assertion
+ending-before : (P : List Told → Type 0) (more : (g h : List Told) → P g → P h → P (g ++ h)) (g h : List Told) → P g → Ending P h → Ending P (g ++ h)
+unfolding Ending
+ending-before P more g h a k = (g ++ k.0, k.1, more g k.0 a k.2, k.3, ap (λ us. g ++ us) k.4 ∙ sym (append_assoc g k.0 (k.1 ∷ [])))
+
+ending-same : (P : List Told → Type 0) {g h : List Told} → g ≡ h → Ending P h → Ending P g
+ending-same P e k = subst (λ us. Ending P us) (sym e) k
+
+up_to-calm : (rings : ℕ → ℕ) (e : Entry) (ms : List ℕ) (g : List Told) → PostsUpTo rings e ms g → Ending Calm g
+unfolding PostsUpTo Answers
+up_to-calm rings e [] g h = absurd h
+up_to-calm rings e (to ∷ others) g (inl h) = post_one-calm (rings to) e to AtQueue g h
+up_to-calm rings e (to ∷ others) g (inr h) =
+    ending-same Calm h.2 (ending-before Calm calm-append h.0 h.1 (post_one-calm (rings to) e to Granted h.0 h.3) (up_to-calm rings e others h.1 h.4))
+
+first-calm : (fixed : Bool) (sizes : List ℕ) (o sig : ℕ) (pars : List ℕ) (reserve : Option ℕ) (e : Entry) (former : ℕ) (ms : List ℕ) (g : List Told)
+    → PublishesFirst fixed sizes o sig pars reserve e former ms g → Calm g
+unfolding PublishesFirst raising is_calm
+first-calm fixed sizes o sig pars reserve e former ms g h =
+    calm-same h.5 (calm-append h.0 (plain (item.Pub sig h.1 h.2) ∷ raising o former ms) (calm-new fixed sizes sig pars reserve h.0 e h.3) (by_members o ms))
+  where
+    by_members : (o : ℕ) (ms : List ℕ) → list_all (λ t. is_calm t.body) (plain (item.Pub sig h.1 h.2) ∷ raising o former ms) ≡ true
+    by_members o [] = refl
+    by_members zero (x ∷ others) = refl
+    by_members (suc o) (x ∷ others) = refl
+
+last-calm : (o : ℕ) (e : Entry) (former : ℕ) (ms : List ℕ) (g : List Told) → PublishesLast o e former ms g → Calm g
+unfolding PublishesLast restoring is_calm
+last-calm o e former ms g h = calm-same h.2 (calm-append (restoring o former ms) h.0 (by_members o ms) (calm-drops e h.0 h.1))
+  where
+    by_members : (o : ℕ) (ms : List ℕ) → list_all (λ t. is_calm t.body) (restoring o former ms) ≡ true
+    by_members o [] = refl
+    by_members zero (x ∷ others) = refl
+    by_members (suc o) (x ∷ others) = refl
+
+publishes-calm : (fixed : Bool) (sizes : List ℕ) (rings : ℕ → ℕ) (o sig : ℕ) (pars : List ℕ) (reserve : Option ℕ) (answer : Answer) (g : List Told)
+    → Publishes fixed sizes rings o sig pars reserve answer g → Answers Calm answer g
+unfolding Publishes Answers
+publishes-calm fixed sizes rings o sig pars reserve Granted g h =
+    calm-same h.9 (calm-append h.3 (h.4 ++ h.5) (first-calm fixed sizes o sig pars reserve h.0 h.1 h.2 h.3 h.6) (calm-append h.4 h.5 (all-calm rings h.0 h.2 h.4 h.7) (last-calm o h.0 h.1 h.2 h.5 h.8)))
+publishes-calm fixed sizes rings o sig pars reserve AtQueue g h =
+    ending-same Calm h.7 (ending-before Calm calm-append h.3 h.4 (first-calm fixed sizes o sig pars reserve h.0 h.1 h.2 h.3 h.5) (up_to-calm rings h.0 h.2 h.4 h.6))
+publishes-calm fixed sizes rings o sig pars reserve Refused g h = no_block-calm fixed sizes pars reserve Refused g h
+publishes-calm fixed sizes rings o sig pars reserve (Flushed n) g h = no_block-calm fixed sizes pars reserve (Flushed n) g h
+publishes-calm fixed sizes rings o sig pars reserve AtPool g h = no_block-calm fixed sizes pars reserve AtPool g h
+publishes-calm fixed sizes rings o sig pars reserve AtTimer g h = no_block-calm fixed sizes pars reserve AtTimer g h
+publishes-calm fixed sizes rings o sig pars reserve AtTicks g h = no_block-calm fixed sizes pars reserve AtTicks g h
+publishes-calm fixed sizes rings o sig pars reserve AtFront g h = no_block-calm fixed sizes pars reserve AtFront g h
+
+-- a call that is no matter of the deferred list leaves calm records, up to an assertion
+pub fits-calm : (sys : System) (o : ℕ) (now : Option Entry) (x : Call) (answer : Answer) (g : List Told) → is_other x ≡ true → Fits sys o now x answer g → Answers Calm answer g
+unfolding Fits PostsNew PostsNewFront Forwards Subscribes Unsubscribes Arms Rearms Disarms Answers Ending is_calm is_other
+fits-calm sys o now (call.Post to sig pars margin reserve) answer g is (inl h) = no_block-calm _ _ pars reserve answer g h
+fits-calm sys o now (call.Post to sig pars margin reserve) answer g is (inr h) = posts-calm _ to margin h.0 h.1 answer g (calm-new _ _ sig pars reserve h.0 h.1 h.2) h.3
+fits-calm sys o now (call.Lifo sig pars reserve) answer g is (inl h) = no_block-calm _ _ pars reserve answer g h
+fits-calm sys o now (call.Lifo sig pars reserve) answer g is (inr h) = front-calm o h.0 h.1 answer g (calm-new _ _ sig pars reserve h.0 h.1 h.2) h.3
+fits-calm sys o now (call.Forward to margin) answer g is h = posts-calm _ to margin h.0 h.1 answer g (calm-again_now now h.0 h.1 h.2) h.3
+fits-calm sys o now (call.Publish sig pars reserve) answer g is h = publishes-calm _ _ _ o sig pars reserve answer g h
+fits-calm sys o now call.Defer answer g is h = absurd (cc)
+fits-calm sys o now call.Recall answer g is h = absurd (cc)
+fits-calm sys o now call.Flush answer g is h = absurd (cc)
+fits-calm sys o now (call.Subscribe sig) Granted g is h = rw h.1 refl
+fits-calm sys o now (call.Subscribe sig) Refused g is h = rw h.1 refl
+fits-calm sys o now (call.Unsubscribe sig) Granted g is h = rw h.1 refl
+fits-calm sys o now (call.Unsubscribe sig) Refused g is h = rw h.1 refl
+fits-calm sys o now (call.Arm t ticks interval) Granted g is h = rw h.1 refl
+fits-calm sys o now (call.Arm t ticks interval) AtTimer g is h = ([], plain (item.Armed _ h.0 h.1), refl, refl, h.2)
+fits-calm sys o now (call.Arm t ticks interval) AtTicks g is h = ([], plain (item.BadTicks _ ticks interval), refl, refl, h.0)
+fits-calm sys o now (call.Rearm t ticks) Granted g is h = rw h.2 refl
+fits-calm sys o now (call.Rearm t ticks) Refused g is h = rw h.1 refl
+fits-calm sys o now (call.Rearm t ticks) AtTicks g is h = ([], plain (item.BadTicks _ ticks 0), refl, refl, h.0)
+fits-calm sys o now (call.Disarm t) Granted g is h = rw h.2 refl
+fits-calm sys o now (call.Disarm t) Refused g is h = rw h.1 refl
+fits-calm sys o now (call.Subscribe sig) (Flushed n) g is h = absurd h
+fits-calm sys o now (call.Subscribe sig) AtQueue g is h = absurd h
+fits-calm sys o now (call.Subscribe sig) AtPool g is h = absurd h
+fits-calm sys o now (call.Subscribe sig) AtTimer g is h = absurd h
+fits-calm sys o now (call.Subscribe sig) AtTicks g is h = absurd h
+fits-calm sys o now (call.Subscribe sig) AtFront g is h = absurd h
+fits-calm sys o now (call.Unsubscribe sig) (Flushed n) g is h = absurd h
+fits-calm sys o now (call.Unsubscribe sig) AtQueue g is h = absurd h
+fits-calm sys o now (call.Unsubscribe sig) AtPool g is h = absurd h
+fits-calm sys o now (call.Unsubscribe sig) AtTimer g is h = absurd h
+fits-calm sys o now (call.Unsubscribe sig) AtTicks g is h = absurd h
+fits-calm sys o now (call.Unsubscribe sig) AtFront g is h = absurd h
+fits-calm sys o now (call.Arm t ticks interval) Refused g is h = absurd h
+fits-calm sys o now (call.Arm t ticks interval) (Flushed n) g is h = absurd h
+fits-calm sys o now (call.Arm t ticks interval) AtQueue g is h = absurd h
+fits-calm sys o now (call.Arm t ticks interval) AtPool g is h = absurd h
+fits-calm sys o now (call.Arm t ticks interval) AtFront g is h = absurd h
+fits-calm sys o now (call.Rearm t ticks) (Flushed n) g is h = absurd h
+fits-calm sys o now (call.Rearm t ticks) AtQueue g is h = absurd h
+fits-calm sys o now (call.Rearm t ticks) AtPool g is h = absurd h
+fits-calm sys o now (call.Rearm t ticks) AtTimer g is h = absurd h
+fits-calm sys o now (call.Rearm t ticks) AtFront g is h = absurd h
+fits-calm sys o now (call.Disarm t) (Flushed n) g is h = absurd h
+fits-calm sys o now (call.Disarm t) AtQueue g is h = absurd h
+fits-calm sys o now (call.Disarm t) AtPool g is h = absurd h
+fits-calm sys o now (call.Disarm t) AtTimer g is h = absurd h
+fits-calm sys o now (call.Disarm t) AtTicks g is h = absurd h
+fits-calm sys o now (call.Disarm t) AtFront g is h = absurd h
+
+ending-usual : (g : List Told) → Ending Calm g → Ending Usual g
+unfolding Ending
+ending-usual g h = (h.0, h.1, usual h.0 h.2, h.3, h.4)
+
+answers-usual : (answer : Answer) (g : List Told) → Answers Calm answer g → Answers Usual answer g
+unfolding Answers
+answers-usual answer g h = by (is_assertion answer) h
+  where
+    by : (b : Bool) → MatchBool b (Ending Calm g) (Calm g) → MatchBool b (Ending Usual g) (Usual g)
+    by true h = ending-usual g h
+    by false h = usual g h
+
+defers-usual : (now : Option Entry) (answer : Answer) (g : List Told) → Defers now answer g → Answers Usual answer g
+unfolding Defers Answers is_deferral is_calm
+defers-usual now Granted g h = subst (λ us. Usual us) (sym h.3) (usual-append h.0 (plain (item.Defer h.1) ∷ []) (usual h.0 (calm-again_now now h.0 h.1 h.2)) refl)
+defers-usual now Refused g h = rw h refl
+defers-usual now (Flushed n) g h = absurd h
+defers-usual now AtQueue g h = absurd h
+defers-usual now AtPool g h = absurd h
+defers-usual now AtTimer g h = absurd h
+defers-usual now AtTicks g h = absurd h
+defers-usual now AtFront g h = absurd h
+
+recalls-usual : (o : ℕ) (answer : Answer) (g : List Told) → Recalls o answer g → Answers Usual answer g
+unfolding Recalls Answers is_deferral is_calm
+recalls-usual o Granted g h =
+    subst (λ us. Usual us) (sym h.8)
+    (usual-append (plain (item.Recall h.0) ∷ []) (h.3 ++ h.4) refl
+    (usual-append h.3 h.4 (usual h.3 (front-calm o h.2 h.1 Granted h.3 (calm-again h.0 h.2 h.1 h.5) h.6)) (usual h.4 (calm-drops h.0 h.4 h.7))))
+recalls-usual o Refused g h = rw h refl
+recalls-usual o AtFront g h =
+    ending-same Usual h.6
+    (ending-before Usual usual-append (plain (item.Recall h.0) ∷ []) h.3 refl (ending-usual h.3 (front-calm o h.2 h.1 AtFront h.3 (calm-again h.0 h.2 h.1 h.4) h.5)))
+recalls-usual o (Flushed n) g h = absurd h
+recalls-usual o AtQueue g h = absurd h
+recalls-usual o AtPool g h = absurd h
+recalls-usual o AtTimer g h = absurd h
+recalls-usual o AtTicks g h = absurd h
+
+flushes-usual : (n : ℕ) (g : List Told) → Flushes n g → Usual g
+unfolding Flushes is_deferral is_calm
+flushes-usual zero g h = rw h refl
+flushes-usual (suc n) g h =
+    subst (λ us. Usual us) (sym h.5) (usual-append (plain (item.Flush h.0) ∷ []) (h.1 ++ h.2) refl (usual-append h.1 h.2 (usual h.1 (calm-drops h.0 h.1 h.3)) (flushes-usual n h.2 h.4)))
+
+-- a call leaves usual records, up to an assertion
+pub fits-usual : (sys : System) (o : ℕ) (now : Option Entry) (x : Call) (answer : Answer) (g : List Told) → Fits sys o now x answer g → Answers Usual answer g
+unfolding Fits Answers is_other
+fits-usual sys o now call.Defer answer g h = defers-usual now answer g h
+fits-usual sys o now call.Recall answer g h = recalls-usual o answer g h
+fits-usual sys o now call.Flush (Flushed n) g h = flushes-usual n g h
+fits-usual sys o now call.Flush Granted g h = absurd h
+fits-usual sys o now call.Flush Refused g h = absurd h
+fits-usual sys o now call.Flush AtQueue g h = absurd h
+fits-usual sys o now call.Flush AtPool g h = absurd h
+fits-usual sys o now call.Flush AtTimer g h = absurd h
+fits-usual sys o now call.Flush AtTicks g h = absurd h
+fits-usual sys o now call.Flush AtFront g h = absurd h
+fits-usual sys o now (call.Post to sig pars margin reserve) answer g h = answers-usual answer g (fits-calm sys o now (call.Post to sig pars margin reserve) answer g refl h)
+fits-usual sys o now (call.Lifo sig pars reserve) answer g h = answers-usual answer g (fits-calm sys o now (call.Lifo sig pars reserve) answer g refl h)
+fits-usual sys o now (call.Forward to margin) answer g h = answers-usual answer g (fits-calm sys o now (call.Forward to margin) answer g refl h)
+fits-usual sys o now (call.Publish sig pars reserve) answer g h = answers-usual answer g (fits-calm sys o now (call.Publish sig pars reserve) answer g refl h)
+fits-usual sys o now (call.Subscribe sig) answer g h = answers-usual answer g (fits-calm sys o now (call.Subscribe sig) answer g refl h)
+fits-usual sys o now (call.Unsubscribe sig) answer g h = answers-usual answer g (fits-calm sys o now (call.Unsubscribe sig) answer g refl h)
+fits-usual sys o now (call.Arm t ticks interval) answer g h = answers-usual answer g (fits-calm sys o now (call.Arm t ticks interval) answer g refl h)
+fits-usual sys o now (call.Rearm t ticks) answer g h = answers-usual answer g (fits-calm sys o now (call.Rearm t ticks) answer g refl h)
+fits-usual sys o now (call.Disarm t) answer g h = answers-usual answer g (fits-calm sys o now (call.Disarm t) answer g refl h)

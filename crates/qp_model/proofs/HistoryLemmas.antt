@@ -1,0 +1,152 @@
+-- Histories when a record is added at the end of a lane: the records are xs ++ ys before it, and xs ++ i ∷ ys after it.
+use Rattle.std.proofs.Common.{◌≡◌, ℕ, zero, suc, ◌<◌, ◌==◌, nat_lt, nat_le, Bool, true, false, not, ◌&&◌, ◌||◌, List, [], ◌∷◌, ◌++◌, length, refl, ap, arith, length-append}
+use borrow.Author.Count.{below_more}
+use Rattle.std.specs.List.{filter}
+use Rattle.std.proofs.lemmas.Bool.Decides.{nat_tests}
+use Rattle.qp_model.specs.declared.words.Word.{Word}
+use Rattle.qp_model.specs.Record.{Item}
+use Rattle.qp_model.specs.History.{touch, same_word, Touch, Draws, Shows, Neither, drawn_on, drawn_as, drawn_below, total, numbered, hist, is_numbered}
+use Rattle.qp_model.proofs.ListLemmas.{both_true, true_both, all_below_at, all_below_from, filter-insert_not, length_filter-insert, filter-insert_only, filter-none, list_all-insert}
+
+-- the number that a record draws is one
+pub drawn_as-on : (w : Word) (n : ℕ) (t : Touch) → drawn_as w n t ≡ true → drawn_on w t ≡ true
+drawn_as-on w n (Draws v k) h = (both_true _ _ h).0
+drawn_as-on w n (Shows v k) h = cc
+drawn_as-on w n Neither h = cc
+
+drawn_as-other : (w : Word) (n k : ℕ) (t : Touch) → drawn_as w n t ≡ true → k < n → drawn_as w k t ≡ false
+drawn_as-other w n k (Draws v j) h lt =
+    let here : (j == suc n) ≡ true = (both_true _ _ h).1 in
+    let same : same_word v w ≡ true = (both_true _ _ h).0 in
+    rw same (grind (arith, nat_tests))
+drawn_as-other w n k (Shows v j) h lt = refl
+drawn_as-other w n k Neither h lt = refl
+
+pub drawn_as-below : (w : Word) (n : ℕ) (t : Touch) → drawn_as w n t ≡ true → drawn_below w (suc n) t ≡ true
+drawn_as-below w n (Draws v j) h =
+    let here : (j == suc n) ≡ true = (both_true _ _ h).1 in
+    let same : same_word v w ≡ true = (both_true _ _ h).0 in
+    rw same (grind (arith, nat_tests))
+drawn_as-below w n (Shows v j) h = refl
+drawn_as-below w n Neither h = refl
+
+drawn_below-not : (w : Word) (n : ℕ) (t : Touch) → drawn_below w n t ≡ true → drawn_as w n t ≡ false
+drawn_below-not w n (Draws v j) h = go (same_word v w) h
+  where
+    go : (b : Bool) → (not b || (nat_lt 0 j && nat_le j n)) ≡ true → (b && (j == suc n)) ≡ false
+    go true e = grind (arith, nat_tests)
+    go false e = refl
+drawn_below-not w n (Shows v j) h = refl
+drawn_below-not w n Neither h = refl
+
+drawn_below-more : (w : Word) (n : ℕ) (t : Touch) → drawn_below w n t ≡ true → drawn_below w (suc n) t ≡ true
+drawn_below-more w n (Draws v j) h = go (same_word v w) h
+  where
+    go : (b : Bool) → (not b || (nat_lt 0 j && nat_le j n)) ≡ true → (not b || (nat_lt 0 j && nat_le j (suc n))) ≡ true
+    go true e = grind (arith, nat_tests)
+    go false e = refl
+drawn_below-more w n (Shows v j) h = refl
+drawn_below-more w n Neither h = refl
+
+not_drawn : (w : Word) (n : ℕ) (t : Touch) → drawn_on w t ≡ false → drawn_as w n t ≡ false
+not_drawn w n (Draws v k) h = rw h refl
+not_drawn w n (Shows v k) h = refl
+not_drawn w n Neither h = refl
+
+not_drawn_below : (w : Word) (n : ℕ) (t : Touch) → drawn_on w t ≡ false → drawn_below w n t ≡ true
+not_drawn_below w n (Draws v k) h = rw h refl
+not_drawn_below w n (Shows v k) h = refl
+not_drawn_below w n Neither h = refl
+
+-- a history has as many records as numbers are drawn
+length-numbered : (w : Word) (items : List Item) (n : ℕ) → ((k : ℕ) → k < n → (length (filter (λ j. drawn_as w k (touch j)) items) == 1) ≡ true) → length (numbered w items n) ≡ n
+unfolding numbered
+length-numbered w items zero h = refl
+length-numbered w items (suc n) h =
+    let before : length (numbered w items n) ≡ n = length-numbered w items n (λ k lt. h k (omega arith)) in
+    let here : (length (filter (λ j. drawn_as w n (touch j)) items) == 1) ≡ true = h n (omega arith) in
+    let one : length (filter (λ j. drawn_as w n (touch j)) items) ≡ 1 = grind (arith, nat_tests) in
+    omega (arith, length-append (numbered w items n) (filter (λ j. drawn_as w n (touch j)) items))
+
+pub length-hist : (w : Word) (items : List Item) → is_numbered w items ≡ true → length (hist w items) ≡ total w items
+unfolding hist is_numbered
+length-hist w items h =
+    length-numbered w items (total w items) (all_below_at (total w items) (λ n. length (filter (λ j. drawn_as w n (touch j)) items) == 1) (both_true _ _ h).1)
+
+module _ (w : Word) (xs : List Item) (i : Item) (ys : List Item) where
+  pub total-draws : drawn_on w (touch i) ≡ true → total w (xs ++ i ∷ ys) ≡ suc (total w (xs ++ ys))
+  unfolding total
+  total-draws h = length_filter-insert _ xs i ys h
+
+  pub total-other : drawn_on w (touch i) ≡ false → total w (xs ++ i ∷ ys) ≡ total w (xs ++ ys)
+  unfolding total
+  total-other h = ap length (filter-insert_not _ xs i ys h)
+
+  -- where the record draws no number below n, the history below n stays
+  pub numbered-insert : (n : ℕ) → ((k : ℕ) → k < n → drawn_as w k (touch i) ≡ false) → numbered w (xs ++ i ∷ ys) n ≡ numbered w (xs ++ ys) n
+  unfolding numbered
+  numbered-insert zero h = refl
+  numbered-insert (suc n) h =
+      rw (numbered-insert n (λ k lt. h k (omega arith)), filter-insert_not (λ j. drawn_as w n (touch j)) xs i ys (h n (omega arith))) refl
+
+-- A record more that draws the next number of w.
+module _ (w : Word) (xs : List Item) (i : Item) (ys : List Item)
+    (numbers : is_numbered w (xs ++ ys) ≡ true) (next : drawn_as w (total w (xs ++ ys)) (touch i) ≡ true) where
+  total-next : total w (xs ++ i ∷ ys) ≡ suc (total w (xs ++ ys))
+  total-next = total-draws w xs i ys (drawn_as-on w _ (touch i) next)
+
+  only-next : filter (λ j. drawn_as w (total w (xs ++ ys)) (touch j)) (xs ++ i ∷ ys) ≡ i ∷ []
+  unfolding is_numbered
+  only-next =
+      filter-insert_only (λ j. drawn_as w (total w (xs ++ ys)) (touch j)) xs i ys next
+      (filter-none (λ j. drawn_as w (total w (xs ++ ys)) (touch j)) (λ j. drawn_below w (total w (xs ++ ys)) (touch j)) (xs ++ ys)
+      (λ j. drawn_below-not w _ (touch j)) (both_true _ _ numbers).0)
+
+  -- the history has it at its end
+  pub hist-draws : hist w (xs ++ i ∷ ys) ≡ hist w (xs ++ ys) ++ i ∷ []
+  unfolding hist is_numbered numbered
+  hist-draws =
+      rw (
+        total-next,
+        numbered-insert w xs i ys (total w (xs ++ ys)) (λ k lt. drawn_as-other w _ k (touch i) next lt),
+        only-next,
+      )
+      refl
+
+  once : (k : ℕ) → k < suc (total w (xs ++ ys)) → (length (filter (λ j. drawn_as w k (touch j)) (xs ++ i ∷ ys)) == 1) ≡ true
+  unfolding is_numbered
+  once k lt =
+      below_more (λ n. (length (filter (λ j. drawn_as w n (touch j)) (xs ++ i ∷ ys)) == 1) ≡ true) (total w (xs ++ ys))
+      (λ n below. rw (filter-insert_not (λ j. drawn_as w n (touch j)) xs i ys (drawn_as-other w _ n (touch i) next below))
+      (all_below_at _ (λ n. length (filter (λ j. drawn_as w n (touch j)) (xs ++ ys)) == 1) (both_true _ _ numbers).1 n below))
+      (rw only-next refl) k (omega arith)
+
+  -- and the numbers are still 0, 1 and so on, each once
+  pub is_numbered-draws : is_numbered w (xs ++ i ∷ ys) ≡ true
+  unfolding is_numbered
+  is_numbered-draws =
+      rw total-next
+      (true_both _ _
+      (list_all-insert _ _ xs i ys (λ j. drawn_below-more w _ (touch j)) (drawn_as-below w _ (touch i) next) (both_true _ _ numbers).0)
+      (all_below_from (suc (total w (xs ++ ys))) (λ n. length (filter (λ j. drawn_as w n (touch j)) (xs ++ i ∷ ys)) == 1) once))
+
+-- A record more that draws no number of w.
+module _ (w : Word) (xs : List Item) (i : Item) (ys : List Item) (other : drawn_on w (touch i) ≡ false) where
+  pub hist-other : hist w (xs ++ i ∷ ys) ≡ hist w (xs ++ ys)
+  unfolding hist
+  hist-other = rw (total-other w xs i ys other) (numbered-insert w xs i ys (total w (xs ++ ys)) (λ k lt. not_drawn w k (touch i) other))
+
+  module _ (numbers : is_numbered w (xs ++ ys) ≡ true) where
+    still_once : (k : ℕ) → k < total w (xs ++ ys) → (length (filter (λ j. drawn_as w k (touch j)) (xs ++ i ∷ ys)) == 1) ≡ true
+    unfolding is_numbered
+    still_once k lt =
+        rw (filter-insert_not (λ j. drawn_as w k (touch j)) xs i ys (not_drawn w k (touch i) other))
+        (all_below_at (total w (xs ++ ys)) (λ n. length (filter (λ j. drawn_as w n (touch j)) (xs ++ ys)) == 1) (both_true _ _ numbers).1 k lt)
+
+    pub is_numbered-other : is_numbered w (xs ++ i ∷ ys) ≡ true
+    unfolding is_numbered
+    is_numbered-other =
+        rw (total-other w xs i ys other)
+        (true_both _ _
+        (list_all-insert _ _ xs i ys (λ j e. e) (not_drawn_below w (total w (xs ++ ys)) (touch i) other) (both_true _ _ numbers).0)
+        (all_below_from (total w (xs ++ ys)) (λ n. length (filter (λ j. drawn_as w n (touch j)) (xs ++ i ∷ ys)) == 1) still_once))

@@ -1,0 +1,25 @@
+//! What every course of an object promises. Each function here does nothing: its contract is the promise.
+
+ghost use Rattle.qp_model.specs.CourseLaws.{StepsLeaveTheirNotes, NothingFollowsAnAssertion, CoursesHaveTheirShape, CoursesKeepTheirList};
+
+/// A step that runs to completion leaves just the notes of its agenda: its handler, its exits, entries and initial
+/// transitions, and `done`, in this order.
+pub fn steps_leave_their_notes()
+    ensures { StepsLeaveTheirNotes }
+{}
+
+/// No record of an object stands behind its assertion.
+pub fn nothing_follows_an_assertion()
+    ensures { NothingFollowsAnAssertion }
+{}
+
+/// What follows an object's chart has the shape of an object's records: each call leaves the records of its answer,
+/// also where the run stopped early.
+pub fn courses_have_their_shape()
+    ensures { CoursesHaveTheirShape }
+{}
+
+/// What follows an object's chart defers, recalls and flushes as its deferred list allows.
+pub fn courses_keep_their_list()
+    ensures { CoursesKeepTheirList }
+{}

@@ -1,0 +1,23 @@
+//! Records: the items of a lane.
+
+ghost use Rattle.std.specs.Prelude.{◌≡◌, ◌≤◌, length};
+
+use arrayvec::ArrayVec;
+
+/// A record: its kind, the object for which the lane works (0 for none), and the numbers after it.
+#[derive(Drop)]
+pub struct Rec {
+    pub kind: u8,
+    pub of: u8,
+    pub nums: ArrayVec<u64, 13>,
+}
+
+/// These numbers, as a record holds them.
+pub(crate) fn numbers(xs: &[u64]) -> ArrayVec<u64, 13>
+    requires { length xs.now ≤ 13 }
+    ensures { result.items ≡ xs.now }
+{
+    let mut nums = ArrayVec::new();
+    let _ = nums.try_extend_from_slice(xs);
+    nums
+}
