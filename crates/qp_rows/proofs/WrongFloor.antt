@@ -1,0 +1,59 @@
+-- A look with a floor that doesn't stand there.
+use Rattle.std.proofs.Common.{◌≡◌, refl, ◌++◌, inr, true, false, List, [], ◌∷◌}
+use Rattle.qp_model.specs.declared.bodies.Body.TheVariants as item
+use Rattle.qp_model.specs.Record.{entry}
+use Rattle.qp_model.specs.Told.{plain, taken}
+use Rattle.qp_model.specs.Pieces.{Piece, Tell, tell}
+use Rattle.qp_model.specs.Course.{Follows, Whole}
+use Rattle.qp_model.specs.Groups.{IsMove}
+use Rattle.qp_model.specs.ObjectShape.{HasShape, CutGroups, StepGroup, BrokenStep, asserts_last, Dispatches, Ends}
+use Rattle.qp_model.specs.Shapes.{Fits}
+use Rattle.qp_model.specs.Groups.{Actions, Groups}
+use Rattle.qp_model.specs.KernelLane.{lane_read}
+use Rattle.qp_model.specs.Lawful.{setting_of, CourseHolds, deferral_holds}
+use Rattle.qp_model.specs.WordLaw.{words_hold}
+use Rattle.qp_model.proofs.WordTestLemmas.{words-from}
+use Rattle.qp_rows.specs.Systems.{lamp, object}
+use Rattle.qp_rows.specs.Journals.{wrong_floor, wrong_floor_lanes}
+use Rattle.std.specs.List.{AllByRecursion}
+use Rattle.qp_model.specs.History.{all_items, lane_items}
+use Rattle.qp_model.specs.WordLaw.{Words}
+use Rattle.qp_model.specs.Lawful.{ObjectHolds, KernelHolds}
+use Rattle.qp_rows.specs.Broken.{BreaksKernelLane}
+
+lamp_1_body_1 : List Piece
+lamp_1_body_1 = Tell (plain (item.Run 1 1)) ∷ Tell (plain (item.Exit 1)) ∷ Tell (plain (item.Enter 2)) ∷ Tell (plain item.Done) ∷ []
+
+lamp_1_step_1 : List Piece
+unfolding lamp_1_body_1
+lamp_1_step_1 = Tell (taken 1 0 1 (entry 0 4 0) (record { sig = 4; pars = [] })) ∷ (lamp_1_body_1 ++ tell ([]))
+
+lamp_1_start : List Piece
+lamp_1_start = Tell (plain item.Begin) ∷ Tell (plain (item.Enter 1)) ∷ Tell (plain item.Done) ∷ []
+
+lamp_1_pieces : List Piece
+unfolding lamp_1_start lamp_1_step_1
+lamp_1_pieces = lamp_1_start ++ (lamp_1_step_1 ++ [])
+
+lamp_1_follows : Follows lamp (object 1 1 1 1) lamp_1_pieces
+unfolding Follows lamp_1_pieces lamp_1_start lamp_1_step_1 lamp_1_body_1
+lamp_1_follows = (entry 0 4 0 ∷ [], _, (lamp_1_start, lamp_1_step_1 ++ [], _, refl, (Tell (plain item.Begin) ∷ Tell (plain (item.Enter 1)) ∷ Tell (plain item.Done) ∷ [], _, (_, refl, (_, refl, (_, refl, (refl, refl)))), refl, refl), (lamp_1_step_1, [], _, refl, (1, 0, 1, record { sig = 4; pars = [] }, lamp_1_body_1 ++ tell ([]), refl, (lamp_1_body_1, [], _, (_, refl, (_, refl, (_, refl, (_, refl, (refl, refl))))), refl, refl, refl)), (refl, refl))))
+
+lamp_1_shape : HasShape lamp 1 false Whole (plain item.Begin ∷ plain (item.Enter 1) ∷ plain item.Done ∷ taken 1 0 1 (entry 0 4 0) (record { sig = 4; pars = [] }) ∷ plain (item.Run 1 1) ∷ plain (item.Exit 1) ∷ plain (item.Enter 2) ∷ plain item.Done ∷ [])
+unfolding CutGroups StepGroup BrokenStep Groups Actions Fits asserts_last
+lamp_1_shape = record { groups = inr (plain item.Begin ∷ plain (item.Enter 1) ∷ plain item.Done ∷ [], taken 1 0 1 (entry 0 4 0) (record { sig = 4; pars = [] }) ∷ plain (item.Run 1 1) ∷ plain (item.Exit 1) ∷ plain (item.Enter 2) ∷ plain item.Done ∷ [], [], (plain (item.Enter 1) ∷ [], ((plain (item.Enter 1) ∷ []) ∷ [], (IsMove (item.Enter 1) refl refl, tt), refl), refl), ((taken 1 0 1 (entry 0 4 0) (record { sig = 4; pars = [] }) ∷ plain (item.Run 1 1) ∷ plain (item.Exit 1) ∷ plain (item.Enter 2) ∷ plain item.Done ∷ []) ∷ [], (Dispatches (entry 0 4 0, taken 1 0 1 (entry 0 4 0) (record { sig = 4; pars = [] }) ∷ plain (item.Run 1 1) ∷ [], plain (item.Exit 1) ∷ plain (item.Enter 2) ∷ [], [], (1, 0, 1, record { sig = 4; pars = [] }, item.Run 1 1, refl, refl), ((plain (item.Exit 1) ∷ []) ∷ (plain (item.Enter 2) ∷ []) ∷ [], (IsMove (item.Exit 1) refl refl, (IsMove (item.Enter 2) refl refl, tt)), refl), refl, refl), tt), refl), Ends refl, refl); last = refl }
+
+words : Words lamp wrong_floor_lanes
+unfolding words_hold
+words = words-from lamp wrong_floor_lanes refl
+
+objects : AllByRecursion (ObjectHolds lamp wrong_floor) lamp.objects
+unfolding CourseHolds deferral_holds lamp_1_pieces lamp_1_start lamp_1_step_1 lamp_1_body_1
+objects = (record { shapes = record { shape = lamp_1_shape; home = refl }; deferral = refl; course = (lamp_1_pieces, refl, lamp_1_follows) }, tt)
+
+no_lane : KernelHolds lamp wrong_floor → ⊥
+unfolding lane_read setting_of all_items lane_items
+no_lane h = let wrong : false ≡ true = h.lane in cc
+
+pub broken : BreaksKernelLane lamp wrong_floor
+broken = record { words = words; objects = objects; broken = no_lane; unlawful = λ stimuli h. no_lane h.kernel }

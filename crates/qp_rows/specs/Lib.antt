@@ -1,0 +1,5 @@
+pub mod Lines
+pub mod Systems
+pub mod Journals
+pub mod Broken
+pub mod Samples
