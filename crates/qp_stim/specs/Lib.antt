@@ -1,0 +1,11 @@
+pub mod Parts
+pub mod Numbers
+pub mod Names
+pub mod Grammar
+pub mod Codes
+pub mod Stimuli
+pub mod Answer
+pub mod Gathered
+pub mod Rules
+pub mod Maps
+pub mod Reading

@@ -1,0 +1,20 @@
+-- Numbers: canonical decimal of any length.
+use Rattle.std.specs.Prelude.{ℕ, ◌+◌, ◌-◌, ◌*◌, ◌==◌, Bool, false, not, ◌&&◌, List, [], ◌∷◌, if◌then◌else◌, Some, None}
+use Rattle.std.specs.declared.option.Option.{Option}
+use Rattle.std.specs.List.{list_all}
+use Rattle.std.specs.Char.{is_ascii_digit}
+
+-- digits, the first of which is `0` only where it stands alone
+abbrev pub is_number : List ℕ → Bool
+is_number [] = false
+is_number (b ∷ []) = is_ascii_digit b
+is_number (b ∷ c ∷ bs) = is_ascii_digit b && not (b == 48) && list_all is_ascii_digit (c ∷ bs)
+
+-- the number that the digits make behind the number n
+abbrev pub decimal_from : ℕ → List ℕ → ℕ
+decimal_from n [] = n
+decimal_from n (b ∷ bs) = decimal_from (n * 10 + (b - 48)) bs
+
+-- the number of a token, if it is one
+unfoldable pub number_of : List ℕ → Option ℕ
+number_of token = if is_number token then Some (decimal_from 0 token) else None
