@@ -1,0 +1,4 @@
+pub mod FrontLemmas
+pub mod KeyLemmas
+pub mod VarsLemmas
+pub mod DocumentLemmas

@@ -1,0 +1,23 @@
+//! The reader of system files: a system, or the first fault of the file and its place.
+#![tactic(auto)]
+
+mod document;
+mod fault;
+mod lists;
+mod name;
+mod numbers;
+mod objects;
+mod plain;
+mod raw;
+mod rows;
+mod section;
+mod states;
+mod texts;
+mod vars;
+
+pub use document::raw_of_bytes;
+pub use fault::SystemFault;
+pub use raw::{RawCharts, RawObject, RawObjects, RawSystem};
+
+#[cfg(test)]
+mod tests;
