@@ -1,0 +1,16 @@
+pub mod PieceLemmas
+pub mod PutsLemmas
+pub mod LaneLemmas
+pub mod PartsLemmas
+pub mod ValueLemmas
+pub mod VocabularyLemmas
+pub mod LineLemmas
+pub mod ReadLemmas
+pub mod OptionLemmas
+pub mod NumberLaw
+pub mod SplitLemmas
+pub mod WordLaw
+pub mod ItemLaw
+pub mod TakenLaw
+pub mod ProgressLaw
+pub mod TextLaw

@@ -1,0 +1,12 @@
+use Rattle.std.proofs.lemmas.Result.{IfOk-weaker}
+use Rattle.qp_text.proofs.TextLaw.{Reads-is}
+use Rattle.qp_text.proofs.reader.read_journal.Goals as goal
+
+pub returns-clause-text : goal.returns-clause-text
+returns-clause-text c = IfOk-weaker c.read.result _ _ (λ found is. is.text) (Reads-is c.read.result c.args.bytes.now c.read.ensures)
+
+pub returns-clause-range : goal.returns-clause-range
+returns-clause-range c = IfOk-weaker c.read.result _ _ (λ found is. is.range) (Reads-is c.read.result c.args.bytes.now c.read.ensures)
+
+pub returns-clause-form : goal.returns-clause-form
+returns-clause-form c = IfOk-weaker c.read.result _ _ (λ found is. is.form) (Reads-is c.read.result c.args.bytes.now c.read.ensures)

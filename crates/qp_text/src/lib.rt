@@ -1,0 +1,18 @@
+//! Journals as text, both ways.
+#![tactic(auto)]
+
+mod faults;
+mod found;
+mod items;
+mod lines;
+mod numbers;
+mod parts;
+mod progress;
+mod reader;
+#[cfg(test)]
+mod tests;
+mod writer;
+
+pub use found::{Found, TextFault};
+pub use reader::read_journal;
+pub use writer::write_journal;

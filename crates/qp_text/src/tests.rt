@@ -1,0 +1,69 @@
+//! Tests.
+
+use crate::{TextFault, read_journal, write_journal};
+use qp_base::MemSink;
+use std::test::Fail;
+
+/// A run of one object and one source, in form 1.
+const LAMP: &[u8] =
+    b"qp 1 0 100000\nlane 0\nbegin 1\nenter 1 1\ndone 1\nlook 0 1 0\nseen 0 1 1 0 0\ntook 1 1 0 1 0 4 0\nrun 1 1 1\nexit 1 1\nenter 1 2\ndone 1\nlook 0 2 0\nseen 0 1 1 0 1\nlane 1\nstim 0 1 1\npost 0 1 1 0 0 0 4 0\nend 0\n";
+
+/// A value with a sign, in form 2.
+const SIGNED: &[u8] =
+    b"qp 2 3 1\nlane 0\nsay 1 -4\nsay 1 9223372036854775807\nrest 0 1\nnew 0 1 0 0 0 5 1 2 3 4 5 6 7 18446744073709551615\nassert 1 4 2 0 0\nend 4\n";
+
+/// The same value in form 1.
+const UNSIGNED: &[u8] = b"qp 1 0 1000000\nlane 0\nsay 1 18446744073709551612\nend 3\n";
+
+#[test]
+fn a_text_is_read_and_written_alike(rt: HostRuntime) -> Result<(), Fail> {
+    for text in [LAMP, SIGNED, UNSIGNED] {
+        match read_journal(rt.alloc(), text) {
+            Ok(found) => {
+                let room = text.len() as u64;
+                let Ok(mut sink) = MemSink::new(rt.alloc(), room, Vec::new(rt.alloc())) else {
+                    return Err(Fail::from(std::alloc::AllocError));
+                };
+                let written = write_journal(&found.journal, found.form, &mut sink);
+                assert!(rt; written.is_ok());
+                assert_eq!(rt; sink.bytes(), text);
+            }
+            Err(_) => assert!(rt; false, "a journal is not read"),
+        }
+    }
+    Ok(())
+}
+
+#[test]
+fn the_first_wrong_line_is_told(rt: HostRuntime) {
+    let cases: [(&[u8], u64, u8); 22] = [
+        (b"", 1, 5),
+        (b"\n", 1, 1),
+        (b"qp 1 0 1\n", 2, 5),
+        (b"qp 1 0 1", 1, 1),
+        (b"qp 1 0 1\nend 0", 2, 1),
+        (b"qp 1 0 1\nrest 0 1\n", 2, 1),
+        (b"qp 1 0 1\nLane 0\n", 2, 1),
+        (b"qp 1 0 1\nlane  0\n", 2, 2),
+        (b"qp 1 0 1\nlane 0 \n", 2, 2),
+        (b"qp 1 0 1\nlane 00\n", 2, 2),
+        (b"qp 1 0 1\nlane 18446744073709551616\n", 2, 2),
+        (b"qp 2 0 1\nlane 0\nsay 1 -0\n", 3, 2),
+        (b"qp 2 0 1\nlane 0\nsay 1 9223372036854775808\n", 3, 2),
+        (b"qp 1 0\n", 1, 3),
+        (b"qp 1 0 1\nlane 0\nassert 1 6 0 0 0\n", 3, 3),
+        (b"qp 1 0 1\nlane 1\n", 2, 4),
+        (b"qp 1 0 1\nbegin 1\n", 2, 4),
+        (b"qp 1 0 1\nend 0\nend 0\n", 3, 4),
+        (b"begin 1\n", 1, 4),
+        (b"qp 3 0 1\n", 1, 6),
+        (b"qp 1 3 1\n", 1, 6),
+        (b"qp 1 0 1\nlane 0\nbegin 33\n", 3, 6),
+    ];
+    for (text, number, code) in cases {
+        match read_journal(rt.alloc(), text) {
+            Ok(_) => assert!(rt; false, "line {number} has code {code}"),
+            Err(fault) => assert_eq!(rt; fault, TextFault::Line { number, code }),
+        }
+    }
+}
