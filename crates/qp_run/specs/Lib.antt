@@ -1,0 +1,12 @@
+pub mod Reads
+pub mod Names
+pub mod ThinSystem
+pub mod ThinStimuli
+pub mod Commands
+pub mod Notes
+pub mod JournalText
+pub mod ThinRun
+pub mod Verdict
+pub mod FlatJournal
+pub mod ThinMeaning
+pub mod Headline

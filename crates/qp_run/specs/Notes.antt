@@ -1,0 +1,41 @@
+-- The number of an answer, and the line about it.
+use Rattle.std.specs.Prelude.{codes, ℕ, decimal, Bool, true, false, List, [], ◌++◌, slice_get, unwrap_or}
+use Rattle.qp_run.specs.declared.status.Status.{Status}
+use Rattle.qp_run.specs.declared.status.Status.TheVariants.{Done, Words, Absent, TooLong, Later, Asserted, Spent, Memory, ReadFault, WriteFault}
+
+-- the exit status
+abbrev pub number_of : Status → ℕ
+number_of Done = 0
+number_of Words = 1
+number_of (Absent file) = 2
+number_of (TooLong file len) = 2
+number_of (Asserted code lane) = 3
+number_of (Spent lane) = 4
+number_of Memory = 5
+number_of ReadFault = 6
+number_of WriteFault = 7
+number_of (Later file) = 9
+
+-- a line about a file, which is named by its word
+abbrev pub named_line : List (List ℕ) → ℕ → List ℕ → List ℕ
+named_line words file what = codes "qp: " ++ unwrap_or (slice_get words file) [] ++ codes ": " ++ what ++ codes "\n"
+
+-- the line on the notes; `Done` has none
+unfoldable pub line_of : List (List ℕ) → Status → List ℕ
+line_of words Done = []
+line_of words Words = codes "qp: bad words\n"
+line_of words (Absent file) = named_line words file (codes "absent")
+line_of words (TooLong file len) = named_line words file (codes "too long " ++ decimal len)
+line_of words (Later file) = named_line words file (codes "later")
+line_of words (Asserted code lane) = codes "qp: assertion " ++ decimal code ++ codes " in lane " ++ decimal lane ++ codes "\n"
+line_of words (Spent lane) = codes "qp: spent in lane " ++ decimal lane ++ codes "\n"
+line_of words Memory = codes "qp: memory\n"
+line_of words ReadFault = codes "qp: read fault\n"
+line_of words WriteFault = codes "qp: write fault\n"
+
+-- the line names a file
+abbrev pub names_file : Status → Bool
+names_file (Absent file) = true
+names_file (TooLong file len) = true
+names_file (Later file) = true
+names_file status = false
