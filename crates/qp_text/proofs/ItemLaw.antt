@@ -1,6 +1,6 @@
 -- A line that is read as an item is the item's line.
-use Rattle.std.proofs.Common.{◌≡◌, ◌∙◌, ℕ, ◌+◌, ◌<◌, ◌≤◌, Bool, true, false, List, [], ◌∷◌, ◌++◌, map, Option, Some, None, Result, Ok, Err, cond, refl, sym, ap, append-nil, arith}
-use Rattle.std.specs.Prelude.{decimal, ◌==◌, ◌&&◌}
+use Rattle.std.proofs.Common.{◌≡◌, ◌∙◌, ℕ, ◌+◌, ◌^◌, ◌<◌, ◌≤◌, Bool, true, false, List, [], ◌∷◌, ◌++◌, map, Option, Some, None, Result, Ok, Err, cond, refl, sym, ap, append-nil, arith}
+use Rattle.std.specs.Prelude.{decimal, ◌==◌, ◌&&◌, nat_lt}
 use Rattle.std.specs.Fmt.{signed_decimal}
 use Rattle.std.specs.Int.{cast_signed, w64}
 use Rattle.std.specs.Option.{option_map}
@@ -11,6 +11,8 @@ use Rattle.qp_model.specs.Output.{JournalItem, item, last_id}
 use Rattle.qp_model.specs.OutputText.{after_spaces, number_texts, say_texts, line_text}
 use Rattle.qp_text.specs.Numbers.{number_at, number_of, numbers_at, signed_of}
 use Rattle.qp_text.specs.LineItem.{counted, has_signs, id_of, item_of_line, numbered}
+use Rattle.qp_model.proofs.ListLemmas.{true_both}
+use Rattle.qp_text.specs.TextLaw.{has_64_bits}
 use Rattle.qp_text.proofs.OptionLemmas.{and_then-some, option_map-some}
 use Rattle.qp_text.proofs.NumberLaw.{number_of-is, signed_of-is}
 use Rattle.qp_text.proofs.ReadLemmas.{split-cons}
@@ -62,6 +64,21 @@ numbers_at-are signs place (t ∷ texts) nums is =
     let rest = option_map-some (λ rest. first.0 ∷ rest) (numbers_at signs (place + 1) texts) nums first.2 in
     rw (← rest.2, number-is (signs && (place == 1)) t first.0 first.1, numbers_at-are signs (place + 1) texts rest.0 rest.1) refl
 
+-- numbers that are read have 64 bits
+number-fits : (is_signed : Bool) (t : List ℕ) (n : ℕ) → cond is_signed (signed_of t) (number_of t) ≡ Some n → n < 2 ^ 64
+number-fits true t n is = (signed_of-is t n is).1
+number-fits false t n is = (number_of-is t n is).1
+
+numbers_at-fit : (signs : Bool) (place : ℕ) (texts : List (List ℕ)) (nums : List ℕ) → numbers_at signs place texts ≡ Some nums → has_64_bits nums ≡ true
+numbers_at-fit signs place [] [] is = refl
+numbers_at-fit signs place [] (n ∷ nums) is = cc
+numbers_at-fit signs place (t ∷ texts) nums is =
+    let first = and_then-some (number_at signs place t) (λ n. option_map (λ rest. n ∷ rest) (numbers_at signs (place + 1) texts)) nums is in
+    let rest = option_map-some (λ rest. first.0 ∷ rest) (numbers_at signs (place + 1) texts) nums first.2 in
+    let small = number-fits (signs && (place == 1)) t first.0 first.1 in
+    let fits : nat_lt first.0 (2 ^ 64) ≡ true = grind (arith, nat_tests) in
+    rw (← rest.2) (true_both (nat_lt first.0 (2 ^ 64)) (has_64_bits rest.0) fits (numbers_at-fit signs (place + 1) texts rest.0 rest.1))
+
 -- the parts of a line with spaces between them
 pub joined-spaces : (word : List ℕ) (texts : List (List ℕ)) → joined 32 (word ∷ texts) ≡ word ++ after_spaces texts
 joined-spaces word [] = sym (append-nil word)
@@ -73,6 +90,7 @@ pub record IsLine (form : ℕ) (line : List ℕ) (i : JournalItem) : Type 0 wher
   pub count : has_count i.id i.nums ≡ true
   pub first : 1 ≤ i.id
   pub past : i.id ≤ last_id form
+  pub fits : has_64_bits i.nums ≡ true
 
 counted-is : (form : ℕ) (line word : List ℕ) (texts : List (List ℕ)) (id : ℕ) (i : JournalItem) (nums : Option (List ℕ))
     → line ≡ word ++ after_spaces texts → (word_text id ≡ word) × (1 ≤ id) × (id < 1 + last_id form)
@@ -89,6 +107,7 @@ counted-is form line word texts id i (Some nums) whole known read is = go (has_c
         count = has;
         first = known.1;
         past = omega (arith, known.2);
+        fits = numbers_at-fit (has_signs form id) 0 texts nums read;
       }
 
 numbered-is : (form : ℕ) (line word : List ℕ) (texts : List (List ℕ)) (i : JournalItem) (id : Option ℕ)

@@ -14,3 +14,5 @@ pub mod ItemLaw
 pub mod TakenLaw
 pub mod ProgressLaw
 pub mod TextLaw
+pub mod LineText
+pub mod TextRead

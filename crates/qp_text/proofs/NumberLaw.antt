@@ -37,10 +37,10 @@ number_of-is text n is =
     )
 
 -- a signed number by its bits
-positive : (n : ℕ) → n < 2 ^ 63 → signed_decimal (cast_signed w64 n) ≡ decimal n
+pub positive : (n : ℕ) → n < 2 ^ 63 → signed_decimal (cast_signed w64 n) ≡ decimal n
 positive n low = grind (arith, nat_tests)
 
-negative : (m : ℕ) → 1 ≤ m → m ≤ 2 ^ 63 → signed_decimal (cast_signed w64 (2 ^ 64 - m)) ≡ 45 ∷ decimal m
+pub negative : (m : ℕ) → 1 ≤ m → m ≤ 2 ^ 63 → signed_decimal (cast_signed w64 (2 ^ 64 - m)) ≡ 45 ∷ decimal m
 negative m first last =
     let high : nat_lt (2 ^ 64 - m) (2 ^ 63) ≡ false = grind (arith, nat_tests) in
     let back : suc (2 ^ 64 - suc (2 ^ 64 - m)) ≡ m = omega arith in

@@ -1,5 +1,5 @@
 -- An item that is taken stands behind those that were taken before.
-use Rattle.std.proofs.Common.{◌≡◌, ◌∙◌, ℕ, ◌≤◌, Bool, true, false, List, [], ◌∷◌, ◌++◌, length, Option, Some, None, Result, Ok, Err, cond, refl, sym, ap, append-nil, zero-add, length-append, arith, inl, inr}
+use Rattle.std.proofs.Common.{◌≡◌, ◌∙◌, ℕ, ◌^◌, ◌≤◌, Bool, true, false, List, [], ◌∷◌, ◌++◌, length, Option, Some, None, Result, Ok, Err, cond, refl, sym, ap, append-nil, zero-add, length-append, arith, inl, inr}
 use Rattle.std.proofs.lemmas.Bool.Decides.{nat_tests}
 use Rattle.std.specs.Prelude.{◌==◌, ◌&&◌, ◌⊎◌, nat_le, nat_lt, option_to_list}
 use Rattle.std.specs.List.{list_all}
@@ -12,6 +12,7 @@ use Rattle.qp_model.specs.Vocabulary.{has_count}
 use Rattle.qp_model.specs.Output.{JournalItem, item, record_item, items_of_lanes, last_id, is_record_in_range, is_lane_in_range, is_end_status}
 use Rattle.qp_text.specs.declared.progress.Reading.{Reading}
 use Rattle.qp_text.specs.Progress.{all_lanes, at_start, begin, open_lane, close, add_record, go_on, take_item}
+use Rattle.qp_text.specs.TextLaw.{has_64_bits, lane_has_64_bits, record_has_64_bits}
 use Rattle.qp_text.proofs.TakenLaw.{Ranged, Takes, begin-is, lanes-more, records-more, taken, all-more, all-front}
 
 -- one record more in a lane
@@ -56,6 +57,7 @@ module _ (p : Reading) (begun : p.begun ≡ true) (unended : p.end ≡ None) (ra
             low = ranged.low;
             high = ranged.high;
             lanes = all-more (is_lane_in_range p.form) (all_lanes p) [] ranged.lanes refl;
+            bits = all-more lane_has_64_bits (all_lanes p) [] ranged.bits refl;
             count = omega (arith, length-append (all_lanes p) ([] ∷ []), leb-true number 48 few, eqb-true number (length (all_lanes p)) next);
             ended = λ status end. let none = rw unended at end in absurd cc;
           };
@@ -85,6 +87,7 @@ module _ (p : Reading) (begun : p.begun ≡ true) (unended : p.end ≡ None) (ra
             low = ranged.low;
             high = ranged.high;
             lanes = rw (append-nil (all_lanes p)) ranged.lanes;
+            bits = rw (append-nil (all_lanes p)) ranged.bits;
             count = rw (append-nil (all_lanes p)) ranged.count;
             ended = λ other end. (let same : status ≡ other = cc in rw (← same) fits, refl);
           };
@@ -92,11 +95,11 @@ module _ (p : Reading) (begun : p.begun ≡ true) (unended : p.end ≡ None) (ra
               rw (begun, append-nil (all_lanes p)) refl ∙ ap (λ t. t ++ item END (status ∷ []) ∷ []) (sym before);
         }
 
-  pub add_record-is : (id : ℕ) (nums : List ℕ) (q : Reading) → BEGIN ≤ id → id ≤ last_id p.form → has_count id nums ≡ true
+  pub add_record-is : (id : ℕ) (nums : List ℕ) (q : Reading) → BEGIN ≤ id → id ≤ last_id p.form → has_count id nums ≡ true → has_64_bits nums ≡ true
       → (lane : Option (List Rec)) → p.lane ≡ lane → add_record p id nums lane ≡ Ok q → Takes p q p.form (item id nums)
-  add_record-is id nums q first past count None here is = absurd cc
-  add_record-is id [] q first past count (Some lane) here is = absurd cc
-  add_record-is id (o ∷ nums) q first past count (Some lane) here is = go (nat_le o 32 && nat_lt (length lane) 1000001) refl is where
+  add_record-is id nums q first past count bits None here is = absurd cc
+  add_record-is id [] q first past count bits (Some lane) here is = absurd cc
+  add_record-is id (o ∷ nums) q first past count bits (Some lane) here is = go (nat_le o 32 && nat_lt (length lane) 1000001) refl is where
     go : (fits : Bool) → (nat_le o 32 && nat_lt (length lane) 1000001) ≡ fits
         → cond {A = Result Reading ℕ} fits (Ok (record p { lane = Some (lane ++ record { kind = id; of = o; nums = record { items = nums } } ∷ []) })) (Err 6) ≡ Ok q
         → Takes p q p.form (item id (o ∷ nums))
@@ -108,6 +111,7 @@ module _ (p : Reading) (begun : p.begun ≡ true) (unended : p.end ≡ None) (ra
         let whole : list_all (is_lane_in_range p.form) (p.lanes ++ lane ∷ []) ≡ true = rw here at ranged.lanes in
         let few : length (p.lanes ++ lane ∷ []) ≤ 49 = rw here at ranged.count in
         let front = all-front (is_lane_in_range p.form) p.lanes lane whole in
+        let bits_front = all-front lane_has_64_bits p.lanes lane (rw here at ranged.bits) in
         let grown = lane-grows p.form lane id o nums first past count both.0 both.1 front.1 in
         let this : record p { lane = Some (lane ++ record { kind = id; of = o; nums = record { items = nums } } ∷ []) } ≡ q = cc in
         rw (← this) record {
@@ -119,6 +123,7 @@ module _ (p : Reading) (begun : p.begun ≡ true) (unended : p.end ≡ None) (ra
             low = ranged.low;
             high = ranged.high;
             lanes = all-more (is_lane_in_range p.form) p.lanes (lane ++ r ∷ []) front.0 grown;
+            bits = all-more lane_has_64_bits p.lanes (lane ++ r ∷ []) bits_front.0 (all-more record_has_64_bits lane r bits_front.1 (both_true (nat_lt o (2 ^ 64)) (has_64_bits nums) bits).1);
             count = omega (arith, few, length-append p.lanes (lane ∷ []), length-append p.lanes ((lane ++ r ∷ []) ∷ []));
             ended = λ status end. let none = rw unended at end in absurd cc;
           };
@@ -128,7 +133,7 @@ module _ (p : Reading) (begun : p.begun ≡ true) (unended : p.end ≡ None) (ra
         }
 
 module _ (p q : Reading) (i : JournalItem) (begun : p.begun ≡ true) (ranged : Ranged p) (first : 1 ≤ i.id) (past : i.id ≤ last_id p.form)
-    (count : has_count i.id i.nums ≡ true) where
+    (count : has_count i.id i.nums ≡ true) (bits : has_64_bits i.nums ≡ true) where
   -- by the last line, and by what the item is
   go_on-by : (ended : Option ℕ) → p.end ≡ ended → (is_qp is_lane is_end : Bool) → (i.id == QP) ≡ is_qp → (i.id == LANE) ≡ is_lane → (i.id == END) ≡ is_end
       → cond {A = Result Reading ℕ} (is_some ended) (Err 4) (cond {A = Result Reading ℕ} is_qp (Err 4)
@@ -144,7 +149,7 @@ module _ (p q : Reading) (i : JournalItem) (begun : p.begun ≡ true) (ranged : 
       rw (← this) (close-is p begun end ranged i.nums q is)
   go_on-by None end false false false qp lane last is =
       let record_kind : BEGIN ≤ i.id = grind (arith, nat_tests) in
-      add_record-is p begun end ranged i.id i.nums q record_kind past count p.lane refl is
+      add_record-is p begun end ranged i.id i.nums q record_kind past count bits p.lane refl is
 
   -- an item after the first
   pub go_on-is : go_on p i ≡ Ok q → Takes p q p.form i
@@ -169,8 +174,8 @@ cond-taken false x y z holds is = absurd cc
 
 -- an item in the reading's form
 pub take_item-is : (form : ℕ) (p q : Reading) (i : JournalItem) → Good p → (p.begun ≡ true → p.form ≡ form) → (form ≡ 1) ⊎ (form ≡ 2)
-    → 1 ≤ i.id → i.id ≤ last_id form → has_count i.id i.nums ≡ true → take_item form p i ≡ Ok q → Takes p q form i
-take_item-is form p q i (inl good) same known first past count is =
+    → 1 ≤ i.id → i.id ≤ last_id form → has_count i.id i.nums ≡ true → has_64_bits i.nums ≡ true → take_item form p i ≡ Ok q → Takes p q form i
+take_item-is form p q i (inl good) same known first past count bits is =
     let form_is = same good.0 in
-    rw (← form_is) (go_on-is p q i good.0 good.1 first (rw form_is past) count (cond-taken p.begun (go_on p i) (cond {A = Result Reading ℕ} (i.id == QP) (begin p form i.nums) (Err 4)) (Ok q) good.0 is))
-take_item-is form p q i (inr start) same known first past count is = rw start (take_first form q i known (rw start at is))
+    rw (← form_is) (go_on-is p q i good.0 good.1 first (rw form_is past) count bits (cond-taken p.begun (go_on p i) (cond {A = Result Reading ℕ} (i.id == QP) (begin p form i.nums) (Err 4)) (Ok q) good.0 is))
+take_item-is form p q i (inr start) same known first past count bits is = rw start (take_first form q i known (rw start at is))

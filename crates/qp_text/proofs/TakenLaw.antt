@@ -9,6 +9,7 @@ use Rattle.qp_model.specs.declared.record.Rec.{Rec}
 use Rattle.qp_model.specs.Output.{JournalItem, item, record_item, items_of_lane, items_of_lanes, last_kernel, is_lane_in_range, is_end_status}
 use Rattle.qp_text.specs.declared.progress.Reading.{Reading}
 use Rattle.qp_text.specs.Progress.{all_lanes, at_start, begin}
+use Rattle.qp_text.specs.TextLaw.{records_have_64_bits}
 
 -- the items of the last line, if it was read
 abbrev pub end_items : Option ℕ → List JournalItem
@@ -26,6 +27,7 @@ pub record Ranged (p : Reading) : Type 0 where
   pub low : nat_le 1 p.budget ≡ true
   pub high : nat_le p.budget 1000000 ≡ true
   pub lanes : list_all (is_lane_in_range p.form) (all_lanes p) ≡ true
+  pub bits : records_have_64_bits (all_lanes p) ≡ true
   pub count : length (all_lanes p) ≤ 49
   pub ended : (status : ℕ) → p.end ≡ Some status → (is_end_status status ≡ true) × (p.lane ≡ None)
 
@@ -91,7 +93,7 @@ begin-is form (stated ∷ kernel ∷ budget ∷ []) q known is =
           rw (← this) record {
             begun = refl;
             form_is = refl;
-            ranged = record { form = known; kernel = one.1; low = two.1; high = three.1; lanes = refl; count = omega arith; ended = λ status end. absurd cc };
+            ranged = record { form = known; kernel = one.1; low = two.1; high = three.1; lanes = refl; bits = refl; count = omega arith; ended = λ status end. absurd cc };
             items = rw (eqb-true stated form one.0) refl;
           }
 begin-is form [] q known is = absurd cc

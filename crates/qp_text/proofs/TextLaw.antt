@@ -22,6 +22,7 @@ use Rattle.qp_text.specs.Parts.{split}
 use Rattle.qp_text.specs.LineItem.{form_of_parts, item_of_line}
 use Rattle.qp_text.specs.Progress.{all_lanes, at_start, journal_of}
 use Rattle.qp_text.specs.ReadText.{after_line, finish, form_at, last_part, read_parts, read_text, take_line, take_read}
+use Rattle.qp_text.specs.TextLaw.{records_have_64_bits}
 use Rattle.qp_text.proofs.ItemLaw.{IsLine, item_of_line-is}
 use Rattle.qp_text.proofs.ReadLemmas.{split-cons}
 use Rattle.qp_text.proofs.SplitLemmas.{joined, joined-split}
@@ -75,13 +76,14 @@ take_line-is p q line good is = go (item_of_line (form_at p line) line) refl is 
   go (Ok i) read is =
       let shown = item_of_line-is (form_at p line) line i read in
       taken-is p q line i good
-      (take_item-is (form_at p line) p q i good (form_at-begun p line) (form_at-known p line good) shown.first shown.past shown.count is) shown
+      (take_item-is (form_at p line) p q i good (form_at-begun p line) (form_at-known p line good) shown.first shown.past shown.count shown.fits is) shown
 
 -- what a reading of a whole text says
 pub record IsText (v : ℕ) (j : Journal) (bytes : List ℕ) : Type 0 where
   pub text : text v j ≡ bytes
   pub range : is_in_range v j ≡ true
   pub form : has_form v j ≡ true
+  pub bits : records_have_64_bits j.lanes ≡ true
 
 -- records in range for form 1 have none that form 1 doesn't know
 no_rest-lane : (lane : List Rec) → list_all (is_record_in_range 1) lane ≡ true → list_all (λ (r : Rec). not (r.kind == REST)) lane ≡ true
@@ -110,7 +112,7 @@ form-holds v j (inl one) kernel lanes =
     rw (one, other) (no_rest-lanes j.lanes (rw one at lanes))
 
 -- two answers that are equal
-ok-pair : {A B E : Type 0} (a c : A) (b d : B) → ◌≡◌ {A = Result (A × B) E} (Ok (a, b)) (Ok (c, d)) → (a ≡ c) × (b ≡ d)
+pub ok-pair : {A B E : Type 0} (a c : A) (b d : B) → ◌≡◌ {A = Result (A × B) E} (Ok (a, b)) (Ok (c, d)) → (a ≡ c) × (b ≡ d)
 ok-pair {A} {B} a c b d is =
     let pairs : ◌≡◌ {A = A × B} (a, b) (c, d) = cc in
     (ap (λ (p : A × B). p.0) pairs, ap (λ (p : A × B). p.1) pairs)
@@ -136,6 +138,7 @@ finish-is number v p j (inl good) (Some status) end is =
       text = rw (good.0, end, lanes_are) refl;
       range = range;
       form = form-holds p.form (journal_of p status) ranged.form ranged.kernel (rw lanes_are at ranged.lanes);
+      bits = rw lanes_are at ranged.bits;
     } in
     let same = ok-pair p.form v (journal_of p status) j is in
     rw (← same.0, ← same.1) whole

@@ -6,3 +6,4 @@ pub mod Progress
 pub mod ReadText
 pub mod Faults
 pub mod Found
+pub mod TextLaw

@@ -4,6 +4,7 @@
 mod faults;
 mod found;
 mod items;
+pub mod laws;
 mod lines;
 mod numbers;
 mod parts;

@@ -5,6 +5,7 @@ ghost use Rattle.qp_model.specs.Output.{has_form, is_in_range};
 ghost use Rattle.qp_model.specs.OutputText.{text};
 ghost use Rattle.qp_text.specs.Found.{Reads};
 ghost use Rattle.qp_text.specs.ReadText.{finish, last_part, read_text};
+ghost use Rattle.qp_text.specs.TextLaw.{ReadsTexts};
 
 use crate::faults::LineFault;
 use crate::found::{Found, TextFault};
@@ -24,6 +25,9 @@ pub fn read_journal(alloc: Global, bytes: &[u8]) -> Result<Found, TextFault>
     ensures text { IfOk result (λ found. text found.form found.journal ≡ bytes.now) }
     ensures range { IfOk result (λ found. IsTrue (is_in_range found.form found.journal)) }
     ensures form { IfOk result (λ found. IsTrue (has_form found.form found.journal)) }
+
+    // The text of each journal in range is read, as this journal in its form.
+    ensures only { ReadsTexts result bytes.now }
 {
     read(alloc, bytes)
 }
