@@ -1,2 +1,4 @@
 pub mod GroupLemmas
 pub mod FrameLemmas
+pub mod NumberLemmas
+pub mod FeedLemmas

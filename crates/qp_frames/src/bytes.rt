@@ -20,10 +20,10 @@ type Body = ArrayVec<u8, BODY_ROOM>;
 pub(crate) type Frame = ArrayVec<u8, FRAME_ROOM>;
 
 /// The byte that ends a frame.
-const END: u8 = 0x7E;
+pub(crate) const END: u8 = 0x7E;
 
 /// The byte that stands before an escaped one.
-const ESCAPE: u8 = 0x7D;
+pub(crate) const ESCAPE: u8 = 0x7D;
 
 /// The frame of an item.
 pub(crate) fn frame(form: u8, sequence: u8, id: u8, nums: &[u64]) -> Frame
@@ -83,15 +83,14 @@ fn push_groups(body: &mut Body, n: u64)
 }
 
 /// The complement of the sum of the bytes in eight bits.
-fn checksum(bytes: &[u8]) -> u8
-    requires { length bytes.now ≤ 142 }
+pub(crate) fn checksum(bytes: &[u8]) -> u8
     ensures { result ≡ checksum bytes.now }
 {
-    let mut total = 0u32;
+    let mut total = 0u8;
     for b in bytes {
-        total += u32::from(*b);
+        total = total.wrapping_add(*b);
     }
-    255 - (total % 256) as u8
+    255 - total
 }
 
 /// Appends bytes, escaped where they have a meaning of their own.

@@ -2,6 +2,16 @@
 #![tactic(auto)]
 
 mod bytes;
+mod decoder;
+mod faults;
+mod frames;
+mod numbers;
+mod reading;
+mod stream;
+#[cfg(test)]
+mod tests;
 mod writer;
 
+pub use decoder::Decoder;
+pub use faults::FrameFault;
 pub use writer::write_frames;
