@@ -27,7 +27,6 @@ name_fault list earlier k name = fault_if (list_any (bytes_eq name) earlier) DOU
 
 -- a signal behind these: its name stands before, or it is static and has parameters
 unfoldable pub signal_fault : List Signal → ℕ → Signal → Option Fault
-unfolding first_of
 signal_fault earlier k s =
     first_of
     (name_fault SIGNAL (map (λ t. t.name) earlier) k s.name
@@ -56,7 +55,6 @@ timers_of charts o = option_map_or (λ c. length c.timers) (chart_named charts o
 
 -- an object behind these: its chart, its variables, its priority, its threshold, and the time events up to it
 unfoldable pub placing_fault : List Chart → List Object → ℕ → Object → Option Fault
-unfolding first_of
 placing_fault charts earlier k o =
     first_of
     (fault_if (is_none (chart_named charts o.chart)) NO_SUCH_NAME (Key OBJECT ∷ Pos k ∷ Key CHART ∷ [])
@@ -73,7 +71,6 @@ first_behind f earlier k (x ∷ xs) = option_or (f earlier k x) (first_behind f 
 
 -- the first fault between tables, before those within charts
 unfoldable pub between_fault : Raw → Option Fault
-unfolding first_of first_behind sizes_fault signal_fault chart_fault object_fault placing_fault
 between_fault raw =
     first_of
     (sizes_fault 1 None raw.pools
@@ -87,7 +84,10 @@ between_fault raw =
 abbrev pub is_without_pool : List Pool → Signal → Bool
 is_without_pool pools s = not s.fixed && not (list_any (λ p. nat_le s.params p.size) pools)
 
--- the first signal without a pool, after those within charts
-unfoldable pub pools_fault : Raw → Option Fault
-unfolding first_in
-pools_fault raw = first_in (λ k s. fault_if (is_without_pool raw.pools s) NO_POOL (Key SIGNAL ∷ Pos k ∷ [])) 1 raw.signals
+-- the first signal without a pool among these
+unfoldable pub no_pool_fault : List Pool → List Signal → Option Fault
+no_pool_fault pools signals = first_in (λ k s. fault_if (is_without_pool pools s) NO_POOL (Key SIGNAL ∷ Pos k ∷ [])) 1 signals
+
+-- the first signal without a pool, after the faults within charts
+abbrev pub pools_fault : Raw → Option Fault
+pools_fault raw = no_pool_fault raw.pools raw.signals

@@ -4,7 +4,12 @@ pub mod Names
 pub mod Values
 pub mod Tables
 pub mod Between
+pub mod Passes
+pub mod Few
+pub mod Within
+pub mod Later
 pub mod Refused
 pub mod Views
 pub mod Front
 pub mod Document
+pub mod Checked

@@ -1,0 +1,195 @@
+-- Which fault comes first.
+use Rattle.std.proofs.Common.{◌≡◌, ℕ, ◌+◌, ◌<◌, ◌≤◌, Bool, true, false, List, [], ◌∷◌, ◌++◌, length, map, take, drop, get_or, Some, None, Ok, Err, refl, sym, ◌∙◌, ap}
+use Rattle.std.specs.declared.option.Option.{Option}
+use Rattle.std.specs.declared.result.Result.{Result}
+use Rattle.std.specs.Option.{option_or}
+use Rattle.std.specs.List.{list_any}
+use Rattle.std.proofs.lemmas.List.{drop_more, drop_all, take_more, map-append}
+use Rattle.qp_chart.specs.declared.place.Part.{Part}
+use Rattle.qp_chart.specs.Faults.{Fault, fault_if, first_of, first_in}
+use Rattle.qp_chart.specs.Pairs.{Corresponds}
+use Rattle.std.specs.Prelude.{All}
+use Rattle.qp_chart.specs.declared.raw.RawChart.{RawChart}
+use Rattle.qp_chart.specs.declared.raw.Names.{Names}
+use Rattle.qp_chart.specs.Readable.{IsReadable}
+use Rattle.qp_system.specs.Few.{IsFewChart}
+use Rattle.qp_system.specs.declared.fault.SystemFault.{SystemFault}
+use Rattle.qp_system.specs.declared.fault.SystemFault.TheVariants.{Memory, NotToml, At}
+use Rattle.qp_chart.specs.declared.place.Part.TheVariants.{Key, Pos}
+use Rattle.qp_chart.specs.declared.key.TheConstants.{POOL, SIZE}
+use Rattle.qp_chart.specs.declared.code.TheConstants.{RANGE}
+use Rattle.qp_model.specs.declared.systems.PoolDef.{PoolDef}
+use Rattle.qp_system.specs.Between.{first_behind, sizes_fault, is_not_above}
+use Rattle.qp_system.specs.Views.{pool_view}
+use Rattle.qp_system.specs.Passes.{IsFirst, Passes}
+use Rattle.qp_system.specs.Refused.{fault_at}
+
+-- what is found first is the first fault
+pub first-here : (o later : Option Fault) (e : SystemFault) → IsFirst o e → IsFirst (option_or o later) e
+first-here o later Memory h = tt
+first-here o later NotToml h = h
+first-here o later (At c p) h = rw h refl
+
+-- where nothing is found first, what is found later
+pub first-later : (o later : Option Fault) (e : SystemFault) → o ≡ None → IsFirst later e → IsFirst (option_or o later) e
+first-later o later e none h = rw none h
+
+pub none-both : (o later : Option Fault) → o ≡ None → later ≡ None → option_or o later ≡ None
+none-both o later none rest = rw none rest
+
+-- the first of some faults
+pub first-head : (o : Option Fault) (os : List (Option Fault)) (e : SystemFault) → IsFirst o e → IsFirst (first_of (o ∷ os)) e
+unfolding first_of
+first-head o os e h = first-here o (first_of os) e h
+
+pub first-tail : (o : Option Fault) (os : List (Option Fault)) (e : SystemFault) → o ≡ None → IsFirst (first_of os) e → IsFirst (first_of (o ∷ os)) e
+unfolding first_of
+first-tail o os e none h = first-later o (first_of os) e none h
+
+pub none-head : (o : Option Fault) (os : List (Option Fault)) → o ≡ None → first_of os ≡ None → first_of (o ∷ os) ≡ None
+unfolding first_of
+none-head o os none rest = rw none rest
+
+pub none-end : first_of [] ≡ None
+unfolding first_of
+none-end = refl
+
+-- a test that holds gives its fault, and one that fails none
+pub fault_if-holds : (test : Bool) (code : ℕ) (path : List Part) (e : SystemFault) → test ≡ true → e ≡ fault_at code path → IsFirst (fault_if test code path) e
+fault_if-holds test code path e holds h = rw (h, holds) refl
+
+pub fault_if-fails : (test : Bool) (code : ℕ) (path : List Part) → test ≡ false → fault_if test code path ≡ None
+fault_if-fails test code path fails = rw fails refl
+
+-- a test of the things of a list, seen by view
+pub list_any-map : {X A : Type 0} (p : A → Bool) (view : X → A) (xs : List X) → list_any p (map view xs) ≡ list_any (λ x. p (view x)) xs
+list_any-map p view [] = refl
+list_any-map p view (x ∷ xs) = rw (list_any-map p view xs) refl
+
+module _ {X A : Type 0} (f : List A → ℕ → A → Option Fault) (view : X → A) (xs : List X) where
+  -- what is left from the i-th thing on
+  abbrev pub rest : ℕ → Option Fault
+  rest i = first_behind f (map view (take i xs)) (i + 1) (map view (drop i xs))
+
+  pub rest-next : (i : ℕ) (x : X) → i < length xs → x ≡ get_or xs i x → rest i ≡ option_or (f (map view (take i xs)) (i + 1) (view x)) (rest (i + 1))
+  unfolding first_behind
+  rest-next i x inside is =
+      let item : drop i xs ≡ x ∷ drop (i + 1) xs = drop_more xs i x inside ∙ ap (λ y. y ∷ drop (i + 1) xs) (sym is) in
+      let front : take (i + 1) xs ≡ take i xs ++ x ∷ [] = take_more xs i x inside ∙ ap (λ z. take i xs ++ z ∷ []) (sym is) in
+      let fronts : map view (take (i + 1) xs) ≡ map view (take i xs) ++ view x ∷ [] = ap (map view) front ∙ map-append view (take i xs) (x ∷ []) in
+      rw (item, fronts) refl
+
+  -- the things before the i-th have no fault
+  abbrev pub Clear : ℕ → Type 0
+  Clear i = first_behind f [] 1 (map view xs) ≡ rest i
+
+  pub clear-none : Clear 0
+  clear-none = refl
+
+  pub clear-one : (i : ℕ) (x : X) → Clear i → i < length xs → x ≡ get_or xs i x → f (map view (take i xs)) (i + 1) (view x) ≡ None → Clear (i + 1)
+  clear-one i x clear inside is none = clear ∙ rest-next i x inside is ∙ ap (λ o. option_or o (rest (i + 1))) none
+
+  pub first-at : (i : ℕ) (x : X) (e : SystemFault) → Clear i → i < length xs → x ≡ get_or xs i x → IsFirst (f (map view (take i xs)) (i + 1) (view x)) e
+      → IsFirst (first_behind f [] 1 (map view xs)) e
+  first-at i x e clear inside is h = rw (clear ∙ rest-next i x inside is) (first-here _ (rest (i + 1)) e h)
+
+  pub clear-all : (i : ℕ) → Clear i → length xs ≤ i → first_behind f [] 1 (map view xs) ≡ None
+  unfolding first_behind
+  clear-all i clear end = clear ∙ ap (λ (l : List X). first_behind f (map view (take i xs)) (i + 1) (map view l)) (drop_all i xs end)
+
+module _ (xs : List PoolDef) where
+  sizes-next : (i : ℕ) (before : Option ℕ) (d : PoolDef) → i < length xs
+      → sizes_fault (i + 1) before (map pool_view (drop i xs))
+      ≡ option_or (fault_if (is_not_above before (get_or xs i d).size) RANGE (Key POOL ∷ Pos (i + 1) ∷ Key SIZE ∷ [])) (sizes_fault ((i + 1) + 1) (Some (get_or xs i d).size) (map pool_view (drop (i + 1) xs)))
+  unfolding sizes_fault
+  sizes-next i before d inside = let item : drop i xs ≡ get_or xs i d ∷ drop (i + 1) xs = drop_more xs i d inside in rw item refl
+
+  -- a size that is above the one before it
+  pub sizes-one : (i : ℕ) (before : Option ℕ) (d : PoolDef) (whole : Option Fault) → whole ≡ sizes_fault (i + 1) before (map pool_view (drop i xs)) → i < length xs
+      → is_not_above before (get_or xs i d).size ≡ false → whole ≡ sizes_fault ((i + 1) + 1) (Some (get_or xs i d).size) (map pool_view (drop (i + 1) xs))
+  sizes-one i before d whole so_far inside above =
+      so_far ∙ sizes-next i before d inside
+      ∙ ap (λ b. option_or (fault_if b RANGE (Key POOL ∷ Pos (i + 1) ∷ Key SIZE ∷ [])) (sizes_fault ((i + 1) + 1) (Some (get_or xs i d).size) (map pool_view (drop (i + 1) xs)))) above
+
+  -- a size that isn't
+  pub sizes-at : (i : ℕ) (before : Option ℕ) (d : PoolDef) (whole : Option Fault) (e : SystemFault) → whole ≡ sizes_fault (i + 1) before (map pool_view (drop i xs)) → i < length xs
+      → is_not_above before (get_or xs i d).size ≡ true → e ≡ fault_at RANGE (Key POOL ∷ Pos (i + 1) ∷ Key SIZE ∷ []) → IsFirst whole e
+  sizes-at i before d whole e so_far inside not_above h =
+      rw (so_far ∙ sizes-next i before d inside) (first-here _ (sizes_fault ((i + 1) + 1) (Some (get_or xs i d).size) (map pool_view (drop (i + 1) xs))) e (fault_if-holds _ _ _ e not_above h))
+
+  pub sizes-all : (i : ℕ) (before : Option ℕ) (whole : Option Fault) → whole ≡ sizes_fault (i + 1) before (map pool_view (drop i xs)) → length xs ≤ i → whole ≡ None
+  unfolding sizes_fault
+  sizes-all i before whole so_far end = so_far ∙ ap (λ (l : List PoolDef). sizes_fault (i + 1) before (map pool_view l)) (drop_all i xs end)
+
+-- what is left to pass
+pub passes-tail : {X : Type 0} (o : Option Fault) (os : List (Option Fault)) (r : Result X SystemFault) → o ≡ None → Passes (first_of os) r → Passes (first_of (o ∷ os)) r
+passes-tail o os (Ok x) none h = none-head o os none h
+passes-tail o os (Err e) none h = first-tail o os e none h
+
+pub passes-last : {X : Type 0} (o : Option Fault) (r : Result X SystemFault) → Passes o r → Passes (first_of (o ∷ [])) r
+passes-last o (Ok x) h = none-head o [] h none-end
+passes-last o (Err e) h = first-head o [] e h
+
+module _ {X A : Type 0} (f : ℕ → A → Option Fault) (view : X → A) (xs : List X) where
+  -- what is left from the i-th thing on, each seen by itself
+  abbrev pub left : ℕ → Option Fault
+  left i = first_in f (i + 1) (map view (drop i xs))
+
+  left-next : (i : ℕ) (x : X) → i < length xs → x ≡ get_or xs i x → left i ≡ option_or (f (i + 1) (view x)) (left (i + 1))
+  unfolding first_in
+  left-next i x inside is =
+      let item : drop i xs ≡ x ∷ drop (i + 1) xs = drop_more xs i x inside ∙ ap (λ y. y ∷ drop (i + 1) xs) (sym is) in
+      rw item refl
+
+  -- the things before the i-th have no fault by themselves
+  abbrev pub Passed : ℕ → Type 0
+  Passed i = first_in f 1 (map view xs) ≡ left i
+
+  pub passed-none : Passed 0
+  passed-none = refl
+
+  pub passed-one : (i : ℕ) (x : X) → Passed i → i < length xs → x ≡ get_or xs i x → f (i + 1) (view x) ≡ None → Passed (i + 1)
+  passed-one i x passed inside is none = passed ∙ left-next i x inside is ∙ ap (λ o. option_or o (left (i + 1))) none
+
+  pub passed-at : (i : ℕ) (x : X) (e : SystemFault) → Passed i → i < length xs → x ≡ get_or xs i x → IsFirst (f (i + 1) (view x)) e → IsFirst (first_in f 1 (map view xs)) e
+  passed-at i x e passed inside is h = rw (passed ∙ left-next i x inside is) (first-here _ (left (i + 1)) e h)
+
+  pub passed-all : (i : ℕ) → Passed i → length xs ≤ i → first_in f 1 (map view xs) ≡ None
+  unfolding first_in
+  passed-all i passed end = passed ∙ ap (λ (l : List X). first_in f (i + 1) (map view l)) (drop_all i xs end)
+
+-- one more of a list that is read off another
+pub map-more : {X A : Type 0} (f : X → A) (xs : List X) (ys : List A) (i : ℕ) (x : X) → i < length xs → x ≡ get_or xs i x → ys ≡ map f (take i xs) → ys ++ f x ∷ [] ≡ map f (take (i + 1) xs)
+map-more f xs ys i x inside is so_far =
+    let front : take (i + 1) xs ≡ take i xs ++ x ∷ [] = take_more xs i x inside ∙ ap (λ z. take i xs ++ z ∷ []) (sym is) in
+    let fronts : map f (take (i + 1) xs) ≡ map f (take i xs) ++ f x ∷ [] = ap (map f) front ∙ map-append f (take i xs) (x ∷ []) in
+    rw (fronts, so_far) refl
+
+-- one more of each list
+pair-append : {A B : Type 0} (R : A → B → Type 0) (xs : List A) (ys : List B) (x : A) (y : B) → Corresponds R xs ys → R x y → Corresponds R (xs ++ x ∷ []) (ys ++ y ∷ [])
+unfolding Corresponds
+pair-append R [] [] x y h r = (r, tt)
+pair-append R [] (y' ∷ ys) x y h r = absurd h
+pair-append R (x' ∷ xs) [] x y h r = absurd h
+pair-append R (x' ∷ xs) (y' ∷ ys) x y h r = (h.0, pair-append R xs ys x y h.1 r)
+
+pub pair-more : {A B : Type 0} (R : A → B → Type 0) (xs : List A) (ys : List B) (i : ℕ) (x : A) (y : B) → i < length xs → x ≡ get_or xs i x → Corresponds R (take i xs) ys → R x y → Corresponds R (take (i + 1) xs) (ys ++ y ∷ [])
+pair-more R xs ys i x y inside is h r =
+    let item : take (i + 1) xs ≡ take i xs ++ x ∷ [] = take_more xs i x inside ∙ ap (λ z. take i xs ++ z ∷ []) (sym is) in
+    rw item (pair-append R (take i xs) ys x y h r)
+
+pub pair-none : {A B : Type 0} (R : A → B → Type 0) → Corresponds R [] []
+unfolding Corresponds
+pair-none R = tt
+
+-- things seen as they are
+pub map-same : {X : Type 0} (xs : List X) → map (λ x. x) xs ≡ xs
+map-same [] = refl
+map-same (x ∷ xs) = rw (map-same xs) refl
+
+-- charts of few members may be checked, whatever they may name outside themselves
+readable-one : (names : Names) (c : RawChart) → length names.signals ≤ 200 → length names.objects ≤ 32 → IsFewChart c → IsReadable names c
+readable-one names c signals objects h = record { signals = signals; objects = objects; init_do = h.init_do; vars = h.vars; timers = h.timers; states = h.states; each = h.each }
+
+pub readable-all : (names : Names) (cs : List RawChart) → length names.signals ≤ 200 → length names.objects ≤ 32 → All IsFewChart cs → All (IsReadable names) cs
+readable-all names cs signals objects h = λ k d inside. readable-one names (get_or cs k d) signals objects (h k d inside)

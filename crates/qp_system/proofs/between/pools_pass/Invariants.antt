@@ -1,0 +1,12 @@
+use Rattle.std.proofs.Common.{map, ◌∷◌, [], List, ℕ}
+use Rattle.qp_chart.specs.declared.place.Part.TheVariants.{Key, Pos}
+use Rattle.qp_chart.specs.declared.key.TheConstants.{SIGNAL}
+use Rattle.qp_chart.specs.declared.code.TheConstants.{NO_POOL}
+use Rattle.qp_chart.specs.Faults.{fault_if}
+use Rattle.qp_system.specs.Between.{is_without_pool}
+use Rattle.qp_system.specs.Views.{pool_view, signal_view}
+use Rattle.qp_system.proofs.PassLemmas.{Passed}
+use Rattle.qp_system.proofs.between.pools_pass.Given as goal
+
+abbrev pub invariant-loop-i : goal.invariant-loop-i
+invariant-loop-i l = Passed (λ k s. fault_if (is_without_pool (map pool_view l.pools) s) NO_POOL (Key SIGNAL ∷ Pos k ∷ [])) signal_view l.signals l.i

@@ -1,0 +1,25 @@
+-- What the bytes of a system file give, up to its checked charts.
+use Rattle.std.specs.Prelude.{◌≡◌, List, ℕ, None, Ok, Err, ⊤}
+use Rattle.std.specs.declared.result.Result.{Result}
+use Rattle.qp_chart.specs.ChartOf.{IsChartOf}
+use Rattle.qp_chart.specs.Pairs.{Corresponds}
+use Rattle.qp_chart.specs.Faults.{fault}
+use Rattle.qp_chart.specs.declared.checked.Chart.{Chart}
+use Rattle.qp_system.specs.declared.fault.SystemFault.{SystemFault}
+use Rattle.qp_system.specs.declared.fault.SystemFault.TheVariants.{Memory, NotToml, At}
+use Rattle.qp_system.specs.declared.raw.RawSystem.{RawSystem}
+use Rattle.qp_system.specs.Document.{TreeGives, RefusesBytes}
+use Rattle.qp_system.specs.Later.{later_fault}
+use Rattle.qp_system.specs.Passes.{IsFirst}
+use Rattle.qp_system.specs.Views.{raw_view}
+use Rattle.qp_system.specs.Within.{names_of}
+
+-- the tables of the bytes have none by themselves, and this is the first fault of the whole
+unfoldable pub HasLater : List ℕ → SystemFault → Type 0
+HasLater bytes e = (raw : RawSystem) × TreeGives bytes (Ok (raw_view raw)) × IsFirst (later_fault raw) e
+
+-- the bytes are the tree of these tables, which have no fault, and these are their charts, checked
+pub record IsChecked (bytes : List ℕ) (raw : RawSystem) (charts : List Chart) : Type 0 where
+  pub read : TreeGives bytes (Ok (raw_view raw))
+  pub passed : later_fault raw ≡ None
+  pub made : Corresponds (IsChartOf (names_of raw.signals raw.objects)) raw.charts charts

@@ -1,0 +1,18 @@
+-- What a check of a system answers.
+use Rattle.std.specs.Prelude.{◌≡◌, ℕ, Some, None, Ok, Err, ⊤}
+use Rattle.std.specs.declared.option.Option.{Option}
+use Rattle.std.specs.declared.result.Result.{Result}
+use Rattle.qp_chart.specs.Faults.{Fault, fault}
+use Rattle.qp_system.specs.declared.fault.SystemFault.{SystemFault}
+use Rattle.qp_system.specs.declared.fault.SystemFault.TheVariants.{Memory, NotToml, At}
+
+-- what is refused is the first fault, unless memory ran out
+abbrev pub IsFirst : Option Fault → SystemFault → Type 0
+IsFirst first Memory = ⊤
+IsFirst first NotToml = ⊥
+IsFirst first (At code path) = first ≡ fault code path.0.items
+
+-- there is no fault, or the refusal carries the first
+abbrev pub Passes : {X : Type 0} → Option Fault → Result X SystemFault → Type 0
+Passes first (Ok _) = first ≡ None
+Passes first (Err e) = IsFirst first e
