@@ -1,6 +1,8 @@
 //! Evidence for the definitions: whole journals, each proved lawful, or proved to break just one definition.
 #![tactic(auto)]
 
+#[cfg(test)]
+mod charts;
 pub mod lawful;
 pub mod samples;
 pub mod unlawful;
