@@ -4,5 +4,7 @@
 #[cfg(test)]
 mod charts;
 pub mod lawful;
+#[cfg(test)]
+mod records;
 pub mod samples;
 pub mod unlawful;
