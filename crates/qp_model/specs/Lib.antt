@@ -48,3 +48,4 @@ pub mod Vocabulary
 pub mod Output
 pub mod OutputText
 pub mod OutputFrames
+pub mod OutputSummary

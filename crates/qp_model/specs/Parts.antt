@@ -1,14 +1,14 @@
 -- The parts of a system that the shapes of calls read.
-use Rattle.std.specs.Prelude.{ℕ, zero, suc, ◌+◌, ◌-◌, ◌/◌, ◌%◌, ◌^◌, ◌==◌, nat_lt, nat_le, Bool, false, List, [], ◌∷◌, map, slice_get, if◌then◌else◌}
+use Rattle.std.specs.Prelude.{ℕ, zero, suc, ◌+◌, ◌-◌, ◌/◌, ◌%◌, ◌^◌, ◌==◌, nat_lt, nat_le, Bool, false, ◌&&◌, List, [], ◌∷◌, map, slice_get, if◌then◌else◌}
 use Rattle.std.specs.declared.option.Option.{Option}
 use Rattle.std.specs.List.{position, count_by}
 use Rattle.std.specs.Option.{option_map_or, option_map}
 use Rattle.qp_model.specs.declared.systems.TimerDef.{TimerDef}
 use Rattle.qp_model.specs.declared.systems.System.{System}
 
--- the events of the signal are static
+-- the events of the signal are static; the signals before 4 are reserved, and none of a system's
 unfoldable pub is_static : System → ℕ → Bool
-is_static sys sig = option_map_or (λ d. d.fixed) (slice_get sys.signals (sig - 4)) false
+is_static sys sig = nat_le 4 sig && option_map_or (λ d. d.fixed) (slice_get sys.signals (sig - 4)) false
 
 -- the sizes of the pools, in order
 unfoldable pub sizes_of : System → List ℕ

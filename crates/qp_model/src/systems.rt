@@ -3,12 +3,14 @@
 use qp_chart::{Chart, Name};
 use std::marker::Model;
 
+/// A pool: how many parameters an event in it has room for (0 to 8), and how many blocks it has (1 to 32).
 #[derive(Drop)]
 pub struct PoolDef {
     pub size: u8,
     pub blocks: u8,
 }
 
+/// The pools, numbered from 1, in strictly ascending size. Contracts see the list.
 #[derive(Drop)]
 pub struct PoolDefs {
     pub items: Vec<PoolDef>,
@@ -23,6 +25,7 @@ impl Model for PoolDefs {
     ghost view = { λ b. b.items.items };
 }
 
+/// A signal: its name, how many parameters its events have (0 to 8), and whether its events are static (`fixed`).
 #[derive(Drop)]
 pub struct SignalDef {
     pub name: Name,
@@ -30,6 +33,7 @@ pub struct SignalDef {
     pub fixed: bool,
 }
 
+/// The signals, numbered from 4 in the file's order. Contracts see the list.
 #[derive(Drop)]
 pub struct SignalDefs {
     pub items: Vec<SignalDef>,
@@ -44,6 +48,7 @@ impl Model for SignalDefs {
     ghost view = { λ b. b.items.items };
 }
 
+/// The first values of an object's variables, in ascending name. Contracts see the list.
 #[derive(Drop)]
 pub struct Values {
     pub items: Vec<i64>,
@@ -57,6 +62,8 @@ impl Model for Values {
     ghost view = { λ b. b.items.items };
 }
 
+/// An active object: its chart by number from 1, its priority and its threshold (1 to 32, the threshold at least the priority), the
+/// lengths of its queue's ring and of its deferred list (0 to 255), and the first values of its variables.
 #[derive(Drop)]
 pub struct ObjectDef {
     pub name: Name,
@@ -68,6 +75,7 @@ pub struct ObjectDef {
     pub vars: Values,
 }
 
+/// The objects, in ascending priority, by which they are named. Contracts see the list.
 #[derive(Drop)]
 pub struct ObjectDefs {
     pub items: Vec<ObjectDef>,
@@ -82,6 +90,7 @@ impl Model for ObjectDefs {
     ghost view = { λ b. b.items.items };
 }
 
+/// A time event: the priority of its object, the static signal that it posts, and its rate (0 to 3).
 #[derive(Drop)]
 pub struct TimerDef {
     pub object: u8,
@@ -89,6 +98,7 @@ pub struct TimerDef {
     pub rate: u8,
 }
 
+/// The time events, numbered from 1 by ascending priority of their object, then by the order in its chart. Contracts see the list.
 #[derive(Drop)]
 pub struct TimerDefs {
     pub items: Vec<TimerDef>,
@@ -103,6 +113,7 @@ impl Model for TimerDefs {
     ghost view = { λ b. b.items.items };
 }
 
+/// The charts, numbered from 1 in the file's order. Contracts see the list.
 #[derive(Drop)]
 pub struct Charts {
     pub items: Vec<Chart>,
@@ -121,6 +132,7 @@ impl Model for Charts {
     ghost view = { λ b. b.items.items };
 }
 
+/// A system, as its file describes it.
 #[derive(Drop)]
 pub struct System {
     pub pools: PoolDefs,
