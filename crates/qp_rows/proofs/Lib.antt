@@ -23,3 +23,4 @@ mod Deferred
 mod RecalledInVain
 mod InFront
 mod Overfull
+mod SwitchedSummary

@@ -3,3 +3,4 @@ pub mod Systems
 pub mod Journals
 pub mod Broken
 pub mod Samples
+pub mod Summaries

@@ -7,4 +7,5 @@ pub mod lawful;
 #[cfg(test)]
 mod records;
 pub mod samples;
+pub mod summaries;
 pub mod unlawful;
