@@ -1,6 +1,10 @@
 -- Bytes fed one after another.
-use Rattle.std.proofs.Common.{◌≡◌, ◌∙◌, ℕ, List, [], ◌∷◌, ◌++◌, Result, Ok, Err, refl, ap}
-use Rattle.std.specs.Prelude.{⊤}
+use Rattle.std.proofs.Common.{◌≡◌, ◌∙◌, ℕ, suc, ◌<◌, true, List, [], ◌∷◌, ◌++◌, Result, Ok, Err, refl, ap}
+use Rattle.std.specs.Prelude.{⊤, nat_lt, slice_index}
+use Rattle.std.proofs.lemmas.Bool.{lt-ltb}
+use Rattle.std.proofs.lemmas.List.Folds.{list_all-append}
+use Rattle.qp_model.proofs.ListLemmas.{true_both}
+use Rattle.qp_frames.specs.Bytes.{are_bytes}
 use Rattle.qp_frames.specs.declared.faults.FrameFault.{FrameFault}
 use Rattle.qp_frames.specs.declared.faults.FrameFault.TheVariants.{Memory, At}
 use Rattle.qp_frames.specs.declared.stream.Stream.{Stream}
@@ -31,17 +35,28 @@ pub goes-fault : (U : Type 0) (q : Stream) (fault : FrameFault) (wanted : Result
 goes-fault U q Memory wanted becomes = _
 goes-fault U q (At offset code want got) wanted becomes = becomes
 
--- what a decoder was fed, with one piece more
-pub stands-next : (old new : Result Stream FrameFault) (piece before : List ℕ) → Goes (fed old piece) new → Stands old before → Stands new (before ++ piece)
-stands-next old (Err Memory) piece before goes led = _
-stands-next (Ok p) (Ok q) piece before goes led = fed-behind (Ok p) before piece led ∙ goes
-stands-next (Ok p) (Err (At offset code want got)) piece before goes led = fed-behind (Ok p) before piece led ∙ goes
-stands-next (Err (At o c w g)) (Ok q) piece before goes led = fed-behind (Err (At o c w g)) before piece led ∙ goes
-stands-next (Err (At o c w g)) (Err (At offset code want got)) piece before goes led = fed-behind (Err (At o c w g)) before piece led ∙ goes
-stands-next (Err Memory) (Ok q) piece before goes led = cc
-stands-next (Err Memory) (Err (At offset code want got)) piece before goes led = cc
+-- bytes in two pieces are bytes
+pub bytes-append : (xs ys : List ℕ) → are_bytes xs ≡ true → are_bytes ys ≡ true → are_bytes (xs ++ ys) ≡ true
+bytes-append xs ys first second = list_all-append (λ (b : ℕ). nat_lt b 256) xs ys ∙ true_both (are_bytes xs) (are_bytes ys) first second
 
--- after a fault nothing changes
-pub stands-same : (old : Result Stream FrameFault) (fault : FrameFault) (piece before : List ℕ) → old ≡ Err fault → Stands old before → Stands old (before ++ piece)
-stands-same (Ok p) fault piece before is led = cc
-stands-same (Err f) fault piece before is led = stands-next (Err f) (Err f) piece before (goes-same f) led
+-- a piece is bytes where each of its elements is one
+pub bytes-fit : (piece : List ℕ) → ((i : ℕ) → slice_index piece i < 256) → are_bytes piece ≡ true
+bytes-fit [] fit = refl
+bytes-fit (b ∷ piece) fit = true_both (nat_lt b 256) (are_bytes piece) (lt-ltb b 256 (fit 0)) (bytes-fit piece (λ i. fit (suc i)))
+
+-- what a decoder was fed, with one piece more
+module _ (piece before : List ℕ) (fits : are_bytes piece ≡ true) where
+  pub stands-next : (old new : Result Stream FrameFault) → Goes (fed old piece) new → Stands old before → Stands new (before ++ piece)
+  stands-next old (Err Memory) goes led = _
+  stands-next (Ok p) (Ok q) goes led = (bytes-append before piece led.0 fits, fed-behind (Ok p) before piece led.1 ∙ goes)
+  stands-next (Ok p) (Err (At offset code want got)) goes led = (bytes-append before piece led.0 fits, fed-behind (Ok p) before piece led.1 ∙ goes)
+  stands-next (Err (At o c w g)) (Ok q) goes led = absurd cc
+  stands-next (Err (At o c w g)) (Err (At offset code want got)) goes led =
+      (bytes-append before piece led.0 fits, fed-behind (Err (At o c w g)) before piece led.1 ∙ goes)
+  stands-next (Err Memory) (Ok q) goes led = absurd cc
+  stands-next (Err Memory) (Err (At offset code want got)) goes led = absurd cc
+
+  -- after a fault nothing changes
+  pub stands-same : (old : Result Stream FrameFault) (fault : FrameFault) → old ≡ Err fault → Stands old before → Stands old (before ++ piece)
+  stands-same (Ok p) fault is led = absurd cc
+  stands-same (Err f) fault is led = stands-next (Err f) (Err f) (goes-same f) led

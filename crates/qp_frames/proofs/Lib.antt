@@ -2,3 +2,11 @@ pub mod GroupLemmas
 pub mod FrameLemmas
 pub mod NumberLemmas
 pub mod FeedLemmas
+pub mod ItemsLaw
+pub mod FixedLaw
+pub mod GroupLaw
+pub mod NumbersLaw
+pub mod FrameLaw
+pub mod StreamRead
+pub mod StreamLaw
+pub mod FramesLaw

@@ -1,19 +1,14 @@
 -- What the decoder of frames answers. Want of memory is free.
-use Rattle.std.specs.Prelude.{◌≡◌, ℕ, List, Result, Ok, Err, ⊤}
+use Rattle.std.specs.Prelude.{◌≡◌, ℕ, List, IsTrue, Result, Ok, Err, ⊤}
 use Rattle.qp_model.specs.declared.journals.Journal.{Journal}
 use Rattle.qp_text.specs.declared.found.Found.{Found}
+use Rattle.qp_frames.specs.Bytes.{are_bytes}
 use Rattle.qp_frames.specs.declared.faults.FrameFault.{FrameFault}
 use Rattle.qp_frames.specs.declared.faults.FrameFault.TheVariants.{Memory, At}
-use Rattle.qp_frames.specs.declared.faults.ItemFault.{ItemFault}
-use Rattle.qp_frames.specs.declared.faults.ItemFault.TheVariants.{NoMemory, Code}
+use Rattle.qp_frames.specs.declared.faults.NumberFault.{NumberFault}
+use Rattle.qp_frames.specs.declared.faults.NumberFault.TheVariants.{NoMemory, Wrong}
 use Rattle.qp_frames.specs.declared.stream.Stream.{Stream}
 use Rattle.qp_frames.specs.Stream.{before_all, fed}
-
--- an item was taken, or has this code
-abbrev pub Takes : {U T : Type 0} → Result U ItemFault → T → Result T ℕ → Type 0
-Takes (Ok _) new wanted = wanted ≡ Ok new
-Takes (Err NoMemory) new wanted = ⊤
-Takes (Err (Code code)) new wanted = wanted ≡ Err code
 
 -- the answer is the one that is wanted
 abbrev pub Answers : {T : Type 0} → Result T FrameFault → Result T FrameFault → Type 0
@@ -28,15 +23,15 @@ Becomes (Err Memory) new wanted = ⊤
 Becomes (Err (At offset code want got)) new wanted = wanted ≡ Err (At offset code want got)
 
 -- the numbers, or the byte that shows a wrong one
-abbrev pub Numbers : Result (List ℕ) ItemFault → Result (List ℕ) ℕ → Type 0
+abbrev pub Numbers : Result (List ℕ) NumberFault → Result (List ℕ) ℕ → Type 0
 Numbers (Ok nums) wanted = wanted ≡ Ok nums
 Numbers (Err NoMemory) wanted = ⊤
-Numbers (Err (Code got)) wanted = wanted ≡ Err got
+Numbers (Err (Wrong got)) wanted = wanted ≡ Err got
 
 -- the state of a decoder to which these bytes were fed
 abbrev pub Stands : Result Stream FrameFault → List ℕ → Type 0
 Stands (Err Memory) bytes = ⊤
-Stands state bytes = fed (Ok before_all) bytes ≡ state
+Stands state bytes = IsTrue (are_bytes bytes) × (fed (Ok before_all) bytes ≡ state)
 
 -- the answer of a decoder in this state: its fault, if there is one
 abbrev pub answer_of : Result Stream FrameFault → Result ⊤ FrameFault

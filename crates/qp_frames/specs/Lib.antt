@@ -1,5 +1,6 @@
+pub mod Bytes
 pub mod Sequence
 pub mod Parts
-pub mod Progress
 pub mod Stream
 pub mod Faults
+pub mod FramesLaw

@@ -1,5 +1,5 @@
 -- The numbers of a frame, byte by byte.
-use Rattle.std.specs.Prelude.{ℕ, ◌+◌, ◌-◌, ◌*◌, ◌^◌, ◌%◌, ◌==◌, nat_lt, nat_le, Bool, not, ◌&&◌, List, [], ◌∷◌, length, slice_index, if◌then◌else◌, ◌≤◌, ◌<◌, ⊤, Result, Ok, Err}
+use Rattle.std.specs.Prelude.{ℕ, ◌+◌, ◌-◌, ◌*◌, ◌^◌, ◌%◌, ◌==◌, nat_lt, nat_le, Bool, ◌&&◌, List, [], ◌∷◌, length, slice_index, if◌then◌else◌, ◌≤◌, ◌<◌, ⊤, Result, Ok, Err}
 use Rattle.qp_frames.specs.declared.numbers.Part.{Part}
 use Rattle.qp_frames.specs.declared.numbers.Part.TheVariants.{More, Whole, Wrong}
 

@@ -4,8 +4,8 @@ use Rattle.qp_model.specs.declared.journals.Journal.{Journal}
 use Rattle.qp_model.specs.Output.{JournalItem, item, last_id}
 use Rattle.qp_model.specs.OutputFrames.{checksum, end_byte, escape_byte}
 use Rattle.qp_model.specs.Vocabulary.{has_count}
-use Rattle.qp_frames.specs.declared.reading.Reading.{Reading}
-use Rattle.qp_frames.specs.Progress.{at_start, journal_of, take_item}
+use Rattle.qp_text.specs.declared.progress.Reading.{Reading}
+use Rattle.qp_text.specs.Progress.{at_start, journal_of, take_item}
 use Rattle.qp_frames.specs.declared.faults.FrameFault.{FrameFault}
 use Rattle.qp_frames.specs.declared.faults.FrameFault.TheVariants.{At}
 use Rattle.qp_frames.specs.declared.stream.Stream.{Stream}

@@ -2,6 +2,7 @@
 
 ghost use Rattle.std.specs.Prelude.{◌≡◌, ◌++◌, List, ℕ, [], Err};
 ghost use Rattle.qp_frames.specs.Faults.{Finds, Stands, answer_of};
+ghost use Rattle.qp_frames.specs.FramesLaw.{FindsFrames};
 ghost use Rattle.qp_frames.specs.Stream.{decoded};
 
 use crate::faults::FrameFault;
@@ -62,7 +63,10 @@ impl Decoder {
 
     /// Ends the stream: the journal that all pieces together are, or the first fault.
     pub fn end(self) -> Result<Found, FrameFault>
-        ensures { (bytes : List ℕ) → Stands self bytes → Finds result (decoded bytes) }
+        ensures exact { (bytes : List ℕ) → Stands self bytes → Finds result (decoded bytes) }
+
+        // A journal is answered exactly where the stream is the frames of one in range, and it is this one in its form.
+        ensures frames { (bytes : List ℕ) → Stands self bytes → FindsFrames result bytes }
     {
         match self.fault {
             Some(fault) => Err(fault),

@@ -17,9 +17,9 @@ pub enum FrameFault {
     },
 }
 
-/// Why an item is not read: memory was refused, or it has this code.
+/// Why numbers are not read: memory was refused, or this byte shows that one is wrong.
 #[derive(Clone, Copy, PartialEq, Eq, Debug)]
-pub(crate) enum ItemFault {
+pub(crate) enum NumberFault {
     NoMemory,
-    Code(u8),
+    Wrong(u8),
 }

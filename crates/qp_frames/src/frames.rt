@@ -7,7 +7,7 @@ ghost use Rattle.qp_frames.specs.declared.faults.FrameFault.TheVariants.{At};
 ghost use Rattle.qp_frames.specs.Stream.{form_of_bytes, item_of_body, item_of_frame, item_of_summed, with_numbers};
 
 use crate::bytes::checksum;
-use crate::faults::{FrameFault, ItemFault};
+use crate::faults::{FrameFault, NumberFault};
 use crate::numbers::{Numerals, is_whole, read_numbers};
 use qp_model::{kinds, vocabulary};
 use std::alloc::Global;
@@ -101,8 +101,8 @@ impl Place {
         }
         match read_numbers(alloc, self.form, numbers) {
             Ok(nums) => self.with_numbers(id, nums),
-            Err(ItemFault::NoMemory) => Err(FrameFault::Memory),
-            Err(ItemFault::Code(got)) => Err(self.fault(7, 0, got)),
+            Err(NumberFault::NoMemory) => Err(FrameFault::Memory),
+            Err(NumberFault::Wrong(got)) => Err(self.fault(7, 0, got)),
         }
     }
 

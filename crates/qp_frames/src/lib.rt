@@ -5,8 +5,8 @@ mod bytes;
 mod decoder;
 mod faults;
 mod frames;
+pub mod laws;
 mod numbers;
-mod reading;
 mod stream;
 #[cfg(test)]
 mod tests;

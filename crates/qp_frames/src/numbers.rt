@@ -4,7 +4,7 @@ ghost use Rattle.std.specs.Prelude.{◌≡◌, ◌≤◌, ◌<◌, ◌^◌};
 ghost use Rattle.qp_frames.specs.Faults.{Numbers};
 ghost use Rattle.qp_frames.specs.Parts.{GoesOn, fixed_part, group_part, is_whole, numbers_from, part_of, IsPart};
 
-use crate::faults::ItemFault;
+use crate::faults::NumberFault;
 use std::alloc::Global;
 use std::marker::Model;
 
@@ -42,7 +42,7 @@ pub(crate) fn is_whole(form: u8, bytes: &[u8]) -> bool
 }
 
 /// Reads the numbers of these bytes, or answers the byte that shows that one is wrong.
-pub(crate) fn read_numbers(alloc: Global, form: u8, bytes: &[u8]) -> Result<Numerals, ItemFault>
+pub(crate) fn read_numbers(alloc: Global, form: u8, bytes: &[u8]) -> Result<Numerals, NumberFault>
     ensures { Numbers result (numbers_from form 0 0 bytes.now) }
 {
     let mut nums = Vec::new(alloc);
@@ -57,12 +57,12 @@ pub(crate) fn read_numbers(alloc: Global, form: u8, bytes: &[u8]) -> Result<Nume
             }
             Part::Whole(n) => {
                 if nums.push(n).is_err() {
-                    return Err(ItemFault::NoMemory);
+                    return Err(NumberFault::NoMemory);
                 }
                 value = 0;
                 place = 0;
             }
-            Part::Wrong => return Err(ItemFault::Code(*b)),
+            Part::Wrong => return Err(NumberFault::Wrong(*b)),
         }
         rest = more;
     }

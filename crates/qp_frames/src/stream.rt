@@ -5,11 +5,10 @@ ghost use Rattle.qp_frames.specs.Faults.{Becomes, Finds};
 ghost use Rattle.qp_frames.specs.Stream.{after_escape, before_all, end_frame, ended, fed, finish, form_at, keep, take_byte, take_plain, with_item};
 
 use crate::bytes::{END, ESCAPE};
-use crate::faults::{FrameFault, ItemFault};
+use crate::faults::FrameFault;
 use crate::frames::{FrameItem, Place, form_of};
-use crate::reading::Reading;
 use qp_model::Journal;
-use qp_text::Found;
+use qp_text::{Found, LineFault, Reading};
 use std::alloc::Global;
 use std::marker::Model;
 
@@ -150,8 +149,8 @@ impl Stream {
                 self.start = self.offset;
                 Ok(())
             }
-            Err(ItemFault::NoMemory) => Err(FrameFault::Memory),
-            Err(ItemFault::Code(code)) => Err(FrameFault::At {
+            Err(LineFault::Memory) => Err(FrameFault::Memory),
+            Err(LineFault::Code(code)) => Err(FrameFault::At {
                 offset: self.start,
                 code: 6,
                 want: 0,

@@ -1,8 +1,8 @@
-//! Why a line is not read.
+//! Why a line or its item is not read.
 
-/// Why a line is not read: memory was refused, or the line has this code.
+/// Why a line or its item is not read: memory was refused, or it has this code.
 #[derive(Clone, Copy, Debug, PartialEq, Eq)]
-pub(crate) enum LineFault {
+pub enum LineFault {
     Memory,
     Code(u8),
 }

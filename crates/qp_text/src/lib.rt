@@ -1,4 +1,4 @@
-//! Journals as text, both ways.
+//! Journals as text, both ways, and the reader of items that text and frames share.
 #![tactic(auto)]
 
 mod faults;
@@ -14,6 +14,8 @@ mod reader;
 mod tests;
 mod writer;
 
+pub use faults::LineFault;
 pub use found::{Found, TextFault};
+pub use progress::Reading;
 pub use reader::read_journal;
 pub use writer::write_journal;

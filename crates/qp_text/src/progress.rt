@@ -1,19 +1,21 @@
-//! How far a journal has been read.
+//! How far a journal has been read, item by item.
 
 ghost use Rattle.std.specs.Prelude.{◌≡◌, ◌≤◌, length};
+ghost use Rattle.qp_model.specs.Output.{item};
 ghost use Rattle.qp_text.specs.Faults.{Becomes};
 ghost use Rattle.qp_text.specs.Progress.{add_record, at_start, begin, close, closed, open_lane, take_item};
 ghost use Rattle.qp_text.specs.ReadText.{take_line};
 
 use crate::faults::LineFault;
-use crate::items::{LineItem, form_of, read_line};
+use crate::items::{form_of, read_line};
 use arrayvec::ArrayVec;
 use qp_model::{Lane, Lanes, Rec, kinds};
 use std::alloc::Global;
 
-/// The first line's numbers, the lanes that are done, the lane that is being read, and the status.
+/// How far a journal has been read, from text or from frames: whether it has begun, the first item's numbers, the lanes
+/// that are done, the lane that is being read, and the status of the last item.
 #[derive(Drop)]
-pub(crate) struct Reading {
+pub struct Reading {
     pub begun: bool,
     pub form: u8,
     pub kernel: u8,
@@ -42,22 +44,27 @@ impl Reading {
     }
 
     /// Takes one more line.
-    pub fn take_line(&mut self, alloc: Global, line: &[u8]) -> Result<(), LineFault>
+    pub(crate) fn take_line(&mut self, alloc: Global, line: &[u8]) -> Result<(), LineFault>
         ensures { Becomes result self.new (take_line self.old line.now) }
     {
         let form = if self.begun { self.form } else { form_of(line) };
         let item = read_line(alloc, form, line)?;
-        self.take_item(alloc, form, item)
+        self.take_item(alloc, form, item.id, item.nums.items.as_slice())
     }
 
-    /// Takes one more item.
-    fn take_item(&mut self, alloc: Global, form: u8, item: LineItem) -> Result<(), LineFault>
-        requires { length item.nums ≤ 14 }
-        ensures { Becomes result self.new (take_item form self.old item) }
+    /// Takes one more item in this form, with as many numbers as its word has. The codes are: 3 a wrong count of numbers,
+    /// 4 an item that isn't allowed there, 6 a number out of range. Behind a fault the reading isn't used.
+    pub fn take_item(
+        &mut self,
+        alloc: Global,
+        form: u8,
+        id: u8,
+        nums: &[u64],
+    ) -> Result<(), LineFault>
+        requires { length nums.now ≤ 14 }
+        ensures { Becomes result self.new (take_item form self.old (item id nums.now)) }
     {
-        let item = &item;
-        let nums = item.nums.items.as_slice();
-        match item.id {
+        match id {
             _ if self.begun && self.end.is_some() => Err(LineFault::Code(4)),
             kinds::QP if self.begun => Err(LineFault::Code(4)),
             kinds::QP => self.begin(form, nums),

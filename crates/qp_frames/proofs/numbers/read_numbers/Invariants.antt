@@ -1,4 +1,4 @@
-use Rattle.std.proofs.Common.{◌≡◌, ◌++◌, length}
+use Rattle.std.proofs.Common.{◌≡◌, length}
 use Rattle.qp_frames.specs.Parts.{IsPart, numbers_from}
 use Rattle.qp_frames.proofs.NumberLemmas.{behind}
 use Rattle.qp_frames.proofs.numbers.read_numbers.Given as goal
