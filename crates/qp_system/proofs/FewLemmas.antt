@@ -1,11 +1,10 @@
 -- A system that was read has no list with more members than its file may have.
-use Rattle.std.proofs.Common.{◌≡◌, ℕ, ℤ, ◌+◌, ◌≤◌, ◌&&◌, Bool, true, false, nat_le, cond, List, [], ◌∷◌, ◌++◌, length, map, get_or, Some, None, Ok, Err, refl, sym, ◌∙◌, ap, arith}
+use Rattle.std.proofs.Common.{◌≡◌, ℕ, ℤ, ◌+◌, ◌≤◌, Bool, true, false, nat_le, cond, List, [], ◌∷◌, ◌++◌, length, map, get_or, Some, None, Ok, Err, refl, sym, subst, arith}
 use Rattle.std.specs.Prelude.{All, nat_lt}
 use Rattle.std.specs.declared.option.Option.{Option}
 use Rattle.std.specs.declared.result.Result.{Result}
 use Rattle.std.specs.Option.{option_and_then}
 use Rattle.std.proofs.lemmas.List.{length-map}
-use Rattle.std.proofs.lemmas.List.Elements.{All-cons, All-nil}
 use Rattle.std.proofs.Math.ListN.{get_or-map}
 use Rattle.std.proofs.lemmas.Bool.Decides.{nat_tests}
 use Rattle.toml.specs.Data.{Data, Members, as_table, as_str}
@@ -13,69 +12,20 @@ use Rattle.qp_chart.specs.declared.place.Part.{Part}
 use Rattle.qp_chart.specs.declared.place.Part.TheVariants.{Key, Pos}
 use Rattle.qp_chart.specs.declared.code.TheConstants.{TOO_MANY, RANGE}
 use Rattle.qp_chart.specs.Faults.{Fault}
-use Rattle.qp_system.specs.Tree.{◌>>=◌, refuse, at_key, knows, default_at, needed_at, defaulted, needed, optional, each}
-use Rattle.qp_system.specs.Values.{number_of, name_of, text_of, tables_of, some_tables, texts_of, some_texts, short_texts, vars_of, some_vars, named_vars, all_integers, items_of_kind, allowed}
+use Rattle.qp_system.specs.Tree.{◌>>=◌, refuse, at_key, knows, defaulted, needed, optional}
+use Rattle.qp_system.specs.Values.{number_of, name_of, text_of, tables_of, texts_of, some_texts, short_texts, vars_of, some_vars, named_vars, all_integers, items_of_kind, allowed}
 use Rattle.arrayvec.specs.ArrayString.{ArrayString}
 use Rattle.qp_chart.specs.declared.key.TheConstants.{QP, POOL, SIGNAL, CHART, OBJECT, NAME, PARENT, INIT, INIT_DO, VARS, TIMER, STATE, ENTRY, EXIT, ROW, ON, WHEN, DO, TO}
 use Rattle.qp_chart.specs.declared.raw.RawState.{RawState}
 use Rattle.qp_chart.specs.declared.raw.RawChart.{RawChart}
 use Rattle.qp_chart.specs.Readable.{IsReadableRow, IsReadableState}
 use Rattle.qp_system.specs.declared.raw.RawSystem.{RawSystem}
-use Rattle.qp_system.specs.Raw.{Pool, Signal, Timer, Row, State, Chart, Object, Raw}
+use Rattle.qp_system.specs.Raw.{Row, State, Chart, Raw}
 use Rattle.qp_system.specs.Tables.{read_tables, initial, pool_at, signal_at, row_at, timer_at, state_at, chart_at, object_at, raw_of}
 use Rattle.qp_system.specs.Few.{IsFewChart, IsFew}
+use Rattle.qp_system.proofs.ReadLemmas.{Between, bind-Ok, ok-same, defaulted-Ok, needed-Ok, tables_of-counted, tables-few, listed}
+use Rattle.qp_system.proofs.RangeLemmas.{PoolInRange, pool_at-range, SignalInRange, signal_at-range, TimerInRange, timer_at-range, ObjectInRange, object_at-range}
 use Rattle.qp_system.specs.Views.{pool_view, signal_view, timer_view, row_view, state_view, chart_view, object_view, raw_view}
-
-pub bind-Ok : {A B : Type 0} (r : Result A Fault) (f : A → Result B Fault) (y : B) → (r >>= f) ≡ Ok y → (x : A) × (r ≡ Ok x) × (f x ≡ Ok y)
-bind-Ok (Ok x) f y h = (x, refl, h)
-bind-Ok (Err e) f y h = cc
-
-ok-same : {A : Type 0} (x y : A) → (let r : Result A Fault = Ok x in r) ≡ Ok y → x ≡ y
-ok-same x y h = cc
-
--- a key with a default has what its default and its values have
-pub defaulted-Ok : {A : Type 0} (P : A → Type 0) (default : A) (read : List Part → Data → Result A Fault) (key : ℕ) (at : List Part) (table : Members) (x : A)
-    → P default → ((place : List Part) (v : Data) (y : A) → read place v ≡ Ok y → P y) → defaulted default read key at table ≡ Ok x → P x
-unfolding defaulted
-defaulted-Ok {A} P default read key at table x base step h =
-    let go : (place : List Part) (o : Option Data) → default_at default read place o ≡ Ok x → P x = default-Ok P default read x base step in go _ (at_key key table) h
-  where
-    default-Ok : {A : Type 0} (P : A → Type 0) (default : A) (read : List Part → Data → Result A Fault) (x : A)
-        → P default → ((place : List Part) (v : Data) (y : A) → read place v ≡ Ok y → P y) → (place : List Part) (o : Option Data) → default_at default read place o ≡ Ok x → P x
-    default-Ok P default read x base step place None h = let same : default ≡ x = cc in rw (sym same) base
-    default-Ok P default read x base step place (Some v) h = step place v x h
-
-pass-few : (least most : ℕ) (place : List Part) (tables ts : List Members) (b : Bool) → (nat_le least (length tables) && nat_le (length tables) most) ≡ b
-    → cond {A = Result (List Members) Fault} b (Ok tables) (refuse TOO_MANY place) ≡ Ok ts → length ts ≤ most
-pass-few least most place tables ts true test h =
-    let same : tables ≡ ts = cc in
-    let few : length tables ≤ most = grind (arith, nat_tests) in
-    rw (sym same) few
-pass-few least most place tables ts false test h = cc
-
-some_tables-few : (least most : ℕ) (place : List Part) (o : Option (List Members)) (ts : List Members) → some_tables least most place o ≡ Ok ts → length ts ≤ most
-some_tables-few least most place None ts h = cc
-some_tables-few least most place (Some tables) ts h = pass-few least most place tables ts _ refl h
-
-pub tables-few : (least most : ℕ) (place : List Part) (v : Data) (ts : List Members) → tables_of least most place v ≡ Ok ts → length ts ≤ most
-unfolding tables_of
-tables-few least most place v ts h = some_tables-few least most place (items_of_kind as_table v) ts h
-
--- what was read of each table, and how many there are
-pub each-read-all : {A : Type 0} (P : A → Type 0) (read : List Part → Members → Result A Fault) (place : List Part)
-    → ((at : List Part) (t : Members) (y : A) → read at t ≡ Ok y → P y)
-    → (k : ℕ) (ts : List Members) (xs : List A) → each read place k ts ≡ Ok xs → All P xs × (length xs ≡ length ts)
-unfolding each
-each-read-all {A} P read place step k [] xs h =
-    let same : [] ≡ xs = cc in
-    rw (sym same) (λ i d inside. absurd (omega (arith, inside)), refl)
-each-read-all P read place step k (t ∷ ts) xs h =
-    let a = bind-Ok (read (place ++ Pos k ∷ []) t) (λ y. each read place (k + 1) ts >>= λ ys. Ok (y ∷ ys)) xs h in
-    let b = bind-Ok (each read place (k + 1) ts) (λ ys. Ok (a.0 ∷ ys)) xs a.2 in
-    let more = each-read-all P read place step (k + 1) ts b.0 b.1 in
-    let same : a.0 ∷ b.0 ≡ xs = ok-same (a.0 ∷ b.0) xs b.2 in
-    let count : length (a.0 ∷ b.0) ≡ length (t ∷ ts) = rw more.1 refl in
-    rw (sym same) (All-cons P a.0 b.0 (step (place ++ Pos k ∷ []) t a.0 a.1) more.0, count)
 
 short-step : (b : Bool) (t : List ℕ) (r : Result (List (List ℕ)) Fault) (path : List Part) (xs : List (List ℕ))
     → cond {A = Result (List (List ℕ)) Fault} b (r >>= λ ts. Ok (t ∷ ts)) (refuse RANGE path) ≡ Ok xs → (ys : List (List ℕ)) × (r ≡ Ok ys) × (t ∷ ys ≡ xs)
@@ -114,8 +64,8 @@ named_vars-count : (place : List Part) (vars xs : List (List ℕ × ℤ)) → na
 unfolding named_vars
 named_vars-count place [] xs h = let same : [] ≡ xs = ok-same [] xs h in rw (sym same) refl
 named_vars-count place (v ∷ more) xs h =
-    let a = bind-Ok (allowed place v.0) (λ name. named_vars place more >>= λ vars. Ok ((name, v.1) ∷ vars)) xs h in
-    let b = bind-Ok (named_vars place more) (λ vars. Ok ((a.0, v.1) ∷ vars)) xs a.2 in
+    let a = bind-Ok (allowed place v.0) _ xs h in
+    let b = bind-Ok (named_vars place more) _ xs a.2 in
     let same : (a.0, v.1) ∷ b.0 ≡ xs = ok-same ((a.0, v.1) ∷ b.0) xs b.2 in
     let count = named_vars-count place more b.0 b.1 in
     rw (sym same, count) refl
@@ -135,39 +85,20 @@ vars-few : (place : List Part) (v : Data) (xs : List (List ℕ × ℤ)) → vars
 unfolding vars_of
 vars-few place v xs h = some_vars-few place (option_and_then (λ members. all_integers members) (as_table v)) xs h
 
-needed_at-Ok : {A : Type 0} (P : A → Type 0) (read : List Part → Data → Result A Fault) (x : A)
-    → ((place : List Part) (v : Data) (y : A) → read place v ≡ Ok y → P y) → (place : List Part) (o : Option Data) → needed_at read place o ≡ Ok x → P x
-needed_at-Ok P read x step place None h = cc
-needed_at-Ok P read x step place (Some v) h = step place v x h
-
-needed-Ok : {A : Type 0} (P : A → Type 0) (read : List Part → Data → Result A Fault) (key : ℕ) (at : List Part) (table : Members) (x : A)
-    → ((place : List Part) (v : Data) (y : A) → read place v ≡ Ok y → P y) → needed read key at table ≡ Ok x → P x
-unfolding needed
-needed-Ok P read key at table x step h = needed_at-Ok P read x step _ (at_key key table) h
-
--- a list of tables that were read
-listed : {A : Type 0} (P : A → Type 0) (read : List Part → Members → Result A Fault) (most : ℕ) (place : List Part) (tables : Result (List Members) Fault) (xs : List A)
-    → ((ts : List Members) → tables ≡ Ok ts → length ts ≤ most) → ((at : List Part) (t : Members) (y : A) → read at t ≡ Ok y → P y)
-    → read_tables read place tables ≡ Ok xs → All P xs × (length xs ≤ most)
-listed P read most place tables xs few step h =
-    let a = bind-Ok tables (λ ts. each read place 1 ts) xs h in
-    let all = each-read-all P read place step 1 a.0 xs a.2 in
-    (all.0, rw all.1 (few a.0 a.1))
-
 abbrev pub FewRow : Row → Type 0
 FewRow r = length r.acts ≤ 16
 
 row-few : (at : List Part) (t : Members) (r : Row) → row_at at t ≡ Ok r → FewRow r
 unfolding row_at
 row-few at t r h =
-    let a = bind-Ok (knows (ON ∷ WHEN ∷ DO ∷ TO ∷ []) at t) (λ known_. needed name_of ON at t >>= λ on_. optional text_of WHEN at t >>= λ when_. defaulted [] texts_of DO at t >>= λ acts_. optional name_of TO at t >>= λ to_. Ok (record { on = on_; when = when_; acts = acts_; to = to_ })) r h in
-    let b = bind-Ok (needed name_of ON at t) (λ on_. optional text_of WHEN at t >>= λ when_. defaulted [] texts_of DO at t >>= λ acts_. optional name_of TO at t >>= λ to_. Ok (record { on = on_; when = when_; acts = acts_; to = to_ })) r a.2 in
-    let c = bind-Ok (optional text_of WHEN at t) (λ when_. defaulted [] texts_of DO at t >>= λ acts_. optional name_of TO at t >>= λ to_. Ok (record { on = b.0; when = when_; acts = acts_; to = to_ })) r b.2 in
-    let d = bind-Ok (defaulted [] texts_of DO at t) (λ acts_. optional name_of TO at t >>= λ to_. Ok (record { on = b.0; when = c.0; acts = acts_; to = to_ })) r c.2 in
-    let e = bind-Ok (optional name_of TO at t) (λ to_. Ok (record { on = b.0; when = c.0; acts = d.0; to = to_ })) r d.2 in
+    let a = bind-Ok (knows (ON ∷ WHEN ∷ DO ∷ TO ∷ []) at t) _ r h in
+    let b = bind-Ok (needed name_of ON at t) _ r a.2 in
+    let c = bind-Ok (optional text_of WHEN at t) _ r b.2 in
+    let d = bind-Ok (defaulted [] texts_of DO at t) _ r c.2 in
+    let e = bind-Ok (optional name_of TO at t) _ r d.2 in
     let q : Row = record { on = b.0; when = c.0; acts = d.0; to = e.0 } in
     let same : q ≡ r = ok-same q r e.2 in
-    rw (sym same) (acts-few DO at t d.0 d.1)
+    subst FewRow same (acts-few DO at t d.0 d.1)
 
 abbrev pub FewState : State → Type 0
 FewState s = (length s.entry ≤ 16) × (length s.exit ≤ 16) × (length s.init_do ≤ 16) × (length s.rows ≤ 32) × All FewRow s.rows
@@ -175,58 +106,60 @@ FewState s = (length s.entry ≤ 16) × (length s.exit ≤ 16) × (length s.init
 state-few : (at : List Part) (t : Members) (s : State) → state_at at t ≡ Ok s → FewState s
 unfolding state_at
 state-few at t s h =
-    let a = bind-Ok (knows (NAME ∷ PARENT ∷ ENTRY ∷ EXIT ∷ INIT ∷ INIT_DO ∷ ROW ∷ []) at t) (λ known_. needed name_of NAME at t >>= λ name_. optional name_of PARENT at t >>= λ parent_. defaulted [] texts_of ENTRY at t >>= λ entry_. defaulted [] texts_of EXIT at t >>= λ exit_. initial (at ++ Key INIT ∷ []) (at_key INIT t) (at_key INIT_DO t) >>= λ init_. defaulted [] texts_of INIT_DO at t >>= λ init_do_. read_tables row_at (at ++ Key ROW ∷ []) (defaulted [] (tables_of 0 32) ROW at t) >>= λ rows_. Ok (record { name = name_; parent = parent_; entry = entry_; exit = exit_; init = init_; init_do = init_do_; rows = rows_ })) s h in
-    let b = bind-Ok (needed name_of NAME at t) (λ name_. optional name_of PARENT at t >>= λ parent_. defaulted [] texts_of ENTRY at t >>= λ entry_. defaulted [] texts_of EXIT at t >>= λ exit_. initial (at ++ Key INIT ∷ []) (at_key INIT t) (at_key INIT_DO t) >>= λ init_. defaulted [] texts_of INIT_DO at t >>= λ init_do_. read_tables row_at (at ++ Key ROW ∷ []) (defaulted [] (tables_of 0 32) ROW at t) >>= λ rows_. Ok (record { name = name_; parent = parent_; entry = entry_; exit = exit_; init = init_; init_do = init_do_; rows = rows_ })) s a.2 in
-    let c = bind-Ok (optional name_of PARENT at t) (λ parent_. defaulted [] texts_of ENTRY at t >>= λ entry_. defaulted [] texts_of EXIT at t >>= λ exit_. initial (at ++ Key INIT ∷ []) (at_key INIT t) (at_key INIT_DO t) >>= λ init_. defaulted [] texts_of INIT_DO at t >>= λ init_do_. read_tables row_at (at ++ Key ROW ∷ []) (defaulted [] (tables_of 0 32) ROW at t) >>= λ rows_. Ok (record { name = b.0; parent = parent_; entry = entry_; exit = exit_; init = init_; init_do = init_do_; rows = rows_ })) s b.2 in
-    let d = bind-Ok (defaulted [] texts_of ENTRY at t) (λ entry_. defaulted [] texts_of EXIT at t >>= λ exit_. initial (at ++ Key INIT ∷ []) (at_key INIT t) (at_key INIT_DO t) >>= λ init_. defaulted [] texts_of INIT_DO at t >>= λ init_do_. read_tables row_at (at ++ Key ROW ∷ []) (defaulted [] (tables_of 0 32) ROW at t) >>= λ rows_. Ok (record { name = b.0; parent = c.0; entry = entry_; exit = exit_; init = init_; init_do = init_do_; rows = rows_ })) s c.2 in
-    let e = bind-Ok (defaulted [] texts_of EXIT at t) (λ exit_. initial (at ++ Key INIT ∷ []) (at_key INIT t) (at_key INIT_DO t) >>= λ init_. defaulted [] texts_of INIT_DO at t >>= λ init_do_. read_tables row_at (at ++ Key ROW ∷ []) (defaulted [] (tables_of 0 32) ROW at t) >>= λ rows_. Ok (record { name = b.0; parent = c.0; entry = d.0; exit = exit_; init = init_; init_do = init_do_; rows = rows_ })) s d.2 in
-    let f = bind-Ok (initial (at ++ Key INIT ∷ []) (at_key INIT t) (at_key INIT_DO t)) (λ init_. defaulted [] texts_of INIT_DO at t >>= λ init_do_. read_tables row_at (at ++ Key ROW ∷ []) (defaulted [] (tables_of 0 32) ROW at t) >>= λ rows_. Ok (record { name = b.0; parent = c.0; entry = d.0; exit = e.0; init = init_; init_do = init_do_; rows = rows_ })) s e.2 in
-    let g = bind-Ok (defaulted [] texts_of INIT_DO at t) (λ init_do_. read_tables row_at (at ++ Key ROW ∷ []) (defaulted [] (tables_of 0 32) ROW at t) >>= λ rows_. Ok (record { name = b.0; parent = c.0; entry = d.0; exit = e.0; init = f.0; init_do = init_do_; rows = rows_ })) s f.2 in
-    let i = bind-Ok (read_tables row_at (at ++ Key ROW ∷ []) (defaulted [] (tables_of 0 32) ROW at t)) (λ rows_. Ok (record { name = b.0; parent = c.0; entry = d.0; exit = e.0; init = f.0; init_do = g.0; rows = rows_ })) s g.2 in
+    let a = bind-Ok (knows (NAME ∷ PARENT ∷ ENTRY ∷ EXIT ∷ INIT ∷ INIT_DO ∷ ROW ∷ []) at t) _ s h in
+    let b = bind-Ok (needed name_of NAME at t) _ s a.2 in
+    let c = bind-Ok (optional name_of PARENT at t) _ s b.2 in
+    let d = bind-Ok (defaulted [] texts_of ENTRY at t) _ s c.2 in
+    let e = bind-Ok (defaulted [] texts_of EXIT at t) _ s d.2 in
+    let f = bind-Ok (initial (at ++ Key INIT ∷ []) (at_key INIT t) (at_key INIT_DO t)) _ s e.2 in
+    let g = bind-Ok (defaulted [] texts_of INIT_DO at t) _ s f.2 in
+    let i = bind-Ok (read_tables row_at (at ++ Key ROW ∷ []) (defaulted [] (tables_of 0 32) ROW at t)) _ s g.2 in
     let q : State = record { name = b.0; parent = c.0; entry = d.0; exit = e.0; init = f.0; init_do = g.0; rows = i.0 } in
     let same : q ≡ s = ok-same q s i.2 in
-    let rows = listed FewRow row_at 32 (at ++ Key ROW ∷ []) (defaulted [] (tables_of 0 32) ROW at t) i.0 (λ ts. defaulted-Ok (λ (l : List Members). length l ≤ 32) [] (tables_of 0 32) ROW at t ts (omega arith) (tables-few 0 32)) row-few i.1 in
-    rw (sym same) (acts-few ENTRY at t d.0 d.1, acts-few EXIT at t e.0 e.1, acts-few INIT_DO at t g.0 g.1, rows.1, rows.0)
+    let rows = listed FewRow row_at (λ n. n ≤ 32) (at ++ Key ROW ∷ []) (defaulted [] (tables_of 0 32) ROW at t) i.0 (λ ts. defaulted-Ok (λ (l : List Members). length l ≤ 32) [] (tables_of 0 32) ROW at t ts (omega arith) (tables-few 0 32)) row-few i.1 in
+    subst FewState same (acts-few ENTRY at t d.0 d.1, acts-few EXIT at t e.0 e.1, acts-few INIT_DO at t g.0 g.1, rows.1, rows.0)
 
 abbrev pub FewChart : Chart → Type 0
-FewChart c = (length c.init_do ≤ 16) × (length c.vars ≤ 16) × (length c.timers ≤ 8) × (length c.states ≤ 64) × All FewState c.states
+FewChart c = (length c.init_do ≤ 16) × (length c.vars ≤ 16) × (length c.timers ≤ 8) × (length c.states ≤ 64) × All FewState c.states × All TimerInRange c.timers
 
 chart-few : (at : List Part) (t : Members) (k : Chart) → chart_at at t ≡ Ok k → FewChart k
 unfolding chart_at
 chart-few at t k h =
-    let a = bind-Ok (knows (NAME ∷ INIT ∷ INIT_DO ∷ VARS ∷ TIMER ∷ STATE ∷ []) at t) (λ known_. needed name_of NAME at t >>= λ name_. needed name_of INIT at t >>= λ init_. defaulted [] texts_of INIT_DO at t >>= λ init_do_. defaulted [] (vars_of (Some 16)) VARS at t >>= λ vars_. read_tables timer_at (at ++ Key TIMER ∷ []) (defaulted [] (tables_of 0 8) TIMER at t) >>= λ timers_. read_tables state_at (at ++ Key STATE ∷ []) (needed (tables_of 1 64) STATE at t) >>= λ states_. Ok (record { name = name_; init = init_; init_do = init_do_; vars = vars_; timers = timers_; states = states_ })) k h in
-    let b = bind-Ok (needed name_of NAME at t) (λ name_. needed name_of INIT at t >>= λ init_. defaulted [] texts_of INIT_DO at t >>= λ init_do_. defaulted [] (vars_of (Some 16)) VARS at t >>= λ vars_. read_tables timer_at (at ++ Key TIMER ∷ []) (defaulted [] (tables_of 0 8) TIMER at t) >>= λ timers_. read_tables state_at (at ++ Key STATE ∷ []) (needed (tables_of 1 64) STATE at t) >>= λ states_. Ok (record { name = name_; init = init_; init_do = init_do_; vars = vars_; timers = timers_; states = states_ })) k a.2 in
-    let c = bind-Ok (needed name_of INIT at t) (λ init_. defaulted [] texts_of INIT_DO at t >>= λ init_do_. defaulted [] (vars_of (Some 16)) VARS at t >>= λ vars_. read_tables timer_at (at ++ Key TIMER ∷ []) (defaulted [] (tables_of 0 8) TIMER at t) >>= λ timers_. read_tables state_at (at ++ Key STATE ∷ []) (needed (tables_of 1 64) STATE at t) >>= λ states_. Ok (record { name = b.0; init = init_; init_do = init_do_; vars = vars_; timers = timers_; states = states_ })) k b.2 in
-    let d = bind-Ok (defaulted [] texts_of INIT_DO at t) (λ init_do_. defaulted [] (vars_of (Some 16)) VARS at t >>= λ vars_. read_tables timer_at (at ++ Key TIMER ∷ []) (defaulted [] (tables_of 0 8) TIMER at t) >>= λ timers_. read_tables state_at (at ++ Key STATE ∷ []) (needed (tables_of 1 64) STATE at t) >>= λ states_. Ok (record { name = b.0; init = c.0; init_do = init_do_; vars = vars_; timers = timers_; states = states_ })) k c.2 in
-    let e = bind-Ok (defaulted [] (vars_of (Some 16)) VARS at t) (λ vars_. read_tables timer_at (at ++ Key TIMER ∷ []) (defaulted [] (tables_of 0 8) TIMER at t) >>= λ timers_. read_tables state_at (at ++ Key STATE ∷ []) (needed (tables_of 1 64) STATE at t) >>= λ states_. Ok (record { name = b.0; init = c.0; init_do = d.0; vars = vars_; timers = timers_; states = states_ })) k d.2 in
-    let f = bind-Ok (read_tables timer_at (at ++ Key TIMER ∷ []) (defaulted [] (tables_of 0 8) TIMER at t)) (λ timers_. read_tables state_at (at ++ Key STATE ∷ []) (needed (tables_of 1 64) STATE at t) >>= λ states_. Ok (record { name = b.0; init = c.0; init_do = d.0; vars = e.0; timers = timers_; states = states_ })) k e.2 in
-    let g = bind-Ok (read_tables state_at (at ++ Key STATE ∷ []) (needed (tables_of 1 64) STATE at t)) (λ states_. Ok (record { name = b.0; init = c.0; init_do = d.0; vars = e.0; timers = f.0; states = states_ })) k f.2 in
+    let a = bind-Ok (knows (NAME ∷ INIT ∷ INIT_DO ∷ VARS ∷ TIMER ∷ STATE ∷ []) at t) _ k h in
+    let b = bind-Ok (needed name_of NAME at t) _ k a.2 in
+    let c = bind-Ok (needed name_of INIT at t) _ k b.2 in
+    let d = bind-Ok (defaulted [] texts_of INIT_DO at t) _ k c.2 in
+    let e = bind-Ok (defaulted [] (vars_of (Some 16)) VARS at t) _ k d.2 in
+    let f = bind-Ok (read_tables timer_at (at ++ Key TIMER ∷ []) (defaulted [] (tables_of 0 8) TIMER at t)) _ k e.2 in
+    let g = bind-Ok (read_tables state_at (at ++ Key STATE ∷ []) (needed (tables_of 1 64) STATE at t)) _ k f.2 in
     let q : Chart = record { name = b.0; init = c.0; init_do = d.0; vars = e.0; timers = f.0; states = g.0 } in
     let same : q ≡ k = ok-same q k g.2 in
     let vars = defaulted-Ok (λ (l : List (List ℕ × ℤ)). length l ≤ 16) [] (vars_of (Some 16)) VARS at t e.0 (omega arith) vars-few e.1 in
-    let timers = listed (λ (x : Timer). Unit {0}) timer_at 8 (at ++ Key TIMER ∷ []) (defaulted [] (tables_of 0 8) TIMER at t) f.0 (λ ts. defaulted-Ok (λ (l : List Members). length l ≤ 8) [] (tables_of 0 8) TIMER at t ts (omega arith) (tables-few 0 8)) (λ p m y e. tt) f.1 in
-    let states = listed FewState state_at 64 (at ++ Key STATE ∷ []) (needed (tables_of 1 64) STATE at t) g.0 (λ ts. needed-Ok (λ (l : List Members). length l ≤ 64) (tables_of 1 64) STATE at t ts (tables-few 1 64)) state-few g.1 in
-    rw (sym same) (acts-few INIT_DO at t d.0 d.1, vars, timers.1, states.1, states.0)
+    let timers = listed TimerInRange timer_at (λ n. n ≤ 8) (at ++ Key TIMER ∷ []) (defaulted [] (tables_of 0 8) TIMER at t) f.0 (λ ts. defaulted-Ok (λ (l : List Members). length l ≤ 8) [] (tables_of 0 8) TIMER at t ts (omega arith) (tables-few 0 8)) timer_at-range f.1 in
+    let states = listed FewState state_at (λ n. n ≤ 64) (at ++ Key STATE ∷ []) (needed (tables_of 1 64) STATE at t) g.0 (λ ts. needed-Ok (λ (l : List Members). length l ≤ 64) (tables_of 1 64) STATE at t ts (tables-few 1 64)) state-few g.1 in
+    subst FewChart same (acts-few INIT_DO at t d.0 d.1, vars, timers.1, states.1, states.0, timers.0)
 
 abbrev pub FewRaw : Raw → Type 0
-FewRaw r = (length r.pools ≤ 15) × (length r.signals ≤ 200) × (length r.charts ≤ 32) × (length r.objects ≤ 32) × All FewChart r.charts
+FewRaw r =
+    (length r.pools ≤ 15) × (length r.signals ≤ 200) × Between 1 32 (length r.charts) × Between 1 32 (length r.objects) × All FewChart r.charts
+    × All PoolInRange r.pools × All SignalInRange r.signals × All ObjectInRange r.objects
 
 raw-few : (t : Members) (r : Raw) → raw_of t ≡ Ok r → FewRaw r
 unfolding raw_of
 raw-few t r h =
-    let a = bind-Ok (knows (QP ∷ POOL ∷ SIGNAL ∷ CHART ∷ OBJECT ∷ []) [] t) (λ known_. needed (number_of 1 1) QP [] t >>= λ version_. read_tables pool_at (Key POOL ∷ []) (defaulted [] (tables_of 0 15) POOL [] t) >>= λ pools_. read_tables signal_at (Key SIGNAL ∷ []) (defaulted [] (tables_of 0 200) SIGNAL [] t) >>= λ signals_. read_tables chart_at (Key CHART ∷ []) (needed (tables_of 1 32) CHART [] t) >>= λ charts_. read_tables object_at (Key OBJECT ∷ []) (needed (tables_of 1 32) OBJECT [] t) >>= λ objects_. Ok (record { pools = pools_; signals = signals_; charts = charts_; objects = objects_ })) r h in
-    let b = bind-Ok (needed (number_of 1 1) QP [] t) (λ version_. read_tables pool_at (Key POOL ∷ []) (defaulted [] (tables_of 0 15) POOL [] t) >>= λ pools_. read_tables signal_at (Key SIGNAL ∷ []) (defaulted [] (tables_of 0 200) SIGNAL [] t) >>= λ signals_. read_tables chart_at (Key CHART ∷ []) (needed (tables_of 1 32) CHART [] t) >>= λ charts_. read_tables object_at (Key OBJECT ∷ []) (needed (tables_of 1 32) OBJECT [] t) >>= λ objects_. Ok (record { pools = pools_; signals = signals_; charts = charts_; objects = objects_ })) r a.2 in
-    let c = bind-Ok (read_tables pool_at (Key POOL ∷ []) (defaulted [] (tables_of 0 15) POOL [] t)) (λ pools_. read_tables signal_at (Key SIGNAL ∷ []) (defaulted [] (tables_of 0 200) SIGNAL [] t) >>= λ signals_. read_tables chart_at (Key CHART ∷ []) (needed (tables_of 1 32) CHART [] t) >>= λ charts_. read_tables object_at (Key OBJECT ∷ []) (needed (tables_of 1 32) OBJECT [] t) >>= λ objects_. Ok (record { pools = pools_; signals = signals_; charts = charts_; objects = objects_ })) r b.2 in
-    let d = bind-Ok (read_tables signal_at (Key SIGNAL ∷ []) (defaulted [] (tables_of 0 200) SIGNAL [] t)) (λ signals_. read_tables chart_at (Key CHART ∷ []) (needed (tables_of 1 32) CHART [] t) >>= λ charts_. read_tables object_at (Key OBJECT ∷ []) (needed (tables_of 1 32) OBJECT [] t) >>= λ objects_. Ok (record { pools = c.0; signals = signals_; charts = charts_; objects = objects_ })) r c.2 in
-    let e = bind-Ok (read_tables chart_at (Key CHART ∷ []) (needed (tables_of 1 32) CHART [] t)) (λ charts_. read_tables object_at (Key OBJECT ∷ []) (needed (tables_of 1 32) OBJECT [] t) >>= λ objects_. Ok (record { pools = c.0; signals = d.0; charts = charts_; objects = objects_ })) r d.2 in
-    let f = bind-Ok (read_tables object_at (Key OBJECT ∷ []) (needed (tables_of 1 32) OBJECT [] t)) (λ objects_. Ok (record { pools = c.0; signals = d.0; charts = e.0; objects = objects_ })) r e.2 in
+    let a = bind-Ok (knows (QP ∷ POOL ∷ SIGNAL ∷ CHART ∷ OBJECT ∷ []) [] t) _ r h in
+    let b = bind-Ok (needed (number_of 1 1) QP [] t) _ r a.2 in
+    let c = bind-Ok (read_tables pool_at (Key POOL ∷ []) (defaulted [] (tables_of 0 15) POOL [] t)) _ r b.2 in
+    let d = bind-Ok (read_tables signal_at (Key SIGNAL ∷ []) (defaulted [] (tables_of 0 200) SIGNAL [] t)) _ r c.2 in
+    let e = bind-Ok (read_tables chart_at (Key CHART ∷ []) (needed (tables_of 1 32) CHART [] t)) _ r d.2 in
+    let f = bind-Ok (read_tables object_at (Key OBJECT ∷ []) (needed (tables_of 1 32) OBJECT [] t)) _ r e.2 in
     let q : Raw = record { pools = c.0; signals = d.0; charts = e.0; objects = f.0 } in
     let same : q ≡ r = ok-same q r f.2 in
-    let pools = listed (λ (x : Pool). Unit {0}) pool_at 15 (Key POOL ∷ []) (defaulted [] (tables_of 0 15) POOL [] t) c.0 (λ ts. defaulted-Ok (λ (l : List Members). length l ≤ 15) [] (tables_of 0 15) POOL [] t ts (omega arith) (tables-few 0 15)) (λ p m y e. tt) c.1 in
-    let signals = listed (λ (x : Signal). Unit {0}) signal_at 200 (Key SIGNAL ∷ []) (defaulted [] (tables_of 0 200) SIGNAL [] t) d.0 (λ ts. defaulted-Ok (λ (l : List Members). length l ≤ 200) [] (tables_of 0 200) SIGNAL [] t ts (omega arith) (tables-few 0 200)) (λ p m y e. tt) d.1 in
-    let charts = listed FewChart chart_at 32 (Key CHART ∷ []) (needed (tables_of 1 32) CHART [] t) e.0 (λ ts. needed-Ok (λ (l : List Members). length l ≤ 32) (tables_of 1 32) CHART [] t ts (tables-few 1 32)) chart-few e.1 in
-    let objects = listed (λ (x : Object). Unit {0}) object_at 32 (Key OBJECT ∷ []) (needed (tables_of 1 32) OBJECT [] t) f.0 (λ ts. needed-Ok (λ (l : List Members). length l ≤ 32) (tables_of 1 32) OBJECT [] t ts (tables-few 1 32)) (λ p m y e. tt) f.1 in
-    rw (sym same) (pools.1, signals.1, charts.1, objects.1, charts.0)
+    let pools = listed PoolInRange pool_at (λ n. n ≤ 15) (Key POOL ∷ []) (defaulted [] (tables_of 0 15) POOL [] t) c.0 (λ ts. defaulted-Ok (λ (l : List Members). length l ≤ 15) [] (tables_of 0 15) POOL [] t ts (omega arith) (tables-few 0 15)) pool_at-range c.1 in
+    let signals = listed SignalInRange signal_at (λ n. n ≤ 200) (Key SIGNAL ∷ []) (defaulted [] (tables_of 0 200) SIGNAL [] t) d.0 (λ ts. defaulted-Ok (λ (l : List Members). length l ≤ 200) [] (tables_of 0 200) SIGNAL [] t ts (omega arith) (tables-few 0 200)) signal_at-range d.1 in
+    let charts = listed FewChart chart_at (Between 1 32) (Key CHART ∷ []) (needed (tables_of 1 32) CHART [] t) e.0 (λ ts. needed-Ok (λ (l : List Members). Between 1 32 (length l)) (tables_of 1 32) CHART [] t ts (tables_of-counted 1 32)) chart-few e.1 in
+    let objects = listed ObjectInRange object_at (Between 1 32) (Key OBJECT ∷ []) (needed (tables_of 1 32) OBJECT [] t) f.0 (λ ts. needed-Ok (λ (l : List Members). Between 1 32 (length l)) (tables_of 1 32) OBJECT [] t ts (tables_of-counted 1 32)) object_at-range f.1 in
+    subst FewRaw same (pools.1, signals.1, charts.1, objects.1, charts.0, pools.0, signals.0, objects.0)
 
 -- what holds of the things that are seen holds of what they are seen of
 all-unmap : {X A : Type 0} (P : A → Type 0) (Q : X → Type 0) (view : X → A) → ((x : X) → P (view x) → Q x) → (xs : List X) → All P (map view xs) → All Q xs
@@ -261,7 +194,29 @@ raw-is_few t raw e =
     record {
       pools = rw (sym (length-map raw.pools pool_view)) h.0;
       signals = rw (sym (length-map raw.signals signal_view)) h.1;
-      charts = rw (sym (length-map raw.charts chart_view)) h.2;
-      objects = rw (sym (length-map raw.objects object_view)) h.3;
+      charts = rw (sym (length-map raw.charts chart_view)) h.2.1;
+      objects = rw (sym (length-map raw.objects object_view)) h.3.1;
       each = all-unmap FewChart IsFewChart chart_view chart-is_few raw.charts h.4;
+    }
+
+-- the numbers of these tables are in their ranges, and there are as many of them as there must be
+pub record IsInRange (raw : RawSystem) : Type 0 where
+  pub some_charts : 1 ≤ length raw.charts
+  pub some_objects : 1 ≤ length raw.objects
+  pub pools : All (λ p. PoolInRange (pool_view p)) raw.pools
+  pub signals : All (λ s. SignalInRange (signal_view s)) raw.signals
+  pub timers : All (λ c. All (λ t. TimerInRange (timer_view t)) c.timer) raw.charts
+  pub objects : All (λ o. ObjectInRange (object_view o)) raw.objects
+
+pub raw-is_in_range : (t : Members) (raw : RawSystem) → raw_of t ≡ Ok (raw_view raw) → IsInRange raw
+raw-is_in_range t raw e =
+    let h = raw-few t (raw_view raw) e in
+    record {
+      some_charts = rw (sym (length-map raw.charts chart_view)) h.2.0;
+      some_objects = rw (sym (length-map raw.objects object_view)) h.3.0;
+      pools = all-unmap PoolInRange (λ p. PoolInRange (pool_view p)) pool_view (λ p k. k) raw.pools h.5;
+      signals = all-unmap SignalInRange (λ s. SignalInRange (signal_view s)) signal_view (λ s k. k) raw.signals h.6;
+      timers = all-unmap FewChart (λ c. All (λ t. TimerInRange (timer_view t)) c.timer) chart_view
+          (λ c k. all-unmap TimerInRange (λ t. TimerInRange (timer_view t)) timer_view (λ t i. i) c.timer k.5) raw.charts h.4;
+      objects = all-unmap ObjectInRange (λ o. ObjectInRange (object_view o)) object_view (λ o k. k) raw.objects h.7;
     }

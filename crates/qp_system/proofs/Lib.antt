@@ -1,3 +1,4 @@
+pub mod PairLemmas
 pub mod FrontLemmas
 pub mod KeyLemmas
 pub mod VarsLemmas
@@ -5,4 +6,19 @@ pub mod DocumentLemmas
 pub mod PassLemmas
 pub mod PlacingLemmas
 pub mod ShortLemmas
+pub mod ReadLemmas
+pub mod RangeLemmas
 pub mod FewLemmas
+pub mod NamedLemmas
+pub mod BehindLemmas
+pub mod OrderLemmas
+pub mod PassedLemmas
+pub mod TimerLemmas
+pub mod SoundChartLemmas
+pub mod SoundLemmas
+pub mod SystemLemmas
+pub mod SeenLemmas
+pub mod DeedLemmas
+pub mod LawLemmas
+pub mod OnceLemmas
+pub mod SameLemmas

@@ -12,7 +12,7 @@ use Rattle.qp_chart.specs.declared.place.Part.TheVariants.{Key, Pos}
 use Rattle.qp_chart.specs.declared.key.TheConstants.{CHART, OBJECT, VARS, PRIORITY, THRESHOLD}
 use Rattle.qp_chart.specs.declared.code.TheConstants.{RANGE, DOUBLE, NO_SUCH_NAME, TOO_MANY}
 use Rattle.qp_chart.specs.declared.raw.RawChart.{RawChart}
-use Rattle.qp_chart.specs.Faults.{Fault, fault, fault_if, first_of}
+use Rattle.qp_chart.specs.Faults.{Fault}
 use Rattle.qp_system.specs.declared.fault.SystemFault.{SystemFault}
 use Rattle.qp_system.specs.declared.raw.RawObject.{RawObject}
 use Rattle.qp_system.specs.Raw.{Chart, Object}

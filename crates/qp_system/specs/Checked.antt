@@ -1,14 +1,11 @@
 -- What the bytes of a system file give, up to its checked charts.
-use Rattle.std.specs.Prelude.{◌≡◌, List, ℕ, None, Ok, Err, ⊤}
-use Rattle.std.specs.declared.result.Result.{Result}
+use Rattle.std.specs.Prelude.{◌≡◌, List, ℕ, None, Ok}
 use Rattle.qp_chart.specs.ChartOf.{IsChartOf}
 use Rattle.qp_chart.specs.Pairs.{Corresponds}
-use Rattle.qp_chart.specs.Faults.{fault}
 use Rattle.qp_chart.specs.declared.checked.Chart.{Chart}
 use Rattle.qp_system.specs.declared.fault.SystemFault.{SystemFault}
-use Rattle.qp_system.specs.declared.fault.SystemFault.TheVariants.{Memory, NotToml, At}
 use Rattle.qp_system.specs.declared.raw.RawSystem.{RawSystem}
-use Rattle.qp_system.specs.Document.{TreeGives, RefusesBytes}
+use Rattle.qp_system.specs.Document.{TreeGives}
 use Rattle.qp_system.specs.Later.{later_fault}
 use Rattle.qp_system.specs.Passes.{IsFirst}
 use Rattle.qp_system.specs.Views.{raw_view}

@@ -1,6 +1,5 @@
 -- A system whose lists are as long as its file may have them.
 use Rattle.std.specs.Prelude.{List, ◌≤◌, length, map, All}
-use Rattle.qp_chart.specs.declared.raw.RawState.{RawState}
 use Rattle.qp_chart.specs.declared.raw.RawChart.{RawChart}
 use Rattle.qp_chart.specs.Readable.{IsReadableState}
 use Rattle.qp_model.specs.declared.systems.PoolDef.{PoolDef}

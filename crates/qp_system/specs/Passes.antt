@@ -1,5 +1,5 @@
 -- What a check of a system answers.
-use Rattle.std.specs.Prelude.{◌≡◌, ℕ, Some, None, Ok, Err, ⊤}
+use Rattle.std.specs.Prelude.{◌≡◌, None, Ok, Err, ⊤}
 use Rattle.std.specs.declared.option.Option.{Option}
 use Rattle.std.specs.declared.result.Result.{Result}
 use Rattle.qp_chart.specs.Faults.{Fault, fault}

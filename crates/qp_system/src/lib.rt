@@ -4,8 +4,10 @@
 mod between;
 mod charts;
 mod checked;
+mod defs;
 mod document;
 mod fault;
+pub mod laws;
 mod lists;
 mod name;
 mod numbers;
@@ -17,6 +19,7 @@ mod raw;
 mod rows;
 mod section;
 mod states;
+mod system;
 mod texts;
 mod twice;
 mod vars;
@@ -25,6 +28,11 @@ pub use checked::checked_of_bytes;
 pub use document::raw_of_bytes;
 pub use fault::SystemFault;
 pub use raw::{RawCharts, RawObject, RawObjects, RawSystem};
+pub use system::system_of_bytes;
 
+#[cfg(test)]
+mod file_tests;
+#[cfg(test)]
+mod samples;
 #[cfg(test)]
 mod tests;

@@ -1,4 +1,4 @@
-use Rattle.std.proofs.Common.{map, ◌∷◌, [], List, ℕ}
+use Rattle.std.proofs.Common.{map, ◌∷◌, []}
 use Rattle.qp_chart.specs.declared.place.Part.TheVariants.{Key, Pos}
 use Rattle.qp_chart.specs.declared.key.TheConstants.{SIGNAL}
 use Rattle.qp_chart.specs.declared.code.TheConstants.{NO_POOL}

@@ -1,0 +1,21 @@
+-- Objects whose charts are declared.
+use Rattle.std.specs.Prelude.{ℕ, ◌≤◌, List, length, IsSome}
+use Rattle.std.specs.declared.option.Option.{Option}
+use Rattle.std.specs.List.{position}
+use Rattle.std.specs.Str.{bytes_eq}
+use Rattle.qp_chart.specs.declared.checked.Chart.{Chart}
+use Rattle.qp_chart.specs.declared.raw.RawChart.{RawChart}
+use Rattle.qp_model.specs.declared.systems.ObjectDef.{ObjectDef}
+use Rattle.qp_system.specs.declared.raw.RawObject.{RawObject}
+
+-- the place of the first chart of this name, from 0
+abbrev pub chart_place : List RawChart → List ℕ → Option ℕ
+chart_place charts name = position (λ chart. bytes_eq chart.name.bytes name) charts
+
+-- the object's chart is one of these
+abbrev pub HasChart : List RawChart → RawObject → Type 0
+HasChart charts raw = IsSome (chart_place charts raw.chart.bytes)
+
+-- the object's chart has a number among these
+abbrev pub IsWithin : List Chart → ObjectDef → Type 0
+IsWithin charts object = (1 ≤ object.chart) × (object.chart ≤ length charts)
