@@ -24,3 +24,4 @@ mod RecalledInVain
 mod InFront
 mod Overfull
 mod SwitchedSummary
+mod ChartsCross
