@@ -12,6 +12,7 @@ mod LeftAlone
 mod LeftAloneInThreads
 mod Settled
 mod PassedOutwards
+mod HandledFirst
 mod RefusedPost
 mod Ticked
 mod Preempted

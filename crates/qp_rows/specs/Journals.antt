@@ -98,6 +98,17 @@ passed_outwards_lanes =
 abbrev pub passed_outwards : Journal
 passed_outwards = journal sim quiet passed_outwards_lanes
 
+-- two rows are open for an event, and the first of them handles it
+abbrev pub handled_first_lanes : List (List Rec)
+handled_first_lanes =
+    (begin 1 ∷ enter 1 1 ∷ done 1 ∷ look 0 1 0 ∷ seen 0 1 1 0 0 ∷ took 1 1 0 1 0 4 0 ∷ run 1 1 1 ∷ say 1 1 ∷ look 0 2 1 ∷ done 1 ∷ look 0 3 0
+    ∷ seen 0 1 1 0 1 ∷ [])
+    ∷ (stim 0 1 1 ∷ post 0 1 1 0 0 0 4 0 ∷ [])
+    ∷ []
+
+abbrev pub handled_first : Journal
+handled_first = journal sim quiet handled_first_lanes
+
 -- a post that would leave less than its margin is refused, and its block goes back
 abbrev pub refused_post_lanes : List (List Rec)
 refused_post_lanes =

@@ -84,6 +84,13 @@ nested = one 1
     ∷ []))
     []
 
+-- it has two rows for GO, both of them open
+abbrev pub twofold : System
+twofold = one 1
+    (one_state [] []
+    (row 4 (Some (number 1)) (act.Plain (action.Say (number 1)) ∷ []) None ∷ row 4 None (act.Plain (action.Say (number 2)) ∷ []) None ∷ []))
+    []
+
 abbrev pub post_with_margin : ℕ → Act
 post_with_margin v = act.Plain (action.Post target.Me 5 (number v ∷ []) (Some 1) None)
 

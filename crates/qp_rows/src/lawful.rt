@@ -1,8 +1,8 @@
 //! Whole journals that are lawful. Each function here does nothing: its contract is the fact.
 
 ghost use Rattle.qp_model.specs.Lawful.{Lawful};
-ghost use Rattle.qp_rows.specs.Systems.{lamp, nested, careful, timed, publisher, levels, flooded, deferring, eager, nothing, go_once, go_twice, go_and_x, go_and_settle, settle_once, tick_twice, n_once, n_settle_go};
-ghost use Rattle.qp_rows.specs.Journals.{cooperative, deferred, held_by_threshold, in_front, left_alone, left_alone_in_threads, out_of_budget, overfull, passed_outwards, preempted, published, recalled_in_vain, refused_post, settled, switched, switched_beside_kernel, switched_in_threads, switched_to_rest, ticked};
+ghost use Rattle.qp_rows.specs.Systems.{lamp, nested, twofold, careful, timed, publisher, levels, flooded, deferring, eager, nothing, go_once, go_twice, go_and_x, go_and_settle, settle_once, tick_twice, n_once, n_settle_go};
+ghost use Rattle.qp_rows.specs.Journals.{cooperative, deferred, handled_first, held_by_threshold, in_front, left_alone, left_alone_in_threads, out_of_budget, overfull, passed_outwards, preempted, published, recalled_in_vain, refused_post, settled, switched, switched_beside_kernel, switched_in_threads, switched_to_rest, ticked};
 
 /// A lamp is switched on: its event is posted, taken and run to completion.
 pub fn a_lamp_is_switched_on()
@@ -44,6 +44,11 @@ pub fn a_settle_acts_at_the_base()
 /// An event that the leaf refuses by its guard is handled by an outer state, and the next event by none.
 pub fn an_outer_state_handles()
     ensures { Lawful nested go_and_x passed_outwards }
+{}
+
+/// Of two rows for an event, both of them open, the first handles it.
+pub fn the_first_row_handles()
+    ensures { Lawful twofold go_once handled_first }
 {}
 
 /// A post that would leave less than its margin is refused, and the event's block goes back.
