@@ -1,5 +1,5 @@
 -- The end of a flat journal: nothing is asserted, spent or spilled, the lanes are short, and the queue is empty.
-use Rattle.std.proofs.Common.{◌≡◌, ℕ, zero, suc, ◌+◌, ◌-◌, ◌*◌, ◌<◌, ◌≤◌, ◌==◌, nat_lt, nat_le, Bool, true, false, not, ◌&&◌, ◌||◌, cond, List, [], ◌∷◌, ◌++◌, map, length, reverse, refl, sym, ◌∙◌, ap, subst, Option, Some, None, append_assoc, append-nil, length-append, arith}
+use Rattle.std.proofs.Common.{◌≡◌, ℕ, zero, suc, ◌+◌, ◌*◌, ◌≤◌, Bool, true, false, not, ◌||◌, cond, List, [], ◌∷◌, ◌++◌, length, refl, ap, Option, Some, None, append-nil, length-append, arith}
 use Rattle.std.specs.List.{list_all, list_any, filter, count_by}
 use Rattle.std.proofs.lemmas.Bool.Decides.{nat_tests}
 use Rattle.std.proofs.lemmas.List.Sums.{count_by-le-length}
@@ -11,7 +11,6 @@ use Rattle.qp_chart.specs.Task.{Task, tasks_of, acts_at, exits, entries}
 use Rattle.qp_chart.specs.StateTree.{state_at, parent_of, path_of, up, is_below}
 use Rattle.qp_chart.specs.Handler.{Handler, handler}
 use Rattle.qp_chart.specs.MainState.{main_state, entered, exited}
-use Rattle.qp_chart.specs.Drill.{Plan, drill}
 use Rattle.qp_chart.specs.Agenda.{crossing, transition, moves, handled, ended, step_plan, start_plan}
 use Rattle.qp_model.specs.declared.systems.ObjectDef.{ObjectDef}
 use Rattle.qp_model.specs.declared.systems.System.{System}
@@ -21,8 +20,8 @@ use Rattle.qp_model.specs.declared.bodies.Body.TheVariants as body
 use Rattle.qp_model.specs.Record.{Item}
 use Rattle.qp_model.specs.Ends.{is_assert, is_spent, is_spill, is_end, ends_last}
 use Rattle.qp_model.specs.End.{end_of, spill_states, spills_state, has_room, shown_entry, spent_right, spents_follow}
-use Rattle.qp_run.specs.FlatJournal.{IsFlatChart, IsFlatState, note_of, names, item, notes, plan_of, round, rounds, kernel_items, source_items}
-use Rattle.qp_run.proofs.FlatPlans.{both, and, list_all-append, at_each, no_exit, no_entry, drill-nothing, handler-acts, flat_state}
+use Rattle.qp_run.specs.FlatJournal.{IsFlatChart, names, notes, plan_of, round, rounds, kernel_items, source_items}
+use Rattle.qp_run.proofs.FlatPlans.{both, and, list_all-append, no_exit, no_entry, drill-nothing, handler-acts, flat_state}
 use Rattle.qp_run.proofs.FlatNotes.{is_noting, step-noting, start-noting}
 use Rattle.qp_run.proofs.FlatOrder.{end-note}
 

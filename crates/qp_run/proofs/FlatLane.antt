@@ -1,6 +1,6 @@
 -- The kernel lane of a flat journal: how it is read, and the object's pieces in it.
-use Rattle.std.proofs.Common.{◌≡◌, ℕ, zero, suc, ◌+◌, ◌<◌, ◌==◌, nat_lt, nat_eq, Bool, true, false, not, ◌&&◌, cond, List, [], ◌∷◌, ◌++◌, map, reverse, refl, sym, ◌∙◌, ap, subst, Option, Some, None, append_assoc, append-nil, add-zero, zero-add, arith, ◌⊎◌, inl, inr}
-use Rattle.std.specs.List.{list_all, filter}
+use Rattle.std.proofs.Common.{◌≡◌, ℕ, ◌+◌, ◌<◌, nat_lt, Bool, true, false, not, List, [], ◌∷◌, ◌++◌, refl, sym, ◌∙◌, ap, Some, append_assoc, append-nil, arith, ◌⊎◌, inl, inr}
+use Rattle.std.specs.List.{list_all}
 use Rattle.std.proofs.lemmas.Bool.Decides.{nat_tests}
 use Rattle.std.proofs.lemmas.List.{map-append}
 use Rattle.std.specs.Prelude.{length, if◌then◌else◌}
@@ -10,17 +10,16 @@ use Rattle.qp_chart.specs.Task.{Task}
 use Rattle.qp_chart.specs.Agenda.{start_plan}
 use Rattle.qp_model.specs.declared.systems.ObjectDef.{ObjectDef}
 use Rattle.qp_model.specs.declared.systems.System.{System}
-use Rattle.qp_model.specs.declared.bodies.Body.{Body}
 use Rattle.qp_model.specs.declared.bodies.Body.TheVariants as body
 use Rattle.qp_model.specs.Record.{Item}
 use Rattle.qp_model.specs.Told.{Told, plain, taken}
 use Rattle.qp_model.specs.Knowing.{Facts, told, known_of, event_of}
-use Rattle.qp_model.specs.KernelLane.{Role, Acts, Ends, role_of, Setting, floor_in, above, Place, Inside, Looking, Found, Ended, Over, Reading, look_next, inside_next, ended_next, place_next, started_next, role_next, lane_next, lane_on, unread, lane_read}
-use Rattle.qp_model.specs.Pieces.{Piece, Tell, Point, tell}
+use Rattle.qp_model.specs.KernelLane.{Acts, role_of, Setting, floor_in, above, Place, Inside, Looking, Found, Ended, Over, Reading, look_next, inside_next, ended_next, place_next, started_next, role_next, lane_next, lane_on, unread, lane_read}
+use Rattle.qp_model.specs.Pieces.{Piece, Tell, tell}
 use Rattle.qp_model.specs.Points.{pieces_at, pieces_in, lane_pieces}
 use Rattle.qp_run.specs.FlatJournal.{IsFlatChart, note_of, item, notes, names, plan_of, round, rounds, kernel_items, static_entry, static_event}
-use Rattle.qp_run.proofs.FlatPlans.{both, and, list_all-append, is_moving, is_heading, IsQuiet, step-quiet, start-quiet}
-use Rattle.qp_run.proofs.FlatNotes.{same_number, not_zero, is_noting, told_notes, told_notes-append, notes-append, told_rounds, told_object, told-note, quiet-noting, step-noting}
+use Rattle.qp_run.proofs.FlatPlans.{both, and, is_moving, is_heading, IsQuiet, step-quiet, start-quiet}
+use Rattle.qp_run.proofs.FlatNotes.{same_number, not_zero, is_noting, told_notes, told_notes-append, notes-append, told_rounds, told_object, told-note}
 
 -- a reading without a raised ceiling or an idle row
 abbrev pub reading : List ℕ → List ℕ → ℕ → Place → Bool → Reading

@@ -1,9 +1,7 @@
 -- A flat journal is lawful.
-use Rattle.std.proofs.Common.{◌≡◌, ℕ, zero, suc, ◌+◌, ◌-◌, ◌*◌, ◌<◌, ◌≤◌, ◌==◌, nat_lt, nat_le, Bool, true, false, not, ◌&&◌, ◌||◌, cond, List, [], ◌∷◌, ◌++◌, map, length, refl, sym, ◌∙◌, ap, subst, Option, Some, None, append_assoc, append-nil, length-append, arith}
-use Rattle.std.specs.Prelude.{IsTrue, ⊤}
+use Rattle.std.proofs.Common.{◌≡◌, ℕ, ◌+◌, ◌≤◌, nat_le, Bool, true, false, ◌&&◌, cond, List, [], ◌∷◌, ◌++◌, map, length, refl, sym, ◌∙◌, ap, subst, Some, None, length-append, arith}
 use Rattle.std.specs.Option.{is_some}
-use Rattle.std.specs.List.{list_all, list_any, filter, count_by, AllByRecursion}
-use Rattle.std.specs.Bool.{MatchBool}
+use Rattle.std.specs.List.{list_all, list_any, count_by, AllByRecursion}
 use Rattle.std.proofs.lemmas.Bool.Decides.{nat_tests}
 use Rattle.std.proofs.lemmas.List.Sums.{count_by-le-length}
 use Rattle.qp_chart.specs.declared.checked.Chart.{Chart}
@@ -12,34 +10,29 @@ use Rattle.qp_model.specs.declared.stimulus.Stim.{Stim}
 use Rattle.qp_model.specs.declared.systems.ObjectDef.{ObjectDef}
 use Rattle.qp_model.specs.declared.systems.System.{System}
 use Rattle.qp_model.specs.declared.journals.Journal.{Journal}
-use Rattle.qp_model.specs.declared.words.Word.TheVariants as word
 use Rattle.qp_model.specs.Record.{Item, item_of}
-use Rattle.qp_model.specs.Told.{Told}
-use Rattle.qp_model.specs.History.{lane_items, all_items, hist}
-use Rattle.qp_model.specs.Machine.{after}
-use Rattle.qp_model.specs.Line.{Line, line}
+use Rattle.qp_model.specs.History.{lane_items, all_items}
 use Rattle.qp_model.specs.Lists.{all_below}
 use Rattle.qp_model.specs.Knowing.{Facts, records_of}
-use Rattle.qp_model.specs.Sites.{ring_of}
 use Rattle.qp_model.specs.Home.{lane_at, home_of, by_object}
 use Rattle.qp_model.specs.Deferral.{kept_after}
-use Rattle.qp_model.specs.Pieces.{Piece, bare, tell}
-use Rattle.qp_model.specs.Course.{Cut, Whole, FollowsTo}
+use Rattle.qp_model.specs.Pieces.{tell}
+use Rattle.qp_model.specs.Course.{Whole, FollowsTo}
 use Rattle.qp_model.specs.ObjectShape.{HasShape}
 use Rattle.qp_model.specs.Ends.{spills_in, ends_last}
-use Rattle.qp_model.specs.End.{end_of, HasEnd, spents_hold, took_count, lines_empty, blocks_rest, spills_state, has_room, takes_of}
-use Rattle.qp_model.specs.KernelLane.{Setting, Reading, lane_read, is_whole}
+use Rattle.qp_model.specs.End.{spents_hold, took_count, lines_empty, blocks_rest, spills_state, has_room, takes_of}
+use Rattle.qp_model.specs.KernelLane.{Setting, lane_read}
 use Rattle.qp_model.specs.Points.{lane_pieces}
 use Rattle.qp_model.specs.Sources.{IsSourceLane}
 use Rattle.qp_model.specs.OneOrder.{OneThread, IsOneOrder}
-use Rattle.qp_model.specs.Lawful.{facts_of, cut_of, ShapesHold, deferral_holds, CourseHolds, ObjectHolds, source_lanes, setting_of, is_settle, reading_holds, KernelHolds, SourceLanes, SpillsStand, one_thread, OrderHolds, SourcesHold, deferred_of, EndHolds, Lawful, dispatched}
-use Rattle.qp_run.specs.FlatJournal.{IsFlat, IsFlatChart, ArePosts, kernel_items, source_items}
+use Rattle.qp_model.specs.Lawful.{facts_of, cut_of, deferral_holds, CourseHolds, ObjectHolds, source_lanes, setting_of, is_settle, reading_holds, KernelHolds, SourceLanes, SpillsStand, one_thread, OrderHolds, SourcesHold, deferred_of, EndHolds, Lawful, dispatched}
+use Rattle.qp_run.specs.FlatJournal.{IsFlat, ArePosts, kernel_items, source_items}
 use Rattle.qp_run.proofs.FlatPlans.{both, and}
 use Rattle.qp_run.proofs.FlatNotes.{told_object, records-lane}
 use Rattle.qp_run.proofs.FlatObject.{object-shape, object-kept, object-follows, object-bare}
 use Rattle.qp_run.proofs.FlatLane.{over, LaneEnds, lane-ends}
 use Rattle.qp_run.proofs.FlatSource.{source-lane, no_stim-behind, source-unended}
-use Rattle.qp_run.proofs.FlatOrder.{Sourced, one-sourced, no-sourced, one-order}
+use Rattle.qp_run.proofs.FlatOrder.{one-sourced, no-sourced, one-order}
 use Rattle.qp_run.proofs.FlatWords.{Stands, line_of, source-stands, alone-stands}
 use Rattle.qp_run.proofs.FlatEnd as end
 use Rattle.qp_run.proofs.FlatEnd.{unended, end-quiet, lane-last, lane-spent_right, lane-spents, lane-spills, lane-room, length-source, short-lane, kernel-unended}

@@ -1,16 +1,14 @@
 -- What the notes of a flat step are to the definitions: they touch no word, tell only themselves, and act.
-use Rattle.std.proofs.Common.{◌≡◌, ℕ, zero, suc, ◌+◌, ◌<◌, ◌==◌, nat_lt, nat_eq, Bool, true, false, ◌&&◌, cond, List, [], ◌∷◌, ◌++◌, refl, sym, ◌∙◌, ap, subst, Option, Some, None, append_assoc, arith}
+use Rattle.std.proofs.Common.{◌≡◌, ℕ, ◌+◌, ◌<◌, ◌==◌, Bool, true, false, List, [], ◌∷◌, ◌++◌, refl, ◌∙◌, ap, arith}
 use Rattle.std.specs.List.{list_all}
 use Rattle.std.proofs.lemmas.Bool.Decides.{nat_tests}
 use Rattle.qp_chart.specs.declared.checked.Chart.{Chart}
 use Rattle.qp_chart.specs.Task as task
 use Rattle.qp_chart.specs.Task.{Task}
-use Rattle.qp_chart.specs.Agenda.{start_plan, step_plan}
+use Rattle.qp_chart.specs.Agenda.{start_plan}
 use Rattle.qp_model.specs.declared.systems.ObjectDef.{ObjectDef}
-use Rattle.qp_model.specs.declared.bodies.Body.{Body}
-use Rattle.qp_model.specs.declared.bodies.Body.TheVariants as body
 use Rattle.qp_model.specs.Record.{Item}
-use Rattle.qp_model.specs.Told.{Told, Nothing, plain, taken}
+use Rattle.qp_model.specs.Told.{Told, plain, taken}
 use Rattle.qp_model.specs.Knowing.{Facts, known_of, told, event_of, ceiling_after, records_of}
 use Rattle.qp_run.specs.FlatJournal.{IsFlatChart, note_of, item, notes, plan_of, round, rounds, kernel_items, static_entry, static_event}
 use Rattle.qp_run.proofs.FlatPlans.{both, and, list_all-append, is_moving, is_heading, IsQuiet, step-quiet, start-quiet}

@@ -1,29 +1,28 @@
 -- The object of a flat journal: its records have the shapes of a start and of steps, and follow its chart.
-use Rattle.std.proofs.Common.{◌≡◌, ℕ, zero, suc, ◌+◌, ◌-◌, ◌==◌, Bool, true, false, not, ◌&&◌, cond, List, [], ◌∷◌, ◌++◌, map, refl, sym, ◌∙◌, ap, subst, Option, Some, None, append_assoc, append-nil, slice_get, ◌⊎◌, inl, inr, pos}
-use Rattle.std.specs.Prelude.{IsTrue}
-use Rattle.std.specs.List.{list_all, filter}
+use Rattle.std.proofs.Common.{◌≡◌, ℕ, ◌+◌, Bool, true, false, List, [], ◌∷◌, ◌++◌, refl, sym, ◌∙◌, ap, subst, Option, Some, None, append-nil, inr, pos}
+use Rattle.std.specs.List.{list_all}
 use Rattle.qp_chart.specs.declared.checked.Chart.{Chart}
 use Rattle.qp_chart.specs.Task as task
 use Rattle.qp_chart.specs.Task.{Task}
-use Rattle.qp_chart.specs.Agenda.{start_plan, step_plan}
+use Rattle.qp_chart.specs.Agenda.{start_plan}
 use Rattle.qp_model.specs.declared.systems.ObjectDef.{ObjectDef}
 use Rattle.qp_model.specs.declared.systems.System.{System}
 use Rattle.qp_model.specs.declared.bodies.Entry.{Entry}
 use Rattle.qp_model.specs.declared.bodies.Body.{Body}
 use Rattle.qp_model.specs.declared.bodies.Body.TheVariants as body
-use Rattle.qp_model.specs.Told.{Told, Event, plain, taken}
+use Rattle.qp_model.specs.Told.{Told, plain, taken}
 use Rattle.qp_model.specs.Shapes.{Drops}
 use Rattle.qp_model.specs.Deferral.{keep, kept_after}
-use Rattle.qp_model.specs.Pieces.{Piece, Tell, tell, bare}
-use Rattle.qp_model.specs.Acts.{Config, Actor, Moment, names_of, DoesTask, Does}
-use Rattle.qp_model.specs.Step.{at_leaf, moment, Closes, StepRest, Step}
+use Rattle.qp_model.specs.Pieces.{Tell, tell, bare}
+use Rattle.qp_model.specs.Acts.{Config, Moment, DoesTask, Does}
+use Rattle.qp_model.specs.Step.{moment, Closes, StepRest, Step}
 use Rattle.qp_model.specs.Course.{at_start, Starts, Steps, Course, first_config, actor, chart_at, FollowsAs, Follows, Whole, FollowsTo}
 use Rattle.qp_model.specs.Sequence.{joined, EachPart, Sequence}
 use Rattle.qp_model.specs.Groups.{is_move, IsGroup, IsMove, Groups}
 use Rattle.qp_model.specs.ObjectShape.{StartGroup, StepHead, StepGroup, IsTurn, Dispatches, IsTail, Ends, ObjectGroups, CutGroups, asserts_last, HasShape, is_head}
 use Rattle.qp_model.specs.Ends.{is_end, is_turn_mark}
 use Rattle.qp_model.specs.Lawful.{dispatched}
-use Rattle.qp_run.specs.FlatJournal.{IsFlat, IsFlatChart, note_of, names, plan_of, static_entry, static_event}
+use Rattle.qp_run.specs.FlatJournal.{IsFlatChart, note_of, names, plan_of, static_entry, static_event}
 use Rattle.qp_run.proofs.FlatPlans.{both, and, list_all-append, is_moving, is_heading, IsQuiet, step-quiet, start-quiet}
 use Rattle.qp_run.proofs.FlatNotes.{is_noting, told_notes, told_notes-append, told_rounds, told_object, step-noting, start-noting}
 

@@ -1,6 +1,5 @@
 -- The one order of a flat journal: in each look the next post happens, until none is left.
-use Rattle.std.proofs.Common.{◌≡◌, ℕ, zero, suc, ◌+◌, ◌-◌, ◌<◌, ◌≤◌, ◌==◌, nat_lt, nat_le, Bool, true, false, not, ◌&&◌, ◌||◌, cond, List, [], ◌∷◌, ◌++◌, map, length, drop, take, refl, sym, ◌∙◌, ap, subst, Option, Some, None, append_assoc, append-nil, add-zero, zero-add, ◌⊎◌, inl, inr, arith, slice_get}
-use Rattle.std.specs.Prelude.{IsTrue}
+use Rattle.std.proofs.Common.{◌≡◌, ℕ, zero, suc, ◌+◌, ◌<◌, ◌≤◌, ◌==◌, Bool, true, false, not, ◌&&◌, ◌||◌, cond, List, [], ◌∷◌, ◌++◌, map, length, drop, refl, sym, ◌∙◌, ap, subst, Option, Some, None, append_assoc, append-nil, zero-add, ◌⊎◌, inl, inr, arith, slice_get}
 use Rattle.std.specs.List.{list_all, list_any, filter, filter_map, count_by, find}
 use Rattle.std.proofs.lemmas.Bool.Decides.{nat_tests}
 use Rattle.std.proofs.lemmas.List.Sums.{sum_by-append}
@@ -17,14 +16,12 @@ use Rattle.qp_model.specs.declared.stimulus.Stim.{Stim}
 use Rattle.qp_model.specs.declared.stimulus.Stim.TheVariants as stim
 use Rattle.qp_model.specs.declared.words.Word.{Word}
 use Rattle.qp_model.specs.declared.words.Word.TheVariants as word
-use Rattle.qp_model.specs.declared.bodies.Body.{Body}
 use Rattle.qp_model.specs.declared.bodies.Body.TheVariants as body
-use Rattle.qp_model.specs.Record.{Item, entry}
-use Rattle.qp_model.specs.History.{Touch, Neither, touch, drawn_on, total, same_word}
+use Rattle.qp_model.specs.Record.{Item}
+use Rattle.qp_model.specs.History.{Neither, touch, drawn_on, total}
 use Rattle.qp_model.specs.Places.{is_next, in_order}
 use Rattle.qp_model.specs.Ends.{is_spill, is_end, ends_last, spills_in}
-use Rattle.qp_model.specs.OneOrder.{Placed, Turn, stim_of, look_of, is_stim_at, belongs, part_of_look, parts_of_look, with_stimuli, spills_from, order, turns_at, is_stim, begun, acted_last, all_empty, may_act, left_after, turned, acts_next, is_turn, OneThread, is_free, no_look, look_right, looks_right, look_numbers, stims_placed, last_is_free, IsOneOrder}
-use Rattle.qp_model.proofs.ListLemmas.{length_filter-insert, filter-insert_not}
+use Rattle.qp_model.specs.OneOrder.{Placed, Turn, stim_of, look_of, part_of_look, parts_of_look, with_stimuli, spills_from, order, turns_at, is_stim, begun, acted_last, all_empty, may_act, left_after, turned, acts_next, is_turn, OneThread, look_right, looks_right, look_numbers, stims_placed, last_is_free, IsOneOrder}
 use Rattle.qp_model.proofs.HistoryLemmas.{total-draws, total-other}
 use Rattle.qp_run.specs.FlatJournal.{IsFlatChart, IsPost, ArePosts, note_of, item, notes, plan_of, round, rounds, kernel_items, source_items, static_entry}
 use Rattle.qp_run.proofs.FlatPlans.{both, and, list_all-append}

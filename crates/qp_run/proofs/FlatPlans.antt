@@ -1,5 +1,5 @@
 -- What the agendas of a flat chart are: a head, moves, and `done`.
-use Rattle.std.proofs.Common.{◌≡◌, ℕ, zero, suc, ◌+◌, ◌-◌, ◌==◌, Bool, true, false, ◌&&◌, cond, List, [], ◌∷◌, ◌++◌, length, reverse, refl, sym, ◌∙◌, ap, subst, Option, Some, None, append_assoc, append-nil, slice_get}
+use Rattle.std.proofs.Common.{◌≡◌, ℕ, zero, suc, ◌+◌, ◌-◌, ◌==◌, Bool, true, false, ◌&&◌, cond, List, [], ◌∷◌, ◌++◌, refl, sym, ◌∙◌, ap, subst, Option, Some, None, append-nil, slice_get}
 use Rattle.std.specs.List.{list_all, AllByRecursion}
 use Rattle.std.specs.Option.{option_and_then}
 use Rattle.qp_chart.specs.declared.checked.Row.{Row}
@@ -11,7 +11,7 @@ use Rattle.qp_chart.specs.Task.{Task, tasks_of, acts_at, exits, entries}
 use Rattle.qp_chart.specs.StateTree.{state_at, up}
 use Rattle.qp_chart.specs.Handler.{Handler, first_row, handler_at, rows_of, handler_on, handler, passes}
 use Rattle.qp_chart.specs.MainState.{main_state, entered, exited}
-use Rattle.qp_chart.specs.Drill.{Plan, before, init_of, drill_to, drill}
+use Rattle.qp_chart.specs.Drill.{init_of, drill_to, drill}
 use Rattle.qp_chart.specs.Agenda.{crossing, transition, moves, handled, ended, step_plan, start_plan}
 use Rattle.qp_run.specs.FlatJournal.{IsFlatRow, IsFlatState, IsFlatChart}
 

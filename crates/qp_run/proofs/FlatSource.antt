@@ -1,27 +1,22 @@
 -- The source of a flat journal: its lane is its posts in order, each in its own look.
-use Rattle.std.proofs.Common.{◌≡◌, ℕ, zero, suc, ◌+◌, ◌-◌, ◌<◌, ◌≤◌, ◌==◌, nat_lt, nat_le, Bool, true, false, not, ◌&&◌, ◌||◌, cond, List, [], ◌∷◌, ◌++◌, map, length, drop, refl, sym, ◌∙◌, ap, subst, Option, Some, None, append_assoc, append-nil, add-zero, zero-add, ◌⊎◌, inl, inr, arith}
-use Rattle.std.specs.Prelude.{IsTrue}
+use Rattle.std.proofs.Common.{◌≡◌, ℕ, suc, ◌+◌, ◌-◌, ◌<◌, ◌≤◌, ◌==◌, nat_lt, true, false, not, List, [], ◌∷◌, length, refl, sym, ◌∙◌, ap, subst, None, inr, arith}
 use Rattle.std.specs.List.{list_all, list_any, filter, filter_map}
 use Rattle.std.proofs.lemmas.Bool.Decides.{nat_tests}
 use Rattle.qp_model.specs.declared.systems.System.{System}
 use Rattle.qp_model.specs.declared.stimulus.Stim.{Stim}
 use Rattle.qp_model.specs.declared.stimulus.Stim.TheVariants as stim
-use Rattle.qp_model.specs.declared.bodies.Entry.{Entry}
-use Rattle.qp_model.specs.declared.bodies.Body.{Body}
 use Rattle.qp_model.specs.declared.bodies.Body.TheVariants as body
-use Rattle.qp_model.specs.Record.{Item, entry}
+use Rattle.qp_model.specs.Record.{entry}
 use Rattle.qp_model.specs.Told.{Told, plain}
 use Rattle.qp_model.specs.Knowing.{Facts, known_of, told, records_of}
 use Rattle.qp_model.specs.Calls as call
 use Rattle.qp_model.specs.Calls.{Call, Granted}
-use Rattle.qp_model.specs.Parts.{is_static, room_before, sizes_of}
+use Rattle.qp_model.specs.Parts.{is_static, room_before}
 use Rattle.qp_model.specs.Sites.{ring_of}
 use Rattle.qp_model.specs.Shapes.{MakesNew, Posts, PostsNew, Fits}
 use Rattle.qp_model.specs.Ends.{is_spill, spills_in}
-use Rattle.qp_model.specs.Sources.{CallFits, StimFits, SourceEnd, AllDone, SourceRuns, IsSourceLane, entry_seen, none_twice, source_records}
+use Rattle.qp_model.specs.Sources.{CallFits, StimFits, AllDone, SourceRuns, IsSourceLane, entry_seen, none_twice, source_records}
 use Rattle.qp_run.specs.FlatJournal.{IsPost, ArePosts, item, source_items, static_entry}
-use Rattle.qp_run.proofs.FlatPlans.{both, and}
-use Rattle.qp_run.proofs.FlatNotes.{same_number}
 
 -- what the source's records tell
 told_source : ℕ → ℕ → List ℕ → List Told

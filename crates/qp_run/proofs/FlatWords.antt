@@ -1,8 +1,6 @@
 -- The words of a flat journal keep their laws, record by record.
-use Rattle.std.proofs.Common.{◌≡◌, ℕ, zero, suc, ◌+◌, ◌-◌, ◌<◌, ◌≤◌, ◌==◌, nat_lt, nat_le, Bool, true, false, ◌&&◌, List, [], ◌∷◌, ◌++◌, map, length, refl, sym, ◌∙◌, ap, subst, Option, Some, None, append_assoc, append-nil, add-zero, zero-add, ◌⊎◌, inl, inr, arith}
-use Rattle.std.specs.Prelude.{IsTrue}
+use Rattle.std.proofs.Common.{◌≡◌, ℕ, zero, suc, ◌+◌, ◌≤◌, true, List, [], ◌∷◌, ◌++◌, map, length, refl, sym, ◌∙◌, subst, append_assoc, append-nil, add-zero, zero-add, ◌⊎◌, inl, inr, arith}
 use Rattle.std.specs.List.{list_all}
-use Rattle.std.proofs.lemmas.Bool.Decides.{nat_tests}
 use Rattle.qp_chart.specs.declared.checked.Chart.{Chart}
 use Rattle.qp_chart.specs.Task.{Task}
 use Rattle.qp_chart.specs.Agenda.{start_plan}
@@ -12,24 +10,23 @@ use Rattle.qp_model.specs.declared.systems.System.{System}
 use Rattle.qp_model.specs.declared.words.Word.{Word}
 use Rattle.qp_model.specs.declared.words.Word.TheVariants as word
 use Rattle.qp_model.specs.declared.bodies.Entry.{Entry}
-use Rattle.qp_model.specs.declared.bodies.Body.{Body}
 use Rattle.qp_model.specs.declared.bodies.Body.TheVariants as body
 use Rattle.qp_model.specs.Record.{Item, item_of}
-use Rattle.qp_model.specs.History.{Touch, Draws, Shows, Neither, touch, mark_of, hist, all_items, lane_items, is_numbered, marks_rise}
+use Rattle.qp_model.specs.History.{Draws, Shows, Neither, touch, hist, all_items, lane_items, is_numbered, marks_rise}
 use Rattle.qp_model.specs.Machine.{Machine, after, is_allowed, is_shown}
-use Rattle.qp_model.specs.FreeBlocks.{Pool, free_blocks}
-use Rattle.qp_model.specs.References.{Refs, references}
+use Rattle.qp_model.specs.FreeBlocks.{free_blocks}
+use Rattle.qp_model.specs.References.{references}
 use Rattle.qp_model.specs.Line.{Line, line}
-use Rattle.qp_model.specs.Subscribers.{Subscribers, subscribers}
-use Rattle.qp_model.specs.TimeEvents.{Clock, time_event}
-use Rattle.qp_model.specs.Lives.{HasLives, life_of, edges_empty, lives_cover, lives_referred}
+use Rattle.qp_model.specs.Subscribers.{subscribers}
+use Rattle.qp_model.specs.TimeEvents.{time_event}
+use Rattle.qp_model.specs.Lives.{HasLives, edges_empty, lives_cover, lives_referred}
 use Rattle.qp_model.specs.Sites.{ring_of, blocks_of}
 use Rattle.qp_model.specs.WordLaw.{Keeps, Words}
 use Rattle.qp_model.proofs.WordLemmas.{Held, held-other}
 use Rattle.qp_model.proofs.LineLemmas.{line-counts, held-post, held-took, held-seen}
 use Rattle.qp_model.proofs.WordLawLemmas.{words-note, words-queue}
 use Rattle.qp_run.specs.FlatJournal.{IsFlatChart, note_of, item, notes, plan_of, round, rounds, kernel_items, source_items, static_entry}
-use Rattle.qp_run.proofs.FlatPlans.{both, and}
+use Rattle.qp_run.proofs.FlatPlans.{both}
 use Rattle.qp_run.proofs.FlatNotes.{is_noting, step-noting, start-noting}
 use Rattle.qp_run.proofs.FlatOrder.{touch-note}
 

@@ -1,9 +1,7 @@
-mod ReaderLemmas
-mod StimuliLemmas
 mod ListLemmas
 mod RunLemmas
-mod PutLemmas
-mod TextLemmas
+mod SameThin
+mod AnswerLaw
 mod VerdictLemmas
 mod FlatPlans
 mod FlatNotes
@@ -14,6 +12,7 @@ mod FlatOrder
 mod FlatWords
 mod FlatEnd
 mod FlatLawful
-mod MeaningLemmas
+mod ThinPlans
 mod ThinLemmas
-mod HeadlineLemmas
+mod RangeLemmas
+mod QuietLemmas

@@ -1,5 +1,5 @@
 -- The words of a call.
-use Rattle.std.specs.Prelude.{codes, ℕ, ◌==◌, Bool, true, false, not, ◌&&◌, List, [], ◌∷◌, Option, None, Some}
+use Rattle.std.specs.Prelude.{codes, ℕ, ◌==◌, Bool, true, not, ◌&&◌, List, [], ◌∷◌, Option, None}
 use Rattle.std.specs.Str.{bytes_eq}
 use Rattle.qp_run.specs.Reads.{only_if}
 

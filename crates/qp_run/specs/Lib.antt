@@ -1,12 +1,7 @@
 pub mod Reads
-pub mod Names
-pub mod ThinSystem
-pub mod ThinStimuli
 pub mod Commands
 pub mod Notes
-pub mod JournalText
+pub mod Thin
 pub mod ThinRun
-pub mod Verdict
 pub mod FlatJournal
-pub mod ThinMeaning
-pub mod Headline
+pub mod Verdict

@@ -1,7 +1,10 @@
 -- The number of an answer, and the line about it.
 use Rattle.std.specs.Prelude.{codes, ℕ, decimal, Bool, true, false, List, [], ◌++◌, slice_get, unwrap_or}
+use Rattle.qp_chart.specs.Paths.{path_text}
+use Rattle.qp_run.specs.declared.place.Place as place
+use Rattle.qp_run.specs.declared.place.Place.TheVariants.{Nowhere, Path, Line, Offset}
 use Rattle.qp_run.specs.declared.status.Status.{Status}
-use Rattle.qp_run.specs.declared.status.Status.TheVariants.{Done, Words, Absent, TooLong, Later, Asserted, Spent, Memory, ReadFault, WriteFault}
+use Rattle.qp_run.specs.declared.status.Status.TheVariants.{Done, Words, Absent, TooLong, Refused, Later, Asserted, Spent, Memory, ReadFault, WriteFault}
 
 -- the exit status
 abbrev pub number_of : Status → ℕ
@@ -9,12 +12,20 @@ number_of Done = 0
 number_of Words = 1
 number_of (Absent file) = 2
 number_of (TooLong file len) = 2
+number_of (Refused file code at) = 2
 number_of (Asserted code lane) = 3
 number_of (Spent lane) = 4
 number_of Memory = 5
 number_of ReadFault = 6
 number_of WriteFault = 7
 number_of (Later file) = 9
+
+-- a place in a file
+abbrev pub place_text : place.Place → List ℕ
+place_text Nowhere = codes "-"
+place_text (Path path) = path_text path.0.items
+place_text (Line number) = decimal number
+place_text (Offset number) = decimal number
 
 -- a line about a file, which is named by its word
 abbrev pub named_line : List (List ℕ) → ℕ → List ℕ → List ℕ
@@ -26,6 +37,7 @@ line_of words Done = []
 line_of words Words = codes "qp: bad words\n"
 line_of words (Absent file) = named_line words file (codes "absent")
 line_of words (TooLong file len) = named_line words file (codes "too long " ++ decimal len)
+line_of words (Refused file code at) = named_line words file (decimal code ++ codes " " ++ place_text at)
 line_of words (Later file) = named_line words file (codes "later")
 line_of words (Asserted code lane) = codes "qp: assertion " ++ decimal code ++ codes " in lane " ++ decimal lane ++ codes "\n"
 line_of words (Spent lane) = codes "qp: spent in lane " ++ decimal lane ++ codes "\n"
@@ -33,9 +45,15 @@ line_of words Memory = codes "qp: memory\n"
 line_of words ReadFault = codes "qp: read fault\n"
 line_of words WriteFault = codes "qp: write fault\n"
 
+-- the run was done, and there is no line
+abbrev pub is_done : Status → Bool
+is_done Done = true
+is_done status = false
+
 -- the line names a file
 abbrev pub names_file : Status → Bool
 names_file (Absent file) = true
 names_file (TooLong file len) = true
+names_file (Refused file code at) = true
 names_file (Later file) = true
 names_file status = false

@@ -2,16 +2,15 @@
 #![tactic(auto)]
 
 mod command;
-mod names;
-mod printing;
-mod reader;
+pub mod laws;
+mod place;
 mod runs;
 mod status;
-mod stimuli;
 #[cfg(test)]
 mod tests;
 mod thin;
 mod top;
 
+pub use place::Place;
 pub use status::Status;
 pub use top::qp_main;

@@ -1,14 +1,18 @@
 //! How a call of the program ends.
-ghost use Rattle.std.specs.Prelude.{codes, ◌≡◌, ◌++◌, ◌≤◌, List, ℕ, [], length, map, decimal, true, false, IfOk};
-ghost use Rattle.qp_run.specs.Notes.{number_of, line_of, named_line, names_file};
+ghost use Rattle.std.specs.Prelude.{codes, ◌≡◌, ◌++◌, ◌≤◌, List, ℕ, [], length, map, decimal, slice_get, string_bytes, unwrap_or, true, false, IfOk};
+ghost use Rattle.qp_run.specs.Notes.{number_of, line_of, named_line, names_file, is_done, place_text};
+ghost use Rattle.qp_run.specs.Verdict.{system_refusal, stimuli_refusal};
 
-use crate::names::word_at;
+use crate::place::Place;
 use arrayvec::ArrayString;
 use itoa::Buffer;
+use qp_chart::code;
+use qp_stim::StimFault;
+use qp_system::SystemFault;
 use std::alloc::{AllocError, Global};
 
 /// How a call ends. `file` is the operand's place, counted from 1.
-#[derive(Clone, Copy, PartialEq, Eq, Debug)]
+#[derive(Debug, Drop)]
 pub enum Status {
     /// The output is written.
     Done,
@@ -18,7 +22,9 @@ pub enum Status {
     Absent { file: u8 },
     /// The file has this many bytes, too many to be loaded.
     TooLong { file: u8, len: u64 },
-    /// The file is well formed or not; the program doesn't take it yet.
+    /// The file has a fault: the code of the first one, and its place.
+    Refused { file: u8, code: u8, place: Place },
+    /// The file is well formed; the program doesn't run it yet.
     Later { file: u8 },
     /// The run ended at an assertion.
     Asserted { code: u8, lane: u32 },
@@ -37,13 +43,13 @@ pub type Line = ArrayString<128>;
 
 impl Status {
     /// The number with which the process ends.
-    pub fn number(self) -> u8
-        ensures { result ≡ number_of self }
+    pub fn number(&self) -> u8
+        ensures { result ≡ number_of self.now }
     {
         match self {
             Status::Done => 0,
             Status::Words => 1,
-            Status::Absent { .. } | Status::TooLong { .. } => 2,
+            Status::Absent { .. } | Status::TooLong { .. } | Status::Refused { .. } => 2,
             Status::Asserted { .. } => 3,
             Status::Spent { .. } => 4,
             Status::Memory => 5,
@@ -53,47 +59,96 @@ impl Status {
         }
     }
 
+    /// Whether the run was done. Then there is no line on the notes.
+    pub fn is_done(&self) -> bool
+        ensures { result ≡ is_done self.now }
+    {
+        matches!(self, Status::Done)
+    }
+
     /// Whether the line on the notes names a file.
-    pub fn names_file(self) -> bool
-        ensures { result ≡ names_file self }
+    pub fn names_file(&self) -> bool
+        ensures { result ≡ names_file self.now }
     {
         matches!(
             self,
-            Status::Absent { .. } | Status::TooLong { .. } | Status::Later { .. }
+            Status::Absent { .. }
+                | Status::TooLong { .. }
+                | Status::Refused { .. }
+                | Status::Later { .. }
         )
     }
 
     /// The line on the notes that names no file. Nothing for `Done`.
     #[tactic(auto, unfolding(crate::specs::Notes::line_of))]
-    pub fn plain_line(self) -> Line
-        requires { names_file self ≡ false }
-        ensures { (words : List (List ℕ)) → result.bytes ≡ line_of words self }
+    pub fn plain_line(&self) -> Line
+        requires { names_file self.now ≡ false }
+        ensures { (words : List (List ℕ)) → result.bytes ≡ line_of words self.now }
     {
         match self {
             Status::Words => line("qp: bad words\n"),
             Status::Memory => line("qp: memory\n"),
             Status::ReadFault => line("qp: read fault\n"),
             Status::WriteFault => line("qp: write fault\n"),
-            Status::Asserted { code, lane } => asserted_line(code, lane),
-            Status::Spent { lane } => spent_line(lane),
+            Status::Asserted { code, lane } => asserted_line(*code, *lane),
+            Status::Spent { lane } => spent_line(*lane),
             _ => line(""),
         }
     }
 
     /// The line on the notes that names a file, by its word.
     #[tactic(auto, unfolding(crate::specs::Notes::line_of))]
-    pub fn file_line(self, alloc: Global, words: &[&str]) -> Result<Vec<u8>, AllocError>
-        requires { names_file self ≡ true }
-        ensures { IfOk result (λ line. line.items ≡ line_of (map (λ word. word.now) words.now) self) }
+    pub fn file_line(&self, alloc: Global, words: &[&str]) -> Result<String, AllocError>
+        requires { names_file self.now ≡ true }
+        ensures { IfOk result (λ line. string_bytes line ≡ line_of (map (λ word. word.now) words.now) self.now) }
     {
         match self {
-            Status::Absent { file } => named_line(alloc, words, file, "absent"),
+            Status::Absent { file } => named_line(alloc, words, *file, "absent"),
             Status::TooLong { file, len } => {
-                let what = too_long(len);
-                named_line(alloc, words, file, what.as_str())
+                let what = too_long(*len);
+                named_line(alloc, words, *file, what.as_str())
             }
-            Status::Later { file } => named_line(alloc, words, file, "later"),
-            _ => Ok(Vec::new(alloc)),
+            Status::Refused { file, code, place } => {
+                let what = fault_at(alloc, *code, place)?;
+                named_line(alloc, words, *file, what.as_str())
+            }
+            Status::Later { file } => named_line(alloc, words, *file, "later"),
+            _ => Ok(String::new(alloc)),
+        }
+    }
+}
+
+impl From<SystemFault> for Status {
+    ghost from_gives = { λ fault status. status ≡ system_refusal fault };
+
+    fn from(fault: SystemFault) -> Status {
+        match fault {
+            SystemFault::Memory => Status::Memory,
+            SystemFault::NotToml => Status::Refused {
+                file: 1,
+                code: code::NOT_TOML,
+                place: Place::Nowhere,
+            },
+            SystemFault::At { code, path } => Status::Refused {
+                file: 1,
+                code,
+                place: Place::Path(path),
+            },
+        }
+    }
+}
+
+impl From<StimFault> for Status {
+    ghost from_gives = { λ fault status. status ≡ stimuli_refusal fault };
+
+    fn from(fault: StimFault) -> Status {
+        match fault {
+            StimFault::Memory => Status::Memory,
+            StimFault::Line { number, code } => Status::Refused {
+                file: 2,
+                code,
+                place: Place::Line(number),
+            },
         }
     }
 }
@@ -144,13 +199,23 @@ fn too_long(len: u64) -> Line
     what
 }
 
-fn named_line(alloc: Global, words: &[&str], file: u8, what: &str) -> Result<Vec<u8>, AllocError>
-    ensures { IfOk result (λ line. line.items ≡ named_line (map (λ word. word.now) words.now) file what.now) }
+/// The code of a fault and its place.
+fn fault_at(alloc: Global, code: u8, place: &Place) -> Result<String, AllocError>
+    ensures { IfOk result (λ what. string_bytes what ≡ decimal code ++ codes " " ++ place_text place.now) }
 {
-    let mut line = Vec::from_slice(alloc, b"qp: ")?;
-    line.extend_from_slice(word_at(words, file).as_bytes())?;
-    line.extend_from_slice(b": ")?;
-    line.extend_from_slice(what.as_bytes())?;
-    line.extend_from_slice(b"\n")?;
-    Ok(line)
+    format!(in alloc; "{code} {place}")
+}
+
+/// The word at a place, counted from 0; no text where there is none.
+fn word_at<'w>(words: &[&'w str], place: u8) -> &'w str
+    ensures { result.now ≡ unwrap_or (slice_get (map (λ word. word.now) words.now) place) [] }
+{
+    words.get(usize::from(place)).copied().unwrap_or("")
+}
+
+fn named_line(alloc: Global, words: &[&str], file: u8, what: &str) -> Result<String, AllocError>
+    ensures { IfOk result (λ line. string_bytes line ≡ named_line (map (λ word. word.now) words.now) file what.now) }
+{
+    let word = word_at(words, file);
+    format!(in alloc; "qp: {word}: {what}\n")
 }

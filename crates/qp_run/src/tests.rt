@@ -3,8 +3,10 @@ use crate::{Status, qp_main};
 use arrayvec::ArrayString;
 use qp_base::{MemShelf, MemSink, NoGate};
 use std::alloc::{AllocError, Global};
+use std::process::Abort;
 use std::test::Fail;
 
+/// A lamp that one signal turns on.
 const LAMP: &str = "qp = 1
 [[signal]]
 name = \"GO\"
@@ -26,9 +28,60 @@ priority = 1
 queue = 1
 ";
 
-const POOL: &str = "[[pool]]
+/// Three objects, the lowest of which posts to the others. The thresholds of the lowest and of the next are left out.
+const PRIO: &str = "qp = 1
+[[pool]]
 size = 1
 blocks = 2
+[[signal]]
+name = \"GO\"
+static = true
+[[signal]]
+name = \"N\"
+params = 1
+[[signal]]
+name = \"X\"
+static = true
+[[signal]]
+name = \"TA\"
+static = true
+[[signal]]
+name = \"TB\"
+static = true
+[[chart]]
+name = \"c\"
+init = \"s\"
+[[chart.state]]
+name = \"s\"
+[[chart.state.row]]
+on = \"GO\"
+do = [\"post top X\", \"locked 3 [post three X; post top X; say 1]\", \"say 2\"]
+[[chart]]
+name = \"q\"
+init = \"s\"
+[[chart.state]]
+name = \"s\"
+";
+
+const LOW: &str = "[[object]]
+name = \"low\"
+chart = \"c\"
+priority = 1
+queue = 1
+";
+
+const THREE: &str = "[[object]]
+name = \"three\"
+chart = \"q\"
+priority = 3
+queue = 1
+";
+
+const TOP: &str = "[[object]]
+name = \"top\"
+chart = \"q\"
+priority = 4
+queue = 1
 ";
 
 const ONE_POST: &str = "qp 1 0 100000
@@ -134,20 +187,48 @@ fn run(rt: &HostRuntime, system: &str, stimuli: &str) -> Result<Ended, Fail> {
     )
 }
 
+/// The lamp's file with other values of two keys, and with further lines at its end.
+fn lamp(alloc: Global, init: &str, queue: &str, more: &str) -> Result<String, AllocError> {
+    let text = format!(in alloc;
+        "qp = 1\n[[signal]]\nname = \"GO\"\nstatic = true\n[[chart]]\nname = \"lamp\"\ninit = \"{init}\"\n"
+    )?;
+    let states =
+        "[[chart.state]]\nname = \"off\"\n[[chart.state.row]]\non = \"GO\"\nto = \"on\"\n[[chart.state]]\nname = \"on\"\n";
+    format!(in alloc;
+        "{text}{states}[[object]]\nname = \"lamp\"\nchart = \"lamp\"\npriority = 1\nqueue = {queue}\n{more}"
+    )
+}
+
 #[test]
 fn prints_the_journal_of_the_run(rt: HostRuntime) -> Result<(), Fail> {
+    let defaults = lamp(rt.alloc(), "off", "1", "defer = 0\nthreshold = 1\n")?;
+    let spaced = "# one post\n\nsource 1\n\npost lamp GO";
     let cases = [
-        ("source 1\npost lamp GO\n", ONE_POST, "one post"),
-        ("", NO_STIMULI, "no stimuli"),
-        ("source 1\n", NO_POSTS, "a source without posts"),
+        (LAMP, "source 1\npost lamp GO\n", ONE_POST, "one post"),
+        (LAMP, spaced, ONE_POST, "one post among other lines"),
+        (LAMP, "", NO_STIMULI, "no stimuli"),
+        (LAMP, "source 1\n", NO_POSTS, "a source without posts"),
+        (
+            defaults.as_str(),
+            "source 1\npost lamp GO\n",
+            ONE_POST,
+            "defaults written out",
+        ),
     ];
-    for (stimuli, text, what) in cases {
-        let got = run(&rt, LAMP, stimuli)?;
-        assert_eq!(rt; got.status, Status::Done, "{what}");
+    for (system, stimuli, text, what) in cases {
+        let got = run(&rt, system, stimuli)?;
+        assert!(rt; got.status.is_done(), "{what}");
         assert_eq!(rt; got.out.bytes(), text.as_bytes(), "{what}");
         assert_eq!(rt; got.notes.bytes(), b"".as_slice(), "{what}");
     }
     Ok(())
+}
+
+/// Asks for a status and a note, and for nothing on the output.
+fn expect_note(rt: &impl Abort, got: &Ended, number: u8, note: &str, what: &str) {
+    assert_eq!(rt; got.status.number(), number, "{what}");
+    assert_eq!(rt; got.notes.bytes(), note.as_bytes(), "{what}");
+    assert_eq!(rt; got.out.bytes(), b"".as_slice(), "{what}");
 }
 
 #[test]
@@ -157,7 +238,7 @@ fn runs_a_thousand_posts(rt: HostRuntime) -> Result<(), Fail> {
         stimuli.push_str("post lamp GO\n")?;
     }
     let got = run(&rt, LAMP, stimuli.as_str())?;
-    assert_eq!(rt; got.status, Status::Done);
+    assert!(rt; got.status.is_done());
     // a step takes three records and its notes: four the first time, later two, in a state without a row
     let lines = got.out.bytes().iter().filter(|b| **b == b'\n').count();
     assert_eq!(rt; lines, 4 + 3 + (1000 * 3 + 4 + 999 * 2) + 2 + 2000);
@@ -169,22 +250,79 @@ fn runs_a_thousand_posts(rt: HostRuntime) -> Result<(), Fail> {
 
     stimuli.push_str("post lamp GO\n")?;
     let got = run(&rt, LAMP, stimuli.as_str())?;
-    assert_eq!(rt; got.status, Status::Later { file: 2 });
+    expect_note(&rt, &got, 9, "qp: go.txt: later\n", "one more");
     Ok(())
 }
 
 #[test]
-fn takes_no_more_than_thin_files(rt: HostRuntime) -> Result<(), Fail> {
-    let mut pool = String::from_str(rt.alloc(), LAMP)?;
-    pool.push_str(POOL)?;
-    let got = run(&rt, pool.as_str(), "")?;
-    assert_eq!(rt; got.status.number(), 9);
-    assert_eq!(rt; got.notes.bytes(), b"qp: lamp.toml: later\n".as_slice());
-    assert_eq!(rt; got.out.bytes(), b"".as_slice());
+fn puts_off_what_it_does_not_run_yet(rt: HostRuntime) -> Result<(), Fail> {
+    let alloc = rt.alloc();
+    let pool = lamp(alloc, "off", "1", "[[pool]]\nsize = 1\nblocks = 2\n")?;
+    let deferring = lamp(alloc, "off", "1", "defer = 1\n")?;
+    let prio = format!(in alloc; "{PRIO}{LOW}{THREE}{TOP}")?;
+    let first = "qp: lamp.toml: later\n";
+    let second = "qp: go.txt: later\n";
+    let cases = [
+        (pool.as_str(), "", first, "a pool"),
+        (deferring.as_str(), "", first, "a deferred list"),
+        (
+            prio.as_str(),
+            "nonsense",
+            first,
+            "several objects, before the second file's fault",
+        ),
+        (LAMP, "source 1\ntick 0\n", second, "a tick"),
+        (LAMP, "source 1\nsettle\n", second, "a settle"),
+        (LAMP, "source 1\npublish GO\n", second, "a publication"),
+        (
+            LAMP,
+            "source 1\npost lamp GO margin 0\n",
+            second,
+            "a margin",
+        ),
+        (LAMP, "source 1\nsource 2\n", second, "two sources"),
+    ];
+    for (system, stimuli, note, what) in cases {
+        expect_note(&rt, &run(&rt, system, stimuli)?, 9, note, what);
+    }
+    Ok(())
+}
 
-    let got = run(&rt, LAMP, "source 1\ntick 0\n")?;
-    assert_eq!(rt; got.status, Status::Later { file: 2 });
-    assert_eq!(rt; got.notes.bytes(), b"qp: go.txt: later\n".as_slice());
+#[test]
+fn refuses_faulty_systems(rt: HostRuntime) -> Result<(), Fail> {
+    let alloc = rt.alloc();
+    let queue = lamp(alloc, "off", "256", "")?;
+    let init = lamp(alloc, "dim", "1", "")?;
+    let three = format!(in alloc; "{PRIO}{LOW}{THREE}threshold = 2\n{TOP}")?;
+    let low = format!(in alloc; "{PRIO}{LOW}threshold = 33\n{THREE}{TOP}")?;
+    let cases = [
+        ("", "qp: lamp.toml: 3 qp\n"),
+        ("qp = 1.0", "qp: lamp.toml: 2 qp\n"),
+        ("qp =", "qp: lamp.toml: 1 -\n"),
+        ("colour = 1", "qp: lamp.toml: 4 \n"),
+        (queue.as_str(), "qp: lamp.toml: 5 object.1.queue\n"),
+        (init.as_str(), "qp: lamp.toml: 7 chart.1.init\n"),
+        (three.as_str(), "qp: lamp.toml: 5 object.2.threshold\n"),
+        (low.as_str(), "qp: lamp.toml: 5 object.1.threshold\n"),
+    ];
+    for (system, note) in cases {
+        expect_note(&rt, &run(&rt, system, "nonsense")?, 2, note, note);
+    }
+    Ok(())
+}
+
+#[test]
+fn refuses_faulty_stimuli(rt: HostRuntime) -> Result<(), Fail> {
+    let cases = [
+        ("post lamp GO\n", "qp: go.txt: 4 1\n"),
+        ("source 1\npost lamp DIM\n", "qp: go.txt: 2 2\n"),
+        ("source 1\ntick 4\n", "qp: go.txt: 3 2\n"),
+        ("source 1\npost lamp GO(1)\n", "qp: go.txt: 5 2\n"),
+        ("source 1\ntick 0\nnonsense\n", "qp: go.txt: 1 3\n"),
+    ];
+    for (stimuli, note) in cases {
+        expect_note(&rt, &run(&rt, LAMP, stimuli)?, 2, note, note);
+    }
     Ok(())
 }
 
@@ -192,7 +330,7 @@ fn takes_no_more_than_thin_files(rt: HostRuntime) -> Result<(), Fail> {
 fn refuses_other_words(rt: HostRuntime) -> Result<(), Fail> {
     let alloc = rt.alloc();
     let cases: [&[&str]; 4] = [
-        &["run", "lamp.toml"],
+        &["run", "a"],
         &["walk", "lamp.toml", "go.txt"],
         &["run", "lamp.toml", "-go.txt"],
         &[],
@@ -200,8 +338,7 @@ fn refuses_other_words(rt: HostRuntime) -> Result<(), Fail> {
     for words in cases {
         let files = files(alloc, LAMP.as_bytes(), b"")?;
         let got = call(&rt, words, files, Vec::new(alloc), None)?;
-        assert_eq!(rt; got.status, Status::Words);
-        assert_eq!(rt; got.notes.bytes(), b"qp: bad words\n".as_slice());
+        expect_note(&rt, &got, 1, "qp: bad words\n", "other words");
     }
     Ok(())
 }
@@ -219,7 +356,7 @@ fn says_what_failed(rt: HostRuntime) -> Result<(), Fail> {
         Vec::new(alloc),
         Some(1),
     )?;
-    assert_eq!(rt; put.status, Status::WriteFault);
+    assert_eq!(rt; put.status.number(), 7);
     assert_eq!(rt; put.out.bytes(), b"qp 1 0 100000\n".as_slice());
     assert_eq!(rt; put.notes.bytes(), b"qp: write fault\n".as_slice());
 
@@ -232,9 +369,7 @@ fn says_what_failed(rt: HostRuntime) -> Result<(), Fail> {
         failing,
         None,
     )?;
-    assert_eq!(rt; read.status, Status::ReadFault);
-    assert_eq!(rt; read.out.bytes(), b"".as_slice());
-    assert_eq!(rt; read.notes.bytes(), b"qp: read fault\n".as_slice());
+    expect_note(&rt, &read, 6, "qp: read fault\n", "a load that fails");
 
     let absent = call(
         &rt,
@@ -243,16 +378,12 @@ fn says_what_failed(rt: HostRuntime) -> Result<(), Fail> {
         Vec::new(alloc),
         None,
     )?;
-    assert_eq!(rt; absent.status, Status::Absent { file: 1 });
-    assert_eq!(rt; absent.notes.bytes(), b"qp: lump.toml: absent\n".as_slice());
+    expect_note(&rt, &absent, 2, "qp: lump.toml: absent\n", "no such file");
 
     let mut long = Vec::new(alloc);
     long.push((name("lamp.toml"), vec![in alloc; b'#'; TOO_LONG]?))?;
     let long = call(&rt, &words, long, Vec::new(alloc), None)?;
-    assert_eq!(rt; long.status.number(), 2);
-    assert_eq!(rt;
-        long.notes.bytes(),
-        b"qp: lamp.toml: too long 67108865\n".as_slice()
-    );
+    let note = "qp: lamp.toml: too long 67108865\n";
+    expect_note(&rt, &long, 2, note, "a file that is too long");
     Ok(())
 }

@@ -1,190 +1,127 @@
-//! A thin system: one flat object, one chart without actions, static signals.
-ghost use Rattle.std.specs.Prelude.{◌≡◌, ◌==◌, ◌-◌, [], ◌∷◌, ◌++◌, length, slice_get, unwrap_or, OnOk};
-ghost use Rattle.std.specs.List.{list_any};
+//! Which systems and stimuli the program takes.
+ghost use Rattle.std.specs.Prelude.{◌≡◌};
+ghost use Rattle.std.specs.List.{list_all};
+ghost use Rattle.qp_run.specs.Thin.{is_thin_row, is_thin_state, is_thin_chart, is_thin_object, is_only, is_thin, is_plain_post, are_thin, signal_of};
 
-use crate::names::{Label, Labels};
-use std::alloc::{AllocError, Global};
-use std::marker::Model;
+use qp_chart::{Chart, Row, State};
+use qp_model::{ObjectDef, SignalDef, Stim, Stimuli, System};
 
-/// A row of a state: its signal, numbered from 4, and its target, numbered from 1.
-#[derive(Clone, Copy)]
-pub struct ThinRow {
-    pub on: u16,
-    pub to: u8,
-}
+/// How many rows a state may have.
+pub const MOST_ROWS: usize = 32;
 
-/// The row of a state for a signal, with its place counted from 1.
-#[derive(Clone, Copy)]
-pub struct Found {
-    pub place: u8,
-    pub row: ThinRow,
-}
+/// How many posts a source may have.
+pub const MOST_POSTS: usize = 1000;
 
-/// The rows of a state, in the file's order. Contracts see the list.
-#[derive(Drop)]
-pub struct ThinRows {
-    pub items: Vec<ThinRow>,
-}
-
-impl Model for ThinRows {
-    ghost use Rattle.std.specs.Prelude.{List};
-    ghost use Rattle.qp_run.specs.declared.thin.ThinRow.{ThinRow};
-
-    ghost Value = { List ThinRow };
-
-    ghost view = { λ r. r.items.items };
-}
-
-impl ThinRows {
-    ghost use Rattle.qp_run.specs.ThinSystem.{have_distinct_signals};
-
-    pub fn new(alloc: Global) -> ThinRows
-        ensures { result ≡ [] }
-    {
-        ThinRows {
-            items: Vec::new(alloc),
-        }
-    }
-
-    pub fn push(&mut self, row: ThinRow) -> Result<(), AllocError>
-        ensures { OnOk result (self.new ≡ self.old ++ row ∷ []) }
-    {
-        self.items.push(row)?;
-        Ok(())
-    }
-
-    pub fn len(&self) -> usize
-        ensures { result ≡ length self.now }
-    {
-        self.items.len()
-    }
-
-    /// Whether no two rows are for one signal.
-    #[tactic(auto, unfolding(crate::specs::ThinSystem::have_distinct_signals))]
-    pub fn have_distinct_signals(&self) -> bool
-        ensures { result ≡ have_distinct_signals self.now }
-    {
-        for (i, row) in self.items.iter().enumerate() {
-            if has_row_on(&self.items[i + 1..], row.on) {
-                return false;
-            }
-        }
-        true
-    }
-}
-
-fn has_row_on(rows: &[ThinRow], on: u16) -> bool
-    ensures { result ≡ list_any (λ row. row.on == on) rows.now }
+fn is_thin_row(row: &Row) -> bool
+    ensures { result ≡ is_thin_row row.now }
 {
-    rows.iter().any(|row| row.on == on)
+    row.when().is_none() && row.acts().is_empty() && row.to().is_some()
 }
 
-/// The rows of each state, in the file's order. Contracts see the list.
-#[derive(Drop)]
-pub struct ThinStates {
-    pub items: Vec<ThinRows>,
+fn are_thin_rows(rows: &[Row]) -> bool
+    ensures { result ≡ list_all is_thin_row rows.now }
+{
+    rows.iter().all(|row| is_thin_row(row))
 }
 
-impl Model for ThinStates {
-    ghost use Rattle.std.specs.Prelude.{List};
-    ghost use Rattle.qp_run.specs.declared.thin.ThinRow.{ThinRow};
-
-    ghost Value = { List (List ThinRow) };
-
-    ghost view = { λ s. s.items.items };
+#[tactic(auto, unfolding(crate::specs::Thin::is_thin_state))]
+fn is_thin_state(state: &State) -> bool
+    ensures { result ≡ is_thin_state state.now }
+{
+    state.parent().is_none()
+        && state.entry().is_empty()
+        && state.exit().is_empty()
+        && state.init().is_none()
+        && state.row().len() <= MOST_ROWS
+        && are_thin_rows(state.row())
 }
 
-impl ThinStates {
-    pub fn new(alloc: Global) -> ThinStates
-        ensures { result ≡ [] }
-    {
-        ThinStates {
-            items: Vec::new(alloc),
+fn are_thin_states(states: &[State]) -> bool
+    ensures { result ≡ list_all is_thin_state states.now }
+{
+    states.iter().all(|state| is_thin_state(state))
+}
+
+#[tactic(auto, unfolding(crate::specs::Thin::is_thin_chart))]
+fn is_thin_chart(chart: &Chart) -> bool
+    ensures { result ≡ is_thin_chart chart.now }
+{
+    chart.init_do().is_empty() && chart.vars().is_empty() && are_thin_states(chart.state())
+}
+
+fn has_thin_chart(charts: &[Chart]) -> bool
+    ensures { result ≡ is_only is_thin_chart charts.now }
+{
+    match charts {
+        [chart] => is_thin_chart(chart),
+        _ => false,
+    }
+}
+
+fn has_thin_object(objects: &[ObjectDef]) -> bool
+    ensures { result ≡ is_only is_thin_object objects.now }
+{
+    match objects {
+        [object] => object.threshold == object.priority && object.defer == 0,
+        _ => false,
+    }
+}
+
+fn are_static(signals: &[SignalDef]) -> bool
+    ensures { result ≡ list_all (λ s. s.fixed) signals.now }
+{
+    signals.iter().all(|signal| signal.fixed)
+}
+
+/// Whether the program runs a system: one flat object, static signals, and neither pools nor time events.
+#[tactic(auto, unfolding(crate::specs::Thin::is_thin))]
+pub fn is_thin(system: &System) -> bool
+    ensures { result ≡ is_thin system.now }
+{
+    system.pools.items.is_empty()
+        && system.timers.items.is_empty()
+        && are_static(&system.signals.items)
+        && has_thin_chart(&system.charts.items)
+        && has_thin_object(&system.objects.items)
+}
+
+fn is_plain_post(stim: &Stim) -> bool
+    ensures { result ≡ is_plain_post stim.now }
+{
+    matches!(
+        stim,
+        Stim::Post {
+            margin: None,
+            reserve: None,
+            ..
         }
-    }
-
-    /// The rows of a state, by its number; none where there is no such state.
-    pub fn rows_of(&self, state: u8) -> &[ThinRow]
-        ensures { result.now ≡ unwrap_or (slice_get self.now (state - 1)) [] }
-    {
-        match self.items.get(usize::from(state.saturating_sub(1))) {
-            Some(rows) => rows.items.as_slice(),
-            None => &[],
-        }
-    }
-
-    pub fn push(&mut self, rows: ThinRows) -> Result<(), AllocError>
-        ensures { OnOk result (self.new ≡ self.old ++ rows ∷ []) }
-    {
-        self.items.push(rows)?;
-        Ok(())
-    }
+    )
 }
 
-/// The one chart of a thin system.
-#[derive(Drop)]
-pub struct ThinChart {
-    pub name: Label,
-    pub names: Labels,
-    pub init: u8,
-    pub states: ThinStates,
+fn are_plain_posts(source: &[Stim]) -> bool
+    ensures { result ≡ list_all is_plain_post source.now }
+{
+    source.iter().all(|stim| is_plain_post(stim))
 }
 
-/// The one object of a thin system. `ring` is the key `queue`.
-#[derive(Drop)]
-pub struct ThinObject {
-    pub name: Label,
-    pub priority: u8,
-    pub ring: u8,
-}
-
-/// A thin system, with its names resolved.
-#[derive(Drop)]
-pub struct ThinSystem {
-    pub signals: Labels,
-    pub chart: ThinChart,
-    pub object: ThinObject,
-}
-
-/// The signals that a source posts, in order. Contracts see the list.
-#[derive(Drop)]
-pub struct Posts {
-    pub items: Vec<u16>,
-}
-
-impl Model for Posts {
-    ghost use Rattle.std.specs.Prelude.{List, ℕ};
-
-    ghost Value = { List ℕ };
-
-    ghost view = { λ p. p.items.items };
-}
-
-impl Posts {
-    pub fn new(alloc: Global) -> Posts
-        ensures { result ≡ [] }
-    {
-        Posts {
-            items: Vec::new(alloc),
-        }
-    }
-
-    pub fn as_slice(&self) -> &[u16]
-        ensures { result.now ≡ self.now }
-    {
-        self.items.as_slice()
-    }
-
-    pub fn push(&mut self, signal: u16) -> Result<(), AllocError>
-        ensures { OnOk result (self.new ≡ self.old ++ signal ∷ []) }
-    {
-        self.items.push(signal)?;
-        Ok(())
+/// Whether the program runs stimuli: no source, or one of posts alone.
+#[tactic(auto, unfolding(crate::specs::Thin::are_thin))]
+pub fn are_thin(stimuli: &Stimuli) -> bool
+    ensures { result ≡ are_thin stimuli.now }
+{
+    match stimuli.sources.as_slice() {
+        [] => true,
+        [source] => source.items.len() <= MOST_POSTS && are_plain_posts(&source.items),
+        _ => false,
     }
 }
 
-/// Thin stimuli: one source or none.
-#[derive(Drop)]
-pub struct ThinStimuli {
-    pub source: Option<Posts>,
+/// The signal of a post.
+pub fn signal_of(stim: &Stim) -> u16
+    ensures { result ≡ signal_of stim.now }
+{
+    match stim {
+        Stim::Post { ev, .. } => ev.sig,
+        _ => 0,
+    }
 }

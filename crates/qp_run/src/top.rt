@@ -1,36 +1,41 @@
 //! The top call.
-ghost use Rattle.std.specs.Prelude.{◌≡◌, ◌≢◌, ◌≤◌, ◌⊎◌, List, ℕ, Ok, Some, None, true, length, map, IfOk, IfErr, IfSome};
-ghost use Rattle.qp_base.specs.declared.shelves.TheConstants.{FILE_LIMIT};
-ghost use Rattle.qp_run.specs.Commands.{files_of};
-ghost use Rattle.qp_run.specs.Headline.{PrintsLawful, IsComplete};
-ghost use Rattle.qp_run.specs.Verdict.{Agrees, AnswersWords, HasCause, IsInput, Noted, Prints, Stands, is_refusal, quiet, reads_of, verdict, with_content, with_meaning};
-ghost use Rattle.qp_run.specs.declared.status.Status.{Status};
-ghost use Rattle.qp_run.specs.ThinRun.{have_few_rows};
+ghost use Rattle.std.specs.Prelude.{◌≡◌, ◌≢◌, ◌≤◌, ◌⊎◌, true, map, IfOk, IfErr, IfSome};
 ghost use Rattle.qp_base.specs.Counts.{Rose};
 ghost use Rattle.qp_base.specs.Sink.{AppendsPrefix, appended};
+ghost use Rattle.qp_stim.specs.Rules.{StimuliFit};
+ghost use Rattle.qp_stim.specs.Stimuli.{stimuli_of};
+ghost use Rattle.qp_system.specs.Sound.{IsSound};
+ghost use Rattle.qp_system.specs.SystemOf.{IsSystemOf};
+ghost use Rattle.qp_run.specs.Commands.{files_of};
+ghost use Rattle.qp_run.specs.Thin.{is_thin, are_thin};
+ghost use Rattle.qp_run.specs.Verdict.{Agrees, AnswersWords, EndsAtLoad, EndsAtSystem, HasCause, IsComplete, IsInput, IsLoaded, Noted, Prints, Stands, is_failure, is_refusal, quiet, reads_of, stimuli_answer};
+ghost use Rattle.qp_run.specs.declared.status.Status.{Status};
 
 use crate::command::files_of;
-use crate::printing::write_journal;
-use crate::reader::read_system;
 use crate::runs::run;
 use crate::status::Status;
-use crate::stimuli::read_stimuli;
-use crate::thin::{ThinStimuli, ThinSystem};
+use crate::thin::{are_thin, is_thin};
 use qp_base::{Gate, Shelf, ShelfFault, Sink};
-use std::alloc::{AllocError, Global};
+use qp_model::{Stimuli, System};
+use qp_stim::stimuli_of_bytes;
+use qp_system::system_of_bytes;
+use qp_text::write_journal;
+use std::alloc::Global;
+
+/// The form in which a journal is written.
+const FORM: u8 = 1;
 
 /// What the two files of a run say.
 #[derive(Drop)]
 struct Input {
-    system: ThinSystem,
-    stimuli: ThinStimuli,
+    system: System,
+    stimuli: Stimuli,
 }
 
 /// Loads a file. `file` is its operand's place, counted from 1.
 fn load<F: Shelf>(alloc: Global, files: &mut F, file: u8, name: &str) -> Result<Vec<u8>, Status>
-    ensures held { IfOk result (λ bytes. IfSome (F.holds files.old) (λ held. held name.now ≡ Some bytes.items)) }
-    ensures short { IfOk result (λ bytes. length bytes.items ≤ FILE_LIMIT) }
-    ensures told { IfErr result (λ status. IfSome (F.holds files.old) (λ held. (next : List ℕ → Status) → Agrees (with_content file (held name.now) next) status)) }
+    ensures held { IfOk result (λ bytes. IfSome (F.holds files.old) (λ held. IsLoaded (held name.now) bytes.items)) }
+    ensures told { IfErr result (λ status. IfSome (F.holds files.old) (λ held. (is_failure status ≡ true) ⊎ EndsAtLoad file (held name.now) status)) }
     ensures cause { IfErr result (HasCause (reads_of (F.faults files.old) (F.faults files.new) (F.misses files.old) (F.misses files.new))) }
 
     ensures about { IfErr result (λ status. (is_refusal status ≡ true) × (status ≢ Status.Words)) }
@@ -48,26 +53,45 @@ fn load<F: Shelf>(alloc: Global, files: &mut F, file: u8, name: &str) -> Result<
     }
 }
 
-/// What a file says, where the program takes it.
-fn taken<T: Drop>(file: u8, read: Result<Option<T>, AllocError>) -> Result<T, Status>
-    ensures ok { IfOk result (λ x. read ≡ Ok (Some x)) }
-    ensures err { IfErr result (λ status. (status ≡ Status.Memory) ⊎ ((status ≡ Status.Later file) × (read ≡ Ok None))) }
+/// The system of a file, where the program runs it.
+fn system_in(alloc: Global, bytes: &[u8]) -> Result<System, Status>
+    ensures read { IfOk result (λ sys. IsSystemOf bytes.now sys) }
+    ensures sound { IfOk result (λ sys. IsSound sys) }
+    ensures thin { IfOk result (λ sys. is_thin sys ≡ true) }
+    ensures told { IfErr result (λ status. (status ≡ Status.Memory) ⊎ EndsAtSystem bytes.now status) }
 {
-    match read {
-        Ok(Some(x)) => Ok(x),
-        Ok(None) => Err(Status::Later { file }),
-        Err(_) => Err(Status::Memory),
+    let system = system_of_bytes(alloc, bytes)?;
+    if is_thin(&system) {
+        Ok(system)
+    } else {
+        Err(Status::Later { file: 1 })
+    }
+}
+
+/// The stimuli of a file, where the program runs them.
+fn stimuli_in(alloc: Global, system: &System, bytes: &[u8]) -> Result<Stimuli, Status>
+    requires { IsSound system.now }
+    ensures read { IfOk result (λ sources. stimuli_of system.now bytes.now ≡ Ok sources) }
+    ensures fit { IfOk result (StimuliFit system.now) }
+    ensures thin { IfOk result (λ sources. are_thin sources ≡ true) }
+    ensures told { IfErr result (λ status. (status ≡ Status.Memory) ⊎ (status ≡ stimuli_answer (stimuli_of system.now bytes.now))) }
+    ensures about { IfErr result (λ status. is_refusal status ≡ true) }
+{
+    let stimuli = stimuli_of_bytes(alloc, system, bytes)?;
+    if are_thin(&stimuli) {
+        Ok(stimuli)
+    } else {
+        Err(Status::Later { file: 2 })
     }
 }
 
 /// Reads the two files of a run.
 fn prepare<F: Shelf>(alloc: Global, words: &[&str], files: &mut F) -> Result<Input, Status>
     ensures input { IfOk result (λ input. IsInput (F.holds files.old) (map (λ word. word.now) words.now) input.system input.stimuli) }
-    ensures ready { IfOk result (λ input. IfSome (F.holds files.old) (λ held. verdict held (map (λ word. word.now) words.now) ≡ Status.Done)) }
-    ensures rows { IfOk result (λ input. have_few_rows input.system.chart.states ≡ true) }
-    ensures posts { IfOk result (λ input. IfSome input.stimuli.source (λ posts. length posts ≤ 1000)) }
+    ensures sound { IfOk result (λ input. IsSound input.system) }
+    ensures fit { IfOk result (λ input. StimuliFit input.system input.stimuli) }
 
-    ensures told { IfErr result (λ status. IfSome (F.holds files.old) (λ held. Agrees (verdict held (map (λ word. word.now) words.now)) status)) }
+    ensures told { IfErr result (λ status. IfSome (F.holds files.old) (λ held. Agrees held (map (λ word. word.now) words.now) status)) }
     ensures words_told { IfErr result (AnswersWords (files_of (map (λ word. word.now) words.now))) }
     ensures cause { IfErr result (HasCause (reads_of (F.faults files.old) (F.faults files.new) (F.misses files.old) (F.misses files.new))) }
     ensures about { IfErr result (λ status. is_refusal status ≡ true) }
@@ -77,15 +101,15 @@ fn prepare<F: Shelf>(alloc: Global, words: &[&str], files: &mut F) -> Result<Inp
         return Err(Status::Words);
     };
     let bytes = load(alloc, files, 1, named.system)?;
-    let system = taken(1, read_system(alloc, bytes.as_slice()))?;
+    let system = system_in(alloc, bytes.as_slice())?;
     let bytes = load(alloc, files, 2, named.stimuli)?;
-    let stimuli = taken(2, read_stimuli(alloc, &system, bytes.as_slice()))?;
+    let stimuli = stimuli_in(alloc, &system, bytes.as_slice())?;
     Ok(Input { system, stimuli })
 }
 
 /// Runs the two files and writes the output. No line is put yet.
 fn answer<F: Shelf, O: Sink>(alloc: Global, words: &[&str], files: &mut F, out: &mut O) -> Status
-    ensures told { IfSome (F.holds files.old) (λ held. Agrees (verdict held (map (λ word. word.now) words.now)) result) }
+    ensures told { IfSome (F.holds files.old) (λ held. Agrees held (map (λ word. word.now) words.now) result) }
     ensures words_told { AnswersWords (files_of (map (λ word. word.now) words.now)) result }
     ensures cause { HasCause (record { reads = record { before = F.faults files.old; after = F.faults files.new }; misses = record { before = F.misses files.old; after = F.misses files.new }; out = record { before = O.faults out.old; after = O.faults out.new }; notes = quiet }) result }
     ensures out { Prints (F.holds files.old) (map (λ word. word.now) words.now) (O.written out.old) (O.written out.new) result }
@@ -98,7 +122,7 @@ fn answer<F: Shelf, O: Sink>(alloc: Global, words: &[&str], files: &mut F, out: 
     let Ok(journal) = run(alloc, &input.system, &input.stimuli) else {
         return Status::Memory;
     };
-    match write_journal(&journal, out) {
+    match write_journal(&journal, FORM, out) {
         Ok(()) => Status::Done,
         Err(_) => Status::WriteFault,
     }
@@ -120,14 +144,15 @@ fn report<E: Sink>(alloc: Global, words: &[&str], status: Status, notes: &mut E)
     ensures notes { Noted (map (λ word. word.now) words.now) (record { before = E.faults notes.old; after = E.faults notes.new }) (E.written notes.old) (E.written notes.new) result }
     ensures answer { Stands (record { before = E.faults notes.old; after = E.faults notes.new }) status result }
 {
-    if status == Status::Done {
+    if status.is_done() {
         return status;
     }
     if !status.names_file() {
-        return put_line(status, status.plain_line().as_str().as_bytes(), notes);
+        let line = status.plain_line();
+        return put_line(status, line.as_str().as_bytes(), notes);
     }
     match status.file_line(alloc, words) {
-        Ok(line) => put_line(status, line.as_slice(), notes),
+        Ok(line) => put_line(status, line.as_str().as_bytes(), notes),
         Err(_) => {
             let line = Status::Memory.plain_line();
             put_line(Status::Memory, line.as_str().as_bytes(), notes)
@@ -147,13 +172,13 @@ pub fn qp_main<R, F: Shelf, O: Sink, E: Sink, G: Gate>(
     notes: &mut E,
     _gate: &G,
 ) -> Status
-    ensures told { IfSome (F.holds files.old) (λ held. Agrees (verdict held (map (λ word. word.now) words.now)) result) }
+    ensures told { IfSome (F.holds files.old) (λ held. Agrees held (map (λ word. word.now) words.now) result) }
     ensures words_told { AnswersWords (files_of (map (λ word. word.now) words.now)) result }
     ensures cause { HasCause (record { reads = record { before = F.faults files.old; after = F.faults files.new }; misses = record { before = F.misses files.old; after = F.misses files.new }; out = record { before = O.faults out.old; after = O.faults out.new }; notes = record { before = E.faults notes.old; after = E.faults notes.new } }) result }
 
+    // The headline: what `Done` printed is the text of a lawful journal of the two files, and two files that the program runs are
+    // run to the end.
     ensures out { Prints (F.holds files.old) (map (λ word. word.now) words.now) (O.written out.old) (O.written out.new) result }
-    // The headline: what `Done` printed is the text of a lawful journal of the two files, and two thin files are run to the end.
-    ensures lawful { PrintsLawful (F.holds files.old) (map (λ word. word.now) words.now) (O.written out.old) (O.written out.new) result }
     ensures complete { IsComplete (F.holds files.old) (map (λ word. word.now) words.now) (record { reads = record { before = F.faults files.old; after = F.faults files.new }; misses = record { before = F.misses files.old; after = F.misses files.new }; out = record { before = O.faults out.old; after = O.faults out.new }; notes = record { before = E.faults notes.old; after = E.faults notes.new } }) result }
 
     ensures notes { Noted (map (λ word. word.now) words.now) (record { before = E.faults notes.old; after = E.faults notes.new }) (E.written notes.old) (E.written notes.new) result }

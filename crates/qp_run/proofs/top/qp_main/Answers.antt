@@ -1,6 +1,5 @@
-use Rattle.std.proofs.Common.{List, ℕ, map, rules}
-use Rattle.qp_run.proofs.VerdictLemmas.{agrees-stands, answers-stands, cause-stands, prints-stands}
-use Rattle.qp_run.proofs.HeadlineLemmas.{lawful-prints, complete}
+use Rattle.std.proofs.Common.{List, ℕ, map}
+use Rattle.qp_run.proofs.VerdictLemmas.{agrees-stands, answers-stands, cause-stands, prints-stands, complete}
 use Rattle.qp_run.proofs.top.qp_main.Goals as goal
 
 pub returns-clause-told : goal.returns-clause-told
@@ -19,12 +18,8 @@ returns-clause-out g c =
     let words : List (List ℕ) = map (λ word. word.now) c.args.words.now in
     prints-stands _ words _ _ _ _ _ c.answer-status.ensures.out c.report.ensures.answer
 
-pub returns-clause-lawful : goal.returns-clause-lawful
-returns-clause-lawful g c =
-    let words : List (List ℕ) = map (λ word. word.now) c.args.words.now in
-    lawful-prints _ words _ _ _ (prints-stands _ words _ _ _ _ _ c.answer-status.ensures.out c.report.ensures.answer)
-
 pub returns-clause-complete : goal.returns-clause-complete
 returns-clause-complete g c =
     let words : List (List ℕ) = map (λ word. word.now) c.args.words.now in
-    complete _ words _ _ (agrees-stands _ words _ _ _ c.answer-status.ensures.told c.report.ensures.answer) (cause-stands _ _ _ c.answer-status.ensures.cause c.report.ensures.answer)
+    complete _ words _ _ (agrees-stands _ words _ _ _ c.answer-status.ensures.told c.report.ensures.answer)
+    (cause-stands _ _ _ c.answer-status.ensures.cause c.report.ensures.answer)

@@ -1,0 +1,81 @@
+-- No words and files have two answers.
+use Rattle.std.proofs.Common.{◌≡◌, ℕ, ◌≤◌, true, List, length, Option, Some, None, ◌⊎◌, sym, ap, subst, ◌∙◌, arith, inl, inr}
+use Rattle.std.proofs.lemmas.Bool.{false≢true}
+use Rattle.qp_base.specs.declared.shelves.TheConstants.{FILE_LIMIT}
+use Rattle.qp_model.specs.declared.systems.System.{System}
+use Rattle.qp_stim.specs.Stimuli.{stimuli_of}
+use Rattle.qp_system.specs.declared.fault.SystemFault.{SystemFault}
+use Rattle.qp_system.specs.declared.fault.SystemFault.TheVariants.{Memory as NoMemory}
+use Rattle.qp_system.specs.SystemOf.{IsSystemOf, RefusesSystem}
+use Rattle.qp_system.proofs.LawLemmas.{systems_have_no_fault, refusals_are_one}
+use Rattle.qp_run.specs.declared.status.Status.{Status}
+use Rattle.qp_run.specs.Commands.{Files, files_of}
+use Rattle.qp_run.specs.Thin.{is_thin}
+use Rattle.qp_run.specs.Verdict.{AnswersCall, AnswersFiles, AnswersStimuli, AnswersSystem, EndsAtLoad, EndsAtSystem, IsAnswer, IsLoaded, OneAnswer, stimuli_answer, system_refusal}
+use Rattle.qp_run.proofs.SameThin.{thin-same, stimuli-same}
+
+-- a file that was not loaded has one answer
+ends-one : (file : ℕ) (held : Option (List ℕ)) (a b : Status) → EndsAtLoad file held a → EndsAtLoad file held b → a ≡ b
+ends-one file None a b p q = p ∙ sym q
+ends-one file (Some bytes) a b p q = p.1 ∙ sym q.1
+
+-- and a file that was loaded has none
+loaded-goes_on : (file : ℕ) (held : Option (List ℕ)) (bytes : List ℕ) (a : Status) → IsLoaded held bytes → EndsAtLoad file held a → ⊥
+loaded-goes_on file None bytes a loaded ends = let wrong = loaded.0 in cc
+loaded-goes_on file (Some found) bytes a loaded ends =
+    let same : found ≡ bytes = let is = loaded.0 in cc in
+    let long = ends.0 in
+    let short : length found ≤ FILE_LIMIT = rw same loaded.1 in
+    omega (arith, long, short)
+
+loaded-one : (held : Option (List ℕ)) (x y : List ℕ) → IsLoaded held x → IsLoaded held y → x ≡ y
+loaded-one held x y p q = let first = p.0 in let second = q.0 in cc
+
+-- the answers of two systems of the same bytes
+module _ (bytes : List ℕ) where
+  fault-one : (f g : SystemFault) (a b : Status) → RefusesSystem bytes f → (f ≡ NoMemory → ⊥) → a ≡ system_refusal f
+      → RefusesSystem bytes g → (g ≡ NoMemory → ⊥) → b ≡ system_refusal g → a ≡ b
+  fault-one f g a b p other is q another are = by (refusals_are_one bytes f g p q)
+    where
+      by : (f ≡ NoMemory) ⊎ (g ≡ NoMemory) ⊎ (f ≡ g) → a ≡ b
+      by (inl memory) = absurd (other memory)
+      by (inr (inl memory)) = absurd (another memory)
+      by (inr (inr same)) = is ∙ ap system_refusal same ∙ sym are
+
+  system-goes_on : (sys : System) (a : Status) → IsSystemOf bytes sys → is_thin sys ≡ true → EndsAtSystem bytes a → ⊥
+  system-goes_on sys a read thin (inl (f, refuses, other, is)) = other (systems_have_no_fault bytes sys f read refuses)
+  system-goes_on sys a read thin (inr (found, is, not_thin, answer)) = false≢true (sym not_thin ∙ thin-same bytes found sys is read ∙ thin)
+
+  end-one : (a b : Status) → EndsAtSystem bytes a → EndsAtSystem bytes b → a ≡ b
+  end-one a b (inl (f, p, other, is)) (inl (g, q, another, are)) = fault-one f g a b p other is q another are
+  end-one a b (inl (f, p, other, is)) (inr (sys, read, thin, are)) = absurd (other (systems_have_no_fault bytes sys f read p))
+  end-one a b (inr (sys, read, thin, is)) (inl (g, q, another, are)) = absurd (another (systems_have_no_fault bytes sys g read q))
+  end-one a b (inr (sys, read, thin, is)) (inr (other, read', thin', are)) = is ∙ sym are
+
+  stimuli-one : (held : Option (List ℕ)) (s t : System) (a b : Status) → IsSystemOf bytes s → IsSystemOf bytes t → AnswersStimuli held s a → AnswersStimuli held t b → a ≡ b
+  stimuli-one held s t a b p q (inl is) (inl are) = ends-one 2 held a b is are
+  stimuli-one held s t a b p q (inl is) (inr (text, loaded, are)) = absurd (loaded-goes_on 2 held text a loaded is)
+  stimuli-one held s t a b p q (inr (text, loaded, is)) (inl are) = absurd (loaded-goes_on 2 held text b loaded are)
+  stimuli-one held s t a b p q (inr (text, loaded, is)) (inr (other, found, are)) =
+      is ∙ ap stimuli_answer (stimuli-same bytes s t text p q ∙ ap (stimuli_of t) (loaded-one held text other loaded found)) ∙ sym are
+
+  system-one : (held : Option (List ℕ)) (a b : Status) → AnswersSystem bytes held a → AnswersSystem bytes held b → a ≡ b
+  system-one held a b (inl is) (inl are) = end-one a b is are
+  system-one held a b (inl is) (inr (sys, read, thin, are)) = absurd (system-goes_on sys a read thin is)
+  system-one held a b (inr (sys, read, thin, is)) (inl are) = absurd (system-goes_on sys b read thin are)
+  system-one held a b (inr (s, p, thin, is)) (inr (t, q, thin', are)) = stimuli-one held s t a b p q is are
+
+files-one : (system stimuli : Option (List ℕ)) (a b : Status) → AnswersFiles system stimuli a → AnswersFiles system stimuli b → a ≡ b
+files-one system stimuli a b (inl is) (inl are) = ends-one 1 system a b is are
+files-one system stimuli a b (inl is) (inr (bytes, loaded, are)) = absurd (loaded-goes_on 1 system bytes a loaded is)
+files-one system stimuli a b (inr (bytes, loaded, is)) (inl are) = absurd (loaded-goes_on 1 system bytes b loaded are)
+files-one system stimuli a b (inr (bytes, loaded, is)) (inr (other, found, are)) =
+    system-one bytes stimuli a b is (subst (λ x. AnswersSystem x stimuli b) (loaded-one system other bytes found loaded) are)
+
+call-one : (held : List ℕ → Option (List ℕ)) (files : Option Files) (a b : Status) → AnswersCall held files a → AnswersCall held files b → a ≡ b
+call-one held None a b p q = p ∙ sym q
+call-one held (Some files) a b p q = files-one (held files.system) (held files.stimuli) a b p q
+
+pub one-answer : OneAnswer
+unfolding IsAnswer
+one-answer held words a b p q = call-one held (files_of words) a b p q

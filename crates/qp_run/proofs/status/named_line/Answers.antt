@@ -1,0 +1,10 @@
+use Rattle.std.proofs.Common.{◌≡◌, ◌++◌, List, ℕ, codes, ◌∙◌, append_assoc}
+use Rattle.qp_run.proofs.ListLemmas.{ok-map}
+use Rattle.qp_run.proofs.status.named_line.Goals as goal
+
+-- the parts of a line, grouped from the right and from the left
+parts : (word what : List ℕ) → codes "qp: " ++ (word ++ (codes ": " ++ (what ++ codes "\n"))) ≡ codes "qp: " ++ word ++ codes ": " ++ what ++ codes "\n"
+parts word what = simp append_assoc
+
+pub returns : goal.returns
+returns c = ok-map c.format.result c.format.ensures.ok (λ s h. h ∙ (parts c.word_at-word.result.now c.args.what.now ∙ rw c.word_at-word.ensures))
