@@ -1,4 +1,4 @@
--- No words and files have two answers.
+-- No call over files has two answers.
 use Rattle.std.proofs.Common.{◌≡◌, ℕ, ◌≤◌, true, List, length, Option, Some, None, ◌⊎◌, sym, ap, subst, ◌∙◌, arith, inl, inr}
 use Rattle.std.proofs.lemmas.Bool.{false≢true}
 use Rattle.qp_base.specs.declared.shelves.TheConstants.{FILE_LIMIT}
@@ -9,9 +9,13 @@ use Rattle.qp_system.specs.declared.fault.SystemFault.TheVariants.{Memory as NoM
 use Rattle.qp_system.specs.SystemOf.{IsSystemOf, RefusesSystem}
 use Rattle.qp_system.proofs.LawLemmas.{systems_have_no_fault, refusals_are_one}
 use Rattle.qp_run.specs.declared.status.Status.{Status}
-use Rattle.qp_run.specs.Commands.{Files, files_of}
+use Rattle.qp_run.specs.declared.words.values.Kind.{Kind}
+use Rattle.qp_run.specs.Conversions.{AnswersJournal, answer_on, said}
+use Rattle.qp_run.specs.Loads.{EndsAtLoad, IsLoaded}
 use Rattle.qp_run.specs.Thin.{is_thin}
-use Rattle.qp_run.specs.Verdict.{AnswersCall, AnswersFiles, AnswersStimuli, AnswersSystem, EndsAtLoad, EndsAtSystem, IsAnswer, IsLoaded, OneAnswer, stimuli_answer, system_refusal}
+use Rattle.qp_model.specs.declared.journals.Journal.{Journal}
+use Rattle.qp_run.specs.WordTable.{decode, migrate, run}
+use Rattle.qp_run.specs.Verdict.{AnswersFiles, AnswersStimuli, AnswersSystem, EndsAtSystem, IsAnswer, OneAnswer, stimuli_answer, system_refusal}
 use Rattle.qp_run.proofs.SameThin.{thin-same, stimuli-same}
 
 -- a file that was not loaded has one answer
@@ -20,7 +24,7 @@ ends-one file None a b p q = p ∙ sym q
 ends-one file (Some bytes) a b p q = p.1 ∙ sym q.1
 
 -- and a file that was loaded has none
-loaded-goes_on : (file : ℕ) (held : Option (List ℕ)) (bytes : List ℕ) (a : Status) → IsLoaded held bytes → EndsAtLoad file held a → ⊥
+pub loaded-goes_on : (file : ℕ) (held : Option (List ℕ)) (bytes : List ℕ) (a : Status) → IsLoaded held bytes → EndsAtLoad file held a → ⊥
 loaded-goes_on file None bytes a loaded ends = let wrong = loaded.0 in cc
 loaded-goes_on file (Some found) bytes a loaded ends =
     let same : found ≡ bytes = let is = loaded.0 in cc in
@@ -28,7 +32,7 @@ loaded-goes_on file (Some found) bytes a loaded ends =
     let short : length found ≤ FILE_LIMIT = rw same loaded.1 in
     omega (arith, long, short)
 
-loaded-one : (held : Option (List ℕ)) (x y : List ℕ) → IsLoaded held x → IsLoaded held y → x ≡ y
+pub loaded-one : (held : Option (List ℕ)) (x y : List ℕ) → IsLoaded held x → IsLoaded held y → x ≡ y
 loaded-one held x y p q = let first = p.0 in let second = q.0 in cc
 
 -- the answers of two systems of the same bytes
@@ -66,16 +70,24 @@ module _ (bytes : List ℕ) where
   system-one held a b (inr (s, p, thin, is)) (inr (t, q, thin', are)) = stimuli-one held s t a b p q is are
 
 files-one : (system stimuli : Option (List ℕ)) (a b : Status) → AnswersFiles system stimuli a → AnswersFiles system stimuli b → a ≡ b
+unfolding AnswersFiles
 files-one system stimuli a b (inl is) (inl are) = ends-one 1 system a b is are
 files-one system stimuli a b (inl is) (inr (bytes, loaded, are)) = absurd (loaded-goes_on 1 system bytes a loaded is)
 files-one system stimuli a b (inr (bytes, loaded, is)) (inl are) = absurd (loaded-goes_on 1 system bytes b loaded are)
 files-one system stimuli a b (inr (bytes, loaded, is)) (inr (other, found, are)) =
     system-one bytes stimuli a b is (subst (λ x. AnswersSystem x stimuli b) (loaded-one system other bytes found loaded) are)
 
-call-one : (held : List ℕ → Option (List ℕ)) (files : Option Files) (a b : Status) → AnswersCall held files a → AnswersCall held files b → a ≡ b
-call-one held None a b p q = p ∙ sym q
-call-one held (Some files) a b p q = files-one (held files.system) (held files.stimuli) a b p q
+-- a file has one journal, or none
+journal-one : (kind : Kind) (on : Journal → Status) (held : Option (List ℕ)) (a b : Status) → AnswersJournal kind on held a → AnswersJournal kind on held b → a ≡ b
+journal-one kind on held a b (inl is) (inl are) = ends-one 1 held a b is are
+journal-one kind on held a b (inl is) (inr (bytes, loaded, are)) = absurd (loaded-goes_on 1 held bytes a loaded is)
+journal-one kind on held a b (inr (bytes, loaded, is)) (inl are) = absurd (loaded-goes_on 1 held bytes b loaded are)
+journal-one kind on held a b (inr (bytes, loaded, is)) (inr (other, found, are)) =
+    is ∙ ap (λ x. answer_on on (said kind x)) (loaded-one held bytes other loaded found) ∙ sym are
 
 pub one-answer : OneAnswer
 unfolding IsAnswer
-one-answer held words a b p q = call-one held (files_of words) a b p q
+one-answer held None a b p q = p ∙ sym q
+one-answer held (Some (run w)) a b p q = files-one (held w.system) (held w.stimuli) a b p q
+one-answer held (Some (decode frames)) a b p q = journal-one _ _ (held frames) a b p q
+one-answer held (Some (migrate w)) a b p q = journal-one _ _ (held w.file) a b p q

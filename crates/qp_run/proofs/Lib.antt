@@ -16,3 +16,11 @@ mod ThinPlans
 mod ThinLemmas
 mod RangeLemmas
 mod QuietLemmas
+mod WordFound
+mod WordApps
+mod WordCommands
+mod WordNames
+mod WordCalls
+mod FormLemmas
+mod CompleteLemmas
+mod ConversionLemmas

@@ -1,6 +1,9 @@
 -- What a call is to answer, file by file.
-use Rattle.std.proofs.Common.{◌≡◌, ℕ, ◌<◌, true, false, List, length, Option, Some, None, IfSome, ◌⊎◌, refl, sym, ap, subst, ◌∙◌, arith, inl, inr}
+use Rattle.std.proofs.Common.{◌≡◌, ℕ, ◌≤◌, ◌<◌, Bool, true, false, List, [], length, Option, Some, None, IfSome, Result, Ok, Err, ◌⊎◌, refl, sym, ap, subst, ◌∙◌, arith, inl, inr}
 use Rattle.std.specs.Prelude.{IsSomeAnd}
+use Rattle.std.proofs.lemmas.Bool.{false≢true}
+use Rattle.qp_base.specs.Counts.{Rose}
+use Rattle.qp_base.specs.Sink.{AppendsPrefix, appended}
 use Rattle.qp_base.specs.declared.shelves.TheConstants.{FILE_LIMIT}
 use Rattle.qp_model.specs.declared.stimulus.Stim.{Stim}
 use Rattle.qp_model.specs.declared.systems.System.{System}
@@ -8,28 +11,24 @@ use Rattle.qp_stim.specs.Stimuli.{stimuli_of}
 use Rattle.qp_system.specs.SystemOf.{IsSystemOf}
 use Rattle.qp_run.specs.declared.status.Status.{Status}
 use Rattle.qp_run.specs.declared.status.Status.TheVariants.{Done, Words, Absent, TooLong, Refused, Later, Asserted, Spent, Memory, ReadFault, WriteFault}
-use Rattle.qp_base.specs.Counts.{Rose}
-use Rattle.qp_base.specs.Sink.{AppendsPrefix, appended}
-use Rattle.std.proofs.lemmas.Bool.{false≢true}
+use Rattle.qp_run.specs.Conversions.{AnswersJournal, Held, IsWritten, PrintsOne, decode_on, migrate_on}
+use Rattle.qp_run.specs.declared.words.values.Kind.TheVariants.{Frames}
+use Rattle.qp_run.specs.Loads.{EndsAtLoad, IsLoaded}
 use Rattle.qp_run.specs.Notes.{line_of, names_file, is_done}
-use Rattle.qp_run.specs.Commands.{Files, files_of}
 use Rattle.qp_run.specs.Thin.{is_thin}
-use Rattle.qp_run.specs.Verdict.{Agrees, AnswersCall, AnswersFiles, AnswersSystem, AnswersStimuli, AnswersWords, Count, Counts, EndsAtLoad, EndsAtSystem, HasCause, HasRisen, IsAnswer, IsComplete, IsInput, IsLoaded, Noted, Prints, Stands, is_failure, quiet, stimuli_answer}
-use Rattle.qp_run.proofs.AnswerLaw.{one-answer}
-
-abbrev Held : Type 0
-Held = List ℕ → Option (List ℕ)
+use Rattle.qp_run.specs.Verdict.{Agrees, AgreesFiles, AnswersCall, AnswersFiles, AnswersSystem, AnswersStimuli, AnswersWords, Count, Counts, EndsAtSystem, HasCause, HasRisen, IsAnswer, IsInput, Noted, Stands, is_failure, quiet, stimuli_answer}
+use Rattle.qp_run.specs.WordTable.{Asked, MigrateWords, RunWords, decode, migrate, number_of_form, run}
 
 -- a fact of what the shelf holds, where it tells
-IfSome-all : {A : Type 0} {P : A → Type 0} (o : Option A) → ((x : A) → P x) → IfSome o P
+pub IfSome-all : {A : Type 0} {P : A → Type 0} (o : Option A) → ((x : A) → P x) → IfSome o P
 IfSome-all None f = tt
 IfSome-all (Some x) f = f x
 
-IfSome-map : {A : Type 0} {P Q : A → Type 0} (o : Option A) → IfSome o P → ((x : A) → P x → Q x) → IfSome o Q
+pub IfSome-map : {A : Type 0} {P Q : A → Type 0} (o : Option A) → IfSome o P → ((x : A) → P x → Q x) → IfSome o Q
 IfSome-map None p f = p
 IfSome-map (Some x) p f = f x p
 
-IfSome-both : {A : Type 0} {P Q R : A → Type 0} (o : Option A) → IfSome o P → IfSome o Q → ((x : A) → P x → Q x → R x) → IfSome o R
+pub IfSome-both : {A : Type 0} {P Q R : A → Type 0} (o : Option A) → IfSome o P → IfSome o Q → ((x : A) → P x → Q x → R x) → IfSome o R
 IfSome-both None p q f = p
 IfSome-both (Some x) p q f = f x p q
 
@@ -48,111 +47,133 @@ long-told o name file len told beyond = IfSome-map o told (λ held some. inr (en
     ends None never = absurd never
     ends (Some bytes) is = (rw is beyond, ap (TooLong file) (sym is))
 
-pub told-unnamed : (o : Option Held) (words : List (List ℕ)) → files_of words ≡ None → IfSome o (λ held. Agrees held words Words)
+-- words that ask for nothing
+pub told-unnamed : (o : Option Held) → IfSome o (λ held. Agrees held None Words)
 unfolding IsAnswer
-told-unnamed o words unnamed = IfSome-all o (λ held. let is : AnswersCall held (files_of words) Words = subst (λ f. AnswersCall held f Words) (sym unnamed) refl in inr is)
+told-unnamed o = IfSome-all o (λ held. inr refl)
 
-module _ (o : Option Held) (words : List (List ℕ)) (files : Files) (named : files_of words ≡ Some files) where
-  by-files : (held : Held) (answer : Status) → AnswersFiles (held files.system) (held files.stimuli) answer → IsAnswer held words answer
-  unfolding IsAnswer
-  by-files held answer is = subst (λ f. AnswersCall held f answer) (sym named) is
-
+-- what is answered on two files is answered on a run of them
+module _ (o : Option Held) (system stimuli : List ℕ) where
   -- the system's file was not loaded
-  pub told-load : (status : Status) → IfSome o (λ held. FailsToLoad 1 (held files.system) status) → IfSome o (λ held. Agrees held words status)
+  pub told-load : (status : Status) → IfSome o (λ held. FailsToLoad 1 (held system) status) → IfSome o (λ held. AgreesFiles (held system) (held stimuli) status)
+  unfolding AnswersFiles
   told-load status told = IfSome-map o told by
     where
-      by : (held : Held) → FailsToLoad 1 (held files.system) status → Agrees held words status
+      by : (held : Held) → FailsToLoad 1 (held system) status → AgreesFiles (held system) (held stimuli) status
       by held (inl failed) = inl failed
-      by held (inr ends) = inr (by-files held status (inl ends))
+      by held (inr ends) = inr (inl ends)
 
-  module _ (bytes : List ℕ) (loaded : IfSome o (λ held. IsLoaded (held files.system) bytes)) where
-    by-bytes : (held : Held) (answer : Status) → IsLoaded (held files.system) bytes → AnswersSystem bytes (held files.stimuli) answer → Agrees held words answer
-    by-bytes held answer is answers = inr (by-files held answer (inr (bytes, is, answers)))
+  module _ (bytes : List ℕ) (loaded : IfSome o (λ held. IsLoaded (held system) bytes)) where
+    by-bytes : (held : Held) (answer : Status) → IsLoaded (held system) bytes → AnswersSystem bytes (held stimuli) answer → AgreesFiles (held system) (held stimuli) answer
+    unfolding AnswersFiles
+    by-bytes held answer is answers = inr (inr (bytes, is, answers))
 
     -- the system's file isn't taken
-    pub told-system : (status : Status) → (status ≡ Memory) ⊎ EndsAtSystem bytes status → IfSome o (λ held. Agrees held words status)
+    pub told-system : (status : Status) → (status ≡ Memory) ⊎ EndsAtSystem bytes status → IfSome o (λ held. AgreesFiles (held system) (held stimuli) status)
     told-system status told = IfSome-map o loaded (λ held is. by held is told)
       where
-        by : (held : Held) → IsLoaded (held files.system) bytes → (status ≡ Memory) ⊎ EndsAtSystem bytes status → Agrees held words status
+        by : (held : Held) → IsLoaded (held system) bytes → (status ≡ Memory) ⊎ EndsAtSystem bytes status → AgreesFiles (held system) (held stimuli) status
         by held is (inl memory) = inl (ap is_failure memory)
         by held is (inr ends) = by-bytes held status is (inl ends)
 
     module _ (sys : System) (read : IsSystemOf bytes sys) (thin : is_thin sys ≡ true) where
-      by-system : (held : Held) (answer : Status) → IsLoaded (held files.system) bytes → AnswersStimuli (held files.stimuli) sys answer → Agrees held words answer
+      by-system : (held : Held) (answer : Status) → IsLoaded (held system) bytes → AnswersStimuli (held stimuli) sys answer → AgreesFiles (held system) (held stimuli) answer
       by-system held answer is answers = by-bytes held answer is (inr (sys, read, thin, answers))
 
       -- the stimuli's file was not loaded
-      pub told-load-2 : (status : Status) → IfSome o (λ held. FailsToLoad 2 (held files.stimuli) status) → IfSome o (λ held. Agrees held words status)
+      pub told-load-2 : (status : Status) → IfSome o (λ held. FailsToLoad 2 (held stimuli) status) → IfSome o (λ held. AgreesFiles (held system) (held stimuli) status)
       told-load-2 status told = IfSome-both o loaded told by
         where
-          by : (held : Held) → IsLoaded (held files.system) bytes → FailsToLoad 2 (held files.stimuli) status → Agrees held words status
+          by : (held : Held) → IsLoaded (held system) bytes → FailsToLoad 2 (held stimuli) status → AgreesFiles (held system) (held stimuli) status
           by held is (inl failed) = inl failed
           by held is (inr ends) = by-system held status is (inl ends)
 
       -- what the stimuli's file says
-      pub told-stimuli : (text : List ℕ) → IfSome o (λ held. IsLoaded (held files.stimuli) text) → (status : Status)
-          → (status ≡ Memory) ⊎ (status ≡ stimuli_answer (stimuli_of sys text)) → IfSome o (λ held. Agrees held words status)
+      pub told-stimuli : (text : List ℕ) → IfSome o (λ held. IsLoaded (held stimuli) text) → (status : Status)
+          → (status ≡ Memory) ⊎ (status ≡ stimuli_answer (stimuli_of sys text)) → IfSome o (λ held. AgreesFiles (held system) (held stimuli) status)
       told-stimuli text loaded_text status told = IfSome-both o loaded loaded_text (λ held is is_text. by held is is_text told)
         where
-          by : (held : Held) → IsLoaded (held files.system) bytes → IsLoaded (held files.stimuli) text → (status ≡ Memory) ⊎ (status ≡ stimuli_answer (stimuli_of sys text)) → Agrees held words status
+          by : (held : Held) → IsLoaded (held system) bytes → IsLoaded (held stimuli) text → (status ≡ Memory) ⊎ (status ≡ stimuli_answer (stimuli_of sys text)) → AgreesFiles (held system) (held stimuli) status
           by held is is_text (inl memory) = inl (ap is_failure memory)
           by held is is_text (inr says) = by-system held status is (inr (text, is_text, says))
 
--- two files that the program runs are answered by `Done`
-pub input-done : (o : Option Held) (words : List (List ℕ)) (sys : System) (sources : List (List Stim)) → IsInput o words sys sources → IfSome o (λ held. Agrees held words Done)
-input-done o words sys sources input =
-    told-stimuli o words input.files input.named input.system input.system_held sys input.system_read input.thin input.stimuli input.stimuli_held Done
-    (inr (rw (input.stimuli_read, input.thin_stimuli) refl))
+  -- two files that the program runs are answered by `Done`
+  pub input-done : (sys : System) (sources : List (List Stim)) → IsInput o system stimuli sys sources → IfSome o (λ held. AgreesFiles (held system) (held stimuli) Done)
+  input-done sys sources input =
+      told-stimuli input.system input.system_held sys input.system_read input.thin input.stimuli input.stimuli_held Done
+      (inr (rw (input.stimuli_read, input.thin_stimuli) refl))
+
+  pub failure-files : (status : Status) → is_failure status ≡ true → IfSome o (λ held. AgreesFiles (held system) (held stimuli) status)
+  failure-files status failed = IfSome-all o (λ held. inl failed)
+
+  -- its journal was written
+  pub told-run : (sys : System) (sources : List (List Stim)) (answer : Status) (bytes : List ℕ) (old new : Option (List ℕ)) (faults faults' : ℕ)
+      → IsInput o system stimuli sys sources → IsWritten bytes old new faults faults' answer → IfSome o (λ held. AgreesFiles (held system) (held stimuli) answer)
+  told-run sys sources answer bytes old new faults faults' input (inl (done, all)) = rw done (input-done sys sources input)
+  told-run sys sources answer bytes old new faults faults' input (inr (failed, part, rose)) = failure-files answer (ap is_failure failed)
+
+-- the answer on what a call asks for
+module _ (o : Option Held) (answer : Status) where
+  pub agrees-run : (w : RunWords) → IfSome o (λ held. AgreesFiles (held w.system) (held w.stimuli) answer) → IfSome o (λ held. Agrees held (Some (run w)) answer)
+  unfolding IsAnswer
+  agrees-run w told = told
+
+  pub agrees-decode : (frames : List ℕ) → IfSome o (λ held. (is_failure answer ≡ true) ⊎ AnswersJournal Frames decode_on (held frames) answer)
+      → IfSome o (λ held. Agrees held (Some (decode frames)) answer)
+  unfolding IsAnswer
+  agrees-decode frames told = told
+
+  pub agrees-migrate : (w : MigrateWords) → IfSome o (λ held. (is_failure answer ≡ true) ⊎ AnswersJournal w.from (migrate_on (number_of_form w.to)) (held w.file) answer)
+      → IfSome o (λ held. Agrees held (Some (migrate w)) answer)
+  unfolding IsAnswer
+  agrees-migrate w told = told
 
 -- a failure needs no word of the files
-pub failure-agrees : (o : Option Held) (words : List (List ℕ)) (status : Status) → is_failure status ≡ true → IfSome o (λ held. Agrees held words status)
-failure-agrees o words status failed = IfSome-all o (λ held. inl failed)
+pub failure-agrees : (o : Option Held) (asked : Option Asked) (status : Status) → is_failure status ≡ true → IfSome o (λ held. Agrees held asked status)
+failure-agrees o asked status failed = IfSome-all o (λ held. inl failed)
 
 -- an answer that isn't `Done`
 pub not-done : (answer : Status) → is_done answer ≡ false → answer ≡ Done → ⊥
 not-done answer other done = false≢true (sym other ∙ ap is_done done)
 
-pub answers-named : (words : List (List ℕ)) (files : Files) (status : Status) → files_of words ≡ Some files → (status ≡ Words → ⊥) → AnswersWords (files_of words) status
-answers-named words files status named other = rw named other
-
 -- the line of an answer was put
-noted-line : (words : List (List ℕ)) (n : Count) (old new : Option (List ℕ)) (answer : Status) → (answer ≡ Done → ⊥) → new ≡ appended old (line_of words answer) → Noted words n old new answer
+noted-line : (asked : Option Asked) (n : Count) (old new : Option (List ℕ)) (answer : Status) → (answer ≡ Done → ⊥) → new ≡ appended old (line_of asked answer) → Noted asked n old new answer
 unfolding Noted
-noted-line words n old new Done other put = absurd (other refl)
-noted-line words n old new WriteFault other put = inl put
-noted-line words n old new Words other put = put
-noted-line words n old new (Absent file) other put = put
-noted-line words n old new (TooLong file len) other put = put
-noted-line words n old new (Refused file code at) other put = put
-noted-line words n old new (Later file) other put = put
-noted-line words n old new (Asserted code lane) other put = put
-noted-line words n old new (Spent lane) other put = put
-noted-line words n old new Memory other put = put
-noted-line words n old new ReadFault other put = put
+noted-line asked n old new Done other put = absurd (other refl)
+noted-line asked n old new WriteFault other put = inl put
+noted-line asked n old new Words other put = put
+noted-line asked n old new (Absent file) other put = put
+noted-line asked n old new (TooLong file len) other put = put
+noted-line asked n old new (Refused file code at) other put = put
+noted-line asked n old new (Later file) other put = put
+noted-line asked n old new (Asserted code lane) other put = put
+noted-line asked n old new (Spent lane) other put = put
+noted-line asked n old new Memory other put = put
+noted-line asked n old new ReadFault other put = put
 
-noted-fault : (words : List (List ℕ)) (n : Count) (old new : Option (List ℕ)) (told : Status) → HasRisen n → AppendsPrefix old (line_of words told) new → Noted words n old new WriteFault
+noted-fault : (asked : Option Asked) (n : Count) (old new : Option (List ℕ)) (told : Status) → HasRisen n → AppendsPrefix old (line_of asked told) new → Noted asked n old new WriteFault
 unfolding Noted
-noted-fault words n old new told rose part = inr (rose, (told, part))
+noted-fault asked n old new told rose part = inr (rose, (told, part))
 
-pub noted-put : (words : List (List ℕ)) (n : Count) (old new : Option (List ℕ)) (told answer : Status) (line : List ℕ) → (told ≡ Done → ⊥) → line ≡ line_of words told
-    → ((answer ≡ told) × (new ≡ appended old line)) ⊎ ((answer ≡ WriteFault) × Rose n.before n.after × AppendsPrefix old line new) → Noted words n old new answer
-noted-put words n old new told answer line other is (inl (same, put)) = rw same (noted-line words n old new told other (put ∙ ap (appended old) is))
-noted-put words n old new told answer line other is (inr (failed, rose, part)) = subst (λ a. Noted words n old new a) (sym failed) (noted-fault words n old new told rose (rw is at part))
+pub noted-put : (asked : Option Asked) (n : Count) (old new : Option (List ℕ)) (told answer : Status) (line : List ℕ) → (told ≡ Done → ⊥) → line ≡ line_of asked told
+    → ((answer ≡ told) × (new ≡ appended old line)) ⊎ ((answer ≡ WriteFault) × Rose n.before n.after × AppendsPrefix old line new) → Noted asked n old new answer
+noted-put asked n old new told answer line other is (inl (same, put)) = rw same (noted-line asked n old new told other (put ∙ ap (appended old) is))
+noted-put asked n old new told answer line other is (inr (failed, rose, part)) = subst (λ a. Noted asked n old new a) (sym failed) (noted-fault asked n old new told rose (rw is at part))
 
 -- nothing was put
-pub noted-done : (words : List (List ℕ)) (n : Count) (old : Option (List ℕ)) (answer : Status) → is_done answer ≡ true → Noted words n old old answer
+pub noted-done : (asked : Option Asked) (n : Count) (old : Option (List ℕ)) (answer : Status) → is_done answer ≡ true → Noted asked n old old answer
 unfolding Noted
-noted-done words n old Done done = refl
-noted-done words n old Words done = absurd (false≢true done)
-noted-done words n old (Absent file) done = absurd (false≢true done)
-noted-done words n old (TooLong file len) done = absurd (false≢true done)
-noted-done words n old (Refused file code at) done = absurd (false≢true done)
-noted-done words n old (Later file) done = absurd (false≢true done)
-noted-done words n old (Asserted code lane) done = absurd (false≢true done)
-noted-done words n old (Spent lane) done = absurd (false≢true done)
-noted-done words n old Memory done = absurd (false≢true done)
-noted-done words n old ReadFault done = absurd (false≢true done)
-noted-done words n old WriteFault done = absurd (false≢true done)
+noted-done asked n old Done done = refl
+noted-done asked n old Words done = absurd (false≢true done)
+noted-done asked n old (Absent file) done = absurd (false≢true done)
+noted-done asked n old (TooLong file len) done = absurd (false≢true done)
+noted-done asked n old (Refused file code at) done = absurd (false≢true done)
+noted-done asked n old (Later file) done = absurd (false≢true done)
+noted-done asked n old (Asserted code lane) done = absurd (false≢true done)
+noted-done asked n old (Spent lane) done = absurd (false≢true done)
+noted-done asked n old Memory done = absurd (false≢true done)
+noted-done asked n old ReadFault done = absurd (false≢true done)
+noted-done asked n old WriteFault done = absurd (false≢true done)
 
 -- an answer as it stands once its line was put
 widened : (n : Counts) (answer : Status) → HasCause (record n { notes = quiet }) answer → HasCause n answer
@@ -174,26 +195,24 @@ cause-stands n told answer cause (inl same) = rw same (widened n told cause)
 cause-stands n told answer cause (inr (inl (memory, names))) = rw memory tt
 cause-stands n told answer cause (inr (inr (failed, rose, other))) = rw failed (inr rose)
 
-pub agrees-stands : (o : Option Held) (words : List (List ℕ)) (n : Count) (told answer : Status) → IfSome o (λ held. Agrees held words told) → Stands n told answer → IfSome o (λ held. Agrees held words answer)
-agrees-stands o words n told answer agrees (inl same) = rw same agrees
-agrees-stands o words n told answer agrees (inr (inl (memory, names))) = failure-agrees o words answer (ap is_failure memory)
-agrees-stands o words n told answer agrees (inr (inr (failed, rose, other))) = failure-agrees o words answer (ap is_failure failed)
+pub agrees-stands : (o : Option Held) (asked : Option Asked) (n : Count) (told answer : Status) → IfSome o (λ held. Agrees held asked told) → Stands n told answer → IfSome o (λ held. Agrees held asked answer)
+agrees-stands o asked n told answer agrees (inl same) = rw same agrees
+agrees-stands o asked n told answer agrees (inr (inl (memory, names))) = failure-agrees o asked answer (ap is_failure memory)
+agrees-stands o asked n told answer agrees (inr (inr (failed, rose, other))) = failure-agrees o asked answer (ap is_failure failed)
 
-answers_none : (n : Count) (told answer : Status) → (told ≡ Words) ⊎ (told ≡ WriteFault) → Stands n told answer → (answer ≡ Words) ⊎ (answer ≡ WriteFault)
-answers_none n told answer (inl words) (inl same) = inl (same ∙ words)
-answers_none n told answer (inr fault) (inl same) = inr (same ∙ fault)
-answers_none n told answer (inl words) (inr (inl (memory, names))) = absurd (false≢true (rw words at names))
-answers_none n told answer (inr fault) (inr (inl (memory, names))) = absurd (false≢true (rw fault at names))
-answers_none n told answer words (inr (inr (failed, rose, other))) = inr failed
+answers_none : (n : Count) (told answer : Status) → AnswersWords None told → Stands n told answer → AnswersWords None answer
+answers_none n told answer told_so (inl same) = rw same told_so
+answers_none n told answer told_so (inr (inl (memory, names))) = inr (inl memory)
+answers_none n told answer told_so (inr (inr (failed, rose, other))) = inr (inr failed)
 
-pub answers-stands : (o : Option Files) (n : Count) (told answer : Status) → AnswersWords o told → Stands n told answer → AnswersWords o answer
+pub answers-stands : (asked : Option Asked) (n : Count) (told answer : Status) → AnswersWords asked told → Stands n told answer → AnswersWords asked answer
 answers-stands None n told answer words stands = answers_none n told answer words stands
-answers-stands (Some files) n told answer other (inl same) = rw same other
-answers-stands (Some files) n told answer other (inr (inl (memory, names))) = rw memory (λ e. cc)
-answers-stands (Some files) n told answer other (inr (inr (failed, rose, _))) = rw failed (λ e. cc)
+answers-stands (Some asked) n told answer other (inl same) = rw same other
+answers-stands (Some asked) n told answer other (inr (inl (memory, names))) = rw memory (λ e. cc)
+answers-stands (Some asked) n told answer other (inr (inr (failed, rose, _))) = rw failed (λ e. cc)
 
-module _ (held : Option Held) (words : List (List ℕ)) (old new : Option (List ℕ)) where
-  prints_named : (told : Status) → names_file told ≡ true → Prints held words old new told → new ≡ old
+module _ (IsWhole : List ℕ → Type 0) (old new : Option (List ℕ)) where
+  prints_named : (told : Status) → names_file told ≡ true → PrintsOne IsWhole old new told → new ≡ old
   prints_named (Absent file) names prints = prints
   prints_named (TooLong file len) names prints = prints
   prints_named (Refused file code at) names prints = prints
@@ -206,7 +225,7 @@ module _ (held : Option Held) (words : List (List ℕ)) (old new : Option (List 
   prints_named ReadFault names prints = absurd (false≢true names)
   prints_named WriteFault names prints = absurd (false≢true names)
 
-  prints_failed : (told : Status) → (told ≡ Done → ⊥) → Prints held words old new told → Prints held words old new WriteFault
+  prints_failed : (told : Status) → (told ≡ Done → ⊥) → PrintsOne IsWhole old new told → PrintsOne IsWhole old new WriteFault
   prints_failed Done other prints = absurd (other refl)
   prints_failed WriteFault other prints = prints
   prints_failed Words other prints = inl prints
@@ -219,31 +238,7 @@ module _ (held : Option Held) (words : List (List ℕ)) (old new : Option (List 
   prints_failed Memory other prints = inl prints
   prints_failed ReadFault other prints = inl prints
 
-  pub prints-stands : (n : Count) (told answer : Status) → Prints held words old new told → Stands n told answer → Prints held words old new answer
+  pub prints-stands : (n : Count) (told answer : Status) → PrintsOne IsWhole old new told → Stands n told answer → PrintsOne IsWhole old new answer
   prints-stands n told answer prints (inl same) = rw same prints
   prints-stands n told answer prints (inr (inl (memory, names))) = rw memory (prints_named told names prints)
   prints-stands n told answer prints (inr (inr (failed, rose, other))) = rw failed (prints_failed told other prints)
-
--- the answer, where no count rose
-settled : (held : Held) (words : List (List ℕ)) (answer : Status) (n : Counts) → Agrees held words answer → HasCause n answer → IsAnswer held words Done
-    → (HasRisen n.reads → ⊥) → (HasRisen n.out → ⊥) → (HasRisen n.notes → ⊥) → (answer ≡ Done) ⊎ (answer ≡ Memory)
-settled held words answer n (inr is) cause done reads out notes = inl (one-answer held words answer Done is done)
-settled held words answer n (inl failed) cause done reads out notes = by answer failed cause
-  where
-    by : (a : Status) → is_failure a ≡ true → HasCause n a → (a ≡ Done) ⊎ (a ≡ Memory)
-    by Memory f c = inr refl
-    by ReadFault f c = absurd (reads c)
-    by WriteFault f (inl risen) = absurd (out risen)
-    by WriteFault f (inr risen) = absurd (notes risen)
-    by Done f c = absurd (false≢true f)
-    by Words f c = absurd (false≢true f)
-    by (Absent file) f c = absurd (false≢true f)
-    by (TooLong file len) f c = absurd (false≢true f)
-    by (Refused file code at) f c = absurd (false≢true f)
-    by (Later file) f c = absurd (false≢true f)
-    by (Asserted code lane) f c = absurd (false≢true f)
-    by (Spent lane) f c = absurd (false≢true f)
-
-pub complete : (o : Option Held) (words : List (List ℕ)) (n : Counts) (answer : Status) → IfSome o (λ held. Agrees held words answer) → HasCause n answer → IsComplete o words n answer
-complete None words n answer agrees cause = tt
-complete (Some held) words n answer agrees cause = λ done reads out notes. settled held words answer n agrees cause done reads out notes

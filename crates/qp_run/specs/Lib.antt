@@ -1,7 +1,10 @@
 pub mod Reads
-pub mod Commands
 pub mod Notes
 pub mod Thin
 pub mod ThinRun
 pub mod FlatJournal
+pub mod Loads
+pub mod Conversions
 pub mod Verdict
+pub mod WordTable
+pub mod WordLaws

@@ -1,8 +1,9 @@
 -- The number of an answer, and the line about it.
-use Rattle.std.specs.Prelude.{codes, ℕ, decimal, Bool, true, false, List, [], ◌++◌, slice_get, unwrap_or}
+use Rattle.std.specs.Prelude.{codes, ℕ, decimal, Bool, true, false, List, [], ◌++◌, Option}
 use Rattle.qp_chart.specs.Paths.{path_text}
 use Rattle.qp_run.specs.declared.place.Place as place
 use Rattle.qp_run.specs.declared.place.Place.TheVariants.{Nowhere, Path, Line, Offset}
+use Rattle.qp_run.specs.WordTable.{Asked, operand_in}
 use Rattle.qp_run.specs.declared.status.Status.{Status}
 use Rattle.qp_run.specs.declared.status.Status.TheVariants.{Done, Words, Absent, TooLong, Refused, Later, Asserted, Spent, Memory, ReadFault, WriteFault}
 
@@ -27,23 +28,23 @@ place_text (Path path) = path_text path.0.items
 place_text (Line number) = decimal number
 place_text (Offset number) = decimal number
 
--- a line about a file, which is named by its word
-abbrev pub named_line : List (List ℕ) → ℕ → List ℕ → List ℕ
-named_line words file what = codes "qp: " ++ unwrap_or (slice_get words file) [] ++ codes ": " ++ what ++ codes "\n"
+-- a line about a file, which is named by this word
+abbrev pub named_line : (name what : List ℕ) → List ℕ
+named_line name what = codes "qp: " ++ name ++ codes ": " ++ what ++ codes "\n"
 
 -- the line on the notes; `Done` has none
-unfoldable pub line_of : List (List ℕ) → Status → List ℕ
-line_of words Done = []
-line_of words Words = codes "qp: bad words\n"
-line_of words (Absent file) = named_line words file (codes "absent")
-line_of words (TooLong file len) = named_line words file (codes "too long " ++ decimal len)
-line_of words (Refused file code at) = named_line words file (decimal code ++ codes " " ++ place_text at)
-line_of words (Later file) = named_line words file (codes "later")
-line_of words (Asserted code lane) = codes "qp: assertion " ++ decimal code ++ codes " in lane " ++ decimal lane ++ codes "\n"
-line_of words (Spent lane) = codes "qp: spent in lane " ++ decimal lane ++ codes "\n"
-line_of words Memory = codes "qp: memory\n"
-line_of words ReadFault = codes "qp: read fault\n"
-line_of words WriteFault = codes "qp: write fault\n"
+unfoldable pub line_of : Option Asked → Status → List ℕ
+line_of asked Done = []
+line_of asked Words = codes "qp: bad words\n"
+line_of asked (Absent file) = named_line (operand_in asked file) (codes "absent")
+line_of asked (TooLong file len) = named_line (operand_in asked file) (codes "too long " ++ decimal len)
+line_of asked (Refused file code at) = named_line (operand_in asked file) (decimal code ++ codes " " ++ place_text at)
+line_of asked (Later file) = named_line (operand_in asked file) (codes "later")
+line_of asked (Asserted code lane) = codes "qp: assertion " ++ decimal code ++ codes " in lane " ++ decimal lane ++ codes "\n"
+line_of asked (Spent lane) = codes "qp: spent in lane " ++ decimal lane ++ codes "\n"
+line_of asked Memory = codes "qp: memory\n"
+line_of asked ReadFault = codes "qp: read fault\n"
+line_of asked WriteFault = codes "qp: write fault\n"
 
 -- the run was done, and there is no line
 abbrev pub is_done : Status → Bool
@@ -57,3 +58,11 @@ names_file (TooLong file len) = true
 names_file (Refused file code at) = true
 names_file (Later file) = true
 names_file status = false
+
+-- the place of the operand whose file the line names, from 1; none elsewhere
+abbrev pub file_of : Status → ℕ
+file_of (Absent file) = file
+file_of (TooLong file len) = file
+file_of (Refused file code at) = file
+file_of (Later file) = file
+file_of status = 0

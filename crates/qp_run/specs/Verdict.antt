@@ -2,12 +2,10 @@
 use Rattle.std.specs.Prelude.{◌≡◌, ◌≢◌, ◌<◌, ◌≤◌, ℕ, Bool, true, false, IfSome, List, length, ⊤, ◌⊎◌, Option, Some, None, Result, Ok, Err, if◌then◌else◌}
 use Rattle.qp_base.specs.Counts.{Rose}
 use Rattle.qp_base.specs.Sink.{AppendsPrefix, appended}
-use Rattle.qp_base.specs.declared.shelves.TheConstants.{FILE_LIMIT}
 use Rattle.qp_chart.specs.declared.code.TheConstants.{NOT_TOML}
-use Rattle.qp_model.specs.declared.journals.Journal.{Journal}
+use Rattle.qp_model.specs.declared.journals.Journal as journal
 use Rattle.qp_model.specs.declared.stimulus.Stim.{Stim}
 use Rattle.qp_model.specs.declared.systems.System.{System}
-use Rattle.qp_model.specs.OutputText.{text}
 use Rattle.qp_stim.specs.declared.fault.StimFault as stim
 use Rattle.qp_stim.specs.declared.fault.StimFault.TheVariants as stim_fault
 use Rattle.qp_stim.specs.Stimuli.{Fault, stimuli_of}
@@ -17,10 +15,15 @@ use Rattle.qp_system.specs.SystemOf.{IsSystemOf, RefusesSystem}
 use Rattle.qp_run.specs.declared.place.Place.TheVariants.{Nowhere, Path, Line}
 use Rattle.qp_run.specs.declared.status.Status.{Status}
 use Rattle.qp_run.specs.declared.status.Status.TheVariants.{Done, Words, Absent, TooLong, Refused, Later, Asserted, Spent, Memory, ReadFault, WriteFault}
-use Rattle.qp_run.specs.Commands.{Files, files_of}
+use Rattle.qp_run.specs.declared.words.values.Kind.{Kind}
+use Rattle.qp_run.specs.declared.words.values.Kind.TheVariants.{Frames}
+use Rattle.qp_run.specs.Conversions.{AnswersJournal, Held, IsDecoded, IsMigrated, PrintsOne, decode_on, migrate_on, written}
+use Rattle.qp_run.specs.Loads.{EndsAtLoad, IsLoaded}
 use Rattle.qp_run.specs.Notes.{line_of, names_file}
 use Rattle.qp_run.specs.Thin.{is_thin, are_thin}
 use Rattle.qp_run.specs.ThinRun.{IsQuietRun}
+use Rattle.qp_run.specs.WordTable.{Asked, decode, migrate, number_of_form, run}
+use Rattle.qp_text.specs.TextLaw.{IsWritable}
 
 -- why a system's file is refused, as an answer
 abbrev pub system_refusal : system.SystemFault → Status
@@ -31,15 +34,6 @@ system_refusal (system_fault.At code path) = Refused 1 code (Path path)
 abbrev pub stimuli_refusal : stim.StimFault → Status
 stimuli_refusal stim_fault.Memory = Memory
 stimuli_refusal (stim_fault.Line number code) = Refused 2 code (Line number)
-
--- a file was loaded: it is there, and short enough
-abbrev pub IsLoaded : Option (List ℕ) → List ℕ → Type 0
-IsLoaded held bytes = (held ≡ Some bytes) × (length bytes ≤ FILE_LIMIT)
-
--- a file was not loaded, and this is the answer
-abbrev pub EndsAtLoad : ℕ → Option (List ℕ) → Status → Type 0
-EndsAtLoad file None answer = answer ≡ Absent file
-EndsAtLoad file (Some bytes) answer = (FILE_LIMIT < length bytes) × (answer ≡ TooLong file (length bytes))
 
 -- the bytes of the system's file have a fault, or their system isn't run yet, and this is the answer
 abbrev pub EndsAtSystem : List ℕ → Status → Type 0
@@ -61,18 +55,22 @@ abbrev pub AnswersSystem : List ℕ → Option (List ℕ) → Status → Type 0
 AnswersSystem bytes stimuli answer = EndsAtSystem bytes answer ⊎ ((sys : System) × IsSystemOf bytes sys × (is_thin sys ≡ true) × AnswersStimuli stimuli sys answer)
 
 -- the answer from the system's file on
-abbrev pub AnswersFiles : (system stimuli : Option (List ℕ)) → Status → Type 0
+unfoldable pub AnswersFiles : (system stimuli : Option (List ℕ)) → Status → Type 0
+unfolding stimuli_of is_thin are_thin
 AnswersFiles system stimuli answer = EndsAtLoad 1 system answer ⊎ ((bytes : List ℕ) × IsLoaded system bytes × AnswersSystem bytes stimuli answer)
 
-abbrev pub AnswersCall : (List ℕ → Option (List ℕ)) → Option Files → Status → Type 0
+-- the answer to what a call asks for; words that ask for nothing are answered at once
+abbrev pub AnswersCall : Held → Option Asked → Status → Type 0
 AnswersCall held None answer = answer ≡ Words
-AnswersCall held (Some files) answer = AnswersFiles (held files.system) (held files.stimuli) answer
+AnswersCall held (Some (run w)) answer = AnswersFiles (held w.system) (held w.stimuli) answer
+AnswersCall held (Some (decode frames)) answer = AnswersJournal Frames decode_on (held frames) answer
+AnswersCall held (Some (migrate w)) answer = AnswersJournal w.from (migrate_on (number_of_form w.to)) (held w.file) answer
 
--- the answer to these words over files with this content, where memory, reads and writes don't fail: the words come
--- first, then the system's file, then the stimuli's
-unfoldable pub IsAnswer : (List ℕ → Option (List ℕ)) → List (List ℕ) → Status → Type 0
-unfolding files_of stimuli_of is_thin are_thin
-IsAnswer held words answer = AnswersCall held (files_of words) answer
+-- the answer to a call over files with this content, where memory, reads and writes don't fail: the words come first,
+-- then the files in order, and then the form of a journal
+unfoldable pub IsAnswer : Held → Option Asked → Status → Type 0
+unfolding AnswersFiles
+IsAnswer held asked answer = AnswersCall held asked answer
 
 -- memory was refused, or a read or a write failed
 abbrev pub is_failure : Status → Bool
@@ -82,13 +80,15 @@ is_failure WriteFault = true
 is_failure answer = false
 
 -- a failure, or else the answer
-abbrev pub Agrees : (List ℕ → Option (List ℕ)) → List (List ℕ) → Status → Type 0
-Agrees held words answer = (is_failure answer ≡ true) ⊎ IsAnswer held words answer
+abbrev pub Agrees : Held → Option Asked → Status → Type 0
+Agrees held asked answer = (is_failure answer ≡ true) ⊎ IsAnswer held asked answer
 
--- no words and files have two answers
+abbrev pub AgreesFiles : (system stimuli : Option (List ℕ)) → Status → Type 0
+AgreesFiles system stimuli answer = (is_failure answer ≡ true) ⊎ AnswersFiles system stimuli answer
+
+-- no call over files has two answers
 abbrev pub OneAnswer : Type 0
-OneAnswer =
-    (held : List ℕ → Option (List ℕ)) (words : List (List ℕ)) (a b : Status) → IsAnswer held words a → IsAnswer held words b → a ≡ b
+OneAnswer = (held : Held) (asked : Option Asked) (a b : Status) → IsAnswer held asked a → IsAnswer held asked b → a ≡ b
 
 -- a count before and after a call
 pub record Count : Type 0 where
@@ -133,50 +133,74 @@ HasCause n (Spent lane) = ⊥
 HasCause n answer = ⊤
 
 -- what the notes got: nothing for `Done`, else the line of the answer; or a part of a line whose put failed
-unfoldable pub Noted : List (List ℕ) → Count → (old new : Option (List ℕ)) → Status → Type 0
+unfoldable pub Noted : Option Asked → Count → (old new : Option (List ℕ)) → Status → Type 0
 unfolding line_of
-Noted words n old new Done = new ≡ old
-Noted words n old new WriteFault =
-    (new ≡ appended old (line_of words WriteFault)) ⊎ (HasRisen n × ((told : Status) × AppendsPrefix old (line_of words told) new))
-Noted words n old new answer = new ≡ appended old (line_of words answer)
+Noted asked n old new Done = new ≡ old
+Noted asked n old new WriteFault =
+    (new ≡ appended old (line_of asked WriteFault)) ⊎ (HasRisen n × ((told : Status) × AppendsPrefix old (line_of asked told) new))
+Noted asked n old new answer = new ≡ appended old (line_of asked answer)
 
--- words that name no run are answered at once
-abbrev pub AnswersWords : Option Files → Status → Type 0
-AnswersWords None answer = (answer ≡ Words) ⊎ (answer ≡ WriteFault)
-AnswersWords (Some files) answer = answer ≢ Words
+-- words that ask for nothing are answered at once, if memory was found to read them
+abbrev pub AnswersWords : Option Asked → Status → Type 0
+AnswersWords None answer = (answer ≡ Words) ⊎ ((answer ≡ Memory) ⊎ (answer ≡ WriteFault))
+AnswersWords (Some asked) answer = answer ≢ Words
 
 -- how an answer stands once its line was put: as it was, or memory was refused to a line that names a file, or the put failed
 abbrev pub Stands : Count → (told answer : Status) → Type 0
 Stands n told answer =
     (answer ≡ told) ⊎ (((answer ≡ Memory) × (names_file told ≡ true)) ⊎ ((answer ≡ WriteFault) × HasRisen n × (told ≢ Done)))
 
--- the two files of a run, and what they say: a system and stimuli that the program runs
-pub record IsInput (held : Option (List ℕ → Option (List ℕ))) (words : List (List ℕ)) (sys : System) (sources : List (List Stim)) : Type 0 where
-  pub files : Files
+-- what the two files of a run say: a system and stimuli that the program runs
+pub record IsInput (held : Option Held) (system_name stimuli_name : List ℕ) (sys : System) (sources : List (List Stim)) : Type 0 where
   pub system : List ℕ
   pub stimuli : List ℕ
-  pub named : files_of words ≡ Some files
-  pub system_held : IfSome held (λ h. IsLoaded (h files.system) system)
-  pub stimuli_held : IfSome held (λ h. IsLoaded (h files.stimuli) stimuli)
+  pub system_held : IfSome held (λ h. IsLoaded (h system_name) system)
+  pub stimuli_held : IfSome held (λ h. IsLoaded (h stimuli_name) stimuli)
   pub system_read : IsSystemOf system sys
   pub stimuli_read : stimuli_of sys stimuli ≡ Ok sources
   pub thin : is_thin sys ≡ true
   pub thin_stimuli : are_thin sources ≡ true
 
--- a lawful journal of the two files
-pub record IsLawfulRun (held : Option (List ℕ → Option (List ℕ))) (words : List (List ℕ)) (j : Journal) : Type 0 where
+-- a lawful journal of two files
+pub record IsLawfulRun (held : Option Held) (system_name stimuli_name : List ℕ) (j : journal.Journal) : Type 0 where
   pub system : System
   pub sources : List (List Stim)
-  pub input : IsInput held words system sources
+  pub input : IsInput held system_name stimuli_name system sources
   pub run : IsQuietRun system sources j
 
--- what the output got: the text of such a journal, a part of it where a write failed, or nothing
-abbrev pub Prints : Option (List ℕ → Option (List ℕ)) → List (List ℕ) → (old new : Option (List ℕ)) → Status → Type 0
-Prints held words old new Done = (j : Journal) × IsLawfulRun held words j × (new ≡ appended old (text 1 j))
-Prints held words old new WriteFault = (new ≡ old) ⊎ ((j : Journal) × IsLawfulRun held words j × AppendsPrefix old (text 1 j) new)
-Prints held words old new answer = new ≡ old
+-- the output of a run: its journal as text or frames, in this form
+abbrev pub IsRun : Option Held → (system_name stimuli_name : List ℕ) → Kind → ℕ → List ℕ → Type 0
+IsRun held system_name stimuli_name kind form whole =
+    (j : journal.Journal) × IsLawfulRun held system_name stimuli_name j × (whole ≡ written kind form j)
 
--- two files that the shelf tells and the program runs are run to the end, or memory was refused, where no count rose
-abbrev pub IsComplete : Option (List ℕ → Option (List ℕ)) → List (List ℕ) → Counts → Status → Type 0
-IsComplete held words n answer =
-    IfSome held (λ h. IsAnswer h words Done → (HasRisen n.reads → ⊥) → (HasRisen n.out → ⊥) → (HasRisen n.notes → ⊥) → (answer ≡ Done) ⊎ (answer ≡ Memory))
+-- the whole output of a call
+abbrev pub IsOutput : Option Held → Option Asked → List ℕ → Type 0
+IsOutput held None whole = ⊥
+IsOutput held (Some (run w)) whole = IsRun held w.system w.stimuli w.out (number_of_form w.form) whole
+IsOutput held (Some (decode frames)) whole = IsDecoded held frames whole
+IsOutput held (Some (migrate w)) whole = IsMigrated held w.file w.from (number_of_form w.to) whole
+
+-- what the output got: the whole of it, a part of it where a write failed, or nothing
+abbrev pub Prints : Option Held → Option Asked → (old new : Option (List ℕ)) → Status → Type 0
+Prints held asked old new answer = PrintsOne (IsOutput held asked) old new answer
+
+-- where no count rose, the answer is this one, or memory was refused
+abbrev pub Ends : Counts → (wanted answer : Status) → Type 0
+Ends n wanted answer = (HasRisen n.reads → ⊥) → (HasRisen n.out → ⊥) → (HasRisen n.notes → ⊥) → (answer ≡ wanted) ⊎ (answer ≡ Memory)
+
+-- a file that the shelf tells has a journal as text or as frames, and this is the answer on the journal
+abbrev pub EndsOnJournal : Option (List ℕ) → Kind → (journal.Journal → Status) → Counts → Status → Type 0
+EndsOnJournal held kind on n answer =
+    (form : ℕ) (j : journal.Journal) → IsWritable form j → IsLoaded held (written kind form j) → Ends n (on j) answer
+
+-- calls that end: two files that the program runs are run to the end, frames of a journal are decoded, and a journal is
+-- migrated to each form that it has
+abbrev pub EndsCall : Held → Option Asked → Counts → Status → Type 0
+EndsCall held None n answer = Ends n Words answer
+EndsCall held (Some (run w)) n answer = IsAnswer held (Some (run w)) Done → Ends n Done answer
+EndsCall held (Some (decode frames)) n answer = EndsOnJournal (held frames) Frames decode_on n answer
+EndsCall held (Some (migrate w)) n answer = EndsOnJournal (held w.file) w.from (migrate_on (number_of_form w.to)) n answer
+
+-- a call over files that the shelf tells, in which no count rose, ends so, or memory was refused
+abbrev pub IsComplete : Option Held → Option Asked → Counts → Status → Type 0
+IsComplete held asked n answer = IfSome held (λ h. EndsCall h asked n answer)

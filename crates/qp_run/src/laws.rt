@@ -2,7 +2,7 @@
 
 ghost use Rattle.qp_run.specs.Verdict.{OneAnswer};
 
-/// The words and the content of the files leave one answer, failures aside.
+/// What a call asks for and the content of the files leave one answer, failures aside.
 pub fn one_answer()
     ensures { OneAnswer }
 {}

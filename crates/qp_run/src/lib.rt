@@ -1,8 +1,9 @@
 //! The top call of the program: its words, its files, the run and the output.
 #![tactic(auto)]
 
-mod command;
+mod conversions;
 pub mod laws;
+mod loading;
 mod place;
 mod runs;
 mod status;
@@ -10,6 +11,7 @@ mod status;
 mod tests;
 mod thin;
 mod top;
+pub mod words;
 
 pub use place::Place;
 pub use status::Status;

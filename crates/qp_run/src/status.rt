@@ -1,7 +1,8 @@
 //! How a call of the program ends.
-ghost use Rattle.std.specs.Prelude.{codes, ◌≡◌, ◌++◌, ◌≤◌, List, ℕ, [], length, map, decimal, slice_get, string_bytes, unwrap_or, true, false, IfOk};
-ghost use Rattle.qp_run.specs.Notes.{number_of, line_of, named_line, names_file, is_done, place_text};
+ghost use Rattle.std.specs.Prelude.{codes, ◌≡◌, ◌++◌, ◌≤◌, Option, length, decimal, string_bytes, true, false, IfOk};
+ghost use Rattle.qp_run.specs.Notes.{number_of, line_of, named_line, names_file, file_of, is_done, place_text};
 ghost use Rattle.qp_run.specs.Verdict.{system_refusal, stimuli_refusal};
+ghost use Rattle.qp_run.specs.WordTable.{Asked, operand_in};
 
 use crate::place::Place;
 use arrayvec::ArrayString;
@@ -83,7 +84,7 @@ impl Status {
     #[tactic(auto, unfolding(crate::specs::Notes::line_of))]
     pub fn plain_line(&self) -> Line
         requires { names_file self.now ≡ false }
-        ensures { (words : List (List ℕ)) → result.bytes ≡ line_of words self.now }
+        ensures { (asked : Option Asked) → result.bytes ≡ line_of asked self.now }
     {
         match self {
             Status::Words => line("qp: bad words\n"),
@@ -96,23 +97,36 @@ impl Status {
         }
     }
 
-    /// The line on the notes that names a file, by its word.
-    #[tactic(auto, unfolding(crate::specs::Notes::line_of))]
-    pub fn file_line(&self, alloc: Global, words: &[&str]) -> Result<String, AllocError>
-        requires { names_file self.now ≡ true }
-        ensures { IfOk result (λ line. string_bytes line ≡ line_of (map (λ word. word.now) words.now) self.now) }
+    /// The place of the operand whose file the line names, counted from 1; 0 where it names none.
+    pub fn file(&self) -> u8
+        ensures { result ≡ file_of self.now }
     {
         match self {
-            Status::Absent { file } => named_line(alloc, words, *file, "absent"),
-            Status::TooLong { file, len } => {
+            Status::Absent { file }
+            | Status::TooLong { file, .. }
+            | Status::Refused { file, .. }
+            | Status::Later { file } => *file,
+            _ => 0,
+        }
+    }
+
+    /// The line on the notes that names a file, which has this name.
+    #[tactic(auto, unfolding(crate::specs::Notes::line_of))]
+    pub fn file_line(&self, alloc: Global, name: &str) -> Result<String, AllocError>
+        requires { names_file self.now ≡ true }
+        ensures { (asked : Option Asked) → operand_in asked (file_of self.now) ≡ name.now → IfOk result (λ line. string_bytes line ≡ line_of asked self.now) }
+    {
+        match self {
+            Status::Absent { .. } => named_line(alloc, name, "absent"),
+            Status::TooLong { len, .. } => {
                 let what = too_long(*len);
-                named_line(alloc, words, *file, what.as_str())
+                named_line(alloc, name, what.as_str())
             }
-            Status::Refused { file, code, place } => {
+            Status::Refused { code, place, .. } => {
                 let what = fault_at(alloc, *code, place)?;
-                named_line(alloc, words, *file, what.as_str())
+                named_line(alloc, name, what.as_str())
             }
-            Status::Later { file } => named_line(alloc, words, *file, "later"),
+            Status::Later { .. } => named_line(alloc, name, "later"),
             _ => Ok(String::new(alloc)),
         }
     }
@@ -206,16 +220,8 @@ fn fault_at(alloc: Global, code: u8, place: &Place) -> Result<String, AllocError
     format!(in alloc; "{code} {place}")
 }
 
-/// The word at a place, counted from 0; no text where there is none.
-fn word_at<'w>(words: &[&'w str], place: u8) -> &'w str
-    ensures { result.now ≡ unwrap_or (slice_get (map (λ word. word.now) words.now) place) [] }
+fn named_line(alloc: Global, name: &str, what: &str) -> Result<String, AllocError>
+    ensures { IfOk result (λ line. string_bytes line ≡ named_line name.now what.now) }
 {
-    words.get(usize::from(place)).copied().unwrap_or("")
-}
-
-fn named_line(alloc: Global, words: &[&str], file: u8, what: &str) -> Result<String, AllocError>
-    ensures { IfOk result (λ line. string_bytes line ≡ named_line (map (λ word. word.now) words.now) file what.now) }
-{
-    let word = word_at(words, file);
-    format!(in alloc; "qp: {word}: {what}\n")
+    format!(in alloc; "qp: {name}: {what}\n")
 }

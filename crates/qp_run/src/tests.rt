@@ -1,4 +1,6 @@
 //! Tests of the top call over files and streams in memory.
+mod conversions;
+
 use crate::{Status, qp_main};
 use arrayvec::ArrayString;
 use qp_base::{MemShelf, MemSink, NoGate};

@@ -7,4 +7,4 @@ parts : (word what : List ℕ) → codes "qp: " ++ (word ++ (codes ": " ++ (what
 parts word what = simp append_assoc
 
 pub returns : goal.returns
-returns c = ok-map c.format.result c.format.ensures.ok (λ s h. h ∙ (parts c.word_at-word.result.now c.args.what.now ∙ rw c.word_at-word.ensures))
+returns c = ok-map c.format.result c.format.ensures.ok (λ s h. h ∙ parts c.args.name.now c.args.what.now)

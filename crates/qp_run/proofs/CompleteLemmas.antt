@@ -1,0 +1,58 @@
+-- Calls in which no count rose.
+use Rattle.std.proofs.Common.{◌≡◌, ℕ, true, List, Option, Some, None, IfSome, refl, ap, ◌∙◌, ◌⊎◌, inl, inr}
+use Rattle.std.proofs.lemmas.Bool.{false≢true}
+use Rattle.qp_model.specs.declared.journals.Journal as journal
+use Rattle.qp_text.specs.TextLaw.{IsWritable}
+use Rattle.qp_run.specs.declared.status.Status.{Status}
+use Rattle.qp_run.specs.declared.status.Status.TheVariants.{Done, Words, Absent, TooLong, Refused, Later, Asserted, Spent, Memory, ReadFault, WriteFault}
+use Rattle.qp_run.specs.declared.words.values.Kind.{Kind}
+use Rattle.qp_run.specs.Conversions.{AnswersJournal, Held, answer_on, said, written}
+use Rattle.qp_run.specs.Loads.{IsLoaded}
+use Rattle.qp_run.specs.Verdict.{Agrees, Counts, Ends, EndsCall, HasCause, IsAnswer, IsComplete, is_failure}
+use Rattle.qp_run.specs.WordTable.{Asked, decode, migrate, run}
+use Rattle.qp_run.proofs.AnswerLaw.{loaded-goes_on, loaded-one, one-answer}
+use Rattle.qp_run.proofs.ConversionLemmas.{said-written}
+
+-- a failure shows in a count, but for want of memory
+failed-ends : (n : Counts) (wanted answer : Status) → is_failure answer ≡ true → HasCause n answer → Ends n wanted answer
+failed-ends n wanted Memory f c = λ reads out notes. inr refl
+failed-ends n wanted ReadFault f c = λ reads out notes. absurd (reads c)
+failed-ends n wanted WriteFault f (inl risen) = λ reads out notes. absurd (out risen)
+failed-ends n wanted WriteFault f (inr risen) = λ reads out notes. absurd (notes risen)
+failed-ends n wanted Done f c = absurd (false≢true f)
+failed-ends n wanted Words f c = absurd (false≢true f)
+failed-ends n wanted (Absent file) f c = absurd (false≢true f)
+failed-ends n wanted (TooLong file len) f c = absurd (false≢true f)
+failed-ends n wanted (Refused file code at) f c = absurd (false≢true f)
+failed-ends n wanted (Later file) f c = absurd (false≢true f)
+failed-ends n wanted (Asserted code lane) f c = absurd (false≢true f)
+failed-ends n wanted (Spent lane) f c = absurd (false≢true f)
+
+-- the answer is the wanted one, or a failure
+ends-so : (n : Counts) (wanted answer : Status) → (is_failure answer ≡ true) ⊎ (answer ≡ wanted) → HasCause n answer → Ends n wanted answer
+ends-so n wanted answer (inl failed) cause = failed-ends n wanted answer failed cause
+ends-so n wanted answer (inr is) cause = λ reads out notes. inl is
+
+-- the answer on a file with this journal
+on-journal : (kind : Kind) (on : journal.Journal → Status) (held : Option (List ℕ)) (answer : Status) (form : ℕ) (j : journal.Journal)
+    → IsWritable form j → IsLoaded held (written kind form j) → AnswersJournal kind on held answer → answer ≡ on j
+on-journal kind on held answer form j writable loaded (inl ends) = absurd (loaded-goes_on 1 held (written kind form j) answer loaded ends)
+on-journal kind on held answer form j writable loaded (inr (bytes, found, is)) =
+    is ∙ ap (λ x. answer_on on (said kind x)) (loaded-one held bytes (written kind form j) found loaded)
+    ∙ ap (answer_on on) (said-written kind form j writable)
+
+ends-call : (held : Held) (asked : Option Asked) (n : Counts) (answer : Status) → Agrees held asked answer → HasCause n answer → EndsCall held asked n answer
+unfolding IsAnswer
+ends-call held None n answer agrees cause = ends-so n Words answer agrees cause
+ends-call held (Some (run w)) n answer (inl failed) cause = λ done. ends-so n Done answer (inl failed) cause
+ends-call held (Some (run w)) n answer (inr is) cause = λ done. ends-so n Done answer (inr (one-answer held (Some (run w)) answer Done is done)) cause
+ends-call held (Some (decode frames)) n answer (inl failed) cause = λ form j writable loaded. ends-so n _ answer (inl failed) cause
+ends-call held (Some (decode frames)) n answer (inr is) cause = λ form j writable loaded.
+    ends-so n _ answer (inr (on-journal _ _ (held frames) answer form j writable loaded is)) cause
+ends-call held (Some (migrate w)) n answer (inl failed) cause = λ form j writable loaded. ends-so n _ answer (inl failed) cause
+ends-call held (Some (migrate w)) n answer (inr is) cause = λ form j writable loaded.
+    ends-so n _ answer (inr (on-journal _ _ (held w.file) answer form j writable loaded is)) cause
+
+pub complete : (o : Option Held) (asked : Option Asked) (n : Counts) (answer : Status) → IfSome o (λ held. Agrees held asked answer) → HasCause n answer → IsComplete o asked n answer
+complete None asked n answer agrees cause = tt
+complete (Some held) asked n answer agrees cause = ends-call held asked n answer agrees cause

@@ -1,0 +1,68 @@
+-- What `clap` found, as a command.
+use Rattle.std.proofs.Common.{◌≡◌, ◌∙◌, ap, refl, sym, Option, None, Some, option_map}
+use Rattle.std.specs.Borrow.{Bor}
+use Rattle.clap.specs.Words.{Text, first_of, first_value, rows_of}
+use Rattle.clap.specs.declared.parser.matches.Found.{Found}
+use Rattle.clap.proofs.WalkLemmas.{first_value-rows}
+use Rattle.qp_run.specs.declared.words.values.Kernel.{Kernel}
+use Rattle.qp_run.specs.declared.words.values.Kind.{Kind}
+use Rattle.qp_run.specs.declared.words.values.Form.{Form}
+use Rattle.qp_run.specs.WordTable.{migrate_with, run_with}
+
+-- the text of an option or operand, by the rows
+pub text-rows : (f : Found) (id : Text) (text o : Option (Bor Text)) → option_map (λ s. s.now) text ≡ first_value f id → text ≡ o
+    → first_of id (rows_of f) ≡ option_map (λ s. s.now) o
+text-rows f id text o is e = sym (first_value-rows f id) ∙ (sym is ∙ ap (option_map (λ s. s.now)) e)
+
+-- what the text of an option is read as, by the rows
+pub read-rows : {A : Type 0} (read : Option Text → A) (f : Found) (id : Text) (text : Option (Bor Text)) (value a : A)
+    → option_map (λ s. s.now) text ≡ first_value f id → value ≡ read (option_map (λ s. s.now) text) → value ≡ a
+    → read (first_of id (rows_of f)) ≡ a
+read-rows read f id text value a is e was = ap read (text-rows f id text text is refl) ∙ (sym e ∙ was)
+
+-- a run without one of its parts is none
+
+pub run-no_kernel : (o : Option Kind) (f : Option Form) (s t : Option Text) → run_with None o f s t ≡ None
+unfolding run_with
+run-no_kernel o f s t = refl
+
+pub run-no_kind : (k : Option Kernel) (f : Option Form) (s t : Option Text) → run_with k None f s t ≡ None
+unfolding run_with
+run-no_kind None f s t = refl
+run-no_kind (Some k) f s t = refl
+
+pub run-no_form : (k : Option Kernel) (o : Option Kind) (s t : Option Text) → run_with k o None s t ≡ None
+unfolding run_with
+run-no_form None o s t = refl
+run-no_form (Some k) None s t = refl
+run-no_form (Some k) (Some o) s t = refl
+
+pub run-no_system : (k : Option Kernel) (o : Option Kind) (f : Option Form) (t : Option Text) → run_with k o f None t ≡ None
+unfolding run_with
+run-no_system None o f t = refl
+run-no_system (Some k) None f t = refl
+run-no_system (Some k) (Some o) None t = refl
+run-no_system (Some k) (Some o) (Some f) t = refl
+
+pub run-no_stimuli : (k : Option Kernel) (o : Option Kind) (f : Option Form) (s : Option Text) → run_with k o f s None ≡ None
+unfolding run_with
+run-no_stimuli None o f s = refl
+run-no_stimuli (Some k) None f s = refl
+run-no_stimuli (Some k) (Some o) None s = refl
+run-no_stimuli (Some k) (Some o) (Some f) None = refl
+run-no_stimuli (Some k) (Some o) (Some f) (Some s) = refl
+
+pub migrate-no_kind : (f : Option Form) (file : Option Text) → migrate_with None f file ≡ None
+unfolding migrate_with
+migrate-no_kind f file = refl
+
+pub migrate-no_form : (k : Option Kind) (file : Option Text) → migrate_with k None file ≡ None
+unfolding migrate_with
+migrate-no_form None file = refl
+migrate-no_form (Some k) file = refl
+
+pub migrate-no_file : (k : Option Kind) (f : Option Form) → migrate_with k f None ≡ None
+unfolding migrate_with
+migrate-no_file None f = refl
+migrate-no_file (Some k) None = refl
+migrate-no_file (Some k) (Some f) = refl

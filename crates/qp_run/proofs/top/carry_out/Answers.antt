@@ -1,0 +1,12 @@
+use Rattle.qp_run.proofs.VerdictLemmas.{agrees-run, agrees-decode, agrees-migrate}
+use Rattle.qp_run.proofs.top.carry_out.Goals as goal
+
+pub returns-in-Run-Sim-default-default-default-default-clause-told : goal.returns-in-Run-Sim-default-default-default-default-clause-told
+returns-in-Run-Sim-default-default-default-default-clause-told g c =
+    rw c.in-Run-Sim-default-default-default-default.is (agrees-run _ _ _ c.run_files.ensures.told)
+
+pub returns-in-Decode-clause-told : goal.returns-in-Decode-clause-told
+returns-in-Decode-clause-told g c = rw c.in-Decode.is (agrees-decode _ _ _ c.decode.ensures.told)
+
+pub returns-in-Migrate-clause-told : goal.returns-in-Migrate-clause-told
+returns-in-Migrate-clause-told g c = rw c.in-Migrate.is (agrees-migrate _ _ _ c.migrate.ensures.told)

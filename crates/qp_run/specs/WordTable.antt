@@ -1,0 +1,149 @@
+-- The words of a call: a command word, and what `clap` makes of the rest.
+use Rattle.std.specs.Prelude.{codes, ℕ, ◌==◌, true, List, [], ◌∷◌, Option, None, Some, if◌then◌else◌, option_and_then}
+use Rattle.std.specs.Str.{bytes_eq}
+use Rattle.clap.specs.Words.{App, Kinds, Row, Rule, Text, fault_of, first_of, matches_of, new_rule}
+use Rattle.clap.specs.Simple.{new_shape}
+use Rattle.clap.specs.declared.builder.action.ArgAction.TheVariants.{Set}
+use Rattle.qp_run.specs.declared.words.Command.{Command}
+use Rattle.qp_run.specs.declared.words.Command.TheVariants.{Run, Decode, Migrate}
+use Rattle.qp_run.specs.declared.words.values.Kernel.{Kernel}
+use Rattle.qp_run.specs.declared.words.values.Kernel.TheVariants.{Sim}
+use Rattle.qp_run.specs.declared.words.values.Kind.{Kind}
+use Rattle.qp_run.specs.declared.words.values.Kind.TheVariants.{Journal, Frames}
+use Rattle.qp_run.specs.declared.words.values.Form.{Form}
+use Rattle.qp_run.specs.declared.words.values.Form.TheVariants.{One, Two}
+
+-- ---- the commands, as `clap` reads them
+
+-- an option: a long flag with one text value
+abbrev pub option : Text → Rule
+option name = record (new_rule name) { long = Some name; action = Some Set }
+
+-- an operand: a required positional with one text value
+abbrev pub operand : Text → Rule
+operand name = record (new_rule name) { action = Some Set; required = true }
+
+-- a command with these arguments and nothing else: no flag for help or the version, and no subcommand
+abbrev pub plain_app : Text → List Rule → App
+plain_app word rules = record {
+  top = record (new_shape word) {
+    rules = rules;
+    disable_help_flag = true;
+    disable_version_flag = true;
+  };
+  subs = [];
+}
+
+-- run [--kernel K] [--out O] [--form F] SYSTEM STIMULI
+unfoldable pub run_app : App
+run_app = plain_app (codes "run")
+    (option (codes "kernel") ∷ option (codes "out") ∷ option (codes "form") ∷ operand (codes "system") ∷ operand (codes "stimuli") ∷ [])
+
+-- decode FRAMES
+unfoldable pub decode_app : App
+decode_app = plain_app (codes "decode") (operand (codes "frames") ∷ [])
+
+-- migrate [--from K] [--to F] FILE
+unfoldable pub migrate_app : App
+migrate_app = plain_app (codes "migrate") (option (codes "from") ∷ option (codes "to") ∷ operand (codes "file") ∷ [])
+
+-- the rows, where there is no fault
+abbrev pub rows_unless : Kinds → List Row → Option (List Row)
+rows_unless [] rows = Some rows
+rows_unless (fault ∷ faults) rows = None
+
+-- what `clap` finds in the words, where it takes them; the first word stands in the place of a program's name
+abbrev pub found_in : App → List Text → Option (List Row)
+found_in app words = rows_unless (fault_of app words) (matches_of app words)
+
+-- ---- the values of options; without the option the default
+
+unfoldable pub kernel_in : Option Text → Option Kernel
+kernel_in None = Some Sim
+kernel_in (Some word) = if bytes_eq word (codes "sim") then Some Sim else None
+
+unfoldable pub kind_in : Option Text → Option Kind
+kind_in None = Some Journal
+kind_in (Some word) =
+    if bytes_eq word (codes "journal") then Some Journal
+    else (if bytes_eq word (codes "frames") then Some Frames else None)
+
+unfoldable pub form_in : Form → Option Text → Option Form
+form_in default None = Some default
+form_in default (Some word) =
+    if bytes_eq word (codes "1") then Some One
+    else (if bytes_eq word (codes "2") then Some Two else None)
+
+abbrev pub number_of_form : Form → ℕ
+number_of_form One = 1
+number_of_form Two = 2
+
+-- ---- what a call asks for, with its words as texts
+
+pub record RunWords : Type 0 where
+  pub kernel : Kernel
+  pub out : Kind
+  pub form : Form
+  pub system : Text
+  pub stimuli : Text
+
+pub record MigrateWords : Type 0 where
+  pub from : Kind
+  pub to : Form
+  pub file : Text
+
+pub data Asked : Type 0 where
+  run : RunWords → Asked
+  decode : Text → Asked
+  migrate : MigrateWords → Asked
+
+abbrev pub asked_of : Command → Asked
+asked_of (Run k o f system stimuli) = run (record { kernel = k; out = o; form = f; system = system.now; stimuli = stimuli.now })
+asked_of (Decode frames) = decode frames.now
+asked_of (Migrate k f file) = migrate (record { from = k; to = f; file = file.now })
+
+-- the word of an operand, by its place from 1; no text elsewhere
+abbrev pub operand_at : Asked → ℕ → Text
+operand_at (run w) place = if place == 1 then w.system else (if place == 2 then w.stimuli else [])
+operand_at (decode frames) place = if place == 1 then frames else []
+operand_at (migrate w) place = if place == 1 then w.file else []
+
+abbrev pub operand_in : Option Asked → ℕ → Text
+operand_in None place = []
+operand_in (Some asked) place = operand_at asked place
+
+-- all parts of a run are there
+unfoldable pub run_with : Option Kernel → Option Kind → Option Form → Option Text → Option Text → Option Asked
+run_with (Some k) (Some o) (Some f) (Some system) (Some stimuli) =
+    Some (run (record { kernel = k; out = o; form = f; system = system; stimuli = stimuli }))
+run_with _ _ _ _ _ = None
+
+abbrev pub run_in : List Row → Option Asked
+run_in rows = run_with (kernel_in (first_of (codes "kernel") rows)) (kind_in (first_of (codes "out") rows))
+    (form_in One (first_of (codes "form") rows)) (first_of (codes "system") rows) (first_of (codes "stimuli") rows)
+
+unfoldable pub decode_with : Option Text → Option Asked
+decode_with (Some frames) = Some (decode frames)
+decode_with None = None
+
+abbrev pub decode_in : List Row → Option Asked
+decode_in rows = decode_with (first_of (codes "frames") rows)
+
+unfoldable pub migrate_with : Option Kind → Option Form → Option Text → Option Asked
+migrate_with (Some k) (Some f) (Some file) = Some (migrate (record { from = k; to = f; file = file }))
+migrate_with _ _ _ = None
+
+abbrev pub migrate_in : List Row → Option Asked
+migrate_in rows = migrate_with (kind_in (first_of (codes "from") rows)) (form_in Two (first_of (codes "to") rows)) (first_of (codes "file") rows)
+
+-- what the words ask for, where they are a command
+unfoldable pub asked_by : Text → List Text → Option Asked
+asked_by word words =
+    if bytes_eq word (codes "run") then option_and_then run_in (found_in run_app words)
+    else (if bytes_eq word (codes "decode") then option_and_then decode_in (found_in decode_app words)
+    else (if bytes_eq word (codes "migrate") then option_and_then migrate_in (found_in migrate_app words) else None))
+
+-- the command of a call's words, of which the first is the command word; other words have none
+unfoldable pub command_in : List Text → Option Asked
+command_in [] = None
+command_in (word ∷ rest) = asked_by word (word ∷ rest)

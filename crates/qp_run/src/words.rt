@@ -1,0 +1,131 @@
+//! The words of a call: a command word, and what `clap` reads of the rest.
+ghost use Rattle.std.specs.Prelude.{◌≡◌, map, option_and_then, option_map, IfOk};
+ghost use Rattle.qp_run.specs.WordTable.{asked_of, command_in, decode_app, decode_in, found_in, migrate_app, migrate_in, operand_at, run_app, run_in};
+ghost use Rattle.clap.specs.Words.{found_of, rows_of};
+
+mod apps;
+pub mod laws;
+#[cfg(test)]
+mod tests;
+mod values;
+
+use apps::{decode_app, matches_in, migrate_app, run_app};
+use clap::ArgMatches;
+use std::alloc::{AllocError, Global};
+pub use values::{Form, Kernel, Kind};
+use values::{form_of, kernel_of, kind_of};
+
+/// What a call asks for. Each file is named by the word of its operand.
+#[derive(Clone, Copy, PartialEq, Eq, Debug)]
+pub enum Command<'w> {
+    /// Run a system on its stimuli, and print the journal.
+    Run {
+        kernel: Kernel,
+        out: Kind,
+        form: Form,
+        system: &'w str,
+        stimuli: &'w str,
+    },
+    /// Print the text of a journal that is given as frames.
+    Decode {
+        frames: &'w str,
+    },
+    /// Print a journal in another form.
+    Migrate {
+        from: Kind,
+        to: Form,
+        file: &'w str,
+    },
+}
+
+impl<'w> Command<'w> {
+    /// The word of an operand, by its place from 1; no text elsewhere.
+    pub fn operand(&self, place: u8) -> &'w str
+        ensures { result.now ≡ operand_at (asked_of self.now) place }
+    {
+        match (self, place) {
+            (Command::Run { system, .. }, 1) => system,
+            (Command::Run { stimuli, .. }, 2) => stimuli,
+            (Command::Decode { frames }, 1) => frames,
+            (Command::Migrate { file, .. }, 1) => file,
+            _ => "",
+        }
+    }
+}
+
+fn run_found<'w>(found: &ArgMatches<'w>) -> Option<Command<'w>>
+    ensures { option_map asked_of result ≡ run_in (rows_of (found_of found.now)) }
+{
+    Some(Command::Run {
+        kernel: kernel_of(found.get_str("kernel"))?,
+        out: kind_of(found.get_str("out"))?,
+        form: form_of(found.get_str("form"), Form::One)?,
+        system: found.get_str("system")?,
+        stimuli: found.get_str("stimuli")?,
+    })
+}
+
+fn decode_found<'w>(found: &ArgMatches<'w>) -> Option<Command<'w>>
+    ensures { option_map asked_of result ≡ decode_in (rows_of (found_of found.now)) }
+{
+    Some(Command::Decode {
+        frames: found.get_str("frames")?,
+    })
+}
+
+fn migrate_found<'w>(found: &ArgMatches<'w>) -> Option<Command<'w>>
+    ensures { option_map asked_of result ≡ migrate_in (rows_of (found_of found.now)) }
+{
+    Some(Command::Migrate {
+        from: kind_of(found.get_str("from"))?,
+        to: form_of(found.get_str("to"), Form::Two)?,
+        file: found.get_str("file")?,
+    })
+}
+
+fn run_of<'w>(alloc: Global, words: &'w [&'w str]) -> Result<Option<Command<'w>>, AllocError>
+    ensures { IfOk result (λ found. option_map asked_of found ≡ option_and_then run_in (found_in run_app (map (λ word. word.now) words.entry.now))) }
+{
+    match matches_in(run_app(alloc)?, words)? {
+        Some(found) => Ok(run_found(&found)),
+        None => Ok(None),
+    }
+}
+
+fn decode_of<'w>(alloc: Global, words: &'w [&'w str]) -> Result<Option<Command<'w>>, AllocError>
+    ensures { IfOk result (λ found. option_map asked_of found ≡ option_and_then decode_in (found_in decode_app (map (λ word. word.now) words.entry.now))) }
+{
+    match matches_in(decode_app(alloc)?, words)? {
+        Some(found) => Ok(decode_found(&found)),
+        None => Ok(None),
+    }
+}
+
+fn migrate_of<'w>(alloc: Global, words: &'w [&'w str]) -> Result<Option<Command<'w>>, AllocError>
+    ensures { IfOk result (λ found. option_map asked_of found ≡ option_and_then migrate_in (found_in migrate_app (map (λ word. word.now) words.entry.now))) }
+{
+    match matches_in(migrate_app(alloc)?, words)? {
+        Some(found) => Ok(migrate_found(&found)),
+        None => Ok(None),
+    }
+}
+
+/// The command of a call's words; None for other words.
+///
+/// The first word is the command word. The rest is what `clap` makes of it for that command.
+pub fn command_of<'w>(
+    alloc: Global,
+    words: &'w [&'w str],
+) -> Result<Option<Command<'w>>, AllocError>
+    ensures { IfOk result (λ found. option_map asked_of found ≡ command_in (map (λ word. word.now) words.entry.now)) }
+{
+    let Some(word) = words.first() else {
+        return Ok(None);
+    };
+    match *word {
+        "run" => run_of(alloc, words),
+        "decode" => decode_of(alloc, words),
+        "migrate" => migrate_of(alloc, words),
+        _ => Ok(None),
+    }
+}

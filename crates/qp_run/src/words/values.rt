@@ -1,0 +1,74 @@
+//! The values of the options.
+ghost use Rattle.std.specs.Prelude.{◌≡◌, option_map};
+ghost use Rattle.qp_run.specs.WordTable.{form_in, kernel_in, kind_in, number_of_form};
+
+/// How the objects of a run are scheduled.
+#[derive(Clone, Copy, PartialEq, Eq, Debug)]
+pub enum Kernel {
+    /// The preemptive kernel in one thread.
+    Sim,
+}
+
+/// What bytes a journal is written as.
+#[derive(Clone, Copy, PartialEq, Eq, Debug)]
+pub enum Kind {
+    /// Text.
+    Journal,
+    /// Frames.
+    Frames,
+}
+
+/// The form of a journal's text or frames.
+#[derive(Clone, Copy, PartialEq, Eq, Debug)]
+pub enum Form {
+    One,
+    Two,
+}
+
+impl Form {
+    /// The number of the form, 1 or 2.
+    pub fn number(self) -> u8
+        ensures { result ≡ number_of_form self }
+    {
+        match self {
+            Form::One => 1,
+            Form::Two => 2,
+        }
+    }
+}
+
+/// The kernel of `--kernel`; without the option it is `sim`.
+#[tactic(auto, unfolding(crate::specs::WordTable::kernel_in))]
+pub(super) fn kernel_of(value: Option<&str>) -> Option<Kernel>
+    ensures { result ≡ kernel_in (option_map (λ word. word.now) value.entry) }
+{
+    match value {
+        None | Some("sim") => Some(Kernel::Sim),
+        Some(_) => None,
+    }
+}
+
+/// The kind of `--out` or `--from`; without the option it is text.
+#[tactic(auto, unfolding(crate::specs::WordTable::kind_in))]
+pub(super) fn kind_of(value: Option<&str>) -> Option<Kind>
+    ensures { result ≡ kind_in (option_map (λ word. word.now) value.entry) }
+{
+    match value {
+        None | Some("journal") => Some(Kind::Journal),
+        Some("frames") => Some(Kind::Frames),
+        Some(_) => None,
+    }
+}
+
+/// The form of `--form` or `--to`; without the option it is `default`.
+#[tactic(auto, unfolding(crate::specs::WordTable::form_in))]
+pub(super) fn form_of(value: Option<&str>, default: Form) -> Option<Form>
+    ensures { result ≡ form_in default (option_map (λ word. word.now) value.entry) }
+{
+    match value {
+        None => Some(default),
+        Some("1") => Some(Form::One),
+        Some("2") => Some(Form::Two),
+        Some(_) => None,
+    }
+}
