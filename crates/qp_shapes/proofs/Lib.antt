@@ -1,0 +1,9 @@
+pub mod ShapeReleaseLemmas
+pub mod ShapePartLemmas
+pub mod ShapePostLemmas
+pub mod ShapeWholeLemmas
+pub mod ShapeSoundLemmas
+pub mod ShapeUnitLemmas
+pub mod ShapeAssertionLemmas
+pub mod ShapeAssertedLemmas
+pub mod ShapeSameLemmas
