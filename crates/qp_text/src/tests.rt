@@ -36,7 +36,7 @@ fn a_text_is_read_and_written_alike(rt: HostRuntime) -> Result<(), Fail> {
 
 #[test]
 fn the_first_wrong_line_is_told(rt: HostRuntime) {
-    let cases: [(&[u8], u64, u8); 22] = [
+    let cases: [(&[u8], u64, u8); 29] = [
         (b"", 1, 5),
         (b"\n", 1, 1),
         (b"qp 1 0 1\n", 2, 5),
@@ -59,6 +59,13 @@ fn the_first_wrong_line_is_told(rt: HostRuntime) {
         (b"qp 3 0 1\n", 1, 6),
         (b"qp 1 3 1\n", 1, 6),
         (b"qp 1 0 1\nlane 0\nbegin 33\n", 3, 6),
+        (b"qp 2 0 1\nLane 0\n", 2, 1),
+        (b"qp 2 0 1\nlane 00\n", 2, 2),
+        (b"qp 2 0\n", 1, 3),
+        (b"qp 2 0 1\nlane 1\n", 2, 4),
+        (b"qp 2 0 1\n", 2, 5),
+        (b"qp 2 4 1\n", 1, 6),
+        (b"qp 2 0 1\nend 1\n", 2, 6),
     ];
     for (text, number, code) in cases {
         match read_journal(rt.alloc(), text) {
@@ -66,4 +73,21 @@ fn the_first_wrong_line_is_told(rt: HostRuntime) {
             Err(fault) => assert_eq!(rt; fault, TextFault::Line { number, code }),
         }
     }
+}
+
+/// A text that ends behind a whole line lacks its `end`, and one that ends within a line lacks a newline there.
+#[test]
+fn a_cut_text_is_told_by_its_last_line(rt: HostRuntime) {
+    let mut number: u64 = 1;
+    let mut is_whole = true;
+    for (k, byte) in LAMP.iter().enumerate() {
+        let code = if is_whole { 5 } else { 1 };
+        match read_journal(rt.alloc(), &LAMP[..k]) {
+            Ok(_) => assert!(rt; false, "a text of {k} bytes is read"),
+            Err(fault) => assert_eq!(rt; fault, TextFault::Line { number, code }),
+        }
+        is_whole = *byte == b'\n';
+        number = number.wrapping_add(u64::from(is_whole));
+    }
+    assert_eq!(rt; number, 19);
 }
