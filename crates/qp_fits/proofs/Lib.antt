@@ -1,0 +1,19 @@
+-- The lemmas of the judge's reader of calls.
+pub mod FrontLemmas
+pub mod BeginLemmas
+pub mod DeferLemmas
+pub mod FlushLemmas
+pub mod KeptLemmas
+pub mod LookupLemmas
+pub mod NewLemmas
+pub mod OpenLemmas
+pub mod PostLemmas
+pub mod PublishLemmas
+pub mod PutLemmas
+pub mod ReadLemmas
+pub mod RecallLemmas
+pub mod ReleaseLemmas
+pub mod SetLemmas
+pub mod SingleLemmas
+pub mod SomeLemmas
+pub mod StageLemmas

@@ -1,0 +1,24 @@
+//! The records that a call of given arguments may leave, read one by one.
+#![tactic(auto)]
+
+mod call;
+mod ends;
+mod firsts;
+mod goes;
+mod kept;
+pub mod lookups;
+mod members;
+mod pieces;
+mod puts;
+mod rest;
+mod singles;
+mod stage;
+#[cfg(test)]
+mod tests;
+mod told;
+
+pub use call::{Answer, Call};
+pub use kept::Kept;
+pub use pieces::{Cut, Piece};
+pub use rest::Rest;
+pub use told::{Known, Told};
