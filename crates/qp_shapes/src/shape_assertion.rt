@@ -7,12 +7,12 @@ ghost use Rattle.qp_shapes.specs.ShapeAssertion.{IsAsserted, behind_no_entry, be
 
 use crate::shape_pools::{goes_to, is_used};
 use crate::shape_scene::{Scene, do_fit};
-use crate::shape_told::{Known, Told};
 use crate::shape_unit::{when, works_on, works_on_static};
+use qp_fits::{Known, Told};
 use qp_model::{Body, Entry};
 
 /// What stands behind a post that finds no entry.
-fn behind_no_entry<'a>(told: &'a [Told]) -> Option<&'a [Told]>
+pub fn behind_no_entry<'a>(told: &'a [Told]) -> Option<&'a [Told]>
     ensures { option_map (λ x. x.now) result ≡ behind_no_entry told.now }
 {
     let (first, rest) = told.split_first()?;
@@ -23,7 +23,7 @@ fn behind_no_entry<'a>(told: &'a [Told]) -> Option<&'a [Told]>
 }
 
 /// What stands behind a last-in post of `o` that finds no entry.
-fn behind_no_lifo<'a>(o: u8, told: &'a [Told]) -> Option<&'a [Told]>
+pub fn behind_no_lifo<'a>(o: u8, told: &'a [Told]) -> Option<&'a [Told]>
     ensures { option_map (λ x. x.now) result ≡ behind_no_lifo o told.now }
 {
     let (first, rest) = told.split_first()?;
@@ -34,7 +34,7 @@ fn behind_no_lifo<'a>(o: u8, told: &'a [Told]) -> Option<&'a [Told]>
 }
 
 /// What stands behind either of them.
-fn behind_cut<'a>(o: u8, told: &'a [Told]) -> Option<&'a [Told]>
+pub fn behind_cut<'a>(o: u8, told: &'a [Told]) -> Option<&'a [Told]>
     ensures { option_map (λ x. x.now) result ≡ behind_cut o told.now }
 {
     let (first, rest) = told.split_first()?;
@@ -92,7 +92,7 @@ fn behind_recall_cut<'a>(o: u8, k: Entry, told: &'a [Told]) -> Option<&'a [Told]
 
 /// What stands behind a call that ends in its assertion and whose first record states all.
 #[tactic(auto, unfolding(crate::specs::ShapeAssertion::plain_cut))]
-fn plain_cut<'a>(
+pub fn plain_cut<'a>(
     scene: &Scene,
     now: Option<Entry>,
     body: &Body,
@@ -145,7 +145,11 @@ fn given_cut<'a>(scene: &Scene, free: u64, body: &Body, rest: &'a [Told]) -> Opt
     }
 }
 
-fn assertion_first<'a>(scene: &Scene, now: Option<Entry>, told: &'a [Told]) -> Option<&'a [Told]>
+pub fn assertion_first<'a>(
+    scene: &Scene,
+    now: Option<Entry>,
+    told: &'a [Told],
+) -> Option<&'a [Told]>
     ensures { option_map (λ x. x.now) result ≡ behind_assertion scene.now.sys.now scene.now.o now told.now }
 {
     let (first, rest) = told.split_first()?;

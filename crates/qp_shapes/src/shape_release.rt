@@ -4,11 +4,11 @@ ghost use Rattle.std.specs.Prelude.{◌≡◌};
 ghost use Rattle.std.specs.Option.{option_map};
 ghost use Rattle.qp_shapes.specs.ShapeRelease.{behind_back, behind_drop, behind_release};
 
-use crate::shape_told::{Known, Told};
+use qp_fits::{Known, Told};
 use qp_model::{Body, Entry};
 
 /// What stands behind the `back` of a block whose last reference operation `d` dropped.
-fn behind_back<'a>(p: u64, b: u64, d: u64, told: &'a [Told]) -> Option<&'a [Told]>
+pub fn behind_back<'a>(p: u64, b: u64, d: u64, told: &'a [Told]) -> Option<&'a [Told]>
     ensures { option_map (λ x. x.now) result ≡ behind_back p b d told.now }
 {
     let (first, rest) = told.split_first()?;

@@ -1,8 +1,8 @@
 use crate::shape_assertion::behind_assertion;
 use crate::shape_scene::Scene;
-use crate::shape_told::{Known, Told};
 use crate::shape_unit::behind_unit;
 use arrayvec::{ArrayString, ArrayVec};
+use qp_fits::{Known, Told};
 use qp_model::{
     Body, Charts, Entry, ObjectDef, ObjectDefs, Params, PoolDef, PoolDefs, SignalDef, SignalDefs,
     System, TimerDefs, Values,
@@ -29,7 +29,7 @@ fn lamp(alloc: Global) -> ObjectDef {
 }
 
 /// A pool, the static signal 4, and an object with a ring of 1.
-fn system(alloc: Global) -> Result<System, AllocError> {
+pub fn system(alloc: Global) -> Result<System, AllocError> {
     let pools = vec![in alloc; PoolDef { size: 1, blocks: 2 }]?;
     let signals = vec![in alloc;
         SignalDef {
@@ -52,18 +52,18 @@ fn system(alloc: Global) -> Result<System, AllocError> {
     })
 }
 
-fn plain(body: Body) -> Told {
+pub fn plain(body: Body) -> Told {
     Told {
         body,
         known: Known::Nothing,
     }
 }
 
-fn entry(pool: u64, block: u64, name: u64) -> Entry {
+pub fn entry(pool: u64, block: u64, name: u64) -> Entry {
     Entry { pool, block, name }
 }
 
-fn posted(m: u64, entry: Entry) -> Told {
+pub fn posted(m: u64, entry: Entry) -> Told {
     plain(Body::Post {
         a: 1,
         f: 1,
@@ -73,7 +73,7 @@ fn posted(m: u64, entry: Entry) -> Told {
     })
 }
 
-fn given() -> Told {
+pub fn given() -> Told {
     let pars = Params {
         items: ArrayVec::new(),
     };
@@ -90,7 +90,7 @@ fn given() -> Told {
     }
 }
 
-fn referred() -> Told {
+pub fn referred() -> Told {
     plain(Body::Inc { p: 1, b: 0, r: 0 })
 }
 
@@ -104,7 +104,7 @@ fn full() -> Told {
     })
 }
 
-fn dropped(n: u64) -> Told {
+pub fn dropped(n: u64) -> Told {
     Told {
         body: Body::Dec {
             p: 1,
@@ -116,7 +116,7 @@ fn dropped(n: u64) -> Told {
     }
 }
 
-fn back(to: u64) -> Told {
+pub fn back(to: u64) -> Told {
     plain(Body::Back {
         p: 1,
         n: 1,

@@ -11,7 +11,7 @@ ghost use Rattle.qp_shapes.specs.ShapeUnit.{IsUnit, post_first, behind_again, be
 use crate::shape_pools::{goes_to, is_used};
 use crate::shape_release::behind_release;
 use crate::shape_scene::{Scene, do_fit, is_same};
-use crate::shape_told::{Known, Told};
+use qp_fits::{Known, Told};
 use qp_model::{Body, Entry};
 
 /// What stands behind a first record that passes a test.
@@ -22,7 +22,7 @@ pub fn when<'a>(passed: bool, rest: &'a [Told]) -> Option<&'a [Told]>
 }
 
 /// An entry by its pool, its block and its reference.
-fn entry(pool: u64, block: u64, name: u64) -> Entry
+pub fn entry(pool: u64, block: u64, name: u64) -> Entry
     ensures { result ≡ entry pool block name }
 {
     Entry { pool, block, name }
@@ -43,7 +43,7 @@ fn post_first<'a>(scene: &Scene, e: Entry, first: &Told, rest: &'a [Told]) -> Op
 }
 
 /// The same, or a deferral.
-fn behind_again<'a>(scene: &Scene, e: Entry, told: &'a [Told]) -> Option<&'a [Told]>
+pub fn behind_again<'a>(scene: &Scene, e: Entry, told: &'a [Told]) -> Option<&'a [Told]>
     ensures { option_map (λ x. x.now) result ≡ behind_again scene.now.sys.now e told.now }
 {
     let (first, rest) = told.split_first()?;
@@ -54,7 +54,7 @@ fn behind_again<'a>(scene: &Scene, e: Entry, told: &'a [Told]) -> Option<&'a [To
 }
 
 /// A post of an entry, in either order.
-fn behind_entry<'a>(scene: &Scene, e: Entry, told: &'a [Told]) -> Option<&'a [Told]>
+pub fn behind_entry<'a>(scene: &Scene, e: Entry, told: &'a [Told]) -> Option<&'a [Told]>
     ensures { option_map (λ x. x.now) result ≡ behind_entry scene.now.sys.now e told.now }
 {
     let (first, rest) = told.split_first()?;
@@ -157,7 +157,7 @@ pub fn works_on(now: Option<Entry>, p: u64, b: u64) -> bool
 
 /// What stands behind an action whose first record states all.
 #[tactic(auto, unfolding(crate::specs::ShapeUnit::plain_first))]
-fn plain_first<'a>(
+pub fn plain_first<'a>(
     scene: &Scene,
     now: Option<Entry>,
     body: &Body,
@@ -221,7 +221,7 @@ fn given_first<'a>(scene: &Scene, free: u64, body: &Body, rest: &'a [Told]) -> O
     }
 }
 
-fn unit_first<'a>(scene: &Scene, now: Option<Entry>, told: &'a [Told]) -> Option<&'a [Told]>
+pub fn unit_first<'a>(scene: &Scene, now: Option<Entry>, told: &'a [Told]) -> Option<&'a [Told]>
     ensures { option_map (λ x. x.now) result ≡ behind_unit scene.now.sys.now scene.now.o now told.now }
 {
     let (first, rest) = told.split_first()?;

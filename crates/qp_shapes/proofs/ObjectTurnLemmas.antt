@@ -1,0 +1,175 @@
+-- What the first records of an object's turns tell, and what stands behind these.
+use Rattle.std.proofs.Common.{◌≡◌, ℕ, Bool, true, List, [], ◌∷◌, ◌++◌, Some, None, refl, sym, ◌∙◌, ap, subst, append_assoc}
+use Rattle.std.specs.declared.option.Option.{Option}
+use Rattle.qp_model.specs.declared.bodies.Entry.{Entry}
+use Rattle.qp_model.specs.declared.bodies.Body.{Body}
+use Rattle.qp_model.specs.declared.bodies.Body.TheVariants as item
+use Rattle.qp_model.specs.Told.{Told, Known, Nothing, OfEvent, Event, plain, taken}
+use Rattle.qp_model.specs.ObjectShape.{StepHead, is_head}
+use Rattle.qp_shapes.specs.ShapeRelease.{Leaves}
+use Rattle.qp_shapes.specs.GroupsRead.{ReadsAll, IsElement, is_close, is_outer}
+use Rattle.qp_shapes.specs.GroupsFirst.{behind_done}
+use Rattle.qp_shapes.specs.ObjectRead.{Closes, IsTurnOf, Steps, Finds}
+use Rattle.qp_shapes.specs.ObjectFirst.{taken_first, taken_entry, tells_head, behind_head, nil_first, behind_nil, begin_first, behind_begin}
+use Rattle.qp_shapes.proofs.ShapeReleaseLemmas.{when-passed, told-is}
+use Rattle.qp_shapes.proofs.GroupsReadLemmas.{Parts, reads-close}
+use Rattle.qp_shapes.proofs.GroupsElementLemmas.{element-parts}
+use Rattle.qp_shapes.proofs.GroupsFirstLemmas.{leaves-at, leaves-sound, leaves-whole, done-is}
+
+pub taken-is : (t : Told) (e : Entry) → taken_first t.body t.known ≡ Some e → (f l m : ℕ) × (ev : Event) × (t ≡ taken f l m e ev)
+taken-is t e h = by t.body t.known refl refl h
+  where
+    by : (body : Body) (known : Known) → t.body ≡ body → t.known ≡ known → taken_first body known ≡ Some e → (f l m : ℕ) × (ev : Event) × (t ≡ taken f l m e ev)
+    by (item.Took f l m d) (OfEvent ev) is_body is_known h =
+        let same : d ≡ e = cc in
+        let whole : t ≡ taken f l m d ev = told-is t _ _ is_body is_known in
+        (f, l, m, ev, whole ∙ ap (λ x. taken f l m x ev) same)
+    by body known is_body is_known h = absurd (cc)
+
+head-tells : (t : Told) → tells_head t.body t.known ≡ true → (b : Body) × (is_head b ≡ true) × (t ≡ plain b)
+head-tells t h = by t.known refl h
+  where
+    by : (known : Known) → t.known ≡ known → tells_head t.body known ≡ true → (b : Body) × (is_head b ≡ true) × (t ≡ plain b)
+    by Nothing is h = (t.body, h, told-is t t.body Nothing refl is)
+    by known is h = absurd (cc)
+
+-- the first two records of a step
+pub step-is : (told body : List Told) (e : Entry) → taken_entry told ≡ Some e → behind_head told ≡ Some body → (head : List Told) × StepHead e head × (told ≡ head ++ body)
+unfolding StepHead
+step-is [] body e h k = absurd (cc)
+step-is (t ∷ []) body e h k = absurd (cc)
+step-is (t ∷ u ∷ rest) body e h k =
+    let first = taken-is t e h in
+    let test = when-passed (tells_head u.body u.known) rest body k in
+    let second = head-tells u test.0 in
+    let one : t ≡ taken first.0 first.1 first.2 e first.3 = first.4 in
+    let two : u ≡ plain second.0 = second.2 in
+    let behind : rest ≡ body = test.1 in (
+      t ∷ u ∷ [],
+      (first.0, first.1, first.2, first.3, second.0, second.1, ap (λ x. x ∷ u ∷ []) one ∙ ap (λ x. taken first.0 first.1 first.2 e first.3 ∷ x ∷ []) two),
+      ap (λ us. t ∷ u ∷ us) behind,
+    )
+
+pub step-told : (e : Entry) (head body : List Told) → StepHead e head → (taken_entry (head ++ body) ≡ Some e) × (behind_head (head ++ body) ≡ Some body)
+unfolding StepHead
+step-told e head body h =
+    subst (λ us. (taken_entry (us ++ body) ≡ Some e) × (behind_head (us ++ body) ≡ Some body)) (sym h.6) (refl, passes h.4 h.5)
+  where
+    passes : (b : Body) → is_head b ≡ true → behind_head ((taken h.0 h.1 h.2 e h.3 ∷ plain b ∷ []) ++ body) ≡ Some body
+    passes b is = rw is refl
+
+-- groups, `done`, and more
+pub closes-leaves : (W D : List Told → Type 0) → Parts is_outer W → (told rest more : List Told) (r : Option (List Told)) → ReadsAll (IsElement W) told rest → Some more ≡ behind_done rest
+    → Leaves D more r → Leaves (Closes W D) told r
+unfolding Closes
+closes-leaves W D laws told rest more r reads done l = leaves-at (Closes W D) told r sound whole
+  where
+    first : rest ≡ plain item.Done ∷ more
+    first = done-is rest more (sym done)
+
+    sound : (left : List Told) → r ≡ Some left → (g : List Told) × Closes W D g × (told ≡ g ++ left)
+    sound left is =
+        let d = leaves-sound D more r l left is in (
+          reads.whole ++ (plain item.Done ∷ d.0),
+          (reads.whole, d.0, reads.parts, d.1, refl),
+          reads.is ∙ ap (λ us. reads.whole ++ us) (first ∙ ap (λ us. plain item.Done ∷ us) d.2) ∙ sym (append_assoc reads.whole (plain item.Done ∷ d.0) left),
+        )
+
+    whole : (g other : List Told) → told ≡ g ++ other → Closes W D g → r ≡ Some other
+    whole g other is c =
+        let close : rest ≡ plain item.Done ∷ (c.1 ++ other) =
+        reads-close is_close (IsElement W) (element-parts W laws) told rest reads c.0 (plain item.Done) (c.1 ++ other) c.2 refl
+        (is ∙ ap (λ us. us ++ other) c.4 ∙ append_assoc c.0 (plain item.Done ∷ c.1) other) in
+        let both : plain item.Done ∷ more ≡ plain item.Done ∷ (c.1 ++ other) = sym first ∙ close in
+        let behind : more ≡ c.1 ++ other = cc in
+        leaves-whole D more r l c.1 other behind c.3
+
+pub closes-none : (W D : List Told → Type 0) → Parts is_outer W → (told rest : List Told) → ReadsAll (IsElement W) told rest → None ≡ behind_done rest → Leaves (Closes W D) told None
+unfolding Closes
+closes-none W D laws told rest reads none = leaves-at (Closes W D) told None (λ left is. absurd (cc)) whole
+  where
+    whole : (g other : List Told) → told ≡ g ++ other → Closes W D g → None ≡ Some other
+    whole g other is c =
+        let close : rest ≡ plain item.Done ∷ (c.1 ++ other) =
+        reads-close is_close (IsElement W) (element-parts W laws) told rest reads c.0 (plain item.Done) (c.1 ++ other) c.2 refl
+        (is ∙ ap (λ us. us ++ other) c.4 ∙ append_assoc c.0 (plain item.Done ∷ c.1) other) in
+        let some : behind_done rest ≡ Some (c.1 ++ other) = ap behind_done close in absurd (cc)
+
+nil-entry : (f l m : ℕ) (told rest : List Told) → told ≡ plain (item.Nil f l m) ∷ rest → taken_entry told ≡ None
+nil-entry f l m told rest is = ap taken_entry is
+
+-- a step in front of a list
+turn-steps : (act : Option Entry → List Told → Type 0) (release : Entry → List Told → Type 0) (nils : Bool) (told g other : List Told) (e : Entry) → taken_entry told ≡ Some e
+    → IsTurnOf act release nils g → told ≡ g ++ other → (body : List Told) × Closes (act (Some e)) (release e) body × (behind_head told ≡ Some (body ++ other))
+turn-steps act release nils told g other e h (Finds f l m n k) is =
+    let none : taken_entry told ≡ None = nil-entry f l m told other (is ∙ ap (λ us. us ++ other) k) in absurd (cc)
+turn-steps act release nils told g other e h (Steps d head body s c k) is =
+    let all : told ≡ head ++ (body ++ other) = is ∙ ap (λ us. us ++ other) k ∙ append_assoc head body other in
+    let tells = step-told d head (body ++ other) s in
+    let entry : taken_entry told ≡ Some d = ap taken_entry all ∙ tells.0 in
+    let same : d ≡ e = cc in
+    (body, subst (λ x. Closes (act (Some x)) (release x) body) same c, ap behind_head all ∙ tells.1)
+
+pub turn-body : (act : Option Entry → List Told → Type 0) (release : Entry → List Told → Type 0) (nils : Bool) (told body : List Told) (e : Entry) (r : Option (List Told))
+    → Some e ≡ taken_entry told → Some body ≡ behind_head told → Leaves (Closes (act (Some e)) (release e)) body r → Leaves (IsTurnOf act release nils) told r
+turn-body act release nils told body e r taken_is head_is l = leaves-at (IsTurnOf act release nils) told r sound whole
+  where
+    sound : (left : List Told) → r ≡ Some left → (g : List Told) × IsTurnOf act release nils g × (told ≡ g ++ left)
+    sound left is =
+        let step = step-is told body e (sym taken_is) (sym head_is) in
+        let close = leaves-sound (Closes (act (Some e)) (release e)) body r l left is in
+        (step.0 ++ close.0, Steps e step.0 close.0 step.1 close.1 refl, step.2 ∙ ap (λ us. step.0 ++ us) close.2 ∙ sym (append_assoc step.0 close.0 left))
+
+    whole : (g other : List Told) → told ≡ g ++ other → IsTurnOf act release nils g → r ≡ Some other
+    whole g other is t =
+        let step = turn-steps act release nils told g other e (sym taken_is) t is in
+        let both : Some body ≡ Some (step.0 ++ other) = head_is ∙ step.2 in
+        let behind : body ≡ step.0 ++ other = cc in
+        leaves-whole (Closes (act (Some e)) (release e)) body r l step.0 other behind step.1
+
+pub turn-headless : (act : Option Entry → List Told → Type 0) (release : Entry → List Told → Type 0) (nils : Bool) (told : List Told) (e : Entry)
+    → Some e ≡ taken_entry told → None ≡ behind_head told → Leaves (IsTurnOf act release nils) told None
+turn-headless act release nils told e taken_is none = leaves-at (IsTurnOf act release nils) told None (λ left is. absurd (cc)) whole
+  where
+    whole : (g other : List Told) → told ≡ g ++ other → IsTurnOf act release nils g → None ≡ Some other
+    whole g other is t =
+        let step = turn-steps act release nils told g other e (sym taken_is) t is in
+        let both : None ≡ Some (step.0 ++ other) = none ∙ step.2 in absurd (cc)
+
+nil-is : (nils : Bool) (told rest : List Told) → behind_nil nils told ≡ Some rest → (f l m : ℕ) × (nils ≡ true) × (told ≡ plain (item.Nil f l m) ∷ rest)
+nil-is nils [] rest h = absurd (cc)
+nil-is nils (t ∷ ts) rest h = by t.body t.known refl refl h
+  where
+    by : (body : Body) (known : Known) → t.body ≡ body → t.known ≡ known → nil_first nils body known ts ≡ Some rest → (f l m : ℕ) × (nils ≡ true) × (t ∷ ts ≡ plain (item.Nil f l m) ∷ rest)
+    by (item.Nil f l m) Nothing is_body is_known h =
+        let test = when-passed nils ts rest h in
+        let whole : t ≡ plain (item.Nil f l m) = told-is t _ _ is_body is_known in
+        let behind : ts ≡ rest = test.1 in
+        (f, l, m, test.0, ap (λ u. u ∷ ts) whole ∙ ap (λ us. plain (item.Nil f l m) ∷ us) behind)
+    by body known is_body is_known h = absurd (cc)
+
+pub turn-nil : (act : Option Entry → List Told → Type 0) (release : Entry → List Told → Type 0) (nils : Bool) (told : List Told) (r : Option (List Told))
+    → None ≡ taken_entry told → r ≡ behind_nil nils told → Leaves (IsTurnOf act release nils) told r
+turn-nil act release nils told r none r_is = leaves-at (IsTurnOf act release nils) told r sound whole
+  where
+    sound : (left : List Told) → r ≡ Some left → (g : List Told) × IsTurnOf act release nils g × (told ≡ g ++ left)
+    sound left is =
+        let found = nil-is nils told left (sym r_is ∙ is) in
+        (plain (item.Nil found.0 found.1 found.2) ∷ [], Finds found.0 found.1 found.2 found.3 refl, found.4)
+
+    whole : (g other : List Told) → told ≡ g ++ other → IsTurnOf act release nils g → r ≡ Some other
+    whole g other is (Finds f l m n k) =
+        let all : told ≡ plain (item.Nil f l m) ∷ other = is ∙ ap (λ us. us ++ other) k in
+        r_is ∙ ap (behind_nil nils) all ∙ rw n refl
+    whole g other is (Steps d head body s c k) =
+        let all : told ≡ head ++ (body ++ other) = is ∙ ap (λ us. us ++ other) k ∙ append_assoc head body other in
+        let tells = step-told d head (body ++ other) s in
+        let entry : taken_entry told ≡ Some d = ap taken_entry all ∙ tells.0 in absurd (cc)
+
+pub begin-is : (told rest : List Told) → Some rest ≡ behind_begin told → told ≡ plain item.Begin ∷ rest
+begin-is [] rest h = absurd (cc)
+begin-is (t ∷ ts) rest h = by t.body t.known refl refl h
+  where
+    by : (body : Body) (known : Known) → t.body ≡ body → t.known ≡ known → Some rest ≡ begin_first body known ts → t ∷ ts ≡ plain item.Begin ∷ rest
+    by item.Begin Nothing is_body is_known h = let whole : t ≡ plain item.Begin = told-is t _ _ is_body is_known in let behind : ts ≡ rest = cc in cc
+    by body known is_body is_known h = absurd (cc)
