@@ -1,0 +1,22 @@
+-- Lemmas of the course.
+pub mod PlaceLemmas
+pub mod TaskLemmas
+pub mod GoesLemmas
+pub mod CourseLemmas
+pub mod SomeLemmas
+pub mod NoteLemmas
+pub mod SettleLemmas
+pub mod NextLemmas
+pub mod BackLemmas
+pub mod KeptLemmas
+pub mod ReadyLemmas
+pub mod EndLemmas
+pub mod RunLemmas
+pub mod DecidedLemmas
+pub mod PassLemmas
+pub mod ToldLemmas
+pub mod FollowLemmas
+pub mod FlushedLemmas
+pub mod CallLemmas
+pub mod FewLemmas
+pub mod FewStateLemmas

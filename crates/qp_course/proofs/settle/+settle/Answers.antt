@@ -1,0 +1,55 @@
+use Rattle.std.proofs.Common.{List, ℤ, ap, ◌∙◌, is_some, rules}
+use Rattle.std.specs.Prelude.{slice_set}
+use Rattle.std.specs.Int.{w64}
+use Rattle.std.proofs.lemmas.Int.{to_z-of_z}
+use mir.Val.{SFits}
+use Rattle.qp_chart.specs.Expr.{Names}
+use Rattle.qp_model.specs.Able.{task_able}
+use Rattle.qp_model.specs.Calls as calls
+use Rattle.qp_model.specs.Calls.{deed_of}
+use Rattle.qp_fits.specs.Rest.{Rest}
+use Rattle.qp_fits.specs.RestNext.{rest_begin}
+use Rattle.qp_fits.specs.AsCall.{as_call}
+use Rattle.qp_course.specs.Goes.{moment_of}
+use Rattle.qp_course.specs.Machine.{done, resume, deed_state, settle}
+use Rattle.qp_course.specs.AsTask.{as_tasks}
+use Rattle.qp_course.specs.AsState.{as_actor, as_way, config_of}
+use Rattle.qp_course.proofs.FewLemmas.{makes-few}
+use Rattle.qp_course.proofs.settle.+settle.Goals as goal
+
+pub act-returns-in-Says : goal.act-returns-in-Says
+unfolding deed_state
+act-returns-in-Says t c =
+    ap (λ (d : calls.Deed). deed_state (as_actor c.args.who.now) (as_way c.args.way) c.args.left.leaf (as_tasks c.args.left.tasks.items)
+    (settle (as_actor c.args.who.now) (as_way c.args.way) c.args.left.leaf (as_tasks c.args.left.tasks.items)) (config_of c.args.own c.args.kept) d)
+    (c.in-Says.ensures ∙ ap (λ (names : Names). deed_of names c.args.plain.now) c.env_of.ensures)
+
+pub act-returns-in-Calls : goal.act-returns-in-Calls
+unfolding deed_state
+act-returns-in-Calls t c =
+    c.resume.ensures
+    ∙ ap (λ (r : Rest). resume (as_way c.args.way) c.has_inner-inner.result r c.args.left.leaf (as_tasks c.args.left.tasks.items)
+    (settle (as_actor c.args.who.now) (as_way c.args.way) c.args.left.leaf (as_tasks c.args.left.tasks.items)) (config_of c.args.own r.kept)) c.begin.ensures
+    ∙ ap (λ i. resume (as_way c.args.way) i (rest_begin c.args.who.now.room c.args.kept (as_call c.in-Calls.call)) c.args.left.leaf (as_tasks c.args.left.tasks.items)
+    (settle (as_actor c.args.who.now) (as_way c.args.way) c.args.left.leaf (as_tasks c.args.left.tasks.items)) (config_of c.args.own c.args.kept)) c.has_inner-inner.ensures
+    ∙ ap (λ (d : calls.Deed). deed_state (as_actor c.args.who.now) (as_way c.args.way) c.args.left.leaf (as_tasks c.args.left.tasks.items)
+    (settle (as_actor c.args.who.now) (as_way c.args.way) c.args.left.leaf (as_tasks c.args.left.tasks.items)) (config_of c.args.own c.args.kept) d)
+    (c.in-Calls.ensures ∙ ap (λ (names : Names). deed_of names c.args.plain.now) c.env_of.ensures)
+
+pub act-returns-in-Sets : goal.act-returns-in-Sets
+unfolding deed_state
+act-returns-in-Sets t c =
+    let fits : SFits w64 c.in-Sets.value = search rules in
+    c.done.ensures
+    ∙ ap (λ (xs : List ℤ). done (as_way c.args.way) c.args.left.leaf (as_tasks c.args.left.tasks.items)
+    (settle (as_actor c.args.who.now) (as_way c.args.way) c.args.left.leaf (as_tasks c.args.left.tasks.items)) (record (config_of c.args.own c.args.kept) { vars = xs }))
+    (c.set.ensures ∙ ap (λ (z : ℤ). slice_set c.args.own.vars.items c.in-Sets.var z) (to_z-of_z w64 c.in-Sets.value fits))
+    ∙ ap (λ (d : calls.Deed). deed_state (as_actor c.args.who.now) (as_way c.args.way) c.args.left.leaf (as_tasks c.args.left.tasks.items)
+    (settle (as_actor c.args.who.now) (as_way c.args.way) c.args.left.leaf (as_tasks c.args.left.tasks.items)) (config_of c.args.own c.args.kept) d)
+    (c.in-Sets.ensures ∙ ap (λ (names : Names). deed_of names c.args.plain.now) c.env_of.ensures)
+
+pub begin-act-requires : goal.begin-act-requires
+unfolding task_able
+begin-act-requires t c =
+    let asked = rw c.in-Do.is at c.requires.own_few in
+    (search rules, (c.requires.few, makes-few (is_some (moment_of (as_way c.args.way)).entry) c.in-Do.plain.now asked))

@@ -1,0 +1,84 @@
+//! The value of an expression, also where names stand for nothing.
+
+ghost use Rattle.std.specs.Prelude.{◌≡◌, ◌-◌, pos, slice_get};
+ghost use Rattle.std.specs.Option.{unwrap_or};
+ghost use Rattle.std.specs.Int.{w64, cast_signed};
+ghost use Rattle.qp_chart.specs.Expr.{value_of, unary_value, binary_value, names_in, of_truth};
+
+use qp_chart::{Binary, Bound, Env, Unary};
+
+/// The value of an expression. A variable or a parameter that isn't there counts as 0.
+#[tactic(auto, unfolding(qp_chart::specs::Expr::value_of))]
+pub(crate) fn value(e: &Bound, env: &Env<'_>) -> i64
+    ensures { result ≡ value_of (names_in env.now) e.now }
+{
+    match e {
+        Bound::Num(n) => *n,
+        Bound::Var(v) => variable(env.vars, *v),
+        Bound::Ok => env.ok,
+        Bound::Me => i64::from(env.me),
+        Bound::Par(j) => parameter(env.pars, *j),
+        Bound::One(op, x) => unary(*op, value(x, env)),
+        Bound::Two(op, x, y) => {
+            let left = value(x, env);
+            binary(*op, left, value(y, env))
+        }
+    }
+}
+
+fn variable(vars: &[i64], v: u8) -> i64
+    ensures { result ≡ unwrap_or (slice_get vars.now v) (pos 0) }
+{
+    match vars.get(usize::from(v)) {
+        Some(x) => *x,
+        None => 0,
+    }
+}
+
+/// The 64 bits of a parameter, numbered from 1.
+fn parameter(pars: &[u64], j: u8) -> i64
+    ensures { result ≡ cast_signed w64 (unwrap_or (slice_get pars.now (j - 1)) 0) }
+{
+    match pars.get(usize::from(j).saturating_sub(1)) {
+        Some(x) => x.cast_signed(),
+        None => 0,
+    }
+}
+
+#[tactic(auto, unfolding(qp_chart::specs::Expr::unary_value))]
+fn unary(op: Unary, x: i64) -> i64
+    ensures { result ≡ unary_value op x }
+{
+    match op {
+        Unary::Minus => x.wrapping_neg(),
+        Unary::Not => truth(x == 0),
+    }
+}
+
+#[tactic(auto, unfolding(qp_chart::specs::Expr::binary_value))]
+fn binary(op: Binary, x: i64, y: i64) -> i64
+    ensures { result ≡ binary_value op x y }
+{
+    match op {
+        Binary::Or => truth(x != 0 || y != 0),
+        Binary::And => truth(x != 0 && y != 0),
+        Binary::Equal => truth(x == y),
+        Binary::Differs => truth(x != y),
+        Binary::Below => truth(x < y),
+        Binary::AtMost => truth(x <= y),
+        Binary::Above => truth(x > y),
+        Binary::AtLeast => truth(x >= y),
+        Binary::Plus => x.wrapping_add(y),
+        Binary::Minus => x.wrapping_sub(y),
+        Binary::Times => x.wrapping_mul(y),
+        Binary::Over => { if y == 0 { 0 } else { x.wrapping_div(y) } }
+        Binary::Rest => { if y == 0 { 0 } else { x.wrapping_rem(y) } }
+    }
+}
+
+// 1 or 0.
+fn truth(holds: bool) -> i64
+    ensures { result ≡ of_truth holds }
+{
+    i64::from(holds)
+}
