@@ -1,0 +1,17 @@
+//! The lane of a source: its stimuli in order, each with the records that fit it.
+#![tactic(auto)]
+
+mod lane;
+mod records;
+mod scene;
+mod settle_rest;
+mod source_rest;
+mod stops;
+#[cfg(test)]
+mod tests;
+mod tick_rest;
+mod tries;
+mod underway;
+
+pub use lane::{is_source_lane, spill_stands};
+pub use stops::{Stops, may_stop};
