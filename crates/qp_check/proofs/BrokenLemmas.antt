@@ -143,10 +143,10 @@ module _ (sys : System) (fit : WordsFit sys) where
   at_most : (m n : ℕ) → m ≤ n → nat_le m n ≡ true
   at_most m n h = grind (arith, nat_tests)
 
-  pool-in : (p : ℕ) → 1 ≤ p → p < 1 + length sys.pools → in_table (length sys.pools) (length sys.signals) (word.Pool p) ≡ true
+  pub pool-in : (p : ℕ) → 1 ≤ p → p < 1 + length sys.pools → in_table (length sys.pools) (length sys.signals) (word.Pool p) ≡ true
   pool-in p ge lt = true_both _ _ (true_both _ _ (below p 256 (omega (arith, fit.pools))) refl) (below p (slots_end (length sys.pools) (length sys.signals)) (omega arith))
 
-  block-in : (p b : ℕ) → 1 ≤ p → p < 1 + length sys.pools → b < blocks_of sys p → in_table (length sys.pools) (length sys.signals) (word.Block p b) ≡ true
+  pub block-in : (p b : ℕ) → 1 ≤ p → p < 1 + length sys.pools → b < blocks_of sys p → in_table (length sys.pools) (length sys.signals) (word.Block p b) ≡ true
   block-in p b ge lt less =
       true_both _ _ (true_both _ _ (true_both _ _ (below p 256 (omega (arith, fit.pools))) (below b 256 (omega (arith, blocks-fit p)))) (at_most p (length sys.pools) (omega arith)))
       (below (768 + (p * 256 + b)) (slots_end (length sys.pools) (length sys.signals)) (omega (arith, blocks-fit p)))
@@ -154,7 +154,7 @@ module _ (sys : System) (fit : WordsFit sys) where
   queue-in : (a : ℕ) → 0 ≤ a → a < 0 + 256 → in_table (length sys.pools) (length sys.signals) (word.Queue a) ≡ true
   queue-in a ge lt = true_both _ _ (true_both _ _ (below a 256 (omega arith)) refl) (below (256 + a) (slots_end (length sys.pools) (length sys.signals)) (omega arith))
 
-  signal-in : (s : ℕ) → 4 ≤ s → s < 4 + length sys.signals → in_table (length sys.pools) (length sys.signals) (word.Signal s) ≡ true
+  pub signal-in : (s : ℕ) → 4 ≤ s → s < 4 + length sys.signals → in_table (length sys.pools) (length sys.signals) (word.Signal s) ≡ true
   signal-in s ge lt = true_both _ _ (true_both _ _ (below s 65536 (omega (arith, fit.signals))) refl) (below (1024 + (length sys.pools * 256 + s)) (slots_end (length sys.pools) (length sys.signals)) (omega arith))
 
   timer-in : (t : ℕ) → 1 ≤ t → t < 1 + length sys.timers → in_table (length sys.pools) (length sys.signals) (word.Timer t) ≡ true

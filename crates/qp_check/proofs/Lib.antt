@@ -29,3 +29,17 @@ pub mod FoundLemmas
 pub mod ProgressLemmas
 pub mod LookLemmas
 pub mod OneOrderLemmas
+pub mod ReferenceCountLemmas
+pub mod DrawnBelowLemmas
+pub mod RestingLemmas
+pub mod JudgedLemmas
+pub mod EndingLemmas
+pub mod KnownTableLemmas
+pub mod KnownEventLemmas
+pub mod KnownHistoryLemmas
+pub mod KnownWordLemmas
+pub mod KnownFactLemmas
+pub mod ToldLemmas
+pub mod CutLemmas
+pub mod HomeLaneLemmas
+pub mod PieceLemmas

@@ -10,7 +10,7 @@ use Rattle.qp_model.proofs.ListLemmas.{both_true}
 use Rattle.qp_check.specs.Standing.{places, Stands}
 
 -- a number stands in a list where it has places there
-has-places : (k : ℕ) (xs : List ℕ) → has xs k ≡ nat_lt 0 (places k xs)
+pub has-places : (k : ℕ) (xs : List ℕ) → has xs k ≡ nat_lt 0 (places k xs)
 has-places k [] = refl
 has-places k (x ∷ xs) = go (x == k) (has-places k xs)
   where
@@ -26,7 +26,7 @@ pub has-flag : (s : Refs) (flags : List Bool) (standing : ℕ) → Stands s flag
 has-flag s flags standing h k = has-places k s.names ∙ ap (nat_lt 0) (h.each k) ∙ flag-places (get_or flags k false)
 
 -- taking out one place
-places-without : (k : ℕ) (xs : List ℕ) → has xs k ≡ true → places k xs ≡ suc (places k (without_one k xs))
+pub places-without : (k : ℕ) (xs : List ℕ) → has xs k ≡ true → places k xs ≡ suc (places k (without_one k xs))
 places-without k [] h = cc
 places-without k (x ∷ xs) h = go (x == k) refl h (places-without k xs)
   where
@@ -34,7 +34,7 @@ places-without k (x ∷ xs) h = go (x == k) refl h (places-without k xs)
     go true e h later = refl
     go false e h later = rw e (later h)
 
-places-other : (j k : ℕ) (xs : List ℕ) → (j == k) ≡ false → places j (without_one k xs) ≡ places j xs
+pub places-other : (j k : ℕ) (xs : List ℕ) → (j == k) ≡ false → places j (without_one k xs) ≡ places j xs
 places-other j k [] ne = refl
 places-other j k (x ∷ xs) ne = go (x == k) refl (places-other j k xs ne)
   where

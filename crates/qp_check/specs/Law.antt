@@ -1,9 +1,13 @@
--- What it means that no definition of words fails.
+-- What it means that no definition fails.
 use Rattle.std.specs.Prelude.{◌≡◌, ◌<◌, ◌↔◌, List, None}
 use Rattle.std.specs.List.{AllByRecursion}
 use Rattle.qp_model.specs.declared.record.Rec.{Rec}
 use Rattle.qp_model.specs.declared.systems.System.{System}
 use Rattle.qp_model.specs.WordLaw.{Words}
+use Rattle.qp_model.specs.declared.stimulus.Stim.{Stim}
+use Rattle.qp_model.specs.declared.journals.Journal.{Journal}
+use Rattle.qp_model.specs.Lawful.{Lawful}
+use Rattle.qp_check.specs.Judged.{AllHold, trials}
 use Rattle.qp_check.specs.WordRules.{first_broken, word_tries}
 
 -- Where objects are numbered by bytes, no definition of words fails exactly where the words of the system keep their law.
@@ -11,3 +15,9 @@ abbrev pub NoneFailsWhereWordsHold : Type 0
 NoneFailsWhereWordsHold =
     (sys : System) (lanes : List (List Rec)) → AllByRecursion (λ d. d.priority < 256) sys.objects
     → (first_broken (word_tries sys lanes) ≡ None) ↔ Words sys lanes
+
+-- Where objects are numbered by bytes, no definition fails at any site exactly where the journal is lawful.
+abbrev pub LawfulWhereNoneFails : Type 0
+LawfulWhereNoneFails =
+    (sys : System) (stimuli : List (List Stim)) (j : Journal) → AllByRecursion (λ d. d.priority < 256) sys.objects
+    → AllHold (trials sys stimuli j) ↔ Lawful sys stimuli j

@@ -20,3 +20,12 @@ pub mod WordTotals
 pub mod Turns
 pub mod OrderTurns
 pub mod OneOrder
+pub mod Resting
+pub mod Judged
+pub mod KnownTables
+pub mod KnownWords
+pub mod KnownFacts
+pub mod Knowledge
+pub mod SpillCuts
+pub mod HomeCounts
+pub mod ObjectPieces

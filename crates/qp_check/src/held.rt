@@ -2,7 +2,7 @@
 
 ghost use Rattle.std.specs.Prelude.{◌≡◌, ◌≤◌, ◌<◌, ◌+◌, ◌^◌, length, IfOk, OnOk};
 ghost use Rattle.std.specs.List.{list_all};
-ghost use Rattle.qp_model.specs.Machine.{Machine, is_allowed};
+ghost use Rattle.qp_model.specs.Machine.{Machine, after_from, is_allowed};
 ghost use Rattle.qp_model.specs.Record.{Item, item_of};
 ghost use Rattle.qp_check.specs.Held.{all_say, said, shows_from};
 
@@ -32,6 +32,17 @@ pub(crate) trait Held {
     /// Whether what this record shows of the word is so.
     fn says(&self, body: &Body) -> bool
         ensures { result ≡ (machine self.now).says (state self.now) body.now };
+}
+
+/// Makes these operations on a word that had none.
+pub(crate) fn run<H: Held>(held: &mut H, history: &Group) -> Result<(), AllocError>
+    requires { (H.machine held.old).count (H.state held.old) ≡ 0 }
+    ensures { OnOk result (H.state held.new ≡ after_from (H.machine held.old) (H.state held.old) history.now) }
+{
+    for r in &history.items {
+        held.apply(r.of, &r.body())?;
+    }
+    Ok(())
 }
 
 /// Whether each operation is allowed in its turn.

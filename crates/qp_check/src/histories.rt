@@ -42,7 +42,7 @@ fn by_number<'a>(alloc: Global, touched: &Group<'a>) -> Result<Groups<'a>, Alloc
 }
 
 /// How many of the records draw a number.
-fn draw_count(touched: &Group) -> usize
+pub(crate) fn draw_count(touched: &Group) -> usize
     ensures { result ≡ draw_count touched.now }
 {
     let mut count = 0;

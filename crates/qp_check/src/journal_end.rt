@@ -17,7 +17,7 @@ use crate::takes::Takes;
 use qp_model::{Journal, Rec, System};
 
 /// No run stopped early.
-const QUIET: u8 = 0;
+pub(crate) const QUIET: u8 = 0;
 
 fn ends(lane: &[Rec]) -> bool
     ensures { result ≡ list_any (λ i. is_end i.body) (lane_items lane.now) }

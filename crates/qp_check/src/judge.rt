@@ -141,7 +141,7 @@ fn allowed(alloc: Global, gathered: &Gathered, word: Word) -> Result<bool, Alloc
 }
 
 /// The operations on a word, in the order of their numbers.
-fn history_at<'a>(
+pub(crate) fn history_at<'a>(
     alloc: Global,
     gathered: &Gathered<'a>,
     word: Word,

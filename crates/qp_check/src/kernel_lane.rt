@@ -69,7 +69,7 @@ fn may_end(j: &Journal, lane: &[Rec], reading: &Reading) -> bool
     }
 }
 
-fn is_cut(end: u8) -> bool
+pub fn is_cut(end: u8) -> bool
     ensures { result ≡ may_cut end }
 {
     end == ASSERTED || end == SPENT
@@ -113,7 +113,7 @@ fn has_kernel_lane(kernel: u8) -> bool
 impl<'a> Rules<'a> {
     /// The rules of a journal.
     #[tactic(auto, unfolding(qp_model::specs::Lawful::setting_of, qp_model::specs::Lawful::source_lanes))]
-    fn of(alloc: Global, sys: &'a System, j: &Journal) -> Result<Self, AllocError>
+    pub fn of(alloc: Global, sys: &'a System, j: &Journal) -> Result<Self, AllocError>
         ensures { IfOk result (λ r. as_setting r ≡ setting_of sys.now j.now) }
     {
         Ok(Rules {

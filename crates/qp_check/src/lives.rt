@@ -138,7 +138,7 @@ fn are_empty(flags: &[bool], places: &[u64]) -> bool
 }
 
 /// Whether each number below `count` is one of these places.
-fn marked(alloc: Global, places: &[u64], count: usize) -> Result<Vec<bool>, AllocError>
+pub(crate) fn marked(alloc: Global, places: &[u64], count: usize) -> Result<Vec<bool>, AllocError>
     ensures { IfOk result (λ v. (length v.items ≡ count) × ((n : ℕ) → n < count → get_or v.items n false ≡ has places.now n)) }
 {
     let mut marks = vec![in alloc; false; count]?;

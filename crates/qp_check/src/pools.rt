@@ -1,6 +1,6 @@
 //! What the word of a pool holds.
 
-ghost use Rattle.std.specs.Prelude.{◌≡◌, IfOk};
+ghost use Rattle.std.specs.Prelude.{◌≡◌, length, IfOk};
 ghost use Rattle.qp_model.specs.FreeBlocks.{Pool, free_blocks};
 ghost use Rattle.qp_model.specs.Lists.{count_up};
 
@@ -15,7 +15,7 @@ use std::alloc::{AllocError, Global};
 pub(crate) struct FreeBlocks {
     blocks: u8,
     count: u64,
-    free: Vec<u64>,
+    pub(crate) free: Vec<u64>,
 }
 
 impl FreeBlocks {
@@ -32,6 +32,13 @@ impl FreeBlocks {
             count: 0,
             free,
         })
+    }
+
+    /// How many blocks are free.
+    pub(crate) fn left(&self) -> u64
+        ensures { result ≡ length self.now.free.items }
+    {
+        self.free.len() as u64
     }
 }
 

@@ -1,6 +1,6 @@
 //! What the word of a queue holds.
 
-ghost use Rattle.std.specs.Prelude.{◌≡◌, ◌+◌, ◌-◌, [], ◌==◌, ◌&&◌};
+ghost use Rattle.std.specs.Prelude.{◌≡◌, ◌+◌, ◌-◌, [], ◌==◌, ◌&&◌, length};
 ghost use Rattle.qp_model.specs.Line.{Line, line, is_front, same_entry};
 
 use crate::held::Held;
@@ -12,7 +12,7 @@ use std::collections::VecDeque;
 #[derive(Drop)]
 pub(crate) struct Queue {
     ring: u8,
-    entries: VecDeque<Entry>,
+    pub(crate) entries: VecDeque<Entry>,
     f: u64,
     l: u64,
     m: u64,
@@ -30,6 +30,12 @@ impl Queue {
             l: 0,
             m: 0,
         }
+    }
+
+    pub(crate) fn is_empty(&self) -> bool
+        ensures { result ≡ (length self.now.entries.items == 0) }
+    {
+        self.entries.is_empty()
     }
 
     fn counts_are(&self, f: u64, l: u64, m: u64) -> bool

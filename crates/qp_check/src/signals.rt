@@ -1,12 +1,13 @@
 //! What the word of a signal holds.
 
-ghost use Rattle.std.specs.Prelude.{◌≡◌, ◌==◌, ◌^◌, ◌/◌, ◌<◌, [], IfSome, IsNone};
+ghost use Rattle.std.specs.Prelude.{◌≡◌, ◌==◌, ◌^◌, ◌/◌, ◌<◌, [], IfOk, IfSome, IsNone};
 ghost use Rattle.qp_model.specs.Subscribers.{Subscribers, bits_of_set, subscribers};
 
 use crate::held::Held;
 use crate::numbers::{has, take_out};
 use qp_model::Body;
 use std::alloc::{AllocError, Global};
+use std::marker::Model;
 
 /// The subscribers of a signal after so many operations, the newest first. There are at most as many as
 /// objects, so each operation on the list is short.
@@ -26,6 +27,29 @@ impl Members {
             members: Vec::new(alloc),
         }
     }
+
+    /// The subscribers now, as a list of its own.
+    pub(crate) fn listed(&self, alloc: Global) -> Result<Subscribed, AllocError>
+        ensures { IfOk result (λ s. s ≡ self.now.members.items) }
+    {
+        Ok(Subscribed {
+            items: Vec::from_slice(alloc, &self.members)?,
+        })
+    }
+}
+
+/// The subscribers of a signal at some time. Contracts see the list.
+#[derive(Drop)]
+pub(crate) struct Subscribed {
+    pub(crate) items: Vec<u64>,
+}
+
+impl Model for Subscribed {
+    ghost use Rattle.std.specs.Prelude.{List, ℕ};
+
+    ghost Value = { List ℕ };
+
+    ghost view = { λ b. b.items.items };
 }
 
 /// Whether these bits are the set: bit p - 1 for object p, and none for 0.

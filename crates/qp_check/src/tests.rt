@@ -1,11 +1,11 @@
 ghost use Rattle.std.specs.Prelude.{◌≡◌, IfOk};
 ghost use Rattle.qp_check.specs.Numbers.{WordsFit};
 
-use crate::{Site, words_broken};
+use crate::{Site, end_holds, words_broken};
 use arrayvec::{ArrayString, ArrayVec};
 use qp_base::Ev;
 use qp_model::{
-    Charts, Entry, Lane, Lanes, ObjectDef, ObjectDefs, PoolDef, PoolDefs, Rec, SignalDef,
+    Charts, Entry, Journal, Lane, Lanes, ObjectDef, ObjectDefs, PoolDef, PoolDefs, Rec, SignalDef,
     SignalDefs, System, TimerDef, TimerDefs, Values,
 };
 use std::alloc::{AllocError, Global};
@@ -30,7 +30,7 @@ fn lamp(alloc: Global) -> ObjectDef {
         priority: 1,
         threshold: 1,
         ring: 1,
-        defer: 0,
+        defer: 1,
         vars: Values {
             items: Vec::new(alloc),
         },
@@ -250,5 +250,37 @@ fn time_events(rt: HostRuntime) -> Result<(), Fail> {
     assert_eq!(rt; of_kernel(alloc, armed)?, (18, Site::Timer(1)));
     let early = vec![in alloc; Rec::arm(1, 1, 0, 2, 0), Rec::fire(1, 1, 0)]?;
     assert_eq!(rt; of_kernel(alloc, early)?, (18, Site::Timer(1)));
+    Ok(())
+}
+
+/// Whether a quiet end holds after these records.
+fn ends(alloc: Global, records: Vec<Rec>) -> Result<bool, AllocError> {
+    let sys = system(alloc)?;
+    let lanes = Lanes {
+        items: vec![in alloc; Lane { items: records }]?,
+    };
+    let j = Journal {
+        kernel: 0,
+        budget: 9,
+        lanes,
+        end: 0,
+    };
+    end_holds(alloc, &sys, &j)
+}
+
+/// A block has a deferred entry, or none, and an entry waits in a queue.
+#[test]
+fn quiet_ends(rt: HostRuntime) -> Result<(), Fail> {
+    let alloc = rt.alloc();
+    let held = vec![in alloc;
+        given(0, 0),
+        Rec::inc(1, 1, 0, 0),
+        Rec::defer(1, pooled(0, 0)),
+    ]?;
+    assert!(rt; ends(alloc, held)?, "held");
+    let lost = vec![in alloc; given(0, 0), Rec::inc(1, 1, 0, 0)]?;
+    assert!(rt; !ends(alloc, lost)?, "lost");
+    let queued = vec![in alloc; Rec::post(1, 1, 1, 0, 0, fixed(4))]?;
+    assert!(rt; !ends(alloc, queued)?, "queued");
     Ok(())
 }

@@ -1,6 +1,6 @@
 //! How many operations each word has had.
 
-ghost use Rattle.std.specs.Prelude.{◌≡◌, ◌+◌, ◌<◌, ◌^◌, ◌==◌, ℕ, if◌then◌else◌, IfOk, OnOk};
+ghost use Rattle.std.specs.Prelude.{◌≡◌, ◌+◌, ◌-◌, nat_lt, ◌<◌, ◌^◌, ◌==◌, ℕ, if◌then◌else◌, IfOk, OnOk};
 ghost use Rattle.std.specs.Option.{option_map_or};
 ghost use Rattle.qp_model.specs.declared.words.Word.{Word};
 ghost use Rattle.qp_model.specs.declared.words.Word.TheVariants as word_kind;
@@ -43,13 +43,26 @@ impl Counts {
         self.counts.get(&k).copied().unwrap_or(0)
     }
 
-    fn add(&mut self, k: u64) -> Result<(), AllocError>
+    pub fn add(&mut self, k: u64) -> Result<(), AllocError>
         requires { (q : ℕ) → count_in self.old q + 1 < 2 ^ 64 }
         ensures { OnOk result ((q : ℕ) → count_in self.new q ≡ count_in self.old q + (if k == q then 1 else 0)) }
     {
         let n = self.at(k);
         self.counts.insert(k, n + 1)?;
         Ok(())
+    }
+
+    /// Counts one fewer where there is one, and answers whether there was.
+    pub fn take(&mut self, k: u64) -> Result<bool, AllocError>
+        ensures found { IfOk result (λ b. b ≡ nat_lt 0 (count_in self.old k)) }
+        ensures rest { OnOk result ((q : ℕ) → count_in self.new q ≡ count_in self.old q - (if k == q then 1 else 0)) }
+    {
+        let n = self.at(k);
+        if n == 0 {
+            return Ok(false);
+        }
+        self.counts.insert(k, n - 1)?;
+        Ok(true)
     }
 }
 

@@ -1,0 +1,123 @@
+//! The pieces of each object in lane 0, read off the kernel lane.
+
+ghost use Rattle.std.specs.Prelude.{◌≡◌, ◌++◌, ℕ, IfOk, IfSome, IsSome, OnOk};
+ghost use Rattle.std.specs.Option.{option_map};
+ghost use Rattle.qp_model.specs.History.{lane_items};
+ghost use Rattle.qp_model.specs.Home.{lane_at as lane_of};
+ghost use Rattle.qp_model.specs.KernelLane.{lane_read};
+ghost use Rattle.qp_model.specs.Lawful.{setting_of};
+ghost use Rattle.qp_model.specs.Points.{is_look, lane_pieces, pieces_at};
+ghost use Rattle.qp_model.specs.Record.{item_of};
+ghost use Rattle.qp_fits.specs.AsPiece.{as_piece};
+ghost use Rattle.qp_check.specs.LaneState.{as_reading, as_setting};
+ghost use Rattle.qp_check.specs.Knowledge.{IsKnown, facts_in};
+ghost use Rattle.qp_check.specs.ObjectPieces.{own_piece, pieces_of, point_of, stepping};
+
+use crate::known_facts::Knowledge;
+use crate::lane_parts::lane_at;
+use crate::lane_state::{Place, Reading, Rules};
+use crate::pieces_rows::ObjectPieces;
+use crate::told_lists::is_turn_mark;
+use qp_fits::{Piece, Told};
+use qp_model::{Body, Rec};
+use std::alloc::{AllocError, Global};
+
+/// A record as a piece of its own object; none where it is a turn's without a step.
+#[tactic(auto, unfolding(qp_model::specs::Record::item_of, qp_model::specs::Knowing::told, crate::specs::ObjectPieces::own_piece))]
+fn own_piece(
+    alloc: Global,
+    knowledge: &Knowledge,
+    ceiling: u64,
+    r: &Rec,
+) -> Result<Option<Piece>, AllocError>
+    requires { IsKnown knowledge.now }
+    ensures { IfOk result (λ x. option_map as_piece x ≡ own_piece (facts_in knowledge.now) ceiling (item_of r.now)) }
+{
+    let body = r.body();
+    if is_turn_mark(&body) {
+        return Ok(None);
+    }
+    let known = knowledge.known_of(alloc, r.of, ceiling, &body)?;
+    Ok(Some(Piece::Tell(Told { body, known })))
+}
+
+#[tactic(auto, unfolding(qp_model::specs::Record::item_of))]
+fn is_look(r: &Rec) -> bool
+    ensures { result ≡ is_look (item_of r.now).body }
+{
+    matches!(r.body(), Body::Look { .. })
+}
+
+impl<'a> Reading<'a> {
+    ghost use Rattle.qp_check.specs.LaneState.{as_reading};
+
+    /// The innermost step under way, unless it is of this object.
+    fn stepping(&self, of: u8) -> Option<u8>
+        ensures { result ≡ stepping of (as_reading self.now).place (as_reading self.now).running }
+    {
+        match (self.place, self.running.top()) {
+            (Place::Inside, Some(p)) if p != of => Some(p),
+            _ => None,
+        }
+    }
+
+    /// The object in whose step a row begins with this record.
+    #[tactic(auto, unfolding(qp_model::specs::Record::item_of))]
+    fn point_of(&self, r: &Rec) -> Option<u8>
+        ensures { result ≡ point_of (as_reading self.now) (item_of r.now) }
+    {
+        if is_look(r) {
+            self.stepping(r.of)
+        } else {
+            None
+        }
+    }
+}
+
+/// Puts what a record is to each object.
+fn put_record(
+    pieces: &mut ObjectPieces,
+    alloc: Global,
+    knowledge: &Knowledge,
+    reading: &Reading,
+    r: &Rec,
+) -> Result<(), AllocError>
+    requires { IsKnown knowledge.now }
+    ensures { OnOk result ((o : ℕ) → pieces_of pieces.new o ≡ pieces_of pieces.old o ++ pieces_at (facts_in knowledge.now) o (as_reading reading.now) (item_of r.now)) }
+{
+    let own = own_piece(alloc, knowledge, reading.ceiling, r)?;
+    pieces.put_piece(alloc, r.of, own)?;
+    pieces.put_point(alloc, reading.point_of(r))?;
+    Ok(())
+}
+
+/// The pieces of each object in a lane that reads as a kernel lane.
+fn pieces_in(
+    alloc: Global,
+    knowledge: &Knowledge,
+    rules: &Rules,
+    lane: &[Rec],
+) -> Result<ObjectPieces, AllocError>
+    requires known { IsKnown knowledge.now }
+    requires same { rules.now.sys.now ≡ knowledge.now.sys.now }
+    requires stands { IsSome (lane_read (as_setting rules.now) (lane_items lane.now)) }
+    ensures { IfOk result (λ x. (o : ℕ) → pieces_of x o ≡ lane_pieces (facts_in knowledge.now) (as_setting rules.now) o (lane_items lane.now)) }
+{
+    let mut pieces = ObjectPieces::none(alloc);
+    let mut reading = Reading::of_none(alloc, rules.sys);
+    for r in lane {
+        put_record(&mut pieces, alloc, knowledge, &reading, r)?;
+        let _stands = reading.next(rules, r)?;
+    }
+    Ok(pieces)
+}
+
+/// The pieces of each object in lane 0, where it reads as a kernel lane. It takes one pass over the lane.
+pub fn lane_pieces(alloc: Global, knowledge: &Knowledge) -> Result<ObjectPieces, AllocError>
+    requires known { IsKnown knowledge.now }
+    requires stands { IsSome (lane_read (setting_of knowledge.now.sys.now knowledge.now.journal.now) (lane_items (lane_of knowledge.now.journal.now 0))) }
+    ensures { IfOk result (λ x. (o : ℕ) → pieces_of x o ≡ lane_pieces (facts_in knowledge.now) (setting_of knowledge.now.sys.now knowledge.now.journal.now) o (lane_items (lane_of knowledge.now.journal.now 0))) }
+{
+    let rules = Rules::of(alloc, knowledge.sys, knowledge.journal)?;
+    pieces_in(alloc, knowledge, &rules, lane_at(knowledge.journal, 0))
+}

@@ -1,0 +1,112 @@
+//! The records of an object and of a source, with what is known beside each.
+
+ghost use Rattle.std.specs.Prelude.{◌≡◌, ◌==◌, ◌++◌, ◌∷◌, [], if◌then◌else◌, IfOk, OnOk};
+ghost use Rattle.qp_model.specs.Ends.{is_spill, is_turn_mark};
+ghost use Rattle.qp_model.specs.History.{lane_items};
+ghost use Rattle.qp_model.specs.Home.{by_object};
+ghost use Rattle.qp_model.specs.Knowing.{ceiling_after, records_of, told};
+ghost use Rattle.qp_model.specs.Lawful.{dispatched, facts_of};
+ghost use Rattle.qp_model.specs.Record.{item_of};
+ghost use Rattle.qp_model.specs.Sources.{source_records};
+ghost use Rattle.qp_check.specs.Knowledge.{IsKnown, facts_in};
+
+use crate::known_facts::Knowledge;
+use crate::lane_parts::{home_lane, lane_at};
+use qp_fits::Told;
+use qp_model::{Body, Rec};
+use std::alloc::{AllocError, Global};
+
+/// The ceiling after a record of the lane.
+fn ceiling_after(ceiling: u64, body: &Body) -> u64
+    ensures { result ≡ ceiling_after ceiling body.now }
+{
+    match body {
+        Body::Lock { ceiling } | Body::Unlock { ceiling } => *ceiling,
+        _ => ceiling,
+    }
+}
+
+/// Puts a record at the end where it is one of `o`.
+#[tactic(auto, unfolding(qp_model::specs::Record::item_of, qp_model::specs::Knowing::told))]
+fn put_own(
+    all: &mut Vec<Told>,
+    alloc: Global,
+    knowledge: &Knowledge,
+    o: u8,
+    ceiling: u64,
+    r: &Rec,
+) -> Result<(), AllocError>
+    requires { IsKnown knowledge.now }
+    ensures { OnOk result (all.new.items ≡ all.old.items ++ (if (item_of r.now).of == o then told (facts_in knowledge.now) o ceiling (item_of r.now).body ∷ [] else [])) }
+{
+    if r.of != o {
+        return Ok(());
+    }
+    let body = r.body();
+    let known = knowledge.known_of(alloc, o, ceiling, &body)?;
+    all.push(Told { body, known })?;
+    Ok(())
+}
+
+/// The records of `o` in a lane, as told.
+pub fn told_records(
+    alloc: Global,
+    knowledge: &Knowledge,
+    o: u8,
+    lane: &[Rec],
+) -> Result<Vec<Told>, AllocError>
+    requires { IsKnown knowledge.now }
+    ensures { IfOk result (λ v. v.items ≡ records_of (facts_in knowledge.now) o 0 (lane_items lane.now)) }
+{
+    let mut told = Vec::new(alloc);
+    let mut ceiling = 0;
+    for r in lane {
+        put_own(&mut told, alloc, knowledge, o, ceiling, r)?;
+        ceiling = ceiling_after(ceiling, &r.body());
+    }
+    Ok(told)
+}
+
+/// The records of an object, in the order of its home lane.
+#[tactic(auto, unfolding(qp_model::specs::Home::by_object, qp_model::specs::Lawful::facts_of))]
+pub fn object_records(alloc: Global, knowledge: &Knowledge, o: u8) -> Result<Vec<Told>, AllocError>
+    requires { IsKnown knowledge.now }
+    ensures { IfOk result (λ v. v.items ≡ by_object (facts_in knowledge.now) knowledge.now.journal.now o) }
+{
+    let home = home_lane(knowledge.sys, knowledge.journal, o);
+    told_records(alloc, knowledge, o, lane_at(knowledge.journal, home))
+}
+
+fn is_spill(body: &Body) -> bool
+    ensures { result ≡ is_spill body.now }
+{
+    matches!(body, Body::Spill { .. })
+}
+
+pub fn is_turn_mark(body: &Body) -> bool
+    ensures { result ≡ is_turn_mark body.now }
+{
+    matches!(body, Body::Nil { .. } | Body::Spent)
+}
+
+/// The records of a source without its `spill`, as told.
+pub fn source_told(
+    alloc: Global,
+    knowledge: &Knowledge,
+    lane: &[Rec],
+) -> Result<Vec<Told>, AllocError>
+    requires { IsKnown knowledge.now }
+    ensures { IfOk result (λ v. v.items ≡ source_records (facts_in knowledge.now) (lane_items lane.now)) }
+{
+    let mut told = told_records(alloc, knowledge, 0, lane)?;
+    told.retain(|t| !is_spill(&t.body));
+    Ok(told)
+}
+
+/// The records without those of turns that have no step.
+pub fn dispatched(mut told: Vec<Told>) -> Vec<Told>
+    ensures { result.items ≡ dispatched told.items }
+{
+    told.retain(|t| !is_turn_mark(&t.body));
+    told
+}
