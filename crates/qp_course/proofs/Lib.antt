@@ -20,3 +20,7 @@ pub mod FlushedLemmas
 pub mod CallLemmas
 pub mod FewLemmas
 pub mod FewStateLemmas
+pub mod CanLemmas
+pub mod LoopLemmas
+pub mod AnswerLemmas
+pub mod EmptyLemmas

@@ -35,7 +35,7 @@ abbrev pub Shape : (ev : Event) (e : Entry) → ℕ → List Task → State → 
 Shape ev e leaf ts s = ((c : Config) × (s ≡ AtPoint ev e ts leaf c)) ⊎ (expects_point s ≡ false)
 
 module _ (a : Actor) (ev : Event) (e : Entry) (leaf : ℕ) (ts : List Task) (go : Config → State) where
-  resume-shape : (inner : Bool) (rest : Rest) (c : Config) → Shape ev e leaf ts (resume (Stepping ev e) inner rest leaf ts go c)
+  pub resume-shape : (inner : Bool) (rest : Rest) (c : Config) → Shape ev e leaf ts (resume (Stepping ev e) inner rest leaf ts go c)
   resume-shape inner rest c = by rest.stage
     where
       ended : (own : Answer) (b : Bool) (d : Config) → Shape ev e leaf ts (answered b (Stepping ev e) leaf ts go d)
@@ -113,7 +113,7 @@ module _ (a : Actor) where
   actions-none Asserted h = refl
 
   -- a start expects no point
-  start-none : (leaf : ℕ) (ts : List Task) (c : Config) → expects_point (settle a Starting leaf ts c) ≡ false
+  pub start-none : (leaf : ℕ) (ts : List Task) (c : Config) → expects_point (settle a Starting leaf ts c) ≡ false
   unfolding settle
   start-none leaf [] c = refl
   start-none leaf (t ∷ ts) c = by_task (λ d. start-none leaf ts d) t

@@ -143,7 +143,7 @@ module _ (begin : ReadsBegin) (reads_next : ReadsNext) (first : OpenBegin) (open
       ready-resume sys a way leaf ts asked (settle a way leaf ts) (λ d w. ready-settle begin first sys a way leaf ts d asked w) inner rest c can
 
   -- a record of a call leaves it so
-  can-next : (way : Way) (rest more : Rest) (t : Told) → rest_next sys a.o (moment_of way).entry rest t ≡ Some more → CanGoOn sys a way rest → CanGoOn sys a way more
+  pub can-next : (way : Way) (rest more : Rest) (t : Told) → rest_next sys a.o (moment_of way).entry rest t ≡ Some more → CanGoOn sys a way rest → CanGoOn sys a way more
   can-next way rest more t is can = record {
     some = open_next sys a.o (moment_of way).entry rest more t is;
     within = λ answer kept g reads. can.within answer kept (t ∷ g) ((reads_next sys a.o (moment_of way).entry rest answer kept t g).1 (more, is, reads));

@@ -15,3 +15,4 @@ pub mod Note
 pub mod Passing
 pub mod Plans
 pub mod Ready
+pub mod Runs

@@ -24,7 +24,7 @@ use qp_chart::{Env, Plain};
 use qp_fits::{Answer, Call, Kept, Rest};
 
 /// What the names of an expression stand for.
-fn env_of<'a>(o: u8, way: &'a Way, own: &'a Own) -> Env<'a>
+pub(crate) fn env_of<'a>(o: u8, way: &'a Way, own: &'a Own) -> Env<'a>
     ensures { names_in result ≡ record { vars = own.now.vars.items; pars = (moment_of (as_way way.now)).event.pars; ok = own.now.ok; me = o } }
 {
     match way {

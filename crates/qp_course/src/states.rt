@@ -1,5 +1,9 @@
 //! The states of an object's course.
 
+ghost use Rattle.std.specs.Prelude.{◌≡◌};
+ghost use Rattle.qp_course.specs.Goes.{moment_of};
+ghost use Rattle.qp_course.specs.AsState.{as_way};
+
 use crate::notes::Note;
 use crate::tasks::Task;
 use qp_chart::Chart;
@@ -29,6 +33,18 @@ pub(crate) struct Step {
 pub(crate) enum Way {
     Starting,
     Stepping(Step),
+}
+
+impl Way {
+    /// The entry that a step works on; a start has none.
+    pub(crate) fn entry(&self) -> Option<Entry>
+        ensures { result ≡ (moment_of (as_way self.now)).entry }
+    {
+        match self {
+            Way::Starting => None,
+            Way::Stepping(step) => Some(step.entry),
+        }
+    }
 }
 
 /// What an object has from step to step, beside its deferred list.

@@ -1,0 +1,76 @@
+-- What is answered of an object's list.
+use Rattle.std.proofs.Common.{◌≡◌, ℕ, suc, ◌≤◌, ◌==◌, Bool, true, false, List, [], ◌∷◌, length, sym, ◌∙◌, ap, subst, Some, None, arith}
+use Rattle.std.proofs.lemmas.Bool.Decides.{nat_tests}
+use Rattle.qp_chart.specs.declared.checked.Chart.{Chart}
+use Rattle.qp_model.specs.declared.systems.System.{System}
+use Rattle.qp_model.specs.declared.systems.ObjectDef.{ObjectDef}
+use Rattle.qp_model.specs.Told.{Told}
+use Rattle.qp_model.specs.Pieces.{Piece, bare, ends_at_point}
+use Rattle.qp_model.specs.Able.{chart_able}
+use Rattle.qp_model.specs.Acts.{Actor}
+use Rattle.qp_model.specs.Course.{Cut, FollowsTo, actor, chart_at, first_config}
+use Rattle.qp_fits.specs.Decides.{Decides}
+use Rattle.qp_course.specs.Machine.{State, start_state, run}
+use Rattle.qp_course.specs.Passing.{run_told, is_none_told, told_well, told_to}
+use Rattle.qp_course.specs.Decided.{ends_well, reads_to}
+use Rattle.qp_course.specs.Followable.{with_eight, IsFollowable}
+use Rattle.qp_course.specs.Runs.{IsAble, CanRun}
+use Rattle.qp_course.proofs.BackLemmas.{some-first}
+use Rattle.qp_course.proofs.CanLemmas.{run-start}
+use Rattle.qp_course.proofs.FollowLemmas.{pieces-decided, records-decided}
+
+-- a course begins so that it can run
+pub begun-can : (sys : System) (a : Actor) (d : ObjectDef) (s : State) → IsAble sys a → s ≡ start_state a (first_config d) → CanRun sys a s
+begun-can sys a d s able is = subst (λ x. CanRun sys a x) (sym is) (run-start sys a able (first_config d) (omega arith))
+
+module _ (sys : System) (d : ObjectDef) (f : IsFollowable sys d) (chart : Chart) (found : chart_at sys d.chart ≡ Some chart) where
+  its : f.its ≡ chart
+  its = some-first (sym f.is_its ∙ found)
+
+  -- the object of the chart that is found
+  pub its-able : (own : System) (a : Actor) → own ≡ sys → a ≡ actor d chart → d.defer ≤ 255 → IsAble own a
+  its-able own a same is room =
+      subst (λ x. IsAble x a) (sym same) (subst (λ x. IsAble sys x) (sym is) (record {
+        able = subst (λ x. chart_able sys x ≡ true) its f.able;
+        few = subst (λ x. chart_able with_eight x ≡ true) its f.few;
+        room = room;
+      }))
+
+  -- the records are read to the last one, or not
+  pub told-answer : (own : System) (a : Actor) → own ≡ sys → a ≡ actor d chart → (cut : Cut) (g : List Told) (b : Bool)
+      → b ≡ told_well a cut (is_none_told g) (run_told own a (start_state a (first_config d)) g) → Decides b ((ps : List Piece) × (bare ps ≡ g) × FollowsTo sys d cut ps)
+  unfolding told_to
+  told-answer own a same is cut g b ends =
+      subst (λ x. Decides x ((ps : List Piece) × (bare ps ≡ g) × FollowsTo sys d cut ps)) (sym whole) (records-decided sys d f cut g)
+    where
+      whole : b ≡ told_to sys d f.its cut g
+      whole =
+          ends ∙ ap (λ x. told_well a cut (is_none_told g) (run_told x a (start_state a (first_config d)) g)) same
+          ∙ ap (λ x. told_well x cut (is_none_told g) (run_told sys x (start_state x (first_config d)) g)) (is ∙ ap (actor d) (sym its))
+
+  -- the same of pieces
+  pub pieces-answer : (own : System) (a : Actor) → own ≡ sys → a ≡ actor d chart → (cut : Cut) (ps : List Piece) (b : Bool)
+      → b ≡ ends_well cut (ends_at_point ps) (run own a (start_state a (first_config d)) ps) → Decides b (FollowsTo sys d cut ps)
+  unfolding reads_to
+  pieces-answer own a same is cut ps b ends = subst (λ x. Decides x (FollowsTo sys d cut ps)) (sym whole) (pieces-decided sys d f cut ps)
+    where
+      whole : b ≡ reads_to sys d f.its cut ps
+      whole =
+          ends ∙ ap (λ x. ends_well cut (ends_at_point ps) (run x a (start_state a (first_config d)) ps)) same
+          ∙ ap (λ x. ends_well cut (ends_at_point ps) (run sys x (start_state x (first_config d)) ps)) (is ∙ ap (actor d) (sym its))
+
+-- nothing was told
+pub none-told : (g : List Told) (b : Bool) → b ≡ (length g == 0) → b ≡ is_none_told g
+none-told [] b h = h
+none-told (t ∷ g) b h = let some : (suc (length g) == 0) ≡ false = grind (arith, nat_tests) in h ∙ some
+
+-- a followable object has its chart
+pub missing : (sys : System) (d : ObjectDef) → IsFollowable sys d → chart_at sys d.chart ≡ None → ⊥
+missing sys d f h = let both : Some f.its ≡ None = sym f.is_its ∙ h in cc
+
+-- an object by what it has
+abbrev made : ℕ → Chart → ℕ → Actor
+made o chart room = record { o = o; chart = chart; room = room }
+
+pub object-of : (d : ObjectDef) (chart : Chart) (room : ℕ) → room ≡ d.defer → made d.priority chart room ≡ actor d chart
+object-of d chart room is = ap (λ r. made d.priority chart r) is
