@@ -1,13 +1,11 @@
 -- All definitions hold at all their sites exactly where the journal is lawful.
-use Rattle.std.proofs.Common.{◌≡◌, ℕ, ◌+◌, ◌<◌, ◌==◌, Bool, true, false, List, [], ◌∷◌, ◌++◌, cond, length, refl, IsTrue, Some, None}
-use Rattle.std.specs.declared.option.Option.{Option}
+use Rattle.std.proofs.Common.{◌≡◌, ℕ, ◌+◌, ◌<◌, Bool, true, false, List, [], ◌∷◌, ◌++◌, cond, refl, IsTrue, Some, None}
 use Rattle.std.specs.List.{AllByRecursion}
 use Rattle.qp_model.specs.declared.stimulus.Stim.{Stim}
 use Rattle.qp_model.specs.declared.systems.System.{System}
 use Rattle.qp_model.specs.declared.systems.ObjectDef.{ObjectDef}
 use Rattle.qp_model.specs.declared.journals.Journal.{Journal}
 use Rattle.qp_model.specs.Lawful.{Lawful, ObjectHolds, ShapesHold, deferral_holds, CourseHolds, SourceLanes, lanes_before}
-use Rattle.qp_check.specs.declared.verdict.Broken.{Broken}
 use Rattle.qp_check.specs.Judged.{Trial, AllHold, as_trials, at_objects, source_trials, word_trials, object_trials, kernel_trials, lane_trials, order_trial, end_trials, trials}
 use Rattle.qp_check.specs.Law.{LawfulWhereNoneFails}
 use Rattle.qp_check.specs.WordRules.{Try, first_broken, word_tries}

@@ -43,3 +43,9 @@ pub mod ToldLemmas
 pub mod CutLemmas
 pub mod HomeLaneLemmas
 pub mod PieceLemmas
+pub mod FindLemmas
+pub mod DecideLemmas
+pub mod SourceFindLemmas
+pub mod ObjectTestLemmas
+pub mod RunPartLemmas
+pub mod CheckLemmas

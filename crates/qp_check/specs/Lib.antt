@@ -29,3 +29,4 @@ pub mod Knowledge
 pub mod SpillCuts
 pub mod HomeCounts
 pub mod ObjectPieces
+pub mod Judgeable

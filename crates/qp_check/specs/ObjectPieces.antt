@@ -1,14 +1,20 @@
 -- The pieces of each object in lane 0.
-use Rattle.std.specs.Prelude.{ℕ, ◌==◌, Bool, false, not, ◌&&◌, List, [], ◌∷◌, if◌then◌else◌, Some, None}
+use Rattle.std.specs.Prelude.{◌≡◌, ℕ, ◌==◌, Bool, false, List, [], ◌∷◌, if◌then◌else◌, Some, None}
 use Rattle.std.specs.declared.option.Option.{Option}
 use Rattle.std.specs.Option.{unwrap_or}
 use Rattle.std.specs.BTreeMap.{get}
 use Rattle.std.specs.Ordering.{nat_cmp}
+use Rattle.qp_model.specs.declared.systems.System.{System}
+use Rattle.qp_model.specs.declared.journals.Journal.{Journal}
+use Rattle.qp_model.specs.History.{lane_items}
+use Rattle.qp_model.specs.Home.{lane_at}
+use Rattle.qp_model.specs.Lawful.{facts_of, setting_of}
+use Rattle.qp_model.specs.Points.{lane_pieces}
 use Rattle.qp_model.specs.Record.{Item}
 use Rattle.qp_model.specs.Ends.{is_turn_mark}
 use Rattle.qp_model.specs.KernelLane.{Reading, Place, Inside}
 use Rattle.qp_model.specs.Knowing.{Facts, told}
-use Rattle.qp_model.specs.Pieces.{Piece, Tell, Point}
+use Rattle.qp_model.specs.Pieces.{Piece, Tell}
 use Rattle.qp_model.specs.Points.{is_look}
 use Rattle.qp_check.specs.declared.pieces_rows.ObjectPieces.{ObjectPieces}
 
@@ -38,3 +44,7 @@ is_it k (Some n) = n == k
 abbrev pub listed : Option Piece → List Piece
 listed None = []
 listed (Some p) = p ∷ []
+
+-- each object's are those that the definition of points reads off lane 0
+abbrev pub ArePiecesOf : System → Journal → ObjectPieces → Type 0
+ArePiecesOf sys j x = (o : ℕ) → pieces_of x o ≡ lane_pieces (facts_of sys j) (setting_of sys j) o (lane_items (lane_at j 0))

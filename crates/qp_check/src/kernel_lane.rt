@@ -18,7 +18,7 @@ use crate::stimulated::stimulated;
 use qp_model::{Journal, Rec, System};
 use std::alloc::{AllocError, Global};
 
-const SIM: u8 = 0;
+pub(crate) const SIM: u8 = 0;
 
 pub const ASSERTED: u8 = 3;
 

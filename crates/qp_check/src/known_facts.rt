@@ -84,13 +84,13 @@ fn is_in(lists: &[Subscribed], n: usize, o: u8) -> bool
 }
 
 impl<'a> Knowledge<'a> {
-    ghost use Rattle.qp_check.specs.Knowledge.{IsKnown, facts_in};
+    ghost use Rattle.qp_check.specs.Knowledge.{IsKnowledgeOf, IsKnown, facts_in};
 
     /// What the records of a journal say, where the words of the system keep their law.
     pub fn of(alloc: Global, sys: &'a System, j: &'a Journal) -> Result<Self, AllocError>
         requires fits { WordsFit sys.now }
         requires words { Words sys.now j.now.lanes }
-        ensures { IfOk result (λ k. IsKnown k × (facts_in k ≡ facts_of sys.now j.now)) }
+        ensures { IfOk result (λ k. IsKnowledgeOf k sys.now j.now) }
     {
         let gathered = Gathered::new(alloc, sys, &j.lanes)?;
         Ok(Knowledge {

@@ -1,7 +1,8 @@
-//! The judge of journals: the first definition of a lawful journal that fails, and where. So far it has the definitions of
-//! words, and the tests of whole runs that ask nothing of a chart; `check` itself is to come.
+//! The judge of journals. `check` tries all definitions of a lawful journal at all their sites, in one order: it answers that all hold,
+//! or the first that fails, and where. The other functions here are the tests of its parts.
 #![tactic(auto)]
 
+mod checking;
 mod deferral;
 mod deferred_entries;
 mod ending;
@@ -28,10 +29,12 @@ pub mod laws;
 mod lives;
 mod marks;
 mod numbers;
+mod object_tests;
 mod one_order;
 mod order_looks;
 mod order_tests;
 mod order_turns;
+mod parts;
 mod pieces;
 mod pieces_rows;
 mod pools;
@@ -41,6 +44,7 @@ mod reference_counts;
 mod references;
 mod resting;
 mod rules;
+mod run_parts;
 mod signals;
 mod slots;
 mod stimulated;
@@ -53,9 +57,12 @@ mod told_lists;
 mod touches;
 mod turns;
 mod verdict;
+#[cfg(test)]
+mod verdict_tests;
 mod word_totals;
 mod words;
 
+pub use checking::check;
 pub use deferral::{Deferred, keeps_deferred, kept};
 pub use deferred_entries::deferred;
 pub use ending::end_holds;
@@ -70,7 +77,7 @@ pub use pieces_rows::ObjectPieces;
 pub use resting::rests;
 pub use told_cut::cut_of;
 pub use told_home::is_home_lane;
-pub use told_lists::{dispatched, object_records, source_told, told_records};
+pub use told_lists::{keep_dispatched, object_records, source_told, told_records};
 pub use verdict::{Broken, Site, Verdict};
 
 #[cfg(test)]

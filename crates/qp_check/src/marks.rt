@@ -1,13 +1,14 @@
 //! The marks of records on words: how many operations a word had after them.
 
-ghost use Rattle.std.specs.Prelude.{◌≡◌, ◌^◌, suc, ◌+◌};
+ghost use Rattle.std.specs.Prelude.{◌≡◌};
 ghost use Rattle.qp_model.specs.Record.{item_of};
-ghost use Rattle.qp_model.specs.History.{touch, touch_of};
+ghost use Rattle.qp_model.specs.History.{touch};
 ghost use Rattle.qp_model.specs.WordOf.{number_before, fitting_number};
 ghost use Rattle.qp_check.specs.Marks.{drawn_key, mark_in, shown_key};
 
 use crate::groups::Key;
-use qp_model::{Body, Rec};
+use crate::touches::Touched;
+use qp_model::Rec;
 
 /// What a record does to a word.
 #[derive(Clone, Copy, PartialEq, Eq, Debug)]
@@ -20,80 +21,14 @@ pub(crate) enum Mark {
 }
 
 /// What the record does to its word.
-#[tactic(auto, unfolding(qp_model::specs::Record::item_of))]
 pub(crate) fn mark_of(r: &Rec) -> Mark
     ensures { result ≡ mark_in (touch (item_of r.now)) }
 {
-    mark_said(r.of, &r.body())
-}
-
-fn mark_said(o: u8, body: &Body) -> Mark
-    ensures { result ≡ mark_in (touch_of o body.now) }
-{
-    match body {
-        Body::Took { f, l, m, .. } | Body::Post { f, l, m, .. } | Body::Lifo { f, l, m, .. } => {
-            Mark::Drawn(operations(*f, *l, *m))
-        }
-        Body::Nil { f, l, m }
-        | Body::Seen { f, l, m, .. }
-        | Body::Full { f, l, m, .. }
-        | Body::NoEntry { f, l, m, .. }
-        | Body::NoLifo { f, l, m, .. } => Mark::Shown(operations(*f, *l, *m)),
-        Body::Inc { r: n, .. }
-        | Body::Dec { d: n, .. }
-        | Body::New { n, .. }
-        | Body::Back { n, .. }
-        | Body::Sub { n, .. }
-        | Body::Unsub { n, .. }
-        | Body::Arm { n, .. }
-        | Body::Disarm { n, .. }
-        | Body::Rearm { n, .. }
-        | Body::Tick { n, .. }
-        | Body::Fire { n, .. } => Mark::Drawn(after(*n)),
-        Body::Short { n, .. }
-        | Body::NoBlock { n, .. }
-        | Body::Pub { n, .. }
-        | Body::Same { n, .. }
-        | Body::Idle { n, .. }
-        | Body::Armed { n, .. } => Mark::Shown(u128::from(*n)),
-        Body::Begin
-        | Body::Run { .. }
-        | Body::Unhandled
-        | Body::Exit { .. }
-        | Body::Enter { .. }
-        | Body::Init { .. }
-        | Body::Say { .. }
-        | Body::Done
-        | Body::Lock { .. }
-        | Body::Unlock { .. }
-        | Body::Defer { .. }
-        | Body::NoDefer
-        | Body::Recall { .. }
-        | Body::NoRecall
-        | Body::Flush { .. }
-        | Body::Stim { .. }
-        | Body::Settle
-        | Body::BadTicks { .. }
-        | Body::Spent
-        | Body::Spill { .. }
-        | Body::Look { .. }
-        | Body::Rest { .. }
-        | Body::Malformed => Mark::Unmarked,
+    match Touched::by(r) {
+        Touched::Draws { mark, .. } => Mark::Drawn(mark),
+        Touched::Shows { mark, .. } => Mark::Shown(mark),
+        Touched::Neither => Mark::Unmarked,
     }
-}
-
-/// The number of operations of a queue at these counts.
-fn operations(f: u64, l: u64, m: u64) -> u128
-    ensures { result ≡ f + l + m }
-{
-    u128::from(f) + u128::from(l) + u128::from(m)
-}
-
-/// The number of operations after the one of this number.
-fn after(n: u64) -> u128
-    ensures { result ≡ suc n }
-{
-    u128::from(n) + 1
 }
 
 /// Records by the numbers that they draw.

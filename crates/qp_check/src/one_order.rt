@@ -96,7 +96,7 @@ fn ordered<'a>(
     Ok(order)
 }
 
-fn spills_in(lane: &[Rec]) -> bool
+pub(crate) fn spills_in(lane: &[Rec]) -> bool
     ensures { result ≡ spilt (lane_items lane.now) }
 {
     lane.iter().any(|r| is_spill(r))

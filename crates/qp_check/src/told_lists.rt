@@ -103,10 +103,9 @@ pub fn source_told(
     Ok(told)
 }
 
-/// The records without those of turns that have no step.
-pub fn dispatched(mut told: Vec<Told>) -> Vec<Told>
-    ensures { result.items ≡ dispatched told.items }
+/// Drops the records of turns that have no step.
+pub fn keep_dispatched(told: &mut Vec<Told>)
+    ensures { told.new.items ≡ dispatched told.old.items }
 {
     told.retain(|t| !is_turn_mark(&t.body));
-    told
 }

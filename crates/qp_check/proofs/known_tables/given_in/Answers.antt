@@ -1,4 +1,4 @@
-use Rattle.std.proofs.Common.{◌≡◌, ◌∙◌, ◌+◌, ◌++◌, ◌∷◌, [], Bool, true, false, cond, ap, sym, take, append-nil}
+use Rattle.std.proofs.Common.{◌≡◌, ◌∙◌, ◌++◌, ◌∷◌, [], Bool, true, false, cond, ap, sym, take, append-nil}
 use Rattle.qp_model.specs.Record.{Item, item_of}
 use Rattle.qp_check.specs.KnownTables.{given_in, gives}
 use Rattle.qp_check.proofs.WalkLemmas.{filter_front}

@@ -1,4 +1,4 @@
-use Rattle.std.proofs.Common.{◌∙◌, ◌+◌, ◌++◌, IsSome, subst, ap, sym, arith}
+use Rattle.std.proofs.Common.{◌∙◌, ◌++◌, IsSome, subst, ap, sym, arith}
 use Rattle.qp_model.specs.History.{lane_items}
 use Rattle.qp_model.specs.KernelLane.{lane_on, lane_read, unread}
 use Rattle.qp_model.specs.Lawful.{facts_of}

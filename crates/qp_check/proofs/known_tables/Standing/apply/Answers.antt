@@ -1,4 +1,4 @@
-use Rattle.std.proofs.Common.{◌≡◌, ◌∙◌, ◌-◌, true, false, cond, ap, sym, arith}
+use Rattle.std.proofs.Common.{◌≡◌, ◌∙◌, ◌-◌, cond, ap, sym, arith}
 use Rattle.qp_check.proofs.KnownTableLemmas.{counted-dec}
 use Rattle.qp_check.proofs.known_tables.Standing.apply.Goals as goal
 

@@ -1,0 +1,189 @@
+//! The definitions of objects, each at the first object at which it fails.
+
+ghost use Rattle.std.specs.Prelude.{◌≡◌, map, length, IfOk, IsTrue};
+ghost use Rattle.std.specs.List.{AllByRecursion};
+ghost use Rattle.qp_model.specs.Home.{by_object};
+ghost use Rattle.qp_model.specs.Lawful.{CourseHolds, ShapesHold, deferral_holds, dispatched, facts_of};
+ghost use Rattle.qp_fits.specs.Decides.{Decides};
+ghost use Rattle.qp_check.specs.Judgeable.{IsJudgeable};
+ghost use Rattle.qp_check.specs.Judged.{Finds, at_objects, object_trials};
+ghost use Rattle.qp_course.specs.Followable.{IsFollowable};
+ghost use Rattle.qp_check.specs.Knowledge.{IsKnowledgeOf};
+ghost use Rattle.qp_check.specs.declared.verdict.Site.TheVariants as site;
+
+use crate::deferral::keeps_deferred;
+use crate::known_facts::Knowledge;
+use crate::lane_parts::{PORT, home_lane, lane_at};
+use crate::parts::{Records, has_shape, object_records};
+use crate::told_cut::cut_of;
+use crate::told_home::is_home_lane;
+use crate::told_lists::keep_dispatched;
+use crate::verdict::{Broken, Site};
+use qp_course::follows;
+use qp_model::{Journal, ObjectDef, System};
+use std::alloc::{AllocError, Global};
+
+const COURSE: u8 = 7;
+
+const SHAPES: u8 = 15;
+
+const DEFERRAL: u8 = 17;
+
+fn at_object(definition: u8, d: &ObjectDef) -> Broken
+    ensures number { result.definition ≡ definition }
+    ensures place { result.site ≡ site.Object d.now.priority }
+{
+    Broken {
+        definition,
+        site: Site::Object(d.priority),
+    }
+}
+
+/// The records of each object, as told.
+fn all_records(
+    alloc: Global,
+    knowledge: &Knowledge,
+    sys: &System,
+    j: &Journal,
+) -> Result<Vec<Records>, AllocError>
+    requires { IsKnowledgeOf knowledge.now sys.now j.now }
+    ensures { IfOk result (λ v. v.items ≡ map (λ d. by_object (facts_of sys.now j.now) j.now d.priority) sys.now.objects) }
+{
+    let mut all = Vec::new(alloc);
+    for d in &sys.objects.items {
+        all.push(object_records(alloc, knowledge, sys, j, d)?)?;
+    }
+    Ok(all)
+}
+
+/// Whether an object's records have their shapes, and in `port` its lane has no others.
+fn has_its_shapes(
+    alloc: Global,
+    sys: &System,
+    j: &Journal,
+    d: &ObjectDef,
+    told: &Records,
+) -> Result<bool, AllocError>
+    requires { told.now ≡ by_object (facts_of sys.now j.now) j.now d.now.priority }
+    ensures { IfOk result (λ b. Decides b (ShapesHold sys.now j.now d.now)) }
+{
+    let cut = cut_of(sys, j, d.priority);
+    if !has_shape(sys, d.priority, j.kernel == PORT, cut, &told.items) {
+        return Ok(false);
+    }
+    if j.kernel != PORT {
+        return Ok(true);
+    }
+    let home = home_lane(sys, j, d.priority);
+    let is_home = is_home_lane(alloc, d.priority, j.budget, lane_at(j, home))?;
+    Ok(is_home)
+}
+
+fn shapes_broken(
+    alloc: Global,
+    sys: &System,
+    j: &Journal,
+    told: &[Records],
+) -> Result<Option<Broken>, AllocError>
+    requires { told.now ≡ map (λ d. by_object (facts_of sys.now j.now) j.now d.priority) sys.now.objects }
+    ensures { IfOk result (λ o. Finds (at_objects 15 (ShapesHold sys.now j.now) sys.now.objects) o) }
+{
+    for (i, d) in sys.objects.items.iter().enumerate() {
+        if !has_its_shapes(alloc, sys, j, d, &told[i])? {
+            return Ok(Some(at_object(SHAPES, d)));
+        }
+    }
+    Ok(None)
+}
+
+fn deferral_broken(alloc: Global, sys: &System, j: &Journal) -> Result<Option<Broken>, AllocError>
+    ensures { IfOk result (λ o. Finds (at_objects 17 (λ d. IsTrue (deferral_holds sys.now j.now d)) sys.now.objects) o) }
+{
+    for d in &sys.objects.items {
+        if !keeps_deferred(alloc, sys, j, d)? {
+            return Ok(Some(at_object(DEFERRAL, d)));
+        }
+    }
+    Ok(None)
+}
+
+impl Records {
+    /// Keeps those of a start and of steps.
+    fn drop_marks(&mut self)
+        ensures { self.new ≡ dispatched self.old }
+    {
+        keep_dispatched(&mut self.items);
+    }
+}
+
+fn drop_all_marks(all: &mut [Records])
+    ensures { all.new ≡ map dispatched all.old }
+{
+    for records in all.iter_mut() {
+        records.drop_marks();
+    }
+}
+
+/// Whether the records of an object's start and steps follow its chart.
+#[tactic(auto, unfolding(qp_model::specs::Lawful::CourseHolds))]
+fn has_its_course(
+    alloc: Global,
+    sys: &System,
+    j: &Journal,
+    d: &ObjectDef,
+    told: &Records,
+) -> Result<bool, AllocError>
+    requires followable { IsFollowable sys.now d.now }
+    requires told { told.now ≡ dispatched (by_object (facts_of sys.now j.now) j.now d.now.priority) }
+    ensures { IfOk result (λ b. Decides b (CourseHolds sys.now j.now d.now)) }
+{
+    let cut = cut_of(sys, j, d.priority);
+    let follows = follows(alloc, sys, d, cut, &told.items)?;
+    Ok(follows)
+}
+
+fn course_broken(
+    alloc: Global,
+    sys: &System,
+    j: &Journal,
+    told: &[Records],
+) -> Result<Option<Broken>, AllocError>
+    requires followable { AllByRecursion (IsFollowable sys.now) sys.now.objects }
+    requires told { told.now ≡ map (λ d. dispatched (by_object (facts_of sys.now j.now) j.now d.priority)) sys.now.objects }
+    ensures { IfOk result (λ o. Finds (at_objects 7 (CourseHolds sys.now j.now) sys.now.objects) o) }
+{
+    for (i, d) in sys.objects.items.iter().enumerate() {
+        if !has_its_course(alloc, sys, j, d, &told[i])? {
+            return Ok(Some(at_object(COURSE, d)));
+        }
+    }
+    Ok(None)
+}
+
+/// The first definition of objects that fails: shapes, the deferred list and the course, each at all objects in their order.
+#[tactic(auto, unfolding(crate::specs::Judged::object_trials))]
+pub(crate) fn objects_broken(
+    alloc: Global,
+    knowledge: &Knowledge,
+    sys: &System,
+    j: &Journal,
+) -> Result<Option<Broken>, AllocError>
+    requires judgeable { IsJudgeable sys.now }
+    requires known { IsKnowledgeOf knowledge.now sys.now j.now }
+    ensures { IfOk result (λ o. Finds (object_trials sys.now j.now) o) }
+{
+    let mut told = all_records(alloc, knowledge, sys, j)?;
+    let shapes = shapes_broken(alloc, sys, j, &told)?;
+    match shapes {
+        Some(broken) => return Ok(Some(broken)),
+        None => {}
+    }
+    let deferral = deferral_broken(alloc, sys, j)?;
+    match deferral {
+        Some(broken) => return Ok(Some(broken)),
+        None => {}
+    }
+    drop_all_marks(&mut told);
+    let course = course_broken(alloc, sys, j, &told)?;
+    Ok(course)
+}
