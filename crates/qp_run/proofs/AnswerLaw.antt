@@ -1,22 +1,27 @@
 -- No call over files has two answers.
-use Rattle.std.proofs.Common.{◌≡◌, ℕ, ◌≤◌, true, List, length, Option, Some, None, ◌⊎◌, sym, ap, subst, ◌∙◌, arith, inl, inr}
+use Rattle.std.proofs.Common.{◌≡◌, ℕ, ◌≤◌, true, List, length, Option, Some, None, Result, Ok, Err, ◌⊎◌, sym, ap, subst, ◌∙◌, arith, inl, inr}
 use Rattle.std.proofs.lemmas.Bool.{false≢true}
+use Rattle.qp_alike.proofs.LawLemmas.{stimuli_are_one, verdicts_are_one}
 use Rattle.qp_base.specs.declared.shelves.TheConstants.{FILE_LIMIT}
+use Rattle.qp_model.specs.declared.stimulus.Stim.{Stim}
 use Rattle.qp_model.specs.declared.systems.System.{System}
-use Rattle.qp_stim.specs.Stimuli.{stimuli_of}
+use Rattle.qp_stim.specs.Stimuli.{Fault, stimuli_of}
 use Rattle.qp_system.specs.declared.fault.SystemFault.{SystemFault}
 use Rattle.qp_system.specs.declared.fault.SystemFault.TheVariants.{Memory as NoMemory}
 use Rattle.qp_system.specs.SystemOf.{IsSystemOf, RefusesSystem}
 use Rattle.qp_system.proofs.LawLemmas.{systems_have_no_fault, refusals_are_one}
 use Rattle.qp_run.specs.declared.status.Status.{Status}
 use Rattle.qp_run.specs.declared.words.values.Kind.{Kind}
-use Rattle.qp_run.specs.Conversions.{AnswersJournal, answer_on, said}
+use Rattle.qp_run.specs.declared.words.values.Kind.TheVariants.{Frames, Journal as Text}
+use Rattle.qp_run.specs.Checks.{JudgesFiles, JudgesFound, JudgesSecond, JudgesStimuli, JudgesSystem, JudgesThird, verdict_answer}
+use Rattle.qp_run.specs.Conversions.{AnswersJournal, answer_on, decode_on, migrate_on, said}
 use Rattle.qp_run.specs.Loads.{EndsAtLoad, IsLoaded}
 use Rattle.qp_run.specs.Thin.{is_thin}
 use Rattle.qp_model.specs.declared.journals.Journal.{Journal}
-use Rattle.qp_run.specs.WordTable.{decode, migrate, run}
-use Rattle.qp_run.specs.Verdict.{AnswersFiles, AnswersStimuli, AnswersSystem, EndsAtSystem, IsAnswer, OneAnswer, stimuli_answer, system_refusal}
-use Rattle.qp_run.proofs.SameThin.{thin-same, stimuli-same}
+use Rattle.qp_run.specs.WordTable.{check, decode, migrate, number_of_form, run}
+use Rattle.qp_run.specs.Verdict.{AnswersFiles, AnswersStimuli, AnswersSystem, EndsAtSystem, IsAnswer, OneAnswer, stimuli_answer}
+use Rattle.qp_run.specs.Refusals.{system_refusal}
+use Rattle.qp_run.proofs.SameThin.{thin-same}
 
 -- a file that was not loaded has one answer
 ends-one : (file : ℕ) (held : Option (List ℕ)) (a b : Status) → EndsAtLoad file held a → EndsAtLoad file held b → a ≡ b
@@ -61,7 +66,7 @@ module _ (bytes : List ℕ) where
   stimuli-one held s t a b p q (inl is) (inr (text, loaded, are)) = absurd (loaded-goes_on 2 held text a loaded is)
   stimuli-one held s t a b p q (inr (text, loaded, is)) (inl are) = absurd (loaded-goes_on 2 held text b loaded are)
   stimuli-one held s t a b p q (inr (text, loaded, is)) (inr (other, found, are)) =
-      is ∙ ap stimuli_answer (stimuli-same bytes s t text p q ∙ ap (stimuli_of t) (loaded-one held text other loaded found)) ∙ sym are
+      is ∙ ap stimuli_answer (stimuli_are_one bytes s t text p q ∙ ap (stimuli_of t) (loaded-one held text other loaded found)) ∙ sym are
 
   system-one : (held : Option (List ℕ)) (a b : Status) → AnswersSystem bytes held a → AnswersSystem bytes held b → a ≡ b
   system-one held a b (inl is) (inl are) = end-one a b is are
@@ -85,9 +90,56 @@ journal-one kind on held a b (inr (bytes, loaded, is)) (inl are) = absurd (loade
 journal-one kind on held a b (inr (bytes, loaded, is)) (inr (other, found, are)) =
     is ∙ ap (λ x. answer_on on (said kind x)) (loaded-one held bytes other loaded found) ∙ sym are
 
+-- the answers on a journal by two systems of the same bytes
+module _ (bytes : List ℕ) where
+  module _ (s t : System) (p : IsSystemOf bytes s) (q : IsSystemOf bytes t) where
+    found-one : (sources : List (List Stim)) (found : Result (ℕ × Journal) Status) (a b : Status)
+        → JudgesFound s sources found a → JudgesFound t sources found b → a ≡ b
+    found-one sources (Err refusal) a b is are = is ∙ sym are
+    found-one sources (Ok (form, j)) a b (v, judged, is) (w, also, are) =
+        is ∙ ap verdict_answer (verdicts_are_one bytes s t sources j v w p q judged also) ∙ sym are
+
+    third-one : (sources : List (List Stim)) (held : Option (List ℕ)) (a b : Status) → JudgesThird s sources held a → JudgesThird t sources held b → a ≡ b
+    third-one sources held a b (inl is) (inl are) = ends-one 3 held a b is are
+    third-one sources held a b (inl is) (inr (text, loaded, are)) = absurd (loaded-goes_on 3 held text a loaded is)
+    third-one sources held a b (inr (text, loaded, is)) (inl are) = absurd (loaded-goes_on 3 held text b loaded are)
+    third-one sources held a b (inr (text, loaded, is)) (inr (other, found, are)) =
+        found-one sources (said Text text) a b is (subst (λ x. JudgesFound t sources (said Text x) b) (loaded-one held other text found loaded) are)
+
+    sources-one : (held : Option (List ℕ)) (read : Result (List (List Stim)) Fault) (a b : Status)
+        → JudgesStimuli s held read a → JudgesStimuli t held read b → a ≡ b
+    sources-one held (Err fault) a b is are = is ∙ sym are
+    sources-one held (Ok sources) a b is are = third-one sources held a b is are
+
+    second-one : (stimuli held : Option (List ℕ)) (a b : Status) → JudgesSecond s stimuli held a → JudgesSecond t stimuli held b → a ≡ b
+    second-one stimuli held a b (inl is) (inl are) = ends-one 2 stimuli a b is are
+    second-one stimuli held a b (inl is) (inr (text, loaded, are)) = absurd (loaded-goes_on 2 stimuli text a loaded is)
+    second-one stimuli held a b (inr (text, loaded, is)) (inl are) = absurd (loaded-goes_on 2 stimuli text b loaded are)
+    second-one stimuli held a b (inr (text, loaded, is)) (inr (other, found, are)) =
+        sources-one held (stimuli_of s text) a b is (subst (λ x. JudgesStimuli t held x b) same are)
+      where
+        same : stimuli_of t other ≡ stimuli_of s text
+        same = ap (stimuli_of t) (loaded-one stimuli other text found loaded) ∙ sym (stimuli_are_one bytes s t text p q)
+
+  judged-one : (stimuli held : Option (List ℕ)) (a b : Status) → JudgesSystem bytes stimuli held a → JudgesSystem bytes stimuli held b → a ≡ b
+  judged-one stimuli held a b (inl (f, is, other, answer)) (inl (g, are, another, also)) = fault-one bytes f g a b is other answer are another also
+  judged-one stimuli held a b (inl (f, is, other, answer)) (inr (t, q, are)) = absurd (other (systems_have_no_fault bytes t f q is))
+  judged-one stimuli held a b (inr (s, p, is)) (inl (g, are, another, also)) = absurd (another (systems_have_no_fault bytes s g p are))
+  judged-one stimuli held a b (inr (s, p, is)) (inr (t, q, are)) = second-one s t p q stimuli held a b is are
+
+-- and so three files have one answer
+files-judged-one : (system stimuli held : Option (List ℕ)) (a b : Status) → JudgesFiles system stimuli held a → JudgesFiles system stimuli held b → a ≡ b
+unfolding JudgesFiles
+files-judged-one system stimuli held a b (inl is) (inl are) = ends-one 1 system a b is are
+files-judged-one system stimuli held a b (inl is) (inr (bytes, loaded, are)) = absurd (loaded-goes_on 1 system bytes a loaded is)
+files-judged-one system stimuli held a b (inr (bytes, loaded, is)) (inl are) = absurd (loaded-goes_on 1 system bytes b loaded are)
+files-judged-one system stimuli held a b (inr (bytes, loaded, is)) (inr (other, found, are)) =
+    judged-one bytes stimuli held a b is (subst (λ x. JudgesSystem x stimuli held b) (loaded-one system other bytes found loaded) are)
+
 pub one-answer : OneAnswer
 unfolding IsAnswer
 one-answer held None a b p q = p ∙ sym q
 one-answer held (Some (run w)) a b p q = files-one (held w.system) (held w.stimuli) a b p q
-one-answer held (Some (decode frames)) a b p q = journal-one _ _ (held frames) a b p q
-one-answer held (Some (migrate w)) a b p q = journal-one _ _ (held w.file) a b p q
+one-answer held (Some (decode frames)) a b p q = journal-one Frames decode_on (held frames) a b p q
+one-answer held (Some (migrate w)) a b p q = journal-one w.from (migrate_on (number_of_form w.to)) (held w.file) a b p q
+one-answer held (Some (check w)) a b p q = files-judged-one (held w.system) (held w.stimuli) (held w.journal) a b p q

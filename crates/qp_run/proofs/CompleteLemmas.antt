@@ -1,16 +1,21 @@
 -- Calls in which no count rose.
-use Rattle.std.proofs.Common.{◌≡◌, ℕ, true, List, Option, Some, None, IfSome, refl, ap, ◌∙◌, ◌⊎◌, inl, inr}
+use Rattle.std.proofs.Common.{◌≡◌, ℕ, true, List, Option, Some, None, IfSome, refl, sym, ap, ◌∙◌, ◌⊎◌, inl, inr}
 use Rattle.std.proofs.lemmas.Bool.{false≢true}
 use Rattle.qp_model.specs.declared.journals.Journal as journal
+use Rattle.qp_model.specs.declared.stimulus.Stim.{Stim}
+use Rattle.qp_model.specs.declared.systems.System.{System}
 use Rattle.qp_text.specs.TextLaw.{IsWritable}
 use Rattle.qp_run.specs.declared.status.Status.{Status}
-use Rattle.qp_run.specs.declared.status.Status.TheVariants.{Done, Words, Absent, TooLong, Refused, Later, Asserted, Spent, Memory, ReadFault, WriteFault}
+use Rattle.qp_run.specs.declared.status.Status.TheVariants.{Done, Words, Absent, TooLong, Refused, Later, Asserted, Spent, Memory, ReadFault, WriteFault, Unlawful}
 use Rattle.qp_run.specs.declared.words.values.Kind.{Kind}
-use Rattle.qp_run.specs.Conversions.{AnswersJournal, Held, answer_on, said, written}
+use Rattle.qp_run.specs.declared.words.values.Kind.TheVariants.{Frames}
+use Rattle.qp_run.specs.Conversions.{AnswersJournal, Held, answer_on, decode_on, migrate_on, said, written}
 use Rattle.qp_run.specs.Loads.{IsLoaded}
-use Rattle.qp_run.specs.Verdict.{Agrees, Counts, Ends, EndsCall, HasCause, IsAnswer, IsComplete, is_failure}
-use Rattle.qp_run.specs.WordTable.{Asked, decode, migrate, run}
+use Rattle.qp_run.specs.Verdict.{Agrees, Counts, Ends, EndsCall, EndsJudging, HasCause, IsAnswer, IsComplete, is_failure}
+use Rattle.qp_run.specs.Checks.{Judges, JudgesFiles}
+use Rattle.qp_run.specs.WordTable.{Asked, check, decode, migrate, number_of_form, run}
 use Rattle.qp_run.proofs.AnswerLaw.{loaded-goes_on, loaded-one, one-answer}
+use Rattle.qp_run.proofs.CheckLemmas.{files-judged}
 use Rattle.qp_run.proofs.ConversionLemmas.{said-written}
 
 -- a failure shows in a count, but for want of memory
@@ -27,6 +32,7 @@ failed-ends n wanted (Refused file code at) f c = absurd (false≢true f)
 failed-ends n wanted (Later file) f c = absurd (false≢true f)
 failed-ends n wanted (Asserted code lane) f c = absurd (false≢true f)
 failed-ends n wanted (Spent lane) f c = absurd (false≢true f)
+failed-ends n wanted (Unlawful definition at) f c = absurd (false≢true f)
 
 -- the answer is the wanted one, or a failure
 ends-so : (n : Counts) (wanted answer : Status) → (is_failure answer ≡ true) ⊎ (answer ≡ wanted) → HasCause n answer → Ends n wanted answer
@@ -41,6 +47,21 @@ on-journal kind on held answer form j writable loaded (inr (bytes, found, is)) =
     is ∙ ap (λ x. answer_on on (said kind x)) (loaded-one held bytes (written kind form j) found loaded)
     ∙ ap (answer_on on) (said-written kind form j writable)
 
+-- the verdict on a journal, or a failure
+judging-done : (system stimuli held : Option (List ℕ)) (n : Counts) (answer : Status) → JudgesFiles system stimuli held answer → EndsJudging system stimuli held n answer
+unfolding EndsJudging
+judging-done system stimuli held n answer is = λ bytes text sys sources form j first read second says writable third reads out notes.
+    inl (files-judged system stimuli held bytes text sys sources form j first read second says writable third answer is)
+
+judging-failed : (system stimuli held : Option (List ℕ)) (n : Counts) (answer : Status) → is_failure answer ≡ true → HasCause n answer → EndsJudging system stimuli held n answer
+unfolding EndsJudging
+judging-failed system stimuli held n answer failed cause = λ bytes text sys sources form j first read second says writable third reads out notes.
+    by sys sources j (failed-ends n Done answer failed cause reads out notes)
+  where
+    by : (sys : System) (sources : List (List Stim)) (j : journal.Journal) → (answer ≡ Done) ⊎ (answer ≡ Memory) → Judges sys sources j answer ⊎ (answer ≡ Memory)
+    by sys sources j (inl done) = absurd (false≢true (ap is_failure (sym done) ∙ failed))
+    by sys sources j (inr memory) = inr memory
+
 ends-call : (held : Held) (asked : Option Asked) (n : Counts) (answer : Status) → Agrees held asked answer → HasCause n answer → EndsCall held asked n answer
 unfolding IsAnswer
 ends-call held None n answer agrees cause = ends-so n Words answer agrees cause
@@ -48,10 +69,12 @@ ends-call held (Some (run w)) n answer (inl failed) cause = λ done. ends-so n D
 ends-call held (Some (run w)) n answer (inr is) cause = λ done. ends-so n Done answer (inr (one-answer held (Some (run w)) answer Done is done)) cause
 ends-call held (Some (decode frames)) n answer (inl failed) cause = λ form j writable loaded. ends-so n _ answer (inl failed) cause
 ends-call held (Some (decode frames)) n answer (inr is) cause = λ form j writable loaded.
-    ends-so n _ answer (inr (on-journal _ _ (held frames) answer form j writable loaded is)) cause
+    ends-so n _ answer (inr (on-journal Frames decode_on (held frames) answer form j writable loaded is)) cause
 ends-call held (Some (migrate w)) n answer (inl failed) cause = λ form j writable loaded. ends-so n _ answer (inl failed) cause
 ends-call held (Some (migrate w)) n answer (inr is) cause = λ form j writable loaded.
-    ends-so n _ answer (inr (on-journal _ _ (held w.file) answer form j writable loaded is)) cause
+    ends-so n _ answer (inr (on-journal w.from (migrate_on (number_of_form w.to)) (held w.file) answer form j writable loaded is)) cause
+ends-call held (Some (check w)) n answer (inl failed) cause = judging-failed (held w.system) (held w.stimuli) (held w.journal) n answer failed cause
+ends-call held (Some (check w)) n answer (inr is) cause = judging-done (held w.system) (held w.stimuli) (held w.journal) n answer is
 
 pub complete : (o : Option Held) (asked : Option Asked) (n : Counts) (answer : Status) → IfSome o (λ held. Agrees held asked answer) → HasCause n answer → IsComplete o asked n answer
 complete None asked n answer agrees cause = tt

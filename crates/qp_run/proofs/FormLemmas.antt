@@ -1,15 +1,14 @@
 -- A journal in range for one form is in range for each other that it has.
 use Rattle.std.proofs.Common.{◌≡◌, ℕ, Bool, true, false, cond, List, [], ◌∷◌, length, refl, arith}
-use Rattle.std.specs.Prelude.{◌==◌, ◌&&◌, ◌||◌, not, nat_le}
+use Rattle.std.specs.Prelude.{◌==◌, not, nat_le}
 use Rattle.std.specs.List.{list_all}
 use Rattle.std.proofs.lemmas.Bool.Decides.{nat_tests}
 use Rattle.qp_model.proofs.ListLemmas.{both_true, true_both}
 use Rattle.qp_model.specs.Kernels.{qv}
 use Rattle.qp_model.specs.declared.journals.Journal.{Journal}
-use Rattle.qp_model.specs.declared.kinds.TheConstants.{BEGIN, LOOK, REST}
+use Rattle.qp_model.specs.declared.kinds.TheConstants.{LOOK, REST}
 use Rattle.qp_model.specs.declared.record.Rec.{Rec}
-use Rattle.qp_model.specs.Output.{has_form, has_no_rest, is_end_status, is_in_range, is_lane_in_range, is_record_in_range, last_id, last_kernel}
-use Rattle.qp_model.specs.Vocabulary.{has_count}
+use Rattle.qp_model.specs.Output.{has_form, has_no_rest, is_in_range, is_lane_in_range, is_record_in_range}
 use Rattle.qp_model.specs.declared.stimulus.Stim as stimulus
 use Rattle.qp_model.specs.declared.systems.System.{System}
 use Rattle.qp_run.specs.ThinRun.{IsQuietRun}

@@ -22,5 +22,7 @@ mod WordCommands
 mod WordNames
 mod WordCalls
 mod FormLemmas
-mod CompleteLemmas
 mod ConversionLemmas
+mod CheckLemmas
+mod CompleteLemmas
+mod AbleLemmas

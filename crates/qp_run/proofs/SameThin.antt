@@ -1,22 +1,15 @@
--- What the systems of one file have in common: whether the program runs them, and what their names stand for.
-use Rattle.std.proofs.Common.{◌≡◌, ℕ, ◌+◌, ◌==◌, nat_le, Bool, not, ◌&&◌, cond, List, [], ◌∷◌, map, length, Option, Some, None, refl, sym, ◌∙◌, ap}
+-- The systems of one file are run alike.
+use Rattle.std.proofs.Common.{◌≡◌, ℕ, ◌==◌, nat_le, Bool, not, ◌&&◌, List, [], ◌∷◌, map, length, Option, Some, None, refl, sym, ◌∙◌, ap}
 use Rattle.std.specs.List.{list_all}
 use Rattle.std.specs.Option.{option_map, is_some}
-use Rattle.std.specs.Str.{bytes_eq}
-use Rattle.std.proofs.Math.Path.{fun_ext}
 use Rattle.std.proofs.lemmas.List.{length-map}
 use Rattle.qp_chart.specs.declared.checked.Chart.{Chart}
 use Rattle.qp_chart.specs.declared.checked.Row.{Row}
 use Rattle.qp_chart.specs.declared.checked.State.{State}
 use Rattle.qp_chart.specs.RawNumbers.{variable_names}
 use Rattle.qp_chart.specs.Terms.{Word}
-use Rattle.qp_model.specs.declared.systems.ObjectDef.{ObjectDef}
 use Rattle.qp_model.specs.declared.systems.SignalDef.{SignalDef}
 use Rattle.qp_model.specs.declared.systems.System.{System}
-use Rattle.qp_stim.specs.declared.names.Signal.{Signal}
-use Rattle.qp_stim.specs.Names.{Dictionary, object_in, signal_in, names_of}
-use Rattle.qp_stim.specs.Parts.{lines}
-use Rattle.qp_stim.specs.Stimuli.{read_on, stimuli_of}
 use Rattle.qp_system.specs.Deeds.{deeds_of, guard_of}
 use Rattle.qp_system.specs.Same.{bare_signal, bare_object, RowSaid, row_said, StateSaid, state_said, ChartSaid, chart_said, SayTheSame}
 use Rattle.qp_system.specs.SystemOf.{IsSystemOf}
@@ -73,17 +66,6 @@ chart-said c =
     let states : list_all state_thin (map (state_said words) c.state) ≡ list_all is_thin_state c.state = sym (all-said is_thin_state state_thin (state_said words) (state-said words) c.state) in
     rw (init_do, vars, states) refl
 
--- names, without their unused room
-object-bare : (ds : List ObjectDef) (name : List ℕ) → object_in ds name ≡ object_in (map bare_object ds) name
-object-bare [] name = refl
-object-bare (d ∷ ds) name = ap (λ o. cond (bytes_eq d.name.bytes name) (Some d.priority) o) (object-bare ds name)
-
-signal-bare : (n : ℕ) (ss : List SignalDef) (name : List ℕ) → signal_in n ss name ≡ signal_in n (map bare_signal ss) name
-signal-bare n [] name = refl
-signal-bare n (s ∷ ss) name =
-    let one : Signal = record { number = n; params = s.params; fixed = s.fixed } in
-    ap (λ o. cond (bytes_eq s.name.bytes name) (Some one) o) (signal-bare (n + 1) ss name)
-
 -- the systems of one file are run alike
 pub thin-same : (bytes : List ℕ) (a b : System) → IsSystemOf bytes a → IsSystemOf bytes b → is_thin a ≡ is_thin b
 unfolding is_thin
@@ -98,16 +80,3 @@ thin-same bytes a b h k =
     let signals : list_all fixed a.signals ≡ list_all fixed b.signals =
     all-said fixed fixed bare_signal (λ s. refl) a.signals ∙ ap (list_all fixed) same.signals ∙ sym (all-said fixed fixed bare_signal (λ s. refl) b.signals) in
     rw (same.pools, same.timers, signals, charts, objects) refl
-
--- and their stimuli are read alike
-pub stimuli-same : (bytes : List ℕ) (a b : System) (text : List ℕ) → IsSystemOf bytes a → IsSystemOf bytes b → stimuli_of a text ≡ stimuli_of b text
-unfolding stimuli_of
-stimuli-same bytes a b text h k =
-    let same : SayTheSame a b = systems_are_one bytes a b h k in
-    let objects : object_in a.objects ≡ object_in b.objects =
-    fun_ext (λ name. object-bare a.objects name ∙ ap (λ l. object_in l name) same.objects ∙ sym (object-bare b.objects name)) in
-    let signals : signal_in 4 a.signals ≡ signal_in 4 b.signals =
-    fun_ext (λ name. signal-bare 4 a.signals name ∙ ap (λ l. signal_in 4 l name) same.signals ∙ sym (signal-bare 4 b.signals name)) in
-    let make : (List ℕ → Option ℕ) → (List ℕ → Option Signal) → Dictionary = λ o s. record { object = o; signal = s } in
-    let names : names_of a ≡ names_of b = ap (λ o. make o (signal_in 4 a.signals)) objects ∙ ap (make (object_in b.objects)) signals in
-    ap (λ d. read_on d 1 [] (lines text)) names

@@ -1,5 +1,5 @@
 -- What a call is to answer, file by file.
-use Rattle.std.proofs.Common.{◌≡◌, ℕ, ◌≤◌, ◌<◌, Bool, true, false, List, [], length, Option, Some, None, IfSome, Result, Ok, Err, ◌⊎◌, refl, sym, ap, subst, ◌∙◌, arith, inl, inr}
+use Rattle.std.proofs.Common.{◌≡◌, ℕ, ◌<◌, true, false, List, length, Option, Some, None, IfSome, ◌⊎◌, refl, sym, ap, subst, ◌∙◌, arith, inl, inr}
 use Rattle.std.specs.Prelude.{IsSomeAnd}
 use Rattle.std.proofs.lemmas.Bool.{false≢true}
 use Rattle.qp_base.specs.Counts.{Rose}
@@ -10,14 +10,15 @@ use Rattle.qp_model.specs.declared.systems.System.{System}
 use Rattle.qp_stim.specs.Stimuli.{stimuli_of}
 use Rattle.qp_system.specs.SystemOf.{IsSystemOf}
 use Rattle.qp_run.specs.declared.status.Status.{Status}
-use Rattle.qp_run.specs.declared.status.Status.TheVariants.{Done, Words, Absent, TooLong, Refused, Later, Asserted, Spent, Memory, ReadFault, WriteFault}
+use Rattle.qp_run.specs.declared.status.Status.TheVariants.{Done, Words, Absent, TooLong, Refused, Later, Asserted, Spent, Memory, ReadFault, WriteFault, Unlawful}
+use Rattle.qp_run.specs.Checks.{JudgesFiles}
 use Rattle.qp_run.specs.Conversions.{AnswersJournal, Held, IsWritten, PrintsOne, decode_on, migrate_on}
 use Rattle.qp_run.specs.declared.words.values.Kind.TheVariants.{Frames}
 use Rattle.qp_run.specs.Loads.{EndsAtLoad, IsLoaded}
 use Rattle.qp_run.specs.Notes.{line_of, names_file, is_done}
 use Rattle.qp_run.specs.Thin.{is_thin}
-use Rattle.qp_run.specs.Verdict.{Agrees, AgreesFiles, AnswersCall, AnswersFiles, AnswersSystem, AnswersStimuli, AnswersWords, Count, Counts, EndsAtSystem, HasCause, HasRisen, IsAnswer, IsInput, Noted, Stands, is_failure, quiet, stimuli_answer}
-use Rattle.qp_run.specs.WordTable.{Asked, MigrateWords, RunWords, decode, migrate, number_of_form, run}
+use Rattle.qp_run.specs.Verdict.{Agrees, AgreesFiles, AnswersFiles, AnswersSystem, AnswersStimuli, AnswersWords, Count, Counts, EndsAtSystem, HasCause, HasRisen, IsAnswer, IsInput, Noted, Stands, is_failure, quiet, stimuli_answer}
+use Rattle.qp_run.specs.WordTable.{Asked, CheckWords, MigrateWords, RunWords, check, decode, migrate, number_of_form, run}
 
 -- a fact of what the shelf holds, where it tells
 pub IfSome-all : {A : Type 0} {P : A → Type 0} (o : Option A) → ((x : A) → P x) → IfSome o P
@@ -128,6 +129,11 @@ module _ (o : Option Held) (answer : Status) where
   unfolding IsAnswer
   agrees-migrate w told = told
 
+  pub agrees-check : (w : CheckWords) → IfSome o (λ held. (is_failure answer ≡ true) ⊎ JudgesFiles (held w.system) (held w.stimuli) (held w.journal) answer)
+      → IfSome o (λ held. Agrees held (Some (check w)) answer)
+  unfolding IsAnswer
+  agrees-check w told = told
+
 -- a failure needs no word of the files
 pub failure-agrees : (o : Option Held) (asked : Option Asked) (status : Status) → is_failure status ≡ true → IfSome o (λ held. Agrees held asked status)
 failure-agrees o asked status failed = IfSome-all o (λ held. inl failed)
@@ -150,6 +156,7 @@ noted-line asked n old new (Asserted code lane) other put = put
 noted-line asked n old new (Spent lane) other put = put
 noted-line asked n old new Memory other put = put
 noted-line asked n old new ReadFault other put = put
+noted-line asked n old new (Unlawful definition at) other put = put
 
 noted-fault : (asked : Option Asked) (n : Count) (old new : Option (List ℕ)) (told : Status) → HasRisen n → AppendsPrefix old (line_of asked told) new → Noted asked n old new WriteFault
 unfolding Noted
@@ -174,6 +181,7 @@ noted-done asked n old (Spent lane) done = absurd (false≢true done)
 noted-done asked n old Memory done = absurd (false≢true done)
 noted-done asked n old ReadFault done = absurd (false≢true done)
 noted-done asked n old WriteFault done = absurd (false≢true done)
+noted-done asked n old (Unlawful definition at) done = absurd (false≢true done)
 
 -- an answer as it stands once its line was put
 widened : (n : Counts) (answer : Status) → HasCause (record n { notes = quiet }) answer → HasCause n answer
@@ -189,6 +197,7 @@ widened n (Refused file code at) cause = cause
 widened n (Later file) cause = cause
 widened n Memory cause = cause
 widened n ReadFault cause = cause
+widened n (Unlawful definition at) cause = cause
 
 pub cause-stands : (n : Counts) (told answer : Status) → HasCause (record n { notes = quiet }) told → Stands n.notes told answer → HasCause n answer
 cause-stands n told answer cause (inl same) = rw same (widened n told cause)
@@ -224,6 +233,7 @@ module _ (IsWhole : List ℕ → Type 0) (old new : Option (List ℕ)) where
   prints_named Memory names prints = absurd (false≢true names)
   prints_named ReadFault names prints = absurd (false≢true names)
   prints_named WriteFault names prints = absurd (false≢true names)
+  prints_named (Unlawful definition at) names prints = absurd (false≢true names)
 
   prints_failed : (told : Status) → (told ≡ Done → ⊥) → PrintsOne IsWhole old new told → PrintsOne IsWhole old new WriteFault
   prints_failed Done other prints = absurd (other refl)
@@ -237,6 +247,7 @@ module _ (IsWhole : List ℕ → Type 0) (old new : Option (List ℕ)) where
   prints_failed (Spent lane) other prints = inl prints
   prints_failed Memory other prints = inl prints
   prints_failed ReadFault other prints = inl prints
+  prints_failed (Unlawful definition at) other prints = inl prints
 
   pub prints-stands : (n : Count) (told answer : Status) → PrintsOne IsWhole old new told → Stands n told answer → PrintsOne IsWhole old new answer
   prints-stands n told answer prints (inl same) = rw same prints

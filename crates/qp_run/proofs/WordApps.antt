@@ -5,7 +5,7 @@ use Rattle.clap.specs.declared.builder.arg.Arg.{Arg}
 use Rattle.clap.specs.declared.builder.command.Command.{Command}
 use Rattle.clap.specs.declared.error.kind.ErrorKind.{ErrorKind}
 use Rattle.clap.specs.declared.parser.matches.ArgMatches.{ArgMatches}
-use Rattle.qp_run.specs.WordTable.{decode_app, found_in, migrate_app, rows_unless, run_app}
+use Rattle.qp_run.specs.WordTable.{check_app, decode_app, found_in, migrate_app, rows_unless, run_app}
 
 -- a command with one argument more
 pub app-arg : (old new : Command) (a : Arg) (app : App) (rule : Rule) → AddsArg old a new → a.global ≡ false
@@ -33,7 +33,7 @@ found-taken app words m simple none has =
 pub found-refused : (app : App) (words : List Text) (kind : ErrorKind) → IsAmong kind (fault_of app words) → None ≡ found_in app words
 found-refused app words kind among = sym (rows-fault (fault_of app words) (matches_of app words) kind among)
 
--- the three commands are simple, and no argument has a rule on another
+-- the commands are simple, and no argument has a rule on another
 
 pub run-simple : is_simple_and_free run_app ≡ true
 unfolding run_app
@@ -46,3 +46,7 @@ decode-simple = refl
 pub migrate-simple : is_simple_and_free migrate_app ≡ true
 unfolding migrate_app
 migrate-simple = refl
+
+pub check-simple : is_simple_and_free check_app ≡ true
+unfolding check_app
+check-simple = refl

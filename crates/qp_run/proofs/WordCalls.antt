@@ -12,8 +12,8 @@ use Rattle.qp_run.specs.declared.words.values.Form.{Form}
 use Rattle.qp_run.specs.declared.words.values.Form.TheVariants.{One, Two}
 use Rattle.qp_run.specs.declared.words.values.Kind.{Kind}
 use Rattle.qp_run.specs.declared.words.values.Kind.TheVariants.{Journal, Frames}
-use Rattle.qp_run.specs.WordLaws.{DecodeOfName, MigrateInFull, MigrateOfName, RefusedCalls, RunInFull, RunOfNames, is_name, word_of_form, word_of_kind}
-use Rattle.qp_run.specs.WordTable.{asked_by, command_in, decode_app, decode_in, decode_with, form_in, kernel_in, kind_in, migrate_app, migrate_in, migrate_with, run_app, run_in, run_with}
+use Rattle.qp_run.specs.WordLaws.{CheckOfNames, DecodeOfName, MigrateInFull, MigrateOfName, RefusedCalls, RunInFull, RunOfNames, is_name, word_of_form, word_of_kind}
+use Rattle.qp_run.specs.WordTable.{asked_by, check_app, check_in, check_with, command_in, decode_app, decode_in, decode_with, form_in, kernel_in, kind_in, migrate_app, migrate_in, migrate_with, run_app, run_in, run_with}
 use Rattle.qp_run.proofs.WordNames.{found-walked, name-turn, name-walked, next_at, standing}
 
 -- ---- options, and then one name or two
@@ -66,6 +66,25 @@ two_faults s options h g x y name_x name_y stands none next first second =
     (ap (λ (w : Walk). walk_fault s [] w (y ∷ [])) (name-walked s.rules h 1 x name_x ∙ next)
     ∙ ap₂ or_else (name-turn s g 2 y name_y ∙ second) refl))
 
+three_walked : (rules : List Rule) (g k : Held) (x y z : Text) → is_name x ≡ true → is_name y ≡ true → is_name z ≡ true
+    → next_at rules nothing_held 1 x ≡ standing g 2 → next_at rules g 2 y ≡ standing k 3
+    → walk rules [] nothing_held (x ∷ y ∷ z ∷ []) ≡ next_at rules k 3 z
+three_walked rules g k x y z name_x name_y name_z first second =
+    ap (λ (w : Walk). walked rules [] (walked rules [] w y) z) (name-walked rules nothing_held 1 x name_x ∙ first)
+    ∙ (ap (λ (w : Walk). walked rules [] w z) (name-walked rules g 2 y name_y ∙ second) ∙ name-walked rules k 3 z name_z)
+
+three_faults : (s : Shape) (g k : Held) (x y z : Text) → is_name x ≡ true → is_name y ≡ true → is_name z ≡ true
+    → next_at s.rules nothing_held 1 x ≡ standing g 2 → next_at s.rules g 2 y ≡ standing k 3
+    → step_fault s 1 nothing_held value ≡ [] → step_fault s 2 g value ≡ [] → step_fault s 3 k value ≡ []
+    → walk_fault s [] (walk_from nothing_held) (x ∷ y ∷ z ∷ []) ≡ []
+unfolding walk_fault
+three_faults s g k x y z name_x name_y name_z first second none_x none_y none_z =
+    ap₂ or_else (name-turn s nothing_held 1 x name_x ∙ none_x)
+    (ap (λ (w : Walk). walk_fault s [] w (y ∷ z ∷ [])) (name-walked s.rules nothing_held 1 x name_x ∙ first)
+    ∙ ap₂ or_else (name-turn s g 2 y name_y ∙ none_y)
+    (ap (λ (w : Walk). walk_fault s [] w (z ∷ [])) (name-walked s.rules g 2 y name_y ∙ second)
+    ∙ ap₂ or_else (name-turn s k 3 z name_z ∙ none_z) refl))
+
 -- ---- what is held
 
 abbrev given : (id text : Text) → Row
@@ -94,6 +113,19 @@ unfolding migrate_app command_in asked_by migrate_with kind_in form_in walk_faul
 migrate-name x name =
     ap (option_and_then migrate_in) (found-walked migrate_app (codes "migrate" ∷ x ∷ []) (next_at (built migrate_app).top.rules nothing_held 1 x)
     (one_walked (built migrate_app).top.rules [] nothing_held x name refl) (one_faults (built migrate_app).top [] nothing_held x name refl refl refl))
+
+abbrev one_held : Text → Held
+one_held x = pending [] (codes "system") x
+
+abbrev two_held : Text → Text → Held
+two_held x y = pending (given (codes "system") x ∷ []) (codes "stimuli") y
+
+pub check-names : CheckOfNames
+unfolding check_app command_in asked_by check_with walk_fault defaults_fault
+check-names x y z name_x name_y name_z =
+    ap (option_and_then check_in) (found-walked check_app (codes "check" ∷ x ∷ y ∷ z ∷ []) (next_at (built check_app).top.rules (two_held x y) 3 z)
+    (three_walked (built check_app).top.rules (one_held x) (two_held x y) x y z name_x name_y name_z refl refl)
+    (three_faults (built check_app).top (one_held x) (two_held x y) x y z name_x name_y name_z refl refl refl refl refl))
 
 -- ---- all options, and names
 
@@ -180,5 +212,5 @@ migrate-full from to x name = migrate_read from to x name ∙ rw (kind_in-word f
 -- ---- calls that are refused
 
 pub calls-refused : RefusedCalls
-unfolding clap_on_literals command_in asked_by run_app decode_app migrate_app run_with decode_with migrate_with kernel_in kind_in form_in
+unfolding clap_on_literals command_in asked_by run_app decode_app migrate_app check_app run_with decode_with migrate_with check_with kernel_in kind_in form_in
 calls-refused = refl

@@ -6,7 +6,7 @@ use Rattle.std.specs.Str.{bytes_eq}
 use Rattle.std.proofs.lemmas.Slice.Eq.{bytes_eq-Decides}
 use Rattle.clap.specs.Words.{Text}
 use Rattle.qp_run.specs.WordLaws.{OtherWords}
-use Rattle.qp_run.specs.WordTable.{asked_by, command_in, decode_app, decode_in, found_in, migrate_app, migrate_in, run_app, run_in}
+use Rattle.qp_run.specs.WordTable.{asked_by, check_app, check_in, command_in, decode_app, decode_in, found_in, migrate_app, migrate_in, run_app, run_in}
 
 pub command-first : (words : List (Bor Text)) (word : Bor Text) → slice_get words 0 ≡ Some word
     → command_in (map (λ w. w.now) words) ≡ asked_by word.now (map (λ w. w.now) words)
@@ -34,6 +34,11 @@ pub asked-migrate : (word : Text) (words : List Text) → word ≡ codes "migrat
 unfolding asked_by
 asked-migrate word words is = rw is refl
 
+pub asked-check : (word : Text) (words : List Text) → word ≡ codes "check"
+    → asked_by word words ≡ option_and_then check_in (found_in check_app words)
+unfolding asked_by
+asked-check word words is = rw is refl
+
 differs : (word other : Text) → (word ≡ other → ⊥) → bytes_eq word other ≡ false
 differs word other other_word = go (bytes_eq word other) refl
   where
@@ -42,11 +47,11 @@ differs word other other_word = go (bytes_eq word other) refl
     go false e = refl
 
 pub asked-other : (word : Text) (words : List Text) → (word ≡ codes "run" → ⊥) → (word ≡ codes "decode" → ⊥) → (word ≡ codes "migrate" → ⊥)
-    → asked_by word words ≡ None
+    → (word ≡ codes "check" → ⊥) → asked_by word words ≡ None
 unfolding asked_by
-asked-other word words run decode migrate =
-    rw (differs word (codes "run") run, differs word (codes "decode") decode, differs word (codes "migrate") migrate) refl
+asked-other word words run decode migrate check =
+    rw (differs word (codes "run") run, differs word (codes "decode") decode, differs word (codes "migrate") migrate, differs word (codes "check") check) refl
 
 pub other-words : OtherWords
 unfolding command_in
-other-words = (refl, λ word words run decode migrate. asked-other word (word ∷ words) run decode migrate)
+other-words = (refl, λ word words run decode migrate check. asked-other word (word ∷ words) run decode migrate check)

@@ -7,7 +7,7 @@ use Rattle.clap.proofs.WalkLemmas.{first_value-rows}
 use Rattle.qp_run.specs.declared.words.values.Kernel.{Kernel}
 use Rattle.qp_run.specs.declared.words.values.Kind.{Kind}
 use Rattle.qp_run.specs.declared.words.values.Form.{Form}
-use Rattle.qp_run.specs.WordTable.{migrate_with, run_with}
+use Rattle.qp_run.specs.WordTable.{check_with, migrate_with, run_with}
 
 -- the text of an option or operand, by the rows
 pub text-rows : (f : Found) (id : Text) (text o : Option (Bor Text)) → option_map (λ s. s.now) text ≡ first_value f id → text ≡ o
@@ -66,3 +66,18 @@ unfolding migrate_with
 migrate-no_file None f = refl
 migrate-no_file (Some k) None = refl
 migrate-no_file (Some k) (Some f) = refl
+
+pub check-no_system : (t j : Option Text) → check_with None t j ≡ None
+unfolding check_with
+check-no_system t j = refl
+
+pub check-no_stimuli : (s j : Option Text) → check_with s None j ≡ None
+unfolding check_with
+check-no_stimuli None j = refl
+check-no_stimuli (Some s) j = refl
+
+pub check-no_journal : (s t : Option Text) → check_with s t None ≡ None
+unfolding check_with
+check-no_journal None t = refl
+check-no_journal (Some s) None = refl
+check-no_journal (Some s) (Some t) = refl

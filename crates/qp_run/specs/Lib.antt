@@ -5,6 +5,8 @@ pub mod ThinRun
 pub mod FlatJournal
 pub mod Loads
 pub mod Conversions
+pub mod Refusals
+pub mod Checks
 pub mod Verdict
 pub mod WordTable
 pub mod WordLaws

@@ -4,8 +4,10 @@ use Rattle.qp_chart.specs.Paths.{path_text}
 use Rattle.qp_run.specs.declared.place.Place as place
 use Rattle.qp_run.specs.declared.place.Place.TheVariants.{Nowhere, Path, Line, Offset}
 use Rattle.qp_run.specs.WordTable.{Asked, operand_in}
+use Rattle.qp_check.specs.declared.verdict.Site.{Site}
+use Rattle.qp_check.specs.declared.verdict.Site.TheVariants as site
 use Rattle.qp_run.specs.declared.status.Status.{Status}
-use Rattle.qp_run.specs.declared.status.Status.TheVariants.{Done, Words, Absent, TooLong, Refused, Later, Asserted, Spent, Memory, ReadFault, WriteFault}
+use Rattle.qp_run.specs.declared.status.Status.TheVariants.{Done, Words, Absent, TooLong, Refused, Later, Asserted, Spent, Memory, ReadFault, WriteFault, Unlawful}
 
 -- the exit status
 abbrev pub number_of : Status → ℕ
@@ -19,6 +21,7 @@ number_of (Spent lane) = 4
 number_of Memory = 5
 number_of ReadFault = 6
 number_of WriteFault = 7
+number_of (Unlawful definition at) = 8
 number_of (Later file) = 9
 
 -- a place in a file
@@ -31,6 +34,17 @@ place_text (Offset number) = decimal number
 -- a line about a file, which is named by this word
 abbrev pub named_line : (name what : List ℕ) → List ℕ
 named_line name what = codes "qp: " ++ name ++ codes ": " ++ what ++ codes "\n"
+
+-- a site of a definition: its kind, then its numbers
+abbrev pub site_text : Site → List ℕ
+site_text (site.Pool p) = codes " pool " ++ decimal p
+site_text (site.Block p b) = codes " block " ++ decimal p ++ codes " " ++ decimal b
+site_text (site.Queue o) = codes " queue " ++ decimal o
+site_text (site.Signal s) = codes " signal " ++ decimal s
+site_text (site.Timer t) = codes " timer " ++ decimal t
+site_text (site.Object o) = codes " object " ++ decimal o
+site_text (site.Lane n) = codes " lane " ++ decimal n
+site_text site.Whole = codes " whole"
 
 -- the line on the notes; `Done` has none
 unfoldable pub line_of : Option Asked → Status → List ℕ
@@ -45,6 +59,7 @@ line_of asked (Spent lane) = codes "qp: spent in lane " ++ decimal lane ++ codes
 line_of asked Memory = codes "qp: memory\n"
 line_of asked ReadFault = codes "qp: read fault\n"
 line_of asked WriteFault = codes "qp: write fault\n"
+line_of asked (Unlawful definition at) = codes "qp: broken D" ++ decimal definition ++ site_text at ++ codes "\n"
 
 -- the run was done, and there is no line
 abbrev pub is_done : Status → Bool

@@ -1,39 +1,28 @@
 -- What a call of the program is to answer.
-use Rattle.std.specs.Prelude.{◌≡◌, ◌≢◌, ◌<◌, ◌≤◌, ℕ, Bool, true, false, IfSome, List, length, ⊤, ◌⊎◌, Option, Some, None, Result, Ok, Err, if◌then◌else◌}
+use Rattle.std.specs.Prelude.{◌≡◌, ◌≢◌, ℕ, Bool, true, false, IfSome, List, ⊤, ◌⊎◌, Option, Some, None, Result, Ok, Err, if◌then◌else◌}
 use Rattle.qp_base.specs.Counts.{Rose}
 use Rattle.qp_base.specs.Sink.{AppendsPrefix, appended}
-use Rattle.qp_chart.specs.declared.code.TheConstants.{NOT_TOML}
 use Rattle.qp_model.specs.declared.journals.Journal as journal
 use Rattle.qp_model.specs.declared.stimulus.Stim.{Stim}
 use Rattle.qp_model.specs.declared.systems.System.{System}
-use Rattle.qp_stim.specs.declared.fault.StimFault as stim
-use Rattle.qp_stim.specs.declared.fault.StimFault.TheVariants as stim_fault
 use Rattle.qp_stim.specs.Stimuli.{Fault, stimuli_of}
 use Rattle.qp_system.specs.declared.fault.SystemFault as system
 use Rattle.qp_system.specs.declared.fault.SystemFault.TheVariants as system_fault
 use Rattle.qp_system.specs.SystemOf.{IsSystemOf, RefusesSystem}
-use Rattle.qp_run.specs.declared.place.Place.TheVariants.{Nowhere, Path, Line}
+use Rattle.qp_run.specs.declared.place.Place.TheVariants.{Line}
 use Rattle.qp_run.specs.declared.status.Status.{Status}
 use Rattle.qp_run.specs.declared.status.Status.TheVariants.{Done, Words, Absent, TooLong, Refused, Later, Asserted, Spent, Memory, ReadFault, WriteFault}
 use Rattle.qp_run.specs.declared.words.values.Kind.{Kind}
-use Rattle.qp_run.specs.declared.words.values.Kind.TheVariants.{Frames}
+use Rattle.qp_run.specs.declared.words.values.Kind.TheVariants.{Frames, Journal as Text}
 use Rattle.qp_run.specs.Conversions.{AnswersJournal, Held, IsDecoded, IsMigrated, PrintsOne, decode_on, migrate_on, written}
+use Rattle.qp_run.specs.Checks.{IsChecked, Judges, JudgesFiles}
 use Rattle.qp_run.specs.Loads.{EndsAtLoad, IsLoaded}
 use Rattle.qp_run.specs.Notes.{line_of, names_file}
+use Rattle.qp_run.specs.Refusals.{system_refusal}
 use Rattle.qp_run.specs.Thin.{is_thin, are_thin}
 use Rattle.qp_run.specs.ThinRun.{IsQuietRun}
-use Rattle.qp_run.specs.WordTable.{Asked, decode, migrate, number_of_form, run}
+use Rattle.qp_run.specs.WordTable.{Asked, check, decode, migrate, number_of_form, run}
 use Rattle.qp_text.specs.TextLaw.{IsWritable}
-
--- why a system's file is refused, as an answer
-abbrev pub system_refusal : system.SystemFault → Status
-system_refusal system_fault.Memory = Memory
-system_refusal system_fault.NotToml = Refused 1 NOT_TOML Nowhere
-system_refusal (system_fault.At code path) = Refused 1 code (Path path)
-
-abbrev pub stimuli_refusal : stim.StimFault → Status
-stimuli_refusal stim_fault.Memory = Memory
-stimuli_refusal (stim_fault.Line number code) = Refused 2 code (Line number)
 
 -- the bytes of the system's file have a fault, or their system isn't run yet, and this is the answer
 abbrev pub EndsAtSystem : List ℕ → Status → Type 0
@@ -65,11 +54,12 @@ AnswersCall held None answer = answer ≡ Words
 AnswersCall held (Some (run w)) answer = AnswersFiles (held w.system) (held w.stimuli) answer
 AnswersCall held (Some (decode frames)) answer = AnswersJournal Frames decode_on (held frames) answer
 AnswersCall held (Some (migrate w)) answer = AnswersJournal w.from (migrate_on (number_of_form w.to)) (held w.file) answer
+AnswersCall held (Some (check w)) answer = JudgesFiles (held w.system) (held w.stimuli) (held w.journal) answer
 
 -- the answer to a call over files with this content, where memory, reads and writes don't fail: the words come first,
--- then the files in order, and then the form of a journal
+-- then the files in order, and then the form of a journal or the judge's verdict
 unfoldable pub IsAnswer : Held → Option Asked → Status → Type 0
-unfolding AnswersFiles
+unfolding AnswersFiles JudgesFiles
 IsAnswer held asked answer = AnswersCall held asked answer
 
 -- memory was refused, or a read or a write failed
@@ -179,6 +169,7 @@ IsOutput held None whole = ⊥
 IsOutput held (Some (run w)) whole = IsRun held w.system w.stimuli w.out (number_of_form w.form) whole
 IsOutput held (Some (decode frames)) whole = IsDecoded held frames whole
 IsOutput held (Some (migrate w)) whole = IsMigrated held w.file w.from (number_of_form w.to) whole
+IsOutput held (Some (check w)) whole = IsChecked held w whole
 
 -- what the output got: the whole of it, a part of it where a write failed, or nothing
 abbrev pub Prints : Option Held → Option Asked → (old new : Option (List ℕ)) → Status → Type 0
@@ -193,13 +184,23 @@ abbrev pub EndsOnJournal : Option (List ℕ) → Kind → (journal.Journal → S
 EndsOnJournal held kind on n answer =
     (form : ℕ) (j : journal.Journal) → IsWritable form j → IsLoaded held (written kind form j) → Ends n (on j) answer
 
--- calls that end: two files that the program runs are run to the end, frames of a journal are decoded, and a journal is
--- migrated to each form that it has
+-- a journal of three files that the shelf tells, of the system and the stimuli that the first two have, is judged
+unfoldable pub EndsJudging : (system stimuli held : Option (List ℕ)) → Counts → Status → Type 0
+unfolding stimuli_of
+EndsJudging system stimuli held n answer =
+    (bytes text : List ℕ) (sys : System) (sources : List (List Stim)) (form : ℕ) (j : journal.Journal)
+    → IsLoaded system bytes → IsSystemOf bytes sys → IsLoaded stimuli text → stimuli_of sys text ≡ Ok sources
+    → IsWritable form j → IsLoaded held (written Text form j)
+    → (HasRisen n.reads → ⊥) → (HasRisen n.out → ⊥) → (HasRisen n.notes → ⊥) → Judges sys sources j answer ⊎ (answer ≡ Memory)
+
+-- calls that end: two files that the program runs are run to the end, frames of a journal are decoded, a journal is
+-- migrated to each form that it has, and each journal is judged
 abbrev pub EndsCall : Held → Option Asked → Counts → Status → Type 0
 EndsCall held None n answer = Ends n Words answer
 EndsCall held (Some (run w)) n answer = IsAnswer held (Some (run w)) Done → Ends n Done answer
 EndsCall held (Some (decode frames)) n answer = EndsOnJournal (held frames) Frames decode_on n answer
 EndsCall held (Some (migrate w)) n answer = EndsOnJournal (held w.file) w.from (migrate_on (number_of_form w.to)) n answer
+EndsCall held (Some (check w)) n answer = EndsJudging (held w.system) (held w.stimuli) (held w.journal) n answer
 
 -- a call over files that the shelf tells, in which no count rose, ends so, or memory was refused
 abbrev pub IsComplete : Option Held → Option Asked → Counts → Status → Type 0

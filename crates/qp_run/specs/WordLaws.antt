@@ -7,7 +7,7 @@ use Rattle.qp_run.specs.declared.words.values.Kind.{Kind}
 use Rattle.qp_run.specs.declared.words.values.Kind.TheVariants.{Frames, Journal}
 use Rattle.qp_run.specs.declared.words.values.Form.{Form}
 use Rattle.qp_run.specs.declared.words.values.Form.TheVariants.{One, Two}
-use Rattle.qp_run.specs.WordTable.{command_in, decode, migrate, run}
+use Rattle.qp_run.specs.WordTable.{check, command_in, decode, migrate, run}
 
 -- the word doesn't begin with `-`
 abbrev pub is_name : Text → Bool
@@ -29,10 +29,16 @@ abbrev pub MigrateOfName : Type 0
 MigrateOfName = (file : Text) → is_name file ≡ true
     → command_in (codes "migrate" ∷ file ∷ []) ≡ Some (migrate (record { from = Journal; to = Two; file = file }))
 
+-- three names are a system, its stimuli and a journal
+abbrev pub CheckOfNames : Type 0
+CheckOfNames = (system stimuli journal : Text) → is_name system ≡ true → is_name stimuli ≡ true → is_name journal ≡ true
+    → command_in (codes "check" ∷ system ∷ stimuli ∷ journal ∷ [])
+    ≡ Some (check (record { system = system; stimuli = stimuli; journal = journal }))
+
 -- other command words have no command, nor has a call without words
 abbrev pub OtherWords : Type 0
 OtherWords = (command_in [] ≡ None)
-    × ((word : Text) (words : List Text) → word ≢ codes "run" → word ≢ codes "decode" → word ≢ codes "migrate" → command_in (word ∷ words) ≡ None)
+    × ((word : Text) (words : List Text) → word ≢ codes "run" → word ≢ codes "decode" → word ≢ codes "migrate" → word ≢ codes "check" → command_in (word ∷ words) ≡ None)
 
 abbrev pub word_of_kind : Kind → Text
 word_of_kind Journal = codes "journal"
@@ -67,6 +73,9 @@ refused_calls = (codes "run" ∷ codes "a" ∷ [])
     ∷ (codes "run" ∷ codes "--form" ∷ codes "1" ∷ codes "--form" ∷ codes "1" ∷ codes "a" ∷ codes "b" ∷ [])
     ∷ (codes "decode" ∷ codes "--form" ∷ codes "1" ∷ codes "f" ∷ [])
     ∷ (codes "migrate" ∷ codes "--to=3" ∷ codes "f" ∷ [])
+    ∷ (codes "check" ∷ codes "a" ∷ codes "b" ∷ [])
+    ∷ (codes "check" ∷ codes "a" ∷ codes "b" ∷ codes "c" ∷ codes "d" ∷ [])
+    ∷ (codes "check" ∷ codes "--form" ∷ codes "1" ∷ codes "a" ∷ codes "b" ∷ codes "c" ∷ [])
     ∷ []
 
 abbrev pub RefusedCalls : Type 0

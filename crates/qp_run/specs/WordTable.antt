@@ -5,7 +5,7 @@ use Rattle.clap.specs.Words.{App, Kinds, Row, Rule, Text, fault_of, first_of, ma
 use Rattle.clap.specs.Simple.{new_shape}
 use Rattle.clap.specs.declared.builder.action.ArgAction.TheVariants.{Set}
 use Rattle.qp_run.specs.declared.words.Command.{Command}
-use Rattle.qp_run.specs.declared.words.Command.TheVariants.{Run, Decode, Migrate}
+use Rattle.qp_run.specs.declared.words.Command.TheVariants.{Run, Decode, Migrate, Check}
 use Rattle.qp_run.specs.declared.words.values.Kernel.{Kernel}
 use Rattle.qp_run.specs.declared.words.values.Kernel.TheVariants.{Sim}
 use Rattle.qp_run.specs.declared.words.values.Kind.{Kind}
@@ -46,6 +46,10 @@ decode_app = plain_app (codes "decode") (operand (codes "frames") ∷ [])
 -- migrate [--from K] [--to F] FILE
 unfoldable pub migrate_app : App
 migrate_app = plain_app (codes "migrate") (option (codes "from") ∷ option (codes "to") ∷ operand (codes "file") ∷ [])
+
+-- check SYSTEM STIMULI JOURNAL
+unfoldable pub check_app : App
+check_app = plain_app (codes "check") (operand (codes "system") ∷ operand (codes "stimuli") ∷ operand (codes "journal") ∷ [])
 
 -- the rows, where there is no fault
 abbrev pub rows_unless : Kinds → List Row → Option (List Row)
@@ -92,21 +96,29 @@ pub record MigrateWords : Type 0 where
   pub to : Form
   pub file : Text
 
+pub record CheckWords : Type 0 where
+  pub system : Text
+  pub stimuli : Text
+  pub journal : Text
+
 pub data Asked : Type 0 where
   run : RunWords → Asked
   decode : Text → Asked
   migrate : MigrateWords → Asked
+  check : CheckWords → Asked
 
 abbrev pub asked_of : Command → Asked
 asked_of (Run k o f system stimuli) = run (record { kernel = k; out = o; form = f; system = system.now; stimuli = stimuli.now })
 asked_of (Decode frames) = decode frames.now
 asked_of (Migrate k f file) = migrate (record { from = k; to = f; file = file.now })
+asked_of (Check system stimuli journal) = check (record { system = system.now; stimuli = stimuli.now; journal = journal.now })
 
 -- the word of an operand, by its place from 1; no text elsewhere
 abbrev pub operand_at : Asked → ℕ → Text
 operand_at (run w) place = if place == 1 then w.system else (if place == 2 then w.stimuli else [])
 operand_at (decode frames) place = if place == 1 then frames else []
 operand_at (migrate w) place = if place == 1 then w.file else []
+operand_at (check w) place = if place == 1 then w.system else (if place == 2 then w.stimuli else (if place == 3 then w.journal else []))
 
 abbrev pub operand_in : Option Asked → ℕ → Text
 operand_in None place = []
@@ -136,12 +148,21 @@ migrate_with _ _ _ = None
 abbrev pub migrate_in : List Row → Option Asked
 migrate_in rows = migrate_with (kind_in (first_of (codes "from") rows)) (form_in Two (first_of (codes "to") rows)) (first_of (codes "file") rows)
 
+-- all three files are there
+unfoldable pub check_with : (system stimuli journal : Option Text) → Option Asked
+check_with (Some system) (Some stimuli) (Some journal) = Some (check (record { system = system; stimuli = stimuli; journal = journal }))
+check_with _ _ _ = None
+
+abbrev pub check_in : List Row → Option Asked
+check_in rows = check_with (first_of (codes "system") rows) (first_of (codes "stimuli") rows) (first_of (codes "journal") rows)
+
 -- what the words ask for, where they are a command
 unfoldable pub asked_by : Text → List Text → Option Asked
 asked_by word words =
     if bytes_eq word (codes "run") then option_and_then run_in (found_in run_app words)
     else (if bytes_eq word (codes "decode") then option_and_then decode_in (found_in decode_app words)
-    else (if bytes_eq word (codes "migrate") then option_and_then migrate_in (found_in migrate_app words) else None))
+    else (if bytes_eq word (codes "migrate") then option_and_then migrate_in (found_in migrate_app words)
+    else (if bytes_eq word (codes "check") then option_and_then check_in (found_in check_app words) else None)))
 
 -- the command of a call's words, of which the first is the command word; other words have none
 unfoldable pub command_in : List Text → Option Asked

@@ -58,7 +58,7 @@ impl From<FrameFault> for Status {
 }
 
 /// The journal of a text.
-fn journal_of_text(alloc: Global, bytes: &[u8]) -> Result<Found, Status>
+pub fn journal_of_text(alloc: Global, bytes: &[u8]) -> Result<Found, Status>
     ensures journal { IfOk result (λ found. IsWritable found.form found.journal × (written Kind.Journal found.form found.journal ≡ bytes.now)) }
     ensures refused { IfErr result (Refuses Kind.Journal bytes.now) }
 {

@@ -1,6 +1,7 @@
 //! The top call of the program: its words, its files, the run and the output.
 #![tactic(auto)]
 
+mod checking;
 mod conversions;
 pub mod laws;
 mod loading;

@@ -1,13 +1,14 @@
 //! How a call of the program ends.
 ghost use Rattle.std.specs.Prelude.{codes, ◌≡◌, ◌++◌, ◌≤◌, Option, length, decimal, string_bytes, true, false, IfOk};
-ghost use Rattle.qp_run.specs.Notes.{number_of, line_of, named_line, names_file, file_of, is_done, place_text};
-ghost use Rattle.qp_run.specs.Verdict.{system_refusal, stimuli_refusal};
+ghost use Rattle.qp_run.specs.Notes.{number_of, line_of, named_line, names_file, file_of, is_done, place_text, site_text};
+ghost use Rattle.qp_run.specs.Refusals.{system_refusal, stimuli_refusal};
 ghost use Rattle.qp_run.specs.WordTable.{Asked, operand_in};
 
 use crate::place::Place;
 use arrayvec::ArrayString;
 use itoa::Buffer;
 use qp_chart::code;
+use qp_check::Site;
 use qp_stim::StimFault;
 use qp_system::SystemFault;
 use std::alloc::{AllocError, Global};
@@ -37,6 +38,8 @@ pub enum Status {
     ReadFault,
     /// The output or a note could not be written.
     WriteFault,
+    /// The journal isn't lawful: the number of the first definition that fails, and where.
+    Unlawful { definition: u8, site: Site },
 }
 
 /// A line of a note that names no file.
@@ -56,6 +59,7 @@ impl Status {
             Status::Memory => 5,
             Status::ReadFault => 6,
             Status::WriteFault => 7,
+            Status::Unlawful { .. } => 8,
             Status::Later { .. } => 9,
         }
     }
@@ -93,6 +97,7 @@ impl Status {
             Status::WriteFault => line("qp: write fault\n"),
             Status::Asserted { code, lane } => asserted_line(*code, *lane),
             Status::Spent { lane } => spent_line(*lane),
+            Status::Unlawful { definition, site } => broken_line(*definition, *site),
             _ => line(""),
         }
     }
@@ -201,6 +206,48 @@ fn spent_line(lane: u32) -> Line
 {
     let mut line = line("qp: spent in lane ");
     push_number(&mut line, u64::from(lane));
+    line.push_str("\n");
+    line
+}
+
+fn push_word(line: &mut Line, word: &str, n: u64)
+    requires line { length line.old.bytes ≤ 60 }
+    requires word { length word.now ≤ 10 }
+    ensures bytes { line.new.bytes ≡ line.old.bytes ++ word.now ++ decimal n }
+    ensures short { length (decimal n) ≤ 20 }
+{
+    line.push_str(word);
+    push_number(line, n);
+}
+
+/// The site of a definition: its kind in lower case, then its numbers.
+fn push_site(line: &mut Line, site: Site)
+    requires { length line.old.bytes ≤ 40 }
+    ensures bytes { line.new.bytes ≡ line.old.bytes ++ site_text site }
+    ensures short { length line.new.bytes ≤ 110 }
+{
+    match site {
+        Site::Pool(p) => push_word(line, " pool ", u64::from(p)),
+        Site::Block(p, b) => {
+            push_word(line, " block ", u64::from(p));
+            line.push_str(" ");
+            push_number(line, u64::from(b));
+        }
+        Site::Queue(o) => push_word(line, " queue ", u64::from(o)),
+        Site::Signal(s) => push_word(line, " signal ", u64::from(s)),
+        Site::Timer(t) => push_word(line, " timer ", u64::from(t)),
+        Site::Object(o) => push_word(line, " object ", u64::from(o)),
+        Site::Lane(n) => push_word(line, " lane ", u64::from(n)),
+        Site::Whole => line.push_str(" whole"),
+    }
+}
+
+fn broken_line(definition: u8, site: Site) -> Line
+    ensures { result.bytes ≡ codes "qp: broken D" ++ decimal definition ++ site_text site ++ codes "\n" }
+{
+    let mut line = line("qp: broken D");
+    push_number(&mut line, u64::from(definition));
+    push_site(&mut line, site);
     line.push_str("\n");
     line
 }

@@ -1,4 +1,5 @@
 //! Tests of the top call over files and streams in memory.
+mod checks;
 mod conversions;
 
 use crate::{Status, qp_main};

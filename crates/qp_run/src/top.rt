@@ -13,6 +13,7 @@ ghost use Rattle.qp_run.specs.Verdict.{Agrees, AgreesFiles, AnswersWords, EndsAt
 ghost use Rattle.qp_run.specs.WordTable.{Asked, asked_of, command_in, number_of_form, operand_in};
 ghost use Rattle.qp_run.specs.declared.status.Status.{Status};
 
+use crate::checking::check_files;
 use crate::conversions::{decode, migrate, write};
 use crate::loading::load;
 use crate::runs::run;
@@ -136,6 +137,11 @@ fn carry_out<F: Shelf, O: Sink>(
         } => run_files(alloc, files, system, stimuli, *kind, *form, out),
         Command::Decode { frames } => decode(alloc, files, frames, out),
         Command::Migrate { from, to, file } => migrate(alloc, files, *from, *to, file, out),
+        Command::Check {
+            system,
+            stimuli,
+            journal,
+        } => check_files(alloc, files, system, stimuli, journal, out),
     }
 }
 

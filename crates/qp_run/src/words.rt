@@ -1,6 +1,6 @@
 //! The words of a call: a command word, and what `clap` reads of the rest.
 ghost use Rattle.std.specs.Prelude.{◌≡◌, map, option_and_then, option_map, IfOk};
-ghost use Rattle.qp_run.specs.WordTable.{asked_of, command_in, decode_app, decode_in, found_in, migrate_app, migrate_in, operand_at, run_app, run_in};
+ghost use Rattle.qp_run.specs.WordTable.{asked_of, check_app, check_in, command_in, decode_app, decode_in, found_in, migrate_app, migrate_in, operand_at, run_app, run_in};
 ghost use Rattle.clap.specs.Words.{found_of, rows_of};
 
 mod apps;
@@ -9,7 +9,7 @@ pub mod laws;
 mod tests;
 mod values;
 
-use apps::{decode_app, matches_in, migrate_app, run_app};
+use apps::{check_app, decode_app, matches_in, migrate_app, run_app};
 use clap::ArgMatches;
 use std::alloc::{AllocError, Global};
 pub use values::{Form, Kernel, Kind};
@@ -36,6 +36,12 @@ pub enum Command<'w> {
         to: Form,
         file: &'w str,
     },
+    /// Judge a journal of a system on its stimuli.
+    Check {
+        system: &'w str,
+        stimuli: &'w str,
+        journal: &'w str,
+    },
 }
 
 impl<'w> Command<'w> {
@@ -48,6 +54,9 @@ impl<'w> Command<'w> {
             (Command::Run { stimuli, .. }, 2) => stimuli,
             (Command::Decode { frames }, 1) => frames,
             (Command::Migrate { file, .. }, 1) => file,
+            (Command::Check { system, .. }, 1) => system,
+            (Command::Check { stimuli, .. }, 2) => stimuli,
+            (Command::Check { journal, .. }, 3) => journal,
             _ => "",
         }
     }
@@ -83,6 +92,19 @@ fn migrate_found<'w>(found: &ArgMatches<'w>) -> Option<Command<'w>>
     })
 }
 
+fn check_found<'w>(found: &ArgMatches<'w>) -> Option<Command<'w>>
+    ensures { option_map asked_of result ≡ check_in (rows_of (found_of found.now)) }
+{
+    let system = found.get_str("system")?;
+    let stimuli = found.get_str("stimuli")?;
+    let journal = found.get_str("journal")?;
+    Some(Command::Check {
+        system,
+        stimuli,
+        journal,
+    })
+}
+
 fn run_of<'w>(alloc: Global, words: &'w [&'w str]) -> Result<Option<Command<'w>>, AllocError>
     ensures { IfOk result (λ found. option_map asked_of found ≡ option_and_then run_in (found_in run_app (map (λ word. word.now) words.entry.now))) }
 {
@@ -110,6 +132,15 @@ fn migrate_of<'w>(alloc: Global, words: &'w [&'w str]) -> Result<Option<Command<
     }
 }
 
+fn check_of<'w>(alloc: Global, words: &'w [&'w str]) -> Result<Option<Command<'w>>, AllocError>
+    ensures { IfOk result (λ found. option_map asked_of found ≡ option_and_then check_in (found_in check_app (map (λ word. word.now) words.entry.now))) }
+{
+    match matches_in(check_app(alloc)?, words)? {
+        Some(found) => Ok(check_found(&found)),
+        None => Ok(None),
+    }
+}
+
 /// The command of a call's words; None for other words.
 ///
 /// The first word is the command word. The rest is what `clap` makes of it for that command.
@@ -126,6 +157,7 @@ pub fn command_of<'w>(
         "run" => run_of(alloc, words),
         "decode" => decode_of(alloc, words),
         "migrate" => migrate_of(alloc, words),
+        "check" => check_of(alloc, words),
         _ => Ok(None),
     }
 }

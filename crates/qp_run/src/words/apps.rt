@@ -1,6 +1,6 @@
 //! The commands that `clap` reads, one for each command word.
 ghost use Rattle.std.specs.Prelude.{◌≡◌, [], true, false, map, option_map, IfOk};
-ghost use Rattle.qp_run.specs.WordTable.{plain_app, operand, option, decode_app, found_in, migrate_app, run_app};
+ghost use Rattle.qp_run.specs.WordTable.{plain_app, operand, option, check_app, decode_app, found_in, migrate_app, run_app};
 ghost use Rattle.clap.specs.Words.{app_of, found_of, is_simple_and_free, rows_of, rule_of};
 
 use clap::error::ErrorKind;
@@ -56,6 +56,15 @@ pub(super) fn migrate_app<'w>(alloc: Global) -> Result<Command<'w>, AllocError>
         .arg(option(alloc, "from"))?
         .arg(option(alloc, "to"))?
         .arg(operand(alloc, "file"))
+}
+
+pub(super) fn check_app<'w>(alloc: Global) -> Result<Command<'w>, AllocError>
+    ensures { IfOk result (λ command. app_of command ≡ check_app) }
+{
+    plain(alloc, "check")
+        .arg(operand(alloc, "system"))?
+        .arg(operand(alloc, "stimuli"))?
+        .arg(operand(alloc, "journal"))
 }
 
 /// What the command finds in the words, of which the first is its own; None where it refuses them.

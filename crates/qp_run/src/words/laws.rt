@@ -1,5 +1,5 @@
 //! Laws of the words of calls. Each function here does nothing: its contract is the law.
-ghost use Rattle.qp_run.specs.WordLaws.{DecodeOfName, MigrateInFull, MigrateOfName, OtherWords, RefusedCalls, RunInFull, RunOfNames};
+ghost use Rattle.qp_run.specs.WordLaws.{CheckOfNames, DecodeOfName, MigrateInFull, MigrateOfName, OtherWords, RefusedCalls, RunInFull, RunOfNames};
 
 /// Two names that don't begin with `-` are a run under `sim`, which prints text in form 1.
 pub fn a_run_of_two_names()
@@ -14,6 +14,11 @@ pub fn a_name_is_decoded()
 /// A name that doesn't begin with `-` is a text, which is printed in form 2.
 pub fn a_name_is_migrated()
     ensures { MigrateOfName }
+{}
+
+/// Three names that don't begin with `-` are a system, its stimuli and a journal to be judged.
+pub fn three_names_are_judged()
+    ensures { CheckOfNames }
 {}
 
 /// With all options given, a run is the one that they name: each run of two such names can be asked for.

@@ -72,6 +72,14 @@ fn the_other_commands_are_read(rt: HostRuntime) -> Result<(), Fail> {
             "migrate f --to=2 --from=journal",
             migrate(Kind::Journal, Form::Two, "f"),
         ),
+        (
+            "check a b c",
+            Some(Command::Check {
+                system: "a",
+                stimuli: "b",
+                journal: "c",
+            }),
+        ),
     ] {
         assert!(rt; asks(alloc, line, wanted)?, "{line}");
     }
@@ -122,6 +130,11 @@ fn other_words_are_no_command(rt: HostRuntime) -> Result<(), Fail> {
         "migrate --from summary f",
         "migrate --form 1 f",
         "migrate --help",
+        "check",
+        "check a b",
+        "check a b c d",
+        "check --form 1 a b c",
+        "check --help",
     ] {
         assert!(rt; asks(alloc, line, None)?, "{line}");
     }

@@ -1,5 +1,4 @@
-use Rattle.std.proofs.Common.{◌≡◌, true, false, sym, ◌∙◌, inr}
-use Rattle.qp_model.specs.Output.{has_form}
+use Rattle.std.proofs.Common.{sym, ◌∙◌, inr}
 use Rattle.qp_run.specs.WordTable.{number_of_form}
 use Rattle.qp_run.proofs.FormLemmas.{range-moves}
 use Rattle.qp_run.proofs.ConversionLemmas.{migrate-done, migrate-refused, told-journal, told-written}

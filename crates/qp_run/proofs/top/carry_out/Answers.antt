@@ -1,4 +1,4 @@
-use Rattle.qp_run.proofs.VerdictLemmas.{agrees-run, agrees-decode, agrees-migrate}
+use Rattle.qp_run.proofs.VerdictLemmas.{agrees-check, agrees-run, agrees-decode, agrees-migrate}
 use Rattle.qp_run.proofs.top.carry_out.Goals as goal
 
 pub returns-in-Run-Sim-default-default-default-default-clause-told : goal.returns-in-Run-Sim-default-default-default-default-clause-told
@@ -10,3 +10,6 @@ returns-in-Decode-clause-told g c = rw c.in-Decode.is (agrees-decode _ _ _ c.dec
 
 pub returns-in-Migrate-clause-told : goal.returns-in-Migrate-clause-told
 returns-in-Migrate-clause-told g c = rw c.in-Migrate.is (agrees-migrate _ _ _ c.migrate.ensures.told)
+
+pub returns-in-Check-clause-told : goal.returns-in-Check-clause-told
+returns-in-Check-clause-told g c = rw c.in-Check.is (agrees-check _ _ _ c.check_files.ensures.told)

@@ -1,4 +1,4 @@
-use Rattle.std.proofs.Common.{List, ℕ, map, rules}
+use Rattle.std.proofs.Common.{map}
 use Rattle.qp_run.specs.WordTable.{command_in}
 use Rattle.qp_run.proofs.CompleteLemmas.{complete}
 use Rattle.qp_run.proofs.VerdictLemmas.{agrees-stands, answers-stands, cause-stands, prints-stands}

@@ -1,6 +1,6 @@
 use Rattle.std.proofs.Common.{◌∙◌, sym}
 use Rattle.std.proofs.lemmas.Result.{IfOk-weaker}
-use Rattle.qp_run.proofs.WordCommands.{asked-decode, asked-migrate, asked-other, asked-run, command-first, command-none}
+use Rattle.qp_run.proofs.WordCommands.{asked-check, asked-decode, asked-migrate, asked-other, asked-run, command-first, command-none}
 use Rattle.qp_run.proofs.words.command_of.Goals as goal
 
 pub returns-in_default : goal.returns-in_default
@@ -21,7 +21,12 @@ returns-in-migrate c =
     let first = command-first c.args.words.now c.in-Some.word.now (sym c.in-Some.ensures.value) in
     IfOk-weaker c.migrate_of.result _ _ (λ found h. h ∙ sym (first ∙ asked-migrate _ _ c.in-migrate.is)) c.migrate_of.ensures
 
+pub returns-in-check : goal.returns-in-check
+returns-in-check c =
+    let first = command-first c.args.words.now c.in-Some.word.now (sym c.in-Some.ensures.value) in
+    IfOk-weaker c.check_of.result _ _ (λ found h. h ∙ sym (first ∙ asked-check _ _ c.in-check.is)) c.check_of.ensures
+
 pub returns-in_default-word : goal.returns-in_default-word
 returns-in_default-word c =
     let first = command-first c.args.words.now c.in-Some.word.now (sym c.in-Some.ensures.value) in
-    sym (first ∙ asked-other _ _ c.in_default-word.not-run c.in_default-word.not-decode c.in_default-word.not-migrate)
+    sym (first ∙ asked-other _ _ c.in_default-word.not-run c.in_default-word.not-decode c.in_default-word.not-migrate c.in_default-word.not-check)

@@ -1,0 +1,77 @@
+use Rattle.std.proofs.Common.{◌≡◌, ◌∙◌, ◌⊎◌, true, IfSome, rules}
+use Rattle.std.proofs.lemmas.Result.{IfErr-weaker, IfOk-weaker}
+use Rattle.qp_run.specs.Checks.{JudgesFiles}
+use Rattle.qp_run.specs.Verdict.{is_failure}
+use Rattle.qp_run.proofs.CheckLemmas.{has-lawful, judged-third, told-first, told-judged, told-second, told-stimuli, told-system, told-third}
+use Rattle.qp_run.proofs.checking.judge_files.Goals as goal
+
+pub returns-in_err-bytes-clause-told : goal.returns-in_err-bytes-clause-told
+returns-in_err-bytes-clause-told g c =
+    let status = c.in_err-bytes.field-0.0 in
+    let fact : IfSome (g.F.Shelf.holds c.args.files.now) (λ held. (is_failure status ≡ true) ⊎ JudgesFiles (held c.args.system.now) (held c.args.stimuli.now) (held c.args.journal.now) status) =
+    told-first _ _ _ _ status c.in_err-bytes.ensures.told in
+    search (rules, fact)
+
+pub returns-in_err-system-clause-told : goal.returns-in_err-system-clause-told
+returns-in_err-system-clause-told g c =
+    let status = c.in_err-system.field-0.0 in
+    let fact : IfSome (g.F.Shelf.holds c.args.files.now) (λ held. (is_failure status ≡ true) ⊎ JudgesFiles (held c.args.system.now) (held c.args.stimuli.now) (held c.args.journal.now) status) =
+    told-system _ _ _ _ c.in_ok-bytes.bytes.items c.in_ok-bytes.ensures.held status (rw c.as_slice.ensures.value at c.in_err-system.ensures.told) in
+    search (rules, fact)
+
+pub returns-in_err-bytes-2-clause-told : goal.returns-in_err-bytes-2-clause-told
+returns-in_err-bytes-2-clause-told g c =
+    let status = c.in_err-bytes-2.field-0.0 in
+    let fact : IfSome (g.F.Shelf.holds c.args.files.now) (λ held. (is_failure status ≡ true) ⊎ JudgesFiles (held c.args.system.now) (held c.args.stimuli.now) (held c.args.journal.now) status) =
+    told-second _ _ _ _ c.in_ok-bytes.bytes.items c.in_ok-bytes.ensures.held
+    c.in_ok-system.system (rw c.as_slice.ensures.value at c.in_ok-system.ensures.read) status (rw c.load.ensures.holds at c.in_err-bytes-2.ensures.told) in
+    search (rules, fact)
+
+pub returns-in_err-stimuli-clause-told : goal.returns-in_err-stimuli-clause-told
+returns-in_err-stimuli-clause-told g c =
+    let status = c.in_err-stimuli.field-0.0 in
+    let fact : IfSome (g.F.Shelf.holds c.args.files.now) (λ held. (is_failure status ≡ true) ⊎ JudgesFiles (held c.args.system.now) (held c.args.stimuli.now) (held c.args.journal.now) status) =
+    told-stimuli _ _ _ _ c.in_ok-bytes.bytes.items c.in_ok-bytes.ensures.held
+    c.in_ok-system.system (rw c.as_slice.ensures.value at c.in_ok-system.ensures.read)
+    c.in_ok-bytes-2.bytes.items (rw c.load.ensures.holds at c.in_ok-bytes-2.ensures.held) status
+    (rw c.as_slice-2.ensures.value at c.in_err-stimuli.ensures.told) in
+    search (rules, fact)
+
+pub returns-in_err-bytes-3-clause-told : goal.returns-in_err-bytes-3-clause-told
+returns-in_err-bytes-3-clause-told g c =
+    let status = c.in_err-bytes-3.field-0.0 in
+    let fact : IfSome (g.F.Shelf.holds c.args.files.now) (λ held. (is_failure status ≡ true) ⊎ JudgesFiles (held c.args.system.now) (held c.args.stimuli.now) (held c.args.journal.now) status) =
+    told-third _ _ _ _ c.in_ok-bytes.bytes.items c.in_ok-bytes.ensures.held
+    c.in_ok-system.system (rw c.as_slice.ensures.value at c.in_ok-system.ensures.read)
+    c.in_ok-bytes-2.bytes.items (rw c.load.ensures.holds at c.in_ok-bytes-2.ensures.held)
+    c.in_ok-stimuli.stimuli (rw c.as_slice-2.ensures.value at c.in_ok-stimuli.ensures.read) status
+    (rw (c.load-2.ensures.holds ∙ c.load.ensures.holds) at c.in_err-bytes-3.ensures.told) in
+    search (rules, fact)
+
+pub returns-clause-lawful : goal.returns-clause-lawful
+returns-clause-lawful g c =
+    IfOk-weaker c.judge.result _ _
+    (λ _ text. has-lawful _ _ c.in_ok-bytes.bytes.items c.in_ok-bytes-2.bytes.items c.in_ok-bytes-3.bytes.items c.in_ok-system.system c.in_ok-stimuli.stimuli
+    c.in_ok-bytes.ensures.held (rw c.load.ensures.holds at c.in_ok-bytes-2.ensures.held) (rw (c.load-2.ensures.holds ∙ c.load.ensures.holds) at c.in_ok-bytes-3.ensures.held)
+    (rw c.as_slice.ensures.value at c.in_ok-system.ensures.read) (rw c.as_slice-2.ensures.value at c.in_ok-stimuli.ensures.read)
+    (rw c.as_slice-3.ensures.value at text)) c.judge.ensures.lawful
+
+pub returns-clause-done : goal.returns-clause-done
+returns-clause-done g c =
+    IfOk-weaker c.judge.result _ _
+    (λ _ judged. judged-third _ _ _ _ c.in_ok-bytes.bytes.items c.in_ok-bytes.ensures.held
+    c.in_ok-system.system (rw c.as_slice.ensures.value at c.in_ok-system.ensures.read)
+    c.in_ok-bytes-2.bytes.items (rw c.load.ensures.holds at c.in_ok-bytes-2.ensures.held)
+    c.in_ok-stimuli.stimuli (rw c.as_slice-2.ensures.value at c.in_ok-stimuli.ensures.read)
+    c.in_ok-bytes-3.bytes.items (rw (c.load-2.ensures.holds ∙ c.load.ensures.holds) at c.in_ok-bytes-3.ensures.held) _
+    (rw c.as_slice-3.ensures.value at judged)) c.judge.ensures.done
+
+pub returns-clause-told : goal.returns-clause-told
+returns-clause-told g c =
+    IfErr-weaker c.judge.result _ _
+    (λ status judged. told-judged _ _ _ _ c.in_ok-bytes.bytes.items c.in_ok-bytes.ensures.held
+    c.in_ok-system.system (rw c.as_slice.ensures.value at c.in_ok-system.ensures.read)
+    c.in_ok-bytes-2.bytes.items (rw c.load.ensures.holds at c.in_ok-bytes-2.ensures.held)
+    c.in_ok-stimuli.stimuli (rw c.as_slice-2.ensures.value at c.in_ok-stimuli.ensures.read)
+    c.in_ok-bytes-3.bytes.items (rw (c.load-2.ensures.holds ∙ c.load.ensures.holds) at c.in_ok-bytes-3.ensures.held) status
+    (rw c.as_slice-3.ensures.value at judged)) c.judge.ensures.told

@@ -1,0 +1,106 @@
+-- What a call that judges a journal is to answer.
+use Rattle.std.specs.Prelude.{codes, ◌≡◌, ◌≢◌, ℕ, Bool, true, false, IfSome, List, ◌⊎◌, Option, Result, Ok, Err}
+use Rattle.qp_check.specs.declared.verdict.Verdict.{Verdict}
+use Rattle.qp_check.specs.declared.verdict.Verdict.TheVariants.{Lawful, Broken}
+use Rattle.qp_check.specs.Judged.{IsVerdict, trials}
+use Rattle.qp_model.specs.declared.journals.Journal as journal
+use Rattle.qp_model.specs.declared.stimulus.Stim.{Stim}
+use Rattle.qp_model.specs.declared.systems.System.{System}
+use Rattle.qp_model.specs.Lawful as lawful
+use Rattle.qp_stim.specs.Stimuli.{Fault, stimuli_of}
+use Rattle.qp_system.specs.declared.fault.SystemFault as system
+use Rattle.qp_system.specs.declared.fault.SystemFault.TheVariants as system_fault
+use Rattle.qp_system.specs.SystemOf.{IsSystemOf, RefusesSystem}
+use Rattle.qp_run.specs.declared.place.Place.TheVariants.{Line}
+use Rattle.qp_run.specs.declared.status.Status.{Status}
+use Rattle.qp_run.specs.declared.status.Status.TheVariants.{Done, Refused, Memory, Unlawful}
+use Rattle.qp_run.specs.declared.words.values.Kind.TheVariants.{Journal}
+use Rattle.qp_run.specs.Conversions.{HasJournal, Held, said, written}
+use Rattle.qp_run.specs.Loads.{EndsAtLoad, IsLoaded}
+use Rattle.qp_run.specs.Refusals.{system_refusal}
+use Rattle.qp_run.specs.WordTable.{CheckWords}
+use Rattle.qp_text.specs.TextLaw.{IsWritable}
+
+-- a refusal of what stands in the third file
+abbrev pub third : Status → Status
+third (Refused file code at) = Refused 3 code at
+third answer = answer
+
+-- an answer on what files say: a file or its journal is refused, or memory was refused
+abbrev pub is_of_files : Status → Bool
+is_of_files Memory = true
+is_of_files (Refused file code at) = true
+is_of_files (Unlawful definition site) = true
+is_of_files answer = false
+
+-- the answer by the judge's verdict
+abbrev pub verdict_answer : Verdict → Status
+verdict_answer Lawful = Done
+verdict_answer (Broken definition site) = Unlawful definition site
+
+-- the answer on a journal
+abbrev pub Judges : System → List (List Stim) → journal.Journal → Status → Type 0
+Judges sys sources j answer = (v : Verdict) × IsVerdict (trials sys sources j) v × (answer ≡ verdict_answer v)
+
+-- the bytes are the text of a lawful journal
+abbrev pub IsLawfulText : System → List (List Stim) → List ℕ → Type 0
+IsLawfulText sys sources bytes =
+    (form : ℕ) × (j : journal.Journal) × IsWritable form j × (bytes ≡ written Journal form j) × lawful.Lawful sys sources j
+
+-- the answer on what the third file says
+abbrev pub JudgesFound : System → List (List Stim) → Result (ℕ × journal.Journal) Status → Status → Type 0
+JudgesFound sys sources (Err refusal) answer = answer ≡ third refusal
+JudgesFound sys sources (Ok (form, j)) answer = Judges sys sources j answer
+
+-- the answer from the journal's file on
+abbrev pub JudgesThird : System → List (List Stim) → Option (List ℕ) → Status → Type 0
+JudgesThird sys sources held answer =
+    EndsAtLoad 3 held answer ⊎ ((bytes : List ℕ) × IsLoaded held bytes × JudgesFound sys sources (said Journal bytes) answer)
+
+-- what the stimuli's file says is refused so
+abbrev pub RefusesSecond : Result (List (List Stim)) Fault → Status → Type 0
+RefusesSecond (Err fault) answer = answer ≡ Refused 2 fault.code (Line fault.line)
+RefusesSecond (Ok sources) answer = ⊥
+
+-- the answer by what the stimuli's file says
+abbrev pub JudgesStimuli : System → Option (List ℕ) → Result (List (List Stim)) Fault → Status → Type 0
+JudgesStimuli sys held (Err fault) answer = answer ≡ Refused 2 fault.code (Line fault.line)
+JudgesStimuli sys held (Ok sources) answer = JudgesThird sys sources held answer
+
+-- the answer from the stimuli's file on
+abbrev pub JudgesSecond : System → (stimuli held : Option (List ℕ)) → Status → Type 0
+JudgesSecond sys stimuli held answer =
+    EndsAtLoad 2 stimuli answer ⊎ ((bytes : List ℕ) × IsLoaded stimuli bytes × JudgesStimuli sys held (stimuli_of sys bytes) answer)
+
+-- the bytes of the system's file are refused so
+abbrev pub RefusesFirst : List ℕ → Status → Type 0
+RefusesFirst bytes answer = (fault : system.SystemFault) × RefusesSystem bytes fault × (fault ≢ system_fault.Memory) × (answer ≡ system_refusal fault)
+
+-- the answer from the content of the system's file on
+abbrev pub JudgesSystem : List ℕ → (stimuli held : Option (List ℕ)) → Status → Type 0
+JudgesSystem bytes stimuli held answer =
+    RefusesFirst bytes answer ⊎ ((sys : System) × IsSystemOf bytes sys × JudgesSecond sys stimuli held answer)
+
+-- the answer from the system's file on
+unfoldable pub JudgesFiles : (system stimuli held : Option (List ℕ)) → Status → Type 0
+unfolding stimuli_of said
+JudgesFiles file stimuli held answer = EndsAtLoad 1 file answer ⊎ ((bytes : List ℕ) × IsLoaded file bytes × JudgesSystem bytes stimuli held answer)
+
+-- the three files have a system, its stimuli, and the text of a lawful journal of these
+pub record HasLawful (held : Option Held) (w : CheckWords) : Type 0 where
+  pub system : List ℕ
+  pub stimuli : List ℕ
+  pub system_held : IfSome held (λ h. IsLoaded (h w.system) system)
+  pub stimuli_held : IfSome held (λ h. IsLoaded (h w.stimuli) stimuli)
+  pub sys : System
+  pub sources : List (List Stim)
+  pub form : ℕ
+  pub j : journal.Journal
+  pub system_read : IsSystemOf system sys
+  pub stimuli_read : stimuli_of sys stimuli ≡ Ok sources
+  pub journal_held : HasJournal held w.journal Journal form j
+  pub lawful : lawful.Lawful sys sources j
+
+-- what is printed of a lawful journal
+abbrev pub IsChecked : Option Held → CheckWords → List ℕ → Type 0
+IsChecked held w whole = HasLawful held w × (whole ≡ codes "lawful\n")

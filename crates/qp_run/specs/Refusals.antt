@@ -1,0 +1,19 @@
+-- Why files are refused, as answers.
+use Rattle.qp_chart.specs.declared.code.TheConstants.{NOT_TOML}
+use Rattle.qp_stim.specs.declared.fault.StimFault as stim
+use Rattle.qp_stim.specs.declared.fault.StimFault.TheVariants as stim_fault
+use Rattle.qp_system.specs.declared.fault.SystemFault as system
+use Rattle.qp_system.specs.declared.fault.SystemFault.TheVariants as system_fault
+use Rattle.qp_run.specs.declared.place.Place.TheVariants.{Nowhere, Path, Line}
+use Rattle.qp_run.specs.declared.status.Status.{Status}
+use Rattle.qp_run.specs.declared.status.Status.TheVariants.{Refused, Memory}
+
+-- why a system's file is refused, as an answer
+abbrev pub system_refusal : system.SystemFault → Status
+system_refusal system_fault.Memory = Memory
+system_refusal system_fault.NotToml = Refused 1 NOT_TOML Nowhere
+system_refusal (system_fault.At code path) = Refused 1 code (Path path)
+
+abbrev pub stimuli_refusal : stim.StimFault → Status
+stimuli_refusal stim_fault.Memory = Memory
+stimuli_refusal (stim_fault.Line number code) = Refused 2 code (Line number)
