@@ -1,8 +1,9 @@
 //! The program `qp`: the real files and streams for the top call.
 #![tactic(auto)]
 
-ghost use Rattle.std.specs.Prelude.{◌≡◌, false, IfErr};
+ghost use Rattle.std.specs.Prelude.{◌≡◌, ◌⊎◌, false, IfErr};
 ghost use Rattle.qp_run.specs.Notes.{names_file};
+ghost use Rattle.qp_run.specs.declared.status.Status.TheVariants as answer;
 
 use qp_base::{DirShelf, NoGate, Sink, StdSink};
 use qp_run::{Status, qp_main};
@@ -16,7 +17,7 @@ fn main(rt: HostRuntime) -> ExitCode {
 
 /// Calls the program over the real files and streams; the answer where there are no words to call it with.
 fn call(rt: &HostRuntime) -> Result<Status, Status>
-    ensures { IfErr result (λ status. names_file status ≡ false) }
+    ensures { IfErr result (λ status. (status ≡ answer.Words) ⊎ (status ≡ answer.Memory)) }
 {
     let mut words = Vec::new(rt.alloc());
     for word in env::args(rt).map_err(unread)?.skip(1) {
@@ -42,7 +43,7 @@ fn call(rt: &HostRuntime) -> Result<Status, Status>
 
 /// Words that aren't text are no words of the program; else memory was refused.
 fn unread(fault: io::Error) -> Status
-    ensures { names_file result ≡ false }
+    ensures { (result ≡ answer.Words) ⊎ (result ≡ answer.Memory) }
 {
     match fault.kind() {
         io::ErrorKind::InvalidData => Status::Words,
@@ -53,6 +54,7 @@ fn unread(fault: io::Error) -> Status
 /// Puts the line of an answer that no call gave.
 fn without_words(rt: &HostRuntime, status: Status) -> Status
     requires { names_file status ≡ false }
+    ensures { (result ≡ status) ⊎ (result ≡ answer.WriteFault) }
 {
     let line = status.plain_line();
     match StdSink::notes(rt).put(line.as_str().as_bytes()) {
