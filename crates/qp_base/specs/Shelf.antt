@@ -1,7 +1,7 @@
 -- What a load answers.
 use Rattle.std.specs.Prelude.{◌≡◌, ◌<◌, ◌≤◌, ℕ, Bool, true, false, List, length, Option, Some, None, IsSomeAnd, Result, Ok, Err, Vec, ⊤}
 use Rattle.std.specs.declared.alloc.Global.{Global}
-use Rattle.qp_base.specs.declared.shelves.TheConstants.{FILE_LIMIT}
+use Rattle.qp_base.specs.Limits.{file_limit}
 use Rattle.qp_base.specs.declared.shelves.ShelfFault.{ShelfFault}
 use Rattle.qp_base.specs.declared.shelves.ShelfFault.TheVariants.{Memory, Failed, Absent, TooLong}
 
@@ -18,11 +18,18 @@ abbrev pub IsBeyondLimit : ShelfFault → Type 0
 IsBeyondLimit Memory = ⊤
 IsBeyondLimit Failed = ⊤
 IsBeyondLimit Absent = ⊤
-IsBeyondLimit (TooLong len) = FILE_LIMIT < len
+IsBeyondLimit (TooLong len) = file_limit < len
+
+-- for want of memory, or since this length is beyond the limit
+abbrev pub IsBeyondAt : ℕ → ShelfFault → Type 0
+IsBeyondAt n Memory = ⊤
+IsBeyondAt n Failed = ⊥
+IsBeyondAt n Absent = ⊥
+IsBeyondAt n (TooLong len) = (len ≡ n) × (file_limit < len)
 
 -- a file that was loaded is within the limit, and one that is too long is beyond it
 abbrev pub KeepsLimit : Result (Vec ℕ Global) ShelfFault → Type 0
-KeepsLimit (Ok file) = length file.items ≤ FILE_LIMIT
+KeepsLimit (Ok file) = length file.items ≤ file_limit
 KeepsLimit (Err fault) = IsBeyondLimit fault
 
 -- the load failed

@@ -1,8 +1,10 @@
 //! Files on disk as a shelf.
 
-ghost use Rattle.std.specs.Prelude.{◌≡◌, ◌≤◌, ◌++◌, Option, None, length, IfOk, IfErr, IfSome, OnOk};
-ghost use Rattle.qp_base.specs.DirShelf.{FaultCounts};
-ghost use Rattle.qp_base.specs.Shelf.{IsBeyondLimit, KeepsLimit};
+ghost use Rattle.std.specs.Prelude.{◌≡◌, ◌+◌, ◌≤◌, ◌++◌, Option, None, length, IfOk, IfErr, IfSome, OnOk};
+ghost use Rattle.std.specs.IoError.{error_kind};
+ghost use Rattle.qp_base.specs.DirShelf.{FaultCounts, fault_of};
+ghost use Rattle.qp_base.specs.Limits.{file_limit};
+ghost use Rattle.qp_base.specs.Shelf.{IsBeyondAt, KeepsLimit};
 
 use crate::shelves::{FILE_LIMIT, Shelf, ShelfFault};
 use std::alloc::Global;
@@ -24,7 +26,9 @@ pub struct DirShelf {
 }
 
 impl Model for DirShelf {
-    ghost use Rattle.qp_base.specs.DirShelf.{FaultCounts};
+    ghost use Rattle.std.specs.IoError.{error_kind};
+    ghost use Rattle.qp_base.specs.DirShelf.{FaultCounts, fault_of};
+    ghost use Rattle.qp_base.specs.Limits.{file_limit};
 
     ghost Value = { FaultCounts };
 
@@ -103,10 +107,10 @@ fn read_whole<R: Read>(alloc: Global, reader: &mut R) -> Result<Vec<u8>, ShelfFa
 
 /// Adds a piece to what was read, up to the limit.
 fn add(file: &mut Vec<u8>, piece: &[u8]) -> Result<(), ShelfFault>
-    requires { length file.old.items ≤ FILE_LIMIT }
+    requires { length file.old.items ≤ file_limit }
     ensures ok { OnOk result (file.new.items ≡ file.old.items ++ piece.now) }
-    ensures limit { OnOk result (length file.new.items ≤ FILE_LIMIT) }
-    ensures err { IfErr result IsBeyondLimit }
+    ensures limit { OnOk result (length file.new.items ≤ file_limit) }
+    ensures err { IfErr result (IsBeyondAt (length file.old.items + length piece.now)) }
 {
     let len = file.len() as u64 + piece.len() as u64;
     if len > FILE_LIMIT {
@@ -118,7 +122,7 @@ fn add(file: &mut Vec<u8>, piece: &[u8]) -> Result<(), ShelfFault>
 
 /// What an error of the system means for a load.
 fn fault_of(error: &io::Error) -> ShelfFault
-    ensures { IsBeyondLimit result }
+    ensures { result ≡ fault_of (error_kind error.now) }
 {
     match error.kind() {
         ErrorKind::NotFound | ErrorKind::NotADirectory => ShelfFault::Absent,

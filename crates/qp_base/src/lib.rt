@@ -1,4 +1,4 @@
-//! What every crate of the framework shares: events, and the edges of the program, which are files, streams and the gate.
+//! What every crate of the framework shares: events, the counter of steps, and the edges of the program, which are files, streams and the gate.
 #![tactic(auto)]
 
 mod dir_shelf;
@@ -10,6 +10,7 @@ mod mem_sink;
 mod shelves;
 mod sinks;
 mod std_sink;
+mod steps;
 #[cfg(test)]
 mod tests;
 
@@ -22,3 +23,4 @@ pub use mem_sink::MemSink;
 pub use shelves::{FILE_LIMIT, Shelf, ShelfFault};
 pub use sinks::{Sink, SinkFault};
 pub use std_sink::StdSink;
+pub use steps::Steps;

@@ -6,7 +6,7 @@ ghost use Rattle.qp_base.specs.Shelf.{KeepsLimit, TellsOf, is_failed, is_missed}
 
 use std::alloc::Global;
 
-/// The longest file that a shelf loads, in bytes.
+/// The longest file that a shelf loads, in bytes: `file_limit` of `specs/Limits`.
 pub const FILE_LIMIT: u64 = 67108864;
 
 /// Why a file was not loaded.

@@ -1,70 +1,65 @@
-//! Standard output and standard error as sinks.
+//! Streams as sinks: standard output and standard error.
 
-ghost use Rattle.std.specs.Prelude.{◌≡◌, ◌≤◌, ℕ, Option, None, OnOk, OnErr};
+ghost use Rattle.std.specs.Prelude.{◌≡◌, ◌≤◌, Option, None, OnOk, OnErr, is_err};
 ghost use Rattle.std.specs.Io.KnownBytes.{Appends};
-ghost use Rattle.qp_base.specs.Sink.{TakesPrefix};
+ghost use Rattle.qp_base.specs.Counts.{CountsIf};
+ghost use Rattle.qp_base.specs.Sink.{AppendsPrefix, TakesPrefix, appended};
 
 use crate::sinks::{Sink, SinkFault};
-use std::io::{ErrorKind, Write};
-use std::marker::Model;
+use std::io::{ErrorKind, Stderr, Stdout, Write};
 
-/// Where a [`StdSink`] writes to.
-#[derive(Clone, Copy)]
-enum Stream {
-    Out,
-    Notes,
-}
-
-/// Standard output or standard error. It doesn't tell what was written. Contracts see its count of faults.
+/// A stream as a sink: each put goes to the stream, all of its bytes and no others. It doesn't tell what was written,
+/// since a stream may not; where it does, as one in memory, what it got shows that.
 #[derive(Drop)]
-pub struct StdSink {
-    rt: HostRuntime,
-    stream: Stream,
+pub struct StdSink<W: Write + Drop> {
+    stream: W,
     faults: u64,
 }
 
-impl Model for StdSink {
-    ghost use Rattle.std.specs.Prelude.{ℕ};
-
-    ghost Value = { ℕ };
-
-    ghost view = { λ s. s.faults };
+impl<W: Write + Drop> StdSink<W> {
+    /// A sink over this stream.
+    pub fn over(stream: W) -> StdSink<W>
+        ensures stream { result.stream ≡ stream }
+        ensures faults { result.faults ≡ 0 }
+    {
+        StdSink { stream, faults: 0 }
+    }
 }
 
-impl StdSink {
+impl StdSink<Stdout> {
     /// Standard output.
-    pub fn out(rt: &HostRuntime) -> StdSink
-        ensures { result ≡ 0 }
+    pub fn out(rt: &HostRuntime) -> StdSink<Stdout>
+        ensures { result.faults ≡ 0 }
     {
-        StdSink {
-            rt: *rt,
-            stream: Stream::Out,
-            faults: 0,
-        }
-    }
-
-    /// Standard error.
-    pub fn notes(rt: &HostRuntime) -> StdSink
-        ensures { result ≡ 0 }
-    {
-        StdSink {
-            rt: *rt,
-            stream: Stream::Notes,
-            faults: 0,
-        }
+        StdSink::over(rt.stdout())
     }
 }
 
-impl Sink for StdSink {
+impl StdSink<Stderr> {
+    /// Standard error.
+    pub fn notes(rt: &HostRuntime) -> StdSink<Stderr>
+        ensures { result.faults ≡ 0 }
+    {
+        StdSink::over(rt.stderr())
+    }
+}
+
+impl<W: Write + Drop> Sink for StdSink<W> {
     ghost written = { λ _. None };
 
-    ghost faults = { λ s. s };
+    ghost faults = { λ s. s.faults };
 
-    fn put(&mut self, bytes: &[u8]) -> Result<(), SinkFault> {
-        let answer = match self.stream {
-            Stream::Out => write_whole(&mut self.rt.stdout(), bytes),
-            Stream::Notes => write_whole(&mut self.rt.stderr(), bytes),
-        };
+    fn put(&mut self, bytes: &[u8]) -> Result<(), SinkFault>
+        ensures stream_ok { OnOk result (Appends (W.contents self.old.stream) (W.contents self.new.stream) bytes.now) }
+        ensures stream_err { OnErr result (TakesPrefix (W.contents self.old.stream) (W.contents self.new.stream) bytes.now) }
+
+        ensures ok { OnOk result (None ≡ appended None bytes.now) }
+        ensures err { OnErr result (AppendsPrefix None bytes.now None) }
+
+        ensures faults { CountsIf (is_err result) self.old.faults self.new.faults }
+        ensures faults_last { self.old.faults ≤ self.new.faults }
+    {
+        let answer = write_whole(&mut self.stream, bytes);
         if answer.is_err() {
             self.faults = self.faults.saturating_add(1);
         }

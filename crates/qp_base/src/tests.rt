@@ -1,11 +1,15 @@
 //! Tests.
 
+ghost use Rattle.std.specs.Prelude.{◌≡◌, ◌+◌, ◌<◌, ◌≤◌};
+
 use crate::{
     DirShelf, FILE_LIMIT, Gate, MemShelf, MemSink, NoGate, Shelf, ShelfFault, Sink, SinkFault,
-    StdSink,
+    StdSink, Steps,
 };
 use arrayvec::ArrayString;
 use std::alloc::Global;
+use std::marker::Brand;
+use std::sync::ledger::{Blank, Ledger};
 use std::test::Fail;
 use std::{env, fs, process};
 
@@ -85,6 +89,51 @@ fn a_shelf_on_disk_loads_a_file(rt: HostRuntime) -> Result<(), Fail> {
 }
 
 #[test]
+fn a_shelf_on_disk_takes_a_path_as_it_is(rt: HostRuntime) -> Result<(), Fail> {
+    let alloc = rt.alloc();
+    let folder = env::temp_dir(&rt)?;
+    let folder = folder.to_str().unwrap_or("");
+    let id = process::id(rt.process());
+    let padding = "/.".repeat(alloc, 150)?;
+    let inside = format!(in alloc; "{folder}/qp base {id}")?;
+    let at_the_end = format!(in alloc; "{folder}/qp_base_{id} ")?;
+    let long = format!(in alloc; "{folder}{padding}/qp_base_{id}_long")?;
+    assert!(rt; long.len() > 300);
+    let mut shelf = DirShelf::new(&rt);
+    for path in [inside.as_str(), at_the_end.as_str(), long.as_str()] {
+        assert!(rt;
+            answer(&mut shelf, alloc, path, Err(ShelfFault::Absent)),
+            "{path}"
+        );
+        fs::write(&rt, path, path)?;
+        assert!(rt;
+            answer(&mut shelf, alloc, path, Ok(path.as_bytes())),
+            "{path}"
+        );
+        fs::remove_file(&rt, path)?;
+    }
+    Ok(())
+}
+
+#[test]
+fn a_shelf_on_disk_tells_the_length_of_a_long_file(rt: HostRuntime) -> Result<(), Fail> {
+    let alloc = rt.alloc();
+    let folder = env::temp_dir(&rt)?;
+    let folder = folder.to_str().unwrap_or("");
+    let id = process::id(rt.process());
+    let path = format!(in alloc; "{folder}/qp_base_{id}_limit")?;
+    let path = path.as_str();
+    let file = fs::create(&rt, path)?;
+    let mut shelf = DirShelf::new(&rt);
+    for len in [67108865, 67109000] {
+        file.set_len(len)?;
+        assert!(rt; answer(&mut shelf, alloc, path, Err(ShelfFault::TooLong { len })));
+    }
+    fs::remove_file(&rt, path)?;
+    Ok(())
+}
+
+#[test]
 fn a_sink_in_memory_keeps_what_its_faults_leave(rt: HostRuntime) -> Result<(), Fail> {
     // Puts `ab`, `cd`, `efg` and `h` into six bytes of room, with put 1 failing after so many bytes.
     let cases: [(u64, &[u8]); 3] = [(0, b"abefgh"), (1, b"abcefg"), (9, b"abcdef")];
@@ -110,4 +159,49 @@ fn a_standard_sink_writes(rt: HostRuntime) {
 fn no_gate_does_nothing(rt: HostRuntime) {
     NoGate.at(0, 1);
     assert_eq!(rt; FILE_LIMIT, 67108864);
+}
+
+/// Something that is tried, with how often at most.
+trait Tried {
+    fn is_done<L: Ledger>(&mut self, steps: &mut Steps<L>) -> bool
+        ensures { steps.new ≤ steps.old + 2 };
+}
+
+/// Tries so many times until it works.
+#[derive(Drop)]
+struct Once(u8);
+
+impl Tried for Once {
+    fn is_done<L: Ledger>(&mut self, steps: &mut Steps<L>) -> bool {
+        steps.step();
+        if self.0 == 0 {
+            return true;
+        }
+        steps.step();
+        self.0 -= 1;
+        self.0 == 0
+    }
+}
+
+/// Hands the counter through.
+fn is_done_twice<T: Tried, L: Ledger>(what: &mut T, steps: &mut Steps<L>) -> bool
+    ensures { steps.new ≤ steps.old + 4 }
+{
+    what.is_done(steps) && what.is_done(steps)
+}
+
+/// Tries with a counter of its own.
+fn is_done_in<L: Ledger>(blank: Blank, tries: u8) -> bool
+    requires name { blank.name ≡ L.name }
+    requires parts { blank.parts ≡ L.parts }
+    requires some { 0 < blank.parts }
+{
+    let mut steps = Steps::<L>::open(blank);
+    is_done_twice(&mut Once(tries), &mut steps)
+}
+
+#[test]
+fn steps_are_counted_in_a_ledger_of_their_own(rt: HostRuntime) {
+    assert!(rt; is_done_in::<Brand>(Blank::new(1), 1));
+    assert!(rt; !is_done_in::<Brand>(Blank::new(1), 3));
 }
