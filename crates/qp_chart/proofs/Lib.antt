@@ -18,3 +18,4 @@ pub mod ActionText
 mod ParentsLemmas
 mod ChartTree
 pub mod LegalLemmas
+pub mod CrossingLemmas

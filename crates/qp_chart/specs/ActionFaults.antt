@@ -5,7 +5,7 @@ use Rattle.std.specs.Option.{is_some, unwrap_or, option_map}
 use Rattle.std.specs.List.{list_all}
 use Rattle.qp_chart.specs.declared.place.Part.{Part}
 use Rattle.qp_chart.specs.declared.place.Part.TheVariants.{Key, Pos}
-use Rattle.qp_chart.specs.declared.code.TheConstants.{NO_SUCH_NAME, RANGE, WRONG_ARITY, BAD_TEXT}
+use Rattle.qp_chart.specs.Codes.{NO_SUCH_NAME, RANGE, WRONG_ARITY, BAD_TEXT}
 use Rattle.qp_chart.specs.declared.raw.RawChart.{RawChart}
 use Rattle.qp_chart.specs.declared.raw.Names.{Names}
 use Rattle.qp_chart.specs.Terms.{Term, Address, ToMe, ToObject, Event, Order, Set, Say, Post, Lifo, Forward, Publish, Defer, Recall, Flush, Subscribe, Unsubscribe, Arm, Rearm, Disarm, Command, Plain, Locked}

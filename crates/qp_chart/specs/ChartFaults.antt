@@ -7,8 +7,8 @@ use Rattle.std.specs.Str.{bytes_eq}
 use Rattle.arrayvec.specs.ArrayString.{ArrayString}
 use Rattle.qp_chart.specs.declared.place.Part.{Part}
 use Rattle.qp_chart.specs.declared.place.Part.TheVariants.{Key, Pos}
-use Rattle.qp_chart.specs.declared.key.TheConstants.{STATE, TIMER, SIGNAL, ROW, NAME, PARENT, ENTRY, EXIT, INIT, INIT_DO, ON, WHEN, DO, TO}
-use Rattle.qp_chart.specs.declared.code.TheConstants.{RANGE, DOUBLE, NO_SUCH_NAME, INIT_NOT_BELOW, TWO_ROWS}
+use Rattle.qp_chart.specs.Keys.{STATE, TIMER, SIGNAL, ROW, NAME, PARENT, ENTRY, EXIT, INIT, INIT_DO, ON, WHEN, DO, TO}
+use Rattle.qp_chart.specs.Codes.{RANGE, DOUBLE, NO_SUCH_NAME, INIT_NOT_BELOW, TWO_ROWS}
 use Rattle.qp_chart.specs.declared.raw.RawChart.{RawChart}
 use Rattle.qp_chart.specs.declared.raw.RawTimer.{RawTimer}
 use Rattle.qp_chart.specs.declared.raw.RawState.{RawState}

@@ -7,6 +7,8 @@ pub mod Task
 pub mod Drill
 pub mod Agenda
 pub mod Terms
+pub mod Keys
+pub mod Codes
 pub mod Paths
 pub mod Faults
 pub mod Binding

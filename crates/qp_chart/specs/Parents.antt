@@ -3,8 +3,8 @@ use Rattle.std.specs.Prelude.{ℕ, zero, suc, ◌-◌, ◌==◌, Bool, ◌&&◌,
 use Rattle.std.specs.declared.option.Option.{Option}
 use Rattle.std.specs.Option.{option_and_then, option_flatten}
 use Rattle.qp_chart.specs.declared.place.Part.TheVariants.{Key, Pos}
-use Rattle.qp_chart.specs.declared.key.TheConstants.{STATE, PARENT}
-use Rattle.qp_chart.specs.declared.code.TheConstants.{PARENT_LOOP, TOO_DEEP}
+use Rattle.qp_chart.specs.Keys.{STATE, PARENT}
+use Rattle.qp_chart.specs.Codes.{PARENT_LOOP, TOO_DEEP}
 use Rattle.qp_chart.specs.declared.raw.RawChart.{RawChart}
 use Rattle.qp_chart.specs.declared.raw.RawState.{RawState}
 use Rattle.qp_chart.specs.Faults.{Fault, fault_if, first_of, first_in}

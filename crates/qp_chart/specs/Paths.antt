@@ -1,19 +1,12 @@
 -- How a path is printed.
-use Rattle.std.specs.Prelude.{ℕ, List, [], ◌∷◌, codes}
+use Rattle.std.specs.Prelude.{ℕ, List, [], codes}
 use Rattle.std.specs.List.{join_by}
 use Rattle.std.specs.Prelude.{slice_get}
 use Rattle.std.specs.Option.{unwrap_or}
 use Rattle.std.specs.Fmt.{decimal}
+use Rattle.qp_chart.specs.Keys.{key_words}
 use Rattle.qp_chart.specs.declared.place.Part.{Part}
 use Rattle.qp_chart.specs.declared.place.Part.TheVariants.{Key, Pos}
-
--- the keys in the order of their numbers; no key has number 0
-abbrev pub key_words : List (List ℕ)
-key_words =
-    [] ∷ codes "qp" ∷ codes "pool" ∷ codes "signal" ∷ codes "chart" ∷ codes "object" ∷ codes "size" ∷ codes "blocks"
-    ∷ codes "name" ∷ codes "params" ∷ codes "static" ∷ codes "init" ∷ codes "init_do" ∷ codes "vars" ∷ codes "timer"
-    ∷ codes "state" ∷ codes "rate" ∷ codes "parent" ∷ codes "entry" ∷ codes "exit" ∷ codes "row" ∷ codes "on"
-    ∷ codes "when" ∷ codes "do" ∷ codes "to" ∷ codes "priority" ∷ codes "queue" ∷ codes "defer" ∷ codes "threshold" ∷ []
 
 -- the word of a key
 unfoldable pub key_word : ℕ → List ℕ

@@ -1,5 +1,8 @@
 //! The codes of faults of a system file.
 
+ghost use Rattle.std.specs.Prelude.{◌≡◌, [], ◌∷◌};
+ghost use Rattle.qp_chart.specs.Codes.{codes};
+
 /// The bytes are no TOML.
 pub const NOT_TOML: u8 = 1;
 /// A value isn't of its key's kind.
@@ -30,3 +33,8 @@ pub const TWO_ROWS: u8 = 13;
 pub const TOO_MANY: u8 = 14;
 /// No pool has blocks for the parameters of a signal.
 pub const NO_POOL: u8 = 15;
+
+/// The constants of this module are the codes of `specs/Codes`.
+pub fn constants_are_the_table()
+    ensures { NOT_TOML ∷ WRONG_KIND ∷ MISSING ∷ UNKNOWN ∷ RANGE ∷ DOUBLE ∷ NO_SUCH_NAME ∷ BAD_TEXT ∷ WRONG_ARITY ∷ PARENT_LOOP ∷ TOO_DEEP ∷ INIT_NOT_BELOW ∷ TWO_ROWS ∷ TOO_MANY ∷ NO_POOL ∷ [] ≡ codes }
+{}

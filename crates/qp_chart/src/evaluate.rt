@@ -1,7 +1,9 @@
 //! The value of an expression.
 
-ghost use Rattle.std.specs.Prelude.{◌≡◌, ℕ, length};
-ghost use Rattle.qp_chart.specs.Expr.{InRange, value_of, unary_value, binary_value, names_in, of_truth};
+ghost use Rattle.std.specs.Prelude.{◌≡◌, ◌-◌, pos, slice_get};
+ghost use Rattle.std.specs.Option.{unwrap_or};
+ghost use Rattle.std.specs.Int.{w64, cast_signed};
+ghost use Rattle.qp_chart.specs.Expr.{value_of, unary_value, binary_value, names_in, of_truth};
 
 use crate::expression::{Binary, Bound, Unary};
 
@@ -15,23 +17,41 @@ pub struct Env<'a> {
     pub me: u8,
 }
 
-/// The value of an expression. It takes no memory.
-#[tactic(auto, unfolding(crate::specs::Expr::value_of, crate::specs::Expr::InRange))]
+/// The value of an expression. A variable or a parameter that isn't there counts as 0. It takes no memory.
+#[tactic(auto, unfolding(crate::specs::Expr::value_of))]
 pub fn eval(e: &Bound, env: &Env<'_>) -> i64
-    requires { InRange (length env.now.vars.now) (length env.now.pars.now) e.now }
     ensures { result ≡ value_of (names_in env.now) e.now }
 {
     match e {
         Bound::Num(n) => *n,
-        Bound::Var(v) => env.vars[*v as usize],
+        Bound::Var(v) => variable(env.vars, *v),
         Bound::Ok => env.ok,
         Bound::Me => i64::from(env.me),
-        Bound::Par(j) => env.pars[*j as usize - 1].cast_signed(),
+        Bound::Par(j) => parameter(env.pars, *j),
         Bound::One(op, x) => unary(*op, eval(x, env)),
         Bound::Two(op, x, y) => {
             let left = eval(x, env);
             binary(*op, left, eval(y, env))
         }
+    }
+}
+
+fn variable(vars: &[i64], v: u8) -> i64
+    ensures { result ≡ unwrap_or (slice_get vars.now v) (pos 0) }
+{
+    match vars.get(usize::from(v)) {
+        Some(x) => *x,
+        None => 0,
+    }
+}
+
+/// The 64 bits of a parameter, numbered from 1.
+fn parameter(pars: &[u64], j: u8) -> i64
+    ensures { result ≡ cast_signed w64 (unwrap_or (slice_get pars.now (j - 1)) 0) }
+{
+    match pars.get(usize::from(j).saturating_sub(1)) {
+        Some(x) => x.cast_signed(),
+        None => 0,
     }
 }
 

@@ -1,7 +1,8 @@
 //! The keys of a system file by their numbers.
 //!
 //! A key has one number in every table, given by its first appearance in the description of the file.
-ghost use Rattle.std.specs.Prelude.{◌≡◌};
+ghost use Rattle.std.specs.Prelude.{◌≡◌, [], ◌∷◌, map};
+ghost use Rattle.qp_chart.specs.Keys.{keys};
 ghost use Rattle.qp_chart.specs.Paths.{key_word};
 
 pub const QP: u8 = 1;
@@ -102,3 +103,8 @@ pub fn word(key: u8) -> &'static str
     }
     WORDS[key as usize]
 }
+
+/// The constants of this module are the numbers of the table of keys (`specs/Keys`).
+pub fn constants_are_the_table()
+    ensures { QP ∷ POOL ∷ SIGNAL ∷ CHART ∷ OBJECT ∷ SIZE ∷ BLOCKS ∷ NAME ∷ PARAMS ∷ STATIC ∷ INIT ∷ INIT_DO ∷ VARS ∷ TIMER ∷ STATE ∷ RATE ∷ PARENT ∷ ENTRY ∷ EXIT ∷ ROW ∷ ON ∷ WHEN ∷ DO ∷ TO ∷ PRIORITY ∷ QUEUE ∷ DEFER ∷ THRESHOLD ∷ [] ≡ map (λ key. key.0) keys }
+{}

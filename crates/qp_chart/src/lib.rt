@@ -7,14 +7,13 @@ mod binding;
 mod check;
 mod checked;
 pub mod code;
+pub mod crossing;
 mod evaluate;
 mod expression;
 mod fault;
 mod fit;
 mod grammar_laws;
 pub mod key;
-#[cfg(test)]
-mod language_tests;
 mod parents;
 mod parser;
 mod phrases;

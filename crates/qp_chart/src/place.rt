@@ -79,6 +79,3 @@ impl fmt::Display for Path {
         Ok(())
     }
 }
-
-#[cfg(test)]
-mod tests;

@@ -1,7 +1,7 @@
 //! Actions and guards of a chart, from their texts.
 ghost use Rattle.std.specs.Prelude.{◌≡◌, ◌+◌, ◌≤◌, ◌∷◌, ◌++◌, [], length, None, IfOk, IfErr};
 ghost use Rattle.qp_chart.specs.declared.place.Part.TheVariants.{Key};
-ghost use Rattle.qp_chart.specs.declared.key.TheConstants.{WHEN};
+ghost use Rattle.qp_chart.specs.Keys.{WHEN};
 ghost use Rattle.qp_chart.specs.Reading.{term_of_text};
 ghost use Rattle.qp_chart.specs.Pairs.{Corresponds};
 ghost use Rattle.qp_chart.specs.Faults.{IsFault};

@@ -1,5 +1,6 @@
 use Rattle.std.proofs.Common.{arith}
-use Rattle.qp_chart.specs.Paths.{key_word, key_words}
+use Rattle.qp_chart.specs.Keys.{key_words}
+use Rattle.qp_chart.specs.Paths.{key_word}
 use Rattle.qp_chart.proofs.PathLemmas.{now-get_or, unwrap_or-past}
 use Rattle.qp_chart.proofs.key.word.Goals as goal
 

@@ -5,8 +5,8 @@ use Rattle.std.proofs.lemmas.List.{take_all, take-map, length-map}
 use Rattle.std.proofs.Math.ListN.{get_or-map}
 use Rattle.arrayvec.specs.ArrayString.{ArrayString}
 use Rattle.qp_chart.specs.declared.place.Part.TheVariants.{Key, Pos}
-use Rattle.qp_chart.specs.declared.key.TheConstants.{NAME}
-use Rattle.qp_chart.specs.declared.code.TheConstants.{DOUBLE}
+use Rattle.qp_chart.specs.Keys.{NAME}
+use Rattle.qp_chart.specs.Codes.{DOUBLE}
 use Rattle.qp_chart.specs.Faults.{fault_if}
 use Rattle.qp_chart.specs.Binding.{words}
 use Rattle.qp_chart.specs.ChartFaults.{double_at, double_fault}

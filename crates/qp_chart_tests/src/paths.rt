@@ -1,5 +1,6 @@
-use super::*;
-use crate::key;
+//! Paths of faults as text.
+
+use qp_chart::{Part, Path, key};
 use std::test::Fail;
 
 /// Keys are printed by their words, places as numbers, with dots between.

@@ -1,0 +1,23 @@
+//! Which values may go to another thread, and which may be read by several threads at once.
+
+use crate::checked::Chart;
+use crate::expression::Bound;
+use crate::place::Path;
+use crate::raw::{Names, RawChart};
+use crate::trees::Expr;
+
+fn crosses<T: Send + Sync>() {}
+
+/// A chart may go to another thread, and several threads may read it at once.
+pub fn charts_cross_threads() {
+    crosses::<Chart>();
+}
+
+/// Expressions, what a file says of a chart, and places likewise.
+pub fn texts_cross_threads() {
+    crosses::<RawChart>();
+    crosses::<Names>();
+    crosses::<Expr>();
+    crosses::<Bound>();
+    crosses::<Path>();
+}
