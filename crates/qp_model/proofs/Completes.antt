@@ -1,5 +1,5 @@
 -- Each agenda can be done to its end, whatever was done before: so a list that stops early is the front of a whole one.
-use Rattle.std.proofs.Common.{◌≡◌, ℕ, zero, suc, ◌<◌, ◌≤◌, ◌==◌, nat_lt, Bool, true, false, ◌&&◌, ◌||◌, List, [], ◌∷◌, ◌++◌, length, max, slice_set, refl, ◌∙◌, subst, inl, inr, ◌⊎◌, Option, Some, None, is_some, arith, length-append}
+use Rattle.std.proofs.Common.{◌≡◌, ℕ, zero, suc, ◌<◌, ◌≤◌, nat_lt, Bool, true, false, ◌&&◌, ◌||◌, List, [], ◌∷◌, ◌++◌, length, max, slice_set, refl, ◌∙◌, subst, inl, inr, ◌⊎◌, Option, Some, None, is_some, arith, length-append}
 use Rattle.std.specs.Bool.{IsTrue}
 use Rattle.std.specs.List.{list_all}
 use Rattle.std.proofs.lemmas.Bool.Decides.{nat_tests}
@@ -12,7 +12,6 @@ use Rattle.qp_model.specs.declared.systems.System.{System}
 use Rattle.qp_model.specs.declared.bodies.Entry.{Entry}
 use Rattle.qp_model.specs.declared.bodies.Body.TheVariants as item
 use Rattle.qp_model.specs.Record.{entry}
-use Rattle.qp_model.specs.Line.{same_entry}
 use Rattle.qp_model.specs.Told.{Told, plain, dropped, raised}
 use Rattle.qp_model.specs.Calls as call
 use Rattle.qp_model.specs.Calls.{Call, Answer, Granted, Refused, Flushed, AtQueue, AtPool, AtFront, AtTicks, Deed, Sets, Says, Calls, deed_of, is_assertion, ok_after, values_of}
@@ -22,6 +21,7 @@ use Rattle.qp_model.specs.Deferral.{keep, kept_after, KeepsDeferred}
 use Rattle.qp_model.specs.Pieces.{Piece, Tell, Point, pieces_of}
 use Rattle.qp_model.specs.Acts.{Config, Actor, Moment, DoesCall, DoesDeed, DoesTask, Does, Notes, names_of}
 use Rattle.qp_model.specs.Able.{has_pool, is_able, task_able}
+use Rattle.qp_model.proofs.LineLemmas.{same_entry-refl}
 
 -- the records of some answer, which leave the deferred list within its capacity
 record Answered (sys : System) (a : Actor) (now : Option Entry) (x : Call) (kept : List Entry) : Type 0 where
@@ -77,15 +77,6 @@ unfolding release kept_after keep
 kept-release room kept zero e rest = refl
 kept-release room kept (suc p) e rest = refl
 
-same_one : (e : Entry) → same_entry e e ≡ true
-same_one e = all_true (same_number e.pool) (same_number e.block) (same_number e.name)
-  where
-    same_number : (n : ℕ) → (n == n) ≡ true
-    same_number n = grind (arith, nat_tests)
-
-    all_true : {x y z : Bool} → x ≡ true → y ≡ true → z ≡ true → ((x && y) && z) ≡ true
-    all_true p q r = rw (p, q) r
-
 flush_all : List Entry → List Told
 flush_all [] = []
 flush_all (e ∷ es) = plain (item.Flush e) ∷ (release e.pool e ++ flush_all es)
@@ -98,7 +89,7 @@ flushes_all (e ∷ es) = (e, release e.pool e, flush_all es, release_drops e.poo
 keeps_none : (room : ℕ) (es : List Entry) → kept_after room es (flush_all es) ≡ Some []
 unfolding flush_all kept_after keep
 keeps_none room [] = refl
-keeps_none room (e ∷ es) = rw (same_one e) (kept-release room es e.pool e (flush_all es) ∙ keeps_none room es)
+keeps_none room (e ∷ es) = rw (same_entry-refl e) (kept-release room es e.pool e (flush_all es) ∙ keeps_none room es)
 
 -- a pool that is there has a number
 pool_number : (o : Option ℕ) → is_some o ≡ true → (p : ℕ) × (o ≡ Some p)
@@ -117,7 +108,7 @@ module _ (sys : System) (a : Actor) (now : Option Entry) (kept : List Entry) (wi
 
       by_reserve : (reserve : Option ℕ)
           → (answer : Answer) × (g : List Told) × NoBlockFor (is_static sys sig) (sizes_of sys) pars reserve answer g × ((answer ≡ AtPool) ⊎ (answer ≡ Refused))
-      by_reserve None = (AtPool, plain (item.NoBlock pool.0 0) ∷ [], (pool.0, 0, pooled, pool.1, refl), inl refl)
+      by_reserve None = (AtPool, plain (item.NoBlock pool.0 0 0) ∷ [], (pool.0, 0, 0, pooled, pool.1, refl), inl refl)
       by_reserve (Some r) = (Refused, plain (item.Short pool.0 0 0 r) ∷ [], (pool.0, 0, 0, pooled, pool.1, refl), inr refl)
 
   post_any : (to sig : ℕ) (pars : List ℕ) (margin reserve : Option ℕ) → has_pool sys sig (length pars) ≡ true
@@ -283,7 +274,7 @@ module _ (sys : System) (a : Actor) (now : Option Entry) (kept : List Entry) (wi
             records = plain (item.Recall e) ∷ (made.0 ++ (plain (item.NoLifo a.o 0 0 0) ∷ []));
             new = es;
             fits = (e, made.1, made.0, made.0 ++ (plain (item.NoLifo a.o 0 0 0) ∷ []), made.2, (0, 0, 0, refl), refl);
-            keeps = rw (same_one e) (kept-again a.room es e made.0 (plain (item.NoLifo a.o 0 0 0) ∷ []) made.1 made.2);
+            keeps = rw (same_entry-refl e) (kept-again a.room es e made.0 (plain (item.NoLifo a.o 0 0 0) ∷ []) made.1 made.2);
             within = omega arith;
           }
 
@@ -296,16 +287,16 @@ module _ (sys : System) (a : Actor) (now : Option Entry) (kept : List Entry) (wi
   arm_any t ticks interval = by_fit (ticks_fit ticks interval) refl
     where
       by_fit : (b : Bool) → ticks_fit ticks interval ≡ b → Answered sys a now (call.Arm t ticks interval) kept
-      by_fit true is = simple _ Granted (plain (item.Arm (timer_number sys.timers a.o t) 0 ticks interval)) (0, refl, is) refl
-      by_fit false is = simple _ AtTicks (plain (item.BadTicks (timer_number sys.timers a.o t) ticks interval)) (refl, is) refl
+      by_fit true is = simple _ Granted (plain (item.Arm (timer_number sys.timers a.o t) 0 ticks interval)) ((0, refl), is) refl
+      by_fit false is = simple _ AtTicks (plain (item.BadTicks (timer_number sys.timers a.o t) ticks interval)) (refl, rw is refl) refl
 
   rearm_any : (t ticks : ℕ) → Answered sys a now (call.Rearm t ticks) kept
   unfolding Fits Rearms KeepsDeferred
   rearm_any t ticks = by_fit (ticks_fit ticks 0) refl
     where
       by_fit : (b : Bool) → ticks_fit ticks 0 ≡ b → Answered sys a now (call.Rearm t ticks) kept
-      by_fit true is = simple _ Refused (plain (item.Rearm (timer_number sys.timers a.o t) 0 0 ticks)) (0, refl, is) refl
-      by_fit false is = simple _ AtTicks (plain (item.BadTicks (timer_number sys.timers a.o t) ticks 0)) (refl, is) refl
+      by_fit true is = simple _ Refused (plain (item.Rearm (timer_number sys.timers a.o t) 0 0 ticks)) ((0, refl), is) refl
+      by_fit false is = simple _ AtTicks (plain (item.BadTicks (timer_number sys.timers a.o t) ticks 0)) (refl, rw is refl) refl
 
   call_any : (x : Call) → CallAble sys now x → Answered sys a now x kept
   unfolding CallAble Fits Subscribes Unsubscribes Disarms KeepsDeferred

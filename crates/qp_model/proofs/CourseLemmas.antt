@@ -8,7 +8,7 @@ use Rattle.qp_model.specs.Told.{Event, taken}
 use Rattle.qp_model.specs.Pieces.{Piece, Tell, Point, ends_at_point}
 use Rattle.qp_model.specs.Acts.{Actor, Config}
 use Rattle.qp_model.specs.Step.{Remainder, GoesOn, DoesLeft, StepRest, Step, whole_step}
-use Rattle.qp_model.specs.Course.{Starts, Steps, Course, Follows, FollowsAs, FollowsTo, Stopped, Anywhere, actor, first_config, chart_at}
+use Rattle.qp_model.specs.Course.{Starts, Steps, Course, Follows, FollowsAs, FollowsThrough, FollowsThroughAs, FollowsTo, Whole, Stopped, Anywhere, actor, first_config, chart_at}
 use Rattle.qp_model.specs.Standing.{Between, Within, Leaves, Advances}
 
 -- a step more
@@ -67,7 +67,21 @@ ends-point (p ∷ q ∷ ps) = inner p (ends-point (q ∷ ps))
     inner Point h = h
     inner (Tell t) h = h
 
+-- a course to its end is a course
+pub through-follows : (sys : System) (d : ObjectDef) (ps : List Piece) → FollowsThrough sys d ps → Follows sys d ps
+unfolding Follows FollowsAs FollowsThrough FollowsThroughAs
+through-follows sys d ps h = by (chart_at sys d.chart) h
+  where
+    by : (o : Option Chart) → FollowsThroughAs sys d o ps → FollowsAs sys d o ps
+    by None k = absurd k
+    by (Some chart) k = (k.0, Some k.1, k.2)
+
 module _ (sys : System) (d : ObjectDef) (chart : Chart) (is : chart_at sys d.chart ≡ Some chart) where
+  -- a course that comes to its end is whole
+  pub follows-whole : (es : List Entry) (ps : List Piece) (end : Config) → Course sys (actor d chart) (first_config d) es ps (Some end) → FollowsTo sys d Whole ps
+  unfolding FollowsTo FollowsThrough FollowsThroughAs
+  follows-whole es ps end h = rw is (es, end, h)
+
   -- a course follows the chart
   pub follows-course : (es : List Entry) (ps : List Piece) (end : Option Config) → Course sys (actor d chart) (first_config d) es ps end → Follows sys d ps
   unfolding Follows FollowsAs

@@ -10,20 +10,20 @@ use Rattle.qp_chart.specs.declared.checked.Chart.{Chart}
 use Rattle.qp_model.specs.declared.bodies.Entry.{Entry}
 use Rattle.qp_model.specs.declared.bodies.Body.{Body}
 use Rattle.qp_model.specs.declared.bodies.Body.TheVariants as item
-use Rattle.qp_model.specs.Told.{Told, plain, raised, taken}
+use Rattle.qp_model.specs.Told.{Told, OfEvent, plain, raised, taken}
 use Rattle.qp_model.specs.Calls as call
 use Rattle.qp_model.specs.Calls.{Call, Answer, Deed, Sets, Says, Calls, deed_of, ok_after, is_assertion}
-use Rattle.qp_model.specs.Shapes.{Fits}
+use Rattle.qp_model.specs.Shapes.{Fits, FitsAny}
 use Rattle.qp_model.specs.Pieces.{Piece, Tell, Point, bare, tell, piece_of, with_points, pieces_of, ends_at_point, begins_at_point}
 use Rattle.qp_model.specs.Acts.{Config, Actor, Moment, Later, DoesCall, DoesDeed, DoesTask, Does, names_of}
 use Rattle.qp_model.specs.Step.{Step, StepRest, Closes, moment}
-use Rattle.qp_model.specs.Course.{Starts, Steps, Course, Follows, FollowsAs, FollowsTo, Cut, Whole, Stopped, Anywhere, actor, first_config, chart_at}
-use Rattle.qp_model.specs.Groups.{IsAction, SaysValue, MakesCall, Actions, IsGroup, IsMove, IsLocked, Groups, is_post, ends_in_post, IsLast, Asserts, Stops, StopsInPublication, BreaksOff, Plainly, UnderCeiling}
+use Rattle.qp_model.specs.Course.{Starts, Steps, Course, Follows, FollowsAs, FollowsThrough, FollowsThroughAs, FollowsTo, Cut, Whole, Stopped, Anywhere, actor, first_config, chart_at}
+use Rattle.qp_model.specs.Groups.{IsAction, SaysValue, Actions, IsGroup, IsMove, IsLocked, Groups, is_post, ends_in_post, IsLast, Stops, StopsInPublication, BreaksOff, Plainly, UnderCeiling}
 use Rattle.qp_model.specs.ObjectShape.{StepHead, is_head, BrokenStep, ObjectGroups, CutGroups}
 use Rattle.qp_model.proofs.SequenceLemmas.{sequence-none, sequence-one, sequence-append}
 use Rattle.qp_model.proofs.BlockLemmas.{Block, Exits, Enters, Inits, Acts, Locks, Blocks, spread, step-blocks}
-use Rattle.qp_model.proofs.GroupLemmas.{bare-append, bare-pieces_of, actions-groups, breaks-cons}
-use Rattle.qp_model.proofs.ShapeLemmas.{StepShape, StartShape, Turned, step-shape, starts-shape, no-turns, turn-more, broken, started, course-shape}
+use Rattle.qp_model.proofs.GroupLemmas.{call-action, call-asserts, bare-append, bare-pieces_of, actions-groups, breaks-cons}
+use Rattle.qp_model.proofs.ShapeLemmas.{StepShape, StartShape, Turned, step-shape, starts-shape, no-turns, turn-more, broken, started, course-shape, course-whole}
 
 -- a list stops at a point: it ends with one, or goes on with one
 abbrev pub AtPoint : List Piece → List Piece → Type 0
@@ -174,17 +174,17 @@ module _ (sys : System) (a : Actor) (at : Moment) where
   -- a call that is cut at a point inside
   pieces-cut : (x : Call) (answer : Answer) (g : List Told) (front : List Piece) (q : Piece) (m : List Piece) → Fits sys a.o at.entry x answer g
       → pieces_of x g ≡ front ++ (q ∷ m) → AtPoint front (q ∷ m) → IsLast sys a.o at.entry true (bare front)
-  unfolding pieces_of bare
+  unfolding FitsAny pieces_of bare
   pieces-cut x answer g front q m fits e h = by x fits e
     where
       stops : front ≡ [] → IsLast sys a.o at.entry true (bare front)
       stops is = Stops refl (ap bare is)
 
-      published : (sig : ℕ) (pars : List ℕ) (reserve : Option ℕ) → Fits sys a.o at.entry (call.Publish sig pars reserve) answer g → with_points g ≡ front ++ (q ∷ m)
+      published : (sig : ℕ) (pars : List ℕ) (reserve : Option ℕ) → FitsAny sys a.o at.entry (call.Publish sig pars reserve) answer g → with_points g ≡ front ++ (q ∷ m)
           → ((front ≡ []) ⊎ (ends_in_post (bare front) ≡ true)) → IsLast sys a.o at.entry true (bare front)
       published sig pars reserve fits e (inl is) = stops is
       published sig pars reserve fits e (inr last) =
-          StopsInPublication sig pars reserve answer (bare (q ∷ m)) refl (subst (λ us. Fits sys a.o at.entry (call.Publish sig pars reserve) answer us) whole fits) last
+          StopsInPublication sig pars reserve answer (bare (q ∷ m)) refl (subst (λ us. FitsAny sys a.o at.entry (call.Publish sig pars reserve) answer us) whole fits) last
         where
           whole : g ≡ bare front ++ bare (q ∷ m)
           whole = sym (bare-pieces_of (call.Publish sig pars reserve) g) ∙ ap bare e ∙ bare-append front (q ∷ m)
@@ -233,12 +233,15 @@ module _ (sys : System) (a : Actor) (at : Moment) where
   unfolding DoesCall bare
   call-cut c later failed x body front back tail h gone e at_point = by_assertion (is_assertion h.0) refl h.5
     where
+      makes : is_assertion h.0 ≡ false → IsAction sys a.o at.entry h.1
+      makes is = call-action sys a.o at.entry x h.0 h.1 h.3 is
+
       -- the whole call stands before the cut
       complete : front ≡ pieces_of x h.1 → bare front ≡ h.1
       complete is = ap bare is ∙ bare-pieces_of x h.1
 
       asserted : is_assertion h.0 ≡ true → (back : List Piece) → front ++ back ≡ pieces_of x h.1 → AtPoint front back → ActionsCut front
-      asserted is [] whole here = ([], h.1, no_actions, Asserts x h.0 h.3 is, complete (sym (append-nil front) ∙ whole))
+      asserted is [] whole here = ([], h.1, no_actions, call-asserts sys a.o at.entry true x h.0 h.1 h.3 is, complete (sym (append-nil front) ∙ whole))
       asserted is (q ∷ m) whole here = ([], bare front, no_actions, pieces-cut x h.0 h.1 front q m h.3 (sym whole) here, refl)
 
       by_split : is_assertion h.0 ≡ false → (rest : List Piece) → later (record c { ok = ok_after h.0 c.ok; kept = h.2 }) rest
@@ -247,14 +250,14 @@ module _ (sys : System) (a : Actor) (at : Moment) where
       by_split is rest next (inl k) = inr (inside k.0 k.1 k.2)
         where
           inside : (m : List Piece) → pieces_of x h.1 ≡ front ++ m → back ≡ m ++ (Point ∷ (rest ++ tail)) → ActionsCut front
-          inside [] whole behind = whole_action h.1 front (MakesCall x h.0 h.3 is) (complete (sym (whole ∙ append-nil front)))
+          inside [] whole behind = whole_action h.1 front (makes is) (complete (sym (whole ∙ append-nil front)))
           inside (q ∷ m) whole behind =
               let here : AtPoint front (q ∷ m ++ (Point ∷ (rest ++ tail))) = subst (λ us. AtPoint front us) behind at_point in
               ([], bare front, no_actions, pieces-cut x h.0 h.1 front q m h.3 whole (at-head front q (m ++ (Point ∷ (rest ++ tail))) m here), refl)
       by_split is rest next (inr k) = outside k.0 k.1 k.2
         where
           outside : (m : List Piece) → front ≡ pieces_of x h.1 ++ m → Point ∷ (rest ++ tail) ≡ m ++ back → ActionsOn c later front back tail ⊎ ActionsCut front
-          outside [] whole behind = inr (whole_action h.1 front (MakesCall x h.0 h.3 is) (complete (whole ∙ append-nil (pieces_of x h.1))))
+          outside [] whole behind = inr (whole_action h.1 front (makes is) (complete (whole ∙ append-nil (pieces_of x h.1))))
           outside (p ∷ m) whole behind =
               let point : Point ≡ p = first-same behind in
               let here : AtPoint (pieces_of x h.1 ++ (p ∷ m)) back = subst (λ us. AtPoint us back) whole at_point in
@@ -263,7 +266,7 @@ module _ (sys : System) (a : Actor) (at : Moment) where
                 record c { ok = ok_after h.0 c.ok; kept = h.2 },
                 m,
                 rest,
-                one_action h.1 (MakesCall x h.0 h.3 is),
+                one_action h.1 (makes is),
                 refl,
                 ap bare whole ∙ bare-append (pieces_of x h.1) (p ∷ m) ∙ ap (λ us. us ++ bare (p ∷ m)) (bare-pieces_of x h.1) ∙ ap (λ y. h.1 ++ bare (y ∷ m)) (sym point),
                 next,
@@ -478,7 +481,7 @@ module _ (sys : System) (a : Actor) (at : Moment) where
 module _ (sys : System) (a : Actor) where
   -- a step that is cut at a point has broken off, or it is whole
   pub step-cut : (e : Entry) (c : Config) (ps : List Piece) (end : Option Config) (p : Piece) (f back : List Piece) → Step sys a e c ps end
-      → (p ∷ f) ++ back ≡ ps → AtPoint (p ∷ f) back → BrokenStep sys a.o true (bare (p ∷ f)) ⊎ (back ≡ [])
+      → (p ∷ f) ++ back ≡ ps → AtPoint (p ∷ f) back → BrokenStep sys a.o (bare (p ∷ f)) ⊎ (back ≡ [])
   unfolding Step StepRest Closes Blocks Does DoesTask BrokenStep StepHead bare ends_at_point
   step-cut e c ps end p f back h eq here = by_blocks (step-blocks a.chart c.leaf (names_of a c h.3) h.3.sig)
     where
@@ -502,25 +505,25 @@ module _ (sys : System) (a : Actor) where
 
       by_blocks : (head : Task) × (ts : List Task) × ((head ≡ Unhandled) ⊎ ((s k : ℕ) × (head ≡ Run s k))) × Blocks ts
           × ((step_plan a.chart c.leaf (names_of a c h.3) h.3.sig).tasks ≡ head ∷ (ts ++ (Done ∷ [])))
-          → BrokenStep sys a.o true (bare (p ∷ f)) ⊎ (back ≡ [])
+          → BrokenStep sys a.o (bare (p ∷ f)) ⊎ (back ≡ [])
       by_blocks b = by_head b.2 (subst (λ us. Does sys a (moment h.3 e) us c body mid) b.4 h.6.3)
         where
           -- behind the handler's note
           after_head : (head : Body) → is_head head ≡ true → (rest : List Piece) → body ≡ Tell (plain head) ∷ rest
-              → Does sys a (moment h.3 e) (b.1 ++ (Done ∷ [])) c rest mid → BrokenStep sys a.o true (bare (p ∷ f)) ⊎ (back ≡ [])
+              → Does sys a (moment h.3 e) (b.1 ++ (Done ∷ [])) c rest mid → BrokenStep sys a.o (bare (p ∷ f)) ⊎ (back ≡ [])
           after_head head is rest note does = by_front f (rest-same split_took ∙ ap (λ us. us ++ tell rel) note) here
             where
               starts : List Told
               starts = took ∷ plain head ∷ []
 
               heads : StepHead e starts
-              heads = (h.0, h.1, h.2, h.3, head, is, refl)
+              heads = (h.0, h.1, h.2, OfEvent h.3, head, is, refl)
 
               at_took : (back : List Piece) → back ≡ Tell (plain head) ∷ (rest ++ tell rel) → AtPoint (p ∷ []) back → ⊥
               at_took back same (inl k) = let wrong : ends_at_point (Tell took ∷ []) ≡ true = subst (λ x. ends_at_point (x ∷ []) ≡ true) (first-same split_took) k in cc
               at_took back same (inr k) = let wrong : begins_at_point (Tell (plain head) ∷ (rest ++ tell rel)) ≡ true = subst (λ x. begins_at_point x ≡ true) same k in cc
 
-              by_front : (f : List Piece) → f ++ back ≡ Tell (plain head) ∷ (rest ++ tell rel) → AtPoint (p ∷ f) back → BrokenStep sys a.o true (bare (p ∷ f)) ⊎ (back ≡ [])
+              by_front : (f : List Piece) → f ++ back ≡ Tell (plain head) ∷ (rest ++ tell rel) → AtPoint (p ∷ f) back → BrokenStep sys a.o (bare (p ∷ f)) ⊎ (back ≡ [])
               by_front [] eq here = absurd (at_took back eq here)
               by_front (q ∷ m) eq here =
                   either (blocks-cut sys a (moment h.3 e) b.3.0 (Done ∷ []) c rest mid m back (tell rel) (subst (λ us. Does sys a (moment h.3 e) (us ++ (Done ∷ [])) c rest mid) b.3.1 does) gone (rest-same eq) inner)
@@ -531,16 +534,16 @@ module _ (sys : System) (a : Actor) where
                   all : bare (p ∷ q ∷ m) ≡ starts ++ bare m
                   all = ap (λ x. bare (x ∷ q ∷ m)) (first-same split_took) ∙ ap (λ x. took ∷ bare (x ∷ m)) (first-same eq)
 
-                  broke : BreaksOff sys a.o (Some e) true (bare m) → BrokenStep sys a.o true (bare (p ∷ q ∷ m))
+                  broke : BreaksOff sys a.o (Some e) true (bare m) → BrokenStep sys a.o (bare (p ∷ q ∷ m))
                   broke k = (e, starts, bare m, heads, k, all)
 
                   either : GroupsOn sys a (moment h.3 e) (λ d more. Does sys a (moment h.3 e) (Done ∷ []) d more mid) m back (tell rel) ⊎ GroupsCut sys a (moment h.3 e) m
-                      → BrokenStep sys a.o true (bare (p ∷ q ∷ m)) ⊎ (back ≡ [])
+                      → BrokenStep sys a.o (bare (p ∷ q ∷ m)) ⊎ (back ≡ [])
                   either (inr k) = inl (broke k)
                   either (inl k) = by_more k.2 k.5 (k.7 ∙ ap (λ us. us ++ tell rel) (k.6.1 ∙ ap (λ us. Tell (plain item.Done) ∷ us) k.6.2.0)) k.8
                     where
                       by_more : (more : List Piece) → bare m ≡ k.0 ++ bare more → more ++ back ≡ Tell (plain item.Done) ∷ tell rel → AtPoint more back
-                          → BrokenStep sys a.o true (bare (p ∷ q ∷ m)) ⊎ (back ≡ [])
+                          → BrokenStep sys a.o (bare (p ∷ q ∷ m)) ⊎ (back ≡ [])
                       by_more [] is eq here = inl (broke (subst (λ us. BreaksOff sys a.o (Some e) true us) (sym is) (Plainly k.0 [] k.4 (Stops refl refl) refl)))
                       by_more (r ∷ n) is eq here = inr (by_back back eq here)
                         where
@@ -548,7 +551,7 @@ module _ (sys : System) (a : Actor) where
                           by_back [] eq here = refl
                           by_back (x ∷ xs) eq here = let wrong : r ∷ n ≡ [] = tells-cut (plain item.Done ∷ rel) (r ∷ n) x xs (sym eq) here in absurd (cc)
 
-          by_head : ((b.0 ≡ Unhandled) ⊎ ((s k : ℕ) × (b.0 ≡ Run s k))) → Does sys a (moment h.3 e) (b.0 ∷ (b.1 ++ (Done ∷ []))) c body mid → BrokenStep sys a.o true (bare (p ∷ f)) ⊎ (back ≡ [])
+          by_head : ((b.0 ≡ Unhandled) ⊎ ((s k : ℕ) × (b.0 ≡ Run s k))) → Does sys a (moment h.3 e) (b.0 ∷ (b.1 ++ (Done ∷ []))) c body mid → BrokenStep sys a.o (bare (p ∷ f)) ⊎ (back ≡ [])
           by_head (inl is) does =
               let note = subst (λ x. Does sys a (moment h.3 e) (x ∷ (b.1 ++ (Done ∷ []))) c body mid) is does in
               after_head item.Unhandled refl note.0 note.1 note.2
@@ -567,48 +570,48 @@ module _ (sys : System) (a : Actor) where
   nothing-after (x ∷ xs) ps end k = absurd k
 
   -- one step that is whole, and nothing behind it
-  one-step : (nils : Bool) (mid : Option Config) (one : List Told) → StepShape sys a.o true mid one → Turned sys a nils true one
+  one-step : (nils : Bool) (mid : Option Config) (one : List Told) → StepShape sys a.o mid one → Turned sys a nils one
   unfolding StepShape
-  one-step nils (Some d) one h = subst (λ us. Turned sys a nils true us) (append-nil one) (turn-more sys a nils true one [] h (no-turns sys a nils true))
-  one-step nils None one h = subst (λ us. Turned sys a nils true us) (append-nil one) (broken sys a nils true one [] h refl)
+  one-step nils (Some d) one h = subst (λ us. Turned sys a nils us) (append-nil one) (turn-more sys a nils one [] h (no-turns sys a nils))
+  one-step nils None one h = subst (λ us. Turned sys a nils us) (append-nil one) (broken sys a nils one [] h refl)
 
   -- steps that stopped at a point
   pub steps-cut : (nils : Bool) (es : List Entry) (c : Option Config) (ps : List Piece) (end : Option Config) (front back : List Piece) → Steps sys a es c ps end
-      → front ++ back ≡ ps → AtPoint front back → Turned sys a nils true (bare front)
+      → front ++ back ≡ ps → AtPoint front back → Turned sys a nils (bare front)
   unfolding Steps StepShape bare
   steps-cut nils [] c ps end front back h eq here =
-      subst (λ us. Turned sys a nils true (bare us)) (sym (empty-front front back (eq ∙ h.0))) (no-turns sys a nils true)
+      subst (λ us. Turned sys a nils (bare us)) (sym (empty-front front back (eq ∙ h.0))) (no-turns sys a nils)
   steps-cut nils (e ∷ es) None ps end front back h eq here = absurd h
   steps-cut nils (e ∷ es) (Some c) ps end front back h eq here =
       either (λ m k at_m. steps-cut nils es h.2 h.1 end m back h.5 k at_m) (split front back h.0 h.1 (eq ∙ h.3))
     where
-      inside : (front m : List Piece) → h.0 ≡ front ++ m → back ≡ m ++ h.1 → AtPoint front back → Turned sys a nils true (bare front)
+      inside : (front m : List Piece) → h.0 ≡ front ++ m → back ≡ m ++ h.1 → AtPoint front back → Turned sys a nils (bare front)
       inside front [] is behind here =
           let same : h.0 ≡ front = is ∙ append-nil front in
-          subst (λ us. Turned sys a nils true (bare us)) same (one-step nils h.2 (bare h.0) (step-shape sys a true e c h.0 h.2 h.4))
-      inside [] (q ∷ m) is behind here = no-turns sys a nils true
+          subst (λ us. Turned sys a nils (bare us)) same (one-step nils h.2 (bare h.0) (step-shape sys a e c h.0 h.2 h.4))
+      inside [] (q ∷ m) is behind here = no-turns sys a nils
       inside (p ∷ f) (q ∷ m) is behind here =
           let at_m : AtPoint (p ∷ f) (q ∷ m) = at-head (p ∷ f) q (m ++ h.1) m (subst (λ us. AtPoint (p ∷ f) us) behind here) in
           by_step (step-cut e c h.0 h.2 p f (q ∷ m) h.4 (sym is) at_m)
         where
-          by_step : BrokenStep sys a.o true (bare (p ∷ f)) ⊎ (q ∷ m ≡ []) → Turned sys a nils true (bare (p ∷ f))
+          by_step : BrokenStep sys a.o (bare (p ∷ f)) ⊎ (q ∷ m ≡ []) → Turned sys a nils (bare (p ∷ f))
           by_step (inl k) = one-step nils None (bare (p ∷ f)) k
           by_step (inr k) = absurd (cc)
 
-      outside : (mid : Option Config) → StepShape sys a.o true mid (bare h.0) → Steps sys a es mid h.1 end → (m : List Piece) → front ≡ h.0 ++ m → h.1 ≡ m ++ back
-          → Turned sys a nils true (bare m) → Turned sys a nils true (bare front)
+      outside : (mid : Option Config) → StepShape sys a.o mid (bare h.0) → Steps sys a es mid h.1 end → (m : List Piece) → front ≡ h.0 ++ m → h.1 ≡ m ++ back
+          → Turned sys a nils (bare m) → Turned sys a nils (bare front)
       outside (Some d) shape rest m is behind k =
-          subst (λ us. Turned sys a nils true us) (sym (ap bare is ∙ bare-append h.0 m)) (turn-more sys a nils true (bare h.0) (bare m) shape k)
+          subst (λ us. Turned sys a nils us) (sym (ap bare is ∙ bare-append h.0 m)) (turn-more sys a nils (bare h.0) (bare m) shape k)
       outside None shape rest m is behind k =
           let gone : m ≡ [] = empty-front m back (sym behind ∙ nothing-after es h.1 end rest) in
-          subst (λ us. Turned sys a nils true us) (sym (ap bare is ∙ bare-append h.0 m)) (broken sys a nils true (bare h.0) (bare m) shape (ap bare gone))
+          subst (λ us. Turned sys a nils us) (sym (ap bare is ∙ bare-append h.0 m)) (broken sys a nils (bare h.0) (bare m) shape (ap bare gone))
 
-      either : ((m : List Piece) → m ++ back ≡ h.1 → AtPoint m back → Turned sys a nils true (bare m))
-          → ((m : List Piece) × (h.0 ≡ front ++ m) × (back ≡ m ++ h.1)) ⊎ ((m : List Piece) × (front ≡ h.0 ++ m) × (h.1 ≡ m ++ back)) → Turned sys a nils true (bare front)
+      either : ((m : List Piece) → m ++ back ≡ h.1 → AtPoint m back → Turned sys a nils (bare m))
+          → ((m : List Piece) × (h.0 ≡ front ++ m) × (back ≡ m ++ h.1)) ⊎ ((m : List Piece) × (front ≡ h.0 ++ m) × (h.1 ≡ m ++ back)) → Turned sys a nils (bare front)
       either later (inl k) = inside front k.0 k.1 k.2 here
       either later (inr k) =
           let at_m : AtPoint k.0 back = at-append h.0 k.0 back (subst (λ us. AtPoint us back) k.1 here) in
-          outside h.2 (step-shape sys a true e c h.0 h.2 h.4) h.5 k.0 k.1 k.2 (later k.0 (sym k.2) at_m)
+          outside h.2 (step-shape sys a e c h.0 h.2 h.4) h.5 k.0 k.1 k.2 (later k.0 (sym k.2) at_m)
 
   -- a course that stopped at a point: its object hasn't started, or its records have the shape of an object's that broke off
   pub course-cut : (nils : Bool) (first : Config) (es : List Entry) (ps : List Piece) (end : Option Config) (front back : List Piece) → Course sys a first es ps end
@@ -617,8 +620,8 @@ module _ (sys : System) (a : Actor) where
   course-cut nils first es ps end front back h eq here = either (split front back h.0 h.1 (eq ∙ h.3))
     where
       whole : (mid : Option Config) → StartShape sys a.o mid (bare h.0) → ObjectGroups sys a.o nils true (bare h.0)
-      whole (Some d) shape = subst (λ us. ObjectGroups sys a.o nils true us) (append-nil (bare h.0)) (started sys a nils true (bare h.0) [] shape (no-turns sys a nils true))
-      whole None shape = inl shape
+      whole (Some d) shape = subst (λ us. ObjectGroups sys a.o nils true us) (append-nil (bare h.0)) (started sys a nils (bare h.0) [] shape (no-turns sys a nils))
+      whole None shape = inl (refl, shape)
 
       inside : (m : List Piece) → h.0 ≡ front ++ m → back ≡ m ++ h.1 → (bare front ≡ []) ⊎ ObjectGroups sys a.o nils true (bare front)
       inside [] is behind =
@@ -632,10 +635,10 @@ module _ (sys : System) (a : Actor) where
           → ObjectGroups sys a.o nils true (bare front)
       outside (Some d) shape rest m is behind at_m =
           subst (λ us. ObjectGroups sys a.o nils true us) (sym (ap bare is ∙ bare-append h.0 m))
-          (started sys a nils true (bare h.0) (bare m) shape (steps-cut nils es (Some d) h.1 end m back rest (sym behind) at_m))
+          (started sys a nils (bare h.0) (bare m) shape (steps-cut nils es (Some d) h.1 end m back rest (sym behind) at_m))
       outside None shape rest m is behind at_m =
           let gone : m ≡ [] = empty-front m back (sym behind ∙ nothing-after es h.1 end rest) in
-          subst (λ us. ObjectGroups sys a.o nils true us) (sym (ap bare is ∙ bare-append h.0 m ∙ ap (λ us. bare h.0 ++ bare us) gone ∙ append-nil (bare h.0))) (inl shape)
+          subst (λ us. ObjectGroups sys a.o nils true us) (sym (ap bare is ∙ bare-append h.0 m ∙ ap (λ us. bare h.0 ++ bare us) gone ∙ append-nil (bare h.0))) (inl (refl, shape))
 
       either : ((m : List Piece) × (h.0 ≡ front ++ m) × (back ≡ m ++ h.1)) ⊎ ((m : List Piece) × (front ≡ h.0 ++ m) × (h.1 ≡ m ++ back))
           → (bare front ≡ []) ⊎ ObjectGroups sys a.o nils true (bare front)
@@ -644,12 +647,12 @@ module _ (sys : System) (a : Actor) where
 
 -- what follows its chart has the groups of an object, with the same cut
 pub follows-groups : (sys : System) (d : ObjectDef) (nils : Bool) (cut : Cut) (ps : List Piece) → FollowsTo sys d cut ps → CutGroups sys d.priority nils cut (bare ps)
-unfolding FollowsTo Follows FollowsAs CutGroups
+unfolding FollowsTo Follows FollowsAs FollowsThrough FollowsThroughAs CutGroups
 follows-groups sys d nils Whole ps h = by_chart (chart_at sys d.chart) h
   where
-    by_chart : (o : Option Chart) → FollowsAs sys d o ps → ObjectGroups sys d.priority nils false (bare ps)
+    by_chart : (o : Option Chart) → FollowsThroughAs sys d o ps → ObjectGroups sys d.priority nils false (bare ps)
     by_chart None k = absurd k
-    by_chart (Some chart) k = course-shape sys (actor d chart) nils false (first_config d) k.0 ps k.1 k.2
+    by_chart (Some chart) k = course-whole sys (actor d chart) nils false (first_config d) k.1 k.0 ps k.2
 follows-groups sys d nils Stopped ps h = by_chart (chart_at sys d.chart) h.1
   where
     by_chart : (o : Option Chart) → FollowsAs sys d o (ps ++ h.0) → (bare ps ≡ []) ⊎ ObjectGroups sys d.priority nils true (bare ps)
@@ -659,4 +662,4 @@ follows-groups sys d nils Anywhere ps h = (bare h.0, inr (subst (λ us. ObjectGr
   where
     by_chart : (o : Option Chart) → FollowsAs sys d o (ps ++ h.0) → ObjectGroups sys d.priority nils true (bare (ps ++ h.0))
     by_chart None k = absurd k
-    by_chart (Some chart) k = course-shape sys (actor d chart) nils true (first_config d) k.0 (ps ++ h.0) k.1 k.2
+    by_chart (Some chart) k = course-shape sys (actor d chart) nils (first_config d) k.0 (ps ++ h.0) k.1 k.2

@@ -20,8 +20,9 @@ use Rattle.qp_model.specs.Pieces.{Piece, Point, bare, tell, pieces_of}
 use Rattle.qp_model.specs.Acts.{Config, Actor, Moment, Later, DoesCall, DoesDeed, DoesTask, Does, names_of}
 use Rattle.qp_model.specs.Step.{Step, StepRest, Closes, at_leaf, moment}
 use Rattle.qp_model.specs.Course.{Starts, Steps, Course, Follows, FollowsAs, FollowsTo, Cut, Whole, Stopped, Anywhere, at_start, actor, first_config, chart_at}
+use Rattle.qp_model.proofs.CourseLemmas.{through-follows}
 use Rattle.qp_model.proofs.GroupLemmas.{bare-append, bare-tell, bare-pieces_of}
-use Rattle.qp_model.proofs.FitsLemmas.{is_calm, is_deferral, is_other, Calm, Ending, Answers, fits-calm, calm-drops}
+use Rattle.qp_model.proofs.FitsLemmas.{is_calm, is_deferral, is_other, Calm, Ending, Answers, answer-assert, fits-calm, calm-drops}
 use Rattle.qp_model.specs.ObjectShape.{is_assert}
 
 -- the records of two lists, one after another
@@ -101,11 +102,11 @@ kept-calm room old (t ∷ g) h = by (is_calm t.body) refl h (kept-calm room old 
     by false is h go = absurd (cc)
     by true is h go = rw (keep-other room old t.body (calm-other t.body is)) (go h)
 
-kept-ending : (room : ℕ) (old : List Entry) (g : List Told) → Ending Calm g → kept_after room old g ≡ Some old
+kept-ending : (room : ℕ) (old : List Entry) (answer : Answer) (g : List Told) → Ending Calm answer g → kept_after room old g ≡ Some old
 unfolding Ending kept_after
-kept-ending room old g h =
+kept-ending room old answer g h =
     subst (λ us. kept_after room old us ≡ Some old) (sym h.4)
-    (kept-append room old old h.0 (h.1 ∷ []) (kept-calm room old h.0 h.2) ∙ one (keep-other room old h.1.body (assert-other h.1.body h.3)))
+    (kept-append room old old h.0 (h.1 ∷ []) (kept-calm room old h.0 h.2) ∙ one (keep-other room old h.1.body (assert-other h.1.body (answer-assert h.1.body answer h.3))))
   where
     one : keep room old h.1.body ≡ Some old → option_and_then (λ rest. kept_after room rest []) (keep room old h.1.body) ≡ Some old
     one e = rw e refl
@@ -119,8 +120,8 @@ call-kept sys a now x answer g old new fits keeps = by x refl keeps
     answered : (x : Call) → is_other x ≡ true → Fits sys a.o now x answer g → new ≡ old → kept_after a.room old g ≡ Some new
     answered x is fits same = either (is_assertion answer) (fits-calm sys a.o now x answer g is fits) ∙ ap Some (sym same)
       where
-        either : (b : Bool) → MatchBool b (Ending Calm g) (Calm g) → kept_after a.room old g ≡ Some old
-        either true h = kept-ending a.room old g h
+        either : (b : Bool) → MatchBool b (Ending Calm answer g) (Calm g) → kept_after a.room old g ≡ Some old
+        either true h = kept-ending a.room old answer g h
         either false h = kept-calm a.room old g h
 
     by : (y : Call) → x ≡ y → KeepsDeferred a.room y g old new → kept_after a.room old g ≡ Some new
@@ -307,6 +308,6 @@ follows-deferral sys d cut ps h = by cut h
         (subst (λ us. is_some (kept_after d.defer [] us) ≡ true) (bare-append ps back) (by_chart (chart_at sys d.chart) (ps ++ back) k))
 
     by : (cut : Cut) → FollowsTo sys d cut ps → is_some (kept_after d.defer [] (bare ps)) ≡ true
-    by Whole k = by_chart (chart_at sys d.chart) ps k
+    by Whole k = by_chart (chart_at sys d.chart) ps (through-follows sys d ps k)
     by Stopped k = longer k.0 k.1
     by Anywhere k = longer k.0 k.1

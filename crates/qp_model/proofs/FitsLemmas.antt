@@ -9,7 +9,8 @@ use Rattle.qp_model.specs.declared.bodies.Body.TheVariants as item
 use Rattle.qp_model.specs.Told.{Told, plain}
 use Rattle.qp_model.specs.Calls as call
 use Rattle.qp_model.specs.Calls.{Call, Answer, Granted, Refused, Flushed, AtQueue, AtPool, AtTimer, AtTicks, AtFront, is_assertion}
-use Rattle.qp_model.specs.Shapes.{Fits, MakesBlock, MakesNew, again_by, MakesAgain, MakesAgainNow, Posts, PostsFront, PostsNew, PostsNewFront, Forwards, PostsOne, PostsToAll, PostsUpTo, NoBlockFor, Drops, releases_by, Releases, Flushes, Publishes, PublishesFirst, PublishesLast, raising, restoring, Defers, Recalls, Subscribes, Unsubscribes, Arms, Rearms, Disarms}
+use Rattle.qp_model.specs.Parts.{timer_number}
+use Rattle.qp_model.specs.Shapes.{Fits, FitsAny, MakesBlock, MakesNew, again_by, MakesAgain, MakesAgainNow, Posts, PostsFront, PostsNew, PostsNewFront, Forwards, PostsOne, PostsToAll, PostsUpTo, NoBlockFor, Drops, releases_by, Releases, Flushes, Publishes, PublishesFirst, PublishesLast, raising, restoring, Defers, Recalls, Subscribes, Unsubscribes, Arms, Rearms, Disarms}
 use Rattle.qp_model.specs.ObjectShape.{is_assert}
 
 -- a record of a call that is neither deferral nor an assertion
@@ -123,18 +124,35 @@ unfolding MakesNew MakesBlock is_calm
 calm-new true sizes sig pars reserve head e h = rw h.0 refl
 calm-new false sizes sig pars reserve head e h = rw h.6 refl
 
--- the records end in an assertion, and those before it are so
-unfoldable pub Ending : (List Told → Type 0) → List Told → Type 0
-Ending P g = (front : List Told) × (t : Told) × P front × (is_assert t.body ≡ true) × (g ≡ front ++ (t ∷ []))
+-- the answer that an assertion is
+abbrev pub assertion_of : Body → Option Answer
+assertion_of (item.NoEntry a f l m) = Some AtQueue
+assertion_of (item.NoBlock p n free) = Some AtPool
+assertion_of (item.Armed t n c) = Some AtTimer
+assertion_of (item.BadTicks t ticks interval) = Some AtTicks
+assertion_of (item.NoLifo a f l m) = Some AtFront
+assertion_of _ = None
+
+pub answer-assert : (b : Body) (answer : Answer) → assertion_of b ≡ Some answer → is_assert b ≡ true
+answer-assert (item.NoEntry a f l m) answer h = refl
+answer-assert (item.NoBlock p n free) answer h = refl
+answer-assert (item.Armed t n c) answer h = refl
+answer-assert (item.BadTicks t ticks interval) answer h = refl
+answer-assert (item.NoLifo a f l m) answer h = refl
+answer-assert _ answer h = absurd (cc)
+
+-- the records end in the answer's assertion, and those before it are so
+unfoldable pub Ending : (List Told → Type 0) → Answer → List Told → Type 0
+Ending P answer g = (front : List Told) × (t : Told) × P front × (assertion_of t.body ≡ Some answer) × (g ≡ front ++ (t ∷ []))
 
 -- an answer's records: calm, or calm up to an assertion
 unfoldable pub Answers : (List Told → Type 0) → Answer → List Told → Type 0
 unfolding Ending
-Answers P answer g = MatchBool (is_assertion answer) (Ending P g) (P g)
+Answers P answer g = MatchBool (is_assertion answer) (Ending P answer g) (P g)
 
 no_block-calm : (fixed : Bool) (sizes pars : List ℕ) (reserve : Option ℕ) (answer : Answer) (g : List Told) → NoBlockFor fixed sizes pars reserve answer g → Answers Calm answer g
 unfolding NoBlockFor Answers Ending is_calm
-no_block-calm fixed sizes pars None AtPool g h = ([], plain (item.NoBlock h.0 h.1), refl, refl, h.4)
+no_block-calm fixed sizes pars None AtPool g h = ([], plain (item.NoBlock h.0 h.1 h.2), refl, refl, h.5)
 no_block-calm fixed sizes pars (Some r) Refused g h = rw h.5 refl
 no_block-calm fixed sizes pars None Granted g h = absurd h
 no_block-calm fixed sizes pars None Refused g h = absurd h
@@ -191,19 +209,20 @@ all-calm rings e [] g h = rw h refl
 all-calm rings e (to ∷ others) g h = calm-same h.2 (calm-append h.0 h.1 (post_one-calm (rings to) e to Granted h.0 h.3) (all-calm rings e others h.1 h.4))
 
 -- records before those that end in an assertion
-ending-before : (P : List Told → Type 0) (more : (g h : List Told) → P g → P h → P (g ++ h)) (g h : List Told) → P g → Ending P h → Ending P (g ++ h)
+ending-before : (P : List Told → Type 0) (more : (g h : List Told) → P g → P h → P (g ++ h)) (answer : Answer) (g h : List Told) → P g
+    → Ending P answer h → Ending P answer (g ++ h)
 unfolding Ending
-ending-before P more g h a k = (g ++ k.0, k.1, more g k.0 a k.2, k.3, ap (λ us. g ++ us) k.4 ∙ sym (append_assoc g k.0 (k.1 ∷ [])))
+ending-before P more answer g h a k = (g ++ k.0, k.1, more g k.0 a k.2, k.3, ap (λ us. g ++ us) k.4 ∙ sym (append_assoc g k.0 (k.1 ∷ [])))
 
-ending-same : (P : List Told → Type 0) {g h : List Told} → g ≡ h → Ending P h → Ending P g
-ending-same P e k = subst (λ us. Ending P us) (sym e) k
+ending-same : (P : List Told → Type 0) (answer : Answer) {g h : List Told} → g ≡ h → Ending P answer h → Ending P answer g
+ending-same P answer e k = subst (λ us. Ending P answer us) (sym e) k
 
-up_to-calm : (rings : ℕ → ℕ) (e : Entry) (ms : List ℕ) (g : List Told) → PostsUpTo rings e ms g → Ending Calm g
+up_to-calm : (rings : ℕ → ℕ) (e : Entry) (ms : List ℕ) (g : List Told) → PostsUpTo rings e ms g → Ending Calm AtQueue g
 unfolding PostsUpTo Answers
 up_to-calm rings e [] g h = absurd h
 up_to-calm rings e (to ∷ others) g (inl h) = post_one-calm (rings to) e to AtQueue g h
 up_to-calm rings e (to ∷ others) g (inr h) =
-    ending-same Calm h.2 (ending-before Calm calm-append h.0 h.1 (post_one-calm (rings to) e to Granted h.0 h.3) (up_to-calm rings e others h.1 h.4))
+    ending-same Calm AtQueue h.2 (ending-before Calm calm-append AtQueue h.0 h.1 (post_one-calm (rings to) e to Granted h.0 h.3) (up_to-calm rings e others h.1 h.4))
 
 first-calm : (fixed : Bool) (sizes : List ℕ) (o sig : ℕ) (pars : List ℕ) (reserve : Option ℕ) (e : Entry) (former : ℕ) (ms : List ℕ) (g : List Told)
     → PublishesFirst fixed sizes o sig pars reserve e former ms g → Calm g
@@ -231,7 +250,7 @@ unfolding Publishes Answers
 publishes-calm fixed sizes rings o sig pars reserve Granted g h =
     calm-same h.9 (calm-append h.3 (h.4 ++ h.5) (first-calm fixed sizes o sig pars reserve h.0 h.1 h.2 h.3 h.6) (calm-append h.4 h.5 (all-calm rings h.0 h.2 h.4 h.7) (last-calm o h.0 h.1 h.2 h.5 h.8)))
 publishes-calm fixed sizes rings o sig pars reserve AtQueue g h =
-    ending-same Calm h.7 (ending-before Calm calm-append h.3 h.4 (first-calm fixed sizes o sig pars reserve h.0 h.1 h.2 h.3 h.5) (up_to-calm rings h.0 h.2 h.4 h.6))
+    ending-same Calm AtQueue h.7 (ending-before Calm calm-append AtQueue h.3 h.4 (first-calm fixed sizes o sig pars reserve h.0 h.1 h.2 h.3 h.5) (up_to-calm rings h.0 h.2 h.4 h.6))
 publishes-calm fixed sizes rings o sig pars reserve Refused g h = no_block-calm fixed sizes pars reserve Refused g h
 publishes-calm fixed sizes rings o sig pars reserve (Flushed n) g h = no_block-calm fixed sizes pars reserve (Flushed n) g h
 publishes-calm fixed sizes rings o sig pars reserve AtPool g h = no_block-calm fixed sizes pars reserve AtPool g h
@@ -239,9 +258,42 @@ publishes-calm fixed sizes rings o sig pars reserve AtTimer g h = no_block-calm 
 publishes-calm fixed sizes rings o sig pars reserve AtTicks g h = no_block-calm fixed sizes pars reserve AtTicks g h
 publishes-calm fixed sizes rings o sig pars reserve AtFront g h = no_block-calm fixed sizes pars reserve AtFront g h
 
+arms-calm : (t ticks interval : ℕ) (answer : Answer) (g : List Told) → Arms t ticks interval answer g → Answers Calm answer g
+unfolding Arms Answers Ending is_calm
+arms-calm t ticks interval Granted g h = rw h.1 refl
+arms-calm t ticks interval AtTimer g h = ([], plain (item.Armed t h.0 h.1), refl, refl, h.2)
+arms-calm t ticks interval AtTicks g h = ([], plain (item.BadTicks t ticks interval), refl, refl, h)
+arms-calm t ticks interval Refused g h = absurd h
+arms-calm t ticks interval (Flushed n) g h = absurd h
+arms-calm t ticks interval AtQueue g h = absurd h
+arms-calm t ticks interval AtPool g h = absurd h
+arms-calm t ticks interval AtFront g h = absurd h
+
+rearms-calm : (t ticks : ℕ) (answer : Answer) (g : List Told) → Rearms t ticks answer g → Answers Calm answer g
+unfolding Rearms Answers Ending is_calm
+rearms-calm t ticks Granted g h = rw h.2 refl
+rearms-calm t ticks Refused g h = rw h.1 refl
+rearms-calm t ticks AtTicks g h = ([], plain (item.BadTicks t ticks 0), refl, refl, h)
+rearms-calm t ticks (Flushed n) g h = absurd h
+rearms-calm t ticks AtQueue g h = absurd h
+rearms-calm t ticks AtPool g h = absurd h
+rearms-calm t ticks AtTimer g h = absurd h
+rearms-calm t ticks AtFront g h = absurd h
+
+disarms-calm : (t : ℕ) (answer : Answer) (g : List Told) → Disarms t answer g → Answers Calm answer g
+unfolding Disarms Answers is_calm
+disarms-calm t Granted g h = rw h.2 refl
+disarms-calm t Refused g h = rw h.1 refl
+disarms-calm t (Flushed n) g h = absurd h
+disarms-calm t AtQueue g h = absurd h
+disarms-calm t AtPool g h = absurd h
+disarms-calm t AtTimer g h = absurd h
+disarms-calm t AtTicks g h = absurd h
+disarms-calm t AtFront g h = absurd h
+
 -- a call that is no matter of the deferred list leaves calm records, up to an assertion
 pub fits-calm : (sys : System) (o : ℕ) (now : Option Entry) (x : Call) (answer : Answer) (g : List Told) → is_other x ≡ true → Fits sys o now x answer g → Answers Calm answer g
-unfolding Fits PostsNew PostsNewFront Forwards Subscribes Unsubscribes Arms Rearms Disarms Answers Ending is_calm is_other
+unfolding Fits PostsNew PostsNewFront Forwards Subscribes Unsubscribes Answers is_calm is_other
 fits-calm sys o now (call.Post to sig pars margin reserve) answer g is (inl h) = no_block-calm _ _ pars reserve answer g h
 fits-calm sys o now (call.Post to sig pars margin reserve) answer g is (inr h) = posts-calm _ to margin h.0 h.1 answer g (calm-new _ _ sig pars reserve h.0 h.1 h.2) h.3
 fits-calm sys o now (call.Lifo sig pars reserve) answer g is (inl h) = no_block-calm _ _ pars reserve answer g h
@@ -255,14 +307,9 @@ fits-calm sys o now (call.Subscribe sig) Granted g is h = rw h.1 refl
 fits-calm sys o now (call.Subscribe sig) Refused g is h = rw h.1 refl
 fits-calm sys o now (call.Unsubscribe sig) Granted g is h = rw h.1 refl
 fits-calm sys o now (call.Unsubscribe sig) Refused g is h = rw h.1 refl
-fits-calm sys o now (call.Arm t ticks interval) Granted g is h = rw h.1 refl
-fits-calm sys o now (call.Arm t ticks interval) AtTimer g is h = ([], plain (item.Armed _ h.0 h.1), refl, refl, h.2)
-fits-calm sys o now (call.Arm t ticks interval) AtTicks g is h = ([], plain (item.BadTicks _ ticks interval), refl, refl, h.0)
-fits-calm sys o now (call.Rearm t ticks) Granted g is h = rw h.2 refl
-fits-calm sys o now (call.Rearm t ticks) Refused g is h = rw h.1 refl
-fits-calm sys o now (call.Rearm t ticks) AtTicks g is h = ([], plain (item.BadTicks _ ticks 0), refl, refl, h.0)
-fits-calm sys o now (call.Disarm t) Granted g is h = rw h.2 refl
-fits-calm sys o now (call.Disarm t) Refused g is h = rw h.1 refl
+fits-calm sys o now (call.Arm t ticks interval) answer g is h = arms-calm _ ticks interval answer g h.0
+fits-calm sys o now (call.Rearm t ticks) answer g is h = rearms-calm _ ticks answer g h.0
+fits-calm sys o now (call.Disarm t) answer g is h = disarms-calm _ answer g h
 fits-calm sys o now (call.Subscribe sig) (Flushed n) g is h = absurd h
 fits-calm sys o now (call.Subscribe sig) AtQueue g is h = absurd h
 fits-calm sys o now (call.Subscribe sig) AtPool g is h = absurd h
@@ -275,33 +322,17 @@ fits-calm sys o now (call.Unsubscribe sig) AtPool g is h = absurd h
 fits-calm sys o now (call.Unsubscribe sig) AtTimer g is h = absurd h
 fits-calm sys o now (call.Unsubscribe sig) AtTicks g is h = absurd h
 fits-calm sys o now (call.Unsubscribe sig) AtFront g is h = absurd h
-fits-calm sys o now (call.Arm t ticks interval) Refused g is h = absurd h
-fits-calm sys o now (call.Arm t ticks interval) (Flushed n) g is h = absurd h
-fits-calm sys o now (call.Arm t ticks interval) AtQueue g is h = absurd h
-fits-calm sys o now (call.Arm t ticks interval) AtPool g is h = absurd h
-fits-calm sys o now (call.Arm t ticks interval) AtFront g is h = absurd h
-fits-calm sys o now (call.Rearm t ticks) (Flushed n) g is h = absurd h
-fits-calm sys o now (call.Rearm t ticks) AtQueue g is h = absurd h
-fits-calm sys o now (call.Rearm t ticks) AtPool g is h = absurd h
-fits-calm sys o now (call.Rearm t ticks) AtTimer g is h = absurd h
-fits-calm sys o now (call.Rearm t ticks) AtFront g is h = absurd h
-fits-calm sys o now (call.Disarm t) (Flushed n) g is h = absurd h
-fits-calm sys o now (call.Disarm t) AtQueue g is h = absurd h
-fits-calm sys o now (call.Disarm t) AtPool g is h = absurd h
-fits-calm sys o now (call.Disarm t) AtTimer g is h = absurd h
-fits-calm sys o now (call.Disarm t) AtTicks g is h = absurd h
-fits-calm sys o now (call.Disarm t) AtFront g is h = absurd h
 
-ending-usual : (g : List Told) → Ending Calm g → Ending Usual g
+ending-usual : (answer : Answer) (g : List Told) → Ending Calm answer g → Ending Usual answer g
 unfolding Ending
-ending-usual g h = (h.0, h.1, usual h.0 h.2, h.3, h.4)
+ending-usual answer g h = (h.0, h.1, usual h.0 h.2, h.3, h.4)
 
 answers-usual : (answer : Answer) (g : List Told) → Answers Calm answer g → Answers Usual answer g
 unfolding Answers
 answers-usual answer g h = by (is_assertion answer) h
   where
-    by : (b : Bool) → MatchBool b (Ending Calm g) (Calm g) → MatchBool b (Ending Usual g) (Usual g)
-    by true h = ending-usual g h
+    by : (b : Bool) → MatchBool b (Ending Calm answer g) (Calm g) → MatchBool b (Ending Usual answer g) (Usual g)
+    by true h = ending-usual answer g h
     by false h = usual g h
 
 defers-usual : (now : Option Entry) (answer : Answer) (g : List Told) → Defers now answer g → Answers Usual answer g
@@ -323,8 +354,8 @@ recalls-usual o Granted g h =
     (usual-append h.3 h.4 (usual h.3 (front-calm o h.2 h.1 Granted h.3 (calm-again h.0 h.2 h.1 h.5) h.6)) (usual h.4 (calm-drops h.0 h.4 h.7))))
 recalls-usual o Refused g h = rw h refl
 recalls-usual o AtFront g h =
-    ending-same Usual h.6
-    (ending-before Usual usual-append (plain (item.Recall h.0) ∷ []) h.3 refl (ending-usual h.3 (front-calm o h.2 h.1 AtFront h.3 (calm-again h.0 h.2 h.1 h.4) h.5)))
+    ending-same Usual AtFront h.6
+    (ending-before Usual usual-append AtFront (plain (item.Recall h.0) ∷ []) h.3 refl (ending-usual AtFront h.3 (front-calm o h.2 h.1 AtFront h.3 (calm-again h.0 h.2 h.1 h.4) h.5)))
 recalls-usual o (Flushed n) g h = absurd h
 recalls-usual o AtQueue g h = absurd h
 recalls-usual o AtPool g h = absurd h
@@ -359,3 +390,20 @@ fits-usual sys o now (call.Unsubscribe sig) answer g h = answers-usual answer g 
 fits-usual sys o now (call.Arm t ticks interval) answer g h = answers-usual answer g (fits-calm sys o now (call.Arm t ticks interval) answer g refl h)
 fits-usual sys o now (call.Rearm t ticks) answer g h = answers-usual answer g (fits-calm sys o now (call.Rearm t ticks) answer g refl h)
 fits-usual sys o now (call.Disarm t) answer g h = answers-usual answer g (fits-calm sys o now (call.Disarm t) answer g refl h)
+
+-- the same of a shape
+pub any-usual : (sys : System) (o : ℕ) (now : Option Entry) (x : Call) (answer : Answer) (g : List Told) → FitsAny sys o now x answer g → Answers Usual answer g
+unfolding FitsAny
+any-usual sys o now (call.Arm t ticks interval) answer g h = answers-usual answer g (arms-calm t ticks interval answer g h)
+any-usual sys o now (call.Rearm t ticks) answer g h = answers-usual answer g (rearms-calm t ticks answer g h)
+any-usual sys o now (call.Disarm t) answer g h = answers-usual answer g (disarms-calm t answer g h)
+any-usual sys o now x answer g h = fits-usual sys o now x answer g h
+
+-- what fits a call is a shape, of the call that names its time event by the number in the system
+pub fits-any : (sys : System) (o : ℕ) (now : Option Entry) (x : Call) (answer : Answer) (g : List Told) → Fits sys o now x answer g
+    → (y : Call) × FitsAny sys o now y answer g
+unfolding Fits FitsAny
+fits-any sys o now (call.Arm t ticks interval) answer g h = (call.Arm (timer_number sys.timers o t) ticks interval, h.0)
+fits-any sys o now (call.Rearm t ticks) answer g h = (call.Rearm (timer_number sys.timers o t) ticks, h.0)
+fits-any sys o now (call.Disarm t) answer g h = (call.Disarm (timer_number sys.timers o t), h)
+fits-any sys o now x answer g h = (x, h)

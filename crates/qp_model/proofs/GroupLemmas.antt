@@ -10,12 +10,22 @@ use Rattle.qp_model.specs.declared.bodies.Body.TheVariants as item
 use Rattle.qp_model.specs.Told.{Told, plain, raised}
 use Rattle.qp_model.specs.Calls as call
 use Rattle.qp_model.specs.Calls.{Call, Answer, Deed, Sets, Says, Calls, deed_of, ok_after, is_assertion}
+use Rattle.qp_model.specs.Shapes.{Fits}
 use Rattle.qp_model.specs.Pieces.{Piece, Tell, Point, bare, tell, piece_of, with_points, pieces_of}
 use Rattle.qp_model.specs.Acts.{Config, Actor, Moment, Later, DoesCall, DoesDeed, DoesTask, Does, names_of}
 use Rattle.qp_model.specs.Sequence.{Sequence, EachPart}
 use Rattle.qp_model.specs.Groups.{IsAction, SaysValue, MakesCall, Actions, IsGroup, IsMove, IsAct, IsLocked, Groups, IsLast, Asserts, BreaksOff, Plainly, UnderCeiling}
 use Rattle.qp_model.proofs.SequenceLemmas.{sequence-none, sequence-one, sequence-append}
+use Rattle.qp_model.proofs.FitsLemmas.{fits-any}
 use Rattle.qp_model.proofs.BlockLemmas.{Block, Exits, Enters, Inits, Acts, Locks, spread}
+
+-- the records of a call are an action, or what stands last
+pub call-action : (sys : System) (o : ℕ) (now : Option Entry) (x : Call) (answer : Answer) (g : List Told) → Fits sys o now x answer g → is_assertion answer ≡ false → IsAction sys o now g
+call-action sys o now x answer g h is = let any = fits-any sys o now x answer g h in MakesCall any.0 answer any.1 is
+
+pub call-asserts : (sys : System) (o : ℕ) (now : Option Entry) (stops : Bool) (x : Call) (answer : Answer) (g : List Told) → Fits sys o now x answer g → is_assertion answer ≡ true
+    → IsLast sys o now stops g
+call-asserts sys o now stops x answer g h is = let any = fits-any sys o now x answer g h in Asserts any.0 answer any.1 is
 
 pub bare-append : (ps qs : List Piece) → bare (ps ++ qs) ≡ bare ps ++ bare qs
 unfolding bare
@@ -85,13 +95,13 @@ module _ (sys : System) (a : Actor) (at : Moment) (stops : Bool) where
           → MatchBool b ((ps ≡ pieces_of x h.1) × failed) ((rest : List Piece) × (ps ≡ pieces_of x h.1 ++ (Point ∷ rest)) × later (record c { ok = ok_after h.0 c.ok; kept = h.2 }) rest)
           → ActionsThen c later ps ⊎ ActionsFail failed ps
       by_assertion true is k =
-          inr ([], h.1, sequence-none (IsAction sys a.o at.entry), Asserts x h.0 h.3 is, ap bare k.0 ∙ bare-pieces_of x h.1, k.1)
+          inr ([], h.1, sequence-none (IsAction sys a.o at.entry), call-asserts sys a.o at.entry stops x h.0 h.1 h.3 is, ap bare k.0 ∙ bare-pieces_of x h.1, k.1)
       by_assertion false is k =
           inl (
             h.1,
             record c { ok = ok_after h.0 c.ok; kept = h.2 },
             k.0,
-            sequence-one (IsAction sys a.o at.entry) h.1 (MakesCall x h.0 h.3 is),
+            sequence-one (IsAction sys a.o at.entry) h.1 (call-action sys a.o at.entry x h.0 h.1 h.3 is),
             refl,
             ap bare k.1 ∙ bare-append (pieces_of x h.1) (Point ∷ k.0) ∙ ap (λ ts. ts ++ bare k.0) (bare-pieces_of x h.1),
             k.2,

@@ -1,5 +1,5 @@
 -- In `port` an object takes in its own lane alone.
-use Rattle.std.proofs.Common.{◌≡◌, ◌≢◌, ℕ, suc, ◌+◌, ◌<◌, ◌==◌, nat_lt, nat_le, Bool, true, false, not, ◌&&◌, ◌||◌, cond, List, [], ◌∷◌, ◌++◌, length, drop, refl, sym, ◌∙◌, ap, subst, Some, append_assoc, append-nil, arith, length-append}
+use Rattle.std.proofs.Common.{◌≡◌, ◌≢◌, ℕ, suc, ◌+◌, ◌<◌, ◌==◌, nat_lt, Bool, true, false, not, ◌&&◌, ◌||◌, cond, List, [], ◌∷◌, ◌++◌, length, drop, refl, sym, ◌∙◌, ap, subst, Some, append_assoc, append-nil, arith, length-append}
 use Rattle.std.specs.Option.{unwrap_or, is_some}
 use Rattle.std.specs.List.{filter, find, position, prefix_len, slice_get, AllByRecursion}
 use Rattle.std.proofs.lemmas.Bool.Decides.{nat_tests}
@@ -14,12 +14,19 @@ use Rattle.qp_model.specs.declared.bodies.Body.TheVariants as body
 use Rattle.qp_model.specs.Record.{Item}
 use Rattle.qp_model.specs.History.{lane_items, all_items}
 use Rattle.qp_model.specs.Kernels.{port}
-use Rattle.qp_model.specs.Home.{lane_at, home_of}
+use Rattle.qp_model.specs.Knowing.{Facts}
+use Rattle.qp_model.specs.Home.{lane_at, home_of, by_object, own_items, home_records}
+use Rattle.qp_model.specs.Ends.{may_cut}
 use Rattle.qp_model.specs.HomeLane.{is_at_home, are_at_home, taken_by, is_home_lane}
 use Rattle.qp_model.specs.Lawful.{ObjectHolds, SourceLanes}
 use Rattle.qp_model.specs.Laws.{Ascend}
 use Rattle.qp_model.proofs.ListLemmas.{both_true}
 use Rattle.qp_model.proofs.TakenLemmas.{is_taking, takes_for, drop-head, none-in-sources}
+
+-- under a kernel the records for an object's shape are its records
+pub home_records-kernel : (w : Facts) (j : Journal) (o : ℕ) → (j.kernel == port) ≡ false → home_records w j o ≡ by_object w j o
+unfolding home_records by_object own_items
+home_records-kernel w j o is = rw is refl
 
 prefix-front : {A : Type 0} (p : A → Bool) (front : List A) (d : A) (rest : List A) → AllByRecursion (λ x. p x ≡ false) front → p d ≡ true → prefix_len (λ x. not (p x)) (front ++ d ∷ rest) ≡ length front
 prefix-front p [] d rest h here = rw here refl
@@ -36,29 +43,30 @@ position-front p front d rest h here =
     rw test (ap (λ n. Some n) at)
 
 -- a list of home lanes takes nothing for another object
-at_home-takes : (o p of : ℕ) (spent : Bool) (b : Body) → p ≢ o → is_at_home p spent of b ≡ true → ((of == o) && is_taking b) ≡ false
-at_home-takes o p of spent (body.Took f l m e) other h =
+at_home-takes : (o p of : ℕ) (spent cut : Bool) (b : Body) → p ≢ o → is_at_home p spent cut of b ≡ true → ((of == o) && is_taking b) ≡ false
+at_home-takes o p of spent cut (body.Took f l m e) other h =
     let of_it : of ≡ p = grind (arith, nat_tests, h) in
     let no : (of == o) ≡ false = rw of_it (differs o p other) in
     rw no refl
   where
     differs : (o p : ℕ) → p ≢ o → (p == o) ≡ false
     differs o p other = grind (arith, nat_tests, other)
-at_home-takes o p of spent _ other h = nothing (of == o)
+at_home-takes o p of spent cut _ other h = nothing (of == o)
   where
     nothing : (b : Bool) → (b && false) ≡ false
     nothing true = refl
     nothing false = refl
 
-none-at-home : (o p budget n : ℕ) (is : List Item) → p ≢ o → are_at_home p budget n is ≡ true → filter (takes_for o) is ≡ []
+none-at-home : (o p budget : ℕ) (cuts : Bool) (n : ℕ) (is : List Item) → p ≢ o → are_at_home p budget cuts n is ≡ true → filter (takes_for o) is ≡ []
 unfolding are_at_home
-none-at-home o p budget n [] other h = refl
-none-at-home o p budget n (i ∷ is) other h =
-    rw (at_home-takes o p i.of (nat_le budget n) i.body other (both_true _ _ h).0) (none-at-home o p budget (taken_by n i.body) is other (both_true _ _ h).1)
+none-at-home o p budget cuts n [] other h = refl
+none-at-home o p budget cuts n (i ∷ is) other h =
+    rw (at_home-takes o p i.of (n == budget) (cuts && (length is == 0)) i.body other (both_true _ _ h).0)
+    (none-at-home o p budget cuts (taken_by n i.body) is other (both_true _ _ h).1)
 
-none-home : (o p budget : ℕ) (is : List Item) → p ≢ o → is_home_lane p budget is ≡ true → filter (takes_for o) is ≡ []
+none-home : (o p budget : ℕ) (cuts : Bool) (is : List Item) → p ≢ o → is_home_lane p budget cuts is ≡ true → filter (takes_for o) is ≡ []
 unfolding is_home_lane
-none-home o p budget is other h = none-at-home o p budget 0 is other (both_true _ _ (both_true _ _ h).0).0
+none-home o p budget cuts is other h = none-at-home o p budget cuts 0 is other (both_true _ _ (both_true _ _ h).0).0
 
 -- those of the front are below each of these
 abbrev pub AreBelow : List ObjectDef → List ObjectDef → Type 0
@@ -97,10 +105,10 @@ module _ (sys : System) (j : Journal) (is_port : j.kernel ≡ port) where
     -- where the object isn't o, its lane takes nothing for o
     lane-takes : (d : ObjectDef) (l : List Rec) → lane_at j (home_of sys j d.priority) ≡ l → d.priority ≢ o → ObjectHolds sys j d → filter (takes_for o) (lane_items l) ≡ []
     lane-takes d l home other holds =
-        let asked : (not (j.kernel == port) || is_home_lane d.priority j.budget (lane_items (lane_at j (home_of sys j d.priority)))) ≡ true = holds.shapes.home in
-        let there : (not (port == port) || is_home_lane d.priority j.budget (lane_items (lane_at j (home_of sys j d.priority)))) ≡ true =
-        subst (λ k. (not (k == port) || is_home_lane d.priority j.budget (lane_items (lane_at j (home_of sys j d.priority)))) ≡ true) is_port asked in
-        none-home o d.priority j.budget (lane_items l) other (subst (λ x. is_home_lane d.priority j.budget (lane_items x) ≡ true) home there)
+        let asked : (not (j.kernel == port) || is_home_lane d.priority j.budget (may_cut j.end) (lane_items (lane_at j (home_of sys j d.priority)))) ≡ true = holds.shapes.home in
+        let there : (not (port == port) || is_home_lane d.priority j.budget (may_cut j.end) (lane_items (lane_at j (home_of sys j d.priority)))) ≡ true =
+        subst (λ k. (not (k == port) || is_home_lane d.priority j.budget (may_cut j.end) (lane_items (lane_at j (home_of sys j d.priority)))) ≡ true) is_port asked in
+        none-home o d.priority j.budget (may_cut j.end) (lane_items l) other (subst (λ x. is_home_lane d.priority j.budget (may_cut j.end) (lane_items x) ≡ true) home there)
 
     -- from the lane of the next object on, where none of these is o
     none-in-homes : (front ds : List ObjectDef) (n : ℕ) (ls : List (List Rec)) → front ++ ds ≡ sys.objects → n ≡ length front + 1 → drop n j.lanes ≡ ls

@@ -1,5 +1,6 @@
 -- What is known beside a record stays when a record is added: the records are xs ++ ys before it, and xs ++ i ∷ ys after it.
-use Rattle.std.proofs.Common.{◌≡◌, ℕ, suc, ◌+◌, ◌<◌, ◌≤◌, ◌==◌, nat_le, Bool, true, false, ◌&&◌, cond, List, [], ◌∷◌, ◌++◌, length, take, refl, sym, ◌∙◌, ap, subst, ◌⊎◌, inl, inr, Option, Some, None, arith, length-append}
+use Rattle.std.proofs.Common.{◌≡◌, ℕ, suc, ◌+◌, ◌<◌, ◌≤◌, ◌==◌, nat_le, Bool, true, false, ◌&&◌, cond, List, [], ◌∷◌, ◌++◌, length, take, refl, sym, ◌∙◌, ap, subst, ◌⊎◌, inl, inr, Option, Some, None, arith, length-append, nat_lt}
+use Rattle.std.specs.List.{filter}
 use Rattle.std.proofs.lemmas.List.{take-append-le}
 use Rattle.std.proofs.lemmas.Bool.Decides.{nat_tests}
 use Rattle.qp_chart.specs.StateTree.{has}
@@ -8,37 +9,20 @@ use Rattle.qp_model.specs.declared.words.Word.{Word}
 use Rattle.qp_model.specs.declared.words.Word.TheVariants as word
 use Rattle.qp_model.specs.declared.bodies.Entry.{Entry}
 use Rattle.qp_model.specs.declared.bodies.Body.{Body}
-use Rattle.qp_model.specs.declared.bodies.Body.TheVariants.{Took, New, Dec, Same}
+use Rattle.qp_model.specs.declared.bodies.Body.TheVariants.{Took, New, Dec, Back, Same}
 use Rattle.qp_model.specs.Record.{Item}
-use Rattle.qp_model.specs.Told.{Event, Free, Left, Member}
+use Rattle.qp_model.specs.Told.{Event, Free, Left, Member, for_object}
 use Rattle.qp_model.specs.History.{touch, Draws, same_word, drawn_on, drawn_as, total, hist, is_numbered}
 use Rattle.qp_model.specs.Machine.{after}
 use Rattle.qp_model.specs.FreeBlocks.{free_blocks}
 use Rattle.qp_model.specs.References.{references}
 use Rattle.qp_model.specs.Subscribers.{subscribers}
 use Rattle.qp_model.specs.Sites.{blocks_of}
-use Rattle.qp_model.specs.Knowing.{Facts, free_before, left_after, set_at, given_by, last_given, event_of, event_known, known_of, told, ceiling_after, records_of}
+use Rattle.qp_model.specs.Knowing.{Facts, free_before, left_after, set_at, given_by, last_given, event_of, event_known, known_of, told, ceiling_after, records_of, ceiling_over, told_lane, told_alone, life_event}
+use Rattle.qp_model.specs.Settled.{Settled, AllSettled}
 use Rattle.qp_model.proofs.ListLemmas.{both_true, true_both}
 use Rattle.qp_model.proofs.LineLemmas.{same_number}
 use Rattle.qp_model.proofs.HistoryLemmas.{hist-draws, hist-other}
-
--- the place of a word's history that what is known beside the record looks at has been reached
-pub Settled : List Item → Body → Type 0
-Settled items (Took f l m e) = (e.pool ≡ 0) ⊎ (e.name < length (hist (word.Block e.pool e.block) items))
-Settled items (New p n b from sig pars) = n ≤ length (hist (word.Pool p) items)
-Settled items (Dec p b d k) = d < length (hist (word.Block p b) items)
-Settled items (Same sig n) = n ≤ length (hist (word.Signal sig) items)
-Settled items _ = Unit {0}
-
--- all records of a lane have
-pub AllSettled : List Item → List Item → Type 0
-AllSettled items [] = Unit {0}
-AllSettled items (j ∷ js) = Settled items j.body × AllSettled items js
-
--- the ceiling after a lane
-pub ceiling_over : ℕ → List Item → ℕ
-ceiling_over c [] = c
-ceiling_over c (i ∷ is) = ceiling_over (ceiling_after c i.body) is
 
 -- the records of an object in a lane and its continuation
 pub records_of-append : (w : Facts) (o c : ℕ) (xs ys : List Item) → records_of w o c (xs ++ ys) ≡ records_of w o c xs ++ records_of w o (ceiling_over c xs) ys
@@ -52,13 +36,34 @@ records_of-append w o c (x ∷ xs) ys = go (x.of == o) (records_of-append w o (c
     go true e = ap (λ rs. told w o c x.body ∷ rs) e
     go false e = e
 
+-- all records of a lane with one more
+pub told_lane-append : (w : Facts) (c : ℕ) (is : List Item) (i : Item)
+    → told_lane w c (is ++ i ∷ []) ≡ told_lane w c is ++ for_object i.of (told w i.of (ceiling_over c is) i.body) ∷ []
+unfolding told_lane ceiling_over
+told_lane-append w c [] i = refl
+told_lane-append w c (j ∷ js) i = ap (λ ts. for_object j.of (told w j.of c j.body) ∷ ts) (told_lane-append w (ceiling_after c j.body) js i)
+
+-- those of one object among them
+pub records_of-told : (w : Facts) (o c : ℕ) (is : List Item) → records_of w o c is ≡ told_alone (filter (λ t. t.of == o) (told_lane w c is))
+unfolding records_of told_lane told
+records_of-told w o c [] = refl
+records_of-told w o c (i ∷ is) = go (i.of == o) refl (records_of-told w o (ceiling_after c i.body) is)
+  where
+    go : (v : Bool) → (i.of == o) ≡ v → records_of w o (ceiling_after c i.body) is ≡ told_alone (filter (λ t. t.of == o) (told_lane w (ceiling_after c i.body) is))
+        → cond v (told w o c i.body ∷ records_of w o (ceiling_after c i.body) is) (records_of w o (ceiling_after c i.body) is)
+        ≡ told_alone (cond v (for_object i.of (told w i.of c i.body) ∷ filter (λ t. t.of == o) (told_lane w (ceiling_after c i.body) is)) (filter (λ t. t.of == o) (told_lane w (ceiling_after c i.body) is)))
+    go true e later =
+        let is_o : i.of ≡ o = grind (arith, nat_tests) in
+        rw (later, sym (ap (λ x. told w x c i.body) is_o)) refl
+    go false e later = later
+
 last_given-append : (b r : ℕ) (e : Option Event) (xs : List Item) (i : Item) → last_given b r e (xs ++ i ∷ []) ≡ given_by b r (last_given b r e xs) i.body
 unfolding last_given
 last_given-append b r e [] i = refl
 last_given-append b r e (x ∷ xs) i = last_given-append b r (given_by b r e x.body) xs i
 
--- The record added draws the next number of its word, where it draws one; and where it gives out a block, no reference made so far is of
--- the new life.
+-- The record added draws the next number of its word, where it draws one; and where it gives out a block or takes it back, no reference
+-- made so far is at or behind that edge of its lives.
 pub record IsLater (xs : List Item) (i : Item) (ys : List Item) : Type 0 where
   pub next : (w : Word) → drawn_on w (touch i) ≡ true → (is_numbered w (xs ++ ys) ≡ true) × (drawn_as w (total w (xs ++ ys)) (touch i) ≡ true)
   pub fresh : (p b r : ℕ) → drawn_on (word.Pool p) (touch i) ≡ true → r < length (hist (word.Block p b) (xs ++ ys)) → (e : Option Event) → given_by b r e i.body ≡ e
@@ -84,7 +89,7 @@ module _ (sys : System) (xs : List Item) (i : Item) (ys : List Item) (later : Is
 
   event_stays : (e : Entry) → (e.pool ≡ 0) ⊎ (e.name < length (hist (word.Block e.pool e.block) (xs ++ ys)))
       → event_of (record { sys = sys; items = xs ++ i ∷ ys }) e ≡ event_of (record { sys = sys; items = xs ++ ys }) e
-  unfolding event_of
+  unfolding event_of life_event
   event_stays e (inl is) =
       let fixed : (e.pool == 0) ≡ true = grind (arith, nat_tests) in
       rw fixed refl
@@ -99,11 +104,19 @@ module _ (sys : System) (xs : List Item) (i : Item) (ys : List Item) (later : Is
                 ∙ later.fresh e.pool e.block e.name more.0 lt (last_given e.block e.name None (hist (word.Pool e.pool) (xs ++ ys)))
           ]
 
+      below_old : nat_lt e.name (length (hist (word.Block e.pool e.block) (xs ++ ys))) ≡ true
+      below_old = grind (arith, nat_tests, lt)
+
+      below_new : nat_lt e.name (length (hist (word.Block e.pool e.block) (xs ++ i ∷ ys))) ≡ true
+      below_new = let le : suc e.name ≤ length (hist (word.Block e.pool e.block) (xs ++ i ∷ ys)) = longer (word.Block e.pool e.block) (suc e.name) lt in grind (arith, nat_tests, le)
+
       go : (fixed : Bool)
-          → cond fixed (Some (record { sig = e.block; pars = [] })) (last_given e.block e.name None (hist (word.Pool e.pool) (xs ++ i ∷ ys)))
-          ≡ cond fixed (Some (record { sig = e.block; pars = [] })) (last_given e.block e.name None (hist (word.Pool e.pool) (xs ++ ys)))
+          → cond fixed (Some (record { sig = e.block; pars = [] }))
+          (cond (nat_lt e.name (length (hist (word.Block e.pool e.block) (xs ++ i ∷ ys)))) (last_given e.block e.name None (hist (word.Pool e.pool) (xs ++ i ∷ ys))) None)
+          ≡ cond fixed (Some (record { sig = e.block; pars = [] }))
+          (cond (nat_lt e.name (length (hist (word.Block e.pool e.block) (xs ++ ys)))) (last_given e.block e.name None (hist (word.Pool e.pool) (xs ++ ys))) None)
       go true = refl
-      go false = pooled
+      go false = rw (below_new, below_old) pooled
 
   pub known-stays : (o c : ℕ) (b : Body) → Settled (xs ++ ys) b
       → known_of (record { sys = sys; items = xs ++ i ∷ ys }) o c b ≡ known_of (record { sys = sys; items = xs ++ ys }) o c b
@@ -142,6 +155,13 @@ module _ (sys : System) (xs : List Item) (i : Item) (ys : List Item) (later : Is
           (records_of (record { sys = sys; items = xs ++ ys }) o (ceiling_after c j.body) js)
       go true k e = rw (k, e) refl
       go false k e = e
+
+  -- and all records of a lane
+  pub told_lane-stays : (c : ℕ) (lane : List Item) → AllSettled (xs ++ ys) lane
+      → told_lane (record { sys = sys; items = xs ++ i ∷ ys }) c lane ≡ told_lane (record { sys = sys; items = xs ++ ys }) c lane
+  unfolding AllSettled told_lane told
+  told_lane-stays c [] settled = refl
+  told_lane-stays c (j ∷ js) settled = rw (known-stays j.of c j.body settled.0, told_lane-stays (ceiling_after c j.body) js settled.1) refl
 
 pub same_word-is : (v w : Word) → same_word v w ≡ true → v ≡ w
 same_word-is (word.Pool p) (word.Pool q) h = let is : p ≡ q = grind (arith, nat_tests) in ap word.Pool is
@@ -183,7 +203,7 @@ module _ (xs : List Item) (i : Item) (ys : List Item) where
     fresh = λ p b r draws. let wrong : false ≡ true = sym (none (word.Pool p)) ∙ draws in cc;
   }
 
-  -- one that draws the next number of w, and gives out no block or one whose word has had as many operations as it states
+  -- one that draws the next number of w, and is no edge of a life, or one at the end of the block's history
   pub later-draws : (w : Word) → touch i ≡ Draws w (suc (total w (xs ++ ys))) → is_numbered w (xs ++ ys) ≡ true
       → ((p b r : ℕ) → w ≡ word.Pool p → r < length (hist (word.Block p b) (xs ++ ys)) → (e : Option Event) → given_by b r e i.body ≡ e) → IsLater xs i ys
   later-draws w draws numbers given = record {
@@ -215,5 +235,21 @@ new-fresh block q n c from sig pars from_is p b r same lt e = go (c == b) refl
         let is_b : c ≡ b = grind (arith, nat_tests) in
         let counted : from ≡ length (block p b) = from_is ∙ ap (λ x. length (block x c)) is_p ∙ ap (λ x. length (block p x)) is_b in
         let above : nat_le from r ≡ false = grind (arith, nat_tests) in
+        rw above refl
+    go false eq = refl
+
+-- so a `back` ends a life behind all references made so far
+pub back-fresh : (block : ℕ → ℕ → List Item) (q n c to : ℕ) → to ≡ length (block q c)
+    → (p b r : ℕ) → word.Pool q ≡ word.Pool p → r < length (block p b) → (e : Option Event) → given_by b r e (Back q n c to) ≡ e
+back-fresh block q n c to to_is p b r same lt e = go (c == b) refl
+  where
+    is_p : q ≡ p
+    is_p = cc
+
+    go : (is : Bool) → (c == b) ≡ is → cond (is && nat_le to r) None e ≡ e
+    go true eq =
+        let is_b : c ≡ b = grind (arith, nat_tests) in
+        let counted : to ≡ length (block p b) = to_is ∙ ap (λ x. length (block x c)) is_p ∙ ap (λ x. length (block p x)) is_b in
+        let above : nat_le to r ≡ false = grind (arith, nat_tests) in
         rw above refl
     go false eq = refl

@@ -15,19 +15,19 @@ use Rattle.qp_model.specs.Pieces.{Piece, bare}
 use Rattle.qp_model.specs.Course.{Cut, Whole, Stopped, Anywhere, FollowsTo}
 use Rattle.qp_model.specs.Sequence.{joined, EachPart, Sequence}
 use Rattle.qp_model.specs.Groups.{IsAction, SaysValue, MakesCall, Actions, IsGroup, IsMove, IsAct, IsLocked, is_move, Groups, IsLast, Asserts, Stops, StopsInPublication, BreaksOff, Plainly, UnderCeiling}
-use Rattle.qp_model.specs.ObjectShape.{StartGroup, BrokenStart, StepHead, is_head, StepGroup, BrokenStep, IsTurn, Dispatches, FindsEmpty, IsTail, Ends, OutOfBudget, BreaksStep, ObjectGroups, CutGroups, is_assert, nothing_after, asserts_last, HasShape}
-use Rattle.qp_model.proofs.FitsLemmas.{is_calm, is_deferral, Usual, usual, Ending, Answers, fits-usual, calm-drops, all-append}
+use Rattle.qp_model.specs.ObjectShape.{StartGroup, BrokenStart, StepHead, is_head, StepGroup, BrokenStep, IsTurn, Dispatches, FindsEmpty, LooksOnly, IsTail, Ends, OutOfBudget, BreaksStep, ObjectGroups, CutGroups, is_assert, nothing_after, asserts_last, asserts_none, HasShape}
+use Rattle.qp_model.proofs.FitsLemmas.{is_calm, is_deferral, Usual, usual, Ending, Answers, any-usual, calm-drops, all-append}
 use Rattle.qp_model.proofs.CutLemmas.{follows-groups}
 
 -- none of the records is an assertion
 abbrev pub Quiet : List Told → Type 0
-Quiet g = list_all (λ t. not (is_assert t.body)) g ≡ true
+Quiet g = asserts_none g ≡ true
 
 -- an assertion can only be the last
 abbrev pub Last : List Told → Type 0
 Last g = asserts_last g ≡ true
 
-quiet-append : (g h : List Told) → Quiet g → Quiet h → Quiet (g ++ h)
+pub quiet-append : (g h : List Told) → Quiet g → Quiet h → Quiet (g ++ h)
 quiet-append g h a b = all-append (λ t. not (is_assert t.body)) g h a b
 
 -- usual records are no assertions
@@ -40,7 +40,7 @@ quiet-usual (t ∷ g) h = by t.body h (quiet-usual g)
         → (list_all (λ t. is_calm t.body || is_deferral t.body) g ≡ true → list_all (λ t. not (is_assert t.body)) g ≡ true)
         → (not (is_assert b) && list_all (λ t. not (is_assert t.body)) g) ≡ true
     by (item.NoEntry a f l m) h go = absurd (cc)
-    by (item.NoBlock p n) h go = absurd (cc)
+    by (item.NoBlock p n free) h go = absurd (cc)
     by (item.Armed t n c) h go = absurd (cc)
     by (item.BadTicks t ticks interval) h go = absurd (cc)
     by (item.NoLifo a f l m) h go = absurd (cc)
@@ -101,11 +101,11 @@ nil_last = refl
 -- a call's records
 answers-quiet : (answer : Answer) (g : List Told) → is_assertion answer ≡ false → Answers Usual answer g → Quiet g
 unfolding Answers
-answers-quiet answer g is h = quiet-usual g (subst (λ b. MatchBool b (Ending Usual g) (Usual g)) is h)
+answers-quiet answer g is h = quiet-usual g (subst (λ b. MatchBool b (Ending Usual answer g) (Usual g)) is h)
 
-ending-last : (g : List Told) → Ending Usual g → Last g
+ending-last : (answer : Answer) (g : List Told) → Ending Usual answer g → Last g
 unfolding Ending asserts_last
-ending-last g h = subst (λ us. Last us) (sym h.4) (last-quiet h.0 (h.1 ∷ []) (quiet-usual h.0 h.2) (alone (is_assert h.1.body)))
+ending-last answer g h = subst (λ us. Last us) (sym h.4) (last-quiet h.0 (h.1 ∷ []) (quiet-usual h.0 h.2) (alone (is_assert h.1.body)))
   where
     alone : (b : Bool) → (nothing_after b [] && true) ≡ true
     alone b = refl
@@ -114,8 +114,8 @@ answers-last : (answer : Answer) (g : List Told) → Answers Usual answer g → 
 unfolding Answers
 answers-last answer g h = by (is_assertion answer) h
   where
-    by : (b : Bool) → MatchBool b (Ending Usual g) (Usual g) → Last g
-    by true h = ending-last g h
+    by : (b : Bool) → MatchBool b (Ending Usual answer g) (Usual g) → Last g
+    by true h = ending-last answer g h
     by false h = subst (λ us. Last us) (append-nil g) (last-quiet g [] (quiet-usual g h) nil_last)
 
 quiet-parts : (P : List Told → Type 0) → ((g : List Told) → P g → Quiet g) → (gs : List (List Told)) → EachPart P gs → Quiet (joined gs)
@@ -130,7 +130,7 @@ quiet-sequence P each g h = subst (λ us. Quiet us) (sym h.2) (quiet-parts P eac
 module _ (sys : System) (o : ℕ) (now : Option Entry) where
   action-quiet : (g : List Told) → IsAction sys o now g → Quiet g
   action-quiet g (SaysValue value is) = rw is refl
-  action-quiet g (MakesCall x answer fits is) = answers-quiet answer g is (fits-usual sys o now x answer g fits)
+  action-quiet g (MakesCall x answer fits is) = answers-quiet answer g is (any-usual sys o now x answer g fits)
 
   actions-quiet : (g : List Told) → Actions sys o now g → Quiet g
   unfolding Actions
@@ -153,10 +153,10 @@ module _ (sys : System) (o : ℕ) (now : Option Entry) where
   groups-quiet g h = quiet-sequence (IsGroup sys o now) group-quiet g h
 
   last-last : (stops : Bool) (g : List Told) → IsLast sys o now stops g → Last g
-  last-last stops g (Asserts x answer fits is) = answers-last answer g (fits-usual sys o now x answer g fits)
+  last-last stops g (Asserts x answer fits is) = answers-last answer g (any-usual sys o now x answer g fits)
   last-last stops g (Stops on is) = subst (λ us. Last us) (sym is) nil_last
   last-last stops g (StopsInPublication sig pars reserve answer back on fits post) =
-      last-front g back (answers-last answer (g ++ back) (fits-usual sys o now (call.Publish sig pars reserve) answer (g ++ back) fits))
+      last-front g back (answers-last answer (g ++ back) (any-usual sys o now (call.Publish sig pars reserve) answer (g ++ back) fits))
 
   breaks-last : (stops : Bool) (g : List Told) → BreaksOff sys o now stops g → Last g
   breaks-last stops g (Plainly whole last gs l is) = subst (λ us. Last us) (sym is) (last-quiet whole last (groups-quiet whole gs) (last-last stops last l))
@@ -188,26 +188,31 @@ module _ (sys : System) (o : ℕ) where
   turn-quiet : (nils : Bool) (g : List Told) → IsTurn sys o nils g → Quiet g
   turn-quiet nils g (Dispatches h) = step-quiet g h
   turn-quiet nils g (FindsEmpty f l m on is) = rw is refl
+  turn-quiet nils g (LooksOnly p f l m on is) = rw is refl
 
-  tail-last : (stops : Bool) (g : List Told) → IsTail sys o stops g → Last g
+  pub start-quiet : (g : List Told) → StartGroup sys o g → Quiet g
+  unfolding StartGroup
+  start-quiet g h = subst (λ us. Quiet us) (sym h.2) (quiet-append h.0 (plain item.Done ∷ []) (groups-quiet sys o None h.0 h.1) refl)
+
+  pub turns-quiet : (nils : Bool) (g : List Told) → Sequence (IsTurn sys o nils) g → Quiet g
+  turns-quiet nils g h = quiet-sequence (IsTurn sys o nils) (turn-quiet nils) g h
+
+  tail-last : (cuts : Bool) (g : List Told) → IsTail sys o cuts g → Last g
   unfolding BrokenStep asserts_last
-  tail-last stops g (Ends is) = subst (λ us. Last us) (sym is) refl
-  tail-last stops g (OutOfBudget is) = subst (λ us. Last us) (sym is) refl
-  tail-last stops g (BreaksStep h) =
-      subst (λ us. Last us) (sym h.5) (last-quiet h.1 h.2 (head-quiet h.0 h.1 h.3) (breaks-last sys o (Some h.0) stops h.2 h.4))
+  tail-last cuts g (Ends is) = subst (λ us. Last us) (sym is) refl
+  tail-last cuts g (OutOfBudget is) = subst (λ us. Last us) (sym is) refl
+  tail-last cuts g (BreaksStep on h) =
+      subst (λ us. Last us) (sym h.5) (last-quiet h.1 h.2 (head-quiet h.0 h.1 h.3) (breaks-last sys o (Some h.0) true h.2 h.4))
 
   -- nothing follows an assertion
-  pub groups-last : (nils stops : Bool) (bs : List Told) → ObjectGroups sys o nils stops bs → Last bs
+  pub groups-last : (nils cuts : Bool) (bs : List Told) → ObjectGroups sys o nils cuts bs → Last bs
   unfolding ObjectGroups BrokenStart StartGroup asserts_last
-  groups-last nils stops bs (inl h) =
+  groups-last nils cuts bs (inl k) =
+      let h = k.1 in
       subst (λ us. Last us) (sym h.2) (last-quiet (plain item.Begin ∷ []) h.0 refl (breaks-last sys o None false h.0 h.1))
-  groups-last nils stops bs (inr h) =
+  groups-last nils cuts bs (inr h) =
       subst (λ us. Last us) (sym h.6)
-      (last-quiet h.0 (h.1 ++ h.2) start
-      (last-quiet h.1 h.2 (quiet-sequence (IsTurn sys o nils) (turn-quiet nils) h.1 h.4) (tail-last stops h.2 h.5)))
-    where
-      start : Quiet h.0
-      start = subst (λ us. Quiet us) (sym h.3.2) (quiet-append h.3.0 (plain item.Done ∷ []) (groups-quiet sys o None h.3.0 h.3.1) refl)
+      (last-quiet h.0 (h.1 ++ h.2) (start-quiet h.0 h.3) (last-quiet h.1 h.2 (turns-quiet nils h.1 h.4) (tail-last cuts h.2 h.5)))
 
   pub cut-last : (nils : Bool) (cut : Cut) (bs : List Told) → CutGroups sys o nils cut bs → Last bs
   unfolding CutGroups asserts_last

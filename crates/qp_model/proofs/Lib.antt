@@ -12,8 +12,10 @@ pub mod ShapeLemmas
 pub mod CutLemmas
 pub mod FitsLemmas
 pub mod LastLemmas
+pub mod ThroughLemmas
 pub mod DeferralLemmas
 pub mod NoteLemmas
+pub mod TicksLemmas
 pub mod CourseLawLemmas
 pub mod KernelLaneLemmas
 pub mod ListLemmas
@@ -30,11 +32,16 @@ pub mod ReferenceLemmas
 pub mod SideLemmas
 pub mod TakenLemmas
 pub mod PromiseLemmas
+pub mod EventLemmas
 pub mod TookLemmas
 pub mod MeaningLemmas
 pub mod KnowingLemmas
+pub mod SettledLemmas
 pub mod BeginningLemmas
 pub mod KernelRowLemmas
 mod PlaceTests
 pub mod HomeLemmas
 pub mod RefusalLemmas
+pub mod CrossingLemmas
+mod KindLemmas
+pub mod RecordLemmas

@@ -5,7 +5,7 @@ use Rattle.qp_model.specs.declared.record.Rec.{Rec}
 use Rattle.qp_model.specs.declared.words.Word.TheVariants as word
 use Rattle.qp_model.specs.declared.bodies.Entry.{Entry}
 use Rattle.qp_model.specs.declared.bodies.Body.{Body}
-use Rattle.qp_model.specs.declared.bodies.Body.TheVariants.{Post, Lifo, Took, Nil, Seen, Full}
+use Rattle.qp_model.specs.declared.bodies.Body.TheVariants.{Post, Lifo, Took, Nil, Seen, Full, NoEntry, NoLifo}
 use Rattle.qp_model.specs.Record.{Item, item_of}
 use Rattle.qp_model.specs.Line.{Line, line, line_may, line_next, same_entry, is_front, counts_are}
 use Rattle.qp_model.proofs.ListLemmas.{both_true, true_both}
@@ -17,7 +17,7 @@ use Rattle.qp_model.proofs.WordLemmas.{Held, held-draws, held-shows}
 pub same_number : (a : ℕ) → (a == a) ≡ true
 same_number a = grind (arith, nat_tests)
 
-same_entry-refl : (e : Entry) → same_entry e e ≡ true
+pub same_entry-refl : (e : Entry) → same_entry e e ≡ true
 same_entry-refl e = rw (same_number e.pool, same_number e.block, same_number e.name) refl
 
 line_rises : (ring : ℕ) (s : Line) (b : Body) → line_may ring s b ≡ true
@@ -108,3 +108,16 @@ module _ (before : List (List Rec)) (lane : List Rec) (behind : List (List Rec))
   held-full o margin is few =
       let short : nat_le (ring + 1 - (s.f + s.l - s.m)) margin ≡ true = grind (arith, nat_tests) in
       held-shows before lane behind r _ is (line ring) (word.Queue a) s (line-counts ring) old (rw (same_number a) refl) (same_number a) (true_both _ _ counted short)
+
+  -- it is full, for a post and for a last-in post
+  pub held-no_entry : (o : ℕ) → item_of r ≡ record { of = o; body = NoEntry a s.f s.l s.m } → s.f + s.l - s.m ≡ ring + 1
+      → Held Line (line ring) (word.Queue a) (before ++ (lane ++ r ∷ []) ∷ behind) s
+  held-no_entry o is full =
+      let all : (s.f + s.l - s.m == ring + 1) ≡ true = grind (arith, nat_tests) in
+      held-shows before lane behind r _ is (line ring) (word.Queue a) s (line-counts ring) old (rw (same_number a) refl) (same_number a) (true_both _ _ counted all)
+
+  pub held-no_lifo : (o : ℕ) → item_of r ≡ record { of = o; body = NoLifo a s.f s.l s.m } → s.f + s.l - s.m ≡ ring + 1
+      → Held Line (line ring) (word.Queue a) (before ++ (lane ++ r ∷ []) ∷ behind) s
+  held-no_lifo o is full =
+      let all : (s.f + s.l - s.m == ring + 1) ≡ true = grind (arith, nat_tests) in
+      held-shows before lane behind r _ is (line ring) (word.Queue a) s (line-counts ring) old (rw (same_number a) refl) (same_number a) (true_both _ _ counted all)

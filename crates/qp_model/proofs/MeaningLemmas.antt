@@ -28,6 +28,7 @@ use Rattle.qp_model.specs.Course.{Course, first_config, actor, chart_at, Follows
 use Rattle.qp_model.specs.Ends.{is_turn_mark, quiet}
 use Rattle.qp_model.specs.Lawful.{Lawful, ObjectHolds, CourseHolds, SourceLanes, lanes_before, facts_of, cut_of, dispatched}
 use Rattle.qp_model.specs.Laws.{Ascend, taken_entry, taken_by, taken_in, TakesWhatItsQueueGives, LivesByItsChart, StepsAreTheMeaning}
+use Rattle.qp_model.proofs.CourseLemmas.{through-follows}
 use Rattle.qp_model.proofs.GroupLemmas.{bare-append}
 use Rattle.qp_model.proofs.TakenLemmas.{filter_map-filter, history-takes, told-takes, entry_for, kernel_takes}
 use Rattle.qp_model.proofs.HomeLemmas.{AreBelow, split-homes}
@@ -87,7 +88,7 @@ lives sys j d takes h = by_cut (cut_of sys j d.priority) refl h.course.2
         found = as_course sys d (chart_at sys d.chart) (ps ++ back) follows
 
     by_cut : (cut : Cut) → cut_of sys j d.priority ≡ cut → FollowsTo sys d cut ps → LivesByItsChart sys j d
-    by_cut Whole is follows = cut_course [] (λ q. (refl, refl)) (subst (Follows sys d) (sym (append-nil ps)) follows)
+    by_cut Whole is follows = cut_course [] (λ q. (refl, refl)) (subst (Follows sys d) (sym (append-nil ps)) (through-follows sys d ps follows))
     by_cut Stopped is (back, follows, place) = cut_course back (λ q. let other : Whole ≡ Stopped = sym (cut-quiet sys j d.priority q) ∙ is in absurd (cc)) follows
     by_cut Anywhere is (back, follows) = cut_course back (λ q. let other : Whole ≡ Anywhere = sym (cut-quiet sys j d.priority q) ∙ is in absurd (cc)) follows
 

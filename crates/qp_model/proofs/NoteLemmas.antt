@@ -62,7 +62,7 @@ module _ (sys : System) (a : Actor) (at : Moment) where
   unfolding DoesCall NotesThen Answers bare
   call-noteless c later failed x ps h = by (is_assertion h.0) (fits-usual sys a.o at.entry x h.0 h.1 h.3) h.5
     where
-      by : (b : Bool) → MatchBool b (Ending Usual h.1) (Usual h.1)
+      by : (b : Bool) → MatchBool b (Ending Usual h.0 h.1) (Usual h.1)
           → MatchBool b ((ps ≡ pieces_of x h.1) × failed) ((rest : List Piece) × (ps ≡ pieces_of x h.1 ++ (Point ∷ rest)) × later (record c { ok = ok_after h.0 c.ok; kept = h.2 }) rest)
           → NotesThen [] later ps ⊎ failed
       by true u k = inr k.1

@@ -3,6 +3,7 @@ use Rattle.std.proofs.Common.{◌≡◌, ℕ, zero, suc, ◌+◌, ◌<◌, ◌�
 use Rattle.std.specs.List.{filter, filter_map, list_all, list_any, cons_option}
 use Rattle.std.specs.List.Sorted.{IsPermutation}
 use Rattle.std.proofs.lemmas.List.Sorted.{IsPermutation-refl, IsPermutation-trans, IsPermutation-cons, IsPermutation-append_left, IsPermutation-append_comm}
+use Rattle.std.proofs.lemmas.List.{drop-append-le}
 use Rattle.std.proofs.lemmas.Bool.Decides.{nat_tests}
 use Rattle.qp_chart.specs.StateTree.{has}
 use Rattle.qp_model.specs.declared.record.Rec.{Rec}
@@ -12,7 +13,7 @@ use Rattle.qp_model.specs.declared.words.Word.TheVariants as word
 use Rattle.qp_model.specs.declared.bodies.Entry.{Entry}
 use Rattle.qp_model.specs.declared.bodies.Body.{Body}
 use Rattle.qp_model.specs.declared.bodies.Body.TheVariants.{New, Inc, Dec, Post, Lifo, Took}
-use Rattle.qp_model.specs.Record.{Item, entry}
+use Rattle.qp_model.specs.Record.{Item}
 use Rattle.qp_model.specs.Lists.{without_one, is_first}
 use Rattle.qp_model.specs.History.{touch, drawn_as, total, numbered, hist, is_numbered, all_items}
 use Rattle.qp_model.specs.Machine.{after, after_from, is_allowed, allowed_from}
@@ -23,10 +24,11 @@ use Rattle.qp_model.specs.Lives.{edge_of, edges, is_empty, refs_at, edges_empty}
 use Rattle.qp_model.specs.Sites.{ring_of, blocks_of}
 use Rattle.qp_model.specs.WordLaw.{is_pool, is_block}
 use Rattle.qp_model.specs.Promises as promise
-use Rattle.qp_model.specs.Promises.{operations, WasFree, NumberedOnce, WordsAreNumbered, posted_by, posted, taken_by, taken, is_lifo, is_post, queued}
+use Rattle.qp_model.specs.Promises.{operations, WasFree, NumberedOnce, WordsAreNumbered, posted_by, posted, taken_by, taken, is_lifo, queued, waiting_after, waiting, first_in_by, first_in, plainly_taken_by, plainly_taken, may_take, comes_and_goes}
 use Rattle.qp_model.proofs.ListLemmas.{both_true, true_both, all_below_at, list_all-has}
 use Rattle.qp_model.proofs.MachineLemmas.{allowed_from-front, allowed_from-rest, is_allowed-at, is_allowed-front, is_allowed-rest, after-keeps, keeps-from}
 use Rattle.qp_model.proofs.LineLemmas.{line_is, same_number}
+use Rattle.qp_model.proofs.RecordLemmas.{same_entry-is}
 
 -- the edge that a `new` states is one of the edges
 edge-among : (b o p n from sig : ℕ) (pars : List ℕ) (earlier later : List Item)
@@ -206,23 +208,25 @@ dropped_once sys lanes words p b h earlier between later o q d e k l is =
     let again : (nat_eq e (after_from references (references.next s i) between).count && has (after_from references (references.next s i) between).names l) ≡ true = (both_true _ _ second).0 in
     not_again k l (after_from references (references.next s i) between) still (both_true _ _ again).1
 
-same_entry-is : (d e : Entry) → same_entry d e ≡ true → d ≡ e
-same_entry-is d e h =
-    let pool : (d.pool == e.pool) ≡ true = (both_true _ _ (both_true _ _ h).0).0 in
-    let block : (d.block == e.block) ≡ true = (both_true _ _ (both_true _ _ h).0).1 in
-    let name : (d.name == e.name) ≡ true = (both_true _ _ h).1 in
-    let same_pool : d.pool ≡ e.pool = grind (arith, nat_tests) in
-    let same_block : d.block ≡ e.block = grind (arith, nat_tests) in
-    let same_name : d.name ≡ e.name = grind (arith, nat_tests) in
-    joined d e same_pool same_block same_name
-  where
-    joined : (d e : Entry) → d.pool ≡ e.pool → d.block ≡ e.block → d.name ≡ e.name → d ≡ e
-    joined d e p b n = ap (λ x. entry x d.block d.name) p ∙ ap (λ x. entry e.pool x d.name) b ∙ ap (λ x. entry e.pool e.block x) n
-
 -- the front of a list that begins with the entry
 front-is : (e : Entry) (es : List Entry) → is_front e es ≡ true → es ≡ e ∷ drop 1 es
 front-is e [] h = cc
 front-is e (x ∷ xs) h = ap (λ y. y ∷ xs) (same_entry-is x e h)
+
+-- the front of what is behind the first n entries
+drop-front : (n : ℕ) (d : Entry) (xs ys : List Entry) → is_front d (drop n xs) ≡ true → is_front d (drop n (xs ++ ys)) ≡ true
+drop-front n d [] ys h = absurd (nothing n h)
+  where
+    nothing : (n : ℕ) → is_front d (drop n []) ≡ true → ⊥
+    nothing zero h = cc
+    nothing (suc n) h = cc
+drop-front zero d (x ∷ xs) ys h = h
+drop-front (suc n) d (x ∷ xs) ys h = drop-front n d xs ys h
+
+drop-drop : (n : ℕ) (xs : List Entry) → drop n (drop 1 xs) ≡ drop (suc n) xs
+drop-drop zero [] = refl
+drop-drop (suc n) [] = refl
+drop-drop n (x ∷ xs) = refl
 
 -- the entries so far and those posted are those taken and those left, in order, where none is posted last-in
 order_from : (ring : ℕ) (s : Line) (history : List Item) → allowed_from (line ring) s history ≡ true → list_any (λ i. is_lifo i.body) history ≡ false
@@ -246,6 +250,43 @@ pub queue_keeps_order : promise.QueueKeepsOrder
 unfolding operations queued is_allowed after
 queue_keeps_order sys lanes words a h none =
     order_from (ring_of sys a) (line (ring_of sys a)).first (operations (word.Queue a) lanes) (words.queues a h).allowed none
+
+-- so are the first-in ones whatever is posted last-in, where n last-in entries stand in front of them
+first_in_from : (ring n : ℕ) (s : Line) (history : List Item) → allowed_from (line ring) s history ≡ true → n ≤ length s.entries
+    → drop n s.entries ++ first_in history ≡ plainly_taken n history ++ drop (waiting n history) (after_from (line ring) s history).entries
+unfolding allowed_from after_from first_in plainly_taken waiting
+first_in_from ring n s [] h few = append-nil (drop n s.entries)
+first_in_from ring n s (i ∷ is) h few = go n i.body (both_true _ _ h).0 few (λ n t allowed few. first_in_from ring n t is allowed few) (both_true _ _ h).1
+  where
+    go : (n : ℕ) (b : Body) → line_may ring s b ≡ true → n ≤ length s.entries
+        → ((n : ℕ) (t : Line) → allowed_from (line ring) t is ≡ true → n ≤ length t.entries
+        → drop n t.entries ++ first_in is ≡ plainly_taken n is ++ drop (waiting n is) (after_from (line ring) t is).entries)
+        → allowed_from (line ring) (line_next s b) is ≡ true
+        → drop n s.entries ++ cons_option (first_in_by b) (first_in is)
+        ≡ cons_option (plainly_taken_by b n) (plainly_taken (waiting_after b n) is) ++ drop (waiting (waiting_after b n) is) (after_from (line ring) (line_next s b) is).entries
+    go n (Post a f l m e) may few later allowed =
+        sym (append_assoc (drop n s.entries) (e ∷ []) (first_in is))
+        ∙ ap (λ es. es ++ first_in is) (sym (drop-append-le n s.entries (e ∷ []) few))
+        ∙ later n (line_next s (Post a f l m e)) allowed (longer n (e ∷ []) few)
+      where
+        longer : (n : ℕ) (more : List Entry) → n ≤ length s.entries → n ≤ length (s.entries ++ more)
+        longer n more few = omega (arith, length-append s.entries more)
+    go n (Lifo f l m e) may few later allowed = later (suc n) (line_next s (Lifo f l m e)) allowed (omega (arith, few))
+    go zero (Took f l m e) may few later allowed =
+        let front : s.entries ≡ e ∷ drop 1 s.entries = front-is e s.entries (both_true _ _ may).1 in
+        ap (λ es. es ++ first_in is) front ∙ ap (λ es. e ∷ es) (later 0 (line_next s (Took f l m e)) allowed (omega arith))
+    go (suc n) (Took f l m e) may few later allowed =
+        ap (λ es. es ++ first_in is) (sym (drop-drop n s.entries)) ∙ later n (line_next s (Took f l m e)) allowed (shorter n s.entries few)
+      where
+        shorter : (n : ℕ) (es : List Entry) → suc n ≤ length es → n ≤ length (drop 1 es)
+        shorter n [] few = absurd (omega (arith, few))
+        shorter n (x ∷ xs) few = omega (arith, few)
+    go n _ may few later allowed = cc
+
+pub first_in_keep_order : promise.FirstInKeepOrder
+unfolding operations queued is_allowed after
+first_in_keep_order sys lanes words a h =
+    first_in_from (ring_of sys a) 0 (line (ring_of sys a)).first (operations (word.Queue a) lanes) (words.queues a h).allowed (omega arith)
 
 -- the same in any order, also where some are posted last-in
 balance_from : (ring : ℕ) (s : Line) (history : List Item) → allowed_from (line ring) s history ≡ true
@@ -282,24 +323,24 @@ queue_fits sys lanes words a h earlier later is =
     let allowed : is_allowed (line (ring_of sys a)) (earlier ++ later) ≡ true = rw is at (words.queues a h).allowed in
     (line_is (ring_of sys a) earlier (is_allowed-front (line (ring_of sys a)) earlier later allowed)).fits
 
--- posts leave the front
-front_stays : (ring : ℕ) (d : Entry) (s : Line) (between : List Item) → list_all (λ i. is_post i.body) between ≡ true → is_front d s.entries ≡ true
+-- what comes and goes in front of an entry leaves it there
+front_stays : (ring n : ℕ) (d : Entry) (s : Line) (between : List Item) → comes_and_goes n between ≡ true → is_front d (drop n s.entries) ≡ true
     → is_front d (after_from (line ring) s between).entries ≡ true
-unfolding after_from
-front_stays ring d s [] posts h = h
-front_stays ring d s (i ∷ is) posts h = front_stays ring d (line_next s i.body) is (both_true _ _ posts).1 (step i.body (both_true _ _ posts).0)
+unfolding after_from comes_and_goes
+front_stays ring n d s [] goes h = let none : n ≡ 0 = grind (arith, nat_tests) in subst (λ n. is_front d (drop n s.entries) ≡ true) none h
+front_stays ring n d s (i ∷ is) goes h =
+    front_stays ring (waiting_after i.body n) d (line_next s i.body) is (both_true _ _ goes).1 (step n i.body (both_true _ _ goes).0 h)
   where
-    behind : (xs ys : List Entry) → is_front d xs ≡ true → is_front d (xs ++ ys) ≡ true
-    behind [] ys e = cc
-    behind (x ∷ xs) ys e = e
-
-    step : (b : Body) → is_post b ≡ true → is_front d (line_next s b).entries ≡ true
-    step (Post a f l m e) p = behind s.entries (e ∷ []) h
-    step _ p = cc
+    step : (n : ℕ) (b : Body) → may_take b n ≡ true → is_front d (drop n s.entries) ≡ true → is_front d (drop (waiting_after b n) (line_next s b).entries) ≡ true
+    step n (Post a f l m e) p h = drop-front n d s.entries (e ∷ []) h
+    step n (Lifo f l m e) p h = h
+    step zero (Took f l m e) p h = cc
+    step (suc n) (Took f l m e) p h = subst (λ xs. is_front d xs ≡ true) (sym (drop-drop n s.entries)) h
+    step n _ p h = h
 
 pub last_in_is_next : promise.LastInIsNext
 unfolding operations allowed_from
-last_in_is_next sys lanes words a h earlier between later o q f l m g k n d e is posts =
+last_in_is_next sys lanes words a h earlier between later o q f l m g k n d e is goes =
     let ring : ℕ = ring_of sys a in
     let i : Item = record { of = o; body = Lifo f l m d } in
     let j : Item = record { of = q; body = Took g k n e } in
@@ -311,7 +352,7 @@ last_in_is_next sys lanes words a h earlier between later o q f l m g k n d e is
     allowed_from-rest (line ring) (line_next s i.body) between (j ∷ later) (both_true _ _ rest).1 in
     let taken_front : is_front e (after_from (line ring) (line_next s i.body) between).entries ≡ true = (both_true _ _ (both_true _ _ second).0).1 in
     let put_front : is_front d (after_from (line ring) (line_next s i.body) between).entries ≡ true =
-    front_stays ring d (line_next s i.body) between posts (same d) in
+    front_stays ring 0 d (line_next s i.body) between goes (same d) in
     one_front (after_from (line ring) (line_next s i.body) between).entries d e put_front taken_front
   where
     same : (d : Entry) → same_entry d d ≡ true
@@ -374,7 +415,7 @@ placed_all w items (suc n) h =
         let same : 0 + k ≡ n = omega arith in
         rw (here.1, same) (true_both _ _ first refl)
 
-numbered_once : (w : Word) (lanes : List (List Rec)) → is_numbered w (all_items lanes) ≡ true → NumberedOnce w lanes
+pub numbered_once : (w : Word) (lanes : List (List Rec)) → is_numbered w (all_items lanes) ≡ true → NumberedOnce w lanes
 unfolding operations hist is_numbered
 numbered_once w lanes h =
     let each : (k : ℕ) → k < total w (all_items lanes) → (length (filter (λ j. drawn_as w k (touch j)) (all_items lanes)) == 1) ≡ true =

@@ -16,18 +16,10 @@ use Rattle.qp_model.specs.Shapes.{Fits, PostsOne, PublishesFirst, PublishesLast}
 use Rattle.qp_model.specs.Deferral.{KeepsDeferred}
 use Rattle.qp_model.specs.Pieces.{Piece, Tell, Point, tell, pieces_of}
 use Rattle.qp_model.specs.Acts.{Config, Actor, Moment, DoesCall, DoesDeed, DoesTask, Does, names_of}
-use Rattle.qp_model.specs.Step.{Publishing, GoesOnPublishing, Remainder, DoesLeft}
+use Rattle.qp_model.specs.Step.{Publishing, GoesOnPublishing, Remainder, DoesLeft, tasks_left, publishing_left}
 use Rattle.qp_model.specs.Standing.{Reaches}
 use Rattle.qp_model.specs.StepNotes.{note_of}
 use Rattle.qp_model.proofs.PublicationLemmas.{publishes-begun}
-
--- tasks with no publication under way
-unfoldable pub tasks_left : List Task → ℕ → Remainder
-tasks_left ts leaf = record { publishing = None; posts = []; tasks = ts; leaf = leaf }
-
--- a publication under way before tasks
-unfoldable pub publishing_left : Publishing → List ℕ → List Task → ℕ → Remainder
-publishing_left p posts ts leaf = record { publishing = Some p; posts = posts; tasks = ts; leaf = leaf }
 
 module _ (sys : System) (a : Actor) (at : Moment) where
   pub reaches-none : (left : Remainder) (c : Config) → Reaches sys a at left c [] left c

@@ -68,7 +68,7 @@ module _ (before : List (List Rec)) (lane : List Rec) (behind : List (List Rec))
       (rw (same_number (length s.free), le) refl)
 
   -- none is free
-  pub held-no_block : (o : ℕ) → item_of r ≡ record { of = o; body = NoBlock p s.count } → length s.free ≡ 0
+  pub held-no_block : (o : ℕ) → item_of r ≡ record { of = o; body = NoBlock p s.count 0 } → length s.free ≡ 0
       → Held Pool (free_blocks blocks) (word.Pool p) (before ++ (lane ++ r ∷ []) ∷ behind) s
   held-no_block o is none =
       held-shows before lane behind r _ is (free_blocks blocks) (word.Pool p) s (free_blocks-counts blocks) old (rw (same_number p) refl) (same_number p) (rw none refl)

@@ -1,5 +1,5 @@
 -- Why a refusal shows its numbers.
-use Rattle.std.proofs.Common.{◌≡◌, ℕ, suc, ◌+◌, ◌-◌, ◌≤◌, ◌==◌, nat_le, Bool, true, not, ◌&&◌, cond, List, [], ◌∷◌, ◌++◌, length, take, drop, refl, sym, subst, arith}
+use Rattle.std.proofs.Common.{◌≡◌, ℕ, ◌+◌, ◌-◌, ◌≤◌, ◌==◌, nat_le, Bool, true, not, ◌&&◌, cond, List, [], ◌∷◌, ◌++◌, length, take, drop, refl, sym, ◌∙◌, subst, arith}
 use Rattle.std.specs.List.{list_all}
 use Rattle.std.proofs.lemmas.List.{take-append-drop}
 use Rattle.std.proofs.lemmas.Bool.Decides.{nat_tests}
@@ -29,25 +29,37 @@ list_all-at : {X : Type 0} (p : X → Bool) (xs ys : List X) (x : X) → list_al
 list_all-at p [] ys x h = (both_true _ _ h).0
 list_all-at p (y ∷ xs) ys x h = list_all-at p xs ys x (both_true _ _ h).1
 
--- what a record says of the word that it shows, at its mark
-says_there : {S : Type 0} (m : Machine S) (w : Word) (lanes : List (List Rec)) (o : ℕ) (b : Body) (n : ℕ) → Keeps S m w lanes
-    → Stands lanes o b → touch (record { of = o; body = b }) ≡ Shows w n → same_word w w ≡ true → m.says (after m (take n (operations w lanes))) b ≡ true
+-- what a record says of the word that it shows, at its mark, which is within the word's history
+shown_there : {S : Type 0} (m : Machine S) (w : Word) (lanes : List (List Rec)) (o : ℕ) (b : Body) (n : ℕ) → Keeps S m w lanes
+    → Stands lanes o b → touch (record { of = o; body = b }) ≡ Shows w n → same_word w w ≡ true
+    → (nat_le n (length (operations w lanes)) && m.says (after m (take n (operations w lanes))) b) ≡ true
 unfolding is_shown shown_by operations
-says_there m w lanes o b n keeps stands shows same =
+shown_there m w lanes o b n keeps stands shows same =
     let all : list_all (λ i. shown_by m w (hist w (all_items lanes)) i.body (touch i)) (stands.0 ++ record { of = o; body = b } ∷ stands.1) ≡ true =
     subst (λ items. list_all (λ i. shown_by m w (hist w (all_items lanes)) i.body (touch i)) items ≡ true) stands.2 keeps.shown in
     let here : shown_by m w (hist w (all_items lanes)) b (touch (record { of = o; body = b })) ≡ true =
     list_all-at (λ i. shown_by m w (hist w (all_items lanes)) i.body (touch i)) stands.0 stands.1 (record { of = o; body = b }) all in
     said (touch (record { of = o; body = b })) shows here
   where
-    said : (t : Touch) → t ≡ Shows w n → shown_by m w (hist w (all_items lanes)) b t ≡ true → m.says (after m (take n (hist w (all_items lanes)))) b ≡ true
+    said : (t : Touch) → t ≡ Shows w n → shown_by m w (hist w (all_items lanes)) b t ≡ true
+        → (nat_le n (length (hist w (all_items lanes))) && m.says (after m (take n (hist w (all_items lanes)))) b) ≡ true
     said t is h =
         let there : shown_by m w (hist w (all_items lanes)) b (Shows w n) ≡ true = subst (λ t. shown_by m w (hist w (all_items lanes)) b t ≡ true) is h in
-        (both_true (nat_le n (length (hist w (all_items lanes)))) (m.says (after m (take n (hist w (all_items lanes)))) b) (opened same there)).1
+        opened same there
       where
         opened : (same : same_word w w ≡ true) → cond (same_word w w) (nat_le n (length (hist w (all_items lanes))) && m.says (after m (take n (hist w (all_items lanes)))) b) true ≡ true
             → (nat_le n (length (hist w (all_items lanes))) && m.says (after m (take n (hist w (all_items lanes)))) b) ≡ true
         opened same h = rw same at h
+
+says_there : {S : Type 0} (m : Machine S) (w : Word) (lanes : List (List Rec)) (o : ℕ) (b : Body) (n : ℕ) → Keeps S m w lanes
+    → Stands lanes o b → touch (record { of = o; body = b }) ≡ Shows w n → same_word w w ≡ true → m.says (after m (take n (operations w lanes))) b ≡ true
+says_there m w lanes o b n keeps stands shows same = (both_true _ _ (shown_there m w lanes o b n keeps stands shows same)).1
+
+stands_within : {S : Type 0} (m : Machine S) (w : Word) (lanes : List (List Rec)) (o : ℕ) (b : Body) (n : ℕ) → Keeps S m w lanes
+    → Stands lanes o b → touch (record { of = o; body = b }) ≡ Shows w n → same_word w w ≡ true → n ≤ length (operations w lanes)
+stands_within m w lanes o b n keeps stands shows same =
+    let test : nat_le n (length (operations w lanes)) ≡ true = (both_true _ _ (shown_there m w lanes o b n keeps stands shows same)).0 in
+    grind (arith, nat_tests)
 
 -- the line at a place of the history is a line
 line_there : (sys : System) (lanes : List (List Rec)) (a n : ℕ) → Keeps Line (line (ring_of sys a)) (word.Queue a) lanes → IsLine (ring_of sys a) (line_at sys lanes a n)
@@ -121,19 +133,29 @@ short_shows sys lanes words p h o n free reserve stands =
     let says : ((length (pool_at sys lanes p n).free == free) && nat_le free reserve) ≡ true =
     says_there (free_blocks (blocks_of sys p)) (word.Pool p) lanes o (Short p n free reserve) n (words.pools p h) stands refl (same_number p) in
     let all : (length (pool_at sys lanes p n).free == free) ≡ true = (both_true _ _ says).0 in
-    let few : nat_le free reserve ≡ true = (both_true _ _ says).1 in
-    (grind (arith, nat_tests), grind (arith, nat_tests))
+    let few : nat_le free reserve ≡ true = (both_true _ _ says).1 in (
+      stands_within (free_blocks (blocks_of sys p)) (word.Pool p) lanes o (Short p n free reserve) n (words.pools p h) stands refl (same_number p),
+      grind (arith, nat_tests),
+      grind (arith, nat_tests),
+    )
 
 pub no_block_shows : refusal.NoBlockShows
 unfolding pool_at
-no_block_shows sys lanes words p h o n stands =
-    let says : (length (pool_at sys lanes p n).free == 0) ≡ true =
-    says_there (free_blocks (blocks_of sys p)) (word.Pool p) lanes o (NoBlock p n) n (words.pools p h) stands refl (same_number p) in
-    none (pool_at sys lanes p n).free says
+no_block_shows sys lanes words p h o n free stands =
+    let says : ((length (pool_at sys lanes p n).free == free) && (free == 0)) ≡ true =
+    says_there (free_blocks (blocks_of sys p)) (word.Pool p) lanes o (NoBlock p n free) n (words.pools p h) stands refl (same_number p) in
+    let all : (length (pool_at sys lanes p n).free == free) ≡ true = (both_true _ _ says).0 in
+    let few : (free == 0) ≡ true = (both_true _ _ says).1 in
+    let stated : length (pool_at sys lanes p n).free ≡ free = grind (arith, nat_tests) in
+    let zero_free : free ≡ 0 = grind (arith, nat_tests) in (
+      stands_within (free_blocks (blocks_of sys p)) (word.Pool p) lanes o (NoBlock p n free) n (words.pools p h) stands refl (same_number p),
+      none (pool_at sys lanes p n).free (stated ∙ zero_free),
+      zero_free,
+    )
   where
-    none : (xs : List ℕ) → (length xs == 0) ≡ true → xs ≡ []
+    none : (xs : List ℕ) → length xs ≡ 0 → xs ≡ []
     none [] e = refl
-    none (x ∷ xs) e = let wrong : suc (length xs) ≡ 0 = grind (arith, nat_tests) in absurd (omega arith)
+    none (x ∷ xs) e = absurd (omega arith)
 
 pub armed_shows : refusal.ArmedShows
 unfolding clock_at
@@ -141,11 +163,14 @@ armed_shows sys lanes words t h o n counter stands =
     let says : (((clock_at lanes t n).counter == counter) && not (counter == 0)) ≡ true =
     says_there time_event (word.Timer t) lanes o (Armed t n counter) n (words.timers t h) stands refl (same_number t) in
     let is : ((clock_at lanes t n).counter == counter) ≡ true = (both_true _ _ says).0 in
-    let above : not (counter == 0) ≡ true = (both_true _ _ says).1 in
-    (grind (arith, nat_tests), grind (arith, nat_tests))
+    let above : not (counter == 0) ≡ true = (both_true _ _ says).1 in (
+      stands_within time_event (word.Timer t) lanes o (Armed t n counter) n (words.timers t h) stands refl (same_number t),
+      grind (arith, nat_tests),
+      grind (arith, nat_tests),
+    )
 
 pub idle_shows : refusal.IdleShows
 unfolding clock_at
 idle_shows sys lanes words t h o n stands =
     let says : ((clock_at lanes t n).counter == 0) ≡ true = says_there time_event (word.Timer t) lanes o (Idle t n) n (words.timers t h) stands refl (same_number t) in
-    grind (arith, nat_tests)
+    (stands_within time_event (word.Timer t) lanes o (Idle t n) n (words.timers t h) stands refl (same_number t), grind (arith, nat_tests))

@@ -6,21 +6,21 @@ use Rattle.qp_model.specs.declared.systems.System.{System}
 use Rattle.qp_model.specs.declared.bodies.Entry.{Entry}
 use Rattle.qp_model.specs.declared.bodies.Body.{Body}
 use Rattle.qp_model.specs.declared.bodies.Body.TheVariants as item
-use Rattle.qp_model.specs.Told.{Told, plain, taken}
+use Rattle.qp_model.specs.Told.{Told, OfEvent, plain, taken}
 use Rattle.qp_model.specs.Pieces.{Piece, bare, tell}
 use Rattle.qp_model.specs.Acts.{Config, Actor, Moment, DoesTask, Does, names_of}
 use Rattle.qp_model.specs.Step.{Step, StepRest, Closes, at_leaf, moment}
 use Rattle.qp_model.specs.Course.{Starts, Steps, Course, at_start}
 use Rattle.qp_model.specs.Sequence.{Sequence}
-use Rattle.qp_model.specs.ObjectShape.{StartGroup, BrokenStart, StepHead, is_head, StepGroup, BrokenStep, IsTurn, Dispatches, FindsEmpty, IsTail, Ends, OutOfBudget, BreaksStep, ObjectGroups}
+use Rattle.qp_model.specs.ObjectShape.{StartGroup, BrokenStart, StepHead, is_head, StepGroup, BrokenStep, IsTurn, Dispatches, FindsEmpty, LooksOnly, IsTail, Ends, OutOfBudget, BreaksStep, ObjectGroups}
 use Rattle.qp_model.proofs.SequenceLemmas.{sequence-none, sequence-cons, sequence-snoc}
 use Rattle.qp_model.proofs.BlockLemmas.{Blocks, step-blocks, start-blocks}
 use Rattle.qp_model.proofs.GroupLemmas.{bare-append, bare-tell, GroupsThen, GroupsFail, blocks-parts}
 
 -- the shape of a step that ended so
-unfoldable pub StepShape : System → ℕ → Bool → Option Config → List Told → Type 0
-StepShape sys o stops (Some d) bs = StepGroup sys o bs
-StepShape sys o stops None bs = BrokenStep sys o stops bs
+unfoldable pub StepShape : System → ℕ → Option Config → List Told → Type 0
+StepShape sys o (Some d) bs = StepGroup sys o bs
+StepShape sys o None bs = BrokenStep sys o bs
 
 -- the shape of a start that ended so
 unfoldable pub StartShape : System → ℕ → Option Config → List Told → Type 0
@@ -34,9 +34,9 @@ module _ (sys : System) (a : Actor) where
   done-parts at d ps end h = (ap bare h.1 ∙ ap (λ us. plain item.Done ∷ bare us) h.2.0, h.2.1)
 
   -- a step's records have its shape
-  pub step-shape : (stops : Bool) (e : Entry) (c : Config) (ps : List Piece) (end : Option Config) → Step sys a e c ps end → StepShape sys a.o stops end (bare ps)
+  pub step-shape : (e : Entry) (c : Config) (ps : List Piece) (end : Option Config) → Step sys a e c ps end → StepShape sys a.o end (bare ps)
   unfolding Step StepRest Closes Blocks Does DoesTask StepShape StepGroup BrokenStep StepHead bare
-  step-shape stops e c ps end h = by_blocks (step-blocks a.chart c.leaf (names_of a c h.3) h.3.sig)
+  step-shape e c ps end h = by_blocks (step-blocks a.chart c.leaf (names_of a c h.3) h.3.sig)
     where
       -- h.0 h.1 h.2: the counts; h.3: the event; h.4: the rest
       body : List Piece
@@ -54,39 +54,39 @@ module _ (sys : System) (a : Actor) where
 
       by_blocks : (head : Task) × (ts : List Task) × ((head ≡ Unhandled) ⊎ ((s k : ℕ) × (head ≡ Run s k))) × Blocks ts
           × ((step_plan a.chart c.leaf (names_of a c h.3) h.3.sig).tasks ≡ head ∷ (ts ++ (Done ∷ [])))
-          → StepShape sys a.o stops end (bare ps)
+          → StepShape sys a.o end (bare ps)
       by_blocks b = by_head b.2 (subst (λ us. Does sys a (moment h.3 e) us c body mid) b.4 h.6.3)
         where
           -- behind the handler's note
           after_head : (head : Body) → is_head head ≡ true → (rest : List Piece) → bare body ≡ plain head ∷ bare rest
-              → Does sys a (moment h.3 e) (b.1 ++ (Done ∷ [])) c rest mid → StepShape sys a.o stops end (bare ps)
+              → Does sys a (moment h.3 e) (b.1 ++ (Done ∷ [])) c rest mid → StepShape sys a.o end (bare ps)
           after_head head is rest eq does =
-              either (blocks-parts sys a (moment h.3 e) stops b.3.0 (Done ∷ []) c rest mid (subst (λ us. Does sys a (moment h.3 e) (us ++ (Done ∷ [])) c rest mid) b.3.1 does))
+              either (blocks-parts sys a (moment h.3 e) true b.3.0 (Done ∷ []) c rest mid (subst (λ us. Does sys a (moment h.3 e) (us ++ (Done ∷ [])) c rest mid) b.3.1 does))
             where
               starts : List Told
               starts = taken h.0 h.1 h.2 e h.3 ∷ plain head ∷ []
 
               heads : StepHead e starts
-              heads = (h.0, h.1, h.2, h.3, head, is, refl)
+              heads = (h.0, h.1, h.2, OfEvent h.3, head, is, refl)
 
               all : bare ps ≡ starts ++ (bare rest ++ rel)
               all = whole ∙ ap (λ us. taken h.0 h.1 h.2 e h.3 ∷ (us ++ rel)) eq
 
-              either : GroupsThen sys a (moment h.3 e) stops (λ d more. Does sys a (moment h.3 e) (Done ∷ []) d more mid) rest
-                  ⊎ GroupsFail sys a (moment h.3 e) stops (mid ≡ None) rest → StepShape sys a.o stops end (bare ps)
+              either : GroupsThen sys a (moment h.3 e) true (λ d more. Does sys a (moment h.3 e) (Done ∷ []) d more mid) rest
+                  ⊎ GroupsFail sys a (moment h.3 e) true (mid ≡ None) rest → StepShape sys a.o end (bare ps)
               either (inl k) =
                   let done = done-parts (moment h.3 e) k.1 k.2 mid k.5 in
                   let drops = subst (λ m. Closes e m rel) done.1 h.6.4 in
                   let ended : end ≡ Some _ = h.6.6 ∙ ap (at_leaf _) done.1 in
-                  subst (λ x. StepShape sys a.o stops x (bare ps)) (sym ended)
+                  subst (λ x. StepShape sys a.o x (bare ps)) (sym ended)
                   (e, starts, k.0, rel, heads, k.3, drops, all ∙ ap (λ us. starts ++ (us ++ rel)) (k.4 ∙ ap (λ us. k.0 ++ us) done.0) ∙ ap (λ us. starts ++ us) (append_assoc k.0 (plain item.Done ∷ []) rel))
               either (inr k) =
                   let gone : rel ≡ [] = subst (λ m. Closes e m rel) k.1 h.6.4 in
                   let ended : end ≡ None = h.6.6 ∙ ap (at_leaf _) k.1 in
-                  subst (λ x. StepShape sys a.o stops x (bare ps)) (sym ended)
+                  subst (λ x. StepShape sys a.o x (bare ps)) (sym ended)
                   (e, starts, bare rest, heads, k.0, all ∙ ap (λ us. starts ++ (bare rest ++ us)) gone ∙ ap (λ us. starts ++ us) (append-nil (bare rest)))
 
-          by_head : ((b.0 ≡ Unhandled) ⊎ ((s k : ℕ) × (b.0 ≡ Run s k))) → Does sys a (moment h.3 e) (b.0 ∷ (b.1 ++ (Done ∷ []))) c body mid → StepShape sys a.o stops end (bare ps)
+          by_head : ((b.0 ≡ Unhandled) ⊎ ((s k : ℕ) × (b.0 ≡ Run s k))) → Does sys a (moment h.3 e) (b.0 ∷ (b.1 ++ (Done ∷ []))) c body mid → StepShape sys a.o end (bare ps)
           by_head (inl is) does =
               let note = subst (λ x. Does sys a (moment h.3 e) (x ∷ (b.1 ++ (Done ∷ []))) c body mid) is does in
               after_head item.Unhandled refl note.0 (ap bare note.1) note.2
@@ -120,59 +120,59 @@ module _ (sys : System) (a : Actor) where
                   subst (λ x. StartShape sys a.o x (bare ps)) (sym ended) (bare note.0, k.0, all)
 
   -- steps are turns, perhaps with one that breaks off behind them
-  unfoldable pub Turned : Bool → Bool → List Told → Type 0
-  Turned nils stops bs = (turns tail : List Told) × Sequence (IsTurn sys a.o nils) turns × IsTail sys a.o stops tail × (bs ≡ turns ++ tail)
+  unfoldable pub Turned : Bool → List Told → Type 0
+  Turned nils bs = (turns tail : List Told) × Sequence (IsTurn sys a.o nils) turns × IsTail sys a.o true tail × (bs ≡ turns ++ tail)
 
-  pub no-turns : (nils stops : Bool) → Turned nils stops []
+  pub no-turns : (nils : Bool) → Turned nils []
   unfolding Turned
-  no-turns nils stops = ([], [], sequence-none (IsTurn sys a.o nils), Ends refl, refl)
+  no-turns nils = ([], [], sequence-none (IsTurn sys a.o nils), Ends refl, refl)
 
-  pub turn-more : (nils stops : Bool) (one bs : List Told) → StepGroup sys a.o one → Turned nils stops bs → Turned nils stops (one ++ bs)
+  pub turn-more : (nils : Bool) (one bs : List Told) → StepGroup sys a.o one → Turned nils bs → Turned nils (one ++ bs)
   unfolding Turned
-  turn-more nils stops one bs h k =
+  turn-more nils one bs h k =
       (one ++ k.0, k.1, sequence-cons (IsTurn sys a.o nils) one k.0 (Dispatches h) k.2, k.3, ap (λ us. one ++ us) k.4 ∙ sym (append_assoc one k.0 k.1))
 
-  pub broken : (nils stops : Bool) (one bs : List Told) → BrokenStep sys a.o stops one → bs ≡ [] → Turned nils stops (one ++ bs)
+  pub broken : (nils : Bool) (one bs : List Told) → BrokenStep sys a.o one → bs ≡ [] → Turned nils (one ++ bs)
   unfolding Turned
-  broken nils stops one bs h is =
-      ([], one, sequence-none (IsTurn sys a.o nils), BreaksStep h, ap (λ us. one ++ us) is ∙ append-nil one)
+  broken nils one bs h is =
+      ([], one, sequence-none (IsTurn sys a.o nils), BreaksStep refl h, ap (λ us. one ++ us) is ∙ append-nil one)
 
-  pub started : (nils stops : Bool) (one bs : List Told) → StartGroup sys a.o one → Turned nils stops bs → ObjectGroups sys a.o nils stops (one ++ bs)
+  pub started : (nils : Bool) (one bs : List Told) → StartGroup sys a.o one → Turned nils bs → ObjectGroups sys a.o nils true (one ++ bs)
   unfolding Turned ObjectGroups
-  started nils stops one bs h k = inr (one, k.0, k.1, h, k.2, k.3, ap (λ us. one ++ us) k.4)
+  started nils one bs h k = inr (one, k.0, k.1, h, k.2, k.3, ap (λ us. one ++ us) k.4)
 
-  pub steps-shape : (nils stops : Bool) (es : List Entry) (c : Option Config) (ps : List Piece) (end : Option Config) → Steps sys a es c ps end → Turned nils stops (bare ps)
+  pub steps-shape : (nils : Bool) (es : List Entry) (c : Option Config) (ps : List Piece) (end : Option Config) → Steps sys a es c ps end → Turned nils (bare ps)
   unfolding Steps StepShape bare
-  steps-shape nils stops [] c ps end h = subst (λ us. Turned nils stops (bare us)) (sym h.0) (no-turns nils stops)
-  steps-shape nils stops (e ∷ es) None ps end h = absurd h
-  steps-shape nils stops (e ∷ es) (Some c) ps end h =
-      subst (λ us. Turned nils stops us) (sym (ap bare h.3 ∙ bare-append h.0 h.1))
-      (by_end h.2 (step-shape stops e c h.0 h.2 h.4) (steps-shape nils stops es h.2 h.1 end h.5) h.5)
+  steps-shape nils [] c ps end h = subst (λ us. Turned nils (bare us)) (sym h.0) (no-turns nils)
+  steps-shape nils (e ∷ es) None ps end h = absurd h
+  steps-shape nils (e ∷ es) (Some c) ps end h =
+      subst (λ us. Turned nils us) (sym (ap bare h.3 ∙ bare-append h.0 h.1))
+      (by_end h.2 (step-shape e c h.0 h.2 h.4) (steps-shape nils es h.2 h.1 end h.5) h.5)
     where
       -- nothing follows a step that broke off
       nothing : (es : List Entry) (ps : List Piece) → Steps sys a es None ps end → bare ps ≡ []
       nothing [] ps k = ap bare k.0
       nothing (x ∷ xs) ps k = absurd k
 
-      by_end : (mid : Option Config) → StepShape sys a.o stops mid (bare h.0) → Turned nils stops (bare h.1) → Steps sys a es mid h.1 end → Turned nils stops (bare h.0 ++ bare h.1)
-      by_end (Some d) one rest k = turn-more nils stops (bare h.0) (bare h.1) one rest
-      by_end None one rest k = broken nils stops (bare h.0) (bare h.1) one (nothing es h.1 k)
+      by_end : (mid : Option Config) → StepShape sys a.o mid (bare h.0) → Turned nils (bare h.1) → Steps sys a es mid h.1 end → Turned nils (bare h.0 ++ bare h.1)
+      by_end (Some d) one rest k = turn-more nils (bare h.0) (bare h.1) one rest
+      by_end None one rest k = broken nils (bare h.0) (bare h.1) one (nothing es h.1 k)
 
   -- the records of a course have the shape of an object's
-  pub course-shape : (nils stops : Bool) (first : Config) (es : List Entry) (ps : List Piece) (end : Option Config)
-      → Course sys a first es ps end → ObjectGroups sys a.o nils stops (bare ps)
+  pub course-shape : (nils : Bool) (first : Config) (es : List Entry) (ps : List Piece) (end : Option Config)
+      → Course sys a first es ps end → ObjectGroups sys a.o nils true (bare ps)
   unfolding Course ObjectGroups StartShape Steps
-  course-shape nils stops first es ps end h =
-      subst (λ us. ObjectGroups sys a.o nils stops us) (sym (ap bare h.3 ∙ bare-append h.0 h.1))
+  course-shape nils first es ps end h =
+      subst (λ us. ObjectGroups sys a.o nils true us) (sym (ap bare h.3 ∙ bare-append h.0 h.1))
       (by_end h.2 (starts-shape first h.0 h.2 h.4) h.5)
     where
       nothing : (es : List Entry) (ps : List Piece) → Steps sys a es None ps end → bare ps ≡ []
       nothing [] ps k = ap bare k.0
       nothing (x ∷ xs) ps k = absurd k
 
-      by_end : (mid : Option Config) → StartShape sys a.o mid (bare h.0) → Steps sys a es mid h.1 end → ObjectGroups sys a.o nils stops (bare h.0 ++ bare h.1)
-      by_end (Some d) one k = started nils stops (bare h.0) (bare h.1) one (steps-shape nils stops es (Some d) h.1 end k)
-      by_end None one k = inl (subst (λ us. BrokenStart sys a.o us) (sym (ap (λ us. bare h.0 ++ us) (nothing es h.1 k) ∙ append-nil (bare h.0))) one)
+      by_end : (mid : Option Config) → StartShape sys a.o mid (bare h.0) → Steps sys a es mid h.1 end → ObjectGroups sys a.o nils true (bare h.0 ++ bare h.1)
+      by_end (Some d) one k = started nils (bare h.0) (bare h.1) one (steps-shape nils es (Some d) h.1 end k)
+      by_end None one k = inl (refl, subst (λ us. BrokenStart sys a.o us) (sym (ap (λ us. bare h.0 ++ us) (nothing es h.1 k) ∙ append-nil (bare h.0))) one)
 
 module _ (sys : System) (a : Actor) where
   -- steps that ran to completion are turns
@@ -181,13 +181,13 @@ module _ (sys : System) (a : Actor) where
   steps-turns nils [] c d ps h = subst (λ us. Sequence (IsTurn sys a.o nils) (bare us)) (sym h.0) (sequence-none (IsTurn sys a.o nils))
   steps-turns nils (e ∷ es) c d ps h =
       subst (λ us. Sequence (IsTurn sys a.o nils) us) (sym (ap bare h.3 ∙ bare-append h.0 h.1))
-      (by h.2 (step-shape sys a false e c h.0 h.2 h.4) (λ f k. steps-turns nils es f d h.1 k) h.5)
+      (by h.2 (step-shape sys a e c h.0 h.2 h.4) (λ f k. steps-turns nils es f d h.1 k) h.5)
     where
       gone : (es : List Entry) → Steps sys a es None h.1 (Some d) → ⊥
       gone [] k = let wrong : Some d ≡ None = k.1 in cc
       gone (x ∷ xs) k = k
 
-      by : (mid : Option Config) → StepShape sys a.o false mid (bare h.0) → ((f : Config) → Steps sys a es (Some f) h.1 (Some d) → Sequence (IsTurn sys a.o nils) (bare h.1)) → Steps sys a es mid h.1 (Some d)
+      by : (mid : Option Config) → StepShape sys a.o mid (bare h.0) → ((f : Config) → Steps sys a es (Some f) h.1 (Some d) → Sequence (IsTurn sys a.o nils) (bare h.1)) → Steps sys a es mid h.1 (Some d)
           → Sequence (IsTurn sys a.o nils) (bare h.0 ++ bare h.1)
       by (Some f) one go k = sequence-cons (IsTurn sys a.o nils) (bare h.0) (bare h.1) (Dispatches one) (go f k)
       by None one go k = absurd (gone es k)
@@ -207,11 +207,18 @@ module _ (sys : System) (a : Actor) where
       by (Some f) one k = (bare h.0, bare h.1, one, steps-turns nils es f d h.1 k, ap bare h.3 ∙ bare-append h.0 h.1)
       by None one k = absurd (gone es k)
 
-  -- behind a course that goes on `spent` may stand
-  pub course-spent : (nils stops : Bool) (first d : Config) (es : List Entry) (ps : List Piece) → Course sys a first es ps (Some d)
-      → ObjectGroups sys a.o nils stops (bare ps ++ plain item.Spent ∷ [])
+  -- a course that goes on is whole, whether or not the list may be cut
+  pub course-whole : (nils cuts : Bool) (first d : Config) (es : List Entry) (ps : List Piece) → Course sys a first es ps (Some d) → ObjectGroups sys a.o nils cuts (bare ps)
   unfolding ObjectGroups
-  course-spent nils stops first d es ps h =
+  course-whole nils cuts first d es ps h =
+      let parts = course-turns nils first d es ps h in
+      inr (parts.0, parts.1, [], parts.2, parts.3, Ends refl, parts.4 ∙ ap (λ us. parts.0 ++ us) (sym (append-nil parts.1)))
+
+  -- behind a course that goes on `spent` may stand
+  pub course-spent : (nils cuts : Bool) (first d : Config) (es : List Entry) (ps : List Piece) → Course sys a first es ps (Some d)
+      → ObjectGroups sys a.o nils cuts (bare ps ++ plain item.Spent ∷ [])
+  unfolding ObjectGroups
+  course-spent nils cuts first d es ps h =
       let parts = course-turns nils first d es ps h in
       inr (
         parts.0,
@@ -223,15 +230,18 @@ module _ (sys : System) (a : Actor) where
         ap (λ us. us ++ plain item.Spent ∷ []) parts.4 ∙ append_assoc parts.0 parts.1 (plain item.Spent ∷ []),
       )
 
--- a turn more: a step, or a queue found empty
+-- a turn more: a step, or a queue found empty, or looked at
 pub turn-step : (sys : System) (o : ℕ) (nils : Bool) (turns one : List Told) → Sequence (IsTurn sys o nils) turns → StepGroup sys o one → Sequence (IsTurn sys o nils) (turns ++ one)
 turn-step sys o nils turns one h k = sequence-snoc (IsTurn sys o nils) turns one h (Dispatches k)
 
 pub turn-nil : (sys : System) (o : ℕ) (turns : List Told) (f l m : ℕ) → Sequence (IsTurn sys o true) turns → Sequence (IsTurn sys o true) (turns ++ plain (item.Nil f l m) ∷ [])
 turn-nil sys o turns f l m h = sequence-snoc (IsTurn sys o true) turns (plain (item.Nil f l m) ∷ []) h (FindsEmpty f l m refl refl)
 
+pub turn-look : (sys : System) (o : ℕ) (turns : List Told) (p f l m : ℕ) → Sequence (IsTurn sys o true) turns → Sequence (IsTurn sys o true) (turns ++ plain (item.Seen p f l m) ∷ [])
+turn-look sys o turns p f l m h = sequence-snoc (IsTurn sys o true) turns (plain (item.Seen p f l m) ∷ []) h (LooksOnly p f l m refl refl)
+
 -- a start, turns, and what may stand behind them
-pub groups-of : (sys : System) (o : ℕ) (nils stops : Bool) (start turns tail : List Told) → StartGroup sys o start → Sequence (IsTurn sys o nils) turns → IsTail sys o stops tail
-    → ObjectGroups sys o nils stops (start ++ (turns ++ tail))
+pub groups-of : (sys : System) (o : ℕ) (nils cuts : Bool) (start turns tail : List Told) → StartGroup sys o start → Sequence (IsTurn sys o nils) turns → IsTail sys o cuts tail
+    → ObjectGroups sys o nils cuts (start ++ (turns ++ tail))
 unfolding ObjectGroups
-groups-of sys o nils stops start turns tail h k l = inr (start, turns, tail, h, k, l, refl)
+groups-of sys o nils cuts start turns tail h k l = inr (start, turns, tail, h, k, l, refl)

@@ -10,11 +10,11 @@ use Rattle.qp_model.specs.Told.{Told, Event, plain}
 use Rattle.qp_model.specs.Shapes.{Drops, Posts, PostsOne, PublishesLast, restoring}
 use Rattle.qp_model.specs.Pieces.{Piece, Point, bare, tell}
 use Rattle.qp_model.specs.Acts.{Config, Actor, Does}
-use Rattle.qp_model.specs.Step.{Publishing, GoesOnPublishing, Remainder, DoesLeft, GoesOn, Closes, at_leaf, moment}
+use Rattle.qp_model.specs.Step.{Publishing, GoesOnPublishing, Remainder, DoesLeft, GoesOn, Closes, at_leaf, moment, tasks_left}
 use Rattle.qp_model.specs.Course.{Starts, at_start}
 use Rattle.qp_model.specs.Standing.{Advances, Reaches}
 use Rattle.qp_model.specs.Able.{task_able}
-use Rattle.qp_model.proofs.ReachLemmas.{tasks_left, reaches-done}
+use Rattle.qp_model.proofs.ReachLemmas.{reaches-done}
 use Rattle.qp_model.proofs.Completes.{completes, release, release_drops, again_any}
 
 module _ (sys : System) (a : Actor) (ev : Event) (e : Entry) where

@@ -62,7 +62,7 @@ makes-none false sizes sig pars reserve head e (p, n, b, from, free, r, is, entr
 
 no_block-none : (fixed : Bool) (sizes : List ℕ) (pars : List ℕ) (reserve : Option ℕ) (answer : Answer) (g : List Told) → NoBlockFor fixed sizes pars reserve answer g → TakesNone g
 unfolding NoBlockFor
-no_block-none fixed sizes pars None AtPool g (p, n, dynamic, first, e) = none-along g _ e (none-cons _ [] refl none-nil)
+no_block-none fixed sizes pars None AtPool g (p, n, free, dynamic, first, e) = none-along g _ e (none-cons _ [] refl none-nil)
 no_block-none fixed sizes pars (Some r) Refused g (p, n, free, dynamic, first, e) = none-along g _ e (none-cons _ [] refl none-nil)
 no_block-none fixed sizes pars None Granted g h = absurd h
 no_block-none fixed sizes pars None Refused g h = absurd h
@@ -249,24 +249,24 @@ unsubscribes-none sig AtFront g h = absurd h
 
 arms-none : (t ticks interval : ℕ) (answer : Answer) (g : List Told) → Arms t ticks interval answer g → TakesNone g
 unfolding Arms
-arms-none t ticks interval Granted g (n, is, fit) = single _ g refl is
+arms-none t ticks interval Granted g (n, is) = single _ g refl is
 arms-none t ticks interval Refused g h = absurd h
 arms-none t ticks interval (Flushed n) g h = absurd h
 arms-none t ticks interval AtQueue g h = absurd h
 arms-none t ticks interval AtPool g h = absurd h
-arms-none t ticks interval AtTimer g (n, c, is, fit) = single _ g refl is
-arms-none t ticks interval AtTicks g (is, unfit) = single _ g refl is
+arms-none t ticks interval AtTimer g (n, c, is) = single _ g refl is
+arms-none t ticks interval AtTicks g is = single _ g refl is
 arms-none t ticks interval AtFront g h = absurd h
 
 rearms-none : (t ticks : ℕ) (answer : Answer) (g : List Told) → Rearms t ticks answer g → TakesNone g
 unfolding Rearms
-rearms-none t ticks Granted g (n, former, is, fit) = single _ g refl is
-rearms-none t ticks Refused g (n, is, fit) = single _ g refl is
+rearms-none t ticks Granted g (n, former, is) = single _ g refl is
+rearms-none t ticks Refused g (n, is) = single _ g refl is
 rearms-none t ticks (Flushed n) g h = absurd h
 rearms-none t ticks AtQueue g h = absurd h
 rearms-none t ticks AtPool g h = absurd h
 rearms-none t ticks AtTimer g h = absurd h
-rearms-none t ticks AtTicks g (is, unfit) = single _ g refl is
+rearms-none t ticks AtTicks g is = single _ g refl is
 rearms-none t ticks AtFront g h = absurd h
 
 disarms-none : (t : ℕ) (answer : Answer) (g : List Told) → Disarms t answer g → TakesNone g
@@ -300,8 +300,8 @@ fits-none sys o now call.Flush AtTicks g h = absurd h
 fits-none sys o now call.Flush AtFront g h = absurd h
 fits-none sys o now (call.Subscribe sig) answer g h = subscribes-none sig answer g h
 fits-none sys o now (call.Unsubscribe sig) answer g h = unsubscribes-none sig answer g h
-fits-none sys o now (call.Arm t ticks interval) answer g h = arms-none _ ticks interval answer g h
-fits-none sys o now (call.Rearm t ticks) answer g h = rearms-none _ ticks answer g h
+fits-none sys o now (call.Arm t ticks interval) answer g h = arms-none _ ticks interval answer g h.0
+fits-none sys o now (call.Rearm t ticks) answer g h = rearms-none _ ticks answer g h.0
 fits-none sys o now (call.Disarm t) answer g h = disarms-none _ answer g h
 
 -- what a call leaves to come takes nothing

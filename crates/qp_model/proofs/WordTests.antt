@@ -69,7 +69,7 @@ event_found : last_given 0 0 None (hist (word.Pool 1) (all_items lanes)) ≡ Som
 unfolding last_given hist all_items lanes rec
 event_found = refl
 
--- Records read: another count of numbers, or another third number of assertion 2, says nothing.
+-- Records read: another count of numbers says nothing; assertion 2 is read whatever size it states.
 i : ℕ → Body → Item
 i o b = record { of = o; body = b }
 
@@ -85,11 +85,11 @@ read_far : item_of (rec 47 0 []) ≡ i 0 body.Malformed
 unfolding item_of rec i
 read_far = refl
 
-read_assert : item_of (rec 42 1 (2 ∷ 1 ∷ 0 ∷ 5 ∷ [])) ≡ i 1 body.Malformed
+read_size : item_of (rec 42 1 (2 ∷ 1 ∷ 0 ∷ 5 ∷ [])) ≡ i 1 (body.NoBlock 1 0 5)
 unfolding item_of rec i
-read_assert = refl
+read_size = refl
 
-read_no_block : item_of (rec 42 1 (2 ∷ 1 ∷ 7 ∷ 0 ∷ [])) ≡ i 1 (body.NoBlock 1 7)
+read_no_block : item_of (rec 42 1 (2 ∷ 1 ∷ 7 ∷ 0 ∷ [])) ≡ i 1 (body.NoBlock 1 7 0)
 unfolding item_of rec i
 read_no_block = refl
 
@@ -143,9 +143,21 @@ short_at : is_shown (free_blocks 2) (word.Pool 1) (i 1 (body.Short 1 0 2 2) ∷ 
 unfolding is_shown i
 short_at = refl
 
-blocks_left : is_shown (free_blocks 2) (word.Pool 1) (i 1 (body.NoBlock 1 0) ∷ []) ≡ false
+blocks_left : is_shown (free_blocks 2) (word.Pool 1) (i 1 (body.NoBlock 1 0 0) ∷ []) ≡ false
 unfolding is_shown i
 blocks_left = refl
+
+blocks_stated : is_shown (free_blocks 2) (word.Pool 1) (i 1 (body.NoBlock 1 0 2) ∷ []) ≡ false
+unfolding is_shown i
+blocks_stated = refl
+
+size_wrong : is_shown (free_blocks 0) (word.Pool 1) (i 1 (body.NoBlock 1 0 1) ∷ []) ≡ false
+unfolding is_shown i
+size_wrong = refl
+
+none_left : is_shown (free_blocks 0) (word.Pool 1) (i 1 (body.NoBlock 1 0 0) ∷ []) ≡ true
+unfolding is_shown i
+none_left = refl
 
 -- References: one that doesn't stand is dropped, one is dropped twice.
 never_made : is_allowed references (i 1 (body.Dec 1 0 0 0) ∷ []) ≡ false

@@ -57,15 +57,25 @@ unfoldable pub Follows : System → ObjectDef → List Piece → Type 0
 unfolding FollowsAs
 Follows sys d ps = FollowsAs sys d (chart_at sys d.chart) ps
 
+-- the pieces are a course to its end: no assertion broke it off
+unfoldable pub FollowsThroughAs : System → ObjectDef → Option Chart → List Piece → Type 0
+unfolding Course
+FollowsThroughAs sys d None ps = ⊥
+FollowsThroughAs sys d (Some chart) ps = (es : List Entry) × (end : Config) × Course sys (actor d chart) (first_config d) es ps (Some end)
+
+unfoldable pub FollowsThrough : System → ObjectDef → List Piece → Type 0
+unfolding FollowsThroughAs
+FollowsThrough sys d ps = FollowsThroughAs sys d (chart_at sys d.chart) ps
+
 -- how the list of an object may end: it is whole; or it stopped at a scheduling point; or a `spill` cut it after any record
 pub data Cut : Type 0 where
   Whole : Cut
   Stopped : Cut
   Anywhere : Cut
 
--- a list that stopped is the front of a whole one, which ends there, or goes on there, at a point
+-- a whole list comes to the end of a course; one that stopped is the front of a course, which ends there, or goes on there, at a point
 unfoldable pub FollowsTo : System → ObjectDef → Cut → List Piece → Type 0
-unfolding Follows ends_at_point
-FollowsTo sys d Whole ps = Follows sys d ps
+unfolding Follows FollowsThrough ends_at_point
+FollowsTo sys d Whole ps = FollowsThrough sys d ps
 FollowsTo sys d Stopped ps = (back : List Piece) × Follows sys d (ps ++ back) × (IsTrue (ends_at_point ps) ⊎ IsTrue (begins_at_point back))
 FollowsTo sys d Anywhere ps = (back : List Piece) × Follows sys d (ps ++ back)

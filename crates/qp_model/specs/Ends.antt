@@ -7,7 +7,7 @@ use Rattle.qp_model.specs.Record.{Item}
 
 abbrev pub is_assert : Body → Bool
 is_assert (body.NoEntry a f l m) = true
-is_assert (body.NoBlock p n) = true
+is_assert (body.NoBlock p n free) = true
 is_assert (body.Armed t n c) = true
 is_assert (body.BadTicks t n i) = true
 is_assert (body.NoLifo a f l m) = true
@@ -54,3 +54,9 @@ spent = 4
 -- lists may be cut only where a run stopped early
 abbrev pub may_cut : ℕ → Bool
 may_cut end = (end == asserted) || (end == spent)
+
+-- a `spill` stands only as the last record of its lane, and only where the run stopped early
+unfoldable pub spills_cut : ℕ → List Item → Bool
+spills_cut end [] = true
+spills_cut end (i ∷ []) = not (is_spill i.body) || may_cut end
+spills_cut end (i ∷ j ∷ is) = not (is_spill i.body) && spills_cut end (j ∷ is)

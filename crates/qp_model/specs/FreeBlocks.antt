@@ -23,10 +23,10 @@ pool_may blocks s (New p n b from sig pars) = (n == s.count) && is_first b s.fre
 pool_may blocks s (Back p n b to) = (n == s.count) && nat_lt b blocks && not (has s.free b)
 pool_may blocks s _ = false
 
--- `short` states the free blocks, which are at most its reserve; assertion 2 stands where no block is free
+-- `short` states the free blocks, which are at most its reserve; assertion 2 states them too, and stands where there are none
 abbrev pub pool_says : Pool → Body → Bool
 pool_says s (Short p n free reserve) = (length s.free == free) && nat_le free reserve
-pool_says s (NoBlock p n) = length s.free == 0
+pool_says s (NoBlock p n free) = (length s.free == free) && (free == 0)
 pool_says s _ = false
 
 -- a pool of so many blocks, which are all free at first

@@ -8,7 +8,7 @@ use Rattle.qp_model.specs.declared.bodies.Body.TheVariants as item
 use Rattle.qp_model.specs.Told.{Told, plain, raised}
 use Rattle.qp_model.specs.Calls as call
 use Rattle.qp_model.specs.Calls.{Call, Answer, is_assertion}
-use Rattle.qp_model.specs.Shapes.{Fits}
+use Rattle.qp_model.specs.Shapes.{FitsAny}
 use Rattle.qp_model.specs.Sequence.{Sequence}
 
 -- an exit, an entry, or an initial transition
@@ -21,7 +21,7 @@ is_move _ = false
 -- the records of an action: what it says, or those of a call that doesn't end in an assertion
 pub data IsAction (sys : System) (o : ℕ) (now : Option Entry) (g : List Told) : Type 0 where
   SaysValue : (value : ℕ) → g ≡ plain (item.Say value) ∷ [] → IsAction sys o now g
-  MakesCall : (x : Call) (answer : Answer) → Fits sys o now x answer g → IsFalse (is_assertion answer) → IsAction sys o now g
+  MakesCall : (x : Call) (answer : Answer) → FitsAny sys o now x answer g → IsFalse (is_assertion answer) → IsAction sys o now g
 
 -- actions one after another
 unfoldable pub Actions : System → ℕ → Option Entry → List Told → Type 0
@@ -53,10 +53,10 @@ ends_in_post (t ∷ u ∷ ts) = ends_in_post (u ∷ ts)
 -- what stands last where a list breaks off: a call that ends in its assertion; and, where a lane may stop,
 -- nothing, or a publication up to one of its posts
 pub data IsLast (sys : System) (o : ℕ) (now : Option Entry) (stops : Bool) (g : List Told) : Type 0 where
-  Asserts : (x : Call) (answer : Answer) → Fits sys o now x answer g → IsTrue (is_assertion answer) → IsLast sys o now stops g
+  Asserts : (x : Call) (answer : Answer) → FitsAny sys o now x answer g → IsTrue (is_assertion answer) → IsLast sys o now stops g
   Stops : IsTrue stops → g ≡ [] → IsLast sys o now stops g
   StopsInPublication : (sig : ℕ) (pars : List ℕ) (reserve : Option ℕ) (answer : Answer) (back : List Told)
-      → IsTrue stops → Fits sys o now (call.Publish sig pars reserve) answer (g ++ back) → IsTrue (ends_in_post g) → IsLast sys o now stops g
+      → IsTrue stops → FitsAny sys o now (call.Publish sig pars reserve) answer (g ++ back) → IsTrue (ends_in_post g) → IsLast sys o now stops g
 
 -- groups that break off, perhaps under a raised ceiling
 pub data BreaksOff (sys : System) (o : ℕ) (now : Option Entry) (stops : Bool) (g : List Told) : Type 0 where

@@ -50,7 +50,7 @@ touch_of o (Tick t n counter) = Draws (word.Timer t) (suc n)
 touch_of o (Fire t n reload) = Draws (word.Timer t) (suc n)
 touch_of o (NoEntry a f l m) = Shows (word.Queue a) (f + l + m)
 touch_of o (NoLifo a f l m) = Shows (word.Queue a) (f + l + m)
-touch_of o (NoBlock p n) = Shows (word.Pool p) n
+touch_of o (NoBlock p n free) = Shows (word.Pool p) n
 touch_of o (Armed t n counter) = Shows (word.Timer t) n
 touch_of o _ = Neither
 

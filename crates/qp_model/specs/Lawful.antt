@@ -17,13 +17,13 @@ use Rattle.qp_model.specs.History.{all_items, lane_items}
 use Rattle.qp_model.specs.WordLaw.{Words}
 use Rattle.qp_model.specs.Knowing.{Facts}
 use Rattle.qp_model.specs.Kernels.{sim, qk, port, qv, has_one_order}
-use Rattle.qp_model.specs.Home.{lane_at, home_of, by_object}
+use Rattle.qp_model.specs.Home.{lane_at, home_of, by_object, home_records}
 use Rattle.qp_model.specs.Deferral.{kept_after}
 use Rattle.qp_model.specs.Pieces.{Piece, bare}
 use Rattle.qp_model.specs.Course.{Cut, Whole, Stopped, Anywhere, FollowsTo}
 use Rattle.qp_model.specs.ObjectShape.{HasShape}
 use Rattle.qp_model.specs.HomeLane.{is_home_lane}
-use Rattle.qp_model.specs.Ends.{is_assert, is_turn_mark, is_spill, spills_in, may_cut}
+use Rattle.qp_model.specs.Ends.{is_assert, is_turn_mark, is_spill, spills_in, may_cut, spills_cut}
 use Rattle.qp_model.specs.KernelLane.{Setting, Reading, lane_read, is_whole}
 use Rattle.qp_model.specs.Points.{lane_pieces}
 use Rattle.qp_model.specs.Sources.{AllDone, BeforeStimulus, InStimulus, SourceRuns, IsSourceLane, source_records}
@@ -34,11 +34,12 @@ unfoldable pub facts_of : System → Journal → Facts
 unfolding all_items
 facts_of sys j = record { sys = sys; items = all_items j.lanes }
 
--- a `spill` stands right behind a record of o
+-- the lane's last record is a `spill`, right behind a record of o
 abbrev pub spill_cuts : ℕ → List Item → Bool
 spill_cuts o [] = false
 spill_cuts o (i ∷ []) = false
-spill_cuts o (i ∷ j ∷ is) = (is_spill j.body && (i.of == o)) || spill_cuts o (j ∷ is)
+spill_cuts o (i ∷ j ∷ []) = is_spill j.body && (i.of == o)
+spill_cuts o (i ∷ j ∷ k ∷ is) = spill_cuts o (j ∷ k ∷ is)
 
 -- how the list of an object may be cut: not at all where the run didn't stop early; by a `spill` anywhere, but only the object
 -- whose record stands right before it; else where a lane may stop
@@ -46,10 +47,11 @@ unfoldable pub cut_of : System → Journal → ℕ → Cut
 unfolding home_of lane_items
 cut_of sys j o = if may_cut j.end then (if spill_cuts o (lane_items (lane_at j (home_of sys j o))) then Anywhere else Stopped) else Whole
 
--- the records of an object are groups that fit calls, and in `port` its home lane has no others
+-- the records of an object are groups that fit calls, and in `port` its home lane has no others but looks at its own queue between them,
+-- where it has taken its budget
 pub record ShapesHold (sys : System) (j : Journal) (d : ObjectDef) : Type 0 where
-  pub shape : HasShape sys d.priority (j.kernel == port) (cut_of sys j d.priority) (by_object (facts_of sys j) j d.priority)
-  pub home : IsTrue (not (j.kernel == port) || is_home_lane d.priority j.budget (lane_items (lane_at j (home_of sys j d.priority))))
+  pub shape : HasShape sys d.priority (j.kernel == port) (cut_of sys j d.priority) (home_records (facts_of sys j) j d.priority)
+  pub home : IsTrue (not (j.kernel == port) || is_home_lane d.priority j.budget (may_cut j.end) (lane_items (lane_at j (home_of sys j d.priority))))
 
 -- each record of deferral stands where the deferred list allows it
 unfoldable pub deferral_holds : System → Journal → ObjectDef → Bool
@@ -95,11 +97,11 @@ is_settle body.Settle = true
 is_settle _ = false
 
 -- at most one more whole row at the base has no step than `settle` records stand in the journal; a lane that stopped early has
--- started all objects, unless an assertion ended it
+-- started all objects, unless an assertion or a `spill` ended it, and only so may a `spill` stand, as its last record
 abbrev pub reading_holds : Journal → List Item → ℕ → Option Reading → Bool
 reading_holds j lane settles None = false
 reading_holds j lane settles (Some k) =
-    ((j.kernel == sim) || (j.kernel == qk) || (j.kernel == qv)) && nat_le k.idle (settles + 1)
+    ((j.kernel == sim) || (j.kernel == qk) || (j.kernel == qv)) && nat_le k.idle (settles + 1) && spills_cut j.end lane
     && (if may_cut j.end then ((length k.unstarted == 0) || list_any (λ i. is_assert i.body) lane) else is_whole j.kernel k)
 
 -- lane 0 is a kernel lane, and in each object's steps a row of looks stands after each action and each post of a publication

@@ -12,7 +12,9 @@ pub mod TimeEvents
 pub mod Lives
 pub mod WordLaw
 pub mod Knowing
+pub mod Settled
 pub mod Places
+pub mod Touches
 pub mod WordOf
 pub mod Promises
 pub mod Refusals
@@ -44,6 +46,11 @@ pub mod Points
 pub mod Sources
 pub mod Lawful
 pub mod Laws
+pub mod SoundChart
+pub mod Sound
+pub mod Definitions
+pub mod Kinds
+pub mod KindSorts
 pub mod Vocabulary
 pub mod Output
 pub mod OutputText

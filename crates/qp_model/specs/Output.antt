@@ -1,10 +1,11 @@
 -- A journal as the list of its items, which text and frames write one after another.
 use Rattle.std.specs.Prelude.{ℕ, ◌+◌, ◌==◌, nat_le, Bool, not, ◌&&◌, ◌||◌, List, [], ◌∷◌, ◌++◌, map, length, if◌then◌else◌}
 use Rattle.std.specs.List.{list_all}
-use Rattle.qp_model.specs.declared.kinds.TheConstants.{QP, LANE, END, BEGIN, LOOK, REST}
+use Rattle.qp_model.specs.Kinds.{QP, LANE, END, BEGIN, LOOK, REST}
 use Rattle.qp_model.specs.declared.record.Rec.{Rec}
 use Rattle.qp_model.specs.declared.journals.Journal.{Journal}
-use Rattle.qp_model.specs.Kernels.{qv}
+use Rattle.qp_model.specs.Kernels.{port, qv}
+use Rattle.qp_model.specs.Ends.{quiet, asserted, spent}
 use Rattle.qp_model.specs.Vocabulary.{has_count}
 
 -- an item: its word by id, and the numbers after the word
@@ -52,7 +53,7 @@ abbrev pub last_id : ℕ → ℕ
 last_id form = if form == 2 then REST else LOOK
 
 abbrev pub last_kernel : ℕ → ℕ
-last_kernel form = if form == 2 then 3 else 2
+last_kernel form = if form == 2 then qv else port
 
 -- a record in range: its kind, its count of numbers and its object
 abbrev pub is_record_in_range : ℕ → Rec → Bool
@@ -65,7 +66,7 @@ is_lane_in_range form lane = nat_le (length lane) 1000001 && list_all (is_record
 
 -- the statuses that a run may end with
 abbrev pub is_end_status : ℕ → Bool
-is_end_status n = (n == 0) || (n == 3) || (n == 4)
+is_end_status n = (n == quiet) || (n == asserted) || (n == spent)
 
 -- a journal in range for a form
 abbrev pub is_in_range : ℕ → Journal → Bool

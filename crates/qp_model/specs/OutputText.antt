@@ -3,7 +3,7 @@ use Rattle.std.specs.Prelude.{ℕ, ◌==◌, ◌&&◌, List, [], ◌∷◌, ◌+
 use Rattle.std.specs.Fmt.{signed_decimal}
 use Rattle.std.specs.Int.{cast_signed, w64}
 use Rattle.std.specs.List.{flat_map}
-use Rattle.qp_model.specs.declared.kinds.TheConstants.{SAY}
+use Rattle.qp_model.specs.Kinds.{SAY}
 use Rattle.qp_model.specs.declared.journals.Journal.{Journal}
 use Rattle.qp_model.specs.Vocabulary.{word_text}
 use Rattle.qp_model.specs.Output.{JournalItem, items_of}

@@ -1,5 +1,5 @@
 -- What a record says, by the table of journal items.
-use Rattle.std.specs.Prelude.{ℕ, ◌==◌, ◌&&◌, List, [], ◌∷◌, slice_get, if◌then◌else◌, Some, None}
+use Rattle.std.specs.Prelude.{ℕ, ◌==◌, List, [], ◌∷◌, slice_get, if◌then◌else◌, Some, None}
 use Rattle.std.specs.declared.option.Option.{Option}
 use Rattle.qp_model.specs.declared.record.Rec.{Rec}
 use Rattle.qp_model.specs.declared.bodies.Entry.{Entry}
@@ -56,7 +56,7 @@ given _ = Malformed
 -- the code of the assertion, then its numbers
 abbrev pub asserted : List ℕ → Body
 asserted (code ∷ a ∷ f ∷ l ∷ m ∷ []) = if code == 1 then NoEntry a f l m else (if code == 5 then NoLifo a f l m else Malformed)
-asserted (code ∷ a ∷ b ∷ c ∷ []) = if (code == 2) && (c == 0) then NoBlock a b else (if code == 3 then Armed a b c else (if code == 4 then BadTicks a b c else Malformed))
+asserted (code ∷ a ∷ b ∷ c ∷ []) = if code == 2 then NoBlock a b c else (if code == 3 then Armed a b c else (if code == 4 then BadTicks a b c else Malformed))
 asserted _ = Malformed
 
 -- the table of journal items by kind, from 0 on; the object isn't counted among the numbers
@@ -108,7 +108,7 @@ forms =
     ∷ one Rest
     ∷ []
 
-abbrev read_by : Option (List ℕ → Body) → List ℕ → Body
+abbrev pub read_by : Option (List ℕ → Body) → List ℕ → Body
 read_by None nums = Malformed
 read_by (Some form) nums = form nums
 

@@ -67,25 +67,25 @@ NilShows =
     (sys : System) (lanes : List (List Rec)) → Words sys lanes → (a : ℕ) → IsTrue (is_object sys a) → (f l m : ℕ) → Stands lanes a (Nil f l m)
     → HasCounts f l m (line_at sys lanes a (f + l + m)) × ((line_at sys lanes a (f + l + m)).entries ≡ [])
 
--- a `short` states the free blocks of its pool, which are at most its reserve
+-- a `short` stands at a place of its pool's history, and states the blocks that were free there, which are at most its reserve
 abbrev pub ShortShows : Type 0
 ShortShows =
     (sys : System) (lanes : List (List Rec)) → Words sys lanes → (p : ℕ) → IsTrue (is_pool sys p) → (o n free reserve : ℕ) → Stands lanes o (Short p n free reserve)
-    → (length (pool_at sys lanes p n).free ≡ free) × (free ≤ reserve)
+    → (n ≤ length (operations (word.Pool p) lanes)) × (length (pool_at sys lanes p n).free ≡ free) × (free ≤ reserve)
 
--- at assertion 2 no block is free
+-- assertion 2 stands at a place of its pool's history where no block was free, and states that number
 abbrev pub NoBlockShows : Type 0
 NoBlockShows =
-    (sys : System) (lanes : List (List Rec)) → Words sys lanes → (p : ℕ) → IsTrue (is_pool sys p) → (o n : ℕ) → Stands lanes o (NoBlock p n)
-    → (pool_at sys lanes p n).free ≡ []
+    (sys : System) (lanes : List (List Rec)) → Words sys lanes → (p : ℕ) → IsTrue (is_pool sys p) → (o n free : ℕ) → Stands lanes o (NoBlock p n free)
+    → (n ≤ length (operations (word.Pool p) lanes)) × ((pool_at sys lanes p n).free ≡ []) × (free ≡ 0)
 
--- assertion 3 states the counter of a time event that is armed, and `idle` stands where it isn't
+-- assertion 3 states the counter of a time event that was armed at a place of its history, and `idle` stands where it wasn't
 abbrev pub ArmedShows : Type 0
 ArmedShows =
     (sys : System) (lanes : List (List Rec)) → Words sys lanes → (t : ℕ) → IsTrue (is_timer sys t) → (o n counter : ℕ) → Stands lanes o (Armed t n counter)
-    → ((clock_at lanes t n).counter ≡ counter) × (0 < counter)
+    → (n ≤ length (operations (word.Timer t) lanes)) × ((clock_at lanes t n).counter ≡ counter) × (0 < counter)
 
 abbrev pub IdleShows : Type 0
 IdleShows =
     (sys : System) (lanes : List (List Rec)) → Words sys lanes → (t : ℕ) → IsTrue (is_timer sys t) → (o n : ℕ) → Stands lanes o (Idle t n)
-    → (clock_at lanes t n).counter ≡ 0
+    → (n ≤ length (operations (word.Timer t) lanes)) × ((clock_at lanes t n).counter ≡ 0)

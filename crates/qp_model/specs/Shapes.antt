@@ -1,5 +1,5 @@
 -- The records of a call and its answer.
-use Rattle.std.specs.Prelude.{◌≡◌, ℕ, zero, suc, ◌+◌, nat_lt, max, Bool, true, false, ◌&&◌, ◌⊎◌, List, [], ◌∷◌, ◌++◌, length, IsTrue, IsFalse, Some, None}
+use Rattle.std.specs.Prelude.{◌≡◌, ℕ, zero, suc, ◌+◌, nat_lt, max, Bool, true, false, not, ◌&&◌, ◌⊎◌, List, [], ◌∷◌, ◌++◌, length, IsTrue, IsFalse, Some, None}
 use Rattle.std.specs.declared.option.Option.{Option}
 use Rattle.std.specs.Bool.{MatchBool}
 use Rattle.std.specs.Option.{unwrap_or}
@@ -45,7 +45,7 @@ MakesNew fixed sizes sig pars reserve head e =
 unfoldable pub NoBlockFor : Bool → List ℕ → List ℕ → Option ℕ → Answer → List Told → Type 0
 unfolding first_pool
 NoBlockFor fixed sizes pars None AtPool g =
-    (p n : ℕ) × IsFalse fixed × (first_pool sizes (length pars) ≡ Some p) × (g ≡ plain (item.NoBlock p n) ∷ [])
+    (p n free : ℕ) × IsFalse fixed × (first_pool sizes (length pars) ≡ Some p) × (g ≡ plain (item.NoBlock p n free) ∷ [])
 NoBlockFor fixed sizes pars (Some r) Refused g =
     (p n free : ℕ) × IsFalse fixed × (first_pool sizes (length pars) ≡ Some p) × (g ≡ plain (item.Short p n free r) ∷ [])
 NoBlockFor fixed sizes pars reserve answer g = ⊥
@@ -193,20 +193,23 @@ Unsubscribes sig answer g = ⊥
 unfoldable pub ticks_fit : ℕ → ℕ → Bool
 ticks_fit ticks interval = nat_lt 0 ticks && nat_lt ticks 65536 && nat_lt interval 65536
 
--- timer t is armed, or was armed already, or the values are none for a timer
+-- assertion 4 is the only answer to values that are none for a timer, and comes for no others
+abbrev pub answers_ticks : Bool → Answer → Bool
+answers_ticks fit AtTicks = not fit
+answers_ticks fit answer = fit
+
+-- timer t is armed, or was armed already, or the values are refused
 unfoldable pub Arms : ℕ → ℕ → ℕ → Answer → List Told → Type 0
-unfolding ticks_fit
-Arms t ticks interval Granted g = (n : ℕ) × (g ≡ plain (item.Arm t n ticks interval) ∷ []) × IsTrue (ticks_fit ticks interval)
-Arms t ticks interval AtTimer g = (n c : ℕ) × (g ≡ plain (item.Armed t n c) ∷ []) × IsTrue (ticks_fit ticks interval)
-Arms t ticks interval AtTicks g = (g ≡ plain (item.BadTicks t ticks interval) ∷ []) × IsFalse (ticks_fit ticks interval)
+Arms t ticks interval Granted g = (n : ℕ) × (g ≡ plain (item.Arm t n ticks interval) ∷ [])
+Arms t ticks interval AtTimer g = (n c : ℕ) × (g ≡ plain (item.Armed t n c) ∷ [])
+Arms t ticks interval AtTicks g = g ≡ plain (item.BadTicks t ticks interval) ∷ []
 Arms t ticks interval answer g = ⊥
 
 -- the answer tells whether the former counter isn't 0
 unfoldable pub Rearms : ℕ → ℕ → Answer → List Told → Type 0
-unfolding ticks_fit
-Rearms t ticks Granted g = (n former : ℕ) × (g ≡ plain (item.Rearm t n (suc former) ticks) ∷ []) × IsTrue (ticks_fit ticks 0)
-Rearms t ticks Refused g = (n : ℕ) × (g ≡ plain (item.Rearm t n 0 ticks) ∷ []) × IsTrue (ticks_fit ticks 0)
-Rearms t ticks AtTicks g = (g ≡ plain (item.BadTicks t ticks 0) ∷ []) × IsFalse (ticks_fit ticks 0)
+Rearms t ticks Granted g = (n former : ℕ) × (g ≡ plain (item.Rearm t n (suc former) ticks) ∷ [])
+Rearms t ticks Refused g = (n : ℕ) × (g ≡ plain (item.Rearm t n 0 ticks) ∷ [])
+Rearms t ticks AtTicks g = g ≡ plain (item.BadTicks t ticks 0) ∷ []
 Rearms t ticks answer g = ⊥
 
 unfoldable pub Disarms : ℕ → Answer → List Told → Type 0
@@ -216,7 +219,7 @@ Disarms t answer g = ⊥
 
 -- the records of a call and its answer, for object o while it works on the entry `now`; o is 0 at a source
 unfoldable pub Fits : System → ℕ → Option Entry → Call → Answer → List Told → Type 0
-unfolding Arms Defers Disarms Flushes Forwards PostsNew PostsNewFront Publishes Rearms Recalls Subscribes Unsubscribes is_static ring_of sizes_of timer_number
+unfolding Arms Defers Disarms Flushes Forwards PostsNew PostsNewFront Publishes Rearms Recalls Subscribes Unsubscribes is_static ring_of sizes_of ticks_fit timer_number
 Fits sys o now (call.Post to sig pars margin reserve) answer g =
     PostsNew (is_static sys sig) (sizes_of sys) (ring_of sys to) to sig pars margin reserve answer g
 Fits sys o now (call.Lifo sig pars reserve) answer g = PostsNewFront (is_static sys sig) (sizes_of sys) o sig pars reserve answer g
@@ -228,6 +231,16 @@ Fits sys o now call.Flush (Flushed n) g = Flushes n g
 Fits sys o now call.Flush answer g = ⊥
 Fits sys o now (call.Subscribe sig) answer g = Subscribes sig answer g
 Fits sys o now (call.Unsubscribe sig) answer g = Unsubscribes sig answer g
-Fits sys o now (call.Arm t ticks interval) answer g = Arms (timer_number sys.timers o t) ticks interval answer g
-Fits sys o now (call.Rearm t ticks) answer g = Rearms (timer_number sys.timers o t) ticks answer g
+Fits sys o now (call.Arm t ticks interval) answer g =
+    Arms (timer_number sys.timers o t) ticks interval answer g × IsTrue (answers_ticks (ticks_fit ticks interval) answer)
+Fits sys o now (call.Rearm t ticks) answer g =
+    Rearms (timer_number sys.timers o t) ticks answer g × IsTrue (answers_ticks (ticks_fit ticks 0) answer)
 Fits sys o now (call.Disarm t) answer g = Disarms (timer_number sys.timers o t) answer g
+
+-- the same as a shape alone, which asks nothing of a call's numbers: it may name any time event of the system, or none, with any values
+unfoldable pub FitsAny : System → ℕ → Option Entry → Call → Answer → List Told → Type 0
+unfolding Arms Disarms Fits Rearms
+FitsAny sys o now (call.Arm t ticks interval) answer g = Arms t ticks interval answer g
+FitsAny sys o now (call.Rearm t ticks) answer g = Rearms t ticks answer g
+FitsAny sys o now (call.Disarm t) answer g = Disarms t answer g
+FitsAny sys o now x answer g = Fits sys o now x answer g

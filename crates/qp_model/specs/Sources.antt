@@ -17,7 +17,7 @@ use Rattle.qp_model.specs.Calls.{Call, Answer, is_assertion}
 use Rattle.qp_model.specs.Sites.{ring_of}
 use Rattle.qp_model.specs.Parts.{room_before}
 use Rattle.qp_model.specs.Shapes.{Fits}
-use Rattle.qp_model.specs.Ends.{is_spill, spills_in, may_cut}
+use Rattle.qp_model.specs.Ends.{is_spill, spills_in, may_cut, spills_cut}
 use Rattle.qp_model.specs.Kernels.{may_try}
 
 -- the records of a call that a source makes, which ends in an assertion or doesn't
@@ -141,8 +141,10 @@ unfoldable pub source_records : Facts → List Item → List Told
 unfolding records_of
 source_records w lane = records_of w 0 0 (filter (λ i. not (is_spill i.body)) lane)
 
--- the lane of a source: its records have no object, they are its stimuli in order, and no two tries end with the same `seen`
+-- the lane of a source: its records have no object, a `spill` stands only as the last of them and where the run stopped early, the others
+-- are its stimuli in order, and no two tries end with the same `seen`
 pub record IsSourceLane (w : Facts) (kernel end : ℕ) (ss : List Stim) (lane : List Item) : Type 0 where
   pub alone : IsTrue (list_all (λ i. i.of == 0) lane)
+  pub spills : IsTrue (spills_cut end lane)
   pub tries : IsTrue (none_twice (filter_map (λ i. entry_seen i.body) lane))
   pub stimuli : (stop : SourceEnd) × SourceRuns w.sys kernel 1 ss stop (source_records w lane) × IsTrue (may_end end (spills_in lane) stop)

@@ -64,6 +64,14 @@ pub record Remainder : Type 0 where
   pub tasks : List Task
   pub leaf : ℕ
 
+-- tasks with no publication under way
+unfoldable pub tasks_left : List Task → ℕ → Remainder
+tasks_left ts leaf = record { publishing = None; posts = []; tasks = ts; leaf = leaf }
+
+-- a publication under way before tasks
+unfoldable pub publishing_left : Publishing → List ℕ → List Task → ℕ → Remainder
+publishing_left p posts ts leaf = record { publishing = Some p; posts = posts; tasks = ts; leaf = leaf }
+
 -- what is left of an agenda is done
 unfoldable pub DoesLeft : System → Actor → Moment → Option Publishing → List ℕ → List Task → Config → List Piece → Option Config → Type 0
 unfolding Does GoesOnPublishing

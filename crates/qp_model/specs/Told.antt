@@ -51,3 +51,11 @@ raised ceiling former = record { body = Lock ceiling; known = Former former }
 -- a `same` with whether its object subscribes
 abbrev pub same_in : ℕ → ℕ → Bool → Told
 same_in sig n is = record { body = Same sig n; known = Member is }
+
+-- a record as told, with the object that it is of
+pub record ToldItem : Type 0 where
+  pub of : ℕ
+  pub told : Told
+
+abbrev pub for_object : ℕ → Told → ToldItem
+for_object o t = record { of = o; told = t }

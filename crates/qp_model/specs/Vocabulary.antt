@@ -1,20 +1,7 @@
 -- The words of journal items, and how many numbers each has.
-use Rattle.std.specs.Prelude.{ℕ, ◌==◌, nat_le, Bool, false, ◌&&◌, ◌||◌, List, [], ◌∷◌, length, slice_index, slice_get, codes, if◌then◌else◌}
+use Rattle.std.specs.Prelude.{ℕ, ◌==◌, nat_le, Bool, false, ◌&&◌, ◌||◌, List, [], ◌∷◌, length, slice_index, slice_get, if◌then◌else◌}
 use Rattle.std.specs.Option.{unwrap_or}
-use Rattle.qp_model.specs.declared.kinds.TheConstants.{NEW, ASSERT}
-
--- the words by id, from 0 on, which is none
-abbrev pub words : List (List ℕ)
-words =
-    []
-    ∷ codes "qp" ∷ codes "lane" ∷ codes "end"
-    ∷ codes "begin" ∷ codes "took" ∷ codes "nil" ∷ codes "seen" ∷ codes "run" ∷ codes "none" ∷ codes "exit" ∷ codes "enter"
-    ∷ codes "init" ∷ codes "say" ∷ codes "done" ∷ codes "new" ∷ codes "short" ∷ codes "inc" ∷ codes "dec" ∷ codes "back"
-    ∷ codes "post" ∷ codes "lifo" ∷ codes "full" ∷ codes "pub" ∷ codes "lock" ∷ codes "unlock" ∷ codes "defer" ∷ codes "nodefer"
-    ∷ codes "recall" ∷ codes "norecall" ∷ codes "flush" ∷ codes "sub" ∷ codes "unsub" ∷ codes "same" ∷ codes "arm" ∷ codes "disarm"
-    ∷ codes "rearm" ∷ codes "idle" ∷ codes "tick" ∷ codes "fire" ∷ codes "stim" ∷ codes "settle" ∷ codes "assert" ∷ codes "spent"
-    ∷ codes "spill" ∷ codes "look" ∷ codes "rest"
-    ∷ []
+use Rattle.qp_model.specs.Kinds.{NEW, ASSERT, words}
 
 -- the word of an id
 abbrev pub word_text : ℕ → List ℕ

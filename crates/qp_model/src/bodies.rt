@@ -229,10 +229,11 @@ pub enum Body {
         l: u64,
         m: u64,
     },
-    /// Assertion 2: no block of the pool was free.
+    /// Assertion 2: no block of the pool was free; it states how many were.
     NoBlock {
         p: u64,
         n: u64,
+        free: u64,
     },
     /// Assertion 3: the timer was armed.
     Armed {

@@ -50,7 +50,11 @@ fn of_assert(nums: &[u64]) -> Body
             l: *l,
             m: *m,
         },
-        [2, p, n, 0] => Body::NoBlock { p: *p, n: *n },
+        [2, p, n, free] => Body::NoBlock {
+            p: *p,
+            n: *n,
+            free: *free,
+        },
         [3, t, n, counter] => Body::Armed {
             t: *t,
             n: *n,

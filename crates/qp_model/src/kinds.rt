@@ -1,5 +1,9 @@
 //! The kinds of journal items: the number of each, which is its id in frames.
 
+ghost use Rattle.std.specs.Prelude.{◌≡◌, [], ◌∷◌, map};
+ghost use Rattle.qp_model.specs.Kinds.{kinds};
+ghost use Rattle.qp_model.specs.KindSorts.{SortsHold};
+
 pub const QP: u8 = 1;
 
 pub const LANE: u8 = 2;
@@ -91,3 +95,13 @@ pub const SPILL: u8 = 44;
 pub const LOOK: u8 = 45;
 
 pub const REST: u8 = 46;
+
+/// The constants of this module are the numbers of the table of kinds (`specs/Kinds`).
+pub fn constants_are_the_table()
+    ensures { QP ∷ LANE ∷ END ∷ BEGIN ∷ TOOK ∷ NIL ∷ SEEN ∷ RUN ∷ NONE ∷ EXIT ∷ ENTER ∷ INIT ∷ SAY ∷ DONE ∷ NEW ∷ SHORT ∷ INC ∷ DEC ∷ BACK ∷ POST ∷ LIFO ∷ FULL ∷ PUB ∷ LOCK ∷ UNLOCK ∷ DEFER ∷ NODEFER ∷ RECALL ∷ NORECALL ∷ FLUSH ∷ SUB ∷ UNSUB ∷ SAME ∷ ARM ∷ DISARM ∷ REARM ∷ IDLE ∷ TICK ∷ FIRE ∷ STIM ∷ SETTLE ∷ ASSERT ∷ SPENT ∷ SPILL ∷ LOOK ∷ REST ∷ [] ≡ map (λ k. k.id) kinds }
+{}
+
+/// What a record says is of its kind's sort: notes draw no number and show none.
+pub fn records_are_of_their_sort()
+    ensures { SortsHold }
+{}

@@ -3,10 +3,15 @@
 
 mod bodies;
 pub mod courses;
+pub mod crossing;
+pub mod definitions;
 mod ending;
+pub mod ends;
 mod journals;
+pub mod kernels;
 pub mod kinds;
 pub mod laws;
+mod lookups;
 mod notes;
 mod operations;
 pub mod promises;
@@ -14,6 +19,7 @@ mod reading;
 mod record;
 mod stimulus;
 mod systems;
+mod touches;
 pub mod vocabulary;
 mod words;
 
@@ -25,4 +31,5 @@ pub use systems::{
     Charts, ObjectDef, ObjectDefs, PoolDef, PoolDefs, SignalDef, SignalDefs, System, TimerDef,
     TimerDefs, Values,
 };
+pub use touches::{Named, Touched};
 pub use words::Word;

@@ -306,7 +306,7 @@ impl Rec {
 
     /// Assertion 2: after `n` operations pool `p` has no free block.
     pub fn no_block(o: u8, p: u8, n: u32) -> Rec
-        ensures { item_of result ≡ record { of = o; body = NoBlock p n } }
+        ensures { item_of result ≡ record { of = o; body = NoBlock p n 0 } }
     {
         Rec {
             kind: kinds::ASSERT,

@@ -1,7 +1,7 @@
 //! What lawful words promise. Each function here does nothing: its contract is the promise.
 
 ghost use Rattle.qp_model.specs.Refusals.{FullShows, NoEntryShows, NoLifoShows, NilShows, ShortShows, NoBlockShows, ArmedShows, IdleShows};
-ghost use Rattle.qp_model.specs.Promises.{OperationsAreNumbered, GivenOutUnreferenced, DroppedOnce, DroppedStood, QueueKeepsOrder, QueueLosesNothing, LastInIsNext, QueueFits};
+ghost use Rattle.qp_model.specs.Promises.{OperationsAreNumbered, GivenOutUnreferenced, DroppedOnce, DroppedStood, EventIsOfItsLife, QueueKeepsOrder, FirstInKeepOrder, QueueLosesNothing, LastInIsNext, QueueFits};
 
 /// The operations of each word are numbered 0, 1, 2 and so on, each number once.
 pub fn operations_are_numbered()
@@ -19,9 +19,16 @@ pub fn references_are_dropped_once()
     ensures stood { DroppedStood }
 {}
 
-/// A queue without last-in posts gives its entries in the order in which they were posted.
+/// An entry of a block has the event of the life of its block which holds its reference, and none where no life does.
+pub fn events_are_of_their_lives()
+    ensures { EventIsOfItsLife }
+{}
+
+/// A queue without last-in posts gives its entries in the order in which they were posted, and one with
+/// such posts gives the others in their order.
 pub fn queues_keep_order()
-    ensures { QueueKeepsOrder }
+    ensures alone { QueueKeepsOrder }
+    ensures among { FirstInKeepOrder }
 {}
 
 /// A queue gives each entry once: those taken and those left are those posted.
@@ -29,7 +36,7 @@ pub fn queues_lose_nothing()
     ensures { QueueLosesNothing }
 {}
 
-/// A last-in post is taken before every other entry.
+/// What is last in is the next out: a last-in post is taken before every entry but those posted last-in after it.
 pub fn last_in_is_next()
     ensures { LastInIsNext }
 {}

@@ -1,13 +1,13 @@
 //! The numbered words.
 
-ghost use Rattle.std.specs.Prelude.{◌≡◌, ◌+◌, nat_lt, if◌then◌else◌};
-ghost use Rattle.qp_model.specs.declared.words.Word.TheVariants as word;
+ghost use Rattle.std.specs.Prelude.{◌≡◌, nat_lt, if◌then◌else◌};
 ghost use Rattle.qp_model.specs.Record.{item_of};
-ghost use Rattle.qp_model.specs.History.{touch, touch_of};
+ghost use Rattle.qp_model.specs.History.{touch};
+ghost use Rattle.qp_model.specs.Touches.{as_word};
 ghost use Rattle.qp_model.specs.WordOf.{word_of, number_of, fitting_word, fitting_number, number_before};
 
-use crate::bodies::Body;
 use crate::record::Rec;
+use crate::touches::{Named, Touched};
 
 #[derive(Clone, Copy, PartialEq, Eq, Debug)]
 pub enum Word {
@@ -25,7 +25,10 @@ impl Rec {
     pub fn word(&self) -> Option<Word>
         ensures { result ≡ word_of (touch (item_of self.now)) }
     {
-        word_in(self.of, &self.body())
+        match Touched::by(self) {
+            Touched::Draws { word, .. } | Touched::Shows { word, .. } => word.fitting(),
+            Touched::Neither => None,
+        }
     }
 
     /// The number of the operation, or of how many operations the word showed. None as for `word`, but
@@ -34,149 +37,27 @@ impl Rec {
     pub fn number(&self) -> Option<u64>
         ensures { result ≡ number_of (touch (item_of self.now)) }
     {
-        number_in(self.of, &self.body())
-    }
-}
-
-fn word_in(o: u8, body: &Body) -> Option<Word>
-    ensures { result ≡ word_of (touch_of o body.now) }
-{
-    match body {
-        Body::Took { .. } | Body::Nil { .. } | Body::Lifo { .. } => Some(Word::Queue(o)),
-        Body::Seen { p: a, .. }
-        | Body::Post { a, .. }
-        | Body::Full { a, .. }
-        | Body::NoEntry { a, .. }
-        | Body::NoLifo { a, .. } => queue(*a),
-        Body::New { p, .. }
-        | Body::Short { p, .. }
-        | Body::Back { p, .. }
-        | Body::NoBlock { p, .. } => pool(*p),
-        Body::Inc { p, b, .. } | Body::Dec { p, b, .. } => block(*p, *b),
-        Body::Pub { sig, .. }
-        | Body::Sub { sig, .. }
-        | Body::Unsub { sig, .. }
-        | Body::Same { sig, .. } => signal(*sig),
-        Body::Arm { t, .. }
-        | Body::Disarm { t, .. }
-        | Body::Rearm { t, .. }
-        | Body::Idle { t, .. }
-        | Body::Tick { t, .. }
-        | Body::Fire { t, .. }
-        | Body::Armed { t, .. } => timer(*t),
-        Body::Begin
-        | Body::Run { .. }
-        | Body::Unhandled
-        | Body::Exit { .. }
-        | Body::Enter { .. }
-        | Body::Init { .. }
-        | Body::Say { .. }
-        | Body::Done
-        | Body::Lock { .. }
-        | Body::Unlock { .. }
-        | Body::Defer { .. }
-        | Body::NoDefer
-        | Body::Recall { .. }
-        | Body::NoRecall
-        | Body::Flush { .. }
-        | Body::Stim { .. }
-        | Body::Settle
-        | Body::BadTicks { .. }
-        | Body::Spent
-        | Body::Spill { .. }
-        | Body::Look { .. }
-        | Body::Rest { .. }
-        | Body::Malformed => None,
-    }
-}
-
-fn number_in(o: u8, body: &Body) -> Option<u64>
-    ensures { result ≡ number_of (touch_of o body.now) }
-{
-    match body {
-        Body::Took { f, l, m, .. } | Body::Post { f, l, m, .. } | Body::Lifo { f, l, m, .. } => {
-            number_drawn(*f, *l, *m)
+        match Touched::by(self) {
+            Touched::Draws { mark, .. } => number_before(mark),
+            Touched::Shows { mark, .. } => fitting(mark),
+            Touched::Neither => None,
         }
-        Body::Nil { f, l, m }
-        | Body::Seen { f, l, m, .. }
-        | Body::Full { f, l, m, .. }
-        | Body::NoEntry { f, l, m, .. }
-        | Body::NoLifo { f, l, m, .. } => operations(*f, *l, *m),
-        Body::Inc { r: n, .. }
-        | Body::Dec { d: n, .. }
-        | Body::New { n, .. }
-        | Body::Short { n, .. }
-        | Body::Back { n, .. }
-        | Body::NoBlock { n, .. }
-        | Body::Pub { n, .. }
-        | Body::Sub { n, .. }
-        | Body::Unsub { n, .. }
-        | Body::Same { n, .. }
-        | Body::Arm { n, .. }
-        | Body::Disarm { n, .. }
-        | Body::Rearm { n, .. }
-        | Body::Idle { n, .. }
-        | Body::Tick { n, .. }
-        | Body::Fire { n, .. }
-        | Body::Armed { n, .. } => Some(*n),
-        Body::Begin
-        | Body::Run { .. }
-        | Body::Unhandled
-        | Body::Exit { .. }
-        | Body::Enter { .. }
-        | Body::Init { .. }
-        | Body::Say { .. }
-        | Body::Done
-        | Body::Lock { .. }
-        | Body::Unlock { .. }
-        | Body::Defer { .. }
-        | Body::NoDefer
-        | Body::Recall { .. }
-        | Body::NoRecall
-        | Body::Flush { .. }
-        | Body::Stim { .. }
-        | Body::Settle
-        | Body::BadTicks { .. }
-        | Body::Spent
-        | Body::Spill { .. }
-        | Body::Look { .. }
-        | Body::Rest { .. }
-        | Body::Malformed => None,
     }
 }
 
-fn pool(p: u64) -> Option<Word>
-    ensures { result ≡ fitting_word (word.Pool p) }
-{
-    Some(Word::Pool(byte(p)?))
-}
-
-fn block(p: u64, b: u64) -> Option<Word>
-    ensures { result ≡ fitting_word (word.Block p b) }
-{
-    Some(Word::Block(byte(p)?, byte(b)?))
-}
-
-fn queue(a: u64) -> Option<Word>
-    ensures { result ≡ fitting_word (word.Queue a) }
-{
-    Some(Word::Queue(byte(a)?))
-}
-
-fn signal(sig: u64) -> Option<Word>
-    ensures { result ≡ fitting_word (word.Signal sig) }
-{
-    if sig < 65536 {
-        Some(Word::Signal(sig as u16))
-    } else {
-        None
+impl Named {
+    /// The word, where its numbers fit its type.
+    fn fitting(self) -> Option<Word>
+        ensures { result ≡ fitting_word (as_word self) }
+    {
+        Some(match self {
+            Named::Pool { p } => Word::Pool(byte(p)?),
+            Named::Block { p, b } => Word::Block(byte(p)?, byte(b)?),
+            Named::Queue { a } => Word::Queue(byte(a)?),
+            Named::Signal { sig } => Word::Signal(short(sig)?),
+            Named::Timer { t } => Word::Timer(byte(t)?),
+        })
     }
-}
-
-fn timer(t: u64) -> Option<Word>
-    ensures { result ≡ fitting_word (word.Timer t) }
-{
-    Some(Word::Timer(byte(t)?))
 }
 
 fn byte(n: u64) -> Option<u8>
@@ -185,22 +66,29 @@ fn byte(n: u64) -> Option<u8>
     if n < 256 { Some(n as u8) } else { None }
 }
 
-/// The number of operations of a queue at these counts.
-fn operations(f: u64, l: u64, m: u64) -> Option<u64>
-    ensures { result ≡ fitting_number (f + l + m) }
+fn short(n: u64) -> Option<u16>
+    ensures { result ≡ (if nat_lt n 65536 then Some n else None) }
 {
-    f.checked_add(l)?.checked_add(m)
+    if n < 65536 { Some(n as u16) } else { None }
 }
 
-/// The number of the operation after which these are the counts.
-fn number_drawn(f: u64, l: u64, m: u64) -> Option<u64>
-    ensures { result ≡ number_before (f + l + m) }
+/// The number, where it fits in 64 bits.
+fn fitting(n: u128) -> Option<u64>
+    ensures { result ≡ fitting_number n }
 {
-    if f > 0 {
-        operations(f - 1, l, m)
-    } else if l > 0 {
-        operations(0, l - 1, m)
+    if n <= u128::from(u64::MAX) {
+        Some(n as u64)
     } else {
-        m.checked_sub(1)
+        None
+    }
+}
+
+/// The number before a mark.
+fn number_before(mark: u128) -> Option<u64>
+    ensures { result ≡ number_before mark }
+{
+    match mark {
+        0 => None,
+        _ => fitting(mark - 1),
     }
 }
