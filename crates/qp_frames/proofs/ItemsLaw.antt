@@ -3,7 +3,7 @@ use Rattle.std.proofs.Common.{◌≡◌, ◌∙◌, ℕ, ◌+◌, Bool, true, fa
 use Rattle.std.specs.Prelude.{◌&&◌, ◌⊎◌, codes}
 use Rattle.std.specs.Str.{bytes_eq}
 use Rattle.std.proofs.lemmas.Fmt.{decimal_digit}
-use Rattle.qp_model.specs.declared.kinds.TheConstants.{QP}
+use Rattle.qp_model.specs.Kinds.{QP}
 use Rattle.qp_model.specs.declared.journals.Journal.{Journal}
 use Rattle.qp_model.specs.Output.{JournalItem, item, items_of}
 use Rattle.qp_model.specs.OutputText.{lines_text, text}
@@ -19,7 +19,7 @@ use Rattle.qp_text.proofs.ProgressLaw.{Good, take_item-is}
 use Rattle.qp_text.proofs.ReadLemmas.{read-next, split-cons}
 use Rattle.qp_text.proofs.SplitLemmas.{split-first}
 use Rattle.qp_text.proofs.TakenLaw.{taken}
-use Rattle.qp_text.proofs.TextLaw.{ok-pair}
+use Rattle.qp_text.proofs.TextLaw.{form-known, ok-pair}
 use Rattle.qp_text.proofs.TextRead.{reading_is_exact}
 
 -- what follows a value, if there is one
@@ -136,15 +136,6 @@ leads-items v j (i ∷ items) known leads =
     let rest = first.3 in
     let all = under-all v first.0 rest.reading items under.0 rest.fits rest.taken in
     ap (items_of v) (sym rest.journal) ∙ sym (ended-items v rest.reading rest.status all.0 rest.ended) ∙ all.1 ∙ ap (λ t. t ++ items) under.1
-
--- the form of a line is 1 or 2
-form-known : (parts : List (List ℕ)) → (form_of_parts parts ≡ 1) ⊎ (form_of_parts parts ≡ 2)
-form-known [] = inl refl
-form-known (word ∷ []) = inl refl
-form-known (word ∷ form ∷ parts) = go (bytes_eq word (codes "qp") && bytes_eq form (codes "2")) where
-  go : (is_2 : Bool) → (cond {A = ℕ} is_2 2 1 ≡ 1) ⊎ (cond {A = ℕ} is_2 2 1 ≡ 2)
-  go true = inr refl
-  go false = inl refl
 
 -- a line that is taken is one of an item that is taken
 line-item : (at form : ℕ) (p q : Reading) (line : List ℕ) → at ≡ form → take_read at p (item_of_line at line) ≡ Ok q

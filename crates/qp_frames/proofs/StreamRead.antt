@@ -3,7 +3,7 @@ use Rattle.std.proofs.Common.{◌≡◌, ◌∙◌, ℕ, ◌+◌, ◌%◌, Bool,
 use Rattle.std.specs.Prelude.{◌==◌, ◌⊎◌}
 use Rattle.std.specs.List.{flat_map}
 use Rattle.std.proofs.lemmas.Bool.{eqb-true}
-use Rattle.qp_model.specs.declared.kinds.TheConstants.{QP}
+use Rattle.qp_model.specs.Kinds.{QP}
 use Rattle.qp_model.specs.declared.journals.Journal.{Journal}
 use Rattle.qp_model.specs.Output.{JournalItem, item}
 use Rattle.qp_model.specs.OutputFrames.{end_byte, escape_byte, escaped, frame, frames_from, groups}

@@ -4,8 +4,10 @@ use Rattle.qp_model.specs.declared.journals.Journal.{Journal}
 use Rattle.qp_model.specs.Output.{JournalItem, item, last_id}
 use Rattle.qp_model.specs.OutputFrames.{checksum, end_byte, escape_byte}
 use Rattle.qp_model.specs.Vocabulary.{has_count}
+use Rattle.qp_text.specs.Codes as text
 use Rattle.qp_text.specs.declared.progress.Reading.{Reading}
 use Rattle.qp_text.specs.Progress.{at_start, journal_of, take_item}
+use Rattle.qp_frames.specs.Codes.{BAD_ESCAPE, CHECKSUM, SEQUENCE, LENGTH, ID, ITEM, NOT_CANONICAL}
 use Rattle.qp_frames.specs.declared.faults.FrameFault.{FrameFault}
 use Rattle.qp_frames.specs.declared.faults.FrameFault.TheVariants.{At}
 use Rattle.qp_frames.specs.declared.stream.Stream.{Stream}
@@ -30,29 +32,29 @@ form_at p = if p.reading.begun then p.reading.form else form_of_bytes p.bytes
 
 -- the item of a frame is taken, and the next frame may begin; or it has a code
 abbrev pub item_taken : Stream → Result Reading ℕ → Result Stream FrameFault
-item_taken p (Err code) = Err (At p.start 6 0 code)
+item_taken p (Err code) = Err (At p.start ITEM 0 code)
 item_taken p (Ok reading) =
     Ok (record p { reading = reading; sequence = (p.sequence + 1) % 256; start = later p.offset; offset = later p.offset; bytes = [] })
 
 -- the item with these numbers, or a byte shows that one is wrong
 abbrev pub with_numbers : ℕ → ℕ → ℕ → Result (List ℕ) ℕ → Result JournalItem FrameFault
-with_numbers start form id (Err got) = Err (At start 7 0 got)
-with_numbers start form id (Ok nums) = if has_count id nums then Ok (item id nums) else Err (At start 6 0 3)
+with_numbers start form id (Err got) = Err (At start NOT_CANONICAL 0 got)
+with_numbers start form id (Ok nums) = if has_count id nums then Ok (item id nums) else Err (At start ITEM 0 text.COUNT)
 
 -- the item of a frame whose checksum is right
 abbrev pub item_of_summed : ℕ → ℕ → ℕ → ℕ → ℕ → List ℕ → Result JournalItem FrameFault
 item_of_summed start form wanted sequence id numbers =
-    if not (sequence == wanted) then Err (At start 3 wanted sequence)
-    else (if (id == 0) || nat_lt (last_id form) id then Err (At start 5 0 id)
+    if not (sequence == wanted) then Err (At start SEQUENCE wanted sequence)
+    else (if (id == 0) || nat_lt (last_id form) id then Err (At start ID 0 id)
     else with_numbers start form id (numbers_from form 0 0 numbers))
 
 -- the item of a frame by the bytes before its checksum, and the checksum that it has
 abbrev pub item_of_body : ℕ → ℕ → ℕ → List ℕ → ℕ → Result JournalItem FrameFault
 item_of_body start form wanted (sequence ∷ id ∷ numbers) found =
-    if not (is_whole form numbers) then Err (At start 4 0 0)
-    else (if not (found == checksum (sequence ∷ id ∷ numbers)) then Err (At start 2 (checksum (sequence ∷ id ∷ numbers)) found)
+    if not (is_whole form numbers) then Err (At start LENGTH 0 0)
+    else (if not (found == checksum (sequence ∷ id ∷ numbers)) then Err (At start CHECKSUM (checksum (sequence ∷ id ∷ numbers)) found)
     else item_of_summed start form wanted sequence id numbers)
-item_of_body start form wanted _ found = Err (At start 4 0 0)
+item_of_body start form wanted _ found = Err (At start LENGTH 0 0)
 
 -- the item of a frame at this offset, in this form, for which this sequence byte is wanted; the last byte is its checksum
 abbrev pub item_of_frame : ℕ → ℕ → ℕ → List ℕ → Result JournalItem FrameFault
@@ -73,7 +75,7 @@ keep p b = Ok (record p { bytes = p.bytes ++ b ∷ []; is_escaped = false; offse
 
 -- the byte behind an escape
 abbrev pub after_escape : Stream → ℕ → Result Stream FrameFault
-after_escape p b = if b == 0x5E then keep p end_byte else (if b == 0x5D then keep p escape_byte else Err (At p.start 1 0 b))
+after_escape p b = if b == 0x5E then keep p end_byte else (if b == 0x5D then keep p escape_byte else Err (At p.start BAD_ESCAPE 0 b))
 
 -- a byte without an escape before it
 abbrev pub take_plain : Stream → ℕ → Result Stream FrameFault
@@ -98,13 +100,13 @@ fed (Ok p) (b ∷ bytes) = fed (take_byte p b) bytes
 
 -- the stream ends behind a frame: with `end`, or without
 abbrev pub finish : ℕ → Reading → Option ℕ → Result (ℕ × Journal) FrameFault
-finish offset p None = Err (At offset 6 0 5)
+finish offset p None = Err (At offset ITEM 0 text.NO_END)
 finish offset p (Some status) = Ok (p.form, journal_of p status)
 
 -- the stream ends here
 abbrev pub ended : Result Stream FrameFault → Result (ℕ × Journal) FrameFault
 ended (Err fault) = Err fault
-ended (Ok p) = if p.is_escaped || nat_lt 0 (length p.bytes) then Err (At p.start 4 0 0) else finish p.start p.reading p.reading.end
+ended (Ok p) = if p.is_escaped || nat_lt 0 (length p.bytes) then Err (At p.start LENGTH 0 0) else finish p.start p.reading p.reading.end
 
 -- the reading of a stream
 abbrev pub decoded : List ℕ → Result (ℕ × Journal) FrameFault

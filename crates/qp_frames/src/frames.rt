@@ -7,9 +7,11 @@ ghost use Rattle.qp_frames.specs.declared.faults.FrameFault.TheVariants.{At};
 ghost use Rattle.qp_frames.specs.Stream.{form_of_bytes, item_of_body, item_of_frame, item_of_summed, with_numbers};
 
 use crate::bytes::checksum;
+use crate::code;
 use crate::faults::{FrameFault, NumberFault};
 use crate::numbers::{Numerals, is_whole, read_numbers};
 use qp_model::{kinds, vocabulary};
+use qp_text::code as line_code;
 use std::alloc::Global;
 use std::marker::Model;
 
@@ -56,7 +58,7 @@ impl Place {
         ensures id { IfOk result (λ i. i.id ≤ 46) }
     {
         if bytes.is_empty() {
-            return Err(self.fault(4, 0, 0));
+            return Err(self.fault(code::LENGTH, 0, 0));
         }
         let last = bytes.len() - 1;
         self.item_of_body(alloc, &bytes[..last], bytes[last])
@@ -69,14 +71,14 @@ impl Place {
         ensures id { IfOk result (λ i. i.id ≤ 46) }
     {
         let [sequence, id, numbers @ ..] = body else {
-            return Err(self.fault(4, 0, 0));
+            return Err(self.fault(code::LENGTH, 0, 0));
         };
         if !is_whole(self.form, numbers) {
-            return Err(self.fault(4, 0, 0));
+            return Err(self.fault(code::LENGTH, 0, 0));
         }
         let computed = checksum(body);
         if found != computed {
-            return Err(self.fault(2, computed, found));
+            return Err(self.fault(code::CHECKSUM, computed, found));
         }
         self.item_of_summed(alloc, *sequence, *id, numbers)
     }
@@ -94,15 +96,15 @@ impl Place {
         ensures id { IfOk result (λ i. i.id ≤ 46) }
     {
         if sequence != self.wanted {
-            return Err(self.fault(3, self.wanted, sequence));
+            return Err(self.fault(code::SEQUENCE, self.wanted, sequence));
         }
         if id == 0 || id > last_id(self.form) {
-            return Err(self.fault(5, 0, id));
+            return Err(self.fault(code::ID, 0, id));
         }
         match read_numbers(alloc, self.form, numbers) {
             Ok(nums) => self.with_numbers(id, nums),
             Err(NumberFault::NoMemory) => Err(FrameFault::Memory),
-            Err(NumberFault::Wrong(got)) => Err(self.fault(7, 0, got)),
+            Err(NumberFault::Wrong(got)) => Err(self.fault(code::NOT_CANONICAL, 0, got)),
         }
     }
 
@@ -116,7 +118,7 @@ impl Place {
         if vocabulary::has_count(id, nums.items.as_slice()) {
             Ok(FrameItem { id, nums })
         } else {
-            Err(self.fault(6, 0, 3))
+            Err(self.fault(code::ITEM, 0, line_code::COUNT))
         }
     }
 }

@@ -2,14 +2,13 @@
 #![tactic(auto)]
 
 mod bytes;
+pub mod code;
 mod decoder;
 mod faults;
 mod frames;
 pub mod laws;
 mod numbers;
 mod stream;
-#[cfg(test)]
-mod tests;
 mod writer;
 
 pub use decoder::Decoder;

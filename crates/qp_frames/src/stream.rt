@@ -5,10 +5,11 @@ ghost use Rattle.qp_frames.specs.Faults.{Becomes, Finds};
 ghost use Rattle.qp_frames.specs.Stream.{after_escape, before_all, end_frame, ended, fed, finish, form_at, keep, take_byte, take_plain, with_item};
 
 use crate::bytes::{END, ESCAPE};
+use crate::code;
 use crate::faults::FrameFault;
 use crate::frames::{FrameItem, Place, form_of};
 use qp_model::Journal;
-use qp_text::{Found, LineFault, Reading};
+use qp_text::{Found, LineFault, Reading, code as line_code};
 use std::alloc::Global;
 use std::marker::Model;
 
@@ -87,7 +88,7 @@ impl Stream {
             0x5D => self.keep(ESCAPE),
             _ => Err(FrameFault::At {
                 offset: self.start,
-                code: 1,
+                code: code::BAD_ESCAPE,
                 want: 0,
                 got: b,
             }),
@@ -152,7 +153,7 @@ impl Stream {
             Err(LineFault::Memory) => Err(FrameFault::Memory),
             Err(LineFault::Code(code)) => Err(FrameFault::At {
                 offset: self.start,
-                code: 6,
+                code: code::ITEM,
                 want: 0,
                 got: code,
             }),
@@ -177,7 +178,7 @@ impl Stream {
         if self.is_escaped || !self.bytes.items.is_empty() {
             return Err(FrameFault::At {
                 offset: self.start,
-                code: 4,
+                code: code::LENGTH,
                 want: 0,
                 got: 0,
             });
@@ -193,9 +194,9 @@ fn finish(offset: u64, reading: Reading) -> Result<Found, FrameFault>
     let Some(end) = reading.end else {
         return Err(FrameFault::At {
             offset,
-            code: 6,
+            code: code::ITEM,
             want: 0,
-            got: 5,
+            got: line_code::NO_END,
         });
     };
     Ok(Found {

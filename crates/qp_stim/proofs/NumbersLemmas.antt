@@ -2,7 +2,7 @@
 use Rattle.std.proofs.Common.{◌≡◌, ℕ, ◌+◌, ◌-◌, ◌*◌, ◌^◌, ◌<◌, ◌≤◌, Bool, true, false, cond, not, ◌&&◌, ◌==◌, List, [], ◌∷◌, length, drop, get_or, Some, None, refl, sym, ◌∙◌, ap, arith, add-one}
 use Rattle.std.specs.List.{list_all}
 use Rattle.std.proofs.Math.Seq.{drop-cons}
-use Rattle.std.proofs.lemmas.Bool.{le-ltb, lt-ltb}
+use Rattle.std.proofs.lemmas.Bool.{and_parts, le-ltb, lt-ltb}
 use Rattle.std.proofs.lemmas.Bool.Decides.{nat_tests}
 use Rattle.std.specs.Char.{is_ascii_digit}
 use Rattle.qp_stim.specs.Numbers.{is_number, decimal_from}
@@ -31,16 +31,12 @@ held-overflow n i ds h large =
     let same = decimal_from-drop n i ds h in
     held-large (decimal_from n (drop i ds)) (omega (arith, same, grows, large))
 
-split_and : (a b : Bool) → (a && b) ≡ true → (a ≡ true) × (b ≡ true)
-split_and true b h = (refl, h)
-split_and false b h = cc
-
 -- the digits from place i on begin with one
 pub list_all-drop_digits : (i : ℕ) (ds : List ℕ) → i < length ds → list_all is_ascii_digit (drop i ds) ≡ true
     → (is_ascii_digit (get_or ds i 0) ≡ true) × (list_all is_ascii_digit (drop (i + 1) ds) ≡ true)
 list_all-drop_digits i ds h all =
     let first : drop i ds ≡ get_or ds i 0 ∷ drop (i + 1) ds = rw add-one (drop-cons ds i 0 h) in
-    split_and _ _ (sym (ap (list_all is_ascii_digit) first) ∙ all)
+    and_parts _ _ (sym (ap (list_all is_ascii_digit) first) ∙ all)
 
 pub digit-bounds : (d : ℕ) → is_ascii_digit d ≡ true → (48 ≤ d) × (d ≤ 57)
 digit-bounds d h = grind (arith, nat_tests)

@@ -2,7 +2,8 @@
 use Rattle.std.proofs.Common.{◌≡◌, ℕ, ◌+◌, ◌^◌, ◌<◌, ◌≤◌, ◌⊎◌, inl, inr, Bool, true, false, cond, not, ◌&&◌, ◌||◌, ◌==◌, nat_lt, List, [], ◌∷◌, ◌++◌, length, Some, None, Ok, Err, refl, sym, ◌∙◌, ap, arith, append_assoc, length-append, is_some}
 use Rattle.std.specs.declared.option.Option.{Option}
 use Rattle.std.specs.Option.{option_map}
-use Rattle.std.proofs.lemmas.Bool.{ltb-true}
+use Rattle.std.proofs.Math.Bool.{and-true, and_assoc}
+use Rattle.std.proofs.lemmas.Bool.{and_parts, ltb-true}
 use Rattle.std.proofs.lemmas.Bool.Decides.{nat_tests}
 use Rattle.std.proofs.lemmas.List.{append-nil}
 use Rattle.arrayvec.specs.ArrayVec.{ArrayVec}
@@ -58,25 +59,13 @@ fit_by p n false = and_no p.fit
     and_no true = refl
     and_no false = refl
 
-and_assoc : (a b c : Bool) → ((a && b) && c) ≡ (a && (b && c))
-and_assoc true b c = refl
-and_assoc false b c = refl
-
-and_end : (a : Bool) → a ≡ (a && true)
-and_end true = refl
-and_end false = refl
-
 -- whether all parameters fit
 pub with_pars-fit : (p : Pars) (ns : List ℕ) → (with_pars p ns).fit ≡ (p.fit && all_fit ns)
-with_pars-fit p [] = and_end p.fit
+with_pars-fit p [] = sym (and-true p.fit)
 with_pars-fit p (n ∷ ns) =
     with_pars-fit (with_par p (held n)) ns
     ∙ ap (λ b. b && all_fit ns) (fit_by p n (nat_lt n (2 ^ 64)))
     ∙ and_assoc p.fit (nat_lt n (2 ^ 64)) (all_fit ns)
-
-and_parts : (a b : Bool) → (a && b) ≡ true → (a ≡ true) × (b ≡ true)
-and_parts true b h = (refl, h)
-and_parts false b h = cc
 
 -- a parameter that fits, and for which there is room
 with_par-room : (p : Pars) (n : ℕ) → nat_lt n (2 ^ 64) ≡ true → length p.kept.items < 8

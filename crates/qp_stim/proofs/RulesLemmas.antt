@@ -5,7 +5,7 @@ use Rattle.std.specs.declared.option.Option.{Option}
 use Rattle.std.specs.declared.result.Result.{Result}
 use Rattle.std.specs.List.{AllByRecursion, Any}
 use Rattle.std.specs.Str.{bytes_eq}
-use Rattle.std.proofs.lemmas.Bool.{ltb-true, ltb-false, eqb-true}
+use Rattle.std.proofs.lemmas.Bool.{and_parts, eqb-true, ltb-false, ltb-true, not-false, or_parts}
 use Rattle.std.proofs.lemmas.Bool.Decides.{nat_tests}
 use Rattle.qp_model.specs.declared.stimulus.Stim.{Stim}
 use Rattle.qp_model.specs.declared.stimulus.Stim.TheVariants as stim
@@ -103,25 +103,13 @@ stands_Ok sources out miscounted step found h =
     let last : Ok step ≡ Ok found = c.1 in
     record { in_range = a.0; counted = c.0; same = cc }
 
-or_false : (a b : Bool) → (a || b) ≡ false → (a ≡ false) × (b ≡ false)
-or_false true b h = cc
-or_false false b h = (refl, h)
-
-not_false : (a : Bool) → not a ≡ false → a ≡ true
-not_false true h = refl
-not_false false h = cc
-
 and_true_right : (a : Bool) → (a && true) ≡ false → a ≡ false
 and_true_right true h = h
 and_true_right false h = refl
 
 all_below_limit : (pars : List ℕ) → all_fit pars ≡ true → AllByRecursion (λ p. p < 2 ^ 64) pars
 all_below_limit [] h = tt
-all_below_limit (p ∷ ps) h = let parts = both (nat_lt p (2 ^ 64)) (all_fit ps) h in (ltb-true p (2 ^ 64) parts.0, all_below_limit ps parts.1)
-  where
-    both : (a b : Bool) → (a && b) ≡ true → (a ≡ true) × (b ≡ true)
-    both true b h = (refl, h)
-    both false b h = cc
+all_below_limit (p ∷ ps) h = let parts = and_parts (nat_lt p (2 ^ 64)) (all_fit ps) h in (ltb-true p (2 ^ 64) parts.0, all_below_limit ps parts.1)
 
 below_256 : (m : Option ℕ) → exceeds 255 m ≡ false → IfSome m (λ n. n < 256)
 below_256 None h = tt
@@ -135,15 +123,15 @@ event_fits : (sys : System) (name : List ℕ) (signal : Signal) (pars : List ℕ
     → is_out signal pars reserve ≡ false → not (length pars == signal.params) ≡ false → EventFits sys (event signal pars) reserve
 event_fits sys name signal pars reserve found in_range counted =
     let d = signal_in-Some 4 sys.signals name signal found in
-    let a = or_false (not (all_fit pars) || exceeds 255 reserve) (signal.fixed && is_some reserve) in_range in
-    let b = or_false (not (all_fit pars)) (exceeds 255 reserve) a.0 in
+    let a = or_parts (not (all_fit pars) || exceeds 255 reserve) (signal.fixed && is_some reserve) in_range in
+    let b = or_parts (not (all_fit pars)) (exceeds 255 reserve) a.0 in
     let P : Bool → Type 0 = λ fixed. IfSome reserve (λ r. (r < 256) × (fixed ≡ false)) in
     record {
       def = d.def;
       above_reserved = d.from;
       declared = d.place;
-      count = eqb-true (length pars) signal.params (not_false (length pars == signal.params) counted) ∙ d.params;
-      pars = all_below_limit pars (not_false (all_fit pars) b.0);
+      count = eqb-true (length pars) signal.params (not-false (length pars == signal.params) counted) ∙ d.params;
+      pars = all_below_limit pars (not-false (all_fit pars) b.0);
       reserved = subst P d.fixed (reserve_fits signal.fixed reserve b.1 a.1);
     }
 
@@ -162,7 +150,7 @@ post_fits sys sources o name (Some to) None pars margin reserve step object foun
 post_fits sys sources o name (Some to) (Some signal) pars margin reserve step object found h =
     let s = stands_Ok sources (exceeds 255 margin || is_out signal pars reserve) (not (length pars == signal.params))
     (Adds (stim.Post to (event signal pars) margin reserve)) step h in
-    let a = or_false (exceeds 255 margin) (is_out signal pars reserve) s.in_range in
+    let a = or_parts (exceeds 255 margin) (is_out signal pars reserve) s.in_range in
     let fits : PostFits sys to (event signal pars) margin reserve = record {
       object = object_in-Some sys.objects o to object;
       event = event_fits sys name signal pars reserve found a.1 s.counted;

@@ -3,6 +3,7 @@ use Rattle.std.proofs.Common.{◌≡◌, ℕ, ◌+◌, ◌^◌, ◌<◌, ◌≤�
 use Rattle.std.specs.declared.option.Option.{Option}
 use Rattle.std.specs.declared.result.Result.{Result}
 use Rattle.std.specs.Option.{option_map, IfSome}
+use Rattle.std.proofs.Math.Bool.{and_comm}
 use Rattle.std.proofs.lemmas.Bool.Decides.{nat_tests}
 use Rattle.arrayvec.specs.ArrayVec.{ArrayVec}
 use Rattle.qp_model.specs.declared.stimulus.Stim.TheVariants as stim
@@ -25,19 +26,13 @@ held_cases n = elim (below n) [ inl lt ↦ inl (lt, held-small n lt) | inr ge �
     below : (n : ℕ) → (n < 2 ^ 64) ⊎ (2 ^ 64 ≤ n)
     below n = grind arith
 
-and_swap : (a b : Bool) → (a && b) ≡ (b && a)
-and_swap true true = refl
-and_swap true false = refl
-and_swap false true = refl
-and_swap false false = refl
-
 large_is_not_next : (sources n : ℕ) → 2 ^ 64 ≤ n → false ≡ ((n == sources + 1) && nat_le n 16)
-large_is_not_next sources n h = let past : nat_le n 16 ≡ false = grind (arith, nat_tests) in ap (λ b. b && (n == sources + 1)) (sym past) ∙ and_swap (nat_le n 16) (n == sources + 1)
+large_is_not_next sources n h = let past : nat_le n 16 ≡ false = grind (arith, nat_tests) in ap (λ b. b && (n == sources + 1)) (sym past) ∙ and_comm (nat_le n 16) (n == sources + 1)
 
 is_next-held : (sources n : ℕ) → is_next sources (held n) ≡ ((n == sources + 1) && nat_le n 16)
 is_next-held sources n =
     elim (held_cases n) [
-      | inl h ↦ ap (is_next sources) h.1 ∙ and_swap (nat_le n 16) (n == sources + 1)
+      | inl h ↦ ap (is_next sources) h.1 ∙ and_comm (nat_le n 16) (n == sources + 1)
       | inr h ↦ ap (is_next sources) h.1 ∙ large_is_not_next sources n h.0
     ]
 

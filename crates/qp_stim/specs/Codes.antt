@@ -1,5 +1,4 @@
--- The codes of a line, lowest first: 1 the line isn't in the grammar; 2 an object or signal isn't declared; 3 a number is out of range, or a
--- static signal has a `reserve`; 4 a source isn't the next, exceeds 16 or is missing; 5 the event has another number of parameters than its signal.
+-- The codes of a line, lowest first.
 use Rattle.std.specs.Prelude.{ℕ, ◌+◌, ◌^◌, ◌==◌, nat_lt, nat_le, Bool, false, not, ◌&&◌, ◌||◌, List, length, is_some, if◌then◌else◌, Some, None, Ok, Err}
 use Rattle.std.specs.declared.option.Option.{Option}
 use Rattle.std.specs.declared.result.Result.{Result}
@@ -9,6 +8,7 @@ use Rattle.qp_model.specs.declared.stimulus.Stim.TheVariants as stim
 use Rattle.qp_stim.specs.declared.names.Signal.{Signal}
 use Rattle.qp_stim.specs.declared.verdict.Step.{Step}
 use Rattle.qp_stim.specs.declared.verdict.Step.TheVariants.{Skips, Opens, Adds}
+use Rattle.qp_stim.specs.LineCodes.{GRAMMAR, UNDECLARED, RANGE, SOURCE, COUNT}
 use Rattle.qp_stim.specs.Parts.{is_skipped}
 use Rattle.qp_stim.specs.Names.{Dictionary}
 use Rattle.qp_stim.specs.Grammar.{Said, Event, said_of}
@@ -33,21 +33,21 @@ event signal pars = record { sig = signal.number; pars = record { items = pars }
 -- the codes 3 to 5 of a stimulus that follows so many sources
 abbrev pub stands : ℕ → (out miscounted : Bool) → Step → Result Step ℕ
 stands sources out miscounted step =
-    if out then Err 3 else if sources == 0 then Err 4 else if miscounted then Err 5 else Ok step
+    if out then Err RANGE else if sources == 0 then Err SOURCE else if miscounted then Err COUNT else Ok step
 
 unfoldable pub post_step : ℕ → Option ℕ → Option Signal → List ℕ → Option ℕ → Option ℕ → Result Step ℕ
 post_step sources (Some to) (Some signal) pars margin reserve =
     stands sources (exceeds 255 margin || is_out signal pars reserve) (not (length pars == signal.params)) (Adds (stim.Post to (event signal pars) margin reserve))
-post_step sources _ _ pars margin reserve = Err 2
+post_step sources _ _ pars margin reserve = Err UNDECLARED
 
 unfoldable pub publish_step : ℕ → Option Signal → List ℕ → Option ℕ → Result Step ℕ
 publish_step sources (Some signal) pars reserve =
     stands sources (is_out signal pars reserve) (not (length pars == signal.params)) (Adds (stim.Publish (event signal pars) reserve))
-publish_step sources None pars reserve = Err 2
+publish_step sources None pars reserve = Err UNDECLARED
 
 -- the next source from 1, of which there are at most 16
 unfoldable pub source_step : ℕ → ℕ → Result Step ℕ
-source_step sources n = if (n == sources + 1) && nat_le n 16 then Ok Opens else Err 4
+source_step sources n = if (n == sources + 1) && nat_le n 16 then Ok Opens else Err SOURCE
 
 -- what a line in the grammar does behind so many sources, or its lowest code
 unfoldable pub step_said : Dictionary → ℕ → Said → Result Step ℕ
@@ -59,7 +59,7 @@ step_said names sources (line.Tick rate) = stands sources (nat_lt 3 rate) false 
 step_said names sources line.Settle = stands sources false false (Adds stim.Settle)
 
 abbrev pub step_if : Dictionary → ℕ → Option Said → Result Step ℕ
-step_if names sources None = Err 1
+step_if names sources None = Err GRAMMAR
 step_if names sources (Some said) = step_said names sources said
 
 -- what a line does behind so many sources, or its lowest code

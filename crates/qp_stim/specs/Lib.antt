@@ -2,6 +2,7 @@ pub mod Parts
 pub mod Numbers
 pub mod Names
 pub mod Grammar
+pub mod LineCodes
 pub mod Codes
 pub mod Stimuli
 pub mod Answer

@@ -12,6 +12,7 @@ use Rattle.qp_stim.specs.declared.names.Signal.{Signal}
 use Rattle.qp_stim.specs.declared.tokens.Tokens.{Tokens}
 use Rattle.qp_stim.specs.declared.verdict.Step.{Step}
 use Rattle.qp_stim.specs.declared.verdict.Step.TheVariants.{Opens, Adds}
+use Rattle.qp_stim.specs.LineCodes.{UNDECLARED, RANGE, SOURCE, COUNT}
 use Rattle.qp_stim.specs.Parts.{split}
 use Rattle.qp_stim.specs.Names.{Dictionary}
 use Rattle.qp_stim.specs.Grammar as line
@@ -66,19 +67,19 @@ abbrev pub ◌>>=◌ : {A B : Type 0} → Result A ℕ → (A → Result B ℕ) 
 -- a margin or a reserve, if there is one
 abbrev pub small_of : Option (Option ℕ) → Result (Option ℕ) ℕ
 small_of None = Ok None
-small_of (Some None) = Err 3
-small_of (Some (Some n)) = if nat_le n 255 then Ok (Some n) else Err 3
+small_of (Some None) = Err RANGE
+small_of (Some (Some n)) = if nat_le n 255 then Ok (Some n) else Err RANGE
 
 abbrev pub declared : {A : Type 0} → Option A → Result A ℕ
-declared None = Err 2
+declared None = Err UNDECLARED
 declared (Some x) = Ok x
 
 -- the codes 3 to 5 of the parameters
 abbrev pub admits : ℕ → Signal → Pars → Option ℕ → Step → Result Step ℕ
 admits sources signal pars reserve step =
-    if not pars.fit || (signal.fixed && is_some reserve) then Err 3
-    else if sources == 0 then Err 4
-    else if pars.many || not (length pars.kept.items == signal.params) then Err 5
+    if not pars.fit || (signal.fixed && is_some reserve) then Err RANGE
+    else if sources == 0 then Err SOURCE
+    else if pars.many || not (length pars.kept.items == signal.params) then Err COUNT
     else Ok step
 
 unfoldable pub post_verdict : ℕ → Option ℕ → Event → Option (Option ℕ) → Option (Option ℕ) → Result Step ℕ
@@ -100,12 +101,12 @@ is_next sources None = false
 is_next sources (Some n) = nat_le n 16 && (n == sources + 1)
 
 unfoldable pub tick_verdict : ℕ → Option ℕ → Result Step ℕ
-tick_verdict sources None = Err 3
-tick_verdict sources (Some n) = if nat_lt 3 n then Err 3 else if sources == 0 then Err 4 else Ok (Adds (stim.Tick n))
+tick_verdict sources None = Err RANGE
+tick_verdict sources (Some n) = if nat_lt 3 n then Err RANGE else if sources == 0 then Err SOURCE else Ok (Adds (stim.Tick n))
 
 abbrev pub verdict_on : ℕ → Heard → Result Step ℕ
-verdict_on sources (heard.Source n) = if is_next sources n then Ok Opens else Err 4
+verdict_on sources (heard.Source n) = if is_next sources n then Ok Opens else Err SOURCE
 verdict_on sources (heard.Post to event margin reserve) = post_verdict sources to event margin reserve
 verdict_on sources (heard.Publish event reserve) = publish_verdict sources event reserve
 verdict_on sources (heard.Tick rate) = tick_verdict sources rate
-verdict_on sources heard.Settle = if sources == 0 then Err 4 else Ok (Adds stim.Settle)
+verdict_on sources heard.Settle = if sources == 0 then Err SOURCE else Ok (Adds stim.Settle)

@@ -13,6 +13,3 @@ mod verdict;
 
 pub use fault::StimFault;
 pub use reader::stimuli_of_bytes;
-
-#[cfg(test)]
-mod tests;

@@ -6,6 +6,7 @@ use Rattle.std.specs.List.{AllByRecursion, IsDistinct, list_any, sum_by}
 use Rattle.std.proofs.lemmas.List.Folds.{list_any-append}
 use Rattle.std.proofs.lemmas.List.Sums.{sum_by-append, sum_by-cons}
 use Rattle.std.proofs.lemmas.Bool.Decides.{nat_tests}
+use Rattle.std.proofs.lemmas.Bool.{or_parts}
 use Rattle.std.proofs.lemmas.Option.{none-some}
 use Rattle.qp_chart.specs.declared.place.Part.{Part}
 use Rattle.qp_chart.specs.Faults.{Fault, fault_if, first_of, first_in}
@@ -13,7 +14,7 @@ use Rattle.qp_model.specs.declared.systems.PoolDef.{PoolDef}
 use Rattle.qp_model.specs.declared.systems.SignalDef.{SignalDef}
 use Rattle.qp_system.specs.Raw.{Pool, Signal, Chart, Object}
 use Rattle.qp_system.specs.Between.{sizes_fault, signal_fault, chart_named, timers_of, placing_fault, first_behind, no_pool_fault, is_without_pool}
-use Rattle.qp_system.specs.Sound.{SizesAscend}
+use Rattle.qp_model.specs.Sound.{SizesAscend}
 use Rattle.qp_system.specs.Views.{pool_view, signal_view}
 use Rattle.qp_system.proofs.PassLemmas.{list_any-map}
 
@@ -30,10 +31,6 @@ none-both o os h = none-two o (first_of os) h
 pub fault_if-None : (test : Bool) (code : ℕ) (path : List Part) → fault_if test code path ≡ None → test ≡ false
 fault_if-None true code path h = absurd (none-some _ (sym h))
 fault_if-None false code path h = refl
-
-both-false : (a b : Bool) → (a || b) ≡ false → (a ≡ false) × (b ≡ false)
-both-false true b h = cc
-both-false false b h = (refl, h)
 
 -- what holds of all holds of all that follows from it
 pub every : {A : Type 0} (P Q : A → Type 0) → ((x : A) → P x → Q x) → (xs : List A) → AllByRecursion P xs → AllByRecursion Q xs
@@ -97,8 +94,8 @@ module _ (charts : List Chart) where
   differs-more earlier x (o ∷ os) h =
       let rest = differs-more earlier x os h.1 in
       let joined : (list_any (λ (p : Object). p.priority == o.priority) earlier || list_any (λ (p : Object). p.priority == o.priority) (x ∷ [])) ≡ false = sym (list_any-append (λ (p : Object). p.priority == o.priority) earlier (x ∷ [])) ∙ h.0 in
-      let two = both-false _ _ joined in
-      let one = both-false _ _ two.1 in
+      let two = or_parts _ _ joined in
+      let one = or_parts _ _ two.1 in
       ((two.0, rest.0), (one.0, rest.1))
 
   distinct-behind : (earlier : List Object) (k : ℕ) (xs : List Object) → first_behind (placing_fault charts) earlier k xs ≡ None

@@ -10,12 +10,12 @@ use Rattle.std.proofs.lemmas.Bool.Decides.{nat_tests}
 use Rattle.toml.specs.Data.{Data, Members, as_table, as_str}
 use Rattle.qp_chart.specs.declared.place.Part.{Part}
 use Rattle.qp_chart.specs.declared.place.Part.TheVariants.{Key, Pos}
-use Rattle.qp_chart.specs.declared.code.TheConstants.{TOO_MANY, RANGE}
+use Rattle.qp_chart.specs.Codes.{TOO_MANY, RANGE}
 use Rattle.qp_chart.specs.Faults.{Fault}
 use Rattle.qp_system.specs.Tree.{◌>>=◌, refuse, at_key, knows, defaulted, needed, optional}
 use Rattle.qp_system.specs.Values.{number_of, name_of, text_of, tables_of, texts_of, some_texts, short_texts, vars_of, some_vars, named_vars, all_integers, items_of_kind, allowed}
 use Rattle.arrayvec.specs.ArrayString.{ArrayString}
-use Rattle.qp_chart.specs.declared.key.TheConstants.{QP, POOL, SIGNAL, CHART, OBJECT, NAME, PARENT, INIT, INIT_DO, VARS, TIMER, STATE, ENTRY, EXIT, ROW, ON, WHEN, DO, TO}
+use Rattle.qp_chart.specs.Keys.{QP, POOL, SIGNAL, CHART, OBJECT, NAME, PARENT, INIT, INIT_DO, VARS, TIMER, STATE, ENTRY, EXIT, ROW, ON, WHEN, DO, TO}
 use Rattle.qp_chart.specs.declared.raw.RawState.{RawState}
 use Rattle.qp_chart.specs.declared.raw.RawChart.{RawChart}
 use Rattle.qp_chart.specs.Readable.{IsReadableRow, IsReadableState}

@@ -11,7 +11,7 @@ use Rattle.toml.specs.View.{view, items_view}
 use Rattle.toml.specs.declared.value.Value.{Value}
 use Rattle.qp_chart.specs.declared.place.Part.{Part}
 use Rattle.qp_chart.specs.declared.place.Part.TheVariants.{Pos}
-use Rattle.qp_chart.specs.declared.code.TheConstants.{RANGE}
+use Rattle.qp_chart.specs.Codes.{RANGE}
 use Rattle.qp_chart.specs.Faults.{Fault}
 use Rattle.qp_system.specs.declared.fault.SystemFault.{SystemFault}
 use Rattle.qp_system.specs.declared.fault.SystemFault.TheVariants.{Memory, NotToml, At}

@@ -16,8 +16,8 @@ use Rattle.qp_system.specs.Few.{IsFewChart}
 use Rattle.qp_system.specs.declared.fault.SystemFault.{SystemFault}
 use Rattle.qp_system.specs.declared.fault.SystemFault.TheVariants.{Memory, NotToml, At}
 use Rattle.qp_chart.specs.declared.place.Part.TheVariants.{Key, Pos}
-use Rattle.qp_chart.specs.declared.key.TheConstants.{POOL, SIZE}
-use Rattle.qp_chart.specs.declared.code.TheConstants.{RANGE}
+use Rattle.qp_chart.specs.Keys.{POOL, SIZE}
+use Rattle.qp_chart.specs.Codes.{RANGE}
 use Rattle.qp_model.specs.declared.systems.PoolDef.{PoolDef}
 use Rattle.qp_system.specs.Between.{first_behind, sizes_fault, is_not_above}
 use Rattle.qp_system.specs.Views.{pool_view}

@@ -14,7 +14,7 @@ use Rattle.qp_system.specs.declared.raw.RawSystem.{RawSystem}
 use Rattle.qp_system.specs.Raw.{Object}
 use Rattle.qp_system.specs.Between.{between_fault, timers_of}
 use Rattle.qp_system.specs.Later.{later_of, later_fault}
-use Rattle.qp_system.specs.Sound.{SizesAscend}
+use Rattle.qp_model.specs.Sound.{SizesAscend}
 use Rattle.qp_system.specs.Within.{names_of, in_chart, within_chart, charts_fault}
 use Rattle.qp_system.specs.Views.{signal_view, chart_view, object_view}
 use Rattle.qp_system.proofs.BehindLemmas.{none-both, every, every-unmap, each-in, signals-bare, IsPlaced, each-placed, priorities-distinct, timers-few, sizes-ascend, signals-pooled}

@@ -9,8 +9,8 @@ use Rattle.std.proofs.lemmas.List.Sums.{sum_by-append}
 use Rattle.std.proofs.lemmas.Bool.Decides.{nat_tests}
 use Rattle.arrayvec.specs.ArrayString.{ArrayString}
 use Rattle.qp_chart.specs.declared.place.Part.TheVariants.{Key, Pos}
-use Rattle.qp_chart.specs.declared.key.TheConstants.{CHART, OBJECT, VARS, PRIORITY, THRESHOLD}
-use Rattle.qp_chart.specs.declared.code.TheConstants.{RANGE, DOUBLE, NO_SUCH_NAME, TOO_MANY}
+use Rattle.qp_chart.specs.Keys.{CHART, OBJECT, VARS, PRIORITY, THRESHOLD}
+use Rattle.qp_chart.specs.Codes.{RANGE, DOUBLE, NO_SUCH_NAME, TOO_MANY}
 use Rattle.qp_chart.specs.declared.raw.RawChart.{RawChart}
 use Rattle.qp_chart.specs.Faults.{Fault}
 use Rattle.qp_system.specs.declared.fault.SystemFault.{SystemFault}

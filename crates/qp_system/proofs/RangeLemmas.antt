@@ -5,8 +5,8 @@ use Rattle.std.specs.declared.result.Result.{Result}
 use Rattle.std.proofs.lemmas.Bool.Decides.{nat_tests}
 use Rattle.toml.specs.Data.{Data, Members, as_integer}
 use Rattle.qp_chart.specs.declared.place.Part.{Part}
-use Rattle.qp_chart.specs.declared.code.TheConstants.{RANGE}
-use Rattle.qp_chart.specs.declared.key.TheConstants.{SIZE, BLOCKS, NAME, PARAMS, STATIC, SIGNAL, RATE, CHART, PRIORITY, THRESHOLD, QUEUE, DEFER, VARS}
+use Rattle.qp_chart.specs.Codes.{RANGE}
+use Rattle.qp_chart.specs.Keys.{SIZE, BLOCKS, NAME, PARAMS, STATIC, SIGNAL, RATE, CHART, PRIORITY, THRESHOLD, QUEUE, DEFER, VARS}
 use Rattle.qp_chart.specs.Faults.{Fault}
 use Rattle.qp_system.specs.Raw.{Pool, Signal, Timer, Object}
 use Rattle.qp_system.specs.Tree.{refuse, knows, needed, defaulted}

@@ -8,7 +8,7 @@ use Rattle.std.proofs.lemmas.Bool.Decides.{nat_tests}
 use Rattle.toml.specs.Data.{Data, Members, as_table}
 use Rattle.qp_chart.specs.declared.place.Part.{Part}
 use Rattle.qp_chart.specs.declared.place.Part.TheVariants.{Pos}
-use Rattle.qp_chart.specs.declared.code.TheConstants.{TOO_MANY}
+use Rattle.qp_chart.specs.Codes.{TOO_MANY}
 use Rattle.qp_chart.specs.Faults.{Fault}
 use Rattle.qp_system.specs.Tree.{◌>>=◌, refuse, at_key, default_at, needed_at, defaulted, needed, each}
 use Rattle.qp_system.specs.Values.{tables_of, some_tables, items_of_kind}

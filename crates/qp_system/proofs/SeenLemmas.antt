@@ -9,7 +9,7 @@ use Rattle.std.proofs.lemmas.List.{take-map}
 use Rattle.arrayvec.specs.ArrayString.{ArrayString}
 use Rattle.qp_chart.specs.declared.place.Part.{Part}
 use Rattle.qp_chart.specs.declared.place.Part.TheVariants.{Key}
-use Rattle.qp_chart.specs.declared.key.TheConstants.{PARENT, ENTRY, EXIT, INIT_DO, WHEN, DO, TO}
+use Rattle.qp_chart.specs.Keys.{PARENT, ENTRY, EXIT, INIT_DO, WHEN, DO, TO}
 use Rattle.qp_chart.specs.declared.raw.SigName.{SigName}
 use Rattle.qp_chart.specs.declared.raw.ObjName.{ObjName}
 use Rattle.qp_chart.specs.declared.raw.RawTimer.{RawTimer}

@@ -32,7 +32,7 @@ use Rattle.qp_model.specs.Sites.{object_at}
 use Rattle.qp_system.specs.declared.raw.RawObject.{RawObject}
 use Rattle.qp_system.specs.declared.raw.RawSystem.{RawSystem}
 use Rattle.qp_system.specs.Few.{IsFewChart}
-use Rattle.qp_system.specs.SoundChart.{IsSignal, IsDeclared, IsState, IsReceiver, IsTimer, Reaches, IsSoundEvent, IsSoundPlain, IsSoundAct, IsSoundGuard, IsSoundRow, IsSoundState, IsSoundChart}
+use Rattle.qp_model.specs.SoundChart.{IsSignal, IsDeclared, IsState, IsReceiver, IsTimer, Reaches, IsSoundEvent, IsSoundPlain, IsSoundAct, IsSoundGuard, IsSoundRow, IsSoundState, IsSoundChart}
 use Rattle.qp_system.specs.SystemOf.{IsObjectOf, AreObjectsOf}
 use Rattle.qp_system.specs.Within.{signal_name, object_name, names_of}
 use Rattle.qp_system.proofs.NamedLemmas.{number-above, number-below}

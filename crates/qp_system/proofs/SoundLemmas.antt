@@ -26,8 +26,8 @@ use Rattle.qp_system.specs.declared.raw.RawSystem.{RawSystem}
 use Rattle.qp_system.specs.Between.{timers_of as count_of}
 use Rattle.qp_system.specs.Document.{TreeGives}
 use Rattle.qp_system.specs.Few.{IsFewChart, IsFew}
-use Rattle.qp_system.specs.SoundChart.{IsSoundChart}
-use Rattle.qp_system.specs.Sound.{IsSoundPool, IsSoundSignal, IsSoundObject, IsSoundTimer, IsSound}
+use Rattle.qp_model.specs.SoundChart.{IsSoundChart}
+use Rattle.qp_model.specs.Sound.{IsSoundPool, IsSoundSignal, IsSoundObject, IsSoundTimer, IsSound}
 use Rattle.qp_system.specs.SystemOf.{chart_names, first_value, IsObjectOf, timer_of, timers_of, IsSystemOf}
 use Rattle.qp_system.specs.Views.{pool_view, signal_view, timer_view, chart_view, object_view, raw_view}
 use Rattle.qp_system.specs.Within.{names_of}

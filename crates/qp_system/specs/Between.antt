@@ -5,8 +5,8 @@ use Rattle.std.specs.List.{list_all, list_any, find, sum_by}
 use Rattle.std.specs.Option.{option_map_or, option_or, is_none}
 use Rattle.std.specs.Str.{bytes_eq}
 use Rattle.qp_chart.specs.declared.place.Part.TheVariants.{Key, Pos}
-use Rattle.qp_chart.specs.declared.key.TheConstants.{POOL, SIGNAL, CHART, OBJECT, SIZE, NAME, STATIC, VARS, PRIORITY, THRESHOLD}
-use Rattle.qp_chart.specs.declared.code.TheConstants.{RANGE, DOUBLE, NO_SUCH_NAME, TOO_MANY, NO_POOL}
+use Rattle.qp_chart.specs.Keys.{POOL, SIGNAL, CHART, OBJECT, SIZE, NAME, STATIC, VARS, PRIORITY, THRESHOLD}
+use Rattle.qp_chart.specs.Codes.{RANGE, DOUBLE, NO_SUCH_NAME, TOO_MANY, NO_POOL}
 use Rattle.qp_chart.specs.Faults.{Fault, fault_if, first_of, first_in}
 use Rattle.qp_system.specs.Raw.{Pool, Signal, Chart, Object, Raw}
 

@@ -14,8 +14,6 @@ pub mod Front
 pub mod Document
 pub mod Checked
 pub mod SystemOf
-pub mod SoundChart
-pub mod Sound
 pub mod Placed
 pub mod Deeds
 pub mod Same

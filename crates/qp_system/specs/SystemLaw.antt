@@ -4,7 +4,7 @@ use Rattle.qp_model.specs.declared.systems.System.{System}
 use Rattle.qp_system.specs.declared.fault.SystemFault.{SystemFault}
 use Rattle.qp_system.specs.declared.fault.SystemFault.TheVariants.{Memory}
 use Rattle.qp_system.specs.Same.{SayTheSame}
-use Rattle.qp_system.specs.Sound.{IsSound}
+use Rattle.qp_model.specs.Sound.{IsSound}
 use Rattle.qp_system.specs.SystemOf.{IsSystemOf, RefusesSystem}
 
 -- the system of a file meets the rules of its file

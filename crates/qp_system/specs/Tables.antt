@@ -6,8 +6,8 @@ use Rattle.std.specs.Option.{option_map_or}
 use Rattle.toml.specs.Data.{Data, Items, no_items, item, Members, as_array}
 use Rattle.qp_chart.specs.declared.place.Part.{Part}
 use Rattle.qp_chart.specs.declared.place.Part.TheVariants.{Key}
-use Rattle.qp_chart.specs.declared.key.TheConstants.{QP, POOL, SIGNAL, CHART, OBJECT, SIZE, BLOCKS, NAME, PARAMS, STATIC, INIT, INIT_DO, VARS, TIMER, STATE, RATE, PARENT, ENTRY, EXIT, ROW, ON, WHEN, DO, TO, PRIORITY, QUEUE, DEFER, THRESHOLD}
-use Rattle.qp_chart.specs.declared.code.TheConstants.{MISSING}
+use Rattle.qp_chart.specs.Keys.{QP, POOL, SIGNAL, CHART, OBJECT, SIZE, BLOCKS, NAME, PARAMS, STATIC, INIT, INIT_DO, VARS, TIMER, STATE, RATE, PARENT, ENTRY, EXIT, ROW, ON, WHEN, DO, TO, PRIORITY, QUEUE, DEFER, THRESHOLD}
+use Rattle.qp_chart.specs.Codes.{MISSING}
 use Rattle.qp_chart.specs.Faults.{Fault}
 use Rattle.qp_system.specs.Raw.{Pool, Signal, Timer, Row, State, Chart, Object, Raw}
 use Rattle.qp_system.specs.Tree.{◌>>=◌, refuse, at_key, knows, needed, defaulted, optional, each}

@@ -7,7 +7,7 @@ use Rattle.std.specs.Str.{bytes_eq}
 use Rattle.toml.specs.Data.{Data, Members, no_members, member, get_member}
 use Rattle.qp_chart.specs.declared.place.Part.{Part}
 use Rattle.qp_chart.specs.declared.place.Part.TheVariants.{Key, Pos}
-use Rattle.qp_chart.specs.declared.code.TheConstants.{MISSING, UNKNOWN}
+use Rattle.qp_chart.specs.Codes.{MISSING, UNKNOWN}
 use Rattle.qp_chart.specs.Paths.{key_word}
 use Rattle.qp_chart.specs.Faults.{Fault}
 

@@ -6,7 +6,7 @@ use Rattle.std.specs.Option.{option_map, option_and_then}
 use Rattle.toml.specs.Data.{Data, Items, no_items, item, Members, no_members, member, as_integer, as_str, as_bool, as_array, as_table}
 use Rattle.qp_chart.specs.declared.place.Part.{Part}
 use Rattle.qp_chart.specs.declared.place.Part.TheVariants.{Pos}
-use Rattle.qp_chart.specs.declared.code.TheConstants.{WRONG_KIND, RANGE, TOO_MANY}
+use Rattle.qp_chart.specs.Codes.{WRONG_KIND, RANGE, TOO_MANY}
 use Rattle.qp_chart.specs.Faults.{Fault}
 use Rattle.qp_system.specs.Tree.{refuse, ◌>>=◌}
 use Rattle.qp_system.specs.Names.{is_name}

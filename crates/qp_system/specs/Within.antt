@@ -3,7 +3,7 @@ use Rattle.std.specs.Prelude.{ℕ, List, ◌∷◌, map}
 use Rattle.std.specs.declared.option.Option.{Option}
 use Rattle.std.specs.Option.{option_map}
 use Rattle.qp_chart.specs.declared.place.Part.TheVariants.{Key, Pos}
-use Rattle.qp_chart.specs.declared.key.TheConstants.{CHART}
+use Rattle.qp_chart.specs.Keys.{CHART}
 use Rattle.qp_chart.specs.declared.raw.Names.{Names}
 use Rattle.qp_chart.specs.declared.raw.SigName.{SigName}
 use Rattle.qp_chart.specs.declared.raw.ObjName.{ObjName}

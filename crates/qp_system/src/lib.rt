@@ -29,10 +29,3 @@ pub use document::raw_of_bytes;
 pub use fault::SystemFault;
 pub use raw::{RawCharts, RawObject, RawObjects, RawSystem};
 pub use system::system_of_bytes;
-
-#[cfg(test)]
-mod file_tests;
-#[cfg(test)]
-mod samples;
-#[cfg(test)]
-mod tests;

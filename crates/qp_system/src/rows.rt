@@ -3,7 +3,7 @@
 ghost use Rattle.std.specs.Prelude.{◌≤◌, ◌∷◌, ◌++◌, [], length, map};
 ghost use Rattle.toml.specs.View.{table_view};
 ghost use Rattle.qp_chart.specs.declared.place.Part.TheVariants.{Key};
-ghost use Rattle.qp_chart.specs.declared.key.TheConstants as key;
+ghost use Rattle.qp_chart.specs.Keys as key;
 ghost use Rattle.qp_system.specs.Refused.{Gives};
 ghost use Rattle.qp_system.specs.Tree.{each, defaulted};
 ghost use Rattle.qp_system.specs.Tables.{read_tables, timer_at, row_at};

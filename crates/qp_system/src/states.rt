@@ -4,7 +4,7 @@ ghost use Rattle.std.specs.Prelude.{◌≡◌, ◌≤◌, ◌∷◌, ◌++◌, [
 ghost use Rattle.std.specs.Option.{option_map};
 ghost use Rattle.toml.specs.View.{table_view, view};
 ghost use Rattle.qp_chart.specs.declared.place.Part.TheVariants.{Key};
-ghost use Rattle.qp_chart.specs.declared.key.TheConstants as key;
+ghost use Rattle.qp_chart.specs.Keys as key;
 ghost use Rattle.qp_system.specs.Refused.{Gives};
 ghost use Rattle.qp_system.specs.Tree.{at_key, each, needed};
 ghost use Rattle.qp_system.specs.Tables.{read_tables, initial, has_items, state_at, chart_at};

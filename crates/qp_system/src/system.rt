@@ -1,7 +1,7 @@
 //! The system of a file's bytes.
 
 ghost use Rattle.std.specs.Prelude.{IfOk, IfErr};
-ghost use Rattle.qp_system.specs.Sound.{IsSound};
+ghost use Rattle.qp_model.specs.Sound.{IsSound};
 ghost use Rattle.qp_system.specs.SystemOf.{IsSystemOf, RefusesSystem};
 
 use crate::checked::checked_of_bytes;

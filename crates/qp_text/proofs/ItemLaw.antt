@@ -5,7 +5,7 @@ use Rattle.std.specs.Fmt.{signed_decimal}
 use Rattle.std.specs.Int.{cast_signed, w64}
 use Rattle.std.specs.Option.{option_map}
 use Rattle.std.proofs.lemmas.Bool.Decides.{nat_tests}
-use Rattle.qp_model.specs.declared.kinds.TheConstants.{SAY}
+use Rattle.qp_model.specs.Kinds.{SAY}
 use Rattle.qp_model.specs.Vocabulary.{word_text, has_count}
 use Rattle.qp_model.specs.Output.{JournalItem, item, last_id}
 use Rattle.qp_model.specs.OutputText.{after_spaces, number_texts, say_texts, line_text}

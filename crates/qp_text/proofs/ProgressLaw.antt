@@ -6,7 +6,7 @@ use Rattle.std.specs.List.{list_all}
 use Rattle.std.specs.Option.{is_some}
 use Rattle.std.proofs.lemmas.Bool.{eqb-true, le-leb, leb-true, ltb-true}
 use Rattle.qp_model.proofs.ListLemmas.{both_true, true_both}
-use Rattle.qp_model.specs.declared.kinds.TheConstants.{QP, LANE, END, BEGIN}
+use Rattle.qp_model.specs.Kinds.{QP, LANE, END, BEGIN}
 use Rattle.qp_model.specs.declared.record.Rec.{Rec}
 use Rattle.qp_model.specs.Vocabulary.{has_count}
 use Rattle.qp_model.specs.Output.{JournalItem, item, record_item, items_of_lanes, last_id, is_record_in_range, is_lane_in_range, is_end_status}

@@ -4,7 +4,7 @@ use Rattle.std.specs.Prelude.{◌==◌, ◌&&◌, ◌⊎◌, nat_le}
 use Rattle.std.specs.List.{list_all}
 use Rattle.std.proofs.lemmas.Bool.{eqb-true}
 use Rattle.qp_model.proofs.ListLemmas.{both_true, true_both}
-use Rattle.qp_model.specs.declared.kinds.TheConstants.{QP, LANE, END}
+use Rattle.qp_model.specs.Kinds.{QP, LANE, END}
 use Rattle.qp_model.specs.declared.record.Rec.{Rec}
 use Rattle.qp_model.specs.Output.{JournalItem, item, record_item, items_of_lane, items_of_lanes, last_kernel, is_lane_in_range, is_end_status}
 use Rattle.qp_text.specs.declared.progress.Reading.{Reading}

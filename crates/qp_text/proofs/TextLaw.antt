@@ -7,7 +7,7 @@ use Rattle.std.proofs.lemmas.Bool.{le-leb, leb-true}
 use Rattle.std.proofs.lemmas.Bool.Decides.{nat_tests}
 use Rattle.std.proofs.lemmas.Grind.{flat_map-append}
 use Rattle.qp_model.proofs.ListLemmas.{both_true, true_both}
-use Rattle.qp_model.specs.declared.kinds.TheConstants.{BEGIN, REST}
+use Rattle.qp_model.specs.Kinds.{BEGIN, REST}
 use Rattle.qp_model.specs.declared.record.Rec.{Rec}
 use Rattle.qp_model.specs.declared.journals.Journal.{Journal}
 use Rattle.qp_model.specs.Vocabulary.{has_count}
@@ -34,7 +34,7 @@ abbrev pub text_so_far : Reading → List ℕ
 text_so_far p = lines_text p.form (taken p)
 
 -- a first line states form 1 or 2
-form-known : (parts : List (List ℕ)) → (form_of_parts parts ≡ 1) ⊎ (form_of_parts parts ≡ 2)
+pub form-known : (parts : List (List ℕ)) → (form_of_parts parts ≡ 1) ⊎ (form_of_parts parts ≡ 2)
 form-known [] = inl refl
 form-known (word ∷ []) = inl refl
 form-known (word ∷ form ∷ parts) = go (bytes_eq word (codes "qp") && bytes_eq form (codes "2")) where

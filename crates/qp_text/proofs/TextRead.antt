@@ -7,7 +7,7 @@ use Rattle.std.proofs.lemmas.Bool.Decides.{nat_tests}
 use Rattle.std.proofs.lemmas.Fmt.{decimal_digit}
 use Rattle.std.proofs.lemmas.Grind.{flat_map-append}
 use Rattle.qp_model.proofs.ListLemmas.{both_true, true_both}
-use Rattle.qp_model.specs.declared.kinds.TheConstants.{QP, LANE, END, BEGIN}
+use Rattle.qp_model.specs.Kinds.{QP, LANE, END, BEGIN}
 use Rattle.qp_model.specs.declared.record.Rec.{Rec}
 use Rattle.qp_model.specs.declared.journals.Journal.{Journal}
 use Rattle.qp_model.specs.Vocabulary.{has_count}

@@ -1,7 +1,7 @@
 -- Ids of words, and counts of numbers.
 use Rattle.std.proofs.Common.{◌≡◌, ℕ, zero, suc, ◌+◌, ◌-◌, ◌<◌, ◌≤◌, Bool, true, false, Some, None, cond, refl, arith, inl, inr}
 use Rattle.std.specs.Prelude.{List, [], ◌∷◌, ◌==◌, ◌&&◌, ◌||◌, ◌⊎◌, length, nat_le, slice_index}
-use Rattle.qp_model.specs.declared.kinds.TheConstants.{NEW, ASSERT}
+use Rattle.qp_model.specs.Kinds.{NEW, ASSERT}
 use Rattle.std.specs.List.{list_all}
 use Rattle.std.proofs.lemmas.Bool.{leb-true, eqb-true}
 use Rattle.qp_model.proofs.ListLemmas.{both_true}

@@ -1,3 +1,4 @@
+pub mod Codes
 pub mod Puts
 pub mod Parts
 pub mod Numbers

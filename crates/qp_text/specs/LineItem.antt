@@ -1,9 +1,10 @@
--- The item of a line, or the code of what is wrong with the line by itself: 1 the word, 2 a number, 3 their count.
+-- The item of a line, or the code of what is wrong with the line by itself: its word, a number, or their count.
 use Rattle.std.specs.Prelude.{ℕ, zero, suc, ◌+◌, ◌==◌, Bool, ◌&&◌, List, [], ◌∷◌, if◌then◌else◌, Option, Some, None, Result, Ok, Err, codes}
 use Rattle.std.specs.Str.{bytes_eq}
-use Rattle.qp_model.specs.declared.kinds.TheConstants.{SAY}
+use Rattle.qp_model.specs.Kinds.{SAY}
 use Rattle.qp_model.specs.Vocabulary.{word_text, has_count}
 use Rattle.qp_model.specs.Output.{JournalItem, item, last_id}
+use Rattle.qp_text.specs.Codes.{WORD, NUMBER, COUNT}
 use Rattle.qp_text.specs.Parts.{split}
 use Rattle.qp_text.specs.Numbers.{numbers_at}
 
@@ -22,17 +23,17 @@ has_signs form id = (form == 2) && (id == SAY)
 
 -- with these numbers
 abbrev pub counted : ℕ → Option (List ℕ) → Result JournalItem ℕ
-counted id None = Err 2
-counted id (Some nums) = if has_count id nums then Ok (item id nums) else Err 3
+counted id None = Err NUMBER
+counted id (Some nums) = if has_count id nums then Ok (item id nums) else Err COUNT
 
 -- with the word of this id
 abbrev pub numbered : ℕ → List (List ℕ) → Option ℕ → Result JournalItem ℕ
-numbered form texts None = Err 1
+numbered form texts None = Err WORD
 numbered form texts (Some id) = counted id (numbers_at (has_signs form id) 0 texts)
 
 -- by the parts of a line
 abbrev pub item_of_parts : ℕ → List (List ℕ) → Result JournalItem ℕ
-item_of_parts form [] = Err 1
+item_of_parts form [] = Err WORD
 item_of_parts form (word ∷ texts) = numbered form texts (id_of form word)
 
 -- the item of a line in a form

@@ -2,6 +2,7 @@
 use Rattle.std.specs.Prelude.{ℕ, ◌+◌, List, [], ◌∷◌, if◌then◌else◌, Option, Some, None, Result, Ok, Err}
 use Rattle.qp_model.specs.declared.journals.Journal.{Journal}
 use Rattle.qp_model.specs.Output.{JournalItem}
+use Rattle.qp_text.specs.Codes.{WORD, NO_END}
 use Rattle.qp_text.specs.Parts.{split}
 use Rattle.qp_text.specs.LineItem.{item_of_line, form_of_line}
 use Rattle.qp_text.specs.declared.progress.Reading.{Reading}
@@ -19,15 +20,15 @@ take_read form p (Err code) = Err code
 abbrev pub take_line : Reading → List ℕ → Result Reading ℕ
 take_line p line = take_read (form_at p line) p (item_of_line (form_at p line) line)
 
--- the text ends: after `end`, or with code 5
+-- the text ends: after `end`, or too early
 abbrev pub finish : ℕ → Reading → Option ℕ → Result (ℕ × Journal) (ℕ × ℕ)
-finish number p None = Err (number, 5)
+finish number p None = Err (number, NO_END)
 finish number p (Some status) = Ok (p.form, journal_of p status)
 
--- what stands behind the last newline is a line without one, which has code 1
+-- what stands behind the last newline is a line without one
 abbrev pub last_part : ℕ → Reading → List ℕ → Result (ℕ × Journal) (ℕ × ℕ)
 last_part number p [] = finish number p p.end
-last_part number p (b ∷ bytes) = Err (number, 1)
+last_part number p (b ∷ bytes) = Err (number, WORD)
 
 -- a line is taken, or has a code
 abbrev pub after_line : ℕ → Result Reading ℕ → (Reading → Result (ℕ × Journal) (ℕ × ℕ)) → Result (ℕ × Journal) (ℕ × ℕ)

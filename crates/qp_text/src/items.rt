@@ -2,11 +2,13 @@
 
 ghost use Rattle.std.specs.Prelude.{◌≡◌, ◌≤◌, ◌==◌, IfOk, IfSome, length, Some, None, if◌then◌else◌};
 ghost use Rattle.qp_model.specs.Output.{last_id};
+ghost use Rattle.qp_text.specs.Codes.{NUMBER};
 ghost use Rattle.qp_text.specs.Faults.{Answers, or_code};
 ghost use Rattle.qp_text.specs.LineItem.{counted, form_of_line, has_signs, id_of, item_of_line};
 ghost use Rattle.qp_text.specs.Numbers.{numbers_at};
 ghost use Rattle.qp_text.specs.Parts.{parts_behind};
 
+use crate::code;
 use crate::faults::LineFault;
 use crate::numbers::number_at;
 use crate::parts::cut;
@@ -50,7 +52,7 @@ pub(crate) fn read_line(alloc: Global, form: u8, line: &[u8]) -> Result<LineItem
 {
     let (word, texts) = cut(line, b' ');
     let Some(id) = id_of(form, word) else {
-        return Err(LineFault::Code(1));
+        return Err(LineFault::Code(code::WORD));
     };
     counted(id, read_numbers(alloc, has_signs(form, id), texts)?)
 }
@@ -64,7 +66,7 @@ fn counted(id: u8, nums: Numbers) -> Result<LineItem, LineFault>
     if vocabulary::has_count(id, nums.items.as_slice()) {
         Ok(LineItem { id, nums })
     } else {
-        Err(LineFault::Code(3))
+        Err(LineFault::Code(code::COUNT))
     }
 }
 
@@ -110,14 +112,14 @@ fn id_of(form: u8, word: &[u8]) -> Option<u8>
 
 /// The numbers that stand behind the word.
 fn read_numbers(alloc: Global, has_signs: bool, texts: Option<&[u8]>) -> Result<Numbers, LineFault>
-    ensures { Answers result (or_code 2 (numbers_at has_signs 0 (parts_behind 32 texts.entry))) }
+    ensures { Answers result (or_code NUMBER (numbers_at has_signs 0 (parts_behind 32 texts.entry))) }
 {
     let mut nums = Vec::new(alloc);
     let mut more = texts;
     while let Some(rest) = more {
         let (text, next) = cut(rest, b' ');
         let Some(n) = number_at(has_signs, nums.len(), text) else {
-            return Err(LineFault::Code(2));
+            return Err(LineFault::Code(code::NUMBER));
         };
         if nums.push(n).is_err() {
             return Err(LineFault::Memory);

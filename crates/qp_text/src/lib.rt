@@ -1,6 +1,7 @@
 //! Journals as text, both ways, and the reader of items that text and frames share.
 #![tactic(auto)]
 
+pub mod code;
 mod faults;
 mod found;
 mod items;
@@ -10,8 +11,6 @@ mod numbers;
 mod parts;
 mod progress;
 mod reader;
-#[cfg(test)]
-mod tests;
 mod writer;
 
 pub use faults::LineFault;

@@ -6,6 +6,7 @@ ghost use Rattle.qp_text.specs.Faults.{Becomes};
 ghost use Rattle.qp_text.specs.Progress.{add_record, at_start, begin, close, closed, open_lane, take_item};
 ghost use Rattle.qp_text.specs.ReadText.{take_line};
 
+use crate::code;
 use crate::faults::LineFault;
 use crate::items::{form_of, read_line};
 use arrayvec::ArrayVec;
@@ -65,10 +66,10 @@ impl Reading {
         ensures { Becomes result self.new (take_item form self.old (item id nums.now)) }
     {
         match id {
-            _ if self.begun && self.end.is_some() => Err(LineFault::Code(4)),
-            kinds::QP if self.begun => Err(LineFault::Code(4)),
+            _ if self.begun && self.end.is_some() => Err(LineFault::Code(code::PLACE)),
+            kinds::QP if self.begun => Err(LineFault::Code(code::PLACE)),
             kinds::QP => self.begin(form, nums),
-            _ if !self.begun => Err(LineFault::Code(4)),
+            _ if !self.begun => Err(LineFault::Code(code::PLACE)),
             kinds::LANE => self.open_lane(alloc, nums),
             kinds::END => self.close(nums),
             id => self.add_record(id, nums),
@@ -80,11 +81,11 @@ impl Reading {
         ensures { Becomes result self.new (begin self.old form nums.now) }
     {
         let [stated, kernel, budget] = nums else {
-            return Err(LineFault::Code(3));
+            return Err(LineFault::Code(code::COUNT));
         };
         let last = if form == 2 { 3 } else { 2 };
         if *stated != u64::from(form) || *kernel > last || *budget < 1 || *budget > 1000000 {
-            return Err(LineFault::Code(6));
+            return Err(LineFault::Code(code::RANGE));
         }
         self.begun = true;
         self.form = form;
@@ -98,14 +99,14 @@ impl Reading {
         ensures { Becomes result self.new (open_lane self.old nums.now) }
     {
         let [number] = nums else {
-            return Err(LineFault::Code(3));
+            return Err(LineFault::Code(code::COUNT));
         };
         self.close_lane()?;
         if *number != self.lanes.items.len() as u64 {
-            return Err(LineFault::Code(4));
+            return Err(LineFault::Code(code::PLACE));
         }
         if *number > 48 {
-            return Err(LineFault::Code(6));
+            return Err(LineFault::Code(code::RANGE));
         }
         self.lane = Some(Lane {
             items: Vec::new(alloc),
@@ -118,10 +119,10 @@ impl Reading {
         ensures { Becomes result self.new (close self.old nums.now) }
     {
         let [status] = nums else {
-            return Err(LineFault::Code(3));
+            return Err(LineFault::Code(code::COUNT));
         };
         if *status != 0 && *status != 3 && *status != 4 {
-            return Err(LineFault::Code(6));
+            return Err(LineFault::Code(code::RANGE));
         }
         self.close_lane()?;
         self.end = Some(*status as u8);
@@ -146,13 +147,13 @@ impl Reading {
         ensures { Becomes result self.new (add_record self.old id nums.now self.old.lane) }
     {
         let Some(mut lane) = self.lane.take() else {
-            return Err(LineFault::Code(4));
+            return Err(LineFault::Code(code::PLACE));
         };
         let [o, rest @ ..] = nums else {
-            return Err(LineFault::Code(3));
+            return Err(LineFault::Code(code::COUNT));
         };
         if *o > 32 || lane.items.len() >= 1000001 {
-            return Err(LineFault::Code(6));
+            return Err(LineFault::Code(code::RANGE));
         }
         let r = Rec {
             kind: id,

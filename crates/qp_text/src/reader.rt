@@ -7,6 +7,7 @@ ghost use Rattle.qp_text.specs.Found.{Reads};
 ghost use Rattle.qp_text.specs.ReadText.{finish, last_part, read_text};
 ghost use Rattle.qp_text.specs.TextLaw.{ReadsTexts};
 
+use crate::code;
 use crate::faults::LineFault;
 use crate::found::{Found, TextFault};
 use crate::parts::cut;
@@ -61,7 +62,10 @@ fn last_part(number: u64, reading: Reading, part: &[u8]) -> Result<Found, TextFa
     if part.is_empty() {
         finish(number, reading)
     } else {
-        Err(TextFault::Line { number, code: 1 })
+        Err(TextFault::Line {
+            number,
+            code: code::WORD,
+        })
     }
 }
 
@@ -70,7 +74,10 @@ fn finish(number: u64, reading: Reading) -> Result<Found, TextFault>
     ensures { Reads result (finish number reading reading.end) }
 {
     let Some(end) = reading.end else {
-        return Err(TextFault::Line { number, code: 5 });
+        return Err(TextFault::Line {
+            number,
+            code: code::NO_END,
+        });
     };
     Ok(Found {
         form: reading.form,

@@ -1,5 +1,5 @@
 use Rattle.std.proofs.Common.{◌∷◌, [], ◌+◌, ◌%◌, map}
-use Rattle.qp_model.specs.declared.kinds.TheConstants.{LANE}
+use Rattle.qp_model.specs.Kinds.{LANE}
 use Rattle.qp_model.specs.Output.{item, record_item}
 use Rattle.qp_model.specs.OutputFrames.{frame, frames_from}
 use Rattle.qp_text.proofs.PutsLemmas.{Puts-then}

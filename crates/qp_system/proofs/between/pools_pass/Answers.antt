@@ -3,8 +3,8 @@ use Rattle.std.specs.declared.option.Option.{Option}
 use Rattle.std.specs.List.{list_any}
 use Rattle.qp_chart.specs.declared.place.Part.{Part}
 use Rattle.qp_chart.specs.declared.place.Part.TheVariants.{Key, Pos}
-use Rattle.qp_chart.specs.declared.key.TheConstants.{SIGNAL}
-use Rattle.qp_chart.specs.declared.code.TheConstants.{NO_POOL}
+use Rattle.qp_chart.specs.Keys.{SIGNAL}
+use Rattle.qp_chart.specs.Codes.{NO_POOL}
 use Rattle.qp_chart.specs.Faults.{Fault, fault, fault_if}
 use Rattle.qp_model.specs.declared.systems.PoolDef.{PoolDef}
 use Rattle.qp_model.specs.declared.systems.SignalDef.{SignalDef}

@@ -1,7 +1,7 @@
 use Rattle.std.proofs.Common.{map, ◌∷◌, []}
 use Rattle.qp_chart.specs.declared.place.Part.TheVariants.{Key, Pos}
-use Rattle.qp_chart.specs.declared.key.TheConstants.{SIGNAL}
-use Rattle.qp_chart.specs.declared.code.TheConstants.{NO_POOL}
+use Rattle.qp_chart.specs.Keys.{SIGNAL}
+use Rattle.qp_chart.specs.Codes.{NO_POOL}
 use Rattle.qp_chart.specs.Faults.{fault_if}
 use Rattle.qp_system.specs.Between.{is_without_pool}
 use Rattle.qp_system.specs.Views.{pool_view, signal_view}

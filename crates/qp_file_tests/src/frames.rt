@@ -1,10 +1,10 @@
-//! Tests.
+//! Journals as frames: read and written alike, cut anywhere, and with each fault.
 
 ghost use Rattle.std.specs.Prelude.{◌≤◌, length, IfOk, IsTrue};
 ghost use Rattle.qp_model.specs.Output.{has_form, is_in_range};
 
-use crate::{Decoder, FrameFault, write_frames};
 use qp_base::MemSink;
+use qp_frames::{Decoder, FrameFault, write_frames};
 use qp_text::{Found, read_journal, write_journal};
 use std::alloc::Global;
 use std::test::Fail;

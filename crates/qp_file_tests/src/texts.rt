@@ -1,7 +1,7 @@
-//! Tests.
+//! Journals as text: read and written alike, and cut anywhere.
 
-use crate::{TextFault, read_journal, write_journal};
 use qp_base::MemSink;
+use qp_text::{TextFault, read_journal, write_journal};
 use std::test::Fail;
 
 /// A run of one object and one source, in form 1.
@@ -32,47 +32,6 @@ fn a_text_is_read_and_written_alike(rt: HostRuntime) -> Result<(), Fail> {
         }
     }
     Ok(())
-}
-
-#[test]
-fn the_first_wrong_line_is_told(rt: HostRuntime) {
-    let cases: [(&[u8], u64, u8); 29] = [
-        (b"", 1, 5),
-        (b"\n", 1, 1),
-        (b"qp 1 0 1\n", 2, 5),
-        (b"qp 1 0 1", 1, 1),
-        (b"qp 1 0 1\nend 0", 2, 1),
-        (b"qp 1 0 1\nrest 0 1\n", 2, 1),
-        (b"qp 1 0 1\nLane 0\n", 2, 1),
-        (b"qp 1 0 1\nlane  0\n", 2, 2),
-        (b"qp 1 0 1\nlane 0 \n", 2, 2),
-        (b"qp 1 0 1\nlane 00\n", 2, 2),
-        (b"qp 1 0 1\nlane 18446744073709551616\n", 2, 2),
-        (b"qp 2 0 1\nlane 0\nsay 1 -0\n", 3, 2),
-        (b"qp 2 0 1\nlane 0\nsay 1 9223372036854775808\n", 3, 2),
-        (b"qp 1 0\n", 1, 3),
-        (b"qp 1 0 1\nlane 0\nassert 1 6 0 0 0\n", 3, 3),
-        (b"qp 1 0 1\nlane 1\n", 2, 4),
-        (b"qp 1 0 1\nbegin 1\n", 2, 4),
-        (b"qp 1 0 1\nend 0\nend 0\n", 3, 4),
-        (b"begin 1\n", 1, 4),
-        (b"qp 3 0 1\n", 1, 6),
-        (b"qp 1 3 1\n", 1, 6),
-        (b"qp 1 0 1\nlane 0\nbegin 33\n", 3, 6),
-        (b"qp 2 0 1\nLane 0\n", 2, 1),
-        (b"qp 2 0 1\nlane 00\n", 2, 2),
-        (b"qp 2 0\n", 1, 3),
-        (b"qp 2 0 1\nlane 1\n", 2, 4),
-        (b"qp 2 0 1\n", 2, 5),
-        (b"qp 2 4 1\n", 1, 6),
-        (b"qp 2 0 1\nend 1\n", 2, 6),
-    ];
-    for (text, number, code) in cases {
-        match read_journal(rt.alloc(), text) {
-            Ok(_) => assert!(rt; false, "line {number} has code {code}"),
-            Err(fault) => assert_eq!(rt; fault, TextFault::Line { number, code }),
-        }
-    }
 }
 
 /// A text that ends behind a whole line lacks its `end`, and one that ends within a line lacks a newline there.

@@ -1,4 +1,4 @@
-//! System files for tests.
+//! System files.
 
 /// A lamp that a post of GO turns on.
 pub const LAMP: &str = "qp = 1
@@ -22,27 +22,6 @@ priority = 1
 queue = 1
 ";
 
-/// A lamp that a post of GO turns on, without its queue.
-pub const LAMP_FRONT: &str = "qp = 1
-[[signal]]
-name = 'GO'
-static = true
-[[chart]]
-name = 'lamp'
-init = 'off'
-[[chart.state]]
-name = 'off'
-[[chart.state.row]]
-on = 'GO'
-to = 'on'
-[[chart.state]]
-name = 'on'
-[[object]]
-name = 'lamp'
-chart = 'lamp'
-priority = 1
-";
-
 /// Signals of most files: GO, X, TA and TB are static, and N has one parameter.
 pub const SIGNALS: &str = "qp = 1
 signal = [
@@ -52,6 +31,14 @@ signal = [
   { name = 'TA', static = true },
   { name = 'TB', static = true },
 ]
+";
+
+/// Events without parameters, with one, and with two; objects of the priorities 1 and 9.
+pub const SIGNALS_OF_STIMULI: &str = "qp = 1
+pool = [{ size = 2, blocks = 1 }]
+signal = [{ name = 'GO', static = true }, { name = 'N', params = 1 }, { name = 'M', params = 2 }]
+chart = [{ name = 'c', init = 's', state = [{ name = 's' }] }]
+object = [{ name = 'lamp', chart = 'c', priority = 1, queue = 1 }, { name = 'top', chart = 'c', priority = 9, queue = 1 }]
 ";
 
 /// Charts that subscribe to N; the third object has one that forwards its first N to itself.
@@ -160,5 +147,31 @@ row = [
   { on = 'HUNGRY', when = 'used / p2 % 2 == 0 && used / p3 % 2 == 0', do = ['used = used + p2 + p3', 'publish EAT(p1)'] },
   { on = 'HUNGRY', do = ['defer'] },
   { on = 'DONE', do = ['used = used - p2 - p3', 'recall', 'recall', 'recall'] },
+]
+";
+
+/// What stands before the one chart of a file, which is the last table: GO is 4, N is 5, TICK is 6, and there is one object.
+pub const CHART: &str = "qp = 1
+pool = [{ size = 1, blocks = 1 }]
+signal = [{ name = 'GO', static = true }, { name = 'N', params = 1 }, { name = 'TICK', static = true }]
+object = [{ name = 'lamp', chart = 'c', priority = 3, queue = 1 }]
+[[chart]]
+name = 'c'
+vars = { x = 0, y = 0 }
+";
+
+/// A tree of nine states, six of them within one another: a to f, g and h within a, and k beside a. The second one has the initial
+/// target e.
+pub const TREE: &str = "init = 'f'
+state = [
+  { name = 'a' },
+  { name = 'b', parent = 'a', init = 'e' },
+  { name = 'c', parent = 'b' },
+  { name = 'd', parent = 'c' },
+  { name = 'e', parent = 'd' },
+  { name = 'f', parent = 'e' },
+  { name = 'g', parent = 'a' },
+  { name = 'h', parent = 'g' },
+  { name = 'k' },
 ]
 ";

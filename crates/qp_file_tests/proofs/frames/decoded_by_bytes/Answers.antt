@@ -2,7 +2,7 @@ use Rattle.std.proofs.Common.{subst, sym, take}
 use Rattle.std.proofs.lemmas.List.{take_more}
 use Rattle.qp_frames.specs.Faults.{Stands}
 use Rattle.qp_frames.proofs.FramesLaw.{found_form, found_range}
-use Rattle.qp_frames.proofs.tests.decoded_by_bytes.Goals as goal
+use Rattle.qp_file_tests.proofs.frames.decoded_by_bytes.Goals as goal
 
 pub loop-b-preserved : goal.loop-b-preserved
 loop-b-preserved c =

@@ -1,0 +1,121 @@
+//! Charts of files that were read: their parts, a tree of states, and the largest.
+
+use crate::samples::{CHART, TREE};
+use qp_chart::{Chart, Row, State, Timer};
+use qp_system::system_of_bytes;
+use std::alloc::{AllocError, Global};
+use std::test::Fail;
+
+/// Whether a row goes from GO to the first state without a guard, with one action.
+fn row_is_right(row: &Row) -> bool {
+    row.on() == 4 && row.when().is_none() && row.acts().len() == 1 && row.to() == Some(1)
+}
+
+/// Whether a state is s: it has one row, and nothing else.
+fn state_is_right(state: &State) -> bool {
+    if state.parent().is_some() || state.init().is_some() || state.row().len() != 1 {
+        return false;
+    }
+    if state.entry().len() + state.exit().len() + state.init_do().len() != 0 {
+        return false;
+    }
+    state.name().as_str() == "s" && row_is_right(&state.row()[0])
+}
+
+/// Whether a time event is T, with the signal TICK and no rate.
+fn timer_is_right(timer: &Timer) -> bool {
+    timer.name().as_str() == "T" && timer.signal() == 6 && timer.rate() == 0
+}
+
+/// Whether a chart is the one with the state s alone: states count from 1, signals from 4.
+fn chart_is_right(chart: &Chart) -> bool {
+    if chart.timer().len() != 1 || chart.state().len() != 1 {
+        return false;
+    }
+    if chart.init() != 1 || !chart.init_do().is_empty() || chart.vars().len() != 2 {
+        return false;
+    }
+    chart.name().as_str() == "c"
+        && timer_is_right(&chart.timer()[0])
+        && state_is_right(&chart.state()[0])
+}
+
+/// Names become numbers: states from 1, signals from 4.
+#[test]
+fn a_chart_is_read(rt: HostRuntime) -> Result<(), Fail> {
+    let rest =
+        "init = 's'\ntimer = [{ name = 'T', signal = 'TICK', rate = 0 }]\nstate = [{ name = 's', row = [{ on = 'GO', do = ['x = 1'], to = 's' }] }]";
+    let text = format!(in rt.alloc(); "{CHART}{rest}")?;
+    let sys = system_of_bytes(rt.alloc(), text.as_str().as_bytes())?;
+    assert!(rt; sys.charts.items.iter().all(|chart| chart_is_right(chart)));
+    assert_eq!(rt; sys.charts.items.len(), 1);
+    Ok(())
+}
+
+const PARENTS: [Option<u8>; 9] = [
+    None,
+    Some(1),
+    Some(2),
+    Some(3),
+    Some(4),
+    Some(5),
+    Some(1),
+    Some(7),
+    None,
+];
+
+/// Whether a chart has the tree's parents, and its one initial target.
+fn tree_is_right(chart: &Chart) -> bool {
+    let parents = chart
+        .state()
+        .iter()
+        .zip(&PARENTS)
+        .all(|(state, parent)| state.parent() == *parent);
+    chart.init() == 6
+        && chart.state().len() == 9
+        && parents
+        && chart.state()[0].init().is_none()
+        && chart.state()[1].init() == Some(5)
+}
+
+/// The tree of the worked transitions.
+#[test]
+fn a_tree_is_read(rt: HostRuntime) -> Result<(), Fail> {
+    let text = format!(in rt.alloc(); "{CHART}{TREE}")?;
+    let sys = system_of_bytes(rt.alloc(), text.as_str().as_bytes())?;
+    assert!(rt; sys.charts.items.iter().all(|chart| tree_is_right(chart)));
+    assert_eq!(rt; sys.charts.items.len(), 1);
+    Ok(())
+}
+
+/// The file of the largest chart: 64 states with 32 rows of 16 actions each.
+fn largest(alloc: Global) -> Result<String, AllocError> {
+    let mut row = String::from_str(alloc, "{ on = 'GO', when = 'x == 1', to = 's1', do = [")?;
+    for _ in 0..16 {
+        row.push_str("'x = x + 1',")?;
+    }
+    row.push_str("] },")?;
+    let mut text = format!(in alloc; "{CHART}init = 's1'\nstate = [\n")?;
+    for i in 1..=64u8 {
+        text.push_str(format!(in alloc; "{{ name = 's{i}', row = [")?.as_str())?;
+        for _ in 0..32 {
+            text.push_str(row.as_str())?;
+        }
+        text.push_str("] },\n")?;
+    }
+    text.push_str("]\n")?;
+    Ok(text)
+}
+
+/// Memory is there for the largest chart.
+#[test]
+fn the_largest_chart_is_read(rt: HostRuntime) -> Result<(), Fail> {
+    let text = largest(rt.alloc())?;
+    let sys = system_of_bytes(rt.alloc(), text.as_str().as_bytes())?;
+    let [chart] = sys.charts.items.as_slice() else {
+        return Err(Fail::from("one chart"));
+    };
+    assert_eq!(rt; chart.state().len(), 64);
+    assert!(rt; chart.state().iter().all(|state| state.row().len() == 32));
+    Ok(())
+}
