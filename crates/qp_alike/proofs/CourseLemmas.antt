@@ -22,7 +22,7 @@ use Rattle.qp_model.specs.Deferral.{KeepsDeferred}
 use Rattle.qp_model.specs.Pieces.{Piece, Tell, Point, bare, tell, pieces_of, ends_at_point, begins_at_point}
 use Rattle.qp_model.specs.Acts.{Config, Actor, Moment, Later, names_of, DoesCall, DoesDeed, DoesTask, Does}
 use Rattle.qp_model.specs.Step.{at_leaf, Closes, moment, StepRest, Step}
-use Rattle.qp_model.specs.Course.{at_start, Starts, Steps, Course, first_config, actor, FollowsAs, Follows, FollowsTo, Cut, Whole, Stopped, Anywhere}
+use Rattle.qp_model.specs.Course.{at_start, Starts, Steps, Course, first_config, actor, FollowsAs, Follows, FollowsThroughAs, FollowsThrough, FollowsTo, Cut, Whole, Stopped, Anywhere}
 use Rattle.qp_alike.proofs.BareChart.{bare_bound, bare_plain, bare_chart, bare_task, bare_plan}
 use Rattle.qp_alike.proofs.ChartLemmas.{value-bare, step-bare, start-bare}
 
@@ -133,18 +133,30 @@ module _ (a b : System) (fits : Fits a ≡ Fits b) where
   follows-bare d None ps = refl
   follows-bare d (Some chart) ps = λ i. (es : List Entry) × (end : Option Config) × course-same (actor d chart) (first_config d) es ps end i
 
+  through-bare : (d : ObjectDef) (o : Option Chart) (ps : List Piece) → FollowsThroughAs a d o ps ≡ FollowsThroughAs b d (option_map bare_chart o) ps
+  unfolding FollowsThroughAs
+  through-bare d None ps = refl
+  through-bare d (Some chart) ps = λ i. (es : List Entry) × (end : Config) × course-same (actor d chart) (first_config d) es ps (Some end) i
+
 -- an object follows its chart in the one as in the other
 module _ (a b : System) (fits : Fits a ≡ Fits b) (charts : map bare_chart a.charts ≡ map bare_chart b.charts) (d : ObjectDef) where
+  own-chart : (k : ℕ) → option_map bare_chart (slice_get a.charts k) ≡ option_map bare_chart (slice_get b.charts k)
+  own-chart k = sym (slice_get-map bare_chart a.charts k) ∙ ap (λ cs. slice_get cs k) charts ∙ slice_get-map bare_chart b.charts k
+
   follows-same : (ps : List Piece) → Follows a d ps ≡ Follows b d ps
   unfolding Follows
   follows-same ps =
       let k : ℕ = d.chart - 1 in
-      let own : option_map bare_chart (slice_get a.charts k) ≡ option_map bare_chart (slice_get b.charts k) =
-      sym (slice_get-map bare_chart a.charts k) ∙ ap (λ cs. slice_get cs k) charts ∙ slice_get-map bare_chart b.charts k in
-      follows-bare a b fits d (slice_get a.charts k) ps ∙ (λ i. FollowsAs b d (own i) ps) ∙ sym (follows-bare b b refl d (slice_get b.charts k) ps)
+      follows-bare a b fits d (slice_get a.charts k) ps ∙ (λ i. FollowsAs b d (own-chart k i) ps) ∙ sym (follows-bare b b refl d (slice_get b.charts k) ps)
+
+  through-same : (ps : List Piece) → FollowsThrough a d ps ≡ FollowsThrough b d ps
+  unfolding FollowsThrough
+  through-same ps =
+      let k : ℕ = d.chart - 1 in
+      through-bare a b fits d (slice_get a.charts k) ps ∙ (λ i. FollowsThroughAs b d (own-chart k i) ps) ∙ sym (through-bare b b refl d (slice_get b.charts k) ps)
 
   pub follows_to-same : (cut : Cut) (ps : List Piece) → FollowsTo a d cut ps ≡ FollowsTo b d cut ps
   unfolding FollowsTo
-  follows_to-same Whole ps = follows-same ps
+  follows_to-same Whole ps = through-same ps
   follows_to-same Stopped ps = λ i. (back : List Piece) × follows-same (ps ++ back) i × (IsTrue (ends_at_point ps) ⊎ IsTrue (begins_at_point back))
   follows_to-same Anywhere ps = λ i. (back : List Piece) × follows-same (ps ++ back) i

@@ -9,8 +9,8 @@ use Rattle.qp_chart.specs.RawNumbers.{variable_names}
 use Rattle.qp_model.specs.declared.systems.System.{System}
 use Rattle.qp_system.specs.Document.{TreeGives}
 use Rattle.qp_system.specs.Same.{SayTheSame, chart_said}
-use Rattle.qp_system.specs.Sound.{IsSound}
-use Rattle.qp_system.specs.SoundChart.{IsSoundChart}
+use Rattle.qp_model.specs.Sound.{IsSound}
+use Rattle.qp_model.specs.SoundChart.{IsSoundChart}
 use Rattle.qp_system.specs.SystemOf.{IsSystemOf}
 use Rattle.qp_system.specs.Views.{vars_view, chart_view, raw_view}
 use Rattle.qp_system.specs.Within.{names_of}

@@ -11,14 +11,14 @@ use Rattle.qp_model.specs.declared.journals.Journal.{Journal}
 use Rattle.qp_model.specs.Record.{Item}
 use Rattle.qp_model.specs.History.{all_items, lane_items}
 use Rattle.qp_model.specs.Kernels.{port, has_one_order}
-use Rattle.qp_model.specs.Home.{lane_at, home_of, by_object}
+use Rattle.qp_model.specs.Home.{lane_at, home_of, by_object, own_items, home_records}
 use Rattle.qp_model.specs.HomeLane.{is_home_lane}
 use Rattle.qp_model.specs.Knowing.{records_of}
 use Rattle.qp_model.specs.Deferral.{kept_after}
 use Rattle.qp_model.specs.Pieces.{Piece, bare}
 use Rattle.qp_model.specs.Course.{Whole, Stopped, Anywhere, FollowsTo}
 use Rattle.qp_model.specs.ObjectShape.{HasShape}
-use Rattle.qp_model.specs.Ends.{may_cut, spills_in}
+use Rattle.qp_model.specs.Ends.{may_cut, spills_in, spills_cut}
 use Rattle.qp_model.specs.KernelLane.{lane_read}
 use Rattle.qp_model.specs.Points.{lane_pieces}
 use Rattle.qp_model.specs.End.{HasEnd}
@@ -50,12 +50,18 @@ module _ (a b : System) (h : Alike a b) (j : Journal) where
       (λ i. records_of (own a b h (all_items j.lanes)) o 0 (lane_items (lane_at j (homes-same a b h j o i))))
       ∙ records-same a b h (all_items j.lanes) o 0 (lane_items (lane_at j (home_of b j o)))
 
+  home_records-same : (o : ℕ) → home_records (facts_of a j) j o ≡ home_records (facts_of b j) j o
+  unfolding home_records facts_of
+  home_records-same o =
+      (λ i. records_of (own a b h (all_items j.lanes)) o 0 (own_items (j.kernel == port) o (lane_items (lane_at j (homes-same a b h j o i)))))
+      ∙ records-same a b h (all_items j.lanes) o 0 (own_items (j.kernel == port) o (lane_items (lane_at j (home_of b j o))))
+
   module _ (d : ObjectDef) where
     pub shapes-to : ShapesHold a j d → ShapesHold b j d
     shapes-to s = record {
-      shape = subst (λ X. X) (λ i. HasShape b d.priority (j.kernel == port) (cuts-same d.priority i) (by_object-same d.priority i))
-          (shape-to a b h d.priority (j.kernel == port) (cut_of a j d.priority) (by_object (facts_of a j) j d.priority) s.shape);
-      home = subst (λ n. IsTrue (not (j.kernel == port) || is_home_lane d.priority j.budget (lane_items (lane_at j n)))) (homes-same a b h j d.priority) s.home;
+      shape = subst (λ X. X) (λ i. HasShape b d.priority (j.kernel == port) (cuts-same d.priority i) (home_records-same d.priority i))
+          (shape-to a b h d.priority (j.kernel == port) (cut_of a j d.priority) (home_records (facts_of a j) j d.priority) s.shape);
+      home = subst (λ n. IsTrue (not (j.kernel == port) || is_home_lane d.priority j.budget (may_cut j.end) (lane_items (lane_at j n)))) (homes-same a b h j d.priority) s.home;
     }
 
     pub deferral-same : deferral_holds a j d ≡ deferral_holds b j d
@@ -74,10 +80,10 @@ module _ (a b : System) (h : Alike a b) (j : Journal) where
 
   -- an object without the unused room of its name
   shapes-bare : (d : ObjectDef) → ShapesHold b j d → ShapesHold b j (bare_object d)
-  shapes-bare d s = record { shape = s.shape; home = s.home }
+  shapes-bare d s = record { shape = s.shape; home = s.home; spills = s.spills }
 
   bare-shapes : (d : ObjectDef) → ShapesHold b j (bare_object d) → ShapesHold b j d
-  bare-shapes d s = record { shape = s.shape; home = s.home }
+  bare-shapes d s = record { shape = s.shape; home = s.home; spills = s.spills }
 
   bare-deferral : (d : ObjectDef) → deferral_holds b j (bare_object d) ≡ deferral_holds b j d
   unfolding deferral_holds

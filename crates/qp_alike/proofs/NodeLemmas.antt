@@ -1,6 +1,7 @@
 -- Edits of TOML tables keep the order of keys.
 use Rattle.std.proofs.Common.{◌≡◌, ℕ, Ordering, Less, Equal, Greater, nat_cmp, is_lt, Bool, true, false, cond, ◌&&◌, List, [], ◌∷◌, ◌++◌, Option, Some, None, refl, ◌∙◌, ap, subst, ◌⊎◌, inl, inr}
 use Rattle.std.specs.Prelude.{option_map, option_and_then}
+use Rattle.std.proofs.lemmas.Bool.{and_from}
 use Rattle.std.proofs.lemmas.Cmp.{nat_list_cmp_total}
 use Rattle.std.specs.Cmp.Lexicographic.{slice_cmp}
 use Rattle.std.specs.Ordering.{match_ordering, ordering_reverse}
@@ -24,9 +25,6 @@ abbrev mutual
   SortedNodes no_nodes = Unit {0}
   SortedNodes (node k x ns) = (comes_before k ns ≡ true) × SortedNode x × SortedNodes ns
 
-and-true : (x y : Bool) → x ≡ true → y ≡ true → (x && y) ≡ true
-and-true x y p q = rw (p, q) refl
-
 pub push-sorted : (ds : Items) (d : Data) → items_are_sorted ds ≡ true → is_sorted d ≡ true → items_are_sorted (push_item ds d) ≡ true
 push-sorted no_items d p q = rw q refl
 push-sorted (item e ds) d p q = by (is_sorted e) p (push-sorted ds d)
@@ -48,8 +46,8 @@ mutual
   pub close-sorted : (ns : Nodes) → SortedNodes ns → members_are_sorted (close ns) ≡ true
   close-sorted no_nodes h = refl
   close-sorted (node k x ns) h =
-      and-true (is_before k (close ns) && is_sorted (close_node x)) (members_are_sorted (close ns))
-      (and-true (is_before k (close ns)) (is_sorted (close_node x)) (before-close k ns ∙ h.0) (close_node-sorted x h.1)) (close-sorted ns h.2)
+      and_from (is_before k (close ns) && is_sorted (close_node x)) (members_are_sorted (close ns))
+      (and_from (is_before k (close ns)) (is_sorted (close_node x)) (before-close k ns ∙ h.0) (close_node-sorted x h.1)) (close-sorted ns h.2)
 
 -- a new key keeps the order
 less-lt : (o : Ordering) → o ≡ Greater → is_lt (ordering_reverse o) ≡ true

@@ -22,7 +22,7 @@ use Rattle.qp_chart.specs.Terms.{Word}
 use Rattle.qp_model.specs.declared.systems.System.{System}
 use Rattle.qp_system.specs.Deeds.{receiver_of, deed_of, deeds_of, guard_of}
 use Rattle.qp_system.specs.Same.{bare_name, bare_timer, row_said, state_said, chart_said}
-use Rattle.qp_system.specs.SoundChart.{Reaches, IsSoundPlain, IsSoundAct, IsSoundGuard, IsSoundRow, IsSoundState, IsSoundChart}
+use Rattle.qp_model.specs.SoundChart.{Reaches, IsSoundPlain, IsSoundAct, IsSoundGuard, IsSoundRow, IsSoundState, IsSoundChart}
 use Rattle.qp_system.specs.Views.{vars_view}
 use Rattle.qp_alike.proofs.BareChart.{one_place, bare_bound, bare_plain, bare_act, bare_row, bare_state, bare_var, bare_chart}
 use Rattle.qp_alike.proofs.VariableNames.{Ascending, name_at, ascending-apart}

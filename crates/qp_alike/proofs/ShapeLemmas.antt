@@ -1,15 +1,15 @@
 -- Alike systems have the same records of calls, and the same groups of records.
-use Rattle.std.proofs.Common.{◌≡◌, ℕ, Bool, true, false, inl, inr, List, [], ◌∷◌, ◌++◌, Option, Some, None, refl, subst}
+use Rattle.std.proofs.Common.{◌≡◌, ℕ, Bool, true, false, IsTrue, inl, inr, List, [], ◌∷◌, ◌++◌, Option, Some, None, refl, subst}
 use Rattle.qp_model.specs.declared.systems.System.{System}
 use Rattle.qp_model.specs.declared.bodies.Entry.{Entry}
 use Rattle.qp_model.specs.Told.{Told}
 use Rattle.qp_model.specs.Calls as call
 use Rattle.qp_model.specs.Calls.{Call, Answer}
 use Rattle.qp_model.specs.Parts.{timer_number}
-use Rattle.qp_model.specs.Shapes.{PostsNew, PostsNewFront, Forwards, Publishes, Arms, Rearms, Disarms, Fits}
+use Rattle.qp_model.specs.Shapes.{PostsNew, PostsNewFront, Forwards, Publishes, Arms, Rearms, Disarms, answers_ticks, ticks_fit, Fits, FitsAny}
 use Rattle.qp_model.specs.Sequence.{EachPart, Sequence}
 use Rattle.qp_model.specs.Groups.{IsAction, SaysValue, MakesCall, Actions, IsGroup, IsMove, IsAct, IsLocked, Groups, IsLast, Asserts, Stops, StopsInPublication, BreaksOff, Plainly, UnderCeiling}
-use Rattle.qp_model.specs.ObjectShape.{StartGroup, BrokenStart, StepGroup, BrokenStep, IsTurn, Dispatches, FindsEmpty, IsTail, Ends, OutOfBudget, BreaksStep, ObjectGroups, CutGroups, HasShape}
+use Rattle.qp_model.specs.ObjectShape.{StartGroup, BrokenStart, StepGroup, BrokenStep, IsTurn, Dispatches, FindsEmpty, LooksOnly, IsTail, Ends, OutOfBudget, BreaksStep, ObjectGroups, CutGroups, HasShape}
 use Rattle.qp_model.specs.Course.{Cut, Whole, Stopped, Anywhere}
 use Rattle.qp_alike.proofs.Alike.{Alike, sizes-same, static-same, rings-same}
 
@@ -36,14 +36,19 @@ module _ (a b : System) (h : Alike a b) where
   fits-at o now call.Flush answer g = refl
   fits-at o now (call.Subscribe sig) answer g = refl
   fits-at o now (call.Unsubscribe sig) answer g = refl
-  fits-at o now (call.Arm t ticks interval) answer g = λ i. Arms (timer_number (h.timers i) o t) ticks interval answer g
-  fits-at o now (call.Rearm t ticks) answer g = λ i. Rearms (timer_number (h.timers i) o t) ticks answer g
+  fits-at o now (call.Arm t ticks interval) answer g =
+      λ i. Arms (timer_number (h.timers i) o t) ticks interval answer g × IsTrue (answers_ticks (ticks_fit ticks interval) answer)
+  fits-at o now (call.Rearm t ticks) answer g = λ i. Rearms (timer_number (h.timers i) o t) ticks answer g × IsTrue (answers_ticks (ticks_fit ticks 0) answer)
   fits-at o now (call.Disarm t) answer g = λ i. Disarms (timer_number (h.timers i) o t) answer g
 
   pub fits-same : Fits a ≡ Fits b
   fits-same = λ i o now x answer g. fits-at o now x answer g i
 
-  fits-to : (o : ℕ) (now : Option Entry) (x : Call) (answer : Answer) (g : List Told) → Fits a o now x answer g → Fits b o now x answer g
+  fits-to : (o : ℕ) (now : Option Entry) (x : Call) (answer : Answer) (g : List Told) → FitsAny a o now x answer g → FitsAny b o now x answer g
+  unfolding FitsAny
+  fits-to o now (call.Arm t ticks interval) answer g f = f
+  fits-to o now (call.Rearm t ticks) answer g f = f
+  fits-to o now (call.Disarm t) answer g f = f
   fits-to o now x answer g f = subst (λ F. F) (fits-at o now x answer g) f
 
   module _ (o : ℕ) (now : Option Entry) where
@@ -89,23 +94,24 @@ module _ (a b : System) (h : Alike a b) where
     unfolding StepGroup
     step-to bs (e, head, g, rel, begins, groups, drops, is) = (e, head, g, rel, begins, groups-to o (Some e) g groups, drops, is)
 
-    broken_step-to : (stops : Bool) (bs : List Told) → BrokenStep a o stops bs → BrokenStep b o stops bs
+    broken_step-to : (bs : List Told) → BrokenStep a o bs → BrokenStep b o bs
     unfolding BrokenStep
-    broken_step-to stops bs (e, head, g, begins, breaks, is) = (e, head, g, begins, breaks-to o (Some e) stops g breaks, is)
+    broken_step-to bs (e, head, g, begins, breaks, is) = (e, head, g, begins, breaks-to o (Some e) true g breaks, is)
 
-    module _ (nils stops : Bool) where
+    module _ (nils cuts : Bool) where
       turn-to : (g : List Told) → IsTurn a o nils g → IsTurn b o nils g
       turn-to g (Dispatches step) = Dispatches (step-to g step)
       turn-to g (FindsEmpty f l m may is) = FindsEmpty f l m may is
+      turn-to g (LooksOnly p f l m may is) = LooksOnly p f l m may is
 
-      tail-to : (g : List Told) → IsTail a o stops g → IsTail b o stops g
+      tail-to : (g : List Told) → IsTail a o cuts g → IsTail b o cuts g
       tail-to g (Ends is) = Ends is
       tail-to g (OutOfBudget is) = OutOfBudget is
-      tail-to g (BreaksStep breaks) = BreaksStep (broken_step-to stops g breaks)
+      tail-to g (BreaksStep may breaks) = BreaksStep may (broken_step-to g breaks)
 
-      object-to : (bs : List Told) → ObjectGroups a o nils stops bs → ObjectGroups b o nils stops bs
+      object-to : (bs : List Told) → ObjectGroups a o nils cuts bs → ObjectGroups b o nils cuts bs
       unfolding ObjectGroups
-      object-to bs (inl broken) = inl (broken_start-to bs broken)
+      object-to bs (inl (may, broken)) = inl (may, broken_start-to bs broken)
       object-to bs (inr (start, turns, tail, begins, sequence, ends, is)) =
           inr (start, turns, tail, start-to start begins, sequence-map (IsTurn a o nils) (IsTurn b o nils) turn-to turns sequence, tail-to tail ends, is)
 

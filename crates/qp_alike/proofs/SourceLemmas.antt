@@ -70,6 +70,7 @@ module _ (a b : System) (h : Alike a b) where
       → IsSourceLane (own a b h items) kernel end ss lane → IsSourceLane (other a b h items) kernel end ss lane
   source_lane-to items kernel end ss lane l = record {
     alone = l.alone;
+    spills = l.spills;
     tries = l.tries;
     stimuli = (
       l.stimuli.0,

@@ -11,8 +11,8 @@ use Rattle.std.proofs.lemmas.Cmp.{nat_list_cmp_total}
 use Rattle.toml.specs.Data.{Data, array, table, Items, no_items, item, Members, no_members, member, get_member, as_integer, as_table, is_before, is_sorted, items_are_sorted, members_are_sorted}
 use Rattle.qp_chart.specs.declared.place.Part.{Part}
 use Rattle.qp_chart.specs.declared.place.Part.TheVariants.{Key, Pos}
-use Rattle.qp_chart.specs.declared.key.TheConstants.{QP, POOL, SIGNAL, CHART, OBJECT, NAME, INIT, INIT_DO, VARS, TIMER, STATE}
-use Rattle.qp_chart.specs.declared.code.TheConstants.{TOO_MANY, RANGE}
+use Rattle.qp_chart.specs.Keys.{QP, POOL, SIGNAL, CHART, OBJECT, NAME, INIT, INIT_DO, VARS, TIMER, STATE}
+use Rattle.qp_chart.specs.Codes.{TOO_MANY, RANGE}
 use Rattle.qp_chart.specs.Faults.{Fault}
 use Rattle.qp_chart.specs.Paths.{key_word}
 use Rattle.qp_system.specs.Raw.{Chart, Raw}

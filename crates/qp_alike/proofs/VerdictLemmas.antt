@@ -18,11 +18,12 @@ use Rattle.qp_model.specs.Line.{line}
 use Rattle.qp_model.specs.Home.{lane_at}
 use Rattle.qp_model.specs.Kernels.{port, has_one_order}
 use Rattle.qp_model.specs.Lawful.{ShapesHold, deferral_holds, CourseHolds, KernelHolds, OrderHolds, lanes_before}
-use Rattle.qp_check.specs.declared.verdict.Site.{Site}
-use Rattle.qp_check.specs.declared.verdict.Site.TheVariants as site
-use Rattle.qp_check.specs.declared.verdict.Verdict.{Verdict}
-use Rattle.qp_check.specs.declared.verdict.Verdict.TheVariants as verdict
-use Rattle.qp_check.specs.WordRules.{Try, site_of, words_of, operations_allowed, shown_right, lives_hold, rule_holds, word_tries}
+use Rattle.qp_word_rules.specs.declared.verdict.Site.{Site}
+use Rattle.qp_word_rules.specs.declared.verdict.Site.TheVariants as site
+use Rattle.qp_word_rules.specs.declared.verdict.Verdict.{Verdict}
+use Rattle.qp_word_rules.specs.declared.verdict.Verdict.TheVariants as verdict
+use Rattle.qp_word_rules.specs.WordRules.{Try, site_of, operations_allowed, shown_right, lives_hold, rule_holds, word_tries}
+use Rattle.qp_histories.specs.SystemWords.{words_of}
 use Rattle.qp_check.specs.Judged.{Trial, AllHold, FailsFirst, IsVerdict, as_trials, at_objects, source_trials, word_trials, object_trials, kernel_trials, order_trial, lane_trials, end_trials, trials}
 use Rattle.qp_system.specs.Same.{bare_object}
 use Rattle.qp_alike.proofs.Alike.{Alike, alike-sym, blocks-same, rings-same, signals-count, objects-same, lanes_before-same}

@@ -7,7 +7,7 @@ use Rattle.qp_model.specs.declared.journals.Journal.{Journal}
 use Rattle.qp_model.specs.Lawful.{Lawful}
 use Rattle.qp_stim.specs.Stimuli.{stimuli_of}
 use Rattle.qp_system.specs.SystemOf.{IsSystemOf}
-use Rattle.qp_check.specs.declared.verdict.Verdict.{Verdict}
+use Rattle.qp_word_rules.specs.declared.verdict.Verdict.{Verdict}
 use Rattle.qp_check.specs.Judged.{IsVerdict, trials}
 
 -- a journal that is lawful for one system of the bytes is lawful for each

@@ -7,14 +7,14 @@ use Rattle.qp_model.specs.declared.systems.System.{System}
 use Rattle.qp_model.specs.declared.systems.ObjectDef.{ObjectDef}
 use Rattle.qp_model.specs.declared.journals.Journal.{Journal}
 use Rattle.qp_model.specs.WordLaw.{Words}
-use Rattle.qp_check.specs.declared.verdict.Broken.{Broken}
-use Rattle.qp_check.specs.declared.verdict.Verdict.{Verdict}
-use Rattle.qp_check.specs.declared.verdict.Verdict.TheVariants as verdict
+use Rattle.qp_word_rules.specs.declared.verdict.Broken.{Broken}
+use Rattle.qp_word_rules.specs.declared.verdict.Verdict.{Verdict}
+use Rattle.qp_word_rules.specs.declared.verdict.Verdict.TheVariants as verdict
 use Rattle.qp_check.specs.Judgeable.{IsJudgeable}
 use Rattle.qp_check.specs.Judged.{Finds, IsVerdict, Trial, word_trials}
-use Rattle.qp_check.specs.WordRules.{first_broken, word_tries}
+use Rattle.qp_word_rules.specs.WordRules.{first_broken, word_tries}
 use Rattle.qp_check.proofs.FindLemmas.{finds-tries}
-use Rattle.qp_check.proofs.LawLemmas.{none_fails_where_words_hold}
+use Rattle.qp_word_rules.proofs.LawLemmas.{none_fails_where_words_hold}
 
 bytes : (ds : List ObjectDef) → AllByRecursion (λ d. d.priority ≤ 32) ds → AllByRecursion (λ d. d.priority < 256) ds
 bytes [] h = tt

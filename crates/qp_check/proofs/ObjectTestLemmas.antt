@@ -7,43 +7,61 @@ use Rattle.qp_model.specs.declared.systems.System.{System}
 use Rattle.qp_model.specs.declared.systems.ObjectDef.{ObjectDef}
 use Rattle.qp_model.specs.declared.journals.Journal.{Journal}
 use Rattle.qp_model.specs.Course.{Cut, FollowsTo}
+use Rattle.qp_model.specs.Ends.{spills_cut}
 use Rattle.qp_model.specs.History.{lane_items}
-use Rattle.qp_model.specs.Home.{by_object, home_of, lane_at}
+use Rattle.qp_model.specs.Ends.{may_cut}
+use Rattle.qp_model.specs.Home.{by_object, home_of, home_records, lane_at}
 use Rattle.qp_model.specs.HomeLane.{is_home_lane}
 use Rattle.qp_model.specs.Kernels.{port}
 use Rattle.qp_model.specs.Lawful.{CourseHolds, ShapesHold, cut_of, dispatched, facts_of}
 use Rattle.qp_model.specs.ObjectShape.{HasShape}
 use Rattle.qp_model.specs.Pieces.{Piece, bare}
 use Rattle.qp_model.specs.Told.{Told}
+use Rattle.qp_model.proofs.HomeLemmas.{home_records-kernel}
 use Rattle.qp_fits.specs.Decides.{Decides}
 use Rattle.qp_check.proofs.DecideLemmas.{decided, decides-as, decides-false, decides-true, denied}
 
 module _ (sys : System) (j : Journal) (d : ObjectDef) (cut : Cut) (told : List Told) (cuts : cut ≡ cut_of sys j d.priority) where
-  module _ (tells : told ≡ by_object (facts_of sys j) j d.priority) (b : Bool) (shape : Decides b (HasShape sys d.priority (j.kernel == port) cut told)) where
-    abbrev Shape : Type 0
-    Shape = HasShape sys d.priority (j.kernel == port) (cut_of sys j d.priority) (by_object (facts_of sys j) j d.priority)
+  -- the shape that is asked of an object
+  abbrev Shape : Type 0
+  Shape = HasShape sys d.priority (j.kernel == port) (cut_of sys j d.priority) (home_records (facts_of sys j) j d.priority)
+
+  abbrev Home : Bool
+  Home = is_home_lane d.priority j.budget (may_cut j.end) (lane_items (lane_at j (home_of sys j d.priority)))
+
+  -- under a kernel
+  pub shapes-alone : (j.kernel ≡ port → ⊥) → told ≡ by_object (facts_of sys j) j d.priority → (b : Bool) → Decides b (HasShape sys d.priority false cut told) → Decides b (ShapesHold sys j d)
+  shapes-alone other tells b shape = decides-as Shape (ShapesHold sys j d) b (λ s. record { shape = s; home = home }) (λ h. h.shape) shaped
+    where
+      elsewhere : (j.kernel == port) ≡ false
+      elsewhere = grind (arith, nat_tests)
+
+      home : (not (j.kernel == port) || Home) ≡ true
+      home = rw elsewhere refl
+
+      same : told ≡ home_records (facts_of sys j) j d.priority
+      same = tells ∙ sym (home_records-kernel (facts_of sys j) j d.priority elsewhere)
+
+      shaped : Decides b Shape
+      shaped = rw (elsewhere, ← cuts, ← same) shape
+
+  module _ (here : j.kernel ≡ port) (tells : told ≡ home_records (facts_of sys j) j d.priority) (b : Bool) (shape : Decides b (HasShape sys d.priority true cut told)) where
+    there : (j.kernel == port) ≡ true
+    there = grind (arith, nat_tests)
 
     shaped : Decides b Shape
-    shaped = rw (← cuts, ← tells) shape
+    shaped = rw (there, ← cuts, ← tells) shape
 
     pub shapes-broken : b ≡ false → Decides false (ShapesHold sys j d)
     shapes-broken fails = decides-false (ShapesHold sys j d) (λ h. denied Shape b shaped fails h.shape)
 
-    pub shapes-alone : b ≡ true → (j.kernel ≡ port → ⊥) → Decides true (ShapesHold sys j d)
-    shapes-alone is other =
-        let elsewhere : (j.kernel == port) ≡ false = grind (arith, nat_tests) in
-        let home : (not (j.kernel == port) || is_home_lane d.priority j.budget (lane_items (lane_at j (home_of sys j d.priority)))) ≡ true = rw elsewhere refl in
+    pub shapes-home : b ≡ true → (c : Bool) → c ≡ Home → Decides c (ShapesHold sys j d)
+    shapes-home is true test =
+        let home : (not (j.kernel == port) || Home) ≡ true = rw there (sym test) in
         decides-true (ShapesHold sys j d) (record { shape = decided Shape b shaped is; home = home })
-
-    pub shapes-home : b ≡ true → j.kernel ≡ port → (c : Bool) → c ≡ is_home_lane d.priority j.budget (lane_items (lane_at j (home_of sys j d.priority))) → Decides c (ShapesHold sys j d)
-    shapes-home is here true test =
-        let there : (j.kernel == port) ≡ true = grind (arith, nat_tests) in
-        let home : (not (j.kernel == port) || is_home_lane d.priority j.budget (lane_items (lane_at j (home_of sys j d.priority)))) ≡ true = rw there (sym test) in
-        decides-true (ShapesHold sys j d) (record { shape = decided Shape b shaped is; home = home })
-    shapes-home is here false test =
-        let there : (j.kernel == port) ≡ true = grind (arith, nat_tests) in
+    shapes-home is false test =
         decides-false (ShapesHold sys j d)
-        (λ h. let home : is_home_lane d.priority j.budget (lane_items (lane_at j (home_of sys j d.priority))) ≡ true = rw there at h.home in let bad : false ≡ true = test ∙ home in let absent : ⊥ = cc in absent)
+        (λ h. let home : Home ≡ true = rw there at h.home in let bad : false ≡ true = test ∙ home in let absent : ⊥ = cc in absent)
 
   pub course-is : told ≡ dispatched (by_object (facts_of sys j) j d.priority) → (b : Bool) → Decides b ((ps : List Piece) × (bare ps ≡ told) × FollowsTo sys d cut ps) → Decides b (CourseHolds sys j d)
   unfolding CourseHolds

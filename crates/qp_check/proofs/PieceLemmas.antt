@@ -13,9 +13,9 @@ use Rattle.qp_model.specs.KernelLane.{Setting, Reading, Place, Inside, lane_next
 use Rattle.qp_model.specs.Knowing.{Facts, told}
 use Rattle.qp_model.specs.Pieces.{Piece, Tell, Point}
 use Rattle.qp_model.specs.Points.{begins_row, is_look, pieces_at, pieces_in}
-use Rattle.qp_check.specs.LaneState.{allowed}
+use Rattle.qp_lanes.specs.Options.{allowed}
 use Rattle.qp_check.specs.ObjectPieces.{is_it, listed, own_piece, point_of, stepping}
-use Rattle.qp_check.proofs.ItemLemmas.{items-from, items-none}
+use Rattle.qp_lanes.proofs.ItemLemmas.{items-from, items-none}
 
 -- two equal numbers
 eq_sym : (m n : ℕ) → (m == n) ≡ (n == m)

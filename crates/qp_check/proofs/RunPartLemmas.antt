@@ -17,7 +17,7 @@ use Rattle.qp_model.specs.Lawful.{KernelHolds, OrderHolds, SpillsStand, cut_of, 
 use Rattle.qp_model.specs.OneOrder.{IsOneOrder}
 use Rattle.qp_model.specs.Points.{lane_pieces}
 use Rattle.qp_fits.specs.Decides.{Decides}
-use Rattle.qp_check.specs.OneOrder.{run_of}
+use Rattle.qp_lane_zero.specs.OneOrder.{run_of}
 use Rattle.qp_check.proofs.DecideLemmas.{decides-as, decides-false, decides-true, decides-where}
 use Rattle.std.specs.Prelude.{count_by}
 

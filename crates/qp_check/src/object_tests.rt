@@ -3,24 +3,25 @@
 ghost use Rattle.std.specs.Prelude.{◌≡◌, map, length, IfOk, IsTrue};
 ghost use Rattle.std.specs.List.{AllByRecursion};
 ghost use Rattle.qp_model.specs.Home.{by_object};
+ghost use Rattle.qp_model.specs.Kernels.{port};
 ghost use Rattle.qp_model.specs.Lawful.{CourseHolds, ShapesHold, deferral_holds, dispatched, facts_of};
 ghost use Rattle.qp_fits.specs.Decides.{Decides};
 ghost use Rattle.qp_check.specs.Judgeable.{IsJudgeable};
 ghost use Rattle.qp_check.specs.Judged.{Finds, at_objects, object_trials};
 ghost use Rattle.qp_course.specs.Followable.{IsFollowable};
-ghost use Rattle.qp_check.specs.Knowledge.{IsKnowledgeOf};
-ghost use Rattle.qp_check.specs.declared.verdict.Site.TheVariants as site;
+ghost use Rattle.qp_known.specs.Knowledge.{IsKnowledgeOf};
+ghost use Rattle.qp_word_rules.specs.declared.verdict.Site.TheVariants as site;
 
-use crate::deferral::keeps_deferred;
-use crate::known_facts::Knowledge;
-use crate::lane_parts::{PORT, home_lane, lane_at};
-use crate::parts::{Records, has_shape, object_records};
-use crate::told_cut::cut_of;
-use crate::told_home::is_home_lane;
-use crate::told_lists::keep_dispatched;
-use crate::verdict::{Broken, Site};
+use crate::parts::{Records, has_shape, home_records, object_records};
 use qp_course::follows;
+use qp_known::known_facts::Knowledge;
+use qp_known::told_cut::cut_of;
+use qp_known::told_home::is_home_lane;
+use qp_known::told_lists::keep_dispatched;
+use qp_lanes::deferral::keeps_deferred;
+use qp_lanes::lane_parts::{PORT, home_lane, is_cut, lane_at};
 use qp_model::{Journal, ObjectDef, System};
+use qp_word_rules::verdict::{Broken, Site};
 use std::alloc::{AllocError, Global};
 
 const COURSE: u8 = 7;
@@ -56,40 +57,61 @@ fn all_records(
     Ok(all)
 }
 
-/// Whether an object's records have their shapes, and in `port` its lane has no others.
+/// The same in `port`: its lane has no records but its own and looks at its own queue, which count among them.
+fn has_its_home(
+    alloc: Global,
+    knowledge: &Knowledge,
+    sys: &System,
+    j: &Journal,
+    d: &ObjectDef,
+) -> Result<bool, AllocError>
+    requires known { IsKnowledgeOf knowledge.now sys.now j.now }
+    requires port { j.now.kernel ≡ port }
+    ensures { IfOk result (λ b. Decides b (ShapesHold sys.now j.now d.now)) }
+{
+    let cut = cut_of(sys, j, d.priority);
+    let told = home_records(alloc, knowledge, sys, j, d)?;
+    if !has_shape(sys, d.priority, true, cut, &told.items) {
+        return Ok(false);
+    }
+    let home = home_lane(sys, j, d.priority);
+    let is_home = is_home_lane(alloc, d.priority, j.budget, is_cut(j.end), lane_at(j, home))?;
+    Ok(is_home)
+}
+
+/// Whether an object's records have their shapes.
 fn has_its_shapes(
     alloc: Global,
+    knowledge: &Knowledge,
     sys: &System,
     j: &Journal,
     d: &ObjectDef,
     told: &Records,
 ) -> Result<bool, AllocError>
-    requires { told.now ≡ by_object (facts_of sys.now j.now) j.now d.now.priority }
+    requires known { IsKnowledgeOf knowledge.now sys.now j.now }
+    requires told { told.now ≡ by_object (facts_of sys.now j.now) j.now d.now.priority }
     ensures { IfOk result (λ b. Decides b (ShapesHold sys.now j.now d.now)) }
 {
+    if j.kernel == PORT {
+        return has_its_home(alloc, knowledge, sys, j, d);
+    }
     let cut = cut_of(sys, j, d.priority);
-    if !has_shape(sys, d.priority, j.kernel == PORT, cut, &told.items) {
-        return Ok(false);
-    }
-    if j.kernel != PORT {
-        return Ok(true);
-    }
-    let home = home_lane(sys, j, d.priority);
-    let is_home = is_home_lane(alloc, d.priority, j.budget, lane_at(j, home))?;
-    Ok(is_home)
+    Ok(has_shape(sys, d.priority, false, cut, &told.items))
 }
 
 fn shapes_broken(
     alloc: Global,
+    knowledge: &Knowledge,
     sys: &System,
     j: &Journal,
     told: &[Records],
 ) -> Result<Option<Broken>, AllocError>
-    requires { told.now ≡ map (λ d. by_object (facts_of sys.now j.now) j.now d.priority) sys.now.objects }
+    requires known { IsKnowledgeOf knowledge.now sys.now j.now }
+    requires told { told.now ≡ map (λ d. by_object (facts_of sys.now j.now) j.now d.priority) sys.now.objects }
     ensures { IfOk result (λ o. Finds (at_objects 15 (ShapesHold sys.now j.now) sys.now.objects) o) }
 {
     for (i, d) in sys.objects.items.iter().enumerate() {
-        if !has_its_shapes(alloc, sys, j, d, &told[i])? {
+        if !has_its_shapes(alloc, knowledge, sys, j, d, &told[i])? {
             return Ok(Some(at_object(SHAPES, d)));
         }
     }
@@ -173,7 +195,7 @@ pub(crate) fn objects_broken(
     ensures { IfOk result (λ o. Finds (object_trials sys.now j.now) o) }
 {
     let mut told = all_records(alloc, knowledge, sys, j)?;
-    let shapes = shapes_broken(alloc, sys, j, &told)?;
+    let shapes = shapes_broken(alloc, knowledge, sys, j, &told)?;
     match shapes {
         Some(broken) => return Ok(Some(broken)),
         None => {}

@@ -2,17 +2,17 @@
 
 ghost use Rattle.std.specs.Prelude.{◌≡◌, IfOk};
 ghost use Rattle.qp_model.specs.History.{lane_items};
-ghost use Rattle.qp_model.specs.Home.{by_object};
+ghost use Rattle.qp_model.specs.Home.{by_object, home_records};
 ghost use Rattle.qp_model.specs.Lawful.{SpillStands, facts_of};
 ghost use Rattle.qp_model.specs.ObjectShape.{HasShape};
 ghost use Rattle.qp_model.specs.Sources.{IsSourceLane};
 ghost use Rattle.qp_fits.specs.AsPiece.{as_cut};
 ghost use Rattle.qp_fits.specs.Decides.{Decides};
-ghost use Rattle.qp_check.specs.Knowledge.{IsKnowledgeOf};
+ghost use Rattle.qp_known.specs.Knowledge.{IsKnowledgeOf};
 
-use crate::known_facts::Knowledge;
-use crate::told_lists::{self, source_told};
 use qp_fits::{Cut, Told};
+use qp_known::known_facts::Knowledge;
+use qp_known::told_lists::{self, source_told};
 use qp_model::{Journal, ObjectDef, Rec, Source, System};
 use qp_shapes::Scene;
 use std::alloc::{AllocError, Global};
@@ -45,6 +45,21 @@ pub(crate) fn object_records(
     ensures { IfOk result (λ v. v ≡ by_object (facts_of sys.now j.now) j.now d.now.priority) }
 {
     let items = told_lists::object_records(alloc, knowledge, d.priority)?;
+    Ok(Records { items })
+}
+
+/// The records of an object for its shape.
+pub(crate) fn home_records(
+    alloc: Global,
+    knowledge: &Knowledge,
+    sys: &System,
+    j: &Journal,
+    d: &ObjectDef,
+) -> Result<Records, AllocError>
+    requires { IsKnowledgeOf knowledge.now sys.now j.now }
+    ensures { IfOk result (λ v. v ≡ home_records (facts_of sys.now j.now) j.now d.now.priority) }
+{
+    let items = told_lists::home_records(alloc, knowledge, d.priority)?;
     Ok(Records { items })
 }
 

@@ -9,16 +9,16 @@ ghost use Rattle.qp_model.specs.Lawful.{setting_of};
 ghost use Rattle.qp_model.specs.Points.{is_look, lane_pieces, pieces_at};
 ghost use Rattle.qp_model.specs.Record.{item_of};
 ghost use Rattle.qp_fits.specs.AsPiece.{as_piece};
-ghost use Rattle.qp_check.specs.LaneState.{as_reading, as_setting};
-ghost use Rattle.qp_check.specs.Knowledge.{IsKnown, facts_in};
+ghost use Rattle.qp_lane_zero.specs.LaneState.{as_reading, as_setting};
+ghost use Rattle.qp_known.specs.Knowledge.{IsKnown, facts_in};
 ghost use Rattle.qp_check.specs.ObjectPieces.{own_piece, pieces_of, point_of, stepping};
 
-use crate::known_facts::Knowledge;
-use crate::lane_parts::lane_at;
-use crate::lane_state::{Place, Reading, Rules};
 use crate::pieces_rows::ObjectPieces;
-use crate::told_lists::is_turn_mark;
 use qp_fits::{Piece, Told};
+use qp_known::known_facts::Knowledge;
+use qp_known::told_lists::is_turn_mark;
+use qp_lane_zero::lane_state::{Place, Reading, Rules};
+use qp_lanes::lane_parts::lane_at;
 use qp_model::{Body, Rec};
 use std::alloc::{AllocError, Global};
 
@@ -48,29 +48,25 @@ fn is_look(r: &Rec) -> bool
     matches!(r.body(), Body::Look { .. })
 }
 
-impl<'a> Reading<'a> {
-    ghost use Rattle.qp_check.specs.LaneState.{as_reading};
-
-    /// The innermost step under way, unless it is of this object.
-    fn stepping(&self, of: u8) -> Option<u8>
-        ensures { result ≡ stepping of (as_reading self.now).place (as_reading self.now).running }
-    {
-        match (self.place, self.running.top()) {
-            (Place::Inside, Some(p)) if p != of => Some(p),
-            _ => None,
-        }
+/// The innermost step under way, unless it is of this object.
+fn stepping(reading: &Reading, of: u8) -> Option<u8>
+    ensures { result ≡ stepping of (as_reading reading.now).place (as_reading reading.now).running }
+{
+    match (reading.place, reading.running.top()) {
+        (Place::Inside, Some(p)) if p != of => Some(p),
+        _ => None,
     }
+}
 
-    /// The object in whose step a row begins with this record.
-    #[tactic(auto, unfolding(qp_model::specs::Record::item_of))]
-    fn point_of(&self, r: &Rec) -> Option<u8>
-        ensures { result ≡ point_of (as_reading self.now) (item_of r.now) }
-    {
-        if is_look(r) {
-            self.stepping(r.of)
-        } else {
-            None
-        }
+/// The object in whose step a row begins with this record.
+#[tactic(auto, unfolding(qp_model::specs::Record::item_of))]
+fn point_of(reading: &Reading, r: &Rec) -> Option<u8>
+    ensures { result ≡ point_of (as_reading reading.now) (item_of r.now) }
+{
+    if is_look(r) {
+        stepping(reading, r.of)
+    } else {
+        None
     }
 }
 
@@ -87,7 +83,7 @@ fn put_record(
 {
     let own = own_piece(alloc, knowledge, reading.ceiling, r)?;
     pieces.put_piece(alloc, r.of, own)?;
-    pieces.put_point(alloc, reading.point_of(r))?;
+    pieces.put_point(alloc, point_of(reading, r))?;
     Ok(())
 }
 

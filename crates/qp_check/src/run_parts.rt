@@ -13,27 +13,27 @@ ghost use Rattle.qp_model.specs.OneOrder.{IsOneOrder};
 ghost use Rattle.qp_model.specs.Points.{lane_pieces};
 ghost use Rattle.qp_fits.specs.Decides.{Decides};
 ghost use Rattle.qp_check.specs.Judgeable.{IsJudgeable};
-ghost use Rattle.qp_check.specs.Numbers.{WordsFit};
+ghost use Rattle.qp_histories.specs.Numbers.{WordsFit};
 ghost use Rattle.qp_course.specs.Followable.{IsFollowable};
-ghost use Rattle.qp_check.specs.Knowledge.{IsKnowledgeOf};
+ghost use Rattle.qp_known.specs.Knowledge.{IsKnowledgeOf};
 ghost use Rattle.qp_check.specs.ObjectPieces.{ArePiecesOf};
 ghost use Rattle.qp_check.specs.Judged.{Finds, end_trials, kernel_trials, lane_trials, source_trials};
 
-use crate::ending::end_holds;
-use crate::kernel_lane::{SIM, is_kernel_lane};
-use crate::known_facts::Knowledge;
-use crate::lane_parts::{
-    PORT, count_stands, lane_at, lane_zero_stands, lanes_before, source_lanes,
-};
-use crate::lane_state::QV;
-use crate::one_order::{is_one_order, spills_in};
 use crate::parts::{is_source_lane, spill_stands};
 use crate::pieces::lane_pieces;
 use crate::pieces_rows::ObjectPieces;
-use crate::told_cut::cut_of;
-use crate::verdict::{Broken, Site};
 use qp_course::follows_with_points;
+use qp_ending::ending::end_holds;
+use qp_known::known_facts::Knowledge;
+use qp_known::told_cut::cut_of;
+use qp_lane_zero::kernel_lane::{SIM, is_kernel_lane};
+use qp_lane_zero::lane_state::QV;
+use qp_lane_zero::one_order::{is_one_order, spills_in};
+use qp_lanes::lane_parts::{
+    PORT, count_stands, lane_at, lane_zero_stands, lanes_before, source_lanes,
+};
 use qp_model::{Journal, ObjectDef, Rec, Source, Stimuli, System};
+use qp_word_rules::verdict::{Broken, Site};
 use std::alloc::{AllocError, Global};
 
 const KERNEL_LANE: u8 = 19;

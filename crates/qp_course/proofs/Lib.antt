@@ -23,4 +23,3 @@ pub mod FewStateLemmas
 pub mod CanLemmas
 pub mod LoopLemmas
 pub mod AnswerLemmas
-pub mod EmptyLemmas

@@ -1,5 +1,5 @@
 -- An object's records without the points between them.
-use Rattle.std.specs.Prelude.{ℕ, Bool, true, false, ◌||◌, List, [], ◌∷◌, Some, None}
+use Rattle.std.specs.Prelude.{ℕ, Bool, true, false, ◌&&◌, ◌||◌, List, [], ◌∷◌, Some, None}
 use Rattle.std.specs.declared.option.Option.{Option}
 use Rattle.std.specs.Option.{option_and_then}
 use Rattle.qp_chart.specs.declared.checked.Chart.{Chart}
@@ -10,6 +10,7 @@ use Rattle.qp_model.specs.declared.bodies.Entry.{Entry}
 use Rattle.qp_model.specs.Told.{Told, Event}
 use Rattle.qp_model.specs.Acts.{Config, Actor}
 use Rattle.qp_model.specs.Course.{Cut, Whole, Stopped, Anywhere, actor, first_config}
+use Rattle.qp_model.specs.ObjectShape.{asserts_none}
 use Rattle.qp_course.specs.Goes.{Stepping}
 use Rattle.qp_course.specs.Machine.{State, AtPoint, AtPost, closing, settle, resume, start_state, tell_next, is_end, expects_point}
 
@@ -57,7 +58,13 @@ abbrev pub told_well : Actor → Cut → Bool → Option State → Bool
 told_well a cut nothing None = false
 told_well a cut nothing (Some s) = may_end_told a cut nothing s
 
+-- an assertion is among the records only where the list may be cut
+abbrev pub asserts_where_cut : Cut → List Told → Bool
+asserts_where_cut Whole g = asserts_none g
+asserts_where_cut cut g = true
+
 -- the records are read to the last one, and the list may be cut there
 unfoldable pub told_to : System → ObjectDef → Chart → Cut → List Told → Bool
 unfolding may_end_told run_told start_state
-told_to sys d chart cut g = told_well (actor d chart) cut (is_none_told g) (run_told sys (actor d chart) (start_state (actor d chart) (first_config d)) g)
+told_to sys d chart cut g =
+    told_well (actor d chart) cut (is_none_told g) (run_told sys (actor d chart) (start_state (actor d chart) (first_config d)) g) && asserts_where_cut cut g

@@ -7,6 +7,7 @@ use Rattle.qp_model.specs.declared.systems.ObjectDef.{ObjectDef}
 use Rattle.qp_model.specs.Able.{chart_able}
 use Rattle.qp_model.specs.Acts.{Actor}
 use Rattle.qp_model.specs.Course.{actor, chart_at}
+use Rattle.qp_model.specs.ObjectShape.{is_assert}
 use Rattle.qp_fits.specs.declared.pieces.Piece.{Piece}
 use Rattle.qp_fits.specs.declared.pieces.Piece.TheVariants.{Tell, Point}
 use Rattle.qp_course.specs.Machine.{State}
@@ -42,3 +43,8 @@ abbrev pub is_point : Option Piece → Bool
 is_point None = true
 is_point (Some Point) = true
 is_point (Some (Tell t)) = false
+
+-- an assertion
+abbrev pub piece_asserts : Piece → Bool
+piece_asserts (Tell t) = is_assert t.body
+piece_asserts Point = false

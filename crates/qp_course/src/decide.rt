@@ -8,17 +8,18 @@ ghost use Rattle.qp_model.specs.Course.{FollowsTo, chart_at, first_config};
 ghost use Rattle.qp_fits.specs.AsPiece.{as_piece, as_cut};
 ghost use Rattle.qp_fits.specs.Decides.{Decides};
 ghost use Rattle.qp_course.specs.Machine.{start_state, run};
-ghost use Rattle.qp_course.specs.Passing.{is_none_told, told_well, run_told};
+ghost use Rattle.qp_model.specs.ObjectShape.{is_assert, asserts_none};
+ghost use Rattle.qp_course.specs.Passing.{asserts_where_cut, is_none_told, told_well, run_told};
 ghost use Rattle.qp_course.specs.Decided.{ends_well};
 ghost use Rattle.qp_course.specs.Followable.{IsFollowable};
-ghost use Rattle.qp_course.specs.Runs.{IsAble, IsActorOf};
+ghost use Rattle.qp_course.specs.Runs.{IsAble, IsActorOf, piece_asserts};
 ghost use Rattle.qp_course.specs.AsState.{as_actor};
 
 use crate::runs::{begin, ends_at_point, run, run_told};
 use crate::states::Actor;
 use qp_chart::Chart;
 use qp_fits::{Cut, Piece, Told};
-use qp_model::{ObjectDef, System};
+use qp_model::{Body, ObjectDef, System};
 use std::alloc::{AllocError, Global};
 
 /// A chart of a system by its number, from 1.
@@ -89,6 +90,60 @@ fn reads_pieces(
     }
 }
 
+fn is_assert(t: &Told) -> bool
+    ensures { result ≡ is_assert t.now.body }
+{
+    match &t.body {
+        Body::NoEntry { .. }
+        | Body::NoBlock { .. }
+        | Body::Armed { .. }
+        | Body::BadTicks { .. }
+        | Body::NoLifo { .. } => true,
+        _ => false,
+    }
+}
+
+fn asserts_none(told: &[Told]) -> bool
+    ensures { result ≡ asserts_none told.now }
+{
+    told.iter().all(|t| !is_assert(t))
+}
+
+fn piece_asserts(piece: &Piece) -> bool
+    ensures { result ≡ piece_asserts piece.now }
+{
+    match piece {
+        Piece::Tell(t) => is_assert(t),
+        Piece::Point => false,
+    }
+}
+
+fn pieces_assert_none(pieces: &[Piece]) -> bool
+    ensures { result ≡ asserts_none (bare (map as_piece pieces.now)) }
+{
+    pieces.iter().all(|piece| !piece_asserts(piece))
+}
+
+/// Whether an assertion is among the records only where the list may be cut.
+fn asserts_where_cut(cut: Cut, told: &[Told]) -> bool
+    ensures { result ≡ asserts_where_cut (as_cut cut) told.now }
+{
+    match cut {
+        Cut::Whole => asserts_none(told),
+        Cut::Stopped | Cut::Anywhere => true,
+    }
+}
+
+/// The same of pieces.
+fn pieces_assert_where_cut(cut: Cut, pieces: &[Piece]) -> bool
+    ensures { result ≡ asserts_where_cut (as_cut cut) (bare (map as_piece pieces.now)) }
+{
+    match cut {
+        Cut::Whole => pieces_assert_none(pieces),
+        Cut::Stopped | Cut::Anywhere => true,
+    }
+}
+
 /// Whether an object's records follow its chart, with some points between them.
 pub fn follows(
     alloc: Global,
@@ -100,6 +155,9 @@ pub fn follows(
     requires { IsFollowable sys.now d.now }
     ensures { IfOk result (λ b. Decides b ((ps : List pieces.Piece) × (bare ps ≡ told.now) × FollowsTo sys.now d.now (as_cut cut) ps)) }
 {
+    if !asserts_where_cut(cut, told) {
+        return Ok(false);
+    }
     match actor_of(sys, d) {
         Some(who) => reads_told(alloc, &who, d, cut, told),
         None => Ok(false),
@@ -117,6 +175,9 @@ pub fn follows_with_points(
     requires { IsFollowable sys.now d.now }
     ensures { IfOk result (λ b. Decides b (FollowsTo sys.now d.now (as_cut cut) (map as_piece pieces.now))) }
 {
+    if !pieces_assert_where_cut(cut, pieces) {
+        return Ok(false);
+    }
     match actor_of(sys, d) {
         Some(who) => reads_pieces(alloc, &who, d, cut, pieces),
         None => Ok(false),

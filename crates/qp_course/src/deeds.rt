@@ -6,9 +6,8 @@ ghost use Rattle.qp_model.specs.Calls.{bits_of, values_of, object_of, deed_of};
 ghost use Rattle.qp_course.specs.AsDeed.{as_deed};
 ghost use Rattle.qp_course.specs.Few.{MakesFew};
 
-use crate::values::value;
 use arrayvec::ArrayVec;
-use qp_chart::{Bound, Env, Plain, Target};
+use qp_chart::{Bound, Env, Plain, Target, eval};
 use qp_fits::Call;
 use qp_model::Params;
 
@@ -24,7 +23,7 @@ pub(crate) enum Deed {
 fn bits(e: &Bound, env: &Env<'_>) -> u64
     ensures { result ≡ bits_of (value_of (names_in env.now) e.now) }
 {
-    value(e, env).cast_unsigned()
+    eval(e, env).cast_unsigned()
 }
 
 /// The parameters of an event.
@@ -59,7 +58,7 @@ pub(crate) fn deed_of(plain: &Plain, env: &Env<'_>) -> Deed
     match plain {
         Plain::Set { var, value: e } => Deed::Sets {
             var: *var,
-            value: value(e, env),
+            value: eval(e, env),
         },
         Plain::Say(e) => Deed::Says {
             value: bits(e, env),

@@ -8,8 +8,7 @@ ghost use Rattle.qp_chart.specs.Handler.{passes, first_row, rows_of, handler_at,
 ghost use Rattle.qp_course.specs.AsHandler.{as_place};
 
 use crate::places::{parent_of, rows_of};
-use crate::values::value;
-use qp_chart::{Bound, Chart, Env, Row};
+use qp_chart::{Bound, Chart, Env, Row, eval};
 use std::marker::Model;
 
 /// A row of a state, with its place there, from 1.
@@ -38,7 +37,7 @@ fn passes(env: &Env<'_>, guard: Option<&Bound>) -> bool
     ensures { result ≡ passes (names_in env.now) (option_copied guard.entry) }
 {
     match guard {
-        Some(guard) => value(guard, env) != 0,
+        Some(guard) => eval(guard, env) != 0,
         None => true,
     }
 }

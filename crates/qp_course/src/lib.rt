@@ -13,9 +13,6 @@ mod settle;
 mod states;
 mod tasks;
 mod tell;
-#[cfg(test)]
-mod tests;
-mod values;
 
 pub use agenda::{Plan, start_plan, step_plan};
 pub use decide::{follows, follows_with_points};

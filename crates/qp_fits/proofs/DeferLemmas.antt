@@ -16,7 +16,7 @@ use Rattle.qp_fits.proofs.ReadLemmas.{At, at-step, at-stepped, at-ended, at-whol
 use Rattle.qp_fits.proofs.FrontLemmas.{at-deferred}
 use Rattle.qp_fits.proofs.PostLemmas.{Again, at-now}
 use Rattle.qp_fits.proofs.KeptLemmas.{kept-now}
-use Rattle.qp_fits.proofs.StageLemmas.{told-is}
+use Rattle.qp_model.proofs.RecordLemmas.{told-is}
 
 module _ (sys : System) (o : ℕ) (now : Option Entry) (kept : List Entry) (a : Answer) (k : List Entry) (room : ℕ) where
   -- the list has room

@@ -18,7 +18,8 @@ use Rattle.qp_fits.proofs.ReadLemmas.{At, at-step, at-stepped, at-ended, at-whol
 use Rattle.qp_fits.proofs.ReleaseLemmas.{at-released}
 use Rattle.qp_fits.proofs.KeptLemmas.{kept-drops}
 use Rattle.qp_fits.proofs.RecallLemmas.{kept-flushed, flushed-kept}
-use Rattle.qp_fits.proofs.StageLemmas.{only-passed, told-is, same_entry-is, same_entry-itself}
+use Rattle.qp_model.proofs.RecordLemmas.{told-is, same_entry-is, same_entry-refl}
+use Rattle.qp_fits.proofs.StageLemmas.{only-passed}
 
 module _ (sys : System) (o : ℕ) (now : Option Entry) (a : Answer) (k : List Entry) (room total : ℕ) where
   -- the entries kept are flushed, and no others
@@ -81,7 +82,7 @@ module _ (sys : System) (o : ℕ) (now : Option Entry) (a : Answer) (k : List En
               let all : g ≡ plain (item.Flush x) ∷ (rel ++ rest) = whole ∙ ap (λ y. plain (item.Flush y) ∷ (rel ++ rest)) (sym is) in (
                 ap (λ y. suc y) more.0,
                 subst (λ y. At sys o now (x ∷ xs) (Flushes total) a k y) (sym all)
-                    (at-step sys o now (x ∷ xs) _ (released x (flushes_on total xs) (FlushesOn total)) a k _ _ (rw (same_entry-itself x) refl)
+                    (at-step sys o now (x ∷ xs) _ (released x (flushes_on total xs) (FlushesOn total)) a k _ _ (rw (same_entry-refl x) refl)
                     ((at-released sys o now xs a k x (FlushesOn total) _).1 (rel, rest, drop, refl, more.1))),
               )
 

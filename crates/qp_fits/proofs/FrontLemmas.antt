@@ -14,7 +14,8 @@ use Rattle.qp_model.proofs.LineLemmas.{same_number}
 use Rattle.qp_fits.specs.Rest.{ToFront, ToDeferred, Stage, Puts, Whole}
 use Rattle.qp_fits.specs.RestNext.{stage_next, put_next, front_next, deferred_next, fronted, list_after}
 use Rattle.qp_fits.proofs.ReadLemmas.{At, at-step, at-stepped, at-ended, at-whole}
-use Rattle.qp_fits.proofs.StageLemmas.{only-passed, told-is, same_entry-is, same_entry-itself}
+use Rattle.qp_model.proofs.RecordLemmas.{told-is, same_entry-is, same_entry-refl}
+use Rattle.qp_fits.proofs.StageLemmas.{only-passed}
 
 -- what a last-in post behind its head leaves, where the call goes on behind it, or ends
 pub data Fronted (o : ℕ) (e : Entry) (kept : List Entry) (More : List Told → Type 0) (a : Answer) (k : List Entry) (g : List Told) : Type 0 where
@@ -51,7 +52,7 @@ module _ (sys : System) (o : ℕ) (now : Option Entry) (kept : List Entry) (a : 
       → Fronted o e kept (At sys o now kept (fronted recalled) a k) a k g → At sys o now kept (Puts (ToFront recalled) e) a k g
   unfolding stage_next put_next PostsFront
   at-front-into recalled e g (IsFronted one rest p is more) =
-      rw (is, p.3) (at-step sys o now kept _ (fronted recalled) a k _ rest (rw (same_entry-itself e) refl) more)
+      rw (is, p.3) (at-step sys o now kept _ (fronted recalled) a k _ rest (rw (same_entry-refl e) refl) more)
   at-front-into recalled e g (HasNoFront p q r) =
       rw p.3 (at-step sys o now kept _ (Whole AtFront) a k _ [] (rw (same_number o) refl) ((at-whole sys o now kept AtFront a k []).1 (refl, q, r)))
 
@@ -79,7 +80,7 @@ module _ (sys : System) (o : ℕ) (now : Option Entry) (kept : List Entry) (a : 
 
       into : a ≡ Granted → k ≡ kept ++ e ∷ [] → At sys o now kept (Puts ToDeferred e) a k (plain (item.Defer e) ∷ [])
       into p q =
-          at-step sys o now kept _ (Whole Granted) a k _ [] (rw (same_entry-itself e) refl) ((at-whole sys o now (kept ++ e ∷ []) Granted a k []).1 (refl, p, q))
+          at-step sys o now kept _ (Whole Granted) a k _ [] (rw (same_entry-refl e) refl) ((at-whole sys o now (kept ++ e ∷ []) Granted a k []).1 (refl, p, q))
 
 -- posts behind the records that made their entry
 pub posts-head : (ring to : ℕ) (margin : Option ℕ) (head : List Told) (e : Entry) (answer : Answer) (g : List Told)

@@ -18,7 +18,8 @@ use Rattle.qp_fits.specs.Rest.{Goal, Stage, Refers, Puts, Whole}
 use Rattle.qp_fits.specs.RestNext.{stage_next, block_next, new_next, list_after, only, is_of}
 use Rattle.qp_fits.proofs.ReadLemmas.{At, at-step, at-stepped, at-ended, at-whole}
 use Rattle.qp_fits.proofs.ReleaseLemmas.{at-refers}
-use Rattle.qp_fits.proofs.StageLemmas.{only-passed, told-is}
+use Rattle.qp_model.proofs.RecordLemmas.{told-is}
+use Rattle.qp_fits.proofs.StageLemmas.{only-passed}
 
 pub same_list-itself : (xs : List ℕ) → same_list xs xs ≡ true
 same_list-itself [] = refl
@@ -79,18 +80,18 @@ module _ (sys : System) (o : ℕ) (now : Option Entry) (kept : List Entry) (a : 
       let whole : t ≡ given p n b from sg ps free = told-is t _ _ is_body is_known in
       IsMade (given p n b from sig pars free ∷ plain (item.Inc p b refers.0) ∷ []) (entry p b refers.0) refers.1
       (p, n, b, from, free, refers.0, refl, refl, pool, t4) (cc) refers.3
-  block-out t g (item.NoBlock p n) Nothing is_body is_known next is later =
+  block-out t g (item.NoBlock p n free) Nothing is_body is_known next is later =
       let passed = only-passed (is_of (first_pool (sizes_of sys) (length pars)) p && is_none reserve) _ _ is in
       by reserve passed.0 (told-is t _ _ is_body is_known) ((at-whole sys o now kept AtPool a k g).0 (subst (λ x. At sys o now kept x a k g) (sym passed.1) later))
     where
-      by : (reserve : Option ℕ) → (is_of (first_pool (sizes_of sys) (length pars)) p && is_none reserve) ≡ true → t ≡ plain (item.NoBlock p n)
+      by : (reserve : Option ℕ) → (is_of (first_pool (sizes_of sys) (length pars)) p && is_none reserve) ≡ true → t ≡ plain (item.NoBlock p n free)
           → ((g ≡ []) × (a ≡ AtPool) × (k ≡ kept)) → MadeNew false (sizes_of sys) sig pars reserve kept (λ e. At sys o now kept (Puts goal e) a k) a k (t ∷ g)
       by (Some r) test whole last = let no : false ≡ true = grind (arith, nat_tests) in absurd (cc)
       by None test whole last =
           let t1 : is_of (first_pool (sizes_of sys) (length pars)) p ≡ true = grind (arith, nat_tests) in
           let pool : first_pool (sizes_of sys) (length pars) ≡ Some p = is_of-is _ p t1 in
           let end : g ≡ [] = last.0 in
-          HasNoBlock (subst (λ x. NoBlockFor false (sizes_of sys) pars None x (t ∷ g)) (sym last.1) (p, n, refl, pool, cc)) last.2
+          HasNoBlock (subst (λ x. NoBlockFor false (sizes_of sys) pars None x (t ∷ g)) (sym last.1) (p, n, free, refl, pool, cc)) last.2
   block-out t g (item.Short p n free r) Nothing is_body is_known next is later =
       let passed = only-passed (is_of (first_pool (sizes_of sys) (length pars)) p && is_of reserve r) _ _ is in
       by reserve passed.0 (told-is t _ _ is_body is_known) ((at-whole sys o now kept Refused a k g).0 (subst (λ x. At sys o now kept x a k g) (sym passed.1) later))
@@ -121,10 +122,10 @@ module _ (sys : System) (o : ℕ) (now : Option Entry) (kept : List Entry) (a : 
       → NoBlockFor false (sizes_of sys) pars r b g → k ≡ kept → At sys o now kept s a k g
   unfolding new_next block_next NoBlockFor
   no-block-into AtPool is None none g is_new n q =
-      rw n.4 (at-step sys o now kept s (Whole AtPool) a k (plain (item.NoBlock n.0 n.1)) [] (is_new _ _ ∙ test) ((at-whole sys o now kept AtPool a k []).1 (refl, is, q)))
+      rw n.5 (at-step sys o now kept s (Whole AtPool) a k (plain (item.NoBlock n.0 n.1 n.2)) [] (is_new _ _ ∙ test) ((at-whole sys o now kept AtPool a k []).1 (refl, is, q)))
     where
       test : only (is_of (first_pool (sizes_of sys) (length pars)) n.0 && is_none reserve) (Whole AtPool) ≡ Some (Whole AtPool)
-      test = let pool : first_pool (sizes_of sys) (length pars) ≡ Some n.0 = n.3 in rw (pool, none, same_number n.0) refl
+      test = let pool : first_pool (sizes_of sys) (length pars) ≡ Some n.0 = n.4 in rw (pool, none, same_number n.0) refl
   no-block-into Refused is (Some r) none g is_new n q =
       rw n.5
       (at-step sys o now kept s (Whole Refused) a k (plain (item.Short n.0 n.1 n.2 r)) [] (is_new _ _ ∙ test) ((at-whole sys o now kept Refused a k []).1 (refl, is, q)))
@@ -162,7 +163,7 @@ module _ (sys : System) (o : ℕ) (now : Option Entry) (kept : List Entry) (a : 
   at-new-into true is_new g (HasNoBlock n q) = absurd (static a reserve n)
     where
       static : (a : Answer) (reserve : Option ℕ) → NoBlockFor true (sizes_of sys) pars reserve a g → ⊥
-      static AtPool None n = cc (n.2)
+      static AtPool None n = cc (n.3)
       static Refused (Some r) n = cc (n.3)
       static a None n = n
       static a (Some r) n = n

@@ -154,7 +154,7 @@ module _ (sys : System) (now : Option Entry) where
   unfolding block_next stage_open
   block-open kept sizes sig pars reserve goal (item.New p n b from s ps) (Free free) next h =
       only-open kept (is_of (first_pool sizes (length pars)) p && (s == sig) && same_list ps pars && nat_lt (unwrap_or reserve 0) free) _ next refl h
-  block-open kept sizes sig pars reserve goal (item.NoBlock p n) Nothing next h =
+  block-open kept sizes sig pars reserve goal (item.NoBlock p n free) Nothing next h =
       only-open kept (is_of (first_pool sizes (length pars)) p && is_none reserve) _ next refl h
   block-open kept sizes sig pars reserve goal (item.Short p n free r) Nothing next h =
       only-open kept (is_of (first_pool sizes (length pars)) p && is_of reserve r) _ next refl h

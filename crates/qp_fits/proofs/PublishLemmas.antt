@@ -21,7 +21,8 @@ use Rattle.qp_fits.proofs.ReleaseLemmas.{at-again, at-release}
 use Rattle.qp_fits.proofs.PutLemmas.{Queued, IsQueued, IsFull, HasNone, at-queue-out, at-queue-into}
 use Rattle.qp_fits.proofs.FrontLemmas.{posts-head, head-posts}
 use Rattle.qp_fits.proofs.NewLemmas.{MadeNew, HasNoBlock, IsMade, at-new-out, at-new-into}
-use Rattle.qp_fits.proofs.StageLemmas.{only-passed, told-is}
+use Rattle.qp_model.proofs.RecordLemmas.{told-is}
+use Rattle.qp_fits.proofs.StageLemmas.{only-passed}
 
 -- the record that restores a ceiling, where it was raised
 abbrev pub unlocks : Option ℕ → List Told

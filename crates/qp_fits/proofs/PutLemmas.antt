@@ -18,7 +18,8 @@ use Rattle.qp_fits.specs.Rest.{Behind, Ends, ToQueue, Stage, Puts, Whole}
 use Rattle.qp_fits.specs.RestNext.{stage_next, put_next, queue_next, list_after, goes_on, released, only, is_of}
 use Rattle.qp_fits.proofs.ReadLemmas.{At, at-step, at-stepped, at-ended, at-whole}
 use Rattle.qp_fits.proofs.ReleaseLemmas.{at-release}
-use Rattle.qp_fits.proofs.StageLemmas.{only-passed, told-is, same_entry-is, same_entry-itself}
+use Rattle.qp_model.proofs.RecordLemmas.{told-is, same_entry-is, same_entry-refl}
+use Rattle.qp_fits.proofs.StageLemmas.{only-passed}
 
 -- what a post behind its head leaves, where the call goes on behind it, or ends
 pub data Queued (sys : System) (to : ℕ) (margin : Option ℕ) (e : Entry) (kept : List Entry) (More : List Told → Type 0) (a : Answer) (k : List Entry) (g : List Told) : Type 0 where
@@ -80,7 +81,7 @@ module _ (sys : System) (o : ℕ) (now : Option Entry) (kept : List Entry) (a : 
   at-queue-into to margin behind e g (IsQueued one rest p is more) = rw (is, p.3) (at-step sys o now kept _ (goes_on kept behind) a k _ rest passed more)
     where
       passed : only ((to == to) && same_entry e e && nat_lt (unwrap_or margin 0) (room_before (ring_of sys to) p.0 p.1 p.2)) (goes_on kept behind) ≡ Some (goes_on kept behind)
-      passed = let free : nat_lt (unwrap_or margin 0) (room_before (ring_of sys to) p.0 p.1 p.2) ≡ true = p.4 in rw (same_number to, same_entry-itself e, free) refl
+      passed = let free : nat_lt (unwrap_or margin 0) (room_before (ring_of sys to) p.0 p.1 p.2) ≡ true = p.4 in rw (same_number to, same_entry-refl e, free) refl
   at-queue-into to margin behind e g (IsFull p q r) = by margin p
     where
       by : (margin : Option ℕ) → Posts (ring_of sys to) to margin [] e Refused g → At sys o now kept (Puts (ToQueue to margin behind) e) a k g

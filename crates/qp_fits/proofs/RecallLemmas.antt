@@ -18,17 +18,18 @@ use Rattle.qp_fits.proofs.ReadLemmas.{At, at-step, at-stepped, at-ended, at-whol
 use Rattle.qp_fits.proofs.ReleaseLemmas.{at-again, at-release}
 use Rattle.qp_fits.proofs.FrontLemmas.{Fronted, IsFronted, HasNoFront, at-front-out, at-front-into, front-head, head-front}
 use Rattle.qp_fits.proofs.KeptLemmas.{kept-drops, kept-again, kept-front}
-use Rattle.qp_fits.proofs.StageLemmas.{only-passed, told-is, same_entry-is, same_entry-itself}
+use Rattle.qp_model.proofs.RecordLemmas.{told-is, same_entry-is, same_entry-refl}
+use Rattle.qp_fits.proofs.StageLemmas.{only-passed}
 
 -- the oldest entry leaves the list, and it must be the one that a record states
 module _ (room : ℕ) (x : Entry) (xs : List Entry) (e : Entry) (rest : List Told) where
   pub kept-recalled : kept_after room (x ∷ xs) (plain (item.Recall x) ∷ rest) ≡ kept_after room xs rest
   unfolding kept_after keep
-  kept-recalled = rw (same_entry-itself x) refl
+  kept-recalled = rw (same_entry-refl x) refl
 
   pub kept-flushed : kept_after room (x ∷ xs) (plain (item.Flush x) ∷ rest) ≡ kept_after room xs rest
   unfolding kept_after keep
-  kept-flushed = rw (same_entry-itself x) refl
+  kept-flushed = rw (same_entry-refl x) refl
 
   pub recalled-kept : (k : List Entry) → kept_after room (x ∷ xs) (plain (item.Recall e) ∷ rest) ≡ Some k → x ≡ e
   unfolding kept_after keep
@@ -155,7 +156,7 @@ module _ (sys : System) (o : ℕ) (now : Option Entry) (a : Answer) (k : List En
                   at-front-into sys o now xs a k (Some x) e _ (IsFronted parts.0 rel parts.2 refl ((at-release sys o now xs a k x Granted rel).1 (drop, q, kept))),
                 ) in
                 subst (λ y. At sys o now (x ∷ xs) (Begins room call.Recall) a k y) (sym all)
-                (at-step sys o now (x ∷ xs) _ (again (ToFront (Some x)) x) a k _ _ (rw (same_entry-itself x) refl) more)
+                (at-step sys o now (x ∷ xs) _ (again (ToFront (Some x)) x) a k _ _ (rw (same_entry-refl x) refl) more)
     recall-into AtFront q g h keeps = put h.0 h.1 h.2 h.3 h.4 h.5 h.6
       where
         put : (d e : Entry) (head one : List Told) → MakesAgain d head e → PostsFront o head e AtFront one
@@ -179,7 +180,7 @@ module _ (sys : System) (o : ℕ) (now : Option Entry) (a : Answer) (k : List En
                 (at-again sys o now xs a k (ToFront (Some x)) x _).1
                 (head, e, parts.0, m, refl, at-front-into sys o now xs a k (Some x) e _ (HasNoFront parts.2 q kept)) in
                 subst (λ y. At sys o now (x ∷ xs) (Begins room call.Recall) a k y) (sym all)
-                (at-step sys o now (x ∷ xs) _ (again (ToFront (Some x)) x) a k _ _ (rw (same_entry-itself x) refl) more)
+                (at-step sys o now (x ∷ xs) _ (again (ToFront (Some x)) x) a k _ _ (rw (same_entry-refl x) refl) more)
     recall-into Refused q g h keeps = let still : kept_after room (x ∷ xs) (plain item.NoRecall ∷ []) ≡ Some k = ap (λ y. kept_after room (x ∷ xs) y) (sym h) ∙ keeps in
         let no : (length (x ∷ xs) == 0) ≡ false = grind (arith, nat_tests) in
         let dead : kept_after room (x ∷ xs) (plain item.NoRecall ∷ []) ≡ None = rw no refl in

@@ -15,7 +15,8 @@ use Rattle.qp_fits.specs.Rest as stages
 use Rattle.qp_fits.specs.Rest.{Behind, Ends, Goal, Stage, Refers, Puts, Returns, Whole, Rest}
 use Rattle.qp_fits.specs.RestNext.{stage_next, list_after, refer_next, return_next, drop_next, left_over, goes_on, released, again, by_pool}
 use Rattle.qp_fits.proofs.ReadLemmas.{At, at-step, at-stepped, at-ended, at-whole}
-use Rattle.qp_fits.proofs.StageLemmas.{only-passed, told-is}
+use Rattle.qp_model.proofs.RecordLemmas.{told-is}
+use Rattle.qp_fits.proofs.StageLemmas.{only-passed}
 
 module _ (sys : System) (o : ℕ) (now : Option Entry) (kept : List Entry) (a : Answer) (k : List Entry) where
   -- a reference is made

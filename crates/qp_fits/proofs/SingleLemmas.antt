@@ -1,5 +1,5 @@
 -- The records of calls that leave one record.
-use Rattle.std.proofs.Common.{◌≡◌, ◌↔◌, ℕ, zero, suc, ◌==◌, Bool, true, false, not, ◌&&◌, List, [], ◌∷◌, Some, refl, sym, subst, arith}
+use Rattle.std.proofs.Common.{◌≡◌, ◌↔◌, ℕ, zero, suc, ◌==◌, Bool, true, false, not, ◌&&◌, List, [], ◌∷◌, IsTrue, Some, refl, sym, subst, arith}
 use Rattle.std.proofs.lemmas.Bool.Decides.{nat_tests}
 use Rattle.std.specs.declared.option.Option.{Option}
 use Rattle.qp_model.specs.declared.systems.System.{System}
@@ -10,13 +10,25 @@ use Rattle.qp_model.specs.Told.{Told, Known, Nothing, Member, plain, same_in}
 use Rattle.qp_model.specs.Calls as call
 use Rattle.qp_model.specs.Calls.{Call, Answer, Granted, Refused, Flushed, AtQueue, AtPool, AtTimer, AtTicks, AtFront}
 use Rattle.qp_model.specs.Parts.{timer_number}
-use Rattle.qp_model.specs.Shapes.{Fits, Subscribes, Unsubscribes, Arms, Rearms, Disarms, ticks_fit}
+use Rattle.qp_model.specs.Shapes.{Fits, Subscribes, Unsubscribes, Arms, Rearms, Disarms, answers_ticks, ticks_fit}
 use Rattle.qp_model.specs.Deferral.{KeepsDeferred}
 use Rattle.qp_model.proofs.LineLemmas.{same_number}
 use Rattle.qp_fits.specs.Rest.{Stage, Begins, Whole}
 use Rattle.qp_fits.specs.RestNext.{stage_next, begin_next, subscribe_next, unsubscribe_next, arm_next, rearm_next, was_armed, disarm_next, list_after, only}
 use Rattle.qp_fits.proofs.ReadLemmas.{At, at-step, at-stepped, at-ended, at-whole}
-use Rattle.qp_fits.proofs.StageLemmas.{only-passed, told-is}
+use Rattle.qp_model.proofs.RecordLemmas.{told-is}
+use Rattle.qp_fits.proofs.StageLemmas.{only-passed}
+
+-- values that are refused are none for a timer, and no others are
+abbrev ArmsFit : ℕ → ℕ → ℕ → Answer → List Told → Type 0
+ArmsFit t ticks interval answer g = Arms t ticks interval answer g × IsTrue (answers_ticks (ticks_fit ticks interval) answer)
+
+abbrev RearmsFit : ℕ → ℕ → Answer → List Told → Type 0
+RearmsFit t ticks answer g = Rearms t ticks answer g × IsTrue (answers_ticks (ticks_fit ticks 0) answer)
+
+refused : (fit : Bool) → not fit ≡ true → fit ≡ false
+refused true h = absurd (cc)
+refused false h = refl
 
 module _ (sys : System) (o : ℕ) (now : Option Entry) (kept : List Entry) (a : Answer) (k : List Entry) (room : ℕ) where
   -- a record that ends a call
@@ -128,7 +140,7 @@ module _ (sys : System) (o : ℕ) (now : Option Entry) (kept : List Entry) (a : 
       into b q g h r = absurd h
 
   begin-arm : (place ticks interval : ℕ) (g : List Told)
-      → At sys o now kept (Begins room (call.Arm place ticks interval)) a k g ↔ (Arms (timer_number sys.timers o place) ticks interval a g × (k ≡ kept))
+      → At sys o now kept (Begins room (call.Arm place ticks interval)) a k g ↔ (ArmsFit (timer_number sys.timers o place) ticks interval a g × (k ≡ kept))
   unfolding stage_next begin_next arm_next Arms
   begin-arm place ticks interval g = (out g, λ h. into a refl g h.0 h.1)
     where
@@ -139,7 +151,7 @@ module _ (sys : System) (o : ℕ) (now : Option Entry) (kept : List Entry) (a : 
       x = call.Arm place ticks interval
 
       by : (t : Told) (g : List Told) (body : Body) (known : Known) → t.body ≡ body → t.known ≡ known → (next : Stage)
-          → arm_next timer ticks interval body known ≡ Some next → At sys o now (list_after kept body) next a k g → Arms timer ticks interval a (t ∷ g) × (k ≡ kept)
+          → arm_next timer ticks interval body known ≡ Some next → At sys o now (list_after kept body) next a k g → ArmsFit timer ticks interval a (t ∷ g) × (k ≡ kept)
       by t g (item.Arm u n kk i) Nothing is_body is_known next f more =
           let last = ends x Granted ((u == timer) && (kk == ticks) && (i == interval) && ticks_fit ticks interval) next g f more in
           let test : ((u == timer) && (kk == ticks) && (i == interval) && ticks_fit ticks interval) ≡ true = last.0 in
@@ -149,7 +161,7 @@ module _ (sys : System) (o : ℕ) (now : Option Entry) (kept : List Entry) (a : 
           let fit : ticks_fit ticks interval ≡ true = grind (arith, nat_tests) in
           let whole : t ≡ plain (item.Arm u n kk i) = told-is t _ _ is_body is_known in
           let end : g ≡ [] = last.1 in
-          (subst (λ b. Arms timer ticks interval b (t ∷ g)) (sym last.2) (n, cc, fit), last.3)
+          (subst (λ b. ArmsFit timer ticks interval b (t ∷ g)) (sym last.2) ((n, cc), fit), last.3)
       by t g (item.Armed u n c) Nothing is_body is_known next f more =
           let last = ends x AtTimer ((u == timer) && ticks_fit ticks interval) next g f more in
           let test : ((u == timer) && ticks_fit ticks interval) ≡ true = last.0 in
@@ -157,7 +169,7 @@ module _ (sys : System) (o : ℕ) (now : Option Entry) (kept : List Entry) (a : 
           let fit : ticks_fit ticks interval ≡ true = grind (arith, nat_tests) in
           let whole : t ≡ plain (item.Armed u n c) = told-is t _ _ is_body is_known in
           let end : g ≡ [] = last.1 in
-          (subst (λ b. Arms timer ticks interval b (t ∷ g)) (sym last.2) (n, c, cc, fit), last.3)
+          (subst (λ b. ArmsFit timer ticks interval b (t ∷ g)) (sym last.2) ((n, c, cc), fit), last.3)
       by t g (item.BadTicks u kk i) Nothing is_body is_known next f more =
           let last = ends x AtTicks ((u == timer) && (kk == ticks) && (i == interval) && not (ticks_fit ticks interval)) next g f more in
           let test : ((u == timer) && (kk == ticks) && (i == interval) && not (ticks_fit ticks interval)) ≡ true = last.0 in
@@ -167,27 +179,27 @@ module _ (sys : System) (o : ℕ) (now : Option Entry) (kept : List Entry) (a : 
           let fit : ticks_fit ticks interval ≡ false = grind (arith, nat_tests) in
           let whole : t ≡ plain (item.BadTicks u kk i) = told-is t _ _ is_body is_known in
           let end : g ≡ [] = last.1 in
-          (subst (λ b. Arms timer ticks interval b (t ∷ g)) (sym last.2) (cc, fit), last.3)
+          (subst (λ b. ArmsFit timer ticks interval b (t ∷ g)) (sym last.2) (cc, rw fit refl), last.3)
       by t g body known is_body is_known next f more = absurd (cc)
 
-      out : (g : List Told) → At sys o now kept (Begins room x) a k g → Arms timer ticks interval a g × (k ≡ kept)
+      out : (g : List Told) → At sys o now kept (Begins room x) a k g → ArmsFit timer ticks interval a g × (k ≡ kept)
       out [] h = absurd (cc ((at-ended sys o now kept (Begins room x) a k h).0))
       out (t ∷ g) h = let one = at-stepped sys o now kept (Begins room x) a k t g h in by t g t.body t.known refl refl one.0 one.1 one.2
 
-      into : (b : Answer) → a ≡ b → (g : List Told) → Arms timer ticks interval b g → k ≡ kept → At sys o now kept (Begins room x) a k g
+      into : (b : Answer) → a ≡ b → (g : List Told) → ArmsFit timer ticks interval b g → k ≡ kept → At sys o now kept (Begins room x) a k g
       into Granted q g h r =
-          let fit : ticks_fit ticks interval ≡ true = h.2 in
-          rw h.1 (at-step sys o now kept _ (Whole Granted) a k _ [] (rw (same_number timer, same_number ticks, same_number interval, fit) refl) (ended Granted q r))
+          let fit : ticks_fit ticks interval ≡ true = h.1 in
+          rw h.0.1 (at-step sys o now kept _ (Whole Granted) a k _ [] (rw (same_number timer, same_number ticks, same_number interval, fit) refl) (ended Granted q r))
       into AtTimer q g h r =
-          let fit : ticks_fit ticks interval ≡ true = h.3 in
-          rw h.2 (at-step sys o now kept _ (Whole AtTimer) a k _ [] (rw (same_number timer, fit) refl) (ended AtTimer q r))
+          let fit : ticks_fit ticks interval ≡ true = h.1 in
+          rw h.0.2 (at-step sys o now kept _ (Whole AtTimer) a k _ [] (rw (same_number timer, fit) refl) (ended AtTimer q r))
       into AtTicks q g h r =
-          let fit : ticks_fit ticks interval ≡ false = h.1 in
+          let fit : ticks_fit ticks interval ≡ false = refused (ticks_fit ticks interval) h.1 in
           rw h.0 (at-step sys o now kept _ (Whole AtTicks) a k _ [] (rw (same_number timer, same_number ticks, same_number interval, fit) refl) (ended AtTicks q r))
-      into b q g h r = absurd h
+      into b q g h r = absurd h.0
 
   begin-rearm : (place ticks : ℕ) (g : List Told)
-      → At sys o now kept (Begins room (call.Rearm place ticks)) a k g ↔ (Rearms (timer_number sys.timers o place) ticks a g × (k ≡ kept))
+      → At sys o now kept (Begins room (call.Rearm place ticks)) a k g ↔ (RearmsFit (timer_number sys.timers o place) ticks a g × (k ≡ kept))
   unfolding stage_next begin_next rearm_next Rearms
   begin-rearm place ticks g = (out g, λ h. into a refl g h.0 h.1)
     where
@@ -198,12 +210,12 @@ module _ (sys : System) (o : ℕ) (now : Option Entry) (kept : List Entry) (a : 
       x = call.Rearm place ticks
 
       armed : (t : Told) (g : List Told) (n former : ℕ) → t ≡ plain (item.Rearm timer n former ticks) → g ≡ [] → ticks_fit ticks 0 ≡ true → a ≡ was_armed former
-          → Rearms timer ticks a (t ∷ g)
-      armed t g n zero whole end fit q = subst (λ b. Rearms timer ticks b (t ∷ g)) (sym q) (n, cc, fit)
-      armed t g n (suc former) whole end fit q = subst (λ b. Rearms timer ticks b (t ∷ g)) (sym q) (n, former, cc, fit)
+          → RearmsFit timer ticks a (t ∷ g)
+      armed t g n zero whole end fit q = subst (λ b. RearmsFit timer ticks b (t ∷ g)) (sym q) ((n, cc), fit)
+      armed t g n (suc former) whole end fit q = subst (λ b. RearmsFit timer ticks b (t ∷ g)) (sym q) ((n, former, cc), fit)
 
       by : (t : Told) (g : List Told) (body : Body) (known : Known) → t.body ≡ body → t.known ≡ known → (next : Stage)
-          → rearm_next timer ticks body known ≡ Some next → At sys o now (list_after kept body) next a k g → Rearms timer ticks a (t ∷ g) × (k ≡ kept)
+          → rearm_next timer ticks body known ≡ Some next → At sys o now (list_after kept body) next a k g → RearmsFit timer ticks a (t ∷ g) × (k ≡ kept)
       by t g (item.Rearm u n former kk) Nothing is_body is_known next f more =
           let last = ends x (was_armed former) ((u == timer) && (kk == ticks) && ticks_fit ticks 0) next g f more in
           let test : ((u == timer) && (kk == ticks) && ticks_fit ticks 0) ≡ true = last.0 in
@@ -221,24 +233,24 @@ module _ (sys : System) (o : ℕ) (now : Option Entry) (kept : List Entry) (a : 
           let fit : ticks_fit ticks 0 ≡ false = grind (arith, nat_tests) in
           let whole : t ≡ plain (item.BadTicks u kk i) = told-is t _ _ is_body is_known in
           let end : g ≡ [] = last.1 in
-          (subst (λ b. Rearms timer ticks b (t ∷ g)) (sym last.2) (cc, fit), last.3)
+          (subst (λ b. RearmsFit timer ticks b (t ∷ g)) (sym last.2) (cc, rw fit refl), last.3)
       by t g body known is_body is_known next f more = absurd (cc)
 
-      out : (g : List Told) → At sys o now kept (Begins room x) a k g → Rearms timer ticks a g × (k ≡ kept)
+      out : (g : List Told) → At sys o now kept (Begins room x) a k g → RearmsFit timer ticks a g × (k ≡ kept)
       out [] h = absurd (cc ((at-ended sys o now kept (Begins room x) a k h).0))
       out (t ∷ g) h = let one = at-stepped sys o now kept (Begins room x) a k t g h in by t g t.body t.known refl refl one.0 one.1 one.2
 
-      into : (b : Answer) → a ≡ b → (g : List Told) → Rearms timer ticks b g → k ≡ kept → At sys o now kept (Begins room x) a k g
+      into : (b : Answer) → a ≡ b → (g : List Told) → RearmsFit timer ticks b g → k ≡ kept → At sys o now kept (Begins room x) a k g
       into Granted q g h r =
-          let fit : ticks_fit ticks 0 ≡ true = h.3 in
-          rw h.2 (at-step sys o now kept _ (Whole Granted) a k _ [] (rw (same_number timer, same_number ticks, fit) refl) (ended Granted q r))
+          let fit : ticks_fit ticks 0 ≡ true = h.1 in
+          rw h.0.2 (at-step sys o now kept _ (Whole Granted) a k _ [] (rw (same_number timer, same_number ticks, fit) refl) (ended Granted q r))
       into Refused q g h r =
-          let fit : ticks_fit ticks 0 ≡ true = h.2 in
-          rw h.1 (at-step sys o now kept _ (Whole Refused) a k _ [] (rw (same_number timer, same_number ticks, fit) refl) (ended Refused q r))
+          let fit : ticks_fit ticks 0 ≡ true = h.1 in
+          rw h.0.1 (at-step sys o now kept _ (Whole Refused) a k _ [] (rw (same_number timer, same_number ticks, fit) refl) (ended Refused q r))
       into AtTicks q g h r =
-          let fit : ticks_fit ticks 0 ≡ false = h.1 in
+          let fit : ticks_fit ticks 0 ≡ false = refused (ticks_fit ticks 0) h.1 in
           rw h.0 (at-step sys o now kept _ (Whole AtTicks) a k _ [] (rw (same_number timer, same_number ticks, fit) refl) (ended AtTicks q r))
-      into b q g h r = absurd h
+      into b q g h r = absurd h.0
 
   -- the same as the definitions say it
   pub begin-single-subscribe : (sig : ℕ) (g : List Told)

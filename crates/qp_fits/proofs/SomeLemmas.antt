@@ -27,7 +27,7 @@ use Rattle.qp_fits.proofs.NewLemmas.{HasNoBlock, IsMade, at-new-into}
 use Rattle.qp_fits.proofs.PostLemmas.{at-now}
 use Rattle.qp_fits.proofs.PublishLemmas.{at-restored, at-raise, at-set}
 use Rattle.qp_fits.proofs.BeginLemmas.{reads-begin}
-use Rattle.qp_fits.proofs.StageLemmas.{same_entry-itself}
+use Rattle.qp_model.proofs.RecordLemmas.{same_entry-refl}
 
 -- what a release of the entry may be
 drops_any : (e : Entry) → shapes.Drops e (release e.pool e)
@@ -102,7 +102,7 @@ module _ (sys : System) (o : ℕ) (now : Option Entry) where
         more.0,
         more.1,
         plain (item.Flush x) ∷ more.2,
-        at-step sys o now (x ∷ xs) (Flushes total) (released x (flushes_on total xs) (FlushesOn total)) more.0 more.1 _ more.2 (rw (same_entry-itself x) refl) more.3,
+        at-step sys o now (x ∷ xs) (Flushes total) (released x (flushes_on total xs) (FlushesOn total)) more.0 more.1 _ more.2 (rw (same_entry-refl x) refl) more.3,
       )
 
   some-goes : (kept : List Entry) (behind : Behind) → Some_at kept (goes_on kept behind)
@@ -132,12 +132,12 @@ module _ (sys : System) (o : ℕ) (now : Option Entry) where
           (put.0, put.1, put.2, at-new-into sys o now kept put.0 put.1 sig pars reserve goal s more true is_new put.2 (IsMade [] (entry 0 sig 0) put.2 (refl, refl) refl put.3))
       by false is_new able None is =
           let pool = pool_number (first_pool (sizes_of sys) (length pars)) able in
-          let g : List Told = plain (item.NoBlock pool.0 0) ∷ [] in (
+          let g : List Told = plain (item.NoBlock pool.0 0 0) ∷ [] in (
             AtPool,
             kept,
             g,
             at-new-into sys o now kept AtPool kept sig pars reserve goal s more false is_new g
-                (HasNoBlock (subst (λ r. NoBlockFor false (sizes_of sys) pars r AtPool g) (sym is) (pool.0, 0, refl, pool.1, refl)) refl),
+                (HasNoBlock (subst (λ r. NoBlockFor false (sizes_of sys) pars r AtPool g) (sym is) (pool.0, 0, 0, refl, pool.1, refl)) refl),
           )
       by false is_new able (Some n) is =
           let pool = pool_number (first_pool (sizes_of sys) (length pars)) able in
@@ -192,16 +192,16 @@ module _ (sys : System) (o : ℕ) (now : Option Entry) where
   one-arm kept room t ticks interval = by (ticks_fit ticks interval) refl
     where
       by : (b : Bool) → ticks_fit ticks interval ≡ b → Some_at kept (Begins room (call.Arm t ticks interval))
-      by true is = one kept room (call.Arm t ticks interval) _ refl Granted (plain (item.Arm (timer_number sys.timers o t) 0 ticks interval)) (0, refl, is) refl
-      by false is = one kept room (call.Arm t ticks interval) _ refl AtTicks (plain (item.BadTicks (timer_number sys.timers o t) ticks interval)) (refl, is) refl
+      by true is = one kept room (call.Arm t ticks interval) _ refl Granted (plain (item.Arm (timer_number sys.timers o t) 0 ticks interval)) ((0, refl), is) refl
+      by false is = one kept room (call.Arm t ticks interval) _ refl AtTicks (plain (item.BadTicks (timer_number sys.timers o t) ticks interval)) (refl, rw is refl) refl
 
   one-rearm : (kept : List Entry) (room t ticks : ℕ) → Some_at kept (Begins room (call.Rearm t ticks))
   unfolding Fits Rearms KeepsDeferred
   one-rearm kept room t ticks = by (ticks_fit ticks 0) refl
     where
       by : (b : Bool) → ticks_fit ticks 0 ≡ b → Some_at kept (Begins room (call.Rearm t ticks))
-      by true is = one kept room (call.Rearm t ticks) _ refl Refused (plain (item.Rearm (timer_number sys.timers o t) 0 0 ticks)) (0, refl, is) refl
-      by false is = one kept room (call.Rearm t ticks) _ refl AtTicks (plain (item.BadTicks (timer_number sys.timers o t) ticks 0)) (refl, is) refl
+      by true is = one kept room (call.Rearm t ticks) _ refl Refused (plain (item.Rearm (timer_number sys.timers o t) 0 0 ticks)) ((0, refl), is) refl
+      by false is = one kept room (call.Rearm t ticks) _ refl AtTicks (plain (item.BadTicks (timer_number sys.timers o t) ticks 0)) (refl, rw is refl) refl
 
   some-defer : (kept : List Entry) (room : ℕ) → is_some now ≡ true → Some_at kept (Begins room call.Defer)
   unfolding stage_next begin_next defer_next
@@ -229,7 +229,7 @@ module _ (sys : System) (o : ℕ) (now : Option Entry) where
         more.0,
         more.1,
         plain (item.Recall x) ∷ more.2,
-        at-step sys o now (x ∷ xs) _ (again (ToFront (Some x)) x) more.0 more.1 (plain (item.Recall x)) more.2 (rw (same_entry-itself x) refl) more.3,
+        at-step sys o now (x ∷ xs) _ (again (ToFront (Some x)) x) more.0 more.1 (plain (item.Recall x)) more.2 (rw (same_entry-refl x) refl) more.3,
       )
   some-begins kept room call.Flush h = absurd (cc)
   some-begins kept room (call.Subscribe sig) h = one-subscribe kept room sig

@@ -144,7 +144,7 @@ unfoldable pub block_next : List ℕ → ℕ → List ℕ → Option ℕ → Goa
 unfolding first_pool
 block_next sizes sig pars reserve goal (item.New p n b from s ps) (Free free) =
     only (is_of (first_pool sizes (length pars)) p && (s == sig) && same_list ps pars && nat_lt (unwrap_or reserve 0) free) (Refers p b goal)
-block_next sizes sig pars reserve goal (item.NoBlock p n) Nothing =
+block_next sizes sig pars reserve goal (item.NoBlock p n free) Nothing =
     only (is_of (first_pool sizes (length pars)) p && is_none reserve) (Whole AtPool)
 block_next sizes sig pars reserve goal (item.Short p n free r) Nothing =
     only (is_of (first_pool sizes (length pars)) p && is_of reserve r) (Whole Refused)

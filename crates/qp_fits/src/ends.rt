@@ -10,7 +10,6 @@ ghost use Rattle.qp_fits.specs.AsStage.{as_behind, as_stage};
 use crate::call::Answer;
 use crate::goes::{flushes_on, goes_on, only, post_to, release};
 use crate::kept::Kept;
-use crate::lookups::is_same;
 use crate::members::Members;
 use crate::stage::{Behind, Stage};
 use crate::told::{Known, Told};
@@ -112,7 +111,7 @@ pub(crate) fn flush_next(kept: &Kept, total: u64, told: &Told) -> Option<Stage>
     let k = kept.oldest()?;
     match (&told.body, &told.known) {
         (Body::Flush { entry }, Known::Nothing) => only(
-            is_same(k, *entry),
+            k.is_same(*entry),
             flushed(total, k, kept.len() - 1),
         ),
         _ => None,

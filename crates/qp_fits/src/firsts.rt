@@ -12,7 +12,7 @@ ghost use Rattle.qp_fits.specs.AsStage.{as_goal, as_stage};
 use crate::call::{Answer, Call};
 use crate::goes::{again, only};
 use crate::kept::Kept;
-use crate::lookups::{is_first_pool, is_of, is_same, is_same_list, is_static, timer_number};
+use crate::lookups::{is_first_pool, is_of, is_same_list, timer_number};
 use crate::puts::{put_next, refer_next};
 use crate::singles::{arm_next, disarm_next, rearm_next, subscribe_next, unsubscribe_next};
 use crate::stage::{Behind, Goal, Stage};
@@ -74,7 +74,7 @@ fn new_next(
 ) -> Option<Stage>
     ensures { option_map as_stage result ≡ new_next (is_static sys.now sig) sys.now o kept.now sig pars.now reserve (as_goal goal) told.now.body told.now.known }
 {
-    if is_static(sys, sig) {
+    if sys.is_static(u64::from(sig)) {
         let e = Entry {
             pool: 0,
             block: u64::from(sig),
@@ -159,7 +159,7 @@ fn recalled_next(k: Entry, told: &Told) -> Option<Stage>
     match (&told.body, &told.known) {
         (Body::Recall { entry }, Known::Nothing) => {
             let goal = Goal::ToFront { recalled: Some(k) };
-            only(is_same(k, *entry), again(goal, k))
+            only(k.is_same(*entry), again(goal, k))
         }
         _ => None,
     }

@@ -13,8 +13,6 @@ mod puts;
 mod rest;
 mod singles;
 mod stage;
-#[cfg(test)]
-mod tests;
 mod told;
 
 pub use call::{Answer, Call};

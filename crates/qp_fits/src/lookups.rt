@@ -1,24 +1,13 @@
 //! What the records of calls are compared with.
 
-ghost use Rattle.std.specs.Prelude.{◌≡◌, ◌==◌, nat_lt, nat_le, Some, None, MatchOption, map};
-ghost use Rattle.std.specs.List.{count_by, find, position};
-ghost use Rattle.std.specs.Option.{unwrap_or};
-ghost use Rattle.qp_model.specs.declared.systems.ObjectDef.{ObjectDef};
-ghost use Rattle.qp_model.specs.Sites.{ring_of};
+ghost use Rattle.std.specs.Prelude.{◌≡◌, nat_lt, nat_le, map};
+ghost use Rattle.std.specs.List.{count_by, position};
 ghost use Rattle.qp_model.specs.Sources.{same_list};
-ghost use Rattle.qp_model.specs.Parts.{is_static, room_before, sizes_of, first_pool, timer_number};
+ghost use Rattle.qp_model.specs.Parts.{room_before, sizes_of, first_pool, timer_number};
 ghost use Rattle.qp_model.specs.Shapes.{ticks_fit};
-ghost use Rattle.qp_model.specs.Line.{same_entry};
 ghost use Rattle.qp_fits.specs.RestNext.{is_of};
 
-use qp_model::{Entry, PoolDef, System};
-
-/// Whether two entries are the same.
-pub fn is_same(d: Entry, e: Entry) -> bool
-    ensures { result ≡ same_entry d e }
-{
-    d.pool == e.pool && d.block == e.block && d.name == e.name
-}
+use qp_model::{PoolDef, System};
 
 /// Whether a timer takes these values.
 #[tactic(auto, unfolding(qp_model::specs::Shapes::ticks_fit))]
@@ -55,42 +44,6 @@ pub fn is_same_list(xs: &[u64], ys: &[u64]) -> bool
         (None, None) => true,
         (Some((x, more)), Some((y, others))) => *x == *y && is_same_list(more, others),
         _ => false,
-    }
-}
-
-/// The ring of the object of a priority.
-fn ring_at(sys: &System, a: u8) -> Option<u8>
-    ensures { MatchOption result (find (λ d. d.priority == a) sys.now.objects ≡ None) (λ r. (d : ObjectDef) × (find (λ d. d.priority == a) sys.now.objects ≡ Some d) × (r ≡ d.ring)) }
-{
-    for d in &sys.objects.items {
-        if d.priority == a {
-            return Some(d.ring);
-        }
-    }
-    None
-}
-
-/// The length of an object's ring, 0 where there is no such object.
-pub fn ring_of(sys: &System, a: u8) -> u8
-    ensures { result ≡ ring_of sys.now a }
-{
-    match ring_at(sys, a) {
-        Some(ring) => ring,
-        None => 0,
-    }
-}
-
-/// Whether the events of a signal are static.
-#[tactic(auto, unfolding(qp_model::specs::Parts::is_static))]
-pub fn is_static(sys: &System, sig: u16) -> bool
-    ensures { result ≡ is_static sys.now sig }
-{
-    if sig < 4 {
-        return false;
-    }
-    match sys.signals.items.get(usize::from(sig - 4)) {
-        Some(d) => d.fixed,
-        None => false,
     }
 }
 

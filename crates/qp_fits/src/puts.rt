@@ -10,7 +10,7 @@ ghost use Rattle.qp_fits.specs.AsStage.{as_behind, as_goal, as_stage};
 use crate::call::Answer;
 use crate::goes::{fronted, goes_on, only, raises, release};
 use crate::kept::Kept;
-use crate::lookups::{had_free, is_of, is_same, ring_of};
+use crate::lookups::{had_free, is_of};
 use crate::members::Members;
 use crate::stage::{Behind, Goal, Stage};
 use crate::told::{Known, Told};
@@ -53,7 +53,7 @@ fn queue_next(
         (Body::Post { a, f, l, m, entry }, Known::Nothing) => {
             let is_free = had_free(ring, margin.unwrap_or(0), *f, *l, *m);
             only(
-                *a == u64::from(to) && is_same(*entry, e) && is_free,
+                *a == u64::from(to) && entry.is_same(e) && is_free,
                 goes_on(kept, behind),
             )
         }
@@ -74,7 +74,7 @@ fn front_next(o: u8, recalled: Option<Entry>, e: Entry, told: &Told) -> Option<S
     ensures { option_map as_stage result ≡ front_next o recalled e told.now.body told.now.known }
 {
     match (&told.body, &told.known) {
-        (Body::Lifo { entry, .. }, Known::Nothing) => only(is_same(*entry, e), fronted(recalled)),
+        (Body::Lifo { entry, .. }, Known::Nothing) => only(entry.is_same(e), fronted(recalled)),
         (Body::NoLifo { a, .. }, Known::Nothing) => only(
             *a == u64::from(o),
             Stage::Whole(Answer::AtFront),
@@ -88,7 +88,7 @@ fn deferred_next(e: Entry, told: &Told) -> Option<Stage>
 {
     match (&told.body, &told.known) {
         (Body::Defer { entry }, Known::Nothing) => only(
-            is_same(*entry, e),
+            entry.is_same(e),
             Stage::Whole(Answer::Granted),
         ),
         _ => None,
@@ -130,7 +130,15 @@ pub(crate) fn put_next(
 {
     match goal {
         Goal::ToQueue { to, margin, behind } => {
-            queue_next(kept, ring_of(sys, to), to, margin, behind, e, told)
+            queue_next(
+                kept,
+                sys.ring_of(u64::from(to)),
+                to,
+                margin,
+                behind,
+                e,
+                told,
+            )
         }
         Goal::ToFront { recalled } => front_next(o, recalled, e, told),
         Goal::ToDeferred => deferred_next(e, told),

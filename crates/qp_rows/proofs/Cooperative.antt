@@ -2,14 +2,14 @@
 use Rattle.std.proofs.Common.{refl, ◌++◌, inr, true, false, List, [], ◌∷◌, None}
 use Rattle.qp_model.specs.declared.bodies.Body.TheVariants as item
 use Rattle.qp_model.specs.Record.{entry}
-use Rattle.qp_model.specs.Told.{plain, taken, raised}
+use Rattle.qp_model.specs.Told.{OfEvent, plain, taken, raised}
 use Rattle.qp_model.specs.Calls as call
 use Rattle.qp_model.specs.Calls.{Granted, Refused, AtTimer, AtQueue, AtFront}
 use Rattle.qp_model.specs.Pieces.{Piece, Tell, Point, tell}
-use Rattle.qp_model.specs.Course.{Follows, Whole}
+use Rattle.qp_model.specs.Course.{FollowsThrough, Whole}
 use Rattle.qp_model.specs.Groups.{IsMove, IsAct, IsLocked, SaysValue, MakesCall}
 use Rattle.qp_model.specs.ObjectShape.{HasShape, CutGroups, StepGroup, BrokenStep, asserts_last, Dispatches, Ends}
-use Rattle.qp_model.specs.Shapes.{Fits}
+use Rattle.qp_model.specs.Shapes.{Fits, FitsAny}
 use Rattle.qp_model.specs.Groups.{Actions, Groups}
 use Rattle.qp_model.specs.Sources.{AllDone, none_twice}
 use Rattle.qp_model.specs.KernelLane.{lane_read}
@@ -39,13 +39,13 @@ low_pieces : List Piece
 unfolding low_start low_step_1
 low_pieces = low_start ++ (low_step_1 ++ [])
 
-low_follows : Follows (levels 1) (object 1 1 1 1) low_pieces
-unfolding Follows low_pieces low_start low_step_1 low_body_1
+low_follows : FollowsThrough (levels 1) (object 1 1 1 1) low_pieces
+unfolding FollowsThrough low_pieces low_start low_step_1 low_body_1
 low_follows = (entry 0 4 0 ∷ [], _, (low_start, low_step_1 ++ [], _, refl, (Tell (plain item.Begin) ∷ Tell (plain (item.Enter 1)) ∷ Tell (plain item.Done) ∷ [], _, (_, refl, (_, refl, (_, refl, (refl, refl)))), refl, refl), (low_step_1, [], _, refl, (1, 0, 1, record { sig = 4; pars = [] }, low_body_1 ++ tell ([]), refl, (low_body_1, [], _, (_, refl, (Granted, plain (item.Post 4 1 0 0 (entry 0 6 0)) ∷ [], [], (inr ([], entry 0 6 0, (refl, refl), (1, 0, 0, refl, refl))), refl, (_, refl, (0, (_, refl, (Granted, plain (item.Post 3 1 0 0 (entry 0 6 0)) ∷ [], [], (inr ([], entry 0 6 0, (refl, refl), (1, 0, 0, refl, refl))), refl, (_, refl, (Granted, plain (item.Post 4 2 0 0 (entry 0 6 0)) ∷ [], [], (inr ([], entry 0 6 0, (refl, refl), (2, 0, 0, refl, refl))), refl, (_, refl, (_, refl, (_, refl, (_, refl, (_, refl, (_, refl, (refl, refl))))))))))))))), refl, refl, refl)), (refl, refl))))
 
 low_shape : HasShape (levels 1) 1 false Whole (plain item.Begin ∷ plain (item.Enter 1) ∷ plain item.Done ∷ taken 1 0 1 (entry 0 4 0) (record { sig = 4; pars = [] }) ∷ plain (item.Run 1 1) ∷ plain (item.Post 4 1 0 0 (entry 0 6 0)) ∷ raised 3 0 ∷ plain (item.Post 3 1 0 0 (entry 0 6 0)) ∷ plain (item.Post 4 2 0 0 (entry 0 6 0)) ∷ plain (item.Say 1) ∷ plain (item.Unlock 0) ∷ plain (item.Say 2) ∷ plain item.Done ∷ [])
-unfolding CutGroups StepGroup BrokenStep Groups Actions Fits asserts_last
-low_shape = record { groups = inr (plain item.Begin ∷ plain (item.Enter 1) ∷ plain item.Done ∷ [], taken 1 0 1 (entry 0 4 0) (record { sig = 4; pars = [] }) ∷ plain (item.Run 1 1) ∷ plain (item.Post 4 1 0 0 (entry 0 6 0)) ∷ raised 3 0 ∷ plain (item.Post 3 1 0 0 (entry 0 6 0)) ∷ plain (item.Post 4 2 0 0 (entry 0 6 0)) ∷ plain (item.Say 1) ∷ plain (item.Unlock 0) ∷ plain (item.Say 2) ∷ plain item.Done ∷ [], [], (plain (item.Enter 1) ∷ [], ((plain (item.Enter 1) ∷ []) ∷ [], (IsMove (item.Enter 1) refl refl, tt), refl), refl), ((taken 1 0 1 (entry 0 4 0) (record { sig = 4; pars = [] }) ∷ plain (item.Run 1 1) ∷ plain (item.Post 4 1 0 0 (entry 0 6 0)) ∷ raised 3 0 ∷ plain (item.Post 3 1 0 0 (entry 0 6 0)) ∷ plain (item.Post 4 2 0 0 (entry 0 6 0)) ∷ plain (item.Say 1) ∷ plain (item.Unlock 0) ∷ plain (item.Say 2) ∷ plain item.Done ∷ []) ∷ [], (Dispatches (entry 0 4 0, taken 1 0 1 (entry 0 4 0) (record { sig = 4; pars = [] }) ∷ plain (item.Run 1 1) ∷ [], plain (item.Post 4 1 0 0 (entry 0 6 0)) ∷ raised 3 0 ∷ plain (item.Post 3 1 0 0 (entry 0 6 0)) ∷ plain (item.Post 4 2 0 0 (entry 0 6 0)) ∷ plain (item.Say 1) ∷ plain (item.Unlock 0) ∷ plain (item.Say 2) ∷ [], [], (1, 0, 1, record { sig = 4; pars = [] }, item.Run 1 1, refl, refl), ((plain (item.Post 4 1 0 0 (entry 0 6 0)) ∷ []) ∷ (raised 3 0 ∷ plain (item.Post 3 1 0 0 (entry 0 6 0)) ∷ plain (item.Post 4 2 0 0 (entry 0 6 0)) ∷ plain (item.Say 1) ∷ plain (item.Unlock 0) ∷ []) ∷ (plain (item.Say 2) ∷ []) ∷ [], (IsAct (MakesCall (call.Post 4 6 [] None None) Granted (inr ([], entry 0 6 0, (refl, refl), (1, 0, 0, refl, refl))) refl), (IsLocked 0 3 (plain (item.Post 3 1 0 0 (entry 0 6 0)) ∷ plain (item.Post 4 2 0 0 (entry 0 6 0)) ∷ plain (item.Say 1) ∷ []) ((plain (item.Post 3 1 0 0 (entry 0 6 0)) ∷ []) ∷ (plain (item.Post 4 2 0 0 (entry 0 6 0)) ∷ []) ∷ (plain (item.Say 1) ∷ []) ∷ [], (MakesCall (call.Post 3 6 [] None None) Granted (inr ([], entry 0 6 0, (refl, refl), (1, 0, 0, refl, refl))) refl, (MakesCall (call.Post 4 6 [] None None) Granted (inr ([], entry 0 6 0, (refl, refl), (2, 0, 0, refl, refl))) refl, (SaysValue 1 refl, tt))), refl) refl, (IsAct (SaysValue 2 refl), tt))), refl), refl, refl), tt), refl), Ends refl, refl); last = refl }
+unfolding CutGroups StepGroup BrokenStep Groups Actions FitsAny Fits asserts_last
+low_shape = record { groups = inr (plain item.Begin ∷ plain (item.Enter 1) ∷ plain item.Done ∷ [], taken 1 0 1 (entry 0 4 0) (record { sig = 4; pars = [] }) ∷ plain (item.Run 1 1) ∷ plain (item.Post 4 1 0 0 (entry 0 6 0)) ∷ raised 3 0 ∷ plain (item.Post 3 1 0 0 (entry 0 6 0)) ∷ plain (item.Post 4 2 0 0 (entry 0 6 0)) ∷ plain (item.Say 1) ∷ plain (item.Unlock 0) ∷ plain (item.Say 2) ∷ plain item.Done ∷ [], [], (plain (item.Enter 1) ∷ [], ((plain (item.Enter 1) ∷ []) ∷ [], (IsMove (item.Enter 1) refl refl, tt), refl), refl), ((taken 1 0 1 (entry 0 4 0) (record { sig = 4; pars = [] }) ∷ plain (item.Run 1 1) ∷ plain (item.Post 4 1 0 0 (entry 0 6 0)) ∷ raised 3 0 ∷ plain (item.Post 3 1 0 0 (entry 0 6 0)) ∷ plain (item.Post 4 2 0 0 (entry 0 6 0)) ∷ plain (item.Say 1) ∷ plain (item.Unlock 0) ∷ plain (item.Say 2) ∷ plain item.Done ∷ []) ∷ [], (Dispatches (entry 0 4 0, taken 1 0 1 (entry 0 4 0) (record { sig = 4; pars = [] }) ∷ plain (item.Run 1 1) ∷ [], plain (item.Post 4 1 0 0 (entry 0 6 0)) ∷ raised 3 0 ∷ plain (item.Post 3 1 0 0 (entry 0 6 0)) ∷ plain (item.Post 4 2 0 0 (entry 0 6 0)) ∷ plain (item.Say 1) ∷ plain (item.Unlock 0) ∷ plain (item.Say 2) ∷ [], [], (1, 0, 1, OfEvent (record { sig = 4; pars = [] }), item.Run 1 1, refl, refl), ((plain (item.Post 4 1 0 0 (entry 0 6 0)) ∷ []) ∷ (raised 3 0 ∷ plain (item.Post 3 1 0 0 (entry 0 6 0)) ∷ plain (item.Post 4 2 0 0 (entry 0 6 0)) ∷ plain (item.Say 1) ∷ plain (item.Unlock 0) ∷ []) ∷ (plain (item.Say 2) ∷ []) ∷ [], (IsAct (MakesCall (call.Post 4 6 [] None None) Granted (inr ([], entry 0 6 0, (refl, refl), (1, 0, 0, refl, refl))) refl), (IsLocked 0 3 (plain (item.Post 3 1 0 0 (entry 0 6 0)) ∷ plain (item.Post 4 2 0 0 (entry 0 6 0)) ∷ plain (item.Say 1) ∷ []) ((plain (item.Post 3 1 0 0 (entry 0 6 0)) ∷ []) ∷ (plain (item.Post 4 2 0 0 (entry 0 6 0)) ∷ []) ∷ (plain (item.Say 1) ∷ []) ∷ [], (MakesCall (call.Post 3 6 [] None None) Granted (inr ([], entry 0 6 0, (refl, refl), (1, 0, 0, refl, refl))) refl, (MakesCall (call.Post 4 6 [] None None) Granted (inr ([], entry 0 6 0, (refl, refl), (2, 0, 0, refl, refl))) refl, (SaysValue 1 refl, tt))), refl) refl, (IsAct (SaysValue 2 refl), tt))), refl), refl, refl), tt), refl), Ends refl, refl); last = refl }
 
 middle_body_1 : List Piece
 middle_body_1 = Tell (plain item.Unhandled) ∷ Tell (plain item.Done) ∷ []
@@ -61,13 +61,13 @@ middle_pieces : List Piece
 unfolding middle_start middle_step_1
 middle_pieces = middle_start ++ (middle_step_1 ++ [])
 
-middle_follows : Follows (levels 1) (object 2 3 3 1) middle_pieces
-unfolding Follows middle_pieces middle_start middle_step_1 middle_body_1
+middle_follows : FollowsThrough (levels 1) (object 2 3 3 1) middle_pieces
+unfolding FollowsThrough middle_pieces middle_start middle_step_1 middle_body_1
 middle_follows = (entry 0 6 0 ∷ [], _, (middle_start, middle_step_1 ++ [], _, refl, (Tell (plain item.Begin) ∷ Tell (plain (item.Enter 1)) ∷ Tell (plain item.Done) ∷ [], _, (_, refl, (_, refl, (_, refl, (refl, refl)))), refl, refl), (middle_step_1, [], _, refl, (1, 0, 1, record { sig = 6; pars = [] }, middle_body_1 ++ tell ([]), refl, (middle_body_1, [], _, (_, refl, (_, refl, (refl, refl))), refl, refl, refl)), (refl, refl))))
 
 middle_shape : HasShape (levels 1) 3 false Whole (plain item.Begin ∷ plain (item.Enter 1) ∷ plain item.Done ∷ taken 1 0 1 (entry 0 6 0) (record { sig = 6; pars = [] }) ∷ plain item.Unhandled ∷ plain item.Done ∷ [])
-unfolding CutGroups StepGroup BrokenStep Groups Actions Fits asserts_last
-middle_shape = record { groups = inr (plain item.Begin ∷ plain (item.Enter 1) ∷ plain item.Done ∷ [], taken 1 0 1 (entry 0 6 0) (record { sig = 6; pars = [] }) ∷ plain item.Unhandled ∷ plain item.Done ∷ [], [], (plain (item.Enter 1) ∷ [], ((plain (item.Enter 1) ∷ []) ∷ [], (IsMove (item.Enter 1) refl refl, tt), refl), refl), ((taken 1 0 1 (entry 0 6 0) (record { sig = 6; pars = [] }) ∷ plain item.Unhandled ∷ plain item.Done ∷ []) ∷ [], (Dispatches (entry 0 6 0, taken 1 0 1 (entry 0 6 0) (record { sig = 6; pars = [] }) ∷ plain item.Unhandled ∷ [], [], [], (1, 0, 1, record { sig = 6; pars = [] }, item.Unhandled, refl, refl), ([], tt, refl), refl, refl), tt), refl), Ends refl, refl); last = refl }
+unfolding CutGroups StepGroup BrokenStep Groups Actions FitsAny Fits asserts_last
+middle_shape = record { groups = inr (plain item.Begin ∷ plain (item.Enter 1) ∷ plain item.Done ∷ [], taken 1 0 1 (entry 0 6 0) (record { sig = 6; pars = [] }) ∷ plain item.Unhandled ∷ plain item.Done ∷ [], [], (plain (item.Enter 1) ∷ [], ((plain (item.Enter 1) ∷ []) ∷ [], (IsMove (item.Enter 1) refl refl, tt), refl), refl), ((taken 1 0 1 (entry 0 6 0) (record { sig = 6; pars = [] }) ∷ plain item.Unhandled ∷ plain item.Done ∷ []) ∷ [], (Dispatches (entry 0 6 0, taken 1 0 1 (entry 0 6 0) (record { sig = 6; pars = [] }) ∷ plain item.Unhandled ∷ [], [], [], (1, 0, 1, OfEvent (record { sig = 6; pars = [] }), item.Unhandled, refl, refl), ([], tt, refl), refl, refl), tt), refl), Ends refl, refl); last = refl }
 
 high_body_1 : List Piece
 high_body_1 = Tell (plain item.Unhandled) ∷ Tell (plain item.Done) ∷ []
@@ -90,13 +90,13 @@ high_pieces : List Piece
 unfolding high_start high_step_1 high_step_2
 high_pieces = high_start ++ (high_step_1 ++ (high_step_2 ++ []))
 
-high_follows : Follows (levels 1) (object 3 4 4 1) high_pieces
-unfolding Follows high_pieces high_start high_step_1 high_step_2 high_body_1 high_body_2
+high_follows : FollowsThrough (levels 1) (object 3 4 4 1) high_pieces
+unfolding FollowsThrough high_pieces high_start high_step_1 high_step_2 high_body_1 high_body_2
 high_follows = (entry 0 6 0 ∷ entry 0 6 0 ∷ [], _, (high_start, high_step_1 ++ (high_step_2 ++ []), _, refl, (Tell (plain item.Begin) ∷ Tell (plain (item.Enter 1)) ∷ Tell (plain item.Done) ∷ [], _, (_, refl, (_, refl, (_, refl, (refl, refl)))), refl, refl), (high_step_1, high_step_2 ++ [], _, refl, (2, 0, 1, record { sig = 6; pars = [] }, high_body_1 ++ tell ([]), refl, (high_body_1, [], _, (_, refl, (_, refl, (refl, refl))), refl, refl, refl)), (high_step_2, [], _, refl, (2, 0, 2, record { sig = 6; pars = [] }, high_body_2 ++ tell ([]), refl, (high_body_2, [], _, (_, refl, (_, refl, (refl, refl))), refl, refl, refl)), (refl, refl)))))
 
 high_shape : HasShape (levels 1) 4 false Whole (plain item.Begin ∷ plain (item.Enter 1) ∷ plain item.Done ∷ taken 2 0 1 (entry 0 6 0) (record { sig = 6; pars = [] }) ∷ plain item.Unhandled ∷ plain item.Done ∷ taken 2 0 2 (entry 0 6 0) (record { sig = 6; pars = [] }) ∷ plain item.Unhandled ∷ plain item.Done ∷ [])
-unfolding CutGroups StepGroup BrokenStep Groups Actions Fits asserts_last
-high_shape = record { groups = inr (plain item.Begin ∷ plain (item.Enter 1) ∷ plain item.Done ∷ [], taken 2 0 1 (entry 0 6 0) (record { sig = 6; pars = [] }) ∷ plain item.Unhandled ∷ plain item.Done ∷ taken 2 0 2 (entry 0 6 0) (record { sig = 6; pars = [] }) ∷ plain item.Unhandled ∷ plain item.Done ∷ [], [], (plain (item.Enter 1) ∷ [], ((plain (item.Enter 1) ∷ []) ∷ [], (IsMove (item.Enter 1) refl refl, tt), refl), refl), ((taken 2 0 1 (entry 0 6 0) (record { sig = 6; pars = [] }) ∷ plain item.Unhandled ∷ plain item.Done ∷ []) ∷ (taken 2 0 2 (entry 0 6 0) (record { sig = 6; pars = [] }) ∷ plain item.Unhandled ∷ plain item.Done ∷ []) ∷ [], (Dispatches (entry 0 6 0, taken 2 0 1 (entry 0 6 0) (record { sig = 6; pars = [] }) ∷ plain item.Unhandled ∷ [], [], [], (2, 0, 1, record { sig = 6; pars = [] }, item.Unhandled, refl, refl), ([], tt, refl), refl, refl), (Dispatches (entry 0 6 0, taken 2 0 2 (entry 0 6 0) (record { sig = 6; pars = [] }) ∷ plain item.Unhandled ∷ [], [], [], (2, 0, 2, record { sig = 6; pars = [] }, item.Unhandled, refl, refl), ([], tt, refl), refl, refl), tt)), refl), Ends refl, refl); last = refl }
+unfolding CutGroups StepGroup BrokenStep Groups Actions FitsAny Fits asserts_last
+high_shape = record { groups = inr (plain item.Begin ∷ plain (item.Enter 1) ∷ plain item.Done ∷ [], taken 2 0 1 (entry 0 6 0) (record { sig = 6; pars = [] }) ∷ plain item.Unhandled ∷ plain item.Done ∷ taken 2 0 2 (entry 0 6 0) (record { sig = 6; pars = [] }) ∷ plain item.Unhandled ∷ plain item.Done ∷ [], [], (plain (item.Enter 1) ∷ [], ((plain (item.Enter 1) ∷ []) ∷ [], (IsMove (item.Enter 1) refl refl, tt), refl), refl), ((taken 2 0 1 (entry 0 6 0) (record { sig = 6; pars = [] }) ∷ plain item.Unhandled ∷ plain item.Done ∷ []) ∷ (taken 2 0 2 (entry 0 6 0) (record { sig = 6; pars = [] }) ∷ plain item.Unhandled ∷ plain item.Done ∷ []) ∷ [], (Dispatches (entry 0 6 0, taken 2 0 1 (entry 0 6 0) (record { sig = 6; pars = [] }) ∷ plain item.Unhandled ∷ [], [], [], (2, 0, 1, OfEvent (record { sig = 6; pars = [] }), item.Unhandled, refl, refl), ([], tt, refl), refl, refl), (Dispatches (entry 0 6 0, taken 2 0 2 (entry 0 6 0) (record { sig = 6; pars = [] }) ∷ plain item.Unhandled ∷ [], [], [], (2, 0, 2, OfEvent (record { sig = 6; pars = [] }), item.Unhandled, refl, refl), ([], tt, refl), refl, refl), tt)), refl), Ends refl, refl); last = refl }
 
 pub lawful : Lawful (levels 1) go_once cooperative
 unfolding words_hold CourseHolds SourceLanes SpillsStand OrderHolds EndHolds deferral_holds lane_read setting_of lane_pieces none_twice stims_placed looks_right order in_order last_is_free ends_last spents_hold spills_state has_room took_count lines_empty blocks_rest is_home_lane low_pieces low_start low_step_1 low_body_1 middle_pieces middle_start middle_step_1 middle_body_1 high_pieces high_start high_step_1 high_step_2 high_body_1 high_body_2

@@ -2,14 +2,14 @@
 use Rattle.std.proofs.Common.{refl, ◌++◌, inl, inr, true, false, List, [], ◌∷◌}
 use Rattle.qp_model.specs.declared.bodies.Body.TheVariants as item
 use Rattle.qp_model.specs.Record.{entry}
-use Rattle.qp_model.specs.Told.{plain, taken, given, dropped}
+use Rattle.qp_model.specs.Told.{OfEvent, plain, taken, given, dropped}
 use Rattle.qp_model.specs.Calls as call
 use Rattle.qp_model.specs.Calls.{Granted, Refused, AtTimer, AtQueue, AtFront}
 use Rattle.qp_model.specs.Pieces.{Piece, Tell, Point, tell}
-use Rattle.qp_model.specs.Course.{Follows, Whole}
+use Rattle.qp_model.specs.Course.{FollowsThrough, Whole}
 use Rattle.qp_model.specs.Groups.{IsMove, IsAct, MakesCall}
 use Rattle.qp_model.specs.ObjectShape.{HasShape, CutGroups, StepGroup, BrokenStep, asserts_last, Dispatches, Ends}
-use Rattle.qp_model.specs.Shapes.{Fits}
+use Rattle.qp_model.specs.Shapes.{Fits, FitsAny}
 use Rattle.qp_model.specs.Groups.{Actions, Groups}
 use Rattle.qp_model.specs.Sources.{AllDone, none_twice}
 use Rattle.qp_model.specs.KernelLane.{lane_read}
@@ -39,13 +39,13 @@ deferring_1_pieces : List Piece
 unfolding deferring_1_start deferring_1_step_1
 deferring_1_pieces = deferring_1_start ++ (deferring_1_step_1 ++ [])
 
-deferring_1_follows : Follows (deferring 1) (record { name = record { bytes = []; spare = [] }; chart = 1; priority = 1; threshold = 1; ring = 1; defer = 1; vars = [] }) deferring_1_pieces
-unfolding Follows deferring_1_pieces deferring_1_start deferring_1_step_1 deferring_1_body_1
+deferring_1_follows : FollowsThrough (deferring 1) (record { name = record { bytes = []; spare = [] }; chart = 1; priority = 1; threshold = 1; ring = 1; defer = 1; vars = [] }) deferring_1_pieces
+unfolding FollowsThrough deferring_1_pieces deferring_1_start deferring_1_step_1 deferring_1_body_1
 deferring_1_follows = (entry 1 0 0 ∷ [], _, (deferring_1_start, deferring_1_step_1 ++ [], _, refl, (Tell (plain item.Begin) ∷ Tell (plain (item.Enter 1)) ∷ Tell (plain item.Done) ∷ [], _, (_, refl, (_, refl, (_, refl, (refl, refl)))), refl, refl), (deferring_1_step_1, [], _, refl, (1, 0, 1, record { sig = 5; pars = 1 ∷ [] }, deferring_1_body_1 ++ tell (dropped 1 0 2 0 1 ∷ []), refl, (deferring_1_body_1, dropped 1 0 2 0 1 ∷ [], _, (_, refl, (Granted, plain (item.Inc 1 0 1) ∷ plain (item.Defer (entry 1 0 1)) ∷ [], entry 1 0 1 ∷ [], (plain (item.Inc 1 0 1) ∷ [], entry 1 0 1, (1, refl, refl), refl), refl, (_, refl, (_, refl, (refl, refl))))), (inl (2, 0, refl)), refl, refl)), (refl, refl))))
 
 deferring_1_shape : HasShape (deferring 1) 1 false Whole (plain item.Begin ∷ plain (item.Enter 1) ∷ plain item.Done ∷ taken 1 0 1 (entry 1 0 0) (record { sig = 5; pars = 1 ∷ [] }) ∷ plain (item.Run 1 1) ∷ plain (item.Inc 1 0 1) ∷ plain (item.Defer (entry 1 0 1)) ∷ plain item.Done ∷ dropped 1 0 2 0 1 ∷ [])
-unfolding CutGroups StepGroup BrokenStep Groups Actions Fits asserts_last
-deferring_1_shape = record { groups = inr (plain item.Begin ∷ plain (item.Enter 1) ∷ plain item.Done ∷ [], taken 1 0 1 (entry 1 0 0) (record { sig = 5; pars = 1 ∷ [] }) ∷ plain (item.Run 1 1) ∷ plain (item.Inc 1 0 1) ∷ plain (item.Defer (entry 1 0 1)) ∷ plain item.Done ∷ dropped 1 0 2 0 1 ∷ [], [], (plain (item.Enter 1) ∷ [], ((plain (item.Enter 1) ∷ []) ∷ [], (IsMove (item.Enter 1) refl refl, tt), refl), refl), ((taken 1 0 1 (entry 1 0 0) (record { sig = 5; pars = 1 ∷ [] }) ∷ plain (item.Run 1 1) ∷ plain (item.Inc 1 0 1) ∷ plain (item.Defer (entry 1 0 1)) ∷ plain item.Done ∷ dropped 1 0 2 0 1 ∷ []) ∷ [], (Dispatches (entry 1 0 0, taken 1 0 1 (entry 1 0 0) (record { sig = 5; pars = 1 ∷ [] }) ∷ plain (item.Run 1 1) ∷ [], plain (item.Inc 1 0 1) ∷ plain (item.Defer (entry 1 0 1)) ∷ [], dropped 1 0 2 0 1 ∷ [], (1, 0, 1, record { sig = 5; pars = 1 ∷ [] }, item.Run 1 1, refl, refl), ((plain (item.Inc 1 0 1) ∷ plain (item.Defer (entry 1 0 1)) ∷ []) ∷ [], (IsAct (MakesCall (call.Defer) Granted (plain (item.Inc 1 0 1) ∷ [], entry 1 0 1, (1, refl, refl), refl) refl), tt), refl), (inl (2, 0, refl)), refl), tt), refl), Ends refl, refl); last = refl }
+unfolding CutGroups StepGroup BrokenStep Groups Actions FitsAny Fits asserts_last
+deferring_1_shape = record { groups = inr (plain item.Begin ∷ plain (item.Enter 1) ∷ plain item.Done ∷ [], taken 1 0 1 (entry 1 0 0) (record { sig = 5; pars = 1 ∷ [] }) ∷ plain (item.Run 1 1) ∷ plain (item.Inc 1 0 1) ∷ plain (item.Defer (entry 1 0 1)) ∷ plain item.Done ∷ dropped 1 0 2 0 1 ∷ [], [], (plain (item.Enter 1) ∷ [], ((plain (item.Enter 1) ∷ []) ∷ [], (IsMove (item.Enter 1) refl refl, tt), refl), refl), ((taken 1 0 1 (entry 1 0 0) (record { sig = 5; pars = 1 ∷ [] }) ∷ plain (item.Run 1 1) ∷ plain (item.Inc 1 0 1) ∷ plain (item.Defer (entry 1 0 1)) ∷ plain item.Done ∷ dropped 1 0 2 0 1 ∷ []) ∷ [], (Dispatches (entry 1 0 0, taken 1 0 1 (entry 1 0 0) (record { sig = 5; pars = 1 ∷ [] }) ∷ plain (item.Run 1 1) ∷ [], plain (item.Inc 1 0 1) ∷ plain (item.Defer (entry 1 0 1)) ∷ [], dropped 1 0 2 0 1 ∷ [], (1, 0, 1, OfEvent (record { sig = 5; pars = 1 ∷ [] }), item.Run 1 1, refl, refl), ((plain (item.Inc 1 0 1) ∷ plain (item.Defer (entry 1 0 1)) ∷ []) ∷ [], (IsAct (MakesCall (call.Defer) Granted (plain (item.Inc 1 0 1) ∷ [], entry 1 0 1, (1, refl, refl), refl) refl), tt), refl), (inl (2, 0, refl)), refl), tt), refl), Ends refl, refl); last = refl }
 
 pub lawful : Lawful (deferring 1) n_once deferred
 unfolding words_hold CourseHolds SourceLanes SpillsStand OrderHolds EndHolds deferral_holds lane_read setting_of lane_pieces none_twice stims_placed looks_right order in_order last_is_free ends_last spents_hold spills_state has_room took_count lines_empty blocks_rest is_home_lane deferring_1_pieces deferring_1_start deferring_1_step_1 deferring_1_body_1

@@ -2,14 +2,14 @@
 use Rattle.std.proofs.Common.{refl, ◌++◌, inr, true, false, List, [], ◌∷◌, None}
 use Rattle.qp_model.specs.declared.bodies.Body.TheVariants as item
 use Rattle.qp_model.specs.Record.{entry}
-use Rattle.qp_model.specs.Told.{plain, taken, given, dropped}
+use Rattle.qp_model.specs.Told.{OfEvent, plain, taken, given, dropped}
 use Rattle.qp_model.specs.Calls as call
 use Rattle.qp_model.specs.Calls.{Granted, Refused, AtTimer, AtQueue, AtFront}
 use Rattle.qp_model.specs.Pieces.{Piece, Tell, Point, tell}
-use Rattle.qp_model.specs.Course.{Follows, Whole}
+use Rattle.qp_model.specs.Course.{FollowsThrough, Whole}
 use Rattle.qp_model.specs.Groups.{IsMove, IsAct, SaysValue, MakesCall}
 use Rattle.qp_model.specs.ObjectShape.{HasShape, CutGroups, StepGroup, BrokenStep, asserts_last, Dispatches, Ends}
-use Rattle.qp_model.specs.Shapes.{Fits}
+use Rattle.qp_model.specs.Shapes.{Fits, FitsAny}
 use Rattle.qp_model.specs.Groups.{Actions, Groups}
 use Rattle.qp_model.specs.Sources.{AllDone, none_twice}
 use Rattle.qp_model.specs.KernelLane.{lane_read}
@@ -46,13 +46,13 @@ eager_1_pieces : List Piece
 unfolding eager_1_start eager_1_step_1 eager_1_step_2
 eager_1_pieces = eager_1_start ++ (eager_1_step_1 ++ (eager_1_step_2 ++ []))
 
-eager_1_follows : Follows eager (object 1 1 1 1) eager_1_pieces
-unfolding Follows eager_1_pieces eager_1_start eager_1_step_1 eager_1_step_2 eager_1_body_1 eager_1_body_2
+eager_1_follows : FollowsThrough eager (object 1 1 1 1) eager_1_pieces
+unfolding FollowsThrough eager_1_pieces eager_1_start eager_1_step_1 eager_1_step_2 eager_1_body_1 eager_1_body_2
 eager_1_follows = (entry 0 4 0 ∷ entry 1 0 0 ∷ [], _, (eager_1_start, eager_1_step_1 ++ (eager_1_step_2 ++ []), _, refl, (Tell (plain item.Begin) ∷ Tell (plain (item.Enter 1)) ∷ Tell (plain item.Done) ∷ [], _, (_, refl, (_, refl, (_, refl, (refl, refl)))), refl, refl), (eager_1_step_1, eager_1_step_2 ++ [], _, refl, (1, 0, 1, record { sig = 4; pars = [] }, eager_1_body_1 ++ tell ([]), refl, (eager_1_body_1, [], _, (_, refl, (Granted, given 1 0 0 0 5 (3 ∷ []) 2 ∷ plain (item.Inc 1 0 0) ∷ plain (item.Lifo 1 1 1 (entry 1 0 0)) ∷ [], [], (inr (given 1 0 0 0 5 (3 ∷ []) 2 ∷ plain (item.Inc 1 0 0) ∷ [], entry 1 0 0, (1, 0, 0, 0, 2, 0, refl, refl, refl, refl), (1, 1, 1, refl))), refl, (_, refl, (_, refl, (refl, refl))))), refl, refl, refl)), (eager_1_step_2, [], _, refl, (1, 1, 2, record { sig = 5; pars = 3 ∷ [] }, eager_1_body_2 ++ tell (dropped 1 0 1 0 0 ∷ plain (item.Back 1 1 0 2) ∷ []), refl, (eager_1_body_2, dropped 1 0 1 0 0 ∷ plain (item.Back 1 1 0 2) ∷ [], _, (_, refl, (_, refl, (_, refl, (refl, refl)))), (inr (1, 1, refl)), refl, refl)), (refl, refl)))))
 
 eager_1_shape : HasShape eager 1 false Whole (plain item.Begin ∷ plain (item.Enter 1) ∷ plain item.Done ∷ taken 1 0 1 (entry 0 4 0) (record { sig = 4; pars = [] }) ∷ plain (item.Run 1 1) ∷ given 1 0 0 0 5 (3 ∷ []) 2 ∷ plain (item.Inc 1 0 0) ∷ plain (item.Lifo 1 1 1 (entry 1 0 0)) ∷ plain item.Done ∷ taken 1 1 2 (entry 1 0 0) (record { sig = 5; pars = 3 ∷ [] }) ∷ plain (item.Run 1 2) ∷ plain (item.Say 3) ∷ plain item.Done ∷ dropped 1 0 1 0 0 ∷ plain (item.Back 1 1 0 2) ∷ [])
-unfolding CutGroups StepGroup BrokenStep Groups Actions Fits asserts_last
-eager_1_shape = record { groups = inr (plain item.Begin ∷ plain (item.Enter 1) ∷ plain item.Done ∷ [], taken 1 0 1 (entry 0 4 0) (record { sig = 4; pars = [] }) ∷ plain (item.Run 1 1) ∷ given 1 0 0 0 5 (3 ∷ []) 2 ∷ plain (item.Inc 1 0 0) ∷ plain (item.Lifo 1 1 1 (entry 1 0 0)) ∷ plain item.Done ∷ taken 1 1 2 (entry 1 0 0) (record { sig = 5; pars = 3 ∷ [] }) ∷ plain (item.Run 1 2) ∷ plain (item.Say 3) ∷ plain item.Done ∷ dropped 1 0 1 0 0 ∷ plain (item.Back 1 1 0 2) ∷ [], [], (plain (item.Enter 1) ∷ [], ((plain (item.Enter 1) ∷ []) ∷ [], (IsMove (item.Enter 1) refl refl, tt), refl), refl), ((taken 1 0 1 (entry 0 4 0) (record { sig = 4; pars = [] }) ∷ plain (item.Run 1 1) ∷ given 1 0 0 0 5 (3 ∷ []) 2 ∷ plain (item.Inc 1 0 0) ∷ plain (item.Lifo 1 1 1 (entry 1 0 0)) ∷ plain item.Done ∷ []) ∷ (taken 1 1 2 (entry 1 0 0) (record { sig = 5; pars = 3 ∷ [] }) ∷ plain (item.Run 1 2) ∷ plain (item.Say 3) ∷ plain item.Done ∷ dropped 1 0 1 0 0 ∷ plain (item.Back 1 1 0 2) ∷ []) ∷ [], (Dispatches (entry 0 4 0, taken 1 0 1 (entry 0 4 0) (record { sig = 4; pars = [] }) ∷ plain (item.Run 1 1) ∷ [], given 1 0 0 0 5 (3 ∷ []) 2 ∷ plain (item.Inc 1 0 0) ∷ plain (item.Lifo 1 1 1 (entry 1 0 0)) ∷ [], [], (1, 0, 1, record { sig = 4; pars = [] }, item.Run 1 1, refl, refl), ((given 1 0 0 0 5 (3 ∷ []) 2 ∷ plain (item.Inc 1 0 0) ∷ plain (item.Lifo 1 1 1 (entry 1 0 0)) ∷ []) ∷ [], (IsAct (MakesCall (call.Lifo 5 (3 ∷ []) None) Granted (inr (given 1 0 0 0 5 (3 ∷ []) 2 ∷ plain (item.Inc 1 0 0) ∷ [], entry 1 0 0, (1, 0, 0, 0, 2, 0, refl, refl, refl, refl), (1, 1, 1, refl))) refl), tt), refl), refl, refl), (Dispatches (entry 1 0 0, taken 1 1 2 (entry 1 0 0) (record { sig = 5; pars = 3 ∷ [] }) ∷ plain (item.Run 1 2) ∷ [], plain (item.Say 3) ∷ [], dropped 1 0 1 0 0 ∷ plain (item.Back 1 1 0 2) ∷ [], (1, 1, 2, record { sig = 5; pars = 3 ∷ [] }, item.Run 1 2, refl, refl), ((plain (item.Say 3) ∷ []) ∷ [], (IsAct (SaysValue 3 refl), tt), refl), (inr (1, 1, refl)), refl), tt)), refl), Ends refl, refl); last = refl }
+unfolding CutGroups StepGroup BrokenStep Groups Actions FitsAny Fits asserts_last
+eager_1_shape = record { groups = inr (plain item.Begin ∷ plain (item.Enter 1) ∷ plain item.Done ∷ [], taken 1 0 1 (entry 0 4 0) (record { sig = 4; pars = [] }) ∷ plain (item.Run 1 1) ∷ given 1 0 0 0 5 (3 ∷ []) 2 ∷ plain (item.Inc 1 0 0) ∷ plain (item.Lifo 1 1 1 (entry 1 0 0)) ∷ plain item.Done ∷ taken 1 1 2 (entry 1 0 0) (record { sig = 5; pars = 3 ∷ [] }) ∷ plain (item.Run 1 2) ∷ plain (item.Say 3) ∷ plain item.Done ∷ dropped 1 0 1 0 0 ∷ plain (item.Back 1 1 0 2) ∷ [], [], (plain (item.Enter 1) ∷ [], ((plain (item.Enter 1) ∷ []) ∷ [], (IsMove (item.Enter 1) refl refl, tt), refl), refl), ((taken 1 0 1 (entry 0 4 0) (record { sig = 4; pars = [] }) ∷ plain (item.Run 1 1) ∷ given 1 0 0 0 5 (3 ∷ []) 2 ∷ plain (item.Inc 1 0 0) ∷ plain (item.Lifo 1 1 1 (entry 1 0 0)) ∷ plain item.Done ∷ []) ∷ (taken 1 1 2 (entry 1 0 0) (record { sig = 5; pars = 3 ∷ [] }) ∷ plain (item.Run 1 2) ∷ plain (item.Say 3) ∷ plain item.Done ∷ dropped 1 0 1 0 0 ∷ plain (item.Back 1 1 0 2) ∷ []) ∷ [], (Dispatches (entry 0 4 0, taken 1 0 1 (entry 0 4 0) (record { sig = 4; pars = [] }) ∷ plain (item.Run 1 1) ∷ [], given 1 0 0 0 5 (3 ∷ []) 2 ∷ plain (item.Inc 1 0 0) ∷ plain (item.Lifo 1 1 1 (entry 1 0 0)) ∷ [], [], (1, 0, 1, OfEvent (record { sig = 4; pars = [] }), item.Run 1 1, refl, refl), ((given 1 0 0 0 5 (3 ∷ []) 2 ∷ plain (item.Inc 1 0 0) ∷ plain (item.Lifo 1 1 1 (entry 1 0 0)) ∷ []) ∷ [], (IsAct (MakesCall (call.Lifo 5 (3 ∷ []) None) Granted (inr (given 1 0 0 0 5 (3 ∷ []) 2 ∷ plain (item.Inc 1 0 0) ∷ [], entry 1 0 0, (1, 0, 0, 0, 2, 0, refl, refl, refl, refl), (1, 1, 1, refl))) refl), tt), refl), refl, refl), (Dispatches (entry 1 0 0, taken 1 1 2 (entry 1 0 0) (record { sig = 5; pars = 3 ∷ [] }) ∷ plain (item.Run 1 2) ∷ [], plain (item.Say 3) ∷ [], dropped 1 0 1 0 0 ∷ plain (item.Back 1 1 0 2) ∷ [], (1, 1, 2, OfEvent (record { sig = 5; pars = 3 ∷ [] }), item.Run 1 2, refl, refl), ((plain (item.Say 3) ∷ []) ∷ [], (IsAct (SaysValue 3 refl), tt), refl), (inr (1, 1, refl)), refl), tt)), refl), Ends refl, refl); last = refl }
 
 pub lawful : Lawful eager go_once in_front
 unfolding words_hold CourseHolds SourceLanes SpillsStand OrderHolds EndHolds deferral_holds lane_read setting_of lane_pieces none_twice stims_placed looks_right order in_order last_is_free ends_last spents_hold spills_state has_room took_count lines_empty blocks_rest is_home_lane eager_1_pieces eager_1_start eager_1_step_1 eager_1_step_2 eager_1_body_1 eager_1_body_2

@@ -3,10 +3,10 @@ use Rattle.std.proofs.Common.{refl, ◌++◌, inr, true, List, [], ◌∷◌}
 use Rattle.qp_model.specs.declared.bodies.Body.TheVariants as item
 use Rattle.qp_model.specs.Told.{plain}
 use Rattle.qp_model.specs.Pieces.{Piece, Tell}
-use Rattle.qp_model.specs.Course.{Follows, Whole}
+use Rattle.qp_model.specs.Course.{FollowsThrough, Whole}
 use Rattle.qp_model.specs.Groups.{IsMove}
 use Rattle.qp_model.specs.ObjectShape.{HasShape, CutGroups, StepGroup, BrokenStep, asserts_last, Ends}
-use Rattle.qp_model.specs.Shapes.{Fits}
+use Rattle.qp_model.specs.Shapes.{Fits, FitsAny}
 use Rattle.qp_model.specs.Groups.{Actions, Groups}
 use Rattle.qp_model.specs.Sources.{none_twice}
 use Rattle.qp_model.specs.KernelLane.{lane_read}
@@ -29,12 +29,12 @@ lamp_1_pieces : List Piece
 unfolding lamp_1_start
 lamp_1_pieces = lamp_1_start ++ ([])
 
-lamp_1_follows : Follows lamp (object 1 1 1 1) lamp_1_pieces
-unfolding Follows lamp_1_pieces lamp_1_start
+lamp_1_follows : FollowsThrough lamp (object 1 1 1 1) lamp_1_pieces
+unfolding FollowsThrough lamp_1_pieces lamp_1_start
 lamp_1_follows = ([], _, (lamp_1_start, [], _, refl, (Tell (plain item.Begin) ∷ Tell (plain (item.Enter 1)) ∷ Tell (plain item.Done) ∷ [], _, (_, refl, (_, refl, (_, refl, (refl, refl)))), refl, refl), (refl, refl)))
 
 lamp_1_shape : HasShape lamp 1 true Whole (plain item.Begin ∷ plain (item.Enter 1) ∷ plain item.Done ∷ [])
-unfolding CutGroups StepGroup BrokenStep Groups Actions Fits asserts_last
+unfolding CutGroups StepGroup BrokenStep Groups Actions FitsAny Fits asserts_last
 lamp_1_shape = record { groups = inr (plain item.Begin ∷ plain (item.Enter 1) ∷ plain item.Done ∷ [], [], [], (plain (item.Enter 1) ∷ [], ((plain (item.Enter 1) ∷ []) ∷ [], (IsMove (item.Enter 1) refl refl, tt), refl), refl), ([], tt, refl), Ends refl, refl); last = refl }
 
 pub lawful : Lawful lamp nothing left_alone_in_threads

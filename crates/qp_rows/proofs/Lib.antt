@@ -25,4 +25,3 @@ mod RecalledInVain
 mod InFront
 mod Overfull
 mod SwitchedSummary
-mod ChartsCross

@@ -2,13 +2,13 @@
 use Rattle.std.proofs.Common.{refl, ◌++◌, inr, true, false, List, [], ◌∷◌}
 use Rattle.qp_model.specs.declared.bodies.Body.TheVariants as item
 use Rattle.qp_model.specs.Record.{entry}
-use Rattle.qp_model.specs.Told.{plain, taken}
+use Rattle.qp_model.specs.Told.{OfEvent, plain, taken}
 use Rattle.qp_model.specs.Calls.{Granted}
 use Rattle.qp_model.specs.Pieces.{Piece, Tell, tell}
 use Rattle.qp_model.specs.Course.{Follows, Stopped}
 use Rattle.qp_model.specs.Groups.{IsMove}
 use Rattle.qp_model.specs.ObjectShape.{HasShape, CutGroups, StepGroup, BrokenStep, asserts_last, Dispatches, OutOfBudget}
-use Rattle.qp_model.specs.Shapes.{Fits}
+use Rattle.qp_model.specs.Shapes.{Fits, FitsAny}
 use Rattle.qp_model.specs.Groups.{Actions, Groups}
 use Rattle.qp_model.specs.Sources.{AllDone, none_twice}
 use Rattle.qp_model.specs.KernelLane.{lane_read}
@@ -43,8 +43,8 @@ unfolding Follows lamp_1_pieces lamp_1_start lamp_1_step_1 lamp_1_body_1
 lamp_1_follows = (entry 0 4 0 ∷ [], _, (lamp_1_start, lamp_1_step_1 ++ [], _, refl, (Tell (plain item.Begin) ∷ Tell (plain (item.Enter 1)) ∷ Tell (plain item.Done) ∷ [], _, (_, refl, (_, refl, (_, refl, (refl, refl)))), refl, refl), (lamp_1_step_1, [], _, refl, (1, 0, 1, record { sig = 4; pars = [] }, lamp_1_body_1 ++ tell ([]), refl, (lamp_1_body_1, [], _, (_, refl, (_, refl, (_, refl, (_, refl, (refl, refl))))), refl, refl, refl)), (refl, refl))))
 
 lamp_1_shape : HasShape lamp 1 false Stopped (plain item.Begin ∷ plain (item.Enter 1) ∷ plain item.Done ∷ taken 1 0 1 (entry 0 4 0) (record { sig = 4; pars = [] }) ∷ plain (item.Run 1 1) ∷ plain (item.Exit 1) ∷ plain (item.Enter 2) ∷ plain item.Done ∷ plain item.Spent ∷ [])
-unfolding CutGroups StepGroup BrokenStep Groups Actions Fits asserts_last
-lamp_1_shape = record { groups = inr (inr (plain item.Begin ∷ plain (item.Enter 1) ∷ plain item.Done ∷ [], taken 1 0 1 (entry 0 4 0) (record { sig = 4; pars = [] }) ∷ plain (item.Run 1 1) ∷ plain (item.Exit 1) ∷ plain (item.Enter 2) ∷ plain item.Done ∷ [], plain item.Spent ∷ [], (plain (item.Enter 1) ∷ [], ((plain (item.Enter 1) ∷ []) ∷ [], (IsMove (item.Enter 1) refl refl, tt), refl), refl), ((taken 1 0 1 (entry 0 4 0) (record { sig = 4; pars = [] }) ∷ plain (item.Run 1 1) ∷ plain (item.Exit 1) ∷ plain (item.Enter 2) ∷ plain item.Done ∷ []) ∷ [], (Dispatches (entry 0 4 0, taken 1 0 1 (entry 0 4 0) (record { sig = 4; pars = [] }) ∷ plain (item.Run 1 1) ∷ [], plain (item.Exit 1) ∷ plain (item.Enter 2) ∷ [], [], (1, 0, 1, record { sig = 4; pars = [] }, item.Run 1 1, refl, refl), ((plain (item.Exit 1) ∷ []) ∷ (plain (item.Enter 2) ∷ []) ∷ [], (IsMove (item.Exit 1) refl refl, (IsMove (item.Enter 2) refl refl, tt)), refl), refl, refl), tt), refl), OutOfBudget refl, refl)); last = refl }
+unfolding CutGroups StepGroup BrokenStep Groups Actions FitsAny Fits asserts_last
+lamp_1_shape = record { groups = inr (inr (plain item.Begin ∷ plain (item.Enter 1) ∷ plain item.Done ∷ [], taken 1 0 1 (entry 0 4 0) (record { sig = 4; pars = [] }) ∷ plain (item.Run 1 1) ∷ plain (item.Exit 1) ∷ plain (item.Enter 2) ∷ plain item.Done ∷ [], plain item.Spent ∷ [], (plain (item.Enter 1) ∷ [], ((plain (item.Enter 1) ∷ []) ∷ [], (IsMove (item.Enter 1) refl refl, tt), refl), refl), ((taken 1 0 1 (entry 0 4 0) (record { sig = 4; pars = [] }) ∷ plain (item.Run 1 1) ∷ plain (item.Exit 1) ∷ plain (item.Enter 2) ∷ plain item.Done ∷ []) ∷ [], (Dispatches (entry 0 4 0, taken 1 0 1 (entry 0 4 0) (record { sig = 4; pars = [] }) ∷ plain (item.Run 1 1) ∷ [], plain (item.Exit 1) ∷ plain (item.Enter 2) ∷ [], [], (1, 0, 1, OfEvent (record { sig = 4; pars = [] }), item.Run 1 1, refl, refl), ((plain (item.Exit 1) ∷ []) ∷ (plain (item.Enter 2) ∷ []) ∷ [], (IsMove (item.Exit 1) refl refl, (IsMove (item.Enter 2) refl refl, tt)), refl), refl, refl), tt), refl), OutOfBudget refl, refl)); last = refl }
 
 pub lawful : Lawful lamp go_twice out_of_budget
 unfolding words_hold CourseHolds SourceLanes SpillsStand OrderHolds EndHolds deferral_holds lane_read setting_of lane_pieces none_twice stims_placed looks_right order in_order last_is_free ends_last spents_hold spills_state has_room took_count lines_empty blocks_rest is_home_lane lamp_1_pieces lamp_1_start lamp_1_step_1 lamp_1_body_1

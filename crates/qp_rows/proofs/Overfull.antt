@@ -2,14 +2,14 @@
 use Rattle.std.proofs.Common.{refl, ◌++◌, inl, inr, true, false, List, [], ◌∷◌, None}
 use Rattle.qp_model.specs.declared.bodies.Body.TheVariants as item
 use Rattle.qp_model.specs.Record.{entry}
-use Rattle.qp_model.specs.Told.{plain, taken, raised}
+use Rattle.qp_model.specs.Told.{OfEvent, plain, taken, raised}
 use Rattle.qp_model.specs.Calls as call
 use Rattle.qp_model.specs.Calls.{Granted, Refused, AtTimer, AtQueue, AtFront}
 use Rattle.qp_model.specs.Pieces.{Piece, Tell, Point, tell}
 use Rattle.qp_model.specs.Course.{Follows, Stopped}
 use Rattle.qp_model.specs.Groups.{IsMove, IsAct, MakesCall, Asserts, Stops, Plainly}
 use Rattle.qp_model.specs.ObjectShape.{HasShape, CutGroups, StepGroup, BrokenStep, asserts_last, Ends, BreaksStep}
-use Rattle.qp_model.specs.Shapes.{Fits}
+use Rattle.qp_model.specs.Shapes.{Fits, FitsAny}
 use Rattle.qp_model.specs.Groups.{Actions, Groups}
 use Rattle.qp_model.specs.Sources.{AllDone, none_twice}
 use Rattle.qp_model.specs.KernelLane.{lane_read}
@@ -48,8 +48,8 @@ unfolding low_start
 low_front = low_start ++ ((Tell (taken 1 0 1 (entry 0 4 0) (record { sig = 4; pars = [] })) ∷ Tell (plain (item.Run 1 1)) ∷ Tell (plain (item.Post 4 1 0 0 (entry 0 6 0))) ∷ Point ∷ []))
 
 low_shape : HasShape flooded 1 false Stopped (plain item.Begin ∷ plain (item.Enter 1) ∷ plain item.Done ∷ taken 1 0 1 (entry 0 4 0) (record { sig = 4; pars = [] }) ∷ plain (item.Run 1 1) ∷ plain (item.Post 4 1 0 0 (entry 0 6 0)) ∷ [])
-unfolding CutGroups StepGroup BrokenStep Groups Actions Fits asserts_last
-low_shape = record { groups = inr (inr (plain item.Begin ∷ plain (item.Enter 1) ∷ plain item.Done ∷ [], [], taken 1 0 1 (entry 0 4 0) (record { sig = 4; pars = [] }) ∷ plain (item.Run 1 1) ∷ plain (item.Post 4 1 0 0 (entry 0 6 0)) ∷ [], (plain (item.Enter 1) ∷ [], ((plain (item.Enter 1) ∷ []) ∷ [], (IsMove (item.Enter 1) refl refl, tt), refl), refl), ([], tt, refl), BreaksStep (entry 0 4 0, taken 1 0 1 (entry 0 4 0) (record { sig = 4; pars = [] }) ∷ plain (item.Run 1 1) ∷ [], plain (item.Post 4 1 0 0 (entry 0 6 0)) ∷ [], (1, 0, 1, record { sig = 4; pars = [] }, item.Run 1 1, refl, refl), Plainly (plain (item.Post 4 1 0 0 (entry 0 6 0)) ∷ []) ([]) ((plain (item.Post 4 1 0 0 (entry 0 6 0)) ∷ []) ∷ [], (IsAct (MakesCall (call.Post 4 6 [] None None) Granted (inr ([], entry 0 6 0, (refl, refl), (1, 0, 0, refl, refl))) refl), tt), refl) (Stops refl refl) refl, refl), refl)); last = refl }
+unfolding CutGroups StepGroup BrokenStep Groups Actions FitsAny Fits asserts_last
+low_shape = record { groups = inr (inr (plain item.Begin ∷ plain (item.Enter 1) ∷ plain item.Done ∷ [], [], taken 1 0 1 (entry 0 4 0) (record { sig = 4; pars = [] }) ∷ plain (item.Run 1 1) ∷ plain (item.Post 4 1 0 0 (entry 0 6 0)) ∷ [], (plain (item.Enter 1) ∷ [], ((plain (item.Enter 1) ∷ []) ∷ [], (IsMove (item.Enter 1) refl refl, tt), refl), refl), ([], tt, refl), BreaksStep refl (entry 0 4 0, taken 1 0 1 (entry 0 4 0) (record { sig = 4; pars = [] }) ∷ plain (item.Run 1 1) ∷ [], plain (item.Post 4 1 0 0 (entry 0 6 0)) ∷ [], (1, 0, 1, OfEvent (record { sig = 4; pars = [] }), item.Run 1 1, refl, refl), Plainly (plain (item.Post 4 1 0 0 (entry 0 6 0)) ∷ []) ([]) ((plain (item.Post 4 1 0 0 (entry 0 6 0)) ∷ []) ∷ [], (IsAct (MakesCall (call.Post 4 6 [] None None) Granted (inr ([], entry 0 6 0, (refl, refl), (1, 0, 0, refl, refl))) refl), tt), refl) (Stops refl refl) refl, refl), refl)); last = refl }
 
 middle_start : List Piece
 middle_start = Tell (plain item.Begin) ∷ Tell (plain (item.Enter 1)) ∷ Tell (plain item.Done) ∷ []
@@ -63,7 +63,7 @@ unfolding Follows middle_pieces middle_start
 middle_follows = ([], _, (middle_start, [], _, refl, (Tell (plain item.Begin) ∷ Tell (plain (item.Enter 1)) ∷ Tell (plain item.Done) ∷ [], _, (_, refl, (_, refl, (_, refl, (refl, refl)))), refl, refl), (refl, refl)))
 
 middle_shape : HasShape flooded 3 false Stopped (plain item.Begin ∷ plain (item.Enter 1) ∷ plain item.Done ∷ [])
-unfolding CutGroups StepGroup BrokenStep Groups Actions Fits asserts_last
+unfolding CutGroups StepGroup BrokenStep Groups Actions FitsAny Fits asserts_last
 middle_shape = record { groups = inr (inr (plain item.Begin ∷ plain (item.Enter 1) ∷ plain item.Done ∷ [], [], [], (plain (item.Enter 1) ∷ [], ((plain (item.Enter 1) ∷ []) ∷ [], (IsMove (item.Enter 1) refl refl, tt), refl), refl), ([], tt, refl), Ends refl, refl)); last = refl }
 
 high_body_1 : List Piece
@@ -85,8 +85,8 @@ unfolding Follows high_pieces high_start high_step_1 high_body_1
 high_follows = (entry 0 6 0 ∷ [], _, (high_start, high_step_1 ++ [], _, refl, (Tell (plain item.Begin) ∷ Tell (plain (item.Enter 1)) ∷ Tell (plain item.Done) ∷ [], _, (_, refl, (_, refl, (_, refl, (refl, refl)))), refl, refl), (high_step_1, [], _, refl, (1, 0, 1, record { sig = 6; pars = [] }, high_body_1 ++ tell ([]), refl, (high_body_1, [], _, (_, refl, (Granted, plain (item.Post 4 2 0 1 (entry 0 6 0)) ∷ [], [], (inr ([], entry 0 6 0, (refl, refl), (2, 0, 1, refl, refl))), refl, (_, refl, (Granted, plain (item.Post 4 3 0 1 (entry 0 6 0)) ∷ [], [], (inr ([], entry 0 6 0, (refl, refl), (3, 0, 1, refl, refl))), refl, (_, refl, (AtQueue, plain (item.NoEntry 4 3 0 1) ∷ [], [], (inr ([], entry 0 6 0, (refl, refl), (3, 0, 1, refl))), refl, (refl, refl))))))), refl, refl, refl)), (refl, refl))))
 
 high_shape : HasShape flooded 4 false Stopped (plain item.Begin ∷ plain (item.Enter 1) ∷ plain item.Done ∷ taken 1 0 1 (entry 0 6 0) (record { sig = 6; pars = [] }) ∷ plain (item.Run 1 1) ∷ plain (item.Post 4 2 0 1 (entry 0 6 0)) ∷ plain (item.Post 4 3 0 1 (entry 0 6 0)) ∷ plain (item.NoEntry 4 3 0 1) ∷ [])
-unfolding CutGroups StepGroup BrokenStep Groups Actions Fits asserts_last
-high_shape = record { groups = inr (inr (plain item.Begin ∷ plain (item.Enter 1) ∷ plain item.Done ∷ [], [], taken 1 0 1 (entry 0 6 0) (record { sig = 6; pars = [] }) ∷ plain (item.Run 1 1) ∷ plain (item.Post 4 2 0 1 (entry 0 6 0)) ∷ plain (item.Post 4 3 0 1 (entry 0 6 0)) ∷ plain (item.NoEntry 4 3 0 1) ∷ [], (plain (item.Enter 1) ∷ [], ((plain (item.Enter 1) ∷ []) ∷ [], (IsMove (item.Enter 1) refl refl, tt), refl), refl), ([], tt, refl), BreaksStep (entry 0 6 0, taken 1 0 1 (entry 0 6 0) (record { sig = 6; pars = [] }) ∷ plain (item.Run 1 1) ∷ [], plain (item.Post 4 2 0 1 (entry 0 6 0)) ∷ plain (item.Post 4 3 0 1 (entry 0 6 0)) ∷ plain (item.NoEntry 4 3 0 1) ∷ [], (1, 0, 1, record { sig = 6; pars = [] }, item.Run 1 1, refl, refl), Plainly (plain (item.Post 4 2 0 1 (entry 0 6 0)) ∷ plain (item.Post 4 3 0 1 (entry 0 6 0)) ∷ []) (plain (item.NoEntry 4 3 0 1) ∷ []) ((plain (item.Post 4 2 0 1 (entry 0 6 0)) ∷ []) ∷ (plain (item.Post 4 3 0 1 (entry 0 6 0)) ∷ []) ∷ [], (IsAct (MakesCall (call.Post 4 6 [] None None) Granted (inr ([], entry 0 6 0, (refl, refl), (2, 0, 1, refl, refl))) refl), (IsAct (MakesCall (call.Post 4 6 [] None None) Granted (inr ([], entry 0 6 0, (refl, refl), (3, 0, 1, refl, refl))) refl), tt)), refl) (Asserts (call.Post 4 6 [] None None) AtQueue (inr ([], entry 0 6 0, (refl, refl), (3, 0, 1, refl))) refl) refl, refl), refl)); last = refl }
+unfolding CutGroups StepGroup BrokenStep Groups Actions FitsAny Fits asserts_last
+high_shape = record { groups = inr (inr (plain item.Begin ∷ plain (item.Enter 1) ∷ plain item.Done ∷ [], [], taken 1 0 1 (entry 0 6 0) (record { sig = 6; pars = [] }) ∷ plain (item.Run 1 1) ∷ plain (item.Post 4 2 0 1 (entry 0 6 0)) ∷ plain (item.Post 4 3 0 1 (entry 0 6 0)) ∷ plain (item.NoEntry 4 3 0 1) ∷ [], (plain (item.Enter 1) ∷ [], ((plain (item.Enter 1) ∷ []) ∷ [], (IsMove (item.Enter 1) refl refl, tt), refl), refl), ([], tt, refl), BreaksStep refl (entry 0 6 0, taken 1 0 1 (entry 0 6 0) (record { sig = 6; pars = [] }) ∷ plain (item.Run 1 1) ∷ [], plain (item.Post 4 2 0 1 (entry 0 6 0)) ∷ plain (item.Post 4 3 0 1 (entry 0 6 0)) ∷ plain (item.NoEntry 4 3 0 1) ∷ [], (1, 0, 1, OfEvent (record { sig = 6; pars = [] }), item.Run 1 1, refl, refl), Plainly (plain (item.Post 4 2 0 1 (entry 0 6 0)) ∷ plain (item.Post 4 3 0 1 (entry 0 6 0)) ∷ []) (plain (item.NoEntry 4 3 0 1) ∷ []) ((plain (item.Post 4 2 0 1 (entry 0 6 0)) ∷ []) ∷ (plain (item.Post 4 3 0 1 (entry 0 6 0)) ∷ []) ∷ [], (IsAct (MakesCall (call.Post 4 6 [] None None) Granted (inr ([], entry 0 6 0, (refl, refl), (2, 0, 1, refl, refl))) refl), (IsAct (MakesCall (call.Post 4 6 [] None None) Granted (inr ([], entry 0 6 0, (refl, refl), (3, 0, 1, refl, refl))) refl), tt)), refl) (Asserts (call.Post 4 6 [] None None) AtQueue (inr ([], entry 0 6 0, (refl, refl), (3, 0, 1, refl))) refl) refl, refl), refl)); last = refl }
 
 pub lawful : Lawful flooded go_once overfull
 unfolding words_hold CourseHolds SourceLanes SpillsStand OrderHolds EndHolds deferral_holds lane_read setting_of lane_pieces none_twice stims_placed looks_right order in_order last_is_free ends_last spents_hold spills_state has_room took_count lines_empty blocks_rest is_home_lane low_pieces low_front low_start low_step_1 low_body_1 middle_pieces middle_start high_pieces high_start high_step_1 high_body_1

@@ -2,13 +2,13 @@
 use Rattle.std.proofs.Common.{refl, ◌++◌, inr, true, false, List, [], ◌∷◌}
 use Rattle.qp_model.specs.declared.bodies.Body.TheVariants as item
 use Rattle.qp_model.specs.Record.{entry}
-use Rattle.qp_model.specs.Told.{plain, taken}
+use Rattle.qp_model.specs.Told.{OfEvent, plain, taken}
 use Rattle.qp_model.specs.Calls.{Granted}
 use Rattle.qp_model.specs.Pieces.{Piece, Tell, Point, tell}
-use Rattle.qp_model.specs.Course.{Follows, Whole}
+use Rattle.qp_model.specs.Course.{FollowsThrough, Whole}
 use Rattle.qp_model.specs.Groups.{IsMove, IsAct, SaysValue}
 use Rattle.qp_model.specs.ObjectShape.{HasShape, CutGroups, StepGroup, BrokenStep, asserts_last, Dispatches, Ends}
-use Rattle.qp_model.specs.Shapes.{Fits}
+use Rattle.qp_model.specs.Shapes.{Fits, FitsAny}
 use Rattle.qp_model.specs.Groups.{Actions, Groups}
 use Rattle.qp_model.specs.Sources.{AllDone, none_twice}
 use Rattle.qp_model.specs.KernelLane.{lane_read}
@@ -45,13 +45,13 @@ nested_1_pieces : List Piece
 unfolding nested_1_start nested_1_step_1 nested_1_step_2
 nested_1_pieces = nested_1_start ++ (nested_1_step_1 ++ (nested_1_step_2 ++ []))
 
-nested_1_follows : Follows nested (object 1 1 1 1) nested_1_pieces
-unfolding Follows nested_1_pieces nested_1_start nested_1_step_1 nested_1_step_2 nested_1_body_1 nested_1_body_2
+nested_1_follows : FollowsThrough nested (object 1 1 1 1) nested_1_pieces
+unfolding FollowsThrough nested_1_pieces nested_1_start nested_1_step_1 nested_1_step_2 nested_1_body_1 nested_1_body_2
 nested_1_follows = (entry 0 4 0 ∷ entry 0 6 0 ∷ [], _, (nested_1_start, nested_1_step_1 ++ (nested_1_step_2 ++ []), _, refl, (Tell (plain item.Begin) ∷ Tell (plain (item.Enter 1)) ∷ Tell (plain (item.Enter 2)) ∷ Tell (plain (item.Enter 3)) ∷ Tell (plain item.Done) ∷ [], _, (_, refl, (_, refl, (_, refl, (_, refl, (_, refl, (refl, refl)))))), refl, refl), (nested_1_step_1, nested_1_step_2 ++ [], _, refl, (1, 0, 1, record { sig = 4; pars = [] }, nested_1_body_1 ++ tell ([]), refl, (nested_1_body_1, [], _, (_, refl, (_, refl, (_, refl, (refl, refl)))), refl, refl, refl)), (nested_1_step_2, [], _, refl, (2, 0, 2, record { sig = 6; pars = [] }, nested_1_body_2 ++ tell ([]), refl, (nested_1_body_2, [], _, (_, refl, (_, refl, (refl, refl))), refl, refl, refl)), (refl, refl)))))
 
 nested_1_shape : HasShape nested 1 false Whole (plain item.Begin ∷ plain (item.Enter 1) ∷ plain (item.Enter 2) ∷ plain (item.Enter 3) ∷ plain item.Done ∷ taken 1 0 1 (entry 0 4 0) (record { sig = 4; pars = [] }) ∷ plain (item.Run 1 1) ∷ plain (item.Say 7) ∷ plain item.Done ∷ taken 2 0 2 (entry 0 6 0) (record { sig = 6; pars = [] }) ∷ plain item.Unhandled ∷ plain item.Done ∷ [])
-unfolding CutGroups StepGroup BrokenStep Groups Actions Fits asserts_last
-nested_1_shape = record { groups = inr (plain item.Begin ∷ plain (item.Enter 1) ∷ plain (item.Enter 2) ∷ plain (item.Enter 3) ∷ plain item.Done ∷ [], taken 1 0 1 (entry 0 4 0) (record { sig = 4; pars = [] }) ∷ plain (item.Run 1 1) ∷ plain (item.Say 7) ∷ plain item.Done ∷ taken 2 0 2 (entry 0 6 0) (record { sig = 6; pars = [] }) ∷ plain item.Unhandled ∷ plain item.Done ∷ [], [], (plain (item.Enter 1) ∷ plain (item.Enter 2) ∷ plain (item.Enter 3) ∷ [], ((plain (item.Enter 1) ∷ []) ∷ (plain (item.Enter 2) ∷ []) ∷ (plain (item.Enter 3) ∷ []) ∷ [], (IsMove (item.Enter 1) refl refl, (IsMove (item.Enter 2) refl refl, (IsMove (item.Enter 3) refl refl, tt))), refl), refl), ((taken 1 0 1 (entry 0 4 0) (record { sig = 4; pars = [] }) ∷ plain (item.Run 1 1) ∷ plain (item.Say 7) ∷ plain item.Done ∷ []) ∷ (taken 2 0 2 (entry 0 6 0) (record { sig = 6; pars = [] }) ∷ plain item.Unhandled ∷ plain item.Done ∷ []) ∷ [], (Dispatches (entry 0 4 0, taken 1 0 1 (entry 0 4 0) (record { sig = 4; pars = [] }) ∷ plain (item.Run 1 1) ∷ [], plain (item.Say 7) ∷ [], [], (1, 0, 1, record { sig = 4; pars = [] }, item.Run 1 1, refl, refl), ((plain (item.Say 7) ∷ []) ∷ [], (IsAct (SaysValue 7 refl), tt), refl), refl, refl), (Dispatches (entry 0 6 0, taken 2 0 2 (entry 0 6 0) (record { sig = 6; pars = [] }) ∷ plain item.Unhandled ∷ [], [], [], (2, 0, 2, record { sig = 6; pars = [] }, item.Unhandled, refl, refl), ([], tt, refl), refl, refl), tt)), refl), Ends refl, refl); last = refl }
+unfolding CutGroups StepGroup BrokenStep Groups Actions FitsAny Fits asserts_last
+nested_1_shape = record { groups = inr (plain item.Begin ∷ plain (item.Enter 1) ∷ plain (item.Enter 2) ∷ plain (item.Enter 3) ∷ plain item.Done ∷ [], taken 1 0 1 (entry 0 4 0) (record { sig = 4; pars = [] }) ∷ plain (item.Run 1 1) ∷ plain (item.Say 7) ∷ plain item.Done ∷ taken 2 0 2 (entry 0 6 0) (record { sig = 6; pars = [] }) ∷ plain item.Unhandled ∷ plain item.Done ∷ [], [], (plain (item.Enter 1) ∷ plain (item.Enter 2) ∷ plain (item.Enter 3) ∷ [], ((plain (item.Enter 1) ∷ []) ∷ (plain (item.Enter 2) ∷ []) ∷ (plain (item.Enter 3) ∷ []) ∷ [], (IsMove (item.Enter 1) refl refl, (IsMove (item.Enter 2) refl refl, (IsMove (item.Enter 3) refl refl, tt))), refl), refl), ((taken 1 0 1 (entry 0 4 0) (record { sig = 4; pars = [] }) ∷ plain (item.Run 1 1) ∷ plain (item.Say 7) ∷ plain item.Done ∷ []) ∷ (taken 2 0 2 (entry 0 6 0) (record { sig = 6; pars = [] }) ∷ plain item.Unhandled ∷ plain item.Done ∷ []) ∷ [], (Dispatches (entry 0 4 0, taken 1 0 1 (entry 0 4 0) (record { sig = 4; pars = [] }) ∷ plain (item.Run 1 1) ∷ [], plain (item.Say 7) ∷ [], [], (1, 0, 1, OfEvent (record { sig = 4; pars = [] }), item.Run 1 1, refl, refl), ((plain (item.Say 7) ∷ []) ∷ [], (IsAct (SaysValue 7 refl), tt), refl), refl, refl), (Dispatches (entry 0 6 0, taken 2 0 2 (entry 0 6 0) (record { sig = 6; pars = [] }) ∷ plain item.Unhandled ∷ [], [], [], (2, 0, 2, OfEvent (record { sig = 6; pars = [] }), item.Unhandled, refl, refl), ([], tt, refl), refl, refl), tt)), refl), Ends refl, refl); last = refl }
 
 pub lawful : Lawful nested go_and_x passed_outwards
 unfolding words_hold CourseHolds SourceLanes SpillsStand OrderHolds EndHolds deferral_holds lane_read setting_of lane_pieces none_twice stims_placed looks_right order in_order last_is_free ends_last spents_hold spills_state has_room took_count lines_empty blocks_rest is_home_lane nested_1_pieces nested_1_start nested_1_step_1 nested_1_step_2 nested_1_body_1 nested_1_body_2

@@ -2,14 +2,14 @@
 use Rattle.std.proofs.Common.{refl, ◌++◌, inl, inr, true, false, List, [], ◌∷◌}
 use Rattle.qp_model.specs.declared.bodies.Body.TheVariants as item
 use Rattle.qp_model.specs.Record.{entry}
-use Rattle.qp_model.specs.Told.{plain, taken}
+use Rattle.qp_model.specs.Told.{OfEvent, plain, taken}
 use Rattle.qp_model.specs.Calls as call
 use Rattle.qp_model.specs.Calls.{Granted, Refused, AtTimer, AtQueue, AtFront}
 use Rattle.qp_model.specs.Pieces.{Piece, Tell, Point, tell}
 use Rattle.qp_model.specs.Course.{Follows, Stopped}
 use Rattle.qp_model.specs.Groups.{IsMove, IsAct, SaysValue, MakesCall, Asserts, Plainly}
 use Rattle.qp_model.specs.ObjectShape.{HasShape, CutGroups, StepGroup, BrokenStep, asserts_last, Dispatches, BreaksStep}
-use Rattle.qp_model.specs.Shapes.{Fits}
+use Rattle.qp_model.specs.Shapes.{Fits, FitsAny}
 use Rattle.qp_model.specs.Groups.{Actions, Groups}
 use Rattle.qp_model.specs.Sources.{AllDone, none_twice}
 use Rattle.qp_model.specs.KernelLane.{lane_read}
@@ -55,11 +55,11 @@ timed_1_pieces = timed_1_start ++ (timed_1_step_1 ++ (timed_1_step_2 ++ (timed_1
 
 timed_1_follows : Follows timed (object 1 1 1 3) timed_1_pieces
 unfolding Follows timed_1_pieces timed_1_start timed_1_step_1 timed_1_step_2 timed_1_step_3 timed_1_body_1 timed_1_body_2 timed_1_body_3
-timed_1_follows = (entry 0 7 0 ∷ entry 0 8 0 ∷ entry 0 4 0 ∷ [], _, (timed_1_start, timed_1_step_1 ++ (timed_1_step_2 ++ (timed_1_step_3 ++ [])), _, refl, (Tell (plain item.Begin) ∷ Tell (plain (item.Arm 1 0 2 0)) ∷ Point ∷ Tell (plain (item.Arm 2 0 2 2)) ∷ Point ∷ Tell (plain (item.Enter 1)) ∷ Tell (plain item.Done) ∷ [], _, (_, refl, (Granted, plain (item.Arm 1 0 2 0) ∷ [], [], (0, refl, refl), refl, (_, refl, (Granted, plain (item.Arm 2 0 2 2) ∷ [], [], (0, refl, refl), refl, (_, refl, (_, refl, (_, refl, (refl, refl)))))))), refl, refl), (timed_1_step_1, timed_1_step_2 ++ (timed_1_step_3 ++ []), _, refl, (2, 0, 1, record { sig = 7; pars = [] }, timed_1_body_1 ++ tell ([]), refl, (timed_1_body_1, [], _, (_, refl, (_, refl, (refl, refl))), refl, refl, refl)), (timed_1_step_2, timed_1_step_3 ++ [], _, refl, (2, 0, 2, record { sig = 8; pars = [] }, timed_1_body_2 ++ tell ([]), refl, (timed_1_body_2, [], _, (_, refl, (_, refl, (refl, refl))), refl, refl, refl)), (timed_1_step_3, [], _, refl, (3, 0, 3, record { sig = 4; pars = [] }, timed_1_body_3 ++ tell ([]), refl, (timed_1_body_3, [], _, (_, refl, (Refused, plain (item.Idle 1 3) ∷ [], [], (3, refl), refl, (_, refl, (_, refl, (AtTimer, plain (item.Armed 2 3 2) ∷ [], [], (3, 2, refl, refl), refl, (refl, refl)))))), refl, refl, refl)), (refl, refl))))))
+timed_1_follows = (entry 0 7 0 ∷ entry 0 8 0 ∷ entry 0 4 0 ∷ [], _, (timed_1_start, timed_1_step_1 ++ (timed_1_step_2 ++ (timed_1_step_3 ++ [])), _, refl, (Tell (plain item.Begin) ∷ Tell (plain (item.Arm 1 0 2 0)) ∷ Point ∷ Tell (plain (item.Arm 2 0 2 2)) ∷ Point ∷ Tell (plain (item.Enter 1)) ∷ Tell (plain item.Done) ∷ [], _, (_, refl, (Granted, plain (item.Arm 1 0 2 0) ∷ [], [], ((0, refl), refl), refl, (_, refl, (Granted, plain (item.Arm 2 0 2 2) ∷ [], [], ((0, refl), refl), refl, (_, refl, (_, refl, (_, refl, (refl, refl)))))))), refl, refl), (timed_1_step_1, timed_1_step_2 ++ (timed_1_step_3 ++ []), _, refl, (2, 0, 1, record { sig = 7; pars = [] }, timed_1_body_1 ++ tell ([]), refl, (timed_1_body_1, [], _, (_, refl, (_, refl, (refl, refl))), refl, refl, refl)), (timed_1_step_2, timed_1_step_3 ++ [], _, refl, (2, 0, 2, record { sig = 8; pars = [] }, timed_1_body_2 ++ tell ([]), refl, (timed_1_body_2, [], _, (_, refl, (_, refl, (refl, refl))), refl, refl, refl)), (timed_1_step_3, [], _, refl, (3, 0, 3, record { sig = 4; pars = [] }, timed_1_body_3 ++ tell ([]), refl, (timed_1_body_3, [], _, (_, refl, (Refused, plain (item.Idle 1 3) ∷ [], [], (3, refl), refl, (_, refl, (_, refl, (AtTimer, plain (item.Armed 2 3 2) ∷ [], [], ((3, 2, refl), refl), refl, (refl, refl)))))), refl, refl, refl)), (refl, refl))))))
 
 timed_1_shape : HasShape timed 1 false Stopped (plain item.Begin ∷ plain (item.Arm 1 0 2 0) ∷ plain (item.Arm 2 0 2 2) ∷ plain (item.Enter 1) ∷ plain item.Done ∷ taken 2 0 1 (entry 0 7 0) (record { sig = 7; pars = [] }) ∷ plain item.Unhandled ∷ plain item.Done ∷ taken 2 0 2 (entry 0 8 0) (record { sig = 8; pars = [] }) ∷ plain item.Unhandled ∷ plain item.Done ∷ taken 3 0 3 (entry 0 4 0) (record { sig = 4; pars = [] }) ∷ plain (item.Run 1 1) ∷ plain (item.Idle 1 3) ∷ plain (item.Say 0) ∷ plain (item.Armed 2 3 2) ∷ [])
-unfolding CutGroups StepGroup BrokenStep Groups Actions Fits asserts_last
-timed_1_shape = record { groups = inr (inr (plain item.Begin ∷ plain (item.Arm 1 0 2 0) ∷ plain (item.Arm 2 0 2 2) ∷ plain (item.Enter 1) ∷ plain item.Done ∷ [], taken 2 0 1 (entry 0 7 0) (record { sig = 7; pars = [] }) ∷ plain item.Unhandled ∷ plain item.Done ∷ taken 2 0 2 (entry 0 8 0) (record { sig = 8; pars = [] }) ∷ plain item.Unhandled ∷ plain item.Done ∷ [], taken 3 0 3 (entry 0 4 0) (record { sig = 4; pars = [] }) ∷ plain (item.Run 1 1) ∷ plain (item.Idle 1 3) ∷ plain (item.Say 0) ∷ plain (item.Armed 2 3 2) ∷ [], (plain (item.Arm 1 0 2 0) ∷ plain (item.Arm 2 0 2 2) ∷ plain (item.Enter 1) ∷ [], ((plain (item.Arm 1 0 2 0) ∷ []) ∷ (plain (item.Arm 2 0 2 2) ∷ []) ∷ (plain (item.Enter 1) ∷ []) ∷ [], (IsAct (MakesCall (call.Arm 1 2 0) Granted (0, refl, refl) refl), (IsAct (MakesCall (call.Arm 2 2 2) Granted (0, refl, refl) refl), (IsMove (item.Enter 1) refl refl, tt))), refl), refl), ((taken 2 0 1 (entry 0 7 0) (record { sig = 7; pars = [] }) ∷ plain item.Unhandled ∷ plain item.Done ∷ []) ∷ (taken 2 0 2 (entry 0 8 0) (record { sig = 8; pars = [] }) ∷ plain item.Unhandled ∷ plain item.Done ∷ []) ∷ [], (Dispatches (entry 0 7 0, taken 2 0 1 (entry 0 7 0) (record { sig = 7; pars = [] }) ∷ plain item.Unhandled ∷ [], [], [], (2, 0, 1, record { sig = 7; pars = [] }, item.Unhandled, refl, refl), ([], tt, refl), refl, refl), (Dispatches (entry 0 8 0, taken 2 0 2 (entry 0 8 0) (record { sig = 8; pars = [] }) ∷ plain item.Unhandled ∷ [], [], [], (2, 0, 2, record { sig = 8; pars = [] }, item.Unhandled, refl, refl), ([], tt, refl), refl, refl), tt)), refl), BreaksStep (entry 0 4 0, taken 3 0 3 (entry 0 4 0) (record { sig = 4; pars = [] }) ∷ plain (item.Run 1 1) ∷ [], plain (item.Idle 1 3) ∷ plain (item.Say 0) ∷ plain (item.Armed 2 3 2) ∷ [], (3, 0, 3, record { sig = 4; pars = [] }, item.Run 1 1, refl, refl), Plainly (plain (item.Idle 1 3) ∷ plain (item.Say 0) ∷ []) (plain (item.Armed 2 3 2) ∷ []) ((plain (item.Idle 1 3) ∷ []) ∷ (plain (item.Say 0) ∷ []) ∷ [], (IsAct (MakesCall (call.Disarm 1) Refused (3, refl) refl), (IsAct (SaysValue 0 refl), tt)), refl) (Asserts (call.Arm 2 1 0) AtTimer (3, 2, refl, refl) refl) refl, refl), refl)); last = refl }
+unfolding CutGroups StepGroup BrokenStep Groups Actions FitsAny Fits asserts_last
+timed_1_shape = record { groups = inr (inr (plain item.Begin ∷ plain (item.Arm 1 0 2 0) ∷ plain (item.Arm 2 0 2 2) ∷ plain (item.Enter 1) ∷ plain item.Done ∷ [], taken 2 0 1 (entry 0 7 0) (record { sig = 7; pars = [] }) ∷ plain item.Unhandled ∷ plain item.Done ∷ taken 2 0 2 (entry 0 8 0) (record { sig = 8; pars = [] }) ∷ plain item.Unhandled ∷ plain item.Done ∷ [], taken 3 0 3 (entry 0 4 0) (record { sig = 4; pars = [] }) ∷ plain (item.Run 1 1) ∷ plain (item.Idle 1 3) ∷ plain (item.Say 0) ∷ plain (item.Armed 2 3 2) ∷ [], (plain (item.Arm 1 0 2 0) ∷ plain (item.Arm 2 0 2 2) ∷ plain (item.Enter 1) ∷ [], ((plain (item.Arm 1 0 2 0) ∷ []) ∷ (plain (item.Arm 2 0 2 2) ∷ []) ∷ (plain (item.Enter 1) ∷ []) ∷ [], (IsAct (MakesCall (call.Arm 1 2 0) Granted (0, refl) refl), (IsAct (MakesCall (call.Arm 2 2 2) Granted (0, refl) refl), (IsMove (item.Enter 1) refl refl, tt))), refl), refl), ((taken 2 0 1 (entry 0 7 0) (record { sig = 7; pars = [] }) ∷ plain item.Unhandled ∷ plain item.Done ∷ []) ∷ (taken 2 0 2 (entry 0 8 0) (record { sig = 8; pars = [] }) ∷ plain item.Unhandled ∷ plain item.Done ∷ []) ∷ [], (Dispatches (entry 0 7 0, taken 2 0 1 (entry 0 7 0) (record { sig = 7; pars = [] }) ∷ plain item.Unhandled ∷ [], [], [], (2, 0, 1, OfEvent (record { sig = 7; pars = [] }), item.Unhandled, refl, refl), ([], tt, refl), refl, refl), (Dispatches (entry 0 8 0, taken 2 0 2 (entry 0 8 0) (record { sig = 8; pars = [] }) ∷ plain item.Unhandled ∷ [], [], [], (2, 0, 2, OfEvent (record { sig = 8; pars = [] }), item.Unhandled, refl, refl), ([], tt, refl), refl, refl), tt)), refl), BreaksStep refl (entry 0 4 0, taken 3 0 3 (entry 0 4 0) (record { sig = 4; pars = [] }) ∷ plain (item.Run 1 1) ∷ [], plain (item.Idle 1 3) ∷ plain (item.Say 0) ∷ plain (item.Armed 2 3 2) ∷ [], (3, 0, 3, OfEvent (record { sig = 4; pars = [] }), item.Run 1 1, refl, refl), Plainly (plain (item.Idle 1 3) ∷ plain (item.Say 0) ∷ []) (plain (item.Armed 2 3 2) ∷ []) ((plain (item.Idle 1 3) ∷ []) ∷ (plain (item.Say 0) ∷ []) ∷ [], (IsAct (MakesCall (call.Disarm 1) Refused (3, refl) refl), (IsAct (SaysValue 0 refl), tt)), refl) (Asserts (call.Arm 2 1 0) AtTimer (3, 2, refl) refl) refl, refl), refl)); last = refl }
 
 pub lawful : Lawful timed tick_twice ticked
 unfolding words_hold CourseHolds SourceLanes SpillsStand OrderHolds EndHolds deferral_holds lane_read setting_of lane_pieces none_twice stims_placed looks_right order in_order last_is_free ends_last spents_hold spills_state has_room took_count lines_empty blocks_rest is_home_lane timed_1_pieces timed_1_start timed_1_step_1 timed_1_step_2 timed_1_step_3 timed_1_body_1 timed_1_body_2 timed_1_body_3

@@ -7,7 +7,7 @@ use Rattle.qp_model.specs.declared.bodies.Body.TheVariants as item
 use Rattle.qp_model.specs.Told.{Told, plain}
 use Rattle.qp_model.specs.Calls as call
 use Rattle.qp_model.specs.Calls.{Call, Answer, Granted, Refused, Flushed, AtQueue, AtPool, AtTimer, AtTicks, AtFront, is_assertion}
-use Rattle.qp_model.specs.Shapes.{Fits, PostsNew, Publishes, NoBlockFor, Flushes}
+use Rattle.qp_model.specs.Shapes.{Fits, FitsAny, PostsNew, Publishes, NoBlockFor, Flushes}
 use Rattle.qp_model.specs.Sequence.{Sequence}
 use Rattle.qp_model.specs.Groups.{IsAction, SaysValue, MakesCall, Actions, IsGroup, IsMove, IsAct, IsLocked, Groups, IsLast, BreaksOff, Plainly, UnderCeiling}
 use Rattle.qp_shapes.specs.ShapeUnit as unit
@@ -26,8 +26,8 @@ flush-wholes sys o now (suc n) g h =
 
 -- a publication that isn't cut is whole, or is refused as a post is
 pub publish-whole : (sys : System) (o : ℕ) (now : Option Entry) (sig : ℕ) (pars : List ℕ) (reserve : Option ℕ) (answer : Answer) (g : List Told)
-    → Fits sys o now (call.Publish sig pars reserve) answer g → is_assertion answer ≡ false → IsWhole sys o now g
-unfolding Fits Publishes NoBlockFor PostsNew
+    → FitsAny sys o now (call.Publish sig pars reserve) answer g → is_assertion answer ≡ false → IsWhole sys o now g
+unfolding FitsAny Fits Publishes NoBlockFor PostsNew
 publish-whole sys o now sig pars reserve Granted g h calm = OfPublication sig pars reserve h
 publish-whole sys o now sig pars reserve Refused g h calm = OfUnit (unit.MakesCall (call.Post 0 sig pars None reserve) Refused refl (inl h) refl)
 publish-whole sys o now sig pars None (Flushed n) g h calm = absurd h
@@ -40,7 +40,7 @@ publish-whole sys o now sig pars reserve AtFront g h calm = absurd (cc)
 
 -- a publication is whole, or it is cut
 pub publish-either : (sys : System) (o : ℕ) (now : Option Entry) (sig : ℕ) (pars : List ℕ) (reserve : Option ℕ) (answer : Answer) (g : List Told)
-    → Fits sys o now (call.Publish sig pars reserve) answer g → IsWhole sys o now g ⊎ IsCut sys o now g
+    → FitsAny sys o now (call.Publish sig pars reserve) answer g → IsWhole sys o now g ⊎ IsCut sys o now g
 publish-either sys o now sig pars reserve answer g h = by (is_assertion answer) refl
   where
     by : (b : Bool) → is_assertion answer ≡ b → IsWhole sys o now g ⊎ IsCut sys o now g
@@ -49,14 +49,14 @@ publish-either sys o now sig pars reserve answer g h = by (is_assertion answer) 
 
 -- an action is any number of parts
 pub action-wholes : (sys : System) (o : ℕ) (now : Option Entry) (g : List Told) → IsAction sys o now g → Sequence (IsWhole sys o now) g
-unfolding Fits
+unfolding FitsAny Fits
 action-wholes sys o now g (SaysValue value is) = sequence-one (IsWhole sys o now) g (OfUnit (unit.SaysValue value is))
 action-wholes sys o now g (MakesCall x answer h calm) = by x answer h calm
   where
-    one : (x : Call) (answer : Answer) → unit.is_single x ≡ true → Fits sys o now x answer g → is_assertion answer ≡ false → Sequence (IsWhole sys o now) g
+    one : (x : Call) (answer : Answer) → unit.is_single x ≡ true → FitsAny sys o now x answer g → is_assertion answer ≡ false → Sequence (IsWhole sys o now) g
     one x answer single h calm = sequence-one (IsWhole sys o now) g (OfUnit (unit.MakesCall x answer single h calm))
 
-    by : (x : Call) (answer : Answer) → Fits sys o now x answer g → is_assertion answer ≡ false → Sequence (IsWhole sys o now) g
+    by : (x : Call) (answer : Answer) → FitsAny sys o now x answer g → is_assertion answer ≡ false → Sequence (IsWhole sys o now) g
     by (call.Post to sig pars margin reserve) answer h calm = one (call.Post to sig pars margin reserve) answer refl h calm
     by (call.Lifo sig pars reserve) answer h calm = one (call.Lifo sig pars reserve) answer refl h calm
     by (call.Forward to margin) answer h calm = one (call.Forward to margin) answer refl h calm
@@ -78,7 +78,7 @@ action-wholes sys o now g (MakesCall x answer h calm) = by x answer h calm
     by (call.Disarm t) answer h calm = one (call.Disarm t) answer refl h calm
 
 pub whole-action : (sys : System) (o : ℕ) (now : Option Entry) (g : List Told) → IsWhole sys o now g → IsAction sys o now g
-unfolding Fits
+unfolding FitsAny Fits
 whole-action sys o now g (OfUnit (unit.SaysValue value is)) = SaysValue value is
 whole-action sys o now g (OfUnit (unit.MakesCall x answer single h calm)) = MakesCall x answer h calm
 whole-action sys o now g (OfUnit (unit.FlushesOne h)) = MakesCall call.Flush (Flushed 1) h refl

@@ -81,7 +81,7 @@ assertion-apart sys o now (t ∷ ts) r h = by t.known t.body h
     alone : (body : Body) → plain_cut sys o now body ts ≡ Some r → plain_first sys o now body ts ≡ None
     alone (item.NoEntry a f l m) h = refl
     alone (item.NoLifo a f l m) h = refl
-    alone (item.NoBlock p n) h = refl
+    alone (item.NoBlock p n free) h = refl
     alone (item.Armed u n counter) h = refl
     alone (item.BadTicks u ticks interval) h = refl
     alone (item.Inc p b n) h = either-none (works_on now p b) (behind_again sys (entry p b n) ts) (no_entry-again sys (entry p b n) ts r (passed _ _ r h).1)

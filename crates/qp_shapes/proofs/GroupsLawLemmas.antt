@@ -6,7 +6,7 @@ use Rattle.qp_model.specs.declared.bodies.Entry.{Entry}
 use Rattle.qp_model.specs.Told.{Told}
 use Rattle.qp_model.specs.Calls as call
 use Rattle.qp_model.specs.Calls.{Call, Answer, Granted, Refused, Flushed, AtQueue, AtPool, AtTimer, AtTicks, AtFront, is_assertion}
-use Rattle.qp_model.specs.Shapes.{Fits, PostsNew, Publishes, NoBlockFor}
+use Rattle.qp_model.specs.Shapes.{Fits, FitsAny, PostsNew, Publishes, NoBlockFor}
 use Rattle.qp_model.specs.Groups.{IsLast, Asserts, Stops, StopsInPublication}
 use Rattle.qp_model.specs.Course.{Cut, Whole, Stopped, Anywhere}
 use Rattle.qp_shapes.specs.declared.shape_stage.Stage.TheVariants as stage
@@ -33,18 +33,18 @@ data Taken (read : List Told → Option (List Told)) (sys : System) (o : ℕ) (b
   Runs : run sys o g stage.Start ≡ Some (end_of b) → Taken read sys o b g
 
 whole-taken : (sys : System) (o : ℕ) (now : Option Entry) (g : List Told) → IsWhole sys o now g → Taken (behind_unit sys o now) sys o true g
-unfolding Fits
+unfolding FitsAny Fits
 whole-taken sys o now g (OfUnit u) = Reads (λ rest. unit-whole sys o now g rest u)
 whole-taken sys o now g (OfPublication sig pars reserve h) = Runs (start-whole sys o sig pars reserve true g h)
 
 cut-taken : (sys : System) (o : ℕ) (now : Option Entry) (g : List Told) → IsCut sys o now g → Taken (behind_assertion sys o now) sys o false g
-unfolding Fits Publishes NoBlockFor PostsNew
+unfolding FitsAny Fits Publishes NoBlockFor PostsNew
 cut-taken sys o now g c = by c.0 c.1 c.2 c.3
   where
-    one : (x : Call) (answer : Answer) → unit.is_single x ≡ true → Fits sys o now x answer g → is_assertion answer ≡ true → Taken (behind_assertion sys o now) sys o false g
+    one : (x : Call) (answer : Answer) → unit.is_single x ≡ true → FitsAny sys o now x answer g → is_assertion answer ≡ true → Taken (behind_assertion sys o now) sys o false g
     one x answer single h asserts = Reads (λ rest. assertion-whole sys o now g rest (asserted.Asserts x answer single h asserts))
 
-    by : (x : Call) (answer : Answer) → Fits sys o now x answer g → is_assertion answer ≡ true → Taken (behind_assertion sys o now) sys o false g
+    by : (x : Call) (answer : Answer) → FitsAny sys o now x answer g → is_assertion answer ≡ true → Taken (behind_assertion sys o now) sys o false g
     by (call.Post to sig pars margin reserve) answer h a = one (call.Post to sig pars margin reserve) answer refl h a
     by (call.Lifo sig pars reserve) answer h a = one (call.Lifo sig pars reserve) answer refl h a
     by (call.Forward to margin) answer h a = one (call.Forward to margin) answer refl h a

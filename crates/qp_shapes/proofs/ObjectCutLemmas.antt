@@ -5,7 +5,7 @@ use Rattle.qp_model.specs.declared.systems.System.{System}
 use Rattle.qp_model.specs.declared.bodies.Entry.{Entry}
 use Rattle.qp_model.specs.Told.{Told, dropped}
 use Rattle.qp_model.specs.Calls as call
-use Rattle.qp_model.specs.Shapes.{Fits, Drops, releases_by}
+use Rattle.qp_model.specs.Shapes.{Fits, FitsAny, Drops, releases_by}
 use Rattle.qp_model.specs.Groups.{IsLast, Asserts, Stops, StopsInPublication}
 use Rattle.qp_model.specs.Course.{Cut, Whole, Stopped, Anywhere}
 use Rattle.qp_model.specs.ObjectShape.{CutGroups}
@@ -23,13 +23,13 @@ empty-front (t ∷ ts) back is = absurd (cc)
 
 -- a last has fronts
 last-front : (sys : System) (o : ℕ) (now : Option Entry) (stops : Bool) (g m back : List Told) → IsLast sys o now stops g → g ≡ m ++ back → AnyFront (IsWhole sys o now) (IsCut sys o now) m
-last-front sys o now stops g m back (Asserts x answer h asserts) is = inr (back, inr (x, answer, subst (Fits sys o now x answer) is h, asserts))
+last-front sys o now stops g m back (Asserts x answer h asserts) is = inr (back, inr (x, answer, subst (FitsAny sys o now x answer) is h, asserts))
 last-front sys o now stops g m back (Stops may none) is = inl (empty-front m back (sym none ∙ is))
 last-front sys o now stops g m back (StopsInPublication sig pars reserve answer more may h ends) is =
     inr (
       back ++ more,
       publish-either sys o now sig pars reserve answer (m ++ (back ++ more))
-          (subst (Fits sys o now (call.Publish sig pars reserve) answer) (ap (λ us. us ++ more) is ∙ append_assoc m back more) h),
+          (subst (FitsAny sys o now (call.Publish sig pars reserve) answer) (ap (λ us. us ++ more) is ∙ append_assoc m back more) h),
     )
 
 cut-last : (sys : System) (o : ℕ) (now : Option Entry) (stops : Bool) (g : List Told) → IsCut sys o now g → IsLast sys o now stops g

@@ -4,11 +4,11 @@ use Rattle.std.specs.declared.option.Option.{Option}
 use Rattle.qp_model.specs.declared.bodies.Entry.{Entry}
 use Rattle.qp_model.specs.declared.bodies.Body.{Body}
 use Rattle.qp_model.specs.declared.bodies.Body.TheVariants as item
-use Rattle.qp_model.specs.Told.{Told, Event, plain, taken}
+use Rattle.qp_model.specs.Told.{Told, Known, plain}
 use Rattle.qp_model.specs.Sequence.{Sequence}
-use Rattle.qp_model.specs.ObjectShape.{StepHead, is_head}
+use Rattle.qp_model.specs.ObjectShape.{StepHead, is_head, takes}
 use Rattle.qp_shapes.specs.GroupsRead.{ReadsAll, IsElement, Breaks, is_close, is_outer}
-use Rattle.qp_shapes.specs.ObjectRead.{Kinds, Closes, IsTurnOf, Steps, Finds, FrontOf, IsTailOf, EndsHere, IsSpent, BreaksOffIn, TakesOnly, ReleasesOnly, TurnsOf}
+use Rattle.qp_shapes.specs.ObjectRead.{Kinds, Closes, is_look, IsTurnOf, Steps, Finds, FrontOf, IsTailOf, EndsHere, IsSpent, BreaksOffIn, TakesOnly, ReleasesOnly, TurnsOf}
 use Rattle.qp_shapes.proofs.GroupsReadLemmas.{Parts, Lasts, compare, outer-behind, reads-last, no-close}
 use Rattle.qp_shapes.proofs.GroupsElementLemmas.{element-parts, end-lasts}
 
@@ -40,7 +40,7 @@ break-open W L laws lasts body g more b s is =
 
 -- the first two records of a step, with what is behind
 head-is : (e : Entry) (head body : List Told) → StepHead e head
-    → (f l m : ℕ) × (ev : Event) × (b : Body) × (is_head b ≡ true) × (head ++ body ≡ taken f l m e ev ∷ plain b ∷ body)
+    → (f l m : ℕ) × (known : Known) × (b : Body) × (is_head b ≡ true) × (head ++ body ≡ takes f l m e known ∷ plain b ∷ body)
 unfolding StepHead
 head-is e head body h = (h.0, h.1, h.2, h.3, h.4, h.5, ap (λ us. us ++ body) h.6)
 
@@ -49,8 +49,8 @@ heads-same : (d e : Entry) (head other gs hs : List Told) → StepHead d head �
 heads-same d e head other gs hs h u is =
     let one = head-is d head gs h in
     let two = head-is e other hs u in
-    let all : taken one.0 one.1 one.2 d one.3 ∷ plain one.4 ∷ gs ≡ taken two.0 two.1 two.2 e two.3 ∷ plain two.4 ∷ hs = sym one.6 ∙ is ∙ two.6 in
-    let firsts : taken one.0 one.1 one.2 d one.3 ≡ taken two.0 two.1 two.2 e two.3 = cc in
+    let all : takes one.0 one.1 one.2 d one.3 ∷ plain one.4 ∷ gs ≡ takes two.0 two.1 two.2 e two.3 ∷ plain two.4 ∷ hs = sym one.6 ∙ is ∙ two.6 in
+    let firsts : takes one.0 one.1 one.2 d one.3 ≡ takes two.0 two.1 two.2 e two.3 = cc in
     let body : item.Took one.0 one.1 one.2 d ≡ item.Took two.0 two.1 two.2 e = ap (λ (x : Told). x.body) firsts in
     (cc, cc)
 
@@ -58,8 +58,8 @@ heads-same d e head other gs hs h u is =
 head-not : (e : Entry) (head gs hs : List Told) (b : Body) → StepHead e head → ((f l m : ℕ) → item.Took f l m e ≡ b → ⊥) → head ++ gs ≡ plain b ∷ hs → ⊥
 head-not e head gs hs b h other is =
     let one = head-is e head gs h in
-    let all : taken one.0 one.1 one.2 e one.3 ∷ plain one.4 ∷ gs ≡ plain b ∷ hs = sym one.6 ∙ is in
-    let first : taken one.0 one.1 one.2 e one.3 ≡ plain b = cc in
+    let all : takes one.0 one.1 one.2 e one.3 ∷ plain one.4 ∷ gs ≡ plain b ∷ hs = sym one.6 ∙ is in
+    let first : takes one.0 one.1 one.2 e one.3 ≡ plain b = cc in
     other one.0 one.1 one.2 (ap (λ (x : Told). x.body) first)
 
 abbrev pub nothing-outer : Body → Bool
@@ -68,8 +68,8 @@ nothing-outer b = false
 turn-filled-in : (act : Option Entry → List Told → Type 0) (release : Entry → List Told → Type 0) (nils : Bool) (rest g : List Told) → IsTurnOf act release nils g → [] ≡ g ++ rest → ⊥
 turn-filled-in act release nils rest g (Steps e head body h c e1) is =
     let one = head-is e head (body ++ rest) h in
-    let all : [] ≡ taken one.0 one.1 one.2 e one.3 ∷ plain one.4 ∷ (body ++ rest) = is ∙ ap (λ us. us ++ rest) e1 ∙ append_assoc head body rest ∙ one.6 in cc
-turn-filled-in act release nils rest g (Finds f l m h e1) is = let all : [] ≡ plain (item.Nil f l m) ∷ rest = is ∙ ap (λ us. us ++ rest) e1 in cc
+    let all : [] ≡ takes one.0 one.1 one.2 e one.3 ∷ plain one.4 ∷ (body ++ rest) = is ∙ ap (λ us. us ++ rest) e1 ∙ append_assoc head body rest ∙ one.6 in cc
+turn-filled-in act release nils rest g (Finds b look h e1) is = let all : [] ≡ plain b ∷ rest = is ∙ ap (λ us. us ++ rest) e1 in cc
 
 pub turn-filled-at : (act : Option Entry → List Told → Type 0) (release : Entry → List Told → Type 0) (nils : Bool) → IsTurnOf act release nils [] → ⊥
 turn-filled-at act release nils t = turn-filled-in act release nils [] [] t refl
@@ -87,11 +87,15 @@ bodies-same k laws d e b gs c hs same x y is =
     let right : c ++ hs ≡ y.0 ++ (plain item.Done ∷ (y.1 ++ hs)) = ap (λ us. us ++ hs) y.4 ∙ append_assoc y.0 (plain item.Done ∷ y.1) hs in
     laws.releases e z.1 gs y.1 hs z.3 y.3 (done-same (k.act (Some e)) (laws.acts (Some e)) z.0 (z.1 ++ gs) y.0 (y.1 ++ hs) z.2 y.2 (sym left ∙ is ∙ right))
 
--- a turn found empty is one record
-finds-same : (k : Kinds) (nils : Bool) (f l m : ℕ) (gs h hs : List Told) → IsTurnOf k.act k.release nils h → plain (item.Nil f l m) ∷ gs ≡ h ++ hs → gs ≡ hs
-finds-same k nils f l m gs h hs (Steps e head body u c e1) is =
-    absurd (head-not e head (body ++ hs) gs (item.Nil f l m) u (λ f l m e. cc) (sym (is ∙ ap (λ us. us ++ hs) e1 ∙ append_assoc head body hs)))
-finds-same k nils f l m gs h hs (Finds x y z n e1) is = let all : plain (item.Nil f l m) ∷ gs ≡ plain (item.Nil x y z) ∷ hs = is ∙ ap (λ us. us ++ hs) e1 in cc
+-- a look isn't a `took`
+pub look-not : (b : Body) → is_look b ≡ true → (f l m : ℕ) (e : Entry) → item.Took f l m e ≡ b → ⊥
+look-not b look f l m e is = let test : is_look (item.Took f l m e) ≡ true = subst (λ x. is_look x ≡ true) (sym is) look in cc
+
+-- a turn that looks is one record
+finds-same : (k : Kinds) (nils : Bool) (b : Body) (gs h hs : List Told) → is_look b ≡ true → IsTurnOf k.act k.release nils h → plain b ∷ gs ≡ h ++ hs → gs ≡ hs
+finds-same k nils b gs h hs look (Steps e head body u c e1) is =
+    absurd (head-not e head (body ++ hs) gs b u (λ f l m. look-not b look f l m e) (sym (is ∙ ap (λ us. us ++ hs) e1 ∙ append_assoc head body hs)))
+finds-same k nils b gs h hs look (Finds x y n e1) is = let all : plain b ∷ gs ≡ plain x ∷ hs = is ∙ ap (λ us. us ++ hs) e1 in cc
 
 -- turns are parts
 pub turn-parts : (k : Kinds) (nils : Bool) → KindLaws k → Parts nothing-outer (IsTurnOf k.act k.release nils)
@@ -101,9 +105,9 @@ turn-parts k nils laws = record { filled = λ t. turn-filled k nils [] [] t refl
     never h = cc
 
     unique : (g gs h hs : List Told) → IsTurnOf k.act k.release nils g → IsTurnOf k.act k.release nils h → g ++ gs ≡ h ++ hs → gs ≡ hs
-    unique g gs h hs (Finds f l m n e1) u is = finds-same k nils f l m gs h hs u (sym (ap (λ us. us ++ gs) e1) ∙ is)
-    unique g gs h hs (Steps e head body s c e1) (Finds f l m n e2) is =
-        sym (finds-same k nils f l m hs g gs (Steps e head body s c e1) (sym (is ∙ ap (λ us. us ++ hs) e2)))
+    unique g gs h hs (Finds b look n e1) u is = finds-same k nils b gs h hs look u (sym (ap (λ us. us ++ gs) e1) ∙ is)
+    unique g gs h hs (Steps e head body s c e1) (Finds b look n e2) is =
+        sym (finds-same k nils b hs g gs look (Steps e head body s c e1) (sym (is ∙ ap (λ us. us ++ hs) e2)))
     unique g gs h hs (Steps d head body s c e1) (Steps e other more u b e2) is =
         let left : g ++ gs ≡ head ++ (body ++ gs) = ap (λ us. us ++ gs) e1 ∙ append_assoc head body gs in
         let right : h ++ hs ≡ other ++ (more ++ hs) = ap (λ us. us ++ hs) e2 ∙ append_assoc other more hs in
@@ -118,30 +122,31 @@ append-none (t ∷ ts) h is = absurd (cc)
 pub tail-behind : (k : Kinds) (nils : Bool) → KindLaws k → (last g rest : List Told) → IsTailOf k last → IsTurnOf k.act k.release nils g → last ≡ g ++ rest → IsTailOf k rest
 unfolding Closes FrontOf
 tail-behind k nils laws last g rest (EndsHere e) u is = absurd (turn-filled k nils rest g u (sym e ∙ is))
-tail-behind k nils laws last g rest (IsSpent e) (Finds f l m n e1) is =
-    let all : plain item.Spent ∷ [] ≡ plain (item.Nil f l m) ∷ rest = sym e ∙ is ∙ ap (λ us. us ++ rest) e1 in
-    let first : plain item.Spent ≡ plain (item.Nil f l m) = cc in
-    let body : item.Spent ≡ item.Nil f l m = ap (λ (x : Told). x.body) first in absurd (cc)
+tail-behind k nils laws last g rest (IsSpent e) (Finds b look n e1) is =
+    let all : plain item.Spent ∷ [] ≡ plain b ∷ rest = sym e ∙ is ∙ ap (λ us. us ++ rest) e1 in
+    let first : plain item.Spent ≡ plain b = cc in
+    let body : item.Spent ≡ b = ap (λ (x : Told). x.body) first in
+    let test : is_look item.Spent ≡ true = subst (λ x. is_look x ≡ true) (sym body) look in absurd (cc)
 tail-behind k nils laws last g rest (IsSpent e) (Steps d head body s c e1) is =
     absurd (head-not d head (body ++ rest) [] item.Spent s (λ f l m e. cc) (sym (sym e ∙ is ∙ ap (λ us. us ++ rest) e1 ∙ append_assoc head body rest)))
-tail-behind k nils laws last g rest (BreaksOffIn e head body s b e1) (Finds f l m n e2) is =
-    absurd (head-not e head body rest (item.Nil f l m) s (λ f l m e. cc) (sym e1 ∙ is ∙ ap (λ us. us ++ rest) e2))
-tail-behind k nils laws last g rest (BreaksOffIn e head body s b e1) (Steps d other more u c e2) is =
+tail-behind k nils laws last g rest (BreaksOffIn e head body on s b e1) (Finds x look n e2) is =
+    absurd (head-not e head body rest x s (λ f l m. look-not x look f l m e) (sym e1 ∙ is ∙ ap (λ us. us ++ rest) e2))
+tail-behind k nils laws last g rest (BreaksOffIn e head body on s b e1) (Steps d other more u c e2) is =
     let same = heads-same e d head other body (more ++ rest) s u (sym e1 ∙ is ∙ ap (λ us. us ++ rest) e2 ∙ append_assoc other more rest) in
     let z : Closes (k.act (Some e)) (k.release e) more = subst (λ x. Closes (k.act (Some x)) (k.release x) more) (sym same.0) c in
     absurd
     (break-open (k.act (Some e)) (k.last (Some e)) (laws.acts (Some e)) (laws.lasts (Some e)) body z.0 (z.1 ++ rest) b z.2
     (same.1 ∙ ap (λ us. us ++ rest) z.4 ∙ append_assoc z.0 (plain item.Done ∷ z.1) rest))
-tail-behind k nils laws last g rest (TakesOnly f l m e ev any e1) (Finds x y z n e2) is =
-    let all : taken f l m e ev ∷ [] ≡ plain (item.Nil x y z) ∷ rest = sym e1 ∙ is ∙ ap (λ us. us ++ rest) e2 in
-    let first : taken f l m e ev ≡ plain (item.Nil x y z) = cc in
-    let body : item.Took f l m e ≡ item.Nil x y z = ap (λ (x : Told). x.body) first in absurd (cc)
-tail-behind k nils laws last g rest (TakesOnly f l m e ev any e1) (Steps d head body s c e2) is =
+tail-behind k nils laws last g rest (TakesOnly f l m e known any e1) (Finds x look n e2) is =
+    let all : takes f l m e known ∷ [] ≡ plain x ∷ rest = sym e1 ∙ is ∙ ap (λ us. us ++ rest) e2 in
+    let first : takes f l m e known ≡ plain x = cc in
+    absurd (look-not x look f l m e (ap (λ (t : Told). t.body) first))
+tail-behind k nils laws last g rest (TakesOnly f l m e known any e1) (Steps d head body s c e2) is =
     let one = head-is d head (body ++ rest) s in
-    let all : taken f l m e ev ∷ [] ≡ taken one.0 one.1 one.2 d one.3 ∷ plain one.4 ∷ (body ++ rest) = sym e1 ∙ is ∙ ap (λ us. us ++ rest) e2 ∙ append_assoc head body rest ∙ one.6 in
+    let all : takes f l m e known ∷ [] ≡ takes one.0 one.1 one.2 d one.3 ∷ plain one.4 ∷ (body ++ rest) = sym e1 ∙ is ∙ ap (λ us. us ++ rest) e2 ∙ append_assoc head body rest ∙ one.6 in
     absurd (cc)
-tail-behind k nils laws last g rest (ReleasesOnly e head body any s b e1) (Finds f l m n e2) is =
-    absurd (head-not e head body rest (item.Nil f l m) s (λ f l m e. cc) (sym e1 ∙ is ∙ ap (λ us. us ++ rest) e2))
+tail-behind k nils laws last g rest (ReleasesOnly e head body any s b e1) (Finds x look n e2) is =
+    absurd (head-not e head body rest x s (λ f l m. look-not x look f l m e) (sym e1 ∙ is ∙ ap (λ us. us ++ rest) e2))
 tail-behind k nils laws last g rest (ReleasesOnly e head body any s b e1) (Steps d other more u c e2) is =
     let same = heads-same e d head other body (more ++ rest) s u (sym e1 ∙ is ∙ ap (λ us. us ++ rest) e2 ∙ append_assoc other more rest) in
     let z : Closes (k.act (Some e)) (k.release e) more = subst (λ x. Closes (k.act (Some x)) (k.release x) more) (sym same.0) c in

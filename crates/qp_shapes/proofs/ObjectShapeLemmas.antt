@@ -1,5 +1,5 @@
 -- An object's shape is tested part by part.
-use Rattle.std.proofs.Common.{◌≡◌, ℕ, suc, ◌<◌, Bool, true, false, ◌⊎◌, inl, inr, List, [], ◌∷◌, ◌++◌, length, Some, None, refl, sym, ◌∙◌, ap, subst, arith}
+use Rattle.std.proofs.Common.{◌≡◌, ℕ, suc, ◌<◌, Bool, true, false, ◌⊎◌, inl, inr, List, [], ◌∷◌, ◌++◌, length, IsTrue, Some, None, refl, sym, ◌∙◌, ap, subst, arith}
 use Rattle.qp_fits.specs.Decides.{Decides}
 use Rattle.qp_model.specs.declared.systems.System.{System}
 use Rattle.qp_model.specs.declared.bodies.Entry.{Entry}
@@ -9,7 +9,7 @@ use Rattle.qp_model.specs.Course.{Cut, Whole, Stopped, Anywhere}
 use Rattle.qp_model.specs.ObjectShape.{CutGroups, HasShape, is_assert, nothing_after, asserts_last}
 use Rattle.qp_shapes.specs.ShapeAction.{IsWhole}
 use Rattle.qp_shapes.specs.GroupsRead.{Breaks}
-use Rattle.qp_shapes.specs.GroupsLast.{LastOf, start_cut, is_unbegun, kinds}
+use Rattle.qp_shapes.specs.GroupsLast.{LastOf, start_cut, is_anywhere, is_cut, is_unbegun, kinds}
 use Rattle.qp_shapes.specs.ObjectRead.{IsObjectOf, IsStartEnd}
 use Rattle.qp_shapes.specs.ObjectFirst.{behind_begin}
 use Rattle.qp_shapes.proofs.ShapeReleaseLemmas.{release-whole}
@@ -30,6 +30,20 @@ release-unique e g gs h hs x y is =
 
 pub kind-laws : (sys : System) (o : ℕ) (cut : Cut) → KindLaws (kinds sys o cut)
 kind-laws sys o cut = record { acts = whole-parts sys o; lasts = last-lasts sys o cut; firsts = last-lasts sys o (start_cut cut) None; releases = release-unique }
+
+-- a list that isn't cut is not cut anywhere
+pub uncut-nowhere : (cut : Cut) → is_cut cut ≡ false → is_anywhere cut ≡ false
+uncut-nowhere Whole h = refl
+uncut-nowhere Stopped h = absurd (cc)
+uncut-nowhere Anywhere h = absurd (cc)
+
+-- a start's break, where it may break off
+pub break-decided : (P : Type 0) (cuts b : Bool) → cuts ≡ true → Decides b P → Decides b (IsTrue cuts × P)
+break-decided P cuts b on d = decides-as P (IsTrue cuts × P) b (λ p. (on, p)) (λ h. h.1) d
+
+pub break-not : (P : Type 0) (cuts : Bool) → cuts ≡ false → Decides false (IsTrue cuts × P)
+unfolding Decides
+break-not P cuts uncut = λ h. let on : cuts ≡ true = h.0 in cc
 
 -- a start's break by its own cut
 pub first-decided : (sys : System) (o : ℕ) (cut first : Cut) (told : List Told) (b : Bool) → first ≡ start_cut cut → Decides b (Breaks (IsWhole sys o None) (LastOf sys o first None) told)

@@ -1,12 +1,12 @@
 -- What is tested of an object's list.
-use Rattle.std.proofs.Common.{◌≡◌, ℕ, suc, ◌==◌, Bool, true, false, ◌&&◌, ◌⊎◌, inl, inr, List, [], ◌∷◌, ◌++◌, length, Some, None, refl, sym, ◌∙◌, ap, subst, arith}
+use Rattle.std.proofs.Common.{◌≡◌, ℕ, suc, ◌==◌, Bool, true, false, ◌&&◌, ◌⊎◌, inl, inr, List, [], ◌∷◌, ◌++◌, length, IsTrue, Some, None, refl, sym, ◌∙◌, ap, subst, arith}
 use Rattle.std.proofs.lemmas.Bool.Decides.{nat_tests}
 use Rattle.qp_fits.specs.Decides.{Decides}
 use Rattle.qp_model.specs.declared.bodies.Entry.{Entry}
 use Rattle.qp_model.specs.declared.bodies.Body.{Body}
 use Rattle.qp_model.specs.declared.bodies.Body.TheVariants as item
-use Rattle.qp_model.specs.Told.{Told, Known, Nothing, Event, plain, taken}
-use Rattle.qp_model.specs.ObjectShape.{StepHead}
+use Rattle.qp_model.specs.Told.{Told, Known, Nothing, plain}
+use Rattle.qp_model.specs.ObjectShape.{StepHead, takes}
 use Rattle.qp_shapes.specs.GroupsRead.{ReadsAll, IsElement, Breaks, is_close, is_outer}
 use Rattle.qp_shapes.specs.GroupsFirst.{behind_done}
 use Rattle.qp_shapes.specs.ObjectRead.{Kinds, Closes, IsTurnOf, IsTailOf, EndsHere, IsSpent, BreaksOffIn, TakesOnly, ReleasesOnly, TurnsOf, FrontOf, IsObjectOf, Starts, BreaksStart, IsStepEnd, BreaksIt, ReleasesIt, IsStartEnd, GoesOn, BreaksFirst}
@@ -54,9 +54,9 @@ closes-not W M laws told rest reads none c =
     let some : behind_done rest ≡ Some close.0 = ap behind_done close.2 in cc
 
 -- the end of a step
-pub end-breaks-off : (k : Kinds) (e : Entry) (body : List Told) → Decides true (Breaks (k.act (Some e)) (k.last (Some e)) body) → Decides true (IsStepEnd k e body)
+pub end-breaks-off : (k : Kinds) (e : Entry) (body : List Told) → k.cuts ≡ true → Decides true (Breaks (k.act (Some e)) (k.last (Some e)) body) → Decides true (IsStepEnd k e body)
 unfolding Decides
-end-breaks-off k e body d = BreaksIt d
+end-breaks-off k e body on d = BreaksIt on d
 
 pub end-releases : (k : Kinds) (e : Entry) (body : List Told) (b : Bool) → k.anywhere ≡ true → Decides false (Breaks (k.act (Some e)) (k.last (Some e)) body)
     → Decides b (Closes (k.act (Some e)) (FrontOf (k.release e)) body) → Decides b (IsStepEnd k e body)
@@ -64,7 +64,7 @@ unfolding Decides
 end-releases k e body b any not_broken d = decides-as (Closes (k.act (Some e)) (FrontOf (k.release e)) body) (IsStepEnd k e body) b (λ c. ReleasesIt any c) from d
   where
     from : IsStepEnd k e body → Closes (k.act (Some e)) (FrontOf (k.release e)) body
-    from (BreaksIt h) = absurd (not_broken h)
+    from (BreaksIt on h) = absurd (not_broken h)
     from (ReleasesIt h c) = c
 
 pub end-not : (k : Kinds) (e : Entry) (body : List Told) → k.anywhere ≡ false → Decides false (Breaks (k.act (Some e)) (k.last (Some e)) body) → Decides false (IsStepEnd k e body)
@@ -72,8 +72,17 @@ unfolding Decides
 end-not k e body not_any not_broken = never
   where
     never : IsStepEnd k e body → ⊥
-    never (BreaksIt h) = not_broken h
+    never (BreaksIt on h) = not_broken h
     never (ReleasesIt h c) = cc
+
+-- a step that may not be cut ends nowhere else
+pub end-uncut : (k : Kinds) (e : Entry) (body : List Told) → k.cuts ≡ false → k.anywhere ≡ false → Decides false (IsStepEnd k e body)
+unfolding Decides
+end-uncut k e body uncut not_any = never
+  where
+    never : IsStepEnd k e body → ⊥
+    never (BreaksIt on h) = cc
+    never (ReleasesIt any c) = cc
 
 -- the tail
 step-told-in : (told head body : List Told) (e d : Entry) → Some e ≡ taken_entry told → StepHead d head → told ≡ head ++ body → (d ≡ e) × (behind_head told ≡ Some body)
@@ -86,18 +95,18 @@ pub tail-steps : (k : Kinds) (told body : List Told) (e : Entry) (b : Bool) → 
 tail-steps k told body e b taken_is head_is d = decides-as (IsStepEnd k e body) (IsTailOf k told) b to from d
   where
     to : IsStepEnd k e body → IsTailOf k told
-    to (BreaksIt h) = let step = step-is told body e (sym taken_is) (sym head_is) in BreaksOffIn e step.0 body step.1 h step.2
+    to (BreaksIt on h) = let step = step-is told body e (sym taken_is) (sym head_is) in BreaksOffIn e step.0 body on step.1 h step.2
     to (ReleasesIt any c) = let step = step-is told body e (sym taken_is) (sym head_is) in ReleasesOnly e step.0 body any step.1 c step.2
 
     from : IsTailOf k told → IsStepEnd k e body
     from (EndsHere is) = let none : taken_entry told ≡ None = ap taken_entry is in absurd (cc)
     from (IsSpent is) = let none : taken_entry told ≡ None = ap taken_entry is in absurd (cc)
-    from (TakesOnly f l m d ev any is) = let none : behind_head told ≡ None = ap behind_head is in absurd (cc)
-    from (BreaksOffIn d head more h c is) =
+    from (TakesOnly f l m d known any is) = let none : behind_head told ≡ None = ap behind_head is in absurd (cc)
+    from (BreaksOffIn d head more on h c is) =
         let same = step-told-in told head more e d taken_is h is in
         let both : Some body ≡ Some more = head_is ∙ same.1 in
         let behind : more ≡ body = cc in
-        BreaksIt (subst (λ us. Breaks (k.act (Some e)) (k.last (Some e)) us) behind (subst (λ x. Breaks (k.act (Some x)) (k.last (Some x)) more) same.0 c))
+        BreaksIt on (subst (λ us. Breaks (k.act (Some e)) (k.last (Some e)) us) behind (subst (λ x. Breaks (k.act (Some x)) (k.last (Some x)) more) same.0 c))
     from (ReleasesOnly d head more any h c is) =
         let same = step-told-in told head more e d taken_is h is in
         let both : Some body ≡ Some more = head_is ∙ same.1 in
@@ -111,7 +120,7 @@ both-true false b h = absurd (cc)
 pub tail-takes : (k : Kinds) (told : List Told) (e : Entry) (b : Bool) → Some e ≡ taken_entry told → None ≡ behind_head told → b ≡ (k.anywhere && (length told == 1)) → Decides b (IsTailOf k told)
 tail-takes k told e b taken_is none b_is = decides-by (IsTailOf k told) b sound whole
   where
-    single : (told : List Told) → Some e ≡ taken_entry told → (length told == 1) ≡ true → (f l m : ℕ) × (ev : Event) × (told ≡ taken f l m e ev ∷ [])
+    single : (told : List Told) → Some e ≡ taken_entry told → (length told == 1) ≡ true → (f l m : ℕ) × (known : Known) × (told ≡ takes f l m e known ∷ [])
     single [] h one = absurd (cc)
     single (t ∷ []) h one = let first = taken-is t e (sym h) in (first.0, first.1, first.2, first.3, ap (λ x. x ∷ []) first.4)
     single (t ∷ u ∷ rest) h one = absurd (more (length rest) one)
@@ -127,8 +136,8 @@ tail-takes k told e b taken_is none b_is = decides-by (IsTailOf k told) b sound 
     whole : IsTailOf k told → b ≡ true
     whole (EndsHere is) = let no_entry : taken_entry told ≡ None = ap taken_entry is in absurd (cc)
     whole (IsSpent is) = let no_entry : taken_entry told ≡ None = ap taken_entry is in absurd (cc)
-    whole (TakesOnly f l m d ev any is) = let one : (length told == 1) ≡ true = ap (λ us. length us == 1) is in b_is ∙ rw (any, one) refl
-    whole (BreaksOffIn d head more h c is) = let same = step-told-in told head more e d taken_is h is in let both : None ≡ Some more = none ∙ same.1 in absurd (cc)
+    whole (TakesOnly f l m d known any is) = let one : (length told == 1) ≡ true = ap (λ us. length us == 1) is in b_is ∙ rw (any, one) refl
+    whole (BreaksOffIn d head more on h c is) = let same = step-told-in told head more e d taken_is h is in let both : None ≡ Some more = none ∙ same.1 in absurd (cc)
     whole (ReleasesOnly d head more any h c is) = let same = step-told-in told head more e d taken_is h is in let both : None ≡ Some more = none ∙ same.1 in absurd (cc)
 
 spent-is : (told : List Told) → is_spent told ≡ true → (told ≡ []) ⊎ (told ≡ plain item.Spent ∷ [])
@@ -163,8 +172,8 @@ tail-else k told b none b_is = decides-by (IsTailOf k told) b sound whole
     whole : IsTailOf k told → b ≡ true
     whole (EndsHere is) = b_is ∙ ap is_spent is
     whole (IsSpent is) = b_is ∙ ap is_spent is
-    whole (TakesOnly f l m d ev any is) = let some : taken_entry told ≡ Some d = ap taken_entry is in absurd (cc)
-    whole (BreaksOffIn d head more h c is) = entry d head more h is
+    whole (TakesOnly f l m d known any is) = let some : taken_entry told ≡ Some d = ap taken_entry is in absurd (cc)
+    whole (BreaksOffIn d head more on h c is) = entry d head more h is
     whole (ReleasesOnly d head more any h c is) = entry d head more h is
 
 -- behind a start's `begin`
@@ -180,16 +189,17 @@ start-goes k nils laws told rest more left b reads done turns d =
 
     from : IsStartEnd k nils told → Closes (k.act None) (TurnsOf k nils) told
     from (GoesOn c) = c
-    from (BreaksFirst h) =
+    from (BreaksFirst on h) =
         absurd (break-open (k.act None) k.first (laws.acts None) laws.firsts told reads.whole more h reads.parts (reads.is ∙ ap (λ us. reads.whole ++ us) first))
 
 pub start-breaks : (k : Kinds) (nils : Bool) → KindLaws k → (told rest : List Told) (b : Bool) → ReadsAll (IsElement (k.act None)) told rest → None ≡ behind_done rest
-    → Decides b (Breaks (k.act None) k.first told) → Decides b (IsStartEnd k nils told)
-start-breaks k nils laws told rest b reads none d = decides-as (Breaks (k.act None) k.first told) (IsStartEnd k nils told) b (λ h. BreaksFirst h) from d
+    → Decides b (IsTrue k.cuts × Breaks (k.act None) k.first told) → Decides b (IsStartEnd k nils told)
+start-breaks k nils laws told rest b reads none d =
+    decides-as (IsTrue k.cuts × Breaks (k.act None) k.first told) (IsStartEnd k nils told) b (λ h. BreaksFirst h.0 h.1) from d
   where
-    from : IsStartEnd k nils told → Breaks (k.act None) k.first told
+    from : IsStartEnd k nils told → IsTrue k.cuts × Breaks (k.act None) k.first told
     from (GoesOn c) = absurd (closes-not (k.act None) (TurnsOf k nils) (laws.acts None) told rest reads none c)
-    from (BreaksFirst h) = h
+    from (BreaksFirst on h) = (on, h)
 
 -- the whole list
 pub object-decided : (k : Kinds) (nils : Bool) (told rest : List Told) (b : Bool) → Some rest ≡ behind_begin told → Decides b (IsStartEnd k nils rest) → Decides b (IsObjectOf k nils told)
@@ -200,16 +210,16 @@ object-decided k nils told rest b begins d = decides-as (IsStartEnd k nils rest)
 
     to : IsStartEnd k nils rest → IsObjectOf k nils told
     to (GoesOn c) = Starts rest c first
-    to (BreaksFirst h) = BreaksStart rest h first
+    to (BreaksFirst on h) = BreaksStart rest on h first
 
     from : IsObjectOf k nils told → IsStartEnd k nils rest
     from (Starts body c is) =
         let both : plain item.Begin ∷ body ≡ plain item.Begin ∷ rest = sym is ∙ first in
         let same : body ≡ rest = cc in GoesOn (subst (Closes (k.act None) (TurnsOf k nils)) same c)
-    from (BreaksStart body h is) =
+    from (BreaksStart body on h is) =
         let both : plain item.Begin ∷ body ≡ plain item.Begin ∷ rest = sym is ∙ first in
-        let same : body ≡ rest = cc in BreaksFirst (subst (Breaks (k.act None) k.first) same h)
+        let same : body ≡ rest = cc in BreaksFirst on (subst (Breaks (k.act None) k.first) same h)
 
 pub object-not : (k : Kinds) (nils : Bool) (told : List Told) → None ≡ behind_begin told → IsObjectOf k nils told → ⊥
 object-not k nils told none (Starts body c is) = let some : behind_begin told ≡ Some body = ap behind_begin is in cc
-object-not k nils told none (BreaksStart body h is) = let some : behind_begin told ≡ Some body = ap behind_begin is in cc
+object-not k nils told none (BreaksStart body on h is) = let some : behind_begin told ≡ Some body = ap behind_begin is in cc

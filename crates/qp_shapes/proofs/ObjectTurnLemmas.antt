@@ -1,30 +1,30 @@
 -- What the first records of an object's turns tell, and what stands behind these.
-use Rattle.std.proofs.Common.{◌≡◌, ℕ, Bool, true, List, [], ◌∷◌, ◌++◌, Some, None, refl, sym, ◌∙◌, ap, subst, append_assoc}
+use Rattle.std.proofs.Common.{◌≡◌, ℕ, Bool, true, false, ◌&&◌, List, [], ◌∷◌, ◌++◌, Some, None, refl, sym, ◌∙◌, ap, subst, append_assoc}
 use Rattle.std.specs.declared.option.Option.{Option}
 use Rattle.qp_model.specs.declared.bodies.Entry.{Entry}
 use Rattle.qp_model.specs.declared.bodies.Body.{Body}
 use Rattle.qp_model.specs.declared.bodies.Body.TheVariants as item
-use Rattle.qp_model.specs.Told.{Told, Known, Nothing, OfEvent, Event, plain, taken}
-use Rattle.qp_model.specs.ObjectShape.{StepHead, is_head}
+use Rattle.qp_model.specs.Told.{Told, Known, Nothing, plain}
+use Rattle.qp_model.specs.ObjectShape.{StepHead, is_head, takes}
 use Rattle.qp_shapes.specs.ShapeRelease.{Leaves}
 use Rattle.qp_shapes.specs.GroupsRead.{ReadsAll, IsElement, is_close, is_outer}
 use Rattle.qp_shapes.specs.GroupsFirst.{behind_done}
-use Rattle.qp_shapes.specs.ObjectRead.{Closes, IsTurnOf, Steps, Finds}
-use Rattle.qp_shapes.specs.ObjectFirst.{taken_first, taken_entry, tells_head, behind_head, nil_first, behind_nil, begin_first, behind_begin}
+use Rattle.qp_shapes.specs.ObjectRead.{Closes, is_look, IsTurnOf, Steps, Finds}
+use Rattle.qp_shapes.specs.ObjectFirst.{taken_first, taken_entry, tells_head, behind_head, look_first, behind_look, begin_first, behind_begin}
 use Rattle.qp_shapes.proofs.ShapeReleaseLemmas.{when-passed, told-is}
 use Rattle.qp_shapes.proofs.GroupsReadLemmas.{Parts, reads-close}
 use Rattle.qp_shapes.proofs.GroupsElementLemmas.{element-parts}
 use Rattle.qp_shapes.proofs.GroupsFirstLemmas.{leaves-at, leaves-sound, leaves-whole, done-is}
 
-pub taken-is : (t : Told) (e : Entry) → taken_first t.body t.known ≡ Some e → (f l m : ℕ) × (ev : Event) × (t ≡ taken f l m e ev)
-taken-is t e h = by t.body t.known refl refl h
+pub taken-is : (t : Told) (e : Entry) → taken_first t.body t.known ≡ Some e → (f l m : ℕ) × (known : Known) × (t ≡ takes f l m e known)
+taken-is t e h = by t.body refl h
   where
-    by : (body : Body) (known : Known) → t.body ≡ body → t.known ≡ known → taken_first body known ≡ Some e → (f l m : ℕ) × (ev : Event) × (t ≡ taken f l m e ev)
-    by (item.Took f l m d) (OfEvent ev) is_body is_known h =
+    by : (body : Body) → t.body ≡ body → taken_first body t.known ≡ Some e → (f l m : ℕ) × (known : Known) × (t ≡ takes f l m e known)
+    by (item.Took f l m d) is_body h =
         let same : d ≡ e = cc in
-        let whole : t ≡ taken f l m d ev = told-is t _ _ is_body is_known in
-        (f, l, m, ev, whole ∙ ap (λ x. taken f l m x ev) same)
-    by body known is_body is_known h = absurd (cc)
+        let whole : t ≡ takes f l m d t.known = told-is t _ _ is_body refl in
+        (f, l, m, t.known, whole ∙ ap (λ x. takes f l m x t.known) same)
+    by body is_body h = absurd (cc)
 
 head-tells : (t : Told) → tells_head t.body t.known ≡ true → (b : Body) × (is_head b ≡ true) × (t ≡ plain b)
 head-tells t h = by t.known refl h
@@ -42,11 +42,11 @@ step-is (t ∷ u ∷ rest) body e h k =
     let first = taken-is t e h in
     let test = when-passed (tells_head u.body u.known) rest body k in
     let second = head-tells u test.0 in
-    let one : t ≡ taken first.0 first.1 first.2 e first.3 = first.4 in
+    let one : t ≡ takes first.0 first.1 first.2 e first.3 = first.4 in
     let two : u ≡ plain second.0 = second.2 in
     let behind : rest ≡ body = test.1 in (
       t ∷ u ∷ [],
-      (first.0, first.1, first.2, first.3, second.0, second.1, ap (λ x. x ∷ u ∷ []) one ∙ ap (λ x. taken first.0 first.1 first.2 e first.3 ∷ x ∷ []) two),
+      (first.0, first.1, first.2, first.3, second.0, second.1, ap (λ x. x ∷ u ∷ []) one ∙ ap (λ x. takes first.0 first.1 first.2 e first.3 ∷ x ∷ []) two),
       ap (λ us. t ∷ u ∷ us) behind,
     )
 
@@ -55,7 +55,7 @@ unfolding StepHead
 step-told e head body h =
     subst (λ us. (taken_entry (us ++ body) ≡ Some e) × (behind_head (us ++ body) ≡ Some body)) (sym h.6) (refl, passes h.4 h.5)
   where
-    passes : (b : Body) → is_head b ≡ true → behind_head ((taken h.0 h.1 h.2 e h.3 ∷ plain b ∷ []) ++ body) ≡ Some body
+    passes : (b : Body) → is_head b ≡ true → behind_head ((takes h.0 h.1 h.2 e h.3 ∷ plain b ∷ []) ++ body) ≡ Some body
     passes b is = rw is refl
 
 -- groups, `done`, and more
@@ -95,14 +95,19 @@ closes-none W D laws told rest reads none = leaves-at (Closes W D) told None (λ
         (is ∙ ap (λ us. us ++ other) c.4 ∙ append_assoc c.0 (plain item.Done ∷ c.1) other) in
         let some : behind_done rest ≡ Some (c.1 ++ other) = ap behind_done close in absurd (cc)
 
-nil-entry : (f l m : ℕ) (told rest : List Told) → told ≡ plain (item.Nil f l m) ∷ rest → taken_entry told ≡ None
-nil-entry f l m told rest is = ap taken_entry is
+look-entry : (b : Body) (told rest : List Told) → is_look b ≡ true → told ≡ plain b ∷ rest → taken_entry told ≡ None
+look-entry b told rest look is = ap taken_entry is ∙ by b look
+  where
+    by : (b : Body) → is_look b ≡ true → taken_entry (plain b ∷ rest) ≡ None
+    by (item.Nil f l m) look = refl
+    by (item.Seen p f l m) look = refl
+    by b look = absurd (cc)
 
 -- a step in front of a list
 turn-steps : (act : Option Entry → List Told → Type 0) (release : Entry → List Told → Type 0) (nils : Bool) (told g other : List Told) (e : Entry) → taken_entry told ≡ Some e
     → IsTurnOf act release nils g → told ≡ g ++ other → (body : List Told) × Closes (act (Some e)) (release e) body × (behind_head told ≡ Some (body ++ other))
-turn-steps act release nils told g other e h (Finds f l m n k) is =
-    let none : taken_entry told ≡ None = nil-entry f l m told other (is ∙ ap (λ us. us ++ other) k) in absurd (cc)
+turn-steps act release nils told g other e h (Finds b look n k) is =
+    let none : taken_entry told ≡ None = look-entry b told other look (is ∙ ap (λ us. us ++ other) k) in absurd (cc)
 turn-steps act release nils told g other e h (Steps d head body s c k) is =
     let all : told ≡ head ++ (body ++ other) = is ∙ ap (λ us. us ++ other) k ∙ append_assoc head body other in
     let tells = step-told d head (body ++ other) s in
@@ -136,31 +141,34 @@ turn-headless act release nils told e taken_is none = leaves-at (IsTurnOf act re
         let step = turn-steps act release nils told g other e (sym taken_is) t is in
         let both : None ≡ Some (step.0 ++ other) = none ∙ step.2 in absurd (cc)
 
-nil-is : (nils : Bool) (told rest : List Told) → behind_nil nils told ≡ Some rest → (f l m : ℕ) × (nils ≡ true) × (told ≡ plain (item.Nil f l m) ∷ rest)
-nil-is nils [] rest h = absurd (cc)
-nil-is nils (t ∷ ts) rest h = by t.body t.known refl refl h
-  where
-    by : (body : Body) (known : Known) → t.body ≡ body → t.known ≡ known → nil_first nils body known ts ≡ Some rest → (f l m : ℕ) × (nils ≡ true) × (t ∷ ts ≡ plain (item.Nil f l m) ∷ rest)
-    by (item.Nil f l m) Nothing is_body is_known h =
-        let test = when-passed nils ts rest h in
-        let whole : t ≡ plain (item.Nil f l m) = told-is t _ _ is_body is_known in
-        let behind : ts ≡ rest = test.1 in
-        (f, l, m, test.0, ap (λ u. u ∷ ts) whole ∙ ap (λ us. plain (item.Nil f l m) ∷ us) behind)
-    by body known is_body is_known h = absurd (cc)
+both-true : (a b : Bool) → (a && b) ≡ true → (a ≡ true) × (b ≡ true)
+both-true true b h = (refl, h)
+both-true false b h = absurd (cc)
 
-pub turn-nil : (act : Option Entry → List Told → Type 0) (release : Entry → List Told → Type 0) (nils : Bool) (told : List Told) (r : Option (List Told))
-    → None ≡ taken_entry told → r ≡ behind_nil nils told → Leaves (IsTurnOf act release nils) told r
-turn-nil act release nils told r none r_is = leaves-at (IsTurnOf act release nils) told r sound whole
+look-is : (nils : Bool) (told rest : List Told) → behind_look nils told ≡ Some rest → (b : Body) × (is_look b ≡ true) × (nils ≡ true) × (told ≡ plain b ∷ rest)
+look-is nils [] rest h = absurd (cc)
+look-is nils (t ∷ ts) rest h = by t.known refl h
+  where
+    by : (known : Known) → t.known ≡ known → look_first nils t.body known ts ≡ Some rest → (b : Body) × (is_look b ≡ true) × (nils ≡ true) × (t ∷ ts ≡ plain b ∷ rest)
+    by Nothing is_known h =
+        let test = when-passed (is_look t.body && nils) ts rest h in
+        let tests = both-true (is_look t.body) nils test.0 in
+        let whole : t ≡ plain t.body = told-is t _ _ refl is_known in
+        let behind : ts ≡ rest = test.1 in
+        (t.body, tests.0, tests.1, ap (λ u. u ∷ ts) whole ∙ ap (λ us. plain t.body ∷ us) behind)
+    by known is_known h = absurd (cc)
+
+pub turn-look : (act : Option Entry → List Told → Type 0) (release : Entry → List Told → Type 0) (nils : Bool) (told : List Told) (r : Option (List Told))
+    → None ≡ taken_entry told → r ≡ behind_look nils told → Leaves (IsTurnOf act release nils) told r
+turn-look act release nils told r none r_is = leaves-at (IsTurnOf act release nils) told r sound whole
   where
     sound : (left : List Told) → r ≡ Some left → (g : List Told) × IsTurnOf act release nils g × (told ≡ g ++ left)
-    sound left is =
-        let found = nil-is nils told left (sym r_is ∙ is) in
-        (plain (item.Nil found.0 found.1 found.2) ∷ [], Finds found.0 found.1 found.2 found.3 refl, found.4)
+    sound left is = let found = look-is nils told left (sym r_is ∙ is) in (plain found.0 ∷ [], Finds found.0 found.1 found.2 refl, found.3)
 
     whole : (g other : List Told) → told ≡ g ++ other → IsTurnOf act release nils g → r ≡ Some other
-    whole g other is (Finds f l m n k) =
-        let all : told ≡ plain (item.Nil f l m) ∷ other = is ∙ ap (λ us. us ++ other) k in
-        r_is ∙ ap (behind_nil nils) all ∙ rw n refl
+    whole g other is (Finds b look n k) =
+        let all : told ≡ plain b ∷ other = is ∙ ap (λ us. us ++ other) k in
+        r_is ∙ ap (behind_look nils) all ∙ rw (look, n) refl
     whole g other is (Steps d head body s c k) =
         let all : told ≡ head ++ (body ++ other) = is ∙ ap (λ us. us ++ other) k ∙ append_assoc head body other in
         let tells = step-told d head (body ++ other) s in

@@ -10,7 +10,7 @@ use Rattle.qp_model.specs.Calls as call
 use Rattle.qp_model.specs.Calls.{Call, Answer, Granted, Refused, Flushed, AtQueue, AtPool, AtTimer, AtTicks, AtFront, is_assertion}
 use Rattle.qp_model.specs.Parts.{is_static, sizes_of}
 use Rattle.qp_model.specs.Sites.{ring_of}
-use Rattle.qp_model.specs.Shapes.{Fits, Publishes}
+use Rattle.qp_model.specs.Shapes.{Fits, FitsAny, Publishes}
 use Rattle.qp_model.proofs.LineLemmas.{same_number}
 use Rattle.qp_shapes.specs.ShapeRelease.{Leaves}
 use Rattle.qp_shapes.specs.ShapeUnit.{IsUnit, goes_to, behind_entry, plain_first, given_first, behind_unit}
@@ -99,13 +99,13 @@ unit-none sys o now (t ∷ ts) rest h = let step = run-step sys o t ts stage.Sta
 
 -- publications, as the shapes of calls have them
 pub fits-publication : (sys : System) (o : ℕ) (now : Option Entry) (sig : ℕ) (pars : List ℕ) (b : Bool) (g : List Told)
-    → Publishes (is_static sys sig) (sizes_of sys) (ring_of sys) o sig pars None (answer_of b) g → Fits sys o now (call.Publish sig pars None) (answer_of b) g
-unfolding Fits
+    → Publishes (is_static sys sig) (sizes_of sys) (ring_of sys) o sig pars None (answer_of b) g → FitsAny sys o now (call.Publish sig pars None) (answer_of b) g
+unfolding FitsAny Fits
 fits-publication sys o now sig pars b g h = h
 
 pub publication-run : (sys : System) (o : ℕ) (now : Option Entry) (sig : ℕ) (pars : List ℕ) (reserve : Option ℕ) (b : Bool) (g : List Told)
-    → Fits sys o now (call.Publish sig pars reserve) (answer_of b) g → run sys o g stage.Start ≡ Some (end_of b)
-unfolding Fits
+    → FitsAny sys o now (call.Publish sig pars reserve) (answer_of b) g → run sys o g stage.Start ≡ Some (end_of b)
+unfolding FitsAny Fits
 publication-run sys o now sig pars reserve b g h = start-whole sys o sig pars reserve b g h
 
 of-publication : (sys : System) (o : ℕ) (now : Option Entry) (g : List Told) → IsPublication sys o true g → IsWhole sys o now g

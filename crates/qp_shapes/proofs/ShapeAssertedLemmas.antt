@@ -11,8 +11,8 @@ use Rattle.qp_model.specs.Told.{Told, Known, Nothing, Free, plain, given}
 use Rattle.qp_model.specs.Calls as call
 use Rattle.qp_model.specs.Calls.{Call, Answer, Granted, Refused, Flushed, AtQueue, AtPool, AtTimer, AtTicks, AtFront, is_assertion}
 use Rattle.qp_model.specs.Parts.{is_static, sizes_of}
-use Rattle.qp_model.specs.Shapes.{Fits, MakesNew, MakesBlock, MakesAgain, Posts, PostsFront, PostsNew, PostsNewFront, Recalls, ticks_fit}
-use Rattle.qp_shapes.specs.ShapeUnit.{goes_to, some_static, is_own_timer}
+use Rattle.qp_model.specs.Shapes.{Fits, FitsAny, MakesNew, MakesBlock, MakesAgain, Posts, PostsFront, PostsNew, PostsNewFront, Recalls}
+use Rattle.qp_shapes.specs.ShapeUnit.{goes_to, some_static}
 use Rattle.qp_shapes.proofs.ShapeReleaseLemmas.{when-passed, told-is}
 use Rattle.qp_shapes.proofs.ShapePostLemmas.{new-block, again-static, again-pooled}
 use Rattle.qp_shapes.proofs.ShapePartLemmas.{goes-first}
@@ -47,7 +47,7 @@ no_lifo-sound o (t ∷ ts) rest h = by t.body t.known refl refl h
 cut-asserted : (sys : System) (o : ℕ) (now : Option Entry) (p n b from sig free r : ℕ) (pars : List ℕ) (told rest : List Told)
     → nat_lt 0 free ≡ true → goes_to (sizes_of sys) (length pars) p ≡ true → is_static sys sig ≡ false → behind_cut o told ≡ Some rest
     → (g : List Told) × IsAsserted sys o now (given p n b from sig pars free ∷ plain (item.Inc p b r) ∷ g) × (told ≡ g ++ rest)
-unfolding Fits PostsNew PostsNewFront Posts PostsFront MakesBlock
+unfolding FitsAny Fits PostsNew PostsNewFront Posts PostsFront MakesBlock
 cut-asserted sys o now p n b from sig free r pars [] rest above goes pooled k = absurd (cc)
 cut-asserted sys o now p n b from sig free r pars (t ∷ ts) rest above goes pooled k = by t.body t.known refl refl k
   where
@@ -93,7 +93,7 @@ new-asserted sys o now p n b from sig free pars (t ∷ ts) rest above goes poole
 -- a recalled entry that finds no place
 recall-asserted : (sys : System) (o : ℕ) (now : Option Entry) (k : Entry) (told rest : List Told) → behind_recall_cut o k told ≡ Some rest
     → (g : List Told) × IsAsserted sys o now (plain (item.Recall k) ∷ g) × (told ≡ g ++ rest)
-unfolding behind_recall_cut Fits Recalls PostsFront
+unfolding behind_recall_cut FitsAny Fits Recalls PostsFront
 recall-asserted sys o now k told rest h = by (k.pool == 0) refl h
   where
     asserted : (head : List Told) (e : Entry) (f l m : ℕ) → MakesAgain k head e → IsAsserted sys o now (plain (item.Recall k) ∷ (head ++ (plain (item.NoLifo o f l m) ∷ [])))
@@ -144,12 +144,9 @@ plain-sound sys o now t ts rest (item.NoLifo a f l m) is h =
     let tests = both (some_static sys) (a == o) test.0 in
     let own : a ≡ o = number a o tests.1 in
     one-record sys o now t ts rest (plain (item.NoLifo o f l m)) (cc) (no_lifo-asserted sys o now f l m tests.0) test.1
-plain-sound sys o now t ts rest (item.NoBlock p n) is h = let test = when-passed _ ts rest h in one-record sys o now t ts rest _ is (no_block-asserted sys o now p n test.0) test.1
-plain-sound sys o now t ts rest (item.Armed u n counter) is h = let test = when-passed _ ts rest h in one-record sys o now t ts rest _ is (armed-asserted sys o now u n counter test.0) test.1
-plain-sound sys o now t ts rest (item.BadTicks u ticks interval) is h =
-    let test = when-passed _ ts rest h in
-    let tests = both (is_own_timer sys o u) (not (ticks_fit ticks interval)) test.0 in
-    one-record sys o now t ts rest _ is (bad_ticks-asserted sys o now u ticks interval tests.0 (not-true (ticks_fit ticks interval) tests.1)) test.1
+plain-sound sys o now t ts rest (item.NoBlock p n free) is h = let test = when-passed _ ts rest h in one-record sys o now t ts rest _ is (no_block-asserted sys o now p n free test.0) test.1
+plain-sound sys o now t ts rest (item.Armed u n counter) is h = one-record sys o now t ts rest _ is (armed-asserted sys o now u n counter) (cc)
+plain-sound sys o now t ts rest (item.BadTicks u ticks interval) is h = one-record sys o now t ts rest _ is (bad_ticks-asserted sys o now u ticks interval) (cc)
 plain-sound sys o now t ts rest (item.Inc p b r) is h =
     let test = passed _ _ rest h in
     let post = no_entry-sound ts rest test.1 in

@@ -10,13 +10,13 @@ use Rattle.qp_model.specs.Record.{entry}
 use Rattle.qp_model.specs.Told.{Told, plain}
 use Rattle.qp_model.specs.Calls as call
 use Rattle.qp_model.specs.Calls.{Call, Answer, Granted, Refused, Flushed, AtQueue, AtPool, AtTimer, AtTicks, AtFront, is_assertion}
-use Rattle.qp_model.specs.Parts.{is_static, sizes_of, timer_number}
+use Rattle.qp_model.specs.Parts.{is_static, sizes_of}
 use Rattle.qp_model.specs.Sites.{ring_of}
-use Rattle.qp_model.specs.Shapes.{Fits, MakesBlock, NoBlockFor, MakesAgain, MakesAgainNow, Posts, PostsFront, PostsNew, PostsNewFront, Forwards, Defers, Recalls, Subscribes, Unsubscribes, Arms, Rearms, Disarms, ticks_fit}
+use Rattle.qp_model.specs.Shapes.{Fits, FitsAny, MakesBlock, NoBlockFor, MakesAgain, MakesAgainNow, Posts, PostsFront, PostsNew, PostsNewFront, Forwards, Defers, Recalls, Subscribes, Unsubscribes, Arms, Rearms, Disarms}
 use Rattle.qp_model.proofs.LineLemmas.{same_number}
-use Rattle.qp_shapes.specs.ShapeUnit.{is_used, works_on, works_on_static, some_static, is_own_timer}
+use Rattle.qp_shapes.specs.ShapeUnit.{is_used, works_on, works_on_static, some_static}
 use Rattle.qp_shapes.proofs.ShapePostLemmas.{new-static, new-cases, again-cases, again-static, again-pooled}
-use Rattle.qp_shapes.proofs.ShapePartLemmas.{timer-own, own-timer, static-some, some-static, first-goes, used-first, first-used}
+use Rattle.qp_shapes.proofs.ShapePartLemmas.{static-some, some-static, first-goes, used-first, first-used}
 use Rattle.qp_shapes.specs.ShapeAssertion.{IsAsserted, Asserts, behind_cut, behind_recall_cut, plain_cut, given_cut, behind_assertion}
 use Rattle.qp_shapes.proofs.ShapeSoundLemmas.{number}
 use Rattle.qp_shapes.proofs.ShapeWholeLemmas.{or-left, or-right}
@@ -53,9 +53,9 @@ front-cut o head e AtTicks g h cut = absurd h
 
 -- no block for a new event
 block-cut : (fixed : Bool) (sizes : List ℕ) (pars : List ℕ) (reserve : Option ℕ) (answer : Answer) (g : List Told)
-    → NoBlockFor fixed sizes pars reserve answer g → is_assertion answer ≡ true → (p n : ℕ) × (g ≡ plain (item.NoBlock p n) ∷ []) × (is_used sizes p ≡ true)
+    → NoBlockFor fixed sizes pars reserve answer g → is_assertion answer ≡ true → (p n free : ℕ) × (g ≡ plain (item.NoBlock p n free) ∷ []) × (is_used sizes p ≡ true)
 unfolding NoBlockFor
-block-cut fixed sizes pars None AtPool g h cut = (h.0, h.1, h.4, first-used sizes (length pars) h.0 h.3)
+block-cut fixed sizes pars None AtPool g h cut = (h.0, h.1, h.2, h.5, first-used sizes (length pars) h.0 h.4)
 block-cut fixed sizes pars (Some r) Refused g h cut = absurd (cc)
 block-cut fixed sizes pars None Granted g h cut = absurd h
 block-cut fixed sizes pars None Refused g h cut = absurd h
@@ -87,7 +87,7 @@ given-whole sys o now sig pars reserve head e tail rest pooled h behind =
 post-whole : (sys : System) (o : ℕ) (now : Option Entry) (to sig : ℕ) (pars : List ℕ) (margin reserve : Option ℕ) (answer : Answer) (g rest : List Told)
     → PostsNew (is_static sys sig) (sizes_of sys) (ring_of sys to) to sig pars margin reserve answer g → is_assertion answer ≡ true → behind_assertion sys o now (g ++ rest) ≡ Some rest
 unfolding PostsNew plain_cut
-post-whole sys o now to sig pars margin reserve answer g rest (inl h) cut = let none = block-cut _ _ pars reserve answer g h cut in rw (none.2, none.3) refl
+post-whole sys o now to sig pars margin reserve answer g rest (inl h) cut = let none = block-cut _ _ pars reserve answer g h cut in rw (none.3, none.4) refl
 post-whole sys o now to sig pars margin reserve answer g rest (inr h) cut =
     let post = post-cut _ to margin h.0 h.1 answer g h.3 cut in
     subst (λ us. behind_assertion sys o now us ≡ Some rest) (sym (ap (λ us. us ++ rest) post.3 ∙ append_assoc h.0 (plain (item.NoEntry to post.0 post.1 post.2) ∷ []) rest))
@@ -102,7 +102,7 @@ post-whole sys o now to sig pars margin reserve answer g rest (inr h) cut =
 lifo-whole : (sys : System) (o : ℕ) (now : Option Entry) (sig : ℕ) (pars : List ℕ) (reserve : Option ℕ) (answer : Answer) (g rest : List Told)
     → PostsNewFront (is_static sys sig) (sizes_of sys) o sig pars reserve answer g → is_assertion answer ≡ true → behind_assertion sys o now (g ++ rest) ≡ Some rest
 unfolding PostsNewFront plain_cut
-lifo-whole sys o now sig pars reserve answer g rest (inl h) cut = let none = block-cut _ _ pars reserve answer g h cut in rw (none.2, none.3) refl
+lifo-whole sys o now sig pars reserve answer g rest (inl h) cut = let none = block-cut _ _ pars reserve answer g h cut in rw (none.3, none.4) refl
 lifo-whole sys o now sig pars reserve answer g rest (inr h) cut =
     let front = front-cut o h.0 h.1 answer g h.3 cut in
     subst (λ us. behind_assertion sys o now us ≡ Some rest) (sym (ap (λ us. us ++ rest) front.3 ∙ append_assoc h.0 (plain (item.NoLifo o front.0 front.1 front.2) ∷ []) rest))
@@ -158,10 +158,10 @@ recall-whole sys o now AtTimer g rest h cut = absurd h
 recall-whole sys o now AtTicks g rest h cut = absurd h
 
 arm-whole : (sys : System) (o : ℕ) (now : Option Entry) (t ticks interval : ℕ) (answer : Answer) (g rest : List Told)
-    → Arms (timer_number sys.timers o t) ticks interval answer g → is_assertion answer ≡ true → behind_assertion sys o now (g ++ rest) ≡ Some rest
+    → Arms t ticks interval answer g → is_assertion answer ≡ true → behind_assertion sys o now (g ++ rest) ≡ Some rest
 unfolding Arms plain_cut
-arm-whole sys o now t ticks interval AtTimer g rest h cut = rw (h.2, timer-own sys o t) refl
-arm-whole sys o now t ticks interval AtTicks g rest h cut = rw (h.0, timer-own sys o t, h.1) refl
+arm-whole sys o now t ticks interval AtTimer g rest h cut = rw h.2 refl
+arm-whole sys o now t ticks interval AtTicks g rest h cut = rw h refl
 arm-whole sys o now t ticks interval Granted g rest h cut = absurd (cc)
 arm-whole sys o now t ticks interval Refused g rest h cut = absurd h
 arm-whole sys o now t ticks interval (Flushed n) g rest h cut = absurd h
@@ -170,9 +170,9 @@ arm-whole sys o now t ticks interval AtPool g rest h cut = absurd h
 arm-whole sys o now t ticks interval AtFront g rest h cut = absurd h
 
 rearm-whole : (sys : System) (o : ℕ) (now : Option Entry) (t ticks : ℕ) (answer : Answer) (g rest : List Told)
-    → Rearms (timer_number sys.timers o t) ticks answer g → is_assertion answer ≡ true → behind_assertion sys o now (g ++ rest) ≡ Some rest
+    → Rearms t ticks answer g → is_assertion answer ≡ true → behind_assertion sys o now (g ++ rest) ≡ Some rest
 unfolding Rearms plain_cut
-rearm-whole sys o now t ticks AtTicks g rest h cut = rw (h.0, timer-own sys o t, h.1) refl
+rearm-whole sys o now t ticks AtTicks g rest h cut = rw h refl
 rearm-whole sys o now t ticks Granted g rest h cut = absurd (cc)
 rearm-whole sys o now t ticks Refused g rest h cut = absurd (cc)
 rearm-whole sys o now t ticks (Flushed n) g rest h cut = absurd h
@@ -227,7 +227,7 @@ defer-none now AtTicks g h cut = h
 defer-none now AtFront g h cut = h
 
 pub assertion-whole : (sys : System) (o : ℕ) (now : Option Entry) (g rest : List Told) → IsAsserted sys o now g → behind_assertion sys o now (g ++ rest) ≡ Some rest
-unfolding Fits
+unfolding FitsAny Fits
 assertion-whole sys o now g rest (Asserts (call.Post to sig pars margin reserve) answer single h cut) = post-whole sys o now to sig pars margin reserve answer g rest h cut
 assertion-whole sys o now g rest (Asserts (call.Lifo sig pars reserve) answer single h cut) = lifo-whole sys o now sig pars reserve answer g rest h cut
 assertion-whole sys o now g rest (Asserts (call.Forward to margin) answer single h cut) = forward-whole sys o now to margin answer g rest h cut
@@ -239,7 +239,7 @@ assertion-whole sys o now g rest (Asserts (call.Subscribe sig) answer single h c
 assertion-whole sys o now g rest (Asserts (call.Unsubscribe sig) answer single h cut) = absurd (unsubscribe-none sig answer g h cut)
 assertion-whole sys o now g rest (Asserts (call.Arm t ticks interval) answer single h cut) = arm-whole sys o now t ticks interval answer g rest h cut
 assertion-whole sys o now g rest (Asserts (call.Rearm t ticks) answer single h cut) = rearm-whole sys o now t ticks answer g rest h cut
-assertion-whole sys o now g rest (Asserts (call.Disarm t) answer single h cut) = absurd (disarm-none (timer_number sys.timers o t) answer g h cut)
+assertion-whole sys o now g rest (Asserts (call.Disarm t) answer single h cut) = absurd (disarm-none t answer g h cut)
 
 pub not-true : (b : Bool) → not b ≡ true → b ≡ false
 not-true true h = absurd (cc)
@@ -247,7 +247,7 @@ not-true false h = refl
 
 -- Conversely each is such a call: a post that finds no entry,
 pub no_entry-asserted : (sys : System) (o : ℕ) (now : Option Entry) (a f l m : ℕ) → (some_static sys ≡ true) ⊎ (works_on_static now ≡ true) → IsAsserted sys o now (plain (item.NoEntry a f l m) ∷ [])
-unfolding Fits PostsNew Posts Forwards MakesAgainNow
+unfolding FitsAny Fits PostsNew Posts Forwards MakesAgainNow
 no_entry-asserted sys o now a f l m (inl h) =
     let sig = some-static sys h in
     Asserts (call.Post a sig.0 [] None None) AtQueue refl (inr ([], entry 0 sig.0 0, new-static (is_static sys sig.0) (sizes_of sys) sig.0 [] None sig.1, (f, l, m, refl))) refl
@@ -255,31 +255,27 @@ no_entry-asserted sys o None a f l m (inr h) = absurd (cc)
 no_entry-asserted sys o (Some k) a f l m (inr h) = Asserts (call.Forward a None) AtQueue refl ([], k, again-static k (number k.pool 0 h), (f, l, m, refl)) refl
 
 pub no_lifo-asserted : (sys : System) (o : ℕ) (now : Option Entry) (f l m : ℕ) → some_static sys ≡ true → IsAsserted sys o now (plain (item.NoLifo o f l m) ∷ [])
-unfolding Fits PostsNewFront PostsFront
+unfolding FitsAny Fits PostsNewFront PostsFront
 no_lifo-asserted sys o now f l m h =
     let sig = some-static sys h in
     Asserts (call.Lifo sig.0 [] None) AtFront refl (inr ([], entry 0 sig.0 0, new-static (is_static sys sig.0) (sizes_of sys) sig.0 [] None sig.1, (f, l, m, refl))) refl
 
-pub no_block-asserted : (sys : System) (o : ℕ) (now : Option Entry) (p n : ℕ) → is_used (sizes_of sys) p ≡ true → IsAsserted sys o now (plain (item.NoBlock p n) ∷ [])
-unfolding Fits PostsNew NoBlockFor is_static
-no_block-asserted sys o now p n h = let pars = used-first (sizes_of sys) p h in Asserts (call.Post 0 0 pars.0 None None) AtPool refl (inl (p, n, refl, pars.1, refl)) refl
+pub no_block-asserted : (sys : System) (o : ℕ) (now : Option Entry) (p n free : ℕ) → is_used (sizes_of sys) p ≡ true → IsAsserted sys o now (plain (item.NoBlock p n free) ∷ [])
+unfolding FitsAny Fits PostsNew NoBlockFor is_static
+no_block-asserted sys o now p n free h = let pars = used-first (sizes_of sys) p h in Asserts (call.Post 0 0 pars.0 None None) AtPool refl (inl (p, n, free, refl, pars.1, refl)) refl
 
--- a timer that was armed, or that takes no such values,
-pub armed-asserted : (sys : System) (o : ℕ) (now : Option Entry) (t n counter : ℕ) → is_own_timer sys o t ≡ true → IsAsserted sys o now (plain (item.Armed t n counter) ∷ [])
-unfolding Fits Arms ticks_fit
-armed-asserted sys o now t n counter own =
-    let place = own-timer sys o t own in
-    Asserts (call.Arm place.0 1 0) AtTimer refl (n, counter, ap (λ x. plain (item.Armed x n counter) ∷ []) (sym place.1), refl) refl
+-- a timer that was armed, or values that are refused,
+pub armed-asserted : (sys : System) (o : ℕ) (now : Option Entry) (t n counter : ℕ) → IsAsserted sys o now (plain (item.Armed t n counter) ∷ [])
+unfolding FitsAny Arms
+armed-asserted sys o now t n counter = Asserts (call.Arm t 1 0) AtTimer refl (n, counter, refl) refl
 
-pub bad_ticks-asserted : (sys : System) (o : ℕ) (now : Option Entry) (t ticks interval : ℕ) → is_own_timer sys o t ≡ true → ticks_fit ticks interval ≡ false → IsAsserted sys o now (plain (item.BadTicks t ticks interval) ∷ [])
-unfolding Fits Arms
-bad_ticks-asserted sys o now t ticks interval own bad =
-    let place = own-timer sys o t own in
-    Asserts (call.Arm place.0 ticks interval) AtTicks refl (ap (λ x. plain (item.BadTicks x ticks interval) ∷ []) (sym place.1), bad) refl
+pub bad_ticks-asserted : (sys : System) (o : ℕ) (now : Option Entry) (t ticks interval : ℕ) → IsAsserted sys o now (plain (item.BadTicks t ticks interval) ∷ [])
+unfolding FitsAny Arms
+bad_ticks-asserted sys o now t ticks interval = Asserts (call.Arm t ticks interval) AtTicks refl refl refl
 
 -- a post of an entry with a reference of its own
 pub again-asserted : (sys : System) (o : ℕ) (now : Option Entry) (p b r a f l m : ℕ) → works_on now p b ≡ true → IsAsserted sys o now (plain (item.Inc p b r) ∷ plain (item.NoEntry a f l m) ∷ [])
-unfolding Fits Forwards MakesAgainNow Posts
+unfolding FitsAny Fits Forwards MakesAgainNow Posts
 again-asserted sys o None p b r a f l m h = absurd (cc)
 again-asserted sys o (Some now) p b r a f l m h =
     let pooled : nat_lt 0 now.pool ≡ true = grind (arith, nat_tests) in

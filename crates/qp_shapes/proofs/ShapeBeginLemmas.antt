@@ -8,8 +8,7 @@ use Rattle.qp_model.specs.declared.bodies.Body.TheVariants as item
 use Rattle.qp_model.specs.Record.{entry}
 use Rattle.qp_model.specs.Told.{Told, Known, Nothing, Free, Member, plain}
 use Rattle.qp_model.specs.Parts.{is_static, sizes_of}
-use Rattle.qp_model.specs.Shapes.{ticks_fit}
-use Rattle.qp_shapes.specs.ShapeUnit.{is_used, goes_to, had_room, is_static_entry, is_static_now, works_on, works_on_static, some_static, is_own_timer, behind_again, behind_new, plain_first, given_first, member_first, unit_first, behind_unit}
+use Rattle.qp_shapes.specs.ShapeUnit.{is_used, goes_to, had_room, is_static_entry, is_static_now, works_on, works_on_static, some_static, behind_again, behind_new, plain_first, given_first, member_first, unit_first, behind_unit}
 use Rattle.qp_shapes.specs.ShapeAssertion.{behind_no_entry, behind_new_cut, plain_cut, given_cut, assertion_first, behind_assertion}
 use Rattle.qp_shapes.specs.ShapePublication.{is_done}
 use Rattle.qp_shapes.specs.ShapeFront.{again_front, new_front, plain_front, given_front, unit_front_first, unit_front}
@@ -46,10 +45,10 @@ plain-unit sys o now (item.Unsub sig n) ts back h = leaf-unit sys o now (item.Un
 plain-unit sys o now item.NoDefer ts back h = leaf-unit sys o now item.NoDefer ts back (true, λ rest. refl) h
 plain-unit sys o now item.NoRecall ts back h = leaf-unit sys o now item.NoRecall ts back (true, λ rest. refl) h
 plain-unit sys o now (item.Short p n free r) ts back h = leaf-unit sys o now (item.Short p n free r) ts back (is_used (sizes_of sys) p, λ rest. refl) h
-plain-unit sys o now (item.Arm t n ticks interval) ts back h = leaf-unit sys o now (item.Arm t n ticks interval) ts back (is_own_timer sys o t && ticks_fit ticks interval, λ rest. refl) h
-plain-unit sys o now (item.Rearm t n former ticks) ts back h = leaf-unit sys o now (item.Rearm t n former ticks) ts back (is_own_timer sys o t && ticks_fit ticks 0, λ rest. refl) h
-plain-unit sys o now (item.Disarm t n former) ts back h = leaf-unit sys o now (item.Disarm t n former) ts back (is_own_timer sys o t, λ rest. refl) h
-plain-unit sys o now (item.Idle t n) ts back h = leaf-unit sys o now (item.Idle t n) ts back (is_own_timer sys o t, λ rest. refl) h
+plain-unit sys o now (item.Arm t n ticks interval) ts back h = leaf-unit sys o now (item.Arm t n ticks interval) ts back (true, λ rest. refl) h
+plain-unit sys o now (item.Rearm t n former ticks) ts back h = leaf-unit sys o now (item.Rearm t n former ticks) ts back (true, λ rest. refl) h
+plain-unit sys o now (item.Disarm t n former) ts back h = leaf-unit sys o now (item.Disarm t n former) ts back (true, λ rest. refl) h
+plain-unit sys o now (item.Idle t n) ts back h = leaf-unit sys o now (item.Idle t n) ts back (true, λ rest. refl) h
 plain-unit sys o now (item.Post a f l m e) ts back h =
     leaf-unit sys o now (item.Post a f l m e) ts back (had_room sys a f l m && (is_static_entry sys e || is_static_now now e), λ rest. refl) h
 plain-unit sys o now (item.Full a f l m k) ts back h = leaf-unit sys o now (item.Full a f l m k) ts back (some_static sys || works_on_static now, λ rest. refl) h
@@ -70,10 +69,10 @@ plain-asserted sys o now (item.Inc p b r) ts back h =
 plain-asserted sys o now (item.Recall k) ts back h = recall-whole sys o k ts back (inr h)
 plain-asserted sys o now (item.NoEntry a f l m) ts back h = leaf-cut sys o now (item.NoEntry a f l m) ts back (some_static sys || works_on_static now, λ rest. refl) h
 plain-asserted sys o now (item.NoLifo a f l m) ts back h = leaf-cut sys o now (item.NoLifo a f l m) ts back (some_static sys && (a == o), λ rest. refl) h
-plain-asserted sys o now (item.NoBlock p n) ts back h = leaf-cut sys o now (item.NoBlock p n) ts back (is_used (sizes_of sys) p, λ rest. refl) h
-plain-asserted sys o now (item.Armed t n counter) ts back h = leaf-cut sys o now (item.Armed t n counter) ts back (is_own_timer sys o t, λ rest. refl) h
+plain-asserted sys o now (item.NoBlock p n free) ts back h = leaf-cut sys o now (item.NoBlock p n free) ts back (is_used (sizes_of sys) p, λ rest. refl) h
+plain-asserted sys o now (item.Armed t n counter) ts back h = leaf-cut sys o now (item.Armed t n counter) ts back (true, λ rest. refl) h
 plain-asserted sys o now (item.BadTicks t ticks interval) ts back h =
-    leaf-cut sys o now (item.BadTicks t ticks interval) ts back (is_own_timer sys o t && not (ticks_fit ticks interval), λ rest. refl) h
+    leaf-cut sys o now (item.BadTicks t ticks interval) ts back (true, λ rest. refl) h
 plain-asserted sys o now body ts back h = absurd (cc)
 
 -- a block given out

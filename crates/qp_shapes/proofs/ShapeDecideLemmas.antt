@@ -10,7 +10,7 @@ use Rattle.qp_model.specs.Told.{Told, plain}
 use Rattle.qp_model.specs.Calls as call
 use Rattle.qp_model.specs.Calls.{Call, Answer, Granted, Refused, Flushed, AtQueue, AtPool, AtTimer, AtTicks, AtFront, is_assertion}
 use Rattle.qp_model.specs.Parts.{sizes_of}
-use Rattle.qp_model.specs.Shapes.{Fits, NoBlockFor, Publishes}
+use Rattle.qp_model.specs.Shapes.{Fits, FitsAny, NoBlockFor, Publishes}
 use Rattle.qp_model.specs.Groups.{is_post, ends_in_post}
 use Rattle.qp_shapes.specs.ShapeRelease.{Leaves}
 use Rattle.qp_shapes.specs.ShapeUnit.{is_single}
@@ -74,11 +74,11 @@ asserts-sound sys o now told h = by (either (is_done (behind_assertion sys o now
 
 -- a publication that ends in its assertion: in the place of a post, or for want of a block
 publish-cut : (sys : System) (o : ℕ) (now : Option Entry) (sig : ℕ) (pars : List ℕ) (reserve : Option ℕ) (answer : Answer) (g : List Told)
-    → Fits sys o now (call.Publish sig pars reserve) answer g → is_assertion answer ≡ true → (run sys o g stage.Start ≡ Some stage.Cut) ⊎ IsAsserted sys o now g
-unfolding Fits Publishes NoBlockFor
+    → FitsAny sys o now (call.Publish sig pars reserve) answer g → is_assertion answer ≡ true → (run sys o g stage.Start ≡ Some stage.Cut) ⊎ IsAsserted sys o now g
+unfolding FitsAny Fits Publishes NoBlockFor
 publish-cut sys o now sig pars reserve AtQueue g h cut = inl (publication-run sys o now sig pars reserve false g h)
 publish-cut sys o now sig pars None AtPool g h cut =
-    inr (subst (λ us. IsAsserted sys o now us) (sym h.4) (no_block-asserted sys o now h.0 h.1 (first-used (sizes_of sys) (length pars) h.0 h.3)))
+    inr (subst (λ us. IsAsserted sys o now us) (sym h.5) (no_block-asserted sys o now h.0 h.1 h.2 (first-used (sizes_of sys) (length pars) h.0 h.4)))
 publish-cut sys o now sig pars (Some r) AtPool g h cut = absurd h
 publish-cut sys o now sig pars reserve Granted g h cut = absurd (cc)
 publish-cut sys o now sig pars reserve Refused g h cut = absurd (cc)
@@ -90,8 +90,8 @@ publish-cut sys o now sig pars (Some r) AtTimer g h cut = absurd h
 publish-cut sys o now sig pars (Some r) AtTicks g h cut = absurd h
 publish-cut sys o now sig pars (Some r) AtFront g h cut = absurd h
 
-flush-uncut : (sys : System) (o : ℕ) (now : Option Entry) (answer : Answer) (g : List Told) → Fits sys o now call.Flush answer g → is_assertion answer ≡ true → ⊥
-unfolding Fits
+flush-uncut : (sys : System) (o : ℕ) (now : Option Entry) (answer : Answer) (g : List Told) → FitsAny sys o now call.Flush answer g → is_assertion answer ≡ true → ⊥
+unfolding FitsAny Fits
 flush-uncut sys o now (Flushed n) g h cut = cc
 flush-uncut sys o now Granted g h cut = h
 flush-uncut sys o now Refused g h cut = h
@@ -105,10 +105,10 @@ flush-uncut sys o now AtFront g h cut = h
 pub cut-read : (sys : System) (o : ℕ) (now : Option Entry) (g : List Told) → IsCut sys o now g → (run sys o g stage.Start ≡ Some stage.Cut) ⊎ IsAsserted sys o now g
 cut-read sys o now g h = by h.0 h.2
   where
-    single : (x : Call) → is_single x ≡ true → Fits sys o now x h.1 g → (run sys o g stage.Start ≡ Some stage.Cut) ⊎ IsAsserted sys o now g
+    single : (x : Call) → is_single x ≡ true → FitsAny sys o now x h.1 g → (run sys o g stage.Start ≡ Some stage.Cut) ⊎ IsAsserted sys o now g
     single x is fits = inr (Asserts x h.1 is fits h.3)
 
-    by : (x : Call) → Fits sys o now x h.1 g → (run sys o g stage.Start ≡ Some stage.Cut) ⊎ IsAsserted sys o now g
+    by : (x : Call) → FitsAny sys o now x h.1 g → (run sys o g stage.Start ≡ Some stage.Cut) ⊎ IsAsserted sys o now g
     by (call.Publish sig pars reserve) fits = publish-cut sys o now sig pars reserve h.1 g fits h.3
     by call.Flush fits = absurd (flush-uncut sys o now h.1 g fits h.3)
     by x fits = single x refl fits
@@ -126,11 +126,11 @@ asserts-decides sys o now told =
 
 -- what is read is a front of a publication
 pub read-front : (sys : System) (o : ℕ) (now : Option Entry) (t : Told) (ts : List Told) → is_some (run sys o (t ∷ ts) stage.Start) ≡ true
-    → (sig : ℕ) × (pars : List ℕ) × (b : Bool) × (back : List Told) × Fits sys o now (call.Publish sig pars None) (answer_of b) ((t ∷ ts) ++ back)
+    → (sig : ℕ) × (pars : List ℕ) × (b : Bool) × (back : List Told) × FitsAny sys o now (call.Publish sig pars None) (answer_of b) ((t ∷ ts) ++ back)
 read-front sys o now t ts h = by (run sys o (t ∷ ts) stage.Start) refl h
   where
     by : (r : Option Stage) → run sys o (t ∷ ts) stage.Start ≡ r → is_some r ≡ true
-        → (sig : ℕ) × (pars : List ℕ) × (b : Bool) × (back : List Told) × Fits sys o now (call.Publish sig pars None) (answer_of b) ((t ∷ ts) ++ back)
+        → (sig : ℕ) × (pars : List ℕ) × (b : Bool) × (back : List Told) × FitsAny sys o now (call.Publish sig pars None) (answer_of b) ((t ∷ ts) ++ back)
     by None is h = absurd (cc)
     by (Some s) is h =
         let end = run-ends sys o t ts stage.Start s is in
@@ -157,11 +157,11 @@ lone-front (t ∷ []) back u e other h = let same : t ≡ u = cc in cc
 lone-front (t ∷ v ∷ ts) back u e other h = cc
 
 stops-run : (sys : System) (o : ℕ) (now : Option Entry) (told back : List Told) (sig : ℕ) (pars : List ℕ) (reserve : Option ℕ) (answer : Answer)
-    → Fits sys o now (call.Publish sig pars reserve) answer (told ++ back) → ends_in_post told ≡ true → (s : Stage) × (run sys o (told ++ back) stage.Start ≡ Some s)
-unfolding Fits Publishes NoBlockFor
+    → FitsAny sys o now (call.Publish sig pars reserve) answer (told ++ back) → ends_in_post told ≡ true → (s : Stage) × (run sys o (told ++ back) stage.Start ≡ Some s)
+unfolding FitsAny Fits Publishes NoBlockFor
 stops-run sys o now told back sig pars reserve Granted fits ends = (stage.Whole, publication-run sys o now sig pars reserve true (told ++ back) fits)
 stops-run sys o now told back sig pars reserve AtQueue fits ends = (stage.Cut, publication-run sys o now sig pars reserve false (told ++ back) fits)
-stops-run sys o now told back sig pars None AtPool fits ends = absurd (lone-front told back (plain (item.NoBlock fits.0 fits.1)) fits.4 refl ends)
+stops-run sys o now told back sig pars None AtPool fits ends = absurd (lone-front told back (plain (item.NoBlock fits.0 fits.1 fits.2)) fits.5 refl ends)
 stops-run sys o now told back sig pars (Some r) AtPool fits ends = absurd fits
 stops-run sys o now told back sig pars None Refused fits ends = absurd fits
 stops-run sys o now told back sig pars (Some r) Refused fits ends = absurd (lone-front told back (plain (item.Short fits.0 fits.1 fits.2 r)) fits.5 refl ends)

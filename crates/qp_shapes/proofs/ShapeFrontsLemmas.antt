@@ -9,7 +9,7 @@ use Rattle.qp_model.specs.declared.bodies.Body.TheVariants as item
 use Rattle.qp_model.specs.Told.{Told, plain}
 use Rattle.qp_model.specs.Calls as call
 use Rattle.qp_model.specs.Calls.{AtQueue}
-use Rattle.qp_model.specs.Shapes.{Fits}
+use Rattle.qp_model.specs.Shapes.{Fits, FitsAny}
 use Rattle.qp_shapes.specs.ShapeUnit.{IsUnit, SaysValue, behind_unit}
 use Rattle.qp_shapes.specs.ShapeAssertion.{IsAsserted, behind_assertion}
 use Rattle.qp_shapes.specs.ShapeAction.{IsWhole, OfUnit, OfPublication, IsCut, IsFront}
@@ -27,7 +27,7 @@ use Rattle.qp_shapes.proofs.ShapeFrontLemmas.{Front}
 use Rattle.qp_shapes.proofs.ShapeBeginLemmas.{unit-front-sound, unit-front-whole}
 
 -- a front of a publication
-publication-front : (sys : System) (o : ℕ) (now : Option Entry) (told back : List Told) (sig : ℕ) (pars : List ℕ) (b : Bool) → Fits sys o now (call.Publish sig pars None) (answer_of b) (told ++ back) → IsFront sys o now told
+publication-front : (sys : System) (o : ℕ) (now : Option Entry) (told back : List Told) (sig : ℕ) (pars : List ℕ) (b : Bool) → FitsAny sys o now (call.Publish sig pars None) (answer_of b) (told ++ back) → IsFront sys o now told
 publication-front sys o now told back sig pars true fits = (back, inl (OfPublication sig pars None fits))
 publication-front sys o now told back sig pars false fits = (back, inr (call.Publish sig pars None, AtQueue, fits, refl))
 

@@ -13,9 +13,9 @@ use Rattle.qp_model.specs.declared.systems.TimerDef.{TimerDef}
 use Rattle.qp_model.specs.declared.bodies.Entry.{Entry}
 use Rattle.qp_model.specs.Record.{entry}
 use Rattle.qp_model.specs.Line.{same_entry}
-use Rattle.qp_model.specs.Parts.{is_static, first_pool, timer_number}
+use Rattle.qp_model.specs.Parts.{is_static, first_pool}
 use Rattle.qp_model.proofs.LineLemmas.{same_number}
-use Rattle.qp_shapes.specs.ShapeUnit.{stands_out, is_used, used_on, goes_to, some_static, is_own_timer}
+use Rattle.qp_shapes.specs.ShapeUnit.{stands_out, is_used, used_on, goes_to, some_static}
 
 -- entries
 pub same_entry-itself : (e : Entry) → same_entry e e ≡ true
@@ -29,18 +29,6 @@ same_entry-is d e h =
     let left : d ≡ entry d.pool d.block d.name = refl in
     let right : e ≡ entry e.pool e.block e.name = refl in
     cc
-
--- timers
-pub timer-own : (sys : System) (o t : ℕ) → is_own_timer sys o (timer_number sys.timers o t) ≡ true
-unfolding is_own_timer timer_number
-timer-own sys o t = grind (arith, nat_tests)
-
-pub own-timer : (sys : System) (o t : ℕ) → is_own_timer sys o t ≡ true → (place : ℕ) × (timer_number sys.timers o place ≡ t)
-unfolding is_own_timer timer_number
-own-timer sys o t h =
-    let before = count_by (λ (x : TimerDef). nat_lt x.object o) sys.timers in
-    let e : before + (t - before) ≡ t = grind (arith, nat_tests) in
-    (t - before, e)
 
 -- static events
 pub static-some : (sys : System) (sig : ℕ) → is_static sys sig ≡ true → some_static sys ≡ true

@@ -12,11 +12,11 @@ use Rattle.qp_model.specs.Told.{Told, Known, Nothing, plain, given}
 use Rattle.qp_model.specs.Calls as call
 use Rattle.qp_model.specs.Calls.{Call, Answer, Granted, Refused, Flushed, AtQueue, AtPool, AtTimer, AtTicks, AtFront, is_assertion}
 use Rattle.qp_model.specs.Parts.{is_static, sizes_of}
-use Rattle.qp_model.specs.Shapes.{Fits, Drops, MakesNew, MakesBlock, MakesAgain, MakesAgainNow, PostsFront, PostsNew, PostsNewFront, Forwards, Defers, Arms, Rearms, Disarms, ticks_fit}
-use Rattle.qp_shapes.specs.ShapeUnit.{IsUnit, MakesCall, is_used, goes_to, is_static_entry, is_static_now, works_on, works_on_static, some_static, is_own_timer, post_first, behind_post, again_first, behind_again, new_first, behind_entry, reference_first, behind_new, lifo_first, behind_lifo}
+use Rattle.qp_model.specs.Shapes.{Fits, FitsAny, Drops, MakesNew, MakesBlock, MakesAgain, MakesAgainNow, PostsFront, PostsNew, PostsNewFront, Forwards, Defers, Arms, Rearms, Disarms}
+use Rattle.qp_shapes.specs.ShapeUnit.{IsUnit, MakesCall, is_used, goes_to, is_static_entry, is_static_now, works_on, works_on_static, some_static, post_first, behind_post, again_first, behind_again, new_first, behind_entry, reference_first, behind_new, lifo_first, behind_lifo}
 use Rattle.qp_shapes.proofs.ShapeReleaseLemmas.{when-passed, told-is, release-sound}
 use Rattle.qp_shapes.proofs.ShapePostLemmas.{Posted, posted-sound, posted-posts, static-entry, entry-static, new-static, new-block, short-no_block, again-static, again-pooled, none-drops, IsRefused}
-use Rattle.qp_shapes.proofs.ShapePartLemmas.{same_entry-itself, same_entry-is, own-timer, some-static, goes-first, used-first}
+use Rattle.qp_shapes.proofs.ShapePartLemmas.{same_entry-itself, same_entry-is, some-static, goes-first, used-first}
 
 pub both : (a b : Bool) → (a && b) ≡ true → (a ≡ true) × (b ≡ true)
 both true b h = (refl, h)
@@ -36,7 +36,7 @@ passed false behind rest h = absurd (cc)
 
 -- a post of a static event, or of the static event that a step works on, is a unit
 pub static-unit : (sys : System) (o : ℕ) (now : Option Entry) (e : Entry) (g : List Told) → Posted sys e g → (is_static_entry sys e ≡ true) ⊎ (is_static_now now e ≡ true) → IsUnit sys o now g
-unfolding Fits PostsNew Forwards MakesAgainNow
+unfolding FitsAny Fits PostsNew Forwards MakesAgainNow
 static-unit sys o now e g posted (inl h) =
     let is = static-entry sys e h in
     let posts = posted-posts sys e [] g posted in
@@ -61,7 +61,7 @@ full-unit sys o (Some k) to f l m margin (inr h) =
 
 -- a last-in post of a static event
 pub lifo-unit : (sys : System) (o : ℕ) (now : Option Entry) (f l m : ℕ) (e : Entry) → is_static_entry sys e ≡ true → IsUnit sys o now (plain (item.Lifo f l m e) ∷ [])
-unfolding Fits PostsNewFront PostsFront
+unfolding FitsAny Fits PostsNewFront PostsFront
 lifo-unit sys o now f l m e h =
     let is = static-entry sys e h in
     MakesCall (call.Lifo e.block [] None) Granted refl
@@ -69,7 +69,7 @@ lifo-unit sys o now f l m e h =
 
 -- a deferral of a static event
 pub defer-unit : (sys : System) (o : ℕ) (now : Option Entry) (e : Entry) → is_static_now now e ≡ true → IsUnit sys o now (plain (item.Defer e) ∷ [])
-unfolding Fits Defers MakesAgainNow
+unfolding FitsAny Fits Defers MakesAgainNow
 defer-unit sys o None e h = absurd (cc)
 defer-unit sys o (Some k) e h =
     let tests = both (k.pool == 0) (same_entry k e) h in
@@ -77,38 +77,28 @@ defer-unit sys o (Some k) e h =
     MakesCall call.Defer Granted refl ([], e, subst (λ x. MakesAgain k [] x) same (again-static k (number k.pool 0 tests.0)), refl) refl
 
 pub short-unit : (sys : System) (o : ℕ) (now : Option Entry) (p n free r : ℕ) → is_used (sizes_of sys) p ≡ true → IsUnit sys o now (plain (item.Short p n free r) ∷ [])
-unfolding Fits PostsNew is_static
+unfolding FitsAny Fits PostsNew is_static
 short-unit sys o now p n free r h =
     let pars = used-first (sizes_of sys) p h in
     MakesCall (call.Post 0 0 pars.0 None (Some r)) Refused refl (inl (short-no_block (sizes_of sys) pars.0 p n free r pars.1)) refl
 
--- timers
-pub arm-unit : (sys : System) (o : ℕ) (now : Option Entry) (t n ticks interval : ℕ) → is_own_timer sys o t ≡ true → ticks_fit ticks interval ≡ true → IsUnit sys o now (plain (item.Arm t n ticks interval) ∷ [])
-unfolding Fits Arms
-arm-unit sys o now t n ticks interval own fit =
-    let place = own-timer sys o t own in
-    MakesCall (call.Arm place.0 ticks interval) Granted refl (n, ap (λ x. plain (item.Arm x n ticks interval) ∷ []) (sym place.1), fit) refl
+-- time events, whichever they are
+pub arm-unit : (sys : System) (o : ℕ) (now : Option Entry) (t n ticks interval : ℕ) → IsUnit sys o now (plain (item.Arm t n ticks interval) ∷ [])
+unfolding FitsAny Arms
+arm-unit sys o now t n ticks interval = MakesCall (call.Arm t ticks interval) Granted refl (n, refl) refl
 
-pub rearm-unit : (sys : System) (o : ℕ) (now : Option Entry) (t n former ticks : ℕ) → is_own_timer sys o t ≡ true → ticks_fit ticks 0 ≡ true → IsUnit sys o now (plain (item.Rearm t n former ticks) ∷ [])
-unfolding Fits Rearms
-rearm-unit sys o now t n zero ticks own fit =
-    let place = own-timer sys o t own in
-    MakesCall (call.Rearm place.0 ticks) Refused refl (n, ap (λ x. plain (item.Rearm x n 0 ticks) ∷ []) (sym place.1), fit) refl
-rearm-unit sys o now t n (suc former) ticks own fit =
-    let place = own-timer sys o t own in
-    MakesCall (call.Rearm place.0 ticks) Granted refl (n, former, ap (λ x. plain (item.Rearm x n (suc former) ticks) ∷ []) (sym place.1), fit) refl
+pub rearm-unit : (sys : System) (o : ℕ) (now : Option Entry) (t n former ticks : ℕ) → IsUnit sys o now (plain (item.Rearm t n former ticks) ∷ [])
+unfolding FitsAny Rearms
+rearm-unit sys o now t n zero ticks = MakesCall (call.Rearm t ticks) Refused refl (n, refl) refl
+rearm-unit sys o now t n (suc former) ticks = MakesCall (call.Rearm t ticks) Granted refl (n, former, refl) refl
 
-pub disarm-unit : (sys : System) (o : ℕ) (now : Option Entry) (t n former : ℕ) → is_own_timer sys o t ≡ true → IsUnit sys o now (plain (item.Disarm t n former) ∷ [])
-unfolding Fits Disarms
-disarm-unit sys o now t n former own =
-    let place = own-timer sys o t own in
-    MakesCall (call.Disarm place.0) Granted refl (n, former, ap (λ x. plain (item.Disarm x n former) ∷ []) (sym place.1)) refl
+pub disarm-unit : (sys : System) (o : ℕ) (now : Option Entry) (t n former : ℕ) → IsUnit sys o now (plain (item.Disarm t n former) ∷ [])
+unfolding FitsAny Disarms
+disarm-unit sys o now t n former = MakesCall (call.Disarm t) Granted refl (n, former, refl) refl
 
-pub idle-unit : (sys : System) (o : ℕ) (now : Option Entry) (t n : ℕ) → is_own_timer sys o t ≡ true → IsUnit sys o now (plain (item.Idle t n) ∷ [])
-unfolding Fits Disarms
-idle-unit sys o now t n own =
-    let place = own-timer sys o t own in
-    MakesCall (call.Disarm place.0) Refused refl (n, ap (λ x. plain (item.Idle x n) ∷ []) (sym place.1)) refl
+pub idle-unit : (sys : System) (o : ℕ) (now : Option Entry) (t n : ℕ) → IsUnit sys o now (plain (item.Idle t n) ∷ [])
+unfolding FitsAny Disarms
+idle-unit sys o now t n = MakesCall (call.Disarm t) Refused refl (n, refl) refl
 
 -- the test of a post at the record that it is read from
 pub as-post : (sys : System) (e : Entry) (t : Told) (ts rest : List Told) (body : Body) (known : Known) → t.body ≡ body → t.known ≡ known
@@ -119,7 +109,7 @@ as-post sys e t ts rest body known is_body is_known k =
 -- What stands behind a reference more of the entry that a step works on: a post or a deferral of that entry.
 pub again-unit : (sys : System) (o : ℕ) (now : Option Entry) (p b r : ℕ) (told rest : List Told) → works_on now p b ≡ true → behind_again sys (entry p b r) told ≡ Some rest
     → (g : List Told) × IsUnit sys o now (plain (item.Inc p b r) ∷ g) × (told ≡ g ++ rest)
-unfolding Fits Forwards Defers MakesAgainNow
+unfolding FitsAny Fits Forwards Defers MakesAgainNow
 again-unit sys o None p b r told rest h k = absurd (cc)
 again-unit sys o (Some now) p b r [] rest h k = absurd (cc)
 again-unit sys o (Some now) p b r (t ∷ ts) rest h k = by t.body t.known refl refl k
@@ -156,7 +146,7 @@ again-unit sys o (Some now) p b r (t ∷ ts) rest h k = by t.body t.known refl r
 pub new-unit : (sys : System) (o : ℕ) (now : Option Entry) (p n b from sig free r : ℕ) (pars : List ℕ) (told rest : List Told)
     → nat_lt 0 free ≡ true → goes_to (sizes_of sys) (length pars) p ≡ true → is_static sys sig ≡ false → behind_entry sys (entry p b r) told ≡ Some rest
     → (g : List Told) × IsUnit sys o now (given p n b from sig pars free ∷ plain (item.Inc p b r) ∷ g) × (told ≡ g ++ rest)
-unfolding Fits PostsNew PostsNewFront PostsFront MakesBlock
+unfolding FitsAny Fits PostsNew PostsNewFront PostsFront MakesBlock
 new-unit sys o now p n b from sig free r pars [] rest above goes pooled k = absurd (cc)
 new-unit sys o now p n b from sig free r pars (t ∷ ts) rest above goes pooled k = by t.body t.known refl refl k
   where

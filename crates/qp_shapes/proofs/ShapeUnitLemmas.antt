@@ -11,8 +11,8 @@ use Rattle.qp_model.specs.Told.{Told, Known, Nothing, Free, Member, plain}
 use Rattle.qp_model.specs.Calls as call
 use Rattle.qp_model.specs.Calls.{Call, Answer, Granted, Refused, Flushed, AtQueue, AtPool, AtTimer, AtTicks, AtFront, is_assertion}
 use Rattle.qp_model.specs.Parts.{is_static, sizes_of}
-use Rattle.qp_model.specs.Shapes.{Fits, Drops, MakesAgain, PostsFront, Defers, Recalls, Flushes, Subscribes, Unsubscribes}
-use Rattle.qp_shapes.specs.ShapeUnit.{IsUnit, SaysValue, MakesCall, FlushesOne, had_room, goes_to, is_static_entry, some_static, is_own_timer, behind_new, behind_lifo, recalled_first, behind_reference, behind_recall, plain_first, given_first, member_first, unit_first, behind_unit}
+use Rattle.qp_model.specs.Shapes.{Fits, FitsAny, Drops, MakesAgain, PostsFront, Defers, Recalls, Flushes, Subscribes, Unsubscribes}
+use Rattle.qp_shapes.specs.ShapeUnit.{IsUnit, SaysValue, MakesCall, FlushesOne, had_room, goes_to, is_static_entry, some_static, behind_new, behind_lifo, recalled_first, behind_reference, behind_recall, plain_first, given_first, member_first, unit_first, behind_unit}
 use Rattle.qp_shapes.proofs.ShapeReleaseLemmas.{when-passed, told-is, release-sound}
 use Rattle.qp_shapes.proofs.ShapePostLemmas.{again-static, again-pooled, IsPosted}
 use Rattle.qp_shapes.specs.ShapeRelease.{Leaves}
@@ -23,7 +23,7 @@ use Rattle.qp_shapes.proofs.ShapeWholeLemmas.{unit-whole}
 -- a recalled entry
 recall-sound : (sys : System) (o : ℕ) (now : Option Entry) (k : Entry) (told rest : List Told) → behind_recall k told ≡ Some rest
     → (g : List Told) × IsUnit sys o now (plain (item.Recall k) ∷ g) × (told ≡ g ++ rest)
-unfolding behind_recall Fits Recalls PostsFront
+unfolding behind_recall FitsAny Fits Recalls PostsFront
 recall-sound sys o now k told rest h = by (k.pool == 0) refl h
   where
     unit : (head : List Told) (e : Entry) (f l m : ℕ) (rel : List Told) → MakesAgain k head e → Drops k rel
@@ -78,19 +78,17 @@ more-records sys o now t ts rest x is unit = let behind : ts ≡ unit.0 ++ rest 
 -- the units whose first record states all
 plain-sound : (sys : System) (o : ℕ) (now : Option Entry) (t : Told) (ts rest : List Told) (body : Body) → t ≡ plain body → plain_first sys o now body ts ≡ Some rest
     → (g : List Told) × IsUnit sys o now g × (t ∷ ts ≡ g ++ rest)
-unfolding plain_first Fits Subscribes Unsubscribes Defers Recalls
+unfolding plain_first FitsAny Fits Subscribes Unsubscribes Defers Recalls
 plain-sound sys o now t ts rest (item.Say value) is h = one-record sys o now t ts rest _ is (SaysValue value refl) (cc)
 plain-sound sys o now t ts rest (item.Sub sig n) is h = one-record sys o now t ts rest _ is (MakesCall (call.Subscribe sig) Granted refl (n, refl) refl) (cc)
 plain-sound sys o now t ts rest (item.Unsub sig n) is h = one-record sys o now t ts rest _ is (MakesCall (call.Unsubscribe sig) Granted refl (n, refl) refl) (cc)
 plain-sound sys o now t ts rest item.NoDefer is h = one-record sys o now t ts rest _ is (MakesCall call.Defer Refused refl refl refl) (cc)
 plain-sound sys o now t ts rest item.NoRecall is h = one-record sys o now t ts rest _ is (MakesCall call.Recall Refused refl refl refl) (cc)
 plain-sound sys o now t ts rest (item.Short p n free r) is h = let test = when-passed _ ts rest h in one-record sys o now t ts rest _ is (short-unit sys o now p n free r test.0) test.1
-plain-sound sys o now t ts rest (item.Arm u n ticks interval) is h =
-    let test = when-passed _ ts rest h in let tests = both (is_own_timer sys o u) _ test.0 in one-record sys o now t ts rest _ is (arm-unit sys o now u n ticks interval tests.0 tests.1) test.1
-plain-sound sys o now t ts rest (item.Rearm u n former ticks) is h =
-    let test = when-passed _ ts rest h in let tests = both (is_own_timer sys o u) _ test.0 in one-record sys o now t ts rest _ is (rearm-unit sys o now u n former ticks tests.0 tests.1) test.1
-plain-sound sys o now t ts rest (item.Disarm u n former) is h = let test = when-passed _ ts rest h in one-record sys o now t ts rest _ is (disarm-unit sys o now u n former test.0) test.1
-plain-sound sys o now t ts rest (item.Idle u n) is h = let test = when-passed _ ts rest h in one-record sys o now t ts rest _ is (idle-unit sys o now u n test.0) test.1
+plain-sound sys o now t ts rest (item.Arm u n ticks interval) is h = one-record sys o now t ts rest _ is (arm-unit sys o now u n ticks interval) (cc)
+plain-sound sys o now t ts rest (item.Rearm u n former ticks) is h = one-record sys o now t ts rest _ is (rearm-unit sys o now u n former ticks) (cc)
+plain-sound sys o now t ts rest (item.Disarm u n former) is h = one-record sys o now t ts rest _ is (disarm-unit sys o now u n former) (cc)
+plain-sound sys o now t ts rest (item.Idle u n) is h = one-record sys o now t ts rest _ is (idle-unit sys o now u n) (cc)
 plain-sound sys o now t ts rest (item.Post to f l m e) is h =
     let test = when-passed _ ts rest h in
     let tests = both (had_room sys to f l m) _ test.0 in
@@ -121,7 +119,7 @@ given-sound sys o now t ts rest free body is h = absurd (cc)
 
 member-sound : (sys : System) (o : ℕ) (now : Option Entry) (t : Told) (ts rest : List Told) (member : Bool) (body : Body) → t ≡ record { body = body; known = Member member } → member_first body ts ≡ Some rest
     → (g : List Told) × IsUnit sys o now g × (t ∷ ts ≡ g ++ rest)
-unfolding Fits Subscribes Unsubscribes
+unfolding FitsAny Fits Subscribes Unsubscribes
 member-sound sys o now t ts rest true (item.Same sig n) is h = one-record sys o now t ts rest _ is (MakesCall (call.Subscribe sig) Refused refl (n, refl) refl) (cc)
 member-sound sys o now t ts rest false (item.Same sig n) is h = one-record sys o now t ts rest _ is (MakesCall (call.Unsubscribe sig) Refused refl (n, refl) refl) (cc)
 member-sound sys o now t ts rest member body is h = absurd (cc)

@@ -10,14 +10,14 @@ use Rattle.qp_model.specs.Record.{entry}
 use Rattle.qp_model.specs.Told.{Told, plain}
 use Rattle.qp_model.specs.Calls as call
 use Rattle.qp_model.specs.Calls.{Call, Answer, Granted, Refused, Flushed, AtQueue, AtPool, AtTimer, AtTicks, AtFront, is_assertion}
-use Rattle.qp_model.specs.Parts.{is_static, sizes_of, timer_number}
+use Rattle.qp_model.specs.Parts.{is_static, sizes_of}
 use Rattle.qp_model.specs.Sites.{ring_of}
-use Rattle.qp_model.specs.Shapes.{Fits, Drops, MakesBlock, MakesAgain, MakesAgainNow, PostsNew, PostsNewFront, Forwards, Defers, Recalls, Flushes, Subscribes, Unsubscribes, Arms, Rearms, Disarms}
+use Rattle.qp_model.specs.Shapes.{Fits, FitsAny, Drops, MakesBlock, MakesAgain, MakesAgainNow, PostsNew, PostsNewFront, Forwards, Defers, Recalls, Flushes, Subscribes, Unsubscribes, Arms, Rearms, Disarms}
 use Rattle.qp_model.proofs.LineLemmas.{same_number}
 use Rattle.qp_shapes.specs.ShapeUnit.{is_single, IsUnit, SaysValue, MakesCall, FlushesOne, is_static_entry, is_static_now, works_on_static, some_static, behind_again, behind_entry, behind_lifo, behind_recall, plain_first, given_first, behind_unit}
 use Rattle.qp_shapes.proofs.ShapeReleaseLemmas.{release-whole}
 use Rattle.qp_shapes.proofs.ShapePostLemmas.{Posted, posts-posted, entry-static, new-cases, no-block, again-cases, drops-none, front-is, IsPosted, IsRefused}
-use Rattle.qp_shapes.proofs.ShapePartLemmas.{same_entry-itself, timer-own, static-some, first-goes}
+use Rattle.qp_shapes.proofs.ShapePartLemmas.{same_entry-itself, static-some, first-goes}
 
 -- a post of a static entry,
 static-whole : (sys : System) (o : ℕ) (now : Option Entry) (e : Entry) (g rest : List Told) → Posted sys e g → e.pool ≡ 0
@@ -217,9 +217,9 @@ unsubscribe-whole sys o now sig AtFront g rest h calm = absurd h
 
 -- timers
 arm-whole : (sys : System) (o : ℕ) (now : Option Entry) (t ticks interval : ℕ) (answer : Answer) (g rest : List Told)
-    → Arms (timer_number sys.timers o t) ticks interval answer g → is_assertion answer ≡ false → behind_unit sys o now (g ++ rest) ≡ Some rest
+    → Arms t ticks interval answer g → is_assertion answer ≡ false → behind_unit sys o now (g ++ rest) ≡ Some rest
 unfolding Arms plain_first
-arm-whole sys o now t ticks interval Granted g rest h calm = rw (h.1, timer-own sys o t, h.2) refl
+arm-whole sys o now t ticks interval Granted g rest h calm = rw h.1 refl
 arm-whole sys o now t ticks interval AtTimer g rest h calm = absurd (cc)
 arm-whole sys o now t ticks interval AtTicks g rest h calm = absurd (cc)
 arm-whole sys o now t ticks interval Refused g rest h calm = absurd h
@@ -229,10 +229,10 @@ arm-whole sys o now t ticks interval AtPool g rest h calm = absurd h
 arm-whole sys o now t ticks interval AtFront g rest h calm = absurd h
 
 rearm-whole : (sys : System) (o : ℕ) (now : Option Entry) (t ticks : ℕ) (answer : Answer) (g rest : List Told)
-    → Rearms (timer_number sys.timers o t) ticks answer g → is_assertion answer ≡ false → behind_unit sys o now (g ++ rest) ≡ Some rest
+    → Rearms t ticks answer g → is_assertion answer ≡ false → behind_unit sys o now (g ++ rest) ≡ Some rest
 unfolding Rearms plain_first
-rearm-whole sys o now t ticks Granted g rest h calm = rw (h.2, timer-own sys o t, h.3) refl
-rearm-whole sys o now t ticks Refused g rest h calm = rw (h.1, timer-own sys o t, h.2) refl
+rearm-whole sys o now t ticks Granted g rest h calm = rw h.2 refl
+rearm-whole sys o now t ticks Refused g rest h calm = rw h.1 refl
 rearm-whole sys o now t ticks AtTicks g rest h calm = absurd (cc)
 rearm-whole sys o now t ticks (Flushed n) g rest h calm = absurd h
 rearm-whole sys o now t ticks AtQueue g rest h calm = absurd h
@@ -241,10 +241,10 @@ rearm-whole sys o now t ticks AtTimer g rest h calm = absurd h
 rearm-whole sys o now t ticks AtFront g rest h calm = absurd h
 
 disarm-whole : (sys : System) (o : ℕ) (now : Option Entry) (t : ℕ) (answer : Answer) (g rest : List Told)
-    → Disarms (timer_number sys.timers o t) answer g → is_assertion answer ≡ false → behind_unit sys o now (g ++ rest) ≡ Some rest
+    → Disarms t answer g → is_assertion answer ≡ false → behind_unit sys o now (g ++ rest) ≡ Some rest
 unfolding Disarms plain_first
-disarm-whole sys o now t Granted g rest h calm = rw (h.2, timer-own sys o t) refl
-disarm-whole sys o now t Refused g rest h calm = rw (h.1, timer-own sys o t) refl
+disarm-whole sys o now t Granted g rest h calm = rw h.2 refl
+disarm-whole sys o now t Refused g rest h calm = rw h.1 refl
 disarm-whole sys o now t (Flushed n) g rest h calm = absurd h
 disarm-whole sys o now t AtQueue g rest h calm = absurd h
 disarm-whole sys o now t AtPool g rest h calm = absurd h
@@ -253,8 +253,8 @@ disarm-whole sys o now t AtTicks g rest h calm = absurd h
 disarm-whole sys o now t AtFront g rest h calm = absurd h
 
 call-whole : (sys : System) (o : ℕ) (now : Option Entry) (x : Call) (answer : Answer) (g rest : List Told)
-    → is_single x ≡ true → Fits sys o now x answer g → is_assertion answer ≡ false → behind_unit sys o now (g ++ rest) ≡ Some rest
-unfolding Fits
+    → is_single x ≡ true → FitsAny sys o now x answer g → is_assertion answer ≡ false → behind_unit sys o now (g ++ rest) ≡ Some rest
+unfolding FitsAny Fits
 call-whole sys o now (call.Post to sig pars margin reserve) answer g rest single h calm = post-whole sys o now to sig pars margin reserve answer g rest h calm
 call-whole sys o now (call.Lifo sig pars reserve) answer g rest single h calm = post_front-whole sys o now sig pars reserve answer g rest h calm
 call-whole sys o now (call.Forward to margin) answer g rest single h calm = forward-whole sys o now to margin answer g rest h calm

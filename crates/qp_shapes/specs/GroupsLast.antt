@@ -21,6 +21,10 @@ abbrev pub start_cut : Cut → Cut
 start_cut Stopped = Whole
 start_cut cut = cut
 
+abbrev pub is_cut : Cut → Bool
+is_cut Whole = false
+is_cut cut = true
+
 abbrev pub is_anywhere : Cut → Bool
 is_anywhere Anywhere = true
 is_anywhere cut = false
@@ -36,5 +40,6 @@ kinds sys o cut = record {
   last = LastOf sys o cut;
   first = LastOf sys o (start_cut cut) None;
   release = Drops;
+  cuts = is_cut cut;
   anywhere = is_anywhere cut;
 }

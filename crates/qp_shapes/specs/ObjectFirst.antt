@@ -4,14 +4,15 @@ use Rattle.std.specs.declared.option.Option.{Option}
 use Rattle.qp_model.specs.declared.bodies.Entry.{Entry}
 use Rattle.qp_model.specs.declared.bodies.Body.{Body}
 use Rattle.qp_model.specs.declared.bodies.Body.TheVariants as item
-use Rattle.qp_model.specs.Told.{Told, Known, Nothing, OfEvent, Left}
+use Rattle.qp_model.specs.Told.{Told, Known, Nothing, Left}
 use Rattle.qp_model.specs.ObjectShape.{is_head}
 use Rattle.qp_shapes.specs.ShapeRelease.{when, behind_back}
 use Rattle.qp_shapes.specs.ShapePublication.{is_done}
+use Rattle.qp_shapes.specs.ObjectRead.{is_look}
 
 -- the entry that a step takes
 abbrev pub taken_first : Body → Known → Option Entry
-taken_first (item.Took f l m e) (OfEvent ev) = Some e
+taken_first (item.Took f l m e) known = Some e
 taken_first body known = None
 
 abbrev pub taken_entry : List Told → Option Entry
@@ -32,14 +33,14 @@ abbrev pub behind_head : List Told → Option (List Told)
 behind_head [] = None
 behind_head (t ∷ rest) = behind_second rest
 
--- behind a queue found empty, where that is recorded
-abbrev pub nil_first : Bool → Body → Known → List Told → Option (List Told)
-nil_first nils (item.Nil f l m) Nothing rest = when nils rest
-nil_first nils body known rest = None
+-- behind a queue found empty, or looked at, where that is recorded
+abbrev pub look_first : Bool → Body → Known → List Told → Option (List Told)
+look_first nils body Nothing rest = when (is_look body && nils) rest
+look_first nils body known rest = None
 
-abbrev pub behind_nil : Bool → List Told → Option (List Told)
-behind_nil nils [] = None
-behind_nil nils (t ∷ rest) = nil_first nils t.body t.known rest
+abbrev pub behind_look : Bool → List Told → Option (List Told)
+behind_look nils [] = None
+behind_look nils (t ∷ rest) = look_first nils t.body t.known rest
 
 -- behind `begin`
 abbrev pub begin_first : Body → Known → List Told → Option (List Told)

@@ -8,13 +8,13 @@ use Rattle.qp_model.specs.declared.bodies.Body.TheVariants as item
 use Rattle.qp_model.specs.Told.{Told, Known, Nothing, Free}
 use Rattle.qp_model.specs.Calls.{Call, Answer, is_assertion}
 use Rattle.qp_model.specs.Parts.{is_static, sizes_of}
-use Rattle.qp_model.specs.Shapes.{Fits, ticks_fit}
+use Rattle.qp_model.specs.Shapes.{FitsAny}
 use Rattle.qp_shapes.specs.ShapeRelease.{when}
-use Rattle.qp_shapes.specs.ShapeUnit.{is_single, is_used, goes_to, some_static, is_own_timer, works_on, works_on_static}
+use Rattle.qp_shapes.specs.ShapeUnit.{is_single, is_used, goes_to, some_static, works_on, works_on_static}
 
 -- the records of a single call that ends in its assertion
 pub data IsAsserted (sys : System) (o : ℕ) (now : Option Entry) (g : List Told) : Type 0 where
-  Asserts : (x : Call) (answer : Answer) → is_single x ≡ true → Fits sys o now x answer g → IsTrue (is_assertion answer) → IsAsserted sys o now g
+  Asserts : (x : Call) (answer : Answer) → is_single x ≡ true → FitsAny sys o now x answer g → IsTrue (is_assertion answer) → IsAsserted sys o now g
 
 -- behind a post that finds no entry
 abbrev pub no_entry_first : Body → Known → List Told → Option (List Told)
@@ -66,12 +66,12 @@ behind_recall_cut o k told = if k.pool == 0 then behind_no_lifo o told else behi
 
 -- behind a call that ends in its assertion and whose first record states all
 unfoldable pub plain_cut : System → ℕ → Option Entry → Body → List Told → Option (List Told)
-unfolding is_own_timer is_used sizes_of ticks_fit behind_recall_cut
+unfolding is_used sizes_of behind_recall_cut
 plain_cut sys o now (item.NoEntry a f l m) rest = when (some_static sys || works_on_static now) rest
 plain_cut sys o now (item.NoLifo a f l m) rest = when (some_static sys && (a == o)) rest
-plain_cut sys o now (item.NoBlock p n) rest = when (is_used (sizes_of sys) p) rest
-plain_cut sys o now (item.Armed t n counter) rest = when (is_own_timer sys o t) rest
-plain_cut sys o now (item.BadTicks t ticks interval) rest = when (is_own_timer sys o t && not (ticks_fit ticks interval)) rest
+plain_cut sys o now (item.NoBlock p n free) rest = when (is_used (sizes_of sys) p) rest
+plain_cut sys o now (item.Armed t n counter) rest = Some rest
+plain_cut sys o now (item.BadTicks t ticks interval) rest = Some rest
 plain_cut sys o now (item.Inc p b r) rest = if works_on now p b then behind_no_entry rest else None
 plain_cut sys o now (item.Recall k) rest = behind_recall_cut o k rest
 plain_cut sys o now body rest = None

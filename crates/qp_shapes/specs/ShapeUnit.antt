@@ -13,7 +13,7 @@ use Rattle.qp_model.specs.Calls as call
 use Rattle.qp_model.specs.Calls.{Call, Answer, is_assertion}
 use Rattle.qp_model.specs.Parts.{is_static, sizes_of, room_before}
 use Rattle.qp_model.specs.Sites.{ring_of}
-use Rattle.qp_model.specs.Shapes.{Fits, Flushes, ticks_fit}
+use Rattle.qp_model.specs.Shapes.{FitsAny, Flushes}
 use Rattle.qp_shapes.specs.ShapeRelease.{when, behind_release}
 
 -- no publication, whose posts are as many as its members, and no flush, whose entries are any number
@@ -25,7 +25,7 @@ is_single x = true
 -- the records of a value said, of a single call that doesn't end in an assertion, or of one flushed entry
 pub data IsUnit (sys : System) (o : ℕ) (now : Option Entry) (g : List Told) : Type 0 where
   SaysValue : (value : ℕ) → g ≡ plain (item.Say value) ∷ [] → IsUnit sys o now g
-  MakesCall : (x : Call) (answer : Answer) → is_single x ≡ true → Fits sys o now x answer g → IsFalse (is_assertion answer) → IsUnit sys o now g
+  MakesCall : (x : Call) (answer : Answer) → is_single x ≡ true → FitsAny sys o now x answer g → IsFalse (is_assertion answer) → IsUnit sys o now g
   FlushesOne : Flushes 1 g → IsUnit sys o now g
 
 -- the size at this place is at least so large, and larger than those before it
@@ -55,10 +55,6 @@ goes_to (size ∷ sizes) n (suc place) = if nat_le n size then place == 0 else g
 -- the system has static events
 abbrev pub some_static : System → Bool
 some_static sys = list_any (λ d. d.fixed) sys.signals
-
--- the timer isn't one of an object before o
-unfoldable pub is_own_timer : System → ℕ → ℕ → Bool
-is_own_timer sys o t = nat_le (count_by (λ x. nat_lt x.object o) sys.timers) t
 
 -- an entry was free before a post after which the counts are these
 unfoldable pub had_room : System → ℕ → ℕ → ℕ → ℕ → Bool
@@ -143,17 +139,17 @@ behind_recall k told = if k.pool == 0 then behind_lifo k k told else behind_refe
 
 -- behind an action whose first record states all
 unfoldable pub plain_first : System → ℕ → Option Entry → Body → List Told → Option (List Told)
-unfolding had_room is_own_timer is_static_entry is_used sizes_of ticks_fit behind_recall behind_release
+unfolding had_room is_static_entry is_used sizes_of behind_recall behind_release
 plain_first sys o now (item.Say value) rest = Some rest
 plain_first sys o now (item.Sub sig n) rest = Some rest
 plain_first sys o now (item.Unsub sig n) rest = Some rest
 plain_first sys o now item.NoDefer rest = Some rest
 plain_first sys o now item.NoRecall rest = Some rest
 plain_first sys o now (item.Short p n free reserve) rest = when (is_used (sizes_of sys) p) rest
-plain_first sys o now (item.Arm t n ticks interval) rest = when (is_own_timer sys o t && ticks_fit ticks interval) rest
-plain_first sys o now (item.Rearm t n former ticks) rest = when (is_own_timer sys o t && ticks_fit ticks 0) rest
-plain_first sys o now (item.Disarm t n former) rest = when (is_own_timer sys o t) rest
-plain_first sys o now (item.Idle t n) rest = when (is_own_timer sys o t) rest
+plain_first sys o now (item.Arm t n ticks interval) rest = Some rest
+plain_first sys o now (item.Rearm t n former ticks) rest = Some rest
+plain_first sys o now (item.Disarm t n former) rest = Some rest
+plain_first sys o now (item.Idle t n) rest = Some rest
 plain_first sys o now (item.Post to f l m e) rest = when (had_room sys to f l m && (is_static_entry sys e || is_static_now now e)) rest
 plain_first sys o now (item.Full to f l m margin) rest = when (some_static sys || works_on_static now) rest
 plain_first sys o now (item.Lifo f l m e) rest = when (is_static_entry sys e) rest

@@ -4,11 +4,7 @@
 mod groups;
 mod groups_end;
 mod object_shape;
-#[cfg(test)]
-mod object_tests;
 mod object_turns;
-#[cfg(test)]
-mod publication_tests;
 mod shape_action;
 mod shape_assertion;
 mod shape_front;
@@ -17,8 +13,6 @@ mod shape_publication;
 mod shape_release;
 mod shape_scene;
 mod shape_stage;
-#[cfg(test)]
-mod shape_tests;
 mod shape_unit;
 
 pub use object_shape::has_shape;

@@ -1,13 +1,14 @@
 //! Whether an object's whole list of records has its shape.
 
-ghost use Rattle.std.specs.Prelude.{◌≡◌, ◌==◌, ◌&&◌, length, Some, None};
+ghost use Rattle.std.specs.Prelude.{◌≡◌, ◌==◌, ◌&&◌, length, IsTrue, Some, None};
 ghost use Rattle.std.specs.Option.{option_map};
 ghost use Rattle.qp_fits.specs.AsPiece.{as_cut};
 ghost use Rattle.qp_fits.specs.Decides.{Decides};
 ghost use Rattle.qp_model.specs.Shapes.{Drops};
 ghost use Rattle.qp_model.specs.ObjectShape.{CutGroups, HasShape, is_assert, nothing_after, asserts_last};
 ghost use Rattle.qp_shapes.specs.ShapeAction.{IsWhole};
-ghost use Rattle.qp_shapes.specs.GroupsLast.{kinds, start_cut, is_anywhere, is_unbegun};
+ghost use Rattle.qp_shapes.specs.GroupsLast.{LastOf, kinds, start_cut, is_anywhere, is_cut, is_unbegun};
+ghost use Rattle.qp_shapes.specs.GroupsRead.{Breaks};
 ghost use Rattle.qp_shapes.specs.ObjectRead.{Closes, FrontOf, IsStepEnd, IsStartEnd, IsTailOf, IsObjectOf};
 ghost use Rattle.qp_shapes.specs.ObjectFirst.{behind_begin, is_spent, drop_front, release_front};
 
@@ -28,6 +29,13 @@ fn start_cut(cut: Cut) -> Cut
         Cut::Whole | Cut::Stopped => Cut::Whole,
         Cut::Anywhere => Cut::Anywhere,
     }
+}
+
+/// Whether a start or a step may break off.
+fn is_cut(cut: Cut) -> bool
+    ensures { result ≡ is_cut (as_cut cut) }
+{
+    matches!(cut, Cut::Stopped | Cut::Anywhere)
 }
 
 fn is_anywhere(cut: Cut) -> bool
@@ -83,6 +91,9 @@ fn ends_in_release(scene: &Scene, e: Entry, told: &[Told]) -> bool
 fn ends_step(scene: &Scene, e: Entry, cut: Cut, told: &[Told]) -> bool
     ensures { Decides result (IsStepEnd (kinds scene.now.sys.now scene.now.o (as_cut cut)) e told.now) }
 {
+    if !is_cut(cut) {
+        return false;
+    }
     if breaks_off(scene, Some(e), cut, told) {
         return true;
     }
@@ -137,13 +148,24 @@ fn behind_begin<'a>(told: &'a [Told]) -> Option<&'a [Told]>
     }
 }
 
+/// Whether these are groups of a start that breaks off, where it may.
+fn breaks_start(scene: &Scene, cut: Cut, told: &[Told]) -> bool
+    ensures { Decides result (IsTrue (is_cut (as_cut cut)) × Breaks (IsWhole scene.now.sys.now scene.now.o None) (LastOf scene.now.sys.now scene.now.o (start_cut (as_cut cut)) None) told.now) }
+{
+    if is_cut(cut) {
+        breaks_off(scene, None, start_cut(cut), told)
+    } else {
+        false
+    }
+}
+
 /// Whether these may stand behind a start's `begin`.
 fn ends_start(scene: &Scene, nils: bool, cut: Cut, told: &[Told]) -> bool
     ensures { Decides result (IsStartEnd (kinds scene.now.sys.now scene.now.o (as_cut cut)) nils told.now) }
 {
     match behind_done(behind_groups(scene, None, told)) {
         Some(rest) => is_tail(scene, cut, behind_turns(scene, nils, rest)),
-        None => breaks_off(scene, None, start_cut(cut), told),
+        None => breaks_start(scene, cut, told),
     }
 }
 
@@ -205,8 +227,8 @@ fn asserts_last(told: &[Told]) -> bool
     }
 }
 
-/// Whether an object's records have its shape, where the list may end by this cut; `nils` tells whether a queue found empty
-/// is recorded among them.
+/// Whether an object's records have its shape, where the list may end by this cut; `nils` tells whether its looks at its queue
+/// are recorded among them.
 pub fn has_shape(scene: &Scene, nils: bool, cut: Cut, told: &[Told]) -> bool
     ensures { Decides result (HasShape scene.now.sys.now scene.now.o nils (as_cut cut) told.now) }
 {

@@ -1,4 +1,4 @@
-//! An object's turns: steps, and queues found empty.
+//! An object's turns: steps, and queues found empty or looked at in the place of a take.
 
 ghost use Rattle.std.specs.Prelude.{◌≡◌, None};
 ghost use Rattle.std.specs.Option.{option_map};
@@ -6,8 +6,8 @@ ghost use Rattle.qp_model.specs.Shapes.{Drops};
 ghost use Rattle.qp_shapes.specs.ShapeRelease.{Leaves};
 ghost use Rattle.qp_shapes.specs.ShapeAction.{IsWhole};
 ghost use Rattle.qp_shapes.specs.GroupsRead.{ReadsAll};
-ghost use Rattle.qp_shapes.specs.ObjectRead.{Closes, IsTurnOf};
-ghost use Rattle.qp_shapes.specs.ObjectFirst.{taken_first, taken_entry, tells_head, behind_second, behind_head, behind_nil};
+ghost use Rattle.qp_shapes.specs.ObjectRead.{Closes, IsTurnOf, is_look};
+ghost use Rattle.qp_shapes.specs.ObjectFirst.{taken_first, taken_entry, tells_head, behind_second, behind_head, behind_look};
 
 use crate::groups::{behind_done, behind_groups};
 use crate::shape_release::behind_release;
@@ -21,8 +21,8 @@ pub fn taken_entry(told: &[Told]) -> Option<Entry>
     ensures { result ≡ taken_entry told.now }
 {
     let first = told.first()?;
-    match (&first.body, &first.known) {
-        (Body::Took { entry, .. }, Known::OfEvent { .. }) => Some(*entry),
+    match &first.body {
+        Body::Took { entry, .. } => Some(*entry),
         _ => None,
     }
 }
@@ -52,13 +52,20 @@ pub fn behind_head<'a>(told: &'a [Told]) -> Option<&'a [Told]>
     behind_second(rest)
 }
 
-/// What stands behind a queue found empty, where that is recorded.
-fn behind_nil<'a>(nils: bool, told: &'a [Told]) -> Option<&'a [Told]>
-    ensures { option_map (λ x. x.now) result ≡ behind_nil nils told.now }
+/// Whether a record is a look at a queue, whether or not that was found empty.
+fn is_look(body: &Body) -> bool
+    ensures { result ≡ is_look body.now }
+{
+    matches!(body, Body::Nil { .. } | Body::Seen { .. })
+}
+
+/// What stands behind such a look, where looks are recorded.
+fn behind_look<'a>(nils: bool, told: &'a [Told]) -> Option<&'a [Told]>
+    ensures { option_map (λ x. x.now) result ≡ behind_look nils told.now }
 {
     let (first, rest) = told.split_first()?;
-    match (&first.body, &first.known) {
-        (Body::Nil { .. }, Known::Nothing) => when(nils, rest),
+    match &first.known {
+        Known::Nothing => when(is_look(&first.body) && nils, rest),
         _ => None,
     }
 }
@@ -82,7 +89,7 @@ fn behind_turn<'a>(scene: &Scene, nils: bool, told: &'a [Told]) -> Option<&'a [T
             Some(body) => behind_body(scene, e, body),
             None => None,
         },
-        None => behind_nil(nils, told),
+        None => behind_look(nils, told),
     }
 }
 

@@ -6,7 +6,7 @@ ghost use Rattle.qp_shapes.specs.ShapeRelease.{Leaves};
 ghost use Rattle.qp_shapes.specs.ShapeAssertion.{IsAsserted, behind_no_entry, behind_no_lifo, behind_cut, behind_new_cut, behind_recall_reference, behind_recall_cut, plain_cut, given_cut, behind_assertion};
 
 use crate::shape_pools::{goes_to, is_used};
-use crate::shape_scene::{Scene, do_fit};
+use crate::shape_scene::Scene;
 use crate::shape_unit::{when, works_on, works_on_static};
 use qp_fits::{Known, Told};
 use qp_model::{Body, Entry};
@@ -104,11 +104,7 @@ pub fn plain_cut<'a>(
         Body::NoEntry { .. } => when(scene.has_static || works_on_static(now), rest),
         Body::NoLifo { a, .. } => when(scene.has_static && *a == u64::from(scene.o), rest),
         Body::NoBlock { p, .. } => when(is_used(scene.sys, *p), rest),
-        Body::Armed { t, .. } => when(scene.is_own_timer(*t), rest),
-        Body::BadTicks { t, ticks, interval } => when(
-            scene.is_own_timer(*t) && !do_fit(*ticks, *interval),
-            rest,
-        ),
+        Body::Armed { .. } | Body::BadTicks { .. } => Some(rest),
         Body::Inc { p, b, .. } => {
             if works_on(now, *p, *b) {
                 behind_no_entry(rest)

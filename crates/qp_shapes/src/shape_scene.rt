@@ -1,13 +1,12 @@
 //! What the shapes of an object's calls read of its system.
 
 ghost use Rattle.std.specs.Prelude.{◌≡◌, ◌==◌, nat_lt, Some, None, MatchOption};
-ghost use Rattle.std.specs.List.{count_by, find};
+ghost use Rattle.std.specs.List.{find};
 ghost use Rattle.qp_model.specs.declared.systems.ObjectDef.{ObjectDef};
 ghost use Rattle.qp_model.specs.Sites.{ring_of};
 ghost use Rattle.qp_model.specs.Parts.{is_static, room_before, sizes_of};
-ghost use Rattle.qp_model.specs.Shapes.{ticks_fit};
 ghost use Rattle.qp_model.specs.Line.{same_entry};
-ghost use Rattle.qp_shapes.specs.ShapeUnit.{some_static, is_own_timer, is_static_entry, had_room};
+ghost use Rattle.qp_shapes.specs.ShapeUnit.{some_static, is_static_entry, had_room};
 
 use qp_model::{Entry, System};
 
@@ -17,9 +16,7 @@ pub struct Scene<'a> {
     pub sys: &'a System,
     pub o: u8,
     pub has_static: bool,
-    pub first_timer: u64,
     ghost statics: { has_static ≡ some_static sys.now },
-    ghost timers: { first_timer ≡ count_by (λ x. nat_lt x.object o) sys.now.timers },
 }
 
 /// Whether two entries are the same.
@@ -27,14 +24,6 @@ pub fn is_same(d: Entry, e: Entry) -> bool
     ensures { result ≡ same_entry d e }
 {
     d.pool == e.pool && d.block == e.block && d.name == e.name
-}
-
-/// Whether a timer takes these values.
-#[tactic(auto, unfolding(qp_model::specs::Shapes::ticks_fit))]
-pub fn do_fit(ticks: u64, interval: u64) -> bool
-    ensures { result ≡ ticks_fit ticks interval }
-{
-    0 < ticks && ticks < 65536 && interval < 65536
 }
 
 /// Whether an entry of a queue was free before a post after which the counts are these.
@@ -92,19 +81,6 @@ fn has_static(sys: &System) -> bool
     false
 }
 
-/// The number of timers of objects before `o`.
-fn timers_before(sys: &System, o: u8) -> u64
-    ensures { result ≡ count_by (λ x. nat_lt x.object o) sys.now.timers }
-{
-    let mut count = 0;
-    for t in &sys.timers.items {
-        if t.object < o {
-            count += 1;
-        }
-    }
-    count
-}
-
 impl<'a> Scene<'a> {
     /// The scene of an object of a system.
     pub fn of(sys: &'a System, o: u8) -> Self
@@ -114,7 +90,6 @@ impl<'a> Scene<'a> {
             sys,
             o,
             has_static: has_static(sys),
-            first_timer: timers_before(sys, o),
         }
     }
 }
@@ -125,13 +100,6 @@ impl Scene<'_> {
         ensures { result ≡ had_room self.now.sys.now to f l m }
     {
         had_free(ring_of(self.sys, to), f, l, m)
-    }
-
-    #[tactic(auto, unfolding(crate::specs::ShapeUnit::is_own_timer))]
-    pub fn is_own_timer(&self, t: u64) -> bool
-        ensures { result ≡ is_own_timer self.now.sys.now self.now.o t }
-    {
-        self.first_timer <= t
     }
 
     #[tactic(auto, unfolding(crate::specs::ShapeUnit::is_static_entry))]

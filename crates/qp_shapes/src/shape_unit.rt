@@ -10,7 +10,7 @@ ghost use Rattle.qp_shapes.specs.ShapeUnit.{IsUnit, post_first, behind_again, be
 
 use crate::shape_pools::{goes_to, is_used};
 use crate::shape_release::behind_release;
-use crate::shape_scene::{Scene, do_fit, is_same};
+use crate::shape_scene::{Scene, is_same};
 use qp_fits::{Known, Told};
 use qp_model::{Body, Entry};
 
@@ -166,17 +166,16 @@ pub fn plain_first<'a>(
     ensures { option_map (λ x. x.now) result ≡ plain_first scene.now.sys.now scene.now.o now body.now rest.now }
 {
     match body {
-        Body::Say { .. } | Body::Sub { .. } | Body::Unsub { .. } | Body::NoDefer | Body::NoRecall =>
-            Some(rest),
+        Body::Say { .. }
+        | Body::Sub { .. }
+        | Body::Unsub { .. }
+        | Body::NoDefer
+        | Body::NoRecall
+        | Body::Arm { .. }
+        | Body::Rearm { .. }
+        | Body::Disarm { .. }
+        | Body::Idle { .. } => Some(rest),
         Body::Short { p, .. } => when(is_used(scene.sys, *p), rest),
-        Body::Arm {
-            t,
-            ticks,
-            interval,
-            ..
-        } => when(scene.is_own_timer(*t) && do_fit(*ticks, *interval), rest),
-        Body::Rearm { t, ticks, .. } => when(scene.is_own_timer(*t) && do_fit(*ticks, 0), rest),
-        Body::Disarm { t, .. } | Body::Idle { t, .. } => when(scene.is_own_timer(*t), rest),
         Body::Post { a, f, l, m, entry } => {
             let is_static = scene.is_static_entry(*entry) || is_static_now(now, *entry);
             when(scene.had_room(*a, *f, *l, *m) && is_static, rest)

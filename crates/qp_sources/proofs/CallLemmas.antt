@@ -55,7 +55,7 @@ static-pool sys sig n h = rw h refl
 none-pool : (sys : System) (sig : ℕ) (pars : List ℕ) (reserve : Option ℕ) (answer : Answer) (g : List Told)
     → NoBlockFor (is_static sys sig) (sizes_of sys) pars reserve answer g → has_pool sys sig (length pars) ≡ true
 unfolding NoBlockFor
-none-pool sys sig pars None AtPool g h = pool-some sys sig (length pars) h.0 h.3
+none-pool sys sig pars None AtPool g h = pool-some sys sig (length pars) h.0 h.4
 none-pool sys sig pars (Some r) Refused g h = pool-some sys sig (length pars) h.0 h.4
 none-pool sys sig pars None Granted g h = absurd h
 none-pool sys sig pars None Refused g h = absurd h

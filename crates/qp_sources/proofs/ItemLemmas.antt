@@ -1,31 +1,13 @@
 -- The records of a lane as a loop comes to them.
-use Rattle.std.proofs.Common.{◌≡◌, ◌∙◌, ℕ, ◌+◌, ◌<◌, ◌≤◌, ◌==◌, Bool, true, false, ◌&&◌, ◌||◌, List, [], ◌∷◌, ◌++◌, map, length, take, drop, get_or, ap, sym, refl, arith}
+use Rattle.std.proofs.Common.{◌≡◌, ◌∙◌, ℕ, ◌+◌, ◌<◌, ◌≤◌, ◌==◌, Bool, true, false, not, ◌&&◌, ◌||◌, List, [], ◌∷◌, ◌++◌, map, length, take, drop, get_or, ap, sym, refl, arith}
 use Rattle.std.specs.List.{list_all}
 use Rattle.std.proofs.lemmas.Bool.Decides.{nat_tests}
 use Rattle.std.proofs.lemmas.List.{drop_more, drop_all, take_more, map-append, take-append-drop}
 use Rattle.qp_model.specs.declared.record.Rec.{Rec}
 use Rattle.qp_model.specs.Record.{Item, item_of}
 use Rattle.qp_model.specs.History.{lane_items}
-use Rattle.qp_model.specs.Ends.{is_spill, spills_in}
-
-module _ (lane : List Rec) (i : ℕ) (r : Rec) (inside : i < length lane) (is : r ≡ get_or lane i r) where
-  pub items-from : lane_items (drop i lane) ≡ item_of r ∷ lane_items (drop (i + 1) lane)
-  unfolding lane_items
-  items-from = ap (map item_of) (drop_more lane i r inside) ∙ ap (λ y. item_of y ∷ map item_of (drop (i + 1) lane)) (sym is)
-
-  pub items-up_to : lane_items (take (i + 1) lane) ≡ lane_items (take i lane) ++ item_of r ∷ []
-  unfolding lane_items
-  items-up_to =
-      ap (map item_of) (take_more lane i r inside) ∙ map-append item_of (take i lane) (get_or lane i r ∷ [])
-      ∙ ap (λ y. map item_of (take i lane) ++ item_of y ∷ []) (sym is)
-
-pub items-past : (lane : List Rec) (i : ℕ) → length lane ≤ i → lane_items (drop i lane) ≡ []
-unfolding lane_items
-items-past lane i h = ap (map item_of) (drop_all i lane h)
-
-pub items-split : (lane : List Rec) (i : ℕ) → lane_items lane ≡ lane_items (take i lane) ++ lane_items (drop i lane)
-unfolding lane_items
-items-split lane i = sym (ap (map item_of) (take-append-drop i lane)) ∙ map-append item_of (take i lane) (drop i lane)
+use Rattle.qp_model.specs.Ends.{is_spill, spills_in, may_cut, spills_cut}
+use Rattle.qp_model.proofs.RecordLemmas.{items-from, items-past}
 
 module _ (lane : List Rec) (i : ℕ) (r : Rec) (inside : i < length lane) (is : r ≡ get_or lane i r) where
   alone-from : list_all (λ i. i.of == 0) (lane_items (drop i lane)) ≡ ((r.of == 0) && list_all (λ i. i.of == 0) (lane_items (drop (i + 1) lane)))
@@ -58,3 +40,30 @@ alone-end lane i past h = sym (h ∙ ap (list_all (λ (i : Item). i.of == 0)) (i
 
 pub spills-end : (lane : List Rec) (i : ℕ) → length lane ≤ i → spills_in (lane_items lane) ≡ spills_in (lane_items (drop i lane)) → false ≡ spills_in (lane_items lane)
 spills-end lane i past h = sym (h ∙ ap spills_in (items-past lane i past))
+
+-- a `spill` cuts only as the last record
+cut-last : (end : ℕ) (xs : List Item) (x : Item) → spills_cut end (xs ++ x ∷ []) ≡ (not (spills_in xs) && (not (is_spill x.body) || may_cut end))
+unfolding spills_cut
+cut-last end [] x = refl
+cut-last end (i ∷ []) x = go (is_spill i.body)
+  where
+    go : (b : Bool) → (not b && (not (is_spill x.body) || may_cut end)) ≡ (not (b || false) && (not (is_spill x.body) || may_cut end))
+    go true = refl
+    go false = refl
+cut-last end (i ∷ j ∷ xs) x = go (is_spill i.body) (cut-last end (j ∷ xs) x)
+  where
+    go : (b : Bool) → spills_cut end (j ∷ (xs ++ x ∷ [])) ≡ (not (spills_in (j ∷ xs)) && (not (is_spill x.body) || may_cut end))
+        → (not b && spills_cut end (j ∷ (xs ++ x ∷ []))) ≡ (not (b || spills_in (j ∷ xs)) && (not (is_spill x.body) || may_cut end))
+    go true h = refl
+    go false h = h
+
+pub spills-cut : (end : ℕ) (lane before : List Rec) (r : Rec) → lane ≡ before ++ r ∷ []
+    → spills_cut end (lane_items lane) ≡ (not (spills_in (lane_items before)) && (not (is_spill (item_of r).body) || may_cut end))
+unfolding lane_items
+spills-cut end lane before r is = ap (λ l. spills_cut end (map item_of l)) is ∙ ap (spills_cut end) (map-append item_of before (r ∷ [])) ∙ cut-last end (map item_of before) (item_of r)
+
+-- a lane without records
+pub none-cut : (end : ℕ) (lane : List Rec) → length lane ≡ 0 → spills_cut end (lane_items lane) ≡ true
+unfolding spills_cut lane_items
+none-cut end [] h = refl
+none-cut end (r ∷ rs) h = absurd (omega arith)

@@ -7,7 +7,7 @@ use Rattle.qp_model.specs.declared.journals.Journal.{Journal}
 use Rattle.qp_model.specs.Record.{Item}
 use Rattle.qp_model.specs.Told.{Told}
 use Rattle.qp_model.specs.Knowing.{Facts}
-use Rattle.qp_model.specs.Ends.{may_cut, spills_in}
+use Rattle.qp_model.specs.Ends.{may_cut, spills_in, spills_cut}
 use Rattle.qp_model.specs.Sources.{SourceEnd, AllDone, BeforeStimulus, AfterTry, AtAssert, InStimulus, SourceRuns, IsSourceLane, may_end, none_twice, entry_seen, source_records}
 use Rattle.qp_model.specs.Lawful.{SpillStands, facts_of}
 use Rattle.qp_fits.specs.Decides.{Decides}
@@ -85,21 +85,25 @@ module _ (w : Facts) (kernel end : ℕ) (ss : List Stim) (lane : List Item) (tol
   pub lane-of : list_all (λ i. i.of == 0) lane ≡ false → IsSourceLane w kernel end ss lane → ⊥
   lane-of h is = let alone : list_all (λ i. i.of == 0) lane ≡ true = is.alone in cc
 
+  -- a `spill` cuts nothing
+  pub lane-spills : spills_cut end lane ≡ false → IsSourceLane w kernel end ss lane → ⊥
+  lane-spills h is = let spills : spills_cut end lane ≡ true = is.spills in cc
+
   -- two tries end alike
   pub lane-twice : none_twice (entries_seen lane) ≡ false → IsSourceLane w kernel end ss lane → ⊥
   unfolding entries_seen
   lane-twice h is = let tries : none_twice (filter_map (λ (i : Item). entry_seen i.body) lane) ≡ true = is.tries in cc
 
-  pub lane-decides : list_all (λ i. i.of == 0) lane ≡ true → none_twice (entries_seen lane) ≡ true → (stops : Stops)
+  pub lane-decides : list_all (λ i. i.of == 0) lane ≡ true → spills_cut end lane ≡ true → none_twice (entries_seen lane) ≡ true → (stops : Stops)
       → ((stop : SourceEnd) → Decides (flag_of stops stop) (SourceRuns sys kernel 1 ss stop told))
       → Decides (some_may_end stops end (spills_in lane)) (IsSourceLane w kernel end ss lane)
   unfolding entries_seen
-  lane-decides alone tries stops runs = decides (some_may_end stops end (spills_in lane)) (IsSourceLane w kernel end ss lane) holds fails
+  lane-decides alone spills tries stops runs = decides (some_may_end stops end (spills_in lane)) (IsSourceLane w kernel end ss lane) holds fails
     where
       holds : some_may_end stops end (spills_in lane) ≡ true → IsSourceLane w kernel end ss lane
       holds e =
           let some = allowed stops end (spills_in lane) e in
-          record { alone = alone; tries = tries; stimuli = (some.0, moved some.0 (flag-runs (flag_of stops some.0) _ (runs some.0) some.1), some.2) }
+          record { alone = alone; spills = spills; tries = tries; stimuli = (some.0, moved some.0 (flag-runs (flag_of stops some.0) _ (runs some.0) some.1), some.2) }
 
       fails : some_may_end stops end (spills_in lane) ≡ false → IsSourceLane w kernel end ss lane → ⊥
       fails e is =

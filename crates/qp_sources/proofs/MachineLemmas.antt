@@ -15,7 +15,7 @@ use Rattle.qp_sources.specs.SourceRest.{SourceRest, Between, Within, stim_next, 
 use Rattle.qp_sources.specs.AsSource.{as_underway, rest_of, flag_of}
 use Rattle.qp_sources.specs.declared.underway.Underway as declared_underway
 use Rattle.qp_sources.specs.declared.stops.Stops.{Stops}
-use Rattle.qp_sources.proofs.RecordLemmas.{told-is}
+use Rattle.qp_model.proofs.RecordLemmas.{told-is}
 use Rattle.qp_sources.proofs.StimLemmas.{underway-stim}
 use Rattle.qp_sources.proofs.LawLemmas.{call-laws}
 use Rattle.qp_sources.proofs.StopLemmas.{lane-stops}

@@ -11,10 +11,6 @@ use Rattle.qp_model.specs.Told.{Told, Known}
 use Rattle.qp_model.proofs.LineLemmas.{same_number}
 use Rattle.qp_fits.specs.Decides.{Decides}
 
--- a record by what it says and what is known
-pub told-is : (t : Told) (body : Body) (known : Known) → t.body ≡ body → t.known ≡ known → t ≡ record { body = body; known = known }
-told-is t body known is_body is_known = let whole : t ≡ record { body = t.body; known = t.known } = refl in cc
-
 -- the first record, and those behind it
 pub first-is : (t s : Told) (g h : List Told) → t ∷ g ≡ s ∷ h → (t ≡ s) × (g ≡ h)
 first-is t s g h e = (cc, cc)
@@ -30,19 +26,6 @@ none-joined (t ∷ one) rest e = absurd (cc)
 pub passed : {A : Type 0} (test : Bool) (s s' : A) → cond test (Some s) None ≡ Some s' → (test ≡ true) × (s' ≡ s)
 passed true s s' h = (refl, cc)
 passed false s s' h = absurd (cc)
-
--- entries that are the same
-pub same_entry-itself : (e : Entry) → same_entry e e ≡ true
-same_entry-itself e = rw (same_number e.pool, same_number e.block, same_number e.name) refl
-
-pub same_entry-is : (d e : Entry) → same_entry d e ≡ true → d ≡ e
-same_entry-is d e h =
-    let e1 : d.pool ≡ e.pool = grind (arith, nat_tests) in
-    let e2 : d.block ≡ e.block = grind (arith, nat_tests) in
-    let e3 : d.name ≡ e.name = grind (arith, nat_tests) in
-    let left : d ≡ entry d.pool d.block d.name = refl in
-    let right : e ≡ entry e.pool e.block e.name = refl in
-    cc
 
 -- an answer that is right in both cases
 pub decides : (b : Bool) (P : Type 0) → (b ≡ true → P) → (b ≡ false → P → ⊥) → Decides b P

@@ -10,7 +10,8 @@ use Rattle.qp_model.specs.Kernels.{may_try}
 use Rattle.qp_model.specs.Sources.{SeesEmpty, SeesEntry, Tries, Settles, priorities}
 use Rattle.qp_model.proofs.LineLemmas.{same_number}
 use Rattle.qp_sources.specs.SettleRest.{SettleRest, Before, Seeing, before_next, behind_seen, seen_next, settle_next}
-use Rattle.qp_sources.proofs.RecordLemmas.{told-is, first-is}
+use Rattle.qp_model.proofs.RecordLemmas.{told-is}
+use Rattle.qp_sources.proofs.RecordLemmas.{first-is}
 
 -- the queues that are left are seen empty, or a try ends and others follow
 pub data SeesOn (sys : System) (kernel : ℕ) (os : List ℕ) (g : List Told) : Type 0 where

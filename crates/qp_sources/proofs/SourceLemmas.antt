@@ -14,7 +14,8 @@ use Rattle.qp_model.proofs.LineLemmas.{same_number}
 use Rattle.qp_fits.specs.Decides.{Decides}
 use Rattle.qp_sources.specs.Underway.{Underway, underway_begin, underway_next, underway_done}
 use Rattle.qp_sources.specs.SourceRest.{SourceRest, Between, Within, stim_next, goes_on, source_next}
-use Rattle.qp_sources.proofs.RecordLemmas.{mapped, told-is, first-is, none-first}
+use Rattle.qp_model.proofs.RecordLemmas.{told-is}
+use Rattle.qp_sources.proofs.RecordLemmas.{mapped, first-is, none-first}
 use Rattle.qp_sources.proofs.CallLemmas.{CallLaws}
 use Rattle.qp_sources.proofs.UnderwayLemmas.{UnderwayFits, IsUnderway, begin-whole, begin-sound, begin-opens, next-whole, next-sound, next-opens, done-end}
 use Rattle.qp_sources.proofs.EndsLemmas.{EndsOf, ends-begin, ends-begun, ends-whole, ends-sound}

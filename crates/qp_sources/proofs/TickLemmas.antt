@@ -13,7 +13,8 @@ use Rattle.qp_model.specs.Sites.{ring_of}
 use Rattle.qp_model.specs.Sources.{TicksOne, FiresInVain, Ticks}
 use Rattle.qp_model.proofs.LineLemmas.{same_number}
 use Rattle.qp_sources.specs.TickRest.{Due, dues, TickRest, Reaching, Fired, Vain, reach_next, had_room, fired_next, tick_next}
-use Rattle.qp_sources.proofs.RecordLemmas.{told-is, first-is, same_entry-is, passed}
+use Rattle.qp_model.proofs.RecordLemmas.{told-is, same_entry-is}
+use Rattle.qp_sources.proofs.RecordLemmas.{first-is, passed}
 
 -- a timer of no rate
 abbrev pub timer_of : Due → TimerDef

@@ -13,7 +13,7 @@ use Rattle.qp_model.specs.Record.{Item, item_of}
 use Rattle.qp_model.specs.History.{lane_items}
 use Rattle.qp_model.specs.Sources.{entry_seen, same_list, none_twice}
 use Rattle.qp_sources.specs.Tries.{entries_seen, Holds, with_seen, repeats}
-use Rattle.qp_sources.proofs.ItemLemmas.{items-up_to, items-split}
+use Rattle.qp_model.proofs.RecordLemmas.{items-up_to, items-split}
 
 -- the order tells lists apart as the test does
 first-same : (x y : ℕ) (o : Ordering) (same : Bool) → is_eq o ≡ same → is_eq (ordering_then (nat_cmp x y) o) ≡ ((y == x) && same)

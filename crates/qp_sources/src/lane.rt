@@ -5,25 +5,18 @@ ghost use Rattle.qp_model.specs.declared.journals.Journal.{Journal};
 ghost use Rattle.qp_model.specs.Record.{Item};
 ghost use Rattle.qp_model.specs.Knowing.{Facts};
 ghost use Rattle.qp_model.specs.History.{lane_items};
-ghost use Rattle.qp_model.specs.Ends.{may_cut};
 ghost use Rattle.qp_model.specs.Sources.{IsSourceLane, source_records};
 ghost use Rattle.qp_model.specs.Lawful.{SpillStands, facts_of};
 ghost use Rattle.qp_fits.specs.Decides.{Decides};
 ghost use Rattle.qp_sources.specs.AsSource.{some_may_end, may_spill};
 
-use crate::records::{are_of_none, spills_in};
+use crate::records::{are_of_none, spills_cut, spills_in};
 use crate::stops::{Stops, may_stop};
 use crate::tries::tries_differ;
 use qp_fits::Told;
+use qp_model::ends::may_cut;
 use qp_model::{Rec, Stim, System};
 use std::alloc::{AllocError, Global};
-
-/// Whether lists may be cut, where a run ended so.
-fn may_cut(end: u8) -> bool
-    ensures { result ≡ may_cut end }
-{
-    end == 3 || end == 4
-}
 
 /// Whether one of these ends is allowed.
 fn some_may_end(stops: Stops, end: u8, spills: bool) -> bool
@@ -60,6 +53,9 @@ pub fn is_source_lane(
     ensures { IfOk result (λ is. (w : Facts) → w.sys ≡ sys.now → told.now ≡ source_records w (lane_items lane.now) → Decides is (IsSourceLane w kernel end stimuli.now (lane_items lane.now))) }
 {
     if !are_of_none(lane) {
+        return Ok(false);
+    }
+    if !spills_cut(end, lane) {
         return Ok(false);
     }
     if !tries_differ(alloc, lane)? {

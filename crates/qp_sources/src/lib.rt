@@ -7,11 +7,10 @@ mod scene;
 mod settle_rest;
 mod source_rest;
 mod stops;
-#[cfg(test)]
-mod tests;
 mod tick_rest;
 mod tries;
 mod underway;
 
 pub use lane::{is_source_lane, spill_stands};
+pub use records::spills_cut;
 pub use stops::{Stops, may_stop};

@@ -2,10 +2,11 @@
 
 ghost use Rattle.std.specs.Prelude.{◌≡◌, ◌==◌};
 ghost use Rattle.std.specs.List.{list_all};
-ghost use Rattle.qp_model.specs.Ends.{is_spill as spills, spills_in as spilt};
+ghost use Rattle.qp_model.specs.Ends.{is_spill as spills, spills_cut as cut, spills_in as spilt};
 ghost use Rattle.qp_model.specs.History.{lane_items};
 ghost use Rattle.qp_model.specs.Record.{item_of};
 
+use qp_model::ends::may_cut;
 use qp_model::{Body, Rec};
 
 /// Whether no record of a lane is for an object.
@@ -38,4 +39,14 @@ pub fn spills_in(lane: &[Rec]) -> bool
         }
     }
     false
+}
+
+/// Whether a `spill` stands in a lane only as its last record, and only where the run ended so that lists may be cut.
+pub fn spills_cut(end: u8, lane: &[Rec]) -> bool
+    ensures { result ≡ cut end (lane_items lane.now) }
+{
+    match lane.split_last() {
+        Some((last, before)) => !spills_in(before) && (!is_spill(last) || may_cut(end)),
+        None => true,
+    }
 }

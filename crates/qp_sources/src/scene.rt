@@ -1,8 +1,7 @@
-//! What a system says of queues, pools and kernels.
+//! What a system says of queues and pools.
 
 ghost use Rattle.std.specs.Prelude.{◌≡◌, map, None, is_some};
 ghost use Rattle.qp_model.specs.Able.{has_pool};
-ghost use Rattle.qp_model.specs.Kernels.{may_try};
 ghost use Rattle.qp_model.specs.Parts.{first_pool};
 ghost use Rattle.qp_model.specs.Sites.{ring_of};
 ghost use Rattle.qp_fits.specs.AsCall.{as_call};
@@ -10,22 +9,15 @@ ghost use Rattle.qp_fits.specs.Reads.{call_able};
 ghost use Rattle.qp_sources.specs.TickRest.{had_room};
 
 use qp_fits::Call;
-use qp_fits::lookups::{had_free, is_static, ring_of};
+use qp_fits::lookups::had_free;
 use qp_model::{PoolDef, System};
-
-/// Whether a lane of a run with this kernel may try a `settle` in vain.
-pub fn may_try(kernel: u8) -> bool
-    ensures { result ≡ may_try kernel }
-{
-    kernel == 1 || kernel == 2
-}
 
 /// Whether an entry of the queue of `a` was free before a post after which the counts are these.
 #[tactic(auto, unfolding(crate::specs::TickRest::had_room))]
 pub fn had_room(sys: &System, a: u8, f: u64, l: u64, m: u64) -> bool
     ensures { result ≡ had_room (ring_of sys.now a) f l m }
 {
-    had_free(ring_of(sys, a), 0, f, l, m)
+    had_free(sys.ring_of(u64::from(a)), 0, f, l, m)
 }
 
 /// Whether a pool has room for so many parameters.
@@ -45,7 +37,7 @@ fn has_room(pools: &[PoolDef], n: usize) -> bool
 fn has_pool(sys: &System, sig: u16, n: usize) -> bool
     ensures { result ≡ has_pool sys.now sig n }
 {
-    is_static(sys, sig) || has_room(&sys.pools.items, n)
+    sys.is_static(u64::from(sig)) || has_room(&sys.pools.items, n)
 }
 
 /// Whether a call has what it asks for, with no entry at hand.

@@ -7,8 +7,8 @@ ghost use Rattle.qp_sources.specs.SettleRest.{Seeing, behind_seen, seen_next, be
 ghost use Rattle.qp_sources.specs.AsRests.{objects_from, as_settle};
 ghost use Rattle.qp_model.specs.Sources.{priorities};
 
-use crate::scene::may_try;
 use qp_fits::{Known, Told};
+use qp_model::kernels::may_try;
 use qp_model::{Body, ObjectDef, System};
 
 /// What is left of a settle.

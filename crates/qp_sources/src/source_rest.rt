@@ -9,9 +9,9 @@ ghost use Rattle.qp_model.specs.Sources.{look_may};
 ghost use Rattle.qp_sources.specs.SourceRest.{Between, stim_next, stim_of, is_ready, within_next, source_next, source_after};
 ghost use Rattle.qp_sources.specs.AsSource.{as_source, rest_of};
 
-use crate::scene::may_try;
 use crate::underway::Underway;
 use qp_fits::{Known, Told};
+use qp_model::kernels::may_try;
 use qp_model::{Body, Stim, System};
 use std::alloc::{AllocError, Global};
 

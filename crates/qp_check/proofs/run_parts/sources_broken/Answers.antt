@@ -2,7 +2,7 @@ use Rattle.std.proofs.Common.{◌≡◌, ◌∙◌, ◌+◌, refl}
 use Rattle.qp_model.specs.History.{lane_items}
 use Rattle.qp_model.specs.Home.{lane_at}
 use Rattle.qp_model.specs.Lawful.{facts_of, lanes_before}
-use Rattle.qp_check.specs.declared.verdict.Site.TheVariants as site
+use Rattle.qp_word_rules.specs.declared.verdict.Site.TheVariants as site
 use Rattle.qp_model.specs.Sources.{IsSourceLane}
 use Rattle.qp_check.proofs.DecideLemmas.{decided, denied}
 use Rattle.qp_check.proofs.SourceFindLemmas.{sources-broken, sources-first, sources-last, sources-next}

@@ -1,7 +1,7 @@
 use Rattle.qp_fits.specs.AsPiece.{as_cut}
 use Rattle.qp_shapes.specs.GroupsLast.{kinds}
 use Rattle.qp_shapes.proofs.ObjectTestLemmas.{start-goes, start-breaks}
-use Rattle.qp_shapes.proofs.ObjectShapeLemmas.{kind-laws, first-decided}
+use Rattle.qp_shapes.proofs.ObjectShapeLemmas.{kind-laws}
 use Rattle.qp_shapes.proofs.object_shape.ends_start.Goals as goal
 
 pub returns-in-Some : goal.returns-in-Some
@@ -12,5 +12,4 @@ returns-in-Some c =
 pub returns-in-None : goal.returns-in-None
 returns-in-None c =
     start-breaks (kinds c.args.scene.now.sys.now c.args.scene.now.o (as_cut c.args.cut)) c.args.nils (kind-laws c.args.scene.now.sys.now c.args.scene.now.o (as_cut c.args.cut)) c.args.told.now
-    c.behind_groups.result.now c.breaks_off.result c.behind_groups.ensures c.in-None.ensures
-    (first-decided c.args.scene.now.sys.now c.args.scene.now.o (as_cut c.args.cut) (as_cut c.start_cut.result) c.args.told.now c.breaks_off.result c.start_cut.ensures c.breaks_off.ensures)
+    c.behind_groups.result.now c.breaks_start.result c.behind_groups.ensures c.in-None.ensures c.breaks_start.ensures

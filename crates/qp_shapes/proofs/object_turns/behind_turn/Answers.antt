@@ -1,6 +1,6 @@
 use Rattle.qp_model.specs.Shapes.{Drops}
 use Rattle.qp_shapes.specs.ShapeAction.{IsWhole}
-use Rattle.qp_shapes.proofs.ObjectTurnLemmas.{turn-body, turn-headless, turn-nil}
+use Rattle.qp_shapes.proofs.ObjectTurnLemmas.{turn-body, turn-headless, turn-look}
 use Rattle.qp_shapes.proofs.object_turns.behind_turn.Goals as goal
 
 pub returns-in-Some-behind_head : goal.returns-in-Some-behind_head
@@ -14,4 +14,4 @@ returns-in-None-behind_head c =
 
 pub returns-in-None : goal.returns-in-None
 returns-in-None c =
-    turn-nil (IsWhole c.args.scene.now.sys.now c.args.scene.now.o) Drops c.args.nils c.args.told.now _ c.in-None.ensures c.behind_nil.ensures
+    turn-look (IsWhole c.args.scene.now.sys.now c.args.scene.now.o) Drops c.args.nils c.args.told.now _ c.in-None.ensures c.behind_look.ensures

@@ -1,9 +1,0 @@
-use Rattle.std.proofs.Common.{◌≡◌, drop}
-use Rattle.qp_check.specs.Judging.{rule_test}
-use Rattle.qp_check.specs.WordRules.{first_broken, tries_at}
-use Rattle.qp_check.proofs.judge.first_at.Given as goal
-
-abbrev pub invariant-loop-word : goal.invariant-loop-word
-invariant-loop-word l =
-    first_broken (tries_at (rule_test l.gathered.sys.now l.gathered.lanes.now) l.rule l.words)
-    ≡ first_broken (tries_at (rule_test l.gathered.sys.now l.gathered.lanes.now) l.rule (drop l.word-index l.words))

@@ -1,0 +1,3 @@
+pub mod JournalEnd
+pub mod Resting
+pub mod Takes

@@ -1,0 +1,6 @@
+pub mod GatheredLemmas
+pub mod KnownHistoryLemmas
+pub mod NumberLemmas
+pub mod RiseLemmas
+pub mod SlotLemmas
+pub mod TableLemmas

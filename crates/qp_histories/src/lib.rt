@@ -1,0 +1,16 @@
+//! The histories of words: the words of a system, the records on each of them, gathered in one pass over the lanes, and the operations
+//! among these, in the order of their numbers.
+#![tactic(auto)]
+
+// The words of a system, and the marks of records on them.
+pub mod marks;
+pub mod words;
+
+// The operations on a word, in order.
+pub mod histories;
+
+// The records on each word.
+mod falling;
+pub mod gathered;
+pub mod known_history;
+mod slots;

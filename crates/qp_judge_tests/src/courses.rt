@@ -1,0 +1,268 @@
+//! The agendas of a chart of two states, and lists that follow it.
+
+ghost use Rattle.std.specs.Prelude.{◌≡◌, true, length, IsTrue, IfOk};
+ghost use Rattle.qp_chart.specs.declared.raw.Names.{Names};
+ghost use Rattle.qp_chart.specs.Readable.{IsReadable, IsReadableState};
+ghost use Rattle.qp_model.specs.declared.systems.System.{System};
+ghost use Rattle.qp_model.specs.declared.systems.ObjectDef.{ObjectDef};
+ghost use Rattle.qp_model.specs.Able.{state_able, chart_able};
+ghost use Rattle.qp_course.specs.Followable.{IsFollowable};
+
+use crate::samples::{entry, lamp, name, no_pars, plain};
+use qp_chart::{
+    Chart, ChartFault, Env, Name, Names, ObjNames, RawChart, RawRows, RawState, RawStates,
+    RawTimers, SigNames, State, Texts, Vars,
+};
+use qp_course::{Task, follows, follows_with_points, start_plan, step_plan};
+use qp_fits::{Cut, Known, Piece, Told};
+use qp_model::{Body, Charts, ObjectDefs, PoolDefs, SignalDefs, System, TimerDefs};
+use std::alloc::{AllocError, Global};
+use std::test::Fail;
+
+fn texts(alloc: Global) -> Texts
+    ensures { length result ≡ 0 }
+{
+    Texts {
+        items: Vec::new(alloc),
+    }
+}
+
+fn state(alloc: Global, own: &str, parent: Option<Name>, init: Option<Name>) -> RawState
+    ensures { IsReadableState result }
+{
+    RawState {
+        name: name(own),
+        parent,
+        entry: texts(alloc),
+        exit: texts(alloc),
+        init,
+        init_do: texts(alloc),
+        row: RawRows {
+            items: Vec::new(alloc),
+        },
+    }
+}
+
+// State `outer` with `inner` in it, which is its initial target.
+fn nested(alloc: Global) -> Result<RawChart, AllocError>
+    ensures { IfOk result (λ chart. (names : Names) → length names.signals ≡ 0 → length names.objects ≡ 0 → IsReadable names chart) }
+{
+    let mut items = Vec::new(alloc);
+    items.push(state(alloc, "outer", None, Some(name("inner"))))?;
+    items.push(state(alloc, "inner", Some(name("outer")), None))?;
+    Ok(RawChart {
+        name: name("nested"),
+        init: name("outer"),
+        init_do: texts(alloc),
+        vars: Vars {
+            items: Vec::new(alloc),
+        },
+        timer: RawTimers {
+            items: Vec::new(alloc),
+        },
+        state: RawStates { items },
+    })
+}
+
+fn chart(alloc: Global) -> Result<Chart, ChartFault> {
+    let names = Names {
+        signals: SigNames {
+            items: Vec::new(alloc),
+        },
+        objects: ObjNames {
+            items: Vec::new(alloc),
+        },
+    };
+    let raw = match nested(alloc) {
+        Ok(raw) => raw,
+        Err(_) => return Err(ChartFault::Memory),
+    };
+    Chart::check(alloc, &raw, &names)
+}
+
+#[test]
+fn a_start_enters_down_to_the_leaf(rt: HostRuntime) -> Result<(), Fail> {
+    let chart = chart(rt.alloc())?;
+    let plan = start_plan(rt.alloc(), &chart)?;
+    assert_eq!(rt; plan.leaf, 2);
+    assert_eq!(rt; plan.tasks.len(), 5);
+    let [first, outer, init, inner, last] = plan.tasks.as_slice() else {
+        return Ok(());
+    };
+    assert!(rt; matches!(first, Task::Begin));
+    assert!(rt; matches!(outer, Task::Enter { state: 1 }));
+    assert!(rt; matches!(init, Task::Init { state: 1 }));
+    assert!(rt; matches!(inner, Task::Enter { state: 2 }));
+    assert!(rt; matches!(last, Task::Done));
+    Ok(())
+}
+
+#[test]
+fn an_event_without_a_row_is_unhandled(rt: HostRuntime) -> Result<(), Fail> {
+    let chart = chart(rt.alloc())?;
+    let env = Env {
+        vars: &[],
+        pars: &[],
+        ok: 0,
+        me: 1,
+    };
+    let plan = step_plan(rt.alloc(), &chart, 2, &env, 4)?;
+    assert_eq!(rt; plan.leaf, 2);
+    assert_eq!(rt; plan.tasks.len(), 2);
+    let [first, last] = plan.tasks.as_slice() else {
+        return Ok(());
+    };
+    assert!(rt; matches!(first, Task::Unhandled));
+    assert!(rt; matches!(last, Task::Done));
+    Ok(())
+}
+
+fn has_no_action(s: &State) -> bool
+    ensures { IsTrue result → (sys : System) → state_able sys s.now ≡ true }
+{
+    if !s.entry().is_empty() {
+        return false;
+    }
+    if !s.exit().is_empty() {
+        return false;
+    }
+    if !s.init_do().is_empty() {
+        return false;
+    }
+    s.row().is_empty()
+}
+
+/// The chart has no action, so it asks for nothing.
+fn is_idle(chart: &Chart) -> bool
+    ensures { IsTrue result → (sys : System) → chart_able sys chart.now ≡ true }
+{
+    for s in chart.state() {
+        if !has_no_action(s) {
+            return false;
+        }
+    }
+    chart.init_do().is_empty()
+}
+
+/// A system of this chart alone.
+fn system(alloc: Global, chart: Chart) -> Result<System, AllocError>
+    requires { (sys : System) → chart_able sys chart ≡ true }
+    ensures { IfOk result (λ sys. (d : ObjectDef) → d.chart ≡ 1 → IsFollowable sys d) }
+{
+    let mut items = Vec::new(alloc);
+    items.push(chart)?;
+    Ok(System {
+        pools: PoolDefs {
+            items: Vec::new(alloc),
+        },
+        signals: SignalDefs {
+            items: Vec::new(alloc),
+        },
+        charts: Charts { items },
+        objects: ObjectDefs {
+            items: Vec::new(alloc),
+        },
+        timers: TimerDefs {
+            items: Vec::new(alloc),
+        },
+    })
+}
+
+/// An entry of static event 4 is taken.
+fn taken(known: Known) -> Told {
+    Told {
+        body: Body::Took {
+            f: 1,
+            l: 0,
+            m: 0,
+            entry: entry(0, 0, 4),
+        },
+        known,
+    }
+}
+
+fn event() -> Known {
+    Known::OfEvent {
+        sig: 4,
+        pars: no_pars(),
+    }
+}
+
+/// A start, and a step over an event that has no row.
+fn start_and_step() -> [Told; 8] {
+    [
+        plain(Body::Begin),
+        plain(Body::Enter { state: 1 }),
+        plain(Body::Init { state: 1 }),
+        plain(Body::Enter { state: 2 }),
+        plain(Body::Done),
+        taken(event()),
+        plain(Body::Unhandled),
+        plain(Body::Done),
+    ]
+}
+
+#[test]
+fn a_start_and_a_step_follow_their_chart(rt: HostRuntime) -> Result<(), Fail> {
+    let chart = chart(rt.alloc())?;
+    assert!(rt; is_idle(&chart));
+    let sys = system(rt.alloc(), chart)?;
+    let d = lamp(rt.alloc());
+    let told = start_and_step();
+    for (cut, n, want) in [
+        (Cut::Whole, 0, false),
+        (Cut::Stopped, 0, true),
+        (Cut::Whole, 4, false),
+        (Cut::Stopped, 4, false),
+        (Cut::Anywhere, 4, true),
+        (Cut::Whole, 5, true),
+        (Cut::Whole, 7, false),
+        (Cut::Anywhere, 7, true),
+        (Cut::Whole, 8, true),
+    ] {
+        let front = &told[..told.len().min(n)];
+        let follows = follows(rt.alloc(), &sys, &d, cut, front)?;
+        assert_eq!(rt; follows, want, "the first {n}");
+    }
+    Ok(())
+}
+
+#[test]
+fn records_that_do_not_follow(rt: HostRuntime) -> Result<(), Fail> {
+    let chart = chart(rt.alloc())?;
+    assert!(rt; is_idle(&chart));
+    let sys = system(rt.alloc(), chart)?;
+    let d = lamp(rt.alloc());
+    let defects = [
+        (1, plain(Body::Enter { state: 2 })),
+        (4, plain(Body::Enter { state: 2 })),
+        (5, plain(Body::Begin)),
+        (5, taken(Known::Nothing)),
+        (6, plain(Body::Run { state: 2, row: 1 })),
+        (7, plain(Body::Unhandled)),
+    ];
+    for (n, defect) in defects {
+        let mut told = start_and_step();
+        let last = n.min(7);
+        told[last] = defect;
+        let follows = follows(rt.alloc(), &sys, &d, Cut::Anywhere, &told[..=last])?;
+        assert!(rt; !follows, "record {n}");
+    }
+    Ok(())
+}
+
+#[test]
+fn a_start_has_no_point(rt: HostRuntime) -> Result<(), Fail> {
+    let chart = chart(rt.alloc())?;
+    assert!(rt; is_idle(&chart));
+    let sys = system(rt.alloc(), chart)?;
+    let d = lamp(rt.alloc());
+    let records = [
+        Piece::Tell(plain(Body::Begin)),
+        Piece::Tell(plain(Body::Enter { state: 1 })),
+    ];
+    assert!(rt; follows_with_points(rt.alloc(), &sys, &d, Cut::Anywhere, &records)?);
+    let pointed = [Piece::Tell(plain(Body::Begin)), Piece::Point];
+    assert!(rt; !follows_with_points(rt.alloc(), &sys, &d, Cut::Anywhere, &pointed)?);
+    Ok(())
+}

@@ -1,0 +1,54 @@
+-- What the tables of a journal say, as the definitions know it.
+use Rattle.std.proofs.Common.{◌≡◌, ℕ, suc, ◌+◌, ◌-◌, ◌≤◌, ◌==◌, nat_lt, min, Bool, true, false, cond, List, [], length, get_or, refl, ap, ◌∙◌, Some, None, arith}
+use Rattle.qp_model.specs.declared.systems.System.{System}
+use Rattle.qp_model.specs.declared.journals.Journal.{Journal}
+use Rattle.qp_model.specs.declared.bodies.Entry.{Entry}
+use Rattle.qp_model.specs.declared.words.Word.TheVariants as word
+use Rattle.qp_model.specs.History.{all_items, hist}
+use Rattle.qp_model.specs.Machine.{after}
+use Rattle.qp_model.specs.FreeBlocks.{free_blocks}
+use Rattle.qp_model.specs.References.{references}
+use Rattle.qp_model.specs.Subscribers.{subscribers}
+use Rattle.qp_model.specs.Sites.{blocks_of}
+use Rattle.qp_model.specs.Knowing.{event_of, life_event, free_before, last_given, left_after, set_at}
+use Rattle.qp_model.specs.Lawful.{facts_of}
+use Rattle.qp_known.specs.KnownTables.{free_counts, left_counts, member_lists, value_at}
+use Rattle.qp_known.proofs.KnownTableLemmas.{length-values, value-at}
+
+module _ (sys : System) (j : Journal) where
+  pub free-at : (xs : List ℕ) (p n : ℕ) → xs ≡ free_counts (blocks_of sys p) (hist (word.Pool p) (all_items j.lanes)) → value_at 0 xs n ≡ free_before (facts_of sys j) p n
+  unfolding free_before free_counts after facts_of
+  free-at xs p n is =
+      ap (λ l. value_at 0 l n) is ∙ value-at (free_blocks (blocks_of sys p)) (λ s. length s.free) 0 (free_blocks (blocks_of sys p)).first (hist (word.Pool p) (all_items j.lanes)) n
+
+  -- the place behind operation d, which may be as large as its type allows
+  pub left-at : (xs : List ℕ) (p b d n : ℕ) → n ≡ min (d + 1) 18446744073709551615 → length xs ≤ 18446744073709551615
+      → xs ≡ left_counts (hist (word.Block p b) (all_items j.lanes)) → value_at 0 xs n ≡ left_after (facts_of sys j) p b d
+  unfolding left_after left_counts after facts_of
+  left-at xs p b d n at few is =
+      let same : min n (length xs - 1) ≡ min (d + 1) (length xs - 1) = omega (arith, at, few) in
+      ap (λ k. get_or xs k 0) same ∙ ap (λ l. value_at 0 l (d + 1)) is
+      ∙ value-at references (λ s. length s.names) 0 references.first (hist (word.Block p b) (all_items j.lanes)) (d + 1)
+
+  pub members-at : (xs : List (List ℕ)) (sig n : ℕ) → xs ≡ member_lists (hist (word.Signal sig) (all_items j.lanes)) → value_at [] xs n ≡ set_at (facts_of sys j) sig n
+  unfolding set_at member_lists after facts_of
+  members-at xs sig n is =
+      ap (λ l. value_at [] l n) is ∙ value-at subscribers (λ s. s.members) [] subscribers.first (hist (word.Signal sig) (all_items j.lanes)) n
+
+  pub event-in_pool : (e : Entry) → (e.pool == 0) ≡ false
+      → event_of (facts_of sys j) e
+      ≡ cond (nat_lt e.name (length (hist (word.Block e.pool e.block) (all_items j.lanes)))) (last_given e.block e.name None (hist (word.Pool e.pool) (all_items j.lanes))) None
+  unfolding event_of life_event facts_of
+  event-in_pool e other = rw other refl
+
+  -- the length of a block's history by its table
+  pub left-long : (xs : List ℕ) (p b : ℕ) → xs ≡ left_counts (hist (word.Block p b) (all_items j.lanes)) → length xs - 1 ≡ length (hist (word.Block p b) (all_items j.lanes))
+  unfolding left_counts
+  left-long xs p b is =
+      let long : length xs ≡ suc (length (hist (word.Block p b) (all_items j.lanes))) =
+      ap length is ∙ length-values references (λ s. length s.names) references.first (hist (word.Block p b) (all_items j.lanes)) in
+      omega (arith, long)
+
+  pub event-static : (e : Entry) → (e.pool == 0) ≡ true → event_of (facts_of sys j) e ≡ Some (record { sig = e.block; pars = [] })
+  unfolding event_of facts_of
+  event-static e same = rw same refl

@@ -1,0 +1,7 @@
+pub mod CutLemmas
+pub mod HomeLaneLemmas
+pub mod KnownEventLemmas
+pub mod KnownFactLemmas
+pub mod KnownTableLemmas
+pub mod KnownWordLemmas
+pub mod ToldLemmas

@@ -1,0 +1,7 @@
+pub mod HomeCounts
+pub mod Knowledge
+pub mod KnownFacts
+pub mod KnownTables
+pub mod KnownWords
+pub mod Looks
+pub mod SpillCuts

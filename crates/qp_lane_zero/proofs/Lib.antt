@@ -1,0 +1,10 @@
+pub mod AboveLemmas
+pub mod FoundLemmas
+pub mod LookLemmas
+pub mod OneOrderLemmas
+pub mod OrderLemmas
+pub mod OrderNumberLemmas
+pub mod ProgressLemmas
+pub mod ReadingLemmas
+pub mod StimulatedLemmas
+pub mod TurnLemmas

@@ -1,0 +1,7 @@
+pub mod DeferredLemmas
+pub mod EndLemmas
+pub mod GroupLemmas
+pub mod ItemLemmas
+pub mod LaneLemmas
+pub mod ShortListLemmas
+pub mod WalkLemmas

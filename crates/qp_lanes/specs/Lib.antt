@@ -1,0 +1,5 @@
+pub mod Deferral
+pub mod Groups
+pub mod Options
+pub mod Touches
+pub mod WordTotals

@@ -1,0 +1,5 @@
+pub mod BrokenLemmas
+pub mod LawLemmas
+pub mod ShownLemmas
+pub mod SiteLemmas
+pub mod WordLemmas

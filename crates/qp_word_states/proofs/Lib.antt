@@ -1,0 +1,4 @@
+pub mod BitLemmas
+pub mod BlockLifeLemmas
+pub mod HeldLemmas
+pub mod StandingLemmas

@@ -1,0 +1,10 @@
+use Rattle.std.proofs.Common.{◌≡◌, ◌≤◌, drop}
+use Rattle.qp_model.specs.Machine.{is_allowed, allowed_from}
+use Rattle.qp_word_states.proofs.held.is_allowed.Given as goal
+
+abbrev pub invariant-loop-r : goal.invariant-loop-r
+invariant-loop-r g l = record {
+  same : g.H.Held.machine l.held ≡ g.H.Held.machine l.initial.held;
+  rest : is_allowed (g.H.Held.machine l.initial.held) l.history ≡ allowed_from (g.H.Held.machine l.initial.held) (g.H.Held.state l.held) (drop l.r-index l.history);
+  counted : (g.H.Held.machine l.initial.held).count (g.H.Held.state l.held) ≤ l.r-index;
+}

@@ -1,0 +1,3 @@
+pub mod BlockLives
+pub mod Held
+pub mod Standing
