@@ -21,9 +21,9 @@ use Rattle.qp_model.specs.declared.systems.ObjectDef.{ObjectDef}
 use Rattle.qp_model.specs.Course.{chart_at}
 use Rattle.qp_course.specs.Followable.{IsFollowable, with_eight}
 use Rattle.qp_check.specs.Judgeable.{IsJudgeable}
-use Rattle.qp_check.specs.Numbers.{WordsFit}
-use Rattle.qp_system.specs.Sound.{IsSound, IsSoundObject, IsSoundPool, IsSoundSignal}
-use Rattle.qp_system.specs.SoundChart.{IsSignal, IsSoundAct, IsSoundChart, IsSoundEvent, IsSoundPlain, IsSoundRow, IsSoundState}
+use Rattle.qp_histories.specs.Numbers.{WordsFit}
+use Rattle.qp_model.specs.Sound.{IsSound, IsSoundObject, IsSoundPool, IsSoundSignal}
+use Rattle.qp_model.specs.SoundChart.{IsSignal, IsSoundAct, IsSoundChart, IsSoundEvent, IsSoundPlain, IsSoundRow, IsSoundState}
 
 all-of : {A : Type 0} {P : A → Type 0} (p : A → Bool) → ((x : A) → P x → p x ≡ true) → (xs : List A) → AllByRecursion P xs → list_all p xs ≡ true
 all-of p f [] all = refl

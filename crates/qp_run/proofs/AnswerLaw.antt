@@ -2,7 +2,7 @@
 use Rattle.std.proofs.Common.{◌≡◌, ℕ, ◌≤◌, true, List, length, Option, Some, None, Result, Ok, Err, ◌⊎◌, sym, ap, subst, ◌∙◌, arith, inl, inr}
 use Rattle.std.proofs.lemmas.Bool.{false≢true}
 use Rattle.qp_alike.proofs.LawLemmas.{stimuli_are_one, verdicts_are_one}
-use Rattle.qp_base.specs.declared.shelves.TheConstants.{FILE_LIMIT}
+use Rattle.qp_base.specs.Limits.{file_limit}
 use Rattle.qp_model.specs.declared.stimulus.Stim.{Stim}
 use Rattle.qp_model.specs.declared.systems.System.{System}
 use Rattle.qp_stim.specs.Stimuli.{Fault, stimuli_of}
@@ -34,7 +34,7 @@ loaded-goes_on file None bytes a loaded ends = let wrong = loaded.0 in cc
 loaded-goes_on file (Some found) bytes a loaded ends =
     let same : found ≡ bytes = let is = loaded.0 in cc in
     let long = ends.0 in
-    let short : length found ≤ FILE_LIMIT = rw same loaded.1 in
+    let short : length found ≤ file_limit = rw same loaded.1 in
     omega (arith, long, short)
 
 pub loaded-one : (held : Option (List ℕ)) (x y : List ℕ) → IsLoaded held x → IsLoaded held y → x ≡ y

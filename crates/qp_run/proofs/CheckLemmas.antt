@@ -1,10 +1,10 @@
 -- A journal of three files, judged file by file.
-use Rattle.std.proofs.Common.{◌≡◌, ◌≢◌, ℕ, ◌<◌, ◌≤◌, ◌⊎◌, true, List, [], ◌∷◌, Option, IfSome, Result, Ok, Err, refl, sym, ap, subst, ◌∙◌, arith, inl, inr}
-use Rattle.std.proofs.lemmas.Bool.{false≢true}
+use Rattle.std.proofs.Common.{◌≡◌, ℕ, ◌<◌, ◌≤◌, ◌⊎◌, true, List, [], ◌∷◌, Option, IfSome, Result, Ok, Err, refl, sym, ap, subst, ◌∙◌, arith, inl, inr}
+use Rattle.std.proofs.lemmas.Option.{IfSome_then}
 use Rattle.std.specs.List.{AllByRecursion}
 use Rattle.qp_alike.proofs.LawLemmas.{stimuli_are_one, verdicts_carry_over}
-use Rattle.qp_check.specs.declared.verdict.Verdict.{Verdict}
-use Rattle.qp_check.specs.declared.verdict.Verdict.TheVariants.{Lawful}
+use Rattle.qp_word_rules.specs.declared.verdict.Verdict.{Verdict}
+use Rattle.qp_word_rules.specs.declared.verdict.Verdict.TheVariants.{Lawful}
 use Rattle.qp_check.specs.Judged.{IsVerdict, trials}
 use Rattle.qp_check.proofs.JudgedLemmas.{lawful_where_none_fails}
 use Rattle.qp_model.specs.declared.journals.Journal as journal
@@ -12,68 +12,22 @@ use Rattle.qp_model.specs.declared.stimulus.Stim.{Stim}
 use Rattle.qp_model.specs.declared.systems.ObjectDef.{ObjectDef}
 use Rattle.qp_model.specs.declared.systems.System.{System}
 use Rattle.qp_stim.specs.Stimuli.{Fault, stimuli_of}
-use Rattle.qp_system.specs.Sound.{IsSound}
+use Rattle.qp_model.specs.Sound.{IsSound}
 use Rattle.qp_system.specs.SystemOf.{IsSystemOf}
 use Rattle.qp_system.proofs.LawLemmas.{systems_have_no_fault}
 use Rattle.qp_text.specs.TextLaw.{IsWritable}
 use Rattle.qp_run.specs.declared.status.Status.{Status}
-use Rattle.qp_run.specs.declared.status.Status.TheVariants.{Done, Words, Absent, TooLong, Refused, Later, Asserted, Spent, Memory, ReadFault, WriteFault, Unlawful}
+use Rattle.qp_run.specs.declared.status.Status.TheVariants.{Memory}
 use Rattle.qp_run.specs.declared.words.values.Kind.TheVariants.{Journal}
-use Rattle.qp_run.specs.Checks.{HasLawful, IsLawfulText, Judges, JudgesFiles, JudgesFound, JudgesSecond, JudgesSystem, JudgesThird, RefusesFirst, RefusesSecond, JudgesStimuli, is_of_files, third, verdict_answer}
-use Rattle.qp_run.specs.Conversions.{Held, Refuses, is_of_content, said, written}
+use Rattle.qp_run.specs.Checks.{HasLawful, IsLawfulText, Judges, JudgesFiles, JudgesFound, JudgesSecond, JudgesSystem, JudgesThird, JudgesStimuli, third, verdict_answer}
+use Rattle.qp_run.specs.Conversions.{Held, IsFoundIn, Refuses, said, written}
 use Rattle.qp_run.specs.Loads.{IsLoaded}
-use Rattle.qp_run.specs.Verdict.{Counts, HasCause, is_failure, is_refusal}
-use Rattle.qp_run.specs.WordTable.{CheckWords}
+use Rattle.qp_run.specs.Verdict.{AgreesCheck, FailsToLoad, JudgesCall, is_failure}
+use Rattle.qp_run.specs.Refusals.{RefusesFirst, RefusesSecond}
+use Rattle.qp_run.specs.WordTable.{CheckWords, check_words}
 use Rattle.qp_run.proofs.AnswerLaw.{loaded-goes_on, loaded-one}
 use Rattle.qp_run.proofs.ConversionLemmas.{said-written}
-use Rattle.qp_run.proofs.VerdictLemmas.{FailsToLoad, IfSome-all, IfSome-both, IfSome-map}
-
--- an answer on what files say
-pub files-cause : (n : Counts) (status : Status) → is_of_files status ≡ true → HasCause n status
-files-cause n Memory of = tt
-files-cause n (Refused file code at) of = tt
-files-cause n (Unlawful definition at) of = tt
-files-cause n Done of = absurd (false≢true of)
-files-cause n Words of = absurd (false≢true of)
-files-cause n (Absent file) of = absurd (false≢true of)
-files-cause n (TooLong file len) of = absurd (false≢true of)
-files-cause n (Later file) of = absurd (false≢true of)
-files-cause n (Asserted code lane) of = absurd (false≢true of)
-files-cause n (Spent lane) of = absurd (false≢true of)
-files-cause n ReadFault of = absurd (false≢true of)
-files-cause n WriteFault of = absurd (false≢true of)
-
-pub files-about : (status : Status) → is_of_files status ≡ true → (is_refusal status ≡ true) × (status ≢ Words)
-files-about Memory of = (refl, λ e. cc)
-files-about (Refused file code at) of = (refl, λ e. cc)
-files-about (Unlawful definition at) of = (refl, λ e. cc)
-files-about Done of = absurd (false≢true of)
-files-about Words of = absurd (false≢true of)
-files-about (Absent file) of = absurd (false≢true of)
-files-about (TooLong file len) of = absurd (false≢true of)
-files-about (Later file) of = absurd (false≢true of)
-files-about (Asserted code lane) of = absurd (false≢true of)
-files-about (Spent lane) of = absurd (false≢true of)
-files-about ReadFault of = absurd (false≢true of)
-files-about WriteFault of = absurd (false≢true of)
-
-third-of : (status : Status) → is_of_content status ≡ true → is_of_files (third status) ≡ true
-third-of Memory of = refl
-third-of (Refused file code at) of = refl
-third-of (Unlawful definition at) of = absurd (false≢true of)
-third-of Done of = absurd (false≢true of)
-third-of Words of = absurd (false≢true of)
-third-of (Absent file) of = absurd (false≢true of)
-third-of (TooLong file len) of = absurd (false≢true of)
-third-of (Later file) of = absurd (false≢true of)
-third-of (Asserted code lane) of = absurd (false≢true of)
-third-of (Spent lane) of = absurd (false≢true of)
-third-of ReadFault of = absurd (false≢true of)
-third-of WriteFault of = absurd (false≢true of)
-
--- a refusal of the third file
-pub third-about : (refused status : Status) → status ≡ third refused → is_of_content refused ≡ true → is_of_files status ≡ true
-third-about refused status is of = ap is_of_files is ∙ third-of refused of
+use Rattle.qp_run.proofs.VerdictLemmas.{IfSome-all, IfSome-both}
 
 -- what a text says
 pub text-said : (form : ℕ) (j : journal.Journal) (bytes : List ℕ) → IsWritable form j × (written Journal form j ≡ bytes) → said Journal bytes ≡ Ok (form, j)
@@ -108,11 +62,11 @@ found-refused sys sources bytes refused status is (of, inr says) =
 -- what is answered on the three files
 module _ (o : Option Held) (system stimuli held : List ℕ) where
   abbrev Told : Status → Type 0
-  Told status = IfSome o (λ h. (is_failure status ≡ true) ⊎ JudgesFiles (h system) (h stimuli) (h held) status)
+  Told status = AgreesCheck o (check_words system stimuli held) status
 
   pub told-first : (status : Status) → IfSome o (λ h. FailsToLoad 1 (h system) status) → Told status
   unfolding JudgesFiles
-  told-first status told = IfSome-map o told by
+  told-first status told = IfSome_then o told by
     where
       by : (h : Held) → FailsToLoad 1 (h system) status → (is_failure status ≡ true) ⊎ JudgesFiles (h system) (h stimuli) (h held) status
       by h (inl failed) = inl failed
@@ -125,7 +79,7 @@ module _ (o : Option Held) (system stimuli held : List ℕ) where
 
     pub told-system : (status : Status) → (status ≡ Memory) ⊎ RefusesFirst bytes status → Told status
     told-system status (inl memory) = IfSome-all o (λ h. inl (ap is_failure memory))
-    told-system status (inr refuses) = IfSome-map o loaded (λ h is. inr (by-bytes h status is (inl refuses)))
+    told-system status (inr refuses) = IfSome_then o loaded (λ h is. inr (by-bytes h status is (inl refuses)))
 
     module _ (sys : System) (read : IsSystemOf bytes sys) where
       by-system : (h : Held) (status : Status) → IsLoaded (h system) bytes → JudgesSecond sys (h stimuli) (h held) status → JudgesFiles (h system) (h stimuli) (h held) status
@@ -166,7 +120,7 @@ module _ (o : Option Held) (system stimuli held : List ℕ) where
               by h both (inr ends) = inr (by-stimuli h status both.0 both.1 (inl ends))
 
           pub judged-third : (found : List ℕ) → IfSome o (λ h. IsLoaded (h held) found) → (status : Status) → JudgesFound sys sources (said Journal found) status
-              → IfSome o (λ h. JudgesFiles (h system) (h stimuli) (h held) status)
+              → JudgesCall o (check_words system stimuli held) status
           judged-third found found_loaded status judges =
               IfSome-both o both-loaded found_loaded
               (λ h both is. by-stimuli h status both.0 both.1 (inr (found, is, judges)))
@@ -174,7 +128,7 @@ module _ (o : Option Held) (system stimuli held : List ℕ) where
           pub told-judged : (found : List ℕ) → IfSome o (λ h. IsLoaded (h held) found) → (status : Status)
               → (is_failure status ≡ true) ⊎ JudgesFound sys sources (said Journal found) status → Told status
           told-judged found found_loaded status (inl failed) = IfSome-all o (λ h. inl failed)
-          told-judged found found_loaded status (inr judges) = IfSome-map o (judged-third found found_loaded status judges) (λ h is. inr is)
+          told-judged found found_loaded status (inr judges) = IfSome_then o (judged-third found found_loaded status judges) (λ h is. inr is)
 
 -- a system, its stimuli and the text of a lawful journal of these
 pub has-lawful : (o : Option Held) (w : CheckWords) (system stimuli bytes : List ℕ) (sys : System) (sources : List (List Stim))
@@ -191,7 +145,7 @@ has-lawful o w system stimuli bytes sys sources first second third_held read say
   j = j;
   system_read = read;
   stimuli_read = says;
-  journal_held = record { writable = writable; loaded = IfSome-map o third_held (λ h loaded. subst (IsLoaded (h w.journal)) is loaded) };
+  journal_held = record { writable = writable; loaded = IfSome_then o third_held (λ h loaded. subst (IsLoaded (h w.journal)) is loaded) };
   lawful = lawful;
 }
 

@@ -1,6 +1,7 @@
 -- Journals that are read from a file and written again.
 use Rattle.std.proofs.Common.{◌≡◌, ℕ, ◌⊎◌, true, false, List, Option, IfSome, Result, Ok, Err, refl, sym, ap, ◌∙◌, inl, inr}
 use Rattle.std.proofs.lemmas.Bool.{cond-true, cond-false}
+use Rattle.std.proofs.lemmas.Option.{IfSome_then}
 use Rattle.qp_model.specs.declared.journals.Journal as journal
 use Rattle.qp_model.specs.Output.{has_form}
 use Rattle.qp_text.proofs.TextRead.{reading_is_exact}
@@ -15,16 +16,15 @@ use Rattle.qp_frames.specs.declared.faults.FrameFault.TheVariants as frame_fault
 use Rattle.qp_frames.specs.declared.stream.Stream.{Stream}
 use Rattle.qp_frames.specs.Faults.{Finds, Stands, answer_of}
 use Rattle.qp_frames.specs.Stream.{decoded, ended}
-use Rattle.qp_run.specs.declared.conversions.TheConstants.{OTHER_FORM}
 use Rattle.qp_run.specs.declared.place.Place.TheVariants.{Nowhere}
 use Rattle.qp_run.specs.declared.status.Status.{Status}
 use Rattle.qp_run.specs.declared.status.Status.TheVariants.{Done, Refused}
 use Rattle.qp_run.specs.declared.words.values.Kind.{Kind}
 use Rattle.qp_run.specs.declared.words.values.Kind.TheVariants.{Journal, Frames}
-use Rattle.qp_run.specs.Conversions.{AnswersJournal, HasJournal, Held, IsWritten, Refuses, answer_on, frame_refusal, frames_said, migrate_on, said, text_refusal, text_said, written}
-use Rattle.qp_run.specs.Loads.{EndsAtLoad, IsLoaded}
-use Rattle.qp_run.specs.Verdict.{is_failure}
-use Rattle.qp_run.proofs.VerdictLemmas.{IfSome-map, IfSome-all}
+use Rattle.qp_run.specs.Conversions.{AnswersJournal, HasJournal, Held, IsWritten, Refuses, answer_on, frame_refusal, frames_said, migrate_on, said, text_refusal, text_said, written, other_form}
+use Rattle.qp_run.specs.Loads.{IsLoaded}
+use Rattle.qp_run.specs.Verdict.{AgreesJournal, FailsToLoad, is_failure}
+use Rattle.qp_run.proofs.VerdictLemmas.{IfSome-all}
 
 -- what is written of a journal in range says this journal
 pub said-written : (kind : Kind) (form : ℕ) (j : journal.Journal) → IsWritable form j → said kind (written kind form j) ≡ Ok (form, j)
@@ -60,26 +60,26 @@ fed-refuses (Err other) fault bytes answer stands =
 
 module _ (o : Option Held) (name : List ℕ) (kind : Kind) (on : journal.Journal → Status) where
   abbrev Told : Status → Type 0
-  Told answer = IfSome o (λ held. (is_failure answer ≡ true) ⊎ AnswersJournal kind on (held name) answer)
+  Told answer = AgreesJournal o kind on name answer
 
   -- the file was not loaded
-  pub told-load : (answer : Status) → IfSome o (λ held. (is_failure answer ≡ true) ⊎ EndsAtLoad 1 (held name) answer) → Told answer
-  told-load answer told = IfSome-map o told by
+  pub told-load : (answer : Status) → IfSome o (λ held. FailsToLoad 1 (held name) answer) → Told answer
+  told-load answer told = IfSome_then o told by
     where
-      by : (held : Held) → (is_failure answer ≡ true) ⊎ EndsAtLoad 1 (held name) answer → (is_failure answer ≡ true) ⊎ AnswersJournal kind on (held name) answer
+      by : (held : Held) → FailsToLoad 1 (held name) answer → (is_failure answer ≡ true) ⊎ AnswersJournal kind on (held name) answer
       by held (inl failed) = inl failed
       by held (inr ends) = inr (inl ends)
 
   -- the file is refused
   pub told-refused : (answer : Status) (bytes : List ℕ) → IfSome o (λ held. IsLoaded (held name) bytes) → Refuses kind bytes answer → Told answer
   told-refused answer bytes loaded (of, inl memory) = IfSome-all o (λ held. inl (ap is_failure memory))
-  told-refused answer bytes loaded (of, inr refused) = IfSome-map o loaded (λ held is. inr (inr (bytes, is, sym (ap (answer_on on) refused))))
+  told-refused answer bytes loaded (of, inr refused) = IfSome_then o loaded (λ held is. inr (inr (bytes, is, sym (ap (answer_on on) refused))))
 
   -- the file has a journal
   pub told-journal : (form : ℕ) (j : journal.Journal) (answer : Status) → HasJournal o name kind form j → (is_failure answer ≡ true) ⊎ (answer ≡ on j) → Told answer
   told-journal form j answer has (inl failed) = IfSome-all o (λ held. inl failed)
   told-journal form j answer has (inr is) =
-      IfSome-map o has.loaded (λ held loaded. inr (inr (written kind form j, loaded, is ∙ sym (ap (answer_on on) (said-written kind form j has.writable)))))
+      IfSome_then o has.loaded (λ held loaded. inr (inr (written kind form j, loaded, is ∙ sym (ap (answer_on on) (said-written kind form j has.writable)))))
 
   -- a journal was written
   pub told-written : (form : ℕ) (j : journal.Journal) (answer : Status) (bytes : List ℕ) (old new : Option (List ℕ)) (faults faults' : ℕ)
@@ -91,5 +91,5 @@ module _ (o : Option Held) (name : List ℕ) (kind : Kind) (on : journal.Journal
 pub migrate-done : (to : ℕ) (j : journal.Journal) → has_form to j ≡ true → migrate_on to j ≡ Done
 migrate-done to j has = cond-true (has_form to j) _ _ has
 
-pub migrate-refused : (to : ℕ) (j : journal.Journal) → has_form to j ≡ false → Refused 1 OTHER_FORM Nowhere ≡ migrate_on to j
+pub migrate-refused : (to : ℕ) (j : journal.Journal) → has_form to j ≡ false → Refused 1 other_form Nowhere ≡ migrate_on to j
 migrate-refused to j lacks = sym (cond-false (has_form to j) _ _ lacks)

@@ -42,6 +42,10 @@ pub no_assert : (items : List Item) → unended items ≡ true → list_any (λ 
 no_assert [] h = refl
 no_assert (i ∷ is) h = rw ((parts i.body (both _ _ h).0).0) (no_assert is (both _ _ h).1)
 
+pub no_spill : (items : List Item) → unended items ≡ true → list_any (λ i. is_spill i.body) items ≡ false
+no_spill [] h = refl
+no_spill (i ∷ is) h = rw ((parts i.body (both _ _ h).0).2) (no_spill is (both _ _ h).1)
+
 no_end : (items : List Item) → unended items ≡ true → list_any (λ i. is_end i.body) items ≡ false
 no_end [] h = refl
 no_end (i ∷ is) h = let p = parts i.body (both _ _ h).0 in rw (p.0, p.1, p.2) (no_end is (both _ _ h).1)

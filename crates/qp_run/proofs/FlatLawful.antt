@@ -19,23 +19,24 @@ use Rattle.qp_model.specs.Deferral.{kept_after}
 use Rattle.qp_model.specs.Pieces.{tell}
 use Rattle.qp_model.specs.Course.{Whole, FollowsTo}
 use Rattle.qp_model.specs.ObjectShape.{HasShape}
-use Rattle.qp_model.specs.Ends.{spills_in, ends_last}
+use Rattle.qp_model.specs.Ends.{spills_in, spills_cut, ends_last}
 use Rattle.qp_model.specs.End.{spents_hold, took_count, lines_empty, blocks_rest, spills_state, has_room, takes_of}
 use Rattle.qp_model.specs.KernelLane.{Setting, lane_read}
 use Rattle.qp_model.specs.Points.{lane_pieces}
 use Rattle.qp_model.specs.Sources.{IsSourceLane}
 use Rattle.qp_model.specs.OneOrder.{OneThread, IsOneOrder}
 use Rattle.qp_model.specs.Lawful.{facts_of, cut_of, deferral_holds, CourseHolds, ObjectHolds, source_lanes, setting_of, is_settle, reading_holds, KernelHolds, SourceLanes, SpillsStand, one_thread, OrderHolds, SourcesHold, deferred_of, EndHolds, Lawful, dispatched}
+use Rattle.qp_model.proofs.HomeLemmas.{home_records-kernel}
 use Rattle.qp_run.specs.FlatJournal.{IsFlat, ArePosts, kernel_items, source_items}
 use Rattle.qp_run.proofs.FlatPlans.{both, and}
 use Rattle.qp_run.proofs.FlatNotes.{told_object, records-lane}
 use Rattle.qp_run.proofs.FlatObject.{object-shape, object-kept, object-follows, object-bare}
 use Rattle.qp_run.proofs.FlatLane.{over, LaneEnds, lane-ends}
-use Rattle.qp_run.proofs.FlatSource.{source-lane, no_stim-behind, source-unended}
+use Rattle.qp_run.proofs.FlatSource.{source-lane, no_stim-behind, source-unended, uncut}
 use Rattle.qp_run.proofs.FlatOrder.{one-sourced, no-sourced, one-order}
 use Rattle.qp_run.proofs.FlatWords.{Stands, line_of, source-stands, alone-stands}
 use Rattle.qp_run.proofs.FlatEnd as end
-use Rattle.qp_run.proofs.FlatEnd.{unended, end-quiet, lane-last, lane-spent_right, lane-spents, lane-spills, lane-room, length-source, short-lane, kernel-unended}
+use Rattle.qp_run.proofs.FlatEnd.{unended, no_spill, end-quiet, lane-last, lane-spent_right, lane-spents, lane-spills, lane-room, length-source, short-lane, kernel-unended}
 
 -- the journal of these lanes that `run` prints
 abbrev pub quiet_journal : List (List Rec) → Journal
@@ -62,8 +63,9 @@ module _ (sys : System) (d : ObjectDef) (chart : Chart) (flat : IsFlat sys d cha
   unfolding deferral_holds CourseHolds cut_of j
   object-holds = record {
     shapes = record {
-      shape = subst (λ ts. HasShape sys d.priority false Whole ts) (sym told-is) (object-shape sys d chart flat.flat sigs);
+      shape = subst (λ ts. HasShape sys d.priority false Whole ts) (sym (home_records-kernel (facts_of sys j) j d.priority refl ∙ told-is)) (object-shape sys d chart flat.flat sigs);
       home = refl;
+      spills = refl;
     };
     deferral = ap (λ ts. is_some (kept_after d.defer [] ts)) told-is ∙ ap is_some (object-kept sys d chart flat.flat sigs);
     course = (
@@ -80,9 +82,13 @@ module _ (sys : System) (d : ObjectDef) (chart : Chart) (flat : IsFlat sys d cha
   idle_most true settles = grind (arith, nat_tests)
   idle_most false settles = grind (arith, nat_tests)
 
-  over-holds : (w : Facts) (s : Setting) (fresh : Bool) (n settles : ℕ) (items : List Item) → reading_holds j items settles (Some (over w s d chart flat.flat fresh n)) ≡ true
+  over-holds : (w : Facts) (s : Setting) (fresh : Bool) (n settles : ℕ) (items : List Item) → spills_cut 0 items ≡ true
+      → reading_holds j items settles (Some (over w s d chart flat.flat fresh n)) ≡ true
   unfolding over j
-  over-holds w s fresh n settles items = rw (idle_most fresh settles) refl
+  over-holds w s fresh n settles items cut = rw (idle_most fresh settles, cut) refl
+
+  lane-cut : spills_cut 0 (lane_items rs) ≡ true
+  lane-cut = ap (spills_cut 0) lane_is ∙ uncut 0 (kernel_items d chart sigs) (no_spill (kernel_items d chart sigs) (kernel-unended d chart flat.flat sigs))
 
   objects_here : (setting_of sys j).sys.objects ≡ d ∷ []
   unfolding setting_of
@@ -106,7 +112,7 @@ module _ (sys : System) (d : ObjectDef) (chart : Chart) (flat : IsFlat sys d cha
     kernel-holds = record {
       lane =
           ap (λ o. reading_holds j (lane_items rs) (count_by (λ i. is_settle i.body) (all_items j.lanes)) o) (ap (lane_read (setting_of sys j)) lane_is ∙ lane-end.read)
-          ∙ over-holds (facts_of sys j) (setting_of sys j) lane-end.fresh (length sigs + 1) (count_by (λ i. is_settle i.body) (all_items j.lanes)) (lane_items rs);
+          ∙ over-holds (facts_of sys j) (setting_of sys j) lane-end.fresh (length sigs + 1) (count_by (λ i. is_settle i.body) (all_items j.lanes)) (lane_items rs) lane-cut;
       points =
           subst (AllByRecursion (λ x. FollowsTo sys x (cut_of sys j x.priority) (lane_pieces (facts_of sys j) (setting_of sys j) x.priority (lane_items (lane_at j 0))))) (sym flat.objects) (
             subst (λ c. FollowsTo sys d c (lane_pieces (facts_of sys j) (setting_of sys j) d.priority (lane_items rs))) (sym whole)

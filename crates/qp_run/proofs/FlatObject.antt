@@ -10,18 +10,19 @@ use Rattle.qp_model.specs.declared.systems.System.{System}
 use Rattle.qp_model.specs.declared.bodies.Entry.{Entry}
 use Rattle.qp_model.specs.declared.bodies.Body.{Body}
 use Rattle.qp_model.specs.declared.bodies.Body.TheVariants as body
-use Rattle.qp_model.specs.Told.{Told, plain, taken}
+use Rattle.qp_model.specs.Told.{Told, OfEvent, plain, taken}
 use Rattle.qp_model.specs.Shapes.{Drops}
 use Rattle.qp_model.specs.Deferral.{keep, kept_after}
 use Rattle.qp_model.specs.Pieces.{Tell, tell, bare}
 use Rattle.qp_model.specs.Acts.{Config, Moment, DoesTask, Does}
 use Rattle.qp_model.specs.Step.{moment, Closes, StepRest, Step}
-use Rattle.qp_model.specs.Course.{at_start, Starts, Steps, Course, first_config, actor, chart_at, FollowsAs, Follows, Whole, FollowsTo}
+use Rattle.qp_model.specs.Course.{at_start, Starts, Steps, Course, first_config, actor, chart_at, Whole, FollowsTo}
 use Rattle.qp_model.specs.Sequence.{joined, EachPart, Sequence}
 use Rattle.qp_model.specs.Groups.{is_move, IsGroup, IsMove, Groups}
 use Rattle.qp_model.specs.ObjectShape.{StartGroup, StepHead, StepGroup, IsTurn, Dispatches, IsTail, Ends, ObjectGroups, CutGroups, asserts_last, HasShape, is_head}
 use Rattle.qp_model.specs.Ends.{is_end, is_turn_mark}
 use Rattle.qp_model.specs.Lawful.{dispatched}
+use Rattle.qp_model.proofs.CourseLemmas.{follows-whole}
 use Rattle.qp_run.specs.FlatJournal.{IsFlatChart, note_of, names, plan_of, static_entry, static_event}
 use Rattle.qp_run.proofs.FlatPlans.{both, and, list_all-append, is_moving, is_heading, IsQuiet, step-quiet, start-quiet}
 use Rattle.qp_run.proofs.FlatNotes.{is_noting, told_notes, told_notes-append, told_rounds, told_object, step-noting, start-noting}
@@ -202,7 +203,7 @@ module _ (sys : System) (d : ObjectDef) (chart : Chart) (flat : IsFlatChart char
         taken (k + 1) 0 (k + 1) (static_entry sig) (static_event sig) ∷ plain (note_of q.0) ∷ [],
         told_notes q.2.between,
         [],
-        (k + 1, 0, k + 1, static_event sig, note_of q.0, head-of q.0 q.1, refl),
+        (k + 1, 0, k + 1, OfEvent (static_event sig), note_of q.0, head-of q.0 q.1, refl),
         moves-groups sys d.priority (Some (static_entry sig)) q.2.between q.2.moving,
         refl,
         ap (λ xs. taken (k + 1) 0 (k + 1) (static_entry sig) (static_event sig) ∷ xs) (told-quiet q.0 (plan_of d chart leaf sig).tasks q.2),
@@ -335,10 +336,8 @@ module _ (sys : System) (d : ObjectDef) (chart : Chart) (flat : IsFlatChart char
     chart-is = rw (first, charts) refl
 
     pub object-follows : (sigs : List ℕ) → FollowsTo sys d Whole (tell (told_object d chart sigs))
-    unfolding FollowsTo Follows FollowsAs
     object-follows sigs =
-        subst (λ o. FollowsAs sys d o (tell (told_object d chart sigs))) (sym chart-is)
-        (entries_of sigs, Some (config (leaf_after (start_plan chart).leaf sigs)), course-of sigs)
+        follows-whole sys d chart chart-is (entries_of sigs) (tell (told_object d chart sigs)) (config (leaf_after (start_plan chart).leaf sigs)) (course-of sigs)
 
   pub object-bare : (sigs : List ℕ) → bare (tell (told_object d chart sigs)) ≡ dispatched (told_object d chart sigs)
   object-bare sigs = bare-tell (told_object d chart sigs) ∙ sym (calm-without (told_object d chart sigs) (object-calm sigs))

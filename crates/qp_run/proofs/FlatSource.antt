@@ -1,12 +1,12 @@
 -- The source of a flat journal: its lane is its posts in order, each in its own look.
-use Rattle.std.proofs.Common.{◌≡◌, ℕ, suc, ◌+◌, ◌-◌, ◌<◌, ◌≤◌, ◌==◌, nat_lt, true, false, not, List, [], ◌∷◌, length, refl, sym, ◌∙◌, ap, subst, None, inr, arith}
+use Rattle.std.proofs.Common.{◌≡◌, ℕ, suc, ◌+◌, ◌-◌, ◌<◌, ◌≤◌, ◌==◌, nat_lt, Bool, true, false, not, ◌&&◌, ◌||◌, List, [], ◌∷◌, length, refl, sym, ◌∙◌, ap, subst, None, inr, arith}
 use Rattle.std.specs.List.{list_all, list_any, filter, filter_map}
 use Rattle.std.proofs.lemmas.Bool.Decides.{nat_tests}
 use Rattle.qp_model.specs.declared.systems.System.{System}
 use Rattle.qp_model.specs.declared.stimulus.Stim.{Stim}
 use Rattle.qp_model.specs.declared.stimulus.Stim.TheVariants as stim
 use Rattle.qp_model.specs.declared.bodies.Body.TheVariants as body
-use Rattle.qp_model.specs.Record.{entry}
+use Rattle.qp_model.specs.Record.{Item, entry}
 use Rattle.qp_model.specs.Told.{Told, plain}
 use Rattle.qp_model.specs.Knowing.{Facts, known_of, told, records_of}
 use Rattle.qp_model.specs.Calls as call
@@ -14,7 +14,7 @@ use Rattle.qp_model.specs.Calls.{Call, Granted}
 use Rattle.qp_model.specs.Parts.{is_static, room_before}
 use Rattle.qp_model.specs.Sites.{ring_of}
 use Rattle.qp_model.specs.Shapes.{MakesNew, Posts, PostsNew, Fits}
-use Rattle.qp_model.specs.Ends.{is_spill, spills_in}
+use Rattle.qp_model.specs.Ends.{is_spill, spills_in, may_cut, spills_cut}
 use Rattle.qp_model.specs.Sources.{CallFits, StimFits, AllDone, SourceRuns, IsSourceLane, entry_seen, none_twice, source_records}
 use Rattle.qp_run.specs.FlatJournal.{IsPost, ArePosts, item, source_items, static_entry}
 
@@ -47,6 +47,21 @@ pub source-unended : (o k : ℕ) (sigs : List ℕ) → spills_in (source_items o
 unfolding source_items
 source-unended o k [] = refl
 source-unended o k (sig ∷ sigs) = source-unended o (k + 1) sigs
+
+-- without a `spill` none cuts nothing
+pub uncut : (end : ℕ) (items : List Item) → spills_in items ≡ false → spills_cut end items ≡ true
+unfolding spills_cut
+uncut end [] h = refl
+uncut end (i ∷ []) h = go (is_spill i.body) h
+  where
+    go : (b : Bool) → (b || false) ≡ false → (not b || may_cut end) ≡ true
+    go true h = absurd (cc)
+    go false h = refl
+uncut end (i ∷ j ∷ is) h = go (is_spill i.body) h (λ k. uncut end (j ∷ is) k)
+  where
+    go : (b : Bool) → (b || spills_in (j ∷ is)) ≡ false → (spills_in (j ∷ is) ≡ false → spills_cut end (j ∷ is) ≡ true) → (not b && spills_cut end (j ∷ is)) ≡ true
+    go true h later = absurd (cc)
+    go false h later = later h
 
 module _ (sys : System) (o : ℕ) where
   post-fits : (sig k : ℕ) → is_static sys sig ≡ true → CallFits sys (call.Post o sig [] None None) false (plain (body.Post o (k + 1) 0 k (static_entry sig)) ∷ [])
@@ -95,6 +110,7 @@ module _ (sys : System) (o : ℕ) where
       let here : SourceRuns w.sys 0 1 ss AllDone (told_source o 0 sigs) = subst (λ z. SourceRuns z 0 1 ss AllDone (told_source o 0 sigs)) (sym same) runs in
       record {
         alone = source-alone o 0 sigs;
+        spills = uncut 0 (source_items o 0 sigs) (source-unended o 0 sigs);
         tries = untwice _ (source-untried o 0 sigs);
         stimuli = (AllDone, subst (λ g. SourceRuns w.sys 0 1 ss AllDone g) (sym (records-source w sigs)) here, refl);
       }

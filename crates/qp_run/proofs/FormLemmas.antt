@@ -6,7 +6,7 @@ use Rattle.std.proofs.lemmas.Bool.Decides.{nat_tests}
 use Rattle.qp_model.proofs.ListLemmas.{both_true, true_both}
 use Rattle.qp_model.specs.Kernels.{qv}
 use Rattle.qp_model.specs.declared.journals.Journal.{Journal}
-use Rattle.qp_model.specs.declared.kinds.TheConstants.{LOOK, REST}
+use Rattle.qp_model.specs.Kinds.{LOOK, REST}
 use Rattle.qp_model.specs.declared.record.Rec.{Rec}
 use Rattle.qp_model.specs.Output.{has_form, has_no_rest, is_in_range, is_lane_in_range, is_record_in_range}
 use Rattle.qp_model.specs.declared.stimulus.Stim as stimulus

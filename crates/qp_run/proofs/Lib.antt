@@ -26,3 +26,4 @@ mod ConversionLemmas
 mod CheckLemmas
 mod CompleteLemmas
 mod AbleLemmas
+pub mod CallLemmas

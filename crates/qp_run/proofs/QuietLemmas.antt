@@ -4,7 +4,7 @@ use Rattle.std.specs.List.{list_all}
 use Rattle.std.proofs.lemmas.Bool.Decides.{nat_tests}
 use Rattle.std.proofs.lemmas.List.{length-map}
 use Rattle.qp_chart.specs.declared.checked.Chart.{Chart}
-use Rattle.qp_model.specs.declared.kinds.TheConstants.{REST}
+use Rattle.qp_model.specs.Kinds.{REST}
 use Rattle.qp_model.specs.declared.record.Rec.{Rec}
 use Rattle.qp_model.specs.declared.stimulus.Stim.{Stim}
 use Rattle.qp_model.specs.declared.systems.ObjectDef.{ObjectDef}
@@ -13,7 +13,7 @@ use Rattle.qp_model.specs.History.{lane_items}
 use Rattle.qp_model.specs.Output.{is_lane_in_range}
 use Rattle.qp_model.specs.Record.{Item, item_of}
 use Rattle.qp_stim.specs.Rules.{StimuliFit}
-use Rattle.qp_system.specs.Sound.{IsSound}
+use Rattle.qp_model.specs.Sound.{IsSound}
 use Rattle.qp_run.specs.Thin.{is_thin, is_plain_post, are_thin, signal_of}
 use Rattle.qp_run.specs.ThinRun.{have_few_posts, kernel_lane, posts, lanes_of, IsQuietRun}
 use Rattle.qp_run.specs.FlatJournal.{kernel_items, source_items}

@@ -6,7 +6,7 @@ use Rattle.std.proofs.lemmas.List.{length-map}
 use Rattle.qp_chart.specs.declared.checked.Chart.{Chart}
 use Rattle.qp_model.specs.declared.bodies.Body.{Body}
 use Rattle.qp_model.specs.declared.bodies.Body.TheVariants as body
-use Rattle.qp_model.specs.declared.kinds.TheConstants.{BEGIN, NEW, ASSERT, LOOK, REST}
+use Rattle.qp_model.specs.Kinds.{BEGIN, NEW, ASSERT, LOOK, REST}
 use Rattle.qp_model.specs.declared.record.Rec.{Rec}
 use Rattle.qp_model.specs.Output.{is_record_in_range, is_lane_in_range}
 use Rattle.qp_model.specs.Record.{Item, entry, never, bare, one, two, three, four, five, six, seven, given, asserted, forms, body_at, body_of, item_of}
@@ -139,7 +139,7 @@ not-asserted (code ∷ []) = refl
 not-asserted (code ∷ a ∷ []) = refl
 not-asserted (code ∷ a ∷ b ∷ []) = refl
 not-asserted (code ∷ a ∷ b ∷ c ∷ []) =
-    if-neither ((code == 2) && (c == 0)) (body.NoBlock a b) _ refl
+    if-neither (code == 2) (body.NoBlock a b c) _ refl
     (if-neither (code == 3) (body.Armed a b c) _ refl (if-neither (code == 4) (body.BadTicks a b c) body.Malformed refl refl))
 not-asserted (code ∷ a ∷ f ∷ l ∷ m ∷ []) =
     if-neither (code == 1) (body.NoEntry a f l m) _ refl (if-neither (code == 5) (body.NoLifo a f l m) body.Malformed refl refl)

@@ -13,7 +13,7 @@ use Rattle.qp_model.specs.declared.systems.ObjectDef.{ObjectDef}
 use Rattle.qp_model.specs.declared.systems.System.{System}
 use Rattle.qp_model.specs.Parts.{is_static}
 use Rattle.qp_stim.specs.Rules.{EventFits, StimFits}
-use Rattle.qp_system.specs.Sound.{IsSound, IsSoundObject, IsSoundSignal}
+use Rattle.qp_model.specs.Sound.{IsSound, IsSoundObject, IsSoundSignal}
 use Rattle.qp_run.specs.Thin.{is_thin_chart, is_thin_object, is_only, is_thin, is_plain_post, signal_of}
 use Rattle.qp_run.specs.FlatJournal.{IsFlat, IsPost, ArePosts}
 use Rattle.qp_run.proofs.FlatPlans.{both, and, at_each}

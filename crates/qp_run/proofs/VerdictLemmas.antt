@@ -1,13 +1,14 @@
 -- What a call is to answer, file by file.
-use Rattle.std.proofs.Common.{◌≡◌, ℕ, ◌<◌, true, false, List, length, Option, Some, None, IfSome, ◌⊎◌, refl, sym, ap, subst, ◌∙◌, arith, inl, inr}
-use Rattle.std.specs.Prelude.{IsSomeAnd}
+use Rattle.std.proofs.Common.{◌≡◌, ℕ, ◌<◌, Bool, true, false, List, length, Option, Some, None, IfSome, Result, Ok, Err, ◌⊎◌, refl, sym, ap, subst, ◌∙◌, arith, inl, inr}
+use Rattle.std.specs.Prelude.{IsSomeAnd, if◌then◌else◌}
 use Rattle.std.proofs.lemmas.Bool.{false≢true}
+use Rattle.std.proofs.lemmas.Option.{IfSome_then}
 use Rattle.qp_base.specs.Counts.{Rose}
 use Rattle.qp_base.specs.Sink.{AppendsPrefix, appended}
-use Rattle.qp_base.specs.declared.shelves.TheConstants.{FILE_LIMIT}
+use Rattle.qp_base.specs.Limits.{file_limit}
 use Rattle.qp_model.specs.declared.stimulus.Stim.{Stim}
 use Rattle.qp_model.specs.declared.systems.System.{System}
-use Rattle.qp_stim.specs.Stimuli.{stimuli_of}
+use Rattle.qp_stim.specs.Stimuli.{Fault, stimuli_of}
 use Rattle.qp_system.specs.SystemOf.{IsSystemOf}
 use Rattle.qp_run.specs.declared.status.Status.{Status}
 use Rattle.qp_run.specs.declared.status.Status.TheVariants.{Done, Words, Absent, TooLong, Refused, Later, Asserted, Spent, Memory, ReadFault, WriteFault, Unlawful}
@@ -16,8 +17,9 @@ use Rattle.qp_run.specs.Conversions.{AnswersJournal, Held, IsWritten, PrintsOne,
 use Rattle.qp_run.specs.declared.words.values.Kind.TheVariants.{Frames}
 use Rattle.qp_run.specs.Loads.{EndsAtLoad, IsLoaded}
 use Rattle.qp_run.specs.Notes.{line_of, names_file, is_done}
-use Rattle.qp_run.specs.Thin.{is_thin}
-use Rattle.qp_run.specs.Verdict.{Agrees, AgreesFiles, AnswersFiles, AnswersSystem, AnswersStimuli, AnswersWords, Count, Counts, EndsAtSystem, HasCause, HasRisen, IsAnswer, IsInput, Noted, Stands, is_failure, quiet, stimuli_answer}
+use Rattle.qp_run.specs.Refusals.{RefusesFirst, RefusesSecond}
+use Rattle.qp_run.specs.Thin.{are_thin, is_thin}
+use Rattle.qp_run.specs.Verdict.{Agrees, AgreesCheck, AgreesFiles, AgreesJournal, AgreesRun, AnswersFiles, AnswersSystem, AnswersStimuli, AnswersWords, Count, Counts, FailsToLoad, HasCause, HasRisen, IsAnswer, IsInput, Noted, Stands, is_failure, quiet, stimuli_answer}
 use Rattle.qp_run.specs.WordTable.{Asked, CheckWords, MigrateWords, RunWords, check, decode, migrate, number_of_form, run}
 
 -- a fact of what the shelf holds, where it tells
@@ -25,24 +27,16 @@ pub IfSome-all : {A : Type 0} {P : A → Type 0} (o : Option A) → ((x : A) →
 IfSome-all None f = tt
 IfSome-all (Some x) f = f x
 
-pub IfSome-map : {A : Type 0} {P Q : A → Type 0} (o : Option A) → IfSome o P → ((x : A) → P x → Q x) → IfSome o Q
-IfSome-map None p f = p
-IfSome-map (Some x) p f = f x p
-
 pub IfSome-both : {A : Type 0} {P Q R : A → Type 0} (o : Option A) → IfSome o P → IfSome o Q → ((x : A) → P x → Q x → R x) → IfSome o R
 IfSome-both None p q f = p
 IfSome-both (Some x) p q f = f x p q
 
--- a file was not loaded
-abbrev pub FailsToLoad : ℕ → Option (List ℕ) → Status → Type 0
-FailsToLoad file held status = (is_failure status ≡ true) ⊎ EndsAtLoad file held status
-
 pub absent-told : (o : Option Held) (name : List ℕ) (file : ℕ) → IfSome o (λ held. held name ≡ None) → IfSome o (λ held. FailsToLoad file (held name) (Absent file))
-absent-told o name file told = IfSome-map o told (λ held none. let ends : EndsAtLoad file (held name) (Absent file) = subst (λ h. EndsAtLoad file h (Absent file)) (sym none) refl in inr ends)
+absent-told o name file told = IfSome_then o told (λ held none. let ends : EndsAtLoad file (held name) (Absent file) = subst (λ h. EndsAtLoad file h (Absent file)) (sym none) refl in inr ends)
 
-pub long-told : (o : Option Held) (name : List ℕ) (file len : ℕ) → IfSome o (λ held. IsSomeAnd (held name) (λ bytes. length bytes ≡ len)) → FILE_LIMIT < len
+pub long-told : (o : Option Held) (name : List ℕ) (file len : ℕ) → IfSome o (λ held. IsSomeAnd (held name) (λ bytes. length bytes ≡ len)) → file_limit < len
     → IfSome o (λ held. FailsToLoad file (held name) (TooLong file len))
-long-told o name file len told beyond = IfSome-map o told (λ held some. inr (ends (held name) some))
+long-told o name file len told beyond = IfSome_then o told (λ held some. inr (ends (held name) some))
   where
     ends : (h : Option (List ℕ)) → IsSomeAnd h (λ bytes. length bytes ≡ len) → EndsAtLoad file h (TooLong file len)
     ends None never = absurd never
@@ -53,12 +47,17 @@ pub told-unnamed : (o : Option Held) → IfSome o (λ held. Agrees held None Wor
 unfolding IsAnswer
 told-unnamed o = IfSome-all o (λ held. inr refl)
 
+-- what refuses the stimuli is the answer on them
+refusal-answers : (found : Result (List (List Stim)) Fault) (status : Status) → RefusesSecond found status → status ≡ stimuli_answer found
+refusal-answers (Err fault) status is = is
+refusal-answers (Ok sources) status is = absurd is
+
 -- what is answered on two files is answered on a run of them
 module _ (o : Option Held) (system stimuli : List ℕ) where
   -- the system's file was not loaded
-  pub told-load : (status : Status) → IfSome o (λ held. FailsToLoad 1 (held system) status) → IfSome o (λ held. AgreesFiles (held system) (held stimuli) status)
+  pub told-load : (status : Status) → IfSome o (λ held. FailsToLoad 1 (held system) status) → AgreesRun o system stimuli status
   unfolding AnswersFiles
-  told-load status told = IfSome-map o told by
+  told-load status told = IfSome_then o told by
     where
       by : (held : Held) → FailsToLoad 1 (held system) status → AgreesFiles (held system) (held stimuli) status
       by held (inl failed) = inl failed
@@ -70,66 +69,71 @@ module _ (o : Option Held) (system stimuli : List ℕ) where
     by-bytes held answer is answers = inr (inr (bytes, is, answers))
 
     -- the system's file isn't taken
-    pub told-system : (status : Status) → (status ≡ Memory) ⊎ EndsAtSystem bytes status → IfSome o (λ held. AgreesFiles (held system) (held stimuli) status)
-    told-system status told = IfSome-map o loaded (λ held is. by held is told)
-      where
-        by : (held : Held) → IsLoaded (held system) bytes → (status ≡ Memory) ⊎ EndsAtSystem bytes status → AgreesFiles (held system) (held stimuli) status
-        by held is (inl memory) = inl (ap is_failure memory)
-        by held is (inr ends) = by-bytes held status is (inl ends)
+    pub told-system : (status : Status) → (status ≡ Memory) ⊎ RefusesFirst bytes status → AgreesRun o system stimuli status
+    told-system status (inl memory) = IfSome-all o (λ held. inl (ap is_failure memory))
+    told-system status (inr refuses) = IfSome_then o loaded (λ held is. by-bytes held status is (inl (inl refuses)))
+
+    -- its system isn't run yet
+    pub told-later : (sys : System) → IsSystemOf bytes sys → is_thin sys ≡ false → AgreesRun o system stimuli (Later 1)
+    told-later sys read not_thin = IfSome_then o loaded (λ held is. by-bytes held (Later 1) is (inl (inr (sys, read, not_thin, refl))))
 
     module _ (sys : System) (read : IsSystemOf bytes sys) (thin : is_thin sys ≡ true) where
       by-system : (held : Held) (answer : Status) → IsLoaded (held system) bytes → AnswersStimuli (held stimuli) sys answer → AgreesFiles (held system) (held stimuli) answer
       by-system held answer is answers = by-bytes held answer is (inr (sys, read, thin, answers))
 
       -- the stimuli's file was not loaded
-      pub told-load-2 : (status : Status) → IfSome o (λ held. FailsToLoad 2 (held stimuli) status) → IfSome o (λ held. AgreesFiles (held system) (held stimuli) status)
+      pub told-load-2 : (status : Status) → IfSome o (λ held. FailsToLoad 2 (held stimuli) status) → AgreesRun o system stimuli status
       told-load-2 status told = IfSome-both o loaded told by
         where
           by : (held : Held) → IsLoaded (held system) bytes → FailsToLoad 2 (held stimuli) status → AgreesFiles (held system) (held stimuli) status
           by held is (inl failed) = inl failed
           by held is (inr ends) = by-system held status is (inl ends)
 
-      -- what the stimuli's file says
-      pub told-stimuli : (text : List ℕ) → IfSome o (λ held. IsLoaded (held stimuli) text) → (status : Status)
-          → (status ≡ Memory) ⊎ (status ≡ stimuli_answer (stimuli_of sys text)) → IfSome o (λ held. AgreesFiles (held system) (held stimuli) status)
-      told-stimuli text loaded_text status told = IfSome-both o loaded loaded_text (λ held is is_text. by held is is_text told)
-        where
-          by : (held : Held) → IsLoaded (held system) bytes → IsLoaded (held stimuli) text → (status ≡ Memory) ⊎ (status ≡ stimuli_answer (stimuli_of sys text)) → AgreesFiles (held system) (held stimuli) status
-          by held is is_text (inl memory) = inl (ap is_failure memory)
-          by held is is_text (inr says) = by-system held status is (inr (text, is_text, says))
+      module _ (text : List ℕ) (loaded_text : IfSome o (λ held. IsLoaded (held stimuli) text)) where
+        by-text : (status : Status) → status ≡ stimuli_answer (stimuli_of sys text) → AgreesRun o system stimuli status
+        by-text status says = IfSome-both o loaded loaded_text (λ held is is_text. by-system held status is (inr (text, is_text, says)))
+
+        -- the stimuli's file isn't taken
+        pub told-stimuli : (status : Status) → (status ≡ Memory) ⊎ RefusesSecond (stimuli_of sys text) status → AgreesRun o system stimuli status
+        told-stimuli status (inl memory) = IfSome-all o (λ held. inl (ap is_failure memory))
+        told-stimuli status (inr refuses) = by-text status (refusal-answers (stimuli_of sys text) status refuses)
+
+        -- its stimuli are run, or aren't yet
+        pub told-sources : (sources : List (List Stim)) → stimuli_of sys text ≡ Ok sources → (thin : Bool) → are_thin sources ≡ thin
+            → AgreesRun o system stimuli (if thin then Done else Later 2)
+        told-sources sources says thin is = by-text (if thin then Done else Later 2) (rw (says, is) refl)
 
   -- two files that the program runs are answered by `Done`
-  pub input-done : (sys : System) (sources : List (List Stim)) → IsInput o system stimuli sys sources → IfSome o (λ held. AgreesFiles (held system) (held stimuli) Done)
+  pub input-done : (sys : System) (sources : List (List Stim)) → IsInput o system stimuli sys sources → AgreesRun o system stimuli Done
   input-done sys sources input =
-      told-stimuli input.system input.system_held sys input.system_read input.thin input.stimuli input.stimuli_held Done
-      (inr (rw (input.stimuli_read, input.thin_stimuli) refl))
+      told-sources input.system input.system_held sys input.system_read input.thin input.stimuli input.stimuli_held sources input.stimuli_read true input.thin_stimuli
 
-  pub failure-files : (status : Status) → is_failure status ≡ true → IfSome o (λ held. AgreesFiles (held system) (held stimuli) status)
+  pub failure-files : (status : Status) → is_failure status ≡ true → AgreesRun o system stimuli status
   failure-files status failed = IfSome-all o (λ held. inl failed)
 
   -- its journal was written
   pub told-run : (sys : System) (sources : List (List Stim)) (answer : Status) (bytes : List ℕ) (old new : Option (List ℕ)) (faults faults' : ℕ)
-      → IsInput o system stimuli sys sources → IsWritten bytes old new faults faults' answer → IfSome o (λ held. AgreesFiles (held system) (held stimuli) answer)
+      → IsInput o system stimuli sys sources → IsWritten bytes old new faults faults' answer → AgreesRun o system stimuli answer
   told-run sys sources answer bytes old new faults faults' input (inl (done, all)) = rw done (input-done sys sources input)
   told-run sys sources answer bytes old new faults faults' input (inr (failed, part, rose)) = failure-files answer (ap is_failure failed)
 
 -- the answer on what a call asks for
 module _ (o : Option Held) (answer : Status) where
-  pub agrees-run : (w : RunWords) → IfSome o (λ held. AgreesFiles (held w.system) (held w.stimuli) answer) → IfSome o (λ held. Agrees held (Some (run w)) answer)
+  pub agrees-run : (w : RunWords) → AgreesRun o w.system w.stimuli answer → IfSome o (λ held. Agrees held (Some (run w)) answer)
   unfolding IsAnswer
   agrees-run w told = told
 
-  pub agrees-decode : (frames : List ℕ) → IfSome o (λ held. (is_failure answer ≡ true) ⊎ AnswersJournal Frames decode_on (held frames) answer)
+  pub agrees-decode : (frames : List ℕ) → AgreesJournal o Frames decode_on frames answer
       → IfSome o (λ held. Agrees held (Some (decode frames)) answer)
   unfolding IsAnswer
   agrees-decode frames told = told
 
-  pub agrees-migrate : (w : MigrateWords) → IfSome o (λ held. (is_failure answer ≡ true) ⊎ AnswersJournal w.from (migrate_on (number_of_form w.to)) (held w.file) answer)
+  pub agrees-migrate : (w : MigrateWords) → AgreesJournal o w.from (migrate_on (number_of_form w.to)) w.file answer
       → IfSome o (λ held. Agrees held (Some (migrate w)) answer)
   unfolding IsAnswer
   agrees-migrate w told = told
 
-  pub agrees-check : (w : CheckWords) → IfSome o (λ held. (is_failure answer ≡ true) ⊎ JudgesFiles (held w.system) (held w.stimuli) (held w.journal) answer)
+  pub agrees-check : (w : CheckWords) → AgreesCheck o w answer
       → IfSome o (λ held. Agrees held (Some (check w)) answer)
   unfolding IsAnswer
   agrees-check w told = told

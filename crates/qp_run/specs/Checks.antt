@@ -1,23 +1,21 @@
 -- What a call that judges a journal is to answer.
-use Rattle.std.specs.Prelude.{codes, ◌≡◌, ◌≢◌, ℕ, Bool, true, false, IfSome, List, ◌⊎◌, Option, Result, Ok, Err}
-use Rattle.qp_check.specs.declared.verdict.Verdict.{Verdict}
-use Rattle.qp_check.specs.declared.verdict.Verdict.TheVariants.{Lawful, Broken}
+use Rattle.std.specs.Prelude.{codes, ◌≡◌, ℕ, Bool, true, false, IfSome, List, ◌⊎◌, Option, Result, Ok, Err}
+use Rattle.qp_word_rules.specs.declared.verdict.Verdict.{Verdict}
+use Rattle.qp_word_rules.specs.declared.verdict.Verdict.TheVariants.{Lawful, Broken}
 use Rattle.qp_check.specs.Judged.{IsVerdict, trials}
 use Rattle.qp_model.specs.declared.journals.Journal as journal
 use Rattle.qp_model.specs.declared.stimulus.Stim.{Stim}
 use Rattle.qp_model.specs.declared.systems.System.{System}
 use Rattle.qp_model.specs.Lawful as lawful
 use Rattle.qp_stim.specs.Stimuli.{Fault, stimuli_of}
-use Rattle.qp_system.specs.declared.fault.SystemFault as system
-use Rattle.qp_system.specs.declared.fault.SystemFault.TheVariants as system_fault
-use Rattle.qp_system.specs.SystemOf.{IsSystemOf, RefusesSystem}
+use Rattle.qp_system.specs.SystemOf.{IsSystemOf}
 use Rattle.qp_run.specs.declared.place.Place.TheVariants.{Line}
 use Rattle.qp_run.specs.declared.status.Status.{Status}
 use Rattle.qp_run.specs.declared.status.Status.TheVariants.{Done, Refused, Memory, Unlawful}
 use Rattle.qp_run.specs.declared.words.values.Kind.TheVariants.{Journal}
 use Rattle.qp_run.specs.Conversions.{HasJournal, Held, said, written}
 use Rattle.qp_run.specs.Loads.{EndsAtLoad, IsLoaded}
-use Rattle.qp_run.specs.Refusals.{system_refusal}
+use Rattle.qp_run.specs.Refusals.{RefusesFirst}
 use Rattle.qp_run.specs.WordTable.{CheckWords}
 use Rattle.qp_text.specs.TextLaw.{IsWritable}
 
@@ -57,11 +55,6 @@ abbrev pub JudgesThird : System → List (List Stim) → Option (List ℕ) → S
 JudgesThird sys sources held answer =
     EndsAtLoad 3 held answer ⊎ ((bytes : List ℕ) × IsLoaded held bytes × JudgesFound sys sources (said Journal bytes) answer)
 
--- what the stimuli's file says is refused so
-abbrev pub RefusesSecond : Result (List (List Stim)) Fault → Status → Type 0
-RefusesSecond (Err fault) answer = answer ≡ Refused 2 fault.code (Line fault.line)
-RefusesSecond (Ok sources) answer = ⊥
-
 -- the answer by what the stimuli's file says
 abbrev pub JudgesStimuli : System → Option (List ℕ) → Result (List (List Stim)) Fault → Status → Type 0
 JudgesStimuli sys held (Err fault) answer = answer ≡ Refused 2 fault.code (Line fault.line)
@@ -71,10 +64,6 @@ JudgesStimuli sys held (Ok sources) answer = JudgesThird sys sources held answer
 abbrev pub JudgesSecond : System → (stimuli held : Option (List ℕ)) → Status → Type 0
 JudgesSecond sys stimuli held answer =
     EndsAtLoad 2 stimuli answer ⊎ ((bytes : List ℕ) × IsLoaded stimuli bytes × JudgesStimuli sys held (stimuli_of sys bytes) answer)
-
--- the bytes of the system's file are refused so
-abbrev pub RefusesFirst : List ℕ → Status → Type 0
-RefusesFirst bytes answer = (fault : system.SystemFault) × RefusesSystem bytes fault × (fault ≢ system_fault.Memory) × (answer ≡ system_refusal fault)
 
 -- the answer from the content of the system's file on
 abbrev pub JudgesSystem : List ℕ → (stimuli held : Option (List ℕ)) → Status → Type 0

@@ -6,6 +6,7 @@ use Rattle.qp_model.specs.declared.journals.Journal as journal
 use Rattle.qp_model.specs.Output.{has_form}
 use Rattle.qp_model.specs.OutputFrames.{frames}
 use Rattle.qp_model.specs.OutputText.{text}
+use Rattle.qp_text.specs.declared.found.Found as found
 use Rattle.qp_text.specs.declared.found.TextFault as text_fault
 use Rattle.qp_text.specs.declared.found.TextFault.TheVariants as text_faults
 use Rattle.qp_text.specs.ReadText.{read_text}
@@ -13,13 +14,16 @@ use Rattle.qp_text.specs.TextLaw.{IsWritable}
 use Rattle.qp_frames.specs.declared.faults.FrameFault as frame_fault
 use Rattle.qp_frames.specs.declared.faults.FrameFault.TheVariants as frame_faults
 use Rattle.qp_frames.specs.Stream.{decoded}
-use Rattle.qp_run.specs.declared.conversions.TheConstants.{OTHER_FORM}
 use Rattle.qp_run.specs.declared.place.Place.TheVariants.{Nowhere, Line, Offset}
 use Rattle.qp_run.specs.declared.status.Status.{Status}
 use Rattle.qp_run.specs.declared.status.Status.TheVariants.{Done, Refused, Memory, WriteFault}
 use Rattle.qp_run.specs.declared.words.values.Kind.{Kind}
 use Rattle.qp_run.specs.declared.words.values.Kind.TheVariants.{Journal, Frames}
 use Rattle.qp_run.specs.Loads.{EndsAtLoad, IsLoaded}
+
+-- the code of a file whose journal doesn't have the form that is asked for
+abbrev pub other_form : ℕ
+other_form = 8
 
 -- what a shelf holds, by name
 abbrev pub Held : Type 0
@@ -53,6 +57,10 @@ unfoldable pub said : Kind → List ℕ → Result (ℕ × journal.Journal) Stat
 said Journal bytes = text_said (read_text bytes)
 said Frames bytes = frames_said (decoded bytes)
 
+-- a file's bytes are this journal in range, in its form
+abbrev pub IsFoundIn : Kind → List ℕ → found.Found → Type 0
+IsFoundIn kind bytes f = IsWritable f.form f.journal × (written kind f.form f.journal ≡ bytes)
+
 -- an answer on what is in a file, or that memory was refused
 abbrev pub is_of_content : Status → Bool
 is_of_content Memory = true
@@ -79,7 +87,7 @@ decode_on j = Done
 
 -- a journal that has the form is migrated to it
 abbrev pub migrate_on : ℕ → journal.Journal → Status
-migrate_on to j = if has_form to j then Done else Refused 1 OTHER_FORM Nowhere
+migrate_on to j = if has_form to j then Done else Refused 1 other_form Nowhere
 
 -- the file has this journal in this form, and the journal is in range
 pub record HasJournal (held : Option Held) (name : List ℕ) (kind : Kind) (form : ℕ) (j : journal.Journal) : Type 0 where

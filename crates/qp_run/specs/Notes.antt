@@ -4,8 +4,8 @@ use Rattle.qp_chart.specs.Paths.{path_text}
 use Rattle.qp_run.specs.declared.place.Place as place
 use Rattle.qp_run.specs.declared.place.Place.TheVariants.{Nowhere, Path, Line, Offset}
 use Rattle.qp_run.specs.WordTable.{Asked, operand_in}
-use Rattle.qp_check.specs.declared.verdict.Site.{Site}
-use Rattle.qp_check.specs.declared.verdict.Site.TheVariants as site
+use Rattle.qp_word_rules.specs.declared.verdict.Site.{Site}
+use Rattle.qp_word_rules.specs.declared.verdict.Site.TheVariants as site
 use Rattle.qp_run.specs.declared.status.Status.{Status}
 use Rattle.qp_run.specs.declared.status.Status.TheVariants.{Done, Words, Absent, TooLong, Refused, Later, Asserted, Spent, Memory, ReadFault, WriteFault, Unlawful}
 

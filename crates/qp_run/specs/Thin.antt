@@ -8,7 +8,13 @@ use Rattle.qp_model.specs.declared.systems.ObjectDef.{ObjectDef}
 use Rattle.qp_model.specs.declared.systems.System.{System}
 use Rattle.qp_model.specs.declared.stimulus.Stim.{Stim}
 use Rattle.qp_model.specs.declared.stimulus.Stim.TheVariants as stim
-use Rattle.qp_run.specs.declared.thin.TheConstants.{MOST_ROWS, MOST_POSTS}
+
+-- how many rows a state may have, and how many posts a source
+abbrev pub most_rows : ℕ
+most_rows = 32
+
+abbrev pub most_posts : ℕ
+most_posts = 1000
 
 -- a transition without a guard and actions
 abbrev pub is_thin_row : Row → Bool
@@ -18,7 +24,7 @@ is_thin_row row = not (is_some row.when) && (length row.acts == 0) && is_some ro
 unfoldable pub is_thin_state : State → Bool
 is_thin_state s =
     not (is_some s.parent) && (length s.entry == 0) && (length s.exit == 0) && not (is_some s.init)
-    && nat_le (length s.row) MOST_ROWS && list_all is_thin_row s.row
+    && nat_le (length s.row) most_rows && list_all is_thin_row s.row
 
 -- a chart of such states, without initial actions and variables
 unfoldable pub is_thin_chart : Chart → Bool
@@ -49,7 +55,7 @@ is_plain_post _ = false
 -- no source, or one of so many such posts
 unfoldable pub are_thin : List (List Stim) → Bool
 are_thin [] = true
-are_thin (source ∷ []) = nat_le (length source) MOST_POSTS && list_all is_plain_post source
+are_thin (source ∷ []) = nat_le (length source) most_posts && list_all is_plain_post source
 are_thin (source ∷ next ∷ more) = false
 
 -- the signal of a post

@@ -6,9 +6,7 @@ use Rattle.qp_model.specs.declared.journals.Journal as journal
 use Rattle.qp_model.specs.declared.stimulus.Stim.{Stim}
 use Rattle.qp_model.specs.declared.systems.System.{System}
 use Rattle.qp_stim.specs.Stimuli.{Fault, stimuli_of}
-use Rattle.qp_system.specs.declared.fault.SystemFault as system
-use Rattle.qp_system.specs.declared.fault.SystemFault.TheVariants as system_fault
-use Rattle.qp_system.specs.SystemOf.{IsSystemOf, RefusesSystem}
+use Rattle.qp_system.specs.SystemOf.{IsSystemOf}
 use Rattle.qp_run.specs.declared.place.Place.TheVariants.{Line}
 use Rattle.qp_run.specs.declared.status.Status.{Status}
 use Rattle.qp_run.specs.declared.status.Status.TheVariants.{Done, Words, Absent, TooLong, Refused, Later, Asserted, Spent, Memory, ReadFault, WriteFault}
@@ -17,18 +15,16 @@ use Rattle.qp_run.specs.declared.words.values.Kind.TheVariants.{Frames, Journal 
 use Rattle.qp_run.specs.Conversions.{AnswersJournal, Held, IsDecoded, IsMigrated, PrintsOne, decode_on, migrate_on, written}
 use Rattle.qp_run.specs.Checks.{IsChecked, Judges, JudgesFiles}
 use Rattle.qp_run.specs.Loads.{EndsAtLoad, IsLoaded}
-use Rattle.qp_run.specs.Notes.{line_of, names_file}
-use Rattle.qp_run.specs.Refusals.{system_refusal}
+use Rattle.qp_run.specs.Notes.{file_of, line_of, names_file}
+use Rattle.qp_run.specs.Refusals.{RefusesFirst}
 use Rattle.qp_run.specs.Thin.{is_thin, are_thin}
 use Rattle.qp_run.specs.ThinRun.{IsQuietRun}
-use Rattle.qp_run.specs.WordTable.{Asked, check, decode, migrate, number_of_form, run}
+use Rattle.qp_run.specs.WordTable.{Asked, CheckWords, check, decode, migrate, number_of_form, operand_in, run}
 use Rattle.qp_text.specs.TextLaw.{IsWritable}
 
 -- the bytes of the system's file have a fault, or their system isn't run yet, and this is the answer
 abbrev pub EndsAtSystem : List ℕ → Status → Type 0
-EndsAtSystem bytes answer =
-    ((fault : system.SystemFault) × RefusesSystem bytes fault × (fault ≢ system_fault.Memory) × (answer ≡ system_refusal fault))
-    ⊎ ((sys : System) × IsSystemOf bytes sys × (is_thin sys ≡ false) × (answer ≡ Later 1))
+EndsAtSystem bytes answer = RefusesFirst bytes answer ⊎ ((sys : System) × IsSystemOf bytes sys × (is_thin sys ≡ false) × (answer ≡ Later 1))
 
 -- the answer by what the stimuli's file says
 abbrev pub stimuli_answer : Result (List (List Stim)) Fault → Status
@@ -76,6 +72,23 @@ Agrees held asked answer = (is_failure answer ≡ true) ⊎ IsAnswer held asked 
 abbrev pub AgreesFiles : (system stimuli : Option (List ℕ)) → Status → Type 0
 AgreesFiles system stimuli answer = (is_failure answer ≡ true) ⊎ AnswersFiles system stimuli answer
 
+-- a file was not loaded
+abbrev pub FailsToLoad : ℕ → Option (List ℕ) → Status → Type 0
+FailsToLoad file held answer = (is_failure answer ≡ true) ⊎ EndsAtLoad file held answer
+
+-- a failure, or else the answer on files that the shelf tells: of a run, a conversion or a judgement
+abbrev pub AgreesRun : Option Held → (system stimuli : List ℕ) → Status → Type 0
+AgreesRun held system stimuli answer = IfSome held (λ h. AgreesFiles (h system) (h stimuli) answer)
+
+abbrev pub AgreesJournal : Option Held → Kind → (journal.Journal → Status) → List ℕ → Status → Type 0
+AgreesJournal held kind on name answer = IfSome held (λ h. (is_failure answer ≡ true) ⊎ AnswersJournal kind on (h name) answer)
+
+abbrev pub JudgesCall : Option Held → CheckWords → Status → Type 0
+JudgesCall held w answer = IfSome held (λ h. JudgesFiles (h w.system) (h w.stimuli) (h w.journal) answer)
+
+abbrev pub AgreesCheck : Option Held → CheckWords → Status → Type 0
+AgreesCheck held w answer = IfSome held (λ h. (is_failure answer ≡ true) ⊎ JudgesFiles (h w.system) (h w.stimuli) (h w.journal) answer)
+
 -- no call over files has two answers
 abbrev pub OneAnswer : Type 0
 OneAnswer = (held : Held) (asked : Option Asked) (a b : Status) → IsAnswer held asked a → IsAnswer held asked b → a ≡ b
@@ -99,10 +112,17 @@ pub record Counts : Type 0 where
 abbrev pub quiet : Count
 quiet = record { before = 0; after = 0 }
 
--- the counts of a call that has only read
-abbrev pub reads_of : (faults faults' misses misses' : ℕ) → Counts
-reads_of faults faults' misses misses' =
-    record { reads = record { before = faults; after = faults' }; misses = record { before = misses; after = misses' }; out = quiet; notes = quiet }
+-- a count over a call, by the shelf or the sink before and after it
+abbrev pub count_of : {S : Type 0} → (S → ℕ) → (old new : S) → Count
+count_of count old new = record { before = count old; after = count new }
+
+-- the counts of a call that has only read, by the shelf's faults and misses
+abbrev pub reads_of : {F : Type 0} → (faults misses : F → ℕ) → (old new : F) → Counts
+reads_of faults misses old new = record { reads = count_of faults old new; misses = count_of misses old new; out = quiet; notes = quiet }
+
+-- the counts of a call that has read and written, but put no line yet
+abbrev pub writes_of : {F O : Type 0} → (faults misses : F → ℕ) → (O → ℕ) → (old new : F) → (out out' : O) → Counts
+writes_of faults misses out_faults old new out out' = record (reads_of faults misses old new) { out = count_of out_faults out out' }
 
 -- an answer that comes before the run
 abbrev pub is_refusal : Status → Bool
@@ -134,6 +154,10 @@ Noted asked n old new answer = new ≡ appended old (line_of asked answer)
 abbrev pub AnswersWords : Option Asked → Status → Type 0
 AnswersWords None answer = (answer ≡ Words) ⊎ ((answer ≡ Memory) ⊎ (answer ≡ WriteFault))
 AnswersWords (Some asked) answer = answer ≢ Words
+
+-- the word that a line names, where it names a file
+abbrev pub IsNamed : Option Asked → Status → List ℕ → Type 0
+IsNamed asked answer name = names_file answer ≡ true → operand_in asked (file_of answer) ≡ name
 
 -- how an answer stands once its line was put: as it was, or memory was refused to a line that names a file, or the put failed
 abbrev pub Stands : Count → (told answer : Status) → Type 0
@@ -205,3 +229,22 @@ EndsCall held (Some (check w)) n answer = EndsJudging (held w.system) (held w.st
 -- a call over files that the shelf tells, in which no count rose, ends so, or memory was refused
 abbrev pub IsComplete : Option Held → Option Asked → Counts → Status → Type 0
 IsComplete held asked n answer = IfSome held (λ h. EndsCall h asked n answer)
+
+-- what a stream had got before and after a call
+pub record Stream : Type 0 where
+  pub before : Option (List ℕ)
+  pub after : Option (List ℕ)
+
+abbrev pub stream_of : {S : Type 0} → (S → Option (List ℕ)) → (old new : S) → Stream
+stream_of written old new = record { before = written old; after = written new }
+
+-- a call that asks for this, over a shelf that held this: its counts, its output, its note and its answer
+pub record IsCall (held : Option Held) (asked : Option Asked) (n : Counts) (output note : Stream) (answer : Status) : Type 0 where
+  -- the answer is exact but for failures, and each failure but want of memory shows in a count
+  pub told : IfSome held (λ h. Agrees h asked answer)
+  pub words_told : AnswersWords asked answer
+  pub cause : HasCause n answer
+  -- what `Done` printed is the whole output that was asked for, and each call that can be carried out is
+  pub out : Prints held asked output.before output.after answer
+  pub complete : IsComplete held asked n answer
+  pub notes : Noted asked n.notes note.before note.after answer

@@ -1,5 +1,6 @@
 -- The words of a call: a command word, and what `clap` makes of the rest.
-use Rattle.std.specs.Prelude.{codes, ℕ, ◌==◌, true, List, [], ◌∷◌, Option, None, Some, if◌then◌else◌, option_and_then}
+use Rattle.std.specs.Borrow.{Bor}
+use Rattle.std.specs.Prelude.{codes, ℕ, ◌==◌, true, List, [], ◌∷◌, map, Option, None, Some, if◌then◌else◌, option_and_then}
 use Rattle.std.specs.Str.{bytes_eq}
 use Rattle.clap.specs.Words.{App, Kinds, Row, Rule, Text, fault_of, first_of, matches_of, new_rule}
 use Rattle.clap.specs.Simple.{new_shape}
@@ -12,6 +13,10 @@ use Rattle.qp_run.specs.declared.words.values.Kind.{Kind}
 use Rattle.qp_run.specs.declared.words.values.Kind.TheVariants.{Journal, Frames}
 use Rattle.qp_run.specs.declared.words.values.Form.{Form}
 use Rattle.qp_run.specs.declared.words.values.Form.TheVariants.{One, Two}
+
+-- the words of a call as texts
+abbrev pub texts : List (Bor Text) → List Text
+texts words = map (λ word. word.now) words
 
 -- ---- the commands, as `clap` reads them
 
@@ -101,6 +106,9 @@ pub record CheckWords : Type 0 where
   pub stimuli : Text
   pub journal : Text
 
+abbrev pub check_words : (system stimuli journal : Text) → CheckWords
+check_words system stimuli journal = record { system = system; stimuli = stimuli; journal = journal }
+
 pub data Asked : Type 0 where
   run : RunWords → Asked
   decode : Text → Asked
@@ -156,13 +164,26 @@ check_with _ _ _ = None
 abbrev pub check_in : List Row → Option Asked
 check_in rows = check_with (first_of (codes "system") rows) (first_of (codes "stimuli") rows) (first_of (codes "journal") rows)
 
+-- what the words ask for, by their command word
+abbrev pub run_asked : List Text → Option Asked
+run_asked words = option_and_then run_in (found_in run_app words)
+
+abbrev pub decode_asked : List Text → Option Asked
+decode_asked words = option_and_then decode_in (found_in decode_app words)
+
+abbrev pub migrate_asked : List Text → Option Asked
+migrate_asked words = option_and_then migrate_in (found_in migrate_app words)
+
+abbrev pub check_asked : List Text → Option Asked
+check_asked words = option_and_then check_in (found_in check_app words)
+
 -- what the words ask for, where they are a command
 unfoldable pub asked_by : Text → List Text → Option Asked
 asked_by word words =
-    if bytes_eq word (codes "run") then option_and_then run_in (found_in run_app words)
-    else (if bytes_eq word (codes "decode") then option_and_then decode_in (found_in decode_app words)
-    else (if bytes_eq word (codes "migrate") then option_and_then migrate_in (found_in migrate_app words)
-    else (if bytes_eq word (codes "check") then option_and_then check_in (found_in check_app words) else None)))
+    if bytes_eq word (codes "run") then run_asked words
+    else (if bytes_eq word (codes "decode") then decode_asked words
+    else (if bytes_eq word (codes "migrate") then migrate_asked words
+    else (if bytes_eq word (codes "check") then check_asked words else None)))
 
 -- the command of a call's words, of which the first is the command word; other words have none
 unfoldable pub command_in : List Text → Option Asked

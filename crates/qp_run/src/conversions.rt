@@ -1,12 +1,11 @@
 //! Journals of a file, as text or as frames, and printed in another way.
-ghost use Rattle.std.specs.Prelude.{◌≡◌, ◌≢◌, ◌⊎◌, ◌==◌, not, true, IfOk, IfErr, IfSome, IsTrue};
+ghost use Rattle.std.specs.Prelude.{◌≡◌, ◌≢◌, ◌==◌, not, true, IfOk, IfErr, IsTrue};
 ghost use Rattle.std.specs.List.{list_all};
-ghost use Rattle.qp_model.specs.declared.kinds.TheConstants.{REST};
+ghost use Rattle.qp_model.specs.Kinds.{REST};
 ghost use Rattle.qp_model.specs.declared.record.Rec.{Rec};
 ghost use Rattle.qp_model.specs.Output.{has_form, has_no_rest, is_in_range};
-ghost use Rattle.qp_text.specs.TextLaw.{IsWritable};
-ghost use Rattle.qp_run.specs.Conversions.{AnswersJournal, HasJournal, IsDecoded, IsMigrated, IsWritten, PrintsOne, Refuses, decode_on, frame_refusal, migrate_on, text_refusal, written};
-ghost use Rattle.qp_run.specs.Verdict.{HasCause, is_failure, is_refusal, quiet, reads_of};
+ghost use Rattle.qp_run.specs.Conversions.{HasJournal, IsDecoded, IsFoundIn, IsMigrated, IsWritten, PrintsOne, Refuses, decode_on, frame_refusal, migrate_on, text_refusal, written};
+ghost use Rattle.qp_run.specs.Verdict.{AgreesJournal, HasCause, is_refusal, reads_of, writes_of};
 ghost use Rattle.qp_run.specs.WordTable.{number_of_form};
 ghost use Rattle.qp_run.specs.declared.status.Status.{Status};
 ghost use Rattle.qp_run.specs.declared.words.values.Kind.{Kind};
@@ -17,15 +16,12 @@ use crate::status::Status;
 use crate::words::{Form, Kind};
 use qp_base::{Shelf, Sink};
 use qp_frames::{Decoder, FrameFault, write_frames};
-use qp_model::{Journal, Lane, Lanes, kinds};
+use qp_model::{Journal, Lane, Lanes, kernels, kinds};
 use qp_text::{Found, TextFault, read_journal, write_journal};
 use std::alloc::Global;
 
 /// The code of a file whose journal doesn't have the form that is asked for.
 pub const OTHER_FORM: u8 = 8;
-
-/// The cooperative kernel, which form 1 doesn't know.
-const COOPERATIVE: u8 = 3;
 
 impl From<TextFault> for Status {
     ghost from_gives = { λ fault status. status ≡ text_refusal fault };
@@ -59,7 +55,7 @@ impl From<FrameFault> for Status {
 
 /// The journal of a text.
 pub fn journal_of_text(alloc: Global, bytes: &[u8]) -> Result<Found, Status>
-    ensures journal { IfOk result (λ found. IsWritable found.form found.journal × (written Kind.Journal found.form found.journal ≡ bytes.now)) }
+    ensures journal { IfOk result (IsFoundIn Kind.Journal bytes.now) }
     ensures refused { IfErr result (Refuses Kind.Journal bytes.now) }
 {
     Ok(read_journal(alloc, bytes)?)
@@ -67,7 +63,7 @@ pub fn journal_of_text(alloc: Global, bytes: &[u8]) -> Result<Found, Status>
 
 /// The journal of frames.
 fn journal_of_frames(alloc: Global, bytes: &[u8]) -> Result<Found, Status>
-    ensures journal { IfOk result (λ found. IsWritable found.form found.journal × (written Kind.Frames found.form found.journal ≡ bytes.now)) }
+    ensures journal { IfOk result (IsFoundIn Kind.Frames bytes.now) }
     ensures refused { IfErr result (Refuses Kind.Frames bytes.now) }
 {
     let mut decoder = Decoder::new(alloc);
@@ -77,7 +73,7 @@ fn journal_of_frames(alloc: Global, bytes: &[u8]) -> Result<Found, Status>
 
 /// The journal of a file's bytes, which are text or frames.
 fn journal_of(alloc: Global, kind: Kind, bytes: &[u8]) -> Result<Found, Status>
-    ensures journal { IfOk result (λ found. IsWritable found.form found.journal × (written kind found.form found.journal ≡ bytes.now)) }
+    ensures journal { IfOk result (IsFoundIn kind bytes.now) }
     ensures refused { IfErr result (Refuses kind bytes.now) }
 {
     match kind {
@@ -94,8 +90,8 @@ fn load_journal<F: Shelf>(
     name: &str,
 ) -> Result<Found, Status>
     ensures journal { IfOk result (λ found. HasJournal (F.holds files.old) name.now kind found.form found.journal) }
-    ensures told { IfErr result (λ status. (on : Journal → Status) → IfSome (F.holds files.old) (λ held. (is_failure status ≡ true) ⊎ AnswersJournal kind on (held name.now) status)) }
-    ensures cause { IfErr result (HasCause (reads_of (F.faults files.old) (F.faults files.new) (F.misses files.old) (F.misses files.new))) }
+    ensures told { IfErr result (λ status. (on : Journal → Status) → AgreesJournal (F.holds files.old) kind on name.now status) }
+    ensures cause { IfErr result (HasCause (reads_of F.faults F.misses files.old files.new)) }
     ensures about { IfErr result (λ status. (is_refusal status ≡ true) × (status ≢ Status.Words)) }
     ensures holds { F.holds files.new ≡ F.holds files.old }
 {
@@ -107,7 +103,8 @@ fn load_journal<F: Shelf>(
 pub fn write<O: Sink>(j: &Journal, kind: Kind, form: u8, out: &mut O) -> Status
     requires form { IsTrue (has_form form j.now) }
     requires range { IsTrue (is_in_range form j.now) }
-    ensures { IsWritten (written kind form j.now) (O.written out.old) (O.written out.new) (O.faults out.old) (O.faults out.new) result }
+    ensures { IsWritten (written kind form j.now) (O.written out.old) (O.written out.new)
+        (O.faults out.old) (O.faults out.new) result }
 {
     let put = match kind {
         Kind::Journal => write_journal(j, form, out),
@@ -121,9 +118,9 @@ pub fn write<O: Sink>(j: &Journal, kind: Kind, form: u8, out: &mut O) -> Status
 
 /// Prints the text of a file's frames, in their own form.
 pub fn decode<F: Shelf, O: Sink>(alloc: Global, files: &mut F, name: &str, out: &mut O) -> Status
-    ensures told { IfSome (F.holds files.old) (λ held. (is_failure result ≡ true) ⊎ AnswersJournal Kind.Frames decode_on (held name.now) result) }
+    ensures told { AgreesJournal (F.holds files.old) Kind.Frames decode_on name.now result }
     ensures about { result ≢ Status.Words }
-    ensures cause { HasCause (record { reads = record { before = F.faults files.old; after = F.faults files.new }; misses = record { before = F.misses files.old; after = F.misses files.new }; out = record { before = O.faults out.old; after = O.faults out.new }; notes = quiet }) result }
+    ensures cause { HasCause (writes_of F.faults F.misses O.faults files.old files.new out.old out.new) result }
     ensures out { PrintsOne (IsDecoded (F.holds files.old) name.now) (O.written out.old) (O.written out.new) result }
     ensures holds { F.holds files.new ≡ F.holds files.old }
 {
@@ -150,7 +147,7 @@ fn has_form(j: &Journal, form: Form) -> bool
     ensures { result ≡ has_form (number_of_form form) j.now }
 {
     match form {
-        Form::One => j.kernel != COOPERATIVE && are_without_rest(&j.lanes),
+        Form::One => j.kernel != kernels::QV && are_without_rest(&j.lanes),
         Form::Two => true,
     }
 }
@@ -164,10 +161,11 @@ pub fn migrate<F: Shelf, O: Sink>(
     name: &str,
     out: &mut O,
 ) -> Status
-    ensures told { IfSome (F.holds files.old) (λ held. (is_failure result ≡ true) ⊎ AnswersJournal from (migrate_on (number_of_form to)) (held name.now) result) }
+    ensures told { AgreesJournal (F.holds files.old) from (migrate_on (number_of_form to)) name.now result }
     ensures about { result ≢ Status.Words }
-    ensures cause { HasCause (record { reads = record { before = F.faults files.old; after = F.faults files.new }; misses = record { before = F.misses files.old; after = F.misses files.new }; out = record { before = O.faults out.old; after = O.faults out.new }; notes = quiet }) result }
-    ensures out { PrintsOne (IsMigrated (F.holds files.old) name.now from (number_of_form to)) (O.written out.old) (O.written out.new) result }
+    ensures cause { HasCause (writes_of F.faults F.misses O.faults files.old files.new out.old out.new) result }
+    ensures out { PrintsOne (IsMigrated (F.holds files.old) name.now from (number_of_form to))
+        (O.written out.old) (O.written out.new) result }
     ensures holds { F.holds files.new ≡ F.holds files.old }
 {
     let found = match load_journal(alloc, files, from, name) {

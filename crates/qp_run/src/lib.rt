@@ -6,14 +6,13 @@ mod conversions;
 pub mod laws;
 mod loading;
 mod place;
+mod reading;
 mod runs;
 mod status;
-#[cfg(test)]
-mod tests;
 mod thin;
 mod top;
 pub mod words;
 
 pub use place::Place;
 pub use status::Status;
-pub use top::qp_main;
+pub use top::{qp_main, tell};

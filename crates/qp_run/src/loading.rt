@@ -1,7 +1,7 @@
 //! Loads of the files that a call names.
-ghost use Rattle.std.specs.Prelude.{◌≡◌, ◌≢◌, ◌≤◌, ◌⊎◌, true, IfOk, IfErr, IfSome};
-ghost use Rattle.qp_run.specs.Loads.{EndsAtLoad, IsLoaded};
-ghost use Rattle.qp_run.specs.Verdict.{HasCause, is_failure, is_refusal, reads_of};
+ghost use Rattle.std.specs.Prelude.{◌≡◌, ◌≢◌, ◌≤◌, true, IfOk, IfErr, IfSome};
+ghost use Rattle.qp_run.specs.Loads.{IsLoaded};
+ghost use Rattle.qp_run.specs.Verdict.{FailsToLoad, HasCause, is_refusal, reads_of};
 ghost use Rattle.qp_run.specs.declared.status.Status.{Status};
 
 use crate::status::Status;
@@ -11,8 +11,8 @@ use std::alloc::Global;
 /// Loads a file. `file` is its operand's place, counted from 1.
 pub fn load<F: Shelf>(alloc: Global, files: &mut F, file: u8, name: &str) -> Result<Vec<u8>, Status>
     ensures held { IfOk result (λ bytes. IfSome (F.holds files.old) (λ held. IsLoaded (held name.now) bytes.items)) }
-    ensures told { IfErr result (λ status. IfSome (F.holds files.old) (λ held. (is_failure status ≡ true) ⊎ EndsAtLoad file (held name.now) status)) }
-    ensures cause { IfErr result (HasCause (reads_of (F.faults files.old) (F.faults files.new) (F.misses files.old) (F.misses files.new))) }
+    ensures told { IfErr result (λ status. IfSome (F.holds files.old) (λ held. FailsToLoad file (held name.now) status)) }
+    ensures cause { IfErr result (HasCause (reads_of F.faults F.misses files.old files.new)) }
 
     ensures about { IfErr result (λ status. (is_refusal status ≡ true) × (status ≢ Status.Words)) }
 

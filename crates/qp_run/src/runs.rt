@@ -5,17 +5,14 @@ ghost use Rattle.qp_chart.specs.StateTree.{state_at};
 ghost use Rattle.qp_model.specs.History.{lane_items};
 ghost use Rattle.qp_model.specs.Record.{item_of, entry};
 ghost use Rattle.qp_stim.specs.Rules.{StimuliFit};
-ghost use Rattle.qp_system.specs.Sound.{IsSound};
+ghost use Rattle.qp_model.specs.Sound.{IsSound};
 ghost use Rattle.qp_run.specs.Thin.{is_thin, are_thin, signal_of};
 ghost use Rattle.qp_run.specs.ThinRun.{have_few_rows, have_few_posts, row_in, row_for, step_notes, state_after, start_notes, look_at_post, kernel_lane, posts, lanes_of, IsQuietRun};
 
 use crate::thin::signal_of;
 use qp_chart::{Chart, Row};
-use qp_model::{Entry, Journal, Lane, Lanes, Rec, Source, Stim, Stimuli, System};
+use qp_model::{Entry, Journal, Lane, Lanes, Rec, Source, Stim, Stimuli, System, ends, kernels};
 use std::alloc::{AllocError, Global};
-
-/// The kernel `sim` in a journal.
-const SIM: u8 = 0;
 
 /// How many events an object may take.
 const BUDGET: u32 = 100000;
@@ -239,9 +236,9 @@ pub fn run(alloc: Global, system: &System, stimuli: &Stimuli) -> Result<Journal,
     let chart = &system.charts.items[0];
     let lanes = lanes_of(alloc, object, chart, &stimuli.sources)?;
     Ok(Journal {
-        kernel: SIM,
+        kernel: kernels::SIM,
         budget: BUDGET,
         lanes,
-        end: 0,
+        end: ends::QUIET,
     })
 }

@@ -119,7 +119,8 @@ impl Status {
     #[tactic(auto, unfolding(crate::specs::Notes::line_of))]
     pub fn file_line(&self, alloc: Global, name: &str) -> Result<String, AllocError>
         requires { names_file self.now ≡ true }
-        ensures { (asked : Option Asked) → operand_in asked (file_of self.now) ≡ name.now → IfOk result (λ line. string_bytes line ≡ line_of asked self.now) }
+        ensures { (asked : Option Asked) → operand_in asked (file_of self.now) ≡ name.now
+            → IfOk result (λ line. string_bytes line ≡ line_of asked self.now) }
     {
         match self {
             Status::Absent { .. } => named_line(alloc, name, "absent"),

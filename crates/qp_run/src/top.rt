@@ -1,29 +1,25 @@
 //! The top call.
-ghost use Rattle.std.specs.Prelude.{◌≡◌, ◌≢◌, ◌⊎◌, true, false, map, Option, Some, IfOk, IfErr, IfSome};
+ghost use Rattle.std.specs.Prelude.{◌≡◌, ◌≢◌, ◌⊎◌, true, false, Option, Some, IfOk, IfErr, IfSome};
 ghost use Rattle.qp_base.specs.Counts.{Rose};
 ghost use Rattle.qp_base.specs.Sink.{AppendsPrefix, appended};
 ghost use Rattle.qp_stim.specs.Rules.{StimuliFit};
-ghost use Rattle.qp_stim.specs.Stimuli.{stimuli_of};
-ghost use Rattle.qp_system.specs.Sound.{IsSound};
-ghost use Rattle.qp_system.specs.SystemOf.{IsSystemOf};
+ghost use Rattle.qp_model.specs.Sound.{IsSound};
 ghost use Rattle.qp_run.specs.Conversions.{PrintsOne};
-ghost use Rattle.qp_run.specs.Notes.{file_of, names_file};
-ghost use Rattle.qp_run.specs.Thin.{is_thin, are_thin};
-ghost use Rattle.qp_run.specs.Verdict.{Agrees, AgreesFiles, AnswersWords, EndsAtSystem, HasCause, IsComplete, IsInput, IsRun, Noted, Prints, Stands, is_refusal, quiet, reads_of, stimuli_answer};
-ghost use Rattle.qp_run.specs.WordTable.{Asked, asked_of, command_in, number_of_form, operand_in};
+ghost use Rattle.qp_run.specs.Notes.{names_file};
+ghost use Rattle.qp_run.specs.Verdict.{Agrees, AgreesRun, AnswersWords, HasCause, IsCall, IsInput, IsNamed, IsRun, Noted, Prints, Stands, count_of, is_refusal, reads_of, stream_of, writes_of};
+ghost use Rattle.qp_run.specs.WordTable.{Asked, asked_of, command_in, number_of_form, texts};
 ghost use Rattle.qp_run.specs.declared.status.Status.{Status};
 
 use crate::checking::check_files;
 use crate::conversions::{decode, migrate, write};
 use crate::loading::load;
+use crate::reading::{stimuli_in, system_in};
 use crate::runs::run;
 use crate::status::Status;
 use crate::thin::{are_thin, is_thin};
 use crate::words::{Command, Form, Kernel, Kind, command_of};
 use qp_base::{Gate, Shelf, Sink};
 use qp_model::{Stimuli, System};
-use qp_stim::stimuli_of_bytes;
-use qp_system::system_of_bytes;
 use std::alloc::{AllocError, Global};
 
 /// What the two files of a run say.
@@ -33,39 +29,7 @@ struct Input {
     stimuli: Stimuli,
 }
 
-/// The system of a file, where the program runs it.
-fn system_in(alloc: Global, bytes: &[u8]) -> Result<System, Status>
-    ensures read { IfOk result (λ sys. IsSystemOf bytes.now sys) }
-    ensures sound { IfOk result (λ sys. IsSound sys) }
-    ensures thin { IfOk result (λ sys. is_thin sys ≡ true) }
-    ensures told { IfErr result (λ status. (status ≡ Status.Memory) ⊎ EndsAtSystem bytes.now status) }
-{
-    let system = system_of_bytes(alloc, bytes)?;
-    if is_thin(&system) {
-        Ok(system)
-    } else {
-        Err(Status::Later { file: 1 })
-    }
-}
-
-/// The stimuli of a file, where the program runs them.
-fn stimuli_in(alloc: Global, system: &System, bytes: &[u8]) -> Result<Stimuli, Status>
-    requires { IsSound system.now }
-    ensures read { IfOk result (λ sources. stimuli_of system.now bytes.now ≡ Ok sources) }
-    ensures fit { IfOk result (StimuliFit system.now) }
-    ensures thin { IfOk result (λ sources. are_thin sources ≡ true) }
-    ensures told { IfErr result (λ status. (status ≡ Status.Memory) ⊎ (status ≡ stimuli_answer (stimuli_of system.now bytes.now))) }
-    ensures about { IfErr result (λ status. is_refusal status ≡ true) }
-{
-    let stimuli = stimuli_of_bytes(alloc, system, bytes)?;
-    if are_thin(&stimuli) {
-        Ok(stimuli)
-    } else {
-        Err(Status::Later { file: 2 })
-    }
-}
-
-/// Reads the two files of a run.
+/// Reads the two files of a run, where the program runs what they say. The second isn't read where the first isn't run.
 fn prepare<F: Shelf>(
     alloc: Global,
     files: &mut F,
@@ -76,15 +40,21 @@ fn prepare<F: Shelf>(
     ensures sound { IfOk result (λ input. IsSound input.system) }
     ensures fit { IfOk result (λ input. StimuliFit input.system input.stimuli) }
 
-    ensures told { IfErr result (λ status. IfSome (F.holds files.old) (λ held. AgreesFiles (held system.now) (held stimuli.now) status)) }
-    ensures cause { IfErr result (HasCause (reads_of (F.faults files.old) (F.faults files.new) (F.misses files.old) (F.misses files.new))) }
+    ensures told { IfErr result (AgreesRun (F.holds files.old) system.now stimuli.now) }
+    ensures cause { IfErr result (HasCause (reads_of F.faults F.misses files.old files.new)) }
     ensures about { IfErr result (λ status. (is_refusal status ≡ true) × (status ≢ Status.Words)) }
     ensures holds { F.holds files.new ≡ F.holds files.old }
 {
     let bytes = load(alloc, files, 1, system)?;
     let system = system_in(alloc, bytes.as_slice())?;
+    if !is_thin(&system) {
+        return Err(Status::Later { file: 1 });
+    }
     let bytes = load(alloc, files, 2, stimuli)?;
     let stimuli = stimuli_in(alloc, &system, bytes.as_slice())?;
+    if !are_thin(&stimuli) {
+        return Err(Status::Later { file: 2 });
+    }
     Ok(Input { system, stimuli })
 }
 
@@ -98,10 +68,11 @@ fn run_files<F: Shelf, O: Sink>(
     form: Form,
     out: &mut O,
 ) -> Status
-    ensures told { IfSome (F.holds files.old) (λ held. AgreesFiles (held system.now) (held stimuli.now) result) }
+    ensures told { AgreesRun (F.holds files.old) system.now stimuli.now result }
     ensures about { result ≢ Status.Words }
-    ensures cause { HasCause (record { reads = record { before = F.faults files.old; after = F.faults files.new }; misses = record { before = F.misses files.old; after = F.misses files.new }; out = record { before = O.faults out.old; after = O.faults out.new }; notes = quiet }) result }
-    ensures out { PrintsOne (IsRun (F.holds files.old) system.now stimuli.now kind (number_of_form form)) (O.written out.old) (O.written out.new) result }
+    ensures cause { HasCause (writes_of F.faults F.misses O.faults files.old files.new out.old out.new) result }
+    ensures out { PrintsOne (IsRun (F.holds files.old) system.now stimuli.now kind (number_of_form form))
+        (O.written out.old) (O.written out.new) result }
     ensures holds { F.holds files.new ≡ F.holds files.old }
 {
     let input = match prepare(alloc, files, system, stimuli) {
@@ -123,7 +94,7 @@ fn carry_out<F: Shelf, O: Sink>(
 ) -> Status
     ensures told { IfSome (F.holds files.old) (λ held. Agrees held (Some (asked_of command.now)) result) }
     ensures about { result ≢ Status.Words }
-    ensures cause { HasCause (record { reads = record { before = F.faults files.old; after = F.faults files.new }; misses = record { before = F.misses files.old; after = F.misses files.new }; out = record { before = O.faults out.old; after = O.faults out.new }; notes = quiet }) result }
+    ensures cause { HasCause (writes_of F.faults F.misses O.faults files.old files.new out.old out.new) result }
     ensures out { Prints (F.holds files.old) (Some (asked_of command.now)) (O.written out.old) (O.written out.new) result }
     ensures holds { F.holds files.new ≡ F.holds files.old }
 {
@@ -158,11 +129,11 @@ fn answer<'w, F: Shelf, O: Sink>(
     files: &mut F,
     out: &mut O,
 ) -> Answered<'w>
-    ensures told { IfSome (F.holds files.old) (λ held. Agrees held (command_in (map (λ word. word.now) words.entry.now)) result.status) }
-    ensures words_told { AnswersWords (command_in (map (λ word. word.now) words.entry.now)) result.status }
-    ensures name { (names_file result.status ≡ true) → operand_in (command_in (map (λ word. word.now) words.entry.now)) (file_of result.status) ≡ result.name.now }
-    ensures cause { HasCause (record { reads = record { before = F.faults files.old; after = F.faults files.new }; misses = record { before = F.misses files.old; after = F.misses files.new }; out = record { before = O.faults out.old; after = O.faults out.new }; notes = quiet }) result.status }
-    ensures out { Prints (F.holds files.old) (command_in (map (λ word. word.now) words.entry.now)) (O.written out.old) (O.written out.new) result.status }
+    ensures told { IfSome (F.holds files.old) (λ held. Agrees held (command_in (texts words.entry.now)) result.status) }
+    ensures words_told { AnswersWords (command_in (texts words.entry.now)) result.status }
+    ensures name { IsNamed (command_in (texts words.entry.now)) result.status result.name.now }
+    ensures cause { HasCause (writes_of F.faults F.misses O.faults files.old files.new out.old out.new) result.status }
+    ensures out { Prints (F.holds files.old) (command_in (texts words.entry.now)) (O.written out.old) (O.written out.new) result.status }
     ensures holds { F.holds files.new ≡ F.holds files.old }
 {
     match command_of(alloc, words) {
@@ -185,7 +156,8 @@ fn answer<'w, F: Shelf, O: Sink>(
 /// Puts the line of a status.
 fn put_line<E: Sink>(status: Status, line: &[u8], notes: &mut E) -> Status
     ensures { ((result ≡ status) × (E.written notes.new ≡ appended (E.written notes.old) line.now))
-        ⊎ ((result ≡ Status.WriteFault) × Rose (E.faults notes.old) (E.faults notes.new) × AppendsPrefix (E.written notes.old) line.now (E.written notes.new)) }
+        ⊎ ((result ≡ Status.WriteFault) × Rose (E.faults notes.old) (E.faults notes.new)
+        × AppendsPrefix (E.written notes.old) line.now (E.written notes.new)) }
 {
     match notes.put(line) {
         Ok(()) => status,
@@ -193,24 +165,32 @@ fn put_line<E: Sink>(status: Status, line: &[u8], notes: &mut E) -> Status
     }
 }
 
-/// Puts the line about an answer. Only a line that names a file takes memory; it names it by this name.
-fn report<E: Sink>(alloc: Global, name: &str, status: Status, notes: &mut E) -> Status
-    ensures notes { (asked : Option Asked) → (names_file status ≡ true → operand_in asked (file_of status) ≡ name.now) → Noted asked (record { before = E.faults notes.old; after = E.faults notes.new }) (E.written notes.old) (E.written notes.new) result }
-    ensures answer { Stands (record { before = E.faults notes.old; after = E.faults notes.new }) status result }
+/// Puts the line of an answer that names no file, as a caller does that had no words to call the program with. `Done` has none.
+pub fn tell<E: Sink>(status: Status, notes: &mut E) -> Status
+    requires { names_file status ≡ false }
+    ensures notes { (asked : Option Asked)
+        → Noted asked (count_of E.faults notes.old notes.new) (E.written notes.old) (E.written notes.new) result }
+    ensures answer { Stands (count_of E.faults notes.old notes.new) status result }
 {
     if status.is_done() {
         return status;
     }
+    let line = status.plain_line();
+    put_line(status, line.as_str().as_bytes(), notes)
+}
+
+/// Puts the line about an answer. Only a line that names a file takes memory; it names it by this name.
+fn report<E: Sink>(alloc: Global, name: &str, status: Status, notes: &mut E) -> Status
+    ensures notes { (asked : Option Asked) → IsNamed asked status name.now
+        → Noted asked (count_of E.faults notes.old notes.new) (E.written notes.old) (E.written notes.new) result }
+    ensures answer { Stands (count_of E.faults notes.old notes.new) status result }
+{
     if !status.names_file() {
-        let line = status.plain_line();
-        return put_line(status, line.as_str().as_bytes(), notes);
+        return tell(status, notes);
     }
     match status.file_line(alloc, name) {
         Ok(line) => put_line(status, line.as_str().as_bytes(), notes),
-        Err(_) => {
-            let line = Status::Memory.plain_line();
-            put_line(Status::Memory, line.as_str().as_bytes(), notes)
-        }
+        Err(_) => tell(Status::Memory, notes),
     }
 }
 
@@ -226,18 +206,12 @@ pub fn qp_main<R, F: Shelf, O: Sink, E: Sink, G: Gate>(
     notes: &mut E,
     _gate: &G,
 ) -> Status
-    // What the words ask for, by their table; the answer is exact but for want of memory and failures, and each failure shows in a
-    // count.
-    ensures told { IfSome (F.holds files.old) (λ held. Agrees held (command_in (map (λ word. word.now) words.now)) result) }
-    ensures words_told { AnswersWords (command_in (map (λ word. word.now) words.now)) result }
-    ensures cause { HasCause (record { reads = record { before = F.faults files.old; after = F.faults files.new }; misses = record { before = F.misses files.old; after = F.misses files.new }; out = record { before = O.faults out.old; after = O.faults out.new }; notes = record { before = E.faults notes.old; after = E.faults notes.new } }) result }
-
-    // The headline: what `Done` printed is the journal of a lawful run of the two files, as text or frames in the form of the words,
-    // or the journal that the file has, decoded or migrated; and each call that can be carried out is carried out.
-    ensures out { Prints (F.holds files.old) (command_in (map (λ word. word.now) words.now)) (O.written out.old) (O.written out.new) result }
-    ensures complete { IsComplete (F.holds files.old) (command_in (map (λ word. word.now) words.now)) (record { reads = record { before = F.faults files.old; after = F.faults files.new }; misses = record { before = F.misses files.old; after = F.misses files.new }; out = record { before = O.faults out.old; after = O.faults out.new }; notes = record { before = E.faults notes.old; after = E.faults notes.new } }) result }
-
-    ensures notes { Noted (command_in (map (λ word. word.now) words.now)) (record { before = E.faults notes.old; after = E.faults notes.new }) (E.written notes.old) (E.written notes.new) result }
+    // The headline, with what the words ask for by their table: what was answered, printed and noted.
+    ensures call { IsCall (F.holds files.old) (command_in (texts words.now))
+        (record (writes_of F.faults F.misses O.faults files.old files.new out.old out.new) {
+          notes = count_of E.faults notes.old notes.new;
+        })
+        (stream_of O.written out.old out.new) (stream_of E.written notes.old notes.new) result }
     ensures holds { F.holds files.new ≡ F.holds files.old }
 {
     let Answered { status, name } = answer(alloc, words, files, out);

@@ -1,12 +1,10 @@
 //! The words of a call: a command word, and what `clap` reads of the rest.
-ghost use Rattle.std.specs.Prelude.{◌≡◌, map, option_and_then, option_map, IfOk};
-ghost use Rattle.qp_run.specs.WordTable.{asked_of, check_app, check_in, command_in, decode_app, decode_in, found_in, migrate_app, migrate_in, operand_at, run_app, run_in};
+ghost use Rattle.std.specs.Prelude.{◌≡◌, option_map, IfOk};
+ghost use Rattle.qp_run.specs.WordTable.{asked_of, check_asked, check_in, command_in, decode_asked, decode_in, migrate_asked, migrate_in, operand_at, run_asked, run_in, texts};
 ghost use Rattle.clap.specs.Words.{found_of, rows_of};
 
 mod apps;
 pub mod laws;
-#[cfg(test)]
-mod tests;
 mod values;
 
 use apps::{check_app, decode_app, matches_in, migrate_app, run_app};
@@ -106,7 +104,7 @@ fn check_found<'w>(found: &ArgMatches<'w>) -> Option<Command<'w>>
 }
 
 fn run_of<'w>(alloc: Global, words: &'w [&'w str]) -> Result<Option<Command<'w>>, AllocError>
-    ensures { IfOk result (λ found. option_map asked_of found ≡ option_and_then run_in (found_in run_app (map (λ word. word.now) words.entry.now))) }
+    ensures { IfOk result (λ found. option_map asked_of found ≡ run_asked (texts words.entry.now)) }
 {
     match matches_in(run_app(alloc)?, words)? {
         Some(found) => Ok(run_found(&found)),
@@ -115,7 +113,7 @@ fn run_of<'w>(alloc: Global, words: &'w [&'w str]) -> Result<Option<Command<'w>>
 }
 
 fn decode_of<'w>(alloc: Global, words: &'w [&'w str]) -> Result<Option<Command<'w>>, AllocError>
-    ensures { IfOk result (λ found. option_map asked_of found ≡ option_and_then decode_in (found_in decode_app (map (λ word. word.now) words.entry.now))) }
+    ensures { IfOk result (λ found. option_map asked_of found ≡ decode_asked (texts words.entry.now)) }
 {
     match matches_in(decode_app(alloc)?, words)? {
         Some(found) => Ok(decode_found(&found)),
@@ -124,7 +122,7 @@ fn decode_of<'w>(alloc: Global, words: &'w [&'w str]) -> Result<Option<Command<'
 }
 
 fn migrate_of<'w>(alloc: Global, words: &'w [&'w str]) -> Result<Option<Command<'w>>, AllocError>
-    ensures { IfOk result (λ found. option_map asked_of found ≡ option_and_then migrate_in (found_in migrate_app (map (λ word. word.now) words.entry.now))) }
+    ensures { IfOk result (λ found. option_map asked_of found ≡ migrate_asked (texts words.entry.now)) }
 {
     match matches_in(migrate_app(alloc)?, words)? {
         Some(found) => Ok(migrate_found(&found)),
@@ -133,7 +131,7 @@ fn migrate_of<'w>(alloc: Global, words: &'w [&'w str]) -> Result<Option<Command<
 }
 
 fn check_of<'w>(alloc: Global, words: &'w [&'w str]) -> Result<Option<Command<'w>>, AllocError>
-    ensures { IfOk result (λ found. option_map asked_of found ≡ option_and_then check_in (found_in check_app (map (λ word. word.now) words.entry.now))) }
+    ensures { IfOk result (λ found. option_map asked_of found ≡ check_asked (texts words.entry.now)) }
 {
     match matches_in(check_app(alloc)?, words)? {
         Some(found) => Ok(check_found(&found)),
@@ -148,7 +146,7 @@ pub fn command_of<'w>(
     alloc: Global,
     words: &'w [&'w str],
 ) -> Result<Option<Command<'w>>, AllocError>
-    ensures { IfOk result (λ found. option_map asked_of found ≡ command_in (map (λ word. word.now) words.entry.now)) }
+    ensures { IfOk result (λ found. option_map asked_of found ≡ command_in (texts words.entry.now)) }
 {
     let Some(word) = words.first() else {
         return Ok(None);

@@ -1,6 +1,6 @@
 //! The commands that `clap` reads, one for each command word.
-ghost use Rattle.std.specs.Prelude.{◌≡◌, [], true, false, map, option_map, IfOk};
-ghost use Rattle.qp_run.specs.WordTable.{plain_app, operand, option, check_app, decode_app, found_in, migrate_app, run_app};
+ghost use Rattle.std.specs.Prelude.{◌≡◌, [], true, false, option_map, IfOk};
+ghost use Rattle.qp_run.specs.WordTable.{plain_app, operand, option, check_app, decode_app, found_in, migrate_app, run_app, texts};
 ghost use Rattle.clap.specs.Words.{app_of, found_of, is_simple_and_free, rows_of, rule_of};
 
 use clap::error::ErrorKind;
@@ -73,7 +73,8 @@ pub(super) fn matches_in<'w>(
     words: &'w [&'w str],
 ) -> Result<Option<ArgMatches<'w>>, AllocError>
     requires { is_simple_and_free (app_of command) ≡ true }
-    ensures { IfOk result (λ found. option_map (λ m. rows_of (found_of m)) found ≡ found_in (app_of command.entry) (map (λ word. word.now) words.entry.now)) }
+    ensures { IfOk result (λ found. option_map (λ m. rows_of (found_of m)) found
+        ≡ found_in (app_of command.entry) (texts words.entry.now)) }
 {
     match command.try_get_matches_from(words) {
         Ok(found) => Ok(Some(found)),

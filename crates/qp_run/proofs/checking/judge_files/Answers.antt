@@ -1,28 +1,28 @@
-use Rattle.std.proofs.Common.{◌≡◌, ◌∙◌, ◌⊎◌, true, IfSome, rules}
+use Rattle.std.proofs.Common.{◌∙◌, rules}
 use Rattle.std.proofs.lemmas.Result.{IfErr-weaker, IfOk-weaker}
-use Rattle.qp_run.specs.Checks.{JudgesFiles}
-use Rattle.qp_run.specs.Verdict.{is_failure}
+use Rattle.qp_run.specs.Verdict.{AgreesCheck}
+use Rattle.qp_run.specs.WordTable.{check_words}
 use Rattle.qp_run.proofs.CheckLemmas.{has-lawful, judged-third, told-first, told-judged, told-second, told-stimuli, told-system, told-third}
 use Rattle.qp_run.proofs.checking.judge_files.Goals as goal
 
 pub returns-in_err-bytes-clause-told : goal.returns-in_err-bytes-clause-told
 returns-in_err-bytes-clause-told g c =
     let status = c.in_err-bytes.field-0.0 in
-    let fact : IfSome (g.F.Shelf.holds c.args.files.now) (λ held. (is_failure status ≡ true) ⊎ JudgesFiles (held c.args.system.now) (held c.args.stimuli.now) (held c.args.journal.now) status) =
+    let fact : AgreesCheck (g.F.Shelf.holds c.args.files.now) (check_words c.args.system.now c.args.stimuli.now c.args.journal.now) status =
     told-first _ _ _ _ status c.in_err-bytes.ensures.told in
     search (rules, fact)
 
 pub returns-in_err-system-clause-told : goal.returns-in_err-system-clause-told
 returns-in_err-system-clause-told g c =
     let status = c.in_err-system.field-0.0 in
-    let fact : IfSome (g.F.Shelf.holds c.args.files.now) (λ held. (is_failure status ≡ true) ⊎ JudgesFiles (held c.args.system.now) (held c.args.stimuli.now) (held c.args.journal.now) status) =
+    let fact : AgreesCheck (g.F.Shelf.holds c.args.files.now) (check_words c.args.system.now c.args.stimuli.now c.args.journal.now) status =
     told-system _ _ _ _ c.in_ok-bytes.bytes.items c.in_ok-bytes.ensures.held status (rw c.as_slice.ensures.value at c.in_err-system.ensures.told) in
     search (rules, fact)
 
 pub returns-in_err-bytes-2-clause-told : goal.returns-in_err-bytes-2-clause-told
 returns-in_err-bytes-2-clause-told g c =
     let status = c.in_err-bytes-2.field-0.0 in
-    let fact : IfSome (g.F.Shelf.holds c.args.files.now) (λ held. (is_failure status ≡ true) ⊎ JudgesFiles (held c.args.system.now) (held c.args.stimuli.now) (held c.args.journal.now) status) =
+    let fact : AgreesCheck (g.F.Shelf.holds c.args.files.now) (check_words c.args.system.now c.args.stimuli.now c.args.journal.now) status =
     told-second _ _ _ _ c.in_ok-bytes.bytes.items c.in_ok-bytes.ensures.held
     c.in_ok-system.system (rw c.as_slice.ensures.value at c.in_ok-system.ensures.read) status (rw c.load.ensures.holds at c.in_err-bytes-2.ensures.told) in
     search (rules, fact)
@@ -30,7 +30,7 @@ returns-in_err-bytes-2-clause-told g c =
 pub returns-in_err-stimuli-clause-told : goal.returns-in_err-stimuli-clause-told
 returns-in_err-stimuli-clause-told g c =
     let status = c.in_err-stimuli.field-0.0 in
-    let fact : IfSome (g.F.Shelf.holds c.args.files.now) (λ held. (is_failure status ≡ true) ⊎ JudgesFiles (held c.args.system.now) (held c.args.stimuli.now) (held c.args.journal.now) status) =
+    let fact : AgreesCheck (g.F.Shelf.holds c.args.files.now) (check_words c.args.system.now c.args.stimuli.now c.args.journal.now) status =
     told-stimuli _ _ _ _ c.in_ok-bytes.bytes.items c.in_ok-bytes.ensures.held
     c.in_ok-system.system (rw c.as_slice.ensures.value at c.in_ok-system.ensures.read)
     c.in_ok-bytes-2.bytes.items (rw c.load.ensures.holds at c.in_ok-bytes-2.ensures.held) status
@@ -40,7 +40,7 @@ returns-in_err-stimuli-clause-told g c =
 pub returns-in_err-bytes-3-clause-told : goal.returns-in_err-bytes-3-clause-told
 returns-in_err-bytes-3-clause-told g c =
     let status = c.in_err-bytes-3.field-0.0 in
-    let fact : IfSome (g.F.Shelf.holds c.args.files.now) (λ held. (is_failure status ≡ true) ⊎ JudgesFiles (held c.args.system.now) (held c.args.stimuli.now) (held c.args.journal.now) status) =
+    let fact : AgreesCheck (g.F.Shelf.holds c.args.files.now) (check_words c.args.system.now c.args.stimuli.now c.args.journal.now) status =
     told-third _ _ _ _ c.in_ok-bytes.bytes.items c.in_ok-bytes.ensures.held
     c.in_ok-system.system (rw c.as_slice.ensures.value at c.in_ok-system.ensures.read)
     c.in_ok-bytes-2.bytes.items (rw c.load.ensures.holds at c.in_ok-bytes-2.ensures.held)

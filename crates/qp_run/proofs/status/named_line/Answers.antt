@@ -1,5 +1,5 @@
 use Rattle.std.proofs.Common.{◌≡◌, ◌++◌, List, ℕ, codes, ◌∙◌, append_assoc}
-use Rattle.qp_run.proofs.ListLemmas.{ok-map}
+use Rattle.std.proofs.lemmas.Result.{IfOk-weaker}
 use Rattle.qp_run.proofs.status.named_line.Goals as goal
 
 -- the parts of a line, grouped from the right and from the left
@@ -7,4 +7,4 @@ parts : (word what : List ℕ) → codes "qp: " ++ (word ++ (codes ": " ++ (what
 parts word what = simp append_assoc
 
 pub returns : goal.returns
-returns c = ok-map c.format.result c.format.ensures.ok (λ s h. h ∙ parts c.args.name.now c.args.what.now)
+returns c = IfOk-weaker c.format.result _ _ (λ s h. h ∙ parts c.args.name.now c.args.what.now) c.format.ensures.ok

@@ -1,0 +1,11 @@
+-- Why arguments could not be had.
+use Rattle.std.proofs.Common.{◌≡◌, false, refl}
+use Rattle.std.specs.declared.io.ErrorKind.{ErrorKind}
+use Rattle.std.specs.declared.io.ErrorKind.TheVariants.{InvalidData}
+use Rattle.qp_run.specs.Notes.{names_file}
+use Rattle.qp_process.specs.Process.{unread}
+
+-- the line names no file
+pub unread-plain : (kind : ErrorKind) → names_file (unread kind) ≡ false
+unread-plain InvalidData = refl
+unread-plain kind = refl

@@ -1,0 +1,8 @@
+use Rattle.std.proofs.Common.{◌∙◌, ap}
+use Rattle.std.specs.IoError.{error_kind}
+use Rattle.qp_run.specs.Notes.{names_file}
+use Rattle.qp_process.proofs.ProcessLemmas.{unread-plain}
+use Rattle.qp_process.proofs.entry.answer.Goals as goal
+
+pub tell-requires : goal.tell-requires
+tell-requires g c = ap names_file c.unread.ensures ∙ unread-plain (error_kind c.in-Err.error)
