@@ -1,21 +1,65 @@
-//! Journals that are lawful but for some lines, each with the first definition that it breaks.
-mod objects;
-mod runs;
-mod several;
-mod words;
+//! Defects: journals of runs with some lines changed, each with the definition that it breaks first.
 
-pub use crate::apply::Edit;
-pub use crate::lawful::Name;
-pub use objects::OF_OBJECTS;
-pub use runs::OF_RUNS;
-pub use several::OF_SEVERAL;
-pub use words::OF_WORDS;
+use crate::asking::verdict;
+use crate::blocks::Block;
+use crate::changes::{Change, changed};
+use crate::files::{Table, print_case};
+use crate::runs::{Run, Texts};
+use anyhow::Result;
+use std::alloc::Global;
 
-/// The journal of a run with some changes, or as it is where the run has other files than its own.
-pub struct Defect {
-    pub name: &'static str,
-    pub run: Name,
-    pub edits: &'static [Edit],
-    /// The first definition that fails, and where, in the words of the program.
-    pub verdict: &'static str,
+/// The keys that each defect has once.
+const KEYS: [&str; 4] = ["defect", "run", "verdict", "why"];
+
+/// The changes of a defect.
+fn changes<'a>(alloc: Global, table: &Table, block: &Block<'a>) -> Result<Vec<Change<'a>>> {
+    let mut changes = Vec::new(alloc);
+    for line in &block.lines {
+        match Change::of_line(*line) {
+            Some(change) => changes.push(change)?,
+            None if KEYS.contains(&line.key) => {}
+            None => return Err(table.fault(line.place, "no line of a defect")),
+        }
+    }
+    Ok(changes)
+}
+
+/// The texts of the run of this name, if there is one.
+fn texts_of(rt: &HostRuntime, runs: &[Run], name: &str) -> Result<Option<Texts>> {
+    for run in runs {
+        if run.name == name {
+            return Ok(Some(run.texts(rt)?));
+        }
+    }
+    Ok(None)
+}
+
+/// Prints what is said of a defect of a lawful run, or of one beside other files.
+pub fn show(
+    rt: &HostRuntime,
+    table: &Table,
+    block: &Block,
+    lawful: &[Run],
+    beside: &[Run],
+) -> Result<()> {
+    let name = block.value(table, "defect")?;
+    let run = block.value(table, "run")?;
+    let wanted = block.value(table, "verdict")?;
+    block.value(table, "why")?;
+    let mut texts = texts_of(rt, lawful, run)?;
+    if texts.is_none() {
+        texts = texts_of(rt, beside, run)?;
+    }
+    let Some(texts) = texts else {
+        return Err(table.fault(block.place(), "its run is in no table"));
+    };
+    let changes = changes(rt.alloc(), table, block)?;
+    let journal = changed(rt.alloc(), table, texts.journal.as_str(), &changes)?;
+    let said = verdict(
+        rt.alloc(),
+        texts.system.as_str(),
+        texts.stimuli.as_str(),
+        journal.as_str(),
+    )?;
+    print_case(rt, name, said.as_str(), wanted)
 }
