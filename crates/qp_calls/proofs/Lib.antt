@@ -1,0 +1,15 @@
+pub mod HandLemmas
+pub mod Growing
+pub mod FirstPool
+pub mod Releasing
+pub mod Posting
+pub mod Answering
+pub mod Noting
+pub mod CountLemmas
+pub mod Keeping
+pub mod Recalling
+pub mod Flushing
+pub mod SetBits
+pub mod Announcing
+pub mod Sending
+pub mod TickLemmas

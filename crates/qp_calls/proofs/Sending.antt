@@ -1,0 +1,303 @@
+-- A source's publication, member by member.
+use Rattle.std.proofs.Common.{◌≡◌, ℕ, zero, suc, ◌+◌, ◌-◌, nat_lt, Bool, true, false, List, [], ◌∷◌, ◌++◌, length, refl, sym, ◌∙◌, ap, subst, arith, append_assoc, IsTrue, Option, Some, None, Result, Ok, Err, inl, inr}
+use Rattle.std.proofs.lemmas.Bool.{and_parts}
+use Rattle.std.proofs.lemmas.List.{append-nil}
+use Rattle.std.specs.List.{list_all}
+use Rattle.qp_model.specs.declared.systems.System.{System}
+use Rattle.qp_model.specs.declared.bodies.Entry as model
+use Rattle.qp_model.specs.declared.bodies.Body.TheVariants as item
+use Rattle.qp_model.specs.Record.{entry}
+use Rattle.qp_model.specs.Told.{Told, Event, plain}
+use Rattle.qp_model.specs.Calls as call
+use Rattle.qp_model.specs.Calls.{Answer, Granted, Refused, AtQueue, AtPool}
+use Rattle.qp_model.specs.Parts.{is_static, first_pool, members, room_before, sizes_of}
+use Rattle.qp_model.specs.Sites.{ring_of}
+use Rattle.qp_model.specs.Sound.{IsSound}
+use Rattle.qp_model.specs.Shapes.{Fits, Drops, MakesAgain, again_by, MakesNew, NoBlockFor, Posts, PostsOne, PostsToAll, PostsUpTo, Publishes, PublishesFirst, PublishesLast, raising, restoring}
+use Rattle.qp_model.specs.WordLaw.{is_object}
+use Rattle.qp_calls.specs.declared.answers.RoomFault.{RoomFault}
+use Rattle.qp_calls.specs.declared.did.Did.{Did}
+use Rattle.qp_calls.specs.declared.did.Did.TheVariants as did
+use Rattle.qp_calls.specs.declared.tokens.Entry.{Entry}
+use Rattle.qp_calls.specs.Tokens.{without_entry}
+use Rattle.qp_calls.specs.LaneView.{LaneView, Grows, Roomier}
+use Rattle.qp_calls.specs.Clauses.{IsEvent, Stands, entry_of}
+use Rattle.qp_calls.specs.Entries.{Released}
+use Rattle.qp_calls.specs.Groups.{Answers}
+use Rattle.qp_calls.specs.Publishing.{Announced, AreObjects, PostsAgain, PostsAll, PostsCut, PostsFront, PostsSome, PostsWhole, PublishCut, PublishesAll}
+use Rattle.qp_calls.proofs.Growing.{gains-none, grows-room, grows-then, stands-still}
+use Rattle.qp_calls.proofs.FirstPool.{lt_true, pool_of_sound}
+use Rattle.qp_calls.proofs.Answering.{without-with}
+use Rattle.qp_calls.proofs.Flushing.{could_drop}
+use Rattle.qp_calls.proofs.Announcing.{members-none, one-asserted, one-granted}
+
+-- Posts to several members.
+
+sends-one : (rings : ℕ → ℕ) (e : model.Entry) (sent : List ℕ) (to : ℕ) (posts one : List Told) → PostsToAll rings e sent posts → PostsOne (rings to) e to Granted one
+    → PostsToAll rings e (sent ++ to ∷ []) (posts ++ one)
+unfolding PostsToAll
+sends-one rings e [] to posts one h k = rw h (one, [], sym (append-nil one), k, refl)
+sends-one rings e (a ∷ sent) to posts one h k = (h.0, h.1 ++ one, ap (λ x. x ++ one) h.2 ∙ append_assoc h.0 h.1 one, h.3, sends-one rings e sent to h.1 one h.4 k)
+
+sends-up_to : (rings : ℕ → ℕ) (e : model.Entry) (sent : List ℕ) (to : ℕ) (others : List ℕ) (posts one : List Told) → PostsToAll rings e sent posts → PostsOne (rings to) e to AtQueue one
+    → PostsUpTo rings e (sent ++ to ∷ others) (posts ++ one)
+unfolding PostsToAll PostsUpTo
+sends-up_to rings e [] to others posts one h k = rw h (inl k)
+sends-up_to rings e (a ∷ sent) to others posts one h k =
+    inr (h.0, h.1 ++ one, ap (λ x. x ++ one) h.2 ∙ append_assoc h.0 h.1 one, h.3, sends-up_to rings e sent to others h.1 one h.4 k)
+
+sends-all : (rings : ℕ → ℕ) (e : model.Entry) (sent others : List ℕ) (posts rest : List Told) → PostsToAll rings e sent posts → PostsToAll rings e others rest
+    → PostsToAll rings e (sent ++ others) (posts ++ rest)
+unfolding PostsToAll
+sends-all rings e [] others posts rest h k = rw h k
+sends-all rings e (a ∷ sent) others posts rest h k = (h.0, h.1 ++ rest, ap (λ x. x ++ rest) h.2 ∙ append_assoc h.0 h.1 rest, h.3, sends-all rings e sent others h.1 rest h.4 k)
+
+-- What could still be sent.
+
+could_again : (e : model.Entry) → (head : List Told) × (made : model.Entry) × MakesAgain e head made
+unfolding MakesAgain
+could_again e = go e.pool
+  where
+    go : (p : ℕ) → (head : List Told) × (made : model.Entry) × again_by p e head made
+    go zero = ([], e, (refl, refl))
+    go (suc p) = (plain (item.Inc e.pool e.block 0) ∷ [], entry e.pool e.block 0, (0, refl, refl))
+
+could_post : (ring : ℕ) (e : model.Entry) (to : ℕ) → (g : List Told) × PostsOne ring e to Granted g
+unfolding PostsOne Posts room_before
+could_post ring e to =
+    let a = could_again e in
+    (a.0 ++ (plain (item.Post to 1 0 0 a.1) ∷ []), (a.0, a.1, a.2, (1, 0, 0, refl, free ring)))
+  where
+    free : (r : ℕ) → nat_lt 0 (r + 1 - (1 - 1 + 0 - 0)) ≡ true
+    free r = lt_true 0 (r + 1 - (1 - 1 + 0 - 0)) (omega arith)
+
+could_post_all : (rings : ℕ → ℕ) (e : model.Entry) (others : List ℕ) → (g : List Told) × PostsToAll rings e others g
+unfolding PostsToAll
+could_post_all rings e [] = ([], refl)
+could_post_all rings e (a ∷ others) =
+    let one = could_post (rings a) e a in
+    let rest = could_post_all rings e others in
+    (one.0 ++ rest.0, (one.0, rest.0, refl, one.1, rest.1))
+
+-- The loop over the members.
+
+pub some-none : (e : model.Entry) (all : ℕ) (a : LaneView) → PostsSome e all all a a
+unfolding PostsToAll
+some-none e all a = record { sent = []; posts = []; split = refl; grows = gains-none a; fits = refl; hands = refl }
+
+same_sys : (a v r : LaneView) (e : model.Entry) (all left : ℕ) → PostsSome e all left a v → Roomier v r → r.sys ≡ a.sys
+same_sys a v r e all left some room = let here : r.sys ≡ v.sys = rw room.same refl in here ∙ some.grows.sys
+
+pub some-more : (e : model.Entry) (all left to rest n : ℕ) (a v r w : LaneView) → PostsSome e all left a v → Roomier v r → members left ≡ to ∷ members rest
+    → PostsAgain e to (did.Value n) r w → PostsSome e all rest a w
+some-more e all left to rest n a v r w some room first post =
+    let one : PostsOne (ring_of r.sys to) e to Granted post.g = one-granted (ring_of r.sys to) to n e post.answer post.g post.said post.fits in
+    let here : PostsOne (ring_of a.sys to) e to Granted post.g = subst (λ s. PostsOne (ring_of s to) e to Granted post.g) (same_sys a v r e all left some room) one in
+    record {
+      sent = some.sent ++ to ∷ [];
+      posts = some.posts ++ post.g;
+      split = some.split ∙ ap (λ x. some.sent ++ x) first ∙ sym (append_assoc some.sent (to ∷ []) (members rest));
+      grows = grows-then some.posts post.g a v w some.grows (grows-room post.g v r w room post.grows);
+      fits = sends-one (λ x. ring_of a.sys x) e some.sent to some.posts post.g some.fits here;
+      hands = post.hands refl ∙ rw room.same some.hands;
+    }
+
+pub some-assert : (e : model.Entry) (all left to rest code : ℕ) (a v r w : LaneView) → PostsSome e all left a v → Roomier v r → members left ≡ to ∷ members rest
+    → PostsAgain e to (did.Assert code) r w → (code ≡ 1) × PostsFront e all a w
+some-assert e all left to rest code a v r w some room first post =
+    let end = one-asserted (ring_of r.sys to) to code e post.answer post.g post.said post.fits in
+    let here : PostsOne (ring_of a.sys to) e to AtQueue post.g = subst (λ s. PostsOne (ring_of s to) e to AtQueue post.g) (same_sys a v r e all left some room) end.1 in
+    let split : members all ≡ some.sent ++ to ∷ members rest = some.split ∙ ap (λ x. some.sent ++ x) first in (
+      end.0,
+      record {
+        g = some.posts ++ post.g;
+        grows = grows-then some.posts post.g a v w some.grows (grows-room post.g v r w room post.grows);
+        fits =
+            subst (λ ms. PostsUpTo (λ x. ring_of a.sys x) e ms (some.posts ++ post.g)) (sym split)
+            (sends-up_to (λ x. ring_of a.sys x) e some.sent to (members rest) some.posts post.g some.fits here);
+      },
+    )
+
+pub some-cut : (e : model.Entry) (all left : ℕ) (a v w : LaneView) → PostsSome e all left a v → w ≡ v → PostsCut e all a w
+some-cut e all left a v w some same =
+    let rings = λ (x : ℕ). ring_of a.sys x in
+    let rest = could_post_all rings e (members left) in
+    record {
+      g = some.posts;
+      rest = rest.0;
+      grows = subst (λ x. Grows some.posts a x) (sym same) some.grows;
+      fits =
+          subst (λ ms. PostsToAll (λ x. ring_of a.sys x) e ms (some.posts ++ rest.0)) (sym some.split)
+          (sends-all rings e some.sent (members left) some.posts rest.0 some.fits rest.1);
+    }
+
+pub some-whole : (e : model.Entry) (all left : ℕ) (a v r w : LaneView) → PostsSome e all left a v → left ≡ 0 → Roomier v r → Released e r w → PostsWhole e all a w
+some-whole e all left a v r w some none room rel =
+    let split : some.sent ≡ members all = sym (append-nil some.sent) ∙ ap (λ x. some.sent ++ x) (sym (members-none left none)) ∙ sym some.split in
+    let hands : r.hands ≡ a.hands = rw room.same some.hands in
+    record {
+      posts = some.posts;
+      last = rel.g;
+      grows = grows-then some.posts rel.g a v w some.grows (grows-room rel.g v r w room rel.grows);
+      fits = subst (λ ms. PostsToAll (λ x. ring_of a.sys x) e ms some.posts) split some.fits;
+      drops = rel.drops;
+      hands = rel.hands ∙ ap (λ x. without_entry e x) hands;
+    }
+
+all-second : {X : Type 0} (p : X → Bool) (xs : List X) (y : X) (ys : List X) → list_all p (xs ++ y ∷ ys) ≡ true → p y ≡ true
+all-second p [] y ys h = (and_parts (p y) (list_all p ys) h).0
+all-second p (x ∷ xs) y ys h = all-second p xs y ys (and_parts (p x) (list_all p (xs ++ y ∷ ys)) h).1
+
+-- the next member is an object
+pub next-object : (e : model.Entry) (all left to rest : ℕ) (a v r : LaneView) → PostsSome e all left a v → Roomier v r → members left ≡ to ∷ members rest → AreObjects a.sys all
+    → IsTrue (is_object r.sys to)
+next-object e all left to rest a v r some room first objects =
+    let split : members all ≡ some.sent ++ to ∷ members rest = some.split ∙ ap (λ x. some.sent ++ x) first in
+    let whole : list_all (λ x. is_object a.sys x) (some.sent ++ to ∷ members rest) ≡ true = subst (λ ms. list_all (λ x. is_object a.sys x) ms ≡ true) split objects in
+    rw (same_sys a v r e all left some room) (all-second (λ x. is_object a.sys x) some.sent to (members rest) whole)
+
+-- The whole publication.
+
+no_raise : (former : ℕ) (ms : List ℕ) → raising 0 former ms ≡ []
+unfolding raising
+no_raise former [] = refl
+no_raise former (a ∷ ms) = refl
+
+no_restore : (former : ℕ) (ms : List ℕ) → restoring 0 former ms ≡ []
+unfolding restoring
+no_restore former [] = refl
+no_restore former (a ∷ ms) = refl
+
+-- its beginning, as a source makes it
+first-source : (ev : Event) (reserve : Option ℕ) (made : Entry) (all : ℕ) (fixed : Bool) (a r v : LaneView) → Roomier a r → fixed ≡ is_static r.sys ev.sig
+    → (first : Announced fixed ev reserve made all r v)
+    → PublishesFirst (is_static a.sys ev.sig) (sizes_of a.sys) 0 ev.sig ev.pars reserve (entry_of made) 0 (members all) (first.head ++ (plain (item.Pub ev.sig first.number all) ∷ []))
+unfolding PublishesFirst
+first-source ev reserve made all fixed a r v room is_fixed first =
+    let sys : r.sys ≡ a.sys = rw room.same refl in
+    let here : MakesNew (is_static r.sys ev.sig) (sizes_of r.sys) ev.sig ev.pars reserve first.head (entry_of made) =
+    subst (λ b. MakesNew b (sizes_of r.sys) ev.sig ev.pars reserve first.head (entry_of made)) is_fixed first.makes in
+    let makes : MakesNew (is_static a.sys ev.sig) (sizes_of a.sys) ev.sig ev.pars reserve first.head (entry_of made) =
+    subst (λ s. MakesNew (is_static s ev.sig) (sizes_of s) ev.sig ev.pars reserve first.head (entry_of made)) sys here in
+    (first.head, first.number, all, makes, refl, ap (λ x. first.head ++ (plain (item.Pub ev.sig first.number all) ∷ x)) (sym (no_raise 0 (members all))))
+
+last-source : (e : model.Entry) (ms : List ℕ) (last : List Told) → Drops e last → PublishesLast 0 e 0 ms last
+unfolding PublishesLast
+last-source e ms last drops = (last, drops, ap (λ x. x ++ last) (sym (no_restore 0 ms)))
+
+pub publish-value : (ev : Event) (reserve : Option ℕ) (made : Entry) (all n : ℕ) (fixed : Bool) (a r v w : LaneView) → Roomier a r → fixed ≡ is_static r.sys ev.sig
+    → Announced fixed ev reserve made all r v → (n ≡ 1) → PostsWhole (entry_of made) all v w → Answers a.sys 0 None (call.Publish ev.sig ev.pars reserve) (did.Value n) a w
+unfolding Fits Publishes
+publish-value ev reserve made all n fixed a r v w room is_fixed first one whole =
+    let sys : v.sys ≡ a.sys = let here : r.sys ≡ a.sys = rw room.same refl in first.grows.sys ∙ here in
+    let begin : List Told = first.head ++ (plain (item.Pub ev.sig first.number all) ∷ []) in
+    let posts : PostsToAll (λ x. ring_of a.sys x) (entry_of made) (members all) whole.posts =
+    subst (λ s. PostsToAll (λ x. ring_of s x) (entry_of made) (members all) whole.posts) sys whole.fits in
+    record {
+      answer = Granted;
+      g = begin ++ (whole.posts ++ whole.last);
+      said = ap (λ k. did.Value k) one;
+      grows = grows-room (begin ++ (whole.posts ++ whole.last)) a r w room (grows-then begin (whole.posts ++ whole.last) r v w first.grows whole.grows);
+      fits = (
+        entry_of made,
+        0,
+        members all,
+        begin,
+        whole.posts,
+        whole.last,
+        first-source ev reserve made all fixed a r v room is_fixed first,
+        posts,
+        last-source (entry_of made) (members all) whole.last whole.drops,
+        refl,
+      );
+      hands = λ is. whole.hands ∙ ap (λ x. without_entry (entry_of made) x) first.hands ∙ without-with (entry_of made) r.hands ∙ rw room.same refl;
+    }
+
+pub publish-assert : (ev : Event) (reserve : Option ℕ) (made : Entry) (all code : ℕ) (fixed : Bool) (a r v w : LaneView) → Roomier a r → fixed ≡ is_static r.sys ev.sig
+    → Announced fixed ev reserve made all r v → (code ≡ 1) → PostsFront (entry_of made) all v w → Answers a.sys 0 None (call.Publish ev.sig ev.pars reserve) (did.Assert code) a w
+unfolding Fits Publishes
+publish-assert ev reserve made all code fixed a r v w room is_fixed first one front =
+    let sys : v.sys ≡ a.sys = let here : r.sys ≡ a.sys = rw room.same refl in first.grows.sys ∙ here in
+    let begin : List Told = first.head ++ (plain (item.Pub ev.sig first.number all) ∷ []) in
+    let posts : PostsUpTo (λ x. ring_of a.sys x) (entry_of made) (members all) front.g =
+    subst (λ s. PostsUpTo (λ x. ring_of s x) (entry_of made) (members all) front.g) sys front.fits in
+    record {
+      answer = AtQueue;
+      g = begin ++ front.g;
+      said = ap (λ k. did.Assert k) one;
+      grows = grows-room (begin ++ front.g) a r w room (grows-then begin front.g r v w first.grows front.grows);
+      fits = (entry_of made, 0, members all, begin, front.g, first-source ev reserve made all fixed a r v room is_fixed first, posts, refl);
+      hands = λ is. absurd (cc);
+    }
+
+pub publish-cut : (ev : Event) (reserve : Option ℕ) (made : Entry) (all : ℕ) (fixed : Bool) (a r v w : LaneView) → Roomier a r → fixed ≡ is_static r.sys ev.sig
+    → Announced fixed ev reserve made all r v → PostsCut (entry_of made) all v w → PublishCut ev reserve a w
+unfolding Fits Publishes
+publish-cut ev reserve made all fixed a r v w room is_fixed first cut =
+    let sys : v.sys ≡ a.sys = let here : r.sys ≡ a.sys = rw room.same refl in first.grows.sys ∙ here in
+    let begin : List Told = first.head ++ (plain (item.Pub ev.sig first.number all) ∷ []) in
+    let end = could_drop (entry_of made) in
+    let posts : PostsToAll (λ x. ring_of a.sys x) (entry_of made) (members all) (cut.g ++ cut.rest) =
+    subst (λ s. PostsToAll (λ x. ring_of s x) (entry_of made) (members all) (cut.g ++ cut.rest)) sys cut.fits in
+    record {
+      answer = Granted;
+      g = begin ++ cut.g;
+      rest = cut.rest ++ end.0;
+      grows = grows-room (begin ++ cut.g) a r w room (grows-then begin cut.g r v w first.grows cut.grows);
+      fits = (
+        entry_of made,
+        0,
+        members all,
+        begin,
+        cut.g ++ cut.rest,
+        end.0,
+        first-source ev reserve made all fixed a r v room is_fixed first,
+        posts,
+        last-source (entry_of made) (members all) end.0 end.1,
+        append_assoc begin cut.g (cut.rest ++ end.0) ∙ ap (λ x. begin ++ x) (sym (append_assoc cut.g cut.rest end.0)),
+      );
+    }
+
+pub publish-all : (ev : Event) (reserve : Option ℕ) (made : Entry) (all : ℕ) (fixed : Bool) (a r v w : LaneView) → Roomier a r → fixed ≡ is_static r.sys ev.sig
+    → Announced fixed ev reserve made all r v → (result : Result Did RoomFault) → PostsAll (entry_of made) all v w result → PublishesAll ev reserve a w result
+publish-all ev reserve made all fixed a r v w room is first (Ok (did.Value n)) h = publish-value ev reserve made all n fixed a r v w room is first h.0 h.1
+publish-all ev reserve made all fixed a r v w room is first (Ok (did.Assert code)) h = publish-assert ev reserve made all code fixed a r v w room is first h.0 h.1
+publish-all ev reserve made all fixed a r v w room is first (Err fault) h = (publish-cut ev reserve made all fixed a r v w room is first h.0, h.1)
+
+-- Publications that could be made at all.
+
+could_static : (sizes : List ℕ) (rings : ℕ → ℕ) (sig : ℕ) (pars : List ℕ) (reserve : Option ℕ) → (g : List Told) × Publishes true sizes rings 0 sig pars reserve Granted g
+unfolding Publishes PublishesFirst PublishesLast PostsToAll MakesNew Drops raising restoring
+could_static sizes rings sig pars reserve =
+    let first : List Told = plain (item.Pub sig 0 0) ∷ [] in
+    (first ++ ([] ++ []), (entry 0 sig 0, 0, [], first, [], [], ([], 0, 0, (refl, refl), sym (members-none 0 refl), refl), refl, ([], refl, refl), refl))
+
+could_refuse : (sizes : List ℕ) (rings : ℕ → ℕ) (sig : ℕ) (pars : List ℕ) (p : ℕ) → first_pool sizes (length pars) ≡ Some p → (reserve : Option ℕ)
+    → (answer : Answer) × ((g : List Told) × Publishes false sizes rings 0 sig pars reserve answer g)
+unfolding Publishes NoBlockFor
+could_refuse sizes rings sig pars p pool None = (AtPool, (plain (item.NoBlock p 0 0) ∷ [], (p, 0, 0, refl, pool, refl)))
+could_refuse sizes rings sig pars p pool (Some k) = (Refused, (plain (item.Short p 0 0 k) ∷ [], (p, 0, 0, refl, pool, refl)))
+
+could_publish : (sys : System) (ev : Event) (reserve : Option ℕ) → IsSound sys → IsEvent sys ev
+    → (answer : Answer) × ((g : List Told) × Publishes (is_static sys ev.sig) (sizes_of sys) (λ x. ring_of sys x) 0 ev.sig ev.pars reserve answer g)
+could_publish sys ev reserve sound is = go (is_static sys ev.sig) refl
+  where
+    go : (b : Bool) → is_static sys ev.sig ≡ b → (answer : Answer) × ((g : List Told) × Publishes b (sizes_of sys) (λ x. ring_of sys x) 0 ev.sig ev.pars reserve answer g)
+    go true h = (Granted, could_static (sizes_of sys) (λ x. ring_of sys x) ev.sig ev.pars reserve)
+    go false h =
+        let pool = pool_of_sound sys ev sound is h in
+        could_refuse (sizes_of sys) (λ x. ring_of sys x) ev.sig ev.pars pool.number pool.first reserve
+
+-- `room` refused at once
+pub publish-none : (ev : Event) (reserve : Option ℕ) (a w : LaneView) → IsSound a.sys → IsEvent a.sys ev → w ≡ a → PublishCut ev reserve a w
+unfolding Fits
+publish-none ev reserve a w sound is same =
+    let could = could_publish a.sys ev reserve sound is in
+    record { answer = could.0; g = []; rest = could.1.0; grows = subst (λ x. Grows [] a x) (sym same) (gains-none a); fits = could.1.1 }
+
+-- the entry of a publication stands on after a post
+pub after-post : (e : Entry) (to n : ℕ) (v r w : LaneView) → Stands e v → Roomier v r → PostsAgain (entry_of e) to (did.Value n) r w → Stands e w
+after-post e to n v r w stands room post =
+    let sys : r.sys ≡ v.sys = rw room.same refl in
+    let hands : r.hands ≡ v.hands = rw room.same refl in
+    stands-still e v w (post.hands refl ∙ hands) (post.grows.sys ∙ sys) stands

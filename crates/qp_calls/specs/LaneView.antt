@@ -1,0 +1,164 @@
+-- What contracts see of a lane, and how it grows.
+use Rattle.std.specs.Prelude.{◌≡◌, ℕ, ◌+◌, ◌≤◌, ◌==◌, Bool, false, ◌||◌, List, [], ◌∷◌, ◌++◌, map, length, if◌then◌else◌, IsTrue, Some, None}
+use Rattle.std.specs.declared.option.Option.{Option}
+use Rattle.std.specs.List.{list_any}
+use Rattle.qp_model.specs.declared.words.Word.{Word}
+use Rattle.qp_model.specs.declared.words.Word.TheVariants as word
+use Rattle.qp_model.specs.declared.systems.System.{System}
+use Rattle.qp_model.specs.declared.bodies.Entry.{Entry}
+use Rattle.qp_model.specs.declared.bodies.Body.{Body}
+use Rattle.qp_model.specs.declared.bodies.Body.TheVariants.{Took, New, Lifo}
+use Rattle.qp_model.specs.Told.{Told, ToldItem, Event, for_object}
+use Rattle.qp_model.specs.History.{touch_of, mark_of, same_word}
+use Rattle.qp_model.specs.Knowing.{ceiling_after}
+use Rattle.qp_model.specs.Sites.{blocks_of}
+use Rattle.qp_calls.specs.Tokens.{Token, token_of, stands, handles, hands_after}
+
+-- what the word of a pool, a block or a queue showed
+pub data Shown : Type 0 where
+  FreeBlocks : (n : ℕ) → Shown
+  References : (n : ℕ) → Shown
+  Counts : (f l m : ℕ) → Shown
+  -- nothing is kept of the words of signals and timers
+  NotShown : Shown
+
+-- last-in posts and takes of one queue
+pub record Own : Type 0 where
+  pub l : ℕ
+  pub m : ℕ
+
+pub record LaneView : Type 0 where
+  -- the system for which the lane was made
+  pub sys : System
+  pub told : List ToldItem
+  pub spare : ℕ
+  -- the object for which records are added, 0 for none
+  pub by : ℕ
+  pub serves : ℕ → Bool
+  -- the codes handed to `stop`, and those that `stopped` answered
+  pub stops : List ℕ
+  pub answered : List ℕ
+  -- the most operations of a word that the lane knows of, and what the word showed after them
+  pub mark : Word → ℕ
+  pub shown : Word → Shown
+  -- the last-in posts and the takes of a queue that the lane serves
+  pub own : ℕ → Own
+  -- the event of an entry that the lane knows
+  pub event : Entry → Event
+  pub hands : List Token
+
+-- what a word shows before its first operation
+abbrev pub first_shown : System → Word → Shown
+first_shown sys (word.Pool p) = FreeBlocks (blocks_of sys p)
+first_shown sys (word.Block p b) = References 0
+first_shown sys (word.Queue a) = Counts 0 0 0
+first_shown sys _ = NotShown
+
+-- a lane that has done nothing yet
+pub record IsNew (v : LaneView) : Type 0 where
+  pub told : v.told ≡ []
+  pub by : v.by ≡ 0
+  pub stops : v.stops ≡ []
+  pub answered : v.answered ≡ []
+  pub mark : (w : Word) → v.mark w ≡ 0
+  pub shown : (w : Word) → v.shown w ≡ first_shown v.sys w
+  pub own : (a : ℕ) → v.own a ≡ record { l = 0; m = 0 }
+  pub hands : v.hands ≡ []
+
+-- The marks.
+
+abbrev pub mark_or : ℕ → Option ℕ → ℕ
+mark_or n None = n
+mark_or n (Some k) = k
+
+-- a block that is given out shows its own word too
+abbrev pub shown_from : Word → Body → Option ℕ
+shown_from w (New p n b from sig pars) = if same_word (word.Block p b) w then Some from else None
+shown_from w _ = None
+
+-- the mark of a word after a record
+unfoldable pub mark_by : Word → ℕ → ToldItem → ℕ
+mark_by w n t = mark_or (mark_or n (mark_of w (touch_of t.of t.told.body))) (shown_from w t.told.body)
+
+unfoldable pub mark_after : Word → ℕ → List ToldItem → ℕ
+unfolding mark_by
+mark_after w n [] = n
+mark_after w n (t ∷ ts) = mark_after w (mark_by w n t) ts
+
+-- The last-in posts and takes of a queue.
+
+abbrev pub own_of : ℕ → Own → ℕ → Body → Own
+own_of a c o (Took f l m e) = if o == a then record { l = c.l; m = c.m + 1 } else c
+own_of a c o (Lifo f l m e) = if o == a then record { l = c.l + 1; m = c.m } else c
+own_of a c o _ = c
+
+unfoldable pub own_after : ℕ → Own → List ToldItem → Own
+own_after a c [] = c
+own_after a c (t ∷ ts) = own_after a (own_of a c t.of t.told.body) ts
+
+-- the ceiling of the lane: the number of its last `lock` or `unlock`, or 0
+unfoldable pub ceiling_in : ℕ → List ToldItem → ℕ
+ceiling_in c [] = c
+ceiling_in c (t ∷ ts) = ceiling_in (ceiling_after c t.told.body) ts
+
+-- the lane knows the event of a static entry, of a reference in its hands, and of one that a record of its own handled
+unfoldable pub is_known : LaneView → Entry → Bool
+unfolding stands
+is_known v e = (e.pool == 0) || stands (token_of e) v.hands || list_any (λ t. handles (token_of e) t.told.body) v.told
+
+-- These records come to the end of the lane. All but the spare follows from them.
+pub record Gains (ts : List ToldItem) (old new : LaneView) : Type 0 where
+  pub sys : new.sys ≡ old.sys
+  pub told : new.told ≡ old.told ++ ts
+  pub by : new.by ≡ old.by
+  pub serves : (o : ℕ) → new.serves o ≡ old.serves o
+  pub stops : new.stops ≡ old.stops
+  pub answered : new.answered ≡ old.answered
+  pub mark : (w : Word) → new.mark w ≡ mark_after w (old.mark w) ts
+  pub rise : (w : Word) → old.mark w ≤ new.mark w
+  pub shown : (w : Word) → new.mark w ≡ old.mark w → new.shown w ≡ old.shown w
+  pub own : (a : ℕ) → new.own a ≡ own_after a (old.own a) ts
+  pub event : (e : Entry) → IsTrue (is_known old e) → new.event e ≡ old.event e
+  pub hands : new.hands ≡ hands_after old.hands ts
+
+-- the same of records of object o, and of the object set by `by`
+abbrev pub GrowsOf : ℕ → List Told → LaneView → LaneView → Type 0
+GrowsOf o g old new = Gains (map (for_object o) g) old new
+
+abbrev pub Grows : List Told → LaneView → LaneView → Type 0
+Grows g old new = Gains (map (for_object old.by) g) old new
+
+-- the same, by the spare of the lane
+pub record AddsOf (o : ℕ) (g : List Told) (old new : LaneView) : Type 0 where
+  pub grows : GrowsOf o g old new
+  pub spare : new.spare + length g ≡ old.spare
+
+abbrev pub Adds : List Told → LaneView → LaneView → Type 0
+Adds g old new = AddsOf old.by g old new
+
+-- only the spare may grow
+pub record Roomier (old new : LaneView) : Type 0 where
+  pub same : new ≡ record old { spare = new.spare }
+  pub more : old.spare ≤ new.spare
+
+-- the object set by `by` changes
+abbrev pub Sets : ℕ → LaneView → LaneView → Type 0
+Sets o old new = new ≡ record old { by = o }
+
+-- the lane looks at a word and adds no record: its mark of the word may rise
+pub record Looks (w : Word) (n : ℕ) (x : Shown) (old new : LaneView) : Type 0 where
+  pub sys : new.sys ≡ old.sys
+  pub told : new.told ≡ old.told
+  pub spare : new.spare ≡ old.spare
+  pub by : new.by ≡ old.by
+  pub serves : (o : ℕ) → new.serves o ≡ old.serves o
+  pub stops : new.stops ≡ old.stops
+  pub answered : new.answered ≡ old.answered
+  pub here : new.mark w ≡ n
+  pub rise : old.mark w ≤ n
+  pub mark : (v : Word) → same_word w v ≡ false → new.mark v ≡ old.mark v
+  pub says : new.shown w ≡ x
+  pub shown : (v : Word) → new.mark v ≡ old.mark v → new.shown v ≡ old.shown v
+  pub own : (a : ℕ) → new.own a ≡ old.own a
+  pub event : (e : Entry) → IsTrue (is_known old e) → new.event e ≡ old.event e
+  pub hands : new.hands ≡ old.hands

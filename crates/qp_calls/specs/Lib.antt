@@ -1,0 +1,12 @@
+pub mod Tokens
+pub mod Counting
+pub mod LaneView
+pub mod Notes
+pub mod Clauses
+pub mod LaneLaws
+pub mod Entries
+pub mod Groups
+pub mod Deferring
+pub mod Raising
+pub mod Publishing
+pub mod Ticking

@@ -1,0 +1,87 @@
+-- Which records `note` adds, and with which last record a lane may stop.
+use Rattle.std.specs.Prelude.{◌≡◌, ℕ, ◌-◌, ◌<◌, Bool, true, false, ◌⊎◌, List, [], ◌∷◌, length, if◌then◌else◌, IsTrue, IsFalse}
+use Rattle.std.specs.List.{list_any}
+use Rattle.qp_model.specs.declared.record.Rec.{Rec}
+use Rattle.qp_model.specs.declared.bodies.Body.{Body}
+use Rattle.qp_model.specs.declared.bodies.Body.TheVariants.{Begin, Run, Unhandled, Exit, Enter, Init, Say, Done, Lock, Unlock, Defer, NoDefer, Recall, NoRecall, Flush, Stim, Settle, NoEntry, NoBlock, Armed, BadTicks, NoLifo, Spent, Spill, Look, Rest}
+use Rattle.qp_model.specs.Record.{body_of}
+use Rattle.qp_model.specs.Ends.{is_spill}
+use Rattle.qp_model.specs.Told.{Told, ToldItem, plain, raised}
+use Rattle.qp_model.specs.Shapes.{ticks_fit}
+use Rattle.qp_calls.specs.LaneView.{LaneView, ceiling_in}
+
+-- a note that needs spare and nothing else
+abbrev pub is_note : Body → Bool
+is_note Begin = true
+is_note (Run s k) = true
+is_note Unhandled = true
+is_note (Exit s) = true
+is_note (Enter s) = true
+is_note (Init s) = true
+is_note (Say v) = true
+is_note Done = true
+is_note (Lock c) = true
+is_note (Unlock c) = true
+is_note (Defer e) = true
+is_note NoDefer = true
+is_note (Recall e) = true
+is_note NoRecall = true
+is_note (Flush e) = true
+is_note (Stim k look) = true
+is_note Settle = true
+is_note Spent = true
+is_note (Look k floor) = true
+is_note (Rest k) = true
+is_note _ = false
+
+-- a `spill` stands in the lane
+abbrev pub spills_in : List ToldItem → Bool
+spills_in told = list_any (λ t. is_spill t.told.body) told
+
+-- Assertion 4 states values that no timer takes. A `spill` states the length of its lane, which is nearly full and has none yet.
+abbrev pub IsNote : Body → LaneView → Type 0
+IsNote (Spill n) v = (n ≡ length v.told) × (999992 < n) × IsFalse (spills_in v.told)
+IsNote (BadTicks t ticks interval) v = IsFalse (ticks_fit ticks interval) × (0 < v.spare)
+IsNote b v = IsTrue (is_note b) × (0 < v.spare)
+
+unfoldable pub MayNote : Rec → LaneView → Type 0
+unfolding body_of ticks_fit
+MayNote r v = IsNote (body_of r) v
+
+-- the place of one `spill` is kept apart from the spare
+abbrev pub spare_by : Body → ℕ → ℕ
+spare_by b spare = if is_spill b then spare else spare - 1
+
+unfoldable pub spare_after : Rec → ℕ → ℕ
+unfolding body_of
+spare_after r spare = spare_by (body_of r) spare
+
+-- a note as it is told
+abbrev pub told_as : ℕ → Body → Told
+told_as c (Lock x) = raised x c
+told_as c b = plain b
+
+unfoldable pub told_note : Rec → LaneView → List Told
+unfolding body_of ceiling_in
+told_note r v = told_as (ceiling_in 0 v.told) (body_of r) ∷ []
+
+-- the code with which a lane stops at this record, 0 for none: an assertion's own, and 6 of `spent` and `spill`
+abbrev pub stop_code : Body → ℕ
+stop_code (NoEntry a f l m) = 1
+stop_code (NoBlock p n free) = 2
+stop_code (Armed t n c) = 3
+stop_code (BadTicks t n i) = 4
+stop_code (NoLifo a f l m) = 5
+stop_code Spent = 6
+stop_code (Spill n) = 6
+stop_code _ = 0
+
+-- the code of the lane's last record
+unfoldable pub last_code : List ToldItem → ℕ
+last_code [] = 0
+last_code (t ∷ []) = stop_code t.told.body
+last_code (t ∷ u ∷ ts) = last_code (u ∷ ts)
+
+-- a lane hands in 7 for want of memory, or the code of its last record
+abbrev pub MayStop : ℕ → LaneView → Type 0
+MayStop code v = (code ≡ 7) ⊎ ((0 < code) × (last_code v.told ≡ code))
