@@ -1,0 +1,20 @@
+"""A viewer of journals: reads a system, its stimuli and a journal, and writes one page that shows the run.
+
+It is a viewer, and nothing of it is proved. `qp check` says whether a journal is lawful; a page is made of any
+journal whose text is in the format, lawful or not.
+
+| Module | What it does |
+|---|---|
+| `command` | the words of a call, the files, and what is said where one can't be drawn |
+| `faults` | why a file can't be drawn |
+| `system` with `toml_table` and `system_parts`, `stimuli`, `journal` | the three files as values |
+| `touches` | which word a record draws a number on, or shows |
+| `order` | one order of all records, and the column of each |
+| `naming` | names of objects, signals and events as a reader knows them |
+| `rows` | the rows of the time line, and whose each record is |
+| `words_told` | queues, blocks, pools and time events, record by record |
+| `steps_told` | steps, stimuli, ceilings, states and deferred lists, record by record |
+| `story` | both together, as the value that the page's script draws |
+| `chart_layout`, `chart_svg` | a chart as a picture |
+| `page` | the page: its parts, style and script in one file |
+"""

@@ -1,0 +1,96 @@
+"""The page: its parts, style and script put into one file that needs no other."""
+
+import json
+from html import escape
+from pathlib import Path
+from string import Template
+
+from .chart_layout import lay_out
+from .chart_svg import chart_svg
+from .journal import KERNELS, Journal
+from .story import Story
+from .system_parts import Chart, System
+
+_ASSETS = Path(__file__).resolve().parent / "assets"
+#: The script's parts in order: a part uses those before it while it is read, and all others afterwards.
+_SCRIPTS = (
+    "data.js", "told.js", "view.js", "rows.js", "line.js", "panels.js", "legend.js", "choose.js", "keys.js", "pointer.js",
+    "main.js",
+)
+_ENDS = {0: "ended quietly", 3: "ended by an assertion", 4: "ended by the budget or a full lane"}
+#: So many letters beside a state's name say at most who is in it.
+_WHO = 24
+
+_OBJECT_HEADS = (
+    "Object", "Chart", "Priority", "Threshold", "Steps", "Longest queue", "Left in queue", "Still deferred", "Last state",
+)
+_POOL_HEADS = ("Pool", "Block size", "Blocks", "Fewest free", "Given", "Returned")
+
+
+def page_of(system: System, stimuli: list[list[str]], journal: Journal, names: tuple[str, str, str]) -> str:
+    """The page of a run; `names` are those of the system's file, the stimuli's and the journal's."""
+    story = Story(system, stimuli, journal)
+    count = len(story.order.places)
+    facts = [
+        f"kernel {KERNELS[journal.kernel]}", f"form {journal.form}", f"budget {journal.budget:,}",
+        f"{count:,} record{'' if count == 1 else 's'}", f"{_ENDS[journal.status]} (end {journal.status})",
+    ]
+    return Template(_asset("page.html")).substitute(
+        title=escape(Path(names[2]).name),
+        files=escape(f"{Path(names[0]).name} under {Path(names[1]).name}"),
+        facts="".join(f"<li>{escape(fact)}</li>" for fact in facts),
+        notice=_notice(story),
+        meaning=escape(story.order.meaning),
+        charts="\n".join(_chart(place, chart, system) for place, chart in enumerate(system.charts.values())),
+        objects=_table("Objects", _OBJECT_HEADS, story.object_lines()),
+        pools=_table("Pools", _POOL_HEADS, story.pool_lines()) if system.pools else "",
+        records="\n".join(f"{lane} {record.text}" for lane, record in story.records()),
+        model=json.dumps(story.model(), separators=(",", ":")).replace("<", "\\u003c"),
+        style=_asset("style.css"),
+        script="\n".join(_asset(name) for name in _SCRIPTS),
+    )
+
+
+def _asset(name: str) -> str:
+    return (_ASSETS / name).read_text(encoding="utf-8")
+
+
+def _notice(story: Story) -> str:
+    against = story.order.against
+    if not against:
+        return ""
+    records = "1 record" if len(against) == 1 else f"{len(against):,} records"
+    return (
+        f'<p class="notice" role="note">The numbers of {records} don’t fit the order that is drawn, first at record '
+        f"{against[0] + 1:,}. <code>qp check</code> says whether the journal is lawful.</p>"
+    )
+
+
+def _chart(place: int, chart: Chart, system: System) -> str:
+    users = [entry.name for entry in reversed(system.objects) if entry.chart is chart]
+    room = min(_WHO, len(", ".join(users)))
+    facts = []
+    if users:
+        facts.append(f"objects {', '.join(users)}")
+    if chart.vars:
+        facts.append(", ".join(f"{name} = {value}" for name, value in chart.vars.items()))
+    facts += [f"{timer.name} posts {timer.signal.name}, rate {timer.rate}" for timer in chart.timers]
+    return (
+        f'<section class="chart-box" id="chart-{place}" data-chart="{place}" aria-label="Chart {escape(chart.name)}">'
+        f'<h3>{escape(chart.name)}</h3><ul class="facts">{"".join(f"<li>{escape(fact)}</li>" for fact in facts)}</ul>'
+        f'<div class="chart-scroll" tabindex="0">{chart_svg(lay_out(chart, room), chart.name)}</div></section>'
+    )
+
+
+def _table(caption: str, heads: tuple[str, ...], lines: list[list[str]]) -> str:
+    head = "".join(f'<th scope="col">{name}</th>' for name in heads)
+    body = "".join(
+        f'<tr><th scope="row" data-head="{heads[0]}">{escape(line[0])}</th>'
+        + "".join(f'<td data-head="{name}">{escape(cell)}</td>' for name, cell in zip(heads[1:], line[1:]))
+        + "</tr>"
+        for line in lines
+    )
+    return (
+        f'<div class="table-scroll" tabindex="0"><table><caption>{escape(caption)}</caption>'
+        f"<thead><tr>{head}</tr></thead><tbody>{body}</tbody></table></div>"
+    )
