@@ -16,8 +16,9 @@ use Rattle.qp_model.specs.KernelLane.{lane_read}
 use Rattle.qp_model.specs.Points.{lane_pieces}
 use Rattle.qp_model.specs.Places.{in_order}
 use Rattle.qp_model.specs.OneOrder.{stims_placed, looks_right, order, last_is_free}
-use Rattle.qp_model.specs.Ends.{ends_last}
+use Rattle.qp_model.specs.Ends.{ends_last, spills_cut}
 use Rattle.qp_model.specs.End.{spents_hold, spills_state, has_room, took_count, lines_empty, blocks_rest}
+use Rattle.qp_model.specs.Home.{home_records, own_items}
 use Rattle.qp_model.specs.HomeLane.{is_home_lane}
 use Rattle.qp_model.specs.Lawful.{Lawful, setting_of, CourseHolds, SourceLanes, SpillsStand, OrderHolds, deferral_holds, EndHolds}
 use Rattle.qp_model.specs.WordLaw.{words_hold}
@@ -48,13 +49,13 @@ unfolding CutGroups StepGroup BrokenStep Groups Actions FitsAny Fits asserts_las
 deferring_1_shape = record { groups = inr (plain item.Begin ∷ plain (item.Enter 1) ∷ plain item.Done ∷ [], taken 1 0 1 (entry 1 0 0) (record { sig = 5; pars = 1 ∷ [] }) ∷ plain (item.Run 1 1) ∷ plain (item.Inc 1 0 1) ∷ plain (item.Defer (entry 1 0 1)) ∷ plain item.Done ∷ dropped 1 0 2 0 1 ∷ [], [], (plain (item.Enter 1) ∷ [], ((plain (item.Enter 1) ∷ []) ∷ [], (IsMove (item.Enter 1) refl refl, tt), refl), refl), ((taken 1 0 1 (entry 1 0 0) (record { sig = 5; pars = 1 ∷ [] }) ∷ plain (item.Run 1 1) ∷ plain (item.Inc 1 0 1) ∷ plain (item.Defer (entry 1 0 1)) ∷ plain item.Done ∷ dropped 1 0 2 0 1 ∷ []) ∷ [], (Dispatches (entry 1 0 0, taken 1 0 1 (entry 1 0 0) (record { sig = 5; pars = 1 ∷ [] }) ∷ plain (item.Run 1 1) ∷ [], plain (item.Inc 1 0 1) ∷ plain (item.Defer (entry 1 0 1)) ∷ [], dropped 1 0 2 0 1 ∷ [], (1, 0, 1, OfEvent (record { sig = 5; pars = 1 ∷ [] }), item.Run 1 1, refl, refl), ((plain (item.Inc 1 0 1) ∷ plain (item.Defer (entry 1 0 1)) ∷ []) ∷ [], (IsAct (MakesCall (call.Defer) Granted (plain (item.Inc 1 0 1) ∷ [], entry 1 0 1, (1, refl, refl), refl) refl), tt), refl), (inl (2, 0, refl)), refl), tt), refl), Ends refl, refl); last = refl }
 
 pub lawful : Lawful (deferring 1) n_once deferred
-unfolding words_hold CourseHolds SourceLanes SpillsStand OrderHolds EndHolds deferral_holds lane_read setting_of lane_pieces none_twice stims_placed looks_right order in_order last_is_free ends_last spents_hold spills_state has_room took_count lines_empty blocks_rest is_home_lane deferring_1_pieces deferring_1_start deferring_1_step_1 deferring_1_body_1
+unfolding words_hold CourseHolds SourceLanes SpillsStand OrderHolds EndHolds deferral_holds lane_read setting_of lane_pieces none_twice stims_placed looks_right order in_order last_is_free ends_last spents_hold spills_state has_room took_count lines_empty blocks_rest is_home_lane deferring_1_pieces deferring_1_start deferring_1_step_1 deferring_1_body_1 home_records own_items spills_cut
 lawful = record {
   words = words-from (deferring 1) deferred_lanes refl;
   objects = (record { shapes = record { shape = deferring_1_shape; home = refl }; deferral = refl; course = (deferring_1_pieces, refl, deferring_1_follows) }, tt);
   kernel = record { lane = refl; points = (deferring_1_follows, tt) };
   sources = record {
-    lanes = (record { alone = refl; tries = refl; stimuli = (AllDone, inr (inr (1, given 1 0 0 0 5 (1 ∷ []) 2 ∷ plain (item.Inc 1 0 0) ∷ plain (item.Post 1 1 0 0 (entry 1 0 0)) ∷ [], [], refl, refl, (Granted, (inr (given 1 0 0 0 5 (1 ∷ []) 2 ∷ plain (item.Inc 1 0 0) ∷ [], entry 1 0 0, (1, 0, 0, 0, 2, 0, refl, refl, refl, refl), (1, 0, 0, refl, refl))), refl), (refl, refl))), refl) }, tt);
+    lanes = (record { alone = refl; spills = refl; tries = refl; stimuli = (AllDone, inr (inr (1, given 1 0 0 0 5 (1 ∷ []) 2 ∷ plain (item.Inc 1 0 0) ∷ plain (item.Post 1 1 0 0 (entry 1 0 0)) ∷ [], [], refl, refl, (Granted, (inr (given 1 0 0 0 5 (1 ∷ []) 2 ∷ plain (item.Inc 1 0 0) ∷ [], entry 1 0 0, (1, 0, 0, 0, 2, 0, refl, refl, refl, refl), (1, 0, 0, refl, refl))), refl), (refl, refl))), refl) }, tt);
     empty = refl;
     count = refl;
     order = (true, (tt, tt), record { placed = refl; turns = refl; numbers = refl; ends = refl; free = refl });

@@ -17,7 +17,7 @@ use Rattle.qp_rows.specs.Systems.{flooded, object}
 use Rattle.qp_rows.specs.Journals.{done_after_assertion, done_after_assertion_lanes}
 use Rattle.qp_model.specs.History.{lane_items}
 use Rattle.qp_model.specs.WordLaw.{Words}
-use Rattle.qp_model.specs.Home.{by_object}
+use Rattle.qp_model.specs.Home.{by_object, home_records, own_items}
 use Rattle.qp_model.specs.Lawful.{ShapesHold, facts_of, cut_of}
 use Rattle.qp_rows.specs.Broken.{BreaksShapes}
 
@@ -82,11 +82,11 @@ unfolding words_hold
 words = words-from flooded done_after_assertion_lanes refl
 
 no_shape : ShapesHold flooded done_after_assertion (object 3 4 4 1) → ⊥
-unfolding by_object facts_of lane_items asserts_last
+unfolding by_object home_records own_items facts_of lane_items asserts_last
 no_shape h = let wrong : false ≡ true = h.shape.last in cc
 
 pub broken : BreaksShapes flooded done_after_assertion (object 1 1 1 1 ∷ object 2 3 3 1 ∷ []) (object 3 4 4 1)
-unfolding by_object cut_of facts_of lane_items
+unfolding by_object home_records own_items cut_of facts_of lane_items
 broken = record {
   words = words;
   before = (record { shape = low_shape; home = refl }, (record { shape = middle_shape; home = refl }, tt));

@@ -16,8 +16,9 @@ use Rattle.qp_model.specs.KernelLane.{lane_read}
 use Rattle.qp_model.specs.Points.{lane_pieces}
 use Rattle.qp_model.specs.Places.{in_order}
 use Rattle.qp_model.specs.OneOrder.{stims_placed, looks_right, order, last_is_free}
-use Rattle.qp_model.specs.Ends.{ends_last}
+use Rattle.qp_model.specs.Ends.{ends_last, spills_cut}
 use Rattle.qp_model.specs.End.{spents_hold, spills_state, has_room, took_count, lines_empty, blocks_rest}
+use Rattle.qp_model.specs.Home.{home_records, own_items}
 use Rattle.qp_model.specs.HomeLane.{is_home_lane}
 use Rattle.qp_model.specs.Lawful.{Lawful, setting_of, CourseHolds, SourceLanes, SpillsStand, OrderHolds, deferral_holds, EndHolds}
 use Rattle.qp_model.specs.WordLaw.{words_hold}
@@ -99,13 +100,13 @@ unfolding CutGroups StepGroup BrokenStep Groups Actions FitsAny Fits asserts_las
 high_shape = record { groups = inr (plain item.Begin ∷ plain (item.Enter 1) ∷ plain item.Done ∷ [], taken 1 0 1 (entry 0 6 0) (record { sig = 6; pars = [] }) ∷ plain item.Unhandled ∷ plain item.Done ∷ taken 2 0 2 (entry 0 6 0) (record { sig = 6; pars = [] }) ∷ plain item.Unhandled ∷ plain item.Done ∷ [], [], (plain (item.Enter 1) ∷ [], ((plain (item.Enter 1) ∷ []) ∷ [], (IsMove (item.Enter 1) refl refl, tt), refl), refl), ((taken 1 0 1 (entry 0 6 0) (record { sig = 6; pars = [] }) ∷ plain item.Unhandled ∷ plain item.Done ∷ []) ∷ (taken 2 0 2 (entry 0 6 0) (record { sig = 6; pars = [] }) ∷ plain item.Unhandled ∷ plain item.Done ∷ []) ∷ [], (Dispatches (entry 0 6 0, taken 1 0 1 (entry 0 6 0) (record { sig = 6; pars = [] }) ∷ plain item.Unhandled ∷ [], [], [], (1, 0, 1, OfEvent (record { sig = 6; pars = [] }), item.Unhandled, refl, refl), ([], tt, refl), refl, refl), (Dispatches (entry 0 6 0, taken 2 0 2 (entry 0 6 0) (record { sig = 6; pars = [] }) ∷ plain item.Unhandled ∷ [], [], [], (2, 0, 2, OfEvent (record { sig = 6; pars = [] }), item.Unhandled, refl, refl), ([], tt, refl), refl, refl), tt)), refl), Ends refl, refl); last = refl }
 
 pub lawful : Lawful (levels 3) go_once held_by_threshold
-unfolding words_hold CourseHolds SourceLanes SpillsStand OrderHolds EndHolds deferral_holds lane_read setting_of lane_pieces none_twice stims_placed looks_right order in_order last_is_free ends_last spents_hold spills_state has_room took_count lines_empty blocks_rest is_home_lane low_pieces low_start low_step_1 low_body_1 middle_pieces middle_start middle_step_1 middle_body_1 high_pieces high_start high_step_1 high_step_2 high_body_1 high_body_2
+unfolding words_hold CourseHolds SourceLanes SpillsStand OrderHolds EndHolds deferral_holds lane_read setting_of lane_pieces none_twice stims_placed looks_right order in_order last_is_free ends_last spents_hold spills_state has_room took_count lines_empty blocks_rest is_home_lane low_pieces low_start low_step_1 low_body_1 middle_pieces middle_start middle_step_1 middle_body_1 high_pieces high_start high_step_1 high_step_2 high_body_1 high_body_2 home_records own_items spills_cut
 lawful = record {
   words = words-from (levels 3) held_by_threshold_lanes refl;
   objects = (record { shapes = record { shape = low_shape; home = refl }; deferral = refl; course = (low_pieces, refl, low_follows) }, (record { shapes = record { shape = middle_shape; home = refl }; deferral = refl; course = (middle_pieces, refl, middle_follows) }, (record { shapes = record { shape = high_shape; home = refl }; deferral = refl; course = (high_pieces, refl, high_follows) }, tt)));
   kernel = record { lane = refl; points = (low_follows, (middle_follows, (high_follows, tt))) };
   sources = record {
-    lanes = (record { alone = refl; tries = refl; stimuli = (AllDone, inr (inr (1, plain (item.Post 1 1 0 0 (entry 0 4 0)) ∷ [], [], refl, refl, (Granted, (inr ([], entry 0 4 0, (refl, refl), (1, 0, 0, refl, refl))), refl), (refl, refl))), refl) }, tt);
+    lanes = (record { alone = refl; spills = refl; tries = refl; stimuli = (AllDone, inr (inr (1, plain (item.Post 1 1 0 0 (entry 0 4 0)) ∷ [], [], refl, refl, (Granted, (inr ([], entry 0 4 0, (refl, refl), (1, 0, 0, refl, refl))), refl), (refl, refl))), refl) }, tt);
     empty = refl;
     count = refl;
     order = (true, (tt, tt), record { placed = refl; turns = refl; numbers = refl; ends = refl; free = refl });

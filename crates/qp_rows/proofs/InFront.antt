@@ -16,8 +16,9 @@ use Rattle.qp_model.specs.KernelLane.{lane_read}
 use Rattle.qp_model.specs.Points.{lane_pieces}
 use Rattle.qp_model.specs.Places.{in_order}
 use Rattle.qp_model.specs.OneOrder.{stims_placed, looks_right, order, last_is_free}
-use Rattle.qp_model.specs.Ends.{ends_last}
+use Rattle.qp_model.specs.Ends.{ends_last, spills_cut}
 use Rattle.qp_model.specs.End.{spents_hold, spills_state, has_room, took_count, lines_empty, blocks_rest}
+use Rattle.qp_model.specs.Home.{home_records, own_items}
 use Rattle.qp_model.specs.HomeLane.{is_home_lane}
 use Rattle.qp_model.specs.Lawful.{Lawful, setting_of, CourseHolds, SourceLanes, SpillsStand, OrderHolds, deferral_holds, EndHolds}
 use Rattle.qp_model.specs.WordLaw.{words_hold}
@@ -55,13 +56,13 @@ unfolding CutGroups StepGroup BrokenStep Groups Actions FitsAny Fits asserts_las
 eager_1_shape = record { groups = inr (plain item.Begin ∷ plain (item.Enter 1) ∷ plain item.Done ∷ [], taken 1 0 1 (entry 0 4 0) (record { sig = 4; pars = [] }) ∷ plain (item.Run 1 1) ∷ given 1 0 0 0 5 (3 ∷ []) 2 ∷ plain (item.Inc 1 0 0) ∷ plain (item.Lifo 1 1 1 (entry 1 0 0)) ∷ plain item.Done ∷ taken 1 1 2 (entry 1 0 0) (record { sig = 5; pars = 3 ∷ [] }) ∷ plain (item.Run 1 2) ∷ plain (item.Say 3) ∷ plain item.Done ∷ dropped 1 0 1 0 0 ∷ plain (item.Back 1 1 0 2) ∷ [], [], (plain (item.Enter 1) ∷ [], ((plain (item.Enter 1) ∷ []) ∷ [], (IsMove (item.Enter 1) refl refl, tt), refl), refl), ((taken 1 0 1 (entry 0 4 0) (record { sig = 4; pars = [] }) ∷ plain (item.Run 1 1) ∷ given 1 0 0 0 5 (3 ∷ []) 2 ∷ plain (item.Inc 1 0 0) ∷ plain (item.Lifo 1 1 1 (entry 1 0 0)) ∷ plain item.Done ∷ []) ∷ (taken 1 1 2 (entry 1 0 0) (record { sig = 5; pars = 3 ∷ [] }) ∷ plain (item.Run 1 2) ∷ plain (item.Say 3) ∷ plain item.Done ∷ dropped 1 0 1 0 0 ∷ plain (item.Back 1 1 0 2) ∷ []) ∷ [], (Dispatches (entry 0 4 0, taken 1 0 1 (entry 0 4 0) (record { sig = 4; pars = [] }) ∷ plain (item.Run 1 1) ∷ [], given 1 0 0 0 5 (3 ∷ []) 2 ∷ plain (item.Inc 1 0 0) ∷ plain (item.Lifo 1 1 1 (entry 1 0 0)) ∷ [], [], (1, 0, 1, OfEvent (record { sig = 4; pars = [] }), item.Run 1 1, refl, refl), ((given 1 0 0 0 5 (3 ∷ []) 2 ∷ plain (item.Inc 1 0 0) ∷ plain (item.Lifo 1 1 1 (entry 1 0 0)) ∷ []) ∷ [], (IsAct (MakesCall (call.Lifo 5 (3 ∷ []) None) Granted (inr (given 1 0 0 0 5 (3 ∷ []) 2 ∷ plain (item.Inc 1 0 0) ∷ [], entry 1 0 0, (1, 0, 0, 0, 2, 0, refl, refl, refl, refl), (1, 1, 1, refl))) refl), tt), refl), refl, refl), (Dispatches (entry 1 0 0, taken 1 1 2 (entry 1 0 0) (record { sig = 5; pars = 3 ∷ [] }) ∷ plain (item.Run 1 2) ∷ [], plain (item.Say 3) ∷ [], dropped 1 0 1 0 0 ∷ plain (item.Back 1 1 0 2) ∷ [], (1, 1, 2, OfEvent (record { sig = 5; pars = 3 ∷ [] }), item.Run 1 2, refl, refl), ((plain (item.Say 3) ∷ []) ∷ [], (IsAct (SaysValue 3 refl), tt), refl), (inr (1, 1, refl)), refl), tt)), refl), Ends refl, refl); last = refl }
 
 pub lawful : Lawful eager go_once in_front
-unfolding words_hold CourseHolds SourceLanes SpillsStand OrderHolds EndHolds deferral_holds lane_read setting_of lane_pieces none_twice stims_placed looks_right order in_order last_is_free ends_last spents_hold spills_state has_room took_count lines_empty blocks_rest is_home_lane eager_1_pieces eager_1_start eager_1_step_1 eager_1_step_2 eager_1_body_1 eager_1_body_2
+unfolding words_hold CourseHolds SourceLanes SpillsStand OrderHolds EndHolds deferral_holds lane_read setting_of lane_pieces none_twice stims_placed looks_right order in_order last_is_free ends_last spents_hold spills_state has_room took_count lines_empty blocks_rest is_home_lane eager_1_pieces eager_1_start eager_1_step_1 eager_1_step_2 eager_1_body_1 eager_1_body_2 home_records own_items spills_cut
 lawful = record {
   words = words-from eager in_front_lanes refl;
   objects = (record { shapes = record { shape = eager_1_shape; home = refl }; deferral = refl; course = (eager_1_pieces, refl, eager_1_follows) }, tt);
   kernel = record { lane = refl; points = (eager_1_follows, tt) };
   sources = record {
-    lanes = (record { alone = refl; tries = refl; stimuli = (AllDone, inr (inr (1, plain (item.Post 1 1 0 0 (entry 0 4 0)) ∷ [], [], refl, refl, (Granted, (inr ([], entry 0 4 0, (refl, refl), (1, 0, 0, refl, refl))), refl), (refl, refl))), refl) }, tt);
+    lanes = (record { alone = refl; spills = refl; tries = refl; stimuli = (AllDone, inr (inr (1, plain (item.Post 1 1 0 0 (entry 0 4 0)) ∷ [], [], refl, refl, (Granted, (inr ([], entry 0 4 0, (refl, refl), (1, 0, 0, refl, refl))), refl), (refl, refl))), refl) }, tt);
     empty = refl;
     count = refl;
     order = (true, (tt, tt), record { placed = refl; turns = refl; numbers = refl; ends = refl; free = refl });

@@ -13,8 +13,9 @@ use Rattle.qp_model.specs.KernelLane.{lane_read}
 use Rattle.qp_model.specs.Points.{lane_pieces}
 use Rattle.qp_model.specs.Places.{in_order}
 use Rattle.qp_model.specs.OneOrder.{stims_placed, looks_right, order, last_is_free}
-use Rattle.qp_model.specs.Ends.{ends_last}
+use Rattle.qp_model.specs.Ends.{ends_last, spills_cut}
 use Rattle.qp_model.specs.End.{spents_hold, spills_state, has_room, took_count, lines_empty, blocks_rest}
+use Rattle.qp_model.specs.Home.{home_records, own_items}
 use Rattle.qp_model.specs.HomeLane.{is_home_lane}
 use Rattle.qp_model.specs.Lawful.{Lawful, setting_of, CourseHolds, SourceLanes, SpillsStand, OrderHolds, deferral_holds, EndHolds}
 use Rattle.qp_model.specs.WordLaw.{words_hold}
@@ -38,7 +39,7 @@ unfolding CutGroups StepGroup BrokenStep Groups Actions FitsAny Fits asserts_las
 lamp_1_shape = record { groups = inr (plain item.Begin ∷ plain (item.Enter 1) ∷ plain item.Done ∷ [], [], [], (plain (item.Enter 1) ∷ [], ((plain (item.Enter 1) ∷ []) ∷ [], (IsMove (item.Enter 1) refl refl, tt), refl), refl), ([], tt, refl), Ends refl, refl); last = refl }
 
 pub lawful : Lawful lamp nothing left_alone_in_threads
-unfolding words_hold CourseHolds SourceLanes SpillsStand OrderHolds EndHolds deferral_holds lane_read setting_of lane_pieces none_twice stims_placed looks_right order in_order last_is_free ends_last spents_hold spills_state has_room took_count lines_empty blocks_rest is_home_lane lamp_1_pieces lamp_1_start
+unfolding words_hold CourseHolds SourceLanes SpillsStand OrderHolds EndHolds deferral_holds lane_read setting_of lane_pieces none_twice stims_placed looks_right order in_order last_is_free ends_last spents_hold spills_state has_room took_count lines_empty blocks_rest is_home_lane lamp_1_pieces lamp_1_start home_records own_items spills_cut
 lawful = record {
   words = words-from lamp left_alone_in_threads_lanes refl;
   objects = (record { shapes = record { shape = lamp_1_shape; home = refl }; deferral = refl; course = (lamp_1_pieces, refl, lamp_1_follows) }, tt);

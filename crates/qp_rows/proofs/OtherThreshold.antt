@@ -12,6 +12,8 @@ use Rattle.qp_model.specs.ObjectShape.{HasShape, CutGroups, StepGroup, BrokenSte
 use Rattle.qp_model.specs.Shapes.{Fits, FitsAny}
 use Rattle.qp_model.specs.Groups.{Actions, Groups}
 use Rattle.qp_model.specs.KernelLane.{lane_read}
+use Rattle.qp_model.specs.Home.{home_records, own_items}
+use Rattle.qp_model.specs.Ends.{spills_cut}
 use Rattle.qp_model.specs.Lawful.{setting_of, CourseHolds, deferral_holds}
 use Rattle.qp_model.specs.WordLaw.{words_hold}
 use Rattle.qp_model.proofs.WordTestLemmas.{words-from}
@@ -101,11 +103,11 @@ unfolding words_hold
 words = words-from (levels 1) held_by_threshold_lanes refl
 
 objects : AllByRecursion (ObjectHolds (levels 1) held_by_threshold) (levels 1).objects
-unfolding CourseHolds deferral_holds low_pieces low_start low_step_1 low_body_1 middle_pieces middle_start middle_step_1 middle_body_1 high_pieces high_start high_step_1 high_step_2 high_body_1 high_body_2
+unfolding CourseHolds deferral_holds low_pieces low_start low_step_1 low_body_1 middle_pieces middle_start middle_step_1 middle_body_1 high_pieces high_start high_step_1 high_step_2 high_body_1 high_body_2 home_records own_items
 objects = (record { shapes = record { shape = low_shape; home = refl }; deferral = refl; course = (low_pieces, refl, low_follows) }, (record { shapes = record { shape = middle_shape; home = refl }; deferral = refl; course = (middle_pieces, refl, middle_follows) }, (record { shapes = record { shape = high_shape; home = refl }; deferral = refl; course = (high_pieces, refl, high_follows) }, tt)))
 
 no_lane : KernelHolds (levels 1) held_by_threshold → ⊥
-unfolding lane_read setting_of all_items lane_items
+unfolding lane_read setting_of all_items lane_items spills_cut
 no_lane h = let wrong : false ≡ true = h.lane in cc
 
 pub broken : BreaksKernelLane (levels 1) held_by_threshold

@@ -16,8 +16,9 @@ use Rattle.qp_model.specs.KernelLane.{lane_read}
 use Rattle.qp_model.specs.Points.{lane_pieces}
 use Rattle.qp_model.specs.Places.{in_order}
 use Rattle.qp_model.specs.OneOrder.{stims_placed, looks_right, order, last_is_free}
-use Rattle.qp_model.specs.Ends.{ends_last}
+use Rattle.qp_model.specs.Ends.{ends_last, spills_cut}
 use Rattle.qp_model.specs.End.{spents_hold, spills_state, has_room, took_count, lines_empty, blocks_rest}
+use Rattle.qp_model.specs.Home.{home_records, own_items}
 use Rattle.qp_model.specs.HomeLane.{is_home_lane}
 use Rattle.qp_model.specs.Lawful.{Lawful, setting_of, CourseHolds, SourceLanes, SpillsStand, OrderHolds, deferral_holds, EndHolds}
 use Rattle.qp_model.specs.WordLaw.{words_hold}
@@ -55,13 +56,13 @@ unfolding CutGroups StepGroup BrokenStep Groups Actions FitsAny Fits asserts_las
 careful_1_shape = record { groups = inr (plain item.Begin ∷ plain (item.Enter 1) ∷ plain item.Done ∷ [], taken 1 0 1 (entry 0 4 0) (record { sig = 4; pars = [] }) ∷ plain (item.Run 1 1) ∷ given 1 0 0 0 5 (5 ∷ []) 2 ∷ plain (item.Inc 1 0 0) ∷ plain (item.Post 1 2 0 1 (entry 1 0 0)) ∷ given 1 1 1 0 5 (6 ∷ []) 1 ∷ plain (item.Inc 1 1 0) ∷ plain (item.Full 1 2 0 1 1) ∷ dropped 1 1 1 0 0 ∷ plain (item.Back 1 2 1 2) ∷ plain (item.Say 0) ∷ plain item.Done ∷ taken 2 0 2 (entry 1 0 0) (record { sig = 5; pars = 5 ∷ [] }) ∷ plain item.Unhandled ∷ plain item.Done ∷ dropped 1 0 1 0 0 ∷ plain (item.Back 1 3 0 2) ∷ [], [], (plain (item.Enter 1) ∷ [], ((plain (item.Enter 1) ∷ []) ∷ [], (IsMove (item.Enter 1) refl refl, tt), refl), refl), ((taken 1 0 1 (entry 0 4 0) (record { sig = 4; pars = [] }) ∷ plain (item.Run 1 1) ∷ given 1 0 0 0 5 (5 ∷ []) 2 ∷ plain (item.Inc 1 0 0) ∷ plain (item.Post 1 2 0 1 (entry 1 0 0)) ∷ given 1 1 1 0 5 (6 ∷ []) 1 ∷ plain (item.Inc 1 1 0) ∷ plain (item.Full 1 2 0 1 1) ∷ dropped 1 1 1 0 0 ∷ plain (item.Back 1 2 1 2) ∷ plain (item.Say 0) ∷ plain item.Done ∷ []) ∷ (taken 2 0 2 (entry 1 0 0) (record { sig = 5; pars = 5 ∷ [] }) ∷ plain item.Unhandled ∷ plain item.Done ∷ dropped 1 0 1 0 0 ∷ plain (item.Back 1 3 0 2) ∷ []) ∷ [], (Dispatches (entry 0 4 0, taken 1 0 1 (entry 0 4 0) (record { sig = 4; pars = [] }) ∷ plain (item.Run 1 1) ∷ [], given 1 0 0 0 5 (5 ∷ []) 2 ∷ plain (item.Inc 1 0 0) ∷ plain (item.Post 1 2 0 1 (entry 1 0 0)) ∷ given 1 1 1 0 5 (6 ∷ []) 1 ∷ plain (item.Inc 1 1 0) ∷ plain (item.Full 1 2 0 1 1) ∷ dropped 1 1 1 0 0 ∷ plain (item.Back 1 2 1 2) ∷ plain (item.Say 0) ∷ [], [], (1, 0, 1, OfEvent (record { sig = 4; pars = [] }), item.Run 1 1, refl, refl), ((given 1 0 0 0 5 (5 ∷ []) 2 ∷ plain (item.Inc 1 0 0) ∷ plain (item.Post 1 2 0 1 (entry 1 0 0)) ∷ []) ∷ (given 1 1 1 0 5 (6 ∷ []) 1 ∷ plain (item.Inc 1 1 0) ∷ plain (item.Full 1 2 0 1 1) ∷ dropped 1 1 1 0 0 ∷ plain (item.Back 1 2 1 2) ∷ []) ∷ (plain (item.Say 0) ∷ []) ∷ [], (IsAct (MakesCall (call.Post 1 5 (5 ∷ []) (Some 1) None) Granted (inr (given 1 0 0 0 5 (5 ∷ []) 2 ∷ plain (item.Inc 1 0 0) ∷ [], entry 1 0 0, (1, 0, 0, 0, 2, 0, refl, refl, refl, refl), (2, 0, 1, refl, refl))) refl), (IsAct (MakesCall (call.Post 1 5 (6 ∷ []) (Some 1) None) Refused (inr (given 1 1 1 0 5 (6 ∷ []) 1 ∷ plain (item.Inc 1 1 0) ∷ [], entry 1 1 0, (1, 1, 1, 0, 1, 0, refl, refl, refl, refl), (2, 0, 1, dropped 1 1 1 0 0 ∷ plain (item.Back 1 2 1 2) ∷ [], refl, (inr (1, 2, refl))))) refl), (IsAct (SaysValue 0 refl), tt))), refl), refl, refl), (Dispatches (entry 1 0 0, taken 2 0 2 (entry 1 0 0) (record { sig = 5; pars = 5 ∷ [] }) ∷ plain item.Unhandled ∷ [], [], dropped 1 0 1 0 0 ∷ plain (item.Back 1 3 0 2) ∷ [], (2, 0, 2, OfEvent (record { sig = 5; pars = 5 ∷ [] }), item.Unhandled, refl, refl), ([], tt, refl), (inr (1, 3, refl)), refl), tt)), refl), Ends refl, refl); last = refl }
 
 pub lawful : Lawful careful go_once refused_post
-unfolding words_hold CourseHolds SourceLanes SpillsStand OrderHolds EndHolds deferral_holds lane_read setting_of lane_pieces none_twice stims_placed looks_right order in_order last_is_free ends_last spents_hold spills_state has_room took_count lines_empty blocks_rest is_home_lane careful_1_pieces careful_1_start careful_1_step_1 careful_1_step_2 careful_1_body_1 careful_1_body_2
+unfolding words_hold CourseHolds SourceLanes SpillsStand OrderHolds EndHolds deferral_holds lane_read setting_of lane_pieces none_twice stims_placed looks_right order in_order last_is_free ends_last spents_hold spills_state has_room took_count lines_empty blocks_rest is_home_lane careful_1_pieces careful_1_start careful_1_step_1 careful_1_step_2 careful_1_body_1 careful_1_body_2 home_records own_items spills_cut
 lawful = record {
   words = words-from careful refused_post_lanes refl;
   objects = (record { shapes = record { shape = careful_1_shape; home = refl }; deferral = refl; course = (careful_1_pieces, refl, careful_1_follows) }, tt);
   kernel = record { lane = refl; points = (careful_1_follows, tt) };
   sources = record {
-    lanes = (record { alone = refl; tries = refl; stimuli = (AllDone, inr (inr (1, plain (item.Post 1 1 0 0 (entry 0 4 0)) ∷ [], [], refl, refl, (Granted, (inr ([], entry 0 4 0, (refl, refl), (1, 0, 0, refl, refl))), refl), (refl, refl))), refl) }, tt);
+    lanes = (record { alone = refl; spills = refl; tries = refl; stimuli = (AllDone, inr (inr (1, plain (item.Post 1 1 0 0 (entry 0 4 0)) ∷ [], [], refl, refl, (Granted, (inr ([], entry 0 4 0, (refl, refl), (1, 0, 0, refl, refl))), refl), (refl, refl))), refl) }, tt);
     empty = refl;
     count = refl;
     order = (true, (tt, tt), record { placed = refl; turns = refl; numbers = refl; ends = refl; free = refl });

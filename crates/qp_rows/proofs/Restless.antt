@@ -10,6 +10,8 @@ use Rattle.qp_model.specs.ObjectShape.{HasShape, CutGroups, StepGroup, BrokenSte
 use Rattle.qp_model.specs.Shapes.{Fits, FitsAny}
 use Rattle.qp_model.specs.Groups.{Actions, Groups}
 use Rattle.qp_model.specs.KernelLane.{lane_read}
+use Rattle.qp_model.specs.Home.{home_records, own_items}
+use Rattle.qp_model.specs.Ends.{spills_cut}
 use Rattle.qp_model.specs.Lawful.{setting_of, CourseHolds, deferral_holds}
 use Rattle.qp_model.specs.WordLaw.{words_hold}
 use Rattle.qp_model.proofs.WordTestLemmas.{words-from}
@@ -48,11 +50,11 @@ unfolding words_hold
 words = words-from lamp restless_lanes refl
 
 objects : AllByRecursion (ObjectHolds lamp restless) lamp.objects
-unfolding CourseHolds deferral_holds lamp_1_pieces lamp_1_start lamp_1_step_1 lamp_1_body_1
+unfolding CourseHolds deferral_holds lamp_1_pieces lamp_1_start lamp_1_step_1 lamp_1_body_1 home_records own_items
 objects = (record { shapes = record { shape = lamp_1_shape; home = refl }; deferral = refl; course = (lamp_1_pieces, refl, lamp_1_follows) }, tt)
 
 no_lane : KernelHolds lamp restless → ⊥
-unfolding lane_read setting_of all_items lane_items
+unfolding lane_read setting_of all_items lane_items spills_cut
 no_lane h = let wrong : false ≡ true = h.lane in cc
 
 pub broken : BreaksKernelLane lamp restless
