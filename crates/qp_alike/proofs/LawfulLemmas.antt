@@ -80,10 +80,10 @@ module _ (a b : System) (h : Alike a b) (j : Journal) where
 
   -- an object without the unused room of its name
   shapes-bare : (d : ObjectDef) → ShapesHold b j d → ShapesHold b j (bare_object d)
-  shapes-bare d s = record { shape = s.shape; home = s.home; spills = s.spills }
+  shapes-bare d s = record { shape = s.shape; home = s.home }
 
   bare-shapes : (d : ObjectDef) → ShapesHold b j (bare_object d) → ShapesHold b j d
-  bare-shapes d s = record { shape = s.shape; home = s.home; spills = s.spills }
+  bare-shapes d s = record { shape = s.shape; home = s.home }
 
   bare-deferral : (d : ObjectDef) → deferral_holds b j (bare_object d) ≡ deferral_holds b j d
   unfolding deferral_holds
