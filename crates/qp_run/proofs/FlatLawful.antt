@@ -65,7 +65,6 @@ module _ (sys : System) (d : ObjectDef) (chart : Chart) (flat : IsFlat sys d cha
     shapes = record {
       shape = subst (λ ts. HasShape sys d.priority false Whole ts) (sym (home_records-kernel (facts_of sys j) j d.priority refl ∙ told-is)) (object-shape sys d chart flat.flat sigs);
       home = refl;
-      spills = refl;
     };
     deferral = ap (λ ts. is_some (kept_after d.defer [] ts)) told-is ∙ ap is_some (object-kept sys d chart flat.flat sigs);
     course = (
