@@ -78,13 +78,17 @@ fn sink(alloc: Global) -> Result<MemSink, AllocError> {
     MemSink::new(alloc, 1 << 10, Vec::new(alloc)).map_err(|_| AllocError)
 }
 
+fn file(alloc: Global, name: &str, text: &str) -> Result<(ArrayString<24>, Vec<u8>), AllocError> {
+    let name = ArrayString::from(name).unwrap_or_default();
+    Ok((name, Vec::from_slice(alloc, text.as_bytes())?))
+}
+
 /// What the program prints and notes of a journal of the lamp.
 fn said(alloc: Global, stimuli: &str, journal: &str) -> Result<String, AllocError> {
     let mut files = Vec::new(alloc);
-    for (name, text) in [("system", LAMP), ("stimuli", stimuli), ("journal", journal)] {
-        let name = ArrayString::from(name).unwrap_or_default();
-        files.push((name, Vec::from_slice(alloc, text.as_bytes())?))?;
-    }
+    files.push(file(alloc, "system", LAMP)?)?;
+    files.push(file(alloc, "stimuli", stimuli)?)?;
+    files.push(file(alloc, "journal", journal)?)?;
     let mut shelf = MemShelf::new(files, Vec::new(alloc));
     let mut out = sink(alloc)?;
     let mut note = sink(alloc)?;
