@@ -18,7 +18,7 @@ use Rattle.qp_chart.specs.ActionFaults.{params_in}
 use Rattle.qp_chart.specs.Binding.{named}
 use Rattle.qp_chart.specs.Expr.{InRange}
 use Rattle.qp_chart.specs.RawNumbers.{variable_names}
-use Rattle.qp_chart.specs.Terms.{Word}
+use Rattle.qp_language.specs.Terms.{Word}
 use Rattle.qp_model.specs.declared.systems.System.{System}
 use Rattle.qp_system.specs.Deeds.{receiver_of, deed_of, deeds_of, guard_of}
 use Rattle.qp_system.specs.Same.{bare_name, bare_timer, row_said, state_said, chart_said}

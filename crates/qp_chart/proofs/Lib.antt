@@ -6,15 +6,8 @@ mod PathLemmas
 pub mod BindingLemmas
 mod NumberingLemmas
 mod FaultLemmas
-pub mod TokenLemmas
-pub mod ParserLemmas
 mod LookupLemmas
-pub mod ActionLemmas
-pub mod GrammarLemmas
 mod TestLemmas
-pub mod ActionSound
-pub mod ActionComplete
-pub mod ActionText
 mod ParentsLemmas
 mod ChartTree
 pub mod LegalLemmas

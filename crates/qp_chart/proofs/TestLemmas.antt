@@ -4,10 +4,10 @@ use Rattle.std.specs.List.{list_all}
 use Rattle.std.proofs.lemmas.Bool.{false≢true}
 use Rattle.std.proofs.lemmas.List.Elements.{All-nil, All-cons}
 use Rattle.qp_chart.specs.declared.raw.RawChart.{RawChart}
-use Rattle.qp_chart.specs.declared.trees.Expr.{Expr}
-use Rattle.qp_chart.specs.declared.trees.PlainAction.{PlainAction}
+use Rattle.qp_language.specs.declared.trees.Expr.{Expr}
+use Rattle.qp_language.specs.declared.trees.PlainAction.{PlainAction}
 use Rattle.qp_chart.specs.declared.raw.Names.{Names}
-use Rattle.qp_chart.specs.Terms.{term_of, order_of}
+use Rattle.qp_language.specs.Terms.{term_of, order_of}
 use Rattle.qp_chart.specs.Binding.{reaches}
 use Rattle.qp_chart.specs.ActionFaults.{term_known, IsSound, order_known, order_in_range, order_fits, IsAllowed}
 

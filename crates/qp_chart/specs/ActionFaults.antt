@@ -8,9 +8,9 @@ use Rattle.qp_chart.specs.declared.place.Part.TheVariants.{Key, Pos}
 use Rattle.qp_chart.specs.Codes.{NO_SUCH_NAME, RANGE, WRONG_ARITY, BAD_TEXT}
 use Rattle.qp_chart.specs.declared.raw.RawChart.{RawChart}
 use Rattle.qp_chart.specs.declared.raw.Names.{Names}
-use Rattle.qp_chart.specs.Terms.{Term, Address, ToMe, ToObject, Event, Order, Set, Say, Post, Lifo, Forward, Publish, Defer, Recall, Flush, Subscribe, Unsubscribe, Arm, Rearm, Disarm, Command, Plain, Locked}
-use Rattle.qp_chart.specs.Reading.{term_of_text}
-use Rattle.qp_chart.specs.ReadingActions.{command_of_text}
+use Rattle.qp_language.specs.Terms.{Term, Address, ToMe, ToObject, Event, Order, Set, Say, Post, Lifo, Forward, Publish, Defer, Recall, Flush, Subscribe, Unsubscribe, Arm, Rearm, Disarm, Command, Plain, Locked}
+use Rattle.qp_language.specs.Reading.{term_of_text}
+use Rattle.qp_language.specs.ReadingActions.{command_of_text}
 use Rattle.qp_chart.specs.Binding.{knows, reaches}
 use Rattle.qp_chart.specs.Faults.{Fault, fault, fault_if, first_of, first_in}
 use Rattle.qp_chart.specs.RawNumbers.{variable_names, variable_number, timer_number, signal_number, signal_named, object_named}

@@ -12,9 +12,9 @@ use Rattle.qp_chart.specs.declared.actions.Act.TheVariants as act
 use Rattle.qp_chart.specs.declared.raw.RawChart.{RawChart}
 use Rattle.qp_chart.specs.declared.raw.ObjName.{ObjName}
 use Rattle.qp_chart.specs.declared.raw.Names.{Names}
-use Rattle.qp_chart.specs.Terms.{Term, Address, ToMe, ToObject, Event, Order, Set, Say, Post, Lifo, Forward, Publish, Defer, Recall, Flush, Subscribe, Unsubscribe, Arm, Rearm, Disarm, Command, Plain, Locked}
-use Rattle.qp_chart.specs.Reading.{term_of_text}
-use Rattle.qp_chart.specs.ReadingActions.{command_of_text}
+use Rattle.qp_language.specs.Terms.{Term, Address, ToMe, ToObject, Event, Order, Set, Say, Post, Lifo, Forward, Publish, Defer, Recall, Flush, Subscribe, Unsubscribe, Arm, Rearm, Disarm, Command, Plain, Locked}
+use Rattle.qp_language.specs.Reading.{term_of_text}
+use Rattle.qp_language.specs.ReadingActions.{command_of_text}
 use Rattle.qp_chart.specs.ActionFaults.{command_known, command_in_range, command_fits, params_in}
 use Rattle.qp_chart.specs.Binding.{Binds}
 use Rattle.qp_chart.specs.Pairs.{Corresponds}

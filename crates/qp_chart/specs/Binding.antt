@@ -5,9 +5,9 @@ use Rattle.std.specs.Option.{unwrap_or}
 use Rattle.std.specs.Cmp.Lexicographic.{pointwise}
 use Rattle.arrayvec.specs.ArrayString.{ArrayString}
 use Rattle.qp_chart.specs.declared.expression.Bound as bound
-use Rattle.qp_chart.specs.declared.trees.BindFault.{BindFault}
-use Rattle.qp_chart.specs.declared.trees.BindFault.TheVariants as fault
-use Rattle.qp_chart.specs.Terms.{Word, Term, Num, Var, Ok, Me, Par, One, Two}
+use Rattle.qp_chart.specs.declared.binding.BindFault.{BindFault}
+use Rattle.qp_chart.specs.declared.binding.BindFault.TheVariants as fault
+use Rattle.qp_language.specs.Terms.{Word, Term, Num, Var, Ok, Me, Par, One, Two}
 use Rattle.qp_chart.specs.Expr.{InRange}
 
 -- the names' bytes

@@ -6,7 +6,6 @@ pub mod TreeLaws
 pub mod Task
 pub mod Drill
 pub mod Agenda
-pub mod Terms
 pub mod Keys
 pub mod Codes
 pub mod Paths
@@ -20,11 +19,6 @@ pub mod Readable
 pub mod ActionFaults
 pub mod ActionOf
 pub mod Pairs
-pub mod Tokens
-pub mod Reading
 pub mod TablesOf
-pub mod ReadingActions
-pub mod Grammar
-pub mod ActionGrammar
 pub mod Parents
 pub mod LegalTree

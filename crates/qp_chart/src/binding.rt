@@ -1,14 +1,46 @@
 //! Resolving the names of an expression.
 
 ghost use Rattle.std.specs.Prelude.{◌≡◌, ◌<◌, ◌≤◌, false, true, length, slice_get, IfOk, IfErr, IfSome, IfNone};
-ghost use Rattle.qp_chart.specs.Terms.{term_of};
+ghost use Rattle.qp_language.specs.Terms.{term_of};
 ghost use Rattle.std.specs.List.{list_any, position};
 ghost use Rattle.qp_chart.specs.Binding.{is_named, words, has_word, knows, Binds, IsCause};
 
 use crate::expression::Bound;
-use crate::text::Name;
-use crate::trees::{BindFault, Expr};
-use std::alloc::Global;
+use qp_language::{Expr, Name};
+use std::alloc::{AllocError, AllocFailed, Global};
+
+/// Why the names of an expression are not resolved.
+#[derive(Clone, Copy, PartialEq, Eq, Debug, Drop)]
+pub enum BindFault {
+    /// Memory ran out.
+    Memory,
+    /// A name is no variable.
+    NoName,
+    /// Each name is known, and a parameter's number is above the number of parameters.
+    NoParameter,
+}
+
+impl From<AllocError> for BindFault {
+    ghost use Rattle.std.specs.Prelude.{◌≡◌};
+    ghost use Rattle.qp_chart.specs.declared.binding.BindFault.TheVariants.{Memory};
+
+    ghost from_gives = { λ _ e. e ≡ Memory };
+
+    fn from(_: AllocError) -> Self {
+        BindFault::Memory
+    }
+}
+
+impl<T: Drop> From<AllocFailed<T>> for BindFault {
+    ghost use Rattle.std.specs.Prelude.{◌≡◌};
+    ghost use Rattle.qp_chart.specs.declared.binding.BindFault.TheVariants.{Memory};
+
+    ghost from_gives = { λ _ e. e ≡ Memory };
+
+    fn from(_: AllocFailed<T>) -> Self {
+        BindFault::Memory
+    }
+}
 
 /// Resolves the names of an expression: `vars` are the names of the variables, and `params` is the number of
 /// parameters of the event. A name that isn't known comes before a parameter that isn't.
@@ -26,7 +58,7 @@ pub fn bind(alloc: Global, e: &Expr, vars: &[Name], params: u8) -> Result<Bound,
 }
 
 // Whether each variable of the expression is one of `vars`.
-#[tactic(auto, unfolding(crate::specs::Terms::term_of, crate::specs::Binding::knows))]
+#[tactic(auto, unfolding(qp_language::specs::Terms::term_of, crate::specs::Binding::knows))]
 pub(crate) fn is_known(e: &Expr, vars: &[Name]) -> bool
     ensures { result ≡ knows (words vars.now) (term_of e.now) }
 {
@@ -42,7 +74,7 @@ pub(crate) fn is_known(e: &Expr, vars: &[Name]) -> bool
 }
 
 // The bound expression, or the first fault from the left.
-#[tactic(auto, unfolding(crate::specs::Terms::term_of, crate::specs::Binding::knows, crate::specs::Binding::reaches, crate::specs::Binding::named, crate::specs::Expr::InRange))]
+#[tactic(auto, unfolding(qp_language::specs::Terms::term_of, crate::specs::Binding::knows, crate::specs::Binding::reaches, crate::specs::Binding::named, crate::specs::Expr::InRange))]
 fn resolve(alloc: Global, e: &Expr, vars: &[Name], params: u8) -> Result<Bound, BindFault>
     requires { length vars.now ≤ 16 }
     ensures ok { IfOk result (Binds (words vars.now) params (term_of e.now)) }

@@ -18,8 +18,8 @@ use crate::scope::Scope;
 use crate::state_check::checked_states;
 use crate::statements::checked_acts;
 use crate::tables::tables_of;
-use crate::text::Name;
 use crate::{code, key};
+use qp_language::Name;
 use std::alloc::{AllocError, Global};
 
 impl Chart {

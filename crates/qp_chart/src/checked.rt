@@ -4,7 +4,7 @@ ghost use Rattle.std.specs.Option.{option_copied};
 
 use crate::actions::{Act, Acts};
 use crate::expression::Bound;
-use crate::text::Name;
+use qp_language::Name;
 use std::marker::Model;
 
 /// A row of a state: on which signal, under which guard, what is done, and to which state.

@@ -4,7 +4,7 @@ use crate::checked::Chart;
 use crate::expression::Bound;
 use crate::place::Path;
 use crate::raw::{Names, RawChart};
-use crate::trees::Expr;
+use qp_language::Expr;
 
 fn crosses<T: Send + Sync>() {}
 

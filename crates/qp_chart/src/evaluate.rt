@@ -5,7 +5,8 @@ ghost use Rattle.std.specs.Option.{unwrap_or};
 ghost use Rattle.std.specs.Int.{w64, cast_signed};
 ghost use Rattle.qp_chart.specs.Expr.{value_of, unary_value, binary_value, names_in, of_truth};
 
-use crate::expression::{Binary, Bound, Unary};
+use crate::expression::Bound;
+use qp_language::{Binary, Unary};
 
 /// What the names of an expression stand for: the object's variables in ascending name, the parameters of the event,
 /// the object's last answer and its priority.

@@ -1,31 +1,7 @@
 //! Expressions whose names are resolved.
 
+use qp_language::{Binary, Unary};
 use std::marker::Model;
-
-/// An operator of one operand.
-#[derive(Clone, Copy, PartialEq, Eq, Debug)]
-pub enum Unary {
-    Minus,
-    Not,
-}
-
-/// An operator of two operands.
-#[derive(Clone, Copy, PartialEq, Eq, Debug)]
-pub enum Binary {
-    Or,
-    And,
-    Equal,
-    Differs,
-    Below,
-    AtMost,
-    Above,
-    AtLeast,
-    Plus,
-    Minus,
-    Times,
-    Over,
-    Rest,
-}
 
 /// An expression whose names are resolved.
 #[derive(Drop)]

@@ -1,16 +1,15 @@
 //! Whether an action names what is declared, keeps its ranges, and fits its place.
 ghost use Rattle.std.specs.Prelude.{◌≡◌, ◌&&◌, not, is_some};
 ghost use Rattle.std.specs.List.{list_all};
-ghost use Rattle.qp_chart.specs.Terms.{term_of, event_of, order_of, command_of, address_of};
+ghost use Rattle.qp_language.specs.Terms.{term_of, event_of, order_of, command_of, address_of};
 ghost use Rattle.qp_chart.specs.Binding.{reaches};
 ghost use Rattle.qp_chart.specs.ActionFaults.{term_known, receiver_known, event_known, order_known, command_known, is_between, is_byte, is_static, reserve_allowed, order_in_range, command_in_range, params_of, params_in, event_fits, order_fits, command_fits};
 
 use crate::scope::Scope;
-use crate::text::Name;
-use crate::trees::{Action, EventTree, Expr, PlainAction, Receiver};
+use qp_language::{Action, EventTree, Expr, Name, PlainAction, Receiver};
 
 /// Whether each name of the action is declared.
-#[tactic(auto, unfolding(crate::specs::Terms::command_of, crate::specs::ActionFaults::command_known))]
+#[tactic(auto, unfolding(qp_language::specs::Terms::command_of, crate::specs::ActionFaults::command_known))]
 pub(crate) fn is_known(scope: &Scope<'_>, action: &Action) -> bool
     ensures { result ≡ command_known scope.now.names.now scope.now.chart.now (command_of action.now) }
 {
@@ -26,7 +25,7 @@ fn all_plain_known(scope: &Scope<'_>, plains: &[PlainAction]) -> bool
     plains.iter().all(|plain| plain_known(scope, plain))
 }
 
-#[tactic(auto, unfolding(crate::specs::Terms::order_of, crate::specs::ActionFaults::order_known))]
+#[tactic(auto, unfolding(qp_language::specs::Terms::order_of, crate::specs::ActionFaults::order_known))]
 fn plain_known(scope: &Scope<'_>, plain: &PlainAction) -> bool
     ensures { result ≡ order_known scope.now.names.now scope.now.chart.now (order_of plain.now) }
 {
@@ -66,7 +65,7 @@ fn receiver_is_known(scope: &Scope<'_>, to: &Receiver) -> bool
     }
 }
 
-#[tactic(auto, unfolding(crate::specs::Terms::event_of))]
+#[tactic(auto, unfolding(qp_language::specs::Terms::event_of))]
 fn event_is_known(scope: &Scope<'_>, event: &EventTree) -> bool
     ensures { result ≡ event_known scope.now.names.now scope.now.chart.now (event_of event.now) }
 {
@@ -80,7 +79,7 @@ fn all_known(scope: &Scope<'_>, pars: &[Expr]) -> bool
 }
 
 /// Whether each number of the action is in its range.
-#[tactic(auto, unfolding(crate::specs::Terms::command_of, crate::specs::ActionFaults::command_in_range))]
+#[tactic(auto, unfolding(qp_language::specs::Terms::command_of, crate::specs::ActionFaults::command_in_range))]
 pub(crate) fn is_in_range(scope: &Scope<'_>, action: &Action) -> bool
     ensures { result ≡ command_in_range scope.now.names.now (command_of action.now) }
 {
@@ -98,7 +97,7 @@ fn all_in_range(scope: &Scope<'_>, plains: &[PlainAction]) -> bool
     plains.iter().all(|plain| plain_in_range(scope, plain))
 }
 
-#[tactic(auto, unfolding(crate::specs::Terms::order_of, crate::specs::Terms::event_of, crate::specs::ActionFaults::order_in_range))]
+#[tactic(auto, unfolding(qp_language::specs::Terms::order_of, qp_language::specs::Terms::event_of, crate::specs::ActionFaults::order_in_range))]
 fn plain_in_range(scope: &Scope<'_>, plain: &PlainAction) -> bool
     ensures { result ≡ order_in_range scope.now.names.now (order_of plain.now) }
 {
@@ -157,7 +156,7 @@ pub(crate) fn signal_is_static(scope: &Scope<'_>, signal: &Name) -> bool
 }
 
 /// Whether the action's events and parameters fit its place. `inside` is the number of parameters of the row's signal; `None` stands outside a row.
-#[tactic(auto, unfolding(crate::specs::Terms::command_of, crate::specs::ActionFaults::command_fits))]
+#[tactic(auto, unfolding(qp_language::specs::Terms::command_of, crate::specs::ActionFaults::command_fits))]
 pub(crate) fn is_fit(scope: &Scope<'_>, inside: Option<u8>, action: &Action) -> bool
     ensures { result ≡ command_fits scope.now.names.now inside (command_of action.now) }
 {
@@ -173,7 +172,7 @@ fn all_fit(scope: &Scope<'_>, inside: Option<u8>, plains: &[PlainAction]) -> boo
     plains.iter().all(|plain| plain_fits(scope, inside, plain))
 }
 
-#[tactic(auto, unfolding(crate::specs::Terms::order_of, crate::specs::ActionFaults::order_fits))]
+#[tactic(auto, unfolding(qp_language::specs::Terms::order_of, crate::specs::ActionFaults::order_fits))]
 fn plain_fits(scope: &Scope<'_>, inside: Option<u8>, plain: &PlainAction) -> bool
     ensures { result ≡ order_fits scope.now.names.now inside (order_of plain.now) }
 {
@@ -200,7 +199,7 @@ fn plain_fits(scope: &Scope<'_>, inside: Option<u8>, plain: &PlainAction) -> boo
     }
 }
 
-#[tactic(auto, unfolding(crate::specs::Terms::event_of))]
+#[tactic(auto, unfolding(qp_language::specs::Terms::event_of))]
 fn event_is_fit(scope: &Scope<'_>, params: u8, event: &EventTree) -> bool
     ensures { result ≡ event_fits scope.now.names.now params (event_of event.now) }
 {
@@ -225,7 +224,7 @@ fn all_reach(pars: &[Expr], params: u8) -> bool
 }
 
 /// Whether each parameter of the expression is numbered from 1 to `params`.
-#[tactic(auto, unfolding(crate::specs::Terms::term_of, crate::specs::Binding::reaches))]
+#[tactic(auto, unfolding(qp_language::specs::Terms::term_of, crate::specs::Binding::reaches))]
 pub(crate) fn reaches(e: &Expr, params: u8) -> bool
     ensures { result ≡ reaches params (term_of e.now) }
 {

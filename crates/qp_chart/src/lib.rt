@@ -1,7 +1,6 @@
-//! Charts: their expressions and actions, and the check that makes a chart of what a file says.
+//! Charts: the values of expressions, and the check that makes a chart of what a file says. Their language is qp_language.
 #![tactic(auto)]
 
-mod action_parser;
 mod actions;
 mod binding;
 mod check;
@@ -12,11 +11,8 @@ mod evaluate;
 mod expression;
 mod fault;
 mod fit;
-mod grammar_laws;
 pub mod key;
 mod parents;
-mod parser;
-mod phrases;
 mod place;
 mod places;
 mod raw;
@@ -25,26 +21,20 @@ mod scope;
 mod state_check;
 mod statements;
 mod tables;
-mod text;
-mod tokens;
 pub mod tree_laws;
-mod trees;
 
-pub use action_parser::read_action;
 pub use actions::{Act, Acts, Plain, Plains, Target};
-pub use binding::bind;
+pub use binding::{BindFault, bind};
 pub use checked::{Chart, Row, Rows, State, States, Timer, Timers, Vars};
 pub use evaluate::{Env, eval};
-pub use expression::{Binary, Bound, Bounds, Unary};
+pub use expression::{Bound, Bounds};
 pub use fault::ChartFault;
-pub use grammar_laws::{one_action, one_expression};
-pub use parser::read_expr;
 pub use place::{Part, Path};
+pub use qp_language::{
+    Action, Binary, EventTree, Expr, ExprFault, Exprs, Name, PlainAction, PlainActions, Receiver,
+    Text, Texts, Unary, one_action, one_expression, read_action, read_expr,
+};
 pub use raw::{
     Names, ObjName, ObjNames, RawChart, RawRow, RawRows, RawState, RawStates, RawTimer, RawTimers,
     SigName, SigNames,
-};
-pub use text::{Name, Text, Texts};
-pub use trees::{
-    Action, BindFault, EventTree, Expr, ExprFault, Exprs, PlainAction, PlainActions, Receiver,
 };

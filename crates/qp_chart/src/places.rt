@@ -1,6 +1,6 @@
 //! Tables from names to numbers.
 
-use crate::text::Name;
+use qp_language::Name;
 use std::alloc::{AllocError, Global};
 use std::collections::BTreeMap;
 

@@ -2,7 +2,7 @@
 ghost use Rattle.std.specs.Prelude.{◌≡◌};
 
 use crate::checked::Vars;
-use crate::text::{Name, Text, Texts};
+use qp_language::{Name, Text, Texts};
 use std::marker::Model;
 
 /// A time event of a chart.

@@ -3,7 +3,7 @@ ghost use Rattle.std.specs.Prelude.{◌≡◌, ◌+◌, ◌<◌, ◌≤◌, ◌�
 ghost use Rattle.std.specs.Option.{option_copied};
 ghost use Rattle.qp_chart.specs.declared.place.Part.TheVariants.{Key};
 ghost use Rattle.qp_chart.specs.TablesOf.{IsTablesOf};
-ghost use Rattle.qp_chart.specs.Terms.{term_of};
+ghost use Rattle.qp_language.specs.Terms.{term_of};
 ghost use Rattle.qp_chart.specs.RawNumbers.{signal_number, signal_named, object_named, state_number, timer_number, variable_number};
 ghost use Rattle.qp_chart.specs.ActionFaults.{term_known};
 ghost use Rattle.qp_chart.specs.Faults.{IsFault};
@@ -14,9 +14,8 @@ use crate::fault::ChartFault;
 use crate::place::Part;
 use crate::raw::{Names, ObjName, RawChart, SigName};
 use crate::tables::Tables;
-use crate::text::Name;
-use crate::trees::Expr;
 use crate::{binding, code};
+use qp_language::{Expr, Name};
 
 /// A chart, what it may name outside itself, and tables of both.
 #[derive(Drop)]

@@ -19,8 +19,8 @@ use crate::place::Part;
 use crate::raw::{RawRow, RawState};
 use crate::scope::Scope;
 use crate::statements::{checked_acts, checked_guard};
-use crate::text::Name;
 use crate::{code, key};
+use qp_language::Name;
 use std::alloc::Global;
 
 /// The states in order.

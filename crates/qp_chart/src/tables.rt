@@ -12,8 +12,8 @@ use crate::fault::ChartFault;
 use crate::place::Part;
 use crate::places::Places;
 use crate::raw::{Names, ObjName, RawChart, RawState, RawTimer, SigName};
-use crate::text::Name;
 use crate::{code, key};
+use qp_language::Name;
 use std::alloc::{AllocError, Global};
 
 /// Numbers by name, of all that a chart may name. The names of the variables stand in their order too.

@@ -1,6 +1,8 @@
 -- The rules that every system read from a file meets.
-use Rattle.std.specs.Prelude.{◌≡◌, ◌-◌, ◌<◌, ◌≤◌, nat_le, true, false, List, [], ◌∷◌, length, slice_get, Some, ⊤}
-use Rattle.std.specs.List.{AllByRecursion, list_any}
+use Rattle.std.specs.Prelude.{◌≡◌, ◌-◌, ◌<◌, ◌≤◌, nat_le, true, false, List, [], ◌∷◌, length, map, slice_get, Some, ⊤}
+use Rattle.std.specs.List.{AllByRecursion, flat_map, list_any}
+use Rattle.std.specs.Option.{option_map_or}
+use Rattle.qp_chart.specs.declared.checked.Timer.{Timer}
 use Rattle.qp_chart.specs.declared.checked.Chart.{Chart}
 use Rattle.qp_chart.specs.LegalTree.{IsLegal}
 use Rattle.qp_model.specs.declared.systems.PoolDef.{PoolDef}
@@ -42,6 +44,14 @@ pub record IsSoundObject (charts : List Chart) (object : ObjectDef) : Type 0 whe
   pub is_its : slice_get charts (object.chart - 1) ≡ Some its
   pub vars : length object.vars ≡ length its.vars
 
+-- a time event of a chart, as the object's own
+abbrev pub timer_of : ObjectDef → Timer → TimerDef
+timer_of object timer = record { object = object.priority; sig = timer.signal; rate = timer.rate }
+
+-- the time events of an object: its chart's, in the chart's order
+abbrev pub timers_of : List Chart → ObjectDef → List TimerDef
+timers_of charts object = option_map_or (λ chart. map (timer_of object) chart.timer) (slice_get charts (object.chart - 1)) []
+
 -- a time event: it is an object's, and posts a static signal
 pub record IsSoundTimer (sys : System) (timer : TimerDef) : Type 0 where
   pub owner : ObjectDef
@@ -71,3 +81,5 @@ pub record IsSound (sys : System) : Type 0 where
   pub priorities : AllByRecursion (λ d. d.priority ≤ 32) sys.objects
   pub objects : AllByRecursion (IsSoundObject sys.charts) sys.objects
   pub timers : AllByRecursion (IsSoundTimer sys) sys.timers
+  -- they are numbered by their objects in ascending priority, and then by the chart's order
+  pub numbered : sys.timers ≡ flat_map (timers_of sys.charts) sys.objects

@@ -85,22 +85,29 @@ pub record IsSoundRow (sys : System) (chart : Chart) (row : Row) : Type 0 where
   pub signal : SignalDef
   pub on : IsSignal sys row.on signal
   pub when : IsSoundGuard chart signal.params row.when
+  pub few_acts : length row.acts ≤ 16
   pub acts : AllByRecursion (IsSoundAct sys chart (Some signal.params)) row.acts
   pub to : IsState chart row.to
 
 -- a state
 pub record IsSoundState (sys : System) (chart : Chart) (state : State) : Type 0 where
+  pub few_entry : length state.entry ≤ 16
+  pub few_exit : length state.exit ≤ 16
+  pub few_init_do : length state.init_do ≤ 16
+  pub few_rows : length state.row ≤ 32
+  pub parent : IsState chart state.parent
   pub entry : AllByRecursion (IsSoundAct sys chart None) state.entry
   pub exit : AllByRecursion (IsSoundAct sys chart None) state.exit
   pub init : IsState chart state.init
   pub init_do : AllByRecursion (IsSoundAct sys chart None) state.init_do
   pub rows : AllByRecursion (IsSoundRow sys chart) state.row
 
--- a chart whose numbers all stand for something
+-- a chart whose lists are as long as its file may have them, and whose numbers all stand for something
 pub record IsSoundChart (sys : System) (chart : Chart) : Type 0 where
   pub few_states : length chart.state ≤ 64
   pub few_timers : length chart.timer ≤ 8
   pub few_vars : length chart.vars ≤ 16
+  pub few_init_do : length chart.init_do ≤ 16
   pub init : IsState chart (Some chart.init)
   pub init_do : AllByRecursion (IsSoundAct sys chart None) chart.init_do
   pub states : AllByRecursion (IsSoundState sys chart) chart.state

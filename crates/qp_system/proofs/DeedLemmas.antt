@@ -8,7 +8,7 @@ use Rattle.qp_chart.specs.declared.actions.Plain as plain
 use Rattle.qp_chart.specs.declared.actions.Act.{Act}
 use Rattle.qp_chart.specs.declared.raw.RawChart.{RawChart}
 use Rattle.qp_chart.specs.declared.raw.Names.{Names}
-use Rattle.qp_chart.specs.Terms.{Word, Term, Address, ToMe, ToObject, Order, Set, Say, Post, Lifo, Forward, Publish, Defer, Recall, Flush, Subscribe, Unsubscribe, Arm, Rearm, Disarm, Command, Plain, Locked}
+use Rattle.qp_language.specs.Terms.{Word, Term, Address, ToMe, ToObject, Order, Set, Say, Post, Lifo, Forward, Publish, Defer, Recall, Flush, Subscribe, Unsubscribe, Arm, Rearm, Disarm, Command, Plain, Locked}
 use Rattle.qp_chart.specs.ActionOf.{IsBoundOf, IsTargetOf, IsByteOf, IsPlainOf, IsActOf, IsActOfText, IsGuardOf}
 use Rattle.qp_chart.specs.ActionFaults.{params_in}
 use Rattle.qp_chart.specs.Binding.{named}

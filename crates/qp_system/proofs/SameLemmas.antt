@@ -30,7 +30,8 @@ use Rattle.qp_system.specs.declared.raw.RawObject.{RawObject}
 use Rattle.qp_system.specs.Raw.{Pool, Signal, Chart as Table}
 use Rattle.qp_system.specs.Same.{bare_signal, bare_object, bare_timer, row_said, Saying, StateSaid, state_said, ChartSaid, chart_said}
 use Rattle.qp_system.specs.SystemLaw.{SystemsAreOne}
-use Rattle.qp_system.specs.SystemOf.{chart_names, first_value, first_values, IsObjectOf, AreObjectsOf, timer_of, timers_of}
+use Rattle.qp_system.specs.SystemOf.{chart_names, first_value, first_values, IsObjectOf, AreObjectsOf}
+use Rattle.qp_model.specs.Sound.{timer_of, timers_of}
 use Rattle.qp_system.specs.Views.{name_view, vars_view, pool_view, signal_view, timer_view, row_view, state_view, chart_view, object_view, raw_view}
 use Rattle.qp_system.specs.Within.{names_of}
 use Rattle.qp_system.specs.Deeds.{deeds_of}

@@ -17,9 +17,9 @@ use Rattle.qp_chart.specs.declared.raw.RawRow.{RawRow}
 use Rattle.qp_chart.specs.declared.raw.RawState.{RawState}
 use Rattle.qp_chart.specs.declared.raw.RawChart.{RawChart}
 use Rattle.qp_chart.specs.declared.raw.Names.{Names}
-use Rattle.qp_chart.specs.Terms.{Term, ToMe, ToObject, Order, Set, Say, Post, Lifo, Forward, Publish, Defer, Recall, Flush, Subscribe, Unsubscribe, Arm, Rearm, Disarm, Command, Plain, Locked}
-use Rattle.qp_chart.specs.Reading.{term_of_text}
-use Rattle.qp_chart.specs.ReadingActions.{command_of_text}
+use Rattle.qp_language.specs.Terms.{Term, ToMe, ToObject, Order, Set, Say, Post, Lifo, Forward, Publish, Defer, Recall, Flush, Subscribe, Unsubscribe, Arm, Rearm, Disarm, Command, Plain, Locked}
+use Rattle.qp_language.specs.Reading.{term_of_text}
+use Rattle.qp_language.specs.ReadingActions.{command_of_text}
 use Rattle.qp_chart.specs.Faults.{Fault, first_in}
 use Rattle.qp_chart.specs.Numbering.{number_in}
 use Rattle.qp_chart.specs.RawNumbers.{state_names, timer_names, variable_names, signal_names, object_names, state_number, signal_number, signal_named, object_named}

@@ -12,7 +12,7 @@ use Rattle.qp_chart.specs.declared.raw.RawTimer.{RawTimer}
 use Rattle.qp_chart.specs.declared.raw.RawState.{RawState}
 use Rattle.qp_chart.specs.declared.raw.RawRow.{RawRow}
 use Rattle.qp_chart.specs.Faults.{Fault, fault, fault_if, first_of, first_in}
-use Rattle.qp_chart.specs.Terms.{Term, Command}
+use Rattle.qp_language.specs.Terms.{Term, Command}
 use Rattle.qp_chart.specs.ActionFaults.{action_fault, guard_fault, text_fault, text_at, texts_fault, when_fault}
 use Rattle.qp_chart.specs.Parents.{loop_at, depth_at, tree_fault}
 use Rattle.qp_chart.specs.ChartFaults.{undeclared, undeclared_key, double_at, double_fault, doubles_fault, timer_fault, parent_at, init_fault, row_fault, row_at, rows_fault, state_fault, frame_fault, chart_fault, state_place, row_place}

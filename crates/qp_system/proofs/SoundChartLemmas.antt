@@ -4,6 +4,7 @@ use Rattle.std.specs.declared.option.Option.{Option}
 use Rattle.std.specs.Option.{option_map, option_and_then, unwrap_or}
 use Rattle.std.specs.List.{AllByRecursion, Contains, list_all, slice_get}
 use Rattle.std.proofs.lemmas.List.{length-map}
+use Rattle.std.proofs.lemmas.List.Elements.{recursion_from_All}
 use Rattle.std.proofs.lemmas.List.Sorted.{Contains-permutation}
 use Rattle.std.proofs.lemmas.Bool.Decides.{nat_tests}
 use Rattle.std.proofs.lemmas.Option.{slice_get-map, slice_get_cases, slice_get_read}
@@ -20,11 +21,12 @@ use Rattle.qp_chart.specs.declared.raw.ObjName.{ObjName}
 use Rattle.qp_chart.specs.declared.checked.Row.{Row}
 use Rattle.qp_chart.specs.declared.checked.State.{State}
 use Rattle.qp_chart.specs.declared.checked.Chart.{Chart}
-use Rattle.qp_chart.specs.Terms.{Term, Address, ToMe, ToObject, Event, Order, Set, Say, Post, Lifo, Forward, Publish, Defer, Recall, Flush, Subscribe, Unsubscribe, Arm, Rearm, Disarm, Command, Plain, Locked}
+use Rattle.qp_language.specs.Terms.{Term, Address, ToMe, ToObject, Event, Order, Set, Say, Post, Lifo, Forward, Publish, Defer, Recall, Flush, Subscribe, Unsubscribe, Arm, Rearm, Disarm, Command, Plain, Locked}
 use Rattle.qp_chart.specs.ActionFaults.{is_between, is_static, params_of, params_in, reserve_allowed, event_fits, order_in_range, order_fits, command_in_range, command_fits}
 use Rattle.qp_chart.specs.ActionOf.{IsBoundOf, IsTargetOf, IsEventOf, IsByteOf, IsPlainOf, IsActOf, IsActOfText, IsGuardOf}
 use Rattle.qp_chart.specs.ChartOf.{Refers, AreActsOf, IsRowOf, IsStateOf, IsChartOf}
 use Rattle.qp_chart.specs.Numbering.{number_in}
+use Rattle.qp_chart.specs.Readable.{IsReadableRow, IsReadableState}
 use Rattle.qp_chart.specs.RawNumbers.{state_names, timer_names, variable_names, signal_names, object_names, state_number, timer_number, signal_number, signal_named, object_named}
 use Rattle.qp_model.specs.declared.systems.SignalDef.{SignalDef}
 use Rattle.qp_model.specs.declared.systems.System.{System}
@@ -144,6 +146,15 @@ module _ (sys : System) (raw : RawSystem) (signals : sys.signals ≡ raw.signals
     state-key None (Some s) h = absurd h
     state-key (Some name) (Some s) h = state-inside name.bytes s h
 
+    -- a parent is a state of the chart
+    parent-inside : (x : Option ArrayString) → IsState chart (option_and_then (λ name. state_number c name.bytes) x)
+    parent-inside None = tt
+    parent-inside (Some name) = by (state_number c name.bytes) refl
+      where
+        by : (n : Option ℕ) → state_number c name.bytes ≡ n → IsState chart n
+        by None is = tt
+        by (Some s) is = state-inside name.bytes s is
+
     free-reserve : (s : SignalDef) (event : Event) (z : Option ℤ) (r : Option ℕ) → is_static names event.signal ≡ s.fixed → reserve_allowed names event z ≡ true → IsByteOf z r → s.fixed ≡ true → r ≡ None
     free-reserve s event z None static allowed byte fixed = refl
     free-reserve s event z (Some n) static allowed byte fixed =
@@ -218,25 +229,35 @@ module _ (sys : System) (raw : RawSystem) (signals : sys.signals ≡ raw.signals
     guard-sound params None (Some b) h = absurd h
     guard-sound params (Some text) (Some b) h = reaches (Some params) h.term b h.made
 
-    row-sound : (x : RawRow) (r : Row) → IsRowOf names c x r → IsSoundRow sys chart r
-    row-sound x r made =
+    -- a list of actions is as long as that of its texts
+    acts-few : (inside : Option ℕ) (texts : List (List ℕ)) (acts : List Act) → AreActsOf names c inside texts acts → length texts ≤ 16 → length acts ≤ 16
+    acts-few inside texts acts made few = rw (sym (Corresponds-length (IsActOfText names c inside) texts acts made)) few
+
+    row-sound : (x : RawRow) (r : Row) → IsRowOf names c x r → IsReadableRow x → IsSoundRow sys chart r
+    row-sound x r made few =
         let s = declared x.on.bytes r.on made.on in
         let params = params-is x.on.bytes s.0 s.2 in
         record {
           signal = s.0;
           on = s.1;
           when = guard-sound s.0.params x.when r.when (subst (λ n. IsGuardOf c n x.when r.when) params made.when);
+          few_acts = acts-few (Some (params_of names x.on.bytes)) x.acts r.acts made.acts few;
           acts = acts-sound (Some s.0.params) x.acts r.acts (subst (λ n. AreActsOf names c (Some n) x.acts r.acts) params made.acts);
           to = state-key x.to r.to made.to;
         }
 
-    state-sound : (x : RawState) (s : State) → IsStateOf names c x s → IsSoundState sys chart s
-    state-sound x s made = record {
+    state-sound : (x : RawState) (s : State) → IsStateOf names c x s → IsReadableState x → IsSoundState sys chart s
+    state-sound x s made few = record {
+      few_entry = acts-few None x.entry s.entry made.entry few.entry;
+      few_exit = acts-few None x.exit s.exit made.exit few.exit;
+      few_init_do = acts-few None x.init_do s.init_do made.init_do few.init_do;
+      few_rows = rw (sym (Corresponds-length (IsRowOf names c) x.row s.row made.row)) few.row;
+      parent = rw made.parent (parent-inside x.parent);
       entry = acts-sound None x.entry s.entry made.entry;
       exit = acts-sound None x.exit s.exit made.exit;
       init = state-key x.init s.init made.init;
       init_do = acts-sound None x.init_do s.init_do made.init_do;
-      rows = Corresponds-each (IsRowOf names c) (IsSoundRow sys chart) row-sound x.row s.row made.row;
+      rows = Corresponds-every (IsRowOf names c) IsReadableRow (IsSoundRow sys chart) row-sound x.row s.row made.row (recursion_from_All IsReadableRow x.row few.rows);
     }
 
   -- a chart that was made of its table
@@ -248,7 +269,8 @@ module _ (sys : System) (raw : RawSystem) (signals : sys.signals ≡ raw.signals
         few_states = rw (sym states) few.states;
         few_timers = rw (sym timers) few.timers;
         few_vars = rw made.vars few.vars;
+        few_init_do = acts-few c chart made.vars timers states None c.init_do chart.init_do made.init_do few.init_do;
         init = state-inside c chart made.vars timers states c.init.bytes chart.init made.init;
         init_do = acts-sound c chart made.vars timers states None c.init_do chart.init_do made.init_do;
-        states = Corresponds-each (IsStateOf names c) (IsSoundState sys chart) (state-sound c chart made.vars timers states) c.state chart.state made.state;
+        states = Corresponds-every (IsStateOf names c) IsReadableState (IsSoundState sys chart) (state-sound c chart made.vars timers states) c.state chart.state made.state (recursion_from_All IsReadableState c.state few.each);
       }

@@ -28,7 +28,8 @@ use Rattle.qp_system.specs.Document.{TreeGives}
 use Rattle.qp_system.specs.Few.{IsFewChart, IsFew}
 use Rattle.qp_model.specs.SoundChart.{IsSoundChart}
 use Rattle.qp_model.specs.Sound.{IsSoundPool, IsSoundSignal, IsSoundObject, IsSoundTimer, IsSound}
-use Rattle.qp_system.specs.SystemOf.{chart_names, first_value, IsObjectOf, timer_of, timers_of, IsSystemOf}
+use Rattle.qp_system.specs.SystemOf.{chart_names, first_value, IsObjectOf, IsSystemOf}
+use Rattle.qp_model.specs.Sound.{timer_of, timers_of}
 use Rattle.qp_system.specs.Views.{pool_view, signal_view, timer_view, chart_view, object_view, raw_view}
 use Rattle.qp_system.specs.Within.{names_of}
 use Rattle.qp_system.proofs.BehindLemmas.{every, IsPlaced}
@@ -222,4 +223,5 @@ module _ (bytes : List ℕ) (sys : System) (h : IsSystemOf bytes sys) where
         priorities = every (IsSoundObject sys.charts) (λ d. d.priority ≤ 32) (λ d k. omega (arith, k.threshold, k.few_thresholds)) sys.objects objects;
         objects = objects;
         timers = subst (AllByRecursion (IsSoundTimer sys)) (sym h.timers) timers;
+        numbered = h.timers;
       }

@@ -22,7 +22,8 @@ use Rattle.qp_system.specs.declared.raw.RawSystem.{RawSystem}
 use Rattle.qp_system.specs.Checked.{HasLater, IsChecked}
 use Rattle.qp_system.specs.Document.{RefusesBytes}
 use Rattle.qp_system.specs.Placed.{chart_place, HasChart, IsWithin}
-use Rattle.qp_system.specs.SystemOf.{chart_names, first_value, first_values, IsObjectOf, timer_of, timers_of, AreObjectsOf, HasFault, RefusesSystem}
+use Rattle.qp_system.specs.SystemOf.{chart_names, first_value, first_values, IsObjectOf, AreObjectsOf, HasFault, RefusesSystem}
+use Rattle.qp_model.specs.Sound.{timer_of, timers_of}
 use Rattle.qp_system.specs.Views.{chart_view, object_view}
 use Rattle.qp_system.proofs.BehindLemmas.{every, IsPlaced}
 use Rattle.qp_system.proofs.FewLemmas.{IsInRange}

@@ -7,17 +7,15 @@ use Rattle.std.specs.Option.{option_map, option_map_or}
 use Rattle.std.specs.Str.{IsUtf8, bytes_eq}
 use Rattle.toml.specs.Parse.{parse_document}
 use Rattle.arrayvec.specs.ArrayString.{ArrayString}
-use Rattle.qp_chart.specs.declared.checked.Timer.{Timer}
-use Rattle.qp_chart.specs.declared.checked.Chart.{Chart}
 use Rattle.qp_chart.specs.declared.raw.RawChart.{RawChart}
 use Rattle.qp_chart.specs.ChartOf.{IsChartOf}
 use Rattle.qp_chart.specs.Faults.{Fault}
 use Rattle.qp_chart.specs.Numbering.{number_in}
 use Rattle.qp_chart.specs.Pairs.{Corresponds}
 use Rattle.qp_model.specs.declared.systems.ObjectDef.{ObjectDef}
-use Rattle.qp_model.specs.declared.systems.TimerDef.{TimerDef}
 use Rattle.qp_model.specs.declared.systems.System.{System}
 use Rattle.qp_model.specs.Laws.{Ascend}
+use Rattle.qp_model.specs.Sound.{timers_of}
 use Rattle.qp_system.specs.declared.fault.SystemFault.{SystemFault}
 use Rattle.qp_system.specs.declared.fault.SystemFault.TheVariants.{Memory, NotToml, At}
 use Rattle.qp_system.specs.declared.raw.RawObject.{RawObject}
@@ -59,14 +57,6 @@ pub record AreObjectsOf (charts : List RawChart) (raws : List RawObject) (object
   pub same : IsPermutation raws order
   pub each : Corresponds (IsObjectOf charts) order objects
   pub ascend : Ascend objects
-
--- a time event of a chart, as the object's own
-abbrev pub timer_of : ObjectDef → Timer → TimerDef
-timer_of object timer = record { object = object.priority; sig = timer.signal; rate = timer.rate }
-
--- the time events of an object: its chart's, in the chart's order
-abbrev pub timers_of : List Chart → ObjectDef → List TimerDef
-timers_of charts object = option_map_or (λ chart. map (timer_of object) chart.timer) (slice_get charts (object.chart - 1)) []
 
 -- the bytes are the TOML text of a tree without a fault, and this is its system: pools, signals and charts in the file's
 -- order, objects in ascending priority, and time events object by object

@@ -6,7 +6,8 @@ ghost use Rattle.std.specs.Str.{bytes_eq};
 ghost use Rattle.std.specs.List.{All, find, flat_map};
 ghost use Rattle.std.specs.List.Sorted.{IsPermutation, IsNonDecreasingBy};
 ghost use Rattle.qp_chart.specs.Pairs.{Corresponds};
-ghost use Rattle.qp_system.specs.SystemOf.{first_value, IsObjectOf, timer_of, timers_of};
+ghost use Rattle.qp_system.specs.SystemOf.{first_value, IsObjectOf};
+ghost use Rattle.qp_model.specs.Sound.{timer_of, timers_of};
 ghost use Rattle.qp_system.specs.Placed.{chart_place, HasChart, IsWithin};
 
 use crate::raw::{RawObject, RawObjects};

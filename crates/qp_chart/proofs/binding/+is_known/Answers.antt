@@ -1,5 +1,5 @@
 use Rattle.std.proofs.Common.{◌∙◌, sym, ap}
-use Rattle.qp_chart.specs.Terms.{term_of}
+use Rattle.qp_language.specs.Terms.{term_of}
 use Rattle.qp_chart.specs.Binding.{words, knows}
 use Rattle.qp_chart.proofs.BindingLemmas.{any_named}
 use Rattle.qp_chart.proofs.binding.+is_known.Goals as goal

@@ -1,7 +1,7 @@
 use Rattle.std.proofs.Common.{◌≡◌, sym, ap, ◌∙◌, length, map, eq-eqb}
 use Rattle.std.proofs.lemmas.List.Folds.{list_all-map}
 use Rattle.std.proofs.lemmas.List.{length-map}
-use Rattle.qp_chart.specs.Terms.{event_of, term_of}
+use Rattle.qp_language.specs.Terms.{event_of, term_of}
 use Rattle.qp_chart.specs.Binding.{reaches}
 use Rattle.qp_chart.specs.ActionFaults.{params_of}
 use Rattle.qp_chart.proofs.TestLemmas.{and-both}

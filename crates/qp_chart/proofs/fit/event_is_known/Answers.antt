@@ -1,7 +1,7 @@
 use Rattle.std.proofs.Common.{◌≡◌, true, sym, ap, ◌∙◌}
 use Rattle.std.specs.Option.{is_some}
 use Rattle.std.proofs.lemmas.List.Folds.{list_all-map}
-use Rattle.qp_chart.specs.Terms.{event_of, term_of}
+use Rattle.qp_language.specs.Terms.{event_of, term_of}
 use Rattle.qp_chart.specs.RawNumbers.{signal_number}
 use Rattle.qp_chart.specs.ActionFaults.{term_known}
 use Rattle.qp_chart.proofs.TestLemmas.{and-both}

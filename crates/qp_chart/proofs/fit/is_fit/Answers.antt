@@ -1,6 +1,6 @@
 use Rattle.std.proofs.Common.{sym, ◌∙◌}
 use Rattle.std.proofs.lemmas.List.Folds.{list_all-map}
-use Rattle.qp_chart.specs.Terms.{command_of, order_of}
+use Rattle.qp_language.specs.Terms.{command_of, order_of}
 use Rattle.qp_chart.specs.ActionFaults.{command_fits, order_fits}
 use Rattle.qp_chart.proofs.fit.is_fit.Goals as goal
 

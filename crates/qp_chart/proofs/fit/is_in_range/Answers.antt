@@ -1,6 +1,6 @@
 use Rattle.std.proofs.Common.{sym, ◌∙◌, rules}
 use Rattle.std.proofs.lemmas.List.Folds.{list_all-map}
-use Rattle.qp_chart.specs.Terms.{command_of, order_of}
+use Rattle.qp_language.specs.Terms.{command_of, order_of}
 use Rattle.qp_chart.specs.ActionFaults.{command_in_range, order_in_range, is_between}
 use Rattle.qp_chart.proofs.TestLemmas.{and-both}
 use Rattle.qp_chart.proofs.fit.is_in_range.Goals as goal

@@ -1,4 +1,4 @@
-use Rattle.qp_chart.specs.Terms.{event_of}
+use Rattle.qp_language.specs.Terms.{event_of}
 use Rattle.qp_chart.proofs.TestLemmas.{and-left, and-right, All-sound}
 use Rattle.qp_chart.proofs.resolve.event.Goals as goal
 

@@ -1,4 +1,4 @@
-use Rattle.qp_chart.specs.Terms.{command_of}
+use Rattle.qp_language.specs.Terms.{command_of}
 use Rattle.qp_chart.specs.ActionFaults.{command_known, command_in_range, command_fits}
 use Rattle.qp_chart.proofs.TestLemmas.{and-right, All-allowed}
 use Rattle.qp_chart.proofs.resolve.resolved.Goals as goal

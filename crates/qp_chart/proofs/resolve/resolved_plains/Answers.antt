@@ -1,4 +1,4 @@
-use Rattle.qp_chart.specs.Terms.{order_of}
+use Rattle.qp_language.specs.Terms.{order_of}
 use Rattle.qp_chart.specs.ActionFaults.{params_in}
 use Rattle.qp_chart.specs.ActionOf.{IsPlainOf}
 use Rattle.qp_chart.proofs.FaultLemmas.{Corresponds-none, Corresponds-map}

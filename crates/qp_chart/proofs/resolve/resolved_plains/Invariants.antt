@@ -1,5 +1,5 @@
 use Rattle.std.proofs.Common.{map, take}
-use Rattle.qp_chart.specs.Terms.{order_of}
+use Rattle.qp_language.specs.Terms.{order_of}
 use Rattle.qp_chart.specs.Pairs.{Corresponds}
 use Rattle.qp_chart.specs.ActionFaults.{params_in}
 use Rattle.qp_chart.specs.ActionOf.{IsPlainOf}

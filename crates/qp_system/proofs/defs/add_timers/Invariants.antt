@@ -1,5 +1,5 @@
 use Rattle.std.proofs.Common.{◌≡◌, ◌++◌, map, take}
-use Rattle.qp_system.specs.SystemOf.{timer_of}
+use Rattle.qp_model.specs.Sound.{timer_of}
 use Rattle.qp_system.proofs.defs.add_timers.Given as goal
 
 abbrev pub invariant-loop-timer : goal.invariant-loop-timer

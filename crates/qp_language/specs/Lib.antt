@@ -1,0 +1,6 @@
+pub mod Terms
+pub mod Tokens
+pub mod Reading
+pub mod ReadingActions
+pub mod Grammar
+pub mod ActionGrammar
