@@ -2,19 +2,19 @@
 use Rattle.std.proofs.Common.{◌≡◌, ℕ, ℤ, List, [], ◌∷◌, map, Ok, refl, sym, ap, subst}
 use Rattle.std.specs.List.{AllByRecursion}
 use Rattle.arrayvec.specs.ArrayString.{ArrayString}
-use Rattle.qp_chart.specs.declared.raw.RawChart.{RawChart}
+use Rattle.qp_names.specs.declared.raw.RawChart.{RawChart}
 use Rattle.qp_chart.specs.declared.checked.Chart.{Chart}
 use Rattle.qp_chart.specs.ChartOf.{IsChartOf}
-use Rattle.qp_chart.specs.RawNumbers.{variable_names}
+use Rattle.qp_names.specs.RawNumbers.{variable_names}
 use Rattle.qp_model.specs.declared.systems.System.{System}
-use Rattle.qp_system.specs.Document.{TreeGives}
+use Rattle.qp_document.specs.Document.{TreeGives}
 use Rattle.qp_system.specs.Same.{SayTheSame, chart_said}
 use Rattle.qp_model.specs.Sound.{IsSound}
 use Rattle.qp_model.specs.SoundChart.{IsSoundChart}
 use Rattle.qp_system.specs.SystemOf.{IsSystemOf}
-use Rattle.qp_system.specs.Views.{vars_view, chart_view, raw_view}
+use Rattle.qp_document.specs.Views.{vars_view, chart_view, raw_view}
 use Rattle.qp_system.specs.Within.{names_of}
-use Rattle.qp_system.specs.declared.raw.RawSystem.{RawSystem}
+use Rattle.qp_document.specs.declared.raw.RawSystem.{RawSystem}
 use Rattle.qp_system.proofs.LawLemmas.{systems_are_sound}
 use Rattle.qp_system.proofs.PairLemmas.{Corresponds-every}
 use Rattle.qp_system.proofs.SameLemmas.{systems_are_one}

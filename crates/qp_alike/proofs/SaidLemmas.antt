@@ -14,16 +14,16 @@ use Rattle.qp_chart.specs.declared.actions.Act.TheVariants as act
 use Rattle.qp_chart.specs.declared.checked.Row.{Row}
 use Rattle.qp_chart.specs.declared.checked.State.{State}
 use Rattle.qp_chart.specs.declared.checked.Chart.{Chart}
-use Rattle.qp_chart.specs.ActionFaults.{params_in}
+use Rattle.qp_names.specs.ActionFaults.{params_in}
 use Rattle.qp_chart.specs.Binding.{named}
 use Rattle.qp_chart.specs.Expr.{InRange}
-use Rattle.qp_chart.specs.RawNumbers.{variable_names}
+use Rattle.qp_names.specs.RawNumbers.{variable_names}
 use Rattle.qp_language.specs.Terms.{Word}
 use Rattle.qp_model.specs.declared.systems.System.{System}
 use Rattle.qp_system.specs.Deeds.{receiver_of, deed_of, deeds_of, guard_of}
 use Rattle.qp_system.specs.Same.{bare_name, bare_timer, row_said, state_said, chart_said}
 use Rattle.qp_model.specs.SoundChart.{Reaches, IsSoundPlain, IsSoundAct, IsSoundGuard, IsSoundRow, IsSoundState, IsSoundChart}
-use Rattle.qp_system.specs.Views.{vars_view}
+use Rattle.qp_document.specs.Views.{vars_view}
 use Rattle.qp_alike.proofs.BareChart.{one_place, bare_bound, bare_plain, bare_act, bare_row, bare_state, bare_var, bare_chart}
 use Rattle.qp_alike.proofs.VariableNames.{Ascending, name_at, ascending-apart}
 

@@ -9,17 +9,17 @@ use Rattle.std.specs.Cmp.Lexicographic.{slice_cmp}
 use Rattle.std.specs.Ordering.{match_ordering}
 use Rattle.std.proofs.lemmas.Cmp.{nat_list_cmp_total}
 use Rattle.toml.specs.Data.{Data, array, table, Items, no_items, item, Members, no_members, member, get_member, as_integer, as_table, is_before, is_sorted, items_are_sorted, members_are_sorted}
-use Rattle.qp_chart.specs.declared.place.Part.{Part}
-use Rattle.qp_chart.specs.declared.place.Part.TheVariants.{Key, Pos}
-use Rattle.qp_chart.specs.Keys.{QP, POOL, SIGNAL, CHART, OBJECT, NAME, INIT, INIT_DO, VARS, TIMER, STATE}
-use Rattle.qp_chart.specs.Codes.{TOO_MANY, RANGE}
-use Rattle.qp_chart.specs.Faults.{Fault}
-use Rattle.qp_chart.specs.Paths.{key_word}
-use Rattle.qp_system.specs.Raw.{Chart, Raw}
-use Rattle.qp_system.specs.Tree.{◌>>=◌, refuse, at_key, knows, default_at, needed_at, defaulted, needed, each}
-use Rattle.qp_system.specs.Values.{number_of, name_of, tables_of, some_tables, texts_of, vars_of, some_vars, named_vars, all_integers, with_first, all_of_kind, items_of_kind, allowed}
-use Rattle.qp_system.specs.Tables.{read_tables, pool_at, signal_at, timer_at, state_at, chart_at, object_at, raw_of}
-use Rattle.qp_system.proofs.ReadLemmas.{bind-Ok, ok-same}
+use Rattle.qp_names.specs.declared.place.Part.{Part}
+use Rattle.qp_names.specs.declared.place.Part.TheVariants.{Key, Pos}
+use Rattle.qp_names.specs.Keys.{QP, POOL, SIGNAL, CHART, OBJECT, NAME, INIT, INIT_DO, VARS, TIMER, STATE}
+use Rattle.qp_names.specs.Codes.{TOO_MANY, RANGE}
+use Rattle.qp_names.specs.Faults.{Fault}
+use Rattle.qp_names.specs.Paths.{key_word}
+use Rattle.qp_document.specs.Raw.{Chart, Raw}
+use Rattle.qp_document.specs.Tree.{◌>>=◌, refuse, at_key, knows, default_at, needed_at, defaulted, needed, each}
+use Rattle.qp_document.specs.Values.{number_of, name_of, tables_of, some_tables, texts_of, vars_of, some_vars, named_vars, all_integers, with_first, all_of_kind, items_of_kind, allowed}
+use Rattle.qp_document.specs.Tables.{read_tables, pool_at, signal_at, timer_at, state_at, chart_at, object_at, raw_of}
+use Rattle.qp_document.proofs.ReadLemmas.{bind-Ok, ok-same}
 
 abbrev Word : Type 0
 Word = List ℕ

@@ -1,5 +1,6 @@
 pub mod Counts
 pub mod DirShelf
+pub mod Gathering
 pub mod Limits
 pub mod MemShelf
 pub mod MemSink

@@ -9,15 +9,13 @@ use Rattle.std.proofs.lemmas.Iterator.Adapters.{position_from-zero}
 use Rattle.std.proofs.lemmas.Option.{slice_get-map, slice_get-get_or}
 use Rattle.arrayvec.specs.ArrayString.{ArrayString}
 use Rattle.qp_language.specs.Terms.{Word}
-use Rattle.qp_chart.specs.Binding.{is_named, words, has_word, knows, reaches, named, Binds}
+use Rattle.qp_chart.specs.Binding.{named, Binds}
+use Rattle.qp_names.specs.Known.{is_named, words, has_word, knows, reaches}
 use Rattle.qp_chart.specs.Expr.{InRange}
+use Rattle.qp_names.proofs.KnownLemmas.{any_named}
 use Rattle.qp_language.specs.Terms.{Var}
 use Rattle.qp_chart.specs.declared.expression.Bound as bound
 use Rattle.std.specs.Option.{unwrap_or}
-
-pub any_named : (name : Word) (vars : List ArrayString) → list_any (is_named name) vars ≡ has_word (words vars) name
-any_named name [] = refl
-any_named name (v ∷ vars) = ap (λ b. pointwise nat_eq v.bytes name || b) (any_named name vars)
 
 no_place_from : (name : Word) (k : ℕ) (vars : List ArrayString) → position_from (is_named name) k vars ≡ None → list_any (is_named name) vars ≡ false
 no_place_from name k [] h = refl

@@ -5,29 +5,20 @@ use Rattle.std.specs.Option.{is_none}
 use Rattle.std.specs.List.{list_any}
 use Rattle.std.specs.Str.{bytes_eq}
 use Rattle.arrayvec.specs.ArrayString.{ArrayString}
-use Rattle.qp_chart.specs.declared.place.Part.{Part}
-use Rattle.qp_chart.specs.declared.place.Part.TheVariants.{Key, Pos}
-use Rattle.qp_chart.specs.Keys.{STATE, TIMER, SIGNAL, ROW, NAME, PARENT, ENTRY, EXIT, INIT, INIT_DO, ON, WHEN, DO, TO}
-use Rattle.qp_chart.specs.Codes.{RANGE, DOUBLE, NO_SUCH_NAME, INIT_NOT_BELOW, TWO_ROWS}
-use Rattle.qp_chart.specs.declared.raw.RawChart.{RawChart}
-use Rattle.qp_chart.specs.declared.raw.RawTimer.{RawTimer}
-use Rattle.qp_chart.specs.declared.raw.RawState.{RawState}
-use Rattle.qp_chart.specs.declared.raw.RawRow.{RawRow}
-use Rattle.qp_chart.specs.declared.raw.Names.{Names}
-use Rattle.qp_chart.specs.Faults.{Fault, fault, fault_if, first_of, first_in}
-use Rattle.qp_chart.specs.RawNumbers.{state_names, timer_names, state_number, signal_number}
+use Rattle.qp_names.specs.declared.place.Part.{Part}
+use Rattle.qp_names.specs.declared.place.Part.TheVariants.{Key, Pos}
+use Rattle.qp_names.specs.Keys.{STATE, TIMER, SIGNAL, ROW, PARENT, ENTRY, EXIT, INIT, INIT_DO, ON, WHEN, DO, TO}
+use Rattle.qp_names.specs.Codes.{RANGE, INIT_NOT_BELOW, TWO_ROWS}
+use Rattle.qp_names.specs.declared.raw.RawChart.{RawChart}
+use Rattle.qp_names.specs.declared.raw.RawTimer.{RawTimer}
+use Rattle.qp_names.specs.declared.raw.RawState.{RawState}
+use Rattle.qp_names.specs.declared.raw.RawRow.{RawRow}
+use Rattle.qp_names.specs.declared.raw.Names.{Names}
+use Rattle.qp_names.specs.Faults.{Fault, fault_if, first_of, first_in}
+use Rattle.qp_names.specs.NameFaults.{undeclared, undeclared_key, doubles_fault}
+use Rattle.qp_names.specs.RawNumbers.{state_number, signal_number}
 use Rattle.qp_chart.specs.Parents.{parents_of, tree_fault, is_below_in}
-use Rattle.qp_chart.specs.ActionFaults.{is_static, params_of, texts_fault, when_fault}
-
--- a name that isn't declared
-abbrev pub undeclared : Option ℕ → List Part → Option Fault
-undeclared None place = fault NO_SUCH_NAME place
-undeclared (Some n) place = None
-
--- an optional key whose name isn't declared
-abbrev pub undeclared_key : (List ℕ → Option ℕ) → Option ArrayString → List Part → Option Fault
-undeclared_key number None place = None
-undeclared_key number (Some name) place = undeclared (number name.bytes) place
+use Rattle.qp_names.specs.ActionFaults.{is_static, params_of, texts_fault, when_fault}
 
 -- the place of a state
 abbrev pub state_place : ℕ → List Part
@@ -36,18 +27,6 @@ state_place k = Key STATE ∷ Pos k ∷ []
 -- the place of a row of a state
 abbrev pub row_place : ℕ → ℕ → List Part
 row_place k j = Key STATE ∷ Pos k ∷ Key ROW ∷ Pos j ∷ []
-
--- an earlier thing has the name of the k-th
-unfoldable pub double_at : ℕ → List (List ℕ) → ℕ → List ℕ → Option Fault
-double_at list names k name = fault_if (list_any (bytes_eq name) (take (k - 1) names)) DOUBLE (Key list ∷ Pos k ∷ Key NAME ∷ [])
-
--- the first name that stands twice among those of the things in the list at this key
-unfoldable pub double_fault : ℕ → List (List ℕ) → Option Fault
-double_fault list names = first_in (double_at list names) 1 names
-
--- the first name that stands twice among the time events, or among the states
-unfoldable pub doubles_fault : RawChart → Option Fault
-doubles_fault chart = first_of (double_fault TIMER (timer_names chart.timer) ∷ double_fault STATE (state_names chart.state) ∷ [])
 
 -- an earlier row has the same signal and no guard
 abbrev pub is_covered : List RawRow → RawRow → Bool

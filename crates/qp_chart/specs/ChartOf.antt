@@ -2,28 +2,21 @@
 use Rattle.std.specs.Prelude.{◌≡◌, ℕ, List, Some, None}
 use Rattle.std.specs.declared.option.Option.{Option}
 use Rattle.arrayvec.specs.ArrayString.{ArrayString}
-use Rattle.qp_chart.specs.declared.raw.RawChart.{RawChart}
-use Rattle.qp_chart.specs.declared.raw.RawTimer.{RawTimer}
-use Rattle.qp_chart.specs.declared.raw.RawState.{RawState}
-use Rattle.qp_chart.specs.declared.raw.RawRow.{RawRow}
-use Rattle.qp_chart.specs.declared.raw.Names.{Names}
+use Rattle.qp_names.specs.declared.raw.RawChart.{RawChart}
+use Rattle.qp_names.specs.declared.raw.RawTimer.{RawTimer}
+use Rattle.qp_names.specs.declared.raw.RawState.{RawState}
+use Rattle.qp_names.specs.declared.raw.RawRow.{RawRow}
+use Rattle.qp_names.specs.declared.raw.Names.{Names}
 use Rattle.qp_chart.specs.declared.actions.Act.{Act}
 use Rattle.qp_chart.specs.declared.checked.Timer.{Timer}
 use Rattle.qp_chart.specs.declared.checked.Row.{Row}
 use Rattle.qp_chart.specs.declared.checked.State.{State}
 use Rattle.qp_chart.specs.declared.checked.Chart.{Chart}
-use Rattle.qp_chart.specs.Pairs.{Corresponds}
-use Rattle.qp_chart.specs.RawNumbers.{state_number, signal_number}
+use Rattle.qp_names.specs.Pairs.{Corresponds}
+use Rattle.qp_names.specs.RawNumbers.{Refers, state_number, signal_number}
 use Rattle.qp_chart.specs.Parents.{parent_number}
-use Rattle.qp_chart.specs.ActionFaults.{params_of}
+use Rattle.qp_names.specs.ActionFaults.{params_of}
 use Rattle.qp_chart.specs.ActionOf.{IsActOfText, IsGuardOf}
-
--- an optional key and the number of what it names
-abbrev pub Refers : (List ℕ → Option ℕ) → Option ArrayString → Option ℕ → Type 0
-Refers number None None = Unit {0}
-Refers number None (Some n) = ⊥
-Refers number (Some name) None = ⊥
-Refers number (Some name) (Some n) = number name.bytes ≡ Some n
 
 -- the actions of some texts
 abbrev pub AreActsOf : Names → RawChart → Option ℕ → List (List ℕ) → List Act → Type 0

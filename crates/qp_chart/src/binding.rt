@@ -3,10 +3,12 @@
 ghost use Rattle.std.specs.Prelude.{◌≡◌, ◌<◌, ◌≤◌, false, true, length, slice_get, IfOk, IfErr, IfSome, IfNone};
 ghost use Rattle.qp_language.specs.Terms.{term_of};
 ghost use Rattle.std.specs.List.{list_any, position};
-ghost use Rattle.qp_chart.specs.Binding.{is_named, words, has_word, knows, Binds, IsCause};
+ghost use Rattle.qp_chart.specs.Binding.{Binds, IsCause};
+ghost use Rattle.qp_names.specs.Known.{is_named, words, has_word, knows};
 
 use crate::expression::Bound;
 use qp_language::{Expr, Name};
+use qp_names::known::is_known;
 use std::alloc::{AllocError, AllocFailed, Global};
 
 /// Why the names of an expression are not resolved.
@@ -57,24 +59,8 @@ pub fn bind(alloc: Global, e: &Expr, vars: &[Name], params: u8) -> Result<Bound,
     }
 }
 
-// Whether each variable of the expression is one of `vars`.
-#[tactic(auto, unfolding(qp_language::specs::Terms::term_of, crate::specs::Binding::knows))]
-pub(crate) fn is_known(e: &Expr, vars: &[Name]) -> bool
-    ensures { result ≡ knows (words vars.now) (term_of e.now) }
-{
-    match e {
-        Expr::Num(_) | Expr::Ok | Expr::Me | Expr::Par(_) => true,
-        Expr::Var(name) => has_name(name, vars),
-        Expr::One(_, x) => is_known(x, vars),
-        Expr::Two(_, x, y) => {
-            let left = is_known(x, vars);
-            left && is_known(y, vars)
-        }
-    }
-}
-
 // The bound expression, or the first fault from the left.
-#[tactic(auto, unfolding(qp_language::specs::Terms::term_of, crate::specs::Binding::knows, crate::specs::Binding::reaches, crate::specs::Binding::named, crate::specs::Expr::InRange))]
+#[tactic(auto, unfolding(qp_language::specs::Terms::term_of, qp_names::specs::Known::knows, qp_names::specs::Known::reaches, crate::specs::Binding::named, crate::specs::Expr::InRange))]
 fn resolve(alloc: Global, e: &Expr, vars: &[Name], params: u8) -> Result<Bound, BindFault>
     requires { length vars.now ≤ 16 }
     ensures ok { IfOk result (Binds (words vars.now) params (term_of e.now)) }
@@ -112,11 +98,4 @@ fn place(name: &Name, vars: &[Name]) -> Option<usize>
     ensures { result ≡ position (is_named name.now.bytes) vars.now }
 {
     vars.iter().position(|v| v == name)
-}
-
-// Whether a name is among the variables.
-fn has_name(name: &Name, vars: &[Name]) -> bool
-    ensures { result ≡ list_any (is_named name.now.bytes) vars.now }
-{
-    vars.iter().any(|v| v == name)
 }

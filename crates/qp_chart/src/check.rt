@@ -1,25 +1,22 @@
 //! The check that makes a chart of what a file says.
 ghost use Rattle.std.specs.Prelude.{◌≡◌, ◌≤◌, length, map, None, IfOk, IfErr};
-ghost use Rattle.qp_chart.specs.Faults.{IsFault, first_in};
+ghost use Rattle.qp_names.specs.Faults.{IsFault, first_in};
 ghost use Rattle.qp_chart.specs.Parents.{parents_of, parent_number};
 ghost use Rattle.qp_chart.specs.ChartFaults.{chart_fault, frame_fault, timer_fault, parent_at};
-ghost use Rattle.qp_chart.specs.Pairs.{Corresponds};
+ghost use Rattle.qp_names.specs.Pairs.{Corresponds};
 ghost use Rattle.qp_chart.specs.ChartOf.{IsTimerOf, IsChartOf};
 ghost use Rattle.qp_chart.specs.LegalTree.{IsLegal};
-ghost use Rattle.qp_chart.specs.Readable.{IsReadable};
+ghost use Rattle.qp_names.specs.Readable.{IsReadable};
 
-use crate::checked::{Chart, Timer, Timers, Vars};
-use crate::fault::ChartFault;
-use crate::fit::signal_is_static;
+use crate::checked::{Chart, Timer, Timers};
 use crate::parents::check_tree;
-use crate::place::Part;
-use crate::raw::{Names, RawChart, RawState, RawTimer};
-use crate::scope::Scope;
 use crate::state_check::checked_states;
 use crate::statements::checked_acts;
-use crate::tables::tables_of;
-use crate::{code, key};
 use qp_language::Name;
+use qp_names::fit::signal_is_static;
+use qp_names::{
+    ChartFault, Names, Part, RawChart, RawState, RawTimer, Scope, Vars, code, key, tables_of,
+};
 use std::alloc::{AllocError, Global};
 
 impl Chart {

@@ -5,6 +5,7 @@ ghost use Rattle.std.specs.Option.{option_copied};
 use crate::actions::{Act, Acts};
 use crate::expression::Bound;
 use qp_language::Name;
+use qp_names::Vars;
 use std::marker::Model;
 
 /// A row of a state: on which signal, under which guard, what is done, and to which state.
@@ -192,30 +193,6 @@ impl Model for Timers {
     ghost Value = { List Timer };
 
     ghost view = { λ b. b.items.items };
-}
-
-/// Variables with their first values, in ascending name. Contracts see the list.
-#[derive(Drop)]
-pub struct Vars {
-    pub items: Vec<(Name, i64)>,
-}
-
-impl Model for Vars {
-    ghost use Rattle.std.specs.Prelude.{List, ℤ};
-    ghost use Rattle.arrayvec.specs.ArrayString.{ArrayString};
-
-    ghost Value = { List (ArrayString × ℤ) };
-
-    ghost view = { λ b. b.items.items };
-}
-
-impl Vars {
-    /// The list as a slice.
-    pub fn as_slice(&self) -> &[(Name, i64)]
-        ensures { result.now ≡ self.now }
-    {
-        self.items.as_slice()
-    }
 }
 
 /// A chart whose names are resolved.

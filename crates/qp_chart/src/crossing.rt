@@ -2,9 +2,8 @@
 
 use crate::checked::Chart;
 use crate::expression::Bound;
-use crate::place::Path;
-use crate::raw::{Names, RawChart};
 use qp_language::Expr;
+use qp_names::{Names, Path, RawChart};
 
 fn crosses<T: Send + Sync>() {}
 

@@ -1,19 +1,18 @@
 //! Actions with their names resolved.
 ghost use Rattle.std.specs.Prelude.{◌≡◌, All, Some, None, map, true, IfOk, IfErr};
 ghost use Rattle.std.specs.Option.{is_some};
-ghost use Rattle.qp_chart.specs.Pairs.{Corresponds};
+ghost use Rattle.qp_names.specs.Pairs.{Corresponds};
 ghost use Rattle.qp_language.specs.Terms.{term_of, event_of, order_of, command_of, address_of};
-ghost use Rattle.qp_chart.specs.RawNumbers.{signal_number, timer_number, variable_number};
-ghost use Rattle.qp_chart.specs.ActionFaults.{IsAllowed, IsSound, command_known, command_in_range, command_fits, event_known, event_fits, receiver_known, is_byte, params_in};
+ghost use Rattle.qp_names.specs.RawNumbers.{signal_number, timer_number, variable_number};
+ghost use Rattle.qp_names.specs.ActionFaults.{IsAllowed, IsSound, command_known, command_in_range, command_fits, event_known, event_fits, receiver_known, is_byte, params_in};
 ghost use Rattle.qp_chart.specs.ActionOf.{IsBoundOf, IsTargetOf, IsEventOf, IsByteOf, IsPlainOf, IsActOf};
-ghost use Rattle.qp_chart.specs.Faults.{IsFault};
+ghost use Rattle.qp_names.specs.Faults.{IsFault};
 
 use crate::actions::{Act, Plain, Plains, Target};
 use crate::binding::{BindFault, bind};
 use crate::expression::{Bound, Bounds};
-use crate::fault::ChartFault;
-use crate::scope::Scope;
 use qp_language::{Action, EventTree, Expr, Name, PlainAction, Receiver};
+use qp_names::{ChartFault, Scope};
 use std::alloc::Global;
 
 /// An expression whose names are declared.
@@ -126,7 +125,7 @@ fn event(
 }
 
 /// An action that may stand within `locked`.
-#[tactic(auto, unfolding(qp_language::specs::Terms::order_of, crate::specs::ActionFaults::order_known, crate::specs::ActionFaults::order_in_range, crate::specs::ActionFaults::order_fits, crate::specs::ActionOf::IsPlainOf))]
+#[tactic(auto, unfolding(qp_language::specs::Terms::order_of, qp_names::specs::ActionFaults::order_known, qp_names::specs::ActionFaults::order_in_range, qp_names::specs::ActionFaults::order_fits, crate::specs::ActionOf::IsPlainOf))]
 fn resolved_plain(
     alloc: Global,
     scope: &Scope<'_>,
@@ -223,7 +222,7 @@ fn resolved_plains(
 }
 
 /// An action. `inside` is the number of parameters of the row's signal; `None` stands outside a row.
-#[tactic(auto, unfolding(qp_language::specs::Terms::command_of, crate::specs::ActionFaults::command_known, crate::specs::ActionFaults::command_in_range, crate::specs::ActionFaults::command_fits, crate::specs::ActionOf::IsActOf))]
+#[tactic(auto, unfolding(qp_language::specs::Terms::command_of, qp_names::specs::ActionFaults::command_known, qp_names::specs::ActionFaults::command_in_range, qp_names::specs::ActionFaults::command_fits, crate::specs::ActionOf::IsActOf))]
 pub(crate) fn resolved(
     alloc: Global,
     scope: &Scope<'_>,

@@ -1,22 +1,19 @@
 //! Actions and guards of a chart, from their texts.
 ghost use Rattle.std.specs.Prelude.{◌≡◌, ◌+◌, ◌≤◌, ◌∷◌, ◌++◌, [], length, None, IfOk, IfErr};
-ghost use Rattle.qp_chart.specs.declared.place.Part.TheVariants.{Key};
-ghost use Rattle.qp_chart.specs.Keys.{WHEN};
+ghost use Rattle.qp_names.specs.declared.place.Part.TheVariants.{Key};
+ghost use Rattle.qp_names.specs.Keys.{WHEN};
 ghost use Rattle.qp_language.specs.Reading.{term_of_text};
-ghost use Rattle.qp_chart.specs.Pairs.{Corresponds};
-ghost use Rattle.qp_chart.specs.Faults.{IsFault};
-ghost use Rattle.qp_chart.specs.ActionFaults.{text_fault, texts_fault, when_fault, guard_fault};
+ghost use Rattle.qp_names.specs.Pairs.{Corresponds};
+ghost use Rattle.qp_names.specs.Faults.{IsFault};
+ghost use Rattle.qp_names.specs.ActionFaults.{text_fault, texts_fault, when_fault, guard_fault};
 ghost use Rattle.qp_chart.specs.ActionOf.{IsActOfText, IsBoundOfText, IsGuardOf};
 
 use crate::actions::{Act, Acts};
 use crate::expression::Bound;
-use crate::fault::ChartFault;
-use crate::fit::{is_fit, is_in_range, is_known, reaches};
-use crate::place::Part;
 use crate::resolve::{bound, resolved};
-use crate::scope::Scope;
-use crate::{code, key};
 use qp_language::{ExprFault, Text, read_action, read_expr};
+use qp_names::fit::{is_fit, is_in_range, is_known, reaches};
+use qp_names::{ChartFault, Part, Scope, code, key};
 use std::alloc::Global;
 
 /// The actions of the texts in the list at this key. `inside` is the number of parameters of the row's signal; `None` stands outside a row.

@@ -1,8 +1,8 @@
 //! The agendas of a chart of two states, and lists that follow it.
 
 ghost use Rattle.std.specs.Prelude.{◌≡◌, true, length, IsTrue, IfOk};
-ghost use Rattle.qp_chart.specs.declared.raw.Names.{Names};
-ghost use Rattle.qp_chart.specs.Readable.{IsReadable, IsReadableState};
+ghost use Rattle.qp_names.specs.declared.raw.Names.{Names};
+ghost use Rattle.qp_names.specs.Readable.{IsReadable, IsReadableState};
 ghost use Rattle.qp_model.specs.declared.systems.System.{System};
 ghost use Rattle.qp_model.specs.declared.systems.ObjectDef.{ObjectDef};
 ghost use Rattle.qp_model.specs.Able.{state_able, chart_able};

@@ -15,6 +15,4 @@ pub use grammar_laws::{one_action, one_expression};
 pub use operators::{Binary, Unary};
 pub use parser::read_expr;
 pub use text::{Name, Text, Texts};
-pub use trees::{
-    Action, EventTree, Expr, ExprFault, Exprs, PlainAction, PlainActions, Receiver,
-};
+pub use trees::{Action, EventTree, Expr, ExprFault, Exprs, PlainAction, PlainActions, Receiver};

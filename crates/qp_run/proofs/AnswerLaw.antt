@@ -6,8 +6,8 @@ use Rattle.qp_base.specs.Limits.{file_limit}
 use Rattle.qp_model.specs.declared.stimulus.Stim.{Stim}
 use Rattle.qp_model.specs.declared.systems.System.{System}
 use Rattle.qp_stim.specs.Stimuli.{Fault, stimuli_of}
-use Rattle.qp_system.specs.declared.fault.SystemFault.{SystemFault}
-use Rattle.qp_system.specs.declared.fault.SystemFault.TheVariants.{Memory as NoMemory}
+use Rattle.qp_document.specs.declared.fault.SystemFault.{SystemFault}
+use Rattle.qp_document.specs.declared.fault.SystemFault.TheVariants.{Memory as NoMemory}
 use Rattle.qp_system.specs.SystemOf.{IsSystemOf, RefusesSystem}
 use Rattle.qp_system.proofs.LawLemmas.{systems_have_no_fault, refusals_are_one}
 use Rattle.qp_run.specs.declared.status.Status.{Status}

@@ -6,14 +6,14 @@ use Rattle.std.proofs.lemmas.List.{length-map}
 use Rattle.qp_chart.specs.declared.checked.Chart.{Chart}
 use Rattle.qp_chart.specs.declared.checked.Row.{Row}
 use Rattle.qp_chart.specs.declared.checked.State.{State}
-use Rattle.qp_chart.specs.RawNumbers.{variable_names}
+use Rattle.qp_names.specs.RawNumbers.{variable_names}
 use Rattle.qp_language.specs.Terms.{Word}
 use Rattle.qp_model.specs.declared.systems.SignalDef.{SignalDef}
 use Rattle.qp_model.specs.declared.systems.System.{System}
 use Rattle.qp_system.specs.Deeds.{deeds_of, guard_of}
 use Rattle.qp_system.specs.Same.{bare_signal, bare_object, RowSaid, row_said, StateSaid, state_said, ChartSaid, chart_said, SayTheSame}
 use Rattle.qp_system.specs.SystemOf.{IsSystemOf}
-use Rattle.qp_system.specs.Views.{vars_view}
+use Rattle.qp_document.specs.Views.{vars_view}
 use Rattle.qp_system.proofs.SameLemmas.{systems_are_one}
 use Rattle.qp_run.specs.Thin.{is_thin_row, is_thin_state, is_thin_chart, is_thin_object, is_only, is_thin}
 

@@ -1,6 +1,6 @@
 -- The number of an answer, and the line about it.
 use Rattle.std.specs.Prelude.{codes, ℕ, decimal, Bool, true, false, List, [], ◌++◌, Option}
-use Rattle.qp_chart.specs.Paths.{path_text}
+use Rattle.qp_names.specs.Paths.{path_text}
 use Rattle.qp_run.specs.declared.place.Place as place
 use Rattle.qp_run.specs.declared.place.Place.TheVariants.{Nowhere, Path, Line, Offset}
 use Rattle.qp_run.specs.WordTable.{Asked, operand_in}

@@ -1,14 +1,7 @@
 pub mod PairLemmas
-pub mod FrontLemmas
-pub mod KeyLemmas
-pub mod VarsLemmas
-pub mod DocumentLemmas
 pub mod PassLemmas
 pub mod PlacingLemmas
 pub mod ShortLemmas
-pub mod ReadLemmas
-pub mod RangeLemmas
-pub mod FewLemmas
 pub mod NamedLemmas
 pub mod BehindLemmas
 pub mod OrderLemmas

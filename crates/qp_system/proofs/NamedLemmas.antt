@@ -7,12 +7,12 @@ use Rattle.std.specs.Str.{bytes_eq}
 use Rattle.std.proofs.lemmas.Bool.Decides.{nat_tests}
 use Rattle.std.proofs.lemmas.Cmp.{nat_list_eq_equiv}
 use Rattle.std.proofs.lemmas.Option.{none-some}
-use Rattle.qp_chart.specs.Numbering.{number_in}
-use Rattle.qp_chart.specs.declared.raw.RawChart.{RawChart}
+use Rattle.qp_names.specs.Numbering.{number_in}
+use Rattle.qp_names.specs.declared.raw.RawChart.{RawChart}
 use Rattle.qp_system.specs.Between.{chart_named}
 use Rattle.qp_system.specs.SystemOf.{chart_names}
 use Rattle.qp_system.specs.Placed.{chart_place}
-use Rattle.qp_system.specs.Views.{chart_view}
+use Rattle.qp_document.specs.Views.{chart_view}
 use Rattle.qp_system.proofs.PlacingLemmas.{find-map}
 
 -- a number is no less than the first one

@@ -8,18 +8,18 @@ use Rattle.std.proofs.lemmas.List.{take_more, map-append, length-map}
 use Rattle.std.proofs.lemmas.List.Sums.{sum_by-append}
 use Rattle.std.proofs.lemmas.Bool.Decides.{nat_tests}
 use Rattle.arrayvec.specs.ArrayString.{ArrayString}
-use Rattle.qp_chart.specs.declared.place.Part.TheVariants.{Key, Pos}
-use Rattle.qp_chart.specs.Keys.{CHART, OBJECT, VARS, PRIORITY, THRESHOLD}
-use Rattle.qp_chart.specs.Codes.{RANGE, DOUBLE, NO_SUCH_NAME, TOO_MANY}
-use Rattle.qp_chart.specs.declared.raw.RawChart.{RawChart}
-use Rattle.qp_chart.specs.Faults.{Fault}
-use Rattle.qp_system.specs.declared.fault.SystemFault.{SystemFault}
-use Rattle.qp_system.specs.declared.raw.RawObject.{RawObject}
-use Rattle.qp_system.specs.Raw.{Chart, Object}
+use Rattle.qp_names.specs.declared.place.Part.TheVariants.{Key, Pos}
+use Rattle.qp_names.specs.Keys.{CHART, OBJECT, VARS, PRIORITY, THRESHOLD}
+use Rattle.qp_names.specs.Codes.{RANGE, DOUBLE, NO_SUCH_NAME, TOO_MANY}
+use Rattle.qp_names.specs.declared.raw.RawChart.{RawChart}
+use Rattle.qp_names.specs.Faults.{Fault}
+use Rattle.qp_document.specs.declared.fault.SystemFault.{SystemFault}
+use Rattle.qp_document.specs.declared.raw.RawObject.{RawObject}
+use Rattle.qp_document.specs.Raw.{Chart, Object}
 use Rattle.qp_system.specs.Between.{chart_named, has_vars, timers_of, placing_fault}
 use Rattle.qp_system.specs.Passes.{IsFirst}
-use Rattle.qp_system.specs.Refused.{fault_at}
-use Rattle.qp_system.specs.Views.{vars_view, timer_view, chart_view, object_view}
+use Rattle.qp_document.specs.Refused.{fault_at}
+use Rattle.qp_document.specs.Views.{vars_view, timer_view, chart_view, object_view}
 use Rattle.qp_system.proofs.PassLemmas.{first-head, first-tail, none-head, none-end, fault_if-holds, fault_if-fails, list_any-map}
 
 pick : {X A : Type 0} (view : X → A) (b : Bool) (x : X) (l : Option A) (r : Option X) → l ≡ option_map view r

@@ -1,17 +1,7 @@
-pub mod Raw
-pub mod Tree
-pub mod Names
-pub mod Values
-pub mod Tables
 pub mod Between
 pub mod Passes
-pub mod Few
 pub mod Within
 pub mod Later
-pub mod Refused
-pub mod Views
-pub mod Front
-pub mod Document
 pub mod Checked
 pub mod SystemOf
 pub mod Placed

@@ -2,12 +2,10 @@
 
 ghost use Rattle.std.specs.Prelude.{◌⊎◌, IfOk, IfErr};
 ghost use Rattle.qp_system.specs.Checked.{HasLater, IsChecked};
-ghost use Rattle.qp_system.specs.Document.{RefusesBytes};
+ghost use Rattle.qp_document.specs.Document.{RefusesBytes};
 
-use crate::document::raw_of_bytes;
-use crate::fault::SystemFault;
 use crate::phases::charts_of;
-use crate::raw::RawSystem;
+use qp_document::{RawSystem, SystemFault, raw_of_bytes};
 use qp_model::Charts;
 use std::alloc::Global;
 

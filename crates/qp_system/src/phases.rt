@@ -2,17 +2,16 @@
 
 ghost use Rattle.std.specs.Prelude.{◌≤◌, length, All, IfOk};
 ghost use Rattle.qp_chart.specs.ChartOf.{IsChartOf};
-ghost use Rattle.qp_chart.specs.Pairs.{Corresponds};
-ghost use Rattle.qp_system.specs.Few.{IsFewChart, IsFew};
+ghost use Rattle.qp_names.specs.Pairs.{Corresponds};
+ghost use Rattle.qp_document.specs.Few.{IsFewChart, IsFew};
 ghost use Rattle.qp_system.specs.Later.{later_of, later_fault};
 ghost use Rattle.qp_system.specs.Passes.{Passes};
 ghost use Rattle.qp_system.specs.Within.{names_of};
 
 use crate::between::{pools_pass, tables_pass};
 use crate::charts::{checked_charts, outer_names};
-use crate::fault::SystemFault;
-use crate::raw::{RawObject, RawSystem};
 use qp_chart::RawChart;
+use qp_document::{RawObject, RawSystem, SystemFault};
 use qp_model::{Charts, PoolDef, SignalDef};
 use std::alloc::Global;
 

@@ -1,5 +1,5 @@
 use Rattle.qp_language.specs.Terms.{event_of}
-use Rattle.qp_chart.proofs.TestLemmas.{and-left, and-right, All-sound}
+use Rattle.qp_names.proofs.TestLemmas.{and-left, and-right, All-sound}
 use Rattle.qp_chart.proofs.resolve.event.Goals as goal
 
 pub declared_signal-signal-requires : goal.declared_signal-signal-requires

@@ -1,6 +1,6 @@
 use Rattle.qp_language.specs.Terms.{command_of}
-use Rattle.qp_chart.specs.ActionFaults.{command_known, command_in_range, command_fits}
-use Rattle.qp_chart.proofs.TestLemmas.{and-right, All-allowed}
+use Rattle.qp_names.specs.ActionFaults.{command_known, command_in_range, command_fits}
+use Rattle.qp_names.proofs.TestLemmas.{and-right, All-allowed}
 use Rattle.qp_chart.proofs.resolve.resolved.Goals as goal
 
 pub resolved_plains-requires : goal.resolved_plains-requires

@@ -1,8 +1,8 @@
 use Rattle.std.proofs.Common.{not, ap}
 use Rattle.std.proofs.lemmas.Result.{IfOk-weaker}
-use Rattle.qp_chart.specs.ActionFaults.{guard_fault}
+use Rattle.qp_names.specs.ActionFaults.{guard_fault}
 use Rattle.qp_language.specs.Terms.{term_of}
-use Rattle.qp_chart.proofs.FaultLemmas.{found-first, found-next, none-next, none-last, fault_if-true, fault_if-false}
+use Rattle.qp_names.proofs.FaultLemmas.{found-first, found-next, none-next, none-last, fault_if-true, fault_if-false}
 use Rattle.qp_chart.proofs.statements.checked_expr.Goals as goal
 
 pub returns-in-Err-Bad-clause-fault : goal.returns-in-Err-Bad-clause-fault

@@ -1,8 +1,8 @@
 use Rattle.std.proofs.Common.{◌∙◌, sym, ap}
 use Rattle.std.proofs.lemmas.List.{take_all}
 use Rattle.std.proofs.lemmas.Result.{err_from_is_err_and}
-use Rattle.qp_chart.specs.declared.raw.RawChart.{RawChart}
-use Rattle.qp_chart.specs.Faults.{first_in}
+use Rattle.qp_names.specs.declared.raw.RawChart.{RawChart}
+use Rattle.qp_names.specs.Faults.{first_in}
 use Rattle.qp_chart.specs.ChartOf.{IsChartOf}
 use Rattle.qp_system.specs.Within.{within_chart, charts_fault}
 use Rattle.qp_system.proofs.PassLemmas.{passed-none, passed-one, passed-at, passed-all, pair-none, pair-more, map-same}

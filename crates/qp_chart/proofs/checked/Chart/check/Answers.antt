@@ -1,7 +1,7 @@
 use Rattle.std.proofs.Common.{◌∙◌, refl}
 use Rattle.std.proofs.lemmas.Result.{err_from_is_err_and}
 use Rattle.qp_chart.specs.ChartFaults.{chart_fault}
-use Rattle.qp_chart.proofs.FaultLemmas.{found-first, found-next, none-next, none-last, undeclared-None}
+use Rattle.qp_names.proofs.FaultLemmas.{found-first, found-next, none-next, none-last, undeclared-None}
 use Rattle.qp_chart.proofs.LegalLemmas.{IsLegal-from}
 use Rattle.qp_chart.proofs.checked.Chart.check.Goals as goal
 

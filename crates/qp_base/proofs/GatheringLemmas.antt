@@ -1,0 +1,143 @@
+-- What goes on from a sink that gathers.
+use Rattle.std.proofs.Common.{◌≡◌, ℕ, ◌+◌, ◌-◌, List, [], ◌++◌, length, take, drop, Option, Some, None, IfSome, Result, Ok, Err, OnOk, OnErr, refl, sym, ◌∙◌, ap, subst, arith, append_assoc, length-append, length-take-le}
+use Rattle.std.proofs.lemmas.List.{append-nil, take-append-le, take_all, take-append-drop}
+use Rattle.qp_base.specs.Sink.{AppendsPrefix, appended}
+use Rattle.qp_base.specs.Gathering.{Goes, IsBegun, Went, put_of, told}
+use Rattle.qp_base.specs.declared.course.Course.{Course}
+use Rattle.qp_base.specs.declared.course.Course.TheVariants.{Open, Torn, Stopped}
+
+-- at first nothing went on
+pub fresh-goes : (below : Option (List ℕ)) (held : List ℕ) → IfSome below (λ w. w ≡ []) → Goes Open 0 held below
+unfolding Goes Went
+fresh-goes None held empty = tt
+fresh-goes (Some w) held empty = rw empty refl
+
+-- a whole piece went on
+pub went-on : (below after : Option (List ℕ)) (gone n : ℕ) (held left bytes : List ℕ) → Goes Open gone held below → after ≡ appended below bytes → n ≡ gone + length bytes → Goes Open n left after
+unfolding Goes Went
+went-on None after gone n held left bytes goes is count = rw is tt
+went-on (Some w) after gone n held left bytes goes is count = rw is (length-append w bytes ∙ ap (λ k. k + length bytes) goes ∙ sym count)
+
+-- what is put stays what it is while what is held goes on
+pub told-on : (below after : Option (List ℕ)) (gone n : ℕ) (held : List ℕ) → after ≡ appended below held → told Open n [] after ≡ told Open gone held below
+unfolding told put_of
+told-on None after gone n held is = rw is refl
+told-on (Some w) after gone n held is = rw is (ap Some (append-nil (w ++ held)))
+
+-- bytes that go on while nothing is held are put
+pub told-over : (below after : Option (List ℕ)) (gone n : ℕ) (bytes : List ℕ) → after ≡ appended below bytes → told Open n [] after ≡ appended (told Open gone [] below) bytes
+unfolding told put_of
+told-over None after gone n bytes is = rw is refl
+told-over (Some w) after gone n bytes is = rw is (ap Some (append-nil (w ++ bytes) ∙ ap (λ l. l ++ bytes) (sym (append-nil w))))
+
+-- bytes that are held are put
+pub told-held : (below : Option (List ℕ)) (gone : ℕ) (held bytes : List ℕ) → told Open gone (held ++ bytes) below ≡ appended (told Open gone held below) bytes
+unfolding told put_of
+told-held None gone held bytes = refl
+told-held (Some w) gone held bytes = ap Some (sym (append_assoc w held bytes))
+
+-- where nothing is held, what was put went on
+pub told-all : (below : Option (List ℕ)) (gone : ℕ) → told Open gone [] below ≡ below
+unfolding told put_of
+told-all None gone = refl
+told-all (Some w) gone = ap Some (append-nil w)
+
+-- no byte is a part of the bytes
+pub none-appended : (below : Option (List ℕ)) (bytes : List ℕ) → AppendsPrefix below bytes below
+none-appended None bytes = (0, omega arith, refl)
+none-appended (Some w) bytes = (0, omega arith, ap Some (sym (append-nil w)))
+
+-- of a torn piece some went on
+pub torn-goes : (below after : Option (List ℕ)) (gone : ℕ) (held : List ℕ) → Goes Open gone held below → AppendsPrefix below held after → Goes Torn gone held after
+unfolding Goes Went
+torn-goes None after gone held goes (k, few, is) = rw is tt
+torn-goes (Some w) after gone held goes (k, few, is) =
+    let cut : take gone (w ++ take k held) ≡ w = take-append-le gone w (take k held) (omega (arith, goes)) ∙ take_all gone w (omega (arith, goes)) in
+    let some : length (w ++ take k held) - gone ≡ k = omega (arith, length-append w (take k held), length-take-le k held few, goes) in
+    rw is (rw (cut, some) refl)
+
+-- a torn piece was put whole
+pub torn-told : (below after : Option (List ℕ)) (gone : ℕ) (held : List ℕ) → Goes Open gone held below → AppendsPrefix below held after → told Torn gone held after ≡ told Open gone held below
+unfolding Goes Went told put_of
+torn-told None after gone held goes (k, few, is) = rw is refl
+torn-told (Some w) after gone held goes (k, few, is) =
+    let cut : take gone (w ++ take k held) ≡ w = take-append-le gone w (take k held) (omega (arith, goes)) ∙ take_all gone w (omega (arith, goes)) in
+    rw is (ap (λ l. Some (l ++ held)) cut)
+
+-- of bytes that didn't go on whole some were put
+pub stopped-told : (below after : Option (List ℕ)) (gone n : ℕ) (left bytes : List ℕ) → AppendsPrefix below bytes after → AppendsPrefix (told Open gone [] below) bytes (told Stopped n left after)
+unfolding told put_of
+stopped-told None after gone n left bytes (k, few, is) = (k, few, rw is refl)
+stopped-told (Some w) after gone n left bytes (k, few, is) = (k, few, rw is (ap (λ l. Some (l ++ take k bytes)) (sym (append-nil w))))
+
+pub stopped-goes : (after : Option (List ℕ)) (gone : ℕ) (held : List ℕ) → Goes Stopped gone held after
+unfolding Goes Went
+stopped-goes None gone held = tt
+stopped-goes (Some w) gone held = tt
+
+-- what went on is the first part of what was put
+pub begun : (course : Course) (gone : ℕ) (held : List ℕ) (below : Option (List ℕ)) → Goes course gone held below → IsBegun below (told course gone held below)
+unfolding Goes Went told put_of
+begun course gone held None goes = tt
+begun Open gone held (Some w) goes = (held, refl)
+begun Stopped gone held (Some w) goes = ([], sym (append-nil w))
+begun Torn gone held (Some w) goes =
+    let m : ℕ = length w - gone in
+    let whole : take m held ++ drop m held ≡ held = take-append-drop m held in (
+      drop m held,
+      ap (λ l. take gone w ++ l) (sym whole) ∙ sym (append_assoc (take gone w) (take m held) (drop m held)) ∙ ap (λ l. l ++ drop m held) (sym goes),
+    )
+
+-- while all went on, it doesn't matter what is held
+pub held-goes : (course : Course) (gone : ℕ) (held left : List ℕ) (below : Option (List ℕ)) → course ≡ Open → Goes course gone held below → Goes course gone left below
+unfolding Goes Went
+held-goes course gone held left None going goes = tt
+held-goes course gone held left (Some w) going goes = rw going (rw going at goes)
+
+-- the same lemmas, where the course is told by its name
+pub went : (course : Course) (below after : Option (List ℕ)) (gone n : ℕ) (held left bytes : List ℕ) → course ≡ Open → Goes course gone held below → after ≡ appended below bytes → n ≡ gone + length bytes
+    → Goes course n left after
+went course below after gone n held left bytes going goes is count =
+    subst (λ c. Goes c n left after) (sym going) (went-on below after gone n held left bytes (subst (λ c. Goes c gone held below) going goes) is count)
+
+pub torn : (course : Course) (below after : Option (List ℕ)) (gone : ℕ) (held : List ℕ) → course ≡ Open → Goes course gone held below → AppendsPrefix below held after → Goes Torn gone held after
+torn course below after gone held going goes some = torn-goes below after gone held (subst (λ c. Goes c gone held below) going goes) some
+
+pub torn-put : (course : Course) (below after : Option (List ℕ)) (gone : ℕ) (held : List ℕ) → course ≡ Open → Goes course gone held below → AppendsPrefix below held after
+    → told Torn gone held after ≡ told course gone held below
+torn-put course below after gone held going goes some =
+    torn-told below after gone held (subst (λ c. Goes c gone held below) going goes) some ∙ ap (λ c. told c gone held below) (sym going)
+
+pub on-put : (course : Course) (below after : Option (List ℕ)) (gone n : ℕ) (held left : List ℕ) → course ≡ Open → left ≡ [] → after ≡ appended below held → told course n left after ≡ told course gone held below
+on-put course below after gone n held left going empty is = rw (going, empty) (told-on below after gone n held is)
+
+pub over-put : (course : Course) (below after : Option (List ℕ)) (gone n : ℕ) (held bytes : List ℕ) → course ≡ Open → held ≡ [] → after ≡ appended below bytes
+    → told course n held after ≡ appended (told course gone held below) bytes
+over-put course below after gone n held bytes going empty is = rw (going, empty) (told-over below after gone n bytes is)
+
+pub held-put : (course : Course) (below : Option (List ℕ)) (gone : ℕ) (held left bytes : List ℕ) → course ≡ Open → left ≡ held ++ bytes → told course gone left below ≡ appended (told course gone held below) bytes
+held-put course below gone held left bytes going is = rw (going, is) (told-held below gone held bytes)
+
+pub stopped-put : (course : Course) (below after : Option (List ℕ)) (gone n : ℕ) (held left bytes : List ℕ) → course ≡ Open → held ≡ [] → AppendsPrefix below bytes after
+    → AppendsPrefix (told course gone held below) bytes (told Stopped n left after)
+stopped-put course below after gone n held left bytes going empty some = rw (going, empty) (stopped-told below after gone n left bytes some)
+
+pub flushed : (course : Course) (gone : ℕ) (held : List ℕ) (below all : Option (List ℕ)) → told course gone held below ≡ all → course ≡ Open → held ≡ [] → below ≡ all
+flushed course gone held below all same going empty =
+    sym (told-all below gone) ∙ ap (λ c. told c gone [] below) (sym going) ∙ ap (λ h. told course gone h below) (sym empty) ∙ same
+
+-- facts that hold where a result is Ok, or an error
+pub on-ok : {A E : Type 0} (r : Result A E) (P Q R : Type 0) → (P → Q → R) → OnOk r P → OnOk r Q → OnOk r R
+on-ok (Ok x) P Q R step p q = step p q
+on-ok (Err e) P Q R step p q = tt
+
+pub on-err : {A E : Type 0} (r : Result A E) (P : Type 0) → P → OnErr r P
+on-err (Ok x) P p = tt
+on-err (Err e) P p = p
+
+-- of bytes that didn't go on whole some were put, also where the failure is counted then
+pub stopped : {A E : Type 0} (r : Result A E) (course later : Course) (below there after : Option (List ℕ)) (gone n : ℕ) (held left bytes : List ℕ) → course ≡ Open → held ≡ [] → AppendsPrefix below bytes there
+    → later ≡ Stopped → after ≡ there → OnErr r (AppendsPrefix (told course gone held below) bytes (told later n left after))
+stopped r course later below there after gone n held left bytes going empty some is same =
+    on-err r (AppendsPrefix (told course gone held below) bytes (told later n left after))
+    (rw (is, same) (stopped-put course below there gone n held left bytes going empty some))

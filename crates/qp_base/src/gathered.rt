@@ -1,0 +1,189 @@
+//! A sink over a sink, which hands on large pieces.
+
+ghost use Rattle.std.specs.Prelude.{◌≡◌, ◌≢◌, ◌+◌, ◌≤◌, [], length, vec_capacity, OnOk, OnErr, IfOk, IfSome, true, is_err};
+ghost use Rattle.qp_base.specs.Counts.{CountsIf};
+ghost use Rattle.qp_base.specs.Gathering.{Goes, Goes-prop, IsBegun, told};
+ghost use Rattle.qp_base.specs.Sink.{AppendsPrefix, appended};
+ghost use Rattle.qp_base.specs.declared.course.Course.TheVariants.{Open};
+
+use crate::course::Course;
+use crate::faults::Memory;
+use crate::sinks::{Sink, SinkFault};
+use std::alloc::Global;
+
+/// How many bytes are gathered before they go on.
+const ROOM: usize = 65536;
+
+/// A sink that gathers up to 64 KiB of what is put, and hands on whole pieces to another, in their order. A put takes no memory.
+///
+/// What the other got and what is still gathered are together what was put. After a piece that failed every put and every
+/// flush fails.
+#[derive(Drop)]
+pub struct Gathered<S: Sink + Drop> {
+    inner: S,
+    held: Vec<u8>,
+    gone: u64,
+    course: Course,
+    faults: u64,
+    ghost few: { length held.items ≤ 65536 },
+    ghost room: { 65536 ≤ vec_capacity held },
+    ghost goes: { Goes course gone held.items (S.written inner) } by { Goes-prop course gone held.items (S.written inner) },
+}
+
+impl<S: Sink + Drop> Gathered<S> {
+    /// A sink over one to which nothing was written yet, or which doesn't tell. It takes its memory at once.
+    pub fn new(alloc: Global, inner: S) -> Result<Gathered<S>, Memory>
+        requires fresh { IfSome (S.written inner) (λ w. w ≡ []) }
+        ensures inner { IfOk result (λ sink. sink.inner ≡ inner) }
+        ensures going { IfOk result (λ sink. sink.course ≡ Open) }
+        ensures held { IfOk result (λ sink. sink.held.items ≡ []) }
+        ensures faults { IfOk result (λ sink. sink.faults ≡ 0) }
+    {
+        match Vec::with_capacity(alloc, ROOM) {
+            Ok(held) => Ok(Gathered {
+                inner,
+                held,
+                gone: 0,
+                course: Course::Open,
+                faults: 0,
+            }),
+            Err(_) => Err(Memory),
+        }
+    }
+
+    /// The sink below, which got the first part of what was put.
+    pub fn inner(&self) -> &S
+        ensures inner { result.now ≡ self.now.inner }
+        ensures begun { IsBegun (S.written result.now) (told self.now.course self.now.gone self.now.held.items (S.written self.now.inner)) }
+    {
+        &self.inner
+    }
+
+    /// Hands on all that is gathered. It succeeds exactly where all that was put has gone on, and nothing is gathered then.
+    pub fn flush(&mut self) -> Result<(), SinkFault>
+        ensures told { told self.new.course self.new.gone self.new.held.items (S.written self.new.inner) ≡ told self.old.course self.old.gone self.old.held.items (S.written self.old.inner) }
+        ensures going { OnOk result (self.new.course ≡ Open) }
+        ensures held { OnOk result (self.new.held.items ≡ []) }
+        ensures ok { OnOk result (S.written self.new.inner ≡ told self.old.course self.old.gone self.old.held.items (S.written self.old.inner)) }
+        ensures closed { self.old.course ≢ Open → is_err result ≡ true }
+        ensures err { OnErr result (self.new.course ≢ Open) }
+        ensures faults { CountsIf (is_err result) self.old.faults self.new.faults }
+    {
+        match self.course {
+            Course::Open => self.hand_on(),
+            _ => self.fail(),
+        }
+    }
+
+    /// A put or a flush that fails: it is counted.
+    fn fail(&mut self) -> Result<(), SinkFault>
+        ensures err { is_err result ≡ true }
+        ensures inner { self.new.inner ≡ self.old.inner }
+        ensures held { self.new.held ≡ self.old.held }
+        ensures gone { self.new.gone ≡ self.old.gone }
+        ensures course { self.new.course ≡ self.old.course }
+        ensures faults { CountsIf true self.old.faults self.new.faults }
+        ensures faults_last { self.old.faults ≤ self.new.faults }
+    {
+        self.faults = self.faults.saturating_add(1);
+        Err(SinkFault::Failed)
+    }
+
+    /// Gathers bytes for which there is room.
+    fn gather(&mut self, bytes: &[u8])
+        requires going { self.old.course ≡ Open }
+        requires room { length self.old.held.items + length bytes.now ≤ 65536 }
+        ensures told { told self.new.course self.new.gone self.new.held.items (S.written self.new.inner) ≡ appended (told self.old.course self.old.gone self.old.held.items (S.written self.old.inner)) bytes.now }
+        ensures going { self.new.course ≡ Open }
+        ensures faults { self.new.faults ≡ self.old.faults }
+    {
+        self.held.extend_from_slice(bytes).unwrap();
+    }
+
+    /// Hands on what is gathered.
+    fn hand_on(&mut self) -> Result<(), SinkFault>
+        requires { self.old.course ≡ Open }
+        ensures told { told self.new.course self.new.gone self.new.held.items (S.written self.new.inner) ≡ told self.old.course self.old.gone self.old.held.items (S.written self.old.inner) }
+        ensures going { OnOk result (self.new.course ≡ Open) }
+        ensures held { OnOk result (self.new.held.items ≡ []) }
+        ensures err { OnErr result (self.new.course ≢ Open) }
+        ensures faults { CountsIf (is_err result) self.old.faults self.new.faults }
+        ensures faults_last { self.old.faults ≤ self.new.faults }
+    {
+        if self.held.is_empty() {
+            return Ok(());
+        }
+        let Some(gone) = self.gone.checked_add(self.held.len() as u64) else {
+            self.course = Course::Torn;
+            return self.fail();
+        };
+        match self.inner.put(self.held.as_slice()) {
+            Ok(()) => {
+                self.held.clear();
+                self.gone = gone;
+                Ok(())
+            }
+            Err(_) => {
+                self.course = Course::Torn;
+                self.fail()
+            }
+        }
+    }
+
+    /// Hands on bytes for which there is no room.
+    fn hand_over(&mut self, bytes: &[u8]) -> Result<(), SinkFault>
+        requires going { self.old.course ≡ Open }
+        requires held { self.old.held.items ≡ [] }
+        ensures ok { OnOk result (told self.new.course self.new.gone self.new.held.items (S.written self.new.inner) ≡ appended (told self.old.course self.old.gone self.old.held.items (S.written self.old.inner)) bytes.now) }
+        ensures prefix { OnErr result (AppendsPrefix (told self.old.course self.old.gone self.old.held.items (S.written self.old.inner)) bytes.now (told self.new.course self.new.gone self.new.held.items (S.written self.new.inner))) }
+        ensures going { OnOk result (self.new.course ≡ Open) }
+        ensures err { OnErr result (self.new.course ≢ Open) }
+        ensures faults { CountsIf (is_err result) self.old.faults self.new.faults }
+        ensures faults_last { self.old.faults ≤ self.new.faults }
+    {
+        let Some(gone) = self.gone.checked_add(bytes.len() as u64) else {
+            self.course = Course::Stopped;
+            return self.fail();
+        };
+        match self.inner.put(bytes) {
+            Ok(()) => {
+                self.gone = gone;
+                Ok(())
+            }
+            Err(_) => {
+                self.course = Course::Stopped;
+                self.fail()
+            }
+        }
+    }
+}
+
+impl<S: Sink + Drop> Sink for Gathered<S> {
+    ghost written = { λ s. told s.course s.gone s.held.items (S.written s.inner) };
+
+    ghost faults = { λ s. s.faults };
+
+    fn put(&mut self, bytes: &[u8]) -> Result<(), SinkFault>
+        ensures ok { OnOk result (told self.new.course self.new.gone self.new.held.items (S.written self.new.inner) ≡ appended (told self.old.course self.old.gone self.old.held.items (S.written self.old.inner)) bytes.now) }
+        ensures err { OnErr result (AppendsPrefix (told self.old.course self.old.gone self.old.held.items (S.written self.old.inner)) bytes.now (told self.new.course self.new.gone self.new.held.items (S.written self.new.inner))) }
+
+        ensures going { OnOk result (self.new.course ≡ Open) }
+        ensures closed { self.old.course ≢ Open → is_err result ≡ true }
+        ensures closes { OnErr result (self.new.course ≢ Open) }
+
+        ensures faults { CountsIf (is_err result) self.old.faults self.new.faults }
+        ensures faults_last { self.old.faults ≤ self.new.faults }
+    {
+        if self.course != Course::Open {
+            return self.fail();
+        }
+        if bytes.len() > ROOM - self.held.len() {
+            self.hand_on()?;
+            if bytes.len() > ROOM {
+                return self.hand_over(bytes);
+            }
+        }
+        self.gather(bytes);
+        Ok(())
+    }
+}

@@ -1,0 +1,10 @@
+pub mod Raw
+pub mod Tree
+pub mod Names
+pub mod Values
+pub mod Tables
+pub mod Few
+pub mod Refused
+pub mod Views
+pub mod Front
+pub mod Document

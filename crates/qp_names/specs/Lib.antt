@@ -1,0 +1,12 @@
+pub mod Keys
+pub mod Codes
+pub mod Paths
+pub mod Faults
+pub mod Numbering
+pub mod RawNumbers
+pub mod Readable
+pub mod ActionFaults
+pub mod Pairs
+pub mod TablesOf
+pub mod Known
+pub mod NameFaults
