@@ -13,7 +13,7 @@ use Rattle.qp_model.specs.Lists.{all_below, count_up}
 use Rattle.qp_model.specs.Machine.{Machine, after, after_from}
 use Rattle.qp_model.proofs.ListLemmas.{true_both}
 use Rattle.qp_histories.specs.Gathered.{in_table}
-use Rattle.qp_word_states.specs.Held.{said}
+use Rattle.qp_word_states.specs.WordState.{said}
 use Rattle.qp_histories.specs.Slots.{slots_end}
 use Rattle.qp_lanes.proofs.WalkLemmas.{rest_get}
 

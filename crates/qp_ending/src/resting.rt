@@ -23,7 +23,7 @@ use qp_lanes::deferred_entries::deferred;
 use qp_model::{Entry, Journal, System, Word};
 use qp_word_states::pools::FreeBlocks;
 use qp_word_states::queues::Queue;
-use qp_word_states::{held, numbers};
+use qp_word_states::word_state;
 use std::alloc::{AllocError, Global};
 
 /// Whether the queue of an object is empty in the end.
@@ -33,7 +33,7 @@ fn line_is_empty(alloc: Global, gathered: &Gathered, a: u8) -> Result<bool, Allo
 {
     let history = history_at(alloc, gathered, Word::Queue(a))?;
     let mut queue = Queue::new(alloc, ring_of(gathered.sys, a));
-    held::run(&mut queue, &history)?;
+    word_state::run(&mut queue, &history)?;
     let empty = queue.is_empty();
     Ok(empty)
 }
@@ -79,7 +79,7 @@ fn free_in(alloc: Global, gathered: &Gathered, p: u8) -> Result<FreeBlocks, Allo
 {
     let history = history_at(alloc, gathered, Word::Pool(p))?;
     let mut free = FreeBlocks::new(alloc, blocks_of(gathered.sys, p))?;
-    held::run(&mut free, &history)?;
+    word_state::run(&mut free, &history)?;
     Ok(free)
 }
 

@@ -8,7 +8,7 @@ use Rattle.qp_model.specs.Lists.{all_below}
 use Rattle.qp_model.specs.History.{Touch, Draws, Shows, Neither, touch, same_word, drawn_on, drawn_as, drawn_below, total, numbered, hist, is_numbered}
 use Rattle.qp_model.specs.WordOf.{number_before}
 use Rattle.qp_lanes.specs.Groups.{has_key, of_key, grouped_from, grouped, joined}
-use Rattle.qp_histories.specs.Marks.{touches, touched, draws, draws_below, draw_count, drawn_number, drawn_key, by_number, is_single, numbers_hold, history_of}
+use Rattle.qp_histories.specs.Marks.{word_use, touched, draws, draws_below, draw_count, drawn_number, drawn_key, by_number, is_single, numbers_hold, history_of}
 
 -- where all that pass p pass q, and r is p there
 pub filter_within : (p q r : Item → Bool) → ((i : Item) → q i ≡ true → r i ≡ p i) → ((i : Item) → q i ≡ false → p i ≡ false) → (xs : List Item) → filter r (filter q xs) ≡ filter p xs
@@ -39,7 +39,7 @@ and-assoc false b c = refl
 and-both : {a b c d : Bool} → a ≡ c → b ≡ d → (a && b) ≡ (c && d)
 and-both h k = rw (h, k) refl
 
-draws-on : (w : Word) (t : Touch) → touches w t ≡ true → draws t ≡ drawn_on w t
+draws-on : (w : Word) (t : Touch) → word_use w t ≡ true → draws t ≡ drawn_on w t
 draws-on w (Draws v n) h = go (same_word v w) h
   where
     go : (b : Bool) → (b || false) ≡ true → true ≡ b
@@ -48,7 +48,7 @@ draws-on w (Draws v n) h = go (same_word v w) h
 draws-on w (Shows v n) h = refl
 draws-on w Neither h = refl
 
-off-drawn : (w : Word) (t : Touch) → touches w t ≡ false → drawn_on w t ≡ false
+off-drawn : (w : Word) (t : Touch) → word_use w t ≡ false → drawn_on w t ≡ false
 off-drawn w (Draws v n) h = go (same_word v w) h
   where
     go : (b : Bool) → (b || false) ≡ false → b ≡ false
@@ -60,7 +60,7 @@ off-drawn w Neither h = refl
 pub total-touched : (w : Word) (items : List Item) → draw_count (touched w items) ≡ total w items
 unfolding draw_count touched total
 total-touched w items =
-    ap length (filter_within (λ i. drawn_on w (touch i)) (λ i. touches w (touch i)) (λ i. draws (touch i)) (λ i. draws-on w (touch i)) (λ i. off-drawn w (touch i)) items)
+    ap length (filter_within (λ i. drawn_on w (touch i)) (λ i. word_use w (touch i)) (λ i. draws (touch i)) (λ i. draws-on w (touch i)) (λ i. off-drawn w (touch i)) items)
 
 before-is : (n k : ℕ) → n < 2 ^ 64 → has_key n (number_before k) ≡ (k == suc n)
 before-is n zero lt = grind (arith, nat_tests)
@@ -70,7 +70,7 @@ before-is n (suc j) lt = go (nat_lt j (2 ^ 64)) refl
     go true e = grind (arith, nat_tests)
     go false e = grind (arith, nat_tests)
 
-drawn-key : (w : Word) (n : ℕ) → n < 2 ^ 64 → (t : Touch) → touches w t ≡ true → has_key n (drawn_number t) ≡ drawn_as w n t
+drawn-key : (w : Word) (n : ℕ) → n < 2 ^ 64 → (t : Touch) → word_use w t ≡ true → has_key n (drawn_number t) ≡ drawn_as w n t
 drawn-key w n lt (Draws v k) h = go (same_word v w) h
   where
     go : (b : Bool) → (b || false) ≡ true → has_key n (number_before k) ≡ (b && (k == suc n))
@@ -79,7 +79,7 @@ drawn-key w n lt (Draws v k) h = go (same_word v w) h
 drawn-key w n lt (Shows v k) h = refl
 drawn-key w n lt Neither h = refl
 
-off-drawn_as : (w : Word) (n : ℕ) (t : Touch) → touches w t ≡ false → drawn_as w n t ≡ false
+off-drawn_as : (w : Word) (n : ℕ) (t : Touch) → word_use w t ≡ false → drawn_as w n t ≡ false
 off-drawn_as w n (Draws v k) h = go (same_word v w) h
   where
     go : (b : Bool) → (b || false) ≡ false → (b && (k == suc n)) ≡ false
@@ -88,7 +88,7 @@ off-drawn_as w n (Draws v k) h = go (same_word v w) h
 off-drawn_as w n (Shows v k) h = refl
 off-drawn_as w n Neither h = refl
 
-below-on : (w : Word) (n : ℕ) (t : Touch) → touches w t ≡ true → draws_below n t ≡ drawn_below w n t
+below-on : (w : Word) (n : ℕ) (t : Touch) → word_use w t ≡ true → draws_below n t ≡ drawn_below w n t
 below-on w n (Draws v k) h = go (same_word v w) h
   where
     go : (b : Bool) → (b || false) ≡ true → (nat_lt 0 k && nat_le k n) ≡ (not b || (nat_lt 0 k && nat_le k n))
@@ -97,7 +97,7 @@ below-on w n (Draws v k) h = go (same_word v w) h
 below-on w n (Shows v k) h = refl
 below-on w n Neither h = refl
 
-off-below : (w : Word) (n : ℕ) (t : Touch) → touches w t ≡ false → drawn_below w n t ≡ true
+off-below : (w : Word) (n : ℕ) (t : Touch) → word_use w t ≡ false → drawn_below w n t ≡ true
 off-below w n (Draws v k) h = go (same_word v w) h
   where
     go : (b : Bool) → (b || false) ≡ false → (not b || (nat_lt 0 k && nat_le k n)) ≡ true
@@ -110,7 +110,7 @@ module _ (w : Word) (items : List Item) where
   of_number : (n : ℕ) → n < 2 ^ 64 → of_key drawn_key n (touched w items) ≡ filter (λ i. drawn_as w n (touch i)) items
   unfolding of_key touched
   of_number n lt =
-      filter_within (λ i. drawn_as w n (touch i)) (λ i. touches w (touch i)) (λ i. has_key n (drawn_key i)) (λ i. drawn-key w n lt (touch i)) (λ i. off-drawn_as w n (touch i)) items
+      filter_within (λ i. drawn_as w n (touch i)) (λ i. word_use w (touch i)) (λ i. has_key n (drawn_key i)) (λ i. drawn-key w n lt (touch i)) (λ i. off-drawn_as w n (touch i)) items
 
   numbered_from : (k n : ℕ) → k + n ≤ 2 ^ 64 → numbered w items k ++ joined (grouped_from drawn_key k n (touched w items)) ≡ numbered w items (k + n)
   unfolding numbered grouped_from
@@ -144,7 +144,7 @@ module _ (w : Word) (items : List Item) where
       let test : ℕ → Bool = λ n. length (filter (λ i. drawn_as w n (touch i)) items) == 1 in
       rw (total-touched w items)
       (and-both
-      (list_all_within (λ i. drawn_below w (total w items) (touch i)) (λ i. touches w (touch i)) (λ i. draws_below (total w items) (touch i)) (λ i. below-on w (total w items) (touch i)) (λ i. off-below w (total w items) (touch i)) items)
+      (list_all_within (λ i. drawn_below w (total w items) (touch i)) (λ i. word_use w (touch i)) (λ i. draws_below (total w items) (touch i)) (λ i. below-on w (total w items) (touch i)) (λ i. off-below w (total w items) (touch i)) items)
       (once_from test (λ n. refl) 0 (total w items) (omega arith) ∙ ap (λ n. all_below n test) e))
 
 filter-shorter : (p : Item → Bool) (xs : List Item) → length (filter p xs) ≤ length xs

@@ -1,5 +1,5 @@
-pub mod Gathered
+pub mod MarkOrder
 pub mod Marks
 pub mod Numbers
-pub mod Slots
+pub mod RecordsByWord
 pub mod SystemWords

@@ -27,12 +27,12 @@ draws (Draws w n) = true
 draws _ = false
 
 -- the record draws a number of w or shows w
-abbrev pub touches : Word → Touch → Bool
-touches w t = drawn_on w t || shown_on w t
+abbrev pub word_use : Word → Touch → Bool
+word_use w t = drawn_on w t || shown_on w t
 
 -- the records on w
 unfoldable pub touched : Word → List Item → List Item
-touched w items = filter (λ i. touches w (touch i)) items
+touched w items = filter (λ i. word_use w (touch i)) items
 
 -- the number that a record draws
 abbrev pub drawn_number : Touch → Option ℕ

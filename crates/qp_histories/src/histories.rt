@@ -1,6 +1,6 @@
 //! The operations of one word, in the order of their numbers.
 
-ghost use Rattle.std.specs.Prelude.{◌≡◌, ◌++◌, IfOk, OnOk};
+ghost use Rattle.std.specs.Prelude.{◌≡◌, ◌≤◌, ◌^◌, ◌++◌, IfOk, OnOk};
 ghost use Rattle.std.specs.List.{list_all};
 ghost use Rattle.qp_model.specs.History.{touch};
 ghost use Rattle.qp_model.specs.Record.{item_of};
@@ -15,7 +15,8 @@ use std::alloc::{AllocError, Global};
 /// Whether the numbers that records on one word draw are 0, 1 and so on, each once.
 #[tactic(auto, unfolding(crate::specs::Marks::numbers_hold))]
 pub fn numbers_hold(alloc: Global, touched: &Group) -> Result<bool, AllocError>
-    ensures { IfOk result (λ b. b ≡ numbers_hold touched.now) }
+    ensures holds { IfOk result (λ b. b ≡ numbers_hold touched.now) }
+    ensures few { draw_count touched.now ≤ 2 ^ 64 }
 {
     if !all_below(touched, draw_count(touched)) {
         return Ok(false);
@@ -28,7 +29,8 @@ pub fn numbers_hold(alloc: Global, touched: &Group) -> Result<bool, AllocError>
 /// one after another.
 #[tactic(auto, unfolding(crate::specs::Marks::history_of))]
 pub fn history<'a>(alloc: Global, touched: &Group<'a>) -> Result<Group<'a>, AllocError>
-    ensures { IfOk result (λ h. h ≡ history_of touched.now) }
+    ensures history { IfOk result (λ h. h ≡ history_of touched.now) }
+    ensures few { draw_count touched.now ≤ 2 ^ 64 }
 {
     let groups = by_number(alloc, touched)?;
     all_of(alloc, &groups)
@@ -36,7 +38,8 @@ pub fn history<'a>(alloc: Global, touched: &Group<'a>) -> Result<Group<'a>, Allo
 
 #[tactic(auto, unfolding(crate::specs::Marks::by_number))]
 fn by_number<'a>(alloc: Global, touched: &Group<'a>) -> Result<Groups<'a>, AllocError>
-    ensures { IfOk result (λ g. g ≡ by_number touched.now) }
+    ensures groups { IfOk result (λ g. g ≡ by_number touched.now) }
+    ensures few { draw_count touched.now ≤ 2 ^ 64 }
 {
     grouped(alloc, touched, draw_count(touched), &DrawnNumber)
 }

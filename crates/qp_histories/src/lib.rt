@@ -1,5 +1,5 @@
-//! The histories of words: the words of a system, the records on each of them, gathered in one pass over the lanes, and the operations
-//! among these, in the order of their numbers.
+//! The histories of words: the words of a system, the records on each word that a journal names, gathered in one pass over the lanes,
+//! and the operations among these, in the order of their numbers.
 #![tactic(auto)]
 
 // The words of a system, and the marks of records on them.
@@ -10,7 +10,5 @@ pub mod words;
 pub mod histories;
 
 // The records on each word.
-mod falling;
-pub mod gathered;
-pub mod known_history;
-mod slots;
+mod mark_order;
+pub mod records_by_word;

@@ -7,8 +7,7 @@ ghost use Rattle.qp_model.specs.WordOf.{number_before, fitting_number};
 ghost use Rattle.qp_histories.specs.Marks.{drawn_key, mark_in, shown_key};
 
 use qp_lanes::groups::Key;
-use qp_lanes::touches::Touched;
-use qp_model::Rec;
+use qp_model::{Rec, Touched};
 
 /// What a record does to a word.
 #[derive(Clone, Copy, PartialEq, Eq, Debug)]

@@ -1,10 +1,7 @@
 //! The words of a system, by kind and ascending.
 
-ghost use Rattle.std.specs.Prelude.{◌≡◌, ◌<◌, ◌==◌, ◌++◌, IfOk, OnOk, MatchOption};
-ghost use Rattle.std.specs.List.{find};
-ghost use Rattle.qp_model.specs.declared.systems.ObjectDef.{ObjectDef};
+ghost use Rattle.std.specs.Prelude.{◌≡◌, ◌++◌, IfOk, OnOk};
 ghost use Rattle.qp_model.specs.WordLaw.{is_object};
-ghost use Rattle.qp_model.specs.Sites.{blocks_of, ring_of};
 ghost use Rattle.qp_histories.specs.Numbers.{WordsFit};
 ghost use Rattle.qp_histories.specs.SystemWords.{block_words, pool_words, queue_words, signal_words, timer_words, words_of, words_of_pool};
 
@@ -26,42 +23,11 @@ pub fn words_of(alloc: Global, sys: &System) -> Result<Vec<Word>, AllocError>
     Ok(words)
 }
 
-/// The number of a pool's blocks, 0 where there is no such pool.
-pub fn blocks_of(sys: &System, p: u8) -> u8
-    ensures { result ≡ blocks_of sys.now p }
-{
-    match sys.pools.items.get(usize::from(p).saturating_sub(1)) {
-        Some(pool) => pool.blocks,
-        None => 0,
-    }
-}
-
-/// The ring of the object of a priority.
-fn ring_at(sys: &System, a: u8) -> Option<u8>
-    ensures { MatchOption result (find (λ d. d.priority == a) sys.now.objects ≡ None) (λ r. (d : ObjectDef) × (find (λ d. d.priority == a) sys.now.objects ≡ Some d) × (r ≡ d.ring)) }
-{
-    for d in &sys.objects.items {
-        if d.priority == a {
-            return Some(d.ring);
-        }
-    }
-    None
-}
-
-/// The length of an object's ring, 0 where there is no such object.
-pub fn ring_of(sys: &System, a: u8) -> u8
-    ensures { result ≡ ring_of sys.now a }
-{
-    match ring_at(sys, a) {
-        Some(ring) => ring,
-        None => 0,
-    }
-}
-
+#[tactic(auto, unfolding(qp_model::specs::WordLaw::is_object))]
 fn is_object(sys: &System, a: u8) -> bool
     ensures { result ≡ is_object sys.now a }
 {
-    match ring_at(sys, a) {
+    match sys.object_at(u64::from(a)) {
         Some(_) => true,
         None => false,
     }
@@ -90,7 +56,7 @@ fn add_blocks(words: &mut Vec<Word>, sys: &System) -> Result<(), AllocError>
 fn add_blocks_of(words: &mut Vec<Word>, sys: &System, p: u8) -> Result<(), AllocError>
     ensures { OnOk result (words.new.items ≡ words.old.items ++ words_of_pool sys.now p) }
 {
-    for b in 0..blocks_of(sys, p) {
+    for b in 0..sys.blocks_of(u64::from(p)) {
         words.push(Word::Block(p, b))?;
     }
     Ok(())

@@ -9,7 +9,7 @@ ghost use Rattle.qp_lanes.specs.WordTotals.{count_in};
 use qp_lanes::groups::Group;
 use qp_lanes::word_totals::Counts;
 use qp_model::{Body, Rec};
-use qp_word_states::held::Held;
+use qp_word_states::word_state::WordState;
 use qp_word_states::pools::FreeBlocks;
 use qp_word_states::signals::{Members, Subscribed};
 use std::alloc::{AllocError, Global};

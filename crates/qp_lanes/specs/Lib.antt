@@ -1,5 +1,7 @@
 pub mod Deferral
+pub mod GivenBlocks
 pub mod Groups
+pub mod Keys
 pub mod Options
-pub mod Touches
+pub mod Rows
 pub mod WordTotals

@@ -4,7 +4,7 @@ ghost use Rattle.std.specs.Prelude.{◌≡◌, ◌==◌, [], ◌∷◌, ◌++◌
 ghost use Rattle.qp_model.specs.History.{lane_items};
 ghost use Rattle.qp_model.specs.Record.{item_of};
 ghost use Rattle.qp_model.specs.Knowing.{Facts, records_of};
-ghost use Rattle.qp_model.specs.Line.{is_front, same_entry};
+ghost use Rattle.qp_model.specs.Line.{is_front};
 ghost use Rattle.qp_model.specs.Deferral.{keep, kept_after};
 ghost use Rattle.qp_model.specs.Lawful.{deferral_holds};
 ghost use Rattle.qp_lanes.specs.Options.{allowed};
@@ -30,12 +30,6 @@ impl Model for Deferred {
     ghost view = { λ b. b.items.items };
 }
 
-fn is_same(d: Entry, e: Entry) -> bool
-    ensures { result ≡ same_entry d e }
-{
-    d.pool == e.pool && d.block == e.block && d.name == e.name
-}
-
 impl Deferred {
     fn none(alloc: Global) -> Self
         ensures { result ≡ [] }
@@ -49,7 +43,7 @@ impl Deferred {
         ensures { result ≡ is_front e self.now }
     {
         match self.items.front() {
-            Some(first) => is_same(*first, e),
+            Some(first) => first.is_same(e),
             None => false,
         }
     }

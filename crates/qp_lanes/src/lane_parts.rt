@@ -2,20 +2,15 @@
 
 ghost use Rattle.std.specs.Prelude.{◌≡◌, ◌+◌, ◌==◌, ◌<◌, ◌≤◌, ◌^◌, ◌||◌, not, drop, length, IfSome};
 ghost use Rattle.std.specs.List.{list_any, position};
-ghost use Rattle.qp_model.specs.Ends.{may_cut, is_assert};
+ghost use Rattle.qp_model.specs.Ends.{is_assert};
 ghost use Rattle.qp_model.specs.History.{lane_items};
 ghost use Rattle.qp_model.specs.Home.{lane_at as lane_of, home_of};
 ghost use Rattle.qp_model.specs.Kernels.{port};
 ghost use Rattle.qp_model.specs.Lawful.{lanes_before as before};
 
 use crate::record_tests;
+use qp_model::kernels::PORT;
 use qp_model::{Journal, Lane, ObjectDef, Rec, Stimuli, System};
-
-pub const PORT: u8 = 2;
-
-pub const ASSERTED: u8 = 3;
-
-pub const SPENT: u8 = 4;
 
 /// The records of a lane; one that isn't there is empty.
 pub fn lane_at(j: &Journal, n: usize) -> &[Rec]
@@ -81,13 +76,6 @@ pub fn lane_zero_stands(j: &Journal) -> bool
     ensures { result ≡ (not (j.now.kernel == port) || (length (lane_of j.now 0) == 0)) }
 {
     j.kernel != PORT || lane_at(j, 0).is_empty()
-}
-
-/// Whether a run with this end stopped early.
-pub fn is_cut(end: u8) -> bool
-    ensures { result ≡ may_cut end }
-{
-    end == ASSERTED || end == SPENT
 }
 
 /// Whether an assertion stands in the lane.

@@ -5,11 +5,11 @@ ghost use Rattle.std.specs.Option.{option_map_or};
 ghost use Rattle.qp_model.specs.declared.words.Word.{Word};
 ghost use Rattle.qp_model.specs.declared.words.Word.TheVariants as word_kind;
 ghost use Rattle.qp_model.specs.History.{same_word};
+ghost use Rattle.qp_model.specs.Touches.{as_touch, as_word};
 ghost use Rattle.qp_lanes.specs.Options.{is_look};
-ghost use Rattle.qp_lanes.specs.Touches.{as_touch, as_word};
 ghost use Rattle.qp_lanes.specs.WordTotals.{count_in, count_at, is_next_at, drawn_at};
 
-use crate::touches::{Named, Touched};
+use qp_model::{Named, Touched};
 use std::alloc::{AllocError, Global};
 use std::collections::BTreeMap;
 

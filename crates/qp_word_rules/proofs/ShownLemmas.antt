@@ -13,7 +13,7 @@ use Rattle.qp_model.specs.WordOf.{fitting_number}
 use Rattle.qp_model.proofs.ListLemmas.{both_true, true_both}
 use Rattle.qp_lanes.specs.Groups.{has_key, of_key, grouped_from, grouped}
 use Rattle.qp_histories.specs.Marks.{touches, touched, shown_number, shown_key, mark_number, rises_from, shows_within}
-use Rattle.qp_word_states.specs.Held.{shows_from}
+use Rattle.qp_word_states.specs.WordState.{shows_from}
 use Rattle.qp_word_rules.specs.Judging.{shown_of}
 use Rattle.qp_histories.proofs.NumberLemmas.{list_all_within}
 

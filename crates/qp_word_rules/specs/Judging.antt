@@ -17,7 +17,7 @@ use Rattle.qp_model.specs.Lives.{has_lives}
 use Rattle.qp_model.specs.Sites.{ring_of, blocks_of}
 use Rattle.qp_lanes.specs.Groups.{grouped}
 use Rattle.qp_histories.specs.Marks.{shown_key, shows_within}
-use Rattle.qp_word_states.specs.Held.{shows_from}
+use Rattle.qp_word_states.specs.WordState.{shows_from}
 use Rattle.qp_word_rules.specs.declared.rules.Rule.{Rule}
 use Rattle.qp_word_rules.specs.declared.rules.Rule.TheVariants as rule
 use Rattle.qp_word_rules.specs.WordRules.{rule_holds}

@@ -3,7 +3,6 @@
 ghost use Rattle.std.specs.Prelude.{◌≡◌, ◌&&◌, not, IfOk, IsTrue, length};
 ghost use Rattle.std.specs.List.{list_all};
 ghost use Rattle.qp_model.specs.History.{all_items, hist, is_numbered, marks_rise};
-ghost use Rattle.qp_histories.specs.Gathered.{IsGathered, in_table};
 ghost use Rattle.qp_word_rules.specs.declared.rules.Rule.TheVariants as rule;
 ghost use Rattle.qp_histories.specs.Numbers.{WordsFit};
 ghost use Rattle.qp_word_rules.specs.Judging.{rule_test};
@@ -12,10 +11,12 @@ ghost use Rattle.qp_word_rules.specs.WordRules.{first_broken, is_site, operation
 use crate::judging::{lives_of, operations_allowed, shown_at};
 use crate::rules::{Rule, site_of};
 use crate::verdict::Broken;
-use qp_histories::gathered::{Gathered, history_at};
+use qp_histories::records_by_word::RecordsByWord;
 use qp_histories::histories::numbers_hold;
 use qp_histories::words::words_of;
-use qp_model::{Lanes, System, Word};
+use qp_lanes::given_blocks::GivenBlocks;
+use qp_lanes::keys::named;
+use qp_model::{System, Word};
 use std::alloc::{AllocError, Global};
 
 /// The first definition of words that fails on these lanes, with its first site: the numbers drawn, the
@@ -27,13 +28,12 @@ use std::alloc::{AllocError, Global};
 pub fn words_broken(
     alloc: Global,
     sys: &System,
-    lanes: &Lanes,
+    records: &RecordsByWord,
 ) -> Result<Option<Broken>, AllocError>
     requires { WordsFit sys.now }
-    ensures { IfOk result (λ b. b ≡ first_broken (word_tries sys.now lanes.now)) }
+    ensures { IfOk result (λ b. b ≡ first_broken (word_tries sys.now records.now)) }
 {
     let words = words_of(alloc, sys)?;
-    let gathered = Gathered::new(alloc, sys, lanes)?;
     let rules = [
         Rule::DrawnNumbers,
         Rule::FreeBlocks,
@@ -44,22 +44,21 @@ pub fn words_broken(
         Rule::Subscribers,
         Rule::TimeEvents,
     ];
-    let broken = first_by(alloc, &gathered, &rules, &words)?;
+    let broken = first_by(alloc, sys, records, &rules, &words)?;
     Ok(broken)
 }
 
 fn first_by(
     alloc: Global,
-    gathered: &Gathered,
+    sys: &System,
+    records: &RecordsByWord,
     rules: &[Rule],
     words: &[Word],
 ) -> Result<Option<Broken>, AllocError>
-    requires gathered { IsGathered gathered.now.sys.now gathered.now.lanes.now gathered.now.slots.pools gathered.now.touched gathered.now.falls.items }
-    requires words { IsTrue (list_all (λ w. in_table gathered.now.slots.pools (length gathered.now.sys.now.signals) w) words.now) }
-    ensures { IfOk result (λ b. b ≡ first_broken (tries_by (rule_test gathered.now.sys.now gathered.now.lanes.now) rules.now words.now)) }
+    ensures { IfOk result (λ b. b ≡ first_broken (tries_by (rule_test sys.now records.now) rules.now words.now)) }
 {
     for rule in rules {
-        match first_at(alloc, gathered, *rule, words)? {
+        match first_at(alloc, sys, records, *rule, words)? {
             Some(broken) => return Ok(Some(broken)),
             None => {}
         }
@@ -70,16 +69,15 @@ fn first_by(
 /// The first site at which a definition fails.
 fn first_at(
     alloc: Global,
-    gathered: &Gathered,
+    sys: &System,
+    records: &RecordsByWord,
     rule: Rule,
     words: &[Word],
 ) -> Result<Option<Broken>, AllocError>
-    requires gathered { IsGathered gathered.now.sys.now gathered.now.lanes.now gathered.now.slots.pools gathered.now.touched gathered.now.falls.items }
-    requires words { IsTrue (list_all (λ w. in_table gathered.now.slots.pools (length gathered.now.sys.now.signals) w) words.now) }
-    ensures { IfOk result (λ b. b ≡ first_broken (tries_at (rule_test gathered.now.sys.now gathered.now.lanes.now) rule words.now)) }
+    ensures { IfOk result (λ b. b ≡ first_broken (tries_at (rule_test sys.now records.now) rule words.now)) }
 {
     for word in words {
-        if fails(alloc, gathered, rule, *word)? {
+        if fails(alloc, sys, records, rule, *word)? {
             return Ok(Some(Broken {
                 definition: rule.number(),
                 site: site_of(*word),
@@ -90,78 +88,98 @@ fn first_at(
 }
 
 /// Whether the word is a site of the definition, which fails there.
-fn fails(alloc: Global, gathered: &Gathered, rule: Rule, word: Word) -> Result<bool, AllocError>
-    requires gathered { IsGathered gathered.now.sys.now gathered.now.lanes.now gathered.now.slots.pools gathered.now.touched gathered.now.falls.items }
-    requires word { IsTrue (in_table gathered.now.slots.pools (length gathered.now.sys.now.signals) word) }
-    ensures { IfOk result (λ b. b ≡ (is_site rule word && not (rule_test gathered.now.sys.now gathered.now.lanes.now rule word))) }
+fn fails(
+    alloc: Global,
+    sys: &System,
+    records: &RecordsByWord,
+    rule: Rule,
+    word: Word,
+) -> Result<bool, AllocError>
+    ensures { IfOk result (λ b. b ≡ (is_site rule word && not (rule_test sys.now records.now rule word))) }
 {
     if !rule.is_site(word) {
         return Ok(false);
     }
-    let holds = holds(alloc, gathered, rule, word)?;
+    let holds = holds(alloc, sys, records, rule, word)?;
     Ok(!holds)
 }
 
 /// Whether a definition holds at a word. That of lives counts where that of references holds.
 #[tactic(auto, unfolding(crate::specs::Judging::rule_test, crate::specs::WordRules::rule_holds))]
-fn holds(alloc: Global, gathered: &Gathered, rule: Rule, word: Word) -> Result<bool, AllocError>
-    requires gathered { IsGathered gathered.now.sys.now gathered.now.lanes.now gathered.now.slots.pools gathered.now.touched gathered.now.falls.items }
-    requires word { IsTrue (in_table gathered.now.slots.pools (length gathered.now.sys.now.signals) word) }
-    ensures { IfOk result (λ b. b ≡ rule_test gathered.now.sys.now gathered.now.lanes.now rule word) }
+fn holds(
+    alloc: Global,
+    sys: &System,
+    records: &RecordsByWord,
+    rule: Rule,
+    word: Word,
+) -> Result<bool, AllocError>
+    ensures { IfOk result (λ b. b ≡ rule_test sys.now records.now rule word) }
 {
     match rule {
-        Rule::DrawnNumbers => numbered(alloc, gathered, word),
-        Rule::FreeBlocks => allowed(alloc, gathered, word),
-        Rule::References => allowed(alloc, gathered, word),
-        Rule::Lives => lives_hold(alloc, gathered, word),
-        Rule::Line => allowed(alloc, gathered, word),
-        Rule::ShownNumbers => shown_right(alloc, gathered, word),
-        Rule::Subscribers => allowed(alloc, gathered, word),
-        Rule::TimeEvents => allowed(alloc, gathered, word),
+        Rule::DrawnNumbers => numbered(alloc, sys, records, word),
+        Rule::FreeBlocks => allowed(alloc, sys, records, word),
+        Rule::References => allowed(alloc, sys, records, word),
+        Rule::Lives => lives_hold(alloc, sys, records, word),
+        Rule::Line => allowed(alloc, sys, records, word),
+        Rule::ShownNumbers => shown_right(alloc, sys, records, word),
+        Rule::Subscribers => allowed(alloc, sys, records, word),
+        Rule::TimeEvents => allowed(alloc, sys, records, word),
     }
 }
 
-fn numbered(alloc: Global, gathered: &Gathered, word: Word) -> Result<bool, AllocError>
-    requires gathered { IsGathered gathered.now.sys.now gathered.now.lanes.now gathered.now.slots.pools gathered.now.touched gathered.now.falls.items }
-    requires word { IsTrue (in_table gathered.now.slots.pools (length gathered.now.sys.now.signals) word) }
-    ensures { IfOk result (λ b. b ≡ is_numbered word (all_items gathered.now.lanes.now)) }
+fn numbered(
+    alloc: Global,
+    sys: &System,
+    records: &RecordsByWord,
+    word: Word,
+) -> Result<bool, AllocError>
+    ensures { IfOk result (λ b. b ≡ is_numbered word (all_items records.now)) }
 {
     let holds = numbers_hold(alloc, gathered.touched(word))?;
     Ok(holds)
 }
 
-fn allowed(alloc: Global, gathered: &Gathered, word: Word) -> Result<bool, AllocError>
-    requires gathered { IsGathered gathered.now.sys.now gathered.now.lanes.now gathered.now.slots.pools gathered.now.touched gathered.now.falls.items }
-    requires word { IsTrue (in_table gathered.now.slots.pools (length gathered.now.sys.now.signals) word) }
-    ensures { IfOk result (λ b. b ≡ operations_allowed gathered.now.sys.now word (hist word (all_items gathered.now.lanes.now))) }
+fn allowed(
+    alloc: Global,
+    sys: &System,
+    records: &RecordsByWord,
+    word: Word,
+) -> Result<bool, AllocError>
+    ensures { IfOk result (λ b. b ≡ operations_allowed sys.now word (hist word (all_items records.now))) }
 {
-    let history = history_at(alloc, gathered, word)?;
+    let history = history_at(alloc, sys, records, word)?;
     operations_allowed(alloc, gathered.sys, word, &history)
 }
 
 #[tactic(auto, unfolding(crate::specs::Judging::rule_test, crate::specs::WordRules::rule_holds, crate::specs::WordRules::lives_hold))]
-fn lives_hold(alloc: Global, gathered: &Gathered, word: Word) -> Result<bool, AllocError>
-    requires gathered { IsGathered gathered.now.sys.now gathered.now.lanes.now gathered.now.slots.pools gathered.now.touched gathered.now.falls.items }
-    requires word { IsTrue (in_table gathered.now.slots.pools (length gathered.now.sys.now.signals) word) }
-    ensures { IfOk result (λ b. b ≡ rule_test gathered.now.sys.now gathered.now.lanes.now rule.Lives word) }
+fn lives_hold(
+    alloc: Global,
+    sys: &System,
+    records: &RecordsByWord,
+    word: Word,
+) -> Result<bool, AllocError>
+    ensures { IfOk result (λ b. b ≡ rule_test sys.now records.now rule.Lives word) }
 {
     match word {
         Word::Block(p, b) => {
-            let pool = history_at(alloc, gathered, Word::Pool(p))?;
-            let block = history_at(alloc, gathered, Word::Block(p, b))?;
+            let pool = history_at(alloc, sys, records, Word::Pool(p))?;
+            let block = history_at(alloc, sys, records, Word::Block(p, b))?;
             lives_of(alloc, b, &pool, &block)
         }
         Word::Pool(_) | Word::Queue(_) | Word::Signal(_) | Word::Timer(_) => Ok(true),
     }
 }
 
-fn shown_right(alloc: Global, gathered: &Gathered, word: Word) -> Result<bool, AllocError>
-    requires gathered { IsGathered gathered.now.sys.now gathered.now.lanes.now gathered.now.slots.pools gathered.now.touched gathered.now.falls.items }
-    requires word { IsTrue (in_table gathered.now.slots.pools (length gathered.now.sys.now.signals) word) }
-    ensures { IfOk result (λ b. b ≡ (shown_right gathered.now.sys.now word (all_items gathered.now.lanes.now) && marks_rise word gathered.now.lanes.now)) }
+fn shown_right(
+    alloc: Global,
+    sys: &System,
+    records: &RecordsByWord,
+    word: Word,
+) -> Result<bool, AllocError>
+    ensures { IfOk result (λ b. b ≡ (shown_right sys.now word (all_items records.now) && marks_rise word records.now)) }
 {
     let touched = gathered.touched(word);
-    let history = history_at(alloc, gathered, word)?;
+    let history = history_at(alloc, sys, records, word)?;
     let shown = shown_at(alloc, gathered.sys, word, touched, &history)?;
     Ok(shown && gathered.rises(word))
 }

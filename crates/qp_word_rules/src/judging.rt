@@ -21,7 +21,7 @@ use qp_histories::marks::{Mark, ShownNumber, mark_of};
 use qp_histories::words::{blocks_of, ring_of};
 use qp_lanes::groups::{Group, Key, grouped};
 use qp_model::{Rec, System, Word};
-use qp_word_states::held::{self, Held};
+use qp_word_states::word_state::{self, WordState};
 use qp_word_states::lives::{self, GivenBlock};
 use qp_word_states::pools::FreeBlocks;
 use qp_word_states::queues::Queue;
@@ -41,11 +41,11 @@ pub(crate) fn operations_allowed(
     ensures { IfOk result (λ b. b ≡ operations_allowed sys.now word history.now) }
 {
     match word {
-        Word::Pool(p) => held::is_allowed(FreeBlocks::new(alloc, blocks_of(sys, p))?, history),
+        Word::Pool(p) => word_state::is_allowed(FreeBlocks::new(alloc, blocks_of(sys, p))?, history),
         Word::Block(..) => references_allowed(alloc, history),
-        Word::Queue(a) => held::is_allowed(Queue::new(alloc, ring_of(sys, a)), history),
-        Word::Signal(_) => held::is_allowed(Members::new(alloc), history),
-        Word::Timer(_) => held::is_allowed(TimeEvent::new(), history),
+        Word::Queue(a) => word_state::is_allowed(Queue::new(alloc, ring_of(sys, a)), history),
+        Word::Signal(_) => word_state::is_allowed(Members::new(alloc), history),
+        Word::Timer(_) => word_state::is_allowed(TimeEvent::new(), history),
     }
 }
 
@@ -84,7 +84,7 @@ pub(crate) fn shown_at(
 }
 
 #[tactic(auto, unfolding(crate::specs::Judging::shown_of))]
-fn shows<H: Held + Drop>(
+fn shows<H: WordState + Drop>(
     alloc: Global,
     held: H,
     touched: &Group,
@@ -99,7 +99,7 @@ fn shows<H: Held + Drop>(
         return Ok(false);
     }
     let shown = grouped(alloc, touched, count + 1, &ShownNumber)?;
-    held::is_shown(held, history, &shown)
+    word_state::is_shown(held, history, &shown)
 }
 
 /// Whether each number of operations that is shown is at most `count`.

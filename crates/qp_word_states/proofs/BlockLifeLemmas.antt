@@ -13,7 +13,8 @@ use Rattle.qp_model.specs.References.{Refs, references}
 use Rattle.qp_model.specs.Lives.{Life, life_of, life_may, life_next, edge_of, edges, is_empty, refs_at, edges_empty, lives_cover, lives_referred, has_lives}
 use Rattle.qp_lanes.specs.Groups.{has_key, of_key}
 use Rattle.qp_word_states.specs.Standing.{empties_from, empties}
-use Rattle.qp_word_states.specs.BlockLives.{block_of, block_key, are_empty, are_referred}
+use Rattle.qp_word_states.specs.BlockLives.{are_empty, are_referred}
+use Rattle.qp_lanes.specs.GivenBlocks.{block_of, block_key}
 
 length_from : (s : Refs) (block : List Item) → length (empties_from s block) ≡ suc (length block)
 unfolding empties_from

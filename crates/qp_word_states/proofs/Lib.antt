@@ -1,4 +1,5 @@
 pub mod BitLemmas
 pub mod BlockLifeLemmas
-pub mod HeldLemmas
+pub mod FreeSetLemmas
+pub mod WordStateLemmas
 pub mod StandingLemmas

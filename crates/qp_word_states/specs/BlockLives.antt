@@ -1,22 +1,9 @@
 -- The lives of a block, by the flags of its history.
-use Rattle.std.specs.Prelude.{ℕ, Bool, false, not, ◌||◌, List, get_or, Some, None}
-use Rattle.std.specs.declared.option.Option.{Option}
+use Rattle.std.specs.Prelude.{ℕ, Bool, false, not, ◌||◌, List, get_or}
 use Rattle.std.specs.List.{list_all}
 use Rattle.qp_chart.specs.StateTree.{has}
-use Rattle.qp_model.specs.declared.bodies.Body.{Body}
-use Rattle.qp_model.specs.declared.bodies.Body.TheVariants.{New, Back}
-use Rattle.qp_model.specs.Record.{Item}
 use Rattle.qp_model.specs.Lists.{all_below}
 use Rattle.qp_model.specs.Lives.{Life}
-
--- the block that is given out or comes back
-abbrev pub block_of : Body → Option ℕ
-block_of (New p n b from sig pars) = Some b
-block_of (Back p n b to) = Some b
-block_of _ = None
-
-abbrev pub block_key : Item → Option ℕ
-block_key i = block_of i.body
 
 -- no reference stands at these places
 abbrev pub are_empty : List Bool → List ℕ → Bool

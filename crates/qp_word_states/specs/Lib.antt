@@ -1,3 +1,3 @@
 pub mod BlockLives
-pub mod Held
+pub mod WordState
 pub mod Standing

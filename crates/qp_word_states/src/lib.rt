@@ -2,7 +2,7 @@
 #![tactic(auto)]
 
 // A walk over the operations on a word.
-pub mod held;
+pub mod word_state;
 
 // Pools and their blocks.
 pub mod lives;

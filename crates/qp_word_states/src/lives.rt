@@ -6,26 +6,11 @@ ghost use Rattle.qp_model.specs.Record.{Item};
 ghost use Rattle.qp_model.specs.Machine.{after, is_allowed};
 ghost use Rattle.qp_model.specs.Lives.{Life, edge_of, edges, has_lives, life_may, life_next, life_of};
 ghost use Rattle.qp_word_states.specs.Standing.{empties};
-ghost use Rattle.qp_word_states.specs.BlockLives.{are_empty, are_referred, block_key, life_at};
+ghost use Rattle.qp_word_states.specs.BlockLives.{are_empty, are_referred, life_at};
 
-use qp_lanes::groups::{Group, Key};
-use qp_model::{Body, Rec};
+use qp_lanes::groups::Group;
+use qp_model::Body;
 use std::alloc::{AllocError, Global};
-
-/// Operations of a pool by the block that they give out or back.
-pub struct GivenBlock;
-
-impl Key for GivenBlock {
-    ghost key_of = { λ _ i. block_key i };
-
-    #[tactic(auto, unfolding(qp_model::specs::Record::item_of))]
-    fn key(&self, r: &Rec) -> Option<usize> {
-        match r.body() {
-            Body::New { b, .. } | Body::Back { b, .. } => Some(b as usize),
-            _ => None,
-        }
-    }
-}
 
 /// Whether a block is given out, and where its last life began or ended.
 #[derive(Clone, Copy)]

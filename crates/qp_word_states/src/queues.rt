@@ -1,9 +1,9 @@
 //! What the word of a queue holds.
 
 ghost use Rattle.std.specs.Prelude.{◌≡◌, ◌+◌, ◌-◌, [], ◌==◌, ◌&&◌, length};
-ghost use Rattle.qp_model.specs.Line.{Line, line, is_front, same_entry};
+ghost use Rattle.qp_model.specs.Line.{Line, line, is_front};
 
-use crate::held::Held;
+use crate::word_state::WordState;
 use qp_model::{Body, Entry};
 use std::alloc::{AllocError, Global};
 use std::collections::VecDeque;
@@ -49,15 +49,9 @@ fn is_front(entry: &Entry, entries: &VecDeque<Entry>) -> bool
     ensures { result ≡ is_front entry.now entries.now.items }
 {
     match entries.front() {
-        Some(x) => is_same(x, entry),
+        Some(x) => x.is_same(*entry),
         None => false,
     }
-}
-
-fn is_same(a: &Entry, b: &Entry) -> bool
-    ensures { result ≡ same_entry a.now b.now }
-{
-    a.pool == b.pool && a.block == b.block && a.name == b.name
 }
 
 /// How many entries stand at these counts.
@@ -74,7 +68,7 @@ fn free(ring: u8, f: u64, l: u64, m: u64) -> u128
     (u128::from(ring) + 1).saturating_sub(standing(f, l, m))
 }
 
-impl Held for Queue {
+impl WordState for Queue {
     ghost State = { Line };
 
     ghost machine = { λ s. line s.ring };

@@ -3,7 +3,7 @@
 ghost use Rattle.std.specs.Prelude.{◌≡◌, ◌==◌, ◌^◌, ◌/◌, ◌<◌, [], IfOk, IfSome, IsNone};
 ghost use Rattle.qp_model.specs.Subscribers.{Subscribers, bits_of_set, subscribers};
 
-use crate::held::Held;
+use crate::word_state::WordState;
 use crate::numbers::{has, take_out};
 use qp_model::Body;
 use std::alloc::{AllocError, Global};
@@ -84,7 +84,7 @@ fn bit_of(p: u64) -> Option<u64>
     }
 }
 
-impl Held for Members {
+impl WordState for Members {
     ghost State = { Subscribers };
 
     ghost machine = { λ _. subscribers };

@@ -3,7 +3,7 @@
 ghost use Rattle.std.specs.Prelude.{◌≡◌};
 ghost use Rattle.qp_model.specs.TimeEvents.{Clock, time_event};
 
-use crate::held::Held;
+use crate::word_state::WordState;
 use qp_model::Body;
 use std::alloc::AllocError;
 
@@ -28,7 +28,7 @@ impl TimeEvent {
     }
 }
 
-impl Held for TimeEvent {
+impl WordState for TimeEvent {
     ghost State = { Clock };
 
     ghost machine = { λ _. time_event };

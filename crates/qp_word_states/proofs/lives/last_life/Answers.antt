@@ -5,7 +5,7 @@ use Rattle.qp_model.specs.Lives.{life_of, life_next, life_may}
 use Rattle.qp_model.proofs.MachineLemmas.{after-append}
 use Rattle.qp_lanes.proofs.WalkLemmas.{rest_seen, front_seen, rest_none, length_seen}
 use Rattle.std.proofs.lemmas.List.{take_all}
-use Rattle.qp_word_states.proofs.HeldLemmas.{allowed-not, allowed-next}
+use Rattle.qp_word_states.proofs.WordStateLemmas.{allowed-not, allowed-next}
 use Rattle.qp_word_states.proofs.lives.last_life.Goals as goal
 
 pub loop-r-init : goal.loop-r-init

@@ -7,7 +7,7 @@ use Rattle.qp_model.proofs.MachineLemmas.{after-append}
 use Rattle.qp_word_states.specs.Standing.{empties, empties_from}
 use Rattle.qp_lanes.proofs.WalkLemmas.{rest_seen, front_seen, rest_none}
 use Rattle.qp_word_states.proofs.StandingLemmas.{is_empty-standing}
-use Rattle.qp_word_states.proofs.HeldLemmas.{allowed-not, allowed-next}
+use Rattle.qp_word_states.proofs.WordStateLemmas.{allowed-not, allowed-next}
 use Rattle.qp_word_states.proofs.references.empties.Goals as goal
 
 pub loop-r-init : goal.loop-r-init
