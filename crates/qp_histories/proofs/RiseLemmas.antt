@@ -90,6 +90,14 @@ pub touched-one : (w : Word) (i : Item) → touched w (i ∷ []) ≡ cond (word_
 unfolding touched
 touched-one w i = refl
 
+-- a record more in the row of its word
+pub row-more : (w : Word) (row : List Item) (i : Item) → cond (word_use w (touch i)) (row ++ i ∷ []) row ≡ row ++ touched w (i ∷ [])
+row-more w row i = go (word_use w (touch i)) ∙ ap (λ l. row ++ l) (sym (touched-one w i))
+  where
+    go : (b : Bool) → cond b (row ++ i ∷ []) row ≡ row ++ cond b (i ∷ []) []
+    go true = refl
+    go false = sym (append-nil row)
+
 rises-more : (a : ℕ) (xs : List Item) (i : Item) → rises_from a (xs ++ i ∷ []) ≡ (rises_from a xs && nat_le (last_mark a xs) (mark_number (touch i)))
 unfolding rises_from
 rises-more a [] i = and-true (nat_le a (mark_number (touch i)))

@@ -1,13 +1,13 @@
 //! The records of a journal by their words.
 
-ghost use Rattle.std.specs.Prelude.{◌≡◌, ◌++◌, ◌∷◌, [], IfOk, IfSome, OnOk};
+ghost use Rattle.std.specs.Prelude.{◌≡◌, ◌++◌, ◌∷◌, [], if◌then◌else◌, IfOk, IfSome, OnOk};
 ghost use Rattle.qp_model.specs.declared.words.Word.{Word};
 ghost use Rattle.qp_model.specs.declared.words.Word.TheVariants as word_kind;
-ghost use Rattle.qp_model.specs.History.{all_items, hist, lane_items, marks_rise};
+ghost use Rattle.qp_model.specs.History.{all_items, hist, lane_items, marks_rise, touch};
 ghost use Rattle.qp_model.specs.Record.{item_of};
 ghost use Rattle.qp_model.specs.Touches.{as_word};
 ghost use Rattle.qp_lanes.specs.Keys.{key_of};
-ghost use Rattle.qp_histories.specs.Marks.{touched};
+ghost use Rattle.qp_histories.specs.Marks.{touched, word_use};
 ghost use Rattle.qp_lanes.specs.Rows.{row_at};
 
 use crate::histories::history;
@@ -46,7 +46,7 @@ impl<'a> Model for RecordsByWord<'a> {
 
 /// Puts a record into the row of its word.
 fn put_record<'a>(rows: &mut Rows<'a>, alloc: Global, r: &'a Rec) -> Result<(), AllocError>
-    ensures { OnOk result ((w : Word) → row_at rows.new (key_of w) ≡ row_at rows.old (key_of w) ++ touched w (item_of r.now ∷ [])) }
+    ensures { OnOk result ((w : Word) → row_at rows.new (key_of w) ≡ (if word_use w (touch (item_of r.now)) then row_at rows.old (key_of w) ++ item_of r.now ∷ [] else row_at rows.old (key_of w))) }
 {
     match Touched::by(r) {
         Touched::Draws { word, .. } | Touched::Shows { word, .. } => rows.put(

@@ -1,5 +1,5 @@
 -- What the tables of a journal say, as the definitions know it.
-use Rattle.std.proofs.Common.{◌≡◌, ℕ, suc, ◌+◌, ◌-◌, ◌≤◌, ◌==◌, nat_lt, min, Bool, true, false, cond, List, [], length, get_or, refl, ap, ◌∙◌, Some, None, arith}
+use Rattle.std.proofs.Common.{◌≡◌, ℕ, suc, ◌+◌, ◌-◌, ◌≤◌, ◌==◌, nat_lt, min, Bool, true, false, cond, List, [], length, get_or, refl, ap, sym, ◌∙◌, Some, None, arith}
 use Rattle.qp_model.specs.declared.systems.System.{System}
 use Rattle.qp_model.specs.declared.journals.Journal.{Journal}
 use Rattle.qp_model.specs.declared.bodies.Entry.{Entry}
@@ -13,6 +13,10 @@ use Rattle.qp_model.specs.Sites.{blocks_of}
 use Rattle.qp_model.specs.Knowing.{event_of, life_event, free_before, last_given, left_after, set_at}
 use Rattle.qp_model.specs.Lawful.{facts_of}
 use Rattle.qp_known.specs.KnownTables.{free_counts, left_counts, member_lists, value_at}
+use Rattle.qp_known.specs.KnownSteps.{last_from}
+use Rattle.qp_known.specs.KnownWords.{IsKnownBlock}
+use Rattle.qp_known.specs.declared.known_words.KnownBlock.{KnownBlock}
+use Rattle.qp_known.proofs.KnownEventLemmas.{last-own}
 use Rattle.qp_known.proofs.KnownTableLemmas.{length-values, value-at}
 
 module _ (sys : System) (j : Journal) where
@@ -48,6 +52,15 @@ module _ (sys : System) (j : Journal) where
       let long : length xs ≡ suc (length (hist (word.Block p b) (all_items j.lanes))) =
       ap length is ∙ length-values references (λ s. length s.names) references.first (hist (word.Block p b) (all_items j.lanes)) in
       omega (arith, long)
+
+  -- the event by a block's tables
+  pub event-known : (e : Entry) → (e.pool == 0) ≡ false → (t : KnownBlock) → IsKnownBlock (all_items j.lanes) e.pool e.block t
+      → cond (nat_lt e.name (length t.left.items - 1)) (last_from e.name None t.steps) None ≡ event_of (facts_of sys j) e
+  event-known e other t known =
+      let pool = hist (word.Pool e.pool) (all_items j.lanes) in
+      ap (λ n. cond (nat_lt e.name n) (last_from e.name None t.steps) None) (left-long t.left.items e.pool e.block known.left)
+      ∙ ap (λ o. cond (nat_lt e.name (length (hist (word.Block e.pool e.block) (all_items j.lanes)))) o None) (known.steps.same e.name ∙ last-own e.block e.name None pool)
+      ∙ sym (event-in_pool e other)
 
   pub event-static : (e : Entry) → (e.pool == 0) ≡ true → event_of (facts_of sys j) e ≡ Some (record { sig = e.block; pars = [] })
   unfolding event_of facts_of

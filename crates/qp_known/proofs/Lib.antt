@@ -3,5 +3,4 @@ pub mod HomeLaneLemmas
 pub mod KnownEventLemmas
 pub mod KnownFactLemmas
 pub mod KnownTableLemmas
-pub mod KnownWordLemmas
 pub mod ToldLemmas

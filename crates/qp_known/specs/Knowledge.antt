@@ -2,15 +2,14 @@
 use Rattle.std.specs.Prelude.{◌≡◌}
 use Rattle.qp_model.specs.declared.systems.System.{System}
 use Rattle.qp_model.specs.declared.journals.Journal.{Journal}
-use Rattle.qp_model.specs.History.{all_items}
 use Rattle.qp_model.specs.Knowing.{Facts}
 use Rattle.qp_model.specs.Lawful.{facts_of}
 use Rattle.qp_known.specs.KnownWords.{IsKnowledge}
-use Rattle.qp_known.specs.declared.known_facts.Knowledge.{Knowledge}
+use Rattle.qp_known.specs.declared.knowledge.Knowledge.{Knowledge}
 
 -- the tables are those of the system and the journal
 abbrev pub IsKnown : Knowledge → Type 0
-IsKnown k = IsKnowledge k.sys.now (all_items k.journal.now.lanes) k.pools.items k.signals.items
+IsKnown k = IsKnowledge k.sys.now k.journal.now.lanes k.records.now k.pools k.blocks k.signals
 
 -- what the definitions know of them
 abbrev pub facts_in : Knowledge → Facts

@@ -1,6 +1,6 @@
 pub mod HomeCounts
 pub mod Knowledge
-pub mod KnownFacts
+pub mod KnownSteps
 pub mod KnownTables
 pub mod KnownWords
 pub mod Looks

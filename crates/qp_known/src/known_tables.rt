@@ -2,13 +2,12 @@
 
 ghost use Rattle.std.specs.Prelude.{◌≡◌, ◌+◌, ◌<◌, ◌≤◌, ◌^◌, ℕ, IfOk, OnOk};
 ghost use Rattle.qp_model.specs.References.{Refs, references, refs_next};
-ghost use Rattle.qp_known.specs.KnownTables.{IsCounted, free_counts, given_in, gives, left_counts, member_lists, value_at};
-ghost use Rattle.qp_model.specs.Record.{item_of};
+ghost use Rattle.qp_known.specs.KnownTables.{IsCounted, free_counts, left_counts, member_lists, value_at};
 ghost use Rattle.qp_lanes.specs.WordTotals.{count_in};
 
 use qp_lanes::groups::Group;
 use qp_lanes::word_totals::Counts;
-use qp_model::{Body, Rec};
+use qp_model::Body;
 use qp_word_states::word_state::WordState;
 use qp_word_states::pools::FreeBlocks;
 use qp_word_states::signals::{Members, Subscribed};
@@ -105,27 +104,4 @@ pub fn member_lists(alloc: Global, history: &Group) -> Result<Vec<Subscribed>, A
     }
     lists.push(members.listed(alloc)?)?;
     Ok(lists)
-}
-
-#[tactic(auto, unfolding(qp_model::specs::Record::item_of))]
-fn gives(r: &Rec, b: u64) -> bool
-    ensures { result ≡ gives b (item_of r.now).body }
-{
-    match r.body() {
-        Body::New { b: c, .. } | Body::Back { b: c, .. } => c == b,
-        _ => false,
-    }
-}
-
-/// The operations of a pool that give block `b` out or back.
-pub(crate) fn given_in<'a>(alloc: Global, b: u64, pool: &Group<'a>) -> Result<Group<'a>, AllocError>
-    ensures { IfOk result (λ g. g ≡ given_in b pool.now) }
-{
-    let mut given = Group::new(alloc);
-    for r in &pool.items {
-        if gives(r, b) {
-            given.put(r)?;
-        }
-    }
-    Ok(given)
 }

@@ -8,8 +8,9 @@ ghost use Rattle.qp_fits.specs.AsPiece.{as_cut};
 ghost use Rattle.qp_known.specs.SpillCuts.{ends_with};
 
 use qp_fits::Cut;
-use qp_lanes::lane_parts::{home_lane, is_cut, lane_at};
+use qp_lanes::lane_parts::{home_lane, lane_at};
 use qp_lanes::record_tests::is_spill;
+use qp_model::ends::may_cut;
 use qp_model::{Journal, Rec, System};
 
 #[tactic(auto, unfolding(qp_model::specs::Record::item_of))]
@@ -44,7 +45,7 @@ fn ends_with(o: u8, front: &[Rec]) -> bool
 pub fn cut_of(sys: &System, j: &Journal, o: u8) -> Cut
     ensures { as_cut result ≡ cut_of sys.now j.now o }
 {
-    if !is_cut(j.end) {
+    if !may_cut(j.end) {
         Cut::Whole
     } else if spill_cuts(o, lane_at(j, home_lane(sys, j, o))) {
         Cut::Anywhere

@@ -11,9 +11,10 @@ ghost use Rattle.qp_model.specs.Sources.{source_records};
 ghost use Rattle.qp_known.specs.Knowledge.{IsKnown, facts_in};
 ghost use Rattle.qp_known.specs.Looks.{counted};
 
-use crate::known_facts::Knowledge;
+use crate::knowledge::Knowledge;
 use qp_fits::Told;
-use qp_lanes::lane_parts::{PORT, home_lane, lane_at};
+use qp_lanes::lane_parts::{home_lane, lane_at};
+use qp_model::kernels::PORT;
 use qp_model::{Body, Rec};
 use std::alloc::{AllocError, Global};
 

@@ -22,8 +22,6 @@ use Rattle.qp_word_rules.specs.declared.verdict.Broken.{Broken}
 use Rattle.qp_word_rules.specs.declared.rules.Rule.{Rule}
 use Rattle.qp_word_rules.specs.declared.rules.Rule.TheVariants as rule
 use Rattle.qp_histories.specs.Numbers.{WordsFit}
-use Rattle.qp_histories.specs.Slots.{slots_end}
-use Rattle.qp_histories.specs.Gathered.{in_table}
 use Rattle.qp_word_rules.specs.WordRules.{Try, first_broken, is_site, number_of, site_of, tries_at, tries_by, word_rules, word_tries, rule_holds, lives_hold, operations_allowed}
 use Rattle.qp_histories.specs.SystemWords.{words_of, pool_words, words_of_pool, block_words, queue_words, signal_words, timer_words}
 use Rattle.qp_word_rules.specs.Judging.{rule_test, lives_of}
@@ -109,17 +107,7 @@ list_all-at p [] i x all lt is = absurd (omega arith)
 list_all-at p (y ∷ ys) zero x all lt is = ap p is ∙ (both_true _ _ all).0
 list_all-at p (y ∷ ys) (suc i) x all lt is = list_all-at p ys i x (both_true _ _ all).1 (omega arith) is
 
-pub list_all-get : {X : Type 0} (p : X → Bool) (xs : List X) (i : ℕ) (d : X) → list_all p xs ≡ true → i < length xs → p (get_or xs i d) ≡ true
-list_all-get p [] i d all lt = absurd (omega arith)
-list_all-get p (y ∷ ys) zero d all lt = (both_true _ _ all).0
-list_all-get p (y ∷ ys) (suc i) d all lt = list_all-get p ys i d (both_true _ _ all).1 (omega arith)
-
-pub broken-all : (sys s : System) (lanes ls : List (List Rec)) (ws : List Word) (b : Option Broken) → s ≡ sys → ls ≡ lanes → ws ≡ words_of sys
-    → b ≡ first_broken (tries_by (rule_test s ls) word_rules ws) → b ≡ first_broken (word_tries sys lanes)
+pub broken-all : (sys : System) (lanes : List (List Rec)) (ws : List Word) (b : Option Broken) → ws ≡ words_of sys
+    → b ≡ first_broken (tries_by (rule_test sys lanes) word_rules ws) → b ≡ first_broken (word_tries sys lanes)
 unfolding word_tries
-broken-all sys s lanes ls ws b same lanes_same words told =
-    told
-    ∙ ap (λ vs. first_broken (tries_by (rule_test s ls) word_rules vs)) words
-    ∙ ap (λ t. first_broken (tries_by (rule_test t ls) word_rules (words_of sys))) same
-    ∙ ap (λ ks. first_broken (tries_by (rule_test sys ks) word_rules (words_of sys))) lanes_same
-    ∙ broken-tested sys lanes (words_of sys)
+broken-all sys lanes ws b words told = told ∙ ap (λ vs. first_broken (tries_by (rule_test sys lanes) word_rules vs)) words ∙ broken-tested sys lanes (words_of sys)

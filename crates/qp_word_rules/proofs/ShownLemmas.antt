@@ -12,7 +12,7 @@ use Rattle.qp_model.specs.Machine.{Machine, after, after_from, shown_by}
 use Rattle.qp_model.specs.WordOf.{fitting_number}
 use Rattle.qp_model.proofs.ListLemmas.{both_true, true_both}
 use Rattle.qp_lanes.specs.Groups.{has_key, of_key, grouped_from, grouped}
-use Rattle.qp_histories.specs.Marks.{touches, touched, shown_number, shown_key, mark_number, rises_from, shows_within}
+use Rattle.qp_histories.specs.Marks.{word_use, touched, shown_number, shown_key, mark_number, rises_from, shows_within}
 use Rattle.qp_word_states.specs.WordState.{shows_from}
 use Rattle.qp_word_rules.specs.Judging.{shown_of}
 use Rattle.qp_histories.proofs.NumberLemmas.{list_all_within}
@@ -75,7 +75,7 @@ module _ {S : Type 0} (m : Machine S) where
       rw no (ap (λ n. told (suc k) (m.next s i) is b (Some n)) e ∙ told-at (suc k) j (m.next s i) is b (omega arith))
 
   module _ (w : Word) (items : List Item) (h : List Item) (short : length h < 2 ^ 64) where
-    here : (b : Body) (t : Touch) → touches w t ≡ true → (shows_within (length h) t && told 0 m.first h b (shown_number t)) ≡ shown_by m w h b t
+    here : (b : Body) (t : Touch) → word_use w t ≡ true → (shows_within (length h) t && told 0 m.first h b (shown_number t)) ≡ shown_by m w h b t
     unfolding shown_by after
     here b (Draws v n) e = told-none 0 m.first h b
     here b Neither e = cc
@@ -89,7 +89,7 @@ module _ {S : Type 0} (m : Machine S) where
             let e : n ≡ 0 + n = omega arith in
             rw fits (ap (λ k. told 0 m.first h b (Some k)) e ∙ told-at 0 n m.first h b le)
 
-    elsewhere : (b : Body) (t : Touch) → touches w t ≡ false → shown_by m w h b t ≡ true
+    elsewhere : (b : Body) (t : Touch) → word_use w t ≡ false → shown_by m w h b t ≡ true
     unfolding shown_by
     elsewhere b (Draws v n) e = refl
     elsewhere b Neither e = refl
@@ -99,7 +99,7 @@ module _ {S : Type 0} (m : Machine S) where
     unfolding shown_of grouped touched
     shown-touched =
         let e : length h + 1 ≡ suc (length h) = omega arith in
-        sym (rw (e, shows-told 0 m.first h (filter (λ i. touches w (touch i)) items))
-        (list_all-and (λ i. shows_within (length h) (touch i)) (λ i. told 0 m.first h i.body (shown_key i)) (filter (λ i. touches w (touch i)) items)
-        ∙ list_all_within (λ i. shown_by m w h i.body (touch i)) (λ i. touches w (touch i)) (λ i. shows_within (length h) (touch i) && told 0 m.first h i.body (shown_key i))
+        sym (rw (e, shows-told 0 m.first h (filter (λ i. word_use w (touch i)) items))
+        (list_all-and (λ i. shows_within (length h) (touch i)) (λ i. told 0 m.first h i.body (shown_key i)) (filter (λ i. word_use w (touch i)) items)
+        ∙ list_all_within (λ i. shown_by m w h i.body (touch i)) (λ i. word_use w (touch i)) (λ i. shows_within (length h) (touch i) && told 0 m.first h i.body (shown_key i))
         (λ i q. here i.body (touch i) q) (λ i q. elsewhere i.body (touch i) q) items))

@@ -1,11 +1,12 @@
 //! The first definition of words that fails, and its first site.
 
-ghost use Rattle.std.specs.Prelude.{◌≡◌, ◌&&◌, not, IfOk, IsTrue, length};
-ghost use Rattle.std.specs.List.{list_all};
+ghost use Rattle.std.specs.Prelude.{◌≡◌, ◌&&◌, not, IfOk};
 ghost use Rattle.qp_model.specs.History.{all_items, hist, is_numbered, marks_rise};
 ghost use Rattle.qp_word_rules.specs.declared.rules.Rule.TheVariants as rule;
 ghost use Rattle.qp_histories.specs.Numbers.{WordsFit};
-ghost use Rattle.qp_word_rules.specs.Judging.{rule_test};
+ghost use Rattle.qp_model.specs.declared.systems.System.{System};
+ghost use Rattle.qp_model.specs.declared.words.Word.TheVariants as word_kind;
+ghost use Rattle.qp_word_rules.specs.Judging.{lives_of, rule_test};
 ghost use Rattle.qp_word_rules.specs.WordRules.{first_broken, is_site, operations_allowed, shown_right, tries_at, tries_by, word_tries};
 
 use crate::judging::{lives_of, operations_allowed, shown_at};
@@ -23,8 +24,7 @@ use std::alloc::{AllocError, Global};
 /// free blocks, the references, the lives of blocks, the lines of queues, what is shown, the subscribers
 /// and the time events, each over its words by kind and ascending. None where the words keep their law.
 ///
-/// It takes near linear time in the records: they are gathered by word, number and mark in one pass
-/// each. Only for the lives, each pool's operations are read once for each of its blocks.
+/// It takes near linear time in the records.
 pub fn words_broken(
     alloc: Global,
     sys: &System,
@@ -116,10 +116,10 @@ fn holds(
     ensures { IfOk result (λ b. b ≡ rule_test sys.now records.now rule word) }
 {
     match rule {
-        Rule::DrawnNumbers => numbered(alloc, sys, records, word),
+        Rule::DrawnNumbers => numbered(alloc, records, word),
         Rule::FreeBlocks => allowed(alloc, sys, records, word),
         Rule::References => allowed(alloc, sys, records, word),
-        Rule::Lives => lives_hold(alloc, sys, records, word),
+        Rule::Lives => lives_hold(alloc, records, word),
         Rule::Line => allowed(alloc, sys, records, word),
         Rule::ShownNumbers => shown_right(alloc, sys, records, word),
         Rule::Subscribers => allowed(alloc, sys, records, word),
@@ -127,15 +127,10 @@ fn holds(
     }
 }
 
-fn numbered(
-    alloc: Global,
-    sys: &System,
-    records: &RecordsByWord,
-    word: Word,
-) -> Result<bool, AllocError>
+fn numbered(alloc: Global, records: &RecordsByWord, word: Word) -> Result<bool, AllocError>
     ensures { IfOk result (λ b. b ≡ is_numbered word (all_items records.now)) }
 {
-    let holds = numbers_hold(alloc, gathered.touched(word))?;
+    let holds = numbers_hold(alloc, records.on(named(word)))?;
     Ok(holds)
 }
 
@@ -147,25 +142,31 @@ fn allowed(
 ) -> Result<bool, AllocError>
     ensures { IfOk result (λ b. b ≡ operations_allowed sys.now word (hist word (all_items records.now))) }
 {
-    let history = history_at(alloc, sys, records, word)?;
-    operations_allowed(alloc, gathered.sys, word, &history)
+    let history = records.history(alloc, named(word))?;
+    operations_allowed(alloc, sys, word, &history)
+}
+
+/// Whether the references of a block are allowed and its lives are as they must be.
+fn block_lives(alloc: Global, records: &RecordsByWord, p: u8, b: u8) -> Result<bool, AllocError>
+    ensures { IfOk result (λ r. r ≡ lives_of b (hist (word_kind.Pool p) (all_items records.now)) (hist (word_kind.Block p b) (all_items records.now))) }
+{
+    let block = records.history(alloc, named(Word::Block(p, b)))?;
+    match records.pool(u64::from(p)) {
+        Some(pool) => lives_of(alloc, b, pool, &block),
+        None => {
+            let pool = records.history(alloc, named(Word::Pool(p)))?;
+            let given = GivenBlocks::of(alloc, pool)?;
+            lives_of(alloc, b, &given, &block)
+        }
+    }
 }
 
 #[tactic(auto, unfolding(crate::specs::Judging::rule_test, crate::specs::WordRules::rule_holds, crate::specs::WordRules::lives_hold))]
-fn lives_hold(
-    alloc: Global,
-    sys: &System,
-    records: &RecordsByWord,
-    word: Word,
-) -> Result<bool, AllocError>
-    ensures { IfOk result (λ b. b ≡ rule_test sys.now records.now rule.Lives word) }
+fn lives_hold(alloc: Global, records: &RecordsByWord, word: Word) -> Result<bool, AllocError>
+    ensures { (sys : System) → IfOk result (λ b. b ≡ rule_test sys records.now rule.Lives word) }
 {
     match word {
-        Word::Block(p, b) => {
-            let pool = history_at(alloc, sys, records, Word::Pool(p))?;
-            let block = history_at(alloc, sys, records, Word::Block(p, b))?;
-            lives_of(alloc, b, &pool, &block)
-        }
+        Word::Block(p, b) => block_lives(alloc, records, p, b),
         Word::Pool(_) | Word::Queue(_) | Word::Signal(_) | Word::Timer(_) => Ok(true),
     }
 }
@@ -178,8 +179,9 @@ fn shown_right(
 ) -> Result<bool, AllocError>
     ensures { IfOk result (λ b. b ≡ (shown_right sys.now word (all_items records.now) && marks_rise word records.now)) }
 {
-    let touched = gathered.touched(word);
-    let history = history_at(alloc, sys, records, word)?;
-    let shown = shown_at(alloc, gathered.sys, word, touched, &history)?;
-    Ok(shown && gathered.rises(word))
+    let own = named(word);
+    let touched = records.on(own);
+    let history = records.history(alloc, own)?;
+    let shown = shown_at(alloc, sys, word, touched, &history)?;
+    Ok(shown && records.rise(own))
 }

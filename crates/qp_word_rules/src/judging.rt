@@ -1,28 +1,22 @@
 //! Each definition of words at one word.
 
-ghost use Rattle.std.specs.Prelude.{◌≡◌, ◌+◌, ◌<◌, ◌^◌, ◌&&◌, length, IfOk, IsTrue};
+ghost use Rattle.std.specs.Prelude.{◌≡◌, IfOk};
 ghost use Rattle.std.specs.List.{list_all};
-ghost use Rattle.qp_model.specs.History.{all_items, touch};
+ghost use Rattle.qp_model.specs.History.{touch};
 ghost use Rattle.qp_model.specs.Record.{item_of};
 ghost use Rattle.qp_model.specs.Machine.{is_allowed};
 ghost use Rattle.qp_model.specs.References.{references};
-ghost use Rattle.qp_histories.specs.Gathered.{IsGathered, in_table};
-ghost use Rattle.qp_word_states.specs.BlockLives.{block_key};
-ghost use Rattle.qp_lanes.specs.Groups.{has_key, of_key};
 ghost use Rattle.qp_word_rules.specs.Judging.{shown_of};
-ghost use Rattle.qp_histories.specs.Marks.{shows_within, touched};
+ghost use Rattle.qp_histories.specs.Marks.{shows_within};
 ghost use Rattle.qp_word_rules.specs.WordRules.{operations_allowed};
-ghost use Rattle.qp_word_rules.specs.Judging.{lives_of, rule_test, shown_at};
+ghost use Rattle.qp_word_rules.specs.Judging.{lives_of, shown_at};
 
-use crate::rules::Rule;
-use qp_histories::gathered::Gathered;
-use qp_histories::histories::{history, numbers_hold};
 use qp_histories::marks::{Mark, ShownNumber, mark_of};
-use qp_histories::words::{blocks_of, ring_of};
-use qp_lanes::groups::{Group, Key, grouped};
+use qp_lanes::given_blocks::GivenBlocks;
+use qp_lanes::groups::{Group, grouped};
 use qp_model::{Rec, System, Word};
 use qp_word_states::word_state::{self, WordState};
-use qp_word_states::lives::{self, GivenBlock};
+use qp_word_states::lives;
 use qp_word_states::pools::FreeBlocks;
 use qp_word_states::queues::Queue;
 use qp_word_states::references::empties;
@@ -41,9 +35,9 @@ pub(crate) fn operations_allowed(
     ensures { IfOk result (λ b. b ≡ operations_allowed sys.now word history.now) }
 {
     match word {
-        Word::Pool(p) => word_state::is_allowed(FreeBlocks::new(alloc, blocks_of(sys, p))?, history),
+        Word::Pool(p) => word_state::is_allowed(FreeBlocks::new(alloc, sys.blocks_of(u64::from(p)))?, history),
         Word::Block(..) => references_allowed(alloc, history),
-        Word::Queue(a) => word_state::is_allowed(Queue::new(alloc, ring_of(sys, a)), history),
+        Word::Queue(a) => word_state::is_allowed(Queue::new(alloc, sys.ring_of(u64::from(a))), history),
         Word::Signal(_) => word_state::is_allowed(Members::new(alloc), history),
         Word::Timer(_) => word_state::is_allowed(TimeEvent::new(), history),
     }
@@ -72,12 +66,12 @@ pub(crate) fn shown_at(
     match word {
         Word::Pool(p) => shows(
             alloc,
-            FreeBlocks::new(alloc, blocks_of(sys, p))?,
+            FreeBlocks::new(alloc, sys.blocks_of(u64::from(p)))?,
             touched,
             history,
         ),
         Word::Block(..) => Ok(true),
-        Word::Queue(a) => shows(alloc, Queue::new(alloc, ring_of(sys, a)), touched, history),
+        Word::Queue(a) => shows(alloc, Queue::new(alloc, sys.ring_of(u64::from(a))), touched, history),
         Word::Signal(_) => shows(alloc, Members::new(alloc), touched, history),
         Word::Timer(_) => shows(alloc, TimeEvent::new(), touched, history),
     }
@@ -129,36 +123,14 @@ fn is_within(r: &Rec, count: usize) -> bool
 pub(crate) fn lives_of(
     alloc: Global,
     b: u8,
-    pool: &Group,
+    pool: &GivenBlocks,
     block: &Group,
 ) -> Result<bool, AllocError>
     ensures { IfOk result (λ r. r ≡ lives_of b pool.now block.now) }
 {
-    let own = of_block(alloc, pool, usize::from(b))?;
+    let own = pool.on(u64::from(b));
     match empties(alloc, block)? {
-        Some(flags) => lives::has_lives(alloc, u64::from(b), &own, &flags),
+        Some(flags) => lives::has_lives(alloc, u64::from(b), own, &flags),
         None => Ok(false),
-    }
-}
-
-/// The pool's operations on block `b`.
-fn of_block<'a>(alloc: Global, pool: &Group<'a>, b: usize) -> Result<Group<'a>, AllocError>
-    ensures { IfOk result (λ g. g ≡ of_key block_key b pool.now) }
-{
-    let mut own = Group::new(alloc);
-    for r in &pool.items {
-        if is_of_block(r, b) {
-            own.put(r)?;
-        }
-    }
-    Ok(own)
-}
-
-fn is_of_block(r: &Rec, b: usize) -> bool
-    ensures { result ≡ has_key b (block_key (item_of r.now)) }
-{
-    match GivenBlock.key(r) {
-        Some(c) => c == b,
-        None => false,
     }
 }

@@ -1,6 +1,7 @@
 -- Free blocks as an ordered set.
-use Rattle.std.proofs.Common.{◌≡◌, ◌∙◌, ℕ, zero, suc, ◌+◌, ◌==◌, nat_lt, Bool, true, false, cond, List, [], ◌∷◌, ap, sym, refl, arith}
+use Rattle.std.proofs.Common.{◌≡◌, ◌∙◌, ℕ, zero, suc, ◌+◌, ◌<◌, ◌==◌, nat_lt, Bool, true, false, cond, List, [], ◌∷◌, ap, sym, refl, arith}
 use Rattle.std.proofs.lemmas.Bool.Decides.{nat_tests}
+use Rattle.std.proofs.lemmas.Cmp.{ranked}
 use Rattle.std.specs.declared.cmp.Ordering.TheVariants.{Less}
 use Rattle.std.specs.Ordering.{is_eq, nat_cmp}
 use Rattle.std.specs.List.{AllByRecursion, list_any}
@@ -13,12 +14,12 @@ use Rattle.qp_model.specs.Lists.{count_up, with_number, without_all}
 
 pub with-inserted : (n : ℕ) (xs : List ℕ) → insert_key nat_cmp xs n ≡ with_number n xs
 with-inserted n [] = refl
-with-inserted n (x ∷ xs) = go (nat_lt n x) refl (n == x) refl
+with-inserted n (x ∷ xs) = go (with-inserted n xs) (nat_lt n x) refl (n == x) refl
   where
-    go : (b : Bool) → nat_lt n x ≡ b → (s : Bool) → (n == x) ≡ s → insert_key nat_cmp (x ∷ xs) n ≡ with_number n (x ∷ xs)
-    go true e s f = rw e refl
-    go false e true f = rw (e, f) refl
-    go false e false f = rw (e, f) (ap (λ ys. x ∷ ys) (with-inserted n xs))
+    go : insert_key nat_cmp xs n ≡ with_number n xs → (b : Bool) → nat_lt n x ≡ b → (s : Bool) → (n == x) ≡ s → insert_key nat_cmp (x ∷ xs) n ≡ with_number n (x ∷ xs)
+    go later true e s f = rw e refl
+    go later false e true f = rw (e, f) refl
+    go later false e false f = rw (e, f) (ap (λ ys. x ∷ ys) later)
 
 at-same : (n x : ℕ) → is_at (nat_cmp n) x ≡ (x == n)
 at-same n x = go (nat_lt n x) refl (n == x) refl
@@ -31,24 +32,22 @@ at-same n x = go (nat_lt n x) refl (n == x) refl
 -- numbers above one don't have it
 above-without : (n : ℕ) (xs : List ℕ) → AllByRecursion (λ y. nat_cmp n y ≡ Less) xs → without_all n xs ≡ xs
 above-without n [] all = refl
-above-without n (y ∷ ys) all = go (nat_lt n y) refl (n == y) refl
-  where
-    go : (b : Bool) → nat_lt n y ≡ b → (s : Bool) → (n == y) ≡ s → without_all n (y ∷ ys) ≡ y ∷ ys
-    go true e s f = let other : (y == n) ≡ false = grind (arith, nat_tests) in rw other (ap (λ zs. y ∷ zs) (above-without n ys all.1))
-    go false e true f = let is : nat_cmp n y ≡ Less = all.0 in let no = sym (rw (e, f) refl) ∙ is in cc
-    go false e false f = let is : nat_cmp n y ≡ Less = all.0 in let no = sym (rw (e, f) refl) ∙ is in cc
+above-without n (y ∷ ys) all =
+    let above : n < y = ranked n y Less (sym all.0) in
+    let other : (y == n) ≡ false = grind (arith, nat_tests) in
+    rw other (ap (λ zs. y ∷ zs) (above-without n ys all.1))
 
 pub without-removed : (n : ℕ) (xs : List ℕ) → IsStrictlySortedBy nat_cmp xs → remove_key (is_at (nat_cmp n)) xs ≡ without_all n xs
 unfolding IsStrictlySortedBy
 without-removed n [] sorted = refl
-without-removed n (x ∷ xs) sorted = go (x == n) refl
+without-removed n (x ∷ xs) sorted = go (without-removed n xs sorted.1) (x == n) refl
   where
-    go : (b : Bool) → (x == n) ≡ b → remove_key (is_at (nat_cmp n)) (x ∷ xs) ≡ without_all n (x ∷ xs)
-    go true e =
+    go : remove_key (is_at (nat_cmp n)) xs ≡ without_all n xs → (b : Bool) → (x == n) ≡ b → remove_key (is_at (nat_cmp n)) (x ∷ xs) ≡ without_all n (x ∷ xs)
+    go later true e =
         let same : x ≡ n = grind (arith, nat_tests) in
         let here : is_at (nat_cmp n) x ≡ true = at-same n x ∙ e in
         rw (here, e) (sym (ap (λ k. without_all k xs) (sym same) ∙ above-without x xs sorted.0))
-    go false e = let here : is_at (nat_cmp n) x ≡ false = at-same n x ∙ e in rw (here, e) (ap (λ ys. x ∷ ys) (without-removed n xs sorted.1))
+    go later false e = let here : is_at (nat_cmp n) x ≡ false = at-same n x ∙ e in rw (here, e) (ap (λ ys. x ∷ ys) later)
 
 pub has-contained : (n : ℕ) (xs : List ℕ) → list_any (is_at (nat_cmp n)) xs ≡ has xs n
 has-contained n [] = refl

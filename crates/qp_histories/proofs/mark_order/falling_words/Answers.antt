@@ -1,7 +1,8 @@
-use Rattle.std.proofs.Common.{rules, ◌≡◌, ◌∙◌, ◌+◌, ◌++◌, ◌∷◌, [], not, ap, sym, take}
+use Rattle.std.proofs.Common.{rules, ◌≡◌, ◌∙◌, ◌+◌, ◌++◌, ◌∷◌, List, [], Bool, not, ap, sym, take}
 use Rattle.std.proofs.lemmas.List.{take_all, take_more}
 use Rattle.std.proofs.lemmas.List.Folds.{list_all-append}
 use Rattle.std.specs.List.{list_all}
+use Rattle.qp_model.specs.declared.record.Rec.{Rec}
 use Rattle.qp_model.specs.History.{lane_items}
 use Rattle.qp_lanes.specs.Keys.{key_of}
 use Rattle.qp_histories.specs.Marks.{rises_from, touched}
@@ -19,12 +20,12 @@ loop-lane-preserved c = λ w.
     let same = c.deref-lane-items.ensures.value ∙ c.lanes.view_is in
     let next : take (k + 1) c.args.lanes.now ≡ take k c.args.lanes.now ++ lane ∷ [] =
     rw (← same) (take_more xs k lane c.loop-lane-test.true ∙ ap (λ h. take k xs ++ h ∷ []) (sym c.lane-item.is)) in
-    let p = λ lane. rises_from 0 (touched w (lane_items lane)) in
+    let p : List Rec → Bool = λ lane. rises_from 0 (touched w (lane_items lane)) in
     c.in_ok-note_lane.ensures w ∙ lane-falls _ (list_all p (take k c.args.lanes.now)) (p lane) (c.loop-lane.invariant w)
     ∙ ap not (sym (ap (list_all p) next ∙ list_all-append p (take k c.args.lanes.now) (lane ∷ [])))
 
 pub returns : goal.returns
 returns c = λ w.
     let same = c.deref-lane-items.ensures.value ∙ c.lanes.view_is in
-    let p = λ lane. rises_from 0 (touched w (lane_items lane)) in
+    let p : List Rec → Bool = λ lane. rises_from 0 (touched w (lane_items lane)) in
     c.loop-lane.invariant w ∙ ap (λ l. not (list_all p l)) (rw (← same) (take_all c.loop-lane.lane-index c.deref-lane-items.result.now c.loop-lane-test.false)) ∙ ap not (lanes-rise w c.args.lanes.now)

@@ -1,8 +1,9 @@
-use Rattle.std.proofs.Common.{◌≡◌, ◌∙◌, ◌+◌, ◌++◌, ◌∷◌, [], ◌||◌, false, not, cond, ap, sym, take}
+use Rattle.std.proofs.Common.{◌≡◌, ◌∙◌, ◌+◌, ◌++◌, ◌∷◌, List, [], ◌||◌, false, not, cond, ap, sym, take}
 use Rattle.std.proofs.Math.Bool.{or-false}
 use Rattle.std.proofs.lemmas.List.{take_more}
 use Rattle.std.specs.BTreeSet.{contains}
-use Rattle.qp_model.specs.Record.{item_of}
+use Rattle.qp_model.specs.declared.words.Word.{Word}
+use Rattle.qp_model.specs.Record.{Item, item_of}
 use Rattle.qp_model.specs.History.{lane_items, touch}
 use Rattle.qp_lanes.proofs.LaneLemmas.{lane_items-more}
 use Rattle.qp_lanes.specs.Keys.{key_cmp, key_of}
@@ -23,8 +24,8 @@ loop-r-preserved c =
     let xs = c.deref-r-items.result.now in
     let same = c.deref-r-items.ensures.value ∙ c.lane.view_is in
     let next : take (k + 1) c.args.lane.now ≡ take k c.args.lane.now ++ r ∷ [] = rw (← same) (take_more xs k r c.loop-r-test.true ∙ ap (λ h. take k xs ++ h ∷ []) (sym c.r-item.is)) in
-    let front = λ w. touched w (lane_items (take k c.args.lane.now)) in
-    let more = λ w.
+    let front : Word → List Item = λ w. touched w (lane_items (take k c.args.lane.now)) in
+    let more : (w : Word) → touched w (lane_items (take (k + 1) c.args.lane.now)) ≡ front w ++ cond (word_use w (touch i)) (i ∷ []) [] = λ w.
     ap (λ l. touched w (lane_items l)) next ∙ ap (touched w) (lane_items-more (take k c.args.lane.now) r) ∙ touched-append w (lane_items (take k c.args.lane.now)) (i ∷ [])
     ∙ ap (λ l. front w ++ l) (touched-one w i) in
     record {

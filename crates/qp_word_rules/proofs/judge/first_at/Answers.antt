@@ -2,16 +2,13 @@ use Rattle.std.proofs.Common.{◌∙◌, ◌+◌, ap, sym, drop}
 use Rattle.std.proofs.lemmas.List.{drop_all}
 use Rattle.qp_word_rules.specs.Judging.{rule_test}
 use Rattle.qp_word_rules.specs.WordRules.{first_broken, tries_at}
-use Rattle.qp_word_rules.proofs.BrokenLemmas.{at-fails, at-next, list_all-get}
+use Rattle.qp_word_rules.proofs.BrokenLemmas.{at-fails, at-next}
 use Rattle.qp_lanes.proofs.WalkLemmas.{rest_get}
 use Rattle.qp_word_rules.proofs.judge.first_at.Goals as goal
 
-pub fails-requires-clause-word : goal.fails-requires-clause-word
-fails-requires-clause-word c = list_all-get _ c.args.words.now c.loop-word.word-index _ c.requires.words c.loop-word-test.true
-
 pub returns-then-branch : goal.returns-then-branch
 returns-then-branch c =
-    let h = rule_test c.args.gathered.now.sys.now c.args.gathered.now.lanes.now in
+    let h = rule_test c.args.sys.now c.args.records.now in
     rw (c.number.ensures, c.site_of.ensures)
     (sym (c.loop-word.invariant
     ∙ ap (λ ws. first_broken (tries_at h c.args.rule ws)) (rest_get c.args.words.now c.loop-word.word-index _ c.loop-word-test.true)
@@ -19,7 +16,7 @@ returns-then-branch c =
 
 pub loop-word-preserved : goal.loop-word-preserved
 loop-word-preserved c =
-    let h = rule_test c.args.gathered.now.sys.now c.args.gathered.now.lanes.now in
+    let h = rule_test c.args.sys.now c.args.records.now in
     c.loop-word.invariant
     ∙ ap (λ ws. first_broken (tries_at h c.args.rule ws)) (rest_get c.args.words.now c.loop-word.word-index _ c.loop-word-test.true)
     ∙ at-next h c.args.rule _ (drop (c.loop-word.word-index + 1) c.args.words.now) (sym c.in_ok-fails.ensures ∙ c.if-branch.false)
@@ -27,5 +24,5 @@ loop-word-preserved c =
 pub returns : goal.returns
 unfolding first_broken
 returns c =
-    let h = rule_test c.args.gathered.now.sys.now c.args.gathered.now.lanes.now in
+    let h = rule_test c.args.sys.now c.args.records.now in
     sym (c.loop-word.invariant ∙ ap (λ ws. first_broken (tries_at h c.args.rule ws)) (drop_all c.loop-word.word-index c.args.words.now c.loop-word-test.false))

@@ -5,5 +5,5 @@ use Rattle.qp_word_rules.proofs.judge.first_at.Given as goal
 
 abbrev pub invariant-loop-word : goal.invariant-loop-word
 invariant-loop-word l =
-    first_broken (tries_at (rule_test l.gathered.sys.now l.gathered.lanes.now) l.rule l.words)
-    ≡ first_broken (tries_at (rule_test l.gathered.sys.now l.gathered.lanes.now) l.rule (drop l.word-index l.words))
+    first_broken (tries_at (rule_test l.sys l.records) l.rule l.words)
+    ≡ first_broken (tries_at (rule_test l.sys l.records) l.rule (drop l.word-index l.words))

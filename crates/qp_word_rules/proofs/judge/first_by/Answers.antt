@@ -8,7 +8,7 @@ use Rattle.qp_word_rules.proofs.judge.first_by.Goals as goal
 
 pub returns-in-Some : goal.returns-in-Some
 returns-in-Some c =
-    let h = rule_test c.args.gathered.now.sys.now c.args.gathered.now.lanes.now in
+    let h = rule_test c.args.sys.now c.args.records.now in
     let words = c.args.words.now in
     sym (c.loop-rule.invariant
     ∙ ap (λ rs. first_broken (tries_by h rs words)) (rest_get c.args.rules.now c.loop-rule.rule-index _ c.loop-rule-test.true)
@@ -16,7 +16,7 @@ returns-in-Some c =
 
 pub loop-rule-preserved : goal.loop-rule-preserved
 loop-rule-preserved c =
-    let h = rule_test c.args.gathered.now.sys.now c.args.gathered.now.lanes.now in
+    let h = rule_test c.args.sys.now c.args.records.now in
     let words = c.args.words.now in
     c.loop-rule.invariant
     ∙ ap (λ rs. first_broken (tries_by h rs words)) (rest_get c.args.rules.now c.loop-rule.rule-index _ c.loop-rule-test.true)
@@ -25,5 +25,5 @@ loop-rule-preserved c =
 pub returns : goal.returns
 unfolding first_broken
 returns c =
-    let h = rule_test c.args.gathered.now.sys.now c.args.gathered.now.lanes.now in
+    let h = rule_test c.args.sys.now c.args.records.now in
     sym (c.loop-rule.invariant ∙ ap (λ rs. first_broken (tries_by h rs c.args.words.now)) (drop_all c.loop-rule.rule-index c.args.rules.now c.loop-rule-test.false))

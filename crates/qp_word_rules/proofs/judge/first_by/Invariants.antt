@@ -5,5 +5,5 @@ use Rattle.qp_word_rules.proofs.judge.first_by.Given as goal
 
 abbrev pub invariant-loop-rule : goal.invariant-loop-rule
 invariant-loop-rule l =
-    first_broken (tries_by (rule_test l.gathered.sys.now l.gathered.lanes.now) l.rules l.words)
-    ≡ first_broken (tries_by (rule_test l.gathered.sys.now l.gathered.lanes.now) (drop l.rule-index l.rules) l.words)
+    first_broken (tries_by (rule_test l.sys l.records) l.rules l.words)
+    ≡ first_broken (tries_by (rule_test l.sys l.records) (drop l.rule-index l.rules) l.words)

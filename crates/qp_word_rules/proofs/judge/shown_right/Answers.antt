@@ -1,6 +1,7 @@
 use Rattle.std.proofs.Common.{◌≡◌, ◌∙◌, ◌&&◌, ◌<◌, ◌^◌, ap, sym, refl, length, arith}
 use Rattle.qp_model.specs.Record.{item_of}
 use Rattle.qp_model.specs.History.{all_items, hist, marks_rise}
+use Rattle.qp_histories.specs.Marks.{touched}
 use Rattle.qp_word_rules.specs.Judging.{shown_at}
 use Rattle.qp_word_rules.specs.WordRules.{shown_right}
 use Rattle.qp_lanes.proofs.WalkLemmas.{length_seen}
@@ -10,15 +11,18 @@ use Rattle.qp_word_rules.proofs.judge.shown_right.Goals.{then-shown, else-shown}
 
 pub returns : goal.returns
 returns c =
-    let sys = c.args.gathered.now.sys.now in
-    let lanes = c.args.gathered.now.lanes.now in
+    let sys = c.args.sys.now in
+    let lanes = c.args.records.now in
     let w = c.args.word in
     let items = all_items lanes in
+    let own = c.named-own.ensures in
+    let on = c.on-touched.ensures ∙ ap (λ v. touched v items) own in
+    let read = c.in_ok-history.ensures ∙ ap (λ v. hist v items) own in
     let seen = length_seen (λ r. item_of r.now) c.history.view_is refl in
-    let short : length (hist w items) < 2 ^ 64 = omega (arith, seen, ap length c.in_ok-history.ensures, c.history.inside.items.ok.0, c.history.inside.items.small) in
+    let short : length (hist w items) < 2 ^ 64 = omega (arith, seen, ap length read, c.history.inside.items.ok.0, c.history.inside.items.small) in
     let shown : c.in_ok-shown.shown ≡ shown_right sys w items =
-    c.in_ok-shown.ensures ∙ ap (λ t. shown_at sys w t c.in_ok-history.history) c.touched-touched.ensures ∙ ap (shown_at sys w _) c.in_ok-history.ensures ∙ sym (shown-right sys w items short) in
+    c.in_ok-shown.ensures ∙ ap (λ t. shown_at sys w t c.in_ok-history.history) on ∙ ap (shown_at sys w _) read ∙ sym (shown-right sys w items short) in
     elim c.if-shown.branch [
-      | then-shown w2 ↦ w2.result-is ∙ w2.rises.ensures ∙ ap (λ b. b && marks_rise w lanes) (sym w2.if-shown.true ∙ shown)
+      | then-shown w2 ↦ w2.result-is ∙ w2.rise.ensures ∙ ap (λ v. marks_rise v lanes) own ∙ ap (λ b. b && marks_rise w lanes) (sym w2.if-shown.true ∙ shown)
       | else-shown w2 ↦ w2.result-is ∙ w2.if-shown.false ∙ ap (λ b. b && marks_rise w lanes) (sym w2.if-shown.false ∙ shown)
     ]
