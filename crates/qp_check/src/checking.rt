@@ -8,7 +8,8 @@ ghost use Rattle.qp_check.specs.Judged.{Finds, IsVerdict, end_trials, kernel_tri
 
 use crate::object_tests::objects_broken;
 use crate::run_parts::{end_broken, kernel_broken, lanes_broken};
-use qp_known::known_facts::Knowledge;
+use qp_histories::records_by_word::RecordsByWord;
+use qp_known::knowledge::Knowledge;
 use qp_model::{Journal, Stimuli, System};
 use qp_word_rules::judge::words_broken;
 use qp_word_rules::verdict::{Broken, Verdict};
@@ -20,13 +21,15 @@ fn later_broken(
     sys: &System,
     stim: &Stimuli,
     j: &Journal,
+    records: &RecordsByWord,
 ) -> Result<Option<Broken>, AllocError>
     requires judgeable { IsJudgeable sys.now }
+    requires same { records.now ≡ j.now.lanes }
     requires words { Words sys.now j.now.lanes }
     requires few { length stim.now ≤ 16 }
     ensures { IfOk result (λ o. Finds (object_trials sys.now j.now ++ (kernel_trials sys.now j.now ++ (lane_trials sys.now stim.now j.now ++ end_trials sys.now j.now))) o) }
 {
-    let knowledge = Knowledge::of(alloc, sys, j)?;
+    let knowledge = Knowledge::of(alloc, sys, j, records)?;
     let objects = objects_broken(alloc, &knowledge, sys, j)?;
     match objects {
         Some(broken) => return Ok(Some(broken)),
@@ -42,7 +45,7 @@ fn later_broken(
         Some(broken) => return Ok(Some(broken)),
         None => {}
     }
-    let end = end_broken(alloc, sys, j)?;
+    let end = end_broken(alloc, sys, j, records)?;
     Ok(end)
 }
 
@@ -58,12 +61,13 @@ fn first_broken(
     requires few { length stim.now ≤ 16 }
     ensures { IfOk result (λ o. Finds (trials sys.now stim.now j.now) o) }
 {
-    let words = words_broken(alloc, sys, &j.lanes)?;
+    let records = RecordsByWord::of(alloc, &j.lanes)?;
+    let words = words_broken(alloc, sys, &records)?;
     match words {
         Some(broken) => return Ok(Some(broken)),
         None => {}
     }
-    let later = later_broken(alloc, sys, stim, j)?;
+    let later = later_broken(alloc, sys, stim, j, &records)?;
     Ok(later)
 }
 

@@ -14,21 +14,18 @@ ghost use Rattle.qp_word_rules.specs.declared.verdict.Site.TheVariants as site;
 
 use crate::parts::{Records, has_shape, home_records, object_records};
 use qp_course::follows;
-use qp_known::known_facts::Knowledge;
+use qp_known::knowledge::Knowledge;
 use qp_known::told_cut::cut_of;
 use qp_known::told_home::is_home_lane;
 use qp_known::told_lists::keep_dispatched;
 use qp_lanes::deferral::keeps_deferred;
-use qp_lanes::lane_parts::{PORT, home_lane, is_cut, lane_at};
+use qp_lanes::lane_parts::{home_lane, lane_at};
+use qp_model::definitions::{COURSE, DEFERRAL, SHAPES};
+use qp_model::ends::may_cut;
+use qp_model::kernels::PORT;
 use qp_model::{Journal, ObjectDef, System};
 use qp_word_rules::verdict::{Broken, Site};
 use std::alloc::{AllocError, Global};
-
-const COURSE: u8 = 7;
-
-const SHAPES: u8 = 15;
-
-const DEFERRAL: u8 = 17;
 
 fn at_object(definition: u8, d: &ObjectDef) -> Broken
     ensures number { result.definition ≡ definition }
@@ -75,7 +72,7 @@ fn has_its_home(
         return Ok(false);
     }
     let home = home_lane(sys, j, d.priority);
-    let is_home = is_home_lane(alloc, d.priority, j.budget, is_cut(j.end), lane_at(j, home))?;
+    let is_home = is_home_lane(alloc, d.priority, j.budget, may_cut(j.end), lane_at(j, home))?;
     Ok(is_home)
 }
 

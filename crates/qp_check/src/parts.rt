@@ -11,7 +11,7 @@ ghost use Rattle.qp_fits.specs.Decides.{Decides};
 ghost use Rattle.qp_known.specs.Knowledge.{IsKnowledgeOf};
 
 use qp_fits::{Cut, Told};
-use qp_known::known_facts::Knowledge;
+use qp_known::knowledge::Knowledge;
 use qp_known::told_lists::{self, source_told};
 use qp_model::{Journal, ObjectDef, Rec, Source, System};
 use qp_shapes::Scene;

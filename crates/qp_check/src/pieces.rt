@@ -15,7 +15,7 @@ ghost use Rattle.qp_check.specs.ObjectPieces.{own_piece, pieces_of, point_of, st
 
 use crate::pieces_rows::ObjectPieces;
 use qp_fits::{Piece, Told};
-use qp_known::known_facts::Knowledge;
+use qp_known::knowledge::Knowledge;
 use qp_known::told_lists::is_turn_mark;
 use qp_lane_zero::lane_state::{Place, Reading, Rules};
 use qp_lanes::lane_parts::lane_at;

@@ -24,23 +24,19 @@ use crate::pieces::lane_pieces;
 use crate::pieces_rows::ObjectPieces;
 use qp_course::follows_with_points;
 use qp_ending::ending::end_holds;
-use qp_known::known_facts::Knowledge;
+use qp_histories::records_by_word::RecordsByWord;
+use qp_known::knowledge::Knowledge;
 use qp_known::told_cut::cut_of;
-use qp_lane_zero::kernel_lane::{SIM, is_kernel_lane};
-use qp_lane_zero::lane_state::QV;
+use qp_lane_zero::kernel_lane::is_kernel_lane;
 use qp_lane_zero::one_order::{is_one_order, spills_in};
 use qp_lanes::lane_parts::{
-    PORT, count_stands, lane_at, lane_zero_stands, lanes_before, source_lanes,
+    count_stands, lane_at, lane_zero_stands, lanes_before, source_lanes,
 };
+use qp_model::definitions::{END, KERNEL_LANE, SOURCES};
+use qp_model::kernels::{PORT, has_one_order};
 use qp_model::{Journal, ObjectDef, Rec, Source, Stimuli, System};
 use qp_word_rules::verdict::{Broken, Site};
 use std::alloc::{AllocError, Global};
-
-const KERNEL_LANE: u8 = 19;
-
-const SOURCES: u8 = 20;
-
-const END: u8 = 21;
 
 /// Whether in an object's steps a row of looks stands after each action and each post of a publication.
 fn has_its_points(
@@ -225,12 +221,6 @@ fn order_holds(
     Ok(behind)
 }
 
-fn has_one_order(kernel: u8) -> bool
-    ensures { result ≡ one_order kernel }
-{
-    kernel == SIM || kernel == QV
-}
-
 /// Whether there are no lanes more, and the records of a run with one thread have one order.
 fn lanes_hold(
     alloc: Global,
@@ -296,11 +286,13 @@ pub(crate) fn end_broken(
     alloc: Global,
     sys: &System,
     j: &Journal,
+    records: &RecordsByWord,
 ) -> Result<Option<Broken>, AllocError>
-    requires { WordsFit sys.now }
+    requires few { WordsFit sys.now }
+    requires same { records.now ≡ j.now.lanes }
     ensures { IfOk result (λ o. Finds (end_trials sys.now j.now) o) }
 {
-    if end_holds(alloc, sys, j)? {
+    if end_holds(alloc, sys, j, records)? {
         return Ok(None);
     }
     Ok(Some(Broken {

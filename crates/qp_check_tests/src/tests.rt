@@ -5,6 +5,7 @@ use arrayvec::{ArrayString, ArrayVec};
 use qp_base::Ev;
 use qp_check::Site;
 use qp_ending::ending::end_holds;
+use qp_histories::records_by_word::RecordsByWord;
 use qp_model::{
     Charts, Entry, Journal, Lane, Lanes, ObjectDef, ObjectDefs, PoolDef, PoolDefs, Rec, SignalDef,
     SignalDefs, System, TimerDef, TimerDefs, Values,
@@ -74,7 +75,8 @@ fn verdict(alloc: Global, kernel: Vec<Rec>, source: Vec<Rec>) -> Result<(u8, Sit
     let lanes = Lanes {
         items: vec![in alloc; Lane { items: kernel }, Lane { items: source }]?,
     };
-    match words_broken(alloc, &sys, &lanes)? {
+    let records = RecordsByWord::of(alloc, &lanes)?;
+    match words_broken(alloc, &sys, &records)? {
         Some(broken) => Ok((broken.definition, broken.site)),
         None => Ok((0, Site::Whole)),
     }
@@ -267,7 +269,8 @@ fn ends(alloc: Global, records: Vec<Rec>) -> Result<bool, AllocError> {
         lanes,
         end: 0,
     };
-    end_holds(alloc, &sys, &j)
+    let by_word = RecordsByWord::of(alloc, &j.lanes)?;
+    end_holds(alloc, &sys, &j, &by_word)
 }
 
 /// A block has a deferred entry, or none, and an entry waits in a queue.

@@ -1,4 +1,4 @@
--- Words that are in the tables, a walk over a history, and a test of all numbers below another.
+-- A walk over a history, and a test of all numbers below another.
 use Rattle.std.proofs.Common.{◌≡◌, ℕ, suc, ◌+◌, ◌*◌, ◌≤◌, ◌<◌, ◌==◌, nat_lt, nat_le, Bool, true, false, ◌&&◌, cond, List, [], ◌∷◌, ◌++◌, length, drop, get_or, refl, ap, sym, ◌∙◌, arith, append_assoc, append-nil}
 use Rattle.std.proofs.lemmas.List.{drop_all}
 use Rattle.std.proofs.lemmas.Bool.Decides.{nat_tests}
@@ -12,27 +12,8 @@ use Rattle.qp_model.specs.Line.{Line, line}
 use Rattle.qp_model.specs.Lists.{all_below, count_up}
 use Rattle.qp_model.specs.Machine.{Machine, after, after_from}
 use Rattle.qp_model.proofs.ListLemmas.{true_both}
-use Rattle.qp_histories.specs.Gathered.{in_table}
 use Rattle.qp_word_states.specs.WordState.{said}
-use Rattle.qp_histories.specs.Slots.{slots_end}
 use Rattle.qp_lanes.proofs.WalkLemmas.{rest_get}
-
-below : (m n : ℕ) → m < n → nat_lt m n ≡ true
-below m n h = grind (arith, nat_tests)
-
-at_most : (m n : ℕ) → m ≤ n → nat_le m n ≡ true
-at_most m n h = grind (arith, nat_tests)
-
-pub pool-in_table : (pools signals p : ℕ) → p < 256 → in_table pools signals (word.Pool p) ≡ true
-pool-in_table pools signals p lt = true_both _ _ (true_both _ _ (below p 256 lt) refl) (below p (slots_end pools signals) (omega arith))
-
-pub queue-in_table : (pools signals a : ℕ) → a < 256 → in_table pools signals (word.Queue a) ≡ true
-queue-in_table pools signals a lt = true_both _ _ (true_both _ _ (below a 256 lt) refl) (below (256 + a) (slots_end pools signals) (omega arith))
-
-pub block-in_table : (pools signals p b : ℕ) → p ≤ pools → p < 256 → b < 256 → in_table pools signals (word.Block p b) ≡ true
-block-in_table pools signals p b le lt less =
-    true_both _ _ (true_both _ _ (true_both _ _ (below p 256 lt) (below b 256 less)) (at_most p pools le))
-    (below (768 + (p * 256 + b)) (slots_end pools signals) (omega arith))
 
 -- a test of all numbers below one more
 pub below-more : (p : ℕ → Bool) (k : ℕ) → all_below k p ≡ true → p k ≡ true → all_below (k + 1) p ≡ true

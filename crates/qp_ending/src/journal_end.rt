@@ -11,13 +11,12 @@ ghost use Rattle.qp_ending.specs.Takes.{AreTakesOf};
 
 use crate::lane_ends::{fits, nothing_follows, spents_are_seen, spills_stand};
 use crate::takes::Takes;
-use qp_lanes::lane_parts::{ASSERTED, SPENT, asserts, home_lane};
+use qp_lanes::lane_parts::{asserts, home_lane};
+use qp_model::ends::{ASSERTED, QUIET, SPENT};
 use qp_lanes::record_tests;
 use qp_model::{Journal, Rec, System};
 
 /// No run stopped early.
-pub(crate) const QUIET: u8 = 0;
-
 fn ends(lane: &[Rec]) -> bool
     ensures { result ≡ list_any (λ i. is_end i.body) (lane_items lane.now) }
 {

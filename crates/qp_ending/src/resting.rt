@@ -11,28 +11,27 @@ ghost use Rattle.qp_model.specs.Machine.{after};
 ghost use Rattle.qp_model.specs.References.{references};
 ghost use Rattle.qp_model.specs.Sites.{blocks_of, ring_of};
 ghost use Rattle.qp_model.specs.declared.words.Word.TheVariants as word;
-ghost use Rattle.qp_histories.specs.Gathered.{IsGathered, in_table};
 ghost use Rattle.qp_histories.specs.Numbers.{WordsFit};
 ghost use Rattle.qp_ending.specs.Resting.{Counted};
 
 use crate::reference_counts::ReferenceCounts;
-use qp_histories::gathered::{Gathered, history_at};
 use qp_histories::histories::draw_count;
-use qp_histories::words::{blocks_of, ring_of};
+use qp_histories::records_by_word::RecordsByWord;
 use qp_lanes::deferred_entries::deferred;
-use qp_model::{Entry, Journal, System, Word};
+use qp_lanes::keys::named;
+use qp_model::{Entry, Journal, Named, System, Word};
 use qp_word_states::pools::FreeBlocks;
 use qp_word_states::queues::Queue;
 use qp_word_states::word_state;
 use std::alloc::{AllocError, Global};
 
 /// Whether the queue of an object is empty in the end.
-fn line_is_empty(alloc: Global, gathered: &Gathered, a: u8) -> Result<bool, AllocError>
-    requires { IsGathered gathered.now.sys.now gathered.now.lanes.now gathered.now.slots.pools gathered.now.touched gathered.now.falls.items }
-    ensures { IfOk result (λ b. b ≡ (length (after (line (ring_of gathered.now.sys.now a)) (hist (word.Queue a) (all_items gathered.now.lanes.now))).entries == 0)) }
+fn line_is_empty(alloc: Global, sys: &System, records: &RecordsByWord, a: u8) -> Result<bool, AllocError>
+    ensures { IfOk result (λ b. b ≡ (length (after (line (ring_of sys.now a)) (hist (word.Queue a) (all_items records.now))).entries == 0)) }
 {
-    let history = history_at(alloc, gathered, Word::Queue(a))?;
-    let mut queue = Queue::new(alloc, ring_of(gathered.sys, a));
+    let own = u64::from(a);
+    let history = records.history(alloc, Named::Queue { a: own })?;
+    let mut queue = Queue::new(alloc, sys.ring_of(own));
     word_state::run(&mut queue, &history)?;
     let empty = queue.is_empty();
     Ok(empty)
@@ -40,13 +39,11 @@ fn line_is_empty(alloc: Global, gathered: &Gathered, a: u8) -> Result<bool, Allo
 
 /// Whether every queue is empty in the end.
 #[tactic(auto, unfolding(qp_model::specs::End::lines_empty))]
-fn lines_empty(alloc: Global, gathered: &Gathered) -> Result<bool, AllocError>
-    requires { IsGathered gathered.now.sys.now gathered.now.lanes.now gathered.now.slots.pools gathered.now.touched gathered.now.falls.items }
-    ensures { IfOk result (λ b. b ≡ lines_empty gathered.now.sys.now (all_items gathered.now.lanes.now)) }
+fn lines_empty(alloc: Global, sys: &System, records: &RecordsByWord) -> Result<bool, AllocError>
+    ensures { IfOk result (λ b. b ≡ lines_empty sys.now (all_items records.now)) }
 {
-    let sys = gathered.sys;
     for d in &sys.objects.items {
-        if !line_is_empty(alloc, gathered, d.priority)? {
+        if !line_is_empty(alloc, sys, records, d.priority)? {
             return Ok(false);
         }
     }
@@ -73,25 +70,33 @@ fn names_on(alloc: Global, p: u64, b: u64, entries: &[Entry]) -> Result<Vec<u64>
 }
 
 /// The free blocks of a pool in the end.
-fn free_in(alloc: Global, gathered: &Gathered, p: u8) -> Result<FreeBlocks, AllocError>
-    requires { IsGathered gathered.now.sys.now gathered.now.lanes.now gathered.now.slots.pools gathered.now.touched gathered.now.falls.items }
-    ensures { IfOk result (λ f. f.free.items ≡ (after (free_blocks (blocks_of gathered.now.sys.now p)) (hist (word.Pool p) (all_items gathered.now.lanes.now))).free) }
+fn free_in(
+    alloc: Global,
+    sys: &System,
+    records: &RecordsByWord,
+    p: u8,
+) -> Result<FreeBlocks, AllocError>
+    ensures { IfOk result (λ f. f.free.keys ≡ (after (free_blocks (blocks_of sys.now p)) (hist (word.Pool p) (all_items records.now))).free) }
 {
-    let history = history_at(alloc, gathered, Word::Pool(p))?;
-    let mut free = FreeBlocks::new(alloc, blocks_of(gathered.sys, p))?;
+    let own = u64::from(p);
+    let history = records.history(alloc, Named::Pool { p: own })?;
+    let mut free = FreeBlocks::new(alloc, sys.blocks_of(own))?;
     word_state::run(&mut free, &history)?;
     Ok(free)
 }
 
 /// The references to a block that stand in the end.
-fn standing(alloc: Global, gathered: &Gathered, p: u8, b: u8) -> Result<ReferenceCounts, AllocError>
-    requires gathered { IsGathered gathered.now.sys.now gathered.now.lanes.now gathered.now.slots.pools gathered.now.touched gathered.now.falls.items }
-    requires pool { p ≤ gathered.now.slots.pools }
-    ensures { IfOk result (λ s. Counted (after references (hist (word.Block p b) (all_items gathered.now.lanes.now))).names s.counts.items s.total) }
+fn standing(
+    alloc: Global,
+    records: &RecordsByWord,
+    p: u8,
+    b: u8,
+) -> Result<ReferenceCounts, AllocError>
+    ensures { IfOk result (λ s. Counted (after references (hist (word.Block p b) (all_items records.now))).names s.counts.items s.total) }
 {
-    let word = Word::Block(p, b);
-    let size = draw_count(gathered.touched(word));
-    let history = history_at(alloc, gathered, word)?;
+    let own = named(Word::Block(p, b));
+    let size = draw_count(records.on(own));
+    let history = records.history(alloc, own)?;
     ReferenceCounts::after(alloc, &history, size)
 }
 
@@ -99,21 +104,20 @@ fn standing(alloc: Global, gathered: &Gathered, p: u8, b: u8) -> Result<Referenc
 #[tactic(auto, unfolding(qp_model::specs::End::block_rests))]
 fn block_rests(
     alloc: Global,
-    gathered: &Gathered,
+    sys: &System,
+    records: &RecordsByWord,
     free: &FreeBlocks,
     deferred: &[Entry],
     p: u8,
     b: u8,
 ) -> Result<bool, AllocError>
-    requires gathered { IsGathered gathered.now.sys.now gathered.now.lanes.now gathered.now.slots.pools gathered.now.touched gathered.now.falls.items }
-    requires pool { p ≤ gathered.now.slots.pools }
-    requires free { free.now.free.items ≡ (after (free_blocks (blocks_of gathered.now.sys.now p)) (hist (word.Pool p) (all_items gathered.now.lanes.now))).free }
-    ensures { IfOk result (λ r. r ≡ block_rests gathered.now.sys.now (all_items gathered.now.lanes.now) deferred.now p b) }
+    requires free { free.now.free.keys ≡ (after (free_blocks (blocks_of sys.now p)) (hist (word.Pool p) (all_items records.now))).free }
+    ensures { IfOk result (λ r. r ≡ block_rests sys.now (all_items records.now) deferred.now p b) }
 {
-    if numbers::has(&free.free, u64::from(b)) {
+    if free.has(u64::from(b)) {
         return Ok(true);
     }
-    let counts = standing(alloc, gathered, p, b)?;
+    let counts = standing(alloc, records, p, b)?;
     let names = names_on(alloc, u64::from(p), u64::from(b), deferred)?;
     counts.are(alloc, &names)
 }
@@ -121,17 +125,17 @@ fn block_rests(
 /// The same of all blocks of a pool.
 fn pool_rests(
     alloc: Global,
-    gathered: &Gathered,
+    sys: &System,
+    records: &RecordsByWord,
     deferred: &[Entry],
     p: u8,
 ) -> Result<bool, AllocError>
-    requires gathered { IsGathered gathered.now.sys.now gathered.now.lanes.now gathered.now.slots.pools gathered.now.touched gathered.now.falls.items }
-    requires pool { p ≤ gathered.now.slots.pools }
-    ensures { IfOk result (λ r. r ≡ all_below (blocks_of gathered.now.sys.now p) (block_rests gathered.now.sys.now (all_items gathered.now.lanes.now) deferred.now p)) }
+    ensures { IfOk result (λ r. r ≡ all_below (blocks_of sys.now p) (block_rests sys.now (all_items records.now) deferred.now p)) }
 {
-    let free = free_in(alloc, gathered, p)?;
-    for b in 0..blocks_of(gathered.sys, p) {
-        if !block_rests(alloc, gathered, &free, deferred, p, b)? {
+    let free = free_in(alloc, sys, records, p)?;
+    let own = u64::from(p);
+    for b in 0..sys.blocks_of(own) {
+        if !block_rests(alloc, sys, records, &free, deferred, p, b)? {
             return Ok(false);
         }
     }
@@ -140,14 +144,17 @@ fn pool_rests(
 
 /// The same of all blocks.
 #[tactic(auto, unfolding(qp_model::specs::End::blocks_rest))]
-fn blocks_rest(alloc: Global, gathered: &Gathered, deferred: &[Entry]) -> Result<bool, AllocError>
-    requires gathered { IsGathered gathered.now.sys.now gathered.now.lanes.now gathered.now.slots.pools gathered.now.touched gathered.now.falls.items }
-    requires few { WordsFit gathered.now.sys.now }
-    ensures { IfOk result (λ r. r ≡ blocks_rest gathered.now.sys.now (all_items gathered.now.lanes.now) deferred.now) }
+fn blocks_rest(
+    alloc: Global,
+    sys: &System,
+    records: &RecordsByWord,
+    deferred: &[Entry],
+) -> Result<bool, AllocError>
+    requires { WordsFit sys.now }
+    ensures { IfOk result (λ r. r ≡ blocks_rest sys.now (all_items records.now) deferred.now) }
 {
-    let sys = gathered.sys;
     for k in 0..sys.pools.items.len() {
-        if !pool_rests(alloc, gathered, deferred, k as u8 + 1)? {
+        if !pool_rests(alloc, sys, records, deferred, k as u8 + 1)? {
             return Ok(false);
         }
     }
@@ -155,15 +162,20 @@ fn blocks_rest(alloc: Global, gathered: &Gathered, deferred: &[Entry]) -> Result
 }
 
 /// Whether every queue is empty in the end, and each block free or held by deferred entries alone.
-pub fn rests(alloc: Global, sys: &System, j: &Journal) -> Result<bool, AllocError>
-    requires { WordsFit sys.now }
+pub fn rests(
+    alloc: Global,
+    sys: &System,
+    j: &Journal,
+    records: &RecordsByWord,
+) -> Result<bool, AllocError>
+    requires few { WordsFit sys.now }
+    requires same { records.now ≡ j.now.lanes }
     ensures { IfOk result (λ b. b ≡ (lines_empty sys.now (all_items j.now.lanes) && blocks_rest sys.now (all_items j.now.lanes) (deferred_of sys.now j.now sys.now.objects))) }
 {
-    let gathered = Gathered::new(alloc, sys, &j.lanes)?;
-    if !lines_empty(alloc, &gathered)? {
+    if !lines_empty(alloc, sys, records)? {
         return Ok(false);
     }
     let deferred = deferred(alloc, sys, j)?;
-    let rest = blocks_rest(alloc, &gathered, &deferred)?;
+    let rest = blocks_rest(alloc, sys, records, &deferred)?;
     Ok(rest)
 }

@@ -77,31 +77,34 @@ module _ (r : ℕ) where
 -- an operation behind the steps below it
 rise-put : (xs : List Item) (k : ℕ) (i : Item) → k ≤ length xs → IsNonDecreasingBy (λ i. from_of i.body) xs
     → ((j : ℕ) (d : Item) → j < k → from_of (get_or xs j d).body ≤ from_of i.body) → IsNonDecreasingBy (λ i. from_of i.body) (take k xs ++ i ∷ [])
-rise-put xs k i le rise below a c d before lt = go (nat_lt c k) refl (nat_lt a k) refl
+rise-put xs k i le rise below a c d before lt =
+    let long : length (take k xs) ≡ k = length-take-le k xs le in
+    let inside : c < k + 1 = omega (arith, lt, long, length-append (take k xs) (i ∷ [])) in
+    go long inside (nat_lt c k) refl (nat_lt a k) refl
   where
-    long : length (take k xs) ≡ k
-    long = length-take-le k xs le
-    inside : c < k + 1
-    inside = omega (arith, lt, long, length-append (take k xs) (i ∷ []))
-    front : (j : ℕ) → j < k → get_or (take k xs ++ i ∷ []) j d ≡ get_or xs j d
-    front j h = get_or_append_left (take k xs) (i ∷ []) d j (omega (arith, long)) ∙ get_or-take k xs j d h
-    last : (j : ℕ) → j ≡ k → get_or (take k xs ++ i ∷ []) j d ≡ i
-    last j h = ap (λ n. get_or (take k xs ++ i ∷ []) n d) (h ∙ sym long) ∙ get_or-append_seam (take k xs) i [] d
-    from : ℕ → ℕ
-    from j = from_of (get_or (take k xs ++ i ∷ []) j d).body
-    go : (s : Bool) → nat_lt c k ≡ s → (t : Bool) → nat_lt a k ≡ t → from a ≤ from c
-    go true e t f =
+    front : length (take k xs) ≡ k → (j : ℕ) → j < k → get_or (take k xs ++ i ∷ []) j d ≡ get_or xs j d
+    front long j h = get_or_append_left (take k xs) (i ∷ []) d j (omega (arith, long)) ∙ get_or-take k xs j d h
+    last : length (take k xs) ≡ k → (j : ℕ) → j ≡ k → get_or (take k xs ++ i ∷ []) j d ≡ i
+    last long j h = ap (λ n. get_or (take k xs ++ i ∷ []) n d) (h ∙ sym long) ∙ get_or-append_seam (take k xs) i [] d
+    go : length (take k xs) ≡ k → c < k + 1 → (s : Bool) → nat_lt c k ≡ s → (t : Bool) → nat_lt a k ≡ t
+        → from_of (get_or (take k xs ++ i ∷ []) a d).body ≤ from_of (get_or (take k xs ++ i ∷ []) c d).body
+    go long inside true e t f =
         let c_in : c < k = grind (arith, nat_tests) in
         let a_in : a < k = omega arith in
-        rw (front a a_in, front c c_in) (rise a c d before (omega arith))
-    go false e true f =
-        let at : c ≡ k = grind (arith, nat_tests) in
+        rw (front long a a_in, front long c c_in) (rise a c d before (omega arith))
+    go long inside false e true f =
+        let from_k : k ≤ c = grind (arith, nat_tests) in
         let a_in : a < k = grind (arith, nat_tests) in
-        rw (front a a_in, last c at) (below a d a_in)
-    go false e false f =
-        let at : c ≡ k = grind (arith, nat_tests) in
-        let a_at : a ≡ k = grind (arith, nat_tests) in
-        rw (last a a_at, last c at) (omega arith)
+        rw (front long a a_in, last long c (omega arith)) (below a d a_in)
+    go long inside false e false f =
+        let from_k : k ≤ c = grind (arith, nat_tests) in
+        let a_from : k ≤ a = grind (arith, nat_tests) in
+        rw (last long a (omega arith), last long c (omega arith)) (omega arith)
+
+any-default : {X : Type 0} (xs : List X) (j : ℕ) (d e : X) → j < length xs → get_or xs j d ≡ get_or xs j e
+any-default [] j d e lt = absurd (omega arith)
+any-default (x ∷ xs) zero d e lt = refl
+any-default (x ∷ xs) (suc j) d e lt = any-default xs j d e (omega arith)
 
 -- a number is at most, or below, another where a greater one is
 pub up-to : (name m n : ℕ) → m ≤ n → nat_le n name ≡ true → nat_le m name ≡ true
@@ -115,7 +118,7 @@ module _ {X : Type 0} (f : X → Item) (xs : List X) (items : List Item) (view :
   at-item : (k : ℕ) (d : X) → f (get_or xs k d) ≡ get_or items k (f d)
   at-item k d = sym (ap (λ l. get_or l k (f d)) (sym view) ∙ get_or-map f xs k d)
 
-  long-items : length items ≡ length xs
+  pub long-items : length items ≡ length xs
   long-items = ap length (sym view) ∙ length-map xs f
 
   -- what is passed comes before what isn't
@@ -124,6 +127,11 @@ module _ {X : Type 0} (f : X → Item) (xs : List X) (items : List Item) (view :
   steps-parted p down rise i j d le lt passed =
       let later : from_of (f (get_or xs i d)).body ≤ from_of (f (get_or xs j d)).body = rw (at-item i d, at-item j d) (rise i j (f d) le (omega (arith, long-items))) in
       down _ _ later passed
+
+  -- a test of all elements between two places
+  pub items-passed : (p : ℕ → Bool) (t : Bool) (m n : ℕ) → n ≤ length xs → AllWithin (λ x. p (from_of (f x).body) ≡ t) xs m n → X
+      → (j : ℕ) (d : Item) → m ≤ j → j < n → p (from_of (get_or items j d).body) ≡ t
+  items-passed p t m n le all x j d ge lt = ap (λ i. p (from_of i.body)) (any-default items j d (f x) (omega (arith, long-items)) ∙ sym (at-item j x)) ∙ all j x ge lt
 
   module _ (r : ℕ) where
     pub event-none : AllWithin (λ x. nat_le (from_of (f x).body) r ≡ false) xs 0 (length xs) → last_from r None items ≡ None

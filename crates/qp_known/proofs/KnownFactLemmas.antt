@@ -1,5 +1,11 @@
 -- What the tables of a journal say, as the definitions know it.
-use Rattle.std.proofs.Common.{◌≡◌, ℕ, suc, ◌+◌, ◌-◌, ◌≤◌, ◌==◌, nat_lt, min, Bool, true, false, cond, List, [], length, get_or, refl, ap, sym, ◌∙◌, Some, None, arith}
+use Rattle.std.proofs.Common.{◌≡◌, ℕ, suc, ◌+◌, ◌-◌, ◌≤◌, ◌==◌, nat_lt, min, Bool, true, false, cond, List, [], length, get_or, refl, ap, sym, subst, ◌∙◌, Some, None, arith}
+use Rattle.std.specs.declared.option.Option.{Option}
+use Rattle.std.specs.Ordering.{is_eq}
+use Rattle.std.proofs.lemmas.Option.{same_Some}
+use Rattle.qp_lanes.specs.Keys.{key_cmp, same_key}
+use Rattle.qp_lanes.proofs.KeyLemmas.{key-is, same-cmp}
+use Rattle.qp_model.specs.Record.{Item}
 use Rattle.qp_model.specs.declared.systems.System.{System}
 use Rattle.qp_model.specs.declared.journals.Journal.{Journal}
 use Rattle.qp_model.specs.declared.bodies.Entry.{Entry}
@@ -18,6 +24,21 @@ use Rattle.qp_known.specs.KnownWords.{IsKnownBlock}
 use Rattle.qp_known.specs.declared.known_words.KnownBlock.{KnownBlock}
 use Rattle.qp_known.proofs.KnownEventLemmas.{last-own}
 use Rattle.qp_known.proofs.KnownTableLemmas.{length-values, value-at}
+
+-- a block's table put among those that are there
+pub block-put : (items : List Item) (old new : ℕ × ℕ × ℕ → Option KnownBlock) (p b : ℕ) (x : KnownBlock)
+    → ((q : ℕ × ℕ × ℕ) → new q ≡ cond (is_eq (key_cmp (p, b, 0) q)) (Some x) (old q)) → IsKnownBlock items p b x
+    → ((q c : ℕ) (t : KnownBlock) → old (q, c, 0) ≡ Some t → IsKnownBlock items q c t) → (q c : ℕ) (t : KnownBlock) → new (q, c, 0) ≡ Some t → IsKnownBlock items q c t
+block-put items old new p b x puts here each q c t at = go (same_key (p, b, 0) (q, c, 0)) refl
+  where
+    go : (s : Bool) → same_key (p, b, 0) (q, c, 0) ≡ s → IsKnownBlock items q c t
+    go true e =
+        let is : (p, b, 0) ≡ (q, c, 0) = key-is (p, b, 0) (q, c, 0) e in
+        let put : new (q, c, 0) ≡ Some x = puts (q, c, 0) ∙ ap (λ s. cond s (Some x) (old (q, c, 0))) (same-cmp (p, b, 0) (q, c, 0) ∙ e) in
+        subst (λ y. IsKnownBlock items q c y) (same_Some x t (sym put ∙ at)) (subst (λ k. IsKnownBlock items k.0 k.1 x) is here)
+    go false e =
+        let kept : new (q, c, 0) ≡ old (q, c, 0) = puts (q, c, 0) ∙ ap (λ s. cond s (Some x) (old (q, c, 0))) (same-cmp (p, b, 0) (q, c, 0) ∙ e) in
+        each q c t (sym kept ∙ at)
 
 module _ (sys : System) (j : Journal) where
   pub free-at : (xs : List ℕ) (p n : ℕ) → xs ≡ free_counts (blocks_of sys p) (hist (word.Pool p) (all_items j.lanes)) → value_at 0 xs n ≡ free_before (facts_of sys j) p n
@@ -53,6 +74,10 @@ module _ (sys : System) (j : Journal) where
       ap length is ∙ length-values references (λ s. length s.names) references.first (hist (word.Block p b) (all_items j.lanes)) in
       omega (arith, long)
 
+  pub event-static : (e : Entry) → (e.pool == 0) ≡ true → event_of (facts_of sys j) e ≡ Some (record { sig = e.block; pars = [] })
+  unfolding event_of facts_of
+  event-static e same = rw same refl
+
   -- the event by a block's tables
   pub event-known : (e : Entry) → (e.pool == 0) ≡ false → (t : KnownBlock) → IsKnownBlock (all_items j.lanes) e.pool e.block t
       → cond (nat_lt e.name (length t.left.items - 1)) (last_from e.name None t.steps) None ≡ event_of (facts_of sys j) e
@@ -61,7 +86,3 @@ module _ (sys : System) (j : Journal) where
       ap (λ n. cond (nat_lt e.name n) (last_from e.name None t.steps) None) (left-long t.left.items e.pool e.block known.left)
       ∙ ap (λ o. cond (nat_lt e.name (length (hist (word.Block e.pool e.block) (all_items j.lanes)))) o None) (known.steps.same e.name ∙ last-own e.block e.name None pool)
       ∙ sym (event-in_pool e other)
-
-  pub event-static : (e : Entry) → (e.pool == 0) ≡ true → event_of (facts_of sys j) e ≡ Some (record { sig = e.block; pars = [] })
-  unfolding event_of facts_of
-  event-static e same = rw same refl

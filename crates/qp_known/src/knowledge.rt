@@ -22,12 +22,12 @@ use std::collections::BTreeMap;
 
 /// What the records of all lanes say beside each of them, made once in near linear time.
 #[derive(Drop)]
-pub struct Knowledge<'a> {
+pub struct Knowledge<'a, 'r> {
     pub sys: &'a System,
     pub journal: &'a Journal,
-    pub(crate) records: &'a RecordsByWord<'a>,
+    pub(crate) records: &'a RecordsByWord<'r>,
     pub(crate) pools: BTreeMap<u64, KnownPool>,
-    pub(crate) blocks: BTreeMap<(u64, u64, u64), KnownBlock<'a>>,
+    pub(crate) blocks: BTreeMap<(u64, u64, u64), KnownBlock<'r>>,
     pub(crate) signals: BTreeMap<u64, KnownSignal>,
 }
 
@@ -42,7 +42,7 @@ fn is_in(lists: &[Subscribed], n: usize, o: u8) -> bool
     }
 }
 
-impl<'a> Knowledge<'a> {
+impl<'a, 'r> Knowledge<'a, 'r> {
     ghost use Rattle.qp_known.specs.Knowledge.{IsKnowledgeOf, IsKnown, facts_in};
 
     /// What the records of a journal say.
@@ -50,7 +50,7 @@ impl<'a> Knowledge<'a> {
         alloc: Global,
         sys: &'a System,
         j: &'a Journal,
-        records: &'a RecordsByWord<'a>,
+        records: &'a RecordsByWord<'r>,
     ) -> Result<Self, AllocError>
         requires { records.now ≡ j.now.lanes }
         ensures { IfOk result (λ k. IsKnowledgeOf k sys.now j.now) }
@@ -66,7 +66,7 @@ impl<'a> Knowledge<'a> {
         alloc: Global,
         sys: &'a System,
         j: &'a Journal,
-        records: &'a RecordsByWord<'a>,
+        records: &'a RecordsByWord<'r>,
     ) -> Self
         requires { records.now ≡ j.now.lanes }
         ensures { IsKnowledgeOf result sys.now j.now }

@@ -7,7 +7,7 @@ use Rattle.std.proofs.lemmas.List.Elements.{filter_map-append}
 use Rattle.qp_model.specs.OneOrder.{Placed, stim_of, is_turn}
 use Rattle.qp_model.specs.OneOrder as order
 use Rattle.qp_lane_zero.specs.declared.stimulus_index.Placed as code
-use Rattle.qp_lane_zero.specs.declared.turns.Turn.{Turn}
+use Rattle.qp_lane_zero.specs.declared.source_turn.Turn.{Turn}
 use Rattle.qp_lane_zero.specs.declared.order_turns.Found.{Found}
 use Rattle.qp_lane_zero.specs.declared.order_turns.Found.TheVariants.{Nothing, Once, Often}
 use Rattle.qp_lane_zero.specs.AsPlaced.{as_placed}

@@ -13,7 +13,7 @@ use Rattle.qp_model.specs.Record.{Item}
 use Rattle.qp_model.specs.Ends.{is_spill}
 use Rattle.qp_model.specs.OneOrder.{Placed, Turn, OneThread, stim_of, look_of, is_stim, is_turn, no_look, begun, acted_last, all_empty, left_after, may_act, turned, acts_next, enters, leaves, belongs, part_of_look, parts_of_look, turns_at, look_right, looks_right}
 use Rattle.qp_lane_zero.specs.declared.stimulus_index.Placed as code
-use Rattle.qp_lane_zero.specs.declared.turns.Progress.{Progress}
+use Rattle.qp_lane_zero.specs.declared.source_turn.Progress.{Progress}
 use Rattle.qp_lane_zero.specs.declared.order_turns.Run.{Run}
 use Rattle.qp_lanes.specs.WordTotals.{count_in}
 use Rattle.qp_lane_zero.specs.StimulusIndex.{parts_at}

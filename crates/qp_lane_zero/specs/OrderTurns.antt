@@ -8,8 +8,8 @@ use Rattle.qp_model.specs.OneOrder.{Placed, OneThread, stim_of, is_turn, no_look
 use Rattle.qp_model.specs.OneOrder as order
 use Rattle.qp_lane_zero.specs.declared.order_turns.Found.{Found}
 use Rattle.qp_lane_zero.specs.declared.order_turns.Found.TheVariants.{Nothing, Once, Often}
-use Rattle.qp_lane_zero.specs.declared.turns.Turn.{Turn}
-use Rattle.qp_lane_zero.specs.declared.turns.Progress.{Progress}
+use Rattle.qp_lane_zero.specs.declared.source_turn.Turn.{Turn}
+use Rattle.qp_lane_zero.specs.declared.source_turn.Progress.{Progress}
 use Rattle.qp_lane_zero.specs.declared.order_turns.Run.{Run}
 use Rattle.qp_lane_zero.specs.StimulusIndex.{parts_at}
 use Rattle.qp_lane_zero.specs.Turns.{as_turn, next_turn}

@@ -7,8 +7,8 @@ use Rattle.qp_model.specs.declared.stimulus.Stim.{Stim}
 use Rattle.qp_model.specs.declared.systems.System.{System}
 use Rattle.qp_model.specs.OneOrder.{may_act, turned, begun, acted_last, enters, leaves}
 use Rattle.qp_model.specs.OneOrder as order
-use Rattle.qp_lane_zero.specs.declared.turns.Turn.{Turn}
-use Rattle.qp_lane_zero.specs.declared.turns.Progress.{Progress}
+use Rattle.qp_lane_zero.specs.declared.source_turn.Turn.{Turn}
+use Rattle.qp_lane_zero.specs.declared.source_turn.Progress.{Progress}
 use Rattle.qp_lanes.specs.WordTotals.{count_in}
 
 abbrev pub as_turn : Turn → order.Turn

@@ -11,15 +11,15 @@ ghost use Rattle.qp_model.specs.Kernels.{sim, qk, qv};
 ghost use Rattle.qp_model.specs.Lawful.{is_settle, reading_holds, setting_of};
 ghost use Rattle.qp_lane_zero.specs.LaneState.{as_place, as_reading, as_setting};
 
-use crate::lane_state::{Place, QK, QV, Reading, Rules};
+use crate::lane_state::{Place, Reading, Rules};
 use crate::stimulated::stimulated;
-use qp_lanes::lane_parts::{asserts, is_cut, lane_at, source_lanes};
+use qp_lanes::lane_parts::{asserts, lane_at, source_lanes};
 use qp_lanes::record_tests;
+use qp_model::ends::may_cut;
+use qp_model::kernels::{QK, QV, SIM};
 use qp_model::{Journal, Rec, System};
 use qp_sources::spills_cut;
 use std::alloc::{AllocError, Global};
-
-pub const SIM: u8 = 0;
 
 /// How far lane 0 has been read after these records; `None` where one of them can't stand in its place.
 fn read<'a>(
@@ -59,7 +59,7 @@ fn settles_in(lane: &[Rec]) -> usize
 fn may_end(j: &Journal, lane: &[Rec], reading: &Reading) -> bool
     ensures { result ≡ (if may_cut j.now.end then ((length (as_reading reading.now).unstarted == 0) || list_any (λ i. is_assert i.body) (lane_items lane.now)) else is_whole j.now.kernel (as_reading reading.now)) }
 {
-    if is_cut(j.end) {
+    if may_cut(j.end) {
         has_started(reading) || asserts(lane)
     } else {
         whole(j.kernel, reading)

@@ -11,13 +11,10 @@ ghost use Rattle.qp_lanes.specs.Options.{allowed};
 use crate::lane_roles::Role;
 use crate::lane_stack::Stack;
 use qp_lanes::record_tests::shows_entry;
+use qp_model::kernels::{QK, QV};
 use qp_model::{ObjectDef, Rec, System};
 use std::alloc::{AllocError, Global};
 use std::collections::BTreeSet;
-
-pub const QK: u8 = 1;
-
-pub const QV: u8 = 3;
 
 /// The system, the kernel, and the looks that have a stimulus.
 #[derive(Drop)]

@@ -14,4 +14,4 @@ mod order_looks;
 mod order_tests;
 mod order_turns;
 mod stimulus_index;
-mod turns;
+mod source_turn;

@@ -7,8 +7,8 @@ ghost use Rattle.qp_lane_zero.specs.AsPlaced.{said_at};
 
 use crate::stimulus_index::Placed;
 use qp_lanes::record_tests::is_end;
-use qp_lanes::touches::Touched;
 use qp_lanes::word_totals::Totals;
+use qp_model::Touched;
 use std::alloc::{AllocError, Global};
 
 /// Whether nothing follows a record that ends a lane.

@@ -13,7 +13,7 @@ ghost use Rattle.qp_lanes.specs.WordTotals.{count_in};
 ghost use Rattle.qp_lane_zero.specs.OrderTurns.{RunsAs, turn_in, turns_in, turns_on, is_right, look_stands};
 
 use crate::stimulus_index::{Index, Placed};
-use crate::turns::{Progress, Turn};
+use crate::source_turn::{Progress, Turn};
 use qp_model::{Body, Rec, Source, System};
 use std::alloc::{AllocError, Global};
 

@@ -13,7 +13,14 @@ use Rattle.qp_model.specs.Sites.{blocks_of, object_at}
 use Rattle.qp_model.specs.WordLaw.{is_pool, is_block, is_object, is_signal, is_timer}
 use Rattle.qp_model.proofs.ListLemmas.{both_true, true_both}
 use Rattle.qp_histories.specs.SystemWords.{words_of, pool_words, words_of_pool, block_words, queue_words, signal_words, timer_words}
-use Rattle.qp_histories.proofs.TableLemmas.{all-counted, all-pieces}
+
+all-counted : (f : ℕ → Word) (p : Word → Bool) (k n : ℕ) → ((j : ℕ) → k ≤ j → j < k + n → p (f j) ≡ true) → list_all p (map f (count_up k n)) ≡ true
+all-counted f p k zero h = refl
+all-counted f p k (suc n) h = true_both _ _ (h k (omega arith) (omega arith)) (all-counted f p (k + 1) n (λ j ge lt. h j (omega arith) (omega arith)))
+
+all-pieces : (g : ℕ → List Word) (p : Word → Bool) (k n : ℕ) → ((j : ℕ) → k ≤ j → j < k + n → list_all p (g j) ≡ true) → list_all p (flat_map g (count_up k n)) ≡ true
+all-pieces g p k zero h = refl
+all-pieces g p k (suc n) h = list_all-append p (g k) (flat_map g (count_up (k + 1) n)) ∙ true_both _ _ (h k (omega arith) (omega arith)) (all-pieces g p (k + 1) n (λ j ge lt. h j (omega arith) (omega arith)))
 
 -- the test holds at each word of the system
 pub record AllSites (sys : System) (p : Word → Bool) : Type 0 where

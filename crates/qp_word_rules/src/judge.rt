@@ -181,7 +181,7 @@ fn shown_right(
 {
     let own = named(word);
     let touched = records.on(own);
-    let history = records.history(alloc, own)?;
-    let shown = shown_at(alloc, sys, word, touched, &history)?;
+    let operations = records.history(alloc, own)?;
+    let shown = shown_at(alloc, sys, word, touched, &operations)?;
     Ok(shown && records.rise(own))
 }

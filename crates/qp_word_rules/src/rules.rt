@@ -4,7 +4,7 @@ ghost use Rattle.std.specs.Prelude.{◌≡◌};
 ghost use Rattle.qp_word_rules.specs.WordRules.{is_site, number_of, site_of};
 
 use crate::verdict::Site;
-use qp_model::Word;
+use qp_model::{Word, definitions};
 
 /// A definition of words.
 #[derive(Clone, Copy, PartialEq, Eq, Debug)]
@@ -25,14 +25,14 @@ impl Rule {
         ensures { result ≡ number_of self }
     {
         match self {
-            Rule::DrawnNumbers => 9,
-            Rule::FreeBlocks => 10,
-            Rule::References => 11,
-            Rule::Lives => 12,
-            Rule::Line => 13,
-            Rule::ShownNumbers => 14,
-            Rule::Subscribers => 16,
-            Rule::TimeEvents => 18,
+            Rule::DrawnNumbers => definitions::DRAWN_NUMBERS,
+            Rule::FreeBlocks => definitions::FREE_BLOCKS,
+            Rule::References => definitions::REFERENCES,
+            Rule::Lives => definitions::LIVES,
+            Rule::Line => definitions::LINE,
+            Rule::ShownNumbers => definitions::SHOWN_NUMBERS,
+            Rule::Subscribers => definitions::SUBSCRIBERS,
+            Rule::TimeEvents => definitions::TIME_EVENTS,
         }
     }
 

@@ -10,8 +10,8 @@ use Rattle.qp_ending.proofs.resting.blocks_rest.Goals as goal
 pub returns-then-not-branch : goal.returns-then-not-branch
 unfolding blocks_rest
 returns-then-not-branch c =
-    let sys = c.args.gathered.now.sys.now in
-    let items = all_items c.args.gathered.now.lanes.now in
+    let sys = c.args.sys.now in
+    let items = all_items c.args.records.now in
     let test : ℕ → Bool = λ p. all_below (blocks_of sys p) (block_rests sys items c.args.deferred.now p) in
     let next : suc c.loop-k.k ≡ c.loop-k.k + 1 = omega arith in
     let fails : test (suc c.loop-k.k) ≡ false = ap test next ∙ sym c.in_ok-pool_rests.ensures ∙ c.if-not-branch.true in

@@ -6,4 +6,4 @@ use Rattle.qp_model.specs.Sites.{blocks_of}
 use Rattle.qp_ending.proofs.resting.blocks_rest.Given as goal
 
 abbrev pub invariant-loop-k : goal.invariant-loop-k
-invariant-loop-k l = all_below l.k (λ k. all_below (blocks_of l.gathered.sys.now (suc k)) (block_rests l.gathered.sys.now (all_items l.gathered.lanes.now) l.deferred (suc k))) ≡ true
+invariant-loop-k l = all_below l.k (λ k. all_below (blocks_of l.sys (suc k)) (block_rests l.sys (all_items l.records) l.deferred (suc k))) ≡ true

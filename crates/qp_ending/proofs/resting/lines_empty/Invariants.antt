@@ -9,5 +9,5 @@ use Rattle.qp_ending.proofs.resting.lines_empty.Given as goal
 
 abbrev pub invariant-loop-d : goal.invariant-loop-d
 invariant-loop-d l =
-    list_all (λ d. length (after (line (ring_of l.gathered.sys.now d.priority)) (hist (word.Queue d.priority) (all_items l.gathered.lanes.now))).entries == 0) (drop l.d-index l.d-items)
-    ≡ list_all (λ d. length (after (line (ring_of l.gathered.sys.now d.priority)) (hist (word.Queue d.priority) (all_items l.gathered.lanes.now))).entries == 0) l.d-items
+    list_all (λ d. length (after (line (ring_of l.sys d.priority)) (hist (word.Queue d.priority) (all_items l.records))).entries == 0) (drop l.d-index l.d-items)
+    ≡ list_all (λ d. length (after (line (ring_of l.sys d.priority)) (hist (word.Queue d.priority) (all_items l.records))).entries == 0) l.d-items

@@ -5,4 +5,4 @@ use Rattle.qp_model.specs.Lists.{all_below}
 use Rattle.qp_ending.proofs.resting.pool_rests.Given as goal
 
 abbrev pub invariant-loop-b : goal.invariant-loop-b
-invariant-loop-b l = all_below l.b (block_rests l.gathered.sys.now (all_items l.gathered.lanes.now) l.deferred l.p) ≡ true
+invariant-loop-b l = all_below l.b (block_rests l.sys (all_items l.records) l.deferred l.p) ≡ true

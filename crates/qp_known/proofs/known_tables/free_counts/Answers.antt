@@ -12,8 +12,8 @@ loop-r-preserved c =
     let i = c.loop-r.r-index in
     let h = c.args.history.now in
     let m = free_blocks c.args.blocks in
-    let s : Pool = record { count = c.loop-r.free.count; free = c.loop-r.free.free.items } in
-    let t : Pool = record { count = c.apply.new.self.count; free = c.apply.new.self.free.items } in
+    let s : Pool = record { count = c.loop-r.free.count; free = c.loop-r.free.free.keys } in
+    let t : Pool = record { count = c.apply.new.self.count; free = c.apply.new.self.free.keys } in
     let begins = rest_seen (λ r. item_of r.now) c.history.view_is c.deref-r-items.ensures.value i c.r-item.result c.loop-r-test.true c.r-item.is in
     record {
       same = c.in_ok-apply.ensures.same ∙ c.loop-r.invariant.same;
@@ -27,7 +27,7 @@ loop-r-preserved c =
 pub returns : goal.returns
 returns c =
     let h = c.args.history.now in
-    let s : Pool = record { count = c.loop-r.free.count; free = c.loop-r.free.free.items } in
+    let s : Pool = record { count = c.loop-r.free.count; free = c.loop-r.free.free.keys } in
     let none = rest_none (λ r. item_of r.now) c.history.view_is c.deref-r-items.ensures.value c.loop-r.r-index c.loop-r-test.false in
     c.in_ok-push-2.ensures.items
     ∙ values-last (free_blocks c.args.blocks) (λ s. length s.free) c.loop-r.counts.items (free_counts c.args.blocks h) s (drop c.loop-r.r-index h) c.loop-r.invariant.rest c.left-2.result c.left-2.ensures none

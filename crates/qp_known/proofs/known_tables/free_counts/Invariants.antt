@@ -8,6 +8,6 @@ invariant-loop-r l = record {
   same : free_blocks l.free.blocks ≡ free_blocks l.blocks;
   rest :
       free_counts l.blocks l.history
-      ≡ l.counts.items ++ values_from (free_blocks l.blocks) (λ s. length s.free) (record { count = l.free.count; free = l.free.free.items }) (drop l.r-index l.history);
+      ≡ l.counts.items ++ values_from (free_blocks l.blocks) (λ s. length s.free) (record { count = l.free.count; free = l.free.free.keys }) (drop l.r-index l.history);
   counted : l.free.count ≤ l.r-index;
 }

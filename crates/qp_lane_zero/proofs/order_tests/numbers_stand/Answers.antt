@@ -1,7 +1,7 @@
 use Rattle.std.proofs.Common.{◌∙◌, sym, refl, arith}
 use Rattle.qp_model.specs.History.{total}
 use Rattle.qp_lane_zero.specs.AsPlaced.{said_at}
-use Rattle.qp_lanes.specs.Touches.{as_touch}
+use Rattle.qp_model.specs.Touches.{as_touch}
 use Rattle.qp_lanes.specs.WordTotals.{count_at}
 use Rattle.qp_lane_zero.proofs.OrderNumberLemmas.{total-small, total-more, in_order-end, in_order-kept, in_order-broken}
 use Rattle.qp_lane_zero.proofs.order_tests.numbers_stand.Goals as goal

@@ -17,11 +17,11 @@ returns c =
     let items = all_items lanes in
     let own = c.named-own.ensures in
     let on = c.on-touched.ensures ∙ ap (λ v. touched v items) own in
-    let read = c.in_ok-history.ensures ∙ ap (λ v. hist v items) own in
-    let seen = length_seen (λ r. item_of r.now) c.history.view_is refl in
-    let short : length (hist w items) < 2 ^ 64 = omega (arith, seen, ap length read, c.history.inside.items.ok.0, c.history.inside.items.small) in
+    let read = c.in_ok-operations.ensures ∙ ap (λ v. hist v items) own in
+    let seen = length_seen (λ r. item_of r.now) c.operations.view_is refl in
+    let short : length (hist w items) < 2 ^ 64 = omega (arith, seen, ap length read, c.operations.inside.items.ok.0, c.operations.inside.items.small) in
     let shown : c.in_ok-shown.shown ≡ shown_right sys w items =
-    c.in_ok-shown.ensures ∙ ap (λ t. shown_at sys w t c.in_ok-history.history) on ∙ ap (shown_at sys w _) read ∙ sym (shown-right sys w items short) in
+    c.in_ok-shown.ensures ∙ ap (λ t. shown_at sys w t c.in_ok-operations.operations) on ∙ ap (shown_at sys w _) read ∙ sym (shown-right sys w items short) in
     elim c.if-shown.branch [
       | then-shown w2 ↦ w2.result-is ∙ w2.rise.ensures ∙ ap (λ v. marks_rise v lanes) own ∙ ap (λ b. b && marks_rise w lanes) (sym w2.if-shown.true ∙ shown)
       | else-shown w2 ↦ w2.result-is ∙ w2.if-shown.false ∙ ap (λ b. b && marks_rise w lanes) (sym w2.if-shown.false ∙ shown)

@@ -1,7 +1,7 @@
 use Rattle.std.proofs.Common.{◌≡◌, ◌+◌, drop}
 use Rattle.qp_lanes.specs.WordTotals.{count_in}
 use Rattle.qp_lane_zero.specs.Turns.{first_acting, left_from}
-use Rattle.qp_lane_zero.proofs.turns.Progress.first.Given as goal
+use Rattle.qp_lane_zero.proofs.source_turn.Progress.first.Given as goal
 
 abbrev pub invariant-loop-i : goal.invariant-loop-i
 invariant-loop-i l =

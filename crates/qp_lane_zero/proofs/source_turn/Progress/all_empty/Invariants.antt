@@ -1,7 +1,7 @@
 use Rattle.std.proofs.Common.{◌≡◌, ◌==◌, drop}
 use Rattle.std.specs.List.{list_all}
 use Rattle.qp_lanes.specs.WordTotals.{count_in}
-use Rattle.qp_lane_zero.proofs.turns.Progress.all_empty.Given as goal
+use Rattle.qp_lane_zero.proofs.source_turn.Progress.all_empty.Given as goal
 
 abbrev pub invariant-loop-d : goal.invariant-loop-d
 invariant-loop-d l =

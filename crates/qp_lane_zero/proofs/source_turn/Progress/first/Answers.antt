@@ -2,7 +2,7 @@ use Rattle.std.proofs.Common.{◌∙◌, ap, sym, drop}
 use Rattle.qp_model.specs.OneOrder.{may_act}
 use Rattle.qp_lanes.specs.WordTotals.{count_in}
 use Rattle.qp_lane_zero.proofs.TurnLemmas.{first-acts, first-passes, first-none}
-use Rattle.qp_lane_zero.proofs.turns.Progress.first.Goals as goal
+use Rattle.qp_lane_zero.proofs.source_turn.Progress.first.Goals as goal
 
 pub returns-then-acts : goal.returns-then-acts
 returns-then-acts c =

@@ -1,6 +1,6 @@
 use Rattle.qp_lanes.specs.WordTotals.{count_in}
 use Rattle.qp_lane_zero.proofs.TurnLemmas.{acting-behind, acting-before}
-use Rattle.qp_lane_zero.proofs.turns.Progress.acting.Goals as goal
+use Rattle.qp_lane_zero.proofs.source_turn.Progress.acting.Goals as goal
 
 pub returns-in-Some : goal.returns-in-Some
 returns-in-Some c = acting-behind c.args.rests (count_in c.args.self.now.begun) c.args.self.now.last c.min-last.result c.args.stimuli.now c.min-last.ensures c.in-Some.source c.in-Some.ensures
