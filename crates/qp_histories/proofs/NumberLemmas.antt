@@ -1,6 +1,7 @@
 -- Of the records on a word alone, their numbers and their history are those of the word.
 use Rattle.std.proofs.Common.{◌≡◌, ℕ, zero, suc, ◌+◌, ◌^◌, ◌≤◌, ◌<◌, ◌==◌, nat_lt, nat_le, Bool, true, false, not, ◌&&◌, ◌||◌, List, [], ◌∷◌, ◌++◌, length, refl, ap, sym, ◌∙◌, Some, None, cond, arith, append_assoc, append-nil}
 use Rattle.std.specs.List.{filter, list_all}
+use Rattle.std.proofs.Math.Bool.{and-true, and_assoc}
 use Rattle.std.proofs.lemmas.Bool.Decides.{nat_tests}
 use Rattle.qp_model.specs.declared.words.Word.{Word}
 use Rattle.qp_model.specs.Record.{Item}
@@ -27,14 +28,6 @@ list_all_within p q r same other (x ∷ xs) = go (q x) refl (list_all_within p q
     go : (b : Bool) → q x ≡ b → list_all r (filter q xs) ≡ list_all p xs → list_all r (cond b (x ∷ filter q xs) (filter q xs)) ≡ (p x && list_all p xs)
     go true e h = rw (same x e, h) refl
     go false e h = rw (other x e) h
-
-and-true : (b : Bool) → (b && true) ≡ b
-and-true true = refl
-and-true false = refl
-
-and-assoc : (a b c : Bool) → ((a && b) && c) ≡ (a && (b && c))
-and-assoc true b c = refl
-and-assoc false b c = refl
 
 and-both : {a b c d : Bool} → a ≡ c → b ≡ d → (a && b) ≡ (c && d)
 and-both h k = rw (h, k) refl
@@ -135,7 +128,7 @@ module _ (w : Word) (items : List Item) where
         let later : (all_below (suc k) test && list_all is_single (grouped_from drawn_key (suc k) n (touched w items))) ≡ all_below (suc k + n) test = once_from (suc k) n (omega arith) in
         let here : is_single (of_key drawn_key k (touched w items)) ≡ test k = ap is_single (of_number k (omega arith)) ∙ sym (tests k) in
         let e : suc k + n ≡ k + suc n = omega arith in
-        rw here (sym (and-assoc (all_below k test) (test k) _) ∙ later ∙ ap (λ n. all_below n test) e)
+        rw here (sym (and_assoc (all_below k test) (test k) _) ∙ later ∙ ap (λ n. all_below n test) e)
 
   pub numbers-touched : total w items ≤ 2 ^ 64 → numbers_hold (touched w items) ≡ is_numbered w items
   unfolding numbers_hold by_number grouped is_numbered all_below touched

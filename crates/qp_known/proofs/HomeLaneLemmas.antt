@@ -2,8 +2,7 @@
 use Rattle.std.proofs.Common.{◌≡◌, ◌∙◌, ℕ, ◌+◌, ◌<◌, ◌≤◌, ◌==◌, Bool, true, false, not, ◌&&◌, ◌||◌, cond, List, [], ◌∷◌, ◌++◌, length, map, take, drop, get_or, ap, sym, refl, arith}
 use Rattle.std.specs.List.{list_any}
 use Rattle.std.proofs.lemmas.Bool.Decides.{nat_tests}
-use Rattle.std.specs.Cmp.{tied_then, unsigned_tied}
-use Rattle.std.specs.Ordering.{is_eq, nat_cmp, ordering_then}
+use Rattle.std.specs.Ordering.{is_eq}
 use Rattle.std.proofs.lemmas.List.{length-map, take_more, take-append-drop}
 use Rattle.std.proofs.lemmas.List.Folds.{list_any-append}
 use Rattle.qp_model.specs.declared.record.Rec.{Rec}
@@ -11,7 +10,8 @@ use Rattle.qp_model.specs.Record.{item_of}
 use Rattle.qp_model.specs.History.{lane_items}
 use Rattle.qp_model.specs.HomeLane.{all_differ, are_at_home, is_at_home, taken_by}
 use Rattle.qp_model.proofs.ListLemmas.{both_true, true_both}
-use Rattle.qp_known.specs.HomeCounts.{counts_cmp, same_counts}
+use Rattle.qp_lanes.specs.Keys.{key_cmp, same_key}
+use Rattle.qp_lanes.proofs.KeyLemmas.{same-cmp}
 
 module _ (o budget : ℕ) (cuts : Bool) (n : ℕ) (left : List Rec) where
   pub home-next : (r : Rec) (rest : List Rec) → left ≡ r ∷ rest → (spent cut here : Bool) → spent ≡ (n == budget) → cut ≡ (cuts && (length rest == 0))
@@ -42,17 +42,17 @@ same-eq m n = go (m == n) refl
     go true e = let f : (n == m) ≡ true = grind (arith, nat_tests) in sym f
     go false e = let f : (n == m) ≡ false = grind (arith, nat_tests) in sym f
 
-pub same_counts-sym : (x y : ℕ × ℕ × ℕ) → same_counts x y ≡ same_counts y x
-same_counts-sym x y = rw (same-eq x.0 y.0, same-eq x.1 y.1, same-eq x.2 y.2) refl
+pub same_key-sym : (x y : ℕ × ℕ × ℕ) → same_key x y ≡ same_key y x
+same_key-sym x y = rw (same-eq x.0 y.0, same-eq x.1 y.1, same-eq x.2 y.2) refl
 
 -- counts more at the end
-pub differ-more : (xs : List (ℕ × ℕ × ℕ)) (x : ℕ × ℕ × ℕ) → all_differ (xs ++ x ∷ []) ≡ (not (list_any (same_counts x) xs) && all_differ xs)
+pub differ-more : (xs : List (ℕ × ℕ × ℕ)) (x : ℕ × ℕ × ℕ) → all_differ (xs ++ x ∷ []) ≡ (not (list_any (same_key x) xs) && all_differ xs)
 unfolding all_differ
 differ-more [] x = refl
 differ-more (y ∷ ys) x =
-    ap (λ b. not b && all_differ (ys ++ x ∷ [])) (list_any-append (same_counts y) ys (x ∷ []) ∙ ap (λ b. list_any (same_counts y) ys || (b || false)) (same_counts-sym y x))
-    ∙ ap (λ b. not (list_any (same_counts y) ys || (same_counts x y || false)) && b) (differ-more ys x)
-    ∙ go (list_any (same_counts y) ys) (same_counts x y) (list_any (same_counts x) ys) (all_differ ys)
+    ap (λ b. not b && all_differ (ys ++ x ∷ [])) (list_any-append (same_key y) ys (x ∷ []) ∙ ap (λ b. list_any (same_key y) ys || (b || false)) (same_key-sym y x))
+    ∙ ap (λ b. not (list_any (same_key y) ys || (same_key x y || false)) && b) (differ-more ys x)
+    ∙ go (list_any (same_key y) ys) (same_key x y) (list_any (same_key x) ys) (all_differ ys)
   where
     go : (a s b d : Bool) → (not (a || (s || false)) && (not b && d)) ≡ (not (s || b) && (not a && d))
     go true true b d = refl
@@ -67,26 +67,14 @@ pub differ-front : (xs ys : List (ℕ × ℕ × ℕ)) → all_differ (xs ++ ys) 
 unfolding all_differ
 differ-front [] ys h = refl
 differ-front (x ∷ xs) ys h =
-    true_both _ _ (go (list_any (same_counts x) xs) (list_any (same_counts x) ys) (ap not (sym (list_any-append (same_counts x) xs ys)) ∙ (both_true _ _ h).0)) (differ-front xs ys (both_true _ _ h).1)
+    true_both _ _ (go (list_any (same_key x) xs) (list_any (same_key x) ys) (ap not (sym (list_any-append (same_key x) xs ys)) ∙ (both_true _ _ h).0)) (differ-front xs ys (both_true _ _ h).1)
   where
     go : (a b : Bool) → not (a || b) ≡ true → not a ≡ true
     go true b h = h
     go false b h = refl
 
-pub same-cmp : (x y : ℕ × ℕ × ℕ) → is_eq (counts_cmp x y) ≡ same_counts x y
-same-cmp x y =
-    let first = nat_cmp x.0 y.0 in
-    let second = nat_cmp x.1 y.1 in
-    let third = nat_cmp x.2 y.2 in
-    sym (tied_then (ordering_then first second) third) ∙ ap (λ b. b && is_eq third) (sym (tied_then first second))
-    ∙ rw (unsigned_tied x.0 y.0, unsigned_tied x.1 y.1, unsigned_tied x.2 y.2) (go (x.0 == y.0) (x.1 == y.1) (x.2 == y.2))
-  where
-    go : (a b c : Bool) → ((a && b) && c) ≡ (a && b && c)
-    go true b c = refl
-    go false b c = refl
-
 -- the counts of a list so far, in a set
-module _ (all : List (ℕ × ℕ × ℕ)) (i : ℕ) (x d : ℕ × ℕ × ℕ) (inside : i < length all) (is : x ≡ get_or all i d) (old : ℕ × ℕ × ℕ → Bool) (seen : (q : ℕ × ℕ × ℕ) → old q ≡ list_any (same_counts q) (take i all)) where
+module _ (all : List (ℕ × ℕ × ℕ)) (i : ℕ) (x d : ℕ × ℕ × ℕ) (inside : i < length all) (is : x ≡ get_or all i d) (old : ℕ × ℕ × ℕ → Bool) (seen : (q : ℕ × ℕ × ℕ) → old q ≡ list_any (same_key q) (take i all)) where
   grown : take (i + 1) all ≡ take i all ++ x ∷ []
   grown = take_more all i d inside ∙ ap (λ y. take i all ++ y ∷ []) (sym is)
 
@@ -108,10 +96,10 @@ module _ (all : List (ℕ × ℕ × ℕ)) (i : ℕ) (x d : ℕ × ℕ × ℕ) (i
   pub differ-next : old x ≡ false → all_differ (take i all) ≡ true → all_differ (take (i + 1) all) ≡ true
   differ-next h differ = grows ∙ ap (λ b. not b && all_differ (take i all)) h ∙ differ
 
-  pub seen-next : (new : ℕ × ℕ × ℕ → Bool) → ((q : ℕ × ℕ × ℕ) → new q ≡ cond (is_eq (counts_cmp x q)) true (old q)) → (q : ℕ × ℕ × ℕ) → new q ≡ list_any (same_counts q) (take (i + 1) all)
+  pub seen-next : (new : ℕ × ℕ × ℕ → Bool) → ((q : ℕ × ℕ × ℕ) → new q ≡ cond (is_eq (key_cmp x q)) true (old q)) → (q : ℕ × ℕ × ℕ) → new q ≡ list_any (same_key q) (take (i + 1) all)
   seen-next new put q =
-      put q ∙ ap (λ b. cond b true (old q)) (same-cmp x q ∙ same_counts-sym x q) ∙ go (same_counts q x) (old q)
-      ∙ ap (λ b. b || (same_counts q x || false)) (seen q) ∙ sym (ap (list_any (same_counts q)) grown ∙ list_any-append (same_counts q) (take i all) (x ∷ []))
+      put q ∙ ap (λ b. cond b true (old q)) (same-cmp x q ∙ same_key-sym x q) ∙ go (same_key q x) (old q)
+      ∙ ap (λ b. b || (same_key q x || false)) (seen q) ∙ sym (ap (list_any (same_key q)) grown ∙ list_any-append (same_key q) (take i all) (x ∷ []))
     where
       go : (a b : Bool) → cond a true b ≡ (b || (a || false))
       go true true = refl

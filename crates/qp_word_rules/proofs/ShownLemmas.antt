@@ -2,6 +2,7 @@
 use Rattle.std.proofs.Common.{◌≡◌, ℕ, zero, suc, ◌+◌, ◌^◌, ◌<◌, ◌≤◌, ◌==◌, nat_lt, nat_le, Bool, true, false, not, ◌&&◌, ◌||◌, cond, List, [], ◌∷◌, length, take, refl, ap, sym, ◌∙◌, Some, None, arith}
 use Rattle.std.specs.declared.option.Option.{Option}
 use Rattle.std.specs.List.{filter, list_all}
+use Rattle.std.proofs.Math.Bool.{and-true}
 use Rattle.std.proofs.lemmas.Bool.Decides.{nat_tests}
 use Rattle.qp_model.specs.declared.words.Word.{Word}
 use Rattle.qp_model.specs.declared.bodies.Body.{Body}
@@ -65,10 +66,6 @@ module _ {S : Type 0} (m : Machine S) where
   told-at k zero s (i ∷ is) b le =
       let yes : (k + zero == k) ≡ true = grind (arith, nat_tests) in
       rw (yes, told-before (suc k) (k + zero) (m.next s i) is b (omega arith)) (and-true (m.says s b))
-    where
-      and-true : (b : Bool) → (b && true) ≡ b
-      and-true true = refl
-      and-true false = refl
   told-at k (suc j) s (i ∷ is) b le =
       let no : (k + suc j == k) ≡ false = grind (arith, nat_tests) in
       let e : k + suc j ≡ suc k + j = omega arith in
