@@ -72,7 +72,13 @@ fn has_its_home(
         return Ok(false);
     }
     let home = home_lane(sys, j, d.priority);
-    let is_home = is_home_lane(alloc, d.priority, j.budget, may_cut(j.end), lane_at(j, home))?;
+    let is_home = is_home_lane(
+        alloc,
+        d.priority,
+        j.budget,
+        may_cut(j.end),
+        lane_at(j, home),
+    )?;
     Ok(is_home)
 }
 

@@ -29,9 +29,7 @@ use qp_known::knowledge::Knowledge;
 use qp_known::told_cut::cut_of;
 use qp_lane_zero::kernel_lane::is_kernel_lane;
 use qp_lane_zero::one_order::{is_one_order, spills_in};
-use qp_lanes::lane_parts::{
-    count_stands, lane_at, lane_zero_stands, lanes_before, source_lanes,
-};
+use qp_lanes::lane_parts::{count_stands, lane_at, lane_zero_stands, lanes_before, source_lanes};
 use qp_model::definitions::{END, KERNEL_LANE, SOURCES};
 use qp_model::kernels::{PORT, has_one_order};
 use qp_model::{Journal, ObjectDef, Rec, Source, Stimuli, System};

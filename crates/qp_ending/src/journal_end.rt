@@ -12,8 +12,8 @@ ghost use Rattle.qp_ending.specs.Takes.{AreTakesOf};
 use crate::lane_ends::{fits, nothing_follows, spents_are_seen, spills_stand};
 use crate::takes::Takes;
 use qp_lanes::lane_parts::{asserts, home_lane};
-use qp_model::ends::{ASSERTED, QUIET, SPENT};
 use qp_lanes::record_tests;
+use qp_model::ends::{ASSERTED, QUIET, SPENT};
 use qp_model::{Journal, Rec, System};
 
 /// No run stopped early.

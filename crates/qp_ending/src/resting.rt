@@ -26,7 +26,12 @@ use qp_word_states::word_state;
 use std::alloc::{AllocError, Global};
 
 /// Whether the queue of an object is empty in the end.
-fn line_is_empty(alloc: Global, sys: &System, records: &RecordsByWord, a: u8) -> Result<bool, AllocError>
+fn line_is_empty(
+    alloc: Global,
+    sys: &System,
+    records: &RecordsByWord,
+    a: u8,
+) -> Result<bool, AllocError>
     ensures { IfOk result (λ b. b ≡ (length (after (line (ring_of sys.now a)) (hist (word.Queue a) (all_items records.now))).entries == 0)) }
 {
     let own = u64::from(a);

@@ -11,11 +11,11 @@ ghost use Rattle.qp_histories.specs.Marks.{touched, word_use};
 ghost use Rattle.qp_lanes.specs.Rows.{row_at};
 
 use crate::histories::history;
-use qp_lanes::keys::key_of;
 use crate::mark_order::falling_words;
-use qp_lanes::rows::Rows;
 use qp_lanes::given_blocks::GivenBlocks;
 use qp_lanes::groups::Group;
+use qp_lanes::keys::key_of;
+use qp_lanes::rows::Rows;
 use qp_model::{Lane, Lanes, Named, Rec, Touched};
 use std::alloc::{AllocError, Global};
 use std::collections::{BTreeMap, BTreeSet};

@@ -84,8 +84,10 @@ rise-put xs k i le rise below a c d before lt =
   where
     front : length (take k xs) ≡ k → (j : ℕ) → j < k → get_or (take k xs ++ i ∷ []) j d ≡ get_or xs j d
     front long j h = get_or_append_left (take k xs) (i ∷ []) d j (omega (arith, long)) ∙ get_or-take k xs j d h
+
     last : length (take k xs) ≡ k → (j : ℕ) → j ≡ k → get_or (take k xs ++ i ∷ []) j d ≡ i
     last long j h = ap (λ n. get_or (take k xs ++ i ∷ []) n d) (h ∙ sym long) ∙ get_or-append_seam (take k xs) i [] d
+
     go : length (take k xs) ≡ k → c < k + 1 → (s : Bool) → nat_lt c k ≡ s → (t : Bool) → nat_lt a k ≡ t
         → from_of (get_or (take k xs ++ i ∷ []) a d).body ≤ from_of (get_or (take k xs ++ i ∷ []) c d).body
     go long inside true e t f =

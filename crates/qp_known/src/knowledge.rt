@@ -62,12 +62,7 @@ impl<'a, 'r> Knowledge<'a, 'r> {
         Ok(knowledge)
     }
 
-    fn none(
-        alloc: Global,
-        sys: &'a System,
-        j: &'a Journal,
-        records: &'a RecordsByWord<'r>,
-    ) -> Self
+    fn none(alloc: Global, sys: &'a System, j: &'a Journal, records: &'a RecordsByWord<'r>) -> Self
         requires { records.now ≡ j.now.lanes }
         ensures { IsKnowledgeOf result sys.now j.now }
     {

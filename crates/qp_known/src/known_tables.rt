@@ -8,9 +8,9 @@ ghost use Rattle.qp_lanes.specs.WordTotals.{count_in};
 use qp_lanes::groups::Group;
 use qp_lanes::word_totals::Counts;
 use qp_model::Body;
-use qp_word_states::word_state::WordState;
 use qp_word_states::pools::FreeBlocks;
 use qp_word_states::signals::{Members, Subscribed};
+use qp_word_states::word_state::WordState;
 use std::alloc::{AllocError, Global};
 
 /// The number at a place, or the last one.

@@ -2,10 +2,10 @@
 #![tactic(auto)]
 
 // Tables of what words held.
+pub mod knowledge;
 mod known_steps;
 pub mod known_tables;
 mod known_words;
-pub mod knowledge;
 
 // Records as told.
 pub mod told_lists;

@@ -13,5 +13,5 @@ pub mod one_order;
 mod order_looks;
 mod order_tests;
 mod order_turns;
-mod stimulus_index;
 mod source_turn;
+mod stimulus_index;

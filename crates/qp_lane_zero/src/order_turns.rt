@@ -12,8 +12,8 @@ ghost use Rattle.qp_lane_zero.specs.Turns.{as_turn};
 ghost use Rattle.qp_lanes.specs.WordTotals.{count_in};
 ghost use Rattle.qp_lane_zero.specs.OrderTurns.{RunsAs, turn_in, turns_in, turns_on, is_right, look_stands};
 
-use crate::stimulus_index::{Index, Placed};
 use crate::source_turn::{Progress, Turn};
+use crate::stimulus_index::{Index, Placed};
 use qp_model::{Body, Rec, Source, System};
 use std::alloc::{AllocError, Global};
 

@@ -7,10 +7,10 @@ pub mod lane_parts;
 pub mod record_tests;
 
 // Records by a key, and the operations of words.
+pub mod given_blocks;
 pub mod groups;
 pub mod keys;
 pub mod rows;
-pub mod given_blocks;
 pub mod word_totals;
 
 // Deferred lists.

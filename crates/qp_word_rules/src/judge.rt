@@ -12,8 +12,8 @@ ghost use Rattle.qp_word_rules.specs.WordRules.{first_broken, is_site, operation
 use crate::judging::{lives_of, operations_allowed, shown_at};
 use crate::rules::{Rule, site_of};
 use crate::verdict::Broken;
-use qp_histories::records_by_word::RecordsByWord;
 use qp_histories::histories::numbers_hold;
+use qp_histories::records_by_word::RecordsByWord;
 use qp_histories::words::words_of;
 use qp_lanes::given_blocks::GivenBlocks;
 use qp_lanes::keys::named;

@@ -15,13 +15,13 @@ use qp_histories::marks::{Mark, ShownNumber, mark_of};
 use qp_lanes::given_blocks::GivenBlocks;
 use qp_lanes::groups::{Group, grouped};
 use qp_model::{Rec, System, Word};
-use qp_word_states::word_state::{self, WordState};
 use qp_word_states::lives;
 use qp_word_states::pools::FreeBlocks;
 use qp_word_states::queues::Queue;
 use qp_word_states::references::empties;
 use qp_word_states::signals::Members;
 use qp_word_states::timers::TimeEvent;
+use qp_word_states::word_state::{self, WordState};
 use std::alloc::{AllocError, Global};
 
 /// Whether each operation of the word is allowed in its turn.
@@ -35,9 +35,15 @@ pub(crate) fn operations_allowed(
     ensures { IfOk result (λ b. b ≡ operations_allowed sys.now word history.now) }
 {
     match word {
-        Word::Pool(p) => word_state::is_allowed(FreeBlocks::new(alloc, sys.blocks_of(u64::from(p)))?, history),
+        Word::Pool(p) => word_state::is_allowed(
+            FreeBlocks::new(alloc, sys.blocks_of(u64::from(p)))?,
+            history,
+        ),
         Word::Block(..) => references_allowed(alloc, history),
-        Word::Queue(a) => word_state::is_allowed(Queue::new(alloc, sys.ring_of(u64::from(a))), history),
+        Word::Queue(a) => word_state::is_allowed(
+            Queue::new(alloc, sys.ring_of(u64::from(a))),
+            history,
+        ),
         Word::Signal(_) => word_state::is_allowed(Members::new(alloc), history),
         Word::Timer(_) => word_state::is_allowed(TimeEvent::new(), history),
     }
@@ -71,7 +77,12 @@ pub(crate) fn shown_at(
             history,
         ),
         Word::Block(..) => Ok(true),
-        Word::Queue(a) => shows(alloc, Queue::new(alloc, sys.ring_of(u64::from(a))), touched, history),
+        Word::Queue(a) => shows(
+            alloc,
+            Queue::new(alloc, sys.ring_of(u64::from(a))),
+            touched,
+            history,
+        ),
         Word::Signal(_) => shows(alloc, Members::new(alloc), touched, history),
         Word::Timer(_) => shows(alloc, TimeEvent::new(), touched, history),
     }

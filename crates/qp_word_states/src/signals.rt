@@ -3,8 +3,8 @@
 ghost use Rattle.std.specs.Prelude.{◌≡◌, ◌==◌, ◌^◌, ◌/◌, ◌<◌, [], IfOk, IfSome, IsNone};
 ghost use Rattle.qp_model.specs.Subscribers.{Subscribers, bits_of_set, subscribers};
 
-use crate::word_state::WordState;
 use crate::numbers::{has, take_out};
+use crate::word_state::WordState;
 use qp_model::Body;
 use std::alloc::{AllocError, Global};
 use std::marker::Model;
