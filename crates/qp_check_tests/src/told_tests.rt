@@ -1,12 +1,13 @@
 use arrayvec::ArrayVec;
 use qp_base::Ev;
 use qp_fits::Cut;
+use qp_histories::records_by_word::RecordsByWord;
 use qp_known::known_tables::{free_counts, left_counts, member_lists, number_at};
 use qp_known::told_cut::cut_of;
 use qp_known::told_home::is_home_lane;
 use qp_lanes::groups::Group;
 use qp_model::{
-    Charts, Journal, Lane, Lanes, ObjectDefs, PoolDefs, Rec, SignalDefs, System, TimerDefs,
+    Charts, Journal, Lane, Lanes, Named, ObjectDefs, PoolDefs, Rec, SignalDefs, System, TimerDefs,
 };
 use std::alloc::{AllocError, Global};
 use std::test::Fail;
@@ -41,6 +42,44 @@ fn stopped(alloc: Global, items: Vec<Rec>) -> Result<Journal, AllocError> {
         },
         end: 4,
     })
+}
+
+/// Records on words that no system has are found by word, and those of a pool by block.
+#[test]
+fn undeclared(rt: HostRuntime) -> Result<(), Fail> {
+    let alloc = rt.alloc();
+    let ev = Ev {
+        sig: 4,
+        pars: ArrayVec::new(),
+    };
+    let items = vec![in alloc;
+        Rec::back(1, 9, 1, 3, 2),
+        Rec::new(1, 9, 0, 3, 0, &ev),
+        Rec::inc(1, 9, 3, 0),
+        Rec::new(1, 9, 2, 5, 0, &ev),
+    ]?;
+    let lanes = Lanes {
+        items: vec![in alloc; Lane { items }]?,
+    };
+    let records = RecordsByWord::of(alloc, &lanes)?;
+    assert_eq!(rt; records.on(Named::Pool { p: 9 }).items.len(), 3);
+    assert_eq!(rt;
+        records
+            .history(alloc, Named::Block { p: 9, b: 3 })?
+            .items
+            .len(),
+        1
+    );
+    assert!(rt; !records.rise(Named::Pool { p: 9 }), "marks 2, 1, 3");
+    assert!(rt; records.rise(Named::Pool { p: 8 }), "no marks");
+    let by_block = records.pool(9).map(|pool| (
+        pool.all().items.len(),
+        pool.on(3).items.len(),
+        pool.on(4).items.len(),
+    ));
+    assert_eq!(rt; by_block, Some((3, 2, 0)));
+    assert!(rt; records.pool(8).is_none(), "no records");
+    Ok(())
 }
 
 /// A block is given out and comes back; its references stand in between.
