@@ -4,7 +4,6 @@ use Rattle.std.proofs.lemmas.List.Folds.{list_all-append}
 use Rattle.std.specs.List.{list_all}
 use Rattle.qp_model.specs.declared.record.Rec.{Rec}
 use Rattle.qp_model.specs.History.{lane_items}
-use Rattle.qp_lanes.specs.Keys.{key_of}
 use Rattle.qp_histories.specs.Marks.{rises_from, touched}
 use Rattle.qp_histories.proofs.RiseLemmas.{lane-falls, lanes-rise}
 use Rattle.qp_histories.proofs.mark_order.falling_words.Goals as goal

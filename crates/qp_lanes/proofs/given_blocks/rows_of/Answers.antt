@@ -1,4 +1,4 @@
-use Rattle.std.proofs.Common.{◌≡◌, ◌∙◌, ◌+◌, ◌==◌, ◌++◌, ◌∷◌, [], ap, sym, take, cond, append-nil}
+use Rattle.std.proofs.Common.{◌∙◌, ◌++◌, ◌∷◌, [], ap, sym, take, cond, append-nil}
 use Rattle.qp_model.specs.Record.{item_of}
 use Rattle.qp_lanes.specs.GivenBlocks.{block_key}
 use Rattle.qp_lanes.specs.Groups.{has_key, of_key}
