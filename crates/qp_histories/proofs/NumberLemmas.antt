@@ -139,15 +139,3 @@ module _ (w : Word) (items : List Item) where
       (and-both
       (list_all_within (λ i. drawn_below w (total w items) (touch i)) (λ i. word_use w (touch i)) (λ i. draws_below (total w items) (touch i)) (λ i. below-on w (total w items) (touch i)) (λ i. off-below w (total w items) (touch i)) items)
       (once_from test (λ n. refl) 0 (total w items) (omega arith) ∙ ap (λ n. all_below n test) e))
-
-filter-shorter : (p : Item → Bool) (xs : List Item) → length (filter p xs) ≤ length xs
-filter-shorter p [] = omega arith
-filter-shorter p (x ∷ xs) = go (p x) (filter-shorter p xs)
-  where
-    go : (b : Bool) → length (filter p xs) ≤ length xs → length (cond b (x ∷ filter p xs) (filter p xs)) ≤ suc (length xs)
-    go true le = omega arith
-    go false le = omega arith
-
-pub total-few : (w : Word) (items : List Item) → length items ≤ 2 ^ 64 → total w items ≤ 2 ^ 64
-unfolding total
-total-few w items few = omega (arith, filter-shorter (λ i. drawn_on w (touch i)) items, few)
