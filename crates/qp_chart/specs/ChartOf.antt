@@ -1,7 +1,6 @@
 -- The checked chart of a chart as its file has it: each name is resolved to its number.
 use Rattle.std.specs.Prelude.{◌≡◌, ℕ, List, Some, None}
 use Rattle.std.specs.declared.option.Option.{Option}
-use Rattle.arrayvec.specs.ArrayString.{ArrayString}
 use Rattle.qp_names.specs.declared.raw.RawChart.{RawChart}
 use Rattle.qp_names.specs.declared.raw.RawTimer.{RawTimer}
 use Rattle.qp_names.specs.declared.raw.RawState.{RawState}
