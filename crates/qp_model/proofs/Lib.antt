@@ -41,6 +41,7 @@ pub mod BeginningLemmas
 pub mod KernelRowLemmas
 mod PlaceTests
 pub mod HomeLemmas
+pub mod NumberLemmas
 pub mod RefusalLemmas
 pub mod CrossingLemmas
 mod KindLemmas
