@@ -1,8 +1,9 @@
 -- What was put into a sink that gathers, and what of it went on.
-use Rattle.std.specs.Prelude.{◌≡◌, ◌-◌, ℕ, List, ◌++◌, length, take, Option, Some, None, ⊤}
+use Rattle.std.specs.Prelude.{◌≡◌, ◌-◌, ◌<◌, ◌⊎◌, ℕ, List, ◌++◌, length, take, Option, Some, None, ⊤}
 use Rattle.std.specs.Option.{option_map}
 use Rattle.std.specs.Coded.{Unit-prop}
 use Rattle.std.proofs.Props.{props}
+use Rattle.qp_base.specs.Counts.{Rose}
 use Rattle.qp_base.specs.declared.course.Course.{Course}
 use Rattle.qp_base.specs.declared.course.Course.TheVariants.{Open, Torn, Stopped}
 
@@ -41,3 +42,7 @@ abbrev pub IsBegun : Option (List ℕ) → Option (List ℕ) → Type 0
 IsBegun None put = ⊤
 IsBegun (Some w) None = ⊥
 IsBegun (Some w) (Some all) = (rest : List ℕ) × (all ≡ w ++ rest)
+
+-- why so many bytes don't go on whole: the sink below failed, as its count tells, or they are more than can be counted
+abbrev pub Fails : ℕ → ℕ → ℕ → Type 0
+Fails old new all = Rose old new ⊎ (18446744073709551615 < all)

@@ -1,8 +1,8 @@
 //! A sink over a sink, which hands on large pieces.
 
-ghost use Rattle.std.specs.Prelude.{◌≡◌, ◌≢◌, ◌+◌, ◌≤◌, [], length, vec_capacity, OnOk, OnErr, IfOk, IfSome, true, is_err};
+ghost use Rattle.std.specs.Prelude.{◌≡◌, ◌≢◌, ◌+◌, ◌≤◌, [], length, vec_capacity, OnOk, OnErr, IfOk, IfSome, true, false, is_err};
 ghost use Rattle.qp_base.specs.Counts.{CountsIf};
-ghost use Rattle.qp_base.specs.Gathering.{Goes, Goes-prop, IsBegun, told};
+ghost use Rattle.qp_base.specs.Gathering.{Fails, Goes, Goes-prop, IsBegun, told};
 ghost use Rattle.qp_base.specs.Sink.{AppendsPrefix, appended};
 ghost use Rattle.qp_base.specs.declared.course.Course.TheVariants.{Open};
 
@@ -16,8 +16,9 @@ const ROOM: usize = 65536;
 
 /// A sink that gathers up to 64 KiB of what is put, and hands on whole pieces to another, in their order. A put takes no memory.
 ///
-/// What the other got and what is still gathered are together what was put. After a piece that failed every put and every
-/// flush fails.
+/// What the other got and what is still gathered are together what was put. A put for which there is room left never fails
+/// and reaches no other sink; else a put or a flush fails only where the other did, or would have got 2⁶⁴ bytes. After a
+/// piece that failed every put and every flush fails.
 #[derive(Drop)]
 pub struct Gathered<S: Sink + Drop> {
     inner: S,
@@ -59,6 +60,14 @@ impl<S: Sink + Drop> Gathered<S> {
         &self.inner
     }
 
+    /// The sink below; what is still gathered is dropped.
+    pub fn into_inner(self) -> S
+        ensures { result ≡ self.inner }
+    {
+        let Gathered { inner, .. } = self;
+        inner
+    }
+
     /// Hands on all that is gathered. It succeeds exactly where all that was put has gone on, and nothing is gathered then.
     pub fn flush(&mut self) -> Result<(), SinkFault>
         ensures told { told self.new.course self.new.gone self.new.held.items (S.written self.new.inner) ≡ told self.old.course self.old.gone self.old.held.items (S.written self.old.inner) }
@@ -67,6 +76,7 @@ impl<S: Sink + Drop> Gathered<S> {
         ensures ok { OnOk result (S.written self.new.inner ≡ told self.old.course self.old.gone self.old.held.items (S.written self.old.inner)) }
         ensures closed { self.old.course ≢ Open → is_err result ≡ true }
         ensures err { OnErr result (self.new.course ≢ Open) }
+        ensures cause { OnErr result (self.old.course ≡ Open → Fails (S.faults self.old.inner) (S.faults self.new.inner) (self.old.gone + length self.old.held.items)) }
         ensures faults { CountsIf (is_err result) self.old.faults self.new.faults }
     {
         match self.course {
@@ -95,6 +105,7 @@ impl<S: Sink + Drop> Gathered<S> {
         requires room { length self.old.held.items + length bytes.now ≤ 65536 }
         ensures told { told self.new.course self.new.gone self.new.held.items (S.written self.new.inner) ≡ appended (told self.old.course self.old.gone self.old.held.items (S.written self.old.inner)) bytes.now }
         ensures going { self.new.course ≡ Open }
+        ensures inner { self.new.inner ≡ self.old.inner }
         ensures faults { self.new.faults ≡ self.old.faults }
     {
         self.held.extend_from_slice(bytes).unwrap();
@@ -106,7 +117,10 @@ impl<S: Sink + Drop> Gathered<S> {
         ensures told { told self.new.course self.new.gone self.new.held.items (S.written self.new.inner) ≡ told self.old.course self.old.gone self.old.held.items (S.written self.old.inner) }
         ensures going { OnOk result (self.new.course ≡ Open) }
         ensures held { OnOk result (self.new.held.items ≡ []) }
+        ensures gone { OnOk result (self.new.gone ≡ self.old.gone + length self.old.held.items) }
+        ensures well { OnOk result (S.faults self.new.inner ≡ S.faults self.old.inner) }
         ensures err { OnErr result (self.new.course ≢ Open) }
+        ensures cause { OnErr result (Fails (S.faults self.old.inner) (S.faults self.new.inner) (self.old.gone + length self.old.held.items)) }
         ensures faults { CountsIf (is_err result) self.old.faults self.new.faults }
         ensures faults_last { self.old.faults ≤ self.new.faults }
     {
@@ -138,6 +152,7 @@ impl<S: Sink + Drop> Gathered<S> {
         ensures prefix { OnErr result (AppendsPrefix (told self.old.course self.old.gone self.old.held.items (S.written self.old.inner)) bytes.now (told self.new.course self.new.gone self.new.held.items (S.written self.new.inner))) }
         ensures going { OnOk result (self.new.course ≡ Open) }
         ensures err { OnErr result (self.new.course ≢ Open) }
+        ensures cause { OnErr result (Fails (S.faults self.old.inner) (S.faults self.new.inner) (self.old.gone + length bytes.now)) }
         ensures faults { CountsIf (is_err result) self.old.faults self.new.faults }
         ensures faults_last { self.old.faults ≤ self.new.faults }
     {
@@ -170,6 +185,8 @@ impl<S: Sink + Drop> Sink for Gathered<S> {
         ensures going { OnOk result (self.new.course ≡ Open) }
         ensures closed { self.old.course ≢ Open → is_err result ≡ true }
         ensures closes { OnErr result (self.new.course ≢ Open) }
+        ensures fits { self.old.course ≡ Open → length self.old.held.items + length bytes.now ≤ 65536 → (is_err result ≡ false) × (self.new.inner ≡ self.old.inner) }
+        ensures cause { OnErr result (self.old.course ≡ Open → Fails (S.faults self.old.inner) (S.faults self.new.inner) (self.old.gone + length self.old.held.items + length bytes.now)) }
 
         ensures faults { CountsIf (is_err result) self.old.faults self.new.faults }
         ensures faults_last { self.old.faults ≤ self.new.faults }

@@ -181,6 +181,7 @@ fn a_sink_that_gathers_hands_on_all_bytes_in_order(rt: HostRuntime) -> Result<()
     assert_eq!(rt; sink.flush(), Ok(()));
     assert!(rt; sink.inner().bytes() == want.as_slice());
     assert_eq!(rt; sink.flush(), Ok(()), "nothing is left");
+    assert!(rt; sink.into_inner().bytes() == want.as_slice());
     Ok(())
 }
 
