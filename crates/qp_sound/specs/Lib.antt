@@ -1,0 +1,9 @@
+pub mod WordStates
+pub mod Log
+pub mod Sound
+pub mod May
+pub mod View
+pub mod Step
+pub mod Ending
+pub mod Calls
+pub mod Laws
