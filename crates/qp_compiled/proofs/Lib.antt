@@ -1,0 +1,7 @@
+-- Lemmas of compiled charts.
+pub mod WalkLemmas
+pub mod PushLemmas
+pub mod PlanLemmas
+pub mod ChoiceLemmas
+pub mod LeafLemmas
+pub mod StepLemmas
