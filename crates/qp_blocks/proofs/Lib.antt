@@ -1,0 +1,4 @@
+pub mod Sums
+pub mod Contents
+pub mod Steps
+pub mod LawLemmas

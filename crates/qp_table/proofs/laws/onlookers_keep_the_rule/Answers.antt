@@ -1,0 +1,5 @@
+use Rattle.qp_table.proofs.LawLemmas.{onlookers_keep_the_rule as law}
+use Rattle.qp_table.proofs.laws.onlookers_keep_the_rule.Goals as goal
+
+pub returns : goal.returns
+returns c = law

@@ -1,0 +1,11 @@
+pub mod Counting
+pub mod Growing
+pub mod Records
+pub mod Views
+pub mod Bounds
+pub mod Tokens
+pub mod Kept
+pub mod Marks
+pub mod Growth
+pub mod Step
+pub mod LawLemmas

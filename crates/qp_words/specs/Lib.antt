@@ -1,0 +1,5 @@
+pub mod Counting
+pub mod Now
+pub mod Rule
+pub mod After
+pub mod Laws
