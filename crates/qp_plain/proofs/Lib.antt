@@ -1,0 +1,16 @@
+pub mod BlockCalls
+pub mod BookLemmas
+pub mod Calling
+pub mod EventCalls
+pub mod Few
+pub mod FreshLemmas
+pub mod Growth
+pub mod Holding
+pub mod LogLemmas
+pub mod Mays
+pub mod NoteCalls
+pub mod QueueCalls
+pub mod SignalCalls
+pub mod Stopping
+pub mod TimerCalls
+pub mod Turns

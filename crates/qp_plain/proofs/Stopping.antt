@@ -1,0 +1,166 @@
+-- The stop word.
+use Rattle.std.proofs.Common.{◌≡◌, ◌≢◌, ℕ, zero, suc, ◌<◌, ◌≤◌, ◌==◌, Bool, true, false, ◌&&◌, ◌||◌, cond, List, [], ◌∷◌, length, slice_set, refl, ◌∙◌, ap, subst, arith, inl, inr}
+use Rattle.std.specs.List.{list_all, list_any}
+use Rattle.std.proofs.lemmas.Bool.Decides.{nat_tests}
+use Rattle.qp_model.proofs.ListLemmas.{both_true, true_both}
+use Rattle.qp_model.specs.declared.bodies.Body.{Body}
+use Rattle.qp_model.specs.declared.bodies.Body.TheVariants as body
+use Rattle.qp_model.specs.Told.{ToldItem}
+use Rattle.qp_calls.specs.Notes.{MayStop, last_code, stop_code}
+use Rattle.qp_plain.specs.declared.world.PlainWorld.{PlainWorld}
+use Rattle.qp_plain.specs.WorldView.{world_view}
+use Rattle.qp_plain.specs.declared.log.Log.{Log}
+use Rattle.qp_plain.specs.declared.book.Book.{Book}
+use Rattle.qp_plain.specs.Book.{Hands, Answers, logs_of}
+use Rattle.qp_plain.specs.Books.{all_logs}
+use Rattle.qp_plain.specs.World.{StopIs, fits_stop, was_handed, no_codes}
+
+all-at : {X : Type 0} (p : X → Bool) (xs : List X) (k : ℕ) (x : X) → k < length xs → list_all p (slice_set xs k x) ≡ true → p x ≡ true
+all-at p [] k x lt h = absurd (omega (arith, lt))
+all-at p (z ∷ zs) zero x lt h = (both_true _ _ h).0
+all-at p (z ∷ zs) (suc k) x lt h = all-at p zs k x (omega (arith, lt)) (both_true _ _ h).1
+
+-- what all but one pass, and the new one
+all-put : {X : Type 0} (p q : X → Bool) (xs : List X) (k : ℕ) (x y : X) → ((z : X) → p z ≡ true → q z ≡ true) → q y ≡ true → list_all p (slice_set xs k x) ≡ true → list_all q (slice_set xs k y) ≡ true
+all-put p q [] k x y more here h = refl
+all-put {X} p q (z ∷ zs) zero x y more here h = true_both _ _ here (rest zs (both_true _ _ h).1)
+  where
+    rest : (us : List X) → list_all p us ≡ true → list_all q us ≡ true
+    rest [] e = refl
+    rest (u ∷ us) e = true_both _ _ (more u (both_true _ _ e).0) (rest us (both_true _ _ e).1)
+all-put p q (z ∷ zs) (suc k) x y more here h = true_both _ _ (more z (both_true _ _ h).0) (all-put p q zs k x y more here (both_true _ _ h).1)
+
+any-true : (b : Bool) → (b || true) ≡ true
+any-true true = refl
+any-true false = refl
+
+any-put : {X : Type 0} (p : X → Bool) (xs : List X) (k : ℕ) (y : X) → k < length xs → p y ≡ true → list_any p (slice_set xs k y) ≡ true
+any-put p [] k y lt here = absurd (omega (arith, lt))
+any-put p (z ∷ zs) zero y lt here = rw here refl
+any-put p (z ∷ zs) (suc k) y lt here = rw (any-put p zs k y (omega (arith, lt)) here) (any-true (p z))
+
+any-kept : {X : Type 0} (p : X → Bool) (xs : List X) (k : ℕ) (x y : X) → (p x ≡ true → p y ≡ true) → list_any p (slice_set xs k x) ≡ true → list_any p (slice_set xs k y) ≡ true
+any-kept p [] k x y keeps h = h
+any-kept p (z ∷ zs) zero x y keeps h = go (p x) refl h
+  where
+    go : (b : Bool) → p x ≡ b → (b || list_any p zs) ≡ true → (p y || list_any p zs) ≡ true
+    go true e g = rw (keeps e) refl
+    go false e g = rw g (any-true (p y))
+any-kept p (z ∷ zs) (suc k) x y keeps h = go (p z) h (any-kept p zs k x y keeps)
+  where
+    go : (b : Bool) → (b || list_any p (slice_set zs k x)) ≡ true → (list_any p (slice_set zs k x) ≡ true → list_any p (slice_set zs k y) ≡ true) → (b || list_any p (slice_set zs k y)) ≡ true
+    go true g later = refl
+    go false g later = later g
+
+same-number : (n : ℕ) → (n == n) ≡ true
+same-number n = grind (arith, nat_tests)
+
+not-zero : (n : ℕ) → n ≢ 0 → (n == 0) ≡ false
+not-zero n h = grind (arith, nat_tests)
+
+hands-logs : (code : ℕ) (old new : Book) → Hands code old new → logs_of new ≡ all_logs old.others.items old.at new.here
+hands-logs code old new h = ap (λ xs. all_logs xs new.at new.here) h.others ∙ ap (λ k. all_logs old.others.items k new.here) h.at
+
+found : (stop : ℕ) (g : Log) → (stop == 0) ≡ false → fits_stop stop g ≡ true → list_all (λ c. c == stop) g.answered.list ≡ true
+found stop g nz h = subst (λ v. cond v (no_codes g.stops.list && no_codes g.answered.list) (list_all (λ c. c == stop) g.answered.list) ≡ true) nz h
+
+-- The first code is handed in.
+pub stop-first : (code : ℕ) (old new : Book) → Hands code old new → 0 < code → code ≤ 7 → old.at < length old.others.items → StopIs 0 (logs_of old) → StopIs code (logs_of new)
+stop-first code old new h some few lt is = record {
+  few = few;
+  fits = ap (list_all (fits_stop code)) (hands-logs code old new h) ∙ all-put (fits_stop 0) (fits_stop code) old.others.items old.at old.here new.here loosen here is.fits;
+  handed = rw (nz, ap (list_any (was_handed code)) (hands-logs code old new h), any-put (was_handed code) old.others.items old.at new.here lt handed) refl;
+}
+  where
+    nz : (code == 0) ≡ false
+    nz = not-zero code (omega (arith, some))
+
+    none-all : (cs : List ℕ) → no_codes cs ≡ true → list_all (λ c. c == code) cs ≡ true
+    none-all [] e = refl
+    none-all (c ∷ cs) e = absurd (cc)
+
+    loosen : (g : Log) → fits_stop 0 g ≡ true → fits_stop code g ≡ true
+    loosen g e = rw nz (none-all g.answered.list (both_true (no_codes g.stops.list) (no_codes g.answered.list) e).1)
+
+    before : fits_stop 0 old.here ≡ true
+    before = all-at (fits_stop 0) old.others.items old.at old.here lt is.fits
+
+    here : fits_stop code new.here ≡ true
+    here = rw (nz, h.answered) (none-all old.here.answered.list (both_true (no_codes old.here.stops.list) (no_codes old.here.answered.list) before).1)
+
+    handed : was_handed code new.here ≡ true
+    handed = rw (h.stops, same-number code) refl
+
+-- A later one changes nothing.
+pub stop-later : (stop code : ℕ) (old new : Book) → Hands code old new → stop ≢ 0 → old.at < length old.others.items → StopIs stop (logs_of old) → StopIs stop (logs_of new)
+stop-later stop code old new h set lt is = record {
+  few = is.few;
+  fits = ap (list_all (fits_stop stop)) (hands-logs code old new h) ∙ all-put (fits_stop stop) (fits_stop stop) old.others.items old.at old.here new.here (λ g e. e) here is.fits;
+  handed = rw (nz, ap (list_any (was_handed stop)) (hands-logs code old new h)) (any-kept (was_handed stop) old.others.items old.at old.here new.here keeps was);
+}
+  where
+    nz : (stop == 0) ≡ false
+    nz = not-zero stop set
+
+    was : list_any (was_handed stop) (logs_of old) ≡ true
+    was = subst (λ v. (v || list_any (was_handed stop) (logs_of old)) ≡ true) nz is.handed
+
+    keeps : was_handed stop old.here ≡ true → was_handed stop new.here ≡ true
+    keeps e = rw (h.stops, e) (any-true (code == stop))
+
+    here : fits_stop stop new.here ≡ true
+    here = rw (nz, h.answered) (found stop old.here nz (all-at (fits_stop stop) old.others.items old.at old.here lt is.fits))
+
+-- What the lane chosen found is the code.
+pub stop-answered : (stop : ℕ) (old new : Book) → Answers stop old new → stop ≢ 0 → old.at < length old.others.items → StopIs stop (logs_of old) → StopIs stop (logs_of new)
+stop-answered stop old new h set lt is = record {
+  few = is.few;
+  fits = ap (list_all (fits_stop stop)) same ∙ all-put (fits_stop stop) (fits_stop stop) old.others.items old.at old.here new.here (λ g e. e) here is.fits;
+  handed = rw (nz, ap (list_any (was_handed stop)) same) (any-kept (was_handed stop) old.others.items old.at old.here new.here (λ e. rw h.stops e) was);
+}
+  where
+    same : logs_of new ≡ all_logs old.others.items old.at new.here
+    same = ap (λ xs. all_logs xs new.at new.here) h.others ∙ ap (λ k. all_logs old.others.items k new.here) h.at
+
+    nz : (stop == 0) ≡ false
+    nz = not-zero stop set
+
+    was : list_any (was_handed stop) (logs_of old) ≡ true
+    was = subst (λ v. (v || list_any (was_handed stop) (logs_of old)) ≡ true) nz is.handed
+
+    here : fits_stop stop new.here ≡ true
+    here = rw (nz, h.answered, same-number stop) (found stop old.here nz (all-at (fits_stop stop) old.others.items old.at old.here lt is.fits))
+
+-- Where the word is 0, no lane handed in a code or found one.
+pub nothing-handed : (old : Book) → old.at < length old.others.items → StopIs 0 (logs_of old) → (old.here.stops.list ≡ []) × (old.here.answered.list ≡ [])
+nothing-handed old lt is =
+    let both = both_true (no_codes old.here.stops.list) (no_codes old.here.answered.list) (all-at (fits_stop 0) old.others.items old.at old.here lt is.fits) in
+    (empty old.here.stops.list both.0, empty old.here.answered.list both.1)
+  where
+    empty : (cs : List ℕ) → no_codes cs ≡ true → cs ≡ []
+    empty [] e = refl
+    empty (c ∷ cs) e = absurd (cc)
+
+pub all-answered : (stop : ℕ) (old : Book) → stop ≢ 0 → old.at < length old.others.items → StopIs stop (logs_of old) → list_all (λ c. c == stop) old.here.answered.list ≡ true
+all-answered stop old set lt is = found stop old.here (not-zero stop set) (all-at (fits_stop stop) old.others.items old.at old.here lt is.fits)
+
+-- a code that may be handed in is 1 to 7
+stop-small : (b : Body) → stop_code b ≤ 6
+stop-small (body.NoEntry a f l m) = omega arith
+stop-small (body.NoBlock p n free) = omega arith
+stop-small (body.Armed t n c) = omega arith
+stop-small (body.BadTicks t n i) = omega arith
+stop-small (body.NoLifo a f l m) = omega arith
+stop-small body.Spent = omega arith
+stop-small (body.Spill n) = omega arith
+stop-small _ = omega arith
+
+last-small : (ts : List ToldItem) → last_code ts ≤ 6
+unfolding last_code
+last-small [] = omega arith
+last-small (t ∷ []) = stop-small t.told.body
+last-small (t ∷ u ∷ ts) = last-small (u ∷ ts)
+
+pub code-within : (w : PlainWorld) (code : ℕ) → MayStop code (world_view w) → (0 < code) × (code ≤ 7)
+code-within w code (inl seven) = (omega (arith, seven), omega (arith, seven))
+code-within w code (inr last) = let le = last-small (world_view w).told in (last.0, omega (arith, le, last.1))

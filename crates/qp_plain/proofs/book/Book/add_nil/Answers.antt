@@ -1,0 +1,37 @@
+use Rattle.std.proofs.Common.{refl, ap, arith}
+use Rattle.qp_plain.specs.Lane.{spill_place}
+use Rattle.qp_plain.proofs.BookLemmas.{places-here, places-change, grown-here}
+use Rattle.qp_plain.proofs.book.Book.add_nil.Goals as goal
+
+pub push_reserved-requires : goal.push_reserved-requires
+push_reserved-requires c =
+    let s = c.args.self.now in
+    let le = places-here s.others.items s.at s.here s.within in
+    omega (arith, le, s.room, s.ordered, c.requires.room)
+
+pub overflow_sub-self : goal.overflow_sub-self
+overflow_sub-self c =
+    let s = c.args.self.now in
+    let le = places-here s.others.items s.at s.here s.within in
+    omega (arith, le, s.room, c.requires.room)
+
+pub invariant_of-self : goal.invariant_of-self
+invariant_of-self c =
+    let s = c.args.self.now in
+    let le = places-here s.others.items s.at s.here s.within in
+    let moved = places-change s.others.items s.at s.here c.add_nil.new.self s.within in
+    let place = ap spill_place c.add_nil.ensures.spilled in
+    record {
+      within = s.within;
+      few = s.few;
+      room = omega (arith, le, moved, place, s.room, c.add_nil.ensures.spare, c.requires.room);
+      ordered = omega (arith, le, s.room, s.ordered, c.requires.room, c.push_reserved.ensures.len, c.push_reserved.ensures.capacity);
+    }
+
+pub returns-clause-gains : goal.returns-clause-gains
+returns-clause-gains c =
+    let s = c.args.self.now in
+    record {
+      grown = grown-here s.others.items s.at s.here c.add_nil.new.self c.args.rec s.order.items c.push_reserved.new.self.items s.within c.add_nil.ensures.recs c.push_reserved.ensures.items;
+      stays = record { others = refl; at = refl; stops = c.add_nil.ensures.stops; answered = c.add_nil.ensures.answered };
+    }

@@ -1,0 +1,96 @@
+use Rattle.std.proofs.Common.{◌≡◌, ℕ, ◌+◌, ◌-◌, ◌<◌, ◌≤◌, length, get_or, slice_set, sym, ◌∙◌, ap, subst, arith, IsTrue}
+use Rattle.qp_model.specs.declared.words.Word.TheVariants as word
+use Rattle.qp_plain_words.specs.Queue.{Queue}
+use Rattle.qp_sound.specs.View.{view_of}
+use Rattle.qp_sound.specs.WordStates.{line_in}
+use Rattle.qp_model.specs.WordLaw.{is_object}
+use Rattle.qp_model.specs.Sites.{ring_of}
+use Rattle.qp_plain.specs.declared.book.Book.{Book}
+use Rattle.qp_plain.specs.declared.world.PlainWorld.{PlainWorld}
+use Rattle.qp_plain.specs.Book.{lists_of}
+use Rattle.qp_plain.specs.World.{WorldHolds}
+use Rattle.qp_plain.specs.WorldView.{world_view}
+use Rattle.qp_plain.proofs.Calling.{view_with, stop-stays, queue-at, lent-same}
+use Rattle.qp_plain.proofs.Few.{line-few}
+use Rattle.qp_plain.proofs.Mays.{stands-token}
+use Rattle.qp_plain.proofs.Turns.{tries-drawn, tries-shown}
+use Rattle.qp_model.specs.declared.bodies.Body.TheVariants.{Post}
+use Rattle.qp_plain.proofs.QueueCalls as queue
+use Rattle.qp_plain.proofs.calls.PlainWorldOps.claim.Goals as goal
+
+mine : (w : PlainWorld) (a : ℕ) → IsTrue (is_object (world_view w).sys a) → IsTrue (is_object w.sys.now a)
+unfolding view_of
+mine w a h = h
+
+there : (w : PlainWorld) (a k : ℕ) → IsTrue (is_object w.sys.now a) → k ≡ a → k < length w.queues.items
+there w a k h at = let few = w.holds.limits.objects a h in omega (arith, few.1, at, w.holds.queues_hold.long)
+
+put : (w : PlainWorld) (b : Book) (a k : ℕ) (x : Queue) → k ≡ a → WorldHolds w.sys.now (lists_of b) b.order.items w.pools.items w.blocks.items w.cells.items (slice_set w.queues.items a x) w.signals.items w.timers.items
+    → WorldHolds w.sys.now (lists_of b) b.order.items w.pools.items w.blocks.items w.cells.items (slice_set w.queues.items k x) w.signals.items w.timers.items
+put w b a k x at h = subst (λ z. WorldHolds w.sys.now (lists_of b) b.order.items w.pools.items w.blocks.items w.cells.items (slice_set w.queues.items z x) w.signals.items w.timers.items) (sym at) h
+
+kept : (w : PlainWorld) (b : Book) (k : ℕ) (q : Queue) → q ≡ get_or w.queues.items k q → WorldHolds w.sys.now (lists_of b) b.order.items w.pools.items w.blocks.items w.cells.items w.queues.items w.signals.items w.timers.items
+    → WorldHolds w.sys.now (lists_of b) b.order.items w.pools.items w.blocks.items w.cells.items (slice_set w.queues.items k q) w.signals.items w.timers.items
+kept w b k q e h = subst (λ z. WorldHolds w.sys.now (lists_of b) b.order.items w.pools.items w.blocks.items w.cells.items z w.signals.items w.timers.items) (sym (lent-same w.queues.items k q e)) h
+
+few : (w : PlainWorld) (a : ℕ) (q : Queue) → IsTrue (is_object w.sys.now a) → q ≡ record { line = line_in w.sys.now (lists_of w.book) a; ring = ring_of w.sys.now a } → q.line.f + q.line.l + q.line.m ≤ 49000049
+few w a q h is =
+    let le = line-few w.sys.now w.book w.holds.world.sound.words a h in
+    let line = ap (λ x. x.line) is in
+    subst (λ x. x.f + x.l + x.m ≤ 49000049) (sym line) le
+
+short-of : (free from margin x : ℕ) → free ≡ x → from ≡ margin → {y : ℕ} → margin ≡ y → free ≤ from → x ≤ y
+short-of free from margin x a b c le = omega (arith, a, b, c, le)
+
+enough-of : (free from margin x : ℕ) → free ≡ x → from ≡ margin → {y : ℕ} → margin ≡ y → from < free → y < x
+enough-of free from margin x a b c lt = omega (arith, a, b, c, lt)
+
+room : (ring n : ℕ) (m : ℕ) → m < ring + 1 - n → n ≤ ring
+room ring n m lt = omega (arith, lt)
+
+pub index_mut-word-requires : goal.index_mut-word-requires
+index_mut-word-requires g c = let lt = there c.args.self.now c.args.to c.from.result (mine c.args.self.now c.args.to c.requires.object) c.from.ensures in omega (arith, lt, c.args.self.now.queues.ok.0)
+
+pub add-requires-clause-room : goal.add-requires-clause-room
+unfolding view_of
+add-requires-clause-room g c = c.requires.room
+
+pub add-requires-2-clause-room : goal.add-requires-2-clause-room
+unfolding view_of
+add-requires-2-clause-room g c = c.requires.room
+
+pub invariant_of-self : goal.invariant_of-self
+invariant_of-self g c = record {
+  holds = kept c.args.self.now c.add.new.self c.from.result c.index_mut-word.result.now c.index_mut-word.ensures.value (queue.claim-not-holds c.args.self.now c.add.new.self c.refusal.result c.add.ensures.gains c.args.to c.counts-now.result.f c.counts-now.result.l c.counts-now.result.m c.index_mut-word.result.now (mine c.args.self.now c.args.to c.requires.object) (queue-at c.args.self.now c.args.to c.from.result c.index_mut-word.result.now (mine c.args.self.now c.args.to c.requires.object) c.from.ensures c.index_mut-word.ensures.value) c.counts-now.ensures.f c.counts-now.ensures.l c.counts-now.ensures.m c.args.margin c.refusal.ensures (short-of _ _ _ _ c.free.ensures c.from-2.ensures c.unwrap_or.ensures c.if-free-from.true));
+  stops = stop-stays c.args.self.now.stop c.args.self.now.book c.add.new.self c.add.ensures.gains.stays c.args.self.now.stops;
+}
+
+pub returns-then-free-from-clause-claims : goal.returns-then-free-from-clause-claims
+returns-then-free-from-clause-claims g c = queue.claim-not c.args.self.now c.add.new.self c.refusal.result c.add.ensures.gains c.args.to c.counts-now.result.f c.counts-now.result.l c.counts-now.result.m c.index_mut-word.result.now (mine c.args.self.now c.args.to c.requires.object) (queue-at c.args.self.now c.args.to c.from.result c.index_mut-word.result.now (mine c.args.self.now c.args.to c.requires.object) c.from.ensures c.index_mut-word.ensures.value) c.counts-now.ensures.f c.counts-now.ensures.l c.counts-now.ensures.m c.add.ensures.spare c.args.e c.args.margin c.refusal.ensures (short-of _ _ _ _ c.free.ensures c.from-2.ensures c.unwrap_or.ensures c.if-free-from.true)
+
+pub returns-then-free-from-clause-tries : goal.returns-then-free-from-clause-tries
+returns-then-free-from-clause-tries g c =
+    tries-shown (word.Queue c.args.to) c.args.steps.now c.step.new.self (world_view c.args.self.now) (view_with c.args.self.now c.add.new.self) c.step.ensures
+    ((returns-then-free-from-clause-claims g c).adds.grows.rise (word.Queue c.args.to))
+
+pub overflow_add-now : goal.overflow_add-now
+overflow_add-now g c = let le = few c.args.self.now c.args.to c.index_mut-word.result.now (mine c.args.self.now c.args.to c.requires.object) (queue-at c.args.self.now c.args.to c.from.result c.index_mut-word.result.now (mine c.args.self.now c.args.to c.requires.object) c.from.ensures c.index_mut-word.ensures.value) in record { fits = omega (arith, le, c.counts-now.ensures.f) }
+
+pub post-requires-clause-few : goal.post-requires-clause-few
+post-requires-clause-few g c = let le = few c.args.self.now c.args.to c.index_mut-word.result.now (mine c.args.self.now c.args.to c.requires.object) (queue-at c.args.self.now c.args.to c.from.result c.index_mut-word.result.now (mine c.args.self.now c.args.to c.requires.object) c.from.ensures c.index_mut-word.ensures.value) in omega (arith, le)
+
+pub post-requires-clause-token : goal.post-requires-clause-token
+post-requires-clause-token g c = stands-token c.args.self.now c.args.e c.requires.stands
+
+pub invariant_of-self-2 : goal.invariant_of-self-2
+invariant_of-self-2 g c = record {
+  holds = put c.args.self.now c.add-2.new.self c.args.to c.from.result c.post.new.self c.from.ensures (queue.claim-holds c.args.self.now c.add-2.new.self c.post-rec.result c.add-2.ensures.gains c.args.to c.counts-now.result.f c.counts-now.result.l c.counts-now.result.m c.index_mut-word.result.now (mine c.args.self.now c.args.to c.requires.object) (queue-at c.args.self.now c.args.to c.from.result c.index_mut-word.result.now (mine c.args.self.now c.args.to c.requires.object) c.from.ensures c.index_mut-word.ensures.value) c.counts-now.ensures.f c.counts-now.ensures.l c.counts-now.ensures.m c.args.e c.post.new.self (c.post-rec.ensures ∙ ap (λ x. record { of = c.args.self.now.by; body = Post c.args.to (c.counts-now.result.f + 1) c.counts-now.result.l c.counts-now.result.m x }) c.stated.ensures) c.requires.stands (room _ _ _ (enough-of _ _ _ _ c.free.ensures c.from-2.ensures c.unwrap_or.ensures c.if-free-from.false)) c.post.ensures.ring c.post.ensures.line);
+  stops = stop-stays c.args.self.now.stop c.args.self.now.book c.add-2.new.self c.add-2.ensures.gains.stays c.args.self.now.stops;
+}
+
+pub returns-clause-claims : goal.returns-clause-claims
+returns-clause-claims g c = queue.claim-it c.args.self.now c.add-2.new.self c.post-rec.result c.add-2.ensures.gains c.args.to c.counts-now.result.f c.counts-now.result.l c.counts-now.result.m c.index_mut-word.result.now (mine c.args.self.now c.args.to c.requires.object) (queue-at c.args.self.now c.args.to c.from.result c.index_mut-word.result.now (mine c.args.self.now c.args.to c.requires.object) c.from.ensures c.index_mut-word.ensures.value) c.counts-now.ensures.f c.counts-now.ensures.l c.counts-now.ensures.m c.add-2.ensures.spare c.args.e c.args.margin (c.post-rec.ensures ∙ ap (λ x. record { of = c.args.self.now.by; body = Post c.args.to (c.counts-now.result.f + 1) c.counts-now.result.l c.counts-now.result.m x }) c.stated.ensures) c.requires.stands (enough-of _ _ _ _ c.free.ensures c.from-2.ensures c.unwrap_or.ensures c.if-free-from.false)
+
+pub returns-clause-tries : goal.returns-clause-tries
+returns-clause-tries g c =
+    tries-drawn (word.Queue c.args.to) c.args.steps.now c.step.new.self (world_view c.args.self.now) (view_with c.args.self.now c.add-2.new.self) c.step.ensures (returns-clause-claims g c).up

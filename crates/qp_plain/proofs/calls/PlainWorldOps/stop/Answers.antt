@@ -1,0 +1,67 @@
+use Rattle.std.proofs.Common.{◌≡◌, ℕ, true, List, ◌∷◌, sym, ◌∙◌, ap, subst}
+use Rattle.qp_sound.specs.View.{view_of}
+use Rattle.qp_plain.specs.declared.book.Book.{Book}
+use Rattle.qp_plain.specs.declared.world.PlainWorld.{PlainWorld}
+use Rattle.qp_plain.specs.Book.{lists_of}
+use Rattle.qp_plain.specs.World.{WorldHolds}
+use Rattle.qp_plain.specs.WorldView.{world_view}
+use Rattle.qp_plain.proofs.Calling.{view_with}
+use Rattle.qp_plain.specs.Book.{Hands, logs_of}
+use Rattle.qp_plain.specs.World.{StopIs}
+use Rattle.qp_plain.proofs.Stopping.{stop-first, stop-later, code-within}
+use Rattle.qp_calls.specs.Clauses.{Stops}
+use Rattle.qp_calls.specs.Notes.{MayStop}
+use Rattle.qp_sound.proofs.LawLemmas.{stop-caused}
+use Rattle.qp_model.specs.declared.record.Rec.{Rec}
+use Rattle.qp_model.specs.History.{lane_items}
+use Rattle.qp_plain.specs.Lane.{is_caused_in}
+use Rattle.qp_plain.specs.LaneLaws.{lane-here}
+use Rattle.qp_plain.proofs.calls.PlainWorldOps.stop.Goals as goal
+
+moved : (w : PlainWorld) (b : Book) → lists_of b ≡ lists_of w.book → b.order.items ≡ w.book.order.items
+    → WorldHolds w.sys.now (lists_of b) b.order.items w.pools.items w.blocks.items w.cells.items w.queues.items w.signals.items w.timers.items
+moved w b lists order =
+    subst (λ ls. WorldHolds w.sys.now ls b.order.items w.pools.items w.blocks.items w.cells.items w.queues.items w.signals.items w.timers.items) (sym lists)
+    (subst (λ xs. WorldHolds w.sys.now (lists_of w.book) xs w.pools.items w.blocks.items w.cells.items w.queues.items w.signals.items w.timers.items) (sym order) w.holds)
+
+same-view : (w : PlainWorld) (b : Book) (stops answered : List ℕ) → lists_of b ≡ lists_of w.book → b.order.items ≡ w.book.order.items → b.at ≡ w.book.at → b.here.spare ≡ w.book.here.spare
+    → b.here.stops.list ≡ stops → b.here.answered.list ≡ answered
+    → view_with w b ≡ view_of w.sys.now (lists_of w.book) w.book.order.items w.book.at w.book.here.spare w.by stops answered
+same-view w b stops answered lists order at spare s a =
+    ap (λ x. view_of w.sys.now x b.order.items b.at b.here.spare w.by b.here.stops.list b.here.answered.list) lists
+    ∙ ap (λ x. view_of w.sys.now (lists_of w.book) x b.at b.here.spare w.by b.here.stops.list b.here.answered.list) order
+    ∙ ap (λ x. view_of w.sys.now (lists_of w.book) w.book.order.items x b.here.spare w.by b.here.stops.list b.here.answered.list) at
+    ∙ ap (λ x. view_of w.sys.now (lists_of w.book) w.book.order.items w.book.at x w.by b.here.stops.list b.here.answered.list) spare
+    ∙ ap (λ x. view_of w.sys.now (lists_of w.book) w.book.order.items w.book.at w.book.here.spare w.by x b.here.answered.list) s
+    ∙ ap (λ x. view_of w.sys.now (lists_of w.book) w.book.order.items w.book.at w.book.here.spare w.by stops x) a
+
+caused : (w : PlainWorld) (code : ℕ) → MayStop code (world_view w) → is_caused_in (lane_items w.book.here.recs.items) code ≡ true
+caused w code may =
+    subst (λ (l : List Rec). is_caused_in (lane_items l) code ≡ true) (lane-here w.book.others.items w.book.at w.book.here w.book.within)
+    (stop-caused w.sys.now (lists_of w.book) w.book.order.items w.book.at w.book.here.spare w.by w.book.here.stops.list w.book.here.answered.list code may)
+
+handed : (w : PlainWorld) (b : Book) (code : ℕ) → Hands code w.book b → Stops code (world_view w) (view_with w b)
+unfolding view_of
+handed w b code h = same-view w b (code ∷ w.book.here.stops.list) w.book.here.answered.list h.lists h.order h.at h.spare h.stops h.answered
+
+pub hand-requires : goal.hand-requires
+hand-requires c = caused c.args.self.now c.args.code c.requires
+
+pub invariant_of-self : goal.invariant_of-self
+invariant_of-self c =
+    let w = c.args.self.now in
+    let h = c.hand.ensures in
+    let within = code-within w c.args.code c.requires in
+    record { holds = moved w c.hand.new.self h.lists h.order; stops = stop-first c.args.code w.book c.hand.new.self h within.0 within.1 w.book.within (subst (λ x. StopIs x (logs_of w.book)) c.if-self-eq0.true w.stops) }
+
+pub invariant_of-self-else-self-eq0 : goal.invariant_of-self-else-self-eq0
+invariant_of-self-else-self-eq0 c =
+    let w = c.args.self.now in
+    let h = c.hand.ensures in
+    record { holds = moved w c.hand.new.self h.lists h.order; stops = stop-later w.stop c.args.code w.book c.hand.new.self h c.if-self-eq0.false w.book.within w.stops }
+
+pub returns-then-self-eq0 : goal.returns-then-self-eq0
+returns-then-self-eq0 c = handed c.args.self.now c.hand.new.self c.args.code c.hand.ensures
+
+pub returns-else-self-eq0 : goal.returns-else-self-eq0
+returns-else-self-eq0 c = handed c.args.self.now c.hand.new.self c.args.code c.hand.ensures

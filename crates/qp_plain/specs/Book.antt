@@ -1,0 +1,57 @@
+-- What contracts see of a book.
+use Rattle.std.specs.Prelude.{◌≡◌, ℕ, ◌+◌, ◌<◌, List, ◌∷◌, map, length, ⊤}
+use Rattle.qp_model.specs.declared.record.Rec.{Rec}
+use Rattle.qp_calls.specs.declared.answers.RoomFault.{RoomFault}
+use Rattle.qp_calls.specs.declared.answers.RoomFault.TheVariants as fault
+use Rattle.qp_sound.specs.Step.{Grown}
+use Rattle.qp_plain.specs.declared.log.Log.{Log}
+use Rattle.qp_plain.specs.declared.book.Book.{Book}
+use Rattle.qp_plain.specs.Books.{recs_of, all_logs}
+
+abbrev pub logs_of : Book → List Log
+logs_of b = all_logs b.others.items b.at b.here
+
+abbrev pub lists_of : Book → List (List Rec)
+lists_of b = map recs_of (logs_of b)
+
+-- the lane chosen stays chosen, and nothing changes of the codes and of the other lanes
+pub record Stays (old new : Book) : Type 0 where
+  pub others : new.others.items ≡ old.others.items
+  pub at : new.at ≡ old.at
+  pub stops : new.here.stops.list ≡ old.here.stops.list
+  pub answered : new.here.answered.list ≡ old.here.answered.list
+
+-- the record comes to the end of the lane chosen
+pub record Gains (r : Rec) (old new : Book) : Type 0 where
+  pub grown : Grown (lists_of old) old.order.items old.at r (lists_of new) new.order.items
+  pub stays : Stays old new
+
+-- no record comes
+pub record Keeps (old new : Book) : Type 0 where
+  pub lists : lists_of new ≡ lists_of old
+  pub order : new.order.items ≡ old.order.items
+  pub stays : Stays old new
+
+-- why there is no room
+abbrev pub IsRoomFault : Book → RoomFault → Type 0
+IsRoomFault b fault.Memory = ⊤
+IsRoomFault b (fault.LaneFull len) = (len ≡ length b.here.recs.items) × (1000000 < len + 8)
+
+-- a code is handed to `stop`, or found by `stopped`
+pub record Hands (code : ℕ) (old new : Book) : Type 0 where
+  pub lists : lists_of new ≡ lists_of old
+  pub order : new.order.items ≡ old.order.items
+  pub others : new.others.items ≡ old.others.items
+  pub at : new.at ≡ old.at
+  pub spare : new.here.spare ≡ old.here.spare
+  pub stops : new.here.stops.list ≡ code ∷ old.here.stops.list
+  pub answered : new.here.answered.list ≡ old.here.answered.list
+
+pub record Answers (code : ℕ) (old new : Book) : Type 0 where
+  pub lists : lists_of new ≡ lists_of old
+  pub order : new.order.items ≡ old.order.items
+  pub others : new.others.items ≡ old.others.items
+  pub at : new.at ≡ old.at
+  pub spare : new.here.spare ≡ old.here.spare
+  pub stops : new.here.stops.list ≡ old.here.stops.list
+  pub answered : new.here.answered.list ≡ code ∷ old.here.answered.list

@@ -1,0 +1,10 @@
+pub mod Book
+pub mod Books
+pub mod Ended
+pub mod Fresh
+pub mod Lane
+pub mod LaneLaws
+pub mod NewWorld
+pub mod Tables
+pub mod World
+pub mod WorldView

@@ -1,0 +1,13 @@
+//! A world of one thread.
+#![tactic(auto)]
+
+mod book;
+mod calls;
+mod ending;
+mod log;
+mod making;
+mod records;
+mod tables;
+mod world;
+
+pub use world::PlainWorld;

@@ -1,0 +1,4 @@
+pub mod Masks
+pub mod PlaceLemmas
+pub mod SetLemmas
+pub mod TokenLemmas

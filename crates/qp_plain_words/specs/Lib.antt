@@ -1,0 +1,4 @@
+pub mod Places
+pub mod Queue
+pub mod Sets
+pub mod Ticked

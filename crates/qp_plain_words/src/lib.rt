@@ -1,0 +1,21 @@
+//! The words of a world of one thread.
+#![tactic(auto)]
+
+// Pools and their blocks.
+mod block;
+mod pool;
+
+// The other kinds.
+mod queue;
+mod signal;
+mod timer;
+
+// The codes of `stop`, in proofs alone.
+mod codes;
+
+pub use block::BlockWord;
+pub use codes::Codes;
+pub use pool::PoolWord;
+pub use queue::QueueWord;
+pub use signal::SignalWord;
+pub use timer::TimerWord;
