@@ -1,0 +1,15 @@
+pub mod Quiet
+pub mod Rising
+pub mod Naming
+pub mod CallLemmas
+pub mod Finishing
+pub mod ActLemmas
+pub mod Singles
+pub mod PartLemmas
+pub mod PublishLemmas
+pub mod RunLemmas
+pub mod ResumeLemmas
+pub mod StartLemmas
+pub mod ReadyLemmas
+pub mod SoundAble
+pub mod Taking

@@ -1,0 +1,9 @@
+pub mod Lasts
+pub mod CallsDone
+pub mod SoundFor
+pub mod Acting
+pub mod Parts
+pub mod Runs
+pub mod Resume
+pub mod Starting
+pub mod Objects

@@ -1,0 +1,11 @@
+//! What an object works on.
+
+use qp_base::Ev;
+use qp_calls::Entry;
+
+/// An event, and its entry; a start has neither.
+#[derive(Drop)]
+pub(crate) struct Work {
+    pub(crate) ev: Ev,
+    pub(crate) entry: Option<Entry>,
+}
