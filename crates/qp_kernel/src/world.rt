@@ -1,0 +1,39 @@
+//! The world that a kernel looks at.
+
+ghost use Rattle.std.specs.Prelude.{◌≡◌};
+ghost use Rattle.qp_kernel.specs.Interrupting.{Interrupts};
+
+use qp_base::Steps;
+use qp_calls::Ops;
+use qp_model::System;
+use std::sync::Wait;
+use std::sync::ledger::Ledger;
+
+/// What a look lets happen. `Stopped` and `Memory` end the run; `Stopped` comes only where `stopped` has answered.
+#[derive(Debug, Clone, Copy, PartialEq, Eq)]
+pub enum Irq {
+    /// One stimulus, with all its records.
+    Happened,
+    /// No source may act.
+    Nothing,
+    /// A stimulus ended in its assertion, or its lane has no room.
+    Stopped,
+    /// Memory was refused.
+    Memory,
+}
+
+/// A lane in a world whose sources act in its looks.
+pub trait World: Ops {
+    /// Lets at most one stimulus happen in the look with this count; `base` tells that no step is under way. The
+    /// lane chosen, its records and the object set by `by` are afterwards as they were.
+    fn interrupt<R: Wait, L: Ledger>(
+        &mut self,
+        rt: &R,
+        sys: &System,
+        look: u32,
+        base: bool,
+        steps: &mut Steps<L>,
+    ) -> Irq
+        requires made_for { (Self.lane self.old).sys ≡ sys.now }
+        ensures { Interrupts (Self.lane self.old) (Self.lane self.new) result };
+}

@@ -1,0 +1,10 @@
+pub mod CalmLemmas
+pub mod MergeLemmas
+pub mod TurnLemmas
+pub mod StimLemmas
+pub mod RunLemmas
+pub mod SourceLemmas
+pub mod NumberLemmas
+pub mod StimulusForm
+pub mod SourceLanes
+pub mod OrderLaws

@@ -1,0 +1,5 @@
+pub mod RunOrder
+pub mod Placing
+pub mod SourceRun
+pub mod Stimulus
+pub mod Laws

@@ -1,0 +1,4 @@
+//! The order of a run with one thread, and the lanes of its sources.
+#![tactic(auto)]
+
+pub mod laws;
