@@ -134,14 +134,14 @@ module _ (charts : List Chart) where
             let is : d.priority ≡ o = grind (arith, nat_tests, test) in
             let same : d ≡ object = same_Some d object (rw test at found) in
             let own : count_by (λ t. nat_lt t.object o) first ≡ 0 =
-                count-none (λ t. nat_lt t.object o) first (every (λ t. t.object ≡ d.priority) (λ t. nat_lt t.object o ≡ false) (λ t e. above t.object o (omega (arith, e, is))) first (its-own d)) in
+            count-none (λ t. nat_lt t.object o) first (every (λ t. t.object ≡ d.priority) (λ t. nat_lt t.object o ≡ false) (λ t e. above t.object o (omega (arith, e, is))) first (its-own d)) in
             let others : count_by (λ t. nat_lt t.object o) rest ≡ 0 = count-none (λ t. nat_lt t.object o) rest (later o ds (every (λ x. d.priority < x.priority) (λ x. o < x.priority) (λ x e. omega (arith, e, is)) ds h.1)) in
             let none : count_by (λ t. nat_lt t.object o) (first ++ rest) + place ≡ place = omega (arith, both, own, others) in
             rw none (get-front first rest place (timer_of object timer) (subst (λ x. slice_get (timers_of charts x) place ≡ Some (timer_of object timer)) (sym same) here))
         by after false test =
             let before : d.priority < o = found-above d.priority o object ds h.1 (rw test at found) in
             let own : count_by (λ t. nat_lt t.object o) first ≡ length first =
-                count-all (λ t. nat_lt t.object o) first (every (λ t. t.object ≡ d.priority) (λ t. nat_lt t.object o ≡ true) (λ t e. below t.object o (omega (arith, e, before))) first (its-own d)) in
+            count-all (λ t. nat_lt t.object o) first (every (λ t. t.object ≡ d.priority) (λ t. nat_lt t.object o ≡ true) (λ t e. below t.object o (omega (arith, e, before))) first (its-own d)) in
             let behind : count_by (λ t. nat_lt t.object o) (first ++ rest) + place ≡ length first + (count_by (λ t. nat_lt t.object o) rest + place) = omega (arith, both, own) in
             rw behind (get-behind first rest (count_by (λ t. nat_lt t.object o) rest + place) ∙ after (rw test at found))
 
@@ -159,7 +159,7 @@ number-owned sys sound o (suc place) object chart found its some few = by (slice
     by (inr past) = absurd (omega (arith, few, past.0))
     by (inl (timer, within, at, same)) =
         let there : slice_get sys.timers (count_by (λ t. nat_lt t.object o) sys.timers + place) ≡ Some (timer_of object timer) =
-            subst (λ ts. slice_get ts (count_by (λ t. nat_lt t.object o) ts + place) ≡ Some (timer_of object timer)) (sym sound.numbered) (placed sys.charts o place object chart timer its at sys.objects sound.ascend found) in
+        subst (λ ts. slice_get ts (count_by (λ t. nat_lt t.object o) ts + place) ≡ Some (timer_of object timer)) (sym sound.numbered) (placed sys.charts o place object chart timer its at sys.objects sound.ascend found) in
         let inside = slice_get_within sys.timers (count_by (λ t. nat_lt t.object o) sys.timers + place) (timer_of object timer) there in
         record {
           some = omega arith;
