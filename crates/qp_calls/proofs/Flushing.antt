@@ -1,6 +1,7 @@
 -- Flushes entry by entry.
-use Rattle.std.proofs.Common.{◌≡◌, ℕ, zero, suc, ◌+◌, List, [], ◌∷◌, ◌++◌, map, length, refl, sym, ◌∙◌, ap, subst, arith, append_assoc, Some, None, inl}
+use Rattle.std.proofs.Common.{◌≡◌, ℕ, zero, suc, ◌+◌, ◌<◌, List, [], ◌∷◌, ◌++◌, map, length, refl, sym, ◌∙◌, ap, subst, arith, append_assoc, Some, None, inl}
 use Rattle.std.proofs.lemmas.List.{append-nil}
+use Rattle.std.specs.Prelude.{◌≢◌}
 use Rattle.qp_model.specs.declared.bodies.Entry as model
 use Rattle.qp_model.specs.declared.bodies.Body.TheVariants as item
 use Rattle.qp_model.specs.Told.{Told, plain, dropped}
@@ -37,13 +38,13 @@ flushes-append (suc n) m g h a b =
     ) in
     subst (λ j. Flushes j (g ++ h)) same on
 
-pub could_drop : (e : model.Entry) → (rel : List Told) × Drops e rel
+pub could_drop : (e : model.Entry) → (rel : List Told) × Drops e rel × (0 < e.pool → rel ≢ [])
 unfolding Drops
 could_drop e = go e.pool
   where
-    go : (p : ℕ) → (rel : List Told) × releases_by p e rel
-    go zero = ([], refl)
-    go (suc p) = (dropped e.pool e.block 0 e.name 1 ∷ [], inl (0, 0, refl))
+    go : (p : ℕ) → (rel : List Told) × releases_by p e rel × (0 < p → rel ≢ [])
+    go zero = ([], refl, λ some none. absurd (omega (arith, some)))
+    go (suc p) = (dropped e.pool e.block 0 e.name 1 ∷ [], inl (0, 0, refl), λ some none. absurd (cc))
 
 -- what a flush of these entries could add
 could_flush : (es : List model.Entry) → (h : List Told) × Flushes (length es) h

@@ -9,7 +9,7 @@ use Rattle.qp_model.specs.Parts.{is_static}
 use Rattle.qp_calls.specs.declared.tokens.Entry.{Entry}
 use Rattle.qp_calls.specs.declared.tokens.Entry.TheVariants as token
 use Rattle.qp_calls.specs.Tokens.{token_of, stands, handles, hands_after}
-use Rattle.qp_calls.specs.LaneView.{LaneView, Gains, Grows, Roomier, is_known, mark_by, mark_after, Own, own_of, own_after}
+use Rattle.qp_calls.specs.LaneView.{LaneView, Gains, Grows, Roomier, is_known, handled_in, placed_by, mark_by, mark_after, Own, own_of, own_after}
 use Rattle.qp_calls.specs.Clauses.{Stands}
 use Rattle.qp_calls.proofs.HandLemmas.{hands-append, stands-after, handled}
 
@@ -35,16 +35,19 @@ any-append p (x ∷ xs) ys = go (p x) (any-append p xs ys)
 pub known-later : (ts : List ToldItem) (a b : LaneView) → Gains ts a b → (e : model.Entry) → IsTrue (is_known a e) → IsTrue (is_known b e)
 unfolding is_known
 known-later ts a b g e h =
-    rw (g.told, g.hands, any-append (λ t. handles (token_of e) t.told.body) a.told ts)
-    (go (e.pool == 0) (stands (token_of e) a.hands) (handled e a.told) (handled e ts) (stands (token_of e) (hands_after a.hands ts)) h (stands-after e a.hands ts))
+    rw (g.told, g.hands, g.aside, any-append (λ t. handles (token_of e) t.told.body) a.told ts)
+    (go (e.pool == 0) (stands (token_of e) a.hands) (handled e a.told) (handled e ts) (stands (token_of e) (hands_after a.hands ts))
+    (list_any (handled_in (token_of e)) a.aside.told) h (stands-after e a.hands ts))
   where
-    go : (u v w x y : Bool) → ((u || v) || w) ≡ true → (v ≡ true → (x || y) ≡ true) → ((u || y) || (w || x)) ≡ true
-    go true v w x y h s = refl
-    go false v w x true h s = refl
-    go false v true x false h s = refl
-    go false true false true false h s = refl
-    go false true false false false h s = absurd (cc (s refl))
-    go false false false x false h s = absurd (cc)
+    go : (u v w x y z : Bool) → (((u || v) || w) || z) ≡ true → (v ≡ true → (x || y) ≡ true) → (((u || y) || (w || x)) || z) ≡ true
+    go true v w x y z h s = refl
+    go false v w x true z h s = refl
+    go false v true x false z h s = refl
+    go false true false true false z h s = refl
+    go false true false false false z h s = absurd (cc (s refl))
+    go false false false true false z h s = refl
+    go false false false false false true h s = refl
+    go false false false false false false h s = absurd (cc)
 
 -- one after another
 pub gains-then : (g h : List ToldItem) (a b c : LaneView) → Gains g a b → Gains h b c → Gains (g ++ h) a c
@@ -66,6 +69,11 @@ gains-then g h a b c first second = record {
   own = λ o. second.own o ∙ rw (first.own o) (sym (own-append o (a.own o) g h));
   event = λ e known. second.event e (known-later g a b first e known) ∙ first.event e known;
   hands = second.hands ∙ rw first.hands (sym (hands-append a.hands g h));
+  plan = second.plan ∙ first.plan;
+  happened = second.happened ∙ first.happened;
+  lane = second.lane ∙ first.lane;
+  log = second.log ∙ rw (first.log, first.lane, map-append (placed_by a.lane) g h) (append_assoc a.log (map (placed_by a.lane) g) (map (placed_by a.lane) h));
+  aside = second.aside ∙ first.aside;
 }
 
 pub gains-none : (a : LaneView) → Gains [] a a
@@ -83,6 +91,11 @@ gains-none a = record {
   own = λ o. refl;
   event = λ e known. refl;
   hands = refl;
+  plan = refl;
+  happened = refl;
+  lane = refl;
+  log = sym (append-nil a.log);
+  aside = refl;
 }
 
 -- the spare is no matter of what a lane gains
@@ -103,6 +116,11 @@ gains-spared ts a b c n same g =
       own = h.own;
       event = h.event;
       hands = h.hands;
+      plan = h.plan;
+      happened = h.happened;
+      lane = h.lane;
+      log = h.log;
+      aside = h.aside;
     }
 
 -- room first

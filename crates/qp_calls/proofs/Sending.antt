@@ -1,5 +1,6 @@
 -- A source's publication, member by member.
-use Rattle.std.proofs.Common.{◌≡◌, ℕ, zero, suc, ◌+◌, ◌-◌, nat_lt, Bool, true, false, List, [], ◌∷◌, ◌++◌, length, refl, sym, ◌∙◌, ap, subst, arith, append_assoc, IsTrue, Option, Some, None, Result, Ok, Err, inl, inr}
+use Rattle.std.proofs.Common.{◌≡◌, ℕ, zero, suc, ◌+◌, ◌-◌, ◌<◌, nat_lt, Bool, true, false, List, [], ◌∷◌, ◌++◌, length, refl, sym, ◌∙◌, ap, subst, arith, append_assoc, IsTrue, Option, Some, None, Result, Ok, Err, inl, inr}
+use Rattle.std.specs.Prelude.{◌≢◌, ◌⊎◌}
 use Rattle.std.proofs.lemmas.Bool.{and_parts}
 use Rattle.std.proofs.lemmas.List.{append-nil}
 use Rattle.std.specs.List.{list_all}
@@ -18,10 +19,12 @@ use Rattle.qp_model.specs.WordLaw.{is_object}
 use Rattle.qp_calls.specs.declared.answers.RoomFault.{RoomFault}
 use Rattle.qp_calls.specs.declared.did.Did.{Did}
 use Rattle.qp_calls.specs.declared.did.Did.TheVariants as did
+use Rattle.qp_calls.specs.declared.tokens.Hold.{Hold}
 use Rattle.qp_calls.specs.declared.tokens.Entry.{Entry}
+use Rattle.qp_calls.specs.declared.tokens.Entry.TheVariants as token
 use Rattle.qp_calls.specs.Tokens.{without_entry}
 use Rattle.qp_calls.specs.LaneView.{LaneView, Grows, Roomier}
-use Rattle.qp_calls.specs.Clauses.{IsEvent, Stands, entry_of}
+use Rattle.qp_calls.specs.Clauses.{IsEvent, Stands, StandsHold, entry_of}
 use Rattle.qp_calls.specs.Entries.{Released}
 use Rattle.qp_calls.specs.Groups.{Answers}
 use Rattle.qp_calls.specs.Publishing.{Announced, AreObjects, PostsAgain, PostsAll, PostsCut, PostsFront, PostsSome, PostsWhole, PublishCut, PublishesAll}
@@ -71,6 +74,23 @@ could_post ring e to =
     free : (r : ℕ) → nat_lt 0 (r + 1 - (1 - 1 + 0 - 0)) ≡ true
     free r = lt_true 0 (r + 1 - (1 - 1 + 0 - 0)) (omega arith)
 
+-- a post is a record at least
+post_some : (ring : ℕ) (e : model.Entry) (to : ℕ) (g : List Told) → PostsOne ring e to Granted g → g ≢ []
+unfolding PostsOne Posts
+post_some ring e to g h none = no _ h.0 (sym h.3.3 ∙ none)
+  where
+    no : (x : Told) (xs : List Told) → xs ++ x ∷ [] ≡ [] → ⊥
+    no x [] is = absurd (cc)
+    no x (y ∷ ys) is = absurd (cc)
+
+some-front : (g h : List Told) → g ≢ [] → g ++ h ≢ []
+some-front [] h some none = some refl
+some-front (t ∷ g) h some none = absurd (cc)
+
+some-back : (g h : List Told) → h ≢ [] → g ++ h ≢ []
+some-back [] h some none = some none
+some-back (t ∷ g) h some none = absurd (cc)
+
 could_post_all : (rings : ℕ → ℕ) (e : model.Entry) (others : List ℕ) → (g : List Told) × PostsToAll rings e others g
 unfolding PostsToAll
 could_post_all rings e [] = ([], refl)
@@ -78,6 +98,10 @@ could_post_all rings e (a ∷ others) =
     let one = could_post (rings a) e a in
     let rest = could_post_all rings e others in
     (one.0 ++ rest.0, (one.0, rest.0, refl, one.1, rest.1))
+
+could_some : (rings : ℕ → ℕ) (e : model.Entry) (a : ℕ) (others : List ℕ) → (could_post_all rings e (a ∷ others)).0 ≢ []
+unfolding could_post_all
+could_some rings e a others = let one = could_post (rings a) e a in some-front one.0 (could_post_all rings e others).0 (post_some (rings a) e a one.0 one.1)
 
 -- The loop over the members.
 
@@ -118,22 +142,39 @@ some-assert e all left to rest code a v r w some room first post =
       },
     )
 
-pub some-cut : (e : model.Entry) (all left : ℕ) (a v w : LaneView) → PostsSome e all left a v → w ≡ v → PostsCut e all a w
-some-cut e all left a v w some same =
+-- `room` refused before the next post
+pub some-cut : (e : model.Entry) (all left to rest : ℕ) (a v w : LaneView) → PostsSome e all left a v → w ≡ v → members left ≡ to ∷ members rest → PostsCut e all a w
+some-cut e all left to rest a v w some same first =
     let rings = λ (x : ℕ). ring_of a.sys x in
-    let rest = could_post_all rings e (members left) in
+    let could = could_post_all rings e (to ∷ members rest) in
     record {
       g = some.posts;
-      rest = rest.0;
+      rest = could.0;
       grows = subst (λ x. Grows some.posts a x) (sym same) some.grows;
       fits =
-          subst (λ ms. PostsToAll (λ x. ring_of a.sys x) e ms (some.posts ++ rest.0)) (sym some.split)
-          (sends-all rings e some.sent (members left) some.posts rest.0 some.fits rest.1);
+          subst (λ ms. PostsToAll (λ x. ring_of a.sys x) e ms (some.posts ++ could.0)) (sym (some.split ∙ ap (λ x. some.sent ++ x) first))
+          (sends-all rings e some.sent (to ∷ members rest) some.posts could.0 some.fits could.1);
+      some = inr (could_some rings e to (members rest));
     }
+
+all_sent : (all left : ℕ) (sent : List ℕ) → members all ≡ sent ++ members left → left ≡ 0 → sent ≡ members all
+all_sent all left sent split none = sym (append-nil sent) ∙ ap (λ x. sent ++ x) (sym (members-none left none)) ∙ sym split
+
+-- or before the release
+pub some-kept : (e : model.Entry) (all left : ℕ) (a v w : LaneView) → PostsSome e all left a v → left ≡ 0 → w ≡ v → 0 < e.pool → PostsCut e all a w
+some-kept e all left a v w some none same pooled = record {
+  g = some.posts;
+  rest = [];
+  grows = subst (λ x. Grows some.posts a x) (sym same) some.grows;
+  fits =
+      subst (λ g. PostsToAll (λ x. ring_of a.sys x) e (members all) g) (sym (append-nil some.posts))
+      (subst (λ ms. PostsToAll (λ x. ring_of a.sys x) e ms some.posts) (all_sent all left some.sent some.split none) some.fits);
+  some = inl pooled;
+}
 
 pub some-whole : (e : model.Entry) (all left : ℕ) (a v r w : LaneView) → PostsSome e all left a v → left ≡ 0 → Roomier v r → Released e r w → PostsWhole e all a w
 some-whole e all left a v r w some none room rel =
-    let split : some.sent ≡ members all = sym (append-nil some.sent) ∙ ap (λ x. some.sent ++ x) (sym (members-none left none)) ∙ sym some.split in
+    let split : some.sent ≡ members all = all_sent all left some.sent some.split none in
     let hands : r.hands ≡ a.hands = rw room.same some.hands in
     record {
       posts = some.posts;
@@ -143,6 +184,40 @@ some-whole e all left a v r w some none room rel =
       drops = rel.drops;
       hands = rel.hands ∙ ap (λ x. without_entry e x) hands;
     }
+
+-- a static event has no release
+pub some-fixed : (sig all left : ℕ) (a w : LaneView) → PostsSome (entry 0 sig 0) all left a w → left ≡ 0 → PostsWhole (entry 0 sig 0) all a w
+unfolding Drops
+some-fixed sig all left a w some none = record {
+  posts = some.posts;
+  last = [];
+  grows = subst (λ g. Grows g a w) (sym (append-nil some.posts)) some.grows;
+  fits = subst (λ ms. PostsToAll (λ x. ring_of a.sys x) (entry 0 sig 0) ms some.posts) (all_sent all left some.sent some.split none) some.fits;
+  drops = refl;
+  hands = some.hands;
+}
+
+-- the same by the entry's token
+pub kept-left : (made : Entry) (h : Hold) (all left : ℕ) (a v w : LaneView) → made ≡ token.Pool h → Stands made v → PostsSome (entry_of made) all left a v → left ≡ 0 → w ≡ v
+    → PostsCut (entry_of made) all a w
+unfolding entry_of
+kept-left made h all left a v w is stands some none same =
+    let pooled : StandsHold h v = subst (λ x. Stands x v) is stands in
+    let at : PostsSome (entry h.pool h.block h.name) all left a v = subst (λ x. PostsSome (entry_of x) all left a v) is some in
+    rw is (some-kept (entry h.pool h.block h.name) all left a v w at none same pooled.0)
+
+pub released-whole : (made : Entry) (h : Hold) (all left : ℕ) (a v r w : LaneView) → made ≡ token.Pool h → PostsSome (entry_of made) all left a v → left ≡ 0 → Roomier v r
+    → Released (entry h.pool h.block h.name) r w → PostsWhole (entry_of made) all a w
+unfolding entry_of
+released-whole made h all left a v r w is some none room rel =
+    let at : PostsSome (entry h.pool h.block h.name) all left a v = subst (λ x. PostsSome (entry_of x) all left a v) is some in
+    rw is (some-whole (entry h.pool h.block h.name) all left a v r w at none room rel)
+
+pub fixed-whole : (made : Entry) (sig all left : ℕ) (a w : LaneView) → made ≡ token.Static sig → PostsSome (entry_of made) all left a w → left ≡ 0 → PostsWhole (entry_of made) all a w
+unfolding entry_of
+fixed-whole made sig all left a w is some none =
+    let at : PostsSome (entry 0 sig 0) all left a w = subst (λ x. PostsSome (entry_of x) all left a w) is some in
+    rw is (some-fixed sig all left a w at none)
 
 all-second : {X : Type 0} (p : X → Bool) (xs : List X) (y : X) (ys : List X) → list_all p (xs ++ y ∷ ys) ≡ true → p y ≡ true
 all-second p [] y ys h = (and_parts (p y) (list_all p ys) h).0
@@ -256,7 +331,12 @@ publish-cut ev reserve made all fixed a r v w room is_fixed first cut =
         last-source (entry_of made) (members all) end.0 end.1,
         append_assoc begin cut.g (cut.rest ++ end.0) ∙ ap (λ x. begin ++ x) (sym (append_assoc cut.g cut.rest end.0)),
       );
+      some = missing cut.some;
     }
+  where
+    missing : (0 < (entry_of made).pool) ⊎ (cut.rest ≢ []) → cut.rest ++ (could_drop (entry_of made)).0 ≢ []
+    missing (inl pooled) = some-back cut.rest (could_drop (entry_of made)).0 ((could_drop (entry_of made)).2 pooled)
+    missing (inr some) = some-front cut.rest (could_drop (entry_of made)).0 some
 
 pub publish-all : (ev : Event) (reserve : Option ℕ) (made : Entry) (all : ℕ) (fixed : Bool) (a r v w : LaneView) → Roomier a r → fixed ≡ is_static r.sys ev.sig
     → Announced fixed ev reserve made all r v → (result : Result Did RoomFault) → PostsAll (entry_of made) all v w result → PublishesAll ev reserve a w result
@@ -266,23 +346,23 @@ publish-all ev reserve made all fixed a r v w room is first (Err fault) h = (pub
 
 -- Publications that could be made at all.
 
-could_static : (sizes : List ℕ) (rings : ℕ → ℕ) (sig : ℕ) (pars : List ℕ) (reserve : Option ℕ) → (g : List Told) × Publishes true sizes rings 0 sig pars reserve Granted g
+could_static : (sizes : List ℕ) (rings : ℕ → ℕ) (sig : ℕ) (pars : List ℕ) (reserve : Option ℕ) → (g : List Told) × Publishes true sizes rings 0 sig pars reserve Granted g × (g ≢ [])
 unfolding Publishes PublishesFirst PublishesLast PostsToAll MakesNew Drops raising restoring
 could_static sizes rings sig pars reserve =
     let first : List Told = plain (item.Pub sig 0 0) ∷ [] in
-    (first ++ ([] ++ []), (entry 0 sig 0, 0, [], first, [], [], ([], 0, 0, (refl, refl), sym (members-none 0 refl), refl), refl, ([], refl, refl), refl))
+    (first ++ ([] ++ []), (entry 0 sig 0, 0, [], first, [], [], ([], 0, 0, (refl, refl), sym (members-none 0 refl), refl), refl, ([], refl, refl), refl), λ none. absurd (cc))
 
 could_refuse : (sizes : List ℕ) (rings : ℕ → ℕ) (sig : ℕ) (pars : List ℕ) (p : ℕ) → first_pool sizes (length pars) ≡ Some p → (reserve : Option ℕ)
-    → (answer : Answer) × ((g : List Told) × Publishes false sizes rings 0 sig pars reserve answer g)
+    → (answer : Answer) × ((g : List Told) × Publishes false sizes rings 0 sig pars reserve answer g × (g ≢ []))
 unfolding Publishes NoBlockFor
-could_refuse sizes rings sig pars p pool None = (AtPool, (plain (item.NoBlock p 0 0) ∷ [], (p, 0, 0, refl, pool, refl)))
-could_refuse sizes rings sig pars p pool (Some k) = (Refused, (plain (item.Short p 0 0 k) ∷ [], (p, 0, 0, refl, pool, refl)))
+could_refuse sizes rings sig pars p pool None = (AtPool, (plain (item.NoBlock p 0 0) ∷ [], (p, 0, 0, refl, pool, refl), λ none. absurd (cc)))
+could_refuse sizes rings sig pars p pool (Some k) = (Refused, (plain (item.Short p 0 0 k) ∷ [], (p, 0, 0, refl, pool, refl), λ none. absurd (cc)))
 
 could_publish : (sys : System) (ev : Event) (reserve : Option ℕ) → IsSound sys → IsEvent sys ev
-    → (answer : Answer) × ((g : List Told) × Publishes (is_static sys ev.sig) (sizes_of sys) (λ x. ring_of sys x) 0 ev.sig ev.pars reserve answer g)
+    → (answer : Answer) × ((g : List Told) × Publishes (is_static sys ev.sig) (sizes_of sys) (λ x. ring_of sys x) 0 ev.sig ev.pars reserve answer g × (g ≢ []))
 could_publish sys ev reserve sound is = go (is_static sys ev.sig) refl
   where
-    go : (b : Bool) → is_static sys ev.sig ≡ b → (answer : Answer) × ((g : List Told) × Publishes b (sizes_of sys) (λ x. ring_of sys x) 0 ev.sig ev.pars reserve answer g)
+    go : (b : Bool) → is_static sys ev.sig ≡ b → (answer : Answer) × ((g : List Told) × Publishes b (sizes_of sys) (λ x. ring_of sys x) 0 ev.sig ev.pars reserve answer g × (g ≢ []))
     go true h = (Granted, could_static (sizes_of sys) (λ x. ring_of sys x) ev.sig ev.pars reserve)
     go false h =
         let pool = pool_of_sound sys ev sound is h in
@@ -293,7 +373,7 @@ pub publish-none : (ev : Event) (reserve : Option ℕ) (a w : LaneView) → IsSo
 unfolding Fits
 publish-none ev reserve a w sound is same =
     let could = could_publish a.sys ev reserve sound is in
-    record { answer = could.0; g = []; rest = could.1.0; grows = subst (λ x. Grows [] a x) (sym same) (gains-none a); fits = could.1.1 }
+    record { answer = could.0; g = []; rest = could.1.0; grows = subst (λ x. Grows [] a x) (sym same) (gains-none a); fits = could.1.1; some = could.1.2 }
 
 -- the entry of a publication stands on after a post
 pub after-post : (e : Entry) (to n : ℕ) (v r w : LaneView) → Stands e v → Roomier v r → PostsAgain (entry_of e) to (did.Value n) r w → Stands e w

@@ -1,5 +1,6 @@
 -- Ticks timer by timer.
 use Rattle.std.proofs.Common.{◌≡◌, ℕ, ◌+◌, ◌<◌, ◌≤◌, ◌==◌, nat_lt, Bool, true, false, List, [], ◌∷◌, ◌++◌, map, length, take, drop, slice_get, get_or, refl, sym, ◌∙◌, ap, subst, arith, append_assoc, IsTrue, Some, None, Ok, ◌⊎◌, inl, inr}
+use Rattle.std.specs.Prelude.{◌≢◌}
 use Rattle.std.proofs.lemmas.List.{map-append, append-nil, length-take-le, take_all, take_more, take-append-drop}
 use Rattle.std.proofs.lemmas.Option.{slice_get-get_or}
 use Rattle.std.proofs.lemmas.Bool.Decides.{nat_tests}
@@ -153,6 +154,13 @@ could_tick sys rate t (d ∷ ds) = go (d.rate == rate) (could_tick sys rate (t +
     go true rest = (plain (item.Idle t 0) ∷ rest.0, inr (plain (item.Idle t 0) ∷ [], rest.0, refl, inl (0, refl), rest.1))
     go false rest = rest
 
+-- some, where the first of them is of the rate
+could_next : (sys : System) (rate t : ℕ) (d : TimerDef) (ds : List TimerDef) → (d.rate == rate) ≡ true → (g : List Told) × Ticks sys rate t (d ∷ ds) false g × (g ≢ [])
+unfolding Ticks TicksOne
+could_next sys rate t d ds is =
+    let rest = could_tick sys rate (t + 1) ds in
+    (plain (item.Idle t 0) ∷ rest.0, rw is (inr (plain (item.Idle t 0) ∷ [], rest.0, refl, inl (0, refl), rest.1)), λ none. absurd (cc))
+
 -- The loop over the timers.
 
 pub ticked-none : (rate : ℕ) (a : LaneView) → TickedSome rate [] a a
@@ -200,14 +208,16 @@ ticked-vain rate done others d a v w some is one split = record {
   hands = λ no. absurd (cc);
 }
 
-pub ticked-cut : (rate : ℕ) (done others : List TimerDef) (a v w : LaneView) → TickedSome rate done a v → a.sys.timers ≡ done ++ others → w ≡ v → TickCut rate a w
-ticked-cut rate done others a v w some split same =
-    let rest = could_tick a.sys rate (1 + length done) others in
+pub ticked-cut : (rate : ℕ) (done : List TimerDef) (d : TimerDef) (others : List TimerDef) (a v w : LaneView) → TickedSome rate done a v → a.sys.timers ≡ done ++ d ∷ others
+    → (d.rate == rate) ≡ true → w ≡ v → TickCut rate a w
+ticked-cut rate done d others a v w some split is same =
+    let rest = could_next a.sys rate (1 + length done) d others is in
     record {
       g = some.g;
       rest = rest.0;
       grows = subst (λ x. GrowsByTicks some.g a x) (sym same) some.grows;
-      fits = subst (λ ds. Ticks a.sys rate 1 ds false (some.g ++ rest.0)) (sym split) (ticks-append a.sys rate 1 done others false some.g rest.0 some.fits rest.1);
+      fits = subst (λ ds. Ticks a.sys rate 1 ds false (some.g ++ rest.0)) (sym split) (ticks-append a.sys rate 1 done (d ∷ others) false some.g rest.0 some.fits rest.1);
+      some = rest.2;
     }
 
 pub ticked-all : (rate : ℕ) (done : List TimerDef) (a w : LaneView) → TickedSome rate done a w → done ≡ a.sys.timers → TickedAll rate false a w
@@ -283,8 +293,8 @@ ticked-stop rate i t code ts d x a v w some here timers same is one value =
     let placed : FiredInVain (1 + length (take i ts)) d.object d.sig v w = subst (λ k. FiredInVain k d.object d.sig v w) (first_at rate i t code ts d here is) valued.1 in
     (valued.0, ticked-vain rate (take i ts) (drop (i + 1) ts) d a v w some (eq-to d.rate rate same) placed (timers ∙ here.split))
 
-pub ticked-left : (rate i : ℕ) (ts : List TimerDef) (a v w : LaneView) → TickedSome rate (take i ts) a v → a.sys.timers ≡ ts → w ≡ v → TickCut rate a w
-ticked-left rate i ts a v w some timers same = ticked-cut rate (take i ts) (drop i ts) a v w some (timers ∙ sym (take-append-drop i ts)) same
+pub ticked-left : (rate i : ℕ) (ts : List TimerDef) (d : TimerDef) (a v w : LaneView) → TickedSome rate (take i ts) a v → At ts i d → a.sys.timers ≡ ts → d.rate ≡ rate → w ≡ v → TickCut rate a w
+ticked-left rate i ts d a v w some here timers is same = ticked-cut rate (take i ts) d (drop (i + 1) ts) a v w some (timers ∙ here.split) (eq-to d.rate rate is) same
 
 pub ticked-end : (rate i : ℕ) (ts : List TimerDef) (a w : LaneView) → TickedSome rate (take i ts) a w → a.sys.timers ≡ ts → length ts ≤ i → TickedAll rate false a w
 ticked-end rate i ts a w some timers all = ticked-all rate (take i ts) a w some (take_all i ts all ∙ sym timers)

@@ -38,7 +38,7 @@ use Rattle.qp_calls.specs.declared.answers.Arm.TheVariants as armed
 use Rattle.qp_calls.specs.declared.answers.Tick as ticking
 use Rattle.qp_calls.specs.declared.answers.Tick.TheVariants as ticked
 use Rattle.qp_calls.specs.Tokens.{Held, Loose, stands}
-use Rattle.qp_calls.specs.LaneView.{LaneView, Shown, FreeBlocks, References, Counts, NotShown, Adds, AddsOf, Looks}
+use Rattle.qp_calls.specs.LaneView.{LaneView, Shown, FreeBlocks, References, Counts, NotShown, Adds, AddsOf, Looks, is_codeless}
 
 -- Tokens and entries.
 
@@ -270,7 +270,7 @@ Takes me old new (take.Taken e) = TakesIt me e old new
 Takes me old new (take.Empty f l m) = TakesNone me f l m old new
 
 abbrev pub Sees : ℕ → LaneView → LaneView → counts.Counts → Type 0
-Sees p old new c = AddsOf 0 (plain (Seen p c.f c.l c.m) ∷ []) old new × ShowsQueue p c.f c.l c.m new
+Sees p old new c = AddsOf 0 (plain (Seen p c.f c.l c.m) ∷ []) old new × ShowsQueue p c.f c.l c.m new × (c.m ≤ c.f + c.l)
 
 abbrev pub Counted : ℕ → LaneView → LaneView → counts.Counts → Type 0
 Counted p old new c = Looks (word.Queue p) (c.f + c.l + c.m) (Counts c.f c.l c.m) old new × ShowsQueue p c.f c.l c.m new
@@ -345,9 +345,10 @@ draws_ticked ticked.Fired = 1
 abbrev pub Stops : ℕ → LaneView → LaneView → Type 0
 Stops code old new = new ≡ record old { stops = code ∷ old.stops }
 
--- the code found, which is the one found before; nothing was found before and nothing handed in where none is found
+-- the code found, which is the one found before; nothing was found before and nothing handed in where none is found, by no lane of the world
 abbrev pub Stopped : LaneView → LaneView → Option ℕ → Type 0
-Stopped old new None = (new ≡ old) × (old.stops ≡ []) × (old.answered ≡ [])
+Stopped old new None =
+    (new ≡ old) × (old.stops ≡ []) × (old.answered ≡ []) × IsTrue (list_all is_codeless old.aside.purses)
 Stopped old new (Some code) =
     (new ≡ record old { answered = code ∷ old.answered }) × (0 < code) × (code ≤ 7)
     × IsTrue (list_all (λ c. c == code) old.answered)

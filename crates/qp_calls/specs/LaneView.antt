@@ -1,7 +1,8 @@
 -- What contracts see of a lane, and how it grows.
-use Rattle.std.specs.Prelude.{◌≡◌, ℕ, ◌+◌, ◌≤◌, ◌==◌, Bool, false, ◌||◌, List, [], ◌∷◌, ◌++◌, map, length, if◌then◌else◌, IsTrue, Some, None}
+use Rattle.std.specs.Prelude.{◌≡◌, ℕ, ◌+◌, ◌≤◌, ◌==◌, Bool, true, false, ◌&&◌, ◌||◌, List, [], ◌∷◌, ◌++◌, map, length, if◌then◌else◌, IsTrue, Some, None}
 use Rattle.std.specs.declared.option.Option.{Option}
 use Rattle.std.specs.List.{list_any}
+use Rattle.qp_model.specs.declared.stimulus.Stim.{Stim}
 use Rattle.qp_model.specs.declared.words.Word.{Word}
 use Rattle.qp_model.specs.declared.words.Word.TheVariants as word
 use Rattle.qp_model.specs.declared.systems.System.{System}
@@ -12,6 +13,7 @@ use Rattle.qp_model.specs.Told.{Told, ToldItem, Event, for_object}
 use Rattle.qp_model.specs.History.{touch_of, mark_of, same_word}
 use Rattle.qp_model.specs.Knowing.{ceiling_after}
 use Rattle.qp_model.specs.Sites.{blocks_of}
+use Rattle.qp_model.specs.OneOrder.{Placed}
 use Rattle.qp_calls.specs.Tokens.{Token, token_of, stands, handles, hands_after}
 
 -- what the word of a pool, a block or a queue showed
@@ -26,6 +28,31 @@ pub data Shown : Type 0 where
 pub record Own : Type 0 where
   pub l : ℕ
   pub m : ℕ
+
+-- a stimulus that a look of the lane let happen in the lane of its source: how many records the lane had then, the source, and the records
+pub record Happening : Type 0 where
+  pub at : ℕ
+  pub source : ℕ
+  pub told : List Told
+
+-- the spare of a lane, and its codes
+pub record Purse : Type 0 where
+  pub spare : ℕ
+  pub stops : List ℕ
+  pub answered : List ℕ
+
+abbrev pub no_code : List ℕ → Bool
+no_code [] = true
+no_code (c ∷ cs) = false
+
+-- the lane neither handed in a code nor found one
+abbrev pub is_codeless : Purse → Bool
+is_codeless p = no_code p.stops && no_code p.answered
+
+-- the other lanes of a world of one thread, by their numbers: what they tell, and their purses. The lane itself has nothing here.
+pub record Aside : Type 0 where
+  pub told : List (List ToldItem)
+  pub purses : List Purse
 
 pub record LaneView : Type 0 where
   -- the system for which the lane was made
@@ -46,6 +73,14 @@ pub record LaneView : Type 0 where
   -- the event of an entry that the lane knows
   pub event : Entry → Event
   pub hands : List Token
+  -- where sources act in the looks of the lane: the stimuli of each, and what has happened
+  pub plan : List (List Stim)
+  pub happened : List Happening
+  -- in a world of one thread: the number of this lane, all records in the order in which they were made, and the other lanes, which no call
+  -- of this lane changes. The log of a lane with a thread of its own has its own records.
+  pub lane : ℕ
+  pub log : List Placed
+  pub aside : Aside
 
 -- what a word shows before its first operation
 abbrev pub first_shown : System → Word → Shown
@@ -64,6 +99,7 @@ pub record IsNew (v : LaneView) : Type 0 where
   pub shown : (w : Word) → v.shown w ≡ first_shown v.sys w
   pub own : (a : ℕ) → v.own a ≡ record { l = 0; m = 0 }
   pub hands : v.hands ≡ []
+  pub happened : v.happened ≡ []
 
 -- The marks.
 
@@ -101,10 +137,19 @@ unfoldable pub ceiling_in : ℕ → List ToldItem → ℕ
 ceiling_in c [] = c
 ceiling_in c (t ∷ ts) = ceiling_in (ceiling_after c t.told.body) ts
 
--- the lane knows the event of a static entry, of a reference in its hands, and of one that a record of its own handled
+-- a record of these handles this reference
+abbrev pub handled_in : Token → List ToldItem → Bool
+handled_in x ts = list_any (λ t. handles x t.told.body) ts
+
+-- the lane knows the event of a static entry, of a reference in its hands, and of one that a record of its own or of another lane handled
 unfoldable pub is_known : LaneView → Entry → Bool
 unfolding stands
-is_known v e = (e.pool == 0) || stands (token_of e) v.hands || list_any (λ t. handles (token_of e) t.told.body) v.told
+is_known v e =
+    (e.pool == 0) || stands (token_of e) v.hands || handled_in (token_of e) v.told || list_any (handled_in (token_of e)) v.aside.told
+
+-- a record as the log has it
+abbrev pub placed_by : ℕ → ToldItem → Placed
+placed_by lane t = record { lane = lane; item = record { of = t.of; body = t.told.body } }
 
 -- These records come to the end of the lane. All but the spare follows from them.
 pub record Gains (ts : List ToldItem) (old new : LaneView) : Type 0 where
@@ -120,6 +165,11 @@ pub record Gains (ts : List ToldItem) (old new : LaneView) : Type 0 where
   pub own : (a : ℕ) → new.own a ≡ own_after a (old.own a) ts
   pub event : (e : Entry) → IsTrue (is_known old e) → new.event e ≡ old.event e
   pub hands : new.hands ≡ hands_after old.hands ts
+  pub plan : new.plan ≡ old.plan
+  pub happened : new.happened ≡ old.happened
+  pub lane : new.lane ≡ old.lane
+  pub log : new.log ≡ old.log ++ map (placed_by old.lane) ts
+  pub aside : new.aside ≡ old.aside
 
 -- the same of records of object o, and of the object set by `by`
 abbrev pub GrowsOf : ℕ → List Told → LaneView → LaneView → Type 0
@@ -162,3 +212,8 @@ pub record Looks (w : Word) (n : ℕ) (x : Shown) (old new : LaneView) : Type 0 
   pub own : (a : ℕ) → new.own a ≡ old.own a
   pub event : (e : Entry) → IsTrue (is_known old e) → new.event e ≡ old.event e
   pub hands : new.hands ≡ old.hands
+  pub plan : new.plan ≡ old.plan
+  pub happened : new.happened ≡ old.happened
+  pub lane : new.lane ≡ old.lane
+  pub log : new.log ≡ old.log
+  pub aside : new.aside ≡ old.aside

@@ -1,5 +1,5 @@
 -- Publications.
-use Rattle.std.specs.Prelude.{◌≡◌, ℕ, ◌+◌, ◌≤◌, Bool, List, [], ◌∷◌, ◌++◌, IsTrue, None, Ok, Err}
+use Rattle.std.specs.Prelude.{◌≡◌, ◌≢◌, ◌⊎◌, ℕ, ◌+◌, ◌<◌, ◌≤◌, Bool, List, [], ◌∷◌, ◌++◌, IsTrue, None, Ok, Err}
 use Rattle.std.specs.declared.option.Option.{Option}
 use Rattle.std.specs.declared.result.Result.{Result}
 use Rattle.std.specs.List.{list_all}
@@ -136,12 +136,13 @@ pub record PostsFront (e : model.Entry) (all : ℕ) (old new : LaneView) : Type 
   pub grows : Grows g old new
   pub fits : PostsUpTo (λ a. ring_of old.sys a) e (members all) g
 
--- or to some, before `room` refused
+-- or to some, before `room` refused: a post or the release of the entry is missing
 pub record PostsCut (e : model.Entry) (all : ℕ) (old new : LaneView) : Type 0 where
   pub g : List Told
   pub rest : List Told
   pub grows : Grows g old new
   pub fits : PostsToAll (λ a. ring_of old.sys a) e (members all) (g ++ rest)
+  pub some : (0 < e.pool) ⊎ (rest ≢ [])
 
 abbrev pub PostsAll : model.Entry → ℕ → LaneView → LaneView → Result Did RoomFault → Type 0
 PostsAll e all old new (Ok (did.Value n)) = (n ≡ 1) × PostsWhole e all old new
@@ -157,13 +158,14 @@ pub record PostsSome (e : model.Entry) (all left : ℕ) (old new : LaneView) : T
   pub fits : PostsToAll (λ a. ring_of old.sys a) e sent posts
   pub hands : new.hands ≡ old.hands
 
--- what was added is a front of a publication
+-- what was added is a front of a publication, of which something is missing
 pub record PublishCut (ev : Event) (reserve : Option ℕ) (old new : LaneView) : Type 0 where
   pub answer : Answer
   pub g : List Told
   pub rest : List Told
   pub grows : Grows g old new
   pub fits : Fits old.sys 0 None (call.Publish ev.sig ev.pars reserve) answer (g ++ rest)
+  pub some : rest ≢ []
 
 abbrev pub PublishesAll : Event → Option ℕ → LaneView → LaneView → Result Did RoomFault → Type 0
 PublishesAll ev reserve old new (Ok d) = Answers old.sys 0 None (call.Publish ev.sig ev.pars reserve) d old new

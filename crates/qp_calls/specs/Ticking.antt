@@ -1,5 +1,5 @@
 -- Ticks of the time events of a rate.
-use Rattle.std.specs.Prelude.{◌≡◌, ℕ, Bool, true, false, List, ◌++◌, map, Ok, Err}
+use Rattle.std.specs.Prelude.{◌≡◌, ◌≢◌, ℕ, Bool, true, false, List, [], ◌++◌, map, Ok, Err}
 use Rattle.std.specs.declared.result.Result.{Result}
 use Rattle.qp_model.specs.declared.systems.TimerDef.{TimerDef}
 use Rattle.qp_model.specs.declared.bodies.Body.{Body}
@@ -59,6 +59,7 @@ pub record TickCut (rate : ℕ) (old new : LaneView) : Type 0 where
   pub rest : List Told
   pub grows : GrowsByTicks g old new
   pub fits : Ticks old.sys rate 1 old.sys.timers false (g ++ rest)
+  pub some : rest ≢ []
 
 abbrev pub TicksRate : ℕ → LaneView → LaneView → Result Did RoomFault → Type 0
 TicksRate rate old new (Ok (did.Value n)) = (n ≡ 1) × TickedAll rate false old new

@@ -12,7 +12,7 @@ ghost use Rattle.qp_calls.specs.Publishing.{Announces, AreObjects, Begins, EndsP
 use crate::answers::RoomFault;
 use crate::deferral::object;
 use crate::did::Did;
-use crate::entries::{again, drop_entry, make_entry, post_entry};
+use crate::entries::{again, drop_entry, make_entry, post_entry, release};
 use crate::members::highest;
 use crate::ops::Ops;
 use crate::publication::{Begun, Publication};
@@ -194,14 +194,19 @@ fn post_all<O: Ops, L: Ledger>(
 {
     let mut left = all;
     while left != 0 {
-        ops.room()?;
         let (to, rest) = highest(left);
+        ops.room()?;
         if let Did::Assert { code } = post_one(ops, &entry, to, steps) {
             return Ok(Did::Assert { code });
         }
         left = rest;
     }
-    ops.room()?;
-    drop_entry(ops, entry);
-    Ok(Did::Value(1))
+    match entry {
+        Entry::Static(_) => Ok(Did::Value(1)),
+        Entry::Pool(h) => {
+            ops.room()?;
+            release(ops, h);
+            Ok(Did::Value(1))
+        }
+    }
 }

@@ -1,7 +1,7 @@
 -- One call of a world: what it reads, and what it leaves.
-use Rattle.std.proofs.Common.{◌≡◌, ℕ, zero, suc, ◌+◌, ◌-◌, ◌<◌, ◌==◌, Bool, ◌&&◌, ◌||◌, List, [], ◌∷◌, length, get_or, slice_set, refl, sym, ◌∙◌, ap, subst, arith, IsTrue}
+use Rattle.std.proofs.Common.{◌≡◌, ℕ, zero, suc, ◌+◌, ◌-◌, ◌<◌, ◌==◌, Bool, ◌&&◌, ◌||◌, List, [], ◌∷◌, length, map, get_or, slice_set, refl, sym, ◌∙◌, ap, subst, arith, IsTrue}
 use Rattle.std.specs.List.{list_all, list_any}
-use Rattle.std.proofs.lemmas.List.{set-get_or}
+use Rattle.std.proofs.lemmas.List.{set-get_or, map-set}
 use Rattle.qp_model.specs.declared.record.Rec.{Rec}
 use Rattle.qp_model.specs.declared.bodies.Body.{Body}
 use Rattle.qp_model.specs.Record.{item_of}
@@ -18,10 +18,11 @@ use Rattle.qp_sound.specs.Sound.{SoundWorld}
 use Rattle.qp_sound.specs.View.{view_of}
 use Rattle.qp_sound.specs.WordStates.{pool_in, refs_in, line_in, set_in, clock_in}
 use Rattle.qp_sound.proofs.CallParts.{world-after}
+use Rattle.qp_sound.proofs.Logs.{set-set}
 use Rattle.qp_plain.specs.declared.log.Log.{Log}
 use Rattle.qp_plain.specs.declared.book.Book.{Book}
 use Rattle.qp_plain.specs.declared.world.PlainWorld.{PlainWorld}
-use Rattle.qp_plain.specs.Book.{Gains, Stays, lists_of, logs_of}
+use Rattle.qp_plain.specs.Book.{Gains, Stays, lists_of, logs_of, purse_of, no_purse, purses_of}
 use Rattle.qp_plain.specs.Books.{all_logs}
 use Rattle.qp_plain.specs.Tables.{SignalIs, place, no_pool, no_block, no_queue, no_signal, no_clock}
 use Rattle.qp_plain.specs.World.{StopIs, fits_stop, was_handed}
@@ -42,11 +43,12 @@ step_at w b r = record {
   by = w.by;
   stops = w.book.here.stops.list;
   answered = w.book.here.answered.list;
+  purses = purses_of w.book;
 }
 
 -- the view of the world with this book
 abbrev pub view_with : PlainWorld → Book → LaneView
-view_with w b = view_of w.sys.now (lists_of b) b.order.items b.at b.here.spare w.by b.here.stops.list b.here.answered.list
+view_with w b = view_of w.sys.now (lists_of b) b.order.items b.at b.here.spare w.by b.here.stops.list b.here.answered.list (purses_of b)
 
 pub extends : (w : PlainWorld) (b : Book) (r : Rec) (o : ℕ) (body : Body) → Gains r w.book b → b.here.spare + 1 ≡ w.book.here.spare → item_of r ≡ record { of = o; body = body }
     → Extends (step_at w b r) o body
@@ -56,11 +58,25 @@ pub sound-now : (w : PlainWorld) (b : Book) (r : Rec) (o : ℕ) (body : Body) �
     → SoundWorld w.sys.now (lists_of b) b.order.items
 sound-now w b r o body gains says may = world-after (step_at w b r) o body w.holds.world gains.grown says may
 
+-- the purses of the lanes beside the one chosen
+bare-purses : (b : Book) → purses_of b ≡ slice_set (map purse_of b.others.items) b.at no_purse
+bare-purses b =
+    ap (λ xs. slice_set xs b.at no_purse) (map-set purse_of b.others.items b.at b.here)
+    ∙ set-set (map purse_of b.others.items) b.at (purse_of b.here) no_purse
+
+pub purses-same : (old new : Book) → new.others.items ≡ old.others.items → new.at ≡ old.at → purses_of new ≡ purses_of old
+purses-same old new others at =
+    bare-purses new
+    ∙ ap (λ xs. slice_set (map purse_of xs) new.at no_purse) others
+    ∙ ap (λ k. slice_set (map purse_of old.others.items) k no_purse) at
+    ∙ sym (bare-purses old)
+
 pub view-now : (w : PlainWorld) (b : Book) (r : Rec) → Stays w.book b → behind (step_at w b r) ≡ view_with w b
 view-now w b r stays =
-    ap (λ x. view_of w.sys.now (lists_of b) b.order.items x b.here.spare w.by w.book.here.stops.list w.book.here.answered.list) (sym stays.at)
-    ∙ ap (λ x. view_of w.sys.now (lists_of b) b.order.items b.at b.here.spare w.by x w.book.here.answered.list) (sym stays.stops)
-    ∙ ap (λ x. view_of w.sys.now (lists_of b) b.order.items b.at b.here.spare w.by b.here.stops.list x) (sym stays.answered)
+    ap (λ x. view_of w.sys.now (lists_of b) b.order.items x b.here.spare w.by w.book.here.stops.list w.book.here.answered.list (purses_of w.book)) (sym stays.at)
+    ∙ ap (λ x. view_of w.sys.now (lists_of b) b.order.items b.at b.here.spare w.by x w.book.here.answered.list (purses_of w.book)) (sym stays.stops)
+    ∙ ap (λ x. view_of w.sys.now (lists_of b) b.order.items b.at b.here.spare w.by b.here.stops.list x (purses_of w.book)) (sym stays.answered)
+    ∙ ap (λ x. view_of w.sys.now (lists_of b) b.order.items b.at b.here.spare w.by b.here.stops.list b.here.answered.list x) (sym (purses-same w.book b stays.others stays.at))
 
 -- The stop word.
 all-set : {X : Type 0} (p : X → Bool) (xs : List X) (k : ℕ) (x y : X) → p y ≡ p x → list_all p (slice_set xs k y) ≡ list_all p (slice_set xs k x)

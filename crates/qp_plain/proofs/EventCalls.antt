@@ -23,7 +23,7 @@ use Rattle.qp_sound.specs.View.{view_of}
 use Rattle.qp_sound.specs.WordStates.{pool_in}
 use Rattle.qp_sound.proofs.CallEvents.{held-event, event-read}
 use Rattle.qp_plain.specs.declared.world.PlainWorld.{PlainWorld}
-use Rattle.qp_plain.specs.Book.{lists_of}
+use Rattle.qp_plain.specs.Book.{lists_of, purses_of}
 use Rattle.qp_plain.specs.Tables.{event_at, place}
 use Rattle.qp_plain.specs.WorldView.{world_view}
 use Rattle.qp_plain.proofs.Holding.{block-in}
@@ -42,8 +42,8 @@ pub event-here : (w : PlainWorld) (h : Hold) (k : ℕ) (e : Ev) → StandsHold h
     → ((world_view w).event (entry h.pool h.block h.name) ≡ event_of e) × IsEvent w.sys.now (event_of e)
 event-here w h k e stand at is =
     let block = held-block w h stand in
-    let its = held-event w.sys.now (lists_of w.book) w.book.order.items w.book.at w.book.here.spare w.by w.book.here.stops.list w.book.here.answered.list h w.holds.world stand in
-    let read = event-read w.sys.now (lists_of w.book) w.book.order.items w.book.at w.book.here.spare w.by w.book.here.stops.list w.book.here.answered.list h its.0 w.holds.world stand its.1 in
+    let its = held-event w.sys.now (lists_of w.book) w.book.order.items w.book.at w.book.here.spare w.by w.book.here.stops.list w.book.here.answered.list (purses_of w.book) h w.holds.world stand in
+    let read = event-read w.sys.now (lists_of w.book) w.book.order.items w.book.at w.book.here.spare w.by w.book.here.stops.list w.book.here.answered.list (purses_of w.book) h its.0 w.holds.world stand its.1 in
     let there = w.holds.cells_hold.event h.pool h.block block its.0 its.1 in
     let lt : k < length w.cells.items = let t = block-in w.sys.now w.holds.limits h.pool h.block block in omega (arith, t.table, at, w.holds.cells_hold.long) in
     let same : its.0 ≡ event_of e = some-same its.0 (event_of e) (sym there ∙ ap (event_at w.cells.items) (sym at) ∙ read-at w.cells.items k e lt is) in

@@ -35,7 +35,7 @@ use Rattle.qp_sound.proofs.Standing.{block-pool}
 use Rattle.qp_plain.specs.declared.log.Log.{Log}
 use Rattle.qp_plain.specs.declared.book.Book.{Book}
 use Rattle.qp_plain.specs.Books.{places_of, recs_of, all_places}
-use Rattle.qp_plain.specs.Book.{lists_of, logs_of}
+use Rattle.qp_plain.specs.Book.{lists_of, logs_of, purses_of}
 use Rattle.qp_plain.specs.Fresh.{made, first_pool, first_queue, is_new, no_recs, IsNewBook}
 use Rattle.qp_plain.specs.Tables.{PoolsHold, BlocksHold, CellsHold, QueuesHold, SignalsHold, TimersHold, Limits, place, no_pool, no_block, no_queue, no_signal, no_clock}
 use Rattle.qp_plain.specs.World.{WorldHolds, StopIs, fits_stop, no_codes}
@@ -275,17 +275,17 @@ world-new sys n b blocks cells sound new blocks_are long =
     }))
 
 -- and what is seen of its lane
-pub view-new : (sys : System) (n : ℕ) (b : Book) → 0 < n → IsNewBook n b → IsNew (view_of sys (lists_of b) b.order.items b.at b.here.spare 0 b.here.stops.list b.here.answered.list)
+pub view-new : (sys : System) (n : ℕ) (b : Book) → 0 < n → IsNewBook n b → IsNew (view_of sys (lists_of b) b.order.items b.at b.here.spare 0 b.here.stops.list b.here.answered.list (purses_of b))
 view-new sys n b some new =
     let here = new-parts b.here new.here in
     let stops = empty b.here.stops.list here.stops in
     let answered = empty b.here.answered.list here.answered in
-    subst (λ x. IsNew (view_of sys x b.order.items b.at b.here.spare 0 b.here.stops.list b.here.answered.list)) (sym (book-lists n b new))
-    (subst (λ x. IsNew (view_of sys (empty_lanes n) x b.at b.here.spare 0 b.here.stops.list b.here.answered.list)) (sym new.order)
-    (subst (λ x. IsNew (view_of sys (empty_lanes n) [] x b.here.spare 0 b.here.stops.list b.here.answered.list)) (sym new.at)
-    (subst (λ x. IsNew (view_of sys (empty_lanes n) [] 0 x 0 b.here.stops.list b.here.answered.list)) (sym here.spare)
-    (subst (λ x. IsNew (view_of sys (empty_lanes n) [] 0 0 0 x b.here.answered.list)) (sym stops)
-    (subst (λ x. IsNew (view_of sys (empty_lanes n) [] 0 0 0 [] x)) (sym answered) (new-lane sys n 0 0 some))))))
+    subst (λ x. IsNew (view_of sys x b.order.items b.at b.here.spare 0 b.here.stops.list b.here.answered.list (purses_of b))) (sym (book-lists n b new))
+    (subst (λ x. IsNew (view_of sys (empty_lanes n) x b.at b.here.spare 0 b.here.stops.list b.here.answered.list (purses_of b))) (sym new.order)
+    (subst (λ x. IsNew (view_of sys (empty_lanes n) [] x b.here.spare 0 b.here.stops.list b.here.answered.list (purses_of b))) (sym new.at)
+    (subst (λ x. IsNew (view_of sys (empty_lanes n) [] 0 x 0 b.here.stops.list b.here.answered.list (purses_of b))) (sym here.spare)
+    (subst (λ x. IsNew (view_of sys (empty_lanes n) [] 0 0 0 x b.here.answered.list (purses_of b))) (sym stops)
+    (subst (λ x. IsNew (view_of sys (empty_lanes n) [] 0 0 0 [] x (purses_of b))) (sym answered) (new-lane sys n 0 0 (purses_of b) some))))))
   where
     empty : (cs : List ℕ) → no_codes cs ≡ true → cs ≡ []
     empty [] e = refl

@@ -14,3 +14,4 @@ pub mod SignalCalls
 pub mod Stopping
 pub mod TimerCalls
 pub mod Turns
+pub mod EmptyQueues

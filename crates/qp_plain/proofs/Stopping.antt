@@ -1,17 +1,18 @@
 -- The stop word.
-use Rattle.std.proofs.Common.{◌≡◌, ◌≢◌, ℕ, zero, suc, ◌<◌, ◌≤◌, ◌==◌, Bool, true, false, ◌&&◌, ◌||◌, cond, List, [], ◌∷◌, length, slice_set, refl, ◌∙◌, ap, subst, arith, inl, inr}
+use Rattle.std.proofs.Common.{◌≡◌, ◌≢◌, ℕ, zero, suc, ◌<◌, ◌≤◌, ◌==◌, Bool, true, false, ◌&&◌, ◌||◌, cond, List, [], ◌∷◌, length, map, slice_set, refl, sym, ◌∙◌, ap, subst, arith, inl, inr}
 use Rattle.std.specs.List.{list_all, list_any}
 use Rattle.std.proofs.lemmas.Bool.Decides.{nat_tests}
 use Rattle.qp_model.proofs.ListLemmas.{both_true, true_both}
 use Rattle.qp_model.specs.declared.bodies.Body.{Body}
 use Rattle.qp_model.specs.declared.bodies.Body.TheVariants as body
 use Rattle.qp_model.specs.Told.{ToldItem}
+use Rattle.qp_calls.specs.LaneView.{Purse, no_code, is_codeless}
 use Rattle.qp_calls.specs.Notes.{MayStop, last_code, stop_code}
 use Rattle.qp_plain.specs.declared.world.PlainWorld.{PlainWorld}
 use Rattle.qp_plain.specs.WorldView.{world_view}
 use Rattle.qp_plain.specs.declared.log.Log.{Log}
 use Rattle.qp_plain.specs.declared.book.Book.{Book}
-use Rattle.qp_plain.specs.Book.{Hands, Answers, logs_of}
+use Rattle.qp_plain.specs.Book.{Hands, Answers, logs_of, purse_of, no_purse, purses_of}
 use Rattle.qp_plain.specs.Books.{all_logs}
 use Rattle.qp_plain.specs.World.{StopIs, fits_stop, was_handed, no_codes}
 
@@ -164,3 +165,20 @@ last-small (t ∷ u ∷ ts) = last-small (u ∷ ts)
 pub code-within : (w : PlainWorld) (code : ℕ) → MayStop code (world_view w) → (0 < code) × (code ≤ 7)
 code-within w code (inl seven) = (omega (arith, seven), omega (arith, seven))
 code-within w code (inr last) = let le = last-small (world_view w).told in (last.0, omega (arith, le, last.1))
+
+-- none is in the purses where the stop word is 0
+pub purses-codeless : (b : Book) → StopIs 0 (logs_of b) → list_all is_codeless (purses_of b) ≡ true
+purses-codeless b is = left (map purse_of (logs_of b)) b.at (all-codeless (logs_of b) is.fits)
+  where
+    same : (cs : List ℕ) → no_codes cs ≡ no_code cs
+    same [] = refl
+    same (c ∷ cs) = refl
+
+    all-codeless : (gs : List Log) → list_all (fits_stop 0) gs ≡ true → list_all is_codeless (map purse_of gs) ≡ true
+    all-codeless [] h = refl
+    all-codeless (g ∷ gs) h = true_both _ _ (rw (sym (same g.stops.list), sym (same g.answered.list)) (both_true _ _ h).0) (all-codeless gs (both_true _ _ h).1)
+
+    left : (ps : List Purse) (k : ℕ) → list_all is_codeless ps ≡ true → list_all is_codeless (slice_set ps k no_purse) ≡ true
+    left [] k h = refl
+    left (p ∷ ps) zero h = (both_true _ _ h).1
+    left (p ∷ ps) (suc k) h = true_both _ _ (both_true _ _ h).0 (left ps k (both_true _ _ h).1)

@@ -1,8 +1,9 @@
 -- What contracts see of a book.
-use Rattle.std.specs.Prelude.{◌≡◌, ℕ, ◌+◌, ◌<◌, List, ◌∷◌, map, length, ⊤}
+use Rattle.std.specs.Prelude.{◌≡◌, ℕ, ◌+◌, ◌<◌, List, [], ◌∷◌, map, length, slice_set, ⊤}
 use Rattle.qp_model.specs.declared.record.Rec.{Rec}
 use Rattle.qp_calls.specs.declared.answers.RoomFault.{RoomFault}
 use Rattle.qp_calls.specs.declared.answers.RoomFault.TheVariants as fault
+use Rattle.qp_calls.specs.LaneView.{Purse}
 use Rattle.qp_sound.specs.Step.{Grown}
 use Rattle.qp_plain.specs.declared.log.Log.{Log}
 use Rattle.qp_plain.specs.declared.book.Book.{Book}
@@ -13,6 +14,16 @@ logs_of b = all_logs b.others.items b.at b.here
 
 abbrev pub lists_of : Book → List (List Rec)
 lists_of b = map recs_of (logs_of b)
+
+abbrev pub purse_of : Log → Purse
+purse_of g = record { spare = g.spare; stops = g.stops.list; answered = g.answered.list }
+
+abbrev pub no_purse : Purse
+no_purse = record { spare = 0; stops = []; answered = [] }
+
+-- those of the lanes beside the one chosen
+abbrev pub purses_of : Book → List Purse
+purses_of b = slice_set (map purse_of (logs_of b)) b.at no_purse
 
 -- the lane chosen stays chosen, and nothing changes of the codes and of the other lanes
 pub record Stays (old new : Book) : Type 0 where

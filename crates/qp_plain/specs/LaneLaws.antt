@@ -12,7 +12,7 @@ use Rattle.qp_model.specs.Ends.{is_spill}
 use Rattle.qp_model.specs.History.{lane_items}
 use Rattle.qp_model.specs.Told.{for_object}
 use Rattle.qp_model.specs.Knowing.{Facts, told, told_lane, ceiling_after}
-use Rattle.qp_calls.specs.LaneView.{Shown}
+use Rattle.qp_calls.specs.LaneView.{Shown, Purse}
 use Rattle.qp_calls.specs.Clauses.{last_nil, nil_by}
 use Rattle.qp_calls.specs.LaneLaws.{IsWithinLimit, HasCauses, is_caused}
 use Rattle.qp_calls.specs.Notes.{stop_code}
@@ -51,10 +51,10 @@ unfolding told_lane
 told-length w c [] = refl
 told-length w c (i ∷ is) = let later = told-length w (ceiling_after c i.body) is in omega (arith, later)
 
-pub keeps-limit : (sys : System) (others : List Log) (order : List ℕ) (at : ℕ) (here : Log) (by : ℕ) → at < length others
-    → IsWithinLimit (view_of sys (map recs_of (all_logs others at here)) order at here.spare by here.stops.list here.answered.list)
+pub keeps-limit : (sys : System) (others : List Log) (order : List ℕ) (at : ℕ) (here : Log) (by : ℕ) (purses : List Purse) → at < length others
+    → IsWithinLimit (view_of sys (map recs_of (all_logs others at here)) order at here.spare by here.stops.list here.answered.list purses)
 unfolding view_of
-keeps-limit sys others order at here by lt =
+keeps-limit sys others order at here by purses lt =
     let counted = told-count (λ b. not (is_spill b)) (facts_in sys (map recs_of (all_logs others at here))) 0 (lane_items (lane_of (map recs_of (all_logs others at here)) at)) in
     let lane = ap (λ (l : List Rec). count_by (λ i. not (is_spill i.body)) (lane_items l)) (lane-here others at here lt) in
     omega (arith, here.few, counted, lane)
@@ -72,10 +72,10 @@ all-caused items w c (x ∷ xs) h =
     go true h later = later h
     go false h later = absurd (cc)
 
-pub has-causes : (sys : System) (others : List Log) (order : List ℕ) (at : ℕ) (here : Log) (by : ℕ) → at < length others
-    → HasCauses (view_of sys (map recs_of (all_logs others at here)) order at here.spare by here.stops.list here.answered.list)
+pub has-causes : (sys : System) (others : List Log) (order : List ℕ) (at : ℕ) (here : Log) (by : ℕ) (purses : List Purse) → at < length others
+    → HasCauses (view_of sys (map recs_of (all_logs others at here)) order at here.spare by here.stops.list here.answered.list purses)
 unfolding view_of
-has-causes sys others order at here by lt =
+has-causes sys others order at here by purses lt =
     all-caused (lane_items (lane_of (map recs_of (all_logs others at here)) at)) (facts_in sys (map recs_of (all_logs others at here))) 0 here.stops.list
     (subst (λ (l : List Rec). list_all (is_caused_in (lane_items l)) here.stops.list ≡ true) (sym (lane-here others at here lt)) here.causes)
 

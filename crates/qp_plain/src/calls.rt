@@ -10,6 +10,7 @@ use std::sync::Wait;
 use std::sync::ledger::Ledger;
 
 impl<'a> Ops for PlainWorld<'a> {
+    ghost use Rattle.qp_plain.specs.Book.{purses_of};
     ghost use Rattle.qp_plain.specs.WorldView.{world_view};
     ghost use Rattle.qp_plain.specs.LaneLaws.{keeps-limit, has-causes};
 
@@ -286,7 +287,7 @@ impl<'a> Ops for PlainWorld<'a> {
 
     fn leave_fresh(&mut self, _f: Fresh) {}
 
-    ghost within = { λ w. keeps-limit w.sys.now w.book.others.items w.book.order.items w.book.at w.book.here w.by w.book.within };
+    ghost within = { λ w. keeps-limit w.sys.now w.book.others.items w.book.order.items w.book.at w.book.here w.by (purses_of w.book) w.book.within };
 
-    ghost causes = { λ w. has-causes w.sys.now w.book.others.items w.book.order.items w.book.at w.book.here w.by w.book.within };
+    ghost causes = { λ w. has-causes w.sys.now w.book.others.items w.book.order.items w.book.at w.book.here w.by (purses_of w.book) w.book.within };
 }

@@ -128,11 +128,11 @@ some-same a b h = cc
 
 pub held-event : HeldHasEvent
 unfolding view_of
-held-event sys lanes order at spare by stops answered h world stand = let e = held-has sys lanes order world h stand.1 in (e.0, e.1)
+held-event sys lanes order at spare by stops answered purses h world stand = let e = held-has sys lanes order world h stand.1 in (e.0, e.1)
 
 pub event-read : EventIsRead
 unfolding view_of
-event-read sys lanes order at spare by stops answered h ev world stand cell =
+event-read sys lanes order at spare by stops answered purses h ev world stand cell =
     let e = held-has sys lanes order world h stand.1 in
     let same : e.0 ≡ ev = some-same e.0 ev (sym e.1 ∙ cell) in
     (event-its sys lanes (entry h.pool h.block h.name) ev (held-same sys lanes order world h stand.1 ∙ cell), subst (IsEvent sys) same (event-from sys e.0 e.2))

@@ -38,8 +38,8 @@ module _ (s : Step) (o : ℕ) (b : Body) (world : SoundWorld s.sys s.lanes s.ord
   pub gains : Gains (for_object o (told (facts_in s.sys s.more) o (ceiling_in 0 (before s).told) b) ∷ []) (before s) (behind s)
   unfolding view_of
   gains =
-      after_both (λ ls xs. Gains (for_object o (told (facts_in s.sys ls) o (ceiling_in 0 (before s).told) b) ∷ []) (before s) (view_of s.sys ls xs s.at s.left s.by s.stops s.answered))
-      (view-gains s.sys s.lanes s.order s.at s.rec o b world grown.within says may s.spare s.left s.by s.stops s.answered)
+      after_both (λ ls xs. Gains (for_object o (told (facts_in s.sys ls) o (ceiling_in 0 (before s).told) b) ∷ []) (before s) (view_of s.sys ls xs s.at s.left s.by s.stops s.answered s.purses))
+      (view-gains s.sys s.lanes s.order s.at s.rec o b world grown.within says may s.spare s.left s.by s.stops s.answered s.purses)
 
   -- the same, told in another way
   pub adds : s.left + 1 ≡ s.spare → (t : Told) → ((c : ℕ) → told (facts_in s.sys s.more) o c b ≡ t) → AddsOf o (t ∷ []) (before s) (behind s)

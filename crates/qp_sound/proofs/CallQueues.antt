@@ -15,7 +15,7 @@ use Rattle.qp_model.specs.Parts.{room_before}
 use Rattle.qp_model.specs.Knowing.{known_of, told}
 use Rattle.qp_calls.specs.declared.tokens.Entry.{Entry}
 use Rattle.qp_calls.specs.declared.tokens.Entry.TheVariants as token
-use Rattle.qp_calls.specs.LaneView.{LaneView, Counts, Looks}
+use Rattle.qp_calls.specs.LaneView.{LaneView, Purse, Counts, Looks}
 use Rattle.qp_calls.specs.Tokens.{Held}
 use Rattle.qp_calls.specs.Clauses.{Stands, ShowsQueue, entry_of, refusal_of}
 use Rattle.qp_calls.proofs.HandLemmas.{same_number}
@@ -53,7 +53,7 @@ room-is s a f l m world q =
 
 -- what a queue shows at its counts
 pub shows : (s : Step) (a f l m : ℕ) (sys : System) (lanes : List (List Rec)) (order : List ℕ) (spare : ℕ) → line_in sys lanes a ≡ record { entries = (line_in sys lanes a).entries; f = f; l = l; m = m }
-    → ShowsQueue a f l m (view_of sys lanes order s.at spare s.by s.stops s.answered)
+    → ShowsQueue a f l m (view_of sys lanes order s.at spare s.by s.stops s.answered s.purses)
 unfolding view_of shown_in
 shows s a f l m sys lanes order spare is = record {
   says = ap counts_of is;
@@ -207,13 +207,14 @@ seen-done s p c ext q =
       adds s 0 (Seen p c.f c.l c.m) ext.world ext.grown ext.says may ext.less _ (λ x. seen_told s 0 p c.f c.l c.m x),
       shows s p c.f c.l c.m s.sys s.more s.longer s.left
           (still_line s p c.f c.l c.m 0 (Seen p c.f c.l c.m) ext.world q (line_in s.sys s.more p) (line-same s 0 (Seen p c.f c.l c.m) ext.world ext.grown ext.says may p refl)),
+      omega (arith, (room-is s p c.f c.l c.m ext.world q).0),
     )
 
 -- It is looked at, and nothing is added.
-module _ (sys : System) (lanes : List (List Rec)) (order : List ℕ) (at spare by : ℕ) (stops answered : List ℕ) (world : SoundWorld sys lanes order)
+module _ (sys : System) (lanes : List (List Rec)) (order : List ℕ) (at spare by : ℕ) (stops answered : List ℕ) (purses : List Purse) (world : SoundWorld sys lanes order)
     (a f l m : ℕ) (q : IsQueue sys lanes a f l m) where
   abbrev view : LaneView
-  view = view_of sys lanes order at spare by stops answered
+  view = view_of sys lanes order at spare by stops answered purses
 
   count_is : f + l + m ≡ total (word.Queue a) (all_items lanes)
   count_is = queue_total sys lanes world.sound.words (hands_in sys lanes order) a f l m q
@@ -239,6 +240,11 @@ module _ (sys : System) (lanes : List (List Rec)) (order : List ℕ) (at spare b
     own = λ o. refl;
     event = λ e known. refl;
     hands = refl;
+    plan = refl;
+    happened = refl;
+    lane = refl;
+    log = refl;
+    aside = refl;
   }
 
   shows_now : ShowsQueue a f l m view
@@ -249,8 +255,8 @@ module _ (sys : System) (lanes : List (List Rec)) (order : List ℕ) (at spare b
   }
 
 pub counts-read : CountsAreRead
-counts-read sys lanes order at spare by stops answered p c world q =
-    (looks sys lanes order at spare by stops answered world p c.f c.l c.m q, shows_now sys lanes order at spare by stops answered world p c.f c.l c.m q)
+counts-read sys lanes order at spare by stops answered purses p c world q =
+    (looks sys lanes order at spare by stops answered purses world p c.f c.l c.m q, shows_now sys lanes order at spare by stops answered purses world p c.f c.l c.m q)
 
 empty-counts : (sys : System) (lanes : List (List Rec)) (order : List ℕ) (me f l m : ℕ) → SoundWorld sys lanes order → IsQueue sys lanes me f l m → (line_in sys lanes me).entries ≡ [] → f + l ≡ m
 empty-counts sys lanes order me f l m world q empty =
@@ -259,10 +265,10 @@ empty-counts sys lanes order me f l m world q empty =
     rw (q.firsts, q.lasts, q.takes) (omega (arith, line.counted, none))
 
 pub take-finds_none : TakeFindsNone
-take-finds_none sys lanes order at spare by stops answered me f l m world q empty same = record {
-  adds = rw same (looks sys lanes order at spare by stops answered world me f l m q);
+take-finds_none sys lanes order at spare by stops answered purses me f l m world q empty same = record {
+  adds = rw same (looks sys lanes order at spare by stops answered purses world me f l m q);
   empty = empty-counts sys lanes order me f l m world q empty;
-  shows = shows_now sys lanes order at spare by stops answered world me f l m q;
+  shows = shows_now sys lanes order at spare by stops answered purses world me f l m q;
 }
 
 nil_told : (s : Step) (o f l m c : ℕ) → told (facts_in s.sys s.more) o c (Nil f l m) ≡ plain (Nil f l m)

@@ -31,7 +31,7 @@ use Rattle.qp_sound.specs.Laws.{StaysSound, LaneGainsIt, NoteIsAdded, LanesAreTh
 use Rattle.qp_sound.proofs.Logs.{log-grows, lanes-log, lane-set_other}
 use Rattle.qp_sound.proofs.LogTotals.{total-log}
 use Rattle.qp_sound.proofs.CallEvents.{held-has, held-same, event-its}
-use Rattle.qp_sound.proofs.ViewLemmas.{any-made, any-told}
+use Rattle.qp_sound.proofs.ViewLemmas.{any-told, all-lane, known-made}
 use Rattle.qp_sound.proofs.WorldLemmas as world
 use Rattle.qp_sound.proofs.CallParts.{world-after, gains, event_of-same}
 use Rattle.qp_sound.proofs.LaterLemmas.{held-is_made}
@@ -98,17 +98,6 @@ note-added s old grown note =
 
 -- Other lanes.
 
-all-front : {X : Type 0} (p : X → Bool) (xs ys : List X) → list_all p (xs ++ ys) ≡ true → (list_all p xs ≡ true) × (list_all p ys ≡ true)
-all-front p [] ys h = (refl, h)
-all-front p (x ∷ xs) ys h = let k = all-front p xs ys (both_true _ _ h).1 in (true_both _ _ (both_true _ _ h).0 k.0, k.1)
-
--- what holds of all records holds of those of a lane
-all-lane : (p : Item → Bool) (lanes : List (List Rec)) (k : ℕ) → list_all p (all_items lanes) ≡ true → list_all p (lane_items (lane_of lanes k)) ≡ true
-unfolding all_items lane_items
-all-lane p [] k h = refl
-all-lane p (l ∷ ls) zero h = (all-front p (lane_items l) (all_items ls) h).0
-all-lane p (l ∷ ls) (suc k) h = all-lane p ls k (all-front p (lane_items l) (all_items ls) h).1
-
 module _ (sys : System) (lanes : List (List Rec)) (order : List ℕ) (at : ℕ) (r : Rec) (o : ℕ) (b : Body) (old : SoundWorld sys lanes order) (within : at < length lanes)
     (is : item_of r ≡ record { of = o; body = b }) (may : May sys lanes (hands_in sys lanes order) o b) (k : ℕ) (other : (k == at) ≡ false) where
   lane_kept : lane_of (with_record lanes at r) k ≡ lane_of lanes k
@@ -128,21 +117,6 @@ module _ (sys : System) (lanes : List (List Rec)) (order : List ℕ) (at : ℕ) 
       (world.later sys lanes order at r o b old within is may) 0 (lane_items (lane_of lanes k)) lane_settled
       ∙ sym (ap (λ z. told_lane (record { sys = sys; items = z }) 0 (lane_items (lane_of lanes k))) (world.items_before sys lanes order at r o b old within is may))
 
--- what any lane knows was made
-known-made : (sys : System) (lanes : List (List Rec)) (order : List ℕ) (k : ℕ) (e : Entry) → SoundWorld sys lanes order
-    → (((e.pool == 0) || stands (token_of e) (hands_in sys lanes order)) || list_any (λ t. handles (token_of e) t.told.body) (told_lane (facts_in sys lanes) 0 (lane_items (lane_of lanes k)))) ≡ true
-    → is_made (all_items lanes) e ≡ true
-unfolding is_made all_made
-known-made sys lanes order k e old h = go (e.pool == 0) (stands (token_of e) (hands_in sys lanes order)) refl refl h
-  where
-    go : (u v : Bool) → (e.pool == 0) ≡ u → stands (token_of e) (hands_in sys lanes order) ≡ v
-        → ((u || v) || list_any (λ t. handles (token_of e) t.told.body) (told_lane (facts_in sys lanes) 0 (lane_items (lane_of lanes k)))) ≡ true → is_made (all_items lanes) e ≡ true
-    go true v p s q = rw p refl
-    go false true p s q = held-is_made sys lanes (hands_in sys lanes order) old.sound e.pool e.block e.name s
-    go false false p s q =
-        any-made (all_items lanes) e (lane_items (lane_of lanes k)) (sym (any-told (handles (token_of e)) (facts_in sys lanes) 0 (lane_items (lane_of lanes k))) ∙ q)
-        (all-lane (λ j. handles_made (all_items lanes) j.body) lanes k old.made)
-
 event-kept : (s : Step) (o : ℕ) (b : Body) → SoundWorld s.sys s.lanes s.order → Grown s.lanes s.order s.at s.rec s.more s.longer → item_of s.rec ≡ record { of = o; body = b } → MayCome s o b
     → (e : Entry) → is_made (all_items s.lanes) e ≡ true → event_in s.sys s.more e ≡ event_in s.sys s.lanes e
 unfolding event_in
@@ -150,7 +124,7 @@ event-kept s o b old grown says may e made = ap (λ x. unwrap_or x (record { sig
 
 pub others-stay : OtherLanesStay
 unfolding view_of mark_after own_after hands_after is_known
-others-stay s o b old grown says may k spare by stops answered other =
+others-stay s o b old grown says may k spare by stops answered purses other =
     let g = gains s o b old grown says may in
     record {
       told = subst (λ ls. told_lane (facts_in s.sys ls) 0 (lane_items (lane_of ls k)) ≡ told_lane (facts_in s.sys s.lanes) 0 (lane_items (lane_of s.lanes k))) (sym grown.lanes_are)
@@ -173,7 +147,7 @@ count-told w c a (i ∷ is) = count-told w (ceiling_after c i.body) (a + cond (n
 
 pub limit-kept : LaneKeepsItsLimit
 unfolding view_of
-limit-kept sys lanes order at spare by stops answered h =
+limit-kept sys lanes order at spare by stops answered purses h =
     let same = count-told (facts_in sys lanes) 0 0 (lane_items (lane_of lanes at)) in
     subst (λ n. n + spare ≤ 1000000) (sym same) h
 
@@ -182,7 +156,7 @@ caused-told w items code = ap (λ u. (code == 7) || (nat_lt 0 code && u)) (any-t
 
 pub causes-kept : LaneKeepsItsCauses
 unfolding view_of
-causes-kept sys lanes order at spare by stops answered h = go stops h
+causes-kept sys lanes order at spare by stops answered purses h = go stops h
   where
     go : (codes : List ℕ) → list_all (is_caused_in (lane_items (lane_of lanes at))) codes ≡ true
         → list_all (λ code. is_caused (told_lane (facts_in sys lanes) 0 (lane_items (lane_of lanes at))) code) codes ≡ true
@@ -201,8 +175,8 @@ last-caused code (t ∷ u ∷ ts) some is = or_right _ _ (last-caused code (u �
 
 pub stop-caused : StopHasItsCause
 unfolding view_of
-stop-caused sys lanes order at spare by stops answered code (inl seven) = let is : (code == 7) ≡ true = grind (arith, nat_tests) in rw is refl
-stop-caused sys lanes order at spare by stops answered code (inr last) =
+stop-caused sys lanes order at spare by stops answered purses code (inl seven) = let is : (code == 7) ≡ true = grind (arith, nat_tests) in rw is refl
+stop-caused sys lanes order at spare by stops answered purses code (inr last) =
     or_right (code == 7) _
     (true_both _ _ (above code last.0)
     (sym (any-told (λ b. stop_code b == code) (facts_in sys lanes) 0 (lane_items (lane_of lanes at))) ∙ last-caused code _ last.0 last.1))
@@ -267,7 +241,7 @@ log-numbered sys lanes order old = old.numbered
 -- What contracts see is what the law book has.
 pub by-the_book : ToldByTheBook
 unfolding view_of
-by-the_book sys lanes order at spare by stops answered old = record {
+by-the_book sys lanes order at spare by stops answered purses old = record {
   words = old.sound.words;
   told = refl;
   marks = λ w. refl;

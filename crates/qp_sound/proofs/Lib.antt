@@ -26,3 +26,4 @@ pub mod CallSides
 pub mod LawLemmas
 pub mod EndLemmas
 pub mod NewLemmas
+pub mod EntryCounts

@@ -13,7 +13,7 @@ use Rattle.qp_sound.proofs.Times.{times-append}
 
 -- Places of lists.
 
-set-set : {X : Type 0} (xs : List X) (i : ℕ) (x y : X) → slice_set (slice_set xs i x) i y ≡ slice_set xs i y
+pub set-set : {X : Type 0} (xs : List X) (i : ℕ) (x y : X) → slice_set (slice_set xs i x) i y ≡ slice_set xs i y
 set-set [] i x y = refl
 set-set (z ∷ zs) zero x y = refl
 set-set (z ∷ zs) (suc i) x y = ap (λ ws. z ∷ ws) (set-set zs i x y)

@@ -204,7 +204,7 @@ length-count_up from (suc n) = ap suc (length-count_up (from + 1) n)
 
 pub new-lane : NewLaneIsNew
 unfolding view_of shown_in lane_items told_lane
-new-lane sys n at spare lt = record {
+new-lane sys n at spare purses lt = record {
   told = rw (no-lane n at) refl;
   by = refl;
   stops = refl;
@@ -213,6 +213,7 @@ new-lane sys n at spare lt = record {
   shown = λ w. shown w;
   own = λ a. ap own_of_line (line-first sys n a);
   hands = hands-first sys n;
+  happened = refl;
 }
   where
     shown : (w : Word) → shown_in sys (empty_lanes n) w ≡ first_shown sys w

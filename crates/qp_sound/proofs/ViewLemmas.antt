@@ -1,5 +1,5 @@
 -- What contracts see of a lane gains exactly the record that comes.
-use Rattle.std.proofs.Common.{◌≡◌, ℕ, suc, ◌+◌, ◌<◌, ◌≤◌, ◌==◌, Bool, true, false, ◌||◌, cond, List, [], ◌∷◌, ◌++◌, length, map, refl, sym, ◌∙◌, ap, subst, arith, IsTrue, ◌⊎◌, Some, None}
+use Rattle.std.proofs.Common.{◌≡◌, ℕ, zero, suc, ◌+◌, ◌<◌, ◌≤◌, ◌==◌, Bool, true, false, ◌||◌, cond, List, [], ◌∷◌, ◌++◌, length, map, slice_set, refl, sym, ◌∙◌, ap, subst, arith, IsTrue, ◌⊎◌, Some, None}
 use Rattle.std.specs.List.{list_any, list_all}
 use Rattle.std.specs.Option.{unwrap_or}
 use Rattle.std.proofs.lemmas.List.{map-append}
@@ -30,19 +30,19 @@ use Rattle.qp_model.proofs.LineLemmas.{same_number}
 use Rattle.qp_model.proofs.KnowingLemmas.{told_lane-append, told_lane-stays, same_word-is}
 use Rattle.qp_model.proofs.SettledLemmas.{all_settled-from, settled-from}
 use Rattle.qp_calls.specs.Tokens.{Token, Held, token_of, stands, handles, hands_of, hands_by, hands_after}
-use Rattle.qp_calls.specs.LaneView.{LaneView, Gains, Own, mark_or, mark_by, mark_after, shown_from, own_of, own_after, ceiling_in, is_known}
+use Rattle.qp_calls.specs.LaneView.{LaneView, Gains, Purse, Own, mark_or, mark_by, mark_after, shown_from, own_of, own_after, ceiling_in, handled_in, is_known}
 use Rattle.qp_calls.proofs.HandLemmas.{same-equal}
-use Rattle.qp_sound.specs.Log.{lane_of, with_record}
+use Rattle.qp_sound.specs.Log.{lane_of, log_of, with_record}
 use Rattle.qp_sound.specs.WordStates.{line_in, refs_in, pool_in}
 use Rattle.qp_sound.specs.Sound.{SoundWorld, facts_in, hands_in, is_made, handles_made, all_made}
 use Rattle.qp_sound.specs.May.{May}
-use Rattle.qp_sound.specs.View.{view_of, shown_in, event_in, own_of_line}
+use Rattle.qp_sound.specs.View.{view_of, told_aside, shown_in, event_in, own_of_line}
 use Rattle.qp_sound.proofs.Events.{event-stays}
 use Rattle.qp_sound.proofs.Staying.{pool-stays, refs-stays, line-stays}
 use Rattle.qp_sound.proofs.Standing.{refs-count}
 use Rattle.qp_sound.proofs.Marks.{Next, total-next, total-rises, total-same}
 use Rattle.qp_sound.proofs.NextLemmas.{next-of, queue_total}
-use Rattle.qp_sound.proofs.Logs.{lane-set_same}
+use Rattle.qp_sound.proofs.Logs.{lane-set_same, log-grows, set-set}
 use Rattle.qp_sound.proofs.LaterLemmas.{held-is_made}
 use Rattle.qp_sound.proofs.WorldLemmas as world
 
@@ -82,6 +82,65 @@ any-made items e (j ∷ js) h k = go (handles (token_of e) j.body) refl h (any-m
         → (list_any (λ i. handles (token_of e) i.body) js ≡ true → list_all (λ i. handles_made items i.body) js ≡ true → is_made items e ≡ true) → is_made items e ≡ true
     go true at g later = handled-made items e j.body at (both_true _ _ k).0
     go false at g later = later g (both_true _ _ k).1
+
+-- What all lanes hold, each lane holds.
+pub all-front : {X : Type 0} (p : X → Bool) (xs ys : List X) → list_all p (xs ++ ys) ≡ true → (list_all p xs ≡ true) × (list_all p ys ≡ true)
+all-front p [] ys h = (refl, h)
+all-front p (x ∷ xs) ys h = let k = all-front p xs ys (both_true _ _ h).1 in (true_both _ _ (both_true _ _ h).0 k.0, k.1)
+
+pub all-lane : (p : Item → Bool) (lanes : List (List Rec)) (k : ℕ) → list_all p (all_items lanes) ≡ true → list_all p (lane_items (lane_of lanes k)) ≡ true
+unfolding all_items lane_items
+all-lane p [] k h = refl
+all-lane p (l ∷ ls) zero h = (all-front p (lane_items l) (all_items ls) h).0
+all-lane p (l ∷ ls) (suc k) h = all-lane p ls k (all-front p (lane_items l) (all_items ls) h).1
+
+-- References that the records of lanes handle were made.
+lane-made : (w : Facts) (items : List Item) (e : Entry) (l : List Rec) → handled_in (token_of e) (told_lane w 0 (lane_items l)) ≡ true
+    → list_all (λ j. handles_made items j.body) (lane_items l) ≡ true → is_made items e ≡ true
+lane-made w items e l h all = any-made items e (lane_items l) (sym (any-told (handles (token_of e)) w 0 (lane_items l)) ∙ h) all
+
+lanes-made : (w : Facts) (items : List Item) (e : Entry) (ls : List (List Rec)) → list_any (handled_in (token_of e)) (map (λ l. told_lane w 0 (lane_items l)) ls) ≡ true
+    → list_all (λ j. handles_made items j.body) (all_items ls) ≡ true → is_made items e ≡ true
+unfolding all_items
+lanes-made w items e [] h all = absurd (cc)
+lanes-made w items e (l ∷ ls) h all =
+    let parts = all-front (λ j. handles_made items j.body) (lane_items l) (all_items ls) all in
+    go (handled_in (token_of e) (told_lane w 0 (lane_items l))) refl h (λ k. lanes-made w items e ls k parts.1)
+  where
+    go : (u : Bool) → handled_in (token_of e) (told_lane w 0 (lane_items l)) ≡ u → (u || list_any (handled_in (token_of e)) (map (λ l. told_lane w 0 (lane_items l)) ls)) ≡ true
+        → (list_any (handled_in (token_of e)) (map (λ l. told_lane w 0 (lane_items l)) ls) ≡ true → is_made items e ≡ true) → is_made items e ≡ true
+    go true is k later = lane-made w items e l is (all-front (λ j. handles_made items j.body) (lane_items l) (all_items ls) all).0
+    go false is k later = later k
+
+-- one lane may be left out
+items-left : (p : Item → Bool) (ls : List (List Rec)) (at : ℕ) → list_all p (all_items ls) ≡ true → list_all p (all_items (slice_set ls at [])) ≡ true
+unfolding all_items lane_items
+items-left p [] at h = refl
+items-left p (l ∷ ls) zero h = (all-front p (lane_items l) (all_items ls) h).1
+items-left p (l ∷ ls) (suc at) h =
+    let parts = all-front p (lane_items l) (all_items ls) h in
+    all-both p (lane_items l) (all_items (slice_set ls at [])) parts.0 (items-left p ls at parts.1)
+  where
+    all-both : {X : Type 0} (p : X → Bool) (xs ys : List X) → list_all p xs ≡ true → list_all p ys ≡ true → list_all p (xs ++ ys) ≡ true
+    all-both p [] ys h k = k
+    all-both p (x ∷ xs) ys h k = true_both _ _ (both_true _ _ h).0 (all-both p xs ys (both_true _ _ h).1 k)
+
+-- what a lane knows was made
+pub known-made : (sys : System) (lanes : List (List Rec)) (order : List ℕ) (k : ℕ) (e : Entry) → SoundWorld sys lanes order
+    → ((((e.pool == 0) || stands (token_of e) (hands_in sys lanes order)) || handled_in (token_of e) (told_lane (facts_in sys lanes) 0 (lane_items (lane_of lanes k))))
+    || list_any (handled_in (token_of e)) (told_aside sys lanes k)) ≡ true
+    → is_made (all_items lanes) e ≡ true
+unfolding is_made all_made
+known-made sys lanes order k e old h =
+    go (e.pool == 0) (stands (token_of e) (hands_in sys lanes order)) (handled_in (token_of e) (told_lane (facts_in sys lanes) 0 (lane_items (lane_of lanes k)))) refl refl refl h
+  where
+    go : (u v x : Bool) → (e.pool == 0) ≡ u → stands (token_of e) (hands_in sys lanes order) ≡ v → handled_in (token_of e) (told_lane (facts_in sys lanes) 0 (lane_items (lane_of lanes k))) ≡ x
+        → (((u || v) || x) || list_any (handled_in (token_of e)) (told_aside sys lanes k)) ≡ true → is_made (all_items lanes) e ≡ true
+    go true v x p s t q = rw p refl
+    go false true x p s t q = held-is_made sys lanes (hands_in sys lanes order) old.sound e.pool e.block e.name s
+    go false false true p s t q = lane-made (facts_in sys lanes) (all_items lanes) e (lane_of lanes k) t (all-lane (λ j. handles_made (all_items lanes) j.body) lanes k old.made)
+    go false false false p s t q =
+        lanes-made (facts_in sys lanes) (all_items lanes) e (slice_set lanes k []) q (items-left (λ j. handles_made (all_items lanes) j.body) lanes k old.made)
 
 -- no token depends on the ceiling
 hands-ceiling : (hands : List Token) (w : Facts) (o c : ℕ) (b : Body) → hands_of hands b (known_of w o c b) ≡ hands_of hands b (known_of w o 0 b)
@@ -290,17 +349,35 @@ module _ (sys : System) (lanes : List (List Rec)) (order : List ℕ) (at : ℕ) 
       ∙ same-either (c == a) (own_of_line (line_in sys lanes a))
   own-now a _ same = own-still a (subst (λ x. drawn_on (word.Queue a) (touch_of o x) ≡ false) (sym same) refl)
 
-  -- Events of what the lane knows.
-  known-made : (e : Entry) → (((e.pool == 0) || stands (token_of e) (hands_in sys lanes order)) || list_any (λ t. handles (token_of e) t.told.body) told_before) ≡ true → is_made (all_items lanes) e ≡ true
-  unfolding is_made all_made
-  known-made e h = go (e.pool == 0) (stands (token_of e) (hands_in sys lanes order)) refl refl h
-    where
-      go : (u v : Bool) → (e.pool == 0) ≡ u → stands (token_of e) (hands_in sys lanes order) ≡ v → ((u || v) || list_any (λ t. handles (token_of e) t.told.body) told_before) ≡ true
-          → is_made (all_items lanes) e ≡ true
-      go true v p s k = rw p refl
-      go false true p s k = held-is_made sys lanes (hands_in sys lanes order) old.sound e.pool e.block e.name s
-      go false false p s k =
-          any-made (all_items lanes) e lane (sym (any-told (handles (token_of e)) (facts_in sys lanes) 0 lane) ∙ k) (lane_middle (λ j. handles_made (all_items lanes) j.body) old.made)
+  -- What the other lanes tell.
+  told-stays : (l : List Rec) → list_all (λ j. is_settled (all_items lanes) j.body) (lane_items l) ≡ true
+      → told_lane (facts_in sys more) 0 (lane_items l) ≡ told_lane (facts_in sys lanes) 0 (lane_items l)
+  unfolding all_settled
+  told-stays l settled =
+      ap (λ z. told_lane (record { sys = sys; items = z }) 0 (lane_items l)) items_after
+      ∙ told_lane-stays sys front this rest (world.later sys lanes order at r o b old within is may) 0 (lane_items l)
+      (subst (λ z. AllSettled z (lane_items l)) items_before (all_settled-from (all_items lanes) (lane_items l) settled))
+      ∙ sym (ap (λ z. told_lane (record { sys = sys; items = z }) 0 (lane_items l)) items_before)
+
+  all-stay : (ls : List (List Rec)) → list_all (λ j. is_settled (all_items lanes) j.body) (all_items ls) ≡ true
+      → map (λ l. told_lane (facts_in sys more) 0 (lane_items l)) ls ≡ map (λ l. told_lane (facts_in sys lanes) 0 (lane_items l)) ls
+  unfolding all_items
+  all-stay [] h = refl
+  all-stay (l ∷ ls) h =
+      let parts = all-front (λ j. is_settled (all_items lanes) j.body) (lane_items l) (all_items ls) h in
+      ap (λ t. t ∷ map (λ l. told_lane (facts_in sys more) 0 (lane_items l)) ls) (told-stays l parts.0)
+      ∙ ap (λ ts. told_lane (facts_in sys lanes) 0 (lane_items l) ∷ ts) (all-stay ls parts.1)
+
+  pub aside-stays : told_aside sys more at ≡ told_aside sys lanes at
+  unfolding all_settled
+  aside-stays =
+      ap (map (λ l. told_lane (facts_in sys more) 0 (lane_items l))) (set-set lanes at (lane_of lanes at ++ r ∷ []) [])
+      ∙ all-stay (slice_set lanes at []) (items-left (λ j. is_settled (all_items lanes) j.body) lanes at old.settled)
+
+  pub log-now : log_of more (order ++ at ∷ []) ≡ log_of lanes order ++ record { lane = at; item = this } ∷ []
+  log-now =
+      log-grows lanes more order (order ++ at ∷ []) at r old.orders (record { within = within; lanes_are = refl; order_is = refl })
+      ∙ ap (λ i. log_of lanes order ++ record { lane = at; item = i } ∷ []) is
 
   made-before : (e : Entry) → is_made (front ++ rest) e ≡ true → (e.pool ≡ 0) ⊎ (e.name < length (hist (word.Block e.pool e.block) (front ++ rest)))
   unfolding is_made is_settled Settled
@@ -317,12 +394,12 @@ module _ (sys : System) (lanes : List (List Rec)) (order : List ℕ) (at : ℕ) 
   event-still e made = ap (λ x. unwrap_or x (record { sig = 0; pars = [] })) (event_of-still e made)
 
   -- The lane has one record more.
-  module _ (spare left by : ℕ) (stops answered : List ℕ) where
+  module _ (spare left by : ℕ) (stops answered : List ℕ) (purses : List Purse) where
     abbrev pub old_view : LaneView
-    old_view = view_of sys lanes order at spare by stops answered
+    old_view = view_of sys lanes order at spare by stops answered purses
 
     abbrev pub new_view : LaneView
-    new_view = view_of sys more (order ++ at ∷ []) at left by stops answered
+    new_view = view_of sys more (order ++ at ∷ []) at left by stops answered purses
 
     pub view-gains : Gains (told_now ∷ []) old_view new_view
     unfolding view_of mark_after mark_by own_after told hands_after hands_by is_known
@@ -337,6 +414,11 @@ module _ (sys : System) (lanes : List (List Rec)) (order : List ℕ) (at : ℕ) 
       rise = marks-rise;
       shown = shown-still;
       own = λ a. own-now a b refl;
-      event = λ e k. event-still e (known-made e k);
+      event = λ e k. event-still e (known-made sys lanes order at e old k);
       hands = world.hands_now sys lanes order at r o b old within is may ∙ sym (hands-ceiling (hands_in sys lanes order) (facts_in sys more) o (ceiling_in 0 told_before) b);
+      plan = refl;
+      happened = refl;
+      lane = refl;
+      log = log-now;
+      aside = ap (λ t. record { told = t; purses = purses }) aside-stays;
     }

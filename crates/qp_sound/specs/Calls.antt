@@ -22,7 +22,7 @@ use Rattle.qp_calls.specs.declared.answers.Take.TheVariants as take
 use Rattle.qp_calls.specs.declared.answers.Arm.TheVariants as armed
 use Rattle.qp_calls.specs.declared.answers.Tick.TheVariants as ticked
 use Rattle.qp_calls.specs.declared.answers.Counts as counts
-use Rattle.qp_calls.specs.LaneView.{NotShown}
+use Rattle.qp_calls.specs.LaneView.{NotShown, Purse}
 use Rattle.qp_calls.specs.Clauses.{Stands, StandsHold, StandsFresh, Gives, Makes, MakesMore, LetsGo, GoesBack, Claims, ClaimsFront, Takes, Sees, Counted, Subscribing, Unsubscribing, Reads, Arms, Disarms, Rearms, TicksOne, IsEvent, entry_of, shortage_of, refusal_of, last_nil, same_counts}
 use Rattle.qp_calls.specs.Deferring.{is_named}
 use Rattle.qp_sound.specs.WordStates.{pool_in, refs_in, line_in, set_in, clock_in, cell_in}
@@ -87,16 +87,16 @@ BackIsDone =
 -- the event of a reference in the hands is what its block has
 abbrev pub EventIsRead : Type 0
 EventIsRead =
-    (sys : System) (lanes : List (List Rec)) (order : List ℕ) (at spare by : ℕ) (stops answered : List ℕ) (h : Hold) (ev : Event)
-    → SoundWorld sys lanes order → StandsHold h (view_of sys lanes order at spare by stops answered)
+    (sys : System) (lanes : List (List Rec)) (order : List ℕ) (at spare by : ℕ) (stops answered : List ℕ) (purses : List Purse) (h : Hold) (ev : Event)
+    → SoundWorld sys lanes order → StandsHold h (view_of sys lanes order at spare by stops answered purses)
     → cell_in lanes h.pool h.block ≡ Some ev
-    → ((view_of sys lanes order at spare by stops answered).event (entry h.pool h.block h.name) ≡ ev) × IsEvent sys ev
+    → ((view_of sys lanes order at spare by stops answered purses).event (entry h.pool h.block h.name) ≡ ev) × IsEvent sys ev
 
 -- the block of a reference in the hands is one of the system, and is given out with an event
 abbrev pub HeldHasEvent : Type 0
 HeldHasEvent =
-    (sys : System) (lanes : List (List Rec)) (order : List ℕ) (at spare by : ℕ) (stops answered : List ℕ) (h : Hold)
-    → SoundWorld sys lanes order → StandsHold h (view_of sys lanes order at spare by stops answered)
+    (sys : System) (lanes : List (List Rec)) (order : List ℕ) (at spare by : ℕ) (stops answered : List ℕ) (purses : List Purse) (h : Hold)
+    → SoundWorld sys lanes order → StandsHold h (view_of sys lanes order at spare by stops answered purses)
     → (ev : Event) × (cell_in lanes h.pool h.block ≡ Some ev)
 
 -- Queues.
@@ -149,10 +149,10 @@ TakeTellsNone =
 -- or it told the same before
 abbrev pub TakeFindsNone : Type 0
 TakeFindsNone =
-    (sys : System) (lanes : List (List Rec)) (order : List ℕ) (at spare by : ℕ) (stops answered : List ℕ) (me f l m : ℕ)
+    (sys : System) (lanes : List (List Rec)) (order : List ℕ) (at spare by : ℕ) (stops answered : List ℕ) (purses : List Purse) (me f l m : ℕ)
     → SoundWorld sys lanes order → IsQueue sys lanes me f l m → (line_in sys lanes me).entries ≡ []
-    → IsTrue (same_counts (last_nil me NotShown (view_of sys lanes order at spare by stops answered).told) f l m)
-    → Takes me (view_of sys lanes order at spare by stops answered) (view_of sys lanes order at spare by stops answered) (take.Empty f l m)
+    → IsTrue (same_counts (last_nil me NotShown (view_of sys lanes order at spare by stops answered purses).told) f l m)
+    → Takes me (view_of sys lanes order at spare by stops answered purses) (view_of sys lanes order at spare by stops answered purses) (take.Empty f l m)
 
 abbrev pub SeenIsDone : Type 0
 SeenIsDone =
@@ -161,9 +161,9 @@ SeenIsDone =
 
 abbrev pub CountsAreRead : Type 0
 CountsAreRead =
-    (sys : System) (lanes : List (List Rec)) (order : List ℕ) (at spare by : ℕ) (stops answered : List ℕ) (p : ℕ) (c : counts.Counts)
+    (sys : System) (lanes : List (List Rec)) (order : List ℕ) (at spare by : ℕ) (stops answered : List ℕ) (purses : List Purse) (p : ℕ) (c : counts.Counts)
     → SoundWorld sys lanes order → IsQueue sys lanes p c.f c.l c.m
-    → Counted p (view_of sys lanes order at spare by stops answered) (view_of sys lanes order at spare by stops answered) c
+    → Counted p (view_of sys lanes order at spare by stops answered purses) (view_of sys lanes order at spare by stops answered purses) c
 
 -- Signals.
 

@@ -17,7 +17,7 @@ use Rattle.qp_model.specs.Sound.{IsSound}
 use Rattle.qp_model.specs.WordLaw.{Words, is_block}
 use Rattle.qp_calls.specs.declared.tokens.Hold.{Hold}
 use Rattle.qp_calls.specs.Clauses.{StandsHold}
-use Rattle.qp_calls.specs.LaneView.{Gains, GrowsOf, IsNew, LaneView, ceiling_in, is_known, mark_by, own_of}
+use Rattle.qp_calls.specs.LaneView.{Gains, GrowsOf, IsNew, LaneView, Purse, ceiling_in, is_known, mark_by, own_of}
 use Rattle.qp_calls.specs.Tokens.{hands_by}
 use Rattle.qp_calls.specs.LaneLaws.{IsWithinLimit, HasCauses}
 use Rattle.qp_calls.specs.Notes.{MayNote, MayStop, told_note, stop_code}
@@ -32,7 +32,7 @@ abbrev pub NewWorldIsSound : Type 0
 NewWorldIsSound = (sys : System) (n : ℕ) → IsSound sys → SoundWorld sys (empty_lanes n) []
 
 abbrev pub NewLaneIsNew : Type 0
-NewLaneIsNew = (sys : System) (n at spare : ℕ) → at < n → IsNew (view_of sys (empty_lanes n) [] at spare 0 [] [])
+NewLaneIsNew = (sys : System) (n at spare : ℕ) (purses : List Purse) → at < n → IsNew (view_of sys (empty_lanes n) [] at spare 0 [] [] purses)
 
 -- whatever record may come next, the world stays sound
 abbrev pub StaysSound : Type 0
@@ -85,13 +85,13 @@ pub record ByTheBook (sys : System) (lanes : List (List Rec)) (order : List ℕ)
       → records_of (facts_in sys lanes) o 0 (lane_items (lane_of lanes at)) ≡ told_alone (filter (λ t. t.of == o) v.told)
   pub events : (h : Hold) → StandsHold h v
       → event_of (facts_in sys lanes) (entry h.pool h.block h.name) ≡ Some (v.event (entry h.pool h.block h.name))
-  pub hands : (k : ℕ) → (view_of sys lanes order k 0 0 [] []).hands ≡ v.hands
+  pub hands : (k : ℕ) → (view_of sys lanes order k 0 0 [] [] []).hands ≡ v.hands
 
 abbrev pub ToldByTheBook : Type 0
 ToldByTheBook =
-    (sys : System) (lanes : List (List Rec)) (order : List ℕ) (at spare by : ℕ) (stops answered : List ℕ)
+    (sys : System) (lanes : List (List Rec)) (order : List ℕ) (at spare by : ℕ) (stops answered : List ℕ) (purses : List Purse)
     → SoundWorld sys lanes order
-    → ByTheBook sys lanes order at (view_of sys lanes order at spare by stops answered)
+    → ByTheBook sys lanes order at (view_of sys lanes order at spare by stops answered purses)
 
 -- What another lane sees of this record: its word's mark, the counts of its queue and the hands. It tells nothing new.
 pub record SeesElsewhere (t : ToldItem) (old new : LaneView) : Type 0 where
@@ -109,16 +109,16 @@ OtherLanesStay =
     (s : Step) (o : ℕ) (b : Body) → SoundWorld s.sys s.lanes s.order
     → Grown s.lanes s.order s.at s.rec s.more s.longer
     → item_of s.rec ≡ record { of = o; body = b } → MayCome s o b
-    → (k spare by : ℕ) (stops answered : List ℕ) → IsFalse (k == s.at)
+    → (k spare by : ℕ) (stops answered : List ℕ) (purses : List Purse) → IsFalse (k == s.at)
     → SeesElsewhere (for_object o (told (facts_in s.sys s.more) o (ceiling_in 0 (before s).told) b))
-    (view_of s.sys s.lanes s.order k spare by stops answered) (view_of s.sys s.more s.longer k spare by stops answered)
+    (view_of s.sys s.lanes s.order k spare by stops answered purses) (view_of s.sys s.more s.longer k spare by stops answered purses)
 
 -- The laws of a lane, from its records.
 abbrev pub LaneKeepsItsLimit : Type 0
 LaneKeepsItsLimit =
-    (sys : System) (lanes : List (List Rec)) (order : List ℕ) (at spare by : ℕ) (stops answered : List ℕ)
+    (sys : System) (lanes : List (List Rec)) (order : List ℕ) (at spare by : ℕ) (stops answered : List ℕ) (purses : List Purse)
     → count_by (λ i. not (is_spill i.body)) (lane_items (lane_of lanes at)) + spare ≤ 1000000
-    → IsWithinLimit (view_of sys lanes order at spare by stops answered)
+    → IsWithinLimit (view_of sys lanes order at spare by stops answered purses)
 
 -- a code that the lane handed in has its record
 abbrev pub is_caused_in : List Item → ℕ → Bool
@@ -126,15 +126,15 @@ is_caused_in items code = (code == 7) || (nat_lt 0 code && list_any (λ i. stop_
 
 abbrev pub LaneKeepsItsCauses : Type 0
 LaneKeepsItsCauses =
-    (sys : System) (lanes : List (List Rec)) (order : List ℕ) (at spare by : ℕ) (stops answered : List ℕ)
+    (sys : System) (lanes : List (List Rec)) (order : List ℕ) (at spare by : ℕ) (stops answered : List ℕ) (purses : List Purse)
     → IsTrue (list_all (is_caused_in (lane_items (lane_of lanes at))) stops)
-    → HasCauses (view_of sys lanes order at spare by stops answered)
+    → HasCauses (view_of sys lanes order at spare by stops answered purses)
 
 -- a code that may be handed in has its record
 abbrev pub StopHasItsCause : Type 0
 StopHasItsCause =
-    (sys : System) (lanes : List (List Rec)) (order : List ℕ) (at spare by : ℕ) (stops answered : List ℕ) (code : ℕ)
-    → MayStop code (view_of sys lanes order at spare by stops answered)
+    (sys : System) (lanes : List (List Rec)) (order : List ℕ) (at spare by : ℕ) (stops answered : List ℕ) (purses : List Purse) (code : ℕ)
+    → MayStop code (view_of sys lanes order at spare by stops answered purses)
     → IsTrue (is_caused_in (lane_items (lane_of lanes at)) code)
 
 -- what is caused stays caused

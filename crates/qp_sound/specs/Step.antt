@@ -4,7 +4,7 @@ use Rattle.qp_model.specs.declared.record.Rec.{Rec}
 use Rattle.qp_model.specs.declared.systems.System.{System}
 use Rattle.qp_model.specs.declared.bodies.Body.{Body}
 use Rattle.qp_model.specs.Record.{item_of}
-use Rattle.qp_calls.specs.LaneView.{LaneView}
+use Rattle.qp_calls.specs.LaneView.{LaneView, Purse}
 use Rattle.qp_calls.specs.Tokens.{Token}
 use Rattle.qp_sound.specs.Log.{with_record}
 use Rattle.qp_sound.specs.Sound.{SoundWorld, hands_in}
@@ -32,14 +32,15 @@ pub record Step : Type 0 where
   pub by : ℕ
   pub stops : List ℕ
   pub answered : List ℕ
+  pub purses : List Purse
 
 -- what contracts see of the lane before the call
 abbrev pub before : Step → LaneView
-before s = view_of s.sys s.lanes s.order s.at s.spare s.by s.stops s.answered
+before s = view_of s.sys s.lanes s.order s.at s.spare s.by s.stops s.answered s.purses
 
 -- and after it
 abbrev pub behind : Step → LaneView
-behind s = view_of s.sys s.more s.longer s.at s.left s.by s.stops s.answered
+behind s = view_of s.sys s.more s.longer s.at s.left s.by s.stops s.answered s.purses
 
 -- the hands before it
 abbrev pub hands_before : Step → List Token

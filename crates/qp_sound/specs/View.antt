@@ -1,17 +1,17 @@
 -- What contracts see of a lane of a world, by the records of all lanes.
-use Rattle.std.specs.Prelude.{ℕ, true, List, [], length}
+use Rattle.std.specs.Prelude.{ℕ, true, List, [], length, map, slice_set}
 use Rattle.std.specs.Option.{unwrap_or}
 use Rattle.qp_model.specs.declared.record.Rec.{Rec}
 use Rattle.qp_model.specs.declared.words.Word.{Word}
 use Rattle.qp_model.specs.declared.words.Word.TheVariants as word
 use Rattle.qp_model.specs.declared.systems.System.{System}
 use Rattle.qp_model.specs.declared.bodies.Entry.{Entry}
-use Rattle.qp_model.specs.Told.{Event}
+use Rattle.qp_model.specs.Told.{Event, ToldItem}
 use Rattle.qp_model.specs.Line.{Line}
 use Rattle.qp_model.specs.History.{all_items, lane_items, total}
 use Rattle.qp_model.specs.Knowing.{event_of, told_lane}
-use Rattle.qp_calls.specs.LaneView.{LaneView, Own, Shown, FreeBlocks, References, Counts, NotShown}
-use Rattle.qp_sound.specs.Log.{lane_of}
+use Rattle.qp_calls.specs.LaneView.{LaneView, Aside, Purse, Own, Shown, FreeBlocks, References, Counts, NotShown}
+use Rattle.qp_sound.specs.Log.{lane_of, log_of}
 use Rattle.qp_sound.specs.WordStates.{pool_in, refs_in, line_in}
 use Rattle.qp_sound.specs.Sound.{facts_in, hands_in}
 
@@ -35,10 +35,14 @@ event_in sys lanes e = unwrap_or (event_of (facts_in sys lanes) e) (record { sig
 abbrev pub own_of_line : Line → Own
 own_of_line s = record { l = s.l; m = s.m }
 
+-- what the lanes tell, but for lane `at`
+abbrev pub told_aside : System → List (List Rec) → ℕ → List (List ToldItem)
+told_aside sys lanes at = map (λ l. told_lane (facts_in sys lanes) 0 (lane_items l)) (slice_set lanes at [])
+
 -- lane `at` of the world: its marks are the numbers of operations so far, and the hands are the world's
-unfoldable pub view_of : System → List (List Rec) → List ℕ → (at spare by : ℕ) → (stops answered : List ℕ) → LaneView
-unfolding told_lane all_items lane_items total shown_in line_in event_in hands_in
-view_of sys lanes order at spare by stops answered = record {
+unfoldable pub view_of : System → List (List Rec) → List ℕ → (at spare by : ℕ) → (stops answered : List ℕ) → List Purse → LaneView
+unfolding told_lane all_items lane_items total shown_in line_in event_in hands_in log_of
+view_of sys lanes order at spare by stops answered purses = record {
   sys = sys;
   told = told_lane (facts_in sys lanes) 0 (lane_items (lane_of lanes at));
   spare = spare;
@@ -51,4 +55,9 @@ view_of sys lanes order at spare by stops answered = record {
   own = λ a. own_of_line (line_in sys lanes a);
   event = event_in sys lanes;
   hands = hands_in sys lanes order;
+  plan = [];
+  happened = [];
+  lane = at;
+  log = log_of lanes order;
+  aside = record { told = told_aside sys lanes at; purses = purses };
 }

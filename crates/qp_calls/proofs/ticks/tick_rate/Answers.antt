@@ -45,8 +45,10 @@ pub returns-in_err-tick_timer : goal.returns-in_err-tick_timer
 returns-in_err-tick_timer g c =
     let p = err_from_is_err_and c.from_residual.result c.from_residual.ensures.1 in
     let e = c.in_err-tick_timer.ensures in
+    let listed = c.deref-d-items.ensures.value ∙ ap (λ (s : System). s.timers) c.sys.view_is in
+    let here = at c.args.sys.now.timers c.deref-d-items.result.now c.loop-i.i (record { object = 0; sig = 0; rate = 0 }) listed c.loop-i-test.true in
     rw (p.1, p.2)
-    (ticked-left c.args.rate c.loop-i.i c.args.sys.now.timers _ _ _ c.loop-i.invariant (ap (λ (s : System). s.timers) c.requires.of) e.0, fault-still c.in_err-tick_timer.field-0.0 _ _ e.0 e.1)
+    (ticked-left c.args.rate c.loop-i.i c.args.sys.now.timers _ _ _ _ c.loop-i.invariant here (ap (λ (s : System). s.timers) c.requires.of) c.if-d-rate.true e.0, fault-still c.in_err-tick_timer.field-0.0 _ _ e.0 e.1)
 
 pub returns : goal.returns
 returns g c =

@@ -6,7 +6,7 @@ use Rattle.qp_model.specs.WordLaw.{is_object}
 use Rattle.qp_model.specs.Sites.{ring_of}
 use Rattle.qp_plain.specs.declared.book.Book.{Book}
 use Rattle.qp_plain.specs.declared.world.PlainWorld.{PlainWorld}
-use Rattle.qp_plain.specs.Book.{lists_of}
+use Rattle.qp_plain.specs.Book.{lists_of, purses_of}
 use Rattle.qp_plain.specs.World.{WorldHolds}
 use Rattle.qp_plain.specs.WorldView.{world_view}
 use Rattle.qp_plain.proofs.Calling.{queue-at, lent-same}
@@ -43,5 +43,5 @@ returns c =
     let w = c.args.self.now in
     let is = queue-at w c.args.p c.from.result c.index.result.now (mine c.args.self.now c.args.p c.requires.object) c.from.ensures c.index.ensures in
     let line = ap (λ x. x.line) is in
-    counts-read w.sys.now (lists_of w.book) w.book.order.items w.book.at w.book.here.spare w.by w.book.here.stops.list w.book.here.answered.list c.args.p c.counts.result w.holds.world
+    counts-read w.sys.now (lists_of w.book) w.book.order.items w.book.at w.book.here.spare w.by w.book.here.stops.list w.book.here.answered.list (purses_of w.book) c.args.p c.counts.result w.holds.world
     (record { object = (mine c.args.self.now c.args.p c.requires.object); firsts = c.counts.ensures.f ∙ ap (λ x. x.f) line; lasts = c.counts.ensures.l ∙ ap (λ x. x.l) line; takes = c.counts.ensures.m ∙ ap (λ x. x.m) line })

@@ -2,10 +2,10 @@ use Rattle.std.proofs.Common.{◌≡◌, ℕ, true, List, ◌∷◌, sym, ◌∙
 use Rattle.qp_sound.specs.View.{view_of}
 use Rattle.qp_plain.specs.declared.book.Book.{Book}
 use Rattle.qp_plain.specs.declared.world.PlainWorld.{PlainWorld}
-use Rattle.qp_plain.specs.Book.{lists_of}
+use Rattle.qp_plain.specs.Book.{lists_of, purses_of}
 use Rattle.qp_plain.specs.World.{WorldHolds}
 use Rattle.qp_plain.specs.WorldView.{world_view}
-use Rattle.qp_plain.proofs.Calling.{view_with}
+use Rattle.qp_plain.proofs.Calling.{view_with, purses-same}
 use Rattle.qp_plain.specs.Book.{Hands, logs_of}
 use Rattle.qp_plain.specs.World.{StopIs}
 use Rattle.qp_plain.proofs.Stopping.{stop-first, stop-later, code-within}
@@ -25,24 +25,25 @@ moved w b lists order =
     (subst (λ xs. WorldHolds w.sys.now (lists_of w.book) xs w.pools.items w.blocks.items w.cells.items w.queues.items w.signals.items w.timers.items) (sym order) w.holds)
 
 same-view : (w : PlainWorld) (b : Book) (stops answered : List ℕ) → lists_of b ≡ lists_of w.book → b.order.items ≡ w.book.order.items → b.at ≡ w.book.at → b.here.spare ≡ w.book.here.spare
-    → b.here.stops.list ≡ stops → b.here.answered.list ≡ answered
-    → view_with w b ≡ view_of w.sys.now (lists_of w.book) w.book.order.items w.book.at w.book.here.spare w.by stops answered
-same-view w b stops answered lists order at spare s a =
-    ap (λ x. view_of w.sys.now x b.order.items b.at b.here.spare w.by b.here.stops.list b.here.answered.list) lists
-    ∙ ap (λ x. view_of w.sys.now (lists_of w.book) x b.at b.here.spare w.by b.here.stops.list b.here.answered.list) order
-    ∙ ap (λ x. view_of w.sys.now (lists_of w.book) w.book.order.items x b.here.spare w.by b.here.stops.list b.here.answered.list) at
-    ∙ ap (λ x. view_of w.sys.now (lists_of w.book) w.book.order.items w.book.at x w.by b.here.stops.list b.here.answered.list) spare
-    ∙ ap (λ x. view_of w.sys.now (lists_of w.book) w.book.order.items w.book.at w.book.here.spare w.by x b.here.answered.list) s
-    ∙ ap (λ x. view_of w.sys.now (lists_of w.book) w.book.order.items w.book.at w.book.here.spare w.by stops x) a
+    → b.here.stops.list ≡ stops → b.here.answered.list ≡ answered → b.others.items ≡ w.book.others.items
+    → view_with w b ≡ view_of w.sys.now (lists_of w.book) w.book.order.items w.book.at w.book.here.spare w.by stops answered (purses_of w.book)
+same-view w b stops answered lists order at spare s a others =
+    ap (λ x. view_of w.sys.now x b.order.items b.at b.here.spare w.by b.here.stops.list b.here.answered.list (purses_of b)) lists
+    ∙ ap (λ x. view_of w.sys.now (lists_of w.book) x b.at b.here.spare w.by b.here.stops.list b.here.answered.list (purses_of b)) order
+    ∙ ap (λ x. view_of w.sys.now (lists_of w.book) w.book.order.items x b.here.spare w.by b.here.stops.list b.here.answered.list (purses_of b)) at
+    ∙ ap (λ x. view_of w.sys.now (lists_of w.book) w.book.order.items w.book.at x w.by b.here.stops.list b.here.answered.list (purses_of b)) spare
+    ∙ ap (λ x. view_of w.sys.now (lists_of w.book) w.book.order.items w.book.at w.book.here.spare w.by x b.here.answered.list (purses_of b)) s
+    ∙ ap (λ x. view_of w.sys.now (lists_of w.book) w.book.order.items w.book.at w.book.here.spare w.by stops x (purses_of b)) a
+    ∙ ap (λ x. view_of w.sys.now (lists_of w.book) w.book.order.items w.book.at w.book.here.spare w.by stops answered x) (purses-same w.book b others at)
 
 caused : (w : PlainWorld) (code : ℕ) → MayStop code (world_view w) → is_caused_in (lane_items w.book.here.recs.items) code ≡ true
 caused w code may =
     subst (λ (l : List Rec). is_caused_in (lane_items l) code ≡ true) (lane-here w.book.others.items w.book.at w.book.here w.book.within)
-    (stop-caused w.sys.now (lists_of w.book) w.book.order.items w.book.at w.book.here.spare w.by w.book.here.stops.list w.book.here.answered.list code may)
+    (stop-caused w.sys.now (lists_of w.book) w.book.order.items w.book.at w.book.here.spare w.by w.book.here.stops.list w.book.here.answered.list (purses_of w.book) code may)
 
 handed : (w : PlainWorld) (b : Book) (code : ℕ) → Hands code w.book b → Stops code (world_view w) (view_with w b)
 unfolding view_of
-handed w b code h = same-view w b (code ∷ w.book.here.stops.list) w.book.here.answered.list h.lists h.order h.at h.spare h.stops h.answered
+handed w b code h = same-view w b (code ∷ w.book.here.stops.list) w.book.here.answered.list h.lists h.order h.at h.spare h.stops h.answered h.others
 
 pub hand-requires : goal.hand-requires
 hand-requires c = caused c.args.self.now c.args.code c.requires

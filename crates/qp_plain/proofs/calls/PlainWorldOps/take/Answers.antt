@@ -6,7 +6,7 @@ use Rattle.qp_model.specs.WordLaw.{is_object}
 use Rattle.qp_model.specs.Sites.{ring_of}
 use Rattle.qp_plain.specs.declared.book.Book.{Book}
 use Rattle.qp_plain.specs.declared.world.PlainWorld.{PlainWorld}
-use Rattle.qp_plain.specs.Book.{lists_of}
+use Rattle.qp_plain.specs.Book.{lists_of, purses_of}
 use Rattle.qp_plain.specs.World.{WorldHolds}
 use Rattle.qp_plain.specs.WorldView.{world_view}
 use Rattle.qp_plain.proofs.Calling.{stop-stays, queue-at, lent-same}
@@ -111,7 +111,7 @@ returns-else-not-tells g c =
     let w = c.args.self.now in
     let is = (queue-at c.args.self.now c.args.me c.from.result c.index_mut-word.result.now (mine c.args.self.now c.args.me c.requires.object) c.from.ensures c.index_mut-word.ensures.value) in
     let line = ap (λ x. x.line) is in
-    take-finds_none w.sys.now (lists_of w.book) w.book.order.items w.book.at w.book.here.spare w.by w.book.here.stops.list w.book.here.answered.list c.args.me
+    take-finds_none w.sys.now (lists_of w.book) w.book.order.items w.book.at w.book.here.spare w.by w.book.here.stops.list w.book.here.answered.list (purses_of w.book) c.args.me
     c.counts-now.result.f c.counts-now.result.l c.counts-now.result.m w.holds.world
     (record { object = (mine c.args.self.now c.args.me c.requires.object); firsts = c.counts-now.ensures.f ∙ ap (λ x. x.f) line; lasts = c.counts-now.ensures.l ∙ ap (λ x. x.l) line; takes = c.counts-now.ensures.m ∙ ap (λ x. x.m) line })
     (ap (λ x. x.entries) (sym line) ∙ c.in-None.ensures.takes.0)
