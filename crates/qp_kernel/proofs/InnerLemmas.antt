@@ -3,6 +3,7 @@ use Rattle.std.proofs.Common.{◌≡◌, max, Bool, true, false, not, ◌&&◌, 
 use Rattle.std.specs.Prelude.{⊤, ◌⊎◌}
 use Rattle.std.specs.Bool.{MatchBool}
 use Rattle.std.specs.List.{list_all}
+use Rattle.std.specs.Option.{is_some}
 use Rattle.qp_chart.specs.Task.{Task, Begin, Run, Unhandled, Exit, Enter, Init, Done, Do, Raise, Restore}
 use Rattle.qp_model.specs.declared.systems.System.{System}
 use Rattle.qp_model.specs.declared.bodies.Body.{Body}
@@ -14,6 +15,7 @@ use Rattle.qp_model.specs.Pieces.{Piece, Tell, Point, tell, piece_of, with_point
 use Rattle.qp_model.specs.Acts.{Config, Actor, Moment, Later, DoesCall, DoesDeed, DoesTask, Does, names_of}
 use Rattle.qp_model.specs.KernelLane.{role_of}
 use Rattle.qp_model.specs.Ends.{is_turn_mark, is_end, is_assert}
+use Rattle.qp_model.specs.OneOrder.{stim_of}
 use Rattle.qp_model.proofs.FitsLemmas.{is_calm, is_deferral, Usual, Ending, Answers, fits-usual, assertion_of}
 use Rattle.qp_model.proofs.KernelRowLemmas.{IsOwnRole}
 use Rattle.qp_kernel.specs.Stages.{is_done, closes}
@@ -23,6 +25,7 @@ pub record IsInner (b : Body) : Type 0 where
   pub own : IsOwnRole (role_of b)
   pub unmarked : is_turn_mark b ≡ false
   pub calm : is_end b ≡ false
+  pub unstim : is_some (stim_of b) ≡ false
 
 abbrev pub AreInner : List Piece → Type 0
 AreInner [] = ⊤
@@ -49,7 +52,8 @@ usual-inner (item.NoBlock p n free) h = absurd (cc)
 usual-inner (item.Armed t n c) h = absurd (cc)
 usual-inner (item.BadTicks t n i) h = absurd (cc)
 usual-inner (item.NoLifo a f l m) h = absurd (cc)
-usual-inner _ h = record { own = tt; unmarked = refl; calm = refl }
+usual-inner (item.Stim i k) h = absurd (cc)
+usual-inner _ h = record { own = tt; unmarked = refl; calm = refl; unstim = refl }
 
 and-parts : (a b : Bool) → (a && b) ≡ true → (a ≡ true) × (b ≡ true)
 and-parts true b h = (refl, h)
@@ -160,17 +164,17 @@ module _ (sys : System) (a : Actor) (at : Moment) where
     where
       by : (d : Deed) → DoesDeed sys a at.entry c later failed d ps → InnerThen later ps ⊎ FailsIn failed ps
       by (Sets var value) h = inl (Point ∷ [], tt, _, h.0, h.1, h.2)
-      by (Says value) h = inl (Tell (plain (item.Say value)) ∷ Point ∷ [], (record { own = tt; unmarked = refl; calm = refl }, tt), c, h.0, h.1, h.2)
+      by (Says value) h = inl (Tell (plain (item.Say value)) ∷ Point ∷ [], (record { own = tt; unmarked = refl; calm = refl; unstim = refl }, tt), c, h.0, h.1, h.2)
       by (Calls x) h = call-form c later failed x ps h
-  task-form c later failed (Raise ceiling) ps other h = inl (Tell (raised (max h.0 ceiling) h.0) ∷ [], (record { own = tt; unmarked = refl; calm = refl }, tt), record c { former = h.0 }, h.1.0, h.1.1, h.1.2)
+  task-form c later failed (Raise ceiling) ps other h = inl (Tell (raised (max h.0 ceiling) h.0) ∷ [], (record { own = tt; unmarked = refl; calm = refl; unstim = refl }, tt), record c { former = h.0 }, h.1.0, h.1.1, h.1.2)
   task-form c later failed Restore ps other h =
-      inl (Tell (plain (item.Unlock c.former)) ∷ Point ∷ [], (record { own = tt; unmarked = refl; calm = refl }, tt), c, h.2.0, h.1 ∙ ap (λ x. Tell (plain (item.Unlock c.former)) ∷ x) h.2.1, h.2.2)
-  task-form c later failed Begin ps other h = inl (Tell (plain item.Begin) ∷ [], (record { own = tt; unmarked = refl; calm = refl }, tt), c, h.0, h.1, h.2)
-  task-form c later failed (Run s k) ps other h = inl (Tell (plain (item.Run s k)) ∷ [], (record { own = tt; unmarked = refl; calm = refl }, tt), c, h.0, h.1, h.2)
-  task-form c later failed Unhandled ps other h = inl (Tell (plain item.Unhandled) ∷ [], (record { own = tt; unmarked = refl; calm = refl }, tt), c, h.0, h.1, h.2)
-  task-form c later failed (Exit s) ps other h = inl (Tell (plain (item.Exit s)) ∷ [], (record { own = tt; unmarked = refl; calm = refl }, tt), c, h.0, h.1, h.2)
-  task-form c later failed (Enter s) ps other h = inl (Tell (plain (item.Enter s)) ∷ [], (record { own = tt; unmarked = refl; calm = refl }, tt), c, h.0, h.1, h.2)
-  task-form c later failed (Init s) ps other h = inl (Tell (plain (item.Init s)) ∷ [], (record { own = tt; unmarked = refl; calm = refl }, tt), c, h.0, h.1, h.2)
+      inl (Tell (plain (item.Unlock c.former)) ∷ Point ∷ [], (record { own = tt; unmarked = refl; calm = refl; unstim = refl }, tt), c, h.2.0, h.1 ∙ ap (λ x. Tell (plain (item.Unlock c.former)) ∷ x) h.2.1, h.2.2)
+  task-form c later failed Begin ps other h = inl (Tell (plain item.Begin) ∷ [], (record { own = tt; unmarked = refl; calm = refl; unstim = refl }, tt), c, h.0, h.1, h.2)
+  task-form c later failed (Run s k) ps other h = inl (Tell (plain (item.Run s k)) ∷ [], (record { own = tt; unmarked = refl; calm = refl; unstim = refl }, tt), c, h.0, h.1, h.2)
+  task-form c later failed Unhandled ps other h = inl (Tell (plain item.Unhandled) ∷ [], (record { own = tt; unmarked = refl; calm = refl; unstim = refl }, tt), c, h.0, h.1, h.2)
+  task-form c later failed (Exit s) ps other h = inl (Tell (plain (item.Exit s)) ∷ [], (record { own = tt; unmarked = refl; calm = refl; unstim = refl }, tt), c, h.0, h.1, h.2)
+  task-form c later failed (Enter s) ps other h = inl (Tell (plain (item.Enter s)) ∷ [], (record { own = tt; unmarked = refl; calm = refl; unstim = refl }, tt), c, h.0, h.1, h.2)
+  task-form c later failed (Init s) ps other h = inl (Tell (plain (item.Init s)) ∷ [], (record { own = tt; unmarked = refl; calm = refl; unstim = refl }, tt), c, h.0, h.1, h.2)
   task-form c later failed Done ps other h = absurd (cc)
 
   -- an agenda to its `done`, or to an assertion

@@ -1,3 +1,5 @@
+pub mod HappeningLemmas
+pub mod OrderGrowth
 pub mod KeptLemmas
 pub mod ToldPieces
 pub mod StageLemmas

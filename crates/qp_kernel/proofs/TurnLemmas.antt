@@ -2,6 +2,7 @@
 use Rattle.std.proofs.Common.{◌≡◌, ℕ, zero, suc, Bool, true, false, ◌||◌, List, [], ◌∷◌, ◌++◌, map, refl, sym, ◌∙◌, ap, subst, inl, inr, Option, Some, None, append_assoc}
 use Rattle.std.specs.Prelude.{◌⊎◌, ◌≢◌}
 use Rattle.std.specs.List.{list_any}
+use Rattle.std.specs.Option.{is_some}
 use Rattle.qp_chart.specs.Agenda.{start_plan}
 use Rattle.qp_chart.specs.Task.{Task}
 use Rattle.qp_model.specs.declared.systems.System.{System}
@@ -18,6 +19,7 @@ use Rattle.qp_model.specs.Step.{Publishing, GoesOnPublishing, Remainder, DoesLef
 use Rattle.qp_model.specs.Course.{Starts, at_start}
 use Rattle.qp_model.specs.KernelLane.{role_of}
 use Rattle.qp_model.specs.Ends.{is_turn_mark, is_end, is_assert, ends_last}
+use Rattle.qp_model.specs.OneOrder.{stim_of}
 use Rattle.qp_model.proofs.GroupLemmas.{bare-append, bare-tell}
 use Rattle.qp_model.proofs.KernelRowLemmas.{IsOwnRole}
 use Rattle.qp_orders.specs.SourceRun.{untold}
@@ -27,16 +29,16 @@ use Rattle.qp_kernel.specs.Stages.{closes}
 use Rattle.qp_kernel.proofs.AgendaLemmas.{start-closes}
 use Rattle.qp_kernel.proofs.InnerLemmas.{IsInner, AreInner, inner-append, Form, does-form}
 use Rattle.qp_kernel.proofs.ToldPieces.{AreOwn}
-use Rattle.qp_kernel.proofs.ZeroLemmas.{AreDrops}
+use Rattle.qp_kernel.proofs.ZeroLemmas.{AreDrops, drop-not_look}
 
-inner : (b : Body) → IsOwnRole (role_of b) → is_turn_mark b ≡ false → is_end b ≡ false → IsInner b
-inner b own mark calm = record { own = own; unmarked = mark; calm = calm }
+inner : (b : Body) → IsOwnRole (role_of b) → is_turn_mark b ≡ false → is_end b ≡ false → is_some (stim_of b) ≡ false → IsInner b
+inner b own mark calm stim = record { own = own; unmarked = mark; calm = calm; unstim = stim }
 
 -- a release
 releases-drops : (p b k : ℕ) (g : List Told) → Releases p b k g → AreDrops g × AreInner (tell g)
 unfolding role_of
-releases-drops p b k g (inl (d, left, e)) = (subst AreDrops (sym e) (refl, tt), subst (λ x. AreInner (tell x)) (sym e) (inner _ tt refl refl, tt))
-releases-drops p b k g (inr (d, n, e)) = (subst AreDrops (sym e) (refl, (refl, tt)), subst (λ x. AreInner (tell x)) (sym e) (inner _ tt refl refl, (inner _ tt refl refl, tt)))
+releases-drops p b k g (inl (d, left, e)) = (subst AreDrops (sym e) (refl, tt), subst (λ x. AreInner (tell x)) (sym e) (inner _ tt refl refl refl, tt))
+releases-drops p b k g (inr (d, n, e)) = (subst AreDrops (sym e) (refl, (refl, tt)), subst (λ x. AreInner (tell x)) (sym e) (inner _ tt refl refl refl, (inner _ tt refl refl refl, tt)))
 
 by_pool-drops : (n : ℕ) (e : Entry) (g : List Told) → releases_by n e g → AreDrops g × AreInner (tell g)
 unfolding releases_by
@@ -60,12 +62,12 @@ last-inner o e former ms g h =
     by : (o : ℕ) (ms : List ℕ) → AreInner (tell (restoring o former ms))
     by o [] = tt
     by zero (x ∷ others) = tt
-    by (suc o) (x ∷ others) = (inner _ tt refl refl, tt)
+    by (suc o) (x ∷ others) = (inner _ tt refl refl refl, tt)
 
 again-inner : (n : ℕ) (old : Entry) (head : List Told) (e : Entry) → again_by n old head e → AreInner (tell head)
 unfolding again_by role_of
 again-inner zero old head e h = subst (λ x. AreInner (tell x)) (sym h.0) tt
-again-inner (suc n) old head e h = subst (λ x. AreInner (tell x)) (sym h.1) (inner _ tt refl refl, tt)
+again-inner (suc n) old head e h = subst (λ x. AreInner (tell x)) (sym h.1) (inner _ tt refl refl refl, tt)
 
 -- one post of a publication
 post-inner : (ring : ℕ) (e : Entry) (to : ℕ) (g : List Told) → PostsOne ring e to Granted g → AreInner (tell g)
@@ -73,7 +75,7 @@ unfolding PostsOne MakesAgain Posts role_of
 post-inner ring e to g h =
     let made = h.3 in
     subst AreInner (sym (ap tell made.3 ∙ tell-append h.0 (plain (item.Post to made.0 made.1 made.2 h.1) ∷ [])))
-    (inner-append (tell h.0) (Tell (plain (item.Post to made.0 made.1 made.2 h.1)) ∷ []) (again-inner e.pool e h.0 h.1 h.2) (inner _ tt refl refl, tt))
+    (inner-append (tell h.0) (Tell (plain (item.Post to made.0 made.1 made.2 h.1)) ∷ []) (again-inner e.pool e h.0 h.1 h.2) (inner _ tt refl refl refl, tt))
 
 -- a form behind pieces of the inside
 form-behind : (sys : System) (a : Actor) (at : Moment) (front rest ps : List Piece) (mid : Option Config) → AreInner front → ps ≡ front ++ rest → Form sys a at rest mid → Form sys a at ps mid
@@ -111,7 +113,7 @@ module _ (sys : System) (a : Actor) (at : Moment) where
       form-behind sys a at (tell h.0 ++ Point ∷ []) h.1 ps mid (inner-append (tell h.0) (Point ∷ []) (post-inner (ring_of sys to) p.entry to h.0 h.2) tt)
       (h.3 ∙ sym (append_assoc (tell h.0) (Point ∷ []) h.1)) (publishing-form c p others ts h.1 mid closing h.4)
 
-  left-form : (p : Option Publishing) (posts : List ℕ) (ts : List Task) (c : Config) (ps : List Piece) (mid : Option Config) → closes ts ≡ true
+  pub left-form : (p : Option Publishing) (posts : List ℕ) (ts : List Task) (c : Config) (ps : List Piece) (mid : Option Config) → closes ts ≡ true
       → DoesLeft sys a at p posts ts c ps mid → Form sys a at ps mid
   unfolding DoesLeft
   left-form None posts ts c ps mid closing h = does-form sys a at ts c ps mid closing h
@@ -199,6 +201,11 @@ pub inner-calm : (g : List Told) → AreInner (tell g) → list_any (λ t. is_en
 inner-calm [] h = refl
 inner-calm (t ∷ ts) h = rw (h.0.calm, inner-calm ts h.1) refl
 
+-- no `stim` is among them
+pub inner-unstim : (g : List Told) → AreInner (tell g) → list_any (λ t. is_some (stim_of t.body)) g ≡ false
+inner-unstim [] h = refl
+inner-unstim (t ∷ ts) h = rw (h.0.unstim, inner-unstim ts h.1) refl
+
 inner-bare : (ps : List Piece) → AreInner ps → AreInner (tell (bare ps))
 unfolding bare
 inner-bare [] h = tt
@@ -245,6 +252,7 @@ pub record DoneForm (g : List Told) : Type 0 where
   pub own : AreOwn front
   pub calm : list_any (λ t. is_end t.body) front ≡ false
   pub drops : AreDrops rel
+  pub unstim : list_any (λ t. is_some (stim_of t.body)) g ≡ false
 
 -- those of a start that comes to its `done`
 pub record StartForm (g : List Told) : Type 0 where
@@ -252,6 +260,7 @@ pub record StartForm (g : List Told) : Type 0 where
   pub whole : g ≡ front ++ plain item.Done ∷ []
   pub own : AreOwn front
   pub calm : list_any (λ t. is_end t.body) front ≡ false
+  pub unstim : list_any (λ t. is_some (stim_of t.body)) g ≡ false
 
 -- those of a turn that ends in its assertion
 pub record FailedForm (p : ℕ) (g : List Told) : Type 0 where
@@ -268,6 +277,30 @@ failed-by p g front t whole asserts inside =
 bare-form : (g rel : List Told) (front : List Piece) (t : Told) → tell g ≡ front ++ Tell t ∷ tell rel → g ≡ bare front ++ t ∷ rel
 unfolding bare
 bare-form g rel front t e = sym (bare-tell g) ∙ ap bare e ∙ bare-append front (Tell t ∷ tell rel) ∙ ap (λ x. bare front ++ t ∷ x) (bare-tell rel)
+
+bare-whole : (g rel : List Told) (front : List Piece) (t : Told) (qs : List Piece) → tell g ++ qs ≡ front ++ Tell t ∷ tell rel → g ++ bare qs ≡ bare front ++ t ∷ rel
+unfolding bare
+bare-whole g rel front t qs e =
+    ap (λ x. x ++ bare qs) (sym (bare-tell g)) ∙ sym (bare-append (tell g) qs) ∙ ap bare e ∙ bare-append front (Tell t ∷ tell rel) ∙ ap (λ x. bare front ++ t ∷ x) (bare-tell rel)
+
+no-told : (xs ys : List Told) → xs ++ ys ≡ xs → ys ≡ []
+no-told [] ys e = e
+no-told (x ∷ xs) ys e = let rest : xs ++ ys ≡ xs = cc in no-told xs ys rest
+
+drops-calm : (g : List Told) → AreDrops g → list_any (λ t. is_end t.body) g ≡ false
+drops-calm [] h = refl
+drops-calm (t ∷ ts) h = rw ((drop-not_look t.body h.0).2, drops-calm ts h.1) refl
+
+done-calm : (front rel : List Told) → list_any (λ t. is_end t.body) front ≡ false → list_any (λ t. is_end t.body) rel ≡ false → list_any (λ t. is_end t.body) (front ++ plain item.Done ∷ rel) ≡ false
+done-calm [] rel a b = b
+done-calm (t ∷ ts) rel a b = let parts = or-false (is_end t.body) (list_any (λ t. is_end t.body) ts) a in rw (parts.0, done-calm ts rel parts.1 b) refl
+
+done-unstim : (g front rel : List Told) → g ≡ front ++ plain item.Done ∷ rel → AreInner (tell front) → AreInner (tell rel) → list_any (λ t. is_some (stim_of t.body)) g ≡ false
+done-unstim g front rel whole a b = subst (λ x. list_any (λ t. is_some (stim_of t.body)) x ≡ false) (sym whole) (go front a)
+  where
+    go : (ts : List Told) → AreInner (tell ts) → list_any (λ t. is_some (stim_of t.body)) (ts ++ plain item.Done ∷ rel) ≡ false
+    go [] h = inner-unstim rel b
+    go (t ∷ ts) h = rw (h.0.unstim, go ts h.1) refl
 
 no-leaf : (leaf : ℕ) (d : Config) → Some d ≡ at_leaf leaf None → ⊥
 no-leaf leaf d e = absurd (cc)
@@ -304,6 +337,30 @@ module _ (sys : System) (a : Actor) where
         by front last (Some f) closed (inl is) inside (inr k) =
             BehindIt front k.0 (k.2 ∙ ap (λ x. front ++ x ∷ k.0) is.0) (inner-own front inside) (drops-front k.0 k.1 (subst AreDrops k.3 (drops-are e h.1 closed).0))
 
+    -- what is cut before the whole of a step that asserts has no end of a lane
+    pub cut-calm : (g : List Told) (qs : List Piece) (end : Option Config) → (end ≡ None → bare qs ≡ [] → ⊥) → GoesOn sys a ev e left c (tell g ++ qs) end → list_any (λ t. is_end t.body) g ≡ false
+    unfolding GoesOn Closes FrontForm
+    cut-calm g qs end more h =
+        let form = left-form sys a (moment ev e) left.publishing left.posts left.tasks c h.0 h.2 closing h.3 in
+        let whole : tell g ++ qs ≡ form.front ++ Tell form.last ∷ tell h.1 = h.5 ∙ ap (λ x. x ++ tell h.1) form.whole ∙ append_assoc form.front (Tell form.last ∷ []) (tell h.1) in
+        by (bare form.front) form.last h.2 h.4 h.6 form.which (inner-bare form.front form.inner) (bare-whole g h.1 form.front form.last qs whole) (front-form g form.front form.last h.1 qs whole form.inner)
+      where
+        by : (front : List Told) (last : Told) (mid : Option Config) → Closes e mid h.1 → end ≡ at_leaf left.leaf mid
+            → ((last ≡ plain item.Done) × ((f : Config) × (mid ≡ Some f))) ⊎ ((is_assert last.body ≡ true) × (mid ≡ None)) → AreInner (tell front)
+            → g ++ bare qs ≡ front ++ last ∷ h.1
+            → (AreInner (tell g)) ⊎ ((done more : List Told) × (g ≡ front ++ last ∷ done) × (h.1 ≡ done ++ more)) → list_any (λ t. is_end t.body) g ≡ false
+        by front last mid closed ends which inside all (inl i) = inner-calm g i
+        by front last None closed ends (inl is) inside all (inr k) = let no : None ≡ Some is.1.0 = is.1.1 in absurd (cc)
+        by front last (Some f) closed ends (inr is) inside all (inr k) = let no : Some f ≡ None = is.1 in absurd (cc)
+        by front last None closed ends (inr is) inside all (inr k) =
+            let short : k.0 ≡ [] = nil-left k.0 k.1 (sym k.3 ∙ closed) in
+            let same : g ≡ front ++ last ∷ [] = k.2 ∙ ap (λ x. front ++ last ∷ x) short in
+            let rest : bare qs ≡ [] = no-told g (bare qs) (all ∙ ap (λ x. front ++ last ∷ x) closed ∙ sym same) in
+            absurd (more ends rest)
+        by front last (Some f) closed ends (inl is) inside all (inr k) =
+            subst (λ x. list_any (λ t. is_end t.body) x ≡ false) (sym (k.2 ∙ ap (λ x. front ++ x ∷ k.0) is.0))
+            (done-calm front k.0 (inner-calm front inside) (drops-calm k.0 (drops-front k.0 k.1 (subst AreDrops k.3 (drops-are e h.1 closed).0))))
+
     -- to its end
     pub done-form : (g : List Told) (d : Config) → GoesOn sys a ev e left c (tell g) (Some d) → DoneForm g
     unfolding GoesOn Closes
@@ -323,6 +380,7 @@ module _ (sys : System) (a : Actor) where
           own = inner-own front inside;
           calm = inner-calm front inside;
           drops = (drops-are e h.1 closed).0;
+          unstim = done-unstim g front h.1 (whole ∙ ap (λ x. front ++ x ∷ h.1) is.0) inside (drops-are e h.1 closed).1;
         }
 
     -- to its assertion
@@ -357,6 +415,7 @@ module _ (sys : System) (a : Actor) where
         whole = whole ∙ ap (λ x. front ++ x ∷ []) is.0;
         own = inner-own front inside;
         calm = inner-calm front inside;
+        unstim = done-unstim g front [] (whole ∙ ap (λ x. front ++ x ∷ []) is.0) inside tt;
       }
 
   -- a start to its assertion

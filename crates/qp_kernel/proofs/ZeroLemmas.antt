@@ -141,7 +141,7 @@ abbrev pub AreDrops : List Told → Type 0
 AreDrops [] = ⊤
 AreDrops (t ∷ ts) = (role_of t.body ≡ Drops) × AreDrops ts
 
-drop-not_look : (b : Body) → role_of b ≡ Drops → (is_look b ≡ false) × (is_turn_mark b ≡ false) × (is_end b ≡ false) × ((p o : ℕ) → takes_of o (record { of = p; body = b }) ≡ false)
+pub drop-not_look : (b : Body) → role_of b ≡ Drops → (is_look b ≡ false) × (is_turn_mark b ≡ false) × (is_end b ≡ false) × ((p o : ℕ) → takes_of o (record { of = p; body = b }) ≡ false)
 unfolding role_of
 drop-not_look (body.Dec p b d k) h = (refl, refl, refl, λ p o. refl)
 drop-not_look (body.Back p n b to) h = (refl, refl, refl, λ p o. refl)

@@ -5,4 +5,5 @@ pub mod Run
 pub mod Turning
 pub mod QuietRun
 pub mod Laws
+pub mod Happenings
 pub mod Interrupting

@@ -1,6 +1,6 @@
 //! A lane in whose looks nothing happens.
 
-ghost use Rattle.std.specs.Prelude.{◌≡◌};
+ghost use Rattle.std.specs.Prelude.{◌≡◌, false};
 
 use crate::world::{Irq, World};
 use qp_base::{Ev, Steps};
@@ -32,6 +32,8 @@ impl<O: Ops> Alone<O> {
 }
 
 impl<O: Ops> World for Alone<O> {
+    ghost acts = { false };
+
     fn interrupt<R: Wait, L: Ledger>(
         &mut self,
         _rt: &R,

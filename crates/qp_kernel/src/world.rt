@@ -1,6 +1,8 @@
 //! The world that a kernel looks at.
 
-ghost use Rattle.std.specs.Prelude.{◌≡◌};
+ghost use Rattle.std.specs.Prelude.{◌≡◌, Bool};
+ghost use Rattle.qp_model.specs.Sound.{IsSound};
+ghost use Rattle.qp_stim.specs.Rules.{StimuliFit};
 ghost use Rattle.qp_kernel.specs.Interrupting.{Interrupts};
 
 use qp_base::Steps;
@@ -24,8 +26,13 @@ pub enum Irq {
 
 /// A lane in a world whose sources act in its looks.
 pub trait World: Ops {
+    /// Whether the world has sources that act in its looks; those of other worlds are threads of their own.
+    ghost acts: { Bool };
+
     /// Lets at most one stimulus happen in the look with this count; `base` tells that no step is under way. The
-    /// lane chosen, its records and the object set by `by` are afterwards as they were.
+    /// source is the first, in cyclic order behind the one that acted last, that has a stimulus left which may act:
+    /// a `settle` acts only at the base and where all queues are empty. `Nothing` exactly where no source may act.
+    /// The lane chosen, its records and the object set by `by` are afterwards as they were.
     fn interrupt<R: Wait, L: Ledger>(
         &mut self,
         rt: &R,
@@ -35,5 +42,7 @@ pub trait World: Ops {
         steps: &mut Steps<L>,
     ) -> Irq
         requires made_for { (Self.lane self.old).sys ≡ sys.now }
-        ensures { Interrupts (Self.lane self.old) (Self.lane self.new) result };
+        requires sound { IsSound sys.now }
+        requires fit { StimuliFit sys.now (Self.lane self.old).plan }
+        ensures { Interrupts acts look base (Self.lane self.old) (Self.lane self.new) result };
 }
