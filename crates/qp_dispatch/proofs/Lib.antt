@@ -7,6 +7,7 @@ pub mod ActLemmas
 pub mod Singles
 pub mod PartLemmas
 pub mod PublishLemmas
+pub mod FailLemmas
 pub mod RunLemmas
 pub mod ResumeLemmas
 pub mod StartLemmas

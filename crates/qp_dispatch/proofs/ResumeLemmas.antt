@@ -53,6 +53,8 @@ use Rattle.qp_dispatch.specs.Runs.{CanEnd, MayRun, RunAsserts, RunCut, Runs, Set
 use Rattle.qp_dispatch.specs.Resume.{BeginsOn, EndsAsserted, Halts, HaltsFull, IsGoing, IsLaneOf, ReleasesEntry, Resumes, ToEnd, ToPoint, entry_here, event_at, event_in, held_in, left_of, step_entry}
 use Rattle.qp_dispatch.proofs.ActLemmas.{all-left, calm-quiet, counts-join, last-snoc, stand-change}
 use Rattle.qp_dispatch.proofs.Quiet.{quiet-drops}
+use Rattle.qp_model.proofs.GroupLemmas.{bare-append}
+use Rattle.qp_dispatch.proofs.FailLemmas.{front-none}
 use Rattle.qp_dispatch.proofs.PartLemmas.{stand-in}
 use Rattle.qp_dispatch.proofs.PublishLemmas.{one-less}
 use Rattle.qp_dispatch.proofs.RunLemmas.{able-behind, all-behind, stand-hand, stand-left}
@@ -87,10 +89,19 @@ assert-stop code w some last = inr (some, last)
 
 -- What is left of a step.
 
+pub unleafed : (leaf : ℕ) (end : Option Config) → at_leaf leaf end ≡ None → end ≡ None
+unleafed leaf None h = refl
+unleafed leaf (Some c) h = absurd (cc)
+
 leaf-of : (u : Option Under) (ts : List Task) (leaf : ℕ) → (left_by u ts leaf).leaf ≡ leaf
 unfolding tasks_left publishing_left
 leaf-of None ts leaf = refl
 leaf-of (Some u) ts leaf = refl
+
+tasks-of : (u : Option Under) (ts : List Task) (leaf : ℕ) → (left_by u ts leaf).tasks ≡ ts
+unfolding tasks_left publishing_left
+tasks-of None ts leaf = refl
+tasks-of (Some u) ts leaf = refl
 
 moment-is : (work : Work) (hand : Entry) → work.entry ≡ Some hand → moment_of work ≡ moment (event_of work.ev) (entry_here work.entry)
 moment-is work hand is = rw is refl
@@ -145,6 +156,7 @@ halted home ceiling later k m s y g v w z step.Stopped grows begins all h =
       full = h.full;
       grows = grows;
       begins = begins;
+      few = h.few;
       spills = h.spills;
       stops = h.stops;
       stand = stopped-stand 6 h.full z (held_in m y) h.stops (spilled-stand (length w.told) w h.full (held_in m y) h.spills all);
@@ -172,6 +184,13 @@ module _ (home : Setting) (ceiling later : ℕ) (k m : Lasting) (g : Going) (v w
       (leaf-of g.left.under (tasks_in home g.left) g.leaf ∙ sym (leaf-of y rest g.leaf))
       (subst (λ ps. Reaches v.sys a (moment ev e) (left_by g.left.under (tasks_in home g.left) g.leaf) (config_of k) (ps ++ ends) (left_by y rest g.leaf) (config_of m)) (r.plain refl) here)
 
+  reached : (ends : List Piece) (y : Option Under) (rest : List Task) (r : Runs true home (moment_of g.work) ends ceiling later k g.left.under (tasks_in home g.left) m y rest v w)
+      → Reaches v.sys a (moment ev e) (left_by g.left.under (tasks_in home g.left) g.leaf) (config_of k) (tell (bare r.ps) ++ ends) (left_by y rest g.leaf) (config_of m)
+  reached ends y rest r =
+      let here : Reaches v.sys a (moment ev e) (left_by g.left.under (tasks_in home g.left) g.leaf) (config_of k) (r.ps ++ ends) (left_by y rest g.leaf) (config_of m) =
+      subst (λ at. Reaches v.sys a at (left_by g.left.under (tasks_in home g.left) g.leaf) (config_of k) (r.ps ++ ends) (left_by y rest g.leaf) (config_of m)) (moment-is g.work going.hand going.is) (r.reaches g.leaf) in
+      subst (λ ps. Reaches v.sys a (moment ev e) (left_by g.left.under (tasks_in home g.left) g.leaf) (config_of k) (ps ++ ends) (left_by y rest g.leaf) (config_of m)) (r.plain refl) here
+
   lane-on : (ends : List Piece) (y : Option Under) (rest : List Task) → Runs true home (moment_of g.work) ends ceiling later k g.left.under (tasks_in home g.left) m y rest v w → IsLaneOf home later w
   lane-on ends y rest r = record {
     of = r.grows.sys ∙ lane.of;
@@ -188,6 +207,11 @@ module _ (home : Setting) (ceiling later : ℕ) (k m : Lasting) (g : Going) (v w
     g = bare r.ps;
     grows = r.grows;
     advances = advanced (Point ∷ []) left.under (tasks_in home left) r;
+    going = record { work = g.work; left = left; leaf = g.leaf };
+    stands = refl;
+    done = r.done;
+    split = tasks-of g.left.under (tasks_in home g.left) g.leaf ∙ r.split ∙ ap (λ ts. r.done ++ ts) (sym (tasks-of left.under (tasks_in home left) g.leaf));
+    reaches = reached (Point ∷ []) left.under (tasks_in home left) r;
     same_event = refl;
     same_entry = refl;
     room = r.keeps.room;
@@ -234,7 +258,7 @@ module _ (home : Setting) (ceiling later : ℕ) (k m : Lasting) (g : Going) (v w
       (moment-is g.work going.hand going.is) b.2 in
       let rel = closed b.1 in
       let same : tell (bare r.ps) ++ (b.0 ++ tell rel.0) ≡ (r.ps ++ b.0) ++ tell rel.0 = ap (λ x. x ++ (b.0 ++ tell rel.0)) (sym (r.plain refl)) ∙ sym (append_assoc r.ps b.0 (tell rel.0)) in
-      (b.0 ++ tell rel.0, at_leaf (left_by g.left.under (tasks_in home g.left) g.leaf).leaf b.1, (r.ps ++ b.0, rel.0, b.1, does, rel.1, same, refl))
+      (b.0 ++ tell rel.0, at_leaf (left_by g.left.under (tasks_in home g.left) g.leaf).leaf b.1, (r.ps ++ b.0, rel.0, b.1, does, rel.1, same, refl), λ none is. b.3 (unleafed (left_by g.left.under (tasks_in home g.left) g.leaf).leaf b.1 none) (front-none (bare b.0) (bare (tell rel.0)) (sym (bare-append b.0 (tell rel.0)) ∙ is)))
     where
       closed : (mid : Option Config) → (rel : List Told) × Closes e mid rel
       closed None = ([], refl)
@@ -300,6 +324,7 @@ module _ (home : Setting) (ceiling later : ℕ) (k m : Lasting) (g : Going) (v w
         tell (release e.pool e),
         Some (record (config_of m) { leaf = g.leaf }),
         subst (λ ps. GoesOn v.sys a ev e (left_by g.left.under (tasks_in home g.left) g.leaf) (config_of k) ps (Some (record (config_of m) { leaf = g.leaf }))) same goes,
+        λ none. absurd (cc),
       )
 
   pub finish-may : (ends : List Piece) (y : Option Under) (rest : List Task) → Runs true home (moment_of g.work) ends ceiling later k g.left.under (tasks_in home g.left) m y rest v w → StandsIn g.work.entry w
@@ -316,8 +341,8 @@ module _ (home : Setting) (ceiling later : ℕ) (k m : Lasting) (g : Going) (v w
 pub full-is : (v : LaneView) (f : RoomFault) (len : ℕ) → f ≡ fault.LaneFull len → IsFault v f → (len ≡ length v.told) × (1000000 < len + 8)
 full-is v f len is h = subst (λ x. IsFault v x) is h
 
-pub halts-full : (n : ℕ) (r : Rec) (v full w : LaneView) → item_of r ≡ record { of = 0; body = item.Spill n } → n ≡ length v.told → GrowsOf r.of (told_note r v) v full → Stops 6 full w → HaltsFull v w
-halts-full n r v full w is here grown stops = record { full = full; spills = spilled n r v full is here grown; stops = stops }
+pub halts-full : (n : ℕ) (r : Rec) (v full w : LaneView) → item_of r ≡ record { of = 0; body = item.Spill n } → n ≡ length v.told → 1000000 < n + 8 → GrowsOf r.of (told_note r v) v full → Stops 6 full w → HaltsFull v w
+halts-full n r v full w is here many grown stops = record { full = full; few = omega (arith, here, many); spills = spilled n r v full is here grown; stops = stops }
 
 pub released-is : (hand : Option Entry) (e : Entry) (v w : LaneView) → hand ≡ Some e → ReleasesEntry hand v w → Released (entry_of e) v w
 released-is hand e v w is h = subst (λ x. ReleasesEntry x v w) is h
@@ -365,6 +390,13 @@ resumes-taken home ceiling later k m s z e g v u w answer taken still ev is none
       advances =
           advances-as v.sys a (event_of g.work.ev) (event_at e v) (entry_here g.work.entry) (entry_of e) (left_by g.left.under (tasks_in home g.left) g.leaf) (whole_step a (config_of k) (event_at e v)) (config_of k)
           (tell h.g ++ Point ∷ []) (left_of home m z w) (config_of m) ev entry_is left h.advances;
+      going = h.going;
+      stands = h.stands;
+      done = h.done;
+      split = ap (λ (l : Remainder). l.tasks) (sym left) ∙ h.split;
+      reaches = subst (λ x. Reaches v.sys a (moment x (entry_of e)) (whole_step a (config_of k) (event_at e v)) (config_of k) (tell h.g ++ Point ∷ []) (left_of home m z w) (config_of m)) ev
+          (subst (λ x. Reaches v.sys a (moment (event_of g.work.ev) x) (whole_step a (config_of k) (event_at e v)) (config_of k) (tell h.g ++ Point ∷ []) (left_of home m z w) (config_of m)) entry_is
+          (subst (λ l. Reaches v.sys a (moment (event_of g.work.ev) (entry_here g.work.entry)) l (config_of k) (tell h.g ++ Point ∷ []) (left_of home m z w) (config_of m)) left h.reaches));
       same_event = h.same_event ∙ ev;
       same_entry = h.same_entry ∙ entry_is;
       room = h.room;
@@ -394,13 +426,14 @@ resumes-taken home ceiling later k m s z e g v u w answer taken still ev is none
           mid = h.mid;
           full = h.full;
           grows = h.grows;
-          begins = (h.begins.0, h.begins.1, goes (tell h.g ++ h.begins.0) h.begins.1 h.begins.2);
+          begins = (h.begins.0, h.begins.1, goes (tell h.g ++ h.begins.0) h.begins.1 h.begins.2, h.begins.3);
+          few = h.few;
           spills = h.spills;
           stops = h.stops;
           stand = h.stand;
         })
     by step.Memory h =
-        record { g = h.g; mid = h.mid; grows = h.grows; begins = (h.begins.0, h.begins.1, goes (tell h.g ++ h.begins.0) h.begins.1 h.begins.2); stops = h.stops; stand = h.stand }
+        record { g = h.g; mid = h.mid; grows = h.grows; begins = (h.begins.0, h.begins.1, goes (tell h.g ++ h.begins.0) h.begins.1 h.begins.2, h.begins.3); stops = h.stops; stand = h.stand }
 
 -- the agenda that was chosen is that of the whole step
 pub whole-left : (me : ℕ) (chart : Chart) (k : Lasting) (work : Work) (ts : List Task) (leaf : ℕ) (names : Names) (x : Event) → names ≡ names_at me k work → event_of work.ev ≡ x

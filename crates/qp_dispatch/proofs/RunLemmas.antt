@@ -37,6 +37,7 @@ use Rattle.qp_dispatch.specs.Parts.{Goes, Asserts, CutShort, FewerLeft, GoesFurt
 use Rattle.qp_dispatch.specs.SoundFor.{MayTask}
 use Rattle.qp_dispatch.specs.Runs.{MayRun, NothingLeft, PartDoes, RunAsserts, RunCut, Runs, Setting, hand_of, weight}
 use Rattle.qp_dispatch.proofs.ActLemmas.{all-left, counts-join}
+use Rattle.qp_dispatch.proofs.FailLemmas.{left-tells, point-behind}
 use Rattle.qp_dispatch.proofs.PartLemmas.{stand-fewer, stand-in}
 
 -- What a run rests on, at each part.
@@ -253,7 +254,7 @@ module _ (stops : Bool) (home : Setting) (at : Moment) (ceiling : ℕ) (k : Last
 
         Begun : ℕ → List Piece → Type 0
         Begun leaf ps = (more : List Piece) × (end : Option Config)
-            × DoesLeft v.sys a at (left_by u ts leaf).publishing (left_by u ts leaf).posts (left_by u ts leaf).tasks (config_of k) (ps ++ more) end
+            × DoesLeft v.sys a at (left_by u ts leaf).publishing (left_by u ts leaf).posts (left_by u ts leaf).tasks (config_of k) (ps ++ more) end × (end ≡ None → bare more ≡ [] → ⊥)
 
         before : (leaf : ℕ) → Reaches v.sys a at (left_by u ts leaf) (config_of k) r.ps (left_by x mids leaf) (config_of l)
         before leaf = subst (λ ps. Reaches v.sys a at (left_by u ts leaf) (config_of k) ps (left_by x mids leaf) (config_of l)) (append-nil r.ps) (r.reaches leaf)
@@ -268,7 +269,7 @@ module _ (stops : Bool) (home : Setting) (at : Moment) (ceiling : ℕ) (k : Last
         by leaf (inl none) =
             let rest = complete-left v.sys a at x mids leaf (config_of l) able_mids (r.keeps.few few) in
             let nothing : r.ps ++ tell h.g ≡ r.ps = ap (λ g. r.ps ++ tell g) none ∙ append-nil r.ps in
-            subst (λ ps. Begun leaf ps) (sym nothing) (rest.0, rest.1, before leaf rest.0 rest.1 rest.2)
+            subst (λ ps. Begun leaf ps) (sym nothing) (rest.0, rest.1, before leaf rest.0 rest.1 rest.2, λ fails. left-tells v.sys a at x mids leaf (config_of l) rest.0 rest.1 fails rest.2)
         by leaf (inr f) =
             let on = complete-left v.sys a at None rest leaf f.after able_rest (subst (λ n. length f.after.kept ≤ n) r.keeps.room f.few) in
             let here : Reaches w.sys (actor_of home.me home.chart l) at (left_by x mids leaf) (config_of l) (tell (h.g ++ f.rest) ++ Point ∷ []) (tasks_left rest leaf) f.after =
@@ -284,6 +285,7 @@ module _ (stops : Bool) (home : Setting) (at : Moment) (ceiling : ℕ) (k : Last
               tell f.rest ++ (Point ∷ on.0),
               on.1,
               subst (λ ps. DoesLeft v.sys a at (left_by u ts leaf).publishing (left_by u ts leaf).posts (left_by u ts leaf).tasks (config_of k) ps on.1) same whole,
+              λ fails is. left-tells v.sys a at None rest leaf f.after on.0 on.1 fails on.2 (point-behind (tell f.rest) (tell f.rest ++ (Point ∷ on.0)) on.0 is refl),
             )
 
     -- what a part did to the run

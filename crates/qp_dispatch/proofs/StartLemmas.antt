@@ -25,7 +25,7 @@ use Rattle.qp_dispatch.specs.Parts.{entries_under, held_by, left_by}
 use Rattle.qp_dispatch.specs.Resume.{Halts, IsLaneOf}
 use Rattle.qp_dispatch.specs.Starting.{BeginsStart, StartAsserted, StartDone, StartsTo}
 use Rattle.qp_dispatch.proofs.RunLemmas.{stand-left}
-use Rattle.qp_dispatch.proofs.ResumeLemmas.{spilled-stand, stopped-stand}
+use Rattle.qp_dispatch.proofs.ResumeLemmas.{spilled-stand, stopped-stand, unleafed}
 
 pub bare-stand : (es : List Entry) (v : LaneView) → StandAll es v → StandAll ((es ++ []) ++ []) v
 bare-stand es v all = subst (λ xs. StandAll xs v) (sym (append-nil (es ++ []) ∙ append-nil es)) all
@@ -89,7 +89,7 @@ module _ (home : Setting) (ceiling later : ℕ) (k m : Lasting) (work : Work) (t
       let b = r.begins leaf in
       let one : DoesLeft v.sys actor at_start None [] ts (config_of k) (r.ps ++ b.0) b.1 = subst (λ x. DoesLeft v.sys actor x None [] ts (config_of k) (r.ps ++ b.0) b.1) at b.2 in
       let two : DoesLeft v.sys actor at_start None [] (start_plan home.chart).tasks (config_of k) (r.ps ++ b.0) b.1 = subst (λ us. DoesLeft v.sys actor at_start None [] us (config_of k) (r.ps ++ b.0) b.1) tasks one in
-      (bare b.0, at_leaf (start_plan home.chart).leaf b.1, (r.ps ++ b.0, b.1, two, ap tell (sym (bare-append r.ps b.0)), refl))
+      (bare b.0, at_leaf (start_plan home.chart).leaf b.1, (r.ps ++ b.0, b.1, two, ap tell (sym (bare-append r.ps b.0)), refl), λ none. b.3 (unleafed (start_plan home.chart).leaf b.1 none))
 
   pub start-stand : (y : Option Under) → RunCut false home (moment_of work) k None ts m y v w → StandAll m.list.entries.items w
   start-stand y r = left-stand y (r.stand [] (bare-stand k.list.entries.items v stand))
@@ -107,6 +107,7 @@ start-halted home later k m g v w z step.Stopped grows begins all h =
       full = h.full;
       grows = grows;
       begins = begins;
+      few = h.few;
       spills = h.spills;
       stops = h.stops;
       stand = stopped-stand 6 h.full z m.list.entries.items h.stops (spilled-stand (length w.told) w h.full m.list.entries.items h.spills all);

@@ -1,21 +1,22 @@
 -- What going on with a step does: the records that come, and what is left.
-use Rattle.std.specs.Prelude.{◌≡◌, ℕ, ◌≤◌, ◌⊎◌, true, false, List, [], ◌∷◌, ◌++◌, map, length, Some, None, Ok, Err}
+use Rattle.std.specs.Prelude.{◌≡◌, ℕ, ◌<◌, ◌≤◌, ◌⊎◌, true, false, List, [], ◌∷◌, ◌++◌, map, length, Some, None, Ok, Err}
 use Rattle.std.specs.declared.option.Option.{Option}
 use Rattle.std.specs.declared.result.Result.{Result}
 use Rattle.std.specs.List.{AllByRecursion, list_all}
 use Rattle.qp_chart.specs.Expr.{Names}
 use Rattle.qp_chart.specs.declared.checked.Chart.{Chart}
 use Rattle.qp_chart.specs.Agenda.{start_plan, step_plan}
+use Rattle.qp_chart.specs.Task.{Task}
 use Rattle.qp_model.specs.declared.systems.System.{System}
 use Rattle.qp_model.specs.declared.bodies.Entry as model
 use Rattle.qp_model.specs.declared.bodies.Body.TheVariants as item
 use Rattle.qp_model.specs.Record.{entry}
 use Rattle.qp_model.specs.Told.{Told, Event, plain}
-use Rattle.qp_model.specs.Pieces.{Piece, Point, tell}
+use Rattle.qp_model.specs.Pieces.{Piece, Point, bare, tell}
 use Rattle.qp_model.specs.Acts.{Config, Actor}
-use Rattle.qp_model.specs.Step.{Remainder, GoesOn, whole_step}
+use Rattle.qp_model.specs.Step.{Remainder, GoesOn, moment, whole_step}
 use Rattle.qp_model.specs.Course.{at_start}
-use Rattle.qp_model.specs.Standing.{Advances}
+use Rattle.qp_model.specs.Standing.{Advances, Reaches}
 use Rattle.qp_model.specs.Able.{chart_able, task_able}
 use Rattle.qp_calls.specs.declared.tokens.Entry.{Entry}
 use Rattle.qp_calls.specs.declared.tokens.Entry.TheVariants as token
@@ -108,15 +109,22 @@ held_in k stage.Between = k.list.entries.items ++ []
 held_in k (stage.Taken e) = k.list.entries.items ++ e ∷ []
 held_in k (stage.Within g) = held_by k g.left.under ++ hand_of g.work.entry
 
--- records that begin something with which the step goes on
+-- records that begin something with which the step goes on; they aren't the whole of a step that asserts
 abbrev pub BeginsOn : System → Actor → Event → model.Entry → Remainder → Config → List Told → Type 0
-BeginsOn sys a ev e left c g = (more : List Piece) × (end : Option Config) × GoesOn sys a ev e left c (tell g ++ more) end
+BeginsOn sys a ev e left c g = (more : List Piece) × (end : Option Config) × GoesOn sys a ev e left c (tell g ++ more) end × (end ≡ None → bare more ≡ [] → ⊥)
 
 -- the step went up to its next scheduling point
 pub record ToPoint (home : Setting) (ceiling later : ℕ) (k : Lasting) (s : Stage) (m : Lasting) (z : Stage) (v w : LaneView) : Type 0 where
   pub g : List Told
   pub grows : Grows g v w
   pub advances : Advances v.sys (actor_of home.me home.chart k) (event_in s v) (step_entry s) (left_of home k s v) (config_of k)
+      (tell g ++ Point ∷ []) (left_of home m z w) (config_of m)
+  -- of the step's agenda this was done, and the rest is left
+  pub going : Going
+  pub stands : z ≡ stage.Within going
+  pub done : List Task
+  pub split : (left_of home k s v).tasks ≡ done ++ (left_of home m z w).tasks
+  pub reaches : Reaches v.sys (actor_of home.me home.chart k) (moment (event_in s v) (step_entry s)) (left_of home k s v) (config_of k)
       (tell g ++ Point ∷ []) (left_of home m z w) (config_of m)
   pub same_event : event_in z w ≡ event_in s v
   pub same_entry : step_entry z ≡ step_entry s
@@ -153,6 +161,7 @@ pub record EndsSpilled (home : Setting) (k : Lasting) (s : Stage) (m : Lasting) 
   pub full : LaneView
   pub grows : Grows g v mid
   pub begins : BeginsOn v.sys (actor_of home.me home.chart k) (event_in s v) (step_entry s) (left_of home k s v) (config_of k) g
+  pub few : 999992 < length mid.told
   pub spills : GrowsOf 0 (plain (item.Spill (length mid.told)) ∷ []) mid full
   pub stops : Stops 6 full w
   pub stand : StandAll (held_in m z) w
@@ -175,6 +184,7 @@ Resumes home ceiling later k s m z v w step.Memory = EndsExhausted home k s m z 
 -- a lane without room spilled, and one without memory did not; either has stopped
 pub record HaltsFull (v w : LaneView) : Type 0 where
   pub full : LaneView
+  pub few : 999992 < length v.told
   pub spills : GrowsOf 0 (plain (item.Spill (length v.told)) ∷ []) v full
   pub stops : Stops 6 full w
 

@@ -127,7 +127,7 @@ pub record RunCut (stops : Bool) (home : Setting) (at : Moment) (k : Lasting) (u
   pub plain : stops ≡ true → ps ≡ tell (bare ps)
   pub begins : (leaf : ℕ) → (more : List Piece) × (end : Option Config)
       × DoesLeft v.sys (actor_of home.me home.chart k) at (left_by u ts leaf).publishing (left_by u ts leaf).posts
-      (left_by u ts leaf).tasks (config_of k) (ps ++ more) end
+      (left_by u ts leaf).tasks (config_of k) (ps ++ more) end × (end ≡ None → bare more ≡ [] → ⊥)
   pub spills : spills_in v.told ≡ false → spills_in w.told ≡ false
   pub stand : StandWith k u m y v w
 

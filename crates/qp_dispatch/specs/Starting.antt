@@ -1,5 +1,5 @@
 -- What a start does: the records that come, and what the object has behind them.
-use Rattle.std.specs.Prelude.{◌≡◌, ℕ, ◌≤◌, ◌⊎◌, List, [], ◌∷◌, ◌++◌, map, length, Some, None}
+use Rattle.std.specs.Prelude.{◌≡◌, ℕ, ◌<◌, ◌≤◌, ◌⊎◌, List, [], ◌∷◌, ◌++◌, map, length, Some, None}
 use Rattle.std.specs.declared.option.Option.{Option}
 use Rattle.qp_model.specs.declared.bodies.Body.TheVariants as item
 use Rattle.qp_model.specs.Told.{Told, plain}
@@ -37,10 +37,11 @@ pub record StartAsserted (home : Setting) (k m : Lasting) (v w : LaneView) : Typ
   pub stops : Stops code mid w
   pub stand : StandAll m.list.entries.items w
 
--- records that begin a start
+-- records that begin a start; they aren't the whole of one that asserts
 abbrev pub BeginsStart : Setting → Lasting → List Told → LaneView → Type 0
 BeginsStart home k g v =
     (more : List Told) × (end : Option Config) × Starts v.sys (actor_of home.me home.chart k) (config_of k) (tell (g ++ more)) end
+    × (end ≡ None → more ≡ [] → ⊥)
 
 -- the lane had no room, spilled, and stopped
 pub record StartSpilled (home : Setting) (k m : Lasting) (v w : LaneView) : Type 0 where
@@ -49,6 +50,7 @@ pub record StartSpilled (home : Setting) (k m : Lasting) (v w : LaneView) : Type
   pub full : LaneView
   pub grows : Grows g v mid
   pub begins : BeginsStart home k g v
+  pub few : 999992 < length mid.told
   pub spills : GrowsOf 0 (plain (item.Spill (length mid.told)) ∷ []) mid full
   pub stops : Stops 6 full w
   pub stand : StandAll m.list.entries.items w

@@ -16,4 +16,4 @@ pub returns-in-LaneFull : goal.returns-in-LaneFull
 returns-in-LaneFull g c =
     let lane = g.O.Ops.lane in
     let full = full-is (lane c.args.ops.now) c.args.fault c.in-LaneFull.len c.in-LaneFull.is c.requires.fault in
-    halts-full c.in-LaneFull.len c.spill.result (lane c.args.ops.now) (lane c.note.new.self) (lane c.stop-in-LaneFull.new.self) c.spill.ensures full.0 c.note.ensures.grows c.stop-in-LaneFull.ensures
+    halts-full c.in-LaneFull.len c.spill.result (lane c.args.ops.now) (lane c.note.new.self) (lane c.stop-in-LaneFull.new.self) c.spill.ensures full.0 full.1 c.note.ensures.grows c.stop-in-LaneFull.ensures
