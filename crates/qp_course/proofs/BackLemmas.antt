@@ -12,7 +12,7 @@ use Rattle.qp_fits.specs.Rest.{Rest}
 use Rattle.qp_fits.specs.RestNext.{rest_next}
 use Rattle.qp_fits.specs.RestLaws.{ReadsBegin, ReadsWhole, ReadsNext}
 use Rattle.qp_course.specs.Note.{tells, raised_from, taken_by, dropped_by, comes_back}
-use Rattle.qp_course.specs.Goes.{Stepping, moment_of, StepsGo, LeftGoes}
+use Rattle.qp_course.specs.Goes.{Aim, Stepping, moment_of, StepsGo, LeftGoes}
 use Rattle.qp_course.specs.Machine.{State, Between, Telling, Raising, AtPoint, InCall, AtPost, Releasing, Returning, Asserted, Goes, resume, settle, noted, posted, step_state, left_over, tell_next, point_next, next}
 use Rattle.qp_course.proofs.NoteLemmas.{record_of, tells-is, raised-is, taken-is, dropped-is, back-is}
 use Rattle.qp_course.proofs.CourseLemmas.{goes-took}
@@ -22,19 +22,19 @@ use Rattle.qp_course.proofs.NextLemmas.{mapped, tested, first-rest, back-noted, 
 pub some-first : {X : Type 0} {x y : X} → Some x ≡ Some y → x ≡ y
 some-first e = cc
 
-module _ (begin : ReadsBegin) (whole : ReadsWhole) (reads_next : ReadsNext) (sys : System) (a : Actor) where
-  pub next-goes : (s : State) (p : Piece) (ps : List Piece) (later : State) → next sys a s p ≡ Some later → Goes sys a later ps → Goes sys a s (p ∷ ps)
+module _ (begin : ReadsBegin) (whole : ReadsWhole) (reads_next : ReadsNext) (sys : System) (a : Actor) (aim : Aim) where
+  pub next-goes : (s : State) (p : Piece) (ps : List Piece) (later : State) → next sys a s p ≡ Some later → Goes sys a aim later ps → Goes sys a aim s (p ∷ ps)
   unfolding Goes next tell_next point_next
   next-goes (Between c) (Tell t) ps later e h =
       let at = mapped (λ (x : Entry × Event). step_state a x.0 x.1 c) (taken_by t.body t.known) later e in
       let entry : Entry = at.0.0 in
       let event : Event = at.0.1 in
       let took = taken-is entry event t.body t.known at.1 in
-      subst (λ q. StepsGo sys a c (Tell q ∷ ps)) (sym took.3)
-      (goes-took sys a c took.0 took.1 took.2 entry event ps (back-step begin whole reads_next sys a entry event c ps (subst (λ s. Goes sys a s ps) (sym at.2) h)))
+      subst (λ q. StepsGo sys a aim c (Tell q ∷ ps)) (sym took.3)
+      (goes-took sys a aim c took.0 took.1 took.2 entry event ps (back-step begin whole reads_next sys a aim entry event c ps (subst (λ s. Goes sys a aim s ps) (sym at.2) h)))
   next-goes (Telling way n ends ts leaf c) (Tell t) ps later e h =
       let at = tested (tells n t.body t.known) (noted a way ends leaf ts c) later e in
-      (ps, ap (λ q. Tell q ∷ ps) (tells-is n t.body t.known at.0), back-noted begin whole reads_next sys a way ends leaf ts c ps (subst (λ s. Goes sys a s ps) (sym at.1) h))
+      (ps, ap (λ q. Tell q ∷ ps) (tells-is n t.body t.known at.0), back-noted begin whole reads_next sys a aim way ends leaf ts c ps (subst (λ s. Goes sys a aim s ps) (sym at.1) h))
   next-goes (Raising way ceiling ts leaf c) (Tell t) ps later e h =
       let at = mapped (λ former. settle a way leaf ts (record c { former = former })) (raised_from ceiling t.body t.known) later e in
       let former : ℕ = at.0 in (
@@ -42,23 +42,23 @@ module _ (begin : ReadsBegin) (whole : ReadsWhole) (reads_next : ReadsNext) (sys
         (
           ps,
           ap (λ q. Tell q ∷ ps) (raised-is ceiling former t.body t.known at.1),
-          back-settle begin sys a way leaf ts (record c { former = former }) ps (subst (λ s. Goes sys a s ps) (sym at.2) h),
+          back-settle begin sys a aim way leaf ts (record c { former = former }) ps (subst (λ s. Goes sys a aim s ps) (sym at.2) h),
         ),
       )
   next-goes (AtPoint ev x ts leaf c) (Tell t) ps later e h = absurd (cc)
   next-goes (InCall way inner rest ts leaf c) (Tell t) ps later e h =
       let at = mapped (λ more. posted (inner && is_post t.body) a way inner more leaf ts (record c { kept = more.kept })) (rest_next sys a.o (moment_of way).entry rest t) later e in
       let more : Rest = at.0 in
-      first-rest reads_next sys a way inner rest (LeftGoes sys a way ts leaf) c t more ps at.1
-      (back-posted begin whole reads_next sys a (inner && is_post t.body) way inner more leaf ts (record c { kept = more.kept }) ps (subst (λ s. Goes sys a s ps) (sym at.2) h))
+      first-rest reads_next sys a way inner rest (LeftGoes sys a aim way ts leaf) c t more ps at.1
+      (back-posted begin whole reads_next sys a aim (inner && is_post t.body) way inner more leaf ts (record c { kept = more.kept }) ps (subst (λ s. Goes sys a aim s ps) (sym at.2) h))
   next-goes (AtPost way rest ts leaf c) (Tell t) ps later e h = absurd (cc)
   next-goes (Releasing x c) (Tell t) ps later e h =
       let at = mapped (λ (y : ℕ × ℕ). left_over x y.0 y.1 c) (dropped_by x t.body t.known) later e in
       let is = dropped-is x at.0 t.body t.known at.1 in
-      by at.0.0 at.0.1 is (subst (λ s. Goes sys a s ps) (sym at.2) h)
+      by at.0.0 at.0.1 is (subst (λ s. Goes sys a aim s ps) (sym at.2) h)
     where
-      by : (d left : ℕ) → record_of t.body t.known ≡ dropped x.pool x.block d x.name left → Goes sys a (left_over x d left c) ps
-          → (rel : List Told) × (rest : List Piece) × Releases x.pool x.block x.name rel × (Tell t ∷ ps ≡ tell rel ++ rest) × StepsGo sys a c rest
+      by : (d left : ℕ) → record_of t.body t.known ≡ dropped x.pool x.block d x.name left → Goes sys a aim (left_over x d left c) ps
+          → (rel : List Told) × (rest : List Piece) × Releases x.pool x.block x.name rel × (Tell t ∷ ps ≡ tell rel ++ rest) × StepsGo sys a aim c rest
       by d zero is (n, (rest, e, k)) = (
         dropped x.pool x.block d x.name 0 ∷ plain (item.Back x.pool n x.block (d + 1)) ∷ [],
         rest,
@@ -70,13 +70,13 @@ module _ (begin : ReadsBegin) (whole : ReadsWhole) (reads_next : ReadsNext) (sys
   next-goes (Returning p b d c) (Tell t) ps later e h =
       let at = tested (comes_back p b d t.body t.known) (Between c) later e in
       let is = back-is p b d t.body t.known at.0 in
-      let k : StepsGo sys a c ps = subst (λ s. Goes sys a s ps) (sym at.1) h in
+      let k : StepsGo sys a aim c ps = subst (λ s. Goes sys a aim s ps) (sym at.1) h in
       (is.0, (ps, ap (λ q. Tell q ∷ ps) is.1, k))
   next-goes Asserted (Tell t) ps later e h = absurd (cc)
   next-goes (AtPoint ev x ts leaf c) Point ps later e h =
       let same : settle a (Stepping ev x) leaf ts c ≡ later = some-first e in
-      (ps, refl, back-settle begin sys a (Stepping ev x) leaf ts c ps (subst (λ s. Goes sys a s ps) (sym same) h))
+      (ps, refl, back-settle begin sys a aim (Stepping ev x) leaf ts c ps (subst (λ s. Goes sys a aim s ps) (sym same) h))
   next-goes (AtPost way rest ts leaf c) Point ps later e h =
       let same : resume way true rest leaf ts (settle a way leaf ts) c ≡ later = some-first e in
-      (ps, refl, back-resume sys a way leaf ts (settle a way leaf ts) (λ d zs k. back-settle begin sys a way leaf ts d zs k) true rest c ps (subst (λ s. Goes sys a s ps) (sym same) h))
+      (ps, refl, back-resume sys a aim way leaf ts (settle a way leaf ts) (λ d zs k. back-settle begin sys a aim way leaf ts d zs k) true rest c ps (subst (λ s. Goes sys a aim s ps) (sym same) h))
   next-goes s Point ps later e h = absurd (cc)

@@ -11,24 +11,25 @@ use Rattle.qp_model.proofs.ListLemmas.{both_true, true_both}
 use Rattle.qp_model.proofs.ThroughLemmas.{through-quiet, quiet-through}
 use Rattle.qp_fits.specs.Decides.{Decides}
 use Rattle.qp_fits.specs.RestLaws.{ReadsBegin, ReadsWhole, ReadsNext, OpenBegin, OpenNext, OpenReads}
-use Rattle.qp_course.specs.Goes.{CourseGoes}
+use Rattle.qp_course.specs.Goes.{anywhere, CourseGoes}
 use Rattle.qp_course.specs.Decided.{reads_to, HasChart}
-use Rattle.qp_course.proofs.CourseLemmas.{course-goes, goes-course}
+use Rattle.qp_course.proofs.CourseLemmas.{any-end, course-goes, goes-course}
 use Rattle.qp_course.specs.Passing.{told_to}
 use Rattle.qp_course.proofs.RunLemmas.{Fronts, fronts-well, well-fronts}
 use Rattle.qp_course.proofs.ToldLemmas.{fronts-told, told-fronts}
 
 module _ (sys : System) (d : ObjectDef) (chart : Chart) (has : HasChart sys d chart) where
-  pub into-follows : (ps : List Piece) → Follows sys d ps → CourseGoes sys (actor d chart) (first_config d) ps
+  pub into-follows : (ps : List Piece) → Follows sys d ps → CourseGoes sys (actor d chart) anywhere (first_config d) ps
   unfolding Follows FollowsAs
   into-follows ps h =
       let at : FollowsAs sys d (Some chart) ps = subst (λ o. FollowsAs sys d o ps) has.is h in
-      course-goes sys (actor d chart) (first_config d) at.0 ps at.1 at.2
+      course-goes sys (actor d chart) anywhere (first_config d) at.0 ps at.1 at.2 (any-end at.1)
 
-  pub back-follows : (ps : List Piece) → CourseGoes sys (actor d chart) (first_config d) ps → Follows sys d ps
+  pub back-follows : (ps : List Piece) → CourseGoes sys (actor d chart) anywhere (first_config d) ps → Follows sys d ps
   unfolding Follows FollowsAs
   back-follows ps h =
-      let at : FollowsAs sys d (Some chart) ps = goes-course sys (actor d chart) (first_config d) ps h in
+      let course = goes-course sys (actor d chart) anywhere (first_config d) ps h in
+      let at : FollowsAs sys d (Some chart) ps = (course.0, course.1, course.2) in
       subst (λ o. FollowsAs sys d o ps) (sym has.is) at
 
   module _ (begin : ReadsBegin) (whole : ReadsWhole) (reads_next : ReadsNext) (first : OpenBegin) (open_next : OpenNext) (open_reads : OpenReads) where

@@ -16,7 +16,7 @@ use Rattle.qp_fits.specs.RestNext.{stage_answer}
 use Rattle.qp_fits.specs.Reads.{Reads}
 use Rattle.qp_fits.specs.RestLaws.{OpenReads}
 use Rattle.qp_course.specs.Note.{body_of}
-use Rattle.qp_course.specs.Goes.{Way, Starting, Stepping, moment_of, Ends, LeftGoes}
+use Rattle.qp_course.specs.Goes.{anywhere, Way, Starting, Stepping, moment_of, Ends, LeftGoes}
 use Rattle.qp_course.specs.Machine.{State, Between, Telling, Raising, AtPoint, InCall, AtPost, Releasing, Returning, Asserted, inner_pieces, RestGoes, NoteEnds, Goes, is_end}
 use Rattle.qp_course.specs.Ready.{AreAble, IsWithin, CanGoOn, IsReady}
 use Rattle.qp_course.proofs.CourseLemmas.{steps-none}
@@ -43,13 +43,13 @@ rest-some sys a way inner rest later c part (answer, t ∷ g, kept, reads, k) = 
     by false (zs, e) (more, k, ends) = let wrong : [] ≡ Tell t ∷ (zs ++ more) = k ∙ ap (λ us. us ++ more) e in cc
 
 -- nothing comes only where the course may end
-pub goes-end : (sys : System) (a : Actor) (s : State) → IsReady sys a s → Goes sys a s [] → is_end s ≡ true
+pub goes-end : (sys : System) (a : Actor) (s : State) → IsReady sys a s → Goes sys a anywhere s [] → is_end s ≡ true
 unfolding Goes
 goes-end sys a (Between c) ready h = refl
 goes-end sys a (Telling way n ends ts leaf c) ready (rest, e, k) = absurd (cc)
 goes-end sys a (Raising way ceiling ts leaf c) ready (former, (rest, e, k)) = absurd (cc)
 goes-end sys a (AtPoint ev e ts leaf c) ready (rest, is, k) = absurd (cc)
-goes-end sys a (InCall way inner rest ts leaf c) ready h = absurd (rest-some sys a way inner rest (LeftGoes sys a way ts leaf) c ready.0 h)
+goes-end sys a (InCall way inner rest ts leaf c) ready h = absurd (rest-some sys a way inner rest (LeftGoes sys a anywhere way ts leaf) c ready.0 h)
 goes-end sys a (AtPost way rest ts leaf c) ready (more, is, k) = absurd (cc)
 goes-end sys a (Releasing e c) ready (rel, rest, inl (d, left, is), split, k) =
     let wrong : [] ≡ Tell (dropped e.pool e.block d e.name (suc left)) ∷ rest = split ∙ ap (λ zs. tell zs ++ rest) is in absurd (cc)
@@ -59,44 +59,44 @@ goes-end sys a (Returning p b d c) ready (n, (rest, is, k)) = absurd (cc)
 goes-end sys a Asserted ready h = refl
 
 -- and there it may
-pub end-goes : (sys : System) (a : Actor) (s : State) → is_end s ≡ true → Goes sys a s []
+pub end-goes : (sys : System) (a : Actor) (s : State) → is_end s ≡ true → Goes sys a anywhere s []
 unfolding Goes
-end-goes sys a (Between c) h = steps-none sys a c
+end-goes sys a (Between c) h = steps-none sys a anywhere c tt
 end-goes sys a Asserted h = refl
 end-goes sys a s h = absurd (cc)
 
 module _ (open_reads : OpenReads) (sys : System) (a : Actor) where
   -- what comes after the end of an action
-  ends-some : (way : Way) (ts : List Task) (leaf : ℕ) (c : Config) → AreAble sys way ts → IsWithin a c → (ps : List Piece) × Ends way (LeftGoes sys a way ts leaf c) ps
+  ends-some : (way : Way) (ts : List Task) (leaf : ℕ) (c : Config) → AreAble sys way ts → IsWithin a c → (ps : List Piece) × Ends way (LeftGoes sys a anywhere way ts leaf c) ps
   ends-some way ts leaf c able within = by way (left-some sys a way ts leaf c able within)
     where
-      by : (w : Way) → (ps : List Piece) × LeftGoes sys a way ts leaf c ps → (ps : List Piece) × Ends w (LeftGoes sys a way ts leaf c) ps
+      by : (w : Way) → (ps : List Piece) × LeftGoes sys a anywhere way ts leaf c ps → (ps : List Piece) × Ends w (LeftGoes sys a anywhere way ts leaf c) ps
       by Starting h = h
       by (Stepping ev e) h = (Point ∷ h.0, (h.0, refl, h.1))
 
   note-some : (way : Way) (ends : Bool) (ts : List Task) (leaf : ℕ) (c : Config) → AreAble sys way ts → IsWithin a c
-      → (ps : List Piece) × NoteEnds way ends (LeftGoes sys a way ts leaf c) ps
+      → (ps : List Piece) × NoteEnds way ends (LeftGoes sys a anywhere way ts leaf c) ps
   note-some way true ts leaf c able within = ends-some way ts leaf c able within
   note-some way false ts leaf c able within = left-some sys a way ts leaf c able within
 
   rest-goes : (way : Way) (inner : Bool) (rest : Rest) (ts : List Task) (leaf : ℕ) (c : Config) → AreAble sys way ts → CanGoOn sys a way rest
-      → (ps : List Piece) × RestGoes sys a way inner rest (LeftGoes sys a way ts leaf) c ps
+      → (ps : List Piece) × RestGoes sys a way inner rest (LeftGoes sys a anywhere way ts leaf) c ps
   unfolding RestGoes
   rest-goes way inner rest ts leaf c able can =
       let some = open_reads sys a.o (moment_of way).entry rest can.some in
       by some.0 some.1 some.2 some.3 (is_assertion some.0) refl
     where
       by : (answer : Answer) (kept : List Entry) (g : List Told) → Reads sys a.o (moment_of way).entry rest answer kept g → (b : Bool) → is_assertion answer ≡ b
-          → (ps : List Piece) × RestGoes sys a way inner rest (LeftGoes sys a way ts leaf) c ps
+          → (ps : List Piece) × RestGoes sys a way inner rest (LeftGoes sys a anywhere way ts leaf) c ps
       by answer kept g reads true is = (inner_pieces inner g, (answer, g, kept, reads, rw is refl))
       by answer kept g reads false is =
           let after = ends-some way ts leaf (record c { ok = ok_after answer c.ok; kept = kept }) able (can.within answer kept g reads) in
           (inner_pieces inner g ++ after.0, (answer, g, kept, reads, rw is (after.0, refl, after.1)))
 
   -- from a state that can go on something may come that ends the course
-  pub goes-some : (s : State) → IsReady sys a s → (ps : List Piece) × Goes sys a s ps
+  pub goes-some : (s : State) → IsReady sys a s → (ps : List Piece) × Goes sys a anywhere s ps
   unfolding Goes
-  goes-some (Between c) ready = ([], steps-none sys a c)
+  goes-some (Between c) ready = ([], steps-none sys a anywhere c tt)
   goes-some (Telling way n ends ts leaf c) ready =
       let rest = note-some way ends ts leaf c ready.0 ready.1 in (Tell (plain (body_of n)) ∷ rest.0, (rest.0, refl, rest.1))
   goes-some (Raising way ceiling ts leaf c) ready =
@@ -107,6 +107,6 @@ module _ (open_reads : OpenReads) (sys : System) (a : Actor) where
   goes-some (AtPost way rest ts leaf c) ready =
       let more = rest-goes way true rest ts leaf c ready.1 ready.0 in (Point ∷ more.0, (more.0, refl, more.1))
   goes-some (Releasing e c) ready =
-      (Tell (dropped e.pool e.block 0 e.name 1) ∷ [], (dropped e.pool e.block 0 e.name 1 ∷ [], [], inl (0, 0, refl), refl, steps-none sys a c))
-  goes-some (Returning p b d c) ready = (Tell (plain (item.Back p 0 b (d + 1))) ∷ [], (0, ([], refl, steps-none sys a c)))
+      (Tell (dropped e.pool e.block 0 e.name 1) ∷ [], (dropped e.pool e.block 0 e.name 1 ∷ [], [], inl (0, 0, refl), refl, steps-none sys a anywhere c tt))
+  goes-some (Returning p b d c) ready = (Tell (plain (item.Back p 0 b (d + 1))) ∷ [], (0, ([], refl, steps-none sys a anywhere c tt)))
   goes-some Asserted ready = ([], refl)

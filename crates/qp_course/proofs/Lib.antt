@@ -23,3 +23,6 @@ pub mod FewStateLemmas
 pub mod CanLemmas
 pub mod LoopLemmas
 pub mod AnswerLemmas
+pub mod QuietLemmas
+pub mod DoneLemmas
+pub mod StandingLemmas

@@ -19,15 +19,15 @@ use Rattle.qp_fits.specs.RestNext.{rest_next, stage_answer}
 use Rattle.qp_fits.specs.Reads.{Reads}
 use Rattle.qp_fits.specs.RestLaws.{ReadsBegin, ReadsWhole, ReadsNext}
 use Rattle.qp_course.specs.Note.{body_of}
-use Rattle.qp_course.specs.Goes.{Way, Stepping, moment_of, Ends, StepsGo, LeftGoes, StepGoes}
+use Rattle.qp_course.specs.Goes.{Aim, Way, Stepping, moment_of, Ends, StepsGo, LeftGoes, StepGoes}
 use Rattle.qp_course.specs.Machine.{State, Between, Telling, Raising, AtPoint, InCall, AtPost, Releasing, Returning, Asserted, inner_pieces, RestGoes, NoteEnds, Goes, resume, settle, noted, posted, step_state, tell_next, point_next, next, IsUnderWay}
 use Rattle.qp_course.proofs.NoteLemmas.{is-tells, is-raised, is-dropped, is-back}
 use Rattle.qp_course.proofs.CourseLemmas.{took-goes}
 use Rattle.qp_course.proofs.SettleLemmas.{into-settle, back-settle, into-resume, back-resume, into-done, back-done}
 
 -- the state behind a piece, and what may come from there
-abbrev pub Behind : System → Actor → State → Piece → List Piece → Type 0
-Behind sys a s p ps = (later : State) × (next sys a s p ≡ Some later) × Goes sys a later ps
+abbrev pub Behind : System → Actor → Aim → State → Piece → List Piece → Type 0
+Behind sys a aim s p ps = (later : State) × (next sys a s p ≡ Some later) × Goes sys a aim later ps
 
 -- an option that was mapped
 pub mapped : {X Y : Type 0} (f : X → Y) (o : Option X) (y : Y) → option_map f o ≡ Some y → (x : X) × (o ≡ Some x) × (f x ≡ y)
@@ -143,95 +143,95 @@ module _ (reads_next : ReadsNext) (sys : System) (a : Actor) (way : Way) (inner 
             join way later c answer kept (is_assertion answer) (Tell t) (inner_pieces inner g) (inner_pieces inner (t ∷ g)) ps shape k,
           )
 
-module _ (begin : ReadsBegin) (whole : ReadsWhole) (reads_next : ReadsNext) (sys : System) (a : Actor) where
+module _ (begin : ReadsBegin) (whole : ReadsWhole) (reads_next : ReadsNext) (sys : System) (a : Actor) (aim : Aim) where
   into-noted : (way : Way) (ends : Bool) (leaf : ℕ) (ts : List Task) (c : Config) (ps : List Piece)
-      → NoteEnds way ends (LeftGoes sys a way ts leaf c) ps → Goes sys a (noted a way ends leaf ts c) ps
-  into-noted way true leaf ts c ps h = into-done sys a way leaf ts (settle a way leaf ts) (λ d zs k. into-settle begin whole sys a way leaf ts d zs k) c ps h
-  into-noted way false leaf ts c ps h = into-settle begin whole sys a way leaf ts c ps h
+      → NoteEnds way ends (LeftGoes sys a aim way ts leaf c) ps → Goes sys a aim (noted a way ends leaf ts c) ps
+  into-noted way true leaf ts c ps h = into-done sys a aim way leaf ts (settle a way leaf ts) (λ d zs k. into-settle begin whole sys a aim way leaf ts d zs k) c ps h
+  into-noted way false leaf ts c ps h = into-settle begin whole sys a aim way leaf ts c ps h
 
   pub back-noted : (way : Way) (ends : Bool) (leaf : ℕ) (ts : List Task) (c : Config) (ps : List Piece)
-      → Goes sys a (noted a way ends leaf ts c) ps → NoteEnds way ends (LeftGoes sys a way ts leaf c) ps
-  back-noted way true leaf ts c ps h = back-done sys a way leaf ts (settle a way leaf ts) (λ d zs k. back-settle begin sys a way leaf ts d zs k) c ps h
-  back-noted way false leaf ts c ps h = back-settle begin sys a way leaf ts c ps h
+      → Goes sys a aim (noted a way ends leaf ts c) ps → NoteEnds way ends (LeftGoes sys a aim way ts leaf c) ps
+  back-noted way true leaf ts c ps h = back-done sys a aim way leaf ts (settle a way leaf ts) (λ d zs k. back-settle begin sys a aim way leaf ts d zs k) c ps h
+  back-noted way false leaf ts c ps h = back-settle begin sys a aim way leaf ts c ps h
 
   into-posted : (b : Bool) (way : Way) (inner : Bool) (rest : Rest) (leaf : ℕ) (ts : List Task) (c : Config) (ps : List Piece)
-      → MatchBool b ((more : List Piece) × (ps ≡ Point ∷ more) × RestGoes sys a way true rest (LeftGoes sys a way ts leaf) c more) (RestGoes sys a way inner rest (LeftGoes sys a way ts leaf) c ps)
-      → Goes sys a (posted b a way inner rest leaf ts c) ps
+      → MatchBool b ((more : List Piece) × (ps ≡ Point ∷ more) × RestGoes sys a way true rest (LeftGoes sys a aim way ts leaf) c more) (RestGoes sys a way inner rest (LeftGoes sys a aim way ts leaf) c ps)
+      → Goes sys a aim (posted b a way inner rest leaf ts c) ps
   unfolding Goes
   into-posted true way inner rest leaf ts c ps h = h
   into-posted false way inner rest leaf ts c ps h =
-      into-resume sys a way leaf ts (settle a way leaf ts) whole (λ d zs k. into-settle begin whole sys a way leaf ts d zs k) inner rest c ps h
+      into-resume sys a aim way leaf ts (settle a way leaf ts) whole (λ d zs k. into-settle begin whole sys a aim way leaf ts d zs k) inner rest c ps h
 
   pub back-posted : (b : Bool) (way : Way) (inner : Bool) (rest : Rest) (leaf : ℕ) (ts : List Task) (c : Config) (ps : List Piece)
-      → Goes sys a (posted b a way inner rest leaf ts c) ps
-      → MatchBool b ((more : List Piece) × (ps ≡ Point ∷ more) × RestGoes sys a way true rest (LeftGoes sys a way ts leaf) c more) (RestGoes sys a way inner rest (LeftGoes sys a way ts leaf) c ps)
+      → Goes sys a aim (posted b a way inner rest leaf ts c) ps
+      → MatchBool b ((more : List Piece) × (ps ≡ Point ∷ more) × RestGoes sys a way true rest (LeftGoes sys a aim way ts leaf) c more) (RestGoes sys a way inner rest (LeftGoes sys a aim way ts leaf) c ps)
   unfolding Goes
   back-posted true way inner rest leaf ts c ps h = h
   back-posted false way inner rest leaf ts c ps h =
-      back-resume sys a way leaf ts (settle a way leaf ts) (λ d zs k. back-settle begin sys a way leaf ts d zs k) inner rest c ps h
+      back-resume sys a aim way leaf ts (settle a way leaf ts) (λ d zs k. back-settle begin sys a aim way leaf ts d zs k) inner rest c ps h
 
-  into-step : (e : Entry) (ev : Event) (c : Config) (ps : List Piece) → StepGoes sys a ev e c ps → Goes sys a (step_state a e ev c) ps
+  into-step : (e : Entry) (ev : Event) (c : Config) (ps : List Piece) → StepGoes sys a aim ev e c ps → Goes sys a aim (step_state a e ev c) ps
   unfolding StepGoes step_state
   into-step e ev c ps h =
-      into-settle begin whole sys a (Stepping ev e) (step_plan a.chart c.leaf (names_of a c ev) ev.sig).leaf (step_plan a.chart c.leaf (names_of a c ev) ev.sig).tasks c ps h
+      into-settle begin whole sys a aim (Stepping ev e) (step_plan a.chart c.leaf (names_of a c ev) ev.sig).leaf (step_plan a.chart c.leaf (names_of a c ev) ev.sig).tasks c ps h
 
-  pub back-step : (e : Entry) (ev : Event) (c : Config) (ps : List Piece) → Goes sys a (step_state a e ev c) ps → StepGoes sys a ev e c ps
+  pub back-step : (e : Entry) (ev : Event) (c : Config) (ps : List Piece) → Goes sys a aim (step_state a e ev c) ps → StepGoes sys a aim ev e c ps
   unfolding StepGoes step_state
   back-step e ev c ps h =
-      back-settle begin sys a (Stepping ev e) (step_plan a.chart c.leaf (names_of a c ev) ev.sig).leaf (step_plan a.chart c.leaf (names_of a c ev) ev.sig).tasks c ps h
+      back-settle begin sys a aim (Stepping ev e) (step_plan a.chart c.leaf (names_of a c ev) ev.sig).leaf (step_plan a.chart c.leaf (names_of a c ev) ev.sig).tasks c ps h
 
   -- what comes first is what a piece makes of the state
-  pub goes-next : (s : State) (p : Piece) (ps : List Piece) → IsUnderWay s → Goes sys a s (p ∷ ps) → Behind sys a s p ps
+  pub goes-next : (s : State) (p : Piece) (ps : List Piece) → IsUnderWay s → Goes sys a aim s (p ∷ ps) → Behind sys a aim s p ps
   unfolding Goes next tell_next point_next
-  goes-next (Between c) p ps under h = by (took-goes sys a c p ps h)
+  goes-next (Between c) p ps under h = by (took-goes sys a aim c p ps h)
     where
-      by : (f l m : ℕ) × (e : Entry) × (ev : Event) × (p ≡ Tell (taken f l m e ev)) × StepGoes sys a ev e c ps → Behind sys a (Between c) p ps
+      by : (f l m : ℕ) × (e : Entry) × (ev : Event) × (p ≡ Tell (taken f l m e ev)) × StepGoes sys a aim ev e c ps → Behind sys a aim (Between c) p ps
       by (f, l, m, e, ev, is, k) =
-          subst (λ q. Behind sys a (Between c) q ps) (sym is) (step_state a e ev c, refl, into-step e ev c ps k)
+          subst (λ q. Behind sys a aim (Between c) q ps) (sym is) (step_state a e ev c, refl, into-step e ev c ps k)
   goes-next (Telling way n ends ts leaf c) p ps under (rest, e, k) =
       let is : p ≡ Tell (plain (body_of n)) = first-same e in
       let others : ps ≡ rest = rest-same e in
-      subst (λ q. Behind sys a (Telling way n ends ts leaf c) q ps) (sym is)
-      (noted a way ends leaf ts c, rw (is-tells n) refl, into-noted way ends leaf ts c ps (subst (NoteEnds way ends (LeftGoes sys a way ts leaf c)) (sym others) k))
+      subst (λ q. Behind sys a aim (Telling way n ends ts leaf c) q ps) (sym is)
+      (noted a way ends leaf ts c, rw (is-tells n) refl, into-noted way ends leaf ts c ps (subst (NoteEnds way ends (LeftGoes sys a aim way ts leaf c)) (sym others) k))
   goes-next (Raising way ceiling ts leaf c) p ps under (former, (rest, e, k)) =
       let is : p ≡ Tell (raised (max former ceiling) former) = first-same e in
       let others : ps ≡ rest = rest-same e in
-      subst (λ q. Behind sys a (Raising way ceiling ts leaf c) q ps) (sym is)
-      (settle a way leaf ts (record c { former = former }), rw (is-raised ceiling former) refl, into-settle begin whole sys a way leaf ts (record c { former = former }) ps (subst (LeftGoes sys a way ts leaf (record c { former = former })) (sym others) k))
+      subst (λ q. Behind sys a aim (Raising way ceiling ts leaf c) q ps) (sym is)
+      (settle a way leaf ts (record c { former = former }), rw (is-raised ceiling former) refl, into-settle begin whole sys a aim way leaf ts (record c { former = former }) ps (subst (LeftGoes sys a aim way ts leaf (record c { former = former })) (sym others) k))
   goes-next (AtPoint ev e ts leaf c) p ps under (rest, is, k) =
       let others : ps ≡ rest = rest-same is in
-      subst (λ q. Behind sys a (AtPoint ev e ts leaf c) q ps) (sym (first-same is))
-      (settle a (Stepping ev e) leaf ts c, refl, into-settle begin whole sys a (Stepping ev e) leaf ts c ps (subst (LeftGoes sys a (Stepping ev e) ts leaf c) (sym others) k))
+      subst (λ q. Behind sys a aim (AtPoint ev e ts leaf c) q ps) (sym (first-same is))
+      (settle a (Stepping ev e) leaf ts c, refl, into-settle begin whole sys a aim (Stepping ev e) leaf ts c ps (subst (LeftGoes sys a aim (Stepping ev e) ts leaf c) (sym others) k))
   goes-next (InCall way inner rest ts leaf c) p ps under h =
-      by (rest-first reads_next sys a way inner rest (LeftGoes sys a way ts leaf) c p ps under h)
+      by (rest-first reads_next sys a way inner rest (LeftGoes sys a aim way ts leaf) c p ps under h)
     where
       by : (t : Told) × (more : Rest) × (p ≡ Tell t) × (rest_next sys a.o (moment_of way).entry rest t ≡ Some more)
-          × RestBehind reads_next sys a way inner rest (LeftGoes sys a way ts leaf) c t more ps → Behind sys a (InCall way inner rest ts leaf c) p ps
+          × RestBehind reads_next sys a way inner rest (LeftGoes sys a aim way ts leaf) c t more ps → Behind sys a aim (InCall way inner rest ts leaf c) p ps
       by (t, more, is, left, k) =
-          subst (λ q. Behind sys a (InCall way inner rest ts leaf c) q ps) (sym is) (
+          subst (λ q. Behind sys a aim (InCall way inner rest ts leaf c) q ps) (sym is) (
             posted (inner && is_post t.body) a way inner more leaf ts (record c { kept = more.kept }),
             rw left refl,
             into-posted (inner && is_post t.body) way inner more leaf ts (record c { kept = more.kept }) ps k,
           )
   goes-next (AtPost way rest ts leaf c) p ps under (more, is, k) =
       let others : ps ≡ more = rest-same is in
-      subst (λ q. Behind sys a (AtPost way rest ts leaf c) q ps) (sym (first-same is)) (
+      subst (λ q. Behind sys a aim (AtPost way rest ts leaf c) q ps) (sym (first-same is)) (
         resume way true rest leaf ts (settle a way leaf ts) c,
         refl,
-        into-resume sys a way leaf ts (settle a way leaf ts) whole (λ d zs k. into-settle begin whole sys a way leaf ts d zs k) true rest c ps
-            (subst (RestGoes sys a way true rest (LeftGoes sys a way ts leaf) c) (sym others) k),
+        into-resume sys a aim way leaf ts (settle a way leaf ts) whole (λ d zs k. into-settle begin whole sys a aim way leaf ts d zs k) true rest c ps
+            (subst (RestGoes sys a way true rest (LeftGoes sys a aim way ts leaf) c) (sym others) k),
       )
   goes-next (Releasing e c) p ps under (rel, rest, inl (d, left, is), split, k) =
       let whole_list : p ∷ ps ≡ Tell (dropped e.pool e.block d e.name (suc left)) ∷ rest = split ∙ ap (λ zs. tell zs ++ rest) is in
       let others : ps ≡ rest = rest-same whole_list in
-      subst (λ q. Behind sys a (Releasing e c) q ps) (sym (first-same whole_list))
-      (Between c, rw (is-dropped e d (suc left)) refl, subst (StepsGo sys a c) (sym others) k)
+      subst (λ q. Behind sys a aim (Releasing e c) q ps) (sym (first-same whole_list))
+      (Between c, rw (is-dropped e d (suc left)) refl, subst (StepsGo sys a aim c) (sym others) k)
   goes-next (Releasing e c) p ps under (rel, rest, inr (d, n, is), split, k) =
       let whole_list : p ∷ ps ≡ Tell (dropped e.pool e.block d e.name 0) ∷ Tell (plain (item.Back e.pool n e.block (d + 1))) ∷ rest = split ∙ ap (λ zs. tell zs ++ rest) is in
-      subst (λ q. Behind sys a (Releasing e c) q ps) (sym (first-same whole_list))
+      subst (λ q. Behind sys a aim (Releasing e c) q ps) (sym (first-same whole_list))
       (Returning e.pool e.block d c, rw (is-dropped e d 0) refl, (n, (rest, rest-same whole_list, k)))
   goes-next (Returning p b d c) q ps under (n, (rest, is, k)) =
       let others : ps ≡ rest = rest-same is in
-      subst (λ r. Behind sys a (Returning p b d c) r ps) (sym (first-same is))
-      (Between c, rw (is-back p b d n) refl, subst (StepsGo sys a c) (sym others) k)
+      subst (λ r. Behind sys a aim (Returning p b d c) r ps) (sym (first-same is))
+      (Between c, rw (is-back p b d n) refl, subst (StepsGo sys a aim c) (sym others) k)
   goes-next Asserted p ps under h = absurd (cc)

@@ -12,7 +12,7 @@ use Rattle.qp_model.specs.Acts.{Config, Actor, names_of}
 use Rattle.qp_fits.specs.Rest.{Stage, Whole, Rest}
 use Rattle.qp_fits.specs.RestNext.{rest_begin, stage_answer}
 use Rattle.qp_fits.specs.RestLaws.{ReadsBegin, ReadsWhole, ReadsNext}
-use Rattle.qp_course.specs.Goes.{Way, Starting, Stepping, moment_of}
+use Rattle.qp_course.specs.Goes.{Aim, Way, Starting, Stepping, moment_of}
 use Rattle.qp_course.specs.Machine.{State, Between, Telling, Raising, AtPoint, InCall, AtPost, Releasing, Returning, Asserted, Goes, has_inner, answered, resumed, resume, deed_state, task_state, closed, closing, settle, point_next, next, expects_point}
 use Rattle.qp_course.specs.Passing.{through, settle_past, pass_actions, pass}
 use Rattle.qp_course.proofs.BackLemmas.{next-goes, some-first}
@@ -175,34 +175,34 @@ module _ (a : Actor) where
   pass-point (AtPost way rest ts leaf c) later h = ap (pass a) (sym (some-first h)) ∙ resume-plain way true rest ts leaf c
   pass-point s later h = absurd (cc)
 
-module _ (begin : ReadsBegin) (whole : ReadsWhole) (reads_next : ReadsNext) (sys : System) (a : Actor) where
+module _ (begin : ReadsBegin) (whole : ReadsWhole) (reads_next : ReadsNext) (sys : System) (a : Actor) (aim : Aim) where
   -- what may come behind points may come with points before it
   abbrev Unpassed : State → List Piece → Type 0
-  Unpassed s zs = (us : List Piece) × (bare us ≡ []) × Goes sys a s (us ++ zs)
+  Unpassed s zs = (us : List Piece) × (bare us ≡ []) × Goes sys a aim s (us ++ zs)
 
   point-before : (s later : State) (zs : List Piece) → next sys a s Point ≡ Some later → Unpassed later zs → Unpassed s zs
   unfolding bare
-  point-before s later zs is (us, none, k) = (Point ∷ us, none, next-goes begin whole reads_next sys a s Point (us ++ zs) later is k)
+  point-before s later zs is (us, none, k) = (Point ∷ us, none, next-goes begin whole reads_next sys a aim s Point (us ++ zs) later is k)
 
-  unsettle : (ev : Event) (e : Entry) (leaf : ℕ) (ts : List Task) (c : Config) (zs : List Piece) → Goes sys a (settle_past a ev e leaf ts c) zs
+  unsettle : (ev : Event) (e : Entry) (leaf : ℕ) (ts : List Task) (c : Config) (zs : List Piece) → Goes sys a aim (settle_past a ev e leaf ts c) zs
       → Unpassed (settle a (Stepping ev e) leaf ts c) zs
   unfolding settle_past settle next point_next bare
   unsettle ev e leaf [] c zs h = ([], refl, h)
   unsettle ev e leaf (t ∷ ts) c zs h = by (λ d k. unsettle ev e leaf ts d zs k) (settle a (Stepping ev e) leaf (t ∷ ts) c) (settle-shape a ev e leaf t ts c) h
     where
-      by : ((d : Config) → Goes sys a (settle_past a ev e leaf ts d) zs → Unpassed (settle a (Stepping ev e) leaf ts d) zs) → (s : State) → Shape ev e leaf ts s
-          → Goes sys a (through s (λ d. settle_past a ev e leaf ts d)) zs → Unpassed s zs
+      by : ((d : Config) → Goes sys a aim (settle_past a ev e leaf ts d) zs → Unpassed (settle a (Stepping ev e) leaf ts d) zs) → (s : State) → Shape ev e leaf ts s
+          → Goes sys a aim (through s (λ d. settle_past a ev e leaf ts d)) zs → Unpassed s zs
       by more s (inl (d, is)) k =
-          let here : Goes sys a (settle_past a ev e leaf ts d) zs = subst (λ x. Goes sys a (through x (λ d. settle_past a ev e leaf ts d)) zs) is k in
+          let here : Goes sys a aim (settle_past a ev e leaf ts d) zs = subst (λ x. Goes sys a aim (through x (λ d. settle_past a ev e leaf ts d)) zs) is k in
           subst (λ x. Unpassed x zs) (sym is) (point-before (AtPoint ev e ts leaf d) (settle a (Stepping ev e) leaf ts d) zs refl (more d here))
-      by more s (inr none) k = ([], refl, subst (λ x. Goes sys a x zs) (through-none a s (λ d. settle_past a ev e leaf ts d) none) k)
+      by more s (inr none) k = ([], refl, subst (λ x. Goes sys a aim x zs) (through-none a s (λ d. settle_past a ev e leaf ts d) none) k)
 
-  unpass-actions : (s : State) (zs : List Piece) → Goes sys a (pass_actions a s) zs → Unpassed s zs
+  unpass-actions : (s : State) (zs : List Piece) → Goes sys a aim (pass_actions a s) zs → Unpassed s zs
   unfolding pass_actions next point_next bare
   unpass-actions (AtPoint ev e ts leaf c) zs h = point-before (AtPoint ev e ts leaf c) (settle a (Stepping ev e) leaf ts c) zs refl (unsettle ev e leaf ts c zs h)
   unpass-actions s zs h = ([], refl, h)
 
-  pub unpass : (s : State) (zs : List Piece) → Goes sys a (pass a s) zs → Unpassed s zs
+  pub unpass : (s : State) (zs : List Piece) → Goes sys a aim (pass a s) zs → Unpassed s zs
   unfolding pass next point_next
   unpass (AtPost way rest ts leaf c) zs h =
       point-before (AtPost way rest ts leaf c) (resume way true rest leaf ts (settle a way leaf ts) c) zs refl

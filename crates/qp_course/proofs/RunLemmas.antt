@@ -9,7 +9,7 @@ use Rattle.qp_model.specs.Acts.{Config, Actor}
 use Rattle.qp_model.specs.Course.{Cut, Whole, Stopped, Anywhere}
 use Rattle.qp_fits.specs.RestLaws.{ReadsBegin, ReadsWhole, ReadsNext, OpenBegin, OpenNext, OpenReads}
 use Rattle.qp_chart.specs.Agenda.{start_plan}
-use Rattle.qp_course.specs.Goes.{Starting, CourseGoes}
+use Rattle.qp_course.specs.Goes.{anywhere, Starting, CourseGoes}
 use Rattle.qp_course.specs.Machine.{State, Between, Telling, Raising, AtPoint, InCall, AtPost, Releasing, Returning, Asserted, Goes, start_state, point_next, next, run, is_end, expects_point, IsUnderWay}
 use Rattle.qp_course.specs.Ready.{IsReady}
 use Rattle.qp_course.specs.Decided.{ends_well}
@@ -38,7 +38,7 @@ point-expected a (AtPost way rest ts leaf c) later h = refl
 point-expected a s later h = absurd (cc)
 
 -- where a point is expected, nothing else may come
-pub expected-point : (sys : System) (a : Actor) (s : State) (ps : List Piece) → expects_point s ≡ true → Goes sys a s ps → begins_at_point ps ≡ true
+pub expected-point : (sys : System) (a : Actor) (s : State) (ps : List Piece) → expects_point s ≡ true → Goes sys a anywhere s ps → begins_at_point ps ≡ true
 unfolding Goes
 expected-point sys a (AtPoint ev e ts leaf c) ps h (rest, is, k) = ap begins_at_point is
 expected-point sys a (AtPost way rest ts leaf c) ps h (more, is, k) = ap begins_at_point is
@@ -58,25 +58,25 @@ or-right false y h = h
 module _ (begin : ReadsBegin) (whole : ReadsWhole) (reads_next : ReadsNext) (first : OpenBegin) (open_next : OpenNext) (open_reads : OpenReads)
     (sys : System) (a : Actor) (able : chart_able sys a.chart ≡ true) where
   -- pieces at the front of what may come are read
-  pub goes-run : (ps back : List Piece) (s : State) → IsReady sys a s → Goes sys a s (ps ++ back)
-      → (later : State) × (run sys a s ps ≡ Some later) × IsReady sys a later × Goes sys a later back
+  pub goes-run : (ps back : List Piece) (s : State) → IsReady sys a s → Goes sys a anywhere s (ps ++ back)
+      → (later : State) × (run sys a s ps ≡ Some later) × IsReady sys a later × Goes sys a anywhere later back
   unfolding run
   goes-run [] back s ready h = (s, refl, ready, h)
   goes-run (p ∷ ps) back s ready h =
-      let step = goes-next begin whole reads_next sys a s p (ps ++ back) (under sys a s ready) h in
+      let step = goes-next begin whole reads_next sys a anywhere s p (ps ++ back) (under sys a s ready) h in
       let rest = goes-run ps back step.0 (ready-next begin reads_next first open_next sys a able s p step.0 step.1 ready) step.2 in
       (rest.0, ap (λ o. option_and_then (λ later. run sys a later ps) o) step.1 ∙ rest.1, rest.2, rest.3)
 
   -- and back
-  pub run-goes : (ps back : List Piece) (s later : State) → run sys a s ps ≡ Some later → Goes sys a later back → Goes sys a s (ps ++ back)
+  pub run-goes : (ps back : List Piece) (s later : State) → run sys a s ps ≡ Some later → Goes sys a anywhere later back → Goes sys a anywhere s (ps ++ back)
   unfolding run
-  run-goes [] back s later e h = subst (λ x. Goes sys a x back) (sym (some-first e)) h
+  run-goes [] back s later e h = subst (λ x. Goes sys a anywhere x back) (sym (some-first e)) h
   run-goes (p ∷ ps) back s later e h = by (λ mid k. run-goes ps back mid later k h) (next sys a s p) refl e
     where
-      by : ((mid : State) → run sys a mid ps ≡ Some later → Goes sys a mid (ps ++ back)) → (o : Option State) → next sys a s p ≡ o
-          → option_and_then (λ x. run sys a x ps) o ≡ Some later → Goes sys a s (p ∷ (ps ++ back))
+      by : ((mid : State) → run sys a mid ps ≡ Some later → Goes sys a anywhere mid (ps ++ back)) → (o : Option State) → next sys a s p ≡ o
+          → option_and_then (λ x. run sys a x ps) o ≡ Some later → Goes sys a anywhere s (p ∷ (ps ++ back))
       by more None is k = absurd (cc)
-      by more (Some mid) is k = next-goes begin whole reads_next sys a s p (ps ++ back) mid is (more mid k)
+      by more (Some mid) is k = next-goes begin whole reads_next sys a anywhere s p (ps ++ back) mid is (more mid k)
 
   -- a state that was read to can go on
   pub run-ready : (ps : List Piece) (s later : State) → IsReady sys a s → run sys a s ps ≡ Some later → IsReady sys a later
@@ -90,38 +90,38 @@ module _ (begin : ReadsBegin) (whole : ReadsWhole) (reads_next : ReadsNext) (fir
       by more (Some mid) is k = more mid (ready-next begin reads_next first open_next sys a able s p mid is ready) k
 
   -- what may come from a state of a list that stopped there
-  pub stops-here : (s : State) (back : List Piece) → IsReady sys a s → Goes sys a s back → begins_at_point back ≡ true → (is_end s || expects_point s) ≡ true
+  pub stops-here : (s : State) (back : List Piece) → IsReady sys a s → Goes sys a anywhere s back → begins_at_point back ≡ true → (is_end s || expects_point s) ≡ true
   unfolding next
   stops-here s [] ready h at = or-left (is_end s) (expects_point s) (goes-end sys a s ready h)
   stops-here s (Point ∷ back) ready h at =
-      let step = goes-next begin whole reads_next sys a s Point back (under sys a s ready) h in
+      let step = goes-next begin whole reads_next sys a anywhere s Point back (under sys a s ready) h in
       or-right (is_end s) (expects_point s) (point-expected a s step.0 step.1)
   stops-here s (Tell t ∷ back) ready h at = absurd (cc)
 
-  pub here-stops : (s : State) → IsReady sys a s → (is_end s || expects_point s) ≡ true → (back : List Piece) × Goes sys a s back × (begins_at_point back ≡ true)
+  pub here-stops : (s : State) → IsReady sys a s → (is_end s || expects_point s) ≡ true → (back : List Piece) × Goes sys a anywhere s back × (begins_at_point back ≡ true)
   here-stops s ready h = by (either (is_end s) (expects_point s) h)
     where
-      by : (is_end s ≡ true) ⊎ (expects_point s ≡ true) → (back : List Piece) × Goes sys a s back × (begins_at_point back ≡ true)
+      by : (is_end s ≡ true) ⊎ (expects_point s ≡ true) → (back : List Piece) × Goes sys a anywhere s back × (begins_at_point back ≡ true)
       by (inl k) = ([], end-goes sys a s k, refl)
       by (inr k) = let some = goes-some open_reads sys a s ready in (some.0, some.1, expected-point sys a s some.0 k some.1)
 
   module _ (c : Config) (within : length c.kept ≤ a.room) where
-    pub start-into : (ps : List Piece) → CourseGoes sys a c ps → Goes sys a (start_state a c) ps
+    pub start-into : (ps : List Piece) → CourseGoes sys a anywhere c ps → Goes sys a anywhere (start_state a c) ps
     unfolding CourseGoes start_state
-    start-into ps h = into-settle begin whole sys a Starting (start_plan a.chart).leaf (start_plan a.chart).tasks c ps h
+    start-into ps h = into-settle begin whole sys a anywhere Starting (start_plan a.chart).leaf (start_plan a.chart).tasks c ps h
 
-    pub start-back : (ps : List Piece) → Goes sys a (start_state a c) ps → CourseGoes sys a c ps
+    pub start-back : (ps : List Piece) → Goes sys a anywhere (start_state a c) ps → CourseGoes sys a anywhere c ps
     unfolding CourseGoes start_state
-    start-back ps h = back-settle begin sys a Starting (start_plan a.chart).leaf (start_plan a.chart).tasks c ps h
+    start-back ps h = back-settle begin sys a anywhere Starting (start_plan a.chart).leaf (start_plan a.chart).tasks c ps h
 
     pub begun : IsReady sys a (start_state a c)
     begun = ready-start begin reads_next first open_next sys a able c within
 
     -- a list that may be cut so
     unfoldable pub Fronts : Cut → List Piece → Type 0
-    Fronts Whole ps = CourseGoes sys a c ps
-    Fronts Stopped ps = (back : List Piece) × CourseGoes sys a c (ps ++ back) × (IsTrue (ends_at_point ps) ⊎ IsTrue (begins_at_point back))
-    Fronts Anywhere ps = (back : List Piece) × CourseGoes sys a c (ps ++ back)
+    Fronts Whole ps = CourseGoes sys a anywhere c ps
+    Fronts Stopped ps = (back : List Piece) × CourseGoes sys a anywhere c (ps ++ back) × (IsTrue (ends_at_point ps) ⊎ IsTrue (begins_at_point back))
+    Fronts Anywhere ps = (back : List Piece) × CourseGoes sys a anywhere c (ps ++ back)
 
     -- its states read it
     pub fronts-well : (cut : Cut) (ps : List Piece) → Fronts cut ps → ends_well cut (ends_at_point ps) (run sys a (start_state a c) ps) ≡ true
@@ -133,7 +133,7 @@ module _ (begin : ReadsBegin) (whole : ReadsWhole) (reads_next : ReadsNext) (fir
         let read = goes-run ps back (start_state a c) begun (start-into (ps ++ back) h) in
         ap (ends_well Stopped (ends_at_point ps)) read.1 ∙ by read.0 read.2 read.3 at
       where
-        by : (later : State) → IsReady sys a later → Goes sys a later back → IsTrue (ends_at_point ps) ⊎ IsTrue (begins_at_point back)
+        by : (later : State) → IsReady sys a later → Goes sys a anywhere later back → IsTrue (ends_at_point ps) ⊎ IsTrue (begins_at_point back)
             → (ends_at_point ps || (is_end later || expects_point later)) ≡ true
         by later ready k (inl front) = or-left (ends_at_point ps) (is_end later || expects_point later) front
         by later ready k (inr behind) = or-right (ends_at_point ps) (is_end later || expects_point later) (stops-here later back ready k behind)
@@ -146,7 +146,7 @@ module _ (begin : ReadsBegin) (whole : ReadsWhole) (reads_next : ReadsNext) (fir
     unfolding Fronts
     well-fronts cut ps h = by cut (run sys a (start_state a c) ps) refl h
       where
-        front : (later : State) (back : List Piece) → run sys a (start_state a c) ps ≡ Some later → Goes sys a later back → CourseGoes sys a c (ps ++ back)
+        front : (later : State) (back : List Piece) → run sys a (start_state a c) ps ≡ Some later → Goes sys a anywhere later back → CourseGoes sys a anywhere c (ps ++ back)
         front later back e k = start-back (ps ++ back) (run-goes ps back (start_state a c) later e k)
 
         stopped : (later : State) → run sys a (start_state a c) ps ≡ Some later → (ends_at_point ps ≡ true) ⊎ ((is_end later || expects_point later) ≡ true) → Fronts Stopped ps

@@ -12,7 +12,7 @@ use Rattle.qp_model.specs.Acts.{Config, Actor}
 use Rattle.qp_model.specs.Course.{Cut, Whole, Stopped, Anywhere}
 use Rattle.qp_model.proofs.GroupLemmas.{bare-append}
 use Rattle.qp_fits.specs.RestLaws.{ReadsBegin, ReadsWhole, ReadsNext, OpenBegin, OpenNext, OpenReads}
-use Rattle.qp_course.specs.Goes.{Stepping}
+use Rattle.qp_course.specs.Goes.{Aim, anywhere, Stepping}
 use Rattle.qp_course.specs.Machine.{State, Between, Telling, Raising, AtPoint, InCall, AtPost, Releasing, Returning, Asserted, Goes, settle, resume, start_state, tell_next, point_next, next, is_end, expects_point}
 use Rattle.qp_course.specs.Ready.{AreAble, IsWithin, IsReady}
 use Rattle.qp_course.specs.Passing.{through, settle_past, pass_actions, pass, run_told, is_none_told, may_end_told, told_well}
@@ -96,45 +96,45 @@ module _ (begin : ReadsBegin) (whole : ReadsWhole) (reads_next : ReadsNext) (fir
   ready-pass Asserted ready = tt
 
   -- a point at the front is read
-  point-read : (s : State) (zs : List Piece) → IsReady sys a s → Goes sys a s (Point ∷ zs)
-      → (later : State) × IsReady sys a later × Goes sys a later zs × (pass a later ≡ pass a s) × (expects_point s ≡ true)
+  point-read : (s : State) (zs : List Piece) → IsReady sys a s → Goes sys a anywhere s (Point ∷ zs)
+      → (later : State) × IsReady sys a later × Goes sys a anywhere later zs × (pass a later ≡ pass a s) × (expects_point s ≡ true)
   unfolding next
   point-read s zs ready h =
-      let step = goes-next begin whole reads_next sys a s Point zs (under sys a s ready) h in
+      let step = goes-next begin whole reads_next sys a anywhere s Point zs (under sys a s ready) h in
       (step.0, ready-next begin reads_next first open_next sys a able s Point step.0 step.1 ready, step.2, pass-point a s step.0 step.1, point-expected a s step.0 step.1)
 
   -- what comes before the next record are points, which are passed
-  skip : (ps : List Piece) (t : Told) (g : List Told) (back : List Piece) (s : State) → bare ps ≡ t ∷ g → IsReady sys a s → Goes sys a s (ps ++ back)
-      → (rest : List Piece) × (bare rest ≡ g) × Goes sys a (pass a s) (Tell t ∷ (rest ++ back)) × (ends_at_point ps ≡ ends_at_point (Tell t ∷ rest))
+  skip : (ps : List Piece) (t : Told) (g : List Told) (back : List Piece) (s : State) → bare ps ≡ t ∷ g → IsReady sys a s → Goes sys a anywhere s (ps ++ back)
+      → (rest : List Piece) × (bare rest ≡ g) × Goes sys a anywhere (pass a s) (Tell t ∷ (rest ++ back)) × (ends_at_point ps ≡ ends_at_point (Tell t ∷ rest))
   unfolding bare
   skip [] t g back s e ready h = absurd (cc)
   skip (Point ∷ ps) t g back s e ready h =
       let read = point-read s (ps ++ back) ready h in
       let more = skip ps t g back read.0 e read.1 read.2 in
-      (more.0, more.1, subst (λ x. Goes sys a x (Tell t ∷ (more.0 ++ back))) read.3 more.2, ends-cons Point ps t g e ∙ more.3)
+      (more.0, more.1, subst (λ x. Goes sys a anywhere x (Tell t ∷ (more.0 ++ back))) read.3 more.2, ends-cons Point ps t g e ∙ more.3)
   skip (Tell u ∷ ps) t g back s e ready h = by (expects_point s) refl
     where
       same : Tell u ≡ Tell t
       same = ap Tell (head-same e)
 
       by : (b : Bool) → expects_point s ≡ b
-          → (rest : List Piece) × (bare rest ≡ g) × Goes sys a (pass a s) (Tell t ∷ (rest ++ back)) × (ends_at_point (Tell u ∷ ps) ≡ ends_at_point (Tell t ∷ rest))
+          → (rest : List Piece) × (bare rest ≡ g) × Goes sys a anywhere (pass a s) (Tell t ∷ (rest ++ back)) × (ends_at_point (Tell u ∷ ps) ≡ ends_at_point (Tell t ∷ rest))
       by true is = let wrong = expected-point sys a s (Tell u ∷ (ps ++ back)) is h in absurd (cc)
       by false is = (
         ps,
         tail-same e,
-        subst (λ x. Goes sys a x (Tell t ∷ (ps ++ back))) (sym (pass-none a s is)) (subst (λ p. Goes sys a s (p ∷ (ps ++ back))) same h),
+        subst (λ x. Goes sys a anywhere x (Tell t ∷ (ps ++ back))) (sym (pass-none a s is)) (subst (λ p. Goes sys a anywhere s (p ∷ (ps ++ back))) same h),
         ap (λ p. ends_at_point (p ∷ ps)) same,
       )
 
   -- records at the front of what may come are read
-  pub goes-told : (g : List Told) (ps back : List Piece) (s : State) → bare ps ≡ g → IsReady sys a s → Goes sys a s (ps ++ back)
-      → (later : State) × (tail : List Piece) × (run_told sys a s g ≡ Some later) × IsReady sys a later × (bare tail ≡ []) × Goes sys a later (tail ++ back) × Fact g ps tail
+  pub goes-told : (g : List Told) (ps back : List Piece) (s : State) → bare ps ≡ g → IsReady sys a s → Goes sys a anywhere s (ps ++ back)
+      → (later : State) × (tail : List Piece) × (run_told sys a s g ≡ Some later) × IsReady sys a later × (bare tail ≡ []) × Goes sys a anywhere later (tail ++ back) × Fact g ps tail
   unfolding run_told next
   goes-told [] ps back s e ready h = (s, ps, refl, ready, e, h, refl)
   goes-told (t ∷ g) ps back s e ready h =
       let cut = skip ps t g back s e ready h in
-      let step = goes-next begin whole reads_next sys a (pass a s) (Tell t) (cut.0 ++ back) (under sys a (pass a s) (ready-pass s ready)) cut.2 in
+      let step = goes-next begin whole reads_next sys a anywhere (pass a s) (Tell t) (cut.0 ++ back) (under sys a (pass a s) (ready-pass s ready)) cut.2 in
       let rest = goes-told g cut.0 back step.0 cut.1 (ready-next begin reads_next first open_next sys a able (pass a s) (Tell t) step.0 step.1 (ready-pass s ready)) step.2 in
       (rest.0, rest.1, ap (λ o. option_and_then (λ later. run_told sys a later g) o) step.1 ∙ rest.2, rest.3, rest.4, rest.5, fact g cut.0 rest.1 cut.1 rest.4 cut.3 rest.6)
     where
@@ -145,23 +145,23 @@ module _ (begin : ReadsBegin) (whole : ReadsWhole) (reads_next : ReadsNext) (fir
       fact (u ∷ g) rest tail is none same f ends = f (sym (ends-cons (Tell t) rest u g is) ∙ sym same ∙ ends)
 
   -- and back
-  pub told-goes : (g : List Told) (s later : State) (back : List Piece) → run_told sys a s g ≡ Some later → Goes sys a later back
-      → (ps : List Piece) × (bare ps ≡ g) × Goes sys a s (ps ++ back)
+  pub told-goes : (aim : Aim) (g : List Told) (s later : State) (back : List Piece) → run_told sys a s g ≡ Some later → Goes sys a aim later back
+      → (ps : List Piece) × (bare ps ≡ g) × Goes sys a aim s (ps ++ back)
   unfolding run_told next bare
-  told-goes [] s later back e h = ([], refl, subst (λ x. Goes sys a x back) (sym (some-first e)) h)
-  told-goes (t ∷ g) s later back e h = by (λ mid k. told-goes g mid later back k h) (tell_next sys a (pass a s) t) refl e
+  told-goes aim [] s later back e h = ([], refl, subst (λ x. Goes sys a aim x back) (sym (some-first e)) h)
+  told-goes aim (t ∷ g) s later back e h = by (λ mid k. told-goes aim g mid later back k h) (tell_next sys a (pass a s) t) refl e
     where
-      by : ((mid : State) → run_told sys a mid g ≡ Some later → (ps : List Piece) × (bare ps ≡ g) × Goes sys a mid (ps ++ back))
+      by : ((mid : State) → run_told sys a mid g ≡ Some later → (ps : List Piece) × (bare ps ≡ g) × Goes sys a aim mid (ps ++ back))
           → (o : Option State) → tell_next sys a (pass a s) t ≡ o → option_and_then (λ x. run_told sys a x g) o ≡ Some later
-          → (ps : List Piece) × (bare ps ≡ t ∷ g) × Goes sys a s (ps ++ back)
+          → (ps : List Piece) × (bare ps ≡ t ∷ g) × Goes sys a aim s (ps ++ back)
       by more None is k = absurd (cc)
       by more (Some mid) is k =
           let rest = more mid k in
-          let here = next-goes begin whole reads_next sys a (pass a s) (Tell t) (rest.0 ++ back) mid is rest.2 in
-          let before = unpass begin whole reads_next sys a s (Tell t ∷ (rest.0 ++ back)) here in (
+          let here = next-goes begin whole reads_next sys a aim (pass a s) (Tell t) (rest.0 ++ back) mid is rest.2 in
+          let before = unpass begin whole reads_next sys a aim s (Tell t ∷ (rest.0 ++ back)) here in (
             before.0 ++ (Tell t ∷ rest.0),
             bare-append before.0 (Tell t ∷ rest.0) ∙ ap (λ us. us ++ (t ∷ bare rest.0)) before.1 ∙ ap (λ us. t ∷ us) rest.1,
-            subst (Goes sys a s) (sym (append_assoc before.0 (Tell t ∷ rest.0) back)) before.2,
+            subst (Goes sys a aim s) (sym (append_assoc before.0 (Tell t ∷ rest.0) back)) before.2,
           )
 
   -- a state that was read to can go on
@@ -176,7 +176,7 @@ module _ (begin : ReadsBegin) (whole : ReadsWhole) (reads_next : ReadsNext) (fir
       by more (Some mid) is k = more mid (ready-next begin reads_next first open_next sys a able (pass a s) (Tell t) mid is (ready-pass s ready)) k
 
   -- points alone lead to an end only where passing them does
-  tail-end : (tail : List Piece) (s : State) → bare tail ≡ [] → IsReady sys a s → Goes sys a s tail → is_end (pass a s) ≡ true
+  tail-end : (tail : List Piece) (s : State) → bare tail ≡ [] → IsReady sys a s → Goes sys a anywhere s tail → is_end (pass a s) ≡ true
   unfolding bare
   tail-end [] s e ready h = let is = goes-end sys a s ready h in ap is_end (pass-none a s (end-none s is)) ∙ is
   tail-end (Point ∷ us) s e ready h =
@@ -184,7 +184,7 @@ module _ (begin : ReadsBegin) (whole : ReadsWhole) (reads_next : ReadsNext) (fir
   tail-end (Tell t ∷ us) s e ready h = absurd (cc)
 
   -- behind points, what comes at a point comes at one
-  tail-stops : (tail back : List Piece) (s : State) → bare tail ≡ [] → IsReady sys a s → Goes sys a s (tail ++ back) → begins_at_point back ≡ true → (is_end s || expects_point s) ≡ true
+  tail-stops : (tail back : List Piece) (s : State) → bare tail ≡ [] → IsReady sys a s → Goes sys a anywhere s (tail ++ back) → begins_at_point back ≡ true → (is_end s || expects_point s) ≡ true
   unfolding bare
   tail-stops [] back s e ready h at = stops-here begin whole reads_next first open_next open_reads sys a able s back ready h at
   tail-stops (Point ∷ us) back s e ready h at = or-right (is_end s) (expects_point s) (point-read s (us ++ back) ready h).4
@@ -208,12 +208,12 @@ module _ (begin : ReadsBegin) (whole : ReadsWhole) (reads_next : ReadsNext) (fir
         (start-into begin whole reads_next first open_next open_reads sys a able c within (ps ++ back) h) in
         ap (told_well a Stopped (is_none_told g)) read.2 ∙ by g read.0 read.1 read.3 read.4 read.5 read.6 at
       where
-        by : (g : List Told) (later : State) (tail : List Piece) → IsReady sys a later → bare tail ≡ [] → Goes sys a later (tail ++ back) → Fact g ps tail
+        by : (g : List Told) (later : State) (tail : List Piece) → IsReady sys a later → bare tail ≡ [] → Goes sys a anywhere later (tail ++ back) → Fact g ps tail
             → IsTrue (ends_at_point ps) ⊎ IsTrue (begins_at_point back) → (is_none_told g || (is_end later || expects_point later)) ≡ true
         by [] later tail ready none k f at = refl
         by (t ∷ g) later tail ready none k f (inl front) =
             let left = f front in
-            let point : Goes sys a later (Point ∷ (left.0 ++ back)) = subst (λ zs. Goes sys a later (zs ++ back)) left.1 k in
+            let point : Goes sys a anywhere later (Point ∷ (left.0 ++ back)) = subst (λ zs. Goes sys a anywhere later (zs ++ back)) left.1 k in
             or-right (is_end later) (expects_point later) (point-read later (left.0 ++ back) ready point).4
         by (t ∷ g) later tail ready none k f (inr behind) = tail-stops tail back later none ready k behind
     fronts-told Anywhere g ps e (back, h) =
@@ -230,7 +230,7 @@ module _ (begin : ReadsBegin) (whole : ReadsWhole) (reads_next : ReadsNext) (fir
         ready : IsReady sys a (start_state a c)
         ready = begun begin whole reads_next first open_next open_reads sys a able c within
 
-        front : (ps : List Piece) → Goes sys a (start_state a c) ps → Fronts begin whole reads_next first open_next open_reads sys a able c within Whole ps
+        front : (ps : List Piece) → Goes sys a anywhere (start_state a c) ps → Fronts begin whole reads_next first open_next open_reads sys a able c within Whole ps
         front ps k = start-back begin whole reads_next first open_next open_reads sys a able c within ps k
 
         nothing : (g : List Told) → is_none_told g ≡ true → g ≡ []
@@ -240,8 +240,8 @@ module _ (begin : ReadsBegin) (whole : ReadsWhole) (reads_next : ReadsNext) (fir
         ended : (later : State) → run_told sys a (start_state a c) g ≡ Some later → is_end (pass a later) ≡ true
             → (ps : List Piece) × (bare ps ≡ g) × Fronts begin whole reads_next first open_next open_reads sys a able c within Whole ps
         ended later e is =
-            let points = unpass begin whole reads_next sys a later [] (end-goes sys a (pass a later) is) in
-            let read = told-goes g (start_state a c) later (points.0 ++ []) e points.2 in (
+            let points = unpass begin whole reads_next sys a anywhere later [] (end-goes sys a (pass a later) is) in
+            let read = told-goes anywhere g (start_state a c) later (points.0 ++ []) e points.2 in (
               read.0 ++ (points.0 ++ []),
               bare-append read.0 (points.0 ++ []) ∙ ap (λ us. bare read.0 ++ bare us) (append-nil points.0) ∙ ap (λ us. bare read.0 ++ us) points.1 ∙ append-nil (bare read.0) ∙ read.1,
               front (read.0 ++ (points.0 ++ [])) read.2,
@@ -253,7 +253,7 @@ module _ (begin : ReadsBegin) (whole : ReadsWhole) (reads_next : ReadsNext) (fir
             let some = goes-some open_reads sys a (start_state a c) ready in ([], sym (nothing g none), (some.0, front some.0 some.1, inl refl))
         stopped later e (inr at) =
             let some = here-stops begin whole reads_next first open_next open_reads sys a able later (told-ready g (start_state a c) later ready e) at in
-            let read = told-goes g (start_state a c) later some.0 e some.1 in (read.0, read.1, (some.0, front (read.0 ++ some.0) read.2, inr some.2))
+            let read = told-goes anywhere g (start_state a c) later some.0 e some.1 in (read.0, read.1, (some.0, front (read.0 ++ some.0) read.2, inr some.2))
 
         by : (cut : Cut) (o : Option State) → run_told sys a (start_state a c) g ≡ o → told_well a cut (is_none_told g) o ≡ true
             → (ps : List Piece) × (bare ps ≡ g) × Fronts begin whole reads_next first open_next open_reads sys a able c within cut ps
@@ -262,4 +262,4 @@ module _ (begin : ReadsBegin) (whole : ReadsWhole) (reads_next : ReadsNext) (fir
         by Stopped (Some later) e h = stopped later e (either (is_none_told g) (is_end later || expects_point later) h)
         by Anywhere (Some later) e h =
             let some = goes-some open_reads sys a later (told-ready g (start_state a c) later ready e) in
-            let read = told-goes g (start_state a c) later some.0 e some.1 in (read.0, read.1, (some.0, front (read.0 ++ some.0) read.2))
+            let read = told-goes anywhere g (start_state a c) later some.0 e some.1 in (read.0, read.1, (some.0, front (read.0 ++ some.0) read.2))

@@ -1,5 +1,5 @@
 -- What may still come in an object's course, read from the front.
-use Rattle.std.specs.Prelude.{◌≡◌, ℕ, max, List, [], ◌∷◌, ◌++◌, slice_set, Some}
+use Rattle.std.specs.Prelude.{◌≡◌, ℕ, max, List, [], ◌∷◌, ◌++◌, slice_set, Some, None}
 use Rattle.std.specs.declared.option.Option.{Option}
 use Rattle.std.specs.Bool.{MatchBool}
 use Rattle.qp_chart.specs.Task.{Task, Begin, Run, Unhandled, Exit, Enter, Init, Done, Do, Raise, Restore}
@@ -72,30 +72,43 @@ unfolding TaskGoes
 TasksGo sys a way later [] c ps = later c ps
 TasksGo sys a way later (t ∷ ts) c ps = TaskGoes sys a way c (λ d rest. TasksGo sys a way later ts d rest) t ps
 
+-- what is asked of the configuration in which a course ends
+abbrev pub Aim : Type 1
+Aim = Config → Type 0
+
+-- nothing is
+abbrev pub anywhere : Aim
+anywhere c = Unit {0}
+
+-- a course that an assertion broke off has none
+abbrev pub Meets : Aim → Option Config → Type 0
+Meets aim None = Unit {0}
+Meets aim (Some c) = aim c
+
 -- between steps: some more of them
-unfoldable pub StepsGo : System → Actor → Config → List Piece → Type 0
+unfoldable pub StepsGo : System → Actor → Aim → Config → List Piece → Type 0
 unfolding Steps
-StepsGo sys a c ps = (es : List Entry) × (end : Option Config) × Steps sys a es (Some c) ps end
+StepsGo sys a aim c ps = (es : List Entry) × (end : Option Config) × Steps sys a es (Some c) ps end × Meets aim end
 
 -- after the tasks of a start or of a step: the release of the step's entry, and then more steps
-unfoldable pub Closing : System → Actor → Way → ℕ → Config → List Piece → Type 0
+unfoldable pub Closing : System → Actor → Aim → Way → ℕ → Config → List Piece → Type 0
 unfolding StepsGo Drops
-Closing sys a Starting leaf c ps = StepsGo sys a (record c { leaf = leaf }) ps
-Closing sys a (Stepping ev e) leaf c ps =
-    (rel : List Told) × (rest : List Piece) × Drops e rel × (ps ≡ tell rel ++ rest) × StepsGo sys a (record c { leaf = leaf }) rest
+Closing sys a aim Starting leaf c ps = StepsGo sys a aim (record c { leaf = leaf }) ps
+Closing sys a aim (Stepping ev e) leaf c ps =
+    (rel : List Told) × (rest : List Piece) × Drops e rel × (ps ≡ tell rel ++ rest) × StepsGo sys a aim (record c { leaf = leaf }) rest
 
 -- the tasks left of a start or of a step, and all that comes after them
-unfoldable pub LeftGoes : System → Actor → Way → List Task → ℕ → Config → List Piece → Type 0
+unfoldable pub LeftGoes : System → Actor → Aim → Way → List Task → ℕ → Config → List Piece → Type 0
 unfolding TasksGo Closing
-LeftGoes sys a way ts leaf c ps = TasksGo sys a way (Closing sys a way leaf) ts c ps
+LeftGoes sys a aim way ts leaf c ps = TasksGo sys a way (Closing sys a aim way leaf) ts c ps
 
 -- the whole course of an object, from its first configuration
-unfoldable pub CourseGoes : System → Actor → Config → List Piece → Type 0
+unfoldable pub CourseGoes : System → Actor → Aim → Config → List Piece → Type 0
 unfolding LeftGoes start_plan
-CourseGoes sys a first ps = LeftGoes sys a Starting (start_plan a.chart).tasks (start_plan a.chart).leaf first ps
+CourseGoes sys a aim first ps = LeftGoes sys a aim Starting (start_plan a.chart).tasks (start_plan a.chart).leaf first ps
 
 -- a step over an event, after its `took`
-unfoldable pub StepGoes : System → Actor → Event → Entry → Config → List Piece → Type 0
+unfoldable pub StepGoes : System → Actor → Aim → Event → Entry → Config → List Piece → Type 0
 unfolding LeftGoes step_plan
-StepGoes sys a ev e c ps =
-    LeftGoes sys a (Stepping ev e) (step_plan a.chart c.leaf (names_of a c ev) ev.sig).tasks (step_plan a.chart c.leaf (names_of a c ev) ev.sig).leaf c ps
+StepGoes sys a aim ev e c ps =
+    LeftGoes sys a aim (Stepping ev e) (step_plan a.chart c.leaf (names_of a c ev) ev.sig).tasks (step_plan a.chart c.leaf (names_of a c ev) ev.sig).leaf c ps

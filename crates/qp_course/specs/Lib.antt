@@ -16,3 +16,4 @@ pub mod Passing
 pub mod Plans
 pub mod Ready
 pub mod Runs
+pub mod Standing

@@ -20,7 +20,7 @@ use Rattle.qp_fits.specs.Rest.{Rest}
 use Rattle.qp_fits.specs.RestNext.{rest_begin, rest_next, stage_answer}
 use Rattle.qp_fits.specs.Reads.{Reads}
 use Rattle.qp_course.specs.Note.{Note, Begin, Run, Unhandled, Exit, Enter, Init, Done, Say, Unlock, body_of, tells, raised_from, taken_by, dropped_by, comes_back}
-use Rattle.qp_course.specs.Goes.{Way, Starting, Stepping, moment_of, Ends, LeftGoes, StepsGo}
+use Rattle.qp_course.specs.Goes.{Aim, Way, Starting, Stepping, moment_of, Ends, LeftGoes, StepsGo}
 
 pub data State : Type 0 where
   -- between steps
@@ -67,19 +67,19 @@ NoteEnds way true later ps = Ends way later ps
 NoteEnds way false later ps = later ps
 
 -- the pieces that may come from a state on
-unfoldable pub Goes : System → Actor → State → List Piece → Type 0
+unfoldable pub Goes : System → Actor → Aim → State → List Piece → Type 0
 unfolding StepsGo LeftGoes RestGoes
-Goes sys a (Between c) ps = StepsGo sys a c ps
-Goes sys a (Telling way n ends ts leaf c) ps = Notes (plain (body_of n)) (NoteEnds way ends (LeftGoes sys a way ts leaf c)) ps
-Goes sys a (Raising way ceiling ts leaf c) ps =
-    (former : ℕ) × Notes (raised (max former ceiling) former) (LeftGoes sys a way ts leaf (record c { former = former })) ps
-Goes sys a (AtPoint ev e ts leaf c) ps = (rest : List Piece) × (ps ≡ Point ∷ rest) × LeftGoes sys a (Stepping ev e) ts leaf c rest
-Goes sys a (InCall way inner rest ts leaf c) ps = RestGoes sys a way inner rest (LeftGoes sys a way ts leaf) c ps
-Goes sys a (AtPost way rest ts leaf c) ps = (more : List Piece) × (ps ≡ Point ∷ more) × RestGoes sys a way true rest (LeftGoes sys a way ts leaf) c more
-Goes sys a (Releasing e c) ps =
-    (rel : List Told) × (rest : List Piece) × Releases e.pool e.block e.name rel × (ps ≡ tell rel ++ rest) × StepsGo sys a c rest
-Goes sys a (Returning p b d c) ps = (n : ℕ) × Notes (plain (item.Back p n b (d + 1))) (StepsGo sys a c) ps
-Goes sys a Asserted ps = ps ≡ []
+Goes sys a aim (Between c) ps = StepsGo sys a aim c ps
+Goes sys a aim (Telling way n ends ts leaf c) ps = Notes (plain (body_of n)) (NoteEnds way ends (LeftGoes sys a aim way ts leaf c)) ps
+Goes sys a aim (Raising way ceiling ts leaf c) ps =
+    (former : ℕ) × Notes (raised (max former ceiling) former) (LeftGoes sys a aim way ts leaf (record c { former = former })) ps
+Goes sys a aim (AtPoint ev e ts leaf c) ps = (rest : List Piece) × (ps ≡ Point ∷ rest) × LeftGoes sys a aim (Stepping ev e) ts leaf c rest
+Goes sys a aim (InCall way inner rest ts leaf c) ps = RestGoes sys a way inner rest (LeftGoes sys a aim way ts leaf) c ps
+Goes sys a aim (AtPost way rest ts leaf c) ps = (more : List Piece) × (ps ≡ Point ∷ more) × RestGoes sys a way true rest (LeftGoes sys a aim way ts leaf) c more
+Goes sys a aim (Releasing e c) ps =
+    (rel : List Told) × (rest : List Piece) × Releases e.pool e.block e.name rel × (ps ≡ tell rel ++ rest) × StepsGo sys a aim c rest
+Goes sys a aim (Returning p b d c) ps = (n : ℕ) × Notes (plain (item.Back p n b (d + 1))) (StepsGo sys a aim c) ps
+Goes sys a aim Asserted ps = ps ≡ []
 
 -- an action is done: in a step its point is to come, and in a start what comes next
 abbrev pub done : Way → ℕ → List Task → (Config → State) → Config → State

@@ -22,8 +22,8 @@ use qp_fits::{Cut, Piece, Told};
 use qp_model::{Body, ObjectDef, System};
 use std::alloc::{AllocError, Global};
 
-/// A chart of a system by its number, from 1.
-fn chart_at(sys: &System, n: u8) -> Option<&Chart>
+/// The chart of a system with this number, from 1.
+pub fn chart_at(sys: &System, n: u8) -> Option<&Chart>
     ensures { option_copied result ≡ chart_at sys.now n }
 {
     sys.charts.items.get(usize::from(n).saturating_sub(1))
@@ -37,7 +37,7 @@ fn room_of(d: &ObjectDef) -> u8
 }
 
 /// The object with its chart, if it is there.
-fn actor_of<'a>(sys: &'a System, d: &ObjectDef) -> Option<Actor<'a>>
+pub(crate) fn actor_of<'a>(sys: &'a System, d: &ObjectDef) -> Option<Actor<'a>>
     ensures { MatchOption result (chart_at sys.now d.now.chart ≡ None) (λ who. IsActorOf sys.now d.now who.sys.now who.chart.now (as_actor who)) }
 {
     let room = room_of(d);

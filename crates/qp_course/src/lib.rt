@@ -10,10 +10,12 @@ mod notes;
 mod places;
 mod runs;
 mod settle;
+mod standing;
 mod states;
 mod tasks;
 mod tell;
 
 pub use agenda::{Plan, start_plan, step_plan};
-pub use decide::{follows, follows_with_points};
+pub use decide::{chart_at, follows, follows_with_points};
+pub use standing::{Standing, standing_after};
 pub use tasks::Task;
