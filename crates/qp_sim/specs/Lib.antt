@@ -1,0 +1,10 @@
+pub mod Seating
+pub mod SimHolds
+pub mod Choosing
+pub mod Visiting
+pub mod Newest
+pub mod SimView
+pub mod SimLaws
+pub mod Acting
+pub mod NewSim
+pub mod SimEnded

@@ -1,0 +1,6 @@
+mod Halting
+mod Settled
+mod Completing
+mod Called
+mod Aloof
+mod Begun
