@@ -1,0 +1,4 @@
+pub mod SimRun
+pub mod Left
+pub mod Running
+pub mod Laws

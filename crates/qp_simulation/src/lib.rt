@@ -1,0 +1,7 @@
+//! Runs under `sim`.
+#![tactic(auto)]
+
+pub mod laws;
+mod run;
+
+pub use run::run_sim;

@@ -1,0 +1,6 @@
+pub mod Objects
+pub mod Knowing
+pub mod Starting
+pub mod Halting
+pub mod Turning
+pub mod Ordering

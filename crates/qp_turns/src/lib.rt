@@ -1,0 +1,10 @@
+//! The objects of a system, and the kernel's turn over them.
+#![tactic(auto)]
+
+mod halting;
+mod objects;
+mod starting;
+mod turning;
+
+pub use objects::Objects;
+pub use turning::kernel_turn;
