@@ -5,5 +5,5 @@ use qp_process::process;
 use std::process::ExitCode;
 
 fn main(rt: HostRuntime) -> ExitCode {
-    process(&rt)
+    process(&rt, &rt)
 }

@@ -13,12 +13,14 @@ use qp_run::{Status, qp_main, tell};
 use std::alloc::Global;
 use std::env::Args;
 use std::process::ExitCode;
+use std::sync::Wait;
 use std::{env, io};
 
-/// The program over the arguments, the files and the standard streams of the process.
-pub fn process(rt: &HostRuntime) -> ExitCode {
+/// The program over the arguments, the files and the standard streams of the process. `waits` is its runtime once more, by which a
+/// run may wait.
+pub fn process<R: Wait>(rt: &HostRuntime, waits: &R) -> ExitCode {
     program(
-        rt,
+        waits,
         rt.alloc(),
         env::args(rt),
         &mut DirShelf::new(rt),
@@ -29,7 +31,7 @@ pub fn process(rt: &HostRuntime) -> ExitCode {
 
 /// The program over these arguments, of which the first is its name. It ends with the number of its answer; where the arguments
 /// can't be had, that is why.
-pub fn program<R, F: Shelf, O: Sink, E: Sink>(
+pub fn program<R: Wait, F: Shelf, O: Sink, E: Sink>(
     rt: &R,
     alloc: Global,
     args: io::Result<Args>,
@@ -54,7 +56,7 @@ fn exit_code(status: &Status) -> ExitCode
 }
 
 /// The answer to these arguments.
-fn answer<R, F: Shelf, O: Sink, E: Sink>(
+fn answer<R: Wait, F: Shelf, O: Sink, E: Sink>(
     rt: &R,
     alloc: Global,
     args: io::Result<Args>,
@@ -75,7 +77,7 @@ fn answer<R, F: Shelf, O: Sink, E: Sink>(
 }
 
 /// Calls the program with the words among these arguments.
-fn call<R, F: Shelf, O: Sink, E: Sink>(
+fn call<R: Wait, F: Shelf, O: Sink, E: Sink>(
     rt: &R,
     alloc: Global,
     args: Args,

@@ -1,7 +1,6 @@
 -- No call over files has two answers.
-use Rattle.std.proofs.Common.{◌≡◌, ℕ, ◌≤◌, true, List, length, Option, Some, None, Result, Ok, Err, ◌⊎◌, sym, ap, subst, ◌∙◌, arith, inl, inr}
-use Rattle.std.proofs.lemmas.Bool.{false≢true}
-use Rattle.qp_alike.proofs.LawLemmas.{stimuli_are_one, verdicts_are_one}
+use Rattle.std.proofs.Common.{◌≡◌, ℕ, ◌≤◌, List, length, Option, Some, None, Result, Ok, Err, ◌⊎◌, sym, ap, subst, ◌∙◌, arith, inl, inr}
+use Rattle.qp_alike.proofs.LawLemmas.{lawful_journals_are_one, stimuli_are_one, verdicts_are_one}
 use Rattle.qp_base.specs.Limits.{file_limit}
 use Rattle.qp_model.specs.declared.stimulus.Stim.{Stim}
 use Rattle.qp_model.specs.declared.systems.System.{System}
@@ -16,12 +15,10 @@ use Rattle.qp_run.specs.declared.words.values.Kind.TheVariants.{Frames, Journal 
 use Rattle.qp_run.specs.Checks.{JudgesFiles, JudgesFound, JudgesSecond, JudgesStimuli, JudgesSystem, JudgesThird, verdict_answer}
 use Rattle.qp_run.specs.Conversions.{AnswersJournal, answer_on, decode_on, migrate_on, said}
 use Rattle.qp_run.specs.Loads.{EndsAtLoad, IsLoaded}
-use Rattle.qp_run.specs.Thin.{is_thin}
 use Rattle.qp_model.specs.declared.journals.Journal.{Journal}
 use Rattle.qp_run.specs.WordTable.{check, decode, migrate, number_of_form, run}
-use Rattle.qp_run.specs.Verdict.{AnswersFiles, AnswersStimuli, AnswersSystem, EndsAtSystem, IsAnswer, OneAnswer, stimuli_answer}
-use Rattle.qp_run.specs.Refusals.{system_refusal}
-use Rattle.qp_run.proofs.SameThin.{thin-same}
+use Rattle.qp_run.specs.Verdict.{AnswersFiles, AnswersSources, AnswersStimuli, AnswersSystem, EndRuns, EndsRun, IsAnswer, OneAnswer}
+use Rattle.qp_run.specs.Refusals.{RefusesFirst, system_refusal}
 
 -- a file that was not loaded has one answer
 ends-one : (file : ℕ) (held : Option (List ℕ)) (a b : Status) → EndsAtLoad file held a → EndsAtLoad file held b → a ≡ b
@@ -51,36 +48,65 @@ module _ (bytes : List ℕ) where
       by (inr (inl memory)) = absurd (another memory)
       by (inr (inr same)) = is ∙ ap system_refusal same ∙ sym are
 
-  system-goes_on : (sys : System) (a : Status) → IsSystemOf bytes sys → is_thin sys ≡ true → EndsAtSystem bytes a → ⊥
-  system-goes_on sys a read thin (inl (f, refuses, other, is)) = other (systems_have_no_fault bytes sys f read refuses)
-  system-goes_on sys a read thin (inr (found, is, not_thin, answer)) = false≢true (sym not_thin ∙ thin-same bytes found sys is read ∙ thin)
+  refusal-one : (a b : Status) → RefusesFirst bytes a → RefusesFirst bytes b → a ≡ b
+  refusal-one a b (f, p, other, is) (g, q, another, are) = fault-one f g a b p other is q another are
 
-  end-one : (a b : Status) → EndsAtSystem bytes a → EndsAtSystem bytes b → a ≡ b
-  end-one a b (inl (f, p, other, is)) (inl (g, q, another, are)) = fault-one f g a b p other is q another are
-  end-one a b (inl (f, p, other, is)) (inr (sys, read, thin, are)) = absurd (other (systems_have_no_fault bytes sys f read p))
-  end-one a b (inr (sys, read, thin, is)) (inl (g, q, another, are)) = absurd (another (systems_have_no_fault bytes sys g read q))
-  end-one a b (inr (sys, read, thin, is)) (inr (other, read', thin', are)) = is ∙ sym are
+  system-goes_on : (sys : System) (a : Status) → IsSystemOf bytes sys → RefusesFirst bytes a → ⊥
+  system-goes_on sys a read (f, refuses, other, is) = other (systems_have_no_fault bytes sys f read refuses)
 
-  stimuli-one : (held : Option (List ℕ)) (s t : System) (a b : Status) → IsSystemOf bytes s → IsSystemOf bytes t → AnswersStimuli held s a → AnswersStimuli held t b → a ≡ b
-  stimuli-one held s t a b p q (inl is) (inl are) = ends-one 2 held a b is are
-  stimuli-one held s t a b p q (inl is) (inr (text, loaded, are)) = absurd (loaded-goes_on 2 held text a loaded is)
-  stimuli-one held s t a b p q (inr (text, loaded, is)) (inl are) = absurd (loaded-goes_on 2 held text b loaded are)
-  stimuli-one held s t a b p q (inr (text, loaded, is)) (inr (other, found, are)) =
-      is ∙ ap stimuli_answer (stimuli_are_one bytes s t text p q ∙ ap (stimuli_of t) (loaded-one held text other loaded found)) ∙ sym are
+  -- a run of one of the systems is one of the other
+  run-carries : (s t : System) → IsSystemOf bytes s → IsSystemOf bytes t → (sources : List (List Stim)) (budget : ℕ) (a : Status) → EndsRun s sources budget a → EndsRun t sources budget a
+  run-carries s t p q sources budget a (j, is, ends) =
+      (j, record { kernel = is.kernel; budget_is = is.budget_is; lawful = lawful_journals_are_one bytes s t sources j p q is.lawful }, ends)
 
-  system-one : (held : Option (List ℕ)) (a b : Status) → AnswersSystem bytes held a → AnswersSystem bytes held b → a ≡ b
-  system-one held a b (inl is) (inl are) = end-one a b is are
-  system-one held a b (inl is) (inr (sys, read, thin, are)) = absurd (system-goes_on sys a read thin is)
-  system-one held a b (inr (sys, read, thin, is)) (inl are) = absurd (system-goes_on sys b read thin are)
-  system-one held a b (inr (s, p, thin, is)) (inr (t, q, thin', are)) = stimuli-one held s t a b p q is are
+  module _ (budget : ℕ) (s t : System) (p : IsSystemOf bytes s) (q : IsSystemOf bytes t) where
+    sources-run : (found : Result (List (List Stim)) Fault) (a b : Status) → AnswersSources s budget found a → AnswersSources t budget found b → (a ≡ b) ⊎ EndRuns budget a b
+    sources-run (Err fault) a b is are = inl (is ∙ sym are)
+    sources-run (Ok sources) a b is are = inr (s, sources, is, run-carries t s q p sources budget b are)
 
-files-one : (system stimuli : Option (List ℕ)) (a b : Status) → AnswersFiles system stimuli a → AnswersFiles system stimuli b → a ≡ b
+    stimuli-run : (held : Option (List ℕ)) (a b : Status) → AnswersStimuli held s budget a → AnswersStimuli held t budget b → (a ≡ b) ⊎ EndRuns budget a b
+    stimuli-run held a b (inl is) (inl are) = inl (ends-one 2 held a b is are)
+    stimuli-run held a b (inl is) (inr (text, loaded, are)) = absurd (loaded-goes_on 2 held text a loaded is)
+    stimuli-run held a b (inr (text, loaded, is)) (inl are) = absurd (loaded-goes_on 2 held text b loaded are)
+    stimuli-run held a b (inr (text, loaded, is)) (inr (other, found, are)) =
+        sources-run (stimuli_of s text) a b is (subst (λ x. AnswersSources t budget x b) same are)
+      where
+        same : stimuli_of t other ≡ stimuli_of s text
+        same = ap (stimuli_of t) (loaded-one held other text found loaded) ∙ sym (stimuli_are_one bytes s t text p q)
+
+  system-run : (budget : ℕ) (held : Option (List ℕ)) (a b : Status) → AnswersSystem bytes held budget a → AnswersSystem bytes held budget b → (a ≡ b) ⊎ EndRuns budget a b
+  system-run budget held a b (inl is) (inl are) = inl (refusal-one a b is are)
+  system-run budget held a b (inl is) (inr (sys, read, are)) = absurd (system-goes_on sys a read is)
+  system-run budget held a b (inr (sys, read, is)) (inl are) = absurd (system-goes_on sys b read are)
+  system-run budget held a b (inr (s, p, is)) (inr (t, q, are)) = stimuli-run budget s t p q held a b is are
+
+files-run-one : (system stimuli : Option (List ℕ)) (budget : ℕ) (a b : Status) → AnswersFiles system stimuli budget a → AnswersFiles system stimuli budget b
+    → (a ≡ b) ⊎ EndRuns budget a b
 unfolding AnswersFiles
-files-one system stimuli a b (inl is) (inl are) = ends-one 1 system a b is are
-files-one system stimuli a b (inl is) (inr (bytes, loaded, are)) = absurd (loaded-goes_on 1 system bytes a loaded is)
-files-one system stimuli a b (inr (bytes, loaded, is)) (inl are) = absurd (loaded-goes_on 1 system bytes b loaded are)
-files-one system stimuli a b (inr (bytes, loaded, is)) (inr (other, found, are)) =
-    system-one bytes stimuli a b is (subst (λ x. AnswersSystem x stimuli b) (loaded-one system other bytes found loaded) are)
+files-run-one system stimuli budget a b (inl is) (inl are) = inl (ends-one 1 system a b is are)
+files-run-one system stimuli budget a b (inl is) (inr (bytes, loaded, are)) = absurd (loaded-goes_on 1 system bytes a loaded is)
+files-run-one system stimuli budget a b (inr (bytes, loaded, is)) (inl are) = absurd (loaded-goes_on 1 system bytes b loaded are)
+files-run-one system stimuli budget a b (inr (bytes, loaded, is)) (inr (other, found, are)) =
+    system-run bytes budget stimuli a b is (subst (λ x. AnswersSystem x stimuli budget b) (loaded-one system other bytes found loaded) are)
+
+-- the answer where two files have a system and its stimuli
+module _ (system stimuli : Option (List ℕ)) (budget : ℕ) (bytes text : List ℕ) (sys : System) (sources : List (List Stim))
+    (system_held : IsLoaded system bytes) (read : IsSystemOf bytes sys) (stimuli_held : IsLoaded stimuli text) (says : stimuli_of sys text ≡ Ok sources) (answer : Status) where
+  on-stimuli : (one : System) → IsSystemOf bytes one → AnswersStimuli stimuli one budget answer → EndsRun one sources budget answer
+  on-stimuli one of (inl ends) = absurd (loaded-goes_on 2 stimuli text answer stimuli_held ends)
+  on-stimuli one of (inr (found, loaded, is)) = subst (λ x. AnswersSources one budget x answer) same is
+    where
+      same : stimuli_of one found ≡ Ok sources
+      same = ap (stimuli_of one) (loaded-one stimuli found text loaded stimuli_held) ∙ stimuli_are_one bytes one sys text of read ∙ says
+
+  on-system : AnswersSystem bytes stimuli budget answer → EndsRun sys sources budget answer
+  on-system (inl refuses) = absurd (system-goes_on bytes sys answer read refuses)
+  on-system (inr (one, of, is)) = run-carries bytes one sys of read sources budget answer (on-stimuli one of is)
+
+  pub files-run : AnswersFiles system stimuli budget answer → EndsRun sys sources budget answer
+  unfolding AnswersFiles
+  files-run (inl ends) = absurd (loaded-goes_on 1 system bytes answer system_held ends)
+  files-run (inr (found, loaded, is)) = on-system (subst (λ b. AnswersSystem b stimuli budget answer) (loaded-one system found bytes loaded system_held) is)
 
 -- a file has one journal, or none
 journal-one : (kind : Kind) (on : Journal → Status) (held : Option (List ℕ)) (a b : Status) → AnswersJournal kind on held a → AnswersJournal kind on held b → a ≡ b
@@ -138,8 +164,8 @@ files-judged-one system stimuli held a b (inr (bytes, loaded, is)) (inr (other, 
 
 pub one-answer : OneAnswer
 unfolding IsAnswer
-one-answer held None a b p q = p ∙ sym q
-one-answer held (Some (run w)) a b p q = files-one (held w.system) (held w.stimuli) a b p q
-one-answer held (Some (decode frames)) a b p q = journal-one Frames decode_on (held frames) a b p q
-one-answer held (Some (migrate w)) a b p q = journal-one w.from (migrate_on (number_of_form w.to)) (held w.file) a b p q
-one-answer held (Some (check w)) a b p q = files-judged-one (held w.system) (held w.stimuli) (held w.journal) a b p q
+one-answer held None a b p q = inl (p ∙ sym q)
+one-answer held (Some (run w)) a b p q = files-run-one (held w.system) (held w.stimuli) w.budget a b p q
+one-answer held (Some (decode frames)) a b p q = inl (journal-one Frames decode_on (held frames) a b p q)
+one-answer held (Some (migrate w)) a b p q = inl (journal-one w.from (migrate_on (number_of_form w.to)) (held w.file) a b p q)
+one-answer held (Some (check w)) a b p q = inl (files-judged-one (held w.system) (held w.stimuli) (held w.journal) a b p q)

@@ -20,7 +20,7 @@ use Rattle.qp_run.specs.declared.status.Status.{Status}
 use Rattle.qp_run.specs.declared.status.Status.TheVariants.{Memory}
 use Rattle.qp_run.specs.declared.words.values.Kind.TheVariants.{Journal}
 use Rattle.qp_run.specs.Checks.{HasLawful, IsLawfulText, Judges, JudgesFiles, JudgesFound, JudgesSecond, JudgesSystem, JudgesThird, JudgesStimuli, third, verdict_answer}
-use Rattle.qp_run.specs.Conversions.{Held, IsFoundIn, Refuses, said, written}
+use Rattle.qp_run.specs.Conversions.{Held, Refuses, said, written}
 use Rattle.qp_run.specs.Loads.{IsLoaded}
 use Rattle.qp_run.specs.Verdict.{AgreesCheck, FailsToLoad, JudgesCall, is_failure}
 use Rattle.qp_run.specs.Refusals.{RefusesFirst, RefusesSecond}

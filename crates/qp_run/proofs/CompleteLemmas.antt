@@ -6,15 +6,15 @@ use Rattle.qp_model.specs.declared.stimulus.Stim.{Stim}
 use Rattle.qp_model.specs.declared.systems.System.{System}
 use Rattle.qp_text.specs.TextLaw.{IsWritable}
 use Rattle.qp_run.specs.declared.status.Status.{Status}
-use Rattle.qp_run.specs.declared.status.Status.TheVariants.{Done, Words, Absent, TooLong, Refused, Later, Asserted, Spent, Memory, ReadFault, WriteFault, Unlawful}
+use Rattle.qp_run.specs.declared.status.Status.TheVariants.{Done, Words, Absent, TooLong, Refused, Asserted, Spent, Memory, ReadFault, WriteFault, Unlawful}
 use Rattle.qp_run.specs.declared.words.values.Kind.{Kind}
 use Rattle.qp_run.specs.declared.words.values.Kind.TheVariants.{Frames}
 use Rattle.qp_run.specs.Conversions.{AnswersJournal, Held, answer_on, decode_on, migrate_on, said, written}
 use Rattle.qp_run.specs.Loads.{IsLoaded}
-use Rattle.qp_run.specs.Verdict.{Agrees, Counts, Ends, EndsCall, EndsJudging, HasCause, IsAnswer, IsComplete, is_failure}
+use Rattle.qp_run.specs.Verdict.{Agrees, AnswersFiles, Counts, Ends, EndsCall, EndsRun, EndsRunning, EndsJudging, HasCause, IsAnswer, IsComplete, is_failure}
 use Rattle.qp_run.specs.Checks.{Judges, JudgesFiles}
 use Rattle.qp_run.specs.WordTable.{Asked, check, decode, migrate, number_of_form, run}
-use Rattle.qp_run.proofs.AnswerLaw.{loaded-goes_on, loaded-one, one-answer}
+use Rattle.qp_run.proofs.AnswerLaw.{files-run, loaded-goes_on, loaded-one}
 use Rattle.qp_run.proofs.CheckLemmas.{files-judged}
 use Rattle.qp_run.proofs.ConversionLemmas.{said-written}
 
@@ -29,7 +29,6 @@ failed-ends n wanted Words f c = absurd (false≢true f)
 failed-ends n wanted (Absent file) f c = absurd (false≢true f)
 failed-ends n wanted (TooLong file len) f c = absurd (false≢true f)
 failed-ends n wanted (Refused file code at) f c = absurd (false≢true f)
-failed-ends n wanted (Later file) f c = absurd (false≢true f)
 failed-ends n wanted (Asserted code lane) f c = absurd (false≢true f)
 failed-ends n wanted (Spent lane) f c = absurd (false≢true f)
 failed-ends n wanted (Unlawful definition at) f c = absurd (false≢true f)
@@ -62,11 +61,26 @@ judging-failed system stimuli held n answer failed cause = λ bytes text sys sou
     by sys sources j (inl done) = absurd (false≢true (ap is_failure (sym done) ∙ failed))
     by sys sources j (inr memory) = inr memory
 
+-- how the run ended, or a failure
+running-done : (system stimuli : Option (List ℕ)) (budget : ℕ) (n : Counts) (answer : Status) → AnswersFiles system stimuli budget answer → EndsRunning system stimuli budget n answer
+unfolding EndsRunning
+running-done system stimuli budget n answer is = λ bytes text sys sources first read second says reads out notes.
+    inl (files-run system stimuli budget bytes text sys sources first read second says answer is)
+
+running-failed : (system stimuli : Option (List ℕ)) (budget : ℕ) (n : Counts) (answer : Status) → is_failure answer ≡ true → HasCause n answer → EndsRunning system stimuli budget n answer
+unfolding EndsRunning
+running-failed system stimuli budget n answer failed cause = λ bytes text sys sources first read second says reads out notes.
+    by sys sources (failed-ends n Done answer failed cause reads out notes)
+  where
+    by : (sys : System) (sources : List (List Stim)) → (answer ≡ Done) ⊎ (answer ≡ Memory) → EndsRun sys sources budget answer ⊎ (answer ≡ Memory)
+    by sys sources (inl done) = absurd (false≢true (ap is_failure (sym done) ∙ failed))
+    by sys sources (inr memory) = inr memory
+
 ends-call : (held : Held) (asked : Option Asked) (n : Counts) (answer : Status) → Agrees held asked answer → HasCause n answer → EndsCall held asked n answer
 unfolding IsAnswer
 ends-call held None n answer agrees cause = ends-so n Words answer agrees cause
-ends-call held (Some (run w)) n answer (inl failed) cause = λ done. ends-so n Done answer (inl failed) cause
-ends-call held (Some (run w)) n answer (inr is) cause = λ done. ends-so n Done answer (inr (one-answer held (Some (run w)) answer Done is done)) cause
+ends-call held (Some (run w)) n answer (inl failed) cause = running-failed (held w.system) (held w.stimuli) w.budget n answer failed cause
+ends-call held (Some (run w)) n answer (inr is) cause = running-done (held w.system) (held w.stimuli) w.budget n answer is
 ends-call held (Some (decode frames)) n answer (inl failed) cause = λ form j writable loaded. ends-so n _ answer (inl failed) cause
 ends-call held (Some (decode frames)) n answer (inr is) cause = λ form j writable loaded.
     ends-so n _ answer (inr (on-journal Frames decode_on (held frames) answer form j writable loaded is)) cause

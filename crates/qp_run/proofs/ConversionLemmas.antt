@@ -21,7 +21,7 @@ use Rattle.qp_run.specs.declared.status.Status.{Status}
 use Rattle.qp_run.specs.declared.status.Status.TheVariants.{Done, Refused}
 use Rattle.qp_run.specs.declared.words.values.Kind.{Kind}
 use Rattle.qp_run.specs.declared.words.values.Kind.TheVariants.{Journal, Frames}
-use Rattle.qp_run.specs.Conversions.{AnswersJournal, HasJournal, Held, IsWritten, Refuses, answer_on, frame_refusal, frames_said, migrate_on, said, text_refusal, text_said, written, other_form}
+use Rattle.qp_run.specs.Conversions.{AnswersJournal, HasJournal, Held, IsWrittenAs, Refuses, answer_on, frame_refusal, frames_said, migrate_on, said, text_refusal, text_said, written, other_form}
 use Rattle.qp_run.specs.Loads.{IsLoaded}
 use Rattle.qp_run.specs.Verdict.{AgreesJournal, FailsToLoad, is_failure}
 use Rattle.qp_run.proofs.VerdictLemmas.{IfSome-all}
@@ -83,7 +83,7 @@ module _ (o : Option Held) (name : List ℕ) (kind : Kind) (on : journal.Journal
 
   -- a journal was written
   pub told-written : (form : ℕ) (j : journal.Journal) (answer : Status) (bytes : List ℕ) (old new : Option (List ℕ)) (faults faults' : ℕ)
-      → HasJournal o name kind form j → on j ≡ Done → IsWritten bytes old new faults faults' answer → Told answer
+      → HasJournal o name kind form j → on j ≡ Done → IsWrittenAs Done bytes old new faults faults' answer → Told answer
   told-written form j answer bytes old new faults faults' has done (inl (is, all)) = told-journal form j answer has (inr (is ∙ sym done))
   told-written form j answer bytes old new faults faults' has done (inr (is, part, rose)) = told-journal form j answer has (inl (ap is_failure is))
 

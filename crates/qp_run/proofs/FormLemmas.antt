@@ -1,5 +1,5 @@
 -- A journal in range for one form is in range for each other that it has.
-use Rattle.std.proofs.Common.{◌≡◌, ℕ, Bool, true, false, cond, List, [], ◌∷◌, length, refl, arith}
+use Rattle.std.proofs.Common.{◌≡◌, ℕ, ◌<◌, ◌≤◌, Bool, true, false, cond, List, [], ◌∷◌, length, refl, arith}
 use Rattle.std.specs.Prelude.{◌==◌, not, nat_le}
 use Rattle.std.specs.List.{list_all}
 use Rattle.std.proofs.lemmas.Bool.Decides.{nat_tests}
@@ -11,7 +11,10 @@ use Rattle.qp_model.specs.declared.record.Rec.{Rec}
 use Rattle.qp_model.specs.Output.{has_form, has_no_rest, is_in_range, is_lane_in_range, is_record_in_range}
 use Rattle.qp_model.specs.declared.stimulus.Stim as stimulus
 use Rattle.qp_model.specs.declared.systems.System.{System}
-use Rattle.qp_run.specs.ThinRun.{IsQuietRun}
+use Rattle.qp_forms.specs.Laws.{CanBeWritten}
+use Rattle.qp_forms.proofs.FormLemmas.{written}
+use Rattle.qp_model.specs.Sound.{IsSound}
+use Rattle.qp_simulation.specs.SimRun.{IsSimRun}
 use Rattle.qp_run.specs.declared.words.values.Form.{Form}
 use Rattle.qp_run.specs.declared.words.values.Form.TheVariants.{One, Two}
 use Rattle.qp_run.specs.WordTable.{number_of_form}
@@ -96,10 +99,21 @@ range-moves form Two j within has =
     true_both _ _ (true_both _ _ (true_both _ _ (true_both _ _ (true_both _ _ kernel budget.1) most.1) end.1) few.1) (lanes-two form j.lanes lanes.1)
 
 -- the journal of a run has each form, and is in range for it
-module _ (sys : System) (sources : List (List stimulus.Stim)) (j : Journal) (is : IsQuietRun sys sources j) where
+module _ (sys : System) (sources : List (List stimulus.Stim)) (budget : ℕ) (j : Journal) (is : IsSimRun sys sources budget j)
+    (sound : IsSound sys) (few : length sources ≤ 16) (some : 0 < budget) (most : budget ≤ 1000000) where
+  run-written : CanBeWritten 1 j
+  run-written = written sys sources j sound few is.kernel (rw is.budget_is some) (rw is.budget_is most) is.lawful
+
   pub run-form : (to : Form) → has_form (number_of_form to) j ≡ true
-  run-form One = is.form
+  run-form One = run-written.has
   run-form Two = refl
 
   pub run-range : (to : Form) → is_in_range (number_of_form to) j ≡ true
-  run-range to = range-moves 1 to j is.range (run-form to)
+  run-range to = range-moves 1 to j run-written.range (run-form to)
+
+-- it has few lanes
+pub lanes-few : (form : ℕ) (j : Journal) → is_in_range form j ≡ true → length j.lanes ≤ 49
+lanes-few form j within =
+    let lanes = both_true _ (list_all (is_lane_in_range form) j.lanes) within in
+    let few : nat_le (length j.lanes) 49 ≡ true = (both_true _ (nat_le (length j.lanes) 49) lanes.0).1 in
+    grind (arith, nat_tests, few)

@@ -1,25 +1,27 @@
 -- What a call is to answer, file by file.
-use Rattle.std.proofs.Common.{◌≡◌, ℕ, ◌<◌, Bool, true, false, List, length, Option, Some, None, IfSome, Result, Ok, Err, ◌⊎◌, refl, sym, ap, subst, ◌∙◌, arith, inl, inr}
-use Rattle.std.specs.Prelude.{IsSomeAnd, if◌then◌else◌}
+use Rattle.std.proofs.Common.{◌≡◌, ℕ, ◌<◌, true, false, List, length, Option, Some, None, IfSome, Result, Ok, Err, ◌⊎◌, refl, sym, ap, subst, ◌∙◌, arith, inl, inr}
+use Rattle.std.specs.Prelude.{IsSomeAnd}
 use Rattle.std.proofs.lemmas.Bool.{false≢true}
+use Rattle.std.proofs.lemmas.List.{take_all}
 use Rattle.std.proofs.lemmas.Option.{IfSome_then}
 use Rattle.qp_base.specs.Counts.{Rose}
 use Rattle.qp_base.specs.Sink.{AppendsPrefix, appended}
 use Rattle.qp_base.specs.Limits.{file_limit}
 use Rattle.qp_model.specs.declared.stimulus.Stim.{Stim}
 use Rattle.qp_model.specs.declared.systems.System.{System}
+use Rattle.qp_model.specs.declared.journals.Journal.{Journal}
+use Rattle.qp_simulation.specs.SimRun.{IsSimRun}
 use Rattle.qp_stim.specs.Stimuli.{Fault, stimuli_of}
 use Rattle.qp_system.specs.SystemOf.{IsSystemOf}
 use Rattle.qp_run.specs.declared.status.Status.{Status}
-use Rattle.qp_run.specs.declared.status.Status.TheVariants.{Done, Words, Absent, TooLong, Refused, Later, Asserted, Spent, Memory, ReadFault, WriteFault, Unlawful}
-use Rattle.qp_run.specs.Checks.{JudgesFiles}
-use Rattle.qp_run.specs.Conversions.{AnswersJournal, Held, IsWritten, PrintsOne, decode_on, migrate_on}
+use Rattle.qp_run.specs.declared.status.Status.TheVariants.{Done, Words, Absent, TooLong, Refused, Asserted, Spent, Memory, ReadFault, WriteFault, Unlawful}
+use Rattle.qp_run.specs.Conversions.{Held, IsWrittenAs, PrintsOne, decode_on, migrate_on}
 use Rattle.qp_run.specs.declared.words.values.Kind.TheVariants.{Frames}
+use Rattle.qp_run.specs.Endings.{ending_of}
 use Rattle.qp_run.specs.Loads.{EndsAtLoad, IsLoaded}
 use Rattle.qp_run.specs.Notes.{line_of, names_file, is_done}
 use Rattle.qp_run.specs.Refusals.{RefusesFirst, RefusesSecond}
-use Rattle.qp_run.specs.Thin.{are_thin, is_thin}
-use Rattle.qp_run.specs.Verdict.{Agrees, AgreesCheck, AgreesFiles, AgreesJournal, AgreesRun, AnswersFiles, AnswersSystem, AnswersStimuli, AnswersWords, Count, Counts, FailsToLoad, HasCause, HasRisen, IsAnswer, IsInput, Noted, Stands, is_failure, quiet, stimuli_answer}
+use Rattle.qp_run.specs.Verdict.{Agrees, AgreesCheck, AgreesFiles, AgreesJournal, AgreesRun, AnswersFiles, AnswersSystem, AnswersStimuli, AnswersWords, Count, Counts, FailsToLoad, HasCause, HasRisen, IsAnswer, IsInput, Noted, Stands, AnswersSources, EndsRun, is_failure, quiet}
 use Rattle.qp_run.specs.WordTable.{Asked, CheckWords, MigrateWords, RunWords, check, decode, migrate, number_of_form, run}
 
 -- a fact of what the shelf holds, where it tells
@@ -48,78 +50,78 @@ unfolding IsAnswer
 told-unnamed o = IfSome-all o (λ held. inr refl)
 
 -- what refuses the stimuli is the answer on them
-refusal-answers : (found : Result (List (List Stim)) Fault) (status : Status) → RefusesSecond found status → status ≡ stimuli_answer found
-refusal-answers (Err fault) status is = is
-refusal-answers (Ok sources) status is = absurd is
+refusal-answers : (sys : System) (budget : ℕ) (found : Result (List (List Stim)) Fault) (status : Status) → RefusesSecond found status → AnswersSources sys budget found status
+refusal-answers sys budget (Err fault) status is = is
+refusal-answers sys budget (Ok sources) status is = absurd is
 
 -- what is answered on two files is answered on a run of them
-module _ (o : Option Held) (system stimuli : List ℕ) where
+module _ (o : Option Held) (system stimuli : List ℕ) (budget : ℕ) where
   -- the system's file was not loaded
-  pub told-load : (status : Status) → IfSome o (λ held. FailsToLoad 1 (held system) status) → AgreesRun o system stimuli status
+  pub told-load : (status : Status) → IfSome o (λ held. FailsToLoad 1 (held system) status) → AgreesRun o system stimuli budget status
   unfolding AnswersFiles
   told-load status told = IfSome_then o told by
     where
-      by : (held : Held) → FailsToLoad 1 (held system) status → AgreesFiles (held system) (held stimuli) status
+      by : (held : Held) → FailsToLoad 1 (held system) status → AgreesFiles (held system) (held stimuli) budget status
       by held (inl failed) = inl failed
       by held (inr ends) = inr (inl ends)
 
   module _ (bytes : List ℕ) (loaded : IfSome o (λ held. IsLoaded (held system) bytes)) where
-    by-bytes : (held : Held) (answer : Status) → IsLoaded (held system) bytes → AnswersSystem bytes (held stimuli) answer → AgreesFiles (held system) (held stimuli) answer
+    by-bytes : (held : Held) (answer : Status) → IsLoaded (held system) bytes → AnswersSystem bytes (held stimuli) budget answer
+        → AgreesFiles (held system) (held stimuli) budget answer
     unfolding AnswersFiles
     by-bytes held answer is answers = inr (inr (bytes, is, answers))
 
     -- the system's file isn't taken
-    pub told-system : (status : Status) → (status ≡ Memory) ⊎ RefusesFirst bytes status → AgreesRun o system stimuli status
+    pub told-system : (status : Status) → (status ≡ Memory) ⊎ RefusesFirst bytes status → AgreesRun o system stimuli budget status
     told-system status (inl memory) = IfSome-all o (λ held. inl (ap is_failure memory))
-    told-system status (inr refuses) = IfSome_then o loaded (λ held is. by-bytes held status is (inl (inl refuses)))
+    told-system status (inr refuses) = IfSome_then o loaded (λ held is. by-bytes held status is (inl refuses))
 
-    -- its system isn't run yet
-    pub told-later : (sys : System) → IsSystemOf bytes sys → is_thin sys ≡ false → AgreesRun o system stimuli (Later 1)
-    told-later sys read not_thin = IfSome_then o loaded (λ held is. by-bytes held (Later 1) is (inl (inr (sys, read, not_thin, refl))))
-
-    module _ (sys : System) (read : IsSystemOf bytes sys) (thin : is_thin sys ≡ true) where
-      by-system : (held : Held) (answer : Status) → IsLoaded (held system) bytes → AnswersStimuli (held stimuli) sys answer → AgreesFiles (held system) (held stimuli) answer
-      by-system held answer is answers = by-bytes held answer is (inr (sys, read, thin, answers))
+    module _ (sys : System) (read : IsSystemOf bytes sys) where
+      by-system : (held : Held) (answer : Status) → IsLoaded (held system) bytes → AnswersStimuli (held stimuli) sys budget answer
+          → AgreesFiles (held system) (held stimuli) budget answer
+      by-system held answer is answers = by-bytes held answer is (inr (sys, read, answers))
 
       -- the stimuli's file was not loaded
-      pub told-load-2 : (status : Status) → IfSome o (λ held. FailsToLoad 2 (held stimuli) status) → AgreesRun o system stimuli status
+      pub told-load-2 : (status : Status) → IfSome o (λ held. FailsToLoad 2 (held stimuli) status) → AgreesRun o system stimuli budget status
       told-load-2 status told = IfSome-both o loaded told by
         where
-          by : (held : Held) → IsLoaded (held system) bytes → FailsToLoad 2 (held stimuli) status → AgreesFiles (held system) (held stimuli) status
+          by : (held : Held) → IsLoaded (held system) bytes → FailsToLoad 2 (held stimuli) status → AgreesFiles (held system) (held stimuli) budget status
           by held is (inl failed) = inl failed
           by held is (inr ends) = by-system held status is (inl ends)
 
       module _ (text : List ℕ) (loaded_text : IfSome o (λ held. IsLoaded (held stimuli) text)) where
-        by-text : (status : Status) → status ≡ stimuli_answer (stimuli_of sys text) → AgreesRun o system stimuli status
+        by-text : (status : Status) → AnswersSources sys budget (stimuli_of sys text) status → AgreesRun o system stimuli budget status
         by-text status says = IfSome-both o loaded loaded_text (λ held is is_text. by-system held status is (inr (text, is_text, says)))
 
         -- the stimuli's file isn't taken
-        pub told-stimuli : (status : Status) → (status ≡ Memory) ⊎ RefusesSecond (stimuli_of sys text) status → AgreesRun o system stimuli status
+        pub told-stimuli : (status : Status) → (status ≡ Memory) ⊎ RefusesSecond (stimuli_of sys text) status → AgreesRun o system stimuli budget status
         told-stimuli status (inl memory) = IfSome-all o (λ held. inl (ap is_failure memory))
-        told-stimuli status (inr refuses) = by-text status (refusal-answers (stimuli_of sys text) status refuses)
+        told-stimuli status (inr refuses) = by-text status (refusal-answers sys budget (stimuli_of sys text) status refuses)
 
-        -- its stimuli are run, or aren't yet
-        pub told-sources : (sources : List (List Stim)) → stimuli_of sys text ≡ Ok sources → (thin : Bool) → are_thin sources ≡ thin
-            → AgreesRun o system stimuli (if thin then Done else Later 2)
-        told-sources sources says thin is = by-text (if thin then Done else Later 2) (rw (says, is) refl)
+        -- its stimuli are run
+        pub told-sources : (sources : List (List Stim)) → stimuli_of sys text ≡ Ok sources → (status : Status) → EndsRun sys sources budget status
+            → AgreesRun o system stimuli budget status
+        told-sources sources says status ends = by-text status (subst (λ found. AnswersSources sys budget found status) (sym says) ends)
 
-  -- two files that the program runs are answered by `Done`
-  pub input-done : (sys : System) (sources : List (List Stim)) → IsInput o system stimuli sys sources → AgreesRun o system stimuli Done
-  input-done sys sources input =
-      told-sources input.system input.system_held sys input.system_read input.thin input.stimuli input.stimuli_held sources input.stimuli_read true input.thin_stimuli
+  -- two files that are run are answered by how the run ended
+  pub input-ends : (sys : System) (sources : List (List Stim)) → IsInput o system stimuli sys sources → (status : Status) → EndsRun sys sources budget status
+      → AgreesRun o system stimuli budget status
+  input-ends sys sources input status ends =
+      told-sources input.system input.system_held sys input.system_read input.stimuli input.stimuli_held sources input.stimuli_read status ends
 
-  pub failure-files : (status : Status) → is_failure status ≡ true → AgreesRun o system stimuli status
+  failure-files : (status : Status) → is_failure status ≡ true → AgreesRun o system stimuli budget status
   failure-files status failed = IfSome-all o (λ held. inl failed)
 
   -- its journal was written
-  pub told-run : (sys : System) (sources : List (List Stim)) (answer : Status) (bytes : List ℕ) (old new : Option (List ℕ)) (faults faults' : ℕ)
-      → IsInput o system stimuli sys sources → IsWritten bytes old new faults faults' answer → AgreesRun o system stimuli answer
-  told-run sys sources answer bytes old new faults faults' input (inl (done, all)) = rw done (input-done sys sources input)
-  told-run sys sources answer bytes old new faults faults' input (inr (failed, part, rose)) = failure-files answer (ap is_failure failed)
+  pub told-run : (sys : System) (sources : List (List Stim)) (j : Journal) (answer : Status) (bytes : List ℕ) (old new : Option (List ℕ)) (faults faults' : ℕ)
+      → IsInput o system stimuli sys sources → IsSimRun sys sources budget j → IsWrittenAs (ending_of j) bytes old new faults faults' answer
+      → AgreesRun o system stimuli budget answer
+  told-run sys sources j answer bytes old new faults faults' input is (inl (ends, all)) = input-ends sys sources input answer (j, is, ends)
+  told-run sys sources j answer bytes old new faults faults' input is (inr (failed, part, rose)) = failure-files answer (ap is_failure failed)
 
 -- the answer on what a call asks for
 module _ (o : Option Held) (answer : Status) where
-  pub agrees-run : (w : RunWords) → AgreesRun o w.system w.stimuli answer → IfSome o (λ held. Agrees held (Some (run w)) answer)
+  pub agrees-run : (w : RunWords) → AgreesRun o w.system w.stimuli w.budget answer → IfSome o (λ held. Agrees held (Some (run w)) answer)
   unfolding IsAnswer
   agrees-run w told = told
 
@@ -155,7 +157,6 @@ noted-line asked n old new Words other put = put
 noted-line asked n old new (Absent file) other put = put
 noted-line asked n old new (TooLong file len) other put = put
 noted-line asked n old new (Refused file code at) other put = put
-noted-line asked n old new (Later file) other put = put
 noted-line asked n old new (Asserted code lane) other put = put
 noted-line asked n old new (Spent lane) other put = put
 noted-line asked n old new Memory other put = put
@@ -179,7 +180,6 @@ noted-done asked n old Words done = absurd (false≢true done)
 noted-done asked n old (Absent file) done = absurd (false≢true done)
 noted-done asked n old (TooLong file len) done = absurd (false≢true done)
 noted-done asked n old (Refused file code at) done = absurd (false≢true done)
-noted-done asked n old (Later file) done = absurd (false≢true done)
 noted-done asked n old (Asserted code lane) done = absurd (false≢true done)
 noted-done asked n old (Spent lane) done = absurd (false≢true done)
 noted-done asked n old Memory done = absurd (false≢true done)
@@ -198,7 +198,6 @@ widened n Words cause = cause
 widened n (Absent file) cause = cause
 widened n (TooLong file len) cause = cause
 widened n (Refused file code at) cause = cause
-widened n (Later file) cause = cause
 widened n Memory cause = cause
 widened n ReadFault cause = cause
 widened n (Unlawful definition at) cause = cause
@@ -224,12 +223,15 @@ answers-stands (Some asked) n told answer other (inl same) = rw same other
 answers-stands (Some asked) n told answer other (inr (inl (memory, names))) = rw memory (λ e. cc)
 answers-stands (Some asked) n told answer other (inr (inr (failed, rose, _))) = rw failed (λ e. cc)
 
-module _ (IsWhole : List ℕ → Type 0) (old new : Option (List ℕ)) where
+-- all bytes are a part of them
+prefix-whole : (old new : Option (List ℕ)) (whole : List ℕ) → new ≡ appended old whole → AppendsPrefix old whole new
+prefix-whole old new whole got = (length whole, omega arith, got ∙ ap (appended old) (sym (take_all (length whole) whole (omega arith))))
+
+module _ (IsWhole : Status → List ℕ → Type 0) (old new : Option (List ℕ)) where
   prints_named : (told : Status) → names_file told ≡ true → PrintsOne IsWhole old new told → new ≡ old
   prints_named (Absent file) names prints = prints
   prints_named (TooLong file len) names prints = prints
   prints_named (Refused file code at) names prints = prints
-  prints_named (Later file) names prints = prints
   prints_named Done names prints = absurd (false≢true names)
   prints_named Words names prints = absurd (false≢true names)
   prints_named (Asserted code lane) names prints = absurd (false≢true names)
@@ -246,9 +248,8 @@ module _ (IsWhole : List ℕ → Type 0) (old new : Option (List ℕ)) where
   prints_failed (Absent file) other prints = inl prints
   prints_failed (TooLong file len) other prints = inl prints
   prints_failed (Refused file code at) other prints = inl prints
-  prints_failed (Later file) other prints = inl prints
-  prints_failed (Asserted code lane) other prints = inl prints
-  prints_failed (Spent lane) other prints = inl prints
+  prints_failed (Asserted code lane) other (whole, is, got) = inr (Asserted code lane, whole, is, prefix-whole old new whole got)
+  prints_failed (Spent lane) other (whole, is, got) = inr (Spent lane, whole, is, prefix-whole old new whole got)
   prints_failed Memory other prints = inl prints
   prints_failed ReadFault other prints = inl prints
   prints_failed (Unlawful definition at) other prints = inl prints

@@ -1,6 +1,9 @@
 -- Calls with names as their operands.
-use Rattle.std.proofs.Common.{◌≡◌, ◌∙◌, ◌++◌, ap, ap₂, codes, fold, refl, sym, List, [], ◌∷◌, true, None, Some, option_and_then}
+use Rattle.std.proofs.Common.{◌≡◌, ◌∙◌, ◌++◌, arith, ap, ap₂, codes, fold, refl, sym, List, [], ◌∷◌, true, None, Some, option_and_then}
+use Rattle.std.proofs.lemmas.Bool.{le-leb}
+use Rattle.std.specs.Fmt.{digits}
 use Rattle.std.proofs.lemmas.List.Sums.{fold-append}
+use Rattle.qp_text.proofs.NumberLaw.{number_of-decimal}
 use Rattle.clap.specs.Words.{Kinds, Row, Rule, Shape, Text, built, reading_of}
 use Rattle.clap.specs.Walk.{Held, Names, Walk, nothing_held, value, walk, walk_from, walked}
 use Rattle.clap.specs.Faults.{defaults_fault, step_fault, turn_fault, walk_fault}
@@ -12,8 +15,8 @@ use Rattle.qp_run.specs.declared.words.values.Form.{Form}
 use Rattle.qp_run.specs.declared.words.values.Form.TheVariants.{One, Two}
 use Rattle.qp_run.specs.declared.words.values.Kind.{Kind}
 use Rattle.qp_run.specs.declared.words.values.Kind.TheVariants.{Journal, Frames}
-use Rattle.qp_run.specs.WordLaws.{CheckOfNames, DecodeOfName, MigrateInFull, MigrateOfName, RefusedCalls, RunInFull, RunOfNames, is_name, word_of_form, word_of_kind}
-use Rattle.qp_run.specs.WordTable.{asked_by, check_app, check_in, check_with, command_in, decode_app, decode_in, decode_with, form_in, kernel_in, kind_in, migrate_app, migrate_in, migrate_with, run_app, run_in, run_with}
+use Rattle.qp_run.specs.WordLaws.{BudgetWords, CheckOfNames, DecodeOfName, EachBudget, MigrateInFull, MigrateOfName, RefusedCalls, RunInFull, RunOfNames, is_name, word_of_form, word_of_kind}
+use Rattle.qp_run.specs.WordTable.{asked_by, budget_in, check_app, check_in, check_with, command_in, decode_app, decode_in, decode_with, form_in, kernel_in, kind_in, migrate_app, migrate_in, migrate_with, run_app, run_in, run_with}
 use Rattle.qp_run.proofs.WordNames.{found-walked, name-turn, name-walked, next_at, standing}
 
 -- ---- options, and then one name or two
@@ -96,7 +99,7 @@ pending rows id text = record { rows = rows; pending = Some (id, text ∷ []); s
 -- ---- names alone
 
 pub run-names : RunOfNames
-unfolding run_app command_in asked_by run_with kernel_in kind_in form_in walk_fault defaults_fault
+unfolding run_app command_in asked_by run_with kernel_in budget_in kind_in form_in walk_fault defaults_fault
 run-names x y name_x name_y =
     ap (option_and_then run_in) (found-walked run_app (codes "run" ∷ x ∷ y ∷ []) (next_at (built run_app).top.rules (pending [] (codes "system") x) 2 y)
     (two_walked (built run_app).top.rules [] nothing_held (pending [] (codes "system") x) x y name_x name_y refl refl)
@@ -165,7 +168,7 @@ form_in-word default Two = refl
 
 run_read : (out : Kind) (form : Form) (x y : Text) → is_name x ≡ true → is_name y ≡ true
     → command_in (codes "run" ∷ run_options out form ++ x ∷ y ∷ [])
-    ≡ run_with (kernel_in (Some (codes "sim"))) (kind_in (Some (word_of_kind out))) (form_in One (Some (word_of_form form))) (Some x) (Some y)
+    ≡ run_with (kernel_in (Some (codes "sim"))) (budget_in None) (kind_in (Some (word_of_kind out))) (form_in One (Some (word_of_form form))) (Some x) (Some y)
 unfolding run_app command_in asked_by defaults_fault
 run_read out form x y name_x name_y =
     ap (option_and_then run_in) (found-walked run_app (codes "run" ∷ run_options out form ++ x ∷ y ∷ []) (next_at (built run_app).top.rules (run_next out form x) 2 y)
@@ -173,7 +176,7 @@ run_read out form x y name_x name_y =
     (two_faults (built run_app).top (run_options out form) (run_held out form) (run_next out form x) x y name_x name_y (run_stands out form) (run_faultless out form) refl refl refl))
 
 pub run-full : RunInFull
-unfolding run_with kernel_in
+unfolding run_with kernel_in budget_in
 run-full out form x y name_x name_y = run_read out form x y name_x name_y ∙ rw (kind_in-word out, form_in-word One form) refl
 
 abbrev migrate_options : Kind → Form → List Text
@@ -212,5 +215,15 @@ migrate-full from to x name = migrate_read from to x name ∙ rw (kind_in-word f
 -- ---- calls that are refused
 
 pub calls-refused : RefusedCalls
-unfolding clap_on_literals command_in asked_by run_app decode_app migrate_app check_app run_with decode_with migrate_with check_with kernel_in kind_in form_in
+unfolding clap_on_literals command_in asked_by run_app decode_app migrate_app check_app run_with decode_with migrate_with check_with kernel_in budget_in kind_in form_in digits
 calls-refused = refl
+
+-- ---- budgets
+
+pub budget-words : BudgetWords
+unfolding clap_on_literals command_in asked_by run_app run_with kernel_in budget_in kind_in form_in digits
+budget-words = (refl, refl)
+
+pub each-budget : EachBudget
+unfolding budget_in
+each-budget n some most = rw (number_of-decimal n (omega (arith, most)), le-leb 1 n some, le-leb n 1000000 most) refl

@@ -1,5 +1,5 @@
 -- What `clap` found, as a command.
-use Rattle.std.proofs.Common.{◌≡◌, ◌∙◌, ap, refl, sym, Option, None, Some, option_map}
+use Rattle.std.proofs.Common.{◌≡◌, ◌∙◌, ℕ, ap, refl, sym, Option, None, Some, option_map}
 use Rattle.std.specs.Borrow.{Bor}
 use Rattle.clap.specs.Words.{Text, first_of, first_value, rows_of}
 use Rattle.clap.specs.declared.parser.matches.Found.{Found}
@@ -22,35 +22,44 @@ read-rows read f id text value a is e was = ap read (text-rows f id text text is
 
 -- a run without one of its parts is none
 
-pub run-no_kernel : (o : Option Kind) (f : Option Form) (s t : Option Text) → run_with None o f s t ≡ None
+pub run-no_kernel : (b : Option ℕ) (o : Option Kind) (f : Option Form) (s t : Option Text) → run_with None b o f s t ≡ None
 unfolding run_with
-run-no_kernel o f s t = refl
+run-no_kernel b o f s t = refl
 
-pub run-no_kind : (k : Option Kernel) (f : Option Form) (s t : Option Text) → run_with k None f s t ≡ None
+pub run-no_budget : (k : Option Kernel) (o : Option Kind) (f : Option Form) (s t : Option Text) → run_with k None o f s t ≡ None
 unfolding run_with
-run-no_kind None f s t = refl
-run-no_kind (Some k) f s t = refl
+run-no_budget None o f s t = refl
+run-no_budget (Some k) o f s t = refl
 
-pub run-no_form : (k : Option Kernel) (o : Option Kind) (s t : Option Text) → run_with k o None s t ≡ None
+pub run-no_kind : (k : Option Kernel) (b : Option ℕ) (f : Option Form) (s t : Option Text) → run_with k b None f s t ≡ None
 unfolding run_with
-run-no_form None o s t = refl
-run-no_form (Some k) None s t = refl
-run-no_form (Some k) (Some o) s t = refl
+run-no_kind None b f s t = refl
+run-no_kind (Some k) None f s t = refl
+run-no_kind (Some k) (Some b) f s t = refl
 
-pub run-no_system : (k : Option Kernel) (o : Option Kind) (f : Option Form) (t : Option Text) → run_with k o f None t ≡ None
+pub run-no_form : (k : Option Kernel) (b : Option ℕ) (o : Option Kind) (s t : Option Text) → run_with k b o None s t ≡ None
 unfolding run_with
-run-no_system None o f t = refl
-run-no_system (Some k) None f t = refl
-run-no_system (Some k) (Some o) None t = refl
-run-no_system (Some k) (Some o) (Some f) t = refl
+run-no_form None b o s t = refl
+run-no_form (Some k) None o s t = refl
+run-no_form (Some k) (Some b) None s t = refl
+run-no_form (Some k) (Some b) (Some o) s t = refl
 
-pub run-no_stimuli : (k : Option Kernel) (o : Option Kind) (f : Option Form) (s : Option Text) → run_with k o f s None ≡ None
+pub run-no_system : (k : Option Kernel) (b : Option ℕ) (o : Option Kind) (f : Option Form) (t : Option Text) → run_with k b o f None t ≡ None
 unfolding run_with
-run-no_stimuli None o f s = refl
-run-no_stimuli (Some k) None f s = refl
-run-no_stimuli (Some k) (Some o) None s = refl
-run-no_stimuli (Some k) (Some o) (Some f) None = refl
-run-no_stimuli (Some k) (Some o) (Some f) (Some s) = refl
+run-no_system None b o f t = refl
+run-no_system (Some k) None o f t = refl
+run-no_system (Some k) (Some b) None f t = refl
+run-no_system (Some k) (Some b) (Some o) None t = refl
+run-no_system (Some k) (Some b) (Some o) (Some f) t = refl
+
+pub run-no_stimuli : (k : Option Kernel) (b : Option ℕ) (o : Option Kind) (f : Option Form) (s : Option Text) → run_with k b o f s None ≡ None
+unfolding run_with
+run-no_stimuli None b o f s = refl
+run-no_stimuli (Some k) None o f s = refl
+run-no_stimuli (Some k) (Some b) None f s = refl
+run-no_stimuli (Some k) (Some b) (Some o) None s = refl
+run-no_stimuli (Some k) (Some b) (Some o) (Some f) None = refl
+run-no_stimuli (Some k) (Some b) (Some o) (Some f) (Some s) = refl
 
 pub migrate-no_kind : (f : Option Form) (file : Option Text) → migrate_with None f file ≡ None
 unfolding migrate_with

@@ -16,7 +16,7 @@ use Rattle.qp_frames.specs.declared.faults.FrameFault.TheVariants as frame_fault
 use Rattle.qp_frames.specs.Stream.{decoded}
 use Rattle.qp_run.specs.declared.place.Place.TheVariants.{Nowhere, Line, Offset}
 use Rattle.qp_run.specs.declared.status.Status.{Status}
-use Rattle.qp_run.specs.declared.status.Status.TheVariants.{Done, Refused, Memory, WriteFault}
+use Rattle.qp_run.specs.declared.status.Status.TheVariants.{Done, Refused, Asserted, Spent, Memory, WriteFault}
 use Rattle.qp_run.specs.declared.words.values.Kind.{Kind}
 use Rattle.qp_run.specs.declared.words.values.Kind.TheVariants.{Journal, Frames}
 use Rattle.qp_run.specs.Loads.{EndsAtLoad, IsLoaded}
@@ -103,13 +103,19 @@ abbrev pub IsMigrated : Option Held → List ℕ → Kind → ℕ → List ℕ �
 IsMigrated held name kind to whole =
     (form : ℕ) × (j : journal.Journal) × HasJournal held name kind form j × (has_form to j ≡ true) × (whole ≡ written kind to j)
 
+-- such bytes, of a call that is done
+abbrev pub WhenDone : (List ℕ → Type 0) → Status → List ℕ → Type 0
+WhenDone IsWhole answer whole = (answer ≡ Done) × IsWhole whole
+
 -- what the output got: all of such bytes, a part of them where a write failed, or nothing
-abbrev pub PrintsOne : (List ℕ → Type 0) → (old new : Option (List ℕ)) → Status → Type 0
-PrintsOne IsWhole old new Done = (whole : List ℕ) × IsWhole whole × (new ≡ appended old whole)
-PrintsOne IsWhole old new WriteFault = (new ≡ old) ⊎ ((whole : List ℕ) × IsWhole whole × AppendsPrefix old whole new)
+abbrev pub PrintsOne : (Status → List ℕ → Type 0) → (old new : Option (List ℕ)) → Status → Type 0
+PrintsOne IsWhole old new Done = (whole : List ℕ) × IsWhole Done whole × (new ≡ appended old whole)
+PrintsOne IsWhole old new (Asserted code lane) = (whole : List ℕ) × IsWhole (Asserted code lane) whole × (new ≡ appended old whole)
+PrintsOne IsWhole old new (Spent lane) = (whole : List ℕ) × IsWhole (Spent lane) whole × (new ≡ appended old whole)
+PrintsOne IsWhole old new WriteFault = (new ≡ old) ⊎ ((told : Status) × (whole : List ℕ) × IsWhole told whole × AppendsPrefix old whole new)
 PrintsOne IsWhole old new answer = new ≡ old
 
--- bytes were written, or a part of them, and the fault was counted
-abbrev pub IsWritten : List ℕ → (old new : Option (List ℕ)) → (faults faults' : ℕ) → Status → Type 0
-IsWritten bytes old new faults faults' answer =
-    ((answer ≡ Done) × (new ≡ appended old bytes)) ⊎ ((answer ≡ WriteFault) × AppendsPrefix old bytes new × Rose faults faults')
+-- bytes were written, which is told so, or a part of them, and the fault was counted
+abbrev pub IsWrittenAs : Status → List ℕ → (old new : Option (List ℕ)) → (faults faults' : ℕ) → Status → Type 0
+IsWrittenAs told bytes old new faults faults' answer =
+    ((answer ≡ told) × (new ≡ appended old bytes)) ⊎ ((answer ≡ WriteFault) × AppendsPrefix old bytes new × Rose faults faults')

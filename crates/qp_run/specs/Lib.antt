@@ -1,8 +1,5 @@
-pub mod Reads
 pub mod Notes
-pub mod Thin
-pub mod ThinRun
-pub mod FlatJournal
+pub mod Endings
 pub mod Loads
 pub mod Conversions
 pub mod Refusals

@@ -7,7 +7,7 @@ use Rattle.qp_run.specs.WordTable.{Asked, operand_in}
 use Rattle.qp_word_rules.specs.declared.verdict.Site.{Site}
 use Rattle.qp_word_rules.specs.declared.verdict.Site.TheVariants as site
 use Rattle.qp_run.specs.declared.status.Status.{Status}
-use Rattle.qp_run.specs.declared.status.Status.TheVariants.{Done, Words, Absent, TooLong, Refused, Later, Asserted, Spent, Memory, ReadFault, WriteFault, Unlawful}
+use Rattle.qp_run.specs.declared.status.Status.TheVariants.{Done, Words, Absent, TooLong, Refused, Asserted, Spent, Memory, ReadFault, WriteFault, Unlawful}
 
 -- the exit status
 abbrev pub number_of : Status → ℕ
@@ -22,7 +22,6 @@ number_of Memory = 5
 number_of ReadFault = 6
 number_of WriteFault = 7
 number_of (Unlawful definition at) = 8
-number_of (Later file) = 9
 
 -- a place in a file
 abbrev pub place_text : place.Place → List ℕ
@@ -53,7 +52,6 @@ line_of asked Words = codes "qp: bad words\n"
 line_of asked (Absent file) = named_line (operand_in asked file) (codes "absent")
 line_of asked (TooLong file len) = named_line (operand_in asked file) (codes "too long " ++ decimal len)
 line_of asked (Refused file code at) = named_line (operand_in asked file) (decimal code ++ codes " " ++ place_text at)
-line_of asked (Later file) = named_line (operand_in asked file) (codes "later")
 line_of asked (Asserted code lane) = codes "qp: assertion " ++ decimal code ++ codes " in lane " ++ decimal lane ++ codes "\n"
 line_of asked (Spent lane) = codes "qp: spent in lane " ++ decimal lane ++ codes "\n"
 line_of asked Memory = codes "qp: memory\n"
@@ -71,7 +69,6 @@ abbrev pub names_file : Status → Bool
 names_file (Absent file) = true
 names_file (TooLong file len) = true
 names_file (Refused file code at) = true
-names_file (Later file) = true
 names_file status = false
 
 -- the place of the operand whose file the line names, from 1; none elsewhere
@@ -79,5 +76,4 @@ abbrev pub file_of : Status → ℕ
 file_of (Absent file) = file
 file_of (TooLong file len) = file
 file_of (Refused file code at) = file
-file_of (Later file) = file
 file_of status = 0

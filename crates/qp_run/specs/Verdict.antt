@@ -1,59 +1,62 @@
 -- What a call of the program is to answer.
-use Rattle.std.specs.Prelude.{◌≡◌, ◌≢◌, ℕ, Bool, true, false, IfSome, List, ⊤, ◌⊎◌, Option, Some, None, Result, Ok, Err, if◌then◌else◌}
+use Rattle.std.specs.Prelude.{◌≡◌, ◌≢◌, ℕ, Bool, true, false, IfSome, List, ⊤, ◌⊎◌, Option, Some, None, Result, Ok, Err}
 use Rattle.qp_base.specs.Counts.{Rose}
 use Rattle.qp_base.specs.Sink.{AppendsPrefix, appended}
 use Rattle.qp_model.specs.declared.journals.Journal as journal
 use Rattle.qp_model.specs.declared.stimulus.Stim.{Stim}
 use Rattle.qp_model.specs.declared.systems.System.{System}
+use Rattle.qp_simulation.specs.SimRun.{IsSimRun}
 use Rattle.qp_stim.specs.Stimuli.{Fault, stimuli_of}
 use Rattle.qp_system.specs.SystemOf.{IsSystemOf}
 use Rattle.qp_run.specs.declared.place.Place.TheVariants.{Line}
 use Rattle.qp_run.specs.declared.status.Status.{Status}
-use Rattle.qp_run.specs.declared.status.Status.TheVariants.{Done, Words, Absent, TooLong, Refused, Later, Asserted, Spent, Memory, ReadFault, WriteFault}
+use Rattle.qp_run.specs.declared.status.Status.TheVariants.{Done, Words, Absent, TooLong, Refused, Asserted, Spent, Memory, ReadFault, WriteFault}
 use Rattle.qp_run.specs.declared.words.values.Kind.{Kind}
 use Rattle.qp_run.specs.declared.words.values.Kind.TheVariants.{Frames, Journal as Text}
-use Rattle.qp_run.specs.Conversions.{AnswersJournal, Held, IsDecoded, IsMigrated, PrintsOne, decode_on, migrate_on, written}
+use Rattle.qp_run.specs.Conversions.{AnswersJournal, Held, IsDecoded, IsMigrated, PrintsOne, WhenDone, decode_on, migrate_on, written}
 use Rattle.qp_run.specs.Checks.{IsChecked, Judges, JudgesFiles}
+use Rattle.qp_run.specs.Endings.{ending_of}
 use Rattle.qp_run.specs.Loads.{EndsAtLoad, IsLoaded}
 use Rattle.qp_run.specs.Notes.{file_of, line_of, names_file}
 use Rattle.qp_run.specs.Refusals.{RefusesFirst}
-use Rattle.qp_run.specs.Thin.{is_thin, are_thin}
-use Rattle.qp_run.specs.ThinRun.{IsQuietRun}
 use Rattle.qp_run.specs.WordTable.{Asked, CheckWords, check, decode, migrate, number_of_form, operand_in, run}
 use Rattle.qp_text.specs.TextLaw.{IsWritable}
 
--- the bytes of the system's file have a fault, or their system isn't run yet, and this is the answer
-abbrev pub EndsAtSystem : List ℕ → Status → Type 0
-EndsAtSystem bytes answer = RefusesFirst bytes answer ⊎ ((sys : System) × IsSystemOf bytes sys × (is_thin sys ≡ false) × (answer ≡ Later 1))
+-- the answer on a run of this system and these stimuli: what the records of a journal that such a run may leave say
+abbrev pub EndsRun : System → List (List Stim) → ℕ → Status → Type 0
+EndsRun sys sources budget answer = (j : journal.Journal) × IsSimRun sys sources budget j × (answer ≡ ending_of j)
 
 -- the answer by what the stimuli's file says
-abbrev pub stimuli_answer : Result (List (List Stim)) Fault → Status
-stimuli_answer (Err fault) = Refused 2 fault.code (Line fault.line)
-stimuli_answer (Ok sources) = if are_thin sources then Done else Later 2
+abbrev pub AnswersSources : System → ℕ → Result (List (List Stim)) Fault → Status → Type 0
+AnswersSources sys budget (Err fault) answer = answer ≡ Refused 2 fault.code (Line fault.line)
+AnswersSources sys budget (Ok sources) answer = EndsRun sys sources budget answer
 
 -- the answer from the stimuli's file on
-abbrev pub AnswersStimuli : Option (List ℕ) → System → Status → Type 0
-AnswersStimuli held sys answer = EndsAtLoad 2 held answer ⊎ ((bytes : List ℕ) × IsLoaded held bytes × (answer ≡ stimuli_answer (stimuli_of sys bytes)))
+abbrev pub AnswersStimuli : Option (List ℕ) → System → ℕ → Status → Type 0
+AnswersStimuli held sys budget answer =
+    EndsAtLoad 2 held answer ⊎ ((bytes : List ℕ) × IsLoaded held bytes × AnswersSources sys budget (stimuli_of sys bytes) answer)
 
 -- the answer from the content of the system's file on
-abbrev pub AnswersSystem : List ℕ → Option (List ℕ) → Status → Type 0
-AnswersSystem bytes stimuli answer = EndsAtSystem bytes answer ⊎ ((sys : System) × IsSystemOf bytes sys × (is_thin sys ≡ true) × AnswersStimuli stimuli sys answer)
+abbrev pub AnswersSystem : List ℕ → Option (List ℕ) → ℕ → Status → Type 0
+AnswersSystem bytes stimuli budget answer =
+    RefusesFirst bytes answer ⊎ ((sys : System) × IsSystemOf bytes sys × AnswersStimuli stimuli sys budget answer)
 
 -- the answer from the system's file on
-unfoldable pub AnswersFiles : (system stimuli : Option (List ℕ)) → Status → Type 0
-unfolding stimuli_of is_thin are_thin
-AnswersFiles system stimuli answer = EndsAtLoad 1 system answer ⊎ ((bytes : List ℕ) × IsLoaded system bytes × AnswersSystem bytes stimuli answer)
+unfoldable pub AnswersFiles : (system stimuli : Option (List ℕ)) → ℕ → Status → Type 0
+unfolding stimuli_of ending_of
+AnswersFiles system stimuli budget answer =
+    EndsAtLoad 1 system answer ⊎ ((bytes : List ℕ) × IsLoaded system bytes × AnswersSystem bytes stimuli budget answer)
 
 -- the answer to what a call asks for; words that ask for nothing are answered at once
 abbrev pub AnswersCall : Held → Option Asked → Status → Type 0
 AnswersCall held None answer = answer ≡ Words
-AnswersCall held (Some (run w)) answer = AnswersFiles (held w.system) (held w.stimuli) answer
+AnswersCall held (Some (run w)) answer = AnswersFiles (held w.system) (held w.stimuli) w.budget answer
 AnswersCall held (Some (decode frames)) answer = AnswersJournal Frames decode_on (held frames) answer
 AnswersCall held (Some (migrate w)) answer = AnswersJournal w.from (migrate_on (number_of_form w.to)) (held w.file) answer
 AnswersCall held (Some (check w)) answer = JudgesFiles (held w.system) (held w.stimuli) (held w.journal) answer
 
 -- the answer to a call over files with this content, where memory, reads and writes don't fail: the words come first,
--- then the files in order, and then the form of a journal or the judge's verdict
+-- then the files in order, and then how the run ended, the form of a journal or the judge's verdict
 unfoldable pub IsAnswer : Held → Option Asked → Status → Type 0
 unfolding AnswersFiles JudgesFiles
 IsAnswer held asked answer = AnswersCall held asked answer
@@ -69,16 +72,16 @@ is_failure answer = false
 abbrev pub Agrees : Held → Option Asked → Status → Type 0
 Agrees held asked answer = (is_failure answer ≡ true) ⊎ IsAnswer held asked answer
 
-abbrev pub AgreesFiles : (system stimuli : Option (List ℕ)) → Status → Type 0
-AgreesFiles system stimuli answer = (is_failure answer ≡ true) ⊎ AnswersFiles system stimuli answer
+abbrev pub AgreesFiles : (system stimuli : Option (List ℕ)) → ℕ → Status → Type 0
+AgreesFiles system stimuli budget answer = (is_failure answer ≡ true) ⊎ AnswersFiles system stimuli budget answer
 
 -- a file was not loaded
 abbrev pub FailsToLoad : ℕ → Option (List ℕ) → Status → Type 0
 FailsToLoad file held answer = (is_failure answer ≡ true) ⊎ EndsAtLoad file held answer
 
 -- a failure, or else the answer on files that the shelf tells: of a run, a conversion or a judgement
-abbrev pub AgreesRun : Option Held → (system stimuli : List ℕ) → Status → Type 0
-AgreesRun held system stimuli answer = IfSome held (λ h. AgreesFiles (h system) (h stimuli) answer)
+abbrev pub AgreesRun : Option Held → (system stimuli : List ℕ) → ℕ → Status → Type 0
+AgreesRun held system stimuli budget answer = IfSome held (λ h. AgreesFiles (h system) (h stimuli) budget answer)
 
 abbrev pub AgreesJournal : Option Held → Kind → (journal.Journal → Status) → List ℕ → Status → Type 0
 AgreesJournal held kind on name answer = IfSome held (λ h. (is_failure answer ≡ true) ⊎ AnswersJournal kind on (h name) answer)
@@ -89,9 +92,18 @@ JudgesCall held w answer = IfSome held (λ h. JudgesFiles (h w.system) (h w.stim
 abbrev pub AgreesCheck : Option Held → CheckWords → Status → Type 0
 AgreesCheck held w answer = IfSome held (λ h. (is_failure answer ≡ true) ⊎ JudgesFiles (h w.system) (h w.stimuli) (h w.journal) answer)
 
--- no call over files has two answers
+-- both are answers on runs of one system, its stimuli and a budget
+abbrev pub EndRuns : ℕ → (a b : Status) → Type 0
+EndRuns budget a b = (sys : System) × (sources : List (List Stim)) × EndsRun sys sources budget a × EndsRun sys sources budget b
+
+abbrev pub MayDiffer : Option Asked → (a b : Status) → Type 0
+MayDiffer (Some (run w)) a b = EndRuns w.budget a b
+MayDiffer _ a b = ⊥
+
+-- No call over files has two answers, but for a call that runs: there the words and files leave one refusal, or else one system with its
+-- stimuli, and each answer is what the records of some lawful journal of these say.
 abbrev pub OneAnswer : Type 0
-OneAnswer = (held : Held) (asked : Option Asked) (a b : Status) → IsAnswer held asked a → IsAnswer held asked b → a ≡ b
+OneAnswer = (held : Held) (asked : Option Asked) (a b : Status) → IsAnswer held asked a → IsAnswer held asked b → (a ≡ b) ⊎ MayDiffer asked a b
 
 -- a count before and after a call
 pub record Count : Type 0 where
@@ -138,8 +150,6 @@ HasCause n (Absent file) = HasRisen n.misses
 HasCause n (TooLong file len) = HasRisen n.misses
 HasCause n ReadFault = HasRisen n.reads
 HasCause n WriteFault = HasRisen n.out ⊎ HasRisen n.notes
-HasCause n (Asserted code lane) = ⊥
-HasCause n (Spent lane) = ⊥
 HasCause n answer = ⊤
 
 -- what the notes got: nothing for `Done`, else the line of the answer; or a part of a line whose put failed
@@ -164,7 +174,7 @@ abbrev pub Stands : Count → (told answer : Status) → Type 0
 Stands n told answer =
     (answer ≡ told) ⊎ (((answer ≡ Memory) × (names_file told ≡ true)) ⊎ ((answer ≡ WriteFault) × HasRisen n × (told ≢ Done)))
 
--- what the two files of a run say: a system and stimuli that the program runs
+-- what the two files of a run say: a system and stimuli
 pub record IsInput (held : Option Held) (system_name stimuli_name : List ℕ) (sys : System) (sources : List (List Stim)) : Type 0 where
   pub system : List ℕ
   pub stimuli : List ℕ
@@ -172,28 +182,26 @@ pub record IsInput (held : Option Held) (system_name stimuli_name : List ℕ) (s
   pub stimuli_held : IfSome held (λ h. IsLoaded (h stimuli_name) stimuli)
   pub system_read : IsSystemOf system sys
   pub stimuli_read : stimuli_of sys stimuli ≡ Ok sources
-  pub thin : is_thin sys ≡ true
-  pub thin_stimuli : are_thin sources ≡ true
 
--- a lawful journal of two files
-pub record IsLawfulRun (held : Option Held) (system_name stimuli_name : List ℕ) (j : journal.Journal) : Type 0 where
+-- a lawful journal of two files, as a run under `sim` with this budget leaves it
+pub record IsLawfulRun (held : Option Held) (system_name stimuli_name : List ℕ) (budget : ℕ) (j : journal.Journal) : Type 0 where
   pub system : System
   pub sources : List (List Stim)
   pub input : IsInput held system_name stimuli_name system sources
-  pub run : IsQuietRun system sources j
+  pub run : IsSimRun system sources budget j
 
--- the output of a run: its journal as text or frames, in this form
-abbrev pub IsRun : Option Held → (system_name stimuli_name : List ℕ) → Kind → ℕ → List ℕ → Type 0
-IsRun held system_name stimuli_name kind form whole =
-    (j : journal.Journal) × IsLawfulRun held system_name stimuli_name j × (whole ≡ written kind form j)
+-- the output of a run, and the answer with it: the run's journal as text or frames, in this form, and what the journal's records say
+abbrev pub IsRun : Option Held → (system_name stimuli_name : List ℕ) → ℕ → Kind → ℕ → Status → List ℕ → Type 0
+IsRun held system_name stimuli_name budget kind form answer whole =
+    (j : journal.Journal) × IsLawfulRun held system_name stimuli_name budget j × (answer ≡ ending_of j) × (whole ≡ written kind form j)
 
--- the whole output of a call
-abbrev pub IsOutput : Option Held → Option Asked → List ℕ → Type 0
-IsOutput held None whole = ⊥
-IsOutput held (Some (run w)) whole = IsRun held w.system w.stimuli w.out (number_of_form w.form) whole
-IsOutput held (Some (decode frames)) whole = IsDecoded held frames whole
-IsOutput held (Some (migrate w)) whole = IsMigrated held w.file w.from (number_of_form w.to) whole
-IsOutput held (Some (check w)) whole = IsChecked held w whole
+-- the whole output of a call that is answered so
+abbrev pub IsOutput : Option Held → Option Asked → Status → List ℕ → Type 0
+IsOutput held None answer whole = ⊥
+IsOutput held (Some (run w)) answer whole = IsRun held w.system w.stimuli w.budget w.out (number_of_form w.form) answer whole
+IsOutput held (Some (decode frames)) answer whole = WhenDone (IsDecoded held frames) answer whole
+IsOutput held (Some (migrate w)) answer whole = WhenDone (IsMigrated held w.file w.from (number_of_form w.to)) answer whole
+IsOutput held (Some (check w)) answer whole = WhenDone (IsChecked held w) answer whole
 
 -- what the output got: the whole of it, a part of it where a write failed, or nothing
 abbrev pub Prints : Option Held → Option Asked → (old new : Option (List ℕ)) → Status → Type 0
@@ -217,11 +225,19 @@ EndsJudging system stimuli held n answer =
     → IsWritable form j → IsLoaded held (written Text form j)
     → (HasRisen n.reads → ⊥) → (HasRisen n.out → ⊥) → (HasRisen n.notes → ⊥) → Judges sys sources j answer ⊎ (answer ≡ Memory)
 
--- calls that end: two files that the program runs are run to the end, frames of a journal are decoded, a journal is
--- migrated to each form that it has, and each journal is judged
+-- two files that the shelf tells have a system and its stimuli, and are run
+unfoldable pub EndsRunning : (system stimuli : Option (List ℕ)) → ℕ → Counts → Status → Type 0
+unfolding stimuli_of ending_of
+EndsRunning system stimuli budget n answer =
+    (bytes text : List ℕ) (sys : System) (sources : List (List Stim))
+    → IsLoaded system bytes → IsSystemOf bytes sys → IsLoaded stimuli text → stimuli_of sys text ≡ Ok sources
+    → (HasRisen n.reads → ⊥) → (HasRisen n.out → ⊥) → (HasRisen n.notes → ⊥) → EndsRun sys sources budget answer ⊎ (answer ≡ Memory)
+
+-- calls that end: each system is run on its stimuli, frames of a journal are decoded, a journal is migrated to each form that it has,
+-- and each journal is judged
 abbrev pub EndsCall : Held → Option Asked → Counts → Status → Type 0
 EndsCall held None n answer = Ends n Words answer
-EndsCall held (Some (run w)) n answer = IsAnswer held (Some (run w)) Done → Ends n Done answer
+EndsCall held (Some (run w)) n answer = EndsRunning (held w.system) (held w.stimuli) w.budget n answer
 EndsCall held (Some (decode frames)) n answer = EndsOnJournal (held frames) Frames decode_on n answer
 EndsCall held (Some (migrate w)) n answer = EndsOnJournal (held w.file) w.from (migrate_on (number_of_form w.to)) n answer
 EndsCall held (Some (check w)) n answer = EndsJudging (held w.system) (held w.stimuli) (held w.journal) n answer
@@ -244,7 +260,7 @@ pub record IsCall (held : Option Held) (asked : Option Asked) (n : Counts) (outp
   pub told : IfSome held (λ h. Agrees h asked answer)
   pub words_told : AnswersWords asked answer
   pub cause : HasCause n answer
-  -- what `Done` printed is the whole output that was asked for, and each call that can be carried out is
+  -- what a call printed that was carried out is the whole output that was asked for, and each that can be carried out is
   pub out : Prints held asked output.before output.after answer
   pub complete : IsComplete held asked n answer
   pub notes : Noted asked n.notes note.before note.after answer

@@ -1,5 +1,5 @@
 -- What the table of words means on plain calls.
-use Rattle.std.specs.Prelude.{codes, ◌≡◌, ◌≢◌, ◌==◌, Bool, true, not, List, [], ◌∷◌, None, Some, is_some}
+use Rattle.std.specs.Prelude.{codes, decimal, ℕ, ◌≡◌, ◌≢◌, ◌≤◌, ◌==◌, Bool, true, not, List, [], ◌∷◌, None, Some, is_some}
 use Rattle.std.specs.List.{list_all}
 use Rattle.clap.specs.Words.{Text}
 use Rattle.qp_run.specs.declared.words.values.Kernel.TheVariants.{Sim}
@@ -7,7 +7,7 @@ use Rattle.qp_run.specs.declared.words.values.Kind.{Kind}
 use Rattle.qp_run.specs.declared.words.values.Kind.TheVariants.{Frames, Journal}
 use Rattle.qp_run.specs.declared.words.values.Form.{Form}
 use Rattle.qp_run.specs.declared.words.values.Form.TheVariants.{One, Two}
-use Rattle.qp_run.specs.WordTable.{check, command_in, decode, migrate, run}
+use Rattle.qp_run.specs.WordTable.{budget_in, check, command_in, decode, migrate, run}
 
 -- the word doesn't begin with `-`
 abbrev pub is_name : Text → Bool
@@ -18,7 +18,7 @@ is_name (b ∷ bs) = not (b == 45)
 abbrev pub RunOfNames : Type 0
 RunOfNames = (system stimuli : Text) → is_name system ≡ true → is_name stimuli ≡ true
     → command_in (codes "run" ∷ system ∷ stimuli ∷ [])
-    ≡ Some (run (record { kernel = Sim; out = Journal; form = One; system = system; stimuli = stimuli }))
+    ≡ Some (run (record { kernel = Sim; budget = 100000; out = Journal; form = One; system = system; stimuli = stimuli }))
 
 -- the name of a file of frames is decoded
 abbrev pub DecodeOfName : Type 0
@@ -48,12 +48,24 @@ abbrev pub word_of_form : Form → Text
 word_of_form One = codes "1"
 word_of_form Two = codes "2"
 
--- every run and every migration of names can be asked for
+-- every run of names with the default budget, every budget, and every migration of names can be asked for
 
 abbrev pub RunInFull : Type 0
 RunInFull = (out : Kind) (form : Form) (system stimuli : Text) → is_name system ≡ true → is_name stimuli ≡ true
     → command_in (codes "run" ∷ codes "--kernel" ∷ codes "sim" ∷ codes "--out" ∷ word_of_kind out ∷ codes "--form" ∷ word_of_form form ∷ system ∷ stimuli ∷ [])
-    ≡ Some (run (record { kernel = Sim; out = out; form = form; system = system; stimuli = stimuli }))
+    ≡ Some (run (record { kernel = Sim; budget = 100000; out = out; form = form; system = system; stimuli = stimuli }))
+
+-- a budget is asked for by its decimal
+abbrev pub EachBudget : Type 0
+EachBudget = (n : ℕ) → 1 ≤ n → n ≤ 1000000 → budget_in (Some (decimal n)) ≡ Some n
+
+abbrev pub run_with_budget : Text → List Text
+run_with_budget n = codes "run" ∷ codes "--budget" ∷ n ∷ codes "a" ∷ codes "b" ∷ []
+
+-- the least and the largest budget, as words of a call
+abbrev pub BudgetWords : Type 0
+BudgetWords = (command_in (run_with_budget (codes "1")) ≡ Some (run (record { kernel = Sim; budget = 1; out = Journal; form = One; system = codes "a"; stimuli = codes "b" })))
+    × (command_in (run_with_budget (codes "1000000")) ≡ Some (run (record { kernel = Sim; budget = 1000000; out = Journal; form = One; system = codes "a"; stimuli = codes "b" })))
 
 abbrev pub MigrateInFull : Type 0
 MigrateInFull = (from : Kind) (to : Form) (file : Text) → is_name file ≡ true
@@ -69,6 +81,10 @@ refused_calls = (codes "run" ∷ codes "a" ∷ [])
     ∷ (codes "run" ∷ codes "-h" ∷ codes "a" ∷ codes "b" ∷ [])
     ∷ (codes "run" ∷ codes "--version" ∷ [])
     ∷ (codes "run" ∷ codes "--kernel" ∷ codes "qk" ∷ codes "a" ∷ codes "b" ∷ [])
+    ∷ run_with_budget (codes "0")
+    ∷ run_with_budget (codes "1000001")
+    ∷ run_with_budget (codes "01")
+    ∷ run_with_budget (codes "+1")
     ∷ (codes "run" ∷ codes "--out" ∷ codes "summary" ∷ codes "a" ∷ codes "b" ∷ [])
     ∷ (codes "run" ∷ codes "--form" ∷ codes "1" ∷ codes "--form" ∷ codes "1" ∷ codes "a" ∷ codes "b" ∷ [])
     ∷ (codes "decode" ∷ codes "--form" ∷ codes "1" ∷ codes "f" ∷ [])

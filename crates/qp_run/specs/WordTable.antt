@@ -1,10 +1,11 @@
 -- The words of a call: a command word, and what `clap` makes of the rest.
 use Rattle.std.specs.Borrow.{Bor}
-use Rattle.std.specs.Prelude.{codes, ℕ, ◌==◌, true, List, [], ◌∷◌, map, Option, None, Some, if◌then◌else◌, option_and_then}
+use Rattle.std.specs.Prelude.{codes, ℕ, ◌==◌, nat_le, Bool, true, ◌&&◌, List, [], ◌∷◌, map, Option, None, Some, if◌then◌else◌, option_and_then}
 use Rattle.std.specs.Str.{bytes_eq}
 use Rattle.clap.specs.Words.{App, Kinds, Row, Rule, Text, fault_of, first_of, matches_of, new_rule}
 use Rattle.clap.specs.Simple.{new_shape}
 use Rattle.clap.specs.declared.builder.action.ArgAction.TheVariants.{Set}
+use Rattle.qp_text.specs.Numbers.{number_of}
 use Rattle.qp_run.specs.declared.words.Command.{Command}
 use Rattle.qp_run.specs.declared.words.Command.TheVariants.{Run, Decode, Migrate, Check}
 use Rattle.qp_run.specs.declared.words.values.Kernel.{Kernel}
@@ -39,10 +40,10 @@ plain_app word rules = record {
   subs = [];
 }
 
--- run [--kernel K] [--out O] [--form F] SYSTEM STIMULI
+-- run [--kernel K] [--budget N] [--out O] [--form F] SYSTEM STIMULI
 unfoldable pub run_app : App
 run_app = plain_app (codes "run")
-    (option (codes "kernel") ∷ option (codes "out") ∷ option (codes "form") ∷ operand (codes "system") ∷ operand (codes "stimuli") ∷ [])
+    (option (codes "kernel") ∷ option (codes "budget") ∷ option (codes "out") ∷ option (codes "form") ∷ operand (codes "system") ∷ operand (codes "stimuli") ∷ [])
 
 -- decode FRAMES
 unfoldable pub decode_app : App
@@ -71,6 +72,15 @@ unfoldable pub kernel_in : Option Text → Option Kernel
 kernel_in None = Some Sim
 kernel_in (Some word) = if bytes_eq word (codes "sim") then Some Sim else None
 
+-- the number, where it is from 1 to 1,000,000
+abbrev pub budget_within : ℕ → Option ℕ
+budget_within n = if nat_le 1 n && nat_le n 1000000 then Some n else None
+
+-- a number in canonical decimal
+unfoldable pub budget_in : Option Text → Option ℕ
+budget_in None = Some 100000
+budget_in (Some word) = option_and_then budget_within (number_of word)
+
 unfoldable pub kind_in : Option Text → Option Kind
 kind_in None = Some Journal
 kind_in (Some word) =
@@ -91,6 +101,7 @@ number_of_form Two = 2
 
 pub record RunWords : Type 0 where
   pub kernel : Kernel
+  pub budget : ℕ
   pub out : Kind
   pub form : Form
   pub system : Text
@@ -116,10 +127,15 @@ pub data Asked : Type 0 where
   check : CheckWords → Asked
 
 abbrev pub asked_of : Command → Asked
-asked_of (Run k o f system stimuli) = run (record { kernel = k; out = o; form = f; system = system.now; stimuli = stimuli.now })
+asked_of (Run k b o f system stimuli) = run (record { kernel = k; budget = b; out = o; form = f; system = system.now; stimuli = stimuli.now })
 asked_of (Decode frames) = decode frames.now
 asked_of (Migrate k f file) = migrate (record { from = k; to = f; file = file.now })
 asked_of (Check system stimuli journal) = check (record { system = system.now; stimuli = stimuli.now; journal = journal.now })
+
+-- a run has a budget of 1 to 1,000,000
+abbrev pub has_budget : Asked → Bool
+has_budget (run w) = nat_le 1 w.budget && nat_le w.budget 1000000
+has_budget _ = true
 
 -- the word of an operand, by its place from 1; no text elsewhere
 abbrev pub operand_at : Asked → ℕ → Text
@@ -133,13 +149,13 @@ operand_in None place = []
 operand_in (Some asked) place = operand_at asked place
 
 -- all parts of a run are there
-unfoldable pub run_with : Option Kernel → Option Kind → Option Form → Option Text → Option Text → Option Asked
-run_with (Some k) (Some o) (Some f) (Some system) (Some stimuli) =
-    Some (run (record { kernel = k; out = o; form = f; system = system; stimuli = stimuli }))
-run_with _ _ _ _ _ = None
+unfoldable pub run_with : Option Kernel → Option ℕ → Option Kind → Option Form → Option Text → Option Text → Option Asked
+run_with (Some k) (Some b) (Some o) (Some f) (Some system) (Some stimuli) =
+    Some (run (record { kernel = k; budget = b; out = o; form = f; system = system; stimuli = stimuli }))
+run_with _ _ _ _ _ _ = None
 
 abbrev pub run_in : List Row → Option Asked
-run_in rows = run_with (kernel_in (first_of (codes "kernel") rows)) (kind_in (first_of (codes "out") rows))
+run_in rows = run_with (kernel_in (first_of (codes "kernel") rows)) (budget_in (first_of (codes "budget") rows)) (kind_in (first_of (codes "out") rows))
     (form_in One (first_of (codes "form") rows)) (first_of (codes "system") rows) (first_of (codes "stimuli") rows)
 
 unfoldable pub decode_with : Option Text → Option Asked

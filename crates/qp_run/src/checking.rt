@@ -2,7 +2,7 @@
 ghost use Rattle.std.specs.Prelude.{◌≡◌, ◌≢◌, ◌≤◌, ◌⊎◌, length, IfOk, IfErr, true};
 ghost use Rattle.qp_model.specs.Sound.{IsSound};
 ghost use Rattle.qp_run.specs.Checks.{HasLawful, IsChecked, IsLawfulText, JudgesFound, is_of_files, third};
-ghost use Rattle.qp_run.specs.Conversions.{IsFoundIn, PrintsOne, Refuses, said};
+ghost use Rattle.qp_run.specs.Conversions.{IsFoundIn, PrintsOne, Refuses, WhenDone, said};
 ghost use Rattle.qp_run.specs.Verdict.{AgreesCheck, HasCause, JudgesCall, is_failure, is_refusal, reads_of, writes_of};
 ghost use Rattle.qp_run.specs.WordTable.{check_words};
 ghost use Rattle.qp_run.specs.declared.status.Status.{Status};
@@ -96,7 +96,7 @@ pub fn check_files<F: Shelf, O: Sink>(
     ensures told { AgreesCheck (F.holds files.old) (check_words system.now stimuli.now journal.now) result }
     ensures about { result ≢ Status.Words }
     ensures cause { HasCause (writes_of F.faults F.misses O.faults files.old files.new out.old out.new) result }
-    ensures out { PrintsOne (IsChecked (F.holds files.old) (check_words system.now stimuli.now journal.now))
+    ensures out { PrintsOne (WhenDone (IsChecked (F.holds files.old) (check_words system.now stimuli.now journal.now)))
         (O.written out.old) (O.written out.new) result }
     ensures holds { F.holds files.new ≡ F.holds files.old }
 {

@@ -4,7 +4,7 @@ ghost use Rattle.std.specs.List.{list_all};
 ghost use Rattle.qp_model.specs.Kinds.{REST};
 ghost use Rattle.qp_model.specs.declared.record.Rec.{Rec};
 ghost use Rattle.qp_model.specs.Output.{has_form, has_no_rest, is_in_range};
-ghost use Rattle.qp_run.specs.Conversions.{HasJournal, IsDecoded, IsFoundIn, IsMigrated, IsWritten, PrintsOne, Refuses, decode_on, frame_refusal, migrate_on, text_refusal, written};
+ghost use Rattle.qp_run.specs.Conversions.{HasJournal, IsDecoded, IsFoundIn, IsMigrated, IsWrittenAs, PrintsOne, Refuses, WhenDone, decode_on, frame_refusal, migrate_on, text_refusal, written};
 ghost use Rattle.qp_run.specs.Verdict.{AgreesJournal, HasCause, is_refusal, reads_of, writes_of};
 ghost use Rattle.qp_run.specs.WordTable.{number_of_form};
 ghost use Rattle.qp_run.specs.declared.status.Status.{Status};
@@ -99,11 +99,11 @@ fn load_journal<F: Shelf>(
     journal_of(alloc, kind, bytes.as_slice())
 }
 
-/// Writes a journal as text or frames, in a form that it has.
-pub fn write<O: Sink>(j: &Journal, kind: Kind, form: u8, out: &mut O) -> Status
+/// Writes a journal as text or frames, in a form that it has. The answer is `told` where it could be written.
+pub fn write<O: Sink>(j: &Journal, kind: Kind, form: u8, told: Status, out: &mut O) -> Status
     requires form { IsTrue (has_form form j.now) }
     requires range { IsTrue (is_in_range form j.now) }
-    ensures { IsWritten (written kind form j.now) (O.written out.old) (O.written out.new)
+    ensures { IsWrittenAs told (written kind form j.now) (O.written out.old) (O.written out.new)
         (O.faults out.old) (O.faults out.new) result }
 {
     let put = match kind {
@@ -111,7 +111,7 @@ pub fn write<O: Sink>(j: &Journal, kind: Kind, form: u8, out: &mut O) -> Status
         Kind::Frames => write_frames(j, form, out),
     };
     match put {
-        Ok(()) => Status::Done,
+        Ok(()) => told,
         Err(_) => Status::WriteFault,
     }
 }
@@ -121,11 +121,11 @@ pub fn decode<F: Shelf, O: Sink>(alloc: Global, files: &mut F, name: &str, out: 
     ensures told { AgreesJournal (F.holds files.old) Kind.Frames decode_on name.now result }
     ensures about { result ≢ Status.Words }
     ensures cause { HasCause (writes_of F.faults F.misses O.faults files.old files.new out.old out.new) result }
-    ensures out { PrintsOne (IsDecoded (F.holds files.old) name.now) (O.written out.old) (O.written out.new) result }
+    ensures out { PrintsOne (WhenDone (IsDecoded (F.holds files.old) name.now)) (O.written out.old) (O.written out.new) result }
     ensures holds { F.holds files.new ≡ F.holds files.old }
 {
     match load_journal(alloc, files, Kind::Frames, name) {
-        Ok(found) => write(&found.journal, Kind::Journal, found.form, out),
+        Ok(found) => write(&found.journal, Kind::Journal, found.form, Status::Done, out),
         Err(status) => status,
     }
 }
@@ -164,7 +164,7 @@ pub fn migrate<F: Shelf, O: Sink>(
     ensures told { AgreesJournal (F.holds files.old) from (migrate_on (number_of_form to)) name.now result }
     ensures about { result ≢ Status.Words }
     ensures cause { HasCause (writes_of F.faults F.misses O.faults files.old files.new out.old out.new) result }
-    ensures out { PrintsOne (IsMigrated (F.holds files.old) name.now from (number_of_form to))
+    ensures out { PrintsOne (WhenDone (IsMigrated (F.holds files.old) name.now from (number_of_form to)))
         (O.written out.old) (O.written out.new) result }
     ensures holds { F.holds files.new ≡ F.holds files.old }
 {
@@ -173,7 +173,7 @@ pub fn migrate<F: Shelf, O: Sink>(
         Err(status) => return status,
     };
     if has_form(&found.journal, to) {
-        write(&found.journal, from, to.number(), out)
+        write(&found.journal, from, to.number(), Status::Done, out)
     } else {
         Status::Refused {
             file: 1,

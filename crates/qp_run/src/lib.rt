@@ -7,9 +7,7 @@ pub mod laws;
 mod loading;
 mod place;
 mod reading;
-mod runs;
 mod status;
-mod thin;
 mod top;
 pub mod words;
 

@@ -1,5 +1,6 @@
 //! How a call of the program ends.
 ghost use Rattle.std.specs.Prelude.{codes, ◌≡◌, ◌++◌, ◌≤◌, Option, length, decimal, string_bytes, true, false, IfOk};
+ghost use Rattle.qp_run.specs.Endings.{status_of};
 ghost use Rattle.qp_run.specs.Notes.{number_of, line_of, named_line, names_file, file_of, is_done, place_text, site_text};
 ghost use Rattle.qp_run.specs.Refusals.{system_refusal, stimuli_refusal};
 ghost use Rattle.qp_run.specs.WordTable.{Asked, operand_in};
@@ -9,6 +10,7 @@ use arrayvec::ArrayString;
 use itoa::Buffer;
 use qp_chart::code;
 use qp_check::Site;
+use qp_outcome::Outcome;
 use qp_stim::StimFault;
 use qp_system::SystemFault;
 use std::alloc::{AllocError, Global};
@@ -26,11 +28,9 @@ pub enum Status {
     TooLong { file: u8, len: u64 },
     /// The file has a fault: the code of the first one, and its place.
     Refused { file: u8, code: u8, place: Place },
-    /// The file is well formed; the program doesn't run it yet.
-    Later { file: u8 },
-    /// The run ended at an assertion.
+    /// The output is written; the run ended at the assertion with this code in this lane.
     Asserted { code: u8, lane: u32 },
-    /// The run ended at a budget or a full lane.
+    /// The output is written; the run ended at an object's budget or a full lane, recorded in this lane.
     Spent { lane: u32 },
     /// Memory was refused.
     Memory,
@@ -46,6 +46,17 @@ pub enum Status {
 pub type Line = ArrayString<128>;
 
 impl Status {
+    /// The answer on a run that came to its end so.
+    pub fn of_outcome(outcome: Outcome) -> Status
+        ensures { result ≡ status_of outcome }
+    {
+        match outcome {
+            Outcome::Quiet => Status::Done,
+            Outcome::Asserted { code, lane } => Status::Asserted { code, lane },
+            Outcome::Spent { lane } => Status::Spent { lane },
+        }
+    }
+
     /// The number with which the process ends.
     pub fn number(&self) -> u8
         ensures { result ≡ number_of self.now }
@@ -60,11 +71,10 @@ impl Status {
             Status::ReadFault => 6,
             Status::WriteFault => 7,
             Status::Unlawful { .. } => 8,
-            Status::Later { .. } => 9,
         }
     }
 
-    /// Whether the run was done. Then there is no line on the notes.
+    /// Whether the call was done. Then there is no line on the notes.
     pub fn is_done(&self) -> bool
         ensures { result ≡ is_done self.now }
     {
@@ -77,10 +87,7 @@ impl Status {
     {
         matches!(
             self,
-            Status::Absent { .. }
-                | Status::TooLong { .. }
-                | Status::Refused { .. }
-                | Status::Later { .. }
+            Status::Absent { .. } | Status::TooLong { .. } | Status::Refused { .. }
         )
     }
 
@@ -107,10 +114,8 @@ impl Status {
         ensures { result ≡ file_of self.now }
     {
         match self {
-            Status::Absent { file }
-            | Status::TooLong { file, .. }
-            | Status::Refused { file, .. }
-            | Status::Later { file } => *file,
+            Status::Absent { file } | Status::TooLong { file, .. } | Status::Refused { file, .. } =>
+                *file,
             _ => 0,
         }
     }
@@ -132,7 +137,6 @@ impl Status {
                 let what = fault_at(alloc, *code, place)?;
                 named_line(alloc, name, what.as_str())
             }
-            Status::Later { .. } => named_line(alloc, name, "later"),
             _ => Ok(String::new(alloc)),
         }
     }

@@ -1,5 +1,5 @@
 //! The top call.
-ghost use Rattle.std.specs.Prelude.{◌≡◌, ◌≢◌, ◌⊎◌, true, false, Option, Some, IfOk, IfErr, IfSome};
+ghost use Rattle.std.specs.Prelude.{ℕ, ◌≡◌, ◌≢◌, ◌⊎◌, ◌<◌, ◌≤◌, true, false, Option, Some, IfOk, IfErr, IfSome};
 ghost use Rattle.qp_base.specs.Counts.{Rose};
 ghost use Rattle.qp_base.specs.Sink.{AppendsPrefix, appended};
 ghost use Rattle.qp_stim.specs.Rules.{StimuliFit};
@@ -7,20 +7,21 @@ ghost use Rattle.qp_model.specs.Sound.{IsSound};
 ghost use Rattle.qp_run.specs.Conversions.{PrintsOne};
 ghost use Rattle.qp_run.specs.Notes.{names_file};
 ghost use Rattle.qp_run.specs.Verdict.{Agrees, AgreesRun, AnswersWords, HasCause, IsCall, IsInput, IsNamed, IsRun, Noted, Prints, Stands, count_of, is_refusal, reads_of, stream_of, writes_of};
-ghost use Rattle.qp_run.specs.WordTable.{Asked, asked_of, command_in, number_of_form, texts};
+ghost use Rattle.qp_run.specs.WordTable.{Asked, asked_of, command_in, has_budget, number_of_form, texts};
 ghost use Rattle.qp_run.specs.declared.status.Status.{Status};
 
 use crate::checking::check_files;
 use crate::conversions::{decode, migrate, write};
 use crate::loading::load;
 use crate::reading::{stimuli_in, system_in};
-use crate::runs::run;
 use crate::status::Status;
-use crate::thin::{are_thin, is_thin};
 use crate::words::{Command, Form, Kernel, Kind, command_of};
 use qp_base::{Gate, Shelf, Sink};
 use qp_model::{Stimuli, System};
+use qp_outcome::outcome_of;
+use qp_simulation::run_sim;
 use std::alloc::{AllocError, Global};
+use std::sync::Wait;
 
 /// What the two files of a run say.
 #[derive(Drop)]
@@ -29,7 +30,7 @@ struct Input {
     stimuli: Stimuli,
 }
 
-/// Reads the two files of a run, where the program runs what they say. The second isn't read where the first isn't run.
+/// Reads the two files of a run. The second isn't read where the first is refused.
 fn prepare<F: Shelf>(
     alloc: Global,
     files: &mut F,
@@ -40,38 +41,36 @@ fn prepare<F: Shelf>(
     ensures sound { IfOk result (λ input. IsSound input.system) }
     ensures fit { IfOk result (λ input. StimuliFit input.system input.stimuli) }
 
-    ensures told { IfErr result (AgreesRun (F.holds files.old) system.now stimuli.now) }
+    ensures told { IfErr result (λ status. (budget : ℕ) → AgreesRun (F.holds files.old) system.now stimuli.now budget status) }
     ensures cause { IfErr result (HasCause (reads_of F.faults F.misses files.old files.new)) }
     ensures about { IfErr result (λ status. (is_refusal status ≡ true) × (status ≢ Status.Words)) }
     ensures holds { F.holds files.new ≡ F.holds files.old }
 {
     let bytes = load(alloc, files, 1, system)?;
     let system = system_in(alloc, bytes.as_slice())?;
-    if !is_thin(&system) {
-        return Err(Status::Later { file: 1 });
-    }
     let bytes = load(alloc, files, 2, stimuli)?;
     let stimuli = stimuli_in(alloc, &system, bytes.as_slice())?;
-    if !are_thin(&stimuli) {
-        return Err(Status::Later { file: 2 });
-    }
     Ok(Input { system, stimuli })
 }
 
 /// Runs two files and prints the journal.
-fn run_files<F: Shelf, O: Sink>(
+fn run_files<R: Wait, F: Shelf, O: Sink>(
+    rt: &R,
     alloc: Global,
     files: &mut F,
     system: &str,
     stimuli: &str,
+    budget: u32,
     kind: Kind,
     form: Form,
     out: &mut O,
 ) -> Status
-    ensures told { AgreesRun (F.holds files.old) system.now stimuli.now result }
+    requires some { 0 < budget }
+    requires few { budget ≤ 1000000 }
+    ensures told { AgreesRun (F.holds files.old) system.now stimuli.now budget result }
     ensures about { result ≢ Status.Words }
     ensures cause { HasCause (writes_of F.faults F.misses O.faults files.old files.new out.old out.new) result }
-    ensures out { PrintsOne (IsRun (F.holds files.old) system.now stimuli.now kind (number_of_form form))
+    ensures out { PrintsOne (IsRun (F.holds files.old) system.now stimuli.now budget kind (number_of_form form))
         (O.written out.old) (O.written out.new) result }
     ensures holds { F.holds files.new ≡ F.holds files.old }
 {
@@ -79,19 +78,22 @@ fn run_files<F: Shelf, O: Sink>(
         Ok(input) => input,
         Err(status) => return status,
     };
-    let Ok(journal) = run(alloc, &input.system, &input.stimuli) else {
+    let Ok(journal) = run_sim(rt, alloc, &input.system, &input.stimuli, budget) else {
         return Status::Memory;
     };
-    write(&journal, kind, form.number(), out)
+    let told = Status::of_outcome(outcome_of(&journal));
+    write(&journal, kind, form.number(), told, out)
 }
 
 /// Does what a call asks for. No line is put yet.
-fn carry_out<F: Shelf, O: Sink>(
+fn carry_out<R: Wait, F: Shelf, O: Sink>(
+    rt: &R,
     alloc: Global,
     command: &Command<'_>,
     files: &mut F,
     out: &mut O,
 ) -> Status
+    requires { has_budget (asked_of command.now) ≡ true }
     ensures told { IfSome (F.holds files.old) (λ held. Agrees held (Some (asked_of command.now)) result) }
     ensures about { result ≢ Status.Words }
     ensures cause { HasCause (writes_of F.faults F.misses O.faults files.old files.new out.old out.new) result }
@@ -101,11 +103,14 @@ fn carry_out<F: Shelf, O: Sink>(
     match command {
         Command::Run {
             kernel: Kernel::Sim,
+            budget,
             out: kind,
             form,
             system,
             stimuli,
-        } => run_files(alloc, files, system, stimuli, *kind, *form, out),
+        } => run_files(
+            rt, alloc, files, system, stimuli, *budget, *kind, *form, out,
+        ),
         Command::Decode { frames } => decode(alloc, files, frames, out),
         Command::Migrate { from, to, file } => migrate(alloc, files, *from, *to, file, out),
         Command::Check {
@@ -123,7 +128,8 @@ struct Answered<'w> {
 }
 
 /// Reads the words of a call and does what they ask for. No line is put yet.
-fn answer<'w, F: Shelf, O: Sink>(
+fn answer<'w, R: Wait, F: Shelf, O: Sink>(
+    rt: &R,
     alloc: Global,
     words: &'w [&'w str],
     files: &mut F,
@@ -138,7 +144,7 @@ fn answer<'w, F: Shelf, O: Sink>(
 {
     match command_of(alloc, words) {
         Ok(Some(command)) => {
-            let status = carry_out(alloc, &command, files, out);
+            let status = carry_out(rt, alloc, &command, files, out);
             let name = command.operand(status.file());
             Answered { status, name }
         }
@@ -196,9 +202,9 @@ fn report<E: Sink>(alloc: Global, name: &str, status: Status, notes: &mut E) -> 
 
 /// The program: reads its words, does what they ask for, and writes the output and a note.
 ///
-/// `_rt` is what runs with threads start threads with, and `_gate` is what they hand to their lanes.
-pub fn qp_main<R, F: Shelf, O: Sink, E: Sink, G: Gate>(
-    _rt: &R,
+/// A run may wait through `rt`; `_gate` is what runs with threads hand to their lanes.
+pub fn qp_main<R: Wait, F: Shelf, O: Sink, E: Sink, G: Gate>(
+    rt: &R,
     alloc: Global,
     words: &[&str],
     files: &mut F,
@@ -214,6 +220,6 @@ pub fn qp_main<R, F: Shelf, O: Sink, E: Sink, G: Gate>(
         (stream_of O.written out.old out.new) (stream_of E.written notes.old notes.new) result }
     ensures holds { F.holds files.new ≡ F.holds files.old }
 {
-    let Answered { status, name } = answer(alloc, words, files, out);
+    let Answered { status, name } = answer(rt, alloc, words, files, out);
     report(alloc, name, status, notes)
 }

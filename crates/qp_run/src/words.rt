@@ -5,20 +5,22 @@ ghost use Rattle.clap.specs.Words.{found_of, rows_of};
 
 mod apps;
 pub mod laws;
+mod numbers;
 mod values;
 
 use apps::{check_app, decode_app, matches_in, migrate_app, run_app};
 use clap::ArgMatches;
 use std::alloc::{AllocError, Global};
 pub use values::{Form, Kernel, Kind};
-use values::{form_of, kernel_of, kind_of};
+use values::{budget_of, form_of, kernel_of, kind_of};
 
 /// What a call asks for. Each file is named by the word of its operand.
 #[derive(Clone, Copy, PartialEq, Eq, Debug)]
 pub enum Command<'w> {
-    /// Run a system on its stimuli, and print the journal.
+    /// Run a system on its stimuli, where no object takes more events than the budget, and print the journal.
     Run {
         kernel: Kernel,
+        budget: u32,
         out: Kind,
         form: Form,
         system: &'w str,
@@ -65,6 +67,7 @@ fn run_found<'w>(found: &ArgMatches<'w>) -> Option<Command<'w>>
 {
     Some(Command::Run {
         kernel: kernel_of(found.get_str("kernel"))?,
+        budget: budget_of(found.get_str("budget"))?,
         out: kind_of(found.get_str("out"))?,
         form: form_of(found.get_str("form"), Form::One)?,
         system: found.get_str("system")?,

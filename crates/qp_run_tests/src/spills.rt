@@ -9,6 +9,7 @@ use qp_base::{MemShelf, MemSink, NoGate};
 use qp_run::qp_main;
 use std::alloc::{AllocError, Global};
 use std::str::from_utf8;
+use std::sync::Wait;
 use std::test::Fail;
 
 const LAMP: &str = "qp = 1
@@ -84,7 +85,12 @@ fn file(alloc: Global, name: &str, text: &str) -> Result<(ArrayString<24>, Vec<u
 }
 
 /// What the program prints and notes of a journal of the lamp.
-fn said(alloc: Global, stimuli: &str, journal: &str) -> Result<String, AllocError> {
+fn said<R: Wait>(
+    waits: &R,
+    alloc: Global,
+    stimuli: &str,
+    journal: &str,
+) -> Result<String, AllocError> {
     let mut files = Vec::new(alloc);
     files.push(file(alloc, "system", LAMP)?)?;
     files.push(file(alloc, "stimuli", stimuli)?)?;
@@ -93,7 +99,9 @@ fn said(alloc: Global, stimuli: &str, journal: &str) -> Result<String, AllocErro
     let mut out = sink(alloc)?;
     let mut note = sink(alloc)?;
     let words = ["check", "system", "stimuli", "journal"];
-    qp_main(&(), alloc, &words, &mut shelf, &mut out, &mut note, &NoGate);
+    qp_main(
+        waits, alloc, &words, &mut shelf, &mut out, &mut note, &NoGate,
+    );
     let out = from_utf8(out.bytes()).unwrap_or("no text");
     let note = from_utf8(note.bytes()).unwrap_or("no text");
     format!(in alloc; "{out}{note}")
@@ -110,7 +118,7 @@ fn a_spill_cuts_a_step_or_stands_behind_it(rt: HostRuntime) -> Result<(), Fail> 
         ("spill 0 999995\n", "qp: broken D21 whole\n"),
     ] {
         let journal = journal(alloc, last)?;
-        let got = said(alloc, stimuli.as_str(), journal.as_str())?;
+        let got = said(&rt, alloc, stimuli.as_str(), journal.as_str())?;
         assert_eq!(rt; got.as_str(), want, "{last}");
     }
     Ok(())

@@ -6,6 +6,7 @@ use crate::escapes;
 use crate::files::{Table, bytes, print_case};
 use anyhow::Result;
 use std::alloc::{AllocError, Global};
+use std::sync::Wait;
 
 /// The keys whose lines make the bytes of a file, or of the output. `KEY file` has the bytes of a file of `data/`, and `KEY 1000` its
 /// line a thousand times.
@@ -32,7 +33,7 @@ struct Case<'a> {
 }
 
 /// Prints what is answered in the case of a block, once for each text `for`.
-pub fn show(rt: &HostRuntime, table: &Table, block: &Block) -> Result<()> {
+pub fn show<R: Wait>(rt: &HostRuntime, waits: &R, table: &Table, block: &Block) -> Result<()> {
     let name = block.value(table, "case")?;
     let mut has_texts = false;
     for line in &block.lines {
@@ -47,7 +48,7 @@ pub fn show(rt: &HostRuntime, table: &Table, block: &Block) -> Result<()> {
             block,
             text,
         };
-        case.show(format!(in rt.alloc(); "{name}, {text}")?.as_str())?;
+        case.show(waits, format!(in rt.alloc(); "{name}, {text}")?.as_str())?;
     }
     if has_texts {
         return Ok(());
@@ -58,19 +59,20 @@ pub fn show(rt: &HostRuntime, table: &Table, block: &Block) -> Result<()> {
         block,
         text: "@",
     };
-    case.show(name)
+    case.show(waits, name)
 }
 
 impl Case<'_> {
     /// Prints what is answered under this name.
-    fn show(&self, name: &str) -> Result<()> {
+    fn show<R: Wait>(&self, waits: &R, name: &str) -> Result<()> {
         self.block.has_only(self.table, &OTHERS, &CONTENTS)?;
         let alloc = self.rt.alloc();
         let words = self.block.optional(self.table, "words")?;
         let words = words
             .unwrap_or("check system stimuli journal")
             .replace(alloc, "@", self.text)?;
-        let answer = ask(alloc, &words_of(alloc, words.as_str())?, self.files()?)?;
+        let words = words_of(alloc, words.as_str())?;
+        let answer = ask(waits, alloc, &words, self.files()?)?;
         let said = self.said(&answer)?;
         let wanted = self.block.value(self.table, "answer")?;
         print_case(&self.rt, name, said.as_str(), wanted)

@@ -5,6 +5,7 @@ use qp_base::{MemShelf, MemSink, NoGate};
 use qp_run::qp_main;
 use std::alloc::{AllocError, Global};
 use std::str::from_utf8;
+use std::sync::Wait;
 
 /// The files that a call finds, by their names, the load that fails, and the put of the output that fails at once.
 #[derive(Drop)]
@@ -59,7 +60,12 @@ impl Answer {
 }
 
 /// Calls the program with these words over these files.
-pub fn ask(alloc: Global, words: &[&str], files: Files) -> Result<Answer, AllocError> {
+pub fn ask<R: Wait>(
+    waits: &R,
+    alloc: Global,
+    words: &[&str],
+    files: Files,
+) -> Result<Answer, AllocError> {
     let mut loads = Vec::new(alloc);
     for load in files.failing_load {
         loads.push(load)?;
@@ -71,7 +77,9 @@ pub fn ask(alloc: Global, words: &[&str], files: Files) -> Result<Answer, AllocE
     let mut shelf = MemShelf::new(files.held, loads);
     let mut out = MemSink::new(alloc, 1 << 20, puts).map_err(|_| AllocError)?;
     let mut note = MemSink::new(alloc, 1 << 10, Vec::new(alloc)).map_err(|_| AllocError)?;
-    let status = qp_main(&(), alloc, words, &mut shelf, &mut out, &mut note, &NoGate);
+    let status = qp_main(
+        waits, alloc, words, &mut shelf, &mut out, &mut note, &NoGate,
+    );
     Ok(Answer {
         status: status.number(),
         out,
@@ -81,7 +89,8 @@ pub fn ask(alloc: Global, words: &[&str], files: Files) -> Result<Answer, AllocE
 
 /// What the program says of a journal beside its system and its stimuli: `lawful`, the definition that it breaks first with its
 /// place, or a file's fault. What else it answers is told as it is.
-pub fn verdict(
+pub fn verdict<R: Wait>(
+    waits: &R,
     alloc: Global,
     system: &str,
     stimuli: &str,
@@ -91,7 +100,12 @@ pub fn verdict(
     files.add("system", Vec::from_slice(alloc, system.as_bytes())?)?;
     files.add("stimuli", Vec::from_slice(alloc, stimuli.as_bytes())?)?;
     files.add("journal", Vec::from_slice(alloc, journal.as_bytes())?)?;
-    let answer = ask(alloc, &["check", "system", "stimuli", "journal"], files)?;
+    let answer = ask(
+        waits,
+        alloc,
+        &["check", "system", "stimuli", "journal"],
+        files,
+    )?;
     let out = from_utf8(answer.out.bytes()).unwrap_or("no text");
     match (answer.status, out, answer.note()) {
         (0, "lawful\n", "") => String::from_str(alloc, "lawful"),

@@ -7,6 +7,7 @@ use crate::files::{Table, print_case};
 use crate::runs::{Run, Texts};
 use anyhow::Result;
 use std::alloc::Global;
+use std::sync::Wait;
 
 /// The keys that each defect has once.
 const KEYS: [&str; 4] = ["defect", "run", "verdict", "why"];
@@ -35,8 +36,9 @@ fn texts_of(rt: &HostRuntime, runs: &[Run], name: &str) -> Result<Option<Texts>>
 }
 
 /// Prints what is said of a defect of a lawful run, or of one beside other files.
-pub fn show(
+pub fn show<R: Wait>(
     rt: &HostRuntime,
+    waits: &R,
     table: &Table,
     block: &Block,
     lawful: &[Run],
@@ -56,6 +58,7 @@ pub fn show(
     let changes = changes(rt.alloc(), table, block)?;
     let journal = changed(rt.alloc(), table, texts.journal.as_str(), &changes)?;
     let said = verdict(
+        waits,
         rt.alloc(),
         texts.system.as_str(),
         texts.stimuli.as_str(),

@@ -16,6 +16,7 @@ mod runs;
 
 use anyhow::Result;
 use files::Table;
+use std::sync::Wait;
 
 /// The tables of words over files, with what is answered.
 const ANSWERS: [&str; 8] = [
@@ -30,29 +31,29 @@ const ANSWERS: [&str; 8] = [
 ];
 
 fn main(rt: HostRuntime) -> Result<()> {
-    show_verdicts(&rt)?;
+    show_verdicts(&rt, &rt)?;
     for name in ANSWERS {
         let table = Table::read(&rt, name)?;
         for block in &blocks::of_table(rt.alloc(), &table)? {
-            answers::show(&rt, &table, block)?;
+            answers::show(&rt, &rt, &table, block)?;
         }
     }
     Ok(())
 }
 
 /// Prints what is said of the lawful runs and of their defects.
-fn show_verdicts(rt: &HostRuntime) -> Result<()> {
+fn show_verdicts<R: Wait>(rt: &HostRuntime, waits: &R) -> Result<()> {
     let alloc = rt.alloc();
     let lawful = Table::read(rt, "lawful.txt")?;
     let beside = Table::read(rt, "beside.txt")?;
     let lawful = runs::of_table(alloc, &lawful)?;
     let beside = runs::of_table(alloc, &beside)?;
     for run in &lawful {
-        runs::show(rt, run)?;
+        runs::show(rt, waits, run)?;
     }
     let defects = Table::read(rt, "defects.txt")?;
     for block in &blocks::of_table(alloc, &defects)? {
-        defects::show(rt, &defects, block, &lawful, &beside)?;
+        defects::show(rt, waits, &defects, block, &lawful, &beside)?;
     }
     Ok(())
 }

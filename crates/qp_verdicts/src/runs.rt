@@ -4,6 +4,7 @@ use crate::asking::verdict;
 use crate::files::{Table, print_case, text};
 use anyhow::Result;
 use std::alloc::Global;
+use std::sync::Wait;
 
 /// A run, and the names of its files.
 #[derive(Clone, Copy)]
@@ -71,9 +72,10 @@ fn of_line(line: &str) -> Option<Run<'_>> {
 }
 
 /// Prints what is said of a run, which is lawful.
-pub fn show(rt: &HostRuntime, run: &Run) -> Result<()> {
+pub fn show<R: Wait>(rt: &HostRuntime, waits: &R, run: &Run) -> Result<()> {
     let texts = run.texts(rt)?;
     let said = verdict(
+        waits,
         rt.alloc(),
         texts.system.as_str(),
         texts.stimuli.as_str(),

@@ -37,6 +37,7 @@ pub(super) fn run_app<'w>(alloc: Global) -> Result<Command<'w>, AllocError>
 {
     plain(alloc, "run")
         .arg(option(alloc, "kernel"))?
+        .arg(option(alloc, "budget"))?
         .arg(option(alloc, "out"))?
         .arg(option(alloc, "form"))?
         .arg(operand(alloc, "system"))?

@@ -1,5 +1,5 @@
 //! Laws of the words of calls. Each function here does nothing: its contract is the law.
-ghost use Rattle.qp_run.specs.WordLaws.{CheckOfNames, DecodeOfName, MigrateInFull, MigrateOfName, OtherWords, RefusedCalls, RunInFull, RunOfNames};
+ghost use Rattle.qp_run.specs.WordLaws.{BudgetWords, CheckOfNames, DecodeOfName, EachBudget, MigrateInFull, MigrateOfName, OtherWords, RefusedCalls, RunInFull, RunOfNames};
 
 /// Two names that don't begin with `-` are a run under `sim`, which prints text in form 1.
 pub fn a_run_of_two_names()
@@ -21,9 +21,19 @@ pub fn three_names_are_judged()
     ensures { CheckOfNames }
 {}
 
-/// With all options given, a run is the one that they name: each run of two such names can be asked for.
+/// With its other options given, a run is the one that they name: each run of two such names with the default budget can be asked for.
 pub fn a_run_in_full()
     ensures { RunInFull }
+{}
+
+/// Each budget is asked for by its decimal.
+pub fn a_budget_by_its_decimal()
+    ensures { EachBudget }
+{}
+
+/// The least and the largest budget are taken.
+pub fn budgets_of_a_run()
+    ensures { BudgetWords }
 {}
 
 /// With all options given, a migration is the one that they name.

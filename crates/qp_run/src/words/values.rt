@@ -1,6 +1,8 @@
 //! The values of the options.
 ghost use Rattle.std.specs.Prelude.{◌≡◌, option_map};
-ghost use Rattle.qp_run.specs.WordTable.{form_in, kernel_in, kind_in, number_of_form};
+ghost use Rattle.qp_run.specs.WordTable.{budget_in, form_in, kernel_in, kind_in, number_of_form};
+
+use crate::words::numbers::number;
 
 /// How the objects of a run are scheduled.
 #[derive(Clone, Copy, PartialEq, Eq, Debug)]
@@ -45,6 +47,26 @@ pub(super) fn kernel_of(value: Option<&str>) -> Option<Kernel>
     match value {
         None | Some("sim") => Some(Kernel::Sim),
         Some(_) => None,
+    }
+}
+
+/// How many events an object of a run may take, where `--budget` isn't given.
+const BUDGET: u32 = 100_000;
+
+/// The largest budget of a run.
+const MOST: u64 = 1_000_000;
+
+/// The budget of `--budget`, in canonical decimal from 1 to 1,000,000.
+#[tactic(auto, unfolding(crate::specs::WordTable::budget_in))]
+pub(super) fn budget_of(value: Option<&str>) -> Option<u32>
+    ensures { result ≡ budget_in (option_map (λ word. word.now) value.entry) }
+{
+    match value {
+        None => Some(BUDGET),
+        Some(word) => match number(word.as_bytes()) {
+            Some(n) if 1 <= n && n <= MOST => Some(n as u32),
+            _ => None,
+        },
     }
 }
 

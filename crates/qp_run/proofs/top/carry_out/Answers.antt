@@ -1,9 +1,10 @@
+use Rattle.qp_run.proofs.BudgetLemmas.{budget-few, budget-some}
 use Rattle.qp_run.proofs.VerdictLemmas.{agrees-check, agrees-run, agrees-decode, agrees-migrate}
 use Rattle.qp_run.proofs.top.carry_out.Goals as goal
 
-pub returns-in-Run-Sim-default-default-default-default-clause-told : goal.returns-in-Run-Sim-default-default-default-default-clause-told
-returns-in-Run-Sim-default-default-default-default-clause-told g c =
-    rw c.in-Run-Sim-default-default-default-default.is (agrees-run _ _ _ c.run_files.ensures.told)
+pub returns-in-Run-Sim-default-default-default-default-default-clause-told : goal.returns-in-Run-Sim-default-default-default-default-default-clause-told
+returns-in-Run-Sim-default-default-default-default-default-clause-told g c =
+    rw c.in-Run-Sim-default-default-default-default-default.is (agrees-run _ _ _ c.run_files.ensures.told)
 
 pub returns-in-Decode-clause-told : goal.returns-in-Decode-clause-told
 returns-in-Decode-clause-told g c = rw c.in-Decode.is (agrees-decode _ _ _ c.decode.ensures.told)
@@ -13,3 +14,21 @@ returns-in-Migrate-clause-told g c = rw c.in-Migrate.is (agrees-migrate _ _ _ c.
 
 pub returns-in-Check-clause-told : goal.returns-in-Check-clause-told
 returns-in-Check-clause-told g c = rw c.in-Check.is (agrees-check _ _ _ c.check_files.ensures.told)
+
+pub run_files-requires-clause-some : goal.run_files-requires-clause-some
+run_files-requires-clause-some g c = budget-some _ (rw c.in-Run-Sim-default-default-default-default-default.is at c.requires)
+
+pub run_files-requires-clause-few : goal.run_files-requires-clause-few
+run_files-requires-clause-few g c = budget-few _ (rw c.in-Run-Sim-default-default-default-default-default.is at c.requires)
+
+pub returns-in-Run-Sim-default-default-default-default-default-clause-out : goal.returns-in-Run-Sim-default-default-default-default-default-clause-out
+returns-in-Run-Sim-default-default-default-default-default-clause-out g c = rw c.in-Run-Sim-default-default-default-default-default.is c.run_files.ensures.out
+
+pub returns-in-Decode-clause-out : goal.returns-in-Decode-clause-out
+returns-in-Decode-clause-out g c = rw c.in-Decode.is c.decode.ensures.out
+
+pub returns-in-Migrate-clause-out : goal.returns-in-Migrate-clause-out
+returns-in-Migrate-clause-out g c = rw c.in-Migrate.is c.migrate.ensures.out
+
+pub returns-in-Check-clause-out : goal.returns-in-Check-clause-out
+returns-in-Check-clause-out g c = rw c.in-Check.is c.check_files.ensures.out

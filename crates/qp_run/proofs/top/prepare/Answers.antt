@@ -1,47 +1,34 @@
-use Rattle.std.proofs.Common.{sym, ◌∙◌, false, rules}
+use Rattle.std.proofs.Common.{ℕ, rules}
 use Rattle.qp_run.specs.Verdict.{AgreesRun}
-use Rattle.qp_run.specs.declared.status.Status.TheVariants.{Later}
-use Rattle.qp_run.proofs.VerdictLemmas.{told-later, told-load, told-load-2, told-sources, told-stimuli, told-system}
+use Rattle.qp_run.proofs.VerdictLemmas.{told-load, told-load-2, told-stimuli, told-system}
 use Rattle.qp_run.proofs.top.prepare.Goals as goal
 
 pub returns-in_err-bytes-clause-told : goal.returns-in_err-bytes-clause-told
 returns-in_err-bytes-clause-told g c =
-    let fact : AgreesRun (g.F.Shelf.holds c.args.files.now) c.args.system.now c.args.stimuli.now c.in_err-bytes.field-0.0 =
-    told-load _ _ _ c.in_err-bytes.field-0.0 c.in_err-bytes.ensures.told in
+    let fact : (budget : ℕ) → AgreesRun (g.F.Shelf.holds c.args.files.now) c.args.system.now c.args.stimuli.now budget c.in_err-bytes.field-0.0 =
+    λ budget. told-load _ _ _ budget c.in_err-bytes.field-0.0 c.in_err-bytes.ensures.told in
     search (rules, fact)
 
 pub returns-in_err-system-clause-told : goal.returns-in_err-system-clause-told
 returns-in_err-system-clause-told g c =
-    let fact : AgreesRun (g.F.Shelf.holds c.args.files.now) c.args.system.now c.args.stimuli.now c.in_err-system.field-0.0 =
-    told-system _ _ _ c.in_ok-bytes.bytes.items c.in_ok-bytes.ensures.held c.in_err-system.field-0.0
+    let fact : (budget : ℕ) → AgreesRun (g.F.Shelf.holds c.args.files.now) c.args.system.now c.args.stimuli.now budget c.in_err-system.field-0.0 =
+    λ budget. told-system _ _ _ budget c.in_ok-bytes.bytes.items c.in_ok-bytes.ensures.held c.in_err-system.field-0.0
     (rw c.as_slice.ensures.value at c.in_err-system.ensures.told) in
     search (rules, fact)
 
-pub returns-then-not-is_thin-clause-told : goal.returns-then-not-is_thin-clause-told
-returns-then-not-is_thin-clause-told g c =
-    told-later _ _ _ c.in_ok-bytes.bytes.items c.in_ok-bytes.ensures.held
-    c.in_ok-system.system (rw c.as_slice.ensures.value at c.in_ok-system.ensures.read) (sym c.is_thin.ensures ∙ c.if-not-is_thin.true)
-
 pub returns-in_err-bytes-2-clause-told : goal.returns-in_err-bytes-2-clause-told
 returns-in_err-bytes-2-clause-told g c =
-    let fact : AgreesRun (g.F.Shelf.holds c.args.files.now) c.args.system.now c.args.stimuli.now c.in_err-bytes-2.field-0.0 =
-    told-load-2 _ _ _ c.in_ok-bytes.bytes.items c.in_ok-bytes.ensures.held
-    c.in_ok-system.system (rw c.as_slice.ensures.value at c.in_ok-system.ensures.read) (sym c.is_thin.ensures ∙ c.if-not-is_thin.false) c.in_err-bytes-2.field-0.0
+    let fact : (budget : ℕ) → AgreesRun (g.F.Shelf.holds c.args.files.now) c.args.system.now c.args.stimuli.now budget c.in_err-bytes-2.field-0.0 =
+    λ budget. told-load-2 _ _ _ budget c.in_ok-bytes.bytes.items c.in_ok-bytes.ensures.held
+    c.in_ok-system.system (rw c.as_slice.ensures.value at c.in_ok-system.ensures.read) c.in_err-bytes-2.field-0.0
     (rw c.load.ensures.holds at c.in_err-bytes-2.ensures.told) in
     search (rules, fact)
 
 pub returns-in_err-stimuli-clause-told : goal.returns-in_err-stimuli-clause-told
 returns-in_err-stimuli-clause-told g c =
-    let fact : AgreesRun (g.F.Shelf.holds c.args.files.now) c.args.system.now c.args.stimuli.now c.in_err-stimuli.field-0.0 =
-    told-stimuli _ _ _ c.in_ok-bytes.bytes.items c.in_ok-bytes.ensures.held
-    c.in_ok-system.system (rw c.as_slice.ensures.value at c.in_ok-system.ensures.read) (sym c.is_thin.ensures ∙ c.if-not-is_thin.false)
+    let fact : (budget : ℕ) → AgreesRun (g.F.Shelf.holds c.args.files.now) c.args.system.now c.args.stimuli.now budget c.in_err-stimuli.field-0.0 =
+    λ budget. told-stimuli _ _ _ budget c.in_ok-bytes.bytes.items c.in_ok-bytes.ensures.held
+    c.in_ok-system.system (rw c.as_slice.ensures.value at c.in_ok-system.ensures.read)
     c.in_ok-bytes-2.bytes.items (rw c.load.ensures.holds at c.in_ok-bytes-2.ensures.held) c.in_err-stimuli.field-0.0
     (rw c.as_slice-2.ensures.value at c.in_err-stimuli.ensures.told) in
     search (rules, fact)
-
-pub returns-then-not-are_thin-clause-told : goal.returns-then-not-are_thin-clause-told
-returns-then-not-are_thin-clause-told g c =
-    told-sources _ _ _ c.in_ok-bytes.bytes.items c.in_ok-bytes.ensures.held
-    c.in_ok-system.system (rw c.as_slice.ensures.value at c.in_ok-system.ensures.read) (sym c.is_thin.ensures ∙ c.if-not-is_thin.false)
-    c.in_ok-bytes-2.bytes.items (rw c.load.ensures.holds at c.in_ok-bytes-2.ensures.held)
-    c.in_ok-stimuli.stimuli (rw c.as_slice-2.ensures.value at c.in_ok-stimuli.ensures.read) false (sym c.are_thin.ensures ∙ c.if-not-are_thin.true)

@@ -1,7 +1,5 @@
-use Rattle.std.proofs.Common.{◌≡◌, ◌∙◌, ap, sym}
+use Rattle.std.proofs.Common.{◌∙◌, ap, sym}
 use Rattle.std.proofs.lemmas.Bool.{false≢true}
-use Rattle.qp_run.specs.declared.status.Status.{Status}
-use Rattle.qp_run.specs.declared.status.Status.TheVariants.{Done}
 use Rattle.qp_run.specs.Notes.{names_file}
 use Rattle.qp_run.proofs.CallLemmas.{stands-memory}
 use Rattle.qp_run.proofs.VerdictLemmas.{noted-put}
