@@ -1,0 +1,3 @@
+-- The definitions of the made system.
+pub mod Files
+pub mod Made

@@ -1,0 +1,2 @@
+-- Lemmas of the summary.
+pub mod SummaryLemmas

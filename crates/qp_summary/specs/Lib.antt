@@ -1,0 +1,2 @@
+-- The definitions of the summary's writer.
+pub mod Written

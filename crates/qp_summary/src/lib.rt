@@ -1,0 +1,9 @@
+//! The summary of a lawful journal: how the run ended, where each object stands, and what each pool gave.
+#![tactic(auto)]
+
+mod lines;
+mod objects;
+mod pools;
+mod summary;
+
+pub use summary::{SummaryFault, write_summary};
