@@ -4,3 +4,7 @@ pub mod BlockLemmas
 pub mod QueueLemmas
 pub mod LookLemmas
 pub mod StepLemmas
+pub mod SeatLemmas
+pub mod TableLemmas
+pub mod FirstLemmas
+pub mod ApplyLemmas

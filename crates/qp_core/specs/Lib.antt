@@ -6,3 +6,7 @@ pub mod Blocks
 pub mod Queues
 pub mod Looks
 pub mod Steps
+pub mod Standing
+pub mod First
+pub mod State
+pub mod Runs

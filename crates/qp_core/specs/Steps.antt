@@ -1,5 +1,5 @@
--- The steps of one seat: where each is allowed, and what it does.
-use Rattle.std.specs.Prelude.{◌≡◌, ℕ, Bool, List}
+-- The steps of one seat by itself: where each is allowed, and what it does.
+use Rattle.std.specs.Prelude.{◌≡◌, ℕ, Bool, false, List}
 use Rattle.qp_model.specs.declared.systems.System.{System}
 use Rattle.qp_core.specs.Blocks.{may_give, Gives, may_fill, Fills, may_make, Makes, may_drop, Drops, may_back, Backs}
 use Rattle.qp_core.specs.Queues.{may_claim, Claims, may_lay, Lays, may_empty, Empties, may_free, Frees, may_lifo, Lifos}
@@ -18,6 +18,8 @@ may_step sys lanes words x (op.Back p b) = may_back sys lanes x p b
 may_step sys lanes words x (op.Look w rec) = may_look sys lanes words x w rec
 may_step sys lanes words x (op.Read p b j) = may_read sys x p b j
 may_step sys lanes words x (op.Peek a) = may_peek sys lanes x a
+may_step sys lanes words x (op.Split into set) = false
+may_step sys lanes words x (op.Join from) = false
 may_step sys lanes words x (op.Claim a p b k) = may_claim sys lanes words x a p b k
 may_step sys lanes words x (op.Lay a) = may_lay lanes x a
 may_step sys lanes words x (op.Empty a) = may_empty sys lanes words x a
@@ -33,6 +35,8 @@ Steps_one sys words x (op.Back p b) words' x' = Backs words x p b words' x'
 Steps_one sys words x (op.Look w rec) words' x' = (words' ≡ words) × (x' ≡ looked x w rec)
 Steps_one sys words x (op.Read p b j) words' x' = (words' ≡ words) × (x' ≡ x)
 Steps_one sys words x (op.Peek a) words' x' = (words' ≡ words) × (x' ≡ x)
+Steps_one sys words x (op.Split into set) words' x' = ⊥
+Steps_one sys words x (op.Join from) words' x' = ⊥
 Steps_one sys words x (op.Claim a p b k) words' x' = Claims sys words x a p b k words' x'
 Steps_one sys words x (op.Lay a) words' x' = Lays words x a words' x'
 Steps_one sys words x (op.Empty a) words' x' = Empties sys words x a words' x'

@@ -49,6 +49,15 @@ pub enum Op {
     Peek {
         object: u8,
     },
+    /// Splits off a seat that never stood, which then serves the objects of a set: bit `a - 1` for object `a`.
+    Split {
+        into: u32,
+        serves: u32,
+    },
+    /// Takes over another seat.
+    Join {
+        from: u32,
+    },
     /// Draws a first-in place; pool 0 means the static signal `name`.
     Claim {
         to: u8,

@@ -42,6 +42,7 @@ fn step_of(
         Op::Look { word, rec } => look(alloc, sys, lanes, words, seat, *word, rec),
         Op::Read { pool, block, place } => Ok(may_read(sys, seat, *pool, *block, *place)),
         Op::Peek { object } => Ok(may_peek(sys, lanes, seat, *object)),
+        Op::Split { .. } | Op::Join { .. } => Ok(false),
         Op::Claim {
             to,
             pool,
@@ -62,7 +63,7 @@ fn step_of(
     }
 }
 
-/// Makes one step of a seat. False exactly where the seat may not take it; nothing has changed then, nor where memory
+/// Makes one step of a seat by itself, so none of splitting and joining. False exactly where the seat may not take it; nothing has changed then, nor where memory
 /// was refused. The rule of the event table stands after it, whatever the other seats are (docs/EVENT_TABLE.md).
 pub fn step(
     alloc: Global,
