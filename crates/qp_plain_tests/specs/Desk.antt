@@ -1,0 +1,49 @@
+-- What a test may go on with.
+use Rattle.std.specs.Prelude.{◌≡◌, ℕ, ◌-◌, ◌<◌, true, List, ◌∷◌, IsTrue, slice_get, Some, None, ⊤}
+use Rattle.std.specs.declared.option.Option.{Option}
+use Rattle.qp_model.specs.declared.systems.System.{System}
+use Rattle.qp_model.specs.declared.systems.TimerDef.{TimerDef}
+use Rattle.qp_model.specs.Sound.{IsSound}
+use Rattle.qp_calls.specs.declared.tokens.Entry.{Entry}
+use Rattle.qp_calls.specs.declared.deferred.Deferred.{Deferred}
+use Rattle.qp_calls.specs.declared.did.Did.{Did}
+use Rattle.qp_calls.specs.LaneView.{LaneView}
+use Rattle.qp_plain_tests.specs.declared.desk.End.{End}
+use Rattle.qp_plain_tests.specs.declared.desk.End.TheVariants as ended
+use Rattle.qp_calls.specs.Deferring.{StandAll}
+use Rattle.qp_calls.specs.Entries.{is_value}
+
+-- the lane is of the same system, serves the same objects and has the same tokens
+pub record Steady (v w : LaneView) : Type 0 where
+  pub sys : w.sys ≡ v.sys
+  pub serves : (o : ℕ) → w.serves o ≡ v.serves o
+  pub hands : w.hands ≡ v.hands
+
+-- the lane is of this sound system, serves all objects, and may be handed these entries
+pub record MayGoOn (sys : System) (entries : List Entry) (v : LaneView) : Type 0 where
+  pub sound : IsSound sys
+  pub its : v.sys ≡ sys
+  pub serves : (o : ℕ) → IsTrue (v.serves o)
+  pub stand : StandAll entries v
+
+-- a value leaves the tokens as they were
+abbrev pub StaysSteady : LaneView → LaneView → Option Did → Type 0
+StaysSteady v w None = ⊤
+StaysSteady v w (Some d) = is_value d ≡ true → Steady v w
+
+-- a test may go on after a value
+abbrev pub GoesOnAfter : System → Entry → Deferred → LaneView → Option Did → Type 0
+GoesOnAfter sys now list w None = ⊤
+GoesOnAfter sys now list w (Some d) = is_value d ≡ true → MayGoOn sys (now ∷ list.entries.items) w
+
+-- a test may go on unless something ended it
+abbrev pub MayStillGoOn : System → List Entry → LaneView → End → Type 0
+MayStillGoOn sys entries w ended.Whole = MayGoOn sys entries w
+MayStillGoOn sys entries w _ = ⊤
+
+-- the timer is of this object
+pub record OwnsTimer (sys : System) (o t : ℕ) : Type 0 where
+  pub some : 0 < t
+  pub timer : TimerDef
+  pub there : slice_get sys.timers (t - 1) ≡ Some timer
+  pub owner : timer.object ≡ o

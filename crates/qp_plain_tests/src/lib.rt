@@ -1,0 +1,21 @@
+//! Tests of groups of calls over the world of one thread: the records of each, from the rules of events and queues.
+//!
+//! They stand beside qp_calls and qp_plain, over their public calls, so that neither is proved a second time for them.
+#![tactic(auto)]
+
+#[cfg(test)]
+mod bench;
+#[cfg(test)]
+mod deeds;
+#[cfg(test)]
+mod desk;
+#[cfg(test)]
+mod lanes;
+#[cfg(test)]
+mod limits;
+#[cfg(test)]
+mod rows;
+#[cfg(test)]
+mod shown;
+#[cfg(test)]
+mod systems;
