@@ -15,7 +15,7 @@ use crate::shape_assertion::{
 };
 use crate::shape_pools::goes_to;
 use crate::shape_publication::run;
-use crate::shape_scene::{Scene, is_same};
+use crate::shape_scene::Scene;
 use crate::shape_stage::{Stage, released};
 use crate::shape_unit::{behind_again, behind_entry, entry, plain_first, unit_first, works_on};
 use qp_fits::{Known, Told};
@@ -83,7 +83,7 @@ fn lifo_front(scene: &Scene, k: Entry, e: Entry, told: &[Told]) -> bool
     };
     match (&first.body, &first.known) {
         (Body::Lifo { entry, .. }, Known::Nothing) => {
-            is_same(*entry, e) && release_front(scene, k, rest)
+            entry.is_same(e) && release_front(scene, k, rest)
         }
         _ => is_done(behind_no_lifo(scene.o, told)),
     }

@@ -6,7 +6,7 @@ ghost use Rattle.qp_model.specs.Record.{entry};
 ghost use Rattle.qp_shapes.specs.ShapePublication.{stage_if, start_first, given_next, made_next, post_next, reference_next, lock_next, posts_next, raised_next, posted_next, dropped_next, next, run, behind_stage, is_whole};
 
 use crate::shape_pools::goes_to;
-use crate::shape_scene::{Scene, is_same};
+use crate::shape_scene::Scene;
 use crate::shape_stage::{Ceiling, Posting, Stage, next_post, published, released};
 use crate::shape_unit::entry;
 use qp_fits::{Known, Told};
@@ -86,7 +86,7 @@ fn post_next(scene: &Scene, posting: Posting, e: Entry, t: &Told) -> Option<Stag
 {
     match (&t.body, &t.known) {
         (Body::Post { a, f, l, m, entry }, Known::Nothing) => {
-            let is_next = *a == u64::from(posting.to) && is_same(*entry, e);
+            let is_next = *a == u64::from(posting.to) && entry.is_same(e);
             let stage = next_post(posting.entry, posting.set, posting.ceiling, posting.below);
             stage_if(is_next && scene.had_room(*a, *f, *l, *m), stage)
         }

@@ -1,11 +1,7 @@
 //! What the shapes of an object's calls read of its system.
 
-ghost use Rattle.std.specs.Prelude.{◌≡◌, ◌==◌, nat_lt, Some, None, MatchOption};
-ghost use Rattle.std.specs.List.{find};
-ghost use Rattle.qp_model.specs.declared.systems.ObjectDef.{ObjectDef};
-ghost use Rattle.qp_model.specs.Sites.{ring_of};
+ghost use Rattle.std.specs.Prelude.{◌≡◌, nat_lt};
 ghost use Rattle.qp_model.specs.Parts.{is_static, room_before, sizes_of};
-ghost use Rattle.qp_model.specs.Line.{same_entry};
 ghost use Rattle.qp_shapes.specs.ShapeUnit.{some_static, is_static_entry, had_room};
 
 use qp_model::{Entry, System};
@@ -19,13 +15,6 @@ pub struct Scene<'a> {
     ghost statics: { has_static ≡ some_static sys.now },
 }
 
-/// Whether two entries are the same.
-pub fn is_same(d: Entry, e: Entry) -> bool
-    ensures { result ≡ same_entry d e }
-{
-    d.pool == e.pool && d.block == e.block && d.name == e.name
-}
-
 /// Whether an entry of a queue was free before a post after which the counts are these.
 #[tactic(auto, unfolding(qp_model::specs::Parts::room_before))]
 fn had_free(ring: u8, f: u64, l: u64, m: u64) -> bool
@@ -33,41 +22,6 @@ fn had_free(ring: u8, f: u64, l: u64, m: u64) -> bool
 {
     let entries = u128::from(f.saturating_sub(1)) + u128::from(l);
     entries.saturating_sub(u128::from(m)) <= u128::from(ring)
-}
-
-/// The ring of the object of a priority.
-fn ring_at(sys: &System, a: u64) -> Option<u8>
-    ensures { MatchOption result (find (λ d. d.priority == a) sys.now.objects ≡ None) (λ r. (d : ObjectDef) × (find (λ d. d.priority == a) sys.now.objects ≡ Some d) × (r ≡ d.ring)) }
-{
-    for d in &sys.objects.items {
-        if u64::from(d.priority) == a {
-            return Some(d.ring);
-        }
-    }
-    None
-}
-
-/// The length of an object's ring, 0 where there is no such object.
-fn ring_of(sys: &System, a: u64) -> u8
-    ensures { result ≡ ring_of sys.now a }
-{
-    match ring_at(sys, a) {
-        Some(ring) => ring,
-        None => 0,
-    }
-}
-
-#[tactic(auto, unfolding(qp_model::specs::Parts::is_static))]
-fn is_static(sys: &System, sig: u64) -> bool
-    ensures { result ≡ is_static sys.now sig }
-{
-    if sig < 4 {
-        return false;
-    }
-    match sys.signals.items.get((sig - 4) as usize) {
-        Some(d) => d.fixed,
-        None => false,
-    }
 }
 
 fn has_static(sys: &System) -> bool
@@ -99,19 +53,19 @@ impl Scene<'_> {
     pub fn had_room(&self, to: u64, f: u64, l: u64, m: u64) -> bool
         ensures { result ≡ had_room self.now.sys.now to f l m }
     {
-        had_free(ring_of(self.sys, to), f, l, m)
+        had_free(self.sys.ring_of(to), f, l, m)
     }
 
     #[tactic(auto, unfolding(crate::specs::ShapeUnit::is_static_entry))]
     pub fn is_static_entry(&self, e: Entry) -> bool
         ensures { result ≡ is_static_entry self.now.sys.now e }
     {
-        e.pool == 0 && e.name == 0 && is_static(self.sys, e.block)
+        e.pool == 0 && e.name == 0 && self.sys.is_static(e.block)
     }
 
     pub fn is_static(&self, sig: u64) -> bool
         ensures { result ≡ is_static self.now.sys.now sig }
     {
-        is_static(self.sys, sig)
+        self.sys.is_static(sig)
     }
 }

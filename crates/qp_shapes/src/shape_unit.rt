@@ -10,7 +10,7 @@ ghost use Rattle.qp_shapes.specs.ShapeUnit.{IsUnit, post_first, behind_again, be
 
 use crate::shape_pools::{goes_to, is_used};
 use crate::shape_release::behind_release;
-use crate::shape_scene::{Scene, is_same};
+use crate::shape_scene::Scene;
 use qp_fits::{Known, Told};
 use qp_model::{Body, Entry};
 
@@ -34,7 +34,7 @@ fn post_first<'a>(scene: &Scene, e: Entry, first: &Told, rest: &'a [Told]) -> Op
 {
     match (&first.body, &first.known) {
         (Body::Post { a, f, l, m, entry }, Known::Nothing) => when(
-            is_same(*entry, e) && scene.had_room(*a, *f, *l, *m),
+            entry.is_same(e) && scene.had_room(*a, *f, *l, *m),
             rest,
         ),
         (Body::Full { .. }, Known::Nothing) => behind_release(e, rest),
@@ -48,7 +48,7 @@ pub fn behind_again<'a>(scene: &Scene, e: Entry, told: &'a [Told]) -> Option<&'a
 {
     let (first, rest) = told.split_first()?;
     match (&first.body, &first.known) {
-        (Body::Defer { entry }, Known::Nothing) => when(is_same(*entry, e), rest),
+        (Body::Defer { entry }, Known::Nothing) => when(entry.is_same(e), rest),
         _ => post_first(scene, e, first, rest),
     }
 }
@@ -59,7 +59,7 @@ pub fn behind_entry<'a>(scene: &Scene, e: Entry, told: &'a [Told]) -> Option<&'a
 {
     let (first, rest) = told.split_first()?;
     match (&first.body, &first.known) {
-        (Body::Lifo { entry, .. }, Known::Nothing) => when(is_same(*entry, e), rest),
+        (Body::Lifo { entry, .. }, Known::Nothing) => when(entry.is_same(e), rest),
         _ => post_first(scene, e, first, rest),
     }
 }
@@ -88,7 +88,7 @@ fn behind_lifo<'a>(k: Entry, e: Entry, told: &'a [Told]) -> Option<&'a [Told]>
     let (first, rest) = told.split_first()?;
     match (&first.body, &first.known) {
         (Body::Lifo { entry, .. }, Known::Nothing) => {
-            if is_same(*entry, e) {
+            if entry.is_same(e) {
                 behind_release(k, rest)
             } else {
                 None
@@ -131,7 +131,7 @@ fn is_static_now(now: Option<Entry>, e: Entry) -> bool
     ensures { result ≡ is_static_now now e }
 {
     match now {
-        Some(k) => k.pool == 0 && is_same(k, e),
+        Some(k) => k.pool == 0 && k.is_same(e),
         None => false,
     }
 }

@@ -1,6 +1,0 @@
-use Rattle.std.proofs.Common.{◌≡◌, ◌==◌, drop}
-use Rattle.std.specs.List.{find}
-use Rattle.qp_shapes.proofs.shape_scene.ring_at.Given as goal
-
-abbrev pub invariant-loop-d : goal.invariant-loop-d
-invariant-loop-d l = find (λ d. d.priority == l.a) l.sys.objects ≡ find (λ d. d.priority == l.a) (drop l.d-index l.sys.objects)
