@@ -1,22 +1,26 @@
 -- What goes on from a sink that gathers.
-use Rattle.std.proofs.Common.{◌≡◌, ℕ, ◌+◌, ◌-◌, List, [], ◌++◌, length, take, drop, Option, Some, None, IfSome, Result, Ok, Err, OnOk, OnErr, refl, sym, ◌∙◌, ap, subst, arith, append_assoc, length-append, length-take-le}
+use Rattle.std.proofs.Common.{◌≡◌, ℕ, ◌+◌, ◌-◌, ◌^◌, ◌≤◌, List, [], ◌++◌, length, take, drop, Option, Some, None, IfSome, Result, Ok, Err, OnOk, OnErr, refl, sym, ◌∙◌, ap, subst, arith, append_assoc, length-append, length-take-le}
 use Rattle.std.proofs.lemmas.List.{append-nil, take-append-le, take_all, take-append-drop}
 use Rattle.qp_base.specs.Sink.{AppendsPrefix, appended}
-use Rattle.qp_base.specs.Gathering.{Goes, IsBegun, Went, put_of, told}
+use Rattle.qp_base.specs.Gathering.{Goes, IsBegun, Went, counted, put_of, told, torn_part, whole_part}
 use Rattle.qp_base.specs.declared.course.Course.{Course}
 use Rattle.qp_base.specs.declared.course.Course.TheVariants.{Open, Torn, Stopped}
 
--- at first nothing went on
-pub fresh-goes : (below : Option (List ℕ)) (held : List ℕ) → IfSome below (λ w. w ≡ []) → Goes Open 0 held below
+-- at first just what the sink below had got went on
+pub first-goes : (below : Option (List ℕ)) (gone first : ℕ) (held : List ℕ) → IfSome below (λ w. length w ≡ first) → gone ≡ first + 0 → Goes Open gone held below
 unfolding Goes Went
-fresh-goes None held empty = tt
-fresh-goes (Some w) held empty = rw empty refl
+first-goes None gone first held had is = tt
+first-goes (Some w) gone first held had is = omega (arith, had, is)
+
+-- counting on
+counted-on : (m n gone all : ℕ) → counted m ≡ counted gone → all ≡ m + n → counted all ≡ counted (gone + n)
+counted-on m n gone all count is = omega (arith, count, is)
 
 -- a whole piece went on
-pub went-on : (below after : Option (List ℕ)) (gone n : ℕ) (held left bytes : List ℕ) → Goes Open gone held below → after ≡ appended below bytes → n ≡ gone + length bytes → Goes Open n left after
+pub went-on : (below after : Option (List ℕ)) (gone n : ℕ) (held left bytes : List ℕ) → Goes Open gone held below → after ≡ appended below bytes → counted n ≡ counted (gone + length bytes) → Goes Open n left after
 unfolding Goes Went
 went-on None after gone n held left bytes goes is count = rw is tt
-went-on (Some w) after gone n held left bytes goes is count = rw is (length-append w bytes ∙ ap (λ k. k + length bytes) goes ∙ sym count)
+went-on (Some w) after gone n held left bytes goes is count = rw is (counted-on (length w) (length bytes) gone (length (w ++ bytes)) goes (length-append w bytes) ∙ sym count)
 
 -- what is put stays what it is while what is held goes on
 pub told-on : (below after : Option (List ℕ)) (gone n : ℕ) (held : List ℕ) → after ≡ appended below held → told Open n [] after ≡ told Open gone held below
@@ -47,22 +51,35 @@ pub none-appended : (below : Option (List ℕ)) (bytes : List ℕ) → AppendsPr
 none-appended None bytes = (0, omega arith, refl)
 none-appended (Some w) bytes = (0, omega arith, ap Some (sym (append-nil w)))
 
+-- how many bytes of a torn piece went on
+torn-count : (m k gone all : ℕ) → counted m ≡ counted gone → k ≤ 65536 → all ≡ m + k → counted (all + (2 ^ 64 - counted gone)) ≡ k
+torn-count m k gone all count few is = omega (arith, count, few, is)
+
+-- what went on before a torn piece
+torn-whole : (gone k : ℕ) (w held : List ℕ) → counted (length w) ≡ counted gone → length held ≤ 65536 → k ≤ length held
+    → (torn_part gone (w ++ take k held) ≡ k) × (whole_part gone (w ++ take k held) ≡ w)
+torn-whole gone k w held count few some =
+    let all : length (w ++ take k held) ≡ length w + k = omega (arith, length-append w (take k held), length-take-le k held some) in
+    let part : torn_part gone (w ++ take k held) ≡ k = torn-count (length w) k gone (length (w ++ take k held)) count (omega (arith, few, some)) all in
+    let before : length (w ++ take k held) - torn_part gone (w ++ take k held) ≡ length w = omega (arith, all, part) in (
+      part,
+      ap (λ n. take n (w ++ take k held)) before ∙ take-append-le (length w) w (take k held) (omega arith) ∙ take_all (length w) w (omega arith),
+    )
+
 -- of a torn piece some went on
-pub torn-goes : (below after : Option (List ℕ)) (gone : ℕ) (held : List ℕ) → Goes Open gone held below → AppendsPrefix below held after → Goes Torn gone held after
+pub torn-goes : (below after : Option (List ℕ)) (gone : ℕ) (held : List ℕ) → length held ≤ 65536 → Goes Open gone held below → AppendsPrefix below held after → Goes Torn gone held after
 unfolding Goes Went
-torn-goes None after gone held goes (k, few, is) = rw is tt
-torn-goes (Some w) after gone held goes (k, few, is) =
-    let cut : take gone (w ++ take k held) ≡ w = take-append-le gone w (take k held) (omega (arith, goes)) ∙ take_all gone w (omega (arith, goes)) in
-    let some : length (w ++ take k held) - gone ≡ k = omega (arith, length-append w (take k held), length-take-le k held few, goes) in
-    rw is (rw (cut, some) refl)
+torn-goes None after gone held few goes (k, some, is) = rw is tt
+torn-goes (Some w) after gone held few goes (k, some, is) =
+    let (part, before) = torn-whole gone k w held goes few some in
+    rw is (rw (before, part) refl)
 
 -- a torn piece was put whole
-pub torn-told : (below after : Option (List ℕ)) (gone : ℕ) (held : List ℕ) → Goes Open gone held below → AppendsPrefix below held after → told Torn gone held after ≡ told Open gone held below
+pub torn-told : (below after : Option (List ℕ)) (gone : ℕ) (held : List ℕ) → length held ≤ 65536 → Goes Open gone held below → AppendsPrefix below held after
+    → told Torn gone held after ≡ told Open gone held below
 unfolding Goes Went told put_of
-torn-told None after gone held goes (k, few, is) = rw is refl
-torn-told (Some w) after gone held goes (k, few, is) =
-    let cut : take gone (w ++ take k held) ≡ w = take-append-le gone w (take k held) (omega (arith, goes)) ∙ take_all gone w (omega (arith, goes)) in
-    rw is (ap (λ l. Some (l ++ held)) cut)
+torn-told None after gone held few goes (k, some, is) = rw is refl
+torn-told (Some w) after gone held few goes (k, some, is) = ap (λ o. told Torn gone held o) is ∙ ap (λ l. Some (l ++ held)) (torn-whole gone k w held goes few some).1
 
 -- of bytes that didn't go on whole some were put
 pub stopped-told : (below after : Option (List ℕ)) (gone n : ℕ) (left bytes : List ℕ) → AppendsPrefix below bytes after → AppendsPrefix (told Open gone [] below) bytes (told Stopped n left after)
@@ -82,10 +99,10 @@ begun course gone held None goes = tt
 begun Open gone held (Some w) goes = (held, refl)
 begun Stopped gone held (Some w) goes = ([], sym (append-nil w))
 begun Torn gone held (Some w) goes =
-    let m : ℕ = length w - gone in
+    let m : ℕ = torn_part gone w in
     let whole : take m held ++ drop m held ≡ held = take-append-drop m held in (
       drop m held,
-      ap (λ l. take gone w ++ l) (sym whole) ∙ sym (append_assoc (take gone w) (take m held) (drop m held)) ∙ ap (λ l. l ++ drop m held) (sym goes),
+      ap (λ l. whole_part gone w ++ l) (sym whole) ∙ sym (append_assoc (whole_part gone w) (take m held) (drop m held)) ∙ ap (λ l. l ++ drop m held) (sym goes),
     )
 
 -- while all went on, it doesn't matter what is held
@@ -95,18 +112,19 @@ held-goes course gone held left None going goes = tt
 held-goes course gone held left (Some w) going goes = rw going (rw going at goes)
 
 -- the same lemmas, where the course is told by its name
-pub went : (course : Course) (below after : Option (List ℕ)) (gone n : ℕ) (held left bytes : List ℕ) → course ≡ Open → Goes course gone held below → after ≡ appended below bytes → n ≡ gone + length bytes
+pub went : (course : Course) (below after : Option (List ℕ)) (gone n : ℕ) (held left bytes : List ℕ) → course ≡ Open → Goes course gone held below → after ≡ appended below bytes → counted n ≡ counted (gone + length bytes)
     → Goes course n left after
 went course below after gone n held left bytes going goes is count =
     subst (λ c. Goes c n left after) (sym going) (went-on below after gone n held left bytes (subst (λ c. Goes c gone held below) going goes) is count)
 
-pub torn : (course : Course) (below after : Option (List ℕ)) (gone : ℕ) (held : List ℕ) → course ≡ Open → Goes course gone held below → AppendsPrefix below held after → Goes Torn gone held after
-torn course below after gone held going goes some = torn-goes below after gone held (subst (λ c. Goes c gone held below) going goes) some
+pub torn : (course : Course) (below after : Option (List ℕ)) (gone : ℕ) (held : List ℕ) → course ≡ Open → length held ≤ 65536 → Goes course gone held below → AppendsPrefix below held after
+    → Goes Torn gone held after
+torn course below after gone held going few goes some = torn-goes below after gone held few (subst (λ c. Goes c gone held below) going goes) some
 
-pub torn-put : (course : Course) (below after : Option (List ℕ)) (gone : ℕ) (held : List ℕ) → course ≡ Open → Goes course gone held below → AppendsPrefix below held after
+pub torn-put : (course : Course) (below after : Option (List ℕ)) (gone : ℕ) (held : List ℕ) → course ≡ Open → length held ≤ 65536 → Goes course gone held below → AppendsPrefix below held after
     → told Torn gone held after ≡ told course gone held below
-torn-put course below after gone held going goes some =
-    torn-told below after gone held (subst (λ c. Goes c gone held below) going goes) some ∙ ap (λ c. told c gone held below) (sym going)
+torn-put course below after gone held going few goes some =
+    torn-told below after gone held few (subst (λ c. Goes c gone held below) going goes) some ∙ ap (λ c. told c gone held below) (sym going)
 
 pub on-put : (course : Course) (below after : Option (List ℕ)) (gone n : ℕ) (held left : List ℕ) → course ≡ Open → left ≡ [] → after ≡ appended below held → told course n left after ≡ told course gone held below
 on-put course below after gone n held left going empty is = rw (going, empty) (told-on below after gone n held is)
@@ -125,6 +143,10 @@ stopped-put course below after gone n held left bytes going empty some = rw (goi
 pub flushed : (course : Course) (gone : ℕ) (held : List ℕ) (below all : Option (List ℕ)) → told course gone held below ≡ all → course ≡ Open → held ≡ [] → below ≡ all
 flushed course gone held below all same going empty =
     sym (told-all below gone) ∙ ap (λ c. told c gone [] below) (sym going) ∙ ap (λ h. told course gone h below) (sym empty) ∙ same
+
+-- a count that goes on in 64 bits, behind what was there at first
+pub count-on : (first gone after n : ℕ) → after ≡ counted (gone + n) → counted (first + after) ≡ counted (first + gone + n)
+count-on first gone after n is = omega (arith, is)
 
 -- facts that hold where a result is Ok, or an error
 pub on-ok : {A E : Type 0} (r : Result A E) (P Q R : Type 0) → (P → Q → R) → OnOk r P → OnOk r Q → OnOk r R

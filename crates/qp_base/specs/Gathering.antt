@@ -1,16 +1,27 @@
 -- What was put into a sink that gathers, and what of it went on.
-use Rattle.std.specs.Prelude.{◌≡◌, ◌-◌, ◌<◌, ◌⊎◌, ℕ, List, ◌++◌, length, take, Option, Some, None, ⊤}
+use Rattle.std.specs.Prelude.{◌≡◌, ◌+◌, ◌-◌, ◌%◌, ◌^◌, ℕ, List, ◌++◌, length, take, Option, Some, None, ⊤}
 use Rattle.std.specs.Option.{option_map}
 use Rattle.std.specs.Coded.{Unit-prop}
 use Rattle.std.proofs.Props.{props}
-use Rattle.qp_base.specs.Counts.{Rose}
 use Rattle.qp_base.specs.declared.course.Course.{Course}
 use Rattle.qp_base.specs.declared.course.Course.TheVariants.{Open, Torn, Stopped}
 
--- what was put, where w went on and this is held; a torn piece stands behind so many bytes
+-- a number of bytes, as 64 bits count them
+abbrev pub counted : ℕ → ℕ
+counted n = n % 2 ^ 64
+
+-- how many bytes of a torn piece went on, where this went on in all, and so many bytes had gone before the piece
+abbrev pub torn_part : ℕ → List ℕ → ℕ
+torn_part gone w = counted (length w + (2 ^ 64 - counted gone))
+
+-- what went on before a torn piece
+abbrev pub whole_part : ℕ → List ℕ → List ℕ
+whole_part gone w = take (length w - torn_part gone w) w
+
+-- what was put, where w went on and this is held
 unfoldable pub put_of : Course → ℕ → List ℕ → List ℕ → List ℕ
 put_of Open gone held w = w ++ held
-put_of Torn gone held w = take gone w ++ held
+put_of Torn gone held w = whole_part gone w ++ held
 put_of Stopped gone held w = w
 
 -- the same, where the sink below tells what went on
@@ -20,8 +31,8 @@ told course gone held below = option_map (put_of course gone held) below
 
 -- how w went on: so many bytes of it, and of a torn piece some, from the first on
 unfoldable pub Went : Course → ℕ → List ℕ → List ℕ → Type 0
-Went Open gone held w = length w ≡ gone
-Went Torn gone held w = w ≡ take gone w ++ take (length w - gone) held
+Went Open gone held w = counted (length w) ≡ counted gone
+Went Torn gone held w = w ≡ whole_part gone w ++ take (torn_part gone w) held
 Went Stopped gone held w = ⊤
 
 -- the same, where the sink below tells it
@@ -42,7 +53,3 @@ abbrev pub IsBegun : Option (List ℕ) → Option (List ℕ) → Type 0
 IsBegun None put = ⊤
 IsBegun (Some w) None = ⊥
 IsBegun (Some w) (Some all) = (rest : List ℕ) × (all ≡ w ++ rest)
-
--- why so many bytes don't go on whole: the sink below failed, as its count tells, or they are more than can be counted
-abbrev pub Fails : ℕ → ℕ → ℕ → Type 0
-Fails old new all = Rose old new ⊎ (18446744073709551615 < all)

@@ -21,7 +21,7 @@ pub use dir_shelf::DirShelf;
 pub use event::Ev;
 pub use faults::Memory;
 pub use gates::{Gate, NoGate};
-pub use gathered::Gathered;
+pub use gathered::{Beginning, Gathered};
 pub use mem_shelf::MemShelf;
 pub use mem_sink::MemSink;
 pub use shelves::{FILE_LIMIT, Shelf, ShelfFault};

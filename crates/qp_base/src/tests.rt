@@ -150,7 +150,7 @@ fn a_sink_in_memory_keeps_what_its_faults_leave(rt: HostRuntime) -> Result<(), F
 }
 
 /// A sink that gathers over one in memory, whose puts of these numbers keep so many bytes and fail.
-fn gathered(alloc: Global, failing: Vec<(u64, u64)>) -> Result<Gathered<MemSink>, Fail> {
+fn gathered(alloc: Global, failing: Vec<(u64, u64)>) -> Result<Gathered<MemSink, Brand>, Fail> {
     let Ok(sink) = MemSink::new(alloc, 1000000, failing) else {
         return Err(AllocError.into());
     };

@@ -1,26 +1,18 @@
 use Rattle.std.proofs.Common.{arith}
-use Rattle.qp_base.proofs.GatheringLemmas.{none-appended, on-put, torn, torn-put, went}
+use Rattle.qp_base.proofs.GatheringLemmas.{count-on, on-put, torn, torn-put, went}
 use Rattle.qp_base.proofs.gathered.Gathered.hand_on.Goals as goal
-
-pub invariant_of-self-in_default-clause-goes : goal.invariant_of-self-in_default-clause-goes
-invariant_of-self-in_default-clause-goes g c = torn _ _ _ _ _ c.requires c.args.self.now.goes (none-appended _ _)
-
-pub returns-in_default-clause-told : goal.returns-in_default-clause-told
-returns-in_default-clause-told g c =
-    let f = c.fail.ensures in
-    rw (f.course, f.gone, f.held, f.inner) (torn-put _ _ _ _ _ c.requires c.args.self.now.goes (none-appended _ _))
 
 pub invariant_of-self-in-Ok-clause-goes : goal.invariant_of-self-in-Ok-clause-goes
 invariant_of-self-in-Ok-clause-goes g c =
-    went _ _ _ _ _ _ _ _ c.requires c.args.self.now.goes (rw c.as_slice.ensures.value at c.in-Ok.ensures.ok) (omega (arith, c.in-Some.ensures, c.len.ensures))
+    went _ _ _ _ _ _ _ _ c.requires c.args.self.now.goes (rw c.as_slice.ensures.value at c.in-Ok.ensures.ok) (count-on _ _ _ _ (omega (arith, c.len.ensures)))
 
 pub invariant_of-self-in-Err-clause-goes : goal.invariant_of-self-in-Err-clause-goes
-invariant_of-self-in-Err-clause-goes g c = torn _ _ _ _ _ c.requires c.args.self.now.goes (rw c.as_slice.ensures.value at c.in-Err.ensures.err)
+invariant_of-self-in-Err-clause-goes g c = torn _ _ _ _ _ c.requires c.args.self.now.few c.args.self.now.goes (rw c.as_slice.ensures.value at c.in-Err.ensures.err)
 
 pub returns-in-Ok-clause-told : goal.returns-in-Ok-clause-told
 returns-in-Ok-clause-told g c = on-put _ _ _ _ _ _ _ c.requires c.clear.ensures.items (rw c.as_slice.ensures.value at c.in-Ok.ensures.ok)
 
 pub returns-in-Err-clause-told : goal.returns-in-Err-clause-told
 returns-in-Err-clause-told g c =
-    let f = c.fail-in-Err.ensures in
-    rw (f.course, f.gone, f.held, f.inner) (torn-put _ _ _ _ _ c.requires c.args.self.now.goes (rw c.as_slice.ensures.value at c.in-Err.ensures.err))
+    let f = c.fail.ensures in
+    rw (f.course, f.gone, f.held, f.inner) (torn-put _ _ _ _ _ c.requires c.args.self.now.few c.args.self.now.goes (rw c.as_slice.ensures.value at c.in-Err.ensures.err))

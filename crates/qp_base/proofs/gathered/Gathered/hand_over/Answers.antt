@@ -1,19 +1,9 @@
-use Rattle.std.proofs.Common.{arith, ap}
-use Rattle.qp_base.proofs.GatheringLemmas.{none-appended, over-put, stopped, stopped-goes, went}
+use Rattle.std.proofs.Common.{◌+◌, ap, refl}
+use Rattle.qp_base.proofs.GatheringLemmas.{count-on, over-put, stopped, stopped-goes, went}
 use Rattle.qp_base.proofs.gathered.Gathered.hand_over.Goals as goal
 
 pub invariant_of-self-clause-goes : goal.invariant_of-self-clause-goes
-invariant_of-self-clause-goes g c = stopped-goes _ _ _
-
-pub returns-in_default-clause-prefix : goal.returns-in_default-clause-prefix
-returns-in_default-clause-prefix g c =
-    let f = c.fail.ensures in
-    stopped c.fail.result c.args.self.now.course c.fail.new.self.course (g.S.Sink.written c.args.self.now.inner) (g.S.Sink.written c.args.self.now.inner) (g.S.Sink.written c.fail.new.self.inner)
-    c.args.self.now.gone c.fail.new.self.gone c.args.self.now.held.items c.fail.new.self.held.items c.args.bytes.now
-    c.requires.going c.requires.held (none-appended _ _) f.course (ap g.S.Sink.written f.inner)
-
-pub invariant_of-self-in-Ok-clause-goes : goal.invariant_of-self-in-Ok-clause-goes
-invariant_of-self-in-Ok-clause-goes g c = went _ _ _ _ _ _ _ _ c.requires.going c.args.self.now.goes c.in-Ok.ensures.ok (omega (arith, c.in-Some.ensures))
+invariant_of-self-clause-goes g c = went _ _ _ _ _ _ _ _ c.requires.going c.args.self.now.goes c.in-Ok.ensures.ok (count-on _ _ _ _ refl)
 
 pub invariant_of-self-in-Err-clause-goes : goal.invariant_of-self-in-Err-clause-goes
 invariant_of-self-in-Err-clause-goes g c = stopped-goes _ _ _
@@ -23,7 +13,7 @@ returns-in-Ok-clause-ok g c = over-put _ _ _ _ _ _ _ c.requires.going c.requires
 
 pub returns-in-Err-clause-prefix : goal.returns-in-Err-clause-prefix
 returns-in-Err-clause-prefix g c =
-    let f = c.fail-in-Err.ensures in
-    stopped c.fail-in-Err.result c.args.self.now.course c.fail-in-Err.new.self.course (g.S.Sink.written c.args.self.now.inner) (g.S.Sink.written c.put.new.self) (g.S.Sink.written c.fail-in-Err.new.self.inner)
-    c.args.self.now.gone c.fail-in-Err.new.self.gone c.args.self.now.held.items c.fail-in-Err.new.self.held.items c.args.bytes.now
+    let f = c.fail.ensures in
+    stopped c.fail.result c.args.self.now.course c.fail.new.self.course (g.S.Sink.written c.args.self.now.inner) (g.S.Sink.written c.put.new.self) (g.S.Sink.written c.fail.new.self.inner)
+    (g.B.Beginning.first_length + c.args.self.now.gone) (g.B.Beginning.first_length + c.fail.new.self.gone) c.args.self.now.held.items c.fail.new.self.held.items c.args.bytes.now
     c.requires.going c.requires.held c.in-Err.ensures.err f.course (ap g.S.Sink.written f.inner)
