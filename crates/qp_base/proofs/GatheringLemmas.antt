@@ -1,5 +1,6 @@
 -- What goes on from a sink that gathers.
 use Rattle.std.proofs.Common.{◌≡◌, ℕ, ◌+◌, ◌-◌, ◌^◌, ◌≤◌, List, [], ◌++◌, length, take, drop, Option, Some, None, IfSome, Result, Ok, Err, OnOk, OnErr, refl, sym, ◌∙◌, ap, subst, arith, append_assoc, length-append, length-take-le}
+use Rattle.std.specs.Option.{ForSome}
 use Rattle.std.proofs.lemmas.List.{append-nil, take-append-le, take_all, take-append-drop}
 use Rattle.qp_base.specs.Sink.{AppendsPrefix, appended}
 use Rattle.qp_base.specs.Gathering.{Goes, IsBegun, Went, counted, put_of, told, torn_part, whole_part}
@@ -11,6 +12,18 @@ pub first-goes : (below : Option (List ℕ)) (gone first : ℕ) (held : List ℕ
 unfolding Goes Went
 first-goes None gone first held had is = tt
 first-goes (Some w) gone first held had is = omega (arith, had, is)
+
+pub first-grown : (below : Option (List ℕ)) (first : ℕ) → IfSome below (λ w. length w ≡ first) → ForSome below (λ w. first ≤ length w)
+first-grown None first had = λ w is. cc
+first-grown (Some v) first had = λ w is. let same : v ≡ w = cc in omega (arith, had, ap length same)
+
+-- what went on stays
+pub grown-by : (below after : Option (List ℕ)) (first : ℕ) (bytes : List ℕ) → ForSome below (λ w. first ≤ length w) → after ≡ appended below bytes → ForSome after (λ w. first ≤ length w)
+grown-by None after first bytes grown is = λ w got. cc
+grown-by (Some v) after first bytes grown is = λ w got. let same : v ++ bytes ≡ w = cc in omega (arith, length-append v bytes, grown v refl, ap length same)
+
+pub grown-part : (below after : Option (List ℕ)) (first : ℕ) (bytes : List ℕ) → ForSome below (λ w. first ≤ length w) → AppendsPrefix below bytes after → ForSome after (λ w. first ≤ length w)
+grown-part below after first bytes grown (k, some, is) = grown-by below after first (take k bytes) grown is
 
 -- counting on
 counted-on : (m n gone all : ℕ) → counted m ≡ counted gone → all ≡ m + n → counted all ≡ counted (gone + n)

@@ -1,6 +1,7 @@
 //! A sink over a sink, which hands on large pieces.
 
 ghost use Rattle.std.specs.Prelude.{◌≡◌, ◌≢◌, ◌+◌, ◌≤◌, ℕ, [], length, vec_capacity, OnOk, OnErr, IfOk, IfErr, IfSome, true, false, is_err};
+ghost use Rattle.std.specs.Option.{ForSome};
 ghost use Rattle.qp_base.specs.Counts.{CountsIf, Rose};
 ghost use Rattle.qp_base.specs.Gathering.{Goes, Goes-prop, IsBegun, told};
 ghost use Rattle.qp_base.specs.Sink.{AppendsPrefix, appended};
@@ -44,6 +45,7 @@ pub struct Gathered<S: Sink + Drop, B: Beginning> {
     ghost few: { length held.items ≤ 65536 },
     ghost room: { 65536 ≤ vec_capacity held },
     ghost goes: { Goes course (B.first_length + gone) held.items (S.written inner) } by { Goes-prop course (B.first_length + gone) held.items (S.written inner) },
+    ghost grown: { ForSome (S.written inner) (λ w. B.first_length ≤ length w) },
     ghost none: { course ≡ Open → faults ≡ 0 },
     ghost stands: { course ≡ Open → S.faults inner ≡ B.first_faults },
     ghost rose: { course ≢ Open → Rose B.first_faults (S.faults inner) },
@@ -85,6 +87,7 @@ impl<S: Sink + Drop, B: Beginning> Gathered<S, B> {
     pub fn into_inner(self) -> S
         ensures inner { result ≡ self.inner }
         ensures begun { IsBegun (S.written result) (told self.course (B.first_length + self.gone) self.held.items (S.written self.inner)) }
+        ensures grown { ForSome (S.written result) (λ w. B.first_length ≤ length w) }
         ensures none { self.course ≡ Open → self.faults ≡ 0 }
         ensures stands { self.course ≡ Open → S.faults result ≡ B.first_faults }
         ensures rose { self.course ≢ Open → Rose B.first_faults (S.faults result) }

@@ -1,5 +1,5 @@
 use Rattle.std.proofs.Common.{◌+◌, ap, refl}
-use Rattle.qp_base.proofs.GatheringLemmas.{count-on, over-put, stopped, stopped-goes, went}
+use Rattle.qp_base.proofs.GatheringLemmas.{count-on, grown-by, grown-part, over-put, stopped, stopped-goes, went}
 use Rattle.qp_base.proofs.gathered.Gathered.hand_over.Goals as goal
 
 pub invariant_of-self-clause-goes : goal.invariant_of-self-clause-goes
@@ -7,6 +7,12 @@ invariant_of-self-clause-goes g c = went _ _ _ _ _ _ _ _ c.requires.going c.args
 
 pub invariant_of-self-in-Err-clause-goes : goal.invariant_of-self-in-Err-clause-goes
 invariant_of-self-in-Err-clause-goes g c = stopped-goes _ _ _
+
+pub invariant_of-self-clause-grown : goal.invariant_of-self-clause-grown
+invariant_of-self-clause-grown g c = grown-by _ _ _ _ c.args.self.now.grown c.in-Ok.ensures.ok
+
+pub invariant_of-self-in-Err-clause-grown : goal.invariant_of-self-in-Err-clause-grown
+invariant_of-self-in-Err-clause-grown g c = grown-part _ _ _ _ c.args.self.now.grown c.in-Err.ensures.err
 
 pub returns-in-Ok-clause-ok : goal.returns-in-Ok-clause-ok
 returns-in-Ok-clause-ok g c = over-put _ _ _ _ _ _ _ c.requires.going c.requires.held c.in-Ok.ensures.ok
