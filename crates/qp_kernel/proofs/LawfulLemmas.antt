@@ -45,6 +45,7 @@ use Rattle.qp_orders.proofs.CalmLemmas.{and-true, and-split, or-false}
 use Rattle.qp_kernel.specs.LaneZero.{told_pieces, setting}
 use Rattle.qp_kernel.specs.ZeroEnds.{cut_in, may_stand, is_spent_right, own_told}
 use Rattle.qp_kernel.specs.Run.{SourcesEnd, IsRun}
+use Rattle.qp_kernel.proofs.AlikeKernels.{one-order_kernel, one-order_no-port, runs-alike}
 use Rattle.qp_kernel.proofs.BareLemmas.{bare-told}
 use Rattle.qp_kernel.proofs.TellLemmas.{untold-lane, pieces-lane, source-lane}
 use Rattle.qp_kernel.proofs.ZeroLemmas.{count-append, count-cons}
@@ -108,10 +109,10 @@ module _ (sys : System) (stimuli : List (List Stim)) (j : Journal) (run : IsRun 
   told0 = told_lane (facts_of sys j) 0 (lane_items (lane_at j 0))
 
   abbrev here : Setting
-  here = setting sys sim (has_stim (source_lanes sys j))
+  here = setting sys j.kernel (has_stim (source_lanes sys j))
 
   no_port : (j.kernel == port) ≡ false
-  no_port = rw run.kernel refl
+  no_port = one-order_no-port j.kernel run.kernel
 
   home-is : (o : ℕ) → home_of sys j o ≡ 0
   unfolding home_of
@@ -122,7 +123,7 @@ module _ (sys : System) (stimuli : List (List Stim)) (j : Journal) (run : IsRun 
 
   setting-is : setting_of sys j ≡ here
   unfolding setting_of
-  setting-is = ap (λ k. record { sys = sys; kernel = k; has_stimulus = has_stim (source_lanes sys j) }) run.kernel
+  setting-is = refl
 
   reads : lane_on here (unread sys) lane0 ≡ Some run.zero.last
   reads = ap (lane_on here (unread sys)) (sym items-are) ∙ run.zero.read
@@ -192,13 +193,13 @@ module _ (sys : System) (stimuli : List (List Stim)) (j : Journal) (run : IsRun 
         (λ d at sound. points d sound.its at.0 sound.is_its) found run.sound.objects;
   }
     where
-      reading : (last : Reading) → last.idle ≤ 1 → may_stand sim j.end last (map untold told0) ≡ true
+      reading : (last : Reading) → last.idle ≤ 1 → may_stand j.kernel j.end last (map untold told0) ≡ true
           → reading_holds j lane0 (count_by (λ i. is_settle i.body) (all_items j.lanes)) (Some last) ≡ true
       reading last idle stands =
           let few : nat_le last.idle (count_by (λ i. is_settle i.body) (all_items j.lanes) + 1) ≡ true = grind (arith, nat_tests, idle) in
           let cut : spills_cut j.end lane0 ≡ true = ap (spills_cut j.end) (sym items-are) ∙ run.zero.spills in
-          let stand : may_stand sim j.end last lane0 ≡ true = ap (may_stand sim j.end last) (sym items-are) ∙ stands in
-          rw (run.kernel, few, cut) stand
+          let stand : may_stand j.kernel j.end last lane0 ≡ true = ap (may_stand j.kernel j.end last) (sym items-are) ∙ stands in
+          rw (one-order_kernel j.kernel run.kernel, few, cut) stand
 
   -- The sources.
   one_before : lanes_before sys j ≡ 1
@@ -216,8 +217,7 @@ module _ (sys : System) (stimuli : List (List Stim)) (j : Journal) (run : IsRun 
 
     runs-here : SourceRuns sys j.kernel 1 ss h.stop (source_records w is)
     runs-here =
-        subst (λ k. SourceRuns sys k 1 ss h.stop (source_records w is)) (sym run.kernel)
-        (subst (SourceRuns sys sim 1 ss h.stop) (sym (source-lane w is alone-here)) h.runs)
+        (subst (SourceRuns sys j.kernel 1 ss h.stop) (sym (source-lane w is alone-here)) (runs-alike sys j.kernel run.kernel 1 ss h.stop _ h.runs))
 
     is-lane : IsSourceLane w j.kernel j.end ss is
     unfolding facts_of none_twice
@@ -280,7 +280,7 @@ module _ (sys : System) (stimuli : List (List Stim)) (j : Journal) (run : IsRun 
   }
     where
       has_one : has_one_order j.kernel ≡ true
-      has_one = rw run.kernel refl
+      has_one = run.kernel
 
       counted : length j.lanes ≡ 1 + length stimuli → (length j.lanes == 1 + length stimuli) ≡ true
       counted e = grind (arith, nat_tests, e)

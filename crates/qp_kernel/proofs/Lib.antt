@@ -5,6 +5,7 @@ pub mod ToldPieces
 pub mod StageLemmas
 pub mod ZeroLemmas
 pub mod WaitLemmas
+pub mod AlikeKernels
 pub mod BareLemmas
 pub mod ZeroEndLemmas
 pub mod CeilingLemmas

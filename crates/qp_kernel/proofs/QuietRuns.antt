@@ -11,9 +11,9 @@ use Rattle.qp_model.specs.declared.journals.Journal.{Journal}
 use Rattle.qp_model.specs.History.{all_items, lane_items}
 use Rattle.qp_model.specs.Home.{lane_at}
 use Rattle.qp_model.specs.Knowing.{told_lane}
-use Rattle.qp_model.specs.Kernels.{sim}
+use Rattle.qp_model.specs.Kernels.{has_one_order}
 use Rattle.qp_model.specs.Sites.{object_at}
-use Rattle.qp_model.specs.Ends.{is_end, ends_last}
+use Rattle.qp_model.specs.Ends.{is_end, ends_last, quiet}
 use Rattle.qp_model.specs.End.{end_of}
 use Rattle.qp_model.specs.Lawful.{facts_of, source_lanes}
 use Rattle.qp_model.proofs.TakenLemmas.{drop-head}
@@ -26,7 +26,7 @@ use Rattle.qp_orders.proofs.SourceLanes.{source_lane_is_whole}
 use Rattle.qp_kernel.specs.ZeroEnds.{ZeroEnds}
 use Rattle.qp_kernel.specs.Run.{SourcesGo, SourcesEnd, IsRun}
 use Rattle.qp_kernel.specs.QuietRun.{IsQuietRun}
-use Rattle.qp_kernel.specs.Turning.{AreNumbered, KernelState}
+use Rattle.qp_kernel.specs.Turning.{AreNumbered, KernelState, kernel_in, under}
 use Rattle.qp_kernel.specs.Laws.{QuietRunsAreLawful}
 use Rattle.qp_kernel.proofs.TellLemmas.{untold-lane}
 use Rattle.qp_kernel.proofs.ZeroEndLemmas.{zero-quiet}
@@ -83,12 +83,21 @@ module _ (sys : System) (stimuli : List (List Stim)) (j : Journal) (s : KernelSt
   unended : end_of (all_items j.lanes) ≡ 0
   unended = let calm = calm-all j.lanes refl in rw (calm-no_assert (all_items j.lanes) calm, calm) refl
 
-  zero : ZeroEnds sys sim j.budget j.end (told_lane (facts_of sys j) 0 (lane_items (lane_at j 0))) (has_stim (source_lanes sys j))
+  zero : ZeroEnds sys j.kernel j.budget j.end (told_lane (facts_of sys j) 0 (lane_items (lane_at j 0))) (has_stim (source_lanes sys j))
   zero =
-      let ends = zero-quiet sys sim j.budget s.told s.now (has_stim (source_lanes sys j)) s.upto s.reading s.owed s.stages s.entries run.stands run.now run.owed run.started run.base run.over
+      let ends = zero-quiet sys (kernel_in run.terms) run.terms.budget s.told s.now (has_stim (source_lanes sys j)) s.upto s.reading s.owed s.stages s.entries run.stands run.now run.owed run.started run.base run.over
       (numbered sys (all-found sys.objects run.sound.ascend)) run.able run.rest in
-      subst (λ ts. ZeroEnds sys sim j.budget j.end ts (has_stim (source_lanes sys j))) (sym run.told)
-      (subst (λ e. ZeroEnds sys sim j.budget e s.told (has_stim (source_lanes sys j))) (sym run.end) ends)
+      subst (λ ts. ZeroEnds sys j.kernel j.budget j.end ts (has_stim (source_lanes sys j))) (sym run.told)
+      (subst (λ e. ZeroEnds sys j.kernel j.budget e s.told (has_stim (source_lanes sys j))) (sym run.end)
+      (subst (λ k. ZeroEnds sys k j.budget quiet s.told (has_stim (source_lanes sys j))) (sym run.kernel)
+      (subst (λ n. ZeroEnds sys (kernel_in run.terms) n quiet s.told (has_stim (source_lanes sys j))) (sym run.budget_is) ends)))
+
+  one : has_one_order j.kernel ≡ true
+  one = ap has_one_order run.kernel ∙ by run.terms.cooperative
+    where
+      by : (b : Bool) → has_one_order (kernel_in (under b run.terms.budget)) ≡ true
+      by true = refl
+      by false = refl
 
   order : EndsInOrder sys stimuli (lane_items (lane_at j 0)) (source_lanes sys j) false run.log
   order =
@@ -99,7 +108,7 @@ module _ (sys : System) (stimuli : List (List Stim)) (j : Journal) (s : KernelSt
   is-run : IsRun sys stimuli j
   is-run = record {
     sound = run.sound;
-    kernel = run.kernel;
+    kernel = one;
     words = run.words;
     count = run.count;
     room = run.room;

@@ -36,10 +36,9 @@ look-idle kernel (Found p) running idle single may h = h
 look-idle kernel Resting running idle single may h = h
 look-idle kernel Halted running idle single may h = h
 
--- looking at objects, one row stays one row
-pub one-row : (s : Setting) (k : Reading) (os : List ℕ) → k.idle ≡ 0 → HasOneRow (looking_at s k os).place (looking_at s k os).idle
-one-row s k (p ∷ others) h = h
-one-row s k [] h = by k.running
+-- at the end of a row at the base, one row stays one row
+pub one-row_base : (s : Setting) (k : Reading) → k.idle ≡ 0 → HasOneRow (base_ended s k).place (base_ended s k).idle
+one-row_base s k h = base (not (s.kernel == qk) && s.has_stimulus k.looks)
   where
     more : (b : Bool) → cond b k.idle (k.idle + 1) ≤ 1
     more true = omega (arith, h)
@@ -50,9 +49,14 @@ one-row s k [] h = by k.running
     base true = h
     base false = more k.stepped
 
+-- and looking at objects
+pub one-row : (s : Setting) (k : Reading) (os : List ℕ) → k.idle ≡ 0 → HasOneRow (looking_at s k os).place (looking_at s k os).idle
+one-row s k (p ∷ others) h = h
+one-row s k [] h = by k.running
+  where
     rests : (b : Bool) → HasOneRow (cond b (record k { place = Resting }) (base_ended s k)).place (cond b (record k { place = Resting }) (base_ended s k)).idle
     rests true = h
-    rests false = base (not (s.kernel == qk) && s.has_stimulus k.looks)
+    rests false = one-row_base s k h
 
     by : (os : List ℕ) → HasOneRow (found_none s k os).place (found_none s k os).idle
     by (o ∷ outer) = h
@@ -62,10 +66,21 @@ one-row s k [] h = by k.running
 pub looking-within : (s : Setting) (k : Reading) (p : ℕ) (outer : List ℕ) → k.running ≡ p ∷ outer → looking_at s k [] ≡ record k { place = Inside }
 looking-within s k p outer h = ap (found_none s k) h
 
--- at the base it goes on where a stimulus came in its look, and is over where none did
+-- under `sim` at the base it goes on where a stimulus came in its look, and is over where none did
 pub looking-again : (sys : System) (has : ℕ → Bool) (k : Reading) → k.running ≡ [] → has k.looks ≡ true → looking_at (setting sys sim has) k [] ≡ record k { place = Again }
 looking-again sys has k base came = ap (found_none (setting sys sim has) k) base ∙ rw came refl
 
 pub looking-over : (sys : System) (has : ℕ → Bool) (k : Reading) → k.running ≡ [] → has k.looks ≡ false
     → looking_at (setting sys sim has) k [] ≡ record k { place = Over; idle = cond k.stepped k.idle (k.idle + 1); stepped = false }
 looking-over sys has k base none = ap (found_none (setting sys sim has) k) base ∙ rw none refl
+
+-- under `qv` the kernel rests at the base, and then the row goes on or is over in the same way
+pub looking-rests : (sys : System) (has : ℕ → Bool) (k : Reading) → k.running ≡ [] → looking_at (setting sys qv has) k [] ≡ record k { place = Resting }
+looking-rests sys has k base = ap (found_none (setting sys qv has) k) base
+
+pub resting-again : (sys : System) (has : ℕ → Bool) (k : Reading) → has k.looks ≡ true → base_ended (setting sys qv has) k ≡ record k { place = Again }
+resting-again sys has k came = rw came refl
+
+pub resting-over : (sys : System) (has : ℕ → Bool) (k : Reading) → has k.looks ≡ false
+    → base_ended (setting sys qv has) k ≡ record k { place = Over; idle = cond k.stepped k.idle (k.idle + 1); stepped = false }
+resting-over sys has k none = rw none refl

@@ -14,7 +14,7 @@ use Rattle.qp_model.specs.declared.bodies.Body.{Body}
 use Rattle.qp_model.specs.declared.bodies.Body.TheVariants as body
 use Rattle.qp_model.specs.Told.{Told, ToldItem, Event, for_object, plain, taken}
 use Rattle.qp_model.specs.Pieces.{Piece, Point, tell}
-use Rattle.qp_model.specs.KernelLane.{Setting, Reading, Inside, Looking, Found, Ended, floor_in, above, looking_at, lane_next, lane_on, unread, role_of, Drops}
+use Rattle.qp_model.specs.KernelLane.{Setting, Reading, Inside, Looking, Found, Ended, Resting, floor_in, above, base_ended, looking_at, lane_next, lane_on, unread, role_of, Drops}
 use Rattle.qp_model.specs.Points.{is_look}
 use Rattle.qp_model.specs.Ends.{is_turn_mark, is_end}
 use Rattle.qp_model.specs.End.{took_count, takes_of}
@@ -23,7 +23,7 @@ use Rattle.qp_model.specs.Course.{actor, first_config, chart_at, Starts}
 use Rattle.qp_model.specs.Standing.{Advances}
 use Rattle.qp_model.specs.Step.{Remainder, GoesOn, whole_step}
 use Rattle.qp_model.specs.Acts.{Config}
-use Rattle.qp_model.proofs.KernelRowLemmas.{lane_on-then, look-next, seen-empty, seen-entry, took-next, done-next, release-next, started-next, MayLook, IsOwnRole, IsWithin}
+use Rattle.qp_model.proofs.KernelRowLemmas.{lane_on-then, look-next, seen-empty, seen-entry, rest-next, took-next, done-next, release-next, started-next, MayLook, IsOwnRole, IsWithin}
 use Rattle.qp_kernel.specs.Stages as stage
 use Rattle.qp_kernel.specs.Stages.{Stage, IsReady, ComesTo}
 use Rattle.qp_orders.specs.SourceRun.{untold}
@@ -135,6 +135,15 @@ module _ (sys : System) (kernel budget : ℕ) (told : List ToldItem) (now : ℕ 
       zero-beside (for_object 0 (plain (body.Seen p f l m))) (record k { place = Found p }) refl refl none
       (λ has agree. seen-entry (setting sys kernel has) k p others f l m started at some)
       refl refl (λ o. refl) (subst (λ x. HasOneRow x k.idle) at old.rows) numbered
+
+  -- The kernel rests behind a look at the base that has shown no entry.
+  pub zero-rest : (n : ℕ) (k2 : Reading) → k.unstarted ≡ [] → k.place ≡ Resting → owed ≡ 0 → n ≡ k.looks
+      → ((has : ℕ → Bool) → Agree upto has now → base_ended (setting sys kernel has) k ≡ k2) → HasOneRow k2.place k2.idle
+      → AreNumbered sys → LaneZero sys kernel budget (told ++ for_object 0 (plain (body.Rest n)) ∷ []) now upto k2 0 stages entries
+  zero-rest n k2 started at none count same rows numbered =
+      zero-beside (for_object 0 (plain (body.Rest n))) k2 refl refl none
+      (λ has agree. ap (λ x. lane_next (setting sys kernel has) k (record { of = 0; body = body.Rest x })) count ∙ rest-next (setting sys kernel has) k started at ∙ ap (λ x. Some x) (same has agree))
+      refl refl (λ o. refl) rows numbered
 
 -- dropped references
 abbrev pub AreDrops : List Told → Type 0

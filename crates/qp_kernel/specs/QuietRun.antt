@@ -8,7 +8,6 @@ use Rattle.qp_model.specs.declared.journals.Journal.{Journal}
 use Rattle.qp_model.specs.History.{all_items, lane_items}
 use Rattle.qp_model.specs.Home.{lane_at}
 use Rattle.qp_model.specs.Knowing.{told_lane}
-use Rattle.qp_model.specs.Kernels.{sim}
 use Rattle.qp_model.specs.KernelLane.{Over}
 use Rattle.qp_model.specs.WordLaw.{Words}
 use Rattle.qp_model.specs.Sound.{IsSound}
@@ -22,13 +21,15 @@ use Rattle.qp_orders.specs.RunOrder.{items_of, has_stim, RunsInOrder}
 use Rattle.qp_kernel.specs.Stages.{is_resting}
 use Rattle.qp_kernel.specs.LaneZero.{Agree}
 use Rattle.qp_kernel.specs.Run.{SourcesGo}
-use Rattle.qp_kernel.specs.Turning.{AreAble, KernelState, Stands}
+use Rattle.qp_kernel.specs.Turning.{AreAble, KernelState, Stands, Terms, kernel_in}
 
 -- The world, its log and the kernel's state where the row at the base is over, all stimuli are done, and every object rests.
 pub record IsQuietRun (sys : System) (stimuli : List (List Stim)) (j : Journal) (s : KernelState) : Type 0 where
   pub sound : IsSound sys
   pub able : AreAble sys
-  pub kernel : j.kernel ≡ sim
+  pub terms : Terms
+  pub kernel : j.kernel ≡ kernel_in terms
+  pub budget_is : j.budget ≡ terms.budget
   pub words : Words sys j.lanes
   pub count : length j.lanes ≡ 1 + length stimuli
   pub room : list_all (λ lane. has_room (lane_items lane)) j.lanes ≡ true
@@ -37,7 +38,7 @@ pub record IsQuietRun (sys : System) (stimuli : List (List Stim)) (j : Journal) 
   -- the kernel's state tells of lane 0 of the journal, and of the stimuli in its looks
   pub told : told_lane (facts_of sys j) 0 (lane_items (lane_at j 0)) ≡ s.told
   pub now : Agree s.upto (has_stim (source_lanes sys j)) s.now
-  pub stands : Stands sys j.budget s
+  pub stands : Stands sys terms s
   pub owed : s.owed ≡ 0
   pub started : s.reading.unstarted ≡ []
   pub base : s.reading.running ≡ []

@@ -7,7 +7,7 @@ use Rattle.qp_model.specs.declared.journals.Journal.{Journal}
 use Rattle.qp_model.specs.History.{all_items, lane_items}
 use Rattle.qp_model.specs.Home.{lane_at}
 use Rattle.qp_model.specs.Knowing.{told_lane}
-use Rattle.qp_model.specs.Kernels.{sim}
+use Rattle.qp_model.specs.Kernels.{sim, has_one_order}
 use Rattle.qp_model.specs.WordLaw.{Words}
 use Rattle.qp_model.specs.Sound.{IsSound}
 use Rattle.qp_model.specs.Places.{in_order}
@@ -19,7 +19,7 @@ use Rattle.qp_orders.specs.RunOrder.{items_of, has_stim, EndsInOrder}
 use Rattle.qp_orders.specs.SourceRun.{SourceGoes, SourceEnds}
 use Rattle.qp_kernel.specs.ZeroEnds.{ZeroEnds}
 
--- the lanes of the sources, from lane n on
+-- the lanes of the sources, from lane n on; under `qv` a source leaves what it leaves under `sim`
 unfoldable pub SourcesEnd : System → Journal → Bool → ℕ → List (List Stim) → Type 0
 unfolding facts_of lane_items told_lane
 SourcesEnd sys j cuts n [] = ⊤
@@ -33,10 +33,10 @@ SourcesGo sys j n [] = ⊤
 SourcesGo sys j n (ss ∷ more) =
     SourceGoes sys sim ss (told_lane (facts_of sys j) 0 (lane_items (lane_at j n))) × SourcesGo sys j (n + 1) more
 
--- A run of a sound system under `sim` has ended, and left this journal.
+-- A run of a sound system under `sim` or `qv` has ended, and left this journal.
 pub record IsRun (sys : System) (stimuli : List (List Stim)) (j : Journal) : Type 0 where
   pub sound : IsSound sys
-  pub kernel : j.kernel ≡ sim
+  pub kernel : has_one_order j.kernel ≡ true
   -- the world: its words, its lanes, and its log, in which each number is the next of its word
   pub words : Words sys j.lanes
   pub count : length j.lanes ≡ 1 + length stimuli
@@ -44,7 +44,7 @@ pub record IsRun (sys : System) (stimuli : List (List Stim)) (j : Journal) : Typ
   pub log : List Placed
   pub numbers : in_order [] (items_of log) ≡ true
   -- the kernel's lane, the sources, and the order of both
-  pub zero : ZeroEnds sys sim j.budget j.end (told_lane (facts_of sys j) 0 (lane_items (lane_at j 0))) (has_stim (source_lanes sys j))
+  pub zero : ZeroEnds sys j.kernel j.budget j.end (told_lane (facts_of sys j) 0 (lane_items (lane_at j 0))) (has_stim (source_lanes sys j))
   pub cuts : Bool
   pub sources : SourcesEnd sys j cuts 1 stimuli
   pub order : EndsInOrder sys stimuli (lane_items (lane_at j 0)) (source_lanes sys j) cuts log

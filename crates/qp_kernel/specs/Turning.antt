@@ -11,11 +11,23 @@ use Rattle.qp_model.specs.Able.{chart_able}
 use Rattle.qp_model.specs.Step.{Remainder}
 use Rattle.qp_model.specs.Sites.{object_at}
 use Rattle.qp_model.specs.Course.{chart_at}
-use Rattle.qp_model.specs.Kernels.{sim}
+use Rattle.qp_model.specs.Kernels.{sim, qv}
 use Rattle.qp_model.specs.KernelLane.{Reading, Place, Inside, Ended, Again}
 use Rattle.qp_kernel.specs.Stages as stage
 use Rattle.qp_kernel.specs.Stages.{Stage}
 use Rattle.qp_kernel.specs.LaneZero.{LaneZero}
+
+-- what a run goes by: whether its steps never interrupt one another, and how many entries an object may take up
+pub record Terms : Type 0 where
+  pub cooperative : Bool
+  pub budget : ℕ
+
+abbrev pub under : Bool → ℕ → Terms
+under cooperative budget = record { cooperative = cooperative; budget = budget }
+
+-- its kernel
+abbrev pub kernel_in : Terms → ℕ
+kernel_in terms = if terms.cooperative then qv else sim
 
 -- objects are numbered from 1
 abbrev pub AreNumbered : System → Type 0
@@ -41,8 +53,8 @@ pub record KernelState : Type 0 where
   pub stages : ℕ → Stage
   pub entries : ℕ → List Entry
 
-abbrev pub Stands : System → ℕ → KernelState → Type 0
-Stands sys budget s = LaneZero sys sim budget s.told s.now s.upto s.reading s.owed s.stages s.entries
+abbrev pub Stands : System → Terms → KernelState → Type 0
+Stands sys terms s = LaneZero sys (kernel_in terms) terms.budget s.told s.now s.upto s.reading s.owed s.stages s.entries
 
 -- an object within a step, whether or not it stands at a point
 abbrev pub IsWithinStep : Stage → Event → Entry → Remainder → Config → Type 0
@@ -74,6 +86,9 @@ look_told n floor = for_object 0 (plain (body.Look n floor))
 
 abbrev pub seen_told : ℕ → ℕ → ℕ → ℕ → ToldItem
 seen_told p f l m = for_object 0 (plain (body.Seen p f l m))
+
+abbrev pub rest_told : ℕ → ToldItem
+rest_told n = for_object 0 (plain (body.Rest n))
 
 abbrev pub spill_told : ℕ → ToldItem
 spill_told n = for_object 0 (plain (body.Spill n))

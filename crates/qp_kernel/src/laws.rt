@@ -1,6 +1,6 @@
 //! Laws of the kernel's lane, from its first record to the journal of its run. Each function here does nothing: its contract is the law.
 
-ghost use Rattle.qp_kernel.specs.Laws.{LaneBegins, LooksAreSettled, ObjectStarts, LookIsAdded, EmptyIsSeen, EntryIsSeen, StepBegins, StepPauses, StepEnds, RunEndsQuietly, RunStopsElsewhere, BudgetEnds, AssertionEndsStep, AssertionEndsStart, SpillEndsStep, SpillEndsStart, FullLaneEnds, DeferredAreKept, RunsAreLawful, QuietRunsAreLawful};
+ghost use Rattle.qp_kernel.specs.Laws.{LaneBegins, LooksAreSettled, ObjectStarts, LookIsAdded, EmptyIsSeen, EntryIsSeen, RestIsAdded, StepBegins, StepPauses, StepEnds, RunEndsQuietly, RunStopsElsewhere, BudgetEnds, AssertionEndsStep, AssertionEndsStart, SpillEndsStep, SpillEndsStart, FullLaneEnds, DeferredAreKept, RunsAreLawful, QuietRunsAreLawful};
 
 /// Before its first record lane 0 stands: no object has started, and nothing is owed.
 pub fn lane_begins()
@@ -30,6 +30,11 @@ pub fn empty_queues_are_seen()
 /// An entry is seen, and the step of its object comes next.
 pub fn entries_are_seen()
     ensures { EntryIsSeen }
+{}
+
+/// The cooperative kernel rests behind a look at the base without an entry, and its row goes on or is over.
+pub fn rests_are_added()
+    ensures { RestIsAdded }
 {}
 
 /// The object found takes its entry up, where it has taken fewer than its budget.
