@@ -23,6 +23,7 @@ use Rattle.qp_turns.proofs.Places.{follow-none, follow-then, some-same}
 use Rattle.qp_turns.proofs.SoundObjects.{named}
 use Rattle.qp_turns.proofs.Fresh.{all-begun}
 use Rattle.qp_turns.proofs.Starts.{done-grows, done-knows, done-order, done-unstim, may-start, opened, refused-grows, stopped-start, stopped-turn, threshold-is}
+use Rattle.qp_kernel.specs.Turning.{Terms, under}
 
 -- The next object.
 
@@ -64,42 +65,46 @@ module _ (sys : System) (sound : IsSound sys) (place : ℕ) (d : ObjectDef) (at 
   here : HaveBegun sys (d.priority ∷ others) xs v
   here = subst (λ ps. HaveBegun sys ps xs v) (ap (map (λ x. x.priority)) next.left ∙ ap (λ k. d.priority ∷ left_from sys k) behind-place) b
 
+  -- what holds by all terms holds by these
+  abbrev any : Terms
+  any = under false 0
+
   pub may-start-next : MayStartAt sys xs.ceiling d.priority xs v
-  may-start-next = may-start sys sound 0 d.priority others xs v next.holds apart-next (here.knows 0)
+  may-start-next = may-start sys sound any d.priority others xs v next.holds apart-next (here.knows any)
 
   pub starts-next : (level : ℕ) (ys : Objects) (w : LaneView) (answer : Step) → StartsAt sys level d.priority xs ys v w answer → StartsOne sys (place + 1) xs (record ys { ceiling = level }) v w answer
-  starts-next level ys w step.Point r = let o = opened sys sound 0 d.priority others xs v next.holds apart-next (here.knows 0) level ys w step.Point r in absurd (o.1.1)
+  starts-next level ys w step.Point r = let o = opened sys sound any d.priority others xs v next.holds apart-next (here.knows any) level ys w step.Point r in absurd (o.1.1)
   starts-next level ys w step.Done r = (record { knows = knows; order = order; no_stim = no_stim }, grows)
     where
-      knows : (budget : ℕ) → KnowsAt (HasBegun sys others) sys budget 0 [] (record ys { ceiling = level }) w
-      knows budget =
-          let o = opened sys sound budget d.priority others xs v next.holds apart-next (here.knows budget) level ys w step.Done r in
-          done-knows sys sound budget d.priority others xs v next.holds apart-next (here.knows budget) level r.later o.0 w (record ys { ceiling = level }) o.2 r.put.slots refl
-          (threshold-is sys sound budget d.priority others xs v next.holds apart-next (here.knows budget) level ys w step.Done r) o.1.0 o.1.1
+      knows : (terms : Terms) → KnowsAt (HasBegun sys others) sys terms 0 [] (record ys { ceiling = level }) w
+      knows terms =
+          let o = opened sys sound terms d.priority others xs v next.holds apart-next (here.knows terms) level ys w step.Done r in
+          done-knows sys sound terms d.priority others xs v next.holds apart-next (here.knows terms) level r.later o.0 w (record ys { ceiling = level }) o.2 r.put.slots refl
+          (threshold-is sys sound terms d.priority others xs v next.holds apart-next (here.knows terms) level ys w step.Done r) o.1.0 o.1.1
 
       order : IsInOrder sys 0 w
       order =
-          let o = opened sys sound 0 d.priority others xs v next.holds apart-next (here.knows 0) level ys w step.Done r in
-          done-order sys sound 0 d.priority others xs v next.holds apart-next (here.knows 0) level r.later o.0 w (record ys { ceiling = level }) o.2 r.put.slots refl
-          (threshold-is sys sound 0 d.priority others xs v next.holds apart-next (here.knows 0) level ys w step.Done r) o.1.0 o.1.1 b.order
+          let o = opened sys sound any d.priority others xs v next.holds apart-next (here.knows any) level ys w step.Done r in
+          done-order sys sound any d.priority others xs v next.holds apart-next (here.knows any) level r.later o.0 w (record ys { ceiling = level }) o.2 r.put.slots refl
+          (threshold-is sys sound any d.priority others xs v next.holds apart-next (here.knows any) level ys w step.Done r) o.1.0 o.1.1 b.order
 
       no_stim : has_no_stim w
       no_stim =
-          let o = opened sys sound 0 d.priority others xs v next.holds apart-next (here.knows 0) level ys w step.Done r in
-          done-unstim sys sound 0 d.priority others xs v next.holds apart-next (here.knows 0) level r.later o.0 w (record ys { ceiling = level }) o.2 r.put.slots refl
-          (threshold-is sys sound 0 d.priority others xs v next.holds apart-next (here.knows 0) level ys w step.Done r) o.1.0 o.1.1 b.no_stim
+          let o = opened sys sound any d.priority others xs v next.holds apart-next (here.knows any) level ys w step.Done r in
+          done-unstim sys sound any d.priority others xs v next.holds apart-next (here.knows any) level r.later o.0 w (record ys { ceiling = level }) o.2 r.put.slots refl
+          (threshold-is sys sound any d.priority others xs v next.holds apart-next (here.knows any) level ys w step.Done r) o.1.0 o.1.1 b.no_stim
 
       grows : GrowsAlong xs v (record ys { ceiling = level }) w
       grows =
-          let o = opened sys sound 0 d.priority others xs v next.holds apart-next (here.knows 0) level ys w step.Done r in
-          done-grows sys sound 0 d.priority others xs v next.holds apart-next (here.knows 0) level r.later o.0 w (record ys { ceiling = level }) o.2 r.put.slots refl
-          (threshold-is sys sound 0 d.priority others xs v next.holds apart-next (here.knows 0) level ys w step.Done r) o.1.0 o.1.1
+          let o = opened sys sound any d.priority others xs v next.holds apart-next (here.knows any) level ys w step.Done r in
+          done-grows sys sound any d.priority others xs v next.holds apart-next (here.knows any) level r.later o.0 w (record ys { ceiling = level }) o.2 r.put.slots refl
+          (threshold-is sys sound any d.priority others xs v next.holds apart-next (here.knows any) level ys w step.Done r) o.1.0 o.1.1
   starts-next level ys w step.Stopped r =
-      stopped-start sys sound 0 d.priority others xs v next.holds apart-next (here.knows 0) level ys w r b.order
-      (λ budget. stopped-turn sys sound budget d.priority others xs v next.holds apart-next (here.knows budget) level ys w r)
+      stopped-start sys sound any d.priority others xs v next.holds apart-next (here.knows any) level ys w r b.order
+      (λ terms. stopped-turn sys sound terms d.priority others xs v next.holds apart-next (here.knows terms) level ys w r)
   starts-next level ys w step.Memory r =
-      let o = opened sys sound 0 d.priority others xs v next.holds apart-next (here.knows 0) level ys w step.Memory r in
-      refused-grows sys sound 0 d.priority others xs v next.holds apart-next (here.knows 0) r.later.object.lasting o.0 w o.2 o.1.1
+      let o = opened sys sound any d.priority others xs v next.holds apart-next (here.knows any) level ys w step.Memory r in
+      refused-grows sys sound any d.priority others xs v next.holds apart-next (here.knows any) r.later.object.lasting o.0 w o.2 o.1.1
 
 -- what an index finds
 pub got-is : {A : Type 0} (xs : List A) (p : ℕ) (x y : A) → p < length xs → x ≡ get_or xs p y → slice_get xs p ≡ Some x
@@ -121,7 +126,7 @@ stops-behind code u v w ts gains h = record { ts = ts ++ h.ts; mid = h.mid; gain
 
 pub stopped-behind : (sys : System) (u v w : LaneView) (ts : List ToldItem) → Gains ts u v → StartStopped sys v w → StartStopped sys u w
 stopped-behind sys u v w ts gains h = record {
-  turn = λ budget. let t = h.turn budget in record { zero = t.zero; why = subst (λ a. (0 < last_code w.told) ⊎ (length a < length w.answered)) gains.answered t.why };
+  turn = λ terms. let t = h.turn terms in record { zero = t.zero; why = subst (λ a. (0 < last_code w.told) ⊎ (length a < length w.answered)) gains.answered t.why };
   order = h.order;
   code = h.code;
   grows = stops-behind h.code u v w ts gains h.grows;
@@ -146,7 +151,7 @@ pub all-started : (sys : System) (place : ℕ) (xs : Objects) (u : LaneView) (ys
 all-started sys place xs u ys v le b along =
     let none : left_from sys place ≡ [] = ap (map (λ d. d.priority)) (drop-whole sys.objects place le) in
     let h : HaveBegun sys [] ys v = subst (λ ps. HaveBegun sys ps ys v) none b in
-    record { knows = λ budget. all-begun sys budget ys v (h.knows budget); order = h.order; no_stim = h.no_stim; grows = along }
+    record { knows = λ terms. all-begun sys terms ys v (h.knows terms); order = h.order; no_stim = h.no_stim; grows = along }
 
 pub along-none : (xs : Objects) (v : LaneView) → GrowsAlong xs v xs v
 along-none xs v = record { ts = []; gains = gains-none v; hands = follow-none xs v v refl }

@@ -33,6 +33,7 @@ use Rattle.qp_turns.specs.Knowing.{KnowsAt, KnowsObject, MayLook, kept_count, ow
 use Rattle.qp_turns.specs.Starting.{HasBegun, HaveBegun, IsFresh, left_from}
 use Rattle.qp_turns.proofs.Places.{some-same}
 use Rattle.qp_turns.proofs.SoundObjects.{numbered, sound-object}
+use Rattle.qp_kernel.specs.Turning.{Terms}
 
 -- The order of a lane that has done nothing.
 
@@ -129,12 +130,12 @@ begun sys xs v sound made fresh = record { knows = knows; order = order-begins s
     none : (t : Token) → kept_count t xs.slots.items ≡ 0
     none t = kept-none t xs.slots.items (λ p slot at. let is = made.each p (Some slot) at in made-held is.0.object is.0.chart slot.object is.0.made)
 
-    knows : (budget : ℕ) → KnowsAt (HasBegun sys (left_from sys 0)) sys budget 0 [] xs v
-    knows budget = record {
+    knows : (terms : Terms) → KnowsAt (HasBegun sys (left_from sys 0)) sys terms 0 [] xs v
+    knows terms = record {
       knows = record {
         state = record { told = []; now = has_stim (lanes_of v); upto = 0; reading = unread sys; owed = 0; stages = λ o. stage.Unstarted; entries = λ o. [] };
         told = sym fresh.new.told;
-        stands = lane_begins sys budget (has_stim (lanes_of v)) 0 (numbered sys sound);
+        stands = lane_begins sys terms (has_stim (lanes_of v)) 0 (numbered sys sound);
         counted = refl;
         ceiling = sym made.ceiling;
         lane = record { of = fresh.of; told = rw (fresh.new.told) made.ceiling; spills = rw (fresh.new.told) refl; serves = fresh.serves };
@@ -156,8 +157,8 @@ begun sys xs v sound made fresh = record { knows = knows; order = order-begins s
     }
 
 -- behind the last
-pub all-begun : (sys : System) (budget : ℕ) (xs : Objects) (v : LaneView) → KnowsAt (HasBegun sys []) sys budget 0 [] xs v → KnowsAt (MayLook sys) sys budget 0 [] xs v
-all-begun sys budget xs v k = record {
+pub all-begun : (sys : System) (terms : Terms) (xs : Objects) (v : LaneView) → KnowsAt (HasBegun sys []) sys terms 0 [] xs v → KnowsAt (MayLook sys) sys terms 0 [] xs v
+all-begun sys terms xs v k = record {
   knows = k.knows;
   at = record {
     stack = record {

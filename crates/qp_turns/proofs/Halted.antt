@@ -3,7 +3,6 @@ use Rattle.std.proofs.Common.{◌≡◌, ℕ, ◌<◌, Bool, true, List, [], ◌
 use Rattle.std.proofs.lemmas.Bool.Decides.{nat_tests}
 use Rattle.qp_model.specs.declared.systems.System.{System}
 use Rattle.qp_model.specs.Ends.{may_cut}
-use Rattle.qp_model.specs.Kernels.{sim}
 use Rattle.qp_model.specs.Sound.{IsSound}
 use Rattle.qp_model.specs.Told.{Told, ToldItem, for_object}
 use Rattle.qp_orders.specs.RunOrder.{has_stim}
@@ -13,7 +12,7 @@ use Rattle.qp_dispatch.proofs.ActLemmas.{last-snoc}
 use Rattle.qp_kernel.specs.Happenings.{lanes_from, lanes_of}
 use Rattle.qp_kernel.specs.Laws.{AllWait}
 use Rattle.qp_kernel.specs.LaneZero.{Agree}
-use Rattle.qp_kernel.specs.Turning.{KernelState, Stands, spill_told}
+use Rattle.qp_kernel.specs.Turning.{KernelState, Stands, spill_told, Terms, kernel_in}
 use Rattle.qp_kernel.specs.ZeroEnds.{ZeroEnds}
 use Rattle.qp_kernel.proofs.KernelLaws.{full_lane_ends, run_stops_elsewhere}
 use Rattle.qp_turns.specs.declared.halting.Halt.{Halt}
@@ -37,36 +36,36 @@ same-lanes v w plan happened = ap (λ p. lanes_from 1 p w.happened) plan ∙ ap 
 pub agreed : (s : KernelState) (lanes : ℕ → Bool) → s.now ≡ lanes → Agree s.upto lanes s.now
 agreed s lanes same n le = sym (ap (λ f. f n) same)
 
-module _ (sys : System) (sound : IsSound sys) (budget : ℕ) (s : KernelState) (v w : LaneView) (told : s.told ≡ v.told) (stands : Stands sys budget s) (now : s.now ≡ has_stim (lanes_of v))
+module _ (sys : System) (sound : IsSound sys) (terms : Terms) (s : KernelState) (v w : LaneView) (told : s.told ≡ v.told) (stands : Stands sys terms s) (now : s.now ≡ has_stim (lanes_of v))
     (started : s.reading.unstarted ≡ []) (waits : AllWait sys s) (plan : w.plan ≡ v.plan) (happened : w.happened ≡ v.happened) where
   same-now : s.now ≡ has_stim (lanes_of w)
   same-now = now ∙ ap has_stim (sym (same-lanes v w plan happened))
 
   -- another lane stopped the run
-  pub stops-elsewhere : w.told ≡ v.told → (end : ℕ) → may_cut end ≡ true → ZeroEnds sys sim budget end w.told (has_stim (lanes_of w))
+  pub stops-elsewhere : w.told ≡ v.told → (end : ℕ) → may_cut end ≡ true → ZeroEnds sys (kernel_in terms) terms.budget end w.told (has_stim (lanes_of w))
   stops-elsewhere same end cut =
-      subst (λ ts. ZeroEnds sys sim budget end ts (has_stim (lanes_of w))) (told ∙ sym same)
-      (run_stops_elsewhere sys budget end s (has_stim (lanes_of w)) (numbered sys sound) (able sys sound) stands (agreed s (has_stim (lanes_of w)) same-now) cut started waits)
+      subst (λ ts. ZeroEnds sys (kernel_in terms) terms.budget end ts (has_stim (lanes_of w))) (told ∙ sym same)
+      (run_stops_elsewhere sys terms end s (has_stim (lanes_of w)) (numbered sys sound) (able sys sound) stands (agreed s (has_stim (lanes_of w)) same-now) cut started waits)
 
   -- the lane had no room
-  pub stops-full : 999992 < length v.told → w.told ≡ v.told ++ spill_told (length v.told) ∷ [] → (end : ℕ) → may_cut end ≡ true → ZeroEnds sys sim budget end w.told (has_stim (lanes_of w))
+  pub stops-full : 999992 < length v.told → w.told ≡ v.told ++ spill_told (length v.told) ∷ [] → (end : ℕ) → may_cut end ≡ true → ZeroEnds sys (kernel_in terms) terms.budget end w.told (has_stim (lanes_of w))
   stops-full many same end cut =
-      subst (λ ts. ZeroEnds sys sim budget end ts (has_stim (lanes_of w))) (ap (λ ts. ts ++ spill_told (length v.told) ∷ []) told ∙ sym same)
-      (full_lane_ends sys budget end s (has_stim (lanes_of w)) (length v.told) (numbered sys sound) (able sys sound) stands (agreed s (has_stim (lanes_of w)) same-now) cut (ap length (sym told)) many waits)
+      subst (λ ts. ZeroEnds sys (kernel_in terms) terms.budget end ts (has_stim (lanes_of w))) (ap (λ ts. ts ++ spill_told (length v.told) ∷ []) told ∙ sym same)
+      (full_lane_ends sys terms end s (has_stim (lanes_of w)) (length v.told) (numbered sys sound) (able sys sound) stands (agreed s (has_stim (lanes_of w)) same-now) cut (ap length (sym told)) many waits)
 
 -- what `ready` says where the run doesn't go on
-pub halts-turn : (sys : System) (sound : IsSound sys) (budget : ℕ) (s : KernelState) (v w : LaneView) (h : Halt) → s.told ≡ v.told → Stands sys budget s → s.now ≡ has_stim (lanes_of v)
-    → s.reading.unstarted ≡ [] → AllWait sys s → Halts v w h → HaltsTurn sys budget v w h
+pub halts-turn : (sys : System) (sound : IsSound sys) (terms : Terms) (s : KernelState) (v w : LaneView) (h : Halt) → s.told ≡ v.told → Stands sys terms s → s.now ≡ has_stim (lanes_of v)
+    → s.reading.unstarted ≡ [] → AllWait sys s → Halts v w h → HaltsTurn sys terms v w h
 unfolding last_code
-halts-turn sys sound budget s v w halt.Memory told stands now started waits h = tt
-halts-turn sys sound budget s v w halt.Stopped told stands now started waits (inl h) =
+halts-turn sys sound terms s v w halt.Memory told stands now started waits h = tt
+halts-turn sys sound terms s v w halt.Stopped told stands now started waits (inl h) =
     record {
-      zero = stops-elsewhere sys sound budget s v w told stands now started waits (ap (λ x. x.plan) h.answered) (ap (λ x. x.happened) h.answered) (ap (λ x. x.told) h.answered);
+      zero = stops-elsewhere sys sound terms s v w told stands now started waits (ap (λ x. x.plan) h.answered) (ap (λ x. x.happened) h.answered) (ap (λ x. x.told) h.answered);
       why = inr (rw h.answered (omega arith));
     }
-halts-turn sys sound budget s v w halt.Stopped told stands now started waits (inr h) =
+halts-turn sys sound terms s v w halt.Stopped told stands now started waits (inr h) =
     let same : w.told ≡ v.told ++ spill_told (length v.told) ∷ [] = ap (λ x. x.told) h.stops ∙ h.spills.told in
     record {
-      zero = stops-full sys sound budget s v w told stands now started waits (ap (λ x. x.plan) h.stops ∙ h.spills.plan) (ap (λ x. x.happened) h.stops ∙ h.spills.happened) h.few same;
+      zero = stops-full sys sound terms s v w told stands now started waits (ap (λ x. x.plan) h.stops ∙ h.spills.plan) (ap (λ x. x.happened) h.stops ∙ h.spills.happened) h.few same;
       why = inl (rw (same, last-snoc v.told (spill_told (length v.told))) (omega arith));
     }

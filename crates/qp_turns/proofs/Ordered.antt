@@ -163,27 +163,33 @@ and-none false = refl
 seen-idle : (p f l m : ℕ) → IsIdleRecord (placed 0 (untold (seen_told p f l m)))
 seen-idle p f l m = record { stim = refl; enters = λ o. refl; leaves = λ o. and-none (0 == o) }
 
--- it is no matter of which source acts
-pub none-seen : (acts : Bool) (sys : System) (looks p f l m : ℕ) (v w : LaneView) → Gains (seen_told p f l m ∷ []) v w → InOrder acts sys looks v → (base : Bool) → acts ≡ true → NoneActs base sys v → NoneActs base sys w
-none-seen acts sys looks p f l m v w gains h base acting none =
-    let order : order_of w ≡ order_of v ++ placed 0 (untold (seen_told p f l m)) ∷ [] =
-    rw (gains.told, gains.happened, map-append untold v.told (seen_told p f l m ∷ [])) (order-more 0 (untold_all v.told) (untold_all (seen_told p f l m ∷ [])) v.happened (within v (h.order acting).rises)) in
+-- such a record is no matter of which source acts
+pub none-still : (acts : Bool) (sys : System) (looks : ℕ) (t : ToldItem) (v w : LaneView) → IsIdleRecord (placed 0 (untold t)) → Gains (t ∷ []) v w → InOrder acts sys looks v → (base : Bool) → acts ≡ true → NoneActs base sys v → NoneActs base sys w
+none-still acts sys looks t v w idle gains h base acting none =
+    let order : order_of w ≡ order_of v ++ placed 0 (untold t) ∷ [] =
+    rw (gains.told, gains.happened, map-append untold v.told (t ∷ [])) (order-more 0 (untold_all v.told) (untold_all (t ∷ [])) v.happened (within v (h.order acting).rises)) in
     ap (λ s. acts_next sys s (order_of w) base) gains.plan ∙ ap (λ xs. acts_next sys v.plan xs base) order
-    ∙ acts-more sys v.plan (order_of v) (placed 0 (untold (seen_told p f l m))) base (seen-idle p f l m) ∙ none
+    ∙ acts-more sys v.plan (order_of v) (placed 0 (untold t)) base idle ∙ none
+
+none-seen : (acts : Bool) (sys : System) (looks p f l m : ℕ) (v w : LaneView) → Gains (seen_told p f l m ∷ []) v w → InOrder acts sys looks v → (base : Bool) → acts ≡ true → NoneActs base sys v → NoneActs base sys w
+none-seen acts sys looks p f l m v w gains h base acting none = none-still acts sys looks (seen_told p f l m) v w (seen-idle p f l m) gains h base acting none
 
 seen-mark : (p q n f l m : ℕ) → (p == q) ≡ false → mark_after (word.Queue q) n (seen_told p f l m ∷ []) ≡ n
 unfolding mark_after mark_by
 seen-mark p q n f l m other = rw other refl
 
--- what was seen of another queue stays
-seen-stays : (p q f l m : ℕ) (v w : LaneView) → Gains (seen_told p f l m ∷ []) v w → (p == q) ≡ false → IsSeenEmpty q v → IsSeenEmpty q w
-seen-stays p q f l m v w gains other h = record {
+-- what was seen of a queue stays where no record is on it
+pub still-empty : (q : ℕ) (ts : List ToldItem) (v w : LaneView) → Gains ts v w → mark_after (word.Queue q) (v.mark (word.Queue q)) ts ≡ v.mark (word.Queue q) → IsSeenEmpty q v → IsSeenEmpty q w
+still-empty q ts v w gains same h = record {
   f = h.f;
   l = h.l;
   m = h.m;
-  says = gains.shown (word.Queue q) (gains.mark (word.Queue q) ∙ seen-mark p q (v.mark (word.Queue q)) f l m other) ∙ h.says;
+  says = gains.shown (word.Queue q) (gains.mark (word.Queue q) ∙ same) ∙ h.says;
   none = h.none;
 }
+
+seen-stays : (p q f l m : ℕ) (v w : LaneView) → Gains (seen_told p f l m ∷ []) v w → (p == q) ≡ false → IsSeenEmpty q v → IsSeenEmpty q w
+seen-stays p q f l m v w gains other h = still-empty q (seen_told p f l m ∷ []) v w gains (seen-mark p q (v.mark (word.Queue q)) f l m other) h
 
 -- the objects from the next place on and this one
 pub seen-more : (sys : System) (floor place : ℕ) (o : ObjectDef) (c : counts.Counts) (v u w : LaneView) → slice_get sys.objects place ≡ Some o → Gains (seen_told o.priority c.f c.l c.m ∷ []) v w → Sees o.priority u w c

@@ -7,10 +7,10 @@ use Rattle.std.proofs.lemmas.List.{reverse-append, reverse-reverse}
 use Rattle.std.proofs.lemmas.Bool.Decides.{nat_tests}
 use Rattle.qp_chart.specs.StateTree.{has}
 use Rattle.qp_model.specs.declared.systems.System.{System}
-use Rattle.qp_model.specs.Kernels.{sim}
 use Rattle.qp_model.specs.declared.systems.ObjectDef.{ObjectDef}
+use Rattle.qp_model.specs.Kernels.{sim, qv}
 use Rattle.qp_model.specs.Sound.{IsSound}
-use Rattle.qp_model.specs.KernelLane.{Again, floor_in, threshold_of}
+use Rattle.qp_model.specs.KernelLane.{Again, floor_in, looking_at, threshold_of}
 use Rattle.qp_model.specs.Sites.{object_at}
 use Rattle.qp_orders.specs.RunOrder.{has_stim}
 use Rattle.qp_calls.specs.LaneView.{LaneView}
@@ -19,13 +19,13 @@ use Rattle.qp_kernel.specs.Happenings.{lanes_of}
 use Rattle.qp_kernel.specs.LaneZero.{row_of, setting}
 use Rattle.qp_kernel.specs.Stages as stage
 use Rattle.qp_kernel.specs.Stages.{Stage}
-use Rattle.qp_kernel.specs.Turning.{IsLookPlace, KernelState}
+use Rattle.qp_kernel.specs.Turning.{IsLookPlace, KernelState, Terms, kernel_in}
 use Rattle.qp_kernel.proofs.RowLemmas.{looking-again, looking-over, looking-within}
 use Rattle.qp_turns.specs.declared.objects.Objects.{Objects}
 use Rattle.qp_turns.specs.Objects.{threshold_in, threshold_there}
 use Rattle.qp_turns.specs.Knowing.{IsNamed, IsRunning, IsScanning, KnowsAt, MayLook, is_busy, is_paused}
 use Rattle.qp_turns.specs.Turning.{AreHeld, Entered, GoesOnward, Idled, IsOver, Looked, Passed, Stepped, RunsTop, Stand, Stood, TurnStopped, floor_of, row_below}
-use Rattle.qp_turns.specs.Ordering.{IdlesInOrder, LookedInOrder, NoneActs, PassedInOrder}
+use Rattle.qp_turns.specs.Ordering.{AreSeenEmpty, IdlesInOrder, IsSeenEmpty, LookedInOrder, NoneActs, PassedInOrder}
 use Rattle.qp_turns.proofs.SoundObjects.{numbered}
 use Rattle.qp_turns.proofs.Places.{follow-none, follow-then}
 use Rattle.qp_turns.proofs.Tops.{empty-is, some-last}
@@ -39,8 +39,8 @@ onward-none xs v = record { hands = follow-none xs v v refl; answered = refl; pl
 pub onward-then : (xs : Objects) (v : LaneView) (ys : Objects) (w : LaneView) (zs : Objects) (u : LaneView) → GoesOnward xs v ys w → GoesOnward ys w zs u → GoesOnward xs v zs u
 onward-then xs v ys w zs u one two = record { hands = follow-then xs v ys w zs u one.hands two.hands; answered = two.answered ∙ one.answered; plan = two.plan ∙ one.plan }
 
-pub stopped-from : (sys : System) (budget : ℕ) (xs : Objects) (v : LaneView) (ys : Objects) (w u : LaneView) → GoesOnward xs v ys w → TurnStopped sys budget w u → TurnStopped sys budget v u
-stopped-from sys budget xs v ys w u on stop = record { zero = stop.zero; why = by stop.why }
+pub stopped-from : (sys : System) (terms : Terms) (xs : Objects) (v : LaneView) (ys : Objects) (w u : LaneView) → GoesOnward xs v ys w → TurnStopped sys terms w u → TurnStopped sys terms v u
+stopped-from sys terms xs v ys w u on stop = record { zero = stop.zero; why = by stop.why }
   where
     by : (0 < last_code u.told) ⊎ (length w.answered < length u.answered) → (0 < last_code u.told) ⊎ (length v.answered < length u.answered)
     by (inl h) = inl h
@@ -52,9 +52,9 @@ all-map : {A : Type 0} (P Q : A → Type 0) → ((x : A) → P x → Q x) → (x
 all-map P Q f [] h = tt
 all-map P Q f (x ∷ xs) h = (f x h.0, all-map P Q f xs h.1)
 
-pub held-of : (sys : System) (budget looks : ℕ) (stack : List ℕ) (xs : Objects) (v : LaneView) → KnowsAt (MayLook sys) sys budget looks stack xs v → AreHeld sys stack xs
+pub held-of : (sys : System) (terms : Terms) (looks : ℕ) (stack : List ℕ) (xs : Objects) (v : LaneView) → KnowsAt (MayLook sys) sys terms looks stack xs v → AreHeld sys stack xs
 unfolding threshold_of object_at
-held-of sys budget looks stack xs v k =
+held-of sys terms looks stack xs v k =
     let names : AllByRecursion (IsNamed sys) (reverse stack) = subst (AllByRecursion (IsNamed sys)) k.knows.running k.at.stack.named in
     let straight : AllByRecursion (IsNamed sys) stack = subst (AllByRecursion (IsNamed sys)) (reverse-reverse stack) (all-reverse (IsNamed sys) (reverse stack) names) in
     all-map (IsNamed sys) (λ p. threshold_in xs.slots.items p ≡ threshold_of sys p)
@@ -67,12 +67,12 @@ held-of sys budget looks stack xs v k =
 
 -- At the end of a row.
 
-module _ (sys : System) (budget looks : ℕ) (stack : List ℕ) (xs : Objects) (v : LaneView) (k : KnowsAt (IsScanning sys []) sys budget looks stack xs v) where
+module _ (sys : System) (terms : Terms) (looks : ℕ) (stack : List ℕ) (xs : Objects) (v : LaneView) (k : KnowsAt (IsScanning sys terms []) sys terms looks stack xs v) where
   abbrev s : KernelState
   s = k.knows.state
 
   same : SameButPlace k.at.here s.reading
-  same = subst (SameButPlace k.at.here) (sym k.at.same) (looking-same sys s.now k.at.here [])
+  same = subst (SameButPlace k.at.here) (sym k.at.same) (looking-same sys terms s.now k.at.here [])
 
   has-first : (p : ℕ) (outer : List ℕ) → s.reading.running ≡ p ∷ outer → has s.reading.running p ≡ true
   has-first p outer is = let self : (p == p) ≡ true = grind (arith, nat_tests) in ap (λ ps. has ps p) is ∙ rw self refl
@@ -88,7 +88,7 @@ module _ (sys : System) (budget looks : ℕ) (stack : List ℕ) (xs : Objects) (
   or-right false b h = h
 
   -- the step at the top goes on
-  pub runs-on : (front : List ℕ) (p : ℕ) → stack ≡ front ++ p ∷ [] → KnowsAt (IsRunning sys p) sys budget looks stack xs v
+  pub runs-on : (front : List ℕ) (p : ℕ) → stack ≡ front ++ p ∷ [] → KnowsAt (IsRunning sys p) sys terms looks stack xs v
   runs-on front p is =
       let running : s.reading.running ≡ p ∷ reverse front = k.knows.running ∙ ap reverse is ∙ reverse-append front (p ∷ []) in
       let paused : is_paused (s.stages p) ≡ true = k.at.stack.waits p (has-first p (reverse front) running) in
@@ -107,23 +107,27 @@ module _ (sys : System) (budget looks : ℕ) (stack : List ℕ) (xs : Objects) (
           step = record {
             started = k.at.stack.started;
             running = running;
-            inside = ap (λ r. r.place) (k.at.same ∙ looking-within (setting sys sim s.now) k.at.here p (reverse front) (sym same.running ∙ running));
+            inside = ap (λ r. r.place) (k.at.same ∙ looking-within (setting sys (kernel_in terms) s.now) k.at.here p (reverse front) (sym same.running ∙ running));
           };
           under_way = paused-busy (s.stages p) paused;
           behind = λ not. let wrong : true ≡ false = sym paused ∙ not in absurd (cc);
         };
       }
 
-  base-is : stack ≡ [] → k.at.here.running ≡ []
+  pub base-is : stack ≡ [] → k.at.here.running ≡ []
   base-is none = sym same.running ∙ k.knows.running ∙ ap reverse none
 
-  stim-is : (came : Bool) → has_stim (lanes_of v) looks ≡ came → s.now k.at.here.looks ≡ came
+  pub stim-is : (came : Bool) → has_stim (lanes_of v) looks ≡ came → s.now k.at.here.looks ≡ came
   stim-is came h = ap (λ f. f k.at.here.looks) k.knows.now ∙ ap (has_stim (lanes_of v)) (k.at.counted ∙ k.knows.settled) ∙ h
 
-  -- the row at the base goes on
-  pub looks-again : stack ≡ [] → has_stim (lanes_of v) looks ≡ true → KnowsAt (MayLook sys) sys budget looks stack xs v
-  looks-again none came =
-      let at : s.reading.place ≡ Again = ap (λ r. r.place) (k.at.same ∙ looking-again sys s.now k.at.here (base-is none) (stim-is true came)) in
+  -- the row at the base, where no `rest` comes
+  plainly : terms.cooperative ≡ false → s.reading ≡ looking_at (setting sys sim s.now) k.at.here []
+  plainly plain = k.at.same ∙ ap (λ n. looking_at (setting sys n s.now) k.at.here []) (ap (λ b. cond b qv sim) plain)
+
+  -- it goes on
+  pub looks-again : terms.cooperative ≡ false → stack ≡ [] → has_stim (lanes_of v) looks ≡ true → KnowsAt (MayLook sys) sys terms looks stack xs v
+  looks-again plain none came =
+      let at : s.reading.place ≡ Again = ap (λ r. r.place) (plainly plain ∙ looking-again sys s.now k.at.here (base-is none) (stim-is true came)) in
       record {
         knows = k.knows;
         at = record {
@@ -134,8 +138,8 @@ module _ (sys : System) (budget looks : ℕ) (stack : List ℕ) (xs : Objects) (
       }
 
   -- or it is over
-  pub is-over : stack ≡ [] → has_stim (lanes_of v) looks ≡ false → KnowsAt (IsOver sys) sys budget looks stack xs v
-  is-over none still = record {
+  pub is-over : terms.cooperative ≡ false → stack ≡ [] → has_stim (lanes_of v) looks ≡ false → KnowsAt (IsOver sys) sys terms looks stack xs v
+  is-over plain none still = record {
     knows = k.knows;
     at = record {
       stack = record {
@@ -147,7 +151,7 @@ module _ (sys : System) (budget looks : ℕ) (stack : List ℕ) (xs : Objects) (
       };
       owed = k.at.owed;
       base = k.knows.running ∙ ap reverse none;
-      over = ap (λ r. r.place) (k.at.same ∙ looking-over sys s.now k.at.here (base-is none) (stim-is false still));
+      over = ap (λ r. r.place) (plainly plain ∙ looking-over sys s.now k.at.here (base-is none) (stim-is false still));
     };
   }
 
@@ -155,36 +159,36 @@ pub row-none : (sys : System) (floor : ℕ) → row_below sys floor 0 ≡ []
 row-none sys floor = refl
 
 -- A round: a look, the objects visited, and what comes then.
-module _ (sys : System) (budget : ℕ) (xs : Objects) (v : LaneView) (a b d : Stand) (on : GoesOnward xs v a.objects a.lane) where
-  pub onward-all : (came : Bool) → Looked sys budget a b came → Passed [] sys budget b d → GoesOnward xs v d.objects d.lane
+module _ (sys : System) (terms : Terms) (xs : Objects) (v : LaneView) (a b d : Stand) (on : GoesOnward xs v a.objects a.lane) where
+  pub onward-all : (came : Bool) → Looked sys terms a b came → Passed [] sys terms b d → GoesOnward xs v d.objects d.lane
   onward-all came look pass = onward-then xs v b.objects b.lane d.objects d.lane (onward-then xs v a.objects a.lane b.objects b.lane on look.onward) pass.onward
 
-  pub entered-all : (came : Bool) → Looked sys budget a b came → Entered sys budget b d → GoesOnward xs v d.objects d.lane
+  pub entered-all : (came : Bool) → Looked sys terms a b came → Entered sys terms b d → GoesOnward xs v d.objects d.lane
   entered-all came look enter = onward-then xs v b.objects b.lane d.objects d.lane (onward-then xs v a.objects a.lane b.objects b.lane on look.onward) enter.onward
 
-  came-is : (came : Bool) → Looked sys budget a b came → Passed [] sys budget b d → has_stim (lanes_of d.lane) d.looks ≡ came
+  pub came-is : (came : Bool) → Looked sys terms a b came → Passed [] sys terms b d → has_stim (lanes_of d.lane) d.looks ≡ came
   came-is came look pass = ap (λ l. has_stim l d.looks) pass.lanes ∙ ap (has_stim (lanes_of b.lane)) pass.looks ∙ look.happened
 
-  pub round-over : Looked sys budget a b false → Passed [] sys budget b d → None ≡ slice_get d.stack (length d.stack - 1) → Idled sys budget (record a { objects = xs; lane = v }) d
-  round-over look pass none = record {
-    knows = is-over sys budget d.looks d.stack d.objects d.lane pass.knows (empty-is d.stack none) (came-is false look pass);
+  pub round-over : terms.cooperative ≡ false → Looked sys terms a b false → Passed [] sys terms b d → None ≡ slice_get d.stack (length d.stack - 1) → Idled sys terms (record a { objects = xs; lane = v }) d
+  round-over plain look pass none = record {
+    knows = is-over sys terms d.looks d.stack d.objects d.lane pass.knows plain (empty-is d.stack none) (came-is false look pass);
     onward = onward-all false look pass;
   }
 
-  pub round-again : Looked sys budget a b true → Passed [] sys budget b d → None ≡ slice_get d.stack (length d.stack - 1) → Stood (MayLook sys) sys budget d × GoesOnward xs v d.objects d.lane
-  round-again look pass none = (looks-again sys budget d.looks d.stack d.objects d.lane pass.knows (empty-is d.stack none) (came-is true look pass), onward-all true look pass)
+  pub round-again : terms.cooperative ≡ false → Looked sys terms a b true → Passed [] sys terms b d → None ≡ slice_get d.stack (length d.stack - 1) → Stood (MayLook sys) sys terms d × GoesOnward xs v d.objects d.lane
+  round-again plain look pass none = (looks-again sys terms d.looks d.stack d.objects d.lane pass.knows plain (empty-is d.stack none) (came-is true look pass), onward-all true look pass)
 
-  pub round-step : (came : Bool) (z : Stand) → Looked sys budget a b came → Passed [] sys budget b d → Stepped sys budget d z → Stood (MayLook sys) sys budget z × GoesOnward xs v z.objects z.lane
+  pub round-step : (came : Bool) (z : Stand) → Looked sys terms a b came → Passed [] sys terms b d → Stepped sys terms d z → Stood (MayLook sys) sys terms z × GoesOnward xs v z.objects z.lane
   round-step came z look pass stepped = (stepped.knows, onward-then xs v d.objects d.lane z.objects z.lane (onward-all came look pass) stepped.onward)
 
-  pub round-found : (came : Bool) (z : Stand) → Looked sys budget a b came → Entered sys budget b d → Stepped sys budget d z → Stood (MayLook sys) sys budget z × GoesOnward xs v z.objects z.lane
+  pub round-found : (came : Bool) (z : Stand) → Looked sys terms a b came → Entered sys terms b d → Stepped sys terms d z → Stood (MayLook sys) sys terms z × GoesOnward xs v z.objects z.lane
   round-found came z look enter stepped =
       (stepped.knows, onward-then xs v d.objects d.lane z.objects z.lane (entered-all came look enter) stepped.onward)
 
-pub round-top : (sys : System) (budget p : ℕ) (b d : Stand) → Passed [] sys budget b d → Some p ≡ slice_get d.stack (length d.stack - 1) → RunsTop sys budget d
-round-top sys budget p b d pass some =
+pub round-top : (sys : System) (terms : Terms) (p : ℕ) (b d : Stand) → Passed [] sys terms b d → Some p ≡ slice_get d.stack (length d.stack - 1) → RunsTop sys terms d
+round-top sys terms p b d pass some =
     let s = some-last d.stack p some in
-    record { p = p; outer = s.0; top = s.1; knows = runs-on sys budget d.looks d.stack d.objects d.lane pass.knows s.0 p s.1 }
+    record { p = p; outer = s.0; top = s.1; knows = runs-on sys terms d.looks d.stack d.objects d.lane pass.knows s.0 p s.1 }
 
 -- The order of all records behind the last look at the base.
 
@@ -196,18 +200,22 @@ found-at (x ∷ xs) o d h = by (x.priority == o) h (λ k. found-at xs o d k)
     by true k go = (0, k)
     by false k go = let later = go k in (suc later.0, later.1)
 
-base-floor : (sys : System) (s : Stand) → s.stack ≡ [] → floor_of sys s ≡ 0
+pub base-floor : (sys : System) (terms : Terms) (s : Stand) → s.stack ≡ [] → floor_of sys terms s ≡ 0
 unfolding floor_in
-base-floor sys s none = ap (λ st. floor_in sys sim (reverse st) s.objects.ceiling) none
+base-floor sys terms s none = ap (λ st. floor_in sys (kernel_in terms) (reverse st) s.objects.ceiling) none
 
-pub round-idle : (acts : Bool) (sys : System) → IsSound sys → (budget : ℕ) (a b d : Stand) (low : ℕ) → low ≡ floor_of sys a → Looked sys budget a b false → LookedInOrder acts sys (floor_of sys a == 0) b false → Passed [] sys budget b d
-    → PassedInOrder acts sys low 0 b d → None ≡ slice_get d.stack (length d.stack - 1) → IdlesInOrder acts sys d
+-- every queue was seen empty
+pub round-empties : (sys : System) → IsSound sys → (v : LaneView) → AreSeenEmpty sys 0 0 v → (o : ObjectDef) → object_at sys o.priority ≡ Some o → IsSeenEmpty o.priority v
 unfolding object_at
-round-idle acts sys sound budget a b d low is look ordered pass seen none = record {
+round-empties sys sound v seen o found = let i = found-at sys.objects o.priority o found in let some = numbered sys sound o found in seen i.0 o (omega arith) i.1 (omega (arith, some))
+
+pub round-idle : (acts : Bool) (sys : System) → IsSound sys → (terms : Terms) (a b d : Stand) (low : ℕ) → low ≡ floor_of sys terms a → Looked sys terms a b false → LookedInOrder acts sys (floor_of sys terms a == 0) b false → Passed [] sys terms b d
+    → PassedInOrder acts sys low 0 b d → None ≡ slice_get d.stack (length d.stack - 1) → IdlesInOrder acts sys d
+round-idle acts sys sound terms a b d low is look ordered pass seen none = record {
   order = seen.order;
   none = λ acting. seen.none true acting (subst (λ f. NoneActs (f == 0) sys b.lane) base (ordered.none refl acting));
-  empties = λ o found. let i = found-at sys.objects o.priority o found in let some = numbered sys sound o found in seen.empty i.0 o (omega arith) i.1 (omega (arith, is, base, some));
+  empties = λ o found. round-empties sys sound d.lane (subst (λ f. AreSeenEmpty sys f 0 d.lane) (is ∙ base) seen.empty) o found;
 }
   where
-    base : floor_of sys a ≡ 0
-    base = base-floor sys a (sym look.stack ∙ sym pass.stack ∙ empty-is d.stack none)
+    base : floor_of sys terms a ≡ 0
+    base = base-floor sys terms a (sym look.stack ∙ sym pass.stack ∙ empty-is d.stack none)

@@ -1,5 +1,5 @@
 -- Rows of looks: the objects above a floor, and readings while they are looked at.
-use Rattle.std.proofs.Common.{◌≡◌, ℕ, zero, suc, ◌+◌, ◌<◌, ◌≤◌, ◌==◌, cond, Bool, true, false, List, [], ◌∷◌, ◌++◌, map, length, reverse, take, nat_lt, refl, sym, ◌∙◌, ap, subst, Some, arith}
+use Rattle.std.proofs.Common.{◌≡◌, ℕ, zero, suc, ◌+◌, ◌<◌, ◌≤◌, ◌==◌, cond, Bool, true, false, not, ◌&&◌, List, [], ◌∷◌, ◌++◌, map, length, reverse, take, nat_lt, refl, sym, ◌∙◌, ap, subst, Some, arith}
 use Rattle.std.specs.Prelude.{slice_get}
 use Rattle.std.specs.List.{AllByRecursion, filter}
 use Rattle.std.proofs.lemmas.List.{map-append, reverse-append}
@@ -7,9 +7,10 @@ use Rattle.std.proofs.lemmas.Bool.Decides.{nat_tests}
 use Rattle.qp_chart.specs.StateTree.{has}
 use Rattle.qp_model.specs.declared.systems.System.{System}
 use Rattle.qp_model.specs.declared.systems.ObjectDef.{ObjectDef}
-use Rattle.qp_model.specs.Kernels.{sim}
-use Rattle.qp_model.specs.KernelLane.{Reading, Again, Over, above, found_none, looking_at}
+use Rattle.qp_model.specs.Kernels.{qk, qv}
+use Rattle.qp_model.specs.KernelLane.{Reading, Resting, Again, Over, above, base_ended, found_none, looking_at}
 use Rattle.qp_kernel.specs.LaneZero.{Agree, setting}
+use Rattle.qp_kernel.specs.Turning.{Terms, kernel_in}
 use Rattle.qp_turns.specs.Knowing.{IsAbove, IsNamed}
 use Rattle.qp_turns.specs.Turning.{row_below}
 
@@ -108,23 +109,36 @@ pub record SameButPlace (k r : Reading) : Type 0 where
   pub ceiling : r.ceiling ≡ k.ceiling
   pub looks : r.looks ≡ k.looks
 
-pub looking-same : (sys : System) (has : ℕ → Bool) (k : Reading) (ps : List ℕ) → SameButPlace k (looking_at (setting sys sim has) k ps)
-looking-same sys has k (p ∷ ps) = record { unstarted = refl; running = refl; ceiling = refl; looks = refl }
-looking-same sys has k [] = by k.running
+pub ended-same : (sys : System) (terms : Terms) (has : ℕ → Bool) (k : Reading) → SameButPlace k (base_ended (setting sys (kernel_in terms) has) k)
+ended-same sys terms has k = base (not (kernel_in terms == qk) && has k.looks)
   where
     base : (b : Bool) → SameButPlace k (cond b (record k { place = Again }) (record k { place = Over; idle = cond k.stepped k.idle (k.idle + 1); stepped = false }))
     base true = record { unstarted = refl; running = refl; ceiling = refl; looks = refl }
     base false = record { unstarted = refl; running = refl; ceiling = refl; looks = refl }
 
-    by : (os : List ℕ) → SameButPlace k (found_none (setting sys sim has) k os)
+pub looking-same : (sys : System) (terms : Terms) (has : ℕ → Bool) (k : Reading) (ps : List ℕ) → SameButPlace k (looking_at (setting sys (kernel_in terms) has) k ps)
+looking-same sys terms has k (p ∷ ps) = record { unstarted = refl; running = refl; ceiling = refl; looks = refl }
+looking-same sys terms has k [] = by k.running
+  where
+    rests : (b : Bool) → SameButPlace k (cond b (record k { place = Resting }) (base_ended (setting sys (kernel_in terms) has) k))
+    rests true = record { unstarted = refl; running = refl; ceiling = refl; looks = refl }
+    rests false = ended-same sys terms has k
+
+    by : (os : List ℕ) → SameButPlace k (found_none (setting sys (kernel_in terms) has) k os)
     by (o ∷ outer) = record { unstarted = refl; running = refl; ceiling = refl; looks = refl }
-    by [] = base (has k.looks)
+    by [] = rests (kernel_in terms == qv)
 
 -- later stimuli change nothing of a settled look
-pub looking-agrees : (sys : System) (upto : ℕ) (now has : ℕ → Bool) (k : Reading) (ps : List ℕ) → k.looks ≤ upto → Agree upto has now → looking_at (setting sys sim has) k ps ≡ looking_at (setting sys sim now) k ps
-looking-agrees sys upto now has k (p ∷ ps) le agree = refl
-looking-agrees sys upto now has k [] le agree = by k.running
+pub ended-agrees : (sys : System) (terms : Terms) (upto : ℕ) (now has : ℕ → Bool) (k : Reading) → k.looks ≤ upto → Agree upto has now
+    → base_ended (setting sys (kernel_in terms) has) k ≡ base_ended (setting sys (kernel_in terms) now) k
+ended-agrees sys terms upto now has k le agree =
+    ap (λ b. cond (not (kernel_in terms == qk) && b) (record k { place = Again }) (record k { place = Over; idle = cond k.stepped k.idle (k.idle + 1); stepped = false })) (agree k.looks le)
+
+pub looking-agrees : (sys : System) (terms : Terms) (upto : ℕ) (now has : ℕ → Bool) (k : Reading) (ps : List ℕ) → k.looks ≤ upto → Agree upto has now
+    → looking_at (setting sys (kernel_in terms) has) k ps ≡ looking_at (setting sys (kernel_in terms) now) k ps
+looking-agrees sys terms upto now has k (p ∷ ps) le agree = refl
+looking-agrees sys terms upto now has k [] le agree = by k.running
   where
-    by : (os : List ℕ) → found_none (setting sys sim has) k os ≡ found_none (setting sys sim now) k os
+    by : (os : List ℕ) → found_none (setting sys (kernel_in terms) has) k os ≡ found_none (setting sys (kernel_in terms) now) k os
     by (o ∷ outer) = refl
-    by [] = ap (λ b. cond b (record k { place = Again }) (record k { place = Over; idle = cond k.stepped k.idle (k.idle + 1); stepped = false })) (agree k.looks le)
+    by [] = ap (λ r. cond (kernel_in terms == qv) (record k { place = Resting }) r) (ended-agrees sys terms upto now has k le agree)

@@ -10,7 +10,6 @@ use Rattle.qp_model.specs.declared.systems.ObjectDef.{ObjectDef}
 use Rattle.qp_model.specs.Acts.{Config}
 use Rattle.qp_model.specs.Course.{Starts, actor, chart_at, first_config}
 use Rattle.qp_model.specs.Ends.{may_cut}
-use Rattle.qp_model.specs.Kernels.{sim}
 use Rattle.qp_model.specs.Lawful.{spill_cuts}
 use Rattle.qp_model.specs.Pieces.{Piece, Tell, tell}
 use Rattle.qp_model.specs.Sites.{object_at}
@@ -39,7 +38,7 @@ use Rattle.qp_kernel.specs.Happenings.{IsInOrder, IsOrderEnded, has_no_stim, lan
 use Rattle.qp_kernel.specs.Laws.{AllWait, OthersWait}
 use Rattle.qp_kernel.specs.Stages as stage
 use Rattle.qp_kernel.specs.Stages.{Stage, is_resting, may_wait}
-use Rattle.qp_kernel.specs.Turning.{IsObject, KernelState, Stands, having, moved, spill_told}
+use Rattle.qp_kernel.specs.Turning.{IsObject, KernelState, Stands, having, moved, spill_told, Terms, kernel_in}
 use Rattle.qp_kernel.specs.ZeroEnds.{ZeroEnds}
 use Rattle.qp_kernel.proofs.KernelLaws.{assertion_ends_start, full_lane_ends, object_starts, spill_ends_start}
 use Rattle.qp_kernel.proofs.OrderGrowth.{in_order-grows, order-ends}
@@ -59,8 +58,8 @@ use Rattle.qp_turns.proofs.Ordered.{unstim-grows, unstim-items}
 use Rattle.qp_turns.proofs.Quiet.{IsQuiet, calm-items, cut-quiet, ended-stops, gains-set, own-lookless, spill-last, whole-quiet}
 
 -- an object at its start
-module _ (sys : System) (sound : IsSound sys) (budget p : ℕ) (others : List ℕ) (xs : Objects) (v : LaneView) (n : IsNamed sys p) (apart : has others p ≡ false)
-    (k : KnowsAt (HasBegun sys (p ∷ others)) sys budget 0 [] xs v) where
+module _ (sys : System) (sound : IsSound sys) (terms : Terms) (p : ℕ) (others : List ℕ) (xs : Objects) (v : LaneView) (n : IsNamed sys p) (apart : has others p ≡ false)
+    (k : KnowsAt (HasBegun sys (p ∷ others)) sys terms 0 [] xs v) where
   abbrev s : KernelState
   s = k.knows.state
 
@@ -169,8 +168,8 @@ module _ (sys : System) (sound : IsSound sys) (budget p : ℕ) (others : List �
     entries = having s.entries p (s.entries p);
   }
 
-  stands-behind : (g : List Told) (c : Config) → Starts sys (actor n.object n.chart) (first_config n.object) (tell g) (Some c) → (level : ℕ) × Stands sys budget (behind g c level)
-  stands-behind g c h = object_starts sys budget s p n.object n.chart others g c (numbered sys sound) is-object positive k.knows.stands k.at.owed k.at.unstarted unstarted h
+  stands-behind : (g : List Told) (c : Config) → Starts sys (actor n.object n.chart) (first_config n.object) (tell g) (Some c) → (level : ℕ) × Stands sys terms (behind g c level)
+  stands-behind g c h = object_starts sys terms s p n.object n.chart others g c (numbered sys sound) is-object positive k.knows.stands k.at.owed k.at.unstarted unstarted h
 
   fresh-behind : (c : Config) (o : ℕ) → has others o ≡ true → moved s.stages p (stage.Resting c) o ≡ stage.Unstarted
   fresh-behind c o is = by (p == o) refl
@@ -206,7 +205,7 @@ module _ (sys : System) (sound : IsSound sys) (budget p : ℕ) (others : List �
     abbrev c : Config
     c = config_of later.object.lasting
 
-    new : (lv : ℕ) × Stands sys budget (behind t.g c lv)
+    new : (lv : ℕ) × Stands sys terms (behind t.g c lv)
     new = stands-behind t.g c (starts-as (tell t.g) (Some c) t.starts)
 
     held-before : held_in x.lasting x.stage ≡ x.lasting.list.entries.items
@@ -254,14 +253,14 @@ module _ (sys : System) (sound : IsSound sys) (budget p : ℕ) (others : List �
       stage = record { started = ap (λ o. o.started) same; between = between-later ∙ not-started.between; config = refl; few = t.few };
     }
 
-    pub done-knows : KnowsAt (HasBegun sys others) sys budget 0 [] zs w
+    pub done-knows : KnowsAt (HasBegun sys others) sys terms 0 [] zs w
     done-knows = record {
       knows = record {
         state = behind t.g c new.0;
         told = told-w;
         stands = new.1;
         counted = k.knows.counted;
-        ceiling = ceiling-of sys budget (behind t.g c new.0) new.1 ∙ ap (ceiling_in 0) told-w ∙ ap (λ u. ceiling_in 0 u.told) w-is ∙ sym t.lane.told ∙ sym at-level;
+        ceiling = ceiling-of sys terms (behind t.g c new.0) new.1 ∙ ap (ceiling_in 0) told-w ∙ ap (λ u. ceiling_in 0 u.told) w-is ∙ sym t.lane.told ∙ sym at-level;
         lane = record {
           of = sys-w ∙ k.knows.lane.of;
           told = at-level ∙ t.lane.told ∙ sym (ap (λ u. ceiling_in 0 u.told) w-is);
@@ -315,10 +314,10 @@ module _ (sys : System) (sound : IsSound sys) (budget p : ℕ) (others : List �
     lanes-asserted : lanes_of w ≡ lanes_of v
     lanes-asserted = lanes-on a.g a.mid w a.grows (ap (λ u. u.plan) asserted-stops) (ap (λ u. u.happened) asserted-stops)
 
-    pub asserted-ends : (end : ℕ) → may_cut end ≡ true → ZeroEnds sys sim budget end w.told (has_stim (lanes_of w))
+    pub asserted-ends : (end : ℕ) → may_cut end ≡ true → ZeroEnds sys (kernel_in terms) terms.budget end w.told (has_stim (lanes_of w))
     asserted-ends end cut =
-        subst (λ ts. ZeroEnds sys sim budget end ts (has_stim (lanes_of w))) (sym asserted-told)
-        (assertion_ends_start sys budget end s (has_stim (lanes_of w)) p n.object n.chart others a.g (numbered sys sound) (able sys sound) is-object positive k.knows.stands
+        subst (λ ts. ZeroEnds sys (kernel_in terms) terms.budget end ts (has_stim (lanes_of w))) (sym asserted-told)
+        (assertion_ends_start sys terms end s (has_stim (lanes_of w)) p n.object n.chart others a.g (numbered sys sound) (able sys sound) is-object positive k.knows.stands
         (agreed s (has_stim (lanes_of w)) (now-of w lanes-asserted)) cut k.at.owed k.at.unstarted unstarted starts-none waits-apart)
 
     form : FailedForm p a.g
@@ -371,10 +370,10 @@ module _ (sys : System) (sound : IsSound sys) (budget p : ℕ) (others : List �
 
     -- in the middle of the start, behind its first records
     spilled-within : (end : ℕ) → may_cut end ≡ true → (t : Told) (g : List Told) → b.g ≡ t ∷ g → (u : Told) (more : List Told) → b.begins.0 ≡ u ∷ more
-        → ZeroEnds sys sim budget end ((s.told ++ map (for_object p) b.g) ++ spill_told many ∷ []) (has_stim (lanes_of w))
+        → ZeroEnds sys (kernel_in terms) terms.budget end ((s.told ++ map (for_object p) b.g) ++ spill_told many ∷ []) (has_stim (lanes_of w))
     spilled-within end cut t g is u more left =
-        subst (λ ts. ZeroEnds sys sim budget end ts (has_stim (lanes_of w))) (sym (append_assoc s.told (map (for_object p) b.g) (spill_told many ∷ [])))
-        (spill_ends_start sys budget end s (has_stim (lanes_of w)) p n.object n.chart others b.g many (tell b.begins.0) b.begins.1 (numbered sys sound) (able sys sound) is-object positive k.knows.stands
+        subst (λ ts. ZeroEnds sys (kernel_in terms) terms.budget end ts (has_stim (lanes_of w))) (sym (append_assoc s.told (map (for_object p) b.g) (spill_told many ∷ [])))
+        (spill_ends_start sys terms end s (has_stim (lanes_of w)) p n.object n.chart others b.g many (tell b.begins.0) b.begins.1 (numbered sys sound) (able sys sound) is-object positive k.knows.stands
         (agreed s (has_stim (lanes_of w)) (now-of w lanes-spilled)) cut k.at.owed k.at.unstarted unstarted quiet.calm (λ none. let wrong : tell (u ∷ more) ≡ [] = sym (ap tell left) ∙ none in cc)
         (subst (λ ps. Starts sys (actor n.object n.chart) (first_config n.object) ps b.begins.1) (map-append Tell b.g b.begins.0) starts-begun) waits-apart
         (record {
@@ -385,15 +384,15 @@ module _ (sys : System) (sound : IsSound sys) (budget p : ℕ) (others : List �
         }))
 
     -- before its first record
-    spilled-first : (end : ℕ) → may_cut end ≡ true → b.g ≡ [] → ZeroEnds sys sim budget end ((s.told ++ map (for_object p) b.g) ++ spill_told many ∷ []) (has_stim (lanes_of w))
+    spilled-first : (end : ℕ) → may_cut end ≡ true → b.g ≡ [] → ZeroEnds sys (kernel_in terms) terms.budget end ((s.told ++ map (for_object p) b.g) ++ spill_told many ∷ []) (has_stim (lanes_of w))
     spilled-first end cut none =
         let same : s.told ++ map (for_object p) b.g ≡ s.told = ap (λ g. s.told ++ map (for_object p) g) none ∙ append-nil s.told in
-        subst (λ ts. ZeroEnds sys sim budget end (ts ++ spill_told many ∷ []) (has_stim (lanes_of w))) (sym same)
-        (full_lane_ends sys budget end s (has_stim (lanes_of w)) many (numbered sys sound) (able sys sound) k.knows.stands (agreed s (has_stim (lanes_of w)) (now-of w lanes-spilled)) cut
+        subst (λ ts. ZeroEnds sys (kernel_in terms) terms.budget end (ts ++ spill_told many ∷ []) (has_stim (lanes_of w))) (sym same)
+        (full_lane_ends sys terms end s (has_stim (lanes_of w)) many (numbered sys sound) (able sys sound) k.knows.stands (agreed s (has_stim (lanes_of w)) (now-of w lanes-spilled)) cut
         (count ∙ ap length same) b.few waits-all)
 
     -- behind its last record
-    spilled-last : (end : ℕ) → may_cut end ≡ true → b.begins.0 ≡ [] → (last : Option Config) → b.begins.1 ≡ last → ZeroEnds sys sim budget end ((s.told ++ map (for_object p) b.g) ++ spill_told many ∷ []) (has_stim (lanes_of w))
+    spilled-last : (end : ℕ) → may_cut end ≡ true → b.begins.0 ≡ [] → (last : Option Config) → b.begins.1 ≡ last → ZeroEnds sys (kernel_in terms) terms.budget end ((s.told ++ map (for_object p) b.g) ++ spill_told many ∷ []) (has_stim (lanes_of w))
     spilled-last end cut none None last = absurd (b.begins.3 last none)
     spilled-last end cut none (Some c) last =
         let whole : b.g ++ b.begins.0 ≡ b.g = ap (λ h. b.g ++ h) none ∙ append-nil b.g in
@@ -401,12 +400,12 @@ module _ (sys : System) (sound : IsSound sys) (budget p : ℕ) (others : List �
         subst (λ h. Starts sys (actor n.object n.chart) (first_config n.object) (tell h) (Some c)) whole
         (subst (λ e. Starts sys (actor n.object n.chart) (first_config n.object) (tell (b.g ++ b.begins.0)) e) last starts-begun) in
         let done = stands-behind b.g c starts in
-        full_lane_ends sys budget end (behind b.g c done.0) (has_stim (lanes_of w)) many (numbered sys sound) (able sys sound) done.1 (agreed s (has_stim (lanes_of w)) (now-of w lanes-spilled)) cut count b.few (waits-behind b.g c done.0)
+        full_lane_ends sys terms end (behind b.g c done.0) (has_stim (lanes_of w)) many (numbered sys sound) (able sys sound) done.1 (agreed s (has_stim (lanes_of w)) (now-of w lanes-spilled)) cut count b.few (waits-behind b.g c done.0)
 
-    pub spilled-ends : (end : ℕ) → may_cut end ≡ true → ZeroEnds sys sim budget end w.told (has_stim (lanes_of w))
-    spilled-ends end cut = subst (λ ts. ZeroEnds sys sim budget end ts (has_stim (lanes_of w))) (sym spilled-told) (by b.begins.0 refl b.g refl)
+    pub spilled-ends : (end : ℕ) → may_cut end ≡ true → ZeroEnds sys (kernel_in terms) terms.budget end w.told (has_stim (lanes_of w))
+    spilled-ends end cut = subst (λ ts. ZeroEnds sys (kernel_in terms) terms.budget end ts (has_stim (lanes_of w))) (sym spilled-told) (by b.begins.0 refl b.g refl)
       where
-        by : (more : List Told) → b.begins.0 ≡ more → (g : List Told) → b.g ≡ g → ZeroEnds sys sim budget end ((s.told ++ map (for_object p) b.g) ++ spill_told many ∷ []) (has_stim (lanes_of w))
+        by : (more : List Told) → b.begins.0 ≡ more → (g : List Told) → b.g ≡ g → ZeroEnds sys (kernel_in terms) terms.budget end ((s.told ++ map (for_object p) b.g) ++ spill_told many ∷ []) (has_stim (lanes_of w))
         by [] none g is = spilled-last end cut none b.begins.1 refl
         by (u ∷ more) left [] none = spilled-first end cut none
         by (u ∷ more) left (t ∷ g) is = spilled-within end cut t g is u more left
@@ -441,14 +440,14 @@ module _ (sys : System) (sound : IsSound sys) (budget p : ℕ) (others : List �
         subst (λ c. (mid : LaneView) × StartsAs c sys level x r.later.object V mid answer × (w ≡ works_for v.by mid)) has-chart
         (subst (λ z. ObjectStarts sys level z.object r.later.object v w answer) slot-is r.starts)
 
-  pub stopped-turn : (level : ℕ) (ys : Objects) (w : LaneView) → StartsAt sys level p xs ys v w step.Stopped → TurnStopped sys budget v w
+  pub stopped-turn : (level : ℕ) (ys : Objects) (w : LaneView) → StartsAt sys level p xs ys v w step.Stopped → TurnStopped sys terms v w
   stopped-turn level ys w r = let o = opened level ys w step.Stopped r in by o.0 o.2 o.1.1
     where
-      by : (m : LaneView) → w ≡ works_for v.by m → (StartAsserted home x.lasting r.later.object.lasting V m) ⊎ (StartSpilled home x.lasting r.later.object.lasting V m) → TurnStopped sys budget v w
+      by : (m : LaneView) → w ≡ works_for v.by m → (StartAsserted home x.lasting r.later.object.lasting V m) ⊎ (StartSpilled home x.lasting r.later.object.lasting V m) → TurnStopped sys terms v w
       by m w-is (inl a) = record { zero = asserted-ends r.later.object.lasting m w w-is a; why = inl (asserted-code r.later.object.lasting m w w-is a) }
       by m w-is (inr b) = record { zero = spilled-ends r.later.object.lasting m w w-is b; why = inl (spilled-code r.later.object.lasting m w w-is b) }
 
-  pub stopped-start : (level : ℕ) (ys : Objects) (w : LaneView) → StartsAt sys level p xs ys v w step.Stopped → IsInOrder sys 0 v → ((most : ℕ) → TurnStopped sys most v w) → StartStopped sys v w
+  pub stopped-start : (level : ℕ) (ys : Objects) (w : LaneView) → StartsAt sys level p xs ys v w step.Stopped → IsInOrder sys 0 v → ((most : Terms) → TurnStopped sys most v w) → StartStopped sys v w
   stopped-start level ys w r order turn = let o = opened level ys w step.Stopped r in by o.0 o.2 o.1.1
     where
       by : (m : LaneView) → w ≡ works_for v.by m → (StartAsserted home x.lasting r.later.object.lasting V m) ⊎ (StartSpilled home x.lasting r.later.object.lasting V m) → StartStopped sys v w

@@ -12,7 +12,6 @@ use Rattle.qp_model.specs.declared.bodies.Body.TheVariants as body
 use Rattle.qp_model.specs.Acts.{Config}
 use Rattle.qp_model.specs.Course.{actor, chart_at, first_config}
 use Rattle.qp_model.specs.Ends.{ends_last, is_assert, is_end, may_cut}
-use Rattle.qp_model.specs.Kernels.{sim}
 use Rattle.qp_model.specs.KernelLane.{Ended, Inside, Reading, Setting as Sitting, lane_next, lane_on, unread}
 use Rattle.qp_model.specs.Lawful.{spill_cuts}
 use Rattle.qp_model.specs.Pieces.{Piece, Point, tell}
@@ -41,7 +40,7 @@ use Rattle.std.specs.Option.{option_and_then}
 use Rattle.qp_model.specs.declared.bodies.Body.{Body}
 use Rattle.qp_model.specs.Knowing.{ceiling_after}
 use Rattle.qp_kernel.proofs.CeilingLemmas.{ceiling-next}
-use Rattle.qp_kernel.specs.Turning.{spill_told}
+use Rattle.qp_kernel.specs.Turning.{spill_told, Terms, kernel_in}
 use Rattle.qp_dispatch.specs.declared.steps.Stage.TheVariants as standing
 use Rattle.qp_dispatch.specs.Lasts.{actor_of, config_of}
 use Rattle.qp_dispatch.specs.Objects.{ObjectResumes, ResumesAs, home_of, works_for}
@@ -151,9 +150,9 @@ reads-ceiling st k m (t ∷ ts) h = by (lane_next st k (untold t)) refl (λ next
     by None is go h = absurd (cc)
     by (Some next) is go h = go next h ∙ ap (λ c. ceiling_in c ts) (ceiling-next st k next (untold t) is)
 
-pub ceiling-of : (sys : System) (budget : ℕ) (s : KernelState) → Stands sys budget s → s.reading.ceiling ≡ ceiling_in 0 s.told
+pub ceiling-of : (sys : System) (terms : Terms) (s : KernelState) → Stands sys terms s → s.reading.ceiling ≡ ceiling_in 0 s.told
 unfolding unread
-ceiling-of sys budget s h = reads-ceiling (setting sys sim s.now) (unread sys) s.reading s.told (h.read s.now (λ n le. refl))
+ceiling-of sys terms s h = reads-ceiling (setting sys (kernel_in terms) s.now) (unread sys) s.reading s.told (h.read s.now (λ n le. refl))
 
 -- The last record of lists.
 pub code-behind : (xs ys : List ToldItem) → 0 < last_code ys → 0 < last_code (xs ++ ys)
@@ -214,8 +213,8 @@ front-calm : (xs ys : List Told) → list_any (λ t. is_end t.body) (xs ++ ys) �
 front-calm [] ys h = refl
 front-calm (x ∷ xs) ys h = let parts = or-false (is_end x.body) (list_any (λ t. is_end t.body) (xs ++ ys)) h in rw (parts.0, front-calm xs ys parts.1) refl
 
-module _ (sys : System) (sound : IsSound sys) (budget looks : ℕ) (front : List ℕ) (p : ℕ) (xs : Objects) (v : LaneView)
-    (k : Knows sys budget looks (front ++ p ∷ []) xs v) (at : IsRunning sys p k.state) where
+module _ (sys : System) (sound : IsSound sys) (terms : Terms) (looks : ℕ) (front : List ℕ) (p : ℕ) (xs : Objects) (v : LaneView)
+    (k : Knows sys terms looks (front ++ p ∷ []) xs v) (at : IsRunning sys p k.state) where
   abbrev s : KernelState
   s = k.state
 
@@ -311,7 +310,7 @@ module _ (sys : System) (sound : IsSound sys) (budget looks : ℕ) (front : List
 
   closing : closes (left_of home x.lasting x.stage V).tasks ≡ true
   closing =
-      (comes-within sys (actor n.object n.chart) (first_config n.object) (s.entries n.object.priority) (told_pieces (setting sys sim s.now) n.object.priority (unread sys) s.told ++ owed_point s.owed n.object.priority) (s.stages n.object.priority)
+      (comes-within sys (actor n.object n.chart) (first_config n.object) (s.entries n.object.priority) (told_pieces (setting sys (kernel_in terms) s.now) n.object.priority (unread sys) s.told ++ owed_point s.owed n.object.priority) (s.stages n.object.priority)
       (event_in x.stage V) (step_entry x.stage) (left_of home x.lasting x.stage V) (config_of x.lasting) (subst (λ o. IsWithinStep (s.stages o) (event_in x.stage V) (step_entry x.stage) (left_of home x.lasting x.stage V) (config_of x.lasting)) (sym n.is) within)
       (k.stands.pieces s.now (λ m le. refl) n.object n.chart n.found n.its)).1.closing
 
@@ -336,10 +335,10 @@ module _ (sys : System) (sound : IsSound sys) (budget looks : ℕ) (front : List
     asserted-told : w.told ≡ s.told ++ map (for_object p) a.g
     asserted-told = told ∙ ap (λ u. u.told) a.stops ∙ grown a.g a.mid a.grows ∙ ap (λ ts. ts ++ map (for_object p) a.g) (sym k.told)
 
-    pub asserted-ends : (end : ℕ) → may_cut end ≡ true → ZeroEnds sys sim budget end w.told (has_stim (lanes_of w))
+    pub asserted-ends : (end : ℕ) → may_cut end ≡ true → ZeroEnds sys (kernel_in terms) terms.budget end w.told (has_stim (lanes_of w))
     asserted-ends end cut =
-        subst (λ ts. ZeroEnds sys sim budget end ts (has_stim (lanes_of w))) (sym asserted-told)
-        (assertion_ends_step sys budget end s (has_stim (lanes_of w)) p n.object n.chart at.outer a.g (event_in x.stage V) (step_entry x.stage) (left_of home x.lasting x.stage V) (config_of x.lasting)
+        subst (λ ts. ZeroEnds sys (kernel_in terms) terms.budget end ts (has_stim (lanes_of w))) (sym asserted-told)
+        (assertion_ends_step sys terms end s (has_stim (lanes_of w)) p n.object n.chart at.outer a.g (event_in x.stage V) (step_entry x.stage) (left_of home x.lasting x.stage V) (config_of x.lasting)
         (numbered sys sound) (able sys sound) is-object positive k.stands (agreed s (has_stim (lanes_of w)) (now-of w lanes)) cut at.owed at.step within (goes-as (tell a.g) None a.goes) others)
 
     pub asserted-code : 0 < last_code w.told
@@ -364,9 +363,9 @@ module _ (sys : System) (sound : IsSound sys) (budget looks : ℕ) (front : List
     calm = cut-calm sys (actor n.object n.chart) (event_in x.stage V) (step_entry x.stage) (left_of home x.lasting x.stage V) (config_of x.lasting) closing b.g b.begins.0 b.begins.1 b.begins.3
         (goes-as (tell b.g ++ b.begins.0) b.begins.1 b.begins.2)
 
-    spilled-by : (end : ℕ) → may_cut end ≡ true → last_is p (s.told ++ map (for_object p) b.g) ≡ true → ZeroEnds sys sim budget end (s.told ++ (map (for_object p) b.g ++ spill_told (length b.mid.told) ∷ [])) (has_stim (lanes_of w))
+    spilled-by : (end : ℕ) → may_cut end ≡ true → last_is p (s.told ++ map (for_object p) b.g) ≡ true → ZeroEnds sys (kernel_in terms) terms.budget end (s.told ++ (map (for_object p) b.g ++ spill_told (length b.mid.told) ∷ [])) (has_stim (lanes_of w))
     spilled-by end cut last =
-        spill_ends_step sys budget end s (has_stim (lanes_of w)) p n.object n.chart at.outer b.g (length b.mid.told) (event_in x.stage V) (step_entry x.stage) (left_of home x.lasting x.stage V) (config_of x.lasting) b.begins.0 b.begins.1
+        spill_ends_step sys terms end s (has_stim (lanes_of w)) p n.object n.chart at.outer b.g (length b.mid.told) (event_in x.stage V) (step_entry x.stage) (left_of home x.lasting x.stage V) (config_of x.lasting) b.begins.0 b.begins.1
         (numbered sys sound) (able sys sound) is-object positive k.stands (agreed s (has_stim (lanes_of w)) (now-of w lanes)) cut at.owed at.step within calm (goes-as (tell b.g ++ b.begins.0) b.begins.1 b.begins.2) others
         (record {
           count = count;
@@ -375,10 +374,10 @@ module _ (sys : System) (sound : IsSound sys) (budget looks : ℕ) (front : List
         })
 
     -- nothing was added before it
-    spilled-first : (end : ℕ) → may_cut end ≡ true → b.g ≡ [] → is_paused (s.stages p) ≡ true → ZeroEnds sys sim budget end (s.told ++ (map (for_object p) b.g ++ spill_told (length b.mid.told) ∷ [])) (has_stim (lanes_of w))
+    spilled-first : (end : ℕ) → may_cut end ≡ true → b.g ≡ [] → is_paused (s.stages p) ≡ true → ZeroEnds sys (kernel_in terms) terms.budget end (s.told ++ (map (for_object p) b.g ++ spill_told (length b.mid.told) ∷ [])) (has_stim (lanes_of w))
     spilled-first end cut none paused =
-        subst (λ g. ZeroEnds sys sim budget end (s.told ++ (map (for_object p) g ++ spill_told (length b.mid.told) ∷ [])) (has_stim (lanes_of w))) (sym none)
-        (full_lane_ends sys budget end s (has_stim (lanes_of w)) (length b.mid.told) (numbered sys sound) (able sys sound) k.stands (agreed s (has_stim (lanes_of w)) (now-of w lanes)) cut
+        subst (λ g. ZeroEnds sys (kernel_in terms) terms.budget end (s.told ++ (map (for_object p) g ++ spill_told (length b.mid.told) ∷ [])) (has_stim (lanes_of w))) (sym none)
+        (full_lane_ends sys terms end s (has_stim (lanes_of w)) (length b.mid.told) (numbered sys sound) (able sys sound) k.stands (agreed s (has_stim (lanes_of w)) (now-of w lanes)) cut
         (count ∙ ap (λ g. length s.told + length g) none ∙ omega arith) b.few all)
       where
         all : AllWait sys s
@@ -388,13 +387,13 @@ module _ (sys : System) (sound : IsSound sys) (budget looks : ℕ) (front : List
             by true is = let equal : p ≡ d.priority = grind (arith, nat_tests) in subst (λ o. may_wait (s.stages o) ≡ true) equal (paused-waits (s.stages p) paused)
             by false is = others d found is
 
-    spilled-at : (end : ℕ) → may_cut end ≡ true → (g : List Told) → b.g ≡ g → (c : Bool) → is_paused (s.stages p) ≡ c → ZeroEnds sys sim budget end (s.told ++ (map (for_object p) b.g ++ spill_told (length b.mid.told) ∷ [])) (has_stim (lanes_of w))
+    spilled-at : (end : ℕ) → may_cut end ≡ true → (g : List Told) → b.g ≡ g → (c : Bool) → is_paused (s.stages p) ≡ c → ZeroEnds sys (kernel_in terms) terms.budget end (s.told ++ (map (for_object p) b.g ++ spill_told (length b.mid.told) ∷ [])) (has_stim (lanes_of w))
     spilled-at end cut [] none true paused = spilled-first end cut none paused
     spilled-at end cut [] none false begun = spilled-by end cut (subst (λ g. last_is p (s.told ++ map (for_object p) g) ≡ true) (sym none) (subst (λ ts. last_is p ts ≡ true) (sym (append-nil s.told)) (at.behind begun)))
     spilled-at end cut (t ∷ g) is c paused = spilled-by end cut (subst (λ h. last_is p (s.told ++ map (for_object p) h) ≡ true) (sym is) (last-own p s.told t g))
 
-    pub spilled-ends : (end : ℕ) → may_cut end ≡ true → ZeroEnds sys sim budget end w.told (has_stim (lanes_of w))
-    spilled-ends end cut = subst (λ ts. ZeroEnds sys sim budget end ts (has_stim (lanes_of w))) (sym spilled-told) (spilled-at end cut b.g refl (is_paused (s.stages p)) refl)
+    pub spilled-ends : (end : ℕ) → may_cut end ≡ true → ZeroEnds sys (kernel_in terms) terms.budget end w.told (has_stim (lanes_of w))
+    spilled-ends end cut = subst (λ ts. ZeroEnds sys (kernel_in terms) terms.budget end ts (has_stim (lanes_of w))) (sym spilled-told) (spilled-at end cut b.g refl (is_paused (s.stages p)) refl)
 
     pub spilled-code : 0 < last_code w.told
     spilled-code =
@@ -463,14 +462,14 @@ module _ (sys : System) (sound : IsSound sys) (budget looks : ℕ) (front : List
       abbrev rested : Stage
       rested = stage.Resting (config_of later.object.lasting)
 
-      ends : (lv : ℕ) × Stands sys budget (record s {
+      ends : (lv : ℕ) × Stands sys terms (record s {
         told = s.told ++ map (for_object p) t.g;
         reading = record (s.reading) { ceiling = lv; running = at.outer; place = Ended p };
         stages = moved s.stages p rested;
         entries = having s.entries p (s.entries p);
       })
       ends =
-          step_ends sys budget s p n.object n.chart at.outer t.g (event_in x.stage V) (step_entry x.stage) (left_of home x.lasting x.stage V) (config_of x.lasting) (config_of later.object.lasting)
+          step_ends sys terms s p n.object n.chart at.outer t.g (event_in x.stage V) (step_entry x.stage) (left_of home x.lasting x.stage V) (config_of x.lasting) (config_of later.object.lasting)
           (numbered sys sound) is-object positive k.stands at.owed at.step within (goes-as (tell t.g) (Some (config_of later.object.lasting)) t.goes)
 
       abbrev after : KernelState
@@ -498,12 +497,12 @@ module _ (sys : System) (sound : IsSound sys) (budget looks : ℕ) (front : List
           (subst (λ es. list_all (is_named sys) es ≡ true) (sym (append-nil later.object.lasting.list.entries.items)) (subst (λ y. list_all (is_named y) later.object.lasting.list.entries.items ≡ true) (t.grows.sys ∙ k.lane.of) t.stand.named))
 
       ceiling-end : after.reading.ceiling ≡ zs.ceiling
-      ceiling-end = ceiling-of sys budget after ends.1 ∙ ap (ceiling_in 0) (told-w t.g t.grows) ∙ ap (λ u. ceiling_in 0 u.told) w-is ∙ sym t.lane.told ∙ sym at-level
+      ceiling-end = ceiling-of sys terms after ends.1 ∙ ap (ceiling_in 0) (told-w t.g t.grows) ∙ ap (λ u. ceiling_in 0 u.told) w-is ∙ sym t.lane.told ∙ sym at-level
 
       popped : at.outer ≡ reverse front
       popped = let all : p ∷ at.outer ≡ p ∷ reverse front = sym at.step.running ∙ k.running ∙ reverse-append front (p ∷ []) in cc
 
-      pub stepped-end : KnowsAt (MayLook sys) sys budget looks front zs w
+      pub stepped-end : KnowsAt (MayLook sys) sys terms looks front zs w
       stepped-end = record {
         knows = record {
           state = after;
@@ -572,7 +571,7 @@ module _ (sys : System) (sound : IsSound sys) (budget looks : ℕ) (front : List
           subst (λ a. Advances sys a (event_in x.stage V) (step_entry x.stage) (left_of home x.lasting x.stage V) (config_of x.lasting) (tell t.g ++ Point ∷ []) due (config_of later.object.lasting)) is-actor
           (subst (λ y. Advances y (actor_of x.me n.chart x.lasting) (event_in x.stage V) (step_entry x.stage) (left_of home x.lasting x.stage V) (config_of x.lasting) (tell t.g ++ Point ∷ []) due (config_of later.object.lasting)) k.lane.of t.advances)
 
-      pauses : (lv : ℕ) × Stands sys budget (record s {
+      pauses : (lv : ℕ) × Stands sys terms (record s {
         told = s.told ++ map (for_object p) t.g;
         reading = record (s.reading) { ceiling = lv };
         owed = p;
@@ -580,7 +579,7 @@ module _ (sys : System) (sound : IsSound sys) (budget looks : ℕ) (front : List
         entries = having s.entries p (s.entries p);
       })
       pauses =
-          step_pauses sys budget s p n.object n.chart at.outer t.g (event_in x.stage V) (step_entry x.stage) (left_of home x.lasting x.stage V) due (config_of x.lasting) (config_of later.object.lasting)
+          step_pauses sys terms s p n.object n.chart at.outer t.g (event_in x.stage V) (step_entry x.stage) (left_of home x.lasting x.stage V) due (config_of x.lasting) (config_of later.object.lasting)
           (numbered sys sound) is-object positive k.stands at.owed at.step within advances ready-due
 
       abbrev waiting : KernelState
@@ -608,7 +607,7 @@ module _ (sys : System) (sound : IsSound sys) (budget looks : ℕ) (front : List
       named-point = subst (λ y. list_all (is_named y) (held_in later.object.lasting later.object.stage) ≡ true) home-sys stand-point.named
 
       ceiling-point : waiting.reading.ceiling ≡ zs.ceiling
-      ceiling-point = ceiling-of sys budget waiting pauses.1 ∙ ap (ceiling_in 0) (told-w t.g t.grows) ∙ ap (λ u. ceiling_in 0 u.told) w-is ∙ sym t.lane.told ∙ sym at-level
+      ceiling-point = ceiling-of sys terms waiting pauses.1 ∙ ap (ceiling_in 0) (told-w t.g t.grows) ∙ ap (λ u. ceiling_in 0 u.told) w-is ∙ sym t.lane.told ∙ sym at-level
 
       turn-point : IsInTurn home (event_in x.stage V) (step_entry x.stage) due (config_of later.object.lasting) later.object w
       turn-point = subst (λ u. IsInTurn home (event_in x.stage V) (step_entry x.stage) due (config_of later.object.lasting) later.object u) (sym w-is) (record {
@@ -623,7 +622,7 @@ module _ (sys : System) (sound : IsSound sys) (budget looks : ℕ) (front : List
       stage-point : StageIs sys n.object n.chart later.object w paused
       stage-point = (t.going, t.stands, subst (λ h. IsInTurn h (event_in x.stage V) (step_entry x.stage) due (config_of later.object.lasting) later.object w) (sym home-w) turn-point)
 
-      pub stepped-point : KnowsAt (MayLook sys) sys budget looks (front ++ p ∷ []) zs w
+      pub stepped-point : KnowsAt (MayLook sys) sys terms looks (front ++ p ∷ []) zs w
       stepped-point = record {
         knows = record {
           state = waiting;
@@ -675,9 +674,9 @@ module _ (sys : System) (sound : IsSound sys) (budget looks : ℕ) (front : List
 
   -- What resuming the object at the top comes to.
   abbrev pub AfterStep : ℕ → Objects → LaneView → Step → Type 0
-  AfterStep level ys w step.Point = KnowsAt (MayLook sys) sys budget looks (front ++ p ∷ []) (record ys { ceiling = level }) w × GoesOnward xs v (record ys { ceiling = level }) w
-  AfterStep level ys w step.Done = KnowsAt (MayLook sys) sys budget looks front (record ys { ceiling = level }) w × GoesOnward xs v (record ys { ceiling = level }) w
-  AfterStep level ys w step.Stopped = TurnStopped sys budget v w
+  AfterStep level ys w step.Point = KnowsAt (MayLook sys) sys terms looks (front ++ p ∷ []) (record ys { ceiling = level }) w × GoesOnward xs v (record ys { ceiling = level }) w
+  AfterStep level ys w step.Done = KnowsAt (MayLook sys) sys terms looks front (record ys { ceiling = level }) w × GoesOnward xs v (record ys { ceiling = level }) w
+  AfterStep level ys w step.Stopped = TurnStopped sys terms v w
   AfterStep level ys w step.Memory = Unit {0}
 
   pub after-step : (level : ℕ) (ys : Objects) (w : LaneView) (answer : Step) → ResumesAt sys xs.ceiling level p xs ys v w answer → AfterStep level ys w answer

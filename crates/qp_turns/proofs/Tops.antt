@@ -1,12 +1,13 @@
 -- The top of the stack.
-use Rattle.std.proofs.Common.{◌≡◌, ℕ, ◌-◌, ◌<◌, max, List, [], ◌∷◌, ◌++◌, length, reverse, refl, sym, ◌∙◌, ap, subst, Option, Some, None, arith, length-append}
+use Rattle.std.proofs.Common.{◌≡◌, ℕ, ◌-◌, ◌<◌, max, cond, true, false, List, [], ◌∷◌, ◌++◌, length, reverse, refl, sym, ◌∙◌, ap, subst, Option, Some, None, arith, length-append}
 use Rattle.std.specs.Prelude.{IsSome, slice_get}
 use Rattle.std.specs.List.{AllByRecursion}
 use Rattle.std.specs.Option.{option_to_list}
 use Rattle.std.proofs.lemmas.List.{reverse-append}
 use Rattle.qp_model.specs.declared.systems.System.{System}
-use Rattle.qp_model.specs.Kernels.{sim}
+use Rattle.qp_model.specs.Kernels.{sim, qv}
 use Rattle.qp_model.specs.KernelLane.{floor_in, threshold_of}
+use Rattle.qp_kernel.specs.Turning.{Terms, kernel_in}
 use Rattle.qp_turns.specs.declared.objects.Objects.{Objects}
 use Rattle.qp_turns.specs.Objects.{threshold_in}
 use Rattle.qp_turns.specs.Turning.{AreHeld}
@@ -32,23 +33,36 @@ all-last P [] p h = h.0
 all-last P (x ∷ xs) p h = all-last P xs p h.1
 
 -- the floor
-pub floor-none : (sys : System) (stack : List ℕ) (xs : Objects) → None ≡ slice_get stack (length stack - 1) → 0 ≡ floor_in sys sim (reverse stack) xs.ceiling
+pub floor-none : (sys : System) (terms : Terms) (stack : List ℕ) (xs : Objects) → None ≡ slice_get stack (length stack - 1) → 0 ≡ floor_in sys (kernel_in terms) (reverse stack) xs.ceiling
 unfolding floor_in
-floor-none sys [] xs h = refl
-floor-none sys (x ∷ rest) xs h =
+floor-none sys terms [] xs h = refl
+floor-none sys terms (x ∷ rest) xs h =
     let s = split-last (x ∷ rest) x rest refl in
     let wrong : None ≡ Some s.1 = h ∙ ap (λ l. slice_get l (length l - 1)) s.2 ∙ last-get s.0 s.1 in absurd (cc)
 
-pub floor-some : (sys : System) (stack : List ℕ) (xs : Objects) (p floor : ℕ) → AreHeld sys stack xs → Some p ≡ slice_get stack (length stack - 1) → floor ≡ max (threshold_in xs.slots.items p) xs.ceiling
-    → floor ≡ floor_in sys sim (reverse stack) xs.ceiling
+-- the floor within a step of a kernel whose steps interrupt one another
+pub floor-some : (sys : System) (terms : Terms) (stack : List ℕ) (xs : Objects) (p floor : ℕ) → terms.cooperative ≡ false → AreHeld sys stack xs → Some p ≡ slice_get stack (length stack - 1)
+    → floor ≡ max (threshold_in xs.slots.items p) xs.ceiling → floor ≡ floor_in sys (kernel_in terms) (reverse stack) xs.ceiling
 unfolding floor_in
-floor-some sys [] xs p floor held h is = absurd (cc)
-floor-some sys (x ∷ rest) xs p floor held h is =
+floor-some sys terms [] xs p floor plain held h is = absurd (cc)
+floor-some sys terms (x ∷ rest) xs p floor plain held h is =
     let s = split-last (x ∷ rest) x rest refl in
     let same : p ≡ s.1 = top-is (x ∷ rest) s.0 s.1 p s.2 h in
     let here : threshold_in xs.slots.items s.1 ≡ threshold_of sys s.1 = all-last (λ q. threshold_in xs.slots.items q ≡ threshold_of sys q) s.0 s.1 (subst (λ l. AreHeld sys l xs) s.2 held) in
     let turned : reverse (x ∷ rest) ≡ s.1 ∷ reverse s.0 = ap reverse s.2 ∙ reverse-append s.0 (s.1 ∷ []) in
-    is ∙ ap (λ q. max (threshold_in xs.slots.items q) xs.ceiling) same ∙ ap (λ t. max t xs.ceiling) here ∙ sym (ap (λ l. floor_in sys sim l xs.ceiling) turned)
+    let kernel : kernel_in terms ≡ sim = ap (λ b. cond b qv sim) plain in
+    is ∙ ap (λ q. max (threshold_in xs.slots.items q) xs.ceiling) same ∙ ap (λ t. max t xs.ceiling) here ∙ sym (ap (λ l. floor_in sys sim l xs.ceiling) turned) ∙ sym (ap (λ k. floor_in sys k (reverse (x ∷ rest)) xs.ceiling) kernel)
+
+-- and of one whose steps don't
+pub floor-within : (sys : System) (terms : Terms) (stack : List ℕ) (xs : Objects) (p : ℕ) → terms.cooperative ≡ true → Some p ≡ slice_get stack (length stack - 1)
+    → 32 ≡ floor_in sys (kernel_in terms) (reverse stack) xs.ceiling
+unfolding floor_in
+floor-within sys terms [] xs p alone h = absurd (cc)
+floor-within sys terms (x ∷ rest) xs p alone h =
+    let s = split-last (x ∷ rest) x rest refl in
+    let turned : reverse (x ∷ rest) ≡ s.1 ∷ reverse s.0 = ap reverse s.2 ∙ reverse-append s.0 (s.1 ∷ []) in
+    let kernel : kernel_in terms ≡ qv = ap (λ b. cond b qv sim) alone in
+    sym (ap (λ l. floor_in sys qv l xs.ceiling) turned) ∙ sym (ap (λ k. floor_in sys k (reverse (x ∷ rest)) xs.ceiling) kernel)
 
 snoc-inj : (xs ys : List ℕ) (x y : ℕ) → xs ++ x ∷ [] ≡ ys ++ y ∷ [] → xs ≡ ys
 snoc-inj [] [] x y h = refl

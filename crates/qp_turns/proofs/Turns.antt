@@ -19,7 +19,7 @@ use Rattle.qp_calls.specs.Tokens.{hands_after, hands_by}
 use Rattle.qp_dispatch.proofs.Quiet.{ceiling-append, spills-append}
 use Rattle.qp_kernel.specs.Happenings.{lanes_from, lanes_of}
 use Rattle.qp_kernel.specs.Interrupting.{Happens, HappensToFail, HappensInPart, FindsNoRoom, HasNone, IsLaneKept, IsStopped, is_unset}
-use Rattle.qp_kernel.specs.Turning.{look_told}
+use Rattle.qp_kernel.specs.Turning.{look_told, Terms}
 use Rattle.qp_turns.specs.Knowing.{IsScanning, KnowsAt, MayLook}
 use Rattle.qp_turns.specs.Turning.{GoesOnward, Looked, Stand, Stood, TurnStopped, floor_of}
 use Rattle.qp_turns.proofs.Places.{follow-none}
@@ -59,7 +59,7 @@ kept-goes n floor v v2 v3 goes kept hands = record {
   spills = rw (kept.told) goes.spills;
 }
 
-module _ (sys : System) (sound : IsSound sys) (budget : ℕ) (a : Stand) (k : Stood (MayLook sys) sys budget a) (n floor : ℕ) (count : n ≡ a.looks + 1) (low : floor ≡ floor_of sys a)
+module _ (sys : System) (sound : IsSound sys) (terms : Terms) (a : Stand) (k : Stood (MayLook sys) sys terms a) (n floor : ℕ) (count : n ≡ a.looks + 1) (low : floor ≡ floor_of sys terms a)
     (v1 v2 v3 : LaneView) (room : Roomier a.lane v1) (grown : GrowsOf 0 (plain (body.Look n floor) ∷ []) v1 v2) where
   goes-two : GoesFor (look_told n floor ∷ []) a.lane v2
   goes-two = look-goes n floor a.lane v1 v2 room grown k.knows.lane.spills
@@ -81,12 +81,12 @@ module _ (sys : System) (sound : IsSound sys) (budget : ℕ) (a : Stand) (k : St
   }
 
   looked-by : (came : Bool) → IsLaneKept v2 v3 → v3.hands ≡ v2.hands → v3.answered ≡ v2.answered → ((m : ℕ) → (n == m) ≡ false → has_stim (lanes_of v3) m ≡ has_stim (lanes_of v2) m) → has_stim (lanes_of v3) n ≡ came
-      → Looked sys budget a b came
+      → Looked sys terms a b came
   looked-by came kept hands answered others here = record {
     counted = count;
     stack = refl;
-    knows = subst (λ f. KnowsAt (IsScanning sys (above sys f)) sys budget n a.stack a.objects v3) low
-        (looked sys sound budget a.looks a.stack a.objects a.lane v3 n floor k.knows k.at count low
+    knows = subst (λ f. KnowsAt (IsScanning sys terms (above sys f)) sys terms n a.stack a.objects v3) low
+        (looked sys sound terms a.looks a.stack a.objects a.lane v3 n floor k.knows k.at count low
         (λ m le. let other : (n == m) ≡ false = let lt : m < n = omega (arith, le, count) in grind (arith, nat_tests) in others m other ∙ ap (λ l. has_stim l m) lanes-two)
         (kept-goes n floor a.lane v2 v3 goes-two kept hands)
         (λ m lt. let other : (n == m) ≡ false = grind (arith, nat_tests) in others m other ∙ ap (λ l. has_stim l m) lanes-two ∙ k.knows.later m (omega (arith, lt, count))));
@@ -98,7 +98,7 @@ module _ (sys : System) (sound : IsSound sys) (budget : ℕ) (a : Stand) (k : St
   lanes-none kept still = same-lanes v2 v3 kept.plan still
 
   -- nothing happened
-  pub looked-none : (acts base : Bool) → HasNone acts base v2 v3 → Looked sys budget a b false
+  pub looked-none : (acts base : Bool) → HasNone acts base v2 v3 → Looked sys terms a b false
   looked-none acts base h =
       let same = lanes-none h.untouched.kept h.happened in
       looked-by false h.untouched.kept h.untouched.hands h.untouched.answered (λ m other. ap (λ l. has_stim l m) same)
@@ -109,7 +109,7 @@ module _ (sys : System) (sound : IsSound sys) (budget : ℕ) (a : Stand) (k : St
   lanes-come source g kept come = ap (λ p. lanes_from 1 p v3.happened) kept.plan ∙ ap (λ h. lanes_from 1 v2.plan h) come
 
   -- a stimulus happened
-  pub looked-some : (base : Bool) → Happens n base v2 v3 → Looked sys budget a b true
+  pub looked-some : (base : Bool) → Happens n base v2 v3 → Looked sys terms a b true
   looked-some base h =
       let come = lanes-come h.source (plain (body.Stim h.place n) ∷ h.one) h.untouched.kept h.comes in
       let behind = ((stimuli_are_their_own v2.sys h.s false).0 h.one h.fits).behind in
@@ -119,15 +119,15 @@ module _ (sys : System) (sound : IsSound sys) (budget : ℕ) (a : Stand) (k : St
       ∙ stims-more n 1 v2.plan v2.happened (record { at = length v2.told; source = h.source; told = plain (body.Stim h.place n) ∷ h.one }) (stim-here h.place n h.one) (let some = h.acts.some in omega (arith, some)) (let few = h.acts.few in omega (arith, few)))
 
   -- the run stops in the look
-  stopped-by : IsLaneKept v2 v3 → ((m : ℕ) → (n == m) ≡ false → has_stim (lanes_of v3) m ≡ has_stim (lanes_of v2) m) → length a.lane.answered < length v3.answered → TurnStopped sys budget a.lane v3
+  stopped-by : IsLaneKept v2 v3 → ((m : ℕ) → (n == m) ≡ false → has_stim (lanes_of v3) m ≡ has_stim (lanes_of v2) m) → length a.lane.answered < length v3.answered → TurnStopped sys terms a.lane v3
   stopped-by kept others found = record {
-    zero = look-stops sys sound budget a.looks a.stack a.objects a.lane v3 n floor k.knows k.at count low
+    zero = look-stops sys sound terms a.looks a.stack a.objects a.lane v3 n floor k.knows k.at count low
         (λ m le. let other : (n == m) ≡ false = let lt : m < n = omega (arith, le, count) in grind (arith, nat_tests) in others m other ∙ ap (λ l. has_stim l m) lanes-two)
         (kept.told ∙ goes-two.told);
     why = inr found;
   }
 
-  pub looked-stopped : (base : Bool) → IsStopped n base v2 v3 → TurnStopped sys budget a.lane v3
+  pub looked-stopped : (base : Bool) → IsStopped n base v2 v3 → TurnStopped sys terms a.lane v3
   looked-stopped base h = stopped-by h.kept (by h.why) (rw (h.answered, grown.answered, ap (λ u. u.answered) room.same) (omega arith))
     where
       by : ((v3.happened ≡ v2.happened) × (is_unset v2 ≡ false)) ⊎ HappensToFail n base v2 v3 ⊎ HappensInPart n base v2 v3 ⊎ FindsNoRoom base v2 v3 → (m : ℕ) → (n == m) ≡ false → has_stim (lanes_of v3) m ≡ has_stim (lanes_of v2) m

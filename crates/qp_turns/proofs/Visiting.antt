@@ -11,7 +11,6 @@ use Rattle.qp_model.specs.declared.bodies.Body.TheVariants as body
 use Rattle.qp_model.specs.Acts.{Config}
 use Rattle.qp_model.specs.Course.{actor}
 use Rattle.qp_model.specs.Ends.{may_cut}
-use Rattle.qp_model.specs.Kernels.{sim}
 use Rattle.qp_model.specs.KernelLane.{Found, Inside}
 use Rattle.qp_model.specs.Sites.{object_at}
 use Rattle.qp_model.specs.Sound.{IsSound}
@@ -37,7 +36,7 @@ use Rattle.qp_dispatch.proofs.Taking.{taken-is}
 use Rattle.qp_kernel.specs.Happenings.{lanes_of}
 use Rattle.qp_kernel.specs.Stages as stage
 use Rattle.qp_kernel.specs.Stages.{Stage, is_resting}
-use Rattle.qp_kernel.specs.Turning.{IsObject, KernelState, Stands, having, moved, seen_told}
+use Rattle.qp_kernel.specs.Turning.{IsObject, KernelState, Stands, having, moved, seen_told, Terms, kernel_in}
 use Rattle.qp_kernel.specs.ZeroEnds.{ZeroEnds}
 use Rattle.qp_kernel.proofs.KernelLaws.{budget_ends, entry_is_seen, step_begins}
 use Rattle.qp_turns.specs.declared.objects.Objects.{Objects}
@@ -86,8 +85,8 @@ took-ceiling told f l m e ev p = ceiling-append 0 told (for_object p (taken f l 
 took-spills : (told : List ToldItem) (f l m : ℕ) (e : model.Entry) (ev : Event) (p : ℕ) → spills_in told ≡ false → spills_in (told ++ for_object p (taken f l m e ev) ∷ []) ≡ false
 took-spills told f l m e ev p none = spills-append p told (taken f l m e ev ∷ []) none refl
 
-module _ (sys : System) (sound : IsSound sys) (budget looks : ℕ) (stack : List ℕ) (xs : Objects) (v : LaneView) (p : ℕ) (others : List ℕ) (f l m : ℕ)
-    (k : Knows sys budget looks stack xs v) (at : IsScanning sys (p ∷ others) k.state) (some : m < f + l) where
+module _ (sys : System) (sound : IsSound sys) (terms : Terms) (looks : ℕ) (stack : List ℕ) (xs : Objects) (v : LaneView) (p : ℕ) (others : List ℕ) (f l m : ℕ)
+    (k : Knows sys terms looks stack xs v) (at : IsScanning sys terms (p ∷ others) k.state) (some : m < f + l) where
   abbrev n : IsNamed sys p
   n = at.above.0.0
 
@@ -126,25 +125,25 @@ module _ (sys : System) (sound : IsSound sys) (budget looks : ℕ) (stack : List
   at-rest = subst (λ x. StageIs sys n.object n.chart its.slot.object v x) (ap s.stages n.is ∙ config.1) its.is.stage
 
   -- it has taken its budget
-  pub spent-ends : (w : LaneView) → lanes_of w ≡ lanes_of v → budget ≤ its.slot.object.taken → w.told ≡ v.told ++ seen_told p f l m ∷ for_object p (plain body.Spent) ∷ []
-      → (end : ℕ) → may_cut end ≡ true → ZeroEnds sys sim budget end w.told (has_stim (lanes_of w))
+  pub spent-ends : (w : LaneView) → lanes_of w ≡ lanes_of v → terms.budget ≤ its.slot.object.taken → w.told ≡ v.told ++ seen_told p f l m ∷ for_object p (plain body.Spent) ∷ []
+      → (end : ℕ) → may_cut end ≡ true → ZeroEnds sys (kernel_in terms) terms.budget end w.told (has_stim (lanes_of w))
   spent-ends w lanes full told end cut =
       let most = k.stands.budgets p in
       let now : s.now ≡ has_stim (lanes_of w) = k.now ∙ ap has_stim (sym lanes) in
-      subst (λ ts. ZeroEnds sys sim budget end ts (has_stim (lanes_of w))) (ap (λ ts. ts ++ seen_told p f l m ∷ for_object p (plain body.Spent) ∷ []) k.told ∙ sym told)
-      (budget_ends sys budget end s (has_stim (lanes_of w)) p others f l m (numbered sys sound) (able sys sound) k.stands (agreed s (has_stim (lanes_of w)) now) cut at.owed at.stack.started
-      (looks-at sys sound budget looks stack xs v w p others f l m k at lanes) some (omega (arith, most, full, counted)) positive rests (all-wait sys s at.stack))
+      subst (λ ts. ZeroEnds sys (kernel_in terms) terms.budget end ts (has_stim (lanes_of w))) (ap (λ ts. ts ++ seen_told p f l m ∷ for_object p (plain body.Spent) ∷ []) k.told ∙ sym told)
+      (budget_ends sys terms end s (has_stim (lanes_of w)) p others f l m (numbered sys sound) (able sys sound) k.stands (agreed s (has_stim (lanes_of w)) now) cut at.owed at.stack.started
+      (looks-at sys sound terms looks stack xs v w p others f l m k at lanes) some (omega (arith, most, full, counted)) positive rests (all-wait sys s at.stack))
 
   -- the entry is seen
   abbrev pub found : KernelState
   found = record s { told = s.told ++ seen_told p f l m ∷ []; reading = record (s.reading) { place = Found p } }
 
-  pub found-stands : Stands sys budget found
-  found-stands = entry_is_seen sys budget s p others f l m (numbered sys sound) k.stands at.owed at.stack.started (looks-at sys sound budget looks stack xs v v p others f l m k at refl) some
+  pub found-stands : Stands sys terms found
+  found-stands = entry_is_seen sys terms s p others f l m (numbered sys sound) k.stands at.owed at.stack.started (looks-at sys sound terms looks stack xs v v p others f l m k at refl) some
 
   -- it takes its entry up
   module _ (w z : LaneView) (e : Entry) (ys : Objects) (later : Slot) (seen : w.told ≡ v.told ++ seen_told p f l m ∷ []) (same-hands : w.hands ≡ v.hands) (same-sys : w.sys ≡ v.sys) (lanes-w : lanes_of w ≡ lanes_of v)
-      (lane-w : IsLane sys xs.ceiling w) (takes : TakesIt p e w z) (few : its.slot.object.taken < budget) (put : IsPut xs ys p later) (threshold : later.threshold ≡ its.slot.threshold)
+      (lane-w : IsLane sys xs.ceiling w) (takes : TakesIt p e w z) (few : its.slot.object.taken < terms.budget) (put : IsPut xs ys p later) (threshold : later.threshold ≡ its.slot.threshold)
       (begins : BeginsStep e its.slot.object later.object) where
     abbrev c : Config
     c = config.0
@@ -166,9 +165,9 @@ module _ (sys : System) (sound : IsSound sys) (budget looks : ℕ) (stack : List
       entries = having s.entries p taken-up;
     }
 
-    after-stands : Stands sys budget after
+    after-stands : Stands sys terms after
     after-stands =
-        step_begins sys budget found p n.object n.chart takes.f takes.l takes.m (entry_of e) ev c (numbered sys sound) (able sys sound) object-is positive found-stands at.owed at.stack.started refl config.1
+        step_begins sys terms found p n.object n.chart takes.f takes.l takes.m (entry_of e) ev c (numbered sys sound) (able sys sound) object-is positive found-stands at.owed at.stack.started refl config.1
         (omega (arith, few, counted))
 
     k-slot : Lasting
@@ -246,7 +245,7 @@ module _ (sys : System) (sound : IsSound sys) (budget looks : ℕ) (stack : List
         no-spill = rw takes.adds.grows.told (took-spills w.told takes.f takes.l takes.m (entry_of e) ev p lane-w.spills)
 
     -- its step is under way
-    pub entered : KnowsAt (IsRunning sys p) sys budget looks (stack ++ p ∷ []) ys z
+    pub entered : KnowsAt (IsRunning sys p) sys terms looks (stack ++ p ∷ []) ys z
     entered = record {
       knows = record {
         state = after;

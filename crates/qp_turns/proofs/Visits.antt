@@ -21,7 +21,7 @@ use Rattle.qp_dispatch.proofs.ActLemmas.{last-snoc}
 use Rattle.qp_dispatch.proofs.Quiet.{ceiling-append, spills-append}
 use Rattle.qp_dispatch.specs.Objects.{BeginsStep}
 use Rattle.qp_kernel.specs.Happenings.{lanes_of}
-use Rattle.qp_kernel.specs.Turning.{seen_told}
+use Rattle.qp_kernel.specs.Turning.{seen_told, Terms}
 use Rattle.qp_turns.specs.declared.objects.Objects.{Objects}
 use Rattle.qp_turns.specs.Objects.{BeginsAt, MayBeginAt, taken_in, taken_there}
 use Rattle.qp_turns.specs.Knowing.{Descends, IsAbove, IsLane, IsNamed, IsRunning, IsScanning, KnowsAt}
@@ -58,20 +58,20 @@ depth sys sound p (q ∷ qs) some names descends above =
     let rest = depth sys sound q qs (omega (arith, n.is, one)) names.1 descends.1 descends.0 in
     let lt = above.0 in omega (arith, rest, lt)
 
-module _ (sys : System) (sound : IsSound sys) (budget : ℕ) (a : Stand) (floor place : ℕ) (o : ObjectDef) (at : slice_get sys.objects place ≡ Some o) where
+module _ (sys : System) (sound : IsSound sys) (terms : Terms) (a : Stand) (floor place : ℕ) (o : ObjectDef) (at : slice_get sys.objects place ≡ Some o) where
   -- an object that isn't above the floor
-  pub skipped : o.priority ≤ floor → Stood (IsScanning sys (row_below sys floor (place + 1))) sys budget a → Passed (row_below sys floor place) sys budget a a
+  pub skipped : o.priority ≤ floor → Stood (IsScanning sys terms (row_below sys floor (place + 1))) sys terms a → Passed (row_below sys floor place) sys terms a a
   skipped low k = record {
     looks = refl;
     stack = refl;
-    knows = subst (λ ps. Stood (IsScanning sys ps) sys budget a) (row-skip sys floor place o at low) k;
+    knows = subst (λ ps. Stood (IsScanning sys terms ps) sys terms a) (row-skip sys floor place o at low) k;
     onward = record { hands = follow-none a.objects a.lane a.lane refl; answered = refl; plan = refl };
     lanes = refl;
   }
 
-  module _ (high : floor < o.priority) (known : Stood (IsScanning sys (row_below sys floor (place + 1))) sys budget a) where
-    pub here : Stood (IsScanning sys (o.priority ∷ row_below sys floor place)) sys budget a
-    here = subst (λ ps. Stood (IsScanning sys ps) sys budget a) (row-next sys floor place o at high) known
+  module _ (high : floor < o.priority) (known : Stood (IsScanning sys terms (row_below sys floor (place + 1))) sys terms a) where
+    pub here : Stood (IsScanning sys terms (o.priority ∷ row_below sys floor place)) sys terms a
+    here = subst (λ ps. Stood (IsScanning sys terms ps) sys terms a) (row-next sys floor place o at high) known
 
     pub is-there : IsTrue (is_object sys o.priority)
     is-there = let n = here.at.above.0.0 in subst (λ i. IsTrue (is_object sys i)) n.is (is-object sys sound n.object n.found)
@@ -96,11 +96,11 @@ module _ (sys : System) (sound : IsSound sys) (budget : ℕ) (a : Stand) (floor 
       lanes : lanes_of v2 ≡ lanes_of a.lane
       lanes = same-lanes a.lane v2 (sees.0.grows.plan ∙ ap (λ u. u.plan) room.same) (sees.0.grows.happened ∙ ap (λ u. u.happened) room.same)
 
-      pub seen-empty : c.f + c.l ≤ c.m → Passed (row_below sys floor place) sys budget a (record a { lane = v2 })
+      pub seen-empty : c.f + c.l ≤ c.m → Passed (row_below sys floor place) sys terms a (record a { lane = v2 })
       seen-empty empty = record {
         looks = refl;
         stack = refl;
-        knows = passed sys sound budget a.looks a.stack a.objects a.lane v2 o.priority (row_below sys floor place) c.f c.l c.m here.knows here.at lanes goes empty;
+        knows = passed sys sound terms a.looks a.stack a.objects a.lane v2 o.priority (row_below sys floor place) c.f c.l c.m here.knows here.at lanes goes empty;
         onward = record {
           hands = follow-none a.objects a.lane v2 goes.hands;
           answered = sees.0.grows.answered ∙ ap (λ u. u.answered) room.same;
@@ -113,23 +113,23 @@ module _ (sys : System) (sound : IsSound sys) (budget : ℕ) (a : Stand) (floor 
         -- the object's count of entries
         pub its-count : (count : ℕ) → count ≡ taken_in a.objects.slots.items o.priority
             → count ≡ (here.knows.objects here.at.above.0.0.object here.at.above.0.0.chart here.at.above.0.0.found here.at.above.0.0.its).slot.object.taken
-        its-count count is = is ∙ ap taken_there (at-place sys sound budget a.looks a.stack a.objects a.lane o.priority (row_below sys floor place) c.f c.l c.m here.knows here.at some)
+        its-count count is = is ∙ ap taken_there (at-place sys sound terms a.looks a.stack a.objects a.lane o.priority (row_below sys floor place) c.f c.l c.m here.knows here.at some)
 
-        pub may-begin : (count : ℕ) → count ≡ taken_in a.objects.slots.items o.priority → count < budget → budget ≤ 1000000 → MayBeginAt o.priority a.objects
+        pub may-begin : (count : ℕ) → count ≡ taken_in a.objects.slots.items o.priority → count < terms.budget → terms.budget ≤ 1000000 → MayBeginAt o.priority a.objects
         may-begin count is few most =
-            let rest = at-rest sys sound budget a.looks a.stack a.objects a.lane o.priority (row_below sys floor place) c.f c.l c.m here.knows here.at some in
+            let rest = at-rest sys sound terms a.looks a.stack a.objects a.lane o.priority (row_below sys floor place) c.f c.l c.m here.knows here.at some in
             let same = its-count count is in
             record {
               slot = (here.knows.objects here.at.above.0.0.object here.at.above.0.0.chart here.at.above.0.0.found here.at.above.0.0.its).slot;
-              there = at-place sys sound budget a.looks a.stack a.objects a.lane o.priority (row_below sys floor place) c.f c.l c.m here.knows here.at some;
+              there = at-place sys sound terms a.looks a.stack a.objects a.lane o.priority (row_below sys floor place) c.f c.l c.m here.knows here.at some;
               between = rest.between;
               started = rest.started;
               few = omega (arith, same, few, most);
             }
 
         -- its budget is reached
-        pub spent-stops : (count : ℕ) (r : Rec) (v3 v4 : LaneView) → count ≡ taken_in a.objects.slots.items o.priority → budget ≤ count → item_of r ≡ record { of = o.priority; body = body.Spent }
-            → GrowsOf r.of (told_note r v2) v2 v3 → Stops 6 v3 v4 → TurnStopped sys budget a.lane v4
+        pub spent-stops : (count : ℕ) (r : Rec) (v3 v4 : LaneView) → count ≡ taken_in a.objects.slots.items o.priority → terms.budget ≤ count → item_of r ≡ record { of = o.priority; body = body.Spent }
+            → GrowsOf r.of (told_note r v2) v2 v3 → Stops 6 v3 v4 → TurnStopped sys terms a.lane v4
         unfolding last_code
         spent-stops count r v3 v4 is full note grown stops =
             let spent : GrowsOf o.priority (plain body.Spent ∷ []) v2 v3 = noted o.priority body.Spent r v2 v3 note grown in
@@ -139,7 +139,7 @@ module _ (sys : System) (sound : IsSound sys) (budget : ℕ) (a : Stand) (floor 
             ∙ append_assoc a.lane.told (seen_told o.priority c.f c.l c.m ∷ []) (for_object o.priority (plain body.Spent) ∷ []) in
             let still : lanes_of v4 ≡ lanes_of a.lane = same-lanes v2 v4 (ap (λ u. u.plan) stops ∙ spent.plan) (ap (λ u. u.happened) stops ∙ spent.happened) ∙ lanes in
             record {
-              zero = spent-ends sys sound budget a.looks a.stack a.objects a.lane o.priority (row_below sys floor place) c.f c.l c.m here.knows here.at some v4 still (omega (arith, same, full)) told;
+              zero = spent-ends sys sound terms a.looks a.stack a.objects a.lane o.priority (row_below sys floor place) c.f c.l c.m here.knows here.at some v4 still (omega (arith, same, full)) told;
               why = inl (rw (ap (λ u. u.told) stops, spent.told, last-snoc v2.told (for_object o.priority (plain body.Spent))) (omega arith));
             }
 
@@ -149,24 +149,24 @@ module _ (sys : System) (sound : IsSound sys) (budget : ℕ) (a : Stand) (floor 
             inr (omega arith, rw spent.told (last-snoc v2.told (for_object o.priority (plain body.Spent))))
 
         -- the stop word is found set
-        pub stop-found : (code : ℕ) (v3 : LaneView) → v3 ≡ record v2 { answered = code ∷ v2.answered } → TurnStopped sys budget a.lane v3
+        pub stop-found : (code : ℕ) (v3 : LaneView) → v3 ≡ record v2 { answered = code ∷ v2.answered } → TurnStopped sys terms a.lane v3
         stop-found code v3 is =
             let k = here.knows in
             record {
-              zero = stops-elsewhere sys sound budget (found sys sound budget a.looks a.stack a.objects a.lane o.priority (row_below sys floor place) c.f c.l c.m k here.at some) v2 v3
+              zero = stops-elsewhere sys sound terms (found sys sound terms a.looks a.stack a.objects a.lane o.priority (row_below sys floor place) c.f c.l c.m k here.at some) v2 v3
                   (ap (λ ts. ts ++ seen_told o.priority c.f c.l c.m ∷ []) k.told ∙ sym goes.told)
-                  (found-stands sys sound budget a.looks a.stack a.objects a.lane o.priority (row_below sys floor place) c.f c.l c.m k here.at some)
+                  (found-stands sys sound terms a.looks a.stack a.objects a.lane o.priority (row_below sys floor place) c.f c.l c.m k here.at some)
                   (k.now ∙ ap has_stim (sym lanes)) here.at.stack.started (all-wait sys k.state here.at.stack) (ap (λ u. u.plan) is) (ap (λ u. u.happened) is) (ap (λ u. u.told) is);
               why = inr (rw (is, sees.0.grows.answered, ap (λ u. u.answered) room.same) (omega arith));
             }
 
         -- its step begins
-        pub step-enters : (count : ℕ) (v3 v4 : LaneView) (e : Entry) (ys : Objects) (stack : List ℕ) → count ≡ taken_in a.objects.slots.items o.priority → count < budget → v3 ≡ v2 → TakesIt o.priority e v3 v4
-            → BeginsAt o.priority e a.objects ys → stack ≡ a.stack ++ o.priority ∷ [] → Entered sys budget a (record { looks = a.looks; stack = stack; objects = ys; lane = v4 })
+        pub step-enters : (count : ℕ) (v3 v4 : LaneView) (e : Entry) (ys : Objects) (stack : List ℕ) → count ≡ taken_in a.objects.slots.items o.priority → count < terms.budget → v3 ≡ v2 → TakesIt o.priority e v3 v4
+            → BeginsAt o.priority e a.objects ys → stack ≡ a.stack ++ o.priority ∷ [] → Entered sys terms a (record { looks = a.looks; stack = stack; objects = ys; lane = v4 })
         step-enters count v3 v4 e ys stack is few still takes begins pushed =
             let k = here.knows in
             let its = (k.objects here.at.above.0.0.object here.at.above.0.0.chart here.at.above.0.0.found here.at.above.0.0.its).slot in
-            let there = at-place sys sound budget a.looks a.stack a.objects a.lane o.priority (row_below sys floor place) c.f c.l c.m k here.at some in
+            let there = at-place sys sound terms a.looks a.stack a.objects a.lane o.priority (row_below sys floor place) c.f c.l c.m k here.at some in
             let same-slot : begins.slot ≡ its = some-same (some-same (sym begins.there ∙ there)) in
             let count-is = its-count count is in
             let took : TakesIt o.priority e v2 v4 = subst (λ u. TakesIt o.priority e u v4) still takes in
@@ -178,18 +178,18 @@ module _ (sys : System) (sound : IsSound sys) (budget : ℕ) (a : Stand) (floor 
             } in
             let begun : BeginsStep e its.object begins.later.object = subst (λ sl. BeginsStep e sl.object begins.later.object) same-slot begins.begins in
             let threshold : begins.later.threshold ≡ its.threshold = begins.threshold ∙ ap (λ sl. sl.threshold) same-slot in
-            let lower : its.object.taken < budget = omega (arith, count-is, few) in
+            let lower : its.object.taken < terms.budget = omega (arith, count-is, few) in
             record {
               looks = refl;
               runs = record {
                 p = o.priority;
                 outer = a.stack;
                 top = pushed;
-                knows = subst (λ l. KnowsAt (IsRunning sys o.priority) sys budget a.looks l ys v4) (sym pushed)
-                    (entered sys sound budget a.looks a.stack a.objects a.lane o.priority (row_below sys floor place) c.f c.l c.m k here.at some v2 v4 e ys begins.later goes.told goes.hands goes.of lanes lane took lower begins.put threshold begun);
+                knows = subst (λ l. KnowsAt (IsRunning sys o.priority) sys terms a.looks l ys v4) (sym pushed)
+                    (entered sys sound terms a.looks a.stack a.objects a.lane o.priority (row_below sys floor place) c.f c.l c.m k here.at some v2 v4 e ys begins.later goes.told goes.hands goes.of lanes lane took lower begins.put threshold begun);
               };
               onward = record {
-                hands = follows sys sound budget a.looks a.stack a.objects a.lane o.priority (row_below sys floor place) c.f c.l c.m k here.at some v2 v4 e ys begins.later goes.told goes.hands goes.of lanes lane took lower begins.put threshold begun;
+                hands = follows sys sound terms a.looks a.stack a.objects a.lane o.priority (row_below sys floor place) c.f c.l c.m k here.at some v2 v4 e ys begins.later goes.told goes.hands goes.of lanes lane took lower begins.put threshold begun;
                 answered = took.adds.grows.answered ∙ sees.0.grows.answered ∙ ap (λ u. u.answered) room.same;
                 plan = took.adds.grows.plan ∙ sees.0.grows.plan ∙ ap (λ u. u.plan) room.same;
               };

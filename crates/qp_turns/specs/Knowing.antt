@@ -13,7 +13,6 @@ use Rattle.qp_model.specs.Acts.{Config}
 use Rattle.qp_model.specs.Step.{Remainder}
 use Rattle.qp_model.specs.Course.{chart_at}
 use Rattle.qp_model.specs.Sites.{object_at}
-use Rattle.qp_model.specs.Kernels.{sim}
 use Rattle.qp_model.specs.KernelLane.{Reading, looking_at}
 use Rattle.qp_orders.specs.RunOrder.{has_stim}
 use Rattle.qp_calls.specs.Tokens.{Token}
@@ -34,7 +33,7 @@ use Rattle.qp_kernel.specs.Happenings.{lanes_of}
 use Rattle.qp_kernel.specs.LaneZero.{row_of, setting}
 use Rattle.qp_kernel.specs.Stages as stage
 use Rattle.qp_kernel.specs.Stages.{Stage, is_resting}
-use Rattle.qp_kernel.specs.Turning.{IsInStep, IsLookPlace, KernelState, Stands}
+use Rattle.qp_kernel.specs.Turning.{IsInStep, IsLookPlace, KernelState, Stands, Terms, kernel_in}
 use Rattle.qp_turns.specs.declared.objects.Objects.{Objects}
 use Rattle.qp_turns.specs.declared.objects.Slot.{Slot}
 use Rattle.qp_turns.specs.Objects.{IsAt}
@@ -123,10 +122,10 @@ pub record IsLane (sys : System) (ceiling : ℕ) (v : LaneView) : Type 0 where
   pub serves : (d : ObjectDef) → object_at sys d.priority ≡ Some d → v.serves d.priority ≡ true
 
 -- The kernel has looked so often, and these are the objects whose steps are under way, the outermost first.
-pub record Knows (sys : System) (budget looks : ℕ) (stack : List ℕ) (xs : Objects) (v : LaneView) : Type 0 where
+pub record Knows (sys : System) (terms : Terms) (looks : ℕ) (stack : List ℕ) (xs : Objects) (v : LaneView) : Type 0 where
   pub state : KernelState
   pub told : state.told ≡ v.told
-  pub stands : Stands sys budget state
+  pub stands : Stands sys terms state
   pub counted : state.reading.looks ≡ looks
   pub ceiling : state.reading.ceiling ≡ xs.ceiling
   pub lane : IsLane sys xs.ceiling v
@@ -138,8 +137,8 @@ pub record Knows (sys : System) (budget looks : ℕ) (stack : List ℕ) (xs : Ob
   pub hands : HandsCover xs v
 
 -- the same, and where the lane stands
-pub record KnowsAt (P : KernelState → Type 0) (sys : System) (budget looks : ℕ) (stack : List ℕ) (xs : Objects) (v : LaneView) : Type 0 where
-  pub knows : Knows sys budget looks stack xs v
+pub record KnowsAt (P : KernelState → Type 0) (sys : System) (terms : Terms) (looks : ℕ) (stack : List ℕ) (xs : Objects) (v : LaneView) : Type 0 where
+  pub knows : Knows sys terms looks stack xs v
   pub at : P knows.state
 
 -- Where the lane stands.
@@ -192,11 +191,11 @@ pub record MayLook (sys : System) (s : KernelState) : Type 0 where
   pub owed : s.owed ≡ row_of s.reading.place s.reading.running
 
 -- a look has come to these objects, which are above those under way
-pub record IsScanning (sys : System) (others : List ℕ) (s : KernelState) : Type 0 where
+pub record IsScanning (sys : System) (terms : Terms) (others : List ℕ) (s : KernelState) : Type 0 where
   pub stack : HasStack sys s.reading.running s
   pub owed : s.owed ≡ 0
   pub here : Reading
-  pub same : s.reading ≡ looking_at (setting sys sim s.now) here others
+  pub same : s.reading ≡ looking_at (setting sys (kernel_in terms) s.now) here others
   pub counted : here.looks ≡ s.upto
   pub above : AllByRecursion (λ p. IsNamed sys p × IsAbove p s.reading.running) others
 

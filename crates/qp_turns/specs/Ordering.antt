@@ -8,6 +8,7 @@ use Rattle.qp_model.specs.Ends.{may_cut}
 use Rattle.qp_model.specs.OneOrder.{acts_next}
 use Rattle.qp_model.specs.Sites.{object_at}
 use Rattle.qp_calls.specs.LaneView.{Counts, LaneView}
+use Rattle.qp_kernel.specs.Turning.{Terms}
 use Rattle.qp_dispatch.specs.declared.objects.Turn.{Turn}
 use Rattle.qp_dispatch.specs.declared.objects.Turn.TheVariants as turn
 use Rattle.qp_kernel.specs.Happenings.{IsInOrder, IsOrderEnded, has_no_stim, order_of}
@@ -39,9 +40,9 @@ pub record LookedInOrder (acts : Bool) (sys : System) (base : Bool) (b : Stand) 
   pub order : InOrder acts sys b.looks b.lane
   pub none : came ≡ false → acts ≡ true → NoneActs base sys b.lane
 
-abbrev pub LooksInOrder : Bool → System → Stand → Stand → Result Bool Halt → Type 0
-LooksInOrder acts sys a b (Ok came) = LookedInOrder acts sys (floor_of sys a == 0) b came
-LooksInOrder acts sys a b (Err h) = HaltsInOrder acts sys a.lane b.lane h
+abbrev pub LooksInOrder : Bool → System → Terms → Stand → Stand → Result Bool Halt → Type 0
+LooksInOrder acts sys terms a b (Ok came) = LookedInOrder acts sys (floor_of sys terms a == 0) b came
+LooksInOrder acts sys terms a b (Err h) = HaltsInOrder acts sys a.lane b.lane h
 
 -- the queue of p has no entry, as the lane last saw it
 pub record IsSeenEmpty (p : ℕ) (v : LaneView) : Type 0 where

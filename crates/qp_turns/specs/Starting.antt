@@ -14,7 +14,7 @@ use Rattle.qp_dispatch.specs.declared.steps.Step.TheVariants as step
 use Rattle.qp_kernel.specs.Happenings.{IsInOrder, IsOrderEnded, has_no_stim}
 use Rattle.qp_kernel.specs.Stages as stage
 use Rattle.qp_kernel.specs.Stages.{is_resting}
-use Rattle.qp_kernel.specs.Turning.{KernelState}
+use Rattle.qp_kernel.specs.Turning.{KernelState, Terms}
 use Rattle.qp_turns.specs.declared.objects.Objects.{Objects}
 use Rattle.qp_turns.specs.Knowing.{HandsFollow, KnowsAt, MayLook}
 use Rattle.qp_turns.specs.Turning.{TurnStopped}
@@ -36,7 +36,7 @@ pub record HasBegun (sys : System) (left : List ℕ) (s : KernelState) : Type 0 
 
 -- the same of the objects and their lane, whatever an object may take up
 pub record HaveBegun (sys : System) (left : List ℕ) (xs : Objects) (v : LaneView) : Type 0 where
-  pub knows : (budget : ℕ) → KnowsAt (HasBegun sys left) sys budget 0 [] xs v
+  pub knows : (terms : Terms) → KnowsAt (HasBegun sys left) sys terms 0 [] xs v
   pub order : IsInOrder sys 0 v
   pub no_stim : has_no_stim v
 
@@ -59,7 +59,7 @@ pub record GrowsAndStops (code : ℕ) (v w : LaneView) : Type 0 where
 
 -- a start ended in its assertion, or found no room
 pub record StartStopped (sys : System) (v w : LaneView) : Type 0 where
-  pub turn : (budget : ℕ) → TurnStopped sys budget v w
+  pub turn : (terms : Terms) → TurnStopped sys terms v w
   pub order : (end : ℕ) → may_cut end ≡ true → IsOrderEnded sys end w
   pub code : ℕ
   pub grows : GrowsAndStops code v w
@@ -73,7 +73,7 @@ StartsOne sys place xs ys v w step.Memory = GrowsAndStops 7 v w
 
 -- all objects rest, and a kernel that has not looked yet may look
 pub record AllStarted (sys : System) (xs ys : Objects) (v w : LaneView) : Type 0 where
-  pub knows : (budget : ℕ) → KnowsAt (MayLook sys) sys budget 0 [] ys w
+  pub knows : (terms : Terms) → KnowsAt (MayLook sys) sys terms 0 [] ys w
   pub order : IsInOrder sys 0 w
   pub no_stim : has_no_stim w
   pub grows : GrowsAlong xs v ys w

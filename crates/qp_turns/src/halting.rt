@@ -10,7 +10,7 @@ use qp_model::Rec;
 
 /// Why a turn doesn't go on.
 #[derive(Drop)]
-pub(crate) enum Halt {
+pub enum Halt {
     /// The lane has just stopped the run, or the stop word was found set.
     Stopped,
     /// Memory was refused.
@@ -37,7 +37,7 @@ fn give_up<O: Ops>(ops: &mut O, fault: RoomFault) -> Halt
 }
 
 /// Looks at the stop word, and makes room for eight records.
-pub(crate) fn ready<O: Ops>(ops: &mut O) -> Result<(), Halt>
+pub fn ready<O: Ops>(ops: &mut O) -> Result<(), Halt>
     requires { spills_in (O.lane ops.old).told ≡ false }
     ensures { Readies (O.lane ops.old) (O.lane ops.new) result }
 {

@@ -6,5 +6,6 @@ mod objects;
 mod starting;
 mod turning;
 
+pub use halting::{Halt, ready};
 pub use objects::Objects;
-pub use turning::kernel_turn;
+pub use turning::{Bounds, floor, kernel_turn, look, scan, step, top};

@@ -1,13 +1,13 @@
 //! The kernel's turn: rows of looks, and the steps that they find.
 
-ghost use Rattle.std.specs.Prelude.{◌≡◌, ◌+◌, ◌-◌, ◌<◌, ◌≤◌, [], length, reverse, slice_get};
-ghost use Rattle.qp_model.specs.Kernels.{sim};
+ghost use Rattle.std.specs.Prelude.{◌≡◌, ◌+◌, ◌-◌, ◌<◌, ◌≤◌, [], false, length, reverse, slice_get};
 ghost use Rattle.qp_model.specs.KernelLane.{above, floor_in};
 ghost use Rattle.qp_model.specs.Sound.{IsSound};
 ghost use Rattle.qp_stim.specs.Rules.{StimuliFit};
+ghost use Rattle.qp_kernel.specs.Turning.{kernel_in, under};
 ghost use Rattle.qp_turns.specs.Knowing.{IsScanning, MayLook};
 ghost use Rattle.qp_turns.specs.Ordering.{AreSeenEmpty, InOrder, LooksInOrder, RoundsInOrder, StepsInOrder, TurnsInOrder, VisitsInOrder};
-ghost use Rattle.qp_turns.specs.Turning.{AreHeld, EndsTo, LooksTo, RunsTop, StepsTo, Stood, TurnsTo, VisitsTo, floor_of, row_below, stand_of};
+ghost use Rattle.qp_turns.specs.Turning.{AreHeld, EndsTo, LooksTo, RunsTop, StepsTo, Stood, TurnsTo, VisitsTo, floor_of, row_below, stand_of, terms_of};
 
 use crate::halting::{Halt, ready};
 use crate::objects::Objects;
@@ -20,35 +20,45 @@ use std::marker::Brand;
 use std::sync::Wait;
 use std::sync::ledger::{Blank, Ledger};
 
-/// What a turn goes by: the system, and how many entries an object may take up in the run.
+/// The floor that no object is above.
+const ABOVE_ALL: u8 = 32;
+
+/// What a turn goes by: the system, how many entries an object may take up in the run, and whether the kernel is the
+/// cooperative one, whose steps never interrupt one another.
 #[derive(Clone, Copy)]
-struct Bounds<'a> {
-    sys: &'a System,
-    budget: u32,
+pub struct Bounds<'a> {
+    pub sys: &'a System,
+    pub budget: u32,
+    pub cooperative: bool,
 }
 
 /// The object whose step runs, the innermost of those under way.
-fn top(kernel: &Kernel) -> Option<u8>
+pub fn top(kernel: &Kernel) -> Option<u8>
     ensures { result ≡ slice_get kernel.now.stack.items (length kernel.now.stack.items - 1) }
 {
     kernel.stack.last().copied()
 }
 
-/// The floor of the next look: 0 at the base, else the larger of the running object's threshold and the ceiling.
-fn floor(sys: &System, objects: &Objects, kernel: &Kernel) -> u8
-    requires sound { IsSound sys.now }
-    requires named { AreHeld sys.now kernel.now.stack.items objects.now }
-    ensures { result ≡ floor_in sys.now sim (reverse kernel.now.stack.items) objects.now.ceiling }
+/// The floor of the next look: 0 at the base. Within a step it is the larger of the running object's threshold and the
+/// ceiling; under the cooperative kernel no object is above it.
+pub fn floor(at: &Bounds<'_>, objects: &Objects, kernel: &Kernel) -> u8
+    requires { AreHeld at.now.sys.now kernel.now.stack.items objects.now }
+    ensures { result ≡ floor_in at.now.sys.now (kernel_in (terms_of at.now)) (reverse kernel.now.stack.items) objects.now.ceiling }
 {
-    let _ = sys;
     match top(kernel) {
         None => 0,
-        Some(p) => objects.threshold(p).max(objects.ceiling),
+        Some(p) => {
+            if at.cooperative {
+                ABOVE_ALL
+            } else {
+                objects.threshold(p).max(objects.ceiling)
+            }
+        }
     }
 }
 
 /// Adds a look, and lets at most one stimulus happen in it. The answer tells whether one did.
-fn look<R: Wait, W: World, L: Ledger>(
+pub fn look<R: Wait, W: World, L: Ledger>(
     rt: &R,
     world: &mut W,
     at: &Bounds<'_>,
@@ -59,11 +69,11 @@ fn look<R: Wait, W: World, L: Ledger>(
 ) -> Result<bool, Halt>
     requires sound { IsSound at.now.sys.now }
     requires fit { StimuliFit at.now.sys.now (W.lane world.old).plan }
-    requires knows { Stood (MayLook at.now.sys.now) at.now.sys.now at.now.budget (stand_of kernel.old objects.now (W.lane world.old)) }
-    requires floor { floor ≡ floor_of at.now.sys.now (stand_of kernel.old objects.now (W.lane world.old)) }
+    requires knows { Stood (MayLook at.now.sys.now) at.now.sys.now (terms_of at.now) (stand_of kernel.old objects.now (W.lane world.old)) }
+    requires floor { floor ≡ floor_of at.now.sys.now (terms_of at.now) (stand_of kernel.old objects.now (W.lane world.old)) }
     requires order { InOrder W.acts at.now.sys.now kernel.old.looks (W.lane world.old) }
-    ensures goes { LooksTo at.now.sys.now at.now.budget (stand_of kernel.old objects.now (W.lane world.old)) (stand_of kernel.new objects.now (W.lane world.new)) result }
-    ensures order { LooksInOrder W.acts at.now.sys.now (stand_of kernel.old objects.now (W.lane world.old)) (stand_of kernel.new objects.now (W.lane world.new)) result }
+    ensures goes { LooksTo at.now.sys.now (terms_of at.now) (stand_of kernel.old objects.now (W.lane world.old)) (stand_of kernel.new objects.now (W.lane world.new)) result }
+    ensures order { LooksInOrder W.acts at.now.sys.now (terms_of at.now) (stand_of kernel.old objects.now (W.lane world.old)) (stand_of kernel.new objects.now (W.lane world.new)) result }
 {
     ready(world)?;
     if kernel.looks == u32::MAX {
@@ -94,11 +104,11 @@ fn visit<R: Wait, W: World, G: Gate>(
     requires sound { IsSound at.now.sys.now }
     requires few { at.now.budget ≤ 1000000 }
     requires place { place < length at.now.sys.now.objects }
-    requires knows { Stood (IsScanning at.now.sys.now (row_below at.now.sys.now floor (place + 1))) at.now.sys.now at.now.budget
+    requires knows { Stood (IsScanning at.now.sys.now (terms_of at.now) (row_below at.now.sys.now floor (place + 1))) at.now.sys.now (terms_of at.now)
         (stand_of kernel.old objects.old (W.lane world.old)) }
     requires order { InOrder W.acts at.now.sys.now kernel.old.looks (W.lane world.old) }
     requires seen { AreSeenEmpty at.now.sys.now floor (place + 1) (W.lane world.old) }
-    ensures goes { VisitsTo (row_below at.now.sys.now floor place) at.now.sys.now at.now.budget (stand_of kernel.old objects.old (W.lane world.old))
+    ensures goes { VisitsTo (row_below at.now.sys.now floor place) at.now.sys.now (terms_of at.now) (stand_of kernel.old objects.old (W.lane world.old))
         (stand_of kernel.new objects.new (W.lane world.new)) result }
     ensures order { VisitsInOrder W.acts at.now.sys.now floor place (stand_of kernel.old objects.old (W.lane world.old)) (stand_of kernel.new objects.new (W.lane world.new)) result }
 {
@@ -142,7 +152,7 @@ fn count(sys: &System) -> usize
 
 /// Looks at the objects above the floor in descending priority, up to the first with an entry, whose step begins. The
 /// answer tells whether there is one.
-fn scan<R: Wait, W: World, G: Gate>(
+pub fn scan<R: Wait, W: World, G: Gate>(
     rt: &R,
     world: &mut W,
     at: &Bounds<'_>,
@@ -153,9 +163,9 @@ fn scan<R: Wait, W: World, G: Gate>(
 ) -> Result<bool, Halt>
     requires sound { IsSound at.now.sys.now }
     requires few { at.now.budget ≤ 1000000 }
-    requires knows { Stood (IsScanning at.now.sys.now (above at.now.sys.now floor)) at.now.sys.now at.now.budget (stand_of kernel.old objects.old (W.lane world.old)) }
+    requires knows { Stood (IsScanning at.now.sys.now (terms_of at.now) (above at.now.sys.now floor)) at.now.sys.now (terms_of at.now) (stand_of kernel.old objects.old (W.lane world.old)) }
     requires order { InOrder W.acts at.now.sys.now kernel.old.looks (W.lane world.old) }
-    ensures goes { VisitsTo [] at.now.sys.now at.now.budget (stand_of kernel.old objects.old (W.lane world.old)) (stand_of kernel.new objects.new (W.lane world.new)) result }
+    ensures goes { VisitsTo [] at.now.sys.now (terms_of at.now) (stand_of kernel.old objects.old (W.lane world.old)) (stand_of kernel.new objects.new (W.lane world.new)) result }
     ensures order { VisitsInOrder W.acts at.now.sys.now floor 0 (stand_of kernel.old objects.old (W.lane world.old)) (stand_of kernel.new objects.new (W.lane world.new)) result }
 {
     let many = count(at.sys);
@@ -168,15 +178,15 @@ fn scan<R: Wait, W: World, G: Gate>(
 }
 
 /// Goes on with the step at the top of the stack, up to its next scheduling point or to its end.
-fn step<O: Ops>(
+pub fn step<O: Ops>(
     world: &mut O,
     at: &Bounds<'_>,
     objects: &mut Objects,
     kernel: &mut Kernel,
 ) -> Result<(), Halt>
     requires sound { IsSound at.now.sys.now }
-    requires knows { RunsTop at.now.sys.now at.now.budget (stand_of kernel.old objects.old (O.lane world.old)) }
-    ensures goes { StepsTo at.now.sys.now at.now.budget (stand_of kernel.old objects.old (O.lane world.old)) (stand_of kernel.new objects.new (O.lane world.new)) result }
+    requires knows { RunsTop at.now.sys.now (terms_of at.now) (stand_of kernel.old objects.old (O.lane world.old)) }
+    ensures goes { StepsTo at.now.sys.now (terms_of at.now) (stand_of kernel.old objects.old (O.lane world.old)) (stand_of kernel.new objects.new (O.lane world.new)) result }
     ensures order { StepsInOrder at.now.sys.now (stand_of kernel.old objects.old (O.lane world.old)) (stand_of kernel.new objects.new (O.lane world.new)) result }
 {
     let Some(p) = top(kernel) else {
@@ -209,17 +219,18 @@ fn rounds<R: Wait, W: World, G: Gate, L: Ledger>(
     requires name { blank.name ≡ L.name }
     requires parts { blank.parts ≡ L.parts }
     requires some { 0 < blank.parts }
+    requires plain { at.now.cooperative ≡ false }
     requires sound { IsSound at.now.sys.now }
     requires few { at.now.budget ≤ 1000000 }
     requires fit { StimuliFit at.now.sys.now (W.lane world.old).plan }
-    requires knows { Stood (MayLook at.now.sys.now) at.now.sys.now at.now.budget (stand_of kernel.old objects.old (W.lane world.old)) }
+    requires knows { Stood (MayLook at.now.sys.now) at.now.sys.now (terms_of at.now) (stand_of kernel.old objects.old (W.lane world.old)) }
     requires order { InOrder W.acts at.now.sys.now kernel.old.looks (W.lane world.old) }
-    ensures goes { EndsTo at.now.sys.now at.now.budget (stand_of kernel.old objects.old (W.lane world.old)) (stand_of kernel.new objects.new (W.lane world.new)) result }
+    ensures goes { EndsTo at.now.sys.now (terms_of at.now) (stand_of kernel.old objects.old (W.lane world.old)) (stand_of kernel.new objects.new (W.lane world.new)) result }
     ensures order { RoundsInOrder W.acts at.now.sys.now (stand_of kernel.old objects.old (W.lane world.old)) (stand_of kernel.new objects.new (W.lane world.new)) result }
 {
     let mut steps = Steps::<L>::open(blank);
     for _ in rt.forever() {
-        let low = floor(at.sys, objects, kernel);
+        let low = floor(at, objects, kernel);
         let happened = look(rt, world, at, objects, kernel, low, &mut steps)?;
         let found = scan(rt, world, at, objects, kernel, gate, low)?;
         if found {
@@ -253,12 +264,16 @@ pub fn kernel_turn<R: Wait, W: World, G: Gate>(
     requires sound { IsSound sys.now }
     requires few { budget ≤ 1000000 }
     requires fit { StimuliFit sys.now (W.lane world.old).plan }
-    requires knows { Stood (MayLook sys.now) sys.now budget (stand_of kernel.old objects.old (W.lane world.old)) }
+    requires knows { Stood (MayLook sys.now) sys.now (under false budget) (stand_of kernel.old objects.old (W.lane world.old)) }
     requires order { InOrder W.acts sys.now kernel.old.looks (W.lane world.old) }
-    ensures goes { TurnsTo sys.now budget (stand_of kernel.old objects.old (W.lane world.old)) (stand_of kernel.new objects.new (W.lane world.new)) result }
+    ensures goes { TurnsTo sys.now (under false budget) (stand_of kernel.old objects.old (W.lane world.old)) (stand_of kernel.new objects.new (W.lane world.new)) result }
     ensures order { TurnsInOrder W.acts sys.now (stand_of kernel.old objects.old (W.lane world.old)) (stand_of kernel.new objects.new (W.lane world.new)) result }
 {
-    let at = Bounds { sys, budget };
+    let at = Bounds {
+        sys,
+        budget,
+        cooperative: false,
+    };
     match rounds::<R, W, G, Brand>(rt, world, &at, objects, kernel, gate, Blank::new(1)) {
         Ok(()) => Turn::Idle,
         Err(Halt::Stopped) => Turn::Stopped,

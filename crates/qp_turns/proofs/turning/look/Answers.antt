@@ -4,7 +4,7 @@ use Rattle.qp_calls.proofs.Growing.{room-then}
 use Rattle.qp_calls.proofs.Noting.{may-note}
 use Rattle.qp_kernel.specs.Turning.{look_told}
 use Rattle.qp_turns.specs.Ordering.{LookedInOrder}
-use Rattle.qp_turns.specs.Turning.{stand_of}
+use Rattle.qp_turns.specs.Turning.{stand_of, terms_of}
 use Rattle.qp_turns.proofs.Halted.{halts-turn}
 use Rattle.qp_turns.proofs.Ordered.{halts-in_order, none-in_order, some-in_order, stopped-in_order, unset-still}
 use Rattle.qp_turns.proofs.Staying.{all-wait}
@@ -20,7 +20,7 @@ returns-in_err-ready g c =
     let p = err_from_is_err_and c.from_residual.result c.from_residual.ensures.1 in
     rw (p.1, p.2) (record {
       goes =
-          halts-turn sys c.requires.sound c.args.at.now.budget k.knows.state (lane c.args.world.now) (lane c.ready.new.ops) c.in_err-ready.field-0.0 k.knows.told k.knows.stands k.knows.now k.at.stack.started (all-wait sys k.knows.state k.at.stack)
+          halts-turn sys c.requires.sound (terms_of c.args.at.now) k.knows.state (lane c.args.world.now) (lane c.ready.new.ops) c.in_err-ready.field-0.0 k.knows.told k.knows.stands k.knows.now k.at.stack.started (all-wait sys k.knows.state k.at.stack)
           c.in_err-ready.ensures;
       order = halts-in_order g.W.World.acts sys c.args.kernel.now.looks (lane c.args.world.now) (lane c.ready.new.ops) c.in_err-ready.field-0.0 c.in_err-ready.ensures c.requires.order;
     })
@@ -41,7 +41,7 @@ returns-in-Happened g c =
     let note = noted 0 (body.Look n c.args.floor) c.look.result v1 v2 c.look.ensures c.note.ensures.grows in
     let gains = room-then (look_told n c.args.floor ∷ []) (lane c.args.world.now) v1 v2 c.in_ok-ready.ensures.roomier note in
     record {
-      goes = looked-some sys c.requires.sound c.args.at.now.budget _ c.requires.knows n c.args.floor refl c.requires.floor v1 v2 v3 c.in_ok-ready.ensures.roomier note _ c.in-Happened.ensures.1;
+      goes = looked-some sys c.requires.sound (terms_of c.args.at.now) _ c.requires.knows n c.args.floor refl c.requires.floor v1 v2 v3 c.in_ok-ready.ensures.roomier note _ c.in-Happened.ensures.1;
       order =
           subst (λ f. LookedInOrder g.W.World.acts sys (f == 0) (record { looks = n; stack = c.args.kernel.now.stack.items; objects = c.args.objects.now; lane = v3 }) true) c.requires.floor
           (some-in_order g.W.World.acts sys c.args.kernel.now.looks n c.args.floor _ (lane c.args.world.now) v2 v3 c.requires.knows.knows.lane.of gains refl refl c.requires.order (stand_of c.args.kernel.now c.args.objects.now (lane c.args.world.now)) c.in-Happened.ensures.1);
@@ -58,7 +58,7 @@ returns-in-Nothing g c =
     let note = noted 0 (body.Look n c.args.floor) c.look.result v1 v2 c.look.ensures c.note.ensures.grows in
     let gains = room-then (look_told n c.args.floor ∷ []) (lane c.args.world.now) v1 v2 c.in_ok-ready.ensures.roomier note in
     record {
-      goes = looked-none sys c.requires.sound c.args.at.now.budget _ c.requires.knows n c.args.floor refl c.requires.floor v1 v2 v3 c.in_ok-ready.ensures.roomier note _ _ c.in-Nothing.ensures;
+      goes = looked-none sys c.requires.sound (terms_of c.args.at.now) _ c.requires.knows n c.args.floor refl c.requires.floor v1 v2 v3 c.in_ok-ready.ensures.roomier note _ _ c.in-Nothing.ensures;
       order =
           subst (λ f. LookedInOrder g.W.World.acts sys (f == 0) (record { looks = n; stack = c.args.kernel.now.stack.items; objects = c.args.objects.now; lane = v3 }) false) c.requires.floor
           (none-in_order g.W.World.acts sys c.args.kernel.now.looks n c.args.floor _ (lane c.args.world.now) v2 v3 c.requires.knows.knows.lane.of gains refl refl c.requires.order (stand_of c.args.kernel.now c.args.objects.now (lane c.args.world.now)) c.in-Nothing.ensures);
@@ -75,7 +75,7 @@ returns-in-Stopped g c =
     let note = noted 0 (body.Look n c.args.floor) c.look.result v1 v2 c.look.ensures c.note.ensures.grows in
     let gains = room-then (look_told n c.args.floor ∷ []) (lane c.args.world.now) v1 v2 c.in_ok-ready.ensures.roomier note in
     record {
-      goes = looked-stopped sys c.requires.sound c.args.at.now.budget _ c.requires.knows n c.args.floor refl c.requires.floor v1 v2 v3 c.in_ok-ready.ensures.roomier note _ c.in-Stopped.ensures;
+      goes = looked-stopped sys c.requires.sound (terms_of c.args.at.now) _ c.requires.knows n c.args.floor refl c.requires.floor v1 v2 v3 c.in_ok-ready.ensures.roomier note _ c.in-Stopped.ensures;
       order =
           stopped-in_order g.W.World.acts sys c.args.kernel.now.looks n c.args.floor _ (lane c.args.world.now) v2 v3 c.requires.knows.knows.lane.of gains refl refl c.requires.order
           c.in-Stopped.ensures (unset-still (look_told n c.args.floor ∷ []) (lane c.args.world.now) v2 gains c.in_ok-ready.ensures.unset);

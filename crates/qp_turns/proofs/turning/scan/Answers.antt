@@ -1,7 +1,7 @@
 use Rattle.std.proofs.Common.{◌≡◌, ◌+◌, ◌-◌, ◌∙◌, ap, arith, refl, subst, sym}
 use Rattle.qp_turns.specs.Knowing.{IsScanning}
 use Rattle.qp_turns.specs.Ordering.{AreSeenEmpty, PassedInOrder}
-use Rattle.qp_turns.specs.Turning.{Passed, Stood, row_below, stand_of}
+use Rattle.qp_turns.specs.Turning.{Passed, Stood, row_below, stand_of, terms_of}
 use Rattle.qp_turns.proofs.Ordered.{seen-none}
 use Rattle.qp_turns.proofs.Rows.{row-whole}
 use Rattle.qp_turns.proofs.Rounds.{onward-none, row-none}
@@ -15,7 +15,7 @@ loop-place-init g c =
       passed = record {
         looks = refl;
         stack = refl;
-        knows = subst (λ ps. Stood (IsScanning sys ps) sys c.args.at.now.budget (stand_of c.args.kernel.now c.args.objects.now (g.W.Ops.lane c.args.world.now))) (sym all) c.requires.knows;
+        knows = subst (λ ps. Stood (IsScanning sys (terms_of c.args.at.now) ps) sys (terms_of c.args.at.now) (stand_of c.args.kernel.now c.args.objects.now (g.W.Ops.lane c.args.world.now))) (sym all) c.requires.knows;
         onward = onward-none c.args.objects.now (g.W.Ops.lane c.args.world.now);
         lanes = refl;
       };
@@ -31,7 +31,7 @@ visit-requires-clause-knows g c =
     let sys = c.args.at.now.sys.now in
     λ lifetimes outlive.
     let same : c.loop-place.place ≡ c.loop-place.place - 1 + 1 = omega (arith, c.loop-place-test.true) in
-    subst (λ m. Stood (IsScanning sys (row_below sys c.args.floor m)) sys c.args.at.now.budget (stand_of c.loop-place.kernel c.loop-place.objects (g.W.Ops.lane c.loop-place.world))) same c.loop-place.invariant.passed.knows
+    subst (λ m. Stood (IsScanning sys (terms_of c.args.at.now) (row_below sys c.args.floor m)) sys (terms_of c.args.at.now) (stand_of c.loop-place.kernel c.loop-place.objects (g.W.Ops.lane c.loop-place.world))) same c.loop-place.invariant.passed.knows
 
 pub visit-requires-clause-seen : goal.visit-requires-clause-seen
 visit-requires-clause-seen g c =
@@ -48,7 +48,7 @@ returns g c =
     let all = ap (row_below sys c.args.floor) none ∙ row-none sys c.args.floor in
     record {
       goes =
-          subst (λ ps. Passed ps sys c.args.at.now.budget (stand_of c.args.kernel.now c.args.objects.now (lane c.args.world.now)) (stand_of c.loop-place.kernel c.loop-place.objects (lane c.loop-place.world))) all c.loop-place.invariant.passed;
+          subst (λ ps. Passed ps sys (terms_of c.args.at.now) (stand_of c.args.kernel.now c.args.objects.now (lane c.args.world.now)) (stand_of c.loop-place.kernel c.loop-place.objects (lane c.loop-place.world))) all c.loop-place.invariant.passed;
       order =
           subst (λ m. PassedInOrder g.W.World.acts sys c.args.floor m (stand_of c.args.kernel.now c.args.objects.now (lane c.args.world.now)) (stand_of c.loop-place.kernel c.loop-place.objects (lane c.loop-place.world))) none c.loop-place.invariant.order;
     }

@@ -1,11 +1,11 @@
 use Rattle.qp_turns.specs.Ordering.{PassedInOrder}
-use Rattle.qp_turns.specs.Turning.{Passed, row_below, stand_of}
+use Rattle.qp_turns.specs.Turning.{Passed, row_below, stand_of, terms_of}
 use Rattle.qp_turns.proofs.turning.scan.Given as goal
 
 -- the objects visited so far had empty queues
 abbrev pub invariant-loop-place : goal.invariant-loop-place
 invariant-loop-place g l =
     record {
-      passed : Passed (row_below l.at.sys.now l.floor l.place) l.at.sys.now l.at.budget (stand_of l.fn.kernel l.fn.objects (g.W.Ops.lane l.fn.world)) (stand_of l.kernel l.objects (g.W.Ops.lane l.world));
+      passed : Passed (row_below l.at.sys.now l.floor l.place) l.at.sys.now (terms_of l.at) (stand_of l.fn.kernel l.fn.objects (g.W.Ops.lane l.fn.world)) (stand_of l.kernel l.objects (g.W.Ops.lane l.world));
       order : PassedInOrder g.W.World.acts l.at.sys.now l.floor l.place (stand_of l.fn.kernel l.fn.objects (g.W.Ops.lane l.fn.world)) (stand_of l.kernel l.objects (g.W.Ops.lane l.world));
     }

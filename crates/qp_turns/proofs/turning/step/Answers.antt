@@ -5,15 +5,16 @@ use Rattle.qp_turns.specs.Objects.{MayResumeAt, ResumesAt}
 use Rattle.qp_turns.proofs.Stepping.{after-step, may-resume, order-after}
 use Rattle.qp_turns.proofs.Tops.{popped-is, top-is}
 use Rattle.qp_turns.proofs.turning.step.Goals as goal
+use Rattle.qp_turns.specs.Turning.{terms_of}
 
 pub resume-answer-requires : goal.resume-answer-requires
 resume-answer-requires g c =
     let r = c.requires.knows in
     let sys = c.args.at.now.sys.now in
     let v = g.O.Ops.lane c.args.world.now in
-    let k = subst (λ l. KnowsAt (IsRunning sys r.p) sys c.args.at.now.budget c.args.kernel.now.looks l c.args.objects.now v) r.top r.knows in
+    let k = subst (λ l. KnowsAt (IsRunning sys r.p) sys (terms_of c.args.at.now) c.args.kernel.now.looks l c.args.objects.now v) r.top r.knows in
     let same = top-is c.args.kernel.now.stack.items r.outer r.p c.in-Some.p r.top c.in-Some.ensures in
-    subst (λ p. MayResumeAt sys c.args.objects.now.ceiling p c.args.objects.now v) (sym same) (may-resume sys c.requires.sound c.args.at.now.budget c.args.kernel.now.looks r.outer r.p c.args.objects.now v k.knows k.at)
+    subst (λ p. MayResumeAt sys c.args.objects.now.ceiling p c.args.objects.now v) (sym same) (may-resume sys c.requires.sound (terms_of c.args.at.now) c.args.kernel.now.looks r.outer r.p c.args.objects.now v k.knows k.at)
 
 pub returns-in-Point : goal.returns-in-Point
 returns-in-Point g c =
@@ -22,17 +23,17 @@ returns-in-Point g c =
     let lane = g.O.Ops.lane in
     let v = lane c.args.world.now in
     let w = lane c.resume-answer.new.ops in
-    let k = subst (λ l. KnowsAt (IsRunning sys r.p) sys c.args.at.now.budget c.args.kernel.now.looks l c.args.objects.now v) r.top r.knows in
+    let k = subst (λ l. KnowsAt (IsRunning sys r.p) sys (terms_of c.args.at.now) c.args.kernel.now.looks l c.args.objects.now v) r.top r.knows in
     let same = top-is c.args.kernel.now.stack.items r.outer r.p c.in-Some.p r.top c.in-Some.ensures in
-    let a = after-step sys c.requires.sound c.args.at.now.budget c.args.kernel.now.looks r.outer r.p c.args.objects.now v k.knows k.at c.resume-answer.new.ceiling c.resume-answer.new.self w step.Point
+    let a = after-step sys c.requires.sound (terms_of c.args.at.now) c.args.kernel.now.looks r.outer r.p c.args.objects.now v k.knows k.at c.resume-answer.new.ceiling c.resume-answer.new.self w step.Point
     (subst (λ p. ResumesAt sys c.args.objects.now.ceiling c.resume-answer.new.ceiling p c.args.objects.now c.resume-answer.new.self v w step.Point) same c.in-Point.ensures) in
     record {
       goes = record {
         looks = refl;
-        knows = subst (λ l. KnowsAt (MayLook sys) sys c.args.at.now.budget c.args.kernel.now.looks l (record (c.resume-answer.new.self) { ceiling = c.resume-answer.new.ceiling }) w) (sym r.top) a.0;
+        knows = subst (λ l. KnowsAt (MayLook sys) sys (terms_of c.args.at.now) c.args.kernel.now.looks l (record (c.resume-answer.new.self) { ceiling = c.resume-answer.new.ceiling }) w) (sym r.top) a.0;
         onward = a.1;
       };
-      order = λ acts h. order-after sys c.requires.sound c.args.at.now.budget c.args.kernel.now.looks r.outer r.p c.args.objects.now v k.knows k.at acts h c.resume-answer.new.ceiling c.resume-answer.new.self w step.Point
+      order = λ acts h. order-after sys c.requires.sound (terms_of c.args.at.now) c.args.kernel.now.looks r.outer r.p c.args.objects.now v k.knows k.at acts h c.resume-answer.new.ceiling c.resume-answer.new.self w step.Point
           (subst (λ p. ResumesAt sys c.args.objects.now.ceiling c.resume-answer.new.ceiling p c.args.objects.now c.resume-answer.new.self v w step.Point) same c.in-Point.ensures);
     }
 
@@ -43,17 +44,17 @@ returns-in-Done g c =
     let lane = g.O.Ops.lane in
     let v = lane c.args.world.now in
     let w = lane c.resume-answer.new.ops in
-    let k = subst (λ l. KnowsAt (IsRunning sys r.p) sys c.args.at.now.budget c.args.kernel.now.looks l c.args.objects.now v) r.top r.knows in
+    let k = subst (λ l. KnowsAt (IsRunning sys r.p) sys (terms_of c.args.at.now) c.args.kernel.now.looks l c.args.objects.now v) r.top r.knows in
     let same = top-is c.args.kernel.now.stack.items r.outer r.p c.in-Some.p r.top c.in-Some.ensures in
-    let a = after-step sys c.requires.sound c.args.at.now.budget c.args.kernel.now.looks r.outer r.p c.args.objects.now v k.knows k.at c.resume-answer.new.ceiling c.resume-answer.new.self w step.Done
+    let a = after-step sys c.requires.sound (terms_of c.args.at.now) c.args.kernel.now.looks r.outer r.p c.args.objects.now v k.knows k.at c.resume-answer.new.ceiling c.resume-answer.new.self w step.Done
     (subst (λ p. ResumesAt sys c.args.objects.now.ceiling c.resume-answer.new.ceiling p c.args.objects.now c.resume-answer.new.self v w step.Done) same c.in-Done.ensures) in
     record {
       goes = record {
         looks = refl;
-        knows = subst (λ l. KnowsAt (MayLook sys) sys c.args.at.now.budget c.args.kernel.now.looks l (record (c.resume-answer.new.self) { ceiling = c.resume-answer.new.ceiling }) w) (sym (popped-is c.args.kernel.now.stack.items r.outer c.pop.new.self.items r.p c.pop.result r.top c.pop.ensures.items c.pop.ensures.variant.1)) a.0;
+        knows = subst (λ l. KnowsAt (MayLook sys) sys (terms_of c.args.at.now) c.args.kernel.now.looks l (record (c.resume-answer.new.self) { ceiling = c.resume-answer.new.ceiling }) w) (sym (popped-is c.args.kernel.now.stack.items r.outer c.pop.new.self.items r.p c.pop.result r.top c.pop.ensures.items c.pop.ensures.variant.1)) a.0;
         onward = a.1;
       };
-      order = λ acts h. order-after sys c.requires.sound c.args.at.now.budget c.args.kernel.now.looks r.outer r.p c.args.objects.now v k.knows k.at acts h c.resume-answer.new.ceiling c.resume-answer.new.self w step.Done
+      order = λ acts h. order-after sys c.requires.sound (terms_of c.args.at.now) c.args.kernel.now.looks r.outer r.p c.args.objects.now v k.knows k.at acts h c.resume-answer.new.ceiling c.resume-answer.new.self w step.Done
           (subst (λ p. ResumesAt sys c.args.objects.now.ceiling c.resume-answer.new.ceiling p c.args.objects.now c.resume-answer.new.self v w step.Done) same c.in-Done.ensures);
     }
 
@@ -64,11 +65,11 @@ returns-in-Stopped g c =
     let lane = g.O.Ops.lane in
     let v = lane c.args.world.now in
     let w = lane c.resume-answer.new.ops in
-    let k = subst (λ l. KnowsAt (IsRunning sys r.p) sys c.args.at.now.budget c.args.kernel.now.looks l c.args.objects.now v) r.top r.knows in
+    let k = subst (λ l. KnowsAt (IsRunning sys r.p) sys (terms_of c.args.at.now) c.args.kernel.now.looks l c.args.objects.now v) r.top r.knows in
     let same = top-is c.args.kernel.now.stack.items r.outer r.p c.in-Some.p r.top c.in-Some.ensures in
     record {
-      goes = after-step sys c.requires.sound c.args.at.now.budget c.args.kernel.now.looks r.outer r.p c.args.objects.now v k.knows k.at c.resume-answer.new.ceiling c.resume-answer.new.self w step.Stopped
+      goes = after-step sys c.requires.sound (terms_of c.args.at.now) c.args.kernel.now.looks r.outer r.p c.args.objects.now v k.knows k.at c.resume-answer.new.ceiling c.resume-answer.new.self w step.Stopped
           (subst (λ p. ResumesAt sys c.args.objects.now.ceiling c.resume-answer.new.ceiling p c.args.objects.now c.resume-answer.new.self v w step.Stopped) same c.in-Stopped.ensures);
-      order = λ acts h. order-after sys c.requires.sound c.args.at.now.budget c.args.kernel.now.looks r.outer r.p c.args.objects.now v k.knows k.at acts h c.resume-answer.new.ceiling c.resume-answer.new.self w step.Stopped
+      order = λ acts h. order-after sys c.requires.sound (terms_of c.args.at.now) c.args.kernel.now.looks r.outer r.p c.args.objects.now v k.knows k.at acts h c.resume-answer.new.ceiling c.resume-answer.new.self w step.Stopped
           (subst (λ p. ResumesAt sys c.args.objects.now.ceiling c.resume-answer.new.ceiling p c.args.objects.now c.resume-answer.new.self v w step.Stopped) same c.in-Stopped.ensures);
     }

@@ -6,7 +6,7 @@ use Rattle.std.proofs.lemmas.Result.{err_from_is_err_and}
 use Rattle.qp_model.specs.declared.bodies.Body.TheVariants as body
 use Rattle.qp_model.specs.WordLaw.{is_object}
 use Rattle.qp_calls.proofs.Noting.{may-note}
-use Rattle.qp_turns.specs.Turning.{stand_of}
+use Rattle.qp_turns.specs.Turning.{stand_of, terms_of}
 use Rattle.qp_turns.proofs.Halted.{halts-turn}
 use Rattle.qp_turns.proofs.Ordered.{halts-in_order, passed-in_order, seen-skip, spent-in_order, stopped-seen, took-in_order}
 use Rattle.qp_turns.proofs.Staying.{all-wait}
@@ -19,7 +19,7 @@ returns-then-p-floor g c =
     let o = c.index-object.result.now in
     let at = slice_get_read sys.objects (length sys.objects) c.args.place o refl c.requires.place (c.index-object.ensures ∙ ap (λ xs. get_or xs c.args.place o) (ap (λ (y : System). y.objects) c.sys.view_is)) in
     record {
-      goes = skipped sys c.requires.sound c.args.at.now.budget _ c.args.floor c.args.place o at c.if-p-floor.true c.requires.knows;
+      goes = skipped sys c.requires.sound (terms_of c.args.at.now) _ c.args.floor c.args.place o at c.if-p-floor.true c.requires.knows;
       order = record { order = c.requires.order; none = λ base acting h. h; empty = seen-skip sys c.args.floor c.args.place o (g.W.Ops.lane c.args.world.now) at c.if-p-floor.true c.requires.seen };
     }
 
@@ -31,7 +31,7 @@ returns-in_err-ready g c =
     let p = err_from_is_err_and c.from_residual.result c.from_residual.ensures.1 in
     rw (p.1, p.2) (record {
       goes =
-          halts-turn sys c.requires.sound c.args.at.now.budget k.knows.state (lane c.args.world.now) (lane c.ready.new.ops) c.in_err-ready.field-0.0 k.knows.told k.knows.stands k.knows.now k.at.stack.started (all-wait sys k.knows.state k.at.stack)
+          halts-turn sys c.requires.sound (terms_of c.args.at.now) k.knows.state (lane c.args.world.now) (lane c.ready.new.ops) c.in_err-ready.field-0.0 k.knows.told k.knows.stands k.knows.now k.at.stack.started (all-wait sys k.knows.state k.at.stack)
           c.in_err-ready.ensures;
       order = halts-in_order g.W.World.acts sys c.args.kernel.now.looks (lane c.args.world.now) (lane c.ready.new.ops) c.in_err-ready.field-0.0 c.in_err-ready.ensures c.requires.order;
     })
@@ -42,7 +42,7 @@ seen-now-requires-clause-object g c =
     let o = c.index-object.result.now in
     let at = slice_get_read sys.objects (length sys.objects) c.args.place o refl c.requires.place (c.index-object.ensures ∙ ap (λ xs. get_or xs c.args.place o) (ap (λ (y : System). y.objects) c.sys.view_is)) in
     let room = c.in_ok-ready.ensures.roomier in
-    subst (λ y. IsTrue (is_object y o.priority)) (sym (ap (λ u. u.sys) room.same ∙ c.requires.knows.knows.lane.of)) (is-there sys c.requires.sound c.args.at.now.budget _ c.args.floor c.args.place o at c.if-p-floor.false c.requires.knows)
+    subst (λ y. IsTrue (is_object y o.priority)) (sym (ap (λ u. u.sys) room.same ∙ c.requires.knows.knows.lane.of)) (is-there sys c.requires.sound (terms_of c.args.at.now) _ c.args.floor c.args.place o at c.if-p-floor.false c.requires.knows)
 
 pub returns-then-from : goal.returns-then-from
 returns-then-from g c =
@@ -54,7 +54,7 @@ returns-then-from g c =
     let room = c.in_ok-ready.ensures.roomier in
     let none : counts.f + counts.l ≤ counts.m = omega (arith, c.from.ensures, c.from-2.ensures, c.from-3.ensures, c.if-from.true) in
     record {
-      goes = seen-empty sys c.requires.sound c.args.at.now.budget _ c.args.floor c.args.place o at c.if-p-floor.false c.requires.knows (lane c.ready.new.ops) (lane c.seen-now.new.self) counts room c.seen-now.ensures none;
+      goes = seen-empty sys c.requires.sound (terms_of c.args.at.now) _ c.args.floor c.args.place o at c.if-p-floor.false c.requires.knows (lane c.ready.new.ops) (lane c.seen-now.new.self) counts room c.seen-now.ensures none;
       order = passed-in_order g.W.World.acts sys c.args.kernel.now.looks o.priority counts (lane c.args.world.now) (lane c.ready.new.ops) (lane c.seen-now.new.self) room c.seen-now.ensures c.requires.order c.args.floor c.args.place o (stand_of c.args.kernel.now c.args.objects.now (lane c.args.world.now)) refl at none refl refl c.requires.seen;
     }
 
@@ -79,7 +79,7 @@ stop-requires g c =
     let counts = c.seen-now.result in
     let room = c.in_ok-ready.ensures.roomier in
     let some : counts.m < counts.f + counts.l = omega (arith, c.from.ensures, c.from-2.ensures, c.from-3.ensures, c.if-from.false) in
-    may-stop sys c.requires.sound c.args.at.now.budget _ c.args.floor c.args.place o at c.if-p-floor.false c.requires.knows (lane c.ready.new.ops) (lane c.seen-now.new.self) counts room c.seen-now.ensures some c.spent.result (lane c.note.new.self) c.spent.ensures c.note.ensures.grows
+    may-stop sys c.requires.sound (terms_of c.args.at.now) _ c.args.floor c.args.place o at c.if-p-floor.false c.requires.knows (lane c.ready.new.ops) (lane c.seen-now.new.self) counts room c.seen-now.ensures some c.spent.result (lane c.note.new.self) c.spent.ensures c.note.ensures.grows
 
 pub returns-then-taken-at : goal.returns-then-taken-at
 returns-then-taken-at g c =
@@ -91,7 +91,7 @@ returns-then-taken-at g c =
     let room = c.in_ok-ready.ensures.roomier in
     let some : counts.m < counts.f + counts.l = omega (arith, c.from.ensures, c.from-2.ensures, c.from-3.ensures, c.if-from.false) in
     record {
-      goes = spent-stops sys c.requires.sound c.args.at.now.budget _ c.args.floor c.args.place o at c.if-p-floor.false c.requires.knows (lane c.ready.new.ops) (lane c.seen-now.new.self) counts room c.seen-now.ensures some c.taken.result c.spent.result (lane c.note.new.self) (lane c.stop.new.self) c.taken.ensures c.if-taken-at.true c.spent.ensures c.note.ensures.grows c.stop.ensures;
+      goes = spent-stops sys c.requires.sound (terms_of c.args.at.now) _ c.args.floor c.args.place o at c.if-p-floor.false c.requires.knows (lane c.ready.new.ops) (lane c.seen-now.new.self) counts room c.seen-now.ensures some c.taken.result c.spent.result (lane c.note.new.self) (lane c.stop.new.self) c.taken.ensures c.if-taken-at.true c.spent.ensures c.note.ensures.grows c.stop.ensures;
       order = spent-in_order g.W.World.acts sys c.args.kernel.now.looks o.priority counts (lane c.args.world.now) (lane c.ready.new.ops) (lane c.seen-now.new.self) room c.seen-now.ensures c.requires.order c.spent.result (lane c.note.new.self) (lane c.stop.new.self) c.spent.ensures c.note.ensures.grows c.stop.ensures;
     }
 
@@ -105,7 +105,7 @@ returns-in-Some g c =
     let room = c.in_ok-ready.ensures.roomier in
     let some : counts.m < counts.f + counts.l = omega (arith, c.from.ensures, c.from-2.ensures, c.from-3.ensures, c.if-from.false) in
     record {
-      goes = stop-found sys c.requires.sound c.args.at.now.budget _ c.args.floor c.args.place o at c.if-p-floor.false c.requires.knows (lane c.ready.new.ops) (lane c.seen-now.new.self) counts room c.seen-now.ensures some c.in-Some.field-0 (lane c.stopped.new.self) c.in-Some.ensures.0;
+      goes = stop-found sys c.requires.sound (terms_of c.args.at.now) _ c.args.floor c.args.place o at c.if-p-floor.false c.requires.knows (lane c.ready.new.ops) (lane c.seen-now.new.self) counts room c.seen-now.ensures some c.in-Some.field-0 (lane c.stopped.new.self) c.in-Some.ensures.0;
       order = stopped-seen g.W.World.acts sys c.args.kernel.now.looks o.priority counts (lane c.args.world.now) (lane c.ready.new.ops) (lane c.seen-now.new.self) room c.seen-now.ensures c.requires.order c.in-Some.field-0 (lane c.stopped.new.self) c.in-Some.ensures.0;
     }
 
@@ -118,7 +118,7 @@ take-requires-clause-object g c =
     let counts = c.seen-now.result in
     let room = c.in_ok-ready.ensures.roomier in
     let same = ap (λ u. u.sys) c.in_default.ensures.0 ∙ c.seen-now.ensures.0.grows.sys ∙ ap (λ u. u.sys) room.same ∙ c.requires.knows.knows.lane.of in
-    subst (λ y. IsTrue (is_object y o.priority)) (sym same) (is-there sys c.requires.sound c.args.at.now.budget _ c.args.floor c.args.place o at c.if-p-floor.false c.requires.knows)
+    subst (λ y. IsTrue (is_object y o.priority)) (sym same) (is-there sys c.requires.sound (terms_of c.args.at.now) _ c.args.floor c.args.place o at c.if-p-floor.false c.requires.knows)
 
 pub begin-requires : goal.begin-requires
 begin-requires g c =
@@ -129,14 +129,14 @@ begin-requires g c =
     let counts = c.seen-now.result in
     let room = c.in_ok-ready.ensures.roomier in
     let some : counts.m < counts.f + counts.l = omega (arith, c.from.ensures, c.from-2.ensures, c.from-3.ensures, c.if-from.false) in
-    may-begin sys c.requires.sound c.args.at.now.budget _ c.args.floor c.args.place o at c.if-p-floor.false c.requires.knows (lane c.ready.new.ops) (lane c.seen-now.new.self) counts room c.seen-now.ensures some c.taken.result c.taken.ensures c.if-taken-at.false c.requires.few
+    may-begin sys c.requires.sound (terms_of c.args.at.now) _ c.args.floor c.args.place o at c.if-p-floor.false c.requires.knows (lane c.ready.new.ops) (lane c.seen-now.new.self) counts room c.seen-now.ensures some c.taken.result c.taken.ensures c.if-taken-at.false c.requires.few
 
 pub push-requires : goal.push-requires
 push-requires g c =
     let sys = c.args.at.now.sys.now in
     let o = c.index-object.result.now in
     let at = slice_get_read sys.objects (length sys.objects) c.args.place o refl c.requires.place (c.index-object.ensures ∙ ap (λ xs. get_or xs c.args.place o) (ap (λ (y : System). y.objects) c.sys.view_is)) in
-    (lit< tt, fits-stack sys c.requires.sound c.args.at.now.budget _ c.args.floor c.args.place o at c.if-p-floor.false c.requires.knows)
+    (lit< tt, fits-stack sys c.requires.sound (terms_of c.args.at.now) _ c.args.floor c.args.place o at c.if-p-floor.false c.requires.knows)
 
 pub returns-in-Taken : goal.returns-in-Taken
 returns-in-Taken g c =
@@ -148,6 +148,6 @@ returns-in-Taken g c =
     let room = c.in_ok-ready.ensures.roomier in
     let some : counts.m < counts.f + counts.l = omega (arith, c.from.ensures, c.from-2.ensures, c.from-3.ensures, c.if-from.false) in
     record {
-      goes = step-enters sys c.requires.sound c.args.at.now.budget _ c.args.floor c.args.place o at c.if-p-floor.false c.requires.knows (lane c.ready.new.ops) (lane c.seen-now.new.self) counts room c.seen-now.ensures some c.taken.result (lane c.stopped.new.self) (lane c.take.new.self) c.in-Taken.e c.begin.new.self c.push.new.self.items c.taken.ensures c.if-taken-at.false c.in_default.ensures.0 c.in-Taken.ensures c.begin.ensures c.push.ensures.items;
+      goes = step-enters sys c.requires.sound (terms_of c.args.at.now) _ c.args.floor c.args.place o at c.if-p-floor.false c.requires.knows (lane c.ready.new.ops) (lane c.seen-now.new.self) counts room c.seen-now.ensures some c.taken.result (lane c.stopped.new.self) (lane c.take.new.self) c.in-Taken.e c.begin.new.self c.push.new.self.items c.taken.ensures c.if-taken-at.false c.in_default.ensures.0 c.in-Taken.ensures c.begin.ensures c.push.ensures.items;
       order = took-in_order g.W.World.acts sys c.args.kernel.now.looks o.priority counts (lane c.args.world.now) (lane c.ready.new.ops) (lane c.seen-now.new.self) room c.seen-now.ensures c.requires.order c.in-Taken.e (lane c.stopped.new.self) (lane c.take.new.self) c.in_default.ensures.0 c.in-Taken.ensures;
     }
