@@ -1,0 +1,13 @@
+use Rattle.qp_turns.specs.Knowing.{MayLook}
+use Rattle.qp_turns.specs.Ordering.{InOrder}
+use Rattle.qp_turns.specs.Turning.{GoesOnward, Stood, stand_of, terms_of}
+use Rattle.qp_vanilla.proofs.turning.rounds.Given as goal
+
+-- a look may stand
+abbrev pub invariant-loop : goal.invariant-loop
+invariant-loop g l =
+    record {
+      knows : Stood (MayLook l.at.sys.now) l.at.sys.now (terms_of l.at) (stand_of l.kernel l.objects (g.W.Ops.lane l.world));
+      onward : GoesOnward l.fn.objects (g.W.Ops.lane l.fn.world) l.objects (g.W.Ops.lane l.world);
+      order : InOrder g.W.World.acts l.at.sys.now l.kernel.looks (g.W.Ops.lane l.world);
+    }
