@@ -10,7 +10,6 @@ use Rattle.qp_model.specs.declared.systems.System.{System}
 use Rattle.qp_model.specs.declared.bodies.Body.TheVariants as body
 use Rattle.qp_model.specs.Record.{Item}
 use Rattle.qp_model.specs.Told.{Told, plain, for_object}
-use Rattle.qp_model.specs.Kernels.{sim}
 use Rattle.qp_model.specs.Knowing.{told_alone}
 use Rattle.qp_model.specs.Sources.{SourceRuns, AllDone, EndsIn, StimFits}
 use Rattle.qp_model.specs.OneOrder.{Placed, Turn, stim_of, is_stim, begun, acted_last, all_empty, may_act, left_after, turned, acts_next}

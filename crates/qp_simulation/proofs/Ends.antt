@@ -27,13 +27,14 @@ use Rattle.qp_sim.specs.SimView.{sim_view}
 use Rattle.qp_turns.specs.declared.objects.Objects.{Objects}
 use Rattle.qp_turns.specs.Objects.{AreMade}
 use Rattle.qp_simulation.specs.Running.{IsClosed, MayRun}
+use Rattle.qp_kernel.specs.Turning.{Terms, kernel_in}
 
 -- a journal with the end of its outcome
-pub closed-is : (lanes : List (List Rec)) (budget n : ℕ) (o : Outcome) → o ≡ outcome_of (record { kernel = 0; budget = budget; lanes = lanes; end = 0 }) → end_by o ≡ n
-    → IsClosed lanes budget (record { kernel = 0; budget = budget; lanes = lanes; end = n })
-closed-is lanes budget n o is ends =
-    let same : n ≡ end_of (all_items lanes) = sym ends ∙ ap end_by is ∙ its-end (record { kernel = 0; budget = budget; lanes = lanes; end = 0 }) in
-    record { kernel = refl; budget_is = refl; lanes_are = refl; stated = grind (arith, nat_tests, same) }
+pub closed-is : (lanes : List (List Rec)) (terms : Terms) (kernel n : ℕ) (o : Outcome) → kernel ≡ kernel_in terms
+    → o ≡ outcome_of (record { kernel = kernel; budget = terms.budget; lanes = lanes; end = 0 }) → end_by o ≡ n → IsClosed lanes terms (record { kernel = kernel; budget = terms.budget; lanes = lanes; end = n })
+closed-is lanes terms kernel n o by is ends =
+    let same : n ≡ end_of (all_items lanes) = sym ends ∙ ap end_by is ∙ its-end (record { kernel = kernel; budget = terms.budget; lanes = lanes; end = 0 }) in
+    record { kernel = by; budget_is = refl; lanes_are = refl; stated = grind (arith, nat_tests, same) }
 
 -- an end other than 0 that the records state is that of a run that stopped early
 pub cut-of : (items : List Item) (n : ℕ) → (n == end_of items) ≡ true → n ≢ 0 → may_cut n ≡ true

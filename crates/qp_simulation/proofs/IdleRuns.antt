@@ -38,20 +38,21 @@ use Rattle.qp_sound.proofs.Standing.{line-in}
 use Rattle.qp_kernel.specs.Stages.{is_resting}
 use Rattle.qp_kernel.specs.Run.{SourcesGo}
 use Rattle.qp_kernel.specs.QuietRun.{IsQuietRun}
-use Rattle.qp_kernel.specs.Turning.{AreAble, Stands}
+use Rattle.qp_kernel.specs.Turning.{AreAble, Stands, Terms, kernel_in}
 use Rattle.qp_kernel.specs.Laws.{kept_by}
 use Rattle.qp_kernel.specs.Happenings.{SourcesMarch, begun_by, lane_told, lanes_of, order_of, told_by}
 use Rattle.qp_kernel.proofs.LawfulLemmas.{IsFound, all-found}
 use Rattle.qp_kernel.proofs.DeferredLemmas.{deferred_are_kept}
 use Rattle.qp_kernel.proofs.QuietRuns.{quiet_runs_are_lawful}
 use Rattle.qp_simulation.specs.Left.{IsLeft, IsIdle}
+use Rattle.qp_simulation.proofs.Kernels.{no-port}
 use Rattle.qp_simulation.proofs.LeftLemmas.{zero-told, zero-items, source-told, sources-are}
 use Rattle.qp_simulation.proofs.StoppedRuns.{words-hold, numbers-are, lanes-roomy, count-is}
 use Rattle.qp_simulation.proofs.DoneLemmas.{LeftNone, none-left, take-all}
 use Rattle.qp_kernel.proofs.HappeningLemmas.{begun-told, runs-count}
 
 module _ (sys : System) (stimuli : List (List Stim)) (lanes : List (List Rec)) (v : LaneView) (left : IsLeft sys stimuli lanes v) (j : Journal) (at : j.lanes ≡ lanes)
-    (budget : ℕ) (idle : IsIdle sys budget v) (sound : IsSound sys) where
+    (terms : Terms) (idle : IsIdle sys terms v) (sound : IsSound sys) where
   found : AllByRecursion (IsFound sys.objects) sys.objects
   found = all-found sys.objects sound.ascend
 
@@ -136,11 +137,11 @@ module _ (sys : System) (stimuli : List (List Stim)) (lanes : List (List Rec)) (
         went-on (n + 1) more (omega arith) (omega (arith, all)) h.1 m.1,
       )
 
-  deferred-is : j.kernel ≡ sim → deferred_of sys j sys.objects ≡ kept_by idle.keeps sys.objects
+  deferred-is : j.kernel ≡ kernel_in terms → deferred_of sys j sys.objects ≡ kept_by idle.keeps sys.objects
   deferred-is kernel =
-      deferred_are_kept sys budget idle.state j idle.keeps sound kernel (zero-told sys stimuli lanes v left j at ∙ sym idle.told) idle.stands idle.owed idle.rest
+      deferred_are_kept sys terms idle.state j idle.keeps sound kernel (zero-told sys stimuli lanes v left j at ∙ sym idle.told) idle.stands idle.owed idle.rest
 
-  only : j.kernel ≡ sim → OnlyDeferred sys lanes (hands_in sys lanes left.order) (deferred_of sys j sys.objects)
+  only : j.kernel ≡ kernel_in terms → OnlyDeferred sys lanes (hands_in sys lanes left.order) (deferred_of sys j sys.objects)
   unfolding is_object
   only kernel = record {
     queues = λ a h. queue a (object_at sys a) refl h;
@@ -153,14 +154,16 @@ module _ (sys : System) (stimuli : List (List Stim)) (lanes : List (List Rec)) (
           let same : d.priority ≡ a = found-at a d is in
           (no-entries a d is (ap (λ o. object_at sys o) same ∙ is) same).0
 
-  pub idle-is_quiet : AreAble sys → j.kernel ≡ sim → j.budget ≡ budget → j.end ≡ quiet → IsQuietRun sys stimuli j idle.state
+  pub idle-is_quiet : AreAble sys → j.kernel ≡ kernel_in terms → j.budget ≡ terms.budget → j.end ≡ quiet → IsQuietRun sys stimuli j idle.state
   idle-is_quiet able kernel same end =
-      let sources = sources-are sys stimuli lanes v left j at kernel in
+      let sources = sources-are sys stimuli lanes v left j at (no-port terms j.kernel kernel) in
       let rests = quiet-end sys lanes left.order (deferred_of sys j sys.objects) left.world (only kernel) in
       record {
         sound = sound;
         able = able;
+        terms = terms;
         kernel = kernel;
+        budget_is = same;
         words = words-hold sys stimuli lanes v left j at;
         count = count-is sys stimuli lanes v left j at;
         room = lanes-roomy sys stimuli lanes v left j at;
@@ -168,7 +171,7 @@ module _ (sys : System) (stimuli : List (List Stim)) (lanes : List (List Rec)) (
         numbers = numbers-are sys stimuli lanes v left j at;
         told = zero-told sys stimuli lanes v left j at ∙ sym idle.told;
         now = λ n few. ap (λ x. has_stim x n) sources ∙ idle.now n (subst (λ k. n ≤ k) idle.settled few);
-        stands = subst (λ b. Stands sys b idle.state) (sym same) idle.stands;
+        stands = idle.stands;
         owed = idle.owed;
         started = idle.started;
         base = idle.base;
@@ -185,5 +188,5 @@ module _ (sys : System) (stimuli : List (List Stim)) (lanes : List (List Rec)) (
         blocks = subst (λ (ls : List (List Rec)). blocks_rest sys (all_items ls) (deferred_of sys j sys.objects) ≡ true) (sym at) rests.1;
       }
 
-  pub idle-lawful : AreAble sys → j.kernel ≡ sim → j.budget ≡ budget → j.end ≡ quiet → Lawful sys stimuli j
+  pub idle-lawful : AreAble sys → j.kernel ≡ kernel_in terms → j.budget ≡ terms.budget → j.end ≡ quiet → Lawful sys stimuli j
   idle-lawful able kernel same end = quiet_runs_are_lawful sys stimuli j idle.state (idle-is_quiet able kernel same end)

@@ -11,7 +11,7 @@ use Rattle.qp_model.specs.Record.{Item}
 use Rattle.qp_model.specs.Told.{ToldItem}
 use Rattle.qp_model.specs.History.{all_items, lane_items}
 use Rattle.qp_model.specs.Home.{lane_at}
-use Rattle.qp_model.specs.Kernels.{sim, port}
+use Rattle.qp_model.specs.Kernels.{port}
 use Rattle.qp_model.specs.Knowing.{Facts, told_lane}
 use Rattle.qp_model.specs.Lawful.{facts_of, source_lanes}
 use Rattle.qp_model.proofs.TakenLemmas.{drop-head}
@@ -72,10 +72,10 @@ module _ (sys : System) (stimuli : List (List Stim)) (lanes : List (List Rec)) (
       let long : length lanes ≡ suc (length ls) = ap length is in
       from 1 stimuli ls (omega arith) (ap (drop 1) is) (omega (arith, all)) (omega (arith, long))
 
-  pub sources-are : j.kernel ≡ sim → source_lanes sys j ≡ lanes_of v
+  pub sources-are : (j.kernel == port) ≡ false → source_lanes sys j ≡ lanes_of v
   unfolding source_lanes
   sources-are kernel =
-      ap (λ k. map (λ (lane : List Rec). lane_items lane) (drop (cond (k == port) (length sys.objects + 1) 1) j.lanes)) kernel
+      ap (λ b. map (λ (lane : List Rec). lane_items lane) (drop (cond b (length sys.objects + 1) 1) j.lanes)) kernel
       ∙ ap (λ (ls : List (List Rec)). map (λ (lane : List Rec). lane_items lane) (drop 1 ls)) at
       ∙ first-lane lanes refl left.count
       ∙ ap (λ p. lanes_from 1 p v.happened) (sym left.plan)

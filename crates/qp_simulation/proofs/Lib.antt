@@ -1,3 +1,4 @@
+pub mod Kernels
 pub mod LeftLemmas
 pub mod StoppedRuns
 pub mod DoneLemmas
@@ -5,3 +6,4 @@ pub mod IdleRuns
 pub mod EndedWorlds
 pub mod Ran
 pub mod Ends
+pub mod Cooperating

@@ -25,6 +25,7 @@ use Rattle.qp_turns.proofs.Keeping.{rests-kept}
 use Rattle.qp_turns.proofs.Places.{follow-then}
 use Rattle.qp_simulation.specs.Left.{IsIdle, IsStopped}
 use Rattle.qp_simulation.specs.Running.{RunsOn, RunsTo}
+use Rattle.qp_kernel.specs.Turning.{Terms}
 
 -- what an object at rest has
 abbrev rest_of : Config → Stage → Config
@@ -41,9 +42,9 @@ resting-is none (stage.Paused ev e left c) h = absurd (cc)
 abbrev nobody : Config
 nobody = record { leaf = 0; vars = []; ok = pos 0; kept = []; former = 0 }
 
-module _ (sys : System) (budget : ℕ) (sound : IsSound sys) (xs : Objects) (v : LaneView) (made : AreMade sys xs) (fresh : IsFresh sys v) where
+module _ (sys : System) (terms : Terms) (sound : IsSound sys) (xs : Objects) (v : LaneView) (made : AreMade sys xs) (fresh : IsFresh sys v) where
   module _ (ys : Objects) (u : LaneView) (started : AllStarted sys xs ys v u) (a b : Stand) (from : a.lane ≡ u) (those : a.objects ≡ ys) where
-    pub idle-is : Idled sys budget a b → IdlesInOrder true sys b → IsIdle sys budget b.lane
+    pub idle-is : Idled sys terms a b → IdlesInOrder true sys b → IsIdle sys terms b.lane
     idle-is idled order =
         let k = idled.knows.knows in
         let at = idled.knows.at in
@@ -72,26 +73,26 @@ module _ (sys : System) (budget : ℕ) (sound : IsSound sys) (xs : Objects) (v :
           empties = λ d found. let e = order.empties d found in (e.f, e.l, e.m, e.says, e.none);
         }
 
-    pub idle-on : Idled sys budget a b → RunsOn v b.lane
+    pub idle-on : Idled sys terms a b → RunsOn v b.lane
     idle-on idled = record {
       of = idled.knows.knows.lane.of ∙ sym fresh.of;
       plan = idled.onward.plan ∙ ap (λ (l : LaneView). l.plan) from ∙ started.grows.gains.plan;
     }
 
-    pub stop-is : (w : LaneView) → TurnStopped sys budget u w → StopsInOrder true sys u w → IsStopped sys budget w
+    pub stop-is : (w : LaneView) → TurnStopped sys terms u w → StopsInOrder true sys u w → IsStopped sys terms w
     stop-is w stop order = record { zero = stop.zero; in_order = order.order refl }
 
     pub stop-on : (w : LaneView) → StopsInOrder true sys u w → RunsOn v w
     stop-on w order = record { of = order.of ∙ started.grows.gains.sys; plan = order.plan ∙ started.grows.gains.plan }
 
     -- whatever the turn came to
-    pub turned : (t : Turn) → TurnsTo sys budget a b t → TurnsInOrder true sys a b t → RunsTo sys budget v b.lane t
+    pub turned : (t : Turn) → TurnsTo sys terms a b t → TurnsInOrder true sys a b t → RunsTo sys terms v b.lane t
     turned turn.Idle goes order = (idle-on goes, idle-is goes order)
-    turned turn.Stopped goes order = (stop-on b.lane (subst (λ l. StopsInOrder true sys l b.lane) from order), stop-is b.lane (subst (λ l. TurnStopped sys budget l b.lane) from goes) (subst (λ l. StopsInOrder true sys l b.lane) from order))
+    turned turn.Stopped goes order = (stop-on b.lane (subst (λ l. StopsInOrder true sys l b.lane) from order), stop-is b.lane (subst (λ l. TurnStopped sys terms l b.lane) from goes) (subst (λ l. StopsInOrder true sys l b.lane) from order))
     turned turn.Memory goes order = tt
 
-  pub start-stop_is : (w : LaneView) → StartStopped sys v w → IsStopped sys budget w
-  start-stop_is w stop = record { zero = (stop.turn budget).zero; in_order = stop.order }
+  pub start-stop_is : (w : LaneView) → StartStopped sys v w → IsStopped sys terms w
+  start-stop_is w stop = record { zero = (stop.turn terms).zero; in_order = stop.order }
 
   pub start-stop_on : (w : LaneView) → StartStopped sys v w → RunsOn v w
   start-stop_on w stop = by-stops stop.grows.mid stop.grows.stops stop.grows.gains.sys stop.grows.gains.plan

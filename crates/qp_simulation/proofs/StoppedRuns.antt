@@ -9,7 +9,7 @@ use Rattle.qp_model.specs.declared.journals.Journal.{Journal}
 use Rattle.qp_model.specs.Told.{ToldItem}
 use Rattle.qp_model.specs.History.{all_items, lane_items}
 use Rattle.qp_model.specs.Home.{lane_at}
-use Rattle.qp_model.specs.Kernels.{sim}
+use Rattle.qp_model.specs.Kernels.{sim, has_one_order}
 use Rattle.qp_model.specs.Knowing.{told_lane}
 use Rattle.qp_model.specs.Lawful.{Lawful, facts_of, source_lanes}
 use Rattle.qp_model.specs.Places.{in_order}
@@ -27,7 +27,9 @@ use Rattle.qp_kernel.specs.Run.{SourcesEnd, IsRun}
 use Rattle.qp_kernel.specs.Happenings.{SourcesHalt, lane_told, lanes_of, order_of}
 use Rattle.qp_kernel.proofs.LawfulLemmas.{lawful}
 use Rattle.qp_simulation.specs.Left.{IsLeft, IsStopped}
+use Rattle.qp_simulation.proofs.Kernels.{no-port, one-order}
 use Rattle.qp_simulation.proofs.LeftLemmas.{facts-are, zero-told, zero-items, source-told, sources-are}
+use Rattle.qp_kernel.specs.Turning.{Terms, kernel_in}
 
 module _ (sys : System) (stimuli : List (List Stim)) (lanes : List (List Rec)) (v : LaneView) (left : IsLeft sys stimuli lanes v) (j : Journal) (at : j.lanes ≡ lanes) where
   pub words-hold : Words sys j.lanes
@@ -51,24 +53,25 @@ module _ (sys : System) (stimuli : List (List Stim)) (lanes : List (List Rec)) (
         halted end cuts (n + 1) more (omega arith) (omega (arith, all)) is h.1,
       )
 
-  pub stopped-is_run : (budget : ℕ) → IsSound sys → j.kernel ≡ sim → j.budget ≡ budget → may_cut j.end ≡ true → (j.end == end_of (all_items lanes)) ≡ true → IsStopped sys budget v → IsRun sys stimuli j
-  stopped-is_run budget sound kernel same cut stated stop =
+  pub stopped-is_run : (terms : Terms) → IsSound sys → j.kernel ≡ kernel_in terms → j.budget ≡ terms.budget → may_cut j.end ≡ true → (j.end == end_of (all_items lanes)) ≡ true → IsStopped sys terms v → IsRun sys stimuli j
+  stopped-is_run terms sound kernel same cut stated stop =
       let order = stop.in_order j.end cut in
-      let sources = sources-are sys stimuli lanes v left j at kernel in
+      let sources = sources-are sys stimuli lanes v left j at (no-port terms j.kernel kernel) in
       let items = zero-items sys stimuli lanes v left j at in
       let loud : (b : Bool) → j.end ≡ quiet → b ≡ true = λ b e. let wrong : false ≡ true = ap may_cut (sym e) ∙ cut in cc in
       record {
         sound = sound;
-        kernel = kernel;
+        kernel = ap has_one_order kernel ∙ one-order terms;
         words = words-hold;
         count = count-is;
         room = lanes-roomy;
         log = order_of v;
         numbers = numbers-are;
         zero =
-            subst (λ ts. ZeroEnds sys sim j.budget j.end ts (has_stim (source_lanes sys j))) (sym (zero-told sys stimuli lanes v left j at))
-            (subst (λ x. ZeroEnds sys sim j.budget j.end v.told (has_stim x)) (sym sources)
-            (subst (λ b. ZeroEnds sys sim b j.end v.told (has_stim (lanes_of v))) (sym same) (stop.zero j.end cut)));
+            subst (λ ts. ZeroEnds sys j.kernel j.budget j.end ts (has_stim (source_lanes sys j))) (sym (zero-told sys stimuli lanes v left j at))
+            (subst (λ x. ZeroEnds sys j.kernel j.budget j.end v.told (has_stim x)) (sym sources)
+            (subst (λ n. ZeroEnds sys n j.budget j.end v.told (has_stim (lanes_of v))) (sym kernel)
+            (subst (λ b. ZeroEnds sys (kernel_in terms) b j.end v.told (has_stim (lanes_of v))) (sym same) (stop.zero j.end cut))));
         cuts = order.cuts;
         sources = halted j.end order.cuts 1 stimuli (omega arith) (sym left.count) refl (subst (λ p. SourcesHalt sys j.end order.cuts 1 p v.happened) left.plan order.sources);
         order =
@@ -80,5 +83,5 @@ module _ (sys : System) (stimuli : List (List Stim)) (lanes : List (List Rec)) (
         blocks = loud _;
       }
 
-  pub stopped-lawful : (budget : ℕ) → IsSound sys → j.kernel ≡ sim → j.budget ≡ budget → may_cut j.end ≡ true → (j.end == end_of (all_items lanes)) ≡ true → IsStopped sys budget v → Lawful sys stimuli j
-  stopped-lawful budget sound kernel same cut stated stop = lawful sys stimuli j (stopped-is_run budget sound kernel same cut stated stop)
+  pub stopped-lawful : (terms : Terms) → IsSound sys → j.kernel ≡ kernel_in terms → j.budget ≡ terms.budget → may_cut j.end ≡ true → (j.end == end_of (all_items lanes)) ≡ true → IsStopped sys terms v → Lawful sys stimuli j
+  stopped-lawful terms sound kernel same cut stated stop = lawful sys stimuli j (stopped-is_run terms sound kernel same cut stated stop)

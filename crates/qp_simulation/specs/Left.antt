@@ -13,7 +13,6 @@ use Rattle.qp_model.specs.Ends.{may_cut}
 use Rattle.qp_model.specs.End.{has_room}
 use Rattle.qp_model.specs.History.{lane_items}
 use Rattle.qp_model.specs.KernelLane.{Over}
-use Rattle.qp_model.specs.Kernels.{sim}
 use Rattle.qp_model.specs.Knowing.{told_lane}
 use Rattle.qp_model.specs.OneOrder.{acts_next, enters, leaves}
 use Rattle.qp_model.specs.WordLaw.{is_object}
@@ -29,7 +28,7 @@ use Rattle.qp_sound.specs.View.{shown_in}
 use Rattle.qp_sound.specs.WordStates.{line_in}
 use Rattle.qp_kernel.specs.Stages as stage
 use Rattle.qp_kernel.specs.ZeroEnds.{ZeroEnds}
-use Rattle.qp_kernel.specs.Turning.{KernelState, Stands}
+use Rattle.qp_kernel.specs.Turning.{KernelState, Stands, Terms, kernel_in}
 use Rattle.qp_kernel.specs.Laws.{kept_by}
 use Rattle.qp_kernel.specs.Happenings.{IsInOrder, IsOrderEnded, lanes_of, lane_told, order_of}
 
@@ -52,10 +51,10 @@ pub record IsLeft (sys : System) (stimuli : List (List Stim)) (lanes : List (Lis
   pub room : list_all (λ lane. has_room (lane_items lane)) lanes ≡ true
 
 -- The kernel came to the end of its row at the base: nothing is left to be done.
-pub record IsIdle (sys : System) (budget : ℕ) (v : LaneView) : Type 0 where
+pub record IsIdle (sys : System) (terms : Terms) (v : LaneView) : Type 0 where
   pub state : KernelState
   pub told : state.told ≡ v.told
-  pub stands : Stands sys budget state
+  pub stands : Stands sys terms state
   pub looks : ℕ
   pub settled : state.upto ≡ looks
   pub now : (n : ℕ) → n ≤ looks → has_stim (lanes_of v) n ≡ state.now n
@@ -73,6 +72,6 @@ pub record IsIdle (sys : System) (budget : ℕ) (v : LaneView) : Type 0 where
   pub empties : (d : ObjectDef) → object_at sys d.priority ≡ Some d → (f l m : ℕ) × (v.shown (word.Queue d.priority) ≡ Counts f l m) × (f + l ≡ m)
 
 -- The run stopped early, however it stated its end.
-pub record IsStopped (sys : System) (budget : ℕ) (v : LaneView) : Type 0 where
-  pub zero : (end : ℕ) → may_cut end ≡ true → ZeroEnds sys sim budget end v.told (has_stim (lanes_of v))
+pub record IsStopped (sys : System) (terms : Terms) (v : LaneView) : Type 0 where
+  pub zero : (end : ℕ) → may_cut end ≡ true → ZeroEnds sys (kernel_in terms) terms.budget end v.told (has_stim (lanes_of v))
   pub in_order : (end : ℕ) → may_cut end ≡ true → IsOrderEnded sys end v

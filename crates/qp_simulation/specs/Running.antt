@@ -4,7 +4,6 @@ use Rattle.qp_model.specs.declared.record.Rec.{Rec}
 use Rattle.qp_model.specs.declared.systems.System.{System}
 use Rattle.qp_model.specs.declared.journals.Journal.{Journal}
 use Rattle.qp_model.specs.History.{all_items}
-use Rattle.qp_model.specs.Kernels.{sim}
 use Rattle.qp_model.specs.End.{end_of}
 use Rattle.qp_stim.specs.Rules.{StimuliFit}
 use Rattle.qp_calls.specs.LaneView.{LaneView}
@@ -14,6 +13,7 @@ use Rattle.qp_turns.specs.declared.objects.Objects.{Objects}
 use Rattle.qp_turns.specs.Objects.{AreMade}
 use Rattle.qp_turns.specs.Starting.{IsFresh}
 use Rattle.qp_simulation.specs.Left.{IsIdle, IsStopped}
+use Rattle.qp_kernel.specs.Turning.{Terms, kernel_in}
 
 -- the lane and the objects of a run that begins
 pub record MayRun (sys : System) (xs : Objects) (v : LaneView) : Type 0 where
@@ -26,14 +26,14 @@ pub record RunsOn (v w : LaneView) : Type 0 where
   pub of : w.sys ≡ v.sys
   pub plan : w.plan ≡ v.plan
 
-abbrev pub RunsTo : System → ℕ → LaneView → LaneView → Turn → Type 0
-RunsTo sys budget v w turn.Idle = RunsOn v w × IsIdle sys budget w
-RunsTo sys budget v w turn.Stopped = RunsOn v w × IsStopped sys budget w
-RunsTo sys budget v w turn.Memory = Unit {0}
+abbrev pub RunsTo : System → Terms → LaneView → LaneView → Turn → Type 0
+RunsTo sys terms v w turn.Idle = RunsOn v w × IsIdle sys terms w
+RunsTo sys terms v w turn.Stopped = RunsOn v w × IsStopped sys terms w
+RunsTo sys terms v w turn.Memory = Unit {0}
 
 -- the journal of these lanes, with the end that their records state
-pub record IsClosed (lanes : List (List Rec)) (budget : ℕ) (j : Journal) : Type 0 where
-  pub kernel : j.kernel ≡ sim
-  pub budget_is : j.budget ≡ budget
+pub record IsClosed (lanes : List (List Rec)) (terms : Terms) (j : Journal) : Type 0 where
+  pub kernel : j.kernel ≡ kernel_in terms
+  pub budget_is : j.budget ≡ terms.budget
   pub lanes_are : j.lanes ≡ lanes
   pub stated : (j.end == end_of (all_items lanes)) ≡ true

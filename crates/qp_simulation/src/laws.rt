@@ -1,4 +1,4 @@
-//! Laws of runs under `sim`. Each function here does nothing: its contract is the law.
+//! Laws of runs on one thread. Each function here does nothing: its contract is the law.
 
 ghost use Rattle.qp_simulation.specs.Laws.{IdleRunsAreLawful, StoppedRunsAreLawful};
 

@@ -1,7 +1,7 @@
-//! Runs under `sim`.
+//! Runs on one thread, under `sim` and `qv`.
 #![tactic(auto)]
 
 pub mod laws;
 mod run;
 
-pub use run::run_sim;
+pub use run::{run_qv, run_sim};

@@ -1,12 +1,13 @@
 use Rattle.std.proofs.Common.{refl, ◌∙◌}
 use Rattle.qp_model.specs.History.{all_items}
 use Rattle.qp_turns.proofs.SoundObjects.{able}
+use Rattle.qp_kernel.specs.Turning.{under}
 use Rattle.qp_sim.specs.SimView.{sim_view}
 use Rattle.qp_simulation.proofs.EndedWorlds.{left-of}
 use Rattle.qp_simulation.proofs.Ends.{cut-of, may-run, seen-as}
 use Rattle.qp_simulation.proofs.IdleRuns.{idle-lawful}
 use Rattle.qp_simulation.proofs.StoppedRuns.{stopped-lawful}
-use Rattle.qp_simulation.proofs.run.run_sim.Goals as goal
+use Rattle.qp_simulation.proofs.run.simulate.Goals as goal
 
 pub run-requires-clause-may : goal.run-requires-clause-may
 run-requires-clause-may g c =
@@ -18,9 +19,9 @@ returns-in-Idle g c =
     let ran = c.in-Idle.ensures in
     let left = left-of c.run.new.world c.finish.result c.args.sys.now c.args.stim.now (ran.0.of ∙ seen.0) (ran.0.plan ∙ seen.1) c.finish.ensures in
     record {
-      kernel = refl;
+      kernel = c.kernel_number.ensures;
       budget_is = refl;
-      lawful = idle-lawful c.args.sys.now c.args.stim.now c.finish.result (sim_view c.run.new.world) left _ refl c.args.budget ran.1 c.requires.sound (able c.args.sys.now c.requires.sound) refl refl refl;
+      lawful = idle-lawful c.args.sys.now c.args.stim.now c.finish.result (sim_view c.run.new.world) left _ refl (under c.args.cooperative c.args.budget) ran.1 c.requires.sound (able c.args.sys.now c.requires.sound) c.kernel_number.ensures refl refl;
     }
 
 pub returns-in-Stopped : goal.returns-in-Stopped
@@ -33,6 +34,6 @@ returns-in-Stopped g c =
       kernel = closed.kernel;
       budget_is = closed.budget_is;
       lawful =
-          stopped-lawful c.args.sys.now c.args.stim.now c.finish-in-Stopped.result (sim_view c.run.new.world) left c.closed-journal.result closed.lanes_are c.args.budget c.requires.sound closed.kernel closed.budget_is
+          stopped-lawful c.args.sys.now c.args.stim.now c.finish-in-Stopped.result (sim_view c.run.new.world) left c.closed-journal.result closed.lanes_are (under c.args.cooperative c.args.budget) c.requires.sound closed.kernel closed.budget_is
           (cut-of (all_items c.finish-in-Stopped.result) c.closed-journal.result.end closed.stated c.if-journal-eq0.false) closed.stated ran.1;
     }
