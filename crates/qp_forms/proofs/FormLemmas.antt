@@ -1,4 +1,4 @@
--- A lawful journal of `sim` can be written.
+-- A lawful journal of `sim` or `qv` can be written.
 use Rattle.std.proofs.Common.{◌≡◌, ℕ, suc, ◌+◌, ◌<◌, ◌≤◌, ◌==◌, nat_le, Bool, true, false, not, ◌||◌, cond, List, [], ◌∷◌, ◌++◌, map, length, drop, refl, sym, ◌∙◌, ap, subst, Some, None, inl, inr, arith, append_assoc, ◌⊎◌}
 use Rattle.std.specs.Prelude.{slice_get}
 use Rattle.std.specs.declared.option.Option.{Option}
@@ -20,13 +20,13 @@ use Rattle.qp_model.specs.KernelLane.{Reading, lane_read}
 use Rattle.qp_model.specs.Ends.{is_assert, is_spent, is_end, is_spill, ends_last, asserted, spent, quiet}
 use Rattle.qp_model.specs.End.{end_of, has_room}
 use Rattle.qp_model.specs.Lawful.{Lawful, EndHolds, deferred_of, ObjectHolds, KernelHolds, SourceLanes, facts_of, lanes_before, is_settle, reading_holds, setting_of}
-use Rattle.qp_model.specs.Output.{has_no_rest, is_end_status, is_lane_in_range}
+use Rattle.qp_model.specs.Output.{has_form, has_no_rest, is_end_status, is_lane_in_range, last_kernel}
 use Rattle.qp_model.specs.Parts.{sizes_of}
 use Rattle.qp_model.specs.Sound.{IsSound, IsSoundPool}
 use Rattle.qp_model.proofs.HomeLemmas.{home_records-kernel}
 use Rattle.qp_model.proofs.TakenLemmas.{drop-head}
-use Rattle.qp_forms.specs.Laws.{CanBeWritten, SimHasForms}
-use Rattle.qp_forms.proofs.CountLemmas.{is_said, is_kept, both, and, lane-kept}
+use Rattle.qp_forms.specs.Laws.{CanBeWritten, QvHasForm, SimHasForms}
+use Rattle.qp_forms.proofs.CountLemmas.{form_for, is_said, is_said_by, is_kept, is_kept_by, both, and, kept-more, lane-kept, or-both, or-right, said-more}
 use Rattle.qp_forms.proofs.CallLemmas.{AllSaid}
 use Rattle.qp_forms.proofs.ShapeLemmas.{shape-said}
 use Rattle.qp_forms.proofs.SourceLemmas.{says, told-says, source-kept}
@@ -58,30 +58,30 @@ lane-short lane last room =
     let few : count_by (λ i. not (is_spill i.body)) lane ≤ 1000000 = grind (arith, nat_tests, room) in
     omega (arith, long, few)
 
-lanes-kept : (lanes : List (List Rec)) → list_all (λ lane. list_all is_kept (lane_items lane)) lanes ≡ true → list_all (λ lane. ends_last (lane_items lane)) lanes ≡ true
-    → list_all (λ lane. has_room (lane_items lane)) lanes ≡ true → (list_all (is_lane_in_range 1) lanes ≡ true) × (has_no_rest lanes ≡ true)
+lanes-kept : (rests : Bool) (lanes : List (List Rec)) → list_all (λ lane. list_all (is_kept_by rests) (lane_items lane)) lanes ≡ true → list_all (λ lane. ends_last (lane_items lane)) lanes ≡ true
+    → list_all (λ lane. has_room (lane_items lane)) lanes ≡ true → (list_all (is_lane_in_range (form_for rests)) lanes ≡ true) × ((rests || has_no_rest lanes) ≡ true)
 unfolding lane_items
-lanes-kept [] kept last room = (refl, refl)
-lanes-kept (lane ∷ lanes) kept last room =
-    let k = both (list_all is_kept (lane_items lane)) _ kept in
+lanes-kept rests [] kept last room = (refl, or-right rests true refl)
+lanes-kept rests (lane ∷ lanes) kept last room =
+    let k = both (list_all (is_kept_by rests) (lane_items lane)) _ kept in
     let l = both (ends_last (lane_items lane)) _ last in
     let r = both (has_room (lane_items lane)) _ room in
-    let here = lane-kept lane k.0 (lane-short (lane_items lane) l.0 r.0) in
-    let rest = lanes-kept lanes k.1 l.1 r.1 in
-    (and _ _ here.0 rest.0, and _ _ here.1 rest.1)
+    let here = lane-kept rests lane k.0 (lane-short (lane_items lane) l.0 r.0) in
+    let rest = lanes-kept rests lanes k.1 l.1 r.1 in
+    (and _ _ here.0 rest.0, or-both rests _ _ here.1 rest.1)
 
 -- the lanes of the sources
-sources-kept : (sys : System) → AllByRecursion (λ size. size ≤ 8) (sizes_of sys) → (j : Journal) (ls : List (List Rec)) (n : ℕ) (stimuli : List (List Stim))
-    → drop n j.lanes ≡ ls → SourceLanes sys j n stimuli → length ls ≡ length stimuli → list_all (λ lane. list_all is_kept (lane_items lane)) ls ≡ true
+sources-kept : (rests : Bool) (sys : System) → AllByRecursion (λ size. size ≤ 8) (sizes_of sys) → (j : Journal) (ls : List (List Rec)) (n : ℕ) (stimuli : List (List Stim))
+    → drop n j.lanes ≡ ls → SourceLanes sys j n stimuli → length ls ≡ length stimuli → list_all (λ lane. list_all (is_kept_by rests) (lane_items lane)) ls ≡ true
 unfolding SourceLanes facts_of
-sources-kept sys small j [] n stimuli at h len = refl
-sources-kept sys small j (l ∷ ls) n [] at h len = absurd (omega (arith, len))
-sources-kept sys small j (l ∷ ls) n (ss ∷ more) at h len =
+sources-kept rests sys small j [] n stimuli at h len = refl
+sources-kept rests sys small j (l ∷ ls) n [] at h len = absurd (omega (arith, len))
+sources-kept rests sys small j (l ∷ ls) n (ss ∷ more) at h len =
     let behind = drop-head n j.lanes l ls at in
     let here : lane_at j n ≡ l = ap (λ x. unwrap_or x []) behind.0 in
     let kept : list_all is_kept (lane_items (lane_at j n)) ≡ true = source-kept (facts_of sys j) small j.kernel j.end ss (lane_items (lane_at j n)) h.0 in
     let shorter : length ls ≡ length more = omega (arith, len) in
-    and _ _ (subst (λ x. list_all is_kept (lane_items x) ≡ true) here kept) (sources-kept sys small j ls (n + 1) more behind.1 h.1 shorter)
+    and _ _ (subst (λ x. list_all (is_kept_by rests) (lane_items x) ≡ true) here (kept-more rests (lane_items (lane_at j n)) kept)) (sources-kept rests sys small j ls (n + 1) more behind.1 h.1 shorter)
 
 all-at : {A : Type 0} (p : A → Bool) (xs : List A) (y : A) (ys : List A) → list_all p (xs ++ y ∷ ys) ≡ true → p y ≡ true
 all-at p [] y ys h = (both _ _ h).0
@@ -91,16 +91,16 @@ all-at p (x ∷ xs) y ys h = all-at p xs y ys (both _ _ h).1
 abbrev IsKept : List Item → ℕ → Type 0
 IsKept lane o = (o ≤ 32) × (list_all (says o) lane ≡ true)
 
-owned-kept : (lane front is : List Item) → front ++ is ≡ lane → AllByRecursion (λ i. IsKept lane i.of ⊎ ((i.of ≡ 0) × (is_said i.body ≡ true))) is → list_all is_kept is ≡ true
-owned-kept lane front [] at all = refl
-owned-kept lane front (i ∷ is) at all = and _ _ (by all.0) (owned-kept lane (front ++ i ∷ []) is (append_assoc front (i ∷ []) is ∙ at) all.1)
+owned-kept : (rests : Bool) (lane front is : List Item) → front ++ is ≡ lane → AllByRecursion (λ i. IsKept lane i.of ⊎ ((i.of ≡ 0) × (is_said_by rests i.body ≡ true))) is → list_all (is_kept_by rests) is ≡ true
+owned-kept rests lane front [] at all = refl
+owned-kept rests lane front (i ∷ is) at all = and _ _ (by all.0) (owned-kept rests lane (front ++ i ∷ []) is (append_assoc front (i ∷ []) is ∙ at) all.1)
   where
-    by : IsKept lane i.of ⊎ ((i.of ≡ 0) × (is_said i.body ≡ true)) → is_kept i ≡ true
+    by : IsKept lane i.of ⊎ ((i.of ≡ 0) × (is_said_by rests i.body ≡ true)) → is_kept_by rests i ≡ true
     by (inl (low, records)) =
         let within : nat_le i.of 32 ≡ true = grind (arith, nat_tests, low) in
         let itself : (i.of == i.of) ≡ true = grind (arith, nat_tests) in
         let mine : says i.of i ≡ true = all-at (says i.of) front i is (rw at records) in
-        and _ _ within (rw itself at mine)
+        and _ _ within (said-more rests i.body (rw itself at mine))
     by (inr (none, said)) =
         let within : nat_le i.of 32 ≡ true = grind (arith, nat_tests, none) in
         and _ _ within said
@@ -118,12 +118,16 @@ end-known true e = refl
 end-known false true = refl
 end-known false false = refl
 
-module _ (sys : System) (stimuli : List (List Stim)) (j : Journal) (sound : IsSound sys) (few : length stimuli ≤ 16) (is_sim : j.kernel ≡ sim) (h : Lawful sys stimuli j) where
+module _ (sys : System) (stimuli : List (List Stim)) (j : Journal) (sound : IsSound sys) (few : length stimuli ≤ 16) (rests : Bool) (is : j.kernel ≡ cond rests qv sim) (h : Lawful sys stimuli j) where
   small : AllByRecursion (λ size. size ≤ 8) (sizes_of sys)
   small = small-sizes sys sound
 
   other : (j.kernel == port) ≡ false
-  other = rw is_sim refl
+  other = ap (λ k. k == port) is ∙ by rests
+    where
+      by : (b : Bool) → (cond b qv sim == port) ≡ false
+      by true = refl
+      by false = refl
 
   object-kept : (d : ObjectDef) → d.priority ≤ 32 → ObjectHolds sys j d → IsKept (lane_items (lane_at j 0)) d.priority
   unfolding by_object home_of facts_of
@@ -140,47 +144,57 @@ module _ (sys : System) (stimuli : List (List Stim)) (j : Journal) (sound : IsSo
   kernel-holds : KernelHolds sys j
   kernel-holds = rw other at h.kernel
 
-  zero-kept : list_all is_kept (lane_items (lane_at j 0)) ≡ true
+  zero-kept : list_all (is_kept_by rests) (lane_items (lane_at j 0)) ≡ true
   unfolding setting_of
   zero-kept = by (lane_read (setting_of sys j) (lane_items (lane_at j 0))) refl (count_by (λ i. is_settle i.body) (all_items j.lanes)) kernel-holds.lane
     where
       by : (o : Option Reading) → lane_read (setting_of sys j) (lane_items (lane_at j 0)) ≡ o → (settles : ℕ) → reading_holds j (lane_items (lane_at j 0)) settles o ≡ true
-          → list_all is_kept (lane_items (lane_at j 0)) ≡ true
+          → list_all (is_kept_by rests) (lane_items (lane_at j 0)) ≡ true
       by None at settles wrong = absurd (cc)
       by (Some last) at settles reads =
-          let not_qv : (j.kernel == qv) ≡ false = rw is_sim refl in
-          owned-kept (lane_items (lane_at j 0)) [] (lane_items (lane_at j 0)) refl
-          (lane-owned (setting_of sys j) not_qv (IsKept (lane_items (lane_at j 0))) (objects-kept sys.objects sound.priorities h.objects) (lane_items (lane_at j 0)) last at)
+          let not_qv : rests ≡ false → (j.kernel == qv) ≡ false = λ e. ap (λ k. k == qv) is ∙ ap (λ b. cond b qv sim == qv) e in
+          owned-kept rests (lane_items (lane_at j 0)) [] (lane_items (lane_at j 0)) refl
+          (lane-owned (setting_of sys j) rests not_qv (IsKept (lane_items (lane_at j 0))) (objects-kept sys.objects sound.priorities h.objects) (lane_items (lane_at j 0)) last at)
 
   -- lane 0 and those of the sources
-  all-kept : (lanes : List (List Rec)) → j.lanes ≡ lanes → length j.lanes ≡ 1 + length stimuli → SourceLanes sys j 1 stimuli → list_all (λ lane. list_all is_kept (lane_items lane)) j.lanes ≡ true
+  all-kept : (lanes : List (List Rec)) → j.lanes ≡ lanes → length j.lanes ≡ 1 + length stimuli → SourceLanes sys j 1 stimuli → list_all (λ lane. list_all (is_kept_by rests) (lane_items lane)) j.lanes ≡ true
   all-kept [] at count sources = let none : length j.lanes ≡ 0 = ap length at in absurd (omega (arith, count, none))
   all-kept (l ∷ ls) at count sources =
       let whole : length j.lanes ≡ suc (length ls) = ap length at in
       let rest : length ls ≡ length stimuli = omega (arith, count, whole) in
       let first : lane_at j 0 ≡ l = ap (λ x. unwrap_or (slice_get x 0) []) at in
-      subst (λ x. list_all (λ lane. list_all is_kept (lane_items lane)) x ≡ true) (sym at)
-      (and _ _ (subst (λ x. list_all is_kept (lane_items x) ≡ true) first zero-kept) (sources-kept sys small j ls 1 stimuli (ap (drop 1) at) sources rest))
+      subst (λ x. list_all (λ lane. list_all (is_kept_by rests) (lane_items lane)) x ≡ true) (sym at)
+      (and _ _ (subst (λ x. list_all (is_kept_by rests) (lane_items x) ≡ true) first zero-kept) (sources-kept rests sys small j ls 1 stimuli (ap (drop 1) at) sources rest))
 
-  pub sim-form : 0 < j.budget → j.budget ≤ 1000000 → CanBeWritten 1 j
+  pub its-form : 0 < j.budget → j.budget ≤ 1000000 → CanBeWritten (form_for rests) j
   unfolding EndHolds deferred_of
-  sim-form some most =
+  its-form some most =
       let one : lanes_before sys j ≡ 1 = rw other refl in
       let counted : length j.lanes ≡ lanes_before sys j + length stimuli = grind (arith, nat_tests, h.sources.count) in
       let count : length j.lanes ≡ 1 + length stimuli = omega (arith, one, counted) in
       let sources : SourceLanes sys j 1 stimuli = subst (λ n. SourceLanes sys j n stimuli) one h.sources.lanes in
-      let lanes = lanes-kept j.lanes (all-kept j.lanes refl count sources) h.end.last h.end.room in
-      let kernel : nat_le j.kernel 2 ≡ true = rw is_sim refl in
-      let one_thread : not (j.kernel == qv) ≡ true = rw is_sim refl in
+      let lanes = lanes-kept rests j.lanes (all-kept j.lanes refl count sources) h.end.last h.end.room in
+      let kernel : nat_le j.kernel (last_kernel (form_for rests)) ≡ true = ap (λ k. nat_le k (last_kernel (form_for rests))) is ∙ known rests in
       let least : nat_le 1 j.budget ≡ true = grind (arith, nat_tests, some) in
       let greatest : nat_le j.budget 1000000 ≡ true = grind (arith, nat_tests, most) in
       let stated : j.end ≡ end_of (all_items j.lanes) = grind (arith, nat_tests, h.end.stated) in
       let end : is_end_status j.end ≡ true = rw stated (end-known (list_any (λ i. is_assert i.body) (all_items j.lanes)) (list_any (λ i. is_end i.body) (all_items j.lanes))) in
       let lanes_few : nat_le (length j.lanes) 49 ≡ true = grind (arith, nat_tests, count, few) in
       record {
-        has = and _ _ one_thread lanes.1;
+        has = formed rests is lanes.1;
         range = and _ _ (and _ _ (and _ _ (and _ _ (and _ _ kernel least) greatest) end) lanes_few) lanes.0;
       }
+    where
+      known : (b : Bool) → nat_le (cond b qv sim) (last_kernel (form_for b)) ≡ true
+      known true = refl
+      known false = refl
+
+      formed : (b : Bool) → j.kernel ≡ cond b qv sim → (b || has_no_rest j.lanes) ≡ true → has_form (form_for b) j ≡ true
+      formed true e none = refl
+      formed false e none = let one_thread : not (j.kernel == qv) ≡ true = ap (λ k. not (k == qv)) e in and _ _ one_thread none
 
 pub written : SimHasForms
-written sys stimuli j sound few is_sim some most h = sim-form sys stimuli j sound few is_sim h some most
+written sys stimuli j sound few is_sim some most h = its-form sys stimuli j sound few false is_sim h some most
+
+pub written-qv : QvHasForm
+written-qv sys stimuli j sound few is_qv some most h = its-form sys stimuli j sound few true is_qv h some most

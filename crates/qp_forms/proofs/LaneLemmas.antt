@@ -1,5 +1,5 @@
 -- Each record of a kernel's lane is of an object, or is one that says so.
-use Rattle.std.proofs.Common.{◌≡◌, ℕ, ◌+◌, ◌==◌, nat_lt, Bool, true, false, not, ◌&&◌, cond, List, [], ◌∷◌, ◌++◌, map, reverse, refl, sym, subst, Some, None, inl, inr, arith, ◌⊎◌}
+use Rattle.std.proofs.Common.{◌≡◌, ℕ, ◌+◌, ◌==◌, nat_lt, Bool, true, false, not, ◌&&◌, cond, List, [], ◌∷◌, ◌++◌, map, reverse, refl, sym, ◌∙◌, subst, Some, None, inl, inr, arith, ◌⊎◌}
 use Rattle.std.specs.Prelude.{⊤}
 use Rattle.std.specs.declared.option.Option.{Option}
 use Rattle.std.specs.Option.{option_and_then}
@@ -10,29 +10,30 @@ use Rattle.qp_model.specs.declared.systems.ObjectDef.{ObjectDef}
 use Rattle.qp_model.specs.declared.bodies.Body.{Body}
 use Rattle.qp_model.specs.declared.bodies.Body.TheVariants as body
 use Rattle.qp_model.specs.Record.{Item}
-use Rattle.qp_model.specs.KernelLane.{Role, Looks, Sees, Takes, Ends, Rests, Holds, Drops, RunsOut, Spills, Acts, role_of, Setting, above, Place, Inside, Looking, Found, Ended, Resting, Again, Over, Halted, Reading, base_ended, found_none, looking_at, look_next, seen_next, own_next, inside_next, found_next, ended_next, place_next, start_next, started_next, role_next, lane_next, lane_on, unread, lane_read}
+use Rattle.qp_model.specs.KernelLane.{Role, Looks, Sees, Takes, Ends, Rests, Holds, Drops, RunsOut, Spills, Acts, role_of, Setting, above, Place, Inside, Looking, Found, Ended, Resting, Again, Over, Halted, Reading, base_ended, found_none, looking_at, look_next, seen_next, own_next, inside_next, found_next, ended_next, rest_next, place_next, start_next, started_next, role_next, lane_next, lane_on, unread, lane_read}
 use Rattle.qp_model.specs.Kernels.{qk, qv}
-use Rattle.qp_forms.proofs.CountLemmas.{is_said, both}
+use Rattle.qp_forms.proofs.CountLemmas.{is_said_by, both}
 
 -- a record by its part, where that tells what it says
-abbrev is_known : Role → Bool
-is_known Acts = false
-is_known (Rests k) = false
-is_known _ = true
+abbrev is_known : Bool → Role → Bool
+is_known rests Acts = false
+is_known rests (Rests k) = rests
+is_known rests _ = true
 
-known-said : (b : Body) → is_known (role_of b) ≡ true → is_said b ≡ true
+known-said : (rests : Bool) (b : Body) → is_known rests (role_of b) ≡ true → is_said_by rests b ≡ true
 unfolding role_of
-known-said (body.Look k x) h = refl
-known-said (body.Seen p f l m) h = refl
-known-said (body.Took f l m x) h = refl
-known-said body.Done h = refl
-known-said (body.Lock c) h = refl
-known-said (body.Unlock c) h = refl
-known-said (body.Dec p b d k) h = refl
-known-said (body.Back p x b to) h = refl
-known-said body.Spent h = refl
-known-said (body.Spill x) h = refl
-known-said _ h = absurd (cc)
+known-said rests (body.Look k x) h = refl
+known-said rests (body.Seen p f l m) h = refl
+known-said rests (body.Took f l m x) h = refl
+known-said rests body.Done h = refl
+known-said rests (body.Lock c) h = refl
+known-said rests (body.Unlock c) h = refl
+known-said rests (body.Dec p b d k) h = refl
+known-said rests (body.Back p x b to) h = refl
+known-said rests body.Spent h = refl
+known-said rests (body.Spill x) h = refl
+known-said rests (body.Rest k) h = h
+known-said rests _ h = absurd (cc)
 
 granted : {A : Type 0} (b : Bool) (x y : A) → cond b (Some x) None ≡ Some y → (b ≡ true) × (x ≡ y)
 granted true x y h = (refl, cc)
@@ -62,12 +63,12 @@ all-higher Q floor (d ∷ ds) h = by (nat_lt floor d.priority) (all-higher Q flo
     by false rest = rest
 
 -- Of every object this is so.
-module _ (s : Setting) (other : (s.kernel == qv) ≡ false) (Q : ℕ → Type 0) (objects : AllByRecursion Q (map (λ d. d.priority) s.sys.objects)) where
+module _ (s : Setting) (rests : Bool) (other : rests ≡ false → (s.kernel == qv) ≡ false) (Q : ℕ → Type 0) (objects : AllByRecursion Q (map (λ d. d.priority) s.sys.objects)) where
   abbrev ItsPlace : Place → Type 0
   ItsPlace (Looking p others) = Q p × AllByRecursion Q others
   ItsPlace (Found p) = Q p
   ItsPlace (Ended p) = Q p
-  ItsPlace Resting = ⊥
+  ItsPlace Resting = rests ≡ true
   ItsPlace _ = ⊤
 
   -- the objects of a reading
@@ -78,7 +79,7 @@ module _ (s : Setting) (other : (s.kernel == qv) ≡ false) (Q : ℕ → Type 0)
 
   -- a record of an object, or one whose part tells what it says
   abbrev Fine : ℕ → Role → Type 0
-  Fine o r = Q o ⊎ ((o ≡ 0) × (is_known r ≡ true))
+  Fine o r = Q o ⊎ ((o ≡ 0) × (is_known rests r ≡ true))
 
   all-above : (floor : ℕ) → AllByRecursion Q (above s.sys floor)
   unfolding above
@@ -93,7 +94,15 @@ module _ (s : Setting) (other : (s.kernel == qv) ≡ false) (Q : ℕ → Type 0)
 
   none-its : (k : Reading) (os : List ℕ) → Its k → Its (found_none s k os)
   none-its k (o ∷ outer) its = record { unstarted = its.unstarted; running = its.running; place = tt }
-  none-its k [] its = rw other (base-its k its)
+  none-its k [] its = by (s.kernel == qv) refl
+    where
+      may : (r : Bool) → rests ≡ r → (s.kernel == qv) ≡ true → rests ≡ true
+      may true e is = e
+      may false e is = let wrong : true ≡ false = sym is ∙ other e in absurd (cc)
+
+      by : (b : Bool) → (s.kernel == qv) ≡ b → Its (cond b (record k { place = Resting }) (base_ended s k))
+      by true is = record { unstarted = its.unstarted; running = its.running; place = may rests refl is }
+      by false is = base-its k its
 
   looked-its : (k : Reading) (ps : List ℕ) → Its k → AllByRecursion Q ps → Its (looking_at s k ps)
   looked-its k (p ∷ others) its all = record { unstarted = its.unstarted; running = its.running; place = all }
@@ -188,13 +197,25 @@ module _ (s : Setting) (other : (s.kernel == qv) ≡ false) (Q : ℕ → Type 0)
   ended k next p o Spills its one e = look k next o Spills its e
   ended k next p o Acts its one e = look k next o Acts its e
 
+  rested : (k next : Reading) (o : ℕ) (r : Role) → Its k → rests ≡ true → rest_next s k o r ≡ Some next → Fine o r × Its next
+  rested k next o (Rests n) its may e = let ok = granted _ _ next e in (inr (same o 0 (both (o == 0) _ ok.0).0, may), subst Its ok.1 (base-its k its))
+  rested k next o (Looks n floor) its may e = absurd (cc)
+  rested k next o (Sees q f l m) its may e = absurd (cc)
+  rested k next o Takes its may e = absurd (cc)
+  rested k next o Ends its may e = absurd (cc)
+  rested k next o (Holds c) its may e = absurd (cc)
+  rested k next o Drops its may e = absurd (cc)
+  rested k next o RunsOut its may e = absurd (cc)
+  rested k next o Spills its may e = absurd (cc)
+  rested k next o Acts its may e = absurd (cc)
+
   placed : (k next : Reading) (o : ℕ) (r : Role) (at : Place) → Its k → ItsPlace at → place_next s k o r at ≡ Some next → Fine o r × Its next
   unfolding place_next
   placed k next o r Inside its there e = inside k next k.running o r its its.running e
   placed k next o r (Looking p others) its there e = seen k next p others o r its there.0 there.1 e
   placed k next o r (Found p) its there e = found k next p o r its there e
   placed k next o r (Ended p) its there e = ended k next p o r its there e
-  placed k next o r Resting its there e = absurd there
+  placed k next o r Resting its there e = rested k next o r its there e
   placed k next o r Again its there e = look k next o r its e
   placed k next o r Over its there e = by (s.kernel == qk) e
     where
@@ -245,7 +266,7 @@ module _ (s : Setting) (other : (s.kernel == qv) ≡ false) (Q : ℕ → Type 0)
 
   -- a record of an object, or of none, which says so
   abbrev pub Owned : Item → Type 0
-  Owned i = Q i.of ⊎ ((i.of ≡ 0) × (is_said i.body ≡ true))
+  Owned i = Q i.of ⊎ ((i.of ≡ 0) × (is_said_by rests i.body ≡ true))
 
   owned : (k next : Reading) (i : Item) → Its k → lane_next s k i ≡ Some next → Owned i × Its next
   unfolding lane_next
@@ -253,7 +274,7 @@ module _ (s : Setting) (other : (s.kernel == qv) ≡ false) (Q : ℕ → Type 0)
     where
       by : Fine i.of (role_of i.body) × Its next → Owned i × Its next
       by (inl mine, more) = (inl mine, more)
-      by (inr (none, known), more) = (inr (none, known-said i.body known), more)
+      by (inr (none, known), more) = (inr (none, known-said rests i.body known), more)
 
   all-owned : (is : List Item) (k last : Reading) → Its k → lane_on s k is ≡ Some last → AllByRecursion Owned is
   unfolding lane_on

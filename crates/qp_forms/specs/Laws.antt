@@ -3,7 +3,7 @@ use Rattle.std.specs.Prelude.{◌≡◌, ℕ, ◌<◌, ◌≤◌, true, List, le
 use Rattle.qp_model.specs.declared.journals.Journal.{Journal}
 use Rattle.qp_model.specs.declared.stimulus.Stim.{Stim}
 use Rattle.qp_model.specs.declared.systems.System.{System}
-use Rattle.qp_model.specs.Kernels.{sim}
+use Rattle.qp_model.specs.Kernels.{sim, qv}
 use Rattle.qp_model.specs.Lawful.{Lawful}
 use Rattle.qp_model.specs.Output.{has_form, is_in_range}
 use Rattle.qp_model.specs.Sound.{IsSound}
@@ -18,3 +18,9 @@ abbrev pub SimHasForms : Type 0
 SimHasForms =
     (sys : System) (stimuli : List (List Stim)) (j : Journal) → IsSound sys → length stimuli ≤ 16 → j.kernel ≡ sim → 0 < j.budget → j.budget ≤ 1000000 → Lawful sys stimuli j
     → CanBeWritten 1 j
+
+-- and one of `qv` in form 2
+abbrev pub QvHasForm : Type 0
+QvHasForm =
+    (sys : System) (stimuli : List (List Stim)) (j : Journal) → IsSound sys → length stimuli ≤ 16 → j.kernel ≡ qv → 0 < j.budget → j.budget ≤ 1000000 → Lawful sys stimuli j
+    → CanBeWritten 2 j
