@@ -1,0 +1,12 @@
+use Rattle.qp_dispatch_tests.specs.Trial.{IsBase}
+use Rattle.qp_dispatch_tests.proofs.trial.begin.Given as goal
+
+-- a trial may go on
+abbrev pub invariant-loop-i : goal.invariant-loop-i
+invariant-loop-i g l = record { base : IsBase l.fn.sys 0 (g.O.Ops.lane l.ops) }
+
+abbrev pub invariant-loop-to : goal.invariant-loop-to
+invariant-loop-to g l = record { base : IsBase l.fn.sys 0 (g.O.Ops.lane l.ops) }
+
+abbrev pub invariant-loop-p : goal.invariant-loop-p
+invariant-loop-p g l = record { base : IsBase l.fn.sys l.ceiling (g.O.Ops.lane l.ops) }
