@@ -1,0 +1,71 @@
+-- A lawful journal has few lanes, and each is short.
+use Rattle.std.proofs.Common.{◌≡◌, ◌∙◌, suc, ◌+◌, ◌^◌, ◌≤◌, ◌<◌, ◌==◌, Bool, true, false, not, ◌||◌, cond, List, [], ◌∷◌, ◌++◌, length, refl, ap, arith}
+use Rattle.std.specs.List.{AllByRecursion, count_by, list_all}
+use Rattle.std.proofs.lemmas.Bool.Decides.{nat_tests}
+use Rattle.std.proofs.lemmas.List.Sums.{sum_by-cons}
+use Rattle.qp_model.specs.declared.record.Rec.{Rec}
+use Rattle.qp_model.specs.declared.stimulus.Stim.{Stim}
+use Rattle.qp_model.specs.declared.systems.System.{System}
+use Rattle.qp_model.specs.declared.journals.Journal.{Journal}
+use Rattle.qp_model.specs.Record.{Item}
+use Rattle.qp_model.specs.History.{lane_items}
+use Rattle.qp_model.specs.Kernels.{port}
+use Rattle.qp_model.specs.Ends.{ends_last, is_assert, is_end, is_spent, is_spill}
+use Rattle.qp_model.specs.End.{has_room}
+use Rattle.qp_model.specs.Lawful.{EndHolds, Lawful, lanes_before}
+use Rattle.qp_model.specs.Sound.{IsSound}
+use Rattle.qp_model.proofs.ListLemmas.{both_true}
+use Rattle.qp_replay.specs.Rest.{IsSmall}
+
+pub short-more : (ls : List (List Rec)) (l : List Rec) → AllByRecursion (λ l. length l < 2 ^ 32) ls → length l < 2 ^ 32 → AllByRecursion (λ l. length l < 2 ^ 32) (ls ++ l ∷ [])
+short-more [] l all short = (short, tt)
+short-more (x ∷ xs) l all short = (all.0, short-more xs l all.1 short)
+
+no-spill : (x y z : Bool) → not (x || y || z) ≡ true → z ≡ false
+no-spill true y z h = absurd (cc)
+no-spill false true z h = absurd (cc)
+no-spill false false true h = absurd (cc)
+no-spill false false false h = refl
+
+-- at most one `spill` stands in a lane
+lane-long : (lane : List Item) → ends_last lane ≡ true → length lane ≤ count_by (λ i. not (is_spill i.body)) lane + 1
+unfolding ends_last
+lane-long [] last = omega arith
+lane-long (i ∷ []) last = omega arith
+lane-long (i ∷ j ∷ is) last =
+    let parts = both_true (not (is_end i.body)) (ends_last (j ∷ is)) last in
+    let none : is_spill i.body ≡ false = no-spill (is_assert i.body) (is_spent i.body) (is_spill i.body) parts.0 in
+    let rest = lane-long (j ∷ is) parts.1 in
+    let more : count_by (λ i. not (is_spill i.body)) (i ∷ j ∷ is) ≡ 1 + count_by (λ i. not (is_spill i.body)) (j ∷ is) =
+    sum_by-cons (λ i. cond (not (is_spill i.body)) 1 0) i (j ∷ is) ∙ rw none refl in
+    omega (arith, rest, more)
+
+lane-length : (l : List Rec) → length (lane_items l) ≡ length l
+unfolding lane_items
+lane-length [] = refl
+lane-length (r ∷ rs) = ap suc (lane-length rs)
+
+lanes-short : (lanes : List (List Rec)) → list_all (λ lane. ends_last (lane_items lane)) lanes ≡ true → list_all (λ lane. has_room (lane_items lane)) lanes ≡ true → AllByRecursion (λ l. length l < 2 ^ 32) lanes
+unfolding has_room
+lanes-short [] last room = tt
+lanes-short (l ∷ ls) last room =
+    let ends = both_true (ends_last (lane_items l)) (list_all (λ lane. ends_last (lane_items lane)) ls) last in
+    let has = both_true (has_room (lane_items l)) (list_all (λ lane. has_room (lane_items lane)) ls) room in
+    let long = lane-long (lane_items l) ends.0 in
+    let few : count_by (λ i. not (is_spill i.body)) (lane_items l) ≤ 1000000 = grind (arith, nat_tests, has.0) in
+    let same : length (lane_items l) ≡ length l = lane-length l in
+    (omega (arith, long, few, same), lanes-short ls ends.1 has.1)
+
+pub small-journal : (sys : System) (stimuli : List (List Stim)) (j : Journal) → IsSound sys → length stimuli ≤ 16 → Lawful sys stimuli j → IsSmall j.lanes
+unfolding EndHolds
+small-journal sys stimuli j sound few lawful = record {
+  count =
+      let many : length j.lanes ≡ lanes_before sys j + length stimuli = grind (arith, nat_tests, lawful.sources.count) in
+      let before = go (j.kernel == port) in
+      omega (arith, many, before, few);
+  lengths = lanes-short j.lanes lawful.end.last lawful.end.room;
+}
+  where
+    go : (b : Bool) → cond b (length sys.objects + 1) 1 ≤ 33
+    go true = omega (arith, sound.few_objects)
+    go false = omega arith

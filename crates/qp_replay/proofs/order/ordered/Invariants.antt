@@ -1,0 +1,9 @@
+use Rattle.std.proofs.Common.{◌≡◌}
+use Rattle.qp_replay.proofs.OrderLemmas.{Kept, left}
+use Rattle.qp_replay.proofs.order.ordered.Given as goal
+
+abbrev pub invariant-order : goal.invariant-order
+invariant-order l = record { same : l.rest.lanes ≡ l.lanes; kept : Kept l.rest l.order }
+
+abbrev pub decreases-order : goal.decreases-order
+decreases-order l = left l.rest.lanes l.rest.fronts

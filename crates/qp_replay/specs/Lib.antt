@@ -1,0 +1,5 @@
+pub mod Numbers
+pub mod Orders
+pub mod Marks
+pub mod Replaying
+pub mod Rest

@@ -1,0 +1,17 @@
+//! One order of a journal's records, or why there is none.
+#![tactic(auto)]
+
+// The marks of the records that don't stand in the order yet.
+mod marks;
+mod rest;
+
+// What a replay answers, and how it is found.
+mod cycle;
+mod order;
+mod places;
+mod replaying;
+
+pub use marks::At;
+pub use order::{is_small, ordered};
+pub use places::{Places, Replayed};
+pub use replaying::replay;
