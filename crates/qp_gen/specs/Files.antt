@@ -9,17 +9,18 @@ system_text = codes "qp = 1\npool = [{ size = 1, blocks = 8 }]\nsignal = [{ name
 abbrev pub posted : ℕ → ℕ → ℕ
 posted k i = (4 * k + i) * 7919 % 1000
 
-abbrev pub post_line : ℕ → ℕ → List ℕ
-post_line k i = codes "post relay ADD(" ++ decimal (posted k i) ++ codes ")\n"
+-- a post, behind which the source waits until all queues are empty
+abbrev pub post_lines : ℕ → ℕ → List ℕ
+post_lines k i = codes "post relay ADD(" ++ decimal (posted k i) ++ codes ")\nsettle\n"
 
 -- the first n posts of source i
 abbrev pub posts_text : ℕ → ℕ → List ℕ
 posts_text zero i = []
-posts_text (suc k) i = posts_text k i ++ post_line k i
+posts_text (suc k) i = posts_text k i ++ post_lines k i
 
--- source i: its posts, and then it waits until all queues are empty
+-- source i
 abbrev pub source_text : ℕ → ℕ → List ℕ
-source_text n i = codes "source " ++ decimal i ++ codes "\n" ++ posts_text n i ++ codes "settle\n"
+source_text n i = codes "source " ++ decimal i ++ codes "\n" ++ posts_text n i
 
 -- four sources
 abbrev pub stimuli_text : ℕ → List ℕ

@@ -1,7 +1,7 @@
 //! The two files.
 
 ghost use Rattle.std.specs.Prelude.{◌≡◌, ◌+◌, ◌*◌, ◌%◌, ◌++◌, ◌≤◌, IfOk, OnOk, string_bytes};
-ghost use Rattle.qp_gen.specs.Files.{post_line, posts_text, source_text, stimuli_text, system_text};
+ghost use Rattle.qp_gen.specs.Files.{post_lines, posts_text, source_text, stimuli_text, system_text};
 
 use std::alloc::{AllocError, Global};
 
@@ -12,14 +12,14 @@ pub(crate) fn system_text() -> &'static str
     "qp = 1\npool = [{ size = 1, blocks = 8 }]\nsignal = [{ name = 'ADD', params = 1 }]\n[[chart]]\nname = 'sum'\ninit = 'wait'\nvars = { total = 0 }\n[[chart.state]]\nname = 'wait'\nrow = [{ on = 'ADD', do = ['total = total + p1'] }]\n[[chart]]\nname = 'relay'\ninit = 'wait'\n[[chart.state]]\nname = 'wait'\nrow = [{ on = 'ADD', do = ['forward sum'] }]\n[[object]]\nname = 'sum'\nchart = 'sum'\npriority = 1\nqueue = 15\n[[object]]\nname = 'relay'\nchart = 'relay'\npriority = 2\nqueue = 15\n"
 }
 
-/// Appends a post.
+/// Appends a post, and that the source waits behind it.
 fn push_post(text: &mut String, k: u32, i: u32) -> Result<(), AllocError>
     requires times { k ≤ 1000 }
     requires source { i ≤ 4 }
-    ensures { OnOk result (string_bytes text.new ≡ string_bytes text.old ++ post_line k i) }
+    ensures { OnOk result (string_bytes text.new ≡ string_bytes text.old ++ post_lines k i) }
 {
     let value = (4 * k + i) * 7919 % 1000;
-    write!(text, "post relay ADD({value})\n")
+    write!(text, "post relay ADD({value})\nsettle\n")
 }
 
 /// Appends the posts of source `i`.
@@ -41,8 +41,7 @@ fn push_source(text: &mut String, n: u32, i: u32) -> Result<(), AllocError>
     ensures { OnOk result (string_bytes text.new ≡ string_bytes text.old ++ source_text n i) }
 {
     write!(text, "source {i}\n")?;
-    push_posts(text, n, i)?;
-    text.push_str("settle\n")
+    push_posts(text, n, i)
 }
 
 /// The stimulus file, with `n` posts of each of four sources.

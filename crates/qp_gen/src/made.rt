@@ -10,8 +10,8 @@ use qp_stim::stimuli_of_bytes;
 use qp_system::system_of_bytes;
 use std::alloc::Global;
 
-/// The system that relays and sums up numbers, and stimuli for it: each of four sources posts `n` numbers below 1000 and then waits
-/// until all queues are empty. `n` is 1 to 1000.
+/// The system that relays and sums up numbers, and stimuli for it: each of four sources posts `n` numbers below 1000, and behind each
+/// waits until all queues are empty. `n` is 1 to 1000.
 pub fn generate(alloc: Global, n: u32) -> Result<(System, Stimuli), Memory>
     requires some { 1 ≤ n }
     requires few { n ≤ 1000 }
