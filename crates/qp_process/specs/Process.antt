@@ -13,7 +13,7 @@ use Rattle.qp_run.specs.declared.status.Status.TheVariants.{Words, Memory}
 use Rattle.qp_run.specs.Conversions.{Held}
 use Rattle.qp_run.specs.Notes.{number_of}
 use Rattle.qp_run.specs.Verdict.{Counts, IsCall, Noted, Stands, Stream}
-use Rattle.qp_run.specs.WordTable.{command_in}
+use Rattle.qp_commands.specs.WordTable.{command_in}
 
 -- the arguments of a process, as `env::args` gives them
 abbrev pub Args : Type 0

@@ -3,7 +3,7 @@
 ghost use Rattle.std.specs.Prelude.{◌≡◌, drop, map, IfOk, string_bytes};
 ghost use Rattle.std.specs.IoError.{error_kind};
 ghost use Rattle.std.specs.Vec.Iter.{into_iter_items};
-ghost use Rattle.qp_run.specs.WordTable.{texts};
+ghost use Rattle.qp_commands.specs.WordTable.{texts};
 ghost use Rattle.qp_process.specs.Process.{unread};
 
 use qp_run::Status;

@@ -4,7 +4,7 @@ ghost use Rattle.std.specs.Prelude.{◌≡◌};
 ghost use Rattle.std.specs.Process.{exit_status};
 ghost use Rattle.qp_run.specs.Notes.{number_of};
 ghost use Rattle.qp_run.specs.Verdict.{IsCall, count_of, stream_of, writes_of};
-ghost use Rattle.qp_run.specs.WordTable.{command_in};
+ghost use Rattle.qp_commands.specs.WordTable.{command_in};
 ghost use Rattle.qp_process.specs.Process.{EndsWith, IsAnswered, words_in};
 
 use crate::arguments::{texts_of, unread, words_of};

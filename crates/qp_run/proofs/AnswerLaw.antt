@@ -10,14 +10,15 @@ use Rattle.qp_document.specs.declared.fault.SystemFault.TheVariants.{Memory as N
 use Rattle.qp_system.specs.SystemOf.{IsSystemOf, RefusesSystem}
 use Rattle.qp_system.proofs.LawLemmas.{systems_have_no_fault, refusals_are_one}
 use Rattle.qp_run.specs.declared.status.Status.{Status}
-use Rattle.qp_run.specs.declared.words.values.Kind.{Kind}
-use Rattle.qp_run.specs.declared.words.values.Kind.TheVariants.{Frames, Journal as Text}
+use Rattle.qp_commands.specs.declared.values.Kind.{Kind}
+use Rattle.qp_commands.specs.declared.values.Kind.TheVariants.{Frames, Journal as Text}
 use Rattle.qp_run.specs.Checks.{JudgesFiles, JudgesFound, JudgesSecond, JudgesStimuli, JudgesSystem, JudgesThird, verdict_answer}
 use Rattle.qp_run.specs.Conversions.{AnswersJournal, answer_on, decode_on, migrate_on, said}
 use Rattle.qp_run.specs.Loads.{EndsAtLoad, IsLoaded}
 use Rattle.qp_model.specs.declared.journals.Journal.{Journal}
-use Rattle.qp_run.specs.WordTable.{check, decode, migrate, number_of_form, run}
-use Rattle.qp_run.specs.Verdict.{AnswersFiles, AnswersSources, AnswersStimuli, AnswersSystem, EndRuns, EndsRun, IsAnswer, OneAnswer}
+use Rattle.qp_run.specs.Printed.{made_budget}
+use Rattle.qp_commands.specs.WordTable.{check, decode, generate, migrate, number_of_form, run}
+use Rattle.qp_run.specs.Verdict.{AnswersFiles, AnswersSources, AnswersStimuli, AnswersSystem, EndRuns, EndsMade, EndsRun, IsAnswer, OneAnswer}
 use Rattle.qp_run.specs.Refusals.{RefusesFirst, system_refusal}
 
 -- a file that was not loaded has one answer
@@ -108,6 +109,20 @@ module _ (system stimuli : Option (List ℕ)) (budget : ℕ) (bytes text : List 
   files-run (inl ends) = absurd (loaded-goes_on 1 system bytes answer system_held ends)
   files-run (inr (found, loaded, is)) = on-system (subst (λ b. AnswersSystem b stimuli budget answer) (loaded-one system found bytes loaded system_held) is)
 
+-- two runs of what the same bytes say are runs of one system and its stimuli
+runs-one : (bytes text : List ℕ) (s t : System) (xs ys : List (List Stim)) → IsSystemOf bytes s → IsSystemOf bytes t → stimuli_of s text ≡ Ok xs → stimuli_of t text ≡ Ok ys
+    → (budget : ℕ) (a b : Status) → EndsRun s xs budget a → EndsRun t ys budget b → EndRuns budget a b
+runs-one bytes text s t xs ys p q says tells budget a b is are =
+    let both : Ok ys ≡ Ok xs = sym tells ∙ sym (stimuli_are_one bytes s t text p q) ∙ says in
+    let same : ys ≡ xs = cc in
+    (s, xs, is, run-carries bytes t s q p xs budget b (subst (λ zs. EndsRun t zs budget b) same are))
+
+-- and so are those of what a number makes
+made-one : (n : ℕ) (a b : Status) → EndsMade n a → EndsMade n b → EndRuns made_budget a b
+unfolding EndsMade
+made-one n a b (s, xs, made, is) (t, ys, makes, are) =
+    runs-one _ _ s t xs ys made.system makes.system made.sources makes.sources made_budget a b is are
+
 -- a file has one journal, or none
 journal-one : (kind : Kind) (on : Journal → Status) (held : Option (List ℕ)) (a b : Status) → AnswersJournal kind on held a → AnswersJournal kind on held b → a ≡ b
 journal-one kind on held a b (inl is) (inl are) = ends-one 1 held a b is are
@@ -169,3 +184,4 @@ one-answer held (Some (run w)) a b p q = files-run-one (held w.system) (held w.s
 one-answer held (Some (decode frames)) a b p q = inl (journal-one Frames decode_on (held frames) a b p q)
 one-answer held (Some (migrate w)) a b p q = inl (journal-one w.from (migrate_on (number_of_form w.to)) (held w.file) a b p q)
 one-answer held (Some (check w)) a b p q = inl (files-judged-one (held w.system) (held w.stimuli) (held w.journal) a b p q)
+one-answer held (Some (generate n)) a b p q = inr (made-one n a b p q)

@@ -6,7 +6,7 @@ use Rattle.qp_run.specs.declared.status.Status.TheVariants.{Memory}
 use Rattle.qp_run.specs.Conversions.{Held}
 use Rattle.qp_run.specs.Notes.{names_file}
 use Rattle.qp_run.specs.Verdict.{Agrees, AnswersWords, Count, Counts, HasCause, IsCall, IsOutput, Noted, Prints, Stands, Stream, quiet}
-use Rattle.qp_run.specs.WordTable.{Asked}
+use Rattle.qp_commands.specs.WordTable.{Asked}
 use Rattle.qp_run.proofs.CompleteLemmas.{complete}
 use Rattle.qp_run.proofs.VerdictLemmas.{agrees-stands, answers-stands, cause-stands, failure-agrees, prints-stands}
 

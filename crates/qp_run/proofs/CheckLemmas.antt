@@ -18,13 +18,13 @@ use Rattle.qp_system.proofs.LawLemmas.{systems_have_no_fault}
 use Rattle.qp_text.specs.TextLaw.{IsWritable}
 use Rattle.qp_run.specs.declared.status.Status.{Status}
 use Rattle.qp_run.specs.declared.status.Status.TheVariants.{Memory}
-use Rattle.qp_run.specs.declared.words.values.Kind.TheVariants.{Journal}
+use Rattle.qp_commands.specs.declared.values.Kind.TheVariants.{Journal}
 use Rattle.qp_run.specs.Checks.{HasLawful, IsLawfulText, Judges, JudgesFiles, JudgesFound, JudgesSecond, JudgesSystem, JudgesThird, JudgesStimuli, third, verdict_answer}
 use Rattle.qp_run.specs.Conversions.{Held, Refuses, said, written}
 use Rattle.qp_run.specs.Loads.{IsLoaded}
 use Rattle.qp_run.specs.Verdict.{AgreesCheck, FailsToLoad, JudgesCall, is_failure}
 use Rattle.qp_run.specs.Refusals.{RefusesFirst, RefusesSecond}
-use Rattle.qp_run.specs.WordTable.{CheckWords, check_words}
+use Rattle.qp_commands.specs.WordTable.{CheckWords, check_words}
 use Rattle.qp_run.proofs.AnswerLaw.{loaded-goes_on, loaded-one}
 use Rattle.qp_run.proofs.ConversionLemmas.{said-written}
 use Rattle.qp_run.proofs.VerdictLemmas.{IfSome-all, IfSome-both}

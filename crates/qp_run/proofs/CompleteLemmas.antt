@@ -7,13 +7,13 @@ use Rattle.qp_model.specs.declared.systems.System.{System}
 use Rattle.qp_text.specs.TextLaw.{IsWritable}
 use Rattle.qp_run.specs.declared.status.Status.{Status}
 use Rattle.qp_run.specs.declared.status.Status.TheVariants.{Done, Words, Absent, TooLong, Refused, Asserted, Spent, Memory, ReadFault, WriteFault, Unlawful}
-use Rattle.qp_run.specs.declared.words.values.Kind.{Kind}
-use Rattle.qp_run.specs.declared.words.values.Kind.TheVariants.{Frames}
+use Rattle.qp_commands.specs.declared.values.Kind.{Kind}
+use Rattle.qp_commands.specs.declared.values.Kind.TheVariants.{Frames}
 use Rattle.qp_run.specs.Conversions.{AnswersJournal, Held, answer_on, decode_on, migrate_on, said, written}
 use Rattle.qp_run.specs.Loads.{IsLoaded}
-use Rattle.qp_run.specs.Verdict.{Agrees, AnswersFiles, Counts, Ends, EndsCall, EndsRun, EndsRunning, EndsJudging, HasCause, IsAnswer, IsComplete, is_failure}
+use Rattle.qp_run.specs.Verdict.{Agrees, AnswersFiles, Counts, Ends, EndsCall, EndsMade, EndsMaking, EndsRun, EndsRunning, EndsJudging, HasCause, IsAnswer, IsComplete, is_failure}
 use Rattle.qp_run.specs.Checks.{Judges, JudgesFiles}
-use Rattle.qp_run.specs.WordTable.{Asked, check, decode, migrate, number_of_form, run}
+use Rattle.qp_commands.specs.WordTable.{Asked, check, decode, generate, migrate, number_of_form, run}
 use Rattle.qp_run.proofs.AnswerLaw.{files-run, loaded-goes_on, loaded-one}
 use Rattle.qp_run.proofs.CheckLemmas.{files-judged}
 use Rattle.qp_run.proofs.ConversionLemmas.{said-written}
@@ -76,6 +76,15 @@ running-failed system stimuli budget n answer failed cause = λ bytes text sys s
     by sys sources (inl done) = absurd (false≢true (ap is_failure (sym done) ∙ failed))
     by sys sources (inr memory) = inr memory
 
+-- how the run of what a number makes ended, or a failure
+making : (number : ℕ) (n : Counts) (answer : Status) → (is_failure answer ≡ true) ⊎ EndsMade number answer → HasCause n answer → EndsMaking number n answer
+making number n answer (inr is) cause = λ reads out notes. inl is
+making number n answer (inl failed) cause = λ reads out notes. by (failed-ends n Done answer failed cause reads out notes)
+  where
+    by : (answer ≡ Done) ⊎ (answer ≡ Memory) → EndsMade number answer ⊎ (answer ≡ Memory)
+    by (inl done) = absurd (false≢true (ap is_failure (sym done) ∙ failed))
+    by (inr memory) = inr memory
+
 ends-call : (held : Held) (asked : Option Asked) (n : Counts) (answer : Status) → Agrees held asked answer → HasCause n answer → EndsCall held asked n answer
 unfolding IsAnswer
 ends-call held None n answer agrees cause = ends-so n Words answer agrees cause
@@ -89,6 +98,7 @@ ends-call held (Some (migrate w)) n answer (inr is) cause = λ form j writable l
     ends-so n _ answer (inr (on-journal w.from (migrate_on (number_of_form w.to)) (held w.file) answer form j writable loaded is)) cause
 ends-call held (Some (check w)) n answer (inl failed) cause = judging-failed (held w.system) (held w.stimuli) (held w.journal) n answer failed cause
 ends-call held (Some (check w)) n answer (inr is) cause = judging-done (held w.system) (held w.stimuli) (held w.journal) n answer is
+ends-call held (Some (generate number)) n answer agrees cause = making number n answer agrees cause
 
 pub complete : (o : Option Held) (asked : Option Asked) (n : Counts) (answer : Status) → IfSome o (λ held. Agrees held asked answer) → HasCause n answer → IsComplete o asked n answer
 complete None asked n answer agrees cause = tt

@@ -19,8 +19,8 @@ use Rattle.qp_frames.specs.Stream.{decoded, ended}
 use Rattle.qp_run.specs.declared.place.Place.TheVariants.{Nowhere}
 use Rattle.qp_run.specs.declared.status.Status.{Status}
 use Rattle.qp_run.specs.declared.status.Status.TheVariants.{Done, Refused}
-use Rattle.qp_run.specs.declared.words.values.Kind.{Kind}
-use Rattle.qp_run.specs.declared.words.values.Kind.TheVariants.{Journal, Frames}
+use Rattle.qp_commands.specs.declared.values.Kind.{Kind}
+use Rattle.qp_commands.specs.declared.values.Kind.TheVariants.{Journal, Frames}
 use Rattle.qp_run.specs.Conversions.{AnswersJournal, HasJournal, Held, IsWrittenAs, Refuses, answer_on, frame_refusal, frames_said, migrate_on, said, text_refusal, text_said, written, other_form}
 use Rattle.qp_run.specs.Loads.{IsLoaded}
 use Rattle.qp_run.specs.Verdict.{AgreesJournal, FailsToLoad, is_failure}

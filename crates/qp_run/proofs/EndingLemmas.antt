@@ -2,18 +2,14 @@
 use Rattle.std.proofs.Common.{◌≡◌, ℕ, List, Option, refl, sym, ap, ◌∙◌, inl, inr, subst}
 use Rattle.qp_base.specs.Sink.{appended}
 use Rattle.qp_model.specs.declared.journals.Journal.{Journal}
-use Rattle.qp_model.specs.declared.stimulus.Stim.{Stim}
-use Rattle.qp_model.specs.declared.systems.System.{System}
 use Rattle.qp_run.specs.declared.status.Status.{Status}
 use Rattle.qp_run.specs.declared.status.Status.TheVariants.{Done, Words, Asserted, Spent, WriteFault}
-use Rattle.qp_run.specs.declared.words.values.Kind.{Kind}
-use Rattle.qp_run.specs.Conversions.{Held, IsWrittenAs, PrintsOne, WhenDone, written}
+use Rattle.qp_run.specs.Conversions.{IsWrittenAs, PrintsOne, WhenDone}
 use Rattle.qp_outcome.specs.declared.journal.Outcome.{Outcome}
 use Rattle.qp_outcome.specs.declared.journal.Outcome.TheVariants as outcome
 use Rattle.qp_outcome.specs.Outcome.{outcome_of}
 use Rattle.qp_run.specs.Endings.{ending_of, status_of}
-use Rattle.qp_run.specs.Verdict.{Count, Counts, HasCause, IsInput, IsRun, quiet}
-use Rattle.qp_simulation.specs.SimRun.{IsSimRun}
+use Rattle.qp_run.specs.Verdict.{Count, Counts, HasCause, quiet}
 
 -- it is done, or ended at an assertion, or ran out
 ending-by : (P : Status → Type 0) → P Done → ((code n : ℕ) → P (Asserted code n)) → ((n : ℕ) → P (Spent n)) → (j : Journal) → P (ending_of j)
@@ -35,12 +31,6 @@ ending-prints : (IsWhole : Status → List ℕ → Type 0) (old new : Option (Li
     → ((told : Status) → told ≡ ending_of j → IsWhole told whole) → new ≡ appended old whole → PrintsOne IsWhole old new (ending_of j)
 ending-prints IsWhole old new whole j is got =
     (ending-by (λ s. IsWhole s whole → PrintsOne IsWhole old new s) (λ w. (whole, w, got)) (λ code n w. (whole, w, got)) (λ n w. (whole, w, got)) j) (is (ending_of j) refl)
-
--- what is told of a journal is how its run ended
-pub written-as : (j : Journal) (o : Outcome) (told : Status) (bytes : List ℕ) (old new : Option (List ℕ)) (faults faults' : ℕ) (answer : Status)
-    → told ≡ status_of o → o ≡ outcome_of j → IsWrittenAs told bytes old new faults faults' answer → IsWrittenAs (ending_of j) bytes old new faults faults' answer
-unfolding ending_of
-written-as j o told bytes old new faults faults' answer is are wrote = subst (λ s. IsWrittenAs s bytes old new faults faults' answer) (is ∙ ap status_of are) wrote
 
 -- a journal was written, and the answer is how its run ended
 module _ (j : Journal) (bytes : List ℕ) (old new : Option (List ℕ)) (faults faults' : ℕ) (answer : Status) (wrote : IsWrittenAs (ending_of j) bytes old new faults faults' answer) where
@@ -67,13 +57,6 @@ module _ (j : Journal) (bytes : List ℕ) (old new : Option (List ℕ)) (faults 
       by : IsWrittenAs (ending_of j) bytes old new faults faults' answer → HasCause n answer
       by (inl (same, got)) = subst (HasCause n) (sym same) (ending-cause n j)
       by (inr (failed, part, rose)) = subst (HasCause n) (sym failed) (inl rose)
-
--- what a run printed
-pub run-whole : (held : Option Held) (system stimuli : List ℕ) (budget : ℕ) (kind : Kind) (form : ℕ) (sys : System) (sources : List (List Stim)) (j : Journal)
-    → IsInput held system stimuli sys sources → IsSimRun sys sources budget j → (told : Status) → told ≡ ending_of j
-    → IsRun held system stimuli budget kind form told (written kind form j)
-run-whole held system stimuli budget kind form sys sources j input is told ends =
-    (j, record { system = sys; sources = sources; input = input; run = is }, ends, refl)
 
 -- what another call printed
 pub done-prints : (IsWhole : List ℕ → Type 0) (bytes : List ℕ) (old new : Option (List ℕ)) (faults faults' : ℕ) (answer : Status) → IsWhole bytes

@@ -15,9 +15,9 @@ use Rattle.qp_forms.specs.Laws.{CanBeWritten}
 use Rattle.qp_forms.proofs.FormLemmas.{written}
 use Rattle.qp_model.specs.Sound.{IsSound}
 use Rattle.qp_simulation.specs.SimRun.{IsSimRun}
-use Rattle.qp_run.specs.declared.words.values.Form.{Form}
-use Rattle.qp_run.specs.declared.words.values.Form.TheVariants.{One, Two}
-use Rattle.qp_run.specs.WordTable.{number_of_form}
+use Rattle.qp_commands.specs.declared.values.Form.{Form}
+use Rattle.qp_commands.specs.declared.values.Form.TheVariants.{One, Two}
+use Rattle.qp_commands.specs.WordTable.{number_of_form}
 
 kind-one : (b : Bool) (kind : ℕ) → nat_le kind (cond b REST LOOK) ≡ true → not (kind == REST) ≡ true → nat_le kind LOOK ≡ true
 kind-one true kind within other = grind (arith, nat_tests)

@@ -1,13 +1,8 @@
 mod AnswerLaw
 mod VerdictLemmas
-mod WordFound
-mod WordApps
-mod WordCommands
-mod WordNames
-mod WordCalls
 mod FormLemmas
 mod EndingLemmas
-mod BudgetLemmas
+mod PrintedLemmas
 mod ConversionLemmas
 mod CheckLemmas
 mod CompleteLemmas

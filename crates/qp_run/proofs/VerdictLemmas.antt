@@ -9,20 +9,17 @@ use Rattle.qp_base.specs.Sink.{AppendsPrefix, appended}
 use Rattle.qp_base.specs.Limits.{file_limit}
 use Rattle.qp_model.specs.declared.stimulus.Stim.{Stim}
 use Rattle.qp_model.specs.declared.systems.System.{System}
-use Rattle.qp_model.specs.declared.journals.Journal.{Journal}
-use Rattle.qp_simulation.specs.SimRun.{IsSimRun}
 use Rattle.qp_stim.specs.Stimuli.{Fault, stimuli_of}
 use Rattle.qp_system.specs.SystemOf.{IsSystemOf}
 use Rattle.qp_run.specs.declared.status.Status.{Status}
 use Rattle.qp_run.specs.declared.status.Status.TheVariants.{Done, Words, Absent, TooLong, Refused, Asserted, Spent, Memory, ReadFault, WriteFault, Unlawful}
-use Rattle.qp_run.specs.Conversions.{Held, IsWrittenAs, PrintsOne, decode_on, migrate_on}
-use Rattle.qp_run.specs.declared.words.values.Kind.TheVariants.{Frames}
-use Rattle.qp_run.specs.Endings.{ending_of}
+use Rattle.qp_run.specs.Conversions.{Held, PrintsOne, decode_on, migrate_on}
+use Rattle.qp_commands.specs.declared.values.Kind.TheVariants.{Frames}
 use Rattle.qp_run.specs.Loads.{EndsAtLoad, IsLoaded}
 use Rattle.qp_run.specs.Notes.{line_of, names_file, is_done}
 use Rattle.qp_run.specs.Refusals.{RefusesFirst, RefusesSecond}
-use Rattle.qp_run.specs.Verdict.{Agrees, AgreesCheck, AgreesFiles, AgreesJournal, AgreesRun, AnswersFiles, AnswersSystem, AnswersStimuli, AnswersWords, Count, Counts, FailsToLoad, HasCause, HasRisen, IsAnswer, IsInput, Noted, Stands, AnswersSources, EndsRun, is_failure, quiet}
-use Rattle.qp_run.specs.WordTable.{Asked, CheckWords, MigrateWords, RunWords, check, decode, migrate, number_of_form, run}
+use Rattle.qp_run.specs.Verdict.{Agrees, AgreesCheck, AgreesFiles, AgreesJournal, AgreesRun, AnswersFiles, AnswersSystem, AnswersStimuli, AnswersWords, Count, Counts, FailsToLoad, HasCause, HasRisen, IsAnswer, IsInput, Noted, Stands, AnswersSources, EndsMade, EndsRun, is_failure, quiet}
+use Rattle.qp_commands.specs.WordTable.{Asked, CheckWords, MigrateWords, RunWords, check, decode, generate, migrate, number_of_form, run}
 
 -- a fact of what the shelf holds, where it tells
 pub IfSome-all : {A : Type 0} {P : A → Type 0} (o : Option A) → ((x : A) → P x) → IfSome o P
@@ -112,12 +109,11 @@ module _ (o : Option Held) (system stimuli : List ℕ) (budget : ℕ) where
   failure-files : (status : Status) → is_failure status ≡ true → AgreesRun o system stimuli budget status
   failure-files status failed = IfSome-all o (λ held. inl failed)
 
-  -- its journal was written
-  pub told-run : (sys : System) (sources : List (List Stim)) (j : Journal) (answer : Status) (bytes : List ℕ) (old new : Option (List ℕ)) (faults faults' : ℕ)
-      → IsInput o system stimuli sys sources → IsSimRun sys sources budget j → IsWrittenAs (ending_of j) bytes old new faults faults' answer
-      → AgreesRun o system stimuli budget answer
-  told-run sys sources j answer bytes old new faults faults' input is (inl (ends, all)) = input-ends sys sources input answer (j, is, ends)
-  told-run sys sources j answer bytes old new faults faults' input is (inr (failed, part, rose)) = failure-files answer (ap is_failure failed)
+  -- and if not by that, by a failure
+  pub told-run : (sys : System) (sources : List (List Stim)) (answer : Status) → IsInput o system stimuli sys sources
+      → (is_failure answer ≡ true) ⊎ EndsRun sys sources budget answer → AgreesRun o system stimuli budget answer
+  told-run sys sources answer input (inl failed) = failure-files answer failed
+  told-run sys sources answer input (inr ends) = input-ends sys sources input answer ends
 
 -- the answer on what a call asks for
 module _ (o : Option Held) (answer : Status) where
@@ -139,6 +135,10 @@ module _ (o : Option Held) (answer : Status) where
       → IfSome o (λ held. Agrees held (Some (check w)) answer)
   unfolding IsAnswer
   agrees-check w told = told
+
+  pub agrees-generate : (n : ℕ) → (is_failure answer ≡ true) ⊎ EndsMade n answer → IfSome o (λ held. Agrees held (Some (generate n)) answer)
+  unfolding IsAnswer
+  agrees-generate n told = IfSome-all o (λ held. told)
 
 -- a failure needs no word of the files
 pub failure-agrees : (o : Option Held) (asked : Option Asked) (status : Status) → is_failure status ≡ true → IfSome o (λ held. Agrees held asked status)

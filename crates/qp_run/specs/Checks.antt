@@ -12,11 +12,11 @@ use Rattle.qp_system.specs.SystemOf.{IsSystemOf}
 use Rattle.qp_run.specs.declared.place.Place.TheVariants.{Line}
 use Rattle.qp_run.specs.declared.status.Status.{Status}
 use Rattle.qp_run.specs.declared.status.Status.TheVariants.{Done, Refused, Memory, Unlawful}
-use Rattle.qp_run.specs.declared.words.values.Kind.TheVariants.{Journal}
+use Rattle.qp_commands.specs.declared.values.Kind.TheVariants.{Journal}
 use Rattle.qp_run.specs.Conversions.{HasJournal, Held, said, written}
 use Rattle.qp_run.specs.Loads.{EndsAtLoad, IsLoaded}
 use Rattle.qp_run.specs.Refusals.{RefusesFirst}
-use Rattle.qp_run.specs.WordTable.{CheckWords}
+use Rattle.qp_commands.specs.WordTable.{CheckWords}
 use Rattle.qp_text.specs.TextLaw.{IsWritable}
 
 -- a refusal of what stands in the third file

@@ -17,8 +17,8 @@ use Rattle.qp_frames.specs.Stream.{decoded}
 use Rattle.qp_run.specs.declared.place.Place.TheVariants.{Nowhere, Line, Offset}
 use Rattle.qp_run.specs.declared.status.Status.{Status}
 use Rattle.qp_run.specs.declared.status.Status.TheVariants.{Done, Refused, Asserted, Spent, Memory, WriteFault}
-use Rattle.qp_run.specs.declared.words.values.Kind.{Kind}
-use Rattle.qp_run.specs.declared.words.values.Kind.TheVariants.{Journal, Frames}
+use Rattle.qp_commands.specs.declared.values.Kind.{Kind}
+use Rattle.qp_commands.specs.declared.values.Kind.TheVariants.{Journal, Frames}
 use Rattle.qp_run.specs.Loads.{EndsAtLoad, IsLoaded}
 
 -- the code of a file whose journal doesn't have the form that is asked for

@@ -4,6 +4,5 @@ pub mod Loads
 pub mod Conversions
 pub mod Refusals
 pub mod Checks
+pub mod Printed
 pub mod Verdict
-pub mod WordTable
-pub mod WordLaws

@@ -3,7 +3,7 @@ use Rattle.std.specs.Prelude.{codes, ℕ, decimal, Bool, true, false, List, [], 
 use Rattle.qp_names.specs.Paths.{path_text}
 use Rattle.qp_run.specs.declared.place.Place as place
 use Rattle.qp_run.specs.declared.place.Place.TheVariants.{Nowhere, Path, Line, Offset}
-use Rattle.qp_run.specs.WordTable.{Asked, operand_in}
+use Rattle.qp_commands.specs.WordTable.{Asked, operand_in}
 use Rattle.qp_word_rules.specs.declared.verdict.Site.{Site}
 use Rattle.qp_word_rules.specs.declared.verdict.Site.TheVariants as site
 use Rattle.qp_run.specs.declared.status.Status.{Status}

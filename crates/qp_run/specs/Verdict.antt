@@ -5,21 +5,24 @@ use Rattle.qp_base.specs.Sink.{AppendsPrefix, appended}
 use Rattle.qp_model.specs.declared.journals.Journal as journal
 use Rattle.qp_model.specs.declared.stimulus.Stim.{Stim}
 use Rattle.qp_model.specs.declared.systems.System.{System}
+use Rattle.qp_gen.specs.Made.{IsMade}
 use Rattle.qp_simulation.specs.SimRun.{IsSimRun}
 use Rattle.qp_stim.specs.Stimuli.{Fault, stimuli_of}
 use Rattle.qp_system.specs.SystemOf.{IsSystemOf}
 use Rattle.qp_run.specs.declared.place.Place.TheVariants.{Line}
 use Rattle.qp_run.specs.declared.status.Status.{Status}
 use Rattle.qp_run.specs.declared.status.Status.TheVariants.{Done, Words, Absent, TooLong, Refused, Asserted, Spent, Memory, ReadFault, WriteFault}
-use Rattle.qp_run.specs.declared.words.values.Kind.{Kind}
-use Rattle.qp_run.specs.declared.words.values.Kind.TheVariants.{Frames, Journal as Text}
+use Rattle.qp_commands.specs.declared.values.Kind.{Kind}
+use Rattle.qp_commands.specs.declared.values.Kind.TheVariants.{Frames, Journal as Text}
+use Rattle.qp_commands.specs.declared.values.Output.{Output}
 use Rattle.qp_run.specs.Conversions.{AnswersJournal, Held, IsDecoded, IsMigrated, PrintsOne, WhenDone, decode_on, migrate_on, written}
 use Rattle.qp_run.specs.Checks.{IsChecked, Judges, JudgesFiles}
 use Rattle.qp_run.specs.Endings.{ending_of}
 use Rattle.qp_run.specs.Loads.{EndsAtLoad, IsLoaded}
 use Rattle.qp_run.specs.Notes.{file_of, line_of, names_file}
+use Rattle.qp_run.specs.Printed.{PrintsMade, PrintsRun, made_budget}
 use Rattle.qp_run.specs.Refusals.{RefusesFirst}
-use Rattle.qp_run.specs.WordTable.{Asked, CheckWords, check, decode, migrate, number_of_form, operand_in, run}
+use Rattle.qp_commands.specs.WordTable.{Asked, CheckWords, check, decode, generate, migrate, number_of_form, operand_in, run}
 use Rattle.qp_text.specs.TextLaw.{IsWritable}
 
 -- the answer on a run of this system and these stimuli: what the records of a journal that such a run may leave say
@@ -47,6 +50,10 @@ unfolding stimuli_of ending_of
 AnswersFiles system stimuli budget answer =
     EndsAtLoad 1 system answer ⊎ ((bytes : List ℕ) × IsLoaded system bytes × AnswersSystem bytes stimuli budget answer)
 
+-- the answer on a run of what a number makes
+unfoldable pub EndsMade : ℕ → Status → Type 0
+EndsMade n answer = (sys : System) × (sources : List (List Stim)) × IsMade n sys sources × EndsRun sys sources made_budget answer
+
 -- the answer to what a call asks for; words that ask for nothing are answered at once
 abbrev pub AnswersCall : Held → Option Asked → Status → Type 0
 AnswersCall held None answer = answer ≡ Words
@@ -54,6 +61,7 @@ AnswersCall held (Some (run w)) answer = AnswersFiles (held w.system) (held w.st
 AnswersCall held (Some (decode frames)) answer = AnswersJournal Frames decode_on (held frames) answer
 AnswersCall held (Some (migrate w)) answer = AnswersJournal w.from (migrate_on (number_of_form w.to)) (held w.file) answer
 AnswersCall held (Some (check w)) answer = JudgesFiles (held w.system) (held w.stimuli) (held w.journal) answer
+AnswersCall held (Some (generate n)) answer = EndsMade n answer
 
 -- the answer to a call over files with this content, where memory, reads and writes don't fail: the words come first,
 -- then the files in order, and then how the run ended, the form of a journal or the judge's verdict
@@ -98,10 +106,11 @@ EndRuns budget a b = (sys : System) × (sources : List (List Stim)) × EndsRun s
 
 abbrev pub MayDiffer : Option Asked → (a b : Status) → Type 0
 MayDiffer (Some (run w)) a b = EndRuns w.budget a b
+MayDiffer (Some (generate n)) a b = EndRuns made_budget a b
 MayDiffer _ a b = ⊥
 
 -- No call over files has two answers, but for a call that runs: there the words and files leave one refusal, or else one system with its
--- stimuli, and each answer is what the records of some lawful journal of these say.
+-- stimuli, and each answer is what the records of some lawful journal of these say. A number makes one such system with its stimuli.
 abbrev pub OneAnswer : Type 0
 OneAnswer = (held : Held) (asked : Option Asked) (a b : Status) → IsAnswer held asked a → IsAnswer held asked b → (a ≡ b) ⊎ MayDiffer asked a b
 
@@ -183,17 +192,10 @@ pub record IsInput (held : Option Held) (system_name stimuli_name : List ℕ) (s
   pub system_read : IsSystemOf system sys
   pub stimuli_read : stimuli_of sys stimuli ≡ Ok sources
 
--- a lawful journal of two files, as a run under `sim` with this budget leaves it
-pub record IsLawfulRun (held : Option Held) (system_name stimuli_name : List ℕ) (budget : ℕ) (j : journal.Journal) : Type 0 where
-  pub system : System
-  pub sources : List (List Stim)
-  pub input : IsInput held system_name stimuli_name system sources
-  pub run : IsSimRun system sources budget j
-
--- the output of a run, and the answer with it: the run's journal as text or frames, in this form, and what the journal's records say
-abbrev pub IsRun : Option Held → (system_name stimuli_name : List ℕ) → ℕ → Kind → ℕ → Status → List ℕ → Type 0
-IsRun held system_name stimuli_name budget kind form answer whole =
-    (j : journal.Journal) × IsLawfulRun held system_name stimuli_name budget j × (answer ≡ ending_of j) × (whole ≡ written kind form j)
+-- the output of a run, and the answer with it: what is printed of a run of the system and the stimuli of two files
+abbrev pub IsRun : Option Held → (system_name stimuli_name : List ℕ) → ℕ → Output → ℕ → Status → List ℕ → Type 0
+IsRun held system_name stimuli_name budget output form answer whole =
+    (sys : System) × (sources : List (List Stim)) × IsInput held system_name stimuli_name sys sources × PrintsRun sys sources budget output form answer whole
 
 -- the whole output of a call that is answered so
 abbrev pub IsOutput : Option Held → Option Asked → Status → List ℕ → Type 0
@@ -202,6 +204,7 @@ IsOutput held (Some (run w)) answer whole = IsRun held w.system w.stimuli w.budg
 IsOutput held (Some (decode frames)) answer whole = WhenDone (IsDecoded held frames) answer whole
 IsOutput held (Some (migrate w)) answer whole = WhenDone (IsMigrated held w.file w.from (number_of_form w.to)) answer whole
 IsOutput held (Some (check w)) answer whole = WhenDone (IsChecked held w) answer whole
+IsOutput held (Some (generate n)) answer whole = PrintsMade n answer whole
 
 -- what the output got: the whole of it, a part of it where a write failed, or nothing
 abbrev pub Prints : Option Held → Option Asked → (old new : Option (List ℕ)) → Status → Type 0
@@ -233,14 +236,20 @@ EndsRunning system stimuli budget n answer =
     → IsLoaded system bytes → IsSystemOf bytes sys → IsLoaded stimuli text → stimuli_of sys text ≡ Ok sources
     → (HasRisen n.reads → ⊥) → (HasRisen n.out → ⊥) → (HasRisen n.notes → ⊥) → EndsRun sys sources budget answer ⊎ (answer ≡ Memory)
 
+-- what a number makes is run
+abbrev pub EndsMaking : ℕ → Counts → Status → Type 0
+EndsMaking number n answer =
+    (HasRisen n.reads → ⊥) → (HasRisen n.out → ⊥) → (HasRisen n.notes → ⊥) → EndsMade number answer ⊎ (answer ≡ Memory)
+
 -- calls that end: each system is run on its stimuli, frames of a journal are decoded, a journal is migrated to each form that it has,
--- and each journal is judged
+-- each journal is judged, and what a number makes is run
 abbrev pub EndsCall : Held → Option Asked → Counts → Status → Type 0
 EndsCall held None n answer = Ends n Words answer
 EndsCall held (Some (run w)) n answer = EndsRunning (held w.system) (held w.stimuli) w.budget n answer
 EndsCall held (Some (decode frames)) n answer = EndsOnJournal (held frames) Frames decode_on n answer
 EndsCall held (Some (migrate w)) n answer = EndsOnJournal (held w.file) w.from (migrate_on (number_of_form w.to)) n answer
 EndsCall held (Some (check w)) n answer = EndsJudging (held w.system) (held w.stimuli) (held w.journal) n answer
+EndsCall held (Some (generate number)) n answer = EndsMaking number n answer
 
 -- a call over files that the shelf tells, in which no count rose, ends so, or memory was refused
 abbrev pub IsComplete : Option Held → Option Asked → Counts → Status → Type 0

@@ -4,9 +4,9 @@ ghost use Rattle.qp_model.specs.Sound.{IsSound};
 ghost use Rattle.qp_run.specs.Checks.{HasLawful, IsChecked, IsLawfulText, JudgesFound, is_of_files, third};
 ghost use Rattle.qp_run.specs.Conversions.{IsFoundIn, PrintsOne, Refuses, WhenDone, said};
 ghost use Rattle.qp_run.specs.Verdict.{AgreesCheck, HasCause, JudgesCall, is_failure, is_refusal, reads_of, writes_of};
-ghost use Rattle.qp_run.specs.WordTable.{check_words};
+ghost use Rattle.qp_commands.specs.WordTable.{check_words};
 ghost use Rattle.qp_run.specs.declared.status.Status.{Status};
-ghost use Rattle.qp_run.specs.declared.words.values.Kind.{Kind};
+ghost use Rattle.qp_commands.specs.declared.values.Kind.{Kind};
 
 use crate::conversions::journal_of_text;
 use crate::loading::load;

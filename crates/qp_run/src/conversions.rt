@@ -6,15 +6,15 @@ ghost use Rattle.qp_model.specs.declared.record.Rec.{Rec};
 ghost use Rattle.qp_model.specs.Output.{has_form, has_no_rest, is_in_range};
 ghost use Rattle.qp_run.specs.Conversions.{HasJournal, IsDecoded, IsFoundIn, IsMigrated, IsWrittenAs, PrintsOne, Refuses, WhenDone, decode_on, frame_refusal, migrate_on, text_refusal, written};
 ghost use Rattle.qp_run.specs.Verdict.{AgreesJournal, HasCause, is_refusal, reads_of, writes_of};
-ghost use Rattle.qp_run.specs.WordTable.{number_of_form};
+ghost use Rattle.qp_commands.specs.WordTable.{number_of_form};
 ghost use Rattle.qp_run.specs.declared.status.Status.{Status};
-ghost use Rattle.qp_run.specs.declared.words.values.Kind.{Kind};
+ghost use Rattle.qp_commands.specs.declared.values.Kind.{Kind};
 
 use crate::loading::load;
 use crate::place::Place;
 use crate::status::Status;
-use crate::words::{Form, Kind};
 use qp_base::{Shelf, Sink};
+use qp_commands::{Form, Kind};
 use qp_frames::{Decoder, FrameFault, write_frames};
 use qp_model::{Journal, Lane, Lanes, kernels, kinds};
 use qp_text::{Found, TextFault, read_journal, write_journal};

@@ -7,9 +7,9 @@ pub mod laws;
 mod loading;
 mod place;
 mod reading;
+mod runs;
 mod status;
 mod top;
-pub mod words;
 
 pub use place::Place;
 pub use status::Status;

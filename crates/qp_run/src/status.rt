@@ -3,7 +3,7 @@ ghost use Rattle.std.specs.Prelude.{codes, ◌≡◌, ◌++◌, ◌≤◌, Optio
 ghost use Rattle.qp_run.specs.Endings.{status_of};
 ghost use Rattle.qp_run.specs.Notes.{number_of, line_of, named_line, names_file, file_of, is_done, place_text, site_text};
 ghost use Rattle.qp_run.specs.Refusals.{system_refusal, stimuli_refusal};
-ghost use Rattle.qp_run.specs.WordTable.{Asked, operand_in};
+ghost use Rattle.qp_commands.specs.WordTable.{Asked, operand_in};
 
 use crate::place::Place;
 use arrayvec::ArrayString;

@@ -1,89 +1,20 @@
 //! The top call.
-ghost use Rattle.std.specs.Prelude.{ℕ, ◌≡◌, ◌≢◌, ◌⊎◌, ◌<◌, ◌≤◌, true, false, Option, Some, IfOk, IfErr, IfSome};
+ghost use Rattle.std.specs.Prelude.{◌≡◌, ◌≢◌, ◌⊎◌, true, false, Option, Some, IfSome};
 ghost use Rattle.qp_base.specs.Counts.{Rose};
 ghost use Rattle.qp_base.specs.Sink.{AppendsPrefix, appended};
-ghost use Rattle.qp_stim.specs.Rules.{StimuliFit};
-ghost use Rattle.qp_model.specs.Sound.{IsSound};
-ghost use Rattle.qp_run.specs.Conversions.{PrintsOne};
 ghost use Rattle.qp_run.specs.Notes.{names_file};
-ghost use Rattle.qp_run.specs.Verdict.{Agrees, AgreesRun, AnswersWords, HasCause, IsCall, IsInput, IsNamed, IsRun, Noted, Prints, Stands, count_of, is_refusal, reads_of, stream_of, writes_of};
-ghost use Rattle.qp_run.specs.WordTable.{Asked, asked_of, command_in, has_budget, number_of_form, texts};
+ghost use Rattle.qp_run.specs.Verdict.{Agrees, AnswersWords, HasCause, IsCall, IsNamed, Noted, Prints, Stands, count_of, stream_of, writes_of};
+ghost use Rattle.qp_commands.specs.WordTable.{Asked, asked_of, command_in, is_in_limits, texts};
 ghost use Rattle.qp_run.specs.declared.status.Status.{Status};
 
 use crate::checking::check_files;
-use crate::conversions::{decode, migrate, write};
-use crate::loading::load;
-use crate::reading::{stimuli_in, system_in};
+use crate::conversions::{decode, migrate};
+use crate::runs::{run_files, run_made};
 use crate::status::Status;
-use crate::words::{Command, Form, Kernel, Kind, command_of};
 use qp_base::{Gate, Shelf, Sink};
-use qp_model::{Stimuli, System};
-use qp_outcome::outcome_of;
-use qp_simulation::run_sim;
+use qp_commands::{Command, Kernel, command_of};
 use std::alloc::{AllocError, Global};
 use std::sync::Wait;
-
-/// What the two files of a run say.
-#[derive(Drop)]
-struct Input {
-    system: System,
-    stimuli: Stimuli,
-}
-
-/// Reads the two files of a run. The second isn't read where the first is refused.
-fn prepare<F: Shelf>(
-    alloc: Global,
-    files: &mut F,
-    system: &str,
-    stimuli: &str,
-) -> Result<Input, Status>
-    ensures input { IfOk result (λ input. IsInput (F.holds files.old) system.now stimuli.now input.system input.stimuli) }
-    ensures sound { IfOk result (λ input. IsSound input.system) }
-    ensures fit { IfOk result (λ input. StimuliFit input.system input.stimuli) }
-
-    ensures told { IfErr result (λ status. (budget : ℕ) → AgreesRun (F.holds files.old) system.now stimuli.now budget status) }
-    ensures cause { IfErr result (HasCause (reads_of F.faults F.misses files.old files.new)) }
-    ensures about { IfErr result (λ status. (is_refusal status ≡ true) × (status ≢ Status.Words)) }
-    ensures holds { F.holds files.new ≡ F.holds files.old }
-{
-    let bytes = load(alloc, files, 1, system)?;
-    let system = system_in(alloc, bytes.as_slice())?;
-    let bytes = load(alloc, files, 2, stimuli)?;
-    let stimuli = stimuli_in(alloc, &system, bytes.as_slice())?;
-    Ok(Input { system, stimuli })
-}
-
-/// Runs two files and prints the journal.
-fn run_files<R: Wait, F: Shelf, O: Sink>(
-    rt: &R,
-    alloc: Global,
-    files: &mut F,
-    system: &str,
-    stimuli: &str,
-    budget: u32,
-    kind: Kind,
-    form: Form,
-    out: &mut O,
-) -> Status
-    requires some { 0 < budget }
-    requires few { budget ≤ 1000000 }
-    ensures told { AgreesRun (F.holds files.old) system.now stimuli.now budget result }
-    ensures about { result ≢ Status.Words }
-    ensures cause { HasCause (writes_of F.faults F.misses O.faults files.old files.new out.old out.new) result }
-    ensures out { PrintsOne (IsRun (F.holds files.old) system.now stimuli.now budget kind (number_of_form form))
-        (O.written out.old) (O.written out.new) result }
-    ensures holds { F.holds files.new ≡ F.holds files.old }
-{
-    let input = match prepare(alloc, files, system, stimuli) {
-        Ok(input) => input,
-        Err(status) => return status,
-    };
-    let Ok(journal) = run_sim(rt, alloc, &input.system, &input.stimuli, budget) else {
-        return Status::Memory;
-    };
-    let told = Status::of_outcome(outcome_of(&journal));
-    write(&journal, kind, form.number(), told, out)
-}
 
 /// Does what a call asks for. No line is put yet.
 fn carry_out<R: Wait, F: Shelf, O: Sink>(
@@ -93,7 +24,7 @@ fn carry_out<R: Wait, F: Shelf, O: Sink>(
     files: &mut F,
     out: &mut O,
 ) -> Status
-    requires { has_budget (asked_of command.now) ≡ true }
+    requires { is_in_limits (asked_of command.now) ≡ true }
     ensures told { IfSome (F.holds files.old) (λ held. Agrees held (Some (asked_of command.now)) result) }
     ensures about { result ≢ Status.Words }
     ensures cause { HasCause (writes_of F.faults F.misses O.faults files.old files.new out.old out.new) result }
@@ -104,12 +35,12 @@ fn carry_out<R: Wait, F: Shelf, O: Sink>(
         Command::Run {
             kernel: Kernel::Sim,
             budget,
-            out: kind,
+            out: output,
             form,
             system,
             stimuli,
         } => run_files(
-            rt, alloc, files, system, stimuli, *budget, *kind, *form, out,
+            rt, alloc, files, system, stimuli, *budget, *output, *form, out,
         ),
         Command::Decode { frames } => decode(alloc, files, frames, out),
         Command::Migrate { from, to, file } => migrate(alloc, files, *from, *to, file, out),
@@ -118,6 +49,7 @@ fn carry_out<R: Wait, F: Shelf, O: Sink>(
             stimuli,
             journal,
         } => check_files(alloc, files, system, stimuli, journal, out),
+        Command::Generate { number } => run_made(rt, alloc, *number, out),
     }
 }
 

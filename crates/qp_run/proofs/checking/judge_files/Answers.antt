@@ -1,7 +1,7 @@
 use Rattle.std.proofs.Common.{◌∙◌, rules}
 use Rattle.std.proofs.lemmas.Result.{IfErr-weaker, IfOk-weaker}
 use Rattle.qp_run.specs.Verdict.{AgreesCheck}
-use Rattle.qp_run.specs.WordTable.{check_words}
+use Rattle.qp_commands.specs.WordTable.{check_words}
 use Rattle.qp_run.proofs.CheckLemmas.{has-lawful, judged-third, told-first, told-judged, told-second, told-stimuli, told-system, told-third}
 use Rattle.qp_run.proofs.checking.judge_files.Goals as goal
 

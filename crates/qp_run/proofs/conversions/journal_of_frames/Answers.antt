@@ -1,6 +1,6 @@
 use Rattle.std.proofs.Common.{[], rules}
 use Rattle.qp_run.specs.Conversions.{Refuses, frame_refusal}
-use Rattle.qp_run.specs.declared.words.values.Kind.TheVariants.{Frames}
+use Rattle.qp_commands.specs.declared.values.Kind.TheVariants.{Frames}
 use Rattle.qp_run.proofs.ConversionLemmas.{fed-refuses, frames-refuse}
 use Rattle.qp_run.proofs.conversions.journal_of_frames.Goals as goal
 

@@ -1,7 +1,7 @@
 use Rattle.std.proofs.Common.{rules}
 use Rattle.qp_text.proofs.TextRead.{reading_is_exact}
 use Rattle.qp_run.specs.Conversions.{Refuses, text_refusal}
-use Rattle.qp_run.specs.declared.words.values.Kind.TheVariants.{Journal}
+use Rattle.qp_commands.specs.declared.values.Kind.TheVariants.{Journal}
 use Rattle.qp_run.proofs.ConversionLemmas.{text-refuses}
 use Rattle.qp_run.proofs.conversions.journal_of_text.Goals as goal
 

@@ -1,5 +1,5 @@
 use Rattle.std.proofs.Common.{sym, ◌∙◌, inr}
-use Rattle.qp_run.specs.WordTable.{number_of_form}
+use Rattle.qp_commands.specs.WordTable.{number_of_form}
 use Rattle.qp_run.proofs.FormLemmas.{range-moves}
 use Rattle.qp_run.proofs.ConversionLemmas.{migrate-done, migrate-refused, told-journal, told-written}
 use Rattle.qp_run.proofs.conversions.migrate.Goals as goal

@@ -1,5 +1,5 @@
 use Rattle.std.proofs.Common.{sym}
-use Rattle.qp_run.proofs.BudgetLemmas.{asked-budget}
+use Rattle.qp_commands.proofs.LimitLemmas.{asked-limits}
 use Rattle.qp_run.proofs.VerdictLemmas.{told-unnamed}
 use Rattle.qp_run.proofs.top.answer.Goals as goal
 
@@ -7,7 +7,7 @@ pub returns-in-Ok-None-clause-told : goal.returns-in-Ok-None-clause-told
 returns-in-Ok-None-clause-told g c = rw (sym c.in-Ok-None.ensures, c.in-Ok-None.field-0-is) (told-unnamed _)
 
 pub carry_out-status-requires : goal.carry_out-status-requires
-carry_out-status-requires g c = asked-budget _ _ (rw c.in-Ok-Some.field-0-is at c.in-Ok-Some.ensures)
+carry_out-status-requires g c = asked-limits _ _ (rw c.in-Ok-Some.field-0-is at c.in-Ok-Some.ensures)
 
 pub returns-in-Ok-Some-clause-out : goal.returns-in-Ok-Some-clause-out
 returns-in-Ok-Some-clause-out g c = rw (sym c.in-Ok-Some.ensures, c.in-Ok-Some.field-0-is) c.carry_out-status.ensures.out

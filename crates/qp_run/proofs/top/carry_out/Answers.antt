@@ -1,5 +1,5 @@
-use Rattle.qp_run.proofs.BudgetLemmas.{budget-few, budget-some}
-use Rattle.qp_run.proofs.VerdictLemmas.{agrees-check, agrees-run, agrees-decode, agrees-migrate}
+use Rattle.qp_commands.proofs.LimitLemmas.{limit-few, limit-some}
+use Rattle.qp_run.proofs.VerdictLemmas.{agrees-check, agrees-decode, agrees-generate, agrees-migrate, agrees-run}
 use Rattle.qp_run.proofs.top.carry_out.Goals as goal
 
 pub returns-in-Run-Sim-default-default-default-default-default-clause-told : goal.returns-in-Run-Sim-default-default-default-default-default-clause-told
@@ -16,10 +16,10 @@ pub returns-in-Check-clause-told : goal.returns-in-Check-clause-told
 returns-in-Check-clause-told g c = rw c.in-Check.is (agrees-check _ _ _ c.check_files.ensures.told)
 
 pub run_files-requires-clause-some : goal.run_files-requires-clause-some
-run_files-requires-clause-some g c = budget-some _ (rw c.in-Run-Sim-default-default-default-default-default.is at c.requires)
+run_files-requires-clause-some g c = limit-some 1000000 _ (rw c.in-Run-Sim-default-default-default-default-default.is at c.requires)
 
 pub run_files-requires-clause-few : goal.run_files-requires-clause-few
-run_files-requires-clause-few g c = budget-few _ (rw c.in-Run-Sim-default-default-default-default-default.is at c.requires)
+run_files-requires-clause-few g c = limit-few 1000000 _ (rw c.in-Run-Sim-default-default-default-default-default.is at c.requires)
 
 pub returns-in-Run-Sim-default-default-default-default-default-clause-out : goal.returns-in-Run-Sim-default-default-default-default-default-clause-out
 returns-in-Run-Sim-default-default-default-default-default-clause-out g c = rw c.in-Run-Sim-default-default-default-default-default.is c.run_files.ensures.out
@@ -32,3 +32,18 @@ returns-in-Migrate-clause-out g c = rw c.in-Migrate.is c.migrate.ensures.out
 
 pub returns-in-Check-clause-out : goal.returns-in-Check-clause-out
 returns-in-Check-clause-out g c = rw c.in-Check.is c.check_files.ensures.out
+
+pub run_made-requires-clause-some : goal.run_made-requires-clause-some
+run_made-requires-clause-some g c = limit-some 1000 _ (rw c.in-Generate.is at c.requires)
+
+pub run_made-requires-clause-few : goal.run_made-requires-clause-few
+run_made-requires-clause-few g c = limit-few 1000 _ (rw c.in-Generate.is at c.requires)
+
+pub returns-in-Generate-clause-told : goal.returns-in-Generate-clause-told
+returns-in-Generate-clause-told g c = rw c.in-Generate.is (agrees-generate _ _ _ c.run_made.ensures.told)
+
+pub returns-in-Generate-clause-cause : goal.returns-in-Generate-clause-cause
+returns-in-Generate-clause-cause g c = c.run_made.ensures.cause _ _
+
+pub returns-in-Generate-clause-out : goal.returns-in-Generate-clause-out
+returns-in-Generate-clause-out g c = rw c.in-Generate.is c.run_made.ensures.out

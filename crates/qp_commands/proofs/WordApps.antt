@@ -1,0 +1,56 @@
+-- Commands as `clap` reads them, and what it finds.
+use Rattle.std.proofs.Common.{◌≡◌, ◌∙◌, ap, ap₂, refl, sym, List, [], ◌∷◌, Bool, ◌&&◌, true, false, None, Some}
+use Rattle.clap.specs.Words.{AddsArg, App, HasMatchesOf, IsAmong, Kinds, Row, Rule, Text, app_of, fault_of, found_of, is_simple, is_simple_and_free, matches_of, rows_of, rule_of, with_rule}
+use Rattle.clap.specs.declared.builder.arg.Arg.{Arg}
+use Rattle.clap.specs.declared.builder.command.Command.{Command}
+use Rattle.clap.specs.declared.error.kind.ErrorKind.{ErrorKind}
+use Rattle.clap.specs.declared.parser.matches.ArgMatches.{ArgMatches}
+use Rattle.qp_commands.specs.WordTable.{check_app, decode_app, found_in, generate_app, migrate_app, rows_unless, run_app}
+
+-- a command with one argument more
+pub app-arg : (old new : Command) (a : Arg) (app : App) (rule : Rule) → AddsArg old a new → a.global ≡ false
+    → app_of old ≡ app → rule_of a ≡ rule → app_of new ≡ with_rule app rule
+app-arg old new a app rule added local is by = added.shape local ∙ ap₂ with_rule is by
+
+both_left : (a b : Bool) → (a && b) ≡ true → a ≡ true
+both_left true b h = refl
+both_left false b h = h
+
+rows-no_fault : (kinds : Kinds) (rows : List Row) → kinds ≡ [] → rows_unless kinds rows ≡ Some rows
+rows-no_fault kinds rows none = rw none refl
+
+rows-fault : (kinds : Kinds) (rows : List Row) (kind : ErrorKind) → IsAmong kind kinds → rows_unless kinds rows ≡ None
+rows-fault [] rows kind among = absurd among
+rows-fault (k ∷ ks) rows kind among = refl
+
+-- where `clap` takes the words, it found its matches
+pub found-taken : (app : App) (words : List Text) (m : ArgMatches) → is_simple_and_free app ≡ true → fault_of app words ≡ []
+    → HasMatchesOf app words m → Some (rows_of (found_of m)) ≡ found_in app words
+found-taken app words m simple none has =
+    ap Some (has (both_left (is_simple app) _ simple)).0 ∙ sym (rows-no_fault (fault_of app words) (matches_of app words) none)
+
+-- where it refuses them for another cause than memory, it found nothing
+pub found-refused : (app : App) (words : List Text) (kind : ErrorKind) → IsAmong kind (fault_of app words) → None ≡ found_in app words
+found-refused app words kind among = sym (rows-fault (fault_of app words) (matches_of app words) kind among)
+
+-- the commands are simple, and no argument has a rule on another
+
+pub run-simple : is_simple_and_free run_app ≡ true
+unfolding run_app
+run-simple = refl
+
+pub decode-simple : is_simple_and_free decode_app ≡ true
+unfolding decode_app
+decode-simple = refl
+
+pub migrate-simple : is_simple_and_free migrate_app ≡ true
+unfolding migrate_app
+migrate-simple = refl
+
+pub check-simple : is_simple_and_free check_app ≡ true
+unfolding check_app
+check-simple = refl
+
+pub generate-simple : is_simple_and_free generate_app ≡ true
+unfolding generate_app
+generate-simple = refl

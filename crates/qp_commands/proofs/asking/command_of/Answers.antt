@@ -1,0 +1,37 @@
+use Rattle.std.proofs.Common.{◌∙◌, sym}
+use Rattle.std.proofs.lemmas.Result.{IfOk-weaker}
+use Rattle.qp_commands.proofs.WordCommands.{asked-check, asked-decode, asked-generate, asked-migrate, asked-other, asked-run, command-first, command-none}
+use Rattle.qp_commands.proofs.asking.command_of.Goals as goal
+
+pub returns-in_default : goal.returns-in_default
+returns-in_default c = sym (command-none c.args.words.now (sym c.in_default.ensures.value))
+
+pub returns-in-run : goal.returns-in-run
+returns-in-run c =
+    let first = command-first c.args.words.now c.in-Some.word.now (sym c.in-Some.ensures.value) in
+    IfOk-weaker c.run_of.result _ _ (λ found h. h ∙ sym (first ∙ asked-run _ _ c.in-run.is)) c.run_of.ensures
+
+pub returns-in-decode : goal.returns-in-decode
+returns-in-decode c =
+    let first = command-first c.args.words.now c.in-Some.word.now (sym c.in-Some.ensures.value) in
+    IfOk-weaker c.decode_of.result _ _ (λ found h. h ∙ sym (first ∙ asked-decode _ _ c.in-decode.is)) c.decode_of.ensures
+
+pub returns-in-migrate : goal.returns-in-migrate
+returns-in-migrate c =
+    let first = command-first c.args.words.now c.in-Some.word.now (sym c.in-Some.ensures.value) in
+    IfOk-weaker c.migrate_of.result _ _ (λ found h. h ∙ sym (first ∙ asked-migrate _ _ c.in-migrate.is)) c.migrate_of.ensures
+
+pub returns-in-check : goal.returns-in-check
+returns-in-check c =
+    let first = command-first c.args.words.now c.in-Some.word.now (sym c.in-Some.ensures.value) in
+    IfOk-weaker c.check_of.result _ _ (λ found h. h ∙ sym (first ∙ asked-check _ _ c.in-check.is)) c.check_of.ensures
+
+pub returns-in-gen : goal.returns-in-gen
+returns-in-gen c =
+    let first = command-first c.args.words.now c.in-Some.word.now (sym c.in-Some.ensures.value) in
+    IfOk-weaker c.generate_of.result _ _ (λ found h. h ∙ sym (first ∙ asked-generate _ _ c.in-gen.is)) c.generate_of.ensures
+
+pub returns-in_default-word : goal.returns-in_default-word
+returns-in_default-word c =
+    let first = command-first c.args.words.now c.in-Some.word.now (sym c.in-Some.ensures.value) in
+    sym (first ∙ asked-other _ _ c.in_default-word.not-run c.in_default-word.not-decode c.in_default-word.not-migrate c.in_default-word.not-check c.in_default-word.not-gen)

@@ -1,0 +1,3 @@
+-- The words of a call, and what they mean on plain calls.
+pub mod WordTable
+pub mod WordLaws

@@ -1,0 +1,58 @@
+//! Laws of the words of calls. Each function here does nothing: its contract is the law.
+ghost use Rattle.qp_commands.specs.WordLaws.{BudgetWords, CheckOfNames, DecodeOfName, EachBudget, GenerateOfNumber, MigrateInFull, MigrateOfName, OtherWords, RefusedCalls, RunInFull, RunOfNames};
+
+/// Two names that don't begin with `-` are a run under `sim`, which prints text in form 1.
+pub fn a_run_of_two_names()
+    ensures { RunOfNames }
+{}
+
+/// A name that doesn't begin with `-` is a file of frames.
+pub fn a_name_is_decoded()
+    ensures { DecodeOfName }
+{}
+
+/// A name that doesn't begin with `-` is a text, which is printed in form 2.
+pub fn a_name_is_migrated()
+    ensures { MigrateOfName }
+{}
+
+/// Three names that don't begin with `-` are a system, its stimuli and a journal to be judged.
+pub fn three_names_are_judged()
+    ensures { CheckOfNames }
+{}
+
+/// With its other options given, a run is the one that they name: each run of two such names with the default budget can be asked for.
+pub fn a_run_in_full()
+    ensures { RunInFull }
+{}
+
+/// Each budget is asked for by its decimal.
+pub fn a_budget_by_its_decimal()
+    ensures { EachBudget }
+{}
+
+/// The least and the largest budget are taken.
+pub fn budgets_of_a_run()
+    ensures { BudgetWords }
+{}
+
+/// With all options given, a migration is the one that they name.
+pub fn a_migration_in_full()
+    ensures { MigrateInFull }
+{}
+
+/// Each number from 1 to 1,000 is asked for by its decimal.
+pub fn a_number_by_its_decimal()
+    ensures { GenerateOfNumber }
+{}
+
+/// Other command words ask for nothing, whatever follows them.
+pub fn other_words()
+    ensures { OtherWords }
+{}
+
+/// Calls with an operand too few or too many, a flag for help or the version, a value that isn't allowed, an option given
+/// twice or one of another command ask for nothing.
+pub fn refused_calls()
+    ensures { RefusedCalls }
+{}

@@ -1,0 +1,200 @@
+//! Runs, and what of them is printed.
+ghost use Rattle.std.specs.Prelude.{ℕ, ◌≡◌, ◌≢◌, ◌⊎◌, ◌<◌, ◌≤◌, length, true, IfOk, IfErr, IsTrue};
+ghost use Rattle.std.specs.List.{AllByRecursion};
+ghost use Rattle.qp_course.specs.Followable.{IsFollowable};
+ghost use Rattle.qp_model.specs.Output.{has_form, is_in_range};
+ghost use Rattle.qp_model.specs.Sound.{IsSound};
+ghost use Rattle.qp_stim.specs.Rules.{StimuliFit};
+ghost use Rattle.qp_summary.specs.Written.{HasStimuli};
+ghost use Rattle.qp_run.specs.Conversions.{PrintsOne};
+ghost use Rattle.qp_run.specs.Endings.{ending_of};
+ghost use Rattle.qp_run.specs.Printed.{IsPrinted, PrintsMade, PrintsOf, PrintsRun};
+ghost use Rattle.qp_run.specs.Verdict.{AgreesRun, Count, EndsMade, HasCause, IsInput, IsRun, count_of, is_failure, is_refusal, quiet, reads_of, writes_of};
+ghost use Rattle.qp_commands.specs.WordTable.{number_of_form};
+ghost use Rattle.qp_run.specs.declared.status.Status.{Status};
+ghost use Rattle.qp_commands.specs.declared.values.Output.TheVariants.{Summary};
+
+use crate::conversions::write;
+use crate::loading::load;
+use crate::reading::{stimuli_in, system_in};
+use crate::status::Status;
+use qp_base::{Shelf, Sink};
+use qp_commands::{Form, Output};
+use qp_gen::generate;
+use qp_model::{Journal, Stimuli, System};
+use qp_outcome::outcome_of;
+use qp_simulation::run_sim;
+use qp_summary::{SummaryFault, write_summary};
+use std::alloc::Global;
+use std::sync::Wait;
+
+/// The answer on a run with this journal.
+#[tactic(auto, unfolding(crate::specs::Endings::ending_of))]
+fn ending_of(journal: &Journal) -> Status
+    requires { length journal.now.lanes ≤ 49 }
+    ensures { result ≡ ending_of journal.now }
+{
+    Status::of_outcome(outcome_of(journal))
+}
+
+/// Prints the summary of a journal. The answer is `told` where it could be written.
+fn summarize<O: Sink>(
+    alloc: Global,
+    system: &System,
+    journal: &Journal,
+    told: Status,
+    out: &mut O,
+) -> Status
+    requires followable { AllByRecursion (IsFollowable system.now) system.now.objects }
+    requires lawful { HasStimuli system.now journal.now }
+    requires told { told ≡ ending_of journal.now }
+    ensures { (form : ℕ) → IsPrinted (PrintsOf Summary form system.now journal.now)
+        (O.written out.old) (O.written out.new) (O.faults out.old) (O.faults out.new) result }
+{
+    match write_summary(alloc, system, journal, out) {
+        Ok(()) => told,
+        Err(SummaryFault::Memory) => Status::Memory,
+        Err(SummaryFault::Failed) => Status::WriteFault,
+    }
+}
+
+/// Prints what is asked for of a run's journal.
+fn print<O: Sink>(
+    alloc: Global,
+    system: &System,
+    journal: &Journal,
+    output: Output,
+    form: Form,
+    out: &mut O,
+) -> Status
+    requires form { IsTrue (has_form (number_of_form form) journal.now) }
+    requires range { IsTrue (is_in_range (number_of_form form) journal.now) }
+    requires followable { AllByRecursion (IsFollowable system.now) system.now.objects }
+    requires lawful { HasStimuli system.now journal.now }
+    ensures { IsPrinted (PrintsOf output (number_of_form form) system.now journal.now)
+        (O.written out.old) (O.written out.new) (O.faults out.old) (O.faults out.new) result }
+{
+    let told = ending_of(journal);
+    match output {
+        Output::Whole(kind) => write(journal, kind, form.number(), told, out),
+        Output::Summary => summarize(alloc, system, journal, told, out),
+    }
+}
+
+/// Runs a system on its stimuli, and prints what is asked for.
+fn run_and_print<R: Wait, O: Sink>(
+    rt: &R,
+    alloc: Global,
+    system: &System,
+    stimuli: &Stimuli,
+    budget: u32,
+    output: Output,
+    form: Form,
+    out: &mut O,
+) -> Status
+    requires sound { IsSound system.now }
+    requires fit { StimuliFit system.now stimuli.now }
+    requires some { 0 < budget }
+    requires few { budget ≤ 1000000 }
+    ensures { IsPrinted (PrintsRun system.now stimuli.now budget output (number_of_form form))
+        (O.written out.old) (O.written out.new) (O.faults out.old) (O.faults out.new) result }
+{
+    match run_sim(rt, alloc, system, stimuli, budget) {
+        Ok(journal) => print(alloc, system, &journal, output, form, out),
+        Err(_) => Status::Memory,
+    }
+}
+
+/// What the two files of a run say.
+#[derive(Drop)]
+struct Input {
+    system: System,
+    stimuli: Stimuli,
+}
+
+/// Reads the two files of a run. The second isn't read where the first is refused.
+fn prepare<F: Shelf>(
+    alloc: Global,
+    files: &mut F,
+    system: &str,
+    stimuli: &str,
+) -> Result<Input, Status>
+    ensures input { IfOk result (λ input. IsInput (F.holds files.old) system.now stimuli.now input.system input.stimuli) }
+    ensures sound { IfOk result (λ input. IsSound input.system) }
+    ensures fit { IfOk result (λ input. StimuliFit input.system input.stimuli) }
+
+    ensures told { IfErr result (λ status. (budget : ℕ) → AgreesRun (F.holds files.old) system.now stimuli.now budget status) }
+    ensures cause { IfErr result (HasCause (reads_of F.faults F.misses files.old files.new)) }
+    ensures about { IfErr result (λ status. (is_refusal status ≡ true) × (status ≢ Status.Words)) }
+    ensures holds { F.holds files.new ≡ F.holds files.old }
+{
+    let bytes = load(alloc, files, 1, system)?;
+    let system = system_in(alloc, bytes.as_slice())?;
+    let bytes = load(alloc, files, 2, stimuli)?;
+    let stimuli = stimuli_in(alloc, &system, bytes.as_slice())?;
+    Ok(Input { system, stimuli })
+}
+
+/// Runs two files, and prints what is asked for.
+pub fn run_files<R: Wait, F: Shelf, O: Sink>(
+    rt: &R,
+    alloc: Global,
+    files: &mut F,
+    system: &str,
+    stimuli: &str,
+    budget: u32,
+    output: Output,
+    form: Form,
+    out: &mut O,
+) -> Status
+    requires some { 0 < budget }
+    requires few { budget ≤ 1000000 }
+    ensures told { AgreesRun (F.holds files.old) system.now stimuli.now budget result }
+    ensures about { result ≢ Status.Words }
+    ensures cause { HasCause (writes_of F.faults F.misses O.faults files.old files.new out.old out.new) result }
+    ensures out { PrintsOne (IsRun (F.holds files.old) system.now stimuli.now budget output (number_of_form form))
+        (O.written out.old) (O.written out.new) result }
+    ensures holds { F.holds files.new ≡ F.holds files.old }
+{
+    match prepare(alloc, files, system, stimuli) {
+        Ok(input) => run_and_print(
+            rt,
+            alloc,
+            &input.system,
+            &input.stimuli,
+            budget,
+            output,
+            form,
+            out,
+        ),
+        Err(status) => status,
+    }
+}
+
+/// The budget of a run of what a number makes.
+const MADE_BUDGET: u32 = 100_000;
+
+/// Runs the system and the stimuli that a number makes, and prints the summary.
+pub fn run_made<R: Wait, O: Sink>(rt: &R, alloc: Global, number: u32, out: &mut O) -> Status
+    requires some { 1 ≤ number }
+    requires few { number ≤ 1000 }
+    ensures told { (is_failure result ≡ true) ⊎ EndsMade number result }
+    ensures about { result ≢ Status.Words }
+    ensures cause { (reads misses : Count) → HasCause
+        (record { reads = reads; misses = misses; out = count_of O.faults out.old out.new; notes = quiet }) result }
+    ensures out { PrintsOne (PrintsMade number) (O.written out.old) (O.written out.new) result }
+{
+    match generate(alloc, number) {
+        Ok((system, stimuli)) => run_and_print(
+            rt,
+            alloc,
+            &system,
+            &stimuli,
+            MADE_BUDGET,
+            Output::Summary,
+            Form::One,
+            out,
+        ),
+        Err(_) => Status::Memory,
+    }
+}
