@@ -19,9 +19,10 @@ use files::Table;
 use std::sync::Wait;
 
 /// The tables of words over files, with what is answered.
-const ANSWERS: [&str; 8] = [
+const ANSWERS: [&str; 9] = [
     "words.txt",
     "runs.txt",
+    "summaries.txt",
     "checks.txt",
     "conversions.txt",
     "system-faults.txt",
