@@ -67,7 +67,7 @@ rearmed-steady t n u v w former room s = steady-by v.by _ u v w room s.1.grows r
 
 -- Notes.
 
-says : (o : ℕ) (b : Body) (r : Rec) → item_of r ≡ record { of = o; body = b } → body_of r ≡ b
+pub says : (o : ℕ) (b : Body) (r : Rec) → item_of r ≡ record { of = o; body = b } → body_of r ≡ b
 unfolding item_of
 says o b r is = ap (λ (i : Item). i.body) is
 

@@ -1,2 +1,3 @@
 mod DeedLemmas
 mod DeskLemmas
+mod HandlerLemmas

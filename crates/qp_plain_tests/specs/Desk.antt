@@ -7,7 +7,9 @@ use Rattle.qp_model.specs.Sound.{IsSound}
 use Rattle.qp_calls.specs.declared.tokens.Entry.{Entry}
 use Rattle.qp_calls.specs.declared.deferred.Deferred.{Deferred}
 use Rattle.qp_calls.specs.declared.did.Did.{Did}
-use Rattle.qp_calls.specs.LaneView.{LaneView}
+use Rattle.qp_calls.specs.LaneView.{LaneView, ceiling_in}
+use Rattle.qp_calls.specs.Tokens.{without_entry}
+use Rattle.qp_model.specs.declared.bodies.Entry as model
 use Rattle.qp_plain_tests.specs.declared.desk.End.{End}
 use Rattle.qp_plain_tests.specs.declared.desk.End.TheVariants as ended
 use Rattle.qp_calls.specs.Deferring.{StandAll}
@@ -30,6 +32,21 @@ pub record MayGoOn (sys : System) (entries : List Entry) (v : LaneView) : Type 0
 abbrev pub StaysSteady : LaneView → LaneView → Option Did → Type 0
 StaysSteady v w None = ⊤
 StaysSteady v w (Some d) = is_value d ≡ true → Steady v w
+
+-- a note of `lock` and one of `unlock` came, after which the ceiling is 0
+abbrev pub LocksOnce : LaneView → LaneView → Option (Unit {0}) → Type 0
+LocksOnce v w None = ⊤
+LocksOnce v w (Some u) = Steady v w × (0 ≡ ceiling_in 0 w.told)
+
+-- after a value a publication has given up its own reference, and no other token has changed
+pub record Without (e : model.Entry) (v w : LaneView) : Type 0 where
+  pub sys : w.sys ≡ v.sys
+  pub serves : (o : ℕ) → w.serves o ≡ v.serves o
+  pub hands : w.hands ≡ without_entry e v.hands
+
+abbrev pub EndsIt : model.Entry → LaneView → LaneView → Option Did → Type 0
+EndsIt e v w None = ⊤
+EndsIt e v w (Some d) = is_value d ≡ true → Without e v w
 
 -- a test may go on after a value
 abbrev pub GoesOnAfter : System → Entry → Deferred → LaneView → Option Did → Type 0

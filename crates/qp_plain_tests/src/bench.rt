@@ -1,25 +1,45 @@
-//! Lanes after moves.
+//! Lanes after acts, beside the records that the acts leave.
 
-use crate::desk::{End, Move, play};
+use crate::desk::{Act, End, play};
 use crate::shown::lane_text;
 use qp_calls::Deferred;
 use qp_plain::PlainWorld;
 use qp_system::system_of_bytes;
-use std::alloc::Global;
+use std::alloc::{AllocError, Global};
 use std::marker::Brand;
 use std::sync::Wait;
 use std::sync::ledger::Blank;
 use std::test::Fail;
 
-/// The texts of the lanes after the moves of a test, with lines between them. All of it must be done, up to an assertion. Deferred entries
-/// are in a list of this capacity.
-pub(crate) fn texts_after<R: Wait>(
+/// The lanes that the acts must leave, with lines between them: each lane has the records of its acts in their order. One lane has them all.
+fn wanted(alloc: Global, lanes: u32, acts: &[Act<'_>]) -> Result<String, AllocError> {
+    let mut text = String::new(alloc);
+    for lane in 0..lanes {
+        if lane > 0 {
+            text.push_str("\n")?;
+        }
+        let mut first = true;
+        for act in acts {
+            if !act.leaves.is_empty() && (lanes == 1 || act.does.lane() == lane) {
+                if !first {
+                    text.push_str(", ")?;
+                }
+                text.push_str(act.leaves)?;
+                first = false;
+            }
+        }
+    }
+    Ok(text)
+}
+
+/// The lanes that the acts leave. All of it must be done, up to an assertion. Deferred entries are in a list of this capacity.
+fn found<R: Wait>(
     rt: &R,
     alloc: Global,
     system: &str,
     lanes: u32,
     defer: u8,
-    moves: &[Move<'_>],
+    acts: &[Act<'_>],
 ) -> Result<String, Fail> {
     let sys = system_of_bytes(alloc, system.as_bytes())?;
     if lanes == 0 || lanes > 49 {
@@ -31,7 +51,7 @@ pub(crate) fn texts_after<R: Wait>(
     let Ok(mut list) = Deferred::new(alloc, defer) else {
         return Err(Fail::from("memory"));
     };
-    if let End::Refused = play::<Brand, R>(rt, &mut world, &sys, &mut list, moves, Blank::new(1)) {
+    if let End::Refused = play::<Brand, R>(rt, &mut world, &sys, &mut list, acts, Blank::new(1)) {
         return Err(Fail::from("refused"));
     }
     let ended = world.finish();
@@ -43,4 +63,21 @@ pub(crate) fn texts_after<R: Wait>(
         text.push_str(lane_text(alloc, lane)?.as_str())?;
     }
     Ok(text)
+}
+
+/// Does the acts in one lane and in two, and fails with the lanes found where they aren't those wanted.
+pub(crate) fn see<R: Wait>(
+    rt: &R,
+    alloc: Global,
+    system: &str,
+    defer: u8,
+    acts: &[Act<'_>],
+) -> Result<(), Fail> {
+    for lanes in 1..3 {
+        let text = found(rt, alloc, system, lanes, defer, acts)?;
+        if text.as_str() != wanted(alloc, lanes, acts)?.as_str() {
+            return Err(Fail::new(text));
+        }
+    }
+    Ok(())
 }

@@ -3,9 +3,10 @@
 ghost use Rattle.std.specs.Prelude.{◌≡◌, ℕ, ◌∷◌, IfSome, IsTrue, true};
 ghost use Rattle.qp_model.specs.Sound.{IsSound};
 ghost use Rattle.qp_model.specs.WordLaw.{is_object};
-ghost use Rattle.qp_calls.specs.Clauses.{IsEvent, event_of};
+ghost use Rattle.qp_calls.specs.Clauses.{IsEvent, Stands, event_of};
 ghost use Rattle.qp_plain_tests.specs.Desk.{GoesOnAfter, MayGoOn, OwnsTimer, StaysSteady};
 
+use crate::handlers::announce;
 use arrayvec::ArrayVec;
 use qp_base::{Ev, Steps};
 use qp_calls::{
@@ -35,6 +36,11 @@ pub(crate) enum Deed {
         pars: &'static [u64],
         reserve: Option<u8>,
     },
+    /// A handler's publication, after a `locked` list with nothing in it.
+    Announce {
+        sig: u16,
+        pars: &'static [u64],
+    },
     Forward {
         to: u8,
         margin: Option<u8>,
@@ -63,6 +69,8 @@ pub(crate) enum Deed {
     },
     /// Says the answer of the call before.
     SayOk,
+    /// Says the first parameter of the event at hand.
+    SayFirst,
 }
 
 /// Whether the system has an object of this priority.
@@ -210,6 +218,25 @@ fn say<O: Ops>(ops: &mut O, o: u8, value: i64) -> Option<Did>
     Some(Did::Value(0))
 }
 
+/// Notes the first parameter of an event.
+fn say_first<O: Ops>(ops: &mut O, sys: &System, now: &Entry) -> Option<Did>
+    requires its { (O.lane ops.old).sys ≡ sys.now }
+    requires stands { Stands now.now (O.lane ops.old) }
+    ensures { StaysSteady (O.lane ops.old) (O.lane ops.new) result }
+{
+    let Entry::Pool(h) = now else {
+        return None;
+    };
+    let sig = ops.sig(h);
+    let signal = sys.signals.items.get(usize::from(sig) - 4)?;
+    if signal.params == 0 {
+        return None;
+    }
+    let value = ops.par(h, 0);
+    let o = owner(ops);
+    say(ops, o, i64::try_from(value).ok()?)
+}
+
 /// Notes assertion 4 of a timer.
 fn arm_badly<O: Ops>(ops: &mut O, o: u8, timer: u8) -> Option<Did>
     ensures { StaysSteady (O.lane ops.old) (O.lane ops.new) result }
@@ -249,6 +276,7 @@ pub(crate) fn perform<O: Ops, L: Ledger>(
             }
             forward(ops, *to, now, *margin, steps).ok()
         }
+        Deed::SayFirst => say_first(ops, sys, now),
         _ => act(ops, sys, deed, ok, steps),
     }
 }
@@ -288,6 +316,10 @@ fn act<O: Ops, L: Ledger>(
         Deed::Publish { sig, pars, reserve } => {
             let ev = event(sys, *sig, pars)?;
             publish(ops, sys, &ev, *reserve, steps).ok()
+        }
+        Deed::Announce { sig, pars } => {
+            let ev = event(sys, *sig, pars)?;
+            announce(ops, sys, o, &ev, None, steps)
         }
         Deed::Tick { rate } => tick_rate(ops, sys, *rate, steps).ok(),
         Deed::Subscribe(sig) => subscribing(ops, sys, o, *sig, true),

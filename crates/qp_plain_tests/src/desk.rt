@@ -39,6 +39,23 @@ pub(crate) enum Move<'a> {
     },
 }
 
+impl Move<'_> {
+    /// The lane of it.
+    pub(crate) fn lane(&self) -> u32 {
+        match self {
+            Move::Work { lane, .. } => *lane,
+            Move::Step { .. } => 0,
+        }
+    }
+}
+
+/// A move, and the records that it leaves.
+#[derive(Drop)]
+pub(crate) struct Act<'a> {
+    pub(crate) does: Move<'a>,
+    pub(crate) leaves: &'a str,
+}
+
 /// Does deeds in order, while the lane has an entry in its hands. Ends with the first assertion.
 fn work<O: Ops, L: Ledger>(
     ops: &mut O,
@@ -141,7 +158,7 @@ fn step_on<O: Ops, L: Ledger>(
     End::Whole
 }
 
-/// One move.
+/// One move. A world of one lane has all of them there.
 fn make<L: Ledger, R: Wait>(
     rt: &R,
     world: &mut PlainWorld<'_>,
@@ -153,10 +170,7 @@ fn make<L: Ledger, R: Wait>(
     requires { MayGoOn sys.now list.old.entries.items (world_view world.old) }
     ensures { MayStillGoOn sys.now list.new.entries.items (world_view world.new) result }
 {
-    let lane = match next {
-        Move::Work { lane, .. } => *lane,
-        Move::Step { .. } => 0,
-    };
+    let lane = if world.lanes() == 1 { 0 } else { next.lane() };
     if lane >= world.lanes() {
         return End::Refused;
     }
@@ -167,13 +181,13 @@ fn make<L: Ledger, R: Wait>(
     }
 }
 
-/// Makes moves in order, and counts tries in a ledger of its own.
+/// Makes the moves of acts in order, and counts tries in a ledger of its own.
 pub(crate) fn play<L: Ledger, R: Wait>(
     rt: &R,
     world: &mut PlainWorld<'_>,
     sys: &System,
     list: &mut Deferred,
-    moves: &[Move<'_>],
+    acts: &[Act<'_>],
     blank: Blank,
 ) -> End
     requires name { blank.name ≡ L.name }
@@ -183,8 +197,8 @@ pub(crate) fn play<L: Ledger, R: Wait>(
     ensures { MayStillGoOn sys.now list.new.entries.items (world_view world.new) result }
 {
     let mut steps = Steps::<L>::open(blank);
-    for next in moves {
-        match make(rt, world, sys, list, next, &mut steps) {
+    for act in acts {
+        match make(rt, world, sys, list, &act.does, &mut steps) {
             End::Whole => {}
             end => return end,
         }

@@ -43,6 +43,7 @@ fn the_stop_word_keeps_its_first_code(rt: HostRuntime) -> Result<(), Fail> {
     let Ok(mut world) = PlainWorld::new(rt.alloc(), &sys, 2) else {
         return Err(Fail::from("memory"));
     };
+    assert!(rt; world.rests());
     assert_eq!(rt; world.stopped(), None);
     world.stop(7);
     assert_eq!(rt; world.stopped(), Some(7));

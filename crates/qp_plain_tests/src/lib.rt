@@ -4,11 +4,12 @@
 #![tactic(auto)]
 
 #[cfg(test)]
+mod acts;
+#[cfg(test)]
 mod bench;
-#[cfg(test)]
 mod deeds;
-#[cfg(test)]
 mod desk;
+mod handlers;
 #[cfg(test)]
 mod lanes;
 #[cfg(test)]

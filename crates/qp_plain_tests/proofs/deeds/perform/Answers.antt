@@ -37,3 +37,9 @@ returns-else-not-has_object-2 g c = rw c.ok-in-Forward.ensures.value (goes-call 
 
 pub returns-in_default : goal.returns-in_default
 returns-in_default g c = goes-steady c.args.sys.now c.args.now.now c.args.list.now _ _ c.act.result c.requires c.act.ensures
+
+pub say_first-requires-clause-stands : goal.say_first-requires-clause-stands
+say_first-requires-clause-stands g c = stand-front c.args.now.now _ _ c.requires.stand
+
+pub returns-in-SayFirst : goal.returns-in-SayFirst
+returns-in-SayFirst g c = goes-steady c.args.sys.now c.args.now.now c.args.list.now _ _ c.say_first.result c.requires c.say_first.ensures
