@@ -137,8 +137,8 @@ next-draw w all A i B m inv order is = ⊎_elim (λ e. e) (λ ne. absurd (wrong 
         let down : nat_le m all ≡ true = rw (is, here) at to in
         let less : suc c < m = grind (arith, nat_tests, up, ne) in
         let some : c < all = grind (arith, nat_tests, less, down) in
-        let former = none-drawn w c (λ k. draws_to w c (touch k)) A (λ k h. to-not w c c (touch k) (omega arith) h) inv.low in
-        let later = none-drawn w c (λ k. not (touch_first (touch k) (touch i))) B (λ k h. first-not w c (touch i) (touch k) (λ v e. rw is (true_both _ _ e (is-less (suc c) m less))) h) (both_true _ _ order.sorted).0 in
+        let former : drawn w c A ≡ 0 = none-drawn w c (λ k. draws_to w c (touch k)) A (λ k h. to-not w c c (touch k) (omega arith) h) inv.low in
+        let later : drawn w c B ≡ 0 = none-drawn w c (λ k. not (touch_first (touch k) (touch i))) B (λ k h. first-not w c (touch i) (touch k) (λ v e. rw is (true_both _ _ e (is-less (suc c) m less))) h) (both_true _ _ order.sorted).0 in
         let mine : drawn_as w c (touch i) ≡ false = rw is (apart (same_word w w) ne) in
         let one = sym (drawn-split w c A i B) ∙ inv.once c some in
         let none : cond {A = ℕ} (drawn_as w c (touch i)) 1 0 ≡ 0 = rw mine refl in
@@ -174,8 +174,8 @@ next-show w all A i B m inv order is = ⊎_elim (λ e. e) (λ ne. ⊎_elim (λ l
         go zero e less = omega (arith, less)
         go (suc n) e less =
             let some : n < all = omega (arith, e, inv.part) in
-            let former = none-drawn w n (λ a. not (touch_first (touch i) (touch a))) A (λ a h. behind-not w n (touch i) (touch a) (λ v same. rw is (true_both _ _ (same-sym v w same) (is-less m (suc n) less))) h) (both_true _ _ order.behind).0 in
-            let later = none-drawn w n (λ k. draws_above w (total w A) (touch k)) B (λ k h. above-not w (total w A) n (touch k) (omega (arith, e)) h) (both_true _ _ inv.high).1 in
+            let former : drawn w n A ≡ 0 = none-drawn w n (λ a. not (touch_first (touch i) (touch a))) A (λ a h. behind-not w n (touch i) (touch a) (λ v same. rw is (true_both _ _ (same-sym v w same) (is-less m (suc n) less))) h) (both_true _ _ order.behind).0 in
+            let later : drawn w n B ≡ 0 = none-drawn w n (λ k. draws_above w (total w A) (touch k)) B (λ k h. above-not w (total w A) n (touch k) (omega (arith, e)) h) (both_true _ _ inv.high).1 in
             let one = sym (drawn-split w n A i B) ∙ inv.once n some in
             let none = mine n in
             omega (arith, one, former, later, none)
@@ -187,8 +187,8 @@ next-show w all A i B m inv order is = ⊎_elim (λ e. e) (λ ne. ⊎_elim (λ l
         let to : marks_to w all (touch i) ≡ true = (both_true _ _ inv.within).0 in
         let down : nat_le m all ≡ true = rw (is, here) at to in
         let some : c < all = grind (arith, nat_tests, less, down) in
-        let former = none-drawn w c (λ k. draws_to w c (touch k)) A (λ k h. to-not w c c (touch k) (omega arith) h) inv.low in
-        let later = none-drawn w c (λ k. not (touch_first (touch k) (touch i))) B (λ k h. first-not w c (touch i) (touch k) (λ v e. rw is (true_both _ _ e (is-le (suc c) m less))) h) (both_true _ _ order.sorted).0 in
+        let former : drawn w c A ≡ 0 = none-drawn w c (λ k. draws_to w c (touch k)) A (λ k h. to-not w c c (touch k) (omega arith) h) inv.low in
+        let later : drawn w c B ≡ 0 = none-drawn w c (λ k. not (touch_first (touch k) (touch i))) B (λ k h. first-not w c (touch i) (touch k) (λ v e. rw is (true_both _ _ e (is-le (suc c) m less))) h) (both_true _ _ order.sorted).0 in
         let one = sym (drawn-split w c A i B) ∙ inv.once c some in
         let none = mine c in
         omega (arith, one, former, later, none)
@@ -266,7 +266,7 @@ inv-draw w all A i B m inv order is =
     let to : marks_to w all (touch i) ≡ true = (both_true _ _ inv.within).0 in
     let down : nat_le m all ≡ true = rw (is, here) at to in
     let some : c < all = grind (arith, nat_tests, next, down) in
-    let former = none-drawn w c (λ k. draws_to w c (touch k)) A (λ k h. to-not w c c (touch k) (omega arith) h) inv.low in
+    let former : drawn w c A ≡ 0 = none-drawn w c (λ k. draws_to w c (touch k)) A (λ k h. to-not w c c (touch k) (omega arith) h) inv.low in
     let it-is : drawn_as w c (touch i) ≡ true = rw is (true_both _ _ here (same m (suc c) next)) in
     let mine : cond {A = ℕ} (drawn_as w c (touch i)) 1 0 ≡ 1 = rw it-is refl in
     let one = sym (drawn-split w c A i B) ∙ inv.once c some in

@@ -14,11 +14,12 @@ use Rattle.qp_model.specs.declared.bodies.Body.{Body}
 use Rattle.qp_model.specs.Record.{Item, item_of}
 use Rattle.qp_model.specs.History.{Touch, Draws, Shows, Neither, touch, all_items, drawn_as, drawn_below, hist, is_numbered, lane_items, same_word, total}
 use Rattle.qp_model.specs.Machine.{Machine, after, is_shown, shown_by}
-use Rattle.qp_model.specs.Places.{Place, item_at, items_at, must_precede, places, places_from, places_in, touch_at, touch_first}
+use Rattle.qp_model.specs.Places.{Place, in_order, is_next, item_at, items_at, must_precede, places, places_from, places_in, touch_at, touch_first}
 use Rattle.qp_model.specs.WordLaw.{Keeps, Words}
 use Rattle.qp_model.proofs.ListLemmas.{all_below_at, both_true, filter-none, true_both}
 use Rattle.qp_model.proofs.HistoryLemmas.{length-hist}
-use Rattle.qp_replay.specs.Numbers.{has_word, numbers_stand}
+use Rattle.qp_replay.specs.Laws.{NamedOrdersAreSerial}
+use Rattle.qp_replay.specs.Numbers.{has_word, is_next_where, is_on, numbers_stand}
 use Rattle.qp_replay.specs.Orders.{IsLowestOrder}
 use Rattle.qp_replay.specs.Replaying.{IsAnswer, IsReplay}
 use Rattle.qp_replay.specs.Rest.{place}
@@ -188,3 +189,24 @@ pub numbers-also : {E : Type 0} (sys : System) (lanes : List (List Rec)) → Wor
 numbers-also sys lanes words (Ok (Order order)) h = (h, numbers-hold sys lanes order words h.0)
 numbers-also sys lanes words (Ok (Cycle cycle)) h = h
 numbers-also sys lanes words (Err e) h = h
+
+-- where each record is on a word that passes the test, all numbers are those of their words' operations
+all-in-order : (test : Word → Bool) (A B : List Item) → list_all (λ i. is_on test (touch i)) B ≡ true → numbers_stand test A B ≡ true → in_order A B ≡ true
+unfolding in_order is_next numbers_stand
+all-in-order test A [] on stand = refl
+all-in-order test A (i ∷ B) on stand =
+    let here = both_true (is_on test (touch i)) (list_all (λ i. is_on test (touch i)) B) on in
+    let next = both_true (is_next_where test A (touch i)) (numbers_stand test (A ++ i ∷ []) B) stand in
+    true_both _ _ (one (touch i) here.0 next.0) (all-in-order test (A ++ i ∷ []) B here.1 next.1)
+  where
+    one : (t : Touch) → is_on test t ≡ true → is_next_where test A t ≡ true → is_next A t ≡ true
+    one (Draws w m) known next = ap (λ b. not b || is_next A (Draws w m)) (sym known) ∙ next
+    one (Shows w m) known next = ap (λ b. not b || is_next A (Shows w m)) (sym known) ∙ next
+    one Neither known next = refl
+
+pub named-serial : NamedOrdersAreSerial
+named-serial sys lanes order named is numbers = record {
+  all = is.all;
+  before = is.before;
+  numbers = all-in-order (has_word sys) [] (items_at lanes order) (all-of lanes order is.all (λ i. is_on (has_word sys) (touch i)) named) numbers;
+}

@@ -1,10 +1,12 @@
 -- The numbers of an order's records on the words of a system.
-use Rattle.std.specs.Prelude.{Bool, true, not, ◌&&◌, ◌||◌, List, [], ◌∷◌, ◌++◌}
+use Rattle.std.specs.Prelude.{Bool, true, not, ◌&&◌, ◌||◌, List, [], ◌∷◌, ◌++◌, IsTrue}
+use Rattle.std.specs.List.{list_all}
+use Rattle.qp_model.specs.declared.record.Rec.{Rec}
 use Rattle.qp_model.specs.declared.words.Word.{Word}
 use Rattle.qp_model.specs.declared.words.Word.TheVariants as word
 use Rattle.qp_model.specs.declared.systems.System.{System}
 use Rattle.qp_model.specs.Record.{Item}
-use Rattle.qp_model.specs.History.{Touch, Draws, Shows, Neither, touch}
+use Rattle.qp_model.specs.History.{Touch, Draws, Shows, Neither, touch, all_items}
 use Rattle.qp_model.specs.Places.{is_next}
 use Rattle.qp_model.specs.WordLaw.{is_pool, is_block, is_object, is_signal, is_timer}
 
@@ -15,6 +17,16 @@ has_word sys (word.Block p b) = is_block sys p b
 has_word sys (word.Queue a) = is_object sys a
 has_word sys (word.Signal s) = is_signal sys s
 has_word sys (word.Timer t) = is_timer sys t
+
+-- the touch is of a word that passes the test, if it is of any
+abbrev pub is_on : (Word → Bool) → Touch → Bool
+is_on test (Draws w mark) = test w
+is_on test (Shows w mark) = test w
+is_on test Neither = true
+
+-- each record of the lanes that touches a word touches one of the system
+abbrev pub IsNamed : System → List (List Rec) → Type 0
+IsNamed sys lanes = IsTrue (list_all (λ i. is_on (has_word sys) (touch i)) (all_items lanes))
 
 -- the touch of a word that passes the test draws or shows the number of the word's operations before it
 abbrev pub is_next_where : (Word → Bool) → List Item → Touch → Bool

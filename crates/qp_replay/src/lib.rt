@@ -11,6 +11,9 @@ mod order;
 mod places;
 mod replaying;
 
+// What is true of orders.
+pub mod laws;
+
 pub use marks::At;
 pub use order::{is_small, ordered};
 pub use places::{Places, Replayed};
