@@ -1,5 +1,5 @@
 -- How a run ended.
-use Rattle.std.proofs.Common.{◌≡◌, ℕ, List, Option, refl, sym, ap, ◌∙◌, inl, inr, subst}
+use Rattle.std.proofs.Common.{◌≡◌, ℕ, List, Option, refl, sym, ◌∙◌, inl, inr, subst}
 use Rattle.qp_base.specs.Sink.{appended}
 use Rattle.qp_model.specs.declared.journals.Journal.{Journal}
 use Rattle.qp_run.specs.declared.status.Status.{Status}

@@ -15,7 +15,7 @@ use Rattle.qp_commands.specs.declared.values.Output.TheVariants.{Whole, Summary}
 use Rattle.qp_run.specs.Conversions.{Held, IsWrittenAs, PrintsOne, written}
 use Rattle.qp_run.specs.Endings.{ending_of}
 use Rattle.qp_run.specs.Printed.{IsPrintOf, IsPrinted, PrintsMade, PrintsOf, PrintsRun, made_budget}
-use Rattle.qp_run.specs.Verdict.{Count, Counts, EndsMade, EndsRun, HasCause, IsInput, IsRun, is_failure, quiet}
+use Rattle.qp_run.specs.Verdict.{Count, EndsMade, EndsRun, HasCause, IsInput, IsRun, is_failure, quiet}
 use Rattle.qp_run.proofs.EndingLemmas.{written-about, written-cause, written-prints}
 
 -- ---- what was printed of a journal

@@ -1,4 +1,3 @@
-use Rattle.std.proofs.Common.{ℕ}
 use Rattle.qp_run.proofs.PrintedLemmas.{summary-failed, summary-memory, summary-printed}
 use Rattle.qp_run.proofs.runs.summarize.Goals as goal
 
