@@ -1,5 +1,5 @@
 -- An object in its lane, from its start on.
-use Rattle.std.proofs.Common.{◌≡◌, ℕ, ◌≤◌, ◌-◌, ◌==◌, cond, Bool, true, false, List, [], ◌∷◌, ◌++◌, map, length, refl, sym, ◌∙◌, ap, subst, Option, Some, None, arith}
+use Rattle.std.proofs.Common.{◌≡◌, ℕ, ◌≤◌, ◌-◌, ◌==◌, cond, Bool, true, false, List, [], ◌∷◌, map, length, refl, sym, ◌∙◌, ap, subst, Option, Some, None, arith}
 use Rattle.std.specs.Prelude.{IsTrue}
 use Rattle.std.specs.List.{AllByRecursion, find}
 use Rattle.std.proofs.lemmas.Bool.Decides.{nat_tests}
@@ -12,13 +12,13 @@ use Rattle.qp_model.specs.Record.{item_of}
 use Rattle.qp_model.specs.Course.{chart_at}
 use Rattle.qp_model.specs.Sites.{object_at}
 use Rattle.qp_model.specs.Sound.{IsSound, IsSoundObject}
-use Rattle.qp_model.specs.Told.{Told, plain, taken}
+use Rattle.qp_model.specs.Told.{plain, taken}
 use Rattle.qp_model.specs.WordLaw.{is_object}
 use Rattle.qp_model.proofs.NumberLemmas.{number-owned}
 use Rattle.qp_calls.specs.declared.tokens.Entry.{Entry}
 use Rattle.qp_calls.specs.Clauses.{TakesIt, entry_of}
 use Rattle.qp_calls.specs.Counting.{times}
-use Rattle.qp_calls.specs.Deferring.{StandAll, kept_in}
+use Rattle.qp_calls.specs.Deferring.{StandAll}
 use Rattle.qp_calls.specs.LaneView.{GrowsOf, LaneView, Roomier}
 use Rattle.qp_calls.specs.Notes.{told_note}
 use Rattle.qp_calls.specs.Tokens.{hands_after, hands_by}
@@ -30,11 +30,10 @@ use Rattle.qp_dispatch.specs.declared.steps.Stage.{Stage}
 use Rattle.qp_dispatch.specs.declared.steps.Stage.TheVariants as standing
 use Rattle.qp_dispatch.specs.declared.steps.Step.{Step}
 use Rattle.qp_dispatch.specs.declared.steps.Step.TheVariants as step
-use Rattle.qp_dispatch.specs.Objects.{BeginsStep, IsNew, IsObject, MayResume, MayStart, ObjectResumes, ObjectStarts, ResumesAs, StartsAs, home_of, is_done, works_for}
+use Rattle.qp_dispatch.specs.Objects.{BeginsStep, IsNew, IsObject, MayResume, MayStart, ObjectResumes, ObjectStarts, ResumesAs, StartsAs, home_of, works_for}
 use Rattle.qp_dispatch.specs.Parts.{IsPublishing}
-use Rattle.qp_dispatch.specs.Resume.{IsGoing, IsReady, IsTaken, IsUnderWay, Resumes}
+use Rattle.qp_dispatch.specs.Resume.{IsReady, IsUnderWay}
 use Rattle.qp_dispatch.specs.Runs.{Setting}
-use Rattle.qp_dispatch.specs.Starting.{StartsTo}
 use Rattle.qp_dispatch.specs.SoundFor.{IsHome}
 use Rattle.qp_dispatch.proofs.SoundAble.{sound-ready}
 use Rattle.qp_dispatch.proofs.Taking.{taken-is}

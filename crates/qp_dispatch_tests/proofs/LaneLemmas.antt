@@ -1,5 +1,5 @@
 -- A lane in which a trial goes on.
-use Rattle.std.proofs.Common.{◌≡◌, ℕ, Bool, true, false, List, [], ◌∷◌, ◌++◌, map, refl, sym, ◌∙◌, ap, subst, Option, Some, None, Ok, Err}
+use Rattle.std.proofs.Common.{◌≡◌, ℕ, false, List, [], ◌∷◌, refl, sym, ◌∙◌, ap, subst, None}
 use Rattle.qp_model.specs.declared.systems.System.{System}
 use Rattle.qp_model.specs.declared.record.Rec.{Rec}
 use Rattle.qp_model.specs.declared.bodies.Body.{Body}
@@ -7,10 +7,10 @@ use Rattle.qp_model.specs.declared.bodies.Body.TheVariants.{Look, Rest}
 use Rattle.qp_model.specs.Record.{Item, item_of, body_of}
 use Rattle.qp_model.specs.Calls as call
 use Rattle.qp_model.specs.Sound.{IsSound}
-use Rattle.qp_model.specs.Told.{Told, ToldItem, for_object, plain}
+use Rattle.qp_model.specs.Told.{Told, plain}
 use Rattle.qp_calls.specs.declared.did.Did.{Did}
 use Rattle.qp_calls.specs.Groups.{Answers}
-use Rattle.qp_calls.specs.LaneView.{Grows, GrowsOf, IsNew, LaneView, Roomier, ceiling_in}
+use Rattle.qp_calls.specs.LaneView.{Grows, GrowsOf, LaneView, Roomier, ceiling_in}
 use Rattle.qp_calls.specs.Notes.{spills_in, told_note}
 use Rattle.qp_dispatch.proofs.Quiet.{Quiet, fits-quiet, quiet-ceiling, quiet-spillless, spills-append}
 use Rattle.qp_dispatch.specs.Objects.{works_for}
