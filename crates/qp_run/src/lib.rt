@@ -13,4 +13,4 @@ mod top;
 
 pub use place::Place;
 pub use status::Status;
-pub use top::{qp_main, tell};
+pub use top::{Answered, answer, qp_main, report, tell};

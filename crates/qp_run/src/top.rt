@@ -54,13 +54,13 @@ fn carry_out<R: Wait, F: Shelf, O: Sink>(
 }
 
 /// How a call was answered, and the word of the file that the answer is about.
-struct Answered<'w> {
-    status: Status,
-    name: &'w str,
+pub struct Answered<'w> {
+    pub status: Status,
+    pub name: &'w str,
 }
 
 /// Reads the words of a call and does what they ask for. No line is put yet.
-fn answer<'w, R: Wait, F: Shelf, O: Sink>(
+pub fn answer<'w, R: Wait, F: Shelf, O: Sink>(
     rt: &R,
     alloc: Global,
     words: &'w [&'w str],
@@ -118,7 +118,7 @@ pub fn tell<E: Sink>(status: Status, notes: &mut E) -> Status
 }
 
 /// Puts the line about an answer. Only a line that names a file takes memory; it names it by this name.
-fn report<E: Sink>(alloc: Global, name: &str, status: Status, notes: &mut E) -> Status
+pub fn report<E: Sink>(alloc: Global, name: &str, status: Status, notes: &mut E) -> Status
     ensures notes { (asked : Option Asked) → IsNamed asked status name.now
         → Noted asked (count_of E.faults notes.old notes.new) (E.written notes.old) (E.written notes.new) result }
     ensures answer { Stands (count_of E.faults notes.old notes.new) status result }
