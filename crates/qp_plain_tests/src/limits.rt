@@ -231,10 +231,11 @@ fn an_event_is_published_to_all(rt: HostRuntime) -> Result<(), Fail> {
         posts.push_str(format!(in alloc; "inc 0 1 0 {n}, post 0 {to} 1 0 0 1 0 {n}, ")?.as_str())?;
     }
     posts.push_str("dec 0 1 0 33 0")?;
+    let subscribe = [Deed::Subscribe(N)];
     let publish = [n_publish(&[7], None)];
     let mut acts = Vec::new(alloc);
     for (n, sub) in subs.iter().enumerate() {
-        acts.push(owner(n as u8 + 1, &[Deed::Subscribe(N)], sub.as_str()))?;
+        acts.push(owner(n as u8 + 1, &subscribe, sub.as_str()))?;
     }
     acts.push(source(&publish, posts.as_str()))?;
     see(&rt, alloc, system.as_str(), 0, acts.as_slice())
