@@ -1,5 +1,5 @@
 -- Queues that are empty, by the counts of their words and by the records.
-use Rattle.std.proofs.Common.{◌≡◌, ℕ, zero, suc, ◌+◌, ◌<◌, ◌≤◌, ◌==◌, Bool, true, false, ◌&&◌, List, [], ◌∷◌, ◌++◌, length, take, drop, get_or, slice_get, refl, sym, ◌∙◌, ap, subst, arith, append_assoc, IsTrue, Some, None, if◌then◌else◌}
+use Rattle.std.proofs.Common.{◌≡◌, ℕ, zero, suc, ◌+◌, ◌<◌, ◌≤◌, ◌==◌, Bool, true, false, ◌&&◌, List, [], ◌∷◌, ◌++◌, length, take, drop, get_or, slice_get, refl, sym, ◌∙◌, ap, subst, arith, append_assoc, IsTrue, Some, if◌then◌else◌}
 use Rattle.std.specs.List.{count_by, find, list_all}
 use Rattle.std.specs.Option.{is_some}
 use Rattle.std.proofs.lemmas.Bool.Decides.{nat_tests}
@@ -15,7 +15,7 @@ use Rattle.qp_model.proofs.FitsLemmas.{all-append}
 use Rattle.qp_model.proofs.ListLemmas.{both_true}
 use Rattle.qp_calls.specs.declared.answers.Counts as counts
 use Rattle.qp_calls.specs.LaneView.{Counts}
-use Rattle.qp_sound.specs.View.{view_of, shown_in, counts_of}
+use Rattle.qp_sound.specs.View.{view_of, shown_in}
 use Rattle.qp_sound.specs.WordStates.{line_in}
 use Rattle.qp_sound.proofs.EntryCounts.{entered-counts, left-counts}
 use Rattle.qp_plain_words.specs.Queue.{Queue}

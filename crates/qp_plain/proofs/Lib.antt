@@ -15,3 +15,7 @@ pub mod Stopping
 pub mod TimerCalls
 pub mod Turns
 pub mod EmptyQueues
+mod QueueTable
+mod SignalTable
+mod TimerTable
+mod BlockTable

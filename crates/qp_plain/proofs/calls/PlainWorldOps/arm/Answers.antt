@@ -1,39 +1,13 @@
-use Rattle.std.proofs.Common.{◌≡◌, ℕ, ◌-◌, ◌<◌, length, get_or, slice_set, sym, ap, subst, arith, IsTrue}
+use Rattle.std.proofs.Common.{arith}
 use Rattle.qp_model.specs.declared.words.Word.TheVariants as word
-use Rattle.qp_model.specs.TimeEvents.{Clock}
 use Rattle.qp_sound.specs.View.{view_of}
-use Rattle.qp_sound.specs.WordStates.{clock_in}
-use Rattle.qp_model.specs.WordLaw.{is_timer}
-use Rattle.qp_plain.specs.declared.book.Book.{Book}
-use Rattle.qp_plain.specs.declared.world.PlainWorld.{PlainWorld}
-use Rattle.qp_plain.specs.Book.{lists_of}
-use Rattle.qp_plain.specs.World.{WorldHolds}
 use Rattle.qp_plain.specs.WorldView.{world_view}
-use Rattle.qp_plain.proofs.Calling.{view_with, stop-stays, timer-at, lent-same}
-use Rattle.qp_plain.proofs.Few.{clock-few}
-use Rattle.qp_plain.proofs.Holding.{timer-in}
+use Rattle.qp_plain.proofs.Calling.{view_with, stop-stays, timer-at}
 use Rattle.qp_plain.proofs.Mays.{owned-timer}
 use Rattle.qp_plain.proofs.Turns.{tries-drawn, tries-shown}
 use Rattle.qp_plain.proofs.TimerCalls as timer
+use Rattle.qp_plain.proofs.TimerTable.{there, put, kept, few}
 use Rattle.qp_plain.proofs.calls.PlainWorldOps.arm.Goals as goal
-
--- the place of the timer, and what stands there
-its : (w : PlainWorld) (t k : ℕ) (q : Clock) → IsTrue (is_timer w.sys.now t) → k ≡ t → q ≡ get_or w.timers.items (k - 1) q → q ≡ clock_in (lists_of w.book) t
-its w t k q h at e = timer-at w t k q h at e
-
-there : (w : PlainWorld) (t k : ℕ) → IsTrue (is_timer w.sys.now t) → k ≡ t → k - 1 < length w.timers.items
-there w t k h at = let few = timer-in w.sys.now t h in omega (arith, few.0, few.1, at, w.holds.timers_hold.long)
-
-put : (w : PlainWorld) (b : Book) (t k : ℕ) (x : Clock) → k ≡ t → WorldHolds w.sys.now (lists_of b) b.order.items w.pools.items w.blocks.items w.cells.items w.queues.items w.signals.items (slice_set w.timers.items (t - 1) x)
-    → WorldHolds w.sys.now (lists_of b) b.order.items w.pools.items w.blocks.items w.cells.items w.queues.items w.signals.items (slice_set w.timers.items (k - 1) x)
-put w b t k x at h = subst (λ z. WorldHolds w.sys.now (lists_of b) b.order.items w.pools.items w.blocks.items w.cells.items w.queues.items w.signals.items (slice_set w.timers.items (z - 1) x)) (sym at) h
-
-kept : (w : PlainWorld) (b : Book) (k : ℕ) (q : Clock) → q ≡ get_or w.timers.items (k - 1) q → WorldHolds w.sys.now (lists_of b) b.order.items w.pools.items w.blocks.items w.cells.items w.queues.items w.signals.items w.timers.items
-    → WorldHolds w.sys.now (lists_of b) b.order.items w.pools.items w.blocks.items w.cells.items w.queues.items w.signals.items (slice_set w.timers.items (k - 1) q)
-kept w b k q e h = subst (WorldHolds w.sys.now (lists_of b) b.order.items w.pools.items w.blocks.items w.cells.items w.queues.items w.signals.items) (sym (lent-same w.timers.items (k - 1) q e)) h
-
-few : (w : PlainWorld) (t : ℕ) (q : Clock) → IsTrue (is_timer w.sys.now t) → q ≡ clock_in (lists_of w.book) t → q.count < 4294967295
-few w t q h is = let le = clock-few w.sys.now w.book w.holds.world.sound.words t h in let e = ap (λ x. x.count) is in omega (arith, le, e)
 
 pub index_mut-word-requires : goal.index_mut-word-requires
 index_mut-word-requires g c = let lt = there c.args.self.now c.args.t c.from.result (owned-timer c.args.self.now c.args.t c.requires.owns) c.from.ensures in omega (arith, lt, c.args.self.now.timers.ok.0)
@@ -48,12 +22,12 @@ add-requires-2-clause-room g c = c.requires.room
 
 pub invariant_of-self : goal.invariant_of-self
 invariant_of-self g c = record {
-  holds = kept c.args.self.now c.add.new.self c.from.result c.index_mut-word.result.now c.index_mut-word.ensures.value (timer.armed-holds c.args.self.now c.add.new.self c.armed.result c.add.ensures.gains c.add.ensures.spare c.args.t c.ops-n.result c.counter-c.result c.index_mut-word.result.now (owned-timer c.args.self.now c.args.t c.requires.owns) (its c.args.self.now c.args.t c.from.result c.index_mut-word.result.now (owned-timer c.args.self.now c.args.t c.requires.owns) c.from.ensures c.index_mut-word.ensures.value) c.ops-n.ensures c.counter-c.ensures c.armed.ensures c.if-c-gt0.true);
+  holds = kept c.args.self.now c.add.new.self c.from.result c.index_mut-word.result.now c.index_mut-word.ensures.value (timer.armed-holds c.args.self.now c.add.new.self c.armed.result c.add.ensures.gains c.add.ensures.spare c.args.t c.ops-n.result c.counter-c.result c.index_mut-word.result.now (owned-timer c.args.self.now c.args.t c.requires.owns) (timer-at c.args.self.now c.args.t c.from.result c.index_mut-word.result.now (owned-timer c.args.self.now c.args.t c.requires.owns) c.from.ensures c.index_mut-word.ensures.value) c.ops-n.ensures c.counter-c.ensures c.armed.ensures c.if-c-gt0.true);
   stops = stop-stays c.args.self.now.stop c.args.self.now.book c.add.new.self c.add.ensures.gains.stays c.args.self.now.stops;
 }
 
 pub returns-then-c-gt0-clause-arms : goal.returns-then-c-gt0-clause-arms
-returns-then-c-gt0-clause-arms g c = timer.arm-not c.args.self.now c.add.new.self c.armed.result c.add.ensures.gains c.add.ensures.spare c.args.t c.ops-n.result c.counter-c.result c.index_mut-word.result.now (owned-timer c.args.self.now c.args.t c.requires.owns) (its c.args.self.now c.args.t c.from.result c.index_mut-word.result.now (owned-timer c.args.self.now c.args.t c.requires.owns) c.from.ensures c.index_mut-word.ensures.value) c.ops-n.ensures c.counter-c.ensures c.args.ticks c.args.interval c.armed.ensures c.if-c-gt0.true
+returns-then-c-gt0-clause-arms g c = timer.arm-not c.args.self.now c.add.new.self c.armed.result c.add.ensures.gains c.add.ensures.spare c.args.t c.ops-n.result c.counter-c.result c.index_mut-word.result.now (owned-timer c.args.self.now c.args.t c.requires.owns) (timer-at c.args.self.now c.args.t c.from.result c.index_mut-word.result.now (owned-timer c.args.self.now c.args.t c.requires.owns) c.from.ensures c.index_mut-word.ensures.value) c.ops-n.ensures c.counter-c.ensures c.args.ticks c.args.interval c.armed.ensures c.if-c-gt0.true
 
 pub returns-then-c-gt0-clause-tries : goal.returns-then-c-gt0-clause-tries
 returns-then-c-gt0-clause-tries g c =
@@ -61,16 +35,16 @@ returns-then-c-gt0-clause-tries g c =
     ((returns-then-c-gt0-clause-arms g c).0.grows.rise (word.Timer c.args.t))
 
 pub arm-requires : goal.arm-requires
-arm-requires g c = few c.args.self.now c.args.t c.index_mut-word.result.now (owned-timer c.args.self.now c.args.t c.requires.owns) (its c.args.self.now c.args.t c.from.result c.index_mut-word.result.now (owned-timer c.args.self.now c.args.t c.requires.owns) c.from.ensures c.index_mut-word.ensures.value)
+arm-requires g c = few c.args.self.now c.args.t c.index_mut-word.result.now (owned-timer c.args.self.now c.args.t c.requires.owns) (timer-at c.args.self.now c.args.t c.from.result c.index_mut-word.result.now (owned-timer c.args.self.now c.args.t c.requires.owns) c.from.ensures c.index_mut-word.ensures.value)
 
 pub invariant_of-self-2 : goal.invariant_of-self-2
 invariant_of-self-2 g c = record {
-  holds = put c.args.self.now c.add-2.new.self c.args.t c.from.result c.arm.new.self c.from.ensures (timer.arm-holds c.args.self.now c.add-2.new.self c.arm-2.result c.add-2.ensures.gains c.add-2.ensures.spare c.args.t c.ops-n.result c.counter-c.result c.index_mut-word.result.now (owned-timer c.args.self.now c.args.t c.requires.owns) (its c.args.self.now c.args.t c.from.result c.index_mut-word.result.now (owned-timer c.args.self.now c.args.t c.requires.owns) c.from.ensures c.index_mut-word.ensures.value) c.ops-n.ensures c.counter-c.ensures c.args.ticks c.args.interval c.arm.new.self c.arm-2.ensures (omega (arith, c.if-c-gt0.false)) c.arm.ensures);
+  holds = put c.args.self.now c.add-2.new.self c.args.t c.from.result c.arm.new.self c.from.ensures (timer.arm-holds c.args.self.now c.add-2.new.self c.arm-2.result c.add-2.ensures.gains c.add-2.ensures.spare c.args.t c.ops-n.result c.counter-c.result c.index_mut-word.result.now (owned-timer c.args.self.now c.args.t c.requires.owns) (timer-at c.args.self.now c.args.t c.from.result c.index_mut-word.result.now (owned-timer c.args.self.now c.args.t c.requires.owns) c.from.ensures c.index_mut-word.ensures.value) c.ops-n.ensures c.counter-c.ensures c.args.ticks c.args.interval c.arm.new.self c.arm-2.ensures (omega (arith, c.if-c-gt0.false)) c.arm.ensures);
   stops = stop-stays c.args.self.now.stop c.args.self.now.book c.add-2.new.self c.add-2.ensures.gains.stays c.args.self.now.stops;
 }
 
 pub returns-clause-arms : goal.returns-clause-arms
-returns-clause-arms g c = timer.arm-it c.args.self.now c.add-2.new.self c.arm-2.result c.add-2.ensures.gains c.add-2.ensures.spare c.args.t c.ops-n.result c.counter-c.result c.index_mut-word.result.now (owned-timer c.args.self.now c.args.t c.requires.owns) (its c.args.self.now c.args.t c.from.result c.index_mut-word.result.now (owned-timer c.args.self.now c.args.t c.requires.owns) c.from.ensures c.index_mut-word.ensures.value) c.ops-n.ensures c.counter-c.ensures c.args.ticks c.args.interval c.arm-2.ensures (omega (arith, c.if-c-gt0.false))
+returns-clause-arms g c = timer.arm-it c.args.self.now c.add-2.new.self c.arm-2.result c.add-2.ensures.gains c.add-2.ensures.spare c.args.t c.ops-n.result c.counter-c.result c.index_mut-word.result.now (owned-timer c.args.self.now c.args.t c.requires.owns) (timer-at c.args.self.now c.args.t c.from.result c.index_mut-word.result.now (owned-timer c.args.self.now c.args.t c.requires.owns) c.from.ensures c.index_mut-word.ensures.value) c.ops-n.ensures c.counter-c.ensures c.args.ticks c.args.interval c.arm-2.ensures (omega (arith, c.if-c-gt0.false))
 
 pub returns-clause-tries : goal.returns-clause-tries
 returns-clause-tries g c =

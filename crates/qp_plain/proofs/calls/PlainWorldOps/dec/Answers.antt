@@ -1,40 +1,24 @@
-use Rattle.std.proofs.Common.{◌≡◌, ℕ, ◌<◌, true, slice_set, sym, ◌∙◌, ap, subst, arith, IsTrue}
+use Rattle.std.proofs.Common.{◌≡◌, ℕ, ◌<◌, true, sym, ◌∙◌, ap, subst, arith, IsTrue}
 use Rattle.qp_plain_words.specs.declared.block.BlockWord.{BlockWord}
 use Rattle.qp_sound.specs.View.{view_of}
 use Rattle.qp_model.specs.WordLaw.{is_block}
-use Rattle.qp_plain.specs.declared.book.Book.{Book}
 use Rattle.qp_plain.specs.declared.world.PlainWorld.{PlainWorld}
 use Rattle.qp_plain.specs.Book.{lists_of}
 use Rattle.qp_plain.specs.Tables.{place}
-use Rattle.qp_plain.specs.World.{WorldHolds}
 use Rattle.qp_plain.specs.WorldView.{world_view}
 use Rattle.qp_plain.proofs.Calling.{view_with, stop-stays, block-at, BlockIs}
-use Rattle.qp_plain.proofs.Few.{refs-few}
 use Rattle.qp_plain.proofs.Holding.{block-in}
 use Rattle.qp_plain.proofs.Mays.{held-block, held-stands}
 use Rattle.qp_model.specs.declared.bodies.Body.TheVariants.{Dec}
 use Rattle.qp_calls.specs.Clauses.{LetsGo}
 use Rattle.qp_calls.specs.declared.answers.Dec.TheVariants as dec
 use Rattle.qp_calls.specs.declared.tokens.Fresh.{Fresh}
-use Rattle.qp_plain.proofs.Few.{names-counted}
 use Rattle.qp_calls.specs.Tokens.{Held, stands}
 use Rattle.qp_sound.specs.Sound.{hands_in}
 use Rattle.qp_plain.proofs.BlockCalls.{refs-some}
 use Rattle.qp_plain.proofs.BlockCalls as block
+use Rattle.qp_plain.proofs.BlockTable.{put, small}
 use Rattle.qp_plain.proofs.calls.PlainWorldOps.dec.Goals as goal
-
-put : (w : PlainWorld) (b : Book) (p k at : ℕ) (x : BlockWord) → at ≡ place p k → WorldHolds w.sys.now (lists_of b) b.order.items w.pools.items (slice_set w.blocks.items (place p k) x) w.cells.items w.queues.items w.signals.items w.timers.items
-    → WorldHolds w.sys.now (lists_of b) b.order.items w.pools.items (slice_set w.blocks.items at x) w.cells.items w.queues.items w.signals.items w.timers.items
-put w b p k at x e h = subst (λ z. WorldHolds w.sys.now (lists_of b) b.order.items w.pools.items (slice_set w.blocks.items z x) w.cells.items w.queues.items w.signals.items w.timers.items) (sym e) h
-
-small : (w : PlainWorld) (p k : ℕ) (q : BlockWord) → IsTrue (is_block w.sys.now p k) → BlockIs w p k q → q.ops < 4294967295
-small w p k q h is = let le = refs-few w.sys.now w.book w.holds.world.sound.words p k h in omega (arith, le, is.ops)
-
-small-refs : (w : PlainWorld) (p k : ℕ) (q : BlockWord) → IsTrue (is_block w.sys.now p k) → BlockIs w p k q → q.refs < 4294967295
-small-refs w p k q h is =
-    let le = refs-few w.sys.now w.book w.holds.world.sound.words p k h in
-    let names = names-counted (lists_of w.book) p k in
-    omega (arith, le, is.refs, names)
 
 pub place-requires-clause-pools : goal.place-requires-clause-pools
 place-requires-clause-pools c = let there = block-in c.args.self.now.sys.now c.args.self.now.holds.limits c.args.h.pool c.args.h.block (held-block c.args.self.now c.args.h c.requires.stands) in omega (arith, there.pools, c.pool.ensures)

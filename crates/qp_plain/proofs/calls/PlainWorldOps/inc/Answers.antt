@@ -1,36 +1,15 @@
-use Rattle.std.proofs.Common.{◌≡◌, ℕ, ◌<◌, slice_set, sym, ◌∙◌, ap, subst, arith, IsTrue}
-use Rattle.qp_plain_words.specs.declared.block.BlockWord.{BlockWord}
+use Rattle.std.proofs.Common.{sym, ◌∙◌, ap, subst, arith}
 use Rattle.qp_sound.specs.View.{view_of}
-use Rattle.qp_model.specs.WordLaw.{is_block}
-use Rattle.qp_plain.specs.declared.book.Book.{Book}
-use Rattle.qp_plain.specs.declared.world.PlainWorld.{PlainWorld}
-use Rattle.qp_plain.specs.Book.{lists_of}
 use Rattle.qp_plain.specs.Tables.{place}
-use Rattle.qp_plain.specs.World.{WorldHolds}
 use Rattle.qp_plain.specs.WorldView.{world_view}
-use Rattle.qp_plain.proofs.Calling.{view_with, stop-stays, block-at, BlockIs}
-use Rattle.qp_plain.proofs.Few.{refs-few}
+use Rattle.qp_plain.proofs.Calling.{view_with, stop-stays, block-at}
 use Rattle.qp_plain.proofs.Holding.{block-in}
 use Rattle.qp_plain.proofs.Mays.{held-block, held-stands}
 use Rattle.qp_model.specs.declared.bodies.Body.TheVariants.{Inc}
 use Rattle.qp_calls.specs.Clauses.{MakesMore}
-use Rattle.qp_calls.specs.declared.tokens.Hold.{Hold}
-use Rattle.qp_plain.proofs.Few.{names-counted}
 use Rattle.qp_plain.proofs.BlockCalls as block
+use Rattle.qp_plain.proofs.BlockTable.{put, small, small-refs, same}
 use Rattle.qp_plain.proofs.calls.PlainWorldOps.inc.Goals as goal
-
-put : (w : PlainWorld) (b : Book) (p k at : ℕ) (x : BlockWord) → at ≡ place p k → WorldHolds w.sys.now (lists_of b) b.order.items w.pools.items (slice_set w.blocks.items (place p k) x) w.cells.items w.queues.items w.signals.items w.timers.items
-    → WorldHolds w.sys.now (lists_of b) b.order.items w.pools.items (slice_set w.blocks.items at x) w.cells.items w.queues.items w.signals.items w.timers.items
-put w b p k at x e h = subst (λ z. WorldHolds w.sys.now (lists_of b) b.order.items w.pools.items (slice_set w.blocks.items z x) w.cells.items w.queues.items w.signals.items w.timers.items) (sym e) h
-
-small : (w : PlainWorld) (p k : ℕ) (q : BlockWord) → IsTrue (is_block w.sys.now p k) → BlockIs w p k q → q.ops < 4294967295
-small w p k q h is = let le = refs-few w.sys.now w.book w.holds.world.sound.words p k h in omega (arith, le, is.ops)
-
-small-refs : (w : PlainWorld) (p k : ℕ) (q : BlockWord) → IsTrue (is_block w.sys.now p k) → BlockIs w p k q → q.refs < 4294967295
-small-refs w p k q h is =
-    let le = refs-few w.sys.now w.book w.holds.world.sound.words p k h in
-    let names = names-counted (lists_of w.book) p k in
-    omega (arith, le, is.refs, names)
 
 pub place-requires-clause-pools : goal.place-requires-clause-pools
 place-requires-clause-pools c = let there = block-in c.args.self.now.sys.now c.args.self.now.holds.limits c.args.h.now.pool c.args.h.now.block (held-block c.args.self.now c.args.h.now c.requires.stands) in omega (arith, there.pools, c.pool.ensures)
@@ -53,9 +32,6 @@ invariant_of-self c = record {
   holds = put c.args.self.now c.add.new.self c.args.h.now.pool c.args.h.now.block c.place.result c.make-name.new.self (c.place.ensures.value ∙ ap (λ x. place x c.block.result) c.pool.ensures ∙ ap (place c.args.h.now.pool) c.block.ensures) (block.inc-holds c.args.self.now c.add.new.self c.inc.result c.add.ensures.gains c.args.h.now.pool c.args.h.now.block c.from.result c.index_mut.result.now (held-block c.args.self.now c.args.h.now c.requires.stands) (block-at c.args.self.now c.args.h.now.pool c.args.h.now.block c.place.result c.index_mut.result.now (held-block c.args.self.now c.args.h.now c.requires.stands) (c.place.ensures.value ∙ ap (λ x. place x c.block.result) c.pool.ensures ∙ ap (place c.args.h.now.pool) c.block.ensures) c.index_mut.ensures.value) (c.from.ensures ∙ c.make-name.ensures.name) c.args.h.now.name c.make-name.new.self (held-stands c.args.self.now c.args.h.now c.requires.stands) (c.inc.ensures ∙ ap (λ x. record { of = c.args.self.now.by; body = Inc x c.block-2.result c.from.result }) c.pool-2.ensures ∙ ap (λ x. record { of = c.args.self.now.by; body = Inc c.args.h.now.pool x c.from.result }) c.block-2.ensures) c.make-name.ensures.new);
   stops = stop-stays c.args.self.now.stop c.args.self.now.book c.add.new.self c.add.ensures.gains.stays c.args.self.now.stops;
 }
-
-same : (p q b c n m : ℕ) → p ≡ q → b ≡ c → n ≡ m → ◌≡◌ {A = Hold} (record { pool = p; block = b; name = n }) (record { pool = q; block = c; name = m })
-same p q b c n m e f g = ap (λ x. record { pool = x; block = b; name = n }) e ∙ ap (λ x. record { pool = q; block = x; name = n }) f ∙ ap (λ x. record { pool = q; block = c; name = x }) g
 
 pub returns : goal.returns
 returns c =

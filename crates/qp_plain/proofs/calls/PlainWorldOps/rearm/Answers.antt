@@ -1,39 +1,13 @@
-use Rattle.std.proofs.Common.{◌≡◌, ℕ, ◌-◌, ◌<◌, length, get_or, slice_set, sym, ap, subst, arith, IsTrue}
+use Rattle.std.proofs.Common.{arith}
 use Rattle.qp_model.specs.declared.words.Word.TheVariants as word
-use Rattle.qp_model.specs.TimeEvents.{Clock}
 use Rattle.qp_sound.specs.View.{view_of}
-use Rattle.qp_sound.specs.WordStates.{clock_in}
-use Rattle.qp_model.specs.WordLaw.{is_timer}
-use Rattle.qp_plain.specs.declared.book.Book.{Book}
-use Rattle.qp_plain.specs.declared.world.PlainWorld.{PlainWorld}
-use Rattle.qp_plain.specs.Book.{lists_of}
-use Rattle.qp_plain.specs.World.{WorldHolds}
 use Rattle.qp_plain.specs.WorldView.{world_view}
-use Rattle.qp_plain.proofs.Calling.{view_with, stop-stays, timer-at, lent-same}
-use Rattle.qp_plain.proofs.Few.{clock-few}
-use Rattle.qp_plain.proofs.Holding.{timer-in}
+use Rattle.qp_plain.proofs.Calling.{view_with, stop-stays, timer-at}
 use Rattle.qp_plain.proofs.Mays.{owned-timer}
 use Rattle.qp_plain.proofs.Turns.{tries-drawn}
 use Rattle.qp_plain.proofs.TimerCalls as timer
+use Rattle.qp_plain.proofs.TimerTable.{there, put, few}
 use Rattle.qp_plain.proofs.calls.PlainWorldOps.rearm.Goals as goal
-
--- the place of the timer, and what stands there
-its : (w : PlainWorld) (t k : ℕ) (q : Clock) → IsTrue (is_timer w.sys.now t) → k ≡ t → q ≡ get_or w.timers.items (k - 1) q → q ≡ clock_in (lists_of w.book) t
-its w t k q h at e = timer-at w t k q h at e
-
-there : (w : PlainWorld) (t k : ℕ) → IsTrue (is_timer w.sys.now t) → k ≡ t → k - 1 < length w.timers.items
-there w t k h at = let few = timer-in w.sys.now t h in omega (arith, few.0, few.1, at, w.holds.timers_hold.long)
-
-put : (w : PlainWorld) (b : Book) (t k : ℕ) (x : Clock) → k ≡ t → WorldHolds w.sys.now (lists_of b) b.order.items w.pools.items w.blocks.items w.cells.items w.queues.items w.signals.items (slice_set w.timers.items (t - 1) x)
-    → WorldHolds w.sys.now (lists_of b) b.order.items w.pools.items w.blocks.items w.cells.items w.queues.items w.signals.items (slice_set w.timers.items (k - 1) x)
-put w b t k x at h = subst (λ z. WorldHolds w.sys.now (lists_of b) b.order.items w.pools.items w.blocks.items w.cells.items w.queues.items w.signals.items (slice_set w.timers.items (z - 1) x)) (sym at) h
-
-kept : (w : PlainWorld) (b : Book) (k : ℕ) (q : Clock) → q ≡ get_or w.timers.items (k - 1) q → WorldHolds w.sys.now (lists_of b) b.order.items w.pools.items w.blocks.items w.cells.items w.queues.items w.signals.items w.timers.items
-    → WorldHolds w.sys.now (lists_of b) b.order.items w.pools.items w.blocks.items w.cells.items w.queues.items w.signals.items (slice_set w.timers.items (k - 1) q)
-kept w b k q e h = subst (WorldHolds w.sys.now (lists_of b) b.order.items w.pools.items w.blocks.items w.cells.items w.queues.items w.signals.items) (sym (lent-same w.timers.items (k - 1) q e)) h
-
-few : (w : PlainWorld) (t : ℕ) (q : Clock) → IsTrue (is_timer w.sys.now t) → q ≡ clock_in (lists_of w.book) t → q.count < 4294967295
-few w t q h is = let le = clock-few w.sys.now w.book w.holds.world.sound.words t h in let e = ap (λ x. x.count) is in omega (arith, le, e)
 
 pub index_mut-word-requires : goal.index_mut-word-requires
 index_mut-word-requires g c = let lt = there c.args.self.now c.args.t c.from.result (owned-timer c.args.self.now c.args.t c.requires.owns) c.from.ensures in omega (arith, lt, c.args.self.now.timers.ok.0)
@@ -43,16 +17,16 @@ unfolding view_of
 add-requires-clause-room g c = c.requires.room
 
 pub set-requires : goal.set-requires
-set-requires g c = few c.args.self.now c.args.t c.index_mut-word.result.now (owned-timer c.args.self.now c.args.t c.requires.owns) (its c.args.self.now c.args.t c.from.result c.index_mut-word.result.now (owned-timer c.args.self.now c.args.t c.requires.owns) c.from.ensures c.index_mut-word.ensures.value)
+set-requires g c = few c.args.self.now c.args.t c.index_mut-word.result.now (owned-timer c.args.self.now c.args.t c.requires.owns) (timer-at c.args.self.now c.args.t c.from.result c.index_mut-word.result.now (owned-timer c.args.self.now c.args.t c.requires.owns) c.from.ensures c.index_mut-word.ensures.value)
 
 pub invariant_of-self : goal.invariant_of-self
 invariant_of-self g c = record {
-  holds = put c.args.self.now c.add.new.self c.args.t c.from.result c.set.new.self c.from.ensures (timer.rearm-holds c.args.self.now c.add.new.self c.rearm.result c.add.ensures.gains c.add.ensures.spare c.args.t c.ops-n.result c.counter-former.result c.index_mut-word.result.now (owned-timer c.args.self.now c.args.t c.requires.owns) (its c.args.self.now c.args.t c.from.result c.index_mut-word.result.now (owned-timer c.args.self.now c.args.t c.requires.owns) c.from.ensures c.index_mut-word.ensures.value) c.ops-n.ensures c.counter-former.ensures c.args.ticks c.set.new.self c.rearm.ensures c.set.ensures);
+  holds = put c.args.self.now c.add.new.self c.args.t c.from.result c.set.new.self c.from.ensures (timer.rearm-holds c.args.self.now c.add.new.self c.rearm.result c.add.ensures.gains c.add.ensures.spare c.args.t c.ops-n.result c.counter-former.result c.index_mut-word.result.now (owned-timer c.args.self.now c.args.t c.requires.owns) (timer-at c.args.self.now c.args.t c.from.result c.index_mut-word.result.now (owned-timer c.args.self.now c.args.t c.requires.owns) c.from.ensures c.index_mut-word.ensures.value) c.ops-n.ensures c.counter-former.ensures c.args.ticks c.set.new.self c.rearm.ensures c.set.ensures);
   stops = stop-stays c.args.self.now.stop c.args.self.now.book c.add.new.self c.add.ensures.gains.stays c.args.self.now.stops;
 }
 
 pub returns-clause-rearms : goal.returns-clause-rearms
-returns-clause-rearms g c = timer.rearm-it c.args.self.now c.add.new.self c.rearm.result c.add.ensures.gains c.add.ensures.spare c.args.t c.ops-n.result c.counter-former.result c.index_mut-word.result.now (owned-timer c.args.self.now c.args.t c.requires.owns) (its c.args.self.now c.args.t c.from.result c.index_mut-word.result.now (owned-timer c.args.self.now c.args.t c.requires.owns) c.from.ensures c.index_mut-word.ensures.value) c.ops-n.ensures c.counter-former.ensures c.args.ticks c.rearm.ensures
+returns-clause-rearms g c = timer.rearm-it c.args.self.now c.add.new.self c.rearm.result c.add.ensures.gains c.add.ensures.spare c.args.t c.ops-n.result c.counter-former.result c.index_mut-word.result.now (owned-timer c.args.self.now c.args.t c.requires.owns) (timer-at c.args.self.now c.args.t c.from.result c.index_mut-word.result.now (owned-timer c.args.self.now c.args.t c.requires.owns) c.from.ensures c.index_mut-word.ensures.value) c.ops-n.ensures c.counter-former.ensures c.args.ticks c.rearm.ensures
 
 pub returns-clause-tries : goal.returns-clause-tries
 returns-clause-tries g c =
