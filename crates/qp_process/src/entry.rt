@@ -9,43 +9,73 @@ ghost use Rattle.qp_process.specs.Process.{EndsWith, IsAnswered, words_in};
 
 use crate::arguments::{texts_of, unread, words_of};
 use qp_base::{DirShelf, NoGate, Shelf, Sink, StdSink};
+use qp_output::{Carried, in_pieces};
 use qp_run::{Status, qp_main, tell};
 use std::alloc::Global;
 use std::env::Args;
+use std::io::IsTerminal;
 use std::process::ExitCode;
 use std::sync::Wait;
 use std::{env, io};
 
+/// How output goes on.
+#[derive(Clone, Copy, PartialEq, Eq, Debug)]
+pub enum Flow {
+    /// Each line at once, as to a terminal.
+    Lines,
+    /// In large pieces, as to a file or a pipe.
+    Pieces,
+}
+
+/// How a process ends, and the sink to which its output went.
+#[derive(Drop)]
+pub struct Ended<O: Drop> {
+    pub code: ExitCode,
+    pub out: O,
+}
+
 /// The program over the arguments, the files and the standard streams of the process. `waits` is its runtime once more, by which a
 /// run may wait.
 pub fn process<R: Wait>(rt: &HostRuntime, waits: &R) -> ExitCode {
-    program(
+    let flow = if rt.stdout().is_terminal() {
+        Flow::Lines
+    } else {
+        Flow::Pieces
+    };
+    let ended = program(
         waits,
         rt.alloc(),
         env::args(rt),
         &mut DirShelf::new(rt),
-        &mut StdSink::out(rt),
+        StdSink::out(rt),
         &mut StdSink::notes(rt),
-    )
+        flow,
+    );
+    ended.code
 }
 
 /// The program over these arguments, of which the first is its name. It ends with the number of its answer; where the arguments
 /// can't be had, that is why.
-pub fn program<R: Wait, F: Shelf, O: Sink, E: Sink>(
+pub fn program<R: Wait, F: Shelf, O: Sink + Drop, E: Sink>(
     rt: &R,
     alloc: Global,
     args: io::Result<Args>,
     files: &mut F,
-    out: &mut O,
+    out: O,
     notes: &mut E,
-) -> ExitCode
-    ensures { EndsWith (exit_status result) (IsAnswered args (F.holds files.old)
-        (record (writes_of F.faults F.misses O.faults files.old files.new out.old out.new) {
+    flow: Flow,
+) -> Ended<O>
+    ensures { EndsWith (exit_status result.code) (IsAnswered args (F.holds files.old)
+        (record (writes_of F.faults F.misses O.faults files.old files.new out result.out) {
           notes = count_of E.faults notes.old notes.new;
         })
-        (stream_of O.written out.old out.new) (stream_of E.written notes.old notes.new)) }
+        (stream_of O.written out result.out) (stream_of E.written notes.old notes.new)) }
 {
-    exit_code(&answer(rt, alloc, args, files, out, notes))
+    let Carried { status, out } = answer(rt, alloc, args, files, out, notes, flow);
+    Ended {
+        code: exit_code(&status),
+        out,
+    }
 }
 
 /// The exit status of an answer.
@@ -56,46 +86,60 @@ fn exit_code(status: &Status) -> ExitCode
 }
 
 /// The answer to these arguments.
-fn answer<R: Wait, F: Shelf, O: Sink, E: Sink>(
+fn answer<R: Wait, F: Shelf, O: Sink + Drop, E: Sink>(
     rt: &R,
     alloc: Global,
     args: io::Result<Args>,
     files: &mut F,
-    out: &mut O,
+    out: O,
     notes: &mut E,
-) -> Status
+    flow: Flow,
+) -> Carried<O>
     ensures { IsAnswered args (F.holds files.old)
-        (record (writes_of F.faults F.misses O.faults files.old files.new out.old out.new) {
+        (record (writes_of F.faults F.misses O.faults files.old files.new out result.out) {
           notes = count_of E.faults notes.old notes.new;
         })
-        (stream_of O.written out.old out.new) (stream_of E.written notes.old notes.new) result }
+        (stream_of O.written out result.out) (stream_of E.written notes.old notes.new) result.status }
 {
     match args {
-        Ok(args) => call(rt, alloc, args, files, out, notes),
-        Err(error) => tell(unread(&error), notes),
+        Ok(args) => call(rt, alloc, args, files, out, notes, flow),
+        Err(error) => {
+            let status = tell(unread(&error), notes);
+            Carried { status, out }
+        }
     }
 }
 
 /// Calls the program with the words among these arguments.
-fn call<R: Wait, F: Shelf, O: Sink, E: Sink>(
+fn call<R: Wait, F: Shelf, O: Sink + Drop, E: Sink>(
     rt: &R,
     alloc: Global,
     args: Args,
     files: &mut F,
-    out: &mut O,
+    mut out: O,
     notes: &mut E,
-) -> Status
+    flow: Flow,
+) -> Carried<O>
     ensures { IsCall (F.holds files.old) (command_in (words_in args))
-        (record (writes_of F.faults F.misses O.faults files.old files.new out.old out.new) {
+        (record (writes_of F.faults F.misses O.faults files.old files.new out result.out) {
           notes = count_of E.faults notes.old notes.new;
         })
-        (stream_of O.written out.old out.new) (stream_of E.written notes.old notes.new) result }
+        (stream_of O.written out result.out) (stream_of E.written notes.old notes.new) result.status }
 {
     let Ok(words) = words_of(alloc, args) else {
-        return tell(Status::Memory, notes);
+        let status = tell(Status::Memory, notes);
+        return Carried { status, out };
     };
     let Ok(texts) = texts_of(alloc, words.as_slice()) else {
-        return tell(Status::Memory, notes);
+        let status = tell(Status::Memory, notes);
+        return Carried { status, out };
     };
-    qp_main(rt, alloc, texts.as_slice(), files, out, notes, &NoGate)
+    let words = texts.as_slice();
+    match flow {
+        Flow::Pieces => in_pieces(rt, alloc, words, files, out, notes, &NoGate),
+        Flow::Lines => {
+            let status = qp_main(rt, alloc, words, files, &mut out, notes, &NoGate);
+            Carried { status, out }
+        }
+    }
 }

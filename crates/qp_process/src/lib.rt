@@ -4,4 +4,4 @@
 mod arguments;
 mod entry;
 
-pub use entry::{process, program};
+pub use entry::{Ended, Flow, process, program};

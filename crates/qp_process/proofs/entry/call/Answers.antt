@@ -14,8 +14,14 @@ returns-in_default-texts_of g c =
     let asked = command_in (words_in c.args.args) in
     memory-call _ asked _ _ _ _ c.tell-in_default-texts_of.ensures.answer (c.tell-in_default-texts_of.ensures.notes asked)
 
-pub returns : goal.returns
-returns g c =
-    let same : texts c.as_slice-2.result.now ≡ words_in c.args.args =
-    ap texts c.as_slice-2.ensures.value ∙ c.in-Ok-texts_of.ensures ∙ ap (map string_bytes) (c.as_slice.ensures.value ∙ c.in-Ok.ensures) in
-    rw same at c.qp_main.ensures.call
+pub returns-in-Pieces : goal.returns-in-Pieces
+returns-in-Pieces g c =
+    let same : texts c.as_slice-words.result.now ≡ words_in c.args.args =
+    ap texts c.as_slice-words.ensures.value ∙ c.in-Ok-texts_of.ensures ∙ ap (map string_bytes) (c.as_slice.ensures.value ∙ c.in-Ok.ensures) in
+    rw same at c.in_pieces.ensures.call
+
+pub returns-in-Lines : goal.returns-in-Lines
+returns-in-Lines g c =
+    let same : texts c.as_slice-words.result.now ≡ words_in c.args.args =
+    ap texts c.as_slice-words.ensures.value ∙ c.in-Ok-texts_of.ensures ∙ ap (map string_bytes) (c.as_slice.ensures.value ∙ c.in-Ok.ensures) in
+    rw same at c.qp_main-status.ensures.call
