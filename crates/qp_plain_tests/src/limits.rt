@@ -234,8 +234,10 @@ fn an_event_is_published_to_all(rt: HostRuntime) -> Result<(), Fail> {
     let subscribe = [Deed::Subscribe(N)];
     let publish = [n_publish(&[7], None)];
     let mut acts = Vec::new(alloc);
-    for (n, sub) in subs.iter().enumerate() {
-        acts.push(owner(n as u8 + 1, &subscribe, sub.as_str()))?;
+    let mut me = 0u8;
+    for sub in &subs {
+        me = me.saturating_add(1);
+        acts.push(owner(me, &subscribe, sub.as_str()))?;
     }
     acts.push(source(&publish, posts.as_str()))?;
     see(&rt, alloc, system.as_str(), 0, acts.as_slice())
