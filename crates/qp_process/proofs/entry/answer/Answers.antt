@@ -4,5 +4,5 @@ use Rattle.qp_run.specs.Notes.{names_file}
 use Rattle.qp_process.proofs.ProcessLemmas.{unread-plain}
 use Rattle.qp_process.proofs.entry.answer.Goals as goal
 
-pub tell-requires : goal.tell-requires
-tell-requires g c = ap names_file c.unread.ensures ∙ unread-plain (error_kind c.in-Err.error)
+pub tell-status-requires : goal.tell-status-requires
+tell-status-requires g c = ap names_file c.unread.ensures ∙ unread-plain (error_kind c.in-Err.error)

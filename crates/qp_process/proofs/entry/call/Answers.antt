@@ -7,12 +7,12 @@ use Rattle.qp_process.proofs.entry.call.Goals as goal
 pub returns-in_default : goal.returns-in_default
 returns-in_default g c =
     let asked = command_in (words_in c.args.args) in
-    memory-call _ asked _ _ _ _ c.tell.ensures.answer (c.tell.ensures.notes asked)
+    memory-call _ asked _ _ _ _ c.tell-status.ensures.answer (c.tell-status.ensures.notes asked)
 
 pub returns-in_default-texts_of : goal.returns-in_default-texts_of
 returns-in_default-texts_of g c =
     let asked = command_in (words_in c.args.args) in
-    memory-call _ asked _ _ _ _ c.tell-in_default-texts_of.ensures.answer (c.tell-in_default-texts_of.ensures.notes asked)
+    memory-call _ asked _ _ _ _ c.tell-status-in_default-texts_of.ensures.answer (c.tell-status-in_default-texts_of.ensures.notes asked)
 
 pub returns-in-Pieces : goal.returns-in-Pieces
 returns-in-Pieces g c =
@@ -20,8 +20,8 @@ returns-in-Pieces g c =
     ap texts c.as_slice-words.ensures.value ∙ c.in-Ok-texts_of.ensures ∙ ap (map string_bytes) (c.as_slice.ensures.value ∙ c.in-Ok.ensures) in
     rw same at c.in_pieces.ensures.call
 
-pub returns-in-Lines : goal.returns-in-Lines
-returns-in-Lines g c =
+pub returns : goal.returns
+returns g c =
     let same : texts c.as_slice-words.result.now ≡ words_in c.args.args =
     ap texts c.as_slice-words.ensures.value ∙ c.in-Ok-texts_of.ensures ∙ ap (map string_bytes) (c.as_slice.ensures.value ∙ c.in-Ok.ensures) in
     rw same at c.qp_main-status.ensures.call
