@@ -21,7 +21,7 @@ use Rattle.qp_model.specs.Shapes.{Fits}
 use Rattle.qp_model.specs.Deferral.{KeepsDeferred}
 use Rattle.qp_model.specs.Pieces.{Piece, Tell, Point, bare, tell, pieces_of, ends_at_point, begins_at_point}
 use Rattle.qp_model.specs.Acts.{Config, Actor, Moment, Later, names_of, DoesCall, DoesDeed, DoesTask, Does}
-use Rattle.qp_model.specs.Step.{at_leaf, Closes, moment, StepRest, Step}
+use Rattle.qp_model.specs.Step.{at_leaf, Closes, moment, StepBehind, Step}
 use Rattle.qp_model.specs.Course.{at_start, Starts, Steps, Course, first_config, actor, FollowsAs, Follows, FollowsThroughAs, FollowsThrough, FollowsTo, Cut, Whole, Stopped, Anywhere}
 use Rattle.qp_alike.proofs.BareChart.{bare_bound, bare_plain, bare_chart, bare_task, bare_plan}
 use Rattle.qp_alike.proofs.ChartLemmas.{value-bare, step-bare, start-bare}
@@ -101,8 +101,8 @@ module _ (a b : System) (fits : Fits a ≡ Fits b) where
         ∙ (λ i. (all : List Piece) × (mid : Option Config)
         × Does b (bare_actor x) at_start (sym (start-bare x.chart) i).tasks first all mid × (ps ≡ tell (bare all)) × (end ≡ at_leaf (sym (start-bare x.chart) i).leaf mid))
 
-    rest-same : (ev : Event) (e : Entry) (c : Config) (ps : List Piece) (end : Option Config) → StepRest a x ev e c ps end ≡ StepRest b (bare_actor x) ev e c ps end
-    unfolding StepRest
+    rest-same : (ev : Event) (e : Entry) (c : Config) (ps : List Piece) (end : Option Config) → StepBehind a x ev e c ps end ≡ StepBehind b (bare_actor x) ev e c ps end
+    unfolding StepBehind
     rest-same ev e c ps end =
         let plan : Plan = step_plan x.chart c.leaf (names_of x c ev) ev.sig in
         let bared : bare_plan plan ≡ step_plan (bare_chart x.chart) c.leaf (names_of x c ev) ev.sig = sym (step-bare x.chart (names_of x c ev) c.leaf ev.sig) in

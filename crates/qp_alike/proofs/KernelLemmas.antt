@@ -16,7 +16,7 @@ use Rattle.qp_model.specs.Ends.{is_turn_mark}
 use Rattle.qp_model.specs.Knowing.{Facts, free_before, known_of, told, ceiling_after, records_of}
 use Rattle.qp_model.specs.Pieces.{Tell, Point}
 use Rattle.qp_model.specs.Points.{is_look, begins_row, pieces_at, pieces_in, lane_pieces}
-use Rattle.qp_model.specs.KernelLane.{Role, Looks, Drops, Spills, role_of, Setting, Place, Inside, Looking, Found, Ended, Resting, Again, Over, Halted, Reading, looking_at, look_next, own_next, inside_next, ended_next, place_next, started_next, role_next, lane_next, unread, lane_on, lane_read}
+use Rattle.qp_model.specs.KernelLane.{Role, Looks, Drops, Spills, role_of, Setting, Upcoming, Inside, Looking, Chosen, Ended, Resting, Again, Over, Halted, Reading, looking_at, look_next, own_next, inside_next, ended_next, place_next, started_next, role_next, lane_next, unread, lane_on, lane_read}
 use Rattle.qp_alike.proofs.Alike.{Alike, blocks-same, floors-same, aboves-same, priorities-same}
 
 module _ (a b : System) (h : Alike a b) where
@@ -72,11 +72,11 @@ module _ (a b : System) (h : Alike a b) where
     ended-same k p o Drops = refl
     ended-same k p o role = look-same k o role
 
-    place-same : (k : Reading) (o : ℕ) (role : Role) (place : Place) → place_next here k o role place ≡ place_next there k o role place
+    place-same : (k : Reading) (o : ℕ) (role : Role) (place : Upcoming) → place_next here k o role place ≡ place_next there k o role place
     unfolding place_next
     place-same k o role Inside = inside-same k k.running o role
     place-same k o role (Looking p others) = refl
-    place-same k o role (Found p) = refl
+    place-same k o role (Chosen p) = refl
     place-same k o role (Ended p) = ended-same k p o role
     place-same k o role Resting = refl
     place-same k o role Again = look-same k o role

@@ -78,7 +78,8 @@ impl<S: Sink + Drop, B: Beginning> Gathered<S, B> {
     /// The sink below, which got the first part of what was put.
     pub fn inner(&self) -> &S
         ensures inner { result.now ≡ self.now.inner }
-        ensures begun { IsBegun (S.written result.now) (told self.now.course (B.first_length + self.now.gone) self.now.held.items (S.written self.now.inner)) }
+        ensures begun { IsBegun (S.written result.now) (told self.now.course (B.first_length + self.now.gone) self.now.held.items
+            (S.written self.now.inner)) }
     {
         &self.inner
     }
@@ -98,10 +99,12 @@ impl<S: Sink + Drop, B: Beginning> Gathered<S, B> {
 
     /// Hands on all that is gathered. It succeeds exactly where all that was put has gone on, and nothing is gathered then.
     pub fn flush(&mut self) -> Result<(), SinkFault>
-        ensures told { told self.new.course (B.first_length + self.new.gone) self.new.held.items (S.written self.new.inner) ≡ told self.old.course (B.first_length + self.old.gone) self.old.held.items (S.written self.old.inner) }
+        ensures told { told self.new.course (B.first_length + self.new.gone) self.new.held.items (S.written self.new.inner) ≡ told
+            self.old.course (B.first_length + self.old.gone) self.old.held.items (S.written self.old.inner) }
         ensures going { OnOk result (self.new.course ≡ Open) }
         ensures held { OnOk result (self.new.held.items ≡ []) }
-        ensures ok { OnOk result (S.written self.new.inner ≡ told self.old.course (B.first_length + self.old.gone) self.old.held.items (S.written self.old.inner)) }
+        ensures ok { OnOk result (S.written self.new.inner ≡ told self.old.course (B.first_length + self.old.gone) self.old.held.items
+            (S.written self.old.inner)) }
         ensures closed { self.old.course ≢ Open → is_err result ≡ true }
         ensures err { OnErr result (self.new.course ≢ Open) }
         ensures cause { OnErr result (self.old.course ≡ Open → Rose (S.faults self.old.inner) (S.faults self.new.inner)) }
@@ -132,7 +135,8 @@ impl<S: Sink + Drop, B: Beginning> Gathered<S, B> {
     fn gather(&mut self, bytes: &[u8])
         requires going { self.old.course ≡ Open }
         requires room { length self.old.held.items + length bytes.now ≤ 65536 }
-        ensures told { told self.new.course (B.first_length + self.new.gone) self.new.held.items (S.written self.new.inner) ≡ appended (told self.old.course (B.first_length + self.old.gone) self.old.held.items (S.written self.old.inner)) bytes.now }
+        ensures told { told self.new.course (B.first_length + self.new.gone) self.new.held.items (S.written self.new.inner) ≡ appended
+            (told self.old.course (B.first_length + self.old.gone) self.old.held.items (S.written self.old.inner)) bytes.now }
         ensures going { self.new.course ≡ Open }
         ensures inner { self.new.inner ≡ self.old.inner }
         ensures faults { self.new.faults ≡ self.old.faults }
@@ -143,7 +147,8 @@ impl<S: Sink + Drop, B: Beginning> Gathered<S, B> {
     /// Hands on what is gathered.
     fn hand_on(&mut self) -> Result<(), SinkFault>
         requires { self.old.course ≡ Open }
-        ensures told { told self.new.course (B.first_length + self.new.gone) self.new.held.items (S.written self.new.inner) ≡ told self.old.course (B.first_length + self.old.gone) self.old.held.items (S.written self.old.inner) }
+        ensures told { told self.new.course (B.first_length + self.new.gone) self.new.held.items (S.written self.new.inner) ≡ told
+            self.old.course (B.first_length + self.old.gone) self.old.held.items (S.written self.old.inner) }
         ensures going { OnOk result (self.new.course ≡ Open) }
         ensures held { OnOk result (self.new.held.items ≡ []) }
         ensures well { OnOk result (S.faults self.new.inner ≡ S.faults self.old.inner) }
@@ -172,8 +177,11 @@ impl<S: Sink + Drop, B: Beginning> Gathered<S, B> {
     fn hand_over(&mut self, bytes: &[u8]) -> Result<(), SinkFault>
         requires going { self.old.course ≡ Open }
         requires held { self.old.held.items ≡ [] }
-        ensures ok { OnOk result (told self.new.course (B.first_length + self.new.gone) self.new.held.items (S.written self.new.inner) ≡ appended (told self.old.course (B.first_length + self.old.gone) self.old.held.items (S.written self.old.inner)) bytes.now) }
-        ensures prefix { OnErr result (AppendsPrefix (told self.old.course (B.first_length + self.old.gone) self.old.held.items (S.written self.old.inner)) bytes.now (told self.new.course (B.first_length + self.new.gone) self.new.held.items (S.written self.new.inner))) }
+        ensures ok { OnOk result (told self.new.course (B.first_length + self.new.gone) self.new.held.items (S.written self.new.inner) ≡
+            appended (told self.old.course (B.first_length + self.old.gone) self.old.held.items (S.written self.old.inner)) bytes.now) }
+        ensures prefix { OnErr result (AppendsPrefix (told self.old.course (B.first_length + self.old.gone) self.old.held.items
+            (S.written self.old.inner)) bytes.now (told self.new.course (B.first_length + self.new.gone) self.new.held.items
+            (S.written self.new.inner))) }
         ensures going { OnOk result (self.new.course ≡ Open) }
         ensures err { OnErr result (self.new.course ≢ Open) }
         ensures cause { OnErr result (Rose (S.faults self.old.inner) (S.faults self.new.inner)) }
@@ -199,13 +207,17 @@ impl<S: Sink + Drop, B: Beginning> Sink for Gathered<S, B> {
     ghost faults = { λ s. s.faults };
 
     fn put(&mut self, bytes: &[u8]) -> Result<(), SinkFault>
-        ensures ok { OnOk result (told self.new.course (B.first_length + self.new.gone) self.new.held.items (S.written self.new.inner) ≡ appended (told self.old.course (B.first_length + self.old.gone) self.old.held.items (S.written self.old.inner)) bytes.now) }
-        ensures err { OnErr result (AppendsPrefix (told self.old.course (B.first_length + self.old.gone) self.old.held.items (S.written self.old.inner)) bytes.now (told self.new.course (B.first_length + self.new.gone) self.new.held.items (S.written self.new.inner))) }
+        ensures ok { OnOk result (told self.new.course (B.first_length + self.new.gone) self.new.held.items (S.written self.new.inner) ≡
+            appended (told self.old.course (B.first_length + self.old.gone) self.old.held.items (S.written self.old.inner)) bytes.now) }
+        ensures err { OnErr result (AppendsPrefix (told self.old.course (B.first_length + self.old.gone) self.old.held.items
+            (S.written self.old.inner)) bytes.now (told self.new.course (B.first_length + self.new.gone) self.new.held.items
+            (S.written self.new.inner))) }
 
         ensures going { OnOk result (self.new.course ≡ Open) }
         ensures closed { self.old.course ≢ Open → is_err result ≡ true }
         ensures closes { OnErr result (self.new.course ≢ Open) }
-        ensures fits { self.old.course ≡ Open → length self.old.held.items + length bytes.now ≤ 65536 → (is_err result ≡ false) × (self.new.inner ≡ self.old.inner) }
+        ensures fits { self.old.course ≡ Open → length self.old.held.items + length bytes.now ≤ 65536 → (is_err result ≡ false) ×
+            (self.new.inner ≡ self.old.inner) }
         ensures cause { OnErr result (self.old.course ≡ Open → Rose (S.faults self.old.inner) (S.faults self.new.inner)) }
 
         ensures faults { CountsIf (is_err result) self.old.faults self.new.faults }

@@ -150,7 +150,7 @@ module _ (sys : System) (words : List ℕ) (views : List View) (holds : Holds sy
     -- a step on the block's word, after which it holds s
     block-step : (n : ℕ) (r : Rec) (s : Refs) (u : View) → Leaves sys (at_lane.before ++ (own.own.recs ++ r ∷ []) ∷ at_lane.behind) (with_refs now p b s) → Tokens sys (set views id u) (with_refs now p b s)
         → Beside now u → u.fills ≡ v.fills → n ≡ refs_value s → s.count ≡ refs.count + 1 → length s.names ≤ length refs.names + 1
-        → u.logs ≡ logged r v.logs → u.rest ≡ v.rest → u.seen ≡ v.seen ++ record { word = block_at p b; value = n } ∷ [] → u.claims ≡ v.claims → u.takes ≡ v.takes → u.serves ≡ v.serves → Quiet v u → u.contents ≡ v.contents → (i : Item) → item_of r ≡ i → touch i ≡ Draws (word.Block p b) (suc refs.count)
+        → u.logs ≡ logged r v.logs → u.lane_numbers ≡ v.lane_numbers → u.seen ≡ v.seen ++ record { word = block_at p b; value = n } ∷ [] → u.claims ≡ v.claims → u.takes ≡ v.takes → u.serves ≡ v.serves → Quiet v u → u.contents ≡ v.contents → (i : Item) → item_of r ≡ i → touch i ≡ Draws (word.Block p b) (suc refs.count)
         → Holds sys (set words (block_at p b) n) (set views id u)
     block-step n r s u more tokens beside fills is count names logs rest seen claims takes serves quiet contents i says on =
         let e = x-is in let e0 = e.0 in let e1 = e.1 in let e2 = e.2 in let l = low in

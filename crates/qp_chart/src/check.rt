@@ -60,7 +60,8 @@ impl Chart {
 fn checked_frame(alloc: Global, scope: &Scope<'_>) -> Result<(Timers, Vec<Option<u8>>), ChartFault>
     requires timers { length scope.now.chart.now.timer ≤ 8 }
     requires states { length scope.now.chart.now.state ≤ 64 }
-    ensures ok { IfOk result (λ frame. (frame_fault scope.now.names.now scope.now.chart.now ≡ None) × Corresponds (IsTimerOf scope.now.names.now) scope.now.chart.now.timer frame.0 × (frame.1.items ≡ parents_of scope.now.chart.now)) }
+    ensures ok { IfOk result (λ frame. (frame_fault scope.now.names.now scope.now.chart.now ≡ None) × Corresponds
+        (IsTimerOf scope.now.names.now) scope.now.chart.now.timer frame.0 × (frame.1.items ≡ parents_of scope.now.chart.now)) }
     ensures fault { IfErr result (IsFault (frame_fault scope.now.names.now scope.now.chart.now)) }
 {
     let timers = checked_timers(alloc, scope, scope.chart.timer.as_slice())?;
@@ -72,7 +73,8 @@ fn checked_frame(alloc: Global, scope: &Scope<'_>) -> Result<(Timers, Vec<Option
 /// The time events in order.
 fn checked_timers(alloc: Global, scope: &Scope<'_>, raws: &[RawTimer]) -> Result<Timers, ChartFault>
     requires { length raws.now ≤ 8 }
-    ensures ok { IfOk result (λ timers. (first_in (timer_fault scope.now.names.now) 1 raws.now ≡ None) × Corresponds (IsTimerOf scope.now.names.now) raws.now timers) }
+    ensures ok { IfOk result (λ timers. (first_in (timer_fault scope.now.names.now) 1 raws.now ≡ None) × Corresponds
+        (IsTimerOf scope.now.names.now) raws.now timers) }
     ensures fault { IfErr result (IsFault (first_in (timer_fault scope.now.names.now) 1 raws.now)) }
 {
     let mut timers = Vec::new(alloc);
@@ -107,7 +109,8 @@ fn checked_parents(
     raws: &[RawState],
 ) -> Result<Vec<Option<u8>>, ChartFault>
     requires { length raws.now ≤ 64 }
-    ensures ok { IfOk result (λ parents. (first_in (parent_at scope.now.chart.now) 1 raws.now ≡ None) × (parents.items ≡ map (λ raw. parent_number scope.now.chart.now raw) raws.now)) }
+    ensures ok { IfOk result (λ parents. (first_in (parent_at scope.now.chart.now) 1 raws.now ≡ None) ×
+        (parents.items ≡ map (λ raw. parent_number scope.now.chart.now raw) raws.now)) }
     ensures fault { IfErr result (IsFault (first_in (parent_at scope.now.chart.now) 1 raws.now)) }
 {
     let mut parents = Vec::new(alloc);

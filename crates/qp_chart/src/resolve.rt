@@ -210,7 +210,8 @@ fn resolved_plains(
     plains: &[PlainAction],
 ) -> Result<Plains, ChartFault>
     requires { All (λ plain. IsAllowed scope.now.names.now scope.now.chart.now inside (order_of plain)) plains.now }
-    ensures ok { IfOk result (λ acts. Corresponds (IsPlainOf scope.now.names.now scope.now.chart.now (params_in inside)) (map order_of plains.now) acts) }
+    ensures ok { IfOk result (λ acts. Corresponds (IsPlainOf scope.now.names.now scope.now.chart.now (params_in inside))
+        (map order_of plains.now) acts) }
     ensures memory { IfErr result (IsFault None) }
 {
     let mut items = Vec::new(alloc);

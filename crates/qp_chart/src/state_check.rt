@@ -30,7 +30,8 @@ pub(crate) fn checked_states(
     requires parents { parents.now ≡ parents_of scope.now.chart.now }
     requires few { length raws.now ≤ 64 }
     requires readable { All IsReadableState raws.now }
-    ensures ok { IfOk result (λ states. (first_in (state_fault scope.now.names.now scope.now.chart.now) 1 raws.now ≡ None) × Corresponds (IsStateOf scope.now.names.now scope.now.chart.now) raws.now states) }
+    ensures ok { IfOk result (λ states. (first_in (state_fault scope.now.names.now scope.now.chart.now) 1 raws.now ≡ None) × Corresponds
+        (IsStateOf scope.now.names.now scope.now.chart.now) raws.now states) }
     ensures fault { IfErr result (IsFault (first_in (state_fault scope.now.names.now scope.now.chart.now) 1 raws.now)) }
 {
     let mut states = Vec::new(alloc);
@@ -51,7 +52,8 @@ fn checked_state(
 ) -> Result<State, ChartFault>
     requires parents { parents.now ≡ parents_of scope.now.chart.now }
     requires readable { IsReadableState raw.now }
-    ensures ok { IfOk result (λ state. (state_fault scope.now.names.now scope.now.chart.now place raw.now ≡ None) × IsStateOf scope.now.names.now scope.now.chart.now raw.now state) }
+    ensures ok { IfOk result (λ state. (state_fault scope.now.names.now scope.now.chart.now place raw.now ≡ None) × IsStateOf
+        scope.now.names.now scope.now.chart.now raw.now state) }
     ensures fault { IfErr result (IsFault (state_fault scope.now.names.now scope.now.chart.now place raw.now)) }
 {
     let at = [Part::Key(key::STATE), Part::Pos(place as u16)];
@@ -96,7 +98,8 @@ fn checked_init(
     init: &Option<Name>,
 ) -> Result<Option<u8>, ChartFault>
     requires { parents.now ≡ parents_of scope.now.chart.now }
-    ensures ok { IfOk result (λ to. (init_fault scope.now.chart.now place init.now ≡ None) × Refers (state_number scope.now.chart.now) init.now to) }
+    ensures ok { IfOk result (λ to. (init_fault scope.now.chart.now place init.now ≡ None) × Refers (state_number scope.now.chart.now)
+        init.now to) }
     ensures fault { IfErr result (IsFault (init_fault scope.now.chart.now place init.now)) }
 {
     let Some(name) = init else {
@@ -126,7 +129,8 @@ fn checked_rows(
 ) -> Result<Rows, ChartFault>
     requires few { length raws.now ≤ 32 }
     requires readable { All IsReadableRow raws.now }
-    ensures ok { IfOk result (λ rows. (rows_fault scope.now.names.now scope.now.chart.now place raws.now ≡ None) × Corresponds (IsRowOf scope.now.names.now scope.now.chart.now) raws.now rows) }
+    ensures ok { IfOk result (λ rows. (rows_fault scope.now.names.now scope.now.chart.now place raws.now ≡ None) × Corresponds
+        (IsRowOf scope.now.names.now scope.now.chart.now) raws.now rows) }
     ensures fault { IfErr result (IsFault (rows_fault scope.now.names.now scope.now.chart.now place raws.now)) }
 {
     let mut rows = Vec::new(alloc);
@@ -153,7 +157,8 @@ fn checked_row(
 ) -> Result<Row, ChartFault>
     requires place { length at.now ≤ 6 }
     requires readable { IsReadableRow raw.now }
-    ensures ok { IfOk result (λ row. (row_fault scope.now.names.now scope.now.chart.now at.now earlier.now raw.now ≡ None) × IsRowOf scope.now.names.now scope.now.chart.now raw.now row) }
+    ensures ok { IfOk result (λ row. (row_fault scope.now.names.now scope.now.chart.now at.now earlier.now raw.now ≡ None) × IsRowOf
+        scope.now.names.now scope.now.chart.now raw.now row) }
     ensures fault { IfErr result (IsFault (row_fault scope.now.names.now scope.now.chart.now at.now earlier.now raw.now)) }
 {
     let on = scope.signal(&raw.on, at, key::ON)?;

@@ -27,7 +27,8 @@ pub(crate) fn checked_acts(
 ) -> Result<Acts, ChartFault>
     requires place { length at.now ≤ 6 }
     requires few { length texts.now ≤ 16 }
-    ensures ok { IfOk result (λ acts. (texts_fault scope.now.names.now scope.now.chart.now inside at.now list texts.now ≡ None) × Corresponds (IsActOfText scope.now.names.now scope.now.chart.now inside) texts.now acts) }
+    ensures ok { IfOk result (λ acts. (texts_fault scope.now.names.now scope.now.chart.now inside at.now list texts.now ≡ None) ×
+        Corresponds (IsActOfText scope.now.names.now scope.now.chart.now inside) texts.now acts) }
     ensures fault { IfErr result (IsFault (texts_fault scope.now.names.now scope.now.chart.now inside at.now list texts.now)) }
 {
     let mut items = Vec::new(alloc);
@@ -49,7 +50,8 @@ fn checked_act(
     text: &str,
 ) -> Result<Act, ChartFault>
     requires { length at.now + length rest.now ≤ 8 }
-    ensures ok { IfOk result (λ act. (text_fault scope.now.names.now scope.now.chart.now inside (at.now ++ rest.now) text.now ≡ None) × IsActOfText scope.now.names.now scope.now.chart.now inside text.now act) }
+    ensures ok { IfOk result (λ act. (text_fault scope.now.names.now scope.now.chart.now inside (at.now ++ rest.now) text.now ≡ None) ×
+        IsActOfText scope.now.names.now scope.now.chart.now inside text.now act) }
     ensures fault { IfErr result (IsFault (text_fault scope.now.names.now scope.now.chart.now inside (at.now ++ rest.now) text.now)) }
 {
     let action = match read_action(alloc, text) {
@@ -78,7 +80,8 @@ pub(crate) fn checked_guard(
     when: &Option<Text>,
 ) -> Result<Option<Bound>, ChartFault>
     requires { length at.now ≤ 6 }
-    ensures ok { IfOk result (λ guard. (when_fault scope.now.chart.now params (at.now ++ Key WHEN ∷ []) when.now ≡ None) × IsGuardOf scope.now.chart.now params when.now guard) }
+    ensures ok { IfOk result (λ guard. (when_fault scope.now.chart.now params (at.now ++ Key WHEN ∷ []) when.now ≡ None) × IsGuardOf
+        scope.now.chart.now params when.now guard) }
     ensures fault { IfErr result (IsFault (when_fault scope.now.chart.now params (at.now ++ Key WHEN ∷ []) when.now)) }
 {
     match when {
@@ -96,7 +99,8 @@ fn checked_expr(
     text: &str,
 ) -> Result<Bound, ChartFault>
     requires { length at.now ≤ 6 }
-    ensures ok { IfOk result (λ b. (guard_fault scope.now.chart.now params (at.now ++ Key WHEN ∷ []) (term_of_text text.now) ≡ None) × IsBoundOfText scope.now.chart.now params text.now b) }
+    ensures ok { IfOk result (λ b. (guard_fault scope.now.chart.now params (at.now ++ Key WHEN ∷ []) (term_of_text text.now) ≡ None) ×
+        IsBoundOfText scope.now.chart.now params text.now b) }
     ensures fault { IfErr result (IsFault (guard_fault scope.now.chart.now params (at.now ++ Key WHEN ∷ []) (term_of_text text.now))) }
 {
     let rest = [Part::Key(key::WHEN)];

@@ -9,7 +9,7 @@ use Rattle.qp_model.specs.declared.record.Rec.{Rec}
 use Rattle.qp_model.specs.Record.{Item, item_of}
 use Rattle.qp_model.specs.History.{lane_items}
 use Rattle.qp_model.specs.Ends.{is_turn_mark}
-use Rattle.qp_model.specs.KernelLane.{Setting, Reading, Place, Inside, lane_next, lane_on}
+use Rattle.qp_model.specs.KernelLane.{Setting, Reading, Upcoming, Inside, lane_next, lane_on}
 use Rattle.qp_model.specs.Knowing.{Facts, told}
 use Rattle.qp_model.specs.Pieces.{Piece, Tell, Point}
 use Rattle.qp_model.specs.Points.{begins_row, is_look, pieces_at, pieces_in}
@@ -25,7 +25,7 @@ eq_sym m n = go (m == n) refl
     go true e = let f : (n == m) ≡ true = grind (arith, nat_tests) in sym f
     go false e = let f : (n == m) ≡ false = grind (arith, nat_tests) in sym f
 
-point-own : (of : ℕ) (place : Place) (running : List ℕ) → is_it of (stepping of place running) ≡ false
+point-own : (of : ℕ) (place : Upcoming) (running : List ℕ) → is_it of (stepping of place running) ≡ false
 point-own of Inside (p ∷ outer) = go (p == of) refl
   where
     go : (b : Bool) → (p == of) ≡ b → is_it of (cond b None (Some p)) ≡ false
@@ -33,7 +33,7 @@ point-own of Inside (p ∷ outer) = go (p == of) refl
     go false e = e
 point-own of _ _ = refl
 
-point-other : (o of : ℕ) (place : Place) (running : List ℕ) → (of == o) ≡ false → begins_row o place running true ≡ is_it o (stepping of place running)
+point-other : (o of : ℕ) (place : Upcoming) (running : List ℕ) → (of == o) ≡ false → begins_row o place running true ≡ is_it o (stepping of place running)
 point-other o of Inside (p ∷ outer) other = go (p == of) refl (p == o) refl
   where
     go : (a : Bool) → (p == of) ≡ a → (b : Bool) → (p == o) ≡ b → (p == o) ≡ is_it o (cond a None (Some p))
@@ -42,7 +42,7 @@ point-other o of Inside (p ∷ outer) other = go (p == of) refl (p == o) refl
     go false e b f = refl
 point-other o of _ _ other = refl
 
-row-none : (o : ℕ) (place : Place) (running : List ℕ) → begins_row o place running false ≡ false
+row-none : (o : ℕ) (place : Upcoming) (running : List ℕ) → begins_row o place running false ≡ false
 row-none o Inside (p ∷ outer) = refl
 row-none o _ _ = refl
 

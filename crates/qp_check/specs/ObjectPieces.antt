@@ -12,7 +12,7 @@ use Rattle.qp_model.specs.Lawful.{facts_of, setting_of}
 use Rattle.qp_model.specs.Points.{lane_pieces}
 use Rattle.qp_model.specs.Record.{Item}
 use Rattle.qp_model.specs.Ends.{is_turn_mark}
-use Rattle.qp_model.specs.KernelLane.{Reading, Place, Inside}
+use Rattle.qp_model.specs.KernelLane.{Reading, Upcoming, Inside}
 use Rattle.qp_model.specs.Knowing.{Facts, told}
 use Rattle.qp_model.specs.Pieces.{Piece, Tell}
 use Rattle.qp_model.specs.Points.{is_look}
@@ -28,7 +28,7 @@ unfolding told
 own_piece w ceiling i = if is_turn_mark i.body then None else Some (Tell (told w i.of ceiling i.body))
 
 -- the innermost step under way, unless the record is of its object
-abbrev pub stepping : ℕ → Place → List ℕ → Option ℕ
+abbrev pub stepping : ℕ → Upcoming → List ℕ → Option ℕ
 stepping of Inside (p ∷ outer) = if p == of then None else Some p
 stepping of _ _ = None
 

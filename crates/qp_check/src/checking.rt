@@ -27,7 +27,8 @@ fn later_broken(
     requires same { records.now ≡ j.now.lanes }
     requires words { Words sys.now j.now.lanes }
     requires few { length stim.now ≤ 16 }
-    ensures { IfOk result (λ o. Finds (object_trials sys.now j.now ++ (kernel_trials sys.now j.now ++ (lane_trials sys.now stim.now j.now ++ end_trials sys.now j.now))) o) }
+    ensures { IfOk result (λ o. Finds (object_trials sys.now j.now ++ (kernel_trials sys.now j.now ++
+        (lane_trials sys.now stim.now j.now ++ end_trials sys.now j.now))) o) }
 {
     let knowledge = Knowledge::of(alloc, sys, j, records)?;
     let objects = objects_broken(alloc, &knowledge, sys, j)?;

@@ -17,7 +17,7 @@ use crate::pieces_rows::ObjectPieces;
 use qp_fits::{Piece, Told};
 use qp_known::knowledge::Knowledge;
 use qp_known::told_lists::is_turn_mark;
-use qp_lane_zero::lane_state::{Place, Reading, Rules};
+use qp_lane_zero::lane_state::{Reading, Rules, Upcoming};
 use qp_lanes::lane_parts::lane_at;
 use qp_model::{Body, Rec};
 use std::alloc::{AllocError, Global};
@@ -53,7 +53,7 @@ fn stepping(reading: &Reading, of: u8) -> Option<u8>
     ensures { result ≡ stepping of (as_reading reading.now).place (as_reading reading.now).running }
 {
     match (reading.place, reading.running.top()) {
-        (Place::Inside, Some(p)) if p != of => Some(p),
+        (Upcoming::Inside, Some(p)) if p != of => Some(p),
         _ => None,
     }
 }
@@ -79,7 +79,8 @@ fn put_record(
     r: &Rec,
 ) -> Result<(), AllocError>
     requires { IsKnown knowledge.now }
-    ensures { OnOk result ((o : ℕ) → pieces_of pieces.new o ≡ pieces_of pieces.old o ++ pieces_at (facts_in knowledge.now) o (as_reading reading.now) (item_of r.now)) }
+    ensures { OnOk result ((o : ℕ) → pieces_of pieces.new o ≡ pieces_of pieces.old o ++ pieces_at (facts_in knowledge.now) o
+        (as_reading reading.now) (item_of r.now)) }
 {
     let own = own_piece(alloc, knowledge, reading.ceiling, r)?;
     pieces.put_piece(alloc, r.of, own)?;
@@ -97,7 +98,8 @@ fn pieces_in(
     requires known { IsKnown knowledge.now }
     requires same { rules.now.sys.now ≡ knowledge.now.sys.now }
     requires stands { IsSome (lane_read (as_setting rules.now) (lane_items lane.now)) }
-    ensures { IfOk result (λ x. (o : ℕ) → pieces_of x o ≡ lane_pieces (facts_in knowledge.now) (as_setting rules.now) o (lane_items lane.now)) }
+    ensures { IfOk result (λ x. (o : ℕ) → pieces_of x o ≡ lane_pieces (facts_in knowledge.now) (as_setting rules.now) o
+        (lane_items lane.now)) }
 {
     let mut pieces = ObjectPieces::none(alloc);
     let mut reading = Reading::of_none(alloc, rules.sys);
@@ -111,8 +113,10 @@ fn pieces_in(
 /// The pieces of each object in lane 0, where it reads as a kernel lane. It takes one pass over the lane.
 pub fn lane_pieces(alloc: Global, knowledge: &Knowledge) -> Result<ObjectPieces, AllocError>
     requires known { IsKnown knowledge.now }
-    requires stands { IsSome (lane_read (setting_of knowledge.now.sys.now knowledge.now.journal.now) (lane_items (lane_of knowledge.now.journal.now 0))) }
-    ensures { IfOk result (λ x. (o : ℕ) → pieces_of x o ≡ lane_pieces (facts_in knowledge.now) (setting_of knowledge.now.sys.now knowledge.now.journal.now) o (lane_items (lane_of knowledge.now.journal.now 0))) }
+    requires stands { IsSome (lane_read (setting_of knowledge.now.sys.now knowledge.now.journal.now)
+        (lane_items (lane_of knowledge.now.journal.now 0))) }
+    ensures { IfOk result (λ x. (o : ℕ) → pieces_of x o ≡ lane_pieces (facts_in knowledge.now)
+        (setting_of knowledge.now.sys.now knowledge.now.journal.now) o (lane_items (lane_of knowledge.now.journal.now 0))) }
 {
     let rules = Rules::of(alloc, knowledge.sys, knowledge.journal)?;
     pieces_in(alloc, knowledge, &rules, lane_at(knowledge.journal, 0))

@@ -60,7 +60,8 @@ impl ObjectPieces {
     }
 
     fn put(&mut self, alloc: Global, p: u8, piece: Piece) -> Result<(), AllocError>
-        ensures { OnOk result ((q : ℕ) → pieces_of self.new q ≡ (if q == p then pieces_of self.old q ++ as_piece piece ∷ [] else pieces_of self.old q)) }
+        ensures { OnOk result ((q : ℕ) → pieces_of self.new q ≡ (if q == p then pieces_of self.old q ++ as_piece piece ∷ [] else pieces_of
+            self.old q)) }
     {
         let mut row = match self.rows.remove(&p) {
             Some(row) => row,
@@ -78,7 +79,8 @@ impl ObjectPieces {
         p: u8,
         piece: Option<Piece>,
     ) -> Result<(), AllocError>
-        ensures { OnOk result ((q : ℕ) → pieces_of self.new q ≡ pieces_of self.old q ++ (if q == p then listed (option_map as_piece piece) else [])) }
+        ensures { OnOk result ((q : ℕ) → pieces_of self.new q ≡ pieces_of self.old q ++
+            (if q == p then listed (option_map as_piece piece) else [])) }
     {
         match piece {
             Some(piece) => self.put(alloc, p, piece),

@@ -46,7 +46,8 @@ fn has_its_points(
 ) -> Result<bool, AllocError>
     requires followable { IsFollowable sys.now d.now }
     requires pieces { ArePiecesOf sys.now j.now pieces.now }
-    ensures { IfOk result (λ b. Decides b (FollowsTo sys.now d.now (cut_of sys.now j.now d.now.priority) (lane_pieces (facts_of sys.now j.now) (setting_of sys.now j.now) d.now.priority (lane_items (lane_of j.now 0))))) }
+    ensures { IfOk result (λ b. Decides b (FollowsTo sys.now d.now (cut_of sys.now j.now d.now.priority)
+        (lane_pieces (facts_of sys.now j.now) (setting_of sys.now j.now) d.now.priority (lane_items (lane_of j.now 0))))) }
 {
     let cut = cut_of(sys, j, d.priority);
     let follows = follows_with_points(alloc, sys, d, cut, pieces.of(d.priority))?;
@@ -61,7 +62,8 @@ fn points_stand(
 ) -> Result<bool, AllocError>
     requires judgeable { IsJudgeable sys.now }
     requires pieces { ArePiecesOf sys.now j.now pieces.now }
-    ensures { IfOk result (λ b. Decides b (AllByRecursion (λ d. FollowsTo sys.now d (cut_of sys.now j.now d.priority) (lane_pieces (facts_of sys.now j.now) (setting_of sys.now j.now) d.priority (lane_items (lane_of j.now 0)))) sys.now.objects)) }
+    ensures { IfOk result (λ b. Decides b (AllByRecursion (λ d. FollowsTo sys.now d (cut_of sys.now j.now d.priority)
+        (lane_pieces (facts_of sys.now j.now) (setting_of sys.now j.now) d.priority (lane_items (lane_of j.now 0)))) sys.now.objects)) }
 {
     for d in &sys.objects.items {
         if !has_its_points(alloc, sys, j, d, pieces)? {
@@ -152,7 +154,8 @@ fn may_spill(
 ) -> Result<bool, AllocError>
     requires judgeable { IsJudgeable sys.now }
     requires known { IsKnowledgeOf knowledge.now sys.now j.now }
-    ensures { IfOk result (λ b. Decides b (MatchBool (spilt (lane_items lane.now)) (SpillStands sys.now j.now cuts source.now (lane_items lane.now)) ⊤)) }
+    ensures { IfOk result (λ b. Decides b (MatchBool (spilt (lane_items lane.now))
+        (SpillStands sys.now j.now cuts source.now (lane_items lane.now)) ⊤)) }
 {
     if !spills_in(lane) {
         return Ok(true);
@@ -192,7 +195,8 @@ fn has_order(
 ) -> Result<bool, AllocError>
     requires judgeable { IsJudgeable sys.now }
     requires known { IsKnowledgeOf knowledge.now sys.now j.now }
-    ensures { IfOk result (λ b. Decides b (SpillsStand sys.now j.now cuts 1 stim.now × IsOneOrder (one_thread sys.now stim.now j.now cuts))) }
+    ensures { IfOk result (λ b. Decides b (SpillsStand sys.now j.now cuts 1 stim.now × IsOneOrder
+        (one_thread sys.now stim.now j.now cuts))) }
 {
     if !spills_stand(alloc, knowledge, sys, stim, j, cuts)? {
         return Ok(false);
@@ -229,7 +233,8 @@ fn lanes_hold(
 ) -> Result<bool, AllocError>
     requires judgeable { IsJudgeable sys.now }
     requires known { IsKnowledgeOf knowledge.now sys.now j.now }
-    ensures { IfOk result (λ b. Decides b (IsTrue (length j.now.lanes == before sys.now j.now + length stim.now) × MatchBool (one_order j.now.kernel) (OrderHolds sys.now stim.now j.now) ⊤)) }
+    ensures { IfOk result (λ b. Decides b (IsTrue (length j.now.lanes == before sys.now j.now + length stim.now) × MatchBool
+        (one_order j.now.kernel) (OrderHolds sys.now stim.now j.now) ⊤)) }
 {
     if !count_stands(sys, stim, j) {
         return Ok(false);

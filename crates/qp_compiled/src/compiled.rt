@@ -135,7 +135,8 @@ fn leaves_of(
     codes: &mut Vec<Code>,
 ) -> Result<Vec<Leaf>, AllocError>
     requires { 1 ≤ width }
-    ensures { IfOk result (λ leaves. MakesLeaves chart.now width (tasks_at chart.now codes.old.items) (tasks_at chart.now codes.new.items) leaves.items) }
+    ensures { IfOk result (λ leaves. MakesLeaves chart.now width (tasks_at chart.now codes.old.items)
+        (tasks_at chart.now codes.new.items) leaves.items) }
 {
     let mut leaves = Vec::new(alloc);
     let count = chart.state().len() + 1;

@@ -53,7 +53,9 @@ fn offer_row(
     choices: &mut Vec<Choice>,
 ) -> Result<(), AllocError>
     requires { row_at site.now.chart.now state (at + 1) ≡ Some row.now }
-    ensures { IfOk result (λ _. Offers site.now.chart.now site.now.leaf (filter (leaves_rest site.now.width site.now.rest) (record { state = state; place = at + 1; row = row.now } ∷ [])) (tasks_at site.now.chart.now codes.old.items) (tasks_at site.now.chart.now codes.new.items) choices.old.items choices.new.items) }
+    ensures { IfOk result (λ _. Offers site.now.chart.now site.now.leaf (filter (leaves_rest site.now.width site.now.rest)
+        (record { state = state; place = at + 1; row = row.now } ∷ [])) (tasks_at site.now.chart.now codes.old.items)
+        (tasks_at site.now.chart.now codes.new.items) choices.old.items choices.new.items) }
 {
     if !is_in(site, row) {
         return Ok(());
@@ -72,7 +74,9 @@ fn offer_rows(
     codes: &mut Vec<Code>,
     choices: &mut Vec<Choice>,
 ) -> Result<(), AllocError>
-    ensures { IfOk result (λ _. Offers site.now.chart.now site.now.leaf (filter (leaves_rest site.now.width site.now.rest) (rows_from state 1 (rows_of (state_at site.now.chart.now state)))) (tasks_at site.now.chart.now codes.old.items) (tasks_at site.now.chart.now codes.new.items) choices.old.items choices.new.items) }
+    ensures { IfOk result (λ _. Offers site.now.chart.now site.now.leaf (filter (leaves_rest site.now.width site.now.rest)
+        (rows_from state 1 (rows_of (state_at site.now.chart.now state)))) (tasks_at site.now.chart.now codes.old.items)
+        (tasks_at site.now.chart.now codes.new.items) choices.old.items choices.new.items) }
 {
     let rows = rows_of(site.chart, state);
     for (at, row) in rows.iter().enumerate() {
@@ -88,7 +92,9 @@ fn choices_on(
     path: &[u8],
     codes: &mut Vec<Code>,
 ) -> Result<Choices, AllocError>
-    ensures { IfOk result (λ made. Offers site.now.chart.now site.now.leaf (filter (leaves_rest site.now.width site.now.rest) (rows_on site.now.chart.now path.now)) (tasks_at site.now.chart.now codes.old.items) (tasks_at site.now.chart.now codes.new.items) [] made.items.items) }
+    ensures { IfOk result (λ made. Offers site.now.chart.now site.now.leaf (filter (leaves_rest site.now.width site.now.rest)
+        (rows_on site.now.chart.now path.now)) (tasks_at site.now.chart.now codes.old.items) (tasks_at site.now.chart.now codes.new.items)
+        [] made.items.items) }
 {
     let mut items = Vec::new(alloc);
     for s in path {
@@ -106,7 +112,8 @@ pub(crate) fn leaf_of(
     codes: &mut Vec<Code>,
 ) -> Result<Leaf, AllocError>
     requires { 1 ≤ width }
-    ensures { IfOk result (λ made. MakesLeaf chart.now width leaf (tasks_at chart.now codes.old.items) (tasks_at chart.now codes.new.items) made.classes.items) }
+    ensures { IfOk result (λ made. MakesLeaf chart.now width leaf (tasks_at chart.now codes.old.items) (tasks_at chart.now codes.new.items)
+        made.classes.items) }
 {
     let path = path_of(alloc, chart, leaf)?;
     let mut classes = Vec::new(alloc);

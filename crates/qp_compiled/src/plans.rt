@@ -75,7 +75,8 @@ fn push_moves(
     to: Option<u8>,
     codes: &mut Vec<Code>,
 ) -> Result<u8, AllocError>
-    ensures { IfOk result (λ after. Adds (moves chart.now leaf s to) (tasks_at chart.now codes.old.items) (tasks_at chart.now codes.new.items) after) }
+    ensures { IfOk result (λ after. Adds (moves chart.now leaf s to) (tasks_at chart.now codes.old.items)
+        (tasks_at chart.now codes.new.items) after) }
 {
     match to {
         Some(t) => {
@@ -97,7 +98,8 @@ pub(crate) fn place_step(
     codes: &mut Vec<Code>,
 ) -> Result<Plan, AllocError>
     requires { row_at chart.now state place ≡ Some row.now }
-    ensures { IfOk result (Places (ended (handled chart.now leaf (Some (record { state = state; place = place; row = row.now })))) (tasks_at chart.now codes.old.items) (tasks_at chart.now codes.new.items)) }
+    ensures { IfOk result (Places (ended (handled chart.now leaf (Some (record { state = state; place = place; row = row.now }))))
+        (tasks_at chart.now codes.old.items) (tasks_at chart.now codes.new.items)) }
 {
     let from = codes.len();
     codes.push(Code::Run { state, place })?;

@@ -56,7 +56,8 @@ pub(crate) fn push_acts(
     list: ActionList,
     codes: &mut Vec<Code>,
 ) -> Result<(), AllocError>
-    ensures { IfOk result (λ _. tasks_at chart.now codes.new.items ≡ tasks_at chart.now codes.old.items ++ tasks_of (acts_in chart.now list)) }
+    ensures { IfOk result (λ _. tasks_at chart.now codes.new.items ≡ tasks_at chart.now codes.old.items ++ tasks_of
+        (acts_in chart.now list)) }
 {
     let acts = acts_in(chart, list);
     for (at, act) in acts.iter().enumerate() {

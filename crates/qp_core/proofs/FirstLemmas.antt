@@ -233,7 +233,7 @@ later-first xs (suc n) l gone = up-some 1 48 (suc n) (omega arith) (omega arith)
 
 pub first-holds : (sys : System) (lanes : ℕ) (words : List ℕ) → IsSound sys → lanes ≤ 49 → length words ≡ 21128 → ((k : ℕ) → k < 21128 → get_or words k 0 ≡ first_word sys k) → TableHolds sys lanes words (first_seat (first_serves sys 32) ∷ [])
 first-holds sys lanes words sound few wide each = record {
-  rest = later_lanes;
+  lane_numbers = later_lanes;
   views = seen_view (first_seat (first_serves sys 32)) [] ∷ [];
   holds = parted sys words later_lanes (first_serves sys 32) (opens sys words (first_serves sys 32) (fitting sys sound) (first-shows sys sound words wide each) (first-cells sys sound words wide each) (serves-once sys sound) (serves-fresh sys 32));
   seats_are = (([], refl), tt);

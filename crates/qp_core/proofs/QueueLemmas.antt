@@ -15,7 +15,7 @@ use Rattle.qp_words.specs.Rule.{queue_at, cell_at, mark_in, is_ref, InLine, Coda
 use Rattle.qp_words.specs.After.{InHand, place, claimed, put_first, laid, emptied, took, bump}
 use Rattle.qp_words.specs.declared.Glance.{Glance}
 use Rattle.qp_words.specs.declared.Log.{Log}
-use Rattle.qp_words.specs.declared.Place.{Place}
+use Rattle.qp_words.specs.declared.CellPlace.{CellPlace}
 use Rattle.qp_words.specs.declared.Serve.{Serve}
 use Rattle.qp_words.specs.declared.View.{View}
 use Rattle.qp_words.proofs.Counting.{total-at}
@@ -100,20 +100,20 @@ pub code-read : (sys : System) (e : Entry) (c : ℕ) → Codable sys e → c ≡
 code-read sys e c k is = ap entry_in is ∙ read-case sys e k (e.pool == 0) refl
 
 -- the oldest claim on a queue is one of the claims
-oldest-in : (a : ℕ) (xs : List Place) (c : Place) → oldest a xs ≡ Some c → (0 < many (is_place a c.cell c.entry) xs)
+oldest-in : (a : ℕ) (xs : List CellPlace) (c : CellPlace) → oldest a xs ≡ Some c → (0 < many (is_place a c.cell c.entry) xs)
 oldest-in a [] c e = cc
 oldest-in a (x ∷ xs) c e = go (x.queue == a) refl (oldest a xs) refl (oldest-in a xs) e
   where
-    self : (y : Place) → (y.queue == a) ≡ true → cond {A = ℕ} (is_place a y.cell y.entry y) 1 0 ≡ 1
+    self : (y : CellPlace) → (y.queue == a) ≡ true → cond {A = ℕ} (is_place a y.cell y.entry y) 1 0 ≡ 1
     self y h = (λ i. cond {A = ℕ} ((h i && eq-eqb y.cell y.cell refl i) && ((eq-eqb y.entry.pool y.entry.pool refl i && eq-eqb y.entry.block y.entry.block refl i) && eq-eqb y.entry.name y.entry.name refl i)) 1 0)
 
-    same : (y z : Place) → Some y ≡ Some z → y ≡ z
+    same : (y z : CellPlace) → Some y ≡ Some z → y ≡ z
     same y z h = cc
 
-    among : (z : Place) (n : ℕ) → Some z ≡ Some c → 0 < many (is_place a z.cell z.entry) (x ∷ xs) → 0 < many (is_place a c.cell c.entry) (x ∷ xs)
-    among z n h there = subst (λ (y : Place). 0 < many (is_place a y.cell y.entry) (x ∷ xs)) (same z c h) there
+    among : (z : CellPlace) (n : ℕ) → Some z ≡ Some c → 0 < many (is_place a z.cell z.entry) (x ∷ xs) → 0 < many (is_place a c.cell c.entry) (x ∷ xs)
+    among z n h there = subst (λ (y : CellPlace). 0 < many (is_place a y.cell y.entry) (x ∷ xs)) (same z c h) there
 
-    pick : (o : Option Place) → oldest a xs ≡ o → ((y : Place) → oldest a xs ≡ Some y → 0 < many (is_place a y.cell y.entry) xs) → (x.queue == a) ≡ true → Some (older x o) ≡ Some c → 0 < many (is_place a c.cell c.entry) (x ∷ xs)
+    pick : (o : Option CellPlace) → oldest a xs ≡ o → ((y : CellPlace) → oldest a xs ≡ Some y → 0 < many (is_place a y.cell y.entry) xs) → (x.queue == a) ≡ true → Some (older x o) ≡ Some c → 0 < many (is_place a c.cell c.entry) (x ∷ xs)
     pick None is rest h e = among x 0 e (let one = self x h in omega arith)
     pick (Some y) is rest h e = choose (nat_le x.number y.number) e
       where
@@ -121,7 +121,7 @@ oldest-in a (x ∷ xs) c e = go (x.queue == a) refl (oldest a xs) refl (oldest-i
         choose true e = among x 0 e (let one = self x h in omega arith)
         choose false e = among y 0 e (let r = rest y is in omega arith)
 
-    go : (t : Bool) → (x.queue == a) ≡ t → (o : Option Place) → oldest a xs ≡ o → ((y : Place) → oldest a xs ≡ Some y → 0 < many (is_place a y.cell y.entry) xs) → cond t (Some (older x o)) o ≡ Some c → 0 < many (is_place a c.cell c.entry) (x ∷ xs)
+    go : (t : Bool) → (x.queue == a) ≡ t → (o : Option CellPlace) → oldest a xs ≡ o → ((y : CellPlace) → oldest a xs ≡ Some y → 0 < many (is_place a y.cell y.entry) xs) → cond t (Some (older x o)) o ≡ Some c → 0 < many (is_place a c.cell c.entry) (x ∷ xs)
     go true h o is rest e = pick o is rest h e
     go false h o is rest e = let r = rest c (is ∙ e) in omega arith
 
@@ -157,20 +157,20 @@ bump-same now logs a l m (x ∷ xs) le e =
     λ i. cond (eqb x.object a) (record x { lifos = p i; takes = q i }) x ∷ bump-same now logs a l m xs le e.1 i
 
 -- the first of the places on a queue is one of them
-place-self : (y : Place) (a : ℕ) → on_queue a y ≡ true → cond {A = ℕ} (is_place a y.cell y.entry y) 1 0 ≡ 1
+place-self : (y : CellPlace) (a : ℕ) → on_queue a y ≡ true → cond {A = ℕ} (is_place a y.cell y.entry y) 1 0 ≡ 1
 place-self y a h = (λ i. cond {A = ℕ} ((h i && eq-eqb y.cell y.cell refl i) && ((eq-eqb y.entry.pool y.entry.pool refl i && eq-eqb y.entry.block y.entry.block refl i) && eq-eqb y.entry.name y.entry.name refl i)) 1 0)
 
-find-in : (a : ℕ) (xs : List Place) (t : Place) → find (on_queue a) xs ≡ Some t → (0 < many (is_place a t.cell t.entry) xs) × (0 < many (on_queue a) xs)
+find-in : (a : ℕ) (xs : List CellPlace) (t : CellPlace) → find (on_queue a) xs ≡ Some t → (0 < many (is_place a t.cell t.entry) xs) × (0 < many (on_queue a) xs)
 find-in a [] t e = cc
 find-in a (x ∷ xs) t e = go (on_queue a x) refl (find-in a xs t) e
   where
-    same : (y z : Place) → Some y ≡ Some z → y ≡ z
+    same : (y z : CellPlace) → Some y ≡ Some z → y ≡ z
     same y z h = cc
 
     go : (c : Bool) → on_queue a x ≡ c → (find (on_queue a) xs ≡ Some t → (0 < many (is_place a t.cell t.entry) xs) × (0 < many (on_queue a) xs)) → cond c (Some x) (find (on_queue a) xs) ≡ Some t
         → (0 < many (is_place a t.cell t.entry) (x ∷ xs)) × (0 < cond {A = ℕ} (on_queue a x) 1 0 + many (on_queue a) xs)
     go true h rest e = let one = place-self x a h in let two = ap (λ (b : Bool). cond {A = ℕ} b 1 0) h in
-        (subst (λ (y : Place). 0 < many (is_place a y.cell y.entry) (x ∷ xs)) (same x t e) (omega arith), omega arith)
+        (subst (λ (y : CellPlace). 0 < many (is_place a y.cell y.entry) (x ∷ xs)) (same x t e) (omega arith), omega arith)
     go false h rest e = let r = rest e in let r0 = r.0 in let r1 = r.1 in (omega arith, omega arith)
 
 module _ (sys : System) (lanes : ℕ) (words : List ℕ) (x : Seat) (own : nat_lt x.number lanes ≡ true → 0 < length x.logs) (words' : List ℕ) (x' : Seat) where
@@ -204,7 +204,7 @@ module _ (sys : System) (lanes : ℕ) (words : List ℕ) (x : Seat) (own : nat_l
 
   pub lay-keeps : (a : ℕ) → may_lay lanes x a ≡ true → Lays words x a words' x' → StepKeeps sys words x words' x'
   lay-keeps a may made s views id holds at_id =
-      let v : View = seen_view x s in let c : Place = made.0 in
+      let v : View = seen_view x s in let c : CellPlace = made.0 in
       let mine = oldest-in a x.claims c made.1 in
       let object = claim-object sys words views holds id v at_id a c.cell c.entry mine in
       let inside = claim-inside sys words views holds id v at_id a c.cell c.entry mine in
@@ -245,7 +245,7 @@ module _ (sys : System) (lanes : ℕ) (words : List ℕ) (x : Seat) (own : nat_l
   free-keeps a may made s views id holds at_id =
       let t = adds-two lanes x (is_object sys a) (is_claimed (find (on_queue a) x.takes)) may in
       let v : View = seen_view x s in let room = has-room lanes x s own t.0 in let w : ℕ = get_or words (queue_at a) 0 in
-      let q : Place = made.1 in let mine = find-in a x.takes q made.2 in
+      let q : CellPlace = made.1 in let mine = find-in a x.takes q made.2 in
       let home = holds.queues.home id v at_id in
       let serves : 0 < many (is_serve a) x.serves = (let y = home.taking a in let z = mine.1 in omega arith) in
       let below = word-below views holds a t.1 in let m : added w 4398046511104 ≡ w + 4398046511104 = mod-eq_of_lt (omega arith) in

@@ -15,7 +15,7 @@ use Rattle.qp_words.specs.Rule.{on_queue}
 use Rattle.qp_words.specs.After.{logged, passing, failing}
 use Rattle.qp_words.specs.declared.Glance.{Glance}
 use Rattle.qp_words.specs.declared.Log.{Log}
-use Rattle.qp_words.specs.declared.Place.{Place}
+use Rattle.qp_words.specs.declared.CellPlace.{CellPlace}
 use Rattle.qp_words.specs.declared.Serve.{Serve}
 use Rattle.qp_words.specs.declared.View.{View}
 use Rattle.qp_words.proofs.Tokens.{both-true}
@@ -172,7 +172,7 @@ passing-is among (x ∷ xs) = go (in_part among x) (passing-is among xs)
     go true rest = ap (λ ys. x ∷ ys) rest
     go false rest = rest
 
-unused-is : (takes : List Place) (x : Serve) → is_unused takes x ≡ true → Unused takes x
+unused-is : (takes : List CellPlace) (x : Serve) → is_unused takes x ≡ true → Unused takes x
 unused-is takes x h =
     let a = both-true ((x.lifos == 0) && (x.takes == 0)) (not (list_any (on_queue x.object) takes)) h in
     let b = both-true (x.lifos == 0) (x.takes == 0) a.0 in
@@ -182,7 +182,7 @@ unused-is takes x h =
     off true e = sym e
     off false e = refl
 
-pub all-unused : (takes : List Place) (among : ℕ) (xs : List Serve) → list_all (may_pass takes among) xs ≡ true → Each (Unused takes) (passing (in_part among) xs)
+pub all-unused : (takes : List CellPlace) (among : ℕ) (xs : List Serve) → list_all (may_pass takes among) xs ≡ true → Each (Unused takes) (passing (in_part among) xs)
 all-unused takes among [] h = tt
 all-unused takes among (x ∷ xs) h =
     let b = both-true (may_pass takes among x) (list_all (may_pass takes among) xs) h in go (in_part among x) b.0 (all-unused takes among xs b.1)

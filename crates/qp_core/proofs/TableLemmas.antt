@@ -31,9 +31,9 @@ module _ (sys : System) (lanes : ℕ) (words : List ℕ) (seats : List Seat) (t 
 
   pub step-holds : (words' : List ℕ) (x' : Seat) → StepKeeps sys words x words' x' → Same x x' → TableHolds sys lanes words' (set seats i x')
   step-holds words' x' keeps same =
-      let k = keeps (at-view seats t.views t.seats_are i x at).0 (bank t.rest ∷ t.views) (suc i) t.holds at-id in
+      let k = keeps (at-view seats t.views t.seats_are i x at).0 (bank t.lane_numbers ∷ t.views) (suc i) t.holds at-id in
       record {
-        rest = t.rest;
+        lane_numbers = t.lane_numbers;
         views = set t.views i (seen_view x' k.0);
         holds = k.1;
         seats_are = set-view seats t.views t.seats_are i x' k.0;
@@ -49,13 +49,13 @@ module _ (sys : System) (lanes : ℕ) (words : List ℕ) (seats : List Seat) (t 
   join-holds j y there apart from number =
       let w = at-view seats t.views t.seats_are j y there in
       let v = at-view seats t.views t.seats_are i x at in
-      let h : Holds sys words (bank t.rest ∷ set (set t.views i (seen_view (joining x y) (v.0 ++ w.0))) j (seen_view (bare from false) [])) =
-      joins sys words (bank t.rest ∷ t.views) t.holds (suc i) (seen_view x v.0) v.1 (suc j) (seen_view y w.0) (λ e. apart (omega arith)) w.1 in
+      let h : Holds sys words (bank t.lane_numbers ∷ set (set t.views i (seen_view (joining x y) (v.0 ++ w.0))) j (seen_view (bare from false) [])) =
+      joins sys words (bank t.lane_numbers ∷ t.views) t.holds (suc i) (seen_view x v.0) v.1 (suc j) (seen_view y w.0) (λ e. apart (omega arith)) w.1 in
       let swapped = set_comm t.views i j (seen_view (joining x y) (v.0 ++ w.0)) (seen_view (bare from false) []) (λ e. apart (sym e)) in
       record {
-        rest = t.rest;
+        lane_numbers = t.lane_numbers;
         views = set (set t.views j (seen_view (bare from false) [])) i (seen_view (joining x y) (v.0 ++ w.0));
-        holds = subst (λ vs. Holds sys words (bank t.rest ∷ vs)) swapped h;
+        holds = subst (λ vs. Holds sys words (bank t.lane_numbers ∷ vs)) swapped h;
         seats_are = set-view (set seats j (bare from false)) (set t.views j (seen_view (bare from false) [])) (set-view seats t.views t.seats_are j (bare from false) []) i (joining x y) (v.0 ++ w.0);
         own = each-set (Owns lanes) (set seats j (bare from false)) i (joining x y) (each-set (Owns lanes) seats j (bare from false) t.own (λ stands below. absurd (cc)))
             (λ stands below. own-more x.number x.logs y.logs (each-at (Owns lanes) seats i x t.own at stands below));
@@ -104,8 +104,8 @@ module _ (sys : System) (lanes : ℕ) (words : List ℕ) (seats : List Seat) (t 
   at-x : get_elem? t.views i ≡ some (seen_view x s)
   at-x = (at-view seats t.views t.seats_are i x at).1
 
-  lane : Granted sys words t.views t.rest s into (first_logs lanes into)
-  lane = granted-lane sys words t.views t.rest i (seen_view x s) at-x t.holds lanes into (nat_lt into lanes) refl (λ below. let few = t.few in ((let l : nat_lt into lanes ≡ true = below in grind (arith, nat_tests)), t.later into below unknown))
+  lane : Granted sys words t.views t.lane_numbers s into (first_logs lanes into)
+  lane = granted-lane sys words t.views t.lane_numbers i (seen_view x s) at-x t.holds lanes into (nat_lt into lanes) refl (λ below. let few = t.few in ((let l : nat_lt into lanes ≡ true = below in grind (arith, nat_tests)), t.later into below unknown))
 
   pub split-holds : TableHolds sys lanes words (set seats i (giving_up objects x) ++ split_off lanes into objects x ∷ [])
   split-holds =
@@ -123,7 +123,7 @@ module _ (sys : System) (lanes : ℕ) (words : List ℕ) (seats : List Seat) (t 
       let kept : handing p (seen_view x s) ≡ seen_view (giving_up objects x) s = λ k. record (seen_view x s) { serves = failing-is objects x.serves k } in
       let given : handed p (seen_view x s) w ≡ seen_view (split_off lanes into objects x) s = λ k. record w { serves = passing-is objects x.serves k } in
       record {
-        rest = lane.left;
+        lane_numbers = lane.left;
         views = set t.views i (seen_view (giving_up objects x) s) ++ seen_view (split_off lanes into objects x) s ∷ [];
         holds = subst (λ vs. Holds sys words (bank lane.left ∷ vs)) (last ∙ (λ k. set t.views i (kept k) ++ given k ∷ [])) h;
         seats_are = snoc-view (set seats i (giving_up objects x)) (set t.views i (seen_view (giving_up objects x) s)) (set-view seats t.views t.seats_are i (giving_up objects x) s) (split_off lanes into objects x) s;

@@ -13,7 +13,7 @@ use Rattle.qp_model.specs.WordLaw.{is_block, is_object}
 use Rattle.qp_words.specs.Counting.{without}
 use Rattle.qp_words.specs.Rule.{queue_at, cell_at, is_ref, is_place, is_serve, on_queue}
 use Rattle.qp_words.specs.After.{logged, place, spent, gained}
-use Rattle.qp_words.specs.declared.Place.{Place}
+use Rattle.qp_words.specs.declared.CellPlace.{CellPlace}
 use Rattle.qp_words.specs.declared.Serve.{Serve}
 use Rattle.qp_queues.specs.Laws.{f_in, l_in, m_in}
 use Rattle.qp_core.specs.Seats.{may_act, may_add}
@@ -63,11 +63,11 @@ Claims sys words x a p b k words' x' =
 -- Lay
 
 -- the one that was claimed first
-abbrev pub older : Place → Option Place → Place
+abbrev pub older : CellPlace → Option CellPlace → CellPlace
 older x None = x
 older x (Some y) = if nat_le x.number y.number then x else y
 
-abbrev pub oldest : ℕ → List Place → Option Place
+abbrev pub oldest : ℕ → List CellPlace → Option CellPlace
 oldest a [] = None
 oldest a (x ∷ xs) = if x.queue == a then Some (older x (oldest a xs)) else oldest a xs
 
@@ -75,7 +75,7 @@ oldest a (x ∷ xs) = if x.queue == a then Some (older x (oldest a xs)) else old
 abbrev pub code_in : Entry → ℕ
 code_in e = ((if e.pool == 0 then e.block else ((e.pool * 9007199254740992) % 18446744073709551616 + (e.block * 281474976710656) % 18446744073709551616) % 18446744073709551616 + e.name) % 18446744073709551616 + 9223372036854775808) % 18446744073709551616
 
-abbrev pub is_claimed : Option Place → Bool
+abbrev pub is_claimed : Option CellPlace → Bool
 is_claimed None = false
 is_claimed (Some c) = true
 
@@ -84,7 +84,7 @@ may_lay lanes x a = may_act lanes x && is_claimed (oldest a x.claims)
 
 abbrev pub Lays : List ℕ → Seat → ℕ → List ℕ → Seat → Type 0
 Lays words x a words' x' =
-    (c : Place) × (oldest a x.claims ≡ Some c) × (words' ≡ slice_set words (cell_at a (c.cell % 256)) (code_in c.entry)) × (x' ≡ record x { claims = without (is_place a c.cell c.entry) x.claims })
+    (c : CellPlace) × (oldest a x.claims ≡ Some c) × (words' ≡ slice_set words (cell_at a (c.cell % 256)) (code_in c.entry)) × (x' ≡ record x { claims = without (is_place a c.cell c.entry) x.claims })
 
 -- Empty
 
@@ -122,7 +122,7 @@ without_take x r a j e = record x { logs = logged r x.logs; takes = without (is_
 abbrev pub Frees : List ℕ → Seat → ℕ → List ℕ → Seat → Type 0
 Frees words x a words' x' =
     let w = slice_index words (queue_at a) in
-    (r : Rec) × (t : Place) × (find (on_queue a) x.takes ≡ Some t) × (item_of r ≡ record { of = a; body = Took (f_in w) (l_in w) (m_in w + 1) t.entry })
+    (r : Rec) × (t : CellPlace) × (find (on_queue a) x.takes ≡ Some t) × (item_of r ≡ record { of = a; body = Took (f_in w) (l_in w) (m_in w + 1) t.entry })
     × (words' ≡ slice_set words (queue_at a) (added w 4398046511104)) × (x' ≡ without_take x r a t.cell t.entry)
 
 -- Lifo

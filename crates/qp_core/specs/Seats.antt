@@ -11,7 +11,7 @@ use Rattle.qp_core.specs.declared.seats.Seat.{Seat}
 abbrev pub as_view : Seat → View
 as_view x = record {
   logs = x.logs;
-  rest = [];
+  lane_numbers = [];
   fresh = x.fresh;
   used = x.used;
   hands = x.hands;

@@ -20,7 +20,7 @@ AreViews (x ∷ xs) (v ∷ vs) = ((s : List Glance) × (v ≡ seen_view x s)) ×
 
 -- a view with the lane numbers that no seat has had yet
 abbrev pub bank : List ℕ → View
-bank ns = record nothing { rest = ns }
+bank ns = record nothing { lane_numbers = ns }
 
 -- the log of this lane stands first
 abbrev pub is_own : ℕ → List Log → Bool
@@ -37,10 +37,10 @@ has_number n x = x.number == n
 
 -- The rule of the event table, over the views of all seats and the lane numbers not handed out yet
 pub record TableHolds (sys : System) (lanes : ℕ) (words : List ℕ) (seats : List Seat) : Type 0 where
-  pub rest : List ℕ
+  pub lane_numbers : List ℕ
   pub views : List View
-  pub holds : Holds sys words (bank rest ∷ views)
+  pub holds : Holds sys words (bank lane_numbers ∷ views)
   pub seats_are : AreViews seats views
   pub own : Each (Owns lanes) seats
-  pub later : (n : ℕ) → nat_lt n lanes ≡ true → list_any (has_number n) seats ≡ false → 0 < many (is_number n) rest
+  pub later : (n : ℕ) → nat_lt n lanes ≡ true → list_any (has_number n) seats ≡ false → 0 < many (is_number n) lane_numbers
   pub few : lanes ≤ 49

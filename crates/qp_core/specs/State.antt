@@ -10,7 +10,7 @@ use Rattle.qp_model.specs.declared.words.Word.{Word}
 use Rattle.qp_model.specs.declared.words.Word.TheVariants as word
 use Rattle.qp_words.specs.Rule.{pool_at, block_at, queue_at, is_serve, on_queue}
 use Rattle.qp_words.specs.declared.Log.{Log}
-use Rattle.qp_words.specs.declared.Place.{Place}
+use Rattle.qp_words.specs.declared.CellPlace.{CellPlace}
 use Rattle.qp_words.specs.declared.Serve.{Serve}
 use Rattle.std.specs.declared.result.Result.{Result}
 use Rattle.qp_base.specs.declared.faults.Memory.{Memory}
@@ -51,10 +51,10 @@ serves_set zero set xs = true
 serves_set (suc n) set xs = (not (in_set set (suc n)) || list_any (is_serve (suc n)) xs) && serves_set n set xs
 
 -- an object that may be handed over: it has no last-in post and no take, and none is under way
-abbrev pub is_unused : List Place → Serve → Bool
+abbrev pub is_unused : List CellPlace → Serve → Bool
 is_unused takes x = (x.lifos == 0) && (x.takes == 0) && not (list_any (on_queue x.object) takes)
 
-abbrev pub may_pass : List Place → ℕ → Serve → Bool
+abbrev pub may_pass : List CellPlace → ℕ → Serve → Bool
 may_pass takes set x = not (in_set set x.object) || is_unused takes x
 
 abbrev pub may_split : List Seat → Seat → ℕ → ℕ → Bool

@@ -68,7 +68,9 @@ pub fn give(
     p: u8,
     ev: &Ev,
 ) -> Result<bool, Memory>
-    ensures { Steps (may_give sys.now lanes words.old seat.old p ev.now.sig ev.now.pars.items) (Gives words.old seat.old p ev.now.sig ev.now.pars.items words.new seat.new) ((words.new ≡ words.old) × (seat.new ≡ seat.old)) result }
+    ensures { Steps (may_give sys.now lanes words.old seat.old p ev.now.sig ev.now.pars.items)
+        (Gives words.old seat.old p ev.now.sig ev.now.pars.items words.new seat.new) ((words.new ≡ words.old) × (seat.new ≡ seat.old))
+        result }
 {
     let may = may_give(sys, lanes, words, seat, p, ev);
     if !may {
@@ -102,7 +104,8 @@ pub fn give(
 
 /// Writes an event word of a give under way.
 pub fn fill(lanes: u32, words: &mut Words, seat: &mut Seat, p: u8, b: u8, j: u8, value: u64) -> bool
-    ensures { Steps (may_fill lanes seat.old p b j value) (Fills words.old seat.old p b j value words.new seat.new) ((words.new ≡ words.old) × (seat.new ≡ seat.old)) (Ok result) }
+    ensures { Steps (may_fill lanes seat.old p b j value) (Fills words.old seat.old p b j value words.new seat.new)
+        ((words.new ≡ words.old) × (seat.new ≡ seat.old)) (Ok result) }
 {
     if !(seat.number < lanes && seat.is_asked_for(p, b, j, value)) {
         return false;
@@ -143,7 +146,8 @@ pub fn make(
     p: u8,
     b: u8,
 ) -> Result<bool, Memory>
-    ensures { Steps (may_make sys.now lanes seat.old p b) (Makes words.old seat.old p b words.new seat.new) ((words.new ≡ words.old) × (seat.new ≡ seat.old)) result }
+    ensures { Steps (may_make sys.now lanes seat.old p b) (Makes words.old seat.old p b words.new seat.new)
+        ((words.new ≡ words.old) × (seat.new ≡ seat.old)) result }
 {
     let may = may_make(sys, lanes, seat, p, b);
     if !may {
@@ -197,7 +201,8 @@ pub fn drop_reference(
     b: u8,
     name: u64,
 ) -> Result<bool, Memory>
-    ensures { Steps (may_drop sys.now lanes seat.old p b name) (Drops words.old seat.old p b name words.new seat.new) ((words.new ≡ words.old) × (seat.new ≡ seat.old)) result }
+    ensures { Steps (may_drop sys.now lanes seat.old p b name) (Drops words.old seat.old p b name words.new seat.new)
+        ((words.new ≡ words.old) × (seat.new ≡ seat.old)) result }
 {
     let may = may_drop(sys, lanes, seat, p, b, name);
     if !may {
@@ -230,7 +235,8 @@ pub fn put_back(
     p: u8,
     b: u8,
 ) -> Result<bool, Memory>
-    ensures { Steps (may_back sys.now lanes seat.old p b) (Backs words.old seat.old p b words.new seat.new) ((words.new ≡ words.old) × (seat.new ≡ seat.old)) result }
+    ensures { Steps (may_back sys.now lanes seat.old p b) (Backs words.old seat.old p b words.new seat.new)
+        ((words.new ≡ words.old) × (seat.new ≡ seat.old)) result }
 {
     let may = may_back(sys, lanes, seat, p, b);
     if !may {

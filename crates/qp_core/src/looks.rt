@@ -151,7 +151,8 @@ pub fn look(
     word: Word,
     rec: &Option<Rec>,
 ) -> Result<bool, Memory>
-    ensures { Steps (may_look sys.now lanes words.now seat.old word rec.now) (seat.new ≡ looked seat.old word rec.now) (seat.new ≡ seat.old) result }
+    ensures { Steps (may_look sys.now lanes words.now seat.old word rec.now) (seat.new ≡ looked seat.old word rec.now)
+        (seat.new ≡ seat.old) result }
 {
     if !is_word(sys, word) {
         return Ok(false);

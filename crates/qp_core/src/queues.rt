@@ -19,7 +19,7 @@ use crate::seats::Seat;
 use crate::words::{Words, cell_at, queue_at};
 use qp_base::Memory;
 use qp_model::{Entry, Rec, System};
-use qp_words::{Place, Serve};
+use qp_words::{CellPlace, Serve};
 use std::alloc::Global;
 
 /// Whether it is a static signal, or its reference is in hand.
@@ -65,7 +65,7 @@ fn spend(hands: &mut Items<Entry>, e: Entry)
 }
 
 /// Where a place stands among others.
-fn place_of(places: &Items<Place>, a: u8, cell: u64, e: Entry) -> Option<usize>
+fn place_of(places: &Items<CellPlace>, a: u8, cell: u64, e: Entry) -> Option<usize>
     ensures { result ≡ position (is_place a cell e) places.now }
 {
     places.items.iter().position(|x| {
@@ -76,7 +76,7 @@ fn place_of(places: &Items<Place>, a: u8, cell: u64, e: Entry) -> Option<usize>
 }
 
 /// Takes a place out.
-fn drop_place(places: &mut Items<Place>, a: u8, cell: u64, e: Entry)
+fn drop_place(places: &mut Items<CellPlace>, a: u8, cell: u64, e: Entry)
     ensures { places.new ≡ without (is_place a cell e) places.old }
 {
     let at = place_of(places, a, cell, e);
@@ -114,7 +114,8 @@ pub fn claim(
     b: u8,
     name: u64,
 ) -> Result<bool, Memory>
-    ensures { Steps (may_claim sys.now lanes words.old seat.old a p b name) (Claims sys.now words.old seat.old a p b name words.new seat.new) ((words.new ≡ words.old) × (seat.new ≡ seat.old)) result }
+    ensures { Steps (may_claim sys.now lanes words.old seat.old a p b name) (Claims sys.now words.old seat.old a p b name words.new
+        seat.new) ((words.new ≡ words.old) × (seat.new ≡ seat.old)) result }
 {
     let may = may_claim(sys, lanes, words, seat, a, p, b, name);
     if !may {
@@ -125,7 +126,7 @@ pub fn claim(
     let entry = entry_for(p, b, name);
     let (f, l, m) = (posts_in(found), lifos_in(found), takes_in(found));
     let drawn = found.wrapping_add(1);
-    let place = Place {
+    let place = CellPlace {
         queue: u64::from(a),
         cell: u64::from(f) % (u64::from(sys.ring_of(u64::from(a))) + 1),
         entry,
@@ -140,7 +141,7 @@ pub fn claim(
 }
 
 /// The oldest of these places on the queue.
-fn oldest(places: &[Place], a: u8) -> Option<Place>
+fn oldest(places: &[CellPlace], a: u8) -> Option<CellPlace>
     ensures { result ≡ oldest a places.now }
 {
     match places {
@@ -160,7 +161,8 @@ fn oldest(places: &[Place], a: u8) -> Option<Place>
 
 /// Writes the cell of the seat's oldest claim on the queue.
 pub fn lay(lanes: u32, words: &mut Words, seat: &mut Seat, a: u8) -> bool
-    ensures { Steps (may_lay lanes seat.old a) (Lays words.old seat.old a words.new seat.new) ((words.new ≡ words.old) × (seat.new ≡ seat.old)) (Ok result) }
+    ensures { Steps (may_lay lanes seat.old a) (Lays words.old seat.old a words.new seat.new)
+        ((words.new ≡ words.old) × (seat.new ≡ seat.old)) (Ok result) }
 {
     if seat.number >= lanes {
         return false;
@@ -194,7 +196,8 @@ pub fn empty(
     seat: &mut Seat,
     a: u8,
 ) -> Result<bool, Memory>
-    ensures { Steps (may_empty sys.now lanes words.old seat.old a) (Empties sys.now words.old seat.old a words.new seat.new) ((words.new ≡ words.old) × (seat.new ≡ seat.old)) result }
+    ensures { Steps (may_empty sys.now lanes words.old seat.old a) (Empties sys.now words.old seat.old a words.new seat.new)
+        ((words.new ≡ words.old) × (seat.new ≡ seat.old)) result }
 {
     let may = may_empty(sys, lanes, words, seat, a);
     if !may {
@@ -203,7 +206,7 @@ pub fn empty(
     let cell = front_at(sys, a, words.get(queue_at(a)));
     let word = cell_at(a, cell);
     let code = words.get(word);
-    let place = Place {
+    let place = CellPlace {
         queue: u64::from(a),
         cell: u64::from(cell),
         entry: entry_in(code),
@@ -215,7 +218,7 @@ pub fn empty(
 }
 
 /// The first of these places on the queue.
-fn first_on(places: &Items<Place>, a: u8) -> Option<Place>
+fn first_on(places: &Items<CellPlace>, a: u8) -> Option<CellPlace>
     ensures { result ≡ find (on_queue a) places.now }
 {
     places
@@ -274,7 +277,8 @@ pub fn free(
     seat: &mut Seat,
     a: u8,
 ) -> Result<bool, Memory>
-    ensures { Steps (may_free sys.now lanes seat.old a) (Frees words.old seat.old a words.new seat.new) ((words.new ≡ words.old) × (seat.new ≡ seat.old)) result }
+    ensures { Steps (may_free sys.now lanes seat.old a) (Frees words.old seat.old a words.new seat.new)
+        ((words.new ≡ words.old) × (seat.new ≡ seat.old)) result }
 {
     let may = seat.may_add(lanes) && has_object(sys, a);
     if !may {
@@ -329,7 +333,8 @@ pub fn lifo(
     b: u8,
     name: u64,
 ) -> Result<bool, Memory>
-    ensures { Steps (may_lifo sys.now lanes words.old seat.old a p b name) (Lifos sys.now words.old seat.old a p b name words.new seat.new) ((words.new ≡ words.old) × (seat.new ≡ seat.old)) result }
+    ensures { Steps (may_lifo sys.now lanes words.old seat.old a p b name) (Lifos sys.now words.old seat.old a p b name words.new seat.new)
+        ((words.new ≡ words.old) × (seat.new ≡ seat.old)) result }
 {
     let may = may_lifo(sys, lanes, words, seat, a, p, b, name);
     if !may {
@@ -340,7 +345,7 @@ pub fn lifo(
     let entry = entry_for(p, b, name);
     let (f, l, m) = (posts_in(found), lifos_in(found), takes_in(found));
     let drawn = found.wrapping_add(LIFO);
-    let place = Place {
+    let place = CellPlace {
         queue: u64::from(a),
         cell: u64::from(before_at(sys, a, found)),
         entry,

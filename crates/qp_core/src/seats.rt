@@ -11,7 +11,7 @@ use crate::items::{Items, take_out};
 use arrayvec::ArrayVec;
 use qp_base::Memory;
 use qp_model::{Entry, Lane, Rec};
-use qp_words::{Fill, Place, Serve, Spot};
+use qp_words::{CellPlace, Fill, Serve, Spot};
 use std::marker::Model;
 
 /// The records of one lane.
@@ -58,8 +58,8 @@ pub struct Seat {
     pub hands: Items<Entry>,
     pub gives: Items<SeatGive>,
     pub fills: Items<Fill>,
-    pub claims: Items<Place>,
-    pub takes: Items<Place>,
+    pub claims: Items<CellPlace>,
+    pub takes: Items<CellPlace>,
     pub serves: Items<Serve>,
 }
 

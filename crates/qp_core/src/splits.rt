@@ -17,7 +17,7 @@ use crate::steps::step;
 use crate::words::Words;
 use qp_base::Memory;
 use qp_model::System;
-use qp_words::{Place, Serve};
+use qp_words::{CellPlace, Serve};
 use std::alloc::Global;
 use std::mem;
 
@@ -44,14 +44,14 @@ fn is_fresh(x: &Serve) -> bool
 }
 
 /// Whether a take of the object is under way.
-fn is_under_way(takes: &Items<Place>, a: u64) -> bool
+fn is_under_way(takes: &Items<CellPlace>, a: u64) -> bool
     ensures { result ≡ list_any (on_queue a) takes.now }
 {
     takes.items.iter().any(|t| t.queue == a)
 }
 
 /// Whether the object isn't in the set, or may be handed over.
-fn may_pass(takes: &Items<Place>, set: u32, x: &Serve) -> bool
+fn may_pass(takes: &Items<CellPlace>, set: u32, x: &Serve) -> bool
     ensures { result ≡ may_pass takes.now set x.now }
 {
     !in_set(set, x.object) || is_fresh(x) && !is_under_way(takes, x.object)
@@ -159,7 +159,8 @@ pub fn split(
     set: u32,
 ) -> Result<bool, Memory>
     requires { at < length seats.old }
-    ensures { (x : ASeat) → slice_get seats.old at ≡ Some x → Steps (may_split seats.old x into set) (seats.new ≡ slice_set seats.old at (giving_up set x) ++ split_off lanes into set x ∷ []) (seats.new ≡ seats.old) result }
+    ensures { (x : ASeat) → slice_get seats.old at ≡ Some x → Steps (may_split seats.old x into set)
+        (seats.new ≡ slice_set seats.old at (giving_up set x) ++ split_off lanes into set x ∷ []) (seats.new ≡ seats.old) result }
 {
     let seat = seat_at(seats, at);
     if !may_split(seats, seat, into, set) {
@@ -229,7 +230,8 @@ fn take_over(alloc: Global, seat: &mut Seat, other: &mut Seat) -> Result<(), Mem
 /// The seat at a place takes over the seat `from`, which stands no more.
 pub fn join(alloc: Global, seats: &mut Items<Seat>, at: usize, from: u32) -> Result<bool, Memory>
     requires { at < length seats.old }
-    ensures { (x : ASeat) → slice_get seats.old at ≡ Some x → Steps (may_join seats.old x from) (Joins seats.old at x from seats.new) (seats.new ≡ seats.old) result }
+    ensures { (x : ASeat) → slice_get seats.old at ≡ Some x → Steps (may_join seats.old x from) (Joins seats.old at x from seats.new)
+        (seats.new ≡ seats.old) result }
 {
     if seat_at(seats, at).number == from {
         return Ok(false);

@@ -24,7 +24,8 @@ fn step_of(
     seat: &mut Seat,
     op: &Op,
 ) -> Result<bool, Memory>
-    ensures { Steps (may_step sys.now lanes words.old seat.old op.now) (Steps_one sys.now words.old seat.old op.now words.new seat.new) ((words.new ≡ words.old) × (seat.new ≡ seat.old)) result }
+    ensures { Steps (may_step sys.now lanes words.old seat.old op.now) (Steps_one sys.now words.old seat.old op.now words.new seat.new)
+        ((words.new ≡ words.old) × (seat.new ≡ seat.old)) result }
 {
     match op {
         Op::Give { pool, ev } => give(alloc, sys, lanes, words, seat, *pool, ev),
@@ -73,7 +74,8 @@ pub fn step(
     seat: &mut Seat,
     op: &Op,
 ) -> Result<bool, Memory>
-    ensures one { Steps (may_step sys.now lanes words.old seat.old op.now) (Steps_one sys.now words.old seat.old op.now words.new seat.new) ((words.new ≡ words.old) × (seat.new ≡ seat.old)) result }
+    ensures one { Steps (may_step sys.now lanes words.old seat.old op.now) (Steps_one sys.now words.old seat.old op.now words.new seat.new)
+        ((words.new ≡ words.old) × (seat.new ≡ seat.old)) result }
     ensures kept { HasOwn lanes seat.old → StepKeeps sys.now words.old seat.old words.new seat.new }
 {
     step_of(alloc, sys, lanes, words, seat, op)

@@ -8,9 +8,9 @@ use Rattle.qp_model.specs.Groups.{is_post}
 use Rattle.qp_model.specs.Shapes.{Releases}
 use Rattle.qp_model.specs.Pieces.{Piece, Tell, Point, tell}
 use Rattle.qp_model.specs.Acts.{Actor}
-use Rattle.qp_fits.specs.Rest.{Rest}
-use Rattle.qp_fits.specs.RestNext.{rest_next}
-use Rattle.qp_fits.specs.RestLaws.{ReadsBegin, ReadsWhole, ReadsNext}
+use Rattle.qp_fits.specs.CallState.{CallState}
+use Rattle.qp_fits.specs.CallStateNext.{call_state_next}
+use Rattle.qp_fits.specs.CallStateLaws.{ReadsBegin, ReadsWhole, ReadsNext}
 use Rattle.qp_course.specs.Note.{tells, raised_from, taken_by, dropped_by, comes_back}
 use Rattle.qp_course.specs.Goes.{Aim, Stepping, moment_of, StepsGo, LeftGoes}
 use Rattle.qp_course.specs.Machine.{State, Between, Telling, Raising, AtPoint, InCall, AtPost, Releasing, Returning, Asserted, Goes, resume, settle, noted, posted, step_state, left_over, tell_next, point_next, next}
@@ -47,8 +47,8 @@ module _ (begin : ReadsBegin) (whole : ReadsWhole) (reads_next : ReadsNext) (sys
       )
   next-goes (AtPoint ev x ts leaf c) (Tell t) ps later e h = absurd (cc)
   next-goes (InCall way inner rest ts leaf c) (Tell t) ps later e h =
-      let at = mapped (λ more. posted (inner && is_post t.body) a way inner more leaf ts (record c { kept = more.kept })) (rest_next sys a.o (moment_of way).entry rest t) later e in
-      let more : Rest = at.0 in
+      let at = mapped (λ more. posted (inner && is_post t.body) a way inner more leaf ts (record c { kept = more.kept })) (call_state_next sys a.o (moment_of way).entry rest t) later e in
+      let more : CallState = at.0 in
       first-rest reads_next sys a way inner rest (LeftGoes sys a aim way ts leaf) c t more ps at.1
       (back-posted begin whole reads_next sys a aim (inner && is_post t.body) way inner more leaf ts (record c { kept = more.kept }) ps (subst (λ s. Goes sys a aim s ps) (sym at.2) h))
   next-goes (AtPost way rest ts leaf c) (Tell t) ps later e h = absurd (cc)

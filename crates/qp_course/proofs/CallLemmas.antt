@@ -3,10 +3,10 @@ use Rattle.std.proofs.Common.{◌≡◌, ℕ, ◌≤◌, List, [], ◌∷◌, So
 use Rattle.qp_model.specs.declared.bodies.Entry.{Entry}
 use Rattle.qp_model.specs.Calls as call
 use Rattle.qp_model.specs.Calls.{Call, Flushed}
-use Rattle.qp_fits.specs.RestNext.{rest_begin, stage_answer}
+use Rattle.qp_fits.specs.CallStateNext.{call_state_begin, stage_answer}
 
 -- a call that is whole at once is a flush of nothing
-pub begin-few : (room : ℕ) (kept : List Entry) (x : Call) (n : ℕ) → stage_answer (rest_begin room kept x).stage ≡ Some (Flushed n) → n ≤ 255
+pub begin-few : (room : ℕ) (kept : List Entry) (x : Call) (n : ℕ) → stage_answer (call_state_begin room kept x).stage ≡ Some (Flushed n) → n ≤ 255
 begin-few room [] call.Flush n h = let same : 0 ≡ n = cc in omega (arith, same)
 begin-few room (k ∷ ks) call.Flush n h = absurd (cc)
 begin-few room kept (call.Post to sig pars margin reserve) n h = absurd (cc)

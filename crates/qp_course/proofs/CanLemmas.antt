@@ -12,8 +12,8 @@ use Rattle.qp_model.specs.Able.{chart_able}
 use Rattle.qp_model.specs.Pieces.{Piece}
 use Rattle.qp_model.specs.Acts.{Config, Actor, names_of}
 use Rattle.qp_model.proofs.AbleLemmas.{step-able, start-able}
-use Rattle.qp_fits.specs.Rest.{Stage, Whole, Rest}
-use Rattle.qp_fits.specs.RestNext.{rest_next, stage_answer}
+use Rattle.qp_fits.specs.CallState.{CallStage, Whole, CallState}
+use Rattle.qp_fits.specs.CallStateNext.{call_state_next, stage_answer}
 use Rattle.qp_fits.specs.Reads.{Reads}
 use Rattle.qp_fits.proofs.BeginLemmas.{reads-begin}
 use Rattle.qp_fits.proofs.OpenLemmas.{open-begin, open-next}
@@ -28,12 +28,12 @@ use Rattle.qp_course.proofs.BackLemmas.{some-first}
 use Rattle.qp_course.proofs.ReadyLemmas.{ready-start, ready-next, can-next}
 use Rattle.qp_course.proofs.FewStateLemmas.{few-start, few-next}
 
-whole : (s : Stage) (answer : Answer) → stage_answer s ≡ Some answer → s ≡ Whole answer
+whole : (s : CallStage) (answer : Answer) → stage_answer s ≡ Some answer → s ≡ Whole answer
 whole (Whole own) answer h = ap Whole (some-first h)
 whole s answer h = absurd (cc)
 
 -- a flush that is whole tells no more entries than a deferred list has room for
-pub whole-few : (sys : System) (a : Actor) (way : Way) (rest : Rest) → CanGoOn sys a way rest → a.room ≤ 255
+pub whole-few : (sys : System) (a : Actor) (way : Way) (rest : CallState) → CanGoOn sys a way rest → a.room ≤ 255
     → (n : ℕ) → stage_answer rest.stage ≡ Some (Flushed n) → n ≤ 255
 unfolding Reads
 whole-few sys a way rest can room n h =
@@ -61,7 +61,7 @@ start-begins a first plan is = ap (λ (p : Plan). settle a Starting p.leaf p.tas
 
 module _ (sys : System) (a : Actor) (can : IsAble sys a) where
   -- a record of a call leaves it so that it can go on
-  pub call-next : (way : Way) (rest more : Rest) (t : Told) → Some more ≡ rest_next sys a.o (moment_of way).entry rest t → CanGoOn sys a way rest → CanGoOn sys a way more
+  pub call-next : (way : Way) (rest more : CallState) (t : Told) → Some more ≡ call_state_next sys a.o (moment_of way).entry rest t → CanGoOn sys a way rest → CanGoOn sys a way more
   call-next way rest more t is = can-next reads-begin reads-next open-begin open-next sys a can.able way rest more t (sym is)
 
   -- a course begins so that it can run

@@ -10,7 +10,7 @@ use Rattle.qp_model.specs.Course.{Cut, Whole, Stopped, Anywhere, Follows, Follow
 use Rattle.qp_model.proofs.ListLemmas.{both_true, true_both}
 use Rattle.qp_model.proofs.ThroughLemmas.{through-quiet, quiet-through}
 use Rattle.qp_fits.specs.Decides.{Decides}
-use Rattle.qp_fits.specs.RestLaws.{ReadsBegin, ReadsWhole, ReadsNext, OpenBegin, OpenNext, OpenReads}
+use Rattle.qp_fits.specs.CallStateLaws.{ReadsBegin, ReadsWhole, ReadsNext, OpenBegin, OpenNext, OpenReads}
 use Rattle.qp_course.specs.Goes.{anywhere, CourseGoes}
 use Rattle.qp_course.specs.Decided.{reads_to, HasChart}
 use Rattle.qp_course.proofs.CourseLemmas.{any-end, course-goes, goes-course}

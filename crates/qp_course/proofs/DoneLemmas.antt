@@ -19,8 +19,8 @@ use Rattle.qp_model.specs.ObjectShape.{is_assert, nothing_after, asserts_last, a
 use Rattle.qp_model.specs.Acts.{Config, Actor, names_of}
 use Rattle.qp_model.specs.OutputSummary.{is_took, is_done}
 use Rattle.qp_model.proofs.BlockLemmas.{Block, Exits, Enters, Inits, Acts, Locks, spread, Blocks, step-blocks, start-blocks}
-use Rattle.qp_fits.specs.Rest.{Stage, Whole, Rest}
-use Rattle.qp_fits.specs.RestNext.{rest_begin, rest_next, stage_answer}
+use Rattle.qp_fits.specs.CallState.{CallStage, Whole, CallState}
+use Rattle.qp_fits.specs.CallStateNext.{call_state_begin, call_state_next, stage_answer}
 use Rattle.qp_course.specs.Note.{Note, Begin, Run, Unhandled, Exit, Enter, Init, Done, Say, Unlock, body_of, tells, raised_from, taken_by, dropped_by, comes_back}
 use Rattle.qp_course.specs.Goes.{Way, Starting, Stepping, moment_of}
 use Rattle.qp_course.specs.Machine.{State, Between, Telling, Raising, AtPoint, InCall, AtPost, Releasing, Returning, Asserted, has_inner, done, answered, resumed, resume, deed_state, task_state, closed, closing, settle, noted, posted, step_state, start_state, left_over, tell_next}
@@ -95,10 +95,10 @@ module _ (a : Actor) (way : Way) (leaf : ℕ) (ts : List Task) (go : Config → 
   answered-under h more true d = (tt, refl)
   answered-under h more false d = done-under h more d
 
-  resume-under : ends_once ts ≡ true → ((d : Config) → IsUnder (go d)) → (inner : Bool) (rest : Rest) (c : Config) → IsUnder (resume way inner rest leaf ts go c)
+  resume-under : ends_once ts ≡ true → ((d : Config) → IsUnder (go d)) → (inner : Bool) (rest : CallState) (c : Config) → IsUnder (resume way inner rest leaf ts go c)
   resume-under h more inner rest c = by rest.stage
     where
-      by : (s : Stage) → IsUnder (resumed (stage_answer s) way inner rest leaf ts go c)
+      by : (s : CallStage) → IsUnder (resumed (stage_answer s) way inner rest leaf ts go c)
       by (Whole own) = answered-under h more (is_assertion own) (record c { ok = ok_after own c.ok; kept = rest.kept })
       by s = (h, refl)
 
@@ -106,7 +106,7 @@ module _ (a : Actor) (way : Way) (leaf : ℕ) (ts : List Task) (go : Config → 
   unfolding deed_state
   deed-under h more (Sets var value) c = done-under h more (record c { vars = slice_set c.vars var value })
   deed-under h more (Says value) c = (h, refl)
-  deed-under h more (Calls x) c = resume-under h more (has_inner way x) (rest_begin a.room c.kept x) c
+  deed-under h more (Calls x) c = resume-under h more (has_inner way x) (call_state_begin a.room c.kept x) c
 
 last-ends : (ts : List Task) → ends_once (task.Done ∷ ts) ≡ true → note_ends Done false ts ≡ true
 last-ends [] h = refl
@@ -150,7 +150,7 @@ noted-under : (a : Actor) (way : Way) (ends : Bool) (leaf : ℕ) (ts : List Task
 noted-under a way true leaf ts c h = done-under a way leaf ts (settle a way leaf ts) h (λ d. settle-under a way leaf ts d h) c
 noted-under a way false leaf ts c h = settle-under a way leaf ts c h
 
-posted-under : (b : Bool) (a : Actor) (way : Way) (inner : Bool) (rest : Rest) (leaf : ℕ) (ts : List Task) (c : Config) → ends_once ts ≡ true → IsUnder (posted b a way inner rest leaf ts c)
+posted-under : (b : Bool) (a : Actor) (way : Way) (inner : Bool) (rest : CallState) (leaf : ℕ) (ts : List Task) (c : Config) → ends_once ts ≡ true → IsUnder (posted b a way inner rest leaf ts c)
 posted-under true a way inner rest leaf ts c h = (h, refl)
 posted-under false a way inner rest leaf ts c h = resume-under a way leaf ts (settle a way leaf ts) h (λ d. settle-under a way leaf ts d h) inner rest c
 
@@ -309,7 +309,7 @@ module _ (sys : System) (a : Actor) where
       (subst IsUnder at.2 (settle-under a way leaf ts (record c { former = at.0 }) h))
   next-counts (AtPoint ev x ts leaf c) t later e h = absurd (cc)
   next-counts (InCall way inner rest ts leaf c) t later e h =
-      let at = mapped (λ more. posted (inner && is_post t.body) a way inner more leaf ts (record c { kept = more.kept })) (rest_next sys a.o (moment_of way).entry rest t) later e in
+      let at = mapped (λ more. posted (inner && is_post t.body) a way inner more leaf ts (record c { kept = more.kept })) (call_state_next sys a.o (moment_of way).entry rest t) later e in
       let is = call-plain sys a.o (moment_of way).entry rest t at.0 at.1 in
       under-counts (InCall way inner rest ts leaf c) later t.body refl (record { done = is.0; took = is.1 })
       (subst IsUnder at.2 (posted-under (inner && is_post t.body) a way inner at.0 leaf ts (record c { kept = at.0.kept }) h))

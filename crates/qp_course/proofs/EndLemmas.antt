@@ -11,24 +11,24 @@ use Rattle.qp_model.specs.Groups.{is_post}
 use Rattle.qp_model.specs.Calls.{Answer, ok_after, is_assertion}
 use Rattle.qp_model.specs.Pieces.{Piece, Tell, Point, tell}
 use Rattle.qp_model.specs.Acts.{Config, Actor, Later}
-use Rattle.qp_fits.specs.Rest.{Rest}
-use Rattle.qp_fits.specs.RestNext.{stage_answer}
+use Rattle.qp_fits.specs.CallState.{CallState}
+use Rattle.qp_fits.specs.CallStateNext.{stage_answer}
 use Rattle.qp_fits.specs.Reads.{Reads}
-use Rattle.qp_fits.specs.RestLaws.{OpenReads}
+use Rattle.qp_fits.specs.CallStateLaws.{OpenReads}
 use Rattle.qp_course.specs.Note.{body_of}
 use Rattle.qp_course.specs.Goes.{anywhere, Way, Starting, Stepping, moment_of, Ends, LeftGoes}
-use Rattle.qp_course.specs.Machine.{State, Between, Telling, Raising, AtPoint, InCall, AtPost, Releasing, Returning, Asserted, inner_pieces, RestGoes, NoteEnds, Goes, is_end}
+use Rattle.qp_course.specs.Machine.{State, Between, Telling, Raising, AtPoint, InCall, AtPost, Releasing, Returning, Asserted, inner_pieces, CallStateGoes, NoteEnds, Goes, is_end}
 use Rattle.qp_course.specs.Ready.{AreAble, IsWithin, CanGoOn, IsReady}
 use Rattle.qp_course.proofs.CourseLemmas.{steps-none}
 use Rattle.qp_course.proofs.SomeLemmas.{left-some}
 use Rattle.qp_course.proofs.NextLemmas.{inner-first}
 
 -- records of a call that is under way are some
-rest-some : (sys : System) (a : Actor) (way : Way) (inner : Bool) (rest : Rest) (later : Later) (c : Config) → stage_answer rest.stage ≡ None
-    → RestGoes sys a way inner rest later c [] → ⊥
-unfolding RestGoes Reads
+rest-some : (sys : System) (a : Actor) (way : Way) (inner : Bool) (rest : CallState) (later : Later) (c : Config) → stage_answer rest.stage ≡ None
+    → CallStateGoes sys a way inner rest later c [] → ⊥
+unfolding CallStateGoes Reads
 rest-some sys a way inner rest later c part (answer, [], kept, reads, k) =
-    let wrong : stage_answer rest.stage ≡ Some answer = ap (λ (r : Rest). stage_answer r.stage) reads in cc
+    let wrong : stage_answer rest.stage ≡ Some answer = ap (λ (r : CallState). stage_answer r.stage) reads in cc
 rest-some sys a way inner rest later c part (answer, t ∷ g, kept, reads, k) = by (is_assertion answer) (shape (inner-first inner t g)) k
   where
     shape : ((inner && is_post t.body ≡ true) × (inner_pieces inner (t ∷ g) ≡ Tell t ∷ Point ∷ inner_pieces true g))
@@ -79,15 +79,15 @@ module _ (open_reads : OpenReads) (sys : System) (a : Actor) where
   note-some way true ts leaf c able within = ends-some way ts leaf c able within
   note-some way false ts leaf c able within = left-some sys a way ts leaf c able within
 
-  rest-goes : (way : Way) (inner : Bool) (rest : Rest) (ts : List Task) (leaf : ℕ) (c : Config) → AreAble sys way ts → CanGoOn sys a way rest
-      → (ps : List Piece) × RestGoes sys a way inner rest (LeftGoes sys a anywhere way ts leaf) c ps
-  unfolding RestGoes
+  rest-goes : (way : Way) (inner : Bool) (rest : CallState) (ts : List Task) (leaf : ℕ) (c : Config) → AreAble sys way ts → CanGoOn sys a way rest
+      → (ps : List Piece) × CallStateGoes sys a way inner rest (LeftGoes sys a anywhere way ts leaf) c ps
+  unfolding CallStateGoes
   rest-goes way inner rest ts leaf c able can =
       let some = open_reads sys a.o (moment_of way).entry rest can.some in
       by some.0 some.1 some.2 some.3 (is_assertion some.0) refl
     where
       by : (answer : Answer) (kept : List Entry) (g : List Told) → Reads sys a.o (moment_of way).entry rest answer kept g → (b : Bool) → is_assertion answer ≡ b
-          → (ps : List Piece) × RestGoes sys a way inner rest (LeftGoes sys a anywhere way ts leaf) c ps
+          → (ps : List Piece) × CallStateGoes sys a way inner rest (LeftGoes sys a anywhere way ts leaf) c ps
       by answer kept g reads true is = (inner_pieces inner g, (answer, g, kept, reads, rw is refl))
       by answer kept g reads false is =
           let after = ends-some way ts leaf (record c { ok = ok_after answer c.ok; kept = kept }) able (can.within answer kept g reads) in

@@ -14,8 +14,8 @@ use Rattle.qp_model.specs.Pieces.{Piece, Tell, Point}
 use Rattle.qp_model.specs.Acts.{Config, Actor, names_of}
 use Rattle.qp_model.proofs.AbleLemmas.{step-able, start-able}
 use Rattle.qp_model.proofs.Completes.{able-rest}
-use Rattle.qp_fits.specs.Rest.{Stage, Whole, Rest}
-use Rattle.qp_fits.specs.RestNext.{rest_begin, rest_next, stage_answer}
+use Rattle.qp_fits.specs.CallState.{CallStage, Whole, CallState}
+use Rattle.qp_fits.specs.CallStateNext.{call_state_begin, call_state_next, stage_answer}
 use Rattle.qp_course.specs.Note.{tells, raised_from, taken_by, dropped_by, comes_back}
 use Rattle.qp_course.specs.Goes.{Way, Starting, Stepping, moment_of}
 use Rattle.qp_course.specs.Machine.{State, Between, Telling, Raising, AtPoint, InCall, AtPost, Releasing, Returning, Asserted, has_inner, done, answered, resumed, resume, deed_state, task_state, closed, settle, noted, posted, step_state, start_state, left_over, tell_next, point_next, next}
@@ -32,14 +32,14 @@ module _ (a : Actor) (way : Way) (leaf : ℕ) (ts : List Task) (few : AreFew way
       by Starting few = goes c
       by (Stepping ev e) few = few
 
-  pub few-resume : (inner : Bool) (rest : Rest) (c : Config) → FewLeft (resume way inner rest leaf ts go c)
+  pub few-resume : (inner : Bool) (rest : CallState) (c : Config) → FewLeft (resume way inner rest leaf ts go c)
   few-resume inner rest c = by rest.stage
     where
       ended : (own : Answer) (b : Bool) → FewLeft (answered b way leaf ts go (record c { ok = ok_after own c.ok; kept = rest.kept }))
       ended own true = tt
       ended own false = few-done (record c { ok = ok_after own c.ok; kept = rest.kept })
 
-      by : (s : Stage) → FewLeft (resumed (stage_answer s) way inner rest leaf ts go c)
+      by : (s : CallStage) → FewLeft (resumed (stage_answer s) way inner rest leaf ts go c)
       by (Whole own) = ended own (is_assertion own)
       by s = few
 
@@ -47,7 +47,7 @@ module _ (a : Actor) (way : Way) (leaf : ℕ) (ts : List Task) (few : AreFew way
   unfolding deed_state
   few-deed (Sets var value) c = few-done (record c { vars = slice_set c.vars var value })
   few-deed (Says value) c = few
-  few-deed (Calls x) c = few-resume (has_inner way x) (rest_begin a.room c.kept x) c
+  few-deed (Calls x) c = few-resume (has_inner way x) (call_state_begin a.room c.kept x) c
 
   few-task : (t : Task) (c : Config) → FewLeft (task_state a way leaf ts go c t)
   unfolding task_state
@@ -90,7 +90,7 @@ module _ (sys : System) (a : Actor) (few : chart_able with_eight a.chart ≡ tru
   few-noted way true leaf ts c asked = few-done a way leaf ts asked (settle a way leaf ts) (λ d. few-settle a way leaf ts d asked) c
   few-noted way false leaf ts c asked = few-settle a way leaf ts c asked
 
-  few-posted : (b : Bool) (way : Way) (inner : Bool) (rest : Rest) (leaf : ℕ) (ts : List Task) (c : Config) → AreFew way ts → FewLeft (posted b a way inner rest leaf ts c)
+  few-posted : (b : Bool) (way : Way) (inner : Bool) (rest : CallState) (leaf : ℕ) (ts : List Task) (c : Config) → AreFew way ts → FewLeft (posted b a way inner rest leaf ts c)
   few-posted true way inner rest leaf ts c asked = asked
   few-posted false way inner rest leaf ts c asked = few-resume a way leaf ts asked (settle a way leaf ts) (λ d. few-settle a way leaf ts d asked) inner rest c
 
@@ -109,7 +109,7 @@ module _ (sys : System) (a : Actor) (few : chart_able with_eight a.chart ≡ tru
       subst FewLeft at.2 (few-settle a way leaf ts (record c { former = former }) h)
   few-next (AtPoint ev x ts leaf c) (Tell t) later e h = absurd (cc)
   few-next (InCall way inner rest ts leaf c) (Tell t) later e h =
-      let at = mapped (λ more. posted (inner && is_post t.body) a way inner more leaf ts (record c { kept = more.kept })) (rest_next sys a.o (moment_of way).entry rest t) later e in
+      let at = mapped (λ more. posted (inner && is_post t.body) a way inner more leaf ts (record c { kept = more.kept })) (call_state_next sys a.o (moment_of way).entry rest t) later e in
       subst FewLeft at.2 (few-posted (inner && is_post t.body) way inner at.0 leaf ts (record c { kept = at.0.kept }) h)
   few-next (AtPost way rest ts leaf c) (Tell t) later e h = absurd (cc)
   few-next (Releasing x c) (Tell t) later e h =

@@ -10,8 +10,8 @@ use Rattle.qp_model.specs.Told.{Told, Event}
 use Rattle.qp_model.specs.Calls.{ok_after, is_assertion}
 use Rattle.qp_model.specs.Pieces.{Tell, Point, ends_at_point}
 use Rattle.qp_model.specs.Acts.{Config, Actor}
-use Rattle.qp_fits.specs.Rest.{Stage, Whole, Rest}
-use Rattle.qp_fits.specs.RestNext.{stage_answer}
+use Rattle.qp_fits.specs.CallState.{CallStage, Whole, CallState}
+use Rattle.qp_fits.specs.CallStateNext.{stage_answer}
 use Rattle.qp_fits.specs.declared.pieces.Piece.{Piece}
 use Rattle.qp_fits.specs.declared.pieces.Piece.TheVariants as piece
 use Rattle.qp_fits.specs.AsPiece.{as_piece}
@@ -54,18 +54,18 @@ module _ (a : Actor) where
       by (suc p) = omega arith
   settled ev e leaf (t ∷ ts) c = shaped ev e leaf ts (settle a (Stepping ev e) leaf (t ∷ ts) c) (settle-shape a ev e leaf t ts c)
 
-  started : (inner : Bool) (rest : Rest) (leaf : ℕ) (ts : List Task) (c : Config) → points_left (resume Starting inner rest leaf ts (settle a Starting leaf ts) c) ≡ 0
+  started : (inner : Bool) (rest : CallState) (leaf : ℕ) (ts : List Task) (c : Config) → points_left (resume Starting inner rest leaf ts (settle a Starting leaf ts) c) ≡ 0
   started inner rest leaf ts c = by rest.stage
     where
       ended : (b : Bool) (d : Config) → points_left (answered b Starting leaf ts (settle a Starting leaf ts) d) ≡ 0
       ended true d = refl
       ended false d = none-left (settle a Starting leaf ts d) (start-none a leaf ts d)
 
-      by : (s : Stage) → points_left (resumed (stage_answer s) Starting inner rest leaf ts (settle a Starting leaf ts) c) ≡ 0
+      by : (s : CallStage) → points_left (resumed (stage_answer s) Starting inner rest leaf ts (settle a Starting leaf ts) c) ≡ 0
       by (Whole own) = ended (is_assertion own) (record c { ok = ok_after own c.ok; kept = rest.kept })
       by s = refl
 
-  resumes : (way : Way) (rest : Rest) (leaf : ℕ) (ts : List Task) (c : Config) → points_left (resume way true rest leaf ts (settle a way leaf ts) c) ≤ suc (length ts)
+  resumes : (way : Way) (rest : CallState) (leaf : ℕ) (ts : List Task) (c : Config) → points_left (resume way true rest leaf ts (settle a way leaf ts) c) ≤ suc (length ts)
   resumes Starting rest leaf ts c = omega (arith, started true rest leaf ts c)
   resumes (Stepping ev e) rest leaf ts c =
       shaped ev e leaf ts (resume (Stepping ev e) true rest leaf ts (settle a (Stepping ev e) leaf ts) c) (resume-shape a ev e leaf ts (settle a (Stepping ev e) leaf ts) true rest c)

@@ -14,13 +14,13 @@ use Rattle.qp_model.specs.Groups.{is_post}
 use Rattle.qp_model.specs.Calls.{Answer, is_assertion, ok_after}
 use Rattle.qp_model.specs.Pieces.{Piece, Tell, Point, tell, with_points, piece_of}
 use Rattle.qp_model.specs.Acts.{Config, Actor, Later, names_of}
-use Rattle.qp_fits.specs.Rest.{Rest}
-use Rattle.qp_fits.specs.RestNext.{rest_next, stage_answer}
+use Rattle.qp_fits.specs.CallState.{CallState}
+use Rattle.qp_fits.specs.CallStateNext.{call_state_next, stage_answer}
 use Rattle.qp_fits.specs.Reads.{Reads}
-use Rattle.qp_fits.specs.RestLaws.{ReadsBegin, ReadsWhole, ReadsNext}
+use Rattle.qp_fits.specs.CallStateLaws.{ReadsBegin, ReadsWhole, ReadsNext}
 use Rattle.qp_course.specs.Note.{body_of}
 use Rattle.qp_course.specs.Goes.{Aim, Way, Stepping, moment_of, Ends, StepsGo, LeftGoes, StepGoes}
-use Rattle.qp_course.specs.Machine.{State, Between, Telling, Raising, AtPoint, InCall, AtPost, Releasing, Returning, Asserted, inner_pieces, RestGoes, NoteEnds, Goes, resume, settle, noted, posted, step_state, tell_next, point_next, next, IsUnderWay}
+use Rattle.qp_course.specs.Machine.{State, Between, Telling, Raising, AtPoint, InCall, AtPost, Releasing, Returning, Asserted, inner_pieces, CallStateGoes, NoteEnds, Goes, resume, settle, noted, posted, step_state, tell_next, point_next, next, IsUnderWay}
 use Rattle.qp_course.proofs.NoteLemmas.{is-tells, is-raised, is-dropped, is-back}
 use Rattle.qp_course.proofs.CourseLemmas.{took-goes}
 use Rattle.qp_course.proofs.SettleLemmas.{into-settle, back-settle, into-resume, back-resume, into-done, back-done}
@@ -76,26 +76,26 @@ module _ (way : Way) (later : Later) (c : Config) (answer : Answer) (kept : List
   join true q zs ws ps e k = ap (λ us. q ∷ us) k ∙ sym e
   join false q zs ws ps e (more, k, ends) = (more, ap (λ us. q ∷ us) k ∙ ap (λ us. us ++ more) (sym e), ends)
 
-module _ (reads_next : ReadsNext) (sys : System) (a : Actor) (way : Way) (inner : Bool) (rest : Rest) (later : Later) (c : Config) where
+module _ (reads_next : ReadsNext) (sys : System) (a : Actor) (way : Way) (inner : Bool) (rest : CallState) (later : Later) (c : Config) where
   -- what is left of a call behind a record, with the point of a post
-  abbrev pub RestBehind : Told → Rest → List Piece → Type 0
-  RestBehind t more ps =
-      MatchBool (inner && is_post t.body) ((us : List Piece) × (ps ≡ Point ∷ us) × RestGoes sys a way true more later c us) (RestGoes sys a way inner more later c ps)
+  abbrev pub CallStateBehind : Told → CallState → List Piece → Type 0
+  CallStateBehind t more ps =
+      MatchBool (inner && is_post t.body) ((us : List Piece) × (ps ≡ Point ∷ us) × CallStateGoes sys a way true more later c us) (CallStateGoes sys a way inner more later c ps)
 
   -- a record at the front of a call that isn't whole
-  pub rest-first : (p : Piece) (ps : List Piece) → stage_answer rest.stage ≡ None → RestGoes sys a way inner rest later c (p ∷ ps)
-      → (t : Told) × (more : Rest) × (p ≡ Tell t) × (rest_next sys a.o (moment_of way).entry rest t ≡ Some more) × RestBehind t more ps
-  unfolding RestGoes Reads
+  pub rest-first : (p : Piece) (ps : List Piece) → stage_answer rest.stage ≡ None → CallStateGoes sys a way inner rest later c (p ∷ ps)
+      → (t : Told) × (more : CallState) × (p ≡ Tell t) × (call_state_next sys a.o (moment_of way).entry rest t ≡ Some more) × CallStateBehind t more ps
+  unfolding CallStateGoes Reads
   rest-first p ps part (answer, [], kept, reads, k) =
-      let wrong : stage_answer rest.stage ≡ Some answer = ap (λ (r : Rest). stage_answer r.stage) reads in absurd (cc)
+      let wrong : stage_answer rest.stage ≡ Some answer = ap (λ (r : CallState). stage_answer r.stage) reads in absurd (cc)
   rest-first p ps part (answer, t ∷ g, kept, reads, k) =
       let step = (reads_next sys a.o (moment_of way).entry rest answer kept t g).0 reads in
       by step.0 step.1 step.2 (inner-first inner t g)
     where
-      by : (more : Rest) → rest_next sys a.o (moment_of way).entry rest t ≡ Some more → Reads sys a.o (moment_of way).entry more answer kept g
+      by : (more : CallState) → call_state_next sys a.o (moment_of way).entry rest t ≡ Some more → Reads sys a.o (moment_of way).entry more answer kept g
           → ((inner && is_post t.body ≡ true) × (inner_pieces inner (t ∷ g) ≡ Tell t ∷ Point ∷ inner_pieces true g))
           ⊎ ((inner && is_post t.body ≡ false) × (inner_pieces inner (t ∷ g) ≡ Tell t ∷ inner_pieces inner g))
-          → (t : Told) × (more : Rest) × (p ≡ Tell t) × (rest_next sys a.o (moment_of way).entry rest t ≡ Some more) × RestBehind t more ps
+          → (t : Told) × (more : CallState) × (p ≡ Tell t) × (call_state_next sys a.o (moment_of way).entry rest t ≡ Some more) × CallStateBehind t more ps
       by more is left (inl (post, shape)) =
           let cut = strip way later c answer kept (is_assertion answer) (Tell t) p (Point ∷ inner_pieces true g) (inner_pieces inner (t ∷ g)) ps shape k in
           let at = point way later c answer kept (is_assertion answer) (inner_pieces true g) ps cut.1 in
@@ -105,19 +105,19 @@ module _ (reads_next : ReadsNext) (sys : System) (a : Actor) (way : Way) (inner 
           (t, more, cut.0, is, rw other (answer, g, kept, left, cut.1))
 
   -- and back
-  pub first-rest : (t : Told) (more : Rest) (ps : List Piece) → rest_next sys a.o (moment_of way).entry rest t ≡ Some more → RestBehind t more ps
-      → RestGoes sys a way inner rest later c (Tell t ∷ ps)
-  unfolding RestGoes
+  pub first-rest : (t : Told) (more : CallState) (ps : List Piece) → call_state_next sys a.o (moment_of way).entry rest t ≡ Some more → CallStateBehind t more ps
+      → CallStateGoes sys a way inner rest later c (Tell t ∷ ps)
+  unfolding CallStateGoes
   first-rest t more ps is h = by (inner && is_post t.body) refl h
     where
       by : (b : Bool) → (inner && is_post t.body) ≡ b
-          → MatchBool b ((us : List Piece) × (ps ≡ Point ∷ us) × RestGoes sys a way true more later c us) (RestGoes sys a way inner more later c ps)
-          → RestGoes sys a way inner rest later c (Tell t ∷ ps)
+          → MatchBool b ((us : List Piece) × (ps ≡ Point ∷ us) × CallStateGoes sys a way true more later c us) (CallStateGoes sys a way inner more later c ps)
+          → CallStateGoes sys a way inner rest later c (Tell t ∷ ps)
       by true post (us, e, (answer, g, kept, left, k)) = at (inner-first inner t g)
         where
           at : ((inner && is_post t.body ≡ true) × (inner_pieces inner (t ∷ g) ≡ Tell t ∷ Point ∷ inner_pieces true g))
               ⊎ ((inner && is_post t.body ≡ false) × (inner_pieces inner (t ∷ g) ≡ Tell t ∷ inner_pieces inner g))
-              → RestGoes sys a way inner rest later c (Tell t ∷ ps)
+              → CallStateGoes sys a way inner rest later c (Tell t ∷ ps)
           at (inl (_, shape)) =
               let one : Tail way later c answer kept (is_assertion answer) (Point ∷ inner_pieces true g) ps =
               subst (Tail way later c answer kept (is_assertion answer) (Point ∷ inner_pieces true g)) (sym e)
@@ -133,7 +133,7 @@ module _ (reads_next : ReadsNext) (sys : System) (a : Actor) (way : Way) (inner 
         where
           at : ((inner && is_post t.body ≡ true) × (inner_pieces inner (t ∷ g) ≡ Tell t ∷ Point ∷ inner_pieces true g))
               ⊎ ((inner && is_post t.body ≡ false) × (inner_pieces inner (t ∷ g) ≡ Tell t ∷ inner_pieces inner g))
-              → RestGoes sys a way inner rest later c (Tell t ∷ ps)
+              → CallStateGoes sys a way inner rest later c (Tell t ∷ ps)
           at (inl (post, shape)) = absurd (cc)
           at (inr (_, shape)) = (
             answer,
@@ -154,17 +154,17 @@ module _ (begin : ReadsBegin) (whole : ReadsWhole) (reads_next : ReadsNext) (sys
   back-noted way true leaf ts c ps h = back-done sys a aim way leaf ts (settle a way leaf ts) (λ d zs k. back-settle begin sys a aim way leaf ts d zs k) c ps h
   back-noted way false leaf ts c ps h = back-settle begin sys a aim way leaf ts c ps h
 
-  into-posted : (b : Bool) (way : Way) (inner : Bool) (rest : Rest) (leaf : ℕ) (ts : List Task) (c : Config) (ps : List Piece)
-      → MatchBool b ((more : List Piece) × (ps ≡ Point ∷ more) × RestGoes sys a way true rest (LeftGoes sys a aim way ts leaf) c more) (RestGoes sys a way inner rest (LeftGoes sys a aim way ts leaf) c ps)
+  into-posted : (b : Bool) (way : Way) (inner : Bool) (rest : CallState) (leaf : ℕ) (ts : List Task) (c : Config) (ps : List Piece)
+      → MatchBool b ((more : List Piece) × (ps ≡ Point ∷ more) × CallStateGoes sys a way true rest (LeftGoes sys a aim way ts leaf) c more) (CallStateGoes sys a way inner rest (LeftGoes sys a aim way ts leaf) c ps)
       → Goes sys a aim (posted b a way inner rest leaf ts c) ps
   unfolding Goes
   into-posted true way inner rest leaf ts c ps h = h
   into-posted false way inner rest leaf ts c ps h =
       into-resume sys a aim way leaf ts (settle a way leaf ts) whole (λ d zs k. into-settle begin whole sys a aim way leaf ts d zs k) inner rest c ps h
 
-  pub back-posted : (b : Bool) (way : Way) (inner : Bool) (rest : Rest) (leaf : ℕ) (ts : List Task) (c : Config) (ps : List Piece)
+  pub back-posted : (b : Bool) (way : Way) (inner : Bool) (rest : CallState) (leaf : ℕ) (ts : List Task) (c : Config) (ps : List Piece)
       → Goes sys a aim (posted b a way inner rest leaf ts c) ps
-      → MatchBool b ((more : List Piece) × (ps ≡ Point ∷ more) × RestGoes sys a way true rest (LeftGoes sys a aim way ts leaf) c more) (RestGoes sys a way inner rest (LeftGoes sys a aim way ts leaf) c ps)
+      → MatchBool b ((more : List Piece) × (ps ≡ Point ∷ more) × CallStateGoes sys a way true rest (LeftGoes sys a aim way ts leaf) c more) (CallStateGoes sys a way inner rest (LeftGoes sys a aim way ts leaf) c ps)
   unfolding Goes
   back-posted true way inner rest leaf ts c ps h = h
   back-posted false way inner rest leaf ts c ps h =
@@ -205,8 +205,8 @@ module _ (begin : ReadsBegin) (whole : ReadsWhole) (reads_next : ReadsNext) (sys
   goes-next (InCall way inner rest ts leaf c) p ps under h =
       by (rest-first reads_next sys a way inner rest (LeftGoes sys a aim way ts leaf) c p ps under h)
     where
-      by : (t : Told) × (more : Rest) × (p ≡ Tell t) × (rest_next sys a.o (moment_of way).entry rest t ≡ Some more)
-          × RestBehind reads_next sys a way inner rest (LeftGoes sys a aim way ts leaf) c t more ps → Behind sys a aim (InCall way inner rest ts leaf c) p ps
+      by : (t : Told) × (more : CallState) × (p ≡ Tell t) × (call_state_next sys a.o (moment_of way).entry rest t ≡ Some more)
+          × CallStateBehind reads_next sys a way inner rest (LeftGoes sys a aim way ts leaf) c t more ps → Behind sys a aim (InCall way inner rest ts leaf c) p ps
       by (t, more, is, left, k) =
           subst (λ q. Behind sys a aim (InCall way inner rest ts leaf c) q ps) (sym is) (
             posted (inner && is_post t.body) a way inner more leaf ts (record c { kept = more.kept }),
@@ -219,7 +219,7 @@ module _ (begin : ReadsBegin) (whole : ReadsWhole) (reads_next : ReadsNext) (sys
         resume way true rest leaf ts (settle a way leaf ts) c,
         refl,
         into-resume sys a aim way leaf ts (settle a way leaf ts) whole (λ d zs k. into-settle begin whole sys a aim way leaf ts d zs k) true rest c ps
-            (subst (RestGoes sys a way true rest (LeftGoes sys a aim way ts leaf) c) (sym others) k),
+            (subst (CallStateGoes sys a way true rest (LeftGoes sys a aim way ts leaf) c) (sym others) k),
       )
   goes-next (Releasing e c) p ps under (rel, rest, inl (d, left, is), split, k) =
       let whole_list : p ∷ ps ≡ Tell (dropped e.pool e.block d e.name (suc left)) ∷ rest = split ∙ ap (λ zs. tell zs ++ rest) is in

@@ -9,9 +9,9 @@ use Rattle.qp_model.specs.Told.{Event}
 use Rattle.qp_model.specs.Calls.{Answer, Deed, Sets, Says, Calls, deed_of, ok_after, is_assertion}
 use Rattle.qp_model.specs.Pieces.{Piece, Point, bare}
 use Rattle.qp_model.specs.Acts.{Config, Actor, names_of}
-use Rattle.qp_fits.specs.Rest.{Stage, Whole, Rest}
-use Rattle.qp_fits.specs.RestNext.{rest_begin, stage_answer}
-use Rattle.qp_fits.specs.RestLaws.{ReadsBegin, ReadsWhole, ReadsNext}
+use Rattle.qp_fits.specs.CallState.{CallStage, Whole, CallState}
+use Rattle.qp_fits.specs.CallStateNext.{call_state_begin, stage_answer}
+use Rattle.qp_fits.specs.CallStateLaws.{ReadsBegin, ReadsWhole, ReadsNext}
 use Rattle.qp_course.specs.Goes.{Aim, Way, Starting, Stepping, moment_of}
 use Rattle.qp_course.specs.Machine.{State, Between, Telling, Raising, AtPoint, InCall, AtPost, Releasing, Returning, Asserted, Goes, has_inner, answered, resumed, resume, deed_state, task_state, closed, closing, settle, point_next, next, expects_point}
 use Rattle.qp_course.specs.Passing.{through, settle_past, pass_actions, pass}
@@ -35,14 +35,14 @@ abbrev pub Shape : (ev : Event) (e : Entry) → ℕ → List Task → State → 
 Shape ev e leaf ts s = ((c : Config) × (s ≡ AtPoint ev e ts leaf c)) ⊎ (expects_point s ≡ false)
 
 module _ (a : Actor) (ev : Event) (e : Entry) (leaf : ℕ) (ts : List Task) (go : Config → State) where
-  pub resume-shape : (inner : Bool) (rest : Rest) (c : Config) → Shape ev e leaf ts (resume (Stepping ev e) inner rest leaf ts go c)
+  pub resume-shape : (inner : Bool) (rest : CallState) (c : Config) → Shape ev e leaf ts (resume (Stepping ev e) inner rest leaf ts go c)
   resume-shape inner rest c = by rest.stage
     where
       ended : (own : Answer) (b : Bool) (d : Config) → Shape ev e leaf ts (answered b (Stepping ev e) leaf ts go d)
       ended own true d = inr refl
       ended own false d = inl (d, refl)
 
-      by : (s : Stage) → Shape ev e leaf ts (resumed (stage_answer s) (Stepping ev e) inner rest leaf ts go c)
+      by : (s : CallStage) → Shape ev e leaf ts (resumed (stage_answer s) (Stepping ev e) inner rest leaf ts go c)
       by (Whole own) = ended own (is_assertion own) (record c { ok = ok_after own c.ok; kept = rest.kept })
       by s = inr refl
 
@@ -50,7 +50,7 @@ module _ (a : Actor) (ev : Event) (e : Entry) (leaf : ℕ) (ts : List Task) (go 
   unfolding deed_state
   deed-shape (Sets var value) c = inl (record c { vars = slice_set c.vars var value }, refl)
   deed-shape (Says value) c = inr refl
-  deed-shape (Calls x) c = resume-shape (has_inner (Stepping ev e) x) (rest_begin a.room c.kept x) c
+  deed-shape (Calls x) c = resume-shape (has_inner (Stepping ev e) x) (call_state_begin a.room c.kept x) c
 
   task-shape : (t : Task) (c : Config) → Shape ev e leaf ts (task_state a (Stepping ev e) leaf ts go c t)
   unfolding task_state
@@ -122,14 +122,14 @@ module _ (a : Actor) where
       ended none true d = refl
       ended none false d = none d
 
-      by_stage : ((d : Config) → expects_point (settle a Starting leaf ts d) ≡ false) → (inner : Bool) (rest : Rest) (s : Stage) → expects_point (resumed (stage_answer s) Starting inner rest leaf ts (λ d. settle a Starting leaf ts d) c) ≡ false
+      by_stage : ((d : Config) → expects_point (settle a Starting leaf ts d) ≡ false) → (inner : Bool) (rest : CallState) (s : CallStage) → expects_point (resumed (stage_answer s) Starting inner rest leaf ts (λ d. settle a Starting leaf ts d) c) ≡ false
       by_stage none inner rest (Whole own) = ended none (is_assertion own) (record c { ok = ok_after own c.ok; kept = rest.kept })
       by_stage none inner rest s = refl
 
       by_deed : ((d : Config) → expects_point (settle a Starting leaf ts d) ≡ false) → (d : Deed) → expects_point (deed_state a Starting leaf ts (λ d. settle a Starting leaf ts d) c d) ≡ false
       by_deed none (Sets var value) = none (record c { vars = slice_set c.vars var value })
       by_deed none (Says value) = refl
-      by_deed none (Calls x) = by_stage none (has_inner Starting x) (rest_begin a.room c.kept x) (rest_begin a.room c.kept x).stage
+      by_deed none (Calls x) = by_stage none (has_inner Starting x) (call_state_begin a.room c.kept x) (call_state_begin a.room c.kept x).stage
 
       by_task : ((d : Config) → expects_point (settle a Starting leaf ts d) ≡ false) → (t : Task) → expects_point (task_state a Starting leaf ts (λ d. settle a Starting leaf ts d) c t) ≡ false
       by_task none (task.Do p) = by_deed none (deed_of (names_of a c (moment_of Starting).event) p)
@@ -144,7 +144,7 @@ module _ (a : Actor) where
       by_task none task.Done = refl
 
   -- behind a post of a publication an action's point is expected, or none
-  resume-plain : (way : Way) (inner : Bool) (rest : Rest) (ts : List Task) (leaf : ℕ) (c : Config)
+  resume-plain : (way : Way) (inner : Bool) (rest : CallState) (ts : List Task) (leaf : ℕ) (c : Config)
       → pass a (resume way inner rest leaf ts (settle a way leaf ts) c) ≡ pass_actions a (resume way inner rest leaf ts (settle a way leaf ts) c)
   resume-plain (Stepping ev e) inner rest ts leaf c = by (resume (Stepping ev e) inner rest leaf ts (settle a (Stepping ev e) leaf ts) c) (resume-shape a ev e leaf ts (settle a (Stepping ev e) leaf ts) inner rest c)
     where
@@ -163,7 +163,7 @@ module _ (a : Actor) where
       ended true d = none Asserted refl
       ended false d = none (settle a Starting leaf ts d) (start-none leaf ts d)
 
-      by_stage : (s : Stage) → pass a (resumed (stage_answer s) Starting inner rest leaf ts (settle a Starting leaf ts) c)
+      by_stage : (s : CallStage) → pass a (resumed (stage_answer s) Starting inner rest leaf ts (settle a Starting leaf ts) c)
           ≡ pass_actions a (resumed (stage_answer s) Starting inner rest leaf ts (settle a Starting leaf ts) c)
       by_stage (Whole own) = ended (is_assertion own) (record c { ok = ok_after own c.ok; kept = rest.kept })
       by_stage s = none (InCall Starting inner rest ts leaf c) refl

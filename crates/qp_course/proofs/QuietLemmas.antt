@@ -11,9 +11,9 @@ use Rattle.qp_model.specs.Record.{entry}
 use Rattle.qp_model.specs.Told.{Told, Known}
 use Rattle.qp_model.specs.Parts.{is_static, sizes_of, timer_number}
 use Rattle.qp_model.specs.OutputSummary.{is_took, is_done}
-use Rattle.qp_fits.specs.Rest.{Behind, Goal, ToQueue, ToFront, ToDeferred, ToSet, Stage, Begins, Refers, Puts, Raises, Restores, Drops, Returns, Flushes, Whole, Rest}
-use Rattle.qp_fits.specs.RestNext as next
-use Rattle.qp_fits.specs.RestNext.{rest_next, stage_next, put_next}
+use Rattle.qp_fits.specs.CallState.{Behind, Goal, ToQueue, ToFront, ToDeferred, ToSet, CallStage, Begins, Refers, Puts, Raises, Restores, Drops, Returns, Flushes, Whole, CallState}
+use Rattle.qp_fits.specs.CallStateNext as next
+use Rattle.qp_fits.specs.CallStateNext.{call_state_next, stage_next, put_next}
 
 abbrev pub begins_or_ends : Body → Bool
 begins_or_ends item.Done = true
@@ -172,7 +172,7 @@ module _ (sys : System) (o : ℕ) (b : Body) (known : Known) (h : begins_or_ends
   begin-none now kept room (call.Rearm t ticks) = rearm-none _ ticks b known h
   begin-none now kept room (call.Disarm t) = disarm-none _ b known h
 
-  stage-none : (now : Option Entry) (kept : List Entry) (s : Stage) → stage_next sys o now kept s b known ≡ None
+  stage-none : (now : Option Entry) (kept : List Entry) (s : CallStage) → stage_next sys o now kept s b known ≡ None
   unfolding next.stage_next
   stage-none now kept (Begins room x) = begin-none now kept room x
   stage-none now kept (Refers p q goal) = refer-none p q goal b known h
@@ -190,9 +190,9 @@ neither (item.Took f l m e) h = absurd (cc)
 neither b h = (refl, refl)
 
 -- a record of a call
-pub call-plain : (sys : System) (o : ℕ) (now : Option Entry) (rest : Rest) (t : Told) (more : Rest) → rest_next sys o now rest t ≡ Some more
+pub call-plain : (sys : System) (o : ℕ) (now : Option Entry) (rest : CallState) (t : Told) (more : CallState) → call_state_next sys o now rest t ≡ Some more
     → (is_done t.body ≡ false) × (is_took t.body ≡ false)
-unfolding rest_next
+unfolding call_state_next
 call-plain sys o now rest t more e = by (begins_or_ends t.body) refl
   where
     by : (b : Bool) → begins_or_ends t.body ≡ b → (is_done t.body ≡ false) × (is_took t.body ≡ false)

@@ -18,10 +18,10 @@ use Rattle.qp_model.specs.Pieces.{Piece, Tell, Point}
 use Rattle.qp_model.specs.Acts.{Config, Actor, names_of}
 use Rattle.qp_model.proofs.AbleLemmas.{step-able, start-able}
 use Rattle.qp_model.proofs.Completes.{able-first, able-rest}
-use Rattle.qp_fits.specs.Rest.{Stage, Whole, Rest}
-use Rattle.qp_fits.specs.RestNext.{rest_begin, rest_next, stage_answer}
+use Rattle.qp_fits.specs.CallState.{CallStage, Whole, CallState}
+use Rattle.qp_fits.specs.CallStateNext.{call_state_begin, call_state_next, stage_answer}
 use Rattle.qp_fits.specs.Reads.{Reads, call_able}
-use Rattle.qp_fits.specs.RestLaws.{ReadsBegin, ReadsNext, OpenBegin, OpenNext}
+use Rattle.qp_fits.specs.CallStateLaws.{ReadsBegin, ReadsNext, OpenBegin, OpenNext}
 use Rattle.qp_course.specs.Note.{tells, raised_from, taken_by, dropped_by, comes_back}
 use Rattle.qp_course.specs.Goes.{Way, Starting, Stepping, moment_of}
 use Rattle.qp_course.specs.Machine.{State, Between, Telling, Raising, AtPoint, InCall, AtPost, Releasing, Returning, Asserted, has_inner, done, answered, resumed, resume, deed_state, task_state, closed, settle, noted, posted, step_state, start_state, left_over, tell_next, point_next, next}
@@ -62,7 +62,7 @@ module _ (sys : System) (a : Actor) (way : Way) (leaf : ℕ) (ts : List Task) (a
       by Starting able = ready c within
       by (Stepping ev e) able = (able, within)
 
-  pub ready-resume : (inner : Bool) (rest : Rest) (c : Config) → CanGoOn sys a way rest → IsReady sys a (resume way inner rest leaf ts go c)
+  pub ready-resume : (inner : Bool) (rest : CallState) (c : Config) → CanGoOn sys a way rest → IsReady sys a (resume way inner rest leaf ts go c)
   unfolding Reads
   ready-resume inner rest c can = by rest.stage refl
     where
@@ -70,12 +70,12 @@ module _ (sys : System) (a : Actor) (way : Way) (leaf : ℕ) (ts : List Task) (a
       ended own true within = tt
       ended own false within = ready-done (record c { ok = ok_after own c.ok; kept = rest.kept }) within
 
-      by : (s : Stage) → rest.stage ≡ s → IsReady sys a (resumed (stage_answer s) way inner rest leaf ts go c)
+      by : (s : CallStage) → rest.stage ≡ s → IsReady sys a (resumed (stage_answer s) way inner rest leaf ts go c)
       by (Whole own) is = ended own (is_assertion own) (can.within own rest.kept [] (ap (λ s. record { stage = s; kept = rest.kept }) is))
       by s is = (ap stage_answer is, can, able)
 
   ready-begin : ReadsBegin → OpenBegin → (x : Call) (c : Config) → call_able sys (moment_of way).entry x ≡ true → IsWithin a c
-      → CanGoOn sys a way (rest_begin a.room c.kept x)
+      → CanGoOn sys a way (call_state_begin a.room c.kept x)
   ready-begin begin first x c asked within = record {
     some = first sys (moment_of way).entry a.room c.kept x asked;
     within = λ answer kept g reads.
@@ -89,7 +89,7 @@ module _ (sys : System) (a : Actor) (way : Way) (leaf : ℕ) (ts : List Task) (a
   unfolding deed_state
   ready-deed begin first (Sets var value) c asked within = ready-done (record c { vars = slice_set c.vars var value }) within
   ready-deed begin first (Says value) c asked within = (able, within)
-  ready-deed begin first (Calls x) c asked within = ready-resume (has_inner way x) (rest_begin a.room c.kept x) c (ready-begin begin first x c asked within)
+  ready-deed begin first (Calls x) c asked within = ready-resume (has_inner way x) (call_state_begin a.room c.kept x) c (ready-begin begin first x c asked within)
 
   ready-task : ReadsBegin → OpenBegin → (t : Task) (c : Config) → task_able sys (is_some (moment_of way).entry) t ≡ true → IsWithin a c
       → IsReady sys a (task_state a way leaf ts go c t)
@@ -136,14 +136,14 @@ module _ (begin : ReadsBegin) (reads_next : ReadsNext) (first : OpenBegin) (open
   ready-noted way true leaf ts c asked within = ready-done sys a way leaf ts asked (settle a way leaf ts) (λ d w. ready-settle begin first sys a way leaf ts d asked w) c within
   ready-noted way false leaf ts c asked within = ready-settle begin first sys a way leaf ts c asked within
 
-  ready-posted : (b : Bool) (way : Way) (inner : Bool) (rest : Rest) (leaf : ℕ) (ts : List Task) (c : Config) → AreAble sys way ts → CanGoOn sys a way rest
+  ready-posted : (b : Bool) (way : Way) (inner : Bool) (rest : CallState) (leaf : ℕ) (ts : List Task) (c : Config) → AreAble sys way ts → CanGoOn sys a way rest
       → IsReady sys a (posted b a way inner rest leaf ts c)
   ready-posted true way inner rest leaf ts c asked can = (can, asked)
   ready-posted false way inner rest leaf ts c asked can =
       ready-resume sys a way leaf ts asked (settle a way leaf ts) (λ d w. ready-settle begin first sys a way leaf ts d asked w) inner rest c can
 
   -- a record of a call leaves it so
-  pub can-next : (way : Way) (rest more : Rest) (t : Told) → rest_next sys a.o (moment_of way).entry rest t ≡ Some more → CanGoOn sys a way rest → CanGoOn sys a way more
+  pub can-next : (way : Way) (rest more : CallState) (t : Told) → call_state_next sys a.o (moment_of way).entry rest t ≡ Some more → CanGoOn sys a way rest → CanGoOn sys a way more
   can-next way rest more t is can = record {
     some = open_next sys a.o (moment_of way).entry rest more t is;
     within = λ answer kept g reads. can.within answer kept (t ∷ g) ((reads_next sys a.o (moment_of way).entry rest answer kept t g).1 (more, is, reads));
@@ -164,7 +164,7 @@ module _ (begin : ReadsBegin) (reads_next : ReadsNext) (first : OpenBegin) (open
       subst (IsReady sys a) at.2 (ready-settle begin first sys a way leaf ts (record c { former = former }) h.0 h.1)
   ready-next (AtPoint ev x ts leaf c) (Tell t) later e h = absurd (cc)
   ready-next (InCall way inner rest ts leaf c) (Tell t) later e h =
-      let at = mapped (λ more. posted (inner && is_post t.body) a way inner more leaf ts (record c { kept = more.kept })) (rest_next sys a.o (moment_of way).entry rest t) later e in
+      let at = mapped (λ more. posted (inner && is_post t.body) a way inner more leaf ts (record c { kept = more.kept })) (call_state_next sys a.o (moment_of way).entry rest t) later e in
       subst (IsReady sys a) at.2 (ready-posted (inner && is_post t.body) way inner at.0 leaf ts (record c { kept = at.0.kept }) h.2 (can-next way rest at.0 t at.1 h.1))
   ready-next (AtPost way rest ts leaf c) (Tell t) later e h = absurd (cc)
   ready-next (Releasing x c) (Tell t) later e h =

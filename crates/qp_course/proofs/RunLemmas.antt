@@ -7,7 +7,7 @@ use Rattle.qp_model.specs.Pieces.{Piece, Tell, Point, ends_at_point, begins_at_p
 use Rattle.qp_model.specs.Able.{chart_able}
 use Rattle.qp_model.specs.Acts.{Config, Actor}
 use Rattle.qp_model.specs.Course.{Cut, Whole, Stopped, Anywhere}
-use Rattle.qp_fits.specs.RestLaws.{ReadsBegin, ReadsWhole, ReadsNext, OpenBegin, OpenNext, OpenReads}
+use Rattle.qp_fits.specs.CallStateLaws.{ReadsBegin, ReadsWhole, ReadsNext, OpenBegin, OpenNext, OpenReads}
 use Rattle.qp_chart.specs.Agenda.{start_plan}
 use Rattle.qp_course.specs.Goes.{anywhere, Starting, CourseGoes}
 use Rattle.qp_course.specs.Machine.{State, Between, Telling, Raising, AtPoint, InCall, AtPost, Releasing, Returning, Asserted, Goes, start_state, point_next, next, run, is_end, expects_point, IsUnderWay}

@@ -12,12 +12,12 @@ use Rattle.qp_model.specs.Calls.{Call, Answer, Deed, Sets, Says, Calls, deed_of,
 use Rattle.qp_model.specs.Shapes.{Drops, releases_by}
 use Rattle.qp_model.specs.Pieces.{Piece, tell, pieces_of, with_points}
 use Rattle.qp_model.specs.Acts.{Config, Actor, Later, names_of}
-use Rattle.qp_fits.specs.Rest.{Stage, Whole, Rest}
-use Rattle.qp_fits.specs.RestNext.{rest_begin, stage_answer}
+use Rattle.qp_fits.specs.CallState.{CallStage, Whole, CallState}
+use Rattle.qp_fits.specs.CallStateNext.{call_state_begin, stage_answer}
 use Rattle.qp_fits.specs.Reads.{Reads}
-use Rattle.qp_fits.specs.RestLaws.{ReadsBegin, ReadsWhole}
+use Rattle.qp_fits.specs.CallStateLaws.{ReadsBegin, ReadsWhole}
 use Rattle.qp_course.specs.Goes.{Aim, Way, Starting, Stepping, moment_of, Ends, call_pieces, CallGoes, DeedGoes, TaskGoes, TasksGo, Closing, StepsGo, LeftGoes}
-use Rattle.qp_course.specs.Machine.{State, inner_pieces, has_inner, RestGoes, Goes, done, answered, resumed, resume, deed_state, task_state, closed, settle}
+use Rattle.qp_course.specs.Machine.{State, inner_pieces, has_inner, CallStateGoes, Goes, done, answered, resumed, resume, deed_state, task_state, closed, settle}
 
 -- the pieces of a call, by whether it has points inside
 pub pieces-inner : (way : Way) (x : Call) (g : List Told) → call_pieces way x g ≡ inner_pieces (has_inner way x) g
@@ -71,9 +71,9 @@ module _ (sys : System) (a : Actor) (aim : Aim) (way : Way) (leaf : ℕ) (ts : L
   none false = refl
 
   -- the rest of a call, or what comes after it
-  pub into-resume : ReadsWhole → Into → (inner : Bool) (rest : Rest) (c : Config) (ps : List Piece)
-      → RestGoes sys a way inner rest (LeftGoes sys a aim way ts leaf) c ps → Goes sys a aim (resume way inner rest leaf ts go c) ps
-  unfolding Goes RestGoes
+  pub into-resume : ReadsWhole → Into → (inner : Bool) (rest : CallState) (c : Config) (ps : List Piece)
+      → CallStateGoes sys a way inner rest (LeftGoes sys a aim way ts leaf) c ps → Goes sys a aim (resume way inner rest leaf ts go c) ps
+  unfolding Goes CallStateGoes
   into-resume whole into inner rest c ps h = by rest.stage refl h
     where
       ended : (own : Answer) (b : Bool)
@@ -84,9 +84,9 @@ module _ (sys : System) (a : Actor) (aim : Aim) (way : Way) (leaf : ℕ) (ts : L
           let same : ps ≡ k.0 = k.1 ∙ ap (λ zs. zs ++ k.0) (none inner) in
           into-done into (record c { ok = ok_after own c.ok; kept = rest.kept }) ps (subst (Ends way (LeftGoes sys a aim way ts leaf (record c { ok = ok_after own c.ok; kept = rest.kept }))) (sym same) k.2)
 
-      by : (s : Stage) → rest.stage ≡ s → RestGoes sys a way inner rest (LeftGoes sys a aim way ts leaf) c ps → Goes sys a aim (resumed (stage_answer s) way inner rest leaf ts go c) ps
+      by : (s : CallStage) → rest.stage ≡ s → CallStateGoes sys a way inner rest (LeftGoes sys a aim way ts leaf) c ps → Goes sys a aim (resumed (stage_answer s) way inner rest leaf ts go c) ps
       by (Whole own) is (answer, g, kept, reads, k) =
-          let here : Rest = record { stage = Whole own; kept = rest.kept } in
+          let here : CallState = record { stage = Whole own; kept = rest.kept } in
           let at : rest ≡ here = ap (λ s. record { stage = s; kept = rest.kept }) is in
           let w = whole sys a.o (moment_of way).entry own answer rest.kept kept g (subst (λ r. Reads sys a.o (moment_of way).entry r answer kept g) at reads) in
           let one : Follows way (LeftGoes sys a aim way ts leaf) c ps (inner_pieces inner []) answer kept = subst (λ zs. Follows way (LeftGoes sys a aim way ts leaf) c ps (inner_pieces inner zs) answer kept) w.0 k in
@@ -96,9 +96,9 @@ module _ (sys : System) (a : Actor) (aim : Aim) (way : Way) (leaf : ℕ) (ts : L
       by s is k = k
 
   -- and back
-  pub back-resume : Back → (inner : Bool) (rest : Rest) (c : Config) (ps : List Piece)
-      → Goes sys a aim (resume way inner rest leaf ts go c) ps → RestGoes sys a way inner rest (LeftGoes sys a aim way ts leaf) c ps
-  unfolding Goes RestGoes Reads
+  pub back-resume : Back → (inner : Bool) (rest : CallState) (c : Config) (ps : List Piece)
+      → Goes sys a aim (resume way inner rest leaf ts go c) ps → CallStateGoes sys a way inner rest (LeftGoes sys a aim way ts leaf) c ps
+  unfolding Goes CallStateGoes Reads
   back-resume back inner rest c ps h = by rest.stage refl h
     where
       ended : (own : Answer) (b : Bool) → Goes sys a aim (answered b way leaf ts go (record c { ok = ok_after own c.ok; kept = rest.kept })) ps
@@ -106,14 +106,14 @@ module _ (sys : System) (a : Actor) (aim : Aim) (way : Way) (leaf : ℕ) (ts : L
       ended own true k = k ∙ sym (none inner)
       ended own false k = (ps, ap (λ zs. zs ++ ps) (sym (none inner)), back-done back (record c { ok = ok_after own c.ok; kept = rest.kept }) ps k)
 
-      by : (s : Stage) → rest.stage ≡ s → Goes sys a aim (resumed (stage_answer s) way inner rest leaf ts go c) ps → RestGoes sys a way inner rest (LeftGoes sys a aim way ts leaf) c ps
+      by : (s : CallStage) → rest.stage ≡ s → Goes sys a aim (resumed (stage_answer s) way inner rest leaf ts go c) ps → CallStateGoes sys a way inner rest (LeftGoes sys a aim way ts leaf) c ps
       by (Whole own) is k = (own, [], rest.kept, ap (λ s. record { stage = s; kept = rest.kept }) is, ended own (is_assertion own) k)
       by s is k = k
 
   -- a call that begins
   into-call : ReadsBegin → (x : Call) (c : Config) (ps : List Piece) → CallGoes sys a way c (LeftGoes sys a aim way ts leaf) x ps
-      → RestGoes sys a way (has_inner way x) (rest_begin a.room c.kept x) (LeftGoes sys a aim way ts leaf) c ps
-  unfolding CallGoes RestGoes
+      → CallStateGoes sys a way (has_inner way x) (call_state_begin a.room c.kept x) (LeftGoes sys a aim way ts leaf) c ps
+  unfolding CallGoes CallStateGoes
   into-call begin x c ps (answer, g, kept, fits, keeps, k) = (
     answer,
     g,
@@ -122,9 +122,9 @@ module _ (sys : System) (a : Actor) (aim : Aim) (way : Way) (leaf : ℕ) (ts : L
     subst (λ zs. Follows way (LeftGoes sys a aim way ts leaf) c ps zs answer kept) (pieces-inner way x g) k,
   )
 
-  back-call : ReadsBegin → (x : Call) (c : Config) (ps : List Piece) → RestGoes sys a way (has_inner way x) (rest_begin a.room c.kept x) (LeftGoes sys a aim way ts leaf) c ps
+  back-call : ReadsBegin → (x : Call) (c : Config) (ps : List Piece) → CallStateGoes sys a way (has_inner way x) (call_state_begin a.room c.kept x) (LeftGoes sys a aim way ts leaf) c ps
       → CallGoes sys a way c (LeftGoes sys a aim way ts leaf) x ps
-  unfolding CallGoes RestGoes
+  unfolding CallGoes CallStateGoes
   back-call begin x c ps (answer, g, kept, reads, k) =
       let both = (begin sys a.o (moment_of way).entry a.room c.kept x answer kept g).0 reads in (
         answer,
@@ -140,14 +140,14 @@ module _ (sys : System) (a : Actor) (aim : Aim) (way : Way) (leaf : ℕ) (ts : L
   unfolding DeedGoes deed_state Goes
   into-deed begin whole into (Sets var value) c ps h = into-done into (record c { vars = slice_set c.vars var value }) ps h
   into-deed begin whole into (Says value) c ps h = h
-  into-deed begin whole into (Calls x) c ps h = into-resume whole into (has_inner way x) (rest_begin a.room c.kept x) c ps (into-call begin x c ps h)
+  into-deed begin whole into (Calls x) c ps h = into-resume whole into (has_inner way x) (call_state_begin a.room c.kept x) c ps (into-call begin x c ps h)
 
   back-deed : ReadsBegin → Back → (d : Deed) (c : Config) (ps : List Piece) → Goes sys a aim (deed_state a way leaf ts go c d) ps
       → DeedGoes sys a way c (LeftGoes sys a aim way ts leaf) d ps
   unfolding DeedGoes deed_state Goes
   back-deed begin back (Sets var value) c ps h = back-done back (record c { vars = slice_set c.vars var value }) ps h
   back-deed begin back (Says value) c ps h = h
-  back-deed begin back (Calls x) c ps h = back-call begin x c ps (back-resume back (has_inner way x) (rest_begin a.room c.kept x) c ps h)
+  back-deed begin back (Calls x) c ps h = back-call begin x c ps (back-resume back (has_inner way x) (call_state_begin a.room c.kept x) c ps h)
 
   into-task : ReadsBegin → ReadsWhole → Into → (t : Task) (c : Config) (ps : List Piece) → TaskGoes sys a way c (LeftGoes sys a aim way ts leaf) t ps
       → Goes sys a aim (task_state a way leaf ts go c t) ps

@@ -42,10 +42,10 @@ abbrev at : Config → Aim
 at c = λ d. d ≡ c
 
 -- what may still come where no step is under way: nothing, or the rest of a release
-abbrev Rest : System → Actor → State → Config → Type 0
-Rest sys a s c = (back : List Piece) × Goes sys a (at c) s back × (begins_nothing back ≡ true) × (asserts_none (bare back) ≡ true)
+abbrev Stays : System → Actor → State → Config → Type 0
+Stays sys a s c = (back : List Piece) × Goes sys a (at c) s back × (begins_nothing back ≡ true) × (asserts_none (bare back) ≡ true)
 
-rests : (sys : System) (a : Actor) (s : State) (c : Config) → left_in s ≡ Some c → Rest sys a s c
+rests : (sys : System) (a : Actor) (s : State) (c : Config) → left_in s ≡ Some c → Stays sys a s c
 unfolding Goes bare
 rests sys a (Between d) c h = ([], steps-none sys a (at c) d cc, refl, refl)
 rests sys a (Releasing e d) c h = (

@@ -11,7 +11,7 @@ use Rattle.qp_model.specs.Able.{chart_able}
 use Rattle.qp_model.specs.Acts.{Config, Actor}
 use Rattle.qp_model.specs.Course.{Cut, Whole, Stopped, Anywhere}
 use Rattle.qp_model.proofs.GroupLemmas.{bare-append}
-use Rattle.qp_fits.specs.RestLaws.{ReadsBegin, ReadsWhole, ReadsNext, OpenBegin, OpenNext, OpenReads}
+use Rattle.qp_fits.specs.CallStateLaws.{ReadsBegin, ReadsWhole, ReadsNext, OpenBegin, OpenNext, OpenReads}
 use Rattle.qp_course.specs.Goes.{Aim, anywhere, Stepping}
 use Rattle.qp_course.specs.Machine.{State, Between, Telling, Raising, AtPoint, InCall, AtPost, Releasing, Returning, Asserted, Goes, settle, resume, start_state, tell_next, point_next, next, is_end, expects_point}
 use Rattle.qp_course.specs.Ready.{AreAble, IsWithin, IsReady}

@@ -16,8 +16,8 @@ use Rattle.qp_model.specs.Calls.{Call, Answer, Deed, Sets, Says, Calls, deed_of,
 use Rattle.qp_model.specs.Shapes.{Releases}
 use Rattle.qp_model.specs.Pieces.{Piece, Tell, Point, with_points, tell}
 use Rattle.qp_model.specs.Acts.{Config, Actor, Later, names_of, Notes}
-use Rattle.qp_fits.specs.Rest.{Rest}
-use Rattle.qp_fits.specs.RestNext.{rest_begin, rest_next, stage_answer}
+use Rattle.qp_fits.specs.CallState.{CallState}
+use Rattle.qp_fits.specs.CallStateNext.{call_state_begin, call_state_next, stage_answer}
 use Rattle.qp_fits.specs.Reads.{Reads}
 use Rattle.qp_course.specs.Note.{Note, Begin, Run, Unhandled, Exit, Enter, Init, Done, Say, Unlock, body_of, tells, raised_from, taken_by, dropped_by, comes_back}
 use Rattle.qp_course.specs.Goes.{Aim, Way, Starting, Stepping, moment_of, Ends, LeftGoes, StepsGo}
@@ -32,9 +32,9 @@ pub data State : Type 0 where
   -- the point of an action is to come
   AtPoint : (ev : Event) (e : Entry) (ts : List Task) (leaf : ℕ) (c : Config) → State
   -- a call is under way, with or without points after its posts
-  InCall : (way : Way) (inner : Bool) (rest : Rest) (ts : List Task) (leaf : ℕ) (c : Config) → State
+  InCall : (way : Way) (inner : Bool) (rest : CallState) (ts : List Task) (leaf : ℕ) (c : Config) → State
   -- the point after a post of a publication is to come
-  AtPost : (way : Way) (rest : Rest) (ts : List Task) (leaf : ℕ) (c : Config) → State
+  AtPost : (way : Way) (rest : CallState) (ts : List Task) (leaf : ℕ) (c : Config) → State
   -- the reference of the step's entry is to be dropped
   Releasing : (e : Entry) (c : Config) → State
   -- and its block is to come back
@@ -53,9 +53,9 @@ has_inner (Stepping ev e) (call.Publish sig pars reserve) = true
 has_inner way x = false
 
 -- the rest of a call, and what comes after it
-unfoldable pub RestGoes : System → Actor → Way → Bool → Rest → Later → Config → List Piece → Type 0
+unfoldable pub CallStateGoes : System → Actor → Way → Bool → CallState → Later → Config → List Piece → Type 0
 unfolding Reads with_points
-RestGoes sys a way inner rest later c ps =
+CallStateGoes sys a way inner rest later c ps =
     (answer : Answer) × (g : List Told) × (kept : List Entry) × Reads sys a.o (moment_of way).entry rest answer kept g
     × MatchBool (is_assertion answer)
     (ps ≡ inner_pieces inner g)
@@ -68,14 +68,14 @@ NoteEnds way false later ps = later ps
 
 -- the pieces that may come from a state on
 unfoldable pub Goes : System → Actor → Aim → State → List Piece → Type 0
-unfolding StepsGo LeftGoes RestGoes
+unfolding StepsGo LeftGoes CallStateGoes
 Goes sys a aim (Between c) ps = StepsGo sys a aim c ps
 Goes sys a aim (Telling way n ends ts leaf c) ps = Notes (plain (body_of n)) (NoteEnds way ends (LeftGoes sys a aim way ts leaf c)) ps
 Goes sys a aim (Raising way ceiling ts leaf c) ps =
     (former : ℕ) × Notes (raised (max former ceiling) former) (LeftGoes sys a aim way ts leaf (record c { former = former })) ps
 Goes sys a aim (AtPoint ev e ts leaf c) ps = (rest : List Piece) × (ps ≡ Point ∷ rest) × LeftGoes sys a aim (Stepping ev e) ts leaf c rest
-Goes sys a aim (InCall way inner rest ts leaf c) ps = RestGoes sys a way inner rest (LeftGoes sys a aim way ts leaf) c ps
-Goes sys a aim (AtPost way rest ts leaf c) ps = (more : List Piece) × (ps ≡ Point ∷ more) × RestGoes sys a way true rest (LeftGoes sys a aim way ts leaf) c more
+Goes sys a aim (InCall way inner rest ts leaf c) ps = CallStateGoes sys a way inner rest (LeftGoes sys a aim way ts leaf) c ps
+Goes sys a aim (AtPost way rest ts leaf c) ps = (more : List Piece) × (ps ≡ Point ∷ more) × CallStateGoes sys a way true rest (LeftGoes sys a aim way ts leaf) c more
 Goes sys a aim (Releasing e c) ps =
     (rel : List Told) × (rest : List Piece) × Releases e.pool e.block e.name rel × (ps ≡ tell rel ++ rest) × StepsGo sys a aim c rest
 Goes sys a aim (Returning p b d c) ps = (n : ℕ) × Notes (plain (item.Back p n b (d + 1))) (StepsGo sys a aim c) ps
@@ -92,18 +92,18 @@ answered true way leaf ts go c = Asserted
 answered false way leaf ts go c = done way leaf ts go c
 
 -- the rest of a call, or what comes after it
-abbrev pub resumed : Option Answer → Way → Bool → Rest → ℕ → List Task → (Config → State) → Config → State
+abbrev pub resumed : Option Answer → Way → Bool → CallState → ℕ → List Task → (Config → State) → Config → State
 resumed None way inner rest leaf ts go c = InCall way inner rest ts leaf c
 resumed (Some answer) way inner rest leaf ts go c = answered (is_assertion answer) way leaf ts go (record c { ok = ok_after answer c.ok; kept = rest.kept })
 
-abbrev pub resume : Way → Bool → Rest → ℕ → List Task → (Config → State) → Config → State
+abbrev pub resume : Way → Bool → CallState → ℕ → List Task → (Config → State) → Config → State
 resume way inner rest leaf ts go c = resumed (stage_answer rest.stage) way inner rest leaf ts go c
 
 -- the first task is an action
 unfoldable pub deed_state : Actor → Way → ℕ → List Task → (Config → State) → Config → Deed → State
 deed_state a way leaf ts go c (Sets var value) = done way leaf ts go (record c { vars = slice_set c.vars var value })
 deed_state a way leaf ts go c (Says value) = Telling way (Say value) true ts leaf c
-deed_state a way leaf ts go c (Calls x) = resume way (has_inner way x) (rest_begin a.room c.kept x) leaf ts go c
+deed_state a way leaf ts go c (Calls x) = resume way (has_inner way x) (call_state_begin a.room c.kept x) leaf ts go c
 
 -- the first of some tasks
 unfoldable pub task_state : Actor → Way → ℕ → List Task → (Config → State) → Config → Task → State
@@ -140,7 +140,7 @@ noted a way true leaf ts c = done way leaf ts (settle a way leaf ts) c
 noted a way false leaf ts c = settle a way leaf ts c
 
 -- a record of a call was a post of a publication, or not
-abbrev pub posted : Bool → Actor → Way → Bool → Rest → ℕ → List Task → Config → State
+abbrev pub posted : Bool → Actor → Way → Bool → CallState → ℕ → List Task → Config → State
 posted true a way inner rest leaf ts c = AtPost way rest ts leaf c
 posted false a way inner rest leaf ts c = resume way inner rest leaf ts (settle a way leaf ts) c
 
@@ -162,14 +162,14 @@ left_over e d (suc left) c = Between c
 
 -- what a record makes of a state, where it may come
 unfoldable pub tell_next : System → Actor → State → Told → Option State
-unfolding comes_back dropped_by raised_from rest_next settle step_state taken_by tells
+unfolding comes_back dropped_by raised_from call_state_next settle step_state taken_by tells
 tell_next sys a (Between c) t = option_map (λ x. step_state a x.0 x.1 c) (taken_by t.body t.known)
 tell_next sys a (Telling way n ends ts leaf c) t = if tells n t.body t.known then Some (noted a way ends leaf ts c) else None
 tell_next sys a (Raising way ceiling ts leaf c) t =
     option_map (λ former. settle a way leaf ts (record c { former = former })) (raised_from ceiling t.body t.known)
 tell_next sys a (AtPoint ev e ts leaf c) t = None
 tell_next sys a (InCall way inner rest ts leaf c) t =
-    option_map (λ more. posted (inner && is_post t.body) a way inner more leaf ts (record c { kept = more.kept })) (rest_next sys a.o (moment_of way).entry rest t)
+    option_map (λ more. posted (inner && is_post t.body) a way inner more leaf ts (record c { kept = more.kept })) (call_state_next sys a.o (moment_of way).entry rest t)
 tell_next sys a (AtPost way rest ts leaf c) t = None
 tell_next sys a (Releasing e c) t = option_map (λ x. left_over e x.0 x.1 c) (dropped_by e t.body t.known)
 tell_next sys a (Returning p b d c) t = if comes_back p b d t.body t.known then Some (Between c) else None

@@ -8,8 +8,8 @@ use Rattle.qp_model.specs.Told.{Told}
 use Rattle.qp_model.specs.Calls.{Answer, Flushed}
 use Rattle.qp_model.specs.Able.{task_able}
 use Rattle.qp_model.specs.Acts.{Config, Actor}
-use Rattle.qp_fits.specs.Rest.{Rest}
-use Rattle.qp_fits.specs.RestNext.{stage_answer}
+use Rattle.qp_fits.specs.CallState.{CallState}
+use Rattle.qp_fits.specs.CallStateNext.{stage_answer}
 use Rattle.qp_fits.specs.Reads.{Reads, IsOpen}
 use Rattle.qp_course.specs.Goes.{Way, Stepping, moment_of}
 use Rattle.qp_course.specs.Machine.{State, Between, Telling, Raising, AtPoint, InCall, AtPost, Releasing, Returning, Asserted}
@@ -23,7 +23,7 @@ abbrev pub IsWithin : Actor → Config → Type 0
 IsWithin a c = length c.kept ≤ a.room
 
 -- the rest of a call can go on, and leaves the deferred list within its capacity; it flushes no more entries than that
-pub record CanGoOn (sys : System) (a : Actor) (way : Way) (rest : Rest) : Type 0 where
+pub record CanGoOn (sys : System) (a : Actor) (way : Way) (rest : CallState) : Type 0 where
   pub some : IsOpen sys (moment_of way).entry rest
   pub within : (answer : Answer) (kept : List Entry) (g : List Told) → Reads sys a.o (moment_of way).entry rest answer kept g → length kept ≤ a.room
   pub flushed : (n : ℕ) (kept : List Entry) (g : List Told) → Reads sys a.o (moment_of way).entry rest (Flushed n) kept g → n ≤ a.room

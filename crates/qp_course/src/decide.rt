@@ -38,7 +38,8 @@ fn room_of(d: &ObjectDef) -> u8
 
 /// The object with its chart, if it is there.
 pub(crate) fn actor_of<'a>(sys: &'a System, d: &ObjectDef) -> Option<Actor<'a>>
-    ensures { MatchOption result (chart_at sys.now d.now.chart ≡ None) (λ who. IsActorOf sys.now d.now who.sys.now who.chart.now (as_actor who)) }
+    ensures { MatchOption result (chart_at sys.now d.now.chart ≡ None) (λ who. IsActorOf sys.now d.now who.sys.now who.chart.now
+        (as_actor who)) }
 {
     let room = room_of(d);
     match chart_at(sys, d.chart) {
@@ -61,7 +62,8 @@ fn reads_told(
     told: &[Told],
 ) -> Result<bool, AllocError>
     requires { IsAble who.now.sys.now (as_actor who.now) }
-    ensures { IfOk result (λ b. b ≡ told_well (as_actor who.now) (as_cut cut) (is_none_told told.now) (run_told who.now.sys.now (as_actor who.now) (start_state (as_actor who.now) (first_config d.now)) told.now)) }
+    ensures { IfOk result (λ b. b ≡ told_well (as_actor who.now) (as_cut cut) (is_none_told told.now)
+        (run_told who.now.sys.now (as_actor who.now) (start_state (as_actor who.now) (first_config d.now)) told.now)) }
 {
     let first = begin(alloc, who, d)?;
     let read = run_told(alloc, who, first, told)?;
@@ -80,7 +82,8 @@ fn reads_pieces(
     pieces: &[Piece],
 ) -> Result<bool, AllocError>
     requires { IsAble who.now.sys.now (as_actor who.now) }
-    ensures { IfOk result (λ b. b ≡ ends_well (as_cut cut) (ends_at_point (map as_piece pieces.now)) (run who.now.sys.now (as_actor who.now) (start_state (as_actor who.now) (first_config d.now)) (map as_piece pieces.now))) }
+    ensures { IfOk result (λ b. b ≡ ends_well (as_cut cut) (ends_at_point (map as_piece pieces.now))
+        (run who.now.sys.now (as_actor who.now) (start_state (as_actor who.now) (first_config d.now)) (map as_piece pieces.now))) }
 {
     let first = begin(alloc, who, d)?;
     let read = run(alloc, who, first, pieces)?;

@@ -88,7 +88,8 @@ impl<'a> State<'a> {
     fn next(self, alloc: Global, who: &Actor<'a>, piece: &Piece) -> Result<Option<Self>, AllocError>
         requires able { IsAble who.now.sys.now (as_actor who.now) }
         requires can { CanRun who.now.sys.now (as_actor who.now) (as_state self) }
-        ensures { IfOk result (λ later. option_map as_state later ≡ next who.now.sys.now (as_actor who.now) (as_state self.entry) (as_piece piece.now)) }
+        ensures { IfOk result (λ later. option_map as_state later ≡ next who.now.sys.now (as_actor who.now) (as_state self.entry)
+            (as_piece piece.now)) }
     {
         match piece {
             Piece::Tell(told) => self.tell(alloc, who, told),
@@ -131,7 +132,8 @@ pub(crate) fn run_told<'a>(
 ) -> Result<Option<State<'a>>, AllocError>
     requires able { IsAble who.now.sys.now (as_actor who.now) }
     requires can { CanRun who.now.sys.now (as_actor who.now) (as_state first) }
-    ensures { IfOk result (λ last. Leads who.now.sys.now (as_actor who.now) (run_told who.now.sys.now (as_actor who.now) (as_state first.entry) records.now) (option_map as_state last)) }
+    ensures { IfOk result (λ last. Leads who.now.sys.now (as_actor who.now) (run_told who.now.sys.now (as_actor who.now)
+        (as_state first.entry) records.now) (option_map as_state last)) }
 {
     let mut state = first;
     for told in records {
@@ -154,7 +156,8 @@ pub(crate) fn run<'a>(
 ) -> Result<Option<State<'a>>, AllocError>
     requires able { IsAble who.now.sys.now (as_actor who.now) }
     requires can { CanRun who.now.sys.now (as_actor who.now) (as_state first) }
-    ensures { IfOk result (λ last. option_map as_state last ≡ run who.now.sys.now (as_actor who.now) (as_state first.entry) (map as_piece pieces.now)) }
+    ensures { IfOk result (λ last. option_map as_state last ≡ run who.now.sys.now (as_actor who.now) (as_state first.entry)
+        (map as_piece pieces.now)) }
 {
     let mut state = first;
     for piece in pieces {

@@ -5,7 +5,7 @@ ghost use Rattle.qp_chart.specs.Expr.{names_in};
 ghost use Rattle.qp_model.specs.Able.{task_able};
 ghost use Rattle.qp_model.specs.Acts.{names_of};
 ghost use Rattle.qp_model.specs.Calls.{deed_of, is_assertion, ok_after, Flushed};
-ghost use Rattle.qp_fits.specs.RestNext.{stage_answer};
+ghost use Rattle.qp_fits.specs.CallStateNext.{stage_answer};
 ghost use Rattle.qp_fits.specs.AsCall.{as_answer, as_call};
 ghost use Rattle.qp_course.specs.Goes.{moment_of};
 ghost use Rattle.qp_course.specs.Machine.{Telling, done, resume, deed_state, task_state, closing, settle, has_inner};
@@ -21,11 +21,16 @@ use crate::notes::Note;
 use crate::states::{Actor, Left, Own, State, Way};
 use crate::tasks::Task;
 use qp_chart::{Env, Plain};
-use qp_fits::{Answer, Call, Kept, Rest};
+use qp_fits::{Answer, Call, CallState, Kept};
 
 /// What the names of an expression stand for.
 pub(crate) fn env_of<'a>(o: u8, way: &'a Way, own: &'a Own) -> Env<'a>
-    ensures { names_in result ≡ record { vars = own.now.vars.items; pars = (moment_of (as_way way.now)).event.pars; ok = own.now.ok; me = o } }
+    ensures { names_in result ≡ record {
+      vars = own.now.vars.items;
+      pars = (moment_of (as_way way.now)).event.pars;
+      ok = own.now.ok;
+      me = o;
+    } }
 {
     match way {
         Way::Starting => Env {
@@ -116,7 +121,8 @@ fn closing<'a>(way: Way, leaf: u8, own: Own, kept: Kept) -> State<'a>
 #[cycle(settle)]
 pub(crate) fn done<'a>(who: &Actor<'a>, way: Way, left: Left<'a>, own: Own, kept: Kept) -> State<'a>
     requires { AreFew (as_way way) (as_tasks left.tasks.items) }
-    ensures { as_state result ≡ done (as_way way) left.entry.leaf (as_tasks left.entry.tasks.items) (settle (as_actor who.now) (as_way way) left.entry.leaf (as_tasks left.entry.tasks.items)) (config_of own kept) }
+    ensures { as_state result ≡ done (as_way way) left.entry.leaf (as_tasks left.entry.tasks.items)
+        (settle (as_actor who.now) (as_way way) left.entry.leaf (as_tasks left.entry.tasks.items)) (config_of own kept) }
 {
     match way {
         Way::Starting => settle(who, Way::Starting, left, own, kept),
@@ -135,13 +141,14 @@ pub(crate) fn resume<'a>(
     who: &Actor<'a>,
     way: Way,
     inner: bool,
-    rest: Rest,
+    rest: CallState,
     left: Left<'a>,
     own: Own,
 ) -> State<'a>
     requires few { AreFew (as_way way) (as_tasks left.tasks.items) }
     requires flushed { (n : ℕ) → stage_answer rest.stage ≡ Some (Flushed n) → n ≤ 255 }
-    ensures { as_state result ≡ resume (as_way way) inner rest left.entry.leaf (as_tasks left.entry.tasks.items) (settle (as_actor who.now) (as_way way) left.entry.leaf (as_tasks left.entry.tasks.items)) (config_of own rest.kept) }
+    ensures { as_state result ≡ resume (as_way way) inner rest left.entry.leaf (as_tasks left.entry.tasks.items)
+        (settle (as_actor who.now) (as_way way) left.entry.leaf (as_tasks left.entry.tasks.items)) (config_of own rest.kept) }
 {
     match rest.answer() {
         Some(answer) => {
@@ -176,7 +183,9 @@ fn act<'a>(
 ) -> State<'a>
     requires few { AreFew (as_way way) (as_tasks left.tasks.items) }
     requires own_few { MakesFew plain.now }
-    ensures { as_state result ≡ deed_state (as_actor who.now) (as_way way) left.entry.leaf (as_tasks left.entry.tasks.items) (settle (as_actor who.now) (as_way way) left.entry.leaf (as_tasks left.entry.tasks.items)) (config_of own kept) (deed_of (names_of (as_actor who.now) (config_of own kept) (moment_of (as_way way)).event) plain.now) }
+    ensures { as_state result ≡ deed_state (as_actor who.now) (as_way way) left.entry.leaf (as_tasks left.entry.tasks.items)
+        (settle (as_actor who.now) (as_way way) left.entry.leaf (as_tasks left.entry.tasks.items)) (config_of own kept)
+        (deed_of (names_of (as_actor who.now) (config_of own kept) (moment_of (as_way way)).event) plain.now) }
 {
     let deed = deed_of(plain, &env_of(who.o, &way, &own));
     match deed {
@@ -198,7 +207,7 @@ fn act<'a>(
                 who,
                 way,
                 inner,
-                Rest::begin(who.room, kept, call),
+                CallState::begin(who.room, kept, call),
                 left,
                 own,
             )
@@ -219,7 +228,9 @@ fn begin<'a>(
 ) -> State<'a>
     requires few { AreFew (as_way way) (as_tasks left.tasks.items) }
     requires own_few { task_able with_eight (is_some (moment_of (as_way way)).entry) (as_task task) ≡ true }
-    ensures { as_state result ≡ task_state (as_actor who.now) (as_way way) left.entry.leaf (as_tasks left.entry.tasks.items) (settle (as_actor who.now) (as_way way) left.entry.leaf (as_tasks left.entry.tasks.items)) (config_of own kept) (as_task task.entry) }
+    ensures { as_state result ≡ task_state (as_actor who.now) (as_way way) left.entry.leaf (as_tasks left.entry.tasks.items)
+        (settle (as_actor who.now) (as_way way) left.entry.leaf (as_tasks left.entry.tasks.items)) (config_of own kept)
+        (as_task task.entry) }
 {
     match task {
         Task::Do(plain) => act(who, plain, way, left, own, kept),
@@ -261,7 +272,8 @@ fn begin<'a>(
 
 /// A note is to come.
 fn telling<'a>(note: Note, ends: bool, way: Way, left: Left<'a>, own: Own, kept: Kept) -> State<'a>
-    ensures { as_state result ≡ Telling (as_way way) (as_note note) ends (as_tasks left.entry.tasks.items) left.entry.leaf (config_of own kept) }
+    ensures { as_state result ≡ Telling (as_way way) (as_note note) ends (as_tasks left.entry.tasks.items) left.entry.leaf
+        (config_of own kept) }
 {
     State::Telling {
         way,
@@ -284,7 +296,8 @@ pub(crate) fn settle<'a>(
     kept: Kept,
 ) -> State<'a>
     requires { AreFew (as_way way) (as_tasks left.tasks.items) }
-    ensures { as_state result ≡ settle (as_actor who.now) (as_way way) left.entry.leaf (as_tasks left.entry.tasks.items) (config_of own kept) }
+    ensures { as_state result ≡ settle (as_actor who.now) (as_way way) left.entry.leaf (as_tasks left.entry.tasks.items)
+        (config_of own kept) }
 {
     match left.tasks.pop_front() {
         Some(task) => begin(who, task, way, left, own, kept),

@@ -7,7 +7,7 @@ ghost use Rattle.qp_course.specs.AsState.{as_way};
 use crate::notes::Note;
 use crate::tasks::Task;
 use qp_chart::Chart;
-use qp_fits::{Kept, Rest};
+use qp_fits::{CallState, Kept};
 use qp_model::{Entry, Params, System};
 use std::collections::VecDeque;
 
@@ -99,14 +99,14 @@ pub(crate) enum State<'a> {
     InCall {
         way: Way,
         inner: bool,
-        rest: Rest,
+        rest: CallState,
         left: Left<'a>,
         own: Own,
     },
     /// The point after a post of a publication.
     AtPost {
         way: Way,
-        rest: Rest,
+        rest: CallState,
         left: Left<'a>,
         own: Own,
     },

@@ -4,7 +4,7 @@ ghost use Rattle.std.specs.Prelude.{◌≡◌, true, false, ◌&&◌, Some, None
 ghost use Rattle.std.specs.Option.{option_map};
 ghost use Rattle.qp_model.specs.Able.{chart_able};
 ghost use Rattle.qp_model.specs.Groups.{is_post};
-ghost use Rattle.qp_fits.specs.RestNext.{rest_next};
+ghost use Rattle.qp_fits.specs.CallStateNext.{call_state_next};
 ghost use Rattle.qp_course.specs.Goes.{moment_of};
 ghost use Rattle.qp_course.specs.Note.{raised_from, taken_by, dropped_by};
 ghost use Rattle.qp_course.specs.Machine.{settle, noted, posted, step_state, left_over, tell_next, point_next};
@@ -20,7 +20,7 @@ use crate::notes::{comes_back, dropped_by, raised_from, tells};
 use crate::settle::{done, env_of, resume, settle};
 use crate::states::{Actor, Left, Own, State, Step, Way};
 use arrayvec::ArrayVec;
-use qp_fits::{Kept, Known, Rest, Told};
+use qp_fits::{CallState, Kept, Known, Told};
 use qp_model::{Body, Entry, Params};
 use std::alloc::{AllocError, Global};
 use std::collections::VecDeque;
@@ -43,7 +43,8 @@ fn begin_step<'a>(
     kept: Kept,
 ) -> Result<State<'a>, AllocError>
     requires { chart_able with_eight who.now.chart.now ≡ true }
-    ensures { IfOk result (λ s. as_state s ≡ step_state (as_actor who.now) step.entry (record { sig = step.sig; pars = step.pars }) (config_of own kept)) }
+    ensures { IfOk result (λ s. as_state s ≡ step_state (as_actor who.now) step.entry (record { sig = step.sig; pars = step.pars })
+        (config_of own kept)) }
 {
     let sig = step.sig;
     let leaf = own.leaf;
@@ -66,7 +67,8 @@ fn took<'a>(
     kept: Kept,
 ) -> Result<Option<State<'a>>, AllocError>
     requires { chart_able with_eight who.now.chart.now ≡ true }
-    ensures { IfOk result (λ later. option_map as_state later ≡ option_map (λ x. step_state (as_actor who.now) x.0 x.1 (config_of own kept)) (taken_by told.now.body told.now.known)) }
+    ensures { IfOk result (λ later. option_map as_state later ≡ option_map (λ x. step_state (as_actor who.now) x.0 x.1 (config_of own kept))
+        (taken_by told.now.body told.now.known)) }
 {
     match (&told.body, &told.known) {
         (Body::Took { entry, .. }, Known::OfEvent { sig, pars }) => {
@@ -91,7 +93,8 @@ fn noted<'a>(
     kept: Kept,
 ) -> State<'a>
     requires { AreFew (as_way way) (as_tasks left.tasks.items) }
-    ensures { as_state result ≡ noted (as_actor who.now) (as_way way) ends left.entry.leaf (as_tasks left.entry.tasks.items) (config_of own kept) }
+    ensures { as_state result ≡ noted (as_actor who.now) (as_way way) ends left.entry.leaf (as_tasks left.entry.tasks.items)
+        (config_of own kept) }
 {
     if ends {
         done(who, way, left, own, kept)
@@ -111,7 +114,9 @@ fn raised<'a>(
     kept: Kept,
 ) -> Option<State<'a>>
     requires { AreFew (as_way way) (as_tasks left.tasks.items) }
-    ensures { option_map as_state result ≡ option_map (λ former. settle (as_actor who.now) (as_way way) left.entry.leaf (as_tasks left.entry.tasks.items) (record (config_of own kept) { former = former })) (raised_from ceiling told.now.body told.now.known) }
+    ensures { option_map as_state result ≡ option_map (λ former. settle (as_actor who.now) (as_way way) left.entry.leaf
+        (as_tasks left.entry.tasks.items) (record (config_of own kept) { former = former }))
+        (raised_from ceiling told.now.body told.now.known) }
 {
     match raised_from(ceiling, told) {
         Some(former) => Some(settle(who, way, left, Own { former, ..own }, kept)),
@@ -131,14 +136,15 @@ fn posted<'a>(
     is_posted: bool,
     way: Way,
     inner: bool,
-    rest: Rest,
+    rest: CallState,
     left: Left<'a>,
     own: Own,
 ) -> State<'a>
     requires able { IsAble who.now.sys.now (as_actor who.now) }
     requires can { CanGoOn who.now.sys.now (as_actor who.now) (as_way way) rest }
     requires few { AreFew (as_way way) (as_tasks left.tasks.items) }
-    ensures { as_state result ≡ posted is_posted (as_actor who.now) (as_way way) inner rest left.entry.leaf (as_tasks left.entry.tasks.items) (config_of own rest.kept) }
+    ensures { as_state result ≡ posted is_posted (as_actor who.now) (as_way way) inner rest left.entry.leaf
+        (as_tasks left.entry.tasks.items) (config_of own rest.kept) }
 {
     if is_posted {
         State::AtPost {
@@ -158,14 +164,16 @@ fn called<'a>(
     told: &Told,
     way: Way,
     inner: bool,
-    rest: Rest,
+    rest: CallState,
     left: Left<'a>,
     own: Own,
 ) -> Result<Option<State<'a>>, AllocError>
     requires able { IsAble who.now.sys.now (as_actor who.now) }
     requires can { CanGoOn who.now.sys.now (as_actor who.now) (as_way way) rest }
     requires few { AreFew (as_way way) (as_tasks left.tasks.items) }
-    ensures { IfOk result (λ later. option_map as_state later ≡ option_map (λ more. posted (inner && is_post told.now.body) (as_actor who.now) (as_way way) inner more left.entry.leaf (as_tasks left.entry.tasks.items) (config_of own more.kept)) (rest_next who.now.sys.now who.now.o (moment_of (as_way way)).entry rest told.now)) }
+    ensures { IfOk result (λ later. option_map as_state later ≡ option_map (λ more. posted (inner && is_post told.now.body)
+        (as_actor who.now) (as_way way) inner more left.entry.leaf (as_tasks left.entry.tasks.items) (config_of own more.kept))
+        (call_state_next who.now.sys.now who.now.o (moment_of (as_way way)).entry rest told.now)) }
 {
     let entry = way.entry();
     match rest.next(who.sys, who.o, entry, told)? {
@@ -196,7 +204,8 @@ fn left_over<'a>(entry: Entry, d: u64, left: u64, own: Own, kept: Kept) -> State
 
 /// The reference of a step's entry is dropped.
 fn released<'a>(told: &Told, entry: Entry, own: Own, kept: Kept) -> Option<State<'a>>
-    ensures { option_map as_state result ≡ option_map (λ x. left_over entry x.0 x.1 (config_of own kept)) (dropped_by entry told.now.body told.now.known) }
+    ensures { option_map as_state result ≡ option_map (λ x. left_over entry x.0 x.1 (config_of own kept))
+        (dropped_by entry told.now.body told.now.known) }
 {
     match dropped_by(entry, told) {
         Some((d, left)) => Some(left_over(entry, d, left, own, kept)),
@@ -262,7 +271,8 @@ impl<'a> State<'a> {
     pub(crate) fn point(self, who: &Actor<'a>) -> Result<Self, Self>
         requires able { IsAble who.now.sys.now (as_actor who.now) }
         requires can { CanRun who.now.sys.now (as_actor who.now) (as_state self) }
-        ensures { MatchResult result (λ later. point_next (as_actor who.now) (as_state self.entry) ≡ Some (as_state later)) (λ same. (as_state same ≡ as_state self.entry) × (point_next (as_actor who.now) (as_state self.entry) ≡ None)) }
+        ensures { MatchResult result (λ later. point_next (as_actor who.now) (as_state self.entry) ≡ Some (as_state later))
+            (λ same. (as_state same ≡ as_state self.entry) × (point_next (as_actor who.now) (as_state self.entry) ≡ None)) }
     {
         match self {
             State::AtPoint {

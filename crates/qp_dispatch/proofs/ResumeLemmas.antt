@@ -42,8 +42,8 @@ use Rattle.qp_dispatch.specs.declared.runs.Left.{Left}
 use Rattle.qp_dispatch.specs.declared.steps.Going.{Going}
 use Rattle.qp_dispatch.specs.declared.steps.Step.{Step}
 use Rattle.qp_dispatch.specs.declared.steps.Step.TheVariants as step
-use Rattle.qp_dispatch.specs.declared.steps.Stage.{Stage}
-use Rattle.qp_dispatch.specs.declared.steps.Stage.TheVariants as stage
+use Rattle.qp_dispatch.specs.declared.steps.Position.{Position}
+use Rattle.qp_dispatch.specs.declared.steps.Position.TheVariants as stage
 use Rattle.qp_dispatch.specs.declared.work.Work.{Work}
 use Rattle.qp_dispatch.specs.Lasts.{config_of, actor_of, moment_of, names_at}
 use Rattle.qp_dispatch.specs.CallsDone.{StandsIn}
@@ -143,7 +143,7 @@ unfolding hands_after hands_by
 spilled-stand n w z es grown all = stand-same es w z all grown.hands grown.sys
 
 -- the lane halted behind records that begin something
-pub halted : (home : Setting) (ceiling later : ℕ) (k m : Lasting) (s y : Stage) (g : List Told) (v w z : LaneView) (answer : Step) → Grows g v w
+pub halted : (home : Setting) (ceiling later : ℕ) (k m : Lasting) (s y : Position) (g : List Told) (v w z : LaneView) (answer : Step) → Grows g v w
     → BeginsOn v.sys (actor_of home.me home.chart k) (event_in s v) (step_entry s) (left_of home k s v) (config_of k) g → StandAll (held_in m y) w → Halts w z answer
     → Resumes home ceiling later k s m y v z answer
 halted home ceiling later k m s y g v w z step.Point grows begins all h = absurd h
@@ -362,7 +362,7 @@ goes-as sys a x y d e l r c ps end ev en le h =
 taken-held : (k : Lasting) (g : Going) (e : Entry) → g.work.entry ≡ Some e → g.left.under ≡ None → held_in k (stage.Within g) ≡ held_in k (stage.Taken e)
 taken-held k g e is none = rw (is, none) (ap (λ x. x ++ e ∷ []) (append-nil k.list.entries.items))
 
-pub resumes-taken : (home : Setting) (ceiling later : ℕ) (k m : Lasting) (s z : Stage) (e : Entry) (g : Going) (v u w : LaneView) (answer : Step) → stage.Taken e ≡ s → u ≡ v
+pub resumes-taken : (home : Setting) (ceiling later : ℕ) (k m : Lasting) (s z : Position) (e : Entry) (g : Going) (v u w : LaneView) (answer : Step) → stage.Taken e ≡ s → u ≡ v
     → event_of g.work.ev ≡ event_at e v → g.work.entry ≡ Some e → g.left.under ≡ None
     → left_by g.left.under (tasks_in home g.left) g.leaf ≡ whole_step (actor_of home.me home.chart k) (config_of k) (event_at e v)
     → Resumes home ceiling later k (stage.Within g) m z u w answer → Resumes home ceiling later k s m z v w answer

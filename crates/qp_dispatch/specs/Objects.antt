@@ -12,7 +12,7 @@ use Rattle.qp_calls.specs.Deferring.{StandAll, kept_in}
 use Rattle.qp_compiled.specs.Compiled.{IsCompiled}
 use Rattle.qp_dispatch.specs.declared.objects.Object.{Object}
 use Rattle.qp_dispatch.specs.declared.lasting.Lasting.{Lasting}
-use Rattle.qp_dispatch.specs.declared.steps.Stage.TheVariants as stage
+use Rattle.qp_dispatch.specs.declared.steps.Position.TheVariants as stage
 use Rattle.qp_dispatch.specs.declared.steps.Step.{Step}
 use Rattle.qp_dispatch.specs.declared.steps.Step.TheVariants as step
 use Rattle.qp_dispatch.specs.Lasts.{config_of}

@@ -29,8 +29,8 @@ use Rattle.qp_calls.specs.Groups.{Refused}
 use Rattle.qp_calls.specs.Deferring.{ChangeAlike, StandAll, kept_in}
 use Rattle.qp_dispatch.specs.declared.lasting.Lasting.{Lasting}
 use Rattle.qp_dispatch.specs.declared.steps.Going.{Going}
-use Rattle.qp_dispatch.specs.declared.steps.Stage.{Stage}
-use Rattle.qp_dispatch.specs.declared.steps.Stage.TheVariants as stage
+use Rattle.qp_dispatch.specs.declared.steps.Position.{Position}
+use Rattle.qp_dispatch.specs.declared.steps.Position.TheVariants as stage
 use Rattle.qp_dispatch.specs.declared.steps.Step.{Step}
 use Rattle.qp_dispatch.specs.declared.steps.Step.TheVariants as step
 use Rattle.qp_dispatch.specs.Lasts.{config_of, actor_of}
@@ -73,13 +73,13 @@ pub record IsTaken (k : Lasting) (e : Entry) (v : LaneView) : Type 0 where
   pub stand : StandAll (k.list.entries.items ++ e ∷ []) v
   pub few : length (kept_in k.list) ≤ k.list.entries.capacity
 
-abbrev pub IsUnderWay : Setting → Lasting → Stage → LaneView → Type 0
+abbrev pub IsUnderWay : Setting → Lasting → Position → LaneView → Type 0
 IsUnderWay home k stage.Between v = ⊥
 IsUnderWay home k (stage.Taken e) v = IsTaken k e v
 IsUnderWay home k (stage.Within g) v = IsGoing home k g v
 
 -- the event and the entry of the step, and what is left of it
-abbrev pub event_in : Stage → LaneView → Event
+abbrev pub event_in : Position → LaneView → Event
 event_in stage.Between v = at_start.event
 event_in (stage.Taken e) v = event_at e v
 event_in (stage.Within g) v = event_of g.work.ev
@@ -88,23 +88,23 @@ abbrev pub entry_here : Option Entry → model.Entry
 entry_here None = entry 0 0 0
 entry_here (Some e) = entry_of e
 
-abbrev pub step_entry : Stage → model.Entry
+abbrev pub step_entry : Position → model.Entry
 step_entry stage.Between = entry 0 0 0
 step_entry (stage.Taken e) = entry_of e
 step_entry (stage.Within g) = entry_here g.work.entry
 
-abbrev pub left_of : Setting → Lasting → Stage → LaneView → Remainder
+abbrev pub left_of : Setting → Lasting → Position → LaneView → Remainder
 left_of home k stage.Between v = left_by None [] k.leaf
 left_of home k (stage.Taken e) v = whole_step (actor_of home.me home.chart k) (config_of k) (event_at e v)
 left_of home k (stage.Within g) v = left_by g.left.under (tasks_in home g.left) g.leaf
 
 -- the entries that the object keeps: the deferred ones, those of a publication under way, and the step's own
-abbrev pub step_entries : Stage → List Entry
+abbrev pub step_entries : Position → List Entry
 step_entries stage.Between = []
 step_entries (stage.Taken e) = e ∷ []
 step_entries (stage.Within g) = hand_of g.work.entry
 
-abbrev pub held_in : Lasting → Stage → List Entry
+abbrev pub held_in : Lasting → Position → List Entry
 held_in k stage.Between = k.list.entries.items ++ []
 held_in k (stage.Taken e) = k.list.entries.items ++ e ∷ []
 held_in k (stage.Within g) = held_by k g.left.under ++ hand_of g.work.entry
@@ -114,7 +114,7 @@ abbrev pub BeginsOn : System → Actor → Event → model.Entry → Remainder �
 BeginsOn sys a ev e left c g = (more : List Piece) × (end : Option Config) × GoesOn sys a ev e left c (tell g ++ more) end × (end ≡ None → bare more ≡ [] → ⊥)
 
 -- the step went up to its next scheduling point
-pub record ToPoint (home : Setting) (ceiling later : ℕ) (k : Lasting) (s : Stage) (m : Lasting) (z : Stage) (v w : LaneView) : Type 0 where
+pub record ToPoint (home : Setting) (ceiling later : ℕ) (k : Lasting) (s : Position) (m : Lasting) (z : Position) (v w : LaneView) : Type 0 where
   pub g : List Told
   pub grows : Grows g v w
   pub advances : Advances v.sys (actor_of home.me home.chart k) (event_in s v) (step_entry s) (left_of home k s v) (config_of k)
@@ -134,7 +134,7 @@ pub record ToPoint (home : Setting) (ceiling later : ℕ) (k : Lasting) (s : Sta
   pub hands : ChangeAlike (map entry_of (held_in k s)) (map entry_of (held_in m z)) v w
 
 -- the step went to its end, with the release
-pub record ToEnd (home : Setting) (ceiling later : ℕ) (k : Lasting) (s : Stage) (m : Lasting) (v w : LaneView) : Type 0 where
+pub record ToEnd (home : Setting) (ceiling later : ℕ) (k : Lasting) (s : Position) (m : Lasting) (v w : LaneView) : Type 0 where
   pub g : List Told
   pub grows : Grows g v w
   pub goes : GoesOn v.sys (actor_of home.me home.chart k) (event_in s v) (step_entry s) (left_of home k s v) (config_of k) (tell g) (Some (config_of m))
@@ -145,7 +145,7 @@ pub record ToEnd (home : Setting) (ceiling later : ℕ) (k : Lasting) (s : Stage
   pub stand : StandAll m.list.entries.items w
 
 -- an assertion ended the step, and the lane stopped with its code
-pub record EndsAsserted (home : Setting) (k : Lasting) (s : Stage) (m : Lasting) (z : Stage) (v w : LaneView) : Type 0 where
+pub record EndsAsserted (home : Setting) (k : Lasting) (s : Position) (m : Lasting) (z : Position) (v w : LaneView) : Type 0 where
   pub g : List Told
   pub mid : LaneView
   pub code : ℕ
@@ -155,7 +155,7 @@ pub record EndsAsserted (home : Setting) (k : Lasting) (s : Stage) (m : Lasting)
   pub stand : StandAll (held_in m z) w
 
 -- the lane had no room, spilled, and stopped
-pub record EndsSpilled (home : Setting) (k : Lasting) (s : Stage) (m : Lasting) (z : Stage) (v w : LaneView) : Type 0 where
+pub record EndsSpilled (home : Setting) (k : Lasting) (s : Position) (m : Lasting) (z : Position) (v w : LaneView) : Type 0 where
   pub g : List Told
   pub mid : LaneView
   pub full : LaneView
@@ -167,7 +167,7 @@ pub record EndsSpilled (home : Setting) (k : Lasting) (s : Stage) (m : Lasting) 
   pub stand : StandAll (held_in m z) w
 
 -- memory was refused, and the lane stopped
-pub record EndsExhausted (home : Setting) (k : Lasting) (s : Stage) (m : Lasting) (z : Stage) (v w : LaneView) : Type 0 where
+pub record EndsExhausted (home : Setting) (k : Lasting) (s : Position) (m : Lasting) (z : Position) (v w : LaneView) : Type 0 where
   pub g : List Told
   pub mid : LaneView
   pub grows : Grows g v mid
@@ -175,7 +175,7 @@ pub record EndsExhausted (home : Setting) (k : Lasting) (s : Stage) (m : Lasting
   pub stops : Stops 7 mid w
   pub stand : StandAll (held_in m z) w
 
-abbrev pub Resumes : Setting → ℕ → ℕ → Lasting → Stage → Lasting → Stage → LaneView → LaneView → Step → Type 0
+abbrev pub Resumes : Setting → ℕ → ℕ → Lasting → Position → Lasting → Position → LaneView → LaneView → Step → Type 0
 Resumes home ceiling later k s m z v w step.Point = ToPoint home ceiling later k s m z v w
 Resumes home ceiling later k s m z v w step.Done = (z ≡ stage.Between) × ToEnd home ceiling later k s m v w
 Resumes home ceiling later k s m z v w step.Stopped = EndsAsserted home k s m z v w ⊎ EndsSpilled home k s m z v w

@@ -4,12 +4,12 @@ ghost use Rattle.std.specs.Prelude.{◌≡◌, ◌<◌, IfOk, true};
 ghost use Rattle.std.specs.Option.{option_map};
 ghost use Rattle.qp_model.specs.Course.{chart_at};
 ghost use Rattle.qp_dispatch.specs.Objects.{BeginsStep, HasFirst, IsMade, IsNew, MayResume, MayStart, ObjectResumes, ObjectStarts, ResumesAs, StartsAs, leaf_shown, works_for};
-ghost use Rattle.qp_dispatch.specs.declared.steps.Stage.TheVariants as standing;
+ghost use Rattle.qp_dispatch.specs.declared.steps.Position.TheVariants as standing;
 
 use crate::lasting::Lasting;
 use crate::runs::Home;
 use crate::starts::start_on;
-use crate::steps::{Stage, Step, step_on};
+use crate::steps::{Position, Step, step_on};
 use qp_base::{Memory, Steps};
 use qp_calls::{Deferred, Entry, Ops};
 use qp_chart::Chart;
@@ -35,7 +35,7 @@ pub struct Object {
     pub(crate) chart: u8,
     pub(crate) compiled: Compiled,
     pub(crate) lasting: Lasting,
-    pub(crate) stage: Stage,
+    pub(crate) stage: Position,
     pub(crate) started: bool,
     pub(crate) taken: u32,
 }
@@ -83,7 +83,7 @@ fn make(alloc: Global, object: &ObjectDef, chart: &Chart) -> Result<Object, Memo
         chart: object.chart,
         compiled,
         lasting,
-        stage: Stage::Between,
+        stage: Position::Between,
         started: false,
         taken: 0,
     })
@@ -119,7 +119,7 @@ impl Object {
         requires few { self.old.taken < 1000000 }
         ensures { BeginsStep e self.old self.new }
     {
-        self.stage = Stage::Taken(e);
+        self.stage = Position::Taken(e);
         self.taken += 1;
     }
 
@@ -245,7 +245,8 @@ fn resume_here<O: Ops, L: Ledger>(
     steps: &mut Steps<L>,
 ) -> Step
     requires { MayResume sys.now ceiling.old object.old (O.lane ops.old) }
-    ensures { ResumesAs (chart_at sys.now object.old.chart) sys.now ceiling.old ceiling.new object.old object.new (O.lane ops.old) (O.lane ops.new) result }
+    ensures { ResumesAs (chart_at sys.now object.old.chart) sys.now ceiling.old ceiling.new object.old object.new (O.lane ops.old)
+        (O.lane ops.new) result }
 {
     match chart_of(sys, object.chart) {
         Some(chart) => {

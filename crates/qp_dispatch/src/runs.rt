@@ -55,7 +55,8 @@ fn part<O: Ops, L: Ledger>(
     ceiling: &mut u8,
     steps: &mut Steps<L>,
 ) -> Option<Part>
-    requires { MayRun (setting_of home.now) work.now.entry lasting.old left.old.under (tasks_in (setting_of home.now) left.old) ceiling.old (O.lane ops.old) }
+    requires { MayRun (setting_of home.now) work.now.entry lasting.old left.old.under (tasks_in (setting_of home.now) left.old) ceiling.old
+        (O.lane ops.old) }
     ensures { PartOf (setting_of home.now) work.now ceiling.old ceiling.new lasting.old left.old lasting.new left.new
         (O.lane ops.old) (O.lane ops.new) result }
 {
@@ -88,7 +89,8 @@ pub(crate) fn run<O: Ops, L: Ledger>(
     ceiling: &mut u8,
     steps: &mut Steps<L>,
 ) -> Ran
-    requires may { MayRun (setting_of home.now) work.now.entry lasting.old left.old.under (tasks_in (setting_of home.now) left.old) ceiling.old (O.lane ops.old) }
+    requires may { MayRun (setting_of home.now) work.now.entry lasting.old left.old.under (tasks_in (setting_of home.now) left.old)
+        ceiling.old (O.lane ops.old) }
     requires can { CanEnd (setting_of home.now) (moment_of work.now) lasting.old (tasks_in (setting_of home.now) left.old) }
     ensures { RunsTo stops (setting_of home.now) (moment_of work.now) ceiling.old ceiling.new lasting.old left.old lasting.new left.new
         (O.lane ops.old) (O.lane ops.new) result }

@@ -12,7 +12,7 @@ ghost use Rattle.qp_dispatch.specs.Parts.{left_by};
 ghost use Rattle.qp_dispatch.specs.Runs.{setting_of, tasks_in};
 ghost use Rattle.qp_dispatch.specs.CallsDone.{StandsIn};
 ghost use Rattle.qp_dispatch.specs.Resume.{Halts, IsGoing, IsLaneOf, IsReady, IsTaken, IsUnderWay, Releases, Resumes, event_at};
-ghost use Rattle.qp_dispatch.specs.declared.steps.Stage.TheVariants as standing;
+ghost use Rattle.qp_dispatch.specs.declared.steps.Position.TheVariants as standing;
 
 use crate::lasting::Lasting;
 use crate::runs::{Home, Left, Ran, run};
@@ -47,7 +47,7 @@ pub(crate) struct Going {
 
 /// Where an object stands between its start and its end.
 #[derive(Drop)]
-pub(crate) enum Stage {
+pub(crate) enum Position {
     Between,
     /// An entry was taken up, and nothing done yet.
     Taken(Entry),
@@ -155,7 +155,7 @@ fn go<O: Ops, L: Ledger>(
     ops: &mut O,
     home: &Home<'_>,
     lasting: &mut Lasting,
-    stage: &mut Stage,
+    stage: &mut Position,
     going: Going,
     ceiling: &mut u8,
     steps: &mut Steps<L>,
@@ -174,7 +174,7 @@ fn go<O: Ops, L: Ledger>(
     } = going;
     match run(ops, home, lasting, &mut left, &work, true, ceiling, steps) {
         Ran::Point => {
-            *stage = Stage::Within(Going { work, left, leaf });
+            *stage = Position::Within(Going { work, left, leaf });
             Step::Point
         }
         Ran::Over => match finish(ops, work) {
@@ -185,12 +185,12 @@ fn go<O: Ops, L: Ledger>(
             Err(fault) => halt(ops, fault),
         },
         Ran::Asserted(code) => {
-            *stage = Stage::Within(Going { work, left, leaf });
+            *stage = Position::Within(Going { work, left, leaf });
             ops.stop(code);
             Step::Stopped
         }
         Ran::Cut(fault) => {
-            *stage = Stage::Within(Going { work, left, leaf });
+            *stage = Position::Within(Going { work, left, leaf });
             halt(ops, fault)
         }
     }
@@ -215,7 +215,7 @@ pub(crate) fn step_on<O: Ops, L: Ledger>(
     ops: &mut O,
     home: &Home<'_>,
     lasting: &mut Lasting,
-    stage: &mut Stage,
+    stage: &mut Position,
     ceiling: &mut u8,
     steps: &mut Steps<L>,
 ) -> Step
@@ -226,12 +226,12 @@ pub(crate) fn step_on<O: Ops, L: Ledger>(
     ensures { Resumes (setting_of home.now) ceiling.old ceiling.new lasting.old stage.old lasting.new stage.new
         (O.lane ops.old) (O.lane ops.new) result }
 {
-    match std::mem::replace(stage, Stage::Between) {
-        Stage::Between => Step::Memory,
-        Stage::Taken(e) => {
+    match std::mem::replace(stage, Position::Between) {
+        Position::Between => Step::Memory,
+        Position::Taken(e) => {
             let going = take_up(ops, home, lasting, e);
             go(ops, home, lasting, stage, going, ceiling, steps)
         }
-        Stage::Within(going) => go(ops, home, lasting, stage, going, ceiling, steps),
+        Position::Within(going) => go(ops, home, lasting, stage, going, ceiling, steps),
     }
 }

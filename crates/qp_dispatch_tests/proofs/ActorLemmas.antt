@@ -26,8 +26,8 @@ use Rattle.qp_calls.proofs.CountLemmas.{stand-same}
 use Rattle.qp_dispatch.specs.declared.objects.Object.{Object}
 use Rattle.qp_dispatch.specs.declared.lasting.Lasting.{Lasting}
 use Rattle.qp_dispatch.specs.declared.part.Under.{Under}
-use Rattle.qp_dispatch.specs.declared.steps.Stage.{Stage}
-use Rattle.qp_dispatch.specs.declared.steps.Stage.TheVariants as standing
+use Rattle.qp_dispatch.specs.declared.steps.Position.{Position}
+use Rattle.qp_dispatch.specs.declared.steps.Position.TheVariants as standing
 use Rattle.qp_dispatch.specs.declared.steps.Step.{Step}
 use Rattle.qp_dispatch.specs.declared.steps.Step.TheVariants as step
 use Rattle.qp_dispatch.specs.Objects.{BeginsStep, IsNew, IsObject, MayResume, MayStart, ObjectResumes, ObjectStarts, ResumesAs, StartsAs, home_of, works_for}
@@ -155,7 +155,7 @@ publishing-still None v w same h = tt
 publishing-still (Some u) v w same h = rw same h
 
 -- a step under way, in a lane with the same tokens
-way-still : (place : Setting) (k : Lasting) (s : Stage) (v w : LaneView) → w.hands ≡ v.hands → w.sys ≡ v.sys → IsUnderWay place k s v → IsUnderWay place k s w
+way-still : (place : Setting) (k : Lasting) (s : Position) (v w : LaneView) → w.hands ≡ v.hands → w.sys ≡ v.sys → IsUnderWay place k s v → IsUnderWay place k s w
 way-still place k standing.Between v w hands same h = h
 way-still place k (standing.Taken e) v w hands same h = record { stand = stand-same _ v w h.stand hands same; few = h.few }
 way-still place k (standing.Within g) v w hands same h = record {

@@ -10,7 +10,7 @@ use Rattle.qp_calls.specs.LaneView.{LaneView, ceiling_in}
 use Rattle.qp_calls.specs.Notes.{spills_in}
 use Rattle.qp_calls.specs.Deferring.{StandAll, kept_in}
 use Rattle.qp_compiled.specs.Compiled.{IsCompiled}
-use Rattle.qp_dispatch.specs.declared.steps.Stage.TheVariants as standing
+use Rattle.qp_dispatch.specs.declared.steps.Position.TheVariants as standing
 use Rattle.qp_dispatch.specs.declared.steps.Step.{Step}
 use Rattle.qp_dispatch.specs.declared.steps.Step.TheVariants as step
 use Rattle.qp_dispatch.specs.Objects.{home_of}

@@ -10,7 +10,7 @@ ghost use Rattle.qp_document.specs.Tree.{needed, defaulted};
 ghost use Rattle.qp_document.specs.Values.{all_of_kind, tables_of};
 
 use crate::fault::SystemFault;
-use crate::section::{Place, Section};
+use crate::section::{KeyPlace, Section};
 use qp_chart::code;
 use std::alloc::{AllocError, Global};
 use toml::{Table, Value};
@@ -40,12 +40,13 @@ fn all_tables(alloc: Global, items: &[Value]) -> Result<Option<Vec<&Table>>, All
 #[tactic(auto, unfolding(crate::specs::Values::tables_of, crate::specs::Values::items_of_kind))]
 fn tables<'a>(
     alloc: Global,
-    place: Place,
+    place: KeyPlace,
     count: Count,
     value: &'a Value,
 ) -> Result<Vec<&'a Table>, SystemFault>
     ensures few { IfOk result (λ v. length v.items ≤ count.most) }
-    ensures exact { Gives (λ v. map (λ t. table_view t.now) v.items) result (tables_of count.least count.most (place.entry.at.now ++ Key place.entry.key ∷ []) (view value.now)) }
+    ensures exact { Gives (λ v. map (λ t. table_view t.now) v.items) result (tables_of count.least count.most
+        (place.entry.at.now ++ Key place.entry.key ∷ []) (view value.now)) }
 {
     let Some(items) = value.as_array() else {
         return Err(place.refuse(code::WRONG_KIND));
@@ -66,7 +67,8 @@ pub fn needed_tables<'a>(
     count: Count,
 ) -> Result<Vec<&'a Table>, SystemFault>
     ensures few { IfOk result (λ v. length v.items ≤ count.most) }
-    ensures exact { Gives (λ v. map (λ t. table_view t.now) v.items) result (needed (tables_of count.least count.most) key section.entry.at.now (table_view section.entry.table.now)) }
+    ensures exact { Gives (λ v. map (λ t. table_view t.now) v.items) result (needed (tables_of count.least count.most) key
+        section.entry.at.now (table_view section.entry.table.now)) }
 {
     let place = section.place(key);
     match section.value(key) {
@@ -84,7 +86,8 @@ pub fn tables_or_none<'a>(
     most: usize,
 ) -> Result<Vec<&'a Table>, SystemFault>
     ensures few { IfOk result (λ v. length v.items ≤ most) }
-    ensures exact { Gives (λ v. map (λ t. table_view t.now) v.items) result (defaulted [] (tables_of 0 most) key section.entry.at.now (table_view section.entry.table.now)) }
+    ensures exact { Gives (λ v. map (λ t. table_view t.now) v.items) result (defaulted [] (tables_of 0 most) key section.entry.at.now
+        (table_view section.entry.table.now)) }
 {
     match section.value(key) {
         None => Ok(Vec::new(alloc)),

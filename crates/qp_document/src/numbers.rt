@@ -8,7 +8,7 @@ ghost use Rattle.qp_document.specs.Tree.{needed, defaulted};
 ghost use Rattle.qp_document.specs.Values.{number_of, flag_of};
 
 use crate::fault::SystemFault;
-use crate::section::{Place, Section};
+use crate::section::{KeyPlace, Section};
 use qp_chart::code;
 use toml::Value;
 
@@ -21,7 +21,7 @@ pub struct Range {
 
 /// An integer in a range.
 #[tactic(auto, unfolding(crate::specs::Values::number_of))]
-fn number(place: Place, range: Range, value: &Value) -> Result<u8, SystemFault>
+fn number(place: KeyPlace, range: Range, value: &Value) -> Result<u8, SystemFault>
     ensures { Gives (λ n. n) result (number_of range.least range.most (place.entry.at.now ++ Key place.entry.key ∷ []) (view value.now)) }
 {
     match value.as_integer() {
@@ -34,7 +34,8 @@ fn number(place: Place, range: Range, value: &Value) -> Result<u8, SystemFault>
 /// The number at a key that has to stand.
 #[tactic(auto, unfolding(crate::specs::Tree::needed))]
 pub fn needed_number(section: Section, key: u8, range: Range) -> Result<u8, SystemFault>
-    ensures { Gives (λ n. n) result (needed (number_of range.least range.most) key section.entry.at.now (table_view section.entry.table.now)) }
+    ensures { Gives (λ n. n) result (needed (number_of range.least range.most) key section.entry.at.now
+        (table_view section.entry.table.now)) }
 {
     let place = section.place(key);
     match section.value(key) {
@@ -46,7 +47,8 @@ pub fn needed_number(section: Section, key: u8, range: Range) -> Result<u8, Syst
 /// The number at a key, or the default where the key is missing.
 #[tactic(auto, unfolding(crate::specs::Tree::defaulted))]
 pub fn number_or(section: Section, key: u8, range: Range, default: u8) -> Result<u8, SystemFault>
-    ensures { Gives (λ n. n) result (defaulted default (number_of range.least range.most) key section.entry.at.now (table_view section.entry.table.now)) }
+    ensures { Gives (λ n. n) result (defaulted default (number_of range.least range.most) key section.entry.at.now
+        (table_view section.entry.table.now)) }
 {
     match section.value(key) {
         None => Ok(default),
@@ -55,7 +57,7 @@ pub fn number_or(section: Section, key: u8, range: Range, default: u8) -> Result
 }
 
 #[tactic(auto, unfolding(crate::specs::Values::flag_of))]
-fn flag(place: Place, value: &Value) -> Result<bool, SystemFault>
+fn flag(place: KeyPlace, value: &Value) -> Result<bool, SystemFault>
     ensures { Gives (λ b. b) result (flag_of (place.entry.at.now ++ Key place.entry.key ∷ []) (view value.now)) }
 {
     match value.as_bool() {

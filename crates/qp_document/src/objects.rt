@@ -15,7 +15,7 @@ use crate::lists::{Count, needed_tables};
 use crate::numbers::{Range, needed_number, number_or};
 use crate::plain::{pools, signals};
 use crate::raw::{RawObject, RawObjects, RawSystem};
-use crate::section::{Place, Section};
+use crate::section::{KeyPlace, Section};
 use crate::states::charts;
 use crate::texts::needed_name;
 use crate::vars::vars_or_none;
@@ -63,10 +63,11 @@ fn object(alloc: Global, section: Section) -> Result<RawObject, SystemFault>
 }
 
 /// Objects in order.
-fn each_object(alloc: Global, place: Place, tables: &[&Table]) -> Result<RawObjects, SystemFault>
+fn each_object(alloc: Global, place: KeyPlace, tables: &[&Table]) -> Result<RawObjects, SystemFault>
     requires few { length tables.now ≤ 200 }
     requires room { length place.at.now ≤ 4 }
-    ensures { Gives (map object_view) result (each object_at (place.entry.at.now ++ Key place.entry.key ∷ []) 1 (map (λ t. table_view t.now) tables.now)) }
+    ensures { Gives (map object_view) result (each object_at (place.entry.at.now ++ Key place.entry.key ∷ []) 1
+        (map (λ t. table_view t.now) tables.now)) }
 {
     let mut items = Vec::new(alloc);
     for (i, table) in tables.iter().enumerate() {
@@ -80,7 +81,8 @@ fn each_object(alloc: Global, place: Place, tables: &[&Table]) -> Result<RawObje
 /// The objects of a file.
 pub fn objects(alloc: Global, section: Section) -> Result<RawObjects, SystemFault>
     requires { length section.at.now ≤ 4 }
-    ensures { Gives (map object_view) result (read_tables object_at (section.entry.at.now ++ Key key.OBJECT ∷ []) (needed (tables_of 1 32) key.OBJECT section.entry.at.now (table_view section.entry.table.now))) }
+    ensures { Gives (map object_view) result (read_tables object_at (section.entry.at.now ++ Key key.OBJECT ∷ [])
+        (needed (tables_of 1 32) key.OBJECT section.entry.at.now (table_view section.entry.table.now))) }
 {
     let count = Count { least: 1, most: 32 };
     let tables = needed_tables(alloc, section, key::OBJECT, count)?;

@@ -13,7 +13,7 @@ ghost use Rattle.qp_document.specs.Views.{pool_view, signal_view};
 use crate::fault::SystemFault;
 use crate::lists::tables_or_none;
 use crate::numbers::{Range, flag_or_false, needed_number, number_or};
-use crate::section::{Place, Section};
+use crate::section::{KeyPlace, Section};
 use crate::texts::needed_name;
 use qp_chart::key;
 use qp_model::{PoolDef, PoolDefs, SignalDef, SignalDefs};
@@ -31,10 +31,11 @@ fn pool(section: Section) -> Result<PoolDef, SystemFault>
 }
 
 /// Pools in order.
-fn each_pool(alloc: Global, place: Place, tables: &[&Table]) -> Result<PoolDefs, SystemFault>
+fn each_pool(alloc: Global, place: KeyPlace, tables: &[&Table]) -> Result<PoolDefs, SystemFault>
     requires few { length tables.now ≤ 200 }
     requires room { length place.at.now ≤ 4 }
-    ensures { Gives (map pool_view) result (each pool_at (place.entry.at.now ++ Key place.entry.key ∷ []) 1 (map (λ t. table_view t.now) tables.now)) }
+    ensures { Gives (map pool_view) result (each pool_at (place.entry.at.now ++ Key place.entry.key ∷ []) 1
+        (map (λ t. table_view t.now) tables.now)) }
 {
     let mut items = Vec::new(alloc);
     for (i, table) in tables.iter().enumerate() {
@@ -48,7 +49,8 @@ fn each_pool(alloc: Global, place: Place, tables: &[&Table]) -> Result<PoolDefs,
 /// The pools of a file.
 pub fn pools(alloc: Global, section: Section) -> Result<PoolDefs, SystemFault>
     requires { length section.at.now ≤ 4 }
-    ensures { Gives (map pool_view) result (read_tables pool_at (section.entry.at.now ++ Key key.POOL ∷ []) (defaulted [] (tables_of 0 15) key.POOL section.entry.at.now (table_view section.entry.table.now))) }
+    ensures { Gives (map pool_view) result (read_tables pool_at (section.entry.at.now ++ Key key.POOL ∷ [])
+        (defaulted [] (tables_of 0 15) key.POOL section.entry.at.now (table_view section.entry.table.now))) }
 {
     let tables = tables_or_none(alloc, section, key::POOL, 15)?;
     each_pool(alloc, section.place(key::POOL), &tables)
@@ -70,10 +72,11 @@ fn signal(section: Section) -> Result<SignalDef, SystemFault>
 }
 
 /// Signals in order.
-fn each_signal(alloc: Global, place: Place, tables: &[&Table]) -> Result<SignalDefs, SystemFault>
+fn each_signal(alloc: Global, place: KeyPlace, tables: &[&Table]) -> Result<SignalDefs, SystemFault>
     requires few { length tables.now ≤ 200 }
     requires room { length place.at.now ≤ 4 }
-    ensures { Gives (map signal_view) result (each signal_at (place.entry.at.now ++ Key place.entry.key ∷ []) 1 (map (λ t. table_view t.now) tables.now)) }
+    ensures { Gives (map signal_view) result (each signal_at (place.entry.at.now ++ Key place.entry.key ∷ []) 1
+        (map (λ t. table_view t.now) tables.now)) }
 {
     let mut items = Vec::new(alloc);
     for (i, table) in tables.iter().enumerate() {
@@ -87,7 +90,8 @@ fn each_signal(alloc: Global, place: Place, tables: &[&Table]) -> Result<SignalD
 /// The signals of a file.
 pub fn signals(alloc: Global, section: Section) -> Result<SignalDefs, SystemFault>
     requires { length section.at.now ≤ 4 }
-    ensures { Gives (map signal_view) result (read_tables signal_at (section.entry.at.now ++ Key key.SIGNAL ∷ []) (defaulted [] (tables_of 0 200) key.SIGNAL section.entry.at.now (table_view section.entry.table.now))) }
+    ensures { Gives (map signal_view) result (read_tables signal_at (section.entry.at.now ++ Key key.SIGNAL ∷ [])
+        (defaulted [] (tables_of 0 200) key.SIGNAL section.entry.at.now (table_view section.entry.table.now))) }
 {
     let tables = tables_or_none(alloc, section, key::SIGNAL, 200)?;
     each_signal(alloc, section.place(key::SIGNAL), &tables)

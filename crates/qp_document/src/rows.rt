@@ -13,7 +13,7 @@ ghost use Rattle.qp_document.specs.Views.{timer_view, row_view};
 use crate::fault::SystemFault;
 use crate::lists::tables_or_none;
 use crate::numbers::{Range, needed_number};
-use crate::section::{Place, Section};
+use crate::section::{KeyPlace, Section};
 use crate::texts::{needed_name, optional_name, optional_text, texts_or_none};
 use qp_chart::{RawRow, RawRows, RawTimer, RawTimers, key};
 use std::alloc::Global;
@@ -31,10 +31,11 @@ fn timer(section: Section) -> Result<RawTimer, SystemFault>
 }
 
 /// Time events in order.
-fn each_timer(alloc: Global, place: Place, tables: &[&Table]) -> Result<RawTimers, SystemFault>
+fn each_timer(alloc: Global, place: KeyPlace, tables: &[&Table]) -> Result<RawTimers, SystemFault>
     requires few { length tables.now ≤ 200 }
     requires room { length place.at.now ≤ 4 }
-    ensures { Gives (map timer_view) result (each timer_at (place.entry.at.now ++ Key place.entry.key ∷ []) 1 (map (λ t. table_view t.now) tables.now)) }
+    ensures { Gives (map timer_view) result (each timer_at (place.entry.at.now ++ Key place.entry.key ∷ []) 1
+        (map (λ t. table_view t.now) tables.now)) }
 {
     let mut items = Vec::new(alloc);
     for (i, table) in tables.iter().enumerate() {
@@ -48,7 +49,8 @@ fn each_timer(alloc: Global, place: Place, tables: &[&Table]) -> Result<RawTimer
 /// The time events of a chart.
 pub fn timers(alloc: Global, section: Section) -> Result<RawTimers, SystemFault>
     requires { length section.at.now ≤ 4 }
-    ensures { Gives (map timer_view) result (read_tables timer_at (section.entry.at.now ++ Key key.TIMER ∷ []) (defaulted [] (tables_of 0 8) key.TIMER section.entry.at.now (table_view section.entry.table.now))) }
+    ensures { Gives (map timer_view) result (read_tables timer_at (section.entry.at.now ++ Key key.TIMER ∷ [])
+        (defaulted [] (tables_of 0 8) key.TIMER section.entry.at.now (table_view section.entry.table.now))) }
 {
     let tables = tables_or_none(alloc, section, key::TIMER, 8)?;
     each_timer(alloc, section.place(key::TIMER), &tables)
@@ -67,10 +69,11 @@ fn row(alloc: Global, section: Section) -> Result<RawRow, SystemFault>
 }
 
 /// Rows in order.
-fn each_row(alloc: Global, place: Place, tables: &[&Table]) -> Result<RawRows, SystemFault>
+fn each_row(alloc: Global, place: KeyPlace, tables: &[&Table]) -> Result<RawRows, SystemFault>
     requires few { length tables.now ≤ 200 }
     requires room { length place.at.now ≤ 4 }
-    ensures { Gives (map row_view) result (each row_at (place.entry.at.now ++ Key place.entry.key ∷ []) 1 (map (λ t. table_view t.now) tables.now)) }
+    ensures { Gives (map row_view) result (each row_at (place.entry.at.now ++ Key place.entry.key ∷ []) 1
+        (map (λ t. table_view t.now) tables.now)) }
 {
     let mut items = Vec::new(alloc);
     for (i, table) in tables.iter().enumerate() {
@@ -84,7 +87,8 @@ fn each_row(alloc: Global, place: Place, tables: &[&Table]) -> Result<RawRows, S
 /// The rows of a state.
 pub fn rows(alloc: Global, section: Section) -> Result<RawRows, SystemFault>
     requires { length section.at.now ≤ 4 }
-    ensures { Gives (map row_view) result (read_tables row_at (section.entry.at.now ++ Key key.ROW ∷ []) (defaulted [] (tables_of 0 32) key.ROW section.entry.at.now (table_view section.entry.table.now))) }
+    ensures { Gives (map row_view) result (read_tables row_at (section.entry.at.now ++ Key key.ROW ∷ [])
+        (defaulted [] (tables_of 0 32) key.ROW section.entry.at.now (table_view section.entry.table.now))) }
 {
     let tables = tables_or_none(alloc, section, key::ROW, 32)?;
     each_row(alloc, section.place(key::ROW), &tables)

@@ -15,13 +15,13 @@ use toml::{Table, Value};
 
 /// The place of a key: the path to its table, and the key.
 #[derive(Clone, Copy)]
-pub struct Place<'a> {
+pub struct KeyPlace<'a> {
     pub at: &'a [Part],
     pub key: u8,
     ghost room: { length at.now ≤ 6 },
 }
 
-impl<'a> Place<'a> {
+impl<'a> KeyPlace<'a> {
     /// A fault at the key.
     pub fn refuse(self, code: u8) -> SystemFault
         ensures { result ≡ fault_at code (self.entry.at.now ++ Key self.entry.key ∷ []) }
@@ -49,11 +49,11 @@ pub struct Section<'a> {
 }
 
 impl<'a> Section<'a> {
-    pub fn place(self, key: u8) -> Place<'a>
+    pub fn place(self, key: u8) -> KeyPlace<'a>
         ensures at { result.at.now ≡ self.entry.at.now }
         ensures key { result.key ≡ key }
     {
-        Place { at: self.at, key }
+        KeyPlace { at: self.at, key }
     }
 
     /// The value at a key.

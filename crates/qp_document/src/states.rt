@@ -15,7 +15,7 @@ use crate::fault::SystemFault;
 use crate::lists::{Count, needed_tables};
 use crate::raw::RawCharts;
 use crate::rows::{rows, timers};
-use crate::section::{Place, Section};
+use crate::section::{KeyPlace, Section};
 use crate::texts::{name, needed_name, optional_name, texts_or_none};
 use crate::vars::vars_or_none;
 use qp_chart::{Name, RawChart, RawState, RawStates, code, key};
@@ -37,7 +37,8 @@ fn is_filled_list(value: Option<&Value>) -> bool
 
 /// The initial state of a state, which has to stand where the state has initial actions.
 fn initial_name(section: Section) -> Result<Option<Name>, SystemFault>
-    ensures { Gives (option_map (λ name. name.bytes)) result (initial (section.entry.at.now ++ Key key.INIT ∷ []) (at_key key.INIT (table_view section.entry.table.now)) (at_key key.INIT_DO (table_view section.entry.table.now))) }
+    ensures { Gives (option_map (λ name. name.bytes)) result (initial (section.entry.at.now ++ Key key.INIT ∷ [])
+        (at_key key.INIT (table_view section.entry.table.now)) (at_key key.INIT_DO (table_view section.entry.table.now))) }
 {
     let place = section.place(key::INIT);
     match section.value(key::INIT) {
@@ -80,10 +81,11 @@ fn state(alloc: Global, section: Section) -> Result<RawState, SystemFault>
 }
 
 /// States in order.
-fn each_state(alloc: Global, place: Place, tables: &[&Table]) -> Result<RawStates, SystemFault>
+fn each_state(alloc: Global, place: KeyPlace, tables: &[&Table]) -> Result<RawStates, SystemFault>
     requires few { length tables.now ≤ 200 }
     requires room { length place.at.now ≤ 2 }
-    ensures { Gives (map state_view) result (each state_at (place.entry.at.now ++ Key place.entry.key ∷ []) 1 (map (λ t. table_view t.now) tables.now)) }
+    ensures { Gives (map state_view) result (each state_at (place.entry.at.now ++ Key place.entry.key ∷ []) 1
+        (map (λ t. table_view t.now) tables.now)) }
 {
     let mut items = Vec::new(alloc);
     for (i, table) in tables.iter().enumerate() {
@@ -97,7 +99,8 @@ fn each_state(alloc: Global, place: Place, tables: &[&Table]) -> Result<RawState
 /// The states of a chart.
 pub fn states(alloc: Global, section: Section) -> Result<RawStates, SystemFault>
     requires { length section.at.now ≤ 2 }
-    ensures { Gives (map state_view) result (read_tables state_at (section.entry.at.now ++ Key key.STATE ∷ []) (needed (tables_of 1 64) key.STATE section.entry.at.now (table_view section.entry.table.now))) }
+    ensures { Gives (map state_view) result (read_tables state_at (section.entry.at.now ++ Key key.STATE ∷ [])
+        (needed (tables_of 1 64) key.STATE section.entry.at.now (table_view section.entry.table.now))) }
 {
     let count = Count { least: 1, most: 64 };
     let tables = needed_tables(alloc, section, key::STATE, count)?;
@@ -134,10 +137,11 @@ fn chart(alloc: Global, section: Section) -> Result<RawChart, SystemFault>
 }
 
 /// Charts in order.
-fn each_chart(alloc: Global, place: Place, tables: &[&Table]) -> Result<RawCharts, SystemFault>
+fn each_chart(alloc: Global, place: KeyPlace, tables: &[&Table]) -> Result<RawCharts, SystemFault>
     requires few { length tables.now ≤ 200 }
     requires room { length place.at.now ≤ 0 }
-    ensures { Gives (map chart_view) result (each chart_at (place.entry.at.now ++ Key place.entry.key ∷ []) 1 (map (λ t. table_view t.now) tables.now)) }
+    ensures { Gives (map chart_view) result (each chart_at (place.entry.at.now ++ Key place.entry.key ∷ []) 1
+        (map (λ t. table_view t.now) tables.now)) }
 {
     let mut items = Vec::new(alloc);
     for (i, table) in tables.iter().enumerate() {
@@ -151,7 +155,8 @@ fn each_chart(alloc: Global, place: Place, tables: &[&Table]) -> Result<RawChart
 /// The charts of a file.
 pub fn charts(alloc: Global, section: Section) -> Result<RawCharts, SystemFault>
     requires { length section.at.now ≤ 0 }
-    ensures { Gives (map chart_view) result (read_tables chart_at (section.entry.at.now ++ Key key.CHART ∷ []) (needed (tables_of 1 32) key.CHART section.entry.at.now (table_view section.entry.table.now))) }
+    ensures { Gives (map chart_view) result (read_tables chart_at (section.entry.at.now ++ Key key.CHART ∷ [])
+        (needed (tables_of 1 32) key.CHART section.entry.at.now (table_view section.entry.table.now))) }
 {
     let count = Count { least: 1, most: 32 };
     let tables = needed_tables(alloc, section, key::CHART, count)?;

@@ -11,14 +11,14 @@ ghost use Rattle.qp_document.specs.Values.{allowed, name_of, text_of, all_of_kin
 
 use crate::fault::SystemFault;
 use crate::name::is_allowed;
-use crate::section::{Place, Section};
+use crate::section::{KeyPlace, Section};
 use qp_chart::{Name, Text, Texts, code};
 use std::alloc::{AllocError, Global};
 use toml::Value;
 
 /// A text that has to be a name.
 #[tactic(auto, unfolding(crate::specs::Values::allowed))]
-pub fn allowed_name(place: Place, text: &str) -> Result<Name, SystemFault>
+pub fn allowed_name(place: KeyPlace, text: &str) -> Result<Name, SystemFault>
     ensures { Gives (λ name. name.bytes) result (allowed (place.entry.at.now ++ Key place.entry.key ∷ []) text.now) }
 {
     match Name::from(text) {
@@ -29,7 +29,7 @@ pub fn allowed_name(place: Place, text: &str) -> Result<Name, SystemFault>
 
 /// A name.
 #[tactic(auto, unfolding(crate::specs::Values::name_of))]
-pub fn name(place: Place, value: &Value) -> Result<Name, SystemFault>
+pub fn name(place: KeyPlace, value: &Value) -> Result<Name, SystemFault>
     ensures { Gives (λ name. name.bytes) result (name_of (place.entry.at.now ++ Key place.entry.key ∷ []) (view value.now)) }
 {
     match value.as_str() {
@@ -53,7 +53,8 @@ pub fn needed_name(section: Section, key: u8) -> Result<Name, SystemFault>
 /// The name at a key that may be missing.
 #[tactic(auto, unfolding(crate::specs::Tree::optional))]
 pub fn optional_name(section: Section, key: u8) -> Result<Option<Name>, SystemFault>
-    ensures { Gives (option_map (λ name. name.bytes)) result (optional name_of key section.entry.at.now (table_view section.entry.table.now)) }
+    ensures { Gives (option_map (λ name. name.bytes)) result (optional name_of key section.entry.at.now
+        (table_view section.entry.table.now)) }
 {
     match section.value(key) {
         None => Ok(None),
@@ -63,7 +64,7 @@ pub fn optional_name(section: Section, key: u8) -> Result<Option<Name>, SystemFa
 
 /// A text of at most 200 bytes.
 #[tactic(auto, unfolding(crate::specs::Values::text_of))]
-fn text(alloc: Global, place: Place, value: &Value) -> Result<Text, SystemFault>
+fn text(alloc: Global, place: KeyPlace, value: &Value) -> Result<Text, SystemFault>
     ensures { Gives (λ text. text) result (text_of (place.entry.at.now ++ Key place.entry.key ∷ []) (view value.now)) }
 {
     match value.as_str() {
@@ -101,7 +102,7 @@ fn strings(alloc: Global, items: &[Value]) -> Result<Option<Vec<&str>>, AllocErr
 }
 
 /// Copies of texts of at most 200 bytes each.
-fn copies(alloc: Global, place: Place, texts: &[&str]) -> Result<Texts, SystemFault>
+fn copies(alloc: Global, place: KeyPlace, texts: &[&str]) -> Result<Texts, SystemFault>
     requires { length texts.now ≤ 16 }
     ensures { Gives (λ t. t) result (short_texts (place.entry.at.now ++ Key place.entry.key ∷ []) 1 (map (λ s. s.now) texts.now)) }
 {
@@ -122,7 +123,7 @@ fn copies(alloc: Global, place: Place, texts: &[&str]) -> Result<Texts, SystemFa
 
 /// An action list.
 #[tactic(auto, unfolding(crate::specs::Values::texts_of, crate::specs::Values::items_of_kind))]
-fn texts(alloc: Global, place: Place, value: &Value) -> Result<Texts, SystemFault>
+fn texts(alloc: Global, place: KeyPlace, value: &Value) -> Result<Texts, SystemFault>
     ensures { Gives (λ t. t) result (texts_of (place.entry.at.now ++ Key place.entry.key ∷ []) (view value.now)) }
 {
     let Some(items) = value.as_array() else {

@@ -10,7 +10,7 @@ ghost use Rattle.qp_document.specs.Values.{all_integers, is_above, named_vars, v
 ghost use Rattle.qp_document.specs.Views.{vars_view};
 
 use crate::fault::SystemFault;
-use crate::section::{Place, Section};
+use crate::section::{KeyPlace, Section};
 use crate::texts::allowed_name;
 use qp_chart::{Vars, code};
 use std::alloc::{AllocError, Global};
@@ -31,7 +31,7 @@ fn integers(alloc: Global, table: &Table) -> Result<Option<Vec<(&str, i64)>>, Al
 }
 
 /// Variables, each of whose keys has to be a name.
-fn named(alloc: Global, place: Place, vars: &[(&str, i64)]) -> Result<Vars, SystemFault>
+fn named(alloc: Global, place: KeyPlace, vars: &[(&str, i64)]) -> Result<Vars, SystemFault>
     ensures { Gives vars_view result (named_vars (place.entry.at.now ++ Key place.entry.key ∷ []) (map (λ x. (x.0.now, x.1)) vars.now)) }
 {
     let mut items = Vec::new(alloc);
@@ -56,7 +56,7 @@ fn is_more(most: Option<usize>, count: usize) -> bool
 #[tactic(auto, unfolding(crate::specs::Values::vars_of))]
 fn vars(
     alloc: Global,
-    place: Place,
+    place: KeyPlace,
     most: Option<usize>,
     value: &Value,
 ) -> Result<Vars, SystemFault>

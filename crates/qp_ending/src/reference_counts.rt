@@ -48,7 +48,8 @@ impl ReferenceCounts {
         requires inside { k < length self.old.counts.items }
         requires room { self.old.total + 1 < 2 ^ 64 }
         requires counts { (names : List ℕ) × Counted names self.old.counts.items self.old.total }
-        ensures counted { (names : List ℕ) → Counted names self.old.counts.items self.old.total → Counted (k ∷ names) self.new.counts.items self.new.total }
+        ensures counted { (names : List ℕ) → Counted names self.old.counts.items self.old.total → Counted (k ∷ names) self.new.counts.items
+            self.new.total }
         ensures size { length self.new.counts.items ≡ length self.old.counts.items }
         ensures bounded { self.new.total ≤ self.old.total + 1 }
     {
@@ -58,7 +59,8 @@ impl ReferenceCounts {
 
     /// Removes a reference once, where it stands.
     fn remove(&mut self, k: u64)
-        ensures counted { (names : List ℕ) → Counted names self.old.counts.items self.old.total → Counted (without_one k names) self.new.counts.items self.new.total }
+        ensures counted { (names : List ℕ) → Counted names self.old.counts.items self.old.total → Counted (without_one k names)
+            self.new.counts.items self.new.total }
         ensures size { length self.new.counts.items ≡ length self.old.counts.items }
         ensures bounded { self.new.total ≤ self.old.total + 1 }
     {
@@ -74,7 +76,8 @@ impl ReferenceCounts {
         requires inside { IsTrue (makes_below (length self.old.counts.items) body.now) }
         requires room { self.old.total + 1 < 2 ^ 64 }
         requires counts { (names : List ℕ) × Counted names self.old.counts.items self.old.total }
-        ensures counted { (s : Refs) → Counted s.names self.old.counts.items self.old.total → Counted (refs_next s body.now).names self.new.counts.items self.new.total }
+        ensures counted { (s : Refs) → Counted s.names self.old.counts.items self.old.total → Counted (refs_next s body.now).names
+            self.new.counts.items self.new.total }
         ensures size { length self.new.counts.items ≡ length self.old.counts.items }
         ensures bounded { self.new.total ≤ self.old.total + 1 }
     {
@@ -107,7 +110,9 @@ impl ReferenceCounts {
     /// Whether each reference that stands is marked.
     fn has_only(&self, marks: &[bool]) -> bool
         requires { length marks.now ≡ length self.now.counts.items }
-        ensures { (names others : List ℕ) → Counted names self.now.counts.items self.now.total → ((k : ℕ) → k < length self.now.counts.items → get_or marks.now k false ≡ has others k) → result ≡ list_all (λ x. has others x) names }
+        ensures { (names others : List ℕ) → Counted names self.now.counts.items self.now.total →
+            ((k : ℕ) → k < length self.now.counts.items → get_or marks.now k false ≡ has others k) → result ≡ list_all (λ x. has others x)
+            names }
     {
         for k in 0..marks.len() {
             if self.counts[k] > 0 && !marks[k] {

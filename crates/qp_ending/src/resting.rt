@@ -81,7 +81,8 @@ fn free_in(
     records: &RecordsByWord,
     p: u8,
 ) -> Result<FreeBlocks, AllocError>
-    ensures { IfOk result (λ f. f.free.keys ≡ (after (free_blocks (blocks_of sys.now p)) (hist (word.Pool p) (all_items records.now))).free) }
+    ensures { IfOk result (λ f. f.free.keys ≡ (after (free_blocks (blocks_of sys.now p))
+        (hist (word.Pool p) (all_items records.now))).free) }
 {
     let own = u64::from(p);
     let history = records.history(alloc, Named::Pool { p: own })?;
@@ -175,7 +176,8 @@ pub fn rests(
 ) -> Result<bool, AllocError>
     requires few { WordsFit sys.now }
     requires same { records.now ≡ j.now.lanes }
-    ensures { IfOk result (λ b. b ≡ (lines_empty sys.now (all_items j.now.lanes) && blocks_rest sys.now (all_items j.now.lanes) (deferred_of sys.now j.now sys.now.objects))) }
+    ensures { IfOk result (λ b. b ≡ (lines_empty sys.now (all_items j.now.lanes) && blocks_rest sys.now (all_items j.now.lanes)
+        (deferred_of sys.now j.now sys.now.objects))) }
 {
     if !lines_empty(alloc, sys, records)? {
         return Ok(false);

@@ -56,7 +56,8 @@ impl Takes {
 
     fn add(&mut self, taker: Option<u8>)
         requires { (o : ℕ) → o < 256 → slice_index self.old.counts o < 2 ^ 64 }
-        ensures { (o : ℕ) → o < 256 → slice_index self.new.counts o ≡ min (slice_index self.old.counts o + (if is_object o taker then 1 else 0)) (2 ^ 64 - 1) }
+        ensures { (o : ℕ) → o < 256 → slice_index self.new.counts o ≡ min (slice_index self.old.counts o +
+            (if is_object o taker then 1 else 0)) (2 ^ 64 - 1) }
     {
         if let Some(o) = taker {
             let place = usize::from(o);
@@ -66,7 +67,8 @@ impl Takes {
 
     fn add_lane(&mut self, lane: &[Rec])
         requires { (o : ℕ) → o < 256 → slice_index self.old.counts o < 2 ^ 64 }
-        ensures { (o : ℕ) → o < 256 → slice_index self.new.counts o ≡ min (slice_index self.old.counts o + took_count (lane_items lane.now) o) (2 ^ 64 - 1) }
+        ensures { (o : ℕ) → o < 256 → slice_index self.new.counts o ≡ min (slice_index self.old.counts o + took_count (lane_items lane.now)
+            o) (2 ^ 64 - 1) }
     {
         for r in lane {
             self.add(taker(r));

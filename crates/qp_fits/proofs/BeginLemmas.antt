@@ -1,7 +1,7 @@
 -- What a call that begins reads is its records.
 use Rattle.qp_model.specs.Calls as call
 use Rattle.qp_model.specs.Calls.{Call, Answer}
-use Rattle.qp_fits.specs.RestLaws.{ReadsBegin}
+use Rattle.qp_fits.specs.CallStateLaws.{ReadsBegin}
 use Rattle.qp_fits.proofs.PostLemmas.{begin-post, begin-lifo, begin-forward}
 use Rattle.qp_fits.proofs.PublishLemmas.{begin-publish}
 use Rattle.qp_fits.proofs.DeferLemmas.{begin-defer}

@@ -10,8 +10,8 @@ use Rattle.qp_model.specs.Calls as call
 use Rattle.qp_model.specs.Calls.{Call, Answer, Granted, Refused, Flushed, AtQueue, AtPool, AtTimer, AtTicks, AtFront}
 use Rattle.qp_model.specs.Shapes.{Fits, Defers}
 use Rattle.qp_model.specs.Deferral.{keep, kept_after, KeepsDeferred}
-use Rattle.qp_fits.specs.Rest.{ToDeferred, Stage, Begins, Whole}
-use Rattle.qp_fits.specs.RestNext.{stage_next, begin_next, defer_next, full_next, list_after}
+use Rattle.qp_fits.specs.CallState.{ToDeferred, CallStage, Begins, Whole}
+use Rattle.qp_fits.specs.CallStateNext.{stage_next, begin_next, defer_next, full_next, list_after}
 use Rattle.qp_fits.proofs.ReadLemmas.{At, at-step, at-stepped, at-ended, at-whole}
 use Rattle.qp_fits.proofs.FrontLemmas.{at-deferred}
 use Rattle.qp_fits.proofs.PostLemmas.{Again, at-now}
@@ -57,7 +57,7 @@ module _ (sys : System) (o : ℕ) (now : Option Entry) (kept : List Entry) (a : 
   unfolding stage_next begin_next defer_next Defers kept_after keep
   defer-full is g = (out g, λ h. into a refl h.0 h.1)
     where
-      by : (t : Told) (g : List Told) (body : Body) (known : Known) → t.body ≡ body → t.known ≡ known → (next : Stage)
+      by : (t : Told) (g : List Told) (body : Body) (known : Known) → t.body ≡ body → t.known ≡ known → (next : CallStage)
           → full_next body known ≡ Some next → At sys o now (list_after kept body) next a k g → Defers now a (t ∷ g) × (kept_after room kept (t ∷ g) ≡ Some k)
       by t g item.NoDefer Nothing is_body is_known next f more =
           let stage : Whole Refused ≡ next = cc in

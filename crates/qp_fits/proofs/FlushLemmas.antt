@@ -12,8 +12,8 @@ use Rattle.qp_model.specs.Calls.{Call, Answer, Granted, Refused, Flushed, AtQueu
 use Rattle.qp_model.specs.Shapes.{Fits, Drops}
 use Rattle.qp_model.specs.Shapes as shapes
 use Rattle.qp_model.specs.Deferral.{keep, kept_after, KeepsDeferred}
-use Rattle.qp_fits.specs.Rest.{FlushesOn, Stage, Flushes}
-use Rattle.qp_fits.specs.RestNext.{stage_next, flushed_next, flushes_on, released, list_after}
+use Rattle.qp_fits.specs.CallState.{FlushesOn, CallStage, Flushes}
+use Rattle.qp_fits.specs.CallStateNext.{stage_next, flushed_next, flushes_on, released, list_after}
 use Rattle.qp_fits.proofs.ReadLemmas.{At, at-step, at-stepped, at-ended, at-whole}
 use Rattle.qp_fits.proofs.ReleaseLemmas.{at-released}
 use Rattle.qp_fits.proofs.KeptLemmas.{kept-drops}
@@ -35,7 +35,7 @@ module _ (sys : System) (o : ℕ) (now : Option Entry) (a : Answer) (k : List En
       let one = at-stepped sys o now (x ∷ xs) (Flushes total) a k t g h in by (flush-out xs) t.body t.known refl refl one.0 one.1 one.2
     where
       by : ((g : List Told) → At sys o now xs (flushes_on total xs) a k g → shapes.Flushes (length xs) g × (kept_after room xs g ≡ Some []) × (a ≡ Flushed total) × (k ≡ []))
-          → (body : Body) (known : Known) → t.body ≡ body → t.known ≡ known → (next : Stage)
+          → (body : Body) (known : Known) → t.body ≡ body → t.known ≡ known → (next : CallStage)
           → flushed_next total x xs body known ≡ Some next → At sys o now (list_after (x ∷ xs) body) next a k g
           → shapes.Flushes (suc (length xs)) (t ∷ g) × (kept_after room (x ∷ xs) (t ∷ g) ≡ Some []) × (a ≡ Flushed total) × (k ≡ [])
       by later (item.Flush e) Nothing is_body is_known next f more =

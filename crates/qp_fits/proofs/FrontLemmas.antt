@@ -11,8 +11,8 @@ use Rattle.qp_model.specs.Told.{Told, Known, Nothing, plain}
 use Rattle.qp_model.specs.Calls.{Answer, Granted, Refused, AtQueue, AtFront}
 use Rattle.qp_model.specs.Shapes.{Posts, PostsFront}
 use Rattle.qp_model.proofs.LineLemmas.{same_number}
-use Rattle.qp_fits.specs.Rest.{ToFront, ToDeferred, Stage, Puts, Whole}
-use Rattle.qp_fits.specs.RestNext.{stage_next, put_next, front_next, deferred_next, fronted, list_after}
+use Rattle.qp_fits.specs.CallState.{ToFront, ToDeferred, CallStage, Puts, Whole}
+use Rattle.qp_fits.specs.CallStateNext.{stage_next, put_next, front_next, deferred_next, fronted, list_after}
 use Rattle.qp_fits.proofs.ReadLemmas.{At, at-step, at-stepped, at-ended, at-whole}
 use Rattle.qp_model.proofs.RecordLemmas.{told-is, same_entry-is, same_entry-refl}
 use Rattle.qp_fits.proofs.StageLemmas.{only-passed}
@@ -30,7 +30,7 @@ module _ (sys : System) (o : ℕ) (now : Option Entry) (kept : List Entry) (a : 
   at-front-out recalled e (t ∷ g) h =
       let one = at-stepped sys o now kept (Puts (ToFront recalled) e) a k t g h in by t.body t.known refl refl one.0 one.1 one.2
     where
-      by : (body : Body) (known : Known) → t.body ≡ body → t.known ≡ known → (next : Stage)
+      by : (body : Body) (known : Known) → t.body ≡ body → t.known ≡ known → (next : CallStage)
           → front_next o recalled e body known ≡ Some next → At sys o now (list_after kept body) next a k g
           → Fronted o e kept (At sys o now kept (fronted recalled) a k) a k (t ∷ g)
       by (item.Lifo f l m x) Nothing is_body is_known next is more =
@@ -61,7 +61,7 @@ module _ (sys : System) (o : ℕ) (now : Option Entry) (kept : List Entry) (a : 
   unfolding stage_next put_next
   at-deferred e g = (out g, λ h. rw h.0 (into h.1 h.2))
     where
-      by : (t : Told) (g : List Told) (body : Body) (known : Known) → t.body ≡ body → t.known ≡ known → (next : Stage)
+      by : (t : Told) (g : List Told) (body : Body) (known : Known) → t.body ≡ body → t.known ≡ known → (next : CallStage)
           → deferred_next e body known ≡ Some next → At sys o now (list_after kept body) next a k g
           → (t ∷ g ≡ plain (item.Defer e) ∷ []) × (a ≡ Granted) × (k ≡ kept ++ e ∷ [])
       by t g (item.Defer x) Nothing is_body is_known next is more =

@@ -5,7 +5,7 @@ use Rattle.std.specs.List.{position, position_or_len}
 use Rattle.std.proofs.lemmas.List.{length-map}
 use Rattle.qp_model.specs.declared.systems.PoolDef.{PoolDef}
 use Rattle.qp_model.specs.Parts.{first_pool, members_below}
-use Rattle.qp_fits.specs.RestNext.{is_of}
+use Rattle.qp_fits.specs.CallStateNext.{is_of}
 
 position_or_len-sizes : (n : ℕ) (ds : List PoolDef) → position_or_len (λ size. nat_le n size) (map (λ (d : PoolDef). d.size) ds) ≡ position_or_len (λ (d : PoolDef). nat_le n d.size) ds
 position_or_len-sizes n [] = refl

@@ -14,8 +14,8 @@ use Rattle.qp_model.specs.Calls.{Answer, Refused, AtPool}
 use Rattle.qp_model.specs.Parts.{sizes_of, first_pool}
 use Rattle.qp_model.specs.Shapes.{MakesNew, MakesBlock, NoBlockFor}
 use Rattle.qp_model.proofs.LineLemmas.{same_number}
-use Rattle.qp_fits.specs.Rest.{Goal, Stage, Refers, Puts, Whole}
-use Rattle.qp_fits.specs.RestNext.{stage_next, block_next, new_next, list_after, only, is_of}
+use Rattle.qp_fits.specs.CallState.{Goal, CallStage, Refers, Puts, Whole}
+use Rattle.qp_fits.specs.CallStateNext.{stage_next, block_next, new_next, list_after, only, is_of}
 use Rattle.qp_fits.proofs.ReadLemmas.{At, at-step, at-stepped, at-ended, at-whole}
 use Rattle.qp_fits.proofs.ReleaseLemmas.{at-refers}
 use Rattle.qp_model.proofs.RecordLemmas.{told-is}
@@ -45,7 +45,7 @@ is_of-some n = same_number n
 
 module _ (sys : System) (o : ℕ) (now : Option Entry) (kept : List Entry) (a : Answer) (k : List Entry) where
   -- stages that read the same first records read the same
-  pub at-same : (s r : Stage) → ((body : Body) (known : Known) → stage_next sys o now kept s body known ≡ stage_next sys o now kept r body known)
+  pub at-same : (s r : CallStage) → ((body : Body) (known : Known) → stage_next sys o now kept s body known ≡ stage_next sys o now kept r body known)
       → ((b : Answer) → s ≡ Whole b → ⊥) → (g : List Told) → At sys o now kept s a k g → At sys o now kept r a k g
   at-same s r same more [] h = absurd (more a (at-ended sys o now kept s a k h).0)
   at-same s r same more (t ∷ g) h =
@@ -58,12 +58,12 @@ pub data MadeNew (fixed : Bool) (sizes : List ℕ) (sig : ℕ) (pars : List ℕ)
   IsMade : (head : List Told) (e : Entry) (rest : List Told) → MakesNew fixed sizes sig pars reserve head e → g ≡ head ++ rest → Put e rest
       → MadeNew fixed sizes sig pars reserve kept Put a k g
 
-module _ (sys : System) (o : ℕ) (now : Option Entry) (kept : List Entry) (a : Answer) (k : List Entry) (sig : ℕ) (pars : List ℕ) (reserve : Option ℕ) (goal : Goal) (s : Stage)
+module _ (sys : System) (o : ℕ) (now : Option Entry) (kept : List Entry) (a : Answer) (k : List Entry) (sig : ℕ) (pars : List ℕ) (reserve : Option ℕ) (goal : Goal) (s : CallStage)
     (more : (b : Answer) → s ≡ Whole b → ⊥) where
   abbrev New : Bool → List Told → Type 0
   New fixed g = MadeNew fixed (sizes_of sys) sig pars reserve kept (λ e. At sys o now kept (Puts goal e) a k) a k g
 
-  block-out : (t : Told) (g : List Told) (body : Body) (known : Known) → t.body ≡ body → t.known ≡ known → (next : Stage)
+  block-out : (t : Told) (g : List Told) (body : Body) (known : Known) → t.body ≡ body → t.known ≡ known → (next : CallStage)
       → block_next (sizes_of sys) sig pars reserve goal body known ≡ Some next → At sys o now (list_after kept body) next a k g → New false (t ∷ g)
   unfolding block_next MakesNew MakesBlock NoBlockFor
   block-out t g (item.New p n b from sg ps) (Free free) is_body is_known next is later =

@@ -15,20 +15,20 @@ use Rattle.qp_model.specs.Calls.{Call, Answer, Granted, Refused, Flushed, AtQueu
 use Rattle.qp_model.specs.Sites.{ring_of}
 use Rattle.qp_model.specs.Parts.{is_static, sizes_of, first_pool, room_before, members, timer_number}
 use Rattle.qp_model.specs.Shapes.{ticks_fit}
-use Rattle.qp_fits.specs.Rest.{Behind, Ends, FlushesOn, PublishesOn, Goal, ToQueue, ToFront, ToDeferred, ToSet, Stage, Begins, Refers, Puts, Raises, Restores, Drops, Returns, Flushes, Whole}
-use Rattle.qp_fits.specs.RestNext.{only, is_of, by_pool, released, again, restored, publishes_on, raises, flushes_on, goes_on, refer_next, queue_next, fronted, front_next, deferred_next, set_next, put_next, raise_next, restore_next, left_over, drop_next, return_next, flush_next, block_next, new_next, event_next, now_next, full_next, defer_next, recall_next, subscribe_next, unsubscribe_next, arm_next, was_armed, rearm_next, disarm_next, begin_next, stage_next, list_after, rest_next}
+use Rattle.qp_fits.specs.CallState.{Behind, Ends, FlushesOn, PublishesOn, Goal, ToQueue, ToFront, ToDeferred, ToSet, CallStage, Begins, Refers, Puts, Raises, Restores, Drops, Returns, Flushes, Whole}
+use Rattle.qp_fits.specs.CallStateNext.{only, is_of, by_pool, released, again, restored, publishes_on, raises, flushes_on, goes_on, refer_next, queue_next, fronted, front_next, deferred_next, set_next, put_next, raise_next, restore_next, left_over, drop_next, return_next, flush_next, block_next, new_next, event_next, now_next, full_next, defer_next, recall_next, subscribe_next, unsubscribe_next, arm_next, was_armed, rearm_next, disarm_next, begin_next, stage_next, list_after, call_state_next}
 use Rattle.qp_fits.specs.Reads.{stage_open, IsOpen, call_able}
-use Rattle.qp_fits.specs.RestLaws.{OpenBegin, OpenNext}
+use Rattle.qp_fits.specs.CallStateLaws.{OpenBegin, OpenNext}
 
 module _ (sys : System) (now : Option Entry) where
-  abbrev Opens : List Entry → Stage → Type 0
+  abbrev Opens : List Entry → CallStage → Type 0
   Opens kept s = stage_open sys now kept s ≡ true
 
-  only-open : (kept : List Entry) (passed : Bool) (s next : Stage) → Opens kept s → only passed s ≡ Some next → Opens kept next
+  only-open : (kept : List Entry) (passed : Bool) (s next : CallStage) → Opens kept s → only passed s ≡ Some next → Opens kept next
   only-open kept true s next h is = let same : s ≡ next = cc in subst (λ x. Opens kept x) same h
   only-open kept false s next h is = absurd (cc)
 
-  pool-open : (kept : List Entry) (p : ℕ) (s r : Stage) → Opens kept s → Opens kept r → Opens kept (by_pool p s r)
+  pool-open : (kept : List Entry) (p : ℕ) (s r : CallStage) → Opens kept s → Opens kept r → Opens kept (by_pool p s r)
   pool-open kept zero s r h k = h
   pool-open kept (suc p) s r h k = k
 
@@ -80,13 +80,13 @@ module _ (sys : System) (now : Option Entry) where
   unfolding stage_open
   whole-open kept b = refl
 
-  refer-open : (kept : List Entry) (p b : ℕ) (goal : Goal) (body : Body) (known : Known) (next : Stage) → refer_next p b goal body known ≡ Some next
+  refer-open : (kept : List Entry) (p b : ℕ) (goal : Goal) (body : Body) (known : Known) (next : CallStage) → refer_next p b goal body known ≡ Some next
       → Opens (list_after kept body) next
   unfolding stage_open
   refer-open kept p b goal (item.Inc q c r) Nothing next h = only-open kept ((q == p) && (c == b)) _ next refl h
   refer-open kept p b goal body known next h = absurd (cc)
 
-  queue-open : (kept : List Entry) (ring to : ℕ) (margin : Option ℕ) (behind : Behind) (e : Entry) (body : Body) (known : Known) (next : Stage)
+  queue-open : (kept : List Entry) (ring to : ℕ) (margin : Option ℕ) (behind : Behind) (e : Entry) (body : Body) (known : Known) (next : CallStage)
       → queue_next kept ring to margin behind e body known ≡ Some next → Opens (list_after kept body) next
   unfolding queue_next
   queue-open kept ring to margin behind e (item.Post a f l m x) Nothing next h =
@@ -95,23 +95,23 @@ module _ (sys : System) (now : Option Entry) where
   queue-open kept ring to margin behind e (item.NoEntry a f l m) Nothing next h = only-open kept ((a == to) && is_none margin) _ next (whole-open kept AtQueue) h
   queue-open kept ring to margin behind e body known next h = absurd (cc)
 
-  front-open : (kept : List Entry) (o : ℕ) (recalled : Option Entry) (e : Entry) (body : Body) (known : Known) (next : Stage)
+  front-open : (kept : List Entry) (o : ℕ) (recalled : Option Entry) (e : Entry) (body : Body) (known : Known) (next : CallStage)
       → front_next o recalled e body known ≡ Some next → Opens (list_after kept body) next
   front-open kept o recalled e (item.Lifo f l m x) Nothing next h = only-open kept (same_entry x e) _ next (fronted-open kept recalled) h
   front-open kept o recalled e (item.NoLifo a f l m) Nothing next h = only-open kept (a == o) _ next (whole-open kept AtFront) h
   front-open kept o recalled e body known next h = absurd (cc)
 
-  deferred-open : (kept : List Entry) (e : Entry) (body : Body) (known : Known) (next : Stage) → deferred_next e body known ≡ Some next → Opens (list_after kept body) next
+  deferred-open : (kept : List Entry) (e : Entry) (body : Body) (known : Known) (next : CallStage) → deferred_next e body known ≡ Some next → Opens (list_after kept body) next
   deferred-open kept e (item.Defer x) Nothing next h = only-open (kept ++ x ∷ []) (same_entry x e) _ next (whole-open (kept ++ x ∷ []) Granted) h
   deferred-open kept e body known next h = absurd (cc)
 
-  set-open : (kept : List Entry) (o sig : ℕ) (e : Entry) (body : Body) (known : Known) (next : Stage) → set_next o sig e body known ≡ Some next
+  set-open : (kept : List Entry) (o sig : ℕ) (e : Entry) (body : Body) (known : Known) (next : CallStage) → set_next o sig e body known ≡ Some next
       → Opens (list_after kept body) next
   unfolding set_next
   set-open kept o sig e (item.Pub s n set) Nothing next h = only-open kept (s == sig) _ next (raises-open kept o e (members set)) h
   set-open kept o sig e body known next h = absurd (cc)
 
-  put-open : (o : ℕ) (kept : List Entry) (goal : Goal) (e : Entry) (body : Body) (known : Known) (next : Stage) → put_next sys o kept goal e body known ≡ Some next
+  put-open : (o : ℕ) (kept : List Entry) (goal : Goal) (e : Entry) (body : Body) (known : Known) (next : CallStage) → put_next sys o kept goal e body known ≡ Some next
       → Opens (list_after kept body) next
   unfolding put_next
   put-open o kept (ToQueue to margin behind) e body known next h = queue-open kept (ring_of sys to) to margin behind e body known next h
@@ -119,29 +119,29 @@ module _ (sys : System) (now : Option Entry) where
   put-open o kept ToDeferred e body known next h = deferred-open kept e body known next h
   put-open o kept (ToSet sig) e body known next h = set-open kept o sig e body known next h
 
-  raise-open : (kept : List Entry) (own : Entry) (a : ℕ) (others : List ℕ) (body : Body) (known : Known) (next : Stage) → raise_next own a others body known ≡ Some next
+  raise-open : (kept : List Entry) (own : Entry) (a : ℕ) (others : List ℕ) (body : Body) (known : Known) (next : CallStage) → raise_next own a others body known ≡ Some next
       → Opens (list_after kept body) next
   raise-open kept own a others (item.Lock ceiling) (Former former) next h =
       only-open kept (ceiling == max former a) _ next (publishes-open kept own (Some former) (a ∷ others)) h
   raise-open kept own a others body known next h = absurd (cc)
 
-  restore-open : (kept : List Entry) (own : Entry) (former : ℕ) (body : Body) (known : Known) (next : Stage) → restore_next own former body known ≡ Some next
+  restore-open : (kept : List Entry) (own : Entry) (former : ℕ) (body : Body) (known : Known) (next : CallStage) → restore_next own former body known ≡ Some next
       → Opens (list_after kept body) next
   restore-open kept own former (item.Unlock ceiling) Nothing next h = only-open kept (ceiling == former) _ next (release-open kept own Granted) h
   restore-open kept own former body known next h = absurd (cc)
 
-  drop-open : (kept : List Entry) (e : Entry) (behind : Behind) (body : Body) (known : Known) (next : Stage) → drop_next kept e behind body known ≡ Some next
+  drop-open : (kept : List Entry) (e : Entry) (behind : Behind) (body : Body) (known : Known) (next : CallStage) → drop_next kept e behind body known ≡ Some next
       → Opens (list_after kept body) next
   drop-open kept e behind (item.Dec p b d k) (Left left) next h =
       only-open kept ((p == e.pool) && (b == e.block) && (k == e.name)) _ next (left-open kept e d behind left) h
   drop-open kept e behind body known next h = absurd (cc)
 
-  return-open : (kept : List Entry) (p b d : ℕ) (behind : Behind) (body : Body) (known : Known) (next : Stage) → return_next kept p b d behind body known ≡ Some next
+  return-open : (kept : List Entry) (p b d : ℕ) (behind : Behind) (body : Body) (known : Known) (next : CallStage) → return_next kept p b d behind body known ≡ Some next
       → Opens (list_after kept body) next
   return-open kept p b d behind (item.Back q n c to) Nothing next h = only-open kept ((q == p) && (c == b) && (to == d + 1)) _ next (goes-open kept behind) h
   return-open kept p b d behind body known next h = absurd (cc)
 
-  flush-open : (kept : List Entry) (total : ℕ) (body : Body) (known : Known) (next : Stage) → flush_next kept total body known ≡ Some next
+  flush-open : (kept : List Entry) (total : ℕ) (body : Body) (known : Known) (next : CallStage) → flush_next kept total body known ≡ Some next
       → Opens (list_after kept body) next
   unfolding stage_open
   flush-open [] total body known next h = absurd (cc)
@@ -149,7 +149,7 @@ module _ (sys : System) (now : Option Entry) where
       only-open others (same_entry k e) _ next (pool-open others k.pool _ _ (flushes-open others total) refl) h
   flush-open (k ∷ others) total body known next h = absurd (cc)
 
-  block-open : (kept : List Entry) (sizes : List ℕ) (sig : ℕ) (pars : List ℕ) (reserve : Option ℕ) (goal : Goal) (body : Body) (known : Known) (next : Stage)
+  block-open : (kept : List Entry) (sizes : List ℕ) (sig : ℕ) (pars : List ℕ) (reserve : Option ℕ) (goal : Goal) (body : Body) (known : Known) (next : CallStage)
       → block_next sizes sig pars reserve goal body known ≡ Some next → Opens (list_after kept body) next
   unfolding block_next stage_open
   block-open kept sizes sig pars reserve goal (item.New p n b from s ps) (Free free) next h =
@@ -160,13 +160,13 @@ module _ (sys : System) (now : Option Entry) where
       only-open kept (is_of (first_pool sizes (length pars)) p && is_of reserve r) _ next refl h
   block-open kept sizes sig pars reserve goal body known next h = absurd (cc)
 
-  new-open : (fixed : Bool) (o : ℕ) (kept : List Entry) (sig : ℕ) (pars : List ℕ) (reserve : Option ℕ) (goal : Goal) (body : Body) (known : Known) (next : Stage)
+  new-open : (fixed : Bool) (o : ℕ) (kept : List Entry) (sig : ℕ) (pars : List ℕ) (reserve : Option ℕ) (goal : Goal) (body : Body) (known : Known) (next : CallStage)
       → new_next fixed sys o kept sig pars reserve goal body known ≡ Some next → Opens (list_after kept body) next
   unfolding new_next
   new-open true o kept sig pars reserve goal body known next h = put-open o kept goal (entry 0 sig 0) body known next h
   new-open false o kept sig pars reserve goal body known next h = block-open kept (sizes_of sys) sig pars reserve goal body known next h
 
-  now-open : (had : Option Entry) (o : ℕ) (kept : List Entry) (goal : Goal) (body : Body) (known : Known) (next : Stage) → now_next sys o had kept goal body known ≡ Some next
+  now-open : (had : Option Entry) (o : ℕ) (kept : List Entry) (goal : Goal) (body : Body) (known : Known) (next : CallStage) → now_next sys o had kept goal body known ≡ Some next
       → Opens (list_after kept body) next
   unfolding now_next event_next
   now-open None o kept goal body known next h = absurd (cc)
@@ -176,34 +176,34 @@ module _ (sys : System) (now : Option Entry) where
       by zero h = put-open o kept goal e body known next h
       by (suc p) h = refer-open kept e.pool e.block goal body known next h
 
-  full-open : (kept : List Entry) (body : Body) (known : Known) (next : Stage) → full_next body known ≡ Some next → Opens (list_after kept body) next
+  full-open : (kept : List Entry) (body : Body) (known : Known) (next : CallStage) → full_next body known ≡ Some next → Opens (list_after kept body) next
   full-open kept item.NoDefer Nothing next h = only-open kept true (Whole Refused) next (whole-open kept Refused) h
   full-open kept body known next h = absurd (cc)
 
-  defer-open : (free : Bool) (o : ℕ) (kept : List Entry) (body : Body) (known : Known) (next : Stage) → defer_next free sys o now kept body known ≡ Some next
+  defer-open : (free : Bool) (o : ℕ) (kept : List Entry) (body : Body) (known : Known) (next : CallStage) → defer_next free sys o now kept body known ≡ Some next
       → Opens (list_after kept body) next
   unfolding defer_next
   defer-open true o kept body known next h = now-open now o kept ToDeferred body known next h
   defer-open false o kept body known next h = full-open kept body known next h
 
-  recall-open : (kept : List Entry) (body : Body) (known : Known) (next : Stage) → recall_next kept body known ≡ Some next → Opens (list_after kept body) next
+  recall-open : (kept : List Entry) (body : Body) (known : Known) (next : CallStage) → recall_next kept body known ≡ Some next → Opens (list_after kept body) next
   recall-open [] item.NoRecall Nothing next h = only-open [] true (Whole Refused) next (whole-open [] Refused) h
   recall-open [] body known next h = absurd (cc)
   recall-open (k ∷ others) (item.Recall e) Nothing next h = only-open others (same_entry k e) _ next (again-open others (ToFront (Some k)) k) h
   recall-open (k ∷ others) body known next h = absurd (cc)
 
-  subscribe-open : (kept : List Entry) (sig : ℕ) (body : Body) (known : Known) (next : Stage) → subscribe_next sig body known ≡ Some next → Opens (list_after kept body) next
+  subscribe-open : (kept : List Entry) (sig : ℕ) (body : Body) (known : Known) (next : CallStage) → subscribe_next sig body known ≡ Some next → Opens (list_after kept body) next
   subscribe-open kept sig (item.Sub s n) Nothing next h = only-open kept (s == sig) _ next (whole-open kept Granted) h
   subscribe-open kept sig (item.Same s n) (Member true) next h = only-open kept (s == sig) _ next (whole-open kept Refused) h
   subscribe-open kept sig body known next h = absurd (cc)
 
-  unsubscribe-open : (kept : List Entry) (sig : ℕ) (body : Body) (known : Known) (next : Stage) → unsubscribe_next sig body known ≡ Some next
+  unsubscribe-open : (kept : List Entry) (sig : ℕ) (body : Body) (known : Known) (next : CallStage) → unsubscribe_next sig body known ≡ Some next
       → Opens (list_after kept body) next
   unsubscribe-open kept sig (item.Unsub s n) Nothing next h = only-open kept (s == sig) _ next (whole-open kept Granted) h
   unsubscribe-open kept sig (item.Same s n) (Member false) next h = only-open kept (s == sig) _ next (whole-open kept Refused) h
   unsubscribe-open kept sig body known next h = absurd (cc)
 
-  arm-open : (kept : List Entry) (t ticks interval : ℕ) (body : Body) (known : Known) (next : Stage) → arm_next t ticks interval body known ≡ Some next
+  arm-open : (kept : List Entry) (t ticks interval : ℕ) (body : Body) (known : Known) (next : CallStage) → arm_next t ticks interval body known ≡ Some next
       → Opens (list_after kept body) next
   unfolding arm_next
   arm-open kept t ticks interval (item.Arm u n k i) Nothing next h =
@@ -213,7 +213,7 @@ module _ (sys : System) (now : Option Entry) where
       only-open kept ((u == t) && (k == ticks) && (i == interval) && not (ticks_fit ticks interval)) _ next (whole-open kept AtTicks) h
   arm-open kept t ticks interval body known next h = absurd (cc)
 
-  rearm-open : (kept : List Entry) (t ticks : ℕ) (body : Body) (known : Known) (next : Stage) → rearm_next t ticks body known ≡ Some next → Opens (list_after kept body) next
+  rearm-open : (kept : List Entry) (t ticks : ℕ) (body : Body) (known : Known) (next : CallStage) → rearm_next t ticks body known ≡ Some next → Opens (list_after kept body) next
   unfolding rearm_next
   rearm-open kept t ticks (item.Rearm u n former k) Nothing next h =
       only-open kept ((u == t) && (k == ticks) && ticks_fit ticks 0) _ next (whole-open kept (was_armed former)) h
@@ -221,12 +221,12 @@ module _ (sys : System) (now : Option Entry) where
       only-open kept ((u == t) && (k == ticks) && (i == 0) && not (ticks_fit ticks 0)) _ next (whole-open kept AtTicks) h
   rearm-open kept t ticks body known next h = absurd (cc)
 
-  disarm-open : (kept : List Entry) (t : ℕ) (body : Body) (known : Known) (next : Stage) → disarm_next t body known ≡ Some next → Opens (list_after kept body) next
+  disarm-open : (kept : List Entry) (t : ℕ) (body : Body) (known : Known) (next : CallStage) → disarm_next t body known ≡ Some next → Opens (list_after kept body) next
   disarm-open kept t (item.Disarm u n former) Nothing next h = only-open kept (u == t) _ next (whole-open kept Granted) h
   disarm-open kept t (item.Idle u n) Nothing next h = only-open kept (u == t) _ next (whole-open kept Refused) h
   disarm-open kept t body known next h = absurd (cc)
 
-  begin-open : (o : ℕ) (kept : List Entry) (room : ℕ) (x : Call) (body : Body) (known : Known) (next : Stage) → begin_next sys o now kept room x body known ≡ Some next
+  begin-open : (o : ℕ) (kept : List Entry) (room : ℕ) (x : Call) (body : Body) (known : Known) (next : CallStage) → begin_next sys o now kept room x body known ≡ Some next
       → Opens (list_after kept body) next
   unfolding begin_next
   begin-open o kept room (call.Post to sig pars margin reserve) body known next h = new-open (is_static sys sig) o kept sig pars reserve _ body known next h
@@ -242,7 +242,7 @@ module _ (sys : System) (now : Option Entry) where
   begin-open o kept room (call.Rearm t ticks) body known next h = rearm-open kept (timer_number sys.timers o t) ticks body known next h
   begin-open o kept room (call.Disarm t) body known next h = disarm-open kept (timer_number sys.timers o t) body known next h
 
-  stage-open : (o : ℕ) (kept : List Entry) (s : Stage) (body : Body) (known : Known) (next : Stage) → stage_next sys o now kept s body known ≡ Some next
+  stage-open : (o : ℕ) (kept : List Entry) (s : CallStage) (body : Body) (known : Known) (next : CallStage) → stage_next sys o now kept s body known ≡ Some next
       → Opens (list_after kept body) next
   unfolding stage_next
   stage-open o kept (Begins room x) body known next h = begin-open o kept room x body known next h
@@ -265,10 +265,10 @@ open-begin sys now room kept call.Flush h = flushes-open sys now kept (length ke
 open-begin sys now room kept x h = h
 
 pub open-next : OpenNext
-unfolding rest_next IsOpen
+unfolding call_state_next IsOpen
 open-next sys o now rest next t h = by (stage_next sys o now rest.kept rest.stage t.body t.known) refl h
   where
-    by : (r : Option Stage) → stage_next sys o now rest.kept rest.stage t.body t.known ≡ r
+    by : (r : Option CallStage) → stage_next sys o now rest.kept rest.stage t.body t.known ≡ r
         → option_map (λ s. record { stage = s; kept = list_after rest.kept t.body }) r ≡ Some next → IsTrue (stage_open sys now next.kept next.stage)
     by None is h = absurd (cc)
     by (Some s) is h =

@@ -11,8 +11,8 @@ use Rattle.qp_model.specs.Sites.{ring_of}
 use Rattle.qp_model.specs.Parts.{is_static, sizes_of}
 use Rattle.qp_model.specs.Shapes.{Fits, MakesAgainNow, Posts, PostsFront, PostsNew, PostsNewFront, Forwards}
 use Rattle.qp_model.specs.Deferral.{KeepsDeferred}
-use Rattle.qp_fits.specs.Rest.{Ends, Goal, ToQueue, ToFront, Stage, Begins, Refers, Puts, Whole}
-use Rattle.qp_fits.specs.RestNext.{stage_next, begin_next, now_next, event_next, again, by_pool}
+use Rattle.qp_fits.specs.CallState.{Ends, Goal, ToQueue, ToFront, CallStage, Begins, Refers, Puts, Whole}
+use Rattle.qp_fits.specs.CallStateNext.{stage_next, begin_next, now_next, event_next, again, by_pool}
 use Rattle.qp_fits.proofs.ReadLemmas.{At, at-stepped, at-ended, at-whole}
 use Rattle.qp_fits.proofs.ReleaseLemmas.{at-again}
 use Rattle.qp_fits.proofs.PutLemmas.{Queued, IsQueued, IsFull, HasNone, at-queue-out, at-queue-into}
@@ -64,7 +64,7 @@ module _ (sys : System) (o : ℕ) (now : Option Entry) (kept : List Entry) (a : 
   abbrev pub Again : Goal → List Told → Type 0
   Again goal g = (head : List Told) × (e : Entry) × (rest : List Told) × MakesAgainNow now head e × (g ≡ head ++ rest) × At sys o now kept (Puts goal e) a k rest
 
-  pub at-now : (goal : Goal) (s : Stage)
+  pub at-now : (goal : Goal) (s : CallStage)
       → ((body : Body) (known : Known) → stage_next sys o now kept s body known ≡ now_next sys o now kept goal body known)
       → ((b : Answer) → s ≡ Whole b → ⊥) → (g : List Told)
       → At sys o now kept s a k g
@@ -117,7 +117,7 @@ module _ (sys : System) (o : ℕ) (now : Option Entry) (kept : List Entry) (a : 
       goal : Goal
       goal = ToQueue to margin (Ends Granted)
 
-      s : Stage
+      s : CallStage
       s = Begins room x
 
       out : MadeNew (is_static sys sig) (sizes_of sys) sig pars reserve kept (λ e. At sys o now kept (Puts goal e) a k) a k g
@@ -146,7 +146,7 @@ module _ (sys : System) (o : ℕ) (now : Option Entry) (kept : List Entry) (a : 
       x : Call
       x = call.Lifo sig pars reserve
 
-      s : Stage
+      s : CallStage
       s = Begins room x
 
       out : MadeNew (is_static sys sig) (sizes_of sys) sig pars reserve kept (λ e. At sys o now kept (Puts (ToFront None) e) a k) a k g

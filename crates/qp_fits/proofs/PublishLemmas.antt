@@ -14,8 +14,8 @@ use Rattle.qp_model.specs.Parts.{is_static, sizes_of, members}
 use Rattle.qp_model.specs.Shapes.{Fits, Drops, MakesAgain, NoBlockFor, Posts, PostsOne, PostsToAll, PostsUpTo, PublishesFirst, PublishesLast, Publishes, raising, restoring}
 use Rattle.qp_model.specs.Deferral.{KeepsDeferred}
 use Rattle.qp_model.proofs.LineLemmas.{same_number}
-use Rattle.qp_fits.specs.Rest.{Ends, PublishesOn, ToQueue, ToSet, Stage, Begins, Puts, Raises, Restores, Whole}
-use Rattle.qp_fits.specs.RestNext.{stage_next, begin_next, put_next, set_next, raise_next, restore_next, restored, released, publishes_on, raises, again, list_after}
+use Rattle.qp_fits.specs.CallState.{Ends, PublishesOn, ToQueue, ToSet, CallStage, Begins, Puts, Raises, Restores, Whole}
+use Rattle.qp_fits.specs.CallStateNext.{stage_next, begin_next, put_next, set_next, raise_next, restore_next, restored, released, publishes_on, raises, again, list_after}
 use Rattle.qp_fits.proofs.ReadLemmas.{At, at-step, at-stepped, at-ended}
 use Rattle.qp_fits.proofs.ReleaseLemmas.{at-again, at-release}
 use Rattle.qp_fits.proofs.PutLemmas.{Queued, IsQueued, IsFull, HasNone, at-queue-out, at-queue-into}
@@ -46,7 +46,7 @@ module _ (sys : System) (o : ℕ) (now : Option Entry) (kept : List Entry) (a : 
   )
   at-restored own (Some former) g = (out g, λ h. rw h.2 (into h.0 h.1 h.3 h.4))
     where
-      by : (t : Told) (g : List Told) (body : Body) (known : Known) → t.body ≡ body → t.known ≡ known → (next : Stage)
+      by : (t : Told) (g : List Told) (body : Body) (known : Known) → t.body ≡ body → t.known ≡ known → (next : CallStage)
           → restore_next own former body known ≡ Some next → At sys o now (list_after kept body) next a k g
           → (rel : List Told) × Drops own rel × (t ∷ g ≡ plain (item.Unlock former) ∷ rel) × (a ≡ Granted) × (k ≡ kept)
       by t g (item.Unlock ceiling) Nothing is_body is_known next f more =
@@ -147,7 +147,7 @@ module _ (sys : System) (o : ℕ) (now : Option Entry) (kept : List Entry) (a : 
   unfolding stage_next
   at-raise own m others g = (out g, λ h. rw h.2 (into h.0 h.1 h.3))
     where
-      by : (t : Told) (g : List Told) (body : Body) (known : Known) → t.body ≡ body → t.known ≡ known → (next : Stage)
+      by : (t : Told) (g : List Told) (body : Body) (known : Known) → t.body ≡ body → t.known ≡ known → (next : CallStage)
           → raise_next own m others body known ≡ Some next → At sys o now (list_after kept body) next a k g
           → (former : ℕ) × (rest : List Told) × (t ∷ g ≡ raised (max former m) former ∷ rest) × At sys o now kept (publishes_on own (Some former) (m ∷ others)) a k rest
       by t g (item.Lock ceiling) (Former former) is_body is_known next f more =
@@ -174,7 +174,7 @@ module _ (sys : System) (o : ℕ) (now : Option Entry) (kept : List Entry) (a : 
   unfolding stage_next put_next set_next
   at-set sig e g = (out g, λ h. rw h.3 (into h.0 h.1 h.2 h.4))
     where
-      by : (t : Told) (g : List Told) (body : Body) (known : Known) → t.body ≡ body → t.known ≡ known → (next : Stage)
+      by : (t : Told) (g : List Told) (body : Body) (known : Known) → t.body ≡ body → t.known ≡ known → (next : CallStage)
           → set_next o sig e body known ≡ Some next → At sys o now (list_after kept body) next a k g
           → (n set : ℕ) × (rest : List Told) × (t ∷ g ≡ plain (item.Pub sig n set) ∷ rest) × At sys o now kept (raises o e (members set)) a k rest
       by t g (item.Pub s n set) Nothing is_body is_known next f more =
@@ -253,7 +253,7 @@ module _ (sys : System) (o : ℕ) (now : Option Entry) (kept : List Entry) (a : 
     λ h. at-new-into sys o now kept a k sig pars reserve (ToSet sig) s unwhole (is_static sys sig) (λ body known. refl) g (into a refl h.0 h.1),
   )
     where
-      s : Stage
+      s : CallStage
       s = Begins room (call.Publish sig pars reserve)
 
       unwhole : (b : Answer) → s ≡ Whole b → ⊥

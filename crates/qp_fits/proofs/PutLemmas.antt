@@ -14,8 +14,8 @@ use Rattle.qp_model.specs.Sites.{ring_of}
 use Rattle.qp_model.specs.Parts.{room_before}
 use Rattle.qp_model.specs.Shapes.{Posts}
 use Rattle.qp_model.proofs.LineLemmas.{same_number}
-use Rattle.qp_fits.specs.Rest.{Behind, Ends, ToQueue, Stage, Puts, Whole}
-use Rattle.qp_fits.specs.RestNext.{stage_next, put_next, queue_next, list_after, goes_on, released, only, is_of}
+use Rattle.qp_fits.specs.CallState.{Behind, Ends, ToQueue, CallStage, Puts, Whole}
+use Rattle.qp_fits.specs.CallStateNext.{stage_next, put_next, queue_next, list_after, goes_on, released, only, is_of}
 use Rattle.qp_fits.proofs.ReadLemmas.{At, at-step, at-stepped, at-ended, at-whole}
 use Rattle.qp_fits.proofs.ReleaseLemmas.{at-release}
 use Rattle.qp_model.proofs.RecordLemmas.{told-is, same_entry-is, same_entry-refl}
@@ -55,7 +55,7 @@ module _ (sys : System) (o : ℕ) (now : Option Entry) (kept : List Entry) (a : 
           let end : g ≡ [] = last.0 in
           HasNone (f, l, m, cc) last.1 last.2
 
-      by : (body : Body) (known : Known) → t.body ≡ body → t.known ≡ known → (next : Stage)
+      by : (body : Body) (known : Known) → t.body ≡ body → t.known ≡ known → (next : CallStage)
           → queue_next kept (ring_of sys to) to margin behind e body known ≡ Some next → At sys o now (list_after kept body) next a k g
           → Queued sys to margin e kept (At sys o now kept (goes_on kept behind) a k) a k (t ∷ g)
       by (item.Post a2 f l m x) Nothing is_body is_known next is more =

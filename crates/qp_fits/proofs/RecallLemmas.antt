@@ -12,8 +12,8 @@ use Rattle.qp_model.specs.Calls as call
 use Rattle.qp_model.specs.Calls.{Call, Answer, Granted, Refused, Flushed, AtQueue, AtPool, AtTimer, AtTicks, AtFront}
 use Rattle.qp_model.specs.Shapes.{Fits, Drops, MakesAgain, PostsFront, Recalls}
 use Rattle.qp_model.specs.Deferral.{keep, kept_after, KeepsDeferred}
-use Rattle.qp_fits.specs.Rest.{ToFront, Stage, Begins, Whole}
-use Rattle.qp_fits.specs.RestNext.{stage_next, begin_next, none_next, recalled_next, again, fronted, list_after}
+use Rattle.qp_fits.specs.CallState.{ToFront, CallStage, Begins, Whole}
+use Rattle.qp_fits.specs.CallStateNext.{stage_next, begin_next, none_next, recalled_next, again, fronted, list_after}
 use Rattle.qp_fits.proofs.ReadLemmas.{At, at-step, at-stepped, at-ended, at-whole}
 use Rattle.qp_fits.proofs.ReleaseLemmas.{at-again, at-release}
 use Rattle.qp_fits.proofs.FrontLemmas.{Fronted, IsFronted, HasNoFront, at-front-out, at-front-into, front-head, head-front}
@@ -53,7 +53,7 @@ module _ (sys : System) (o : ℕ) (now : Option Entry) (a : Answer) (k : List En
   unfolding stage_next begin_next Recalls kept_after keep
   recall-none g = (out g, λ h. into a refl h.0 h.1)
     where
-      by : (t : Told) (g : List Told) (body : Body) (known : Known) → t.body ≡ body → t.known ≡ known → (next : Stage)
+      by : (t : Told) (g : List Told) (body : Body) (known : Known) → t.body ≡ body → t.known ≡ known → (next : CallStage)
           → none_next body known ≡ Some next → At sys o now (list_after [] body) next a k g → Recalls o a (t ∷ g) × (kept_after room [] (t ∷ g) ≡ Some k)
       by t g item.NoRecall Nothing is_body is_known next f more =
           let stage : Whole Refused ≡ next = cc in
@@ -109,7 +109,7 @@ module _ (sys : System) (o : ℕ) (now : Option Entry) (a : Answer) (k : List En
               ap (λ y. kept_after room (x ∷ xs) y) whole ∙ keeps ∙ ap (λ y. Some y) (sym r),
             )
 
-        by : (body : Body) (known : Known) → t.body ≡ body → t.known ≡ known → (next : Stage)
+        by : (body : Body) (known : Known) → t.body ≡ body → t.known ≡ known → (next : CallStage)
             → recalled_next x body known ≡ Some next → At sys o now (list_after (x ∷ xs) body) next a k g
             → Recalls o a (t ∷ g) × (kept_after room (x ∷ xs) (t ∷ g) ≡ Some k)
         by (item.Recall e) Nothing is_body is_known next f more =

@@ -11,9 +11,9 @@ use Rattle.qp_model.specs.Told.{Told, Known, Nothing, Left, plain, dropped}
 use Rattle.qp_model.specs.Calls.{Answer}
 use Rattle.qp_model.specs.Shapes.{Drops, Releases, releases_by, MakesAgain, again_by}
 use Rattle.qp_model.proofs.LineLemmas.{same_number}
-use Rattle.qp_fits.specs.Rest as stages
-use Rattle.qp_fits.specs.Rest.{Behind, Ends, Goal, Stage, Refers, Puts, Returns, Whole, Rest}
-use Rattle.qp_fits.specs.RestNext.{stage_next, list_after, refer_next, return_next, drop_next, left_over, goes_on, released, again, by_pool}
+use Rattle.qp_fits.specs.CallState as stages
+use Rattle.qp_fits.specs.CallState.{Behind, Ends, Goal, CallStage, Refers, Puts, Returns, Whole, CallState}
+use Rattle.qp_fits.specs.CallStateNext.{stage_next, list_after, refer_next, return_next, drop_next, left_over, goes_on, released, again, by_pool}
 use Rattle.qp_fits.proofs.ReadLemmas.{At, at-step, at-stepped, at-ended, at-whole}
 use Rattle.qp_model.proofs.RecordLemmas.{told-is}
 use Rattle.qp_fits.proofs.StageLemmas.{only-passed}
@@ -26,7 +26,7 @@ module _ (sys : System) (o : ℕ) (now : Option Entry) (kept : List Entry) (a : 
   unfolding stage_next
   at-refers p b goal g = (out g, λ h. rw h.2 (into h.0 h.1 h.3))
     where
-      by : (t : Told) (g : List Told) (body : Body) (known : Known) → t.body ≡ body → t.known ≡ known → (next : Stage)
+      by : (t : Told) (g : List Told) (body : Body) (known : Known) → t.body ≡ body → t.known ≡ known → (next : CallStage)
           → refer_next p b goal body known ≡ Some next → At sys o now (list_after kept body) next a k g
           → (r : ℕ) × (rest : List Told) × (t ∷ g ≡ plain (item.Inc p b r) ∷ rest) × At sys o now kept (Puts goal (entry p b r)) a k rest
       by t g (item.Inc q c r) Nothing is_body is_known next is more =
@@ -54,7 +54,7 @@ module _ (sys : System) (o : ℕ) (now : Option Entry) (kept : List Entry) (a : 
   unfolding stage_next
   at-returns p b d behind g = (out g, λ h. rw h.2 (into h.0 h.1 h.3))
     where
-      by : (t : Told) (g : List Told) (body : Body) (known : Known) → t.body ≡ body → t.known ≡ known → (next : Stage)
+      by : (t : Told) (g : List Told) (body : Body) (known : Known) → t.body ≡ body → t.known ≡ known → (next : CallStage)
           → return_next kept p b d behind body known ≡ Some next → At sys o now (list_after kept body) next a k g
           → (n : ℕ) × (rest : List Told) × (t ∷ g ≡ plain (item.Back p n b (d + 1)) ∷ rest) × At sys o now kept (goes_on kept behind) a k rest
       by t g (item.Back q n c to) Nothing is_body is_known next is more =
@@ -91,7 +91,7 @@ module _ (sys : System) (o : ℕ) (now : Option Entry) (kept : List Entry) (a : 
           (dropped e.pool e.block d e.name 0 ∷ plain (item.Back e.pool back.0 e.block (d + 1)) ∷ [], back.1, inr (d, back.0, refl), cc, back.3)
       left_by t g d (suc left) is more = (dropped e.pool e.block d e.name (suc left) ∷ [], g, inl (d, left, refl), cc, more)
 
-      by : (t : Told) (g : List Told) (body : Body) (known : Known) → t.body ≡ body → t.known ≡ known → (next : Stage)
+      by : (t : Told) (g : List Told) (body : Body) (known : Known) → t.body ≡ body → t.known ≡ known → (next : CallStage)
           → drop_next kept e behind body known ≡ Some next → At sys o now (list_after kept body) next a k g
           → (rel rest : List Told) × Releases e.pool e.block e.name rel × (t ∷ g ≡ rel ++ rest) × At sys o now kept (goes_on kept behind) a k rest
       by t g (item.Dec p b d n) (Left left) is_body is_known next is more =

@@ -13,8 +13,8 @@ use Rattle.qp_model.specs.Parts.{timer_number}
 use Rattle.qp_model.specs.Shapes.{Fits, Subscribes, Unsubscribes, Arms, Rearms, Disarms, answers_ticks, ticks_fit}
 use Rattle.qp_model.specs.Deferral.{KeepsDeferred}
 use Rattle.qp_model.proofs.LineLemmas.{same_number}
-use Rattle.qp_fits.specs.Rest.{Stage, Begins, Whole}
-use Rattle.qp_fits.specs.RestNext.{stage_next, begin_next, subscribe_next, unsubscribe_next, arm_next, rearm_next, was_armed, disarm_next, list_after, only}
+use Rattle.qp_fits.specs.CallState.{CallStage, Begins, Whole}
+use Rattle.qp_fits.specs.CallStateNext.{stage_next, begin_next, subscribe_next, unsubscribe_next, arm_next, rearm_next, was_armed, disarm_next, list_after, only}
 use Rattle.qp_fits.proofs.ReadLemmas.{At, at-step, at-stepped, at-ended, at-whole}
 use Rattle.qp_model.proofs.RecordLemmas.{told-is}
 use Rattle.qp_fits.proofs.StageLemmas.{only-passed}
@@ -32,7 +32,7 @@ refused false h = refl
 
 module _ (sys : System) (o : ℕ) (now : Option Entry) (kept : List Entry) (a : Answer) (k : List Entry) (room : ℕ) where
   -- a record that ends a call
-  ends : (x : Call) (b : Answer) (passed : Bool) (next : Stage) (g : List Told) → only passed (Whole b) ≡ Some next → At sys o now kept next a k g
+  ends : (x : Call) (b : Answer) (passed : Bool) (next : CallStage) (g : List Told) → only passed (Whole b) ≡ Some next → At sys o now kept next a k g
       → (passed ≡ true) × (g ≡ []) × (a ≡ b) × (k ≡ kept)
   ends x b passed next g is h =
       let one = only-passed passed (Whole b) next is in
@@ -46,7 +46,7 @@ module _ (sys : System) (o : ℕ) (now : Option Entry) (kept : List Entry) (a : 
   unfolding stage_next begin_next Subscribes
   begin-subscribe sig g = (out g, λ h. into a refl g h.0 h.1)
     where
-      by : (t : Told) (g : List Told) (body : Body) (known : Known) → t.body ≡ body → t.known ≡ known → (next : Stage)
+      by : (t : Told) (g : List Told) (body : Body) (known : Known) → t.body ≡ body → t.known ≡ known → (next : CallStage)
           → subscribe_next sig body known ≡ Some next → At sys o now (list_after kept body) next a k g → Subscribes sig a (t ∷ g) × (k ≡ kept)
       by t g (item.Sub s n) Nothing is_body is_known next f more =
           let last = ends (call.Subscribe sig) Granted (s == sig) next g f more in
@@ -77,7 +77,7 @@ module _ (sys : System) (o : ℕ) (now : Option Entry) (kept : List Entry) (a : 
   unfolding stage_next begin_next Unsubscribes
   begin-unsubscribe sig g = (out g, λ h. into a refl g h.0 h.1)
     where
-      by : (t : Told) (g : List Told) (body : Body) (known : Known) → t.body ≡ body → t.known ≡ known → (next : Stage)
+      by : (t : Told) (g : List Told) (body : Body) (known : Known) → t.body ≡ body → t.known ≡ known → (next : CallStage)
           → unsubscribe_next sig body known ≡ Some next → At sys o now (list_after kept body) next a k g → Unsubscribes sig a (t ∷ g) × (k ≡ kept)
       by t g (item.Unsub s n) Nothing is_body is_known next f more =
           let last = ends (call.Unsubscribe sig) Granted (s == sig) next g f more in
@@ -112,7 +112,7 @@ module _ (sys : System) (o : ℕ) (now : Option Entry) (kept : List Entry) (a : 
       timer : ℕ
       timer = timer_number sys.timers o place
 
-      by : (t : Told) (g : List Told) (body : Body) (known : Known) → t.body ≡ body → t.known ≡ known → (next : Stage)
+      by : (t : Told) (g : List Told) (body : Body) (known : Known) → t.body ≡ body → t.known ≡ known → (next : CallStage)
           → disarm_next timer body known ≡ Some next → At sys o now (list_after kept body) next a k g → Disarms timer a (t ∷ g) × (k ≡ kept)
       by t g (item.Disarm u n former) Nothing is_body is_known next f more =
           let last = ends (call.Disarm place) Granted (u == timer) next g f more in
@@ -150,7 +150,7 @@ module _ (sys : System) (o : ℕ) (now : Option Entry) (kept : List Entry) (a : 
       x : Call
       x = call.Arm place ticks interval
 
-      by : (t : Told) (g : List Told) (body : Body) (known : Known) → t.body ≡ body → t.known ≡ known → (next : Stage)
+      by : (t : Told) (g : List Told) (body : Body) (known : Known) → t.body ≡ body → t.known ≡ known → (next : CallStage)
           → arm_next timer ticks interval body known ≡ Some next → At sys o now (list_after kept body) next a k g → ArmsFit timer ticks interval a (t ∷ g) × (k ≡ kept)
       by t g (item.Arm u n kk i) Nothing is_body is_known next f more =
           let last = ends x Granted ((u == timer) && (kk == ticks) && (i == interval) && ticks_fit ticks interval) next g f more in
@@ -214,7 +214,7 @@ module _ (sys : System) (o : ℕ) (now : Option Entry) (kept : List Entry) (a : 
       armed t g n zero whole end fit q = subst (λ b. RearmsFit timer ticks b (t ∷ g)) (sym q) ((n, cc), fit)
       armed t g n (suc former) whole end fit q = subst (λ b. RearmsFit timer ticks b (t ∷ g)) (sym q) ((n, former, cc), fit)
 
-      by : (t : Told) (g : List Told) (body : Body) (known : Known) → t.body ≡ body → t.known ≡ known → (next : Stage)
+      by : (t : Told) (g : List Told) (body : Body) (known : Known) → t.body ≡ body → t.known ≡ known → (next : CallStage)
           → rearm_next timer ticks body known ≡ Some next → At sys o now (list_after kept body) next a k g → RearmsFit timer ticks a (t ∷ g) × (k ≡ kept)
       by t g (item.Rearm u n former kk) Nothing is_body is_known next f more =
           let last = ends x (was_armed former) ((u == timer) && (kk == ticks) && ticks_fit ticks 0) next g f more in

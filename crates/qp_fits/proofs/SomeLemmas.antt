@@ -15,10 +15,10 @@ use Rattle.qp_model.specs.Shapes as shapes
 use Rattle.qp_model.specs.Deferral.{KeepsDeferred}
 use Rattle.qp_model.specs.Able.{has_pool}
 use Rattle.qp_model.proofs.Completes.{release, release_drops, again_any}
-use Rattle.qp_fits.specs.Rest.{Behind, Ends, FlushesOn, PublishesOn, Goal, ToQueue, ToFront, ToDeferred, ToSet, Stage, Begins, Refers, Puts, Raises, Restores, Drops, Returns, Flushes, Whole}
-use Rattle.qp_fits.specs.RestNext.{stage_next, begin_next, defer_next, new_next, now_next, released, again, restored, publishes_on, flushes_on, goes_on, rest_begin}
+use Rattle.qp_fits.specs.CallState.{Behind, Ends, FlushesOn, PublishesOn, Goal, ToQueue, ToFront, ToDeferred, ToSet, CallStage, Begins, Refers, Puts, Raises, Restores, Drops, Returns, Flushes, Whole}
+use Rattle.qp_fits.specs.CallStateNext.{stage_next, begin_next, defer_next, new_next, now_next, released, again, restored, publishes_on, flushes_on, goes_on, call_state_begin}
 use Rattle.qp_fits.specs.Reads.{Reads, stage_open, IsOpen, call_able}
-use Rattle.qp_fits.specs.RestLaws.{OpenReads}
+use Rattle.qp_fits.specs.CallStateLaws.{OpenReads}
 use Rattle.qp_fits.proofs.ReadLemmas.{At, at-step, at-end}
 use Rattle.qp_fits.proofs.ReleaseLemmas.{at-refers, at-returns, at-drops, at-released, at-release, at-again}
 use Rattle.qp_fits.proofs.PutLemmas.{IsFull, HasNone, at-queue-into}
@@ -40,7 +40,7 @@ pool_number None h = absurd (cc)
 pool_number (Some p) h = (p, refl)
 
 module _ (sys : System) (o : ℕ) (now : Option Entry) where
-  abbrev Some_at : List Entry → Stage → Type 0
+  abbrev Some_at : List Entry → CallStage → Type 0
   Some_at kept s = (a : Answer) × (k : List Entry) × (g : List Told) × At sys o now kept s a k g
 
   some-whole : (kept : List Entry) (b : Answer) → Some_at kept (Whole b)
@@ -119,7 +119,7 @@ module _ (sys : System) (o : ℕ) (now : Option Entry) where
         (at-drops sys o now kept more.0 more.1 e behind _).1 (dropped e.pool e.block 0 e.name 1 ∷ [], more.2, inl (0, 0, refl), refl, more.3),
       )
 
-  some-new : (kept : List Entry) (sig : ℕ) (pars : List ℕ) (reserve : Option ℕ) (goal : Goal) (s : Stage) → ((b : Answer) → s ≡ Whole b → ⊥)
+  some-new : (kept : List Entry) (sig : ℕ) (pars : List ℕ) (reserve : Option ℕ) (goal : Goal) (s : CallStage) → ((b : Answer) → s ≡ Whole b → ⊥)
       → ((body : Body) (known : Known) → stage_next sys o now kept s body known ≡ new_next (is_static sys sig) sys o kept sig pars reserve goal body known)
       → has_pool sys sig (length pars) ≡ true → Some_at kept s
   unfolding has_pool MakesNew NoBlockFor
@@ -149,7 +149,7 @@ module _ (sys : System) (o : ℕ) (now : Option Entry) where
                 (HasNoBlock (subst (λ r. NoBlockFor false (sizes_of sys) pars r Refused g) (sym is) (pool.0, 0, 0, refl, pool.1, refl)) refl),
           )
 
-  some-now : (kept : List Entry) (goal : Goal) (s : Stage) → ((b : Answer) → s ≡ Whole b → ⊥)
+  some-now : (kept : List Entry) (goal : Goal) (s : CallStage) → ((b : Answer) → s ≡ Whole b → ⊥)
       → ((body : Body) (known : Known) → stage_next sys o now kept s body known ≡ now_next sys o now kept goal body known) → is_some now ≡ true → Some_at kept s
   unfolding MakesAgainNow
   some-now kept goal s more is_now able = by now refl able
@@ -170,7 +170,7 @@ module _ (sys : System) (o : ℕ) (now : Option Entry) where
   unwhole room x b h = cc
 
   -- a call that leaves one record, and the deferred list as it is
-  one : (kept : List Entry) (room : ℕ) (x : Call) (s : Stage) → rest_begin room kept x ≡ record { stage = s; kept = kept } → (b : Answer) (t : Told)
+  one : (kept : List Entry) (room : ℕ) (x : Call) (s : CallStage) → call_state_begin room kept x ≡ record { stage = s; kept = kept } → (b : Answer) (t : Told)
       → Fits sys o now x b (t ∷ []) → KeepsDeferred room x (t ∷ []) kept kept → Some_at kept s
   one kept room x s is b t fits keeps =
       (b, kept, t ∷ [], subst (λ r. Reads sys o now r b kept (t ∷ [])) is ((reads-begin sys o now room kept x b kept (t ∷ [])).1 (fits, keeps)))
@@ -238,7 +238,7 @@ module _ (sys : System) (o : ℕ) (now : Option Entry) where
   some-begins kept room (call.Rearm t ticks) h = one-rearm kept room t ticks
   some-begins kept room (call.Disarm t) h = one-disarm kept room t
 
-  some-stage : (kept : List Entry) (s : Stage) → stage_open sys now kept s ≡ true → Some_at kept s
+  some-stage : (kept : List Entry) (s : CallStage) → stage_open sys now kept s ≡ true → Some_at kept s
   unfolding stage_open
   some-stage kept (Begins room x) h = some-begins kept room x h
   some-stage kept (Refers p b goal) h =

@@ -1,12 +1,12 @@
 -- Stages, as the definitions see them.
-use Rattle.qp_fits.specs.Rest as rest
+use Rattle.qp_fits.specs.CallState as rest
 use Rattle.qp_fits.specs.AsCall.{as_call, as_answer}
 use Rattle.qp_fits.specs.declared.stage.Behind.{Behind}
 use Rattle.qp_fits.specs.declared.stage.Behind.TheVariants as behind
 use Rattle.qp_fits.specs.declared.stage.Goal.{Goal}
 use Rattle.qp_fits.specs.declared.stage.Goal.TheVariants as goal
-use Rattle.qp_fits.specs.declared.stage.Stage.{Stage}
-use Rattle.qp_fits.specs.declared.stage.Stage.TheVariants as stage
+use Rattle.qp_fits.specs.declared.stage.CallStage.{CallStage}
+use Rattle.qp_fits.specs.declared.stage.CallStage.TheVariants as stage
 
 abbrev pub as_behind : Behind → rest.Behind
 as_behind (behind.Ends answer) = rest.Ends (as_answer answer)
@@ -19,7 +19,7 @@ as_goal (goal.ToFront recalled) = rest.ToFront recalled
 as_goal goal.ToDeferred = rest.ToDeferred
 as_goal (goal.ToSet sig) = rest.ToSet sig
 
-abbrev pub as_stage : Stage → rest.Stage
+abbrev pub as_stage : CallStage → rest.CallStage
 as_stage (stage.Begins room call) = rest.Begins room (as_call call)
 as_stage (stage.Refers p b to) = rest.Refers p b (as_goal to)
 as_stage (stage.Puts to e) = rest.Puts (as_goal to) e

@@ -5,6 +5,6 @@ pub mod AsPiece
 pub mod AsStage
 pub mod Decides
 pub mod Reads
-pub mod Rest
-pub mod RestLaws
-pub mod RestNext
+pub mod CallState
+pub mod CallStateLaws
+pub mod CallStateNext

@@ -2,21 +2,21 @@
 
 ghost use Rattle.std.specs.Prelude.{◌≡◌, List, length};
 ghost use Rattle.qp_model.specs.declared.bodies.Entry.{Entry};
-ghost use Rattle.qp_fits.specs.Rest as rest;
+ghost use Rattle.qp_fits.specs.CallState as rest;
 ghost use Rattle.std.specs.Option.{option_map};
-ghost use Rattle.qp_fits.specs.RestNext.{drop_next, flush_next, flushes_on, left_over, raise_next, released, restore_next, return_next};
+ghost use Rattle.qp_fits.specs.CallStateNext.{drop_next, flush_next, flushes_on, left_over, raise_next, released, restore_next, return_next};
 ghost use Rattle.qp_fits.specs.AsStage.{as_behind, as_stage};
 
 use crate::call::Answer;
 use crate::goes::{flushes_on, goes_on, only, post_to, release};
 use crate::kept::Kept;
 use crate::members::Members;
-use crate::stage::{Behind, Stage};
+use crate::stage::{Behind, CallStage};
 use crate::told::{Known, Told};
 use qp_model::{Body, Entry};
 
 /// Behind the ceiling raised before the posts to these members.
-pub(crate) fn raise_next(own: Entry, a: u8, others: Members, told: &Told) -> Option<Stage>
+pub(crate) fn raise_next(own: Entry, a: u8, others: Members, told: &Told) -> Option<CallStage>
     ensures { option_map as_stage result ≡ raise_next own a others told.now.body told.now.known }
 {
     match (&told.body, &told.known) {
@@ -29,7 +29,7 @@ pub(crate) fn raise_next(own: Entry, a: u8, others: Members, told: &Told) -> Opt
 }
 
 /// Behind the ceiling restored.
-pub(crate) fn restore_next(own: Entry, former: u64, told: &Told) -> Option<Stage>
+pub(crate) fn restore_next(own: Entry, former: u64, told: &Told) -> Option<CallStage>
     ensures { option_map as_stage result ≡ restore_next own former told.now.body told.now.known }
 {
     match (&told.body, &told.known) {
@@ -42,11 +42,11 @@ pub(crate) fn restore_next(own: Entry, former: u64, told: &Told) -> Option<Stage
 }
 
 /// Behind a reference dropped by operation `d`: the block comes back exactly where none is left.
-fn left_over(kept: &Kept, e: Entry, d: u64, behind: Behind, left: u64) -> Stage
+fn left_over(kept: &Kept, e: Entry, d: u64, behind: Behind, left: u64) -> CallStage
     ensures { as_stage result ≡ left_over kept.now e d (as_behind behind) left }
 {
     if left == 0 {
-        Stage::Returns {
+        CallStage::Returns {
             p: e.pool,
             b: e.block,
             d,
@@ -58,7 +58,7 @@ fn left_over(kept: &Kept, e: Entry, d: u64, behind: Behind, left: u64) -> Stage
 }
 
 /// Behind a reference dropped.
-pub(crate) fn drop_next(kept: &Kept, e: Entry, behind: Behind, told: &Told) -> Option<Stage>
+pub(crate) fn drop_next(kept: &Kept, e: Entry, behind: Behind, told: &Told) -> Option<CallStage>
     ensures { option_map as_stage result ≡ drop_next kept.now e (as_behind behind) told.now.body told.now.known }
 {
     match (&told.body, &told.known) {
@@ -78,7 +78,7 @@ pub(crate) fn return_next(
     d: u64,
     behind: Behind,
     told: &Told,
-) -> Option<Stage>
+) -> Option<CallStage>
     ensures { option_map as_stage result ≡ return_next kept.now p b d (as_behind behind) told.now.body told.now.known }
 {
     match (&told.body, &told.known) {
@@ -91,13 +91,13 @@ pub(crate) fn return_next(
 }
 
 /// Behind the flush of an entry, with so many left: its release, or what is behind it.
-fn flushed(total: u64, k: Entry, left: usize) -> Stage
+fn flushed(total: u64, k: Entry, left: usize) -> CallStage
     ensures { (others : List Entry) → length others ≡ left → as_stage result ≡ released k (flushes_on total others) (rest.FlushesOn total) }
 {
     if k.pool == 0 {
         flushes_on(total, left)
     } else {
-        Stage::Drops {
+        CallStage::Drops {
             e: k,
             behind: Behind::FlushesOn { total },
         }
@@ -105,7 +105,7 @@ fn flushed(total: u64, k: Entry, left: usize) -> Stage
 }
 
 /// Behind the flush of the oldest entry.
-pub(crate) fn flush_next(kept: &Kept, total: u64, told: &Told) -> Option<Stage>
+pub(crate) fn flush_next(kept: &Kept, total: u64, told: &Told) -> Option<CallStage>
     ensures { option_map as_stage result ≡ flush_next kept.now total told.now.body told.now.known }
 {
     let k = kept.oldest()?;

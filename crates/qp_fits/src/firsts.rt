@@ -3,9 +3,9 @@
 ghost use Rattle.std.specs.Prelude.{◌≡◌, nat_lt, length};
 ghost use Rattle.std.specs.Option.{option_map};
 ghost use Rattle.qp_model.specs.Parts.{is_static, sizes_of};
-ghost use Rattle.qp_fits.specs.RestNext.{begin_next, block_next, defer_next, event_next, full_next, new_next, none_next, now_next, recall_next, recalled_next};
+ghost use Rattle.qp_fits.specs.CallStateNext.{begin_next, block_next, defer_next, event_next, full_next, new_next, none_next, now_next, recall_next, recalled_next};
 ghost use Rattle.qp_model.specs.Calls as calls;
-ghost use Rattle.qp_fits.specs.Rest as rest;
+ghost use Rattle.qp_fits.specs.CallState as rest;
 ghost use Rattle.qp_fits.specs.AsCall.{as_call};
 ghost use Rattle.qp_fits.specs.AsStage.{as_goal, as_stage};
 
@@ -15,12 +15,12 @@ use crate::kept::Kept;
 use crate::lookups::{is_first_pool, is_of, is_same_list, timer_number};
 use crate::puts::{put_next, refer_next};
 use crate::singles::{arm_next, disarm_next, rearm_next, subscribe_next, unsubscribe_next};
-use crate::stage::{Behind, Goal, Stage};
+use crate::stage::{Behind, CallStage, Goal};
 use crate::told::{Known, Told};
 use qp_model::{Body, Entry, Params, System};
 
 /// Behind a block given out for an event, or a refusal for want of blocks.
-#[tactic(auto, unfolding(crate::specs::RestNext::block_next))]
+#[tactic(auto, unfolding(crate::specs::CallStateNext::block_next))]
 fn block_next(
     sys: &System,
     sig: u16,
@@ -28,7 +28,7 @@ fn block_next(
     reserve: Option<u8>,
     goal: Goal,
     told: &Told,
-) -> Option<Stage>
+) -> Option<CallStage>
     ensures { option_map as_stage result ≡ block_next (sizes_of sys.now) sig pars.now reserve (as_goal goal) told.now.body told.now.known }
 {
     let count = pars.items.len();
@@ -45,23 +45,23 @@ fn block_next(
         ) => {
             let is_event = *s == u64::from(sig) && is_same_list(&stated.items, &pars.items);
             let is_free = u64::from(reserve.unwrap_or(0)) < *n;
-            let stage = Stage::Refers { p: *p, b: *b, goal };
+            let stage = CallStage::Refers { p: *p, b: *b, goal };
             only(is_first_pool(sys, count, *p) && is_event && is_free, stage)
         }
         (Body::NoBlock { p, .. }, Known::Nothing) => only(
             is_first_pool(sys, count, *p) && reserve.is_none(),
-            Stage::Whole(Answer::AtPool),
+            CallStage::Whole(Answer::AtPool),
         ),
         (Body::Short { p, reserve: r, .. }, Known::Nothing) => only(
             is_first_pool(sys, count, *p) && is_of(reserve, *r),
-            Stage::Whole(Answer::Refused),
+            CallStage::Whole(Answer::Refused),
         ),
         _ => None,
     }
 }
 
 /// Behind the first record of a new event, static or not.
-#[tactic(auto, unfolding(crate::specs::RestNext::new_next))]
+#[tactic(auto, unfolding(crate::specs::CallStateNext::new_next))]
 fn new_next(
     sys: &System,
     o: u8,
@@ -71,8 +71,9 @@ fn new_next(
     reserve: Option<u8>,
     goal: Goal,
     told: &Told,
-) -> Option<Stage>
-    ensures { option_map as_stage result ≡ new_next (is_static sys.now sig) sys.now o kept.now sig pars.now reserve (as_goal goal) told.now.body told.now.known }
+) -> Option<CallStage>
+    ensures { option_map as_stage result ≡ new_next (is_static sys.now sig) sys.now o kept.now sig pars.now reserve (as_goal goal)
+        told.now.body told.now.known }
 {
     if sys.is_static(u64::from(sig)) {
         let e = Entry {
@@ -87,8 +88,15 @@ fn new_next(
 }
 
 /// Behind the first record of another entry of an event.
-#[tactic(auto, unfolding(crate::specs::RestNext::event_next))]
-fn event_next(sys: &System, o: u8, kept: &Kept, goal: Goal, e: Entry, told: &Told) -> Option<Stage>
+#[tactic(auto, unfolding(crate::specs::CallStateNext::event_next))]
+fn event_next(
+    sys: &System,
+    o: u8,
+    kept: &Kept,
+    goal: Goal,
+    e: Entry,
+    told: &Told,
+) -> Option<CallStage>
     ensures { option_map as_stage result ≡ event_next e.pool sys.now o kept.now (as_goal goal) e told.now.body told.now.known }
 {
     if e.pool == 0 {
@@ -99,7 +107,7 @@ fn event_next(sys: &System, o: u8, kept: &Kept, goal: Goal, e: Entry, told: &Tol
 }
 
 /// The same of the entry that a step works on.
-#[tactic(auto, unfolding(crate::specs::RestNext::now_next))]
+#[tactic(auto, unfolding(crate::specs::CallStateNext::now_next))]
 fn now_next(
     sys: &System,
     o: u8,
@@ -107,7 +115,7 @@ fn now_next(
     kept: &Kept,
     goal: Goal,
     told: &Told,
-) -> Option<Stage>
+) -> Option<CallStage>
     ensures { option_map as_stage result ≡ now_next sys.now o now kept.now (as_goal goal) told.now.body told.now.known }
 {
     match now {
@@ -116,17 +124,17 @@ fn now_next(
     }
 }
 
-fn full_next(told: &Told) -> Option<Stage>
+fn full_next(told: &Told) -> Option<CallStage>
     ensures { option_map as_stage result ≡ full_next told.now.body told.now.known }
 {
     match (&told.body, &told.known) {
-        (Body::NoDefer, Known::Nothing) => Some(Stage::Whole(Answer::Refused)),
+        (Body::NoDefer, Known::Nothing) => Some(CallStage::Whole(Answer::Refused)),
         _ => None,
     }
 }
 
 /// Behind the first record of a deferral.
-#[tactic(auto, unfolding(crate::specs::RestNext::defer_next))]
+#[tactic(auto, unfolding(crate::specs::CallStateNext::defer_next))]
 fn defer_next(
     sys: &System,
     o: u8,
@@ -134,7 +142,7 @@ fn defer_next(
     kept: &Kept,
     room: u8,
     told: &Told,
-) -> Option<Stage>
+) -> Option<CallStage>
     ensures { option_map as_stage result ≡ defer_next (nat_lt (length kept.now) room) sys.now o now kept.now told.now.body told.now.known }
 {
     if kept.len() < usize::from(room) {
@@ -144,16 +152,16 @@ fn defer_next(
     }
 }
 
-fn none_next(told: &Told) -> Option<Stage>
+fn none_next(told: &Told) -> Option<CallStage>
     ensures { option_map as_stage result ≡ none_next told.now.body told.now.known }
 {
     match (&told.body, &told.known) {
-        (Body::NoRecall, Known::Nothing) => Some(Stage::Whole(Answer::Refused)),
+        (Body::NoRecall, Known::Nothing) => Some(CallStage::Whole(Answer::Refused)),
         _ => None,
     }
 }
 
-fn recalled_next(k: Entry, told: &Told) -> Option<Stage>
+fn recalled_next(k: Entry, told: &Told) -> Option<CallStage>
     ensures { option_map as_stage result ≡ recalled_next k told.now.body told.now.known }
 {
     match (&told.body, &told.known) {
@@ -166,7 +174,7 @@ fn recalled_next(k: Entry, told: &Told) -> Option<Stage>
 }
 
 /// Behind the first record of a recall.
-fn recall_next(kept: &Kept, told: &Told) -> Option<Stage>
+fn recall_next(kept: &Kept, told: &Told) -> Option<CallStage>
     ensures { option_map as_stage result ≡ recall_next kept.now told.now.body told.now.known }
 {
     match kept.oldest() {
@@ -176,7 +184,7 @@ fn recall_next(kept: &Kept, told: &Told) -> Option<Stage>
 }
 
 /// Behind the first record of a call.
-#[tactic(auto, unfolding(crate::specs::RestNext::begin_next))]
+#[tactic(auto, unfolding(crate::specs::CallStateNext::begin_next))]
 pub(crate) fn begin_next(
     sys: &System,
     o: u8,
@@ -185,7 +193,7 @@ pub(crate) fn begin_next(
     room: u8,
     call: &Call,
     told: &Told,
-) -> Option<Stage>
+) -> Option<CallStage>
     ensures { option_map as_stage result ≡ begin_next sys.now o now kept.now room (as_call call.now) told.now.body told.now.known }
 {
     match call {

@@ -3,32 +3,32 @@
 ghost use Rattle.std.specs.Prelude.{◌≡◌, ◌∷◌, List, length};
 ghost use Rattle.std.specs.Option.{option_map};
 ghost use Rattle.qp_model.specs.declared.bodies.Entry.{Entry};
-ghost use Rattle.qp_fits.specs.RestNext.{again, flushes_on, fronted, goes_on, only, publishes_on, raises, released, restored};
-ghost use Rattle.qp_fits.specs.Rest as rest;
+ghost use Rattle.qp_fits.specs.CallStateNext.{again, flushes_on, fronted, goes_on, only, publishes_on, raises, released, restored};
+ghost use Rattle.qp_fits.specs.CallState as rest;
 ghost use Rattle.qp_fits.specs.AsCall.{as_answer};
 ghost use Rattle.qp_fits.specs.AsStage.{as_behind, as_goal, as_stage};
 
 use crate::call::Answer;
 use crate::kept::Kept;
 use crate::members::Members;
-use crate::stage::{Behind, Goal, Stage};
+use crate::stage::{Behind, CallStage, Goal};
 use qp_model::Entry;
 
 /// This stage, where a test is passed.
-pub(crate) fn only(passed: bool, stage: Stage) -> Option<Stage>
+pub(crate) fn only(passed: bool, stage: CallStage) -> Option<CallStage>
     ensures { option_map as_stage result ≡ only passed (as_stage stage) }
 {
     if passed { Some(stage) } else { None }
 }
 
 /// The release of an entry that ends a call.
-pub(crate) fn release(e: Entry, answer: Answer) -> Stage
+pub(crate) fn release(e: Entry, answer: Answer) -> CallStage
     ensures { as_stage result ≡ released e (rest.Whole (as_answer answer)) (rest.Ends (as_answer answer)) }
 {
     if e.pool == 0 {
-        Stage::Whole(answer)
+        CallStage::Whole(answer)
     } else {
-        Stage::Drops {
+        CallStage::Drops {
             e,
             behind: Behind::Ends(answer),
         }
@@ -36,13 +36,13 @@ pub(crate) fn release(e: Entry, answer: Answer) -> Stage
 }
 
 /// Another entry of an event; of a static one it needs no reference.
-pub(crate) fn again(goal: Goal, e: Entry) -> Stage
+pub(crate) fn again(goal: Goal, e: Entry) -> CallStage
     ensures { as_stage result ≡ again (as_goal goal) e }
 {
     if e.pool == 0 {
-        Stage::Puts { goal, e }
+        CallStage::Puts { goal, e }
     } else {
-        Stage::Refers {
+        CallStage::Refers {
             p: e.pool,
             b: e.block,
             goal,
@@ -51,27 +51,27 @@ pub(crate) fn again(goal: Goal, e: Entry) -> Stage
 }
 
 /// Behind a last-in post.
-pub(crate) fn fronted(recalled: Option<Entry>) -> Stage
+pub(crate) fn fronted(recalled: Option<Entry>) -> CallStage
     ensures { as_stage result ≡ fronted recalled }
 {
     match recalled {
         Some(k) => release(k, Answer::Granted),
-        None => Stage::Whole(Answer::Granted),
+        None => CallStage::Whole(Answer::Granted),
     }
 }
 
 /// The end of a publication behind its posts.
-fn restored(own: Entry, former: Option<u64>) -> Stage
+fn restored(own: Entry, former: Option<u64>) -> CallStage
     ensures { as_stage result ≡ restored own former }
 {
     match former {
-        Some(former) => Stage::Restores { own, former },
+        Some(former) => CallStage::Restores { own, former },
         None => release(own, Answer::Granted),
     }
 }
 
 /// The posts of a publication to a member and to the others.
-pub(crate) fn post_to(own: Entry, former: Option<u64>, a: u8, others: Members) -> Stage
+pub(crate) fn post_to(own: Entry, former: Option<u64>, a: u8, others: Members) -> CallStage
     ensures { as_stage result ≡ publishes_on own former (a ∷ others) }
 {
     let goal = Goal::ToQueue {
@@ -87,7 +87,7 @@ pub(crate) fn post_to(own: Entry, former: Option<u64>, a: u8, others: Members) -
 }
 
 /// The posts of a publication that are left, and its end.
-fn publishes_on(own: Entry, former: Option<u64>, mut members: Members) -> Stage
+fn publishes_on(own: Entry, former: Option<u64>, mut members: Members) -> CallStage
     ensures { as_stage result ≡ publishes_on own former members }
 {
     match members.next() {
@@ -97,7 +97,7 @@ fn publishes_on(own: Entry, former: Option<u64>, mut members: Members) -> Stage
 }
 
 /// A publication behind its `pub`.
-pub(crate) fn raises(o: u8, own: Entry, mut members: Members) -> Stage
+pub(crate) fn raises(o: u8, own: Entry, mut members: Members) -> CallStage
     ensures { as_stage result ≡ raises o own members }
 {
     match members.next() {
@@ -106,7 +106,7 @@ pub(crate) fn raises(o: u8, own: Entry, mut members: Members) -> Stage
             if o == 0 {
                 post_to(own, None, a, members)
             } else {
-                Stage::Raises {
+                CallStage::Raises {
                     own,
                     a,
                     others: members,
@@ -117,22 +117,22 @@ pub(crate) fn raises(o: u8, own: Entry, mut members: Members) -> Stage
 }
 
 /// The flush of so many entries that are left.
-pub(crate) fn flushes_on(total: u64, left: usize) -> Stage
+pub(crate) fn flushes_on(total: u64, left: usize) -> CallStage
     ensures { (kept : List Entry) → length kept ≡ left → as_stage result ≡ flushes_on total kept }
 {
     if left == 0 {
-        Stage::Whole(Answer::Flushed { n: total })
+        CallStage::Whole(Answer::Flushed { n: total })
     } else {
-        Stage::Flushes { total }
+        CallStage::Flushes { total }
     }
 }
 
 /// What is behind a part of a call.
-pub(crate) fn goes_on(kept: &Kept, behind: Behind) -> Stage
+pub(crate) fn goes_on(kept: &Kept, behind: Behind) -> CallStage
     ensures { as_stage result ≡ goes_on kept.now (as_behind behind) }
 {
     match behind {
-        Behind::Ends(answer) => Stage::Whole(answer),
+        Behind::Ends(answer) => CallStage::Whole(answer),
         Behind::FlushesOn { total } => flushes_on(total, kept.len()),
         Behind::PublishesOn {
             own,

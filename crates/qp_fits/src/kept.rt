@@ -2,7 +2,7 @@
 
 ghost use Rattle.std.specs.Prelude.{◌≡◌, ℕ, [], ◌∷◌, ◌++◌, List, drop, length, MatchOption, IfOk};
 ghost use Rattle.qp_model.specs.declared.bodies.Entry.{Entry};
-ghost use Rattle.qp_fits.specs.RestNext.{list_after};
+ghost use Rattle.qp_fits.specs.CallStateNext.{list_after};
 
 use qp_model::{Body, Entry};
 use std::alloc::{AllocError, Global};

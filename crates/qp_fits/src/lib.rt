@@ -2,6 +2,7 @@
 #![tactic(auto)]
 
 mod call;
+mod call_state;
 mod ends;
 mod firsts;
 mod goes;
@@ -10,13 +11,12 @@ pub mod lookups;
 mod members;
 mod pieces;
 mod puts;
-mod rest;
 mod singles;
 mod stage;
 mod told;
 
 pub use call::{Answer, Call};
+pub use call_state::CallState;
 pub use kept::Kept;
 pub use pieces::{Cut, Piece};
-pub use rest::Rest;
 pub use told::{Known, Told};

@@ -5,7 +5,7 @@ ghost use Rattle.std.specs.List.{count_by, position};
 ghost use Rattle.qp_model.specs.Sources.{same_list};
 ghost use Rattle.qp_model.specs.Parts.{room_before, sizes_of, first_pool, timer_number};
 ghost use Rattle.qp_model.specs.Shapes.{ticks_fit};
-ghost use Rattle.qp_fits.specs.RestNext.{is_of};
+ghost use Rattle.qp_fits.specs.CallStateNext.{is_of};
 
 use qp_model::{PoolDef, System};
 

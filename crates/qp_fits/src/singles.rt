@@ -2,26 +2,26 @@
 
 ghost use Rattle.std.specs.Prelude.{◌≡◌};
 ghost use Rattle.std.specs.Option.{option_map};
-ghost use Rattle.qp_fits.specs.RestNext.{arm_next, disarm_next, only, rearm_next, subscribe_next, unsubscribe_next, was_armed};
-ghost use Rattle.qp_fits.specs.Rest as rest;
+ghost use Rattle.qp_fits.specs.CallStateNext.{arm_next, disarm_next, only, rearm_next, subscribe_next, unsubscribe_next, was_armed};
+ghost use Rattle.qp_fits.specs.CallState as rest;
 ghost use Rattle.qp_fits.specs.AsCall.{as_answer};
 ghost use Rattle.qp_fits.specs.AsStage.{as_stage};
 
 use crate::call::Answer;
 use crate::goes::only;
 use crate::lookups::do_fit;
-use crate::stage::Stage;
+use crate::stage::CallStage;
 use crate::told::{Known, Told};
 use qp_model::Body;
 
 /// The end of a call, where a test is passed.
-fn whole(passed: bool, answer: Answer) -> Option<Stage>
+fn whole(passed: bool, answer: Answer) -> Option<CallStage>
     ensures { option_map as_stage result ≡ only passed (rest.Whole (as_answer answer)) }
 {
-    only(passed, Stage::Whole(answer))
+    only(passed, CallStage::Whole(answer))
 }
 
-pub(crate) fn subscribe_next(sig: u16, told: &Told) -> Option<Stage>
+pub(crate) fn subscribe_next(sig: u16, told: &Told) -> Option<CallStage>
     ensures { option_map as_stage result ≡ subscribe_next sig told.now.body told.now.known }
 {
     match (&told.body, &told.known) {
@@ -33,7 +33,7 @@ pub(crate) fn subscribe_next(sig: u16, told: &Told) -> Option<Stage>
     }
 }
 
-pub(crate) fn unsubscribe_next(sig: u16, told: &Told) -> Option<Stage>
+pub(crate) fn unsubscribe_next(sig: u16, told: &Told) -> Option<CallStage>
     ensures { option_map as_stage result ≡ unsubscribe_next sig told.now.body told.now.known }
 {
     match (&told.body, &told.known) {
@@ -49,8 +49,8 @@ pub(crate) fn unsubscribe_next(sig: u16, told: &Told) -> Option<Stage>
 }
 
 /// Behind the arming of a timer, or what asserts in its place.
-#[tactic(auto, unfolding(crate::specs::RestNext::arm_next))]
-pub(crate) fn arm_next(timer: u128, ticks: u64, interval: u64, told: &Told) -> Option<Stage>
+#[tactic(auto, unfolding(crate::specs::CallStateNext::arm_next))]
+pub(crate) fn arm_next(timer: u128, ticks: u64, interval: u64, told: &Told) -> Option<CallStage>
     ensures { option_map as_stage result ≡ arm_next timer ticks interval told.now.body told.now.known }
 {
     let fits = do_fit(ticks, interval);
@@ -102,8 +102,8 @@ fn was_armed(former: u64) -> Answer
     }
 }
 
-#[tactic(auto, unfolding(crate::specs::RestNext::rearm_next))]
-pub(crate) fn rearm_next(timer: u128, ticks: u64, told: &Told) -> Option<Stage>
+#[tactic(auto, unfolding(crate::specs::CallStateNext::rearm_next))]
+pub(crate) fn rearm_next(timer: u128, ticks: u64, told: &Told) -> Option<CallStage>
     ensures { option_map as_stage result ≡ rearm_next timer ticks told.now.body told.now.known }
 {
     let fits = do_fit(ticks, 0);
@@ -137,7 +137,7 @@ pub(crate) fn rearm_next(timer: u128, ticks: u64, told: &Told) -> Option<Stage>
     }
 }
 
-pub(crate) fn disarm_next(timer: u128, told: &Told) -> Option<Stage>
+pub(crate) fn disarm_next(timer: u128, told: &Told) -> Option<CallStage>
     ensures { option_map as_stage result ≡ disarm_next timer told.now.body told.now.known }
 {
     match (&told.body, &told.known) {

@@ -41,7 +41,7 @@ pub(crate) enum Goal {
 }
 
 #[derive(Drop)]
-pub(crate) enum Stage {
+pub(crate) enum CallStage {
     /// The first record of a call that is no flush.
     Begins {
         room: u8,

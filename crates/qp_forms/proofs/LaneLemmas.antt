@@ -10,7 +10,7 @@ use Rattle.qp_model.specs.declared.systems.ObjectDef.{ObjectDef}
 use Rattle.qp_model.specs.declared.bodies.Body.{Body}
 use Rattle.qp_model.specs.declared.bodies.Body.TheVariants as body
 use Rattle.qp_model.specs.Record.{Item}
-use Rattle.qp_model.specs.KernelLane.{Role, Looks, Sees, Takes, Ends, Rests, Holds, Drops, RunsOut, Spills, Acts, role_of, Setting, above, Place, Inside, Looking, Found, Ended, Resting, Again, Over, Halted, Reading, base_ended, found_none, looking_at, look_next, seen_next, own_next, inside_next, found_next, ended_next, rest_next, place_next, start_next, started_next, role_next, lane_next, lane_on, unread, lane_read}
+use Rattle.qp_model.specs.KernelLane.{Role, Looks, Sees, Takes, Ends, Rests, Holds, Drops, RunsOut, Spills, Acts, role_of, Setting, above, Upcoming, Inside, Looking, Chosen, Ended, Resting, Again, Over, Halted, Reading, base_ended, found_none, looking_at, look_next, seen_next, own_next, inside_next, found_next, ended_next, call_state_next, place_next, start_next, started_next, role_next, lane_next, lane_on, unread, lane_read}
 use Rattle.qp_model.specs.Kernels.{qk, qv}
 use Rattle.qp_forms.proofs.CountLemmas.{is_said_by, both}
 
@@ -64,9 +64,9 @@ all-higher Q floor (d ∷ ds) h = by (nat_lt floor d.priority) (all-higher Q flo
 
 -- Of every object this is so.
 module _ (s : Setting) (rests : Bool) (other : rests ≡ false → (s.kernel == qv) ≡ false) (Q : ℕ → Type 0) (objects : AllByRecursion Q (map (λ d. d.priority) s.sys.objects)) where
-  abbrev ItsPlace : Place → Type 0
+  abbrev ItsPlace : Upcoming → Type 0
   ItsPlace (Looking p others) = Q p × AllByRecursion Q others
-  ItsPlace (Found p) = Q p
+  ItsPlace (Chosen p) = Q p
   ItsPlace (Ended p) = Q p
   ItsPlace Resting = rests ≡ true
   ItsPlace _ = ⊤
@@ -130,7 +130,7 @@ module _ (s : Setting) (rests : Bool) (other : rests ≡ false → (s.kernel == 
       let ok = granted _ _ next e in
       (inr (same o 0 (both (o == 0) _ ok.0).0, refl), subst Its ok.1 (by (nat_lt m (f + l))))
     where
-      by : (b : Bool) → Its (cond b (record k { place = Found p }) (looking_at s k others))
+      by : (b : Bool) → Its (cond b (record k { place = Chosen p }) (looking_at s k others))
       by true = record { unstarted = its.unstarted; running = its.running; place = one }
       by false = looked-its k others its all
   seen k next p others o (Looks n floor) its one all e = absurd (cc)
@@ -197,7 +197,7 @@ module _ (s : Setting) (rests : Bool) (other : rests ≡ false → (s.kernel == 
   ended k next p o Spills its one e = look k next o Spills its e
   ended k next p o Acts its one e = look k next o Acts its e
 
-  rested : (k next : Reading) (o : ℕ) (r : Role) → Its k → rests ≡ true → rest_next s k o r ≡ Some next → Fine o r × Its next
+  rested : (k next : Reading) (o : ℕ) (r : Role) → Its k → rests ≡ true → call_state_next s k o r ≡ Some next → Fine o r × Its next
   rested k next o (Rests n) its may e = let ok = granted _ _ next e in (inr (same o 0 (both (o == 0) _ ok.0).0, may), subst Its ok.1 (base-its k its))
   rested k next o (Looks n floor) its may e = absurd (cc)
   rested k next o (Sees q f l m) its may e = absurd (cc)
@@ -209,11 +209,11 @@ module _ (s : Setting) (rests : Bool) (other : rests ≡ false → (s.kernel == 
   rested k next o Spills its may e = absurd (cc)
   rested k next o Acts its may e = absurd (cc)
 
-  placed : (k next : Reading) (o : ℕ) (r : Role) (at : Place) → Its k → ItsPlace at → place_next s k o r at ≡ Some next → Fine o r × Its next
+  placed : (k next : Reading) (o : ℕ) (r : Role) (at : Upcoming) → Its k → ItsPlace at → place_next s k o r at ≡ Some next → Fine o r × Its next
   unfolding place_next
   placed k next o r Inside its there e = inside k next k.running o r its its.running e
   placed k next o r (Looking p others) its there e = seen k next p others o r its there.0 there.1 e
-  placed k next o r (Found p) its there e = found k next p o r its there e
+  placed k next o r (Chosen p) its there e = found k next p o r its there e
   placed k next o r (Ended p) its there e = ended k next p o r its there e
   placed k next o r Resting its there e = rested k next o r its there e
   placed k next o r Again its there e = look k next o r its e

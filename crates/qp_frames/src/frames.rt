@@ -32,13 +32,13 @@ impl Model for FrameItem {
 
 /// Where a frame begins, its form, and the sequence byte that is wanted.
 #[derive(Clone, Copy)]
-pub(crate) struct Place {
+pub(crate) struct FrameStart {
     pub start: u64,
     pub form: u8,
     pub wanted: u8,
 }
 
-impl Place {
+impl FrameStart {
     /// A fault of the frame.
     fn fault(self, code: u8, want: u8, got: u8) -> FrameFault
         ensures { result ≡ At self.start code want got }

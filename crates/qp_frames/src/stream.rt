@@ -7,7 +7,7 @@ ghost use Rattle.qp_frames.specs.Stream.{after_escape, before_all, end_frame, en
 use crate::bytes::{END, ESCAPE};
 use crate::code;
 use crate::faults::FrameFault;
-use crate::frames::{FrameItem, Place, form_of};
+use crate::frames::{FrameItem, FrameStart, form_of};
 use qp_model::Journal;
 use qp_text::{Found, LineFault, Reading, code as line_code};
 use std::alloc::Global;
@@ -127,7 +127,7 @@ impl Stream {
         ensures { Becomes result self.new (end_frame self.old) }
     {
         let form = self.form();
-        let place = Place {
+        let place = FrameStart {
             start: self.start,
             form,
             wanted: self.sequence,

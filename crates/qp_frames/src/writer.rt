@@ -25,7 +25,8 @@ pub fn write_frames<K: Sink>(j: &Journal, form: u8, out: &mut K) -> Result<(), S
 
 /// Writes the first frame.
 fn put_head<K: Sink>(out: &mut K, form: u8, j: &Journal) -> Result<(), SinkFault>
-    ensures { Puts result (frame form 1 (head_item form j.now)) (K.written out.old) (K.written out.new) (K.faults out.old) (K.faults out.new) }
+    ensures { Puts result (frame form 1 (head_item form j.now)) (K.written out.old) (K.written out.new) (K.faults out.old)
+        (K.faults out.new) }
 {
     let nums = [u64::from(form), u64::from(j.kernel), u64::from(j.budget)];
     put_frame(out, form, 1, kinds::QP, &nums)
@@ -33,7 +34,8 @@ fn put_head<K: Sink>(out: &mut K, form: u8, j: &Journal) -> Result<(), SinkFault
 
 /// Writes the last frame.
 fn put_end<K: Sink>(out: &mut K, form: u8, sequence: u8, j: &Journal) -> Result<(), SinkFault>
-    ensures { Puts result (frame form sequence (end_item j.now)) (K.written out.old) (K.written out.new) (K.faults out.old) (K.faults out.new) }
+    ensures { Puts result (frame form sequence (end_item j.now)) (K.written out.old) (K.written out.new) (K.faults out.old)
+        (K.faults out.new) }
 {
     put_frame(out, form, sequence, kinds::END, &[u64::from(j.end)])
 }
@@ -41,7 +43,8 @@ fn put_end<K: Sink>(out: &mut K, form: u8, sequence: u8, j: &Journal) -> Result<
 /// Writes the lanes, each under its head, and answers the next frame's sequence byte.
 fn put_lanes<K: Sink>(out: &mut K, form: u8, sequence: u8, lanes: &Lanes) -> Result<u8, SinkFault>
     requires { IsTrue (list_all (is_lane_in_range form) lanes.now) }
-    ensures puts { Puts result (frames_from form sequence (items_of_lanes 0 lanes.now)) (K.written out.old) (K.written out.new) (K.faults out.old) (K.faults out.new) }
+    ensures puts { Puts result (frames_from form sequence (items_of_lanes 0 lanes.now)) (K.written out.old) (K.written out.new)
+        (K.faults out.old) (K.faults out.new) }
     ensures next { IfOk result (λ next. next ≡ behind sequence (items_of_lanes 0 lanes.now)) }
 {
     let mut next = sequence;
@@ -60,7 +63,8 @@ fn put_lane<K: Sink>(
     lane: &Lane,
 ) -> Result<u8, SinkFault>
     requires { IsTrue (is_lane_in_range form lane.now) }
-    ensures puts { Puts result (frames_from form sequence (items_of_lane number lane.now)) (K.written out.old) (K.written out.new) (K.faults out.old) (K.faults out.new) }
+    ensures puts { Puts result (frames_from form sequence (items_of_lane number lane.now)) (K.written out.old) (K.written out.new)
+        (K.faults out.old) (K.faults out.new) }
     ensures next { IfOk result (λ next. next ≡ behind sequence (items_of_lane number lane.now)) }
 {
     put_frame(out, form, sequence, kinds::LANE, &[number])?;
@@ -70,7 +74,8 @@ fn put_lane<K: Sink>(
 /// Writes the records of a lane, and answers the next frame's sequence byte.
 fn put_records<K: Sink>(out: &mut K, form: u8, sequence: u8, lane: &Lane) -> Result<u8, SinkFault>
     requires { IsTrue (list_all (is_record_in_range form) lane.now) }
-    ensures puts { Puts result (frames_from form sequence (map record_item lane.now)) (K.written out.old) (K.written out.new) (K.faults out.old) (K.faults out.new) }
+    ensures puts { Puts result (frames_from form sequence (map record_item lane.now)) (K.written out.old) (K.written out.new)
+        (K.faults out.old) (K.faults out.new) }
     ensures next { IfOk result (λ next. next ≡ behind sequence (map record_item lane.now)) }
 {
     let mut next = sequence;
@@ -83,7 +88,8 @@ fn put_records<K: Sink>(out: &mut K, form: u8, sequence: u8, lane: &Lane) -> Res
 
 /// Writes a record.
 fn put_record<K: Sink>(out: &mut K, form: u8, sequence: u8, r: &Rec) -> Result<(), SinkFault>
-    ensures { Puts result (frame form sequence (record_item r.now)) (K.written out.old) (K.written out.new) (K.faults out.old) (K.faults out.new) }
+    ensures { Puts result (frame form sequence (record_item r.now)) (K.written out.old) (K.written out.new) (K.faults out.old)
+        (K.faults out.new) }
 {
     let mut nums = ArrayVec::<u64, 14>::new();
     nums.push(u64::from(r.of));
@@ -100,7 +106,8 @@ fn put_frame<K: Sink>(
     nums: &[u64],
 ) -> Result<(), SinkFault>
     requires { length nums.now ≤ 14 }
-    ensures { Puts result (frame form sequence (item id nums.now)) (K.written out.old) (K.written out.new) (K.faults out.old) (K.faults out.new) }
+    ensures { Puts result (frame form sequence (item id nums.now)) (K.written out.old) (K.written out.new) (K.faults out.old)
+        (K.faults out.new) }
 {
     out.put(bytes::frame(form, sequence, id, nums).as_slice())
 }

@@ -48,7 +48,8 @@ fn note_mark(
     mark: u128,
 ) -> Result<(), AllocError>
     ensures last { OnOk result ((q : ℕ × ℕ × ℕ) → mark_at last.new q ≡ (if same_key key q then mark else mark_at last.old q)) }
-    ensures falls { OnOk result ((q : ℕ × ℕ × ℕ) → contains key_cmp falls.new q ≡ (contains key_cmp falls.old q || (same_key key q && nat_lt mark (mark_at last.old q)))) }
+    ensures falls { OnOk result ((q : ℕ × ℕ × ℕ) → contains key_cmp falls.new q ≡
+        (contains key_cmp falls.old q || (same_key key q && nat_lt mark (mark_at last.old q)))) }
 {
     if mark < last.put(key, mark)? {
         let _ = falls.insert(key)?;
@@ -62,8 +63,11 @@ fn note_record(
     falls: &mut BTreeSet<(u64, u64, u64)>,
     r: &Rec,
 ) -> Result<(), AllocError>
-    ensures last { OnOk result ((w : Word) → mark_at last.new (key_of w) ≡ (if word_use w (touch (item_of r.now)) then mark_number (touch (item_of r.now)) else mark_at last.old (key_of w))) }
-    ensures falls { OnOk result ((w : Word) → contains key_cmp falls.new (key_of w) ≡ (contains key_cmp falls.old (key_of w) || (word_use w (touch (item_of r.now)) && nat_lt (mark_number (touch (item_of r.now))) (mark_at last.old (key_of w))))) }
+    ensures last { OnOk result ((w : Word) → mark_at last.new (key_of w) ≡ (if word_use w (touch (item_of r.now)) then mark_number
+        (touch (item_of r.now)) else mark_at last.old (key_of w))) }
+    ensures falls { OnOk result ((w : Word) → contains key_cmp falls.new (key_of w) ≡
+        (contains key_cmp falls.old (key_of w) || (word_use w (touch (item_of r.now)) && nat_lt (mark_number (touch (item_of r.now)))
+        (mark_at last.old (key_of w))))) }
 {
     match Touched::by(r) {
         Touched::Draws { word, mark } | Touched::Shows { word, mark } => {
@@ -79,7 +83,8 @@ fn note_lane(
     falls: &mut BTreeSet<(u64, u64, u64)>,
     lane: &Lane,
 ) -> Result<(), AllocError>
-    ensures { OnOk result ((w : Word) → contains key_cmp falls.new (key_of w) ≡ (contains key_cmp falls.old (key_of w) || not (rises_from 0 (touched w (lane_items lane.now))))) }
+    ensures { OnOk result ((w : Word) → contains key_cmp falls.new (key_of w) ≡
+        (contains key_cmp falls.old (key_of w) || not (rises_from 0 (touched w (lane_items lane.now))))) }
 {
     let mut last = LastMarks::none(alloc);
     for r in &lane.items {

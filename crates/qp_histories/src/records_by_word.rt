@@ -46,7 +46,8 @@ impl<'a> Model for RecordsByWord<'a> {
 
 /// Puts a record into the row of its word.
 fn put_record<'a>(rows: &mut Rows<'a>, alloc: Global, r: &'a Rec) -> Result<(), AllocError>
-    ensures { OnOk result ((w : Word) → row_at rows.new (key_of w) ≡ (if word_use w (touch (item_of r.now)) then row_at rows.old (key_of w) ++ item_of r.now ∷ [] else row_at rows.old (key_of w))) }
+    ensures { OnOk result ((w : Word) → row_at rows.new (key_of w) ≡ (if word_use w (touch (item_of r.now)) then row_at rows.old (key_of w)
+        ++ item_of r.now ∷ [] else row_at rows.old (key_of w))) }
 {
     match Touched::by(r) {
         Touched::Draws { word, .. } | Touched::Shows { word, .. } => rows.put(

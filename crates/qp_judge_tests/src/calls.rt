@@ -3,7 +3,7 @@
 use crate::samples::{
     back, dropped, entry, given, no_pars, plain, posted, raised, referred, system,
 };
-use qp_fits::{Answer, Call, Kept, Rest, Told};
+use qp_fits::{Answer, Call, CallState, Kept, Told};
 use qp_model::Body;
 use std::alloc::{AllocError, Global};
 use std::test::Fail;
@@ -14,9 +14,9 @@ fn behind(
     kept: Kept,
     call: Call,
     told: &[Told],
-) -> Result<Option<Rest>, AllocError> {
+) -> Result<Option<CallState>, AllocError> {
     let sys = system(alloc)?;
-    let mut rest = Rest::begin(1, kept, call);
+    let mut rest = CallState::begin(1, kept, call);
     for t in told {
         match rest.next(&sys, 1, None, t)? {
             Some(next) => rest = next,

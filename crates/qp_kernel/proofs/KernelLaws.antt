@@ -7,7 +7,7 @@ use Rattle.qp_model.specs.Told.{ToldItem}
 use Rattle.qp_model.specs.Step.{whole_step}
 use Rattle.qp_model.specs.Course.{actor}
 use Rattle.qp_model.specs.Kernels.{qk}
-use Rattle.qp_model.specs.KernelLane.{Reading, Place, Inside, Looking, Found, Ended, Resting, Again, Over, Halted, above}
+use Rattle.qp_model.specs.KernelLane.{Reading, Upcoming, Inside, Looking, Chosen, Ended, Resting, Again, Over, Halted, above}
 use Rattle.qp_model.proofs.KernelRowLemmas.{IsWithin, MayLook}
 use Rattle.qp_kernel.specs.LaneZero.{setting, HasOneRow, LaneZero}
 use Rattle.qp_kernel.specs.Turning.{KernelState, Stands, Terms, IsInStep, IsLookPlace, kernel_in}
@@ -21,14 +21,14 @@ use Rattle.qp_kernel.proofs.LawfulLemmas.{lawful}
 in-step : (k : Reading) (p : ℕ) (outer : List ℕ) → IsInStep k p outer → IsWithin k p outer
 in-step k p outer h = record { started = h.started; running = h.running; inside = h.inside }
 
-may-look : (kernel : ℕ) (place : Place) (running : List ℕ) → IsLookPlace place running → MayLook kernel place running
+may-look : (kernel : ℕ) (place : Upcoming) (running : List ℕ) → IsLookPlace place running → MayLook kernel place running
 may-look kernel Inside [] h = h
 may-look kernel Inside (p ∷ outer) h = h
 may-look kernel (Ended p) running h = h
 may-look kernel Again running h = h
 may-look kernel Over running h = absurd h
 may-look kernel (Looking p others) running h = absurd h
-may-look kernel (Found p) running h = absurd h
+may-look kernel (Chosen p) running h = absurd h
 may-look kernel Resting running h = absurd h
 may-look kernel Halted running h = absurd h
 

@@ -7,7 +7,7 @@ use Rattle.qp_model.specs.declared.bodies.Body.{Body}
 use Rattle.qp_model.specs.declared.bodies.Body.TheVariants as body
 use Rattle.qp_model.specs.Told.{Told, ToldItem, for_object}
 use Rattle.qp_model.specs.Pieces.{Piece, Tell, Point, tell}
-use Rattle.qp_model.specs.KernelLane.{Setting, Reading, Place, Inside, Looking, Found, Ended, Resting, Again, Over, Halted, lane_next, lane_on, ceiling_of, role_of}
+use Rattle.qp_model.specs.KernelLane.{Setting, Reading, Upcoming, Inside, Looking, Chosen, Ended, Resting, Again, Over, Halted, lane_next, lane_on, ceiling_of, role_of}
 use Rattle.qp_model.specs.Points.{is_look, begins_row}
 use Rattle.qp_model.specs.Ends.{is_turn_mark}
 use Rattle.qp_model.proofs.KernelRowLemmas.{own-next, start-next, IsOwnRole, IsWithin}
@@ -33,11 +33,11 @@ unfolding told_pieces
 pieces-one s o k t = append-nil (told_pieces_at o k t)
 
 -- without a look no row begins
-pub no-row : (o : ℕ) (place : Place) (running : List ℕ) → begins_row o place running false ≡ false
+pub no-row : (o : ℕ) (place : Upcoming) (running : List ℕ) → begins_row o place running false ≡ false
 no-row o Inside [] = refl
 no-row o Inside (p ∷ outer) = refl
 no-row o (Looking p others) running = refl
-no-row o (Found p) running = refl
+no-row o (Chosen p) running = refl
 no-row o (Ended p) running = refl
 no-row o Resting running = refl
 no-row o Again running = refl
@@ -56,11 +56,11 @@ pub pieces-look : (o : ℕ) (k : Reading) (n : ℕ) (t : ToldItem) → 0 < o →
 unfolding told_pieces_at
 pieces-look o k n t some zero look = rw (zero, not-zero o some, look) (go k.place k.running)
   where
-    go : (place : Place) (running : List ℕ) → cond (begins_row o place running true) (Point ∷ []) [] ≡ owed_point (row_of place running) o
+    go : (place : Upcoming) (running : List ℕ) → cond (begins_row o place running true) (Point ∷ []) [] ≡ owed_point (row_of place running) o
     go Inside [] = sym (none-owed o some)
     go Inside (p ∷ outer) = refl
     go (Looking p others) running = sym (none-owed o some)
-    go (Found p) running = sym (none-owed o some)
+    go (Chosen p) running = sym (none-owed o some)
     go (Ended p) running = sym (none-owed o some)
     go Resting running = sym (none-owed o some)
     go Again running = sym (none-owed o some)

@@ -13,7 +13,7 @@ use Rattle.qp_model.specs.declared.bodies.Body.TheVariants as body
 use Rattle.qp_model.specs.Record.{Item}
 use Rattle.qp_model.specs.Told.{Told, ToldItem, Event, for_object, plain}
 use Rattle.qp_model.specs.Pieces.{Piece, Point, tell}
-use Rattle.qp_model.specs.KernelLane.{Setting, Reading, Place, Inside, Looking, Found, Ended, Resting, Again, Over, Halted, lane_next, lane_on, unread, role_of, role_next, Drops}
+use Rattle.qp_model.specs.KernelLane.{Setting, Reading, Upcoming, Inside, Looking, Chosen, Ended, Resting, Again, Over, Halted, lane_next, lane_on, unread, role_of, role_next, Drops}
 use Rattle.std.specs.Option.{unwrap_or, option_and_then}
 use Rattle.qp_model.specs.Points.{begins_row}
 use Rattle.qp_model.specs.Ends.{is_turn_mark, is_assert, is_spent, is_spill, is_end, may_cut, spills_cut, ends_last, spills_in}
@@ -37,11 +37,11 @@ use Rattle.qp_kernel.proofs.WaitLemmas.{point_if, stopped-anywhere, follows-rest
 use Rattle.qp_kernel.proofs.ZeroLemmas.{any-append, count-append, own-takes, ends-told, told-unmarked, AreDrops, drops-told, done-takes, reads-done}
 use Rattle.qp_kernel.proofs.ToldPieces.{pieces-then, pieces-one, pieces-other, none-owed, not-zero, no-row, pieces-told, AreOwn, AreTold, own-told, told-append, ceiling_through, pieces_for, reads-own, reads-start}
 
-one-idle : (place : Place) (idle : ℕ) → HasOneRow place idle → idle ≤ 1
+one-idle : (place : Upcoming) (idle : ℕ) → HasOneRow place idle → idle ≤ 1
 one-idle Over idle h = h
 one-idle Inside idle h = omega (arith, h)
 one-idle (Looking p others) idle h = omega (arith, h)
-one-idle (Found p) idle h = omega (arith, h)
+one-idle (Chosen p) idle h = omega (arith, h)
 one-idle (Ended p) idle h = omega (arith, h)
 one-idle Resting idle h = omega (arith, h)
 one-idle Again idle h = omega (arith, h)
@@ -211,7 +211,7 @@ module _ (sys : System) (kernel budget : ℕ) (told : List ToldItem) (now has : 
       → ZeroEnds sys kernel budget end (told ++ for_object 0 (plain (body.Seen p f l m)) ∷ for_object p (plain body.Spent) ∷ []) has
   unfolding lane_on spills_cut ends_last spents_follow spills_state took_count
   zero-spent end p others f l m early started at some just unowed named rests numbered able wait =
-      let found = record k { place = Found p } in
+      let found = record k { place = Chosen p } in
       let halted = record k { place = Halted } in
       let one : lane_next here k (record { of = 0; body = body.Seen p f l m }) ≡ Some found = seen-entry here k p others f l m started at some in
       let two : lane_next here found (record { of = p; body = body.Spent }) ≡ Some halted = spent-next here found p started refl in

@@ -14,7 +14,7 @@ use Rattle.qp_model.specs.declared.bodies.Body.{Body}
 use Rattle.qp_model.specs.declared.bodies.Body.TheVariants as body
 use Rattle.qp_model.specs.Told.{Told, ToldItem, Event, for_object, plain, taken}
 use Rattle.qp_model.specs.Pieces.{Piece, Point, tell}
-use Rattle.qp_model.specs.KernelLane.{Setting, Reading, Inside, Looking, Found, Ended, Resting, floor_in, above, base_ended, looking_at, lane_next, lane_on, unread, role_of, Drops}
+use Rattle.qp_model.specs.KernelLane.{Setting, Reading, Inside, Looking, Chosen, Ended, Resting, floor_in, above, base_ended, looking_at, lane_next, lane_on, unread, role_of, Drops}
 use Rattle.qp_model.specs.Points.{is_look}
 use Rattle.qp_model.specs.Ends.{is_turn_mark, is_end}
 use Rattle.qp_model.specs.End.{took_count, takes_of}
@@ -130,9 +130,9 @@ module _ (sys : System) (kernel budget : ℕ) (told : List ToldItem) (now : ℕ 
 
   -- It is seen with an entry.
   pub zero-seen-entry : (p : ℕ) (others : List ℕ) (f l m : ℕ) → k.unstarted ≡ [] → k.place ≡ Looking p others → owed ≡ 0 → m < f + l
-      → AreNumbered sys → LaneZero sys kernel budget (told ++ for_object 0 (plain (body.Seen p f l m)) ∷ []) now upto (record k { place = Found p }) 0 stages entries
+      → AreNumbered sys → LaneZero sys kernel budget (told ++ for_object 0 (plain (body.Seen p f l m)) ∷ []) now upto (record k { place = Chosen p }) 0 stages entries
   zero-seen-entry p others f l m started at none some numbered =
-      zero-beside (for_object 0 (plain (body.Seen p f l m))) (record k { place = Found p }) refl refl none
+      zero-beside (for_object 0 (plain (body.Seen p f l m))) (record k { place = Chosen p }) refl refl none
       (λ has agree. seen-entry (setting sys kernel has) k p others f l m started at some)
       refl refl (λ o. refl) (subst (λ x. HasOneRow x k.idle) at old.rows) numbered
 
@@ -299,7 +299,7 @@ module _ (sys : System) (kernel budget : ℕ) (told : List ToldItem) (now : ℕ 
       go false e = rw e (omega (arith, zero))
 
   -- The object found takes its entry up: its step begins.
-  pub zero-took : (f l m : ℕ) (e : Entry) (ev : Event) (c : Config) (left : Remainder) → k.unstarted ≡ [] → k.place ≡ Found p → stages p ≡ stage.Resting c → length (entries p) < budget
+  pub zero-took : (f l m : ℕ) (e : Entry) (ev : Event) (c : Config) (left : Remainder) → k.unstarted ≡ [] → k.place ≡ Chosen p → stages p ≡ stage.Resting c → length (entries p) < budget
       → AreAble sys
       → ((d : ObjectDef) (chart : Chart) → d.priority ≡ p → object_at sys d.priority ≡ Some d → chart_at sys d.chart ≡ Some chart → left ≡ whole_step (actor d chart) c ev)
       → LaneZero sys kernel budget (told ++ for_object p (taken f l m e ev) ∷ []) now upto (record k { running = p ∷ k.running; place = Inside; stepped = true }) 0

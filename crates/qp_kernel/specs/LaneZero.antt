@@ -11,7 +11,7 @@ use Rattle.qp_model.specs.Pieces.{Piece, Tell, Point}
 use Rattle.qp_model.specs.Ends.{is_turn_mark, is_end}
 use Rattle.qp_model.specs.End.{took_count}
 use Rattle.qp_model.specs.Sites.{object_at}
-use Rattle.qp_model.specs.KernelLane.{Setting, Place, Inside, Over, Reading, lane_next, lane_on, unread}
+use Rattle.qp_model.specs.KernelLane.{Setting, Upcoming, Inside, Over, Reading, lane_next, lane_on, unread}
 use Rattle.qp_model.specs.Points.{is_look, begins_row}
 use Rattle.qp_model.specs.Course.{actor, first_config, chart_at}
 use Rattle.qp_orders.specs.SourceRun.{untold}
@@ -41,12 +41,12 @@ abbrev pub owed_point : ℕ → ℕ → List Piece
 owed_point owed o = if owed == o then Point ∷ [] else []
 
 -- the object whose row of looks begins by the next look, or 0
-abbrev pub row_of : Place → List ℕ → ℕ
+abbrev pub row_of : Upcoming → List ℕ → ℕ
 row_of Inside (p ∷ outer) = p
 row_of _ _ = 0
 
 -- a kernel of one thread has one row at the base
-abbrev pub HasOneRow : Place → ℕ → Type 0
+abbrev pub HasOneRow : Upcoming → ℕ → Type 0
 HasOneRow Over idle = idle ≤ 1
 HasOneRow _ idle = idle ≡ 0
 

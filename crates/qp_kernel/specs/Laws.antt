@@ -15,7 +15,7 @@ use Rattle.qp_model.specs.Acts.{Config}
 use Rattle.qp_model.specs.Step.{Remainder, GoesOn, whole_step}
 use Rattle.qp_model.specs.Standing.{Advances}
 use Rattle.qp_model.specs.Course.{actor, first_config, Starts}
-use Rattle.qp_model.specs.KernelLane.{Reading, Inside, Looking, Found, Ended, Resting, Over, floor_in, above, base_ended, looking_at, unread}
+use Rattle.qp_model.specs.KernelLane.{Reading, Inside, Looking, Chosen, Ended, Resting, Over, floor_in, above, base_ended, looking_at, unread}
 use Rattle.qp_model.specs.Ends.{is_end, may_cut, quiet}
 use Rattle.qp_model.specs.Sites.{object_at}
 use Rattle.qp_model.specs.History.{lane_items}
@@ -84,7 +84,7 @@ EntryIsSeen =
     (sys : System) (terms : Terms) (s : KernelState) (p : ℕ) (others : List ℕ) (f l m : ℕ) → AreNumbered sys
     → Stands sys terms s → s.owed ≡ 0
     → s.reading.unstarted ≡ [] → s.reading.place ≡ Looking p others → m < f + l
-    → Stands sys terms (record s { told = s.told ++ seen_told p f l m ∷ []; reading = record (s.reading) { place = Found p } })
+    → Stands sys terms (record s { told = s.told ++ seen_told p f l m ∷ []; reading = record (s.reading) { place = Chosen p } })
 
 -- a look at the base has shown no entry: the kernel rests, and the row goes on or is over
 abbrev pub RestIsAdded : Type 0
@@ -99,7 +99,7 @@ abbrev pub StepBegins : Type 0
 StepBegins =
     (sys : System) (terms : Terms) (s : KernelState) (p : ℕ) (d : ObjectDef) (chart : Chart) (f l m : ℕ) (e : Entry) (ev : Event) (c : Config)
     → AreNumbered sys → AreAble sys → IsObject sys p d chart → 0 < p → Stands sys terms s → s.owed ≡ 0
-    → s.reading.unstarted ≡ [] → s.reading.place ≡ Found p → s.stages p ≡ stage.Resting c
+    → s.reading.unstarted ≡ [] → s.reading.place ≡ Chosen p → s.stages p ≡ stage.Resting c
     → length (s.entries p) < terms.budget
     → Stands sys terms (record s {
       told = s.told ++ for_object p (taken f l m e ev) ∷ [];

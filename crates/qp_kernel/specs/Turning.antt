@@ -12,7 +12,7 @@ use Rattle.qp_model.specs.Step.{Remainder}
 use Rattle.qp_model.specs.Sites.{object_at}
 use Rattle.qp_model.specs.Course.{chart_at}
 use Rattle.qp_model.specs.Kernels.{sim, qv}
-use Rattle.qp_model.specs.KernelLane.{Reading, Place, Inside, Ended, Again}
+use Rattle.qp_model.specs.KernelLane.{Reading, Upcoming, Inside, Ended, Again}
 use Rattle.qp_kernel.specs.Stages as stage
 use Rattle.qp_kernel.specs.Stages.{Stage}
 use Rattle.qp_kernel.specs.LaneZero.{LaneZero}
@@ -67,7 +67,7 @@ pub record IsInStep (k : Reading) (p : ℕ) (outer : List ℕ) : Type 0 where
   pub inside : k.place ≡ Inside
 
 -- a look may stand here: at the base, at a scheduling point of the running object, or behind a step of the row
-abbrev pub IsLookPlace : Place → List ℕ → Type 0
+abbrev pub IsLookPlace : Upcoming → List ℕ → Type 0
 IsLookPlace Inside [] = ⊤
 IsLookPlace Inside (p ∷ outer) = 0 < p
 IsLookPlace (Ended p) running = ⊤

@@ -83,7 +83,8 @@ fn has_drawn(known: &KnownBlock, n: u64) -> bool
 /// The event of the life that holds this number of the block's operations.
 pub(crate) fn event_at(known: &KnownBlock, name: u64) -> Known
     requires { IsNonDecreasingBy (λ i. from_of i.body) known.now.steps }
-    ensures { as_known result ≡ event_known (if nat_lt name (length known.now.left.items - 1) then last_from name None known.now.steps else None) }
+    ensures { as_known result ≡ event_known (if nat_lt name (length known.now.left.items - 1) then last_from name None
+        known.now.steps else None) }
 {
     if !has_drawn(known, name) {
         return Known::Nothing;

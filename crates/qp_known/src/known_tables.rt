@@ -59,7 +59,8 @@ impl Standing {
     fn apply(&mut self, body: &Body) -> Result<(), AllocError>
         requires few { self.old.total + 1 < 2 ^ 64 }
         requires each { (q : ℕ) → count_in self.old.counts q ≤ self.old.total }
-        ensures counted { OnOk result ((s : Refs) → IsCounted s self.old.counts self.old.total → IsCounted (refs_next s body.now) self.new.counts self.new.total) }
+        ensures counted { OnOk result ((s : Refs) → IsCounted s self.old.counts self.old.total → IsCounted (refs_next s body.now)
+            self.new.counts self.new.total) }
         ensures bounded { OnOk result (self.new.total ≤ self.old.total + 1) }
     {
         match body {

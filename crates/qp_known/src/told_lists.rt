@@ -58,7 +58,8 @@ fn put_own(
     r: &Rec,
 ) -> Result<(), AllocError>
     requires { IsKnown knowledge.now }
-    ensures { OnOk result (all.new.items ≡ all.old.items ++ (if (counted looks o (item_of r.now)).of == o then told (facts_in knowledge.now) o ceiling (item_of r.now).body ∷ [] else [])) }
+    ensures { OnOk result (all.new.items ≡ all.old.items ++ (if (counted looks o (item_of r.now)).of == o then told (facts_in knowledge.now)
+        o ceiling (item_of r.now).body ∷ [] else [])) }
 {
     if !counts_for(o, looks, r) {
         return Ok(());

@@ -1,5 +1,5 @@
 pub mod AboveLemmas
-pub mod FoundLemmas
+pub mod InLookLemmas
 pub mod LookLemmas
 pub mod OneOrderLemmas
 pub mod OrderLemmas

@@ -9,8 +9,8 @@ use Rattle.qp_model.specs.declared.systems.ObjectDef.{ObjectDef}
 use Rattle.qp_model.specs.KernelLane as lane
 use Rattle.qp_lane_zero.specs.declared.lane_roles.Role.{Role}
 use Rattle.qp_lane_zero.specs.declared.lane_roles.Role.TheVariants as role
-use Rattle.qp_lane_zero.specs.declared.lane_state.Place.{Place}
-use Rattle.qp_lane_zero.specs.declared.lane_state.Place.TheVariants as place
+use Rattle.qp_lane_zero.specs.declared.lane_state.Upcoming.{Upcoming}
+use Rattle.qp_lane_zero.specs.declared.lane_state.Upcoming.TheVariants as place
 use Rattle.qp_lane_zero.specs.declared.lane_state.Reading.{Reading}
 use Rattle.qp_lane_zero.specs.declared.lane_state.Rules.{Rules}
 
@@ -37,10 +37,10 @@ found_above floor None = []
 found_above floor (Some x) = x.0 ∷ above_among x.1.now floor
 
 -- what may come next
-abbrev pub as_place : Place → lane.Place
+abbrev pub as_place : Upcoming → lane.Upcoming
 as_place place.Inside = lane.Inside
 as_place (place.Looking p others floor) = lane.Looking p (above_among others.now floor)
-as_place (place.Found p) = lane.Found p
+as_place (place.Chosen p) = lane.Chosen p
 as_place (place.Ended p) = lane.Ended p
 as_place place.Resting = lane.Resting
 as_place place.Again = lane.Again

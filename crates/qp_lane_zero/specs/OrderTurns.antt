@@ -6,8 +6,8 @@ use Rattle.std.specs.Option.{option_map}
 use Rattle.qp_model.specs.Ends.{spills_in}
 use Rattle.qp_model.specs.OneOrder.{Placed, OneThread, stim_of, is_turn, no_look, parts_of_look}
 use Rattle.qp_model.specs.OneOrder as order
-use Rattle.qp_lane_zero.specs.declared.order_turns.Found.{Found}
-use Rattle.qp_lane_zero.specs.declared.order_turns.Found.TheVariants.{Nothing, Once, Often}
+use Rattle.qp_lane_zero.specs.declared.order_turns.InLook.{InLook}
+use Rattle.qp_lane_zero.specs.declared.order_turns.InLook.TheVariants.{Nothing, Once, Often}
 use Rattle.qp_lane_zero.specs.declared.source_turn.Turn.{Turn}
 use Rattle.qp_lane_zero.specs.declared.source_turn.Progress.{Progress}
 use Rattle.qp_lane_zero.specs.declared.order_turns.Run.{Run}
@@ -22,14 +22,14 @@ abbrev pub turns_in : List Placed → List order.Turn
 turns_in xs = filter_map turn_in xs
 
 -- with one stimulus more
-abbrev pub turns_on : Found → Option Turn → Found
+abbrev pub turns_on : InLook → Option Turn → InLook
 turns_on found None = found
 turns_on Nothing (Some t) = Once t
 turns_on (Once s) (Some t) = Often
 turns_on Often (Some t) = Often
 
 -- just this stimulus was found, or none where it is none
-abbrev pub is_right : Option order.Turn → Found → Bool
+abbrev pub is_right : Option order.Turn → InLook → Bool
 is_right None Nothing = true
 is_right (Some t) (Once s) = (s.source == t.source) && (s.place == t.place)
 is_right _ _ = false
@@ -40,7 +40,7 @@ found_of [] = None
 found_of (t ∷ []) = Some (Some t)
 found_of (s ∷ t ∷ ts) = Some None
 
-abbrev pub as_found : Found → Option (Option order.Turn)
+abbrev pub as_found : InLook → Option (Option order.Turn)
 as_found Nothing = None
 as_found (Once t) = Some (Some (as_turn t))
 as_found Often = Some None

@@ -11,7 +11,7 @@ ghost use Rattle.qp_model.specs.Kernels.{sim, qk, qv};
 ghost use Rattle.qp_model.specs.Lawful.{is_settle, reading_holds, setting_of};
 ghost use Rattle.qp_lane_zero.specs.LaneState.{as_place, as_reading, as_setting};
 
-use crate::lane_state::{Place, Reading, Rules};
+use crate::lane_state::{Reading, Rules, Upcoming};
 use crate::stimulated::stimulated;
 use qp_lanes::lane_parts::{asserts, lane_at, source_lanes};
 use qp_lanes::record_tests;
@@ -57,7 +57,8 @@ fn settles_in(lane: &[Rec]) -> usize
 
 /// Whether the lane ends as it may: in a run that stopped early all objects have started, unless an assertion ended it; else it is whole.
 fn may_end(j: &Journal, lane: &[Rec], reading: &Reading) -> bool
-    ensures { result ≡ (if may_cut j.now.end then ((length (as_reading reading.now).unstarted == 0) || list_any (λ i. is_assert i.body) (lane_items lane.now)) else is_whole j.now.kernel (as_reading reading.now)) }
+    ensures { result ≡ (if may_cut j.now.end then ((length (as_reading reading.now).unstarted == 0) || list_any (λ i. is_assert i.body)
+        (lane_items lane.now)) else is_whole j.now.kernel (as_reading reading.now)) }
 {
     if may_cut(j.end) {
         has_started(reading) || asserts(lane)
@@ -79,12 +80,12 @@ fn whole(kernel: u8, reading: &Reading) -> bool
     has_started(reading) && reading.running.is_empty() && is_over(kernel, reading.place)
 }
 
-fn is_over(kernel: u8, place: Place) -> bool
+fn is_over(kernel: u8, place: Upcoming) -> bool
     ensures { result ≡ over kernel (as_place place.entry) }
 {
     match place {
-        Place::Over => true,
-        Place::Inside => kernel == QK,
+        Upcoming::Over => true,
+        Upcoming::Inside => kernel == QK,
         _ => false,
     }
 }
@@ -111,7 +112,8 @@ impl<'a> Rules<'a> {
 
 /// Whether lane 0 reads as a kernel lane, in which a `spill` stands only where it cuts.
 pub fn is_kernel_lane(alloc: Global, sys: &System, j: &Journal) -> Result<bool, AllocError>
-    ensures { IfOk result (λ b. b ≡ reading_holds j.now (lane_items (lane_of j.now 0)) (count_by (λ i. is_settle i.body) (all_items j.now.lanes)) (lane_read (setting_of sys.now j.now) (lane_items (lane_of j.now 0)))) }
+    ensures { IfOk result (λ b. b ≡ reading_holds j.now (lane_items (lane_of j.now 0))
+        (count_by (λ i. is_settle i.body) (all_items j.now.lanes)) (lane_read (setting_of sys.now j.now) (lane_items (lane_of j.now 0)))) }
 {
     let rules = Rules::of(alloc, sys, j)?;
     let lane = lane_at(j, 0);

@@ -26,7 +26,7 @@ pub struct Rules<'a> {
 
 /// What may come next.
 #[derive(Clone, Copy)]
-pub enum Place<'a> {
+pub enum Upcoming<'a> {
     /// A record of the running object, or a new row of looks.
     Inside,
     /// A `seen` of `p`, and then of those of the others that are above the floor, from the last.
@@ -36,7 +36,7 @@ pub enum Place<'a> {
         floor: u64,
     },
     /// The step of an object whose queue was seen with an entry.
-    Found {
+    Chosen {
         p: u8,
     },
     /// After `done` of `p`: its release, or the next look of the row.
@@ -60,7 +60,7 @@ pub struct Reading<'a> {
     pub running: Stack,
     pub ceiling: u64,
     pub looks: u64,
-    pub place: Place<'a>,
+    pub place: Upcoming<'a>,
     /// Whether the row at the base has a step.
     pub stepped: bool,
     /// How many whole rows at the base have none.
@@ -121,10 +121,10 @@ impl<'a> Reading<'a> {
         ensures few { self.new.idle ≤ self.old.idle + 1 }
     {
         if rules.kernel != QK && rules.has_stimulus(self.looks) {
-            self.place = Place::Again;
+            self.place = Upcoming::Again;
             return;
         }
-        self.place = Place::Over;
+        self.place = Upcoming::Over;
         if !self.stepped {
             self.idle += 1;
         }
@@ -138,8 +138,8 @@ impl<'a> Reading<'a> {
         ensures few { self.new.idle ≤ self.old.idle + 1 }
     {
         match self.running.top() {
-            Some(_) => self.place = Place::Inside,
-            None if rules.kernel == QV => self.place = Place::Resting,
+            Some(_) => self.place = Upcoming::Inside,
+            None if rules.kernel == QV => self.place = Upcoming::Resting,
             None => self.end_at_base(rules),
         }
     }
@@ -151,7 +151,7 @@ impl<'a> Reading<'a> {
         ensures few { self.new.idle ≤ self.old.idle + 1 }
     {
         match last_above(others, floor) {
-            Some((p, others)) => self.place = Place::Looking { p, others, floor },
+            Some((p, others)) => self.place = Upcoming::Looking { p, others, floor },
             None => self.find_none(rules),
         }
     }
@@ -186,7 +186,8 @@ impl<'a> Reading<'a> {
         role: Role,
     ) -> bool
         requires { self.old.idle + 1 < 2 ^ 64 }
-        ensures exact { allowed result (as_reading self.new) ≡ seen_next (as_setting rules.now) (as_reading self.old) p (above_among others.now floor) of (as_role role) }
+        ensures exact { allowed result (as_reading self.new) ≡ seen_next (as_setting rules.now) (as_reading self.old) p
+            (above_among others.now floor) of (as_role role) }
         ensures few { self.new.idle ≤ self.old.idle + 1 }
     {
         let Role::Sees { p: seen, f, l, m } = role else {
@@ -196,7 +197,7 @@ impl<'a> Reading<'a> {
             return false;
         }
         if shows_entry(f, l, m) {
-            self.place = Place::Found { p };
+            self.place = Upcoming::Chosen { p };
         } else {
             self.look_on(rules, others, floor);
         }
@@ -211,7 +212,7 @@ impl<'a> Reading<'a> {
         match role {
             Role::Ends => {
                 self.running.pop();
-                self.place = Place::Ended { p };
+                self.place = Upcoming::Ended { p };
                 true
             }
             Role::Holds { ceiling } => {
@@ -226,7 +227,8 @@ impl<'a> Reading<'a> {
     #[tactic(auto, unfolding(qp_model::specs::KernelLane::inside_next))]
     fn inside(&mut self, rules: &Rules<'a>, of: u8, role: Role) -> bool
         requires { self.old.idle + 1 < 2 ^ 64 }
-        ensures exact { allowed result (as_reading self.new) ≡ inside_next (as_setting rules.now) (as_reading self.old) self.old.running of (as_role role) }
+        ensures exact { allowed result (as_reading self.new) ≡ inside_next (as_setting rules.now) (as_reading self.old) self.old.running of
+            (as_role role) }
         ensures few { self.new.idle ≤ self.old.idle + 1 }
     {
         match self.running.top() {
@@ -243,12 +245,12 @@ impl<'a> Reading<'a> {
         match role {
             Role::Takes if of == p => {
                 self.running.push(p)?;
-                self.place = Place::Inside;
+                self.place = Upcoming::Inside;
                 self.stepped = true;
                 Ok(true)
             }
             Role::RunsOut if of == p => {
-                self.place = Place::Halted;
+                self.place = Upcoming::Halted;
                 Ok(true)
             }
             _ => Ok(false),
@@ -285,24 +287,26 @@ impl<'a> Reading<'a> {
     #[tactic(auto, unfolding(qp_model::specs::KernelLane::place_next))]
     fn go_on(&mut self, rules: &Rules<'a>, of: u8, role: Role) -> Result<bool, AllocError>
         requires { self.old.idle + 1 < 2 ^ 64 }
-        ensures exact { IfOk result (λ b. allowed b (as_reading self.new) ≡ place_next (as_setting rules.now) (as_reading self.old) of (as_role role) (as_place self.old.place)) }
+        ensures exact { IfOk result (λ b. allowed b (as_reading self.new) ≡ place_next (as_setting rules.now) (as_reading self.old) of
+            (as_role role) (as_place self.old.place)) }
         ensures few { self.new.idle ≤ self.old.idle + 1 }
     {
         Ok(match self.place {
-            Place::Inside => self.inside(rules, of, role),
-            Place::Looking { p, others, floor } => self.see(rules, p, others, floor, of, role),
-            Place::Found { p } => self.find(p, of, role)?,
-            Place::Ended { p } => self.ended(rules, p, of, role),
-            Place::Resting => self.rest(rules, of, role),
-            Place::Again => self.look(rules, of, role),
-            Place::Over => rules.kernel == QK && self.look(rules, of, role),
-            Place::Halted => false,
+            Upcoming::Inside => self.inside(rules, of, role),
+            Upcoming::Looking { p, others, floor } => self.see(rules, p, others, floor, of, role),
+            Upcoming::Chosen { p } => self.find(p, of, role)?,
+            Upcoming::Ended { p } => self.ended(rules, p, of, role),
+            Upcoming::Resting => self.rest(rules, of, role),
+            Upcoming::Again => self.look(rules, of, role),
+            Upcoming::Over => rules.kernel == QK && self.look(rules, of, role),
+            Upcoming::Halted => false,
         })
     }
 
     /// A record of the start of an object; `others` start after it.
     fn start(&mut self, others: &'a [ObjectDef], role: Role) -> bool
-        ensures exact { allowed result (as_reading self.new) ≡ start_next (as_reading self.old) (map (λ d. d.priority) others.now) (as_role role) }
+        ensures exact { allowed result (as_reading self.new) ≡ start_next (as_reading self.old) (map (λ d. d.priority) others.now)
+            (as_role role) }
         ensures few { self.new.idle ≡ self.old.idle }
     {
         match role {
@@ -323,7 +327,8 @@ impl<'a> Reading<'a> {
     #[tactic(auto, unfolding(qp_model::specs::KernelLane::started_next))]
     fn start_or_go_on(&mut self, rules: &Rules<'a>, of: u8, role: Role) -> Result<bool, AllocError>
         requires { self.old.idle + 1 < 2 ^ 64 }
-        ensures exact { IfOk result (λ b. allowed b (as_reading self.new) ≡ started_next (as_setting rules.now) (as_reading self.old) of (as_role role) (map (λ d. d.priority) self.old.unstarted.now)) }
+        ensures exact { IfOk result (λ b. allowed b (as_reading self.new) ≡ started_next (as_setting rules.now) (as_reading self.old) of
+            (as_role role) (map (λ d. d.priority) self.old.unstarted.now)) }
         ensures few { self.new.idle ≤ self.old.idle + 1 }
     {
         match self.unstarted.split_first() {
@@ -336,13 +341,14 @@ impl<'a> Reading<'a> {
     #[tactic(auto, unfolding(qp_model::specs::KernelLane::role_next))]
     fn turn(&mut self, rules: &Rules<'a>, of: u8, role: Role) -> Result<bool, AllocError>
         requires { self.old.idle + 1 < 2 ^ 64 }
-        ensures exact { IfOk result (λ b. allowed b (as_reading self.new) ≡ role_next (as_setting rules.now) (as_reading self.old) of (as_role role)) }
+        ensures exact { IfOk result (λ b. allowed b (as_reading self.new) ≡ role_next (as_setting rules.now) (as_reading self.old) of
+            (as_role role)) }
         ensures few { self.new.idle ≤ self.old.idle + 1 }
     {
         match role {
             Role::Spills => {
                 self.unstarted = &[];
-                self.place = Place::Halted;
+                self.place = Upcoming::Halted;
                 Ok(of == 0)
             }
             _ => self.start_or_go_on(rules, of, role),
@@ -353,7 +359,8 @@ impl<'a> Reading<'a> {
     #[tactic(auto, unfolding(qp_model::specs::KernelLane::lane_next, qp_model::specs::Record::item_of))]
     pub fn next(&mut self, rules: &Rules<'a>, r: &Rec) -> Result<bool, AllocError>
         requires { self.old.idle + 1 < 2 ^ 64 }
-        ensures exact { IfOk result (λ b. allowed b (as_reading self.new) ≡ lane_next (as_setting rules.now) (as_reading self.old) (item_of r.now)) }
+        ensures exact { IfOk result (λ b. allowed b (as_reading self.new) ≡ lane_next (as_setting rules.now) (as_reading self.old)
+            (item_of r.now)) }
         ensures few { self.new.idle ≤ self.old.idle + 1 }
     {
         let role = Role::of(&r.body());
@@ -371,7 +378,7 @@ impl<'a> Reading<'a> {
             running: Stack::new(alloc),
             ceiling: 0,
             looks: 0,
-            place: Place::Inside,
+            place: Upcoming::Inside,
             stepped: false,
             idle: 0,
         }

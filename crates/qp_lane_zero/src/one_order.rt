@@ -50,7 +50,8 @@ fn with_parts<'a>(
 
 /// Puts the `spill` records of a lane behind others.
 fn put_spills<'a>(order: &mut Order<'a>, lane: usize, records: &'a [Rec]) -> Result<(), AllocError>
-    ensures { OnOk result (order.new ≡ order.old ++ map (λ i. record { lane = lane; item = i }) (filter (λ i. spills i.body) (lane_items records.now))) }
+    ensures { OnOk result (order.new ≡ order.old ++ map (λ i. record { lane = lane; item = i })
+        (filter (λ i. spills i.body) (lane_items records.now))) }
 {
     for rec in records {
         order.put_if(is_spill(rec), Placed { lane, rec })?;
@@ -110,7 +111,8 @@ fn some_spills(sources: &[Lane]) -> bool
 
 /// Whether each look has its stimulus, each number is the next, and nothing follows an end.
 fn order_stands(alloc: Global, run: &Run, order: &[Placed]) -> Result<bool, AllocError>
-    ensures { IfOk result (λ b. (r : OneThread) → RunsAs run.now r → b ≡ (looks_right r [] (map as_placed order.now) && in_order [] (map said_at order.now) && ends_last (map said_at order.now))) }
+    ensures { IfOk result (λ b. (r : OneThread) → RunsAs run.now r → b ≡ (looks_right r [] (map as_placed order.now) && in_order []
+        (map said_at order.now) && ends_last (map said_at order.now))) }
 {
     let turns = run.looks_stand(alloc, order)?;
     let numbers = numbers_stand(alloc, order)?;

@@ -80,7 +80,8 @@ fn lane_stands(looks: &BTreeSet<u64>, lane: &[Rec]) -> bool
 
 /// Whether each `stim` stands in one of these looks.
 pub fn stims_stand(looks: &BTreeSet<u64>, sources: &[Lane]) -> bool
-    ensures { result ≡ list_all (λ lane. list_all (λ r. option_map_or (λ s. contains nat_cmp looks.now s.1) (stim_of (item_of r).body) true) lane) sources.now }
+    ensures { result ≡ list_all (λ lane. list_all (λ r. option_map_or (λ s. contains nat_cmp looks.now s.1) (stim_of (item_of r).body) true)
+        lane) sources.now }
 {
     sources.iter().all(|lane| lane_stands(looks, &lane.items))
 }

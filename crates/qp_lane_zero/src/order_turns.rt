@@ -19,7 +19,7 @@ use std::alloc::{AllocError, Global};
 
 /// The stimuli that stand in a look, as far as they matter.
 #[derive(Clone, Copy)]
-pub enum Found {
+pub enum InLook {
     Nothing,
     Once { turn: Turn },
     Often,
@@ -39,15 +39,15 @@ fn turn(x: Placed) -> Option<Turn>
     }
 }
 
-impl Found {
+impl InLook {
     /// With one stimulus more, if it is one.
     fn and(self, turn: Option<Turn>) -> Self
         ensures { result ≡ turns_on self turn }
     {
         match (self, turn) {
             (found, None) => found,
-            (Found::Nothing, Some(turn)) => Found::Once { turn },
-            (Found::Once { .. } | Found::Often, Some(_)) => Found::Often,
+            (InLook::Nothing, Some(turn)) => InLook::Once { turn },
+            (InLook::Once { .. } | InLook::Often, Some(_)) => InLook::Often,
         }
     }
 
@@ -56,8 +56,8 @@ impl Found {
         ensures { result ≡ is_right (option_map as_turn turn) self }
     {
         match (self, turn) {
-            (Found::Nothing, None) => true,
-            (Found::Once { turn: found }, Some(turn)) => found.source == turn.source
+            (InLook::Nothing, None) => true,
+            (InLook::Once { turn: found }, Some(turn)) => found.source == turn.source
                 && found.place == turn.place,
             _ => false,
         }
@@ -67,7 +67,7 @@ impl Found {
     fn among(part: &[Placed]) -> Self
         ensures { (t : Option order.Turn) → is_right t result ≡ right t (turns_in (map as_placed part.now)) }
     {
-        let mut found = Found::Nothing;
+        let mut found = InLook::Nothing;
         for x in part {
             found = found.and(turn(*x));
         }
@@ -81,7 +81,7 @@ impl<'a> Index<'a> {
         ensures { result ≡ right (option_map as_turn turn) (turns_in (parts_at self.now k)) }
     {
         match self.parts.get(&k) {
-            Some(part) => Found::among(&part.items).is(turn),
+            Some(part) => InLook::among(&part.items).is(turn),
             None => turn.is_none(),
         }
     }

@@ -104,9 +104,12 @@ impl Progress {
         requires begun { (k : ℕ) → count_in self.old.begun k + 1 < 2 ^ 64 }
         requires entered { (k : ℕ) → count_in self.old.entered k + 1 < 2 ^ 64 }
         requires left { (k : ℕ) → count_in self.old.left k + 1 < 2 ^ 64 }
-        ensures begun { OnOk result ((k : ℕ) → count_in self.new.begun k ≡ count_in self.old.begun k + (if stims (as_placed x.entry) && (x.entry.lane == k) then 1 else 0)) }
-        ensures entered { OnOk result ((k : ℕ) → count_in self.new.entered k ≡ count_in self.old.entered k + (if enters k (said_at x.entry) then 1 else 0)) }
-        ensures left { OnOk result ((k : ℕ) → count_in self.new.left k ≡ count_in self.old.left k + (if leaves k (said_at x.entry) then 1 else 0)) }
+        ensures begun { OnOk result ((k : ℕ) → count_in self.new.begun k ≡ count_in self.old.begun k +
+            (if stims (as_placed x.entry) && (x.entry.lane == k) then 1 else 0)) }
+        ensures entered { OnOk result ((k : ℕ) → count_in self.new.entered k ≡ count_in self.old.entered k +
+            (if enters k (said_at x.entry) then 1 else 0)) }
+        ensures left { OnOk result ((k : ℕ) → count_in self.new.left k ≡ count_in self.old.left k +
+            (if leaves k (said_at x.entry) then 1 else 0)) }
         ensures last { OnOk result (self.new.last ≡ (if stims (as_placed x.entry) then x.entry.lane else self.old.last)) }
     {
         self.begun.count(beginner(x))?;

@@ -35,7 +35,8 @@ pub fn add(looks: &mut BTreeSet<u64>, look: Option<u64>) -> Result<(), AllocErro
 
 /// Adds the looks of a lane's `stim` records.
 fn add_lane(looks: &mut BTreeSet<u64>, lane: &[Rec]) -> Result<(), AllocError>
-    ensures { OnOk result ((k : ℕ) → contains nat_cmp looks.new k ≡ (contains nat_cmp looks.old k || list_any (λ i. is_stim_at k i.body) (lane_items lane.now))) }
+    ensures { OnOk result ((k : ℕ) → contains nat_cmp looks.new k ≡ (contains nat_cmp looks.old k || list_any (λ i. is_stim_at k i.body)
+        (lane_items lane.now))) }
 {
     for r in lane {
         add(looks, stim_look(r))?;
@@ -45,7 +46,8 @@ fn add_lane(looks: &mut BTreeSet<u64>, lane: &[Rec]) -> Result<(), AllocError>
 
 /// The looks in which a stimulus of one of these lanes stands.
 pub fn stimulated(alloc: Global, lanes: &[Lane]) -> Result<BTreeSet<u64>, AllocError>
-    ensures { IfOk result (λ looks. (k : ℕ) → contains nat_cmp looks k ≡ list_any (λ lane. list_any (λ i. is_stim_at k i.body) lane) (map (λ lane. lane_items lane) lanes.now)) }
+    ensures { IfOk result (λ looks. (k : ℕ) → contains nat_cmp looks k ≡ list_any (λ lane. list_any (λ i. is_stim_at k i.body) lane)
+        (map (λ lane. lane_items lane) lanes.now)) }
 {
     let mut looks = BTreeSet::new(alloc);
     for lane in lanes {

@@ -91,7 +91,8 @@ impl<'a> Index<'a> {
 
     /// Puts a record at the end of those of a look.
     fn put_at(&mut self, alloc: Global, look: u64, x: Placed<'a>) -> Result<(), AllocError>
-        ensures { OnOk result ((k : ℕ) → parts_at self.new k ≡ (if k == look then parts_at self.old k ++ as_placed x.entry ∷ [] else parts_at self.old k)) }
+        ensures { OnOk result ((k : ℕ) → parts_at self.new k ≡ (if k == look then parts_at self.old k ++ as_placed x.entry ∷ [] else
+            parts_at self.old k)) }
     {
         let mut part = match self.parts.remove(&look) {
             Some(part) => part,
@@ -104,7 +105,8 @@ impl<'a> Index<'a> {
 
     /// The same where the record belongs to a look.
     fn put_in(&mut self, alloc: Global, look: Option<u64>, x: Placed<'a>) -> Result<(), AllocError>
-        ensures { OnOk result ((k : ℕ) → parts_at self.new k ≡ parts_at self.old k ++ (if is_look k look then as_placed x.entry ∷ [] else [])) }
+        ensures { OnOk result ((k : ℕ) → parts_at self.new k ≡ parts_at self.old k ++
+            (if is_look k look then as_placed x.entry ∷ [] else [])) }
     {
         match look {
             Some(look) => self.put_at(alloc, look, x),
@@ -120,7 +122,8 @@ impl<'a> Index<'a> {
         lane: usize,
         records: &'a [Rec],
     ) -> Result<(), AllocError>
-        ensures { OnOk result ((k : ℕ) → parts_at self.new k ≡ parts_at self.old k ++ part_of_look lane k cuts false (lane_items records.now)) }
+        ensures { OnOk result ((k : ℕ) → parts_at self.new k ≡ parts_at self.old k ++ part_of_look lane k cuts false
+            (lane_items records.now)) }
     {
         let mut look = None;
         for rec in records {

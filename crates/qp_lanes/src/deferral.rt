@@ -88,7 +88,8 @@ impl Deferred {
     /// The same for a record of this object; one of another changes nothing.
     #[tactic(auto, unfolding(qp_model::specs::Record::item_of))]
     fn keep_own(&mut self, room: u8, o: u8, r: &Rec) -> Result<bool, AllocError>
-        ensures { IfOk result (λ b. allowed b self.new ≡ (if (item_of r.now).of == o then keep room self.old (item_of r.now).body else Some self.old)) }
+        ensures { IfOk result (λ b. allowed b self.new ≡ (if (item_of r.now).of == o then keep room self.old
+            (item_of r.now).body else Some self.old)) }
     {
         if r.of != o {
             return Ok(true);

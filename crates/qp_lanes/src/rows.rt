@@ -27,7 +27,8 @@ impl<'a> Rows<'a> {
 
     /// Puts a record at the end of a row.
     pub fn put(&mut self, alloc: Global, key: (u64, u64, u64), r: &'a Rec) -> Result<(), AllocError>
-        ensures { OnOk result ((q : ℕ × ℕ × ℕ) → row_at self.new q ≡ (if same_key key q then row_at self.old q ++ item_of r.now ∷ [] else row_at self.old q)) }
+        ensures { OnOk result ((q : ℕ × ℕ × ℕ) → row_at self.new q ≡ (if same_key key q then row_at self.old q ++ item_of r.now ∷ [] else
+            row_at self.old q)) }
     {
         let mut row = match self.rows.remove(&key) {
             Some(row) => row,

@@ -125,7 +125,8 @@ impl Totals {
 
     fn add_block(&mut self, alloc: Global, p: u64, b: u64) -> Result<(), AllocError>
         requires { (w : Word) → count_at self.old w + 1 < 2 ^ 64 }
-        ensures { OnOk result ((w : Word) → count_at self.new w ≡ count_at self.old w + (if same_word (word_kind.Block p b) w then 1 else 0)) }
+        ensures { OnOk result ((w : Word) → count_at self.new w ≡ count_at self.old w +
+            (if same_word (word_kind.Block p b) w then 1 else 0)) }
     {
         let mut counts = Counts::or_none(alloc, self.blocks.remove(&p));
         counts.add(b)?;

@@ -5,7 +5,7 @@ use Rattle.std.proofs.lemmas.List.Sums.{prefix_len_passes}
 use Rattle.std.proofs.lemmas.List.{get_or-take, get_or_past, length-take}
 use Rattle.std.specs.List.{prefix_len}
 use Rattle.std.specs.Str.{IsAscii}
-use Rattle.qp_language.specs.Tokens.{value_after, number_in, is_letter, is_word_byte, Tok, Found, before, or_else, ◌>>=◌, word_token, number_token, mark_of, mark_at, token_at, is_space, tokens_of}
+use Rattle.qp_language.specs.Tokens.{value_after, number_in, is_letter, is_word_byte, Tok, Lexed, before, or_else, ◌>>=◌, word_token, number_token, mark_of, mark_at, token_at, is_space, tokens_of}
 use Rattle.std.specs.Char.{is_ascii_digit}
 use Rattle.std.proofs.Common.{length-drop, append_assoc, append-nil}
 
@@ -32,7 +32,7 @@ word_ascii bs i =
       | false ↦ λ h. rw (get_or_past (take n bs) i 0 (omega (arith, ltb-false i n h, length-take n bs))) (lit< tt)
     ] refl
 
-before_rest : (rest : List ℕ) (t : Option Tok) (found : Found) → before rest t ≡ Some found → found.1 ≡ rest
+before_rest : (rest : List ℕ) (t : Option Tok) (found : Lexed) → before rest t ≡ Some found → found.1 ≡ rest
 before_rest rest None found h = cc
 before_rest rest (Some t) found h = cc
 
@@ -46,7 +46,7 @@ drops n b bs = omega (arith, length-drop (suc n) (b ∷ bs))
 passes_one : (p : ℕ → Bool) (b : ℕ) (bs : List ℕ) → p b ≡ true → length (drop (prefix_len p (b ∷ bs)) (b ∷ bs)) < length (b ∷ bs)
 passes_one p b bs h = rw h (omega (arith, length-drop (1 + prefix_len p bs) (b ∷ bs)))
 
-mark_shorter : (bs : List ℕ) (found : Found) → mark_at bs ≡ Some found → length found.1 < length bs
+mark_shorter : (bs : List ℕ) (found : Lexed) → mark_at bs ≡ Some found → length found.1 < length bs
 unfolding mark_at mark_of
 mark_shorter [] found h = cc
 mark_shorter (b ∷ bs) found h =
@@ -58,29 +58,29 @@ mark_shorter (b ∷ bs) found h =
 or_true : (a b : Bool) → a ≡ true → (a || b) ≡ true
 or_true a b h = rw h refl
 
-letter_token : ℕ → List ℕ → Option Found
+letter_token : ℕ → List ℕ → Option Lexed
 letter_token b bs = let n = prefix_len is_word_byte (b ∷ bs) in before (drop n (b ∷ bs)) (word_token (take n (b ∷ bs)))
 
-digit_token : ℕ → List ℕ → Option Found
+digit_token : ℕ → List ℕ → Option Lexed
 digit_token b bs = let n = prefix_len is_ascii_digit (b ∷ bs) in before (drop n (b ∷ bs)) (number_token (take n (b ∷ bs)))
 
-digit_shorter : (b : ℕ) (bs : List ℕ) (found : Found) (is : Bool) → is_ascii_digit b ≡ is → cond is (digit_token b bs) (mark_at (b ∷ bs)) ≡ Some found → length found.1 < length (b ∷ bs)
+digit_shorter : (b : ℕ) (bs : List ℕ) (found : Lexed) (is : Bool) → is_ascii_digit b ≡ is → cond is (digit_token b bs) (mark_at (b ∷ bs)) ≡ Some found → length found.1 < length (b ∷ bs)
 unfolding digit_token
 digit_shorter b bs found true d h = rw (before_rest (drop (prefix_len is_ascii_digit (b ∷ bs)) (b ∷ bs)) (number_token (take (prefix_len is_ascii_digit (b ∷ bs)) (b ∷ bs))) found h) (passes_one is_ascii_digit b bs d)
 digit_shorter b bs found false d h = mark_shorter (b ∷ bs) found h
 
-letter_shorter : (b : ℕ) (bs : List ℕ) (found : Found) (is : Bool) → is_letter b ≡ is → cond is (letter_token b bs) (cond (is_ascii_digit b) (digit_token b bs) (mark_at (b ∷ bs))) ≡ Some found → length found.1 < length (b ∷ bs)
+letter_shorter : (b : ℕ) (bs : List ℕ) (found : Lexed) (is : Bool) → is_letter b ≡ is → cond is (letter_token b bs) (cond (is_ascii_digit b) (digit_token b bs) (mark_at (b ∷ bs))) ≡ Some found → length found.1 < length (b ∷ bs)
 unfolding letter_token
 letter_shorter b bs found true l h = rw (before_rest (drop (prefix_len is_word_byte (b ∷ bs)) (b ∷ bs)) (word_token (take (prefix_len is_word_byte (b ∷ bs)) (b ∷ bs))) found h) (passes_one is_word_byte b bs (or_true (is_letter b) (is_ascii_digit b) l))
 letter_shorter b bs found false l h = digit_shorter b bs found (is_ascii_digit b) refl h
 
 -- a token takes at least one byte
-pub token_shorter : (bs : List ℕ) (found : Found) → token_at bs ≡ Some found → length found.1 < length bs
+pub token_shorter : (bs : List ℕ) (found : Lexed) → token_at bs ≡ Some found → length found.1 < length bs
 unfolding token_at mark_at mark_of letter_token digit_token
 token_shorter [] found h = cc
 token_shorter (b ∷ bs) found h = letter_shorter b bs found (is_letter b) refl h
 
-pub next_shorter : (bs : List ℕ) (found : Found) → token_at (drop (prefix_len is_space bs) bs) ≡ Some found → length found.1 < length bs
+pub next_shorter : (bs : List ℕ) (found : Lexed) → token_at (drop (prefix_len is_space bs) bs) ≡ Some found → length found.1 < length bs
 next_shorter bs found h = omega (arith, token_shorter (drop (prefix_len is_space bs) bs) found h, length-drop (prefix_len is_space bs) bs)
 
 -- so far these tokens, and then those of the rest
@@ -91,7 +91,7 @@ regroup : (done : List Tok) (t : Tok) (o : Option (List Tok)) → ((o >>= (λ ts
 regroup done t None = refl
 regroup done t (Some ts) = ap Some (sym (append_assoc done (t ∷ []) ts))
 
-pub one_token : (whole : Option (List Tok)) (done : List Tok) (rest : List ℕ) (found : Found) → 0 < length rest → token_at (drop (prefix_len is_space rest) rest) ≡ Some found → ThenRest whole done rest → ThenRest whole (done ++ found.0 ∷ []) found.1
+pub one_token : (whole : Option (List Tok)) (done : List Tok) (rest : List ℕ) (found : Lexed) → 0 < length rest → token_at (drop (prefix_len is_space rest) rest) ≡ Some found → ThenRest whole done rest → ThenRest whole (done ++ found.0 ∷ []) found.1
 unfolding tokens_of
 one_token whole done [] found some h (n, fits, is) = absurd (omega arith)
 one_token whole done (b ∷ bs) found some h (zero, fits, is) = absurd (omega arith)

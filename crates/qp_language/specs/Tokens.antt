@@ -155,19 +155,19 @@ abbrev pub is_word_byte : ℕ → Bool
 is_word_byte b = is_letter b || is_ascii_digit b
 
 -- a token and the bytes after it
-abbrev pub Found : Type 0
-Found = Tok × List ℕ
+abbrev pub Lexed : Type 0
+Lexed = Tok × List ℕ
 
-abbrev pub before : List ℕ → Option Tok → Option Found
+abbrev pub before : List ℕ → Option Tok → Option Lexed
 before rest token = token >>= (λ t. Some (t, rest))
 
 -- of the marks the longer is read
-unfoldable pub mark_at : List ℕ → Option Found
+unfoldable pub mark_at : List ℕ → Option Lexed
 unfolding mark_of
 mark_at bytes = or_else (before (drop 2 bytes) (mark_of (take 2 bytes))) (before (drop 1 bytes) (mark_of (take 1 bytes)))
 
 -- the first token: words and numbers are read as long as possible
-unfoldable pub token_at : List ℕ → Option Found
+unfoldable pub token_at : List ℕ → Option Lexed
 unfolding word_token number_token mark_at
 token_at bytes =
     if is_letter (slice_index bytes 0) then (let n = prefix_len is_word_byte bytes in before (drop n bytes) (word_token (take n bytes)))

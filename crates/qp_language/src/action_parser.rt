@@ -93,7 +93,8 @@ fn more_orders(
     mut items: Vec<PlainAction>,
     tokens: &[Token],
 ) -> Result<(PlainActions, &[Token]), ExprFault>
-    ensures { (n : ℕ) → length tokens.now ≤ n → Gives (λ x. (map order_of x.0, map tok_of x.1.now)) result (more_orders n (map order_of items.items) (map tok_of tokens.now)) }
+    ensures { (n : ℕ) → length tokens.now ≤ n → Gives (λ x. (map order_of x.0, map tok_of x.1.now)) result
+        (more_orders n (map order_of items.items) (map tok_of tokens.now)) }
 {
     let mut rest = tokens;
     while let Some(behind) = after_semicolon(rest) {
@@ -339,7 +340,8 @@ fn more_terms(
     mut items: Vec<Expr>,
     tokens: &[Token],
 ) -> Result<(Exprs, &[Token]), ExprFault>
-    ensures exact { (n : ℕ) → length tokens.now ≤ n → Gives (λ x. (map term_of x.0, map tok_of x.1.now)) result (more_terms n (map term_of items.items) (map tok_of tokens.now)) }
+    ensures exact { (n : ℕ) → length tokens.now ≤ n → Gives (λ x. (map term_of x.0, map tok_of x.1.now)) result
+        (more_terms n (map term_of items.items) (map tok_of tokens.now)) }
     ensures no_longer { IfOk result (λ x. length x.1.now ≤ length tokens.now) }
 {
     let mut rest = tokens;

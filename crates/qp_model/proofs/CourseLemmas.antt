@@ -7,7 +7,7 @@ use Rattle.qp_model.specs.declared.bodies.Entry.{Entry}
 use Rattle.qp_model.specs.Told.{Event, taken}
 use Rattle.qp_model.specs.Pieces.{Piece, Tell, Point, ends_at_point}
 use Rattle.qp_model.specs.Acts.{Actor, Config}
-use Rattle.qp_model.specs.Step.{Remainder, GoesOn, DoesLeft, StepRest, Step, whole_step}
+use Rattle.qp_model.specs.Step.{Remainder, GoesOn, DoesLeft, StepBehind, Step, whole_step}
 use Rattle.qp_model.specs.Course.{Starts, Steps, Course, Follows, FollowsAs, FollowsThrough, FollowsThroughAs, FollowsTo, Whole, Stopped, Anywhere, actor, first_config, chart_at}
 use Rattle.qp_model.specs.Standing.{Between, Within, Leaves, Advances}
 
@@ -39,7 +39,7 @@ module _ (sys : System) (a : Actor) (first : Config) (es : List Entry) (ps : Lis
   pub leaves-took : (c : Config) (f l m : ℕ) (e : Entry) (ev : Event) → Leaves sys a first es ps (Between c)
       → Leaves sys a first (es ++ e ∷ []) (ps ++ Tell (taken f l m e ev) ∷ [])
       (Within ev e (whole_step a c ev) c)
-  unfolding Leaves GoesOn DoesLeft Step StepRest whole_step
+  unfolding Leaves GoesOn DoesLeft Step StepBehind whole_step
   leaves-took c f l m e ev h qs end k =
       rw append_assoc (course-snoc sys a first es e c ps (Tell (taken f l m e ev) ∷ qs) end h (f, l, m, ev, qs, refl, k))
 

@@ -16,7 +16,7 @@ use Rattle.qp_model.specs.Calls.{Call, Answer, Deed, Sets, Says, Calls, deed_of,
 use Rattle.qp_model.specs.Shapes.{Fits, FitsAny}
 use Rattle.qp_model.specs.Pieces.{Piece, Tell, Point, bare, tell, piece_of, with_points, pieces_of, ends_at_point, begins_at_point}
 use Rattle.qp_model.specs.Acts.{Config, Actor, Moment, Later, DoesCall, DoesDeed, DoesTask, Does, names_of}
-use Rattle.qp_model.specs.Step.{Step, StepRest, Closes, moment}
+use Rattle.qp_model.specs.Step.{Step, StepBehind, Closes, moment}
 use Rattle.qp_model.specs.Course.{Starts, Steps, Course, Follows, FollowsAs, FollowsThrough, FollowsThroughAs, FollowsTo, Cut, Whole, Stopped, Anywhere, actor, first_config, chart_at}
 use Rattle.qp_model.specs.Groups.{IsAction, SaysValue, Actions, IsGroup, IsMove, IsLocked, Groups, is_post, ends_in_post, IsLast, Stops, StopsInPublication, BreaksOff, Plainly, UnderCeiling}
 use Rattle.qp_model.specs.ObjectShape.{StepHead, is_head, BrokenStep, ObjectGroups, CutGroups}
@@ -482,7 +482,7 @@ module _ (sys : System) (a : Actor) where
   -- a step that is cut at a point has broken off, or it is whole
   pub step-cut : (e : Entry) (c : Config) (ps : List Piece) (end : Option Config) (p : Piece) (f back : List Piece) → Step sys a e c ps end
       → (p ∷ f) ++ back ≡ ps → AtPoint (p ∷ f) back → BrokenStep sys a.o (bare (p ∷ f)) ⊎ (back ≡ [])
-  unfolding Step StepRest Closes Blocks Does DoesTask BrokenStep StepHead bare ends_at_point
+  unfolding Step StepBehind Closes Blocks Does DoesTask BrokenStep StepHead bare ends_at_point
   step-cut e c ps end p f back h eq here = by_blocks (step-blocks a.chart c.leaf (names_of a c h.3) h.3.sig)
     where
       body : List Piece

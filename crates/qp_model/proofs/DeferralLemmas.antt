@@ -18,7 +18,7 @@ use Rattle.qp_model.specs.Shapes.{Fits}
 use Rattle.qp_model.specs.Deferral.{keep, kept_after, KeepsDeferred}
 use Rattle.qp_model.specs.Pieces.{Piece, Point, bare, tell, pieces_of}
 use Rattle.qp_model.specs.Acts.{Config, Actor, Moment, Later, DoesCall, DoesDeed, DoesTask, Does, names_of}
-use Rattle.qp_model.specs.Step.{Step, StepRest, Closes, at_leaf, moment}
+use Rattle.qp_model.specs.Step.{Step, StepBehind, Closes, at_leaf, moment}
 use Rattle.qp_model.specs.Course.{Starts, Steps, Course, Follows, FollowsAs, FollowsTo, Cut, Whole, Stopped, Anywhere, at_start, actor, first_config, chart_at}
 use Rattle.qp_model.proofs.CourseLemmas.{through-follows}
 use Rattle.qp_model.proofs.GroupLemmas.{bare-append, bare-tell, bare-pieces_of}
@@ -216,7 +216,7 @@ module _ (sys : System) (a : Actor) where
   at_leaf-kept leaf old g (Some d) end is h = subst (λ x. Kept a.room old g x) (sym is) h
 
   step-keeps : (e : Entry) (c : Config) (ps : List Piece) (end : Option Config) → Step sys a e c ps end → Kept a.room c.kept (bare ps) end
-  unfolding Step StepRest Closes Kept kept_after bare
+  unfolding Step StepBehind Closes Kept kept_after bare
   step-keeps e c ps end h =
       at_leaf-kept _ c.kept (bare ps) h.6.2 end h.6.6 (kept-same a.room c.kept (bare ps) (taken h.0 h.1 h.2 e h.3 ∷ (bare h.6.0 ++ h.6.1)) h.6.2 whole (took h.6.2 (closed h.6.2 h.6.4 (does-keeps sys a (moment h.3 e) (step_plan a.chart c.leaf (names_of a c h.3) h.3.sig).tasks c h.6.0 h.6.2 h.6.3))))
     where

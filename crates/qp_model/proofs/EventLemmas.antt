@@ -116,7 +116,7 @@ end-within b block (i ∷ is) h = go i.body (λ h. end-within b block is h) h
     go _ later h = later h
 
 -- where a `new` with the event is found, behind which number r stays in the life that it begins
-record Found (b r whole : ℕ) (ev : Event) (is : List Item) : Type 0 where
+record LifeHas (b r whole : ℕ) (ev : Event) (is : List Item) : Type 0 where
   earlier : List Item
   later : List Item
   by : ℕ
@@ -128,7 +128,7 @@ record Found (b r whole : ℕ) (ev : Event) (is : List Item) : Type 0 where
   going : r < life_end b whole later
 
 module _ (b r whole : ℕ) (ev : Event) (within : r < whole) where
-  further : (i : Item) (is : List Item) → Found b r whole ev is → Found b r whole ev (i ∷ is)
+  further : (i : Item) (is : List Item) → LifeHas b r whole ev is → LifeHas b r whole ev (i ∷ is)
   further i is f = record {
     earlier = i ∷ f.earlier;
     later = f.later;
@@ -142,25 +142,25 @@ module _ (b r whole : ℕ) (ev : Event) (within : r < whole) where
   }
 
   -- the event comes from a `new` among the operations, or it was that before them, and its life goes on
-  found-in : (e : Option Event) (is : List Item) → last_given b r e is ≡ Some ev → Found b r whole ev is ⊎ ((e ≡ Some ev) × (r < life_end b whole is))
+  found-in : (e : Option Event) (is : List Item) → last_given b r e is ≡ Some ev → LifeHas b r whole ev is ⊎ ((e ≡ Some ev) × (r < life_end b whole is))
   unfolding last_given life_end
   found-in e [] h = inr (h, within)
   found-in e (i ∷ is) h = elim (found-in (given_by b r e i.body) is h) [ inl f ↦ inl (further i is f) | inr k ↦ here i k.0 k.1 ]
     where
       here : (i : Item) → given_by b r e i.body ≡ Some ev → r < life_end b whole is
-          → Found b r whole ev (i ∷ is) ⊎ ((e ≡ Some ev) × (r < unwrap_or (back_of b i.body) (life_end b whole is)))
+          → LifeHas b r whole ev (i ∷ is) ⊎ ((e ≡ Some ev) × (r < unwrap_or (back_of b i.body) (life_end b whole is)))
       here i h going = by_body i.body refl h
         where
           same_item : (c : Body) → i.body ≡ c → i ≡ record { of = i.of; body = c }
           same_item c e = ap (λ c. record { of = i.of; body = c }) e
 
           by_body : (c : Body) → i.body ≡ c → given_by b r e c ≡ Some ev
-              → Found b r whole ev (i ∷ is) ⊎ ((e ≡ Some ev) × (r < unwrap_or (back_of b c) (life_end b whole is)))
+              → LifeHas b r whole ev (i ∷ is) ⊎ ((e ≡ Some ev) × (r < unwrap_or (back_of b c) (life_end b whole is)))
           by_body (New p n c from sig pars) is_body h = at (c == b) refl (nat_le from r) refl h
             where
               at : (same : Bool) → (c == b) ≡ same → (begun : Bool) → nat_le from r ≡ begun
                   → cond (same && begun) (Some (record { sig = sig; pars = pars })) e ≡ Some ev
-                  → Found b r whole ev (i ∷ is) ⊎ ((e ≡ Some ev) × (r < life_end b whole is))
+                  → LifeHas b r whole ev (i ∷ is) ⊎ ((e ≡ Some ev) × (r < life_end b whole is))
               at true is_b true is_begun h =
                   let is_block : c ≡ b = grind (arith, nat_tests) in
                   let is_event : record { sig = sig; pars = pars } ≡ ev = cc in
@@ -184,7 +184,7 @@ module _ (b r whole : ℕ) (ev : Event) (within : r < whole) where
           by_body (Back p n c to) is_body h = at (c == b) (nat_le to r) refl h
             where
               at : (same : Bool) (ended : Bool) → nat_le to r ≡ ended → cond (same && ended) None e ≡ Some ev
-                  → Found b r whole ev (i ∷ is) ⊎ ((e ≡ Some ev) × (r < unwrap_or (cond same (Some to) None) (life_end b whole is)))
+                  → LifeHas b r whole ev (i ∷ is) ⊎ ((e ≡ Some ev) × (r < unwrap_or (cond same (Some to) None) (life_end b whole is)))
               at true true is_ended h = absurd (cc)
               at true false is_ended h = inr (h, grind (arith, nat_tests))
               at false ended is_ended h = inr (h, going)
@@ -234,7 +234,7 @@ module _ (sys : System) (lanes : List (List Rec)) (words : Words sys lanes) (p b
       let below : nat_lt r (length (hist (word.Block p b) (all_items lanes))) ≡ true = grind (arith, nat_tests, gives.0) in
       rw below gives.1
 
-  of-pool : Found b r (length (operations (word.Block p b) lanes)) ev (operations (word.Pool p) lanes)
+  of-pool : LifeHas b r (length (operations (word.Block p b) lanes)) ev (operations (word.Pool p) lanes)
       → LiesInLife p b r ev (operations (word.Pool p) lanes) (operations (word.Block p b) lanes)
   of-pool f =
       let i : Item = record { of = f.by; body = New f.pool f.number b f.from ev.sig ev.pars } in

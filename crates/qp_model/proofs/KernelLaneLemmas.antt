@@ -11,7 +11,7 @@ use Rattle.qp_model.specs.declared.systems.System.{System}
 use Rattle.qp_model.specs.declared.bodies.Body.{Body}
 use Rattle.qp_model.specs.declared.bodies.Body.TheVariants as body
 use Rattle.qp_model.specs.Record.{Item}
-use Rattle.qp_model.specs.KernelLane.{Role, Looks, Sees, Takes, Ends, Rests, Holds, Drops, RunsOut, Spills, Acts, role_of, under_way_after, ceiling_of, Setting, floor_in, above, Place, Inside, Looking, Found, Ended, Resting, Again, Over, Halted, Reading, base_ended, found_none, looking_at, look_next, seen_next, own_next, inside_next, found_next, ended_next, rest_next, place_next, start_next, started_next, role_next, lane_next, lane_on, unread, lane_read}
+use Rattle.qp_model.specs.KernelLane.{Role, Looks, Sees, Takes, Ends, Rests, Holds, Drops, RunsOut, Spills, Acts, role_of, under_way_after, ceiling_of, Setting, floor_in, above, Upcoming, Inside, Looking, Chosen, Ended, Resting, Again, Over, Halted, Reading, base_ended, found_none, looking_at, look_next, seen_next, own_next, inside_next, found_next, ended_next, rest_next, place_next, start_next, started_next, role_next, lane_next, lane_on, unread, lane_read}
 use Rattle.qp_model.specs.Kernels.{qk, qv}
 use Rattle.qp_model.specs.KernelLaws.{under_way, ceiling_on, floor_after, SeesNone, EndsInLook, StepsBeginAbove, StepsStandAlone, SeesEach, RestsWhereAllAreEmpty}
 
@@ -126,9 +126,9 @@ pub record HasLooked (sys : System) (floor : ℕ) (before : List Item) (rest : L
   pub saw : SeesEach objects empties
   pub all : objects ++ rest ≡ above sys floor
 
-abbrev pub PlaceIs : System → ℕ → List Item → Place → Type 0
+abbrev pub PlaceIs : System → ℕ → List Item → Upcoming → Type 0
 PlaceIs sys floor before (Looking p others) = HasLooked sys floor before (p ∷ others) × AllByRecursion (IsAbove sys.objects floor) (p ∷ others)
-PlaceIs sys floor before (Found p) = EndsInLook floor before p × IsAbove sys.objects floor p
+PlaceIs sys floor before (Chosen p) = EndsInLook floor before p × IsAbove sys.objects floor p
 PlaceIs sys floor before Resting = HasLooked sys 0 before []
 PlaceIs sys floor before _ = ⊤
 
@@ -139,7 +139,7 @@ SeesEach-snoc (q ∷ ps) [] p f l m h none = absurd h
 SeesEach-snoc (q ∷ ps) (i ∷ is) p f l m (a, b, c, at, empty, rest) none = (a, b, c, at, empty, SeesEach-snoc ps is p f l m rest none)
 
 -- no step is under way before all objects have started
-abbrev pub Starts : List ℕ → List ℕ → Place → Type 0
+abbrev pub Starts : List ℕ → List ℕ → Upcoming → Type 0
 Starts [] running place = ⊤
 Starts (o ∷ others) running place = (running ≡ []) × (place ≡ Inside)
 
@@ -222,7 +222,7 @@ module _ (s : Setting) (before : List Item) (i : Item) where
       ∙ ap (λ x. looked.front ++ record { of = 0; body = body.Look looked.n (floor_in s.sys s.kernel k.running k.ceiling) } ∷ looked.empties ++ x ∷ []) seen in
       go (nat_lt m (f + l)) refl ok.1 looked seen stands kept
     where
-      go : (b : Bool) → nat_lt m (f + l) ≡ b → cond b (record k { place = Found p }) (looking_at s k others) ≡ next
+      go : (b : Bool) → nat_lt m (f + l) ≡ b → cond b (record k { place = Chosen p }) (looking_at s k others) ≡ next
           → (looked : HasLooked s.sys (floor_in s.sys s.kernel k.running k.ceiling) before (p ∷ others)) → i ≡ record { of = 0; body = body.Seen p f l m }
           → before ++ i ∷ [] ≡ looked.front ++ record { of = 0; body = body.Look looked.n (floor_in s.sys s.kernel k.running k.ceiling) } ∷ looked.empties ++ record { of = 0; body = body.Seen p f l m } ∷ []
           → (under_way [] (before ++ i ∷ []) ≡ k.running) × (ceiling_on 0 (before ++ i ∷ []) ≡ k.ceiling)
@@ -302,7 +302,7 @@ module _ (s : Setting) (before : List Item) (i : Item) where
       go true e = own_reads k next p outer r is h none runs inside e
       go false e = look_reads k next r is h none e
 
-  found_reads : (k next : Reading) (p : ℕ) (r : Role) → role_of i.body ≡ r → IsRead s before k → k.unstarted ≡ [] → k.place ≡ Found p
+  found_reads : (k next : Reading) (p : ℕ) (r : Role) → role_of i.body ≡ r → IsRead s before k → k.unstarted ≡ [] → k.place ≡ Chosen p
       → found_next k p i.of r ≡ Some next → IsRead s (before ++ i ∷ []) next
   found_reads k next p Takes is h none found e =
       let ok = granted _ _ next e in
@@ -363,13 +363,13 @@ module _ (s : Setting) (before : List Item) (i : Item) where
   rest_reads k next Spills is h none e = absurd (cc)
   rest_reads k next Acts is h none e = absurd (cc)
 
-  place_reads : (k next : Reading) (place : Place) (r : Role) → role_of i.body ≡ r → IsRead s before k → k.unstarted ≡ [] → k.place ≡ place
+  place_reads : (k next : Reading) (place : Upcoming) (r : Role) → role_of i.body ≡ r → IsRead s before k → k.unstarted ≡ [] → k.place ≡ place
       → place_next s k i.of r place ≡ Some next → IsRead s (before ++ i ∷ []) next
   unfolding place_next
   place_reads k next Inside r is h none there e = inside_reads k next k.running r is h none refl there e
   place_reads k next (Looking p others) r is h none there e =
       seen_reads k next p others r is h none (subst (PlaceIs s.sys (floor_in s.sys s.kernel k.running k.ceiling) before) there h.place) e
-  place_reads k next (Found p) r is h none there e = found_reads k next p r is h none there e
+  place_reads k next (Chosen p) r is h none there e = found_reads k next p r is h none there e
   place_reads k next (Ended p) r is h none there e = ended_reads k next p r is h none there e
   place_reads k next Resting r is h none there e = rest_reads k next r is h none e
   place_reads k next Again r is h none there e = look_reads k next r is h none e
@@ -439,40 +439,40 @@ module _ (s : Setting) (before : List Item) (i : Item) where
   lane_reads k next h e = role_reads k next (role_of i.body) refl h e
 
 -- a step that begins was found by a look
-takes_found : (s : Setting) (k next : Reading) (o : ℕ) → role_next s k o Takes ≡ Some next → k.place ≡ Found o
+takes_found : (s : Setting) (k next : Reading) (o : ℕ) → role_next s k o Takes ≡ Some next → k.place ≡ Chosen o
 unfolding role_next started_next place_next inside_next look_next ended_next
 takes_found s k next o e = started k.unstarted e
   where
-    inside : (running : List ℕ) → inside_next s k running o Takes ≡ Some next → k.place ≡ Found o
+    inside : (running : List ℕ) → inside_next s k running o Takes ≡ Some next → k.place ≡ Chosen o
     inside [] e = absurd (cc)
     inside (p ∷ outer) e = go (o == p) e
       where
-        go : (b : Bool) → cond b (own_next k p outer Takes) (look_next s k o Takes) ≡ Some next → k.place ≡ Found o
+        go : (b : Bool) → cond b (own_next k p outer Takes) (look_next s k o Takes) ≡ Some next → k.place ≡ Chosen o
         go true e = absurd (cc)
         go false e = absurd (cc)
 
-    at : (place : Place) → k.place ≡ place → place_next s k o Takes place ≡ Some next → k.place ≡ Found o
+    at : (place : Upcoming) → k.place ≡ place → place_next s k o Takes place ≡ Some next → k.place ≡ Chosen o
     at Inside is e = inside k.running e
     at (Looking p others) is e = absurd (cc)
-    at (Found p) is e =
+    at (Chosen p) is e =
         let ok = granted (o == p) (record k { running = p ∷ k.running; place = Inside; stepped = true }) next e in
         let same : o ≡ p = grind (arith, nat_tests, ok.0) in
-        is ∙ ap (λ x. Found x) (sym same)
+        is ∙ ap (λ x. Chosen x) (sym same)
     at (Ended p) is e = absurd (cc)
     at Resting is e = absurd (cc)
     at Again is e = absurd (cc)
     at Over is e = go (s.kernel == qk) e
       where
-        go : (b : Bool) → cond b (look_next s k o Takes) None ≡ Some next → k.place ≡ Found o
+        go : (b : Bool) → cond b (look_next s k o Takes) None ≡ Some next → k.place ≡ Chosen o
         go true e = absurd (cc)
         go false e = absurd (cc)
     at Halted is e = absurd (cc)
 
-    started : (us : List ℕ) → started_next s k o Takes us ≡ Some next → k.place ≡ Found o
+    started : (us : List ℕ) → started_next s k o Takes us ≡ Some next → k.place ≡ Chosen o
     started [] e = at k.place refl e
     started (u ∷ others) e = go (o == u) e
       where
-        go : (b : Bool) → cond b (start_next k others Takes) None ≡ Some next → k.place ≡ Found o
+        go : (b : Bool) → cond b (start_next k others Takes) None ≡ Some next → k.place ≡ Chosen o
         go true e = absurd (cc)
         go false e = absurd (cc)
 
@@ -516,8 +516,8 @@ steps_begin_above s lane last e before after o f l m entry stands =
     let i : Item = record { of = o; body = body.Took f l m entry } in
     let on : lane_on s (unread s.sys) (before ++ i ∷ after) ≡ Some last = ap (λ xs. lane_on s (unread s.sys) xs) (sym stands) ∙ e in
     let mid : Middle s (unread s.sys) before i = middle s (unread s.sys) last [] before i after (first_read s) on in
-    let found : mid.at.place ≡ Found o = takes_found s mid.at mid.next o mid.goes in
-    let there : PlaceIs s.sys (floor_in s.sys s.kernel mid.at.running mid.at.ceiling) before (Found o) = subst (PlaceIs s.sys (floor_in s.sys s.kernel mid.at.running mid.at.ceiling) before) found mid.reads.place in
+    let found : mid.at.place ≡ Chosen o = takes_found s mid.at mid.next o mid.goes in
+    let there : PlaceIs s.sys (floor_in s.sys s.kernel mid.at.running mid.at.ceiling) before (Chosen o) = subst (PlaceIs s.sys (floor_in s.sys s.kernel mid.at.running mid.at.ceiling) before) found mid.reads.place in
     let level : floor_in s.sys s.kernel (under_way [] before) (ceiling_on 0 before) ≡ floor_in s.sys s.kernel mid.at.running mid.at.ceiling =
     ap (λ x. floor_in s.sys s.kernel x (ceiling_on 0 before)) mid.reads.running ∙ ap (λ x. floor_in s.sys s.kernel mid.at.running x) mid.reads.ceiling in
     rw level (there.0, there.1.higher)
@@ -538,8 +538,8 @@ steps_stand_alone s lane last kernel limit e before after o f l m entry stands =
     let i : Item = record { of = o; body = body.Took f l m entry } in
     let on : lane_on s (unread s.sys) (before ++ i ∷ after) ≡ Some last = ap (λ xs. lane_on s (unread s.sys) xs) (sym stands) ∙ e in
     let mid : Middle s (unread s.sys) before i = middle s (unread s.sys) last [] before i after (first_read s) on in
-    let found : mid.at.place ≡ Found o = takes_found s mid.at mid.next o mid.goes in
-    let there : PlaceIs s.sys (floor_in s.sys s.kernel mid.at.running mid.at.ceiling) before (Found o) = subst (PlaceIs s.sys (floor_in s.sys s.kernel mid.at.running mid.at.ceiling) before) found mid.reads.place in
+    let found : mid.at.place ≡ Chosen o = takes_found s mid.at mid.next o mid.goes in
+    let there : PlaceIs s.sys (floor_in s.sys s.kernel mid.at.running mid.at.ceiling) before (Chosen o) = subst (PlaceIs s.sys (floor_in s.sys s.kernel mid.at.running mid.at.ceiling) before) found mid.reads.place in
     mid.reads.running ∙ alone s.sys s.kernel mid.at.running mid.at.ceiling o kernel there.1.higher (there.1.limited 32 limit)
 
 -- the kernel rests only where a look asked it to
@@ -555,10 +555,10 @@ rests_found s k next o n e = started k.unstarted e
         go true e = absurd (cc)
         go false e = absurd (cc)
 
-    at : (place : Place) → k.place ≡ place → place_next s k o (Rests n) place ≡ Some next → k.place ≡ Resting
+    at : (place : Upcoming) → k.place ≡ place → place_next s k o (Rests n) place ≡ Some next → k.place ≡ Resting
     at Inside is e = inside k.running e
     at (Looking p others) is e = absurd (cc)
-    at (Found p) is e = absurd (cc)
+    at (Chosen p) is e = absurd (cc)
     at (Ended p) is e = absurd (cc)
     at Resting is e = is
     at Again is e = absurd (cc)

@@ -9,7 +9,7 @@ use Rattle.qp_model.specs.declared.bodies.Body.TheVariants as body
 use Rattle.qp_model.specs.Record.{Item}
 use Rattle.qp_model.specs.Knowing.{Facts}
 use Rattle.qp_model.specs.Kernels.{qk}
-use Rattle.qp_model.specs.KernelLane.{Role, Looks, Sees, Takes, Ends, Rests, Holds, Drops, RunsOut, Spills, Acts, role_of, ceiling_of, Setting, floor_in, above, Place, Inside, Looking, Found, Ended, Resting, Again, Over, Halted, Reading, base_ended, looking_at, look_next, inside_next, ended_next, place_next, started_next, role_next, lane_next, lane_on}
+use Rattle.qp_model.specs.KernelLane.{Role, Looks, Sees, Takes, Ends, Rests, Holds, Drops, RunsOut, Spills, Acts, role_of, ceiling_of, Setting, floor_in, above, Upcoming, Inside, Looking, Chosen, Ended, Resting, Again, Over, Halted, Reading, base_ended, looking_at, look_next, inside_next, ended_next, place_next, started_next, role_next, lane_next, lane_on}
 use Rattle.qp_model.specs.Points.{pieces_at, pieces_in}
 
 pub lane_on-append : (s : Setting) (k : Reading) (xs ys : List Item) → lane_on s k (xs ++ ys) ≡ option_and_then (λ m. lane_on s m ys) (lane_on s k xs)
@@ -102,7 +102,7 @@ unfolding lane_next role_of role_next started_next
 started-next s k o others first = let self : (o == o) ≡ true = grind (arith, nat_tests) in rw (first, self) refl
 
 -- a look may stand here: at the base, at a scheduling point of the running object, or behind a step of the row
-abbrev pub MayLook : ℕ → Place → List ℕ → Type 0
+abbrev pub MayLook : ℕ → Upcoming → List ℕ → Type 0
 MayLook kernel Inside [] = ⊤
 MayLook kernel Inside (p ∷ outer) = 0 < p
 MayLook kernel (Ended p) running = ⊤
@@ -118,7 +118,7 @@ look-at s k n floor count level =
     let two : (floor == floor_in s.sys s.kernel k.running k.ceiling) ≡ true = grind (arith, nat_tests, level) in
     rw (one, two) refl
 
-look-place : (s : Setting) (k : Reading) (n floor : ℕ) (place : Place) (running : List ℕ) → MayLook s.kernel place running → k.running ≡ running
+look-place : (s : Setting) (k : Reading) (n floor : ℕ) (place : Upcoming) (running : List ℕ) → MayLook s.kernel place running → k.running ≡ running
     → place_next s k 0 (Looks n floor) place ≡ look_next s k 0 (Looks n floor)
 unfolding place_next inside_next ended_next
 look-place s k n floor Inside [] may at = rw at refl
@@ -127,7 +127,7 @@ look-place s k n floor (Ended p) running may at = refl
 look-place s k n floor Again running may at = refl
 look-place s k n floor Over running may at = let is : (s.kernel == qk) ≡ true = grind (arith, nat_tests, may) in rw is refl
 look-place s k n floor (Looking p others) running may at = absurd may
-look-place s k n floor (Found p) running may at = absurd may
+look-place s k n floor (Chosen p) running may at = absurd may
 look-place s k n floor Resting running may at = absurd may
 look-place s k n floor Halted running may at = absurd may
 
@@ -148,7 +148,7 @@ seen-empty s k p others f l m started at none =
     rw (started, at, self, no) refl
 
 pub seen-entry : (s : Setting) (k : Reading) (p : ℕ) (others : List ℕ) (f l m : ℕ) → k.unstarted ≡ [] → k.place ≡ Looking p others → m < f + l
-    → lane_next s k (record { of = 0; body = body.Seen p f l m }) ≡ Some (record k { place = Found p })
+    → lane_next s k (record { of = 0; body = body.Seen p f l m }) ≡ Some (record k { place = Chosen p })
 unfolding lane_next role_of role_next started_next place_next
 seen-entry s k p others f l m started at some =
     let self : (p == p) ≡ true = grind (arith, nat_tests) in
@@ -156,13 +156,13 @@ seen-entry s k p others f l m started at some =
     rw (started, at, self, yes) refl
 
 -- the step of the object found begins
-pub took-next : (s : Setting) (k : Reading) (p f l m : ℕ) (e : Entry) → k.unstarted ≡ [] → k.place ≡ Found p
+pub took-next : (s : Setting) (k : Reading) (p f l m : ℕ) (e : Entry) → k.unstarted ≡ [] → k.place ≡ Chosen p
     → lane_next s k (record { of = p; body = body.Took f l m e }) ≡ Some (record k { running = p ∷ k.running; place = Inside; stepped = true })
 unfolding lane_next role_of role_next started_next place_next
 took-next s k p f l m e started at = let self : (p == p) ≡ true = grind (arith, nat_tests) in rw (started, at, self) refl
 
 -- or it is at its budget
-pub spent-next : (s : Setting) (k : Reading) (p : ℕ) → k.unstarted ≡ [] → k.place ≡ Found p → lane_next s k (record { of = p; body = body.Spent }) ≡ Some (record k { place = Halted })
+pub spent-next : (s : Setting) (k : Reading) (p : ℕ) → k.unstarted ≡ [] → k.place ≡ Chosen p → lane_next s k (record { of = p; body = body.Spent }) ≡ Some (record k { place = Halted })
 unfolding lane_next role_of role_next started_next place_next
 spent-next s k p started at = let self : (p == p) ≡ true = grind (arith, nat_tests) in rw (started, at, self) refl
 

@@ -11,7 +11,7 @@ use Rattle.qp_model.specs.Told.{Told}
 use Rattle.qp_model.specs.Calls.{Call, Deed, Sets, Says, Calls, deed_of, ok_after, is_assertion}
 use Rattle.qp_model.specs.Pieces.{Piece, Point, bare, tell, pieces_of}
 use Rattle.qp_model.specs.Acts.{Config, Actor, Moment, Later, DoesCall, DoesDeed, DoesTask, Does, names_of}
-use Rattle.qp_model.specs.Step.{StepRest, Closes, at_leaf, moment}
+use Rattle.qp_model.specs.Step.{StepBehind, Closes, at_leaf, moment}
 use Rattle.qp_model.specs.StepNotes.{note_of, is_step_note, notes_of, noted, notes_in}
 use Rattle.qp_model.specs.CourseLaws.{StepsLeaveTheirNotes}
 use Rattle.qp_model.proofs.GroupLemmas.{bare-append, bare-tell, bare-pieces_of}
@@ -110,7 +110,7 @@ module _ (sys : System) (a : Actor) (at : Moment) where
 
 -- a step that runs to completion leaves just the notes of its agenda
 pub steps_leave_their_notes : StepsLeaveTheirNotes
-unfolding StepsLeaveTheirNotes StepRest Closes
+unfolding StepsLeaveTheirNotes StepBehind Closes
 steps_leave_their_notes sys a ev e c d ps h = by h.2 h.3 h.4 h.6
   where
     by : (mid : Option Config) → Does sys a (moment ev e) (step_plan a.chart c.leaf (names_of a c ev) ev.sig).tasks c h.0 mid → Closes e mid h.1

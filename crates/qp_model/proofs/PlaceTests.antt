@@ -6,7 +6,7 @@ use Rattle.qp_model.specs.declared.bodies.Body.{Body}
 use Rattle.qp_model.specs.declared.bodies.Body.TheVariants as body
 use Rattle.qp_model.specs.Record.{Item, entry}
 use Rattle.qp_model.specs.Told.{Nothing, plain, taken, given, dropped, raised, same_in}
-use Rattle.qp_model.specs.Places.{Place, must_precede, places, in_order, items_at}
+use Rattle.qp_model.specs.Places.{RecordPlace, must_precede, places, in_order, items_at}
 use Rattle.qp_model.specs.Knowing.{records_of}
 
 rec : ℕ → ℕ → List ℕ → Rec
@@ -21,7 +21,7 @@ lanes =
     ∷ (rec 7 0 (1 ∷ 1 ∷ 0 ∷ 1 ∷ []) ∷ [])
     ∷ []
 
-at : ℕ → ℕ → Place
+at : ℕ → ℕ → RecordPlace
 at lane n = record { lane = lane; at = n }
 
 -- in one lane, by place

@@ -9,7 +9,7 @@ use Rattle.qp_model.specs.declared.bodies.Body.TheVariants as item
 use Rattle.qp_model.specs.Told.{Told, OfEvent, plain, taken}
 use Rattle.qp_model.specs.Pieces.{Piece, bare, tell}
 use Rattle.qp_model.specs.Acts.{Config, Actor, Moment, DoesTask, Does, names_of}
-use Rattle.qp_model.specs.Step.{Step, StepRest, Closes, at_leaf, moment}
+use Rattle.qp_model.specs.Step.{Step, StepBehind, Closes, at_leaf, moment}
 use Rattle.qp_model.specs.Course.{Starts, Steps, Course, at_start}
 use Rattle.qp_model.specs.Sequence.{Sequence}
 use Rattle.qp_model.specs.ObjectShape.{StartGroup, BrokenStart, StepHead, is_head, StepGroup, BrokenStep, IsTurn, Dispatches, FindsEmpty, LooksOnly, IsTail, Ends, OutOfBudget, BreaksStep, ObjectGroups}
@@ -35,7 +35,7 @@ module _ (sys : System) (a : Actor) where
 
   -- a step's records have its shape
   pub step-shape : (e : Entry) (c : Config) (ps : List Piece) (end : Option Config) → Step sys a e c ps end → StepShape sys a.o end (bare ps)
-  unfolding Step StepRest Closes Blocks Does DoesTask StepShape StepGroup BrokenStep StepHead bare
+  unfolding Step StepBehind Closes Blocks Does DoesTask StepShape StepGroup BrokenStep StepHead bare
   step-shape e c ps end h = by_blocks (step-blocks a.chart c.leaf (names_of a c h.3) h.3.sig)
     where
       -- h.0 h.1 h.2: the counts; h.3: the event; h.4: the rest

@@ -13,7 +13,7 @@ use Rattle.qp_model.specs.Told.{Told, plain, raised, taken}
 use Rattle.qp_model.specs.Calls.{Call, Answer, Deed, Sets, Says, Calls, ok_after, is_assertion}
 use Rattle.qp_model.specs.Pieces.{Piece, Point, bare, tell, pieces_of}
 use Rattle.qp_model.specs.Acts.{Config, Actor, Moment, Later, DoesCall, DoesDeed, DoesTask, Does, Notes, names_of}
-use Rattle.qp_model.specs.Step.{Step, StepRest, Closes, at_leaf, moment}
+use Rattle.qp_model.specs.Step.{Step, StepBehind, Closes, at_leaf, moment}
 use Rattle.qp_model.specs.Course.{Starts, Steps, Course, Follows, FollowsAs, FollowsThrough, FollowsThroughAs, actor, first_config, chart_at, at_start}
 use Rattle.qp_model.specs.ObjectShape.{is_assert, asserts_none}
 use Rattle.qp_model.proofs.ListLemmas.{both_true}
@@ -92,7 +92,7 @@ module _ (sys : System) (a : Actor) where
   none-leaf leaf (Some c) h = absurd (cc)
 
   step-fails : (e : Entry) (c : Config) (ps : List Piece) → Step sys a e c ps None → Quiet (bare ps) → ⊥
-  unfolding Step StepRest Closes bare
+  unfolding Step StepBehind Closes bare
   step-fails e c ps (f, l, m, ev, rest, is, (body, rel, mid, does, closes, parts, end)) quiet =
       let none : mid ≡ None = none-leaf _ mid end in
       let nothing : rel ≡ [] = subst (λ o. Closes e o rel) none closes in

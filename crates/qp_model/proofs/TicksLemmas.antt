@@ -20,7 +20,7 @@ use Rattle.qp_model.specs.Parts.{timer_number}
 use Rattle.qp_model.specs.Shapes.{Fits, NoBlockFor, Posts, PostsFront, PostsNew, PostsNewFront, Forwards, Publishes, Defers, Recalls, Subscribes, Unsubscribes, Arms, Rearms, Disarms, ticks_fit}
 use Rattle.qp_model.specs.Pieces.{Piece, Tell, Point, bare, tell, pieces_of}
 use Rattle.qp_model.specs.Acts.{Config, Actor, Moment, DoesDeed, DoesTask, Does, names_of}
-use Rattle.qp_model.specs.Step.{StepRest, Step, Closes, moment}
+use Rattle.qp_model.specs.Step.{StepBehind, Step, Closes, moment}
 use Rattle.qp_model.specs.Course.{Cut, Whole, Stopped, Anywhere, FollowsTo, Follows, FollowsAs, Course, Starts, Steps, actor, at_start, chart_at, first_config}
 use Rattle.qp_model.specs.CourseLaws as law
 use Rattle.qp_model.specs.CourseLaws.{RefusesTicks, IsAgenda, OfStart, OfStep, WereRefused}
@@ -280,7 +280,7 @@ module _ (t ticks interval : ℕ) where
     not-released e (Some c) rel h k = not-usual rel (usual rel (calm-drops e rel h)) k
 
     step-refuses : (e : Entry) (c : Config) (ps : List Piece) (end : Option Config) → Step sys a e c ps end → In (plain (item.BadTicks t ticks interval)) (bare ps) → WereRefused sys a t ticks interval
-    unfolding Step StepRest
+    unfolding Step StepBehind
     step-refuses e c ps end (f, l, m, ev, rest, is, (body, rel, mid, does, closes, split, last)) k =
         let in_rest = behind (taken f l m e ev) ps rest (λ e. absurd (cc)) is k in
         let both : bare rest ≡ bare body ++ rel = ap bare split ∙ bare-append body (tell rel) ∙ ap (λ us. bare body ++ us) (bare-tell rel) in

@@ -13,7 +13,7 @@ use Rattle.qp_model.specs.Calls.{Call, Answer, Granted, Refused, Flushed, AtQueu
 use Rattle.qp_model.specs.Shapes.{Releases, releases_by, Drops, MakesBlock, MakesNew, NoBlockFor, again_by, MakesAgain, MakesAgainNow, Posts, PostsFront, PostsNew, PostsNewFront, Forwards, PostsOne, PostsToAll, PostsUpTo, raising, restoring, PublishesFirst, PublishesLast, Publishes, Defers, Recalls, Flushes, Subscribes, Unsubscribes, Arms, Rearms, Disarms, Fits}
 use Rattle.qp_model.specs.Pieces.{Piece, Point, bare, tell, pieces_of}
 use Rattle.qp_model.specs.Acts.{Config, Actor, Moment, Later, DoesCall, DoesDeed, DoesTask, Does}
-use Rattle.qp_model.specs.Step.{Step, StepRest, Closes, moment}
+use Rattle.qp_model.specs.Step.{Step, StepBehind, Closes, moment}
 use Rattle.qp_model.specs.Course.{Starts, Steps, Course, at_start}
 use Rattle.qp_model.specs.Laws.{taken_entry, taken_in}
 use Rattle.qp_model.proofs.GroupLemmas.{bare-append, bare-tell, bare-pieces_of}
@@ -350,7 +350,7 @@ closes-none e (Some c) rel h = drops-none e rel h
 
 -- a step takes its entry
 step-takes : (sys : System) (a : Actor) (e : Entry) (c : Config) (ps : List Piece) (end : Option Config) → Step sys a e c ps end → taken_in (bare ps) ≡ e ∷ []
-unfolding Step StepRest bare taken_in TakesNone
+unfolding Step StepBehind bare taken_in TakesNone
 step-takes sys a e c ps end (f, l, m, ev, rest, is, (body, rel, mid, does, closes, parts, at)) =
     let quiet : TakesNone (bare rest) =
     none-along (bare rest) (bare body ++ rel) (ap bare parts ∙ bare-append body (tell rel) ∙ ap (λ u. bare body ++ u) (bare-tell rel))

@@ -16,16 +16,16 @@ use Rattle.qp_model.specs.Shapes.{ticks_fit}
 use Rattle.qp_model.specs.Deferral.{kept_after}
 use Rattle.qp_model.specs.Pieces.{Piece, bare}
 use Rattle.qp_model.specs.Acts.{Actor, Config, names_of, Moment, Does}
-use Rattle.qp_model.specs.Step.{StepRest, moment}
+use Rattle.qp_model.specs.Step.{StepBehind, moment}
 use Rattle.qp_model.specs.Course.{Cut, Whole, Follows, FollowsTo, actor, at_start, chart_at}
 use Rattle.qp_model.specs.ObjectShape.{HasShape, asserts_last, asserts_none}
 use Rattle.qp_model.specs.StepNotes.{notes_of, notes_in}
 
 -- a step that runs to completion leaves just the notes of its agenda, in order
 unfoldable pub StepsLeaveTheirNotes : Type 0
-unfolding StepRest bare notes_in notes_of step_plan
+unfolding StepBehind bare notes_in notes_of step_plan
 StepsLeaveTheirNotes =
-    (sys : System) (a : Actor) (ev : Event) (e : Entry) (c d : Config) (ps : List Piece) → StepRest sys a ev e c ps (Some d)
+    (sys : System) (a : Actor) (ev : Event) (e : Entry) (c d : Config) (ps : List Piece) → StepBehind sys a ev e c ps (Some d)
     → notes_in (bare ps) ≡ notes_of (step_plan a.chart c.leaf (names_of a c ev) ev.sig).tasks
 
 -- no record of an object stands behind its assertion

@@ -70,23 +70,23 @@ unfoldable pub above : System → ℕ → List ℕ
 above sys floor = reverse (map (λ d. d.priority) (filter (λ d. nat_lt floor d.priority) sys.objects))
 
 -- what may come next
-pub data Place : Type 0 where
+pub data Upcoming : Type 0 where
   -- a record of the running object, or a new row of looks
-  Inside : Place
+  Inside : Upcoming
   -- a `seen` of p, and then of the others in turn
-  Looking : (p : ℕ) (others : List ℕ) → Place
+  Looking : (p : ℕ) (others : List ℕ) → Upcoming
   -- the step of an object whose queue was seen with an entry
-  Found : (p : ℕ) → Place
+  Chosen : (p : ℕ) → Upcoming
   -- after `done` of p: its release, or the next look of the row
-  Ended : (p : ℕ) → Place
+  Ended : (p : ℕ) → Upcoming
   -- `rest` after a look at the base without an entry
-  Resting : Place
+  Resting : Upcoming
   -- the next look of the row, since a stimulus happened in the last one
-  Again : Place
+  Again : Upcoming
   -- no more, or in `qk` another row at the base
-  Over : Place
+  Over : Upcoming
   -- no more, since an object was at its budget or the lane has no room
-  Halted : Place
+  Halted : Upcoming
 
 -- how far lane 0 has been read
 pub record Reading : Type 0 where
@@ -94,7 +94,7 @@ pub record Reading : Type 0 where
   pub running : List ℕ
   pub ceiling : ℕ
   pub looks : ℕ
-  pub place : Place
+  pub place : Upcoming
   -- whether the row at the base has a step, and how many whole ones have none
   pub stepped : Bool
   pub idle : ℕ
@@ -125,7 +125,7 @@ look_next s k o _ = None
 -- `seen`, up to the first that shows an entry
 abbrev pub seen_next : Setting → Reading → ℕ → List ℕ → ℕ → Role → Option Reading
 seen_next s k p others o (Sees q f l m) =
-    if (o == 0) && (q == p) then Some (if nat_lt m (f + l) then record k { place = Found p } else looking_at s k others) else None
+    if (o == 0) && (q == p) then Some (if nat_lt m (f + l) then record k { place = Chosen p } else looking_at s k others) else None
 seen_next s k p others o _ = None
 
 -- a record of the running object p; `outer` are the steps that it interrupts
@@ -156,11 +156,11 @@ abbrev pub rest_next : Setting → Reading → ℕ → Role → Option Reading
 rest_next s k o (Rests n) = if (o == 0) && (n == k.looks) then Some (base_ended s k) else None
 rest_next s k o _ = None
 
-unfoldable pub place_next : Setting → Reading → ℕ → Role → Place → Option Reading
+unfoldable pub place_next : Setting → Reading → ℕ → Role → Upcoming → Option Reading
 unfolding ended_next inside_next look_next
 place_next s k o role Inside = inside_next s k k.running o role
 place_next s k o role (Looking p others) = seen_next s k p others o role
-place_next s k o role (Found p) = found_next k p o role
+place_next s k o role (Chosen p) = found_next k p o role
 place_next s k o role (Ended p) = ended_next s k p o role
 place_next s k o role Resting = rest_next s k o role
 place_next s k o role Again = look_next s k o role
@@ -214,7 +214,7 @@ unfolding lane_on unread
 lane_read s lane = lane_on s (unread s.sys) lane
 
 -- a whole lane: all objects have started, no step is under way, and in `sim` and `qv` its one row is over
-abbrev pub is_over : ℕ → Place → Bool
+abbrev pub is_over : ℕ → Upcoming → Bool
 is_over kernel Over = true
 is_over kernel Inside = kernel == qk
 is_over kernel _ = false

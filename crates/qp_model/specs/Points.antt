@@ -7,14 +7,14 @@ use Rattle.qp_model.specs.Record.{Item}
 use Rattle.qp_model.specs.Knowing.{Facts, told}
 use Rattle.qp_model.specs.Pieces.{Piece, Tell, Point}
 use Rattle.qp_model.specs.Ends.{is_turn_mark}
-use Rattle.qp_model.specs.KernelLane.{Setting, Reading, Place, Inside, lane_next, unread}
+use Rattle.qp_model.specs.KernelLane.{Setting, Reading, Upcoming, Inside, lane_next, unread}
 
 abbrev pub is_look : Body → Bool
 is_look (body.Look k floor) = true
 is_look _ = false
 
 -- a row of looks begins within a step of o
-abbrev pub begins_row : ℕ → Place → List ℕ → Bool → Bool
+abbrev pub begins_row : ℕ → Upcoming → List ℕ → Bool → Bool
 begins_row o Inside (p ∷ outer) looks = if looks then p == o else false
 begins_row o _ _ looks = false
 

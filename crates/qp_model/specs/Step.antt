@@ -28,17 +28,17 @@ abbrev pub moment : Event → Entry → Moment
 moment ev e = record { event = ev; entry = Some e }
 
 -- a step after its `took`: its agenda, and the release
-unfoldable pub StepRest : System → Actor → Event → Entry → Config → List Piece → Option Config → Type 0
+unfoldable pub StepBehind : System → Actor → Event → Entry → Config → List Piece → Option Config → Type 0
 unfolding Closes Does step_plan
-StepRest sys a ev e c ps end =
+StepBehind sys a ev e c ps end =
     (body : List Piece) × (rel : List Told) × (mid : Option Config)
     × Does sys a (moment ev e) (step_plan a.chart c.leaf (names_of a c ev) ev.sig).tasks c body mid × Closes e mid rel
     × (ps ≡ body ++ tell rel) × (end ≡ at_leaf (step_plan a.chart c.leaf (names_of a c ev) ev.sig).leaf mid)
 
 -- a step over an entry
 unfoldable pub Step : System → Actor → Entry → Config → List Piece → Option Config → Type 0
-unfolding StepRest
-Step sys a e c ps end = (f l m : ℕ) × (ev : Event) × (rest : List Piece) × (ps ≡ Tell (taken f l m e ev) ∷ rest) × StepRest sys a ev e c rest end
+unfolding StepBehind
+Step sys a e c ps end = (f l m : ℕ) × (ev : Event) × (rest : List Piece) × (ps ≡ Tell (taken f l m e ev) ∷ rest) × StepBehind sys a ev e c rest end
 
 -- a publication under way: its own entry, the ceiling to be restored, and the members for whom it raised it
 pub record Publishing : Type 0 where

@@ -47,5 +47,6 @@ pub const END: u8 = 21;
 
 /// The constants of this module are the numbers of `specs/Definitions`, here in their order.
 pub fn constants_are_the_table()
-    ensures { COURSE ∷ DRAWN_NUMBERS ∷ FREE_BLOCKS ∷ REFERENCES ∷ LIVES ∷ LINE ∷ SHOWN_NUMBERS ∷ SHAPES ∷ SUBSCRIBERS ∷ DEFERRAL ∷ TIME_EVENTS ∷ KERNEL_LANE ∷ SOURCES ∷ END ∷ [] ≡ definitions }
+    ensures { COURSE ∷ DRAWN_NUMBERS ∷ FREE_BLOCKS ∷ REFERENCES ∷ LIVES ∷ LINE ∷ SHOWN_NUMBERS ∷ SHAPES ∷ SUBSCRIBERS ∷ DEFERRAL ∷
+        TIME_EVENTS ∷ KERNEL_LANE ∷ SOURCES ∷ END ∷ [] ≡ definitions }
 {}

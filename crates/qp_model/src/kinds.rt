@@ -98,7 +98,9 @@ pub const REST: u8 = 46;
 
 /// The constants of this module are the numbers of the table of kinds (`specs/Kinds`).
 pub fn constants_are_the_table()
-    ensures { QP ∷ LANE ∷ END ∷ BEGIN ∷ TOOK ∷ NIL ∷ SEEN ∷ RUN ∷ NONE ∷ EXIT ∷ ENTER ∷ INIT ∷ SAY ∷ DONE ∷ NEW ∷ SHORT ∷ INC ∷ DEC ∷ BACK ∷ POST ∷ LIFO ∷ FULL ∷ PUB ∷ LOCK ∷ UNLOCK ∷ DEFER ∷ NODEFER ∷ RECALL ∷ NORECALL ∷ FLUSH ∷ SUB ∷ UNSUB ∷ SAME ∷ ARM ∷ DISARM ∷ REARM ∷ IDLE ∷ TICK ∷ FIRE ∷ STIM ∷ SETTLE ∷ ASSERT ∷ SPENT ∷ SPILL ∷ LOOK ∷ REST ∷ [] ≡ map (λ k. k.id) kinds }
+    ensures { QP ∷ LANE ∷ END ∷ BEGIN ∷ TOOK ∷ NIL ∷ SEEN ∷ RUN ∷ NONE ∷ EXIT ∷ ENTER ∷ INIT ∷ SAY ∷ DONE ∷ NEW ∷ SHORT ∷ INC ∷ DEC ∷ BACK ∷
+        POST ∷ LIFO ∷ FULL ∷ PUB ∷ LOCK ∷ UNLOCK ∷ DEFER ∷ NODEFER ∷ RECALL ∷ NORECALL ∷ FLUSH ∷ SUB ∷ UNSUB ∷ SAME ∷ ARM ∷ DISARM ∷ REARM ∷
+        IDLE ∷ TICK ∷ FIRE ∷ STIM ∷ SETTLE ∷ ASSERT ∷ SPENT ∷ SPILL ∷ LOOK ∷ REST ∷ [] ≡ map (λ k. k.id) kinds }
 {}
 
 /// What a record says is of its kind's sort: notes draw no number and show none.

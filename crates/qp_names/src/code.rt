@@ -36,5 +36,6 @@ pub const NO_POOL: u8 = 15;
 
 /// The constants of this module are the codes of `specs/Codes`.
 pub fn constants_are_the_table()
-    ensures { NOT_TOML ∷ WRONG_KIND ∷ MISSING ∷ UNKNOWN ∷ RANGE ∷ DOUBLE ∷ NO_SUCH_NAME ∷ BAD_TEXT ∷ WRONG_ARITY ∷ PARENT_LOOP ∷ TOO_DEEP ∷ INIT_NOT_BELOW ∷ TWO_ROWS ∷ TOO_MANY ∷ NO_POOL ∷ [] ≡ codes }
+    ensures { NOT_TOML ∷ WRONG_KIND ∷ MISSING ∷ UNKNOWN ∷ RANGE ∷ DOUBLE ∷ NO_SUCH_NAME ∷ BAD_TEXT ∷ WRONG_ARITY ∷ PARENT_LOOP ∷ TOO_DEEP ∷
+        INIT_NOT_BELOW ∷ TWO_ROWS ∷ TOO_MANY ∷ NO_POOL ∷ [] ≡ codes }
 {}

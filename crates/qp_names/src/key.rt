@@ -106,5 +106,6 @@ pub fn word(key: u8) -> &'static str
 
 /// The constants of this module are the numbers of the table of keys (`specs/Keys`).
 pub fn constants_are_the_table()
-    ensures { QP ∷ POOL ∷ SIGNAL ∷ CHART ∷ OBJECT ∷ SIZE ∷ BLOCKS ∷ NAME ∷ PARAMS ∷ STATIC ∷ INIT ∷ INIT_DO ∷ VARS ∷ TIMER ∷ STATE ∷ RATE ∷ PARENT ∷ ENTRY ∷ EXIT ∷ ROW ∷ ON ∷ WHEN ∷ DO ∷ TO ∷ PRIORITY ∷ QUEUE ∷ DEFER ∷ THRESHOLD ∷ [] ≡ map (λ key. key.0) keys }
+    ensures { QP ∷ POOL ∷ SIGNAL ∷ CHART ∷ OBJECT ∷ SIZE ∷ BLOCKS ∷ NAME ∷ PARAMS ∷ STATIC ∷ INIT ∷ INIT_DO ∷ VARS ∷ TIMER ∷ STATE ∷ RATE ∷
+        PARENT ∷ ENTRY ∷ EXIT ∷ ROW ∷ ON ∷ WHEN ∷ DO ∷ TO ∷ PRIORITY ∷ QUEUE ∷ DEFER ∷ THRESHOLD ∷ [] ≡ map (λ key. key.0) keys }
 {}

@@ -51,7 +51,8 @@ pub fn tables_of(alloc: Global, raw: &RawChart, names: &Names) -> Result<Tables,
 fn distinct_names(alloc: Global, raw: &RawChart) -> Result<(Places, Places), ChartFault>
     requires timers { length raw.now.timer ≤ 8 }
     requires states { length raw.now.state ≤ 64 }
-    ensures ok { IfOk result (λ tables. (doubles_fault raw.now ≡ None) × IsNumbering 1 (timer_names raw.now.timer) tables.0 × IsNumbering 1 (state_names raw.now.state) tables.1) }
+    ensures ok { IfOk result (λ tables. (doubles_fault raw.now ≡ None) × IsNumbering 1 (timer_names raw.now.timer) tables.0 × IsNumbering 1
+        (state_names raw.now.state) tables.1) }
     ensures fault { IfErr result (IsFault (doubles_fault raw.now)) }
 {
     let timers = names_of_timers(alloc, raw.timer.as_slice())?;

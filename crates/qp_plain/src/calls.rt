@@ -287,7 +287,9 @@ impl<'a> Ops for PlainWorld<'a> {
 
     fn leave_fresh(&mut self, _f: Fresh) {}
 
-    ghost within = { λ w. keeps-limit w.sys.now w.book.others.items w.book.order.items w.book.at w.book.here w.by (purses_of w.book) w.book.within };
+    ghost within = { λ w. keeps-limit w.sys.now w.book.others.items w.book.order.items w.book.at w.book.here w.by (purses_of w.book)
+        w.book.within };
 
-    ghost causes = { λ w. has-causes w.sys.now w.book.others.items w.book.order.items w.book.at w.book.here w.by (purses_of w.book) w.book.within };
+    ghost causes = { λ w. has-causes w.sys.now w.book.others.items w.book.order.items w.book.at w.book.here w.by (purses_of w.book)
+        w.book.within };
 }

@@ -24,6 +24,7 @@ pub struct PlainWorld<'a> {
     pub(crate) signals: Vec<SignalWord>,
     pub(crate) timers: Vec<TimerWord>,
     pub(crate) shelf: Shelf,
-    ghost holds: { WorldHolds sys.now (lists_of book) book.order.items pools.items blocks.items cells.items queues.items signals.items timers.items },
+    ghost holds: { WorldHolds sys.now (lists_of book) book.order.items pools.items blocks.items cells.items queues.items
+        signals.items timers.items },
     ghost stops: { StopIs stop (logs_of book) },
 }

@@ -32,7 +32,11 @@ impl Model for QueueWord {
     ghost use Rattle.std.specs.List.{list_all};
     ghost use Rattle.qp_plain_words.specs.Queue.{is_token};
 
-    ghost view = { λ w. record { line = record { entries = map entry_of w.entries.items; f = w.f; l = w.l; m = w.m }; ring = w.entries.capacity - 1 } };
+    ghost view = { λ w. record {
+      line = record { entries = map entry_of w.entries.items; f = w.f; l = w.l; m = w.m };
+      ring =
+          w.entries.capacity - 1;
+    } };
 
     ghost invariant = { λ w. (0 < w.entries.capacity) × (w.entries.capacity ≤ 256) × (list_all is_token w.entries.items ≡ true) };
 }

@@ -55,7 +55,7 @@ module _ (sys : System) (words : List ℕ) (views : List View) (holds : Holds sy
       → ((b y : ℕ) (d : Entry) → b ≢ a → many (is_place b y d) u.claims ≡ many (is_place b y d) v.claims)
       → ((y : ℕ) (d : Entry) → many (is_place a y d) u.takes + many (is_item 2 y d) items ≡ many (is_place a y d) v.takes + many (is_item 2 y d) is)
       → ((b y : ℕ) (d : Entry) → b ≢ a → many (is_place b y d) u.takes ≡ many (is_place b y d) v.takes)
-      → u.logs ≡ v.logs → u.rest ≡ v.rest → u.seen ≡ v.seen → u.fills ≡ v.fills → u.gives ≡ v.gives → u.fresh ≡ v.fresh → u.used ≡ v.used → u.hands ≡ v.hands → u.serves ≡ v.serves → u.contents ≡ v.contents → Serves now u → (length u.logs + length u.rest ≡ 0 → Idle u)
+      → u.logs ≡ v.logs → u.lane_numbers ≡ v.lane_numbers → u.seen ≡ v.seen → u.fills ≡ v.fills → u.gives ≡ v.gives → u.fresh ≡ v.fresh → u.used ≡ v.used → u.hands ≡ v.hands → u.serves ≡ v.serves → u.contents ≡ v.contents → Serves now u → (length u.logs + length u.lane_numbers ≡ 0 → Idle u)
       → Holds sys (set words (cell_at a j) x) (set views id u)
   cell-step j x is u inside_ring queue claims claims_else takes takes_else logs rest seen fills gives fresh used hands serves contents mine idle =
       let i = inside in let i0 = i.0 in let i1 = i.1 in

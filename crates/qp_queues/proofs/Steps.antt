@@ -18,7 +18,7 @@ use Rattle.qp_words.specs.Now.{Now, at, with_line, Leaves}
 use Rattle.qp_words.specs.Rule.{queue_at, cell_at, mark_in, is_lifo, is_took, lifo_on, took_on, is_ref, is_entry, InLine, Codable, entries_of, OnlyFirst, is_item, is_place, on_queue, is_serve, Queue, Holds}
 use Rattle.qp_words.specs.After.{rec_of, logged, InHand, HasRoom, place, claimed, put_first, took}
 use Rattle.qp_words.specs.declared.Log.{Log}
-use Rattle.qp_words.specs.declared.Place.{Place}
+use Rattle.qp_words.specs.declared.CellPlace.{CellPlace}
 use Rattle.qp_words.specs.declared.View.{View}
 use Rattle.qp_words.proofs.Counting.{total-at, many-snoc, cond-le}
 use Rattle.qp_words.proofs.Records.{post-leaves, lifo-leaves, took-leaves}
@@ -78,7 +78,7 @@ and-three : (a b c : Bool) → cond {A = ℕ} ((a && b) && c) 1 0 ≤ cond a 1 0
 and-three true b c = cond-le (b && c)
 and-three false b c = omega arith
 
-on-le : (a j : ℕ) (e : Entry) (x : Place) → b2n (is_place a j e x) ≤ b2n (on_queue a x)
+on-le : (a j : ℕ) (e : Entry) (x : CellPlace) → b2n (is_place a j e x) ≤ b2n (on_queue a x)
 on-le a j e x = and-three (eqb x.queue a) (eqb x.cell j) (is_entry e x.entry)
 
 many-sub : {A : Type 0} (p q : A → Bool) → ((x : A) → b2n (p x) ≤ b2n (q x)) → (xs : List A) → many p xs ≤ many q xs

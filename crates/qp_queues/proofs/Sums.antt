@@ -14,7 +14,7 @@ use Rattle.qp_words.specs.Now.{Now, at, with_line}
 use Rattle.qp_words.specs.Rule.{cell_at, is_lifo, is_took, records, Served, is_ref, is_entry, Tokens, InLine, Items, is_item, is_place, on_queue, is_serve, Queue, Serves, Queues}
 use Rattle.qp_words.specs.After.{spent, gained, place, bump}
 use Rattle.qp_words.specs.declared.Log.{Log}
-use Rattle.qp_words.specs.declared.Place.{Place}
+use Rattle.qp_words.specs.declared.CellPlace.{CellPlace}
 use Rattle.qp_words.specs.declared.Serve.{Serve}
 use Rattle.qp_words.specs.declared.View.{View}
 use Rattle.qp_words.proofs.Counting.{each-map, many-snoc, many-without}
@@ -68,7 +68,7 @@ gained-many p b k e hands pos = dite (ℕ_discrete e.pool 0)
     (λ n. rw (ne_eqb e.pool 0 n) (many-snoc (is_ref p b k) hands e))
 
 -- places and items
-pub place-is : (a j : ℕ) (e : Entry) (x : Place) → is_place a j e x ≡ true → (x.queue ≡ a) × (x.cell ≡ j) × (x.entry ≡ e)
+pub place-is : (a j : ℕ) (e : Entry) (x : CellPlace) → is_place a j e x ≡ true → (x.queue ≡ a) × (x.cell ≡ j) × (x.entry ≡ e)
 place-is a j e x h = let t = both-true (eqb x.queue a && eqb x.cell j) (is_entry e x.entry) h in let u = both-true (eqb x.queue a) (eqb x.cell j) t.0 in
     (eqb-true x.queue a u.0, eqb-true x.cell j u.1, entry-is e x.entry t.1)
 
@@ -89,7 +89,7 @@ pub stage-apart : (t s j j' : ℕ) (e d : Entry) → t ≢ s → is_item t j' d 
 stage-apart t s j j' e d n = λ x. (ne_eqb s t (λ z. n (sym z)) x && eqb j j') && is_entry d e
 
 -- a place is taken out of a view's list
-pub places-less : (a j : ℕ) (e : Entry) (xs : List Place) → 0 < many (is_place a j e) xs → (b j' : ℕ) (d : Entry) → many (is_place b j' d) (without (is_place a j e) xs) + b2n (is_place b j' d (place a j e 0)) ≡ many (is_place b j' d) xs
+pub places-less : (a j : ℕ) (e : Entry) (xs : List CellPlace) → 0 < many (is_place a j e) xs → (b j' : ℕ) (d : Entry) → many (is_place b j' d) (without (is_place a j e) xs) + b2n (is_place b j' d (place a j e 0)) ≡ many (is_place b j' d) xs
 places-less a j e xs own b j' d = many-without (is_place a j e) (is_place b j' d) (is_place b j' d (place a j e 0))
     (λ x h. let t = place-is a j e x h in λ i. (eqb (t.0 i) b && eqb (t.1 i) j') && is_entry d (t.2 i)) xs own
 

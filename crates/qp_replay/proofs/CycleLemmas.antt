@@ -6,14 +6,14 @@ use Rattle.std.proofs.lemmas.Bool.{cases_eq}
 use Rattle.std.proofs.lemmas.Bool.Decides.{nat_tests}
 use Rattle.std.proofs.lemmas.List.Elements.{Contains-append_right}
 use Rattle.qp_model.specs.declared.record.Rec.{Rec}
-use Rattle.qp_model.specs.Places.{Place, must_precede}
+use Rattle.qp_model.specs.Places.{RecordPlace, must_precede}
 use Rattle.qp_replay.specs.Orders.{IsCycle, closes, is_record}
-use Rattle.qp_replay.specs.Rest.{Blocks, HasNext, Standing, front, head}
-use Rattle.qp_replay.proofs.RestLemmas.{both, lane-of, record-test, true-and}
+use Rattle.qp_replay.specs.Remaining.{Blocks, HasNext, Standing, front, head}
+use Rattle.qp_replay.proofs.RemainingLemmas.{both, lane-of, record-test, true-and}
 use Rattle.qp_replay.proofs.OrderLemmas.{irreflexive, lane-first, same-place}
 
 -- each of these must stand before the next
-abbrev pub chained : List (List Rec) → List Place → Bool
+abbrev pub chained : List (List Rec) → List RecordPlace → Bool
 chained lanes [] = true
 chained lanes (x ∷ []) = true
 chained lanes (x ∷ y ∷ ys) = must_precede lanes x y && chained lanes (y ∷ ys)
@@ -25,7 +25,7 @@ unmet (true ∷ bs) = unmet bs
 unmet (false ∷ bs) = suc (unmet bs)
 
 -- The walk, its last place first, and the lane that it comes to.
-pub record Walked (st : Standing) (met : List Bool) (walk : List Place) (lane : ℕ) : Type 0 where
+pub record Walked (st : Standing) (met : List Bool) (walk : List RecordPlace) (lane : ℕ) : Type 0 where
   pub each : length met ≡ length st.lanes
   pub next : HasNext st lane
   pub seen : (k : ℕ) → get_or met k false ≡ true → Contains walk (head st k)
@@ -54,13 +54,13 @@ unmet-less [] lane within is = absurd (omega (arith, within))
 unmet-less (true ∷ bs) zero within is = absurd (cc is)
 unmet-less (false ∷ bs) zero within is = omega arith
 unmet-less (true ∷ bs) (suc k) within is = unmet-less bs k (omega (arith, within)) is
-unmet-less (false ∷ bs) (suc k) within is = let rest = unmet-less bs k (omega (arith, within)) is in omega (arith, rest)
+unmet-less (false ∷ bs) (suc k) within is = let remaining = unmet-less bs k (omega (arith, within)) is in omega (arith, remaining)
 
-module _ (st : Standing) (met : List Bool) (walk : List Place) (lane : ℕ) (walked : Walked st met walk lane) where
+module _ (st : Standing) (met : List Bool) (walk : List RecordPlace) (lane : ℕ) (walked : Walked st met walk lane) where
   pub met-lane : lane < length met
   met-lane = omega (arith, (lane-of st.lanes lane (front st lane) walked.next).0, walked.each)
 
-  module _ (b : Place) (blocks : Blocks st lane b) where
+  module _ (b : RecordPlace) (blocks : Blocks st lane b) where
     pub next-there : HasNext st b.lane
     next-there =
         let at = (lane-of st.lanes b.lane b.at blocks.waits.stands).1 in
@@ -68,7 +68,7 @@ module _ (st : Standing) (met : List Bool) (walk : List Place) (lane : ℕ) (wal
         let small : nat_lt (front st b.lane) (length (get_or st.lanes b.lane [])) ≡ true = grind (arith, nat_tests, at, behind) in
         record-test st.lanes b.lane (front st b.lane) ∙ small
 
-    seen-more : (more : List Place) → ((x : Place) → Contains (head st lane ∷ walk) x → Contains more x) → (k : ℕ) → get_or (set met lane true) k false ≡ true → Contains more (head st k)
+    seen-more : (more : List RecordPlace) → ((x : RecordPlace) → Contains (head st lane ∷ walk) x → Contains more x) → (k : ℕ) → get_or (set met lane true) k false ≡ true → Contains more (head st k)
     seen-more more keeps k is = ⊎_elim here there (cases_eq k lane)
       where
         here : k ≡ lane → Contains more (head st k)
@@ -101,28 +101,28 @@ module _ (st : Standing) (met : List Bool) (walk : List Place) (lane : ℕ) (wal
         }
 
 -- a front of a chain
-chain-front : (lanes : List (List Rec)) (x : Place) (xs : List Place) (n : ℕ) → IsTrue (chained lanes (x ∷ xs)) → IsTrue (chained lanes (x ∷ take n xs))
+chain-front : (lanes : List (List Rec)) (x : RecordPlace) (xs : List RecordPlace) (n : ℕ) → IsTrue (chained lanes (x ∷ xs)) → IsTrue (chained lanes (x ∷ take n xs))
 chain-front lanes x xs zero h = refl
 chain-front lanes x [] (suc n) h = refl
 chain-front lanes x (y ∷ ys) (suc n) h = let parts = both (must_precede lanes x y) (chained lanes (y ∷ ys)) h in true-and _ _ parts.0 (chain-front lanes y ys n parts.1)
 
-chain-rest : (lanes : List (List Rec)) (x : Place) (xs : List Place) → IsTrue (chained lanes (x ∷ xs)) → IsTrue (chained lanes xs)
-chain-rest lanes x [] h = refl
-chain-rest lanes x (y ∷ ys) h = (both (must_precede lanes x y) (chained lanes (y ∷ ys)) h).1
+chain-remaining : (lanes : List (List Rec)) (x : RecordPlace) (xs : List RecordPlace) → IsTrue (chained lanes (x ∷ xs)) → IsTrue (chained lanes xs)
+chain-remaining lanes x [] h = refl
+chain-remaining lanes x (y ∷ ys) h = (both (must_precede lanes x y) (chained lanes (y ∷ ys)) h).1
 
 -- a chain that ends with h closes where h must stand before this one
-closes-from : (lanes : List (List Rec)) (c h : Place) (xs : List Place) → IsTrue (chained lanes (xs ++ h ∷ [])) → IsTrue (must_precede lanes h c) → IsTrue (closes lanes c (xs ++ h ∷ []))
+closes-from : (lanes : List (List Rec)) (c h : RecordPlace) (xs : List RecordPlace) → IsTrue (chained lanes (xs ++ h ∷ [])) → IsTrue (must_precede lanes h c) → IsTrue (closes lanes c (xs ++ h ∷ []))
 closes-from lanes c h [] chain last = last
 closes-from lanes c h (x ∷ []) chain last = let parts = both (must_precede lanes x h) true chain in true-and _ _ parts.0 last
 closes-from lanes c h (x ∷ y ∷ ys) chain last = let parts = both (must_precede lanes x y) (chained lanes (y ∷ (ys ++ h ∷ []))) chain in true-and _ _ parts.0 (closes-from lanes c h (y ∷ ys) parts.1 last)
 
-stand-front : (P : Place → Type 0) (xs : List Place) (n : ℕ) → AllByRecursion P xs → AllByRecursion P (take n xs)
+stand-front : (P : RecordPlace → Type 0) (xs : List RecordPlace) (n : ℕ) → AllByRecursion P xs → AllByRecursion P (take n xs)
 stand-front P xs zero all = tt
 stand-front P [] (suc n) all = tt
 stand-front P (x ∷ xs) (suc n) all = (all.0, stand-front P xs n all.1)
 
 -- where the walk comes to a lane for the second time, it has gone round
-pub is-cycle : (lanes : List (List Rec)) (h : Place) (walk : List Place) (i : ℕ) → IsTrue (chained lanes (h ∷ walk)) → AllByRecursion (λ x. IsTrue (is_record lanes x)) walk → i < length walk → get_or walk i h ≡ h
+pub is-cycle : (lanes : List (List Rec)) (h : RecordPlace) (walk : List RecordPlace) (i : ℕ) → IsTrue (chained lanes (h ∷ walk)) → AllByRecursion (λ x. IsTrue (is_record lanes x)) walk → i < length walk → get_or walk i h ≡ h
     → IsCycle lanes (take (suc i) walk)
 is-cycle lanes h [] i chain stand within is = absurd (omega (arith, within))
 is-cycle lanes h (x ∷ xs) zero chain stand within is =

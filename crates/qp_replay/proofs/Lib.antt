@@ -3,6 +3,6 @@ pub mod CycleLemmas
 pub mod MarkLemmas
 pub mod NumberLemmas
 pub mod OrderLemmas
-pub mod RestLemmas
+pub mod RemainingLemmas
 pub mod SerialLemmas
 pub mod SizeLemmas

@@ -240,8 +240,8 @@ unfolding drawn
 raised w c [] all none = refl
 raised w c (k ∷ ks) all none =
     let parts = both_true (draws_above w c (touch k)) _ all in
-    let rest = split (drawn_as w c (touch k)) refl none in
-    true_both _ _ (one (touch k) parts.0 rest.0) (raised w c ks parts.1 rest.1)
+    let remaining = split (drawn_as w c (touch k)) refl none in
+    true_both _ _ (one (touch k) parts.0 remaining.0) (raised w c ks parts.1 remaining.1)
   where
     split : (b : Bool) → drawn_as w c (touch k) ≡ b → length (cond b (k ∷ filter (λ i. drawn_as w c (touch i)) ks) (filter (λ i. drawn_as w c (touch i)) ks)) ≡ 0 → (drawn_as w c (touch k) ≡ false) × (length (filter (λ i. drawn_as w c (touch i)) ks) ≡ 0)
     split true e h = absurd (omega (arith, h))

@@ -9,13 +9,13 @@ use Rattle.std.proofs.lemmas.List.Sorted.{IsPermutation-append_right, IsPermutat
 use Rattle.std.proofs.lemmas.Option.{get_or_from_slice_get, slice_get_within}
 use Rattle.qp_model.specs.declared.record.Rec.{Rec}
 use Rattle.qp_model.specs.History.{Touch, Draws, Shows, Neither, same_word}
-use Rattle.qp_model.specs.Places.{Place, item_at, must_precede, places, places_from, places_in, touch_at, touch_first}
+use Rattle.qp_model.specs.Places.{RecordPlace, item_at, must_precede, places, places_from, places_in, touch_at, touch_first}
 use Rattle.qp_replay.specs.Orders.{GoesNext, GoesOn, IsLowestOrder, IsReady, is_record}
-use Rattle.qp_replay.specs.Rest.{Blocks, HasNext, MayGo, Standing, front, head, place}
-use Rattle.qp_replay.proofs.RestLemmas.{lane-of, length-fronts, no-front, record-test}
+use Rattle.qp_replay.specs.Remaining.{Blocks, HasNext, MayGo, Standing, front, head, place}
+use Rattle.qp_replay.proofs.RemainingLemmas.{lane-of, length-fronts, no-front, record-test}
 
 -- the places of the records that stand in the order, lane by lane
-unfoldable pub taken : ℕ → List (List Rec) → List ℕ → List Place
+unfoldable pub taken : ℕ → List (List Rec) → List ℕ → List RecordPlace
 unfolding places_in
 taken lane [] fronts = []
 taken lane (l ∷ ls) [] = []
@@ -32,14 +32,14 @@ abbrev pub passed_on : Standing → ℕ → Standing
 passed_on st n = record { lanes = st.lanes; fronts = set st.fronts n (front st n + 1) }
 
 -- The order so far has just the records before the fronts, and keeps all that is asked of an order.
-pub record Kept (st : Standing) (order : List Place) : Type 0 where
+pub record Kept (st : Standing) (order : List RecordPlace) : Type 0 where
   pub each : length st.fronts ≡ length st.lanes
   pub all : IsPermutation (taken 0 st.lanes st.fronts) order
-  pub stand : (x : Place) → Contains order x → IsTrue (is_record st.lanes x) × (x.at < front st x.lane)
-  pub passed : (x : Place) → IsTrue (is_record st.lanes x) → x.at < front st x.lane → Contains order x
+  pub stand : (x : RecordPlace) → Contains order x → IsTrue (is_record st.lanes x) × (x.at < front st x.lane)
+  pub passed : (x : RecordPlace) → IsTrue (is_record st.lanes x) → x.at < front st x.lane → Contains order x
   pub lowest : GoesOn st.lanes [] order
-  pub closed : (x y : Place) → Contains order y → IsTrue (is_record st.lanes x) → IsTrue (must_precede st.lanes x y) → Contains order x
-  pub pairs : (i j : ℕ) (x y : Place) → slice_get order i ≡ Some x → slice_get order j ≡ Some y → IsTrue (must_precede st.lanes x y) → i < j
+  pub closed : (x y : RecordPlace) → Contains order y → IsTrue (is_record st.lanes x) → IsTrue (must_precede st.lanes x y) → Contains order x
+  pub pairs : (i j : ℕ) (x y : RecordPlace) → slice_get order i ≡ Some x → slice_get order j ≡ Some y → IsTrue (must_precede st.lanes x y) → i < j
 
 -- no record stands before itself
 touch-irreflexive : (t : Touch) → touch_first t t ≡ false
@@ -51,7 +51,7 @@ touch-irreflexive (Draws v m) = let no : nat_lt m m ≡ false = grind (arith, na
 touch-irreflexive (Shows v m) = refl
 touch-irreflexive Neither = refl
 
-pub irreflexive : (lanes : List (List Rec)) (x : Place) → must_precede lanes x x ≡ false
+pub irreflexive : (lanes : List (List Rec)) (x : RecordPlace) → must_precede lanes x x ≡ false
 unfolding must_precede
 irreflexive lanes x =
     let here : (x.lane == x.lane) ≡ true = grind (arith, nat_tests) in
@@ -59,27 +59,27 @@ irreflexive lanes x =
     rw (here, no) (touch-irreflexive (touch_at (item_at lanes x)))
 
 -- in one lane
-pub lane-first : (lanes : List (List Rec)) (x y : Place) → x.lane ≡ y.lane → x.at < y.at → IsTrue (must_precede lanes x y)
+pub lane-first : (lanes : List (List Rec)) (x y : RecordPlace) → x.lane ≡ y.lane → x.at < y.at → IsTrue (must_precede lanes x y)
 unfolding must_precede
 lane-first lanes x y same less =
     let here : (x.lane == y.lane) ≡ true = grind (arith, nat_tests) in
     let yes : nat_lt x.at y.at ≡ true = grind (arith, nat_tests) in
     rw (here, yes) refl
 
-pub same-place : (x y : Place) → x.lane ≡ y.lane → x.at ≡ y.at → x ≡ y
+pub same-place : (x y : RecordPlace) → x.lane ≡ y.lane → x.at ≡ y.at → x ≡ y
 same-place x y l a = λ i. record { lane = l i; at = a i }
 
 -- one place more
-slice-last : (order : List Place) (x a : Place) (i : ℕ) → slice_get (order ++ x ∷ []) i ≡ Some a → (slice_get order i ≡ Some a) ⊎ ((i ≡ length order) × (a ≡ x))
+slice-last : (order : List RecordPlace) (x a : RecordPlace) (i : ℕ) → slice_get (order ++ x ∷ []) i ≡ Some a → (slice_get order i ≡ Some a) ⊎ ((i ≡ length order) × (a ≡ x))
 slice-last [] x a zero h = inr (refl, cc)
 slice-last [] x a (suc i) h = absurd (cc h)
 slice-last (y ∷ ys) x a zero h = inl h
 slice-last (y ∷ ys) x a (suc i) h = ⊎_elim (λ s. inl s) (λ s. inr (ap suc s.0, s.1)) (slice-last ys x a i h)
 
-contains-at : (order : List Place) (i : ℕ) (x : Place) → slice_get order i ≡ Some x → Contains order x
+contains-at : (order : List RecordPlace) (i : ℕ) (x : RecordPlace) → slice_get order i ≡ Some x → Contains order x
 contains-at order i x h = (i, slice_get_within order i x h, get_or_from_slice_get order i x x h)
 
-goes-more : (lanes : List (List Rec)) (before xs : List Place) (x : Place) → GoesOn lanes before xs → GoesNext lanes (before ++ xs) x → GoesOn lanes before (xs ++ x ∷ [])
+goes-more : (lanes : List (List Rec)) (before xs : List RecordPlace) (x : RecordPlace) → GoesOn lanes before xs → GoesNext lanes (before ++ xs) x → GoesOn lanes before (xs ++ x ∷ [])
 goes-more lanes before [] x on next = (subst (λ l. GoesNext lanes l x) (append-nil before) next, tt)
 goes-more lanes before (y ∷ ys) x on next = (on.0, goes-more lanes (before ++ y ∷ []) ys x on.1 (subst (λ l. GoesNext lanes l x) (sym (append_assoc before (y ∷ []) ys)) next))
 
@@ -98,11 +98,11 @@ taken-more lane [] fronts n within less = absurd (omega (arith, less))
 taken-more lane (l ∷ ls) [] n within less = absurd (omega (arith, within))
 taken-more lane (l ∷ ls) (f ∷ fs) zero within less =
     let more : places_in lane 0 (take (f + 1) l) ≡ places_in lane 0 (take f l) ++ place lane f ∷ [] = rw add-one (places-more lane 0 l f less ∙ ap (λ k. places_in lane 0 (take f l) ++ place lane k ∷ []) (omega arith)) in
-    let rest = taken (suc lane) ls fs in
+    let remaining = taken (suc lane) ls fs in
     let P = places_in lane 0 (take f l) in
-    let whole : P ++ (place lane f ∷ rest) ≡ places_in lane 0 (take (f + 1) l) ++ rest = sym (ap (λ (z : List Place). z ++ rest) more ∙ append_assoc P (place lane f ∷ []) rest) in
+    let whole : P ++ (place lane f ∷ remaining) ≡ places_in lane 0 (take (f + 1) l) ++ remaining = sym (ap (λ (z : List RecordPlace). z ++ remaining) more ∙ append_assoc P (place lane f ∷ []) remaining) in
     let at : lane ≡ lane + 0 = omega arith in
-    subst (λ (z : List Place). IsPermutation z (place (lane + 0) f ∷ (P ++ rest))) whole (subst (λ k. IsPermutation (P ++ (place lane f ∷ rest)) (place k f ∷ (P ++ rest))) at (IsPermutation-middle P (place lane f) rest))
+    subst (λ (z : List RecordPlace). IsPermutation z (place (lane + 0) f ∷ (P ++ remaining))) whole (subst (λ k. IsPermutation (P ++ (place lane f ∷ remaining)) (place k f ∷ (P ++ remaining))) at (IsPermutation-middle P (place lane f) remaining))
 taken-more lane (l ∷ ls) (f ∷ fs) (suc n) within less =
     let k = get_or fs n 0 in
     let P = places_in lane 0 (take f l) in
@@ -117,7 +117,7 @@ unfolding left
 left-less [] fronts n within less = absurd (omega (arith, less))
 left-less (l ∷ ls) [] n within less = absurd (omega (arith, within))
 left-less (l ∷ ls) (f ∷ fs) zero within less = omega (arith, less)
-left-less (l ∷ ls) (f ∷ fs) (suc n) within less = let rest = left-less ls fs n (omega (arith, within)) less in omega (arith, rest)
+left-less (l ∷ ls) (f ∷ fs) (suc n) within less = let remaining = left-less ls fs n (omega (arith, within)) less in omega (arith, remaining)
 
 -- at first nothing is taken, and in the end all
 pub taken-none : (lane : ℕ) (lanes : List (List Rec)) (size : ℕ) → taken lane lanes (replicate size 0) ≡ []
@@ -145,7 +145,7 @@ nothing-kept lanes = record {
   pairs = λ i j x y a b first. absurd (cc a);
 }
 
-module _ (st : Standing) (order : List Place) (n : ℕ) (kept : Kept st order) (go : MayGo st n) (lowest : (k : ℕ) → k < n → MayGo st k → ⊥) where
+module _ (st : Standing) (order : List RecordPlace) (n : ℕ) (kept : Kept st order) (go : MayGo st n) (lowest : (k : ℕ) → k < n → MayGo st k → ⊥) where
   within : (n < length st.lanes) × (front st n < length (get_or st.lanes n []))
   within = lane-of st.lanes n (front st n) go.next
 
@@ -164,7 +164,7 @@ module _ (st : Standing) (order : List Place) (n : ℕ) (kept : Kept st order) (
   ready : IsReady st.lanes order (head st n)
   ready x is first = ⊎_elim (λ less. kept.passed x is less) (λ le. absurd (go.free x (record { waits = record { stands = is; behind = le }; first = first }))) (cases_lt x.at (front st x.lane))
 
-  no-lower : (y : Place) → y.lane < n → IsTrue (is_record st.lanes y) → (Contains order y → ⊥) → IsReady st.lanes order y → ⊥
+  no-lower : (y : RecordPlace) → y.lane < n → IsTrue (is_record st.lanes y) → (Contains order y → ⊥) → IsReady st.lanes order y → ⊥
   no-lower y less is new before = lowest y.lane less (record { next = next; free = free })
     where
       behind : front st y.lane ≤ y.at
@@ -176,7 +176,7 @@ module _ (st : Standing) (order : List Place) (n : ℕ) (kept : Kept st order) (
           let small : nat_lt (front st y.lane) (length (get_or st.lanes y.lane [])) ≡ true = grind (arith, nat_tests, at, behind) in
           record-test st.lanes y.lane (front st y.lane) ∙ small
 
-      free : (x : Place) → Blocks st y.lane x → ⊥
+      free : (x : RecordPlace) → Blocks st y.lane x → ⊥
       free x b = ⊎_elim same apart (cases_eq (front st y.lane) y.at)
         where
           old : Contains order x → ⊥
@@ -194,7 +194,7 @@ module _ (st : Standing) (order : List Place) (n : ℕ) (kept : Kept st order) (
   goes-next : GoesNext st.lanes order (head st n)
   goes-next = record { stands = go.next; fresh = fresh; ready = ready; lowest = no-lower }
 
-  stand-more : (x : Place) → Contains (order ++ head st n ∷ []) x → IsTrue (is_record st.lanes x) × (x.at < front (passed_on st n) x.lane)
+  stand-more : (x : RecordPlace) → Contains (order ++ head st n ∷ []) x → IsTrue (is_record st.lanes x) × (x.at < front (passed_on st n) x.lane)
   stand-more x h = ⊎_elim old new (Contains-push_cases order (head st n) x h)
     where
       old : Contains order x → IsTrue (is_record st.lanes x) × (x.at < front (passed_on st n) x.lane)
@@ -209,7 +209,7 @@ module _ (st : Standing) (order : List Place) (n : ℕ) (kept : Kept st order) (
       new : head st n ≡ x → IsTrue (is_record st.lanes x) × (x.at < front (passed_on st n) x.lane)
       new e = subst (λ z. IsTrue (is_record st.lanes z) × (z.at < front (passed_on st n) z.lane)) e (go.next, let up = front-here in omega (arith, up))
 
-  passed-more : (x : Place) → IsTrue (is_record st.lanes x) → x.at < front (passed_on st n) x.lane → Contains (order ++ head st n ∷ []) x
+  passed-more : (x : RecordPlace) → IsTrue (is_record st.lanes x) → x.at < front (passed_on st n) x.lane → Contains (order ++ head st n ∷ []) x
   passed-more x is less = ⊎_elim here there (cases_eq x.lane n)
     where
       there : (x.lane ≡ n → ⊥) → Contains (order ++ head st n ∷ []) x
@@ -222,12 +222,12 @@ module _ (st : Standing) (order : List Place) (n : ℕ) (kept : Kept st order) (
           (λ le. let at : front st n ≡ x.at = subst (λ k. front st k ≡ x.at) e (omega (arith, le, less, up)) in subst (Contains (order ++ head st n ∷ [])) (same-place (head st n) x (sym e) at) (Contains-push order (head st n)))
           (cases_lt x.at (front st x.lane))
 
-  closed-more : (x y : Place) → Contains (order ++ head st n ∷ []) y → IsTrue (is_record st.lanes x) → IsTrue (must_precede st.lanes x y) → Contains (order ++ head st n ∷ []) x
+  closed-more : (x y : RecordPlace) → Contains (order ++ head st n ∷ []) y → IsTrue (is_record st.lanes x) → IsTrue (must_precede st.lanes x y) → Contains (order ++ head st n ∷ []) x
   closed-more x y h is first =
       Contains-append_left order (head st n ∷ []) x
       (⊎_elim (λ old. kept.closed x y old is first) (λ e. ready x is (subst (λ z. IsTrue (must_precede st.lanes x z)) (sym e) first)) (Contains-push_cases order (head st n) y h))
 
-  pairs-more : (i j : ℕ) (x y : Place) → slice_get (order ++ head st n ∷ []) i ≡ Some x → slice_get (order ++ head st n ∷ []) j ≡ Some y → IsTrue (must_precede st.lanes x y) → i < j
+  pairs-more : (i j : ℕ) (x y : RecordPlace) → slice_get (order ++ head st n ∷ []) i ≡ Some x → slice_get (order ++ head st n ∷ []) j ≡ Some y → IsTrue (must_precede st.lanes x y) → i < j
   pairs-more i j x y a b first = ⊎_elim (λ old. ⊎_elim (both old) (last old) (slice-last order (head st n) y j b)) (λ new. ⊎_elim (before new) (twice new) (slice-last order (head st n) y j b)) (slice-last order (head st n) x i a)
     where
       both : slice_get order i ≡ Some x → slice_get order j ≡ Some y → i < j
@@ -266,20 +266,20 @@ pub fewer : (st : Standing) (n : ℕ) → length st.fronts ≡ length st.lanes �
 fewer st n each next = let at = lane-of st.lanes n (front st n) next in left-less st.lanes st.fronts n (omega (arith, at.0, each)) at.1
 
 -- an order in which no lane has a record left
-module _ (st : Standing) (order : List Place) (kept : Kept st order) (none : (n : ℕ) → HasNext st n → ⊥) where
+module _ (st : Standing) (order : List RecordPlace) (kept : Kept st order) (none : (n : ℕ) → HasNext st n → ⊥) where
   at-end : (n : ℕ) → length (get_or st.lanes n []) ≤ front st n
   at-end n = ⊎_elim (λ less. absurd (none n (record-test st.lanes n (front st n) ∙ is-less (front st n) (length (get_or st.lanes n [])) less))) (λ le. le) (cases_lt (front st n) (length (get_or st.lanes n [])))
     where
       is-less : (a b : ℕ) → a < b → nat_lt a b ≡ true
       is-less a b less = grind (arith, nat_tests, less)
 
-  pub has-all : (x : Place) → IsTrue (is_record st.lanes x) → Contains order x
+  pub has-all : (x : RecordPlace) → IsTrue (is_record st.lanes x) → Contains order x
   has-all x is = let at = (lane-of st.lanes x.lane x.at is).1 in let end = at-end x.lane in kept.passed x is (omega (arith, at, end))
 
   pub is-order : IsLowestOrder st.lanes order
   unfolding places
   is-order = record {
-    all = subst (λ (z : List Place). IsPermutation z order) (taken-all 0 st.lanes st.fronts kept.each at-end) kept.all;
+    all = subst (λ (z : List RecordPlace). IsPermutation z order) (taken-all 0 st.lanes st.fronts kept.each at-end) kept.all;
     before = kept.pairs;
     lowest = kept.lowest;
   }

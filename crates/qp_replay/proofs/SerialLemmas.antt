@@ -14,7 +14,7 @@ use Rattle.qp_model.specs.declared.bodies.Body.{Body}
 use Rattle.qp_model.specs.Record.{Item, item_of}
 use Rattle.qp_model.specs.History.{Touch, Draws, Shows, Neither, touch, all_items, drawn_as, drawn_below, hist, is_numbered, lane_items, same_word, total}
 use Rattle.qp_model.specs.Machine.{Machine, after, is_shown, shown_by}
-use Rattle.qp_model.specs.Places.{Place, in_order, is_next, item_at, items_at, must_precede, places, places_from, places_in, touch_at, touch_first}
+use Rattle.qp_model.specs.Places.{RecordPlace, in_order, is_next, item_at, items_at, must_precede, places, places_from, places_in, touch_at, touch_first}
 use Rattle.qp_model.specs.WordLaw.{Keeps, Words}
 use Rattle.qp_model.proofs.ListLemmas.{all_below_at, both_true, filter-none, true_both}
 use Rattle.qp_model.proofs.HistoryLemmas.{length-hist}
@@ -22,7 +22,7 @@ use Rattle.qp_replay.specs.Laws.{NamedOrdersAreSerial}
 use Rattle.qp_replay.specs.Numbers.{has_word, is_next_where, is_on, numbers_stand}
 use Rattle.qp_replay.specs.Orders.{IsLowestOrder}
 use Rattle.qp_replay.specs.Replaying.{IsAnswer, IsReplay}
-use Rattle.qp_replay.specs.Rest.{place}
+use Rattle.qp_replay.specs.Remaining.{place}
 use Rattle.qp_replay.specs.declared.places.Replayed.{Replayed}
 use Rattle.qp_replay.specs.declared.places.Replayed.TheVariants.{Order, Cycle}
 use Rattle.qp_replay.proofs.NumberLemmas.{Inv, all-numbered, drawn, draws_above, is_sorted, list_all-two, marks_to, none_first}
@@ -61,7 +61,7 @@ hit : (Item → Bool) → Option Item → ℕ
 hit p None = 0
 hit p (Some i) = cond (p i) 1 0
 
-count-at : (lanes : List (List Rec)) (p : Item → Bool) (xs : List Place) → length (filter p (items_at lanes xs)) ≡ sum_by (λ x. hit p (item_at lanes x)) xs
+count-at : (lanes : List (List Rec)) (p : Item → Bool) (xs : List RecordPlace) → length (filter p (items_at lanes xs)) ≡ sum_by (λ x. hit p (item_at lanes x)) xs
 unfolding items_at hit
 count-at lanes p [] = refl
 count-at lanes p (x ∷ xs) = go (item_at lanes x) ∙ ap (λ n. hit p (item_at lanes x) + n) (count-at lanes p xs) ∙ sym (sum_by-cons (λ x. hit p (item_at lanes x)) x xs)
@@ -80,10 +80,10 @@ none-fails q [] none = refl
 none-fails q (i ∷ is) none = go (q i) refl none (λ e. none-fails q is e)
   where
     go : (b : Bool) → q i ≡ b → length (cond (not b) (i ∷ filter (λ i. not (q i)) is) (filter (λ i. not (q i)) is)) ≡ 0 → (length (filter (λ i. not (q i)) is) ≡ 0 → list_all q is ≡ true) → (q i && list_all q is) ≡ true
-    go true e none rest = true_both _ _ e (rest none)
-    go false e none rest = absurd (omega (arith, none))
+    go true e none remaining = true_both _ _ e (remaining none)
+    go false e none remaining = absurd (omega (arith, none))
 
-module _ (lanes : List (List Rec)) (order : List Place) (all : IsPermutation (places lanes) order) where
+module _ (lanes : List (List Rec)) (order : List RecordPlace) (all : IsPermutation (places lanes) order) where
   pub same-count : (p : Item → Bool) → length (filter p (items_at lanes order)) ≡ length (filter p (all_items lanes))
   unfolding places
   same-count p = count-at lanes p order ∙ sum_by-IsPermutation (λ x. hit p (item_at lanes x)) (places lanes) order all ∙ sym (count-at lanes p (places lanes)) ∙ ap (λ is. length (filter p is)) (items-places lanes)
@@ -92,7 +92,7 @@ module _ (lanes : List (List Rec)) (order : List Place) (all : IsPermutation (pl
   all-of q h = none-fails q (items_at lanes order) (same-count (λ i. not (q i)) ∙ ap length (filter-none (λ i. not (q i)) q (all_items lanes) (λ i e. ap not e) h))
 
 -- the records of an order don't stand before those behind which they must stand
-not-first : (lanes : List (List Rec)) (x y : Place) → (IsTrue (must_precede lanes x y) → ⊥) → touch_first (touch_at (item_at lanes x)) (touch_at (item_at lanes y)) ≡ false
+not-first : (lanes : List (List Rec)) (x y : RecordPlace) → (IsTrue (must_precede lanes x y) → ⊥) → touch_first (touch_at (item_at lanes x)) (touch_at (item_at lanes y)) ≡ false
 unfolding must_precede
 not-first lanes x y never = go ((x.lane == y.lane) && nat_lt x.at y.at) (touch_first (touch_at (item_at lanes x)) (touch_at (item_at lanes y))) never
   where
@@ -101,30 +101,30 @@ not-first lanes x y never = go ((x.lane == y.lane) && nat_lt x.at y.at) (touch_f
     go true true never = absurd (never refl)
     go false true never = absurd (never refl)
 
-none-behind : (lanes : List (List Rec)) (t : Touch) (ys : List Place) → ((j : ℕ) (y : Place) → slice_get ys j ≡ Some y → touch_first (touch_at (item_at lanes y)) t ≡ false) → none_first t (items_at lanes ys) ≡ true
+none-behind : (lanes : List (List Rec)) (t : Touch) (ys : List RecordPlace) → ((j : ℕ) (y : RecordPlace) → slice_get ys j ≡ Some y → touch_first (touch_at (item_at lanes y)) t ≡ false) → none_first t (items_at lanes ys) ≡ true
 unfolding items_at
 none-behind lanes t [] each = refl
 none-behind lanes t (y ∷ ys) each = go (item_at lanes y) (each 0 y refl) (none-behind lanes t ys (λ j z at. each (suc j) z at))
   where
     go : (o : Option Item) → touch_first (touch_at o) t ≡ false → none_first t (items_at lanes ys) ≡ true → none_first t (cons_option o (items_at lanes ys)) ≡ true
-    go None h rest = rest
-    go (Some i) h rest = true_both _ _ (ap not h) rest
+    go None h remaining = remaining
+    go (Some i) h remaining = true_both _ _ (ap not h) remaining
 
-pub sorted-items : (lanes : List (List Rec)) (xs : List Place) → ((i j : ℕ) (x y : Place) → slice_get xs i ≡ Some x → slice_get xs j ≡ Some y → IsTrue (must_precede lanes x y) → i < j) → is_sorted (items_at lanes xs) ≡ true
+pub sorted-items : (lanes : List (List Rec)) (xs : List RecordPlace) → ((i j : ℕ) (x y : RecordPlace) → slice_get xs i ≡ Some x → slice_get xs j ≡ Some y → IsTrue (must_precede lanes x y) → i < j) → is_sorted (items_at lanes xs) ≡ true
 unfolding items_at
 sorted-items lanes [] pairs = refl
 sorted-items lanes (x ∷ xs) pairs =
     go (item_at lanes x) refl (sorted-items lanes xs (λ i j a b at bt first. let less = pairs (suc i) (suc j) a b at bt first in omega (arith, less)))
   where
     go : (o : Option Item) → item_at lanes x ≡ o → is_sorted (items_at lanes xs) ≡ true → is_sorted (cons_option o (items_at lanes xs)) ≡ true
-    go None is rest = rest
-    go (Some i) is rest =
+    go None is remaining = remaining
+    go (Some i) is remaining =
         true_both _ _
         (none-behind lanes (touch i) xs (λ j y at. ap (λ o. touch_first (touch_at (item_at lanes y)) (touch_at o)) (sym is) ∙ not-first lanes y x (λ first. let less = pairs (suc j) 0 y x at refl first in omega (arith, less))))
-        rest
+        remaining
 
 -- what the law of words says of one word's numbers
-numbered-inv : {S : Type 0} (m : Machine S) (w : Word) (lanes : List (List Rec)) (order : List Place) → IsPermutation (places lanes) order → Keeps S m w lanes → Inv w (total w (all_items lanes)) [] (items_at lanes order)
+numbered-inv : {S : Type 0} (m : Machine S) (w : Word) (lanes : List (List Rec)) (order : List RecordPlace) → IsPermutation (places lanes) order → Keeps S m w lanes → Inv w (total w (all_items lanes)) [] (items_at lanes order)
 unfolding is_numbered is_shown shown_by total drawn
 numbered-inv m w lanes order all keeps =
     let items = all_items lanes in
@@ -169,7 +169,7 @@ numbered-inv m w lanes order all keeps =
     above Neither d = refl
 
 -- in an order of all records each record on a word of the system has its number, where the words keep their law
-pub numbers-hold : (sys : System) (lanes : List (List Rec)) (order : List Place) → Words sys lanes → IsLowestOrder lanes order → numbers_stand (has_word sys) [] (items_at lanes order) ≡ true
+pub numbers-hold : (sys : System) (lanes : List (List Rec)) (order : List RecordPlace) → Words sys lanes → IsLowestOrder lanes order → numbers_stand (has_word sys) [] (items_at lanes order) ≡ true
 numbers-hold sys lanes order words is =
     all-numbered (has_word sys) (λ w. total w (all_items lanes)) [] (items_at lanes order) each (record { behind = nothing (items_at lanes order); sorted = sorted-items lanes order is.before })
   where

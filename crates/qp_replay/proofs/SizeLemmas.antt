@@ -15,7 +15,7 @@ use Rattle.qp_model.specs.End.{has_room}
 use Rattle.qp_model.specs.Lawful.{EndHolds, Lawful, lanes_before}
 use Rattle.qp_model.specs.Sound.{IsSound}
 use Rattle.qp_model.proofs.ListLemmas.{both_true}
-use Rattle.qp_replay.specs.Rest.{IsSmall}
+use Rattle.qp_replay.specs.Remaining.{IsSmall}
 
 pub short-more : (ls : List (List Rec)) (l : List Rec) → AllByRecursion (λ l. length l < 2 ^ 32) ls → length l < 2 ^ 32 → AllByRecursion (λ l. length l < 2 ^ 32) (ls ++ l ∷ [])
 short-more [] l all short = (short, tt)
@@ -35,10 +35,10 @@ lane-long (i ∷ []) last = omega arith
 lane-long (i ∷ j ∷ is) last =
     let parts = both_true (not (is_end i.body)) (ends_last (j ∷ is)) last in
     let none : is_spill i.body ≡ false = no-spill (is_assert i.body) (is_spent i.body) (is_spill i.body) parts.0 in
-    let rest = lane-long (j ∷ is) parts.1 in
+    let remaining = lane-long (j ∷ is) parts.1 in
     let more : count_by (λ i. not (is_spill i.body)) (i ∷ j ∷ is) ≡ 1 + count_by (λ i. not (is_spill i.body)) (j ∷ is) =
     sum_by-cons (λ i. cond (not (is_spill i.body)) 1 0) i (j ∷ is) ∙ rw none refl in
-    omega (arith, rest, more)
+    omega (arith, remaining, more)
 
 lane-length : (l : List Rec) → length (lane_items l) ≡ length l
 unfolding lane_items

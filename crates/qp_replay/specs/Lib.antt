@@ -3,4 +3,4 @@ pub mod Numbers
 pub mod Orders
 pub mod Marks
 pub mod Replaying
-pub mod Rest
+pub mod Remaining

@@ -2,49 +2,49 @@
 use Rattle.std.specs.Prelude.{◌≡◌, ℕ, ◌<◌, ◌≤◌, Bool, false, ◌&&◌, List, [], ◌∷◌, ◌++◌, length, slice_get, IsTrue, is_some, IsPermutation, Contains, ⊤, Some}
 use Rattle.std.specs.List.{AllByRecursion}
 use Rattle.qp_model.specs.declared.record.Rec.{Rec}
-use Rattle.qp_model.specs.Places.{Place, item_at, must_precede, places}
+use Rattle.qp_model.specs.Places.{RecordPlace, item_at, must_precede, places}
 
 -- a record stands at the place
-unfoldable pub is_record : List (List Rec) → Place → Bool
+unfoldable pub is_record : List (List Rec) → RecordPlace → Bool
 unfolding item_at
 is_record lanes x = is_some (item_at lanes x)
 
 -- all records that must stand before y are among these
-abbrev pub IsReady : List (List Rec) → List Place → Place → Type 0
-IsReady lanes before y = (x : Place) → IsTrue (is_record lanes x) → IsTrue (must_precede lanes x y) → Contains before x
+abbrev pub IsReady : List (List Rec) → List RecordPlace → RecordPlace → Type 0
+IsReady lanes before y = (x : RecordPlace) → IsTrue (is_record lanes x) → IsTrue (must_precede lanes x y) → Contains before x
 
 -- Behind these stands x: a record that isn't among them, all that must stand before it is, and no record of a lower lane is so.
-pub record GoesNext (lanes : List (List Rec)) (before : List Place) (x : Place) : Type 0 where
+pub record GoesNext (lanes : List (List Rec)) (before : List RecordPlace) (x : RecordPlace) : Type 0 where
   pub stands : IsTrue (is_record lanes x)
   pub fresh : Contains before x → ⊥
   pub ready : IsReady lanes before x
-  pub lowest : (y : Place) → y.lane < x.lane → IsTrue (is_record lanes y) → (Contains before y → ⊥) → IsReady lanes before y → ⊥
+  pub lowest : (y : RecordPlace) → y.lane < x.lane → IsTrue (is_record lanes y) → (Contains before y → ⊥) → IsReady lanes before y → ⊥
 
 -- each of these places goes next behind those before it
-abbrev pub GoesOn : List (List Rec) → List Place → List Place → Type 0
+abbrev pub GoesOn : List (List Rec) → List RecordPlace → List RecordPlace → Type 0
 GoesOn lanes before [] = ⊤
 GoesOn lanes before (x ∷ xs) = GoesNext lanes before x × GoesOn lanes (before ++ x ∷ []) xs
 
 -- The order of all records, each once, in which each stands behind those that must stand before it, and each next one is from the
 -- lowest lane whose next record has all that must stand before it.
-pub record IsLowestOrder (lanes : List (List Rec)) (order : List Place) : Type 0 where
+pub record IsLowestOrder (lanes : List (List Rec)) (order : List RecordPlace) : Type 0 where
   pub all : IsPermutation (places lanes) order
-  pub before : (i j : ℕ) (x y : Place) → slice_get order i ≡ Some x → slice_get order j ≡ Some y → IsTrue (must_precede lanes x y) → i < j
+  pub before : (i j : ℕ) (x y : RecordPlace) → slice_get order i ≡ Some x → slice_get order j ≡ Some y → IsTrue (must_precede lanes x y) → i < j
   pub lowest : GoesOn lanes [] order
 
 -- each of these must stand before the next, and the last before this one
-abbrev pub closes : List (List Rec) → Place → List Place → Bool
+abbrev pub closes : List (List Rec) → RecordPlace → List RecordPlace → Bool
 closes lanes first [] = false
 closes lanes first (x ∷ []) = must_precede lanes x first
 closes lanes first (x ∷ y ∷ ys) = must_precede lanes x y && closes lanes first (y ∷ ys)
 
 -- each of these must stand before the next, and the last before the first
-abbrev pub goes_round : List (List Rec) → List Place → Bool
+abbrev pub goes_round : List (List Rec) → List RecordPlace → Bool
 goes_round lanes [] = false
 goes_round lanes (x ∷ xs) = closes lanes x (x ∷ xs)
 
 -- a cycle: at least two records, none of which can be the first of them
-pub record IsCycle (lanes : List (List Rec)) (cycle : List Place) : Type 0 where
+pub record IsCycle (lanes : List (List Rec)) (cycle : List RecordPlace) : Type 0 where
   pub long : 2 ≤ length cycle
   pub stand : AllByRecursion (λ x. IsTrue (is_record lanes x)) cycle
   pub round : IsTrue (goes_round lanes cycle)

@@ -2,7 +2,7 @@
 use Rattle.std.specs.Prelude.{List, [], IsTrue}
 use Rattle.qp_model.specs.declared.record.Rec.{Rec}
 use Rattle.qp_model.specs.declared.systems.System.{System}
-use Rattle.qp_model.specs.Places.{Place, items_at}
+use Rattle.qp_model.specs.Places.{RecordPlace, items_at}
 use Rattle.qp_replay.specs.Numbers.{has_word, numbers_stand}
 use Rattle.qp_replay.specs.Orders.{IsCycle, IsLowestOrder}
 use Rattle.qp_replay.specs.declared.places.Replayed.{Replayed}
@@ -10,7 +10,7 @@ use Rattle.qp_replay.specs.declared.places.Replayed.TheVariants.{Order, Cycle}
 
 -- an order, where there is no cycle, or a cycle
 abbrev pub IsAnswer : List (List Rec) → Replayed → Type 0
-IsAnswer lanes (Order order) = IsLowestOrder lanes order × ((cycle : List Place) → IsCycle lanes cycle → ⊥)
+IsAnswer lanes (Order order) = IsLowestOrder lanes order × ((cycle : List RecordPlace) → IsCycle lanes cycle → ⊥)
 IsAnswer lanes (Cycle cycle) = IsCycle lanes cycle
 
 -- The same, and in the order each number that is drawn on a word of the system or shown of it is the number of the word's operations

@@ -3,7 +3,7 @@
 
 // The marks of the records that don't stand in the order yet.
 mod marks;
-mod rest;
+mod remaining;
 
 // What a replay answers, and how it is found.
 mod cycle;

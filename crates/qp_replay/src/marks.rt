@@ -81,7 +81,8 @@ impl Marks {
 
     /// A record whose mark on the word is below this one.
     pub fn below(&self, key: (u64, u64, u64), mark: u128) -> Option<At>
-        ensures { MatchOption result ((e : ℕ × ℕ × ℕ) → has_mark self.now key e ≡ true → mark ≤ e.0) (λ x. (m : ℕ) × (m < mark) × (has_mark self.now key (m, x.lane, x.place) ≡ true)) }
+        ensures { MatchOption result ((e : ℕ × ℕ × ℕ) → has_mark self.now key e ≡ true → mark ≤ e.0)
+            (λ x. (m : ℕ) × (m < mark) × (has_mark self.now key (m, x.lane, x.place) ≡ true)) }
     {
         let (m, lane, place) = self.first(key)?;
         if m < mark {
@@ -93,7 +94,8 @@ impl Marks {
 
     /// A record whose mark on the word is at most this one.
     pub fn within(&self, key: (u64, u64, u64), mark: u128) -> Option<At>
-        ensures { MatchOption result ((e : ℕ × ℕ × ℕ) → has_mark self.now key e ≡ true → mark < e.0) (λ x. (m : ℕ) × (m ≤ mark) × (has_mark self.now key (m, x.lane, x.place) ≡ true)) }
+        ensures { MatchOption result ((e : ℕ × ℕ × ℕ) → has_mark self.now key e ≡ true → mark < e.0)
+            (λ x. (m : ℕ) × (m ≤ mark) × (has_mark self.now key (m, x.lane, x.place) ≡ true)) }
     {
         let (m, lane, place) = self.first(key)?;
         if m <= mark {

@@ -2,11 +2,11 @@
 
 ghost use Rattle.std.specs.Prelude.{IfOk, IsTrue};
 ghost use Rattle.qp_replay.specs.Replaying.{IsAnswer};
-ghost use Rattle.qp_replay.specs.Rest.{IsSmall};
+ghost use Rattle.qp_replay.specs.Remaining.{IsSmall};
 
 use crate::cycle::cycle;
 use crate::places::{Places, Replayed};
-use crate::rest::Rest;
+use crate::remaining::Remaining;
 use qp_model::Lanes;
 use std::alloc::{AllocError, Global};
 
@@ -31,14 +31,14 @@ pub fn ordered(alloc: Global, lanes: &Lanes) -> Result<Replayed, AllocError>
     requires { IsSmall lanes.now }
     ensures { IfOk result (λ r. IsAnswer lanes.now r) }
 {
-    let mut rest = Rest::of(alloc, lanes)?;
+    let mut remaining = Remaining::of(alloc, lanes)?;
     let mut order = Places::none(alloc);
-    'order: while let Some(lane) = rest.lowest() {
-        order.push(rest.head(lane))?;
-        rest.pass(lane);
+    'order: while let Some(lane) = remaining.lowest() {
+        order.push(remaining.head(lane))?;
+        remaining.pass(lane);
     }
-    match rest.unfinished() {
+    match remaining.unfinished() {
         None => Ok(Replayed::Order(order)),
-        Some(lane) => Ok(Replayed::Cycle(cycle(alloc, &rest, lane)?)),
+        Some(lane) => Ok(Replayed::Cycle(cycle(alloc, &remaining, lane)?)),
     }
 }

@@ -1,7 +1,7 @@
 //! Places in a list, and what a replay answers.
 
 ghost use Rattle.std.specs.Prelude.{◌≡◌, suc, ◌<◌, ◌++◌, ◌∷◌, [], length, get_or, take, Contains, OnOk};
-ghost use Rattle.qp_replay.specs.Rest.{place};
+ghost use Rattle.qp_replay.specs.Remaining.{place};
 
 use crate::marks::At;
 use std::alloc::{AllocError, Global};
@@ -15,10 +15,10 @@ pub struct Places {
 
 impl Model for Places {
     ghost use Rattle.std.specs.Prelude.{List, map};
-    ghost use Rattle.qp_model.specs.Places.{Place};
-    ghost use Rattle.qp_replay.specs.Rest.{place};
+    ghost use Rattle.qp_model.specs.Places.{RecordPlace};
+    ghost use Rattle.qp_replay.specs.Remaining.{place};
 
-    ghost Value = { List Place };
+    ghost Value = { List RecordPlace };
 
     ghost view = { λ p. map (λ x. place x.lane x.place) p.items.items };
 }

@@ -9,7 +9,7 @@ use Rattle.qp_model.specs.Calls.{Call, Answer, Granted, Refused, Flushed, AtQueu
 use Rattle.qp_model.specs.Shapes.{Fits, FitsAny, PostsNew, Publishes, NoBlockFor}
 use Rattle.qp_model.specs.Groups.{IsLast, Asserts, Stops, StopsInPublication}
 use Rattle.qp_model.specs.Course.{Cut, Whole, Stopped, Anywhere}
-use Rattle.qp_shapes.specs.declared.shape_stage.Stage.TheVariants as stage
+use Rattle.qp_shapes.specs.declared.shape_stage.PublishStage.TheVariants as stage
 use Rattle.qp_shapes.specs.ShapeUnit as unit
 use Rattle.qp_shapes.specs.ShapeUnit.{behind_unit}
 use Rattle.qp_shapes.specs.ShapeAssertion as asserted

@@ -7,8 +7,8 @@ use Rattle.qp_model.specs.declared.bodies.Body.{Body}
 use Rattle.qp_model.specs.declared.bodies.Body.TheVariants as item
 use Rattle.qp_model.specs.Record.{entry}
 use Rattle.qp_model.specs.Told.{Told, Known, plain, given}
-use Rattle.qp_shapes.specs.declared.shape_stage.Stage.{Stage}
-use Rattle.qp_shapes.specs.declared.shape_stage.Stage.TheVariants as stage
+use Rattle.qp_shapes.specs.declared.shape_stage.PublishStage.{PublishStage}
+use Rattle.qp_shapes.specs.declared.shape_stage.PublishStage.TheVariants as stage
 use Rattle.qp_shapes.specs.ShapeUnit.{behind_unit}
 use Rattle.qp_shapes.specs.ShapeAssertion.{behind_assertion}
 use Rattle.qp_shapes.specs.ShapePublication.{start_first, next, run}
@@ -28,7 +28,7 @@ end-run sys o true c (t ∷ ts) h = absurd (cc)
 end-run sys o false c (t ∷ ts) h = absurd (cc)
 
 -- two publications in front of one list are one, and end in one way
-pub run-same : (sys : System) (o : ℕ) (s : Stage) (b c : Bool) (g gs h hs : List Told) → run sys o g s ≡ Some (end_of b) → run sys o h s ≡ Some (end_of c) → g ++ gs ≡ h ++ hs
+pub run-same : (sys : System) (o : ℕ) (s : PublishStage) (b c : Bool) (g gs h hs : List Told) → run sys o g s ≡ Some (end_of b) → run sys o h s ≡ Some (end_of c) → g ++ gs ≡ h ++ hs
     → (gs ≡ hs) × (b ≡ c)
 unfolding run
 run-same sys o s b c [] gs h hs x y is =
@@ -104,7 +104,7 @@ run-apart sys o now true [] gs h = absurd (cc)
 run-apart sys o now false [] gs h = absurd (cc)
 run-apart sys o now b (t ∷ ts) gs h = let step = run-step sys o t ts stage.Start (end_of b) h in by step.0 (start-is sys o t step.0 step.1) step.2
   where
-    by : (x : Stage) → StartRecord sys o t x → run sys o ts x ≡ Some (end_of b) → (behind_unit sys o now (t ∷ (ts ++ gs)) ≡ None) × (behind_assertion sys o now (t ∷ (ts ++ gs)) ≡ None)
+    by : (x : PublishStage) → StartRecord sys o t x → run sys o ts x ≡ Some (end_of b) → (behind_unit sys o now (t ∷ (ts ++ gs)) ≡ None) × (behind_assertion sys o now (t ∷ (ts ++ gs)) ≡ None)
     by x (OfBlock p n k from sig free pars t_is above goes pooled x_is) h =
         subst (λ u. IsApart sys o now (u ∷ (ts ++ gs))) (sym t_is) (block-apart sys o now b p n k from sig free pars ts gs (subst (λ y. run sys o ts y ≡ Some (end_of b)) x_is h))
     by x (OfSet sig n set t_is fixed x_is) h = subst (λ u. IsApart sys o now (u ∷ (ts ++ gs))) (sym t_is) (shown-apart sys o now sig n set (ts ++ gs))

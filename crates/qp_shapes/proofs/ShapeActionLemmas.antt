@@ -15,8 +15,8 @@ use Rattle.qp_model.proofs.LineLemmas.{same_number}
 use Rattle.qp_shapes.specs.ShapeRelease.{Leaves}
 use Rattle.qp_shapes.specs.ShapeUnit.{IsUnit, goes_to, behind_entry, plain_first, given_first, behind_unit}
 use Rattle.qp_shapes.specs.ShapeAction.{IsWhole, OfUnit, OfPublication}
-use Rattle.qp_shapes.specs.declared.shape_stage.Stage.{Stage}
-use Rattle.qp_shapes.specs.declared.shape_stage.Stage.TheVariants as stage
+use Rattle.qp_shapes.specs.declared.shape_stage.PublishStage.{PublishStage}
+use Rattle.qp_shapes.specs.declared.shape_stage.PublishStage.TheVariants as stage
 use Rattle.qp_shapes.specs.ShapePublication.{next, run, behind_stage, is_whole, else_behind}
 use Rattle.qp_shapes.proofs.ShapeReleaseLemmas.{leaves}
 use Rattle.qp_shapes.proofs.ShapeWholeLemmas.{unit-whole}
@@ -26,12 +26,12 @@ use Rattle.qp_shapes.proofs.ShapeRunLemmas.{end_of}
 use Rattle.qp_shapes.proofs.ShapePublishLemmas.{answer_of, IsPublication, start-sound}
 use Rattle.qp_shapes.proofs.ShapeReadLemmas.{start-whole}
 
-whole-is : (s : Stage) → is_whole s ≡ true → s ≡ stage.Whole
+whole-is : (s : PublishStage) → is_whole s ≡ true → s ≡ stage.Whole
 whole-is stage.Whole h = refl
 whole-is s h = absurd (cc)
 
 -- what is read from a stage on is made whole
-pub stage-sound : (sys : System) (o : ℕ) (told : List Told) (s : Stage) (rest : List Told) → behind_stage sys o told s ≡ Some rest → (g : List Told) × (run sys o g s ≡ Some stage.Whole) × (told ≡ g ++ rest)
+pub stage-sound : (sys : System) (o : ℕ) (told : List Told) (s : PublishStage) (rest : List Told) → behind_stage sys o told s ≡ Some rest → (g : List Told) × (run sys o g s ≡ Some stage.Whole) × (told ≡ g ++ rest)
 unfolding behind_stage run
 stage-sound sys o [] s rest h = by (is_whole s) refl h
   where
@@ -40,24 +40,24 @@ stage-sound sys o [] s rest h = by (is_whole s) refl h
     by false is h = absurd (cc)
 stage-sound sys o (t ∷ ts) s rest h = by (is_whole s) refl h (λ x. stage-sound sys o ts x rest)
   where
-    on : (r : Option Stage) → next sys o s t.body t.known ≡ r → option_and_then (λ x. behind_stage sys o ts x) r ≡ Some rest
-        → ((x : Stage) → behind_stage sys o ts x ≡ Some rest → (g : List Told) × (run sys o g x ≡ Some stage.Whole) × (ts ≡ g ++ rest))
+    on : (r : Option PublishStage) → next sys o s t.body t.known ≡ r → option_and_then (λ x. behind_stage sys o ts x) r ≡ Some rest
+        → ((x : PublishStage) → behind_stage sys o ts x ≡ Some rest → (g : List Told) × (run sys o g x ≡ Some stage.Whole) × (ts ≡ g ++ rest))
         → (g : List Told) × (run sys o g s ≡ Some stage.Whole) × (t ∷ ts ≡ g ++ rest)
     on None is h behind = absurd (cc)
     on (Some x) is h behind = let found = behind x h in (t ∷ found.0, rw is found.1, ap (λ us. t ∷ us) found.2)
 
     by : (b : Bool) → is_whole s ≡ b → cond b (Some (t ∷ ts)) (option_and_then (λ x. behind_stage sys o ts x) (next sys o s t.body t.known)) ≡ Some rest
-        → ((x : Stage) → behind_stage sys o ts x ≡ Some rest → (g : List Told) × (run sys o g x ≡ Some stage.Whole) × (ts ≡ g ++ rest))
+        → ((x : PublishStage) → behind_stage sys o ts x ≡ Some rest → (g : List Told) × (run sys o g x ≡ Some stage.Whole) × (ts ≡ g ++ rest))
         → (g : List Told) × (run sys o g s ≡ Some stage.Whole) × (t ∷ ts ≡ g ++ rest)
     by true is h behind = ([], ap Some (whole-is s is), cc)
     by false is h behind = on (next sys o s t.body t.known) refl h behind
 
-goes-on : (sys : System) (o : ℕ) (t : Told) (s x : Stage) → next sys o s t.body t.known ≡ Some x → is_whole s ≡ false
+goes-on : (sys : System) (o : ℕ) (t : Told) (s x : PublishStage) → next sys o s t.body t.known ≡ Some x → is_whole s ≡ false
 unfolding next
 goes-on sys o t stage.Whole x h = absurd (cc)
 goes-on sys o t s x h = refl
 
-pub stage-whole : (sys : System) (o : ℕ) (g rest : List Told) (s : Stage) → run sys o g s ≡ Some stage.Whole → behind_stage sys o (g ++ rest) s ≡ Some rest
+pub stage-whole : (sys : System) (o : ℕ) (g rest : List Told) (s : PublishStage) → run sys o g s ≡ Some stage.Whole → behind_stage sys o (g ++ rest) s ≡ Some rest
 unfolding behind_stage run
 stage-whole sys o [] [] s h = let is : s ≡ stage.Whole = cc in rw is refl
 stage-whole sys o [] (t ∷ ts) s h = let is : s ≡ stage.Whole = cc in rw is refl
@@ -92,7 +92,7 @@ unfolding run next plain_first
 unit-none sys o now [] rest h = absurd (cc)
 unit-none sys o now (t ∷ ts) rest h = let step = run-step sys o t ts stage.Start stage.Whole h in by step.0 (start-is sys o t step.0 step.1) step.2
   where
-    by : (x : Stage) → StartRecord sys o t x → run sys o ts x ≡ Some stage.Whole → behind_unit sys o now (t ∷ (ts ++ rest)) ≡ None
+    by : (x : PublishStage) → StartRecord sys o t x → run sys o ts x ≡ Some stage.Whole → behind_unit sys o now (t ∷ (ts ++ rest)) ≡ None
     by x (OfSet sig n set t_is fixed x_is) h = rw t_is refl
     by x (OfBlock p n k from sig free pars t_is above goes pooled x_is) h =
         rw t_is (given-none sys o now p n k from sig free pars ts rest above goes pooled (subst (λ y. run sys o ts y ≡ Some stage.Whole) x_is h))

@@ -14,8 +14,8 @@ use Rattle.qp_model.proofs.LineLemmas.{same_number}
 use Rattle.qp_shapes.specs.declared.shape_stage.Ceiling.{Ceiling}
 use Rattle.qp_shapes.specs.declared.shape_stage.Ceiling.TheVariants as ceiling
 use Rattle.qp_shapes.specs.declared.shape_stage.Posting.{Posting}
-use Rattle.qp_shapes.specs.declared.shape_stage.Stage.{Stage}
-use Rattle.qp_shapes.specs.declared.shape_stage.Stage.TheVariants as stage
+use Rattle.qp_shapes.specs.declared.shape_stage.PublishStage.{PublishStage}
+use Rattle.qp_shapes.specs.declared.shape_stage.PublishStage.TheVariants as stage
 use Rattle.qp_shapes.specs.ShapePublication.{released, after_posts, next_post, published, made_next, posts_next, left_next, next, run}
 use Rattle.qp_shapes.proofs.ShapePostLemmas.{again-static, again-pooled}
 use Rattle.qp_shapes.proofs.ShapeSoundLemmas.{number}
@@ -25,11 +25,11 @@ use Rattle.qp_shapes.proofs.ShapePublishLemmas.{First, NoMember, Member, first-m
 use Rattle.qp_shapes.proofs.ShapeReadLemmas.{posted-next, dropped-next, one-cut, no_entry-next}
 
 -- some records come to an end from a stage on
-abbrev pub Completes : System → ℕ → Stage → Type 0
+abbrev pub Completes : System → ℕ → PublishStage → Type 0
 Completes sys o s = (back : List Told) × (b : Bool) × (run sys o back s ≡ Some (end_of b))
 
 -- one more record in front
-one-more : (sys : System) (o : ℕ) (t : Told) (s x : Stage) → next sys o s t.body t.known ≡ Some x → Completes sys o x → Completes sys o s
+one-more : (sys : System) (o : ℕ) (t : Told) (s x : PublishStage) → next sys o s t.body t.known ≡ Some x → Completes sys o x → Completes sys o s
 one-more sys o t s x is h = (t ∷ h.0, h.1, step-run sys o t h.0 s x (Some (end_of h.1)) is h.2)
 
 whole-ends : (sys : System) (o : ℕ) → Completes sys o stage.Whole
@@ -112,12 +112,12 @@ unfolding next
 referred-ends sys o p r =
     one-more sys o (plain (item.NoEntry p.to 0 0 0)) (stage.Referred p r) stage.Cut (no_entry-next sys p (entry p.entry.pool p.entry.block r) 0 0 0) (cut-ends sys o)
 
-post-ends : (sys : System) (o : ℕ) (p : Posting) (e : Entry) (t : Told) (x : Stage) → PostRecord sys p e t x → Completes sys o x
+post-ends : (sys : System) (o : ℕ) (p : Posting) (e : Entry) (t : Told) (x : PublishStage) → PostRecord sys p e t x → Completes sys o x
 post-ends sys o p e t x (OfPost f l m t_is room x_is) = subst (λ y. Completes sys o y) (sym x_is) (next_post-ends sys o p.entry p.set p.ceiling p.below)
 post-ends sys o p e t x (OfNoEntry f l m t_is x_is) = subst (λ y. Completes sys o y) (sym x_is) (cut-ends sys o)
 
 -- a stage behind a record comes to an end
-next-ends : (sys : System) (o : ℕ) (s : Stage) (t : Told) (x : Stage) → next sys o s t.body t.known ≡ Some x → Completes sys o x
+next-ends : (sys : System) (o : ℕ) (s : PublishStage) (t : Told) (x : PublishStage) → next sys o s t.body t.known ≡ Some x → Completes sys o x
 unfolding next posts_next
 next-ends sys o stage.Start t x h = by (start-is sys o t x h)
   where
@@ -149,18 +149,18 @@ next-ends sys o stage.Whole t x h = absurd (cc)
 next-ends sys o stage.Cut t x h = absurd (cc)
 
 -- and one behind more of them
-pub run-ends : (sys : System) (o : ℕ) (t : Told) (ts : List Told) (s x : Stage) → run sys o (t ∷ ts) s ≡ Some x → Completes sys o x
+pub run-ends : (sys : System) (o : ℕ) (t : Told) (ts : List Told) (s x : PublishStage) → run sys o (t ∷ ts) s ≡ Some x → Completes sys o x
 unfolding run
 run-ends sys o t [] s x h = let step = run-step sys o t [] s x h in let is : step.0 ≡ x = cc in subst (λ y. Completes sys o y) is (next-ends sys o s t step.0 step.1)
 run-ends sys o t (u ∷ us) s x h = let step = run-step sys o t (u ∷ us) s x h in run-ends sys o u us step.0 x step.2
 
 -- records one after another
-pub run-on : (sys : System) (o : ℕ) (g back : List Told) (s x : Stage) (r : Option Stage) → run sys o g s ≡ Some x → run sys o back x ≡ r → run sys o (g ++ back) s ≡ r
+pub run-on : (sys : System) (o : ℕ) (g back : List Told) (s x : PublishStage) (r : Option PublishStage) → run sys o g s ≡ Some x → run sys o back x ≡ r → run sys o (g ++ back) s ≡ r
 unfolding run
 run-on sys o [] back s x r h behind = let is : s ≡ x = cc in rw is behind
 run-on sys o (t ∷ ts) back s x r h behind = let step = run-step sys o t ts s x h in step-run sys o t (ts ++ back) s step.0 r step.1 (run-on sys o ts back step.0 x r step.2 behind)
 
-pub run-front : (sys : System) (o : ℕ) (g back : List Told) (s x : Stage) → run sys o (g ++ back) s ≡ Some x → (y : Stage) × (run sys o g s ≡ Some y)
+pub run-front : (sys : System) (o : ℕ) (g back : List Told) (s x : PublishStage) → run sys o (g ++ back) s ≡ Some x → (y : PublishStage) × (run sys o g s ≡ Some y)
 unfolding run
 run-front sys o [] back s x h = (s, refl)
 run-front sys o (t ∷ ts) back s x h =

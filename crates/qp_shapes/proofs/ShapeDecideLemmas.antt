@@ -16,8 +16,8 @@ use Rattle.qp_shapes.specs.ShapeRelease.{Leaves}
 use Rattle.qp_shapes.specs.ShapeUnit.{is_single}
 use Rattle.qp_shapes.specs.ShapeAssertion.{IsAsserted, Asserts, behind_assertion}
 use Rattle.qp_shapes.specs.ShapeAction.{IsCut, StopsInside}
-use Rattle.qp_shapes.specs.declared.shape_stage.Stage.{Stage}
-use Rattle.qp_shapes.specs.declared.shape_stage.Stage.TheVariants as stage
+use Rattle.qp_shapes.specs.declared.shape_stage.PublishStage.{PublishStage}
+use Rattle.qp_shapes.specs.declared.shape_stage.PublishStage.TheVariants as stage
 use Rattle.qp_shapes.specs.ShapePublication.{run, is_done, is_cut}
 use Rattle.qp_shapes.proofs.ShapePartLemmas.{first-used}
 use Rattle.qp_shapes.proofs.ShapeSoundLemmas.{both, either}
@@ -43,7 +43,7 @@ done-is None h = absurd (cc)
 done-is (Some []) h = refl
 done-is (Some (t ∷ ts)) h = absurd (cc)
 
-cut-is : (r : Option Stage) → is_cut r ≡ true → r ≡ Some stage.Cut
+cut-is : (r : Option PublishStage) → is_cut r ≡ true → r ≡ Some stage.Cut
 cut-is None h = absurd (cc)
 cut-is (Some stage.Cut) h = refl
 cut-is (Some s) h = absurd (cc)
@@ -129,7 +129,7 @@ pub read-front : (sys : System) (o : ℕ) (now : Option Entry) (t : Told) (ts : 
     → (sig : ℕ) × (pars : List ℕ) × (b : Bool) × (back : List Told) × FitsAny sys o now (call.Publish sig pars None) (answer_of b) ((t ∷ ts) ++ back)
 read-front sys o now t ts h = by (run sys o (t ∷ ts) stage.Start) refl h
   where
-    by : (r : Option Stage) → run sys o (t ∷ ts) stage.Start ≡ r → is_some r ≡ true
+    by : (r : Option PublishStage) → run sys o (t ∷ ts) stage.Start ≡ r → is_some r ≡ true
         → (sig : ℕ) × (pars : List ℕ) × (b : Bool) × (back : List Told) × FitsAny sys o now (call.Publish sig pars None) (answer_of b) ((t ∷ ts) ++ back)
     by None is h = absurd (cc)
     by (Some s) is h =
@@ -138,7 +138,7 @@ read-front sys o now t ts h = by (run sys o (t ∷ ts) stage.Start) refl h
         (publication.0, publication.1, end.1, end.0, fits-publication sys o now publication.0 publication.1 end.1 ((t ∷ ts) ++ end.0) publication.2)
 
 -- a front of what comes to an end is read
-pub front-read : (sys : System) (o : ℕ) (told back : List Told) (s : Stage) → run sys o (told ++ back) stage.Start ≡ Some s → is_some (run sys o told stage.Start) ≡ true
+pub front-read : (sys : System) (o : ℕ) (told back : List Told) (s : PublishStage) → run sys o (told ++ back) stage.Start ≡ Some s → is_some (run sys o told stage.Start) ≡ true
 front-read sys o told back s h = let front = run-front sys o told back stage.Start s h in ap is_some front.1
 
 stops-sound : (sys : System) (o : ℕ) (now : Option Entry) (told : List Told) → (ends_in_post told && is_some (run sys o told stage.Start)) ≡ true → StopsInside sys o now told
@@ -157,7 +157,7 @@ lone-front (t ∷ []) back u e other h = let same : t ≡ u = cc in cc
 lone-front (t ∷ v ∷ ts) back u e other h = cc
 
 stops-run : (sys : System) (o : ℕ) (now : Option Entry) (told back : List Told) (sig : ℕ) (pars : List ℕ) (reserve : Option ℕ) (answer : Answer)
-    → FitsAny sys o now (call.Publish sig pars reserve) answer (told ++ back) → ends_in_post told ≡ true → (s : Stage) × (run sys o (told ++ back) stage.Start ≡ Some s)
+    → FitsAny sys o now (call.Publish sig pars reserve) answer (told ++ back) → ends_in_post told ≡ true → (s : PublishStage) × (run sys o (told ++ back) stage.Start ≡ Some s)
 unfolding FitsAny Fits Publishes NoBlockFor
 stops-run sys o now told back sig pars reserve Granted fits ends = (stage.Whole, publication-run sys o now sig pars reserve true (told ++ back) fits)
 stops-run sys o now told back sig pars reserve AtQueue fits ends = (stage.Cut, publication-run sys o now sig pars reserve false (told ++ back) fits)

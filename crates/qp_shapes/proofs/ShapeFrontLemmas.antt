@@ -14,8 +14,8 @@ use Rattle.qp_model.proofs.LineLemmas.{same_number}
 use Rattle.qp_shapes.specs.ShapeRelease.{when, behind_release}
 use Rattle.qp_shapes.specs.ShapeUnit.{had_room, again_first, behind_again, new_first, behind_entry, reference_first, behind_new}
 use Rattle.qp_shapes.specs.ShapeAssertion.{no_entry_first, behind_no_entry, cut_first, behind_cut, new_cut_first, behind_new_cut}
-use Rattle.qp_shapes.specs.declared.shape_stage.Stage.{Stage}
-use Rattle.qp_shapes.specs.declared.shape_stage.Stage.TheVariants as stage
+use Rattle.qp_shapes.specs.declared.shape_stage.PublishStage.{PublishStage}
+use Rattle.qp_shapes.specs.declared.shape_stage.PublishStage.TheVariants as stage
 use Rattle.qp_shapes.specs.ShapePublication.{released, run, is_done}
 use Rattle.qp_shapes.specs.ShapeFront.{release_front, entry_front_first, entry_front, again_front_first, again_front, new_front_first, new_front}
 use Rattle.qp_shapes.proofs.ShapeReleaseLemmas.{when-passed, release-sound, release-whole}
@@ -72,11 +72,11 @@ release-front-sound sys o e ts h = by (run sys o ts (released e)) refl h
         let drops = drops-sound sys o e (ts ++ back) b is in
         (back, subst (λ us. behind_release e us ≡ Some []) (append-nil (ts ++ back)) (release-whole e (ts ++ back) [] drops.1))
 
-    by : (r : Option Stage) → run sys o ts (released e) ≡ r → is_some r ≡ true → (back : List Told) × (behind_release e (ts ++ back) ≡ Some [])
+    by : (r : Option PublishStage) → run sys o ts (released e) ≡ r → is_some r ≡ true → (back : List Told) × (behind_release e (ts ++ back) ≡ Some [])
     by None is h = absurd (cc)
     by (Some s) is h = let end = ends ts s is in all end.0 end.1 end.2
       where
-        ends : (us : List Told) (s : Stage) → run sys o us (released e) ≡ Some s → (back : List Told) × (b : Bool) × (run sys o (us ++ back) (released e) ≡ Some (end_of b))
+        ends : (us : List Told) (s : PublishStage) → run sys o us (released e) ≡ Some s → (back : List Told) × (b : Bool) × (run sys o (us ++ back) (released e) ≡ Some (end_of b))
         ends [] s is = released-ends sys o e
         ends (u ∷ us) s is =
             let end = run-ends sys o u us (released e) s is in

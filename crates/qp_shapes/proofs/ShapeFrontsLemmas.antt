@@ -13,8 +13,8 @@ use Rattle.qp_model.specs.Shapes.{Fits, FitsAny}
 use Rattle.qp_shapes.specs.ShapeUnit.{IsUnit, SaysValue, behind_unit}
 use Rattle.qp_shapes.specs.ShapeAssertion.{IsAsserted, behind_assertion}
 use Rattle.qp_shapes.specs.ShapeAction.{IsWhole, OfUnit, OfPublication, IsCut, IsFront}
-use Rattle.qp_shapes.specs.declared.shape_stage.Stage.{Stage}
-use Rattle.qp_shapes.specs.declared.shape_stage.Stage.TheVariants as stage
+use Rattle.qp_shapes.specs.declared.shape_stage.PublishStage.{PublishStage}
+use Rattle.qp_shapes.specs.declared.shape_stage.PublishStage.TheVariants as stage
 use Rattle.qp_shapes.specs.ShapePublication.{run}
 use Rattle.qp_shapes.specs.ShapeFront.{unit_front}
 use Rattle.qp_shapes.proofs.ShapeSoundLemmas.{either}
@@ -55,7 +55,7 @@ front-sound sys o now told h = by (either (is_some (run sys o told stage.Start))
 front-whole : (sys : System) (o : ℕ) (now : Option Entry) (told : List Told) → IsFront sys o now told → (is_some (run sys o told stage.Start) || unit_front sys o now told) ≡ true
 front-whole sys o now told h = by h.0 h.1
   where
-    read : (back : List Told) (s : Stage) → run sys o (told ++ back) stage.Start ≡ Some s → (is_some (run sys o told stage.Start) || unit_front sys o now told) ≡ true
+    read : (back : List Told) (s : PublishStage) → run sys o (told ++ back) stage.Start ≡ Some s → (is_some (run sys o told stage.Start) || unit_front sys o now told) ≡ true
     read back s is = or-left (is_some (run sys o told stage.Start)) (unit_front sys o now told) (front-read sys o told back s is)
 
     unit : (back : List Told) → (behind_unit sys o now (told ++ back) ≡ Some []) ⊎ (behind_assertion sys o now (told ++ back) ≡ Some []) → (is_some (run sys o told stage.Start) || unit_front sys o now told) ≡ true

@@ -2,7 +2,7 @@
 use Rattle.std.proofs.Common.{◌≡◌, ℕ, zero, suc, ◌+◌, ◌-◌, ◌/◌, ◌%◌, ◌^◌, ◌==◌, ◌<◌, ◌≤◌, true, false, refl, subst, arith}
 use Rattle.qp_model.specs.declared.bodies.Entry.{Entry}
 use Rattle.qp_shapes.specs.declared.shape_stage.Ceiling.{Ceiling}
-use Rattle.qp_shapes.specs.declared.shape_stage.Stage.TheVariants as stage
+use Rattle.qp_shapes.specs.declared.shape_stage.PublishStage.TheVariants as stage
 use Rattle.qp_shapes.specs.ShapePublication.{after_posts, next_post}
 
 pub next-here : (e : Entry) (set : ℕ) (c : Ceiling) (n : ℕ) → 0 < n → ((set / 2 ^ (n - 1)) % 2 == 1) ≡ true

@@ -12,8 +12,8 @@ use Rattle.qp_model.specs.Sites.{ring_of}
 use Rattle.qp_model.specs.Shapes.{MakesNew, MakesBlock, PostsToAll, PostsUpTo, raising, restoring, PublishesFirst, PublishesLast, Publishes}
 use Rattle.qp_shapes.specs.declared.shape_stage.Ceiling.{Ceiling}
 use Rattle.qp_shapes.specs.declared.shape_stage.Ceiling.TheVariants as ceiling
-use Rattle.qp_shapes.specs.declared.shape_stage.Stage.{Stage}
-use Rattle.qp_shapes.specs.declared.shape_stage.Stage.TheVariants as stage
+use Rattle.qp_shapes.specs.declared.shape_stage.PublishStage.{PublishStage}
+use Rattle.qp_shapes.specs.declared.shape_stage.PublishStage.TheVariants as stage
 use Rattle.qp_shapes.specs.ShapePublication.{after_posts, next_post, published, posts_next, next, run}
 use Rattle.qp_shapes.proofs.ShapePostLemmas.{new-static, new-block}
 use Rattle.qp_shapes.proofs.ShapePartLemmas.{goes-first}
@@ -159,7 +159,7 @@ start-sound sys o true [] h = absurd (cc)
 start-sound sys o false [] h = absurd (cc)
 start-sound sys o b (t ∷ ts) h = let step = run-step sys o t ts stage.Start (end_of b) h in by step.0 (start-is sys o t step.0 step.1) step.2
   where
-    by : (x : Stage) → StartRecord sys o t x → run sys o ts x ≡ Some (end_of b) → IsPublication sys o b (t ∷ ts)
+    by : (x : PublishStage) → StartRecord sys o t x → run sys o ts x ≡ Some (end_of b) → IsPublication sys o b (t ∷ ts)
     by x (OfBlock p n k from sig free pars t_is above goes pooled x_is) h =
         subst (λ u. IsPublication sys o b (u ∷ ts)) (sym t_is)
         (given-sound sys o p n k from sig free pars b ts

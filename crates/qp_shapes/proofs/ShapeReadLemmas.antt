@@ -17,8 +17,8 @@ use Rattle.qp_shapes.specs.ShapeUnit.{had_room}
 use Rattle.qp_shapes.specs.declared.shape_stage.Ceiling.{Ceiling}
 use Rattle.qp_shapes.specs.declared.shape_stage.Ceiling.TheVariants as ceiling
 use Rattle.qp_shapes.specs.declared.shape_stage.Posting.{Posting}
-use Rattle.qp_shapes.specs.declared.shape_stage.Stage.{Stage}
-use Rattle.qp_shapes.specs.declared.shape_stage.Stage.TheVariants as stage
+use Rattle.qp_shapes.specs.declared.shape_stage.PublishStage.{PublishStage}
+use Rattle.qp_shapes.specs.declared.shape_stage.PublishStage.TheVariants as stage
 use Rattle.qp_shapes.specs.ShapePublication.{released, after_posts, next_post, published, start_first, made_next, post_next, reference_next, posts_next, left_next, posted_next, dropped_next, next, run}
 use Rattle.qp_shapes.proofs.ShapePostLemmas.{new-cases, again-cases}
 use Rattle.qp_shapes.proofs.ShapePartLemmas.{same_entry-itself, first-goes}
@@ -72,7 +72,7 @@ pub reference-next : (p : Posting) (r : ℕ) → reference_next p (item.Inc p.en
 reference-next p r = rw (same_number p.entry.pool, same_number p.entry.block) refl
 
 -- behind the records that made its entry
-head-run : (sys : System) (o : ℕ) (p : Posting) (head : List Told) (e : Entry) (t : Told) (ts : List Told) (x : Stage) (r : Option Stage) → is_rising p.ceiling ≡ false
+head-run : (sys : System) (o : ℕ) (p : Posting) (head : List Told) (e : Entry) (t : Told) (ts : List Told) (x : PublishStage) (r : Option PublishStage) → is_rising p.ceiling ≡ false
     → ((p.entry.pool ≡ 0) × (head ≡ []) × (e ≡ p.entry))
     ⊎ ((nat_lt 0 p.entry.pool ≡ true) × ((name : ℕ) × (head ≡ plain (item.Inc p.entry.pool p.entry.block name) ∷ []) × (e ≡ entry p.entry.pool p.entry.block name)))
     → post_next sys p e t.body t.known ≡ Some x → run sys o ts x ≡ r → run sys o (head ++ (t ∷ ts)) (stage.Posts p) ≡ r
@@ -95,7 +95,7 @@ head-run sys o p head e t ts x r low (inr k) post behind =
     not_zero n h = grind (arith, nat_tests)
 
 -- a post, and a post that finds no entry
-one-whole : (sys : System) (o : ℕ) (p : Posting) (one rest : List Told) (r : Option Stage) → is_rising p.ceiling ≡ false → PostsOne (ring_of sys p.to) p.entry p.to Granted one
+one-whole : (sys : System) (o : ℕ) (p : Posting) (one rest : List Told) (r : Option PublishStage) → is_rising p.ceiling ≡ false → PostsOne (ring_of sys p.to) p.entry p.to Granted one
     → run sys o rest (next_post p.entry p.set p.ceiling p.below) ≡ r → run sys o (one ++ rest) (stage.Posts p) ≡ r
 unfolding PostsOne Posts had_room
 one-whole sys o p one rest r low h behind =

@@ -15,15 +15,15 @@ use Rattle.qp_shapes.specs.ShapeUnit.{had_room}
 use Rattle.qp_shapes.specs.declared.shape_stage.Ceiling.{Ceiling}
 use Rattle.qp_shapes.specs.declared.shape_stage.Ceiling.TheVariants as ceiling
 use Rattle.qp_shapes.specs.declared.shape_stage.Posting.{Posting}
-use Rattle.qp_shapes.specs.declared.shape_stage.Stage.{Stage}
-use Rattle.qp_shapes.specs.declared.shape_stage.Stage.TheVariants as stage
+use Rattle.qp_shapes.specs.declared.shape_stage.PublishStage.{PublishStage}
+use Rattle.qp_shapes.specs.declared.shape_stage.PublishStage.TheVariants as stage
 use Rattle.qp_shapes.specs.ShapePublication.{released, after_posts, next_post, post_next, reference_next, posts_next, left_next, next, run}
 use Rattle.qp_shapes.proofs.ShapePostLemmas.{again-static, again-pooled, none-drops}
 use Rattle.qp_shapes.proofs.ShapeSoundLemmas.{number}
 use Rattle.qp_shapes.proofs.ShapeStageLemmas.{run-step, raised-is, posted-is, dropped-is, reference-is, PostRecord, OfPost, OfNoEntry, post-is}
 
 -- how a publication ends: whole, or cut by assertion 1
-abbrev pub end_of : Bool → Stage
+abbrev pub end_of : Bool → PublishStage
 end_of true = stage.Whole
 end_of false = stage.Cut
 
@@ -119,7 +119,7 @@ data One (sys : System) (o : ℕ) (p : Posting) (b : Bool) (g : List Told) : Typ
   Goes : (one rest : List Told) → g ≡ one ++ rest → PostsOne (ring_of sys p.to) p.entry p.to Granted one → run sys o rest (next_post p.entry p.set p.ceiling p.below) ≡ Some (end_of b) → One sys o p b g
   Ends : b ≡ false → PostsOne (ring_of sys p.to) p.entry p.to AtQueue g → One sys o p b g
 
-tail-one : (sys : System) (o : ℕ) (p : Posting) (b : Bool) (head : List Told) (e : Entry) (t : Told) (ts : List Told) (x : Stage)
+tail-one : (sys : System) (o : ℕ) (p : Posting) (b : Bool) (head : List Told) (e : Entry) (t : Told) (ts : List Told) (x : PublishStage)
     → MakesAgain p.entry head e → PostRecord sys p e t x → run sys o ts x ≡ Some (end_of b) → One sys o p b (head ++ (t ∷ ts))
 unfolding PostsOne Posts had_room
 tail-one sys o p b head e t ts x again (OfPost f l m t_is room x_is) h =
@@ -161,7 +161,7 @@ one-sound sys o p b (t ∷ ts) low h =
     let step = run-step sys o t ts (stage.Posts p) (end_of b) h in
     by step.0 (p.entry.pool == 0) refl (sym (posts-other sys p p.ceiling t.body t.known low) ∙ step.1) step.2
   where
-    by : (x : Stage) (fixed : Bool) → (p.entry.pool == 0) ≡ fixed → cond fixed (post_next sys p p.entry t.body t.known) (reference_next p t.body t.known) ≡ Some x → run sys o ts x ≡ Some (end_of b)
+    by : (x : PublishStage) (fixed : Bool) → (p.entry.pool == 0) ≡ fixed → cond fixed (post_next sys p p.entry t.body t.known) (reference_next p t.body t.known) ≡ Some x → run sys o ts x ≡ Some (end_of b)
         → One sys o p b (t ∷ ts)
     by x true is k behind = tail-one sys o p b [] p.entry t ts x (again-static p.entry (number p.entry.pool 0 is)) (post-is sys p p.entry t x k) behind
     by x false is k behind =

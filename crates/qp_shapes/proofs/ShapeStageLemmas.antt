@@ -14,15 +14,15 @@ use Rattle.qp_model.specs.Parts.{is_static, sizes_of}
 use Rattle.qp_shapes.specs.ShapeUnit.{goes_to, had_room}
 use Rattle.qp_shapes.specs.declared.shape_stage.Ceiling.TheVariants as ceiling
 use Rattle.qp_shapes.specs.declared.shape_stage.Posting.{Posting}
-use Rattle.qp_shapes.specs.declared.shape_stage.Stage.{Stage}
-use Rattle.qp_shapes.specs.declared.shape_stage.Stage.TheVariants as stage
+use Rattle.qp_shapes.specs.declared.shape_stage.PublishStage.{PublishStage}
+use Rattle.qp_shapes.specs.declared.shape_stage.PublishStage.TheVariants as stage
 use Rattle.qp_shapes.specs.ShapePublication.{stage_if, released, next_post, published, start_first, given_next, made_next, post_next, reference_next, lock_next, raised_next, left_next, posted_next, dropped_next, next, run}
 use Rattle.qp_shapes.proofs.ShapeReleaseLemmas.{told-is}
 use Rattle.qp_shapes.proofs.ShapePartLemmas.{same_entry-is}
 use Rattle.qp_shapes.proofs.ShapeSoundLemmas.{both, number}
 
 -- a test that is passed, and the stage behind it
-stage-passed : (test : Bool) (s x : Stage) → stage_if test s ≡ Some x → (test ≡ true) × (x ≡ s)
+stage-passed : (test : Bool) (s x : PublishStage) → stage_if test s ≡ Some x → (test ≡ true) × (x ≡ s)
 stage-passed true s x h = (refl, cc)
 stage-passed false s x h = absurd (cc)
 
@@ -31,21 +31,21 @@ not-true true h = absurd (cc)
 not-true false h = refl
 
 -- the first of more records
-pub run-step : (sys : System) (o : ℕ) (t : Told) (ts : List Told) (s end : Stage) → run sys o (t ∷ ts) s ≡ Some end
-    → (x : Stage) × (next sys o s t.body t.known ≡ Some x) × (run sys o ts x ≡ Some end)
+pub run-step : (sys : System) (o : ℕ) (t : Told) (ts : List Told) (s end : PublishStage) → run sys o (t ∷ ts) s ≡ Some end
+    → (x : PublishStage) × (next sys o s t.body t.known ≡ Some x) × (run sys o ts x ≡ Some end)
 unfolding run
 run-step sys o t ts s end h = by (next sys o s t.body t.known) refl h
   where
-    by : (r : Option Stage) → next sys o s t.body t.known ≡ r → option_and_then (λ x. run sys o ts x) r ≡ Some end
-        → (x : Stage) × (next sys o s t.body t.known ≡ Some x) × (run sys o ts x ≡ Some end)
+    by : (r : Option PublishStage) → next sys o s t.body t.known ≡ r → option_and_then (λ x. run sys o ts x) r ≡ Some end
+        → (x : PublishStage) × (next sys o s t.body t.known ≡ Some x) × (run sys o ts x ≡ Some end)
     by None is h = absurd (cc)
     by (Some x) is h = (x, is, h)
 
-pub step-run : (sys : System) (o : ℕ) (t : Told) (ts : List Told) (s x : Stage) (r : Option Stage) → next sys o s t.body t.known ≡ Some x → run sys o ts x ≡ r → run sys o (t ∷ ts) s ≡ r
+pub step-run : (sys : System) (o : ℕ) (t : Told) (ts : List Told) (s x : PublishStage) (r : Option PublishStage) → next sys o s t.body t.known ≡ Some x → run sys o ts x ≡ r → run sys o (t ∷ ts) s ≡ r
 unfolding run
 step-run sys o t ts s x r is h = rw is h
 
-pub given-is : (p b sig : ℕ) (t : Told) (x : Stage) → given_next p b sig t.body t.known ≡ Some x → (r : ℕ) × (t ≡ plain (item.Inc p b r)) × (x ≡ stage.Made (entry p b r) sig)
+pub given-is : (p b sig : ℕ) (t : Told) (x : PublishStage) → given_next p b sig t.body t.known ≡ Some x → (r : ℕ) × (t ≡ plain (item.Inc p b r)) × (x ≡ stage.Made (entry p b r) sig)
 given-is p b sig t x h = by t.body t.known refl refl h
   where
     by : (body : Body) (known : Known) → t.body ≡ body → t.known ≡ known → given_next p b sig body known ≡ Some x → (r : ℕ) × (t ≡ plain (item.Inc p b r)) × (x ≡ stage.Made (entry p b r) sig)
@@ -58,7 +58,7 @@ given-is p b sig t x h = by t.body t.known refl refl h
         (r, cc, test.1)
     by body known is_body is_known h = absurd (cc)
 
-pub made-is : (o : ℕ) (e : Entry) (sig : ℕ) (t : Told) (x : Stage) → made_next o e sig t.body t.known ≡ Some x → (n set : ℕ) × (t ≡ plain (item.Pub sig n set)) × (x ≡ published o e set)
+pub made-is : (o : ℕ) (e : Entry) (sig : ℕ) (t : Told) (x : PublishStage) → made_next o e sig t.body t.known ≡ Some x → (n set : ℕ) × (t ≡ plain (item.Pub sig n set)) × (x ≡ published o e set)
 unfolding made_next
 made-is o e sig t x h = by t.body t.known refl refl h
   where
@@ -70,7 +70,7 @@ made-is o e sig t x h = by t.body t.known refl refl h
         (n, set, cc, test.1)
     by body known is_body is_known h = absurd (cc)
 
-pub raised-is : (e : Entry) (former : ℕ) (t : Told) (x : Stage) → raised_next e former t.body t.known ≡ Some x → (t ≡ plain (item.Unlock former)) × (x ≡ released e)
+pub raised-is : (e : Entry) (former : ℕ) (t : Told) (x : PublishStage) → raised_next e former t.body t.known ≡ Some x → (t ≡ plain (item.Unlock former)) × (x ≡ released e)
 raised-is e former t x h = by t.body t.known refl refl h
   where
     by : (body : Body) (known : Known) → t.body ≡ body → t.known ≡ known → raised_next e former body known ≡ Some x → (t ≡ plain (item.Unlock former)) × (x ≡ released e)
@@ -81,7 +81,7 @@ raised-is e former t x h = by t.body t.known refl refl h
         (cc, test.1)
     by body known is_body is_known h = absurd (cc)
 
-pub posted-is : (e : Entry) (t : Told) (x : Stage) → posted_next e t.body t.known ≡ Some x → (d left : ℕ) × (t ≡ dropped e.pool e.block d e.name left) × (x ≡ left_next e.pool e.block d left)
+pub posted-is : (e : Entry) (t : Told) (x : PublishStage) → posted_next e t.body t.known ≡ Some x → (d left : ℕ) × (t ≡ dropped e.pool e.block d e.name left) × (x ≡ left_next e.pool e.block d left)
 posted-is e t x h = by t.body t.known refl refl h
   where
     by : (body : Body) (known : Known) → t.body ≡ body → t.known ≡ known → posted_next e body known ≡ Some x
@@ -95,7 +95,7 @@ posted-is e t x h = by t.body t.known refl refl h
         (d, left, cc, cc)
     by body known is_body is_known h = absurd (cc)
 
-pub dropped-is : (p b d : ℕ) (t : Told) (x : Stage) → dropped_next p b d t.body t.known ≡ Some x → (n : ℕ) × (t ≡ plain (item.Back p n b (d + 1))) × (x ≡ stage.Whole)
+pub dropped-is : (p b d : ℕ) (t : Told) (x : PublishStage) → dropped_next p b d t.body t.known ≡ Some x → (n : ℕ) × (t ≡ plain (item.Back p n b (d + 1))) × (x ≡ stage.Whole)
 dropped-is p b d t x h = by t.body t.known refl refl h
   where
     by : (body : Body) (known : Known) → t.body ≡ body → t.known ≡ known → dropped_next p b d body known ≡ Some x → (n : ℕ) × (t ≡ plain (item.Back p n b (d + 1))) × (x ≡ stage.Whole)
@@ -108,7 +108,7 @@ dropped-is p b d t x h = by t.body t.known refl refl h
         (n, cc, test.1)
     by body known is_body is_known h = absurd (cc)
 
-pub lock-is : (p : Posting) (t : Told) (x : Stage) → lock_next p t.body t.known ≡ Some x
+pub lock-is : (p : Posting) (t : Told) (x : PublishStage) → lock_next p t.body t.known ≡ Some x
     → (former : ℕ) × (t ≡ raised (max former p.to) former) × (x ≡ stage.Posts (record { entry = p.entry; to = p.to; below = p.below; set = p.set; ceiling = ceiling.Rose former }))
 lock-is p t x h = by t.body t.known refl refl h
   where
@@ -121,7 +121,7 @@ lock-is p t x h = by t.body t.known refl refl h
         (former, whole ∙ ap (λ y. raised y former) e1, test.1)
     by body known is_body is_known h = absurd (cc)
 
-pub reference-is : (p : Posting) (t : Told) (x : Stage) → reference_next p t.body t.known ≡ Some x → (r : ℕ) × (t ≡ plain (item.Inc p.entry.pool p.entry.block r)) × (x ≡ stage.Referred p r)
+pub reference-is : (p : Posting) (t : Told) (x : PublishStage) → reference_next p t.body t.known ≡ Some x → (r : ℕ) × (t ≡ plain (item.Inc p.entry.pool p.entry.block r)) × (x ≡ stage.Referred p r)
 reference-is p t x h = by t.body t.known refl refl h
   where
     by : (body : Body) (known : Known) → t.body ≡ body → t.known ≡ known → reference_next p body known ≡ Some x
@@ -136,11 +136,11 @@ reference-is p t x h = by t.body t.known refl refl h
     by body known is_body is_known h = absurd (cc)
 
 -- a post, or a queue with no entry left
-pub data PostRecord (sys : System) (p : Posting) (e : Entry) (t : Told) (x : Stage) : Type 0 where
+pub data PostRecord (sys : System) (p : Posting) (e : Entry) (t : Told) (x : PublishStage) : Type 0 where
   OfPost : (f l m : ℕ) → t ≡ plain (item.Post p.to f l m e) → had_room sys p.to f l m ≡ true → x ≡ next_post p.entry p.set p.ceiling p.below → PostRecord sys p e t x
   OfNoEntry : (f l m : ℕ) → t ≡ plain (item.NoEntry p.to f l m) → x ≡ stage.Cut → PostRecord sys p e t x
 
-pub post-is : (sys : System) (p : Posting) (e : Entry) (t : Told) (x : Stage) → post_next sys p e t.body t.known ≡ Some x → PostRecord sys p e t x
+pub post-is : (sys : System) (p : Posting) (e : Entry) (t : Told) (x : PublishStage) → post_next sys p e t.body t.known ≡ Some x → PostRecord sys p e t x
 unfolding post_next
 post-is sys p e t x h = by t.body t.known refl refl h
   where
@@ -161,12 +161,12 @@ post-is sys p e t x h = by t.body t.known refl refl h
     by body known is_body is_known h = absurd (cc)
 
 -- a block for a new event, or the set of a static one
-pub data StartRecord (sys : System) (o : ℕ) (t : Told) (x : Stage) : Type 0 where
+pub data StartRecord (sys : System) (o : ℕ) (t : Told) (x : PublishStage) : Type 0 where
   OfBlock : (p n b from sig free : ℕ) (pars : List ℕ) → t ≡ given p n b from sig pars free → nat_lt 0 free ≡ true → goes_to (sizes_of sys) (length pars) p ≡ true → is_static sys sig ≡ false
       → x ≡ stage.Given p b sig → StartRecord sys o t x
   OfSet : (sig n set : ℕ) → t ≡ plain (item.Pub sig n set) → is_static sys sig ≡ true → x ≡ published o (entry 0 sig 0) set → StartRecord sys o t x
 
-pub start-is : (sys : System) (o : ℕ) (t : Told) (x : Stage) → start_first sys o t.body t.known ≡ Some x → StartRecord sys o t x
+pub start-is : (sys : System) (o : ℕ) (t : Told) (x : PublishStage) → start_first sys o t.body t.known ≡ Some x → StartRecord sys o t x
 unfolding start_first
 start-is sys o t x h = by t.body t.known refl refl h
   where

@@ -46,7 +46,8 @@ fn is_last(scene: &Scene, now: Option<Entry>, cut: Cut, told: &[Told]) -> bool
 
 /// Whether these are actions under a raised ceiling that isn't restored, and then what may stand last.
 fn is_under_ceiling(scene: &Scene, now: Option<Entry>, cut: Cut, told: &[Told]) -> bool
-    ensures { Decides result (IsUnderCeiling (IsWhole scene.now.sys.now scene.now.o now) (LastOf scene.now.sys.now scene.now.o (as_cut cut) now) told.now) }
+    ensures { Decides result (IsUnderCeiling (IsWhole scene.now.sys.now scene.now.o now)
+        (LastOf scene.now.sys.now scene.now.o (as_cut cut) now) told.now) }
 {
     match told.split_first() {
         Some((first, rest)) => match former_of(first) {
@@ -59,7 +60,8 @@ fn is_under_ceiling(scene: &Scene, now: Option<Entry>, cut: Cut, told: &[Told]) 
 
 /// Whether these may stand last behind whole groups.
 fn is_end(scene: &Scene, now: Option<Entry>, cut: Cut, told: &[Told]) -> bool
-    ensures { Decides result (IsEnd (IsWhole scene.now.sys.now scene.now.o now) (LastOf scene.now.sys.now scene.now.o (as_cut cut) now) told.now) }
+    ensures { Decides result (IsEnd (IsWhole scene.now.sys.now scene.now.o now)
+        (LastOf scene.now.sys.now scene.now.o (as_cut cut) now) told.now) }
 {
     if is_last(scene, now, cut, told) {
         return true;
@@ -69,7 +71,8 @@ fn is_end(scene: &Scene, now: Option<Entry>, cut: Cut, told: &[Told]) -> bool
 
 /// Whether these are groups that break off, perhaps under a raised ceiling.
 pub fn breaks_off(scene: &Scene, now: Option<Entry>, cut: Cut, told: &[Told]) -> bool
-    ensures { Decides result (Breaks (IsWhole scene.now.sys.now scene.now.o now) (LastOf scene.now.sys.now scene.now.o (as_cut cut) now) told.now) }
+    ensures { Decides result (Breaks (IsWhole scene.now.sys.now scene.now.o now)
+        (LastOf scene.now.sys.now scene.now.o (as_cut cut) now) told.now) }
 {
     is_end(scene, now, cut, behind_groups(scene, now, told))
 }

@@ -150,7 +150,8 @@ fn behind_begin<'a>(told: &'a [Told]) -> Option<&'a [Told]>
 
 /// Whether these are groups of a start that breaks off, where it may.
 fn breaks_start(scene: &Scene, cut: Cut, told: &[Told]) -> bool
-    ensures { Decides result (IsTrue (is_cut (as_cut cut)) × Breaks (IsWhole scene.now.sys.now scene.now.o None) (LastOf scene.now.sys.now scene.now.o (start_cut (as_cut cut)) None) told.now) }
+    ensures { Decides result (IsTrue (is_cut (as_cut cut)) × Breaks (IsWhole scene.now.sys.now scene.now.o None)
+        (LastOf scene.now.sys.now scene.now.o (start_cut (as_cut cut)) None) told.now) }
 {
     if is_cut(cut) {
         breaks_off(scene, None, start_cut(cut), told)

@@ -10,23 +10,24 @@ ghost use Rattle.qp_shapes.specs.ShapeRelease.{Leaves};
 ghost use Rattle.qp_shapes.specs.ShapeUnit.{behind_unit};
 ghost use Rattle.qp_shapes.specs.ShapeAssertion.{behind_assertion};
 ghost use Rattle.qp_shapes.specs.ShapeAction.{IsWhole, IsCut, StopsInside};
-ghost use Rattle.qp_shapes.specs.declared.shape_stage.Stage.TheVariants as stage;
+ghost use Rattle.qp_shapes.specs.declared.shape_stage.PublishStage.TheVariants as stage;
 ghost use Rattle.qp_shapes.specs.ShapePublication.{run, behind_stage, is_done, is_cut, else_behind};
 
 use crate::shape_assertion::assertion_first;
 use crate::shape_publication::{behind_stage, run};
 use crate::shape_scene::Scene;
-use crate::shape_stage::Stage;
+use crate::shape_stage::PublishStage;
 use crate::shape_unit::unit_first;
 use qp_fits::Told;
 use qp_model::{Body, Entry};
 
 fn action_first<'a>(scene: &Scene, now: Option<Entry>, told: &'a [Told]) -> Option<&'a [Told]>
-    ensures { option_map (λ x. x.now) result ≡ else_behind (behind_unit scene.now.sys.now scene.now.o now told.now) (behind_stage scene.now.sys.now scene.now.o told.now stage.Start) }
+    ensures { option_map (λ x. x.now) result ≡ else_behind (behind_unit scene.now.sys.now scene.now.o now told.now)
+        (behind_stage scene.now.sys.now scene.now.o told.now stage.Start) }
 {
     match unit_first(scene, now, told) {
         Some(rest) => Some(rest),
-        None => behind_stage(scene, Stage::Start, told),
+        None => behind_stage(scene, PublishStage::Start, told),
     }
 }
 
@@ -46,19 +47,20 @@ pub fn is_done(rest: Option<&[Told]>) -> bool
     }
 }
 
-fn is_cut(stage: Option<Stage>) -> bool
+fn is_cut(stage: Option<PublishStage>) -> bool
     ensures { result ≡ is_cut stage }
 {
     match stage {
-        Some(Stage::Cut) => true,
+        Some(PublishStage::Cut) => true,
         _ => false,
     }
 }
 
 fn asserts_first(scene: &Scene, now: Option<Entry>, told: &[Told]) -> bool
-    ensures { result ≡ (is_done (behind_assertion scene.now.sys.now scene.now.o now told.now) || is_cut (run scene.now.sys.now scene.now.o told.now stage.Start)) }
+    ensures { result ≡ (is_done (behind_assertion scene.now.sys.now scene.now.o now told.now) || is_cut
+        (run scene.now.sys.now scene.now.o told.now stage.Start)) }
 {
-    is_done(assertion_first(scene, now, told)) || is_cut(run(scene, Stage::Start, told))
+    is_done(assertion_first(scene, now, told)) || is_cut(run(scene, PublishStage::Start, told))
 }
 
 /// Whether all of a list is a call that ends in its assertion.
@@ -90,7 +92,7 @@ fn ends_in_post(told: &[Told]) -> bool
 fn stops_first(scene: &Scene, told: &[Told]) -> bool
     ensures { result ≡ (ends_in_post told.now && is_some (run scene.now.sys.now scene.now.o told.now stage.Start)) }
 {
-    ends_in_post(told) && run(scene, Stage::Start, told).is_some()
+    ends_in_post(told) && run(scene, PublishStage::Start, told).is_some()
 }
 
 /// Whether a list is a publication up to one of its posts, whatever the object works on.

@@ -5,7 +5,7 @@ ghost use Rattle.std.specs.Option.{is_some};
 ghost use Rattle.qp_fits.specs.Decides.{Decides};
 ghost use Rattle.qp_shapes.specs.ShapeUnit.{behind_unit};
 ghost use Rattle.qp_shapes.specs.ShapeAction.{IsFront};
-ghost use Rattle.qp_shapes.specs.declared.shape_stage.Stage.TheVariants as stage;
+ghost use Rattle.qp_shapes.specs.declared.shape_stage.PublishStage.TheVariants as stage;
 ghost use Rattle.qp_shapes.specs.ShapePublication.{run};
 ghost use Rattle.qp_shapes.specs.ShapeFront.{release_front, entry_front, again_front, new_front, lifo_front, reference_front, recall_front, plain_front, given_front, unit_front};
 
@@ -16,7 +16,7 @@ use crate::shape_assertion::{
 use crate::shape_pools::goes_to;
 use crate::shape_publication::run;
 use crate::shape_scene::Scene;
-use crate::shape_stage::{Stage, released};
+use crate::shape_stage::{PublishStage, released};
 use crate::shape_unit::{behind_again, behind_entry, entry, plain_first, unit_first, works_on};
 use qp_fits::{Known, Told};
 use qp_model::{Body, Entry};
@@ -170,9 +170,10 @@ fn unit_front(scene: &Scene, now: Option<Entry>, told: &[Told]) -> bool
 }
 
 fn begins(scene: &Scene, now: Option<Entry>, told: &[Told]) -> bool
-    ensures { result ≡ (is_some (run scene.now.sys.now scene.now.o told.now stage.Start) || unit_front scene.now.sys.now scene.now.o now told.now) }
+    ensures { result ≡ (is_some (run scene.now.sys.now scene.now.o told.now stage.Start) || unit_front scene.now.sys.now
+        scene.now.o now told.now) }
 {
-    run(scene, Stage::Start, told).is_some() || unit_front(scene, now, told)
+    run(scene, PublishStage::Start, told).is_some() || unit_front(scene, now, told)
 }
 
 /// Whether a list is a front of an action, or of a call that ends in its assertion: the records that are wanting can still come.

@@ -25,7 +25,7 @@ pub struct Posting {
 
 /// How far a publication has come.
 #[derive(Clone, Copy)]
-pub enum Stage {
+pub enum PublishStage {
     Start,
     /// A block was given out for an event of this signal.
     Given { p: u64, b: u64, sig: u64 },
@@ -46,22 +46,22 @@ pub enum Stage {
 }
 
 /// Where no post is left and the ceiling is as before.
-pub fn released(entry: Entry) -> Stage
+pub fn released(entry: Entry) -> PublishStage
     ensures { result ≡ released entry }
 {
     if entry.pool == 0 {
-        Stage::Whole
+        PublishStage::Whole
     } else {
-        Stage::Posted { entry }
+        PublishStage::Posted { entry }
     }
 }
 
 /// Where no post is left.
-fn after_posts(entry: Entry, ceiling: Ceiling) -> Stage
+fn after_posts(entry: Entry, ceiling: Ceiling) -> PublishStage
     ensures { result ≡ after_posts entry ceiling }
 {
     match ceiling {
-        Ceiling::Rose { former } => Stage::Raised { entry, former },
+        Ceiling::Rose { former } => PublishStage::Raised { entry, former },
         _ => released(entry),
     }
 }
@@ -74,7 +74,7 @@ fn has_member(set: u64, n: u8) -> bool
 }
 
 /// Where the post to the highest member up to `below` is next.
-pub fn next_post(entry: Entry, set: u64, ceiling: Ceiling, below: u8) -> Stage
+pub fn next_post(entry: Entry, set: u64, ceiling: Ceiling, below: u8) -> PublishStage
     ensures { result ≡ next_post entry set ceiling below }
 {
     let mut n = below;
@@ -88,7 +88,7 @@ pub fn next_post(entry: Entry, set: u64, ceiling: Ceiling, below: u8) -> Stage
                 set,
                 ceiling,
             };
-            return Stage::Posts { posting };
+            return PublishStage::Posts { posting };
         }
     }
     after_posts(entry, ceiling)
@@ -96,7 +96,7 @@ pub fn next_post(entry: Entry, set: u64, ceiling: Ceiling, below: u8) -> Stage
 
 /// Where the set was shown: an object's ceiling rises if the set has a member.
 #[tactic(auto, unfolding(crate::specs::ShapePublication::published))]
-pub fn published(o: u8, entry: Entry, set: u64) -> Stage
+pub fn published(o: u8, entry: Entry, set: u64) -> PublishStage
     ensures { result ≡ published o entry set }
 {
     let ceiling = if o == 0 {

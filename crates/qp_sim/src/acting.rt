@@ -44,7 +44,8 @@ impl SimWorld<'_> {
         requires fit { StimuliFit sys.now self.old.stim.now }
         requires place { j < length self.old.stim.now }
         requires left { left_of self.old.stim.now self.old.begun.items j ≢ [] }
-        requires rests { (ss : List Stim) → left_of self.old.stim.now self.old.begun.items j ≡ stim.Settle ∷ ss → Rests (world_view self.old.plain) }
+        requires rests { (ss : List Stim) → left_of self.old.stim.now self.old.begun.items j ≡ stim.Settle ∷ ss → Rests
+            (world_view self.old.plain) }
         ensures { HasActed j sys.now look self.old self.new result }
     {
         let stimuli = self.stim;

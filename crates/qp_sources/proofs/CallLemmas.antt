@@ -13,10 +13,10 @@ use Rattle.qp_model.specs.Able.{has_pool}
 use Rattle.qp_model.specs.Deferral.{KeepsDeferred}
 use Rattle.qp_model.specs.Sources.{CallFits}
 use Rattle.qp_fits.specs.Decides.{Decides}
-use Rattle.qp_fits.specs.Rest.{Rest, Stage, Whole}
-use Rattle.qp_fits.specs.RestNext.{rest_begin, rest_next, stage_answer}
+use Rattle.qp_fits.specs.CallState.{CallState, CallStage, Whole}
+use Rattle.qp_fits.specs.CallStateNext.{call_state_begin, call_state_next, stage_answer}
 use Rattle.qp_fits.specs.Reads.{Reads, IsOpen, call_able}
-use Rattle.qp_fits.specs.RestLaws.{ReadsBegin, ReadsNext, ReadsEnd, ReadsWhole, OpenBegin, OpenNext, OpenReads}
+use Rattle.qp_fits.specs.CallStateLaws.{ReadsBegin, ReadsNext, ReadsEnd, ReadsWhole, OpenBegin, OpenNext, OpenReads}
 use Rattle.qp_sources.proofs.RecordLemmas.{decides}
 
 -- the laws of a call's reader
@@ -30,7 +30,7 @@ pub record CallLaws : Type 0 where
   pub open_reads : OpenReads
 
 -- the records of what is left of a call
-unfoldable pub CallLeft : System → Rest → Bool → List Told → Type 0
+unfoldable pub CallLeft : System → CallState → Bool → List Told → Type 0
 CallLeft sys rest asserted g = (answer : Answer) × (kept : List Entry) × Reads sys 0 None rest answer kept g × (is_assertion answer ≡ asserted)
 
 -- a call of an event
@@ -106,46 +106,46 @@ keeps-none x g new sent e = absurd (cc)
 module _ (laws : CallLaws) (sys : System) where
   -- a call that begins reads its records
   pub call-whole : (x : Call) (asserted : Bool) (g : List Told) → is_sent x ≡ true → CallFits sys x asserted g
-      → (call_able sys None x ≡ true) × CallLeft sys (rest_begin 0 [] x) asserted g
+      → (call_able sys None x ≡ true) × CallLeft sys (call_state_begin 0 [] x) asserted g
   unfolding CallFits CallLeft
   call-whole x asserted g sent h =
       (fits-able sys x h.0 g sent h.1, (h.0, [], (laws.begins sys 0 None 0 [] x h.0 [] g).1 (h.1, keeps-none x g [] sent refl), h.2))
 
-  pub call-sound : (x : Call) (asserted : Bool) (g : List Told) → CallLeft sys (rest_begin 0 [] x) asserted g → CallFits sys x asserted g
+  pub call-sound : (x : Call) (asserted : Bool) (g : List Told) → CallLeft sys (call_state_begin 0 [] x) asserted g → CallFits sys x asserted g
   unfolding CallFits CallLeft
   call-sound x asserted g h = (h.0, ((laws.begins sys 0 None 0 [] x h.0 h.1 g).0 h.2).0, h.3)
 
   -- it reads one record
-  pub left-whole : (rest : Rest) (asserted : Bool) (t : Told) (g : List Told) → CallLeft sys rest asserted (t ∷ g)
-      → (next : Rest) × (rest_next sys 0 None rest t ≡ Some next) × CallLeft sys next asserted g
+  pub left-whole : (rest : CallState) (asserted : Bool) (t : Told) (g : List Told) → CallLeft sys rest asserted (t ∷ g)
+      → (next : CallState) × (call_state_next sys 0 None rest t ≡ Some next) × CallLeft sys next asserted g
   unfolding CallLeft
   left-whole rest asserted t g h =
       let read = (laws.nexts sys 0 None rest h.0 h.1 t g).0 h.2 in
       (read.0, read.1, (h.0, h.1, read.2, h.3))
 
-  pub left-sound : (rest next : Rest) (asserted : Bool) (t : Told) (g : List Told) → rest_next sys 0 None rest t ≡ Some next → CallLeft sys next asserted g
+  pub left-sound : (rest next : CallState) (asserted : Bool) (t : Told) (g : List Told) → call_state_next sys 0 None rest t ≡ Some next → CallLeft sys next asserted g
       → CallLeft sys rest asserted (t ∷ g)
   unfolding CallLeft
   left-sound rest next asserted t g e h = (h.0, h.1, (laws.nexts sys 0 None rest h.0 h.1 t g).1 (next, e, h.2), h.3)
 
   -- nothing is left of a whole call, whose answer is an assertion or isn't
-  whole-answer : (rest : Rest) (answer : Answer) (kept : List Entry) → rest ≡ record { stage = Whole answer; kept = kept } → stage_answer rest.stage ≡ Some answer
-  whole-answer rest answer kept e = ap (λ (r : Rest). stage_answer r.stage) e
+  whole-answer : (rest : CallState) (answer : Answer) (kept : List Entry) → rest ≡ record { stage = Whole answer; kept = kept } → stage_answer rest.stage ≡ Some answer
+  whole-answer rest answer kept e = ap (λ (r : CallState). stage_answer r.stage) e
 
-  answer-whole : (stage : Stage) (answer : Answer) → stage_answer stage ≡ Some answer → stage ≡ Whole answer
+  answer-whole : (stage : CallStage) (answer : Answer) → stage_answer stage ≡ Some answer → stage ≡ Whole answer
   answer-whole (Whole own) answer e = cc
   answer-whole stage answer e = absurd (cc)
 
-  left-none : (rest : Rest) (answer : Answer) → stage_answer rest.stage ≡ Some answer → Reads sys 0 None rest answer rest.kept []
+  left-none : (rest : CallState) (answer : Answer) → stage_answer rest.stage ≡ Some answer → Reads sys 0 None rest answer rest.kept []
   left-none rest answer e =
       let stage : rest.stage ≡ Whole answer = answer-whole rest.stage answer e in
       let itself : rest ≡ record { stage = rest.stage; kept = rest.kept } = refl in
       (laws.ends sys 0 None rest answer rest.kept).1 (itself ∙ ap (λ s. record { stage = s; kept = rest.kept }) stage)
 
-  left-answer : (rest : Rest) (answer : Answer) (kept : List Entry) → Reads sys 0 None rest answer kept [] → stage_answer rest.stage ≡ Some answer
+  left-answer : (rest : CallState) (answer : Answer) (kept : List Entry) → Reads sys 0 None rest answer kept [] → stage_answer rest.stage ≡ Some answer
   left-answer rest answer kept h = whole-answer rest answer kept ((laws.ends sys 0 None rest answer kept).0 h)
 
-  by-answer : (rest : Rest) (test : Answer → Bool) (asserted : Bool) → ((answer : Answer) → (test answer ≡ true → is_assertion answer ≡ asserted) × (is_assertion answer ≡ asserted → test answer ≡ true))
+  by-answer : (rest : CallState) (test : Answer → Bool) (asserted : Bool) → ((answer : Answer) → (test answer ≡ true → is_assertion answer ≡ asserted) × (is_assertion answer ≡ asserted → test answer ≡ true))
       → Decides (option_map_or test (stage_answer rest.stage) false) (CallLeft sys rest asserted [])
   unfolding CallLeft
   by-answer rest test asserted same = by (stage_answer rest.stage) refl
@@ -157,18 +157,18 @@ module _ (laws : CallLaws) (sys : System) where
           (λ e h. let some = left-answer rest h.0 h.1 h.2 in let alike : h.0 ≡ own = cc in
           let passes : test own ≡ true = (same own).1 (ap is_assertion (sym alike) ∙ h.3) in cc)
 
-  pub left-done : (rest : Rest) → Decides (option_map_or (λ answer. not (is_assertion answer)) (stage_answer rest.stage) false) (CallLeft sys rest false [])
+  pub left-done : (rest : CallState) → Decides (option_map_or (λ answer. not (is_assertion answer)) (stage_answer rest.stage) false) (CallLeft sys rest false [])
   left-done rest = by-answer rest (λ answer. not (is_assertion answer)) false (λ answer. by (is_assertion answer))
     where
       by : (b : Bool) → (not b ≡ true → b ≡ false) × (b ≡ false → not b ≡ true)
       by true = (λ e. absurd (cc), λ e. absurd (cc))
       by false = (λ e. refl, λ e. refl)
 
-  pub left-asserted : (rest : Rest) → Decides (option_map_or is_assertion (stage_answer rest.stage) false) (CallLeft sys rest true [])
+  pub left-asserted : (rest : CallState) → Decides (option_map_or is_assertion (stage_answer rest.stage) false) (CallLeft sys rest true [])
   left-asserted rest = by-answer rest is_assertion true (λ answer. (λ e. e, λ e. e))
 
   -- where it is open and not whole, more records may follow
-  pub left-open : (rest : Rest) → IsOpen sys None rest
+  pub left-open : (rest : CallState) → IsOpen sys None rest
       → Decides (is_none (stage_answer rest.stage)) ((back : List Told) × (back ≢ []) × (asserted : Bool) × CallLeft sys rest asserted back)
   unfolding CallLeft
   left-open rest open_rest = by (stage_answer rest.stage) refl

@@ -10,9 +10,9 @@ use Rattle.qp_model.specs.Kernels.{may_try}
 use Rattle.qp_model.specs.Sources.{StimFits, EndsIn, SourceEnd, AllDone, BeforeStimulus, AfterTry, AtAssert, InStimulus, Tries, priorities}
 use Rattle.qp_fits.specs.Decides.{Decides}
 use Rattle.qp_fits.specs.Reads.{call_able}
-use Rattle.qp_fits.specs.RestNext.{rest_begin}
-use Rattle.qp_sources.specs.TickRest.{Reaching, dues}
-use Rattle.qp_sources.specs.SettleRest.{Before}
+use Rattle.qp_fits.specs.CallStateNext.{call_state_begin}
+use Rattle.qp_sources.specs.TickState.{Reaching, dues}
+use Rattle.qp_sources.specs.SettleState.{Before}
 use Rattle.qp_sources.specs.Underway.{Underway, Calling, Ticking, Settling, call_begin, underway_begin, underway_next, underway_asserted, underway_tried, underway_open}
 use Rattle.qp_sources.proofs.RecordLemmas.{decides}
 use Rattle.qp_sources.proofs.SettleEndLemmas.{TriedFits}
@@ -43,13 +43,13 @@ module _ (laws : CallLaws) (sys : System) (kernel : ℕ) where
   unfolding underway_begin TriedOn TriedFits EndsIn call_begin
   tried-settle (stim.Post to ev margin reserve) u g e h = absurd (by (call_able sys None (call.Post to ev.sig ev.pars.items margin reserve)) e)
     where
-      by : (able : Bool) → cond able (Some (Calling (rest_begin 0 [] (call.Post to ev.sig ev.pars.items margin reserve)))) None ≡ Some u → ⊥
-      by true k = let same : u ≡ Calling (rest_begin 0 [] (call.Post to ev.sig ev.pars.items margin reserve)) = cc in subst (λ u. TriedOn sys kernel u g) same h
+      by : (able : Bool) → cond able (Some (Calling (call_state_begin 0 [] (call.Post to ev.sig ev.pars.items margin reserve)))) None ≡ Some u → ⊥
+      by true k = let same : u ≡ Calling (call_state_begin 0 [] (call.Post to ev.sig ev.pars.items margin reserve)) = cc in subst (λ u. TriedOn sys kernel u g) same h
       by false k = cc
   tried-settle (stim.Publish ev reserve) u g e h = absurd (by (call_able sys None (call.Publish ev.sig ev.pars.items reserve)) e)
     where
-      by : (able : Bool) → cond able (Some (Calling (rest_begin 0 [] (call.Publish ev.sig ev.pars.items reserve)))) None ≡ Some u → ⊥
-      by true k = let same : u ≡ Calling (rest_begin 0 [] (call.Publish ev.sig ev.pars.items reserve)) = cc in subst (λ u. TriedOn sys kernel u g) same h
+      by : (able : Bool) → cond able (Some (Calling (call_state_begin 0 [] (call.Publish ev.sig ev.pars.items reserve)))) None ≡ Some u → ⊥
+      by true k = let same : u ≡ Calling (call_state_begin 0 [] (call.Publish ev.sig ev.pars.items reserve)) = cc in subst (λ u. TriedOn sys kernel u g) same h
       by false k = cc
   tried-settle (stim.Tick rate) u g e h = let same : u ≡ Ticking (Reaching (dues rate 1 sys.timers)) = cc in absurd (subst (λ u. TriedOn sys kernel u g) same h)
   tried-settle stim.Settle u g e h = let same : u ≡ Settling (Before false) = cc in subst (λ u. TriedOn sys kernel u g) same h

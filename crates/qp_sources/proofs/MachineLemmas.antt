@@ -11,7 +11,7 @@ use Rattle.qp_model.specs.Told.{Told, Known, Nothing, plain}
 use Rattle.qp_model.specs.Sources.{SourceEnd, AllDone, BeforeStimulus, AfterTry, AtAssert, InStimulus, SourceRuns}
 use Rattle.qp_fits.specs.Decides.{Decides}
 use Rattle.qp_sources.specs.Underway.{Underway, underway_next, underway_done}
-use Rattle.qp_sources.specs.SourceRest.{SourceRest, Between, Within, stim_next, stim_of, goes_on, is_ready, within_next, source_next, source_after, stops_after}
+use Rattle.qp_sources.specs.SourceState.{SourceState, Between, Within, stim_next, stim_of, goes_on, is_ready, within_next, source_next, source_after, stops_after}
 use Rattle.qp_sources.specs.AsSource.{as_underway, rest_of, flag_of}
 use Rattle.qp_sources.specs.declared.underway.Underway as declared_underway
 use Rattle.qp_sources.specs.declared.stops.Stops.{Stops}
@@ -104,13 +104,13 @@ module _ (sys : System) (kernel : ℕ) (under : Option declared_underway.Underwa
 
 -- the records from a place on
 module _ (sys : System) (kernel : ℕ) (told : List Told) (i : ℕ) where
-  pub after-more : (t : Told) → i < length told → t ≡ get_or told i t → (rest : SourceRest)
+  pub after-more : (t : Told) → i < length told → t ≡ get_or told i t → (rest : SourceState)
       → source_after sys kernel (Some rest) (drop i told) ≡ source_after sys kernel (source_next sys kernel rest t) (drop (i + 1) told)
   unfolding source_after
   after-more t inside is rest =
       ap (source_after sys kernel (Some rest)) (drop_more told i t inside ∙ ap (λ x. x ∷ drop (i + 1) told) (sym is))
 
-  pub after-end : length told ≤ i → (rest : SourceRest) → source_after sys kernel (Some rest) (drop i told) ≡ Some rest
+  pub after-end : length told ≤ i → (rest : SourceState) → source_after sys kernel (Some rest) (drop i told) ≡ Some rest
   unfolding source_after
   after-end past rest = ap (source_after sys kernel (Some rest)) (drop_all i told past)
 
@@ -120,7 +120,7 @@ after-none sys kernel [] = refl
 after-none sys kernel (t ∷ g) = refl
 
 -- a source's records end where its machine says
-pub stops-decide : (sys : System) (kernel : ℕ) (ss : List Stim) (told : List Told) (stops : Stops) (rest : Option SourceRest)
+pub stops-decide : (sys : System) (kernel : ℕ) (ss : List Stim) (told : List Told) (stops : Stops) (rest : Option SourceState)
     → rest ≡ source_after sys kernel (Some (Between 1 ss)) told → (stop : SourceEnd) → flag_of stops stop ≡ stops_after kernel rest stop
     → Decides (flag_of stops stop) (SourceRuns sys kernel 1 ss stop told)
 stops-decide sys kernel ss told stops rest is stop flag =

@@ -4,7 +4,7 @@ use Rattle.std.proofs.lemmas.Bool.Decides.{nat_tests}
 use Rattle.std.proofs.lemmas.List.{drop_more, drop_all, drop-map}
 use Rattle.qp_model.specs.declared.systems.TimerDef.{TimerDef}
 use Rattle.qp_model.specs.declared.systems.ObjectDef.{ObjectDef}
-use Rattle.qp_sources.specs.TickRest.{dues}
+use Rattle.qp_sources.specs.TickState.{dues}
 
 -- a place that isn't among the timers
 pub dues-past : (rate t from : ℕ) (ds : List TimerDef) → length ds ≤ from → dues rate t (drop from ds) ≡ []

@@ -7,7 +7,7 @@ use Rattle.qp_model.specs.Told.{Told, plain}
 use Rattle.qp_model.specs.Kernels.{may_try}
 use Rattle.qp_model.specs.Sources.{SeesEmpty, SeesEntry, Tries, Settles, priorities}
 use Rattle.qp_fits.specs.Decides.{Decides}
-use Rattle.qp_sources.specs.SettleRest.{SettleRest, Before, Seeing, before_next, settle_next, settle_done, settle_tried, settle_open}
+use Rattle.qp_sources.specs.SettleState.{SettleState, Before, Seeing, before_next, settle_next, settle_done, settle_tried, settle_open}
 use Rattle.qp_sources.proofs.RecordLemmas.{first-is, none-first, none-joined, decides}
 use Rattle.qp_sources.proofs.SettleLemmas.{SeesOn, AllEmpty, InVain, SettleFits, SawNone, SawSome, SawAt, At, saw-at, before-back, empty-behind, entry-behind, seen-is, before-sound}
 
@@ -30,7 +30,7 @@ settles-never sys kernel h =
     let none : h.1 ≡ [] = none-joined h.1 _ h.3 in
     none-first _ _ (sym (h.3 ∙ ap (λ us. us ++ (plain body.Settle ∷ h.2)) none))
 
-pub settle-end : (sys : System) (kernel : ℕ) (s : SettleRest) → Decides (settle_done s) (SettleFits sys kernel s [])
+pub settle-end : (sys : System) (kernel : ℕ) (s : SettleState) → Decides (settle_done s) (SettleFits sys kernel s [])
 unfolding Decides SettleFits SeesEmpty
 settle-end sys kernel (Before tried) = settles-never sys kernel
 settle-end sys kernel (Seeing []) = AllEmpty refl
@@ -51,10 +51,10 @@ all-empty [] = refl
 all-empty (o ∷ os) = (0, 0, 0, all_seen os, refl, refl, all-empty os)
 
 -- some records other than none are left
-abbrev pub SettlesOn : System → ℕ → SettleRest → Type 0
+abbrev pub SettlesOn : System → ℕ → SettleState → Type 0
 SettlesOn sys kernel s = (back : List Told) × (back ≢ []) × SettleFits sys kernel s back
 
-pub settle-open : (sys : System) (kernel : ℕ) (s : SettleRest) → Decides (settle_open s) (SettlesOn sys kernel s)
+pub settle-open : (sys : System) (kernel : ℕ) (s : SettleState) → Decides (settle_open s) (SettlesOn sys kernel s)
 unfolding Decides SettleFits SeesEmpty SeesEntry all_seen
 settle-open sys kernel (Before tried) =
     (plain body.Settle ∷ all_seen (priorities sys), none-first _ _, before-sound sys kernel (all_seen (priorities sys)) (AllEmpty (all-empty (priorities sys))))
@@ -66,14 +66,14 @@ settle-open sys kernel (Seeing []) = λ h. by h.0 h.1 h.2
 settle-open sys kernel (Seeing (o ∷ os)) = (all_seen (o ∷ os), none-first _ _, AllEmpty (all-empty (o ∷ os)))
 
 -- what is left is tries, at least one where none was made
-unfoldable pub TriedFits : System → ℕ → SettleRest → List Told → Type 0
+unfoldable pub TriedFits : System → ℕ → SettleState → List Told → Type 0
 TriedFits sys kernel (Before false) g = (n : ℕ) × Tries (priorities sys) (suc n) g × IsTrue (may_try kernel)
 TriedFits sys kernel (Before true) g = (n : ℕ) × Tries (priorities sys) n g × IsTrue (may_try kernel)
 TriedFits sys kernel (Seeing os) g =
     (n : ℕ) × (one rest : List Told) × (g ≡ one ++ rest) × SeesEntry os one × Tries (priorities sys) n rest × IsTrue (may_try kernel)
 
-abbrev pub GoesTried : System → ℕ → SettleRest → Told → List Told → Type 0
-GoesTried sys kernel s t g = (s' : SettleRest) × (settle_next sys kernel s t ≡ Some s') × TriedFits sys kernel s' g
+abbrev pub GoesTried : System → ℕ → SettleState → Told → List Told → Type 0
+GoesTried sys kernel s t g = (s' : SettleState) × (settle_next sys kernel s t ≡ Some s') × TriedFits sys kernel s' g
 
 tries-whole : (sys : System) (kernel : ℕ) (tried : Bool) (n : ℕ) (t : Told) (g : List Told) → Tries (priorities sys) (suc n) (t ∷ g) → IsTrue (may_try kernel) → GoesTried sys kernel (Before tried) t g
 unfolding settle_next TriedFits Tries
@@ -99,7 +99,7 @@ tried-whole-seen sys kernel o os t g h = by h.4.5
           (h.0, subst (Tries (priorities sys) h.0) last h.5, h.6),
         )
 
-pub tried-whole : (sys : System) (kernel : ℕ) (s : SettleRest) (t : Told) (g : List Told) → TriedFits sys kernel s (t ∷ g) → GoesTried sys kernel s t g
+pub tried-whole : (sys : System) (kernel : ℕ) (s : SettleState) (t : Told) (g : List Told) → TriedFits sys kernel s (t ∷ g) → GoesTried sys kernel s t g
 unfolding TriedFits Tries SeesEntry
 tried-whole sys kernel (Before false) t g h = tries-whole sys kernel false h.0 t g h.1 h.2
 tried-whole sys kernel (Before true) t g h = by h.0 h.1
@@ -110,7 +110,7 @@ tried-whole sys kernel (Before true) t g h = by h.0 h.1
 tried-whole sys kernel (Seeing []) t g h = absurd h.4
 tried-whole sys kernel (Seeing (o ∷ os)) t g h = tried-whole-seen sys kernel o os t g h
 
-tried-sound-seen : (sys : System) (kernel o : ℕ) (os : List ℕ) (t : Told) (g : List Told) (s' : SettleRest)
+tried-sound-seen : (sys : System) (kernel o : ℕ) (os : List ℕ) (t : Told) (g : List Told) (s' : SettleState)
     → SawAt kernel o os t s' → TriedFits sys kernel s' g → TriedFits sys kernel (Seeing (o ∷ os)) (t ∷ g)
 unfolding TriedFits SeesEntry
 tried-sound-seen sys kernel o os t g s' (At f l m is (SawNone e next)) h =
@@ -120,7 +120,7 @@ tried-sound-seen sys kernel o os t g s' (At f l m is (SawSome above may next)) h
     let k = subst (λ s. TriedFits sys kernel s g) next h in
     (k.0, t ∷ [], g, refl, (f, l, m, [], ap (λ t. t ∷ []) is, inr (above, refl)), k.1, k.2)
 
-tries-sound : (sys : System) (kernel : ℕ) (t : Told) (g : List Told) (s' : SettleRest) → before_next (priorities sys) t.body t.known ≡ Some s' → TriedFits sys kernel s' g
+tries-sound : (sys : System) (kernel : ℕ) (t : Told) (g : List Told) (s' : SettleState) → before_next (priorities sys) t.body t.known ≡ Some s' → TriedFits sys kernel s' g
     → (n : ℕ) × Tries (priorities sys) (suc n) (t ∷ g) × IsTrue (may_try kernel)
 unfolding TriedFits Tries
 tries-sound sys kernel t g s' h k =
@@ -129,7 +129,7 @@ tries-sound sys kernel t g s' h k =
     let first : t ∷ g ≡ plain body.Settle ∷ g = ap (λ t. t ∷ g) read.0 in
     (b.0, (b.1, b.2, first ∙ ap (λ us. plain body.Settle ∷ us) b.3, b.4, b.5), b.6)
 
-pub tried-sound : (sys : System) (kernel : ℕ) (s : SettleRest) (t : Told) (g : List Told) (s' : SettleRest)
+pub tried-sound : (sys : System) (kernel : ℕ) (s : SettleState) (t : Told) (g : List Told) (s' : SettleState)
     → settle_next sys kernel s t ≡ Some s' → TriedFits sys kernel s' g → TriedFits sys kernel s (t ∷ g)
 unfolding settle_next TriedFits
 tried-sound sys kernel (Before false) t g s' h k = tries-sound sys kernel t g s' h k
@@ -141,7 +141,7 @@ tries-never : (os : List ℕ) (n : ℕ) → Tries os (suc n) [] → ⊥
 unfolding Tries
 tries-never os n h = none-first _ _ (sym h.2)
 
-pub tried-end : (sys : System) (kernel : ℕ) (s : SettleRest) → Decides (settle_tried kernel s) (TriedFits sys kernel s [])
+pub tried-end : (sys : System) (kernel : ℕ) (s : SettleState) → Decides (settle_tried kernel s) (TriedFits sys kernel s [])
 unfolding Decides TriedFits Tries
 tried-end sys kernel (Before false) = λ h. tries-never (priorities sys) h.0 h.1
 tried-end sys kernel (Before true) = decides (may_try kernel) _ (λ may. (0, refl, may)) (λ not h. let is : may_try kernel ≡ true = h.2 in cc)

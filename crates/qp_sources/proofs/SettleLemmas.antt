@@ -9,7 +9,7 @@ use Rattle.qp_model.specs.Told.{Told, Known, Nothing, plain}
 use Rattle.qp_model.specs.Kernels.{may_try}
 use Rattle.qp_model.specs.Sources.{SeesEmpty, SeesEntry, Tries, Settles, priorities}
 use Rattle.qp_model.proofs.LineLemmas.{same_number}
-use Rattle.qp_sources.specs.SettleRest.{SettleRest, Before, Seeing, before_next, behind_seen, seen_next, settle_next}
+use Rattle.qp_sources.specs.SettleState.{SettleState, Before, Seeing, before_next, behind_seen, seen_next, settle_next}
 use Rattle.qp_model.proofs.RecordLemmas.{told-is}
 use Rattle.qp_sources.proofs.RecordLemmas.{first-is}
 
@@ -19,7 +19,7 @@ pub data SeesOn (sys : System) (kernel : ℕ) (os : List ℕ) (g : List Told) : 
   InVain : (one rest : List Told) → g ≡ one ++ rest → may_try kernel ≡ true → SeesEntry os one → Settles sys kernel rest → SeesOn sys kernel os g
 
 -- the records of what is left of a settle
-unfoldable pub SettleFits : System → ℕ → SettleRest → List Told → Type 0
+unfoldable pub SettleFits : System → ℕ → SettleState → List Told → Type 0
 SettleFits sys kernel (Before tried) g = Settles sys kernel g
 SettleFits sys kernel (Seeing os) g = SeesOn sys kernel os g
 
@@ -68,8 +68,8 @@ pub seen-is : (t : Told) (kernel o : ℕ) (os : List ℕ) (f l m : ℕ) → t �
 seen-is t kernel o os f l m e = seen-shut t.body t.known kernel o os f l m (ap (λ (t : Told). t.body) e) (ap (λ (t : Told). t.known) e)
 
 -- what is left of a settle reads one record
-abbrev pub Goes : System → ℕ → SettleRest → Told → List Told → Type 0
-Goes sys kernel s t g = (s' : SettleRest) × (settle_next sys kernel s t ≡ Some s') × SettleFits sys kernel s' g
+abbrev pub Goes : System → ℕ → SettleState → Told → List Told → Type 0
+Goes sys kernel s t g = (s' : SettleState) × (settle_next sys kernel s t ≡ Some s') × SettleFits sys kernel s' g
 
 settle-whole-seen : (sys : System) (kernel o : ℕ) (os : List ℕ) (t : Told) (g : List Told) → SeesOn sys kernel (o ∷ os) (t ∷ g) → Goes sys kernel (Seeing (o ∷ os)) t g
 unfolding settle_next SettleFits SeesEmpty SeesEntry
@@ -95,7 +95,7 @@ settle-whole-seen sys kernel o os t g (InVain one rest e may some h) =
         let last : rest ≡ g = sym (behind ∙ ap (λ us. us ++ rest) k.1) in
         (Before true, is ∙ entry-behind kernel os (some.0 + some.1) some.2 k.0 may, subst (Settles sys kernel) last h)
 
-pub settle-whole : (sys : System) (kernel : ℕ) (s : SettleRest) (t : Told) (g : List Told) → SettleFits sys kernel s (t ∷ g) → Goes sys kernel s t g
+pub settle-whole : (sys : System) (kernel : ℕ) (s : SettleState) (t : Told) (g : List Told) → SettleFits sys kernel s (t ∷ g) → Goes sys kernel s t g
 unfolding settle_next SettleFits SeesEmpty SeesEntry
 settle-whole sys kernel (Before tried) t g h =
     let read = before-whole sys kernel t g h in
@@ -106,7 +106,7 @@ settle-whole sys kernel (Seeing []) t g (InVain one rest e may some h) = absurd 
 settle-whole sys kernel (Seeing (o ∷ os)) t g h = settle-whole-seen sys kernel o os t g h
 
 -- and only such
-pub before-back : (objects : List ℕ) (t : Told) (s' : SettleRest) → before_next objects t.body t.known ≡ Some s' → (t ≡ plain body.Settle) × (s' ≡ Seeing objects)
+pub before-back : (objects : List ℕ) (t : Told) (s' : SettleState) → before_next objects t.body t.known ≡ Some s' → (t ≡ plain body.Settle) × (s' ≡ Seeing objects)
 before-back objects t s' h = by t.body t.known refl refl h
   where
     by : (b : Body) (known : Known) → t.body ≡ b → t.known ≡ known → before_next objects b known ≡ Some s' → (t ≡ plain body.Settle) × (s' ≡ Seeing objects)
@@ -114,11 +114,11 @@ before-back objects t s' h = by t.body t.known refl refl h
     by b known is_body is_known k = absurd (cc)
 
 -- what a queue that was seen leads to
-pub data Saw (kernel : ℕ) (os : List ℕ) (posted taken : ℕ) (s' : SettleRest) : Type 0 where
+pub data Saw (kernel : ℕ) (os : List ℕ) (posted taken : ℕ) (s' : SettleState) : Type 0 where
   SawNone : posted ≡ taken → s' ≡ Seeing os → Saw kernel os posted taken s'
   SawSome : taken < posted → may_try kernel ≡ true → s' ≡ Before true → Saw kernel os posted taken s'
 
-saw : (kernel : ℕ) (os : List ℕ) (posted taken : ℕ) (s' : SettleRest) → behind_seen kernel os posted taken ≡ Some s' → Saw kernel os posted taken s'
+saw : (kernel : ℕ) (os : List ℕ) (posted taken : ℕ) (s' : SettleState) → behind_seen kernel os posted taken ≡ Some s' → Saw kernel os posted taken s'
 saw kernel os posted taken s' h = by (posted == taken) (nat_lt taken posted) (may_try kernel) refl refl refl h
   where
     by : (same above may : Bool) → (posted == taken) ≡ same → nat_lt taken posted ≡ above → may_try kernel ≡ may
@@ -129,10 +129,10 @@ saw kernel os posted taken s' h = by (posted == taken) (nat_lt taken posted) (ma
     by false false may e a m k = absurd (cc)
 
 -- a queue that was seen
-pub data SawAt (kernel o : ℕ) (os : List ℕ) (t : Told) (s' : SettleRest) : Type 0 where
+pub data SawAt (kernel o : ℕ) (os : List ℕ) (t : Told) (s' : SettleState) : Type 0 where
   At : (f l m : ℕ) → t ≡ plain (body.Seen o f l m) → Saw kernel os (f + l) m s' → SawAt kernel o os t s'
 
-pub saw-at : (kernel o : ℕ) (os : List ℕ) (t : Told) (s' : SettleRest) → seen_next kernel o os t.body t.known ≡ Some s' → SawAt kernel o os t s'
+pub saw-at : (kernel o : ℕ) (os : List ℕ) (t : Told) (s' : SettleState) → seen_next kernel o os t.body t.known ≡ Some s' → SawAt kernel o os t s'
 saw-at kernel o os t s' h = by t.body t.known refl refl h
   where
     by : (b : Body) (known : Known) → t.body ≡ b → t.known ≡ known → seen_next kernel o os b known ≡ Some s' → SawAt kernel o os t s'
@@ -145,7 +145,7 @@ saw-at kernel o os t s' h = by t.body t.known refl refl h
         go false e k = absurd (cc)
     by b known is_body is_known k = absurd (cc)
 
-settle-sound-seen : (sys : System) (kernel o : ℕ) (os : List ℕ) (t : Told) (g : List Told) (s' : SettleRest)
+settle-sound-seen : (sys : System) (kernel o : ℕ) (os : List ℕ) (t : Told) (g : List Told) (s' : SettleState)
     → SawAt kernel o os t s' → SettleFits sys kernel s' g → SeesOn sys kernel (o ∷ os) (t ∷ g)
 unfolding SettleFits SeesEmpty SeesEntry
 settle-sound-seen sys kernel o os t g s' (At f l m is (SawNone e next)) h = by (subst (λ s. SettleFits sys kernel s g) next h)
@@ -157,7 +157,7 @@ settle-sound-seen sys kernel o os t g s' (At f l m is (SawNone e next)) h = by (
 settle-sound-seen sys kernel o os t g s' (At f l m is (SawSome above may next)) h =
     InVain (t ∷ []) g refl may (f, l, m, [], ap (λ t. t ∷ []) is, inr (above, refl)) (subst (λ s. SettleFits sys kernel s g) next h)
 
-pub settle-sound : (sys : System) (kernel : ℕ) (s : SettleRest) (t : Told) (g : List Told) (s' : SettleRest)
+pub settle-sound : (sys : System) (kernel : ℕ) (s : SettleState) (t : Told) (g : List Told) (s' : SettleState)
     → settle_next sys kernel s t ≡ Some s' → SettleFits sys kernel s' g → SettleFits sys kernel s (t ∷ g)
 unfolding settle_next SettleFits
 settle-sound sys kernel (Before tried) t g s' h k =

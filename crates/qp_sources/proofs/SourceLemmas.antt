@@ -13,7 +13,7 @@ use Rattle.qp_model.specs.Sources.{SourceEnd, SourceRuns, look_may}
 use Rattle.qp_model.proofs.LineLemmas.{same_number}
 use Rattle.qp_fits.specs.Decides.{Decides}
 use Rattle.qp_sources.specs.Underway.{Underway, underway_begin, underway_next, underway_done}
-use Rattle.qp_sources.specs.SourceRest.{SourceRest, Between, Within, stim_next, goes_on, source_next}
+use Rattle.qp_sources.specs.SourceState.{SourceState, Between, Within, stim_next, goes_on, source_next}
 use Rattle.qp_model.proofs.RecordLemmas.{told-is}
 use Rattle.qp_sources.proofs.RecordLemmas.{mapped, first-is, none-first}
 use Rattle.qp_sources.proofs.CallLemmas.{CallLaws}
@@ -27,21 +27,21 @@ pub data RunsWithin (sys : System) (kernel : ℕ) (u : Underway) (k : ℕ) (left
   RunsOn : (one rest : List Told) → g ≡ one ++ rest → UnderwayFits sys kernel u false one → SourceRuns sys kernel k left stop rest → RunsWithin sys kernel u k left stop g
 
 -- the records of what is left of a source
-unfoldable pub RunsOf : System → ℕ → SourceRest → SourceEnd → List Told → Type 0
+unfoldable pub RunsOf : System → ℕ → SourceState → SourceEnd → List Told → Type 0
 RunsOf sys kernel (Between k left) stop g = SourceRuns sys kernel k left stop g
 RunsOf sys kernel (Within u k left) stop g = RunsWithin sys kernel u k left stop g
 
 -- a stimulus under way may be read on
-unfoldable pub IsSound : System → SourceRest → Type 0
+unfoldable pub IsSound : System → SourceState → Type 0
 IsSound sys (Between k left) = ⊤
 IsSound sys (Within u k left) = IsUnderway sys u
 
 -- the `stim` of the next stimulus
-pub data Stimulated (sys : System) (kernel k : ℕ) (left : List Stim) (t : Told) (next : SourceRest) : Type 0 where
+pub data Stimulated (sys : System) (kernel k : ℕ) (left : List Stim) (t : Told) (next : SourceState) : Type 0 where
   Begins : (look : ℕ) (s : Stim) (behind : List Stim) (u : Underway) → left ≡ s ∷ behind → t ≡ plain (body.Stim k look) → look_may kernel look ≡ true
       → underway_begin sys s ≡ Some u → next ≡ Within u (k + 1) behind → Stimulated sys kernel k left t next
 
-stim-is : (sys : System) (kernel k : ℕ) (left : List Stim) (t : Told) (next : SourceRest) → stim_next sys kernel k left t.body t.known ≡ Some next
+stim-is : (sys : System) (kernel k : ℕ) (left : List Stim) (t : Told) (next : SourceState) → stim_next sys kernel k left t.body t.known ≡ Some next
     → Stimulated sys kernel k left t next
 unfolding stim_next
 stim-is sys kernel k [] t next h = absurd (cc)
@@ -67,12 +67,12 @@ is-stim sys kernel k s behind t look u is may e =
     ap (λ (t : Told). stim_next sys kernel k (s ∷ behind) t.body t.known) is ∙ rw (same_number k, may, e) refl
 
 module _ (laws : CallLaws) (sys : System) (kernel : ℕ) where
-  abbrev pub Reads : SourceRest → Told → SourceEnd → List Told → Type 0
-  Reads rest t stop g = (next : SourceRest) × (source_next sys kernel rest t ≡ Some next) × RunsOf sys kernel next stop g
+  abbrev pub Reads : SourceState → Told → SourceEnd → List Told → Type 0
+  Reads rest t stop g = (next : SourceState) × (source_next sys kernel rest t ≡ Some next) × RunsOf sys kernel next stop g
 
   -- the next stimulus begins
   pub stim-whole : (k : ℕ) (left : List Stim) (stop : SourceEnd) (t : Told) (g : List Told) → SourceRuns sys kernel k left stop (t ∷ g)
-      → (next : SourceRest) × (look : ℕ) × (t ≡ plain (body.Stim k look)) × (stim_next sys kernel k left t.body t.known ≡ Some next) × RunsOf sys kernel next stop g
+      → (next : SourceState) × (look : ℕ) × (t ≡ plain (body.Stim k look)) × (stim_next sys kernel k left t.body t.known ≡ Some next) × RunsOf sys kernel next stop g
   unfolding SourceRuns RunsOf
   stim-whole k [] stop t g h = absurd (none-first t g h.0)
   stim-whole k (s ∷ left) stop t g (inl h) = absurd (none-first t g h.0)
@@ -85,7 +85,7 @@ module _ (laws : CallLaws) (sys : System) (kernel : ℕ) where
       let some = begin-whole laws sys kernel s false h.1 h.5 in
       (Within some.0 (k + 1) left, h.0, is.0, is-stim sys kernel k s left t h.0 some.0 is.0 h.4 some.1, RunsOn h.1 h.2 is.1 some.2 h.6)
 
-  stim-back : (k : ℕ) (left : List Stim) (stop : SourceEnd) (t : Told) (g : List Told) (next : SourceRest) → Stimulated sys kernel k left t next → RunsOf sys kernel next stop g
+  stim-back : (k : ℕ) (left : List Stim) (stop : SourceEnd) (t : Told) (g : List Told) (next : SourceState) → Stimulated sys kernel k left t next → RunsOf sys kernel next stop g
       → SourceRuns sys kernel k left stop (t ∷ g)
   unfolding SourceRuns RunsOf
   stim-back k left stop t g next (Begins look s behind u is first may e next_is) h =
@@ -97,7 +97,7 @@ module _ (laws : CallLaws) (sys : System) (kernel : ℕ) where
           let whole : t ∷ g ≡ plain (body.Stim k look) ∷ (one ++ rest) = cc in
           inr (inr (look, one, rest, whole, may, begin-sound laws sys kernel s u false one e fits, runs))
 
-  pub stim-sound : (k : ℕ) (left : List Stim) (stop : SourceEnd) (t : Told) (g : List Told) (next : SourceRest) → stim_next sys kernel k left t.body t.known ≡ Some next
+  pub stim-sound : (k : ℕ) (left : List Stim) (stop : SourceEnd) (t : Told) (g : List Told) (next : SourceState) → stim_next sys kernel k left t.body t.known ≡ Some next
       → RunsOf sys kernel next stop g → SourceRuns sys kernel k left stop (t ∷ g)
   stim-sound k left stop t g next e h = stim-back k left stop t g next (stim-is sys kernel k left t next e) h
 
@@ -130,13 +130,13 @@ module _ (laws : CallLaws) (sys : System) (kernel : ℕ) where
       let some = next-whole laws sys kernel u false t os (subst (λ o. UnderwayFits sys kernel u false (o ∷ os)) (sym is.0) fits) in
       within-on u some.0 k left stop t g some.1 (RunsOn os rest is.1 some.2 runs)
 
-  pub source-whole : (rest : SourceRest) (stop : SourceEnd) (t : Told) (g : List Told) → RunsOf sys kernel rest stop (t ∷ g) → Reads rest t stop g
+  pub source-whole : (rest : SourceState) (stop : SourceEnd) (t : Told) (g : List Told) → RunsOf sys kernel rest stop (t ∷ g) → Reads rest t stop g
   unfolding RunsOf source_next
   source-whole (Between k left) stop t g h = let some = stim-whole k left stop t g h in (some.0, some.3, some.4)
   source-whole (Within u k left) stop t g h = within-whole u k left stop t g h
 
   -- and only such
-  within-sound : (u : Underway) (k : ℕ) (left : List Stim) (stop : SourceEnd) (t : Told) (g : List Told) (next : SourceRest)
+  within-sound : (u : Underway) (k : ℕ) (left : List Stim) (stop : SourceEnd) (t : Told) (g : List Told) (next : SourceState)
       → goes_on sys kernel u k left t (underway_next sys kernel u t) ≡ Some next → RunsOf sys kernel next stop g → RunsWithin sys kernel u k left stop (t ∷ g)
   unfolding goes_on RunsOf Decides
   within-sound u k left stop t g next e h = by (underway_next sys kernel u t) refl e
@@ -154,18 +154,18 @@ module _ (laws : CallLaws) (sys : System) (kernel : ℕ) where
       by (Some v) is e = let same : next ≡ Within v k left = cc in on v is (subst (λ n. RunsOf sys kernel n stop g) same h)
       by None is e = done (underway_done u) (done-end laws sys kernel u) e
 
-  pub source-sound : (rest : SourceRest) (stop : SourceEnd) (t : Told) (g : List Told) (next : SourceRest) → source_next sys kernel rest t ≡ Some next
+  pub source-sound : (rest : SourceState) (stop : SourceEnd) (t : Told) (g : List Told) (next : SourceState) → source_next sys kernel rest t ≡ Some next
       → RunsOf sys kernel next stop g → RunsOf sys kernel rest stop (t ∷ g)
   unfolding RunsOf source_next
   source-sound (Between k left) stop t g next e h = stim-sound k left stop t g next e h
   source-sound (Within u k left) stop t g next e h = within-sound u k left stop t g next e h
 
   -- each record leaves it so
-  stim-opens : (k : ℕ) (left : List Stim) (t : Told) (next : SourceRest) → Stimulated sys kernel k left t next → IsSound sys next
+  stim-opens : (k : ℕ) (left : List Stim) (t : Told) (next : SourceState) → Stimulated sys kernel k left t next → IsSound sys next
   unfolding IsSound
   stim-opens k left t next (Begins look s behind u is first may e next_is) = subst (IsSound sys) (sym next_is) (begin-opens laws sys kernel s u e)
 
-  pub source-opens : (rest : SourceRest) (t : Told) (next : SourceRest) → source_next sys kernel rest t ≡ Some next → IsSound sys next
+  pub source-opens : (rest : SourceState) (t : Told) (next : SourceState) → source_next sys kernel rest t ≡ Some next → IsSound sys next
   unfolding source_next goes_on IsSound
   source-opens (Between k left) t next e = stim-opens k left t next (stim-is sys kernel k left t next e)
   source-opens (Within u k left) t next e = by (underway_next sys kernel u t) refl e

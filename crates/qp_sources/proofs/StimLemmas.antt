@@ -10,10 +10,10 @@ use Rattle.qp_model.specs.Told.{Nothing, plain}
 use Rattle.qp_model.specs.Calls as call
 use Rattle.qp_model.specs.Calls.{Call}
 use Rattle.qp_model.specs.Parts.{is_static}
-use Rattle.qp_fits.specs.Rest.{Goal, ToQueue, ToFront, ToDeferred, ToSet, Stage, Begins, Refers, Puts, Raises, Restores, Drops, Returns, Flushes, Whole, Rest}
-use Rattle.qp_fits.specs.RestNext.{queue_next, set_next, put_next, block_next, new_next, event_next, now_next, defer_next, recall_next, flush_next, arm_next, rearm_next, begin_next, stage_next, rest_next}
-use Rattle.qp_sources.specs.TickRest.{TickRest, Reaching, Fired, Vain, tick_next}
-use Rattle.qp_sources.specs.SettleRest.{SettleRest, Before, Seeing, settle_next}
+use Rattle.qp_fits.specs.CallState.{Goal, ToQueue, ToFront, ToDeferred, ToSet, CallStage, Begins, Refers, Puts, Raises, Restores, Drops, Returns, Flushes, Whole, CallState}
+use Rattle.qp_fits.specs.CallStateNext.{queue_next, set_next, put_next, block_next, new_next, event_next, now_next, defer_next, recall_next, flush_next, arm_next, rearm_next, begin_next, stage_next, call_state_next}
+use Rattle.qp_sources.specs.TickState.{TickState, Reaching, Fired, Vain, tick_next}
+use Rattle.qp_sources.specs.SettleState.{SettleState, Before, Seeing, settle_next}
 use Rattle.qp_sources.specs.Underway.{Underway, Calling, Ticking, Settling, underway_next}
 
 module _ (sys : System) (i look : ℕ) where
@@ -68,7 +68,7 @@ module _ (sys : System) (i look : ℕ) where
   begin-stim o now kept room (call.Rearm t ticks) = refl
   begin-stim o now kept room (call.Disarm t) = refl
 
-  stage-stim : (o : ℕ) (now : Option Entry) (kept : List Entry) (s : Stage) → stage_next sys o now kept s (body.Stim i look) Nothing ≡ None
+  stage-stim : (o : ℕ) (now : Option Entry) (kept : List Entry) (s : CallStage) → stage_next sys o now kept s (body.Stim i look) Nothing ≡ None
   unfolding stage_next
   stage-stim o now kept (Begins room x) = begin-stim o now kept room x
   stage-stim o now kept (Refers p b goal) = refl
@@ -80,18 +80,18 @@ module _ (sys : System) (i look : ℕ) where
   stage-stim o now kept (Flushes total) = flush-stim kept total
   stage-stim o now kept (Whole answer) = refl
 
-  call-stim : (rest : Rest) → rest_next sys 0 None rest (plain (body.Stim i look)) ≡ None
-  unfolding rest_next
+  call-stim : (rest : CallState) → call_state_next sys 0 None rest (plain (body.Stim i look)) ≡ None
+  unfolding call_state_next
   call-stim rest = rw (stage-stim 0 None rest.kept rest.stage) refl
 
-  tick-stim : (rest : TickRest) → tick_next sys rest (plain (body.Stim i look)) ≡ None
+  tick-stim : (rest : TickState) → tick_next sys rest (plain (body.Stim i look)) ≡ None
   unfolding tick_next
   tick-stim (Reaching []) = refl
   tick-stim (Reaching (x ∷ left)) = refl
   tick-stim (Fired object sig left) = refl
   tick-stim Vain = refl
 
-  settle-stim : (kernel : ℕ) (rest : SettleRest) → settle_next sys kernel rest (plain (body.Stim i look)) ≡ None
+  settle-stim : (kernel : ℕ) (rest : SettleState) → settle_next sys kernel rest (plain (body.Stim i look)) ≡ None
   unfolding settle_next
   settle-stim kernel (Before tried) = refl
   settle-stim kernel (Seeing []) = refl

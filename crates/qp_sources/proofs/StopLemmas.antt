@@ -7,7 +7,7 @@ use Rattle.qp_model.specs.Told.{Told}
 use Rattle.qp_model.specs.Sources.{SourceEnd, AllDone, BeforeStimulus, AfterTry, AtAssert, InStimulus, SourceRuns}
 use Rattle.qp_fits.specs.Decides.{Decides}
 use Rattle.qp_sources.specs.Underway.{Underway, underway_done}
-use Rattle.qp_sources.specs.SourceRest.{SourceRest, Between, Within, source_next, between_stops, source_stops, source_after, stops_after}
+use Rattle.qp_sources.specs.SourceState.{SourceState, Between, Within, source_next, between_stops, source_stops, source_after, stops_after}
 use Rattle.qp_sources.proofs.RecordLemmas.{none-first, decides, decides-same}
 use Rattle.qp_sources.proofs.CallLemmas.{CallLaws}
 use Rattle.qp_sources.proofs.UnderwayLemmas.{UnderwayFits, IsUnderway, done-end}
@@ -96,7 +96,7 @@ module _ (laws : CallLaws) (sys : System) (kernel : ℕ) where
   within-end u k left AllDone is = behind-stop u k left AllDone (λ h. h)
   within-end u k left BeforeStimulus is = behind-stop u k left BeforeStimulus (λ h. h)
 
-  source-end : (rest : SourceRest) (stop : SourceEnd) → IsSound sys rest → Decides (source_stops kernel rest stop) (RunsOf sys kernel rest stop [])
+  source-end : (rest : SourceState) (stop : SourceEnd) → IsSound sys rest → Decides (source_stops kernel rest stop) (RunsOf sys kernel rest stop [])
   unfolding RunsOf IsSound
   source-end (Between k left) stop is = between-end sys kernel k left stop
   source-end (Within u k left) stop is = within-end u k left stop is
@@ -107,14 +107,14 @@ module _ (laws : CallLaws) (sys : System) (kernel : ℕ) where
   none-after (t ∷ g) = refl
 
   -- a reader that reads all records says where they may end
-  pub after-stops : (g : List Told) (rest : SourceRest) (stop : SourceEnd) → IsSound sys rest
+  pub after-stops : (g : List Told) (rest : SourceState) (stop : SourceEnd) → IsSound sys rest
       → Decides (stops_after kernel (source_after sys kernel (Some rest) g) stop) (RunsOf sys kernel rest stop g)
   unfolding source_after
   after-stops [] rest stop is = source-end rest stop is
   after-stops (t ∷ g) rest stop is = by (source_next sys kernel rest t) refl (λ next sound. after-stops g next stop sound)
     where
-      by : (r : Option SourceRest) → source_next sys kernel rest t ≡ r
-          → ((next : SourceRest) → IsSound sys next → Decides (stops_after kernel (source_after sys kernel (Some next) g) stop) (RunsOf sys kernel next stop g))
+      by : (r : Option SourceState) → source_next sys kernel rest t ≡ r
+          → ((next : SourceState) → IsSound sys next → Decides (stops_after kernel (source_after sys kernel (Some next) g) stop) (RunsOf sys kernel next stop g))
           → Decides (stops_after kernel (source_after sys kernel r g) stop) (RunsOf sys kernel rest stop (t ∷ g))
       by None e behind =
           rw none-after (decides false _ (λ e. absurd (cc)) (λ f h. let some = source-whole laws sys kernel rest stop t g h in let is_some = some.1 in cc))

@@ -7,7 +7,7 @@ use Rattle.qp_model.specs.Told.{Told, plain}
 use Rattle.qp_model.specs.Sites.{ring_of}
 use Rattle.qp_model.specs.Sources.{TicksOne, FiresInVain}
 use Rattle.qp_fits.specs.Decides.{Decides}
-use Rattle.qp_sources.specs.TickRest.{Due, TickRest, Reaching, Fired, Vain, tick_done, tick_asserted, tick_open}
+use Rattle.qp_sources.specs.TickState.{Due, TickState, Reaching, Fired, Vain, tick_done, tick_asserted, tick_open}
 use Rattle.qp_sources.proofs.RecordLemmas.{none-first, none-joined}
 use Rattle.qp_sources.proofs.TickLemmas.{TicksDue, timer_of, FiredOn, NoneFree, IsPosted, TickFits}
 
@@ -28,14 +28,14 @@ fired-never sys object sig left asserted (NoneFree f l m e h) = none-first _ _ (
 fired-never sys object sig left asserted (IsPosted f l m rest e room h) = none-first _ _ (sym e)
 
 -- nothing follows where it is done, and where it ended in an assertion
-pub tick-end : (sys : System) (s : TickRest) → Decides (tick_done s) (TickFits sys s false [])
+pub tick-end : (sys : System) (s : TickState) → Decides (tick_done s) (TickFits sys s false [])
 unfolding Decides TickFits TicksDue
 tick-end sys (Reaching []) = (refl, refl)
 tick-end sys (Reaching (x ∷ left)) = due-never sys x left false
 tick-end sys (Fired object sig left) = fired-never sys object sig left false
 tick-end sys Vain = λ h. let e : false ≡ true = h.1 in cc
 
-pub tick-asserted : (sys : System) (s : TickRest) → Decides (tick_asserted s) (TickFits sys s true [])
+pub tick-asserted : (sys : System) (s : TickState) → Decides (tick_asserted s) (TickFits sys s true [])
 unfolding Decides TickFits TicksDue
 tick-asserted sys (Reaching []) = λ h. let e : true ≡ false = h.1 in cc
 tick-asserted sys (Reaching (x ∷ left)) = due-never sys x left true
@@ -43,10 +43,10 @@ tick-asserted sys (Fired object sig left) = fired-never sys object sig left true
 tick-asserted sys Vain = (refl, refl)
 
 -- some records other than none are left
-abbrev pub TicksOn : System → TickRest → Type 0
+abbrev pub TicksOn : System → TickState → Type 0
 TicksOn sys s = (back : List Told) × (back ≢ []) × (asserted : Bool) × TickFits sys s asserted back
 
-pub tick-open : (sys : System) (s : TickRest) → Decides (tick_open s) (TicksOn sys s)
+pub tick-open : (sys : System) (s : TickState) → Decides (tick_open s) (TicksOn sys s)
 unfolding Decides TickFits TicksDue FiresInVain
 tick-open sys (Reaching []) = λ h. h.1 h.3.0
 tick-open sys (Reaching (x ∷ left)) =

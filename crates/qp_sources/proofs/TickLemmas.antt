@@ -12,7 +12,7 @@ use Rattle.qp_model.specs.Told.{Told, Known, Nothing, plain}
 use Rattle.qp_model.specs.Sites.{ring_of}
 use Rattle.qp_model.specs.Sources.{TicksOne, FiresInVain, Ticks}
 use Rattle.qp_model.proofs.LineLemmas.{same_number}
-use Rattle.qp_sources.specs.TickRest.{Due, dues, TickRest, Reaching, Fired, Vain, reach_next, had_room, fired_next, tick_next}
+use Rattle.qp_sources.specs.TickState.{Due, dues, TickState, Reaching, Fired, Vain, reach_next, had_room, fired_next, tick_next}
 use Rattle.qp_model.proofs.RecordLemmas.{told-is, same_entry-is}
 use Rattle.qp_sources.proofs.RecordLemmas.{first-is, passed}
 
@@ -71,14 +71,14 @@ pub data FiredOn (sys : System) (object sig : ℕ) (left : List Due) (asserted :
       → TicksDue sys left asserted rest → FiredOn sys object sig left asserted g
 
 -- the records of what is left of a tick
-unfoldable pub TickFits : System → TickRest → Bool → List Told → Type 0
+unfoldable pub TickFits : System → TickState → Bool → List Told → Type 0
 TickFits sys (Reaching left) asserted g = TicksDue sys left asserted g
 TickFits sys (Fired object sig left) asserted g = FiredOn sys object sig left asserted g
 TickFits sys Vain asserted g = (g ≡ []) × (asserted ≡ true)
 
 -- it reads one record
-abbrev pub GoesTick : System → TickRest → Bool → Told → List Told → Type 0
-GoesTick sys s asserted t g = (s' : TickRest) × (tick_next sys s t ≡ Some s') × TickFits sys s' asserted g
+abbrev pub GoesTick : System → TickState → Bool → Told → List Told → Type 0
+GoesTick sys s asserted t g = (s' : TickState) × (tick_next sys s t ≡ Some s') × TickFits sys s' asserted g
 
 idle-reach : (x : Due) (left : List Due) (t : Told) (n : ℕ) → t ≡ plain (body.Idle x.t n) → reach_next x left t.body t.known ≡ Some (Reaching left)
 idle-reach x left t n e = ap (λ (t : Told). reach_next x left t.body t.known) e ∙ rw (same_number x.t) refl
@@ -121,7 +121,7 @@ fired-whole sys object sig left asserted t g (IsPosted f l m rest e room h) =
     ap (λ (t : Told). fired_next (ring_of sys object) object sig left t.body t.known) is ∙ rw (same_number object, same_number sig, room) refl in
     (Reaching left, next, subst (TicksDue sys left asserted) (sym (first-is _ _ _ _ e).1) h)
 
-pub tick-whole : (sys : System) (s : TickRest) (asserted : Bool) (t : Told) (g : List Told) → TickFits sys s asserted (t ∷ g) → GoesTick sys s asserted t g
+pub tick-whole : (sys : System) (s : TickState) (asserted : Bool) (t : Told) (g : List Told) → TickFits sys s asserted (t ∷ g) → GoesTick sys s asserted t g
 unfolding TickFits TicksDue
 tick-whole sys (Reaching []) asserted t g h = let none : t ∷ g ≡ [] = h.0 in absurd (cc)
 tick-whole sys (Reaching (x ∷ left)) asserted t g h = reach-whole sys x left asserted t g h
@@ -129,12 +129,12 @@ tick-whole sys (Fired object sig left) asserted t g h = fired-whole sys object s
 tick-whole sys Vain asserted t g h = let none : t ∷ g ≡ [] = h.0 in absurd (cc)
 
 -- what a timer that is reached leaves
-data Reached (x : Due) (left : List Due) (t : Told) (s' : TickRest) : Type 0 where
+data Reached (x : Due) (left : List Due) (t : Told) (s' : TickState) : Type 0 where
   WasIdle : (n : ℕ) → t ≡ plain (body.Idle x.t n) → s' ≡ Reaching left → Reached x left t s'
   Fell : (n counter : ℕ) → t ≡ plain (body.Tick x.t n counter) → s' ≡ Reaching left → Reached x left t s'
   HasFired : (n reload : ℕ) → t ≡ plain (body.Fire x.t n reload) → s' ≡ Fired x.object x.sig left → Reached x left t s'
 
-reached : (x : Due) (left : List Due) (t : Told) (s' : TickRest) → reach_next x left t.body t.known ≡ Some s' → Reached x left t s'
+reached : (x : Due) (left : List Due) (t : Told) (s' : TickState) → reach_next x left t.body t.known ≡ Some s' → Reached x left t s'
 reached x left t s' h = by t.body t.known refl refl h
   where
     by : (b : Body) (known : Known) → t.body ≡ b → t.known ≡ known → reach_next x left b known ≡ Some s' → Reached x left t s'
@@ -155,7 +155,7 @@ reached x left t s' h = by t.body t.known refl refl h
         HasFired n reload (told-is t _ _ is_body is_known ∙ ap (λ u. plain (body.Fire u n reload)) same) both.1
     by b known is_body is_known k = absurd (cc)
 
-reach-sound : (sys : System) (x : Due) (left : List Due) (asserted : Bool) (t : Told) (g : List Told) (s' : TickRest)
+reach-sound : (sys : System) (x : Due) (left : List Due) (asserted : Bool) (t : Told) (g : List Told) (s' : TickState)
     → Reached x left t s' → TickFits sys s' asserted g → TicksDue sys (x ∷ left) asserted (t ∷ g)
 unfolding TicksDue TickFits TicksOne FiresInVain had_room
 reach-sound sys x left asserted t g s' (WasIdle n is next) h =
@@ -173,11 +173,11 @@ reach-sound sys x left asserted t g s' (HasFired n reload is next) h = by (subst
         inr (plain (body.Fire x.t n reload) ∷ plain (body.Post x.object f l m (entry 0 x.sig 0)) ∷ [], rest, whole, inr (inr (n, reload, f, l, m, refl, room)), k)
 
 -- what a post of a timer leaves
-data WentOn (ring : ℕ) (object sig : ℕ) (left : List Due) (t : Told) (s' : TickRest) : Type 0 where
+data WentOn (ring : ℕ) (object sig : ℕ) (left : List Due) (t : Told) (s' : TickState) : Type 0 where
   WasFull : (f l m : ℕ) → t ≡ plain (body.NoEntry object f l m) → s' ≡ Vain → WentOn ring object sig left t s'
   HasPosted : (f l m : ℕ) → t ≡ plain (body.Post object f l m (entry 0 sig 0)) → had_room ring f l m ≡ true → s' ≡ Reaching left → WentOn ring object sig left t s'
 
-went-on : (ring : ℕ) (object sig : ℕ) (left : List Due) (t : Told) (s' : TickRest) → fired_next ring object sig left t.body t.known ≡ Some s' → WentOn ring object sig left t s'
+went-on : (ring : ℕ) (object sig : ℕ) (left : List Due) (t : Told) (s' : TickState) → fired_next ring object sig left t.body t.known ≡ Some s' → WentOn ring object sig left t s'
 went-on ring object sig left t s' h = by t.body t.known refl refl h
   where
     by : (b : Body) (known : Known) → t.body ≡ b → t.known ≡ known → fired_next ring object sig left b known ≡ Some s' → WentOn ring object sig left t s'
@@ -196,7 +196,7 @@ went-on ring object sig left t s' h = by t.body t.known refl refl h
         WasFull f l m (told-is t _ _ is_body is_known ∙ ap (λ a. plain (body.NoEntry a f l m)) same_object) both.1
     by b known is_body is_known k = absurd (cc)
 
-fired-sound : (sys : System) (object sig : ℕ) (left : List Due) (asserted : Bool) (t : Told) (g : List Told) (s' : TickRest)
+fired-sound : (sys : System) (object sig : ℕ) (left : List Due) (asserted : Bool) (t : Told) (g : List Told) (s' : TickState)
     → WentOn (ring_of sys object) object sig left t s' → TickFits sys s' asserted g → FiredOn sys object sig left asserted (t ∷ g)
 unfolding TickFits
 fired-sound sys object sig left asserted t g s' (WasFull f l m is next) h =
@@ -206,7 +206,7 @@ fired-sound sys object sig left asserted t g s' (WasFull f l m is next) h =
 fired-sound sys object sig left asserted t g s' (HasPosted f l m is room next) h =
     IsPosted f l m g (ap (λ t. t ∷ g) is) room (subst (λ s. TickFits sys s asserted g) next h)
 
-pub tick-sound : (sys : System) (s : TickRest) (asserted : Bool) (t : Told) (g : List Told) (s' : TickRest)
+pub tick-sound : (sys : System) (s : TickState) (asserted : Bool) (t : Told) (g : List Told) (s' : TickState)
     → tick_next sys s t ≡ Some s' → TickFits sys s' asserted g → TickFits sys s asserted (t ∷ g)
 unfolding tick_next TickFits
 tick-sound sys (Reaching []) asserted t g s' h k = absurd (cc)

@@ -10,10 +10,10 @@ use Rattle.qp_model.specs.Calls as call
 use Rattle.qp_model.specs.Calls.{Call}
 use Rattle.qp_model.specs.Sources.{CallFits, StimFits}
 use Rattle.qp_fits.specs.Decides.{Decides}
-use Rattle.qp_fits.specs.RestNext.{rest_begin, rest_next}
+use Rattle.qp_fits.specs.CallStateNext.{call_state_begin, call_state_next}
 use Rattle.qp_fits.specs.Reads.{IsOpen, call_able}
-use Rattle.qp_sources.specs.TickRest.{Reaching, dues, tick_next}
-use Rattle.qp_sources.specs.SettleRest.{Before, settle_next, settle_done, settle_open}
+use Rattle.qp_sources.specs.TickState.{Reaching, dues, tick_next}
+use Rattle.qp_sources.specs.SettleState.{Before, settle_next, settle_done, settle_open}
 use Rattle.qp_sources.specs.Underway.{Underway, Calling, Ticking, Settling, call_begin, underway_begin, underway_next, underway_done, underway_asserted, underway_tried, underway_open}
 use Rattle.qp_sources.proofs.RecordLemmas.{mapped, decides, decides-same}
 use Rattle.qp_sources.proofs.SettleLemmas.{SettleFits, settle-whole, settle-sound}
@@ -50,14 +50,14 @@ module _ (laws : CallLaws) (sys : System) (kernel : ℕ) where
   call-begun x asserted g sent h =
       let some = call-whole laws sys x asserted g sent h in
       let able : call_able sys None x ≡ true = some.0 in
-      (Calling (rest_begin 0 [] x), rw able refl, some.1)
+      (Calling (call_state_begin 0 [] x), rw able refl, some.1)
 
-  call-back : (x : Call) (u : Underway) → call_begin sys x ≡ Some u → (call_able sys None x ≡ true) × (u ≡ Calling (rest_begin 0 [] x))
+  call-back : (x : Call) (u : Underway) → call_begin sys x ≡ Some u → (call_able sys None x ≡ true) × (u ≡ Calling (call_state_begin 0 [] x))
   unfolding call_begin
   call-back x u h = by (call_able sys None x) refl h
     where
-      by : (able : Bool) → call_able sys None x ≡ able → cond able (Some (Calling (rest_begin 0 [] x))) None ≡ Some u
-          → (call_able sys None x ≡ true) × (u ≡ Calling (rest_begin 0 [] x))
+      by : (able : Bool) → call_able sys None x ≡ able → cond able (Some (Calling (call_state_begin 0 [] x))) None ≡ Some u
+          → (call_able sys None x ≡ true) × (u ≡ Calling (call_state_begin 0 [] x))
       by true is k = (is, cc)
       by false is k = absurd (cc)
 
@@ -110,7 +110,7 @@ module _ (laws : CallLaws) (sys : System) (kernel : ℕ) where
       → UnderwayFits sys kernel next asserted g → UnderwayFits sys kernel u asserted (t ∷ g)
   unfolding UnderwayFits underway_next
   next-sound (Calling rest) next asserted t g e h =
-      let some = mapped Calling (rest_next sys 0 None rest t) next e in
+      let some = mapped Calling (call_state_next sys 0 None rest t) next e in
       left-sound laws sys rest some.0 asserted t g some.1 (subst (λ u. UnderwayFits sys kernel u asserted g) some.2 h)
   next-sound (Ticking rest) next asserted t g e h =
       let some = mapped Ticking (tick_next sys rest t) next e in
@@ -123,7 +123,7 @@ module _ (laws : CallLaws) (sys : System) (kernel : ℕ) where
   pub next-opens : (u next : Underway) (t : Told) → underway_next sys kernel u t ≡ Some next → IsUnderway sys next
   unfolding IsUnderway underway_next
   next-opens (Calling rest) next t e =
-      let some = mapped Calling (rest_next sys 0 None rest t) next e in
+      let some = mapped Calling (call_state_next sys 0 None rest t) next e in
       subst (IsUnderway sys) (sym some.2) (laws.open_next sys 0 None rest some.0 t some.1)
   next-opens (Ticking rest) next t e = let some = mapped Ticking (tick_next sys rest t) next e in subst (IsUnderway sys) (sym some.2) tt
   next-opens (Settling rest) next t e = let some = mapped Settling (settle_next sys kernel rest t) next e in subst (IsUnderway sys) (sym some.2) tt
@@ -165,7 +165,7 @@ module _ (laws : CallLaws) (sys : System) (kernel : ℕ) where
 
   pub tried-on-sound : (u next : Underway) (t : Told) (g : List Told) → underway_next sys kernel u t ≡ Some next → TriedOn sys kernel next g → TriedOn sys kernel u (t ∷ g)
   unfolding TriedOn underway_next
-  tried-on-sound (Calling rest) next t g e h = let some = mapped Calling (rest_next sys 0 None rest t) next e in subst (λ u. TriedOn sys kernel u g) some.2 h
+  tried-on-sound (Calling rest) next t g e h = let some = mapped Calling (call_state_next sys 0 None rest t) next e in subst (λ u. TriedOn sys kernel u g) some.2 h
   tried-on-sound (Ticking rest) next t g e h = let some = mapped Ticking (tick_next sys rest t) next e in subst (λ u. TriedOn sys kernel u g) some.2 h
   tried-on-sound (Settling rest) next t g e h =
       let some = mapped Settling (settle_next sys kernel rest t) next e in

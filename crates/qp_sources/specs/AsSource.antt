@@ -5,12 +5,12 @@ use Rattle.qp_model.specs.declared.stimulus.Stim.{Stim}
 use Rattle.qp_model.specs.declared.systems.System.{System}
 use Rattle.qp_model.specs.Sources.{SourceEnd, AllDone, BeforeStimulus, AfterTry, AtAssert, InStimulus}
 use Rattle.qp_model.specs.Ends.{may_cut}
-use Rattle.qp_sources.specs.AsRests.{as_tick, as_settle}
+use Rattle.qp_sources.specs.AsStates.{as_tick, as_settle}
 use Rattle.qp_sources.specs.Underway as underway
-use Rattle.qp_sources.specs.SourceRest as source
+use Rattle.qp_sources.specs.SourceState as source
 use Rattle.qp_sources.specs.declared.underway.Underway.{Underway}
 use Rattle.qp_sources.specs.declared.underway.Underway.TheVariants as declared_underway
-use Rattle.qp_sources.specs.declared.source_rest.SourceRest.{SourceRest}
+use Rattle.qp_sources.specs.declared.source_state.SourceState.{SourceState}
 use Rattle.qp_sources.specs.declared.stops.Stops.{Stops}
 
 abbrev pub as_underway : System → Underway → underway.Underway
@@ -18,11 +18,11 @@ as_underway sys (declared_underway.Calling rest) = underway.Calling rest
 as_underway sys (declared_underway.Ticking rest) = underway.Ticking (as_tick sys rest)
 as_underway sys (declared_underway.Settling rest) = underway.Settling (as_settle sys rest)
 
-abbrev pub rest_of : System → Option Underway → ℕ → List Stim → source.SourceRest
+abbrev pub rest_of : System → Option Underway → ℕ → List Stim → source.SourceState
 rest_of sys None k left = source.Between k left
 rest_of sys (Some u) k left = source.Within (as_underway sys u) k left
 
-abbrev pub as_source : System → List Stim → SourceRest → source.SourceRest
+abbrev pub as_source : System → List Stim → SourceState → source.SourceState
 as_source sys ss rest = rest_of sys rest.under (rest.begun + 1) (drop rest.begun ss)
 
 -- the flag of an end

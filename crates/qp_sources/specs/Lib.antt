@@ -1,8 +1,8 @@
 -- What is left of the records of a source, and what it reads next.
-pub mod TickRest
-pub mod SettleRest
-pub mod AsRests
+pub mod TickState
+pub mod SettleState
+pub mod AsStates
 pub mod Underway
-pub mod SourceRest
+pub mod SourceState
 pub mod Tries
 pub mod AsSource

@@ -8,21 +8,21 @@ use Rattle.qp_model.specs.declared.systems.System.{System}
 use Rattle.qp_model.specs.Told.{Told}
 use Rattle.qp_model.specs.Calls as call
 use Rattle.qp_model.specs.Calls.{Call, is_assertion}
-use Rattle.qp_fits.specs.Rest.{Rest}
-use Rattle.qp_fits.specs.RestNext.{rest_begin, rest_next, stage_answer}
+use Rattle.qp_fits.specs.CallState.{CallState}
+use Rattle.qp_fits.specs.CallStateNext.{call_state_begin, call_state_next, stage_answer}
 use Rattle.qp_fits.specs.Reads.{call_able}
-use Rattle.qp_sources.specs.TickRest.{TickRest, Reaching, dues, tick_next, tick_done, tick_asserted, tick_open}
-use Rattle.qp_sources.specs.SettleRest.{SettleRest, Before, settle_next, settle_done, settle_tried, settle_open}
+use Rattle.qp_sources.specs.TickState.{TickState, Reaching, dues, tick_next, tick_done, tick_asserted, tick_open}
+use Rattle.qp_sources.specs.SettleState.{SettleState, Before, settle_next, settle_done, settle_tried, settle_open}
 
 pub data Underway : Type 0 where
-  Calling : (rest : Rest) → Underway
-  Ticking : (rest : TickRest) → Underway
-  Settling : (rest : SettleRest) → Underway
+  Calling : (rest : CallState) → Underway
+  Ticking : (rest : TickState) → Underway
+  Settling : (rest : SettleState) → Underway
 
 -- a call begins, where it has what it asks for
 unfoldable pub call_begin : System → Call → Option Underway
 unfolding call_able
-call_begin sys x = if call_able sys None x then Some (Calling (rest_begin 0 [] x)) else None
+call_begin sys x = if call_able sys None x then Some (Calling (call_state_begin 0 [] x)) else None
 
 -- a stimulus begins
 unfoldable pub underway_begin : System → Stim → Option Underway
@@ -34,8 +34,8 @@ underway_begin sys stim.Settle = Some (Settling (Before false))
 
 -- what is left behind the next record
 unfoldable pub underway_next : System → ℕ → Underway → Told → Option Underway
-unfolding rest_next settle_next tick_next
-underway_next sys kernel (Calling rest) t = option_map Calling (rest_next sys 0 None rest t)
+unfolding call_state_next settle_next tick_next
+underway_next sys kernel (Calling rest) t = option_map Calling (call_state_next sys 0 None rest t)
 underway_next sys kernel (Ticking rest) t = option_map Ticking (tick_next sys rest t)
 underway_next sys kernel (Settling rest) t = option_map Settling (settle_next sys kernel rest t)
 

@@ -50,7 +50,8 @@ pub fn is_source_lane(
     lane: &[Rec],
     told: &[Told],
 ) -> Result<bool, AllocError>
-    ensures { IfOk result (λ is. (w : Facts) → w.sys ≡ sys.now → told.now ≡ source_records w (lane_items lane.now) → Decides is (IsSourceLane w kernel end stimuli.now (lane_items lane.now))) }
+    ensures { IfOk result (λ is. (w : Facts) → w.sys ≡ sys.now → told.now ≡ source_records w (lane_items lane.now) → Decides is
+        (IsSourceLane w kernel end stimuli.now (lane_items lane.now))) }
 {
     if !are_of_none(lane) {
         return Ok(false);
@@ -74,7 +75,8 @@ pub fn spill_stands(
     stimuli: &[Stim],
     told: &[Told],
 ) -> Result<bool, AllocError>
-    ensures { IfOk result (λ stands. (j : Journal) (lane : List Item) → j.kernel ≡ kernel → told.now ≡ source_records (facts_of sys.now j) lane → Decides stands (SpillStands sys.now j cuts stimuli.now lane)) }
+    ensures { IfOk result (λ stands. (j : Journal) (lane : List Item) → j.kernel ≡ kernel → told.now ≡ source_records (facts_of sys.now j)
+        lane → Decides stands (SpillStands sys.now j cuts stimuli.now lane)) }
 {
     Ok(may_spill(may_stop(alloc, sys, kernel, stimuli, told)?, cuts))
 }

@@ -4,10 +4,10 @@
 mod lane;
 mod records;
 mod scene;
-mod settle_rest;
-mod source_rest;
+mod settle_state;
+mod source_state;
 mod stops;
-mod tick_rest;
+mod tick_state;
 mod tries;
 mod underway;
 

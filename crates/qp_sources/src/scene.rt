@@ -6,14 +6,14 @@ ghost use Rattle.qp_model.specs.Parts.{first_pool};
 ghost use Rattle.qp_model.specs.Sites.{ring_of};
 ghost use Rattle.qp_fits.specs.AsCall.{as_call};
 ghost use Rattle.qp_fits.specs.Reads.{call_able};
-ghost use Rattle.qp_sources.specs.TickRest.{had_room};
+ghost use Rattle.qp_sources.specs.TickState.{had_room};
 
 use qp_fits::Call;
 use qp_fits::lookups::had_free;
 use qp_model::{PoolDef, System};
 
 /// Whether an entry of the queue of `a` was free before a post after which the counts are these.
-#[tactic(auto, unfolding(crate::specs::TickRest::had_room))]
+#[tactic(auto, unfolding(crate::specs::TickState::had_room))]
 pub fn had_room(sys: &System, a: u8, f: u64, l: u64, m: u64) -> bool
     ensures { result ≡ had_room (ring_of sys.now a) f l m }
 {

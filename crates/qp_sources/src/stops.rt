@@ -4,10 +4,10 @@ ghost use Rattle.std.specs.Prelude.{◌≡◌, ℕ, List, drop, IfOk};
 ghost use Rattle.qp_model.specs.declared.stimulus.Stim.{Stim};
 ghost use Rattle.qp_model.specs.Sources.{SourceEnd, SourceRuns};
 ghost use Rattle.qp_fits.specs.Decides.{Decides};
-ghost use Rattle.qp_sources.specs.SourceRest.{Within, source_stops, is_last as last};
+ghost use Rattle.qp_sources.specs.SourceState.{Within, source_stops, is_last as last};
 ghost use Rattle.qp_sources.specs.AsSource.{as_source, as_underway, flag_of, some_may_end};
 
-use crate::source_rest::{Source, SourceRest, behind, stim_at};
+use crate::source_state::{Source, SourceState, behind, stim_at};
 use crate::underway::Underway;
 use qp_fits::Told;
 use qp_model::{Stim, System};
@@ -35,7 +35,8 @@ const NONE: Stops = Stops {
 
 /// Where the records may end within or right behind a stimulus.
 fn stops_within(source: &Source, u: &Underway, is_last: bool) -> Stops
-    ensures { (k : ℕ) (left : List Stim) (stop : SourceEnd) → is_last ≡ last left → flag_of result stop ≡ source_stops source.now.kernel (Within (as_underway source.now.sys.now u.now) k left) stop }
+    ensures { (k : ℕ) (left : List Stim) (stop : SourceEnd) → is_last ≡ last left → flag_of result stop ≡ source_stops source.now.kernel
+        (Within (as_underway source.now.sys.now u.now) k left) stop }
 {
     let is_done = u.is_done(source.sys);
     Stops {
@@ -54,8 +55,9 @@ fn is_last(stimuli: &[Stim], begun: usize) -> bool
     stim_at(stimuli, begun).is_none()
 }
 
-fn stops_of(source: &Source, rest: &SourceRest) -> Stops
-    ensures { (stop : SourceEnd) → flag_of result stop ≡ source_stops source.now.kernel (as_source source.now.sys.now source.now.stimuli.now rest.now) stop }
+fn stops_of(source: &Source, rest: &SourceState) -> Stops
+    ensures { (stop : SourceEnd) → flag_of result stop ≡ source_stops source.now.kernel
+        (as_source source.now.sys.now source.now.stimuli.now rest.now) stop }
 {
     let is_last = is_last(source.stimuli, rest.begun);
     match &rest.under {

@@ -29,7 +29,8 @@ fn entry_seen(r: &Rec) -> Option<[u64; 4]>
 
 /// Whether what was seen is new, which it isn't from then on.
 fn is_new(seen: &mut BTreeSet<[u64; 4]>, key: Option<[u64; 4]>) -> Result<bool, AllocError>
-    ensures { IfOk result (λ new. (xs : List (List ℕ)) → Holds seen.old xs → (new ≡ not (repeats xs key)) × Holds seen.new (with_seen xs key)) }
+    ensures { IfOk result (λ new. (xs : List (List ℕ)) → Holds seen.old xs → (new ≡ not (repeats xs key)) × Holds seen.new
+        (with_seen xs key)) }
 {
     match key {
         Some(key) => Ok(seen.insert(key)?),

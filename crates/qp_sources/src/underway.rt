@@ -8,20 +8,20 @@ ghost use Rattle.qp_sources.specs.Underway.{call_begin, underway_begin, underway
 ghost use Rattle.qp_sources.specs.AsSource.{as_underway};
 
 use crate::scene::is_able;
-use crate::settle_rest::SettleRest;
-use crate::tick_rest::TickRest;
+use crate::settle_state::SettleState;
+use crate::tick_state::TickState;
 use arrayvec::ArrayVec;
 use qp_base::Ev;
-use qp_fits::{Answer, Call, Kept, Rest, Told};
+use qp_fits::{Answer, Call, CallState, Kept, Told};
 use qp_model::{Params, Stim, System};
 use std::alloc::{AllocError, Global};
 
 /// What is left of a stimulus behind its `stim`.
 #[derive(Drop)]
 pub enum Underway {
-    Calling(Rest),
-    Ticking(TickRest),
-    Settling(SettleRest),
+    Calling(CallState),
+    Ticking(TickState),
+    Settling(SettleState),
 }
 
 fn is_assertion(answer: Answer) -> bool
@@ -48,7 +48,7 @@ fn call_begin(alloc: Global, sys: &System, call: Call) -> Result<Option<Underway
     ensures { IfOk result (λ u. option_map (as_underway sys.now) u ≡ call_begin sys.now (as_call call)) }
 {
     if is_able(sys, &call) {
-        Ok(Some(Underway::Calling(Rest::begin(0, Kept::none(alloc), call))))
+        Ok(Some(Underway::Calling(CallState::begin(0, Kept::none(alloc), call))))
     } else {
         Ok(None)
     }
@@ -56,7 +56,7 @@ fn call_begin(alloc: Global, sys: &System, call: Call) -> Result<Option<Underway
 
 impl Underway {
     /// A stimulus begins. None does whose event has neither a static signal nor a pool: no records fit it.
-    #[tactic(auto, unfolding(crate::specs::Underway::underway_begin, crate::specs::AsRests::dues_from))]
+    #[tactic(auto, unfolding(crate::specs::Underway::underway_begin, crate::specs::AsStates::dues_from))]
     pub fn begin(alloc: Global, sys: &System, stim: &Stim) -> Result<Option<Underway>, AllocError>
         ensures { IfOk result (λ u. option_map (as_underway sys.now) u ≡ underway_begin sys.now stim.now) }
     {
@@ -86,11 +86,11 @@ impl Underway {
                     reserve: *reserve,
                 },
             ),
-            Stim::Tick { rate } => Ok(Some(Underway::Ticking(TickRest::Reaching {
+            Stim::Tick { rate } => Ok(Some(Underway::Ticking(TickState::Reaching {
                 rate: *rate,
                 at: 0,
             }))),
-            Stim::Settle => Ok(Some(Underway::Settling(SettleRest::Before { tried: false }))),
+            Stim::Settle => Ok(Some(Underway::Settling(SettleState::Before { tried: false }))),
         }
     }
 

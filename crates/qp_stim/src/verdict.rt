@@ -48,7 +48,8 @@ fn small(number: Option<Number>) -> Result<Option<u8>, u8>
 
 /// The lowest code of an event whose signal is declared, if any holds.
 fn code_of(sources: usize, signal: Signal, pars: &Pars, reserve: Option<u8>) -> Option<u8>
-    ensures { (step : Step) → MatchOption result (admits sources signal pars.now reserve step ≡ Ok step) (λ code. admits sources signal pars.now reserve step ≡ Err code) }
+    ensures { (step : Step) → MatchOption result (admits sources signal pars.now reserve step ≡ Ok step)
+        (λ code. admits sources signal pars.now reserve step ≡ Err code) }
 {
     if !pars.fit || (signal.fixed && reserve.is_some()) {
         Some(RANGE)

@@ -38,7 +38,8 @@ fn push_values(text: &mut String, vars: &[(Name, i64)], values: &[i64]) -> Resul
 
 /// The state and the variables of an object.
 fn standing_text(alloc: Global, chart: &Chart, standing: &Standing) -> Result<String, AllocError>
-    ensures { IfOk result (λ text. string_bytes text ≡ name_in chart.now.state standing.now.leaf ++ values_text chart.now.vars standing.now.vars.items) }
+    ensures { IfOk result (λ text. string_bytes text ≡ name_in chart.now.state standing.now.leaf ++ values_text chart.now.vars
+        standing.now.vars.items) }
 {
     let mut text = String::new(alloc);
     let place = usize::from(standing.leaf).saturating_sub(1);
@@ -58,7 +59,8 @@ fn standing_line(
     standing: &Standing,
 ) -> Result<String, AllocError>
     requires { IsFollowable sys.now d.now }
-    ensures { IfOk result (λ text. (chart : chart.Chart) → chart_at sys.now d.now.chart ≡ Some chart → string_bytes text ≡ name_in chart.state standing.now.leaf ++ values_text chart.vars standing.now.vars.items) }
+    ensures { IfOk result (λ text. (chart : chart.Chart) → chart_at sys.now d.now.chart ≡ Some chart → string_bytes text ≡ name_in
+        chart.state standing.now.leaf ++ values_text chart.vars standing.now.vars.items) }
 {
     match chart_at(sys, d.chart) {
         Some(chart) => standing_text(alloc, chart, standing),
@@ -75,7 +77,8 @@ fn state_text(
 ) -> Result<String, AllocError>
     requires followable { IsFollowable sys.now d.now }
     requires follow { FollowSomehow sys.now d.now told.now }
-    ensures { IfOk result (λ text. (ts : List telling.Told) → dispatched ts ≡ told.now → IsStateText sys.now d.now (chart_at sys.now d.now.chart) ts (string_bytes text)) }
+    ensures { IfOk result (λ text. (ts : List telling.Told) → dispatched ts ≡ told.now → IsStateText sys.now d.now
+        (chart_at sys.now d.now.chart) ts (string_bytes text)) }
 {
     let stands = standing_after(alloc, sys, d, told)?;
     match stands {

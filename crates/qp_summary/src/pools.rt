@@ -50,7 +50,8 @@ fn back(records: &RecordsByWord<'_>, p: u64) -> usize
 }
 
 fn line_of(alloc: Global, p: u64, given: usize, back: usize) -> Result<String, AllocError>
-    ensures { IfOk result (λ line. string_bytes line ≡ codes "pool " ++ decimal p ++ codes " given " ++ decimal given ++ codes " back " ++ decimal back ++ codes "\n") }
+    ensures { IfOk result (λ line. string_bytes line ≡ codes "pool " ++ decimal p ++ codes " given " ++ decimal given ++ codes " back " ++
+        decimal back ++ codes "\n") }
 {
     format!(in alloc; "pool {p} given {given} back {back}\n")
 }

@@ -52,7 +52,8 @@ fn object_placed(
     requires sum { timers ≡ sum_by (timers_of (map chart_view charts.now)) (map object_view earlier.now) }
     requires few { timers ≤ 64 }
     ensures passes { Passes (placing_fault (map chart_view charts.now) (map object_view earlier.now) place (object_view object.now)) result }
-    ensures total { IfOk result (λ total. (total ≡ timers + timers_of (map chart_view charts.now) (object_view object.now)) × (total ≤ 64)) }
+    ensures total { IfOk result (λ total. (total ≡ timers + timers_of (map chart_view charts.now) (object_view object.now)) ×
+        (total ≤ 64)) }
 {
     let Some(chart) = chart_of(charts, &object.chart) else {
         return Err(member_fault(code::NO_SUCH_NAME, key::OBJECT, place, key::CHART));

@@ -117,13 +117,13 @@ no-total f (y ∷ xs) zero x e h = let a = ap f (some-injective y x e) in let z 
 no-total f (y ∷ xs) (suc i) x e h = let a = h 0 y (λ w. omega arith) refl in let r = no-total f xs i x e (λ j z n q. h (suc j) z (λ w. n (omega arith)) q) in omega arith
 
 -- What the view with all lanes knows
-module _ (sys : System) (words : List ℕ) (views : List View) (holds : Holds sys words views) (id : ℕ) (v : View) (at_id : get_elem? views id ≡ some v) (all : length v.logs + length v.rest ≡ 49) where
+module _ (sys : System) (words : List ℕ) (views : List View) (holds : Holds sys words views) (id : ℕ) (v : View) (at_id : get_elem? views id ≡ some v) (all : length v.logs + length v.lane_numbers ≡ 49) where
   others-idle : (j : ℕ) (z : View) → j ≢ id → get_elem? views j ≡ some z → Idle z
-  others-idle j z ne there = holds.idle j z there (let t = total-two (λ (y : View). length y.logs + length y.rest) views id j v z at_id there (λ e. ne (sym e)) in let r = holds.logs.rights in omega arith)
+  others-idle j z ne there = holds.idle j z there (let t = total-two (λ (y : View). length y.logs + length y.lane_numbers) views id j v z at_id there (λ e. ne (sym e)) in let r = holds.logs.rights in omega arith)
 
   -- no other view has a log
   logs-alone : (n : ℕ) → total (λ (z : View). many (is_log n) z.logs) views ≡ many (is_log n) v.logs
-  logs-alone n = no-total (λ (z : View). many (is_log n) z.logs) views id v at_id (λ j z ne there. let t = total-two (λ (y : View). length y.logs + length y.rest) views id j v z at_id there (λ e. ne (sym e)) in let r = holds.logs.rights in let l = many-le (is_log n) z.logs in omega arith)
+  logs-alone n = no-total (λ (z : View). many (is_log n) z.logs) views id v at_id (λ j z ne there. let t = total-two (λ (y : View). length y.logs + length y.lane_numbers) views id j v z at_id there (λ e. ne (sym e)) in let r = holds.logs.rights in let l = many-le (is_log n) z.logs in omega arith)
 
   ordered-none : (k j : ℕ) (gs : List Log) → Ordered k gs → k + length gs ≤ j → many (is_log j) gs ≡ 0
   ordered-none k j [] o le = refl
@@ -133,12 +133,12 @@ module _ (sys : System) (words : List ℕ) (views : List View) (holds : Holds sy
   alone f h = no-total f views id v at_id (λ j z ne there. h z (others-idle j z ne there))
 
   -- all lanes are those of the view's logs, and empty ones
-  in-lanes : Ordered 0 v.logs → holds.lanes ≡ recs_of v.logs ++ replicate (length v.rest) []
-  in-lanes o = let c = holds.logs.count in in-order v.logs holds.lanes 0 (length v.rest) o (same-numbers holds.lanes v.logs (holds.logs.own id v at_id)) (omega arith)
+  in-lanes : Ordered 0 v.logs → holds.lanes ≡ recs_of v.logs ++ replicate (length v.lane_numbers) []
+  in-lanes o = let c = holds.logs.count in in-order v.logs holds.lanes 0 (length v.lane_numbers) o (same-numbers holds.lanes v.logs (holds.logs.own id v at_id)) (omega arith)
       (λ j a b. holds.logs.later j (omega arith) (let n = logs-alone j in let z = ordered-none 0 j v.logs o (omega arith) in let once = holds.logs.once j (omega arith) in omega arith))
 
   same-items : Ordered 0 v.logs → all_items (recs_of v.logs) ≡ all_items holds.lanes
-  same-items o = sym (ap all_items (in-lanes o) ∙ (all_items-append (recs_of v.logs) (replicate (length v.rest) []) ∙ ((λ i. all_items (recs_of v.logs) ++ all_items-empty (length v.rest) i) ∙ append-nil (all_items (recs_of v.logs)))))
+  same-items o = sym (ap all_items (in-lanes o) ∙ (all_items-append (recs_of v.logs) (replicate (length v.lane_numbers) []) ∙ ((λ i. all_items (recs_of v.logs) ++ all_items-empty (length v.lane_numbers) i) ∙ append-nil (all_items (recs_of v.logs)))))
 
   pub whole : IsWhole sys v
   whole = record {
@@ -151,7 +151,7 @@ module _ (sys : System) (words : List ℕ) (views : List View) (holds : Holds sy
     was = holds.was;
     seen = each-map (SawFrom words holds.was) (λ (g : Glance). g.value ≡ holds.was g.word (mark_in g.word g.value)) (λ g s. s.2) v.seen (holds.seen.each id v at_id);
     past = λ o. subst (λ (is : List Item). PastOf sys is holds.was) (sym (same-items o)) (record { pool = holds.past.pool; refs = holds.past.refs; line = holds.past.line });
-    leaves = λ o. front-leaves sys holds.now (recs_of v.logs) (length v.rest) (subst (λ l. Leaves sys l holds.now) (in-lanes o) holds.leaves);
+    leaves = λ o. front-leaves sys holds.now (recs_of v.logs) (length v.lane_numbers) (subst (λ l. Leaves sys l holds.now) (in-lanes o) holds.leaves);
     place = λ p b. let t = holds.tokens.place p b in
         let f = alone (λ z. many (is_spot p b) z.fresh) (λ z i. ap (many (is_spot p b)) i.fresh) in let u = alone (λ z. many (is_spot p b) z.used) (λ z i. ap (many (is_spot p b)) i.used) in omega arith;
     hand = λ p b k l. let t = holds.tokens.hand p b k l in let f = alone (λ z. many (is_ref p b k) z.hands) (λ z i. ap (many (is_ref p b k)) i.hands) in omega arith;
@@ -235,7 +235,7 @@ opens sys words xs fitting shows cells serves zeros = record {
     rights = refl;
     room = replicate-each 49;
   };
-  idle = alone-view (λ z. length z.logs + length z.rest ≡ 0 → Idle z) (newcomer later_lanes xs) (λ h. absurd (omega arith));
+  idle = alone-view (λ z. length z.logs + length z.lane_numbers ≡ 0 → Idle z) (newcomer later_lanes xs) (λ h. absurd (omega arith));
   tokens = record {
     place = λ p b. let f = ap (λ (t : Bool). cond {A = ℕ} t 1 0) (free-first sys p b) in omega arith;
     hand = λ p b k l. let u = upto-none 33 in omega arith;

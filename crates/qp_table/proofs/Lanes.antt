@@ -17,7 +17,7 @@ use Rattle.qp_words.specs.After.{passing, failing, nothing, onlooker, granting, 
 use Rattle.qp_words.specs.declared.Log.{Log}
 use Rattle.qp_words.specs.declared.Spot.{Spot}
 use Rattle.qp_words.specs.declared.Fill.{Fill}
-use Rattle.qp_words.specs.declared.Place.{Place}
+use Rattle.qp_words.specs.declared.CellPlace.{CellPlace}
 use Rattle.qp_words.specs.declared.Serve.{Serve}
 use Rattle.qp_words.specs.declared.View.{View}
 use Rattle.qp_words.proofs.Counting.{each-snoc, each-map, total-set, total-at, total-snoc, total-append, many-without, cond-le}
@@ -40,8 +40,8 @@ pub record SameTokens (other views : List View) : Type 0 where
   pub used : (t : Spot → Bool) → total (λ (v : View). many t v.used) other ≡ total (λ (v : View). many t v.used) views
   pub hands : (t : Entry → Bool) → total (λ (v : View). many t v.hands) other ≡ total (λ (v : View). many t v.hands) views
   pub fills : (t : Fill → Bool) → total (λ (v : View). many t v.fills) other ≡ total (λ (v : View). many t v.fills) views
-  pub claims : (t : Place → Bool) → total (λ (v : View). many t v.claims) other ≡ total (λ (v : View). many t v.claims) views
-  pub takes : (t : Place → Bool) → total (λ (v : View). many t v.takes) other ≡ total (λ (v : View). many t v.takes) views
+  pub claims : (t : CellPlace → Bool) → total (λ (v : View). many t v.claims) other ≡ total (λ (v : View). many t v.claims) views
+  pub takes : (t : CellPlace → Bool) → total (λ (v : View). many t v.takes) other ≡ total (λ (v : View). many t v.takes) views
   pub serves : (t : Serve → Bool) → total (λ (v : View). many t v.serves) other ≡ total (λ (v : View). many t v.serves) views
 
 module _ (sys : System) (words : List ℕ) (views other : List View) (holds : Holds sys words views) (same : SameTokens other views) where
@@ -111,12 +111,12 @@ module _ (sys : System) (words : List ℕ) (views : List View) (holds : Holds sy
       (record {
         count = holds.logs.count;
         own = each-more (Own holds.lanes) tt holds.logs.own;
-        once = λ n l. rw (more-sum (λ z. many (is_log n) z.logs) refl, more-sum (λ z. many (is_number n) z.rest) refl) (holds.logs.once n l);
-        later = λ n l some_rest. holds.logs.later n l (rw (sym (more-sum (λ z. many (is_number n) z.rest) refl)) some_rest);
-        rights = more-sum (λ z. length z.logs + length z.rest) refl ∙ holds.logs.rights;
+        once = λ n l. rw (more-sum (λ z. many (is_log n) z.logs) refl, more-sum (λ z. many (is_number n) z.lane_numbers) refl) (holds.logs.once n l);
+        later = λ n l some_rest. holds.logs.later n l (rw (sym (more-sum (λ z. many (is_number n) z.lane_numbers) refl)) some_rest);
+        rights = more-sum (λ z. length z.logs + length z.lane_numbers) refl ∙ holds.logs.rights;
         room = holds.logs.room;
       })
-      (each-more (λ z. length z.logs + length z.rest ≡ 0 → Idle z) (λ h. record { fresh = refl; used = refl; hands = refl; gives = refl; fills = refl; claims = refl; takes = refl }) holds.idle)
+      (each-more (λ z. length z.logs + length z.lane_numbers ≡ 0 → Idle z) (λ h. record { fresh = refl; used = refl; hands = refl; gives = refl; fills = refl; claims = refl; takes = refl }) holds.idle)
       (each-more (Serves holds.now) (record { counts = tt; within = omega arith; others = λ a h. (refl, refl); taking = λ a. omega arith }) holds.queues.home)
       (each-more (λ z. Each (SawFrom words holds.was) z.seen) tt holds.seen.each)
       (each-more (Beside holds.now) (record { fills = λ p b. omega arith; gives = λ p b. omega arith; told = tt }) holds.events.beside)
@@ -128,17 +128,17 @@ pub record Swapped (v w v' w' : View) : Type 0 where
   pub used : (t : Spot → Bool) → many t v'.used + many t w'.used ≡ many t v.used + many t w.used
   pub hands : (t : Entry → Bool) → many t v'.hands + many t w'.hands ≡ many t v.hands + many t w.hands
   pub fills : (t : Fill → Bool) → many t v'.fills + many t w'.fills ≡ many t v.fills + many t w.fills
-  pub claims : (t : Place → Bool) → many t v'.claims + many t w'.claims ≡ many t v.claims + many t w.claims
-  pub takes : (t : Place → Bool) → many t v'.takes + many t w'.takes ≡ many t v.takes + many t w.takes
+  pub claims : (t : CellPlace → Bool) → many t v'.claims + many t w'.claims ≡ many t v.claims + many t w.claims
+  pub takes : (t : CellPlace → Bool) → many t v'.takes + many t w'.takes ≡ many t v.takes + many t w.takes
   pub serves : (t : Serve → Bool) → many t v'.serves + many t w'.serves ≡ many t v.serves + many t w.serves
-  pub lanes : (n : ℕ) → (many (is_log n) v'.logs + many (is_log n) w'.logs) + (many (is_number n) v'.rest + many (is_number n) w'.rest) ≡ (many (is_log n) v.logs + many (is_log n) w.logs) + (many (is_number n) v.rest + many (is_number n) w.rest)
-  pub fewer : (n : ℕ) → many (is_number n) v'.rest + many (is_number n) w'.rest ≤ many (is_number n) v.rest + many (is_number n) w.rest
-  pub rights : (length v'.logs + length v'.rest) + (length w'.logs + length w'.rest) ≡ (length v.logs + length v.rest) + (length w.logs + length w.rest)
+  pub lanes : (n : ℕ) → (many (is_log n) v'.logs + many (is_log n) w'.logs) + (many (is_number n) v'.lane_numbers + many (is_number n) w'.lane_numbers) ≡ (many (is_log n) v.logs + many (is_log n) w.logs) + (many (is_number n) v.lane_numbers + many (is_number n) w.lane_numbers)
+  pub fewer : (n : ℕ) → many (is_number n) v'.lane_numbers + many (is_number n) w'.lane_numbers ≤ many (is_number n) v.lane_numbers + many (is_number n) w.lane_numbers
+  pub rights : (length v'.logs + length v'.lane_numbers) + (length w'.logs + length w'.lane_numbers) ≡ (length v.logs + length v.lane_numbers) + (length w.logs + length w.lane_numbers)
 
 -- what one view keeps for itself
 pub record Keeps (sys : System) (lanes : List (List Rec)) (words : List ℕ) (now : Now) (was : Was) (z : View) : Type 0 where
   pub own : Own lanes z
-  pub idle : length z.logs + length z.rest ≡ 0 → Idle z
+  pub idle : length z.logs + length z.lane_numbers ≡ 0 → Idle z
   pub home : Serves now z
   pub seen : Each (SawFrom words was) z.seen
   pub beside : Beside now z
@@ -186,9 +186,9 @@ module _ (sys : System) (words : List ℕ) (views : List View) (holds : Holds sy
           count = holds.logs.count;
           own = λ i z e. (each-view left right i z e).own;
           once = λ n l. let a = total-set (λ (z : View). many (is_log n) z.logs) views id v v' at_id in let b = total-set (λ (z : View). many (is_log n) z.logs) mid from w w' from-mid in
-              let c = total-set (λ (z : View). many (is_number n) z.rest) views id v v' at_id in let d = total-set (λ (z : View). many (is_number n) z.rest) mid from w w' from-mid in let o = holds.logs.once n l in let s = x.lanes n in omega arith;
-          later = λ n l some_rest. holds.logs.later n l (let f = sum-fewer (λ z. many (is_number n) z.rest) (x.fewer n) in omega arith);
-          rights = same-sum (λ z. length z.logs + length z.rest) x.rights ∙ holds.logs.rights;
+              let c = total-set (λ (z : View). many (is_number n) z.lane_numbers) views id v v' at_id in let d = total-set (λ (z : View). many (is_number n) z.lane_numbers) mid from w w' from-mid in let o = holds.logs.once n l in let s = x.lanes n in omega arith;
+          later = λ n l some_rest. holds.logs.later n l (let f = sum-fewer (λ z. many (is_number n) z.lane_numbers) (x.fewer n) in omega arith);
+          rights = same-sum (λ z. length z.logs + length z.lane_numbers) x.rights ∙ holds.logs.rights;
           room = holds.logs.room;
         })
         (λ i z e. (each-view left right i z e).idle) (λ i z e. (each-view left right i z e).home) (λ i z e. (each-view left right i z e).seen) (λ i z e. (each-view left right i z e).beside) (λ i z e. (each-view left right i z e).contents)
@@ -252,13 +252,13 @@ module _ (sys : System) (words : List ℕ) (views : List View) (holds : Holds sy
         claims = λ t. let a = many-append t v.claims w.claims in omega arith;
         takes = λ t. let a = many-append t v.takes w.takes in omega arith;
         serves = λ t. let a = many-append t v.serves w.serves in omega arith;
-        lanes = λ n. let a = many-append (is_log n) v.logs w.logs in let b = many-append (is_number n) v.rest w.rest in omega arith;
-        fewer = λ n. let b = many-append (is_number n) v.rest w.rest in omega arith;
-        rights = let a = length-append v.logs w.logs in let b = length-append v.rest w.rest in omega arith;
+        lanes = λ n. let a = many-append (is_log n) v.logs w.logs in let b = many-append (is_number n) v.lane_numbers w.lane_numbers in omega arith;
+        fewer = λ n. let b = many-append (is_number n) v.lane_numbers w.lane_numbers in omega arith;
+        rights = let a = length-append v.logs w.logs in let b = length-append v.lane_numbers w.lane_numbers in omega arith;
       })
       (record {
         own = each-append (λ (g : Log). get_elem? holds.lanes g.number ≡ some g.recs) v.logs w.logs left.own right.own;
-        idle = λ h. let e = length-append v.logs w.logs in let f = length-append v.rest w.rest in let a = left.idle (omega arith) in let b = right.idle (omega arith) in record {
+        idle = λ h. let e = length-append v.logs w.logs in let f = length-append v.lane_numbers w.lane_numbers in let a = left.idle (omega arith) in let b = right.idle (omega arith) in record {
           fresh = λ i. a.fresh i ++ b.fresh i;
           used = λ i. a.used i ++ b.used i;
           hands = λ i. a.hands i ++ b.hands i;
@@ -311,7 +311,7 @@ module _ (sys : System) (words : List ℕ) (views : List View) (holds : Holds sy
       })
 
   -- A lane number that was never handed out goes to another view; a view that has given up its last number has nothing else
-  pub grants : (n : ℕ) → n < 49 → 0 < many (is_number n) v.rest → (length v.logs ≡ 0 → Idle v) → Holds sys words (set (set views id (granting n v)) from (granted n w))
+  pub grants : (n : ℕ) → n < 49 → 0 < many (is_number n) v.lane_numbers → (length v.logs ≡ 0 → Idle v) → Holds sys words (set (set views id (granting n v)) from (granted n w))
   grants n few mine idle = swaps sys words views holds id v at_id from w apart there (granting n v) (granted n w)
       (record {
         fresh = λ t. refl;
@@ -323,7 +323,7 @@ module _ (sys : System) (words : List ℕ) (views : List View) (holds : Holds sy
         serves = λ t. refl;
         lanes = λ k. let a = many-append (is_log k) w.logs (record { number = n; recs = [] } ∷ []) in let b = less k in omega arith;
         fewer = λ k. let b = less k in omega arith;
-        rights = let a = length-append w.logs (record { number = n; recs = [] } ∷ []) in let b = fewer-one v.rest mine in omega arith;
+        rights = let a = length-append w.logs (record { number = n; recs = [] } ∷ []) in let b = fewer-one v.lane_numbers mine in omega arith;
       })
       (record {
         own = left.own;
@@ -335,7 +335,7 @@ module _ (sys : System) (words : List ℕ) (views : List View) (holds : Holds sy
       })
       (record {
         own = each-snoc (λ (g : Log). get_elem? holds.lanes g.number ≡ some g.recs) w.logs (record { number = n; recs = [] }) right.own
-            (holds.logs.later n few (let t = total-at (λ (z : View). many (is_number n) z.rest) views id v at_id in omega arith));
+            (holds.logs.later n few (let t = total-at (λ (z : View). many (is_number n) z.lane_numbers) views id v at_id in omega arith));
         idle = λ h. let a = length-append w.logs (record { number = n; recs = [] } ∷ []) in absurd (omega arith);
         home = record {
           counts = each-map (Served holds.now w.logs) (Served holds.now (w.logs ++ record { number = n; recs = [] } ∷ []))
@@ -352,8 +352,8 @@ module _ (sys : System) (words : List ℕ) (views : List View) (holds : Holds sy
       no-more : (t : Rec → Bool) → records t (w.logs ++ record { number = n; recs = [] } ∷ []) ≡ records t w.logs
       no-more t = let a = records-append t w.logs (record { number = n; recs = [] } ∷ []) in omega arith
 
-      less : (k : ℕ) → many (is_number k) (without (is_number n) v.rest) + b2n (eqb n k) ≡ many (is_number k) v.rest
-      less k = many-without (is_number n) (is_number k) (eqb n k) (λ x e. ap (λ z. eqb z k) (eqb-true x n e)) v.rest mine
+      less : (k : ℕ) → many (is_number k) (without (is_number n) v.lane_numbers) + b2n (eqb n k) ≡ many (is_number k) v.lane_numbers
+      less k = many-without (is_number n) (is_number k) (eqb n k) (λ x e. ap (λ z. eqb z k) (eqb-true x n e)) v.lane_numbers mine
 
       fewer-one : (xs : List ℕ) → 0 < many (is_number n) xs → length (without (is_number n) xs) + 1 ≡ length xs
       fewer-one [] h = absurd (omega arith)
@@ -387,7 +387,7 @@ passing-total f t (x ∷ xs) = go (t x) (passing-total f t xs)
     go true h = omega arith
     go false h = omega arith
 
-none-made : (ps : List Place) (xs : List Serve) → Each (Unused ps) xs → total (λ (x : Serve). x.lifos + x.takes) xs ≡ 0
+none-made : (ps : List CellPlace) (xs : List Serve) → Each (Unused ps) xs → total (λ (x : Serve). x.lifos + x.takes) xs ≡ 0
 none-made ps [] e = refl
 none-made ps (x ∷ xs) e = let r = none-made ps xs e.1 in let a = e.0 in let l = a.lifos in let m = a.takes_made in omega arith
 

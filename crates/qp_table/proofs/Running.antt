@@ -38,7 +38,7 @@ module _ (sys : System) (id : ℕ) (v : View) (own : HasRoom v) (o p b : ℕ) wh
         (refl, omega arith, seen-below words holds.was (block_at p b) (n / 4294967296) v.seen mk (holds.seen.each id v at_id), omega arith),
       )
 
-pub whole-steps : (sys : System) (id : ℕ) (v : View) → length v.logs + length v.rest ≡ 49 → Steps sys id v 0 (λ n. n) (TellsAll sys v)
+pub whole-steps : (sys : System) (id : ℕ) (v : View) → length v.logs + length v.lane_numbers ≡ 49 → Steps sys id v 0 (λ n. n) (TellsAll sys v)
 whole-steps sys id v all words views holds at_id small = (
   glanced v 0 (get_or words 0 0),
   subst (λ (ws : List ℕ). Holds sys ws (set views id (glanced v 0 (get_or words 0 0)))) (sym (set-get_or words 0 0)) (looks sys words views holds id v at_id 0 (omega arith)),

@@ -81,7 +81,7 @@ OnlookersKeepTheRule = FromTwoViews (λ sys words views holds id v other w. w �
 -- a lane number that was never handed out goes to the other
 abbrev pub GrantsKeepTheRule : Type 0
 GrantsKeepTheRule = FromTwoViews
-    (λ sys words views holds id v other w. (n : ℕ) → n < 49 → 0 < many (is_number n) v.rest → (length v.logs ≡ 0 → Idle v) → Holds sys words (slice_set (slice_set views id (granting n v)) other (granted n w)))
+    (λ sys words views holds id v other w. (n : ℕ) → n < 49 → 0 < many (is_number n) v.lane_numbers → (length v.logs ≡ 0 → Idle v) → Holds sys words (slice_set (slice_set views id (granting n v)) other (granted n w)))
 
 -- objects without takes and last-in posts go to the other
 abbrev pub HandOversKeepTheRule : Type 0
@@ -103,4 +103,4 @@ RecordsAreLawful = (sys : System) (words : List ℕ) (views : List View) (holds 
 
 -- the view with all lanes knows the whole
 abbrev pub WholeIsKnown : Type 0
-WholeIsKnown = FromAnyState (λ sys words views holds id v. length v.logs + length v.rest ≡ 49 → IsWhole sys v)
+WholeIsKnown = FromAnyState (λ sys words views holds id v. length v.logs + length v.lane_numbers ≡ 49 → IsWhole sys v)

@@ -16,7 +16,7 @@ use Rattle.qp_words.specs.Now.{Now, Leaves}
 use Rattle.qp_words.specs.Rule.{is_spot, is_ref, free_bit, lives, in_lines, on_queue, mark_in, pool_at, block_at, queue_at, pool_value, refs_value, line_value, Was, IsKnown, Shows, HasEvent}
 use Rattle.qp_model.specs.Lists.{count_up}
 use Rattle.qp_words.specs.declared.Log.{Log}
-use Rattle.qp_words.specs.declared.Place.{Place}
+use Rattle.qp_words.specs.declared.CellPlace.{CellPlace}
 use Rattle.qp_words.specs.declared.Serve.{Serve}
 use Rattle.qp_words.specs.declared.Glance.{Glance}
 use Rattle.qp_words.specs.declared.View.{View}
@@ -82,7 +82,7 @@ abbrev pub later_lanes : List ℕ
 later_lanes = count_up 1 48
 
 -- an object that may be handed over: it has no last-in post and no take, and none is under way
-pub record Unused (takes : List Place) (x : Serve) : Type 0 where
+pub record Unused (takes : List CellPlace) (x : Serve) : Type 0 where
   pub lifos : x.lifos ≡ 0
   pub takes_made : x.takes ≡ 0
   pub still : many (on_queue x.object) takes ≡ 0

@@ -24,7 +24,8 @@ pub fn write_journal<K: Sink>(j: &Journal, form: u8, out: &mut K) -> Result<(), 
 
 /// Writes the first line.
 fn put_head<K: Sink>(out: &mut K, form: u8, j: &Journal) -> Result<(), SinkFault>
-    ensures { Puts result (line_text form (head_item form j.now)) (K.written out.old) (K.written out.new) (K.faults out.old) (K.faults out.new) }
+    ensures { Puts result (line_text form (head_item form j.now)) (K.written out.old) (K.written out.new) (K.faults out.old)
+        (K.faults out.new) }
 {
     let nums = [u64::from(form), u64::from(j.kernel), u64::from(j.budget)];
     put_line(out, form, kinds::QP, &nums)
@@ -40,7 +41,8 @@ fn put_end<K: Sink>(out: &mut K, form: u8, j: &Journal) -> Result<(), SinkFault>
 /// Writes the lanes, each under its head.
 fn put_lanes<K: Sink>(out: &mut K, form: u8, lanes: &Lanes) -> Result<(), SinkFault>
     requires { IsTrue (list_all (is_lane_in_range form) lanes.now) }
-    ensures { Puts result (lines_text form (items_of_lanes 0 lanes.now)) (K.written out.old) (K.written out.new) (K.faults out.old) (K.faults out.new) }
+    ensures { Puts result (lines_text form (items_of_lanes 0 lanes.now)) (K.written out.old) (K.written out.new) (K.faults out.old)
+        (K.faults out.new) }
 {
     for (number, lane) in lanes.items.iter().enumerate() {
         put_lane(out, form, number as u64, lane)?;
@@ -51,7 +53,8 @@ fn put_lanes<K: Sink>(out: &mut K, form: u8, lanes: &Lanes) -> Result<(), SinkFa
 /// Writes a lane under its head.
 fn put_lane<K: Sink>(out: &mut K, form: u8, number: u64, lane: &Lane) -> Result<(), SinkFault>
     requires { IsTrue (is_lane_in_range form lane.now) }
-    ensures { Puts result (lines_text form (items_of_lane number lane.now)) (K.written out.old) (K.written out.new) (K.faults out.old) (K.faults out.new) }
+    ensures { Puts result (lines_text form (items_of_lane number lane.now)) (K.written out.old) (K.written out.new) (K.faults out.old)
+        (K.faults out.new) }
 {
     put_line(out, form, kinds::LANE, &[number])?;
     put_records(out, form, lane)
@@ -60,7 +63,8 @@ fn put_lane<K: Sink>(out: &mut K, form: u8, number: u64, lane: &Lane) -> Result<
 /// Writes the records of a lane.
 fn put_records<K: Sink>(out: &mut K, form: u8, lane: &Lane) -> Result<(), SinkFault>
     requires { IsTrue (list_all (is_record_in_range form) lane.now) }
-    ensures { Puts result (lines_text form (map record_item lane.now)) (K.written out.old) (K.written out.new) (K.faults out.old) (K.faults out.new) }
+    ensures { Puts result (lines_text form (map record_item lane.now)) (K.written out.old) (K.written out.new) (K.faults out.old)
+        (K.faults out.new) }
 {
     for r in &lane.items {
         put_record(out, form, r)?;
@@ -71,7 +75,8 @@ fn put_records<K: Sink>(out: &mut K, form: u8, lane: &Lane) -> Result<(), SinkFa
 /// Writes a record.
 fn put_record<K: Sink>(out: &mut K, form: u8, r: &Rec) -> Result<(), SinkFault>
     requires { IsTrue (is_record_in_range form r.now) }
-    ensures { Puts result (line_text form (record_item r.now)) (K.written out.old) (K.written out.new) (K.faults out.old) (K.faults out.new) }
+    ensures { Puts result (line_text form (record_item r.now)) (K.written out.old) (K.written out.new) (K.faults out.old)
+        (K.faults out.new) }
 {
     let mut nums = ArrayVec::<u64, 14>::new();
     nums.push(u64::from(r.of));
@@ -84,7 +89,8 @@ fn put_line<K: Sink>(out: &mut K, form: u8, id: u8, nums: &[u64]) -> Result<(), 
     requires least { 1 ≤ id }
     requires most { id ≤ 46 }
     requires count { length nums.now ≤ 14 }
-    ensures { Puts result (line_text form (item id nums.now)) (K.written out.old) (K.written out.new) (K.faults out.old) (K.faults out.new) }
+    ensures { Puts result (line_text form (item id nums.now)) (K.written out.old) (K.written out.new) (K.faults out.old)
+        (K.faults out.new) }
 {
     out.put(lines::line(form, id, nums).as_bytes())
 }

@@ -11,7 +11,7 @@ use Rattle.qp_model.specs.declared.bodies.Body.TheVariants as body
 use Rattle.qp_model.specs.Acts.{Config}
 use Rattle.qp_model.specs.Course.{actor}
 use Rattle.qp_model.specs.Ends.{may_cut}
-use Rattle.qp_model.specs.KernelLane.{Found, Inside}
+use Rattle.qp_model.specs.KernelLane.{Chosen, Inside}
 use Rattle.qp_model.specs.Sites.{object_at}
 use Rattle.qp_model.specs.Sound.{IsSound}
 use Rattle.qp_model.specs.Step.{whole_step}
@@ -136,7 +136,7 @@ module _ (sys : System) (sound : IsSound sys) (terms : Terms) (looks : ℕ) (sta
 
   -- the entry is seen
   abbrev pub found : KernelState
-  found = record s { told = s.told ++ seen_told p f l m ∷ []; reading = record (s.reading) { place = Found p } }
+  found = record s { told = s.told ++ seen_told p f l m ∷ []; reading = record (s.reading) { place = Chosen p } }
 
   pub found-stands : Stands sys terms found
   found-stands = entry_is_seen sys terms s p others f l m (numbered sys sound) k.stands at.owed at.stack.started (looks-at sys sound terms looks stack xs v v p others f l m k at refl) some

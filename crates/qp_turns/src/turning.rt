@@ -72,8 +72,10 @@ pub fn look<R: Wait, W: World, L: Ledger>(
     requires knows { Stood (MayLook at.now.sys.now) at.now.sys.now (terms_of at.now) (stand_of kernel.old objects.now (W.lane world.old)) }
     requires floor { floor ≡ floor_of at.now.sys.now (terms_of at.now) (stand_of kernel.old objects.now (W.lane world.old)) }
     requires order { InOrder W.acts at.now.sys.now kernel.old.looks (W.lane world.old) }
-    ensures goes { LooksTo at.now.sys.now (terms_of at.now) (stand_of kernel.old objects.now (W.lane world.old)) (stand_of kernel.new objects.now (W.lane world.new)) result }
-    ensures order { LooksInOrder W.acts at.now.sys.now (terms_of at.now) (stand_of kernel.old objects.now (W.lane world.old)) (stand_of kernel.new objects.now (W.lane world.new)) result }
+    ensures goes { LooksTo at.now.sys.now (terms_of at.now) (stand_of kernel.old objects.now (W.lane world.old))
+        (stand_of kernel.new objects.now (W.lane world.new)) result }
+    ensures order { LooksInOrder W.acts at.now.sys.now (terms_of at.now) (stand_of kernel.old objects.now (W.lane world.old))
+        (stand_of kernel.new objects.now (W.lane world.new)) result }
 {
     ready(world)?;
     if kernel.looks == u32::MAX {
@@ -104,13 +106,16 @@ fn visit<R: Wait, W: World, G: Gate>(
     requires sound { IsSound at.now.sys.now }
     requires few { at.now.budget ≤ 1000000 }
     requires place { place < length at.now.sys.now.objects }
-    requires knows { Stood (IsScanning at.now.sys.now (terms_of at.now) (row_below at.now.sys.now floor (place + 1))) at.now.sys.now (terms_of at.now)
+    requires knows { Stood (IsScanning at.now.sys.now (terms_of at.now) (row_below at.now.sys.now floor (place + 1))) at.now.sys.now
+        (terms_of at.now)
         (stand_of kernel.old objects.old (W.lane world.old)) }
     requires order { InOrder W.acts at.now.sys.now kernel.old.looks (W.lane world.old) }
     requires seen { AreSeenEmpty at.now.sys.now floor (place + 1) (W.lane world.old) }
-    ensures goes { VisitsTo (row_below at.now.sys.now floor place) at.now.sys.now (terms_of at.now) (stand_of kernel.old objects.old (W.lane world.old))
+    ensures goes { VisitsTo (row_below at.now.sys.now floor place) at.now.sys.now (terms_of at.now)
+        (stand_of kernel.old objects.old (W.lane world.old))
         (stand_of kernel.new objects.new (W.lane world.new)) result }
-    ensures order { VisitsInOrder W.acts at.now.sys.now floor place (stand_of kernel.old objects.old (W.lane world.old)) (stand_of kernel.new objects.new (W.lane world.new)) result }
+    ensures order { VisitsInOrder W.acts at.now.sys.now floor place (stand_of kernel.old objects.old (W.lane world.old))
+        (stand_of kernel.new objects.new (W.lane world.new)) result }
 {
     let sys = at.sys;
     let object = &sys.objects.items[place];
@@ -163,10 +168,13 @@ pub fn scan<R: Wait, W: World, G: Gate>(
 ) -> Result<bool, Halt>
     requires sound { IsSound at.now.sys.now }
     requires few { at.now.budget ≤ 1000000 }
-    requires knows { Stood (IsScanning at.now.sys.now (terms_of at.now) (above at.now.sys.now floor)) at.now.sys.now (terms_of at.now) (stand_of kernel.old objects.old (W.lane world.old)) }
+    requires knows { Stood (IsScanning at.now.sys.now (terms_of at.now) (above at.now.sys.now floor)) at.now.sys.now (terms_of at.now)
+        (stand_of kernel.old objects.old (W.lane world.old)) }
     requires order { InOrder W.acts at.now.sys.now kernel.old.looks (W.lane world.old) }
-    ensures goes { VisitsTo [] at.now.sys.now (terms_of at.now) (stand_of kernel.old objects.old (W.lane world.old)) (stand_of kernel.new objects.new (W.lane world.new)) result }
-    ensures order { VisitsInOrder W.acts at.now.sys.now floor 0 (stand_of kernel.old objects.old (W.lane world.old)) (stand_of kernel.new objects.new (W.lane world.new)) result }
+    ensures goes { VisitsTo [] at.now.sys.now (terms_of at.now) (stand_of kernel.old objects.old (W.lane world.old))
+        (stand_of kernel.new objects.new (W.lane world.new)) result }
+    ensures order { VisitsInOrder W.acts at.now.sys.now floor 0 (stand_of kernel.old objects.old (W.lane world.old))
+        (stand_of kernel.new objects.new (W.lane world.new)) result }
 {
     let many = count(at.sys);
     for place in (0..many).rev() {
@@ -186,8 +194,10 @@ pub fn step<O: Ops>(
 ) -> Result<(), Halt>
     requires sound { IsSound at.now.sys.now }
     requires knows { RunsTop at.now.sys.now (terms_of at.now) (stand_of kernel.old objects.old (O.lane world.old)) }
-    ensures goes { StepsTo at.now.sys.now (terms_of at.now) (stand_of kernel.old objects.old (O.lane world.old)) (stand_of kernel.new objects.new (O.lane world.new)) result }
-    ensures order { StepsInOrder at.now.sys.now (stand_of kernel.old objects.old (O.lane world.old)) (stand_of kernel.new objects.new (O.lane world.new)) result }
+    ensures goes { StepsTo at.now.sys.now (terms_of at.now) (stand_of kernel.old objects.old (O.lane world.old))
+        (stand_of kernel.new objects.new (O.lane world.new)) result }
+    ensures order { StepsInOrder at.now.sys.now (stand_of kernel.old objects.old (O.lane world.old))
+        (stand_of kernel.new objects.new (O.lane world.new)) result }
 {
     let Some(p) = top(kernel) else {
         return Err(Halt::Memory);
@@ -225,8 +235,10 @@ fn rounds<R: Wait, W: World, G: Gate, L: Ledger>(
     requires fit { StimuliFit at.now.sys.now (W.lane world.old).plan }
     requires knows { Stood (MayLook at.now.sys.now) at.now.sys.now (terms_of at.now) (stand_of kernel.old objects.old (W.lane world.old)) }
     requires order { InOrder W.acts at.now.sys.now kernel.old.looks (W.lane world.old) }
-    ensures goes { EndsTo at.now.sys.now (terms_of at.now) (stand_of kernel.old objects.old (W.lane world.old)) (stand_of kernel.new objects.new (W.lane world.new)) result }
-    ensures order { RoundsInOrder W.acts at.now.sys.now (stand_of kernel.old objects.old (W.lane world.old)) (stand_of kernel.new objects.new (W.lane world.new)) result }
+    ensures goes { EndsTo at.now.sys.now (terms_of at.now) (stand_of kernel.old objects.old (W.lane world.old))
+        (stand_of kernel.new objects.new (W.lane world.new)) result }
+    ensures order { RoundsInOrder W.acts at.now.sys.now (stand_of kernel.old objects.old (W.lane world.old))
+        (stand_of kernel.new objects.new (W.lane world.new)) result }
 {
     let mut steps = Steps::<L>::open(blank);
     for _ in rt.forever() {
@@ -266,8 +278,10 @@ pub fn kernel_turn<R: Wait, W: World, G: Gate>(
     requires fit { StimuliFit sys.now (W.lane world.old).plan }
     requires knows { Stood (MayLook sys.now) sys.now (under false budget) (stand_of kernel.old objects.old (W.lane world.old)) }
     requires order { InOrder W.acts sys.now kernel.old.looks (W.lane world.old) }
-    ensures goes { TurnsTo sys.now (under false budget) (stand_of kernel.old objects.old (W.lane world.old)) (stand_of kernel.new objects.new (W.lane world.new)) result }
-    ensures order { TurnsInOrder W.acts sys.now (stand_of kernel.old objects.old (W.lane world.old)) (stand_of kernel.new objects.new (W.lane world.new)) result }
+    ensures goes { TurnsTo sys.now (under false budget) (stand_of kernel.old objects.old (W.lane world.old))
+        (stand_of kernel.new objects.new (W.lane world.new)) result }
+    ensures order { TurnsInOrder W.acts sys.now (stand_of kernel.old objects.old (W.lane world.old))
+        (stand_of kernel.new objects.new (W.lane world.new)) result }
 {
     let at = Bounds {
         sys,

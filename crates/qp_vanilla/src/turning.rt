@@ -29,11 +29,14 @@ fn rest<W: World>(
     requires sound { IsSound at.now.sys.now }
     requires cooperative { at.now.cooperative ≡ true }
     requires base { kernel.now.stack.items ≡ [] }
-    requires knows { Stood (IsScanning at.now.sys.now (terms_of at.now) []) at.now.sys.now (terms_of at.now) (stand_of kernel.now objects.now (W.lane world.old)) }
+    requires knows { Stood (IsScanning at.now.sys.now (terms_of at.now) []) at.now.sys.now (terms_of at.now)
+        (stand_of kernel.now objects.now (W.lane world.old)) }
     requires order { InOrder W.acts at.now.sys.now kernel.now.looks (W.lane world.old) }
     requires empty { AreSeenEmpty at.now.sys.now 0 0 (W.lane world.old) }
-    ensures goes { RestsTo at.now.sys.now (terms_of at.now) (stand_of kernel.now objects.now (W.lane world.old)) (stand_of kernel.now objects.now (W.lane world.new)) result }
-    ensures order { RestsInOrder W.acts at.now.sys.now (stand_of kernel.now objects.now (W.lane world.old)) (stand_of kernel.now objects.now (W.lane world.new)) result }
+    ensures goes { RestsTo at.now.sys.now (terms_of at.now) (stand_of kernel.now objects.now (W.lane world.old))
+        (stand_of kernel.now objects.now (W.lane world.new)) result }
+    ensures order { RestsInOrder W.acts at.now.sys.now (stand_of kernel.now objects.now (W.lane world.old))
+        (stand_of kernel.now objects.now (W.lane world.new)) result }
 {
     let _ = at;
     let _ = objects;
@@ -61,8 +64,10 @@ fn rounds<R: Wait, W: World, G: Gate, L: Ledger>(
     requires fit { StimuliFit at.now.sys.now (W.lane world.old).plan }
     requires knows { Stood (MayLook at.now.sys.now) at.now.sys.now (terms_of at.now) (stand_of kernel.old objects.old (W.lane world.old)) }
     requires order { InOrder W.acts at.now.sys.now kernel.old.looks (W.lane world.old) }
-    ensures goes { EndsTo at.now.sys.now (terms_of at.now) (stand_of kernel.old objects.old (W.lane world.old)) (stand_of kernel.new objects.new (W.lane world.new)) result }
-    ensures order { RoundsInOrder W.acts at.now.sys.now (stand_of kernel.old objects.old (W.lane world.old)) (stand_of kernel.new objects.new (W.lane world.new)) result }
+    ensures goes { EndsTo at.now.sys.now (terms_of at.now) (stand_of kernel.old objects.old (W.lane world.old))
+        (stand_of kernel.new objects.new (W.lane world.new)) result }
+    ensures order { RoundsInOrder W.acts at.now.sys.now (stand_of kernel.old objects.old (W.lane world.old))
+        (stand_of kernel.new objects.new (W.lane world.new)) result }
 {
     let mut steps = Steps::<L>::open(blank);
     for _ in rt.forever() {
@@ -104,8 +109,10 @@ pub fn vanilla_turn<R: Wait, W: World, G: Gate>(
     requires fit { StimuliFit sys.now (W.lane world.old).plan }
     requires knows { Stood (MayLook sys.now) sys.now (under true budget) (stand_of vanilla.old.kernel objects.old (W.lane world.old)) }
     requires order { InOrder W.acts sys.now vanilla.old.kernel.looks (W.lane world.old) }
-    ensures goes { TurnsTo sys.now (under true budget) (stand_of vanilla.old.kernel objects.old (W.lane world.old)) (stand_of vanilla.new.kernel objects.new (W.lane world.new)) result }
-    ensures order { TurnsInOrder W.acts sys.now (stand_of vanilla.old.kernel objects.old (W.lane world.old)) (stand_of vanilla.new.kernel objects.new (W.lane world.new)) result }
+    ensures goes { TurnsTo sys.now (under true budget) (stand_of vanilla.old.kernel objects.old (W.lane world.old))
+        (stand_of vanilla.new.kernel objects.new (W.lane world.new)) result }
+    ensures order { TurnsInOrder W.acts sys.now (stand_of vanilla.old.kernel objects.old (W.lane world.old))
+        (stand_of vanilla.new.kernel objects.new (W.lane world.new)) result }
 {
     let at = Bounds {
         sys,

@@ -148,7 +148,8 @@ fn allowed(
 
 /// Whether the references of a block are allowed and its lives are as they must be.
 fn block_lives(alloc: Global, records: &RecordsByWord, p: u8, b: u8) -> Result<bool, AllocError>
-    ensures { IfOk result (λ r. r ≡ lives_of b (hist (word_kind.Pool p) (all_items records.now)) (hist (word_kind.Block p b) (all_items records.now))) }
+    ensures { IfOk result (λ r. r ≡ lives_of b (hist (word_kind.Pool p) (all_items records.now))
+        (hist (word_kind.Block p b) (all_items records.now))) }
 {
     let block = records.history(alloc, named(Word::Block(p, b)))?;
     match records.pool(u64::from(p)) {

@@ -56,7 +56,8 @@ impl LifeNow {
 
 /// What the pool's operations on block `b` leave; None where they don't alternate.
 fn last_life(b: u64, own: &Group) -> Option<LifeNow>
-    ensures { MatchOption result (is_allowed (life_of b) own.now ≡ false) (λ l. (is_allowed (life_of b) own.now ≡ true) × (life_at l.out l.edge ≡ after (life_of b) own.now)) }
+    ensures { MatchOption result (is_allowed (life_of b) own.now ≡ false) (λ l. (is_allowed (life_of b) own.now ≡ true) ×
+        (life_at l.out l.edge ≡ after (life_of b) own.now)) }
 {
     let mut life = LifeNow {
         out: false,
@@ -138,7 +139,8 @@ pub fn marked(alloc: Global, places: &[u64], count: usize) -> Result<Vec<bool>, 
 
 /// Whether each place below `marks`'s length is marked or has a reference.
 fn are_referred(flags: &[bool], marks: &[bool]) -> bool
-    ensures { (places : List ℕ) → ((n : ℕ) → n < length marks.now → get_or marks.now n false ≡ has places n) → result ≡ are_referred flags.now (length marks.now) places }
+    ensures { (places : List ℕ) → ((n : ℕ) → n < length marks.now → get_or marks.now n false ≡ has places n) → result ≡ are_referred
+        flags.now (length marks.now) places }
 {
     for n in 0..marks.len() {
         if !marks[n] && flag(flags, n) {

@@ -51,7 +51,8 @@ impl References {
     /// Makes an operation that is allowed.
     fn apply(&mut self, body: &Body) -> Result<(), AllocError>
         requires { self.old.standing ≤ length self.old.flags.items }
-        ensures stands { OnOk result ((s : Refs) → Stands s self.old.flags.items self.old.standing → refs_may s body.now ≡ true → Stands (refs_next s body.now) self.new.flags.items self.new.standing) }
+        ensures stands { OnOk result ((s : Refs) → Stands s self.old.flags.items self.old.standing → refs_may s body.now ≡ true → Stands
+            (refs_next s body.now) self.new.flags.items self.new.standing) }
         ensures bounded { OnOk result (self.new.standing ≤ length self.new.flags.items) }
     {
         match body {
@@ -81,7 +82,8 @@ impl References {
 
 /// Whether no reference stands, before each operation and after the last; None where one isn't allowed.
 pub fn empties(alloc: Global, history: &Group) -> Result<Option<Vec<bool>>, AllocError>
-    ensures { IfOk result (λ o. MatchOption o (is_allowed references history.now ≡ false) (λ v. (is_allowed references history.now ≡ true) × (v.items ≡ empties history.now))) }
+    ensures { IfOk result (λ o. MatchOption o (is_allowed references history.now ≡ false)
+        (λ v. (is_allowed references history.now ≡ true) × (v.items ≡ empties history.now))) }
 {
     let mut refs = References::new(alloc);
     let mut empties = Vec::new(alloc);

@@ -49,7 +49,7 @@ module _ (sys : System) (words : List ℕ) (views : List View) (holds : Holds sy
   pub leaves-here : Leaves sys (lane.before ++ g.recs ∷ lane.behind) holds.now
   leaves-here = subst (λ l. Leaves sys l holds.now) lane.is holds.leaves
 
-  logs-more : (r : Rec) (u : View) → u.logs ≡ logged r v.logs → u.rest ≡ v.rest → Logs (more_lanes r) (set views id u)
+  logs-more : (r : Rec) (u : View) → u.logs ≡ logged r v.logs → u.lane_numbers ≡ v.lane_numbers → Logs (more_lanes r) (set views id u)
   logs-more r u logs rest = logs-noted lane.before g.recs lane.behind views id v u g gs r (subst (λ l. Logs l views) lane.is holds.logs) at_id head (sym lane.place) lane.inside room logs rest
 
   idle-more : (r : Rec) (u : View) → u.logs ≡ logged r v.logs → AllIdle (set views id u)
@@ -66,7 +66,7 @@ module _ (sys : System) (words : List ℕ) (views : List View) (holds : Holds sy
 
   -- a step that draws a number on the word w, which then shows n
   pub drawn-step : (w n : ℕ) (r : Rec) (next : Now) (items : Items) (u : View) → Leaves sys (more_lanes r) next → Shows sys (set words w n) next → Tokens sys (set views id u) next → Events sys (set words w n) (set views id u) next → Queues sys (set words w n) (set views id u) next items
-      → w < 4488 → mark_in w (get_or words w 0) < mark_in w n → u.logs ≡ logged r v.logs → u.rest ≡ v.rest → u.seen ≡ v.seen ++ record { word = w; value = n } ∷ [] → u.contents ≡ v.contents → (i : Item) → Grows sys (lane.before ++ g.recs ∷ lane.behind) (more_lanes r) holds.now next i → Holds sys (set words w n) (set views id u)
+      → w < 4488 → mark_in w (get_or words w 0) < mark_in w n → u.logs ≡ logged r v.logs → u.lane_numbers ≡ v.lane_numbers → u.seen ≡ v.seen ++ record { word = w; value = n } ∷ [] → u.contents ≡ v.contents → (i : Item) → Grows sys (lane.before ++ g.recs ∷ lane.behind) (more_lanes r) holds.now next i → Holds sys (set words w n) (set views id u)
   drawn-step w n r next items u leaves shows tokens events queues low more logs rest seen contents i grows = let wd = holds.shows.wide in record {
     lanes = more_lanes r;
     now = next;
@@ -87,7 +87,7 @@ module _ (sys : System) (words : List ℕ) (views : List View) (holds : Holds sy
 
   -- a look at the word w, with a record of what it shows
   pub shown-step : (w : ℕ) (r : Rec) (u : View) → Leaves sys (more_lanes r) holds.now → Tokens sys (set views id u) holds.now → Events sys words (set views id u) holds.now → Queues sys words (set views id u) holds.now holds.items
-      → w < 4488 → u.logs ≡ logged r v.logs → u.rest ≡ v.rest → u.seen ≡ v.seen ++ record { word = w; value = get_or words w 0 } ∷ [] → u.contents ≡ v.contents → (i : Item) → Grows sys (lane.before ++ g.recs ∷ lane.behind) (more_lanes r) holds.now holds.now i → Holds sys words (set views id u)
+      → w < 4488 → u.logs ≡ logged r v.logs → u.lane_numbers ≡ v.lane_numbers → u.seen ≡ v.seen ++ record { word = w; value = get_or words w 0 } ∷ [] → u.contents ≡ v.contents → (i : Item) → Grows sys (lane.before ++ g.recs ∷ lane.behind) (more_lanes r) holds.now holds.now i → Holds sys words (set views id u)
   shown-step w r u leaves tokens events queues low logs rest seen contents i grows = record {
     lanes = more_lanes r;
     now = holds.now;
@@ -109,7 +109,7 @@ module _ (sys : System) (words : List ℕ) (views : List View) (holds : Holds sy
 -- a step without a record, on a word without a number, or on none
 pub plain-step : (sys : System) (words after : List ℕ) (views : List View) (holds : Holds sys words views) (id : ℕ) (v u : View) → get_elem? views id ≡ some v → (items : Items)
     → Shows sys after holds.now → Tokens sys (set views id u) holds.now → Events sys after (set views id u) holds.now → Queues sys after (set views id u) holds.now items
-    → u.logs ≡ v.logs → u.rest ≡ v.rest → (length u.logs + length u.rest ≡ 0 → Idle u) → Seen after (set views id u) holds.was → Each (IsKnown sys holds.lanes holds.now) u.contents → Holds sys after (set views id u)
+    → u.logs ≡ v.logs → u.lane_numbers ≡ v.lane_numbers → (length u.logs + length u.lane_numbers ≡ 0 → Idle u) → Seen after (set views id u) holds.was → Each (IsKnown sys holds.lanes holds.now) u.contents → Holds sys after (set views id u)
 plain-step sys words after views holds id v u at_id items shows tokens events queues logs rest idle seen contents = record {
   lanes = holds.lanes;
   now = holds.now;

@@ -84,7 +84,7 @@ module _ (before : List (List Rec)) (lane : List Rec) (behind : List (List Rec))
 
   -- a record more in the lane whose log stands first in the view
   pub logs-noted : (views : List View) (id : ℕ) (v u : View) (g : Log) (gs : List Log) (r : Rec) → Logs (before ++ lane ∷ behind) views → get_elem? views id ≡ some v → v.logs ≡ g ∷ gs → g.number ≡ length before
-      → length before < 49 → length lane ≤ 1000000 → u.logs ≡ logged r v.logs → u.rest ≡ v.rest → Logs (before ++ (lane ++ r ∷ []) ∷ behind) (set views id u)
+      → length before < 49 → length lane ≤ 1000000 → u.logs ≡ logged r v.logs → u.lane_numbers ≡ v.lane_numbers → Logs (before ++ (lane ++ r ∷ []) ∷ behind) (set views id u)
   logs-noted views id v u g gs r old at head number inside room logs rest =
       let n : ℕ = length before in
       let here : many (is_log (length before)) v.logs ≡ 1 + many (is_log (length before)) gs = ap (many (is_log (length before))) head ∙ (let e : cond {A = ℕ} (eqb g.number (length before)) 1 0 ≡ 1 = ap (λ (b : Bool). cond {A = ℕ} b 1 0) (eq-eqb g.number (length before) number) in omega arith) in
@@ -92,7 +92,7 @@ module _ (before : List (List Rec)) (lane : List Rec) (behind : List (List Rec))
       let top = total-at (λ (z : View). many (is_log (length before)) z.logs) views id v at in
       let mine : some g.recs ≡ some lane = sym (subst (λ (ls : List Log). Each (λ (g : Log). get_elem? (before ++ lane ∷ behind) g.number ≡ some g.recs) ls) head (old.own id v at)).0 ∙ (ap (get_elem? (before ++ lane ∷ behind)) number ∙ mid-here before lane behind) in
       let is_lane : g.recs ≡ lane = some-injective g.recs lane mine in
-      let rests : (k : ℕ) → total (λ (z : View). many (is_number k) z.rest) (set views id u) ≡ total (λ (z : View). many (is_number k) z.rest) views = (λ k. same-total (λ (z : View). many (is_number k) z.rest) views id v u at (ap (many (is_number k)) rest)) in record {
+      let rests : (k : ℕ) → total (λ (z : View). many (is_number k) z.lane_numbers) (set views id u) ≡ total (λ (z : View). many (is_number k) z.lane_numbers) views = (λ k. same-total (λ (z : View). many (is_number k) z.lane_numbers) views id v u at (ap (many (is_number k)) rest)) in record {
         count = mid-length before lane (lane ++ r ∷ []) behind ∙ old.count;
         own = fits-set (Own (before ++ lane ∷ behind)) (Own (before ++ (lane ++ r ∷ []) ∷ behind)) views id u
             (λ j w ne there o. still-there (lane ++ r ∷ []) w.logs (none-logged (length before) w.logs (let t = total-two (λ (z : View). many (is_log (length before)) z.logs) views id j v w at there (λ e. ne (sym e)) in omega arith)) o)
@@ -102,21 +102,21 @@ module _ (before : List (List Rec)) (lane : List Rec) (behind : List (List Rec))
             ))
             old.own;
         once = λ k l. let o = old.once k l in let s = same-total (λ (z : View). many (is_log k) z.logs) views id v u at (ap (many (is_log k)) logs ∙ logged-many k r v.logs) in rw (s, rests k) o;
-        later = λ k l far. let far' : 0 < total (λ (z : View). many (is_number k) z.rest) views = rw (sym (rests k)) far in
-            mid-else before lane (lane ++ r ∷ []) behind k (λ e. let q : 0 < total (λ (z : View). many (is_number (length before)) z.rest) views = subst (λ (n : ℕ). 0 < total (λ (z : View). many (is_number n) z.rest) views) e far' in absurd (omega arith)) ∙ old.later k l far';
-        rights = same-total (λ (z : View). length z.logs + length z.rest) views id v u at (λ i. (ap length logs ∙ logged-length r v.logs) i + length (rest i)) ∙ old.rights;
+        later = λ k l far. let far' : 0 < total (λ (z : View). many (is_number k) z.lane_numbers) views = rw (sym (rests k)) far in
+            mid-else before lane (lane ++ r ∷ []) behind k (λ e. let q : 0 < total (λ (z : View). many (is_number (length before)) z.lane_numbers) views = subst (λ (n : ℕ). 0 < total (λ (z : View). many (is_number n) z.lane_numbers) views) e far' in absurd (omega arith)) ∙ old.later k l far';
+        rights = same-total (λ (z : View). length z.logs + length z.lane_numbers) views id v u at (λ i. (ap length logs ∙ logged-length r v.logs) i + length (rest i)) ∙ old.rights;
         room = each-mid (λ (l : List Rec). length l ≤ 1000001) before lane (lane ++ r ∷ []) behind (let e = length-append lane (r ∷ []) in omega arith) old.room;
       }
 
 -- a step with no record
-pub logs-kept : (lanes : List (List Rec)) (views : List View) (id : ℕ) (v u : View) → Logs lanes views → get_elem? views id ≡ some v → u.logs ≡ v.logs → u.rest ≡ v.rest → Logs lanes (set views id u)
+pub logs-kept : (lanes : List (List Rec)) (views : List View) (id : ℕ) (v u : View) → Logs lanes views → get_elem? views id ≡ some v → u.logs ≡ v.logs → u.lane_numbers ≡ v.lane_numbers → Logs lanes (set views id u)
 logs-kept lanes views id v u old at logs rest =
-    let rests : (k : ℕ) → total (λ (z : View). many (is_number k) z.rest) (set views id u) ≡ total (λ (z : View). many (is_number k) z.rest) views = (λ k. same-total (λ (z : View). many (is_number k) z.rest) views id v u at (ap (many (is_number k)) rest)) in record {
+    let rests : (k : ℕ) → total (λ (z : View). many (is_number k) z.lane_numbers) (set views id u) ≡ total (λ (z : View). many (is_number k) z.lane_numbers) views = (λ k. same-total (λ (z : View). many (is_number k) z.lane_numbers) views id v u at (ap (many (is_number k)) rest)) in record {
       count = old.count;
       own = fits-set (λ z. Each (λ (g : Log). get_elem? lanes g.number ≡ some g.recs) z.logs) (λ z. Each (λ (g : Log). get_elem? lanes g.number ≡ some g.recs) z.logs) views id u (λ j w ne there o. o) (rw logs (old.own id v at)) old.own;
       once = λ k l. let o = old.once k l in let s = same-total (λ (z : View). many (is_log k) z.logs) views id v u at (ap (many (is_log k)) logs) in rw (s, rests k) o;
       later = λ k l far. old.later k l (rw (sym (rests k)) far);
-      rights = same-total (λ (z : View). length z.logs + length z.rest) views id v u at (λ i. length (logs i) + length (rest i)) ∙ old.rights;
+      rights = same-total (λ (z : View). length z.logs + length z.lane_numbers) views id v u at (λ i. length (logs i) + length (rest i)) ∙ old.rights;
       room = old.room;
     }
 
@@ -151,8 +151,8 @@ quiet-noted r i v u is no_lifo no_take e = record {
 }
 
 -- a lane may hold what it likes
-pub idle-set : (views : List View) (id : ℕ) (u : View) → AllIdle views → (length u.logs + length u.rest ≡ 0 → Idle u) → AllIdle (set views id u)
-idle-set views id u all mine = fits-set (λ z. length z.logs + length z.rest ≡ 0 → Idle z) (λ z. length z.logs + length z.rest ≡ 0 → Idle z) views id u (λ j w ne there o. o) mine all
+pub idle-set : (views : List View) (id : ℕ) (u : View) → AllIdle views → (length u.logs + length u.lane_numbers ≡ 0 → Idle u) → AllIdle (set views id u)
+idle-set views id u all mine = fits-set (λ z. length z.logs + length z.lane_numbers ≡ 0 → Idle z) (λ z. length z.logs + length z.lane_numbers ≡ 0 → Idle z) views id u (λ j w ne there o. o) mine all
 
 abbrev pub SawFrom : List ℕ → Was → Glance → Type 0
 SawFrom words was g = (g.word < 4488) × (mark_in g.word g.value ≤ mark_in g.word (get_or words g.word 0)) × (g.value ≡ was g.word (mark_in g.word g.value))

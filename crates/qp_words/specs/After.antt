@@ -12,7 +12,7 @@ use Rattle.qp_words.specs.declared.Log.{Log}
 use Rattle.qp_words.specs.declared.Fill.{Fill}
 use Rattle.qp_words.specs.declared.Give.{Give}
 use Rattle.qp_words.specs.declared.Spot.{Spot}
-use Rattle.qp_words.specs.declared.Place.{Place}
+use Rattle.qp_words.specs.declared.CellPlace.{CellPlace}
 use Rattle.qp_words.specs.declared.Serve.{Serve}
 use Rattle.qp_words.specs.declared.View.{View}
 
@@ -118,7 +118,7 @@ abbrev pub gained : Entry → List Entry → List Entry
 gained e hands = cond (eqb e.pool 0) hands (hands ++ e ∷ [])
 
 -- the place of an entry that was claimed as operation k of queue a
-abbrev pub place : ℕ → ℕ → Entry → ℕ → Place
+abbrev pub place : ℕ → ℕ → Entry → ℕ → CellPlace
 place a j e k = record { queue = a; cell = j; entry = e; number = k }
 
 -- the queue's own counts, with so many last-in posts and takes more
@@ -151,7 +151,7 @@ failing t [] = []
 failing t (x ∷ xs) = cond (t x) (failing t xs) (x ∷ failing t xs)
 
 abbrev pub nothing : View
-nothing = record { logs = []; rest = []; fresh = []; used = []; hands = []; gives = []; fills = []; claims = []; takes = []; serves = []; contents = []; seen = [] }
+nothing = record { logs = []; lane_numbers = []; fresh = []; used = []; hands = []; gives = []; fills = []; claims = []; takes = []; serves = []; contents = []; seen = [] }
 
 -- a seat that has seen what another has, and nothing else
 abbrev pub onlooker : View → View
@@ -159,7 +159,7 @@ onlooker v = record nothing { seen = v.seen }
 
 -- lane number n is handed out, with an empty log
 abbrev pub granting : ℕ → View → View
-granting n v = record v { rest = without (λ k. eqb k n) v.rest }
+granting n v = record v { lane_numbers = without (λ k. eqb k n) v.lane_numbers }
 
 abbrev pub granted : ℕ → View → View
 granted n v = record v { logs = v.logs ++ record { number = n; recs = [] } ∷ [] }
@@ -175,7 +175,7 @@ handed t v w = record w { serves = w.serves ++ passing t v.serves }
 abbrev pub joined : View → View → View
 joined v w = record {
   logs = v.logs ++ w.logs;
-  rest = v.rest ++ w.rest;
+  lane_numbers = v.lane_numbers ++ w.lane_numbers;
   fresh = v.fresh ++ w.fresh;
   used = v.used ++ w.used;
   hands = v.hands ++ w.hands;
@@ -190,4 +190,4 @@ joined v w = record {
 
 -- the view that the table begins with: it has lane 0, serves these objects and has all other lanes to hand out
 abbrev pub newcomer : List ℕ → List Serve → View
-newcomer rest xs = record nothing { logs = record { number = 0; recs = [] } ∷ []; rest = rest; serves = xs }
+newcomer numbers xs = record nothing { logs = record { number = 0; recs = [] } ∷ []; lane_numbers = numbers; serves = xs }

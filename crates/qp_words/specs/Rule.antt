@@ -33,7 +33,7 @@ use Rattle.qp_words.specs.declared.Log.{Log}
 use Rattle.qp_words.specs.declared.Spot.{Spot}
 use Rattle.qp_words.specs.declared.Fill.{Fill}
 use Rattle.qp_words.specs.declared.Give.{Give}
-use Rattle.qp_words.specs.declared.Place.{Place}
+use Rattle.qp_words.specs.declared.CellPlace.{CellPlace}
 use Rattle.qp_words.specs.declared.Serve.{Serve}
 use Rattle.qp_words.specs.declared.Glance.{Glance}
 use Rattle.qp_words.specs.declared.View.{View}
@@ -101,9 +101,9 @@ is_number n k = eqb k n
 pub record Logs (lanes : List (List Rec)) (views : List View) : Type 0 where
   pub count : length lanes ≡ 49
   pub own : (id : ℕ) (v : View) → get_elem? views id ≡ some v → Each (λ (g : Log). get_elem? lanes g.number ≡ some g.recs) v.logs
-  pub once : (n : ℕ) → n < 49 → total (λ (v : View). many (is_log n) v.logs) views + total (λ (v : View). many (is_number n) v.rest) views ≡ 1
-  pub later : (n : ℕ) → n < 49 → 0 < total (λ (v : View). many (is_number n) v.rest) views → get_elem? lanes n ≡ some []
-  pub rights : total (λ (v : View). length v.logs + length v.rest) views ≡ 49
+  pub once : (n : ℕ) → n < 49 → total (λ (v : View). many (is_log n) v.logs) views + total (λ (v : View). many (is_number n) v.lane_numbers) views ≡ 1
+  pub later : (n : ℕ) → n < 49 → 0 < total (λ (v : View). many (is_number n) v.lane_numbers) views → get_elem? lanes n ≡ some []
+  pub rights : total (λ (v : View). length v.logs + length v.lane_numbers) views ≡ 49
   pub room : Each (λ (lane : List Rec). length lane ≤ 1000001) lanes
 
 -- a view with no lane and no right to any has nothing
@@ -117,7 +117,7 @@ pub record Idle (v : View) : Type 0 where
   pub takes : v.takes ≡ []
 
 abbrev pub AllIdle : List View → Type 0
-AllIdle views = (id : ℕ) (v : View) → get_elem? views id ≡ some v → length v.logs + length v.rest ≡ 0 → Idle v
+AllIdle views = (id : ℕ) (v : View) → get_elem? views id ≡ some v → length v.logs + length v.lane_numbers ≡ 0 → Idle v
 
 abbrev pub is_spot : ℕ → ℕ → Spot → Bool
 is_spot p b x = eqb x.pool p && eqb x.block b
@@ -238,10 +238,10 @@ is_entry d e = (eqb e.pool d.pool && eqb e.block d.block) && eqb e.name d.name
 abbrev pub is_item : ℕ → ℕ → Entry → InLine → Bool
 is_item stage j e i = (eqb i.stage stage && eqb i.cell j) && is_entry e i.entry
 
-abbrev pub is_place : ℕ → ℕ → Entry → Place → Bool
+abbrev pub is_place : ℕ → ℕ → Entry → CellPlace → Bool
 is_place a j e x = (eqb x.queue a && eqb x.cell j) && is_entry e x.entry
 
-abbrev pub on_queue : ℕ → Place → Bool
+abbrev pub on_queue : ℕ → CellPlace → Bool
 on_queue a x = eqb x.queue a
 
 abbrev pub is_serve : ℕ → Serve → Bool

@@ -40,7 +40,7 @@ pub struct Fill {
 /// An entry whose cell isn't laid yet, or one under way in a take: its queue, its cell, the entry, and how many operations the
 /// queue had had when it was claimed.
 #[derive(Clone, Copy, Drop)]
-pub struct Place {
+pub struct CellPlace {
     pub queue: u64,
     pub cell: u64,
     pub entry: Entry,
@@ -73,14 +73,14 @@ pub struct View {
     /// Its own records first, then those of the lanes that it took over.
     pub logs: LinkedList<Log>,
     /// The lane numbers that it may still hand out.
-    pub rest: LinkedList<u64>,
+    pub lane_numbers: LinkedList<u64>,
     pub fresh: LinkedList<Spot>,
     pub used: LinkedList<Spot>,
     pub hands: LinkedList<Entry>,
     pub gives: LinkedList<Give>,
     pub fills: LinkedList<Fill>,
-    pub claims: LinkedList<Place>,
-    pub takes: LinkedList<Place>,
+    pub claims: LinkedList<CellPlace>,
+    pub takes: LinkedList<CellPlace>,
     pub serves: LinkedList<Serve>,
     pub contents: LinkedList<Content>,
     pub seen: LinkedList<Glance>,

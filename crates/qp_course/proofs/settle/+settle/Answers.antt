@@ -7,8 +7,8 @@ use Rattle.qp_chart.specs.Expr.{Names}
 use Rattle.qp_model.specs.Able.{task_able}
 use Rattle.qp_model.specs.Calls as calls
 use Rattle.qp_model.specs.Calls.{deed_of}
-use Rattle.qp_fits.specs.Rest.{Rest}
-use Rattle.qp_fits.specs.RestNext.{rest_begin}
+use Rattle.qp_fits.specs.CallState.{CallState}
+use Rattle.qp_fits.specs.CallStateNext.{call_state_begin}
 use Rattle.qp_fits.specs.AsCall.{as_call}
 use Rattle.qp_course.specs.Goes.{moment_of}
 use Rattle.qp_course.specs.Machine.{done, resume, deed_state, settle}
@@ -28,9 +28,9 @@ pub act-returns-in-Calls : goal.act-returns-in-Calls
 unfolding deed_state
 act-returns-in-Calls t c =
     c.resume.ensures
-    ∙ ap (λ (r : Rest). resume (as_way c.args.way) c.has_inner-inner.result r c.args.left.leaf (as_tasks c.args.left.tasks.items)
+    ∙ ap (λ (r : CallState). resume (as_way c.args.way) c.has_inner-inner.result r c.args.left.leaf (as_tasks c.args.left.tasks.items)
     (settle (as_actor c.args.who.now) (as_way c.args.way) c.args.left.leaf (as_tasks c.args.left.tasks.items)) (config_of c.args.own r.kept)) c.begin.ensures
-    ∙ ap (λ i. resume (as_way c.args.way) i (rest_begin c.args.who.now.room c.args.kept (as_call c.in-Calls.call)) c.args.left.leaf (as_tasks c.args.left.tasks.items)
+    ∙ ap (λ i. resume (as_way c.args.way) i (call_state_begin c.args.who.now.room c.args.kept (as_call c.in-Calls.call)) c.args.left.leaf (as_tasks c.args.left.tasks.items)
     (settle (as_actor c.args.who.now) (as_way c.args.way) c.args.left.leaf (as_tasks c.args.left.tasks.items)) (config_of c.args.own c.args.kept)) c.has_inner-inner.ensures
     ∙ ap (λ (d : calls.Deed). deed_state (as_actor c.args.who.now) (as_way c.args.way) c.args.left.leaf (as_tasks c.args.left.tasks.items)
     (settle (as_actor c.args.who.now) (as_way c.args.way) c.args.left.leaf (as_tasks c.args.left.tasks.items)) (config_of c.args.own c.args.kept) d)

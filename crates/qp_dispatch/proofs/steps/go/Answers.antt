@@ -2,7 +2,7 @@ use Rattle.std.proofs.Common.{None, [], inl, subst, sym}
 use Rattle.qp_model.specs.Pieces.{bare}
 use Rattle.qp_calls.specs.LaneView.{Grows}
 use Rattle.qp_calls.specs.Deferring.{StandAll}
-use Rattle.qp_dispatch.specs.declared.steps.Stage.TheVariants as standing
+use Rattle.qp_dispatch.specs.declared.steps.Position.TheVariants as standing
 use Rattle.qp_dispatch.specs.Runs.{setting_of}
 use Rattle.qp_dispatch.specs.Resume.{held_in}
 use Rattle.qp_dispatch.proofs.ResumeLemmas.{cut-begins, cut-stand, finish-may, halted, over-begins, over-stand, released-is, to-assert, to-end, to-point}

@@ -1,5 +1,5 @@
 use Rattle.std.proofs.Common.{◌≡◌, ◌+◌, drop, sym, subst}
-use Rattle.qp_sources.specs.SourceRest.{source_stops}
+use Rattle.qp_sources.specs.SourceState.{source_stops}
 use Rattle.qp_sources.specs.AsSource.{flag_of, rest_of}
 use Rattle.qp_sources.proofs.stops.stops_of.Goals as goal
 

@@ -1,6 +1,6 @@
 use Rattle.std.proofs.Common.{◌∙◌, map, suc, take, ap, sym, add-one}
 use Rattle.std.proofs.lemmas.List.{take-map}
-use Rattle.qp_replay.specs.Rest.{place}
+use Rattle.qp_replay.specs.Remaining.{place}
 use Rattle.qp_replay.proofs.places.Places.cut_behind.Goals as goal
 
 pub returns : goal.returns

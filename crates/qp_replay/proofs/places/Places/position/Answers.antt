@@ -1,14 +1,14 @@
 use Rattle.std.proofs.Common.{◌∙◌, ◌<◌, length, get_or, ap, sym, subst, below_more}
 use Rattle.std.proofs.lemmas.List.{get_or-map}
-use Rattle.qp_model.specs.Places.{Place}
+use Rattle.qp_model.specs.Places.{RecordPlace}
 use Rattle.qp_replay.specs.declared.marks.At.{At}
-use Rattle.qp_replay.specs.Rest.{place}
+use Rattle.qp_replay.specs.Remaining.{place}
 use Rattle.qp_replay.proofs.places.Places.position.Goals as goal
 use Rattle.qp_replay.proofs.places.Places.position.Goals.{else-x-at-via-then-x-at+else-x-at-2, else-x-at-via-else-x-at}
 
 pub loop-i-preserved : goal.loop-i-preserved
 loop-i-preserved c = below_more _ _ c.loop-i.invariant (λ h.
-    let f : At → Place = λ x. place x.lane x.place in
+    let f : At → RecordPlace = λ x. place x.lane x.place in
     let d : At = record { lane = 0; place = 0 } in
     let i = c.loop-i.i in
     let items = c.self.inside.items.items in

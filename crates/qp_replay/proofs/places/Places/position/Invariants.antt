@@ -1,5 +1,5 @@
 use Rattle.std.proofs.Common.{◌≡◌, ℕ, ◌<◌, get_or}
-use Rattle.qp_replay.specs.Rest.{place}
+use Rattle.qp_replay.specs.Remaining.{place}
 use Rattle.qp_replay.proofs.places.Places.position.Given as goal
 
 abbrev pub invariant-loop-i : goal.invariant-loop-i

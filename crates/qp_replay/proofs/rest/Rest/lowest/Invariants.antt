@@ -1,6 +1,0 @@
-use Rattle.std.proofs.Common.{ℕ, ◌<◌}
-use Rattle.qp_replay.specs.Rest.{MayGo}
-use Rattle.qp_replay.proofs.rest.Rest.lowest.Given as goal
-
-abbrev pub invariant-loop-lane : goal.invariant-loop-lane
-invariant-loop-lane l = (k : ℕ) → k < l.lane → MayGo l.self k → ⊥

@@ -1,6 +1,0 @@
-use Rattle.std.proofs.Common.{ℕ, ◌<◌}
-use Rattle.qp_replay.specs.Rest.{HasNext}
-use Rattle.qp_replay.proofs.rest.Rest.unfinished.Given as goal
-
-abbrev pub invariant-loop-n : goal.invariant-loop-n
-invariant-loop-n l = (k : ℕ) → k < l.n → HasNext l.self k → ⊥
