@@ -67,6 +67,15 @@ pub(crate) const fn n_publish(pars: &'static [u64], reserve: Option<u8>) -> Deed
     }
 }
 
+/// A handler's publication of N, after a `locked` list with nothing in it.
+pub(crate) const fn n_announce(pars: &'static [u64], reserve: Option<u8>) -> Deed {
+    Deed::Announce {
+        sig: N,
+        pars,
+        reserve,
+    }
+}
+
 /// A source in lane 1.
 pub(crate) const fn source<'a>(deeds: &'a [Deed], leaves: &'a str) -> Act<'a> {
     Act {

@@ -40,6 +40,7 @@ pub(crate) enum Deed {
     Announce {
         sig: u16,
         pars: &'static [u64],
+        reserve: Option<u8>,
     },
     Forward {
         to: u8,
@@ -317,9 +318,9 @@ fn act<O: Ops, L: Ledger>(
             let ev = event(sys, *sig, pars)?;
             publish(ops, sys, &ev, *reserve, steps).ok()
         }
-        Deed::Announce { sig, pars } => {
+        Deed::Announce { sig, pars, reserve } => {
             let ev = event(sys, *sig, pars)?;
-            announce(ops, sys, o, &ev, None, steps)
+            announce(ops, sys, o, &ev, *reserve, steps)
         }
         Deed::Tick { rate } => tick_rate(ops, sys, *rate, steps).ok(),
         Deed::Subscribe(sig) => subscribing(ops, sys, o, *sig, true),

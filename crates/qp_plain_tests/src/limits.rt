@@ -1,6 +1,6 @@
 //! Limits of queues, pools and lists, from both sides.
 
-use crate::acts::{N, X_POST, n_lifo, n_post, n_publish, owner, source, static_post};
+use crate::acts::{N, X_POST, n_announce, n_lifo, n_post, n_publish, owner, source, static_post};
 use crate::bench::see;
 use crate::deeds::Deed;
 use crate::systems::{many, one};
@@ -114,7 +114,7 @@ fn an_assertion_cuts_a_publication_and_a_tick(rt: HostRuntime) -> Result<(), Fai
         ];
         see(&rt, rt.alloc(), system.as_str(), 0, &acts)?;
     }
-    let announce = Deed::Announce { sig: N, pars: &[3] };
+    let announce = n_announce(&[3], None);
     let deeds = [announce, announce];
     let acts = [
         owner(1, &ready, "sub 1 5 0, arm 1 1 0 1 1"),
@@ -172,6 +172,21 @@ fn a_pool_keeps_its_reserve(rt: HostRuntime) -> Result<(), Fail> {
         source(
             &publishes,
             "new 0 1 0 0 0 5 8, inc 0 1 0 0, pub 0 5 1 1, inc 0 1 0 1, post 0 1 1 0 0 1 0 1, dec 0 1 0 2 0, short 0 1 1 1 1, new 0 1 1 1 0 5 8, inc 0 1 1 0, pub 0 5 1 1, inc 0 1 1 1, post 0 1 2 0 0 1 1 1, dec 0 1 1 2 0, assert 0 2 1 2 0",
+        ),
+    ];
+    see(&rt, rt.alloc(), system.as_str(), 0, &acts)?;
+    let announces = [
+        n_announce(&[8], Some(1)),
+        n_announce(&[8], Some(1)),
+        n_announce(&[8], Some(0)),
+        n_announce(&[8], None),
+    ];
+    let acts = [
+        owner(1, &[Deed::Subscribe(N)], "sub 1 5 0"),
+        owner(
+            1,
+            &announces,
+            "lock 1 1, unlock 1 0, new 1 1 0 0 0 5 8, inc 1 1 0 0, pub 1 5 1 1, lock 1 1, inc 1 1 0 1, post 1 1 1 0 0 1 0 1, unlock 1 0, dec 1 1 0 2 0, lock 1 1, unlock 1 0, short 1 1 1 1 1, lock 1 1, unlock 1 0, new 1 1 1 1 0 5 8, inc 1 1 1 0, pub 1 5 1 1, lock 1 1, inc 1 1 1 1, post 1 1 2 0 0 1 1 1, unlock 1 0, dec 1 1 1 2 0, lock 1 1, unlock 1 0, assert 1 2 1 2 0",
         ),
     ];
     see(&rt, rt.alloc(), system.as_str(), 0, &acts)

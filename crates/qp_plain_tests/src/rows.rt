@@ -1,7 +1,8 @@
 //! Worked examples: the records of whole runs, act by act, in one lane and in two.
 
 use crate::acts::{
-    GO_POST, N, X_POST, n_lifo, n_post, n_publish, owner, source, static_post, step, step_of,
+    GO_POST, N, X_POST, n_announce, n_lifo, n_post, n_publish, owner, source, static_post, step,
+    step_of,
 };
 use crate::bench::see;
 use crate::deeds::Deed;
@@ -118,7 +119,7 @@ fn a_source_publishes_to_one(rt: HostRuntime) -> Result<(), Fail> {
 #[test]
 fn a_handler_publishes_to_itself(rt: HostRuntime) -> Result<(), Fail> {
     let system = one(rt.alloc(), 1, 2)?;
-    let publish = [Deed::Announce { sig: N, pars: &[4] }];
+    let publish = [n_announce(&[4], None)];
     let acts = [
         owner(1, &[Deed::Subscribe(N)], "sub 1 5 0"),
         source(&GO_POST, "post 0 1 1 0 0 0 4 0"),
