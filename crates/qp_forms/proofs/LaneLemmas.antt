@@ -10,7 +10,7 @@ use Rattle.qp_model.specs.declared.systems.ObjectDef.{ObjectDef}
 use Rattle.qp_model.specs.declared.bodies.Body.{Body}
 use Rattle.qp_model.specs.declared.bodies.Body.TheVariants as body
 use Rattle.qp_model.specs.Record.{Item}
-use Rattle.qp_model.specs.KernelLane.{Role, Looks, Sees, Takes, Ends, Rests, Holds, Drops, RunsOut, Spills, Acts, role_of, Setting, above, Upcoming, Inside, Looking, Chosen, Ended, Resting, Again, Over, Halted, Reading, base_ended, found_none, looking_at, look_next, seen_next, own_next, inside_next, found_next, ended_next, call_state_next, place_next, start_next, started_next, role_next, lane_next, lane_on, unread, lane_read}
+use Rattle.qp_model.specs.KernelLane.{Role, Looks, Sees, Takes, Ends, Rests, Holds, Drops, RunsOut, Spills, Acts, role_of, Setting, above, Upcoming, Inside, Looking, Chosen, Ended, Resting, Again, Over, Halted, Reading, base_ended, found_none, looking_at, look_next, seen_next, own_next, inside_next, found_next, ended_next, rest_next, place_next, start_next, started_next, role_next, lane_next, lane_on, unread, lane_read}
 use Rattle.qp_model.specs.Kernels.{qk, qv}
 use Rattle.qp_forms.proofs.CountLemmas.{is_said_by, both}
 
@@ -197,7 +197,7 @@ module _ (s : Setting) (rests : Bool) (other : rests ≡ false → (s.kernel == 
   ended k next p o Spills its one e = look k next o Spills its e
   ended k next p o Acts its one e = look k next o Acts its e
 
-  rested : (k next : Reading) (o : ℕ) (r : Role) → Its k → rests ≡ true → call_state_next s k o r ≡ Some next → Fine o r × Its next
+  rested : (k next : Reading) (o : ℕ) (r : Role) → Its k → rests ≡ true → rest_next s k o r ≡ Some next → Fine o r × Its next
   rested k next o (Rests n) its may e = let ok = granted _ _ next e in (inr (same o 0 (both (o == 0) _ ok.0).0, may), subst Its ok.1 (base-its k its))
   rested k next o (Looks n floor) its may e = absurd (cc)
   rested k next o (Sees q f l m) its may e = absurd (cc)

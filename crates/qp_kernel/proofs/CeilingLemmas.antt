@@ -5,7 +5,7 @@ use Rattle.qp_model.specs.declared.bodies.Body.TheVariants as body
 use Rattle.qp_model.specs.Record.{Item}
 use Rattle.qp_model.specs.Kernels.{qk, qv}
 use Rattle.qp_model.specs.Knowing.{ceiling_after}
-use Rattle.qp_model.specs.KernelLane.{Role, Looks, Sees, Takes, Ends, Rests, Holds, Drops, RunsOut, Spills, Acts, role_of, ceiling_of, Setting, floor_in, above, Upcoming, Inside, Looking, Chosen, Ended, Resting, Again, Over, Halted, Reading, base_ended, found_none, looking_at, look_next, seen_next, own_next, inside_next, found_next, ended_next, call_state_next, place_next, start_next, started_next, role_next, lane_next}
+use Rattle.qp_model.specs.KernelLane.{Role, Looks, Sees, Takes, Ends, Rests, Holds, Drops, RunsOut, Spills, Acts, role_of, ceiling_of, Setting, floor_in, above, Upcoming, Inside, Looking, Chosen, Ended, Resting, Again, Over, Halted, Reading, base_ended, found_none, looking_at, look_next, seen_next, own_next, inside_next, found_next, ended_next, rest_next, place_next, start_next, started_next, role_next, lane_next}
 
 pub ceiling-role : (c : ℕ) (b : Body) → ceiling_of c (role_of b) ≡ ceiling_after c b
 unfolding role_of
@@ -117,7 +117,7 @@ module _ (s : Setting) (k next : Reading) (o : ℕ) where
   ended-moves p Spills h = look-moves Spills h
   ended-moves p Acts h = look-moves Acts h
 
-  rest-moves : (r : Role) → call_state_next s k o r ≡ Some next → Moves k r next
+  rest-moves : (r : Role) → rest_next s k o r ≡ Some next → Moves k r next
   rest-moves (Rests n) h =
       let is = if-some ((o == 0) && (n == k.looks)) (base_ended s k) next h in
       ap (λ x. x.ceiling) (sym is) ∙ base (not (s.kernel == qk) && s.has_stimulus k.looks)
