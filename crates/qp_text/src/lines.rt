@@ -1,77 +1,160 @@
 //! Lines of a journal's text.
 
-ghost use Rattle.std.specs.Prelude.{◌≡◌, ◌≤◌, ◌+◌, ◌*◌, ◌++◌, ◌∷◌, [], length, map, decimal, if◌then◌else◌};
+ghost use Rattle.std.specs.Prelude.{◌≡◌, ◌<◌, ◌≤◌, ◌+◌, ◌*◌, ◌++◌, ◌∷◌, [], ℕ, length, map, decimal};
 ghost use Rattle.std.specs.Fmt.{signed_decimal};
 ghost use Rattle.qp_model.specs.Output.{item};
 ghost use Rattle.qp_model.specs.OutputText.{after_spaces, line_text, say_texts};
+ghost use Rattle.qp_model.specs.Vocabulary.{word_text};
 
-use arrayvec::ArrayString;
-use itoa::Buffer;
+use itoa::write_digits;
 use qp_model::{kinds, vocabulary};
+use std::marker::Model;
 
 /// Room for the longest line: a word of 8 bytes, 14 numbers of 20 digits, each after a space, and the newline.
-pub(crate) const LINE_ROOM: usize = 303;
+const ROOM: usize = 303;
 
-/// A line under construction.
-pub(crate) type Line = ArrayString<LINE_ROOM>;
-
-/// The line of an item.
-pub(crate) fn line(form: u8, id: u8, nums: &[u64]) -> Line
-    requires least { 1 ≤ id }
-    requires most { id ≤ 46 }
-    requires count { length nums.now ≤ 14 }
-    ensures { result.bytes ≡ line_text form (item id nums.now) }
-{
-    let mut line = Line::new();
-    line.push_str(vocabulary::word_text(id));
-    push_shown(&mut line, form == 2 && id == kinds::SAY, nums);
-    line.push_str("\n");
-    line
+/// A line that is made from its end on, so that each number's digits are written just where they stand in it. One room
+/// serves line after line. Contracts see its bytes.
+#[derive(Drop)]
+pub(crate) struct Line {
+    room: [u8; ROOM],
+    start: usize,
 }
 
-/// Appends each number after a space. The second one has a sign where a signed value is said.
-fn push_shown(line: &mut Line, is_signed: bool, nums: &[u64])
-    requires { length line.old.bytes + 21 * length nums.now ≤ 302 }
-    ensures bytes { line.new.bytes ≡ line.old.bytes ++ after_spaces (if is_signed then say_texts nums.now else map decimal nums.now) }
-    ensures len { length line.new.bytes ≤ length line.old.bytes + 21 * length nums.now }
-{
-    match nums {
-        [o, value, rest @ ..] if is_signed => {
-            push_number(line, *o);
-            push_signed(line, value.cast_signed());
-            push_numbers(line, rest);
+impl Model for Line {
+    ghost use Rattle.std.specs.Prelude.{◌≤◌, List, ℕ, drop};
+
+    ghost Value = { List ℕ };
+
+    ghost view = { λ l. drop l.start l.room };
+
+    ghost invariant = { λ l. l.start ≤ 303 };
+}
+
+impl Line {
+    /// A line without a byte.
+    pub(crate) fn new() -> Line
+        ensures { result ≡ [] }
+    {
+        Line {
+            room: [0; ROOM],
+            start: ROOM,
         }
-        _ => push_numbers(line, nums),
     }
-}
 
-/// Appends each number after a space.
-fn push_numbers(line: &mut Line, nums: &[u64])
-    requires { length line.old.bytes + 21 * length nums.now ≤ 302 }
-    ensures bytes { line.new.bytes ≡ line.old.bytes ++ after_spaces (map decimal nums.now) }
-    ensures len { length line.new.bytes ≤ length line.old.bytes + 21 * length nums.now }
-{
-    for n in nums {
-        push_number(line, *n);
+    /// The bytes of the line.
+    pub(crate) fn as_bytes(&self) -> &[u8]
+        ensures { result.now ≡ self.now }
+    {
+        &self.room[self.start..]
     }
-}
 
-/// Appends a number after a space.
-fn push_number(line: &mut Line, n: u64)
-    requires { length line.old.bytes + 21 ≤ 302 }
-    ensures bytes { line.new.bytes ≡ line.old.bytes ++ 32 ∷ decimal n }
-    ensures len { length line.new.bytes ≤ length line.old.bytes + 21 }
-{
-    line.push_str(" ");
-    line.push_str(Buffer::new().format(n));
-}
+    /// Makes the line of the item with this id, whose numbers are the first and these.
+    pub(crate) fn make(&mut self, form: u8, id: u8, first: u64, others: &[u64])
+        requires least { 1 ≤ id }
+        requires most { id ≤ 46 }
+        requires count { length others.now ≤ 13 }
+        ensures { self.new ≡ line_text form (item id (first ∷ others.now)) }
+    {
+        self.clear();
+        self.put_byte(b'\n');
+        if form == 2 && id == kinds::SAY {
+            self.put_said(others);
+        } else {
+            self.put_numbers(others);
+        }
+        self.put_number(first);
+        self.put_word(id);
+    }
 
-/// Appends a signed number after a space.
-fn push_signed(line: &mut Line, n: i64)
-    requires { length line.old.bytes + 21 ≤ 302 }
-    ensures bytes { line.new.bytes ≡ line.old.bytes ++ 32 ∷ signed_decimal n }
-    ensures len { length line.new.bytes ≤ length line.old.bytes + 21 }
-{
-    line.push_str(" ");
-    line.push_str(Buffer::new().format(n));
+    /// Drops all bytes.
+    fn clear(&mut self)
+        ensures { self.new ≡ [] }
+    {
+        self.start = ROOM;
+    }
+
+    /// Puts a word in front.
+    fn put_word(&mut self, id: u8)
+        requires least { 1 ≤ id }
+        requires most { id ≤ 46 }
+        requires room { length self.old + 8 ≤ 303 }
+        ensures { self.new ≡ word_text id ++ self.old }
+    {
+        let word = vocabulary::word_text(id).as_bytes();
+        let end = self.start;
+        self.start -= word.len();
+        self.room[self.start..end].copy_from_slice(word);
+    }
+
+    /// Puts numbers in front, each after a space. The first, a value that is said, has a sign.
+    fn put_said(&mut self, nums: &[u64])
+        requires room { length self.old + 21 * length nums.now ≤ 303 }
+        ensures bytes { (o : ℕ) → after_spaces (decimal o ∷ []) ++ self.new ≡ after_spaces (say_texts (o ∷ nums.now)) ++ self.old }
+        ensures len { length self.new ≤ length self.old + 21 * length nums.now }
+    {
+        match nums {
+            [] => {}
+            [value, others @ ..] => {
+                self.put_numbers(others);
+                self.put_signed(value.cast_signed());
+            }
+        }
+    }
+
+    /// Puts numbers in front, each after a space.
+    fn put_numbers(&mut self, nums: &[u64])
+        requires room { length self.old + 21 * length nums.now ≤ 303 }
+        ensures bytes { self.new ≡ after_spaces (map decimal nums.now) ++ self.old }
+        ensures len { length self.new ≤ length self.old + 21 * length nums.now }
+    {
+        let mut left = nums;
+        while let [before @ .., n] = left {
+            self.put_number(*n);
+            left = before;
+        }
+    }
+
+    /// Puts a number in front, after a space.
+    fn put_number(&mut self, n: u64)
+        requires { length self.old + 21 ≤ 303 }
+        ensures bytes { self.new ≡ 32 ∷ decimal n ++ self.old }
+        ensures len { length self.new ≤ length self.old + 21 }
+    {
+        self.put_digits(n);
+        self.put_byte(b' ');
+    }
+
+    /// Puts a signed number in front, after a space.
+    fn put_signed(&mut self, n: i64)
+        requires { length self.old + 21 ≤ 303 }
+        ensures bytes { self.new ≡ 32 ∷ signed_decimal n ++ self.old }
+        ensures len { length self.new ≤ length self.old + 21 }
+    {
+        self.put_digits(n.unsigned_abs());
+        if n < 0 {
+            self.put_byte(b'-');
+        }
+        self.put_byte(b' ');
+    }
+
+    /// Puts the digits of a number in front.
+    fn put_digits(&mut self, n: u64)
+        requires { length self.old + 20 ≤ 303 }
+        ensures bytes { self.new ≡ decimal n ++ self.old }
+        ensures len { length self.new ≤ length self.old + 20 }
+    {
+        let end = self.start;
+        self.start = write_digits(n, &mut self.room, end);
+    }
+
+    /// Puts a byte in front.
+    fn put_byte(&mut self, byte: u8)
+        requires { length self.old < 303 }
+        ensures bytes { self.new ≡ byte ∷ self.old }
+        ensures len { length self.new ≡ length self.old + 1 }
+    {
+        self.start -= 1;
+        self.room[self.start] = byte;
+    }
 }
