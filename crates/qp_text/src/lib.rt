@@ -15,6 +15,7 @@ mod writer;
 
 pub use faults::LineFault;
 pub use found::{Found, TextFault};
+pub use lines::Line;
 pub use progress::Reading;
 pub use reader::read_journal;
 pub use writer::write_journal;

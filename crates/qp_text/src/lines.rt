@@ -1,22 +1,23 @@
 //! Lines of a journal's text.
 
-ghost use Rattle.std.specs.Prelude.{◌≡◌, ◌<◌, ◌≤◌, ◌+◌, ◌*◌, ◌++◌, ◌∷◌, [], ℕ, length, map, decimal};
+ghost use Rattle.std.specs.Prelude.{◌≡◌, ◌<◌, ◌≤◌, ◌+◌, ◌*◌, ◌++◌, ◌∷◌, [], ℕ, length, map, decimal, IsTrue};
 ghost use Rattle.std.specs.Fmt.{signed_decimal};
-ghost use Rattle.qp_model.specs.Output.{item};
+ghost use Rattle.qp_model.specs.Output.{is_record_in_range, item, record_item};
 ghost use Rattle.qp_model.specs.OutputText.{after_spaces, line_text, say_texts};
 ghost use Rattle.qp_model.specs.Vocabulary.{word_text};
 
 use itoa::write_digits;
-use qp_model::{kinds, vocabulary};
+use qp_model::{Rec, kinds, vocabulary};
 use std::marker::Model;
 
-/// Room for the longest line: a word of 8 bytes, 14 numbers of 20 digits, each after a space, and the newline.
-const ROOM: usize = 303;
+/// Room for the longest line: a lane's number and a space, a word of 8 bytes, 14 numbers of 20 digits, each after a space, and the
+/// newline.
+const ROOM: usize = 324;
 
 /// A line that is made from its end on, so that each number's digits are written just where they stand in it. One room
 /// serves line after line. Contracts see its bytes.
 #[derive(Drop)]
-pub(crate) struct Line {
+pub struct Line {
     room: [u8; ROOM],
     start: usize,
 }
@@ -28,12 +29,12 @@ impl Model for Line {
 
     ghost view = { λ l. drop l.start l.room };
 
-    ghost invariant = { λ l. l.start ≤ 303 };
+    ghost invariant = { λ l. l.start ≤ 324 };
 }
 
 impl Line {
     /// A line without a byte.
-    pub(crate) fn new() -> Line
+    pub fn new() -> Line
         ensures { result ≡ [] }
     {
         Line {
@@ -43,7 +44,7 @@ impl Line {
     }
 
     /// The bytes of the line.
-    pub(crate) fn as_bytes(&self) -> &[u8]
+    pub fn as_bytes(&self) -> &[u8]
         ensures { result.now ≡ self.now }
     {
         &self.room[self.start..]
@@ -54,7 +55,8 @@ impl Line {
         requires least { 1 ≤ id }
         requires most { id ≤ 46 }
         requires count { length others.now ≤ 13 }
-        ensures { self.new ≡ line_text form (item id (first ∷ others.now)) }
+        ensures bytes { self.new ≡ line_text form (item id (first ∷ others.now)) }
+        ensures len { length self.new ≤ 303 }
     {
         self.clear();
         self.put_byte(b'\n');
@@ -65,6 +67,25 @@ impl Line {
         }
         self.put_number(first);
         self.put_word(id);
+    }
+
+    /// Makes the line of a record in this form.
+    pub fn make_record(&mut self, form: u8, r: &Rec)
+        requires { IsTrue (is_record_in_range form r.now) }
+        ensures bytes { self.new ≡ line_text form (record_item r.now) }
+        ensures len { length self.new ≤ 303 }
+    {
+        self.make(form, r.kind, u64::from(r.of), r.nums.as_slice());
+    }
+
+    /// Makes the line of a record behind the number of its lane and a space.
+    pub fn make_placed(&mut self, lane: u32, form: u8, r: &Rec)
+        requires { IsTrue (is_record_in_range form r.now) }
+        ensures { self.new ≡ decimal lane ++ 32 ∷ line_text form (record_item r.now) }
+    {
+        self.make_record(form, r);
+        self.put_byte(b' ');
+        self.put_digits(u64::from(lane));
     }
 
     /// Drops all bytes.
@@ -78,8 +99,9 @@ impl Line {
     fn put_word(&mut self, id: u8)
         requires least { 1 ≤ id }
         requires most { id ≤ 46 }
-        requires room { length self.old + 8 ≤ 303 }
-        ensures { self.new ≡ word_text id ++ self.old }
+        requires room { length self.old + 8 ≤ 324 }
+        ensures bytes { self.new ≡ word_text id ++ self.old }
+        ensures len { length self.new ≤ length self.old + 8 }
     {
         let word = vocabulary::word_text(id).as_bytes();
         let end = self.start;
@@ -89,7 +111,7 @@ impl Line {
 
     /// Puts numbers in front, each after a space. The first, a value that is said, has a sign.
     fn put_said(&mut self, nums: &[u64])
-        requires room { length self.old + 21 * length nums.now ≤ 303 }
+        requires room { length self.old + 21 * length nums.now ≤ 324 }
         ensures bytes { (o : ℕ) → after_spaces (decimal o ∷ []) ++ self.new ≡ after_spaces (say_texts (o ∷ nums.now)) ++ self.old }
         ensures len { length self.new ≤ length self.old + 21 * length nums.now }
     {
@@ -104,7 +126,7 @@ impl Line {
 
     /// Puts numbers in front, each after a space.
     fn put_numbers(&mut self, nums: &[u64])
-        requires room { length self.old + 21 * length nums.now ≤ 303 }
+        requires room { length self.old + 21 * length nums.now ≤ 324 }
         ensures bytes { self.new ≡ after_spaces (map decimal nums.now) ++ self.old }
         ensures len { length self.new ≤ length self.old + 21 * length nums.now }
     {
@@ -117,7 +139,7 @@ impl Line {
 
     /// Puts a number in front, after a space.
     fn put_number(&mut self, n: u64)
-        requires { length self.old + 21 ≤ 303 }
+        requires { length self.old + 21 ≤ 324 }
         ensures bytes { self.new ≡ 32 ∷ decimal n ++ self.old }
         ensures len { length self.new ≤ length self.old + 21 }
     {
@@ -127,7 +149,7 @@ impl Line {
 
     /// Puts a signed number in front, after a space.
     fn put_signed(&mut self, n: i64)
-        requires { length self.old + 21 ≤ 303 }
+        requires { length self.old + 21 ≤ 324 }
         ensures bytes { self.new ≡ 32 ∷ signed_decimal n ++ self.old }
         ensures len { length self.new ≤ length self.old + 21 }
     {
@@ -140,7 +162,7 @@ impl Line {
 
     /// Puts the digits of a number in front.
     fn put_digits(&mut self, n: u64)
-        requires { length self.old + 20 ≤ 303 }
+        requires { length self.old + 20 ≤ 324 }
         ensures bytes { self.new ≡ decimal n ++ self.old }
         ensures len { length self.new ≤ length self.old + 20 }
     {
@@ -150,7 +172,7 @@ impl Line {
 
     /// Puts a byte in front.
     fn put_byte(&mut self, byte: u8)
-        requires { length self.old < 303 }
+        requires { length self.old < 324 }
         ensures bytes { self.new ≡ byte ∷ self.old }
         ensures len { length self.new ≡ length self.old + 1 }
     {

@@ -94,7 +94,8 @@ fn put_record<K: Sink>(out: &mut K, line: &mut Line, form: u8, r: &Rec) -> Resul
     ensures { Puts result (line_text form (record_item r.now)) (K.written out.old) (K.written out.new) (K.faults out.old)
         (K.faults out.new) }
 {
-    put_line(out, line, form, r.kind, u64::from(r.of), r.nums.as_slice())
+    line.make_record(form, r);
+    out.put(line.as_bytes())
 }
 
 /// Writes the line of an item, whose numbers are the first and these.

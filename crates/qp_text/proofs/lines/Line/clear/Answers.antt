@@ -3,4 +3,4 @@ use Rattle.std.proofs.lemmas.List.{drop_all}
 use Rattle.qp_text.proofs.lines.Line.clear.Goals as goal
 
 pub returns : goal.returns
-returns c = drop_all 303 c.self.inside.room (search (arith))
+returns c = drop_all 324 c.self.inside.room (search (arith))
