@@ -27,7 +27,7 @@ use Rattle.qp_calls.specs.LaneView.{Gains, Grows, LaneView, ceiling_in}
 use Rattle.qp_calls.specs.Notes.{last_code, spills_in, stop_code}
 use Rattle.qp_dispatch.specs.declared.objects.Object.{Object}
 use Rattle.qp_dispatch.specs.declared.lasting.Lasting.{Lasting}
-use Rattle.qp_dispatch.specs.declared.steps.Stage.{Stage as Standing}
+use Rattle.qp_dispatch.specs.declared.steps.Position.{Position}
 use Rattle.qp_dispatch.specs.declared.part.Under.{Under}
 use Rattle.qp_dispatch.specs.Parts.{IsPublishing, held_by, left_by as left_by_under}
 use Rattle.qp_dispatch.specs.Runs.{Setting, hand_of, tasks_in}
@@ -41,7 +41,7 @@ use Rattle.qp_model.specs.declared.bodies.Body.{Body}
 use Rattle.qp_model.specs.Knowing.{ceiling_after}
 use Rattle.qp_kernel.proofs.CeilingLemmas.{ceiling-next}
 use Rattle.qp_kernel.specs.Turning.{spill_told, Terms, kernel_in}
-use Rattle.qp_dispatch.specs.declared.steps.Stage.TheVariants as standing
+use Rattle.qp_dispatch.specs.declared.steps.Position.TheVariants as standing
 use Rattle.qp_dispatch.specs.Lasts.{actor_of, config_of}
 use Rattle.qp_dispatch.specs.Objects.{ObjectResumes, ResumesAs, home_of, works_for}
 use Rattle.qp_dispatch.specs.declared.steps.Step.{Step}
@@ -102,13 +102,13 @@ busy-is sys d chart x v (stage.Resting c) busy h = absurd (cc)
 
 -- The lane, while it works for an object.
 
-event-by : (st : Standing) (o : ℕ) (v : LaneView) → event_in st (works_for o v) ≡ event_in st v
+event-by : (st : Position) (o : ℕ) (v : LaneView) → event_in st (works_for o v) ≡ event_in st v
 event-by standing.Between o v = refl
 event-by (standing.Taken (token.Static sig)) o v = refl
 event-by (standing.Taken (token.Pool h)) o v = refl
 event-by (standing.Within g) o v = refl
 
-left-by : (home : Setting) (k : Lasting) (st : Standing) (o : ℕ) (v : LaneView) → left_of home k st (works_for o v) ≡ left_of home k st v
+left-by : (home : Setting) (k : Lasting) (st : Position) (o : ℕ) (v : LaneView) → left_of home k st (works_for o v) ≡ left_of home k st v
 left-by home k standing.Between o v = refl
 left-by home k (standing.Taken (token.Static sig)) o v = refl
 left-by home k (standing.Taken (token.Pool h)) o v = refl
@@ -121,7 +121,7 @@ publishing-by : (u : Option Under) (o : ℕ) (v : LaneView) → IsPublishing u v
 publishing-by None o v h = tt
 publishing-by (Some u) o v h = h
 
-pub under-way-by : (home : Setting) (k : Lasting) (st : Standing) (o : ℕ) (v : LaneView) → IsUnderWay home k st v → IsUnderWay home k st (works_for o v)
+pub under-way-by : (home : Setting) (k : Lasting) (st : Position) (o : ℕ) (v : LaneView) → IsUnderWay home k st v → IsUnderWay home k st (works_for o v)
 under-way-by home k standing.Between o v h = h
 under-way-by home k (standing.Taken e) o v h = record { stand = stand-by (k.list.entries.items ++ e ∷ []) o v h.stand; few = h.few }
 under-way-by home k (standing.Within g) o v h = record {
@@ -331,7 +331,7 @@ module _ (sys : System) (sound : IsSound sys) (terms : Terms) (looks : ℕ) (fro
   others = others-wait sys s p at.outer at.step.running at.stack
 
   -- An assertion.
-  module _ (y : Lasting) (z : Standing) (mid w : LaneView) (told : w.told ≡ mid.told) (lanes : lanes_of w ≡ lanes_of v) (a : EndsAsserted home x.lasting x.stage y z V mid) where
+  module _ (y : Lasting) (z : Position) (mid w : LaneView) (told : w.told ≡ mid.told) (lanes : lanes_of w ≡ lanes_of v) (a : EndsAsserted home x.lasting x.stage y z V mid) where
     asserted-told : w.told ≡ s.told ++ map (for_object p) a.g
     asserted-told = told ∙ ap (λ u. u.told) a.stops ∙ grown a.g a.mid a.grows ∙ ap (λ ts. ts ++ map (for_object p) a.g) (sym k.told)
 
@@ -347,7 +347,7 @@ module _ (sys : System) (sound : IsSound sys) (terms : Terms) (looks : ℕ) (fro
         rw asserted-told (code-behind s.told (map (for_object p) a.g) (ends-code (map (for_object p) a.g) form.ends form.asserts))
 
   -- A `spill`.
-  module _ (y : Lasting) (z : Standing) (mid w : LaneView) (told : w.told ≡ mid.told) (lanes : lanes_of w ≡ lanes_of v) (b : EndsSpilled home x.lasting x.stage y z V mid) where
+  module _ (y : Lasting) (z : Position) (mid w : LaneView) (told : w.told ≡ mid.told) (lanes : lanes_of w ≡ lanes_of v) (b : EndsSpilled home x.lasting x.stage y z V mid) where
     many : ℕ
     many = length b.mid.told
 
@@ -740,12 +740,12 @@ module _ (sys : System) (sound : IsSound sys) (terms : Terms) (looks : ℕ) (fro
         (subst (λ ps. GoesOn sys (actor n.object n.chart) (event_in x.stage V) (step_entry x.stage) (left_of home x.lasting x.stage V) (config_of x.lasting) ps rest.1) (append_assoc (tell g) (Point ∷ []) rest.0) (advances rest.0 rest.1 rest.2)) in
         goes-quiet g mid w is grows (record { calm = inner-calm g inside; lookless = own-lookless p g (inner-own g inside) }) (inner-unstim g inside)
 
-    asserted-order : (y : Lasting) (z : Standing) (mid w : LaneView) → w ≡ works_for v.by mid → EndsAsserted home x.lasting x.stage y z V mid → StopsInOrder acts sys v w
+    asserted-order : (y : Lasting) (z : Position) (mid w : LaneView) → w ≡ works_for v.by mid → EndsAsserted home x.lasting x.stage y z V mid → StopsInOrder acts sys v w
     asserted-order y z mid w is a =
         let form = failed-form sys (actor n.object n.chart) (event_in x.stage V) (step_entry x.stage) (left_of home x.lasting x.stage V) (config_of x.lasting) closing p a.g (goes-as (tell a.g) None a.goes) in
         ends-in_order acts sys looks a.code (map (for_object p) a.g) v (works_for v.by a.mid) w (gains-on a.g a.mid (works_for v.by a.mid) refl a.grows) (is ∙ ap (works_for v.by) a.stops) (own-lookless p a.g form.own) form.ends h.order
 
-    spilled-order : (y : Lasting) (z : Standing) (mid w : LaneView) → w ≡ works_for v.by mid → EndsSpilled home x.lasting x.stage y z V mid → StopsInOrder acts sys v w
+    spilled-order : (y : Lasting) (z : Position) (mid w : LaneView) → w ≡ works_for v.by mid → EndsSpilled home x.lasting x.stage y z V mid → StopsInOrder acts sys v w
     spilled-order y z mid w is b =
         halts-behind acts sys v (works_for v.by b.mid) w halt.Stopped gains.sys gains.plan
         (ends-in_order acts sys looks 6 (spill_told (length b.mid.told) ∷ []) (works_for v.by b.mid) (works_for v.by b.full) w (gains-set b.mid.by v.by (spill_told (length b.mid.told) ∷ []) b.mid b.full b.spills)

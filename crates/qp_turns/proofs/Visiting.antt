@@ -27,7 +27,7 @@ use Rattle.qp_calls.specs.declared.tokens.Entry.{Entry}
 use Rattle.qp_calls.specs.declared.tokens.Entry.TheVariants as token
 use Rattle.qp_calls.proofs.CountLemmas.{count-with, tokens-append}
 use Rattle.qp_dispatch.specs.declared.lasting.Lasting.{Lasting}
-use Rattle.qp_dispatch.specs.declared.steps.Stage.TheVariants as standing
+use Rattle.qp_dispatch.specs.declared.steps.Position.TheVariants as standing
 use Rattle.qp_dispatch.specs.Lasts.{actor_of, config_of}
 use Rattle.qp_dispatch.specs.Objects.{BeginsStep, home_of}
 use Rattle.qp_dispatch.specs.Resume.{IsTaken, event_at, held_in}

@@ -24,7 +24,7 @@ use Rattle.qp_calls.specs.Notes.{spills_in}
 use Rattle.qp_compiled.specs.Compiled.{IsCompiled}
 use Rattle.qp_dispatch.specs.declared.objects.Object.{Object}
 use Rattle.qp_dispatch.specs.declared.steps.Going.{Going}
-use Rattle.qp_dispatch.specs.declared.steps.Stage.TheVariants as standing
+use Rattle.qp_dispatch.specs.declared.steps.Position.TheVariants as standing
 use Rattle.qp_dispatch.specs.Lasts.{config_of}
 use Rattle.qp_dispatch.specs.Objects.{HasFirst, home_of}
 use Rattle.qp_dispatch.specs.Resume.{IsUnderWay, event_in, held_in, left_of, step_entry}

@@ -6,7 +6,7 @@ use Rattle.qp_model.specs.declared.systems.ObjectDef.{ObjectDef}
 use Rattle.qp_model.specs.Sites.{object_at}
 use Rattle.qp_calls.specs.declared.tokens.Entry.{Entry}
 use Rattle.qp_calls.specs.LaneView.{LaneView}
-use Rattle.qp_dispatch.specs.declared.steps.Stage.TheVariants as standing
+use Rattle.qp_dispatch.specs.declared.steps.Position.TheVariants as standing
 use Rattle.qp_dispatch.specs.declared.steps.Step.{Step}
 use Rattle.qp_dispatch.specs.Objects.{BeginsStep, IsNew, MayResume, MayStart, ObjectResumes, ObjectStarts, leaf_shown, works_for}
 use Rattle.qp_turns.specs.declared.objects.Objects.{Objects}

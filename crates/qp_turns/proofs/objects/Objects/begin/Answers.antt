@@ -1,6 +1,6 @@
 use Rattle.std.proofs.Common.{◌≡◌, ◌<◌, true, ap, refl, subst, sym, Some}
 use Rattle.std.specs.Prelude.{slice_set}
-use Rattle.qp_dispatch.specs.declared.steps.Stage.TheVariants as standing
+use Rattle.qp_dispatch.specs.declared.steps.Position.TheVariants as standing
 use Rattle.qp_dispatch.specs.Objects.{BeginsStep}
 use Rattle.qp_turns.specs.declared.objects.Slot.{Slot}
 use Rattle.qp_turns.proofs.Places.{at-index, at-none}
