@@ -1,8 +1,13 @@
+pub mod CallRecords
+pub mod CourseRecords
 pub mod CycleLaws
 pub mod CycleLemmas
+pub mod LaneRecords
 pub mod MarkLemmas
+pub mod NamedRecords
 pub mod NumberLemmas
 pub mod OrderLemmas
 pub mod RemainingLemmas
 pub mod SerialLemmas
 pub mod SizeLemmas
+pub mod SourceRecords

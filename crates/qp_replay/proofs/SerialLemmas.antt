@@ -19,7 +19,7 @@ use Rattle.qp_model.specs.WordLaw.{Keeps, Words}
 use Rattle.qp_model.proofs.ListLemmas.{all_below_at, both_true, filter-none, true_both}
 use Rattle.qp_model.proofs.HistoryLemmas.{length-hist}
 use Rattle.qp_replay.specs.Laws.{NamedOrdersAreSerial}
-use Rattle.qp_replay.specs.Numbers.{has_word, is_next_where, is_on, numbers_stand}
+use Rattle.qp_replay.specs.Numbers.{IsNamed, has_word, is_next_where, is_on, numbers_stand}
 use Rattle.qp_replay.specs.Orders.{IsLowestOrder}
 use Rattle.qp_replay.specs.Replaying.{IsAnswer, IsReplay}
 use Rattle.qp_replay.specs.Remaining.{place}
@@ -184,12 +184,6 @@ numbers-hold sys lanes order words is =
     each (word.Signal s) h = numbered-inv _ (word.Signal s) lanes order is.all (words.signals s h)
     each (word.Timer t) h = numbered-inv _ (word.Timer t) lanes order is.all (words.timers t h)
 
--- what is answered of any lanes says more where their words keep their law
-pub numbers-also : {E : Type 0} (sys : System) (lanes : List (List Rec)) → Words sys lanes → (r : Result Replayed E) → IfOk r (λ a. IsAnswer lanes a) → IfOk r (λ a. IsReplay sys lanes a)
-numbers-also sys lanes words (Ok (Order order)) h = (h, numbers-hold sys lanes order words h.0)
-numbers-also sys lanes words (Ok (Cycle cycle)) h = h
-numbers-also sys lanes words (Err e) h = h
-
 -- where each record is on a word that passes the test, all numbers are those of their words' operations
 all-in-order : (test : Word → Bool) (A B : List Item) → list_all (λ i. is_on test (touch i)) B ≡ true → numbers_stand test A B ≡ true → in_order A B ≡ true
 unfolding in_order is_next numbers_stand
@@ -210,3 +204,9 @@ named-serial sys lanes order named is numbers = record {
   before = is.before;
   numbers = all-in-order (has_word sys) [] (items_at lanes order) (all-of lanes order is.all (λ i. is_on (has_word sys) (touch i)) named) numbers;
 }
+
+-- what is answered of any lanes says more where their words keep their law and no record touches another word
+pub serial-also : {E : Type 0} (sys : System) (lanes : List (List Rec)) → Words sys lanes → IsNamed sys lanes → (r : Result Replayed E) → IfOk r (λ a. IsAnswer lanes a) → IfOk r (λ a. IsReplay lanes a)
+serial-also sys lanes words named (Ok (Order order)) h = (h, named-serial sys lanes order named h.0 (numbers-hold sys lanes order words h.0))
+serial-also sys lanes words named (Ok (Cycle cycle)) h = h
+serial-also sys lanes words named (Err e) h = h

@@ -1,8 +1,9 @@
 //! One order of a lawful journal.
 
-ghost use Rattle.std.specs.Prelude.{◌≤◌, length, IfOk};
+ghost use Rattle.std.specs.Prelude.{IfOk};
 ghost use Rattle.qp_model.specs.Lawful.{Lawful};
 ghost use Rattle.qp_model.specs.Sound.{IsSound};
+ghost use Rattle.qp_stim.specs.Rules.{StimuliFit};
 ghost use Rattle.qp_replay.specs.Replaying.{IsReplay};
 
 use crate::order::ordered;
@@ -19,9 +20,9 @@ pub fn replay(
     j: &Journal,
 ) -> Result<Replayed, AllocError>
     requires sound { IsSound _sys.now }
-    requires few { length _stim.now ≤ 16 }
+    requires fit { StimuliFit _sys.now _stim.now }
     requires lawful { Lawful _sys.now _stim.now j.now }
-    ensures { IfOk result (λ r. IsReplay _sys.now j.now.lanes r) }
+    ensures { IfOk result (λ r. IsReplay j.now.lanes r) }
 {
     ordered(alloc, &j.lanes)
 }
