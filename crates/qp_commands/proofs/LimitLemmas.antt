@@ -4,14 +4,14 @@ use Rattle.std.specs.Prelude.{IfSome}
 use Rattle.std.specs.Str.{bytes_eq}
 use Rattle.std.proofs.lemmas.Bool.Decides.{nat_tests}
 use Rattle.clap.specs.Words.{Row, Text, first_of}
-use Rattle.qp_model.proofs.ListLemmas.{both_true}
+use Rattle.qp_model.proofs.ListLemmas.{both_true, true_both}
 use Rattle.qp_text.specs.Numbers.{number_of}
 use Rattle.qp_commands.specs.declared.values.Kernel.{Kernel}
 use Rattle.qp_commands.specs.declared.values.Output.{Output}
 use Rattle.qp_commands.specs.declared.values.Kind.{Kind}
 use Rattle.qp_commands.specs.declared.values.Form.{Form}
-use Rattle.qp_commands.specs.declared.values.Form.TheVariants.{One, Two}
-use Rattle.qp_commands.specs.WordTable.{Asked, asked_by, budget_in, check_app, check_in, check_with, command_in, decode_app, decode_in, decode_with, form_in, found_in, generate_app, generate_in, generate_with, is_in_limits, kernel_in, kind_in, made_in, migrate_app, migrate_in, migrate_with, output_in, run_app, run_in, run_with, within}
+use Rattle.qp_commands.specs.declared.values.Form.TheVariants.{Two}
+use Rattle.qp_commands.specs.WordTable.{Asked, asked_by, budget_in, check_app, check_in, check_with, command_in, decode_app, decode_in, decode_with, default_form, form_fit, form_in, form_under, found_in, generate_app, generate_in, generate_with, is_form_of, is_in_limits, kernel_in, kind_in, made_in, migrate_app, migrate_in, migrate_with, output_in, run_app, run_in, run_with, within}
 
 is_to : ℕ → ℕ → Bool
 is_to most n = nat_le 1 n && nat_le n most
@@ -41,15 +41,39 @@ made-within (Some word) = read-within 1000 (number_of word)
 InLimits : Option Asked → Type 0
 InLimits asked = IfSome asked (λ a. is_in_limits a ≡ true)
 
-run-has : (k : Option Kernel) (b : Option ℕ) (o : Option Output) (f : Option Form) (s t : Option Text) → IfSome b (λ b. is_to 1000000 b ≡ true) → InLimits (run_with k b o f s t)
+none-run : (b : Option ℕ) (o : Option Output) (f : Option Form) (s t : Option Text) → InLimits (run_with None b o f s t)
+unfolding run_with InLimits
+none-run b o f s t = tt
+
+some-run : (k : Kernel) (b : Option ℕ) (o : Option Output) (f : Option Form) (s t : Option Text) → IfSome b (λ b. is_to 1000000 b ≡ true)
+    → IfSome f (λ f. is_form_of k f ≡ true) → InLimits (run_with (Some k) b o f s t)
 unfolding run_with is_to InLimits
-run-has None b o f s t is = tt
-run-has (Some k) None o f s t is = tt
-run-has (Some k) (Some b) None f s t is = tt
-run-has (Some k) (Some b) (Some o) None s t is = tt
-run-has (Some k) (Some b) (Some o) (Some f) None t is = tt
-run-has (Some k) (Some b) (Some o) (Some f) (Some s) None is = tt
-run-has (Some k) (Some b) (Some o) (Some f) (Some s) (Some t) is = is
+some-run k None o f s t is fits = tt
+some-run k (Some b) None f s t is fits = tt
+some-run k (Some b) (Some o) None s t is fits = tt
+some-run k (Some b) (Some o) (Some f) None t is fits = tt
+some-run k (Some b) (Some o) (Some f) (Some s) None is fits = tt
+some-run k (Some b) (Some o) (Some f) (Some s) (Some t) is fits = true_both _ _ is fits
+
+fit-is : (k : Kernel) (f : Form) → IfSome (form_fit k f) (λ f. is_form_of k f ≡ true)
+fit-is k f = by (is_form_of k f) refl
+  where
+    by : (b : Bool) → is_form_of k f ≡ b → IfSome (cond b (Some f) None) (λ f. is_form_of k f ≡ true)
+    by true is = is
+    by false is = tt
+
+read-fit : (k : Kernel) (f : Option Form) → IfSome (option_and_then (form_fit k) f) (λ f. is_form_of k f ≡ true)
+read-fit k None = tt
+read-fit k (Some f) = fit-is k f
+
+form-fits : (k : Kernel) (o : Option Text) → IfSome (form_under k o) (λ f. is_form_of k f ≡ true)
+unfolding form_under
+form-fits k o = read-fit k (form_in (default_form k) o)
+
+run-has : (k : Option Kernel) (b : Option ℕ) (o : Option Output) (word s t : Option Text) → IfSome b (λ b. is_to 1000000 b ≡ true)
+    → InLimits (run_with k b o (option_and_then (λ k. form_under k word) k) s t)
+run-has None b o word s t is = none-run b o None s t
+run-has (Some k) b o word s t is = some-run k b o (form_under k word) s t is (form-fits k word)
 
 decode-has : (frames : Option Text) → InLimits (decode_with frames)
 unfolding decode_with InLimits
@@ -92,7 +116,7 @@ asked-has : (word : Text) (words : List Text) → InLimits (asked_by word words)
 unfolding asked_by
 asked-has word words =
     if-has (bytes_eq word (codes "run")) _ _
-    (then-has run_in (λ rows. run-has (kernel_in (first_of (codes "kernel") rows)) _ (output_in (first_of (codes "out") rows)) (form_in One (first_of (codes "form") rows)) _ _ (budget-within (first_of (codes "budget") rows))) (found_in run_app words))
+    (then-has run_in (λ rows. run-has (kernel_in (first_of (codes "kernel") rows)) _ (output_in (first_of (codes "out") rows)) (first_of (codes "form") rows) _ _ (budget-within (first_of (codes "budget") rows))) (found_in run_app words))
     (if-has (bytes_eq word (codes "decode")) _ _ (then-has decode_in (λ rows. decode-has (first_of (codes "frames") rows)) (found_in decode_app words))
     (if-has (bytes_eq word (codes "migrate")) _ _ (then-has migrate_in (λ rows. migrate-has (kind_in (first_of (codes "from") rows)) (form_in Two (first_of (codes "to") rows)) _) (found_in migrate_app words))
     (if-has (bytes_eq word (codes "check")) _ _ (then-has check_in (λ rows. check-has (first_of (codes "system") rows) _ _) (found_in check_app words))

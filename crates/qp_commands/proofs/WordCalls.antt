@@ -12,14 +12,16 @@ use Rattle.clap.specs.Kinds.{or_else}
 use Rattle.clap.specs.declared.builder.value_parser.ValueParser.TheVariants as vp
 use Rattle.clap.specs.declared.parser.matches.ValueSource.TheVariants.{CommandLine}
 use Rattle.clap.proofs.OnLiterals.{clap_on_literals}
+use Rattle.qp_commands.specs.declared.values.Kernel.{Kernel}
+use Rattle.qp_commands.specs.declared.values.Kernel.TheVariants.{Sim, Qv}
 use Rattle.qp_commands.specs.declared.values.Form.{Form}
 use Rattle.qp_commands.specs.declared.values.Form.TheVariants.{One, Two}
 use Rattle.qp_commands.specs.declared.values.Output.{Output}
 use Rattle.qp_commands.specs.declared.values.Output.TheVariants.{Whole, Summary}
 use Rattle.qp_commands.specs.declared.values.Kind.{Kind}
 use Rattle.qp_commands.specs.declared.values.Kind.TheVariants.{Journal, Frames}
-use Rattle.qp_commands.specs.WordLaws.{BudgetWords, CheckOfNames, DecodeOfName, EachBudget, GenerateOfNumber, MigrateInFull, MigrateOfName, RefusedCalls, RunInFull, RunOfNames, is_name, word_of_form, word_of_kind, word_of_output}
-use Rattle.qp_commands.specs.WordTable.{asked_by, budget_in, check_app, check_in, check_with, command_in, decode_app, decode_in, decode_with, form_in, generate_app, generate_in, generate_with, kernel_in, kind_in, made_in, migrate_app, migrate_in, migrate_with, output_in, run_app, run_in, run_with}
+use Rattle.qp_commands.specs.WordLaws.{BudgetWords, CheckOfNames, CooperativeWords, DecodeOfName, EachBudget, GenerateOfNumber, MigrateInFull, MigrateOfName, RefusedCalls, RunInFull, RunOfNames, is_name, word_of_form, word_of_kernel, word_of_kind, word_of_output}
+use Rattle.qp_commands.specs.WordTable.{asked_by, budget_in, check_app, check_in, check_with, command_in, decode_app, decode_in, decode_with, default_form, form_in, form_under, generate_app, generate_in, generate_with, is_form_of, kernel_in, kind_in, made_in, migrate_app, migrate_in, migrate_with, output_in, run_app, run_in, run_with}
 use Rattle.qp_commands.proofs.WordNames.{found-walked, name-turn, name-walked, next_at, standing}
 
 -- ---- options, and then one name or two
@@ -102,7 +104,7 @@ pending rows id text = record { rows = rows; pending = Some (id, text ∷ []); s
 -- ---- names alone
 
 pub run-names : RunOfNames
-unfolding run_app command_in asked_by run_with kernel_in budget_in output_in form_in walk_fault defaults_fault
+unfolding run_app command_in asked_by run_with kernel_in budget_in output_in form_in form_under walk_fault defaults_fault
 run-names x y name_x name_y =
     ap (option_and_then run_in) (found-walked run_app (codes "run" ∷ x ∷ y ∷ []) (next_at (built run_app).top.rules (pending [] (codes "system") x) 2 y)
     (two_walked (built run_app).top.rules [] nothing_held (pending [] (codes "system") x) x y name_x name_y refl refl)
@@ -135,33 +137,97 @@ check-names x y z name_x name_y name_z =
 
 -- ---- all options, and names
 
-abbrev run_options : Output → Form → List Text
-run_options out form = codes "--kernel" ∷ codes "sim" ∷ codes "--out" ∷ word_of_output out ∷ codes "--form" ∷ word_of_form form ∷ []
+abbrev run_options : Kernel → Output → Form → List Text
+run_options kernel out form =
+    codes "--kernel" ∷ word_of_kernel kernel ∷ codes "--out" ∷ word_of_output out ∷ codes "--form" ∷ word_of_form form ∷ []
 
-abbrev run_held : Output → Form → Held
-run_held out form = pending (given (codes "kernel") (codes "sim") ∷ given (codes "out") (word_of_output out) ∷ []) (codes "form") (word_of_form form)
+abbrev given_kernel : Kernel → Row
+given_kernel kernel = given (codes "kernel") (word_of_kernel kernel)
 
-abbrev run_next : Output → Form → Text → Held
-run_next out form x =
-    pending (given (codes "kernel") (codes "sim") ∷ given (codes "out") (word_of_output out) ∷ given (codes "form") (word_of_form form) ∷ []) (codes "system") x
+abbrev run_held : Kernel → Output → Form → Held
+run_held kernel out form = pending (given_kernel kernel ∷ given (codes "out") (word_of_output out) ∷ []) (codes "form") (word_of_form form)
 
-run_stands : (out : Output) (form : Form) → walk (built run_app).top.rules [] nothing_held (run_options out form) ≡ standing (run_held out form) 1
+abbrev run_next : Kernel → Output → Form → Text → Held
+run_next kernel out form x =
+    pending (given_kernel kernel ∷ given (codes "out") (word_of_output out) ∷ given (codes "form") (word_of_form form) ∷ []) (codes "system") x
+
+-- one option after another, whatever the values before it are
+
+abbrev run_rules : List Rule
+run_rules = (built run_app).top.rules
+
+abbrev kernel_held : Text → Held
+kernel_held k = pending [] (codes "kernel") k
+
+abbrev out_held : (k o : Text) → Held
+out_held k o = pending (given (codes "kernel") k ∷ []) (codes "out") o
+
+kernel_stands : (kernel : Kernel) → walk run_rules [] nothing_held (codes "--kernel" ∷ word_of_kernel kernel ∷ []) ≡ standing (kernel_held (word_of_kernel kernel)) 1
 unfolding run_app clap_on_literals
-run_stands (Whole Journal) One = refl
-run_stands (Whole Journal) Two = refl
-run_stands (Whole Frames) One = refl
-run_stands (Whole Frames) Two = refl
-run_stands Summary One = refl
-run_stands Summary Two = refl
+kernel_stands Sim = refl
+kernel_stands Qv = refl
 
-run_faultless : (out : Output) (form : Form) → walk_fault (built run_app).top [] (walk_from nothing_held) (run_options out form) ≡ []
+out_stands : (k : Text) (out : Output) → fold (walked run_rules []) (standing (kernel_held k) 1) (codes "--out" ∷ word_of_output out ∷ [])
+    ≡ standing (out_held k (word_of_output out)) 1
 unfolding run_app clap_on_literals
-run_faultless (Whole Journal) One = refl
-run_faultless (Whole Journal) Two = refl
-run_faultless (Whole Frames) One = refl
-run_faultless (Whole Frames) Two = refl
-run_faultless Summary One = refl
-run_faultless Summary Two = refl
+out_stands k (Whole Journal) = refl
+out_stands k (Whole Frames) = refl
+out_stands k Summary = refl
+
+form_stands : (k o : Text) (form : Form) → fold (walked run_rules []) (standing (out_held k o) 1) (codes "--form" ∷ word_of_form form ∷ [])
+    ≡ standing (pending (given (codes "kernel") k ∷ given (codes "out") o ∷ []) (codes "form") (word_of_form form)) 1
+unfolding run_app clap_on_literals
+form_stands k o One = refl
+form_stands k o Two = refl
+
+kernel_faultless : (kernel : Kernel) → walk_fault (built run_app).top [] (walk_from nothing_held) (codes "--kernel" ∷ word_of_kernel kernel ∷ []) ≡ []
+unfolding run_app clap_on_literals
+kernel_faultless Sim = refl
+kernel_faultless Qv = refl
+
+out_faultless : (k : Text) (out : Output) → walk_fault (built run_app).top [] (standing (kernel_held k) 1) (codes "--out" ∷ word_of_output out ∷ []) ≡ []
+unfolding run_app clap_on_literals
+out_faultless k (Whole Journal) = refl
+out_faultless k (Whole Frames) = refl
+out_faultless k Summary = refl
+
+form_faultless : (k o : Text) (form : Form) → walk_fault (built run_app).top [] (standing (out_held k o) 1) (codes "--form" ∷ word_of_form form ∷ []) ≡ []
+unfolding run_app clap_on_literals
+form_faultless k o One = refl
+form_faultless k o Two = refl
+
+module _ (kernel : Kernel) (out : Output) (form : Form) where
+  abbrev first_option : List Text
+  first_option = codes "--kernel" ∷ word_of_kernel kernel ∷ []
+
+  abbrev second_option : List Text
+  second_option = codes "--out" ∷ word_of_output out ∷ []
+
+  abbrev third_option : List Text
+  third_option = codes "--form" ∷ word_of_form form ∷ []
+
+  run_stands : walk run_rules [] nothing_held (run_options kernel out form) ≡ standing (run_held kernel out form) 1
+  run_stands =
+      fold-append (walked run_rules []) (walk_from nothing_held) first_option (second_option ++ third_option)
+      ∙ (ap (λ (w : Walk). fold (walked run_rules []) w (second_option ++ third_option)) (kernel_stands kernel)
+      ∙ (fold-append (walked run_rules []) (standing (kernel_held (word_of_kernel kernel)) 1) second_option third_option
+      ∙ (ap (λ (w : Walk). fold (walked run_rules []) w third_option) (out_stands (word_of_kernel kernel) out)
+      ∙ form_stands (word_of_kernel kernel) (word_of_output out) form)))
+
+  run_faultless : walk_fault (built run_app).top [] (walk_from nothing_held) (run_options kernel out form) ≡ []
+  run_faultless =
+      walk_fault-append (built run_app).top [] (walk_from nothing_held) first_option (second_option ++ third_option)
+      ∙ ap₂ or_else (kernel_faultless kernel)
+      (ap (λ (w : Walk). walk_fault (built run_app).top [] w (second_option ++ third_option)) (kernel_stands kernel)
+      ∙ (walk_fault-append (built run_app).top [] (standing (kernel_held (word_of_kernel kernel)) 1) second_option third_option
+      ∙ ap₂ or_else (out_faultless (word_of_kernel kernel) out)
+      (ap (λ (w : Walk). walk_fault (built run_app).top [] w third_option) (out_stands (word_of_kernel kernel) out)
+      ∙ form_faultless (word_of_kernel kernel) (word_of_output out) form)))
+
+kernel_in-word : (k : Kernel) → kernel_in (Some (word_of_kernel k)) ≡ Some k
+unfolding kernel_in
+kernel_in-word Sim = refl
+kernel_in-word Qv = refl
 
 output_in-word : (o : Output) → output_in (Some (word_of_output o)) ≡ Some o
 unfolding output_in
@@ -179,18 +245,29 @@ unfolding form_in
 form_in-word default One = refl
 form_in-word default Two = refl
 
-run_read : (out : Output) (form : Form) (x y : Text) → is_name x ≡ true → is_name y ≡ true
-    → command_in (codes "run" ∷ run_options out form ++ x ∷ y ∷ [])
-    ≡ run_with (kernel_in (Some (codes "sim"))) (budget_in None) (output_in (Some (word_of_output out))) (form_in One (Some (word_of_form form))) (Some x) (Some y)
+run_read : (kernel : Kernel) (out : Output) (form : Form) (x y : Text) → is_name x ≡ true → is_name y ≡ true
+    → command_in (codes "run" ∷ run_options kernel out form ++ x ∷ y ∷ [])
+    ≡ run_with (kernel_in (Some (word_of_kernel kernel))) (budget_in None) (output_in (Some (word_of_output out)))
+    (option_and_then (λ k. form_under k (Some (word_of_form form))) (kernel_in (Some (word_of_kernel kernel)))) (Some x) (Some y)
 unfolding run_app command_in asked_by defaults_fault
-run_read out form x y name_x name_y =
-    ap (option_and_then run_in) (found-walked run_app (codes "run" ∷ run_options out form ++ x ∷ y ∷ []) (next_at (built run_app).top.rules (run_next out form x) 2 y)
-    (two_walked (built run_app).top.rules (run_options out form) (run_held out form) (run_next out form x) x y name_x name_y (run_stands out form) refl)
-    (two_faults (built run_app).top (run_options out form) (run_held out form) (run_next out form x) x y name_x name_y (run_stands out form) (run_faultless out form) refl refl refl))
+run_read kernel out form x y name_x name_y =
+    ap (option_and_then run_in) (found-walked run_app (codes "run" ∷ run_options kernel out form ++ x ∷ y ∷ []) (next_at (built run_app).top.rules (run_next kernel out form x) 2 y)
+    (two_walked (built run_app).top.rules (run_options kernel out form) (run_held kernel out form) (run_next kernel out form x) x y name_x name_y (run_stands kernel out form) refl)
+    (two_faults (built run_app).top (run_options kernel out form) (run_held kernel out form) (run_next kernel out form x) x y name_x name_y
+    (run_stands kernel out form) (run_faultless kernel out form) refl refl refl))
+
+form_under-word : (kernel : Kernel) (form : Form) → is_form_of kernel form ≡ true → form_under kernel (Some (word_of_form form)) ≡ Some form
+unfolding form_under
+form_under-word kernel form fits = rw (form_in-word (default_form kernel) form, fits) refl
 
 pub run-full : RunInFull
-unfolding run_with kernel_in budget_in
-run-full out form x y name_x name_y = run_read out form x y name_x name_y ∙ rw (output_in-word out, form_in-word One form) refl
+unfolding run_with budget_in
+run-full kernel out form x y fits name_x name_y =
+    run_read kernel out form x y name_x name_y ∙ rw (kernel_in-word kernel, output_in-word out, form_under-word kernel form fits) refl
+
+pub cooperative-words : CooperativeWords
+unfolding clap_on_literals command_in asked_by run_app run_with kernel_in budget_in output_in form_in form_under
+cooperative-words = refl
 
 abbrev migrate_options : Kind → Form → List Text
 migrate_options from to = codes "--from" ∷ word_of_kind from ∷ codes "--to" ∷ word_of_form to ∷ []
@@ -228,13 +305,13 @@ migrate-full from to x name = migrate_read from to x name ∙ rw (kind_in-word f
 -- ---- calls that are refused
 
 pub calls-refused : RefusedCalls
-unfolding clap_on_literals command_in asked_by run_app decode_app migrate_app check_app generate_app run_with decode_with migrate_with check_with generate_with kernel_in budget_in made_in output_in kind_in form_in digits
+unfolding clap_on_literals command_in asked_by run_app decode_app migrate_app check_app generate_app run_with decode_with migrate_with check_with generate_with kernel_in budget_in made_in output_in kind_in form_in form_under digits
 calls-refused = refl
 
 -- ---- budgets
 
 pub budget-words : BudgetWords
-unfolding clap_on_literals command_in asked_by run_app run_with kernel_in budget_in output_in form_in digits
+unfolding clap_on_literals command_in asked_by run_app run_with kernel_in budget_in output_in form_in form_under digits
 budget-words = (refl, refl)
 
 pub each-budget : EachBudget

@@ -2,14 +2,15 @@
 use Rattle.std.specs.Prelude.{codes, decimal, ℕ, ◌≡◌, ◌≢◌, ◌≤◌, ◌==◌, Bool, true, not, List, [], ◌∷◌, None, Some, is_some}
 use Rattle.std.specs.List.{list_all}
 use Rattle.clap.specs.Words.{Text}
-use Rattle.qp_commands.specs.declared.values.Kernel.TheVariants.{Sim}
+use Rattle.qp_commands.specs.declared.values.Kernel.{Kernel}
+use Rattle.qp_commands.specs.declared.values.Kernel.TheVariants.{Sim, Qv}
 use Rattle.qp_commands.specs.declared.values.Kind.{Kind}
 use Rattle.qp_commands.specs.declared.values.Kind.TheVariants.{Frames, Journal}
 use Rattle.qp_commands.specs.declared.values.Output.{Output}
 use Rattle.qp_commands.specs.declared.values.Output.TheVariants.{Whole, Summary}
 use Rattle.qp_commands.specs.declared.values.Form.{Form}
 use Rattle.qp_commands.specs.declared.values.Form.TheVariants.{One, Two}
-use Rattle.qp_commands.specs.WordTable.{budget_in, check, command_in, decode, generate, migrate, run}
+use Rattle.qp_commands.specs.WordTable.{budget_in, check, command_in, decode, generate, is_form_of, migrate, run}
 
 -- the word doesn't begin with `-`
 abbrev pub is_name : Text → Bool
@@ -47,6 +48,10 @@ OtherWords = (command_in [] ≡ None)
     × ((word : Text) (words : List Text) → word ≢ codes "run" → word ≢ codes "decode" → word ≢ codes "migrate" → word ≢ codes "check"
     → word ≢ codes "gen" → command_in (word ∷ words) ≡ None)
 
+abbrev pub word_of_kernel : Kernel → Text
+word_of_kernel Sim = codes "sim"
+word_of_kernel Qv = codes "qv"
+
 abbrev pub word_of_kind : Kind → Text
 word_of_kind Journal = codes "journal"
 word_of_kind Frames = codes "frames"
@@ -62,9 +67,15 @@ word_of_form Two = codes "2"
 -- every run of names with the default budget, every budget, and every migration of names can be asked for
 
 abbrev pub RunInFull : Type 0
-RunInFull = (out : Output) (form : Form) (system stimuli : Text) → is_name system ≡ true → is_name stimuli ≡ true
-    → command_in (codes "run" ∷ codes "--kernel" ∷ codes "sim" ∷ codes "--out" ∷ word_of_output out ∷ codes "--form" ∷ word_of_form form ∷ system ∷ stimuli ∷ [])
-    ≡ Some (run (record { kernel = Sim; budget = 100000; out = out; form = form; system = system; stimuli = stimuli }))
+RunInFull = (kernel : Kernel) (out : Output) (form : Form) (system stimuli : Text) → is_form_of kernel form ≡ true → is_name system ≡ true → is_name stimuli ≡ true
+    → command_in (codes "run" ∷ codes "--kernel" ∷ word_of_kernel kernel ∷ codes "--out" ∷ word_of_output out ∷ codes "--form" ∷ word_of_form form
+    ∷ system ∷ stimuli ∷ [])
+    ≡ Some (run (record { kernel = kernel; budget = 100000; out = out; form = form; system = system; stimuli = stimuli }))
+
+-- under `qv` the form is 2 where none is asked for
+abbrev pub CooperativeWords : Type 0
+CooperativeWords = command_in (codes "run" ∷ codes "--kernel" ∷ codes "qv" ∷ codes "a" ∷ codes "b" ∷ [])
+    ≡ Some (run (record { kernel = Qv; budget = 100000; out = Whole Journal; form = Two; system = codes "a"; stimuli = codes "b" }))
 
 -- a budget is asked for by its decimal
 abbrev pub EachBudget : Type 0
@@ -84,7 +95,7 @@ MigrateInFull = (from : Kind) (to : Form) (file : Text) → is_name file ≡ tru
     ≡ Some (migrate (record { from = from; to = to; file = file }))
 
 -- calls that ask for nothing: an operand too few or too many, a flag for help or the version, a value that isn't allowed,
--- an option twice, an option of another command
+-- an option twice, an option of another command, a form that the kernel's journals don't have
 abbrev pub refused_calls : List (List Text)
 refused_calls = (codes "run" ∷ codes "a" ∷ [])
     ∷ (codes "run" ∷ codes "a" ∷ codes "b" ∷ codes "c" ∷ [])
@@ -92,6 +103,7 @@ refused_calls = (codes "run" ∷ codes "a" ∷ [])
     ∷ (codes "run" ∷ codes "-h" ∷ codes "a" ∷ codes "b" ∷ [])
     ∷ (codes "run" ∷ codes "--version" ∷ [])
     ∷ (codes "run" ∷ codes "--kernel" ∷ codes "qk" ∷ codes "a" ∷ codes "b" ∷ [])
+    ∷ (codes "run" ∷ codes "--kernel" ∷ codes "qv" ∷ codes "--form" ∷ codes "1" ∷ codes "a" ∷ codes "b" ∷ [])
     ∷ run_with_budget (codes "0")
     ∷ run_with_budget (codes "1000001")
     ∷ run_with_budget (codes "01")

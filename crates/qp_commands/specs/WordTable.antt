@@ -1,6 +1,6 @@
 -- The words of a call: a command word, and what `clap` makes of the rest.
 use Rattle.std.specs.Borrow.{Bor}
-use Rattle.std.specs.Prelude.{codes, ℕ, ◌==◌, nat_le, Bool, true, ◌&&◌, List, [], ◌∷◌, map, Option, None, Some, if◌then◌else◌, option_and_then}
+use Rattle.std.specs.Prelude.{codes, ℕ, ◌==◌, nat_le, Bool, true, false, ◌&&◌, List, [], ◌∷◌, map, Option, None, Some, if◌then◌else◌, option_and_then}
 use Rattle.std.specs.Str.{bytes_eq}
 use Rattle.clap.specs.Words.{App, Kinds, Row, Rule, Text, fault_of, first_of, matches_of, new_rule}
 use Rattle.clap.specs.Simple.{new_shape}
@@ -9,7 +9,7 @@ use Rattle.qp_text.specs.Numbers.{number_of}
 use Rattle.qp_commands.specs.declared.asking.Command.{Command}
 use Rattle.qp_commands.specs.declared.asking.Command.TheVariants.{Run, Decode, Migrate, Check, Generate}
 use Rattle.qp_commands.specs.declared.values.Kernel.{Kernel}
-use Rattle.qp_commands.specs.declared.values.Kernel.TheVariants.{Sim}
+use Rattle.qp_commands.specs.declared.values.Kernel.TheVariants.{Sim, Qv}
 use Rattle.qp_commands.specs.declared.values.Kind.{Kind}
 use Rattle.qp_commands.specs.declared.values.Kind.TheVariants.{Journal, Frames}
 use Rattle.qp_commands.specs.declared.values.Output.{Output}
@@ -76,7 +76,9 @@ found_in app words = rows_unless (fault_of app words) (matches_of app words)
 
 unfoldable pub kernel_in : Option Text → Option Kernel
 kernel_in None = Some Sim
-kernel_in (Some word) = if bytes_eq word (codes "sim") then Some Sim else None
+kernel_in (Some word) =
+    if bytes_eq word (codes "sim") then Some Sim
+    else (if bytes_eq word (codes "qv") then Some Qv else None)
 
 -- the number, where it is from 1 to the most
 abbrev pub within : ℕ → ℕ → Option ℕ
@@ -110,6 +112,23 @@ form_in default None = Some default
 form_in default (Some word) =
     if bytes_eq word (codes "1") then Some One
     else (if bytes_eq word (codes "2") then Some Two else None)
+
+-- the forms in which a journal of this kernel can be written: one of `qv` has form 2 alone
+abbrev pub is_form_of : Kernel → Form → Bool
+is_form_of Sim form = true
+is_form_of Qv One = false
+is_form_of Qv Two = true
+
+abbrev pub default_form : Kernel → Form
+default_form Sim = One
+default_form Qv = Two
+
+-- the form, where a journal of this kernel has it
+abbrev pub form_fit : Kernel → Form → Option Form
+form_fit kernel form = if is_form_of kernel form then Some form else None
+
+unfoldable pub form_under : Kernel → Option Text → Option Form
+form_under kernel word = option_and_then (form_fit kernel) (form_in (default_form kernel) word)
 
 abbrev pub number_of_form : Form → ℕ
 number_of_form One = 1
@@ -152,9 +171,9 @@ asked_of (Migrate k f file) = migrate (record { from = k; to = f; file = file.no
 asked_of (Check system stimuli journal) = check (record { system = system.now; stimuli = stimuli.now; journal = journal.now })
 asked_of (Generate n) = generate n
 
--- a run has a budget from 1 to 1,000,000, and what is made has a number from 1 to 1,000
+-- a run has a budget from 1 to 1,000,000 and a form of its kernel, and what is made has a number from 1 to 1,000
 abbrev pub is_in_limits : Asked → Bool
-is_in_limits (run w) = nat_le 1 w.budget && nat_le w.budget 1000000
+is_in_limits (run w) = (nat_le 1 w.budget && nat_le w.budget 1000000) && is_form_of w.kernel w.form
 is_in_limits (generate n) = nat_le 1 n && nat_le n 1000
 is_in_limits _ = true
 
@@ -177,8 +196,10 @@ run_with (Some k) (Some b) (Some o) (Some f) (Some system) (Some stimuli) =
 run_with _ _ _ _ _ _ = None
 
 abbrev pub run_in : List Row → Option Asked
-run_in rows = run_with (kernel_in (first_of (codes "kernel") rows)) (budget_in (first_of (codes "budget") rows)) (output_in (first_of (codes "out") rows))
-    (form_in One (first_of (codes "form") rows)) (first_of (codes "system") rows) (first_of (codes "stimuli") rows)
+run_in rows =
+    let kernel = kernel_in (first_of (codes "kernel") rows) in
+    run_with kernel (budget_in (first_of (codes "budget") rows)) (output_in (first_of (codes "out") rows))
+    (option_and_then (λ k. form_under k (first_of (codes "form") rows)) kernel) (first_of (codes "system") rows) (first_of (codes "stimuli") rows)
 
 unfoldable pub decode_with : Option Text → Option Asked
 decode_with (Some frames) = Some (decode frames)

@@ -5,7 +5,8 @@ ghost use Rattle.clap.specs.Words.{found_of, rows_of};
 
 use crate::apps::{check_app, decode_app, generate_app, matches_in, migrate_app, run_app};
 use crate::values::{
-    Form, Kernel, Kind, Output, budget_of, form_of, kernel_of, kind_of, made_of, output_of,
+    Form, Kernel, Kind, Output, budget_of, form_of, form_under, kernel_of, kind_of, made_of,
+    output_of,
 };
 use clap::ArgMatches;
 use std::alloc::{AllocError, Global};
@@ -65,11 +66,12 @@ impl<'w> Command<'w> {
 fn run_found<'w>(found: &ArgMatches<'w>) -> Option<Command<'w>>
     ensures { option_map asked_of result ≡ run_in (rows_of (found_of found.now)) }
 {
+    let kernel = kernel_of(found.get_str("kernel"))?;
     Some(Command::Run {
-        kernel: kernel_of(found.get_str("kernel"))?,
+        kernel,
         budget: budget_of(found.get_str("budget"))?,
         out: output_of(found.get_str("out"))?,
-        form: form_of(found.get_str("form"), Form::One)?,
+        form: form_under(kernel, found.get_str("form"))?,
         system: found.get_str("system")?,
         stimuli: found.get_str("stimuli")?,
     })

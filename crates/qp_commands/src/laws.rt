@@ -1,5 +1,5 @@
 //! Laws of the words of calls. Each function here does nothing: its contract is the law.
-ghost use Rattle.qp_commands.specs.WordLaws.{BudgetWords, CheckOfNames, DecodeOfName, EachBudget, GenerateOfNumber, MigrateInFull, MigrateOfName, OtherWords, RefusedCalls, RunInFull, RunOfNames};
+ghost use Rattle.qp_commands.specs.WordLaws.{BudgetWords, CheckOfNames, CooperativeWords, DecodeOfName, EachBudget, GenerateOfNumber, MigrateInFull, MigrateOfName, OtherWords, RefusedCalls, RunInFull, RunOfNames};
 
 /// Two names that don't begin with `-` are a run under `sim`, which prints text in form 1.
 pub fn a_run_of_two_names()
@@ -21,9 +21,15 @@ pub fn three_names_are_judged()
     ensures { CheckOfNames }
 {}
 
-/// With its other options given, a run is the one that they name: each run of two such names with the default budget can be asked for.
+/// With its other options given, a run is the one that they name: each run of two such names with the default budget can be asked
+/// for, under each kernel in each form that its journals have.
 pub fn a_run_in_full()
     ensures { RunInFull }
+{}
+
+/// A run under `qv` is printed in form 2 where none is asked for.
+pub fn a_cooperative_run()
+    ensures { CooperativeWords }
 {}
 
 /// Each budget is asked for by its decimal.
@@ -52,7 +58,7 @@ pub fn other_words()
 {}
 
 /// Calls with an operand too few or too many, a flag for help or the version, a value that isn't allowed, an option given
-/// twice or one of another command ask for nothing.
+/// twice, one of another command or form 1 of `qv` ask for nothing.
 pub fn refused_calls()
     ensures { RefusedCalls }
 {}

@@ -1,6 +1,6 @@
 //! The values of the options.
 ghost use Rattle.std.specs.Prelude.{◌≡◌, option_map};
-ghost use Rattle.qp_commands.specs.WordTable.{budget_in, form_in, kernel_in, kind_in, made_in, number_of_form, output_in};
+ghost use Rattle.qp_commands.specs.WordTable.{budget_in, form_in, form_under, kernel_in, kind_in, made_in, number_of_form, output_in};
 
 use crate::numbers::number;
 
@@ -9,6 +9,8 @@ use crate::numbers::number;
 pub enum Kernel {
     /// The preemptive kernel in one thread.
     Sim,
+    /// The cooperative kernel: one step at a time.
+    Qv,
 }
 
 /// What bytes a journal is written as.
@@ -55,6 +57,7 @@ pub(crate) fn kernel_of(value: Option<&str>) -> Option<Kernel>
 {
     match value {
         None | Some("sim") => Some(Kernel::Sim),
+        Some("qv") => Some(Kernel::Qv),
         Some(_) => None,
     }
 }
@@ -128,5 +131,19 @@ pub(crate) fn form_of(value: Option<&str>, default: Form) -> Option<Form>
         Some("1") => Some(Form::One),
         Some("2") => Some(Form::Two),
         Some(_) => None,
+    }
+}
+
+/// The form of a run's `--form`. A journal of `qv` has form 2 alone.
+#[tactic(auto, unfolding(crate::specs::WordTable::form_under))]
+pub(crate) fn form_under(kernel: Kernel, value: Option<&str>) -> Option<Form>
+    ensures { result ≡ form_under kernel (option_map (λ word. word.now) value.entry) }
+{
+    match kernel {
+        Kernel::Sim => form_of(value, Form::One),
+        Kernel::Qv => match form_of(value, Form::Two) {
+            Some(Form::Two) => Some(Form::Two),
+            _ => None,
+        },
     }
 }
