@@ -4,19 +4,23 @@ use Rattle.qp_alike.proofs.LawLemmas.{lawful_journals_are_one, stimuli_are_one, 
 use Rattle.qp_base.specs.Limits.{file_limit}
 use Rattle.qp_model.specs.declared.stimulus.Stim.{Stim}
 use Rattle.qp_model.specs.declared.systems.System.{System}
+use Rattle.qp_model.specs.Kernels.{port}
+use Rattle.qp_model.proofs.LawLemmas.{kernel_rests_where_all_are_empty}
 use Rattle.qp_stim.specs.Stimuli.{Fault, stimuli_of}
 use Rattle.qp_document.specs.declared.fault.SystemFault.{SystemFault}
 use Rattle.qp_document.specs.declared.fault.SystemFault.TheVariants.{Memory as NoMemory}
 use Rattle.qp_system.specs.SystemOf.{IsSystemOf, RefusesSystem}
 use Rattle.qp_system.proofs.LawLemmas.{systems_have_no_fault, refusals_are_one}
 use Rattle.qp_run.specs.declared.status.Status.{Status}
+use Rattle.qp_commands.specs.declared.values.Kernel.{Kernel}
+use Rattle.qp_commands.specs.declared.values.Kernel.TheVariants.{Sim, Qv}
 use Rattle.qp_commands.specs.declared.values.Kind.{Kind}
 use Rattle.qp_commands.specs.declared.values.Kind.TheVariants.{Frames, Journal as Text}
 use Rattle.qp_run.specs.Checks.{JudgesFiles, JudgesFound, JudgesSecond, JudgesStimuli, JudgesSystem, JudgesThird, verdict_answer}
 use Rattle.qp_run.specs.Conversions.{AnswersJournal, answer_on, decode_on, migrate_on, said}
 use Rattle.qp_run.specs.Loads.{EndsAtLoad, IsLoaded}
 use Rattle.qp_model.specs.declared.journals.Journal.{Journal}
-use Rattle.qp_run.specs.Printed.{made_budget}
+use Rattle.qp_run.specs.Printed.{IsRunUnder, made_budget}
 use Rattle.qp_commands.specs.WordTable.{check, decode, generate, migrate, number_of_form, run}
 use Rattle.qp_run.specs.Verdict.{AnswersFiles, AnswersSources, AnswersStimuli, AnswersSystem, EndRuns, EndsMade, EndsRun, IsAnswer, OneAnswer}
 use Rattle.qp_run.specs.Refusals.{RefusesFirst, system_refusal}
@@ -56,72 +60,84 @@ module _ (bytes : List ℕ) where
   system-goes_on sys a read (f, refuses, other, is) = other (systems_have_no_fault bytes sys f read refuses)
 
   -- a run of one of the systems is one of the other
-  run-carries : (s t : System) → IsSystemOf bytes s → IsSystemOf bytes t → (sources : List (List Stim)) (budget : ℕ) (a : Status) → EndsRun s sources budget a → EndsRun t sources budget a
-  run-carries s t p q sources budget a (j, is, ends) =
-      (j, record { kernel = is.kernel; budget_is = is.budget_is; lawful = lawful_journals_are_one bytes s t sources j p q is.lawful }, ends)
+  under-carries : (s t : System) → IsSystemOf bytes s → IsSystemOf bytes t → (sources : List (List Stim)) (kernel : Kernel) (budget : ℕ) (j : Journal)
+      → IsRunUnder kernel s sources budget j → IsRunUnder kernel t sources budget j
+  under-carries s t p q sources Sim budget j is =
+      record { kernel = is.kernel; budget_is = is.budget_is; lawful = lawful_journals_are_one bytes s t sources j p q is.lawful }
+  under-carries s t p q sources Qv budget j is =
+      let lawful = lawful_journals_are_one bytes s t sources j p q is.run.lawful in
+      record {
+        run = record { kernel = is.run.kernel; budget_is = is.run.budget_is; lawful = lawful };
+        steps = is.steps;
+        rests = kernel_rests_where_all_are_empty t sources j lawful (λ e. let wrong : 3 ≡ port = sym is.run.kernel ∙ e in cc);
+      }
 
-  module _ (budget : ℕ) (s t : System) (p : IsSystemOf bytes s) (q : IsSystemOf bytes t) where
-    sources-run : (found : Result (List (List Stim)) Fault) (a b : Status) → AnswersSources s budget found a → AnswersSources t budget found b → (a ≡ b) ⊎ EndRuns budget a b
+  run-carries : (s t : System) → IsSystemOf bytes s → IsSystemOf bytes t → (sources : List (List Stim)) (kernel : Kernel) (budget : ℕ) (a : Status) → EndsRun s sources kernel budget a → EndsRun t sources kernel budget a
+  run-carries s t p q sources kernel budget a (j, is, ends) =
+      (j, under-carries s t p q sources kernel budget j is, ends)
+
+  module _ (kernel : Kernel) (budget : ℕ) (s t : System) (p : IsSystemOf bytes s) (q : IsSystemOf bytes t) where
+    sources-run : (found : Result (List (List Stim)) Fault) (a b : Status) → AnswersSources s kernel budget found a → AnswersSources t kernel budget found b → (a ≡ b) ⊎ EndRuns kernel budget a b
     sources-run (Err fault) a b is are = inl (is ∙ sym are)
-    sources-run (Ok sources) a b is are = inr (s, sources, is, run-carries t s q p sources budget b are)
+    sources-run (Ok sources) a b is are = inr (s, sources, is, run-carries t s q p sources kernel budget b are)
 
-    stimuli-run : (held : Option (List ℕ)) (a b : Status) → AnswersStimuli held s budget a → AnswersStimuli held t budget b → (a ≡ b) ⊎ EndRuns budget a b
+    stimuli-run : (held : Option (List ℕ)) (a b : Status) → AnswersStimuli held s kernel budget a → AnswersStimuli held t kernel budget b → (a ≡ b) ⊎ EndRuns kernel budget a b
     stimuli-run held a b (inl is) (inl are) = inl (ends-one 2 held a b is are)
     stimuli-run held a b (inl is) (inr (text, loaded, are)) = absurd (loaded-goes_on 2 held text a loaded is)
     stimuli-run held a b (inr (text, loaded, is)) (inl are) = absurd (loaded-goes_on 2 held text b loaded are)
     stimuli-run held a b (inr (text, loaded, is)) (inr (other, found, are)) =
-        sources-run (stimuli_of s text) a b is (subst (λ x. AnswersSources t budget x b) same are)
+        sources-run (stimuli_of s text) a b is (subst (λ x. AnswersSources t kernel budget x b) same are)
       where
         same : stimuli_of t other ≡ stimuli_of s text
         same = ap (stimuli_of t) (loaded-one held other text found loaded) ∙ sym (stimuli_are_one bytes s t text p q)
 
-  system-run : (budget : ℕ) (held : Option (List ℕ)) (a b : Status) → AnswersSystem bytes held budget a → AnswersSystem bytes held budget b → (a ≡ b) ⊎ EndRuns budget a b
-  system-run budget held a b (inl is) (inl are) = inl (refusal-one a b is are)
-  system-run budget held a b (inl is) (inr (sys, read, are)) = absurd (system-goes_on sys a read is)
-  system-run budget held a b (inr (sys, read, is)) (inl are) = absurd (system-goes_on sys b read are)
-  system-run budget held a b (inr (s, p, is)) (inr (t, q, are)) = stimuli-run budget s t p q held a b is are
+  system-run : (kernel : Kernel) (budget : ℕ) (held : Option (List ℕ)) (a b : Status) → AnswersSystem bytes held kernel budget a → AnswersSystem bytes held kernel budget b → (a ≡ b) ⊎ EndRuns kernel budget a b
+  system-run kernel budget held a b (inl is) (inl are) = inl (refusal-one a b is are)
+  system-run kernel budget held a b (inl is) (inr (sys, read, are)) = absurd (system-goes_on sys a read is)
+  system-run kernel budget held a b (inr (sys, read, is)) (inl are) = absurd (system-goes_on sys b read are)
+  system-run kernel budget held a b (inr (s, p, is)) (inr (t, q, are)) = stimuli-run kernel budget s t p q held a b is are
 
-files-run-one : (system stimuli : Option (List ℕ)) (budget : ℕ) (a b : Status) → AnswersFiles system stimuli budget a → AnswersFiles system stimuli budget b
-    → (a ≡ b) ⊎ EndRuns budget a b
+files-run-one : (system stimuli : Option (List ℕ)) (kernel : Kernel) (budget : ℕ) (a b : Status) → AnswersFiles system stimuli kernel budget a → AnswersFiles system stimuli kernel budget b
+    → (a ≡ b) ⊎ EndRuns kernel budget a b
 unfolding AnswersFiles
-files-run-one system stimuli budget a b (inl is) (inl are) = inl (ends-one 1 system a b is are)
-files-run-one system stimuli budget a b (inl is) (inr (bytes, loaded, are)) = absurd (loaded-goes_on 1 system bytes a loaded is)
-files-run-one system stimuli budget a b (inr (bytes, loaded, is)) (inl are) = absurd (loaded-goes_on 1 system bytes b loaded are)
-files-run-one system stimuli budget a b (inr (bytes, loaded, is)) (inr (other, found, are)) =
-    system-run bytes budget stimuli a b is (subst (λ x. AnswersSystem x stimuli budget b) (loaded-one system other bytes found loaded) are)
+files-run-one system stimuli kernel budget a b (inl is) (inl are) = inl (ends-one 1 system a b is are)
+files-run-one system stimuli kernel budget a b (inl is) (inr (bytes, loaded, are)) = absurd (loaded-goes_on 1 system bytes a loaded is)
+files-run-one system stimuli kernel budget a b (inr (bytes, loaded, is)) (inl are) = absurd (loaded-goes_on 1 system bytes b loaded are)
+files-run-one system stimuli kernel budget a b (inr (bytes, loaded, is)) (inr (other, found, are)) =
+    system-run bytes kernel budget stimuli a b is (subst (λ x. AnswersSystem x stimuli kernel budget b) (loaded-one system other bytes found loaded) are)
 
 -- the answer where two files have a system and its stimuli
-module _ (system stimuli : Option (List ℕ)) (budget : ℕ) (bytes text : List ℕ) (sys : System) (sources : List (List Stim))
+module _ (system stimuli : Option (List ℕ)) (kernel : Kernel) (budget : ℕ) (bytes text : List ℕ) (sys : System) (sources : List (List Stim))
     (system_held : IsLoaded system bytes) (read : IsSystemOf bytes sys) (stimuli_held : IsLoaded stimuli text) (says : stimuli_of sys text ≡ Ok sources) (answer : Status) where
-  on-stimuli : (one : System) → IsSystemOf bytes one → AnswersStimuli stimuli one budget answer → EndsRun one sources budget answer
+  on-stimuli : (one : System) → IsSystemOf bytes one → AnswersStimuli stimuli one kernel budget answer → EndsRun one sources kernel budget answer
   on-stimuli one of (inl ends) = absurd (loaded-goes_on 2 stimuli text answer stimuli_held ends)
-  on-stimuli one of (inr (found, loaded, is)) = subst (λ x. AnswersSources one budget x answer) same is
+  on-stimuli one of (inr (found, loaded, is)) = subst (λ x. AnswersSources one kernel budget x answer) same is
     where
       same : stimuli_of one found ≡ Ok sources
       same = ap (stimuli_of one) (loaded-one stimuli found text loaded stimuli_held) ∙ stimuli_are_one bytes one sys text of read ∙ says
 
-  on-system : AnswersSystem bytes stimuli budget answer → EndsRun sys sources budget answer
+  on-system : AnswersSystem bytes stimuli kernel budget answer → EndsRun sys sources kernel budget answer
   on-system (inl refuses) = absurd (system-goes_on bytes sys answer read refuses)
-  on-system (inr (one, of, is)) = run-carries bytes one sys of read sources budget answer (on-stimuli one of is)
+  on-system (inr (one, of, is)) = run-carries bytes one sys of read sources kernel budget answer (on-stimuli one of is)
 
-  pub files-run : AnswersFiles system stimuli budget answer → EndsRun sys sources budget answer
+  pub files-run : AnswersFiles system stimuli kernel budget answer → EndsRun sys sources kernel budget answer
   unfolding AnswersFiles
   files-run (inl ends) = absurd (loaded-goes_on 1 system bytes answer system_held ends)
-  files-run (inr (found, loaded, is)) = on-system (subst (λ b. AnswersSystem b stimuli budget answer) (loaded-one system found bytes loaded system_held) is)
+  files-run (inr (found, loaded, is)) = on-system (subst (λ b. AnswersSystem b stimuli kernel budget answer) (loaded-one system found bytes loaded system_held) is)
 
 -- two runs of what the same bytes say are runs of one system and its stimuli
 runs-one : (bytes text : List ℕ) (s t : System) (xs ys : List (List Stim)) → IsSystemOf bytes s → IsSystemOf bytes t → stimuli_of s text ≡ Ok xs → stimuli_of t text ≡ Ok ys
-    → (budget : ℕ) (a b : Status) → EndsRun s xs budget a → EndsRun t ys budget b → EndRuns budget a b
-runs-one bytes text s t xs ys p q says tells budget a b is are =
+    → (kernel : Kernel) (budget : ℕ) (a b : Status) → EndsRun s xs kernel budget a → EndsRun t ys kernel budget b → EndRuns kernel budget a b
+runs-one bytes text s t xs ys p q says tells kernel budget a b is are =
     let both : Ok ys ≡ Ok xs = sym tells ∙ sym (stimuli_are_one bytes s t text p q) ∙ says in
     let same : ys ≡ xs = cc in
-    (s, xs, is, run-carries bytes t s q p xs budget b (subst (λ zs. EndsRun t zs budget b) same are))
+    (s, xs, is, run-carries bytes t s q p xs kernel budget b (subst (λ zs. EndsRun t zs kernel budget b) same are))
 
 -- and so are those of what a number makes
-made-one : (n : ℕ) (a b : Status) → EndsMade n a → EndsMade n b → EndRuns made_budget a b
+made-one : (n : ℕ) (a b : Status) → EndsMade n a → EndsMade n b → EndRuns Sim made_budget a b
 unfolding EndsMade
 made-one n a b (s, xs, made, is) (t, ys, makes, are) =
-    runs-one _ _ s t xs ys made.system makes.system made.sources makes.sources made_budget a b is are
+    runs-one _ _ s t xs ys made.system makes.system made.sources makes.sources Sim made_budget a b is are
 
 -- a file has one journal, or none
 journal-one : (kind : Kind) (on : Journal → Status) (held : Option (List ℕ)) (a b : Status) → AnswersJournal kind on held a → AnswersJournal kind on held b → a ≡ b
@@ -180,7 +196,7 @@ files-judged-one system stimuli held a b (inr (bytes, loaded, is)) (inr (other, 
 pub one-answer : OneAnswer
 unfolding IsAnswer
 one-answer held None a b p q = inl (p ∙ sym q)
-one-answer held (Some (run w)) a b p q = files-run-one (held w.system) (held w.stimuli) w.budget a b p q
+one-answer held (Some (run w)) a b p q = files-run-one (held w.system) (held w.stimuli) w.kernel w.budget a b p q
 one-answer held (Some (decode frames)) a b p q = inl (journal-one Frames decode_on (held frames) a b p q)
 one-answer held (Some (migrate w)) a b p q = inl (journal-one w.from (migrate_on (number_of_form w.to)) (held w.file) a b p q)
 one-answer held (Some (check w)) a b p q = inl (files-judged-one (held w.system) (held w.stimuli) (held w.journal) a b p q)

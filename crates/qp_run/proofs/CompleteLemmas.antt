@@ -7,6 +7,7 @@ use Rattle.qp_model.specs.declared.systems.System.{System}
 use Rattle.qp_text.specs.TextLaw.{IsWritable}
 use Rattle.qp_run.specs.declared.status.Status.{Status}
 use Rattle.qp_run.specs.declared.status.Status.TheVariants.{Done, Words, Absent, TooLong, Refused, Asserted, Spent, Memory, ReadFault, WriteFault, Unlawful}
+use Rattle.qp_commands.specs.declared.values.Kernel.{Kernel}
 use Rattle.qp_commands.specs.declared.values.Kind.{Kind}
 use Rattle.qp_commands.specs.declared.values.Kind.TheVariants.{Frames}
 use Rattle.qp_run.specs.Conversions.{AnswersJournal, Held, answer_on, decode_on, migrate_on, said, written}
@@ -62,17 +63,17 @@ judging-failed system stimuli held n answer failed cause = λ bytes text sys sou
     by sys sources j (inr memory) = inr memory
 
 -- how the run ended, or a failure
-running-done : (system stimuli : Option (List ℕ)) (budget : ℕ) (n : Counts) (answer : Status) → AnswersFiles system stimuli budget answer → EndsRunning system stimuli budget n answer
+running-done : (system stimuli : Option (List ℕ)) (kernel : Kernel) (budget : ℕ) (n : Counts) (answer : Status) → AnswersFiles system stimuli kernel budget answer → EndsRunning system stimuli kernel budget n answer
 unfolding EndsRunning
-running-done system stimuli budget n answer is = λ bytes text sys sources first read second says reads out notes.
-    inl (files-run system stimuli budget bytes text sys sources first read second says answer is)
+running-done system stimuli kernel budget n answer is = λ bytes text sys sources first read second says reads out notes.
+    inl (files-run system stimuli kernel budget bytes text sys sources first read second says answer is)
 
-running-failed : (system stimuli : Option (List ℕ)) (budget : ℕ) (n : Counts) (answer : Status) → is_failure answer ≡ true → HasCause n answer → EndsRunning system stimuli budget n answer
+running-failed : (system stimuli : Option (List ℕ)) (kernel : Kernel) (budget : ℕ) (n : Counts) (answer : Status) → is_failure answer ≡ true → HasCause n answer → EndsRunning system stimuli kernel budget n answer
 unfolding EndsRunning
-running-failed system stimuli budget n answer failed cause = λ bytes text sys sources first read second says reads out notes.
+running-failed system stimuli kernel budget n answer failed cause = λ bytes text sys sources first read second says reads out notes.
     by sys sources (failed-ends n Done answer failed cause reads out notes)
   where
-    by : (sys : System) (sources : List (List Stim)) → (answer ≡ Done) ⊎ (answer ≡ Memory) → EndsRun sys sources budget answer ⊎ (answer ≡ Memory)
+    by : (sys : System) (sources : List (List Stim)) → (answer ≡ Done) ⊎ (answer ≡ Memory) → EndsRun sys sources kernel budget answer ⊎ (answer ≡ Memory)
     by sys sources (inl done) = absurd (false≢true (ap is_failure (sym done) ∙ failed))
     by sys sources (inr memory) = inr memory
 
@@ -88,8 +89,8 @@ making number n answer (inl failed) cause = λ reads out notes. by (failed-ends 
 ends-call : (held : Held) (asked : Option Asked) (n : Counts) (answer : Status) → Agrees held asked answer → HasCause n answer → EndsCall held asked n answer
 unfolding IsAnswer
 ends-call held None n answer agrees cause = ends-so n Words answer agrees cause
-ends-call held (Some (run w)) n answer (inl failed) cause = running-failed (held w.system) (held w.stimuli) w.budget n answer failed cause
-ends-call held (Some (run w)) n answer (inr is) cause = running-done (held w.system) (held w.stimuli) w.budget n answer is
+ends-call held (Some (run w)) n answer (inl failed) cause = running-failed (held w.system) (held w.stimuli) w.kernel w.budget n answer failed cause
+ends-call held (Some (run w)) n answer (inr is) cause = running-done (held w.system) (held w.stimuli) w.kernel w.budget n answer is
 ends-call held (Some (decode frames)) n answer (inl failed) cause = λ form j writable loaded. ends-so n _ answer (inl failed) cause
 ends-call held (Some (decode frames)) n answer (inr is) cause = λ form j writable loaded.
     ends-so n _ answer (inr (on-journal Frames decode_on (held frames) answer form j writable loaded is)) cause

@@ -2,6 +2,7 @@
 use Rattle.std.proofs.Common.{◌≡◌, ℕ, ◌<◌, ◌≤◌, Bool, true, false, cond, List, [], ◌∷◌, length, refl, arith}
 use Rattle.std.specs.Prelude.{◌==◌, not, nat_le}
 use Rattle.std.specs.List.{list_all}
+use Rattle.std.proofs.lemmas.Bool.{false≢true}
 use Rattle.std.proofs.lemmas.Bool.Decides.{nat_tests}
 use Rattle.qp_model.proofs.ListLemmas.{both_true, true_both}
 use Rattle.qp_model.specs.Kernels.{qv}
@@ -12,12 +13,16 @@ use Rattle.qp_model.specs.Output.{has_form, has_no_rest, is_in_range, is_lane_in
 use Rattle.qp_model.specs.declared.stimulus.Stim as stimulus
 use Rattle.qp_model.specs.declared.systems.System.{System}
 use Rattle.qp_forms.specs.Laws.{CanBeWritten}
-use Rattle.qp_forms.proofs.FormLemmas.{written}
+use Rattle.qp_forms.proofs.FormLemmas.{written, written-qv}
 use Rattle.qp_model.specs.Sound.{IsSound}
-use Rattle.qp_simulation.specs.SimRun.{IsSimRun}
+use Rattle.qp_model.specs.Lawful.{Lawful}
+use Rattle.qp_simulation.specs.SimRun.{IsQvRun, IsSimRun}
+use Rattle.qp_run.specs.Printed.{IsRunUnder}
+use Rattle.qp_commands.specs.declared.values.Kernel.{Kernel}
+use Rattle.qp_commands.specs.declared.values.Kernel.TheVariants.{Sim, Qv}
 use Rattle.qp_commands.specs.declared.values.Form.{Form}
 use Rattle.qp_commands.specs.declared.values.Form.TheVariants.{One, Two}
-use Rattle.qp_commands.specs.WordTable.{number_of_form}
+use Rattle.qp_commands.specs.WordTable.{is_form_of, number_of_form}
 
 kind-one : (b : Bool) (kind : ℕ) → nat_le kind (cond b REST LOOK) ≡ true → not (kind == REST) ≡ true → nat_le kind LOOK ≡ true
 kind-one true kind within other = grind (arith, nat_tests)
@@ -98,18 +103,32 @@ range-moves form Two j within has =
     let kernel : nat_le j.kernel 3 ≡ true = kernel-two (form == 2) j.kernel budget.0 in
     true_both _ _ (true_both _ _ (true_both _ _ (true_both _ _ (true_both _ _ kernel budget.1) most.1) end.1) few.1) (lanes-two form j.lanes lanes.1)
 
--- the journal of a run has each form, and is in range for it
-module _ (sys : System) (sources : List (List stimulus.Stim)) (budget : ℕ) (j : Journal) (is : IsSimRun sys sources budget j)
-    (sound : IsSound sys) (few : length sources ≤ 16) (some : 0 < budget) (most : budget ≤ 1000000) where
-  run-written : CanBeWritten 1 j
-  run-written = written sys sources j sound few is.kernel (rw is.budget_is some) (rw is.budget_is most) is.lawful
+-- the journal of a run is lawful
+pub run-lawful : (sys : System) (sources : List (List stimulus.Stim)) (kernel : Kernel) (budget : ℕ) (j : Journal) → IsRunUnder kernel sys sources budget j
+    → Lawful sys sources j
+run-lawful sys sources Sim budget j is = is.lawful
+run-lawful sys sources Qv budget j is = is.run.lawful
 
-  pub run-form : (to : Form) → has_form (number_of_form to) j ≡ true
-  run-form One = run-written.has
-  run-form Two = refl
+-- it has each form of its kernel, and is in range for it
+module _ (sys : System) (sources : List (List stimulus.Stim)) (budget : ℕ) (j : Journal) (sound : IsSound sys) (few : length sources ≤ 16)
+    (some : 0 < budget) (most : budget ≤ 1000000) where
+  sim-written : IsSimRun sys sources budget j → CanBeWritten 1 j
+  sim-written is = written sys sources j sound few is.kernel (rw is.budget_is some) (rw is.budget_is most) is.lawful
 
-  pub run-range : (to : Form) → is_in_range (number_of_form to) j ≡ true
-  run-range to = range-moves 1 to j run-written.range (run-form to)
+  qv-written : IsQvRun sys sources budget j → CanBeWritten 2 j
+  qv-written is = written-qv sys sources j sound few is.run.kernel (rw is.run.budget_is some) (rw is.run.budget_is most) is.run.lawful
+
+  pub run-form : (kernel : Kernel) → IsRunUnder kernel sys sources budget j → (to : Form) → is_form_of kernel to ≡ true
+      → has_form (number_of_form to) j ≡ true
+  run-form Sim is One fits = (sim-written is).has
+  run-form Sim is Two fits = refl
+  run-form Qv is One fits = absurd (false≢true fits)
+  run-form Qv is Two fits = refl
+
+  pub run-range : (kernel : Kernel) → IsRunUnder kernel sys sources budget j → (to : Form) → is_form_of kernel to ≡ true
+      → is_in_range (number_of_form to) j ≡ true
+  run-range Sim is to fits = range-moves 1 to j (sim-written is).range (run-form Sim is to fits)
+  run-range Qv is to fits = range-moves 2 to j (qv-written is).range (run-form Qv is to fits)
 
 -- it has few lanes
 pub lanes-few : (form : ℕ) (j : Journal) → is_in_range form j ≡ true → length j.lanes ≤ 49

@@ -4,17 +4,18 @@ use Rattle.qp_model.specs.declared.journals.Journal.{Journal}
 use Rattle.qp_model.specs.declared.stimulus.Stim.{Stim}
 use Rattle.qp_model.specs.declared.systems.System.{System}
 use Rattle.qp_gen.specs.Made.{IsMade}
-use Rattle.qp_simulation.specs.SimRun.{IsSimRun}
 use Rattle.qp_summary.specs.declared.summary.SummaryFault.TheVariants as fault
 use Rattle.qp_summary.specs.Written.{Fails, Writes, joined}
 use Rattle.qp_run.specs.declared.status.Status.{Status}
 use Rattle.qp_run.specs.declared.status.Status.TheVariants.{Words, Memory, WriteFault}
+use Rattle.qp_commands.specs.declared.values.Kernel.{Kernel}
+use Rattle.qp_commands.specs.declared.values.Kernel.TheVariants.{Sim}
 use Rattle.qp_commands.specs.declared.values.Kind.{Kind}
 use Rattle.qp_commands.specs.declared.values.Output.{Output}
 use Rattle.qp_commands.specs.declared.values.Output.TheVariants.{Whole, Summary}
 use Rattle.qp_run.specs.Conversions.{Held, IsWrittenAs, PrintsOne, written}
 use Rattle.qp_run.specs.Endings.{ending_of}
-use Rattle.qp_run.specs.Printed.{IsPrintOf, IsPrinted, PrintsMade, PrintsOf, PrintsRun, made_budget}
+use Rattle.qp_run.specs.Printed.{IsPrintOf, IsPrinted, IsRunUnder, PrintsMade, PrintsOf, PrintsRun, made_budget}
 use Rattle.qp_run.specs.Verdict.{Count, EndsMade, EndsRun, HasCause, IsInput, IsRun, is_failure, quiet}
 use Rattle.qp_run.proofs.EndingLemmas.{written-about, written-cause, written-prints}
 
@@ -47,24 +48,24 @@ memory-printed P got faults = inl (refl, refl)
 -- ---- what was printed of a run
 
 -- what was printed of a run's journal
-pub journal-printed : (sys : System) (sources : List (List Stim)) (budget : ℕ) (j : Journal) → IsSimRun sys sources budget j → (output : Output) (form : ℕ)
+pub journal-printed : (sys : System) (sources : List (List Stim)) (kernel : Kernel) (budget : ℕ) (j : Journal) → IsRunUnder kernel sys sources budget j → (output : Output) (form : ℕ)
     → (old new : Option (List ℕ)) (faults faults' : ℕ) (answer : Status) → IsPrinted (PrintsOf output form sys j) old new faults faults' answer
-    → IsPrinted (PrintsRun sys sources budget output form) old new faults faults' answer
+    → IsPrinted (PrintsRun sys sources kernel budget output form) old new faults faults' answer
 unfolding IsPrinted PrintsRun
-journal-printed sys sources budget j is output form old new faults faults' answer (inl none) = inl none
-journal-printed sys sources budget j is output form old new faults faults' answer (inr (told, whole, prints, wrote)) = inr (told, whole, (j, is, prints), wrote)
+journal-printed sys sources kernel budget j is output form old new faults faults' answer (inl none) = inl none
+journal-printed sys sources kernel budget j is output form old new faults faults' answer (inr (told, whole, prints, wrote)) = inr (told, whole, (j, is, prints), wrote)
 
-module _ (sys : System) (sources : List (List Stim)) (budget : ℕ) (output : Output) (form : ℕ) where
+module _ (sys : System) (sources : List (List Stim)) (kernel : Kernel) (budget : ℕ) (output : Output) (form : ℕ) where
   abbrev Prints : Status → List ℕ → Type 0
-  Prints = PrintsRun sys sources budget output form
+  Prints = PrintsRun sys sources kernel budget output form
 
   -- its answer is what the records of some journal say
-  prints-ends : (told : Status) (whole : List ℕ) → Prints told whole → EndsRun sys sources budget told
+  prints-ends : (told : Status) (whole : List ℕ) → Prints told whole → EndsRun sys sources kernel budget told
   unfolding PrintsRun PrintsOf
   prints-ends told whole (j, is, (ends, print)) = (j, is, ends)
 
   module _ (old new : Option (List ℕ)) (faults faults' : ℕ) (answer : Status) where
-    wrote-ending : (told : Status) (whole : List ℕ) (ends : EndsRun sys sources budget told) → IsWrittenAs told whole old new faults faults' answer
+    wrote-ending : (told : Status) (whole : List ℕ) (ends : EndsRun sys sources kernel budget told) → IsWrittenAs told whole old new faults faults' answer
         → IsWrittenAs (ending_of ends.0) whole old new faults faults' answer
     wrote-ending told whole ends wrote = subst (λ s. IsWrittenAs s whole old new faults faults' answer) ends.2 wrote
 
@@ -84,10 +85,10 @@ module _ (sys : System) (sources : List (List Stim)) (budget : ℕ) (output : Ou
         let ends = prints-ends told whole prints in
         written-cause ends.0 whole old new faults faults' answer (wrote-ending told whole ends wrote) reads misses
 
-    pub run-told : IsPrinted Prints old new faults faults' answer → (is_failure answer ≡ true) ⊎ EndsRun sys sources budget answer
+    pub run-told : IsPrinted Prints old new faults faults' answer → (is_failure answer ≡ true) ⊎ EndsRun sys sources kernel budget answer
     unfolding IsPrinted
     run-told (inl (memory, same)) = inl (ap is_failure memory)
-    run-told (inr (told, whole, prints, inl (is, got))) = inr (subst (EndsRun sys sources budget) (sym is) (prints-ends told whole prints))
+    run-told (inr (told, whole, prints, inl (is, got))) = inr (subst (EndsRun sys sources kernel budget) (sym is) (prints-ends told whole prints))
     run-told (inr (told, whole, prints, inr (failed, part, rose))) = inl (ap is_failure failed)
 
     -- what it printed, as another word for it
@@ -102,25 +103,25 @@ module _ (sys : System) (sources : List (List Stim)) (budget : ℕ) (output : Ou
 
     -- of two files
     pub files-printed : (held : Option Held) (system stimuli : List ℕ) → IsInput held system stimuli sys sources
-        → IsPrinted Prints old new faults faults' answer → PrintsOne (IsRun held system stimuli budget output form) old new answer
+        → IsPrinted Prints old new faults faults' answer → PrintsOne (IsRun held system stimuli kernel budget output form) old new answer
     files-printed held system stimuli input printed =
-        run-prints (IsRun held system stimuli budget output form) (λ told whole prints. (sys, sources, input, prints)) printed
+        run-prints (IsRun held system stimuli kernel budget output form) (λ told whole prints. (sys, sources, input, prints)) printed
 
 -- ---- what was printed of what a number makes
 
 module _ (n : ℕ) (sys : System) (sources : List (List Stim)) (made : IsMade n sys sources) (old new : Option (List ℕ)) (faults faults' : ℕ) (answer : Status)
-    (printed : IsPrinted (PrintsRun sys sources made_budget Summary 1) old new faults faults' answer) where
-  made-prints : (told : Status) (whole : List ℕ) → PrintsRun sys sources made_budget Summary 1 told whole → PrintsMade n told whole
+    (printed : IsPrinted (PrintsRun sys sources Sim made_budget Summary 1) old new faults faults' answer) where
+  made-prints : (told : Status) (whole : List ℕ) → PrintsRun sys sources Sim made_budget Summary 1 told whole → PrintsMade n told whole
   unfolding PrintsMade
   made-prints told whole prints = (sys, sources, made, prints)
 
-  made-ends : (is_failure answer ≡ true) ⊎ EndsRun sys sources made_budget answer → (is_failure answer ≡ true) ⊎ EndsMade n answer
+  made-ends : (is_failure answer ≡ true) ⊎ EndsRun sys sources Sim made_budget answer → (is_failure answer ≡ true) ⊎ EndsMade n answer
   unfolding EndsMade
   made-ends (inl failed) = inl failed
   made-ends (inr ends) = inr (sys, sources, made, ends)
 
   pub made-printed : PrintsOne (PrintsMade n) old new answer
-  made-printed = run-prints sys sources made_budget Summary 1 old new faults faults' answer (PrintsMade n) made-prints printed
+  made-printed = run-prints sys sources Sim made_budget Summary 1 old new faults faults' answer (PrintsMade n) made-prints printed
 
   pub made-told : (is_failure answer ≡ true) ⊎ EndsMade n answer
-  made-told = made-ends (run-told sys sources made_budget Summary 1 old new faults faults' answer printed)
+  made-told = made-ends (run-told sys sources Sim made_budget Summary 1 old new faults faults' answer printed)

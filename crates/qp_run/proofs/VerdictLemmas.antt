@@ -14,6 +14,7 @@ use Rattle.qp_system.specs.SystemOf.{IsSystemOf}
 use Rattle.qp_run.specs.declared.status.Status.{Status}
 use Rattle.qp_run.specs.declared.status.Status.TheVariants.{Done, Words, Absent, TooLong, Refused, Asserted, Spent, Memory, ReadFault, WriteFault, Unlawful}
 use Rattle.qp_run.specs.Conversions.{Held, PrintsOne, decode_on, migrate_on}
+use Rattle.qp_commands.specs.declared.values.Kernel.{Kernel}
 use Rattle.qp_commands.specs.declared.values.Kind.TheVariants.{Frames}
 use Rattle.qp_run.specs.Loads.{EndsAtLoad, IsLoaded}
 use Rattle.qp_run.specs.Notes.{line_of, names_file, is_done}
@@ -47,77 +48,77 @@ unfolding IsAnswer
 told-unnamed o = IfSome-all o (λ held. inr refl)
 
 -- what refuses the stimuli is the answer on them
-refusal-answers : (sys : System) (budget : ℕ) (found : Result (List (List Stim)) Fault) (status : Status) → RefusesSecond found status → AnswersSources sys budget found status
-refusal-answers sys budget (Err fault) status is = is
-refusal-answers sys budget (Ok sources) status is = absurd is
+refusal-answers : (sys : System) (kernel : Kernel) (budget : ℕ) (found : Result (List (List Stim)) Fault) (status : Status) → RefusesSecond found status → AnswersSources sys kernel budget found status
+refusal-answers sys kernel budget (Err fault) status is = is
+refusal-answers sys kernel budget (Ok sources) status is = absurd is
 
 -- what is answered on two files is answered on a run of them
-module _ (o : Option Held) (system stimuli : List ℕ) (budget : ℕ) where
+module _ (o : Option Held) (system stimuli : List ℕ) (kernel : Kernel) (budget : ℕ) where
   -- the system's file was not loaded
-  pub told-load : (status : Status) → IfSome o (λ held. FailsToLoad 1 (held system) status) → AgreesRun o system stimuli budget status
+  pub told-load : (status : Status) → IfSome o (λ held. FailsToLoad 1 (held system) status) → AgreesRun o system stimuli kernel budget status
   unfolding AnswersFiles
   told-load status told = IfSome_then o told by
     where
-      by : (held : Held) → FailsToLoad 1 (held system) status → AgreesFiles (held system) (held stimuli) budget status
+      by : (held : Held) → FailsToLoad 1 (held system) status → AgreesFiles (held system) (held stimuli) kernel budget status
       by held (inl failed) = inl failed
       by held (inr ends) = inr (inl ends)
 
   module _ (bytes : List ℕ) (loaded : IfSome o (λ held. IsLoaded (held system) bytes)) where
-    by-bytes : (held : Held) (answer : Status) → IsLoaded (held system) bytes → AnswersSystem bytes (held stimuli) budget answer
-        → AgreesFiles (held system) (held stimuli) budget answer
+    by-bytes : (held : Held) (answer : Status) → IsLoaded (held system) bytes → AnswersSystem bytes (held stimuli) kernel budget answer
+        → AgreesFiles (held system) (held stimuli) kernel budget answer
     unfolding AnswersFiles
     by-bytes held answer is answers = inr (inr (bytes, is, answers))
 
     -- the system's file isn't taken
-    pub told-system : (status : Status) → (status ≡ Memory) ⊎ RefusesFirst bytes status → AgreesRun o system stimuli budget status
+    pub told-system : (status : Status) → (status ≡ Memory) ⊎ RefusesFirst bytes status → AgreesRun o system stimuli kernel budget status
     told-system status (inl memory) = IfSome-all o (λ held. inl (ap is_failure memory))
     told-system status (inr refuses) = IfSome_then o loaded (λ held is. by-bytes held status is (inl refuses))
 
     module _ (sys : System) (read : IsSystemOf bytes sys) where
-      by-system : (held : Held) (answer : Status) → IsLoaded (held system) bytes → AnswersStimuli (held stimuli) sys budget answer
-          → AgreesFiles (held system) (held stimuli) budget answer
+      by-system : (held : Held) (answer : Status) → IsLoaded (held system) bytes → AnswersStimuli (held stimuli) sys kernel budget answer
+          → AgreesFiles (held system) (held stimuli) kernel budget answer
       by-system held answer is answers = by-bytes held answer is (inr (sys, read, answers))
 
       -- the stimuli's file was not loaded
-      pub told-load-2 : (status : Status) → IfSome o (λ held. FailsToLoad 2 (held stimuli) status) → AgreesRun o system stimuli budget status
+      pub told-load-2 : (status : Status) → IfSome o (λ held. FailsToLoad 2 (held stimuli) status) → AgreesRun o system stimuli kernel budget status
       told-load-2 status told = IfSome-both o loaded told by
         where
-          by : (held : Held) → IsLoaded (held system) bytes → FailsToLoad 2 (held stimuli) status → AgreesFiles (held system) (held stimuli) budget status
+          by : (held : Held) → IsLoaded (held system) bytes → FailsToLoad 2 (held stimuli) status → AgreesFiles (held system) (held stimuli) kernel budget status
           by held is (inl failed) = inl failed
           by held is (inr ends) = by-system held status is (inl ends)
 
       module _ (text : List ℕ) (loaded_text : IfSome o (λ held. IsLoaded (held stimuli) text)) where
-        by-text : (status : Status) → AnswersSources sys budget (stimuli_of sys text) status → AgreesRun o system stimuli budget status
+        by-text : (status : Status) → AnswersSources sys kernel budget (stimuli_of sys text) status → AgreesRun o system stimuli kernel budget status
         by-text status says = IfSome-both o loaded loaded_text (λ held is is_text. by-system held status is (inr (text, is_text, says)))
 
         -- the stimuli's file isn't taken
-        pub told-stimuli : (status : Status) → (status ≡ Memory) ⊎ RefusesSecond (stimuli_of sys text) status → AgreesRun o system stimuli budget status
+        pub told-stimuli : (status : Status) → (status ≡ Memory) ⊎ RefusesSecond (stimuli_of sys text) status → AgreesRun o system stimuli kernel budget status
         told-stimuli status (inl memory) = IfSome-all o (λ held. inl (ap is_failure memory))
-        told-stimuli status (inr refuses) = by-text status (refusal-answers sys budget (stimuli_of sys text) status refuses)
+        told-stimuli status (inr refuses) = by-text status (refusal-answers sys kernel budget (stimuli_of sys text) status refuses)
 
         -- its stimuli are run
-        pub told-sources : (sources : List (List Stim)) → stimuli_of sys text ≡ Ok sources → (status : Status) → EndsRun sys sources budget status
-            → AgreesRun o system stimuli budget status
-        told-sources sources says status ends = by-text status (subst (λ found. AnswersSources sys budget found status) (sym says) ends)
+        pub told-sources : (sources : List (List Stim)) → stimuli_of sys text ≡ Ok sources → (status : Status) → EndsRun sys sources kernel budget status
+            → AgreesRun o system stimuli kernel budget status
+        told-sources sources says status ends = by-text status (subst (λ found. AnswersSources sys kernel budget found status) (sym says) ends)
 
   -- two files that are run are answered by how the run ended
-  pub input-ends : (sys : System) (sources : List (List Stim)) → IsInput o system stimuli sys sources → (status : Status) → EndsRun sys sources budget status
-      → AgreesRun o system stimuli budget status
+  pub input-ends : (sys : System) (sources : List (List Stim)) → IsInput o system stimuli sys sources → (status : Status) → EndsRun sys sources kernel budget status
+      → AgreesRun o system stimuli kernel budget status
   input-ends sys sources input status ends =
       told-sources input.system input.system_held sys input.system_read input.stimuli input.stimuli_held sources input.stimuli_read status ends
 
-  failure-files : (status : Status) → is_failure status ≡ true → AgreesRun o system stimuli budget status
+  failure-files : (status : Status) → is_failure status ≡ true → AgreesRun o system stimuli kernel budget status
   failure-files status failed = IfSome-all o (λ held. inl failed)
 
   -- and if not by that, by a failure
   pub told-run : (sys : System) (sources : List (List Stim)) (answer : Status) → IsInput o system stimuli sys sources
-      → (is_failure answer ≡ true) ⊎ EndsRun sys sources budget answer → AgreesRun o system stimuli budget answer
+      → (is_failure answer ≡ true) ⊎ EndsRun sys sources kernel budget answer → AgreesRun o system stimuli kernel budget answer
   told-run sys sources answer input (inl failed) = failure-files answer failed
   told-run sys sources answer input (inr ends) = input-ends sys sources input answer ends
 
 -- the answer on what a call asks for
 module _ (o : Option Held) (answer : Status) where
-  pub agrees-run : (w : RunWords) → AgreesRun o w.system w.stimuli w.budget answer → IfSome o (λ held. Agrees held (Some (run w)) answer)
+  pub agrees-run : (w : RunWords) → AgreesRun o w.system w.stimuli w.kernel w.budget answer → IfSome o (λ held. Agrees held (Some (run w)) answer)
   unfolding IsAnswer
   agrees-run w told = told
 

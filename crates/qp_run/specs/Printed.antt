@@ -5,14 +5,21 @@ use Rattle.qp_model.specs.declared.stimulus.Stim.{Stim}
 use Rattle.qp_model.specs.declared.systems.System.{System}
 use Rattle.qp_model.specs.OutputSummary.{IsSummary}
 use Rattle.qp_summary.specs.Written.{joined}
-use Rattle.qp_simulation.specs.SimRun.{IsSimRun}
+use Rattle.qp_simulation.specs.SimRun.{IsQvRun, IsSimRun}
 use Rattle.qp_gen.specs.Made.{IsMade}
 use Rattle.qp_run.specs.declared.status.Status.{Status}
 use Rattle.qp_run.specs.declared.status.Status.TheVariants.{Memory}
+use Rattle.qp_commands.specs.declared.values.Kernel.{Kernel}
+use Rattle.qp_commands.specs.declared.values.Kernel.TheVariants.{Sim, Qv}
 use Rattle.qp_commands.specs.declared.values.Output.{Output}
 use Rattle.qp_commands.specs.declared.values.Output.TheVariants.{Whole, Summary}
 use Rattle.qp_run.specs.Conversions.{IsWrittenAs, written}
 use Rattle.qp_run.specs.Endings.{ending_of}
+
+-- a journal that a run of this system and these stimuli may leave under this kernel with this budget
+abbrev pub IsRunUnder : Kernel → System → List (List Stim) → ℕ → Journal → Type 0
+IsRunUnder Sim sys sources budget j = IsSimRun sys sources budget j
+IsRunUnder Qv sys sources budget j = IsQvRun sys sources budget j
 
 -- what is printed of a journal: the whole of it in this form, or the lines of its summary one after another
 unfoldable pub IsPrintOf : Output → ℕ → System → Journal → List ℕ → Type 0
@@ -23,19 +30,19 @@ IsPrintOf Summary form sys j whole = (lines : List (List ℕ)) × IsSummary sys 
 unfoldable pub PrintsOf : Output → ℕ → System → Journal → Status → List ℕ → Type 0
 PrintsOf output form sys j answer whole = (answer ≡ ending_of j) × IsPrintOf output form sys j whole
 
--- what is printed of a run of this system and these stimuli under `sim` with this budget, and the answer with it
-unfoldable pub PrintsRun : System → List (List Stim) → ℕ → Output → ℕ → Status → List ℕ → Type 0
-PrintsRun sys sources budget output form answer whole =
-    (j : Journal) × IsSimRun sys sources budget j × PrintsOf output form sys j answer whole
+-- what is printed of a run of this system and these stimuli under this kernel with this budget, and the answer with it
+unfoldable pub PrintsRun : System → List (List Stim) → Kernel → ℕ → Output → ℕ → Status → List ℕ → Type 0
+PrintsRun sys sources kernel budget output form answer whole =
+    (j : Journal) × IsRunUnder kernel sys sources budget j × PrintsOf output form sys j answer whole
 
 -- the budget of what a number makes
 abbrev pub made_budget : ℕ
 made_budget = 100000
 
--- what is printed of the run of the system and the stimuli that a number makes: the summary
+-- what is printed of the run under `sim` of the system and the stimuli that a number makes: the summary
 unfoldable pub PrintsMade : ℕ → Status → List ℕ → Type 0
 PrintsMade n answer whole =
-    (sys : System) × (sources : List (List Stim)) × IsMade n sys sources × PrintsRun sys sources made_budget Summary 1 answer whole
+    (sys : System) × (sources : List (List Stim)) × IsMade n sys sources × PrintsRun sys sources Sim made_budget Summary 1 answer whole
 
 -- such bytes were written with their answer, or a part of them; or memory was refused before anything was
 unfoldable pub IsPrinted : (Status → List ℕ → Type 0) → (old new : Option (List ℕ)) → (faults faults' : ℕ) → Status → Type 0

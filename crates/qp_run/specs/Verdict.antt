@@ -6,12 +6,13 @@ use Rattle.qp_model.specs.declared.journals.Journal as journal
 use Rattle.qp_model.specs.declared.stimulus.Stim.{Stim}
 use Rattle.qp_model.specs.declared.systems.System.{System}
 use Rattle.qp_gen.specs.Made.{IsMade}
-use Rattle.qp_simulation.specs.SimRun.{IsSimRun}
 use Rattle.qp_stim.specs.Stimuli.{Fault, stimuli_of}
 use Rattle.qp_system.specs.SystemOf.{IsSystemOf}
 use Rattle.qp_run.specs.declared.place.Place.TheVariants.{Line}
 use Rattle.qp_run.specs.declared.status.Status.{Status}
 use Rattle.qp_run.specs.declared.status.Status.TheVariants.{Done, Words, Absent, TooLong, Refused, Asserted, Spent, Memory, ReadFault, WriteFault}
+use Rattle.qp_commands.specs.declared.values.Kernel.{Kernel}
+use Rattle.qp_commands.specs.declared.values.Kernel.TheVariants.{Sim}
 use Rattle.qp_commands.specs.declared.values.Kind.{Kind}
 use Rattle.qp_commands.specs.declared.values.Kind.TheVariants.{Frames, Journal as Text}
 use Rattle.qp_commands.specs.declared.values.Output.{Output}
@@ -20,44 +21,44 @@ use Rattle.qp_run.specs.Checks.{IsChecked, Judges, JudgesFiles}
 use Rattle.qp_run.specs.Endings.{ending_of}
 use Rattle.qp_run.specs.Loads.{EndsAtLoad, IsLoaded}
 use Rattle.qp_run.specs.Notes.{file_of, line_of, names_file}
-use Rattle.qp_run.specs.Printed.{PrintsMade, PrintsRun, made_budget}
+use Rattle.qp_run.specs.Printed.{IsRunUnder, PrintsMade, PrintsRun, made_budget}
 use Rattle.qp_run.specs.Refusals.{RefusesFirst}
 use Rattle.qp_commands.specs.WordTable.{Asked, CheckWords, check, decode, generate, migrate, number_of_form, operand_in, run}
 use Rattle.qp_text.specs.TextLaw.{IsWritable}
 
 -- the answer on a run of this system and these stimuli: what the records of a journal that such a run may leave say
-abbrev pub EndsRun : System → List (List Stim) → ℕ → Status → Type 0
-EndsRun sys sources budget answer = (j : journal.Journal) × IsSimRun sys sources budget j × (answer ≡ ending_of j)
+abbrev pub EndsRun : System → List (List Stim) → Kernel → ℕ → Status → Type 0
+EndsRun sys sources kernel budget answer = (j : journal.Journal) × IsRunUnder kernel sys sources budget j × (answer ≡ ending_of j)
 
 -- the answer by what the stimuli's file says
-abbrev pub AnswersSources : System → ℕ → Result (List (List Stim)) Fault → Status → Type 0
-AnswersSources sys budget (Err fault) answer = answer ≡ Refused 2 fault.code (Line fault.line)
-AnswersSources sys budget (Ok sources) answer = EndsRun sys sources budget answer
+abbrev pub AnswersSources : System → Kernel → ℕ → Result (List (List Stim)) Fault → Status → Type 0
+AnswersSources sys kernel budget (Err fault) answer = answer ≡ Refused 2 fault.code (Line fault.line)
+AnswersSources sys kernel budget (Ok sources) answer = EndsRun sys sources kernel budget answer
 
 -- the answer from the stimuli's file on
-abbrev pub AnswersStimuli : Option (List ℕ) → System → ℕ → Status → Type 0
-AnswersStimuli held sys budget answer =
-    EndsAtLoad 2 held answer ⊎ ((bytes : List ℕ) × IsLoaded held bytes × AnswersSources sys budget (stimuli_of sys bytes) answer)
+abbrev pub AnswersStimuli : Option (List ℕ) → System → Kernel → ℕ → Status → Type 0
+AnswersStimuli held sys kernel budget answer =
+    EndsAtLoad 2 held answer ⊎ ((bytes : List ℕ) × IsLoaded held bytes × AnswersSources sys kernel budget (stimuli_of sys bytes) answer)
 
 -- the answer from the content of the system's file on
-abbrev pub AnswersSystem : List ℕ → Option (List ℕ) → ℕ → Status → Type 0
-AnswersSystem bytes stimuli budget answer =
-    RefusesFirst bytes answer ⊎ ((sys : System) × IsSystemOf bytes sys × AnswersStimuli stimuli sys budget answer)
+abbrev pub AnswersSystem : List ℕ → Option (List ℕ) → Kernel → ℕ → Status → Type 0
+AnswersSystem bytes stimuli kernel budget answer =
+    RefusesFirst bytes answer ⊎ ((sys : System) × IsSystemOf bytes sys × AnswersStimuli stimuli sys kernel budget answer)
 
 -- the answer from the system's file on
-unfoldable pub AnswersFiles : (system stimuli : Option (List ℕ)) → ℕ → Status → Type 0
+unfoldable pub AnswersFiles : (system stimuli : Option (List ℕ)) → Kernel → ℕ → Status → Type 0
 unfolding stimuli_of ending_of
-AnswersFiles system stimuli budget answer =
-    EndsAtLoad 1 system answer ⊎ ((bytes : List ℕ) × IsLoaded system bytes × AnswersSystem bytes stimuli budget answer)
+AnswersFiles system stimuli kernel budget answer =
+    EndsAtLoad 1 system answer ⊎ ((bytes : List ℕ) × IsLoaded system bytes × AnswersSystem bytes stimuli kernel budget answer)
 
 -- the answer on a run of what a number makes
 unfoldable pub EndsMade : ℕ → Status → Type 0
-EndsMade n answer = (sys : System) × (sources : List (List Stim)) × IsMade n sys sources × EndsRun sys sources made_budget answer
+EndsMade n answer = (sys : System) × (sources : List (List Stim)) × IsMade n sys sources × EndsRun sys sources Sim made_budget answer
 
 -- the answer to what a call asks for; words that ask for nothing are answered at once
 abbrev pub AnswersCall : Held → Option Asked → Status → Type 0
 AnswersCall held None answer = answer ≡ Words
-AnswersCall held (Some (run w)) answer = AnswersFiles (held w.system) (held w.stimuli) w.budget answer
+AnswersCall held (Some (run w)) answer = AnswersFiles (held w.system) (held w.stimuli) w.kernel w.budget answer
 AnswersCall held (Some (decode frames)) answer = AnswersJournal Frames decode_on (held frames) answer
 AnswersCall held (Some (migrate w)) answer = AnswersJournal w.from (migrate_on (number_of_form w.to)) (held w.file) answer
 AnswersCall held (Some (check w)) answer = JudgesFiles (held w.system) (held w.stimuli) (held w.journal) answer
@@ -80,16 +81,16 @@ is_failure answer = false
 abbrev pub Agrees : Held → Option Asked → Status → Type 0
 Agrees held asked answer = (is_failure answer ≡ true) ⊎ IsAnswer held asked answer
 
-abbrev pub AgreesFiles : (system stimuli : Option (List ℕ)) → ℕ → Status → Type 0
-AgreesFiles system stimuli budget answer = (is_failure answer ≡ true) ⊎ AnswersFiles system stimuli budget answer
+abbrev pub AgreesFiles : (system stimuli : Option (List ℕ)) → Kernel → ℕ → Status → Type 0
+AgreesFiles system stimuli kernel budget answer = (is_failure answer ≡ true) ⊎ AnswersFiles system stimuli kernel budget answer
 
 -- a file was not loaded
 abbrev pub FailsToLoad : ℕ → Option (List ℕ) → Status → Type 0
 FailsToLoad file held answer = (is_failure answer ≡ true) ⊎ EndsAtLoad file held answer
 
 -- a failure, or else the answer on files that the shelf tells: of a run, a conversion or a judgement
-abbrev pub AgreesRun : Option Held → (system stimuli : List ℕ) → ℕ → Status → Type 0
-AgreesRun held system stimuli budget answer = IfSome held (λ h. AgreesFiles (h system) (h stimuli) budget answer)
+abbrev pub AgreesRun : Option Held → (system stimuli : List ℕ) → Kernel → ℕ → Status → Type 0
+AgreesRun held system stimuli kernel budget answer = IfSome held (λ h. AgreesFiles (h system) (h stimuli) kernel budget answer)
 
 abbrev pub AgreesJournal : Option Held → Kind → (journal.Journal → Status) → List ℕ → Status → Type 0
 AgreesJournal held kind on name answer = IfSome held (λ h. (is_failure answer ≡ true) ⊎ AnswersJournal kind on (h name) answer)
@@ -100,13 +101,13 @@ JudgesCall held w answer = IfSome held (λ h. JudgesFiles (h w.system) (h w.stim
 abbrev pub AgreesCheck : Option Held → CheckWords → Status → Type 0
 AgreesCheck held w answer = IfSome held (λ h. (is_failure answer ≡ true) ⊎ JudgesFiles (h w.system) (h w.stimuli) (h w.journal) answer)
 
--- both are answers on runs of one system, its stimuli and a budget
-abbrev pub EndRuns : ℕ → (a b : Status) → Type 0
-EndRuns budget a b = (sys : System) × (sources : List (List Stim)) × EndsRun sys sources budget a × EndsRun sys sources budget b
+-- both are answers on runs of one system and its stimuli, under one kernel with one budget
+abbrev pub EndRuns : Kernel → ℕ → (a b : Status) → Type 0
+EndRuns kernel budget a b = (sys : System) × (sources : List (List Stim)) × EndsRun sys sources kernel budget a × EndsRun sys sources kernel budget b
 
 abbrev pub MayDiffer : Option Asked → (a b : Status) → Type 0
-MayDiffer (Some (run w)) a b = EndRuns w.budget a b
-MayDiffer (Some (generate n)) a b = EndRuns made_budget a b
+MayDiffer (Some (run w)) a b = EndRuns w.kernel w.budget a b
+MayDiffer (Some (generate n)) a b = EndRuns Sim made_budget a b
 MayDiffer _ a b = ⊥
 
 -- No call over files has two answers, but for a call that runs: there the words and files leave one refusal, or else one system with its
@@ -193,14 +194,15 @@ pub record IsInput (held : Option Held) (system_name stimuli_name : List ℕ) (s
   pub stimuli_read : stimuli_of sys stimuli ≡ Ok sources
 
 -- the output of a run, and the answer with it: what is printed of a run of the system and the stimuli of two files
-abbrev pub IsRun : Option Held → (system_name stimuli_name : List ℕ) → ℕ → Output → ℕ → Status → List ℕ → Type 0
-IsRun held system_name stimuli_name budget output form answer whole =
-    (sys : System) × (sources : List (List Stim)) × IsInput held system_name stimuli_name sys sources × PrintsRun sys sources budget output form answer whole
+abbrev pub IsRun : Option Held → (system_name stimuli_name : List ℕ) → Kernel → ℕ → Output → ℕ → Status → List ℕ → Type 0
+IsRun held system_name stimuli_name kernel budget output form answer whole =
+    (sys : System) × (sources : List (List Stim)) × IsInput held system_name stimuli_name sys sources
+    × PrintsRun sys sources kernel budget output form answer whole
 
 -- the whole output of a call that is answered so
 abbrev pub IsOutput : Option Held → Option Asked → Status → List ℕ → Type 0
 IsOutput held None answer whole = ⊥
-IsOutput held (Some (run w)) answer whole = IsRun held w.system w.stimuli w.budget w.out (number_of_form w.form) answer whole
+IsOutput held (Some (run w)) answer whole = IsRun held w.system w.stimuli w.kernel w.budget w.out (number_of_form w.form) answer whole
 IsOutput held (Some (decode frames)) answer whole = WhenDone (IsDecoded held frames) answer whole
 IsOutput held (Some (migrate w)) answer whole = WhenDone (IsMigrated held w.file w.from (number_of_form w.to)) answer whole
 IsOutput held (Some (check w)) answer whole = WhenDone (IsChecked held w) answer whole
@@ -229,12 +231,12 @@ EndsJudging system stimuli held n answer =
     → (HasRisen n.reads → ⊥) → (HasRisen n.out → ⊥) → (HasRisen n.notes → ⊥) → Judges sys sources j answer ⊎ (answer ≡ Memory)
 
 -- two files that the shelf tells have a system and its stimuli, and are run
-unfoldable pub EndsRunning : (system stimuli : Option (List ℕ)) → ℕ → Counts → Status → Type 0
+unfoldable pub EndsRunning : (system stimuli : Option (List ℕ)) → Kernel → ℕ → Counts → Status → Type 0
 unfolding stimuli_of ending_of
-EndsRunning system stimuli budget n answer =
+EndsRunning system stimuli kernel budget n answer =
     (bytes text : List ℕ) (sys : System) (sources : List (List Stim))
     → IsLoaded system bytes → IsSystemOf bytes sys → IsLoaded stimuli text → stimuli_of sys text ≡ Ok sources
-    → (HasRisen n.reads → ⊥) → (HasRisen n.out → ⊥) → (HasRisen n.notes → ⊥) → EndsRun sys sources budget answer ⊎ (answer ≡ Memory)
+    → (HasRisen n.reads → ⊥) → (HasRisen n.out → ⊥) → (HasRisen n.notes → ⊥) → EndsRun sys sources kernel budget answer ⊎ (answer ≡ Memory)
 
 -- what a number makes is run
 abbrev pub EndsMaking : ℕ → Counts → Status → Type 0
@@ -245,7 +247,7 @@ EndsMaking number n answer =
 -- each journal is judged, and what a number makes is run
 abbrev pub EndsCall : Held → Option Asked → Counts → Status → Type 0
 EndsCall held None n answer = Ends n Words answer
-EndsCall held (Some (run w)) n answer = EndsRunning (held w.system) (held w.stimuli) w.budget n answer
+EndsCall held (Some (run w)) n answer = EndsRunning (held w.system) (held w.stimuli) w.kernel w.budget n answer
 EndsCall held (Some (decode frames)) n answer = EndsOnJournal (held frames) Frames decode_on n answer
 EndsCall held (Some (migrate w)) n answer = EndsOnJournal (held w.file) w.from (migrate_on (number_of_form w.to)) n answer
 EndsCall held (Some (check w)) n answer = EndsJudging (held w.system) (held w.stimuli) (held w.journal) n answer

@@ -8,9 +8,9 @@ ghost use Rattle.qp_stim.specs.Rules.{StimuliFit};
 ghost use Rattle.qp_summary.specs.Written.{HasStimuli};
 ghost use Rattle.qp_run.specs.Conversions.{PrintsOne};
 ghost use Rattle.qp_run.specs.Endings.{ending_of};
-ghost use Rattle.qp_run.specs.Printed.{IsPrinted, PrintsMade, PrintsOf, PrintsRun};
+ghost use Rattle.qp_run.specs.Printed.{IsPrinted, IsRunUnder, PrintsMade, PrintsOf, PrintsRun};
 ghost use Rattle.qp_run.specs.Verdict.{AgreesRun, Count, EndsMade, HasCause, IsInput, IsRun, count_of, is_failure, is_refusal, quiet, reads_of, writes_of};
-ghost use Rattle.qp_commands.specs.WordTable.{number_of_form};
+ghost use Rattle.qp_commands.specs.WordTable.{is_form_of, number_of_form};
 ghost use Rattle.qp_run.specs.declared.status.Status.{Status};
 ghost use Rattle.qp_commands.specs.declared.values.Output.TheVariants.{Summary};
 
@@ -18,12 +18,12 @@ use crate::conversions::write;
 use crate::loading::load;
 use crate::reading::{stimuli_in, system_in};
 use crate::status::Status;
-use qp_base::{Shelf, Sink};
-use qp_commands::{Form, Output};
+use qp_base::{Memory, Shelf, Sink};
+use qp_commands::{Form, Kernel, Output};
 use qp_gen::generate;
 use qp_model::{Journal, Stimuli, System};
 use qp_outcome::outcome_of;
-use qp_simulation::run_sim;
+use qp_simulation::{run_qv, run_sim};
 use qp_summary::{SummaryFault, write_summary};
 use std::alloc::Global;
 use std::sync::Wait;
@@ -81,10 +81,32 @@ fn print<O: Sink>(
     }
 }
 
+/// Runs a system on its stimuli under this kernel.
+fn run_under<R: Wait>(
+    rt: &R,
+    alloc: Global,
+    kernel: Kernel,
+    system: &System,
+    stimuli: &Stimuli,
+    budget: u32,
+) -> Result<Journal, Memory>
+    requires sound { IsSound system.now }
+    requires fit { StimuliFit system.now stimuli.now }
+    requires some { 0 < budget }
+    requires few { budget ≤ 1000000 }
+    ensures { IfOk result (λ journal. IsRunUnder kernel system.now stimuli.now budget journal) }
+{
+    match kernel {
+        Kernel::Sim => run_sim(rt, alloc, system, stimuli, budget),
+        Kernel::Qv => run_qv(rt, alloc, system, stimuli, budget),
+    }
+}
+
 /// Runs a system on its stimuli, and prints what is asked for.
 fn run_and_print<R: Wait, O: Sink>(
     rt: &R,
     alloc: Global,
+    kernel: Kernel,
     system: &System,
     stimuli: &Stimuli,
     budget: u32,
@@ -96,10 +118,11 @@ fn run_and_print<R: Wait, O: Sink>(
     requires fit { StimuliFit system.now stimuli.now }
     requires some { 0 < budget }
     requires few { budget ≤ 1000000 }
-    ensures { IsPrinted (PrintsRun system.now stimuli.now budget output (number_of_form form))
+    requires form { is_form_of kernel form ≡ true }
+    ensures { IsPrinted (PrintsRun system.now stimuli.now kernel budget output (number_of_form form))
         (O.written out.old) (O.written out.new) (O.faults out.old) (O.faults out.new) result }
 {
-    match run_sim(rt, alloc, system, stimuli, budget) {
+    match run_under(rt, alloc, kernel, system, stimuli, budget) {
         Ok(journal) => print(alloc, system, &journal, output, form, out),
         Err(_) => Status::Memory,
     }
@@ -123,7 +146,8 @@ fn prepare<F: Shelf>(
     ensures sound { IfOk result (λ input. IsSound input.system) }
     ensures fit { IfOk result (λ input. StimuliFit input.system input.stimuli) }
 
-    ensures told { IfErr result (λ status. (budget : ℕ) → AgreesRun (F.holds files.old) system.now stimuli.now budget status) }
+    ensures told { IfErr result (λ status. (kernel : Kernel) (budget : ℕ)
+        → AgreesRun (F.holds files.old) system.now stimuli.now kernel budget status) }
     ensures cause { IfErr result (HasCause (reads_of F.faults F.misses files.old files.new)) }
     ensures about { IfErr result (λ status. (is_refusal status ≡ true) × (status ≢ Status.Words)) }
     ensures holds { F.holds files.new ≡ F.holds files.old }
@@ -142,6 +166,7 @@ pub fn run_files<R: Wait, F: Shelf, O: Sink>(
     files: &mut F,
     system: &str,
     stimuli: &str,
+    kernel: Kernel,
     budget: u32,
     output: Output,
     form: Form,
@@ -149,10 +174,11 @@ pub fn run_files<R: Wait, F: Shelf, O: Sink>(
 ) -> Status
     requires some { 0 < budget }
     requires few { budget ≤ 1000000 }
-    ensures told { AgreesRun (F.holds files.old) system.now stimuli.now budget result }
+    requires form { is_form_of kernel form ≡ true }
+    ensures told { AgreesRun (F.holds files.old) system.now stimuli.now kernel budget result }
     ensures about { result ≢ Status.Words }
     ensures cause { HasCause (writes_of F.faults F.misses O.faults files.old files.new out.old out.new) result }
-    ensures out { PrintsOne (IsRun (F.holds files.old) system.now stimuli.now budget output (number_of_form form))
+    ensures out { PrintsOne (IsRun (F.holds files.old) system.now stimuli.now kernel budget output (number_of_form form))
         (O.written out.old) (O.written out.new) result }
     ensures holds { F.holds files.new ≡ F.holds files.old }
 {
@@ -160,6 +186,7 @@ pub fn run_files<R: Wait, F: Shelf, O: Sink>(
         Ok(input) => run_and_print(
             rt,
             alloc,
+            kernel,
             &input.system,
             &input.stimuli,
             budget,
@@ -174,7 +201,7 @@ pub fn run_files<R: Wait, F: Shelf, O: Sink>(
 /// The budget of a run of what a number makes.
 const MADE_BUDGET: u32 = 100_000;
 
-/// Runs the system and the stimuli that a number makes, and prints the summary.
+/// Runs the system and the stimuli that a number makes under `sim`, and prints the summary.
 pub fn run_made<R: Wait, O: Sink>(rt: &R, alloc: Global, number: u32, out: &mut O) -> Status
     requires some { 1 ≤ number }
     requires few { number ≤ 1000 }
@@ -188,6 +215,7 @@ pub fn run_made<R: Wait, O: Sink>(rt: &R, alloc: Global, number: u32, out: &mut 
         Ok((system, stimuli)) => run_and_print(
             rt,
             alloc,
+            Kernel::Sim,
             &system,
             &stimuli,
             MADE_BUDGET,

@@ -12,7 +12,7 @@ use crate::conversions::{decode, migrate};
 use crate::runs::{run_files, run_made};
 use crate::status::Status;
 use qp_base::{Gate, Shelf, Sink};
-use qp_commands::{Command, Kernel, command_of};
+use qp_commands::{Command, command_of};
 use std::alloc::{AllocError, Global};
 use std::sync::Wait;
 
@@ -33,14 +33,14 @@ fn carry_out<R: Wait, F: Shelf, O: Sink>(
 {
     match command {
         Command::Run {
-            kernel: Kernel::Sim,
+            kernel,
             budget,
             out: output,
             form,
             system,
             stimuli,
         } => run_files(
-            rt, alloc, files, system, stimuli, *budget, *output, *form, out,
+            rt, alloc, files, system, stimuli, *kernel, *budget, *output, *form, out,
         ),
         Command::Decode { frames } => decode(alloc, files, frames, out),
         Command::Migrate { from, to, file } => migrate(alloc, files, *from, *to, file, out),

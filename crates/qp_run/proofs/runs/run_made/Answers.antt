@@ -1,4 +1,5 @@
 use Rattle.qp_run.specs.Printed.{made_budget}
+use Rattle.qp_commands.specs.declared.values.Kernel.TheVariants.{Sim}
 use Rattle.qp_commands.specs.declared.values.Output.TheVariants.{Summary}
 use Rattle.qp_run.proofs.PrintedLemmas.{made-printed, made-told, run-about, run-cause}
 use Rattle.qp_run.proofs.runs.run_made.Goals as goal
@@ -9,11 +10,11 @@ returns-in-Ok-clause-told g c =
 
 pub returns-in-Ok-clause-about : goal.returns-in-Ok-clause-about
 returns-in-Ok-clause-about g c =
-    run-about c.in-Ok.system c.in-Ok.stimuli made_budget Summary 1 _ _ _ _ c.run_and_print.result c.run_and_print.ensures
+    run-about c.in-Ok.system c.in-Ok.stimuli Sim made_budget Summary 1 _ _ _ _ c.run_and_print.result c.run_and_print.ensures
 
 pub returns-in-Ok-clause-cause : goal.returns-in-Ok-clause-cause
 returns-in-Ok-clause-cause g c = λ reads misses.
-    run-cause c.in-Ok.system c.in-Ok.stimuli made_budget Summary 1 _ _ _ _ c.run_and_print.result c.run_and_print.ensures reads misses
+    run-cause c.in-Ok.system c.in-Ok.stimuli Sim made_budget Summary 1 _ _ _ _ c.run_and_print.result c.run_and_print.ensures reads misses
 
 pub returns-in-Ok-clause-out : goal.returns-in-Ok-clause-out
 returns-in-Ok-clause-out g c =

@@ -1,10 +1,10 @@
+use Rattle.qp_model.proofs.ListLemmas.{both_true}
 use Rattle.qp_commands.proofs.LimitLemmas.{limit-few, limit-some}
 use Rattle.qp_run.proofs.VerdictLemmas.{agrees-check, agrees-decode, agrees-generate, agrees-migrate, agrees-run}
 use Rattle.qp_run.proofs.top.carry_out.Goals as goal
 
-pub returns-in-Run-Sim-default-default-default-default-default-clause-told : goal.returns-in-Run-Sim-default-default-default-default-default-clause-told
-returns-in-Run-Sim-default-default-default-default-default-clause-told g c =
-    rw c.in-Run-Sim-default-default-default-default-default.is (agrees-run _ _ _ c.run_files.ensures.told)
+pub returns-in-Run-clause-told : goal.returns-in-Run-clause-told
+returns-in-Run-clause-told g c = rw c.in-Run.is (agrees-run _ _ _ c.run_files.ensures.told)
 
 pub returns-in-Decode-clause-told : goal.returns-in-Decode-clause-told
 returns-in-Decode-clause-told g c = rw c.in-Decode.is (agrees-decode _ _ _ c.decode.ensures.told)
@@ -16,13 +16,16 @@ pub returns-in-Check-clause-told : goal.returns-in-Check-clause-told
 returns-in-Check-clause-told g c = rw c.in-Check.is (agrees-check _ _ _ c.check_files.ensures.told)
 
 pub run_files-requires-clause-some : goal.run_files-requires-clause-some
-run_files-requires-clause-some g c = limit-some 1000000 _ (rw c.in-Run-Sim-default-default-default-default-default.is at c.requires)
+run_files-requires-clause-some g c = limit-some 1000000 _ (both_true _ _ (rw c.in-Run.is at c.requires)).0
 
 pub run_files-requires-clause-few : goal.run_files-requires-clause-few
-run_files-requires-clause-few g c = limit-few 1000000 _ (rw c.in-Run-Sim-default-default-default-default-default.is at c.requires)
+run_files-requires-clause-few g c = limit-few 1000000 _ (both_true _ _ (rw c.in-Run.is at c.requires)).0
 
-pub returns-in-Run-Sim-default-default-default-default-default-clause-out : goal.returns-in-Run-Sim-default-default-default-default-default-clause-out
-returns-in-Run-Sim-default-default-default-default-default-clause-out g c = rw c.in-Run-Sim-default-default-default-default-default.is c.run_files.ensures.out
+pub run_files-requires-clause-form : goal.run_files-requires-clause-form
+run_files-requires-clause-form g c = (both_true _ _ (rw c.in-Run.is at c.requires)).1
+
+pub returns-in-Run-clause-out : goal.returns-in-Run-clause-out
+returns-in-Run-clause-out g c = rw c.in-Run.is c.run_files.ensures.out
 
 pub returns-in-Decode-clause-out : goal.returns-in-Decode-clause-out
 returns-in-Decode-clause-out g c = rw c.in-Decode.is c.decode.ensures.out
