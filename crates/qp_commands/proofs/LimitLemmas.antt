@@ -1,5 +1,5 @@
 -- The numbers of a call are in their limits: a budget from 1 to 1,000,000, and what is made from 1 to 1,000.
-use Rattle.std.proofs.Common.{◌≡◌, ℕ, Bool, true, false, ◌&&◌, cond, nat_le, codes, List, [], ◌∷◌, Option, Some, None, option_and_then, refl, sym, ◌<◌, ◌≤◌, arith}
+use Rattle.std.proofs.Common.{◌≡◌, ℕ, Bool, true, false, ◌&&◌, cond, nat_le, codes, List, [], ◌∷◌, Option, Some, None, option_and_then, option_map, refl, sym, ◌<◌, ◌≤◌, arith}
 use Rattle.std.specs.Prelude.{IfSome}
 use Rattle.std.specs.Str.{bytes_eq}
 use Rattle.std.proofs.lemmas.Bool.Decides.{nat_tests}
@@ -11,7 +11,7 @@ use Rattle.qp_commands.specs.declared.values.Output.{Output}
 use Rattle.qp_commands.specs.declared.values.Kind.{Kind}
 use Rattle.qp_commands.specs.declared.values.Form.{Form}
 use Rattle.qp_commands.specs.declared.values.Form.TheVariants.{Two}
-use Rattle.qp_commands.specs.WordTable.{Asked, asked_by, budget_in, check_app, check_in, check_with, command_in, decode_app, decode_in, decode_with, default_form, form_fit, form_in, form_under, found_in, generate_app, generate_in, generate_with, is_form_of, is_in_limits, kernel_in, kind_in, made_in, migrate_app, migrate_in, migrate_with, output_in, run_app, run_in, run_with, within}
+use Rattle.qp_commands.specs.WordTable.{Asked, CheckWords, asked_by, budget_in, check, command_in, decode_app, decode_in, decode_with, default_form, files_app, files_in, form_fit, form_in, form_under, found_in, generate_app, generate_in, generate_with, is_form_of, is_in_limits, kernel_in, kind_in, made_in, migrate_app, migrate_in, migrate_with, output_in, replay, run_app, run_in, run_with, within}
 
 is_to : ℕ → ℕ → Bool
 is_to most n = nat_le 1 n && nat_le n most
@@ -87,12 +87,15 @@ migrate-has (Some k) None file = tt
 migrate-has (Some k) (Some f) None = tt
 migrate-has (Some k) (Some f) (Some file) = refl
 
-check-has : (s t j : Option Text) → InLimits (check_with s t j)
-unfolding check_with InLimits
-check-has None t j = tt
-check-has (Some s) None j = tt
-check-has (Some s) (Some t) None = tt
-check-has (Some s) (Some t) (Some j) = refl
+check-has : (o : Option CheckWords) → InLimits (option_map check o)
+unfolding InLimits
+check-has None = tt
+check-has (Some w) = refl
+
+replay-has : (o : Option CheckWords) → InLimits (option_map replay o)
+unfolding InLimits
+replay-has None = tt
+replay-has (Some w) = refl
 
 generate-has : (n : Option ℕ) → IfSome n (λ n. is_to 1000 n ≡ true) → InLimits (generate_with n)
 unfolding generate_with is_to InLimits
@@ -119,8 +122,9 @@ asked-has word words =
     (then-has run_in (λ rows. run-has (kernel_in (first_of (codes "kernel") rows)) _ (output_in (first_of (codes "out") rows)) (first_of (codes "form") rows) _ _ (budget-within (first_of (codes "budget") rows))) (found_in run_app words))
     (if-has (bytes_eq word (codes "decode")) _ _ (then-has decode_in (λ rows. decode-has (first_of (codes "frames") rows)) (found_in decode_app words))
     (if-has (bytes_eq word (codes "migrate")) _ _ (then-has migrate_in (λ rows. migrate-has (kind_in (first_of (codes "from") rows)) (form_in Two (first_of (codes "to") rows)) _) (found_in migrate_app words))
-    (if-has (bytes_eq word (codes "check")) _ _ (then-has check_in (λ rows. check-has (first_of (codes "system") rows) _ _) (found_in check_app words))
-    (if-has (bytes_eq word (codes "gen")) _ _ (then-has generate_in (λ rows. generate-has (made_in (first_of (codes "number") rows)) (made-within (first_of (codes "number") rows))) (found_in generate_app words)) none-has))))
+    (if-has (bytes_eq word (codes "check")) _ _ (check-has (option_and_then files_in (found_in (files_app (codes "check")) words)))
+    (if-has (bytes_eq word (codes "replay")) _ _ (replay-has (option_and_then files_in (found_in (files_app (codes "replay")) words)))
+    (if-has (bytes_eq word (codes "gen")) _ _ (then-has generate_in (λ rows. generate-has (made_in (first_of (codes "number") rows)) (made-within (first_of (codes "number") rows))) (found_in generate_app words)) none-has)))))
 
 -- what words ask for is in its limits
 command-has : (words : List Text) → InLimits (command_in words)

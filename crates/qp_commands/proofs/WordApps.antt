@@ -5,7 +5,7 @@ use Rattle.clap.specs.declared.builder.arg.Arg.{Arg}
 use Rattle.clap.specs.declared.builder.command.Command.{Command}
 use Rattle.clap.specs.declared.error.kind.ErrorKind.{ErrorKind}
 use Rattle.clap.specs.declared.parser.matches.ArgMatches.{ArgMatches}
-use Rattle.qp_commands.specs.WordTable.{check_app, decode_app, found_in, generate_app, migrate_app, rows_unless, run_app}
+use Rattle.qp_commands.specs.WordTable.{decode_app, files_app, found_in, generate_app, migrate_app, rows_unless, run_app}
 
 -- a command with one argument more
 pub app-arg : (old new : Command) (a : Arg) (app : App) (rule : Rule) → AddsArg old a new → a.global ≡ false
@@ -47,9 +47,9 @@ pub migrate-simple : is_simple_and_free migrate_app ≡ true
 unfolding migrate_app
 migrate-simple = refl
 
-pub check-simple : is_simple_and_free check_app ≡ true
-unfolding check_app
-check-simple = refl
+pub files-simple : (word : Text) → is_simple_and_free (files_app word) ≡ true
+unfolding files_app
+files-simple word = refl
 
 pub generate-simple : is_simple_and_free generate_app ≡ true
 unfolding generate_app

@@ -1,5 +1,5 @@
 -- Calls with names as their operands.
-use Rattle.std.proofs.Common.{◌≡◌, ◌∙◌, ◌++◌, ◌<◌, ◌==◌, arith, ap, ap₂, codes, decimal, fold, get_or, refl, sym, List, [], ◌∷◌, Bool, true, false, not, None, Some, option_and_then}
+use Rattle.std.proofs.Common.{◌≡◌, ◌∙◌, ◌++◌, ◌<◌, ◌==◌, arith, ap, ap₂, codes, decimal, fold, get_or, refl, sym, List, [], ◌∷◌, Bool, true, false, not, None, Some, option_and_then, option_map}
 use Rattle.std.proofs.lemmas.Fmt.{first_decimal}
 use Rattle.std.proofs.lemmas.Bool.{eqb-true, le-leb}
 use Rattle.std.specs.Fmt.{digits}
@@ -20,8 +20,8 @@ use Rattle.qp_commands.specs.declared.values.Output.{Output}
 use Rattle.qp_commands.specs.declared.values.Output.TheVariants.{Whole, Summary}
 use Rattle.qp_commands.specs.declared.values.Kind.{Kind}
 use Rattle.qp_commands.specs.declared.values.Kind.TheVariants.{Journal, Frames}
-use Rattle.qp_commands.specs.WordLaws.{BudgetWords, CheckOfNames, CooperativeWords, DecodeOfName, EachBudget, GenerateOfNumber, MigrateInFull, MigrateOfName, RefusedCalls, RunInFull, RunOfNames, is_name, word_of_form, word_of_kernel, word_of_kind, word_of_output}
-use Rattle.qp_commands.specs.WordTable.{asked_by, budget_in, check_app, check_in, check_with, command_in, decode_app, decode_in, decode_with, default_form, form_in, form_under, generate_app, generate_in, generate_with, is_form_of, kernel_in, kind_in, made_in, migrate_app, migrate_in, migrate_with, output_in, run_app, run_in, run_with}
+use Rattle.qp_commands.specs.WordLaws.{BudgetWords, CheckOfNames, CooperativeWords, DecodeOfName, EachBudget, GenerateOfNumber, MigrateInFull, MigrateOfName, RefusedCalls, ReplayOfNames, RunInFull, RunOfNames, is_name, word_of_form, word_of_kernel, word_of_kind, word_of_output}
+use Rattle.qp_commands.specs.WordTable.{asked_by, budget_in, check, check_words, command_in, decode_app, decode_in, decode_with, default_form, files_app, files_in, files_with, form_in, form_under, found_in, generate_app, generate_in, generate_with, is_form_of, kernel_in, kind_in, made_in, migrate_app, migrate_in, migrate_with, output_in, replay, run_app, run_in, run_with}
 use Rattle.qp_commands.proofs.WordNames.{found-walked, name-turn, name-walked, next_at, standing}
 
 -- ---- options, and then one name or two
@@ -128,12 +128,21 @@ one_held x = pending [] (codes "system") x
 abbrev two_held : Text → Text → Held
 two_held x y = pending (given (codes "system") x ∷ []) (codes "stimuli") y
 
+files_found : (word x y z : Text) → is_name x ≡ true → is_name y ≡ true → is_name z ≡ true
+    → option_and_then files_in (found_in (files_app word) (word ∷ x ∷ y ∷ z ∷ [])) ≡ Some (check_words x y z)
+unfolding files_app files_with walk_fault defaults_fault
+files_found word x y z name_x name_y name_z =
+    ap (option_and_then files_in) (found-walked (files_app word) (word ∷ x ∷ y ∷ z ∷ []) (next_at (built (files_app word)).top.rules (two_held x y) 3 z)
+    (three_walked (built (files_app word)).top.rules (one_held x) (two_held x y) x y z name_x name_y name_z refl refl)
+    (three_faults (built (files_app word)).top (one_held x) (two_held x y) x y z name_x name_y name_z refl refl refl refl refl))
+
 pub check-names : CheckOfNames
-unfolding check_app command_in asked_by check_with walk_fault defaults_fault
-check-names x y z name_x name_y name_z =
-    ap (option_and_then check_in) (found-walked check_app (codes "check" ∷ x ∷ y ∷ z ∷ []) (next_at (built check_app).top.rules (two_held x y) 3 z)
-    (three_walked (built check_app).top.rules (one_held x) (two_held x y) x y z name_x name_y name_z refl refl)
-    (three_faults (built check_app).top (one_held x) (two_held x y) x y z name_x name_y name_z refl refl refl refl refl))
+unfolding command_in asked_by
+check-names x y z name_x name_y name_z = ap (option_map check) (files_found (codes "check") x y z name_x name_y name_z)
+
+pub replay-names : ReplayOfNames
+unfolding command_in asked_by
+replay-names x y z name_x name_y name_z = ap (option_map replay) (files_found (codes "replay") x y z name_x name_y name_z)
 
 -- ---- all options, and names
 
@@ -305,7 +314,7 @@ migrate-full from to x name = migrate_read from to x name ∙ rw (kind_in-word f
 -- ---- calls that are refused
 
 pub calls-refused : RefusedCalls
-unfolding clap_on_literals command_in asked_by run_app decode_app migrate_app check_app generate_app run_with decode_with migrate_with check_with generate_with kernel_in budget_in made_in output_in kind_in form_in form_under digits
+unfolding clap_on_literals command_in asked_by run_app decode_app migrate_app files_app generate_app run_with decode_with migrate_with files_with generate_with kernel_in budget_in made_in output_in kind_in form_in form_under digits
 calls-refused = refl
 
 -- ---- budgets

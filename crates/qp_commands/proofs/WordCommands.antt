@@ -6,7 +6,7 @@ use Rattle.std.specs.Str.{bytes_eq}
 use Rattle.std.proofs.lemmas.Slice.Eq.{bytes_eq-Decides}
 use Rattle.clap.specs.Words.{Text}
 use Rattle.qp_commands.specs.WordLaws.{OtherWords}
-use Rattle.qp_commands.specs.WordTable.{asked_by, check_app, check_in, command_in, decode_app, decode_in, found_in, generate_app, generate_in, migrate_app, migrate_in, run_app, run_in}
+use Rattle.qp_commands.specs.WordTable.{asked_by, check_asked, command_in, decode_app, decode_in, found_in, generate_app, generate_in, migrate_app, migrate_in, replay_asked, run_app, run_in}
 
 pub command-first : (words : List (Bor Text)) (word : Bor Text) → slice_get words 0 ≡ Some word
     → command_in (map (λ w. w.now) words) ≡ asked_by word.now (map (λ w. w.now) words)
@@ -35,9 +35,14 @@ unfolding asked_by
 asked-migrate word words is = rw is refl
 
 pub asked-check : (word : Text) (words : List Text) → word ≡ codes "check"
-    → asked_by word words ≡ option_and_then check_in (found_in check_app words)
+    → asked_by word words ≡ check_asked words
 unfolding asked_by
 asked-check word words is = rw is refl
+
+pub asked-replay : (word : Text) (words : List Text) → word ≡ codes "replay"
+    → asked_by word words ≡ replay_asked words
+unfolding asked_by
+asked-replay word words is = rw is refl
 
 pub asked-generate : (word : Text) (words : List Text) → word ≡ codes "gen"
     → asked_by word words ≡ option_and_then generate_in (found_in generate_app words)
@@ -52,11 +57,18 @@ differs word other other_word = go (bytes_eq word other) refl
     go false e = refl
 
 pub asked-other : (word : Text) (words : List Text) → (word ≡ codes "run" → ⊥) → (word ≡ codes "decode" → ⊥) → (word ≡ codes "migrate" → ⊥)
-    → (word ≡ codes "check" → ⊥) → (word ≡ codes "gen" → ⊥) → asked_by word words ≡ None
+    → (word ≡ codes "check" → ⊥) → (word ≡ codes "replay" → ⊥) → (word ≡ codes "gen" → ⊥) → asked_by word words ≡ None
 unfolding asked_by
-asked-other word words run decode migrate check generate =
-    rw (differs word (codes "run") run, differs word (codes "decode") decode, differs word (codes "migrate") migrate, differs word (codes "check") check, differs word (codes "gen") generate) refl
+asked-other word words run decode migrate check replay generate =
+    rw (
+      differs word (codes "run") run,
+      differs word (codes "decode") decode,
+      differs word (codes "migrate") migrate,
+      differs word (codes "check") check,
+      differs word (codes "replay") replay,
+      differs word (codes "gen") generate,
+    ) refl
 
 pub other-words : OtherWords
 unfolding command_in
-other-words = (refl, λ word words run decode migrate check generate. asked-other word (word ∷ words) run decode migrate check generate)
+other-words = (refl, λ word words run decode migrate check replay generate. asked-other word (word ∷ words) run decode migrate check replay generate)

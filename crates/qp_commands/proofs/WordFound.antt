@@ -8,7 +8,7 @@ use Rattle.qp_commands.specs.declared.values.Kernel.{Kernel}
 use Rattle.qp_commands.specs.declared.values.Kind.{Kind}
 use Rattle.qp_commands.specs.declared.values.Output.{Output}
 use Rattle.qp_commands.specs.declared.values.Form.{Form}
-use Rattle.qp_commands.specs.WordTable.{check_with, generate_with, migrate_with, run_with}
+use Rattle.qp_commands.specs.WordTable.{files_with, generate_with, migrate_with, run_with}
 
 -- the text of an option or operand, by the rows
 pub text-rows : (f : Found) (id : Text) (text o : Option (Bor Text)) → option_map (λ s. s.now) text ≡ first_value f id → text ≡ o
@@ -77,20 +77,20 @@ migrate-no_file None f = refl
 migrate-no_file (Some k) None = refl
 migrate-no_file (Some k) (Some f) = refl
 
-pub check-no_system : (t j : Option Text) → check_with None t j ≡ None
-unfolding check_with
-check-no_system t j = refl
+pub files-no_system : (t j : Option Text) → files_with None t j ≡ None
+unfolding files_with
+files-no_system t j = refl
 
-pub check-no_stimuli : (s j : Option Text) → check_with s None j ≡ None
-unfolding check_with
-check-no_stimuli None j = refl
-check-no_stimuli (Some s) j = refl
+pub files-no_stimuli : (s j : Option Text) → files_with s None j ≡ None
+unfolding files_with
+files-no_stimuli None j = refl
+files-no_stimuli (Some s) j = refl
 
-pub check-no_journal : (s t : Option Text) → check_with s t None ≡ None
-unfolding check_with
-check-no_journal None t = refl
-check-no_journal (Some s) None = refl
-check-no_journal (Some s) (Some t) = refl
+pub files-no_journal : (s t : Option Text) → files_with s t None ≡ None
+unfolding files_with
+files-no_journal None t = refl
+files-no_journal (Some s) None = refl
+files-no_journal (Some s) (Some t) = refl
 
 pub generate-no_number : generate_with None ≡ None
 unfolding generate_with

@@ -10,7 +10,7 @@ use Rattle.qp_commands.specs.declared.values.Output.{Output}
 use Rattle.qp_commands.specs.declared.values.Output.TheVariants.{Whole, Summary}
 use Rattle.qp_commands.specs.declared.values.Form.{Form}
 use Rattle.qp_commands.specs.declared.values.Form.TheVariants.{One, Two}
-use Rattle.qp_commands.specs.WordTable.{budget_in, check, command_in, decode, generate, is_form_of, migrate, run}
+use Rattle.qp_commands.specs.WordTable.{budget_in, check, command_in, decode, generate, is_form_of, migrate, replay, run}
 
 -- the word doesn't begin with `-`
 abbrev pub is_name : Text → Bool
@@ -38,6 +38,12 @@ CheckOfNames = (system stimuli journal : Text) → is_name system ≡ true → i
     → command_in (codes "check" ∷ system ∷ stimuli ∷ journal ∷ [])
     ≡ Some (check (record { system = system; stimuli = stimuli; journal = journal }))
 
+-- and they are a replay
+abbrev pub ReplayOfNames : Type 0
+ReplayOfNames = (system stimuli journal : Text) → is_name system ≡ true → is_name stimuli ≡ true → is_name journal ≡ true
+    → command_in (codes "replay" ∷ system ∷ stimuli ∷ journal ∷ [])
+    ≡ Some (replay (record { system = system; stimuli = stimuli; journal = journal }))
+
 -- each number is asked for by its decimal
 abbrev pub GenerateOfNumber : Type 0
 GenerateOfNumber = (n : ℕ) → 1 ≤ n → n ≤ 1000 → command_in (codes "gen" ∷ decimal n ∷ []) ≡ Some (generate n)
@@ -46,7 +52,7 @@ GenerateOfNumber = (n : ℕ) → 1 ≤ n → n ≤ 1000 → command_in (codes "g
 abbrev pub OtherWords : Type 0
 OtherWords = (command_in [] ≡ None)
     × ((word : Text) (words : List Text) → word ≢ codes "run" → word ≢ codes "decode" → word ≢ codes "migrate" → word ≢ codes "check"
-    → word ≢ codes "gen" → command_in (word ∷ words) ≡ None)
+    → word ≢ codes "replay" → word ≢ codes "gen" → command_in (word ∷ words) ≡ None)
 
 abbrev pub word_of_kernel : Kernel → Text
 word_of_kernel Sim = codes "sim"
@@ -116,6 +122,8 @@ refused_calls = (codes "run" ∷ codes "a" ∷ [])
     ∷ (codes "check" ∷ codes "a" ∷ codes "b" ∷ [])
     ∷ (codes "check" ∷ codes "a" ∷ codes "b" ∷ codes "c" ∷ codes "d" ∷ [])
     ∷ (codes "check" ∷ codes "--form" ∷ codes "1" ∷ codes "a" ∷ codes "b" ∷ codes "c" ∷ [])
+    ∷ (codes "replay" ∷ codes "a" ∷ codes "b" ∷ [])
+    ∷ (codes "replay" ∷ codes "--form" ∷ codes "1" ∷ codes "a" ∷ codes "b" ∷ codes "c" ∷ [])
     ∷ (codes "gen" ∷ [])
     ∷ (codes "gen" ∷ codes "0" ∷ [])
     ∷ (codes "gen" ∷ codes "1001" ∷ [])

@@ -1,13 +1,13 @@
 -- The words of a call: a command word, and what `clap` makes of the rest.
 use Rattle.std.specs.Borrow.{Bor}
-use Rattle.std.specs.Prelude.{codes, ℕ, ◌==◌, nat_le, Bool, true, false, ◌&&◌, List, [], ◌∷◌, map, Option, None, Some, if◌then◌else◌, option_and_then}
+use Rattle.std.specs.Prelude.{codes, ℕ, ◌==◌, nat_le, Bool, true, false, ◌&&◌, List, [], ◌∷◌, map, Option, None, Some, if◌then◌else◌, option_and_then, option_map}
 use Rattle.std.specs.Str.{bytes_eq}
 use Rattle.clap.specs.Words.{App, Kinds, Row, Rule, Text, fault_of, first_of, matches_of, new_rule}
 use Rattle.clap.specs.Simple.{new_shape}
 use Rattle.clap.specs.declared.builder.action.ArgAction.TheVariants.{Set}
 use Rattle.qp_text.specs.Numbers.{number_of}
 use Rattle.qp_commands.specs.declared.asking.Command.{Command}
-use Rattle.qp_commands.specs.declared.asking.Command.TheVariants.{Run, Decode, Migrate, Check, Generate}
+use Rattle.qp_commands.specs.declared.asking.Command.TheVariants.{Run, Decode, Migrate, Check, Replay, Generate}
 use Rattle.qp_commands.specs.declared.values.Kernel.{Kernel}
 use Rattle.qp_commands.specs.declared.values.Kernel.TheVariants.{Sim, Qv}
 use Rattle.qp_commands.specs.declared.values.Kind.{Kind}
@@ -55,9 +55,9 @@ decode_app = plain_app (codes "decode") (operand (codes "frames") ∷ [])
 unfoldable pub migrate_app : App
 migrate_app = plain_app (codes "migrate") (option (codes "from") ∷ option (codes "to") ∷ operand (codes "file") ∷ [])
 
--- check SYSTEM STIMULI JOURNAL
-unfoldable pub check_app : App
-check_app = plain_app (codes "check") (operand (codes "system") ∷ operand (codes "stimuli") ∷ operand (codes "journal") ∷ [])
+-- a command of three files: SYSTEM STIMULI JOURNAL
+unfoldable pub files_app : Text → App
+files_app word = plain_app word (operand (codes "system") ∷ operand (codes "stimuli") ∷ operand (codes "journal") ∷ [])
 
 -- gen NUMBER
 unfoldable pub generate_app : App
@@ -162,6 +162,7 @@ pub data Asked : Type 0 where
   decode : Text → Asked
   migrate : MigrateWords → Asked
   check : CheckWords → Asked
+  replay : CheckWords → Asked
   generate : ℕ → Asked
 
 abbrev pub asked_of : Command → Asked
@@ -169,6 +170,7 @@ asked_of (Run k b o f system stimuli) = run (record { kernel = k; budget = b; ou
 asked_of (Decode frames) = decode frames.now
 asked_of (Migrate k f file) = migrate (record { from = k; to = f; file = file.now })
 asked_of (Check system stimuli journal) = check (record { system = system.now; stimuli = stimuli.now; journal = journal.now })
+asked_of (Replay system stimuli journal) = replay (record { system = system.now; stimuli = stimuli.now; journal = journal.now })
 asked_of (Generate n) = generate n
 
 -- a run has a budget from 1 to 1,000,000 and a form of its kernel, and what is made has a number from 1 to 1,000
@@ -177,12 +179,17 @@ is_in_limits (run w) = (nat_le 1 w.budget && nat_le w.budget 1000000) && is_form
 is_in_limits (generate n) = nat_le 1 n && nat_le n 1000
 is_in_limits _ = true
 
+-- the file at a place from 1; no text elsewhere
+abbrev pub file_at : CheckWords → ℕ → Text
+file_at w place = if place == 1 then w.system else (if place == 2 then w.stimuli else (if place == 3 then w.journal else []))
+
 -- the word of an operand, by its place from 1; no text elsewhere
 abbrev pub operand_at : Asked → ℕ → Text
 operand_at (run w) place = if place == 1 then w.system else (if place == 2 then w.stimuli else [])
 operand_at (decode frames) place = if place == 1 then frames else []
 operand_at (migrate w) place = if place == 1 then w.file else []
-operand_at (check w) place = if place == 1 then w.system else (if place == 2 then w.stimuli else (if place == 3 then w.journal else []))
+operand_at (check w) place = file_at w place
+operand_at (replay w) place = file_at w place
 operand_at (generate n) place = []
 
 abbrev pub operand_in : Option Asked → ℕ → Text
@@ -216,12 +223,12 @@ abbrev pub migrate_in : List Row → Option Asked
 migrate_in rows = migrate_with (kind_in (first_of (codes "from") rows)) (form_in Two (first_of (codes "to") rows)) (first_of (codes "file") rows)
 
 -- all three files are there
-unfoldable pub check_with : (system stimuli journal : Option Text) → Option Asked
-check_with (Some system) (Some stimuli) (Some journal) = Some (check (record { system = system; stimuli = stimuli; journal = journal }))
-check_with _ _ _ = None
+unfoldable pub files_with : (system stimuli journal : Option Text) → Option CheckWords
+files_with (Some system) (Some stimuli) (Some journal) = Some (check_words system stimuli journal)
+files_with _ _ _ = None
 
-abbrev pub check_in : List Row → Option Asked
-check_in rows = check_with (first_of (codes "system") rows) (first_of (codes "stimuli") rows) (first_of (codes "journal") rows)
+abbrev pub files_in : List Row → Option CheckWords
+files_in rows = files_with (first_of (codes "system") rows) (first_of (codes "stimuli") rows) (first_of (codes "journal") rows)
 
 unfoldable pub generate_with : Option ℕ → Option Asked
 generate_with (Some n) = Some (generate n)
@@ -241,7 +248,10 @@ abbrev pub migrate_asked : List Text → Option Asked
 migrate_asked words = option_and_then migrate_in (found_in migrate_app words)
 
 abbrev pub check_asked : List Text → Option Asked
-check_asked words = option_and_then check_in (found_in check_app words)
+check_asked words = option_map check (option_and_then files_in (found_in (files_app (codes "check")) words))
+
+abbrev pub replay_asked : List Text → Option Asked
+replay_asked words = option_map replay (option_and_then files_in (found_in (files_app (codes "replay")) words))
 
 abbrev pub generate_asked : List Text → Option Asked
 generate_asked words = option_and_then generate_in (found_in generate_app words)
@@ -253,7 +263,8 @@ asked_by word words =
     else (if bytes_eq word (codes "decode") then decode_asked words
     else (if bytes_eq word (codes "migrate") then migrate_asked words
     else (if bytes_eq word (codes "check") then check_asked words
-    else (if bytes_eq word (codes "gen") then generate_asked words else None))))
+    else (if bytes_eq word (codes "replay") then replay_asked words
+    else (if bytes_eq word (codes "gen") then generate_asked words else None)))))
 
 -- the command of a call's words, of which the first is the command word; other words have none
 unfoldable pub command_in : List Text → Option Asked

@@ -1,6 +1,6 @@
 //! The commands that `clap` reads, one for each command word.
 ghost use Rattle.std.specs.Prelude.{◌≡◌, [], true, false, option_map, IfOk};
-ghost use Rattle.qp_commands.specs.WordTable.{plain_app, operand, option, check_app, decode_app, found_in, generate_app, migrate_app, run_app, texts};
+ghost use Rattle.qp_commands.specs.WordTable.{plain_app, operand, option, decode_app, files_app, found_in, generate_app, migrate_app, run_app, texts};
 ghost use Rattle.clap.specs.Words.{app_of, found_of, is_simple_and_free, rows_of, rule_of};
 
 use clap::error::ErrorKind;
@@ -59,10 +59,11 @@ pub(crate) fn migrate_app<'w>(alloc: Global) -> Result<Command<'w>, AllocError>
         .arg(operand(alloc, "file"))
 }
 
-pub(crate) fn check_app<'w>(alloc: Global) -> Result<Command<'w>, AllocError>
-    ensures { IfOk result (λ command. app_of command ≡ check_app) }
+/// A command of a system, its stimuli and a journal.
+pub(crate) fn files_app<'w>(alloc: Global, word: &'w str) -> Result<Command<'w>, AllocError>
+    ensures { IfOk result (λ command. app_of command ≡ files_app word.entry.now) }
 {
-    plain(alloc, "check")
+    plain(alloc, word)
         .arg(operand(alloc, "system"))?
         .arg(operand(alloc, "stimuli"))?
         .arg(operand(alloc, "journal"))

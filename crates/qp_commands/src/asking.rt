@@ -1,9 +1,9 @@
 //! What a call asks for: its command word, and what `clap` reads of the rest.
-ghost use Rattle.std.specs.Prelude.{◌≡◌, option_map, IfOk};
-ghost use Rattle.qp_commands.specs.WordTable.{asked_of, check_asked, check_in, command_in, decode_asked, decode_in, generate_asked, generate_in, migrate_asked, migrate_in, operand_at, run_asked, run_in, texts};
+ghost use Rattle.std.specs.Prelude.{◌≡◌, option_and_then, option_map, IfOk};
+ghost use Rattle.qp_commands.specs.WordTable.{asked_of, check_asked, check_words, command_in, decode_asked, decode_in, files_app, files_in, found_in, generate_asked, generate_in, migrate_asked, migrate_in, operand_at, replay_asked, run_asked, run_in, texts};
 ghost use Rattle.clap.specs.Words.{found_of, rows_of};
 
-use crate::apps::{check_app, decode_app, generate_app, matches_in, migrate_app, run_app};
+use crate::apps::{decode_app, files_app, generate_app, matches_in, migrate_app, run_app};
 use crate::values::{
     Form, Kernel, Kind, Output, budget_of, form_of, form_under, kernel_of, kind_of, made_of,
     output_of,
@@ -39,6 +39,12 @@ pub enum Command<'w> {
         stimuli: &'w str,
         journal: &'w str,
     },
+    /// Print one order of the records of a lawful journal of a system on its stimuli, or a cycle among them.
+    Replay {
+        system: &'w str,
+        stimuli: &'w str,
+        journal: &'w str,
+    },
     /// Run the system and the stimuli that a number makes, and print the summary.
     Generate {
         number: u32,
@@ -55,9 +61,9 @@ impl<'w> Command<'w> {
             (Command::Run { stimuli, .. }, 2) => stimuli,
             (Command::Decode { frames }, 1) => frames,
             (Command::Migrate { file, .. }, 1) => file,
-            (Command::Check { system, .. }, 1) => system,
-            (Command::Check { stimuli, .. }, 2) => stimuli,
-            (Command::Check { journal, .. }, 3) => journal,
+            (Command::Check { system, .. } | Command::Replay { system, .. }, 1) => system,
+            (Command::Check { stimuli, .. } | Command::Replay { stimuli, .. }, 2) => stimuli,
+            (Command::Check { journal, .. } | Command::Replay { journal, .. }, 3) => journal,
             _ => "",
         }
     }
@@ -95,13 +101,20 @@ fn migrate_found<'w>(found: &ArgMatches<'w>) -> Option<Command<'w>>
     })
 }
 
-fn check_found<'w>(found: &ArgMatches<'w>) -> Option<Command<'w>>
-    ensures { option_map asked_of result ≡ check_in (rows_of (found_of found.now)) }
+/// A system, its stimuli and a journal.
+struct Files<'w> {
+    system: &'w str,
+    stimuli: &'w str,
+    journal: &'w str,
+}
+
+fn files_found<'w>(found: &ArgMatches<'w>) -> Option<Files<'w>>
+    ensures { option_map (λ f. check_words f.system.now f.stimuli.now f.journal.now) result ≡ files_in (rows_of (found_of found.now)) }
 {
     let system = found.get_str("system")?;
     let stimuli = found.get_str("stimuli")?;
     let journal = found.get_str("journal")?;
-    Some(Command::Check {
+    Some(Files {
         system,
         stimuli,
         journal,
@@ -143,11 +156,55 @@ fn migrate_of<'w>(alloc: Global, words: &'w [&'w str]) -> Result<Option<Command<
     }
 }
 
+/// The three files of the command with this word.
+fn files_of<'w>(
+    alloc: Global,
+    word: &'w str,
+    words: &'w [&'w str],
+) -> Result<Option<Files<'w>>, AllocError>
+    ensures { IfOk result (λ files. option_map (λ f. check_words f.system.now f.stimuli.now f.journal.now) files
+        ≡ option_and_then files_in (found_in (files_app word.entry.now) (texts words.entry.now))) }
+{
+    match matches_in(files_app(alloc, word)?, words)? {
+        Some(found) => Ok(files_found(&found)),
+        None => Ok(None),
+    }
+}
+
 fn check_of<'w>(alloc: Global, words: &'w [&'w str]) -> Result<Option<Command<'w>>, AllocError>
     ensures { IfOk result (λ found. option_map asked_of found ≡ check_asked (texts words.entry.now)) }
 {
-    match matches_in(check_app(alloc)?, words)? {
-        Some(found) => Ok(check_found(&found)),
+    match files_of(alloc, "check", words)? {
+        Some(
+            Files {
+                system,
+                stimuli,
+                journal,
+            },
+        ) => Ok(Some(Command::Check {
+            system,
+            stimuli,
+            journal,
+        })),
+        None => Ok(None),
+    }
+}
+
+fn replay_of<'w>(alloc: Global, words: &'w [&'w str]) -> Result<Option<Command<'w>>, AllocError>
+    ensures { IfOk result (λ found. option_map asked_of found ≡ replay_asked (texts words.entry.now)) }
+{
+    match files_of(alloc, "replay", words)? {
+        Some(
+            Files {
+                system,
+                stimuli,
+                journal,
+            },
+        ) => Ok(Some(Command::Replay {
+            system,
+            stimuli,
+            journal,
+        })),
         None => Ok(None),
     }
 }
@@ -178,6 +235,7 @@ pub fn command_of<'w>(
         "decode" => decode_of(alloc, words),
         "migrate" => migrate_of(alloc, words),
         "check" => check_of(alloc, words),
+        "replay" => replay_of(alloc, words),
         "gen" => generate_of(alloc, words),
         _ => Ok(None),
     }

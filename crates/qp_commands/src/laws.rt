@@ -1,5 +1,5 @@
 //! Laws of the words of calls. Each function here does nothing: its contract is the law.
-ghost use Rattle.qp_commands.specs.WordLaws.{BudgetWords, CheckOfNames, CooperativeWords, DecodeOfName, EachBudget, GenerateOfNumber, MigrateInFull, MigrateOfName, OtherWords, RefusedCalls, RunInFull, RunOfNames};
+ghost use Rattle.qp_commands.specs.WordLaws.{BudgetWords, CheckOfNames, CooperativeWords, DecodeOfName, EachBudget, GenerateOfNumber, MigrateInFull, MigrateOfName, OtherWords, RefusedCalls, ReplayOfNames, RunInFull, RunOfNames};
 
 /// Two names that don't begin with `-` are a run under `sim`, which prints text in form 1.
 pub fn a_run_of_two_names()
@@ -19,6 +19,11 @@ pub fn a_name_is_migrated()
 /// Three names that don't begin with `-` are a system, its stimuli and a journal to be judged.
 pub fn three_names_are_judged()
     ensures { CheckOfNames }
+{}
+
+/// Three such names are a system, its stimuli and a journal to be replayed.
+pub fn three_names_are_replayed()
+    ensures { ReplayOfNames }
 {}
 
 /// With its other options given, a run is the one that they name: each run of two such names with the default budget can be asked

@@ -1,6 +1,6 @@
 use Rattle.std.proofs.Common.{◌∙◌, sym}
 use Rattle.std.proofs.lemmas.Result.{IfOk-weaker}
-use Rattle.qp_commands.proofs.WordCommands.{asked-check, asked-decode, asked-generate, asked-migrate, asked-other, asked-run, command-first, command-none}
+use Rattle.qp_commands.proofs.WordCommands.{asked-check, asked-decode, asked-generate, asked-migrate, asked-other, asked-replay, asked-run, command-first, command-none}
 use Rattle.qp_commands.proofs.asking.command_of.Goals as goal
 
 pub returns-in_default : goal.returns-in_default
@@ -26,6 +26,11 @@ returns-in-check c =
     let first = command-first c.args.words.now c.in-Some.word.now (sym c.in-Some.ensures.value) in
     IfOk-weaker c.check_of.result _ _ (λ found h. h ∙ sym (first ∙ asked-check _ _ c.in-check.is)) c.check_of.ensures
 
+pub returns-in-replay : goal.returns-in-replay
+returns-in-replay c =
+    let first = command-first c.args.words.now c.in-Some.word.now (sym c.in-Some.ensures.value) in
+    IfOk-weaker c.replay_of.result _ _ (λ found h. h ∙ sym (first ∙ asked-replay _ _ c.in-replay.is)) c.replay_of.ensures
+
 pub returns-in-gen : goal.returns-in-gen
 returns-in-gen c =
     let first = command-first c.args.words.now c.in-Some.word.now (sym c.in-Some.ensures.value) in
@@ -34,4 +39,5 @@ returns-in-gen c =
 pub returns-in_default-word : goal.returns-in_default-word
 returns-in_default-word c =
     let first = command-first c.args.words.now c.in-Some.word.now (sym c.in-Some.ensures.value) in
-    sym (first ∙ asked-other _ _ c.in_default-word.not-run c.in_default-word.not-decode c.in_default-word.not-migrate c.in_default-word.not-check c.in_default-word.not-gen)
+    sym (first ∙ asked-other _ _ c.in_default-word.not-run c.in_default-word.not-decode c.in_default-word.not-migrate c.in_default-word.not-check c.in_default-word.not-replay
+    c.in_default-word.not-gen)
