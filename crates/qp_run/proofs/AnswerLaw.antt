@@ -21,7 +21,7 @@ use Rattle.qp_run.specs.Conversions.{AnswersJournal, answer_on, decode_on, migra
 use Rattle.qp_run.specs.Loads.{EndsAtLoad, IsLoaded}
 use Rattle.qp_model.specs.declared.journals.Journal.{Journal}
 use Rattle.qp_run.specs.Printed.{IsRunUnder, made_budget}
-use Rattle.qp_commands.specs.WordTable.{check, decode, generate, migrate, number_of_form, run}
+use Rattle.qp_commands.specs.WordTable.{check, decode, generate, migrate, number_of_form, replay, run}
 use Rattle.qp_run.specs.Verdict.{AnswersFiles, AnswersSources, AnswersStimuli, AnswersSystem, EndRuns, EndsMade, EndsRun, IsAnswer, OneAnswer}
 use Rattle.qp_run.specs.Refusals.{RefusesFirst, system_refusal}
 
@@ -200,4 +200,5 @@ one-answer held (Some (run w)) a b p q = files-run-one (held w.system) (held w.s
 one-answer held (Some (decode frames)) a b p q = inl (journal-one Frames decode_on (held frames) a b p q)
 one-answer held (Some (migrate w)) a b p q = inl (journal-one w.from (migrate_on (number_of_form w.to)) (held w.file) a b p q)
 one-answer held (Some (check w)) a b p q = inl (files-judged-one (held w.system) (held w.stimuli) (held w.journal) a b p q)
+one-answer held (Some (replay w)) a b p q = inl (files-judged-one (held w.system) (held w.stimuli) (held w.journal) a b p q)
 one-answer held (Some (generate n)) a b p q = inr (made-one n a b p q)

@@ -19,7 +19,7 @@ use Rattle.qp_text.specs.TextLaw.{IsWritable}
 use Rattle.qp_run.specs.declared.status.Status.{Status}
 use Rattle.qp_run.specs.declared.status.Status.TheVariants.{Memory}
 use Rattle.qp_commands.specs.declared.values.Kind.TheVariants.{Journal}
-use Rattle.qp_run.specs.Checks.{HasLawful, IsLawfulText, Judges, JudgesFiles, JudgesFound, JudgesSecond, JudgesSystem, JudgesThird, JudgesStimuli, third, verdict_answer}
+use Rattle.qp_run.specs.Checks.{AreLawful, IsLawfulText, Judges, JudgesFiles, JudgesFound, JudgesSecond, JudgesSystem, JudgesThird, JudgesStimuli, third, verdict_answer}
 use Rattle.qp_run.specs.Conversions.{Held, Refuses, said, written}
 use Rattle.qp_run.specs.Loads.{IsLoaded}
 use Rattle.qp_run.specs.Verdict.{AgreesCheck, FailsToLoad, JudgesCall, is_failure}
@@ -39,9 +39,12 @@ below-bytes (d ∷ ds) all = (omega (arith, all.0), below-bytes ds all.1)
 
 -- a text of a journal that the judge finds lawful
 pub lawful-text : (sys : System) (sources : List (List Stim)) (bytes : List ℕ) (form : ℕ) (j : journal.Journal) → IsSound sys
-    → IsWritable form j × (written Journal form j ≡ bytes) → IsVerdict (trials sys sources j) Lawful → IsLawfulText sys sources bytes
-lawful-text sys sources bytes form j sound of all =
-    (form, j, of.0, sym of.1, (lawful_where_none_fails sys sources j (below-bytes sys.objects sound.priorities)).0 all)
+    → IsWritable form j × (written Journal form j ≡ bytes) → IsVerdict (trials sys sources j) Lawful → IsLawfulText sys sources bytes form j
+lawful-text sys sources bytes form j sound of all = record {
+  writable = of.0;
+  text = sym of.1;
+  lawful = (lawful_where_none_fails sys sources j (below-bytes sys.objects sound.priorities)).0 all;
+}
 
 -- the answer on what the third file says
 
@@ -131,22 +134,18 @@ module _ (o : Option Held) (system stimuli held : List ℕ) where
           told-judged found found_loaded status (inr judges) = IfSome_then o (judged-third found found_loaded status judges) (λ h is. inr is)
 
 -- a system, its stimuli and the text of a lawful journal of these
-pub has-lawful : (o : Option Held) (w : CheckWords) (system stimuli bytes : List ℕ) (sys : System) (sources : List (List Stim))
+pub are-lawful : (o : Option Held) (w : CheckWords) (system stimuli bytes : List ℕ) (sys : System) (sources : List (List Stim)) (form : ℕ) (j : journal.Journal)
     → IfSome o (λ h. IsLoaded (h w.system) system) → IfSome o (λ h. IsLoaded (h w.stimuli) stimuli) → IfSome o (λ h. IsLoaded (h w.journal) bytes)
-    → IsSystemOf system sys → stimuli_of sys stimuli ≡ Ok sources → IsLawfulText sys sources bytes → HasLawful o w
-has-lawful o w system stimuli bytes sys sources first second third_held read says (form, j, writable, is, lawful) = record {
+    → IsSystemOf system sys → stimuli_of sys stimuli ≡ Ok sources → IsLawfulText sys sources bytes form j → AreLawful o w sys sources form j
+are-lawful o w system stimuli bytes sys sources form j first second third_held read says text = record {
   system = system;
   stimuli = stimuli;
   system_held = first;
   stimuli_held = second;
-  sys = sys;
-  sources = sources;
-  form = form;
-  j = j;
   system_read = read;
   stimuli_read = says;
-  journal_held = record { writable = writable; loaded = IfSome_then o third_held (λ h loaded. subst (IsLoaded (h w.journal)) is loaded) };
-  lawful = lawful;
+  journal_held = record { writable = text.writable; loaded = IfSome_then o third_held (λ h loaded. subst (IsLoaded (h w.journal)) text.text loaded) };
+  lawful = text.lawful;
 }
 
 -- the answer where three files have a system, stimuli and a journal

@@ -14,7 +14,7 @@ use Rattle.qp_run.specs.Conversions.{AnswersJournal, Held, answer_on, decode_on,
 use Rattle.qp_run.specs.Loads.{IsLoaded}
 use Rattle.qp_run.specs.Verdict.{Agrees, AnswersFiles, Counts, Ends, EndsCall, EndsMade, EndsMaking, EndsRun, EndsRunning, EndsJudging, HasCause, IsAnswer, IsComplete, is_failure}
 use Rattle.qp_run.specs.Checks.{Judges, JudgesFiles}
-use Rattle.qp_commands.specs.WordTable.{Asked, check, decode, generate, migrate, number_of_form, run}
+use Rattle.qp_commands.specs.WordTable.{Asked, check, decode, generate, migrate, number_of_form, replay, run}
 use Rattle.qp_run.proofs.AnswerLaw.{files-run, loaded-goes_on, loaded-one}
 use Rattle.qp_run.proofs.CheckLemmas.{files-judged}
 use Rattle.qp_run.proofs.ConversionLemmas.{said-written}
@@ -99,6 +99,8 @@ ends-call held (Some (migrate w)) n answer (inr is) cause = λ form j writable l
     ends-so n _ answer (inr (on-journal w.from (migrate_on (number_of_form w.to)) (held w.file) answer form j writable loaded is)) cause
 ends-call held (Some (check w)) n answer (inl failed) cause = judging-failed (held w.system) (held w.stimuli) (held w.journal) n answer failed cause
 ends-call held (Some (check w)) n answer (inr is) cause = judging-done (held w.system) (held w.stimuli) (held w.journal) n answer is
+ends-call held (Some (replay w)) n answer (inl failed) cause = judging-failed (held w.system) (held w.stimuli) (held w.journal) n answer failed cause
+ends-call held (Some (replay w)) n answer (inr is) cause = judging-done (held w.system) (held w.stimuli) (held w.journal) n answer is
 ends-call held (Some (generate number)) n answer agrees cause = making number n answer agrees cause
 
 pub complete : (o : Option Held) (asked : Option Asked) (n : Counts) (answer : Status) → IfSome o (λ held. Agrees held asked answer) → HasCause n answer → IsComplete o asked n answer

@@ -5,6 +5,7 @@ mod EndingLemmas
 mod PrintedLemmas
 mod ConversionLemmas
 mod CheckLemmas
+mod ReplayLemmas
 mod CompleteLemmas
 mod AbleLemmas
 pub mod CallLemmas

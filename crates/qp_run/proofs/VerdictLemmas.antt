@@ -20,7 +20,7 @@ use Rattle.qp_run.specs.Loads.{EndsAtLoad, IsLoaded}
 use Rattle.qp_run.specs.Notes.{line_of, names_file, is_done}
 use Rattle.qp_run.specs.Refusals.{RefusesFirst, RefusesSecond}
 use Rattle.qp_run.specs.Verdict.{Agrees, AgreesCheck, AgreesFiles, AgreesJournal, AgreesRun, AnswersFiles, AnswersSystem, AnswersStimuli, AnswersWords, Count, Counts, FailsToLoad, HasCause, HasRisen, IsAnswer, IsInput, Noted, Stands, AnswersSources, EndsMade, EndsRun, is_failure, quiet}
-use Rattle.qp_commands.specs.WordTable.{Asked, CheckWords, MigrateWords, RunWords, check, decode, generate, migrate, number_of_form, run}
+use Rattle.qp_commands.specs.WordTable.{Asked, CheckWords, MigrateWords, RunWords, check, decode, generate, migrate, number_of_form, replay, run}
 
 -- a fact of what the shelf holds, where it tells
 pub IfSome-all : {A : Type 0} {P : A → Type 0} (o : Option A) → ((x : A) → P x) → IfSome o P
@@ -136,6 +136,11 @@ module _ (o : Option Held) (answer : Status) where
       → IfSome o (λ held. Agrees held (Some (check w)) answer)
   unfolding IsAnswer
   agrees-check w told = told
+
+  pub agrees-replay : (w : CheckWords) → AgreesCheck o w answer
+      → IfSome o (λ held. Agrees held (Some (replay w)) answer)
+  unfolding IsAnswer
+  agrees-replay w told = told
 
   pub agrees-generate : (n : ℕ) → (is_failure answer ≡ true) ⊎ EndsMade n answer → IfSome o (λ held. Agrees held (Some (generate n)) answer)
   unfolding IsAnswer

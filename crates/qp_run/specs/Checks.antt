@@ -40,10 +40,11 @@ verdict_answer (Broken definition site) = Unlawful definition site
 abbrev pub Judges : System → List (List Stim) → journal.Journal → Status → Type 0
 Judges sys sources j answer = (v : Verdict) × IsVerdict (trials sys sources j) v × (answer ≡ verdict_answer v)
 
--- the bytes are the text of a lawful journal
-abbrev pub IsLawfulText : System → List (List Stim) → List ℕ → Type 0
-IsLawfulText sys sources bytes =
-    (form : ℕ) × (j : journal.Journal) × IsWritable form j × (bytes ≡ written Journal form j) × lawful.Lawful sys sources j
+-- the bytes are the text of this journal in this form, and the journal is lawful
+pub record IsLawfulText (sys : System) (sources : List (List Stim)) (bytes : List ℕ) (form : ℕ) (j : journal.Journal) : Type 0 where
+  pub writable : IsWritable form j
+  pub text : bytes ≡ written Journal form j
+  pub lawful : lawful.Lawful sys sources j
 
 -- the answer on what the third file says
 abbrev pub JudgesFound : System → List (List Stim) → Result (ℕ × journal.Journal) Status → Status → Type 0
@@ -75,20 +76,20 @@ unfoldable pub JudgesFiles : (system stimuli held : Option (List ℕ)) → Statu
 unfolding stimuli_of said
 JudgesFiles file stimuli held answer = EndsAtLoad 1 file answer ⊎ ((bytes : List ℕ) × IsLoaded file bytes × JudgesSystem bytes stimuli held answer)
 
--- the three files have a system, its stimuli, and the text of a lawful journal of these
-pub record HasLawful (held : Option Held) (w : CheckWords) : Type 0 where
+-- the three files have this system, these stimuli, and the text of this journal, which is lawful for them
+pub record AreLawful (held : Option Held) (w : CheckWords) (sys : System) (sources : List (List Stim)) (form : ℕ) (j : journal.Journal) : Type 0 where
   pub system : List ℕ
   pub stimuli : List ℕ
   pub system_held : IfSome held (λ h. IsLoaded (h w.system) system)
   pub stimuli_held : IfSome held (λ h. IsLoaded (h w.stimuli) stimuli)
-  pub sys : System
-  pub sources : List (List Stim)
-  pub form : ℕ
-  pub j : journal.Journal
   pub system_read : IsSystemOf system sys
   pub stimuli_read : stimuli_of sys stimuli ≡ Ok sources
   pub journal_held : HasJournal held w.journal Journal form j
   pub lawful : lawful.Lawful sys sources j
+
+-- the three files have a system, its stimuli, and the text of a lawful journal of these
+abbrev pub HasLawful : Option Held → CheckWords → Type 0
+HasLawful held w = (sys : System) × (sources : List (List Stim)) × (form : ℕ) × (j : journal.Journal) × AreLawful held w sys sources form j
 
 -- what is printed of a lawful journal
 abbrev pub IsChecked : Option Held → CheckWords → List ℕ → Type 0

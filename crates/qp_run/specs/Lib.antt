@@ -4,5 +4,6 @@ pub mod Loads
 pub mod Conversions
 pub mod Refusals
 pub mod Checks
+pub mod Replays
 pub mod Printed
 pub mod Verdict

@@ -23,7 +23,8 @@ use Rattle.qp_run.specs.Loads.{EndsAtLoad, IsLoaded}
 use Rattle.qp_run.specs.Notes.{file_of, line_of, names_file}
 use Rattle.qp_run.specs.Printed.{IsRunUnder, PrintsMade, PrintsRun, made_budget}
 use Rattle.qp_run.specs.Refusals.{RefusesFirst}
-use Rattle.qp_commands.specs.WordTable.{Asked, CheckWords, check, decode, generate, migrate, number_of_form, operand_in, run}
+use Rattle.qp_run.specs.Replays.{IsReplayed}
+use Rattle.qp_commands.specs.WordTable.{Asked, CheckWords, check, decode, generate, migrate, number_of_form, operand_in, replay, run}
 use Rattle.qp_text.specs.TextLaw.{IsWritable}
 
 -- the answer on a run of this system and these stimuli: what the records of a journal that such a run may leave say
@@ -62,6 +63,7 @@ AnswersCall held (Some (run w)) answer = AnswersFiles (held w.system) (held w.st
 AnswersCall held (Some (decode frames)) answer = AnswersJournal Frames decode_on (held frames) answer
 AnswersCall held (Some (migrate w)) answer = AnswersJournal w.from (migrate_on (number_of_form w.to)) (held w.file) answer
 AnswersCall held (Some (check w)) answer = JudgesFiles (held w.system) (held w.stimuli) (held w.journal) answer
+AnswersCall held (Some (replay w)) answer = JudgesFiles (held w.system) (held w.stimuli) (held w.journal) answer
 AnswersCall held (Some (generate n)) answer = EndsMade n answer
 
 -- the answer to a call over files with this content, where memory, reads and writes don't fail: the words come first,
@@ -206,6 +208,7 @@ IsOutput held (Some (run w)) answer whole = IsRun held w.system w.stimuli w.kern
 IsOutput held (Some (decode frames)) answer whole = WhenDone (IsDecoded held frames) answer whole
 IsOutput held (Some (migrate w)) answer whole = WhenDone (IsMigrated held w.file w.from (number_of_form w.to)) answer whole
 IsOutput held (Some (check w)) answer whole = WhenDone (IsChecked held w) answer whole
+IsOutput held (Some (replay w)) answer whole = WhenDone (IsReplayed held w) answer whole
 IsOutput held (Some (generate n)) answer whole = PrintsMade n answer whole
 
 -- what the output got: the whole of it, a part of it where a write failed, or nothing
@@ -244,13 +247,14 @@ EndsMaking number n answer =
     (HasRisen n.reads → ⊥) → (HasRisen n.out → ⊥) → (HasRisen n.notes → ⊥) → EndsMade number answer ⊎ (answer ≡ Memory)
 
 -- calls that end: each system is run on its stimuli, frames of a journal are decoded, a journal is migrated to each form that it has,
--- each journal is judged, and what a number makes is run
+-- each journal is judged, and replayed where it is lawful, and what a number makes is run
 abbrev pub EndsCall : Held → Option Asked → Counts → Status → Type 0
 EndsCall held None n answer = Ends n Words answer
 EndsCall held (Some (run w)) n answer = EndsRunning (held w.system) (held w.stimuli) w.kernel w.budget n answer
 EndsCall held (Some (decode frames)) n answer = EndsOnJournal (held frames) Frames decode_on n answer
 EndsCall held (Some (migrate w)) n answer = EndsOnJournal (held w.file) w.from (migrate_on (number_of_form w.to)) n answer
 EndsCall held (Some (check w)) n answer = EndsJudging (held w.system) (held w.stimuli) (held w.journal) n answer
+EndsCall held (Some (replay w)) n answer = EndsJudging (held w.system) (held w.stimuli) (held w.journal) n answer
 EndsCall held (Some (generate number)) n answer = EndsMaking number n answer
 
 -- a call over files that the shelf tells, in which no count rose, ends so, or memory was refused

@@ -1,7 +1,8 @@
 //! Journals of a file, judged.
 ghost use Rattle.std.specs.Prelude.{◌≡◌, ◌≢◌, ◌≤◌, ◌⊎◌, length, IfOk, IfErr, true};
 ghost use Rattle.qp_model.specs.Sound.{IsSound};
-ghost use Rattle.qp_run.specs.Checks.{HasLawful, IsChecked, IsLawfulText, JudgesFound, is_of_files, third};
+ghost use Rattle.qp_stim.specs.Rules.{StimuliFit};
+ghost use Rattle.qp_run.specs.Checks.{AreLawful, IsChecked, IsLawfulText, JudgesFound, is_of_files, third};
 ghost use Rattle.qp_run.specs.Conversions.{IsFoundIn, PrintsOne, Refuses, WhenDone, said};
 ghost use Rattle.qp_run.specs.Verdict.{AgreesCheck, HasCause, JudgesCall, is_failure, is_refusal, reads_of, writes_of};
 ghost use Rattle.qp_commands.specs.WordTable.{check_words};
@@ -43,11 +44,11 @@ fn journal_in(alloc: Global, bytes: &[u8]) -> Result<Found, Status>
     }
 }
 
-/// Judges a text's journal. Ok where it is lawful.
-fn judge(alloc: Global, system: &System, stimuli: &Stimuli, bytes: &[u8]) -> Result<(), Status>
+/// The journal of a text, judged. Ok where it is lawful.
+fn judge(alloc: Global, system: &System, stimuli: &Stimuli, bytes: &[u8]) -> Result<Found, Status>
     requires sound { IsSound system.now }
     requires few { length stimuli.now ≤ 16 }
-    ensures lawful { IfOk result (λ _. IsLawfulText system.now stimuli.now bytes.now) }
+    ensures lawful { IfOk result (λ found. IsLawfulText system.now stimuli.now bytes.now found.form found.journal) }
     ensures done { IfOk result (λ _. JudgesFound system.now stimuli.now (said Kind.Journal bytes.now) Status.Done) }
     ensures told { IfErr result (λ status. (is_failure status ≡ true)
         ⊎ JudgesFound system.now stimuli.now (said Kind.Journal bytes.now) status) }
@@ -55,21 +56,32 @@ fn judge(alloc: Global, system: &System, stimuli: &Stimuli, bytes: &[u8]) -> Res
 {
     let found = journal_in(alloc, bytes)?;
     match check(alloc, system, stimuli, &found.journal) {
-        Ok(Verdict::Lawful) => Ok(()),
+        Ok(Verdict::Lawful) => Ok(found),
         Ok(Verdict::Broken { definition, site }) => Err(Status::Unlawful { definition, site }),
         Err(_) => Err(Status::Memory),
     }
 }
 
+/// A lawful journal, with its system and its stimuli, as files have them.
+#[derive(Drop)]
+pub struct Judged {
+    pub system: System,
+    pub stimuli: Stimuli,
+    pub found: Found,
+}
+
 /// Judges the journal of the third file, of the system and the stimuli of the first two. Ok where it is lawful.
-fn judge_files<F: Shelf>(
+pub fn judge_files<F: Shelf>(
     alloc: Global,
     files: &mut F,
     system: &str,
     stimuli: &str,
     journal: &str,
-) -> Result<(), Status>
-    ensures lawful { IfOk result (λ _. HasLawful (F.holds files.old) (check_words system.now stimuli.now journal.now)) }
+) -> Result<Judged, Status>
+    ensures lawful { IfOk result (λ judged. AreLawful (F.holds files.old) (check_words system.now stimuli.now journal.now)
+        judged.system judged.stimuli judged.found.form judged.found.journal) }
+    ensures sound { IfOk result (λ judged. IsSound judged.system) }
+    ensures fit { IfOk result (λ judged. StimuliFit judged.system judged.stimuli) }
     ensures done { IfOk result (λ _. JudgesCall (F.holds files.old) (check_words system.now stimuli.now journal.now) Status.Done) }
     ensures told { IfErr result (AgreesCheck (F.holds files.old) (check_words system.now stimuli.now journal.now)) }
     ensures cause { IfErr result (HasCause (reads_of F.faults F.misses files.old files.new)) }
@@ -81,7 +93,12 @@ fn judge_files<F: Shelf>(
     let bytes = load(alloc, files, 2, stimuli)?;
     let stimuli = stimuli_in(alloc, &system, bytes.as_slice())?;
     let bytes = load(alloc, files, 3, journal)?;
-    judge(alloc, &system, &stimuli, bytes.as_slice())
+    let found = judge(alloc, &system, &stimuli, bytes.as_slice())?;
+    Ok(Judged {
+        system,
+        stimuli,
+        found,
+    })
 }
 
 /// Judges the journal of the third file. One that is lawful is told so on the output.
@@ -101,7 +118,7 @@ pub fn check_files<F: Shelf, O: Sink>(
     ensures holds { F.holds files.new ≡ F.holds files.old }
 {
     match judge_files(alloc, files, system, stimuli, journal) {
-        Ok(()) => match out.put(b"lawful\n") {
+        Ok(_) => match out.put(b"lawful\n") {
             Ok(()) => Status::Done,
             Err(_) => Status::WriteFault,
         },

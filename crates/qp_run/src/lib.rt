@@ -7,6 +7,7 @@ pub mod laws;
 mod loading;
 mod place;
 mod reading;
+mod replaying;
 mod runs;
 mod status;
 mod top;

@@ -9,6 +9,7 @@ ghost use Rattle.qp_run.specs.declared.status.Status.{Status};
 
 use crate::checking::check_files;
 use crate::conversions::{decode, migrate};
+use crate::replaying::replay_files;
 use crate::runs::{run_files, run_made};
 use crate::status::Status;
 use qp_base::{Gate, Shelf, Sink};
@@ -49,6 +50,11 @@ fn carry_out<R: Wait, F: Shelf, O: Sink>(
             stimuli,
             journal,
         } => check_files(alloc, files, system, stimuli, journal, out),
+        Command::Replay {
+            system,
+            stimuli,
+            journal,
+        } => replay_files(alloc, files, system, stimuli, journal, out),
         Command::Generate { number } => run_made(rt, alloc, *number, out),
     }
 }

@@ -1,8 +1,7 @@
 use Rattle.std.proofs.Common.{◌∙◌, rules}
-use Rattle.std.proofs.lemmas.Result.{IfErr-weaker, IfOk-weaker}
 use Rattle.qp_run.specs.Verdict.{AgreesCheck}
 use Rattle.qp_commands.specs.WordTable.{check_words}
-use Rattle.qp_run.proofs.CheckLemmas.{has-lawful, judged-third, told-first, told-judged, told-second, told-stimuli, told-system, told-third}
+use Rattle.qp_run.proofs.CheckLemmas.{are-lawful, judged-third, told-first, told-judged, told-second, told-stimuli, told-system, told-third}
 use Rattle.qp_run.proofs.checking.judge_files.Goals as goal
 
 pub returns-in_err-bytes-clause-told : goal.returns-in_err-bytes-clause-told
@@ -48,30 +47,31 @@ returns-in_err-bytes-3-clause-told g c =
     (rw (c.load-2.ensures.holds ∙ c.load.ensures.holds) at c.in_err-bytes-3.ensures.told) in
     search (rules, fact)
 
-pub returns-clause-lawful : goal.returns-clause-lawful
-returns-clause-lawful g c =
-    IfOk-weaker c.judge.result _ _
-    (λ _ text. has-lawful _ _ c.in_ok-bytes.bytes.items c.in_ok-bytes-2.bytes.items c.in_ok-bytes-3.bytes.items c.in_ok-system.system c.in_ok-stimuli.stimuli
-    c.in_ok-bytes.ensures.held (rw c.load.ensures.holds at c.in_ok-bytes-2.ensures.held) (rw (c.load-2.ensures.holds ∙ c.load.ensures.holds) at c.in_ok-bytes-3.ensures.held)
-    (rw c.as_slice.ensures.value at c.in_ok-system.ensures.read) (rw c.as_slice-2.ensures.value at c.in_ok-stimuli.ensures.read)
-    (rw c.as_slice-3.ensures.value at text)) c.judge.ensures.lawful
-
-pub returns-clause-done : goal.returns-clause-done
-returns-clause-done g c =
-    IfOk-weaker c.judge.result _ _
-    (λ _ judged. judged-third _ _ _ _ c.in_ok-bytes.bytes.items c.in_ok-bytes.ensures.held
-    c.in_ok-system.system (rw c.as_slice.ensures.value at c.in_ok-system.ensures.read)
-    c.in_ok-bytes-2.bytes.items (rw c.load.ensures.holds at c.in_ok-bytes-2.ensures.held)
-    c.in_ok-stimuli.stimuli (rw c.as_slice-2.ensures.value at c.in_ok-stimuli.ensures.read)
-    c.in_ok-bytes-3.bytes.items (rw (c.load-2.ensures.holds ∙ c.load.ensures.holds) at c.in_ok-bytes-3.ensures.held) _
-    (rw c.as_slice-3.ensures.value at judged)) c.judge.ensures.done
-
-pub returns-clause-told : goal.returns-clause-told
-returns-clause-told g c =
-    IfErr-weaker c.judge.result _ _
-    (λ status judged. told-judged _ _ _ _ c.in_ok-bytes.bytes.items c.in_ok-bytes.ensures.held
+pub returns-in_err-found-clause-told : goal.returns-in_err-found-clause-told
+returns-in_err-found-clause-told g c =
+    let status = c.in_err-found.field-0.0 in
+    let fact : AgreesCheck (g.F.Shelf.holds c.args.files.now) (check_words c.args.system.now c.args.stimuli.now c.args.journal.now) status =
+    told-judged _ _ _ _ c.in_ok-bytes.bytes.items c.in_ok-bytes.ensures.held
     c.in_ok-system.system (rw c.as_slice.ensures.value at c.in_ok-system.ensures.read)
     c.in_ok-bytes-2.bytes.items (rw c.load.ensures.holds at c.in_ok-bytes-2.ensures.held)
     c.in_ok-stimuli.stimuli (rw c.as_slice-2.ensures.value at c.in_ok-stimuli.ensures.read)
     c.in_ok-bytes-3.bytes.items (rw (c.load-2.ensures.holds ∙ c.load.ensures.holds) at c.in_ok-bytes-3.ensures.held) status
-    (rw c.as_slice-3.ensures.value at judged)) c.judge.ensures.told
+    (rw c.as_slice-3.ensures.value at c.in_err-found.ensures.told) in
+    search (rules, fact)
+
+pub returns-clause-lawful : goal.returns-clause-lawful
+returns-clause-lawful g c =
+    are-lawful _ _ c.in_ok-bytes.bytes.items c.in_ok-bytes-2.bytes.items c.in_ok-bytes-3.bytes.items c.in_ok-system.system c.in_ok-stimuli.stimuli
+    c.in_ok-found.found.form c.in_ok-found.found.journal
+    c.in_ok-bytes.ensures.held (rw c.load.ensures.holds at c.in_ok-bytes-2.ensures.held) (rw (c.load-2.ensures.holds ∙ c.load.ensures.holds) at c.in_ok-bytes-3.ensures.held)
+    (rw c.as_slice.ensures.value at c.in_ok-system.ensures.read) (rw c.as_slice-2.ensures.value at c.in_ok-stimuli.ensures.read)
+    (rw c.as_slice-3.ensures.value at c.in_ok-found.ensures.lawful)
+
+pub returns-clause-done : goal.returns-clause-done
+returns-clause-done g c =
+    judged-third _ _ _ _ c.in_ok-bytes.bytes.items c.in_ok-bytes.ensures.held
+    c.in_ok-system.system (rw c.as_slice.ensures.value at c.in_ok-system.ensures.read)
+    c.in_ok-bytes-2.bytes.items (rw c.load.ensures.holds at c.in_ok-bytes-2.ensures.held)
+    c.in_ok-stimuli.stimuli (rw c.as_slice-2.ensures.value at c.in_ok-stimuli.ensures.read)
+    c.in_ok-bytes-3.bytes.items (rw (c.load-2.ensures.holds ∙ c.load.ensures.holds) at c.in_ok-bytes-3.ensures.held) _
+    (rw c.as_slice-3.ensures.value at c.in_ok-found.ensures.done)

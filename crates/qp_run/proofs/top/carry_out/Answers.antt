@@ -1,6 +1,6 @@
 use Rattle.qp_model.proofs.ListLemmas.{both_true}
 use Rattle.qp_commands.proofs.LimitLemmas.{limit-few, limit-some}
-use Rattle.qp_run.proofs.VerdictLemmas.{agrees-check, agrees-decode, agrees-generate, agrees-migrate, agrees-run}
+use Rattle.qp_run.proofs.VerdictLemmas.{agrees-check, agrees-decode, agrees-generate, agrees-migrate, agrees-replay, agrees-run}
 use Rattle.qp_run.proofs.top.carry_out.Goals as goal
 
 pub returns-in-Run-clause-told : goal.returns-in-Run-clause-told
@@ -35,6 +35,12 @@ returns-in-Migrate-clause-out g c = rw c.in-Migrate.is c.migrate.ensures.out
 
 pub returns-in-Check-clause-out : goal.returns-in-Check-clause-out
 returns-in-Check-clause-out g c = rw c.in-Check.is c.check_files.ensures.out
+
+pub returns-in-Replay-clause-told : goal.returns-in-Replay-clause-told
+returns-in-Replay-clause-told g c = rw c.in-Replay.is (agrees-replay _ _ _ c.replay_files.ensures.told)
+
+pub returns-in-Replay-clause-out : goal.returns-in-Replay-clause-out
+returns-in-Replay-clause-out g c = rw c.in-Replay.is c.replay_files.ensures.out
 
 pub run_made-requires-clause-some : goal.run_made-requires-clause-some
 run_made-requires-clause-some g c = limit-some 1000 _ (rw c.in-Generate.is at c.requires)
