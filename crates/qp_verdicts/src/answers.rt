@@ -10,7 +10,7 @@ use std::sync::Wait;
 
 /// The keys whose lines make the bytes of a file, or of the output. `KEY file` has the bytes of a file of `data/`, and `KEY 1000` its
 /// line a thousand times.
-const CONTENTS: [&str; 5] = ["system", "stimuli", "journal", "prints", "ends"];
+const CONTENTS: [&str; 6] = ["system", "stimuli", "journal", "prints", "starts", "ends"];
 
 /// The other keys.
 const OTHERS: [&str; 7] = [
@@ -137,8 +137,11 @@ impl Case<'_> {
         Ok(format!(in self.rt.alloc(); "{status}{space}{note}{other}")?)
     }
 
-    /// Whether an output is as `prints` states it, or has so many `lines` and `ends` so.
+    /// Whether an output is as `prints` states it, or `starts` so, or has so many `lines` and `ends` so.
     fn is_printed(&self, out: &[u8]) -> Result<bool> {
+        if let Some(start) = self.content("starts")? {
+            return Ok(out.starts_with(&start));
+        }
         let Some(lines) = self.block.number(self.table, "lines")? else {
             return Ok(match self.content("prints")? {
                 Some(prints) => prints.as_slice() == out,

@@ -19,11 +19,12 @@ use files::Table;
 use std::sync::Wait;
 
 /// The tables of words over files, with what is answered.
-const ANSWERS: [&str; 9] = [
+const ANSWERS: [&str; 10] = [
     "words.txt",
     "runs.txt",
     "summaries.txt",
     "checks.txt",
+    "replays.txt",
     "conversions.txt",
     "system-faults.txt",
     "charts.txt",
