@@ -1,5 +1,6 @@
 -- Words are the same where their keys are.
-use Rattle.std.proofs.Common.{◌≡◌, ◌∙◌, ℕ, ◌==◌, Bool, true, false, ◌&&◌, cond, List, [], ◌∷◌, ◌++◌, ap, sym, refl, arith, append-nil}
+use Rattle.std.proofs.Common.{◌≡◌, ◌∙◌, ℕ, ◌==◌, Bool, true, false, ◌&&◌, cond, List, [], ◌∷◌, ◌++◌, ap, sym, refl, arith, append-nil, Option, Some}
+use Rattle.std.specs.Option.{unwrap_or}
 use Rattle.std.proofs.lemmas.Bool.Decides.{nat_tests}
 use Rattle.std.proofs.Math.Bool.{and-true}
 use Rattle.std.specs.Cmp.{tied_then, unsigned_tied}
@@ -44,3 +45,17 @@ row-put n b row before i is = go (n == b)
     go : (s : Bool) → cond ((s && true) && true) (row ++ i ∷ []) row ≡ before ++ cond s (i ∷ []) []
     go true = ap (λ l. l ++ i ∷ []) is
     go false = is ∙ sym (append-nil before)
+
+-- a record more in the row of a key
+pub row-more : (key q : ℕ × ℕ × ℕ) (i : Item) (old : ℕ × ℕ × ℕ → Option (List Item)) (new : Option (List Item)) (more : List Item)
+    → new ≡ cond (is_eq (key_cmp key q)) (Some more) (old q) → more ≡ unwrap_or (old key) [] ++ i ∷ []
+    → unwrap_or new [] ≡ cond (same_key key q) (unwrap_or (old q) [] ++ i ∷ []) (unwrap_or (old q) [])
+row-more key q i old new more is longer = go (same_key key q) refl
+  where
+    go : (s : Bool) → same_key key q ≡ s → unwrap_or new [] ≡ cond s (unwrap_or (old q) [] ++ i ∷ []) (unwrap_or (old q) [])
+    go true h =
+        let now : new ≡ Some more = is ∙ ap (λ b. cond b (Some more) (old q)) (same-cmp key q ∙ h) in
+        ap (λ o. unwrap_or o []) now ∙ longer ∙ ap (λ k. unwrap_or (old k) [] ++ i ∷ []) (key-is key q h)
+    go false h =
+        let now : new ≡ old q = is ∙ ap (λ b. cond b (Some more) (old q)) (same-cmp key q ∙ h) in
+        ap (λ o. unwrap_or o []) now

@@ -30,13 +30,15 @@ impl<'a> Rows<'a> {
         ensures { OnOk result ((q : ℕ × ℕ × ℕ) → row_at self.new q ≡ (if same_key key q then row_at self.old q ++ item_of r.now ∷ [] else
             row_at self.old q)) }
     {
-        let mut row = match self.rows.remove(&key) {
-            Some(row) => row,
-            None => Group::new(alloc),
-        };
-        row.put(r)?;
-        self.rows.insert(key, row)?;
-        Ok(())
+        match self.rows.get_mut(&key) {
+            Some(row) => row.put(r),
+            None => {
+                let mut row = Group::new(alloc);
+                row.put(r)?;
+                self.rows.insert(key, row)?;
+                Ok(())
+            }
+        }
     }
 
     /// The records of a key, or else these, which are none.
