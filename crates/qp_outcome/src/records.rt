@@ -24,21 +24,14 @@ fn code_of(body: &Body) -> u8
 fn asserts(r: &Rec) -> bool
     ensures { result ≡ asserts r.now }
 {
-    matches!(
-        r.body(),
-        Body::NoEntry { .. }
-            | Body::NoBlock { .. }
-            | Body::Armed { .. }
-            | Body::BadTicks { .. }
-            | Body::NoLifo { .. }
-    )
+    qp_kinds::is_assert(r)
 }
 
 #[tactic(auto, unfolding(crate::specs::Outcome::runs_out))]
 fn runs_out(r: &Rec) -> bool
     ensures { result ≡ runs_out r.now }
 {
-    matches!(r.body(), Body::Spent | Body::Spill { .. })
+    qp_kinds::is_spent(r) || qp_kinds::is_spill(r)
 }
 
 /// Whether an assertion stands in the lane.

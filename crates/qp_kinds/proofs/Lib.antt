@@ -1,0 +1,2 @@
+-- Lemmas of kinds.
+pub mod KindLemmas

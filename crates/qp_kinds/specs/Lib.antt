@@ -1,0 +1,2 @@
+-- The kinds of what records say.
+pub mod Kinds
