@@ -4,7 +4,8 @@ use crate::records::{copy_of, place, refusal, shortage, stated};
 use crate::world::PlainWorld;
 use qp_base::{Ev, Steps};
 use qp_calls::{Arm, Claim, Counts, Dec, Entry, Fresh, Give, Hold, Ops, RoomFault, Take, Tick};
-use qp_model::{Body, Rec};
+use qp_kinds::is_spill;
+use qp_model::Rec;
 use std::mem;
 use std::sync::Wait;
 use std::sync::ledger::Ledger;
@@ -25,9 +26,11 @@ impl<'a> Ops for PlainWorld<'a> {
     }
 
     fn note(&mut self, r: Rec) {
-        match r.body() {
-            Body::Spill { .. } => self.book.add_spill(r),
-            _ => self.book.add(r),
+        let spills = is_spill(&r);
+        if spills {
+            self.book.add_spill(r);
+        } else {
+            self.book.add(r);
         }
     }
 
