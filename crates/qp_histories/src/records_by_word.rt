@@ -16,7 +16,7 @@ use qp_lanes::given_blocks::GivenBlocks;
 use qp_lanes::groups::Group;
 use qp_lanes::keys::key_of;
 use qp_lanes::rows::Rows;
-use qp_model::{Lane, Lanes, Named, Rec, Touched};
+use qp_model::{Body, Lane, Lanes, Named, Rec, Touched, kinds};
 use std::alloc::{AllocError, Global};
 use std::collections::{BTreeMap, BTreeSet};
 use std::marker::Model;
@@ -78,17 +78,13 @@ fn rows_of<'a>(alloc: Global, lanes: &'a Lanes) -> Result<Rows<'a>, AllocError>
     Ok(rows)
 }
 
-/// The pool that a record names.
+/// The pool that a record gives a block out of or back to.
 fn pool_named(r: &Rec) -> Option<u64> {
-    match Touched::by(r) {
-        Touched::Draws {
-            word: Named::Pool { p },
-            ..
-        }
-        | Touched::Shows {
-            word: Named::Pool { p },
-            ..
-        } => Some(p),
+    if r.kind != kinds::NEW && r.kind != kinds::BACK {
+        return None;
+    }
+    match r.body() {
+        Body::New { p, .. } | Body::Back { p, .. } => Some(p),
         _ => None,
     }
 }
