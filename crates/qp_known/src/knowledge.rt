@@ -14,7 +14,7 @@ use crate::known_words::{
 use arrayvec::ArrayVec;
 use qp_fits::Known;
 use qp_histories::records_by_word::RecordsByWord;
-use qp_model::{Body, Entry, Journal, Lane, Named, Params, System, Touched};
+use qp_model::{Body, Entry, Journal, Lane, Named, Params, Rec, System, Touched, kinds};
 use qp_word_states::numbers::has;
 use qp_word_states::signals::Subscribed;
 use std::alloc::{AllocError, Global};
@@ -39,6 +39,14 @@ fn is_in(lists: &[Subscribed], n: usize, o: u8) -> bool
     match lists.get(n.min(last)) {
         Some(list) => has(&list.items, u64::from(o)),
         None => false,
+    }
+}
+
+/// Whether a record of this kind is on a queue, as most are, or on a time event: neither has a table.
+fn is_of_queue_or_timer(kind: u8) -> bool {
+    match kind {
+        kinds::TOOK..=kinds::SEEN | kinds::POST..=kinds::FULL | kinds::ARM..=kinds::FIRE => true,
+        _ => false,
     }
 }
 
@@ -82,14 +90,22 @@ impl<'a, 'r> Knowledge<'a, 'r> {
         ensures { OnOk result (IsKnowledgeOf self.new self.old.sys.now self.old.journal.now) }
     {
         for r in &lane.items {
-            match Touched::by(r) {
-                Touched::Draws { word, .. } | Touched::Shows { word, .. } => {
-                    self.learn(alloc, word)?
-                }
-                Touched::Neither => {}
+            if !is_of_queue_or_timer(r.kind) {
+                self.learn_word(alloc, r)?;
             }
         }
         Ok(())
+    }
+
+    /// Makes the table of the word that a record names.
+    fn learn_word(&mut self, alloc: Global, r: &Rec) -> Result<(), AllocError>
+        requires { IsKnown self.old }
+        ensures { OnOk result (IsKnowledgeOf self.new self.old.sys.now self.old.journal.now) }
+    {
+        match Touched::by(r) {
+            Touched::Draws { word, .. } | Touched::Shows { word, .. } => self.learn(alloc, word),
+            Touched::Neither => Ok(()),
+        }
     }
 
     fn learn(&mut self, alloc: Global, word: Named) -> Result<(), AllocError>

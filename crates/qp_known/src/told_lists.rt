@@ -4,7 +4,7 @@ ghost use Rattle.std.specs.Prelude.{◌≡◌, ◌==◌, ◌++◌, ◌∷◌, []
 ghost use Rattle.qp_model.specs.Ends.{is_spill, is_turn_mark};
 ghost use Rattle.qp_model.specs.History.{lane_items};
 ghost use Rattle.qp_model.specs.Home.{by_object, home_records, is_look_at, own_items};
-ghost use Rattle.qp_model.specs.Knowing.{ceiling_after, records_of, told};
+ghost use Rattle.qp_model.specs.Knowing.{records_of, told};
 ghost use Rattle.qp_model.specs.Lawful.{dispatched, facts_of};
 ghost use Rattle.qp_model.specs.Record.{item_of};
 ghost use Rattle.qp_model.specs.Sources.{source_records};
@@ -13,20 +13,11 @@ ghost use Rattle.qp_known.specs.Looks.{counted};
 
 use crate::knowledge::Knowledge;
 use qp_fits::Told;
+use qp_kinds::ceiling_after;
 use qp_lanes::lane_parts::{home_lane, lane_at};
 use qp_model::kernels::PORT;
 use qp_model::{Body, Rec};
 use std::alloc::{AllocError, Global};
-
-/// The ceiling after a record of the lane.
-fn ceiling_after(ceiling: u64, body: &Body) -> u64
-    ensures { result ≡ ceiling_after ceiling body.now }
-{
-    match body {
-        Body::Lock { ceiling } | Body::Unlock { ceiling } => *ceiling,
-        _ => ceiling,
-    }
-}
 
 /// Whether a record is a look at the queue of `o`.
 fn is_look_at(o: u8, body: &Body) -> bool
@@ -46,8 +37,24 @@ fn counts_for(o: u8, looks: bool, r: &Rec) -> bool
     r.of == o || looks && r.of == 0 && is_look_at(o, &r.body())
 }
 
-/// Puts a record at the end where it counts as one of `o`.
+/// A record of `o`, as told; this ceiling stood before it in its lane.
 #[tactic(auto, unfolding(qp_model::specs::Record::item_of, qp_model::specs::Knowing::told))]
+pub fn told_by(
+    alloc: Global,
+    knowledge: &Knowledge,
+    o: u8,
+    ceiling: u64,
+    r: &Rec,
+) -> Result<Told, AllocError>
+    requires { IsKnown knowledge.now }
+    ensures { IfOk result (λ t. t ≡ told (facts_in knowledge.now) o ceiling (item_of r.now).body) }
+{
+    let body = r.body();
+    let known = knowledge.known_of(alloc, o, ceiling, &body)?;
+    Ok(Told { body, known })
+}
+
+/// Puts a record at the end where it counts as one of `o`.
 fn put_own(
     all: &mut Vec<Told>,
     alloc: Global,
@@ -64,9 +71,7 @@ fn put_own(
     if !counts_for(o, looks, r) {
         return Ok(());
     }
-    let body = r.body();
-    let known = knowledge.known_of(alloc, o, ceiling, &body)?;
-    all.push(Told { body, known })?;
+    all.push(told_by(alloc, knowledge, o, ceiling, r)?)?;
     Ok(())
 }
 
@@ -85,7 +90,7 @@ pub fn told_records(
     let mut ceiling = 0;
     for r in lane {
         put_own(&mut told, alloc, knowledge, o, looks, ceiling, r)?;
-        ceiling = ceiling_after(ceiling, &r.body());
+        ceiling = ceiling_after(ceiling, r);
     }
     Ok(told)
 }
