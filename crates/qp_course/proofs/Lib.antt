@@ -26,3 +26,4 @@ pub mod AnswerLemmas
 pub mod QuietLemmas
 pub mod DoneLemmas
 pub mod StandingLemmas
+pub mod ReadingLemmas

@@ -14,6 +14,7 @@ pub mod Machine
 pub mod Note
 pub mod Passing
 pub mod Plans
+pub mod Reading
 pub mod Ready
 pub mod Runs
 pub mod Standing

@@ -8,6 +8,7 @@ mod deeds;
 mod handler;
 mod notes;
 mod places;
+mod reading;
 mod runs;
 mod settle;
 mod standing;
@@ -17,5 +18,6 @@ mod tell;
 
 pub use agenda::{Plan, start_plan, step_plan};
 pub use decide::{chart_at, follows, follows_with_points};
-pub use standing::{Standing, standing_after};
+pub use reading::Reading;
+pub use standing::Standing;
 pub use tasks::Task;

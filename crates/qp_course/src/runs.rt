@@ -68,7 +68,7 @@ impl<'a> State<'a> {
     }
 
     /// The state in which another piece than a point is expected.
-    fn passed(self, who: &Actor<'a>) -> Self
+    pub(crate) fn passed(self, who: &Actor<'a>) -> Self
         requires able { IsAble who.now.sys.now (as_actor who.now) }
         requires can { CanRun who.now.sys.now (as_actor who.now) (as_state self) }
         ensures is { as_state result ≡ pass (as_actor who.now) (as_state self.entry) }
