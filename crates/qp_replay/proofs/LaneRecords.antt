@@ -51,7 +51,7 @@ all-back : {A : Type 0} (P : A → Type 0) (xs ys : List A) → AllByRecursion P
 all-back P [] ys h = h
 all-back P (x ∷ xs) ys h = all-back P xs ys h.1
 
-all-filter : {A : Type 0} (P : A → Type 0) (f : A → Bool) (xs : List A) → AllByRecursion P xs → AllByRecursion P (filter f xs)
+pub all-filter : {A : Type 0} (P : A → Type 0) (f : A → Bool) (xs : List A) → AllByRecursion P xs → AllByRecursion P (filter f xs)
 all-filter P f [] h = tt
 all-filter P f (x ∷ xs) h = go (f x) (all-filter P f xs h.1)
   where
@@ -70,24 +70,24 @@ all-of-filter P f (x ∷ xs) others h = go (f x) refl h (all-of-filter P f xs ot
 
 -- The kernel lane: each record is one of the kernel's own, or of an object of the system.
 
-abbrev IsObject : System → ℕ → Type 0
+abbrev pub IsObject : System → ℕ → Type 0
 IsObject sys o = IsTrue (is_object sys o)
 
 -- the kernel's own records name objects of the system
-abbrev RoleNames : System → Role → Type 0
+abbrev pub RoleNames : System → Role → Type 0
 RoleNames sys (Looks k floor) = ⊤
 RoleNames sys (Sees p f l m) = IsObject sys p
 RoleNames sys (Rests k) = ⊤
 RoleNames sys Spills = ⊤
 RoleNames sys _ = ⊥
 
-abbrev PlaceNames : System → Upcoming → Type 0
+abbrev pub PlaceNames : System → Upcoming → Type 0
 PlaceNames sys (Looking p others) = IsObject sys p × AllByRecursion (IsObject sys) others
 PlaceNames sys (Chosen p) = IsObject sys p
 PlaceNames sys (Ended p) = IsObject sys p
 PlaceNames sys _ = ⊤
 
-record ReadingNames (sys : System) (k : Reading) : Type 0 where
+pub record ReadingNames (sys : System) (k : Reading) : Type 0 where
   unstarted : AllByRecursion (IsObject sys) k.unstarted
   running : AllByRecursion (IsObject sys) k.running
   place : PlaceNames sys k.place
@@ -251,7 +251,7 @@ module _ (s : Setting) where
   role-comes k next o r h is = started-comes k next o r k.unstarted h h.unstarted is
 
   -- each record of the lane is the kernel's own or of an object
-  kernel-each : (k end : Reading) (is : List Item) → ReadingNames s.sys k → lane_on s k is ≡ Some end → AllByRecursion (λ i. RoleNames s.sys (role_of i.body) ⊎ IsObject s.sys i.of) is
+  pub kernel-each : (k end : Reading) (is : List Item) → ReadingNames s.sys k → lane_on s k is ≡ Some end → AllByRecursion (λ i. RoleNames s.sys (role_of i.body) ⊎ IsObject s.sys i.of) is
   unfolding lane_on lane_next
   kernel-each k end [] h on = tt
   kernel-each k end (i ∷ is) h on = go (role_next s k i.of (role_of i.body)) refl on (λ next names later. kernel-each next end is names later)
@@ -262,7 +262,7 @@ module _ (s : Setting) where
       go None e on more = absurd (cc)
       go (Some next) e on more = let c = role-comes k next i.of (role_of i.body) h e in (c.whose, more next c.names on)
 
-  unread-names : ReadingNames s.sys (unread s.sys)
+  pub unread-names : ReadingNames s.sys (unread s.sys)
   unfolding unread
   unread-names = record { unstarted = own-objects s.sys; running = tt; place = tt }
 
@@ -288,7 +288,7 @@ others-differ [] d rest h = tt
 others-differ (x ∷ xs) d rest h = (let less = (all-back (λ y. x.priority < y.priority) xs (d ∷ rest) h.1).0 in grind (arith, nat_tests, less), others-differ xs d rest h.2)
 
 -- the home lane of the object behind these, where each has a lane of its own
-home-at : (sys : System) (j : Journal) → (j.kernel == port) ≡ true → Ascend sys.objects → (front : List ObjectDef) (d : ObjectDef) (rest : List ObjectDef) → front ++ d ∷ rest ≡ sys.objects
+pub home-at : (sys : System) (j : Journal) → (j.kernel == port) ≡ true → Ascend sys.objects → (front : List ObjectDef) (d : ObjectDef) (rest : List ObjectDef) → front ++ d ∷ rest ≡ sys.objects
     → home_of sys j d.priority ≡ length front + 1
 unfolding home_of
 home-at sys j is_port ascend front d rest at =

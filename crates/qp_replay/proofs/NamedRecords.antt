@@ -99,7 +99,7 @@ tasks-name sys me at_hand (t ∷ ts) h = (one t h.0, tasks-name sys me at_hand t
     one (Raise c) may = tt
     one Restore may = tt
 
-chart-names : (sys : System) → IsSound sys → (d : ObjectDef) → object_at sys d.priority ≡ Some d → (chart : Chart) → chart_at sys d.chart ≡ Some chart → ChartNames sys d.priority chart
+pub chart-names : (sys : System) → IsSound sys → (d : ObjectDef) → object_at sys d.priority ≡ Some d → (chart : Chart) → chart_at sys d.chart ≡ Some chart → ChartNames sys d.priority chart
 unfolding is_object object_at
 chart-names sys sound d found chart its =
     let ready : IsReady sys d.priority chart = sound-ready sys d.priority chart (d.chart - 1) home its in
@@ -132,7 +132,7 @@ chart-names sys sound d found chart its =
 
 -- Lists.
 
-all-two : {A : Type 0} (P Q R : A → Type 0) → ((x : A) → P x → Q x → R x) → (xs : List A) → AllByRecursion P xs → AllByRecursion Q xs → AllByRecursion R xs
+pub all-two : {A : Type 0} (P Q R : A → Type 0) → ((x : A) → P x → Q x → R x) → (xs : List A) → AllByRecursion P xs → AllByRecursion Q xs → AllByRecursion R xs
 all-two P Q R go [] p q = tt
 all-two P Q R go (x ∷ xs) p q = (go x p.0 q.0, all-two P Q R go xs p.1 q.1)
 
@@ -141,19 +141,19 @@ all-each : {A : Type 0} {B : Type 0} (P : B → A → Type 0) (xs : List A) → 
 all-each P [] h = tt
 all-each P (x ∷ xs) h = ((λ b. (h b).0), all-each P xs (λ b. (h b).1))
 
-all-from : {A : Type 0} (p : A → Bool) (xs : List A) → list_all p xs ≡ true → AllByRecursion (λ x. p x ≡ true) xs
+pub all-from : {A : Type 0} (p : A → Bool) (xs : List A) → list_all p xs ≡ true → AllByRecursion (λ x. p x ≡ true) xs
 all-from p [] h = tt
 all-from p (x ∷ xs) h = let parts = both_true (p x) (list_all p xs) h in (parts.0, all-from p xs parts.1)
 
-all-test : {A : Type 0} (p : A → Bool) (xs : List A) → AllByRecursion (λ x. p x ≡ true) xs → list_all p xs ≡ true
+pub all-test : {A : Type 0} (p : A → Bool) (xs : List A) → AllByRecursion (λ x. p x ≡ true) xs → list_all p xs ≡ true
 all-test p [] h = refl
 all-test p (x ∷ xs) h = true_both _ _ h.0 (all-test p xs h.1)
 
-all-join : {A : Type 0} (P : A → Type 0) (xs ys : List A) → AllByRecursion P xs → AllByRecursion P ys → AllByRecursion P (xs ++ ys)
+pub all-join : {A : Type 0} (P : A → Type 0) (xs ys : List A) → AllByRecursion P xs → AllByRecursion P ys → AllByRecursion P (xs ++ ys)
 all-join P [] ys h k = k
 all-join P (x ∷ xs) ys h k = (h.0, all-join P xs ys h.1 k)
 
-all-parts : {A : Type 0} (P : A → Type 0) (xs ys : List A) → AllByRecursion P (xs ++ ys) → AllByRecursion P xs × AllByRecursion P ys
+pub all-parts : {A : Type 0} (P : A → Type 0) (xs ys : List A) → AllByRecursion P (xs ++ ys) → AllByRecursion P xs × AllByRecursion P ys
 all-parts P [] ys h = (tt, h)
 all-parts P (x ∷ xs) ys h = let parts = all-parts P xs ys h.1 in ((h.0, parts.0), parts.1)
 
@@ -167,7 +167,7 @@ all-passed P Q f go (x ∷ xs) h = by (f x) refl (all-passed P Q f go xs h.1)
     by false e k = k
 
 -- where those that pass have it, each that passes has it
-all-passing : {A : Type 0} (P : A → Type 0) (f : A → Bool) (xs : List A) → AllByRecursion P (filter f xs) → AllByRecursion (λ x. f x ≡ true → P x) xs
+pub all-passing : {A : Type 0} (P : A → Type 0) (f : A → Bool) (xs : List A) → AllByRecursion P (filter f xs) → AllByRecursion (λ x. f x ≡ true → P x) xs
 all-passing P f [] h = tt
 all-passing P f (x ∷ xs) h = by (f x) refl h (all-passing P f xs)
   where

@@ -43,11 +43,11 @@ found-at o k (x ∷ xs) d at is = go k at (x.priority == o) refl (λ n later. fo
         absurd (cc)
     go (suc n) at false e later = later n at
 
-any-object : (sys : System) (o : ℕ) → Any (λ d. d.priority ≡ o) sys.objects → IsTrue (is_object sys o)
+pub any-object : (sys : System) (o : ℕ) → Any (λ d. d.priority ≡ o) sys.objects → IsTrue (is_object sys o)
 unfolding is_object object_at
 any-object sys o (k, d, within, at, is) = found-at o k sys.objects d (slice_get-get_or sys.objects k d within ∙ ap (λ x. Some x) at) is
 
-event-signal : (sys : System) (ev : Ev) (reserve : Option ℕ) → rule.EventFits sys ev reserve → IsTrue (is_signal sys ev.sig)
+pub event-signal : (sys : System) (ev : Ev) (reserve : Option ℕ) → rule.EventFits sys ev reserve → IsTrue (is_signal sys ev.sig)
 event-signal sys ev reserve h =
     let within = slice_get_within sys.signals (ev.sig - 4) h.def h.declared in
     let four : nat_le 4 ev.sig ≡ true = (let low = h.above_reserved in grind (arith, nat_tests, low)) in
