@@ -57,7 +57,7 @@ use Rattle.qp_replay.proofs.LaneRecords.{all-fine, found-one}
 
 -- The actions of an object's chart name what the system has.
 
-timer-there : (sys : System) (me place : ℕ) → HasTimer sys me place → IsTrue (is_timer sys (timer_number sys.timers me place))
+pub timer-there : (sys : System) (me place : ℕ) → HasTimer sys me place → IsTrue (is_timer sys (timer_number sys.timers me place))
 timer-there sys me place h =
     let low = h.some in
     let within = slice_get_within sys.timers (timer_number sys.timers me place - 1) h.timer h.there in
@@ -99,14 +99,10 @@ tasks-name sys me at_hand (t ∷ ts) h = (one t h.0, tasks-name sys me at_hand t
     one (Raise c) may = tt
     one Restore may = tt
 
-pub chart-names : (sys : System) → IsSound sys → (d : ObjectDef) → object_at sys d.priority ≡ Some d → (chart : Chart) → chart_at sys d.chart ≡ Some chart → ChartNames sys d.priority chart
+-- and they may be done
+pub chart-ready : (sys : System) → IsSound sys → (d : ObjectDef) → object_at sys d.priority ≡ Some d → (chart : Chart) → chart_at sys d.chart ≡ Some chart → IsReady sys d.priority chart
 unfolding is_object object_at
-chart-names sys sound d found chart its =
-    let ready : IsReady sys d.priority chart = sound-ready sys d.priority chart (d.chart - 1) home its in
-    record {
-      start = tasks-name sys d.priority None _ ready.start;
-      steps = λ leaf names sig. tasks-name sys d.priority (Some (hand.Static 0)) _ (ready.steps (hand.Static 0) leaf names sig);
-    }
+chart-ready sys sound d found chart its = sound-ready sys d.priority chart (d.chart - 1) home its
   where
     object : is_some (find (λ x. x.priority == d.priority) sys.objects) ≡ true
     object = rw found refl
@@ -128,6 +124,14 @@ chart-names sys sound d found chart its =
       timers = λ place some few.
           let n = number-owned sys sound d.priority place d chart found its some few in
           record { some = n.some; few = let most = sound.few_timers in omega (arith, n.few, most); timer = n.timer; there = n.there; owner = n.owner };
+    }
+
+chart-names : (sys : System) → IsSound sys → (d : ObjectDef) → object_at sys d.priority ≡ Some d → (chart : Chart) → chart_at sys d.chart ≡ Some chart → ChartNames sys d.priority chart
+chart-names sys sound d found chart its =
+    let ready : IsReady sys d.priority chart = chart-ready sys sound d found chart its in
+    record {
+      start = tasks-name sys d.priority None _ ready.start;
+      steps = λ leaf names sig. tasks-name sys d.priority (Some (hand.Static 0)) _ (ready.steps (hand.Static 0) leaf names sig);
     }
 
 -- Lists.

@@ -1,0 +1,10 @@
+pub mod Along
+pub mod Fronts
+pub mod Histories
+pub mod NextBlocks
+pub mod NextMay
+pub mod NextRecords
+pub mod TokenCalls
+pub mod TokenCourses
+pub mod TokenLanes
+pub mod TokenSources
