@@ -1,2 +1,3 @@
 -- Lemmas of the summary.
 pub mod SummaryLemmas
+pub mod ComingLemmas

@@ -1,5 +1,5 @@
 -- What the lines say is what the summary of the journal has.
-use Rattle.std.proofs.Common.{◌≡◌, ◌∙◌, ℕ, zero, suc, ◌+◌, ◌==◌, Bool, true, false, not, ◌&&◌, ◌||◌, List, [], ◌∷◌, ◌++◌, length, map, take, get_or, cond, refl, ◌<◌, sym, ap, subst, Option, Some, None, Ok, Err, arith, append_assoc}
+use Rattle.std.proofs.Common.{◌≡◌, ◌∙◌, ℕ, zero, suc, ◌+◌, ◌==◌, Bool, true, false, not, List, [], ◌∷◌, ◌++◌, length, take, get_or, cond, refl, ◌<◌, sym, ap, subst, Option, Some, None, Ok, Err, arith}
 use Rattle.std.specs.Prelude.{codes, decimal}
 use Rattle.std.specs.List.{filter, count_by, AllByRecursion}
 use Rattle.std.proofs.lemmas.List.Sums.{sum_by-cons}
@@ -9,21 +9,19 @@ use Rattle.qp_model.specs.declared.systems.System.{System}
 use Rattle.qp_model.specs.declared.systems.ObjectDef.{ObjectDef}
 use Rattle.qp_model.specs.declared.systems.PoolDef.{PoolDef}
 use Rattle.qp_model.specs.declared.stimulus.Stim.{Stim}
-use Rattle.qp_model.specs.declared.words.Word.{Word}
 use Rattle.qp_model.specs.declared.words.Word.TheVariants as word
 use Rattle.qp_model.specs.declared.bodies.Body.{Body}
 use Rattle.qp_model.specs.declared.bodies.Body.TheVariants as body
-use Rattle.qp_model.specs.Course.{Cut, FollowsTo, chart_at}
+use Rattle.qp_model.specs.Course.{chart_at}
 use Rattle.qp_model.specs.Ends.{is_turn_mark}
 use Rattle.qp_model.specs.History.{all_items, touch, touch_of}
 use Rattle.qp_model.specs.Home.{by_object}
 use Rattle.qp_model.specs.Lawful.{Lawful, ObjectHolds, CourseHolds, cut_of, dispatched, facts_of}
 use Rattle.qp_model.specs.OutputSummary.{is_took, is_done, taken_in, all_done, CourseLeaves, config_text, name_in, values_text, IsStateText, IsObjectLine, AreObjectLines, IsSummary, is_new_of, is_back_of, pool_line, pool_lines}
-use Rattle.qp_model.specs.Pieces.{Piece, bare}
 use Rattle.qp_model.specs.Record.{Item}
 use Rattle.qp_model.specs.Told.{Told}
 use Rattle.qp_course.specs.Followable.{IsFollowable}
-use Rattle.qp_course.specs.Standing.{FollowSomehow, LeavesAt, IsOf, StandsAt}
+use Rattle.qp_course.specs.Standing.{FollowSomehow, LeavesAt, StandsAt}
 use Rattle.qp_course.specs.declared.standing.Standing.{Standing}
 use Rattle.qp_histories.specs.Marks.{word_use, touched}
 use Rattle.qp_base.specs.Counts.{Rose}

@@ -1,2 +1,3 @@
 -- The definitions of the summary's writer.
 pub mod Written
+pub mod Coming

@@ -1,6 +1,7 @@
 //! The summary of a lawful journal: how the run ended, where each object stands, and what each pool gave.
 #![tactic(auto)]
 
+mod coming;
 mod lines;
 mod objects;
 mod pools;

@@ -1,23 +1,30 @@
 //! The lines of objects.
 
-ghost use Rattle.std.specs.Prelude.{◌≡◌, ◌++◌, ◌∷◌, codes, decimal, IfOk, List, OnOk, Some, string_bytes};
+ghost use Rattle.std.specs.Prelude.{◌≡◌, ◌<◌, ◌≤◌, ◌+◌, ◌++◌, ◌∷◌, codes, decimal, IfOk, IfSome, List, OnOk, Some, string_bytes};
 ghost use Rattle.std.specs.List.{AllByRecursion};
 ghost use Rattle.qp_course.specs.Followable.{IsFollowable};
-ghost use Rattle.qp_course.specs.Standing.{FollowSomehow};
-ghost use Rattle.qp_known.specs.Knowledge.{IsKnowledgeOf};
+ghost use Rattle.qp_course.specs.Reading.{CanRead};
+ghost use Rattle.qp_course.specs.Standing.{StandsAt};
+ghost use Rattle.qp_known.specs.Knowledge.{IsKnowledgeOf, IsKnown, facts_in};
 ghost use Rattle.qp_model.specs.Course.{chart_at};
+ghost use Rattle.qp_model.specs.History.{lane_items};
+ghost use Rattle.qp_model.specs.Knowing.{records_of};
 ghost use Rattle.qp_model.specs.Lawful.{CourseHolds, dispatched};
-ghost use Rattle.qp_model.specs.OutputSummary.{AreObjectLines, IsObjectLine, IsStateText, is_took, name_in, taken_in, values_text};
+ghost use Rattle.qp_model.specs.OutputSummary.{AreObjectLines, IsObjectLine, IsStateText, is_took, name_in, values_text};
+ghost use Rattle.qp_summary.specs.Coming.{ComesTo, HasCome};
 ghost use Rattle.qp_model.specs.Told as telling;
 ghost use Rattle.qp_chart.specs.declared.checked.Chart as chart;
 
+use crate::coming::Came;
 use crate::lines::Lines;
 use qp_chart::{Chart, Name};
-use qp_course::{Standing, chart_at, standing_after};
+use qp_course::{Reading, Standing, chart_at};
 use qp_fits::Told;
+use qp_kinds::ceiling_after;
 use qp_known::knowledge::Knowledge;
-use qp_known::told_lists::{keep_dispatched, object_records};
-use qp_model::{Body, Journal, ObjectDef, System};
+use qp_known::told_lists::{is_turn_mark, told_by};
+use qp_lanes::lane_parts::{home_lane, lane_at};
+use qp_model::{Body, Journal, ObjectDef, Rec, System};
 use std::alloc::{AllocError, Global};
 
 /// Appends each variable with its value, after a space.
@@ -68,19 +75,17 @@ fn standing_line(
     }
 }
 
-/// What is told of an object, whose start and steps have these records.
+/// What is told of an object that stands there.
 fn state_text(
     alloc: Global,
     sys: &System,
     d: &ObjectDef,
-    told: &[Told],
+    stands: Option<Standing>,
 ) -> Result<String, AllocError>
-    requires followable { IsFollowable sys.now d.now }
-    requires follow { FollowSomehow sys.now d.now told.now }
-    ensures { IfOk result (λ text. (ts : List telling.Told) → dispatched ts ≡ told.now → IsStateText sys.now d.now
+    requires { IsFollowable sys.now d.now }
+    ensures { IfOk result (λ text. (ts : List telling.Told) → StandsAt sys.now d.now (dispatched ts) stands → IsStateText sys.now d.now
         (chart_at sys.now d.now.chart) ts (string_bytes text)) }
 {
-    let stands = standing_after(alloc, sys, d, told)?;
     match stands {
         Some(standing) => standing_line(alloc, sys, d, &standing),
         None => String::from_str(alloc, "-"),
@@ -93,11 +98,57 @@ fn is_took(t: &Told) -> bool
     matches!(t.body, Body::Took { .. })
 }
 
-/// How many events an object has taken.
-fn taken(told: &[Told]) -> usize
-    ensures { result ≡ taken_in told.now }
+/// What one record more makes of an object; None where it can't come next.
+fn told_next<'a>(alloc: Global, came: Came<'a>, told: &Told) -> Result<Option<Came<'a>>, AllocError>
+    requires few { came.taken < 18446744073709551615 }
+    requires can { CanRead came.course }
+    ensures comes { IfOk result (λ later. ComesTo came.entry told.now later) }
+    ensures few { IfOk result (λ later. IfSome later (λ x. x.taken ≤ came.entry.taken + 1)) }
 {
-    told.iter().filter(|t| is_took(t)).count()
+    if is_turn_mark(&told.body) {
+        return Ok(Some(came));
+    }
+    let Came { taken, course } = came;
+    let count = if is_took(told) { taken + 1 } else { taken };
+    let next = course.read(alloc, told)?;
+    match next {
+        Some(course) => Ok(Some(Came {
+            taken: count,
+            course,
+        })),
+        None => Ok(None),
+    }
+}
+
+/// How far an object has come by the records of its lane; None where they don't follow its chart.
+fn read_lane<'a>(
+    alloc: Global,
+    knowledge: &Knowledge,
+    sys: &'a System,
+    d: &ObjectDef,
+    lane: &[Rec],
+) -> Result<Option<Came<'a>>, AllocError>
+    requires known { IsKnown knowledge.now }
+    requires followable { IsFollowable sys.now d.now }
+    ensures { IfOk result (λ came. HasCome sys.now d.now (records_of (facts_in knowledge.now) d.now.priority 0 (lane_items lane.now)) came) }
+{
+    let Some(course) = Reading::begin(alloc, sys, d)? else {
+        return Ok(None);
+    };
+    let mut came = Came { taken: 0, course };
+    let mut ceiling = 0;
+    for r in lane {
+        if r.of == d.priority {
+            let told = told_by(alloc, knowledge, d.priority, ceiling, r)?;
+            let next = told_next(alloc, came, &told)?;
+            match next {
+                Some(later) => came = later,
+                None => return Ok(None),
+            }
+        }
+        ceiling = ceiling_after(ceiling, r);
+    }
+    Ok(Some(came))
 }
 
 fn line_of(alloc: Global, name: &str, taken: usize, text: &str) -> Result<String, AllocError>
@@ -119,11 +170,16 @@ fn object_line(
     requires course { CourseHolds sys.now j.now d.now }
     ensures { IfOk result (λ line. IsObjectLine sys.now j.now d.now (string_bytes line)) }
 {
-    let mut told = object_records(alloc, knowledge, d.priority)?;
-    let taken = taken(&told);
-    keep_dispatched(&mut told);
-    let text = state_text(alloc, sys, d, &told)?;
-    line_of(alloc, d.name.as_str(), taken, &text)
+    let home = home_lane(sys, j, d.priority);
+    let read = read_lane(alloc, knowledge, sys, d, lane_at(j, home))?;
+    match read {
+        Some(came) => {
+            let Came { taken, course } = came;
+            let text = state_text(alloc, sys, d, course.standing())?;
+            line_of(alloc, d.name.as_str(), taken, &text)
+        }
+        None => Ok(String::new(alloc)),
+    }
 }
 
 /// The lines of all objects, in ascending priority.

@@ -1,6 +1,5 @@
-use Rattle.std.proofs.Common.{◌≡◌, ◌++◌, ◌∙◌, [], sym, ap, Some}
+use Rattle.std.proofs.Common.{◌++◌, ◌∙◌, [], sym, ap}
 use Rattle.std.proofs.lemmas.Result.{IfOk-weaker}
-use Rattle.std.specs.Prelude.{string_bytes}
 use Rattle.std.specs.Option.{option_copied}
 use Rattle.qp_chart.specs.declared.checked.Chart.{Chart}
 use Rattle.qp_course.proofs.BackLemmas.{some-first}

@@ -1,8 +1,7 @@
-use Rattle.std.proofs.Common.{◌≡◌, Result, subst}
-use Rattle.qp_base.specs.declared.sinks.SinkFault.{SinkFault}
+use Rattle.std.proofs.Common.{subst}
 use Rattle.qp_text.specs.Puts.{Puts}
 use Rattle.qp_summary.specs.Written.{joined}
-use Rattle.qp_summary.proofs.SummaryLemmas.{lawful-courses, writes-all, writes-front, writes-none}
+use Rattle.qp_summary.proofs.SummaryLemmas.{writes-all, writes-front, writes-none}
 use Rattle.qp_summary.proofs.summary.write_summary.Goals as goal
 
 pub returns-in-Ok-put : goal.returns-in-Ok-put

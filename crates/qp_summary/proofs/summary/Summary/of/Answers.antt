@@ -1,5 +1,4 @@
-use Rattle.std.proofs.Common.{◌≡◌, ◌∙◌, ap}
-use Rattle.qp_model.specs.declared.systems.System.{System}
+use Rattle.std.proofs.Common.{◌∙◌, ap}
 use Rattle.qp_model.specs.History.{all_items}
 use Rattle.qp_model.specs.OutputSummary.{pool_lines}
 use Rattle.qp_summary.proofs.SummaryLemmas.{summary-lines}

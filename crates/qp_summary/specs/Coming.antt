@@ -1,0 +1,29 @@
+-- How far an object has come by some of its records.
+use Rattle.std.specs.Prelude.{◌≡◌, ◌+◌, List, [], ◌∷◌, Some, None}
+use Rattle.std.specs.declared.option.Option.{Option}
+use Rattle.qp_model.specs.declared.systems.System.{System}
+use Rattle.qp_model.specs.declared.systems.ObjectDef.{ObjectDef}
+use Rattle.qp_model.specs.Lawful.{dispatched}
+use Rattle.qp_model.specs.OutputSummary.{taken_in}
+use Rattle.qp_model.specs.Told.{Told}
+use Rattle.qp_course.specs.Followable.{IsFollowable}
+use Rattle.qp_course.specs.Reading.{CanRead, LeavesOf}
+use Rattle.qp_course.specs.Standing.{FollowSomehow}
+use Rattle.qp_summary.specs.declared.coming.Came.{Came}
+
+-- of all these records of the object, those that are left come next
+pub record IsOn (sys : System) (d : ObjectDef) (x : Came) (left all : List Told) : Type 0 where
+  pub can : CanRead x.course
+  pub taken : x.taken + taken_in left ≡ taken_in all
+  pub leaves : LeavesOf sys d x.course (dispatched left) (dispatched all)
+
+-- one record more; it can come, where the records follow the object's chart
+abbrev pub ComesTo : Came → Told → Option Came → Type 0
+ComesTo x t None =
+    (sys : System) (d : ObjectDef) (left all : List Told) → IsOn sys d x (t ∷ left) all → IsFollowable sys d → FollowSomehow sys d (dispatched all) → ⊥
+ComesTo x t (Some y) = (sys : System) (d : ObjectDef) (left all : List Told) → IsOn sys d x (t ∷ left) all → IsOn sys d y left all
+
+-- all of them
+abbrev pub HasCome : System → ObjectDef → List Told → Option Came → Type 0
+HasCome sys d all None = FollowSomehow sys d (dispatched all) → ⊥
+HasCome sys d all (Some x) = IsOn sys d x [] all
