@@ -1,5 +1,5 @@
 -- Each record says what is of its kind.
-use Rattle.std.proofs.Common.{◌≡◌, ℕ, zero, suc, ◌+◌, Bool, true, false, not, ◌||◌, ◌==◌, cond, List, [], ◌∷◌, refl, subst, arith}
+use Rattle.std.proofs.Common.{◌≡◌, ℕ, zero, suc, ◌+◌, Bool, true, false, ◌||◌, ◌==◌, cond, List, [], ◌∷◌, refl, subst, arith}
 use Rattle.qp_model.specs.declared.record.Rec.{Rec}
 use Rattle.std.specs.List.{slice_get}
 use Rattle.qp_model.specs.declared.bodies.Body.{Body}
