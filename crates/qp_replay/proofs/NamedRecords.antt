@@ -13,10 +13,12 @@ use Rattle.qp_chart.specs.declared.actions.Plain.{Plain}
 use Rattle.qp_chart.specs.declared.actions.Plain.TheVariants as action
 use Rattle.qp_chart.specs.declared.checked.Chart.{Chart}
 use Rattle.qp_model.specs.declared.record.Rec.{Rec}
+use Rattle.qp_model.specs.declared.stimulus.Stim.{Stim}
 use Rattle.qp_model.specs.declared.words.Word.{Word}
 use Rattle.qp_model.specs.declared.words.Word.TheVariants as word
 use Rattle.qp_model.specs.declared.systems.System.{System}
 use Rattle.qp_model.specs.declared.systems.ObjectDef.{ObjectDef}
+use Rattle.qp_model.specs.declared.journals.Journal.{Journal}
 use Rattle.qp_model.specs.declared.bodies.Entry.{Entry}
 use Rattle.qp_model.specs.declared.bodies.Body.{Body}
 use Rattle.qp_model.specs.declared.bodies.Body.TheVariants as item
@@ -36,11 +38,12 @@ use Rattle.qp_model.specs.Sound.{IsSound, IsSoundObject}
 use Rattle.qp_model.specs.SoundChart.{IsSoundPlain}
 use Rattle.qp_model.specs.WordLaw.{Keeps, Words, is_block, is_object, is_pool, is_signal, is_timer}
 use Rattle.qp_model.specs.Course.{chart_at}
-use Rattle.qp_model.specs.Lawful.{facts_of}
+use Rattle.qp_model.specs.Lawful.{Lawful, facts_of}
 use Rattle.qp_model.proofs.HistoryLemmas.{drawn_as-on}
 use Rattle.qp_model.proofs.ListLemmas.{both_true, true_both, list_all-has}
 use Rattle.qp_model.proofs.MachineLemmas.{is_allowed-front}
 use Rattle.qp_model.proofs.NumberLemmas.{number-owned}
+use Rattle.qp_stim.specs.Rules.{StimuliFit}
 use Rattle.qp_calls.specs.Counting.{one}
 use Rattle.qp_calls.specs.declared.tokens.Entry as token
 use Rattle.qp_calls.specs.declared.tokens.Entry.TheVariants as hand
@@ -263,7 +266,7 @@ gives-all blocks history allowed = gives-from blocks (free_blocks blocks).first 
 
 -- What holds of each record at once: the pool of a block that is given out is the system's, and so is an object that subscribes.
 
-abbrev FirstFine : System → ℕ → Body → Type 0
+abbrev pub FirstFine : System → ℕ → Body → Type 0
 FirstFine sys o (item.New p n b from sig pars) = IsTrue (is_pool sys p)
 FirstFine sys o (item.Sub sig n) = IsTrue (is_object sys o)
 FirstFine sys o _ = ⊤
@@ -340,9 +343,9 @@ module _ (sys : System) where
 
   -- What is known of a record for sure.
 
-  record SureBody (b : Body) : Type 0 where
-    blocks : (p n c from sig : ℕ) (pars : List ℕ) → b ≡ item.New p n c from sig pars → IsTrue (is_pool sys p) → IsTrue (is_block sys p c)
-    subscribed : (sig n set : ℕ) → b ≡ item.Pub sig n set → IsTrue (is_signal sys sig) → AllByRecursion (λ a. IsTrue (is_object sys a)) (members set)
+  pub record SureBody (b : Body) : Type 0 where
+    pub blocks : (p n c from sig : ℕ) (pars : List ℕ) → b ≡ item.New p n c from sig pars → IsTrue (is_pool sys p) → IsTrue (is_block sys p c)
+    pub subscribed : (sig n set : ℕ) → b ≡ item.Pub sig n set → IsTrue (is_signal sys sig) → AllByRecursion (λ a. IsTrue (is_object sys a)) (members set)
 
   module _ (lanes : List (List Rec)) (words : Words sys lanes) (fine : AllByRecursion (λ i. FirstFine sys i.of i.body) (all_items lanes)) where
     abbrev OwnBlock : ℕ → Item → Type 0
@@ -422,7 +425,7 @@ module _ (sys : System) where
             shown true e h = (both_true _ _ h).1
             shown false e h = absurd (cc)
 
-    sure : AllByRecursion (λ i. SureBody i.body) (all_items lanes)
+    pub sure : AllByRecursion (λ i. SureBody i.body) (all_items lanes)
     sure =
         all-two (λ i. (p : ℕ) → IsTrue (is_pool sys p) → OwnBlock p i) (λ i. (sig : ℕ) → IsTrue (is_signal sys sig) → OwnSet sig i) (λ i. SureBody i.body)
         (λ i own told. record { blocks = λ p n c from sig pars is h. own p h n c from sig pars is; subscribed = λ sig n set is h. told sig h n set is })
@@ -560,24 +563,30 @@ module _ (sys : System) where
         touches (item.Defer e) special h = absurd (cc)
         touches b special h = h
 
+units : (is : List Item) → AllByRecursion (λ i. ⊤) is
+units [] = tt
+units (i ∷ is) = (tt, units is)
+
+first-records : (sys : System) (stimuli : List (List Stim)) (j : Journal) → IsSound sys → StimuliFit sys stimuli → Lawful sys stimuli j → AllByRecursion (λ i. FirstFine sys i.of i.body) (all_items j.lanes)
+first-records sys stimuli j sound fit lawful =
+    all-fine sys stimuli j sound fit lawful (λ o t. ⊤) (λ e. ⊤) (λ a. ⊤) (FirstFine sys) (first-rules sys) (chart-names sys sound) (nothing (all_items j.lanes))
+  where
+    nothing : (is : List Item) → AllByRecursion (λ i. (c : ℕ) → ⊤) is
+    nothing [] = tt
+    nothing (i ∷ is) = ((λ c. tt), nothing is)
+
+-- of each record of a lawful journal: its block is one of the pool's, and the members that it shows are objects
+pub sure-records : (sys : System) (stimuli : List (List Stim)) (j : Journal) → IsSound sys → StimuliFit sys stimuli → Lawful sys stimuli j → AllByRecursion (λ i. SureBody sys i.body) (all_items j.lanes)
+sure-records sys stimuli j sound fit lawful = sure sys j.lanes lawful.words (first-records sys stimuli j sound fit lawful)
+
 pub named-records : LawfulRecordsAreNamed
 unfolding facts_of
 named-records sys stimuli j sound fit lawful =
-    let charts = chart-names sys sound in
-    let first : AllByRecursion (λ i. FirstFine sys i.of i.body) (all_items j.lanes) =
-    all-fine sys stimuli j sound fit lawful (λ o t. ⊤) (λ e. ⊤) (λ a. ⊤) (FirstFine sys) (first-rules sys) charts (nothing (all_items j.lanes)) in
+    let first = first-records sys stimuli j sound fit lawful in
     let fine = all-fine sys stimuli j sound fit lawful (λ o. KnowsTold sys j.lanes lawful.words first) (OfSystem sys j.lanes lawful.words first) (λ a. IsTrue (is_object sys a)) (Fine sys j.lanes lawful.words first)
-    (rules sys j.lanes lawful.words first) charts
+    (rules sys j.lanes lawful.words first) (chart-names sys sound)
     (all-two (λ i. SureBody sys i.body) (λ i. ⊤) (λ i. (c : ℕ) → KnowsTold sys j.lanes lawful.words first (told (record { sys = sys; items = all_items j.lanes }) i.of c i.body))
     (λ i s t c. told-knows sys j.lanes lawful.words first i.of c i.body s) (all_items j.lanes) (sure sys j.lanes lawful.words first) (units (all_items j.lanes))) in
     all-test (λ i. is_on (has_word sys) (touch i)) (all_items j.lanes)
     (all-two (λ i. Fine sys j.lanes lawful.words first i.of i.body) (λ i. ⊤) (λ i. is_on (has_word sys) (touch i) ≡ true) (λ i f t. fine-named sys j.lanes lawful.words first i.of i.body f) (all_items j.lanes) fine
     (units (all_items j.lanes)))
-  where
-    units : (is : List Item) → AllByRecursion (λ i. ⊤) is
-    units [] = tt
-    units (i ∷ is) = (tt, units is)
-
-    nothing : (is : List Item) → AllByRecursion (λ i. (c : ℕ) → ⊤) is
-    nothing [] = tt
-    nothing (i ∷ is) = ((λ c. tt), nothing is)
