@@ -1,7 +1,7 @@
 -- A world along a serial order of a lawful journal: its records are those of a front of the order, and its hands are its owners' together.
-use Rattle.std.proofs.Common.{◌≡◌, ◌≢◌, ◌∙◌, ℕ, zero, suc, ◌+◌, ◌<◌, ◌≤◌, ◌==◌, nat_lt, nat_le, Bool, true, false, not, ◌&&◌, ◌||◌, cond, List, [], ◌∷◌, ◌++◌, length, drop, get_or, take, filter, refl, sym, ap, subst, arith, ◌⊎◌, inl, inr, Option, Some, None, IsTrue, length-append, length-set}
-use Rattle.std.specs.Prelude.{⊤, slice_get, IsPermutation}
-use Rattle.std.specs.List.{AllByRecursion, cons_option, list_all}
+use Rattle.std.proofs.Common.{◌≡◌, ◌≢◌, ◌∙◌, ℕ, zero, suc, ◌+◌, ◌<◌, ◌≤◌, ◌==◌, Bool, true, false, cond, List, [], ◌∷◌, ◌++◌, length, drop, take, refl, sym, ap, subst, arith, ◌⊎◌, inl, inr, Some, IsTrue, length-append, length-set}
+use Rattle.std.specs.Prelude.{⊤, slice_get}
+use Rattle.std.specs.List.{AllByRecursion, list_all}
 use Rattle.std.specs.Option.{option_and_then, unwrap_or}
 use Rattle.std.proofs.lemmas.Bool.{cases_eq}
 use Rattle.std.proofs.lemmas.Bool.Decides.{nat_tests}
@@ -13,15 +13,14 @@ use Rattle.qp_model.specs.declared.words.Word.{Word}
 use Rattle.qp_model.specs.declared.words.Word.TheVariants as word
 use Rattle.qp_model.specs.declared.systems.System.{System}
 use Rattle.qp_model.specs.declared.journals.Journal.{Journal}
-use Rattle.qp_model.specs.declared.bodies.Entry.{Entry}
 use Rattle.qp_model.specs.declared.bodies.Body.{Body}
 use Rattle.qp_model.specs.declared.bodies.Body.TheVariants as item
 use Rattle.qp_model.specs.Record.{Item, item_of}
-use Rattle.qp_model.specs.Told.{Event, Known, Left, OfEvent, Told}
+use Rattle.qp_model.specs.Told.{Known, Left, Told}
 use Rattle.qp_model.specs.History.{Touch, Draws, Shows, Neither, all_items, drawn_as, drawn_on, hist, is_numbered, lane_items, total, touch, touch_of}
 use Rattle.qp_model.specs.Knowing.{Facts, ceiling_after, ceiling_over, known_of, left_after, records_of, told}
-use Rattle.qp_model.specs.Places.{IsSerial, RecordPlace, is_next, item_at, items_at, places}
-use Rattle.qp_model.specs.WordLaw.{Keeps, Words, is_block, is_object, is_pool}
+use Rattle.qp_model.specs.Places.{IsSerial, RecordPlace, is_next, item_at, items_at}
+use Rattle.qp_model.specs.WordLaw.{Keeps, is_block}
 use Rattle.qp_model.specs.Machine.{Machine, after}
 use Rattle.qp_model.specs.References.{references}
 use Rattle.qp_model.proofs.ListLemmas.{both_true}
@@ -95,7 +94,7 @@ lane-get [] a = refl
 lane-get (l ∷ ls) zero = refl
 lane-get (l ∷ ls) (suc a) = lane-get ls a
 
-get-lane : (lanes : List (List Rec)) (a : ℕ) → a < length lanes → slice_get lanes a ≡ Some (lane_of lanes a)
+pub get-lane : (lanes : List (List Rec)) (a : ℕ) → a < length lanes → slice_get lanes a ≡ Some (lane_of lanes a)
 get-lane [] a less = absurd (omega (arith, less))
 get-lane (l ∷ ls) zero less = refl
 get-lane (l ∷ ls) (suc a) less = get-lane ls a (omega (arith, less))
@@ -118,7 +117,7 @@ found-item lanes x r f =
     ∙ ap (λ o. option_and_then (λ r. Some (item_of r)) o) f.is
 
 -- what holds of all records holds of one
-at-record : (P : Item → Type 0) (lanes : List (List Rec)) (a : ℕ) → AllByRecursion P (all_items lanes) → AllByRecursion P (lane_items (lane_of lanes a))
+pub at-record : (P : Item → Type 0) (lanes : List (List Rec)) (a : ℕ) → AllByRecursion P (all_items lanes) → AllByRecursion P (lane_items (lane_of lanes a))
 unfolding all_items lane_items
 at-record P [] a h = tt
 at-record P (l ∷ ls) zero h = front (lane_items l) (all_items ls) h
@@ -138,7 +137,7 @@ items-take P l zero h = tt
 items-take P [] (suc n) h = tt
 items-take P (r ∷ rs) (suc n) h = (h.0, items-take P rs n h.1)
 
-items-get : (P : Item → Type 0) (l : List Rec) (n : ℕ) (r : Rec) → AllByRecursion P (lane_items l) → slice_get l n ≡ Some r → P (item_of r)
+pub items-get : (P : Item → Type 0) (l : List Rec) (n : ℕ) (r : Rec) → AllByRecursion P (lane_items l) → slice_get l n ≡ Some r → P (item_of r)
 unfolding lane_items
 items-get P [] n r h at = absurd (cc)
 items-get P (x ∷ xs) zero r h at = let same : x ≡ r = cc in subst (λ y. P (item_of y)) same h.0

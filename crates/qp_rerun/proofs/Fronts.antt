@@ -1,5 +1,5 @@
 -- In a serial order the records of a lane stand in their order: before each stand just those before it in its lane.
-use Rattle.std.proofs.Common.{◌≡◌, ◌∙◌, ℕ, zero, suc, ◌+◌, ◌<◌, ◌≤◌, ◌==◌, nat_lt, nat_le, Bool, true, false, not, ◌&&◌, ◌||◌, cond, List, [], ◌∷◌, ◌++◌, length, get_or, refl, sym, ap, subst, arith, Some, IsTrue, append_assoc, length-append}
+use Rattle.std.proofs.Common.{◌≡◌, ◌∙◌, ℕ, zero, suc, ◌+◌, ◌<◌, ◌≤◌, ◌==◌, nat_lt, Bool, true, false, ◌&&◌, ◌||◌, List, [], ◌∷◌, ◌++◌, length, get_or, refl, sym, ap, subst, arith, Some, IsTrue}
 use Rattle.std.specs.Prelude.{slice_get, IsPermutation}
 use Rattle.std.specs.List.{AllByRecursion, sum_by}
 use Rattle.std.proofs.lemmas.Bool.Decides.{nat_tests}
@@ -16,7 +16,7 @@ unfolding times
 tally-sum p [] = refl
 tally-sum p (x ∷ xs) = ap (λ n. one (p x) + n) (tally-sum p xs) ∙ sym (sum_by-cons (λ x. one (p x)) x xs)
 
-tally-permutation : {A : Type 0} (p : A → Bool) (xs ys : List A) → IsPermutation xs ys → times p ys ≡ times p xs
+pub tally-permutation : {A : Type 0} (p : A → Bool) (xs ys : List A) → IsPermutation xs ys → times p ys ≡ times p xs
 tally-permutation p xs ys all = tally-sum p ys ∙ sum_by-IsPermutation (λ x. one (p x)) xs ys all ∙ sym (tally-sum p xs)
 
 -- one test says no more than the other
@@ -36,13 +36,13 @@ unfolding times
 tally-none p [] h = refl
 tally-none p (x ∷ xs) h = let more = tally-none p xs h.1 in let none : one (p x) ≡ 0 = ap one h.0 in omega (arith, more, none)
 
-tally-same : {A : Type 0} (p q : A → Bool) (xs : List A) → AllByRecursion (λ x. p x ≡ q x) xs → times p xs ≡ times q xs
+pub tally-same : {A : Type 0} (p q : A → Bool) (xs : List A) → AllByRecursion (λ x. p x ≡ q x) xs → times p xs ≡ times q xs
 unfolding times
 tally-same p q [] h = refl
 tally-same p q (x ∷ xs) h = let more = tally-same p q xs h.1 in let here : one (p x) ≡ one (q x) = ap one h.0 in omega (arith, more, here)
 
 -- a place of lane a before place n of it
-abbrev below : ℕ → ℕ → RecordPlace → Bool
+abbrev pub below : ℕ → ℕ → RecordPlace → Bool
 below a n y = (y.lane == a) && nat_lt y.at n
 
 none-past : (a n k at : ℕ) (rs : List Rec) → n ≤ at → times (below a n) (places_in k at rs) ≡ 0
@@ -97,7 +97,7 @@ none-before a n k (l ∷ ls) less =
     omega (arith, first, more, sum)
 
 -- lane a of these, from lane k on, has n places below n
-in-lane : (a n k m : ℕ) (ls : List (List Rec)) → a ≡ k + m → m < length ls → n ≤ length (get_or ls m []) → times (below a n) (places_from k ls) ≡ n
+pub in-lane : (a n k m : ℕ) (ls : List (List Rec)) → a ≡ k + m → m < length ls → n ≤ length (get_or ls m []) → times (below a n) (places_from k ls) ≡ n
 unfolding times places_from
 in-lane a n k m [] is less few = absurd (omega (arith, less))
 in-lane a n k zero (l ∷ ls) is less few =
@@ -130,7 +130,7 @@ get-behind (x ∷ xs) ys k y at =
     let next : suc (length xs + k) ≡ length (x ∷ xs) + k = omega arith in
     subst (λ n. slice_get (x ∷ (xs ++ ys)) n ≡ Some y) next (get-behind xs ys k y at)
 
-number-is : (x y : ℕ) → (x == y) ≡ true → x ≡ y
+pub number-is : (x y : ℕ) → (x == y) ≡ true → x ≡ y
 number-is x y h = grind (arith, nat_tests, h)
 
 less-is : (x y : ℕ) → nat_lt x y ≡ true → x < y

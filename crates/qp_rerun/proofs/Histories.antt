@@ -1,5 +1,5 @@
 -- The history of a word is the records on it in the order, where the order is serial.
-use Rattle.std.proofs.Common.{◌≡◌, ◌∙◌, ℕ, zero, suc, ◌+◌, ◌<◌, ◌≤◌, ◌==◌, nat_lt, nat_le, Bool, true, false, not, ◌&&◌, ◌||◌, cond, List, [], ◌∷◌, ◌++◌, length, get_or, take, filter, refl, sym, ap, subst, arith, Option, Some, None, IsTrue, append_assoc, length-append}
+use Rattle.std.proofs.Common.{◌≡◌, ◌∙◌, ℕ, zero, suc, ◌+◌, ◌<◌, ◌≤◌, ◌==◌, Bool, true, false, cond, List, [], ◌∷◌, ◌++◌, length, get_or, take, filter, refl, sym, ap, subst, arith, Option, Some, None, length-append}
 use Rattle.std.specs.Prelude.{slice_get, IsPermutation}
 use Rattle.std.specs.List.{All, AllByRecursion, cons_option}
 use Rattle.std.proofs.Math.Seq.{take-suc}
@@ -10,8 +10,7 @@ use Rattle.std.proofs.lemmas.List.Elements.{filter-append}
 use Rattle.qp_model.specs.declared.record.Rec.{Rec}
 use Rattle.qp_model.specs.declared.words.Word.{Word}
 use Rattle.qp_model.specs.Record.{Item}
-use Rattle.qp_model.specs.Lists.{all_below}
-use Rattle.qp_model.specs.History.{Touch, Draws, Shows, Neither, touch, same_word, drawn_on, drawn_as, all_items, hist, numbered, is_numbered, total}
+use Rattle.qp_model.specs.History.{Touch, Draws, Shows, Neither, touch, drawn_on, drawn_as, all_items, hist, numbered, is_numbered, total}
 use Rattle.qp_model.specs.Places.{RecordPlace, in_order, is_next, item_at, items_at, places}
 use Rattle.qp_model.proofs.ListLemmas.{both_true, true_both, all_below_at}
 use Rattle.qp_model.proofs.KnowingLemmas.{same_word-is}
@@ -21,12 +20,12 @@ use Rattle.qp_replay.proofs.LaneRecords.{all-filter}
 
 -- Elements by their places in a list, and by recursion.
 
-by-index : {A : Type 0} (P : A → Type 0) (xs : List A) → AllByRecursion P xs → All P xs
+pub by-index : {A : Type 0} (P : A → Type 0) (xs : List A) → AllByRecursion P xs → All P xs
 by-index P [] h k d less = absurd (omega (arith, less))
 by-index P (x ∷ xs) h zero d less = h.0
 by-index P (x ∷ xs) h (suc k) d less = by-index P xs h.1 k d (omega (arith, less))
 
-from-index : {A : Type 0} (P : A → Type 0) (xs : List A) → All P xs → AllByRecursion P xs
+pub from-index : {A : Type 0} (P : A → Type 0) (xs : List A) → All P xs → AllByRecursion P xs
 from-index P [] h = tt
 from-index P (x ∷ xs) h = (h 0 x (omega arith), from-index P xs (λ k d less. h (suc k) d (omega (arith, less))))
 

@@ -4,7 +4,9 @@ pub mod Histories
 pub mod NextBlocks
 pub mod NextMay
 pub mod NextRecords
+pub mod OneThread
 pub mod TokenCalls
 pub mod TokenCourses
 pub mod TokenLanes
+pub mod TokenNames
 pub mod TokenSources

@@ -1,6 +1,6 @@
 -- The next record of a serial order, where it gives out a block or gives one back: its life begins and ends where it says.
-use Rattle.std.proofs.Common.{◌≡◌, ◌∙◌, ℕ, zero, suc, ◌+◌, ◌<◌, ◌≤◌, ◌==◌, nat_lt, nat_le, Bool, true, false, not, ◌&&◌, ◌||◌, cond, List, [], ◌∷◌, ◌++◌, length, take, filter, refl, sym, ap, subst, arith, ◌⊎◌, inl, inr, Option, Some, None, IsTrue, length-append}
-use Rattle.std.specs.List.{AllByRecursion, cons_option, filter_map, list_all, list_any}
+use Rattle.std.proofs.Common.{◌≡◌, ◌∙◌, ℕ, zero, suc, ◌<◌, ◌≤◌, ◌==◌, nat_lt, nat_le, Bool, true, false, not, ◌&&◌, ◌||◌, cond, List, [], ◌∷◌, ◌++◌, length, take, refl, sym, ap, subst, arith, Option, Some, None, IsTrue}
+use Rattle.std.specs.List.{AllByRecursion, cons_option}
 use Rattle.std.proofs.lemmas.Bool.{not-true}
 use Rattle.std.proofs.lemmas.Bool.Decides.{nat_tests}
 use Rattle.std.proofs.lemmas.List.{take_all}
@@ -14,22 +14,22 @@ use Rattle.qp_model.specs.declared.systems.System.{System}
 use Rattle.qp_model.specs.declared.bodies.Body.{Body}
 use Rattle.qp_model.specs.declared.bodies.Body.TheVariants as item
 use Rattle.qp_model.specs.Record.{Item}
-use Rattle.qp_model.specs.Lists.{is_first, all_below}
-use Rattle.qp_model.specs.History.{Touch, Draws, drawn_on, touch, touch_of, all_items, hist}
-use Rattle.qp_model.specs.Machine.{Machine, after, after_from, allowed_from, is_allowed}
-use Rattle.qp_model.specs.FreeBlocks.{Pool, free_blocks}
+use Rattle.qp_model.specs.Lists.{is_first}
+use Rattle.qp_model.specs.History.{Draws, drawn_on, touch, all_items, hist}
+use Rattle.qp_model.specs.Machine.{after, after_from, allowed_from, is_allowed}
+use Rattle.qp_model.specs.FreeBlocks.{free_blocks}
 use Rattle.qp_model.specs.References.{references}
 use Rattle.qp_model.specs.Lives.{HasLives, Life, edge_of, edges, edges_empty, is_empty, life_may, life_next, life_of, lives_cover, lives_referred, refs_at}
 use Rattle.qp_model.specs.Sites.{blocks_of}
 use Rattle.qp_model.specs.WordLaw.{Words, is_block, is_pool}
 use Rattle.qp_model.specs.Places.{IsSerial, RecordPlace, item_at, items_at}
-use Rattle.qp_model.proofs.ListLemmas.{both_true, true_both, all_below_at, list_all-has}
+use Rattle.qp_model.proofs.ListLemmas.{both_true, all_below_at, list_all-has}
 use Rattle.qp_model.proofs.MachineLemmas.{count-after, is_allowed-at, is_allowed-front, is_allowed-rest}
 use Rattle.qp_model.proofs.WordLawLemmas.{references-counts}
 use Rattle.qp_calls.specs.Counting.{count_of}
 use Rattle.qp_calls.specs.Tokens.{Token, Loose, stands}
 use Rattle.qp_sound.specs.May.{May}
-use Rattle.qp_sound.specs.Sound.{BlockOk, SoundWorld, hands_in, is_event}
+use Rattle.qp_sound.specs.Sound.{SoundWorld, hands_in, is_event}
 use Rattle.qp_sound.specs.WordStates.{life_in, pool_in, refs_in}
 use Rattle.qp_sound.proofs.Times.{stands-times}
 use Rattle.qp_replay.proofs.NumberLemmas.{same_word-refl}

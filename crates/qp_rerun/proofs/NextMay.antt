@@ -1,7 +1,5 @@
 -- The next record of a serial order of a lawful journal may come next in the world of the records before it.
-use Rattle.std.proofs.Common.{◌≡◌, ◌∙◌, ℕ, zero, suc, ◌+◌, ◌<◌, ◌≤◌, ◌==◌, nat_lt, nat_le, Bool, true, false, not, ◌&&◌, ◌||◌, cond, List, [], ◌∷◌, ◌++◌, length, refl, sym, ap, subst, arith, ◌⊎◌, inl, inr, Option, Some, None, IsTrue}
-use Rattle.std.specs.List.{list_any}
-use Rattle.std.proofs.lemmas.Bool.Decides.{nat_tests}
+use Rattle.std.proofs.Common.{◌≡◌, ◌∙◌, ℕ, zero, suc, ◌+◌, ◌≤◌, ◌==◌, Bool, true, false, ◌||◌, List, ◌∷◌, ◌++◌, refl, sym, ap, subst, arith, ◌⊎◌, inl, inr, Some, IsTrue}
 use Rattle.qp_model.specs.declared.record.Rec.{Rec}
 use Rattle.qp_model.specs.declared.words.Word.{Word}
 use Rattle.qp_model.specs.declared.systems.System.{System}
@@ -14,9 +12,9 @@ use Rattle.qp_model.specs.History.{all_items, hist}
 use Rattle.qp_model.specs.WordLaw.{Words, is_block, is_pool}
 use Rattle.qp_model.specs.Places.{IsSerial, RecordPlace, item_at, items_at}
 use Rattle.qp_model.proofs.ListLemmas.{both_true}
-use Rattle.qp_calls.specs.Counting.{count_of, one, times}
-use Rattle.qp_calls.specs.Tokens.{Token, Held, Loose, hands_of, same_token, stands, take_out, token_of, with_entry, with_left, without_entry}
-use Rattle.qp_calls.proofs.CountLemmas.{count_in, count-with, count-without, is_in}
+use Rattle.qp_calls.specs.Counting.{count_of, times}
+use Rattle.qp_calls.specs.Tokens.{Token, Held, Loose, hands_of, stands, take_out, token_of, with_left, without_entry}
+use Rattle.qp_calls.proofs.CountLemmas.{count-with, count-without, is_in}
 use Rattle.qp_sound.specs.May.{May}
 use Rattle.qp_sound.specs.Sound.{SoundWorld, hands_in}
 use Rattle.qp_sound.proofs.Times.{stands-times, take_out-absent, times-take_out}

@@ -1,6 +1,6 @@
 -- The next record of a serial order: its words are then as it says.
-use Rattle.std.proofs.Common.{◌≡◌, ◌∙◌, ℕ, zero, suc, ◌+◌, ◌-◌, ◌<◌, ◌≤◌, ◌==◌, nat_lt, nat_le, Bool, true, false, not, ◌&&◌, ◌||◌, cond, List, [], ◌∷◌, ◌++◌, length, take, drop, filter, refl, append-nil, append_assoc, sym, ap, subst, arith, ◌⊎◌, inl, inr, Option, Some, None, IsTrue, length-append}
-use Rattle.std.specs.List.{AllByRecursion, filter_map, cons_option, list_all}
+use Rattle.std.proofs.Common.{◌≡◌, ◌∙◌, ℕ, zero, suc, ◌+◌, ◌-◌, ◌<◌, ◌≤◌, ◌==◌, nat_lt, nat_le, Bool, true, false, not, ◌&&◌, ◌||◌, cond, List, [], ◌∷◌, ◌++◌, length, take, filter, refl, append-nil, append_assoc, sym, ap, subst, arith, ◌⊎◌, inl, inr, Some, IsTrue}
+use Rattle.std.specs.List.{cons_option, list_all}
 use Rattle.std.proofs.lemmas.Bool.{not-true}
 use Rattle.std.proofs.lemmas.Bool.Decides.{nat_tests}
 use Rattle.std.proofs.lemmas.List.Elements.{filter-append, filter_map-append}
@@ -13,32 +13,30 @@ use Rattle.qp_model.specs.declared.bodies.Entry.{Entry}
 use Rattle.qp_model.specs.declared.bodies.Body.{Body}
 use Rattle.qp_model.specs.declared.bodies.Body.TheVariants as item
 use Rattle.qp_model.specs.Record.{Item}
-use Rattle.qp_model.specs.Lists.{is_first}
-use Rattle.qp_model.specs.History.{Touch, Draws, Shows, Neither, touch, touch_of, same_word, drawn_on, all_items, hist, total}
+use Rattle.qp_model.specs.History.{Touch, Draws, Shows, touch, touch_of, same_word, drawn_on, all_items, hist, total}
 use Rattle.qp_model.specs.Machine.{Machine, after, is_allowed, is_shown, shown_by}
-use Rattle.qp_model.specs.FreeBlocks.{Pool, free_blocks}
-use Rattle.qp_model.specs.References.{Refs, references}
-use Rattle.qp_model.specs.Line.{Line, line, is_front, same_entry}
-use Rattle.qp_model.specs.Subscribers.{Subscribers, subscribers, bits_of_set}
-use Rattle.qp_model.specs.TimeEvents.{Clock, time_event}
-use Rattle.qp_model.specs.Lives.{HasLives, Life, edge_of, edges, edges_empty, is_empty, life_may, life_next, life_of, lives_cover, lives_referred, refs_at}
+use Rattle.qp_model.specs.FreeBlocks.{free_blocks}
+use Rattle.qp_model.specs.References.{references}
+use Rattle.qp_model.specs.Line.{Line, line, is_front}
+use Rattle.qp_model.specs.Subscribers.{subscribers, bits_of_set}
+use Rattle.qp_model.specs.TimeEvents.{time_event}
 use Rattle.qp_model.specs.Sites.{blocks_of, ring_of}
 use Rattle.qp_model.specs.WordLaw.{Keeps, Words, is_block, is_object, is_pool, is_signal, is_timer}
 use Rattle.qp_model.specs.Places.{IsSerial, RecordPlace, in_order, is_next, item_at, items_at}
-use Rattle.qp_model.proofs.ListLemmas.{both_true, true_both}
+use Rattle.qp_model.proofs.ListLemmas.{both_true}
 use Rattle.qp_model.proofs.MachineLemmas.{count-after, is_allowed-at}
-use Rattle.qp_model.proofs.WordLawLemmas.{free_blocks-counts, references-counts, subscribers-counts, time_event-counts}
+use Rattle.qp_model.proofs.WordLawLemmas.{free_blocks-counts, subscribers-counts, time_event-counts}
 use Rattle.qp_calls.specs.Tokens.{Token, Held, Loose, stands, token_of}
 use Rattle.qp_calls.specs.Counting.{count_of}
 use Rattle.qp_calls.proofs.CountLemmas.{is_in}
-use Rattle.qp_sound.specs.May.{May, IsOwned, IsPool, IsQueue, IsSignal, IsTimer, MayDrop, MayGive, MayGiveBack, MayMake, MayPost, MayTake}
-use Rattle.qp_sound.specs.Sound.{SoundWorld, is_event, is_good}
-use Rattle.qp_sound.specs.WordStates.{clock_in, life_in, line_in, pool_in, refs_in, set_in}
+use Rattle.qp_sound.specs.May.{May, IsOwned, IsQueue}
+use Rattle.qp_sound.specs.Sound.{SoundWorld, is_good}
+use Rattle.qp_sound.specs.WordStates.{clock_in, line_in, pool_in, refs_in, set_in}
 use Rattle.qp_sound.proofs.Times.{stands-times}
 use Rattle.qp_replay.proofs.NumberLemmas.{same_word-refl}
 use Rattle.qp_replay.proofs.SerialLemmas.{all-of}
-use Rattle.qp_rerun.proofs.Histories.{hist-line, total-append}
-use Rattle.qp_rerun.proofs.TokenCalls.{Uses, count-stands, entries-same}
+use Rattle.qp_rerun.proofs.Histories.{hist-line}
+use Rattle.qp_rerun.proofs.TokenCalls.{count-stands, entries-same}
 
 -- the records on a word, among these
 abbrev pub on_word : Word → List Item → List Item
@@ -211,12 +209,15 @@ module _ (sys : System) (lanes : List (List Rec)) (order A B : List RecordPlace)
           let may : (((f == s.f) && (l == s.l) && (m == s.m + 1)) && is_front e s.entries) ≡ true = subst (λ k. (line (ring_of sys o)).may (line_in sys W o) k ≡ true) is (line-drawn o (f + l + m) h (touches (item.Took f l m e) _ is refl)) in
           let all = both_true ((f == s.f) && (l == s.l) && (m == s.m + 1)) (is_front e s.entries) may in
           let two = both_true ((f == s.f) && (l == s.l)) (m == s.m + 1) all.0 in
-          let one = both_true (f == s.f) (l == s.l) two.0 in
-          (s.m, number-is m (s.m + 1) two.1, record {
-            queue = record { object = h; firsts = number-is f s.f one.0; lasts = number-is l s.l one.1; takes = refl };
-            others = (first s.entries all.1).0;
-            front = (first s.entries all.1).1;
-          })
+          let one = both_true (f == s.f) (l == s.l) two.0 in (
+            s.m,
+            number-is m (s.m + 1) two.1,
+            record {
+              queue = record { object = h; firsts = number-is f s.f one.0; lasts = number-is l s.l one.1; takes = refl };
+              others = (first s.entries all.1).0;
+              front = (first s.entries all.1).1;
+            },
+          )
         where
           s : Line
           s = line_in sys W o
@@ -232,12 +233,15 @@ module _ (sys : System) (lanes : List (List Rec)) (order A B : List RecordPlace)
           subst (λ k. (line (ring_of sys a)).may (line_in sys W a) k ≡ true) is (line-drawn a (f + l + m) h (touches (item.Post a f l m e) _ is refl)) in
           let all = both_true ((f == s.f + 1) && (l == s.l) && (m == s.m)) (nat_le (length s.entries) (ring_of sys a)) may in
           let two = both_true ((f == s.f + 1) && (l == s.l)) (m == s.m) all.0 in
-          let one = both_true (f == s.f + 1) (l == s.l) two.0 in
-          (s.f, number-is f (s.f + 1) one.0, record {
-            queue = record { object = h; firsts = refl; lasts = number-is l s.l one.1; takes = number-is m s.m two.1 };
-            room = le-is (length s.entries) (ring_of sys a) all.1;
-            owned = owned-is e good inside;
-          })
+          let one = both_true (f == s.f + 1) (l == s.l) two.0 in (
+            s.f,
+            number-is f (s.f + 1) one.0,
+            record {
+              queue = record { object = h; firsts = refl; lasts = number-is l s.l one.1; takes = number-is m s.m two.1 };
+              room = le-is (length s.entries) (ring_of sys a) all.1;
+              owned = owned-is e good inside;
+            },
+          )
         where
           s : Line
           s = line_in sys W a
@@ -249,12 +253,15 @@ module _ (sys : System) (lanes : List (List Rec)) (order A B : List RecordPlace)
           subst (λ k. (line (ring_of sys o)).may (line_in sys W o) k ≡ true) is (line-drawn o (f + l + m) h (touches (item.Lifo f l m e) _ is refl)) in
           let all = both_true ((f == s.f) && (l == s.l + 1) && (m == s.m)) (nat_le (length s.entries) (ring_of sys o)) may in
           let two = both_true ((f == s.f) && (l == s.l + 1)) (m == s.m) all.0 in
-          let one = both_true (f == s.f) (l == s.l + 1) two.0 in
-          (s.l, number-is l (s.l + 1) one.1, record {
-            queue = record { object = h; firsts = number-is f s.f one.0; lasts = refl; takes = number-is m s.m two.1 };
-            room = le-is (length s.entries) (ring_of sys o) all.1;
-            owned = owned-is e good inside;
-          })
+          let one = both_true (f == s.f) (l == s.l + 1) two.0 in (
+            s.l,
+            number-is l (s.l + 1) one.1,
+            record {
+              queue = record { object = h; firsts = number-is f s.f one.0; lasts = refl; takes = number-is m s.m two.1 };
+              room = le-is (length s.entries) (ring_of sys o) all.1;
+              owned = owned-is e good inside;
+            },
+          )
         where
           s : Line
           s = line_in sys W o

@@ -1,5 +1,5 @@
 -- The records of calls, for the tokens that they use: each stands in what the records before have left in the hands.
-use Rattle.std.proofs.Common.{◌≡◌, ◌≢◌, ◌∙◌, ℕ, zero, suc, ◌+◌, ◌-◌, ◌<◌, ◌≤◌, ◌==◌, nat_lt, nat_le, Bool, true, false, ◌&&◌, ◌||◌, List, [], ◌∷◌, ◌++◌, length, refl, sym, ap, subst, arith, ◌⊎◌, inl, inr, Option, Some, None, IsTrue, cond}
+use Rattle.std.proofs.Common.{◌≡◌, ◌∙◌, ℕ, zero, suc, ◌+◌, ◌<◌, ◌≤◌, ◌==◌, nat_lt, nat_le, Bool, true, false, ◌&&◌, ◌||◌, List, [], ◌∷◌, ◌++◌, length, refl, sym, ap, subst, arith, ◌⊎◌, inl, inr, Option, Some, None, IsTrue, cond}
 use Rattle.std.specs.Prelude.{⊤, drop}
 use Rattle.std.specs.List.{AllByRecursion, list_any}
 use Rattle.std.specs.Option.{option_and_then}
@@ -14,7 +14,7 @@ use Rattle.qp_model.specs.History.{touch_of}
 use Rattle.qp_model.specs.Line.{same_entry, is_front}
 use Rattle.qp_model.specs.Calls as call
 use Rattle.qp_model.specs.Calls.{Call, Answer, Granted, Refused, Flushed, AtQueue, AtPool, AtTimer, AtTicks, AtFront, is_assertion}
-use Rattle.qp_model.specs.Parts.{is_static, sizes_of, first_pool, members, timer_number}
+use Rattle.qp_model.specs.Parts.{is_static, sizes_of, members, timer_number}
 use Rattle.qp_model.specs.Sites.{ring_of}
 use Rattle.qp_model.specs.WordLaw.{is_block, is_pool, is_object, is_signal, is_timer}
 use Rattle.qp_model.specs.Deferral.{keep, kept_after, KeepsDeferred}
@@ -24,7 +24,7 @@ use Rattle.qp_model.proofs.FitsLemmas.{calm-drops}
 use Rattle.qp_model.proofs.DeferralLemmas.{kept-append, kept-calm}
 use Rattle.qp_calls.specs.Counting.{one, times, count_of}
 use Rattle.qp_calls.specs.Deferring.{tokens_in}
-use Rattle.qp_calls.specs.Tokens.{Token, Held, Loose, same_token, token_of, take_out, stands, hands_by, with_entry, without_entry}
+use Rattle.qp_calls.specs.Tokens.{Token, Held, Loose, same_token, token_of, take_out, stands, hands_by}
 use Rattle.qp_calls.proofs.CountLemmas.{count_in, count-with, count-without, is_in, tokens-append}
 use Rattle.qp_calls.proofs.HandLemmas.{same-self, same-equal}
 use Rattle.qp_sound.specs.Sound.{is_event, is_good}

@@ -4,17 +4,15 @@ use Rattle.std.specs.Prelude.{⊤, slice_set}
 use Rattle.std.specs.Bool.{MatchBool}
 use Rattle.std.specs.List.{AllByRecursion}
 use Rattle.qp_chart.specs.Expr.{Names}
-use Rattle.qp_chart.specs.declared.actions.Plain.{Plain}
 use Rattle.qp_chart.specs.declared.checked.Chart.{Chart}
 use Rattle.qp_chart.specs.Task.{Task, Begin, Run, Unhandled, Exit, Enter, Init, Done, Do, Raise, Restore}
 use Rattle.qp_chart.specs.Agenda.{start_plan, step_plan}
 use Rattle.qp_model.specs.declared.systems.System.{System}
 use Rattle.qp_model.specs.declared.systems.ObjectDef.{ObjectDef}
 use Rattle.qp_model.specs.declared.bodies.Entry.{Entry}
-use Rattle.qp_model.specs.declared.bodies.Body.{Body}
 use Rattle.qp_model.specs.declared.bodies.Body.TheVariants as item
 use Rattle.qp_model.specs.Told.{Told, Event, plain, raised, taken}
-use Rattle.qp_model.specs.Calls.{Answer, Deed, Sets, Says, Calls, deed_of, ok_after, is_assertion}
+use Rattle.qp_model.specs.Calls.{Deed, Sets, Says, Calls, deed_of, ok_after, is_assertion}
 use Rattle.qp_model.specs.WordLaw.{is_object}
 use Rattle.qp_model.specs.Pieces.{Piece, Tell, Point, bare, tell, pieces_of}
 use Rattle.qp_model.specs.Acts.{Config, Actor, Moment, DoesDeed, DoesTask, Does, names_of}
@@ -22,11 +20,11 @@ use Rattle.qp_model.specs.Step.{StepBehind, Step, Closes, moment, at_leaf}
 use Rattle.qp_model.specs.Course.{Cut, Whole, Stopped, Anywhere, FollowsTo, Follows, FollowsAs, Course, Starts, Steps, actor, at_start, chart_at, first_config}
 use Rattle.qp_model.proofs.CourseLemmas.{through-follows}
 use Rattle.qp_model.proofs.GroupLemmas.{bare-append, bare-tell, bare-pieces_of}
-use Rattle.qp_calls.specs.Counting.{count_of, times}
+use Rattle.qp_calls.specs.Counting.{times}
 use Rattle.qp_calls.specs.Tokens.{Token, hands_by}
 use Rattle.qp_calls.proofs.CountLemmas.{count_in, count-with}
 use Rattle.qp_sound.specs.Sound.{is_good}
-use Rattle.qp_rerun.proofs.TokenCalls.{Bag, CallNames, Known, Leads, Lin, Rules, NowGood, held, call-leads, call-ends, drops-leads, leads-append, leads-less, leads-nil, leads-same, known-front, known-back, lin-front, still}
+use Rattle.qp_rerun.proofs.TokenCalls.{Bag, CallNames, Leads, Lin, Rules, NowGood, held, call-leads, call-ends, drops-leads, leads-append, leads-less, leads-nil, known-front, known-back, lin-front, still}
 
 -- what a deed of object o names is the system's
 abbrev pub DeedNames : System → ℕ → Deed → Type 0

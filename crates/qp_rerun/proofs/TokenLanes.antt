@@ -1,39 +1,36 @@
 -- The records of a lawful journal, for the tokens that they use: each owner, an object or a source, uses what its own records have left.
-use Rattle.std.proofs.Common.{◌≡◌, ◌∙◌, ℕ, zero, suc, ◌+◌, ◌-◌, ◌<◌, ◌≤◌, ◌==◌, nat_lt, nat_le, Bool, true, false, not, ◌&&◌, ◌||◌, List, [], ◌∷◌, ◌++◌, length, drop, filter, refl, sym, ap, subst, arith, cond, ◌⊎◌, inl, inr, Option, Some, None, IsTrue}
+use Rattle.std.proofs.Common.{◌≡◌, ◌∙◌, ℕ, zero, suc, ◌+◌, ◌-◌, ◌<◌, ◌≤◌, ◌==◌, nat_lt, Bool, true, false, not, ◌&&◌, ◌||◌, List, [], ◌∷◌, ◌++◌, length, filter, refl, sym, ap, subst, arith, cond, ◌⊎◌, inl, inr, Option, Some, None, IsTrue}
 use Rattle.std.specs.Bool.{MatchBool}
 use Rattle.std.specs.List.{AllByRecursion, count_by, find, list_all, position}
 use Rattle.std.specs.Option.{unwrap_or, option_map_or}
-use Rattle.std.specs.Prelude.{⊤, slice_get, is_some, map}
+use Rattle.std.specs.Prelude.{⊤, slice_get, map}
 use Rattle.std.proofs.lemmas.Bool.Decides.{nat_tests}
-use Rattle.std.proofs.lemmas.List.{append-nil, append_assoc, length-append}
+use Rattle.std.proofs.lemmas.List.{append_assoc, length-append}
 use Rattle.qp_chart.specs.declared.checked.Chart.{Chart}
 use Rattle.qp_model.specs.declared.record.Rec.{Rec}
 use Rattle.qp_model.specs.declared.stimulus.Stim.{Stim}
 use Rattle.qp_model.specs.declared.systems.System.{System}
 use Rattle.qp_model.specs.declared.systems.ObjectDef.{ObjectDef}
 use Rattle.qp_model.specs.declared.journals.Journal.{Journal}
-use Rattle.qp_model.specs.declared.bodies.Entry.{Entry}
 use Rattle.qp_model.specs.declared.bodies.Body.{Body}
 use Rattle.qp_model.specs.declared.bodies.Body.TheVariants as item
 use Rattle.qp_model.specs.Record.{Item}
 use Rattle.qp_model.specs.Told.{Told, Known}
 use Rattle.qp_model.specs.History.{all_items, lane_items}
-use Rattle.qp_model.specs.Knowing.{Facts, told, ceiling_after, records_of}
+use Rattle.qp_model.specs.Knowing.{told, ceiling_after, records_of}
 use Rattle.qp_model.specs.Kernels.{port}
 use Rattle.qp_model.specs.Sites.{object_at}
 use Rattle.qp_model.specs.Sound.{IsSound}
 use Rattle.qp_model.specs.WordLaw.{is_object}
-use Rattle.qp_model.specs.Pieces.{Piece, bare}
+use Rattle.qp_model.specs.Pieces.{Piece}
 use Rattle.qp_model.specs.Course.{chart_at}
 use Rattle.qp_model.specs.Ends.{is_spill, is_turn_mark, may_cut}
 use Rattle.qp_model.specs.Home.{lane_at, home_of, by_object}
 use Rattle.qp_model.specs.HomeLane.{is_at_home, are_at_home, taken_by, is_home_lane}
 use Rattle.qp_model.specs.KernelLane.{Reading, lane_read, role_of, unread}
-use Rattle.qp_model.specs.Sources.{IsSourceLane, SourceRuns, source_records}
-use Rattle.qp_model.specs.Laws.{Ascend}
-use Rattle.qp_model.specs.Lawful.{Lawful, is_settle, ObjectHolds, CourseHolds, KernelHolds, SourceLanes, cut_of, dispatched, facts_of, lanes_before, reading_holds, setting_of}
+use Rattle.qp_model.specs.Sources.{IsSourceLane, source_records}
+use Rattle.qp_model.specs.Lawful.{Lawful, is_settle, ObjectHolds, CourseHolds, KernelHolds, SourceLanes, cut_of, facts_of, lanes_before, reading_holds, setting_of}
 use Rattle.qp_model.proofs.ListLemmas.{both_true}
-use Rattle.qp_model.proofs.TakenLemmas.{drop-head}
 use Rattle.qp_stim.specs.Rules as rule
 use Rattle.qp_calls.specs.Tokens.{Token, hands_by}
 use Rattle.qp_replay.proofs.LaneRecords.{RoleNames, found-one, home-at, kernel-each, unread-names}

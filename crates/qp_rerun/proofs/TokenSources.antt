@@ -1,5 +1,5 @@
 -- The records of a source, for the tokens that they use: each stimulus gives back what it made, but for what it posts.
-use Rattle.std.proofs.Common.{◌≡◌, ◌∙◌, ℕ, zero, suc, ◌+◌, ◌-◌, ◌<◌, ◌≤◌, ◌==◌, nat_lt, nat_le, Bool, true, false, ◌&&◌, List, [], ◌∷◌, ◌++◌, length, refl, sym, ap, subst, arith, ◌⊎◌, inl, inr, Option, Some, None, IsTrue}
+use Rattle.std.proofs.Common.{◌≡◌, ◌∙◌, ℕ, zero, suc, ◌+◌, ◌-◌, ◌<◌, ◌≤◌, ◌==◌, nat_lt, nat_le, Bool, true, false, List, [], ◌∷◌, ◌++◌, length, refl, sym, ap, subst, arith, ◌⊎◌, inl, inr, Option, None, IsTrue}
 use Rattle.std.specs.Bool.{MatchBool}
 use Rattle.std.specs.List.{AllByRecursion}
 use Rattle.std.specs.Option.{option_map_or}
@@ -11,8 +11,6 @@ use Rattle.qp_model.specs.declared.stimulus.Stim.{Stim}
 use Rattle.qp_model.specs.declared.stimulus.Stim.TheVariants as stim
 use Rattle.qp_model.specs.declared.systems.System.{System}
 use Rattle.qp_model.specs.declared.systems.TimerDef.{TimerDef}
-use Rattle.qp_model.specs.declared.bodies.Entry.{Entry}
-use Rattle.qp_model.specs.declared.bodies.Body.{Body}
 use Rattle.qp_model.specs.declared.bodies.Body.TheVariants as item
 use Rattle.qp_model.specs.Record.{entry}
 use Rattle.qp_model.specs.Told.{Told, plain}
@@ -20,16 +18,15 @@ use Rattle.qp_model.specs.Calls as call
 use Rattle.qp_model.specs.Parts.{is_static}
 use Rattle.qp_model.specs.Sites.{ring_of}
 use Rattle.qp_model.specs.Sound.{IsSound, IsSoundTimer}
-use Rattle.qp_model.specs.WordLaw.{is_object, is_signal, is_timer}
+use Rattle.qp_model.specs.WordLaw.{is_object, is_timer}
 use Rattle.qp_model.specs.Sources.{CallFits, TicksOne, FiresInVain, Ticks, SeesEmpty, SeesEntry, Tries, priorities, Settles, StimFits, SourceEnd, AfterTry, AtAssert, InStimulus, EndsIn, SourceRuns}
 use Rattle.qp_model.proofs.ListLemmas.{true_both}
 use Rattle.qp_stim.specs.Rules as rule
 use Rattle.qp_calls.specs.Clauses.{params_of}
-use Rattle.qp_calls.specs.Counting.{count_of, times}
 use Rattle.qp_calls.specs.Tokens.{Token, hands_by}
-use Rattle.qp_sound.specs.Sound.{is_event, is_good}
+use Rattle.qp_sound.specs.Sound.{is_event}
 use Rattle.qp_replay.proofs.SourceRecords.{any-object, event-signal, own-objects}
-use Rattle.qp_rerun.proofs.TokenCalls.{Bag, Leads, Lin, Rules, leads-append, leads-less, leads-nil, leads-same, lin-append, lin-front, other-leads, post-one, still}
+use Rattle.qp_rerun.proofs.TokenCalls.{Leads, Lin, Rules, leads-append, leads-less, leads-nil, leads-same, lin-append, lin-front, other-leads, post-one, still}
 
 -- an event that fits the system is one of it
 pub fits-event : (sys : System) (ev : Ev) (reserve : Option ℕ) → rule.EventFits sys ev reserve → IsTrue (is_event sys (record { sig = ev.sig; pars = ev.pars.items }))

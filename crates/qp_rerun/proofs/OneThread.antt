@@ -1,0 +1,284 @@
+-- One thread makes a lawful journal's records along a serial order of it.
+use Rattle.std.proofs.Common.{◌≡◌, ◌∙◌, ℕ, zero, suc, ◌+◌, ◌<◌, ◌≤◌, ◌==◌, nat_lt, Bool, true, false, ◌&&◌, List, [], ◌∷◌, ◌++◌, length, take, refl, sym, ap, subst, arith, Some, append_assoc}
+use Rattle.std.specs.Prelude.{slice_get, IsPermutation}
+use Rattle.std.specs.List.{AllByRecursion, cons_option}
+use Rattle.std.specs.Option.{option_and_then, option_map}
+use Rattle.std.proofs.lemmas.Bool.Decides.{nat_tests}
+use Rattle.std.proofs.lemmas.List.{append-nil, take_all}
+use Rattle.std.proofs.lemmas.List.Elements.{filter_map-append}
+use Rattle.std.proofs.lemmas.List.Sorted.{All-permutation}
+use Rattle.qp_model.specs.declared.record.Rec.{Rec}
+use Rattle.qp_model.specs.declared.stimulus.Stim.{Stim}
+use Rattle.qp_model.specs.declared.words.Word.{Word}
+use Rattle.qp_model.specs.declared.systems.System.{System}
+use Rattle.qp_model.specs.declared.journals.Journal.{Journal}
+use Rattle.qp_model.specs.Record.{Item, item_of}
+use Rattle.qp_model.specs.History.{all_items, hist, lane_items, numbered, total}
+use Rattle.qp_model.specs.Knowing.{records_of}
+use Rattle.qp_model.specs.Home.{lane_at}
+use Rattle.qp_model.specs.Places.{IsSerial, RecordPlace, items_at, places, places_from, places_in}
+use Rattle.qp_model.specs.Sound.{IsSound}
+use Rattle.qp_model.specs.Lawful.{Lawful, facts_of}
+use Rattle.qp_stim.specs.Rules.{StimuliFit}
+use Rattle.qp_calls.specs.Counting.{count_of, times}
+use Rattle.qp_calls.specs.Tokens.{Token, hands_after}
+use Rattle.qp_sound.specs.Log.{empty_lanes, lane_of, log_of, with_record}
+use Rattle.qp_sound.specs.Sound.{SoundWorld, hands_in, sum_below, told_log}
+use Rattle.qp_sound.proofs.EndLemmas.{sum-none}
+use Rattle.qp_sound.proofs.Logs.{log-grows}
+use Rattle.qp_sound.proofs.NewLemmas.{new-sound}
+use Rattle.qp_rerun.specs.Laws.{GoesOn, OneThreadMakesIt, World, made, made_on, placed_at, record_at, with_next}
+use Rattle.qp_rerun.proofs.Along.{Along, Found, Knows, TookGood, along-next, at-record, get-lane, items-get, local, may-this, owned, rules-known, world-next}
+use Rattle.qp_rerun.proofs.Fronts.{below, in-lane, number-is, stands-there, tally-permutation, tally-same}
+use Rattle.qp_rerun.proofs.Histories.{by-index, from-index}
+use Rattle.qp_rerun.proofs.TokenCalls.{Lin}
+use Rattle.qp_rerun.proofs.TokenLanes.{owners-lin}
+use Rattle.qp_rerun.proofs.TokenNames.{chart-names}
+
+-- Places of records.
+
+record There (lanes : List (List Rec)) (x : RecordPlace) : Type 0 where
+  lane : x.lane < length lanes
+  place : x.at < length (lane_of lanes x.lane)
+
+-- a place of these lanes, the first of which has number k
+record From (k : ℕ) (ls : List (List Rec)) (x : RecordPlace) : Type 0 where
+  m : ℕ
+  is : x.lane ≡ k + m
+  lane : m < length ls
+  place : x.at < length (lane_of ls m)
+
+all-of : {A : Type 0} (P Q : A → Type 0) → ((x : A) → P x → Q x) → (xs : List A) → AllByRecursion P xs → AllByRecursion Q xs
+all-of P Q go [] h = tt
+all-of P Q go (x ∷ xs) h = (go x h.0, all-of P Q go xs h.1)
+
+both-parts : {A : Type 0} (P : A → Type 0) (xs ys : List A) → AllByRecursion P xs → AllByRecursion P ys → AllByRecursion P (xs ++ ys)
+both-parts P [] ys h k = k
+both-parts P (x ∷ xs) ys h k = (h.0, both-parts P xs ys h.1 k)
+
+there-at : {A : Type 0} (P : A → Type 0) (xs : List A) (x : A) (ys : List A) → AllByRecursion P (xs ++ x ∷ ys) → P x
+there-at P [] x ys h = h.0
+there-at P (y ∷ xs) x ys h = there-at P xs x ys h.1
+
+in-one : (k at n : ℕ) (rs : List Rec) → at + length rs ≡ n → AllByRecursion (λ x. (x.lane ≡ k) × (x.at < n)) (places_in k at rs)
+unfolding places_in
+in-one k at n [] is = tt
+in-one k at n (r ∷ rs) is = ((refl, omega (arith, is)), in-one k (suc at) n rs (omega (arith, is)))
+
+all-from-lane : (k : ℕ) (ls : List (List Rec)) → AllByRecursion (From k ls) (places_from k ls)
+unfolding places_from
+all-from-lane k [] = tt
+all-from-lane k (l ∷ ls) =
+    both-parts (From k (l ∷ ls)) (places_in k 0 l) (places_from (suc k) ls)
+    (all-of (λ x. (x.lane ≡ k) × (x.at < length l)) (From k (l ∷ ls)) (λ x h. let same = h.0 in record { m = 0; is = omega (arith, same); lane = omega arith; place = h.1 }) (places_in k 0 l)
+    (in-one k 0 (length l) l (omega arith)))
+    (all-of (From (suc k) ls) (From k (l ∷ ls)) (λ x h. let same = h.is in let less = h.lane in record { m = suc h.m; is = omega (arith, same); lane = omega (arith, less); place = h.place })
+    (places_from (suc k) ls) (all-from-lane (suc k) ls))
+
+all-there : (lanes : List (List Rec)) → AllByRecursion (There lanes) (places lanes)
+unfolding places
+all-there lanes = all-of (From 0 lanes) (There lanes) (λ x h. one x h.m h.is h.lane h.place) (places_from 0 lanes) (all-from-lane 0 lanes)
+  where
+    one : (x : RecordPlace) (m : ℕ) → x.lane ≡ 0 + m → m < length lanes → x.at < length (lane_of lanes m) → There lanes x
+    one x m is lane place =
+        let same : m ≡ x.lane = omega (arith, is) in record { lane = subst (λ k. k < length lanes) same lane; place = subst (λ k. x.at < length (lane_of lanes k)) same place }
+
+ordered-there : (lanes : List (List Rec)) (order : List RecordPlace) → IsPermutation (places lanes) order → AllByRecursion (There lanes) order
+ordered-there lanes order all = from-index (There lanes) order (All-permutation (There lanes) (places lanes) order all (by-index (There lanes) (places lanes) (all-there lanes)))
+
+get-there : {A : Type 0} (xs : List A) (n : ℕ) → n < length xs → (y : A) × (slice_get xs n ≡ Some y)
+get-there [] n less = absurd (omega (arith, less))
+get-there (x ∷ xs) zero less = (x, refl)
+get-there (x ∷ xs) (suc n) less = get-there xs n (omega (arith, less))
+
+-- the record at a place, both ways
+at-lane : (lanes : List (List Rec)) (x : RecordPlace) → x.lane < length lanes → record_at lanes x ≡ slice_get (lane_of lanes x.lane) x.at
+at-lane lanes x less = ap (λ o. option_and_then (λ lane. slice_get lane x.at) o) (get-lane lanes x.lane less)
+
+-- a bound of the objects
+top : List Item → ℕ
+top [] = 0
+top (i ∷ is) = suc i.of + top is
+
+all-below-top : (n : ℕ) (is : List Item) → top is ≤ n → AllByRecursion (λ i. i.of < n) is
+unfolding top
+all-below-top n [] le = tt
+all-below-top n (i ∷ is) le = (omega (arith, le), all-below-top n is (omega (arith, le)))
+
+-- Lists.
+
+lanes-same : (xs ys : List (List Rec)) → length xs ≡ length ys → ((a : ℕ) → a < length ys → lane_of xs a ≡ lane_of ys a) → xs ≡ ys
+lanes-same [] [] long same = refl
+lanes-same [] (y ∷ ys) long same = absurd (omega (arith, long))
+lanes-same (x ∷ xs) [] long same = absurd (omega (arith, long))
+lanes-same (x ∷ xs) (y ∷ ys) long same =
+    let first : x ≡ y = same 0 (omega arith) in
+    let others : xs ≡ ys = lanes-same xs ys (omega (arith, long)) (λ a less. same (suc a) (omega (arith, less))) in
+    ap (λ z. z ∷ xs) first ∙ ap (λ zs. y ∷ zs) others
+
+no-lane : (n a : ℕ) → lane_of (empty_lanes n) a ≡ []
+no-lane zero a = refl
+no-lane (suc n) zero = refl
+no-lane (suc n) (suc a) = no-lane n a
+
+empty-length : (n : ℕ) → length (empty_lanes n) ≡ n
+empty-length zero = refl
+empty-length (suc n) = let more = empty-length n in omega (arith, more)
+
+no-items : (n : ℕ) → all_items (empty_lanes n) ≡ []
+unfolding all_items lane_items
+no-items zero = refl
+no-items (suc n) = no-items n
+
+no-hist : (w : Word) → hist w [] ≡ []
+unfolding hist total numbered
+no-hist w = refl
+
+made_on-append : (lanes : List (List Rec)) (w : World) (xs ys : List RecordPlace) → made_on lanes w (xs ++ ys) ≡ made_on lanes (made_on lanes w xs) ys
+unfolding made_on
+made_on-append lanes w [] ys = refl
+made_on-append lanes w (x ∷ xs) ys = made_on-append lanes (with_next w x.lane (record_at lanes x)) xs ys
+
+made-push : (lanes : List (List Rec)) (A : List RecordPlace) (x : RecordPlace) (r : Rec) → record_at lanes x ≡ Some r → with_next (made lanes A) x.lane (Some r) ≡ made lanes (A ++ x ∷ [])
+unfolding made made_on
+made-push lanes A x r at =
+    ap (with_next (made lanes A) x.lane) (sym at) ∙ sym (made_on-append lanes (record { lanes = empty_lanes (length lanes); order = [] }) A (x ∷ []))
+
+placed-push : (lanes : List (List Rec)) (A : List RecordPlace) (x : RecordPlace) (r : Rec) → record_at lanes x ≡ Some r
+    → placed_at lanes (A ++ x ∷ []) ≡ placed_at lanes A ++ record { lane = x.lane; item = item_of r } ∷ []
+unfolding placed_at
+placed-push lanes A x r at =
+    filter_map-append (λ y. option_map (λ s. record { lane = y.lane; item = item_of s }) (record_at lanes y)) A (x ∷ [])
+    ∙ ap (λ o. placed_at lanes A ++ cons_option (option_map (λ s. record { lane = x.lane; item = item_of s }) o) []) at
+
+module _ (sys : System) (stimuli : List (List Stim)) (j : Journal) (order : List RecordPlace) (sound : IsSound sys) (fit : StimuliFit sys stimuli) (lawful : Lawful sys stimuli j)
+    (serial : IsSerial j.lanes order) where
+  owners : (a o : ℕ) → Lin sys o (Knows sys) [] (records_of (facts_of sys j) o 0 (lane_items (lane_at j a)))
+  owners a o = owners-lin sys stimuli j sound fit lawful (λ p. Knows sys) (rules-known sys) (chart-names sys sound) a o
+
+  objects : ℕ
+  objects = top (all_items j.lanes)
+
+  -- where the world stands
+  record State (w : World) (A : List RecordPlace) : Type 0 where
+    world : SoundWorld sys w.lanes w.order
+    along : Along sys j objects A w.lanes w.order
+    log : log_of w.lanes w.order ≡ placed_at j.lanes A
+
+  there : AllByRecursion (There j.lanes) order
+  there = ordered-there j.lanes order serial.all
+
+  bound : (x : RecordPlace) (r : Rec) → Found j.lanes x r → (item_of r).of < objects
+  unfolding objects
+  bound x r f =
+      items-get (λ i. i.of < top (all_items j.lanes)) (lane_of j.lanes x.lane) x.at r
+      (at-record (λ i. i.of < top (all_items j.lanes)) j.lanes x.lane (all-below-top (top (all_items j.lanes)) (all_items j.lanes) (omega arith))) f.is
+
+  found : (A B : List RecordPlace) (x : RecordPlace) (r : Rec) → order ≡ A ++ x ∷ B → record_at j.lanes x ≡ Some r → Found j.lanes x r
+  found A B x r split at =
+      let here = there-at (There j.lanes) A x B (subst (AllByRecursion (There j.lanes)) split there) in
+      record { within = here.lane; place = here.place; is = sym (at-lane j.lanes x here.lane) ∙ at }
+
+  a_record : (A B : List RecordPlace) (x : RecordPlace) → order ≡ A ++ x ∷ B → (r : Rec) × (record_at j.lanes x ≡ Some r)
+  a_record A B x split =
+      let here = there-at (There j.lanes) A x B (subst (AllByRecursion (There j.lanes)) split there) in
+      let got = get-there (lane_of j.lanes x.lane) x.at here.place in
+      (got.0, at-lane j.lanes x here.lane ∙ got.1)
+
+  place : (A B : List RecordPlace) (x : RecordPlace) (r : Rec) → order ≡ A ++ x ∷ B → Found j.lanes x r → times (λ y. y.lane == x.lane) A ≡ x.at
+  place A B x r split f = (stands-there j.lanes order A B x serial split f.within f.place).count
+
+  next-state : (w : World) (A B : List RecordPlace) (x : RecordPlace) (r : Rec) → order ≡ A ++ x ∷ B → record_at j.lanes x ≡ Some r → State w A → State (with_next w x.lane (Some r)) (A ++ x ∷ [])
+  next-state w A B x r split at s =
+      let f = found A B x r split at in
+      let wide = s.along.wide in
+      let less = f.within in
+      record {
+        world = world-next sys stimuli j sound fit lawful owners order A B x r serial split f (place A B x r split f) w.lanes w.order s.world objects s.along (bound x r f);
+        along = along-next sys stimuli j sound fit lawful owners order A B x r serial split f (place A B x r split f) w.lanes w.order s.world objects s.along (bound x r f);
+        log =
+            log-grows w.lanes (with_record w.lanes x.lane r) w.order (w.order ++ x.lane ∷ []) x.lane r s.world.orders
+            (record { within = omega (arith, wide, less); lanes_are = refl; order_is = refl })
+            ∙ ap (λ l. l ++ record { lane = x.lane; item = item_of r } ∷ []) s.log ∙ sym (placed-push j.lanes A x r at);
+      }
+
+  walk : (A xs B : List RecordPlace) → order ≡ A ++ (xs ++ B) → State (made j.lanes A) A → State (made j.lanes (A ++ xs)) (A ++ xs)
+  walk A [] B split s = subst (λ z. State (made j.lanes z) z) (sym (append-nil A)) s
+  walk A (x ∷ xs) B split s =
+      let rec = a_record A (xs ++ B) x split in
+      let one : State (made j.lanes (A ++ x ∷ [])) (A ++ x ∷ []) =
+      subst (λ w. State w (A ++ x ∷ [])) (made-push j.lanes A x rec.0 rec.1) (next-state (made j.lanes A) A (xs ++ B) x rec.0 split rec.1 s) in
+      let more = walk (A ++ x ∷ []) xs B (split ∙ sym (append_assoc A (x ∷ []) (xs ++ B))) one in
+      subst (λ z. State (made j.lanes z) z) (append_assoc A (x ∷ []) xs) more
+
+  none-owned : (n : ℕ) (t : Token) → owned sys j (empty_lanes n) (length j.lanes) objects t ≡ 0
+  unfolding owned local records_of lane_items times
+  none-owned n t =
+      sum-none (length j.lanes) (λ a. sum_below objects (λ o. count_of t (local sys j (empty_lanes n) a o)))
+      (λ a. sum-none objects (λ o. count_of t (local sys j (empty_lanes n) a o)) (λ o. rw (no-lane n a) refl))
+
+  nothing-taken : AllByRecursion (λ i. TookGood sys i.body) (lane_items [])
+  unfolding lane_items
+  nothing-taken = tt
+
+  start : State (made j.lanes []) []
+  unfolding made made_on placed_at log_of hands_in told_log hands_after times items_at
+  start = record {
+    world = new-sound sys (length j.lanes) sound;
+    along = record {
+      wide = empty-length (length j.lanes);
+      fronts = λ a. no-lane (length j.lanes) a ∙ sym (ap (λ l. take (length l) (lane_of j.lanes a)) (no-lane (length j.lanes) a));
+      counts = λ a. ap length (no-lane (length j.lanes) a);
+      hists = λ w. ap (hist w) (no-items (length j.lanes)) ∙ no-hist w;
+      sums = λ t. sym (none-owned (length j.lanes) t);
+      took = λ a. subst (λ l. AllByRecursion (λ i. TookGood sys i.body) (lane_items l)) (sym (no-lane (length j.lanes) a)) nothing-taken;
+    };
+    log = refl;
+  }
+
+  state : (front behind : List RecordPlace) → order ≡ front ++ behind → State (made j.lanes front) front
+  state front behind split = walk [] front behind split start
+
+  goes-on : (front behind : List RecordPlace) → order ≡ front ++ behind → GoesOn sys j.lanes front behind
+  goes-on front behind split = record {
+    sound = s.world;
+    log = s.log;
+    next = λ x others r is at.
+        let here = split ∙ ap (λ b. front ++ b) is in
+        let f = found front others x r here at in
+        may-this sys stimuli j sound fit lawful owners order front others x r serial here f (place front others x r here f) (made j.lanes front).lanes (made j.lanes front).order s.world objects s.along (bound x r f);
+  }
+    where
+      s : State (made j.lanes front) front
+      s = state front behind split
+
+  -- in the end all records are made
+  lane-count : (a : ℕ) → a < length j.lanes → times (λ y. y.lane == a) order ≡ length (lane_of j.lanes a)
+  unfolding places
+  lane-count a less =
+      tally-permutation (λ y. y.lane == a) (places j.lanes) order serial.all
+      ∙ tally-same (λ y. y.lane == a) (below a (length (lane_of j.lanes a))) (places j.lanes) (all-of (There j.lanes) (λ y. (y.lane == a) ≡ below a (length (lane_of j.lanes a)) y) one (places j.lanes) (all-there j.lanes))
+      ∙ in-lane a (length (lane_of j.lanes a)) 0 a j.lanes (omega arith) less (omega arith)
+    where
+      one : (y : RecordPlace) → There j.lanes y → (y.lane == a) ≡ below a (length (lane_of j.lanes a)) y
+      one y h = go (y.lane == a) refl
+        where
+          go : (u : Bool) → (y.lane == a) ≡ u → u ≡ (u && nat_lt y.at (length (lane_of j.lanes a)))
+          go false e = refl
+          go true e =
+              let same : y.lane ≡ a = number-is y.lane a e in
+              let few : y.at < length (lane_of j.lanes a) = subst (λ k. y.at < length (lane_of j.lanes k)) same h.place in
+              let test : nat_lt y.at (length (lane_of j.lanes a)) ≡ true = grind (arith, nat_tests, few) in
+              sym test
+
+  all-made : (made j.lanes order).lanes ≡ j.lanes
+  all-made = lanes-same (made j.lanes order).lanes j.lanes s.along.wide lane
+    where
+      s : State (made j.lanes order) order
+      s = state order [] (sym (append-nil order))
+
+      lane : (a : ℕ) → a < length j.lanes → lane_of (made j.lanes order).lanes a ≡ lane_of j.lanes a
+      lane a less = s.along.fronts a ∙ ap (λ n. take n (lane_of j.lanes a)) (s.along.counts a ∙ lane-count a less) ∙ take_all (length (lane_of j.lanes a)) (lane_of j.lanes a) (omega arith)
+
+pub one-thread : OneThreadMakesIt
+one-thread sys stimuli j order sound fit lawful serial = (goes-on sys stimuli j order sound fit lawful serial, all-made sys stimuli j order sound fit lawful serial)
