@@ -44,6 +44,8 @@ use Rattle.qp_sound.proofs.WorldLemmas.{hands_now, world-more}
 use Rattle.qp_replay.specs.Numbers.{has_word, is_on}
 use Rattle.qp_replay.proofs.NamedRecords.{SureBody, all-from, all-join, named-records, sure-records}
 use Rattle.qp_rerun.proofs.Histories.{next-draws}
+use Rattle.qp_model.specs.Ends.{spills_in}
+use Rattle.qp_rerun.proofs.LaneSpills.{SpillLast}
 use Rattle.qp_rerun.proofs.NextMay.{hands-same, LeftAlike, next-may}
 use Rattle.qp_rerun.proofs.NextRecords.{history, items-push, next, on_word}
 use Rattle.qp_rerun.proofs.TokenCalls.{Lin, Rules, Uses, hands_told, told-append}
@@ -268,6 +270,11 @@ module _ (sys : System) (stimuli : List (List Stim)) (j : Journal) (sound : IsSo
   may-this =
       next-may sys j.lanes order A B x i serial split (found-item j.lanes x r found) lawful.words W O along.hists world (local sys j W a o) few-there o i.body refl uses-this
       (λ p n c from sig pars is pool. sure-this.blocks p n c from sig pars is pool)
+
+  -- no `spill` stands in its lane yet
+  pub unspilled : SpillLast (lane_items (lane_at j a)) → spills_in (lane_items front) ≡ false
+  unfolding lane_items
+  unspilled last = last (lane_items front) i rest (ap lane_items (lane-get j.lanes a ∙ lane-is) ∙ lane-append front (r ∷ drop (suc x.at) (lane_of j.lanes a)))
 
   -- The world with this record.
   abbrev more : List (List Rec)

@@ -1,6 +1,7 @@
 pub mod Along
 pub mod Fronts
 pub mod Histories
+pub mod LaneSpills
 pub mod NextBlocks
 pub mod NextMay
 pub mod NextRecords

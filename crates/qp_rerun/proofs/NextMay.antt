@@ -47,9 +47,9 @@ module _ (sys : System) (lanes : List (List Rec)) (order A B : List RecordPlace)
   next-may (item.Sub sig n) is uses own = sub-may sys lanes order A B x i serial split at words W O hists world (hands_in sys W O) H few o sig n is uses.0 uses.1
   next-may (item.Unsub sig n) is uses own = unsub-may sys lanes order A B x i serial split at words W O hists world (hands_in sys W O) H few o sig n is uses
   next-may (item.Same sig n) is uses own = same-may sys lanes order A B x i serial split at words W O hists world (hands_in sys W O) H few o sig n is uses
-  next-may (item.Arm t n ticks interval) is uses own = arm-may sys lanes order A B x i serial split at words W O hists world (hands_in sys W O) H few o t n ticks interval is uses
+  next-may (item.Arm t n ticks interval) is uses own = arm-may sys lanes order A B x i serial split at words W O hists world (hands_in sys W O) H few o t n ticks interval is uses.0
   next-may (item.Disarm t n former) is uses own = disarm-may sys lanes order A B x i serial split at words W O hists world (hands_in sys W O) H few o t n former is uses
-  next-may (item.Rearm t n former ticks) is uses own = rearm-may sys lanes order A B x i serial split at words W O hists world (hands_in sys W O) H few o t n former ticks is uses
+  next-may (item.Rearm t n former ticks) is uses own = rearm-may sys lanes order A B x i serial split at words W O hists world (hands_in sys W O) H few o t n former ticks is uses.0
   next-may (item.Idle t n) is uses own = idle-may sys lanes order A B x i serial split at words W O hists world (hands_in sys W O) H few o t n is uses
   next-may (item.Tick t n counter) is uses own = tick-may sys lanes order A B x i serial split at words W O hists world (hands_in sys W O) H few o t n counter is uses
   next-may (item.Fire t n reload) is uses own = fire-may sys lanes order A B x i serial split at words W O hists world (hands_in sys W O) H few o t n reload is uses

@@ -12,6 +12,8 @@ use Rattle.qp_model.specs.declared.stimulus.Stim.{Stim}
 use Rattle.qp_model.specs.declared.words.Word.{Word}
 use Rattle.qp_model.specs.declared.systems.System.{System}
 use Rattle.qp_model.specs.declared.journals.Journal.{Journal}
+use Rattle.qp_model.specs.declared.bodies.Body.{Body}
+use Rattle.qp_model.specs.declared.bodies.Body.TheVariants as item
 use Rattle.qp_model.specs.Record.{Item, item_of}
 use Rattle.qp_model.specs.History.{all_items, hist, lane_items, numbered, total}
 use Rattle.qp_model.specs.Knowing.{records_of}
@@ -27,11 +29,12 @@ use Rattle.qp_sound.specs.Sound.{SoundWorld, hands_in, sum_below, told_log}
 use Rattle.qp_sound.proofs.EndLemmas.{sum-none}
 use Rattle.qp_sound.proofs.Logs.{log-grows}
 use Rattle.qp_sound.proofs.NewLemmas.{new-sound}
-use Rattle.qp_rerun.specs.Laws.{GoesOn, OneThreadMakesIt, World, made, made_on, placed_at, record_at, with_next}
-use Rattle.qp_rerun.proofs.Along.{Along, Found, Knows, TookGood, along-next, at-record, get-lane, items-get, local, may-this, owned, rules-known, world-next}
+use Rattle.qp_rerun.specs.Laws.{GoesOn, OneThreadMakesIt, TicksFit, World, made, made_on, placed_at, record_at, with_next}
+use Rattle.qp_rerun.proofs.Along.{Along, Found, Knows, TookGood, along-next, at-record, get-lane, items-get, local, may-this, owned, rules-known, unspilled, uses-this, world-next}
 use Rattle.qp_rerun.proofs.Fronts.{below, in-lane, number-is, stands-there, tally-permutation, tally-same}
 use Rattle.qp_rerun.proofs.Histories.{by-index, from-index}
-use Rattle.qp_rerun.proofs.TokenCalls.{Lin}
+use Rattle.qp_rerun.proofs.LaneSpills.{spill-last}
+use Rattle.qp_rerun.proofs.TokenCalls.{Lin, Uses}
 use Rattle.qp_rerun.proofs.TokenLanes.{owners-lin}
 use Rattle.qp_rerun.proofs.TokenNames.{chart-names}
 
@@ -239,6 +242,11 @@ module _ (sys : System) (stimuli : List (List Stim)) (j : Journal) (order : List
   state : (front behind : List RecordPlace) → order ≡ front ++ behind → State (made j.lanes front) front
   state front behind split = walk [] front behind split start
 
+  ticks-of : (o : ℕ) (H : List Token) (b : Body) → Uses sys o H b → TicksFit b
+  ticks-of o H (item.Arm t n ticks interval) h = h.1
+  ticks-of o H (item.Rearm t n former ticks) h = h.1
+  ticks-of o H b h = tt
+
   goes-on : (front behind : List RecordPlace) → order ≡ front ++ behind → GoesOn sys j.lanes front behind
   goes-on front behind split = record {
     sound = s.world;
@@ -246,7 +254,14 @@ module _ (sys : System) (stimuli : List (List Stim)) (j : Journal) (order : List
     next = λ x others r is at.
         let here = split ∙ ap (λ b. front ++ b) is in
         let f = found front others x r here at in
-        may-this sys stimuli j sound fit lawful owners order front others x r serial here f (place front others x r here f) (made j.lanes front).lanes (made j.lanes front).order s.world objects s.along (bound x r f);
+        record {
+          may = may-this sys stimuli j sound fit lawful owners order front others x r serial here f (place front others x r here f) (made j.lanes front).lanes (made j.lanes front).order s.world objects s.along (bound x r f);
+          ticks =
+              ticks-of (item_of r).of (local sys j (made j.lanes front).lanes x.lane (item_of r).of) (item_of r).body
+              (uses-this sys stimuli j sound fit lawful owners order front others x r serial here f (place front others x r here f) (made j.lanes front).lanes (made j.lanes front).order s.world objects s.along (bound x r f));
+          goes_on = unspilled sys stimuli j sound fit lawful owners order front others x r serial here f (place front others x r here f) (made j.lanes front).lanes (made j.lanes front).order s.world objects s.along (bound x r f)
+              (spill-last sys stimuli j sound lawful x.lane);
+        };
   }
     where
       s : State (made j.lanes front) front

@@ -18,7 +18,7 @@ use Rattle.qp_model.specs.Parts.{is_static, sizes_of, members, timer_number}
 use Rattle.qp_model.specs.Sites.{ring_of}
 use Rattle.qp_model.specs.WordLaw.{is_block, is_pool, is_object, is_signal, is_timer}
 use Rattle.qp_model.specs.Deferral.{keep, kept_after, KeepsDeferred}
-use Rattle.qp_model.specs.Shapes.{Fits, Releases, Drops, releases_by, MakesBlock, MakesNew, NoBlockFor, MakesAgain, again_by, MakesAgainNow, Posts, PostsFront, PostsNew, PostsNewFront, Forwards, PostsOne, PostsToAll, PostsUpTo, raising, restoring, PublishesFirst, PublishesLast, Publishes, Defers, Recalls, Flushes, Subscribes, Unsubscribes, Arms, Rearms, Disarms}
+use Rattle.qp_model.specs.Shapes.{Fits, Releases, Drops, releases_by, MakesBlock, MakesNew, NoBlockFor, MakesAgain, again_by, MakesAgainNow, Posts, PostsFront, PostsNew, PostsNewFront, Forwards, PostsOne, PostsToAll, PostsUpTo, raising, restoring, PublishesFirst, PublishesLast, Publishes, Defers, Recalls, Flushes, Subscribes, Unsubscribes, Arms, Rearms, Disarms, answers_ticks, ticks_fit}
 use Rattle.qp_model.proofs.ListLemmas.{both_true, true_both}
 use Rattle.qp_model.proofs.FitsLemmas.{calm-drops}
 use Rattle.qp_model.proofs.DeferralLemmas.{kept-append, kept-calm}
@@ -107,6 +107,8 @@ Uses sys o H (item.Back p n b to) = IsTrue (is_block sys p b) × IsTrue (stands 
 Uses sys o H (item.Post a f l m e) = IsTrue (is_object sys a) × IsTrue (is_good sys e) × IsTrue (is_in e H)
 Uses sys o H (item.Lifo f l m e) = IsTrue (is_object sys o) × IsTrue (is_good sys e) × IsTrue (is_in e H)
 Uses sys o H (item.Sub sig n) = IsTrue (is_signal sys sig) × IsTrue (is_object sys o)
+Uses sys o H (item.Arm t n ticks interval) = IsTrue (is_timer sys t) × IsTrue (ticks_fit ticks interval)
+Uses sys o H (item.Rearm t n former ticks) = IsTrue (is_timer sys t) × IsTrue (ticks_fit ticks 0)
 Uses sys o H b = IsTrue (is_on (has_word sys) (touch_of o b))
 
 -- a good entry of a block is of a block of the system
@@ -751,19 +753,20 @@ module _ (sys : System) (o : ℕ) (Knows : Told → Type 0) where
     unsubscribes-leads sig Refused g B signal (n, is) = leads-same B B g _ is (still B (same_in sig n false) (λ H. signal) (λ H. refl))
     unsubscribes-leads sig answer g B signal h = absurd h
 
-    arms-leads : (t ticks interval : ℕ) (answer : Answer) (g : List Told) (B : Bag) → IsTrue (is_timer sys t) → Arms t ticks interval answer g → Leads B g B
+    arms-leads : (t ticks interval : ℕ) (answer : Answer) (g : List Told) (B : Bag) → IsTrue (is_timer sys t) → Arms t ticks interval answer g → IsTrue (answers_ticks (ticks_fit ticks interval) answer)
+        → Leads B g B
     unfolding Arms hands_by
-    arms-leads t ticks interval Granted g B timer (n, is) = leads-same B B g _ is (still B (plain (item.Arm t n ticks interval)) (λ H. timer) (λ H. refl))
-    arms-leads t ticks interval AtTimer g B timer (n, c, is) = leads-same B B g _ is (still B (plain (item.Armed t n c)) (λ H. timer) (λ H. refl))
-    arms-leads t ticks interval AtTicks g B timer h = leads-same B B g _ h (still B (plain (item.BadTicks t ticks interval)) (λ H. refl) (λ H. refl))
-    arms-leads t ticks interval answer g B timer h = absurd h
+    arms-leads t ticks interval Granted g B timer (n, is) fit = leads-same B B g _ is (still B (plain (item.Arm t n ticks interval)) (λ H. (timer, fit)) (λ H. refl))
+    arms-leads t ticks interval AtTimer g B timer (n, c, is) fit = leads-same B B g _ is (still B (plain (item.Armed t n c)) (λ H. timer) (λ H. refl))
+    arms-leads t ticks interval AtTicks g B timer h fit = leads-same B B g _ h (still B (plain (item.BadTicks t ticks interval)) (λ H. refl) (λ H. refl))
+    arms-leads t ticks interval answer g B timer h fit = absurd h
 
-    rearms-leads : (t ticks : ℕ) (answer : Answer) (g : List Told) (B : Bag) → IsTrue (is_timer sys t) → Rearms t ticks answer g → Leads B g B
+    rearms-leads : (t ticks : ℕ) (answer : Answer) (g : List Told) (B : Bag) → IsTrue (is_timer sys t) → Rearms t ticks answer g → IsTrue (answers_ticks (ticks_fit ticks 0) answer) → Leads B g B
     unfolding Rearms hands_by
-    rearms-leads t ticks Granted g B timer (n, former, is) = leads-same B B g _ is (still B (plain (item.Rearm t n (suc former) ticks)) (λ H. timer) (λ H. refl))
-    rearms-leads t ticks Refused g B timer (n, is) = leads-same B B g _ is (still B (plain (item.Rearm t n 0 ticks)) (λ H. timer) (λ H. refl))
-    rearms-leads t ticks AtTicks g B timer h = leads-same B B g _ h (still B (plain (item.BadTicks t ticks 0)) (λ H. refl) (λ H. refl))
-    rearms-leads t ticks answer g B timer h = absurd h
+    rearms-leads t ticks Granted g B timer (n, former, is) fit = leads-same B B g _ is (still B (plain (item.Rearm t n (suc former) ticks)) (λ H. (timer, fit)) (λ H. refl))
+    rearms-leads t ticks Refused g B timer (n, is) fit = leads-same B B g _ is (still B (plain (item.Rearm t n 0 ticks)) (λ H. (timer, fit)) (λ H. refl))
+    rearms-leads t ticks AtTicks g B timer h fit = leads-same B B g _ h (still B (plain (item.BadTicks t ticks 0)) (λ H. refl) (λ H. refl))
+    rearms-leads t ticks answer g B timer h fit = absurd h
 
     disarms-leads : (t : ℕ) (answer : Answer) (g : List Told) (B : Bag) → IsTrue (is_timer sys t) → Disarms t answer g → Leads B g B
     unfolding Disarms hands_by
@@ -785,8 +788,8 @@ module _ (sys : System) (o : ℕ) (Knows : Told → Type 0) where
     other-leads now call.Flush answer g G leaves names good none h = absurd (cc)
     other-leads now (call.Subscribe sig) answer g G leaves names good none h = subscribes-leads sig answer g (λ t. now_bag now t + G t) names.0 names.1 h
     other-leads now (call.Unsubscribe sig) answer g G leaves names good none h = unsubscribes-leads sig answer g (λ t. now_bag now t + G t) names h
-    other-leads now (call.Arm t ticks interval) answer g G leaves names good none h = arms-leads (timer_number sys.timers o t) ticks interval answer g (λ t. now_bag now t + G t) names h.0
-    other-leads now (call.Rearm t ticks) answer g G leaves names good none h = rearms-leads (timer_number sys.timers o t) ticks answer g (λ t. now_bag now t + G t) names h.0
+    other-leads now (call.Arm t ticks interval) answer g G leaves names good none h = arms-leads (timer_number sys.timers o t) ticks interval answer g (λ t. now_bag now t + G t) names h.0 h.1
+    other-leads now (call.Rearm t ticks) answer g G leaves names good none h = rearms-leads (timer_number sys.timers o t) ticks answer g (λ t. now_bag now t + G t) names h.0 h.1
     other-leads now (call.Disarm t) answer g G leaves names good none h = disarms-leads (timer_number sys.timers o t) answer g (λ t. now_bag now t + G t) names h
 
     -- what stands for the entry at hand and the deferred ones

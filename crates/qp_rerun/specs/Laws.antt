@@ -1,5 +1,5 @@
 -- A lawful journal's records, made once more in the world of one thread.
-use Rattle.std.specs.Prelude.{◌≡◌, ℕ, length, List, [], ◌∷◌, ◌++◌, slice_get, Some, None}
+use Rattle.std.specs.Prelude.{◌≡◌, ℕ, false, IsTrue, ⊤, length, List, [], ◌∷◌, ◌++◌, slice_get, Some, None}
 use Rattle.std.specs.declared.option.Option.{Option}
 use Rattle.std.specs.List.{filter_map}
 use Rattle.std.specs.Option.{option_and_then, option_map}
@@ -7,13 +7,18 @@ use Rattle.qp_model.specs.declared.record.Rec.{Rec}
 use Rattle.qp_model.specs.declared.stimulus.Stim.{Stim}
 use Rattle.qp_model.specs.declared.systems.System.{System}
 use Rattle.qp_model.specs.declared.journals.Journal.{Journal}
+use Rattle.qp_model.specs.declared.bodies.Body.{Body}
+use Rattle.qp_model.specs.declared.bodies.Body.TheVariants.{Arm, Rearm}
 use Rattle.qp_model.specs.Record.{item_of}
+use Rattle.qp_model.specs.Shapes.{ticks_fit}
+use Rattle.qp_model.specs.Ends.{spills_in}
+use Rattle.qp_model.specs.History.{lane_items}
 use Rattle.qp_model.specs.OneOrder.{Placed}
 use Rattle.qp_model.specs.Places.{IsSerial, RecordPlace}
 use Rattle.qp_model.specs.Sound.{IsSound}
 use Rattle.qp_model.specs.Lawful.{Lawful}
 use Rattle.qp_stim.specs.Rules.{StimuliFit}
-use Rattle.qp_sound.specs.Log.{empty_lanes, log_of, with_record}
+use Rattle.qp_sound.specs.Log.{empty_lanes, lane_of, log_of, with_record}
 use Rattle.qp_sound.specs.May.{May}
 use Rattle.qp_sound.specs.Sound.{SoundWorld, hands_in}
 
@@ -44,13 +49,24 @@ made lanes order = made_on lanes (record { lanes = empty_lanes (length lanes); o
 unfoldable pub placed_at : List (List Rec) → List RecordPlace → List Placed
 placed_at lanes order = filter_map (λ x. option_map (λ r. record { lane = x.lane; item = item_of r }) (record_at lanes x)) order
 
--- Where the world stands behind some records of the order: it is sound, its one list of records are those, and the next record may come
--- next: its word then holds what it says, and its tokens stand in the hands.
+-- the ticks and the interval are those of a timer
+abbrev pub TicksFit : Body → Type 0
+TicksFit (Arm t n ticks interval) = IsTrue (ticks_fit ticks interval)
+TicksFit (Rearm t n former ticks) = IsTrue (ticks_fit ticks 0)
+TicksFit b = ⊤
+
+-- The record may come next at the end of lane a: its word holds what it says, its tokens stand in the hands, its numbers are those of a
+-- call, and the lane hasn't ended with a `spill`.
+pub record ComesNext (sys : System) (w : World) (a : ℕ) (r : Rec) : Type 0 where
+  pub may : May sys w.lanes (hands_in sys w.lanes w.order) (item_of r).of (item_of r).body
+  pub ticks : TicksFit (item_of r).body
+  pub goes_on : spills_in (lane_items (lane_of w.lanes a)) ≡ false
+
+-- Where the world stands behind some records of the order: it is sound, its one list of records are those, and the next record may come.
 pub record GoesOn (sys : System) (lanes : List (List Rec)) (front behind : List RecordPlace) : Type 0 where
   pub sound : SoundWorld sys (made lanes front).lanes (made lanes front).order
   pub log : log_of (made lanes front).lanes (made lanes front).order ≡ placed_at lanes front
-  pub next : (x : RecordPlace) (others : List RecordPlace) (r : Rec) → behind ≡ x ∷ others → record_at lanes x ≡ Some r
-      → May sys (made lanes front).lanes (hands_in sys (made lanes front).lanes (made lanes front).order) (item_of r).of (item_of r).body
+  pub next : (x : RecordPlace) (others : List RecordPlace) (r : Rec) → behind ≡ x ∷ others → record_at lanes x ≡ Some r → ComesNext sys (made lanes front) x.lane r
 
 -- Along a serial order of a lawful journal one thread can make each record in its turn, and in the end its lanes are the journal's.
 abbrev pub OneThreadMakesIt : Type 0
