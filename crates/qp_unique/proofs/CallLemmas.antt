@@ -10,12 +10,12 @@ use Rattle.qp_model.specs.declared.bodies.Body.{Body}
 use Rattle.qp_model.specs.declared.bodies.Body.TheVariants as item
 use Rattle.qp_model.specs.Record.{entry}
 use Rattle.qp_model.specs.Line.{Line, same_entry}
-use Rattle.qp_model.specs.Lists.{is_first}
+use Rattle.qp_model.specs.Lists.{is_first, without_one}
 use Rattle.qp_model.specs.Lives.{life_may}
 use Rattle.qp_model.proofs.ListLemmas.{both_true}
 use Rattle.qp_model.specs.Subscribers.{Subscribers, bits_of_set}
 use Rattle.qp_model.specs.TimeEvents.{Clock}
-use Rattle.qp_model.specs.Told.{Told, Known, Nothing, Free, Left, Former, Member, plain, raised}
+use Rattle.qp_model.specs.Told.{Told, Known, Nothing, Free, Left, Former, Member, plain, raised, dropped}
 use Rattle.qp_model.specs.Calls as call
 use Rattle.qp_model.specs.Calls.{Call, Granted}
 use Rattle.qp_model.specs.Sites.{ring_of}
@@ -36,7 +36,7 @@ tells body known = record { body = body; known = known }
 
 module _ (sys : System) (h : Held) where
   -- a post granted has the counts after it
-  post-granted : (o a f l m : ℕ) (e : Entry) (margin : Option ℕ) → comes_next sys h o (item.Post a f l m e) ≡ true
+  pub post-granted : (o a f l m : ℕ) (e : Entry) (margin : Option ℕ) → comes_next sys h o (item.Post a f l m e) ≡ true
       → nat_lt (unwrap_or margin 0) (room_before (ring_of sys a) f l m) ≡ true
       → post_told (ring_of sys a) (h.lines a) a margin e ≡ plain (item.Post a f l m e)
   unfolding comes_next post_told
@@ -59,7 +59,7 @@ module _ (sys : System) (h : Held) where
       let no : nat_lt k (ring_of sys a + 1 - ((h.lines a).f + 1 - 1 + (h.lines a).l - (h.lines a).m)) ≡ false = rw same (grind (arith, nat_tests)) in
       rw (no, sym e1, sym e2, sym e3) refl
 
-  post-asserted : (o a f l m : ℕ) (e : Entry) → comes_next sys h o (item.NoEntry a f l m) ≡ true
+  pub post-asserted : (o a f l m : ℕ) (e : Entry) → comes_next sys h o (item.NoEntry a f l m) ≡ true
       → post_told (ring_of sys a) (h.lines a) a None e ≡ plain (item.NoEntry a f l m)
   unfolding comes_next post_told room_before
   post-asserted o a f l m e comes =
@@ -466,3 +466,20 @@ module _ (sys : System) (h : Held) where
 
 pub call_goes_on_alone : CallGoesOnAlone
 call_goes_on_alone sys h o now kept s next t counted comes is = stage-alone sys h o now kept s t.body t.known next counted is comes.may comes.known
+
+-- an entry's reference that is dropped, and a block that comes back
+pub dropped-alone : (sys : System) (h : Held) (o : ℕ) (e : Entry) (d left : ℕ) → Comes sys h o (dropped e.pool e.block d e.name left)
+    → drop_told h e ≡ dropped e.pool e.block d e.name left
+unfolding comes_next known_then
+dropped-alone sys h o e d left comes =
+    let test : comes_next sys h o (item.Dec e.pool e.block d e.name) ≡ true = comes.may in
+    let number : d ≡ (h.blocks e.pool e.block).count = grind (arith, nat_tests) in
+    let known : Left left ≡ Left (length (without_one e.name (h.blocks e.pool e.block).names)) = comes.known in
+    rw (known, sym number) refl
+
+pub returned-alone : (sys : System) (h : Held) (o p b d n : ℕ) → Comes sys h o (plain (item.Back p n b (d + 1))) → return_told h p b d ≡ plain (item.Back p n b (d + 1))
+unfolding comes_next
+returned-alone sys h o p b d n comes =
+    let test : comes_next sys h o (item.Back p n b (d + 1)) ≡ true = comes.may in
+    let number : n ≡ (h.pools p).count = grind (arith, nat_tests) in
+    rw (sym number) refl

@@ -7,10 +7,28 @@ use Rattle.qp_model.specs.Told.{Told}
 use Rattle.qp_fits.specs.CallState.{CallStage}
 use Rattle.qp_fits.specs.CallStateNext.{stage_next}
 use Rattle.qp_unique.specs.Held.{Held, IsCounted, Comes}
+use Rattle.qp_model.specs.Pieces.{Piece}
+use Rattle.qp_model.specs.Acts.{Actor}
+use Rattle.qp_course.specs.Machine.{State, next as piece_next}
+use Rattle.qp_sources.specs.Underway.{Underway, underway_next}
 use Rattle.qp_unique.specs.NextInCall.{stage_told}
+use Rattle.qp_unique.specs.NextInCourse.{piece_told, PieceComes}
+use Rattle.qp_unique.specs.NextInSource.{underway_told}
 
 -- a record by which a call goes on, and which may come next by what the words hold, is the one of `stage_told`
 abbrev pub CallGoesOnAlone : Type 0
 CallGoesOnAlone =
     (sys : System) (h : Held) (o : ℕ) (now : Option Entry) (kept : List Entry) (s next : CallStage) (t : Told) → IsCounted h → Comes sys h o t
     → stage_next sys o now kept s t.body t.known ≡ Some next → stage_told sys h o now kept s ≡ Some t
+
+-- so is a piece by which an object's course goes on
+abbrev pub CourseGoesOnAlone : Type 0
+CourseGoesOnAlone =
+    (sys : System) (h : Held) (a : Actor) (s later : State) (p : Piece) → IsCounted h → PieceComes sys h a.o p
+    → piece_next sys a s p ≡ Some later → piece_told sys h a s ≡ Some p
+
+-- and a record by which a stimulus goes on
+abbrev pub StimulusGoesOnAlone : Type 0
+StimulusGoesOnAlone =
+    (sys : System) (h : Held) (kernel : ℕ) (u later : Underway) (t : Told) → IsCounted h → Comes sys h 0 t
+    → underway_next sys kernel u t ≡ Some later → underway_told sys h u ≡ Some t

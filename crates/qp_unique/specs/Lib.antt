@@ -1,3 +1,6 @@
 pub mod Held
 pub mod NextInCall
+pub mod NextInCourse
+pub mod NextInSource
+pub mod Fronts
 pub mod Laws
