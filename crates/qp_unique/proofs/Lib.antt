@@ -1,3 +1,5 @@
 pub mod CallLemmas
 pub mod CourseLemmas
 pub mod StimulusLemmas
+pub mod FrontLemmas
+pub mod ComesLemmas

@@ -6,9 +6,11 @@ use Rattle.qp_model.specs.declared.words.Word.{Word}
 use Rattle.qp_model.specs.declared.words.Word.TheVariants as word
 use Rattle.qp_model.specs.declared.systems.System.{System}
 use Rattle.qp_model.specs.declared.bodies.Entry.{Entry}
+use Rattle.qp_model.specs.declared.bodies.Body.{Body}
+use Rattle.qp_model.specs.declared.bodies.Body.TheVariants.{New, Back}
 use Rattle.qp_model.specs.Record.{Item}
 use Rattle.qp_model.specs.Told.{Event}
-use Rattle.qp_model.specs.History.{Touch, Draws, Shows, Neither, touch, drawn_on}
+use Rattle.qp_model.specs.History.{Touch, Draws, Shows, Neither, touch, touch_of, drawn_on}
 use Rattle.qp_model.specs.Machine.{after}
 use Rattle.qp_model.specs.FreeBlocks.{free_blocks}
 use Rattle.qp_model.specs.References.{references}
@@ -47,9 +49,14 @@ has_word sys (word.Queue a) = is_object sys a
 has_word sys (word.Signal s) = is_signal sys s
 has_word sys (word.Timer t) = is_timer sys t
 
--- the word that a record draws a number of, or shows, is one of the system
-unfoldable pub touches_its : System → Touch → Bool
-unfolding has_word
+abbrev pub touches_its : System → Touch → Bool
 touches_its sys (Draws w mark) = has_word sys w
 touches_its sys (Shows w mark) = has_word sys w
 touches_its sys Neither = true
+
+-- the words that a record of o names are the system's
+unfoldable pub names_its : System → ℕ → Body → Bool
+unfolding has_word is_block
+names_its sys o (New p n b from sig pars) = is_block sys p b
+names_its sys o (Back p n b to) = is_block sys p b
+names_its sys o b = touches_its sys (touch_of o b)
