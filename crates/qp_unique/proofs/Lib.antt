@@ -3,3 +3,6 @@ pub mod CourseLemmas
 pub mod StimulusLemmas
 pub mod FrontLemmas
 pub mod ComesLemmas
+pub mod LookLemmas
+pub mod KernelLemmas
+pub mod StackLemmas
