@@ -6,3 +6,5 @@ pub mod ComesLemmas
 pub mod LookLemmas
 pub mod KernelLemmas
 pub mod StackLemmas
+pub mod AwayLemmas
+pub mod Sides

@@ -275,7 +275,7 @@ below-not sys [] p h = tt
 below-not sys (o ∷ os) p h = (λ e. let less : o < p = h.0 in absurd (omega (arith, less, e)), below-not sys os p h.1)
 
 -- a look leaves the place of no step that was done
-away-looked : (s : Setting) (k : Reading) (ps : List ℕ) (p : ℕ) → k.unstarted ≡ [] → NotOf k.running p → Away p (looking_at s k ps)
+pub away-looked : (s : Setting) (k : Reading) (ps : List ℕ) (p : ℕ) → k.unstarted ≡ [] → NotOf k.running p → Away p (looking_at s k ps)
 away-looked s k (q ∷ others) p none run = record { started = none; running = run; place = tt }
 away-looked s k [] p none run = by k.running
   where

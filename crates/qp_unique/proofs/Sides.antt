@@ -1,0 +1,118 @@
+-- A run with one thread as its order sees it, and what two such runs have in common up to a place.
+use Rattle.std.specs.Prelude.{◌≡◌, ◌⊎◌, ℕ, zero, suc, ◌+◌, ◌<◌, ◌==◌, Bool, true, false, ◌&&◌, List, [], ◌∷◌, ◌++◌, map, length, get_or, Some, None, ⊤}
+use Rattle.std.specs.declared.option.Option.{Option}
+use Rattle.std.specs.List.{filter, list_all, list_any, count_by}
+use Rattle.qp_chart.specs.declared.checked.Chart.{Chart}
+use Rattle.qp_model.specs.declared.stimulus.Stim.{Stim}
+use Rattle.qp_model.specs.declared.systems.System.{System}
+use Rattle.qp_model.specs.declared.systems.ObjectDef.{ObjectDef}
+use Rattle.qp_model.specs.declared.bodies.Entry.{Entry}
+use Rattle.qp_model.specs.declared.bodies.Body.{Body}
+use Rattle.qp_model.specs.declared.bodies.Body.TheVariants as body
+use Rattle.qp_model.specs.Record.{Item}
+use Rattle.qp_model.specs.Told.{Event, Told}
+use Rattle.qp_model.specs.Knowing.{Facts, told, records_of, event_of}
+use Rattle.qp_model.specs.Ends.{is_end, is_turn_mark, spills_in}
+use Rattle.qp_model.specs.End.{takes_of}
+use Rattle.qp_model.specs.Kernels.{sim}
+use Rattle.qp_model.specs.Sites.{object_at}
+use Rattle.qp_model.specs.Pieces.{Piece, ends_at_point}
+use Rattle.qp_model.specs.Course.{actor, first_config}
+use Rattle.qp_model.specs.Acts.{Actor}
+use Rattle.qp_model.specs.KernelLane.{Setting, Reading, unread, lane_on, is_whole, Ended}
+use Rattle.qp_model.specs.Points.{pieces_in}
+use Rattle.qp_model.specs.Sources.{SourceEnd, InStimulus}
+use Rattle.qp_model.specs.OneOrder.{Placed, with_stimuli, parts_of_look, turns_at, acts_next, is_turn, begun}
+use Rattle.qp_course.specs.Machine.{State, start_state, run, is_end as is_end_of_course, expects_point}
+use Rattle.qp_course.specs.Followable.{IsFollowable}
+use Rattle.qp_sources.specs.SourceState.{SourceState, Between, source_after, source_stops}
+use Rattle.qp_orders.specs.RunOrder.{placed, items_of, has_stim}
+use Rattle.qp_orders.specs.Placing.{look_item}
+use Rattle.qp_unique.specs.Held.{Held, Comes}
+use Rattle.qp_unique.specs.Fronts.{held_after}
+use Rattle.qp_unique.proofs.LookLemmas.{begins, begun_in, StimFirst}
+use Rattle.qp_unique.proofs.StackLemmas.{Stacked}
+
+-- the setting of a run in `sim`
+abbrev pub in_sim : System → (ℕ → Bool) → Setting
+in_sim sys has = record { sys = sys; kernel = sim; has_stimulus = has }
+
+-- the facts that some records tell
+abbrev pub facts_to : System → List Placed → Facts
+facts_to sys xs = record { sys = sys; items = items_of xs }
+
+-- what the words hold after some records of the order
+abbrev pub held_to : System → ℕ → List Placed → Held
+held_to sys ceiling xs = held_after sys (λ e. event_of (facts_to sys xs) e) ceiling (items_of xs)
+
+-- a state in which a list may end: that of a whole course, or at a point
+abbrev pub MayEnd : Bool → State → Type 0
+MayEnd at_point s = (is_end_of_course s ≡ true) ⊎ (expects_point s ≡ true) ⊎ (at_point ≡ true)
+
+-- the records of a lane
+abbrev pub lane_in : List Placed → ℕ → List Item
+lane_in xs i = map (λ x. x.item) (filter (λ x. x.lane == i) xs)
+
+-- the lane of a source up to a place of the order
+pub record IsFront (xs : List Placed) (i : ℕ) (l : List Item) : Type 0 where
+  pub rest : List Item
+  pub is : l ≡ lane_in xs i ++ rest
+  pub first : StimFirst rest
+  pub begun_so : begun_in (lane_in xs i) ≡ begun xs i
+
+-- what is known of a whole run
+pub record Side (sys : System) (charts : (p : ℕ) (d : ObjectDef) → object_at sys p ≡ Some d → Chart) (stimuli : List (List Stim)) (budget : ℕ) : Type 0 where
+  pub w : Facts
+  pub has : ℕ → Bool
+  pub lane0 : List Item
+  pub sources : List (List Item)
+  pub cuts : Bool
+  pub last : Reading
+  pub read : lane_on (in_sim sys has) (unread sys) lane0 ≡ Some last
+  pub unspilt : spills_in lane0 ≡ false
+  pub unspilt_sources : (front : List (List Item)) (l : List Item) (back : List (List Item)) → sources ≡ front ++ l ∷ back → spills_in l ≡ false
+  -- each object follows its chart
+  pub course : (p : ℕ) (d : ObjectDef) (is : object_at sys p ≡ Some d)
+      → (end : State) × (run sys (actor d (charts p d is)) (start_state (actor d (charts p d is)) (first_config d)) (pieces_in w (in_sim sys has) p (unread sys) lane0) ≡ Some end)
+      × MayEnd (ends_at_point (pieces_in w (in_sim sys has) p (unread sys) lane0)) end
+  -- no queue is found empty by an object
+  pub unmarked : (xs : List Item) (i : Item) (ys : List Item) → lane0 ≡ xs ++ i ∷ ys → (f l m : ℕ) → i.body ≡ body.Nil f l m → ⊥
+  -- each record comes next by what the words hold
+  pub comes : (xs : List Placed) (x : Placed) (ys : List Placed) (c : ℕ) → with_stimuli cuts sources lane0 ≡ xs ++ x ∷ ys
+      → Comes sys (held_to sys c xs) x.item.of (told w x.item.of c x.item.body)
+  pub turn : (xs : List Placed) (n floor : ℕ) (ys : List Placed) → with_stimuli cuts sources lane0 ≡ xs ++ placed 0 (look_item n floor) ∷ ys
+      → is_turn (acts_next sys stimuli xs (floor == 0)) (turns_at 1 n sources) ≡ true
+  pub has_is : (n : ℕ) → has n ≡ has_stim sources n
+  pub source : (front : List (List Item)) (l : List Item) (back : List (List Item)) → sources ≡ front ++ l ∷ back
+      → (list_all (λ i. i.of == 0) l ≡ true) × (end : SourceState) × (stop : SourceEnd)
+      × (source_after sys sim (Some (Between 1 (get_or stimuli (length front) []))) (records_of w 0 0 l) ≡ Some end)
+      × (source_stops sim end stop ≡ true) × (stop ≡ InStimulus → ⊥)
+  -- nothing follows a record that ends the run, which stands where the lane isn't whole
+  pub ends : (xs : List Placed) (x : Placed) (ys : List Placed) → with_stimuli cuts sources lane0 ≡ xs ++ x ∷ ys → list_any (λ z. is_end z.item.body) xs ≡ false
+  pub ended : (is_whole sim last ≡ true) ⊎ (list_any (λ z. is_end z.item.body) (with_stimuli cuts sources lane0) ≡ true)
+  -- an object takes at most its budget, and is stopped there
+  pub within : (xs : List Placed) (p f l m : ℕ) (e : Entry) (ys : List Placed) → with_stimuli cuts sources lane0 ≡ xs ++ placed 0 (record { of = p; body = body.Took f l m e }) ∷ ys
+      → (object_at sys p ≡ None → ⊥) → count_by (λ z. takes_of p z.item) xs < budget
+  pub spent : (xs : List Placed) (p : ℕ) (ys : List Placed) → with_stimuli cuts sources lane0 ≡ xs ++ placed 0 (record { of = p; body = body.Spent }) ∷ ys
+      → count_by (λ z. takes_of p z.item) xs ≡ budget
+
+module _ (sys : System) (charts : (p : ℕ) (d : ObjectDef) → object_at sys p ≡ Some d → Chart) (stimuli : List (List Stim)) (budget : ℕ) where
+  abbrev pub order_of : Side sys charts stimuli budget → List Placed
+  order_of a = with_stimuli a.cuts a.sources a.lane0
+
+  -- how far a run has come
+  pub record Along (a : Side sys charts stimuli budget) (xs : List Placed) (front back : List Item) (k : Reading) : Type 0 where
+    pub lane : a.lane0 ≡ front ++ back
+    pub order : order_of a ≡ xs ++ with_stimuli a.cuts a.sources back
+    pub read : lane_on (in_sim sys a.has) (unread sys) front ≡ Some k
+    pub tail : (p : ℕ) → k.place ≡ Ended p → ends_at_point (pieces_in a.w (in_sim sys a.has) p (unread sys) front) ≡ false
+    pub fronts : (before : List (List Item)) (l : List Item) (behind : List (List Item)) → a.sources ≡ before ++ l ∷ behind → IsFront xs (1 + length before) l
+
+  -- two runs have come equally far
+  pub record Agree (a b : Side sys charts stimuli budget) (xs : List Placed) (front la lb : List Item) (k : Reading) : Type 0 where
+    pub one : Along a xs front la k
+    pub two : Along b xs front lb k
+    pub stacked : Stacked sys k
+    pub looks : a.has k.looks ≡ b.has k.looks
+    pub pieces : (p : ℕ) → pieces_in a.w (in_sim sys a.has) p (unread sys) front ≡ pieces_in b.w (in_sim sys b.has) p (unread sys) front
+    pub told_so : (i : ℕ) → records_of a.w 0 0 (lane_in xs i) ≡ records_of b.w 0 0 (lane_in xs i)
