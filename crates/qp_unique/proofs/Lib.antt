@@ -8,3 +8,4 @@ pub mod KernelLemmas
 pub mod StackLemmas
 pub mod AwayLemmas
 pub mod Sides
+pub mod StepLemmas

@@ -28,7 +28,7 @@ use Rattle.qp_course.specs.Followable.{IsFollowable}
 use Rattle.qp_sources.specs.SourceState.{SourceState, Between, source_after, source_stops}
 use Rattle.qp_orders.specs.RunOrder.{placed, items_of, has_stim}
 use Rattle.qp_orders.specs.Placing.{look_item}
-use Rattle.qp_unique.specs.Held.{Held, Comes}
+use Rattle.qp_unique.specs.Held.{Held, IsCounted, Comes}
 use Rattle.qp_unique.specs.Fronts.{held_after}
 use Rattle.qp_unique.proofs.LookLemmas.{begins, begun_in, StimFirst}
 use Rattle.qp_unique.proofs.StackLemmas.{Stacked}
@@ -80,6 +80,7 @@ pub record Side (sys : System) (charts : (p : ℕ) (d : ObjectDef) → object_at
   -- each record comes next by what the words hold
   pub comes : (xs : List Placed) (x : Placed) (ys : List Placed) (c : ℕ) → with_stimuli cuts sources lane0 ≡ xs ++ x ∷ ys
       → Comes sys (held_to sys c xs) x.item.of (told w x.item.of c x.item.body)
+  pub counted : (xs ys : List Placed) (c : ℕ) → with_stimuli cuts sources lane0 ≡ xs ++ ys → IsCounted (held_to sys c xs)
   pub turn : (xs : List Placed) (n floor : ℕ) (ys : List Placed) → with_stimuli cuts sources lane0 ≡ xs ++ placed 0 (look_item n floor) ∷ ys
       → is_turn (acts_next sys stimuli xs (floor == 0)) (turns_at 1 n sources) ≡ true
   pub has_is : (n : ℕ) → has n ≡ has_stim sources n
@@ -115,4 +116,4 @@ module _ (sys : System) (charts : (p : ℕ) (d : ObjectDef) → object_at sys p 
     pub stacked : Stacked sys k
     pub looks : a.has k.looks ≡ b.has k.looks
     pub pieces : (p : ℕ) → pieces_in a.w (in_sim sys a.has) p (unread sys) front ≡ pieces_in b.w (in_sim sys b.has) p (unread sys) front
-    pub told_so : (i : ℕ) → records_of a.w 0 0 (lane_in xs i) ≡ records_of b.w 0 0 (lane_in xs i)
+    pub told_so : (i : ℕ) → (i ≡ 0 → ⊥) → records_of a.w 0 0 (lane_in xs i) ≡ records_of b.w 0 0 (lane_in xs i)
