@@ -9,3 +9,4 @@ pub mod StackLemmas
 pub mod AwayLemmas
 pub mod Sides
 pub mod StepLemmas
+pub mod ItemLemmas
