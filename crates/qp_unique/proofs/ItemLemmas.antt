@@ -77,7 +77,7 @@ run-first sys a s end p qs h = by (piece_next sys a s p) refl h
 module _ (sys : System) (charts : (p : ℕ) (d : ObjectDef) → object_at sys p ≡ Some d → Chart) (stimuli : List (List Stim)) (budget : ℕ)
     (bounded : (p : ℕ) → IsObject sys p → p ≤ threshold_of sys p) (positive : (p : ℕ) → IsObject sys p → p ≡ 0 → ⊥) where
   -- an object with this priority
-  named : (p : ℕ) → IsObject sys p → (d : ObjectDef) × (object_at sys p ≡ Some d) × (d.priority ≡ p)
+  pub named : (p : ℕ) → IsObject sys p → (d : ObjectDef) × (object_at sys p ≡ Some d) × (d.priority ≡ p)
   unfolding is_object object_at
   named p h = by (object_at sys p) refl h
     where

@@ -10,3 +10,4 @@ pub mod AwayLemmas
 pub mod Sides
 pub mod StepLemmas
 pub mod ItemLemmas
+pub mod PairLemmas
