@@ -11,3 +11,4 @@ pub mod Sides
 pub mod StepLemmas
 pub mod ItemLemmas
 pub mod PairLemmas
+pub mod SourceSteps

@@ -58,7 +58,6 @@ pub record IsFront (xs : List Placed) (i : ℕ) (l : List Item) : Type 0 where
   pub rest : List Item
   pub is : l ≡ lane_in xs i ++ rest
   pub first : StimFirst rest
-  pub begun_so : begun_in (lane_in xs i) ≡ begun xs i
 
 -- what is known of a whole run
 pub record Side (sys : System) (charts : (p : ℕ) (d : ObjectDef) → object_at sys p ≡ Some d → Chart) (stimuli : List (List Stim)) (budget : ℕ) : Type 0 where
