@@ -12,3 +12,4 @@ pub mod StepLemmas
 pub mod ItemLemmas
 pub mod PairLemmas
 pub mod SourceSteps
+pub mod PartLemmas
