@@ -13,3 +13,4 @@ pub mod ItemLemmas
 pub mod PairLemmas
 pub mod SourceSteps
 pub mod PartLemmas
+pub mod ExtendLemmas
