@@ -14,3 +14,4 @@ pub mod PairLemmas
 pub mod SourceSteps
 pub mod PartLemmas
 pub mod ExtendLemmas
+pub mod LoopLemmas

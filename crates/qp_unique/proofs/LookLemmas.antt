@@ -89,7 +89,7 @@ same-front (a ∷ xs) (b ∷ ys) x y us vs is first second counts =
     (cc, more.1, more.2)
 
 -- a stimulus stands in the look that it states
-stim-at : (n p k : ℕ) (b : Body) → stim_of b ≡ Some (p, k) → is_stim_at n b ≡ (k == n)
+pub stim-at : (n p k : ℕ) (b : Body) → stim_of b ≡ Some (p, k) → is_stim_at n b ≡ (k == n)
 stim-at n p k (body.Stim i j) h = let e : j ≡ k = ap (λ (o : Option (ℕ × ℕ)). option_map_or (λ s. s.1) o 0) h in rw e refl
 stim-at n p k b h = absurd (cc)
 

@@ -37,7 +37,7 @@ use Rattle.qp_unique.proofs.Sides.{Side, order_of, held_to}
 some-is : {A : Type 0} {x y : A} → Some x ≡ Some y → x ≡ y
 some-is e = cc
 
-no-stim : (b : Body) → is_some (stim_of b) ≡ false → stim_of b ≡ None
+pub no-stim : (b : Body) → is_some (stim_of b) ≡ false → stim_of b ≡ None
 no-stim b h = by (stim_of b) refl h
   where
     by : (o : Option (ℕ × ℕ)) → stim_of b ≡ o → is_some o ≡ false → stim_of b ≡ None
