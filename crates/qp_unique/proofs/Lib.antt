@@ -15,3 +15,5 @@ pub mod SourceSteps
 pub mod PartLemmas
 pub mod ExtendLemmas
 pub mod LoopLemmas
+pub mod NilLemmas
+pub mod EqualLemmas

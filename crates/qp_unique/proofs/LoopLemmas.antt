@@ -23,6 +23,7 @@ use Rattle.qp_model.specs.Points.{pieces_in}
 use Rattle.qp_model.proofs.ListLemmas.{both_true}
 use Rattle.qp_course.proofs.NextLemmas.{mapped}
 use Rattle.qp_sources.specs.SourceState.{SourceState, Between, Within, source_next, source_after}
+use Rattle.qp_orders.proofs.MergeLemmas.{stimuli-append}
 use Rattle.qp_orders.specs.RunOrder.{placed, has_stim}
 use Rattle.qp_orders.specs.Placing.{look_item, all_placed, stim_item}
 use Rattle.qp_unique.proofs.KernelLemmas.{Slot, Starts, Runs, Releases, IsLook, IsSeen, IsTook, IsSpent, IsRest, IsOwned, item-is}
@@ -32,11 +33,11 @@ use Rattle.qp_unique.proofs.AwayLemmas.{differs}
 use Rattle.qp_unique.proofs.StepLemmas.{over-none}
 use Rattle.qp_unique.proofs.ItemLemmas.{none-at, step, slot, order-here}
 use Rattle.qp_unique.proofs.PairLemmas.{same-item, swapped}
-use Rattle.qp_unique.proofs.SourceSteps.{lane_in-append, lane_in-own, lane_in-other, begun-is, place_of, place-after, stim-read, other-read, stim-is, alone, alone-at, after-split, after-first, record-first}
+use Rattle.qp_unique.proofs.SourceSteps.{lane_in-append, lane_in-own, lane_in-other, begun-is, place_of, place-after, stim-read, other-read, stim-some, stim-is, alone, alone-at, after-split, after-first, record-first}
 use Rattle.qp_model.proofs.KnowingLemmas.{records_of-append}
 use Rattle.qp_unique.proofs.PartLemmas.{no-stim, Part, same-part, told-on}
 use Rattle.qp_unique.proofs.ExtendLemmas.{extended}
-use Rattle.qp_unique.proofs.Sides.{Side, Along, Agree, IsFront, in_sim, order_of, lane_in}
+use Rattle.qp_unique.proofs.Sides.{Side, Along, Agree, IsFront, HasEnded, in_sim, order_of, lane_in}
 
 -- a look is of no object
 look-whole : (s : Setting) (k next : Reading) (i : Item) (n floor : ℕ) → Slot s k next i → i.body ≡ body.Look n floor → i ≡ look_item n floor
@@ -81,6 +82,29 @@ fronts-same one (y ∷ rest) before stim behind is first stim_is counts =
     let ys : y ≡ stim = same.1 in
     let rests : rest ≡ behind = same.2 in
     (same.0, ap (λ x. x ∷ rest) ys ∙ ap (λ zs. stim ∷ zs) rests)
+
+-- the one element that passes
+only-place : {A : Type 0} (test : A → Bool) (us vs : List A) (x y : A) (ps qs : List A) → us ++ x ∷ ps ≡ vs ++ y ∷ qs → test x ≡ true → list_any test vs ≡ false → list_any test qs ≡ false
+    → (length us ≡ length vs) × (x ≡ y)
+only-place test [] [] x y ps qs is passes front back = (refl, cc)
+only-place test [] (v ∷ vs) x y ps qs is passes front back =
+    let same : x ≡ v = cc in
+    let yes : test v ≡ true = subst (λ z. test z ≡ true) same passes in
+    let no : (true || list_any test vs) ≡ false = subst (λ b. (b || list_any test vs) ≡ false) yes front in
+    absurd (cc)
+only-place test (u ∷ us) [] x y ps qs is passes front back =
+    let rest : us ++ x ∷ ps ≡ qs = cc in
+    let none = none-at test us x ps (subst (λ zs. list_any test zs ≡ false) (sym rest) back) in
+    let no : true ≡ false = sym passes ∙ none.0 in
+    absurd (cc)
+only-place test (u ∷ us) (v ∷ vs) x y ps qs is passes front back =
+    let rest : us ++ x ∷ ps ≡ vs ++ y ∷ qs = cc in
+    let later = only-place test us vs x y ps qs rest passes (or-rest (test v) (list_any test vs) front) back in
+    (ap suc later.0, later.1)
+  where
+    or-rest : (a b : Bool) → (a || b) ≡ false → b ≡ false
+    or-rest true b h = absurd (cc)
+    or-rest false b h = h
 
 alone-front : (xs ys : List Item) → alone (xs ++ ys) → alone xs
 alone-front [] ys h = refl
@@ -204,6 +228,13 @@ module _ (sys : System) (charts : (p : ℕ) (d : ObjectDef) → object_at sys p 
   lane-other : (xs : List Placed) (i : Item) (m : ℕ) (gs : List Item) (j : ℕ) → (j ≡ 0 → ⊥) → (1 + m == j) ≡ false → lane_in (xs ++ placed 0 i ∷ all_placed (1 + m) gs) j ≡ lane_in xs j
   lane-other xs i m gs j some other =
       lane-with xs i m gs j some ∙ ap (λ ys. lane_in xs j ++ ys) (lane_in-other (1 + m) j gs other) ∙ append-nil (lane_in xs j)
+
+  lane-through : (xs : List Placed) (i : Item) (m : ℕ) (gs : List Item) (ys : List Placed)
+      → lane_in (xs ++ placed 0 i ∷ (all_placed (1 + m) gs ++ ys)) (1 + m) ≡ lane_in xs (1 + m) ++ (gs ++ lane_in ys (1 + m))
+  lane-through xs i m gs ys =
+      ap (λ zs. lane_in zs (1 + m)) (sym (append_assoc xs (placed 0 i ∷ all_placed (1 + m) gs) ys))
+      ∙ lane_in-append (xs ++ placed 0 i ∷ all_placed (1 + m) gs) ys (1 + m) ∙ ap (λ zs. zs ++ lane_in ys (1 + m)) (lane-own xs i m gs)
+      ∙ append_assoc (lane_in xs (1 + m)) gs (lane_in ys (1 + m))
 
   above-zero : (m : ℕ) → 1 + m ≡ 0 → ⊥
   above-zero m e = omega (arith, e)
@@ -375,9 +406,9 @@ module _ (sys : System) (charts : (p : ℕ) (d : ObjectDef) → object_at sys p 
 
   -- a run that has ended isn't one that goes on
   ended-here : (a b : Side sys charts stimuli budget) (xs : List Placed) (front : List Item) (ib : Item) (lb : List Item) (k : Reading)
-      → Agree sys charts stimuli budget a b xs front [] (ib ∷ lb) k → ⊥
+      → HasEnded sys charts stimuli budget a → Agree sys charts stimuli budget a b xs front [] (ib ∷ lb) k → ⊥
   unfolding lane_on with_stimuli
-  ended-here a b xs front ib lb k g = by a.ended
+  ended-here a b xs front ib lb k ended g = by ended
     where
       last : a.last ≡ k
       last =
@@ -414,17 +445,17 @@ module _ (sys : System) (charts : (p : ℕ) (d : ObjectDef) → object_at sys p 
           cc
 
   -- two runs that have come equally far have the same order
-  pub same-order : (a b : Side sys charts stimuli budget) (la lb : List Item) (xs : List Placed) (front : List Item) (k : Reading)
+  pub same-order : (a b : Side sys charts stimuli budget) → HasEnded sys charts stimuli budget a → HasEnded sys charts stimuli budget b → (la lb : List Item) (xs : List Placed) (front : List Item) (k : Reading)
       → Agree sys charts stimuli budget a b xs front la lb k → order_of sys charts stimuli budget a ≡ order_of sys charts stimuli budget b
   unfolding with_stimuli
-  same-order a b [] [] xs front k g = g.one.order ∙ sym g.two.order
-  same-order a b [] (ib ∷ lb) xs front k g = absurd (ended-here a b xs front ib lb k g)
-  same-order a b (ia ∷ la) [] xs front k g =
-      absurd (ended-here b a xs front ia la k (swapped sys charts stimuli budget bounded positive a b xs front (ia ∷ la) [] k g))
-  same-order a b (ia ∷ la) (ib ∷ lb) xs front k g =
+  same-order a b ea eb [] [] xs front k g = g.one.order ∙ sym g.two.order
+  same-order a b ea eb [] (ib ∷ lb) xs front k g = absurd (ended-here a b xs front ib lb k ea g)
+  same-order a b ea eb (ia ∷ la) [] xs front k g =
+      absurd (ended-here b a xs front ia la k eb (swapped sys charts stimuli budget bounded positive a b xs front (ia ∷ la) [] k g))
+  same-order a b ea eb (ia ∷ la) (ib ∷ lb) xs front k g =
       let same : ib ≡ ia = sym (same-item sys charts stimuli budget bounded positive a b xs front ia ib la lb k g) in
       let on = goes-on a b xs front ia la lb k (subst (λ x. Agree sys charts stimuli budget a b xs front (ia ∷ la) (x ∷ lb) k) same g) in
-      same-order a b la lb on.0 (front ++ ia ∷ []) on.1.0 on.1.1
+      same-order a b ea eb la lb on.0 (front ++ ia ∷ []) on.1.0 on.1.1
 
   -- they have come equally far at first
   pub agree-first : (a b : Side sys charts stimuli budget) → a.has 0 ≡ b.has 0 → Agree sys charts stimuli budget a b [] [] a.lane0 b.lane0 (unread sys)
@@ -457,3 +488,100 @@ module _ (sys : System) (charts : (p : ℕ) (d : ObjectDef) → object_at sys p 
             tail = λ p e. absurd (cc);
             fronts = λ before l behind is. record { rest = l; is = refl; first = none l (c.source before l behind is).0 c before behind is };
           }
+
+  -- one run to its end
+  to-end : (a : Side sys charts stimuli budget) (la : List Item) (xs : List Placed) (front : List Item) (k : Reading)
+      → Agree sys charts stimuli budget a a xs front la la k → (ys : List Placed) × (all : List Item) × (last : Reading) × Agree sys charts stimuli budget a a ys all [] [] last
+  to-end a [] xs front k g = (xs, front, k, g)
+  to-end a (i ∷ la) xs front k g =
+      let on = goes-on a a xs front i la la k g in to-end a la on.0 (front ++ i ∷ []) on.1.0 on.1.1
+
+  -- a lane of a source stands in the order, and all of it
+  module _ (a : Side sys charts stimuli budget) where
+    pub lane-fronts : (before : List (List Item)) (l : List Item) (behind : List (List Item)) → a.sources ≡ before ++ l ∷ behind → IsFront (order_of sys charts stimuli budget a) (1 + length before) l
+    unfolding with_stimuli
+    lane-fronts before l behind is =
+        let end = to-end a a.lane0 [] [] (unread sys) (agree-first a a refl) in
+        let whole : order_of sys charts stimuli budget a ≡ end.0 = end.3.one.order ∙ append-nil end.0 in
+        subst (λ xs. IsFront xs (1 + length before) l) (sym whole) (end.3.one.fronts before l behind is)
+
+    -- the number of a stimulus in its lane
+    place-in : (before : List (List Item)) (l : List Item) (behind : List (List Item)) → a.sources ≡ before ++ l ∷ behind → (front : List Item) (st : Item) (more : List Item) → l ≡ front ++ st ∷ more
+        → (p n : ℕ) → st.body ≡ body.Stim p n → p ≡ 1 + begun_in front
+    place-in before l behind is front st more split p n stim =
+        let source = a.source before l behind is in
+        let start = Between 1 (get_or stimuli (length before) []) in
+        let own = alone-at front st more (subst alone split source.0) in
+        let read : source_after sys sim (Some start) (records_of a.w 0 0 (front ++ st ∷ more)) ≡ Some source.1 =
+            subst (λ x. source_after sys sim (Some start) (records_of a.w 0 0 x) ≡ Some source.1) split source.3 in
+        let two = after-split sys start source.1 (records_of a.w 0 0 front) (records_of a.w 0 (ceiling_over 0 front) (st ∷ more))
+            (subst (λ ts. source_after sys sim (Some start) ts ≡ Some source.1) (records_of-append a.w 0 0 front (st ∷ more)) read) in
+        let next = after-first sys two.0 source.1 (told a.w 0 (ceiling_over 0 front) st.body) _
+            (subst (λ ts. source_after sys sim (Some two.0) ts ≡ Some source.1) (record-first a.w (ceiling_over 0 front) st more own.0) two.2) in
+        let reads = stim-read sys a.w (ceiling_over 0 front) two.0 next.0 p n
+            (subst (λ d. source_next sys sim two.0 (told a.w 0 (ceiling_over 0 front) d) ≡ Some next.0) stim next.1) in
+        let place : place_of two.0 ≡ 1 + begun_in front = place-after sys a.w 0 start two.0 front (alone-front front (st ∷ more) (subst alone split source.0)) two.1 in
+        reads.0 ∙ place
+
+    -- no stimulus is left over
+    left-over : (before : List (List Item)) (l : List Item) (behind : List (List Item)) → a.sources ≡ before ++ l ∷ behind → (front : List Item) (st : Item) (more : List Item) → l ≡ front ++ st ∷ more
+        → begins st ≡ true → front ≡ lane_in (order_of sys charts stimuli budget a) (1 + length before) → ⊥
+    unfolding with_stimuli
+    left-over before l behind is front st more split first whole =
+        let stim = stim-some st.body first in
+        let look = a.placed_so before l behind is front st more split stim.0 stim.1 stim.2 in
+        let n = stim.1 in
+        let xs = with_stimuli a.cuts a.sources look.0 in
+        let order : order_of sys charts stimuli budget a ≡ xs ++ placed 0 (look_item n look.1) ∷ (parts_of_look 1 n a.cuts a.sources ++ with_stimuli a.cuts a.sources look.2) =
+            ap (with_stimuli a.cuts a.sources) look.3 ∙ stimuli-append a.cuts a.sources look.0 (look_item n look.1 ∷ look.2) in
+        let here : list_any (λ i. is_stim_at n i.body) l ≡ true =
+            ap (list_any (λ i. is_stim_at n i.body)) split ∙ stim-any n front st more stim.0 (ap stim_of stim.2) in
+        let some : has_stim a.sources n ≡ true = ap (λ ls. has_stim ls n) is ∙ any-lane n before l behind here in
+        by n look.1 xs _ order stim.0 stim.2 here some (acts_next sys stimuli xs (look.1 == 0)) refl
+      where
+        by : (n floor : ℕ) (xs ys : List Placed) → order_of sys charts stimuli budget a ≡ xs ++ placed 0 (look_item n floor) ∷ (parts_of_look 1 n a.cuts a.sources ++ ys)
+            → (p : ℕ) → st.body ≡ body.Stim p n → list_any (λ i. is_stim_at n i.body) l ≡ true → has_stim a.sources n ≡ true
+            → (t : Option Turn) → acts_next sys stimuli xs (floor == 0) ≡ t → ⊥
+        by n floor xs ys order p stim here some None acts =
+            let turns : turns_at 1 n a.sources ≡ [] = turns-none _ (subst (λ t. is_turn t (turns_at 1 n a.sources) ≡ true) acts (a.turn xs n floor _ order)) in
+            let no : true ≡ false = sym some ∙ turnless 1 n a.sources turns in
+            cc
+        by n floor xs ys order p stim here some (Some t) acts =
+            let turns = turns-one t (turns_at 1 n a.sources) (subst (λ z. is_turn z (turns_at 1 n a.sources) ≡ true) acts (a.turn xs n floor _ order)) in
+            let one = one-turn 1 n a.sources turns.0 turns.1 in
+            let it = one.its in
+            let lanes = only-place (list_any (λ i. is_stim_at n i.body)) before one.front l one.own behind one.back (sym is ∙ one.are) here one.none_front one.none_back in
+            let at_n : is_stim_at n st.body ≡ true = let self : (n == n) ≡ true = grind (arith, nat_tests) in stim-at n p n st.body (ap stim_of stim) ∙ self in
+            let same = only-place (λ (i : Item). is_stim_at n i.body) front it.before st it.stim more it.behind (sym split ∙ lanes.1 ∙ it.is) at_n it.none_before it.none_behind in
+            let places : ◌≡◌ {A = Option (ℕ × ℕ)} (Some (p, n)) (Some (turns.0.place, n)) = sym (ap stim_of stim) ∙ ap (λ (i : Item). stim_of i.body) same.1 ∙ it.begins_it in
+            let place : p ≡ turns.0.place = ap (λ (o : Option (ℕ × ℕ)). option_map_or (λ (x : ℕ × ℕ). x.0) o 0) places in
+            let source : 1 + length before ≡ t.source = ap (λ k. 1 + k) lanes.0 ∙ sym it.source ∙ turns.2 in
+            let acted : t.place ≡ begun xs t.source + 1 = acts-place sys stimuli xs (floor == 0) t acts in
+            let so_many : begun xs t.source ≡ begun_in (lane_in xs (1 + length before)) = begun-is xs t.source ∙ ap (λ j. begun_in (lane_in xs j)) (sym source) in
+            let number : p ≡ 1 + begun_in front = place-in before l behind is front st more split p n stim in
+            let unspilt : spills_in it.behind ≡ false =
+                (none-at (λ i. is_spill i.body) it.before it.stim it.behind (subst (λ x. spills_in x ≡ false) it.is (a.unspilt_sources one.front one.own one.back one.are))).1 in
+            let parts : parts_of_look 1 n a.cuts a.sources ≡ all_placed (1 + length before) (it.stim ∷ up_to_stim it.behind) =
+                look-stimulated n a.cuts a.sources turns.0 one unspilt ∙ ap (λ k. all_placed (1 + k) (it.stim ∷ up_to_stim it.behind)) (sym lanes.0) in
+            let lane : lane_in (order_of sys charts stimuli budget a) (1 + length before) ≡ lane_in xs (1 + length before) ++ ((it.stim ∷ up_to_stim it.behind) ++ lane_in ys (1 + length before)) =
+                ap (λ zs. lane_in zs (1 + length before)) order
+                ∙ ap (λ ps. lane_in (xs ++ placed 0 (look_item n floor) ∷ (ps ++ ys)) (1 + length before)) parts
+                ∙ lane-through xs (look_item n floor) (length before) (it.stim ∷ up_to_stim it.behind) ys in
+            let first_it : begins it.stim ≡ true = rw it.begins_it refl in
+            let more_begun : begun_in (lane_in (order_of sys charts stimuli budget a) (1 + length before))
+                ≡ begun_in (lane_in xs (1 + length before)) + begun_in ((it.stim ∷ up_to_stim it.behind) ++ lane_in ys (1 + length before)) =
+                ap begun_in lane ∙ begun-append (lane_in xs (1 + length before)) _ in
+            let at_least : begun_in ((it.stim ∷ up_to_stim it.behind) ++ lane_in ys (1 + length before)) ≡ 1 + begun_in (up_to_stim it.behind ++ lane_in ys (1 + length before)) = rw first_it refl in
+            let fronts : begun_in front ≡ begun_in (lane_in (order_of sys charts stimuli budget a) (1 + length before)) = ap begun_in whole in
+            omega (arith, number, place, acted, so_many, more_begun, at_least, fronts, turns.3)
+
+    -- each source's lane stands in the order, all of it
+    pub lane-whole : (before : List (List Item)) (l : List Item) (behind : List (List Item)) → a.sources ≡ before ++ l ∷ behind → l ≡ lane_in (order_of sys charts stimuli budget a) (1 + length before)
+    lane-whole before l behind is = by front.rest front.is front.first
+      where
+        front : IsFront (order_of sys charts stimuli budget a) (1 + length before) l
+        front = lane-fronts before l behind is
+
+        by : (rest : List Item) → l ≡ lane_in (order_of sys charts stimuli budget a) (1 + length before) ++ rest → StimFirst rest → l ≡ lane_in (order_of sys charts stimuli budget a) (1 + length before)
+        by [] split first = split ∙ append-nil (lane_in (order_of sys charts stimuli budget a) (1 + length before))
+        by (st ∷ more) split first = absurd (left-over before l behind is (lane_in (order_of sys charts stimuli budget a) (1 + length before)) st more split first refl)

@@ -87,10 +87,11 @@ pub record Side (sys : System) (charts : (p : ℕ) (d : ObjectDef) → object_at
       → (list_all (λ i. i.of == 0) l ≡ true) × (end : SourceState) × (stop : SourceEnd)
       × (source_after sys sim (Some (Between 1 (get_or stimuli (length front) []))) (records_of w 0 0 l) ≡ Some end)
       × (source_stops sim end stop ≡ true) × (stop ≡ InStimulus → ⊥)
-  -- nothing follows a record that ends the run, which stands where the lane isn't whole
+  -- nothing follows a record that ends the run
   pub ends : (xs : List Placed) (x : Placed) (ys : List Placed) → with_stimuli cuts sources lane0 ≡ xs ++ x ∷ ys → list_any (λ z. is_end z.item.body) xs ≡ false
-  pub ended : (is_whole sim last ≡ true) ⊎ (list_any (λ z. is_end z.item.body) (with_stimuli cuts sources lane0) ≡ true)
   -- an object takes at most its budget, and is stopped there
+  pub placed_so : (before : List (List Item)) (l : List Item) (behind : List (List Item)) → sources ≡ before ++ l ∷ behind → (xs : List Item) (i : Item) (ys : List Item) → l ≡ xs ++ i ∷ ys
+      → (p n : ℕ) → i.body ≡ body.Stim p n → (front : List Item) × (floor : ℕ) × (back : List Item) × (lane0 ≡ front ++ look_item n floor ∷ back)
   pub within : (xs : List Placed) (p f l m : ℕ) (e : Entry) (ys : List Placed) → with_stimuli cuts sources lane0 ≡ xs ++ placed 0 (record { of = p; body = body.Took f l m e }) ∷ ys
       → (object_at sys p ≡ None → ⊥) → count_by (λ z. takes_of p z.item) xs < budget
   pub spent : (xs : List Placed) (p : ℕ) (ys : List Placed) → with_stimuli cuts sources lane0 ≡ xs ++ placed 0 (record { of = p; body = body.Spent }) ∷ ys
@@ -99,6 +100,10 @@ pub record Side (sys : System) (charts : (p : ℕ) (d : ObjectDef) → object_at
 module _ (sys : System) (charts : (p : ℕ) (d : ObjectDef) → object_at sys p ≡ Some d → Chart) (stimuli : List (List Stim)) (budget : ℕ) where
   abbrev pub order_of : Side sys charts stimuli budget → List Placed
   order_of a = with_stimuli a.cuts a.sources a.lane0
+
+  -- lane 0 is whole, or a record stands that ends the run
+  abbrev pub HasEnded : Side sys charts stimuli budget → Type 0
+  HasEnded a = (is_whole sim a.last ≡ true) ⊎ (list_any (λ z. is_end z.item.body) (order_of a) ≡ true)
 
   -- how far a run has come
   pub record Along (a : Side sys charts stimuli budget) (xs : List Placed) (front back : List Item) (k : Reading) : Type 0 where
