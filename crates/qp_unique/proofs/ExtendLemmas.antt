@@ -25,7 +25,7 @@ use Rattle.qp_orders.specs.RunOrder.{placed, items_of}
 use Rattle.qp_orders.specs.Placing.{look_item}
 use Rattle.qp_unique.specs.Held.{Held, Comes, known_then}
 use Rattle.qp_unique.proofs.KernelLemmas.{Slot, IsOwned, next-same}
-use Rattle.qp_unique.proofs.StackLemmas.{Stacked, IsObject, stacked-next, ended-last}
+use Rattle.qp_unique.proofs.StackLemmas.{Stacked, PlaceStacked, IsObject, stacked-next, ended-last}
 use Rattle.qp_unique.proofs.StepLemmas.{slot-looks}
 use Rattle.qp_unique.proofs.ItemLemmas.{step, slot, comes-here, own-unmarked, tells-at}
 use Rattle.qp_unique.proofs.Sides.{Side, Along, Agree, IsFront, in_sim, order_of, held_to, lane_in}
@@ -55,7 +55,10 @@ module _ (sys : System) (charts : (p : ℕ) (d : ObjectDef) → object_at sys p 
     tail-next next same p at =
         let here = slot sys charts stimuli budget bounded positive a xs front i la k h in
         let last = ended-last (in_sim sys a.has) k (step sys charts stimuli budget bounded positive a xs front i la k h).0 i p here stacked (ap (λ (x : Reading). x.place) same ∙ at) in
-        let told_it = tells-at sys charts stimuli budget bounded positive a xs front i la k h p last.0 (own-unmarked sys charts stimuli budget bounded positive a xs front i la k h last.1) in
+        let behind = stacked-next (in_sim sys a.has) refl bounded k (step sys charts stimuli budget bounded positive a xs front i la k h).0 i here stacked in
+        let its : IsObject sys p = (subst (PlaceStacked sys (step sys charts stimuli budget bounded positive a xs front i la k h).0.running) (ap (λ (x : Reading). x.place) same ∙ at) behind.place).0 in
+        let told_it = tells-at sys charts stimuli budget bounded positive a xs front i la k h p last.0
+            (own-unmarked sys charts stimuli budget bounded positive a xs front i la k h (subst (IsObject sys) (sym last.0) its) last.1) in
         ap ends_at_point (pieces-snoc p ∙ ap (λ ps. pieces_in a.w (in_sim sys a.has) p (unread sys) front ++ ps) told_it) ∙ ends-told (pieces_in a.w (in_sim sys a.has) p (unread sys) front) _
 
     read-next : (next : Reading) → (step sys charts stimuli budget bounded positive a xs front i la k h).0 ≡ next → lane_on (in_sim sys a.has) (unread sys) (front ++ i ∷ []) ≡ Some next

@@ -143,12 +143,15 @@ module _ (sys : System) (charts : (p : ℕ) (d : ObjectDef) → object_at sys p 
         (split.0, whole.0, split.1, split.2, subst (λ ps. MayEnd (ends_at_point ps) whole.0) (pieces-here p) whole.2)
 
     -- a record of the object whose start or step is under way is none of a turn without a step
-    pub own-unmarked : IsOwned (role_of i.body) → is_turn_mark i.body ≡ false
-    unfolding role_of
-    own-unmarked own = by i.body refl own
+    pub own-unmarked : IsObject sys i.of → IsOwned (role_of i.body) → is_turn_mark i.body ≡ false
+    unfolding role_of is_object
+    own-unmarked its own = by i.body refl own
       where
+        there : object_at sys i.of ≡ None → ⊥
+        there none = let no : is_some (object_at sys i.of) ≡ false = rw none refl in let wrong : true ≡ false = sym its ∙ no in cc
+
         by : (b : Body) → i.body ≡ b → IsOwned (role_of b) → is_turn_mark b ≡ false
-        by (body.Nil f l m) e own = absurd (a.unmarked front i la h.lane f l m e)
+        by (body.Nil f l m) e own = absurd (a.unmarked front i la h.lane there f l m e)
         by body.Spent e own = absurd own
         by b e own = refl
 

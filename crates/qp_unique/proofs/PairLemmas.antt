@@ -150,7 +150,7 @@ module _ (sys : System) (charts : (p : ℕ) (d : ObjectDef) → object_at sys p 
     unfolding pieces_at role_of
     releases-look p its of role started at not look =
         let d = named sys charts stimuli budget bounded positive p its in
-        let unmarked : is_turn_mark ia.body ≡ false = own-unmarked sys charts stimuli budget bounded positive a xs front ia la k g.one (rw role tt) in
+        let unmarked : is_turn_mark ia.body ≡ false = own-unmarked sys charts stimuli budget bounded positive a xs front ia la k g.one (subst (IsObject sys) (sym of) its) (rw role tt) in
         let one = told-next sys charts stimuli budget bounded positive a xs front ia la k g.one p d.0 d.1 d.2 of unmarked in
         let two = course-here sys charts stimuli budget bounded positive b xs front ib lb k g.two p d.0 d.1 in
         let must : MustRelease sys (actor d.0 (charts p d.0 d.1)) one.0 =
@@ -216,11 +216,11 @@ module _ (sys : System) (charts : (p : ℕ) (d : ObjectDef) → object_at sys p 
     looks-same : lookA → lookB → ia ≡ ib
     looks-same one two = one ∙ sym two
 
-    owned-unmarked-a : IsOwned (role_of ia.body) → is_turn_mark ia.body ≡ false
-    owned-unmarked-a own = own-unmarked sys charts stimuli budget bounded positive a xs front ia la k g.one own
+    owned-unmarked-a : (p : ℕ) → IsObject sys p → ia.of ≡ p → IsOwned (role_of ia.body) → is_turn_mark ia.body ≡ false
+    owned-unmarked-a p its of own = own-unmarked sys charts stimuli budget bounded positive a xs front ia la k g.one (subst (IsObject sys) (sym of) its) own
 
-    owned-unmarked-b : IsOwned (role_of ib.body) → is_turn_mark ib.body ≡ false
-    owned-unmarked-b own = own-unmarked sys charts stimuli budget bounded positive b xs front ib lb k g.two own
+    owned-unmarked-b : (p : ℕ) → IsObject sys p → ib.of ≡ p → IsOwned (role_of ib.body) → is_turn_mark ib.body ≡ false
+    owned-unmarked-b p its of own = own-unmarked sys charts stimuli budget bounded positive b xs front ib lb k g.two (subst (IsObject sys) (sym of) its) own
 
 module _ (sys : System) (charts : (p : ℕ) (d : ObjectDef) → object_at sys p ≡ Some d → Chart) (stimuli : List (List Stim)) (budget : ℕ)
     (bounded : (p : ℕ) → IsObject sys p → p ≤ threshold_of sys p) (positive : (p : ℕ) → IsObject sys p → p ≡ 0 → ⊥)
@@ -238,8 +238,8 @@ module _ (sys : System) (charts : (p : ℕ) (d : ObjectDef) → object_at sys p 
   tells-both : (p : ℕ) → IsObject sys p → (ia.of ≡ p) × IsOwned (role_of ia.body) → (ib.of ≡ p) × IsOwned (role_of ib.body) → ia ≡ ib
   tells-both p its one two =
       tells-same sys charts stimuli budget bounded positive a b xs front ia ib la lb k g p its one.0 two.0
-      (owned-unmarked-a sys charts stimuli budget bounded positive a b xs front ia ib la lb k g one.1)
-      (owned-unmarked-b sys charts stimuli budget bounded positive a b xs front ia ib la lb k g two.1)
+      (owned-unmarked-a sys charts stimuli budget bounded positive a b xs front ia ib la lb k g p its one.0 one.1)
+      (owned-unmarked-b sys charts stimuli budget bounded positive a b xs front ia ib la lb k g p its two.0 two.1)
 
   running-same : k.unstarted ≡ [] → (p : ℕ) (outer : List ℕ) → k.place ≡ Inside → k.running ≡ p ∷ outer → ia ≡ ib
   running-same started p outer at run =
@@ -251,10 +251,10 @@ module _ (sys : System) (charts : (p : ℕ) (d : ObjectDef) → object_at sys p 
       by its (inl one) (inl two) = tells-both p its one two
       by its (inl one) (inr two) =
           absurd (tells-point sys charts stimuli budget bounded positive a b xs front ia ib la lb k g p outer its one.0
-          (owned-unmarked-a sys charts stimuli budget bounded positive a b xs front ia ib la lb k g one.1) at run two)
+          (owned-unmarked-a sys charts stimuli budget bounded positive a b xs front ia ib la lb k g p its one.0 one.1) at run two)
       by its (inr one) (inl two) =
           absurd (tells-point sys charts stimuli budget bounded positive b a xs front ib ia lb la k back p outer its two.0
-          (owned-unmarked-b sys charts stimuli budget bounded positive a b xs front ia ib la lb k g two.1) at run one)
+          (owned-unmarked-b sys charts stimuli budget bounded positive a b xs front ia ib la lb k g p its two.0 two.1) at run one)
       by its (inr one) (inr two) = looks-same sys charts stimuli budget bounded positive a b xs front ia ib la lb k g one two
 
   released-same : k.unstarted ≡ [] → (p : ℕ) → k.place ≡ Ended p → ia ≡ ib

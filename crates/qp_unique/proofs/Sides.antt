@@ -75,7 +75,7 @@ pub record Side (sys : System) (charts : (p : ℕ) (d : ObjectDef) → object_at
       → (end : State) × (run sys (actor d (charts p d is)) (start_state (actor d (charts p d is)) (first_config d)) (pieces_in w (in_sim sys has) p (unread sys) lane0) ≡ Some end)
       × MayEnd (ends_at_point (pieces_in w (in_sim sys has) p (unread sys) lane0)) end
   -- no queue is found empty by an object
-  pub unmarked : (xs : List Item) (i : Item) (ys : List Item) → lane0 ≡ xs ++ i ∷ ys → (f l m : ℕ) → i.body ≡ body.Nil f l m → ⊥
+  pub unmarked : (xs : List Item) (i : Item) (ys : List Item) → lane0 ≡ xs ++ i ∷ ys → (object_at sys i.of ≡ None → ⊥) → (f l m : ℕ) → i.body ≡ body.Nil f l m → ⊥
   -- each record comes next by what the words hold
   pub comes : (xs : List Placed) (x : Placed) (ys : List Placed) (c : ℕ) → with_stimuli cuts sources lane0 ≡ xs ++ x ∷ ys
       → Comes sys (held_to sys c xs) x.item.of (told w x.item.of c x.item.body)

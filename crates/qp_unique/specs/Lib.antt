@@ -3,4 +3,5 @@ pub mod NextInCall
 pub mod NextInCourse
 pub mod NextInSource
 pub mod Fronts
+pub mod Tidy
 pub mod Laws
