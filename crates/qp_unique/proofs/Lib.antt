@@ -17,3 +17,5 @@ pub mod ExtendLemmas
 pub mod LoopLemmas
 pub mod NilLemmas
 pub mod EqualLemmas
+pub mod JournalLemmas
+pub mod SideLemmas

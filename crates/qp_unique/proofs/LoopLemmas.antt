@@ -40,7 +40,7 @@ use Rattle.qp_unique.proofs.ExtendLemmas.{extended}
 use Rattle.qp_unique.proofs.Sides.{Side, Along, Agree, IsFront, HasEnded, in_sim, order_of, lane_in}
 
 -- a look is of no object
-look-whole : (s : Setting) (k next : Reading) (i : Item) (n floor : ℕ) → Slot s k next i → i.body ≡ body.Look n floor → i ≡ look_item n floor
+pub look-whole : (s : Setting) (k next : Reading) (i : Item) (n floor : ℕ) → Slot s k next i → i.body ≡ body.Look n floor → i ≡ look_item n floor
 unfolding role_of
 look-whole s k next i n floor (Starts q more vs of own r place left looks) e = absurd (subst (λ d. IsOwned (role_of d)) e own)
 look-whole s k next i n floor (Runs q others none place r of own went) e = absurd (subst (λ d. IsOwned (role_of d)) e own)
@@ -51,7 +51,7 @@ look-whole s k next i n floor (IsTook q f l m x none place item is) e = absurd (
 look-whole s k next i n floor (IsSpent q none place item is) e = absurd (let no : body.Spent ≡ body.Look n floor = sym (ap (λ (y : Item). y.body) item) ∙ e in cc)
 look-whole s k next i n floor (IsRest none place item is) e = item-is i 0 _ (ap (λ (x : Item). x.of) item) e
 
-look-body : (b : Body) (l : ℕ × ℕ) → look_of b ≡ Some l → b ≡ body.Look l.0 l.1
+pub look-body : (b : Body) (l : ℕ × ℕ) → look_of b ≡ Some l → b ≡ body.Look l.0 l.1
 look-body (body.Look n floor) l h = ap (λ o. by o) h
   where
     by : Option (ℕ × ℕ) → Body

@@ -1,0 +1,287 @@
+-- What is known of a lawful, tidy journal of `sim` without a `spill`.
+use Rattle.std.proofs.Common.{◌≡◌, ◌∙◌, ℕ, zero, suc, ◌+◌, ◌<◌, ◌≤◌, ◌==◌, nat_lt, nat_le, Bool, true, false, not, ◌&&◌, ◌||◌, cond, List, [], ◌∷◌, ◌++◌, map, length, drop, get_or, Some, None, refl, sym, ap, subst, inl, inr, ◌⊎◌, arith, append-nil, length-append}
+use Rattle.std.proofs.lemmas.Bool.Decides.{nat_tests}
+use Rattle.std.proofs.lemmas.List.{append_assoc, map-append, drop_more}
+use Rattle.std.proofs.lemmas.List.Elements.{filter-append}
+use Rattle.std.proofs.lemmas.List.Sums.{sum_by-cons}
+use Rattle.std.proofs.lemmas.Option.{unwrap_or-slice_get}
+use Rattle.std.specs.declared.option.Option.{Option}
+use Rattle.std.specs.Option.{option_map_or, option_and_then, unwrap_or, is_some}
+use Rattle.std.specs.List.{filter, find, list_all, list_any, count_by, AllByRecursion}
+use Rattle.qp_chart.specs.declared.checked.Chart.{Chart}
+use Rattle.qp_chart.specs.StateTree.{has}
+use Rattle.qp_model.specs.declared.record.Rec.{Rec}
+use Rattle.qp_model.specs.declared.stimulus.Stim.{Stim}
+use Rattle.qp_model.specs.declared.words.Word.{Word}
+use Rattle.qp_model.specs.declared.words.Word.TheVariants as word
+use Rattle.qp_model.specs.declared.systems.System.{System}
+use Rattle.qp_model.specs.declared.systems.ObjectDef.{ObjectDef}
+use Rattle.qp_model.specs.declared.journals.Journal.{Journal}
+use Rattle.qp_model.specs.declared.bodies.Entry.{Entry}
+use Rattle.qp_model.specs.declared.bodies.Body.{Body}
+use Rattle.qp_model.specs.declared.bodies.Body.TheVariants as body
+use Rattle.qp_model.specs.Record.{Item}
+use Rattle.qp_model.specs.Told.{Event, Told}
+use Rattle.qp_model.specs.Knowing.{Facts, told, known_of, records_of, event_of, ceiling_after}
+use Rattle.qp_model.specs.Ends.{is_spill, is_end, is_assert, is_spent, spills_in, may_cut}
+use Rattle.qp_model.specs.End.{end_of, takes_of, took_count, spent_right}
+use Rattle.qp_model.specs.History.{all_items, lane_items, hist, is_numbered, drawn_on, touch, touch_of}
+use Rattle.qp_model.specs.Machine.{Machine, after, after_from, is_allowed, allowed_from}
+use Rattle.qp_model.specs.Line.{line}
+use Rattle.qp_model.proofs.MachineLemmas.{is_allowed-append}
+use Rattle.qp_model.specs.Home.{lane_at, home_of, own_items, home_records}
+use Rattle.qp_model.specs.Kernels.{sim, qk, qv, port}
+use Rattle.qp_model.specs.Places.{in_order}
+use Rattle.qp_model.specs.Sites.{object_at, ring_of}
+use Rattle.qp_model.specs.Course.{Cut, Whole, Stopped, Anywhere, FollowsTo, actor, first_config}
+use Rattle.qp_model.specs.Pieces.{Piece, ends_at_point}
+use Rattle.qp_model.specs.ObjectShape.{HasShape, CutGroups}
+use Rattle.qp_model.specs.KernelLane.{Setting, Reading, threshold_of, lane_read, lane_on, lane_next, unread, is_whole}
+use Rattle.qp_model.specs.Points.{lane_pieces, pieces_in}
+use Rattle.qp_model.specs.OneOrder.{Placed, with_stimuli, parts_of_look, look_of, stim_of, look_numbers, stims_placed}
+use Rattle.qp_model.specs.Sources.{SourceEnd, InStimulus, IsSourceLane, SourceRuns, source_records, may_end}
+use Rattle.qp_model.specs.Lawful.{Lawful, KernelHolds, SourceLanes, ObjectHolds, facts_of, setting_of, source_lanes, cut_of, spill_cuts, reading_holds}
+use Rattle.qp_model.specs.WordLaw.{Words, is_object}
+use Rattle.qp_model.proofs.ListLemmas.{both_true}
+use Rattle.qp_model.proofs.LineLemmas.{line_is, IsLine}
+use Rattle.qp_model.proofs.KernelRowLemmas.{lane_on-append}
+use Rattle.qp_orders.proofs.CalmLemmas.{no_spill-cuts}
+use Rattle.qp_fits.specs.Decides.{Decides}
+use Rattle.qp_course.specs.Machine.{State, run, start_state, is_end as is_end_of_course, expects_point}
+use Rattle.qp_course.specs.Decided.{reads_to, may_end as list_may_end, ends_well}
+use Rattle.qp_course.specs.Followable.{IsFollowable}
+use Rattle.qp_course.proofs.FollowLemmas.{pieces-decided}
+use Rattle.qp_sources.specs.SourceState.{SourceState, Between, source_after, source_stops, stops_after}
+use Rattle.qp_sources.proofs.LawLemmas.{call-laws}
+use Rattle.qp_sources.proofs.StopLemmas.{lane-stops}
+use Rattle.qp_orders.specs.RunOrder.{placed, items_of}
+use Rattle.qp_orders.specs.Placing.{look_item}
+use Rattle.qp_unique.specs.Held.{Held, IsCounted, Comes}
+use Rattle.qp_unique.specs.Fronts.{held_after, log_of, has_word, names_its}
+use Rattle.qp_unique.specs.Tidy.{run_order, IsTidy}
+use Rattle.qp_unique.proofs.FrontLemmas.{from-behind, may-next}
+use Rattle.qp_unique.proofs.ComesLemmas.{comes-front, known-front}
+use Rattle.qp_unique.proofs.KernelLemmas.{slot-of}
+use Rattle.qp_unique.proofs.StackLemmas.{found-in, IsObject}
+use Rattle.qp_unique.proofs.ItemLemmas.{none-at}
+use Rattle.qp_unique.proofs.LoopLemmas.{look-whole, look-body}
+use Rattle.qp_unique.proofs.NilLemmas.{is_nil, Nilless, cut-nilless}
+use Rattle.qp_unique.proofs.JournalLemmas.{all-front, Threaded, threaded, all-split, lane0-is, zero-each, sources-each, inside, order-is, in-order, ends-run, turn-at, each-unspilt, lane-each}
+use Rattle.qp_unique.proofs.Sides.{Side, HasEnded, MayEnd, in_sim, held_to}
+
+-- the answer of a test that holds
+holds : (b : Bool) (P : Type 0) → Decides b P → P → b ≡ true
+unfolding Decides
+holds true P d h = refl
+holds false P d h = absurd (d h)
+
+filter-none-spill : (is : List Item) → AllByRecursion (λ i. is_spill i.body ≡ false) is → filter (λ i. not (is_spill i.body)) is ≡ is
+filter-none-spill [] h = refl
+filter-none-spill (i ∷ is) h = rw h.0 (ap (λ js. i ∷ js) (filter-none-spill is h.1))
+
+all-of : (p : Item → Bool) (xs : List Item) → list_all p xs ≡ true → AllByRecursion (λ i. p i ≡ true) xs
+all-of p [] h = tt
+all-of p (x ∷ xs) h = let parts = both_true _ _ h in (parts.0, all-of p xs parts.1)
+
+-- a record that finds the queue empty is told
+nil-among : (w : Facts) (o f l m : ℕ) (i : Item) (ys : List Item) → i.of ≡ o → i.body ≡ body.Nil f l m → (c : ℕ) (xs : List Item) → Nilless (records_of w o c (xs ++ i ∷ ys)) → ⊥
+unfolding records_of told
+nil-among w o f l m i ys of nil c [] h =
+    let own : (i.of == o) ≡ true = grind (arith, nat_tests) in
+    let one = subst (λ b. Nilless (cond b (told w o c i.body ∷ records_of w o (ceiling_after c i.body) ys) (records_of w o (ceiling_after c i.body) ys))) own h in
+    let parts = both_true _ _ one in
+    let no : not true ≡ true = subst (λ d. not (is_nil d) ≡ true) nil parts.0 in
+    cc
+nil-among w o f l m i ys of nil c (x ∷ xs) h = by (x.of == o) h (λ k. nil-among w o f l m i ys of nil (ceiling_after c x.body) xs k)
+  where
+    by : (b : Bool) → Nilless (cond b (told w o c x.body ∷ records_of w o (ceiling_after c x.body) (xs ++ i ∷ ys)) (records_of w o (ceiling_after c x.body) (xs ++ i ∷ ys)))
+        → (Nilless (records_of w o (ceiling_after c x.body) (xs ++ i ∷ ys)) → ⊥) → ⊥
+    by true h later = later (both_true _ _ h).1
+    by false h later = later h
+
+none : (w : Word) {S : Type 0} (m : Machine S) → is_allowed m (log_of w []) ≡ true
+unfolding is_allowed allowed_from log_of
+none w m = refl
+
+log-snoc : (w : Word) (zs : List Item) (i : Item) → log_of w (zs ++ i ∷ []) ≡ log_of w zs ++ cond (drawn_on w (touch i)) (i ∷ []) []
+unfolding log_of
+log-snoc w zs i = filter-append (λ j. drawn_on w (touch j)) zs (i ∷ [])
+
+-- what was drawn before a place was allowed
+allowed-front : (all order : List Item) (inside : (P : Item → Type 0) → AllByRecursion P all → AllByRecursion P order) (ordered : in_order [] order ≡ true) (w : Word) (numbers : is_numbered w all ≡ true)
+    {S : Type 0} (m : Machine S) (allowed : is_allowed m (hist w all) ≡ true) (xs ys : List Item) → order ≡ xs ++ ys → is_allowed m (log_of w xs) ≡ true
+allowed-front all order inside ordered w numbers m allowed xs ys is =
+    from-behind (λ zs. (us : List Item) → order ≡ zs ++ us → is_allowed m (log_of w zs) ≡ true) (λ us e. none w m) (λ zs i before us e. more zs i before us e) xs ys is
+  where
+    more : (zs : List Item) (i : Item) → ((us : List Item) → order ≡ zs ++ us → is_allowed m (log_of w zs) ≡ true) → (us : List Item) → order ≡ (zs ++ i ∷ []) ++ us → is_allowed m (log_of w (zs ++ i ∷ [])) ≡ true
+    more zs i before us e =
+        let at : order ≡ zs ++ i ∷ us = e ∙ append_assoc zs (i ∷ []) us in
+        by (drawn_on w (touch i)) refl (before (i ∷ us) at) (λ h. may-next all order inside ordered w numbers m allowed zs i us at h)
+      where
+        by : (b : Bool) → drawn_on w (touch i) ≡ b → is_allowed m (log_of w zs) ≡ true → (drawn_on w (touch i) ≡ true → m.may (after m (log_of w zs)) i ≡ true) → is_allowed m (log_of w (zs ++ i ∷ [])) ≡ true
+        by true h old may = subst (λ us. is_allowed m us ≡ true) (sym (log-snoc w zs i ∙ ap (λ c. log_of w zs ++ cond c (i ∷ []) []) h)) (is_allowed-append m (log_of w zs) i old (may h))
+        by false h old may = subst (λ us. is_allowed m us ≡ true) (sym (log-snoc w zs i ∙ ap (λ c. log_of w zs ++ cond c (i ∷ []) []) h ∙ append-nil (log_of w zs))) old
+
+-- a queue that the system doesn't have
+queue-named : (sys : System) (a o : ℕ) (b : Body) → names_its sys o b ≡ true → drawn_on (word.Queue a) (touch_of o b) ≡ true → is_object sys a ≡ true
+unfolding names_its has_word
+queue-named sys a o (body.Took f l m e) named drawn = let same : o ≡ a = let test : (o == a) ≡ true = drawn in grind (arith, nat_tests) in subst (λ x. is_object sys x ≡ true) same named
+queue-named sys a o (body.Lifo f l m e) named drawn = let same : o ≡ a = let test : (o == a) ≡ true = drawn in grind (arith, nat_tests) in subst (λ x. is_object sys x ≡ true) same named
+queue-named sys a o (body.Post c f l m e) named drawn = let same : c ≡ a = let test : (c == a) ≡ true = drawn in grind (arith, nat_tests) in subst (λ x. is_object sys x ≡ true) same named
+queue-named sys a o b named drawn = absurd (cc)
+
+queue-none : (sys : System) (a : ℕ) → is_object sys a ≡ false → (xs : List Item) → AllByRecursion (λ i. names_its sys i.of i.body ≡ true) xs → log_of (word.Queue a) xs ≡ []
+unfolding log_of
+queue-none sys a out [] h = refl
+queue-none sys a out (i ∷ is) h = by (drawn_on (word.Queue a) (touch i)) refl (queue-none sys a out is h.1)
+  where
+    by : (b : Bool) → drawn_on (word.Queue a) (touch i) ≡ b → filter (λ j. drawn_on (word.Queue a) (touch j)) is ≡ [] → cond b (i ∷ filter (λ j. drawn_on (word.Queue a) (touch j)) is) (filter (λ j. drawn_on (word.Queue a) (touch j)) is) ≡ []
+    by true e later = let no : true ≡ false = sym (queue-named sys a i.of i.body h.0 e) ∙ out in absurd (cc)
+    by false e later = later
+
+empty : (ring : ℕ) → length (after (line ring) []).entries + (after (line ring) []).m ≡ (after (line ring) []).f + (after (line ring) []).l
+unfolding after after_from
+empty ring = refl
+
+module _ (sys : System) (stimuli : List (List Stim)) (j : Journal) (law : Lawful sys stimuli j) (is_sim : j.kernel ≡ sim) (t : Threaded sys stimuli j) where
+  abbrev has_one : ℕ → Bool
+  has_one = (setting_of sys j).has_stimulus
+
+  abbrev zero_lane : List Item
+  zero_lane = lane_items (lane_at j 0)
+
+  -- lane 0 has been read
+  kernel-read : (last : Reading) × (lane_on (in_sim sys has_one) (unread sys) zero_lane ≡ Some last) × ((may_cut j.end ≡ true) ⊎ (is_whole sim last ≡ true))
+  unfolding lane_read
+  kernel-read = by _ (lane_read (setting_of sys j) zero_lane) (ap (λ s. lane_on s (unread s.sys) zero_lane) t.setting) t.kernel.lane
+    where
+      by : (settles : ℕ) (o : Option Reading) → o ≡ lane_on (in_sim sys has_one) (unread sys) zero_lane → reading_holds j zero_lane settles o ≡ true
+          → (last : Reading) × (lane_on (in_sim sys has_one) (unread sys) zero_lane ≡ Some last) × ((may_cut j.end ≡ true) ⊎ (is_whole sim last ≡ true))
+      by settles None e h = absurd (cc)
+      by settles (Some k) e h = (k, sym e, on (may_cut j.end) refl (both_true _ _ h).1)
+        where
+          on : (b : Bool) → may_cut j.end ≡ b → cond b ((length k.unstarted == 0) || list_any (λ i. is_assert i.body) zero_lane) (is_whole j.kernel k) ≡ true → (may_cut j.end ≡ true) ⊎ (is_whole sim k ≡ true)
+          on true e h = inl e
+          on false e h = inr (subst (λ n. is_whole n k ≡ true) is_sim h)
+
+  unspilt-zero : spills_in zero_lane ≡ false
+  unspilt-zero = each-unspilt zero_lane (zero-each sys stimuli j t (λ i. is_spill i.body ≡ false) t.unspilt)
+
+  -- no list is cut by a `spill`
+  cut-is : (o : ℕ) → (cut_of sys j o ≡ Whole) ⊎ (cut_of sys j o ≡ Stopped)
+  unfolding cut_of home_of
+  cut-is o =
+      let no_port : (j.kernel == port) ≡ false = rw is_sim refl in
+      let home : home_of sys j o ≡ 0 = rw no_port refl in
+      let none : spill_cuts o (lane_items (lane_at j (home_of sys j o))) ≡ false = ap (λ n. spill_cuts o (lane_items (lane_at j n))) home ∙ no_spill-cuts o zero_lane unspilt-zero in
+      by (may_cut j.end) (spill_cuts o (lane_items (lane_at j (home_of sys j o)))) none
+    where
+      by : (b c : Bool) → c ≡ false → (cond b (cond c Anywhere Stopped) Whole ≡ Whole) ⊎ (cond b (cond c Anywhere Stopped) Whole ≡ Stopped)
+      by true c e = inr (rw e refl)
+      by false c e = inl refl
+
+  module _ (followable : (p : ℕ) (d : ObjectDef) → object_at sys p ≡ Some d → IsFollowable sys d) where
+    abbrev chart_of : (p : ℕ) (d : ObjectDef) → object_at sys p ≡ Some d → Chart
+    chart_of p d is = (followable p d is).its
+
+    course-of : (p : ℕ) (d : ObjectDef) (is : object_at sys p ≡ Some d)
+        → (end : State) × (run sys (actor d (chart_of p d is)) (start_state (actor d (chart_of p d is)) (first_config d)) (pieces_in (facts_of sys j) (in_sim sys has_one) p (unread sys) zero_lane) ≡ Some end)
+        × MayEnd (ends_at_point (pieces_in (facts_of sys j) (in_sim sys has_one) p (unread sys) zero_lane)) end
+    unfolding object_at lane_pieces facts_of reads_to
+    course-of p d is =
+        let found = found-in (λ x. x.priority == p) sys.objects d is
+            (λ d. FollowsTo sys d (cut_of sys j d.priority) (lane_pieces (facts_of sys j) (setting_of sys j) d.priority zero_lane)) t.kernel.points in
+        let test : (d.priority == p) ≡ true = found.1 in
+        let own : d.priority ≡ p = grind (arith, nat_tests) in
+        let moved : FollowsTo sys d (cut_of sys j p) (pieces_in (facts_of sys j) (in_sim sys has_one) p (unread sys) zero_lane) =
+            subst (λ s. FollowsTo sys d (cut_of sys j p) (pieces_in (facts_of sys j) s p (unread sys) zero_lane)) t.setting
+            (subst (λ o. FollowsTo sys d (cut_of sys j o) (pieces_in (facts_of sys j) (setting_of sys j) o (unread sys) zero_lane)) own found.0) in
+        let reads = holds _ _ (pieces-decided sys d (followable p d is) (cut_of sys j p) (pieces_in (facts_of sys j) (in_sim sys has_one) p (unread sys) zero_lane)) moved in
+        by (run sys (actor d (chart_of p d is)) (start_state (actor d (chart_of p d is)) (first_config d)) (pieces_in (facts_of sys j) (in_sim sys has_one) p (unread sys) zero_lane)) refl
+        (both_true _ _ reads).0 (cut-is p)
+      where
+        either : (b c : Bool) (s : State) (at : Bool) → (at || (is_end_of_course s || expects_point s)) ≡ true → MayEnd at s
+        either b c s true h = inr (inr refl)
+        either b c s false h = on (is_end_of_course s) refl h
+          where
+            on : (x : Bool) → is_end_of_course s ≡ x → (x || expects_point s) ≡ true → MayEnd false s
+            on true e h = inl e
+            on false e h = inr (inl h)
+
+        may : (cut : Cut) (s : State) (at : Bool) → (cut ≡ Whole) ⊎ (cut ≡ Stopped) → list_may_end cut at s ≡ true → MayEnd at s
+        may cut s at (inl e) h = inl (subst (λ c. list_may_end c at s ≡ true) e h)
+        may cut s at (inr e) h = either true true s at (subst (λ c. list_may_end c at s ≡ true) e h)
+
+        by : (o : Option State)
+            → run sys (actor d (chart_of p d is)) (start_state (actor d (chart_of p d is)) (first_config d)) (pieces_in (facts_of sys j) (in_sim sys has_one) p (unread sys) zero_lane) ≡ o
+            → ends_well (cut_of sys j p) (ends_at_point (pieces_in (facts_of sys j) (in_sim sys has_one) p (unread sys) zero_lane)) o ≡ true
+            → (cut_of sys j p ≡ Whole) ⊎ (cut_of sys j p ≡ Stopped)
+            → (end : State) × (run sys (actor d (chart_of p d is)) (start_state (actor d (chart_of p d is)) (first_config d)) (pieces_in (facts_of sys j) (in_sim sys has_one) p (unread sys) zero_lane) ≡ Some end)
+            × MayEnd (ends_at_point (pieces_in (facts_of sys j) (in_sim sys has_one) p (unread sys) zero_lane)) end
+        by None e h cut = absurd (cc)
+        by (Some s) e h cut = (s, e, may (cut_of sys j p) s _ cut h)
+
+  -- no queue is found empty by an object
+  unmarked-of : (xs : List Item) (i : Item) (ys : List Item) → zero_lane ≡ xs ++ i ∷ ys → (object_at sys i.of ≡ None → ⊥) → (f l m : ℕ) → i.body ≡ body.Nil f l m → ⊥
+  unfolding object_at home_records home_of own_items facts_of
+  unmarked-of xs i ys split there f l m nil = by (object_at sys i.of) refl
+    where
+      no_port : (j.kernel == port) ≡ false
+      no_port = rw is_sim refl
+
+      nil-in : (w : Facts) (c : ℕ) (xs : List Item) → Nilless (records_of w i.of c (xs ++ i ∷ ys)) → ⊥
+      nil-in w c xs h = nil-among w i.of f l m i ys refl nil c xs h
+
+      by : (o : Option ObjectDef) → object_at sys i.of ≡ o → ⊥
+      by None e = there e
+      by (Some d) e =
+          let found = found-in (λ x. x.priority == i.of) sys.objects d e (ObjectHolds sys j) law.objects in
+          let test : (d.priority == i.of) ≡ true = found.1 in
+          let own : d.priority ≡ i.of = grind (arith, nat_tests) in
+          let groups = found.0.shapes.shape.groups in
+          let nils = cut-nilless sys d.priority (cut_of sys j d.priority) (home_records (facts_of sys j) j d.priority)
+              (subst (λ b. CutGroups sys d.priority b (cut_of sys j d.priority) (home_records (facts_of sys j) j d.priority)) no_port groups) in
+          let home : home_of sys j d.priority ≡ 0 = rw no_port refl in
+          let records : home_records (facts_of sys j) j d.priority ≡ records_of (facts_of sys j) i.of 0 (xs ++ i ∷ ys) =
+              ap (λ b. records_of (facts_of sys j) d.priority 0 (own_items b d.priority (lane_items (lane_at j (home_of sys j d.priority))))) no_port
+              ∙ ap (λ n. records_of (facts_of sys j) d.priority 0 (lane_items (lane_at j n))) home ∙ ap (λ o. records_of (facts_of sys j) o 0 zero_lane) own
+              ∙ ap (records_of (facts_of sys j) i.of 0) split in
+          nil-in (facts_of sys j) 0 xs (subst Nilless records nils)
+
+  -- each record of the order names words of the system
+  module _ (tidy : IsTidy sys j) where
+    named-each : AllByRecursion (λ i. names_its sys i.of i.body ≡ true) (items_of (run_order sys j))
+    named-each = inside sys stimuli j t (λ i. names_its sys i.of i.body ≡ true) (all-of (λ i. names_its sys i.of i.body) (all_items j.lanes) tidy.named)
+
+    order-items : (xs : List Placed) (x : Placed) (ys : List Placed) → run_order sys j ≡ xs ++ x ∷ ys → items_of (run_order sys j) ≡ items_of xs ++ x.item ∷ items_of ys
+    order-items xs x ys is = ap items_of is ∙ map-append (λ (z : Placed). z.item) xs (x ∷ ys)
+
+    comes-of : (xs : List Placed) (x : Placed) (ys : List Placed) (c : ℕ) → run_order sys j ≡ xs ++ x ∷ ys → Comes sys (held_to sys c xs) x.item.of (told (facts_of sys j) x.item.of c x.item.body)
+    unfolding told facts_of
+    comes-of xs x ys c is =
+        let at = order-items xs x ys is in
+        let named = (all-front (λ i. names_its sys i.of i.body ≡ true) (items_of xs) (x.item ∷ items_of ys) (subst (AllByRecursion (λ i. names_its sys i.of i.body ≡ true)) at named-each)).1.0 in
+        let events : Entry → Option Event = λ e. event_of (record { sys = sys; items = items_of xs }) e in
+        record {
+          may = comes-front sys j.lanes law.words (items_of (run_order sys j)) (inside sys stimuli j t) (in-order sys stimuli j t) (items_of xs) (items_of ys) events c x.item.of x.item.body at named;
+          known = known-front sys j.lanes law.words (items_of (run_order sys j)) (inside sys stimuli j t) (in-order sys stimuli j t) (items_of xs) (items_of ys) events c x.item.of x.item.body at named
+              (λ f l m e took. tidy.events xs x ys f l m e is took);
+        }
+
+    counted-of : (xs ys : List Placed) (c : ℕ) → run_order sys j ≡ xs ++ ys → IsCounted (held_to sys c xs)
+    unfolding held_after is_object
+    counted-of xs ys c is = record { counted = λ a. by a (is_object sys a) refl }
+      where
+        whole : items_of (run_order sys j) ≡ items_of xs ++ items_of ys
+        whole = ap items_of is ∙ map-append (λ (z : Placed). z.item) xs ys
+
+        by : (a : ℕ) (b : Bool) → is_object sys a ≡ b
+            → length (after (line (ring_of sys a)) (log_of (word.Queue a) (items_of xs))).entries + (after (line (ring_of sys a)) (log_of (word.Queue a) (items_of xs))).m
+            ≡ (after (line (ring_of sys a)) (log_of (word.Queue a) (items_of xs))).f + (after (line (ring_of sys a)) (log_of (word.Queue a) (items_of xs))).l
+        by a true e =
+            let queue = law.words.queues a e in
+            (line_is (ring_of sys a) (log_of (word.Queue a) (items_of xs))
+            (allowed-front (all_items j.lanes) (items_of (run_order sys j)) (inside sys stimuli j t) (in-order sys stimuli j t) (word.Queue a) queue.numbers (line (ring_of sys a)) queue.allowed (items_of xs) (items_of ys) whole)).counted
+        by a false e =
+            let none = queue-none sys a e (items_of xs) (all-front (λ i. names_its sys i.of i.body ≡ true) (items_of xs) (items_of ys) (subst (AllByRecursion (λ i. names_its sys i.of i.body ≡ true)) whole named-each)).0 in
+            subst (λ zs. length (after (line (ring_of sys a)) zs).entries + (after (line (ring_of sys a)) zs).m ≡ (after (line (ring_of sys a)) zs).f + (after (line (ring_of sys a)) zs).l) (sym none) (empty (ring_of sys a))
