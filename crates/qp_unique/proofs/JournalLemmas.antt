@@ -75,7 +75,7 @@ module _ (P : Item → Type 0) where
       by true later = (h.0, later true)
       by false later = later false
 
-  parts-all : (lane k : ℕ) (cuts : Bool) (sources : List (List Item)) → AllByRecursion (λ l. AllByRecursion P l) sources → AllByRecursion P (items_of (parts_of_look lane k cuts sources))
+  pub parts-all : (lane k : ℕ) (cuts : Bool) (sources : List (List Item)) → AllByRecursion (λ l. AllByRecursion P l) sources → AllByRecursion P (items_of (parts_of_look lane k cuts sources))
   unfolding parts_of_look
   parts-all lane k cuts [] h = tt
   parts-all lane k cuts (l ∷ ls) h =

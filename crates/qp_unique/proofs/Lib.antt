@@ -19,3 +19,5 @@ pub mod NilLemmas
 pub mod EqualLemmas
 pub mod JournalLemmas
 pub mod SideLemmas
+pub mod SideParts
+pub mod UniqueLemmas

@@ -193,9 +193,9 @@ module _ (sys : System) (charts : (p : ℕ) (d : ObjectDef) → object_at sys p 
         let d = named sys charts stimuli budget bounded positive p its in
         let less : count_by (λ (z : Placed). takes_of p z.item) xs < budget =
             a.within xs p f l m e _ (order-as sys charts stimuli budget a xs ia _ _ at (order-here sys charts stimuli budget bounded positive a xs front ia la k g.one))
-            (λ none. let no : None ≡ Some d.0 = sym none ∙ d.1 in cc) in
+            (positive p its) (λ none. let no : None ≡ Some d.0 = sym none ∙ d.1 in cc) in
         let full : count_by (λ (z : Placed). takes_of p z.item) xs ≡ budget =
-            b.spent xs p _ (order-as sys charts stimuli budget b xs ib _ _ bt (order-here sys charts stimuli budget bounded positive b xs front ib lb k g.two)) in
+            b.spent xs p _ (order-as sys charts stimuli budget b xs ib _ _ bt (order-here sys charts stimuli budget bounded positive b xs front ib lb k g.two)) (positive p its) in
         omega (arith, less, full)
 
     took-unmarked : (i : Item) (p f l m : ℕ) (e : Entry) → i ≡ record { of = p; body = body.Took f l m e } → (i.of ≡ p) × (is_turn_mark i.body ≡ false)

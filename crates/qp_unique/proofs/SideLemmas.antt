@@ -70,16 +70,16 @@ use Rattle.qp_unique.proofs.JournalLemmas.{all-front, Threaded, threaded, all-sp
 use Rattle.qp_unique.proofs.Sides.{Side, HasEnded, MayEnd, in_sim, held_to}
 
 -- the answer of a test that holds
-holds : (b : Bool) (P : Type 0) → Decides b P → P → b ≡ true
+pub holds : (b : Bool) (P : Type 0) → Decides b P → P → b ≡ true
 unfolding Decides
 holds true P d h = refl
 holds false P d h = absurd (d h)
 
-filter-none-spill : (is : List Item) → AllByRecursion (λ i. is_spill i.body ≡ false) is → filter (λ i. not (is_spill i.body)) is ≡ is
+pub filter-none-spill : (is : List Item) → AllByRecursion (λ i. is_spill i.body ≡ false) is → filter (λ i. not (is_spill i.body)) is ≡ is
 filter-none-spill [] h = refl
 filter-none-spill (i ∷ is) h = rw h.0 (ap (λ js. i ∷ js) (filter-none-spill is h.1))
 
-all-of : (p : Item → Bool) (xs : List Item) → list_all p xs ≡ true → AllByRecursion (λ i. p i ≡ true) xs
+pub all-of : (p : Item → Bool) (xs : List Item) → list_all p xs ≡ true → AllByRecursion (λ i. p i ≡ true) xs
 all-of p [] h = tt
 all-of p (x ∷ xs) h = let parts = both_true _ _ h in (parts.0, all-of p xs parts.1)
 
@@ -144,14 +144,14 @@ unfolding after after_from
 empty ring = refl
 
 module _ (sys : System) (stimuli : List (List Stim)) (j : Journal) (law : Lawful sys stimuli j) (is_sim : j.kernel ≡ sim) (t : Threaded sys stimuli j) where
-  abbrev has_one : ℕ → Bool
+  abbrev pub has_one : ℕ → Bool
   has_one = (setting_of sys j).has_stimulus
 
-  abbrev zero_lane : List Item
+  abbrev pub zero_lane : List Item
   zero_lane = lane_items (lane_at j 0)
 
   -- lane 0 has been read
-  kernel-read : (last : Reading) × (lane_on (in_sim sys has_one) (unread sys) zero_lane ≡ Some last) × ((may_cut j.end ≡ true) ⊎ (is_whole sim last ≡ true))
+  pub kernel-read : (last : Reading) × (lane_on (in_sim sys has_one) (unread sys) zero_lane ≡ Some last) × ((may_cut j.end ≡ true) ⊎ (is_whole sim last ≡ true))
   unfolding lane_read
   kernel-read = by _ (lane_read (setting_of sys j) zero_lane) (ap (λ s. lane_on s (unread s.sys) zero_lane) t.setting) t.kernel.lane
     where
@@ -164,7 +164,7 @@ module _ (sys : System) (stimuli : List (List Stim)) (j : Journal) (law : Lawful
           on true e h = inl e
           on false e h = inr (subst (λ n. is_whole n k ≡ true) is_sim h)
 
-  unspilt-zero : spills_in zero_lane ≡ false
+  pub unspilt-zero : spills_in zero_lane ≡ false
   unspilt-zero = each-unspilt zero_lane (zero-each sys stimuli j t (λ i. is_spill i.body ≡ false) t.unspilt)
 
   -- no list is cut by a `spill`
@@ -181,10 +181,10 @@ module _ (sys : System) (stimuli : List (List Stim)) (j : Journal) (law : Lawful
       by false c e = inl refl
 
   module _ (followable : (p : ℕ) (d : ObjectDef) → object_at sys p ≡ Some d → IsFollowable sys d) where
-    abbrev chart_of : (p : ℕ) (d : ObjectDef) → object_at sys p ≡ Some d → Chart
+    abbrev pub chart_of : (p : ℕ) (d : ObjectDef) → object_at sys p ≡ Some d → Chart
     chart_of p d is = (followable p d is).its
 
-    course-of : (p : ℕ) (d : ObjectDef) (is : object_at sys p ≡ Some d)
+    pub course-of : (p : ℕ) (d : ObjectDef) (is : object_at sys p ≡ Some d)
         → (end : State) × (run sys (actor d (chart_of p d is)) (start_state (actor d (chart_of p d is)) (first_config d)) (pieces_in (facts_of sys j) (in_sim sys has_one) p (unread sys) zero_lane) ≡ Some end)
         × MayEnd (ends_at_point (pieces_in (facts_of sys j) (in_sim sys has_one) p (unread sys) zero_lane)) end
     unfolding object_at lane_pieces facts_of reads_to
@@ -222,7 +222,7 @@ module _ (sys : System) (stimuli : List (List Stim)) (j : Journal) (law : Lawful
         by (Some s) e h cut = (s, e, may (cut_of sys j p) s _ cut h)
 
   -- no queue is found empty by an object
-  unmarked-of : (xs : List Item) (i : Item) (ys : List Item) → zero_lane ≡ xs ++ i ∷ ys → (object_at sys i.of ≡ None → ⊥) → (f l m : ℕ) → i.body ≡ body.Nil f l m → ⊥
+  pub unmarked-of : (xs : List Item) (i : Item) (ys : List Item) → zero_lane ≡ xs ++ i ∷ ys → (object_at sys i.of ≡ None → ⊥) → (f l m : ℕ) → i.body ≡ body.Nil f l m → ⊥
   unfolding object_at home_records home_of own_items facts_of
   unmarked-of xs i ys split there f l m nil = by (object_at sys i.of) refl
     where
@@ -256,7 +256,7 @@ module _ (sys : System) (stimuli : List (List Stim)) (j : Journal) (law : Lawful
     order-items : (xs : List Placed) (x : Placed) (ys : List Placed) → run_order sys j ≡ xs ++ x ∷ ys → items_of (run_order sys j) ≡ items_of xs ++ x.item ∷ items_of ys
     order-items xs x ys is = ap items_of is ∙ map-append (λ (z : Placed). z.item) xs (x ∷ ys)
 
-    comes-of : (xs : List Placed) (x : Placed) (ys : List Placed) (c : ℕ) → run_order sys j ≡ xs ++ x ∷ ys → Comes sys (held_to sys c xs) x.item.of (told (facts_of sys j) x.item.of c x.item.body)
+    pub comes-of : (xs : List Placed) (x : Placed) (ys : List Placed) (c : ℕ) → run_order sys j ≡ xs ++ x ∷ ys → Comes sys (held_to sys c xs) x.item.of (told (facts_of sys j) x.item.of c x.item.body)
     unfolding told facts_of
     comes-of xs x ys c is =
         let at = order-items xs x ys is in
@@ -268,7 +268,7 @@ module _ (sys : System) (stimuli : List (List Stim)) (j : Journal) (law : Lawful
               (λ f l m e took. tidy.events xs x ys f l m e is took);
         }
 
-    counted-of : (xs ys : List Placed) (c : ℕ) → run_order sys j ≡ xs ++ ys → IsCounted (held_to sys c xs)
+    pub counted-of : (xs ys : List Placed) (c : ℕ) → run_order sys j ≡ xs ++ ys → IsCounted (held_to sys c xs)
     unfolding held_after is_object
     counted-of xs ys c is = record { counted = λ a. by a (is_object sys a) refl }
       where

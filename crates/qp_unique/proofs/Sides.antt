@@ -93,9 +93,9 @@ pub record Side (sys : System) (charts : (p : ℕ) (d : ObjectDef) → object_at
   pub placed_so : (before : List (List Item)) (l : List Item) (behind : List (List Item)) → sources ≡ before ++ l ∷ behind → (xs : List Item) (i : Item) (ys : List Item) → l ≡ xs ++ i ∷ ys
       → (p n : ℕ) → i.body ≡ body.Stim p n → (front : List Item) × (floor : ℕ) × (back : List Item) × (lane0 ≡ front ++ look_item n floor ∷ back)
   pub within : (xs : List Placed) (p f l m : ℕ) (e : Entry) (ys : List Placed) → with_stimuli cuts sources lane0 ≡ xs ++ placed 0 (record { of = p; body = body.Took f l m e }) ∷ ys
-      → (object_at sys p ≡ None → ⊥) → count_by (λ z. takes_of p z.item) xs < budget
+      → (p ≡ 0 → ⊥) → (object_at sys p ≡ None → ⊥) → count_by (λ z. takes_of p z.item) xs < budget
   pub spent : (xs : List Placed) (p : ℕ) (ys : List Placed) → with_stimuli cuts sources lane0 ≡ xs ++ placed 0 (record { of = p; body = body.Spent }) ∷ ys
-      → count_by (λ z. takes_of p z.item) xs ≡ budget
+      → (p ≡ 0 → ⊥) → count_by (λ z. takes_of p z.item) xs ≡ budget
 
 module _ (sys : System) (charts : (p : ℕ) (d : ObjectDef) → object_at sys p ≡ Some d → Chart) (stimuli : List (List Stim)) (budget : ℕ) where
   abbrev pub order_of : Side sys charts stimuli budget → List Placed

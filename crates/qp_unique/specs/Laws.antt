@@ -1,8 +1,18 @@
 -- The laws of what comes next.
-use Rattle.std.specs.Prelude.{◌≡◌, ℕ, List, Some}
+use Rattle.std.specs.Prelude.{◌≡◌, ℕ, false, List, map, Some}
+use Rattle.std.specs.List.{list_any, AllByRecursion}
 use Rattle.std.specs.declared.option.Option.{Option}
 use Rattle.qp_model.specs.declared.systems.System.{System}
+use Rattle.qp_model.specs.declared.stimulus.Stim.{Stim}
+use Rattle.qp_model.specs.declared.journals.Journal.{Journal}
 use Rattle.qp_model.specs.declared.bodies.Entry.{Entry}
+use Rattle.qp_model.specs.Sound.{IsSound}
+use Rattle.qp_model.specs.Ends.{is_spill}
+use Rattle.qp_model.specs.History.{all_items, lane_items}
+use Rattle.qp_model.specs.Kernels.{sim}
+use Rattle.qp_model.specs.Lawful.{Lawful}
+use Rattle.qp_course.specs.Followable.{IsFollowable}
+use Rattle.qp_unique.specs.Tidy.{IsTidy}
 use Rattle.qp_model.specs.Told.{Told}
 use Rattle.qp_fits.specs.CallState.{CallStage}
 use Rattle.qp_fits.specs.CallStateNext.{stage_next}
@@ -32,3 +42,11 @@ abbrev pub StimulusGoesOnAlone : Type 0
 StimulusGoesOnAlone =
     (sys : System) (h : Held) (kernel : ℕ) (u later : Underway) (t : Told) → IsCounted h → Comes sys h 0 t
     → underway_next sys kernel u t ≡ Some later → underway_told sys h u ≡ Some t
+
+-- two lawful journals of `sim` without a `spill`, of one system, its stimuli and a budget, tell the same, where both are tidy
+abbrev pub TidyJournalsAreOne : Type 0
+TidyJournalsAreOne =
+    (sys : System) (stimuli : List (List Stim)) (i j : Journal) → IsSound sys → AllByRecursion (IsFollowable sys) sys.objects
+    → Lawful sys stimuli i → Lawful sys stimuli j → i.kernel ≡ sim → j.kernel ≡ sim → i.budget ≡ j.budget
+    → list_any (λ x. is_spill x.body) (all_items i.lanes) ≡ false → list_any (λ x. is_spill x.body) (all_items j.lanes) ≡ false → IsTidy sys i → IsTidy sys j
+    → (map (λ lane. lane_items lane) i.lanes ≡ map (λ lane. lane_items lane) j.lanes) × (i.end ≡ j.end)

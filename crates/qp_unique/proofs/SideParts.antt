@@ -1,0 +1,308 @@
+-- The lanes of sources and the budgets of a lawful journal of `sim` without a `spill`.
+use Rattle.std.proofs.Common.{◌≡◌, ◌∙◌, ℕ, zero, suc, ◌+◌, ◌<◌, ◌≤◌, ◌==◌, nat_lt, nat_le, Bool, true, false, not, ◌&&◌, ◌||◌, cond, List, [], ◌∷◌, ◌++◌, map, length, drop, get_or, Some, None, refl, sym, ap, subst, inl, inr, ◌⊎◌, arith, append-nil, length-append}
+use Rattle.std.proofs.lemmas.Bool.Decides.{nat_tests}
+use Rattle.std.proofs.lemmas.List.{append_assoc, map-append}
+use Rattle.std.proofs.lemmas.List.Sums.{sum_by-cons}
+use Rattle.std.specs.declared.option.Option.{Option}
+use Rattle.std.specs.Option.{option_map, option_map_or, option_and_then, unwrap_or}
+use Rattle.std.specs.List.{slice_get, filter, filter_map, cons_option, list_all, list_any, count_by, AllByRecursion}
+use Rattle.qp_chart.specs.StateTree.{has}
+use Rattle.qp_model.specs.declared.record.Rec.{Rec}
+use Rattle.qp_model.specs.declared.stimulus.Stim.{Stim}
+use Rattle.qp_model.specs.declared.systems.System.{System}
+use Rattle.qp_model.specs.declared.systems.ObjectDef.{ObjectDef}
+use Rattle.qp_model.specs.declared.journals.Journal.{Journal}
+use Rattle.qp_model.specs.declared.bodies.Entry.{Entry}
+use Rattle.qp_model.specs.declared.bodies.Body.{Body}
+use Rattle.qp_model.specs.declared.bodies.Body.TheVariants as body
+use Rattle.qp_model.specs.Record.{Item}
+use Rattle.qp_model.specs.Told.{Told}
+use Rattle.qp_model.specs.Knowing.{Facts, records_of}
+use Rattle.qp_model.specs.Ends.{is_spill, is_end, is_assert, is_spent, spills_in, may_cut}
+use Rattle.qp_model.specs.End.{end_of, takes_of, took_count, spent_right, spents_hold}
+use Rattle.qp_model.specs.History.{all_items, lane_items}
+use Rattle.qp_model.specs.Home.{lane_at, home_of}
+use Rattle.qp_model.specs.Kernels.{sim, port}
+use Rattle.qp_model.specs.Sites.{object_at}
+use Rattle.qp_model.specs.KernelLane.{Setting, Reading, lane_on, lane_next, unread}
+use Rattle.qp_model.specs.OneOrder.{Placed, with_stimuli, parts_of_look, look_of, stim_of, look_numbers, stims_placed}
+use Rattle.qp_model.specs.Sources.{SourceEnd, InStimulus, IsSourceLane, SourceRuns, source_records, may_end}
+use Rattle.qp_model.specs.Lawful.{Lawful, EndHolds, SourceLanes, facts_of, source_lanes, lanes_before, one_thread}
+use Rattle.qp_model.proofs.ListLemmas.{both_true}
+use Rattle.qp_model.proofs.KernelRowLemmas.{lane_on-append}
+use Rattle.qp_fits.specs.Decides.{Decides}
+use Rattle.qp_sources.specs.SourceState.{SourceState, Between, source_after, source_stops, stops_after}
+use Rattle.qp_sources.proofs.LawLemmas.{call-laws}
+use Rattle.qp_sources.proofs.StopLemmas.{lane-stops}
+use Rattle.qp_orders.specs.RunOrder.{placed, items_of}
+use Rattle.qp_orders.specs.Placing.{look_item}
+use Rattle.qp_unique.specs.Tidy.{run_order}
+use Rattle.qp_unique.proofs.KernelLemmas.{Slot, slot-of}
+use Rattle.qp_unique.proofs.StackLemmas.{found-in}
+use Rattle.qp_unique.proofs.ItemLemmas.{none-at}
+use Rattle.qp_unique.proofs.AwayLemmas.{differs}
+use Rattle.qp_unique.proofs.LoopLemmas.{look-whole, look-body}
+use Rattle.qp_unique.proofs.JournalLemmas.{all-front, all-join, order-all, parts-all, Threaded, all-split, lane0-is, zero-each, sources-each, inside, ends-run, each-unspilt, lane-each}
+use Rattle.qp_unique.proofs.SideLemmas.{holds, filter-none-spill, all-of, kernel-read, unspilt-zero, has_one, zero_lane}
+use Rattle.qp_unique.proofs.Sides.{in_sim}
+
+drop-at : (xs : List (List Rec)) (n : ℕ) (r : List Rec) (rs : List (List Rec)) → drop n xs ≡ r ∷ rs → (unwrap_or (slice_get xs n) [] ≡ r) × (drop (n + 1) xs ≡ rs)
+drop-at [] zero r rs h = absurd (cc)
+drop-at [] (suc n) r rs h = absurd (cc)
+drop-at (x ∷ xs) zero r rs h = let first : x ≡ r = cc in let rest : xs ≡ rs = cc in (first, rest)
+drop-at (x ∷ xs) (suc n) r rs h =
+    let later = drop-at xs n r rs h in
+    let next : suc n + 1 ≡ suc (n + 1) = omega arith in
+    (later.0, ap (λ k. drop k (x ∷ xs)) next ∙ later.1)
+
+list-at : {A : Type 0} (p : A → Bool) (xs : List A) (x : A) (ys : List A) → list_all p (xs ++ x ∷ ys) ≡ true → p x ≡ true
+list-at p [] x ys h = (both_true _ _ h).0
+list-at p (z ∷ xs) x ys h = list-at p xs x ys (both_true _ _ h).1
+
+each-object : (p : ObjectDef → Bool) (ds : List ObjectDef) → list_all p ds ≡ true → AllByRecursion (λ d. p d ≡ true) ds
+each-object p [] h = tt
+each-object p (d ∷ ds) h = let parts = both_true _ _ h in (parts.0, each-object p ds parts.1)
+
+-- a look with this number
+look-found : (lane : List Item) (n : ℕ) → has (look_numbers lane) n ≡ true → (front : List Item) × (i : Item) × (floor : ℕ) × (back : List Item) × (lane ≡ front ++ i ∷ back) × (look_of i.body ≡ Some (n, floor))
+look-found [] n h = absurd (cc)
+look-found (i ∷ is) n h = by (look_of i.body) refl h (λ k. look-found is n k)
+  where
+    by : (o : Option (ℕ × ℕ)) → look_of i.body ≡ o → has (cons_option (option_map (λ l. l.0) o) (look_numbers is)) n ≡ true
+        → (has (look_numbers is) n ≡ true → (front : List Item) × (x : Item) × (floor : ℕ) × (back : List Item) × (is ≡ front ++ x ∷ back) × (look_of x.body ≡ Some (n, floor)))
+        → (front : List Item) × (x : Item) × (floor : ℕ) × (back : List Item) × (i ∷ is ≡ front ++ x ∷ back) × (look_of x.body ≡ Some (n, floor))
+    by None e h later = let more = later h in (i ∷ more.0, more.1, more.2, more.3, ap (λ us. i ∷ us) more.4, more.5)
+    by (Some l) e h later = on (l.0 == n) refl h
+      where
+        on : (c : Bool) → (l.0 == n) ≡ c → (c || has (look_numbers is) n) ≡ true → (front : List Item) × (x : Item) × (floor : ℕ) × (back : List Item) × (i ∷ is ≡ front ++ x ∷ back) × (look_of x.body ≡ Some (n, floor))
+        on true same h = let number : l.0 ≡ n = grind (arith, nat_tests) in ([], i, l.1, is, refl, e ∙ ap (λ m. Some (m, l.1)) number)
+        on false same h = let more = later h in (i ∷ more.0, more.1, more.2, more.3, ap (λ us. i ∷ us) more.4, more.5)
+
+-- counts
+count-append : {A : Type 0} (f : A → Bool) (xs ys : List A) → count_by f (xs ++ ys) ≡ count_by f xs + count_by f ys
+count-append f [] ys = let zero_is : count_by f [] ≡ 0 = refl in omega (arith, zero_is)
+count-append f (x ∷ xs) ys = omega (arith, sum_by-cons (λ x. cond (f x) 1 0) x (xs ++ ys), sum_by-cons (λ x. cond (f x) 1 0) x xs, count-append f xs ys)
+
+count-items : (f : Item → Bool) (xs : List Placed) → count_by (λ (z : Placed). f z.item) xs ≡ count_by f (items_of xs)
+count-items f [] = refl
+count-items f (x ∷ xs) = sum_by-cons (λ (z : Placed). cond (f z.item) 1 0) x xs ∙ ap (λ n. cond (f x.item) 1 0 + n) (count-items f xs) ∙ sym (sum_by-cons (λ i. cond (f i) 1 0) x.item (items_of xs))
+
+count-none : (f : Item → Bool) (xs : List Item) → AllByRecursion (λ i. f i ≡ false) xs → count_by f xs ≡ 0
+count-none f [] h = refl
+count-none f (x ∷ xs) h = sum_by-cons (λ i. cond (f i) 1 0) x xs ∙ rw h.0 (let rest = count-none f xs h.1 in omega (arith, rest))
+
+count-merged : (f : Item → Bool) (cuts : Bool) (sources : List (List Item)) (lane0 : List Item) → AllByRecursion (λ l. AllByRecursion (λ i. f i ≡ false) l) sources
+    → count_by f (items_of (with_stimuli cuts sources lane0)) ≡ count_by f lane0
+unfolding with_stimuli
+count-merged f cuts sources [] h = refl
+count-merged f cuts sources (i ∷ is) h =
+    sum_by-cons (λ i. cond (f i) 1 0) i (items_of (own (look_of i.body) ++ with_stimuli cuts sources is))
+    ∙ ap (λ n. cond (f i) 1 0 + n) (ap (count_by f) (map-append (λ (z : Placed). z.item) (own (look_of i.body)) (with_stimuli cuts sources is)) ∙ count-append f (items_of (own (look_of i.body))) (items_of (with_stimuli cuts sources is))
+    ∙ ap (λ n. n + count_by f (items_of (with_stimuli cuts sources is))) (none (look_of i.body)) ∙ zero-plus ∙ count-merged f cuts sources is h)
+    ∙ sym (sum_by-cons (λ i. cond (f i) 1 0) i is)
+  where
+    own : Option (ℕ × ℕ) → List Placed
+    own o = option_map_or (λ (l : ℕ × ℕ). parts_of_look 1 l.0 cuts sources) o []
+
+    zero-plus : 0 + count_by f (items_of (with_stimuli cuts sources is)) ≡ count_by f (items_of (with_stimuli cuts sources is))
+    zero-plus = omega arith
+
+    none : (o : Option (ℕ × ℕ)) → count_by f (items_of (own o)) ≡ 0
+    none None = refl
+    none (Some l) = count-none f (items_of (parts_of_look 1 l.0 cuts sources)) (parts-all (λ i. f i ≡ false) 1 l.0 cuts sources h)
+
+-- what is true of each lane by its place
+pub each-by : (P : List Item → Type 0) (ls : List (List Item)) → ((front : List (List Item)) (l : List Item) (back : List (List Item)) → ls ≡ front ++ l ∷ back → P l) → AllByRecursion P ls
+each-by P [] h = tt
+each-by P (l ∷ ls) h = (h [] l ls refl, each-by P ls (λ front x back is. h (l ∷ front) x back (ap (λ us. l ∷ us) is)))
+
+pub joined-each : (P : Item → Type 0) (ls : List (List Rec)) → AllByRecursion (λ l. AllByRecursion P l) (map (λ lane. lane_items lane) ls) → AllByRecursion P (all_items ls)
+unfolding all_items
+joined-each P [] h = tt
+joined-each P (l ∷ ls) h = all-join P (lane_items l) (all_items ls) h.0 (joined-each P ls h.1)
+
+-- a `spent` shows that the budget is taken
+spents-each : (sys : System) (j : Journal) (n : ℕ) (lanes : List (List Rec)) → spents_hold sys j n lanes ≡ true
+    → AllByRecursion (λ i. is_spent i.body ≡ true → took_count (all_items j.lanes) i.of ≡ j.budget) (all_items lanes)
+unfolding spents_hold all_items
+spents-each sys j n [] h = tt
+spents-each sys j n (l ∷ ls) h =
+    let parts = both_true _ _ h in
+    all-join _ (lane_items l) (all_items ls) (each (lane_items l) (both_true _ _ parts.0).0) (spents-each sys j (n + 1) ls parts.1)
+  where
+    right : (i : Item) → spent_right sys j n i ≡ true → is_spent i.body ≡ true → took_count (all_items j.lanes) i.of ≡ j.budget
+    right i h spent =
+        let one : (not true || ((home_of sys j i.of == n) && (took_count (all_items j.lanes) i.of == j.budget))) ≡ true =
+            subst (λ b. (not b || ((home_of sys j i.of == n) && (took_count (all_items j.lanes) i.of == j.budget))) ≡ true) spent h in
+        let two : (took_count (all_items j.lanes) i.of == j.budget) ≡ true = (both_true (home_of sys j i.of == n) (took_count (all_items j.lanes) i.of == j.budget) one).1 in
+        grind (arith, nat_tests)
+
+    each : (is : List Item) → list_all (spent_right sys j n) is ≡ true → AllByRecursion (λ i. is_spent i.body ≡ true → took_count (all_items j.lanes) i.of ≡ j.budget) is
+    each [] h = tt
+    each (i ∷ is) h = let parts = both_true _ _ h in (λ spent. right i parts.0 spent, each is parts.1)
+
+module _ (sys : System) (stimuli : List (List Stim)) (j : Journal) (law : Lawful sys stimuli j) (is_sim : j.kernel ≡ sim) (t : Threaded sys stimuli j) where
+  -- the lane of a source by its place
+  source-nth : (n : ℕ) (sss : List (List Stim)) (recs : List (List Rec)) → drop n j.lanes ≡ recs → length recs ≡ length sss → SourceLanes sys j n sss
+      → (front : List (List Item)) (l : List Item) (back : List (List Item)) → map (λ lane. lane_items lane) recs ≡ front ++ l ∷ back
+      → IsSourceLane (facts_of sys j) j.kernel j.end (get_or sss (length front) []) l
+  unfolding SourceLanes
+  source-nth n [] [] at size lanes [] l back is = absurd (cc)
+  source-nth n [] [] at size lanes (f ∷ front) l back is = absurd (cc)
+  source-nth n [] (r ∷ recs) at size lanes front l back is = absurd (let no : suc (length recs) ≡ 0 = size in omega (arith, no))
+  source-nth n (ss ∷ sss) [] at size lanes front l back is = absurd (let no : 0 ≡ suc (length sss) = size in omega (arith, no))
+  source-nth n (ss ∷ sss) (r ∷ recs) at size lanes [] l back is =
+      let here : lane_items r ≡ l = cc in
+      let own : lane_items (lane_at j n) ≡ l = ap lane_items (drop-at j.lanes n r recs at).0 ∙ here in
+      subst (IsSourceLane (facts_of sys j) j.kernel j.end ss) own lanes.0
+  source-nth n (ss ∷ sss) (r ∷ recs) at size lanes (f ∷ front) l back is =
+      let fewer : suc (length recs) ≡ suc (length sss) = size in
+      let rest : map (λ lane. lane_items lane) recs ≡ front ++ l ∷ back = cc in
+      source-nth (n + 1) sss recs (drop-at j.lanes n r recs at).1 (omega (arith, fewer)) lanes.1 front l back rest
+
+  pub lane-unspilt : (front : List (List Item)) (l : List Item) (back : List (List Item)) → source_lanes sys j ≡ front ++ l ∷ back → AllByRecursion (λ i. is_spill i.body ≡ false) l
+  lane-unspilt front l back is =
+      lane-each (λ l. AllByRecursion (λ i. is_spill i.body ≡ false) l) front l back (source_lanes sys j) is (sources-each sys stimuli j t (λ i. is_spill i.body ≡ false) t.unspilt)
+
+  its-lane : (front : List (List Item)) (l : List Item) (back : List (List Item)) → source_lanes sys j ≡ front ++ l ∷ back → IsSourceLane (facts_of sys j) j.kernel j.end (get_or stimuli (length front) []) l
+  its-lane front l back is =
+      let one : lanes_before sys j ≡ 1 = rw is_sim refl in
+      source-nth 1 stimuli t.others (ap (drop 1) t.lanes) t.size (subst (λ n. SourceLanes sys j n stimuli) one law.sources.lanes) front l back (sym t.sources_are ∙ is)
+
+  pub source-of : (front : List (List Item)) (l : List Item) (back : List (List Item)) → source_lanes sys j ≡ front ++ l ∷ back
+      → (list_all (λ i. i.of == 0) l ≡ true) × (end : SourceState) × (stop : SourceEnd)
+      × (source_after sys sim (Some (Between 1 (get_or stimuli (length front) []))) (records_of (facts_of sys j) 0 0 l) ≡ Some end)
+      × (source_stops sim end stop ≡ true) × (stop ≡ InStimulus → ⊥)
+  unfolding source_records facts_of
+  source-of front l back is =
+      let lane = its-lane front l back is in
+      let runs = lane.stimuli in
+      let none = lane-unspilt front l back is in
+      let whole : source_records (facts_of sys j) l ≡ records_of (facts_of sys j) 0 0 l = ap (records_of (facts_of sys j) 0 0) (filter-none-spill l none) in
+      let goes : SourceRuns sys sim 1 (get_or stimuli (length front) []) runs.0 (records_of (facts_of sys j) 0 0 l) =
+          subst (λ ts. SourceRuns sys sim 1 (get_or stimuli (length front) []) runs.0 ts) whole (subst (λ k. SourceRuns sys k 1 (get_or stimuli (length front) []) runs.0 (source_records (facts_of sys j) l)) is_sim runs.1) in
+      let stops = holds _ _ (lane-stops call-laws sys sim 1 (get_or stimuli (length front) []) runs.0 (records_of (facts_of sys j) 0 0 l)) goes in
+      let at = by (source_after sys sim (Some (Between 1 (get_or stimuli (length front) []))) (records_of (facts_of sys j) 0 0 l)) refl runs.0 stops in
+      (lane.alone, at.0, runs.0, at.1, at.2, λ e. within runs.0 e runs.2 (each-unspilt l none))
+    where
+      by : (o : Option SourceState) → source_after sys sim (Some (Between 1 (get_or stimuli (length front) []))) (records_of (facts_of sys j) 0 0 l) ≡ o → (stop : SourceEnd) → stops_after sim o stop ≡ true
+          → (end : SourceState) × (source_after sys sim (Some (Between 1 (get_or stimuli (length front) []))) (records_of (facts_of sys j) 0 0 l) ≡ Some end) × (source_stops sim end stop ≡ true)
+      by None e stop h = absurd (cc)
+      by (Some end) e stop h = (end, e, h)
+
+      within : (stop : SourceEnd) → stop ≡ InStimulus → may_end j.end (spills_in l) stop ≡ true → spills_in l ≡ false → ⊥
+      within stop e may none =
+          let one : (may_cut j.end && spills_in l) ≡ true = subst (λ s. may_end j.end (spills_in l) s ≡ true) e may in
+          let two : spills_in l ≡ true = (both_true (may_cut j.end) (spills_in l) one).1 in
+          let no : true ≡ false = sym two ∙ none in
+          cc
+
+  -- a record of lane 0 may come where it stands
+  pub slot-at : (front : List Item) (i : Item) (back : List Item) → lane_items (lane_at j 0) ≡ front ++ i ∷ back → (k next : Reading) × Slot (in_sim sys (has_one sys stimuli j law is_sim t)) k next i
+  unfolding lane_on
+  slot-at front i back is =
+      let read = kernel-read sys stimuli j law is_sim t in
+      let whole : lane_on (in_sim sys (has_one sys stimuli j law is_sim t)) (unread sys) (front ++ i ∷ back) ≡ Some read.0 =
+          subst (λ l. lane_on (in_sim sys (has_one sys stimuli j law is_sim t)) (unread sys) l ≡ Some read.0) is read.1 in
+      let unspilt = (none-at (λ x. is_spill x.body) front i back (subst (λ l. spills_in l ≡ false) is (unspilt-zero sys stimuli j law is_sim t))).0 in
+      by unspilt (lane_on (in_sim sys (has_one sys stimuli j law is_sim t)) (unread sys) front) read.0 (sym (lane_on-append (in_sim sys (has_one sys stimuli j law is_sim t)) (unread sys) front (i ∷ back)) ∙ whole)
+    where
+      by : is_spill i.body ≡ false → (o : Option Reading) (last : Reading) → option_and_then (λ m. lane_on (in_sim sys (has_one sys stimuli j law is_sim t)) m (i ∷ back)) o ≡ Some last
+          → (k next : Reading) × Slot (in_sim sys (has_one sys stimuli j law is_sim t)) k next i
+      by unspilt None last h = absurd (cc)
+      by unspilt (Some k) last h = on (lane_next (in_sim sys (has_one sys stimuli j law is_sim t)) k i) refl h
+        where
+          on : (r : Option Reading) → lane_next (in_sim sys (has_one sys stimuli j law is_sim t)) k i ≡ r → option_and_then (λ m. lane_on (in_sim sys (has_one sys stimuli j law is_sim t)) m back) r ≡ Some last
+              → (k next : Reading) × Slot (in_sim sys (has_one sys stimuli j law is_sim t)) k next i
+          on None e h = absurd (cc)
+          on (Some next) e h = (k, next, slot-of (in_sim sys (has_one sys stimuli j law is_sim t)) refl k next i unspilt e)
+
+  at-place : (front : List Item) (i : Item) (back : List Item) → lane_items (lane_at j 0) ≡ front ++ i ∷ back → (n floor : ℕ) → i.body ≡ body.Look n floor → i ≡ look_item n floor
+  at-place front i back is n floor look =
+      let at = slot-at front i back is in look-whole (in_sim sys (has_one sys stimuli j law is_sim t)) at.0 at.1 i n floor at.2 look
+
+  -- each stimulus stands in a look
+  pub placed-of : (before : List (List Item)) (l : List Item) (behind : List (List Item)) → source_lanes sys j ≡ before ++ l ∷ behind → (xs : List Item) (i : Item) (ys : List Item) → l ≡ xs ++ i ∷ ys
+      → (p n : ℕ) → i.body ≡ body.Stim p n → (front : List Item) × (floor : ℕ) × (back : List Item) × (lane_items (lane_at j 0) ≡ front ++ look_item n floor ∷ back)
+  unfolding stims_placed one_thread
+  placed-of before l behind is xs i ys split p n stim =
+      let all = t.ordered.placed in
+      let lane = list-at (λ lane. list_all (λ i. option_map_or (λ s. has (look_numbers (lane_items (lane_at j 0))) s.1) (stim_of i.body) true) lane) before l behind (subst (λ ls. list_all (λ lane. list_all (λ i. option_map_or (λ s. has (look_numbers (lane_items (lane_at j 0))) s.1) (stim_of i.body) true) lane) ls ≡ true) is all) in
+      let one = list-at (λ i. option_map_or (λ s. has (look_numbers (lane_items (lane_at j 0))) s.1) (stim_of i.body) true) xs i ys (subst (λ us. list_all (λ i. option_map_or (λ s. has (look_numbers (lane_items (lane_at j 0))) s.1) (stim_of i.body) true) us ≡ true) split lane) in
+      let two : has (look_numbers (lane_items (lane_at j 0))) n ≡ true =
+          subst (λ d. option_map_or (λ s. has (look_numbers (lane_items (lane_at j 0))) s.1) (stim_of d) true ≡ true) stim one in
+      let found = look-found (lane_items (lane_at j 0)) n two in
+      let whole = at-place found.0 found.1 found.3 found.4 n found.2 (look-body found.1.body (n, found.2) found.5) in
+      (found.0, found.2, found.3, found.4 ∙ ap (λ x. found.0 ++ x ∷ found.3) whole)
+
+  -- the lanes of sources are of no object
+  its-own : (front : List (List Item)) (l : List Item) (back : List (List Item)) → source_lanes sys j ≡ front ++ l ∷ back → AllByRecursion (λ i. (i.of == 0) ≡ true) l
+  its-own front l back is = all-of (λ i. i.of == 0) l (its-lane front l back is).alone
+
+  untaken : (p : ℕ) → (p ≡ 0 → ⊥) → (is : List Item) → AllByRecursion (λ i. (i.of == 0) ≡ true) is → AllByRecursion (λ i. takes_of p i ≡ false) is
+  untaken p some [] h = tt
+  untaken p some (i ∷ is) h = (by i.body (let e : i.of ≡ 0 = let test : (i.of == 0) ≡ true = h.0 in grind (arith, nat_tests) in e), untaken p some is h.1)
+    where
+      by : (b : Body) → i.of ≡ 0 → takes_of p (record { of = i.of; body = b }) ≡ false
+      by (body.Took f l m e) of = rw of (differs 0 p (λ z. some (sym z)))
+      by b of = refl
+
+  sources-untaken : (p : ℕ) → (p ≡ 0 → ⊥) → AllByRecursion (λ l. AllByRecursion (λ i. takes_of p i ≡ false) l) (source_lanes sys j)
+  sources-untaken p some = each-by (λ l. AllByRecursion (λ i. takes_of p i ≡ false) l) (source_lanes sys j) (λ front l back is. untaken p some l (its-own front l back is))
+
+  -- how many entries an object has taken
+  pub count-order : (p : ℕ) → (p ≡ 0 → ⊥) → count_by (takes_of p) (items_of (run_order sys j)) ≡ count_by (takes_of p) (all_items j.lanes)
+  unfolding run_order
+  count-order p some =
+      let each = sources-untaken p some in
+      let others : count_by (takes_of p) (all_items t.others) ≡ 0 = count-none (takes_of p) (all_items t.others) (joined-each (λ i. takes_of p i ≡ false) t.others (subst (AllByRecursion (λ l. AllByRecursion (λ i. takes_of p i ≡ false) l)) t.sources_are each)) in
+      let whole : count_by (takes_of p) (all_items j.lanes) ≡ count_by (takes_of p) (lane_items t.first) + count_by (takes_of p) (all_items t.others) =
+          ap (count_by (takes_of p)) (all-split sys stimuli j t) ∙ count-append (takes_of p) (lane_items t.first) (all_items t.others) in
+      let zero_is : count_by (takes_of p) (lane_items (lane_at j 0)) ≡ count_by (takes_of p) (lane_items t.first) = ap (count_by (takes_of p)) (lane0-is sys stimuli j t) in
+      let merged : count_by (takes_of p) (items_of (with_stimuli true (source_lanes sys j) (lane_items (lane_at j 0)))) ≡ count_by (takes_of p) (lane_items (lane_at j 0)) =
+          count-merged (takes_of p) true (source_lanes sys j) (lane_items (lane_at j 0)) each in
+      omega (arith, others, whole, zero_is, merged)
+
+  module _ (xs : List Placed) (p : ℕ) (b : Body) (ys : List Placed) (is : run_order sys j ≡ xs ++ placed 0 (record { of = p; body = b }) ∷ ys) (some : p ≡ 0 → ⊥) where
+    counted-here : count_by (λ (z : Placed). takes_of p z.item) xs + (cond (takes_of p (record { of = p; body = b })) 1 0 + count_by (λ (z : Placed). takes_of p z.item) ys) ≡ took_count (all_items j.lanes) p
+    unfolding took_count
+    counted-here =
+        let whole = ap (count_by (λ (z : Placed). takes_of p z.item)) is ∙ count-append (λ (z : Placed). takes_of p z.item) xs (placed 0 (record { of = p; body = b }) ∷ ys) in
+        let cons = sum_by-cons (λ (z : Placed). cond (takes_of p z.item) 1 0) (placed 0 (record { of = p; body = b })) ys in
+        let items : count_by (λ (z : Placed). takes_of p z.item) (run_order sys j) ≡ count_by (takes_of p) (items_of (run_order sys j)) = count-items (takes_of p) (run_order sys j) in
+        sym (whole ∙ ap (λ n. count_by (λ (z : Placed). takes_of p z.item) xs + n) cons) ∙ items ∙ count-order p some
+
+  pub within-of : (xs : List Placed) (p f l m : ℕ) (e : Entry) (ys : List Placed) → run_order sys j ≡ xs ++ placed 0 (record { of = p; body = body.Took f l m e }) ∷ ys
+      → (p ≡ 0 → ⊥) → (object_at sys p ≡ None → ⊥) → count_by (λ (z : Placed). takes_of p z.item) xs < j.budget
+  unfolding object_at EndHolds
+  within-of xs p f l m e ys is some there = by (object_at sys p) refl
+    where
+      by : (o : Option ObjectDef) → object_at sys p ≡ o → count_by (λ (z : Placed). takes_of p z.item) xs < j.budget
+      by None none = absurd (there none)
+      by (Some d) found =
+          let at = found-in (λ x. x.priority == p) sys.objects d found (λ d. nat_le (took_count (all_items j.lanes) d.priority) j.budget ≡ true)
+              (each-object (λ d. nat_le (took_count (all_items j.lanes) d.priority) j.budget) sys.objects law.end.budgets) in
+          let own : d.priority ≡ p = let test : (d.priority == p) ≡ true = at.1 in grind (arith, nat_tests) in
+          let most : took_count (all_items j.lanes) p ≤ j.budget = let test : nat_le (took_count (all_items j.lanes) p) j.budget ≡ true = subst (λ o. nat_le (took_count (all_items j.lanes) o) j.budget ≡ true) own at.0 in grind (arith, nat_tests) in
+          let self : (p == p) ≡ true = grind (arith, nat_tests) in
+          let one : count_by (λ (z : Placed). takes_of p z.item) xs + (1 + count_by (λ (z : Placed). takes_of p z.item) ys) ≡ took_count (all_items j.lanes) p =
+              subst (λ c. count_by (λ (z : Placed). takes_of p z.item) xs + (cond c 1 0 + count_by (λ (z : Placed). takes_of p z.item) ys) ≡ took_count (all_items j.lanes) p) self
+              (counted-here xs p (body.Took f l m e) ys is some) in
+          omega (arith, most, one)
+
+  pub spent-of : (xs : List Placed) (p : ℕ) (ys : List Placed) → run_order sys j ≡ xs ++ placed 0 (record { of = p; body = body.Spent }) ∷ ys → (p ≡ 0 → ⊥) → count_by (λ (z : Placed). takes_of p z.item) xs ≡ j.budget
+  unfolding EndHolds
+  spent-of xs p ys is some =
+      let each = inside sys stimuli j t (λ i. is_spent i.body ≡ true → took_count (all_items j.lanes) i.of ≡ j.budget) (spents-each sys j 0 j.lanes law.end.spents) in
+      let split : items_of (run_order sys j) ≡ items_of xs ++ record { of = p; body = body.Spent } ∷ items_of ys = ap items_of is ∙ map-append (λ (z : Placed). z.item) xs _ in
+      let took : took_count (all_items j.lanes) p ≡ j.budget = (all-front (λ i. is_spent i.body ≡ true → took_count (all_items j.lanes) i.of ≡ j.budget) (items_of xs) _ (subst (AllByRecursion (λ i. is_spent i.body ≡ true → took_count (all_items j.lanes) i.of ≡ j.budget)) split each)).1.0 refl in
+      let here = counted-here xs p body.Spent ys is some in
+      let none : count_by (λ (z : Placed). takes_of p z.item) ys ≡ 0 = by ys is in
+      omega (arith, took, here, none)
+    where
+      by : (us : List Placed) → run_order sys j ≡ xs ++ placed 0 (record { of = p; body = body.Spent }) ∷ us → count_by (λ (z : Placed). takes_of p z.item) us ≡ 0
+      by [] e = refl
+      by (u ∷ us) e =
+          let last = ends-run sys stimuli j t (xs ++ placed 0 (record { of = p; body = body.Spent }) ∷ []) u us (e ∙ sym (append_assoc xs (placed 0 (record { of = p; body = body.Spent }) ∷ []) (u ∷ us))) in
+          let no : true ≡ false = sym refl ∙ (none-at (λ (z : Placed). is_end z.item.body) xs (placed 0 (record { of = p; body = body.Spent })) [] last).0 in
+          absurd (cc)
