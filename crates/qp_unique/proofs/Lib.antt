@@ -21,3 +21,4 @@ pub mod JournalLemmas
 pub mod SideLemmas
 pub mod SideParts
 pub mod UniqueLemmas
+pub mod ComesLaw

@@ -1,8 +1,9 @@
 -- The laws of what comes next.
-use Rattle.std.specs.Prelude.{◌≡◌, ℕ, false, List, map, Some}
+use Rattle.std.specs.Prelude.{◌≡◌, ℕ, false, List, [], ◌∷◌, ◌++◌, map, IsTrue, Some}
 use Rattle.std.specs.List.{list_any, AllByRecursion}
 use Rattle.std.specs.declared.option.Option.{Option}
 use Rattle.qp_model.specs.declared.systems.System.{System}
+use Rattle.qp_model.specs.declared.record.Rec.{Rec}
 use Rattle.qp_model.specs.declared.stimulus.Stim.{Stim}
 use Rattle.qp_model.specs.declared.journals.Journal.{Journal}
 use Rattle.qp_model.specs.declared.bodies.Entry.{Entry}
@@ -11,6 +12,11 @@ use Rattle.qp_model.specs.Ends.{is_spill}
 use Rattle.qp_model.specs.History.{all_items, lane_items}
 use Rattle.qp_model.specs.Kernels.{sim}
 use Rattle.qp_model.specs.Lawful.{Lawful}
+use Rattle.qp_model.specs.Record.{Item}
+use Rattle.qp_model.specs.Knowing.{told, event_of}
+use Rattle.qp_model.specs.Places.{RecordPlace, items_at, in_order}
+use Rattle.qp_model.specs.WordLaw.{Words}
+use Rattle.qp_unique.specs.Fronts.{held_after, names_its}
 use Rattle.qp_course.specs.Followable.{IsFollowable}
 use Rattle.qp_unique.specs.Tidy.{IsTidy}
 use Rattle.qp_model.specs.Told.{Told}
@@ -42,6 +48,15 @@ abbrev pub StimulusGoesOnAlone : Type 0
 StimulusGoesOnAlone =
     (sys : System) (h : Held) (kernel : ℕ) (u later : Underway) (t : Told) → IsCounted h → Comes sys h 0 t
     → underway_next sys kernel u t ≡ Some later → underway_told sys h u ≡ Some t
+
+-- Each record of a run, in an order in which each number is that of its word's operations before it, comes next by what the words hold
+-- after the records before it, where it names words of the system. An entry's event is the one that the whole run tells.
+abbrev pub RecordsComeNext : Type 0
+RecordsComeNext =
+    (sys : System) (lanes : List (List Rec)) (order : List RecordPlace) → Words sys lanes → IsTrue (in_order [] (items_at lanes order))
+    → (xs : List Item) (x : Item) (ys : List Item) → items_at lanes order ≡ xs ++ x ∷ ys → IsTrue (names_its sys x.of x.body) → (ceiling : ℕ)
+    → Comes sys (held_after sys (event_of (record { sys = sys; items = all_items lanes })) ceiling xs) x.of
+    (told (record { sys = sys; items = all_items lanes }) x.of ceiling x.body)
 
 -- two lawful journals of `sim` without a `spill`, of one system, its stimuli and a budget, tell the same, where both are tidy
 abbrev pub TidyJournalsAreOne : Type 0

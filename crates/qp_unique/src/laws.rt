@@ -1,6 +1,6 @@
 //! Laws of what comes next. Each function here does nothing: its contract is the law.
 
-ghost use Rattle.qp_unique.specs.Laws.{CallGoesOnAlone, CourseGoesOnAlone, StimulusGoesOnAlone};
+ghost use Rattle.qp_unique.specs.Laws.{CallGoesOnAlone, CourseGoesOnAlone, StimulusGoesOnAlone, RecordsComeNext, TidyJournalsAreOne};
 
 /// A call goes on by one record alone, by what the words hold.
 pub fn calls_go_on_alone()
@@ -15,4 +15,14 @@ pub fn courses_go_on_alone()
 /// So does a stimulus.
 pub fn stimuli_go_on_alone()
     ensures { StimulusGoesOnAlone }
+{}
+
+/// Each record of a run comes next by what the words hold after the records before it.
+pub fn records_come_next()
+    ensures { RecordsComeNext }
+{}
+
+/// A lawful journal of `sim` without a `spill` is the only one for its system, stimuli and budget, among the tidy ones.
+pub fn tidy_journals_are_one()
+    ensures { TidyJournalsAreOne }
 {}
