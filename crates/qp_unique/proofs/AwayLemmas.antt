@@ -1,9 +1,8 @@
 -- An object without a step under way goes on by an entry that it takes; and a list that is whole goes on by nothing.
-use Rattle.std.proofs.Common.{◌≡◌, ◌∙◌, ℕ, zero, suc, ◌+◌, ◌<◌, ◌≤◌, ◌==◌, nat_lt, Bool, true, false, not, ◌&&◌, ◌||◌, cond, List, [], ◌∷◌, ◌++◌, length, Some, None, refl, sym, ap, subst, inl, inr, ◌⊎◌, arith}
+use Rattle.std.proofs.Common.{◌≡◌, ◌∙◌, ℕ, zero, suc, ◌+◌, ◌==◌, nat_lt, Bool, true, false, not, ◌&&◌, ◌||◌, cond, List, [], ◌∷◌, ◌++◌, length, Some, None, refl, sym, ap, subst, inl, inr, ◌⊎◌, arith}
 use Rattle.std.proofs.lemmas.Bool.Decides.{nat_tests}
 use Rattle.std.specs.declared.option.Option.{Option}
 use Rattle.std.specs.Option.{option_map, option_map_or, option_and_then, unwrap_or}
-use Rattle.std.specs.List.{AllByRecursion}
 use Rattle.qp_model.specs.declared.systems.System.{System}
 use Rattle.qp_model.specs.declared.bodies.Entry.{Entry}
 use Rattle.qp_model.specs.declared.bodies.Body.{Body}
@@ -14,25 +13,23 @@ use Rattle.qp_model.specs.Told.{Told, Known}
 use Rattle.qp_model.specs.Calls as call
 use Rattle.qp_model.specs.Calls.{Call, is_assertion}
 use Rattle.qp_model.specs.Knowing.{Facts, told}
-use Rattle.qp_model.specs.Ends.{is_spill, is_turn_mark, spills_in}
+use Rattle.qp_model.specs.Ends.{is_spill, spills_in}
 use Rattle.qp_model.specs.Kernels.{sim, qk}
-use Rattle.qp_model.specs.Parts.{is_static, sizes_of, first_pool, timer_number}
-use Rattle.qp_model.specs.Sites.{ring_of}
-use Rattle.qp_model.specs.Pieces.{Piece, Tell, Point, ends_at_point}
-use Rattle.qp_model.specs.KernelLane.{Role, Ends, Drops, Takes, role_of, Setting, Upcoming, Inside, Looking, Chosen, Ended, Resting, Again, Over, Halted, Reading, looking_at, lane_next, lane_on}
-use Rattle.qp_model.specs.Acts.{Actor, Config}
+use Rattle.qp_model.specs.Parts.{is_static}
+use Rattle.qp_model.specs.Pieces.{Piece, Tell}
+use Rattle.qp_model.specs.KernelLane.{Drops, role_of, Setting, Upcoming, Inside, Looking, Chosen, Ended, Resting, Again, Over, Halted, Reading, looking_at, lane_next, lane_on}
+use Rattle.qp_model.specs.Acts.{Actor}
 use Rattle.qp_model.specs.Points.{pieces_at, pieces_in, is_look, begins_row}
-use Rattle.qp_fits.specs.CallState.{Behind, Goal, ToQueue, ToFront, ToDeferred, ToSet, CallStage, Begins, Refers, Puts, Raises, Restores, Drops as Dropping, Returns, Flushes, Whole, CallState}
+use Rattle.qp_fits.specs.CallState.{Goal, ToQueue, ToFront, ToDeferred, ToSet, CallStage, Begins, Refers, Puts, Raises, Restores, Drops as Dropping, Returns, Flushes, Whole, CallState}
 use Rattle.qp_fits.specs.CallStateNext.{put_next, queue_next, set_next, new_next, block_next, event_next, now_next, defer_next, recall_next, flush_next, arm_next, rearm_next, begin_next, stage_next, stage_answer, list_after, call_state_next}
-use Rattle.qp_sources.specs.TickState.{TickState, Reaching, Fired, Vain, tick_next}
-use Rattle.qp_sources.specs.SettleState.{SettleState, Before, Seeing, settle_next}
+use Rattle.qp_sources.specs.TickState.{Reaching, Fired, Vain, tick_next}
+use Rattle.qp_sources.specs.SettleState.{Before, Seeing, settle_next}
 use Rattle.qp_sources.specs.Underway.{Underway, Calling, Ticking, Settling, underway_next, underway_done, underway_asserted, underway_tried}
 use Rattle.qp_course.specs.Note.{Note, tells, note_of, taken_by, raised_from, dropped_by, comes_back}
 use Rattle.qp_course.specs.Goes.{moment_of}
 use Rattle.qp_course.specs.Machine.{State, Between, Telling, Raising, AtPoint, InCall, AtPost, Releasing, Returning, Asserted, tell_next, is_end, expects_point}
-use Rattle.qp_course.proofs.NoteLemmas.{tells-is, raised-is, taken-is}
 use Rattle.qp_course.proofs.NextLemmas.{mapped, tested}
-use Rattle.qp_unique.proofs.KernelLemmas.{Slot, Starts, Runs, Releases, IsLook, IsSeen, IsTook, IsSpent, IsRest, Went, IsDone, GoesOn, IsOwned, slot-of}
+use Rattle.qp_unique.proofs.KernelLemmas.{Slot, Starts, Runs, Releases, IsLook, IsSeen, IsTook, IsSpent, IsRest, Went, IsDone, GoesOn, slot-of}
 use Rattle.qp_unique.proofs.StackLemmas.{NotOf, PlaceAway, Away, away-looked}
 
 pub differs : (a b : ℕ) → (a ≡ b → ⊥) → (a == b) ≡ false

@@ -1,5 +1,5 @@
 -- By what the words hold, a call goes on by one record alone.
-use Rattle.std.proofs.Common.{◌≡◌, ℕ, zero, suc, ◌+◌, ◌-◌, ◌<◌, ◌≤◌, ◌==◌, nat_lt, nat_le, max, Bool, true, false, not, ◌&&◌, ◌||◌, List, [], ◌∷◌, length, if◌then◌else◌, Some, None, is_none, refl, sym, subst, ap, arith}
+use Rattle.std.proofs.Common.{◌≡◌, ℕ, zero, suc, ◌+◌, ◌-◌, ◌≤◌, ◌==◌, nat_lt, max, Bool, true, false, not, ◌&&◌, ◌||◌, List, [], ◌∷◌, length, Some, None, is_none, refl, sym, subst, ap, arith}
 use Rattle.std.proofs.lemmas.Bool.Decides.{nat_tests}
 use Rattle.std.specs.declared.option.Option.{Option}
 use Rattle.std.specs.Option.{unwrap_or, option_map}
@@ -9,12 +9,11 @@ use Rattle.qp_model.specs.declared.bodies.Entry.{Entry}
 use Rattle.qp_model.specs.declared.bodies.Body.{Body}
 use Rattle.qp_model.specs.declared.bodies.Body.TheVariants as item
 use Rattle.qp_model.specs.Record.{entry}
-use Rattle.qp_model.specs.Line.{Line, same_entry}
+use Rattle.qp_model.specs.Line.{same_entry}
 use Rattle.qp_model.specs.Lists.{is_first, without_one}
 use Rattle.qp_model.specs.Lives.{life_may}
 use Rattle.qp_model.proofs.ListLemmas.{both_true}
-use Rattle.qp_model.specs.Subscribers.{Subscribers, bits_of_set}
-use Rattle.qp_model.specs.TimeEvents.{Clock}
+use Rattle.qp_model.specs.Subscribers.{bits_of_set}
 use Rattle.qp_model.specs.Told.{Told, Known, Nothing, Free, Left, Former, Member, plain, raised, dropped}
 use Rattle.qp_model.specs.Calls as call
 use Rattle.qp_model.specs.Calls.{Call, Granted}
@@ -24,10 +23,10 @@ use Rattle.qp_model.specs.Parts.{is_static, sizes_of, first_pool, room_before, t
 use Rattle.qp_model.specs.Shapes.{ticks_fit}
 use Rattle.qp_model.proofs.RecordLemmas.{same_entry-is}
 use Rattle.qp_fits.specs.CallState.{Behind, Ends, Goal, ToQueue, ToFront, ToDeferred, ToSet, CallStage, Begins, Refers, Puts, Raises, Restores, Drops, Returns, Flushes, Whole}
-use Rattle.qp_fits.specs.CallStateNext.{only, is_of, refer_next, queue_next, front_next, deferred_next, set_next, put_next, raise_next, restore_next, drop_next, return_next, flushed_next, flush_next, block_next, new_next, event_next, now_next, full_next, defer_next, none_next, recalled_next, recall_next, subscribe_next, unsubscribe_next, arm_next, rearm_next, disarm_next, begin_next, stage_next, goes_on, released}
+use Rattle.qp_fits.specs.CallStateNext.{is_of, refer_next, queue_next, front_next, set_next, put_next, raise_next, restore_next, drop_next, return_next, flush_next, block_next, new_next, event_next, now_next, defer_next, recall_next, subscribe_next, unsubscribe_next, arm_next, rearm_next, disarm_next, begin_next, stage_next}
 use Rattle.qp_fits.proofs.StageLemmas.{only-passed}
 use Rattle.qp_unique.specs.Held.{Held, IsCounted, Comes, comes_next, known_then}
-use Rattle.qp_unique.specs.NextInCall.{first_of_list, post_told, refused_at, lifo_told, put_told, refer_told, drop_told, return_told, block_told, short_told, new_told, again_told, now_told, defer_told, recall_told, subscribe_told, unsubscribe_told, arm_told, rearm_told, disarm_told, begin_told, flush_told, stage_told}
+use Rattle.qp_unique.specs.NextInCall.{first_of_list, post_told, lifo_told, put_told, refer_told, drop_told, return_told, block_told, new_told, again_told, now_told, defer_told, recall_told, subscribe_told, unsubscribe_told, arm_told, rearm_told, disarm_told, begin_told, flush_told, stage_told}
 use Rattle.qp_unique.specs.Laws.{CallGoesOnAlone}
 
 -- a record, as it is told

@@ -1,10 +1,9 @@
 -- Each record comes next by what the words hold, in any order in which the numbers stand.
-use Rattle.std.proofs.Common.{◌≡◌, ◌∙◌, ℕ, zero, suc, true, List, [], ◌∷◌, ◌++◌, Some, None, refl, sym, ap, subst}
+use Rattle.std.proofs.Common.{◌≡◌, ℕ, zero, suc, List, [], ◌∷◌, Some, None, refl, subst}
 use Rattle.std.specs.declared.option.Option.{Option}
 use Rattle.std.specs.Option.{option_and_then}
 use Rattle.std.specs.List.{slice_get, filter_map, cons_option, AllByRecursion}
 use Rattle.qp_model.specs.declared.record.Rec.{Rec}
-use Rattle.qp_model.specs.declared.systems.System.{System}
 use Rattle.qp_model.specs.Record.{Item, item_of}
 use Rattle.qp_model.specs.Knowing.{told, event_of}
 use Rattle.qp_model.specs.History.{all_items, lane_items}

@@ -1,5 +1,5 @@
 -- Each record of a run comes next by what the words hold after the records before it.
-use Rattle.std.proofs.Common.{◌≡◌, ◌∙◌, ℕ, suc, ◌+◌, ◌<◌, ◌≤◌, ◌==◌, nat_lt, nat_le, Bool, true, false, ◌&&◌, List, [], ◌∷◌, ◌++◌, length, take, Some, None, refl, sym, ap, subst, arith}
+use Rattle.std.proofs.Common.{◌≡◌, ◌∙◌, ℕ, suc, ◌+◌, ◌<◌, ◌≤◌, ◌==◌, true, ◌&&◌, List, [], ◌∷◌, ◌++◌, length, take, refl, sym, ap, subst, arith}
 use Rattle.std.proofs.lemmas.Bool.Decides.{nat_tests}
 use Rattle.std.specs.declared.option.Option.{Option}
 use Rattle.std.specs.List.{AllByRecursion}
@@ -12,24 +12,24 @@ use Rattle.qp_model.specs.declared.bodies.Entry.{Entry}
 use Rattle.qp_model.specs.declared.bodies.Body.{Body}
 use Rattle.qp_model.specs.declared.bodies.Body.TheVariants.{Took, Nil, Seen, New, Short, Inc, Dec, Back, Post, Lifo, Full, Pub, Lock, Sub, Unsub, Same, Arm, Disarm, Rearm, Idle, Tick, Fire, NoEntry, NoBlock, Armed, NoLifo}
 use Rattle.qp_model.specs.Record.{Item}
-use Rattle.qp_model.specs.Told.{Event, Known, Free, Left, Former, Member}
-use Rattle.qp_model.specs.Knowing.{Facts, known_of, free_before, left_after, set_at, event_of, event_known}
-use Rattle.qp_model.specs.History.{all_items, hist, total, touch, touch_of, drawn_on, Draws, Shows}
+use Rattle.qp_model.specs.Told.{Event, Free, Left, Member}
+use Rattle.qp_model.specs.Knowing.{known_of, free_before, left_after, set_at, event_of, event_known}
+use Rattle.qp_model.specs.History.{all_items, hist, total, touch_of, drawn_on, Draws, Shows}
 use Rattle.qp_model.specs.Places.{is_next, in_order}
 use Rattle.qp_model.specs.Machine.{Machine, after}
-use Rattle.qp_model.specs.FreeBlocks.{Pool, free_blocks}
+use Rattle.qp_model.specs.FreeBlocks.{free_blocks}
 use Rattle.qp_model.specs.References.{Refs, references}
 use Rattle.qp_model.specs.Lives.{life_of}
-use Rattle.qp_model.specs.Line.{Line, line}
-use Rattle.qp_model.specs.Subscribers.{Subscribers, subscribers}
-use Rattle.qp_model.specs.TimeEvents.{Clock, time_event}
+use Rattle.qp_model.specs.Line.{line}
+use Rattle.qp_model.specs.Subscribers.{subscribers}
+use Rattle.qp_model.specs.TimeEvents.{time_event}
 use Rattle.qp_model.specs.Sites.{ring_of, blocks_of}
-use Rattle.qp_model.specs.WordLaw.{Keeps, Words, is_pool, is_block, is_object, is_signal, is_timer}
+use Rattle.qp_model.specs.WordLaw.{Keeps, Words, is_pool, is_block}
 use Rattle.qp_model.proofs.ListLemmas.{both_true, true_both}
 use Rattle.qp_model.proofs.MachineLemmas.{Counts, after-append}
-use Rattle.qp_model.proofs.WordLawLemmas.{free_blocks-counts, references-counts, subscribers-counts, time_event-counts}
-use Rattle.qp_unique.specs.Held.{Held, comes_next, known_then}
-use Rattle.qp_unique.specs.Fronts.{log_of, held_after, names_its, has_word, touches_its}
+use Rattle.qp_model.proofs.WordLawLemmas.{free_blocks-counts, subscribers-counts, time_event-counts}
+use Rattle.qp_unique.specs.Held.{comes_next, known_then}
+use Rattle.qp_unique.specs.Fronts.{log_of, held_after, names_its, has_word}
 use Rattle.qp_unique.proofs.FrontLemmas.{same_word-refl, is-next, drawn-below, may-next, says-next, count-next, take-front, take-next}
 
 -- a record of o
@@ -66,7 +66,7 @@ module _ (sys : System) (lanes : List (List Rec)) (words : Words sys lanes) (ord
   counts m w mark o b rises keeps at is =
       let one = shows m w mark o b keeps at is in
       let two : m.count (after m (log_of w xs)) ≡ total w xs =
-          count-next (all_items lanes) order inside ordered w keeps.numbers m keeps.allowed rises xs (said o b ∷ ys) at one.1 in
+      count-next (all_items lanes) order inside ordered w keeps.numbers m keeps.allowed rises xs (said o b ∷ ys) at one.1 in
       let three : mark ≡ total w xs = one.0 in
       grind (arith, nat_tests)
 
@@ -134,7 +134,7 @@ module _ (sys : System) (lanes : List (List Rec)) (words : Words sys lanes) (ord
         let pool = (words.pools p (pool-of-block sys p b h)) in
         let number : n ≡ total (word.Pool p) xs = drawn-number (word.Pool p) n o (New p n b from sig pars) at refl in
         let few : total (word.Pool p) xs < total (word.Pool p) (all_items lanes) =
-            drawn-below (all_items lanes) order inside ordered (word.Pool p) pool.numbers xs (said o (New p n b from sig pars)) ys at (same_word-refl (word.Pool p)) in
+        drawn-below (all_items lanes) order inside ordered (word.Pool p) pool.numbers xs (said o (New p n b from sig pars)) ys at (same_word-refl (word.Pool p)) in
         let front = take-front (all_items lanes) order inside ordered (word.Pool p) pool.numbers xs (said o (New p n b from sig pars) ∷ ys) at (omega (arith, few)) in
         ap (λ (zs : List Item). Free (length (after (free_blocks (blocks_of sys p)) zs).free)) (ap (λ k. take k (hist (word.Pool p) (all_items lanes))) number ∙ front)
     known-front o (Dec p b d k) at h event =

@@ -1,28 +1,24 @@
 -- By what the words hold, an object's course goes on by one piece alone.
-use Rattle.std.proofs.Common.{◌≡◌, ℕ, ◌+◌, ◌==◌, max, Bool, true, false, ◌&&◌, List, [], ◌∷◌, Some, None, refl, sym, ◌∙◌, subst, ap, arith}
+use Rattle.std.proofs.Common.{◌≡◌, ℕ, ◌+◌, max, true, List, [], ◌∷◌, Some, None, refl, sym, ◌∙◌, subst, ap, arith}
 use Rattle.std.proofs.lemmas.Bool.Decides.{nat_tests}
 use Rattle.std.specs.declared.option.Option.{Option}
 use Rattle.std.specs.Option.{option_map}
 use Rattle.qp_model.specs.declared.systems.System.{System}
 use Rattle.qp_model.specs.declared.bodies.Entry.{Entry}
-use Rattle.qp_model.specs.declared.bodies.Body.{Body}
 use Rattle.qp_model.specs.declared.bodies.Body.TheVariants as item
-use Rattle.qp_model.specs.Line.{Line, is_front, same_entry}
-use Rattle.qp_model.specs.Told.{Told, Event, Known, Nothing, OfEvent, Former, plain, raised, taken, dropped}
+use Rattle.qp_model.specs.Line.{is_front}
+use Rattle.qp_model.specs.Told.{Told, Event, OfEvent, Former, plain, raised, taken, dropped}
 use Rattle.qp_model.specs.Knowing.{event_known}
-use Rattle.qp_model.specs.Groups.{is_post}
-use Rattle.qp_model.specs.Pieces.{Piece, Tell, Point}
-use Rattle.qp_model.specs.Acts.{Actor, Config}
+use Rattle.qp_model.specs.Pieces.{Tell, Point}
+use Rattle.qp_model.specs.Acts.{Actor}
 use Rattle.qp_model.proofs.RecordLemmas.{same_entry-is}
-use Rattle.qp_fits.specs.CallState.{CallState, CallStage}
-use Rattle.qp_fits.specs.CallStateNext.{call_state_next, stage_next, list_after}
-use Rattle.qp_course.specs.Note.{body_of, taken_by, dropped_by, raised_from, comes_back}
+use Rattle.qp_fits.specs.CallStateNext.{call_state_next, stage_next}
+use Rattle.qp_course.specs.Note.{body_of, taken_by, dropped_by, raised_from}
 use Rattle.qp_course.specs.Goes.{moment_of}
 use Rattle.qp_course.specs.Machine.{State, Between, Telling, Raising, AtPoint, InCall, AtPost, Releasing, Returning, Asserted, next, tell_next, point_next}
 use Rattle.qp_course.proofs.NoteLemmas.{tells-is, raised-is, taken-is, dropped-is, back-is}
 use Rattle.qp_course.proofs.NextLemmas.{mapped, tested}
 use Rattle.qp_unique.specs.Held.{Held, IsCounted, Comes, comes_next, known_then}
-use Rattle.qp_unique.specs.NextInCall.{stage_told, drop_told, return_told}
 use Rattle.qp_unique.specs.NextInCourse.{took_told, piece_told, PieceComes}
 use Rattle.qp_unique.specs.Laws.{CourseGoesOnAlone}
 use Rattle.qp_unique.proofs.CallLemmas.{call_goes_on_alone, dropped-alone, returned-alone}

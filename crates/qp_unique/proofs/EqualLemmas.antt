@@ -1,5 +1,5 @@
 -- Two runs with the same order have the same lanes.
-use Rattle.std.proofs.Common.{◌≡◌, ◌∙◌, ℕ, zero, suc, ◌+◌, ◌<◌, ◌≤◌, ◌==◌, Bool, true, false, cond, List, [], ◌∷◌, ◌++◌, map, length, Some, None, refl, sym, ap, subst, arith, append-nil, length-append}
+use Rattle.std.proofs.Common.{◌≡◌, ◌∙◌, ℕ, zero, suc, ◌+◌, ◌≤◌, ◌==◌, Bool, true, false, cond, List, [], ◌∷◌, ◌++◌, length, Some, None, refl, sym, ap, arith, length-append}
 use Rattle.std.proofs.lemmas.List.{append_assoc}
 use Rattle.std.specs.declared.option.Option.{Option}
 use Rattle.std.specs.Option.{option_map_or}
@@ -10,7 +10,7 @@ use Rattle.qp_model.specs.declared.systems.ObjectDef.{ObjectDef}
 use Rattle.qp_model.specs.Record.{Item}
 use Rattle.qp_model.specs.Sites.{object_at}
 use Rattle.qp_model.specs.KernelLane.{threshold_of, unread}
-use Rattle.qp_model.specs.OneOrder.{Placed, with_stimuli, parts_of_look, part_of_look, belongs, look_of}
+use Rattle.qp_model.specs.OneOrder.{with_stimuli, parts_of_look, part_of_look, belongs, look_of}
 use Rattle.qp_orders.specs.RunOrder.{placed}
 use Rattle.qp_unique.proofs.StackLemmas.{IsObject}
 use Rattle.qp_unique.proofs.AwayLemmas.{differs}
@@ -72,9 +72,10 @@ module _ (sys : System) (charts : (p : ℕ) (d : ObjectDef) → object_at sys p 
       let same = same-order sys charts stimuli budget bounded positive a b ea eb a.lane0 b.lane0 [] [] (unread sys) (agree-first sys charts stimuli budget bounded positive a b looks) in
       let f : ℕ → List Item = λ m. lane_in (order_of sys charts stimuli budget a) (1 + m) in
       let one : a.sources ≡ made f 0 (length a.sources) =
-          made-by f 0 a.sources [] a.sources refl refl (λ before l behind is. lane-whole sys charts stimuli budget bounded positive a before l behind is) in
+      made-by f 0 a.sources [] a.sources refl refl (λ before l behind is. lane-whole sys charts stimuli budget bounded positive a before l behind is) in
       let two : b.sources ≡ made f 0 (length b.sources) =
-          made-by f 0 b.sources [] b.sources refl refl
-          (λ before l behind is. lane-whole sys charts stimuli budget bounded positive b before l behind is ∙ ap (λ zs. lane_in zs (1 + length before)) (sym same)) in
-      (sym (zero-is a.cuts a.sources a.lane0) ∙ ap (λ zs. lane_in zs 0) same ∙ zero-is b.cuts b.sources b.lane0,
-      one ∙ ap (made f 0) size ∙ sym two)
+      made-by f 0 b.sources [] b.sources refl refl
+      (λ before l behind is. lane-whole sys charts stimuli budget bounded positive b before l behind is ∙ ap (λ zs. lane_in zs (1 + length before)) (sym same)) in (
+        sym (zero-is a.cuts a.sources a.lane0) ∙ ap (λ zs. lane_in zs 0) same ∙ zero-is b.cuts b.sources b.lane0,
+        one ∙ ap (made f 0) size ∙ sym two,
+      )

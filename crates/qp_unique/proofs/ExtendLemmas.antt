@@ -1,34 +1,28 @@
 -- Two runs that have come equally far and go on by the same record of lane 0 have come equally far behind it.
-use Rattle.std.proofs.Common.{◌≡◌, ◌∙◌, ℕ, zero, suc, ◌+◌, ◌<◌, ◌≤◌, ◌==◌, Bool, true, false, ◌&&◌, cond, List, [], ◌∷◌, ◌++◌, map, length, Some, None, refl, sym, ap, subst, inl, inr, ◌⊎◌, arith, append-nil}
+use Rattle.std.proofs.Common.{◌≡◌, ◌∙◌, ℕ, ◌+◌, ◌≤◌, ◌==◌, Bool, true, false, List, [], ◌∷◌, ◌++◌, length, Some, refl, sym, ap, subst, inl, inr, ◌⊎◌, arith, append-nil}
 use Rattle.std.proofs.lemmas.Bool.Decides.{nat_tests}
 use Rattle.std.proofs.lemmas.List.{append_assoc}
-use Rattle.std.specs.declared.option.Option.{Option}
-use Rattle.std.specs.Option.{unwrap_or, option_map_or}
 use Rattle.qp_chart.specs.declared.checked.Chart.{Chart}
 use Rattle.qp_model.specs.declared.stimulus.Stim.{Stim}
 use Rattle.qp_model.specs.declared.systems.System.{System}
 use Rattle.qp_model.specs.declared.systems.ObjectDef.{ObjectDef}
-use Rattle.qp_model.specs.declared.bodies.Body.{Body}
 use Rattle.qp_model.specs.declared.bodies.Body.TheVariants as body
 use Rattle.qp_model.specs.Record.{Item}
 use Rattle.qp_model.specs.Told.{Told}
-use Rattle.qp_model.specs.Knowing.{Facts, told, known_of, records_of}
-use Rattle.qp_model.specs.Ends.{is_turn_mark}
+use Rattle.qp_model.specs.Knowing.{told, known_of, records_of}
 use Rattle.qp_model.specs.Kernels.{sim}
 use Rattle.qp_model.specs.Sites.{object_at}
 use Rattle.qp_model.specs.Pieces.{Piece, Tell, Point, ends_at_point}
-use Rattle.qp_model.specs.KernelLane.{Setting, threshold_of, floor_in, Ended, Reading, role_of, lane_next, lane_on, unread}
+use Rattle.qp_model.specs.KernelLane.{threshold_of, floor_in, Ended, Reading, lane_on, unread}
 use Rattle.qp_model.specs.Points.{pieces_at, pieces_in}
 use Rattle.qp_model.specs.OneOrder.{Placed, with_stimuli}
 use Rattle.qp_model.proofs.KernelRowLemmas.{lane_on-next, pieces_in-then}
-use Rattle.qp_orders.specs.RunOrder.{placed, items_of}
 use Rattle.qp_orders.specs.Placing.{look_item}
-use Rattle.qp_unique.specs.Held.{Held, Comes, known_then}
-use Rattle.qp_unique.proofs.KernelLemmas.{Slot, IsOwned, next-same}
+use Rattle.qp_unique.proofs.KernelLemmas.{next-same}
 use Rattle.qp_unique.proofs.StackLemmas.{Stacked, PlaceStacked, IsObject, stacked-next, ended-last}
 use Rattle.qp_unique.proofs.StepLemmas.{slot-looks}
 use Rattle.qp_unique.proofs.ItemLemmas.{step, slot, comes-here, own-unmarked, tells-at}
-use Rattle.qp_unique.proofs.Sides.{Side, Along, Agree, IsFront, in_sim, order_of, held_to, lane_in}
+use Rattle.qp_unique.proofs.Sides.{Side, Along, Agree, IsFront, in_sim, order_of, lane_in}
 
 some-is : {A : Type 0} {x y : A} → Some x ≡ Some y → x ≡ y
 some-is e = cc
@@ -58,7 +52,7 @@ module _ (sys : System) (charts : (p : ℕ) (d : ObjectDef) → object_at sys p 
         let behind = stacked-next (in_sim sys a.has) refl bounded k (step sys charts stimuli budget bounded positive a xs front i la k h).0 i here stacked in
         let its : IsObject sys p = (subst (PlaceStacked sys (step sys charts stimuli budget bounded positive a xs front i la k h).0.running) (ap (λ (x : Reading). x.place) same ∙ at) behind.place).0 in
         let told_it = tells-at sys charts stimuli budget bounded positive a xs front i la k h p last.0
-            (own-unmarked sys charts stimuli budget bounded positive a xs front i la k h (subst (IsObject sys) (sym last.0) its) last.1) in
+        (own-unmarked sys charts stimuli budget bounded positive a xs front i la k h (subst (IsObject sys) (sym last.0) its) last.1) in
         ap ends_at_point (pieces-snoc p ∙ ap (λ ps. pieces_in a.w (in_sim sys a.has) p (unread sys) front ++ ps) told_it) ∙ ends-told (pieces_in a.w (in_sim sys a.has) p (unread sys) front) _
 
     read-next : (next : Reading) → (step sys charts stimuli budget bounded positive a xs front i la k h).0 ≡ next → lane_on (in_sim sys a.has) (unread sys) (front ++ i ∷ []) ≡ Some next
@@ -111,26 +105,28 @@ module _ (sys : System) (charts : (p : ℕ) (d : ObjectDef) → object_at sys p 
         → ((j : ℕ) → (j ≡ 0 → ⊥) → records_of a.w 0 0 (lane_in ys j) ≡ records_of b.w 0 0 (lane_in ys j))
         → (next : Reading) × Agree sys charts stimuli budget a b ys (front ++ i ∷ []) la lb next
     extended ys order_a order_b fronts_a fronts_b told_on =
-        let next = (step sys charts stimuli budget bounded positive a xs front i la k g.one).0 in
-        (next, record {
-          one = record {
-            lane = g.one.lane ∙ sym (append_assoc front (i ∷ []) la);
-            order = order_a;
-            read = read-next a xs front i la k g.one g.stacked next refl;
-            tail = tail-next a xs front i la k g.one g.stacked next refl;
-            fronts = fronts_a;
-          };
-          two = record {
-            lane = g.two.lane ∙ sym (append_assoc front (i ∷ []) lb);
-            order = order_b;
-            read = read-next b xs front i lb k g.two g.stacked next next-is;
-            tail = tail-next b xs front i lb k g.two g.stacked next next-is;
-            fronts = fronts_b;
-          };
-          stacked = stacked-next (in_sim sys a.has) refl bounded k next i (slot sys charts stimuli budget bounded positive a xs front i la k g.one) g.stacked;
-          looks = looks-on next refl;
-          pieces = λ p.
-              pieces-snoc a xs front i la k g.one g.stacked p ∙ ap (λ ps. ps ++ pieces_at a.w p k i) (g.pieces p)
-              ∙ ap (λ ps. pieces_in b.w (in_sim sys b.has) p (unread sys) front ++ ps) (at-same p) ∙ sym (pieces-snoc b xs front i lb k g.two g.stacked p);
-          told_so = told_on;
-        })
+        let next = (step sys charts stimuli budget bounded positive a xs front i la k g.one).0 in (
+          next,
+          record {
+            one = record {
+              lane = g.one.lane ∙ sym (append_assoc front (i ∷ []) la);
+              order = order_a;
+              read = read-next a xs front i la k g.one g.stacked next refl;
+              tail = tail-next a xs front i la k g.one g.stacked next refl;
+              fronts = fronts_a;
+            };
+            two = record {
+              lane = g.two.lane ∙ sym (append_assoc front (i ∷ []) lb);
+              order = order_b;
+              read = read-next b xs front i lb k g.two g.stacked next next-is;
+              tail = tail-next b xs front i lb k g.two g.stacked next next-is;
+              fronts = fronts_b;
+            };
+            stacked = stacked-next (in_sim sys a.has) refl bounded k next i (slot sys charts stimuli budget bounded positive a xs front i la k g.one) g.stacked;
+            looks = looks-on next refl;
+            pieces = λ p.
+                pieces-snoc a xs front i la k g.one g.stacked p ∙ ap (λ ps. ps ++ pieces_at a.w p k i) (g.pieces p)
+                ∙ ap (λ ps. pieces_in b.w (in_sim sys b.has) p (unread sys) front ++ ps) (at-same p) ∙ sym (pieces-snoc b xs front i lb k g.two g.stacked p);
+            told_so = told_on;
+          },
+        )

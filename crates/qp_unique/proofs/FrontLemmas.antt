@@ -1,13 +1,12 @@
 -- The records before a place of a run's order are the front of each word's history.
-use Rattle.std.proofs.Common.{◌≡◌, ◌∙◌, ℕ, zero, suc, ◌+◌, ◌<◌, ◌≤◌, ◌==◌, nat_lt, nat_le, Bool, true, false, not, ◌&&◌, ◌||◌, cond, List, [], ◌∷◌, ◌++◌, length, take, Some, None, refl, sym, ap, subst, arith, append-nil, length-append}
+use Rattle.std.proofs.Common.{◌≡◌, ◌∙◌, ℕ, zero, suc, ◌<◌, ◌≤◌, ◌==◌, nat_lt, nat_le, Bool, true, false, not, ◌&&◌, ◌||◌, cond, List, [], ◌∷◌, ◌++◌, length, take, refl, sym, ap, subst, arith, append-nil, length-append}
 use Rattle.std.proofs.lemmas.Bool.Decides.{nat_tests}
 use Rattle.std.proofs.lemmas.List.{append_assoc}
 use Rattle.std.proofs.lemmas.List.Elements.{filter-append}
-use Rattle.std.proofs.Math.Seq.{append_snoc, take-append_seam}
+use Rattle.std.proofs.Math.Seq.{take-append_seam}
 use Rattle.std.specs.List.{filter, list_all, AllByRecursion}
 use Rattle.qp_model.specs.declared.words.Word.{Word}
 use Rattle.qp_model.specs.declared.words.Word.TheVariants as word
-use Rattle.qp_model.specs.declared.bodies.Body.{Body}
 use Rattle.qp_model.specs.Record.{Item}
 use Rattle.qp_model.specs.History.{Touch, Draws, Shows, Neither, touch, same_word, drawn_on, drawn_as, drawn_below, total, numbered, is_numbered, hist}
 use Rattle.qp_model.specs.Places.{is_next, in_order}
@@ -15,7 +14,7 @@ use Rattle.qp_model.specs.Machine.{Machine, after, is_allowed, shown_by, is_show
 use Rattle.qp_model.proofs.ListLemmas.{both_true, all_below_at}
 use Rattle.qp_model.proofs.HistoryLemmas.{length-hist}
 use Rattle.qp_model.proofs.KnowingLemmas.{same_word-is}
-use Rattle.qp_model.proofs.MachineLemmas.{Counts, is_allowed-at, is_allowed-front, after-append, count-after}
+use Rattle.qp_model.proofs.MachineLemmas.{Counts, is_allowed-at, is_allowed-front, count-after}
 use Rattle.qp_unique.specs.Fronts.{log_of}
 
 -- a list by its last element
@@ -185,7 +184,7 @@ module _ (all order : List Item) (inside : (P : Item → Type 0) → AllByRecurs
     hist-next xs i ys is h =
         let at = numbered-more w all (suc (total w xs)) (total w all) (drawn-below xs i ys is h) in
         let front : numbered w all (total w xs) ++ filter (λ j. drawn_as w (total w xs) (touch j)) all ≡ log_of w xs ++ i ∷ [] =
-            rw (drawn-alone xs i ys is h) (ap (λ zs. zs ++ i ∷ []) (numbered-front xs (i ∷ ys) is)) in
+        rw (drawn-alone xs i ys is h) (ap (λ zs. zs ++ i ∷ []) (numbered-front xs (i ∷ ys) is)) in
         (at.0, at.1 ∙ ap (λ zs. zs ++ at.0) front ∙ append_assoc (log_of w xs) (i ∷ []) at.0)
 
     log-length : (xs : List Item) → length (log_of w xs) ≡ total w xs
@@ -220,9 +219,9 @@ module _ (all order : List Item) (inside : (P : Item → Type 0) → AllByRecurs
             let next : (mark == total w xs) ≡ true = subst (λ t. is_next xs t ≡ true) h (is-next xs i ys is) in
             let one = in-list all i (λ j. shown_by m w (hist w all) j.body (touch j)) (placed-in xs i ys is) shown in
             let two : cond (same_word w w) (nat_le mark (length (hist w all)) && m.says (after m (take mark (hist w all))) i.body) true ≡ true =
-                subst (λ t. shown_by m w (hist w all) i.body t ≡ true) h one in
+            subst (λ t. shown_by m w (hist w all) i.body t ≡ true) h one in
             let three : (nat_le mark (length (hist w all)) && m.says (after m (take mark (hist w all))) i.body) ≡ true =
-                subst (λ b. cond b (nat_le mark (length (hist w all)) && m.says (after m (take mark (hist w all))) i.body) true ≡ true) (same_word-refl w) two in
+            subst (λ b. cond b (nat_le mark (length (hist w all)) && m.says (after m (take mark (hist w all))) i.body) true ≡ true) (same_word-refl w) two in
             let few : mark ≤ length (hist w all) = let test : nat_le mark (length (hist w all)) ≡ true = (both_true _ _ three).0 in grind (arith, nat_tests) in
             let size : length (hist w all) ≡ total w all = length-hist w all numbers in
             let number : mark ≡ total w xs = grind (arith, nat_tests) in

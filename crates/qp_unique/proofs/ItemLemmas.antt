@@ -1,44 +1,35 @@
 -- Two runs that have come equally far go on by the same record of lane 0.
-use Rattle.std.proofs.Common.{◌≡◌, ◌∙◌, ℕ, zero, suc, ◌+◌, ◌<◌, ◌≤◌, ◌==◌, nat_lt, nat_le, Bool, true, false, not, ◌&&◌, ◌||◌, cond, List, [], ◌∷◌, ◌++◌, map, length, Some, None, refl, sym, ap, subst, inl, inr, ◌⊎◌, arith, append-nil}
+use Rattle.std.proofs.Common.{◌≡◌, ◌∙◌, ℕ, ◌≤◌, ◌==◌, Bool, true, false, ◌||◌, List, [], ◌∷◌, ◌++◌, Some, None, refl, sym, ap, subst, arith}
 use Rattle.std.proofs.lemmas.Bool.Decides.{nat_tests}
-use Rattle.std.proofs.lemmas.List.{append_assoc}
 use Rattle.std.specs.declared.option.Option.{Option}
 use Rattle.std.specs.Option.{option_and_then, option_map_or, unwrap_or, is_some}
-use Rattle.std.specs.List.{list_any, count_by, find, AllByRecursion}
+use Rattle.std.specs.List.{list_any, AllByRecursion}
 use Rattle.qp_chart.specs.declared.checked.Chart.{Chart}
 use Rattle.qp_model.specs.declared.stimulus.Stim.{Stim}
 use Rattle.qp_model.specs.declared.systems.System.{System}
 use Rattle.qp_model.specs.declared.systems.ObjectDef.{ObjectDef}
-use Rattle.qp_model.specs.declared.bodies.Entry.{Entry}
 use Rattle.qp_model.specs.declared.bodies.Body.{Body}
 use Rattle.qp_model.specs.declared.bodies.Body.TheVariants as body
 use Rattle.qp_model.specs.Record.{Item}
-use Rattle.qp_model.specs.Told.{Told}
-use Rattle.qp_model.specs.Knowing.{Facts, told, known_of}
-use Rattle.qp_model.specs.Ends.{is_spill, is_turn_mark, spills_in, is_end}
-use Rattle.qp_model.specs.End.{takes_of}
-use Rattle.qp_model.specs.Kernels.{sim}
+use Rattle.qp_model.specs.Knowing.{told}
+use Rattle.qp_model.specs.Ends.{is_spill, is_turn_mark, spills_in}
 use Rattle.qp_model.specs.Sites.{object_at}
 use Rattle.qp_model.specs.WordLaw.{is_object}
-use Rattle.qp_model.specs.Line.{Line}
-use Rattle.qp_model.specs.Pieces.{Piece, Tell, Point, ends_at_point}
+use Rattle.qp_model.specs.Pieces.{Piece, Tell, ends_at_point}
 use Rattle.qp_model.specs.Acts.{Actor}
 use Rattle.qp_model.specs.Course.{actor, first_config}
-use Rattle.qp_model.specs.KernelLane.{Role, Drops, role_of, Setting, threshold_of, floor_in, Upcoming, Inside, Looking, Chosen, Ended, Resting, Again, Over, Halted, Reading, lane_next, lane_on, unread}
-use Rattle.qp_model.specs.Points.{pieces_at, pieces_in, is_look, begins_row}
+use Rattle.qp_model.specs.KernelLane.{role_of, Setting, threshold_of, Reading, lane_next, lane_on, unread}
+use Rattle.qp_model.specs.Points.{pieces_at, pieces_in}
 use Rattle.qp_model.specs.OneOrder.{Placed, with_stimuli, parts_of_look, look_of}
 use Rattle.qp_model.proofs.KernelRowLemmas.{lane_on-then, pieces_in-then}
-use Rattle.qp_course.specs.Machine.{State, start_state, run, next as piece_next, tell_next, is_end as is_end_of_course, expects_point}
-use Rattle.qp_orders.specs.RunOrder.{placed, items_of}
-use Rattle.qp_orders.specs.Placing.{look_item}
-use Rattle.qp_unique.specs.Held.{Held, IsCounted, Comes, comes_next, known_then}
+use Rattle.qp_course.specs.Machine.{State, start_state, run, next as piece_next, tell_next}
+use Rattle.qp_orders.specs.RunOrder.{placed}
+use Rattle.qp_unique.specs.Held.{Comes}
 use Rattle.qp_unique.specs.NextInCourse.{piece_told, PieceComes}
 use Rattle.qp_unique.proofs.CourseLemmas.{course_goes_on_alone}
-use Rattle.qp_unique.proofs.KernelLemmas.{Slot, IsOwned, slot-of, item-is}
-use Rattle.qp_unique.proofs.StackLemmas.{Stacked, IsObject, Away, below-not, found-in, stacked-next}
-use Rattle.qp_unique.proofs.AwayLemmas.{differs, away-pieces, BeginsTook, MustRelease, must-release}
-use Rattle.qp_unique.proofs.StepLemmas.{starts-only, runs-only, ended-only, look-only, seen-only, chosen-only, rest-only, over-none, slot-looks}
-use Rattle.qp_unique.proofs.Sides.{Side, Along, Agree, in_sim, order_of, held_to, MayEnd}
+use Rattle.qp_unique.proofs.KernelLemmas.{Slot, IsOwned, slot-of}
+use Rattle.qp_unique.proofs.StackLemmas.{IsObject, found-in}
+use Rattle.qp_unique.proofs.Sides.{Side, Along, in_sim, order_of, held_to, MayEnd}
 
 -- a test that no element passes
 pub none-at : {A : Type 0} (p : A → Bool) (xs : List A) (x : A) (ys : List A) → list_any p (xs ++ x ∷ ys) ≡ false → (p x ≡ false) × (list_any p ys ≡ false)
@@ -168,9 +159,9 @@ module _ (sys : System) (charts : (p : ℕ) (d : ObjectDef) → object_at sys p 
     told-next p d is owner of unmarked =
         let at = course-here p d is in
         let first : run sys (actor d (charts p d is)) at.0 (Tell (told a.w p k.ceiling i.body) ∷ pieces_in a.w rule p step.0 la) ≡ Some at.1 =
-            subst (λ ps. run sys (actor d (charts p d is)) at.0 (ps ++ pieces_in a.w rule p step.0 la) ≡ Some at.1) (tells-at p of unmarked) at.3 in
+        subst (λ ps. run sys (actor d (charts p d is)) at.0 (ps ++ pieces_in a.w rule p step.0 la) ≡ Some at.1) (tells-at p of unmarked) at.3 in
         let later = run-first sys (actor d (charts p d is)) at.0 at.1 (Tell (told a.w p k.ceiling i.body)) _ first in
         let comes : Comes sys (held_to sys k.ceiling xs) d.priority (told a.w p k.ceiling i.body) =
-            subst (λ o. Comes sys (held_to sys k.ceiling xs) o (told a.w p k.ceiling i.body)) (sym owner)
-            (subst (λ o. Comes sys (held_to sys k.ceiling xs) o (told a.w o k.ceiling i.body)) of (comes-here k.ceiling)) in
+        subst (λ o. Comes sys (held_to sys k.ceiling xs) o (told a.w p k.ceiling i.body)) (sym owner)
+        (subst (λ o. Comes sys (held_to sys k.ceiling xs) o (told a.w o k.ceiling i.body)) of (comes-here k.ceiling)) in
         (at.0, at.2, course_goes_on_alone sys (held_to sys k.ceiling xs) (actor d (charts p d is)) at.0 later.0 (Tell (told a.w p k.ceiling i.body)) (a.counted xs _ k.ceiling h.order) comes later.1, (later.0, later.1))

@@ -1,29 +1,27 @@
 -- A lawful journal of `sim` without a `spill`: its lanes, and its order.
-use Rattle.std.proofs.Common.{◌≡◌, ◌∙◌, ℕ, zero, suc, ◌+◌, ◌<◌, ◌≤◌, ◌==◌, nat_lt, nat_le, Bool, true, false, not, ◌&&◌, ◌||◌, cond, List, [], ◌∷◌, ◌++◌, map, length, drop, get_or, Some, None, refl, sym, ap, subst, inl, inr, ◌⊎◌, arith, append-nil, length-append}
+use Rattle.std.proofs.Common.{◌≡◌, ◌∙◌, ℕ, suc, ◌+◌, ◌==◌, Bool, true, false, not, ◌&&◌, ◌||◌, cond, List, [], ◌∷◌, ◌++◌, map, length, drop, Some, None, refl, sym, ap, subst, arith, append-nil}
 use Rattle.std.specs.Prelude.{⊤}
 use Rattle.std.proofs.lemmas.Bool.Decides.{nat_tests}
 use Rattle.std.proofs.lemmas.List.{append_assoc, map-append}
 use Rattle.std.specs.declared.option.Option.{Option}
 use Rattle.std.specs.Option.{option_map_or, unwrap_or}
 use Rattle.std.specs.Bool.{MatchBool}
-use Rattle.std.specs.List.{slice_get, list_all, list_any, AllByRecursion}
+use Rattle.std.specs.List.{slice_get, list_any, AllByRecursion}
 use Rattle.qp_model.specs.declared.record.Rec.{Rec}
 use Rattle.qp_model.specs.declared.stimulus.Stim.{Stim}
 use Rattle.qp_model.specs.declared.systems.System.{System}
 use Rattle.qp_model.specs.declared.journals.Journal.{Journal}
-use Rattle.qp_model.specs.declared.bodies.Body.{Body}
 use Rattle.qp_model.specs.Record.{Item}
 use Rattle.qp_model.specs.Ends.{is_spill, is_end, spills_in, ends_last}
 use Rattle.qp_model.specs.History.{all_items, lane_items}
 use Rattle.qp_model.specs.Home.{lane_at}
 use Rattle.qp_model.specs.Kernels.{sim, port, has_one_order}
 use Rattle.qp_model.specs.Places.{in_order}
-use Rattle.qp_model.specs.KernelLane.{Setting}
 use Rattle.qp_model.specs.OneOrder.{Placed, OneThread, IsOneOrder, with_stimuli, parts_of_look, part_of_look, belongs, look_of, stim_of, order, spills_from, looks_right, look_right, turns_at, acts_next, is_turn, no_look, is_free}
-use Rattle.qp_model.specs.Lawful.{Lawful, KernelHolds, OrderHolds, SourcesHold, facts_of, setting_of, source_lanes, lanes_before, one_thread}
+use Rattle.qp_model.specs.Lawful.{Lawful, KernelHolds, OrderHolds, setting_of, source_lanes, lanes_before, one_thread}
 use Rattle.qp_model.proofs.ListLemmas.{both_true}
 use Rattle.qp_orders.specs.RunOrder.{placed, items_of}
-use Rattle.qp_orders.specs.Placing.{look_item, all_placed}
+use Rattle.qp_orders.specs.Placing.{look_item}
 use Rattle.qp_orders.proofs.RunLemmas.{spills-none}
 use Rattle.qp_unique.specs.Tidy.{run_order}
 use Rattle.qp_unique.proofs.Sides.{in_sim}
@@ -86,9 +84,11 @@ module _ (P : Item → Type 0) where
       → AllByRecursion P (items_of (with_stimuli cuts sources lane0))
   unfolding with_stimuli
   order-all cuts sources [] h all = tt
-  order-all cuts sources (i ∷ is) h all =
-      (h.0, subst (AllByRecursion P) (sym (map-append (λ (x : Placed). x.item) (own (look_of i.body)) (with_stimuli cuts sources is)))
-      (all-join P _ _ (look (look_of i.body)) (order-all cuts sources is h.1 all)))
+  order-all cuts sources (i ∷ is) h all = (
+    h.0,
+    subst (AllByRecursion P) (sym (map-append (λ (x : Placed). x.item) (own (look_of i.body)) (with_stimuli cuts sources is)))
+        (all-join P _ _ (look (look_of i.body)) (order-all cuts sources is h.1 all)),
+  )
     where
       own : Option (ℕ × ℕ) → List Placed
       own o = option_map_or (λ (l : ℕ × ℕ). parts_of_look 1 l.0 cuts sources) o []
@@ -253,7 +253,7 @@ module _ (sys : System) (stimuli : List (List Stim)) (j : Journal) (t : Threaded
   turn-at xs n floor ys is =
       let each = sources-each (λ i. is_spill i.body ≡ false) t.unspilt in
       let none : (spills_in (lane_items (lane_at j 0)) || list_any spills_in (source_lanes sys j)) ≡ false =
-          rw (each-unspilt (lane_items (lane_at j 0)) (zero-each (λ i. is_spill i.body ≡ false) t.unspilt), any-none (source_lanes sys j) each) refl in
+      rw (each-unspilt (lane_items (lane_at j 0)) (zero-each (λ i. is_spill i.body ≡ false) t.unspilt), any-none (source_lanes sys j) each) refl in
       let whole = subst (λ zs. looks_right (one_thread sys stimuli j t.cuts) [] zs ≡ true) (order-is ∙ is) t.ordered.turns in
       by (is_turn (acts_next sys stimuli xs (floor == 0)) (turns_at 1 n (source_lanes sys j))) (spills_in (lane_items (lane_at j 0)) || list_any spills_in (source_lanes sys j)) (no_look ys) (is_free (one_thread sys stimuli j t.cuts) n) none (looks-at (one_thread sys stimuli j t.cuts) [] xs (placed 0 (look_item n floor)) ys whole)
     where

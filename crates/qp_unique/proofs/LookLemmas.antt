@@ -1,15 +1,14 @@
 -- The stimulus of a look: which records of which source it has.
-use Rattle.std.proofs.Common.{◌≡◌, ◌∙◌, ℕ, zero, suc, ◌+◌, ◌<◌, ◌≤◌, ◌==◌, Bool, true, false, not, ◌&&◌, ◌||◌, cond, List, [], ◌∷◌, ◌++◌, map, length, if◌then◌else◌, Some, None, refl, sym, ap, subst, arith, append-nil}
+use Rattle.std.proofs.Common.{◌≡◌, ◌∙◌, ℕ, suc, ◌+◌, ◌==◌, Bool, true, false, ◌||◌, cond, List, [], ◌∷◌, ◌++◌, length, if◌then◌else◌, Some, None, refl, sym, ap, subst, arith, append-nil}
 use Rattle.std.proofs.lemmas.Bool.Decides.{nat_tests}
-use Rattle.std.proofs.lemmas.List.{append_assoc}
 use Rattle.std.specs.declared.option.Option.{Option}
 use Rattle.std.specs.Option.{option_map_or, is_some}
-use Rattle.std.specs.List.{filter, filter_map, list_any, cons_option}
+use Rattle.std.specs.List.{filter_map, list_any, cons_option}
 use Rattle.qp_model.specs.declared.bodies.Body.{Body}
 use Rattle.qp_model.specs.declared.bodies.Body.TheVariants as body
 use Rattle.qp_model.specs.Record.{Item}
 use Rattle.qp_model.specs.Ends.{is_spill, spills_in}
-use Rattle.qp_model.specs.OneOrder.{Placed, Turn, stim_of, is_stim_at, belongs, part_of_look, parts_of_look, turns_at, is_turn}
+use Rattle.qp_model.specs.OneOrder.{Turn, stim_of, is_stim_at, belongs, part_of_look, parts_of_look, turns_at, is_turn}
 use Rattle.qp_orders.specs.RunOrder.{placed, has_stim}
 use Rattle.qp_orders.specs.Placing.{all_placed}
 use Rattle.qp_orders.proofs.MergeLemmas.{part-none, parts-none, parts-split, part-append, within_after}
@@ -293,10 +292,10 @@ look-stimulated n cuts sources s one unspilt =
     let lane = 1 + length one.front in
     let it = one.its in
     let own : part_of_look lane n cuts false one.own ≡ all_placed lane (it.stim ∷ up_to_stim it.behind) =
-        ap (part_of_look lane n cuts false) it.is
-        ∙ part-append lane n cuts false it.before (it.stim ∷ it.behind)
-        ∙ ap (λ ps. ps ++ part_of_look lane n cuts (within_after n cuts false it.before) (it.stim ∷ it.behind)) (part-none lane n cuts it.before it.none_before)
-        ∙ part-own lane n s.place cuts (within_after n cuts false it.before) it.stim it.behind it.begins_it it.none_behind unspilt in
+    ap (part_of_look lane n cuts false) it.is
+    ∙ part-append lane n cuts false it.before (it.stim ∷ it.behind)
+    ∙ ap (λ ps. ps ++ part_of_look lane n cuts (within_after n cuts false it.before) (it.stim ∷ it.behind)) (part-none lane n cuts it.before it.none_before)
+    ∙ part-own lane n s.place cuts (within_after n cuts false it.before) it.stim it.behind it.begins_it it.none_behind unspilt in
     ap (parts_of_look 1 n cuts) one.are ∙ parts-split 1 n cuts one.front one.own one.back
     ∙ rw (parts-none 1 n cuts one.front one.none_front, parts-none (1 + length one.front + 1) n cuts one.back one.none_back) (append-nil _ ∙ own)
 

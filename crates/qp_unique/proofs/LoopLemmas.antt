@@ -1,9 +1,9 @@
 -- Two runs have the same order.
-use Rattle.std.proofs.Common.{◌≡◌, ◌∙◌, ℕ, zero, suc, ◌+◌, ◌<◌, ◌≤◌, ◌==◌, Bool, true, false, ◌&&◌, ◌||◌, cond, List, [], ◌∷◌, ◌++◌, map, length, get_or, Some, None, refl, sym, ap, subst, inl, inr, ◌⊎◌, arith, append-nil}
+use Rattle.std.proofs.Common.{◌≡◌, ◌∙◌, ℕ, suc, ◌+◌, ◌≤◌, ◌==◌, Bool, true, false, ◌&&◌, ◌||◌, cond, List, [], ◌∷◌, ◌++◌, map, length, get_or, Some, None, refl, sym, ap, subst, inl, inr, ◌⊎◌, arith, append-nil}
 use Rattle.std.proofs.lemmas.Bool.Decides.{nat_tests}
 use Rattle.std.proofs.lemmas.List.{append_assoc}
 use Rattle.std.specs.declared.option.Option.{Option}
-use Rattle.std.specs.Option.{option_map, option_map_or, is_some}
+use Rattle.std.specs.Option.{option_map_or}
 use Rattle.std.specs.List.{filter, find, list_all, list_any}
 use Rattle.qp_chart.specs.declared.checked.Chart.{Chart}
 use Rattle.qp_model.specs.declared.stimulus.Stim.{Stim}
@@ -12,12 +12,11 @@ use Rattle.qp_model.specs.declared.systems.ObjectDef.{ObjectDef}
 use Rattle.qp_model.specs.declared.bodies.Body.{Body}
 use Rattle.qp_model.specs.declared.bodies.Body.TheVariants as body
 use Rattle.qp_model.specs.Record.{Item}
-use Rattle.qp_model.specs.Told.{Told, plain}
-use Rattle.qp_model.specs.Knowing.{Facts, told, known_of, records_of, ceiling_over}
+use Rattle.qp_model.specs.Knowing.{Facts, told, records_of, ceiling_over}
 use Rattle.qp_model.specs.Ends.{is_end, is_spill, spills_in}
 use Rattle.qp_model.specs.Kernels.{sim}
 use Rattle.qp_model.specs.Sites.{object_at}
-use Rattle.qp_model.specs.KernelLane.{Setting, threshold_of, floor_in, Reading, Upcoming, Inside, Looking, Chosen, Ended, Resting, Again, Over, Halted, role_of, Looks, Drops, lane_on, is_whole, is_over, unread}
+use Rattle.qp_model.specs.KernelLane.{Setting, threshold_of, Reading, Upcoming, Inside, Looking, Chosen, Ended, Resting, Again, Over, Halted, role_of, Looks, Drops, lane_on, is_whole, is_over, unread}
 use Rattle.qp_model.specs.OneOrder.{Placed, Turn, with_stimuli, parts_of_look, turns_at, acts_next, is_turn, begun, look_of, stim_of, is_stim_at, left_after, may_act, turned, all_empty, acted_last}
 use Rattle.qp_model.specs.Points.{pieces_in}
 use Rattle.qp_model.proofs.ListLemmas.{both_true}
@@ -27,11 +26,11 @@ use Rattle.qp_orders.proofs.MergeLemmas.{stimuli-append}
 use Rattle.qp_orders.specs.RunOrder.{placed, has_stim}
 use Rattle.qp_orders.specs.Placing.{look_item, all_placed, stim_item}
 use Rattle.qp_unique.proofs.KernelLemmas.{Slot, Starts, Runs, Releases, IsLook, IsSeen, IsTook, IsSpent, IsRest, IsOwned, item-is}
-use Rattle.qp_unique.proofs.LookLemmas.{begins, begun_in, up_to_stim, from_stim, stim-split, stim-first, begun-append, begun-up_to, same-front, StimFirst, LaneTurn, OneTurn, turnless, one-turn, look-free, look-stimulated, turns-none, turns-one, stim-at}
+use Rattle.qp_unique.proofs.LookLemmas.{begins, begun_in, up_to_stim, from_stim, stim-split, stim-first, begun-append, begun-up_to, same-front, StimFirst, turnless, one-turn, look-free, look-stimulated, turns-none, turns-one, stim-at}
 use Rattle.qp_unique.proofs.StackLemmas.{IsObject, stacked-first}
 use Rattle.qp_unique.proofs.AwayLemmas.{differs}
 use Rattle.qp_unique.proofs.StepLemmas.{over-none}
-use Rattle.qp_unique.proofs.ItemLemmas.{none-at, step, slot, order-here}
+use Rattle.qp_unique.proofs.ItemLemmas.{none-at, slot, order-here}
 use Rattle.qp_unique.proofs.PairLemmas.{same-item, swapped}
 use Rattle.qp_unique.proofs.SourceSteps.{lane_in-append, lane_in-own, lane_in-other, begun-is, place_of, place-after, stim-read, other-read, stim-some, stim-is, alone, alone-at, after-split, after-first, record-first}
 use Rattle.qp_model.proofs.KnowingLemmas.{records_of-append}
@@ -64,7 +63,7 @@ acts-place : (sys : System) (stimuli : List (List Stim)) (xs : List Placed) (bas
 unfolding acts_next
 acts-place sys stimuli xs base t h =
     let x = mapped (λ (x : ℕ × List Stim). record { source = x.0; place = begun xs x.0 + 1 })
-        (find (λ x. may_act (base && all_empty sys xs) x.1) (turned (acted_last 0 xs) (left_after xs stimuli))) t h in
+    (find (λ x. may_act (base && all_empty sys xs) x.1) (turned (acted_last 0 xs) (left_after xs stimuli))) t h in
     let place : t.place ≡ begun xs x.0.0 + 1 = ap (λ (z : Turn). z.place) (sym x.2) in
     let source : t.source ≡ x.0.0 = ap (λ (z : Turn). z.source) (sym x.2) in
     place ∙ ap (λ j. begun xs j + 1) (sym source)
@@ -74,7 +73,7 @@ fronts-same : (one rest before : List Item) (stim : Item) (behind : List Item) �
     → (one ≡ before) × (rest ≡ stim ∷ behind)
 fronts-same one [] before stim behind is first stim_is counts =
     let whole : begun_in one ≡ begun_in before + begun_in (stim ∷ behind) =
-        ap begun_in (sym (append-nil one) ∙ is) ∙ begun-append before (stim ∷ behind) in
+    ap begun_in (sym (append-nil one) ∙ is) ∙ begun-append before (stim ∷ behind) in
     let more : begun_in (stim ∷ behind) ≡ 1 + begun_in behind = rw stim_is refl in
     absurd (omega (arith, whole, more, counts))
 fronts-same one (y ∷ rest) before stim behind is first stim_is counts =
@@ -182,16 +181,16 @@ module _ (sys : System) (charts : (p : ℕ) (d : ObjectDef) → object_at sys p 
         let own = a.source one.front one.own one.back one.are in
         let alone_own = alone-at it.before it.stim it.behind (subst alone it.is own.0) in
         let read : source_after sys sim (Some (Between 1 (get_or stimuli m []))) (records_of a.w 0 0 (it.before ++ it.stim ∷ it.behind)) ≡ Some own.1 =
-            subst (λ l. source_after sys sim (Some (Between 1 (get_or stimuli m []))) (records_of a.w 0 0 l) ≡ Some own.1) it.is own.3 in
+        subst (λ l. source_after sys sim (Some (Between 1 (get_or stimuli m []))) (records_of a.w 0 0 l) ≡ Some own.1) it.is own.3 in
         let split = after-split sys (Between 1 (get_or stimuli m [])) own.1 (records_of a.w 0 0 it.before) (records_of a.w 0 (ceiling_over 0 it.before) (it.stim ∷ it.behind))
-            (subst (λ ts. source_after sys sim (Some (Between 1 (get_or stimuli m []))) ts ≡ Some own.1) (records_of-append a.w 0 0 it.before (it.stim ∷ it.behind)) read) in
+        (subst (λ ts. source_after sys sim (Some (Between 1 (get_or stimuli m []))) ts ≡ Some own.1) (records_of-append a.w 0 0 it.before (it.stim ∷ it.behind)) read) in
         let next = after-first sys split.0 own.1 (told a.w 0 (ceiling_over 0 it.before) it.stim.body) _
-            (subst (λ ts. source_after sys sim (Some split.0) ts ≡ Some own.1) (record-first a.w (ceiling_over 0 it.before) it.stim it.behind alone_own.0) split.2) in
+        (subst (λ ts. source_after sys sim (Some split.0) ts ≡ Some own.1) (record-first a.w (ceiling_over 0 it.before) it.stim it.behind alone_own.0) split.2) in
         let stim_body : it.stim.body ≡ body.Stim turns.0.place n = stim-is it.stim.body turns.0.place n it.begins_it in
         let reads = stim-read sys a.w (ceiling_over 0 it.before) split.0 next.0 turns.0.place n
-            (subst (λ d. source_next sys sim split.0 (told a.w 0 (ceiling_over 0 it.before) d) ≡ Some next.0) stim_body next.1) in
+        (subst (λ d. source_next sys sim split.0 (told a.w 0 (ceiling_over 0 it.before) d) ≡ Some next.0) stim_body next.1) in
         let placed_at : place_of split.0 ≡ 1 + begun_in it.before =
-            place-after sys a.w 0 (Between 1 (get_or stimuli m [])) split.0 it.before (alone-front it.before (it.stim ∷ it.behind) (subst alone it.is own.0)) split.1 in
+        place-after sys a.w 0 (Between 1 (get_or stimuli m [])) split.0 it.before (alone-front it.before (it.stim ∷ it.behind) (subst alone it.is own.0)) split.1 in
         let front = fronts one.front one.own one.back one.are in
         let first : begins it.stim ≡ true = rw it.begins_it refl in
         let so_many : t.place ≡ begun xs t.source + 1 = acts-place sys stimuli xs (floor == 0) t acts in
@@ -202,19 +201,22 @@ module _ (sys : System) (charts : (p : ℕ) (d : ObjectDef) → object_at sys p 
         let same = fronts-same (lane_in xs (1 + m)) front.rest it.before it.stim it.behind (sym front.is ∙ it.is) front.first first counts in
         let whole : it.stim ≡ stim_item t.place n = item-is it.stim 0 _ alone_own.0 (stim_body ∙ ap (λ p. body.Stim p n) turn_place) in
         let unspilt : spills_in it.behind ≡ false =
-            (none-at (λ i. is_spill i.body) it.before it.stim it.behind (subst (λ l. spills_in l ≡ false) it.is (a.unspilt_sources one.front one.own one.back one.are))).1 in
-        (m, source, record {
-          before = one.front;
-          lane = one.own;
-          behind = one.back;
-          are = one.are;
-          at = refl;
-          more = it.behind;
-          is = it.is ∙ ap (λ l. l ++ it.stim ∷ it.behind) (sym same.0) ∙ ap (λ x. lane_in xs (1 + m) ++ x ∷ it.behind) whole;
-          parts = look-stimulated n a.cuts a.sources turns.0 one unspilt ∙ ap (λ x. all_placed (1 + m) (x ∷ up_to_stim it.behind)) whole;
-          has_it = a.has_is n ∙ ap (λ ls. has_stim ls n) one.are
-              ∙ any-lane n one.front one.own one.back (ap (list_any (λ i. is_stim_at n i.body)) it.is ∙ stim-any n it.before it.stim it.behind turns.0.place it.begins_it);
-        })
+        (none-at (λ i. is_spill i.body) it.before it.stim it.behind (subst (λ l. spills_in l ≡ false) it.is (a.unspilt_sources one.front one.own one.back one.are))).1 in (
+          m,
+          source,
+          record {
+            before = one.front;
+            lane = one.own;
+            behind = one.back;
+            are = one.are;
+            at = refl;
+            more = it.behind;
+            is = it.is ∙ ap (λ l. l ++ it.stim ∷ it.behind) (sym same.0) ∙ ap (λ x. lane_in xs (1 + m) ++ x ∷ it.behind) whole;
+            parts = look-stimulated n a.cuts a.sources turns.0 one unspilt ∙ ap (λ x. all_placed (1 + m) (x ∷ up_to_stim it.behind)) whole;
+            has_it = a.has_is n ∙ ap (λ ls. has_stim ls n) one.are
+                ∙ any-lane n one.front one.own one.back (ap (list_any (λ i. is_stim_at n i.body)) it.is ∙ stim-any n it.before it.stim it.behind turns.0.place it.begins_it);
+          },
+        )
 
   -- the records of a lane, behind a record of lane 0 and some of one source
   lane-with : (xs : List Placed) (i : Item) (m : ℕ) (gs : List Item) (j : ℕ) → (j ≡ 0 → ⊥) → lane_in (xs ++ placed 0 i ∷ all_placed (1 + m) gs) j ≡ lane_in xs j ++ lane_in (all_placed (1 + m) gs) j
@@ -251,14 +253,15 @@ module _ (sys : System) (charts : (p : ℕ) (d : ObjectDef) → object_at sys p 
     on-plain : ((n floor : ℕ) → i.body ≡ body.Look n floor → a.has n ≡ b.has n)
         → option_map_or (λ (l : ℕ × ℕ). parts_of_look 1 l.0 a.cuts a.sources) (look_of i.body) [] ≡ []
         → option_map_or (λ (l : ℕ × ℕ). parts_of_look 1 l.0 b.cuts b.sources) (look_of i.body) [] ≡ [] → Further
-    on-plain new none_a none_b =
-        (xs ++ placed 0 i ∷ [],
-        extended sys charts stimuli budget bounded positive a b xs front i la lb k g new (xs ++ placed 0 i ∷ [])
-        (order-here sys charts stimuli budget bounded positive a xs front i la k g.one ∙ ap (λ ps. xs ++ placed 0 i ∷ (ps ++ with_stimuli a.cuts a.sources la)) none_a ∙ sym (append_assoc xs (placed 0 i ∷ []) _))
-        (order-here sys charts stimuli budget bounded positive b xs front i lb k g.two ∙ ap (λ ps. xs ++ placed 0 i ∷ (ps ++ with_stimuli b.cuts b.sources lb)) none_b ∙ sym (append_assoc xs (placed 0 i ∷ []) _))
-        (λ before l behind is. fronts-on (1 + length before) l (above-zero (length before)) (g.one.fronts before l behind is))
-        (λ before l behind is. fronts-on (1 + length before) l (above-zero (length before)) (g.two.fronts before l behind is))
-        (λ j some. ap (records_of a.w 0 0) (stays j some) ∙ g.told_so j some ∙ ap (records_of b.w 0 0) (sym (stays j some))))
+    on-plain new none_a none_b = (
+      xs ++ placed 0 i ∷ [],
+      extended sys charts stimuli budget bounded positive a b xs front i la lb k g new (xs ++ placed 0 i ∷ [])
+          (order-here sys charts stimuli budget bounded positive a xs front i la k g.one ∙ ap (λ ps. xs ++ placed 0 i ∷ (ps ++ with_stimuli a.cuts a.sources la)) none_a ∙ sym (append_assoc xs (placed 0 i ∷ []) _))
+          (order-here sys charts stimuli budget bounded positive b xs front i lb k g.two ∙ ap (λ ps. xs ++ placed 0 i ∷ (ps ++ with_stimuli b.cuts b.sources lb)) none_b ∙ sym (append_assoc xs (placed 0 i ∷ []) _))
+          (λ before l behind is. fronts-on (1 + length before) l (above-zero (length before)) (g.one.fronts before l behind is))
+          (λ before l behind is. fronts-on (1 + length before) l (above-zero (length before)) (g.two.fronts before l behind is))
+          (λ j some. ap (records_of a.w 0 0) (stays j some) ∙ g.told_so j some ∙ ap (records_of b.w 0 0) (sym (stays j some))),
+    )
       where
         stays : (j : ℕ) → (j ≡ 0 → ⊥) → lane_in (xs ++ placed 0 i ∷ []) j ≡ lane_in xs j
         stays j some = lane-with xs i 0 [] j some ∙ append-nil (lane_in xs j)
@@ -276,21 +279,22 @@ module _ (sys : System) (charts : (p : ℕ) (d : ObjectDef) → object_at sys p 
         let parts_a = part a la g.one sa in
         let parts_b = part b lb g.two sb in
         let told_done : records_of a.w 0 0 done ≡ records_of b.w 0 0 done =
-            told-on sys charts stimuli budget a.w (lane_in xs (1 + m)) st refl ∙ ap (λ ts. ts ++ told a.w 0 (ceiling_over 0 (lane_in xs (1 + m))) (body.Stim place n) ∷ []) (g.told_so (1 + m) (above-zero m))
-            ∙ sym (told-on sys charts stimuli budget b.w (lane_in xs (1 + m)) st refl) in
+        told-on sys charts stimuli budget a.w (lane_in xs (1 + m)) st refl ∙ ap (λ ts. ts ++ told a.w 0 (ceiling_over 0 (lane_in xs (1 + m))) (body.Stim place n) ∷ []) (g.told_so (1 + m) (above-zero m))
+        ∙ sym (told-on sys charts stimuli budget b.w (lane_in xs (1 + m)) st refl) in
         let same = same-part sys charts stimuli budget a b m (up_to_stim sa.more) (up_to_stim sb.more) start done parts_a parts_b told_done in
         let gs = st ∷ up_to_stim sa.more in
         let ends : st ∷ up_to_stim sb.more ≡ gs = ap (λ us. st ∷ us) (sym same.0) in
-        let ys = xs ++ placed 0 i ∷ all_placed (1 + m) gs in
-        (ys,
-        extended sys charts stimuli budget bounded positive a b xs front i la lb k g (λ n2 fl e. new n2 fl e) ys
-        (ordered a la g.one sa ∙ sym (append_assoc xs (placed 0 i ∷ all_placed (1 + m) gs) _))
-        (ordered b lb g.two sb ∙ ap (λ us. xs ++ placed 0 i ∷ (all_placed (1 + m) us ++ with_stimuli b.cuts b.sources lb)) ends ∙ sym (append_assoc xs (placed 0 i ∷ all_placed (1 + m) gs) _))
-        (λ before l behind is. front-on a sa gs refl before l behind is (g.one.fronts before l behind is))
-        (λ before l behind is. front-on b sb gs ends before l behind is (g.two.fronts before l behind is))
-        (λ j some. told-at j some gs
-            (subst (λ l. records_of a.w 0 0 l ≡ records_of b.w 0 0 l) (append_assoc (lane_in xs (1 + m)) (st ∷ []) (up_to_stim sa.more))
-            (same.1 ∙ ap (λ us. records_of b.w 0 0 (done ++ us)) (sym same.0)))))
+        let ys = xs ++ placed 0 i ∷ all_placed (1 + m) gs in (
+          ys,
+          extended sys charts stimuli budget bounded positive a b xs front i la lb k g (λ n2 fl e. new n2 fl e) ys
+              (ordered a la g.one sa ∙ sym (append_assoc xs (placed 0 i ∷ all_placed (1 + m) gs) _))
+              (ordered b lb g.two sb ∙ ap (λ us. xs ++ placed 0 i ∷ (all_placed (1 + m) us ++ with_stimuli b.cuts b.sources lb)) ends ∙ sym (append_assoc xs (placed 0 i ∷ all_placed (1 + m) gs) _))
+              (λ before l behind is. front-on a sa gs refl before l behind is (g.one.fronts before l behind is))
+              (λ before l behind is. front-on b sb gs ends before l behind is (g.two.fronts before l behind is))
+              (λ j some. told-at j some gs
+              (subst (λ l. records_of a.w 0 0 l ≡ records_of b.w 0 0 l) (append_assoc (lane_in xs (1 + m)) (st ∷ []) (up_to_stim sa.more))
+              (same.1 ∙ ap (λ us. records_of b.w 0 0 (done ++ us)) (sym same.0)))),
+        )
       where
         look_is : look_of i.body ≡ Some (n, floor)
         look_is = ap (λ (x : Item). look_of x.body) look
@@ -335,7 +339,7 @@ module _ (sys : System) (charts : (p : ℕ) (d : ObjectDef) → object_at sys p 
                 let size : length before ≡ m = grind (arith, nat_tests) in
                 let lane : sc.lane ≡ l = split-same sc.before before sc.lane l sc.behind behind (sym sc.are ∙ is) (sc.at ∙ sym size) in
                 let whole : l ≡ lane_in xs (1 + m) ++ (gs ++ from_stim sc.more) =
-                    sym lane ∙ sc.is ∙ ap (λ us. lane_in xs (1 + m) ++ stim_item place n ∷ us) (sym (stim-split sc.more)) ∙ ap (λ us. lane_in xs (1 + m) ++ (us ++ from_stim sc.more)) ends in
+                sym lane ∙ sc.is ∙ ap (λ us. lane_in xs (1 + m) ++ stim_item place n ∷ us) (sym (stim-split sc.more)) ∙ ap (λ us. lane_in xs (1 + m) ++ (us ++ from_stim sc.more)) ends in
                 subst (λ x. IsFront (xs ++ placed 0 i ∷ all_placed (1 + m) gs) (1 + x) l) (sym size)
                 (record {
                   rest = from_stim sc.more;
@@ -413,7 +417,7 @@ module _ (sys : System) (charts : (p : ℕ) (d : ObjectDef) → object_at sys p 
       last : a.last ≡ k
       last =
           let one : Some a.last ≡ Some k =
-              sym a.read ∙ ap (lane_on (in_sim sys a.has) (unread sys)) (g.one.lane ∙ append-nil front) ∙ g.one.read in
+          sym a.read ∙ ap (lane_on (in_sim sys a.has) (unread sys)) (g.one.lane ∙ append-nil front) ∙ g.one.read in
           cc
 
       over : (place : Upcoming) → is_over sim place ≡ true → place ≡ Over
@@ -440,7 +444,7 @@ module _ (sys : System) (charts : (p : ℕ) (d : ObjectDef) → object_at sys p 
           let whole : order_of sys charts stimuli budget a ≡ xs = g.one.order ∙ append-nil xs in
           let one : list_any (λ z. is_end z.item.body) xs ≡ true = subst (λ ys. list_any (λ z. is_end z.item.body) ys ≡ true) whole some in
           let two : list_any (λ z. is_end z.item.body) xs ≡ false =
-              b.ends xs (placed 0 ib) _ (order-here sys charts stimuli budget bounded positive b xs front ib lb k g.two) in
+          b.ends xs (placed 0 ib) _ (order-here sys charts stimuli budget bounded positive b xs front ib lb k g.two) in
           let no : true ≡ false = sym one ∙ two in
           cc
 
@@ -476,7 +480,7 @@ module _ (sys : System) (charts : (p : ℕ) (d : ObjectDef) → object_at sys p 
           let source = c.source before (i ∷ l) behind is in
           let at = alone-at [] i l own in
           let next = after-first sys (Between 1 (get_or stimuli (length before) [])) source.1 (told c.w 0 0 i.body) _
-              (subst (λ ts. source_after sys sim (Some (Between 1 (get_or stimuli (length before) []))) ts ≡ Some source.1) (record-first c.w 0 i l at.0) source.3) in
+          (subst (λ ts. source_after sys sim (Some (Between 1 (get_or stimuli (length before) []))) ts ≡ Some source.1) (record-first c.w 0 i l at.0) source.3) in
           first-stim sys c.w i next.0 (get_or stimuli (length before) []) next.1
 
       first : (c : Side sys charts stimuli budget) → Along sys charts stimuli budget c [] [] c.lane0 (unread sys)
@@ -513,13 +517,13 @@ module _ (sys : System) (charts : (p : ℕ) (d : ObjectDef) → object_at sys p 
         let start = Between 1 (get_or stimuli (length before) []) in
         let own = alone-at front st more (subst alone split source.0) in
         let read : source_after sys sim (Some start) (records_of a.w 0 0 (front ++ st ∷ more)) ≡ Some source.1 =
-            subst (λ x. source_after sys sim (Some start) (records_of a.w 0 0 x) ≡ Some source.1) split source.3 in
+        subst (λ x. source_after sys sim (Some start) (records_of a.w 0 0 x) ≡ Some source.1) split source.3 in
         let two = after-split sys start source.1 (records_of a.w 0 0 front) (records_of a.w 0 (ceiling_over 0 front) (st ∷ more))
-            (subst (λ ts. source_after sys sim (Some start) ts ≡ Some source.1) (records_of-append a.w 0 0 front (st ∷ more)) read) in
+        (subst (λ ts. source_after sys sim (Some start) ts ≡ Some source.1) (records_of-append a.w 0 0 front (st ∷ more)) read) in
         let next = after-first sys two.0 source.1 (told a.w 0 (ceiling_over 0 front) st.body) _
-            (subst (λ ts. source_after sys sim (Some two.0) ts ≡ Some source.1) (record-first a.w (ceiling_over 0 front) st more own.0) two.2) in
+        (subst (λ ts. source_after sys sim (Some two.0) ts ≡ Some source.1) (record-first a.w (ceiling_over 0 front) st more own.0) two.2) in
         let reads = stim-read sys a.w (ceiling_over 0 front) two.0 next.0 p n
-            (subst (λ d. source_next sys sim two.0 (told a.w 0 (ceiling_over 0 front) d) ≡ Some next.0) stim next.1) in
+        (subst (λ d. source_next sys sim two.0 (told a.w 0 (ceiling_over 0 front) d) ≡ Some next.0) stim next.1) in
         let place : place_of two.0 ≡ 1 + begun_in front = place-after sys a.w 0 start two.0 front (alone-front front (st ∷ more) (subst alone split source.0)) two.1 in
         reads.0 ∙ place
 
@@ -533,9 +537,9 @@ module _ (sys : System) (charts : (p : ℕ) (d : ObjectDef) → object_at sys p 
         let n = stim.1 in
         let xs = with_stimuli a.cuts a.sources look.0 in
         let order : order_of sys charts stimuli budget a ≡ xs ++ placed 0 (look_item n look.1) ∷ (parts_of_look 1 n a.cuts a.sources ++ with_stimuli a.cuts a.sources look.2) =
-            ap (with_stimuli a.cuts a.sources) look.3 ∙ stimuli-append a.cuts a.sources look.0 (look_item n look.1 ∷ look.2) in
+        ap (with_stimuli a.cuts a.sources) look.3 ∙ stimuli-append a.cuts a.sources look.0 (look_item n look.1 ∷ look.2) in
         let here : list_any (λ i. is_stim_at n i.body) l ≡ true =
-            ap (list_any (λ i. is_stim_at n i.body)) split ∙ stim-any n front st more stim.0 (ap stim_of stim.2) in
+        ap (list_any (λ i. is_stim_at n i.body)) split ∙ stim-any n front st more stim.0 (ap stim_of stim.2) in
         let some : has_stim a.sources n ≡ true = ap (λ ls. has_stim ls n) is ∙ any-lane n before l behind here in
         by n look.1 xs _ order stim.0 stim.2 here some (acts_next sys stimuli xs (look.1 == 0)) refl
       where
@@ -560,17 +564,17 @@ module _ (sys : System) (charts : (p : ℕ) (d : ObjectDef) → object_at sys p 
             let so_many : begun xs t.source ≡ begun_in (lane_in xs (1 + length before)) = begun-is xs t.source ∙ ap (λ j. begun_in (lane_in xs j)) (sym source) in
             let number : p ≡ 1 + begun_in front = place-in before l behind is front st more split p n stim in
             let unspilt : spills_in it.behind ≡ false =
-                (none-at (λ i. is_spill i.body) it.before it.stim it.behind (subst (λ x. spills_in x ≡ false) it.is (a.unspilt_sources one.front one.own one.back one.are))).1 in
+            (none-at (λ i. is_spill i.body) it.before it.stim it.behind (subst (λ x. spills_in x ≡ false) it.is (a.unspilt_sources one.front one.own one.back one.are))).1 in
             let parts : parts_of_look 1 n a.cuts a.sources ≡ all_placed (1 + length before) (it.stim ∷ up_to_stim it.behind) =
-                look-stimulated n a.cuts a.sources turns.0 one unspilt ∙ ap (λ k. all_placed (1 + k) (it.stim ∷ up_to_stim it.behind)) (sym lanes.0) in
+            look-stimulated n a.cuts a.sources turns.0 one unspilt ∙ ap (λ k. all_placed (1 + k) (it.stim ∷ up_to_stim it.behind)) (sym lanes.0) in
             let lane : lane_in (order_of sys charts stimuli budget a) (1 + length before) ≡ lane_in xs (1 + length before) ++ ((it.stim ∷ up_to_stim it.behind) ++ lane_in ys (1 + length before)) =
-                ap (λ zs. lane_in zs (1 + length before)) order
-                ∙ ap (λ ps. lane_in (xs ++ placed 0 (look_item n floor) ∷ (ps ++ ys)) (1 + length before)) parts
-                ∙ lane-through xs (look_item n floor) (length before) (it.stim ∷ up_to_stim it.behind) ys in
+            ap (λ zs. lane_in zs (1 + length before)) order
+            ∙ ap (λ ps. lane_in (xs ++ placed 0 (look_item n floor) ∷ (ps ++ ys)) (1 + length before)) parts
+            ∙ lane-through xs (look_item n floor) (length before) (it.stim ∷ up_to_stim it.behind) ys in
             let first_it : begins it.stim ≡ true = rw it.begins_it refl in
             let more_begun : begun_in (lane_in (order_of sys charts stimuli budget a) (1 + length before))
-                ≡ begun_in (lane_in xs (1 + length before)) + begun_in ((it.stim ∷ up_to_stim it.behind) ++ lane_in ys (1 + length before)) =
-                ap begun_in lane ∙ begun-append (lane_in xs (1 + length before)) _ in
+            ≡ begun_in (lane_in xs (1 + length before)) + begun_in ((it.stim ∷ up_to_stim it.behind) ++ lane_in ys (1 + length before)) =
+            ap begun_in lane ∙ begun-append (lane_in xs (1 + length before)) _ in
             let at_least : begun_in ((it.stim ∷ up_to_stim it.behind) ++ lane_in ys (1 + length before)) ≡ 1 + begun_in (up_to_stim it.behind ++ lane_in ys (1 + length before)) = rw first_it refl in
             let fronts : begun_in front ≡ begun_in (lane_in (order_of sys charts stimuli budget a) (1 + length before)) = ap begun_in whole in
             omega (arith, number, place, acted, so_many, more_begun, at_least, fronts, turns.3)

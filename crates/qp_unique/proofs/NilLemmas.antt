@@ -1,5 +1,5 @@
 -- In the shape of an object without a thread of its own no queue is found empty.
-use Rattle.std.proofs.Common.{◌≡◌, ◌∙◌, ℕ, max, Bool, true, false, not, ◌&&◌, ◌||◌, List, [], ◌∷◌, ◌++◌, refl, sym, ap, subst, inl, inr, ◌⊎◌, Some, None}
+use Rattle.std.proofs.Common.{◌≡◌, ℕ, Bool, true, false, not, ◌&&◌, ◌||◌, List, [], ◌∷◌, ◌++◌, refl, sym, subst, inl, inr, Some, None}
 use Rattle.std.specs.Bool.{MatchBool}
 use Rattle.std.specs.declared.option.Option.{Option}
 use Rattle.std.specs.List.{list_all}
@@ -7,14 +7,14 @@ use Rattle.qp_model.specs.declared.systems.System.{System}
 use Rattle.qp_model.specs.declared.bodies.Entry.{Entry}
 use Rattle.qp_model.specs.declared.bodies.Body.{Body}
 use Rattle.qp_model.specs.declared.bodies.Body.TheVariants as item
-use Rattle.qp_model.specs.Told.{Told, plain, raised}
-use Rattle.qp_model.specs.Calls.{Call, Answer, is_assertion}
+use Rattle.qp_model.specs.Told.{Told}
+use Rattle.qp_model.specs.Calls.{Answer, is_assertion}
 use Rattle.qp_model.specs.Sequence.{Sequence, EachPart, joined}
 use Rattle.qp_model.specs.Shapes.{Drops}
 use Rattle.qp_model.specs.Groups.{is_move, IsAction, SaysValue, MakesCall, Actions, IsGroup, IsMove, IsAct, IsLocked, Groups, IsLast, Asserts, Stops, StopsInPublication, BreaksOff, Plainly, UnderCeiling}
-use Rattle.qp_model.specs.ObjectShape.{StartGroup, BrokenStart, is_head, StepHead, StepGroup, BrokenStep, IsTurn, Dispatches, FindsEmpty, LooksOnly, IsTail, Ends, OutOfBudget, BreaksStep, ObjectGroups, CutGroups, is_assert}
+use Rattle.qp_model.specs.ObjectShape.{StartGroup, BrokenStart, is_head, StepHead, StepGroup, BrokenStep, IsTurn, Dispatches, FindsEmpty, LooksOnly, IsTail, Ends, OutOfBudget, BreaksStep, ObjectGroups, CutGroups}
 use Rattle.qp_model.specs.Course.{Cut, Whole, Stopped, Anywhere}
-use Rattle.qp_model.proofs.FitsLemmas.{is_calm, is_deferral, Calm, Usual, usual, assertion_of, Ending, Answers, calm-drops, any-usual, all-append}
+use Rattle.qp_model.proofs.FitsLemmas.{is_calm, is_deferral, Usual, usual, assertion_of, Ending, Answers, calm-drops, any-usual, all-append}
 
 abbrev pub is_nil : Body → Bool
 is_nil (item.Nil f l m) = true

@@ -1,8 +1,7 @@
 -- Two runs that have come equally far go on by the same record of lane 0.
-use Rattle.std.proofs.Common.{◌≡◌, ◌∙◌, ℕ, zero, suc, ◌+◌, ◌<◌, ◌≤◌, ◌==◌, nat_lt, nat_le, Bool, true, false, not, ◌&&◌, ◌||◌, cond, List, [], ◌∷◌, ◌++◌, map, length, Some, None, refl, sym, ap, subst, inl, inr, ◌⊎◌, arith, append-nil}
+use Rattle.std.proofs.Common.{◌≡◌, ◌∙◌, ℕ, ◌+◌, ◌<◌, ◌≤◌, ◌==◌, true, false, not, List, [], ◌∷◌, ◌++◌, Some, None, refl, sym, ap, subst, inl, inr, ◌⊎◌, arith, append-nil}
 use Rattle.std.proofs.lemmas.Bool.Decides.{nat_tests}
 use Rattle.std.specs.declared.option.Option.{Option}
-use Rattle.std.specs.Option.{is_some}
 use Rattle.std.specs.List.{count_by, AllByRecursion}
 use Rattle.qp_chart.specs.declared.checked.Chart.{Chart}
 use Rattle.qp_model.specs.declared.stimulus.Stim.{Stim}
@@ -14,30 +13,27 @@ use Rattle.qp_model.specs.declared.bodies.Body.TheVariants as body
 use Rattle.qp_model.specs.Record.{Item}
 use Rattle.qp_model.specs.Told.{Told}
 use Rattle.qp_model.specs.Knowing.{Facts, told, known_of}
-use Rattle.qp_model.specs.Ends.{is_turn_mark, spills_in}
+use Rattle.qp_model.specs.Ends.{is_turn_mark}
 use Rattle.qp_model.specs.End.{takes_of}
 use Rattle.qp_model.specs.Kernels.{sim}
 use Rattle.qp_model.specs.Sites.{object_at}
-use Rattle.qp_model.specs.WordLaw.{is_object}
 use Rattle.qp_model.specs.Line.{Line, counts_are}
 use Rattle.qp_model.specs.Pieces.{Piece, Tell, Point, ends_at_point}
-use Rattle.qp_model.specs.Acts.{Actor}
 use Rattle.qp_model.specs.Course.{actor, first_config}
-use Rattle.qp_model.specs.KernelLane.{Role, Drops, Looks, role_of, Setting, threshold_of, floor_in, Upcoming, Inside, Looking, Chosen, Ended, Resting, Again, Over, Halted, Reading, lane_next, lane_on, unread}
-use Rattle.qp_model.specs.Points.{pieces_at, pieces_in, is_look, begins_row}
+use Rattle.qp_model.specs.KernelLane.{Drops, Looks, role_of, Setting, threshold_of, floor_in, Upcoming, Inside, Looking, Chosen, Ended, Resting, Again, Over, Halted, Reading, unread}
+use Rattle.qp_model.specs.Points.{pieces_at, pieces_in, begins_row}
 use Rattle.qp_model.specs.OneOrder.{Placed}
-use Rattle.qp_course.specs.Machine.{State, start_state, run, next as piece_next, tell_next, is_end as is_end_of_course, expects_point}
+use Rattle.qp_course.specs.Machine.{State, start_state, run, next as piece_next, tell_next}
 use Rattle.qp_orders.specs.RunOrder.{placed}
-use Rattle.qp_orders.specs.Placing.{look_item}
-use Rattle.qp_unique.specs.Held.{Held, Comes, comes_next}
+use Rattle.qp_unique.specs.Held.{Held, comes_next}
 use Rattle.qp_unique.specs.NextInCourse.{piece_told, PieceComes}
 use Rattle.qp_unique.proofs.CourseLemmas.{course_goes_on_alone}
 use Rattle.qp_unique.proofs.KernelLemmas.{Slot, Starts, Runs, Releases, IsLook, IsSeen, IsTook, IsSpent, IsRest, IsOwned, item-is}
-use Rattle.qp_unique.proofs.StackLemmas.{Stacked, IsObject, Below, Descends, PlaceStacked, NotOf, Away, away-looked, below-not}
+use Rattle.qp_unique.proofs.StackLemmas.{IsObject, Below, Descends, PlaceStacked, NotOf, Away, away-looked, below-not}
 use Rattle.qp_unique.proofs.AwayLemmas.{differs, away-pieces, BeginsTook, MustRelease, must-release}
 use Rattle.qp_unique.proofs.StepLemmas.{starts-only, runs-only, ended-only, look-only, seen-only, chosen-only, rest-only, over-none, LookHere}
-use Rattle.qp_unique.proofs.ItemLemmas.{run-first, named, step, unspilt-here, slot, order-here, comes-here, course-here, own-unmarked, tells-at, told-next}
-use Rattle.qp_unique.proofs.Sides.{Side, Along, Agree, in_sim, order_of, held_to, MayEnd}
+use Rattle.qp_unique.proofs.ItemLemmas.{run-first, named, step, unspilt-here, slot, order-here, comes-here, course-here, own-unmarked, told-next}
+use Rattle.qp_unique.proofs.Sides.{Side, Agree, in_sim, order_of, held_to, MayEnd}
 
 -- a look behind the release of p leaves p with no step under way
 away-after : (s : Setting) (k next : Reading) (i : Item) (p : ℕ) → Slot s k next i → k.place ≡ Ended p → (role_of i.body ≡ Drops → ⊥) → NotOf k.running p → k.unstarted ≡ [] → Away p next
@@ -77,7 +73,7 @@ left sys d chart w s one two end p some before more must same went may tail (inl
     let stays : run sys (actor d chart) two [] ≡ Some end = subst (λ ps. run sys (actor d chart) two ps ≡ Some end) none went in
     let last : end ≡ one = sym (some-is stays) ∙ same in
     let ends : MayEnd (ends_at_point before) one =
-        subst (λ z. MayEnd (ends_at_point before) z) last (subst (λ ps. MayEnd (ends_at_point ps) end) (append-nil before) (subst (λ ps. MayEnd (ends_at_point (before ++ ps)) end) none may)) in
+    subst (λ z. MayEnd (ends_at_point before) z) last (subst (λ ps. MayEnd (ends_at_point ps) end) (append-nil before) (subst (λ ps. MayEnd (ends_at_point (before ++ ps)) end) none may)) in
     by ends
   where
     by : MayEnd (ends_at_point before) one → ⊥
@@ -88,7 +84,7 @@ left sys d chart w s one two end p some before more must same went may tail (inr
     let moved = subst (λ ps. run sys (actor d chart) two ps ≡ Some end) took went in
     let later = run-first sys (actor d chart) two end (Tell (told w p c (body.Took f l m e))) rest moved in
     let next : tell_next sys (actor d chart) one (told w p c (body.Took f l m e)) ≡ Some later.0 =
-        subst (λ z. tell_next sys (actor d chart) z (told w p c (body.Took f l m e)) ≡ Some later.0) same later.1 in
+    subst (λ z. tell_next sys (actor d chart) z (told w p c (body.Took f l m e)) ≡ Some later.0) same later.1 in
     let no : None ≡ Some later.0 = sym (must.untaken f l m e (known_of w p c (body.Took f l m e))) ∙ next in
     cc
 
@@ -116,10 +112,10 @@ module _ (sys : System) (charts : (p : ℕ) (d : ObjectDef) → object_at sys p 
         let one = told-next sys charts stimuli budget bounded positive a xs front ia la k g.one p d.0 d.1 d.2 ofa unmarked_a in
         let two = told-next sys charts stimuli budget bounded positive b xs front ib lb k g.two p d.0 d.1 d.2 ofb unmarked_b in
         let mids : Some one.0 ≡ Some two.0 =
-            sym one.1 ∙ ap (run sys (actor d.0 (charts p d.0 d.1)) (start_state (actor d.0 (charts p d.0 d.1)) (first_config d.0))) (g.pieces p) ∙ two.1 in
+        sym one.1 ∙ ap (run sys (actor d.0 (charts p d.0 d.1)) (start_state (actor d.0 (charts p d.0 d.1)) (first_config d.0))) (g.pieces p) ∙ two.1 in
         let same : one.0 ≡ two.0 = some-is mids in
         let told_both : Some (Tell (told a.w p k.ceiling ia.body)) ≡ Some (Tell (told b.w p k.ceiling ib.body)) =
-            sym one.2 ∙ ap (piece_told sys held (actor d.0 (charts p d.0 d.1))) same ∙ two.2 in
+        sym one.2 ∙ ap (piece_told sys held (actor d.0 (charts p d.0 d.1))) same ∙ two.2 in
         let whole : told a.w p k.ceiling ia.body ≡ told b.w p k.ceiling ib.body = tell-is (some-is told_both) in
         item-is ia ib.of ib.body (ofa ∙ sym ofb) (ap (λ (t : Told). t.body) whole)
 
@@ -136,7 +132,7 @@ module _ (sys : System) (charts : (p : ℕ) (d : ObjectDef) → object_at sys p 
         let begins : begins_row p k.place k.running true ≡ true = rw (at, runs) self in
         let point : pieces_at b.w p k ib ≡ Point ∷ [] = ap (pieces_at b.w p k) look ∙ rw (other, begins) refl in
         let mids : Some one.0 ≡ Some two.0 =
-            sym one.1 ∙ ap (run_of sys d.0 (charts p d.0 d.1)) (g.pieces p) ∙ two.2 in
+        sym one.1 ∙ ap (run_of sys d.0 (charts p d.0 d.1)) (g.pieces p) ∙ two.2 in
         let same : two.0 ≡ one.0 = sym (some-is mids) in
         let first = subst (λ ps. run sys (actor d.0 (charts p d.0 d.1)) two.0 (ps ++ pieces_in b.w (in_sim sys b.has) p (step sys charts stimuli budget bounded positive b xs front ib lb k g.two).0 lb) ≡ Some two.1) point two.3 in
         let later = run-first sys (actor d.0 (charts p d.0 d.1)) two.0 two.1 Point _ first in
@@ -154,7 +150,7 @@ module _ (sys : System) (charts : (p : ℕ) (d : ObjectDef) → object_at sys p 
         let one = told-next sys charts stimuli budget bounded positive a xs front ia la k g.one p d.0 d.1 d.2 of unmarked in
         let two = course-here sys charts stimuli budget bounded positive b xs front ib lb k g.two p d.0 d.1 in
         let must : MustRelease sys (actor d.0 (charts p d.0 d.1)) one.0 =
-            must-release sys (actor d.0 (charts p d.0 d.1)) one.0 one.3.0 (told a.w p k.ceiling ia.body) (told-role a.w p k.ceiling ia.body role) one.3.1 in
+        must-release sys (actor d.0 (charts p d.0 d.1)) one.0 one.3.0 (told a.w p k.ceiling ia.body) (told-role a.w p k.ceiling ia.body role) one.3.1 in
         let other : (0 == p) ≡ false = differs 0 p (λ e. positive p its (sym e)) in
         let begins : begins_row p k.place k.running true ≡ false = rw at refl in
         let none : pieces_at b.w p k ib ≡ [] = ap (pieces_at b.w p k) look ∙ rw (other, begins) refl in
@@ -164,7 +160,7 @@ module _ (sys : System) (charts : (p : ℕ) (d : ObjectDef) → object_at sys p 
         let not_drops : role_of ib.body ≡ Drops → ⊥ = λ e. (let wrong : Looks (k.looks + 1) (floor_in sys sim k.running k.ceiling) ≡ Drops = ap (λ (x : Item). role_of x.body) (sym look) ∙ e in cc) in
         let away = away-after (in_sim sys b.has) k there.0 ib p (slot sys charts stimuli budget bounded positive b xs front ib lb k g.two) at not_drops not started in
         let more = away-pieces b.w (in_sim sys b.has) p (positive p its) refl lb there.0 b.last away
-            (unspilt-here sys charts stimuli budget bounded positive b xs front ib lb k g.two).1 there.2 in
+        (unspilt-here sys charts stimuli budget bounded positive b xs front ib lb k g.two).1 there.2 in
         let went = subst (λ ps. run sys (actor d.0 (charts p d.0 d.1)) two.0 (ps ++ pieces_in b.w (in_sim sys b.has) p there.0 lb) ≡ Some two.1) none two.3 in
         let may = subst (λ ps. MayEnd (ends_at_point (pieces_in b.w (in_sim sys b.has) p (unread sys) front ++ (ps ++ pieces_in b.w (in_sim sys b.has) p there.0 lb))) two.1) none two.4 in
         left sys d.0 (charts p d.0 d.1) b.w (in_sim sys b.has) one.0 two.0 two.1 p (positive p its) (pieces_in b.w (in_sim sys b.has) p (unread sys) front) (pieces_in b.w (in_sim sys b.has) p there.0 lb)
@@ -175,9 +171,9 @@ module _ (sys : System) (charts : (p : ℕ) (d : ObjectDef) → object_at sys p 
     unfolding comes_next told
     seen-same p f l m f2 l2 m2 at bt =
         let one : comes_next sys held 0 (body.Seen p f l m) ≡ true =
-            subst (λ (x : Item). comes_next sys held x.of x.body ≡ true) at (comes-here sys charts stimuli budget bounded positive a xs front ia la k g.one k.ceiling).may in
+        subst (λ (x : Item). comes_next sys held x.of x.body ≡ true) at (comes-here sys charts stimuli budget bounded positive a xs front ia la k g.one k.ceiling).may in
         let two : comes_next sys held 0 (body.Seen p f2 l2 m2) ≡ true =
-            subst (λ (x : Item). comes_next sys held x.of x.body ≡ true) bt (comes-here sys charts stimuli budget bounded positive b xs front ib lb k g.two k.ceiling).may in
+        subst (λ (x : Item). comes_next sys held x.of x.body ≡ true) bt (comes-here sys charts stimuli budget bounded positive b xs front ib lb k g.two k.ceiling).may in
         at ∙ by (held.lines p) one two ∙ sym bt
       where
         by : (s : Line) → (counts_are f l m s) ≡ true → (counts_are f2 l2 m2 s) ≡ true → ◌≡◌ {A = Item} (record { of = 0; body = body.Seen p f l m }) (record { of = 0; body = body.Seen p f2 l2 m2 })
@@ -192,10 +188,10 @@ module _ (sys : System) (charts : (p : ℕ) (d : ObjectDef) → object_at sys p 
     took-spent p f l m e its at bt =
         let d = named sys charts stimuli budget bounded positive p its in
         let less : count_by (λ (z : Placed). takes_of p z.item) xs < budget =
-            a.within xs p f l m e _ (order-as sys charts stimuli budget a xs ia _ _ at (order-here sys charts stimuli budget bounded positive a xs front ia la k g.one))
-            (positive p its) (λ none. let no : None ≡ Some d.0 = sym none ∙ d.1 in cc) in
+        a.within xs p f l m e _ (order-as sys charts stimuli budget a xs ia _ _ at (order-here sys charts stimuli budget bounded positive a xs front ia la k g.one))
+        (positive p its) (λ none. let no : None ≡ Some d.0 = sym none ∙ d.1 in cc) in
         let full : count_by (λ (z : Placed). takes_of p z.item) xs ≡ budget =
-            b.spent xs p _ (order-as sys charts stimuli budget b xs ib _ _ bt (order-here sys charts stimuli budget bounded positive b xs front ib lb k g.two)) (positive p its) in
+        b.spent xs p _ (order-as sys charts stimuli budget b xs ib _ _ bt (order-here sys charts stimuli budget bounded positive b xs front ib lb k g.two)) (positive p its) in
         omega (arith, less, full)
 
     took-unmarked : (i : Item) (p f l m : ℕ) (e : Entry) → i ≡ record { of = p; body = body.Took f l m e } → (i.of ≡ p) × (is_turn_mark i.body ≡ false)

@@ -1,6 +1,5 @@
 -- Two runs that have come equally far go on by the same records of a stimulus.
-use Rattle.std.proofs.Common.{◌≡◌, ◌∙◌, ℕ, zero, suc, ◌+◌, ◌<◌, ◌≤◌, ◌==◌, Bool, true, false, ◌&&◌, cond, List, [], ◌∷◌, ◌++◌, map, length, get_or, Some, None, refl, sym, ap, subst, arith, append-nil}
-use Rattle.std.proofs.lemmas.Bool.Decides.{nat_tests}
+use Rattle.std.proofs.Common.{◌≡◌, ◌∙◌, ℕ, ◌+◌, ◌==◌, Bool, true, false, cond, List, [], ◌∷◌, ◌++◌, length, get_or, Some, None, refl, sym, ap, subst, arith, append-nil}
 use Rattle.std.proofs.lemmas.List.{append_assoc}
 use Rattle.std.specs.declared.option.Option.{Option}
 use Rattle.std.specs.Option.{is_some}
@@ -13,22 +12,20 @@ use Rattle.qp_model.specs.declared.bodies.Body.{Body}
 use Rattle.qp_model.specs.declared.bodies.Body.TheVariants as body
 use Rattle.qp_model.specs.Record.{Item}
 use Rattle.qp_model.specs.Told.{Told}
-use Rattle.qp_model.specs.Knowing.{Facts, told, known_of, records_of, ceiling_after, ceiling_over}
+use Rattle.qp_model.specs.Knowing.{Facts, told, records_of, ceiling_over}
 use Rattle.qp_model.specs.Kernels.{sim}
 use Rattle.qp_model.specs.Sites.{object_at}
 use Rattle.qp_model.specs.Sources.{SourceEnd, InStimulus}
-use Rattle.qp_model.specs.KernelLane.{threshold_of}
 use Rattle.qp_model.specs.OneOrder.{Placed, stim_of}
 use Rattle.qp_model.proofs.KnowingLemmas.{records_of-append}
-use Rattle.qp_sources.specs.Underway.{Underway, underway_next, underway_done}
+use Rattle.qp_sources.specs.Underway.{Underway, underway_next}
 use Rattle.qp_sources.specs.SourceState.{SourceState, Between, Within, source_next, source_after, source_stops}
 use Rattle.qp_orders.specs.RunOrder.{placed}
 use Rattle.qp_orders.specs.Placing.{all_placed}
-use Rattle.qp_unique.specs.Held.{Held, Comes}
+use Rattle.qp_unique.specs.Held.{Comes}
 use Rattle.qp_unique.specs.NextInSource.{underway_told}
 use Rattle.qp_unique.proofs.KernelLemmas.{item-is}
 use Rattle.qp_unique.proofs.LookLemmas.{begins, begun_in, StimFirst}
-use Rattle.qp_unique.proofs.StackLemmas.{IsObject}
 use Rattle.qp_unique.proofs.AwayLemmas.{done-none}
 use Rattle.qp_unique.proofs.StimulusLemmas.{stimulus_goes_on_alone}
 use Rattle.qp_unique.proofs.SourceSteps.{stim-read, other-read, after-split, after-first, alone, alone-at, record-first, stim-some, stops-none}
@@ -80,11 +77,11 @@ module _ (sys : System) (charts : (p : ℕ) (d : ObjectDef) → object_at sys p 
     lane-read rest h =
         let source = a.source h.before h.lane h.behind h.are in
         let moved : source_after sys sim (Some (first_of n)) (records_of a.w 0 0 h.lane) ≡ Some source.1 =
-            subst (λ k. source_after sys sim (Some (first_of k)) (records_of a.w 0 0 h.lane) ≡ Some source.1) h.at source.3 in
+        subst (λ k. source_after sys sim (Some (first_of k)) (records_of a.w 0 0 h.lane) ≡ Some source.1) h.at source.3 in
         let whole : records_of a.w 0 0 h.lane ≡ records_of a.w 0 0 done ++ records_of a.w 0 (ceiling_over 0 done) (rest ++ h.more) =
-            ap (records_of a.w 0 0) h.is ∙ records_of-append a.w 0 0 done (rest ++ h.more) in
+        ap (records_of a.w 0 0) h.is ∙ records_of-append a.w 0 0 done (rest ++ h.more) in
         let split = after-split sys (first_of n) source.1 (records_of a.w 0 0 done) (records_of a.w 0 (ceiling_over 0 done) (rest ++ h.more))
-            (subst (λ ts. source_after sys sim (Some (first_of n)) ts ≡ Some source.1) whole moved) in
+        (subst (λ ts. source_after sys sim (Some (first_of n)) ts ≡ Some source.1) whole moved) in
         (split.0, source.1, split.1, split.2, source.0)
 
     -- its next record is read, and comes next by the words
@@ -95,7 +92,7 @@ module _ (sys : System) (charts : (p : ℕ) (d : ObjectDef) → object_at sys p 
         let at = lane-read (y ∷ rest) h in
         let own = alone-at done y (rest ++ h.more) (subst alone h.is at.4) in
         let next = after-first sys at.0 at.1 (told a.w 0 (ceiling_over 0 done) y.body) _
-            (subst (λ ts. source_after sys sim (Some at.0) ts ≡ Some at.1) (record-first a.w (ceiling_over 0 done) y (rest ++ h.more) own.0) at.3) in
+        (subst (λ ts. source_after sys sim (Some at.0) ts ≡ Some at.1) (record-first a.w (ceiling_over 0 done) y (rest ++ h.more) own.0) at.3) in
         let comes = a.comes xs (placed (1 + n) y) (all_placed (1 + n) rest ++ h.back) (ceiling_over 0 done) h.order in
         (at.0, next.0, at.2, next.1, own.0, subst (λ o. Comes sys (held_to sys (ceiling_over 0 done) xs) o (told a.w o (ceiling_over 0 done) y.body)) own.0 comes)
 
@@ -112,23 +109,23 @@ module _ (sys : System) (charts : (p : ℕ) (d : ObjectDef) → object_at sys p 
         by [] first (own, end, stop, reads, stops, not) is =
             let whole : h.lane ≡ done = is ∙ append-nil done in
             let one : source_after sys sim (Some (first_of n)) (records_of a.w 0 0 done) ≡ Some end =
-                subst (λ l. source_after sys sim (Some (first_of n)) (records_of a.w 0 0 l) ≡ Some end) whole
-                (subst (λ m. source_after sys sim (Some (first_of m)) (records_of a.w 0 0 h.lane) ≡ Some end) h.at reads) in
+            subst (λ l. source_after sys sim (Some (first_of n)) (records_of a.w 0 0 l) ≡ Some end) whole
+            (subst (λ m. source_after sys sim (Some (first_of m)) (records_of a.w 0 0 h.lane) ≡ Some end) h.at reads) in
             let same : end ≡ Within u k left = some-is (sym one ∙ read) in
             stops-none sys u k left stop t (subst (λ s. source_stops sim s stop ≡ true) same stops) not
         by (z ∷ zs) first (own, end, stop, reads, stops, not) is =
             let alone_z = alone-at done z zs (subst alone is own) in
             let one : source_after sys sim (Some (first_of n)) (records_of a.w 0 0 (done ++ z ∷ zs)) ≡ Some end =
-                subst (λ l. source_after sys sim (Some (first_of n)) (records_of a.w 0 0 l) ≡ Some end) is
-                (subst (λ m. source_after sys sim (Some (first_of m)) (records_of a.w 0 0 h.lane) ≡ Some end) h.at reads) in
+            subst (λ l. source_after sys sim (Some (first_of n)) (records_of a.w 0 0 l) ≡ Some end) is
+            (subst (λ m. source_after sys sim (Some (first_of m)) (records_of a.w 0 0 h.lane) ≡ Some end) h.at reads) in
             let split = after-split sys (first_of n) end (records_of a.w 0 0 done) (records_of a.w 0 (ceiling_over 0 done) (z ∷ zs))
-                (subst (λ ts. source_after sys sim (Some (first_of n)) ts ≡ Some end) (records_of-append a.w 0 0 done (z ∷ zs)) one) in
+            (subst (λ ts. source_after sys sim (Some (first_of n)) ts ≡ Some end) (records_of-append a.w 0 0 done (z ∷ zs)) one) in
             let same : split.0 ≡ Within u k left = some-is (sym split.1 ∙ read) in
             let next = after-first sys split.0 end (told a.w 0 (ceiling_over 0 done) z.body) _
-                (subst (λ ts. source_after sys sim (Some split.0) ts ≡ Some end) (record-first a.w (ceiling_over 0 done) z zs alone_z.0) split.2) in
+            (subst (λ ts. source_after sys sim (Some split.0) ts ≡ Some end) (record-first a.w (ceiling_over 0 done) z zs alone_z.0) split.2) in
             let stim = stim-some z.body first in
             let goes : source_next sys sim split.0 (told a.w 0 (ceiling_over 0 done) (body.Stim stim.0 stim.1)) ≡ Some next.0 =
-                subst (λ d. source_next sys sim split.0 (told a.w 0 (ceiling_over 0 done) d) ≡ Some next.0) stim.2 next.1 in
+            subst (λ d. source_next sys sim split.0 (told a.w 0 (ceiling_over 0 done) d) ≡ Some next.0) stim.2 next.1 in
             let after = stim-read sys a.w (ceiling_over 0 done) split.0 next.0 stim.0 stim.1 goes in
             done-none sys sim u t (after.4 u k left same)
 
@@ -161,7 +158,7 @@ module _ (sys : System) (charts : (p : ℕ) (d : ObjectDef) → object_at sys p 
       let nb = part-next b xs n done z rb hb in
       let other = other-read sys b.w (ceiling_over 0 done) nb.0 nb.1 z.body (no-stim z.body (no-first z rb hb.plain).0) nb.3 in
       let read : read_of a n done (Within other.0 other.2 other.3) =
-          ap (λ ts. source_after sys sim (Some (first_of n)) ts) told_so ∙ nb.2 ∙ ap Some other.4 in
+      ap (λ ts. source_after sys sim (Some (first_of n)) ts) told_so ∙ nb.2 ∙ ap Some other.4 in
       let none = part-ends a xs n done ha other.0 other.2 other.3 (told b.w 0 (ceiling_over 0 done) z.body) read in
       let no : None ≡ Some other.1 = sym none ∙ other.5 in
       cc
@@ -180,11 +177,11 @@ module _ (sys : System) (charts : (p : ℕ) (d : ObjectDef) → object_at sys p 
       let states : Within one.0 one.2 one.3 ≡ Within two.0 two.2 two.3 = sym one.4 ∙ mids ∙ two.4 in
       let same : one.0 ≡ two.0 = under states in
       let ta = stimulus_goes_on_alone sys (held_to sys (ceiling_over 0 done) xs) sim one.0 one.1 (told a.w 0 (ceiling_over 0 done) y.body)
-          (a.counted xs _ (ceiling_over 0 done) ha.order) na.5 one.5 in
+      (a.counted xs _ (ceiling_over 0 done) ha.order) na.5 one.5 in
       let tb = stimulus_goes_on_alone sys (held_to sys (ceiling_over 0 done) xs) sim two.0 two.1 (told b.w 0 (ceiling_over 0 done) z.body)
-          (b.counted xs _ (ceiling_over 0 done) hb.order) nb.5 two.5 in
+      (b.counted xs _ (ceiling_over 0 done) hb.order) nb.5 two.5 in
       let both : told a.w 0 (ceiling_over 0 done) y.body ≡ told b.w 0 (ceiling_over 0 done) z.body =
-          some-is (sym ta ∙ ap (underway_told sys (held_to sys (ceiling_over 0 done) xs)) same ∙ tb) in
+      some-is (sym ta ∙ ap (underway_told sys (held_to sys (ceiling_over 0 done) xs)) same ∙ tb) in
       let bodies : y.body ≡ z.body = ap (λ (t : Told). t.body) both in
       let whole : y ≡ z = item-is y z.of z.body (na.4 ∙ sym nb.4) bodies in
       (whole, na.4, both ∙ ap (told b.w 0 (ceiling_over 0 done)) (sym bodies))
@@ -203,10 +200,11 @@ module _ (sys : System) (charts : (p : ℕ) (d : ObjectDef) → object_at sys p 
       let same = same-first a b n y z ra rb xs done ha hb told_so in
       let hb2 : Part b xs n done (y ∷ rb) = subst (λ x. Part b xs n done (x ∷ rb)) (sym same.0) hb in
       let more = same-part a b n ra rb (xs ++ placed (1 + n) y ∷ []) (done ++ y ∷ []) (part-on a xs n done y ra ha) (part-on b xs n done y rb hb2)
-          (told-on a.w done y same.1 ∙ ap (λ t. records_of a.w 0 0 done ++ t ∷ []) same.2 ∙ ap (λ ts. ts ++ told b.w 0 (ceiling_over 0 done) y.body ∷ []) told_so ∙ sym (told-on b.w done y same.1)) in
+      (told-on a.w done y same.1 ∙ ap (λ t. records_of a.w 0 0 done ++ t ∷ []) same.2 ∙ ap (λ ts. ts ++ told b.w 0 (ceiling_over 0 done) y.body ∷ []) told_so ∙ sym (told-on b.w done y same.1)) in
       let rests : ra ≡ rb = more.0 in
-      let whole : y ∷ ra ≡ z ∷ rb = ap (λ us. y ∷ us) rests ∙ ap (λ x. x ∷ rb) same.0 in
-      (whole,
-      subst (λ l. records_of a.w 0 0 l ≡ records_of b.w 0 0 (done ++ y ∷ rb)) (append_assoc done (y ∷ []) ra)
-      (subst (λ l. records_of a.w 0 0 ((done ++ y ∷ []) ++ ra) ≡ records_of b.w 0 0 l) (append_assoc done (y ∷ []) rb) more.1)
-      ∙ ap (λ x. records_of b.w 0 0 (done ++ x ∷ rb)) same.0)
+      let whole : y ∷ ra ≡ z ∷ rb = ap (λ us. y ∷ us) rests ∙ ap (λ x. x ∷ rb) same.0 in (
+        whole,
+        subst (λ l. records_of a.w 0 0 l ≡ records_of b.w 0 0 (done ++ y ∷ rb)) (append_assoc done (y ∷ []) ra)
+            (subst (λ l. records_of a.w 0 0 ((done ++ y ∷ []) ++ ra) ≡ records_of b.w 0 0 l) (append_assoc done (y ∷ []) rb) more.1)
+            ∙ ap (λ x. records_of b.w 0 0 (done ++ x ∷ rb)) same.0,
+      )

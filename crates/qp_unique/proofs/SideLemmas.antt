@@ -1,16 +1,11 @@
 -- What is known of a lawful, tidy journal of `sim` without a `spill`.
-use Rattle.std.proofs.Common.{◌≡◌, ◌∙◌, ℕ, zero, suc, ◌+◌, ◌<◌, ◌≤◌, ◌==◌, nat_lt, nat_le, Bool, true, false, not, ◌&&◌, ◌||◌, cond, List, [], ◌∷◌, ◌++◌, map, length, drop, get_or, Some, None, refl, sym, ap, subst, inl, inr, ◌⊎◌, arith, append-nil, length-append}
+use Rattle.std.proofs.Common.{◌≡◌, ◌∙◌, ℕ, ◌+◌, ◌==◌, Bool, true, false, not, ◌||◌, cond, List, [], ◌∷◌, ◌++◌, length, Some, None, refl, sym, ap, subst, inl, inr, ◌⊎◌, arith, append-nil}
 use Rattle.std.proofs.lemmas.Bool.Decides.{nat_tests}
-use Rattle.std.proofs.lemmas.List.{append_assoc, map-append, drop_more}
+use Rattle.std.proofs.lemmas.List.{append_assoc, map-append}
 use Rattle.std.proofs.lemmas.List.Elements.{filter-append}
-use Rattle.std.proofs.lemmas.List.Sums.{sum_by-cons}
-use Rattle.std.proofs.lemmas.Option.{unwrap_or-slice_get}
 use Rattle.std.specs.declared.option.Option.{Option}
-use Rattle.std.specs.Option.{option_map_or, option_and_then, unwrap_or, is_some}
-use Rattle.std.specs.List.{filter, find, list_all, list_any, count_by, AllByRecursion}
+use Rattle.std.specs.List.{filter, list_all, list_any, AllByRecursion}
 use Rattle.qp_chart.specs.declared.checked.Chart.{Chart}
-use Rattle.qp_chart.specs.StateTree.{has}
-use Rattle.qp_model.specs.declared.record.Rec.{Rec}
 use Rattle.qp_model.specs.declared.stimulus.Stim.{Stim}
 use Rattle.qp_model.specs.declared.words.Word.{Word}
 use Rattle.qp_model.specs.declared.words.Word.TheVariants as word
@@ -21,53 +16,43 @@ use Rattle.qp_model.specs.declared.bodies.Entry.{Entry}
 use Rattle.qp_model.specs.declared.bodies.Body.{Body}
 use Rattle.qp_model.specs.declared.bodies.Body.TheVariants as body
 use Rattle.qp_model.specs.Record.{Item}
-use Rattle.qp_model.specs.Told.{Event, Told}
-use Rattle.qp_model.specs.Knowing.{Facts, told, known_of, records_of, event_of, ceiling_after}
-use Rattle.qp_model.specs.Ends.{is_spill, is_end, is_assert, is_spent, spills_in, may_cut}
-use Rattle.qp_model.specs.End.{end_of, takes_of, took_count, spent_right}
+use Rattle.qp_model.specs.Told.{Event}
+use Rattle.qp_model.specs.Knowing.{Facts, told, records_of, event_of, ceiling_after}
+use Rattle.qp_model.specs.Ends.{is_spill, is_assert, spills_in, may_cut}
 use Rattle.qp_model.specs.History.{all_items, lane_items, hist, is_numbered, drawn_on, touch, touch_of}
 use Rattle.qp_model.specs.Machine.{Machine, after, after_from, is_allowed, allowed_from}
 use Rattle.qp_model.specs.Line.{line}
 use Rattle.qp_model.proofs.MachineLemmas.{is_allowed-append}
 use Rattle.qp_model.specs.Home.{lane_at, home_of, own_items, home_records}
-use Rattle.qp_model.specs.Kernels.{sim, qk, qv, port}
+use Rattle.qp_model.specs.Kernels.{sim, port}
 use Rattle.qp_model.specs.Places.{in_order}
 use Rattle.qp_model.specs.Sites.{object_at, ring_of}
 use Rattle.qp_model.specs.Course.{Cut, Whole, Stopped, Anywhere, FollowsTo, actor, first_config}
-use Rattle.qp_model.specs.Pieces.{Piece, ends_at_point}
-use Rattle.qp_model.specs.ObjectShape.{HasShape, CutGroups}
-use Rattle.qp_model.specs.KernelLane.{Setting, Reading, threshold_of, lane_read, lane_on, lane_next, unread, is_whole}
+use Rattle.qp_model.specs.Pieces.{ends_at_point}
+use Rattle.qp_model.specs.ObjectShape.{CutGroups}
+use Rattle.qp_model.specs.KernelLane.{Reading, lane_read, lane_on, unread, is_whole}
 use Rattle.qp_model.specs.Points.{lane_pieces, pieces_in}
-use Rattle.qp_model.specs.OneOrder.{Placed, with_stimuli, parts_of_look, look_of, stim_of, look_numbers, stims_placed}
-use Rattle.qp_model.specs.Sources.{SourceEnd, InStimulus, IsSourceLane, SourceRuns, source_records, may_end}
-use Rattle.qp_model.specs.Lawful.{Lawful, KernelHolds, SourceLanes, ObjectHolds, facts_of, setting_of, source_lanes, cut_of, spill_cuts, reading_holds}
-use Rattle.qp_model.specs.WordLaw.{Words, is_object}
+use Rattle.qp_model.specs.OneOrder.{Placed}
+use Rattle.qp_model.specs.Lawful.{Lawful, ObjectHolds, facts_of, setting_of, cut_of, spill_cuts, reading_holds}
+use Rattle.qp_model.specs.WordLaw.{is_object}
 use Rattle.qp_model.proofs.ListLemmas.{both_true}
-use Rattle.qp_model.proofs.LineLemmas.{line_is, IsLine}
-use Rattle.qp_model.proofs.KernelRowLemmas.{lane_on-append}
+use Rattle.qp_model.proofs.LineLemmas.{line_is}
 use Rattle.qp_orders.proofs.CalmLemmas.{no_spill-cuts}
 use Rattle.qp_fits.specs.Decides.{Decides}
 use Rattle.qp_course.specs.Machine.{State, run, start_state, is_end as is_end_of_course, expects_point}
 use Rattle.qp_course.specs.Decided.{reads_to, may_end as list_may_end, ends_well}
 use Rattle.qp_course.specs.Followable.{IsFollowable}
 use Rattle.qp_course.proofs.FollowLemmas.{pieces-decided}
-use Rattle.qp_sources.specs.SourceState.{SourceState, Between, source_after, source_stops, stops_after}
-use Rattle.qp_sources.proofs.LawLemmas.{call-laws}
-use Rattle.qp_sources.proofs.StopLemmas.{lane-stops}
-use Rattle.qp_orders.specs.RunOrder.{placed, items_of}
-use Rattle.qp_orders.specs.Placing.{look_item}
-use Rattle.qp_unique.specs.Held.{Held, IsCounted, Comes}
+use Rattle.qp_orders.specs.RunOrder.{items_of}
+use Rattle.qp_unique.specs.Held.{IsCounted, Comes}
 use Rattle.qp_unique.specs.Fronts.{held_after, log_of, has_word, names_its}
 use Rattle.qp_unique.specs.Tidy.{run_order, IsTidy}
 use Rattle.qp_unique.proofs.FrontLemmas.{from-behind, may-next}
 use Rattle.qp_unique.proofs.ComesLemmas.{comes-front, known-front}
-use Rattle.qp_unique.proofs.KernelLemmas.{slot-of}
-use Rattle.qp_unique.proofs.StackLemmas.{found-in, IsObject}
-use Rattle.qp_unique.proofs.ItemLemmas.{none-at}
-use Rattle.qp_unique.proofs.LoopLemmas.{look-whole, look-body}
+use Rattle.qp_unique.proofs.StackLemmas.{found-in}
 use Rattle.qp_unique.proofs.NilLemmas.{is_nil, Nilless, cut-nilless}
-use Rattle.qp_unique.proofs.JournalLemmas.{all-front, Threaded, threaded, all-split, lane0-is, zero-each, sources-each, inside, order-is, in-order, ends-run, turn-at, each-unspilt, lane-each}
-use Rattle.qp_unique.proofs.Sides.{Side, HasEnded, MayEnd, in_sim, held_to}
+use Rattle.qp_unique.proofs.JournalLemmas.{all-front, Threaded, zero-each, inside, in-order, each-unspilt}
+use Rattle.qp_unique.proofs.Sides.{MayEnd, in_sim, held_to}
 
 -- the answer of a test that holds
 pub holds : (b : Bool) (P : Type 0) → Decides b P → P → b ≡ true
@@ -190,12 +175,12 @@ module _ (sys : System) (stimuli : List (List Stim)) (j : Journal) (law : Lawful
     unfolding object_at lane_pieces facts_of reads_to
     course-of p d is =
         let found = found-in (λ x. x.priority == p) sys.objects d is
-            (λ d. FollowsTo sys d (cut_of sys j d.priority) (lane_pieces (facts_of sys j) (setting_of sys j) d.priority zero_lane)) t.kernel.points in
+        (λ d. FollowsTo sys d (cut_of sys j d.priority) (lane_pieces (facts_of sys j) (setting_of sys j) d.priority zero_lane)) t.kernel.points in
         let test : (d.priority == p) ≡ true = found.1 in
         let own : d.priority ≡ p = grind (arith, nat_tests) in
         let moved : FollowsTo sys d (cut_of sys j p) (pieces_in (facts_of sys j) (in_sim sys has_one) p (unread sys) zero_lane) =
-            subst (λ s. FollowsTo sys d (cut_of sys j p) (pieces_in (facts_of sys j) s p (unread sys) zero_lane)) t.setting
-            (subst (λ o. FollowsTo sys d (cut_of sys j o) (pieces_in (facts_of sys j) (setting_of sys j) o (unread sys) zero_lane)) own found.0) in
+        subst (λ s. FollowsTo sys d (cut_of sys j p) (pieces_in (facts_of sys j) s p (unread sys) zero_lane)) t.setting
+        (subst (λ o. FollowsTo sys d (cut_of sys j o) (pieces_in (facts_of sys j) (setting_of sys j) o (unread sys) zero_lane)) own found.0) in
         let reads = holds _ _ (pieces-decided sys d (followable p d is) (cut_of sys j p) (pieces_in (facts_of sys j) (in_sim sys has_one) p (unread sys) zero_lane)) moved in
         by (run sys (actor d (chart_of p d is)) (start_state (actor d (chart_of p d is)) (first_config d)) (pieces_in (facts_of sys j) (in_sim sys has_one) p (unread sys) zero_lane)) refl
         (both_true _ _ reads).0 (cut-is p)
@@ -240,12 +225,12 @@ module _ (sys : System) (stimuli : List (List Stim)) (j : Journal) (law : Lawful
           let own : d.priority ≡ i.of = grind (arith, nat_tests) in
           let groups = found.0.shapes.shape.groups in
           let nils = cut-nilless sys d.priority (cut_of sys j d.priority) (home_records (facts_of sys j) j d.priority)
-              (subst (λ b. CutGroups sys d.priority b (cut_of sys j d.priority) (home_records (facts_of sys j) j d.priority)) no_port groups) in
+          (subst (λ b. CutGroups sys d.priority b (cut_of sys j d.priority) (home_records (facts_of sys j) j d.priority)) no_port groups) in
           let home : home_of sys j d.priority ≡ 0 = rw no_port refl in
           let records : home_records (facts_of sys j) j d.priority ≡ records_of (facts_of sys j) i.of 0 (xs ++ i ∷ ys) =
-              ap (λ b. records_of (facts_of sys j) d.priority 0 (own_items b d.priority (lane_items (lane_at j (home_of sys j d.priority))))) no_port
-              ∙ ap (λ n. records_of (facts_of sys j) d.priority 0 (lane_items (lane_at j n))) home ∙ ap (λ o. records_of (facts_of sys j) o 0 zero_lane) own
-              ∙ ap (records_of (facts_of sys j) i.of 0) split in
+          ap (λ b. records_of (facts_of sys j) d.priority 0 (own_items b d.priority (lane_items (lane_at j (home_of sys j d.priority))))) no_port
+          ∙ ap (λ n. records_of (facts_of sys j) d.priority 0 (lane_items (lane_at j n))) home ∙ ap (λ o. records_of (facts_of sys j) o 0 zero_lane) own
+          ∙ ap (records_of (facts_of sys j) i.of 0) split in
           nil-in (facts_of sys j) 0 xs (subst Nilless records nils)
 
   -- each record of the order names words of the system

@@ -1,11 +1,11 @@
 -- The lanes of sources and the budgets of a lawful journal of `sim` without a `spill`.
-use Rattle.std.proofs.Common.{◌≡◌, ◌∙◌, ℕ, zero, suc, ◌+◌, ◌<◌, ◌≤◌, ◌==◌, nat_lt, nat_le, Bool, true, false, not, ◌&&◌, ◌||◌, cond, List, [], ◌∷◌, ◌++◌, map, length, drop, get_or, Some, None, refl, sym, ap, subst, inl, inr, ◌⊎◌, arith, append-nil, length-append}
+use Rattle.std.proofs.Common.{◌≡◌, ◌∙◌, ℕ, zero, suc, ◌+◌, ◌<◌, ◌≤◌, ◌==◌, nat_le, Bool, true, false, not, ◌&&◌, ◌||◌, cond, List, [], ◌∷◌, ◌++◌, map, length, drop, get_or, Some, None, refl, sym, ap, subst, arith}
 use Rattle.std.proofs.lemmas.Bool.Decides.{nat_tests}
 use Rattle.std.proofs.lemmas.List.{append_assoc, map-append}
 use Rattle.std.proofs.lemmas.List.Sums.{sum_by-cons}
 use Rattle.std.specs.declared.option.Option.{Option}
 use Rattle.std.specs.Option.{option_map, option_map_or, option_and_then, unwrap_or}
-use Rattle.std.specs.List.{slice_get, filter, filter_map, cons_option, list_all, list_any, count_by, AllByRecursion}
+use Rattle.std.specs.List.{slice_get, cons_option, list_all, count_by, AllByRecursion}
 use Rattle.qp_chart.specs.StateTree.{has}
 use Rattle.qp_model.specs.declared.record.Rec.{Rec}
 use Rattle.qp_model.specs.declared.stimulus.Stim.{Stim}
@@ -16,21 +16,19 @@ use Rattle.qp_model.specs.declared.bodies.Entry.{Entry}
 use Rattle.qp_model.specs.declared.bodies.Body.{Body}
 use Rattle.qp_model.specs.declared.bodies.Body.TheVariants as body
 use Rattle.qp_model.specs.Record.{Item}
-use Rattle.qp_model.specs.Told.{Told}
-use Rattle.qp_model.specs.Knowing.{Facts, records_of}
-use Rattle.qp_model.specs.Ends.{is_spill, is_end, is_assert, is_spent, spills_in, may_cut}
-use Rattle.qp_model.specs.End.{end_of, takes_of, took_count, spent_right, spents_hold}
+use Rattle.qp_model.specs.Knowing.{records_of}
+use Rattle.qp_model.specs.Ends.{is_spill, is_end, is_spent, spills_in, may_cut}
+use Rattle.qp_model.specs.End.{takes_of, took_count, spent_right, spents_hold}
 use Rattle.qp_model.specs.History.{all_items, lane_items}
 use Rattle.qp_model.specs.Home.{lane_at, home_of}
-use Rattle.qp_model.specs.Kernels.{sim, port}
+use Rattle.qp_model.specs.Kernels.{sim}
 use Rattle.qp_model.specs.Sites.{object_at}
-use Rattle.qp_model.specs.KernelLane.{Setting, Reading, lane_on, lane_next, unread}
+use Rattle.qp_model.specs.KernelLane.{Reading, lane_on, lane_next, unread}
 use Rattle.qp_model.specs.OneOrder.{Placed, with_stimuli, parts_of_look, look_of, stim_of, look_numbers, stims_placed}
 use Rattle.qp_model.specs.Sources.{SourceEnd, InStimulus, IsSourceLane, SourceRuns, source_records, may_end}
 use Rattle.qp_model.specs.Lawful.{Lawful, EndHolds, SourceLanes, facts_of, source_lanes, lanes_before, one_thread}
 use Rattle.qp_model.proofs.ListLemmas.{both_true}
 use Rattle.qp_model.proofs.KernelRowLemmas.{lane_on-append}
-use Rattle.qp_fits.specs.Decides.{Decides}
 use Rattle.qp_sources.specs.SourceState.{SourceState, Between, source_after, source_stops, stops_after}
 use Rattle.qp_sources.proofs.LawLemmas.{call-laws}
 use Rattle.qp_sources.proofs.StopLemmas.{lane-stops}
@@ -42,8 +40,8 @@ use Rattle.qp_unique.proofs.StackLemmas.{found-in}
 use Rattle.qp_unique.proofs.ItemLemmas.{none-at}
 use Rattle.qp_unique.proofs.AwayLemmas.{differs}
 use Rattle.qp_unique.proofs.LoopLemmas.{look-whole, look-body}
-use Rattle.qp_unique.proofs.JournalLemmas.{all-front, all-join, order-all, parts-all, Threaded, all-split, lane0-is, zero-each, sources-each, inside, ends-run, each-unspilt, lane-each}
-use Rattle.qp_unique.proofs.SideLemmas.{holds, filter-none-spill, all-of, kernel-read, unspilt-zero, has_one, zero_lane}
+use Rattle.qp_unique.proofs.JournalLemmas.{all-front, all-join, parts-all, Threaded, all-split, lane0-is, sources-each, inside, ends-run, each-unspilt, lane-each}
+use Rattle.qp_unique.proofs.SideLemmas.{holds, filter-none-spill, all-of, kernel-read, unspilt-zero, has_one}
 use Rattle.qp_unique.proofs.Sides.{in_sim}
 
 drop-at : (xs : List (List Rec)) (n : ℕ) (r : List Rec) (rs : List (List Rec)) → drop n xs ≡ r ∷ rs → (unwrap_or (slice_get xs n) [] ≡ r) × (drop (n + 1) xs ≡ rs)
@@ -133,7 +131,7 @@ spents-each sys j n (l ∷ ls) h =
     right : (i : Item) → spent_right sys j n i ≡ true → is_spent i.body ≡ true → took_count (all_items j.lanes) i.of ≡ j.budget
     right i h spent =
         let one : (not true || ((home_of sys j i.of == n) && (took_count (all_items j.lanes) i.of == j.budget))) ≡ true =
-            subst (λ b. (not b || ((home_of sys j i.of == n) && (took_count (all_items j.lanes) i.of == j.budget))) ≡ true) spent h in
+        subst (λ b. (not b || ((home_of sys j i.of == n) && (took_count (all_items j.lanes) i.of == j.budget))) ≡ true) spent h in
         let two : (took_count (all_items j.lanes) i.of == j.budget) ≡ true = (both_true (home_of sys j i.of == n) (took_count (all_items j.lanes) i.of == j.budget) one).1 in
         grind (arith, nat_tests)
 
@@ -180,7 +178,7 @@ module _ (sys : System) (stimuli : List (List Stim)) (j : Journal) (law : Lawful
       let none = lane-unspilt front l back is in
       let whole : source_records (facts_of sys j) l ≡ records_of (facts_of sys j) 0 0 l = ap (records_of (facts_of sys j) 0 0) (filter-none-spill l none) in
       let goes : SourceRuns sys sim 1 (get_or stimuli (length front) []) runs.0 (records_of (facts_of sys j) 0 0 l) =
-          subst (λ ts. SourceRuns sys sim 1 (get_or stimuli (length front) []) runs.0 ts) whole (subst (λ k. SourceRuns sys k 1 (get_or stimuli (length front) []) runs.0 (source_records (facts_of sys j) l)) is_sim runs.1) in
+      subst (λ ts. SourceRuns sys sim 1 (get_or stimuli (length front) []) runs.0 ts) whole (subst (λ k. SourceRuns sys k 1 (get_or stimuli (length front) []) runs.0 (source_records (facts_of sys j) l)) is_sim runs.1) in
       let stops = holds _ _ (lane-stops call-laws sys sim 1 (get_or stimuli (length front) []) runs.0 (records_of (facts_of sys j) 0 0 l)) goes in
       let at = by (source_after sys sim (Some (Between 1 (get_or stimuli (length front) []))) (records_of (facts_of sys j) 0 0 l)) refl runs.0 stops in
       (lane.alone, at.0, runs.0, at.1, at.2, λ e. within runs.0 e runs.2 (each-unspilt l none))
@@ -203,7 +201,7 @@ module _ (sys : System) (stimuli : List (List Stim)) (j : Journal) (law : Lawful
   slot-at front i back is =
       let read = kernel-read sys stimuli j law is_sim t in
       let whole : lane_on (in_sim sys (has_one sys stimuli j law is_sim t)) (unread sys) (front ++ i ∷ back) ≡ Some read.0 =
-          subst (λ l. lane_on (in_sim sys (has_one sys stimuli j law is_sim t)) (unread sys) l ≡ Some read.0) is read.1 in
+      subst (λ l. lane_on (in_sim sys (has_one sys stimuli j law is_sim t)) (unread sys) l ≡ Some read.0) is read.1 in
       let unspilt = (none-at (λ x. is_spill x.body) front i back (subst (λ l. spills_in l ≡ false) is (unspilt-zero sys stimuli j law is_sim t))).0 in
       by unspilt (lane_on (in_sim sys (has_one sys stimuli j law is_sim t)) (unread sys) front) read.0 (sym (lane_on-append (in_sim sys (has_one sys stimuli j law is_sim t)) (unread sys) front (i ∷ back)) ∙ whole)
     where
@@ -230,7 +228,7 @@ module _ (sys : System) (stimuli : List (List Stim)) (j : Journal) (law : Lawful
       let lane = list-at (λ lane. list_all (λ i. option_map_or (λ s. has (look_numbers (lane_items (lane_at j 0))) s.1) (stim_of i.body) true) lane) before l behind (subst (λ ls. list_all (λ lane. list_all (λ i. option_map_or (λ s. has (look_numbers (lane_items (lane_at j 0))) s.1) (stim_of i.body) true) lane) ls ≡ true) is all) in
       let one = list-at (λ i. option_map_or (λ s. has (look_numbers (lane_items (lane_at j 0))) s.1) (stim_of i.body) true) xs i ys (subst (λ us. list_all (λ i. option_map_or (λ s. has (look_numbers (lane_items (lane_at j 0))) s.1) (stim_of i.body) true) us ≡ true) split lane) in
       let two : has (look_numbers (lane_items (lane_at j 0))) n ≡ true =
-          subst (λ d. option_map_or (λ s. has (look_numbers (lane_items (lane_at j 0))) s.1) (stim_of d) true ≡ true) stim one in
+      subst (λ d. option_map_or (λ s. has (look_numbers (lane_items (lane_at j 0))) s.1) (stim_of d) true ≡ true) stim one in
       let found = look-found (lane_items (lane_at j 0)) n two in
       let whole = at-place found.0 found.1 found.3 found.4 n found.2 (look-body found.1.body (n, found.2) found.5) in
       (found.0, found.2, found.3, found.4 ∙ ap (λ x. found.0 ++ x ∷ found.3) whole)
@@ -257,10 +255,10 @@ module _ (sys : System) (stimuli : List (List Stim)) (j : Journal) (law : Lawful
       let each = sources-untaken p some in
       let others : count_by (takes_of p) (all_items t.others) ≡ 0 = count-none (takes_of p) (all_items t.others) (joined-each (λ i. takes_of p i ≡ false) t.others (subst (AllByRecursion (λ l. AllByRecursion (λ i. takes_of p i ≡ false) l)) t.sources_are each)) in
       let whole : count_by (takes_of p) (all_items j.lanes) ≡ count_by (takes_of p) (lane_items t.first) + count_by (takes_of p) (all_items t.others) =
-          ap (count_by (takes_of p)) (all-split sys stimuli j t) ∙ count-append (takes_of p) (lane_items t.first) (all_items t.others) in
+      ap (count_by (takes_of p)) (all-split sys stimuli j t) ∙ count-append (takes_of p) (lane_items t.first) (all_items t.others) in
       let zero_is : count_by (takes_of p) (lane_items (lane_at j 0)) ≡ count_by (takes_of p) (lane_items t.first) = ap (count_by (takes_of p)) (lane0-is sys stimuli j t) in
       let merged : count_by (takes_of p) (items_of (with_stimuli true (source_lanes sys j) (lane_items (lane_at j 0)))) ≡ count_by (takes_of p) (lane_items (lane_at j 0)) =
-          count-merged (takes_of p) true (source_lanes sys j) (lane_items (lane_at j 0)) each in
+      count-merged (takes_of p) true (source_lanes sys j) (lane_items (lane_at j 0)) each in
       omega (arith, others, whole, zero_is, merged)
 
   module _ (xs : List Placed) (p : ℕ) (b : Body) (ys : List Placed) (is : run_order sys j ≡ xs ++ placed 0 (record { of = p; body = b }) ∷ ys) (some : p ≡ 0 → ⊥) where
@@ -281,13 +279,13 @@ module _ (sys : System) (stimuli : List (List Stim)) (j : Journal) (law : Lawful
       by None none = absurd (there none)
       by (Some d) found =
           let at = found-in (λ x. x.priority == p) sys.objects d found (λ d. nat_le (took_count (all_items j.lanes) d.priority) j.budget ≡ true)
-              (each-object (λ d. nat_le (took_count (all_items j.lanes) d.priority) j.budget) sys.objects law.end.budgets) in
+          (each-object (λ d. nat_le (took_count (all_items j.lanes) d.priority) j.budget) sys.objects law.end.budgets) in
           let own : d.priority ≡ p = let test : (d.priority == p) ≡ true = at.1 in grind (arith, nat_tests) in
           let most : took_count (all_items j.lanes) p ≤ j.budget = let test : nat_le (took_count (all_items j.lanes) p) j.budget ≡ true = subst (λ o. nat_le (took_count (all_items j.lanes) o) j.budget ≡ true) own at.0 in grind (arith, nat_tests) in
           let self : (p == p) ≡ true = grind (arith, nat_tests) in
           let one : count_by (λ (z : Placed). takes_of p z.item) xs + (1 + count_by (λ (z : Placed). takes_of p z.item) ys) ≡ took_count (all_items j.lanes) p =
-              subst (λ c. count_by (λ (z : Placed). takes_of p z.item) xs + (cond c 1 0 + count_by (λ (z : Placed). takes_of p z.item) ys) ≡ took_count (all_items j.lanes) p) self
-              (counted-here xs p (body.Took f l m e) ys is some) in
+          subst (λ c. count_by (λ (z : Placed). takes_of p z.item) xs + (cond c 1 0 + count_by (λ (z : Placed). takes_of p z.item) ys) ≡ took_count (all_items j.lanes) p) self
+          (counted-here xs p (body.Took f l m e) ys is some) in
           omega (arith, most, one)
 
   pub spent-of : (xs : List Placed) (p : ℕ) (ys : List Placed) → run_order sys j ≡ xs ++ placed 0 (record { of = p; body = body.Spent }) ∷ ys → (p ≡ 0 → ⊥) → count_by (λ (z : Placed). takes_of p z.item) xs ≡ j.budget

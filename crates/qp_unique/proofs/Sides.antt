@@ -1,36 +1,31 @@
 -- A run with one thread as its order sees it, and what two such runs have in common up to a place.
-use Rattle.std.specs.Prelude.{◌≡◌, ◌⊎◌, ℕ, zero, suc, ◌+◌, ◌<◌, ◌==◌, Bool, true, false, ◌&&◌, List, [], ◌∷◌, ◌++◌, map, length, get_or, Some, None, ⊤}
-use Rattle.std.specs.declared.option.Option.{Option}
+use Rattle.std.specs.Prelude.{◌≡◌, ◌⊎◌, ℕ, ◌+◌, ◌<◌, ◌==◌, Bool, true, false, List, [], ◌∷◌, ◌++◌, map, length, get_or, Some, None}
 use Rattle.std.specs.List.{filter, list_all, list_any, count_by}
 use Rattle.qp_chart.specs.declared.checked.Chart.{Chart}
 use Rattle.qp_model.specs.declared.stimulus.Stim.{Stim}
 use Rattle.qp_model.specs.declared.systems.System.{System}
 use Rattle.qp_model.specs.declared.systems.ObjectDef.{ObjectDef}
 use Rattle.qp_model.specs.declared.bodies.Entry.{Entry}
-use Rattle.qp_model.specs.declared.bodies.Body.{Body}
 use Rattle.qp_model.specs.declared.bodies.Body.TheVariants as body
 use Rattle.qp_model.specs.Record.{Item}
-use Rattle.qp_model.specs.Told.{Event, Told}
 use Rattle.qp_model.specs.Knowing.{Facts, told, records_of, event_of}
-use Rattle.qp_model.specs.Ends.{is_end, is_turn_mark, spills_in}
+use Rattle.qp_model.specs.Ends.{is_end, spills_in}
 use Rattle.qp_model.specs.End.{takes_of}
 use Rattle.qp_model.specs.Kernels.{sim}
 use Rattle.qp_model.specs.Sites.{object_at}
-use Rattle.qp_model.specs.Pieces.{Piece, ends_at_point}
+use Rattle.qp_model.specs.Pieces.{ends_at_point}
 use Rattle.qp_model.specs.Course.{actor, first_config}
-use Rattle.qp_model.specs.Acts.{Actor}
 use Rattle.qp_model.specs.KernelLane.{Setting, Reading, unread, lane_on, is_whole, Ended}
 use Rattle.qp_model.specs.Points.{pieces_in}
 use Rattle.qp_model.specs.Sources.{SourceEnd, InStimulus}
-use Rattle.qp_model.specs.OneOrder.{Placed, with_stimuli, parts_of_look, turns_at, acts_next, is_turn, begun}
+use Rattle.qp_model.specs.OneOrder.{Placed, with_stimuli, turns_at, acts_next, is_turn}
 use Rattle.qp_course.specs.Machine.{State, start_state, run, is_end as is_end_of_course, expects_point}
-use Rattle.qp_course.specs.Followable.{IsFollowable}
 use Rattle.qp_sources.specs.SourceState.{SourceState, Between, source_after, source_stops}
 use Rattle.qp_orders.specs.RunOrder.{placed, items_of, has_stim}
 use Rattle.qp_orders.specs.Placing.{look_item}
 use Rattle.qp_unique.specs.Held.{Held, IsCounted, Comes}
 use Rattle.qp_unique.specs.Fronts.{held_after}
-use Rattle.qp_unique.proofs.LookLemmas.{begins, begun_in, StimFirst}
+use Rattle.qp_unique.proofs.LookLemmas.{StimFirst}
 use Rattle.qp_unique.proofs.StackLemmas.{Stacked}
 
 -- the setting of a run in `sim`

@@ -1,7 +1,7 @@
 -- One record more of a source's lane.
-use Rattle.std.proofs.Common.{◌≡◌, ◌∙◌, ℕ, zero, suc, ◌+◌, ◌<◌, ◌≤◌, ◌==◌, Bool, true, false, not, ◌&&◌, ◌||◌, cond, List, [], ◌∷◌, ◌++◌, map, length, Some, None, refl, sym, ap, subst, inl, inr, ◌⊎◌, arith, append-nil}
+use Rattle.std.proofs.Common.{◌≡◌, ◌∙◌, ℕ, ◌+◌, ◌==◌, Bool, true, false, not, ◌&&◌, cond, List, [], ◌∷◌, ◌++◌, map, Some, None, refl, sym, ap, subst, arith}
 use Rattle.std.proofs.lemmas.Bool.Decides.{nat_tests}
-use Rattle.std.proofs.lemmas.List.{append_assoc, map-append}
+use Rattle.std.proofs.lemmas.List.{map-append}
 use Rattle.std.proofs.lemmas.List.Elements.{filter-append}
 use Rattle.std.proofs.lemmas.List.Sums.{sum_by-cons}
 use Rattle.std.specs.declared.option.Option.{Option}
@@ -14,19 +14,17 @@ use Rattle.qp_model.specs.declared.bodies.Body.TheVariants as body
 use Rattle.qp_model.specs.Record.{Item}
 use Rattle.qp_model.specs.Told as told_specs
 use Rattle.qp_model.specs.Told.{Told, Known, plain}
-use Rattle.qp_model.specs.Knowing.{Facts, told, known_of, records_of, ceiling_after, ceiling_over}
+use Rattle.qp_model.specs.Knowing.{Facts, told, known_of, records_of, ceiling_after}
 use Rattle.qp_model.specs.Kernels.{sim}
 use Rattle.qp_model.specs.Sources.{SourceEnd, AllDone, BeforeStimulus, AfterTry, AtAssert, InStimulus, look_may}
 use Rattle.qp_model.specs.OneOrder.{Placed, stim_of, is_stim, begun}
-use Rattle.qp_model.proofs.KnowingLemmas.{records_of-append}
-use Rattle.qp_sources.specs.Underway.{Underway, underway_begin, underway_next, underway_done, underway_asserted, underway_tried}
+use Rattle.qp_sources.specs.Underway.{Underway, underway_begin, underway_next, underway_done}
 use Rattle.qp_sources.specs.SourceState.{SourceState, Between, Within, source_next, source_after, source_stops, stim_next, goes_on}
 use Rattle.qp_sources.proofs.StimLemmas.{underway-stim}
 use Rattle.qp_course.proofs.NextLemmas.{mapped}
-use Rattle.qp_orders.specs.RunOrder.{placed}
 use Rattle.qp_orders.specs.Placing.{all_placed}
 use Rattle.qp_unique.proofs.LookLemmas.{begins, begun_in}
-use Rattle.qp_unique.proofs.AwayLemmas.{differs, done-none, asserted-none, untried}
+use Rattle.qp_unique.proofs.AwayLemmas.{done-none, asserted-none, untried}
 use Rattle.qp_unique.proofs.Sides.{lane_in}
 
 -- the records of a lane in the order

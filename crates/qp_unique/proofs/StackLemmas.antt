@@ -1,26 +1,17 @@
 -- The steps under way in lane 0: each is of an object above those that it interrupts. So an object whose step is done has no other.
-use Rattle.std.proofs.Common.{◌≡◌, ◌∙◌, ℕ, zero, suc, ◌+◌, ◌<◌, ◌≤◌, ◌==◌, nat_lt, nat_le, max, Bool, true, false, not, ◌&&◌, cond, List, [], ◌∷◌, ◌++◌, map, reverse, if◌then◌else◌, Some, None, refl, sym, ap, subst, inl, inr, ◌⊎◌, arith}
+use Rattle.std.proofs.Common.{◌≡◌, ◌∙◌, ℕ, ◌+◌, ◌<◌, ◌≤◌, ◌==◌, nat_lt, max, Bool, true, false, not, ◌&&◌, cond, List, [], ◌∷◌, ◌++◌, map, reverse, Some, refl, sym, ap, subst, inl, inr, ◌⊎◌, arith}
 use Rattle.std.proofs.lemmas.Bool.Decides.{nat_tests}
 use Rattle.std.proofs.lemmas.List.{reverse-append}
-use Rattle.std.specs.declared.option.Option.{Option}
-use Rattle.std.specs.Option.{is_some, option_map_or, option_and_then, unwrap_or}
+use Rattle.std.specs.Option.{is_some}
 use Rattle.std.specs.List.{filter, find, AllByRecursion}
 use Rattle.qp_model.specs.declared.systems.System.{System}
 use Rattle.qp_model.specs.declared.systems.ObjectDef.{ObjectDef}
-use Rattle.qp_model.specs.declared.bodies.Entry.{Entry}
-use Rattle.qp_model.specs.declared.bodies.Body.{Body}
-use Rattle.qp_model.specs.declared.bodies.Body.TheVariants as body
 use Rattle.qp_model.specs.Record.{Item}
-use Rattle.qp_model.specs.Knowing.{Facts, told}
-use Rattle.qp_model.specs.Ends.{is_spill, is_turn_mark, spills_in}
 use Rattle.qp_model.specs.Kernels.{sim, qk, qv}
 use Rattle.qp_model.specs.Sites.{object_at}
-use Rattle.qp_model.specs.Pieces.{Piece, Tell, Point, ends_at_point}
 use Rattle.qp_model.specs.WordLaw.{is_object}
-use Rattle.qp_model.specs.KernelLane.{Role, Looks, Sees, Takes, Ends, Rests, Holds, Drops, RunsOut, Spills, Acts, role_of, Setting, threshold_of, floor_in, above, Upcoming, Inside, Looking, Chosen, Ended, Resting, Again, Over, Halted, Reading, base_ended, found_none, looking_at, lane_next, lane_on, unread}
-use Rattle.qp_model.specs.Points.{pieces_at, pieces_in, is_look, begins_row}
-use Rattle.qp_orders.specs.Placing.{look_item}
-use Rattle.qp_unique.proofs.KernelLemmas.{Slot, Starts, Runs, Releases, IsLook, IsSeen, IsTook, IsSpent, IsRest, Went, IsDone, GoesOn, IsOwned, slot-of}
+use Rattle.qp_model.specs.KernelLane.{role_of, Setting, threshold_of, floor_in, above, Upcoming, Inside, Looking, Chosen, Ended, Resting, Again, Over, Halted, Reading, base_ended, found_none, looking_at, unread}
+use Rattle.qp_unique.proofs.KernelLemmas.{Slot, Starts, Runs, Releases, IsLook, IsSeen, IsTook, IsSpent, IsRest, IsDone, GoesOn, IsOwned}
 
 -- what is found is of the list, and passes
 pub found-in : (test : ObjectDef → Bool) (ds : List ObjectDef) (d : ObjectDef) → find test ds ≡ Some d → (P : ObjectDef → Type 0) → AllByRecursion P ds → P d × (test d ≡ true)

@@ -1,38 +1,13 @@
 -- One record more of lane 0: what it is to the lane, to its object, and to the words.
-use Rattle.std.proofs.Common.{◌≡◌, ◌∙◌, ℕ, zero, suc, ◌+◌, ◌<◌, ◌≤◌, ◌==◌, nat_lt, nat_le, Bool, true, false, not, ◌&&◌, ◌||◌, cond, List, [], ◌∷◌, ◌++◌, map, length, Some, None, refl, sym, ap, subst, inl, inr, ◌⊎◌, arith, append-nil}
-use Rattle.std.proofs.lemmas.Bool.Decides.{nat_tests}
-use Rattle.std.proofs.lemmas.List.{append_assoc}
-use Rattle.std.specs.declared.option.Option.{Option}
-use Rattle.std.specs.Option.{option_and_then, option_map_or, unwrap_or, is_some}
-use Rattle.std.specs.List.{list_any, AllByRecursion}
-use Rattle.qp_chart.specs.declared.checked.Chart.{Chart}
-use Rattle.qp_model.specs.declared.stimulus.Stim.{Stim}
-use Rattle.qp_model.specs.declared.systems.System.{System}
-use Rattle.qp_model.specs.declared.systems.ObjectDef.{ObjectDef}
+use Rattle.std.proofs.Common.{◌≡◌, ◌∙◌, ℕ, ◌+◌, ◌==◌, nat_lt, Bool, true, false, not, ◌&&◌, cond, List, [], ◌∷◌, refl, sym, ap, subst, inl, inr, ◌⊎◌}
 use Rattle.qp_model.specs.declared.bodies.Entry.{Entry}
-use Rattle.qp_model.specs.declared.bodies.Body.{Body}
 use Rattle.qp_model.specs.declared.bodies.Body.TheVariants as body
 use Rattle.qp_model.specs.Record.{Item}
-use Rattle.qp_model.specs.Told.{Told}
-use Rattle.qp_model.specs.Knowing.{Facts, told, known_of}
-use Rattle.qp_model.specs.Ends.{is_spill, is_turn_mark, spills_in}
 use Rattle.qp_model.specs.Kernels.{sim, qk, qv}
-use Rattle.qp_model.specs.Sites.{object_at}
-use Rattle.qp_model.specs.WordLaw.{is_object}
-use Rattle.qp_model.specs.Pieces.{Piece, Tell, Point, ends_at_point}
-use Rattle.qp_model.specs.Acts.{Actor}
-use Rattle.qp_model.specs.Course.{actor, first_config}
-use Rattle.qp_model.specs.KernelLane.{Role, Looks, Sees, Takes, Ends, Rests, Holds, Drops, RunsOut, Spills, Acts, role_of, Setting, floor_in, Upcoming, Inside, Looking, Chosen, Ended, Resting, Again, Over, Halted, Reading, base_ended, found_none, looking_at, lane_next, lane_on, unread}
-use Rattle.qp_model.specs.Points.{pieces_at, pieces_in, is_look, begins_row}
-use Rattle.qp_model.specs.OneOrder.{Placed, with_stimuli, parts_of_look, look_of}
-use Rattle.qp_model.proofs.KernelRowLemmas.{lane_on-then, lane_on-next, pieces_in-then}
-use Rattle.qp_course.specs.Machine.{State, start_state, run, next as piece_next}
-use Rattle.qp_orders.specs.RunOrder.{placed, items_of}
+use Rattle.qp_model.specs.KernelLane.{Drops, role_of, Setting, floor_in, Upcoming, Inside, Looking, Chosen, Ended, Resting, Again, Over, Halted, Reading, base_ended, found_none, looking_at}
+use Rattle.qp_course.specs.Machine.{run}
 use Rattle.qp_orders.specs.Placing.{look_item}
-use Rattle.qp_unique.specs.Held.{Held, Comes}
-use Rattle.qp_unique.proofs.KernelLemmas.{Slot, Starts, Runs, Releases, IsLook, IsSeen, IsTook, IsSpent, IsRest, Went, IsDone, GoesOn, IsOwned, slot-of, MayLook}
-use Rattle.qp_unique.proofs.StackLemmas.{Stacked, IsObject}
-use Rattle.qp_unique.proofs.Sides.{Side, Along, in_sim, order_of, held_to, MayEnd}
+use Rattle.qp_unique.proofs.KernelLemmas.{Slot, Starts, Runs, Releases, IsLook, IsSeen, IsTook, IsSpent, IsRest, IsDone, GoesOn, IsOwned, MayLook}
 
 -- the count of looks stays
 kept-base : (s : Setting) (k : Reading) → (base_ended s k).looks ≡ k.looks

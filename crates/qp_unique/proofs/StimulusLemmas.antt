@@ -1,10 +1,7 @@
 -- By what the words hold, a stimulus goes on by one record alone.
 use Rattle.std.proofs.Common.{◌≡◌, ℕ, ◌+◌, ◌-◌, ◌==◌, nat_lt, Bool, true, false, ◌&&◌, List, [], ◌∷◌, cond, Some, None, refl, sym, subst, ap, arith}
 use Rattle.std.proofs.lemmas.Bool.Decides.{nat_tests}
-use Rattle.std.specs.declared.option.Option.{Option}
-use Rattle.std.specs.Option.{option_map}
 use Rattle.qp_model.specs.declared.systems.System.{System}
-use Rattle.qp_model.specs.declared.bodies.Entry.{Entry}
 use Rattle.qp_model.specs.declared.bodies.Body.{Body}
 use Rattle.qp_model.specs.declared.bodies.Body.TheVariants as body
 use Rattle.qp_model.specs.Record.{entry}
@@ -19,8 +16,8 @@ use Rattle.qp_sources.specs.TickState.{Due, TickState, Reaching, Fired, Vain, ha
 use Rattle.qp_sources.specs.SettleState.{SettleState, Before, Seeing, settle_next, before_next, seen_next, behind_seen}
 use Rattle.qp_sources.specs.Underway.{Underway, Calling, Ticking, Settling, underway_next}
 use Rattle.qp_course.proofs.NextLemmas.{mapped, tested}
-use Rattle.qp_unique.specs.Held.{Held, IsCounted, Comes, comes_next, known_then}
-use Rattle.qp_unique.specs.NextInCall.{stage_told, post_told}
+use Rattle.qp_unique.specs.Held.{Held, IsCounted, Comes, comes_next}
+use Rattle.qp_unique.specs.NextInCall.{post_told}
 use Rattle.qp_unique.specs.NextInSource.{reach_told, tick_told, seen_told, settle_told, underway_told}
 use Rattle.qp_unique.specs.Laws.{StimulusGoesOnAlone}
 use Rattle.qp_unique.proofs.CallLemmas.{call_goes_on_alone, post-granted, post-asserted}

@@ -1,5 +1,5 @@
 -- A lawful journal of `sim` without a `spill` is the only one.
-use Rattle.std.proofs.Common.{◌≡◌, ◌∙◌, ℕ, zero, suc, ◌+◌, ◌<◌, ◌≤◌, ◌==◌, Bool, true, false, not, ◌&&◌, ◌||◌, cond, List, [], ◌∷◌, ◌++◌, map, length, Some, None, refl, sym, ap, subst, inl, inr, ◌⊎◌, arith, append-nil}
+use Rattle.std.proofs.Common.{◌≡◌, ◌∙◌, ℕ, ◌+◌, ◌<◌, ◌≤◌, ◌==◌, Bool, true, false, ◌||◌, cond, List, [], ◌∷◌, ◌++◌, map, length, Some, None, refl, sym, ap, subst, inl, inr, ◌⊎◌, arith}
 use Rattle.std.proofs.lemmas.Bool.Decides.{nat_tests}
 use Rattle.std.proofs.lemmas.List.{length-map}
 use Rattle.std.specs.declared.option.Option.{Option}
@@ -23,10 +23,10 @@ use Rattle.qp_model.specs.Kernels.{sim}
 use Rattle.qp_model.specs.Sites.{object_at}
 use Rattle.qp_model.specs.WordLaw.{is_object}
 use Rattle.qp_model.specs.KernelLane.{Setting, Reading, floor_in, role_of, threshold_of, is_whole}
-use Rattle.qp_model.specs.OneOrder.{Placed, is_stim_at, with_stimuli}
+use Rattle.qp_model.specs.OneOrder.{Placed, is_stim_at}
 use Rattle.qp_model.specs.Lawful.{Lawful, EndHolds, facts_of, setting_of, source_lanes}
 use Rattle.qp_course.specs.Followable.{IsFollowable}
-use Rattle.qp_orders.specs.RunOrder.{placed, items_of, has_stim}
+use Rattle.qp_orders.specs.RunOrder.{has_stim}
 use Rattle.qp_orders.specs.Placing.{look_item}
 use Rattle.qp_unique.proofs.KernelLemmas.{Slot, Starts, Runs, Releases, IsLook, IsSeen, IsTook, IsSpent, IsRest}
 use Rattle.qp_unique.specs.Tidy.{run_order, IsTidy}
@@ -34,7 +34,7 @@ use Rattle.qp_unique.specs.Laws.{TidyJournalsAreOne}
 use Rattle.qp_unique.proofs.StackLemmas.{found-in, IsObject}
 use Rattle.qp_unique.proofs.LoopLemmas.{lane-whole}
 use Rattle.qp_unique.proofs.EqualLemmas.{same-lanes, zero-is}
-use Rattle.qp_unique.proofs.JournalLemmas.{all-front, all-join, Threaded, threaded, all-split, lane0-is, ends-run, turn-at, each-unspilt}
+use Rattle.qp_unique.proofs.JournalLemmas.{all-join, Threaded, threaded, all-split, lane0-is, ends-run, turn-at, each-unspilt}
 use Rattle.qp_unique.proofs.SideLemmas.{kernel-read, unspilt-zero, course-of, unmarked-of, comes-of, counted-of}
 use Rattle.qp_unique.proofs.SideParts.{slot-at, source-of, placed-of, within-of, spent-of, lane-unspilt, each-by, joined-each}
 use Rattle.qp_unique.proofs.Sides.{Side, HasEnded, in_sim, order_of, lane_in}
@@ -150,16 +150,16 @@ module _ (sys : System) (stimuli : List (List Stim)) (sound : IsSound sys) (foll
         by (inl cut) false e =
             let none = none-each (λ (z : Placed). is_end z.item.body) (order_of sys charts stimuli budget side) e in
             let zero_none : AllByRecursion (λ i. is_end i.body ≡ false) (lane_items (lane_at j 0)) =
-                subst (AllByRecursion (λ i. is_end i.body ≡ false)) (zero-is true (source_lanes sys j) (lane_items (lane_at j 0))) (lane-none (λ i. is_end i.body) (order_of sys charts stimuli budget side) 0 none) in
+            subst (AllByRecursion (λ i. is_end i.body ≡ false)) (zero-is true (source_lanes sys j) (lane_items (lane_at j 0))) (lane-none (λ i. is_end i.body) (order_of sys charts stimuli budget side) 0 none) in
             let sources_none : AllByRecursion (λ l. AllByRecursion (λ i. is_end i.body ≡ false) l) (source_lanes sys j) =
-                each-by (λ l. AllByRecursion (λ i. is_end i.body ≡ false) l) (source_lanes sys j)
-                (λ front l back is. subst (AllByRecursion (λ i. is_end i.body ≡ false)) (sym (lane-whole sys charts stimuli budget bounded positive side front l back is))
-                (lane-none (λ i. is_end i.body) (order_of sys charts stimuli budget side) (1 + length front) none)) in
+            each-by (λ l. AllByRecursion (λ i. is_end i.body ≡ false) l) (source_lanes sys j)
+            (λ front l back is. subst (AllByRecursion (λ i. is_end i.body ≡ false)) (sym (lane-whole sys charts stimuli budget bounded positive side front l back is))
+            (lane-none (λ i. is_end i.body) (order_of sys charts stimuli budget side) (1 + length front) none)) in
             let others : AllByRecursion (λ i. is_end i.body ≡ false) (all_items t.others) =
-                joined-each (λ i. is_end i.body ≡ false) t.others (subst (AllByRecursion (λ l. AllByRecursion (λ i. is_end i.body ≡ false) l)) t.sources_are sources_none) in
+            joined-each (λ i. is_end i.body ≡ false) t.others (subst (AllByRecursion (λ l. AllByRecursion (λ i. is_end i.body ≡ false) l)) t.sources_are sources_none) in
             let all : AllByRecursion (λ i. is_end i.body ≡ false) (all_items j.lanes) =
-                subst (AllByRecursion (λ i. is_end i.body ≡ false)) (sym (all-split sys stimuli j t))
-                (all-join (λ i. is_end i.body ≡ false) (lane_items t.first) (all_items t.others) (subst (AllByRecursion (λ i. is_end i.body ≡ false)) (lane0-is sys stimuli j t) zero_none) others) in
+            subst (AllByRecursion (λ i. is_end i.body ≡ false)) (sym (all-split sys stimuli j t))
+            (all-join (λ i. is_end i.body ≡ false) (lane_items t.first) (all_items t.others) (subst (AllByRecursion (λ i. is_end i.body ≡ false)) (lane0-is sys stimuli j t) zero_none) others) in
             absurd (cut-end (all_items j.lanes) j.end law.end.stated cut (each-none (λ i. is_end i.body) (all_items j.lanes) all))
 
 any-find : {A : Type 0} (p : A → Bool) (xs : List A) → list_any p xs ≡ true → (front : List A) × (x : A) × (back : List A) × (xs ≡ front ++ x ∷ back) × (p x ≡ true)
@@ -236,8 +236,8 @@ tidy_journals_are_one sys stimuli i j sound followable law_i law_j sim_i sim_j b
     let sj = side sys stimuli sound followable j i.budget law_j sim_j (sym budgets) unspilt_j tidy_j in
     let size : length (source_lanes sys i) ≡ length (source_lanes sys j) = sized sys stimuli i ti ∙ sym (sized sys stimuli j tj) in
     let same = same-lanes sys (charts sys stimuli sound followable) stimuli i.budget (bounded sys stimuli sound followable) (positive sys stimuli sound followable) si sj
-        (ended sys stimuli sound followable i i.budget law_i sim_i refl unspilt_i tidy_i) (ended sys stimuli sound followable j i.budget law_j sim_j (sym budgets) unspilt_j tidy_j)
-        (unlooked sys stimuli i ti law_i sim_i ∙ sym (unlooked sys stimuli j tj law_j sim_j)) size in
+    (ended sys stimuli sound followable i i.budget law_i sim_i refl unspilt_i tidy_i) (ended sys stimuli sound followable j i.budget law_j sim_j (sym budgets) unspilt_j tidy_j)
+    (unlooked sys stimuli i ti law_i sim_i ∙ sym (unlooked sys stimuli j tj law_j sim_j)) size in
     let lanes : map (λ lane. lane_items lane) i.lanes ≡ map (λ lane. lane_items lane) j.lanes = lanes-are sys stimuli i ti ∙ ap (λ l. l ∷ source_lanes sys i) same.0 ∙ ap (λ ls. lane_items (lane_at j 0) ∷ ls) same.1 ∙ sym (lanes-are sys stimuli j tj) in
     let items : all_items i.lanes ≡ all_items j.lanes = joined i.lanes ∙ ap joined_items lanes ∙ sym (joined j.lanes) in
     let one : (i.end == end_of (all_items i.lanes)) ≡ true = law_i.end.stated in

@@ -1,10 +1,10 @@
 -- The piece by which an object's course goes on, by what the words hold.
-use Rattle.std.specs.Prelude.{◌≡◌, ℕ, ◌+◌, max, List, [], ◌∷◌, Some, None}
+use Rattle.std.specs.Prelude.{ℕ, ◌+◌, max, List, [], ◌∷◌, Some, None}
 use Rattle.std.specs.declared.option.Option.{Option}
 use Rattle.std.specs.Option.{option_map}
 use Rattle.qp_model.specs.declared.systems.System.{System}
 use Rattle.qp_model.specs.declared.bodies.Entry.{Entry}
-use Rattle.qp_model.specs.Told.{Told, Event, plain, raised, taken}
+use Rattle.qp_model.specs.Told.{Told, plain, raised, taken}
 use Rattle.qp_model.specs.Line.{Line}
 use Rattle.qp_model.specs.Pieces.{Piece, Tell, Point}
 use Rattle.qp_model.specs.Acts.{Actor}

@@ -1,14 +1,13 @@
 -- The record by which a stimulus goes on, by what the words hold.
-use Rattle.std.specs.Prelude.{ℕ, ◌+◌, ◌-◌, ◌==◌, List, [], ◌∷◌, if◌then◌else◌, Some, None}
+use Rattle.std.specs.Prelude.{ℕ, ◌-◌, ◌==◌, [], ◌∷◌, if◌then◌else◌, Some, None}
 use Rattle.std.specs.declared.option.Option.{Option}
 use Rattle.qp_model.specs.declared.systems.System.{System}
 use Rattle.qp_model.specs.declared.bodies.Body.TheVariants as body
 use Rattle.qp_model.specs.Record.{entry}
-use Rattle.qp_model.specs.Line.{Line}
 use Rattle.qp_model.specs.TimeEvents.{Clock}
 use Rattle.qp_model.specs.Told.{Told, plain}
 use Rattle.qp_model.specs.Sites.{ring_of}
-use Rattle.qp_sources.specs.TickState.{Due, TickState, Reaching, Fired, Vain}
+use Rattle.qp_sources.specs.TickState.{TickState, Reaching, Fired, Vain}
 use Rattle.qp_sources.specs.SettleState.{SettleState, Before, Seeing}
 use Rattle.qp_sources.specs.Underway.{Underway, Calling, Ticking, Settling}
 use Rattle.qp_unique.specs.Held.{Held}
