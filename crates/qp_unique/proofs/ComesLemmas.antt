@@ -1,5 +1,5 @@
 -- Each record of a run comes next by what the words hold after the records before it.
-use Rattle.std.proofs.Common.{◌≡◌, ◌∙◌, ℕ, suc, ◌+◌, ◌<◌, ◌≤◌, ◌==◌, true, ◌&&◌, List, [], ◌∷◌, ◌++◌, length, take, refl, sym, ap, subst, arith}
+use Rattle.std.proofs.Common.{◌≡◌, ◌∙◌, ℕ, suc, ◌+◌, ◌<◌, ◌≤◌, ◌==◌, nat_lt, true, ◌&&◌, List, [], ◌∷◌, ◌++◌, length, take, refl, sym, ap, subst, arith}
 use Rattle.std.proofs.lemmas.Bool.Decides.{nat_tests}
 use Rattle.std.specs.declared.option.Option.{Option}
 use Rattle.std.specs.List.{AllByRecursion}
@@ -16,7 +16,7 @@ use Rattle.qp_model.specs.Told.{Event, Free, Left, Member}
 use Rattle.qp_model.specs.Knowing.{known_of, free_before, left_after, set_at, event_of, event_known}
 use Rattle.qp_model.specs.History.{all_items, hist, total, touch_of, drawn_on, Draws, Shows}
 use Rattle.qp_model.specs.Places.{is_next, in_order}
-use Rattle.qp_model.specs.Machine.{Machine, after}
+use Rattle.qp_model.specs.Machine.{Machine, after, is_allowed}
 use Rattle.qp_model.specs.FreeBlocks.{free_blocks}
 use Rattle.qp_model.specs.References.{Refs, references}
 use Rattle.qp_model.specs.Lives.{life_of}
@@ -30,7 +30,8 @@ use Rattle.qp_model.proofs.MachineLemmas.{Counts, after-append}
 use Rattle.qp_model.proofs.WordLawLemmas.{free_blocks-counts, subscribers-counts, time_event-counts}
 use Rattle.qp_unique.specs.Held.{comes_next, known_then}
 use Rattle.qp_unique.specs.Fronts.{log_of, held_after, names_its, has_word}
-use Rattle.qp_unique.proofs.FrontLemmas.{same_word-refl, is-next, drawn-below, may-next, says-next, count-next, take-front, take-next}
+use Rattle.qp_unique.proofs.PoolLemmas.{back-below, given-below}
+use Rattle.qp_unique.proofs.FrontLemmas.{same_word-refl, is-next, hist-next, drawn-below, may-next, says-next, count-next, take-front, take-next}
 
 -- a record of o
 abbrev said : ℕ → Body → Item
@@ -89,6 +90,25 @@ module _ (sys : System) (lanes : List (List Rec)) (words : Words sys lanes) (ord
       let same : (suc n == suc (total w xs)) ≡ true = next in
       grind (arith, nat_tests)
 
+  -- a block given out or put back is its pool's
+  given : (p n b from sig o : ℕ) (pars : List ℕ) → is_pool sys p ≡ true → At o (New p n b from sig pars) → is_block sys p b ≡ true
+  unfolding is_block
+  given p n b from sig o pars pool at =
+      let keeps = words.pools p pool in
+      let rest = hist-next (all_items lanes) order inside ordered (word.Pool p) keeps.numbers xs (said o (New p n b from sig pars)) ys at (same_word-refl (word.Pool p)) in
+      let lt : b < blocks_of sys p =
+      given-below (blocks_of sys p) o p n b from sig pars rest.0 (log_of (word.Pool p) xs) (subst (λ zs. is_allowed (free_blocks (blocks_of sys p)) zs ≡ true) rest.1 keeps.allowed) in
+      let below : nat_lt b (blocks_of sys p) ≡ true = grind (arith, nat_tests) in
+      true_both _ _ pool below
+
+  back : (p n b to o : ℕ) → is_pool sys p ≡ true → At o (Back p n b to) → is_block sys p b ≡ true
+  unfolding is_block
+  back p n b to o pool at =
+      let may = draws (free_blocks (blocks_of sys p)) (word.Pool p) (suc n) o (Back p n b to) (words.pools p pool) at refl in
+      let lt : b < blocks_of sys p = back-below (blocks_of sys p) (after (free_blocks (blocks_of sys p)) (log_of (word.Pool p) xs)) p n b to may in
+      let below : nat_lt b (blocks_of sys p) ≡ true = grind (arith, nat_tests) in
+      true_both _ _ pool below
+
   module _ (events : Entry → Option Event) (c : ℕ) where
     pub comes-front : (o : ℕ) (b : Body) → At o b → names_its sys o b ≡ true → comes_next sys (held_after sys events c xs) o b ≡ true
     unfolding names_its has_word comes_next held_after
@@ -101,11 +121,11 @@ module _ (sys : System) (lanes : List (List Rec)) (words : Words sys lanes) (ord
     comes-front o (NoEntry a f l m) at h = (shows (line (ring_of sys a)) (word.Queue a) (f + l + m) o (NoEntry a f l m) (words.queues a h) at refl).2
     comes-front o (NoLifo a f l m) at h = (shows (line (ring_of sys a)) (word.Queue a) (f + l + m) o (NoLifo a f l m) (words.queues a h) at refl).2
     comes-front o (New p n b from sig pars) at h =
-        true_both _ _ (draws (free_blocks (blocks_of sys p)) (word.Pool p) (suc n) o (New p n b from sig pars) (words.pools p (pool-of-block sys p b h)) at refl)
-        (lived p b o (New p n b from sig pars) (suc n) h at refl)
+        true_both _ _ (draws (free_blocks (blocks_of sys p)) (word.Pool p) (suc n) o (New p n b from sig pars) (words.pools p h) at refl)
+        (lived p b o (New p n b from sig pars) (suc n) (given p n b from sig o pars h at) at refl)
     comes-front o (Back p n b to) at h =
-        true_both _ _ (draws (free_blocks (blocks_of sys p)) (word.Pool p) (suc n) o (Back p n b to) (words.pools p (pool-of-block sys p b h)) at refl)
-        (lived p b o (Back p n b to) (suc n) h at refl)
+        true_both _ _ (draws (free_blocks (blocks_of sys p)) (word.Pool p) (suc n) o (Back p n b to) (words.pools p h) at refl)
+        (lived p b o (Back p n b to) (suc n) (back p n b to o h at) at refl)
     comes-front o (Short p n free reserve) at h =
         both-counts (free_blocks (blocks_of sys p)) (word.Pool p) n o (Short p n free reserve) (free_blocks-counts (blocks_of sys p)) (words.pools p h) at refl
     comes-front o (NoBlock p n free) at h =
@@ -131,7 +151,7 @@ module _ (sys : System) (lanes : List (List Rec)) (words : Words sys lanes) (ord
     unfolding names_its has_word known_of known_then held_after free_before left_after set_at
     known-front o (Took f l m e) at h event = ap event_known (event f l m e refl)
     known-front o (New p n b from sig pars) at h event =
-        let pool = (words.pools p (pool-of-block sys p b h)) in
+        let pool = words.pools p h in
         let number : n ≡ total (word.Pool p) xs = drawn-number (word.Pool p) n o (New p n b from sig pars) at refl in
         let few : total (word.Pool p) xs < total (word.Pool p) (all_items lanes) =
         drawn-below (all_items lanes) order inside ordered (word.Pool p) pool.numbers xs (said o (New p n b from sig pars)) ys at (same_word-refl (word.Pool p)) in

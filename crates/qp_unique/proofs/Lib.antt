@@ -2,6 +2,7 @@ pub mod CallLemmas
 pub mod CourseLemmas
 pub mod StimulusLemmas
 pub mod FrontLemmas
+pub mod PoolLemmas
 pub mod ComesLemmas
 pub mod LookLemmas
 pub mod KernelLemmas

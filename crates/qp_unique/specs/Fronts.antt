@@ -7,7 +7,6 @@ use Rattle.qp_model.specs.declared.words.Word.TheVariants as word
 use Rattle.qp_model.specs.declared.systems.System.{System}
 use Rattle.qp_model.specs.declared.bodies.Entry.{Entry}
 use Rattle.qp_model.specs.declared.bodies.Body.{Body}
-use Rattle.qp_model.specs.declared.bodies.Body.TheVariants.{New, Back}
 use Rattle.qp_model.specs.Record.{Item}
 use Rattle.qp_model.specs.Told.{Event}
 use Rattle.qp_model.specs.History.{Touch, Draws, Shows, Neither, touch, touch_of, drawn_on}
@@ -54,9 +53,7 @@ touches_its sys (Draws w mark) = has_word sys w
 touches_its sys (Shows w mark) = has_word sys w
 touches_its sys Neither = true
 
--- the words that a record of o names are the system's
+-- the word that a record of o draws a number of, or shows, is the system's
 unfoldable pub names_its : System → ℕ → Body → Bool
-unfolding has_word is_block
-names_its sys o (New p n b from sig pars) = is_block sys p b
-names_its sys o (Back p n b to) = is_block sys p b
+unfolding has_word
 names_its sys o b = touches_its sys (touch_of o b)
