@@ -1,5 +1,5 @@
 -- A course counts its steps: between two of them as many are done as began, and the start.
-use Rattle.std.proofs.Common.{◌≡◌, ℕ, zero, suc, ◌+◌, ◌==◌, Bool, true, false, not, ◌&&◌, ◌||◌, List, [], ◌∷◌, ◌++◌, map, cond, refl, sym, ◌∙◌, ap, subst, inl, inr, ◌⊎◌, Option, Some, None, arith, append_assoc}
+use Rattle.std.proofs.Common.{◌≡◌, ℕ, zero, suc, ◌+◌, Bool, true, false, not, ◌&&◌, List, [], ◌∷◌, ◌++◌, map, cond, refl, sym, ◌∙◌, ap, subst, inl, inr, ◌⊎◌, Option, Some, None, arith, append_assoc}
 use Rattle.std.specs.Prelude.{slice_set}
 use Rattle.std.specs.Option.{option_and_then}
 use Rattle.std.specs.List.{count_by}
@@ -12,9 +12,9 @@ use Rattle.qp_model.specs.declared.systems.System.{System}
 use Rattle.qp_model.specs.declared.bodies.Entry.{Entry}
 use Rattle.qp_model.specs.declared.bodies.Body.{Body}
 use Rattle.qp_model.specs.declared.bodies.Body.TheVariants as item
-use Rattle.qp_model.specs.Told.{Told, Known, Event, plain, raised, taken, dropped}
+use Rattle.qp_model.specs.Told.{Told, Event}
 use Rattle.qp_model.specs.Groups.{is_post}
-use Rattle.qp_model.specs.Calls.{Answer, Deed, Sets, Says, Calls, deed_of, ok_after, is_assertion}
+use Rattle.qp_model.specs.Calls.{Deed, Sets, Says, Calls, deed_of, ok_after, is_assertion}
 use Rattle.qp_model.specs.ObjectShape.{is_assert, nothing_after, asserts_last, asserts_none}
 use Rattle.qp_model.specs.Acts.{Config, Actor, names_of}
 use Rattle.qp_model.specs.OutputSummary.{is_took, is_done}
@@ -26,7 +26,7 @@ use Rattle.qp_course.specs.Goes.{Way, Starting, Stepping, moment_of}
 use Rattle.qp_course.specs.Machine.{State, Between, Telling, Raising, AtPoint, InCall, AtPost, Releasing, Returning, Asserted, has_inner, done, answered, resumed, resume, deed_state, task_state, closed, closing, settle, noted, posted, step_state, start_state, left_over, tell_next}
 use Rattle.qp_course.specs.Passing.{through, settle_past, pass_actions, pass, run_told}
 use Rattle.qp_course.specs.Standing.{left_in}
-use Rattle.qp_course.proofs.NoteLemmas.{record_of, tells-is, raised-is, taken-is, dropped-is, back-is}
+use Rattle.qp_course.proofs.NoteLemmas.{tells-is, raised-is, taken-is, dropped-is, back-is}
 use Rattle.qp_course.proofs.NextLemmas.{mapped, tested}
 use Rattle.qp_course.proofs.BackLemmas.{some-first}
 use Rattle.qp_course.proofs.PassLemmas.{Shape, settle-shape, through-none}

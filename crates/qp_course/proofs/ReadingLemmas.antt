@@ -1,7 +1,6 @@
 -- A course read record by record comes where all its records lead.
 use Rattle.std.proofs.Common.{◌≡◌, ◌∙◌, List, [], ◌∷◌, refl, sym, ap, Option, Some, None}
 use Rattle.std.specs.Option.{option_and_then}
-use Rattle.qp_chart.specs.declared.checked.Chart.{Chart}
 use Rattle.qp_model.specs.declared.systems.System.{System}
 use Rattle.qp_model.specs.declared.systems.ObjectDef.{ObjectDef}
 use Rattle.qp_model.specs.Acts.{Actor}
@@ -12,7 +11,6 @@ use Rattle.qp_course.specs.Followable.{IsFollowable}
 use Rattle.qp_course.specs.Machine.{State, start_state, tell_next}
 use Rattle.qp_course.specs.Passing.{pass, run_told}
 use Rattle.qp_course.specs.Reading.{LeavesOf}
-use Rattle.qp_course.specs.Runs.{IsActorOf}
 use Rattle.qp_course.specs.Standing.{FollowSomehow, ShowsLeft, StandsAt, left_in}
 use Rattle.qp_course.specs.declared.reading.Reading.{Reading}
 use Rattle.qp_course.specs.declared.standing.Standing.{Standing}

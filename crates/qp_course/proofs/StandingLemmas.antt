@@ -1,5 +1,5 @@
 -- Where an object stands is where its course has come to.
-use Rattle.std.proofs.Common.{◌≡◌, ℕ, zero, suc, ◌+◌, ◌==◌, Bool, true, false, not, ◌&&◌, List, [], ◌∷◌, ◌++◌, refl, sym, ◌∙◌, ap, subst, inl, inr, Option, Some, None, arith}
+use Rattle.std.proofs.Common.{◌≡◌, ◌+◌, true, false, ◌&&◌, List, [], ◌∷◌, ◌++◌, refl, sym, ◌∙◌, ap, subst, inl, Option, Some, None, arith}
 use Rattle.std.proofs.lemmas.Bool.Decides.{nat_tests}
 use Rattle.std.specs.List.{count_by}
 use Rattle.qp_chart.specs.declared.checked.Chart.{Chart}
@@ -11,10 +11,10 @@ use Rattle.qp_model.specs.declared.bodies.Body.TheVariants as item
 use Rattle.qp_model.specs.Told.{Told, plain, dropped}
 use Rattle.qp_model.specs.Pieces.{Piece, Tell, bare}
 use Rattle.qp_model.specs.Acts.{Config, Actor}
-use Rattle.qp_model.specs.Course.{Cut, Course, FollowsTo, actor, chart_at, first_config}
+use Rattle.qp_model.specs.Course.{Course, FollowsTo, actor, chart_at, first_config}
 use Rattle.qp_model.specs.CourseLaws.{NothingFollowsAnAssertion}
 use Rattle.qp_model.specs.ObjectShape.{asserts_last, asserts_none}
-use Rattle.qp_model.specs.OutputSummary.{is_took, is_done, taken_in, all_done, begins_nothing}
+use Rattle.qp_model.specs.OutputSummary.{is_took, is_done, all_done, begins_nothing}
 use Rattle.qp_model.proofs.CourseLawLemmas.{nothing_follows_an_assertion}
 use Rattle.qp_model.proofs.GroupLemmas.{bare-append}
 use Rattle.qp_model.proofs.LastLemmas.{quiet-append}
@@ -28,7 +28,7 @@ use Rattle.qp_course.specs.Followable.{IsFollowable}
 use Rattle.qp_course.specs.Goes.{Aim, Meets, Starting, CourseGoes}
 use Rattle.qp_course.specs.Machine.{State, Between, Releasing, Returning, Goes, start_state}
 use Rattle.qp_course.specs.Passing.{run_told, is_none_told, told_well, told_to, asserts_where_cut}
-use Rattle.qp_course.specs.Standing.{left_in, IsOf, ShowsLeft, FollowSomehow, LeavesAt, StandsAt}
+use Rattle.qp_course.specs.Standing.{left_in, ShowsLeft, FollowSomehow, LeavesAt, StandsAt}
 use Rattle.qp_course.specs.declared.standing.Standing.{Standing}
 use Rattle.qp_course.proofs.BackLemmas.{some-first}
 use Rattle.qp_course.proofs.CourseLemmas.{goes-course, steps-none}

@@ -1,4 +1,4 @@
-use Rattle.std.proofs.Common.{◌≡◌, ◌∙◌, cond, None, ap, sym}
+use Rattle.std.proofs.Common.{◌∙◌, cond, None, ap, sym}
 use Rattle.qp_model.specs.Knowing.{event_known}
 use Rattle.qp_known.specs.KnownSteps.{last_from}
 use Rattle.qp_known.proofs.known_steps.event_at.Goals as goal

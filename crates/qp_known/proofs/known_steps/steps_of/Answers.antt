@@ -1,4 +1,4 @@
-use Rattle.std.proofs.Common.{◌∙◌, sym, subst, take}
+use Rattle.std.proofs.Common.{sym, subst, take}
 use Rattle.qp_model.specs.Record.{item_of}
 use Rattle.qp_lanes.proofs.WalkLemmas.{front_seen}
 use Rattle.qp_known.specs.KnownSteps.{AreSteps}
