@@ -102,6 +102,7 @@ fn migrate_found<'w>(found: &ArgMatches<'w>) -> Option<Command<'w>>
 }
 
 /// A system, its stimuli and a journal.
+#[derive(Clone, Copy)]
 struct Files<'w> {
     system: &'w str,
     stimuli: &'w str,
@@ -175,16 +176,10 @@ fn check_of<'w>(alloc: Global, words: &'w [&'w str]) -> Result<Option<Command<'w
     ensures { IfOk result (λ found. option_map asked_of found ≡ check_asked (texts words.entry.now)) }
 {
     match files_of(alloc, "check", words)? {
-        Some(
-            Files {
-                system,
-                stimuli,
-                journal,
-            },
-        ) => Ok(Some(Command::Check {
-            system,
-            stimuli,
-            journal,
+        Some(files) => Ok(Some(Command::Check {
+            system: files.system,
+            stimuli: files.stimuli,
+            journal: files.journal,
         })),
         None => Ok(None),
     }
@@ -194,16 +189,10 @@ fn replay_of<'w>(alloc: Global, words: &'w [&'w str]) -> Result<Option<Command<'
     ensures { IfOk result (λ found. option_map asked_of found ≡ replay_asked (texts words.entry.now)) }
 {
     match files_of(alloc, "replay", words)? {
-        Some(
-            Files {
-                system,
-                stimuli,
-                journal,
-            },
-        ) => Ok(Some(Command::Replay {
-            system,
-            stimuli,
-            journal,
+        Some(files) => Ok(Some(Command::Replay {
+            system: files.system,
+            stimuli: files.stimuli,
+            journal: files.journal,
         })),
         None => Ok(None),
     }
