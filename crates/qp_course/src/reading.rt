@@ -54,8 +54,8 @@ impl<'a> Reading<'a> {
 
     /// Where the object stands behind the records read; nowhere in the midst of its start or of a step.
     pub fn standing(self) -> Option<Standing>
-        ensures { (sys : system.System) (d : object.ObjectDef) (all : List telling.Told) → IsFollowable sys d → FollowSomehow sys d all → LeavesOf sys d self.entry [] all →
-            StandsAt sys d all result }
+        ensures { (sys : system.System) (d : object.ObjectDef) (all : List telling.Told) → IsFollowable sys d → FollowSomehow sys d all →
+            LeavesOf sys d self.entry [] all → StandsAt sys d all result }
     {
         let Reading { who: _, state } = self;
         state.standing()
