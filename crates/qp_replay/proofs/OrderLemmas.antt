@@ -91,7 +91,7 @@ places-more lane at (r ∷ rs) zero less = ap (λ n. place lane n ∷ []) (omega
 places-more lane at (r ∷ rs) (suc k) less =
     ap (λ l. place lane at ∷ l) (places-more lane (suc at) rs k (omega (arith, less))) ∙ ap (λ n. place lane at ∷ (places_in lane (suc at) (take k rs) ++ place lane n ∷ [])) (omega arith)
 
-taken-more : (lane : ℕ) (lanes : List (List Rec)) (fronts : List ℕ) (n : ℕ) → n < length fronts → get_or fronts n 0 < length (get_or lanes n [])
+pub taken-more : (lane : ℕ) (lanes : List (List Rec)) (fronts : List ℕ) (n : ℕ) → n < length fronts → get_or fronts n 0 < length (get_or lanes n [])
     → IsPermutation (taken lane lanes (set fronts n (get_or fronts n 0 + 1))) (place (lane + n) (get_or fronts n 0) ∷ taken lane lanes fronts)
 unfolding taken
 taken-more lane [] fronts n within less = absurd (omega (arith, less))
