@@ -18,13 +18,13 @@ use Rattle.qp_unique.proofs.SourceSteps.{lane_in-append}
 use Rattle.qp_unique.proofs.LoopLemmas.{same-order, agree-first, lane-whole}
 use Rattle.qp_unique.proofs.Sides.{Side, HasEnded, order_of, lane_in}
 
--- no record of a source stands in lane 0
-part-elsewhere : (lane k : ℕ) (cuts within : Bool) (is : List Item) → (lane == 0) ≡ false → lane_in (part_of_look lane k cuts within is) 0 ≡ []
+-- the records of a source stand in no other lane
+pub part-elsewhere : (lane j k : ℕ) (cuts within : Bool) (is : List Item) → (lane == j) ≡ false → lane_in (part_of_look lane k cuts within is) j ≡ []
 unfolding part_of_look
-part-elsewhere lane k cuts within [] h = refl
-part-elsewhere lane k cuts within (i ∷ is) h = by (belongs k cuts within i.body) (λ now. part-elsewhere lane k cuts now is h)
+part-elsewhere lane j k cuts within [] h = refl
+part-elsewhere lane j k cuts within (i ∷ is) h = by (belongs k cuts within i.body) (λ now. part-elsewhere lane j k cuts now is h)
   where
-    by : (b : Bool) → ((now : Bool) → lane_in (part_of_look lane k cuts now is) 0 ≡ []) → lane_in (cond b (placed lane i ∷ []) [] ++ part_of_look lane k cuts b is) 0 ≡ []
+    by : (b : Bool) → ((now : Bool) → lane_in (part_of_look lane k cuts now is) j ≡ []) → lane_in (cond b (placed lane i ∷ []) [] ++ part_of_look lane k cuts b is) j ≡ []
     by true later = rw h (later true)
     by false later = later false
 
@@ -32,7 +32,7 @@ parts-elsewhere : (lane k : ℕ) (cuts : Bool) (sources : List (List Item)) → 
 unfolding parts_of_look
 parts-elsewhere lane k cuts [] = refl
 parts-elsewhere lane k cuts (l ∷ ls) =
-    let here = part-elsewhere (1 + lane) k cuts false l (differs (1 + lane) 0 (λ e. omega (arith, e))) in
+    let here = part-elsewhere (1 + lane) 0 k cuts false l (differs (1 + lane) 0 (λ e. omega (arith, e))) in
     let next : (1 + lane) + 1 ≡ 1 + (lane + 1) = omega arith in
     lane_in-append (part_of_look (1 + lane) k cuts false l) (parts_of_look ((1 + lane) + 1) k cuts ls) 0
     ∙ ap (λ zs. zs ++ lane_in (parts_of_look ((1 + lane) + 1) k cuts ls) 0) here ∙ ap (λ n. lane_in (parts_of_look n k cuts ls) 0) next ∙ parts-elsewhere (lane + 1) k cuts ls

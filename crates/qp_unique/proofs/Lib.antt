@@ -14,6 +14,7 @@ pub mod ItemLemmas
 pub mod PairLemmas
 pub mod SourceSteps
 pub mod PartLemmas
+pub mod RunLanes
 pub mod ExtendLemmas
 pub mod LoopLemmas
 pub mod NilLemmas

@@ -39,7 +39,8 @@ use Rattle.qp_unique.proofs.KernelLemmas.{Slot, slot-of}
 use Rattle.qp_unique.proofs.StackLemmas.{found-in}
 use Rattle.qp_unique.proofs.ItemLemmas.{none-at}
 use Rattle.qp_unique.proofs.AwayLemmas.{differs}
-use Rattle.qp_unique.proofs.LoopLemmas.{look-whole, look-body}
+use Rattle.qp_unique.proofs.LoopLemmas.{look-whole}
+use Rattle.qp_unique.proofs.RunLanes.{look-body}
 use Rattle.qp_unique.proofs.JournalLemmas.{all-front, all-join, parts-all, Threaded, all-split, lane0-is, sources-each, inside, ends-run, each-unspilt, lane-each}
 use Rattle.qp_unique.proofs.SideLemmas.{holds, filter-none-spill, all-of, kernel-read, unspilt-zero, has_one}
 use Rattle.qp_unique.proofs.Sides.{in_sim}
@@ -215,7 +216,7 @@ module _ (sys : System) (stimuli : List (List Stim)) (j : Journal) (law : Lawful
           on None e h = absurd (cc)
           on (Some next) e h = (k, next, slot-of (in_sim sys (has_one sys stimuli j law is_sim t)) refl k next i unspilt e)
 
-  at-place : (front : List Item) (i : Item) (back : List Item) → lane_items (lane_at j 0) ≡ front ++ i ∷ back → (n floor : ℕ) → i.body ≡ body.Look n floor → i ≡ look_item n floor
+  pub at-place : (front : List Item) (i : Item) (back : List Item) → lane_items (lane_at j 0) ≡ front ++ i ∷ back → (n floor : ℕ) → i.body ≡ body.Look n floor → i ≡ look_item n floor
   at-place front i back is n floor look =
       let at = slot-at front i back is in look-whole (in_sim sys (has_one sys stimuli j law is_sim t)) at.0 at.1 i n floor at.2 look
 

@@ -54,6 +54,27 @@ pub record IsFront (xs : List Placed) (i : ℕ) (l : List Item) : Type 0 where
   pub is : l ≡ lane_in xs i ++ rest
   pub first : StimFirst rest
 
+-- What is known of the lanes of a run, whatever the words hold.
+pub record Lined (sys : System) (stimuli : List (List Stim)) : Type 0 where
+  pub w : Facts
+  pub has : ℕ → Bool
+  pub lane0 : List Item
+  pub sources : List (List Item)
+  pub cuts : Bool
+  pub unspilt_sources : (front : List (List Item)) (l : List Item) (back : List (List Item)) → sources ≡ front ++ l ∷ back → spills_in l ≡ false
+  pub turn : (xs : List Placed) (n floor : ℕ) (ys : List Placed) → with_stimuli cuts sources lane0 ≡ xs ++ placed 0 (look_item n floor) ∷ ys
+      → is_turn (acts_next sys stimuli xs (floor == 0)) (turns_at 1 n sources) ≡ true
+  pub has_is : (n : ℕ) → has n ≡ has_stim sources n
+  pub source : (front : List (List Item)) (l : List Item) (back : List (List Item)) → sources ≡ front ++ l ∷ back
+      → (list_all (λ i. i.of == 0) l ≡ true) × (end : SourceState) × (stop : SourceEnd)
+      × (source_after sys sim (Some (Between 1 (get_or stimuli (length front) []))) (records_of w 0 0 l) ≡ Some end)
+      × (source_stops sim end stop ≡ true) × (stop ≡ InStimulus → ⊥)
+  pub placed_so : (before : List (List Item)) (l : List Item) (behind : List (List Item)) → sources ≡ before ++ l ∷ behind → (xs : List Item) (i : Item) (ys : List Item) → l ≡ xs ++ i ∷ ys
+      → (p n : ℕ) → i.body ≡ body.Stim p n → (front : List Item) × (floor : ℕ) × (back : List Item) × (lane0 ≡ front ++ look_item n floor ∷ back)
+
+abbrev pub lined_order : (sys : System) (stimuli : List (List Stim)) → Lined sys stimuli → List Placed
+lined_order sys stimuli a = with_stimuli a.cuts a.sources a.lane0
+
 -- what is known of a whole run
 pub record Side (sys : System) (charts : (p : ℕ) (d : ObjectDef) → object_at sys p ≡ Some d → Chart) (stimuli : List (List Stim)) (budget : ℕ) : Type 0 where
   pub w : Facts
@@ -93,6 +114,20 @@ pub record Side (sys : System) (charts : (p : ℕ) (d : ObjectDef) → object_at
       → (p ≡ 0 → ⊥) → count_by (λ z. takes_of p z.item) xs ≡ budget
 
 module _ (sys : System) (charts : (p : ℕ) (d : ObjectDef) → object_at sys p ≡ Some d → Chart) (stimuli : List (List Stim)) (budget : ℕ) where
+  abbrev pub lined : Side sys charts stimuli budget → Lined sys stimuli
+  lined a = record {
+    w = a.w;
+    has = a.has;
+    lane0 = a.lane0;
+    sources = a.sources;
+    cuts = a.cuts;
+    unspilt_sources = a.unspilt_sources;
+    turn = a.turn;
+    has_is = a.has_is;
+    source = a.source;
+    placed_so = a.placed_so;
+  }
+
   abbrev pub order_of : Side sys charts stimuli budget → List Placed
   order_of a = with_stimuli a.cuts a.sources a.lane0
 
