@@ -1,0 +1,3 @@
+pub mod PlaceLemmas
+pub mod EventLemmas
+pub mod OnlyLemmas

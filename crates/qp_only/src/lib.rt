@@ -1,0 +1,4 @@
+//! What is true of all lawful journals of `sim`.
+#![tactic(auto)]
+
+pub mod laws;
