@@ -26,7 +26,7 @@ use Rattle.qp_model.specs.Sound.{IsSound, IsSoundPool}
 use Rattle.qp_model.proofs.HomeLemmas.{home_records-kernel}
 use Rattle.qp_model.proofs.TakenLemmas.{drop-head}
 use Rattle.qp_forms.specs.Laws.{CanBeWritten, QvHasForm, SimHasForms}
-use Rattle.qp_forms.proofs.CountLemmas.{form_for, is_said, is_said_by, is_kept, is_kept_by, both, and, kept-more, lane-kept, or-both, or-right, said-more}
+use Rattle.qp_forms.proofs.CountLemmas.{form_for, is_said_by, is_kept, is_kept_by, both, and, kept-more, lane-kept, or-both, or-right, said-more}
 use Rattle.qp_forms.proofs.CallLemmas.{AllSaid}
 use Rattle.qp_forms.proofs.ShapeLemmas.{shape-said}
 use Rattle.qp_forms.proofs.SourceLemmas.{says, told-says, source-kept}
@@ -166,14 +166,22 @@ module _ (sys : System) (stimuli : List (List Stim)) (j : Journal) (sound : IsSo
       subst (λ x. list_all (λ lane. list_all (is_kept_by rests) (lane_items lane)) x ≡ true) (sym at)
       (and _ _ (subst (λ x. list_all (is_kept_by rests) (lane_items x) ≡ true) first zero-kept) (sources-kept rests sys small j ls 1 stimuli (ap (drop 1) at) sources rest))
 
+  count : length j.lanes ≡ 1 + length stimuli
+  count =
+      let one : lanes_before sys j ≡ 1 = rw other refl in
+      let counted : length j.lanes ≡ lanes_before sys j + length stimuli = grind (arith, nat_tests, h.sources.count) in
+      omega (arith, one, counted)
+
+  -- so in all lanes
+  pub each-kept : list_all (λ lane. list_all (is_kept_by rests) (lane_items lane)) j.lanes ≡ true
+  each-kept =
+      let one : lanes_before sys j ≡ 1 = rw other refl in
+      all-kept j.lanes refl count (subst (λ n. SourceLanes sys j n stimuli) one h.sources.lanes)
+
   pub its-form : 0 < j.budget → j.budget ≤ 1000000 → CanBeWritten (form_for rests) j
   unfolding EndHolds deferred_of
   its-form some most =
-      let one : lanes_before sys j ≡ 1 = rw other refl in
-      let counted : length j.lanes ≡ lanes_before sys j + length stimuli = grind (arith, nat_tests, h.sources.count) in
-      let count : length j.lanes ≡ 1 + length stimuli = omega (arith, one, counted) in
-      let sources : SourceLanes sys j 1 stimuli = subst (λ n. SourceLanes sys j n stimuli) one h.sources.lanes in
-      let lanes = lanes-kept rests j.lanes (all-kept j.lanes refl count sources) h.end.last h.end.room in
+      let lanes = lanes-kept rests j.lanes each-kept h.end.last h.end.room in
       let kernel : nat_le j.kernel (last_kernel (form_for rests)) ≡ true = ap (λ k. nat_le k (last_kernel (form_for rests))) is ∙ known rests in
       let least : nat_le 1 j.budget ≡ true = grind (arith, nat_tests, some) in
       let greatest : nat_le j.budget 1000000 ≡ true = grind (arith, nat_tests, most) in
