@@ -50,7 +50,7 @@ deed-bare names (variant.Rearm t ticks) = ap (λ z. Calls (Rearm t (bits_of z)))
 deed-bare names (variant.Disarm t) = refl
 
 -- an object with its bare chart
-abbrev bare_actor : Actor → Actor
+abbrev pub bare_actor : Actor → Actor
 bare_actor x = record { o = x.o; chart = bare_chart x.chart; room = x.room }
 
 module _ (a b : System) (fits : Fits a ≡ Fits b) where
@@ -123,7 +123,7 @@ module _ (a b : System) (fits : Fits a ≡ Fits b) where
     steps-same (e ∷ es) (Some c) ps end =
         λ i. (one rest : List Piece) × (mid : Option Config) × (ps ≡ one ++ rest) × one-same e c one mid i × steps-same es mid rest end i
 
-    course-same : (first : Config) (es : List Entry) (ps : List Piece) (end : Option Config) → Course a x first es ps end ≡ Course b (bare_actor x) first es ps end
+    pub course-same : (first : Config) (es : List Entry) (ps : List Piece) (end : Option Config) → Course a x first es ps end ≡ Course b (bare_actor x) first es ps end
     unfolding Course
     course-same first es ps end =
         λ i. (start rest : List Piece) × (mid : Option Config) × (ps ≡ start ++ rest) × starts-same first start mid i × steps-same es mid rest end i
@@ -140,7 +140,7 @@ module _ (a b : System) (fits : Fits a ≡ Fits b) where
 
 -- an object follows its chart in the one as in the other
 module _ (a b : System) (fits : Fits a ≡ Fits b) (charts : map bare_chart a.charts ≡ map bare_chart b.charts) (d : ObjectDef) where
-  own-chart : (k : ℕ) → option_map bare_chart (slice_get a.charts k) ≡ option_map bare_chart (slice_get b.charts k)
+  pub own-chart : (k : ℕ) → option_map bare_chart (slice_get a.charts k) ≡ option_map bare_chart (slice_get b.charts k)
   own-chart k = sym (slice_get-map bare_chart a.charts k) ∙ ap (λ cs. slice_get cs k) charts ∙ slice_get-map bare_chart b.charts k
 
   follows-same : (ps : List Piece) → Follows a d ps ≡ Follows b d ps

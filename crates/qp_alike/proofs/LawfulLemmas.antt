@@ -44,7 +44,7 @@ module _ (a b : System) (h : Alike a b) (j : Journal) where
   unfolding cut_of
   cuts-same o = λ i. cond (may_cut j.end) (cond (spill_cuts o (lane_items (lane_at j (homes-same a b h j o i)))) Anywhere Stopped) Whole
 
-  by_object-same : (o : ℕ) → by_object (facts_of a j) j o ≡ by_object (facts_of b j) j o
+  pub by_object-same : (o : ℕ) → by_object (facts_of a j) j o ≡ by_object (facts_of b j) j o
   unfolding by_object facts_of
   by_object-same o =
       (λ i. records_of (own a b h (all_items j.lanes)) o 0 (lane_items (lane_at j (homes-same a b h j o i))))

@@ -15,4 +15,5 @@ pub mod SaidLemmas
 pub mod FileLemmas
 pub mod VerdictLemmas
 pub mod StimuliLemmas
+pub mod SummaryLemmas
 pub mod LawLemmas

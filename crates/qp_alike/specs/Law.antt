@@ -5,6 +5,7 @@ use Rattle.qp_model.specs.declared.stimulus.Stim.{Stim}
 use Rattle.qp_model.specs.declared.systems.System.{System}
 use Rattle.qp_model.specs.declared.journals.Journal.{Journal}
 use Rattle.qp_model.specs.Lawful.{Lawful}
+use Rattle.qp_model.specs.OutputSummary.{IsSummary}
 use Rattle.qp_stim.specs.Stimuli.{stimuli_of}
 use Rattle.qp_system.specs.SystemOf.{IsSystemOf}
 use Rattle.qp_word_rules.specs.declared.verdict.Verdict.{Verdict}
@@ -31,3 +32,8 @@ VerdictsAreOne =
 -- a text of stimuli says the same to each system of the bytes
 abbrev pub StimuliAreOne : Type 0
 StimuliAreOne = (bytes : List ℕ) (a b : System) (text : List ℕ) → IsSystemOf bytes a → IsSystemOf bytes b → stimuli_of a text ≡ stimuli_of b text
+
+-- a summary of a journal by one system of the bytes is one by each
+abbrev pub SummariesCarryOver : Type 0
+SummariesCarryOver =
+    (bytes : List ℕ) (a b : System) (j : Journal) (lines : List (List ℕ)) → IsSystemOf bytes a → IsSystemOf bytes b → IsSummary a j lines → IsSummary b j lines
