@@ -1,17 +1,21 @@
 -- A lawful journal of `sim` without a `spill` is tidy, and so the only one.
-use Rattle.std.proofs.Common.{◌≡◌, ◌∙◌, ℕ, zero, suc, ◌+◌, ◌<◌, ◌≤◌, ◌==◌, nat_lt, Bool, true, false, cond, List, [], ◌∷◌, ◌++◌, map, length, get_or, Some, None, refl, sym, ap, subst, arith}
+use Rattle.std.proofs.Common.{◌≡◌, ◌∙◌, ℕ, zero, suc, ◌+◌, ◌<◌, ◌≤◌, ◌==◌, nat_le, nat_lt, Bool, true, false, cond, List, [], ◌∷◌, ◌++◌, map, length, get_or, Some, None, refl, sym, ap, subst, arith}
+use Rattle.std.proofs.lemmas.Bool.{false≢true}
 use Rattle.std.proofs.lemmas.Bool.Decides.{nat_tests}
 use Rattle.std.proofs.lemmas.List.{length-map, map-append}
 use Rattle.std.specs.declared.option.Option.{Option}
 use Rattle.std.specs.Option.{option_map_or}
 use Rattle.std.specs.List.{list_all}
 use Rattle.qp_model.specs.declared.record.Rec.{Rec}
+use Rattle.qp_model.specs.declared.bodies.Body.{Body}
+use Rattle.qp_model.specs.declared.bodies.Body.TheVariants as body
 use Rattle.qp_model.specs.declared.words.Word.{Word}
 use Rattle.qp_model.specs.declared.words.Word.TheVariants as word
 use Rattle.qp_model.specs.declared.stimulus.Stim.{Stim}
 use Rattle.qp_model.specs.declared.systems.System.{System}
 use Rattle.qp_model.specs.declared.journals.Journal.{Journal}
 use Rattle.qp_model.specs.Record.{Item}
+use Rattle.qp_model.specs.KindSorts.{is_malformed}
 use Rattle.qp_model.specs.Sound.{IsSound}
 use Rattle.qp_model.specs.History.{Touch, Draws, Shows, Neither, touch, all_items, hist, is_numbered, lane_items}
 use Rattle.qp_model.specs.Home.{lane_at}
@@ -39,7 +43,11 @@ use Rattle.qp_unique.proofs.SideParts.{at-place, source-of, placed-of, lane-unsp
 use Rattle.qp_unique.proofs.Sides.{Lined, lane_in}
 use Rattle.qp_unique.proofs.SourceSteps.{lane_in-append}
 use Rattle.qp_unique.proofs.UniqueLemmas.{tidy_journals_are_one}
+use Rattle.qp_forms.proofs.CountLemmas.{is_kept, is_said}
+use Rattle.qp_forms.proofs.FormLemmas.{each-kept}
 use Rattle.qp_only.specs.Laws.{IsSimJournal, SimJournalsAreOne, SimJournalsAreTidy}
+use Rattle.qp_only.proofs.FollowLemmas.{sound-followable}
+use Rattle.qp_only.proofs.RecordLemmas.{rec_in, lanes-of}
 use Rattle.qp_only.proofs.PlaceLemmas.{here, items-back, place_behind, placed-back, places-serial, places_of, places_of-append}
 use Rattle.qp_only.proofs.EventLemmas.{Stood, event-by, ordered-hist, taken-stays}
 
@@ -193,7 +201,28 @@ module _ (sys : System) (stimuli : List (List Stim)) (j : Journal) (sound : IsSo
 pub each-tidy : SimJournalsAreTidy
 each-tidy sys stimuli j sound fit its = tidy sys stimuli j sound fit its
 
+-- what a record says that is kept is something
+said-kept : (i : Item) → is_kept i ≡ true → is_malformed i.body ≡ false
+said-kept i kept = by i.body (both_true (nat_le i.of 32) _ kept).1
+  where
+    by : (b : Body) → is_said b ≡ true → is_malformed b ≡ false
+    by body.Malformed said = absurd (false≢true said)
+    by _ said = refl
+
+-- so the records of a journal of `sim` are told by what they say
+module _ (sys : System) (stimuli : List (List Stim)) (sound : IsSound sys) (fit : StimuliFit sys stimuli) where
+  recs-back : (j : Journal) → IsSimJournal sys stimuli j → map (map rec_in) (map (λ lane. lane_items lane) j.lanes) ≡ j.lanes
+  recs-back j its = lanes-of is_kept said-kept j.lanes (each-kept sys stimuli j sound fit.few false its.is_sim its.lawful)
+
+  one-journal : (i j : Journal) → IsSimJournal sys stimuli i → IsSimJournal sys stimuli j → i.budget ≡ j.budget
+      → map (λ lane. lane_items lane) i.lanes ≡ map (λ lane. lane_items lane) j.lanes → i.end ≡ j.end → i ≡ j
+  one-journal i j one two budgets same ends =
+      let kernels : i.kernel ≡ j.kernel = one.is_sim ∙ sym two.is_sim in
+      let lanes : i.lanes ≡ j.lanes = sym (recs-back i one) ∙ ap (map (map rec_in)) same ∙ recs-back j two in
+      λ n. record { kernel = kernels n; budget = budgets n; lanes = lanes n; end = ends n }
+
 pub all-one : SimJournalsAreOne
-all-one sys stimuli i j sound followable fit one two budgets =
-    tidy_journals_are_one sys stimuli i j sound followable one.lawful two.lawful one.is_sim two.is_sim budgets one.unspilt two.unspilt
-    (tidy sys stimuli i sound fit one) (tidy sys stimuli j sound fit two)
+all-one sys stimuli i j sound fit one two budgets =
+    let same = tidy_journals_are_one sys stimuli i j sound (sound-followable sys sound) one.lawful two.lawful one.is_sim two.is_sim budgets one.unspilt two.unspilt
+    (tidy sys stimuli i sound fit one) (tidy sys stimuli j sound fit two) in
+    one-journal sys stimuli sound fit i j one two budgets same.0 same.1

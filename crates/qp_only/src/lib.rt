@@ -1,4 +1,4 @@
-//! What is true of all lawful journals of `sim`.
+//! What there is only one of: the lawful journal of `sim`, a journal's summary, the order of a replay.
 #![tactic(auto)]
 
 pub mod laws;
