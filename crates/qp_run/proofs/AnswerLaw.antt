@@ -6,6 +6,7 @@ use Rattle.qp_model.specs.declared.stimulus.Stim.{Stim}
 use Rattle.qp_model.specs.declared.systems.System.{System}
 use Rattle.qp_model.specs.Kernels.{port}
 use Rattle.qp_model.proofs.LawLemmas.{kernel_rests_where_all_are_empty}
+use Rattle.qp_simulation.specs.SimRun.{IsSimRun}
 use Rattle.qp_stim.specs.Stimuli.{Fault, stimuli_of}
 use Rattle.qp_document.specs.declared.fault.SystemFault.{SystemFault}
 use Rattle.qp_document.specs.declared.fault.SystemFault.TheVariants.{Memory as NoMemory}
@@ -18,12 +19,15 @@ use Rattle.qp_commands.specs.declared.values.Kind.{Kind}
 use Rattle.qp_commands.specs.declared.values.Kind.TheVariants.{Frames, Journal as Text}
 use Rattle.qp_run.specs.Checks.{JudgesFiles, JudgesFound, JudgesSecond, JudgesStimuli, JudgesSystem, JudgesThird, verdict_answer}
 use Rattle.qp_run.specs.Conversions.{AnswersJournal, answer_on, decode_on, migrate_on, said}
+use Rattle.qp_run.specs.Endings.{ending_of}
+use Rattle.qp_run.specs.Laws.{EndRuns, MayBeTwo, OneAnswer}
 use Rattle.qp_run.specs.Loads.{EndsAtLoad, IsLoaded}
 use Rattle.qp_model.specs.declared.journals.Journal.{Journal}
 use Rattle.qp_run.specs.Printed.{IsRunUnder, made_budget}
 use Rattle.qp_commands.specs.WordTable.{check, decode, generate, migrate, number_of_form, replay, run}
-use Rattle.qp_run.specs.Verdict.{AnswersFiles, AnswersSources, AnswersStimuli, AnswersSystem, EndRuns, EndsMade, EndsRun, IsAnswer, OneAnswer}
+use Rattle.qp_run.specs.Verdict.{AnswersFiles, AnswersSources, AnswersStimuli, AnswersSystem, EndsMade, EndsRun, IsAnswer}
 use Rattle.qp_run.specs.Refusals.{RefusesFirst, system_refusal}
+use Rattle.qp_run.proofs.RunLemmas.{journals-either}
 
 -- a file that was not loaded has one answer
 ends-one : (file : ℕ) (held : Option (List ℕ)) (a b : Status) → EndsAtLoad file held a → EndsAtLoad file held b → a ≡ b
@@ -41,6 +45,15 @@ loaded-goes_on file (Some found) bytes a loaded ends =
 
 pub loaded-one : (held : Option (List ℕ)) (x y : List ℕ) → IsLoaded held x → IsLoaded held y → x ≡ y
 loaded-one held x y p q = let first = p.0 in let second = q.0 in cc
+
+-- two answers on runs of one system are one, or may be two
+ends-either : (kernel : Kernel) (budget : ℕ) (sys : System) (sources : List (List Stim)) (a b : Status) → EndsRun sys sources kernel budget a → EndsRun sys sources kernel budget b
+    → (a ≡ b) ⊎ EndRuns kernel budget a b
+ends-either kernel budget sys sources a b (i, is, ends) (j, are, others) = by (journals-either kernel budget sys sources i j is are)
+  where
+    by : (i ≡ j) ⊎ MayBeTwo kernel i j → (a ≡ b) ⊎ EndRuns kernel budget a b
+    by (inl same) = inl (ends ∙ ap ending_of same ∙ sym others)
+    by (inr two) = inr (record { sys = sys; sources = sources; first = i; second = j; first_run = is; second_run = are; may_be_two = two }, ends, others)
 
 -- the answers of two systems of the same bytes
 module _ (bytes : List ℕ) where
@@ -60,10 +73,16 @@ module _ (bytes : List ℕ) where
   system-goes_on sys a read (f, refuses, other, is) = other (systems_have_no_fault bytes sys f read refuses)
 
   -- a run of one of the systems is one of the other
-  under-carries : (s t : System) → IsSystemOf bytes s → IsSystemOf bytes t → (sources : List (List Stim)) (kernel : Kernel) (budget : ℕ) (j : Journal)
-      → IsRunUnder kernel s sources budget j → IsRunUnder kernel t sources budget j
-  under-carries s t p q sources Sim budget j is =
+  sim-carries : (s t : System) → IsSystemOf bytes s → IsSystemOf bytes t → (sources : List (List Stim)) (budget : ℕ) (j : Journal) → IsSimRun s sources budget j → IsSimRun t sources budget j
+  sim-carries s t p q sources budget j is =
       record { kernel = is.kernel; budget_is = is.budget_is; lawful = lawful_journals_are_one bytes s t sources j p q is.lawful }
+
+  pub under-carries : (s t : System) → IsSystemOf bytes s → IsSystemOf bytes t → (sources : List (List Stim)) (kernel : Kernel) (budget : ℕ) (j : Journal)
+      → IsRunUnder kernel s sources budget j → IsRunUnder kernel t sources budget j
+  under-carries s t p q sources Sim budget j is = record {
+    run = sim-carries s t p q sources budget j is.run;
+    only = λ unspilt other runs clean. is.only unspilt other (sim-carries t s q p sources budget other runs) clean;
+  }
   under-carries s t p q sources Qv budget j is =
       let lawful = lawful_journals_are_one bytes s t sources j p q is.run.lawful in
       record {
@@ -79,7 +98,7 @@ module _ (bytes : List ℕ) where
   module _ (kernel : Kernel) (budget : ℕ) (s t : System) (p : IsSystemOf bytes s) (q : IsSystemOf bytes t) where
     sources-run : (found : Result (List (List Stim)) Fault) (a b : Status) → AnswersSources s kernel budget found a → AnswersSources t kernel budget found b → (a ≡ b) ⊎ EndRuns kernel budget a b
     sources-run (Err fault) a b is are = inl (is ∙ sym are)
-    sources-run (Ok sources) a b is are = inr (s, sources, is, run-carries t s q p sources kernel budget b are)
+    sources-run (Ok sources) a b is are = ends-either kernel budget s sources a b is (run-carries t s q p sources kernel budget b are)
 
     stimuli-run : (held : Option (List ℕ)) (a b : Status) → AnswersStimuli held s kernel budget a → AnswersStimuli held t kernel budget b → (a ≡ b) ⊎ EndRuns kernel budget a b
     stimuli-run held a b (inl is) (inl are) = inl (ends-one 2 held a b is are)
@@ -125,16 +144,16 @@ module _ (system stimuli : Option (List ℕ)) (kernel : Kernel) (budget : ℕ) (
   files-run (inl ends) = absurd (loaded-goes_on 1 system bytes answer system_held ends)
   files-run (inr (found, loaded, is)) = on-system (subst (λ b. AnswersSystem b stimuli kernel budget answer) (loaded-one system found bytes loaded system_held) is)
 
--- two runs of what the same bytes say are runs of one system and its stimuli
+-- two answers on runs of what the same bytes say are one, or are on two runs that may leave two journals
 runs-one : (bytes text : List ℕ) (s t : System) (xs ys : List (List Stim)) → IsSystemOf bytes s → IsSystemOf bytes t → stimuli_of s text ≡ Ok xs → stimuli_of t text ≡ Ok ys
-    → (kernel : Kernel) (budget : ℕ) (a b : Status) → EndsRun s xs kernel budget a → EndsRun t ys kernel budget b → EndRuns kernel budget a b
+    → (kernel : Kernel) (budget : ℕ) (a b : Status) → EndsRun s xs kernel budget a → EndsRun t ys kernel budget b → (a ≡ b) ⊎ EndRuns kernel budget a b
 runs-one bytes text s t xs ys p q says tells kernel budget a b is are =
     let both : Ok ys ≡ Ok xs = sym tells ∙ sym (stimuli_are_one bytes s t text p q) ∙ says in
     let same : ys ≡ xs = cc in
-    (s, xs, is, run-carries bytes t s q p xs kernel budget b (subst (λ zs. EndsRun t zs kernel budget b) same are))
+    ends-either kernel budget s xs a b is (run-carries bytes t s q p xs kernel budget b (subst (λ zs. EndsRun t zs kernel budget b) same are))
 
 -- and so are those of what a number makes
-made-one : (n : ℕ) (a b : Status) → EndsMade n a → EndsMade n b → EndRuns Sim made_budget a b
+made-one : (n : ℕ) (a b : Status) → EndsMade n a → EndsMade n b → (a ≡ b) ⊎ EndRuns Sim made_budget a b
 unfolding EndsMade
 made-one n a b (s, xs, made, is) (t, ys, makes, are) =
     runs-one _ _ s t xs ys made.system makes.system made.sources makes.sources Sim made_budget a b is are
@@ -201,4 +220,4 @@ one-answer held (Some (decode frames)) a b p q = inl (journal-one Frames decode_
 one-answer held (Some (migrate w)) a b p q = inl (journal-one w.from (migrate_on (number_of_form w.to)) (held w.file) a b p q)
 one-answer held (Some (check w)) a b p q = inl (files-judged-one (held w.system) (held w.stimuli) (held w.journal) a b p q)
 one-answer held (Some (replay w)) a b p q = inl (files-judged-one (held w.system) (held w.stimuli) (held w.journal) a b p q)
-one-answer held (Some (generate n)) a b p q = inr (made-one n a b p q)
+one-answer held (Some (generate n)) a b p q = made-one n a b p q

@@ -106,7 +106,7 @@ range-moves form Two j within has =
 -- the journal of a run is lawful
 pub run-lawful : (sys : System) (sources : List (List stimulus.Stim)) (kernel : Kernel) (budget : ℕ) (j : Journal) → IsRunUnder kernel sys sources budget j
     → Lawful sys sources j
-run-lawful sys sources Sim budget j is = is.lawful
+run-lawful sys sources Sim budget j is = is.run.lawful
 run-lawful sys sources Qv budget j is = is.run.lawful
 
 -- it has each form of its kernel, and is in range for it
@@ -120,14 +120,14 @@ module _ (sys : System) (sources : List (List stimulus.Stim)) (budget : ℕ) (j 
 
   pub run-form : (kernel : Kernel) → IsRunUnder kernel sys sources budget j → (to : Form) → is_form_of kernel to ≡ true
       → has_form (number_of_form to) j ≡ true
-  run-form Sim is One fits = (sim-written is).has
+  run-form Sim is One fits = (sim-written is.run).has
   run-form Sim is Two fits = refl
   run-form Qv is One fits = absurd (false≢true fits)
   run-form Qv is Two fits = refl
 
   pub run-range : (kernel : Kernel) → IsRunUnder kernel sys sources budget j → (to : Form) → is_form_of kernel to ≡ true
       → is_in_range (number_of_form to) j ≡ true
-  run-range Sim is to fits = range-moves 1 to j (sim-written is).range (run-form Sim is to fits)
+  run-range Sim is to fits = range-moves 1 to j (sim-written is.run).range (run-form Sim is to fits)
   run-range Qv is to fits = range-moves 2 to j (qv-written is).range (run-form Qv is to fits)
 
 -- it has few lanes

@@ -8,4 +8,6 @@ mod CheckLemmas
 mod ReplayLemmas
 mod CompleteLemmas
 mod AbleLemmas
+mod RunLemmas
 pub mod CallLemmas
+mod OutputLaw

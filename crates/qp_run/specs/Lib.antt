@@ -7,3 +7,4 @@ pub mod Checks
 pub mod Replays
 pub mod Printed
 pub mod Verdict
+pub mod Laws

@@ -1,8 +1,11 @@
 -- What of a run is printed.
-use Rattle.std.specs.Prelude.{◌≡◌, ℕ, List, ◌⊎◌, Option}
+use Rattle.std.specs.Prelude.{◌≡◌, ℕ, false, List, ◌⊎◌, Option}
+use Rattle.std.specs.List.{list_any}
 use Rattle.qp_model.specs.declared.journals.Journal.{Journal}
 use Rattle.qp_model.specs.declared.stimulus.Stim.{Stim}
 use Rattle.qp_model.specs.declared.systems.System.{System}
+use Rattle.qp_model.specs.Ends.{is_spill}
+use Rattle.qp_model.specs.History.{all_items}
 use Rattle.qp_model.specs.OutputSummary.{IsSummary}
 use Rattle.qp_summary.specs.Written.{joined}
 use Rattle.qp_simulation.specs.SimRun.{IsQvRun, IsSimRun}
@@ -16,9 +19,22 @@ use Rattle.qp_commands.specs.declared.values.Output.TheVariants.{Whole, Summary}
 use Rattle.qp_run.specs.Conversions.{IsWrittenAs, written}
 use Rattle.qp_run.specs.Endings.{ending_of}
 
+-- no lane of the journal ended with a `spill`
+abbrev pub IsUnspilt : Journal → Type 0
+IsUnspilt j = list_any (λ i. is_spill i.body) (all_items j.lanes) ≡ false
+
+-- where no lane ended with a `spill`, this is the only such journal of `sim` for this system, these stimuli and this budget
+abbrev pub IsOnlyJournal : System → List (List Stim) → ℕ → Journal → Type 0
+IsOnlyJournal sys sources budget j = IsUnspilt j → (other : Journal) → IsSimRun sys sources budget other → IsUnspilt other → other ≡ j
+
+-- what a run under `sim` leaves
+pub record IsOnlyRun (sys : System) (sources : List (List Stim)) (budget : ℕ) (j : Journal) : Type 0 where
+  pub run : IsSimRun sys sources budget j
+  pub only : IsOnlyJournal sys sources budget j
+
 -- a journal that a run of this system and these stimuli may leave under this kernel with this budget
 abbrev pub IsRunUnder : Kernel → System → List (List Stim) → ℕ → Journal → Type 0
-IsRunUnder Sim sys sources budget j = IsSimRun sys sources budget j
+IsRunUnder Sim sys sources budget j = IsOnlyRun sys sources budget j
 IsRunUnder Qv sys sources budget j = IsQvRun sys sources budget j
 
 -- what is printed of a journal: the whole of it in this form, or the lines of its summary one after another

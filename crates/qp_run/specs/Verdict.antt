@@ -103,20 +103,6 @@ JudgesCall held w answer = IfSome held (λ h. JudgesFiles (h w.system) (h w.stim
 abbrev pub AgreesCheck : Option Held → CheckWords → Status → Type 0
 AgreesCheck held w answer = IfSome held (λ h. (is_failure answer ≡ true) ⊎ JudgesFiles (h w.system) (h w.stimuli) (h w.journal) answer)
 
--- both are answers on runs of one system and its stimuli, under one kernel with one budget
-abbrev pub EndRuns : Kernel → ℕ → (a b : Status) → Type 0
-EndRuns kernel budget a b = (sys : System) × (sources : List (List Stim)) × EndsRun sys sources kernel budget a × EndsRun sys sources kernel budget b
-
-abbrev pub MayDiffer : Option Asked → (a b : Status) → Type 0
-MayDiffer (Some (run w)) a b = EndRuns w.kernel w.budget a b
-MayDiffer (Some (generate n)) a b = EndRuns Sim made_budget a b
-MayDiffer _ a b = ⊥
-
--- No call over files has two answers, but for a call that runs: there the words and files leave one refusal, or else one system with its
--- stimuli, and each answer is what the records of some lawful journal of these say. A number makes one such system with its stimuli.
-abbrev pub OneAnswer : Type 0
-OneAnswer = (held : Held) (asked : Option Asked) (a b : Status) → IsAnswer held asked a → IsAnswer held asked b → (a ≡ b) ⊎ MayDiffer asked a b
-
 -- a count before and after a call
 pub record Count : Type 0 where
   pub before : ℕ

@@ -1,9 +1,15 @@
-//! Laws of answers. Each function here does nothing: its contract is the law.
+//! Laws of answers and outputs. Each function here does nothing: its contract is the law.
 
-ghost use Rattle.qp_run.specs.Verdict.{OneAnswer};
+ghost use Rattle.qp_run.specs.Laws.{OneAnswer, OneOutput};
 
-/// What a call asks for and the content of the files leave one answer, failures aside. A run has one up to its journal: where the
-/// files are refused it is one refusal, and else what the records of a lawful journal of the one system and its stimuli say.
+/// What a call asks for and the content of the files leave one answer, failures aside. That of a run is one up to its journal: where
+/// the files are refused it is one refusal, and else what the records of a lawful journal of the one system and its stimuli say. So
+/// it is one under `sim`, but where a lane ended with a `spill`.
 pub fn one_answer()
     ensures { OneAnswer }
+{}
+
+/// And they leave one whole output, but for two runs under `qv` or with a `spill`, and for two cycles of a replay.
+pub fn one_output()
+    ensures { OneOutput }
 {}

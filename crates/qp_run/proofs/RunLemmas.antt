@@ -1,0 +1,42 @@
+-- What a run under `sim` leaves is the only journal of its kind.
+use Rattle.std.proofs.Common.{◌≡◌, ◌∙◌, ℕ, Bool, true, false, List, Result, Ok, Err, IfOk, ◌⊎◌, inl, inr, refl, sym}
+use Rattle.std.specs.List.{list_any}
+use Rattle.qp_model.specs.declared.journals.Journal.{Journal}
+use Rattle.qp_model.specs.declared.stimulus.Stim.{Stim}
+use Rattle.qp_model.specs.declared.systems.System.{System}
+use Rattle.qp_model.specs.Ends.{is_spill}
+use Rattle.qp_model.specs.History.{all_items}
+use Rattle.qp_model.specs.Sound.{IsSound}
+use Rattle.qp_stim.specs.Rules.{StimuliFit}
+use Rattle.qp_only.specs.Laws.{IsSimJournal}
+use Rattle.qp_only.proofs.OnlyLemmas.{all-one}
+use Rattle.qp_simulation.specs.SimRun.{IsSimRun}
+use Rattle.qp_commands.specs.declared.values.Kernel.{Kernel}
+use Rattle.qp_commands.specs.declared.values.Kernel.TheVariants.{Sim, Qv}
+use Rattle.qp_run.specs.Laws.{HasSpill, MayBeTwo}
+use Rattle.qp_run.specs.Printed.{IsOnlyRun, IsRunUnder, IsUnspilt}
+
+module _ (sys : System) (sources : List (List Stim)) (budget : ℕ) where
+  sim-journal : (j : Journal) → IsSimRun sys sources budget j → IsUnspilt j → IsSimJournal sys sources j
+  sim-journal j is clean = record { lawful = is.lawful; is_sim = is.kernel; unspilt = clean }
+
+  only-run : (j : Journal) → IsSound sys → StimuliFit sys sources → IsSimRun sys sources budget j → IsOnlyRun sys sources budget j
+  only-run j sound fit is = record {
+    run = is;
+    only = λ unspilt other runs clean. all-one sys sources other j sound fit (sim-journal other runs clean) (sim-journal j is unspilt) (runs.budget_is ∙ sym is.budget_is);
+  }
+
+  pub only-runs : {E : Type 0} (result : Result Journal E) → IsSound sys → StimuliFit sys sources → IfOk result (λ j. IsSimRun sys sources budget j) → IfOk result (λ j. IsOnlyRun sys sources budget j)
+  only-runs (Ok j) sound fit is = only-run j sound fit is
+  only-runs (Err e) sound fit is = is
+
+-- two journals of runs are one, or may be two
+pub journals-either : (kernel : Kernel) (budget : ℕ) (sys : System) (sources : List (List Stim)) (i j : Journal) → IsRunUnder kernel sys sources budget i → IsRunUnder kernel sys sources budget j
+    → (i ≡ j) ⊎ MayBeTwo kernel i j
+journals-either Qv budget sys sources i j is are = inr tt
+journals-either Sim budget sys sources i j is are = by (list_any (λ x. is_spill x.body) (all_items i.lanes)) refl (list_any (λ x. is_spill x.body) (all_items j.lanes)) refl
+  where
+    by : (x : Bool) → list_any (λ x. is_spill x.body) (all_items i.lanes) ≡ x → (y : Bool) → list_any (λ x. is_spill x.body) (all_items j.lanes) ≡ y → (i ≡ j) ⊎ (HasSpill i ⊎ HasSpill j)
+    by true spilt y other = inr (inl spilt)
+    by false clean true spilt = inr (inr spilt)
+    by false clean false unspilt = inl (are.only unspilt i is.run clean)
