@@ -13,8 +13,6 @@ mod shelves;
 mod sinks;
 mod std_sink;
 mod steps;
-#[cfg(test)]
-mod tests;
 
 pub use course::Course;
 pub use dir_shelf::DirShelf;
