@@ -1,87 +1,135 @@
 //! Sinks: bytes in memory, gathered pieces, and the standard streams.
 
+ghost use Rattle.std.specs.Prelude.{◌≡◌, length, IfOk};
+
 use qp_base::{Gathered, MemSink, Sink, SinkFault, StdSink};
 use std::alloc::{AllocError, Global};
 use std::marker::Brand;
 use std::test::Fail;
 
+/// A sink in memory with so much room, in which the puts of these numbers keep so many bytes and fail.
+fn in_memory(alloc: Global, room: u64, failing: &[(u64, u64)]) -> Result<MemSink, AllocError>
+    ensures empty { IfOk result (λ sink. length sink.bytes ≡ 0) }
+    ensures faults { IfOk result (λ sink. sink.faults ≡ 0) }
+{
+    match MemSink::new(alloc, room, Vec::from_slice(alloc, failing)?) {
+        Ok(sink) => Ok(sink),
+        Err(_) => Err(AllocError),
+    }
+}
+
+/// Whether this is left of `ab`, `cd`, `efg` and `h` in six bytes of room, where put 1 keeps so many bytes and fails.
+fn is_left(alloc: Global, kept: u64, want: &[u8]) -> Result<bool, AllocError> {
+    let mut sink = in_memory(alloc, 6, &[(1, kept), (1, 2)])?;
+    let fails_once = sink.put(b"ab").is_ok() && sink.put(b"cd") == Err(SinkFault::Failed);
+    let _ = sink.put(b"efg");
+    let _ = sink.put(b"h");
+    Ok(fails_once && sink.bytes() == want)
+}
+
 #[test]
 fn a_sink_in_memory_keeps_what_its_faults_leave(rt: HostRuntime) -> Result<(), Fail> {
-    // Puts `ab`, `cd`, `efg` and `h` into six bytes of room, with put 1 failing after so many bytes.
     let cases: [(u64, &[u8]); 3] = [(0, b"abefgh"), (1, b"abcefg"), (9, b"abcdef")];
     for (kept, want) in cases {
-        let failing = vec![in rt.alloc(); (1, kept), (1, 2)]?;
-        let mut sink = MemSink::new(rt.alloc(), 6, failing).map_err(|_| std::alloc::AllocError)?;
-        assert_eq!(rt; sink.put(b"ab"), Ok(()));
-        assert_eq!(rt; sink.put(b"cd"), Err(SinkFault::Failed));
-        let _ = sink.put(b"efg");
-        let _ = sink.put(b"h");
-        assert_eq!(rt; sink.bytes(), want, "keeping {kept}");
+        assert!(rt; is_left(rt.alloc(), kept, want)?, "keeping {kept}");
     }
     Ok(())
 }
 
-/// A sink that gathers over one in memory, whose puts of these numbers keep so many bytes and fail.
-fn gathered(alloc: Global, failing: Vec<(u64, u64)>) -> Result<Gathered<MemSink, Brand>, Fail> {
-    let Ok(sink) = MemSink::new(alloc, 1000000, failing) else {
-        return Err(AllocError.into());
-    };
-    let Ok(sink) = Gathered::new(alloc, sink) else {
-        return Err(AllocError.into());
-    };
-    Ok(sink)
+/// A sink that gathers over one in memory.
+type OverMemory = Gathered<MemSink, Brand>;
+
+/// A sink that gathers over one in memory with puts that fail.
+fn gathered(alloc: Global, failing: &[(u64, u64)]) -> Result<OverMemory, AllocError> {
+    match Gathered::new(alloc, in_memory(alloc, 1000000, failing)?) {
+        Ok(sink) => Ok(sink),
+        Err(_) => Err(AllocError),
+    }
+}
+
+/// Puts so many times a byte. Whether that works.
+fn put(alloc: Global, sink: &mut OverMemory, byte: u8, len: usize) -> Result<bool, AllocError> {
+    let bytes = vec![in alloc; byte; len]?;
+    Ok(sink.put(&bytes).is_ok())
+}
+
+/// A put that fits, one before which the first goes on, one larger than the room, and one more; with how many bytes have gone on then.
+const PUTS: [(u8, usize, usize); 4] = [
+    (b'a', 40000, 0),
+    (b'b', 40000, 40000),
+    (b'c', 70000, 150000),
+    (b'd', 1, 150000),
+];
+
+/// Whether the puts work, with as many bytes gone on as they say.
+fn are_put(alloc: Global, sink: &mut OverMemory) -> Result<bool, AllocError> {
+    for (byte, len, below) in PUTS {
+        if !put(alloc, sink, byte, len)? || sink.inner().bytes().len() != below {
+            return Ok(false);
+        }
+    }
+    Ok(true)
+}
+
+/// All bytes of the puts, in order.
+fn all_bytes(alloc: Global) -> Result<Vec<u8>, AllocError> {
+    let mut bytes = Vec::new(alloc);
+    for (byte, len, _) in PUTS {
+        for _ in 0..len {
+            bytes.push(byte)?;
+        }
+    }
+    Ok(bytes)
 }
 
 #[test]
 fn a_sink_that_gathers_hands_on_all_bytes_in_order(rt: HostRuntime) -> Result<(), Fail> {
     let alloc = rt.alloc();
-    let mut sink = gathered(alloc, Vec::new(alloc))?;
-    let mut want = Vec::new(alloc);
-    // A put that fits, one before which the first goes on, and one larger than the room.
-    for (byte, len, below) in [
-        (b'a', 40000, 0),
-        (b'b', 40000, 40000),
-        (b'c', 70000, 150000),
-    ] {
-        let bytes = vec![in alloc; byte; len]?;
-        assert_eq!(rt; sink.put(&bytes), Ok(()));
-        want.extend_from_slice(&bytes)?;
-        assert_eq!(rt; sink.inner().bytes().len(), below);
-    }
-    assert_eq!(rt; sink.put(b"d"), Ok(()));
-    want.extend_from_slice(b"d")?;
-    assert_eq!(rt; sink.flush(), Ok(()));
-    assert!(rt; sink.inner().bytes() == want.as_slice());
-    assert_eq!(rt; sink.flush(), Ok(()), "nothing is left");
+    let want = all_bytes(alloc)?;
+    let mut sink = gathered(alloc, &[])?;
+    assert!(rt; are_put(alloc, &mut sink)?);
+    assert!(rt; sink.flush().is_ok() && sink.inner().bytes() == want.as_slice());
+    assert!(rt; sink.flush().is_ok(), "nothing is left");
     assert!(rt; sink.into_inner().bytes() == want.as_slice());
     Ok(())
+}
+
+/// Whether all puts work.
+fn put_all(alloc: Global, sink: &mut OverMemory) -> Result<bool, AllocError> {
+    let mut is_well = true;
+    for (byte, len, _) in PUTS {
+        is_well &= put(alloc, sink, byte, len)?;
+    }
+    Ok(is_well)
+}
+
+/// Whether a flush and a put fail, and fail again.
+fn fails_on(sink: &mut OverMemory) -> bool {
+    for _ in 0..2 {
+        if sink.flush() != Err(SinkFault::Failed) || sink.put(b"e") != Err(SinkFault::Failed) {
+            return false;
+        }
+    }
+    true
 }
 
 #[test]
 fn a_sink_that_gathers_remembers_a_fault(rt: HostRuntime) -> Result<(), Fail> {
     let alloc = rt.alloc();
-    let long = vec![in alloc; b'l'; 70000]?;
     // The put of this number keeps so many bytes and fails: of what is gathered, of a long put, of what a flush hands on.
     for (number, kept, below) in [(0, 5, 5), (1, 6, 40006), (2, 7, 80007), (3, 8, 150001)] {
-        let mut sink = gathered(alloc, vec![in alloc; (number, kept)]?)?;
-        let mut is_well = true;
-        for byte in [b'a', b'b'] {
-            is_well = sink.put(&vec![in alloc; byte; 40000]?).is_ok();
-        }
-        is_well = sink.put(&long).is_ok() && is_well;
-        is_well = sink.put(b"d").is_ok() && is_well;
-        assert_eq!(rt; is_well, number == 3);
-        for _ in 0..2 {
-            assert_eq!(rt; sink.flush(), Err(SinkFault::Failed));
-            assert_eq!(rt; sink.put(b"e"), Err(SinkFault::Failed));
-        }
-        assert_eq!(rt; sink.inner().bytes().len(), below, "fault {number}");
+        let mut sink = gathered(alloc, &[(number, kept)])?;
+        let is_right = put_all(alloc, &mut sink)? == (number == 3) && fails_on(&mut sink);
+        assert!(rt;
+            is_right && sink.inner().bytes().len() == below,
+            "fault {number}"
+        );
     }
     Ok(())
 }
 
 #[test]
 fn a_standard_sink_writes(rt: HostRuntime) {
-    assert_eq!(rt; StdSink::out(&rt).put(b"to standard output\n"), Ok(()));
-    assert_eq!(rt; StdSink::notes(&rt).put(b"to standard error\n"), Ok(()));
+    assert!(rt; StdSink::out(&rt).put(b"to standard output\n").is_ok());
+    assert!(rt; StdSink::notes(&rt).put(b"to standard error\n").is_ok());
 }
