@@ -3,7 +3,7 @@
 use qp_chart::{Action, ExprFault, PlainAction, read_action};
 use std::test::Fail;
 
-#[derive(Clone, Copy, PartialEq, Eq, Debug)]
+#[derive(Clone, Copy, PartialEq, Eq)]
 enum Kind {
     Set,
     Say,
@@ -24,7 +24,7 @@ enum Kind {
 
 /// What is seen of an action: its kind, its margin, its reserve, and how many parameters its event has. Of `locked` the
 /// margin is the ceiling, and the actions are counted.
-#[derive(Clone, Copy, PartialEq, Eq, Debug)]
+#[derive(Clone, Copy, PartialEq, Eq)]
 struct Shape {
     kind: Kind,
     margin: Option<i64>,
@@ -152,13 +152,13 @@ const ALTERNATIVES: [Case; 29] = [
 /// Each alternative of the lines of actions.
 #[test]
 fn alternatives_of_actions(rt: HostRuntime) -> Result<(), Fail> {
-    for (text, kind, margin, reserve, count) in ALTERNATIVES {
+    for (text, kind, margin, reserve, count) in &ALTERNATIVES {
         let action = read_action(rt.alloc(), text)?;
         let want = Shape {
-            kind,
-            margin,
-            reserve,
-            count,
+            kind: *kind,
+            margin: *margin,
+            reserve: *reserve,
+            count: *count,
         };
         assert!(rt; shape_of(&action) == want, "{text}");
     }
@@ -233,7 +233,7 @@ const ACTIONS: [&str; 62] = [
 /// The actions of the worked examples, and the edges of the grammar: spaces may be left out, and sixteen levels are allowed.
 #[test]
 fn texts_that_are_actions(rt: HostRuntime) {
-    for text in ACTIONS {
+    for text in &ACTIONS {
         assert!(rt; read_action(rt.alloc(), text).is_ok(), "{text}");
     }
 }

@@ -110,25 +110,29 @@ const VALUES: [(&str, i64); 77] = [
 /// Each operator and atom, how they group, and the expressions of worked examples.
 #[test]
 fn values_of_expressions(rt: HostRuntime) {
-    for (text, want) in VALUES {
-        assert_eq!(rt; value(rt.alloc(), text), Some(want), "{text}");
+    for (text, want) in &VALUES {
+        assert!(rt; value(rt.alloc(), text) == Some(*want), "{text}");
     }
 }
+
+/// Why an expression can't be bound where there are no names and no parameters.
+fn unbound(alloc: Global, text: &str) -> Option<BindFault> {
+    let expr = read_expr(alloc, text).ok()?;
+    bind(alloc, &expr, &[], 0).err()
+}
+
+const UNBOUND: [(&str, BindFault); 4] = [
+    ("x", BindFault::NoName),
+    ("p1", BindFault::NoParameter),
+    ("p1 + x", BindFault::NoName),
+    ("p9", BindFault::NoName),
+];
 
 /// A name that isn't a variable, and a parameter beyond those that there are; the first of two counts.
 #[test]
 fn names_that_are_not_known(rt: HostRuntime) {
-    for (text, want) in [
-        ("x", BindFault::NoName),
-        ("p1", BindFault::NoParameter),
-        ("p1 + x", BindFault::NoName),
-        ("p9", BindFault::NoName),
-    ] {
-        let unbound = match read_expr(rt.alloc(), text) {
-            Ok(expr) => bind(rt.alloc(), &expr, &[], 0).err(),
-            Err(_) => None,
-        };
-        assert!(rt; unbound == Some(want), "{text}");
+    for (text, want) in &UNBOUND {
+        assert!(rt; unbound(rt.alloc(), text) == Some(*want), "{text}");
     }
 }
 
@@ -178,7 +182,7 @@ const NO_EXPRESSIONS: [&str; 40] = [
 /// Each way out of the lines of expressions.
 #[test]
 fn texts_that_are_no_expressions(rt: HostRuntime) {
-    for text in NO_EXPRESSIONS {
+    for text in &NO_EXPRESSIONS {
         let bad = matches!(read_expr(rt.alloc(), text), Err(ExprFault::Bad));
         assert!(rt; bad, "{text}");
     }

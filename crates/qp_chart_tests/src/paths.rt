@@ -1,28 +1,49 @@
 //! Paths of faults as text.
 
 use qp_chart::{Part, Path, key};
+use std::alloc::{AllocError, Global};
 use std::test::Fail;
+
+/// Paths in two parts, and their texts.
+const PATHS: [(&[Part], &[Part], &str); 3] = [
+    (
+        &[
+            Part::Key(key::CHART),
+            Part::Pos(1),
+            Part::Key(key::STATE),
+            Part::Pos(2),
+        ],
+        &[
+            Part::Key(key::ROW),
+            Part::Pos(1),
+            Part::Key(key::DO),
+            Part::Pos(3),
+        ],
+        "chart.1.state.2.row.1.do.3",
+    ),
+    (&[], &[Part::Key(key::THRESHOLD)], "threshold"),
+    (&[], &[], ""),
+];
+
+/// Whether a path is printed so. A path has at most eight parts.
+fn is_printed(
+    alloc: Global,
+    front: &[Part],
+    rest: &[Part],
+    text: &str,
+) -> Result<bool, AllocError> {
+    if front.len() > 8 || rest.len() > 8 - front.len() {
+        return Ok(false);
+    }
+    let shown = Path::of(front, rest).to_string(alloc)?;
+    Ok(shown.as_str() == text)
+}
 
 /// Keys are printed by their words, places as numbers, with dots between.
 #[test]
 fn paths_print_as_words_and_places(rt: HostRuntime) -> Result<(), Fail> {
-    let row = [
-        Part::Key(key::CHART),
-        Part::Pos(1),
-        Part::Key(key::STATE),
-        Part::Pos(2),
-    ];
-    let text = [
-        Part::Key(key::ROW),
-        Part::Pos(1),
-        Part::Key(key::DO),
-        Part::Pos(3),
-    ];
-    let shown = Path::of(&row, &text).to_string(rt.alloc())?;
-    assert_eq!(rt; shown.as_str(), "chart.1.state.2.row.1.do.3");
-    let key_alone = Path::of(&[], &[Part::Key(key::THRESHOLD)]).to_string(rt.alloc())?;
-    assert_eq!(rt; key_alone.as_str(), "threshold");
-    let empty = Path::of(&[], &[]).to_string(rt.alloc())?;
-    assert_eq!(rt; empty.as_str(), "");
+    for (front, rest, text) in &PATHS {
+        assert!(rt; is_printed(rt.alloc(), front, rest, text)?, "{text}");
+    }
     Ok(())
 }
