@@ -9,6 +9,8 @@ pub mod Holding
 pub mod LogLemmas
 pub mod Mays
 pub mod NoteCalls
+pub mod RepeatFacts
+pub mod RepeatHolds
 pub mod QueueCalls
 pub mod SignalCalls
 pub mod Stopping

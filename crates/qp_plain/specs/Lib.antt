@@ -5,6 +5,7 @@ pub mod Fresh
 pub mod Lane
 pub mod LaneLaws
 pub mod NewWorld
+pub mod Repeat
 pub mod Tables
 pub mod World
 pub mod WorldView

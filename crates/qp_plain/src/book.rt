@@ -1,6 +1,7 @@
 //! The lanes of a world, and the lane of each record in the order of the calls.
 
-ghost use Rattle.std.specs.Prelude.{◌≡◌, ◌+◌, ◌<◌, ◌≤◌, true, false, [], length, OnOk, OnErr, IfErr, IfOk};
+ghost use Rattle.std.specs.Prelude.{◌≡◌, ◌+◌, ◌<◌, ◌≤◌, true, false, [], length, not, OnOk, OnErr, IfErr, IfOk};
+ghost use Rattle.std.specs.List.{count_by};
 ghost use Rattle.std.specs.Vec.{vec_capacity, vec_len};
 ghost use Rattle.qp_model.specs.Record.{item_of};
 ghost use Rattle.qp_model.specs.declared.bodies.Body.TheVariants.{Nil};
@@ -100,6 +101,25 @@ impl Book {
             return Err(RoomFault::Memory);
         };
         self.promised += more as usize;
+        Ok(())
+    }
+
+    /// Makes spare for a record in the lane chosen, where there is none.
+    pub fn place(&mut self) -> Result<(), Memory>
+        requires { count_by (λ i. not (is_spill i.body)) (lane_items self.old.here.recs.items) < 1000000 }
+        ensures ok { OnOk result (0 < self.new.here.spare) }
+        ensures keeps { Keeps self.old self.new }
+    {
+        if self.here.spare > 0 {
+            return Ok(());
+        }
+        let Ok(()) = self.order.reserve(self.promised + 1) else {
+            return Err(Memory);
+        };
+        let Ok(()) = self.here.make_place() else {
+            return Err(Memory);
+        };
+        self.promised += 1;
         Ok(())
     }
 

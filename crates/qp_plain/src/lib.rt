@@ -7,6 +7,7 @@ mod ending;
 mod log;
 mod making;
 mod records;
+mod repeating;
 mod resting;
 mod tables;
 mod world;

@@ -1,6 +1,6 @@
 //! The records of one lane, with room for some more.
 
-ghost use Rattle.std.specs.Prelude.{◌≡◌, ◌+◌, ◌-◌, ◌<◌, ◌≤◌, ℕ, true, false, [], ◌∷◌, ◌++◌, length, not, get_or, None, IfOk, OnErr};
+ghost use Rattle.std.specs.Prelude.{◌≡◌, ◌+◌, ◌-◌, ◌<◌, ◌≤◌, ℕ, true, false, [], ◌∷◌, ◌++◌, length, not, get_or, None, IfOk, OnErr, OnOk};
 ghost use Rattle.std.specs.List.{count_by, list_all};
 ghost use Rattle.std.specs.Vec.{vec_capacity, vec_len};
 ghost use Rattle.qp_model.specs.Record.{item_of};
@@ -120,6 +120,24 @@ impl Log {
         let more = 8 - self.spare;
         self.spare = 8;
         Ok(more)
+    }
+
+    /// Makes spare for one record. A refusal changes no record and no spare.
+    pub fn make_place(&mut self) -> Result<(), Memory>
+        requires none { self.old.spare ≡ 0 }
+        requires free { count_by (λ i. not (is_spill i.body)) (lane_items self.old.recs.items) < 1000000 }
+        ensures ok { OnOk result (self.new.spare ≡ 1) }
+        ensures refused { OnErr result (self.new.spare ≡ 0) }
+        ensures recs { self.new.recs.items ≡ self.old.recs.items }
+        ensures spilled { self.new.spilled ≡ self.old.spilled }
+        ensures stops { self.new.stops.list ≡ self.old.stops.list }
+        ensures answered { self.new.answered.list ≡ self.old.answered.list }
+    {
+        let Ok(()) = self.recs.reserve(2) else {
+            return Err(Memory);
+        };
+        self.spare = 1;
+        Ok(())
     }
 
     /// Notes a code that the lane hands to `stop`, in proofs alone.

@@ -1,15 +1,17 @@
 //! Records of refusals, entries as records state them, and copies of events.
 
-ghost use Rattle.std.specs.Prelude.{◌≡◌, ◌+◌, ◌-◌, ◌*◌, ◌<◌, ◌≤◌};
+ghost use Rattle.std.specs.Prelude.{◌≡◌, ◌+◌, ◌-◌, ◌*◌, ◌<◌, ◌≤◌, true};
 ghost use Rattle.std.specs.Option.{unwrap_or};
 ghost use Rattle.qp_model.specs.Record.{item_of};
 ghost use Rattle.qp_calls.specs.Clauses.{entry_of, event_of, refusal_of, same_counts, shortage_of};
 ghost use Rattle.qp_plain.specs.Lane.{nil_of};
+ghost use Rattle.qp_plain.specs.Repeat.{FitsToken};
 ghost use Rattle.qp_plain.specs.Tables.{place};
+ghost use Rattle.qp_plain_words.specs.Queue.{is_token};
 
 use arrayvec::ArrayVec;
 use qp_base::Ev;
-use qp_calls::{Counts, Entry};
+use qp_calls::{Counts, Entry, Hold};
 use qp_model::Rec;
 
 /// The place of a block in the tables of blocks and events.
@@ -60,6 +62,20 @@ pub(crate) fn stated(e: &Entry) -> qp_model::Entry
             block: u64::from(h.block()),
             name: h.name(),
         },
+    }
+}
+
+/// An entry that a record states, as a queue holds it.
+#[tactic(auto, unfolding(qp_calls::specs::Clauses::entry_of))]
+pub(crate) fn token_of(e: qp_model::Entry) -> Entry
+    requires { FitsToken e }
+    ensures entry { entry_of result ≡ e }
+    ensures token { is_token result ≡ true }
+{
+    if e.pool == 0 {
+        Entry::Static(e.block as u16)
+    } else {
+        Entry::Pool(Hold::of(e.pool as u8, e.block as u8, e.name))
     }
 }
 

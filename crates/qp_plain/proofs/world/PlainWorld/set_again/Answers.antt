@@ -1,0 +1,46 @@
+use Rattle.std.proofs.Common.{refl, sym, ◌∙◌, ap, subst, arith}
+use Rattle.qp_plain.specs.Lane.{is_plain}
+use Rattle.qp_plain.proofs.Calling.{stop-stays, timer-at}
+use Rattle.qp_plain.proofs.Holding.{timer-in}
+use Rattle.qp_plain.proofs.RepeatFacts.{set-fits, set-on, set-next, set-plain}
+use Rattle.qp_plain.proofs.RepeatHolds.{timer-again}
+use Rattle.qp_plain.proofs.TimerTable.{there, few}
+use Rattle.qp_plain.proofs.world.PlainWorld.set_again.Goals as goal
+
+pub overflow_sub-t : goal.overflow_sub-t
+overflow_sub-t c =
+    let w = c.args.self.now in
+    let some = timer-in w.sys.now c.args.t (set-on w _ c.args.t c.args.ticks _ c.requires.says c.requires.next.may).timer in
+    omega (arith, some.0)
+
+pub overflow_cast-ticks : goal.overflow_cast-ticks
+overflow_cast-ticks c = record { fits = set-fits c.args.t c.args.ticks _ c.requires.says c.requires.next.fits }
+
+pub index_mut-requires : goal.index_mut-requires
+index_mut-requires c =
+    let w = c.args.self.now in
+    let lt = there w c.args.t c.args.t (set-on w _ c.args.t c.args.ticks _ c.requires.says c.requires.next.may).timer refl in
+    omega (arith, lt, w.timers.ok.0)
+
+pub set-requires : goal.set-requires
+set-requires c =
+    let w = c.args.self.now in
+    let on = set-on w _ c.args.t c.args.ticks _ c.requires.says c.requires.next.may in
+    few w c.args.t c.index_mut.result.now on.timer (timer-at w c.args.t c.args.t c.index_mut.result.now on.timer refl c.index_mut.ensures.value)
+
+pub add-requires-clause-plain : goal.add-requires-clause-plain
+add-requires-clause-plain c = set-plain c.args.t c.args.ticks _ c.requires.says
+
+pub invariant_of-self : goal.invariant_of-self
+invariant_of-self c =
+    let w = c.args.self.now in
+    record {
+      holds = (let on = set-on w _ c.args.t c.args.ticks _ c.requires.says c.requires.next.may in
+          let now = timer-at w c.args.t c.args.t c.index_mut.result.now on.timer refl c.index_mut.ensures.value in
+          timer-again w c.add.new.self c.args.rec c.add.ensures.gains c.requires.next c.args.t c.args.t on c.index_mut.result.now c.set.new.self refl now
+          (c.set.ensures ∙ set-next c.index_mut.result.now c.args.t c.args.ticks _ c.requires.says));
+      stops = stop-stays w.stop w.book c.add.new.self c.add.ensures.gains.stays w.stops;
+    }
+
+pub returns : goal.returns
+returns c = record { sys_is = refl; by_is = refl; stop_is = refl; gains = c.add.ensures.gains }
