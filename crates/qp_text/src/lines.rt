@@ -166,6 +166,11 @@ impl Line {
         ensures bytes { self.new ≡ decimal n ++ self.old }
         ensures len { length self.new ≤ length self.old + 20 }
     {
+        // (most numbers of a record have one digit)
+        if n < 10 {
+            self.put_byte(b'0' + n as u8);
+            return;
+        }
         let end = self.start;
         self.start = write_digits(n, &mut self.room, end);
     }

@@ -1,6 +1,9 @@
 use Rattle.std.proofs.Common.{◌≡◌, length, drop, decimal, arith, length-append, length-drop, ap, ◌∙◌}
-use Rattle.std.proofs.lemmas.Fmt.{length-decimal-le}
+use Rattle.std.proofs.lemmas.Fmt.{decimal_digit, length-decimal-le}
 use Rattle.qp_text.proofs.lines.Line.put_digits.Goals as goal
+
+pub returns-then-n-lt10-clause-bytes : goal.returns-then-n-lt10-clause-bytes
+returns-then-n-lt10-clause-bytes c = rw (decimal_digit c.args.n c.if-n-lt10.true) c.put_byte.ensures.bytes
 
 pub write_digits-self-inside-requires : goal.write_digits-self-inside-requires
 write_digits-self-inside-requires c =
