@@ -1,8 +1,8 @@
 //! The records that end a lane.
 
-ghost use Rattle.std.specs.Prelude.{◌≡◌, option_map};
-ghost use Rattle.std.specs.List.{find};
-ghost use Rattle.qp_outcome.specs.Outcome.{asserts, code_in, code_of, is_asserted, is_spent_lane, runs_out};
+ghost use Rattle.std.specs.Prelude.{◌≡◌};
+ghost use Rattle.qp_outcome.specs.Outcome.{asserts, code_of, runs_out};
+ghost use Rattle.qp_outcome.specs.LastRecords.{last_code, last_is};
 
 use qp_model::{Body, Lane, Rec};
 
@@ -34,32 +34,32 @@ fn runs_out(r: &Rec) -> bool
     qp_kinds::is_spent(r) || qp_kinds::is_spill(r)
 }
 
-/// Whether an assertion stands in the lane.
-pub fn is_asserted(lane: &Lane) -> bool
-    ensures { result ≡ is_asserted lane.now }
+/// Whether the lane's last record is an assertion.
+pub fn ends_asserted(lane: &Lane) -> bool
+    ensures { result ≡ last_is asserts lane.now }
 {
-    lane.items.iter().any(|r| asserts(r))
+    match lane.items.last() {
+        Some(r) => asserts(r),
+        None => false,
+    }
 }
 
-/// Whether a `spent` or a `spill` stands in the lane.
-pub fn is_spent(lane: &Lane) -> bool
-    ensures { result ≡ is_spent_lane lane.now }
+/// Whether the lane's last record is a `spent` or a `spill`.
+pub fn ends_spent(lane: &Lane) -> bool
+    ensures { result ≡ last_is runs_out lane.now }
 {
-    lane.items.iter().any(|r| runs_out(r))
+    match lane.items.last() {
+        Some(r) => runs_out(r),
+        None => false,
+    }
 }
 
-fn assertion_in(records: &[Rec]) -> Option<&Rec>
-    ensures { option_map (λ r. r.now) result ≡ find asserts records.now }
+/// The code of the lane's last record.
+#[tactic(auto, unfolding(crate::specs::LastRecords::last_code))]
+pub fn last_code(lane: &Lane) -> u8
+    ensures { result ≡ last_code lane.now }
 {
-    records.iter().find(|r| asserts(r))
-}
-
-/// The code of the lane's first assertion.
-#[tactic(auto, unfolding(crate::specs::Outcome::code_in))]
-pub fn code_in(lane: &Lane) -> u8
-    ensures { result ≡ code_in lane.now }
-{
-    match assertion_in(&lane.items) {
+    match lane.items.last() {
         Some(r) => code_of(&r.body()),
         None => 0,
     }
