@@ -1,6 +1,7 @@
 pub mod Kernels
 pub mod LeftLemmas
 pub mod StoppedRuns
+pub mod LaneEnds
 pub mod DoneLemmas
 pub mod IdleRuns
 pub mod EndedWorlds

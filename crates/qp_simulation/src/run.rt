@@ -1,8 +1,10 @@
 //! A run of a system on its stimuli, on one thread, under the preemptive or the cooperative kernel.
 
 ghost use Rattle.std.specs.Prelude.{◌≡◌, ◌<◌, ◌≤◌, ◌==◌, IfOk, length, true};
+ghost use Rattle.std.specs.List.{list_all};
 ghost use Rattle.qp_model.specs.End.{end_of};
-ghost use Rattle.qp_model.specs.History.{all_items};
+ghost use Rattle.qp_model.specs.Ends.{ends_last};
+ghost use Rattle.qp_model.specs.History.{all_items, lane_items};
 ghost use Rattle.qp_model.specs.Sound.{IsSound};
 ghost use Rattle.qp_stim.specs.Rules.{StimuliFit};
 ghost use Rattle.qp_kernel.specs.Turning.{kernel_in, under};
@@ -64,7 +66,8 @@ fn run<R: Wait>(
 
 /// The journal of lanes that were left, with the end that their records state.
 fn closed(lanes: Lanes, budget: u32, cooperative: bool) -> Journal
-    requires { length lanes ≤ 49 }
+    requires few { length lanes ≤ 49 }
+    requires last { list_all (λ lane. ends_last (lane_items lane)) lanes ≡ true }
     ensures { IsClosed lanes (under cooperative budget) result }
 {
     let mut journal = Journal {
