@@ -15,7 +15,10 @@ use Rattle.qp_model.specs.declared.systems.System.{System}
 use Rattle.qp_forms.specs.Laws.{CanBeWritten}
 use Rattle.qp_forms.proofs.FormLemmas.{written, written-qv}
 use Rattle.qp_model.specs.Sound.{IsSound}
-use Rattle.qp_model.specs.Lawful.{Lawful}
+use Rattle.qp_model.specs.Ends.{ends_last}
+use Rattle.qp_model.specs.History.{lane_items}
+use Rattle.qp_model.specs.Lawful.{EndHolds, Lawful, deferred_of}
+use Rattle.qp_summary.specs.Written.{HasStimuli}
 use Rattle.qp_simulation.specs.SimRun.{IsQvRun, IsSimRun}
 use Rattle.qp_run.specs.Printed.{IsRunUnder}
 use Rattle.qp_commands.specs.declared.values.Kernel.{Kernel}
@@ -136,3 +139,8 @@ lanes-few form j within =
     let lanes = both_true _ (list_all (is_lane_in_range form) j.lanes) within in
     let few : nat_le (length j.lanes) 49 ≡ true = (both_true _ (nat_le (length j.lanes) 49) lanes.0).1 in
     grind (arith, nat_tests, few)
+
+-- and nothing follows a record that ends a lane of a lawful one
+pub lanes-end : (sys : System) (j : Journal) → HasStimuli sys j → list_all (λ lane. ends_last (lane_items lane)) j.lanes ≡ true
+unfolding EndHolds deferred_of
+lanes-end sys j lawful = lawful.1.end.last

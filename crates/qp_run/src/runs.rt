@@ -1,7 +1,9 @@
 //! Runs, and what of them is printed.
 ghost use Rattle.std.specs.Prelude.{ℕ, ◌≡◌, ◌≢◌, ◌⊎◌, ◌<◌, ◌≤◌, length, true, IfOk, IfErr, IsTrue};
-ghost use Rattle.std.specs.List.{AllByRecursion};
+ghost use Rattle.std.specs.List.{AllByRecursion, list_all};
 ghost use Rattle.qp_course.specs.Followable.{IsFollowable};
+ghost use Rattle.qp_model.specs.Ends.{ends_last};
+ghost use Rattle.qp_model.specs.History.{lane_items};
 ghost use Rattle.qp_model.specs.Output.{has_form, is_in_range};
 ghost use Rattle.qp_model.specs.Sound.{IsSound};
 ghost use Rattle.qp_stim.specs.Rules.{StimuliFit};
@@ -31,7 +33,8 @@ use std::sync::Wait;
 /// The answer on a run with this journal.
 #[tactic(auto, unfolding(crate::specs::Endings::ending_of))]
 fn ending_of(journal: &Journal) -> Status
-    requires { length journal.now.lanes ≤ 49 }
+    requires few { length journal.now.lanes ≤ 49 }
+    requires last { list_all (λ lane. ends_last (lane_items lane)) journal.now.lanes ≡ true }
     ensures { result ≡ ending_of journal.now }
 {
     Status::of_outcome(outcome_of(journal))

@@ -1,10 +1,13 @@
 use Rattle.qp_commands.specs.WordTable.{number_of_form}
-use Rattle.qp_run.proofs.FormLemmas.{lanes-few}
+use Rattle.qp_run.proofs.FormLemmas.{lanes-end, lanes-few}
 use Rattle.qp_run.proofs.PrintedLemmas.{whole-printed}
 use Rattle.qp_run.proofs.runs.print.Goals as goal
 
-pub ending_of-told-requires : goal.ending_of-told-requires
-ending_of-told-requires g c = lanes-few (number_of_form c.args.form) c.args.journal.now c.requires.range
+pub ending_of-told-requires-clause-few : goal.ending_of-told-requires-clause-few
+ending_of-told-requires-clause-few g c = lanes-few (number_of_form c.args.form) c.args.journal.now c.requires.range
+
+pub ending_of-told-requires-clause-last : goal.ending_of-told-requires-clause-last
+ending_of-told-requires-clause-last g c = lanes-end c.args.system.now c.args.journal.now c.requires.lawful
 
 pub returns-in-Whole : goal.returns-in-Whole
 returns-in-Whole g c =
