@@ -1,57 +1,37 @@
 -- Records that are given, made once more: the world behind each.
-use Rattle.std.proofs.Common.{◌≡◌, ℕ, zero, suc, ◌+◌, ◌-◌, ◌/◌, ◌^◌, ◌<◌, ◌≤◌, ◌==◌, ◌≢◌, ◌&&◌, nat_lt, slice_get, if◌then◌else◌, Bool, true, false, List, [], ◌∷◌, ◌++◌, length, drop, get_or, slice_set, refl, sym, ◌∙◌, ap, subst, arith, IsTrue, IsFalse, Option, Some, None, ◌⊎◌, inl, inr}
-use Rattle.std.specs.Int.{bit_at}
-use Rattle.std.specs.Option.{option_map_or}
+use Rattle.std.proofs.Common.{◌≡◌, ℕ, suc, ◌+◌, ◌-◌, ◌/◌, ◌^◌, ◌==◌, true, false, List, [], ◌∷◌, ◌++◌, length, drop, slice_set, refl, sym, ◌∙◌, ap, subst, arith, Option, Some, None}
 use Rattle.std.proofs.lemmas.Bool.Decides.{nat_tests}
-use Rattle.std.proofs.lemmas.Nat.Bits.{bit_at-lt}
-use Rattle.std.proofs.lemmas.Option.{slice_get_within}
 use Rattle.qp_base.specs.declared.event.Ev.{Ev}
-use Rattle.qp_chart.specs.StateTree.{has}
 use Rattle.qp_model.specs.declared.record.Rec.{Rec}
 use Rattle.qp_model.specs.declared.words.Word.{Word}
-use Rattle.qp_model.specs.declared.words.Word.TheVariants as word
 use Rattle.qp_model.specs.declared.bodies.Entry as model
 use Rattle.qp_model.specs.declared.bodies.Body.{Body}
-use Rattle.qp_model.specs.declared.bodies.Body.TheVariants.{Took, Nil, New, Inc, Dec, Back, Post, Lifo, Sub, Unsub, Arm, Disarm, Rearm, Tick, Fire, Spill}
+use Rattle.qp_model.specs.declared.bodies.Body.TheVariants.{Took, New, Inc, Dec, Back, Post, Lifo, Sub, Unsub}
 use Rattle.qp_model.specs.Record.{item_of}
-use Rattle.qp_model.specs.Ends.{is_spill}
-use Rattle.qp_model.specs.History.{Draws, drawn_on, touch_of}
+use Rattle.qp_model.specs.History.{drawn_on, touch_of}
 use Rattle.qp_model.specs.Lists.{is_first, with_number, without_all}
 use Rattle.qp_model.specs.FreeBlocks.{Pool}
-use Rattle.qp_model.specs.Line.{Line, line_next}
+use Rattle.qp_model.specs.Line.{Line}
 use Rattle.qp_model.specs.TimeEvents.{Clock, clock_next}
 use Rattle.qp_model.specs.Sites.{ring_of}
-use Rattle.qp_model.specs.declared.systems.SignalDef.{SignalDef}
-use Rattle.qp_model.specs.Parts.{is_static}
-use Rattle.qp_model.specs.Sound.{IsSound}
-use Rattle.qp_model.specs.WordLaw.{is_block, is_object, is_pool, is_signal, is_timer}
-use Rattle.qp_model.proofs.ListLemmas.{both_true, list_all-has}
-use Rattle.qp_calls.specs.declared.answers.Tick.TheVariants as ticked
-use Rattle.qp_calls.specs.declared.answers.Tick as answer
 use Rattle.qp_calls.specs.declared.tokens.Entry.{Entry}
 use Rattle.qp_calls.specs.Clauses.{entry_of, event_of}
-use Rattle.qp_calls.specs.Tokens.{Held, Loose, stands}
 use Rattle.qp_plain_words.specs.declared.block.BlockWord.{BlockWord}
 use Rattle.qp_plain_words.specs.declared.signal.SignalWord.{SignalWord}
 use Rattle.qp_plain_words.specs.Queue.{Queue, TakesFront}
-use Rattle.qp_plain_words.specs.Ticked.{TicksTo, counted_down}
-use Rattle.qp_plain_words.proofs.SetLemmas.{has-bit, set-put, members-put, set-take}
-use Rattle.qp_sound.specs.May.{May, MayGive, MayMake, MayDrop, MayGiveBack, BeforePost, MayPost, MayTake, IsQueue, IsSignal, IsTimer}
-use Rattle.qp_sound.specs.Sound.{hands_in, is_good}
+use Rattle.qp_plain_words.proofs.SetLemmas.{set-put, members-put, set-take}
+use Rattle.qp_sound.specs.Sound.{hands_in}
 use Rattle.qp_sound.specs.WordStates.{pool_in, refs_in, line_in, set_in, clock_in}
 use Rattle.qp_sound.proofs.FreeLemmas.{length-without_one}
 use Rattle.qp_sound.proofs.Standing.{block-pool, out-not_free}
 use Rattle.qp_sound.proofs.Standing as standing
-use Rattle.qp_sound.proofs.Times.{stands-times}
 use Rattle.qp_plain.specs.declared.book.Book.{Book}
 use Rattle.qp_plain.specs.declared.world.PlainWorld.{PlainWorld}
 use Rattle.qp_plain.specs.Book.{Gains, lists_of}
-use Rattle.qp_plain.specs.Lane.{is_plain}
-use Rattle.qp_plain.specs.Repeat.{CountsDown, FitsTimer, FitsToken, MayAt, MayRepeat, SetsTo, is_still}
+use Rattle.qp_plain.specs.Repeat.{MayAt, MayRepeat}
 use Rattle.qp_plain.specs.Tables.{SignalIs, place}
 use Rattle.qp_plain.specs.World.{WorldHolds}
 use Rattle.qp_plain.proofs.Calling.{BlockIs}
-use Rattle.qp_plain.proofs.Holding.{block-in}
 use Rattle.qp_plain.proofs.QueueCalls.{moved-holds}
 use Rattle.qp_plain.proofs.Turns.{block-moves, cells-back, cells-give, pool-moves, quiet, signal-moves, timer-moves}
 use Rattle.qp_plain.proofs.BlockTable as block_table

@@ -1,4 +1,4 @@
-use Rattle.std.proofs.Common.{refl, sym, ◌∙◌, ap, subst, arith}
+use Rattle.std.proofs.Common.{refl, ◌∙◌, ap, subst, arith}
 use Rattle.qp_plain.specs.Lane.{is_plain}
 use Rattle.qp_plain.specs.Repeat.{FitsTimer}
 use Rattle.qp_plain.proofs.Calling.{stop-stays, timer-at}

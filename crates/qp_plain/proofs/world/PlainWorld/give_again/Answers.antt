@@ -1,4 +1,4 @@
-use Rattle.std.proofs.Common.{refl, sym, ◌∙◌, ap, subst, arith}
+use Rattle.std.proofs.Common.{refl, ◌∙◌, ap, arith}
 use Rattle.qp_model.specs.Lists.{is_first}
 use Rattle.qp_sound.proofs.Standing.{block-pool}
 use Rattle.qp_plain.specs.Lane.{is_plain}

@@ -1,4 +1,4 @@
-use Rattle.std.proofs.Common.{refl, sym, ◌∙◌, ap, subst, arith}
+use Rattle.std.proofs.Common.{refl}
 use Rattle.qp_plain.proofs.Calling.{stop-stays}
 use Rattle.qp_plain.proofs.RepeatFacts.{still-off, still-plain}
 use Rattle.qp_plain.proofs.RepeatHolds.{still-again}

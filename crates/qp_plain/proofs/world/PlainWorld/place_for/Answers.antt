@@ -1,6 +1,4 @@
 use Rattle.std.proofs.Common.{◌≡◌, Bool, true, false, refl, sym, ◌∙◌, subst}
-use Rattle.std.specs.Result.{OnOk}
-use Rattle.std.specs.declared.result.Result.{Result}
 use Rattle.qp_model.specs.declared.record.Rec.{Rec}
 use Rattle.qp_model.specs.Ends.{is_spill}
 use Rattle.qp_model.specs.Record.{body_of, item_of}

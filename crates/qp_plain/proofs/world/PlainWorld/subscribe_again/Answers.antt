@@ -1,4 +1,4 @@
-use Rattle.std.proofs.Common.{refl, sym, ◌∙◌, ap, subst, arith}
+use Rattle.std.proofs.Common.{refl, ap, arith}
 use Rattle.qp_model.specs.Record.{item_of}
 use Rattle.qp_plain.specs.Lane.{is_plain}
 use Rattle.qp_plain.proofs.Calling.{stop-stays, signal-at}

@@ -1,5 +1,4 @@
-use Rattle.std.proofs.Common.{refl, sym, ◌∙◌, ap, subst, arith}
-use Rattle.qp_plain.specs.Lane.{is_plain}
+use Rattle.std.proofs.Common.{refl, arith}
 use Rattle.qp_plain.proofs.Calling.{stop-stays, timer-at}
 use Rattle.qp_plain.proofs.Holding.{timer-in}
 use Rattle.qp_plain.proofs.RepeatFacts.{tick-on, tick-next, tick-plain}
