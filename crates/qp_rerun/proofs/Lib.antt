@@ -6,6 +6,7 @@ pub mod NextBlocks
 pub mod NextMay
 pub mod NextRecords
 pub mod OneThread
+pub mod Rerunning
 pub mod TokenCalls
 pub mod TokenCourses
 pub mod TokenLanes

@@ -1,7 +1,7 @@
 -- One thread makes a lawful journal's records along a serial order of it.
 use Rattle.std.proofs.Common.{◌≡◌, ◌∙◌, ℕ, zero, suc, ◌+◌, ◌<◌, ◌≤◌, ◌==◌, nat_lt, Bool, true, false, ◌&&◌, List, [], ◌∷◌, ◌++◌, length, take, refl, sym, ap, subst, arith, Some, append_assoc}
 use Rattle.std.specs.Prelude.{slice_get, IsPermutation}
-use Rattle.std.specs.List.{AllByRecursion, cons_option}
+use Rattle.std.specs.List.{AllByRecursion, cons_option, list_all}
 use Rattle.std.specs.Option.{option_and_then, option_map}
 use Rattle.std.proofs.lemmas.Bool.Decides.{nat_tests}
 use Rattle.std.proofs.lemmas.List.{append-nil, take_all}
@@ -20,7 +20,9 @@ use Rattle.qp_model.specs.Knowing.{records_of}
 use Rattle.qp_model.specs.Home.{lane_at}
 use Rattle.qp_model.specs.Places.{IsSerial, RecordPlace, items_at, places, places_from, places_in}
 use Rattle.qp_model.specs.Sound.{IsSound}
-use Rattle.qp_model.specs.Lawful.{Lawful, facts_of}
+use Rattle.qp_model.specs.End.{has_room}
+use Rattle.qp_model.specs.Lawful.{EndHolds, Lawful, facts_of}
+use Rattle.qp_model.proofs.ListLemmas.{both_true}
 use Rattle.qp_stim.specs.Rules.{StimuliFit}
 use Rattle.qp_calls.specs.Counting.{count_of, times}
 use Rattle.qp_calls.specs.Tokens.{Token, hands_after}
@@ -110,7 +112,7 @@ all-below-top n (i ∷ is) le = (omega (arith, le), all-below-top n is (omega (a
 
 -- Lists.
 
-lanes-same : (xs ys : List (List Rec)) → length xs ≡ length ys → ((a : ℕ) → a < length ys → lane_of xs a ≡ lane_of ys a) → xs ≡ ys
+pub lanes-same : (xs ys : List (List Rec)) → length xs ≡ length ys → ((a : ℕ) → a < length ys → lane_of xs a ≡ lane_of ys a) → xs ≡ ys
 lanes-same [] [] long same = refl
 lanes-same [] (y ∷ ys) long same = absurd (omega (arith, long))
 lanes-same (x ∷ xs) [] long same = absurd (omega (arith, long))
@@ -119,12 +121,12 @@ lanes-same (x ∷ xs) (y ∷ ys) long same =
     let others : xs ≡ ys = lanes-same xs ys (omega (arith, long)) (λ a less. same (suc a) (omega (arith, less))) in
     ap (λ z. z ∷ xs) first ∙ ap (λ zs. y ∷ zs) others
 
-no-lane : (n a : ℕ) → lane_of (empty_lanes n) a ≡ []
+pub no-lane : (n a : ℕ) → lane_of (empty_lanes n) a ≡ []
 no-lane zero a = refl
 no-lane (suc n) zero = refl
 no-lane (suc n) (suc a) = no-lane n a
 
-empty-length : (n : ℕ) → length (empty_lanes n) ≡ n
+pub empty-length : (n : ℕ) → length (empty_lanes n) ≡ n
 empty-length zero = refl
 empty-length (suc n) = let more = empty-length n in omega (arith, more)
 
@@ -142,7 +144,7 @@ unfolding made_on
 made_on-append lanes w [] ys = refl
 made_on-append lanes w (x ∷ xs) ys = made_on-append lanes (with_next w x.lane (record_at lanes x)) xs ys
 
-made-push : (lanes : List (List Rec)) (A : List RecordPlace) (x : RecordPlace) (r : Rec) → record_at lanes x ≡ Some r → with_next (made lanes A) x.lane (Some r) ≡ made lanes (A ++ x ∷ [])
+pub made-push : (lanes : List (List Rec)) (A : List RecordPlace) (x : RecordPlace) (r : Rec) → record_at lanes x ≡ Some r → with_next (made lanes A) x.lane (Some r) ≡ made lanes (A ++ x ∷ [])
 unfolding made made_on
 made-push lanes A x r at =
     ap (with_next (made lanes A) x.lane) (sym at) ∙ sym (made_on-append lanes (record { lanes = empty_lanes (length lanes); order = [] }) A (x ∷ []))
@@ -182,7 +184,7 @@ module _ (sys : System) (stimuli : List (List Stim)) (j : Journal) (order : List
       let here = there-at (There j.lanes) A x B (subst (AllByRecursion (There j.lanes)) split there) in
       record { within = here.lane; place = here.place; is = sym (at-lane j.lanes x here.lane) ∙ at }
 
-  a_record : (A B : List RecordPlace) (x : RecordPlace) → order ≡ A ++ x ∷ B → (r : Rec) × (record_at j.lanes x ≡ Some r)
+  pub a_record : (A B : List RecordPlace) (x : RecordPlace) → order ≡ A ++ x ∷ B → (r : Rec) × (record_at j.lanes x ≡ Some r)
   a_record A B x split =
       let here = there-at (There j.lanes) A x B (subst (AllByRecursion (There j.lanes)) split there) in
       let got = get-there (lane_of j.lanes x.lane) x.at here.place in
@@ -241,6 +243,33 @@ module _ (sys : System) (stimuli : List (List Stim)) (j : Journal) (order : List
 
   state : (front behind : List RecordPlace) → order ≡ front ++ behind → State (made j.lanes front) front
   state front behind split = walk [] front behind split start
+
+  -- where the next record of the order stands: the world has what the lane has before it
+  pub record RoomBefore (front : List RecordPlace) (x : RecordPlace) (r : Rec) : Type 0 where
+    pub within : x.lane < length j.lanes
+    pub there : slice_get (lane_of j.lanes x.lane) x.at ≡ Some r
+    pub long : length (lane_of (made j.lanes front).lanes x.lane) ≡ x.at
+    pub before : lane_of (made j.lanes front).lanes x.lane ≡ take x.at (lane_of j.lanes x.lane)
+    pub room : has_room (lane_items (lane_of j.lanes x.lane)) ≡ true
+
+  pub room-before : (front behind : List RecordPlace) (x : RecordPlace) (r : Rec) → order ≡ front ++ x ∷ behind → record_at j.lanes x ≡ Some r → RoomBefore front x r
+  unfolding EndHolds
+  room-before front behind x r split at =
+      let f = found front behind x r split at in
+      let s = state front (x ∷ behind) split in
+      let long = s.along.counts x.lane ∙ place front behind x r split f in
+      record {
+        within = f.within;
+        there = f.is;
+        long = long;
+        before = s.along.fronts x.lane ∙ ap (λ n. take n (lane_of j.lanes x.lane)) long;
+        room = all-at (λ l. has_room (lane_items l)) j.lanes x.lane lawful.end.room f.within;
+      }
+    where
+      all-at : (p : List Rec → Bool) (ls : List (List Rec)) (a : ℕ) → list_all p ls ≡ true → a < length ls → p (lane_of ls a) ≡ true
+      all-at p [] a h less = absurd (omega (arith, less))
+      all-at p (l ∷ ls) zero h less = (both_true _ _ h).0
+      all-at p (l ∷ ls) (suc a) h less = all-at p ls a (both_true _ _ h).1 (omega (arith, less))
 
   ticks-of : (o : ℕ) (H : List Token) (b : Body) → Uses sys o H b → TicksFit b
   ticks-of o H (item.Arm t n ticks interval) h = h.1
