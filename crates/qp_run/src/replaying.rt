@@ -3,6 +3,7 @@ ghost use Rattle.std.specs.Prelude.{◌≡◌, ◌≢◌, IsTrue};
 ghost use Rattle.qp_model.specs.Lawful.{Lawful};
 ghost use Rattle.qp_model.specs.Output.{is_in_range};
 ghost use Rattle.qp_model.specs.Sound.{IsSound};
+ghost use Rattle.qp_replay.specs.Replaying.{IsReplay};
 ghost use Rattle.qp_stim.specs.Rules.{StimuliFit};
 ghost use Rattle.qp_run.specs.Conversions.{PrintsOne, WhenDone};
 ghost use Rattle.qp_run.specs.Printed.{IsPrinted};
@@ -13,10 +14,30 @@ ghost use Rattle.qp_run.specs.declared.status.Status.{Status};
 
 use crate::checking::{Judged, judge_files};
 use crate::status::Status;
-use qp_base::{Shelf, Sink};
-use qp_replay::replay;
+use qp_base::{Memory, Shelf, Sink};
+use qp_replay::{Replayed, replay};
 use qp_replayed::write_replayed;
+use qp_rerun::rerun;
 use std::alloc::Global;
+
+/// Makes the journal's records once more along its order, where it has one. What this shows is proved; it asks for memory alone.
+fn run_again(alloc: Global, judged: &Judged, replayed: &Replayed) -> Result<(), Memory>
+    requires sound { IsSound judged.now.system }
+    requires fit { StimuliFit judged.now.system judged.now.stimuli }
+    requires lawful { Lawful judged.now.system judged.now.stimuli judged.now.found.journal }
+    requires replay { IsReplay judged.now.found.journal.lanes replayed.now }
+{
+    if let Replayed::Order(order) = replayed {
+        let _ = rerun(
+            alloc,
+            &judged.system,
+            &judged.stimuli,
+            &judged.found.journal,
+            order,
+        )?;
+    }
+    Ok(())
+}
 
 /// Prints the order of a lawful journal's records, or a cycle where there is no order, in the journal's own form.
 fn print<O: Sink>(alloc: Global, judged: &Judged, out: &mut O) -> Status
@@ -31,6 +52,9 @@ fn print<O: Sink>(alloc: Global, judged: &Judged, out: &mut O) -> Status
     let Ok(replayed) = replay(alloc, &judged.system, &judged.stimuli, journal) else {
         return Status::Memory;
     };
+    if run_again(alloc, judged, &replayed).is_err() {
+        return Status::Memory;
+    }
     match write_replayed(journal, judged.found.form, &replayed, out) {
         Ok(()) => Status::Done,
         Err(_) => Status::WriteFault,
