@@ -19,12 +19,13 @@ use files::Table;
 use std::sync::Wait;
 
 /// The tables of words over files, with what is answered.
-const ANSWERS: [&str; 10] = [
+const ANSWERS: [&str; 11] = [
     "words.txt",
     "runs.txt",
     "summaries.txt",
     "checks.txt",
     "replays.txt",
+    "orders.txt",
     "conversions.txt",
     "system-faults.txt",
     "charts.txt",
