@@ -1,7 +1,6 @@
 //! Actions of starts and of transitions over six levels.
 
-use crate::samples::{NOWHERE, chart_of, tasks_of};
-use qp_compiled::Compiled;
+use crate::samples::{NOWHERE, Step, chart_of, compiled, starts_so, steps_so};
 use std::test::Fail;
 
 /// Two chains of six states, each with an entry and an exit action.
@@ -28,67 +27,44 @@ state = [
 ]
 ";
 
-const DOWN: &str =
-    "init 1, say 91, enter 2, say 12, enter 3, say 13, init 3, lock 1, say 92, unlock, enter 4, say 14, enter 5, say 15, enter 6, say 16, say 116, done";
+const START: &str =
+    "begin, say 1, lock 2, say 3, say 4, unlock, say 5, enter 1, say 11, init 1, say 91, enter 2, say 12, enter 3, say 13, init 3, lock 1, say 92, unlock, enter 4, say 14, enter 5, say 15, enter 6, say 16, say 116, done";
+
+const STEPS: [Step<'static>; 3] = [
+    // A transition over six levels, and one back with its initial transitions.
+    Step {
+        from: 6,
+        signal: 5,
+        tasks: "run 6 1, lock 3, say 6, unlock, exit 6, say 26, exit 5, say 25, exit 4, say 24, exit 3, say 23, exit 2, say 22, exit 1, say 21, enter 7, say 31, enter 8, say 32, enter 9, say 33, enter 10, say 34, enter 11, say 35, enter 12, say 36, done",
+        leaf: 12,
+    },
+    Step {
+        from: 12,
+        signal: 4,
+        tasks: "run 7 1, say 2, exit 12, say 46, exit 11, say 45, exit 10, say 44, exit 9, say 43, exit 8, say 42, exit 7, say 41, enter 1, say 11, init 1, say 91, enter 2, say 12, enter 3, say 13, init 3, lock 1, say 92, unlock, enter 4, say 14, enter 5, say 15, enter 6, say 16, say 116, done",
+        leaf: 6,
+    },
+    // A row without a target leaves the leaf, at whatever state it stands.
+    Step {
+        from: 6,
+        signal: 6,
+        tasks: "run 5 1, say 7, lock 9, say 8, unlock, done",
+        leaf: 6,
+    },
+];
 
 #[test]
-fn a_start_has_its_actions_and_those_of_initial_transitions(rt: HostRuntime) -> Result<(), Fail> {
+fn starts_and_steps_have_their_actions(rt: HostRuntime) -> Result<(), Fail> {
     let alloc = rt.alloc();
     let chart = chart_of(alloc, CHAINS)?;
-    let compiled = Compiled::new(&chart, alloc).map_err(|_| std::alloc::AllocError)?;
-    let (agenda, leaf) = compiled.start(&chart);
-    let tasks = format!(in alloc;
-        "begin, say 1, lock 2, say 3, say 4, unlock, say 5, enter 1, say 11, {DOWN}"
-    )?;
-    assert_eq!(rt;
-        tasks_of(alloc, &compiled, &chart, agenda)?.as_str(),
-        tasks.as_str()
-    );
-    assert_eq!(rt; leaf, 6);
-    Ok(())
-}
-
-#[test]
-fn a_transition_over_six_levels(rt: HostRuntime) -> Result<(), Fail> {
-    let alloc = rt.alloc();
-    let chart = chart_of(alloc, CHAINS)?;
-    let compiled = Compiled::new(&chart, alloc).map_err(|_| std::alloc::AllocError)?;
-    let (agenda, leaf) = compiled.step(&chart, 6, &NOWHERE, 5);
-    let tasks =
-        "run 6 1, lock 3, say 6, unlock, exit 6, say 26, exit 5, say 25, exit 4, say 24, exit 3, say 23, exit 2, say 22, exit 1, say 21, enter 7, say 31, enter 8, say 32, enter 9, say 33, enter 10, say 34, enter 11, say 35, enter 12, say 36, done";
-    assert_eq!(rt; tasks_of(alloc, &compiled, &chart, agenda)?.as_str(), tasks);
-    assert_eq!(rt; leaf, 12);
-    Ok(())
-}
-
-#[test]
-fn a_transition_back_with_its_initial_transitions(rt: HostRuntime) -> Result<(), Fail> {
-    let alloc = rt.alloc();
-    let chart = chart_of(alloc, CHAINS)?;
-    let compiled = Compiled::new(&chart, alloc).map_err(|_| std::alloc::AllocError)?;
-    let (agenda, leaf) = compiled.step(&chart, 12, &NOWHERE, 4);
-    let tasks = format!(in alloc;
-        "run 7 1, say 2, exit 12, say 46, exit 11, say 45, exit 10, say 44, exit 9, say 43, exit 8, say 42, exit 7, say 41, enter 1, say 11, {DOWN}"
-    )?;
-    assert_eq!(rt;
-        tasks_of(alloc, &compiled, &chart, agenda)?.as_str(),
-        tasks.as_str()
-    );
-    assert_eq!(rt; leaf, 6);
-    Ok(())
-}
-
-/// A row without a target leaves the leaf, at whatever state it stands.
-#[test]
-fn a_row_without_a_target_stays(rt: HostRuntime) -> Result<(), Fail> {
-    let alloc = rt.alloc();
-    let chart = chart_of(alloc, CHAINS)?;
-    let compiled = Compiled::new(&chart, alloc).map_err(|_| std::alloc::AllocError)?;
-    let (agenda, leaf) = compiled.step(&chart, 6, &NOWHERE, 6);
-    assert_eq!(rt;
-        tasks_of(alloc, &compiled, &chart, agenda)?.as_str(),
-        "run 5 1, say 7, lock 9, say 8, unlock, done"
-    );
-    assert_eq!(rt; leaf, 6);
+    let compiled = compiled(alloc, &chart)?;
+    assert!(rt; starts_so(alloc, &chart, &compiled, START, 6)?);
+    for step in &STEPS {
+        assert!(rt;
+            steps_so(alloc, &chart, &compiled, &NOWHERE, step)?,
+            "{}",
+            step.tasks
+        );
+    }
     Ok(())
 }

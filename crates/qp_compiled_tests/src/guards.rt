@@ -1,8 +1,7 @@
 //! Guards, and which state is asked first.
 
-use crate::samples::{chart_of, tasks_of};
+use crate::samples::{Step, chart_of, compiled, steps_so};
 use qp_chart::Env;
-use qp_compiled::Compiled;
 use std::test::Fail;
 
 const GUARDED: &str = "qp = 1
@@ -24,37 +23,44 @@ state = [
 ]
 ";
 
-/// The variable, the last answer, the leaf, the signal, and what the step does.
-const STEPS: [(i64, i64, u8, u16, &str); 9] = [
-    (1, 0, 2, 4, "run 2 3, say 3, done"),
-    (2, 0, 2, 4, "run 2 3, say 3, done"),
-    (3, 0, 2, 4, "run 2 5, say 5, exit 2, done"),
-    (4, 0, 2, 4, "run 1 2, say 9, done"),
-    (9, 0, 2, 4, "none, done"),
-    (0, 5, 2, 5, "run 2 2, say 2, done"),
-    (0, 4, 2, 5, "run 1 1, say 8, done"),
-    (1, 5, 1, 5, "run 1 1, say 8, done"),
-    (1, 0, 1, 4, "run 1 2, say 9, done"),
+/// The variable, the last answer, the leaf, the signal, what the step does, and the leaf after it.
+const STEPS: [(i64, i64, u8, u16, &str, u8); 9] = [
+    (1, 0, 2, 4, "run 2 3, say 3, done", 2),
+    (2, 0, 2, 4, "run 2 3, say 3, done", 2),
+    (3, 0, 2, 4, "run 2 5, say 5, exit 2, done", 1),
+    (4, 0, 2, 4, "run 1 2, say 9, done", 2),
+    (9, 0, 2, 4, "none, done", 2),
+    (0, 5, 2, 5, "run 2 2, say 2, done", 2),
+    (0, 4, 2, 5, "run 1 1, say 8, done", 2),
+    (1, 5, 1, 5, "run 1 1, say 8, done", 1),
+    (1, 0, 1, 4, "run 1 2, say 9, done", 1),
 ];
+
+/// A variable and the last answer.
+fn env(vars: &[i64], ok: i64) -> Env<'_> {
+    Env {
+        vars,
+        pars: &[],
+        ok,
+        me: 1,
+    }
+}
 
 #[test]
 fn the_first_open_row_of_the_innermost_state_handles(rt: HostRuntime) -> Result<(), Fail> {
     let alloc = rt.alloc();
     let chart = chart_of(alloc, GUARDED)?;
-    let compiled = Compiled::new(&chart, alloc).map_err(|_| std::alloc::AllocError)?;
-    for (x, ok, leaf, signal, tasks) in &STEPS {
-        let vars = [*x];
-        let env = Env {
-            vars: &vars,
-            pars: &[],
-            ok: *ok,
-            me: 1,
+    let compiled = compiled(alloc, &chart)?;
+    for (x, ok, from, signal, tasks, leaf) in &STEPS {
+        let step = Step {
+            from: *from,
+            signal: *signal,
+            tasks,
+            leaf: *leaf,
         };
-        let (agenda, _) = compiled.step(&chart, *leaf, &env, *signal);
-        assert_eq!(rt;
-            tasks_of(alloc, &compiled, &chart, agenda)?.as_str(),
-            *tasks
-        );
+        let vars = [*x];
+        let is_right = steps_so(alloc, &chart, &compiled, &env(&vars, *ok), &step)?;
+        assert!(rt; is_right, "x is {x}: {tasks}");
     }
     Ok(())
 }

@@ -1,5 +1,8 @@
 //! Charts of files, and their agendas as texts.
 
+ghost use Rattle.std.specs.Prelude.{IfOk};
+ghost use Rattle.qp_compiled.specs.Compiled.{IsCompiled};
+
 use qp_chart::{Bound, Chart, Env, Plain};
 use qp_compiled::{Agenda, Compiled, Task};
 use qp_system::system_of_bytes;
@@ -66,4 +69,53 @@ pub(crate) fn tasks_of(
         compiled.advance(&mut left);
     }
     Ok(text)
+}
+
+/// The compiled form of a chart.
+pub(crate) fn compiled(alloc: Global, chart: &Chart) -> Result<Compiled, AllocError>
+    ensures { IfOk result (λ c. IsCompiled chart.now c) }
+{
+    match Compiled::new(chart, alloc) {
+        Ok(compiled) => Ok(compiled),
+        Err(_) => Err(AllocError),
+    }
+}
+
+/// Whether a start does these tasks and ends in this leaf.
+pub(crate) fn starts_so(
+    alloc: Global,
+    chart: &Chart,
+    compiled: &Compiled,
+    tasks: &str,
+    leaf: u8,
+) -> Result<bool, AllocError>
+    requires { IsCompiled chart.now compiled.now }
+{
+    let (agenda, found) = compiled.start(chart);
+    let text = tasks_of(alloc, compiled, chart, agenda)?;
+    Ok(found == leaf && text.as_str() == tasks)
+}
+
+/// A step from a leaf by a signal, what it does, and the leaf after it.
+#[derive(Clone, Copy)]
+pub(crate) struct Step<'a> {
+    pub(crate) from: u8,
+    pub(crate) signal: u16,
+    pub(crate) tasks: &'a str,
+    pub(crate) leaf: u8,
+}
+
+/// Whether a step does its tasks and ends in its leaf.
+pub(crate) fn steps_so(
+    alloc: Global,
+    chart: &Chart,
+    compiled: &Compiled,
+    env: &Env<'_>,
+    step: &Step<'_>,
+) -> Result<bool, AllocError>
+    requires { IsCompiled chart.now compiled.now }
+{
+    let (agenda, found) = compiled.step(chart, step.from, env, step.signal);
+    let text = tasks_of(alloc, compiled, chart, agenda)?;
+    Ok(found == step.leaf && text.as_str() == step.tasks)
 }

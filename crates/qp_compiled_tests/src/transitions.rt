@@ -1,7 +1,6 @@
 //! Transitions in every direction of a tree of nine states.
 
-use crate::samples::{NOWHERE, chart_of, tasks_of};
-use qp_compiled::Compiled;
+use crate::samples::{NOWHERE, Step, chart_of, compiled, starts_so, steps_so};
 use std::test::Fail;
 
 /// a contains b contains c contains d contains e contains f; a contains g contains h; k stands at the top; b's initial target is e.
@@ -70,58 +69,56 @@ const STEPS: [(u16, &str, u8); 10] = [
     ),
 ];
 
+/// Leaves and signals that no row on the path is for: signals beyond all of the chart, and states that the chart hasn't got.
+const UNHANDLED: [(u8, u16); 8] = [
+    (9, 4),
+    (7, 10),
+    (6, 0),
+    (6, 14),
+    (6, 18),
+    (6, 65535),
+    (10, 4),
+    (255, 4),
+];
+
 #[test]
-fn each_direction_exits_and_enters(rt: HostRuntime) -> Result<(), Fail> {
+fn starts_and_steps_exit_and_enter(rt: HostRuntime) -> Result<(), Fail> {
     let alloc = rt.alloc();
     let chart = chart_of(alloc, TREE)?;
-    let compiled = Compiled::new(&chart, alloc).map_err(|_| std::alloc::AllocError)?;
-    for (signal, tasks, after) in &STEPS {
-        let (agenda, leaf) = compiled.step(&chart, 6, &NOWHERE, *signal);
-        assert_eq!(rt;
-            tasks_of(alloc, &compiled, &chart, agenda)?.as_str(),
-            *tasks
+    let compiled = compiled(alloc, &chart)?;
+    let start = "begin, enter 1, enter 2, enter 3, enter 4, enter 5, enter 6, done";
+    assert!(rt; starts_so(alloc, &chart, &compiled, start, 6)?);
+    for (signal, tasks, leaf) in &STEPS {
+        let step = Step {
+            from: 6,
+            signal: *signal,
+            tasks,
+            leaf: *leaf,
+        };
+        assert!(rt;
+            steps_so(alloc, &chart, &compiled, &NOWHERE, &step)?,
+            "{tasks}"
         );
-        assert_eq!(rt; leaf, *after);
     }
     Ok(())
 }
 
 #[test]
-fn a_start_enters_from_the_outermost_state(rt: HostRuntime) -> Result<(), Fail> {
-    let alloc = rt.alloc();
-    let chart = chart_of(alloc, TREE)?;
-    let compiled = Compiled::new(&chart, alloc).map_err(|_| std::alloc::AllocError)?;
-    let (agenda, leaf) = compiled.start(&chart);
-    assert_eq!(rt;
-        tasks_of(alloc, &compiled, &chart, agenda)?.as_str(),
-        "begin, enter 1, enter 2, enter 3, enter 4, enter 5, enter 6, done"
-    );
-    assert_eq!(rt; leaf, 6);
-    Ok(())
-}
-
-/// A signal that no row on the path is for, signals beyond all of the chart, and a state that the chart hasn't got.
-#[test]
 fn what_no_row_is_for_is_unhandled(rt: HostRuntime) -> Result<(), Fail> {
     let alloc = rt.alloc();
     let chart = chart_of(alloc, TREE)?;
-    let compiled = Compiled::new(&chart, alloc).map_err(|_| std::alloc::AllocError)?;
-    for (from, signal) in [
-        (9, 4),
-        (7, 10),
-        (6, 0),
-        (6, 14),
-        (6, 18),
-        (6, 65535),
-        (10, 4),
-        (255, 4),
-    ] {
-        let (agenda, leaf) = compiled.step(&chart, from, &NOWHERE, signal);
-        assert_eq!(rt;
-            tasks_of(alloc, &compiled, &chart, agenda)?.as_str(),
-            "none, done"
+    let compiled = compiled(alloc, &chart)?;
+    for (from, signal) in &UNHANDLED {
+        let step = Step {
+            from: *from,
+            signal: *signal,
+            tasks: "none, done",
+            leaf: *from,
+        };
+        assert!(rt;
+            steps_so(alloc, &chart, &compiled, &NOWHERE, &step)?,
+            "{signal}"
         );
-        assert_eq!(rt; leaf, from);
     }
     Ok(())
 }
