@@ -1,110 +1,46 @@
-//! Acts and deeds of the tests.
+//! Deeds and systems of the tests.
 
 use crate::deeds::Deed;
-use crate::desk::{Act, Move};
+use crate::desk::Act;
+use crate::systems::{many, one};
+use std::alloc::{AllocError, Global};
 
+/// Static signals, and N, which has one parameter.
 pub(crate) const GO: u16 = 4;
 
 pub(crate) const N: u16 = 5;
 
 pub(crate) const X: u16 = 6;
 
-/// A source posts GO to object 1.
-pub(crate) const GO_POST: [Deed; 1] = [Deed::Post {
-    to: 1,
-    sig: GO,
-    pars: &[],
-    margin: None,
-    reserve: None,
-}];
+/// A post to object 1 without margin or reserve.
+pub(crate) const GO_POST: Deed = Deed::Post(1, GO, &[], None, None);
 
-/// A source posts X to object 1.
-pub(crate) const X_POST: [Deed; 1] = [Deed::Post {
-    to: 1,
-    sig: X,
-    pars: &[],
-    margin: None,
-    reserve: None,
-}];
+pub(crate) const X_POST: Deed = Deed::Post(1, X, &[], None, None);
 
-/// A post of a static event to object 1.
-pub(crate) const fn static_post(sig: u16, margin: Option<u8>) -> Deed {
-    Deed::Post {
-        to: 1,
-        sig,
-        pars: &[],
-        margin,
-        reserve: None,
+/// A system of the tests.
+#[derive(Clone, Copy)]
+pub(crate) enum Kind {
+    /// One object with this queue, and so many blocks.
+    One(u8, u8),
+    /// So many objects.
+    Many(u8),
+}
+
+impl Kind {
+    /// The system's file.
+    pub(crate) fn file(self, alloc: Global) -> Result<String, AllocError> {
+        match self {
+            Kind::One(queue, blocks) => one(alloc, queue, blocks),
+            Kind::Many(objects) => many(alloc, objects),
+        }
     }
 }
 
-/// A post of N to object 1.
-pub(crate) const fn n_post(pars: &'static [u64], margin: Option<u8>, reserve: Option<u8>) -> Deed {
-    Deed::Post {
-        to: 1,
-        sig: N,
-        pars,
-        margin,
-        reserve,
-    }
-}
-
-/// A last-in post of N.
-pub(crate) const fn n_lifo(pars: &'static [u64], reserve: Option<u8>) -> Deed {
-    Deed::Lifo {
-        sig: N,
-        pars,
-        reserve,
-    }
-}
-
-/// A publication of N.
-pub(crate) const fn n_publish(pars: &'static [u64], reserve: Option<u8>) -> Deed {
-    Deed::Publish {
-        sig: N,
-        pars,
-        reserve,
-    }
-}
-
-/// A handler's publication of N, after a `locked` list with nothing in it.
-pub(crate) const fn n_announce(pars: &'static [u64], reserve: Option<u8>) -> Deed {
-    Deed::Announce {
-        sig: N,
-        pars,
-        reserve,
-    }
-}
-
-/// A source in lane 1.
-pub(crate) const fn source<'a>(deeds: &'a [Deed], leaves: &'a str) -> Act<'a> {
-    Act {
-        does: Move::Work {
-            lane: 1,
-            me: 0,
-            deeds,
-        },
-        leaves,
-    }
-}
-
-/// What object `me` does in lane 0, outside of a step.
-pub(crate) const fn owner<'a>(me: u8, deeds: &'a [Deed], leaves: &'a str) -> Act<'a> {
-    Act {
-        does: Move::Work { lane: 0, me, deeds },
-        leaves,
-    }
-}
-
-/// A step of object 1 in lane 0.
-pub(crate) const fn step<'a>(deeds: &'a [Deed], leaves: &'a str) -> Act<'a> {
-    step_of(1, deeds, leaves)
-}
-
-/// A step of object `me` in lane 0.
-pub(crate) const fn step_of<'a>(me: u8, deeds: &'a [Deed], leaves: &'a str) -> Act<'a> {
-    Act {
-        does: Move::Step { me, deeds },
-        leaves,
-    }
+/// What happens in a system, with the records that it leaves. Deferred entries are in a list of the capacity `defer`.
+#[derive(Clone, Copy)]
+pub(crate) struct Run<'a> {
+    pub(crate) name: &'a str,
+    pub(crate) system: Kind,
+    pub(crate) defer: u8,
+    pub(crate) acts: &'a [Act<'a>],
 }

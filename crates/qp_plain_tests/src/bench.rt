@@ -1,5 +1,6 @@
 //! Lanes after acts, beside the records that the acts leave.
 
+use crate::acts::Run;
 use crate::desk::{Act, End, play};
 use crate::shown::lane_text;
 use qp_calls::Deferred;
@@ -20,11 +21,11 @@ fn wanted(alloc: Global, lanes: u32, acts: &[Act<'_>]) -> Result<String, AllocEr
         }
         let mut first = true;
         for act in acts {
-            if !act.leaves.is_empty() && (lanes == 1 || act.does.lane() == lane) {
+            if !act.leaves().is_empty() && (lanes == 1 || act.lane() == lane) {
                 if !first {
                     text.push_str(", ")?;
                 }
-                text.push_str(act.leaves)?;
+                text.push_str(act.leaves())?;
                 first = false;
             }
         }
@@ -65,18 +66,14 @@ fn found<R: Wait>(
     Ok(text)
 }
 
-/// Does the acts in one lane and in two, and fails with the lanes found where they aren't those wanted.
-pub(crate) fn see<R: Wait>(
-    rt: &R,
-    alloc: Global,
-    system: &str,
-    defer: u8,
-    acts: &[Act<'_>],
-) -> Result<(), Fail> {
+/// Does the acts of a run in one lane and in two, and fails with its name and the lanes found where they aren't those wanted.
+pub(crate) fn see<R: Wait>(rt: &R, alloc: Global, run: &Run<'_>) -> Result<(), Fail> {
+    let system = run.system.file(alloc)?;
     for lanes in 1..3 {
-        let text = found(rt, alloc, system, lanes, defer, acts)?;
-        if text.as_str() != wanted(alloc, lanes, acts)?.as_str() {
-            return Err(Fail::new(text));
+        let text = found(rt, alloc, system.as_str(), lanes, run.defer, run.acts)?;
+        if text.as_str() != wanted(alloc, lanes, run.acts)?.as_str() {
+            let name = run.name;
+            return Err(Fail::new(format!(in alloc; "{name}: {text}")?));
         }
     }
     Ok(())

@@ -16,58 +16,32 @@ use qp_calls::{
 use qp_model::{Rec, System};
 use std::sync::ledger::Ledger;
 
-/// One group of calls, of the object for which the lane works.
+/// One group of calls, of the object for which the lane works. Behind a signal stand its parameters, the margin and the reserve, where
+/// the group has one.
 #[derive(Clone, Copy)]
 pub(crate) enum Deed {
-    Post {
-        to: u8,
-        sig: u16,
-        pars: &'static [u64],
-        margin: Option<u8>,
-        reserve: Option<u8>,
-    },
-    Lifo {
-        sig: u16,
-        pars: &'static [u64],
-        reserve: Option<u8>,
-    },
-    Publish {
-        sig: u16,
-        pars: &'static [u64],
-        reserve: Option<u8>,
-    },
+    /// To an object.
+    Post(u8, u16, &'static [u64], Option<u8>, Option<u8>),
+    Lifo(u16, &'static [u64], Option<u8>),
+    Publish(u16, &'static [u64], Option<u8>),
     /// A handler's publication, after a `locked` list with nothing in it.
-    Announce {
-        sig: u16,
-        pars: &'static [u64],
-        reserve: Option<u8>,
-    },
-    Forward {
-        to: u8,
-        margin: Option<u8>,
-    },
+    Announce(u16, &'static [u64], Option<u8>),
+    /// To an object, with a margin.
+    Forward(u8, Option<u8>),
     Defer,
     Recall,
     Flush,
     Subscribe(u16),
     Unsubscribe(u16),
-    Arm {
-        timer: u8,
-        ticks: u16,
-        interval: u16,
-    },
+    /// A timer, its ticks and its interval.
+    Arm(u8, u16, u16),
     /// Assertion 4 of a timer.
-    ArmBadly {
-        timer: u8,
-    },
-    Rearm {
-        timer: u8,
-        ticks: u16,
-    },
+    ArmBadly(u8),
+    /// A timer and its ticks.
+    Rearm(u8, u16),
     Disarm(u8),
-    Tick {
-        rate: u8,
-    },
+    /// A rate.
+    Tick(u8),
     /// Says the answer of the call before.
     SayOk,
     /// Says the first parameter of the event at hand.
@@ -271,7 +245,7 @@ pub(crate) fn perform<O: Ops, L: Ledger>(
             recall(ops, list, steps).ok()
         }
         Deed::Flush => flush(ops, list).ok(),
-        Deed::Forward { to, margin } => {
+        Deed::Forward(to, margin) => {
             if !has_object(sys, *to) {
                 return None;
             }
@@ -297,42 +271,32 @@ fn act<O: Ops, L: Ledger>(
 {
     let o = owner(ops);
     match deed {
-        Deed::Post {
-            to,
-            sig,
-            pars,
-            margin,
-            reserve,
-        } => {
+        Deed::Post(to, sig, pars, margin, reserve) => {
             let ev = event(sys, *sig, pars)?;
             post(ops, sys, *to, &ev, *margin, *reserve, steps)
         }
-        Deed::Lifo { sig, pars, reserve } => {
+        Deed::Lifo(sig, pars, reserve) => {
             let ev = event(sys, *sig, pars)?;
             if !has_object(sys, o) {
                 return None;
             }
             lifo_new(ops, sys, &ev, *reserve, steps).ok()
         }
-        Deed::Publish { sig, pars, reserve } => {
+        Deed::Publish(sig, pars, reserve) => {
             let ev = event(sys, *sig, pars)?;
             publish(ops, sys, &ev, *reserve, steps).ok()
         }
-        Deed::Announce { sig, pars, reserve } => {
+        Deed::Announce(sig, pars, reserve) => {
             let ev = event(sys, *sig, pars)?;
             announce(ops, sys, o, &ev, *reserve, steps)
         }
-        Deed::Tick { rate } => tick_rate(ops, sys, *rate, steps).ok(),
+        Deed::Tick(rate) => tick_rate(ops, sys, *rate, steps).ok(),
         Deed::Subscribe(sig) => subscribing(ops, sys, o, *sig, true),
         Deed::Unsubscribe(sig) => subscribing(ops, sys, o, *sig, false),
-        Deed::Arm {
-            timer,
-            ticks,
-            interval,
-        } => arm(ops, sys, o, *timer, *ticks, *interval, steps),
-        Deed::Rearm { timer, ticks } => change(ops, sys, o, *timer, *ticks, steps),
+        Deed::Arm(timer, ticks, interval) => arm(ops, sys, o, *timer, *ticks, *interval, steps),
+        Deed::Rearm(timer, ticks) => change(ops, sys, o, *timer, *ticks, steps),
         Deed::Disarm(timer) => change(ops, sys, o, *timer, 0, steps),
-        Deed::ArmBadly { timer } => arm_badly(ops, o, *timer),
+        Deed::ArmBadly(timer) => arm_badly(ops, o, *timer),
         Deed::SayOk => say(ops, o, i64::from(ok)),
         _ => None,
     }

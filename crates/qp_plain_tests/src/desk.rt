@@ -23,37 +23,32 @@ pub(crate) enum End {
     Refused,
 }
 
-/// What happens next.
-#[derive(Drop)]
-pub(crate) enum Move<'a> {
-    /// A source, which is 0, or an object outside of a step does these in this lane.
-    Work {
-        lane: u32,
-        me: u8,
-        deeds: &'a [Deed],
-    },
+/// What happens next, with the records that it leaves.
+#[derive(Clone, Copy)]
+pub(crate) enum Act<'a> {
+    /// A source does these in lane 1.
+    Source(&'a [Deed], &'a str),
+    /// An object does these in lane 0, outside of a step.
+    Owner(u8, &'a [Deed], &'a str),
     /// An object takes an entry in lane 0, does these, and is done.
-    Step {
-        me: u8,
-        deeds: &'a [Deed],
-    },
+    Step(u8, &'a [Deed], &'a str),
 }
 
-impl Move<'_> {
+impl<'a> Act<'a> {
     /// The lane of it.
     pub(crate) fn lane(&self) -> u32 {
         match self {
-            Move::Work { lane, .. } => *lane,
-            Move::Step { .. } => 0,
+            Act::Source(..) => 1,
+            Act::Owner(..) | Act::Step(..) => 0,
         }
     }
-}
 
-/// A move, and the records that it leaves.
-#[derive(Drop)]
-pub(crate) struct Act<'a> {
-    pub(crate) does: Move<'a>,
-    pub(crate) leaves: &'a str,
+    /// The records that it leaves.
+    pub(crate) fn leaves(&self) -> &'a str {
+        match self {
+            Act::Source(_, leaves) | Act::Owner(_, _, leaves) | Act::Step(_, _, leaves) => leaves,
+        }
+    }
 }
 
 /// Does deeds in order, while the lane has an entry in its hands. Ends with the first assertion.
@@ -158,13 +153,13 @@ fn step_on<O: Ops, L: Ledger>(
     End::Whole
 }
 
-/// One move. A world of one lane has all of them there.
+/// One act. A world of one lane has all of them there.
 fn make<L: Ledger, R: Wait>(
     rt: &R,
     world: &mut PlainWorld<'_>,
     sys: &System,
     list: &mut Deferred,
-    next: &Move<'_>,
+    next: &Act<'_>,
     steps: &mut Steps<L>,
 ) -> End
     requires { MayGoOn sys.now list.old.entries.items (world_view world.old) }
@@ -176,12 +171,13 @@ fn make<L: Ledger, R: Wait>(
     }
     let _ = world.go(lane);
     match next {
-        Move::Work { me, deeds, .. } => work_outside(world, sys, list, *me, deeds, steps),
-        Move::Step { me, deeds } => step(rt, world, sys, list, *me, deeds, steps),
+        Act::Source(deeds, _) => work_outside(world, sys, list, 0, deeds, steps),
+        Act::Owner(me, deeds, _) => work_outside(world, sys, list, *me, deeds, steps),
+        Act::Step(me, deeds, _) => step(rt, world, sys, list, *me, deeds, steps),
     }
 }
 
-/// Makes the moves of acts in order, and counts tries in a ledger of its own.
+/// Does acts in order, and counts tries in a ledger of its own.
 pub(crate) fn play<L: Ledger, R: Wait>(
     rt: &R,
     world: &mut PlainWorld<'_>,
@@ -198,7 +194,7 @@ pub(crate) fn play<L: Ledger, R: Wait>(
 {
     let mut steps = Steps::<L>::open(blank);
     for act in acts {
-        match make(rt, world, sys, list, &act.does, &mut steps) {
+        match make(rt, world, sys, list, act, &mut steps) {
             End::Whole => {}
             end => return end,
         }
