@@ -1,10 +1,11 @@
 //! The records of a call, read one by one.
 
-use crate::samples::{
-    back, dropped, entry, given, no_pars, plain, posted, raised, referred, system,
+use crate::samples::Line::{
+    Back, Dropped, Flush, Given, Posted, Raised, Referred, Restored, Shown,
 };
-use qp_fits::{Answer, Call, CallState, Kept, Told};
-use qp_model::Body;
+use crate::samples::{Line, POOLED_7, entry, no_pars, system, told};
+use qp_fits::{Answer, Call, CallState, Kept};
+use qp_model::Entry;
 use std::alloc::{AllocError, Global};
 use std::test::Fail;
 
@@ -13,12 +14,12 @@ fn behind(
     alloc: Global,
     kept: Kept,
     call: Call,
-    told: &[Told],
+    lines: &[Line],
 ) -> Result<Option<CallState>, AllocError> {
     let sys = system(alloc)?;
     let mut rest = CallState::begin(1, kept, call);
-    for t in told {
-        match rest.next(&sys, 1, None, t)? {
+    for line in lines {
+        match rest.next(&sys, 1, None, &told(line))? {
             Some(next) => rest = next,
             None => return Ok(None),
         }
@@ -26,8 +27,8 @@ fn behind(
     Ok(Some(rest))
 }
 
-fn answer(alloc: Global, call: Call, told: &[Told]) -> Result<Option<Answer>, AllocError> {
-    Ok(match behind(alloc, Kept::none(alloc), call, told)? {
+fn answer(alloc: Global, call: Call, lines: &[Line]) -> Result<Option<Answer>, AllocError> {
+    Ok(match behind(alloc, Kept::none(alloc), call, lines)? {
         Some(rest) => rest.answer(),
         None => None,
     })
@@ -43,44 +44,62 @@ fn post() -> Call {
     }
 }
 
+fn publish() -> Call {
+    Call::Publish {
+        sig: 5,
+        pars: no_pars(),
+        reserve: None,
+    }
+}
+
+const OTHER: Entry = Entry {
+    pool: 1,
+    block: 0,
+    name: 8,
+};
+
+const POSTED_4: Entry = Entry {
+    pool: 1,
+    block: 0,
+    name: 4,
+};
+
 /// A post draws a block, refers to it and posts that reference.
+const POSTS: [(&[Line], bool); 3] = [
+    (&[Given, Referred(7), Posted(1, POOLED_7)], true),
+    (&[Given, Referred(7), Posted(1, OTHER)], false),
+    (&[Given, Referred(7)], false),
+];
+
 #[test]
 fn posts(rt: HostRuntime) -> Result<(), Fail> {
-    let alloc = rt.alloc();
-    let told = vec![in alloc; given(), referred(7), posted(1, 0, entry(1, 0, 7))]?;
-    assert_eq!(rt; answer(alloc, post(), &told)?, Some(Answer::Granted));
-    let of_another = vec![in alloc; given(), referred(7), posted(1, 0, entry(1, 0, 8))]?;
-    assert_eq!(rt; answer(alloc, post(), &of_another)?, None);
-    let cut = vec![in alloc; given(), referred(7)]?;
-    assert_eq!(rt; answer(alloc, post(), &cut)?, None);
+    for (i, (lines, is_granted)) in POSTS.iter().enumerate() {
+        let want = if *is_granted {
+            Some(Answer::Granted)
+        } else {
+            None
+        };
+        assert!(rt; answer(rt.alloc(), post(), lines)? == want, "case {i}");
+    }
     Ok(())
 }
 
 /// A publication to the lamp: its own reference, the set, the ceiling, the post with a reference, and all back.
+const PUBLICATION: [Line; 8] = [
+    Given,
+    Referred(3),
+    Shown(5, 1),
+    Raised(1),
+    Referred(4),
+    Posted(1, POSTED_4),
+    Restored,
+    Dropped(3, 1),
+];
+
 #[test]
 fn publications(rt: HostRuntime) -> Result<(), Fail> {
-    let alloc = rt.alloc();
-    let call = Call::Publish {
-        sig: 5,
-        pars: no_pars(),
-        reserve: None,
-    };
-    let shown = plain(Body::Pub {
-        sig: 5,
-        n: 0,
-        set: 1,
-    });
-    let told = vec![in alloc;
-        given(),
-        referred(3),
-        shown,
-        raised(1),
-        referred(4),
-        posted(1, 0, entry(1, 0, 4)),
-        plain(Body::Unlock { ceiling: 0 }),
-        dropped(3, 1),
-    ]?;
-    assert_eq!(rt; answer(alloc, call, &told)?, Some(Answer::Granted));
+    let answer = answer(rt.alloc(), publish(), &PUBLICATION)?;
+    assert!(rt; answer == Some(Answer::Granted));
     Ok(())
 }
 
@@ -90,17 +109,11 @@ fn flushes(rt: HostRuntime) -> Result<(), Fail> {
     let alloc = rt.alloc();
     let mut kept = Kept::none(alloc);
     kept.items.push_back(entry(1, 0, 7))?;
-    let flush = plain(Body::Flush {
-        entry: entry(1, 0, 7),
-    });
-    let told = vec![in alloc; flush, dropped(7, 0), back(2)]?;
-    let rest = behind(alloc, kept, Call::Flush, &told)?;
-    match rest {
-        Some(rest) => {
-            assert_eq!(rt; rest.answer(), Some(Answer::Flushed { n: 1 }));
-            assert_eq!(rt; rest.into_kept().len(), 0);
-        }
-        None => assert!(rt; false),
-    }
+    let lines = [Flush(POOLED_7), Dropped(7, 0), Back(2)];
+    let Some(rest) = behind(alloc, kept, Call::Flush, &lines)? else {
+        return Err(Fail::from("the records fit"));
+    };
+    assert!(rt; rest.answer() == Some(Answer::Flushed { n: 1 }));
+    assert!(rt; rest.into_kept().len() == 0);
     Ok(())
 }

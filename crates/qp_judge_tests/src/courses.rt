@@ -8,13 +8,14 @@ ghost use Rattle.qp_model.specs.declared.systems.ObjectDef.{ObjectDef};
 ghost use Rattle.qp_model.specs.Able.{state_able, chart_able};
 ghost use Rattle.qp_course.specs.Followable.{IsFollowable};
 
-use crate::samples::{entry, lamp, name, no_pars, plain};
+use crate::samples::Line::{Begin, Done, Enter, Init, Run, Taken, TakenUnknown, Unhandled};
+use crate::samples::{Line, all_told, lamp, name, plain};
 use qp_chart::{
     Chart, ChartFault, Env, Name, Names, ObjNames, RawChart, RawRows, RawState, RawStates,
     RawTimers, SigNames, State, Texts, Vars,
 };
 use qp_course::{Task, follows, follows_with_points, start_plan, step_plan};
-use qp_fits::{Cut, Known, Piece, Told};
+use qp_fits::{Cut, Piece};
 use qp_model::{Body, Charts, ObjectDefs, PoolDefs, SignalDefs, System, TimerDefs};
 use std::alloc::{AllocError, Global};
 use std::test::Fail;
@@ -84,16 +85,19 @@ fn chart(alloc: Global) -> Result<Chart, ChartFault> {
 fn a_start_enters_down_to_the_leaf(rt: HostRuntime) -> Result<(), Fail> {
     let chart = chart(rt.alloc())?;
     let plan = start_plan(rt.alloc(), &chart)?;
-    assert_eq!(rt; plan.leaf, 2);
-    assert_eq!(rt; plan.tasks.len(), 5);
-    let [first, outer, init, inner, last] = plan.tasks.as_slice() else {
-        return Ok(());
-    };
-    assert!(rt; matches!(first, Task::Begin));
-    assert!(rt; matches!(outer, Task::Enter { state: 1 }));
-    assert!(rt; matches!(init, Task::Init { state: 1 }));
-    assert!(rt; matches!(inner, Task::Enter { state: 2 }));
-    assert!(rt; matches!(last, Task::Done));
+    assert!(rt; plan.leaf == 2);
+    assert!(rt;
+        matches!(
+            plan.tasks.as_slice(),
+            [
+                Task::Begin,
+                Task::Enter { state: 1 },
+                Task::Init { state: 1 },
+                Task::Enter { state: 2 },
+                Task::Done,
+            ]
+        )
+    );
     Ok(())
 }
 
@@ -107,13 +111,8 @@ fn an_event_without_a_row_is_unhandled(rt: HostRuntime) -> Result<(), Fail> {
         me: 1,
     };
     let plan = step_plan(rt.alloc(), &chart, 2, &env, 4)?;
-    assert_eq!(rt; plan.leaf, 2);
-    assert_eq!(rt; plan.tasks.len(), 2);
-    let [first, last] = plan.tasks.as_slice() else {
-        return Ok(());
-    };
-    assert!(rt; matches!(first, Task::Unhandled));
-    assert!(rt; matches!(last, Task::Done));
+    assert!(rt; plan.leaf == 2);
+    assert!(rt; matches!(plan.tasks.as_slice(), [Task::Unhandled, Task::Done]));
     Ok(())
 }
 
@@ -168,85 +167,76 @@ fn system(alloc: Global, chart: Chart) -> Result<System, AllocError>
     })
 }
 
-/// An entry of static event 4 is taken.
-fn taken(known: Known) -> Told {
-    Told {
-        body: Body::Took {
-            f: 1,
-            l: 0,
-            m: 0,
-            entry: entry(0, 0, 4),
-        },
-        known,
-    }
-}
-
-fn event() -> Known {
-    Known::OfEvent {
-        sig: 4,
-        pars: no_pars(),
-    }
-}
-
 /// A start, and a step over an event that has no row.
-fn start_and_step() -> [Told; 8] {
-    [
-        plain(Body::Begin),
-        plain(Body::Enter { state: 1 }),
-        plain(Body::Init { state: 1 }),
-        plain(Body::Enter { state: 2 }),
-        plain(Body::Done),
-        taken(event()),
-        plain(Body::Unhandled),
-        plain(Body::Done),
-    ]
+const START_AND_STEP: [Line; 8] = [
+    Begin,
+    Enter(1),
+    Init(1),
+    Enter(2),
+    Done,
+    Taken(0),
+    Unhandled,
+    Done,
+];
+
+/// Whether the first so many of these records follow the chart.
+fn do_follow(alloc: Global, sys: &System, cut: Cut, lines: &[Line]) -> Result<bool, AllocError>
+    requires { (d : ObjectDef) → d.chart ≡ 1 → IsFollowable sys.now d }
+{
+    let told = all_told(alloc, lines)?;
+    follows(alloc, sys, &lamp(alloc), cut, told.as_slice())
 }
+
+const FRONTS: [(Cut, usize, bool); 9] = [
+    (Cut::Whole, 0, false),
+    (Cut::Stopped, 0, true),
+    (Cut::Whole, 4, false),
+    (Cut::Stopped, 4, false),
+    (Cut::Anywhere, 4, true),
+    (Cut::Whole, 5, true),
+    (Cut::Whole, 7, false),
+    (Cut::Anywhere, 7, true),
+    (Cut::Whole, 8, true),
+];
 
 #[test]
 fn a_start_and_a_step_follow_their_chart(rt: HostRuntime) -> Result<(), Fail> {
     let chart = chart(rt.alloc())?;
     assert!(rt; is_idle(&chart));
     let sys = system(rt.alloc(), chart)?;
-    let d = lamp(rt.alloc());
-    let told = start_and_step();
-    for (cut, n, want) in [
-        (Cut::Whole, 0, false),
-        (Cut::Stopped, 0, true),
-        (Cut::Whole, 4, false),
-        (Cut::Stopped, 4, false),
-        (Cut::Anywhere, 4, true),
-        (Cut::Whole, 5, true),
-        (Cut::Whole, 7, false),
-        (Cut::Anywhere, 7, true),
-        (Cut::Whole, 8, true),
-    ] {
-        let front = &told[..told.len().min(n)];
-        let follows = follows(rt.alloc(), &sys, &d, cut, front)?;
-        assert_eq!(rt; follows, want, "the first {n}");
+    for (cut, n, want) in &FRONTS {
+        let front = &START_AND_STEP[..(*n).min(8)];
+        assert!(rt;
+            do_follow(rt.alloc(), &sys, *cut, front)? == *want,
+            "the first {n}"
+        );
     }
     Ok(())
 }
+
+/// Records that don't follow those before them.
+const DEFECTS: [(usize, Line); 6] = [
+    (1, Enter(2)),
+    (4, Enter(2)),
+    (5, Begin),
+    (5, TakenUnknown(0)),
+    (6, Run(2, 1)),
+    (7, Unhandled),
+];
 
 #[test]
 fn records_that_do_not_follow(rt: HostRuntime) -> Result<(), Fail> {
     let chart = chart(rt.alloc())?;
     assert!(rt; is_idle(&chart));
     let sys = system(rt.alloc(), chart)?;
-    let d = lamp(rt.alloc());
-    let defects = [
-        (1, plain(Body::Enter { state: 2 })),
-        (4, plain(Body::Enter { state: 2 })),
-        (5, plain(Body::Begin)),
-        (5, taken(Known::Nothing)),
-        (6, plain(Body::Run { state: 2, row: 1 })),
-        (7, plain(Body::Unhandled)),
-    ];
-    for (n, defect) in defects {
-        let mut told = start_and_step();
-        let last = n.min(7);
-        told[last] = defect;
-        let follows = follows(rt.alloc(), &sys, &d, Cut::Anywhere, &told[..=last])?;
-        assert!(rt; !follows, "record {n}");
+    for (n, defect) in &DEFECTS {
+        let last = (*n).min(7);
+        let mut lines = START_AND_STEP;
+        lines[last] = *defect;
+        assert!(rt;
+            !do_follow(rt.alloc(), &sys, Cut::Anywhere, &lines[..=last])?,
+            "record {n}"
+        );
     }
     Ok(())
 }

@@ -53,9 +53,7 @@ fn cuts(rt: HostRuntime) -> Result<(), Fail> {
     let lane = vec![in alloc; Rec::stim(1, 0), Rec::fire(1, 0, 0)]?;
     let told = told(alloc, &lane)?;
     let stops = may_stop(alloc, &sys, 1, &stimuli, &told)?;
-    assert!(rt; stops.in_stimulus);
-    assert!(rt; !stops.all_done);
-    assert!(rt; !stops.before_stimulus);
+    assert!(rt; stops.in_stimulus && !stops.all_done && !stops.before_stimulus);
     assert!(rt; spill_stands(alloc, &sys, 1, true, &stimuli, &told)?);
     assert!(rt; !spill_stands(alloc, &sys, 1, false, &stimuli, &told)?);
     Ok(())

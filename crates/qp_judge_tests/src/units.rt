@@ -1,114 +1,72 @@
 //! One action, or a call that ends in its assertion, at the front of a list.
 
-use crate::samples::{back, dropped, entry, given, plain, posted, referred, system};
-use qp_fits::Told;
-use qp_model::Body;
+use crate::samples::Line::{
+    Back, Done, Dropped, Flush, Full, Given, Lifo, NoDefer, NoEntry, Posted, Recall, Referred,
+};
+use crate::samples::{Line, POOLED, STATIC, all_told, system};
+use qp_model::Entry;
 use qp_shapes::{Scene, behind_assertion, behind_unit};
 use std::alloc::{AllocError, Global};
 use std::test::Fail;
 
-fn full() -> Told {
-    plain(Body::Full {
-        a: 1,
-        f: 2,
-        l: 0,
-        m: 0,
-        margin: 0,
-    })
-}
-
-fn no_entry() -> Told {
-    plain(Body::NoEntry {
-        a: 1,
-        f: 2,
-        l: 0,
-        m: 0,
-    })
-}
-
-/// How many records stand behind the first action, or 9.
-fn behind(alloc: Global, told: &[Told]) -> Result<usize, AllocError> {
+/// How many records stand behind the first action, or behind a call that ends in its assertion; 9 where there is none.
+fn behind(alloc: Global, is_cut: bool, lines: &[Line]) -> Result<usize, AllocError> {
     let sys = system(alloc)?;
+    let told = all_told(alloc, lines)?;
     let scene = Scene::of(&sys, 1);
-    Ok(match behind_unit(&scene, None, told) {
+    let rest = if is_cut {
+        behind_assertion(&scene, None, told.as_slice())
+    } else {
+        behind_unit(&scene, None, told.as_slice())
+    };
+    Ok(match rest {
         Some(rest) => rest.len(),
         None => 9,
     })
 }
 
-/// The same of a call that ends in its assertion.
-fn behind_cut(alloc: Global, told: &[Told]) -> Result<usize, AllocError> {
-    let sys = system(alloc)?;
-    let scene = Scene::of(&sys, 1);
-    Ok(match behind_assertion(&scene, None, told) {
-        Some(rest) => rest.len(),
-        None => 9,
-    })
-}
+/// An entry of signal 5 without a block, which none has.
+const UNPOOLED: Entry = Entry {
+    pool: 0,
+    block: 5,
+    name: 0,
+};
 
-/// Signal 4 is static and signal 5 is not, so it has no entry without a block.
-#[test]
-fn static_posts(rt: HostRuntime) -> Result<(), Fail> {
-    let alloc = rt.alloc();
-    let post = vec![in alloc; posted(1, 0, entry(0, 4, 0)), plain(Body::Done)]?;
-    assert_eq!(rt; behind(alloc, &post)?, 1);
-    let pooled = vec![in alloc; posted(1, 0, entry(0, 5, 0))]?;
-    assert_eq!(rt; behind(alloc, &pooled)?, 9);
-    let refused = vec![in alloc; full(), plain(Body::NoDefer)]?;
-    assert_eq!(rt; behind(alloc, &refused)?, 1);
-    let none = vec![in alloc; no_entry()]?;
-    assert_eq!(rt; behind(alloc, &none)?, 9);
-    assert_eq!(rt; behind_cut(alloc, &none)?, 0);
-    Ok(())
-}
+/// Another reference of the block.
+const OTHER: Entry = Entry {
+    pool: 1,
+    block: 0,
+    name: 1,
+};
 
-/// A pooled post draws a block, refers to it and posts that reference; a refusal drops it, and the block comes back.
-#[test]
-fn pooled_posts(rt: HostRuntime) -> Result<(), Fail> {
-    let alloc = rt.alloc();
-    let post = vec![in alloc; given(), referred(0), posted(1, 0, entry(1, 0, 0))]?;
-    assert_eq!(rt; behind(alloc, &post)?, 0);
-    let of_another = vec![in alloc; given(), referred(0), posted(1, 0, entry(1, 0, 1))]?;
-    assert_eq!(rt; behind(alloc, &of_another)?, 9);
-    let refused = vec![in alloc; given(), referred(0), full(), dropped(0, 0), back(2)]?;
-    assert_eq!(rt; behind(alloc, &refused)?, 0);
-    let kept = vec![in alloc; given(), referred(0), full(), dropped(0, 0)]?;
-    assert_eq!(rt; behind(alloc, &kept)?, 9);
-    let cut = vec![in alloc; given(), referred(0), no_entry()]?;
-    assert_eq!(rt; behind_cut(alloc, &cut)?, 0);
-    Ok(())
-}
+/// Whether the call is to end in its assertion, its records, and how many stand behind it.
+const UNITS: [(bool, &[Line], usize); 13] = [
+    // Signal 4 is static and signal 5 is not, so it has no entry without a block.
+    (false, &[Posted(1, STATIC), Done], 1),
+    (false, &[Posted(1, UNPOOLED)], 9),
+    (false, &[Full, NoDefer], 1),
+    (false, &[NoEntry(1, 2)], 9),
+    (true, &[NoEntry(1, 2)], 0),
+    // A pooled post draws a block, refers to it and posts that reference; a refusal drops it, and the block comes back.
+    (false, &[Given, Referred(0), Posted(1, POOLED)], 0),
+    (false, &[Given, Referred(0), Posted(1, OTHER)], 9),
+    (
+        false,
+        &[Given, Referred(0), Full, Dropped(0, 0), Back(2)],
+        0,
+    ),
+    (false, &[Given, Referred(0), Full, Dropped(0, 0)], 9),
+    (true, &[Given, Referred(0), NoEntry(1, 2)], 0),
+    // One flushed entry at a time, and a recalled entry with its last-in post.
+    (false, &[Flush(STATIC), Flush(STATIC)], 1),
+    (false, &[Recall(STATIC), Lifo(STATIC)], 0),
+    (false, &[Recall(STATIC)], 9),
+];
 
-/// One flushed entry at a time, and a recalled entry with its last-in post.
 #[test]
-fn deferred_entries(rt: HostRuntime) -> Result<(), Fail> {
-    let alloc = rt.alloc();
-    let flush = vec![in alloc;
-        plain(Body::Flush {
-            entry: entry(0, 4, 0)
-        }),
-        plain(Body::Flush {
-            entry: entry(0, 4, 0)
-        }),
-    ]?;
-    assert_eq!(rt; behind(alloc, &flush)?, 1);
-    let recall = vec![in alloc;
-        plain(Body::Recall {
-            entry: entry(0, 4, 0)
-        }),
-        plain(Body::Lifo {
-            f: 0,
-            l: 1,
-            m: 0,
-            entry: entry(0, 4, 0)
-        }),
-    ]?;
-    assert_eq!(rt; behind(alloc, &recall)?, 0);
-    let alone = vec![in alloc;
-        plain(Body::Recall {
-            entry: entry(0, 4, 0)
-        }),
-    ]?;
-    assert_eq!(rt; behind(alloc, &alone)?, 9);
+fn one_action_at_the_front(rt: HostRuntime) -> Result<(), Fail> {
+    for (i, (is_cut, lines, want)) in UNITS.iter().enumerate() {
+        assert!(rt; behind(rt.alloc(), *is_cut, lines)? == *want, "case {i}");
+    }
     Ok(())
 }
