@@ -10,6 +10,8 @@ mod charts;
 #[cfg(test)]
 mod frames;
 #[cfg(test)]
+mod puts;
+#[cfg(test)]
 mod samples;
 #[cfg(test)]
 mod stimuli;

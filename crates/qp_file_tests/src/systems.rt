@@ -51,21 +51,22 @@ fn expect(
     }
 }
 
+const FILES: [(&str, &str, &str); 5] = [
+    (LAMP, "", "0 1 1\nlamp 1 1 1 1 0 []"),
+    (PAIR, "", "0 1 2\na 1 1 1 1 0 []\nb 2 2 2 1 0 []"),
+    (SUM, "", "1 1 1\nsum 1 1 1 31 0 [0]"),
+    (GEN, "", "1 1 2\nsum 1 1 1 15 0 [0]\nrelay 2 2 2 15 0 []"),
+    (
+        SIGNALS,
+        THREE,
+        "1 5 2\no1 1 1 1 1 0 []\no2 1 2 2 1 0 []\no3 2 3 3 1 0 [0]",
+    ),
+];
+
 /// Each file with a name.
 #[test]
 fn named_files(rt: HostRuntime) -> Result<(), Fail> {
-    let cases = [
-        (LAMP, "", "0 1 1\nlamp 1 1 1 1 0 []"),
-        (PAIR, "", "0 1 2\na 1 1 1 1 0 []\nb 2 2 2 1 0 []"),
-        (SUM, "", "1 1 1\nsum 1 1 1 31 0 [0]"),
-        (GEN, "", "1 1 2\nsum 1 1 1 15 0 [0]\nrelay 2 2 2 15 0 []"),
-        (
-            SIGNALS,
-            THREE,
-            "1 5 2\no1 1 1 1 1 0 []\no2 1 2 2 1 0 []\no3 2 3 3 1 0 [0]",
-        ),
-    ];
-    for (front, rest, want) in cases {
+    for (front, rest, want) in &FILES {
         expect(&rt, rt.alloc(), front, rest, want)?;
     }
     Ok(())
@@ -108,92 +109,94 @@ fn one(alloc: Global, queue: u8, defer: u8, blocks: u8, chart: &str) -> Result<S
     )
 }
 
+const ONES: [(u8, u8, u8, &str, &str); 8] = [
+    (
+        1,
+        0,
+        2,
+        "init = 's'\nstate = [{ name = 's' }]",
+        "1 5 1\nlamp 1 1 1 1 0 []",
+    ),
+    (
+        0,
+        0,
+        2,
+        "init = 's'\nstate = [{ name = 's', row = [{ on = 'GO', do = ['post me X', 'post me X'] }] }]",
+        "1 5 1\nlamp 1 1 1 0 0 []",
+    ),
+    (
+        1,
+        0,
+        2,
+        "init = 's'\nstate = [{ name = 's', row = [{ on = 'GO', do = ['post me N(5) margin 1', 'post me N(6) margin 1', 'say ok'] }] }]",
+        "1 5 1\nlamp 1 1 1 1 0 []",
+    ),
+    (
+        3,
+        0,
+        1,
+        "init = 's'\nstate = [{ name = 's', row = [{ on = 'GO', do = ['post me N(1)', 'post me N(2) reserve 0', 'say ok'] }] }]",
+        "1 5 1\nlamp 1 1 1 3 0 []",
+    ),
+    (
+        3,
+        2,
+        2,
+        "init = 's'\nvars = { n = 0 }\nstate = [{ name = 's', row = [{ on = 'N', when = 'n < 2', do = ['defer', 'n = n + 1'] }, { on = 'GO', do = ['recall', 'flush', 'say ok'] }] }]",
+        "1 5 1\nlamp 1 1 1 3 2 [0]",
+    ),
+    (
+        1,
+        0,
+        2,
+        "init = 's'\nstate = [{ name = 's', row = [{ on = 'GO', do = ['lifo N(3)'] }, { on = 'N', do = ['say p1'] }] }]",
+        "1 5 1\nlamp 1 1 1 1 0 []",
+    ),
+    (
+        1,
+        0,
+        2,
+        "init = 's'\ninit_do = ['subscribe N']\nstate = [{ name = 's', row = [{ on = 'GO', do = ['publish N(4)'] }, { on = 'N', do = ['say p1'] }] }]",
+        "1 5 1\nlamp 1 1 1 1 0 []",
+    ),
+    (
+        1,
+        0,
+        2,
+        "init = 's'\nstate = [{ name = 's', row = [{ on = 'GO', do = ['say -4'] }] }]",
+        "1 5 1\nlamp 1 1 1 1 0 []",
+    ),
+];
+
 /// The systems of one object, by their queue, deferred events, blocks and chart.
 #[test]
 fn one_object(rt: HostRuntime) -> Result<(), Fail> {
-    let cases = [
-        (
-            1,
-            0,
-            2,
-            "init = 's'\nstate = [{ name = 's' }]",
-            "1 5 1\nlamp 1 1 1 1 0 []",
-        ),
-        (
-            0,
-            0,
-            2,
-            "init = 's'\nstate = [{ name = 's', row = [{ on = 'GO', do = ['post me X', 'post me X'] }] }]",
-            "1 5 1\nlamp 1 1 1 0 0 []",
-        ),
-        (
-            1,
-            0,
-            2,
-            "init = 's'\nstate = [{ name = 's', row = [{ on = 'GO', do = ['post me N(5) margin 1', 'post me N(6) margin 1', 'say ok'] }] }]",
-            "1 5 1\nlamp 1 1 1 1 0 []",
-        ),
-        (
-            3,
-            0,
-            1,
-            "init = 's'\nstate = [{ name = 's', row = [{ on = 'GO', do = ['post me N(1)', 'post me N(2) reserve 0', 'say ok'] }] }]",
-            "1 5 1\nlamp 1 1 1 3 0 []",
-        ),
-        (
-            3,
-            2,
-            2,
-            "init = 's'\nvars = { n = 0 }\nstate = [{ name = 's', row = [{ on = 'N', when = 'n < 2', do = ['defer', 'n = n + 1'] }, { on = 'GO', do = ['recall', 'flush', 'say ok'] }] }]",
-            "1 5 1\nlamp 1 1 1 3 2 [0]",
-        ),
-        (
-            1,
-            0,
-            2,
-            "init = 's'\nstate = [{ name = 's', row = [{ on = 'GO', do = ['lifo N(3)'] }, { on = 'N', do = ['say p1'] }] }]",
-            "1 5 1\nlamp 1 1 1 1 0 []",
-        ),
-        (
-            1,
-            0,
-            2,
-            "init = 's'\ninit_do = ['subscribe N']\nstate = [{ name = 's', row = [{ on = 'GO', do = ['publish N(4)'] }, { on = 'N', do = ['say p1'] }] }]",
-            "1 5 1\nlamp 1 1 1 1 0 []",
-        ),
-        (
-            1,
-            0,
-            2,
-            "init = 's'\nstate = [{ name = 's', row = [{ on = 'GO', do = ['say -4'] }] }]",
-            "1 5 1\nlamp 1 1 1 1 0 []",
-        ),
-    ];
-    for (queue, defer, blocks, chart, want) in cases {
-        let text = one(rt.alloc(), queue, defer, blocks, chart)?;
+    for (queue, defer, blocks, chart, want) in &ONES {
+        let text = one(rt.alloc(), *queue, *defer, *blocks, chart)?;
         expect(&rt, rt.alloc(), &text, "", want)?;
     }
     Ok(())
 }
 
+const MORE: [(&str, &str); 3] = [
+    (
+        "init = 'c'\nstate = [{ name = 'a', row = [{ on = 'GO', do = ['say 7'] }] }, { name = 'b', parent = 'a' }, { name = 'c', parent = 'b', row = [{ on = 'GO', when = '0', do = ['say 1'] }] }]",
+        "1 5 1\nlamp 1 1 1 3 0 []",
+    ),
+    (
+        "init = 'f'\nstate = [{ name = 'a' }, { name = 'b', parent = 'a', init = 'e' }, { name = 'c', parent = 'b' }, { name = 'd', parent = 'c' }, { name = 'e', parent = 'd' }, { name = 'f', parent = 'e' }, { name = 'g', parent = 'a' }, { name = 'h', parent = 'g' }, { name = 'k' }]",
+        "1 5 1\nlamp 1 1 1 3 0 []",
+    ),
+    (
+        "init = 's'\ninit_do = ['arm A(2, 0)', 'arm B(2, 2)']\ntimer = [{ name = 'A', signal = 'TA', rate = 0 }, { name = 'B', signal = 'TB', rate = 0 }]\nstate = [{ name = 's', row = [{ on = 'GO', do = ['disarm A', 'say ok', 'arm B(1, 0)'] }] }]",
+        "1 5 1\nlamp 1 1 1 3 0 []\n1 7 0\n1 8 0",
+    ),
+];
+
 /// Nested states, and time events.
 #[test]
 fn one_object_more(rt: HostRuntime) -> Result<(), Fail> {
-    let cases = [
-        (
-            "init = 'c'\nstate = [{ name = 'a', row = [{ on = 'GO', do = ['say 7'] }] }, { name = 'b', parent = 'a' }, { name = 'c', parent = 'b', row = [{ on = 'GO', when = '0', do = ['say 1'] }] }]",
-            "1 5 1\nlamp 1 1 1 3 0 []",
-        ),
-        (
-            "init = 'f'\nstate = [{ name = 'a' }, { name = 'b', parent = 'a', init = 'e' }, { name = 'c', parent = 'b' }, { name = 'd', parent = 'c' }, { name = 'e', parent = 'd' }, { name = 'f', parent = 'e' }, { name = 'g', parent = 'a' }, { name = 'h', parent = 'g' }, { name = 'k' }]",
-            "1 5 1\nlamp 1 1 1 3 0 []",
-        ),
-        (
-            "init = 's'\ninit_do = ['arm A(2, 0)', 'arm B(2, 2)']\ntimer = [{ name = 'A', signal = 'TA', rate = 0 }, { name = 'B', signal = 'TB', rate = 0 }]\nstate = [{ name = 's', row = [{ on = 'GO', do = ['disarm A', 'say ok', 'arm B(1, 0)'] }] }]",
-            "1 5 1\nlamp 1 1 1 3 0 []\n1 7 0\n1 8 0",
-        ),
-    ];
-    for (chart, want) in cases {
+    for (chart, want) in &MORE {
         let text = one(rt.alloc(), 3, 0, 2, chart)?;
         expect(&rt, rt.alloc(), &text, "", want)?;
     }

@@ -2,6 +2,7 @@
 
 use qp_base::MemSink;
 use qp_text::{TextFault, read_journal, write_journal};
+use std::alloc::{AllocError, Global};
 use std::test::Fail;
 
 /// A run of one object and one source, in form 1.
@@ -15,23 +16,34 @@ const SIGNED: &[u8] =
 /// The same value in form 1.
 const UNSIGNED: &[u8] = b"qp 1 0 1000000\nlane 0\nsay 1 18446744073709551612\nend 3\n";
 
+const TEXTS: [&[u8]; 3] = [LAMP, SIGNED, UNSIGNED];
+
+/// Whether a text is read, and written as it is.
+fn is_written_alike(alloc: Global, text: &[u8]) -> Result<bool, AllocError> {
+    let Ok(found) = read_journal(alloc, text) else {
+        return Ok(false);
+    };
+    let Ok(mut sink) = MemSink::new(alloc, text.len() as u64, Vec::new(alloc)) else {
+        return Err(AllocError);
+    };
+    let is_whole = write_journal(&found.journal, found.form, &mut sink).is_ok();
+    Ok(is_whole && sink.bytes() == text)
+}
+
 #[test]
 fn a_text_is_read_and_written_alike(rt: HostRuntime) -> Result<(), Fail> {
-    for text in [LAMP, SIGNED, UNSIGNED] {
-        match read_journal(rt.alloc(), text) {
-            Ok(found) => {
-                let room = text.len() as u64;
-                let Ok(mut sink) = MemSink::new(rt.alloc(), room, Vec::new(rt.alloc())) else {
-                    return Err(Fail::from(std::alloc::AllocError));
-                };
-                let written = write_journal(&found.journal, found.form, &mut sink);
-                assert!(rt; written.is_ok());
-                assert_eq!(rt; sink.bytes(), text);
-            }
-            Err(_) => assert!(rt; false, "a journal is not read"),
-        }
+    for (i, text) in TEXTS.iter().enumerate() {
+        assert!(rt; is_written_alike(rt.alloc(), text)?, "text {i}");
     }
     Ok(())
+}
+
+/// Why a text isn't read.
+fn fault_of(alloc: Global, text: &[u8]) -> Option<TextFault> {
+    match read_journal(alloc, text) {
+        Ok(_) => None,
+        Err(fault) => Some(fault),
+    }
 }
 
 /// A text that ends behind a whole line lacks its `end`, and one that ends within a line lacks a newline there.
@@ -41,12 +53,13 @@ fn a_cut_text_is_told_by_its_last_line(rt: HostRuntime) {
     let mut is_whole = true;
     for (k, byte) in LAMP.iter().enumerate() {
         let code = if is_whole { 5 } else { 1 };
-        match read_journal(rt.alloc(), &LAMP[..k]) {
-            Ok(_) => assert!(rt; false, "a text of {k} bytes is read"),
-            Err(fault) => assert_eq!(rt; fault, TextFault::Line { number, code }),
-        }
+        let fault = TextFault::Line { number, code };
+        assert!(rt;
+            fault_of(rt.alloc(), &LAMP[..k]) == Some(fault),
+            "the first {k} bytes"
+        );
         is_whole = *byte == b'\n';
         number = number.wrapping_add(u64::from(is_whole));
     }
-    assert_eq!(rt; number, 19);
+    assert!(rt; number == 19);
 }

@@ -1,4 +1,4 @@
-//! Tests.
+//! How many puts a journal is written with: one for each line of its text, and one for each of its frames.
 
 ghost use Rattle.std.specs.Prelude.{IfOk, IsTrue};
 ghost use Rattle.qp_model.specs.Output.{has_form, is_in_range};
@@ -25,7 +25,10 @@ const FRAMES_2: &[u8] =
 
 /// A sink whose put of this number fails before it takes a byte.
 fn failing(alloc: Global, put: u64) -> Result<MemSink, AllocError> {
-    MemSink::new(alloc, 1 << 10, vec![in alloc; (put, 0)]?).map_err(|_| AllocError)
+    match MemSink::new(alloc, 1 << 10, Vec::from_slice(alloc, &[(put, 0)])?) {
+        Ok(sink) => Ok(sink),
+        Err(_) => Err(AllocError),
+    }
 }
 
 /// The journal of a text.
@@ -36,24 +39,60 @@ fn journal(alloc: Global, text: &[u8]) -> Result<Found, TextFault>
     read_journal(alloc, text)
 }
 
+/// Whether the text is whole, and is this, where the put of this number fails.
+fn has_put_text(
+    alloc: Global,
+    found: &Found,
+    put: u64,
+    is_whole: bool,
+    front: &[u8],
+) -> Result<bool, AllocError>
+    requires form { IsTrue (has_form found.now.form found.now.journal) }
+    requires range { IsTrue (is_in_range found.now.form found.now.journal) }
+{
+    let mut sink = failing(alloc, put)?;
+    let is_ok = write_journal(&found.journal, found.form, &mut sink).is_ok();
+    Ok(is_ok == is_whole && sink.bytes() == front)
+}
+
+/// The same of frames.
+fn has_put_frames(
+    alloc: Global,
+    found: &Found,
+    put: u64,
+    is_whole: bool,
+    front: &[u8],
+) -> Result<bool, AllocError>
+    requires form { IsTrue (has_form found.now.form found.now.journal) }
+    requires range { IsTrue (is_in_range found.now.form found.now.journal) }
+{
+    let mut sink = failing(alloc, put)?;
+    let is_ok = write_frames(&found.journal, found.form, &mut sink).is_ok();
+    Ok(is_ok == is_whole && sink.bytes() == front)
+}
+
+/// Texts and their frames.
+const JOURNALS: [(&[u8], &[u8]); 2] = [(TEXT_1, FRAMES_1), (TEXT_2, FRAMES_2)];
+
+/// Each put of a line is tried as the one that fails; behind them none comes.
 #[test]
 fn each_line_is_one_put(rt: HostRuntime) -> Result<(), Fail> {
     let alloc = rt.alloc();
-    for text in [TEXT_1, TEXT_2] {
+    for (text, _) in &JOURNALS {
         let Ok(found) = journal(alloc, text) else {
             return Err(Fail::new("the text is a journal's"));
         };
         let (mut puts, mut end) = (0u64, 0usize);
         for line in text.split_inclusive(|byte| *byte == b'\n') {
-            let mut sink = failing(alloc, puts)?;
-            assert!(rt; write_journal(&found.journal, found.form, &mut sink).is_err());
-            assert!(rt; text.get(..end) == Some(sink.bytes()), "before line {puts}");
+            let front = text.get(..end).unwrap_or(&[]);
+            assert!(rt;
+                has_put_text(alloc, &found, puts, false, front)?,
+                "before line {puts}"
+            );
             end = end.saturating_add(line.len());
             puts = puts.saturating_add(1);
         }
-        let mut sink = failing(alloc, puts)?;
-        assert!(rt; write_journal(&found.journal, found.form, &mut sink).is_ok());
-        assert_eq!(rt; sink.bytes(), text);
+        assert!(rt; has_put_text(alloc, &found, puts, true, text)?);
     }
     Ok(())
 }
@@ -61,24 +100,21 @@ fn each_line_is_one_put(rt: HostRuntime) -> Result<(), Fail> {
 #[test]
 fn each_frame_is_one_put(rt: HostRuntime) -> Result<(), Fail> {
     let alloc = rt.alloc();
-    for (text, frames) in [(TEXT_1, FRAMES_1), (TEXT_2, FRAMES_2)] {
+    for (text, frames) in &JOURNALS {
         let Ok(found) = journal(alloc, text) else {
             return Err(Fail::new("the text is a journal's"));
         };
         let (mut puts, mut end) = (0u64, 0usize);
         for frame in frames.split_inclusive(|byte| *byte == 0x7E) {
-            let mut sink = failing(alloc, puts)?;
-            assert!(rt; write_frames(&found.journal, found.form, &mut sink).is_err());
+            let front = frames.get(..end).unwrap_or(&[]);
             assert!(rt;
-                frames.get(..end) == Some(sink.bytes()),
+                has_put_frames(alloc, &found, puts, false, front)?,
                 "before frame {puts}"
             );
             end = end.saturating_add(frame.len());
             puts = puts.saturating_add(1);
         }
-        let mut sink = failing(alloc, puts)?;
-        assert!(rt; write_frames(&found.journal, found.form, &mut sink).is_ok());
-        assert_eq!(rt; sink.bytes(), frames);
+        assert!(rt; has_put_frames(alloc, &found, puts, true, frames)?);
     }
     Ok(())
 }
