@@ -43,6 +43,21 @@ impl<'a> Act<'a> {
         }
     }
 
+    /// Who does it: an object, or 0 for a source.
+    pub(crate) fn me(&self) -> u8 {
+        match self {
+            Act::Source(..) => 0,
+            Act::Owner(me, ..) | Act::Step(me, ..) => *me,
+        }
+    }
+
+    /// What is done.
+    pub(crate) fn deeds(&self) -> &'a [Deed] {
+        match self {
+            Act::Source(deeds, _) | Act::Owner(_, deeds, _) | Act::Step(_, deeds, _) => deeds,
+        }
+    }
+
     /// The records that it leaves.
     pub(crate) fn leaves(&self) -> &'a str {
         match self {
@@ -171,9 +186,8 @@ fn make<L: Ledger, R: Wait>(
     }
     let _ = world.go(lane);
     match next {
-        Act::Source(deeds, _) => work_outside(world, sys, list, 0, deeds, steps),
-        Act::Owner(me, deeds, _) => work_outside(world, sys, list, *me, deeds, steps),
-        Act::Step(me, deeds, _) => step(rt, world, sys, list, *me, deeds, steps),
+        Act::Step(..) => step(rt, world, sys, list, next.me(), next.deeds(), steps),
+        _ => work_outside(world, sys, list, next.me(), next.deeds(), steps),
     }
 }
 
