@@ -1,0 +1,2 @@
+-- Definitions of objects at rest.
+pub mod Rests

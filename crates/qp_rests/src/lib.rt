@@ -1,0 +1,6 @@
+//! Where objects rest when a run has ended.
+#![tactic(auto)]
+
+mod rest;
+
+pub use rest::{Rest, rest_at};
