@@ -1,0 +1,2 @@
+-- Lemmas of counts.
+pub mod CountLemmas

@@ -1,0 +1,2 @@
+-- Definitions of counts.
+pub mod Counting
