@@ -1,3 +1,4 @@
 -- Lemmas of the summary.
 pub mod SummaryLemmas
 pub mod ComingLemmas
+pub mod KnownLemmas

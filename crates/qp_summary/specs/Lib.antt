@@ -1,3 +1,4 @@
 -- The definitions of the summary's writer.
 pub mod Written
 pub mod Coming
+pub mod Resting

@@ -2,9 +2,10 @@
 #![tactic(auto)]
 
 mod coming;
+mod known;
 mod lines;
 mod objects;
 mod pools;
 mod summary;
 
-pub use summary::{SummaryFault, write_summary};
+pub use summary::{SummaryFault, write_summary, write_summary_at};

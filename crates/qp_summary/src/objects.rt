@@ -44,17 +44,21 @@ fn push_values(text: &mut String, vars: &[(Name, i64)], values: &[i64]) -> Resul
 }
 
 /// The state and the variables of an object.
-fn standing_text(alloc: Global, chart: &Chart, standing: &Standing) -> Result<String, AllocError>
-    ensures { IfOk result (λ text. string_bytes text ≡ name_in chart.now.state standing.now.leaf ++ values_text chart.now.vars
-        standing.now.vars.items) }
+pub(crate) fn standing_text(
+    alloc: Global,
+    chart: &Chart,
+    leaf: u8,
+    values: &[i64],
+) -> Result<String, AllocError>
+    ensures { IfOk result (λ text. string_bytes text ≡ name_in chart.now.state leaf ++ values_text chart.now.vars values.now) }
 {
     let mut text = String::new(alloc);
-    let place = usize::from(standing.leaf).saturating_sub(1);
+    let place = usize::from(leaf).saturating_sub(1);
     match chart.state().get(place) {
         Some(state) => text.push_str(state.name().as_str())?,
         None => {}
     }
-    push_values(&mut text, chart.vars(), &standing.vars)?;
+    push_values(&mut text, chart.vars(), values)?;
     Ok(text)
 }
 
@@ -70,7 +74,7 @@ fn standing_line(
         chart.state standing.now.leaf ++ values_text chart.vars standing.now.vars.items) }
 {
     match chart_at(sys, d.chart) {
-        Some(chart) => standing_text(alloc, chart, standing),
+        Some(chart) => standing_text(alloc, chart, standing.leaf, &standing.vars),
         None => Ok(String::new(alloc)),
     }
 }
@@ -151,7 +155,12 @@ fn read_lane<'a>(
     Ok(Some(came))
 }
 
-fn line_of(alloc: Global, name: &str, taken: usize, text: &str) -> Result<String, AllocError>
+pub(crate) fn line_of(
+    alloc: Global,
+    name: &str,
+    taken: usize,
+    text: &str,
+) -> Result<String, AllocError>
     ensures { IfOk result (λ line. string_bytes line ≡ codes "object " ++ name.now ++ 32 ∷ decimal taken ++ 32 ∷ text.now ++ codes "\n") }
 {
     format!(in alloc; "object {name} {taken} {text}\n")

@@ -4,10 +4,12 @@ ghost use Rattle.std.specs.Prelude.{◌≡◌, ◌++◌, ◌∷◌, [], codes, d
 ghost use Rattle.std.specs.List.{AllByRecursion};
 ghost use Rattle.qp_course.specs.Followable.{IsFollowable};
 ghost use Rattle.qp_model.specs.Lawful.{CourseHolds};
-ghost use Rattle.qp_model.specs.OutputSummary.{IsSummary};
+ghost use Rattle.qp_model.specs.OutputSummary.{AreObjectLines, IsSummary};
+ghost use Rattle.qp_rests.specs.Rests.{AreRestsIn};
 ghost use Rattle.qp_summary.specs.Written.{HasStimuli, Writes, joined};
 ghost use Rattle.qp_text.specs.Puts.{Puts};
 
+use crate::known::known_lines;
 use crate::lines::Lines;
 use crate::objects::object_lines;
 use crate::pools::pool_lines;
@@ -15,6 +17,7 @@ use qp_base::{Sink, SinkFault};
 use qp_histories::records_by_word::RecordsByWord;
 use qp_known::knowledge::Knowledge;
 use qp_model::{Journal, System};
+use qp_rests::Rest;
 use std::alloc::{AllocError, Global};
 use std::marker::Model;
 
@@ -52,18 +55,41 @@ fn end_line(alloc: Global, j: &Journal) -> Result<Lines, AllocError>
     Ok(lines)
 }
 
+/// The lines of objects, each read from its records.
+fn read_lines(alloc: Global, sys: &System, j: &Journal) -> Result<Lines, AllocError>
+    requires followable { AllByRecursion (IsFollowable sys.now) sys.now.objects }
+    requires courses { AllByRecursion (CourseHolds sys.now j.now) sys.now.objects }
+    ensures { IfOk result (λ lines. AreObjectLines sys.now j.now sys.now.objects lines) }
+{
+    let records = RecordsByWord::of(alloc, &j.lanes)?;
+    let knowledge = Knowledge::of(alloc, sys, j, &records)?;
+    object_lines(alloc, &knowledge, sys, j)
+}
+
+/// The lines of objects. They are read only where the run doesn't tell of one that is done where it rests.
+fn all_lines(alloc: Global, sys: &System, j: &Journal, rests: &[Rest]) -> Result<Lines, AllocError>
+    requires followable { AllByRecursion (IsFollowable sys.now) sys.now.objects }
+    requires courses { AllByRecursion (CourseHolds sys.now j.now) sys.now.objects }
+    requires rests { AreRestsIn sys.now j.now rests.now }
+    ensures { IfOk result (λ lines. AreObjectLines sys.now j.now sys.now.objects lines) }
+{
+    match known_lines(alloc, sys, j, rests)? {
+        Some(lines) => Ok(lines),
+        None => read_lines(alloc, sys, j),
+    }
+}
+
 impl Summary {
-    fn of(alloc: Global, sys: &System, j: &Journal) -> Result<Self, AllocError>
+    fn of(alloc: Global, sys: &System, j: &Journal, rests: &[Rest]) -> Result<Self, AllocError>
         requires followable { AllByRecursion (IsFollowable sys.now) sys.now.objects }
         requires courses { AllByRecursion (CourseHolds sys.now j.now) sys.now.objects }
+        requires rests { AreRestsIn sys.now j.now rests.now }
         ensures { IfOk result (λ s. IsSummary sys.now j.now s) }
     {
-        let records = RecordsByWord::of(alloc, &j.lanes)?;
-        let knowledge = Knowledge::of(alloc, sys, j, &records)?;
         Ok(Summary {
             end: end_line(alloc, j)?,
-            objects: object_lines(alloc, &knowledge, sys, j)?,
-            pools: pool_lines(alloc, sys, &records)?,
+            objects: all_lines(alloc, sys, j, rests)?,
+            pools: pool_lines(alloc, sys, j)?,
         })
     }
 
@@ -90,7 +116,24 @@ pub fn write_summary<K: Sink>(
     requires lawful { HasStimuli sys.now j.now }
     ensures { Writes result sys.now j.now (K.written out.old) (K.written out.new) (K.faults out.old) (K.faults out.new) }
 {
-    match Summary::of(alloc, sys, j) {
+    write_summary_at(alloc, sys, j, &[], out)
+}
+
+/// The same, where it is known of some objects where they rest. The records are gone through once more for each kind of line, and
+/// followed only where an object is done that isn't among these.
+pub fn write_summary_at<K: Sink>(
+    alloc: Global,
+    sys: &System,
+    j: &Journal,
+    rests: &[Rest],
+    out: &mut K,
+) -> Result<(), SummaryFault>
+    requires followable { AllByRecursion (IsFollowable sys.now) sys.now.objects }
+    requires lawful { HasStimuli sys.now j.now }
+    requires rests { AreRestsIn sys.now j.now rests.now }
+    ensures { Writes result sys.now j.now (K.written out.old) (K.written out.new) (K.faults out.old) (K.faults out.new) }
+{
+    match Summary::of(alloc, sys, j, rests) {
         Ok(summary) => match summary.put(out) {
             Ok(()) => Ok(()),
             Err(SinkFault::Failed) => Err(SummaryFault::Failed),

@@ -1,4 +1,5 @@
-use Rattle.std.proofs.Common.{◌++◌, ◌∙◌, [], sym, ap}
+use Rattle.std.proofs.Common.{◌++◌, ◌∙◌, List, [], sym, ap}
+use Rattle.std.specs.Prelude.{ℤ}
 use Rattle.std.proofs.lemmas.Result.{IfOk-weaker}
 use Rattle.std.specs.Option.{option_copied}
 use Rattle.qp_chart.specs.declared.checked.Chart.{Chart}
@@ -11,7 +12,8 @@ pub returns-in-Some : goal.returns-in-Some
 returns-in-Some c =
     let found = sym (ap option_copied c.in-Some.is) ∙ c.chart_at.ensures in
     IfOk-weaker c.standing_text.result _ _
-    (λ text told chart is. told ∙ ap (λ (x : Chart). name_in x.state c.args.standing.now.leaf ++ values_text x.vars c.args.standing.now.vars.items) (some-first (found ∙ is)))
+    (λ text told chart is. told ∙ ap (λ (v : List ℤ). name_in c.in-Some.chart.now.state c.args.standing.now.leaf ++ values_text c.in-Some.chart.now.vars v) c.deref.ensures.value
+    ∙ ap (λ (x : Chart). name_in x.state c.args.standing.now.leaf ++ values_text x.vars c.args.standing.now.vars.items) (some-first (found ∙ is)))
     c.standing_text.ensures
 
 pub returns-in-None : goal.returns-in-None

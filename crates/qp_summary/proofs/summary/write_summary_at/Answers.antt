@@ -2,7 +2,7 @@ use Rattle.std.proofs.Common.{subst}
 use Rattle.qp_text.specs.Puts.{Puts}
 use Rattle.qp_summary.specs.Written.{joined}
 use Rattle.qp_summary.proofs.SummaryLemmas.{writes-all, writes-front, writes-none}
-use Rattle.qp_summary.proofs.summary.write_summary.Goals as goal
+use Rattle.qp_summary.proofs.summary.write_summary_at.Goals as goal
 
 pub returns-in-Ok-put : goal.returns-in-Ok-put
 returns-in-Ok-put g c =
