@@ -4,6 +4,7 @@ pub mod Rows
 pub mod Staying
 pub mod Fresh
 pub mod Quiet
+pub mod Resting
 pub mod Halted
 pub mod Looking
 pub mod Visiting

@@ -79,10 +79,17 @@ use Rattle.qp_turns.specs.Objects.{IsAt, MayResumeAt, Puts, ResumesAt}
 use Rattle.qp_turns.specs.Knowing.{Descends, HandsCover, HandsFollow, IsInTurn, IsLane, IsNamed, IsObjectOf, IsRunning, Knows, KnowsAt, KnowsObject, MayLook, StageIs, is_busy, is_paused, last_is}
 use Rattle.qp_turns.proofs.Places.{cover-follows, follow-put, some-same}
 use Rattle.qp_turns.proofs.SoundObjects.{able, numbered, ready}
+use Rattle.qp_turns.proofs.Resting.{PassBy, pass-both, pass-kernel, pass-other}
 use Rattle.qp_turns.proofs.Rows.{above-not}
 use Rattle.qp_turns.proofs.Staying.{all-put, others-wait, paused-waits}
 use Rattle.qp_turns.proofs.Halted.{agreed, last-told, same-lanes}
 use Rattle.qp_turns.proofs.Closing.{closes-left}
+
+-- the lane went on by records of p and of the kernel
+pub record AddsAlone (p : ℕ) (v w : LaneView) : Type 0 where
+  pub records : List ToldItem
+  pub told : w.told ≡ v.told ++ records
+  pub apart : (o : ℕ) → 0 < o → (p == o) ≡ false → PassBy o records
 
 -- What is known of a busy object.
 
@@ -346,6 +353,13 @@ module _ (sys : System) (sound : IsSound sys) (terms : Terms) (looks : ℕ) (fro
         let form = failed-form sys (actor n.object n.chart) (event_in x.stage V) (step_entry x.stage) (left_of home x.lasting x.stage V) (config_of x.lasting) closing p a.g (goes-as (tell a.g) None a.goes) in
         rw asserted-told (code-behind s.told (map (for_object p) a.g) (ends-code (map (for_object p) a.g) form.ends form.asserts))
 
+    pub asserted-alone : AddsAlone p v w
+    asserted-alone = record {
+      records = map (for_object p) a.g;
+      told = asserted-told ∙ ap (λ ts. ts ++ map (for_object p) a.g) k.told;
+      apart = λ o some other. pass-other o p a.g other;
+    }
+
   -- A `spill`.
   module _ (y : Lasting) (z : Position) (mid w : LaneView) (told : w.told ≡ mid.told) (lanes : lanes_of w ≡ lanes_of v) (b : EndsSpilled home x.lasting x.stage y z V mid) where
     many : ℕ
@@ -398,6 +412,13 @@ module _ (sys : System) (sound : IsSound sys) (terms : Terms) (looks : ℕ) (fro
     pub spilled-code : 0 < last_code w.told
     spilled-code =
         rw (spilled-told, sym (append_assoc s.told (map (for_object p) b.g) (spill_told (length b.mid.told) ∷ [])), last-snoc (s.told ++ map (for_object p) b.g) (spill_told (length b.mid.told))) (omega arith)
+
+    pub spilled-alone : AddsAlone p v w
+    spilled-alone = record {
+      records = map (for_object p) b.g ++ spill_told (length b.mid.told) ∷ [];
+      told = spilled-told ∙ ap (λ ts. ts ++ (map (for_object p) b.g ++ spill_told (length b.mid.told) ∷ [])) k.told;
+      apart = λ o some other. pass-both o (map (for_object p) b.g) (spill_told (length b.mid.told) ∷ []) (pass-other o p b.g other) (pass-kernel o (plain (body.Spill (length b.mid.told))) some);
+    }
 
   -- On to a scheduling point, or to the end.
   module _ (level : ℕ) (later : Slot) (mid w : LaneView) (zs : Objects) (w-is : w ≡ works_for v.by mid) (puts : Puts xs zs p later) (at-level : zs.ceiling ≡ level) (threshold : later.threshold ≡ its.slot.threshold)
@@ -676,7 +697,7 @@ module _ (sys : System) (sound : IsSound sys) (terms : Terms) (looks : ℕ) (fro
   abbrev pub AfterStep : ℕ → Objects → LaneView → Step → Type 0
   AfterStep level ys w step.Point = KnowsAt (MayLook sys) sys terms looks (front ++ p ∷ []) (record ys { ceiling = level }) w × GoesOnward xs v (record ys { ceiling = level }) w
   AfterStep level ys w step.Done = KnowsAt (MayLook sys) sys terms looks front (record ys { ceiling = level }) w × GoesOnward xs v (record ys { ceiling = level }) w
-  AfterStep level ys w step.Stopped = TurnStopped sys terms v w
+  AfterStep level ys w step.Stopped = TurnStopped sys terms v w × AddsAlone p v w
   AfterStep level ys w step.Memory = Unit {0}
 
   pub after-step : (level : ℕ) (ys : Objects) (w : LaneView) (answer : Step) → ResumesAt sys xs.ceiling level p xs ys v w answer → AfterStep level ys w answer
@@ -699,18 +720,22 @@ module _ (sys : System) (sound : IsSound sys) (terms : Terms) (looks : ℕ) (fro
           let o : GoesOnward xs v (record ys { ceiling = level }) w = record { hands = follows-end level r.later mid w (record ys { ceiling = level }) is r.put.slots refl threshold h.0 h.1.1 h.1.0; answered = onward-end level r.later mid w (record ys { ceiling = level }) is r.put.slots refl threshold h.0 h.1.1 h.1.0; plan = plan-end level r.later mid w (record ys { ceiling = level }) is r.put.slots refl threshold h.0 h.1.1 h.1.0 } in
           (stepped-end level r.later mid w (record ys { ceiling = level }) is r.put.slots refl threshold h.0 h.1.1 h.1.0, o)
       by step.Stopped mid (same, inl a) is =
-          let lanes : lanes_of w ≡ lanes_of v = same-lanes v w (ap (λ u. u.plan) is ∙ ap (λ u. u.plan) a.stops ∙ a.grows.plan) (ap (λ u. u.happened) is ∙ ap (λ u. u.happened) a.stops ∙ a.grows.happened) in
-          record {
-            zero = asserted-ends r.later.object.lasting r.later.object.stage mid w (ap (λ u. u.told) is) lanes a;
-            why = inl (asserted-code r.later.object.lasting r.later.object.stage mid w (ap (λ u. u.told) is) lanes a);
-          }
+          let lanes : lanes_of w ≡ lanes_of v = same-lanes v w (ap (λ u. u.plan) is ∙ ap (λ u. u.plan) a.stops ∙ a.grows.plan) (ap (λ u. u.happened) is ∙ ap (λ u. u.happened) a.stops ∙ a.grows.happened) in (
+            record {
+              zero = asserted-ends r.later.object.lasting r.later.object.stage mid w (ap (λ u. u.told) is) lanes a;
+              why = inl (asserted-code r.later.object.lasting r.later.object.stage mid w (ap (λ u. u.told) is) lanes a);
+            },
+            asserted-alone r.later.object.lasting r.later.object.stage mid w (ap (λ u. u.told) is) lanes a,
+          )
       by step.Stopped mid (same, inr b) is =
           let lanes : lanes_of w ≡ lanes_of v =
-          same-lanes v w (ap (λ u. u.plan) is ∙ ap (λ u. u.plan) b.stops ∙ b.spills.plan ∙ b.grows.plan) (ap (λ u. u.happened) is ∙ ap (λ u. u.happened) b.stops ∙ b.spills.happened ∙ b.grows.happened) in
-          record {
-            zero = spilled-ends r.later.object.lasting r.later.object.stage mid w (ap (λ u. u.told) is) lanes b;
-            why = inl (spilled-code r.later.object.lasting r.later.object.stage mid w (ap (λ u. u.told) is) lanes b);
-          }
+          same-lanes v w (ap (λ u. u.plan) is ∙ ap (λ u. u.plan) b.stops ∙ b.spills.plan ∙ b.grows.plan) (ap (λ u. u.happened) is ∙ ap (λ u. u.happened) b.stops ∙ b.spills.happened ∙ b.grows.happened) in (
+            record {
+              zero = spilled-ends r.later.object.lasting r.later.object.stage mid w (ap (λ u. u.told) is) lanes b;
+              why = inl (spilled-code r.later.object.lasting r.later.object.stage mid w (ap (λ u. u.told) is) lanes b);
+            },
+            spilled-alone r.later.object.lasting r.later.object.stage mid w (ap (λ u. u.told) is) lanes b,
+          )
       by step.Memory mid h is = tt
 
   -- The order of all records stays, to the end of the step or of the run.

@@ -127,6 +127,13 @@ module _ (sys : System) (sound : IsSound sys) (terms : Terms) (a : Stand) (floor
               few = omega (arith, same, few, most);
             }
 
+        pub spent-told : (r : Rec) (v3 v4 : LaneView) → item_of r ≡ record { of = o.priority; body = body.Spent } → GrowsOf r.of (told_note r v2) v2 v3 → Stops 6 v3 v4
+            → v4.told ≡ a.lane.told ++ seen_told o.priority c.f c.l c.m ∷ for_object o.priority (plain body.Spent) ∷ []
+        spent-told r v3 v4 note grown stops =
+            let spent : GrowsOf o.priority (plain body.Spent ∷ []) v2 v3 = noted o.priority body.Spent r v2 v3 note grown in
+            ap (λ u. u.told) stops ∙ spent.told ∙ ap (λ ts. ts ++ for_object o.priority (plain body.Spent) ∷ []) goes.told
+            ∙ append_assoc a.lane.told (seen_told o.priority c.f c.l c.m ∷ []) (for_object o.priority (plain body.Spent) ∷ [])
+
         -- its budget is reached
         pub spent-stops : (count : ℕ) (r : Rec) (v3 v4 : LaneView) → count ≡ taken_in a.objects.slots.items o.priority → terms.budget ≤ count → item_of r ≡ record { of = o.priority; body = body.Spent }
             → GrowsOf r.of (told_note r v2) v2 v3 → Stops 6 v3 v4 → TurnStopped sys terms a.lane v4
@@ -134,9 +141,7 @@ module _ (sys : System) (sound : IsSound sys) (terms : Terms) (a : Stand) (floor
         spent-stops count r v3 v4 is full note grown stops =
             let spent : GrowsOf o.priority (plain body.Spent ∷ []) v2 v3 = noted o.priority body.Spent r v2 v3 note grown in
             let same = its-count count is in
-            let told : v4.told ≡ a.lane.told ++ seen_told o.priority c.f c.l c.m ∷ for_object o.priority (plain body.Spent) ∷ [] =
-            ap (λ u. u.told) stops ∙ spent.told ∙ ap (λ ts. ts ++ for_object o.priority (plain body.Spent) ∷ []) goes.told
-            ∙ append_assoc a.lane.told (seen_told o.priority c.f c.l c.m ∷ []) (for_object o.priority (plain body.Spent) ∷ []) in
+            let told = spent-told r v3 v4 note grown stops in
             let still : lanes_of v4 ≡ lanes_of a.lane = same-lanes v2 v4 (ap (λ u. u.plan) stops ∙ spent.plan) (ap (λ u. u.happened) stops ∙ spent.happened) ∙ lanes in
             record {
               zero = spent-ends sys sound terms a.looks a.stack a.objects a.lane o.priority (row_below sys floor place) c.f c.l c.m here.knows here.at some v4 still (omega (arith, same, full)) told;

@@ -4,3 +4,4 @@ pub mod Starting
 pub mod Halting
 pub mod Turning
 pub mod Ordering
+pub mod AtRest

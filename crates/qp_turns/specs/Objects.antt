@@ -1,5 +1,5 @@
 -- The objects of a system, each at its priority, and what calls of one of them do.
-use Rattle.std.specs.Prelude.{◌≡◌, ℕ, ◌<◌, true, List, length, slice_get, slice_set, Some, None}
+use Rattle.std.specs.Prelude.{◌≡◌, ℕ, ◌<◌, ℤ, true, List, [], length, slice_get, slice_set, Some, None}
 use Rattle.std.specs.declared.option.Option.{Option}
 use Rattle.qp_model.specs.declared.systems.System.{System}
 use Rattle.qp_model.specs.declared.systems.ObjectDef.{ObjectDef}
@@ -106,3 +106,10 @@ leaf_there _ = None
 
 abbrev pub leaf_in : List (Option Slot) → ℕ → Option ℕ
 leaf_in slots p = leaf_there (slice_get slots p)
+
+abbrev pub vars_there : Option (Option Slot) → List ℤ
+vars_there (Some (Some slot)) = slot.object.lasting.vars
+vars_there _ = []
+
+abbrev pub vars_in : List (Option Slot) → ℕ → List ℤ
+vars_in slots p = vars_there (slice_get slots p)

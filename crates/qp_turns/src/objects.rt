@@ -1,7 +1,7 @@
 //! The objects of a system, by priority.
 
 ghost use Rattle.std.specs.Prelude.{◌≡◌, IfOk};
-ghost use Rattle.qp_turns.specs.Objects.{AreMade, BeginsAt, IsPlace, MayBeginAt, MayResumeAt, MayStartAt, ResumesAt, StartsAt, leaf_in, taken_in, threshold_in};
+ghost use Rattle.qp_turns.specs.Objects.{AreMade, BeginsAt, IsPlace, MayBeginAt, MayResumeAt, MayStartAt, ResumesAt, StartsAt, leaf_in, taken_in, threshold_in, vars_in};
 
 use qp_base::Memory;
 use qp_calls::{Entry, Ops};
@@ -124,6 +124,16 @@ impl Objects {
         match self.slots.get(usize::from(p)) {
             Some(Some(slot)) => slot.object.leaf(),
             _ => None,
+        }
+    }
+
+    /// The values of the variables of the object of this priority; none where there is no such object.
+    pub fn vars(&self, p: u8) -> &[i64]
+        ensures { result.now ≡ vars_in self.now.slots.items p }
+    {
+        match self.slots.get(usize::from(p)) {
+            Some(Some(slot)) => slot.object.vars(),
+            _ => &[],
         }
     }
 

@@ -1,10 +1,11 @@
 //! The kernel's turn: rows of looks, and the steps that they find.
 
-ghost use Rattle.std.specs.Prelude.{◌≡◌, ◌+◌, ◌-◌, ◌<◌, ◌≤◌, [], false, length, reverse, slice_get};
+ghost use Rattle.std.specs.Prelude.{◌≡◌, ◌+◌, ◌-◌, ◌<◌, ◌≤◌, [], false, IfErr, length, reverse, slice_get};
 ghost use Rattle.qp_model.specs.KernelLane.{above, floor_in};
 ghost use Rattle.qp_model.specs.Sound.{IsSound};
 ghost use Rattle.qp_stim.specs.Rules.{StimuliFit};
 ghost use Rattle.qp_kernel.specs.Turning.{kernel_in, under};
+ghost use Rattle.qp_turns.specs.AtRest.{HaltsAtRest, StopsAtRest};
 ghost use Rattle.qp_turns.specs.Knowing.{IsScanning, MayLook};
 ghost use Rattle.qp_turns.specs.Ordering.{AreSeenEmpty, InOrder, LooksInOrder, RoundsInOrder, StepsInOrder, TurnsInOrder, VisitsInOrder};
 ghost use Rattle.qp_turns.specs.Turning.{AreHeld, EndsTo, LooksTo, RunsTop, StepsTo, Stood, TurnsTo, VisitsTo, floor_of, row_below, stand_of, terms_of};
@@ -76,6 +77,7 @@ pub fn look<R: Wait, W: World, L: Ledger>(
         (stand_of kernel.new objects.now (W.lane world.new)) result }
     ensures order { LooksInOrder W.acts at.now.sys.now (terms_of at.now) (stand_of kernel.old objects.now (W.lane world.old))
         (stand_of kernel.new objects.now (W.lane world.new)) result }
+    ensures rests { IfErr result (HaltsAtRest at.now.sys.now (stand_of kernel.new objects.now (W.lane world.new))) }
 {
     ready(world)?;
     if kernel.looks == u32::MAX {
@@ -116,6 +118,7 @@ fn visit<R: Wait, W: World, G: Gate>(
         (stand_of kernel.new objects.new (W.lane world.new)) result }
     ensures order { VisitsInOrder W.acts at.now.sys.now floor place (stand_of kernel.old objects.old (W.lane world.old))
         (stand_of kernel.new objects.new (W.lane world.new)) result }
+    ensures rests { IfErr result (HaltsAtRest at.now.sys.now (stand_of kernel.new objects.new (W.lane world.new))) }
 {
     let sys = at.sys;
     let object = &sys.objects.items[place];
@@ -175,6 +178,7 @@ pub fn scan<R: Wait, W: World, G: Gate>(
         (stand_of kernel.new objects.new (W.lane world.new)) result }
     ensures order { VisitsInOrder W.acts at.now.sys.now floor 0 (stand_of kernel.old objects.old (W.lane world.old))
         (stand_of kernel.new objects.new (W.lane world.new)) result }
+    ensures rests { IfErr result (HaltsAtRest at.now.sys.now (stand_of kernel.new objects.new (W.lane world.new))) }
 {
     let many = count(at.sys);
     for place in (0..many).rev() {
@@ -198,6 +202,7 @@ pub fn step<O: Ops>(
         (stand_of kernel.new objects.new (O.lane world.new)) result }
     ensures order { StepsInOrder at.now.sys.now (stand_of kernel.old objects.old (O.lane world.old))
         (stand_of kernel.new objects.new (O.lane world.new)) result }
+    ensures rests { IfErr result (HaltsAtRest at.now.sys.now (stand_of kernel.new objects.new (O.lane world.new))) }
 {
     let Some(p) = top(kernel) else {
         return Err(Halt::Memory);
@@ -239,6 +244,7 @@ fn rounds<R: Wait, W: World, G: Gate, L: Ledger>(
         (stand_of kernel.new objects.new (W.lane world.new)) result }
     ensures order { RoundsInOrder W.acts at.now.sys.now (stand_of kernel.old objects.old (W.lane world.old))
         (stand_of kernel.new objects.new (W.lane world.new)) result }
+    ensures rests { IfErr result (HaltsAtRest at.now.sys.now (stand_of kernel.new objects.new (W.lane world.new))) }
 {
     let mut steps = Steps::<L>::open(blank);
     for _ in rt.forever() {
@@ -282,6 +288,7 @@ pub fn kernel_turn<R: Wait, W: World, G: Gate>(
         (stand_of kernel.new objects.new (W.lane world.new)) result }
     ensures order { TurnsInOrder W.acts sys.now (stand_of kernel.old objects.old (W.lane world.old))
         (stand_of kernel.new objects.new (W.lane world.new)) result }
+    ensures rests { StopsAtRest sys.now (stand_of kernel.new objects.new (W.lane world.new)) result }
 {
     let at = Bounds {
         sys,

@@ -1,5 +1,6 @@
-use Rattle.std.proofs.Common.{◌+◌, ◌==◌, true, false, [], ◌∷◌, arith, refl, subst}
+use Rattle.std.proofs.Common.{◌+◌, ◌==◌, ◌∙◌, true, false, [], ◌∷◌, arith, refl, subst}
 use Rattle.qp_model.specs.declared.bodies.Body.TheVariants as body
+use Rattle.qp_model.specs.Told.{plain}
 use Rattle.qp_calls.proofs.Growing.{room-then}
 use Rattle.qp_calls.proofs.Noting.{may-note}
 use Rattle.qp_kernel.specs.Turning.{look_told}
@@ -7,6 +8,7 @@ use Rattle.qp_turns.specs.Ordering.{LookedInOrder}
 use Rattle.qp_turns.specs.Turning.{stand_of, terms_of}
 use Rattle.qp_turns.proofs.Halted.{halts-turn}
 use Rattle.qp_turns.proofs.Ordered.{halts-in_order, none-in_order, some-in_order, stopped-in_order, unset-still}
+use Rattle.qp_turns.proofs.Resting.{rests-halted, rests-noted}
 use Rattle.qp_turns.proofs.Staying.{all-wait}
 use Rattle.qp_turns.proofs.Turns.{looked-none, looked-some, looked-stopped, noted}
 use Rattle.std.proofs.lemmas.Result.{err_from_is_err_and}
@@ -23,6 +25,7 @@ returns-in_err-ready g c =
           halts-turn sys c.requires.sound (terms_of c.args.at.now) k.knows.state (lane c.args.world.now) (lane c.ready.new.ops) c.in_err-ready.field-0.0 k.knows.told k.knows.stands k.knows.now k.at.stack.started (all-wait sys k.knows.state k.at.stack)
           c.in_err-ready.ensures;
       order = halts-in_order g.W.World.acts sys c.args.kernel.now.looks (lane c.args.world.now) (lane c.ready.new.ops) c.in_err-ready.field-0.0 c.in_err-ready.ensures c.requires.order;
+      rests = rests-halted sys c.requires.sound (terms_of c.args.at.now) c.args.kernel.now.looks c.args.kernel.now.stack.items c.args.objects.now (lane c.args.world.now) k.knows _ k.at.stack (lane c.ready.new.ops) c.in_err-ready.field-0.0 c.in_err-ready.ensures;
     })
 
 pub note-requires : goal.note-requires
@@ -45,6 +48,7 @@ returns-in-Happened g c =
       order =
           subst (λ f. LookedInOrder g.W.World.acts sys (f == 0) (record { looks = n; stack = c.args.kernel.now.stack.items; objects = c.args.objects.now; lane = v3 }) true) c.requires.floor
           (some-in_order g.W.World.acts sys c.args.kernel.now.looks n c.args.floor _ (lane c.args.world.now) v2 v3 c.requires.knows.knows.lane.of gains refl refl c.requires.order (stand_of c.args.kernel.now c.args.objects.now (lane c.args.world.now)) c.in-Happened.ensures.1);
+      rests = tt;
     }
 
 pub returns-in-Nothing : goal.returns-in-Nothing
@@ -62,6 +66,7 @@ returns-in-Nothing g c =
       order =
           subst (λ f. LookedInOrder g.W.World.acts sys (f == 0) (record { looks = n; stack = c.args.kernel.now.stack.items; objects = c.args.objects.now; lane = v3 }) false) c.requires.floor
           (none-in_order g.W.World.acts sys c.args.kernel.now.looks n c.args.floor _ (lane c.args.world.now) v2 v3 c.requires.knows.knows.lane.of gains refl refl c.requires.order (stand_of c.args.kernel.now c.args.objects.now (lane c.args.world.now)) c.in-Nothing.ensures);
+      rests = tt;
     }
 
 pub returns-in-Stopped : goal.returns-in-Stopped
@@ -79,4 +84,5 @@ returns-in-Stopped g c =
       order =
           stopped-in_order g.W.World.acts sys c.args.kernel.now.looks n c.args.floor _ (lane c.args.world.now) v2 v3 c.requires.knows.knows.lane.of gains refl refl c.requires.order
           c.in-Stopped.ensures (unset-still (look_told n c.args.floor ∷ []) (lane c.args.world.now) v2 gains c.in_ok-ready.ensures.unset);
+      rests = rests-noted sys c.requires.sound (terms_of c.args.at.now) c.args.kernel.now.looks c.args.kernel.now.stack.items c.args.objects.now (lane c.args.world.now) c.requires.knows.knows _ c.requires.knows.at.stack n v3 (plain (body.Look n c.args.floor)) (c.in-Stopped.ensures.kept.told ∙ gains.told);
     }

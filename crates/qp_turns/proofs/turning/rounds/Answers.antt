@@ -37,6 +37,7 @@ returns-then-not-happened g c =
     record {
       goes = record { knows = over.knows; onward = over.onward };
       order = round-idle g.W.World.acts sys c.requires.sound terms a b d c.floor-low.result c.floor-low.ensures look looked pass seen c.in-None-top.ensures;
+      rests = tt;
     }
 
 pub loop-preserved : goal.loop-preserved

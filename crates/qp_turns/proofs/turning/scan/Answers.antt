@@ -51,4 +51,5 @@ returns g c =
           subst (λ ps. Passed ps sys (terms_of c.args.at.now) (stand_of c.args.kernel.now c.args.objects.now (lane c.args.world.now)) (stand_of c.loop-place.kernel c.loop-place.objects (lane c.loop-place.world))) all c.loop-place.invariant.passed;
       order =
           subst (λ m. PassedInOrder g.W.World.acts sys c.args.floor m (stand_of c.args.kernel.now c.args.objects.now (lane c.args.world.now)) (stand_of c.loop-place.kernel c.loop-place.objects (lane c.loop-place.world))) none c.loop-place.invariant.order;
+      rests = tt;
     }

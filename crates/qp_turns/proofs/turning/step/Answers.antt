@@ -1,7 +1,9 @@
-use Rattle.std.proofs.Common.{refl, subst, sym}
+use Rattle.std.proofs.Common.{◌≡◌, true, refl, subst, sym}
+use Rattle.qp_chart.specs.StateTree.{has}
 use Rattle.qp_dispatch.specs.declared.steps.Step.TheVariants as step
 use Rattle.qp_turns.specs.Knowing.{IsRunning, KnowsAt, MayLook}
 use Rattle.qp_turns.specs.Objects.{MayResumeAt, ResumesAt}
+use Rattle.qp_turns.proofs.Resting.{has-last, rests-stepped}
 use Rattle.qp_turns.proofs.Stepping.{after-step, may-resume, order-after}
 use Rattle.qp_turns.proofs.Tops.{popped-is, top-is}
 use Rattle.qp_turns.proofs.turning.step.Goals as goal
@@ -35,6 +37,7 @@ returns-in-Point g c =
       };
       order = λ acts h. order-after sys c.requires.sound (terms_of c.args.at.now) c.args.kernel.now.looks r.outer r.p c.args.objects.now v k.knows k.at acts h c.resume-answer.new.ceiling c.resume-answer.new.self w step.Point
           (subst (λ p. ResumesAt sys c.args.objects.now.ceiling c.resume-answer.new.ceiling p c.args.objects.now c.resume-answer.new.self v w step.Point) same c.in-Point.ensures);
+      rests = tt;
     }
 
 pub returns-in-Done : goal.returns-in-Done
@@ -56,6 +59,7 @@ returns-in-Done g c =
       };
       order = λ acts h. order-after sys c.requires.sound (terms_of c.args.at.now) c.args.kernel.now.looks r.outer r.p c.args.objects.now v k.knows k.at acts h c.resume-answer.new.ceiling c.resume-answer.new.self w step.Done
           (subst (λ p. ResumesAt sys c.args.objects.now.ceiling c.resume-answer.new.ceiling p c.args.objects.now c.resume-answer.new.self v w step.Done) same c.in-Done.ensures);
+      rests = tt;
     }
 
 pub returns-in-Stopped : goal.returns-in-Stopped
@@ -67,9 +71,12 @@ returns-in-Stopped g c =
     let w = lane c.resume-answer.new.ops in
     let k = subst (λ l. KnowsAt (IsRunning sys r.p) sys (terms_of c.args.at.now) c.args.kernel.now.looks l c.args.objects.now v) r.top r.knows in
     let same = top-is c.args.kernel.now.stack.items r.outer r.p c.in-Some.p r.top c.in-Some.ensures in
+    let put = subst (λ p. ResumesAt sys c.args.objects.now.ceiling c.resume-answer.new.ceiling p c.args.objects.now c.resume-answer.new.self v w step.Stopped) same c.in-Stopped.ensures in
+    let a = after-step sys c.requires.sound (terms_of c.args.at.now) c.args.kernel.now.looks r.outer r.p c.args.objects.now v k.knows k.at c.resume-answer.new.ceiling c.resume-answer.new.self w step.Stopped put in
     record {
-      goes = after-step sys c.requires.sound (terms_of c.args.at.now) c.args.kernel.now.looks r.outer r.p c.args.objects.now v k.knows k.at c.resume-answer.new.ceiling c.resume-answer.new.self w step.Stopped
-          (subst (λ p. ResumesAt sys c.args.objects.now.ceiling c.resume-answer.new.ceiling p c.args.objects.now c.resume-answer.new.self v w step.Stopped) same c.in-Stopped.ensures);
-      order = λ acts h. order-after sys c.requires.sound (terms_of c.args.at.now) c.args.kernel.now.looks r.outer r.p c.args.objects.now v k.knows k.at acts h c.resume-answer.new.ceiling c.resume-answer.new.self w step.Stopped
-          (subst (λ p. ResumesAt sys c.args.objects.now.ceiling c.resume-answer.new.ceiling p c.args.objects.now c.resume-answer.new.self v w step.Stopped) same c.in-Stopped.ensures);
+      goes = a.0;
+      order = λ acts h. order-after sys c.requires.sound (terms_of c.args.at.now) c.args.kernel.now.looks r.outer r.p c.args.objects.now v k.knows k.at acts h c.resume-answer.new.ceiling c.resume-answer.new.self w step.Stopped put;
+      rests =
+          rests-stepped sys c.requires.sound (terms_of c.args.at.now) c.args.kernel.now.looks c.args.kernel.now.stack.items c.args.objects.now v r.knows.knows _ r.knows.at.stack w c.resume-answer.new.self c.resume-answer.new.ceiling r.p put.later
+          a.1.records (subst (λ l. has l r.p ≡ true) (sym r.top) (has-last r.outer r.p)) put.put.slots a.1.told a.1.apart;
     }

@@ -4,13 +4,15 @@ use Rattle.qp_model.specs.declared.systems.System.{System}
 use Rattle.std.proofs.lemmas.Option.{slice_get_read}
 use Rattle.std.proofs.lemmas.Result.{err_from_is_err_and}
 use Rattle.qp_model.specs.declared.bodies.Body.TheVariants as body
+use Rattle.qp_model.specs.Told.{plain}
 use Rattle.qp_model.specs.WordLaw.{is_object}
 use Rattle.qp_calls.proofs.Noting.{may-note}
 use Rattle.qp_turns.specs.Turning.{stand_of, terms_of}
 use Rattle.qp_turns.proofs.Halted.{halts-turn}
 use Rattle.qp_turns.proofs.Ordered.{halts-in_order, passed-in_order, seen-skip, spent-in_order, stopped-seen, took-in_order}
+use Rattle.qp_turns.proofs.Resting.{rests-halted, rests-noted, rests-spent}
 use Rattle.qp_turns.proofs.Staying.{all-wait}
-use Rattle.qp_turns.proofs.Visits.{fits-stack, is-there, may-begin, may-stop, seen-empty, skipped, spent-stops, step-enters, stop-found}
+use Rattle.qp_turns.proofs.Visits.{fits-stack, is-there, may-begin, may-stop, seen-empty, seen-goes, skipped, spent-stops, spent-told, step-enters, stop-found}
 use Rattle.qp_turns.proofs.turning.visit.Goals as goal
 
 pub returns-then-p-floor : goal.returns-then-p-floor
@@ -21,6 +23,7 @@ returns-then-p-floor g c =
     record {
       goes = skipped sys c.requires.sound (terms_of c.args.at.now) _ c.args.floor c.args.place o at c.if-p-floor.true c.requires.knows;
       order = record { order = c.requires.order; none = λ base acting h. h; empty = seen-skip sys c.args.floor c.args.place o (g.W.Ops.lane c.args.world.now) at c.if-p-floor.true c.requires.seen };
+      rests = tt;
     }
 
 pub returns-in_err-ready : goal.returns-in_err-ready
@@ -34,6 +37,7 @@ returns-in_err-ready g c =
           halts-turn sys c.requires.sound (terms_of c.args.at.now) k.knows.state (lane c.args.world.now) (lane c.ready.new.ops) c.in_err-ready.field-0.0 k.knows.told k.knows.stands k.knows.now k.at.stack.started (all-wait sys k.knows.state k.at.stack)
           c.in_err-ready.ensures;
       order = halts-in_order g.W.World.acts sys c.args.kernel.now.looks (lane c.args.world.now) (lane c.ready.new.ops) c.in_err-ready.field-0.0 c.in_err-ready.ensures c.requires.order;
+      rests = rests-halted sys c.requires.sound (terms_of c.args.at.now) c.args.kernel.now.looks c.args.kernel.now.stack.items c.args.objects.now (lane c.args.world.now) k.knows _ k.at.stack (lane c.ready.new.ops) c.in_err-ready.field-0.0 c.in_err-ready.ensures;
     })
 
 pub seen-now-requires-clause-object : goal.seen-now-requires-clause-object
@@ -56,6 +60,7 @@ returns-then-from g c =
     record {
       goes = seen-empty sys c.requires.sound (terms_of c.args.at.now) _ c.args.floor c.args.place o at c.if-p-floor.false c.requires.knows (lane c.ready.new.ops) (lane c.seen-now.new.self) counts room c.seen-now.ensures none;
       order = passed-in_order g.W.World.acts sys c.args.kernel.now.looks o.priority counts (lane c.args.world.now) (lane c.ready.new.ops) (lane c.seen-now.new.self) room c.seen-now.ensures c.requires.order c.args.floor c.args.place o (stand_of c.args.kernel.now c.args.objects.now (lane c.args.world.now)) refl at none refl refl c.requires.seen;
+      rests = tt;
     }
 
 pub note-requires : goal.note-requires
@@ -93,6 +98,8 @@ returns-then-taken-at g c =
     record {
       goes = spent-stops sys c.requires.sound (terms_of c.args.at.now) _ c.args.floor c.args.place o at c.if-p-floor.false c.requires.knows (lane c.ready.new.ops) (lane c.seen-now.new.self) counts room c.seen-now.ensures some c.taken.result c.spent.result (lane c.note.new.self) (lane c.stop.new.self) c.taken.ensures c.if-taken-at.true c.spent.ensures c.note.ensures.grows c.stop.ensures;
       order = spent-in_order g.W.World.acts sys c.args.kernel.now.looks o.priority counts (lane c.args.world.now) (lane c.ready.new.ops) (lane c.seen-now.new.self) room c.seen-now.ensures c.requires.order c.spent.result (lane c.note.new.self) (lane c.stop.new.self) c.spent.ensures c.note.ensures.grows c.stop.ensures;
+      rests = rests-spent sys c.requires.sound (terms_of c.args.at.now) c.args.kernel.now.looks c.args.kernel.now.stack.items c.args.objects.now (lane c.args.world.now) c.requires.knows.knows _ c.requires.knows.at.stack (lane c.stop.new.self) o.priority (plain (body.Seen o.priority counts.f counts.l counts.m))
+          (spent-told sys c.requires.sound (terms_of c.args.at.now) _ c.args.floor c.args.place o at c.if-p-floor.false c.requires.knows (lane c.ready.new.ops) (lane c.seen-now.new.self) counts room c.seen-now.ensures some c.spent.result (lane c.note.new.self) (lane c.stop.new.self) c.spent.ensures c.note.ensures.grows c.stop.ensures);
     }
 
 pub returns-in-Some : goal.returns-in-Some
@@ -107,6 +114,8 @@ returns-in-Some g c =
     record {
       goes = stop-found sys c.requires.sound (terms_of c.args.at.now) _ c.args.floor c.args.place o at c.if-p-floor.false c.requires.knows (lane c.ready.new.ops) (lane c.seen-now.new.self) counts room c.seen-now.ensures some c.in-Some.field-0 (lane c.stopped.new.self) c.in-Some.ensures.0;
       order = stopped-seen g.W.World.acts sys c.args.kernel.now.looks o.priority counts (lane c.args.world.now) (lane c.ready.new.ops) (lane c.seen-now.new.self) room c.seen-now.ensures c.requires.order c.in-Some.field-0 (lane c.stopped.new.self) c.in-Some.ensures.0;
+      rests = rests-noted sys c.requires.sound (terms_of c.args.at.now) c.args.kernel.now.looks c.args.kernel.now.stack.items c.args.objects.now (lane c.args.world.now) c.requires.knows.knows _ c.requires.knows.at.stack c.args.kernel.now.looks (lane c.stopped.new.self) (plain (body.Seen o.priority counts.f counts.l counts.m))
+          (ap (λ u. u.told) c.in-Some.ensures.0 ∙ (seen-goes o.priority counts (lane c.args.world.now) (lane c.ready.new.ops) (lane c.seen-now.new.self) room c.seen-now.ensures c.requires.knows.knows.lane.spills).told);
     }
 
 pub take-requires-clause-object : goal.take-requires-clause-object
@@ -150,4 +159,5 @@ returns-in-Taken g c =
     record {
       goes = step-enters sys c.requires.sound (terms_of c.args.at.now) _ c.args.floor c.args.place o at c.if-p-floor.false c.requires.knows (lane c.ready.new.ops) (lane c.seen-now.new.self) counts room c.seen-now.ensures some c.taken.result (lane c.stopped.new.self) (lane c.take.new.self) c.in-Taken.e c.begin.new.self c.push.new.self.items c.taken.ensures c.if-taken-at.false c.in_default.ensures.0 c.in-Taken.ensures c.begin.ensures c.push.ensures.items;
       order = took-in_order g.W.World.acts sys c.args.kernel.now.looks o.priority counts (lane c.args.world.now) (lane c.ready.new.ops) (lane c.seen-now.new.self) room c.seen-now.ensures c.requires.order c.in-Taken.e (lane c.stopped.new.self) (lane c.take.new.self) c.in_default.ensures.0 c.in-Taken.ensures;
+      rests = tt;
     }
