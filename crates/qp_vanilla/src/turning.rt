@@ -1,9 +1,10 @@
 //! The cooperative kernel's turn.
 
-ghost use Rattle.std.specs.Prelude.{◌≡◌, ◌<◌, ◌≤◌, [], true};
+ghost use Rattle.std.specs.Prelude.{◌≡◌, ◌<◌, ◌≤◌, [], true, IfErr};
 ghost use Rattle.qp_kernel.specs.Turning.{under};
 ghost use Rattle.qp_model.specs.Sound.{IsSound};
 ghost use Rattle.qp_stim.specs.Rules.{StimuliFit};
+ghost use Rattle.qp_turns.specs.AtRest.{HaltsAtRest, StopsAtRest};
 ghost use Rattle.qp_turns.specs.Knowing.{IsScanning, MayLook};
 ghost use Rattle.qp_turns.specs.Ordering.{AreSeenEmpty, InOrder, RoundsInOrder, TurnsInOrder};
 ghost use Rattle.qp_turns.specs.Turning.{EndsTo, Stood, TurnsTo, stand_of, terms_of};
@@ -37,6 +38,7 @@ fn rest<W: World>(
         (stand_of kernel.now objects.now (W.lane world.new)) result }
     ensures order { RestsInOrder W.acts at.now.sys.now (stand_of kernel.now objects.now (W.lane world.old))
         (stand_of kernel.now objects.now (W.lane world.new)) result }
+    ensures rests { IfErr result (HaltsAtRest at.now.sys.now (stand_of kernel.now objects.now (W.lane world.new))) }
 {
     let _ = at;
     let _ = objects;
@@ -68,6 +70,7 @@ fn rounds<R: Wait, W: World, G: Gate, L: Ledger>(
         (stand_of kernel.new objects.new (W.lane world.new)) result }
     ensures order { RoundsInOrder W.acts at.now.sys.now (stand_of kernel.old objects.old (W.lane world.old))
         (stand_of kernel.new objects.new (W.lane world.new)) result }
+    ensures rests { IfErr result (HaltsAtRest at.now.sys.now (stand_of kernel.new objects.new (W.lane world.new))) }
 {
     let mut steps = Steps::<L>::open(blank);
     for _ in rt.forever() {
@@ -113,6 +116,7 @@ pub fn vanilla_turn<R: Wait, W: World, G: Gate>(
         (stand_of vanilla.new.kernel objects.new (W.lane world.new)) result }
     ensures order { TurnsInOrder W.acts sys.now (stand_of vanilla.old.kernel objects.old (W.lane world.old))
         (stand_of vanilla.new.kernel objects.new (W.lane world.new)) result }
+    ensures rests { StopsAtRest sys.now (stand_of vanilla.new.kernel objects.new (W.lane world.new)) result }
 {
     let at = Bounds {
         sys,

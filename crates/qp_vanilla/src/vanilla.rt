@@ -21,4 +21,11 @@ impl Vanilla {
             kernel: Kernel::new(),
         }
     }
+
+    /// The objects whose steps are under way, at most one.
+    pub fn under_way(&self) -> &[u8]
+        ensures { result.now ≡ self.now.kernel.stack.items }
+    {
+        self.kernel.stack.as_slice()
+    }
 }

@@ -5,6 +5,7 @@ use Rattle.qp_calls.proofs.Noting.{may-note}
 use Rattle.qp_turns.specs.Turning.{stand_of, terms_of}
 use Rattle.qp_turns.proofs.Halted.{halts-turn}
 use Rattle.qp_turns.proofs.Ordered.{halts-in_order}
+use Rattle.qp_turns.proofs.Resting.{rests-halted}
 use Rattle.qp_turns.proofs.Staying.{all-wait}
 use Rattle.qp_vanilla.proofs.Rests.{rested, rested-in_order}
 use Rattle.qp_vanilla.proofs.turning.rest.Goals as goal
@@ -20,6 +21,7 @@ returns-in_err-ready g c =
           halts-turn sys c.requires.sound (terms_of c.args.at.now) k.knows.state (lane c.args.world.now) (lane c.ready.new.ops) c.in_err-ready.field-0.0 k.knows.told k.knows.stands k.knows.now k.at.stack.started (all-wait sys k.knows.state k.at.stack)
           c.in_err-ready.ensures;
       order = halts-in_order g.W.World.acts sys c.args.kernel.now.looks (lane c.args.world.now) (lane c.ready.new.ops) c.in_err-ready.field-0.0 c.in_err-ready.ensures c.requires.order;
+      rests = rests-halted sys c.requires.sound (terms_of c.args.at.now) c.args.kernel.now.looks c.args.kernel.now.stack.items c.args.objects.now (lane c.args.world.now) k.knows _ k.at.stack (lane c.ready.new.ops) c.in_err-ready.field-0.0 c.in_err-ready.ensures;
     })
 
 pub note-requires : goal.note-requires
@@ -39,4 +41,5 @@ returns g c =
       order =
           rested-in_order sys c.requires.sound (terms_of c.args.at.now) c.requires.cooperative a c.requires.base c.requires.knows c.rest.result (lane c.ready.new.ops) (lane c.note.new.self) c.in_ok-ready.ensures.roomier
           c.rest.ensures c.note.ensures.grows g.W.World.acts c.requires.order c.requires.empty;
+      rests = tt;
     }
