@@ -8,3 +8,4 @@ pub mod EndedWorlds
 pub mod Ran
 pub mod Ends
 pub mod Cooperating
+pub mod RestLemmas

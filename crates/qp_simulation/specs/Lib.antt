@@ -1,4 +1,5 @@
 pub mod SimRun
 pub mod Left
+pub mod Resting
 pub mod Running
 pub mod Laws

@@ -2,6 +2,7 @@
 #![tactic(auto)]
 
 pub mod laws;
+mod rests;
 mod run;
 
-pub use run::{run_qv, run_sim};
+pub use run::{Simulated, qv_with_rests, run_qv, run_sim, sim_with_rests};
