@@ -1,5 +1,5 @@
 -- Where objects rest when a run stops.
-use Rattle.std.specs.Prelude.{◌≡◌, ℕ, false, List, Some}
+use Rattle.std.specs.Prelude.{◌≡◌, false, List, Some}
 use Rattle.qp_chart.specs.StateTree.{has}
 use Rattle.qp_chart.specs.declared.checked.Chart.{Chart}
 use Rattle.qp_model.specs.declared.systems.System.{System}
