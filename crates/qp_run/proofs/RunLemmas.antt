@@ -26,9 +26,10 @@ module _ (sys : System) (sources : List (List Stim)) (budget : ℕ) where
     only = λ unspilt other runs clean. all-one sys sources other j sound fit (sim-journal other runs clean) (sim-journal j is unspilt) (runs.budget_is ∙ sym is.budget_is);
   }
 
-  pub only-runs : {E : Type 0} (result : Result Journal E) → IsSound sys → StimuliFit sys sources → IfOk result (λ j. IsSimRun sys sources budget j) → IfOk result (λ j. IsOnlyRun sys sources budget j)
-  only-runs (Ok j) sound fit is = only-run j sound fit is
-  only-runs (Err e) sound fit is = is
+  pub only-runs : {T E : Type 0} (journal : T → Journal) (result : Result T E) → IsSound sys → StimuliFit sys sources
+      → IfOk result (λ x. IsSimRun sys sources budget (journal x)) → IfOk result (λ x. IsOnlyRun sys sources budget (journal x))
+  only-runs journal (Ok x) sound fit is = only-run (journal x) sound fit is
+  only-runs journal (Err e) sound fit is = is
 
 -- two journals of runs are one, or may be two
 pub journals-either : (kernel : Kernel) (budget : ℕ) (sys : System) (sources : List (List Stim)) (i j : Journal) → IsRunUnder kernel sys sources budget i → IsRunUnder kernel sys sources budget j

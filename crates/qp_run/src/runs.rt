@@ -6,6 +6,7 @@ ghost use Rattle.qp_model.specs.Ends.{ends_last};
 ghost use Rattle.qp_model.specs.History.{lane_items};
 ghost use Rattle.qp_model.specs.Output.{has_form, is_in_range};
 ghost use Rattle.qp_model.specs.Sound.{IsSound};
+ghost use Rattle.qp_rests.specs.Rests.{AreRestsIn};
 ghost use Rattle.qp_stim.specs.Rules.{StimuliFit};
 ghost use Rattle.qp_summary.specs.Written.{HasStimuli};
 ghost use Rattle.qp_run.specs.Conversions.{PrintsOne};
@@ -25,8 +26,8 @@ use qp_commands::{Form, Kernel, Output};
 use qp_gen::generate;
 use qp_model::{Journal, Stimuli, System};
 use qp_outcome::outcome_of;
-use qp_simulation::{run_qv, run_sim};
-use qp_summary::{SummaryFault, write_summary};
+use qp_simulation::{Simulated, qv_with_rests, sim_with_rests};
+use qp_summary::{SummaryFault, write_summary_at};
 use std::alloc::Global;
 use std::sync::Wait;
 
@@ -40,47 +41,49 @@ fn ending_of(journal: &Journal) -> Status
     Status::of_outcome(outcome_of(journal))
 }
 
-/// Prints the summary of a journal. The answer is `told` where it could be written.
+/// Prints the summary of a run. The answer is `told` where it could be written.
 fn summarize<O: Sink>(
     alloc: Global,
     system: &System,
-    journal: &Journal,
+    run: &Simulated,
     told: Status,
     out: &mut O,
 ) -> Status
     requires followable { AllByRecursion (IsFollowable system.now) system.now.objects }
-    requires lawful { HasStimuli system.now journal.now }
-    requires told { told ≡ ending_of journal.now }
-    ensures { (form : ℕ) → IsPrinted (PrintsOf Summary form system.now journal.now)
+    requires lawful { HasStimuli system.now run.now.journal }
+    requires rests { AreRestsIn system.now run.now.journal run.now.rests.items }
+    requires told { told ≡ ending_of run.now.journal }
+    ensures { (form : ℕ) → IsPrinted (PrintsOf Summary form system.now run.now.journal)
         (O.written out.old) (O.written out.new) (O.faults out.old) (O.faults out.new) result }
 {
-    match write_summary(alloc, system, journal, out) {
+    match write_summary_at(alloc, system, &run.journal, &run.rests, out) {
         Ok(()) => told,
         Err(SummaryFault::Memory) => Status::Memory,
         Err(SummaryFault::Failed) => Status::WriteFault,
     }
 }
 
-/// Prints what is asked for of a run's journal.
+/// Prints what is asked for of a run.
 fn print<O: Sink>(
     alloc: Global,
     system: &System,
-    journal: &Journal,
+    run: &Simulated,
     output: Output,
     form: Form,
     out: &mut O,
 ) -> Status
-    requires form { IsTrue (has_form (number_of_form form) journal.now) }
-    requires range { IsTrue (is_in_range (number_of_form form) journal.now) }
+    requires form { IsTrue (has_form (number_of_form form) run.now.journal) }
+    requires range { IsTrue (is_in_range (number_of_form form) run.now.journal) }
     requires followable { AllByRecursion (IsFollowable system.now) system.now.objects }
-    requires lawful { HasStimuli system.now journal.now }
-    ensures { IsPrinted (PrintsOf output (number_of_form form) system.now journal.now)
+    requires lawful { HasStimuli system.now run.now.journal }
+    requires rests { AreRestsIn system.now run.now.journal run.now.rests.items }
+    ensures { IsPrinted (PrintsOf output (number_of_form form) system.now run.now.journal)
         (O.written out.old) (O.written out.new) (O.faults out.old) (O.faults out.new) result }
 {
-    let told = ending_of(journal);
+    let told = ending_of(&run.journal);
     match output {
-        Output::Whole(kind) => write(journal, kind, form.number(), told, out),
-        Output::Summary => summarize(alloc, system, journal, told, out),
+        Output::Whole(kind) => write(&run.journal, kind, form.number(), told, out),
+        Output::Summary => summarize(alloc, system, run, told, out),
     }
 }
 
@@ -92,16 +95,17 @@ fn run_under<R: Wait>(
     system: &System,
     stimuli: &Stimuli,
     budget: u32,
-) -> Result<Journal, Memory>
+) -> Result<Simulated, Memory>
     requires sound { IsSound system.now }
     requires fit { StimuliFit system.now stimuli.now }
     requires some { 0 < budget }
     requires few { budget ≤ 1000000 }
-    ensures { IfOk result (λ journal. IsRunUnder kernel system.now stimuli.now budget journal) }
+    ensures run { IfOk result (λ run. IsRunUnder kernel system.now stimuli.now budget run.journal) }
+    ensures rests { IfOk result (λ run. AreRestsIn system.now run.journal run.rests.items) }
 {
     match kernel {
-        Kernel::Sim => run_sim(rt, alloc, system, stimuli, budget),
-        Kernel::Qv => run_qv(rt, alloc, system, stimuli, budget),
+        Kernel::Sim => sim_with_rests(rt, alloc, system, stimuli, budget),
+        Kernel::Qv => qv_with_rests(rt, alloc, system, stimuli, budget),
     }
 }
 
@@ -126,7 +130,7 @@ fn run_and_print<R: Wait, O: Sink>(
         (O.written out.old) (O.written out.new) (O.faults out.old) (O.faults out.new) result }
 {
     match run_under(rt, alloc, kernel, system, stimuli, budget) {
-        Ok(journal) => print(alloc, system, &journal, output, form, out),
+        Ok(run) => print(alloc, system, &run, output, form, out),
         Err(_) => Status::Memory,
     }
 }

@@ -3,4 +3,9 @@ use Rattle.qp_run.proofs.runs.run_under.Goals as goal
 
 pub returns-in-Sim : goal.returns-in-Sim
 returns-in-Sim g c =
-    rw c.in-Sim.is (only-runs c.args.system.now c.args.stimuli.now c.args.budget c.run_sim.result c.requires.sound c.requires.fit c.run_sim.ensures)
+    rw c.in-Sim.is (record {
+      run =
+          only-runs c.args.system.now c.args.stimuli.now c.args.budget (λ run. run.journal) c.sim_with_rests.result c.requires.sound c.requires.fit
+          c.sim_with_rests.ensures.run;
+      rests = c.sim_with_rests.ensures.rests;
+    })
