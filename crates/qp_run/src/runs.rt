@@ -130,7 +130,7 @@ fn run_and_print<R: Wait, O: Sink>(
         (O.written out.old) (O.written out.new) (O.faults out.old) (O.faults out.new) result }
 {
     match run_under(rt, alloc, kernel, system, stimuli, budget) {
-        Ok(run) => print(alloc, system, &run, output, form, out),
+        Ok(simulated) => print(alloc, system, &simulated, output, form, out),
         Err(_) => Status::Memory,
     }
 }

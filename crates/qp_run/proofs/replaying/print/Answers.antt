@@ -11,6 +11,9 @@ write_replayed-requires-clause-stand g c = replay-stands c.args.judged.now.found
 pub returns-in_default : goal.returns-in_default
 returns-in_default g c = memory-printed _ _ _
 
+pub returns-then-is_err : goal.returns-then-is_err
+returns-then-is_err g c = memory-printed _ _ _
+
 pub returns-in-Ok-write_replayed : goal.returns-in-Ok-write_replayed
 returns-in-Ok-write_replayed g c =
     replay-written c.args.judged.now.found.form c.args.judged.now.found.journal c.in-Ok.replayed c.in-Ok.ensures _ _ _ _ Done
