@@ -1,5 +1,4 @@
 -- Lemmas of compiled charts.
-pub mod WalkLemmas
 pub mod PushLemmas
 pub mod PlanLemmas
 pub mod ChoiceLemmas

@@ -24,7 +24,7 @@ use Rattle.qp_compiled.specs.AsTask.{first}
 use Rattle.qp_compiled.specs.Codes.{row_at, task_at, tasks_at}
 use Rattle.qp_compiled.specs.Rows.{rows_from, rows_on, leaves_rest, is_open, is_open_at, first_open}
 use Rattle.qp_compiled.specs.Compiled.{IsPlan, IsChoice, IsCompiled, between, left_of, left_in, choices_in, classes_at, classes_of}
-use Rattle.qp_compiled.proofs.WalkLemmas.{top-left}
+use Rattle.qp_state_tree.proofs.WalkLemmas.{top-left}
 
 -- nothing stands between a place and one that isn't behind it
 between-none : (from to : ℕ) (ts : List Task) → to ≤ from → between from to ts ≡ []

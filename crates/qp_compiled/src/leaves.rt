@@ -10,9 +10,9 @@ ghost use Rattle.qp_compiled.specs.Building.{Offers, MakesLeaf};
 
 use crate::choice::{Choice, Choices, Leaf};
 use crate::code::Code;
-use crate::places::{path_of, rows_of};
 use crate::plans::place_step;
 use qp_chart::{Chart, Row};
+use qp_state_tree::{path_of, rows_of};
 use std::alloc::{AllocError, Global};
 
 /// Where rows are offered: at a leaf of a chart, for the signals that leave this rest, divided by the width.

@@ -8,7 +8,6 @@ mod compiled;
 mod crossing;
 mod leaves;
 mod lists;
-mod places;
 mod plans;
 mod push;
 mod rows;

@@ -6,9 +6,9 @@ ghost use Rattle.qp_compiled.specs.AsTask.{as_task};
 ghost use Rattle.qp_compiled.specs.Codes.{row_at, row_acts, acts_in, alone_task, within_task, task_at};
 
 use crate::code::{ActionList, Code};
-use crate::places::{rows_of, state_at};
 use crate::task::Task;
 use qp_chart::{Act, Chart, Row};
+use qp_state_tree::{rows_of, state_at};
 
 /// A row of a state by its place, from 1.
 #[tactic(auto, unfolding(crate::specs::Codes::row_at))]

@@ -9,9 +9,9 @@ ghost use Rattle.qp_compiled.specs.Building.{Adds, Places};
 
 use crate::agenda::{Agenda, Plan};
 use crate::code::{ActionList, Code};
-use crate::places::{entered, exited, init_of, main_state};
 use crate::push::{push_acts, push_entries, push_exits};
 use qp_chart::{Chart, Row};
+use qp_state_tree::{entered, exited, init_of, main_state};
 use std::alloc::{AllocError, Global};
 
 /// Adds the note of an initial transition from `s`, its actions, and the entries down to its target.

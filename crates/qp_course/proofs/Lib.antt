@@ -1,5 +1,5 @@
 -- Lemmas of the course.
-pub mod PlaceLemmas
+pub mod RowLemmas
 pub mod TaskLemmas
 pub mod GoesLemmas
 pub mod CourseLemmas

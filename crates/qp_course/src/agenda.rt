@@ -8,9 +8,10 @@ ghost use Rattle.qp_course.specs.Plans.{Adds};
 ghost use Rattle.qp_course.specs.AsTask.{as_tasks};
 
 use crate::handler::{Handler, handler_of};
-use crate::places::{entered, exited, init_acts, init_of, main_state};
+use crate::state_acts::init_acts;
 use crate::tasks::{Task, push_acts, push_entries, push_exits};
 use qp_chart::{Chart, Env};
+use qp_state_tree::{entered, exited, init_of, main_state};
 use std::alloc::{AllocError, Global};
 use std::marker::Model;
 

@@ -7,8 +7,8 @@ ghost use Rattle.qp_chart.specs.Expr.{names_in};
 ghost use Rattle.qp_chart.specs.Handler.{passes, first_row, rows_of, handler_at, handler};
 ghost use Rattle.qp_course.specs.AsHandler.{as_place};
 
-use crate::places::{parent_of, rows_of};
 use qp_chart::{Bound, Chart, Env, Row, eval};
+use qp_state_tree::{parent_of, rows_of};
 use std::marker::Model;
 
 /// A row of a state, with its place there, from 1.

@@ -4,7 +4,7 @@ ghost use Rattle.std.specs.Prelude.{◌≡◌, ◌++◌, map, IfOk};
 ghost use Rattle.qp_chart.specs.Task.{Do, tasks_of, act_tasks, exits, entries};
 ghost use Rattle.qp_course.specs.AsTask.{as_tasks};
 
-use crate::places::{entry_acts, exit_acts};
+use crate::state_acts::{entry_acts, exit_acts};
 use qp_chart::{Act, Chart, Plain};
 use std::alloc::AllocError;
 

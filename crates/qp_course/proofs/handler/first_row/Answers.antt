@@ -1,5 +1,5 @@
 use Rattle.qp_chart.specs.Expr.{names_in}
-use Rattle.qp_course.proofs.PlaceLemmas.{row-here, row-next, row-none}
+use Rattle.qp_course.proofs.RowLemmas.{row-here, row-next, row-none}
 use Rattle.qp_course.proofs.handler.first_row.Goals as goal
 
 pub returns-then-is_open : goal.returns-then-is_open

@@ -1,7 +1,7 @@
 use Rattle.std.proofs.Common.{length, ap, refl}
 use Rattle.qp_chart.specs.StateTree.{has, parent_of}
-use Rattle.qp_compiled.proofs.WalkLemmas.{all-left, one-less, top-left, none-left, has-first, has-later, at-end}
-use Rattle.qp_compiled.proofs.places.is_round.Goals as goal
+use Rattle.qp_state_tree.proofs.WalkLemmas.{all-left, one-less, top-left, none-left, has-first, has-later, at-end}
+use Rattle.qp_state_tree.proofs.places.is_round.Goals as goal
 
 pub loop-init : goal.loop-init
 loop-init c = ap (λ path. has path c.args.y) (all-left c.args.chart.now c.state-items.result.now c.args.x c.state-items.ensures)

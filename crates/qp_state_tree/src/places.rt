@@ -4,24 +4,33 @@ ghost use Rattle.std.specs.Prelude.{◌≡◌, IfOk};
 ghost use Rattle.std.specs.Option.{option_copied};
 ghost use Rattle.qp_chart.specs.StateTree.{has, state_at, parent_of, up, is_below};
 ghost use Rattle.qp_chart.specs.MainState.{nearest, main_state, exited, entered};
-ghost use Rattle.qp_chart.specs.Task.{acts_at};
 ghost use Rattle.qp_chart.specs.Handler.{rows_of};
 ghost use Rattle.qp_chart.specs.Drill.{init_of};
 
-use qp_chart::{Act, Chart, Row, State};
+use qp_chart::{Chart, Row, State};
 use std::alloc::{AllocError, Global};
 
 /// A state by its number, from 1.
 #[tactic(auto, unfolding(qp_chart::specs::StateTree::state_at))]
-pub(crate) fn state_at(chart: &Chart, s: u8) -> Option<&State>
+pub fn state_at(chart: &Chart, s: u8) -> Option<&State>
     ensures { option_copied result ≡ state_at chart.now s }
 {
     chart.state().get(usize::from(s).saturating_sub(1))
 }
 
-/// The state round another one.
+/// The rows of a state.
+pub fn rows_of(chart: &Chart, s: u8) -> &[Row]
+    ensures { result.now ≡ rows_of (state_at chart.now s) }
+{
+    match state_at(chart, s) {
+        Some(state) => state.row(),
+        None => &[],
+    }
+}
+
+/// The state right round a state.
 #[tactic(auto, unfolding(qp_chart::specs::StateTree::parent_of))]
-pub(crate) fn parent_of(chart: &Chart, s: u8) -> Option<u8>
+pub fn parent_of(chart: &Chart, s: u8) -> Option<u8>
     ensures { result ≡ parent_of chart.now s }
 {
     match state_at(chart, s) {
@@ -32,7 +41,7 @@ pub(crate) fn parent_of(chart: &Chart, s: u8) -> Option<u8>
 
 /// The target of a state's initial transition.
 #[tactic(auto, unfolding(qp_chart::specs::Drill::init_of))]
-pub(crate) fn init_of(chart: &Chart, s: u8) -> Option<u8>
+pub fn init_of(chart: &Chart, s: u8) -> Option<u8>
     ensures { result ≡ init_of chart.now s }
 {
     match state_at(chart, s) {
@@ -41,48 +50,8 @@ pub(crate) fn init_of(chart: &Chart, s: u8) -> Option<u8>
     }
 }
 
-/// The exit actions of a state.
-pub(crate) fn exit_acts(chart: &Chart, s: u8) -> &[Act]
-    ensures { result.now ≡ acts_at (λ x. x.exit) (state_at chart.now s) }
-{
-    match state_at(chart, s) {
-        Some(state) => state.exit(),
-        None => &[],
-    }
-}
-
-/// The entry actions of a state.
-pub(crate) fn entry_acts(chart: &Chart, s: u8) -> &[Act]
-    ensures { result.now ≡ acts_at (λ x. x.entry) (state_at chart.now s) }
-{
-    match state_at(chart, s) {
-        Some(state) => state.entry(),
-        None => &[],
-    }
-}
-
-/// The actions of a state's initial transition.
-pub(crate) fn init_acts(chart: &Chart, s: u8) -> &[Act]
-    ensures { result.now ≡ acts_at (λ x. x.init_do) (state_at chart.now s) }
-{
-    match state_at(chart, s) {
-        Some(state) => state.init_do(),
-        None => &[],
-    }
-}
-
-/// The rows of a state.
-pub(crate) fn rows_of(chart: &Chart, s: u8) -> &[Row]
-    ensures { result.now ≡ rows_of (state_at chart.now s) }
-{
-    match state_at(chart, s) {
-        Some(state) => state.row(),
-        None => &[],
-    }
-}
-
-/// The states from a state outwards.
-pub(crate) fn path_of(alloc: Global, chart: &Chart, s: u8) -> Result<Vec<u8>, AllocError>
+/// The states from `s` outwards.
+pub fn path_of(alloc: Global, chart: &Chart, s: u8) -> Result<Vec<u8>, AllocError>
     ensures { IfOk result (λ path. path.items ≡ up chart.now s) }
 {
     let mut path = Vec::new(alloc);
@@ -150,7 +119,7 @@ fn nearest(chart: &Chart, s: u8, t: u8) -> Option<u8>
 
 /// The main state of the transition from `s` to `t`, or `None` for the top.
 #[tactic(auto, unfolding(qp_chart::specs::MainState::main_state))]
-pub(crate) fn main_state(chart: &Chart, s: u8, t: u8) -> Option<u8>
+pub fn main_state(chart: &Chart, s: u8, t: u8) -> Option<u8>
     ensures { result ≡ main_state chart.now s t }
 {
     if s == t {
@@ -166,12 +135,7 @@ pub(crate) fn main_state(chart: &Chart, s: u8, t: u8) -> Option<u8>
 
 /// The states from `s` outwards that are below the main state.
 #[tactic(auto, unfolding(qp_chart::specs::MainState::exited))]
-pub(crate) fn exited(
-    alloc: Global,
-    chart: &Chart,
-    main: Option<u8>,
-    s: u8,
-) -> Result<Vec<u8>, AllocError>
+pub fn exited(alloc: Global, chart: &Chart, main: Option<u8>, s: u8) -> Result<Vec<u8>, AllocError>
     ensures { IfOk result (λ path. path.items ≡ exited chart.now main s) }
 {
     let path = path_of(alloc, chart, s)?;
@@ -183,12 +147,7 @@ pub(crate) fn exited(
 
 /// The same states from the outermost one.
 #[tactic(auto, unfolding(qp_chart::specs::MainState::entered))]
-pub(crate) fn entered(
-    alloc: Global,
-    chart: &Chart,
-    main: Option<u8>,
-    t: u8,
-) -> Result<Vec<u8>, AllocError>
+pub fn entered(alloc: Global, chart: &Chart, main: Option<u8>, t: u8) -> Result<Vec<u8>, AllocError>
     ensures { IfOk result (λ path. path.items ≡ entered chart.now main t) }
 {
     let mut path = exited(alloc, chart, main, t)?;

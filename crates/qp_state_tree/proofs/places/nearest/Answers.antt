@@ -2,8 +2,8 @@ use Rattle.std.proofs.Common.{length, ap, refl, sym, ◌∙◌}
 use Rattle.std.specs.List.{find}
 use Rattle.qp_chart.specs.StateTree.{has, parent_of, up}
 use Rattle.qp_chart.specs.MainState.{nearest}
-use Rattle.qp_compiled.proofs.WalkLemmas.{all-left, one-less, top-left, none-left, find-first, find-later, at-end}
-use Rattle.qp_compiled.proofs.places.nearest.Goals as goal
+use Rattle.qp_state_tree.proofs.WalkLemmas.{all-left, one-less, top-left, none-left, find-first, find-later, at-end}
+use Rattle.qp_state_tree.proofs.places.nearest.Goals as goal
 
 pub loop-init : goal.loop-init
 unfolding nearest

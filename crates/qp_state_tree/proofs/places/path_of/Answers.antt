@@ -1,6 +1,6 @@
 use Rattle.std.proofs.Common.{length}
-use Rattle.qp_compiled.proofs.WalkLemmas.{all-left, one-less, top-left, none-left, kept-more, kept-all}
-use Rattle.qp_compiled.proofs.places.path_of.Goals as goal
+use Rattle.qp_state_tree.proofs.WalkLemmas.{all-left, one-less, top-left, none-left, kept-more, kept-all}
+use Rattle.qp_state_tree.proofs.places.path_of.Goals as goal
 
 pub loop-init : goal.loop-init
 loop-init c = rw c.new-path.ensures.items (all-left c.args.chart.now c.state-items.result.now c.args.s c.state-items.ensures)

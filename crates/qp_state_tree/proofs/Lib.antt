@@ -1,0 +1,2 @@
+-- Lemmas of walks.
+pub mod WalkLemmas
