@@ -2,6 +2,7 @@
 use Rattle.std.proofs.Common.{◌≡◌, ℕ, zero, suc, ◌+◌, ◌-◌, ◌==◌, Bool, true, false, ◌&&◌, List, [], ◌∷◌, ◌++◌, length, map, refl, subst, Option, Some, None, cond}
 use Rattle.std.specs.Prelude.{slice_get}
 use Rattle.std.specs.List.{list_all}
+use Rattle.std.proofs.lemmas.Bool.{and_from, and_parts}
 use Rattle.qp_chart.specs.Expr.{Names}
 use Rattle.qp_chart.specs.declared.actions.Plain.{Plain}
 use Rattle.qp_chart.specs.declared.actions.Plain.TheVariants as action
@@ -17,29 +18,14 @@ use Rattle.qp_chart.specs.Task.{Task, Begin, Run, Unhandled, Exit, Enter, Init, 
 use Rattle.qp_chart.specs.Drill.{init_of, initial, drill_to, drill}
 use Rattle.qp_chart.specs.Agenda.{crossing, transition, moves, handled, ended, step_plan, start_plan}
 use Rattle.qp_model.specs.declared.systems.System.{System}
+use Rattle.qp_model.proofs.FitsLemmas.{all-append}
 use Rattle.qp_model.specs.Able.{is_able, task_able, act_able, state_able, chart_able}
-
--- both of a test
-and-left : (x y : Bool) → (x && y) ≡ true → x ≡ true
-and-left true y h = refl
-and-left false y h = h
-
-and-right : (x y : Bool) → (x && y) ≡ true → y ≡ true
-and-right true y h = h
-and-right false y h = absurd (cc)
-
-and-both : (x y : Bool) → x ≡ true → y ≡ true → (x && y) ≡ true
-and-both x y h k = rw (h, k) refl
-
-all-append : {X : Type 0} (f : X → Bool) (xs ys : List X) → list_all f xs ≡ true → list_all f ys ≡ true → list_all f (xs ++ ys) ≡ true
-all-append f [] ys h k = k
-all-append f (x ∷ xs) ys h k = and-both (f x) (list_all f (xs ++ ys)) (and-left (f x) (list_all f xs) h) (all-append f xs ys (and-right (f x) (list_all f xs) h) k)
 
 -- an element of a list that passes
 all-get : {X : Type 0} (f : X → Bool) (xs : List X) (k : ℕ) (x : X) → list_all f xs ≡ true → slice_get xs k ≡ Some x → f x ≡ true
 all-get f [] k x h is = absurd (cc)
-all-get f (y ∷ ys) zero x h is = let same : y ≡ x = cc in subst (λ z. f z ≡ true) same (and-left (f y) (list_all f ys) h)
-all-get f (y ∷ ys) (suc k) x h is = all-get f ys k x (and-right (f y) (list_all f ys) h) is
+all-get f (y ∷ ys) zero x h is = let same : y ≡ x = cc in subst (λ z. f z ≡ true) same (and_parts (f y) (list_all f ys) h).0
+all-get f (y ∷ ys) (suc k) x h is = all-get f ys k x (and_parts (f y) (list_all f ys) h).1 is
 
 some-same : {X : Type 0} {x y : X} → Some x ≡ Some y → x ≡ y
 some-same e = cc
@@ -82,28 +68,28 @@ module _ (sys : System) where
   pub tasks-more : (ts : List Task) → list_all (task_able sys false) ts ≡ true → list_all (task_able sys true) ts ≡ true
   tasks-more [] h = refl
   tasks-more (t ∷ ts) h =
-      and-both (task_able sys true t) (list_all (task_able sys true) ts) (task-more t (and-left (task_able sys false t) (list_all (task_able sys false) ts) h))
-      (tasks-more ts (and-right (task_able sys false t) (list_all (task_able sys false) ts) h))
+      and_from (task_able sys true t) (list_all (task_able sys true) ts) (task-more t (and_parts (task_able sys false t) (list_all (task_able sys false) ts) h).0)
+      (tasks-more ts (and_parts (task_able sys false t) (list_all (task_able sys false) ts) h).1)
 
   module _ (at_hand : Bool) where
     plains-able : (ps : List Plain) → list_all (is_able sys at_hand) ps ≡ true → list_all (task_able sys at_hand) (map Do ps) ≡ true
     unfolding task_able
     plains-able [] h = refl
     plains-able (p ∷ ps) h =
-        and-both (is_able sys at_hand p) (list_all (task_able sys at_hand) (map Do ps)) (and-left (is_able sys at_hand p) (list_all (is_able sys at_hand) ps) h)
-        (plains-able ps (and-right (is_able sys at_hand p) (list_all (is_able sys at_hand) ps) h))
+        and_from (is_able sys at_hand p) (list_all (task_able sys at_hand) (map Do ps)) (and_parts (is_able sys at_hand p) (list_all (is_able sys at_hand) ps) h).0
+        (plains-able ps (and_parts (is_able sys at_hand p) (list_all (is_able sys at_hand) ps) h).1)
 
     act-able : (x : Act) → act_able sys at_hand x ≡ true → list_all (task_able sys at_hand) (act_tasks x) ≡ true
     unfolding act_able act_tasks task_able
-    act-able (act.Plain p) h = and-both (is_able sys at_hand p) true h refl
+    act-able (act.Plain p) h = and_from (is_able sys at_hand p) true h refl
     act-able (act.Locked c ps) h = all-append (task_able sys at_hand) (map Do ps) (Restore ∷ []) (plains-able ps h) refl
 
     acts-able : (xs : List Act) → list_all (act_able sys at_hand) xs ≡ true → list_all (task_able sys at_hand) (tasks_of xs) ≡ true
     unfolding tasks_of
     acts-able [] h = refl
     acts-able (x ∷ xs) h =
-        all-append (task_able sys at_hand) (act_tasks x) (tasks_of xs) (act-able x (and-left (act_able sys at_hand x) (list_all (act_able sys at_hand) xs) h))
-        (acts-able xs (and-right (act_able sys at_hand x) (list_all (act_able sys at_hand) xs) h))
+        all-append (task_able sys at_hand) (act_tasks x) (tasks_of xs) (act-able x (and_parts (act_able sys at_hand x) (list_all (act_able sys at_hand) xs) h).0)
+        (acts-able xs (and_parts (act_able sys at_hand x) (list_all (act_able sys at_hand) xs) h).1)
 
   -- what a state that passes has
   record StateAble (s : State) : Type 0 where
@@ -115,10 +101,10 @@ module _ (sys : System) where
   state-able : (s : State) → state_able sys s ≡ true → StateAble s
   unfolding state_able
   state-able s h = record {
-    entry = and-left a b (and-left (a && b) c (and-left ((a && b) && c) d h));
-    exit = and-right a b (and-left (a && b) c (and-left ((a && b) && c) d h));
-    init_do = and-right (a && b) c (and-left ((a && b) && c) d h);
-    row = and-right ((a && b) && c) d h;
+    entry = (and_parts a b (and_parts (a && b) c (and_parts ((a && b) && c) d h).0).0).0;
+    exit = (and_parts a b (and_parts (a && b) c (and_parts ((a && b) && c) d h).0).0).1;
+    init_do = (and_parts (a && b) c (and_parts ((a && b) && c) d h).0).1;
+    row = (and_parts ((a && b) && c) d h).1
   }
     where
       a : Bool
@@ -136,11 +122,11 @@ module _ (sys : System) where
   module _ (chart : Chart) (able : chart_able sys chart ≡ true) where
     init_acts : list_all (act_able sys false) chart.init_do ≡ true
     unfolding chart_able
-    init_acts = and-left (list_all (act_able sys false) chart.init_do) (list_all (state_able sys) chart.state) able
+    init_acts = (and_parts (list_all (act_able sys false) chart.init_do) (list_all (state_able sys) chart.state) able).0
 
     states : list_all (state_able sys) chart.state ≡ true
     unfolding chart_able
-    states = and-right (list_all (act_able sys false) chart.init_do) (list_all (state_able sys) chart.state) able
+    states = (and_parts (list_all (act_able sys false) chart.init_do) (list_all (state_able sys) chart.state) able).1
 
     state-at : (s : ℕ) (x : State) → state_at chart s ≡ Some x → StateAble x
     unfolding state_at
@@ -198,14 +184,14 @@ module _ (sys : System) where
     unfolding first_row
     first_row-able names sig k [] found h is = absurd (cc)
     first_row-able names sig k (row ∷ rows) found h is =
-        by_test (first_row-able names sig (k + 1) rows found (and-right (list_all (act_able sys true) row.acts) (list_all (λ row. list_all (act_able sys true) row.acts) rows) h))
+        by_test (first_row-able names sig (k + 1) rows found (and_parts (list_all (act_able sys true) row.acts) (list_all (λ row. list_all (act_able sys true) row.acts) rows) h).1)
         ((row.on == sig) && passes names row.when) is
       where
         by_test : (first_row names sig (k + 1) rows ≡ Some found → list_all (act_able sys true) found.1.acts ≡ true)
             → (b : Bool) → cond b (Some (k, row)) (first_row names sig (k + 1) rows) ≡ Some found → list_all (act_able sys true) found.1.acts ≡ true
         by_test later true e =
             let same : (k, row) ≡ found = some-same e in
-            subst (λ x. list_all (act_able sys true) x.1.acts ≡ true) same (and-left (list_all (act_able sys true) row.acts) (list_all (λ row. list_all (act_able sys true) row.acts) rows) h)
+            subst (λ x. list_all (act_able sys true) x.1.acts ≡ true) same (and_parts (list_all (act_able sys true) row.acts) (list_all (λ row. list_all (act_able sys true) row.acts) rows) h).0
         by_test later false e = later e
 
     -- a handler's row passes

@@ -2,6 +2,8 @@
 use Rattle.std.proofs.Common.{◌≡◌, ℕ, zero, suc, Bool, true, false, ◌&&◌, ◌||◌, List, [], ◌∷◌, ◌++◌, refl, sym, ◌∙◌, ap, subst, inl, inr, Option, Some, None, append_assoc}
 use Rattle.std.specs.Bool.{MatchBool}
 use Rattle.std.specs.List.{list_all}
+use Rattle.std.proofs.lemmas.Bool.{and_from, and_parts}
+use Rattle.std.proofs.lemmas.List.Folds.{list_all-append}
 use Rattle.qp_model.specs.declared.systems.System.{System}
 use Rattle.qp_model.specs.declared.bodies.Entry.{Entry}
 use Rattle.qp_model.specs.declared.bodies.Body.{Body}
@@ -59,20 +61,8 @@ Calm g = list_all (λ t. is_calm t.body) g ≡ true
 abbrev pub Usual : List Told → Type 0
 Usual g = list_all (λ t. is_calm t.body || is_deferral t.body) g ≡ true
 
-and-left : (x y : Bool) → (x && y) ≡ true → x ≡ true
-and-left true y h = refl
-and-left false y h = h
-
-and-right : (x y : Bool) → (x && y) ≡ true → y ≡ true
-and-right true y h = h
-and-right false y h = absurd (cc)
-
-and-both : (x y : Bool) → x ≡ true → y ≡ true → (x && y) ≡ true
-and-both x y h k = rw (h, k) refl
-
 pub all-append : {X : Type 0} (f : X → Bool) (xs ys : List X) → list_all f xs ≡ true → list_all f ys ≡ true → list_all f (xs ++ ys) ≡ true
-all-append f [] ys h k = k
-all-append f (x ∷ xs) ys h k = and-both (f x) (list_all f (xs ++ ys)) (and-left (f x) (list_all f xs) h) (all-append f xs ys (and-right (f x) (list_all f xs) h) k)
+all-append f xs ys h k = list_all-append f xs ys ∙ and_from _ _ h k
 
 pub calm-append : (g h : List Told) → Calm g → Calm h → Calm (g ++ h)
 calm-append g h a b = all-append (λ t. is_calm t.body) g h a b
@@ -84,8 +74,8 @@ usual-append g h a b = all-append (λ t. is_calm t.body || is_deferral t.body) g
 pub usual : (g : List Told) → Calm g → Usual g
 usual [] h = refl
 usual (t ∷ g) h =
-    and-both (is_calm t.body || is_deferral t.body) (list_all (λ t. is_calm t.body || is_deferral t.body) g)
-    (rw (and-left (is_calm t.body) (list_all (λ t. is_calm t.body) g) h) refl) (usual g (and-right (is_calm t.body) (list_all (λ t. is_calm t.body) g) h))
+    and_from (is_calm t.body || is_deferral t.body) (list_all (λ t. is_calm t.body || is_deferral t.body) g)
+    (rw (and_parts (is_calm t.body) (list_all (λ t. is_calm t.body) g) h).0 refl) (usual g (and_parts (is_calm t.body) (list_all (λ t. is_calm t.body) g) h).1)
 
 calm-same : {g h : List Told} → g ≡ h → Calm h → Calm g
 calm-same {g} {h} e k = subst (λ us. Calm us) (sym e) k

@@ -4,6 +4,7 @@ use Rattle.std.specs.Prelude.{⊤}
 use Rattle.std.specs.declared.option.Option.{Option}
 use Rattle.std.specs.Option.{option_and_then}
 use Rattle.std.specs.List.{AllByRecursion, filter}
+use Rattle.std.proofs.lemmas.Bool.{and_parts}
 use Rattle.std.proofs.lemmas.Bool.Decides.{nat_tests}
 use Rattle.std.proofs.lemmas.List.{reverse-append}
 use Rattle.qp_model.specs.declared.systems.ObjectDef.{ObjectDef}
@@ -14,11 +15,6 @@ use Rattle.qp_model.specs.Record.{Item}
 use Rattle.qp_model.specs.KernelLane.{Role, Looks, Sees, Takes, Ends, Rests, Holds, Drops, RunsOut, Spills, Acts, role_of, under_way_after, ceiling_of, Setting, floor_in, above, Upcoming, Inside, Looking, Chosen, Ended, Resting, Again, Over, Halted, Reading, base_ended, found_none, looking_at, look_next, seen_next, own_next, inside_next, found_next, ended_next, rest_next, place_next, start_next, started_next, role_next, lane_next, lane_on, unread, lane_read}
 use Rattle.qp_model.specs.Kernels.{qk, qv}
 use Rattle.qp_model.specs.KernelLaws.{under_way, ceiling_on, floor_after, SeesNone, EndsInLook, StepsBeginAbove, StepsStandAlone, SeesEach, RestsWhereAllAreEmpty}
-
-both : (a b : Bool) → (a && b) ≡ true → (a ≡ true) × (b ≡ true)
-both true true h = (refl, refl)
-both true false h = let wrong : (true ≡ true) × (false ≡ true) = (refl, cc) in wrong
-both false b h = let wrong : (false ≡ true) × (b ≡ true) = absurd (cc) in wrong
 
 granted : {A : Type 0} (b : Bool) (x y : A) → cond b (Some x) None ≡ Some y → (b ≡ true) × (x ≡ y)
 granted true x y h = (refl, cc)
@@ -187,8 +183,8 @@ module _ (s : Setting) (before : List Item) (i : Item) where
   unfolding look_next
   look_reads k next (Looks n floor) is h none e =
       let ok = granted _ _ next e in
-      let t1 = both ((i.of == 0) && (n == k.looks + 1)) (floor == floor_in s.sys s.kernel k.running k.ceiling) ok.0 in
-      let zero = (both (i.of == 0) (n == k.looks + 1) t1.0).0 in
+      let t1 = and_parts ((i.of == 0) && (n == k.looks + 1)) (floor == floor_in s.sys s.kernel k.running k.ceiling) ok.0 in
+      let zero = (and_parts (i.of == 0) (n == k.looks + 1) t1.0).0 in
       let level : floor ≡ floor_in s.sys s.kernel k.running k.ceiling = grind (arith, nat_tests, t1.1) in
       let kept = stays k next (Looks n floor) is h refl refl in
       let look : i ≡ record { of = 0; body = body.Look n floor } = item-is i (body.Look n floor) zero (Looks-is i.body n floor is) in
@@ -212,7 +208,7 @@ module _ (s : Setting) (before : List Item) (i : Item) where
   unfolding EndsInLook
   seen_reads k next p others (Sees q f l m) is h none there e =
       let ok = granted _ _ next e in
-      let t1 = both (i.of == 0) (q == p) ok.0 in
+      let t1 = and_parts (i.of == 0) (q == p) ok.0 in
       let same : q ≡ p = grind (arith, nat_tests, t1.1) in
       let kept = stays k next (Sees q f l m) is h refl refl in
       let seen : i ≡ record { of = 0; body = body.Seen p f l m } = item-is i (body.Seen p f l m) t1.0 (Sees-is i.body q f l m is ∙ ap (λ x. body.Seen x f l m) same) in

@@ -44,5 +44,5 @@ pub mod HomeLemmas
 pub mod NumberLemmas
 pub mod RefusalLemmas
 pub mod CrossingLemmas
-mod KindLemmas
+pub mod KindLemmas
 pub mod RecordLemmas

@@ -2,11 +2,10 @@
 use Rattle.std.proofs.Common.{◌≡◌, Bool, true, false, List, [], ◌∷◌, map, refl}
 use Rattle.std.specs.List.{list_all}
 use Rattle.qp_model.specs.declared.record.Rec.{Rec}
-use Rattle.qp_model.specs.KindSorts.{is_malformed}
+use Rattle.qp_model.specs.KindSorts.{is_malformed, kind_in}
 use Rattle.qp_model.specs.Record.{Item, body_of, item_of}
 use Rattle.qp_model.specs.History.{lane_items}
 use Rattle.qp_model.proofs.ListLemmas.{both_true}
-use Rattle.qp_kinds.specs.Kinds.{kind_in}
 use Rattle.qp_kinds.proofs.KindLemmas.{kinds_tell}
 use Rattle.qp_only.proofs.NumberLemmas.{nums_in, same, has-nums}
 

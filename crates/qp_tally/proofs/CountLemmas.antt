@@ -9,8 +9,7 @@ use Rattle.std.proofs.lemmas.List.Sums.{sum_by-cons}
 use Rattle.qp_lanes.proofs.ItemLemmas.{count_by-append}
 use Rattle.qp_model.specs.declared.bodies.Body.{Body}
 use Rattle.qp_model.specs.declared.bodies.Body.TheVariants as body
-use Rattle.qp_kinds.specs.Kinds.{kind_in}
-use Rattle.qp_model.specs.KindSorts.{is_malformed}
+use Rattle.qp_model.specs.KindSorts.{is_malformed, kind_in}
 use Rattle.qp_model.specs.OutputSummary.{is_back_of, is_done, is_new_of, is_took}
 use Rattle.qp_model.specs.Record.{Item}
 use Rattle.qp_tally.specs.Counting.{AreBlocks, AreCounts, AreNone, AreTurns, back_of, counted, done_of, given_by, giver, most, taker, took_of}
