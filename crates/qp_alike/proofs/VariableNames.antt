@@ -9,6 +9,7 @@ use Rattle.std.specs.Cmp.Lexicographic.{slice_cmp}
 use Rattle.std.specs.Ordering.{match_ordering}
 use Rattle.std.proofs.lemmas.Cmp.{nat_list_cmp_total}
 use Rattle.toml.specs.Data.{Data, array, table, Items, no_items, item, Members, no_members, member, get_member, as_integer, as_table, is_before, is_sorted, items_are_sorted, members_are_sorted}
+use Rattle.std.proofs.lemmas.Bool.{and_parts}
 use Rattle.qp_names.specs.declared.place.Part.{Part}
 use Rattle.qp_names.specs.declared.place.Part.TheVariants.{Key, Pos}
 use Rattle.qp_names.specs.Keys.{QP, POOL, SIGNAL, CHART, OBJECT, NAME, INIT, INIT_DO, VARS, TIMER, STATE}
@@ -77,10 +78,6 @@ ascending-apart (k ∷ ls) up (suc v) (suc w) p q e = ap suc (ascending-apart ls
 abbrev Sorted : Members → Type 0
 Sorted ms = members_are_sorted ms ≡ true
 
-both-parts : (x y : Bool) → (x && y) ≡ true → (x ≡ true) × (y ≡ true)
-both-parts true y h = (refl, h)
-both-parts false y h = cc
-
 abbrev keys_in : Members → List Word
 keys_in no_members = []
 keys_in (member k d ms) = k ∷ keys_in ms
@@ -92,15 +89,15 @@ before-keys k (member l d ms) = refl
 keys-ascend : (ms : Members) → Sorted ms → Ascending (keys_in ms)
 keys-ascend no_members h = tt
 keys-ascend (member k d ms) h =
-    let two = both-parts (is_before k ms && is_sorted d) (members_are_sorted ms) h in
-    let one = both-parts (is_before k ms) (is_sorted d) two.0 in
+    let two = and_parts (is_before k ms && is_sorted d) (members_are_sorted ms) h in
+    let one = and_parts (is_before k ms) (is_sorted d) two.0 in
     (sym (before-keys k ms) ∙ one.0, keys-ascend ms two.1)
 
 member-sorted : (k : Word) (ms : Members) (d : Data) → Sorted ms → get_member k ms ≡ Some d → is_sorted d ≡ true
 member-sorted k no_members d h e = cc
 member-sorted k (member l x ms) d h e =
-    let two = both-parts (is_before l ms && is_sorted x) (members_are_sorted ms) h in
-    by (slice_cmp nat_cmp k l) e (both-parts (is_before l ms) (is_sorted x) two.0).1 (member-sorted k ms d two.1)
+    let two = and_parts (is_before l ms && is_sorted x) (members_are_sorted ms) h in
+    by (slice_cmp nat_cmp k l) e (and_parts (is_before l ms) (is_sorted x) two.0).1 (member-sorted k ms d two.1)
   where
     by : (o : _) → match_ordering o (get_member k ms) (Some x) (get_member k ms) ≡ Some d → is_sorted x ≡ true → (get_member k ms ≡ Some d → is_sorted d ≡ true) → is_sorted d ≡ true
     by Less f good more = more f
@@ -131,7 +128,7 @@ all_tables-sorted : (ds : Items) (ts : List Members) → items_are_sorted ds ≡
 unfolding all_of_kind
 all_tables-sorted no_items ts h e = let is : [] ≡ ts = cc in subst (AllByRecursion Sorted) is tt
 all_tables-sorted (item d ds) ts h e =
-    let two = both-parts (is_sorted d) (items_are_sorted ds) h in
+    let two = and_parts (is_sorted d) (items_are_sorted ds) h in
     by d (all_of_kind as_table ds) two.0 e (λ more. all_tables-sorted ds more two.1)
   where
     by : (d : Data) (more : Option (List Members)) → is_sorted d ≡ true → with_first (as_table d) more ≡ Some ts → ((xs : List Members) → more ≡ Some xs → AllByRecursion Sorted xs) → AllByRecursion Sorted ts

@@ -6,6 +6,7 @@ use native.Mathlib.Decide.{ℕ_discrete}
 use lib.ListN.{get_elem?}
 use lib.Seq.{set-get_or}
 use Rattle.atomic_table.proofs.Lists.{set_again}
+use Rattle.std.proofs.lemmas.Bool.{and_parts}
 use Rattle.qp_chart.specs.StateTree.{has}
 use Rattle.qp_model.specs.declared.systems.System.{System}
 use Rattle.qp_model.specs.FreeBlocks.{Pool}
@@ -20,7 +21,7 @@ use Rattle.qp_words.specs.declared.View.{View}
 use Rattle.qp_words.proofs.Counting.{each-snoc, total-set, total-at, total-le, alone-total, many-snoc, many-without, total-append, cond-le}
 use Rattle.qp_words.proofs.Growing.{two-here, two-else, two-each}
 use Rattle.qp_words.proofs.Views.{total-two, quiet-same, fits-set, seen-kept}
-use Rattle.qp_words.proofs.Tokens.{b2n, both-true, pair-else, spot-self, each-two, standing, held-stands, fresh-alone, tokens-set, begun-kept, worn-kept}
+use Rattle.qp_words.proofs.Tokens.{b2n, pair-else, spot-self, each-two, standing, held-stands, fresh-alone, tokens-set, begun-kept, worn-kept}
 use Rattle.qp_words.proofs.Kept.{shows-else, queues-kept}
 use Rattle.qp_words.proofs.Step.{plain-step}
 
@@ -149,7 +150,7 @@ module _ (sys : System) (words after : List ℕ) (views : List View) (now : Now)
       }
 
 both-fill : (p b j n : ℕ) (x : Fill) → is_value p b j n x ≡ true → x ≡ record { pool = p; block = b; place = j; value = n }
-both-fill p b j n x e = let t = both-true ((eqb x.pool p && eqb x.block b) && eqb x.place j) (eqb x.value n) e in let s = both-true (eqb x.pool p && eqb x.block b) (eqb x.place j) t.0 in let r = both-true (eqb x.pool p) (eqb x.block b) s.0 in
+both-fill p b j n x e = let t = and_parts ((eqb x.pool p && eqb x.block b) && eqb x.place j) (eqb x.value n) e in let s = and_parts (eqb x.pool p && eqb x.block b) (eqb x.place j) t.0 in let r = and_parts (eqb x.pool p) (eqb x.block b) s.0 in
     λ i. record { pool = eqb-true x.pool p r.0 i; block = eqb-true x.block b r.1 i; place = eqb-true x.place j s.1 i; value = eqb-true x.value n t.1 i }
 
 without-cons : (p q : Fill → Bool) (t : Bool) (x : Fill) (xs : List Fill) → many q (without p xs) ≤ many q xs → many q (cond t xs (x ∷ without p xs)) ≤ b2n (q x) + many q xs

@@ -1,5 +1,6 @@
 -- Each kind of step on a block or a pool keeps the rule, from any state that meets it.
 use Rattle.std.proofs.Common.{◌≡◌, ℕ, suc, ◌+◌, ◌-◌, ◌*◌, ◌/◌, ◌^◌, ◌<◌, ◌≤◌, nat_lt, List, [], ◌∷◌, ◌++◌, Bool, true, false, cond, length, set, get_or, refl, sym, ap, subst, ◌∙◌, arith, eqb, true≢false, IsTrue, get_or-set_other, take_all}
+use Rattle.std.proofs.lemmas.Bool.{and_parts}
 use Rattle.std.proofs.lemmas.Bool.Decides.{nat_tests}
 use mathlib.Core.Option.{some}
 use lib.ListN.{get_elem?}
@@ -30,7 +31,7 @@ use Rattle.qp_words.proofs.Growing.{inc-leaves, dec-leaves, block-count}
 use Rattle.qp_words.proofs.Records.{alive-begun, alive-standing, new-leaves, back-leaves}
 use Rattle.qp_words.proofs.Bounds.{pool-ascends, pool-count, refs-count, bits-on, bits-off, map-small}
 use Rattle.qp_blocks.proofs.Contents.{gave-events, two-same}
-use Rattle.qp_words.proofs.Tokens.{b2n, spot-same, spot-self, spot-else, at-some, each-two, fresh-alone, used-alone, standing, held-stands, dec-length, many-has, both-true}
+use Rattle.qp_words.proofs.Tokens.{b2n, spot-same, spot-self, spot-else, at-some, each-two, fresh-alone, used-alone, standing, held-stands, dec-length, many-has}
 use Rattle.qp_words.proofs.Counting.{total-at, many-without}
 use Rattle.qp_words.proofs.Kept.{events-kept, events-same, shows-block, shows-pool, queues-kept}
 use Rattle.qp_words.proofs.Views.{Quiet, quiet-noted}
@@ -58,7 +59,7 @@ back-says o p k b to = refl
 
 pub pool-of : (sys : System) (p b : ℕ) → is_block sys p b ≡ true → (is_pool sys p ≡ true) × (b < blocks_of sys p)
 unfolding is_block
-pool-of sys p b h = let t = both-true (is_pool sys p) (nat_lt b (blocks_of sys p)) h in let z : nat_lt b (blocks_of sys p) ≡ true = t.1 in let lt : b < blocks_of sys p = grind (arith, nat_tests) in (t.0, lt)
+pool-of sys p b h = let t = and_parts (is_pool sys p) (nat_lt b (blocks_of sys p)) h in let z : nat_lt b (blocks_of sys p) ≡ true = t.1 in let lt : b < blocks_of sys p = grind (arith, nat_tests) in (t.0, lt)
 
 none-empty : (xs : List ℕ) → lives xs ≡ 0 → is_empty xs ≡ true
 none-empty [] e = refl

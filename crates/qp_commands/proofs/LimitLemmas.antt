@@ -2,9 +2,9 @@
 use Rattle.std.proofs.Common.{◌≡◌, ℕ, Bool, true, false, ◌&&◌, cond, nat_le, codes, List, [], ◌∷◌, Option, Some, None, option_and_then, option_map, refl, sym, ◌<◌, ◌≤◌, arith}
 use Rattle.std.specs.Prelude.{IfSome}
 use Rattle.std.specs.Str.{bytes_eq}
+use Rattle.std.proofs.lemmas.Bool.{and_from, and_parts}
 use Rattle.std.proofs.lemmas.Bool.Decides.{nat_tests}
 use Rattle.clap.specs.Words.{Row, Text, first_of}
-use Rattle.qp_model.proofs.ListLemmas.{both_true, true_both}
 use Rattle.qp_text.specs.Numbers.{number_of}
 use Rattle.qp_commands.specs.declared.values.Kernel.{Kernel}
 use Rattle.qp_commands.specs.declared.values.Output.{Output}
@@ -53,7 +53,7 @@ some-run k (Some b) None f s t is fits = tt
 some-run k (Some b) (Some o) None s t is fits = tt
 some-run k (Some b) (Some o) (Some f) None t is fits = tt
 some-run k (Some b) (Some o) (Some f) (Some s) None is fits = tt
-some-run k (Some b) (Some o) (Some f) (Some s) (Some t) is fits = true_both _ _ is fits
+some-run k (Some b) (Some o) (Some f) (Some s) (Some t) is fits = and_from _ _ is fits
 
 fit-is : (k : Kernel) (f : Form) → IfSome (form_fit k f) (λ f. is_form_of k f ≡ true)
 fit-is k f = by (is_form_of k f) refl
@@ -138,7 +138,7 @@ asked-limits words asked is = let has = command-has words in rw (sym is) at has
 
 -- both bounds of a number
 pub limit-some : (most n : ℕ) → (nat_le 1 n && nat_le n most) ≡ true → 0 < n
-limit-some most n is = let least = (both_true (nat_le 1 n) (nat_le n most) is).0 in grind (arith, nat_tests, least)
+limit-some most n is = let least = (and_parts (nat_le 1 n) (nat_le n most) is).0 in grind (arith, nat_tests, least)
 
 pub limit-few : (most n : ℕ) → (nat_le 1 n && nat_le n most) ≡ true → n ≤ most
-limit-few most n is = let few = (both_true (nat_le 1 n) (nat_le n most) is).1 in grind (arith, nat_tests, few)
+limit-few most n is = let few = (and_parts (nat_le 1 n) (nat_le n most) is).1 in grind (arith, nat_tests, few)

@@ -3,6 +3,7 @@ use Rattle.std.proofs.Common.{◌≡◌, ℕ, zero, suc, ◌+◌, ◌<◌, ◌�
 use Rattle.std.specs.Bool.{MatchBool}
 use Rattle.std.specs.declared.result.Result.{Result}
 use Rattle.std.proofs.lemmas.Option.{slice_get-get_or, slice_get_read}
+use Rattle.std.proofs.lemmas.Bool.{and_parts}
 use Rattle.std.proofs.lemmas.List.{set_comm}
 use Rattle.std.proofs.lemmas.List.Quantifiers.{position-Some}
 use Rattle.std.specs.List.{list_any, list_all, filter, position}
@@ -10,7 +11,6 @@ use Rattle.std.specs.Option.{option_map_or}
 use Rattle.qp_model.specs.declared.systems.System.{System}
 use Rattle.qp_base.specs.declared.faults.Memory.{Memory}
 use Rattle.qp_words.specs.declared.Serve.{Serve}
-use Rattle.qp_words.proofs.Tokens.{both-true}
 use Rattle.qp_core.specs.Words.{Steps}
 use Rattle.qp_core.specs.Keeps.{HasOwn, StepKeeps}
 use Rattle.qp_core.specs.Standing.{has_number, TableHolds}
@@ -157,8 +157,8 @@ module _ (s : CoreState) (n at : ℕ) (place : position (stands_as n) s.seats �
 
       pub split-kept : HoldsOf s → HoldsOf s'
       split-kept t = steps-then (may_split s.seats x into among) (seats' ≡ set s.seats at (giving_up among x) ++ split_off s.lanes into among x ∷ []) (seats' ≡ s.seats) (HoldsOf s')
-          (λ may e. let a = both-true (not (list_any (has_number into) s.seats) && serves_set 32 among x.serves) (list_all (may_pass x.takes among) x.serves) may in
-          let b = both-true (not (list_any (has_number into) s.seats)) (serves_set 32 among x.serves) a.0 in
+          (λ may e. let a = and_parts (not (list_any (has_number into) s.seats) && serves_set 32 among x.serves) (list_all (may_pass x.takes among) x.serves) may in
+          let b = and_parts (not (list_any (has_number into) s.seats)) (serves_set 32 among x.serves) a.0 in
           subst (TableHolds s.sys.now s.lanes s.words) (sym e) (split-holds s.sys.now s.lanes s.words s.seats t at x here into among (off (list_any (has_number into) s.seats) b.0) a.1))
           (λ e. subst (TableHolds s.sys.now s.lanes s.words) (sym e) t) r h
         where
@@ -177,7 +177,7 @@ module _ (s : CoreState) (n at : ℕ) (place : position (stands_as n) s.seats �
 
       pub join-kept : HoldsOf s → HoldsOf s'
       join-kept t = steps-then (may_join s.seats x from) (Joins s.seats at x from seats') (seats' ≡ s.seats) (HoldsOf s')
-          (λ may e. let a = both-true (not (x.number == from)) (is_some (position (stands_as from) s.seats)) may in
+          (λ may e. let a = and_parts (not (x.number == from)) (is_some (position (stands_as from) s.seats)) may in
           let f = found from s.seats e.0 e.1 e.2 e.3 in
           subst (TableHolds s.sys.now s.lanes s.words) (sym e.4)
           (join-holds s.sys.now s.lanes s.words s.seats t at x here e.0 e.1 e.3 (λ same. away (x.number == from) a.0 (number-of e.0 e.1 e.3 f.1 same)) from f.1))

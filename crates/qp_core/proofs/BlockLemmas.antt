@@ -1,5 +1,6 @@
 -- Each step on a pool or a block keeps the rule where it is allowed.
 use Rattle.std.proofs.Common.{◌≡◌, ℕ, zero, suc, ◌+◌, ◌-◌, ◌*◌, ◌/◌, ◌%◌, ◌^◌, ◌<◌, ◌≤◌, ◌==◌, nat_lt, nat_le, List, [], ◌∷◌, ◌++◌, Bool, true, false, not, cond, ◌&&◌, ◌||◌, length, set, get_or, refl, sym, ap, subst, ◌∙◌, arith, eqb, eq-eqb, ne_eqb, eqb-true, mod-eq_of_lt, pow-suc, pow_mono, append-nil}
+use Rattle.std.proofs.lemmas.Bool.{and_parts}
 use Rattle.std.proofs.lemmas.Bool.Decides.{nat_tests}
 use Rattle.std.specs.List.{list_any}
 use mathlib.Core.Option.{some}
@@ -20,7 +21,7 @@ use Rattle.qp_words.specs.declared.Spot.{Spot}
 use Rattle.qp_words.specs.declared.Give.{Give}
 use Rattle.qp_words.specs.declared.Fill.{Fill}
 use Rattle.qp_words.specs.declared.View.{View}
-use Rattle.qp_words.proofs.Tokens.{both-true, fresh-alone}
+use Rattle.qp_words.proofs.Tokens.{fresh-alone}
 use Rattle.qp_words.proofs.Bounds.{Ascends, pool-ascends, pool-count, map-small, bits-off}
 use Rattle.qp_blocks.proofs.Steps.{pool-of, begins, doubles, drops, gives, puts_back, block-below, x-count, y-is}
 use Rattle.qp_blocks.proofs.Contents.{fills_in}
@@ -33,10 +34,10 @@ use Rattle.qp_core.proofs.Standing.{has-room}
 
 -- the parts of a test
 pub adds : (lanes : ℕ) (x : Seat) (t : Bool) → (may_add lanes x && t) ≡ true → ((nat_lt x.number lanes ≡ true) × (nat_lt (total (λ g. length g.recs) x.logs) 1000001 ≡ true)) × (t ≡ true)
-adds lanes x t h = let a = both-true (may_add lanes x) t h in let b = both-true (nat_lt x.number lanes) (nat_lt (total (λ g. length g.recs) x.logs) 1000001) a.0 in ((b.0, b.1), a.1)
+adds lanes x t h = let a = and_parts (may_add lanes x) t h in let b = and_parts (nat_lt x.number lanes) (nat_lt (total (λ g. length g.recs) x.logs) 1000001) a.0 in ((b.0, b.1), a.1)
 
 pub adds-two : (lanes : ℕ) (x : Seat) (t u : Bool) → ((may_add lanes x && t) && u) ≡ true → ((nat_lt x.number lanes ≡ true) × (nat_lt (total (λ g. length g.recs) x.logs) 1000001 ≡ true)) × (t ≡ true) × (u ≡ true)
-adds-two lanes x t u h = let a = both-true (may_add lanes x && t) u h in let b = adds lanes x t a.0 in (b.0, b.1, a.1)
+adds-two lanes x t u h = let a = and_parts (may_add lanes x && t) u h in let b = adds lanes x t a.0 in (b.0, b.1, a.1)
 
 bit-is : (b : ℕ) → b < 32 → bit_of b ≡ 2 ^ b
 bit-is b l = let t : nat_lt b 64 ≡ true = grind (arith, nat_tests) in rw t refl
@@ -107,8 +108,8 @@ new-from o p n b from k sig pars e = λ i. new_item o p n b (e i) sig pars
 -- a finished give has no word left to be written
 done-left : (fills : List Fill) (p b : ℕ) (g : Give) → is_done fills p b g ≡ true → many (fills_of p b) fills ≡ 0
 done-left fills p b g e =
-    let a = both-true (gives_of p b g) (not (is_unfinished fills g)) e in
-    let c = both-true (eqb g.pool p) (eqb g.block b) a.0 in
+    let a = and_parts (gives_of p b g) (not (is_unfinished fills g)) e in
+    let c = and_parts (eqb g.pool p) (eqb g.block b) a.0 in
     let n : has_left fills g ≡ false = unfinished g.read (has_left fills g) a.1 in
     subst (λ (z : ℕ × ℕ). many (fills_of z.0 z.1) fills ≡ 0) (λ i. (eqb-true g.pool p c.0 i, eqb-true g.block b c.1 i)) (none-many (fills_of g.pool g.block) fills n)
   where
@@ -196,7 +197,7 @@ module _ (sys : System) (lanes : ℕ) (words : List ℕ) (x : Seat) (own : nat_l
       )) in
       let first : list_any (is_ref_to p b) x.hands ≡ false → (s' : List Glance) × Holds sys words' (set views id (seen_view x' s')) = (λ here.
       let ready : has_ready x p b ≡ true = (λ i. sym here i || has_ready x p b) ∙ t.2 in
-      let r = both-true (list_any (is_spot p b) x.fresh) (list_any (is_done x.fills p b) x.gives) ready in
+      let r = and_parts (list_any (is_spot p b) x.fresh) (list_any (is_done x.fills p b) x.gives) ready in
       let u : View = began v (block_at p b) (w + 4294967297) made.0 p b (number_in w) in (
         u.seen,
         along s u.seen views id (set words (block_at p b) (w + 4294967297)) u ws (λ i. seen_view (sym (made.3 ∙ with-first x made.0 p b (number_in w) here) i) u.seen)
@@ -214,10 +215,10 @@ module _ (sys : System) (lanes : ℕ) (words : List ℕ) (x : Seat) (own : nat_l
           → (list_any (asks_for x.fills p b j n) gs ≡ true → (event : List ℕ) × (event ≡ holds.now.content p b) × (j < length event) × (n ≡ get_or event j 0) × (0 < many (gives_of p b) gs)) → (c || list_any (asks_for x.fills p b j n) gs) ≡ true
           → (event : List ℕ) × (event ≡ holds.now.content p b) × (j < length event) × (n ≡ get_or event j 0) × (0 < many (gives_of p b) (g ∷ gs))
       go true here rest h =
-          let a = both-true (((gives_of p b g && is_unfinished x.fills g) && nat_lt j (length g.event))) (get_or g.event j 0 == n) here in
-          let c = both-true (gives_of p b g && is_unfinished x.fills g) (nat_lt j (length g.event)) a.0 in
-          let d = both-true (gives_of p b g) (is_unfinished x.fills g) c.0 in
-          let f = both-true (eqb g.pool p) (eqb g.block b) d.0 in
+          let a = and_parts (((gives_of p b g && is_unfinished x.fills g) && nat_lt j (length g.event))) (get_or g.event j 0 == n) here in
+          let c = and_parts (gives_of p b g && is_unfinished x.fills g) (nat_lt j (length g.event)) a.0 in
+          let d = and_parts (gives_of p b g) (is_unfinished x.fills g) c.0 in
+          let f = and_parts (eqb g.pool p) (eqb g.block b) d.0 in
           let inside : nat_lt j (length g.event) ≡ true = c.1 in let lt : j < length g.event = grind (arith, nat_tests) in
           let one : cond {A = ℕ} (gives_of p b g) 1 0 ≡ 1 = (λ i. cond {A = ℕ} (d.0 i) 1 0) in (
             g.event,
@@ -230,7 +231,7 @@ module _ (sys : System) (lanes : ℕ) (words : List ℕ) (x : Seat) (own : nat_l
 
   pub fill-keeps : (p b j n : ℕ) → may_fill lanes x p b j n ≡ true → Fills words x p b j n words' x' → StepKeeps sys words x words' x'
   fill-keeps p b j n may made s views id holds at_id =
-      let v : View = seen_view x s in let t = both-true (may_act lanes x) (list_any (asks_for x.fills p b j n) x.gives) may in
+      let v : View = seen_view x s in let t = and_parts (may_act lanes x) (list_any (asks_for x.fills p b j n) x.gives) may in
       let beside = holds.events.beside id v at_id in
       let a = asking s views id holds at_id p b j n x.gives beside.told t.1 in
       let mine : 0 < many (is_spot p b) x.fresh = (let g = beside.gives p b in let a4 = a.4 in omega arith) in
@@ -246,9 +247,9 @@ module _ (sys : System) (lanes : ℕ) (words : List ℕ) (x : Seat) (own : nat_l
       let v : View = seen_view x s in
       let w : ℕ = get_or words (pool_at p) 0 in
       let free_left : Bool = not (low_in w == 0) in
-      let a = both-true (((may_add lanes x && is_pool sys p) && fits sys p sig pars) && not (list_any (is_unfinished x.fills) x.gives)) free_left may in
-      let c = both-true ((may_add lanes x && is_pool sys p) && fits sys p sig pars) (not (list_any (is_unfinished x.fills) x.gives)) a.0 in
-      let d = both-true (may_add lanes x && is_pool sys p) (fits sys p sig pars) c.0 in
+      let a = and_parts (((may_add lanes x && is_pool sys p) && fits sys p sig pars) && not (list_any (is_unfinished x.fills) x.gives)) free_left may in
+      let c = and_parts ((may_add lanes x && is_pool sys p) && fits sys p sig pars) (not (list_any (is_unfinished x.fills) x.gives)) a.0 in
+      let d = and_parts (may_add lanes x && is_pool sys p) (fits sys p sig pars) c.0 in
       let t = adds lanes x (is_pool sys p) d.0 in
       let room = has-room lanes x s own t.0 in
       let fitting = fits-parts d.1 in
@@ -279,9 +280,9 @@ module _ (sys : System) (lanes : ℕ) (words : List ℕ) (x : Seat) (own : nat_l
 
       fits-parts : fits sys p sig pars ≡ true → IsContent sys sig pars
       fits-parts e =
-          let a = both-true (((nat_le 4 sig && nat_lt sig (length sys.signals + 4)) && (length pars == params_of sys sig))) (nat_le (length pars) (size_of sys p)) e in
-          let c = both-true (nat_le 4 sig && nat_lt sig (length sys.signals + 4)) (length pars == params_of sys sig) a.0 in
-          let d = both-true (nat_le 4 sig) (nat_lt sig (length sys.signals + 4)) c.0 in
+          let a = and_parts (((nat_le 4 sig && nat_lt sig (length sys.signals + 4)) && (length pars == params_of sys sig))) (nat_le (length pars) (size_of sys p)) e in
+          let c = and_parts (nat_le 4 sig && nat_lt sig (length sys.signals + 4)) (length pars == params_of sys sig) a.0 in
+          let d = and_parts (nat_le 4 sig) (nat_lt sig (length sys.signals + 4)) c.0 in
           let d0 = d.0 in let d1 = d.1 in
           record { from = grind (arith, nat_tests); within = grind (arith, nat_tests); params = eqb-true (length pars) (params_of sys sig) c.1 }
 

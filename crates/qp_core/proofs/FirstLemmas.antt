@@ -1,6 +1,7 @@
 -- The table where nothing has happened meets the rule.
 use Rattle.std.proofs.Common.{◌≡◌, ℕ, zero, suc, ◌+◌, ◌-◌, ◌*◌, ◌/◌, ◌%◌, ◌^◌, ◌<◌, ◌≤◌, ◌==◌, nat_lt, nat_le, List, [], ◌∷◌, ◌++◌, Bool, true, false, cond, length, get_or, slice_get, refl, sym, ap, subst, ◌∙◌, arith, eqb, eq-eqb, eqb-true, pow-suc, append_assoc, append-nil, Option, Some, None, Ok, Err, OnOk, is_some}
 use Rattle.std.specs.declared.result.Result.{Result}
+use Rattle.std.proofs.lemmas.Bool.{and_parts}
 use Rattle.qp_base.specs.declared.faults.Memory.{Memory}
 use mathlib.Core.Logic.{dite}
 use native.Mathlib.Decide.{ℕ_discrete}
@@ -21,7 +22,6 @@ use Rattle.qp_words.specs.Counting.{Each, many}
 use Rattle.qp_words.specs.Rule.{block_at, queue_at, cell_at, params_of, Fitting, bits_value, Shows, is_number, is_serve, Holds}
 use Rattle.qp_words.specs.After.{nothing, newcomer}
 use Rattle.qp_words.specs.declared.Serve.{Serve}
-use Rattle.qp_words.proofs.Tokens.{both-true}
 use Rattle.qp_table.specs.Whole.{first_now, later_lanes}
 use Rattle.qp_table.proofs.Ends.{opens}
 use Rattle.qp_table.proofs.Lanes.{adds-nothing, keeps, swaps}
@@ -55,7 +55,7 @@ module _ (sys : System) (sound : IsSound sys) where
 
   few-signals : (sig : ℕ) → is_static sys sig ≡ true → sig < 65536
   unfolding is_static
-  few-signals sig h = go (slice_get sys.signals (sig - 4)) refl (both-true (nat_le 4 sig) (option_map_or (λ d. d.fixed) (slice_get sys.signals (sig - 4)) false) h).1
+  few-signals sig h = go (slice_get sys.signals (sig - 4)) refl (and_parts (nat_le 4 sig) (option_map_or (λ d. d.fixed) (slice_get sys.signals (sig - 4)) false) h).1
     where
       go : (o : Option SignalDef) → slice_get sys.signals (sig - 4) ≡ o → option_map_or (λ (d : SignalDef). d.fixed) o false ≡ true → sig < 65536
       go None at fixed = absurd (cc)
@@ -76,12 +76,12 @@ module _ (sys : System) (sound : IsSound sys) where
   object-within a h = object-is sys.objects a sound.priorities sound.objects h
 
   pool-within : (p : ℕ) → is_pool sys p ≡ true → (0 < p) × (p < 16)
-  pool-within p h = let b = both-true (nat_lt 0 p) (nat_le p (length sys.pools)) h in let x : nat_lt 0 p ≡ true = b.0 in let y : nat_le p (length sys.pools) ≡ true = b.1 in
+  pool-within p h = let b = and_parts (nat_lt 0 p) (nat_le p (length sys.pools)) h in let x : nat_lt 0 p ≡ true = b.0 in let y : nat_le p (length sys.pools) ≡ true = b.1 in
       let few = sound.few_pools in let lo : 0 < p = grind (arith, nat_tests) in let hi : p ≤ length sys.pools = grind (arith, nat_tests) in (lo, omega arith)
 
   block-within : (p b : ℕ) → is_block sys p b ≡ true → (0 < p) × (p < 16) × (b < 32)
   unfolding is_block
-  block-within p b h = let c = both-true (is_pool sys p) (nat_lt b (blocks_of sys p)) h in let q = pool-within p c.0 in let few = few-blocks p in
+  block-within p b h = let c = and_parts (is_pool sys p) (nat_lt b (blocks_of sys p)) h in let q = pool-within p c.0 in let few = few-blocks p in
       let y : nat_lt b (blocks_of sys p) ≡ true = c.1 in let l : b < blocks_of sys p = grind (arith, nat_tests) in (q.0, q.1, omega arith)
 
   pub fitting : Fitting sys

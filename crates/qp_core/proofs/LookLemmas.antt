@@ -1,5 +1,6 @@
 -- Looks keep the rule where they are allowed.
 use Rattle.std.proofs.Common.{◌≡◌, ℕ, zero, suc, ◌+◌, ◌-◌, ◌/◌, ◌%◌, ◌^◌, ◌<◌, ◌≤◌, ◌==◌, nat_lt, nat_le, List, [], ◌∷◌, ◌++◌, Bool, true, false, ◌&&◌, length, set, get_or, refl, sym, ap, subst, ◌∙◌, arith, eqb-true, true≢false, Option, Some, None}
+use Rattle.std.proofs.lemmas.Bool.{and_parts}
 use Rattle.std.proofs.lemmas.Bool.Decides.{nat_tests}
 use mathlib.Core.Option.{some}
 use lib.ListN.{get_elem?}
@@ -18,7 +19,6 @@ use Rattle.qp_words.specs.Rule.{pool_at, block_at, queue_at, bits_value, Holds}
 use Rattle.qp_words.specs.After.{HasRoom, noted}
 use Rattle.qp_words.specs.declared.Glance.{Glance}
 use Rattle.qp_words.specs.declared.View.{View}
-use Rattle.qp_words.proofs.Tokens.{both-true}
 use Rattle.qp_words.proofs.Bounds.{Ascends, pool-ascends, map-small}
 use Rattle.qp_queues.specs.Laws.{f_in, l_in, m_in}
 use Rattle.qp_table.proofs.Looks.{looks, looks_from, shows-short, shows-no_block, shows-seen, shows-nil, shows-full, shows-no_entry, shows-no_lifo}
@@ -60,10 +60,10 @@ abbrev item : ℕ → Body → Item
 item o x = record { of = o; body = x }
 
 three : (a b c : Bool) → ((a && b) && c) ≡ true → (a ≡ true) × (b ≡ true) × (c ≡ true)
-three a b c h = let x = both-true (a && b) c h in let y = both-true a b x.0 in (y.0, y.1, x.1)
+three a b c h = let x = and_parts (a && b) c h in let y = and_parts a b x.0 in (y.0, y.1, x.1)
 
 four : (a b c d : Bool) → (((a && b) && c) && d) ≡ true → (a ≡ true) × (b ≡ true) × (c ≡ true) × (d ≡ true)
-four a b c d h = let x = both-true ((a && b) && c) d h in let y = three a b c x.0 in (y.0, y.1, y.2, x.1)
+four a b c d h = let x = and_parts ((a && b) && c) d h in let y = three a b c x.0 in (y.0, y.1, y.2, x.1)
 
 module _ (sys : System) (lanes : ℕ) (words : List ℕ) (x : Seat) (own : nat_lt x.number lanes ≡ true → 0 < length x.logs) (s : List Glance) (views : List View) (id : ℕ) (holds : Holds sys words views) (at_id : get_elem? views id ≡ some (seen_view x s)) (r : Rec) (fits : (nat_lt x.number lanes ≡ true) × (nat_lt (total (λ g. length g.recs) x.logs) 1000001 ≡ true)) where
   abbrev v : View
@@ -79,7 +79,7 @@ module _ (sys : System) (lanes : ℕ) (words : List ℕ) (x : Seat) (own : nat_l
   pool-shown : (q : ℕ) → is_pool sys q ≡ true → (b : Body) → body_of r ≡ b → states_pool (get_or words (pool_at q) 0) q x.by r.of b ≡ true → Shown (pool_at q)
   pool-shown q pool (Short p n free reserve) is h =
       let w : ℕ = get_or words (pool_at q) 0 in
-      let a = both-true ((((r.of == x.by) && (p == q)) && (n == number_in w)) && (free == ones 32 (low_in w))) (nat_le free reserve) h in
+      let a = and_parts ((((r.of == x.by) && (p == q)) && (n == number_in w)) && (free == ones 32 (low_in w))) (nat_le free reserve) h in
       let f = four (r.of == x.by) (p == q) (n == number_in w) (free == ones 32 (low_in w)) a.0 in
       let ascends = pool-ascends sys holds.lanes holds.now holds.leaves holds.logs.count holds.logs.room q pool in let small = holds.fitting.small q pool in
       let few = map-small (blocks_of sys q) (holds.now.pool q).free small.1 ascends in let shows = holds.shows.pools q pool in
@@ -91,7 +91,7 @@ module _ (sys : System) (lanes : ℕ) (words : List ℕ) (x : Seat) (own : nat_l
       (item-says r ∙ (ap (item r.of) is ∙ (λ i. item r.of (Short (eqb-true p q f.1 i) ((eqb-true n (number_in w) f.2 ∙ count) i) (len i) reserve)))) (omega arith)
   pool-shown q pool (NoBlock p n free) is h =
       let w : ℕ = get_or words (pool_at q) 0 in
-      let a = both-true ((((r.of == x.by) && (p == q)) && (n == number_in w)) && (free == 0)) (low_in w == 0) h in
+      let a = and_parts ((((r.of == x.by) && (p == q)) && (n == number_in w)) && (free == 0)) (low_in w == 0) h in
       let f = four (r.of == x.by) (p == q) (n == number_in w) (free == 0) a.0 in
       let ascends = pool-ascends sys holds.lanes holds.now holds.leaves holds.logs.count holds.logs.room q pool in let small = holds.fitting.small q pool in
       let few = map-small (blocks_of sys q) (holds.now.pool q).free small.1 ascends in let shows = holds.shows.pools q pool in
@@ -157,5 +157,5 @@ module _ (sys : System) (lanes : ℕ) (words : List ℕ) (x : Seat) (own : nat_l
   look-without (word.Timer q) there s views id holds at_id = cc
 
   pub look-keeps : (w : Word) (rec : Option Rec) → may_look sys lanes words x w rec ≡ true → StepKeeps sys words x words (looked x w rec)
-  look-keeps w None h = look-without w (both-true (is_word sys w) (may_state sys lanes words x w None) h).0
-  look-keeps w (Some r) h = let t = both-true (is_word sys w) (may_state sys lanes words x w (Some r)) h in look-with w r t.0 t.1
+  look-keeps w None h = look-without w (and_parts (is_word sys w) (may_state sys lanes words x w None) h).0
+  look-keeps w (Some r) h = let t = and_parts (is_word sys w) (may_state sys lanes words x w (Some r)) h in look-with w r t.0 t.1

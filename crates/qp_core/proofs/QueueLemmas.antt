@@ -1,5 +1,6 @@
 -- Each step on a queue keeps the rule where it is allowed.
 use Rattle.std.proofs.Common.{◌≡◌, ◌≢◌, ℕ, zero, suc, ◌+◌, ◌-◌, ◌*◌, ◌/◌, ◌%◌, ◌<◌, ◌≤◌, ◌==◌, nat_lt, nat_le, List, [], ◌∷◌, ◌++◌, Bool, true, false, not, cond, ◌&&◌, length, set, get_or, refl, sym, ap, subst, ◌∙◌, arith, eqb, eq-eqb, ne_eqb, eqb-true, true≢false, mod-eq_of_lt, mod-lt, IsTrue, Option, Some, None}
+use Rattle.std.proofs.lemmas.Bool.{and_parts}
 use Rattle.std.proofs.lemmas.Bool.Decides.{nat_tests}
 use Rattle.std.specs.List.{list_any, find}
 use mathlib.Core.Option.{some}
@@ -19,7 +20,6 @@ use Rattle.qp_words.specs.declared.CellPlace.{CellPlace}
 use Rattle.qp_words.specs.declared.Serve.{Serve}
 use Rattle.qp_words.specs.declared.View.{View}
 use Rattle.qp_words.proofs.Counting.{total-at}
-use Rattle.qp_words.proofs.Tokens.{both-true}
 use Rattle.qp_words.proofs.Marks.{high-mark, own-counts, first-small, line-shows}
 use Rattle.qp_queues.specs.Laws.{f_in}
 use Rattle.qp_queues.proofs.Lines.{item-is}
@@ -41,11 +41,11 @@ not-true false h = refl
 -- the entry that a step names is static or in hand
 in-hand-case : (sys : System) (x : Seat) (s : List Glance) (p b k : ℕ) → ((sig : ℕ) → IsTrue (is_static sys sig) → sig < 65536) → (c : Bool) → (p == 0) ≡ c → cond c ((b == 0) && is_static sys k) (is_block sys p b && list_any (is_ref p b k) x.hands) ≡ true
     → InHand sys (cond c (record { pool = 0; block = k; name = 0 }) (record { pool = p; block = b; name = k })) (seen_view x s)
-in-hand-case sys x s p b k signals true is h = let t = both-true (b == 0) (is_static sys k) h in record {
+in-hand-case sys x s p b k signals true is h = let t = and_parts (b == 0) (is_static sys k) h in record {
   static = λ z. (t.1, signals k t.1, refl);
   pooled = λ pos. absurd (omega arith);
 }
-in-hand-case sys x s p b k signals false is h = let t = both-true (is_block sys p b) (list_any (is_ref p b k) x.hands) h in record {
+in-hand-case sys x s p b k signals false is h = let t = and_parts (is_block sys p b) (list_any (is_ref p b k) x.hands) h in record {
   static = λ z. absurd (true≢false (sym (eq-eqb p 0 z) ∙ is));
   pooled = λ pos. any-many (is_ref p b k) x.hands t.1;
 }
@@ -190,7 +190,7 @@ module _ (sys : System) (lanes : ℕ) (words : List ℕ) (x : Seat) (own : nat_l
 
   pub claim-keeps : (a p b k : ℕ) → may_claim sys lanes words x a p b k ≡ true → Claims sys words x a p b k words' x' → StepKeeps sys words x words' x'
   claim-keeps a p b k may made s views id holds at_id =
-      let c = both-true ((may_add lanes x && is_object sys a) && in_hand sys x p b k) (has_free sys a (get_or words (queue_at a) 0)) may in
+      let c = and_parts ((may_add lanes x && is_object sys a) && in_hand sys x p b k) (has_free sys a (get_or words (queue_at a) 0)) may in
       let t = adds-two lanes x (is_object sys a) (in_hand sys x p b k) c.0 in
       let v : View = seen_view x s in let room = has-room lanes x s own t.0 in let w : ℕ = get_or words (queue_at a) 0 in
       let e : Entry = entry_for p b k in
@@ -229,10 +229,10 @@ module _ (sys : System) (lanes : ℕ) (words : List ℕ) (x : Seat) (own : nat_l
   empty-keeps a may made s views id holds at_id =
       let v : View = seen_view x s in
       let j : ℕ = front_at sys a (get_or words (queue_at a) 0) in
-      let c = both-true (((may_act lanes x && is_object sys a) && serves_it x a) && not (list_any (on_queue a) x.takes)) (not (get_or words (cell_at a j) 0 == 0)) may in
-      let d = both-true ((may_act lanes x && is_object sys a) && serves_it x a) (not (list_any (on_queue a) x.takes)) c.0 in
-      let e = both-true (may_act lanes x && is_object sys a) (serves_it x a) d.0 in
-      let o = both-true (may_act lanes x) (is_object sys a) e.0 in
+      let c = and_parts (((may_act lanes x && is_object sys a) && serves_it x a) && not (list_any (on_queue a) x.takes)) (not (get_or words (cell_at a j) 0 == 0)) may in
+      let d = and_parts ((may_act lanes x && is_object sys a) && serves_it x a) (not (list_any (on_queue a) x.takes)) c.0 in
+      let e = and_parts (may_act lanes x && is_object sys a) (serves_it x a) d.0 in
+      let o = and_parts (may_act lanes x) (is_object sys a) e.0 in
       let full : get_or words (cell_at a j) 0 ≢ 0 = (λ z. let n = not-true (get_or words (cell_at a j) 0 == 0) c.1 in true≢false (sym (eq-eqb (get_or words (cell_at a j) 0) 0 z) ∙ n)) in
       let r = empties sys words views holds id v at_id a o.1 (own o.0) j (front-same views holds a o.1) full (any-many (is_serve a) x.serves e.1) (none-many (on_queue a) x.takes (not-true (list_any (on_queue a) x.takes) d.1)) in
       let u : View = emptied v a j r.0 in
@@ -258,9 +258,9 @@ module _ (sys : System) (lanes : ℕ) (words : List ℕ) (x : Seat) (own : nat_l
 
   pub lifo-keeps : (a p b k : ℕ) → may_lifo sys lanes words x a p b k ≡ true → Lifos sys words x a p b k words' x' → StepKeeps sys words x words' x'
   lifo-keeps a p b k may made s views id holds at_id =
-      let f = both-true ((((may_add lanes x && is_object sys a) && serves_it x a) && not (list_any (on_queue a) x.takes)) && in_hand sys x p b k) (has_free sys a (get_or words (queue_at a) 0)) may in
-      let g = both-true (((may_add lanes x && is_object sys a) && serves_it x a) && not (list_any (on_queue a) x.takes)) (in_hand sys x p b k) f.0 in
-      let d = both-true ((may_add lanes x && is_object sys a) && serves_it x a) (not (list_any (on_queue a) x.takes)) g.0 in
+      let f = and_parts ((((may_add lanes x && is_object sys a) && serves_it x a) && not (list_any (on_queue a) x.takes)) && in_hand sys x p b k) (has_free sys a (get_or words (queue_at a) 0)) may in
+      let g = and_parts (((may_add lanes x && is_object sys a) && serves_it x a) && not (list_any (on_queue a) x.takes)) (in_hand sys x p b k) f.0 in
+      let d = and_parts ((may_add lanes x && is_object sys a) && serves_it x a) (not (list_any (on_queue a) x.takes)) g.0 in
       let t = adds-two lanes x (is_object sys a) (serves_it x a) d.0 in
       let v : View = seen_view x s in let room = has-room lanes x s own t.0 in let w : ℕ = get_or words (queue_at a) 0 in
       let e : Entry = entry_for p b k in let home = holds.queues.home id v at_id in

@@ -1,6 +1,7 @@
 -- Lists of seats and their views.
 use Rattle.std.proofs.Common.{◌≡◌, ℕ, zero, suc, ◌<◌, ◌≢◌, ◌==◌, List, [], ◌∷◌, ◌++◌, Bool, true, false, not, cond, ◌&&◌, ◌||◌, length, set, get_or, slice_get, refl, sym, ap, subst, ◌∙◌, arith, eqb-true, Some, None}
 use Rattle.std.proofs.lemmas.Option.{slice_get-get_or}
+use Rattle.std.proofs.lemmas.Bool.{and_parts}
 use Rattle.std.proofs.lemmas.List.Quantifiers.{position-Some}
 use Rattle.std.specs.List.{list_any, list_all, filter, position}
 use mathlib.Core.Option.{some, some-ne-none}
@@ -18,7 +19,6 @@ use Rattle.qp_words.specs.declared.Log.{Log}
 use Rattle.qp_words.specs.declared.CellPlace.{CellPlace}
 use Rattle.qp_words.specs.declared.Serve.{Serve}
 use Rattle.qp_words.specs.declared.View.{View}
-use Rattle.qp_words.proofs.Tokens.{both-true}
 use Rattle.qp_table.specs.Whole.{Unused}
 use Rattle.qp_core.specs.Keeps.{seen_view}
 use Rattle.qp_core.specs.Blocks.{ended}
@@ -111,7 +111,7 @@ found n xs i x at here =
     let p = position-Some (stands_as n) xs i x at in
     let g = slice_get-get_or xs i x p.0 in
     let is : get_or xs i x ≡ x = cc in
-    let b = both-true x.stands (x.number == n) (subst (λ (z : Seat). stands_as n z ≡ true) is p.1) in
+    let b = and_parts x.stands (x.number == n) (subst (λ (z : Seat). stands_as n z ≡ true) is p.1) in
     (b.0, eqb-true x.number n b.1)
 
 -- A step leaves who the seat is
@@ -174,8 +174,8 @@ passing-is among (x ∷ xs) = go (in_part among x) (passing-is among xs)
 
 unused-is : (takes : List CellPlace) (x : Serve) → is_unused takes x ≡ true → Unused takes x
 unused-is takes x h =
-    let a = both-true ((x.lifos == 0) && (x.takes == 0)) (not (list_any (on_queue x.object) takes)) h in
-    let b = both-true (x.lifos == 0) (x.takes == 0) a.0 in
+    let a = and_parts ((x.lifos == 0) && (x.takes == 0)) (not (list_any (on_queue x.object) takes)) h in
+    let b = and_parts (x.lifos == 0) (x.takes == 0) a.0 in
     record { lifos = eqb-true x.lifos 0 b.0; takes_made = eqb-true x.takes 0 b.1; still = none-many (on_queue x.object) takes (off (list_any (on_queue x.object) takes) a.1) }
   where
     off : (b : Bool) → not b ≡ true → b ≡ false
@@ -185,7 +185,7 @@ unused-is takes x h =
 pub all-unused : (takes : List CellPlace) (among : ℕ) (xs : List Serve) → list_all (may_pass takes among) xs ≡ true → Each (Unused takes) (passing (in_part among) xs)
 all-unused takes among [] h = tt
 all-unused takes among (x ∷ xs) h =
-    let b = both-true (may_pass takes among x) (list_all (may_pass takes among) xs) h in go (in_part among x) b.0 (all-unused takes among xs b.1)
+    let b = and_parts (may_pass takes among x) (list_all (may_pass takes among) xs) h in go (in_part among x) b.0 (all-unused takes among xs b.1)
   where
     go : (b : Bool) → (not b || is_unused takes x) ≡ true → Each (Unused takes) (passing (in_part among) xs) → Each (Unused takes) (cond b (x ∷ passing (in_part among) xs) (passing (in_part among) xs))
     go true e rest = (unused-is takes x e, rest)

@@ -1,5 +1,6 @@
 -- What the states decide is whether the pieces follow the chart.
 use Rattle.std.proofs.Common.{◌≡◌, ◌≤◌, Bool, true, false, List, ◌++◌, refl, sym, ◌∙◌, subst, Some, arith}
+use Rattle.std.proofs.lemmas.Bool.{and_from, and_parts}
 use Rattle.qp_chart.specs.declared.checked.Chart.{Chart}
 use Rattle.qp_model.specs.declared.systems.System.{System}
 use Rattle.qp_model.specs.declared.systems.ObjectDef.{ObjectDef}
@@ -7,7 +8,6 @@ use Rattle.qp_model.specs.Told.{Told}
 use Rattle.qp_model.specs.Pieces.{Piece, bare}
 use Rattle.qp_model.specs.ObjectShape.{asserts_none}
 use Rattle.qp_model.specs.Course.{Cut, Whole, Stopped, Anywhere, Follows, FollowsAs, FollowsTo, actor, first_config}
-use Rattle.qp_model.proofs.ListLemmas.{both_true, true_both}
 use Rattle.qp_model.proofs.ThroughLemmas.{through-quiet, quiet-through}
 use Rattle.qp_fits.specs.Decides.{Decides}
 use Rattle.qp_fits.specs.CallStateLaws.{ReadsBegin, ReadsWhole, ReadsNext, OpenBegin, OpenNext, OpenReads}
@@ -41,23 +41,23 @@ module _ (sys : System) (d : ObjectDef) (chart : Chart) (has : HasChart sys d ch
     unfolding FollowsTo reads_to Fronts
     follows-read Whole ps h =
         let parts = through-quiet sys d ps h in
-        true_both _ _ (fronts-well begin whole reads_next first open_next open_reads sys (actor d chart) has.able (first_config d) empty Whole ps (into-follows ps parts.0)) parts.1
+        and_from _ _ (fronts-well begin whole reads_next first open_next open_reads sys (actor d chart) has.able (first_config d) empty Whole ps (into-follows ps parts.0)) parts.1
     follows-read Stopped ps (back, h, at) =
-        true_both _ _ (fronts-well begin whole reads_next first open_next open_reads sys (actor d chart) has.able (first_config d) empty Stopped ps (back, into-follows (ps ++ back) h, at)) refl
+        and_from _ _ (fronts-well begin whole reads_next first open_next open_reads sys (actor d chart) has.able (first_config d) empty Stopped ps (back, into-follows (ps ++ back) h, at)) refl
     follows-read Anywhere ps (back, h) =
-        true_both _ _ (fronts-well begin whole reads_next first open_next open_reads sys (actor d chart) has.able (first_config d) empty Anywhere ps (back, into-follows (ps ++ back) h)) refl
+        and_from _ _ (fronts-well begin whole reads_next first open_next open_reads sys (actor d chart) has.able (first_config d) empty Anywhere ps (back, into-follows (ps ++ back) h)) refl
 
     -- and back
     read-follows : (cut : Cut) (ps : List Piece) → reads_to sys d chart cut ps ≡ true → FollowsTo sys d cut ps
     unfolding FollowsTo reads_to Fronts
     read-follows Whole ps h =
-        let parts = both_true _ _ h in
+        let parts = and_parts _ _ h in
         quiet-through sys d ps (back-follows ps (well-fronts begin whole reads_next first open_next open_reads sys (actor d chart) has.able (first_config d) empty Whole ps parts.0)) parts.1
     read-follows Stopped ps h =
-        let k = well-fronts begin whole reads_next first open_next open_reads sys (actor d chart) has.able (first_config d) empty Stopped ps (both_true _ _ h).0 in
+        let k = well-fronts begin whole reads_next first open_next open_reads sys (actor d chart) has.able (first_config d) empty Stopped ps (and_parts _ _ h).0 in
         (k.0, back-follows (ps ++ k.0) k.1, k.2)
     read-follows Anywhere ps h =
-        let k = well-fronts begin whole reads_next first open_next open_reads sys (actor d chart) has.able (first_config d) empty Anywhere ps (both_true _ _ h).0 in
+        let k = well-fronts begin whole reads_next first open_next open_reads sys (actor d chart) has.able (first_config d) empty Anywhere ps (and_parts _ _ h).0 in
         (k.0, back-follows (ps ++ k.0) k.1)
 
     -- the states decide whether the pieces follow the chart
@@ -74,25 +74,25 @@ module _ (sys : System) (d : ObjectDef) (chart : Chart) (has : HasChart sys d ch
     unfolding FollowsTo told_to Fronts
     told-read Whole g (ps, e, h) =
         let parts = through-quiet sys d ps h in
-        true_both _ _ (fronts-told begin whole reads_next first open_next open_reads sys (actor d chart) has.able (first_config d) empty Whole g ps e (into-follows ps parts.0))
+        and_from _ _ (fronts-told begin whole reads_next first open_next open_reads sys (actor d chart) has.able (first_config d) empty Whole g ps e (into-follows ps parts.0))
         (subst (λ us. asserts_none us ≡ true) e parts.1)
     told-read Stopped g (ps, e, (back, h, at)) =
-        true_both _ _ (fronts-told begin whole reads_next first open_next open_reads sys (actor d chart) has.able (first_config d) empty Stopped g ps e (back, into-follows (ps ++ back) h, at)) refl
+        and_from _ _ (fronts-told begin whole reads_next first open_next open_reads sys (actor d chart) has.able (first_config d) empty Stopped g ps e (back, into-follows (ps ++ back) h, at)) refl
     told-read Anywhere g (ps, e, (back, h)) =
-        true_both _ _ (fronts-told begin whole reads_next first open_next open_reads sys (actor d chart) has.able (first_config d) empty Anywhere g ps e (back, into-follows (ps ++ back) h)) refl
+        and_from _ _ (fronts-told begin whole reads_next first open_next open_reads sys (actor d chart) has.able (first_config d) empty Anywhere g ps e (back, into-follows (ps ++ back) h)) refl
 
     -- and back
     read-told : (cut : Cut) (g : List Told) → told_to sys d chart cut g ≡ true → (ps : List Piece) × (bare ps ≡ g) × FollowsTo sys d cut ps
     unfolding FollowsTo told_to Fronts
     read-told Whole g h =
-        let parts = both_true _ _ h in
+        let parts = and_parts _ _ h in
         let k = told-fronts begin whole reads_next first open_next open_reads sys (actor d chart) has.able (first_config d) empty Whole g parts.0 in
         (k.0, k.1, quiet-through sys d k.0 (back-follows k.0 k.2) (subst (λ us. asserts_none us ≡ true) (sym k.1) parts.1))
     read-told Stopped g h =
-        let k = told-fronts begin whole reads_next first open_next open_reads sys (actor d chart) has.able (first_config d) empty Stopped g (both_true _ _ h).0 in
+        let k = told-fronts begin whole reads_next first open_next open_reads sys (actor d chart) has.able (first_config d) empty Stopped g (and_parts _ _ h).0 in
         (k.0, k.1, (k.2.0, back-follows (k.0 ++ k.2.0) k.2.1, k.2.2))
     read-told Anywhere g h =
-        let k = told-fronts begin whole reads_next first open_next open_reads sys (actor d chart) has.able (first_config d) empty Anywhere g (both_true _ _ h).0 in
+        let k = told-fronts begin whole reads_next first open_next open_reads sys (actor d chart) has.able (first_config d) empty Anywhere g (and_parts _ _ h).0 in
         (k.0, k.1, (k.2.0, back-follows (k.0 ++ k.2.0) k.2.1))
 
     -- the states decide whether the records follow the chart with some points between them

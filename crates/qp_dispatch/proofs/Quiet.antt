@@ -1,7 +1,7 @@
 -- The records of a call leave the ceiling of their lane, and none of them is a `spill`.
 use Rattle.std.proofs.Common.{◌≡◌, ℕ, zero, suc, Bool, true, false, ◌||◌, List, [], ◌∷◌, ◌++◌, map, refl, sym, ◌∙◌, subst, inl, inr, Option, Some, None}
 use Rattle.std.specs.List.{list_all, list_any}
-use Rattle.std.proofs.lemmas.Bool.{and_parts}
+use Rattle.std.proofs.lemmas.Bool.{and_parts, or_from}
 use Rattle.qp_model.specs.declared.systems.System.{System}
 use Rattle.qp_model.specs.declared.bodies.Entry.{Entry}
 use Rattle.qp_model.specs.declared.bodies.Body.{Body}
@@ -199,9 +199,6 @@ quiet-spillless [] q = refl
 quiet-spillless (t ∷ g) q =
     let parts = and_parts (is_quiet t.body) (list_all (λ t. is_quiet t.body) g) q in
     rw (quiet-spill t.body parts.0, quiet-spillless g parts.1) refl
-
-or_none : (x y : Bool) → x ≡ false → y ≡ false → (x || y) ≡ false
-or_none x y h k = rw (h, k) refl
 
 pub spillless-append : (g h : List Told) → Spillless g → Spillless h → Spillless (g ++ h)
 spillless-append [] h a b = b

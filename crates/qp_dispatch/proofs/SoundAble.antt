@@ -1,5 +1,6 @@
 -- The actions of a sound chart have what they ask for: a pool for each event, and an entry in the rows alone.
 use Rattle.std.proofs.Common.{◌≡◌, ℕ, pos, Bool, true, false, ◌&&◌, ◌||◌, List, [], ◌∷◌, length, refl, subst, Option, Some, None}
+use Rattle.std.proofs.lemmas.Bool.{and_from}
 use Rattle.std.proofs.lemmas.List.{length-map}
 use Rattle.std.specs.Prelude.{IsSome, is_some, slice_get}
 use Rattle.std.specs.List.{AllByRecursion, list_all}
@@ -24,13 +25,10 @@ use Rattle.qp_dispatch.specs.Resume.{IsReady}
 use Rattle.qp_dispatch.proofs.Naming.{sound-event}
 use Rattle.qp_dispatch.proofs.ReadyLemmas.{home-ready}
 
-both : (x y : Bool) → x ≡ true → y ≡ true → (x && y) ≡ true
-both x y h k = rw (h, k) refl
-
 -- all of a list pass
 all-pass : {X : Type 0} (P : X → Type 0) (f : X → Bool) → ((x : X) → P x → f x ≡ true) → (xs : List X) → AllByRecursion P xs → list_all f xs ≡ true
 all-pass P f go [] h = refl
-all-pass P f go (x ∷ xs) h = both (f x) (list_all f xs) (go x h.0) (all-pass P f go xs h.1)
+all-pass P f go (x ∷ xs) h = and_from (f x) (list_all f xs) (go x h.0) (all-pass P f go xs h.1)
 
 -- `inside` is None where no entry is at hand
 abbrev Inside : Bool → Option ℕ → Type 0
@@ -86,16 +84,16 @@ module _ (sys : System) (sound : IsSound sys) (chart : Chart) where
   state-passes : (s : State) → IsSoundState sys chart s → state_able sys s ≡ true
   unfolding state_able
   state-passes s h =
-      both ((list_all (act_able sys false) s.entry && list_all (act_able sys false) s.exit) && list_all (act_able sys false) s.init_do) (list_all (λ row. list_all (act_able sys true) row.acts) s.row)
-      (both (list_all (act_able sys false) s.entry && list_all (act_able sys false) s.exit) (list_all (act_able sys false) s.init_do)
-      (both (list_all (act_able sys false) s.entry) (list_all (act_able sys false) s.exit) (outside s.entry h.entry) (outside s.exit h.exit))
+      and_from ((list_all (act_able sys false) s.entry && list_all (act_able sys false) s.exit) && list_all (act_able sys false) s.init_do) (list_all (λ row. list_all (act_able sys true) row.acts) s.row)
+      (and_from (list_all (act_able sys false) s.entry && list_all (act_able sys false) s.exit) (list_all (act_able sys false) s.init_do)
+      (and_from (list_all (act_able sys false) s.entry) (list_all (act_able sys false) s.exit) (outside s.entry h.entry) (outside s.exit h.exit))
       (outside s.init_do h.init_do))
       (all-pass (IsSoundRow sys chart) (λ row. list_all (act_able sys true) row.acts)
       (λ row r. all-pass (IsSoundAct sys chart (Some r.signal.params)) (act_able sys true) (act-passes true (Some r.signal.params) (λ some. refl)) row.acts r.acts) s.row h.rows)
 
   pub sound-able : IsSoundChart sys chart → chart_able sys chart ≡ true
   unfolding chart_able
-  sound-able h = both (list_all (act_able sys false) chart.init_do) (list_all (state_able sys) chart.state) (outside chart.init_do h.init_do) (all-pass (IsSoundState sys chart) (state_able sys) state-passes chart.state h.states)
+  sound-able h = and_from (list_all (act_able sys false) chart.init_do) (list_all (state_able sys) chart.state) (outside chart.init_do h.init_do) (all-pass (IsSoundState sys chart) (state_able sys) state-passes chart.state h.states)
 
 -- an object with its chart, where the timers of its chart are the system's
 pub sound-ready : (sys : System) (me : ℕ) (chart : Chart) (k : ℕ) → IsHome sys me chart → slice_get sys.charts k ≡ Some chart → IsReady sys me chart

@@ -1,10 +1,10 @@
 -- The end of a journal, lane by lane.
 use Rattle.std.proofs.Common.{◌≡◌, ◌∙◌, ℕ, ◌+◌, ◌<◌, ◌≤◌, Bool, true, false, ◌&&◌, ◌||◌, List, [], ◌∷◌, length, drop, get_or, ap, sym, refl, None, not, ◌==◌, IsTrue}
 use Rattle.std.specs.List.{list_any, list_all}
+use Rattle.std.proofs.lemmas.Bool.{and_parts}
 use Rattle.std.proofs.lemmas.List.{drop_more, at_drop_all}
 use Rattle.std.proofs.lemmas.List.Folds.{list_any-append}
-use Rattle.std.specs.Cmp.Derive.{both_true as both}
-use Rattle.qp_model.proofs.ListLemmas.{both_true}
+use Rattle.std.specs.Cmp.Derive.{and_parts as both}
 use Rattle.qp_model.specs.declared.record.Rec.{Rec}
 use Rattle.qp_model.specs.declared.systems.System.{System}
 use Rattle.qp_model.specs.declared.journals.Journal.{Journal}
@@ -71,13 +71,13 @@ module _ (sys : System) (j : Journal) (deferred : List Entry) (queues blocks : B
   pub HasEnd-from : IsTrue (end_stands sys j && (not (j.end == quiet) || queues) && (not (j.end == quiet) || blocks)) → HasEnd sys j deferred
   unfolding end_stands
   HasEnd-from h =
-      let upto_queues = both_true _ _ h in
-      let upto_budgets = both_true _ _ upto_queues.0 in
-      let upto_room = both_true _ _ upto_budgets.0 in
-      let upto_spills = both_true _ _ upto_room.0 in
-      let upto_spents = both_true _ _ upto_spills.0 in
-      let upto_last = both_true _ _ upto_spents.0 in
-      let first = both_true _ _ upto_last.0 in
+      let upto_queues = and_parts _ _ h in
+      let upto_budgets = and_parts _ _ upto_queues.0 in
+      let upto_room = and_parts _ _ upto_budgets.0 in
+      let upto_spills = and_parts _ _ upto_room.0 in
+      let upto_spents = and_parts _ _ upto_spills.0 in
+      let upto_last = and_parts _ _ upto_spents.0 in
+      let first = and_parts _ _ upto_last.0 in
       record {
         stated = first.0;
         last = first.1;

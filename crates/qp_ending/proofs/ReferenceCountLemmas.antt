@@ -1,11 +1,11 @@
 -- Counts of references under an operation, and references that are compared with others.
 use Rattle.std.proofs.Common.{◌≡◌, ℕ, zero, suc, ◌+◌, ◌-◌, ◌≤◌, ◌<◌, ◌==◌, nat_lt, Bool, true, false, ◌&&◌, ◌||◌, cond, List, [], ◌∷◌, length, get_or, set, refl, ap, sym, ◌∙◌, arith}
 use Rattle.std.specs.List.{list_all}
+use Rattle.std.proofs.lemmas.Bool.{and_from, or_right}
 use Rattle.std.proofs.lemmas.Bool.Decides.{nat_tests}
 use Rattle.qp_chart.specs.StateTree.{has}
 use Rattle.qp_model.specs.End.{same_numbers}
 use Rattle.qp_model.specs.Lists.{without_one}
-use Rattle.qp_model.proofs.ListLemmas.{true_both}
 use Rattle.qp_word_states.specs.Standing.{places}
 use Rattle.qp_ending.specs.Resting.{Counted}
 use Rattle.qp_word_states.proofs.StandingLemmas.{has-places, places-without, places-other, length-without}
@@ -131,17 +131,13 @@ module _ (names counts : List ℕ) (many : ℕ) (h : Counted names counts many) 
       go true = refl
       go false = refl
 
-or-right : (a b : Bool) → b ≡ true → (a || b) ≡ true
-or-right true b h = refl
-or-right false b h = h
-
 -- a test of each number that stands in a list
 all-of : (p : ℕ → Bool) (xs : List ℕ) → ((k : ℕ) → has xs k ≡ true → p k ≡ true) → list_all p xs ≡ true
 all-of p [] h = refl
 all-of p (x ∷ xs) h =
     let self : (x == x) ≡ true = grind (arith, nat_tests) in
     let first : ((x == x) || has xs x) ≡ true = rw self refl in
-    true_both _ _ (h x first) (all-of p xs (λ k held. h k (or-right (x == k) (has xs k) held)))
+    and_from _ _ (h x first) (all-of p xs (λ k held. h k (or_right (x == k) (has xs k) held)))
 
 not-all-of : (p : ℕ → Bool) (xs : List ℕ) (k : ℕ) → has xs k ≡ true → p k ≡ false → list_all p xs ≡ false
 not-all-of p [] k held fails = cc

@@ -1,5 +1,6 @@
 -- A walk over a history, and a test of all numbers below another.
 use Rattle.std.proofs.Common.{◌≡◌, ℕ, suc, ◌+◌, ◌*◌, ◌≤◌, ◌<◌, ◌==◌, nat_lt, nat_le, Bool, true, false, ◌&&◌, cond, List, [], ◌∷◌, ◌++◌, length, drop, get_or, refl, ap, sym, ◌∙◌, arith, append_assoc, append-nil}
+use Rattle.std.proofs.lemmas.Bool.{and_from}
 use Rattle.std.proofs.lemmas.List.{drop_all}
 use Rattle.std.proofs.lemmas.Bool.Decides.{nat_tests}
 use Rattle.qp_model.specs.declared.bodies.Body.{Body}
@@ -11,14 +12,13 @@ use Rattle.qp_model.specs.FreeBlocks.{Pool, free_blocks}
 use Rattle.qp_model.specs.Line.{Line, line}
 use Rattle.qp_model.specs.Lists.{all_below, count_up}
 use Rattle.qp_model.specs.Machine.{Machine, after, after_from}
-use Rattle.qp_model.proofs.ListLemmas.{true_both}
 use Rattle.qp_word_states.specs.WordState.{said}
 use Rattle.qp_lanes.proofs.WalkLemmas.{rest_get}
 
 -- a test of all numbers below one more
 pub below-more : (p : ℕ → Bool) (k : ℕ) → all_below k p ≡ true → p k ≡ true → all_below (k + 1) p ≡ true
 unfolding all_below
-below-more p k h here = let e : k + 1 ≡ suc k = omega arith in rw e (true_both _ _ h here)
+below-more p k h here = let e : k + 1 ≡ suc k = omega arith in rw e (and_from _ _ h here)
 
 pub below-none : (p : ℕ → Bool) → all_below 0 p ≡ true
 unfolding all_below

@@ -2,6 +2,7 @@
 use Rattle.std.proofs.Common.{◌≡◌, ℕ, suc, zero, ◌<◌, ◌≤◌, nat_le, nat_lt, Bool, true, false, not, List, [], ◌∷◌, ◌++◌, length, refl, sym, ◌∙◌, subst, Some, None, inl, inr, arith}
 use Rattle.std.specs.declared.option.Option.{Option}
 use Rattle.std.specs.List.{AllByRecursion, list_all, prefix_len}
+use Rattle.std.proofs.lemmas.Bool.{and_from, and_parts}
 use Rattle.std.proofs.lemmas.Bool.Decides.{nat_tests}
 use Rattle.std.proofs.lemmas.List.Folds.{list_all-append}
 use Rattle.qp_model.specs.declared.systems.System.{System}
@@ -11,7 +12,7 @@ use Rattle.qp_model.specs.Calls as call
 use Rattle.qp_model.specs.Calls.{Call, Answer, Granted, Refused, Flushed, AtQueue, AtPool, AtTimer, AtTicks, AtFront}
 use Rattle.qp_model.specs.Parts.{first_pool, sizes_of}
 use Rattle.qp_model.specs.Shapes.{Releases, releases_by, Drops, MakesBlock, MakesNew, NoBlockFor, again_by, MakesAgain, MakesAgainNow, Posts, PostsFront, PostsNew, PostsNewFront, Forwards, PostsOne, PostsToAll, PostsUpTo, raising, restoring, PublishesFirst, PublishesLast, Publishes, Defers, Recalls, Flushes, Subscribes, Unsubscribes, Arms, Rearms, Disarms, Fits, FitsAny}
-use Rattle.qp_forms.proofs.CountLemmas.{is_said, both, and}
+use Rattle.qp_forms.proofs.CountLemmas.{is_said}
 
 -- each of these records is so
 unfoldable pub AllSaid : List Told → Type 0
@@ -19,7 +20,7 @@ AllSaid g = list_all (λ t. is_said t.body) g ≡ true
 
 pub said-append : (g h : List Told) → AllSaid g → AllSaid h → AllSaid (g ++ h)
 unfolding AllSaid
-said-append g h a b = list_all-append (λ t. is_said t.body) g h ∙ and _ _ a b
+said-append g h a b = list_all-append (λ t. is_said t.body) g h ∙ and_from _ _ a b
 
 pub said-nil : AllSaid []
 unfolding AllSaid
@@ -28,7 +29,7 @@ said-nil = refl
 -- one record more in front
 pub said-cons : (t : Told) (g : List Told) → is_said t.body ≡ true → AllSaid g → AllSaid (t ∷ g)
 unfolding AllSaid
-said-cons t g first rest = and _ _ first rest
+said-cons t g first rest = and_from _ _ first rest
 
 pub said-along : (g h : List Told) → g ≡ h → AllSaid h → AllSaid g
 said-along g h e n = subst AllSaid (sym e) n
@@ -36,7 +37,7 @@ said-along g h e n = subst AllSaid (sym e) n
 -- a front of such records
 pub said-front : (g h : List Told) → AllSaid (g ++ h) → AllSaid g
 unfolding AllSaid
-said-front g h all = (both _ _ (sym (list_all-append (λ t. is_said t.body) g h) ∙ all)).0
+said-front g h all = (and_parts _ _ (sym (list_all-append (λ t. is_said t.body) g h) ∙ all)).0
 
 -- no pool has room for more
 none-large : (n : ℕ) → 8 < n → (sizes : List ℕ) → AllByRecursion (λ size. size ≤ 8) sizes → prefix_len (λ size. not (nat_le n size)) sizes ≡ length sizes

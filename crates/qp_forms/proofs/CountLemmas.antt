@@ -1,6 +1,7 @@
 -- A record in range: it says something that its form knows, with as many numbers as its kind has.
 use Rattle.std.proofs.Common.{◌≡◌, ℕ, zero, suc, ◌+◌, ◌≤◌, ◌==◌, nat_le, Bool, true, false, not, ◌&&◌, ◌||◌, cond, List, [], ◌∷◌, map, length, refl, ◌∙◌, ap, subst, Option, Some, None, slice_get, slice_index, arith}
 use Rattle.std.specs.List.{list_all}
+use Rattle.std.proofs.lemmas.Bool.{and_from, and_parts, or_right}
 use Rattle.std.proofs.lemmas.Bool.Decides.{nat_tests}
 use Rattle.std.proofs.lemmas.List.{length-map}
 use Rattle.qp_model.specs.declared.bodies.Body.{Body}
@@ -32,20 +33,9 @@ said-more true _ h = refl
 abbrev pub form_for : Bool → ℕ
 form_for rests = cond rests 2 1
 
-pub both : (a b : Bool) → (a && b) ≡ true → (a ≡ true) × (b ≡ true)
-both true b h = (refl, h)
-both false b h = absurd (cc)
-
-pub and : (a b : Bool) → a ≡ true → b ≡ true → (a && b) ≡ true
-and a b h k = rw (h, k) refl
-
-pub or-right : (a b : Bool) → b ≡ true → (a || b) ≡ true
-or-right true b h = refl
-or-right false b h = h
-
 pub or-both : (r a b : Bool) → (r || a) ≡ true → (r || b) ≡ true → (r || (a && b)) ≡ true
 or-both true a b h k = refl
-or-both false a b h k = and a b h k
+or-both false a b h k = and_from a b h k
 
 -- a kind that form 1 knows
 known-kind : (rests : Bool) (k : ℕ) → nat_le k LOOK ≡ true → nat_le k (last_id (form_for rests)) ≡ true
@@ -130,15 +120,15 @@ module _ (rests : Bool) where
   counted : (k n : ℕ) (form : List ℕ → Body) → ((nums : List ℕ) → is_said_by rests (form nums) ≡ true → length nums ≡ n) → takes k n ≡ true → IsCounted k form
   unfolding IsCounted takes
   counted k n form lengths t o nums h =
-      let a = both _ (suc n == slice_index counts k) t in
-      let b = both _ (not (k == REST)) a.0 in
-      let c = both _ (not (k == ASSERT)) b.0 in
-      let d = both _ (not (k == NEW)) c.0 in
+      let a = and_parts _ (suc n == slice_index counts k) t in
+      let b = and_parts _ (not (k == REST)) a.0 in
+      let c = and_parts _ (not (k == ASSERT)) b.0 in
+      let d = and_parts _ (not (k == NEW)) c.0 in
       let no_new = other (k == NEW) d.1 in
       let no_assert = other (k == ASSERT) c.1 in
       let count : has_count k (o ∷ nums) ≡ true = rw (no_new, no_assert) (ap (λ m. suc m == slice_index counts k) (lengths nums h) ∙ a.1) in
-      let ends = both (nat_le BEGIN k) (nat_le k LOOK) d.0 in
-      (and _ _ (and _ _ ends.0 (known-kind rests k ends.1)) count, or-right rests _ b.1)
+      let ends = and_parts (nat_le BEGIN k) (nat_le k LOOK) d.0 in
+      (and_from _ _ (and_from _ _ ends.0 (known-kind rests k ends.1)) count, or_right rests _ b.1)
 
   -- a form that no such record has
   uncounted : (k : ℕ) (form : List ℕ → Body) → ((nums : List ℕ) → is_said_by rests (form nums) ≡ false) → IsCounted k form
@@ -157,7 +147,7 @@ module _ (rests : Bool) where
       let few : length pars ≤ 8 = grind (arith, nat_tests, h) in
       let least : nat_le 6 (suc (suc (suc (suc (suc (suc (length pars))))))) ≡ true = grind (arith, nat_tests) in
       let most : nat_le (suc (suc (suc (suc (suc (suc (length pars))))))) 14 ≡ true = grind (arith, nat_tests, few) in
-      (and _ _ (known-kind rests 15 refl) (and _ _ least most), or-right rests true refl)
+      (and_from _ _ (known-kind rests 15 refl) (and_from _ _ least most), or_right rests true refl)
 
   -- an assertion: as many numbers as its code has
   asserted-counted : IsCounted 42 asserted
@@ -166,7 +156,7 @@ module _ (rests : Bool) where
   asserted-counted o (code ∷ []) h = absurd (cc)
   asserted-counted o (code ∷ a ∷ []) h = absurd (cc)
   asserted-counted o (code ∷ a ∷ b ∷ []) h = absurd (cc)
-  asserted-counted o (code ∷ a ∷ b ∷ c ∷ []) h = (and _ _ (known-kind rests 42 refl) (by (code == 1) (code == 5) (code == 2) (code == 3) (code == 4) h), or-right rests true refl)
+  asserted-counted o (code ∷ a ∷ b ∷ c ∷ []) h = (and_from _ _ (known-kind rests 42 refl) (by (code == 1) (code == 5) (code == 2) (code == 3) (code == 4) h), or_right rests true refl)
     where
       by : (x y u v w : Bool) → is_said_by rests (cond u (body.NoBlock a b c) (cond v (body.Armed a b c) (cond w (body.BadTicks a b c) body.Malformed))) ≡ true
           → (((x || y) && false) || ((u || v || w) && true)) ≡ true
@@ -183,7 +173,7 @@ module _ (rests : Bool) where
       by false true false false true h = refl
       by false false false false true h = refl
       by x y false false false h = absurd (cc)
-  asserted-counted o (code ∷ a ∷ f ∷ l ∷ m ∷ []) h = (and _ _ (known-kind rests 42 refl) (by (code == 1) (code == 5) (code == 2) (code == 3) (code == 4) h), or-right rests true refl)
+  asserted-counted o (code ∷ a ∷ f ∷ l ∷ m ∷ []) h = (and_from _ _ (known-kind rests 42 refl) (by (code == 1) (code == 5) (code == 2) (code == 3) (code == 4) h), or_right rests true refl)
     where
       by : (x y u v w : Bool) → is_said_by rests (cond x (body.NoEntry a f l m) (cond y (body.NoLifo a f l m) body.Malformed)) ≡ true
           → (((x || y) && true) || ((u || v || w) && false)) ≡ true
@@ -390,19 +380,19 @@ is_kept i = is_kept_by false i
 pub kept-more : (rests : Bool) (is : List Item) → list_all is_kept is ≡ true → list_all (is_kept_by rests) is ≡ true
 kept-more rests [] h = refl
 kept-more rests (i ∷ is) h =
-    let parts = both (is_kept i) _ h in
-    let here = both (nat_le i.of 32) (is_said i.body) parts.0 in
-    and _ _ (and _ _ here.0 (said-more rests i.body here.1)) (kept-more rests is parts.1)
+    let parts = and_parts (is_kept i) _ h in
+    let here = and_parts (nat_le i.of 32) (is_said i.body) parts.0 in
+    and_from _ _ (and_from _ _ here.0 (said-more rests i.body here.1)) (kept-more rests is parts.1)
 
 records-kept : (rests : Bool) (rs : List Rec) → list_all (is_kept_by rests) (map item_of rs) ≡ true
     → (list_all (is_record_in_range (form_for rests)) rs ≡ true) × ((rests || list_all (λ r. not (r.kind == REST)) rs) ≡ true)
 unfolding item_of
-records-kept rests [] h = (refl, or-right rests true refl)
+records-kept rests [] h = (refl, or_right rests true refl)
 records-kept rests (r ∷ rs) h =
-    let here = both (nat_le r.of 32) (is_said_by rests (body_of r)) (both _ _ h).0 in
-    let rest = records-kept rests rs (both _ _ h).1 in
+    let here = and_parts (nat_le r.of 32) (is_said_by rests (body_of r)) (and_parts _ _ h).0 in
+    let rest = records-kept rests rs (and_parts _ _ h).1 in
     let one_here = record-counted rests r here.1 in
-    (and _ _ (and _ _ one_here.0 here.0) rest.0, or-both rests _ _ one_here.1 rest.1)
+    (and_from _ _ (and_from _ _ one_here.0 here.0) rest.0, or-both rests _ _ one_here.1 rest.1)
 
 -- a lane of such items is in range and has its form
 pub lane-kept : (rests : Bool) (rs : List Rec) → list_all (is_kept_by rests) (map item_of rs) ≡ true → length (map item_of rs) ≤ 1000001
@@ -411,4 +401,4 @@ lane-kept rests rs all short =
     let parts = records-kept rests rs all in
     let same : length (map item_of rs) ≡ length rs = length-map rs item_of in
     let few : nat_le (length rs) 1000001 ≡ true = grind (arith, nat_tests, same, short) in
-    (and _ _ few parts.0, parts.1)
+    (and_from _ _ few parts.0, parts.1)

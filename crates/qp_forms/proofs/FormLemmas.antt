@@ -4,6 +4,7 @@ use Rattle.std.specs.Prelude.{slice_get}
 use Rattle.std.specs.declared.option.Option.{Option}
 use Rattle.std.specs.Option.{unwrap_or}
 use Rattle.std.specs.List.{AllByRecursion, list_all, list_any, count_by}
+use Rattle.std.proofs.lemmas.Bool.{and_from, and_parts, or_right}
 use Rattle.std.proofs.lemmas.Bool.Decides.{nat_tests}
 use Rattle.std.proofs.lemmas.List.Sums.{sum_by-cons}
 use Rattle.qp_model.specs.declared.record.Rec.{Rec}
@@ -26,7 +27,7 @@ use Rattle.qp_model.specs.Sound.{IsSound, IsSoundPool}
 use Rattle.qp_model.proofs.HomeLemmas.{home_records-kernel}
 use Rattle.qp_model.proofs.TakenLemmas.{drop-head}
 use Rattle.qp_forms.specs.Laws.{CanBeWritten, QvHasForm, SimHasForms}
-use Rattle.qp_forms.proofs.CountLemmas.{form_for, is_said_by, is_kept, is_kept_by, both, and, kept-more, lane-kept, or-both, or-right, said-more}
+use Rattle.qp_forms.proofs.CountLemmas.{form_for, is_said_by, is_kept, is_kept_by, kept-more, lane-kept, or-both, said-more}
 use Rattle.qp_forms.proofs.CallLemmas.{AllSaid}
 use Rattle.qp_forms.proofs.ShapeLemmas.{shape-said}
 use Rattle.qp_forms.proofs.SourceLemmas.{says, told-says, source-kept}
@@ -44,7 +45,7 @@ unfolding ends_last
 lane-long [] last = omega arith
 lane-long (i ∷ []) last = omega arith
 lane-long (i ∷ j ∷ is) last =
-    let parts = both (not (is_end i.body)) (ends_last (j ∷ is)) last in
+    let parts = and_parts (not (is_end i.body)) (ends_last (j ∷ is)) last in
     let none : is_spill i.body ≡ false = no-spill (is_assert i.body) (is_spent i.body) (is_spill i.body) parts.0 in
     let rest = lane-long (j ∷ is) parts.1 in
     let more : count_by (λ i. not (is_spill i.body)) (i ∷ j ∷ is) ≡ 1 + count_by (λ i. not (is_spill i.body)) (j ∷ is) =
@@ -61,14 +62,14 @@ lane-short lane last room =
 lanes-kept : (rests : Bool) (lanes : List (List Rec)) → list_all (λ lane. list_all (is_kept_by rests) (lane_items lane)) lanes ≡ true → list_all (λ lane. ends_last (lane_items lane)) lanes ≡ true
     → list_all (λ lane. has_room (lane_items lane)) lanes ≡ true → (list_all (is_lane_in_range (form_for rests)) lanes ≡ true) × ((rests || has_no_rest lanes) ≡ true)
 unfolding lane_items
-lanes-kept rests [] kept last room = (refl, or-right rests true refl)
+lanes-kept rests [] kept last room = (refl, or_right rests true refl)
 lanes-kept rests (lane ∷ lanes) kept last room =
-    let k = both (list_all (is_kept_by rests) (lane_items lane)) _ kept in
-    let l = both (ends_last (lane_items lane)) _ last in
-    let r = both (has_room (lane_items lane)) _ room in
+    let k = and_parts (list_all (is_kept_by rests) (lane_items lane)) _ kept in
+    let l = and_parts (ends_last (lane_items lane)) _ last in
+    let r = and_parts (has_room (lane_items lane)) _ room in
     let here = lane-kept rests lane k.0 (lane-short (lane_items lane) l.0 r.0) in
     let rest = lanes-kept rests lanes k.1 l.1 r.1 in
-    (and _ _ here.0 rest.0, or-both rests _ _ here.1 rest.1)
+    (and_from _ _ here.0 rest.0, or-both rests _ _ here.1 rest.1)
 
 -- the lanes of the sources
 sources-kept : (rests : Bool) (sys : System) → AllByRecursion (λ size. size ≤ 8) (sizes_of sys) → (j : Journal) (ls : List (List Rec)) (n : ℕ) (stimuli : List (List Stim))
@@ -81,11 +82,11 @@ sources-kept rests sys small j (l ∷ ls) n (ss ∷ more) at h len =
     let here : lane_at j n ≡ l = ap (λ x. unwrap_or x []) behind.0 in
     let kept : list_all is_kept (lane_items (lane_at j n)) ≡ true = source-kept (facts_of sys j) small j.kernel j.end ss (lane_items (lane_at j n)) h.0 in
     let shorter : length ls ≡ length more = omega (arith, len) in
-    and _ _ (subst (λ x. list_all (is_kept_by rests) (lane_items x) ≡ true) here (kept-more rests (lane_items (lane_at j n)) kept)) (sources-kept rests sys small j ls (n + 1) more behind.1 h.1 shorter)
+    and_from _ _ (subst (λ x. list_all (is_kept_by rests) (lane_items x) ≡ true) here (kept-more rests (lane_items (lane_at j n)) kept)) (sources-kept rests sys small j ls (n + 1) more behind.1 h.1 shorter)
 
 all-at : {A : Type 0} (p : A → Bool) (xs : List A) (y : A) (ys : List A) → list_all p (xs ++ y ∷ ys) ≡ true → p y ≡ true
-all-at p [] y ys h = (both _ _ h).0
-all-at p (x ∷ xs) y ys h = all-at p xs y ys (both _ _ h).1
+all-at p [] y ys h = (and_parts _ _ h).0
+all-at p (x ∷ xs) y ys h = all-at p xs y ys (and_parts _ _ h).1
 
 -- an object of at most 32, all of whose records in a lane say so
 abbrev IsKept : List Item → ℕ → Type 0
@@ -93,17 +94,17 @@ IsKept lane o = (o ≤ 32) × (list_all (says o) lane ≡ true)
 
 owned-kept : (rests : Bool) (lane front is : List Item) → front ++ is ≡ lane → AllByRecursion (λ i. IsKept lane i.of ⊎ ((i.of ≡ 0) × (is_said_by rests i.body ≡ true))) is → list_all (is_kept_by rests) is ≡ true
 owned-kept rests lane front [] at all = refl
-owned-kept rests lane front (i ∷ is) at all = and _ _ (by all.0) (owned-kept rests lane (front ++ i ∷ []) is (append_assoc front (i ∷ []) is ∙ at) all.1)
+owned-kept rests lane front (i ∷ is) at all = and_from _ _ (by all.0) (owned-kept rests lane (front ++ i ∷ []) is (append_assoc front (i ∷ []) is ∙ at) all.1)
   where
     by : IsKept lane i.of ⊎ ((i.of ≡ 0) × (is_said_by rests i.body ≡ true)) → is_kept_by rests i ≡ true
     by (inl (low, records)) =
         let within : nat_le i.of 32 ≡ true = grind (arith, nat_tests, low) in
         let itself : (i.of == i.of) ≡ true = grind (arith, nat_tests) in
         let mine : says i.of i ≡ true = all-at (says i.of) front i is (rw at records) in
-        and _ _ within (said-more rests i.body (rw itself at mine))
+        and_from _ _ within (said-more rests i.body (rw itself at mine))
     by (inr (none, said)) =
         let within : nat_le i.of 32 ≡ true = grind (arith, nat_tests, none) in
-        and _ _ within said
+        and_from _ _ within said
 
 small-pools : (pools : List PoolDef) → AllByRecursion IsSoundPool pools → AllByRecursion (λ size. size ≤ 8) (map (λ d. d.size) pools)
 small-pools [] all = tt
@@ -164,7 +165,7 @@ module _ (sys : System) (stimuli : List (List Stim)) (j : Journal) (sound : IsSo
       let rest : length ls ≡ length stimuli = omega (arith, count, whole) in
       let first : lane_at j 0 ≡ l = ap (λ x. unwrap_or (slice_get x 0) []) at in
       subst (λ x. list_all (λ lane. list_all (is_kept_by rests) (lane_items lane)) x ≡ true) (sym at)
-      (and _ _ (subst (λ x. list_all (is_kept_by rests) (lane_items x) ≡ true) first zero-kept) (sources-kept rests sys small j ls 1 stimuli (ap (drop 1) at) sources rest))
+      (and_from _ _ (subst (λ x. list_all (is_kept_by rests) (lane_items x) ≡ true) first zero-kept) (sources-kept rests sys small j ls 1 stimuli (ap (drop 1) at) sources rest))
 
   count : length j.lanes ≡ 1 + length stimuli
   count =
@@ -190,7 +191,7 @@ module _ (sys : System) (stimuli : List (List Stim)) (j : Journal) (sound : IsSo
       let lanes_few : nat_le (length j.lanes) 49 ≡ true = grind (arith, nat_tests, count, few) in
       record {
         has = formed rests is lanes.1;
-        range = and _ _ (and _ _ (and _ _ (and _ _ (and _ _ kernel least) greatest) end) lanes_few) lanes.0;
+        range = and_from _ _ (and_from _ _ (and_from _ _ (and_from _ _ (and_from _ _ kernel least) greatest) end) lanes_few) lanes.0;
       }
     where
       known : (b : Bool) → nat_le (cond b qv sim) (last_kernel (form_for b)) ≡ true
@@ -199,7 +200,7 @@ module _ (sys : System) (stimuli : List (List Stim)) (j : Journal) (sound : IsSo
 
       formed : (b : Bool) → j.kernel ≡ cond b qv sim → (b || has_no_rest j.lanes) ≡ true → has_form (form_for b) j ≡ true
       formed true e none = refl
-      formed false e none = let one_thread : not (j.kernel == qv) ≡ true = ap (λ k. not (k == qv)) e in and _ _ one_thread none
+      formed false e none = let one_thread : not (j.kernel == qv) ≡ true = ap (λ k. not (k == qv)) e in and_from _ _ one_thread none
 
 pub written : SimHasForms
 written sys stimuli j sound few is_sim some most h = its-form sys stimuli j sound few false is_sim h some most

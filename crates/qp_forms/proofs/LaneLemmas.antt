@@ -4,6 +4,7 @@ use Rattle.std.specs.Prelude.{⊤}
 use Rattle.std.specs.declared.option.Option.{Option}
 use Rattle.std.specs.Option.{option_and_then}
 use Rattle.std.specs.List.{AllByRecursion, filter}
+use Rattle.std.proofs.lemmas.Bool.{and_parts}
 use Rattle.std.proofs.lemmas.Bool.Decides.{nat_tests}
 use Rattle.std.proofs.lemmas.List.{reverse-append}
 use Rattle.qp_model.specs.declared.systems.ObjectDef.{ObjectDef}
@@ -12,7 +13,7 @@ use Rattle.qp_model.specs.declared.bodies.Body.TheVariants as body
 use Rattle.qp_model.specs.Record.{Item}
 use Rattle.qp_model.specs.KernelLane.{Role, Looks, Sees, Takes, Ends, Rests, Holds, Drops, RunsOut, Spills, Acts, role_of, Setting, above, Upcoming, Inside, Looking, Chosen, Ended, Resting, Again, Over, Halted, Reading, base_ended, found_none, looking_at, look_next, seen_next, own_next, inside_next, found_next, ended_next, rest_next, place_next, start_next, started_next, role_next, lane_next, lane_on, unread, lane_read}
 use Rattle.qp_model.specs.Kernels.{qk, qv}
-use Rattle.qp_forms.proofs.CountLemmas.{is_said_by, both}
+use Rattle.qp_forms.proofs.CountLemmas.{is_said_by}
 
 -- a record by its part, where that tells what it says
 abbrev is_known : Bool → Role → Bool
@@ -112,7 +113,7 @@ module _ (s : Setting) (rests : Bool) (other : rests ≡ false → (s.kernel == 
   unfolding look_next
   look k next o (Looks n floor) its e =
       let ok = granted _ _ next e in
-      let zero = both (o == 0) _ (both ((o == 0) && (n == k.looks + 1)) _ ok.0).0 in
+      let zero = and_parts (o == 0) _ (and_parts ((o == 0) && (n == k.looks + 1)) _ ok.0).0 in
       let its_look : Its (record k { looks = n }) = record { unstarted = its.unstarted; running = its.running; place = its.place } in
       (inr (same o 0 zero.0, refl), subst Its ok.1 (looked-its (record k { looks = n }) (above s.sys floor) its_look (all-above floor)))
   look k next o (Sees p f l m) its e = absurd (cc)
@@ -128,7 +129,7 @@ module _ (s : Setting) (rests : Bool) (other : rests ≡ false → (s.kernel == 
   seen : (k next : Reading) (p : ℕ) (others : List ℕ) (o : ℕ) (r : Role) → Its k → Q p → AllByRecursion Q others → seen_next s k p others o r ≡ Some next → Fine o r × Its next
   seen k next p others o (Sees q f l m) its one all e =
       let ok = granted _ _ next e in
-      (inr (same o 0 (both (o == 0) _ ok.0).0, refl), subst Its ok.1 (by (nat_lt m (f + l))))
+      (inr (same o 0 (and_parts (o == 0) _ ok.0).0, refl), subst Its ok.1 (by (nat_lt m (f + l))))
     where
       by : (b : Bool) → Its (cond b (record k { place = Chosen p }) (looking_at s k others))
       by true = record { unstarted = its.unstarted; running = its.running; place = one }
@@ -198,7 +199,7 @@ module _ (s : Setting) (rests : Bool) (other : rests ≡ false → (s.kernel == 
   ended k next p o Acts its one e = look k next o Acts its e
 
   rested : (k next : Reading) (o : ℕ) (r : Role) → Its k → rests ≡ true → rest_next s k o r ≡ Some next → Fine o r × Its next
-  rested k next o (Rests n) its may e = let ok = granted _ _ next e in (inr (same o 0 (both (o == 0) _ ok.0).0, may), subst Its ok.1 (base-its k its))
+  rested k next o (Rests n) its may e = let ok = granted _ _ next e in (inr (same o 0 (and_parts (o == 0) _ ok.0).0, may), subst Its ok.1 (base-its k its))
   rested k next o (Looks n floor) its may e = absurd (cc)
   rested k next o (Sees q f l m) its may e = absurd (cc)
   rested k next o Takes its may e = absurd (cc)

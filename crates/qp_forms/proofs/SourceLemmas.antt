@@ -2,6 +2,7 @@
 use Rattle.std.proofs.Common.{◌≡◌, ℕ, zero, suc, ◌+◌, ◌≤◌, ◌==◌, nat_le, Bool, true, false, not, ◌&&◌, ◌||◌, cond, List, [], ◌∷◌, ◌++◌, refl, None, inl, inr, arith, ◌⊎◌}
 use Rattle.std.specs.Bool.{MatchBool}
 use Rattle.std.specs.List.{AllByRecursion, filter, list_all}
+use Rattle.std.proofs.lemmas.Bool.{and_from, and_parts}
 use Rattle.std.proofs.lemmas.Bool.Decides.{nat_tests}
 use Rattle.qp_model.specs.declared.stimulus.Stim.{Stim}
 use Rattle.qp_model.specs.declared.stimulus.Stim.TheVariants as stim
@@ -18,7 +19,7 @@ use Rattle.qp_model.specs.Knowing.{Facts, records_of, told, ceiling_after}
 use Rattle.qp_model.specs.Parts.{sizes_of}
 use Rattle.qp_model.specs.Sites.{ring_of}
 use Rattle.qp_model.specs.Sources.{CallFits, TicksOne, FiresInVain, Ticks, SeesEmpty, SeesEntry, Tries, Settles, priorities, StimFits, EndsIn, SourceEnd, AllDone, BeforeStimulus, AfterTry, AtAssert, InStimulus, SourceRuns, source_records, IsSourceLane}
-use Rattle.qp_forms.proofs.CountLemmas.{is_said, is_kept, both, and}
+use Rattle.qp_forms.proofs.CountLemmas.{is_said, is_kept}
 use Rattle.qp_forms.proofs.CallLemmas.{AllSaid, said-append, said-nil, said-cons, said-along, said-front, fits-said}
 
 -- one record
@@ -131,7 +132,7 @@ told-says w o c (i ∷ is) all = by (told-says w o (ceiling_after c i.body) is) 
   where
     by : (AllSaid (records_of w o (ceiling_after c i.body) is) → list_all (says o) is ≡ true) → (b : Bool) → list_all (λ t. is_said t.body) (cond b (told w o c i.body ∷ records_of w o (ceiling_after c i.body) is) (records_of w o (ceiling_after c i.body) is)) ≡ true
         → ((not b || is_said i.body) && list_all (says o) is) ≡ true
-    by rest true all = and _ _ (both _ _ all).0 (rest (both _ _ all).1)
+    by rest true all = and_from _ _ (and_parts _ _ all).0 (rest (and_parts _ _ all).1)
     by rest false all = rest all
 
 spill-said : (b : Body) → is_spill b ≡ true → is_said b ≡ true
@@ -141,21 +142,21 @@ spill-said _ h = absurd (cc)
 -- a lane of records without object, which say so but for a `spill`
 spare-kept : (lane : List Item) → list_all (λ i. i.of == 0) lane ≡ true → list_all (says 0) (filter (λ i. not (is_spill i.body)) lane) ≡ true → list_all is_kept lane ≡ true
 spare-kept [] alone all = refl
-spare-kept (i ∷ lane) alone all = by (spare-kept lane (both _ _ alone).1) (is_spill i.body) refl all
+spare-kept (i ∷ lane) alone all = by (spare-kept lane (and_parts _ _ alone).1) (is_spill i.body) refl all
   where
     here : (i.of == 0) ≡ true
-    here = (both _ _ alone).0
+    here = (and_parts _ _ alone).0
 
     low : nat_le i.of 32 ≡ true
     low = grind (arith, nat_tests, here)
 
     by : (list_all (says 0) (filter (λ i. not (is_spill i.body)) lane) ≡ true → list_all is_kept lane ≡ true) → (b : Bool) → is_spill i.body ≡ b → list_all (says 0) (cond (not b) (i ∷ filter (λ i. not (is_spill i.body)) lane) (filter (λ i. not (is_spill i.body)) lane)) ≡ true
         → (is_kept i && list_all is_kept lane) ≡ true
-    by rest true spill all = and _ _ (and _ _ low (spill-said i.body spill)) (rest all)
+    by rest true spill all = and_from _ _ (and_from _ _ low (spill-said i.body spill)) (rest all)
     by rest false other all =
-        let said : says 0 i ≡ true = (both _ _ all).0 in
+        let said : says 0 i ≡ true = (and_parts _ _ all).0 in
         let mine : is_said i.body ≡ true = rw here at said in
-        and _ _ (and _ _ low mine) (rest (both _ _ all).1)
+        and_from _ _ (and_from _ _ low mine) (rest (and_parts _ _ all).1)
 
 -- the lane of a source
 pub source-kept : (w : Facts) → AllByRecursion (λ size. size ≤ 8) (sizes_of w.sys) → (kernel end : ℕ) (ss : List Stim) (lane : List Item) → IsSourceLane w kernel end ss lane

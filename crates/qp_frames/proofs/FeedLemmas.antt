@@ -1,9 +1,8 @@
 -- Bytes fed one after another.
 use Rattle.std.proofs.Common.{◌≡◌, ◌∙◌, ℕ, suc, ◌<◌, true, List, [], ◌∷◌, ◌++◌, Result, Ok, Err, refl, ap}
 use Rattle.std.specs.Prelude.{⊤, nat_lt, slice_index}
-use Rattle.std.proofs.lemmas.Bool.{lt-ltb}
+use Rattle.std.proofs.lemmas.Bool.{lt-ltb, and_from}
 use Rattle.std.proofs.lemmas.List.Folds.{list_all-append}
-use Rattle.qp_model.proofs.ListLemmas.{true_both}
 use Rattle.qp_frames.specs.Bytes.{are_bytes}
 use Rattle.qp_frames.specs.declared.faults.FrameFault.{FrameFault}
 use Rattle.qp_frames.specs.declared.faults.FrameFault.TheVariants.{Memory, At}
@@ -37,12 +36,12 @@ goes-fault U q (At offset code want got) wanted becomes = becomes
 
 -- bytes in two pieces are bytes
 pub bytes-append : (xs ys : List ℕ) → are_bytes xs ≡ true → are_bytes ys ≡ true → are_bytes (xs ++ ys) ≡ true
-bytes-append xs ys first second = list_all-append (λ (b : ℕ). nat_lt b 256) xs ys ∙ true_both (are_bytes xs) (are_bytes ys) first second
+bytes-append xs ys first second = list_all-append (λ (b : ℕ). nat_lt b 256) xs ys ∙ and_from (are_bytes xs) (are_bytes ys) first second
 
 -- a piece is bytes where each of its elements is one
 pub bytes-fit : (piece : List ℕ) → ((i : ℕ) → slice_index piece i < 256) → are_bytes piece ≡ true
 bytes-fit [] fit = refl
-bytes-fit (b ∷ piece) fit = true_both (nat_lt b 256) (are_bytes piece) (lt-ltb b 256 (fit 0)) (bytes-fit piece (λ i. fit (suc i)))
+bytes-fit (b ∷ piece) fit = and_from (nat_lt b 256) (are_bytes piece) (lt-ltb b 256 (fit 0)) (bytes-fit piece (λ i. fit (suc i)))
 
 -- what a decoder was fed, with one piece more
 module _ (piece before : List ℕ) (fits : are_bytes piece ≡ true) where

@@ -3,10 +3,9 @@ use Rattle.std.proofs.Common.{◌≡◌, ◌∙◌, ℕ, zero, suc, ◌+◌, ◌
 use Rattle.std.specs.Prelude.{◌==◌, nat_lt}
 use Rattle.std.specs.Int.{to_le_bytes, w64}
 use Rattle.std.specs.List.{flat_map}
-use Rattle.std.proofs.lemmas.Bool.{lt-ltb, ltb-true}
+use Rattle.std.proofs.lemmas.Bool.{lt-ltb, ltb-true, and_from, and_parts}
 use Rattle.std.proofs.lemmas.List.Folds.{list_all-append}
 use Rattle.std.proofs.lemmas.Nat.{from_le_bytes-to_le_bytes_8, le_bytes_8}
-use Rattle.qp_model.proofs.ListLemmas.{both_true, true_both}
 use Rattle.qp_model.specs.OutputFrames.{number_bytes}
 use Rattle.qp_text.specs.TextLaw.{has_64_bits}
 use Rattle.qp_frames.specs.Bytes.{are_bytes}
@@ -20,8 +19,8 @@ with_number-ok n (Err got) nums is = absurd cc
 -- each byte is below its limit
 bytes-at : (bytes : List ℕ) → are_bytes bytes ≡ true → (i : ℕ) → get_or bytes i 0 < 256
 bytes-at [] all i = omega arith
-bytes-at (b ∷ bytes) all zero = ltb-true b 256 (both_true (nat_lt b 256) (are_bytes bytes) all).0
-bytes-at (b ∷ bytes) all (suc i) = bytes-at bytes (both_true (nat_lt b 256) (are_bytes bytes) all).1 i
+bytes-at (b ∷ bytes) all zero = ltb-true b 256 (and_parts (nat_lt b 256) (are_bytes bytes) all).0
+bytes-at (b ∷ bytes) all (suc i) = bytes-at bytes (and_parts (nat_lt b 256) (are_bytes bytes) all).1 i
 
 -- the number of eight bytes has 64 bits
 eight-small : (a b c d e f g h : ℕ) → a < 256 → b < 256 → c < 256 → d < 256 → e < 256 → f < 256 → g < 256 → h < 256
@@ -43,7 +42,7 @@ module _ (form : ℕ) (fixed : (form == 2) ≡ false) where
   pub fixed-numbers : (nums : List ℕ) → has_64_bits nums ≡ true → numbers_from form 0 0 (flat_map (number_bytes form) nums) ≡ Ok nums
   fixed-numbers [] fits = refl
   fixed-numbers (n ∷ nums) fits =
-      let both = both_true (nat_lt n (2 ^ 64)) (has_64_bits nums) fits in
+      let both = and_parts (nat_lt n (2 ^ 64)) (has_64_bits nums) fits in
       rw fixed (fixed-read n (flat_map (number_bytes form) nums) (ltb-true n (2 ^ 64) both.0) ∙ rw (fixed-numbers nums both.1) refl)
 
   -- no number is cut off
@@ -89,8 +88,8 @@ module _ (form : ℕ) (fixed : (form == 2) ≡ false) where
   fixed-are (a ∷ b ∷ c ∷ d ∷ e ∷ f ∷ g ∷ h ∷ rest) nums whole all is =
       let n = a + b * 256 + c * 65536 + d * 16777216 + e * 4294967296 + f * 1099511627776 + g * 281474976710656 + h * 72057594037927936 in
       let bytes = a ∷ b ∷ c ∷ d ∷ e ∷ f ∷ g ∷ h ∷ [] in
-      let parts = both_true (are_bytes bytes) (are_bytes rest) (sym (list_all-append (λ (x : ℕ). nat_lt x 256) bytes rest) ∙ all) in
+      let parts = and_parts (are_bytes bytes) (are_bytes rest) (sym (list_all-append (λ (x : ℕ). nat_lt x 256) bytes rest) ∙ all) in
       let read = with_number-ok n (numbers_from form 0 0 rest) nums (sym (eight a b c d e f g h rest) ∙ is) in
       let here = eight-are a b c d e f g h parts.0 in
       let behind = fixed-are rest read.0 (omega arith) parts.1 read.1 in
-      rw (← read.2) (fixed-cons n read.0 bytes rest here.0 behind.0, true_both (nat_lt n (2 ^ 64)) (has_64_bits read.0) here.1 behind.1)
+      rw (← read.2) (fixed-cons n read.0 bytes rest here.0 behind.0, and_from (nat_lt n (2 ^ 64)) (has_64_bits read.0) here.1 behind.1)

@@ -3,11 +3,10 @@ use Rattle.std.proofs.Common.{◌≡◌, ◌∙◌, ℕ, suc, ◌-◌, ◌≤◌
 use Rattle.std.specs.Prelude.{◌==◌, ◌||◌, not, nat_lt, slice_index}
 use Rattle.std.specs.List.{flat_map}
 use Rattle.std.proofs.Math.Seq.{get_or-append_seam, take-append_seam, take-suc}
-use Rattle.std.proofs.lemmas.Bool.{eq-eqb, eqb-true}
+use Rattle.std.proofs.lemmas.Bool.{eq-eqb, eqb-true, and_parts, or_parts}
 use Rattle.std.proofs.lemmas.Bool.Decides.{nat_tests}
 use Rattle.std.proofs.lemmas.List.{take_all}
 use Rattle.std.proofs.lemmas.List.Folds.{list_all-append}
-use Rattle.qp_model.proofs.ListLemmas.{both_true}
 use Rattle.qp_model.specs.Output.{JournalItem, item, last_id}
 use Rattle.qp_model.specs.OutputFrames.{checksum, frame_bytes, number_bytes}
 use Rattle.qp_model.specs.Vocabulary.{has_count}
@@ -40,10 +39,6 @@ not_false : (b : Bool) → not b ≡ false → b ≡ true
 not_false true h = cc
 not_false false h = cc
 
-pub or_false : (a b : Bool) → (a || b) ≡ false → (a ≡ false) × (b ≡ false)
-or_false true b h = absurd cc
-or_false false b h = (refl, h)
-
 -- the item of numbers that were read
 with_numbers-is : (start form id : ℕ) (read : Result (List ℕ) ℕ) (i : JournalItem) → with_numbers start form id read ≡ Ok i
     → (nums : List ℕ) × (read ≡ Ok nums) × (has_count id nums ≡ true) × (item id nums ≡ i)
@@ -75,7 +70,7 @@ summed-is start form wanted sequence id numbers i whole all is =
     let numbered = no_error ((id == 0) || nat_lt (last_id form) id) (At start 5 0 id) _ i known.1 in
     let nums = with_numbers-is start form id (numbers_from form 0 0 numbers) i numbered.1 in
     let bytes = numbers-are form numbers nums.0 whole all nums.1 in
-    let ids = or_false (id == 0) (nat_lt (last_id form) id) numbered.0 in
+    let ids = or_parts (id == 0) (nat_lt (last_id form) id) numbered.0 in
     summed-item form wanted sequence id numbers nums.0 i (eqb-true sequence wanted (not_false (sequence == wanted) known.0)) ids.0 ids.1 nums.2 nums.3 bytes.0 bytes.1
 
 -- the item of a frame by the bytes before its checksum
@@ -86,7 +81,7 @@ body-is start form wanted found (sequence ∷ []) i all is = absurd cc
 body-is start form wanted found (sequence ∷ id ∷ numbers) i all is =
     let whole = no_error (not (is_whole form numbers)) (At start 4 0 0) _ i is in
     let sum = no_error (not (found == checksum (sequence ∷ id ∷ numbers))) (At start 2 (checksum (sequence ∷ id ∷ numbers)) found) _ i whole.1 in
-    let bytes = (both_true (nat_lt id 256) (are_bytes numbers) (both_true (nat_lt sequence 256) (are_bytes (id ∷ numbers)) all).1).1 in
+    let bytes = (and_parts (nat_lt id 256) (are_bytes numbers) (and_parts (nat_lt sequence 256) (are_bytes (id ∷ numbers)) all).1).1 in
     let shown = summed-is start form wanted sequence id numbers i (not_false (is_whole form numbers) whole.0) bytes sum.1 in
     (shown.0, eqb-true found (checksum (sequence ∷ id ∷ numbers)) (not_false (found == checksum (sequence ∷ id ∷ numbers)) sum.0), shown.1)
 
@@ -105,7 +100,7 @@ item_of_frame-is start form wanted (b ∷ bytes) i all is =
       go : (body : List ℕ) (found : ℕ) → body ++ found ∷ [] ≡ b ∷ bytes → are_bytes (body ++ found ∷ []) ≡ true → item_of_body start form wanted body found ≡ Ok i
           → (summed_bytes form wanted i ≡ b ∷ bytes) × IsItem form i
       go body found whole all is =
-          let both = both_true (are_bytes body) (are_bytes (found ∷ [])) (sym (list_all-append (λ (x : ℕ). nat_lt x 256) body (found ∷ [])) ∙ all) in
+          let both = and_parts (are_bytes body) (are_bytes (found ∷ [])) (sym (list_all-append (λ (x : ℕ). nat_lt x 256) body (found ∷ [])) ∙ all) in
           let shown = body-is start form wanted found body i both.0 is in
           (ap (λ t. t ++ checksum t ∷ []) shown.0 ∙ ap (λ c. body ++ c ∷ []) (sym shown.1) ∙ whole, shown.2)
 

@@ -3,10 +3,9 @@ use Rattle.std.proofs.Common.{◌≡◌, ◌∙◌, ℕ, zero, suc, ◌+◌, ◌
 use Rattle.std.specs.Prelude.{◌==◌, ◌&&◌, ◌⊎◌, nat_lt, nat_le, slice_index}
 use Rattle.std.specs.List.{flat_map}
 use Rattle.std.proofs.Math.Nat.{add-mul, mul_assoc, pow-succ'}
-use Rattle.std.proofs.lemmas.Bool.{lt-ltb, ltb-true, eqb-true}
+use Rattle.std.proofs.lemmas.Bool.{lt-ltb, ltb-true, eqb-true, and_from, and_parts}
 use Rattle.std.proofs.lemmas.Bool.Decides.{nat_tests}
 use Rattle.std.proofs.lemmas.Nat.{div-add-mod', div-mul-add, mod-mul-add}
-use Rattle.qp_model.proofs.ListLemmas.{both_true, true_both}
 use Rattle.qp_model.specs.OutputFrames.{groups, number_bytes}
 use Rattle.qp_text.specs.TextLaw.{has_64_bits}
 use Rattle.qp_frames.specs.Bytes.{are_bytes}
@@ -97,7 +96,7 @@ module _ (form : ℕ) (grouped : (form == 2) ≡ true) where
   pub group-numbers : (nums : List ℕ) → has_64_bits nums ≡ true → numbers_from form 0 0 (flat_map (number_bytes form) nums) ≡ Ok nums
   group-numbers [] fits = refl
   group-numbers (n ∷ nums) fits =
-      let both = both_true (nat_lt n (2 ^ 64)) (has_64_bits nums) fits in
+      let both = and_parts (nat_lt n (2 ^ 64)) (has_64_bits nums) fits in
       let rest = flat_map (number_bytes form) nums in
       let value : 0 + n * 128 ^ 0 ≡ n = omega arith in
       ap (λ t. numbers_from form 0 0 (t ++ rest)) (number-groups n)
@@ -191,7 +190,7 @@ module _ (form : ℕ) (grouped : (form == 2) ≡ true) where
       let first : number_bytes form (0 + are.m * 128 ^ 0) ≡ groups 10 are.m = ap (number_bytes form) value ∙ number-groups form grouped are.m in
       rw (← are.nums_are) (
         ap (λ t. t ++ flat_map (number_bytes form) are.behind) first ∙ are.bytes_are,
-        true_both (nat_lt (0 + are.m * 128 ^ 0) (2 ^ 64)) (has_64_bits are.behind) (lt-ltb (0 + are.m * 128 ^ 0) (2 ^ 64) are.fits) are.behind_fit,
+        and_from (nat_lt (0 + are.m * 128 ^ 0) (2 ^ 64)) (has_64_bits are.behind) (lt-ltb (0 + are.m * 128 ^ 0) (2 ^ 64) are.fits) are.behind_fit,
       )
 
   -- the last byte of a number, and the numbers behind it
@@ -241,7 +240,7 @@ module _ (form : ℕ) (grouped : (form == 2) ≡ true) where
         let none : [] ≡ nums_are.0 = let same = nums_are.1 in cc in
         groups-whole place value b [] nums_are.0 nums early low some fits nums_are.2 (rw (← none) refl) (rw (← none) refl)
   parts-are (c ∷ bytes) nums place value b early small all ends is =
-      let both = both_true (nat_lt b 256) (are_bytes (c ∷ bytes)) all in
+      let both = and_parts (nat_lt b 256) (are_bytes (c ∷ bytes)) all in
       go (part-case place value b early small) (ltb-true b 256 both.0)
       (λ nums place value early small. parts-are bytes nums place value c early small both.1 (sym (ends_low-cons b c bytes) ∙ ends)) where
         go : PartCase place value b (group_part place value b) → b < 256
@@ -268,7 +267,7 @@ module _ (form : ℕ) (grouped : (form == 2) ≡ true) where
   groups-low : (nums : List ℕ) → has_64_bits nums ≡ true → ends_low (flat_map (number_bytes form) nums) ≡ true
   groups-low [] fits = refl
   groups-low (n ∷ nums) fits =
-      let both = both_true (nat_lt n (2 ^ 64)) (has_64_bits nums) fits in
+      let both = and_parts (nat_lt n (2 ^ 64)) (has_64_bits nums) fits in
       let rest = flat_map (number_bytes form) nums in
       ap (λ t. ends_low (t ++ rest)) (number-groups form grouped n)
       ∙ groups-end 9 0 n rest refl (omega (arith, ltb-true n (2 ^ 64) both.0)) (groups-low nums both.1)

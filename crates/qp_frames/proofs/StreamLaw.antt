@@ -2,11 +2,10 @@
 use Rattle.std.proofs.Common.{◌≡◌, ◌∙◌, ℕ, ◌+◌, ◌%◌, Bool, true, false, List, [], ◌∷◌, ◌++◌, length, Option, Some, None, Result, Ok, Err, cond, refl, sym, ap, append_assoc, append-nil, arith, inl, inr}
 use Rattle.std.specs.Prelude.{◌==◌, ◌⊎◌, ◌||◌, nat_lt}
 use Rattle.std.specs.List.{flat_map}
-use Rattle.std.proofs.lemmas.Bool.{eqb-true}
+use Rattle.std.proofs.lemmas.Bool.{eqb-true, and_from, and_parts, or_parts}
 use Rattle.std.proofs.lemmas.Bool.Decides.{nat_tests}
 use Rattle.std.proofs.lemmas.Grind.{flat_map-append}
 use Rattle.std.proofs.lemmas.List.Folds.{list_all-append}
-use Rattle.qp_model.proofs.ListLemmas.{both_true, true_both}
 use Rattle.qp_model.specs.declared.journals.Journal.{Journal}
 use Rattle.qp_model.specs.Output.{JournalItem}
 use Rattle.qp_model.specs.OutputFrames.{end_byte, escape_byte, escaped, frame, frames_from}
@@ -22,7 +21,7 @@ use Rattle.qp_frames.specs.declared.faults.FrameFault.{FrameFault}
 use Rattle.qp_frames.specs.declared.faults.FrameFault.TheVariants.{At}
 use Rattle.qp_frames.specs.declared.stream.Stream.{Stream}
 use Rattle.qp_frames.specs.Stream.{after_escape, before_all, decoded, end_frame, ended, fed, finish, form_at, form_of_bytes, item_of_frame, item_taken, keep, later, take_byte, take_plain, with_item}
-use Rattle.qp_frames.proofs.FrameLaw.{item_of_frame-is, no_error, or_false, summed_bytes}
+use Rattle.qp_frames.proofs.FrameLaw.{item_of_frame-is, no_error, summed_bytes}
 use Rattle.qp_frames.proofs.FrameLemmas.{behind-append, frames-append, frames-one}
 use Rattle.qp_frames.proofs.ItemsLaw.{AllItems, Leads, and_next, take_items, taken-cons}
 
@@ -57,7 +56,7 @@ keep-is p q c b fine byte came is =
       fine = record {
         good = fine.good;
         sequence = fine.sequence;
-        bytes = list_all-append (λ (x : ℕ). nat_lt x 256) p.bytes (c ∷ []) ∙ true_both (are_bytes p.bytes) (are_bytes (c ∷ [])) fine.bytes (true_both (nat_lt c 256) true byte refl);
+        bytes = list_all-append (λ (x : ℕ). nat_lt x 256) p.bytes (c ∷ []) ∙ and_from (are_bytes p.bytes) (are_bytes (c ∷ [])) fine.bytes (and_from (nat_lt c 256) true byte refl);
         fits = fine.fits;
         made = fine.made;
       };
@@ -208,7 +207,7 @@ fed-is p q [] fine all is =
     let same : p ≡ q = cc in
     rw (← same) (fine, sym (append-nil (so_far p)))
 fed-is p q (b ∷ bytes) fine all is =
-    let both = both_true (nat_lt b 256) (are_bytes bytes) all in
+    let both = and_parts (nat_lt b 256) (are_bytes bytes) all in
     let some = fed-cons (take_byte p b) bytes q is in
     let first = take_byte-is p some.0 b fine both.0 some.1 in
     let rest = fed-is some.0 q bytes first.fine both.1 some.2 in
@@ -224,7 +223,7 @@ ended-is : (read : Result Stream FrameFault) (v : ℕ) (j : Journal) → ended r
 ended-is (Err fault) v j is = absurd cc
 ended-is (Ok p) v j is =
     let whole = no_error (p.is_escaped || nat_lt 0 (length p.bytes)) (At p.start 4 0 0) _ (v, j) is in
-    let both = or_false p.is_escaped (nat_lt 0 (length p.bytes)) whole.0 in
+    let both = or_parts p.is_escaped (nat_lt 0 (length p.bytes)) whole.0 in
     (p, refl, both.0, none p.bytes both.1, whole.1) where
       none : (bytes : List ℕ) → nat_lt 0 (length bytes) ≡ false → bytes ≡ []
       none [] is = refl

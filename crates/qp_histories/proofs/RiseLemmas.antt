@@ -2,6 +2,7 @@
 use Rattle.std.proofs.Common.{◌≡◌, ℕ, nat_le, nat_lt, Bool, true, false, not, ◌&&◌, ◌||◌, cond, List, [], ◌∷◌, ◌++◌, refl, ap, sym, ◌∙◌, Some, None, arith, append-nil}
 use Rattle.std.specs.List.{list_all}
 use Rattle.std.proofs.Math.Bool.{and-true, and_assoc, or-false}
+use Rattle.std.proofs.lemmas.Bool.{and_from, and_parts}
 use Rattle.std.proofs.lemmas.List.Elements.{filter-append}
 use Rattle.std.proofs.lemmas.Bool.Decides.{nat_tests}
 use Rattle.qp_model.specs.declared.words.Word.{Word}
@@ -9,7 +10,6 @@ use Rattle.qp_model.specs.Record.{Item}
 use Rattle.qp_model.specs.Lists.{never_falls}
 use Rattle.qp_model.specs.declared.record.Rec.{Rec}
 use Rattle.qp_model.specs.History.{Touch, Draws, Shows, Neither, touch, same_word, mark_of, marks, marks_rise, lane_items}
-use Rattle.qp_model.proofs.ListLemmas.{both_true, true_both}
 use Rattle.qp_histories.specs.MarkOrder.{last_mark}
 use Rattle.qp_histories.specs.Marks.{word_use, touched, mark_number, rises_from}
 
@@ -50,9 +50,9 @@ rises-marks w a (i ∷ is) = go (word_use w (touch i)) refl (rises-marks w (mark
 at_least : (a b : ℕ) (xs : List ℕ) → nat_le a b ≡ true → list_all (λ y. nat_le b y) xs ≡ true → list_all (λ y. nat_le a y) xs ≡ true
 at_least a b [] h k = refl
 at_least a b (x ∷ xs) h k =
-    let le : nat_le b x ≡ true = (both_true _ _ k).0 in
+    let le : nat_le b x ≡ true = (and_parts _ _ k).0 in
     let here : nat_le a x ≡ true = grind (arith, nat_tests) in
-    true_both _ _ here (at_least a b xs h (both_true _ _ k).1)
+    and_from _ _ here (at_least a b xs h (and_parts _ _ k).1)
 
 rises-falls : (a : ℕ) (xs : List ℕ) → rises a xs ≡ (list_all (λ y. nat_le a y) xs && never_falls xs)
 unfolding rises
@@ -70,7 +70,7 @@ rises-falls a (x ∷ xs) = ap (λ b. nat_le a x && b) (rises-falls x xs) ∙ go 
 
 above_zero : (xs : List ℕ) → list_all (λ y. nat_le 0 y) xs ≡ true
 above_zero [] = refl
-above_zero (x ∷ xs) = let here : nat_le 0 x ≡ true = grind (arith, nat_tests) in true_both _ _ here (above_zero xs)
+above_zero (x ∷ xs) = let here : nat_le 0 x ≡ true = grind (arith, nat_tests) in and_from _ _ here (above_zero xs)
 
 pub rises-touched : (w : Word) (items : List Item) → rises_from 0 (touched w items) ≡ never_falls (marks w items)
 rises-touched w items = rises-marks w 0 items ∙ rises-falls 0 (marks w items) ∙ ap (λ b. b && never_falls (marks w items)) (above_zero (marks w items))

@@ -2,6 +2,7 @@
 use Rattle.std.proofs.Common.{◌≡◌, ℕ, ◌==◌, Bool, true, false, cond, List, [], ◌∷◌, ◌++◌, map, refl, ◌∙◌, ap, subst, inl, inr, append_assoc, append-nil}
 use Rattle.std.specs.Option.{unwrap_or}
 use Rattle.std.specs.List.{list_any, filter}
+use Rattle.std.proofs.lemmas.Bool.{and_from, or_parts}
 use Rattle.std.proofs.lemmas.List.{map-append}
 use Rattle.qp_model.specs.declared.systems.System.{System}
 use Rattle.qp_model.specs.declared.systems.ObjectDef.{ObjectDef}
@@ -18,7 +19,6 @@ use Rattle.qp_model.specs.ObjectShape.{HasShape, CutGroups, ObjectGroups, Ends, 
 use Rattle.qp_model.specs.Course.{Cut, Whole, Stopped, FollowsTo}
 use Rattle.qp_model.proofs.GroupLemmas.{bare-append}
 use Rattle.qp_model.proofs.LastLemmas.{follows-shape}
-use Rattle.qp_orders.proofs.CalmLemmas.{or-false, and-true}
 use Rattle.qp_orders.proofs.RunLemmas.{filter-append}
 use Rattle.qp_orders.specs.SourceRun.{untold}
 use Rattle.qp_kernel.specs.LaneZero.{told_pieces_at, told_pieces}
@@ -54,7 +54,7 @@ AreUnmarked (t ∷ ts) = (is_turn_mark t.body ≡ false) × AreUnmarked ts
 pub own-unmarked : (o : ℕ) (ts : List ToldItem) → list_any (λ i. is_turn_mark i.body) (map untold ts) ≡ false → AreUnmarked (own_told o ts)
 own-unmarked o [] h = tt
 own-unmarked o (t ∷ ts) h =
-    let parts = or-false (is_turn_mark t.told.body) (list_any (λ i. is_turn_mark i.body) (map untold ts)) h in
+    let parts = or_parts (is_turn_mark t.told.body) (list_any (λ i. is_turn_mark i.body) (map untold ts)) h in
     go (t.of == o) parts.0 (own-unmarked o ts parts.1)
   where
     go : (v : Bool) → is_turn_mark t.told.body ≡ false → AreUnmarked (own_told o ts) → AreUnmarked (told_alone (cond v (t ∷ filter (λ x. x.of == o) ts) (filter (λ x. x.of == o) ts)))
@@ -95,7 +95,7 @@ AreCalm (t ∷ ts) = (is_end t.body ≡ false) × AreCalm ts
 pub own-calm : (o : ℕ) (ts : List ToldItem) → list_any (λ i. is_end i.body) (map untold ts) ≡ false → AreCalm (own_told o ts)
 own-calm o [] h = tt
 own-calm o (t ∷ ts) h =
-    let parts = or-false (is_end t.told.body) (list_any (λ i. is_end i.body) (map untold ts)) h in
+    let parts = or_parts (is_end t.told.body) (list_any (λ i. is_end i.body) (map untold ts)) h in
     go (t.of == o) parts.0 (own-calm o ts parts.1)
   where
     go : (v : Bool) → is_end t.told.body ≡ false → AreCalm (own_told o ts) → AreCalm (told_alone (cond v (t ∷ filter (λ x. x.of == o) ts) (filter (λ x. x.of == o) ts)))
@@ -105,7 +105,7 @@ own-calm o (t ∷ ts) h =
 calm-last : (g : List Told) → AreCalm g → asserts_last (g ++ plain body.Spent ∷ []) ≡ true
 unfolding asserts_last
 calm-last [] h = refl
-calm-last (t ∷ ts) h = and-true _ _ (rw (no-assert t.body h.0) (by ts)) (calm-last ts h.1)
+calm-last (t ∷ ts) h = and_from _ _ (rw (no-assert t.body h.0) (by ts)) (calm-last ts h.1)
   where
     by : (ts : List Told) → nothing_after false (ts ++ plain body.Spent ∷ []) ≡ true
     by [] = refl

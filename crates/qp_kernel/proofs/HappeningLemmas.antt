@@ -2,6 +2,7 @@
 use Rattle.std.proofs.Common.{◌≡◌, ℕ, zero, suc, ◌+◌, ◌-◌, ◌<◌, ◌≤◌, ◌==◌, nat_le, Bool, true, false, ◌&&◌, cond, List, [], ◌∷◌, ◌++◌, map, length, take, drop, refl, sym, ◌∙◌, ap, subst, arith, inl, inr, Option, Some, None, append_assoc, append-nil}
 use Rattle.std.specs.List.{count_by, list_all, enumerate_from, find}
 use Rattle.std.specs.Option.{option_map, is_some}
+use Rattle.std.proofs.lemmas.Bool.{and_from, and_parts}
 use Rattle.std.proofs.lemmas.Bool.Decides.{nat_tests}
 use Rattle.std.proofs.lemmas.List.{map-append}
 use Rattle.std.proofs.lemmas.List.Sums.{sum_by-cons}
@@ -20,7 +21,6 @@ use Rattle.qp_orders.specs.RunOrder.{placed}
 use Rattle.qp_orders.specs.Placing.{all_placed, AreBehind, look_item}
 use Rattle.qp_orders.specs.Stimulus.{source_items}
 use Rattle.qp_orders.specs.SourceRun.{untold}
-use Rattle.qp_orders.proofs.CalmLemmas.{and-true, and-split}
 use Rattle.qp_orders.proofs.OrderLaws.{stimuli_are_their_own}
 use Rattle.qp_kernel.specs.Happenings.{run_order, rises, told_by, lanes_from, begun_by, placed_of}
 
@@ -67,11 +67,11 @@ placed-own lane n g = go (lane == n) refl g
     go false is [] = refl
     go true is (t ∷ ts) =
         count-cons (λ (x : Placed). is_stim x && (x.lane == n)) (record { lane = lane; item = record { of = 0; body = t.body } }) (all_placed lane (source_items ts))
-        ∙ rw (is, and-true (is_some (stim_of t.body)), go true is ts) (sym (count-cons is_stim_told t ts))
+        ∙ rw (is, and_from (is_some (stim_of t.body)), go true is ts) (sym (count-cons is_stim_told t ts))
       where
-        and-true : (b : Bool) → (b && true) ≡ b
-        and-true true = refl
-        and-true false = refl
+        and_from : (b : Bool) → (b && true) ≡ b
+        and_from true = refl
+        and_from false = refl
     go false is (t ∷ ts) =
         count-cons (λ (x : Placed). is_stim x && (x.lane == n)) (record { lane = lane; item = record { of = 0; body = t.body } }) (all_placed lane (source_items ts))
         ∙ rw (is, and-false (is_some (stim_of t.body)), go false is ts) refl
@@ -132,7 +132,7 @@ pub rises-most : (n : ℕ) (hs : List Happening) (most : ℕ) → rises n hs mos
 unfolding rises
 rises-most n [] most h = grind (arith, nat_tests, h)
 rises-most n (g ∷ hs) most h =
-    let parts = and-split (nat_le n g.at) (rises g.at hs most) h in
+    let parts = and_parts (nat_le n g.at) (rises g.at hs most) h in
     let first : nat_le n g.at ≡ true = parts.0 in
     let later = rises-most g.at hs most parts.1 in
     grind (arith, nat_tests, first, later)
@@ -141,15 +141,15 @@ pub rises-more : (n : ℕ) (hs : List Happening) (few most : ℕ) → few ≤ mo
 unfolding rises
 rises-more n [] few most le h = grind (arith, nat_tests, le, h)
 rises-more n (g ∷ hs) few most le h =
-    let parts = and-split (nat_le n g.at) (rises g.at hs few) h in
-    and-true _ _ parts.0 (rises-more g.at hs few most le parts.1)
+    let parts = and_parts (nat_le n g.at) (rises g.at hs few) h in
+    and_from _ _ parts.0 (rises-more g.at hs few most le parts.1)
 
 pub rises-happens : (n : ℕ) (hs : List Happening) (h : Happening) → rises n hs h.at ≡ true → rises n (hs ++ h ∷ []) h.at ≡ true
 unfolding rises
-rises-happens n [] h r = let self : nat_le h.at h.at ≡ true = grind (arith, nat_tests) in and-true _ _ r self
+rises-happens n [] h r = let self : nat_le h.at h.at ≡ true = grind (arith, nat_tests) in and_from _ _ r self
 rises-happens n (g ∷ hs) h r =
-    let parts = and-split (nat_le n g.at) (rises g.at hs h.at) r in
-    and-true _ _ parts.0 (rises-happens g.at hs h parts.1)
+    let parts = and_parts (nat_le n g.at) (rises g.at hs h.at) r in
+    and_from _ _ parts.0 (rises-happens g.at hs h parts.1)
 
 take-front : {A : Type 0} (k : ℕ) (xs ys : List A) → k ≤ length xs → take k (xs ++ ys) ≡ take k xs
 take-front zero xs ys le = refl
@@ -176,7 +176,7 @@ pub order-more : (n : ℕ) (lane is : List Item) (hs : List Happening) → rises
 unfolding run_order rises
 order-more n lane is [] r = map-append (placed 0) lane is
 order-more n lane is (h ∷ hs) r =
-    let parts = and-split (nat_le n h.at) (rises h.at hs (n + length lane)) r in
+    let parts = and_parts (nat_le n h.at) (rises h.at hs (n + length lane)) r in
     let first : nat_le n h.at ≡ true = parts.0 in
     let most = rises-most h.at hs (n + length lane) parts.1 in
     let ahead : n ≤ h.at = grind (arith, nat_tests, first) in
@@ -196,7 +196,7 @@ order-happens n lane [] h r at =
     let all = take-all_of lane in
     rw (here, all.0, all.1) (append-nil (all_placed 0 lane ++ placed_of h))
 order-happens n lane (g ∷ hs) h r at =
-    let parts = and-split (nat_le n g.at) (rises g.at hs (n + length lane)) r in
+    let parts = and_parts (nat_le n g.at) (rises g.at hs (n + length lane)) r in
     let first : nat_le n g.at ≡ true = parts.0 in
     let most = rises-most g.at hs (n + length lane) parts.1 in
     let ahead : n ≤ g.at = grind (arith, nat_tests, first) in

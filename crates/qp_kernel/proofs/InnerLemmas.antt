@@ -4,6 +4,7 @@ use Rattle.std.specs.Prelude.{⊤, ◌⊎◌}
 use Rattle.std.specs.Bool.{MatchBool}
 use Rattle.std.specs.List.{list_all}
 use Rattle.std.specs.Option.{is_some}
+use Rattle.std.proofs.lemmas.Bool.{and_parts}
 use Rattle.qp_chart.specs.Task.{Task, Begin, Run, Unhandled, Exit, Enter, Init, Done, Do, Raise, Restore}
 use Rattle.qp_model.specs.declared.systems.System.{System}
 use Rattle.qp_model.specs.declared.bodies.Body.{Body}
@@ -55,21 +56,17 @@ usual-inner (item.NoLifo a f l m) h = absurd (cc)
 usual-inner (item.Stim i k) h = absurd (cc)
 usual-inner _ h = record { own = tt; unmarked = refl; calm = refl; unstim = refl }
 
-and-parts : (a b : Bool) → (a && b) ≡ true → (a ≡ true) × (b ≡ true)
-and-parts true b h = (refl, h)
-and-parts false b h = absurd (cc)
-
 tell-inner : (g : List Told) → Usual g → AreInner (tell g)
 tell-inner [] h = tt
 tell-inner (t ∷ ts) h =
-    let parts = and-parts (is_calm t.body || is_deferral t.body) (list_all (λ t. is_calm t.body || is_deferral t.body) ts) h in
+    let parts = and_parts (is_calm t.body || is_deferral t.body) (list_all (λ t. is_calm t.body || is_deferral t.body) ts) h in
     (usual-inner t.body parts.0, tell-inner ts parts.1)
 
 points-inner : (g : List Told) → Usual g → AreInner (with_points g)
 unfolding with_points
 points-inner [] h = tt
 points-inner (t ∷ ts) h =
-    let parts = and-parts (is_calm t.body || is_deferral t.body) (list_all (λ t. is_calm t.body || is_deferral t.body) ts) h in
+    let parts = and_parts (is_calm t.body || is_deferral t.body) (list_all (λ t. is_calm t.body || is_deferral t.body) ts) h in
     inner-append (piece_of t t.body) (with_points ts) (one t.body (usual-inner t.body parts.0)) (points-inner ts parts.1)
   where
     one : (b : Body) → IsInner t.body → AreInner (piece_of t b)
@@ -214,7 +211,7 @@ module _ (sys : System) (a : Actor) (at : Moment) where
       by (Enter s) closing h = absurd (cc)
       by (Init s) closing h = absurd (cc)
   does-form (t ∷ u ∷ ts) c ps mid closing h =
-      let parts = and-parts (not (is_done t)) (closes (u ∷ ts)) closing in
+      let parts = and_parts (not (is_done t)) (closes (u ∷ ts)) closing in
       by (task-form c (λ d rest. Does sys a at (u ∷ ts) d rest mid) (mid ≡ None) t ps (not-true (is_done t) parts.0) h) (λ d rest k. does-form (u ∷ ts) d rest mid parts.1 k)
     where
       not-true : (b : Bool) → not b ≡ true → b ≡ false

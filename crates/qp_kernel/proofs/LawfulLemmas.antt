@@ -4,6 +4,7 @@ use Rattle.std.specs.Prelude.{⊤, ◌⊎◌, slice_get}
 use Rattle.std.specs.Bool.{MatchBool}
 use Rattle.std.specs.Option.{unwrap_or, is_some}
 use Rattle.std.specs.List.{list_any, list_all, count_by, filter_map, find, AllByRecursion}
+use Rattle.std.proofs.lemmas.Bool.{and_from, and_parts, or_parts}
 use Rattle.std.proofs.lemmas.Bool.Decides.{nat_tests}
 use Rattle.qp_chart.specs.declared.checked.Chart.{Chart}
 use Rattle.qp_model.specs.declared.record.Rec.{Rec}
@@ -41,7 +42,6 @@ use Rattle.qp_model.proofs.KnowingLemmas.{records_of-told}
 use Rattle.qp_model.proofs.TakenLemmas.{drop-head}
 use Rattle.qp_orders.specs.RunOrder.{items_of, has_stim}
 use Rattle.qp_orders.specs.SourceRun.{untold, cut_at, SourceEnds}
-use Rattle.qp_orders.proofs.CalmLemmas.{and-true, and-split, or-false}
 use Rattle.qp_kernel.specs.LaneZero.{told_pieces, setting}
 use Rattle.qp_kernel.specs.ZeroEnds.{cut_in, may_stand, is_spent_right, own_told}
 use Rattle.qp_kernel.specs.Run.{SourcesEnd, IsRun}
@@ -300,7 +300,7 @@ module _ (sys : System) (stimuli : List (List Stim)) (j : Journal) (run : IsRun 
   takes-none : (o : ℕ) (is : List Item) → 0 < o → list_all (λ i. i.of == 0) is ≡ true → count_by (takes_of o) is ≡ 0
   takes-none o [] some h = refl
   takes-none o (i ∷ is) some h =
-      let parts = and-split (i.of == 0) (list_all (λ i. i.of == 0) is) h in
+      let parts = and_parts (i.of == 0) (list_all (λ i. i.of == 0) is) h in
       count-cons (takes_of o) i is (no i some parts.0) ∙ takes-none o is some parts.1
     where
       and-false : (b : Bool) → (b && false) ≡ false
@@ -321,7 +321,7 @@ module _ (sys : System) (stimuli : List (List Stim)) (j : Journal) (run : IsRun 
     rest P go = each P go 1 ls stimuli (ap (drop 1) split) run.sources length-is
 
     tests : (p : List Item → Bool) → p lane0 ≡ true → AllByRecursion (λ l. p (lane_items l) ≡ true) ls → list_all (λ l. p (lane_items l)) j.lanes ≡ true
-    tests p one others = ap (list_all (λ l. p (lane_items l))) split ∙ and-true (p (lane_items l)) (list_all (λ l. p (lane_items l)) ls) (ap (λ x. p (lane_items x)) (sym first-is) ∙ one) (all-tests (λ l. p (lane_items l)) ls others)
+    tests p one others = ap (list_all (λ l. p (lane_items l))) split ∙ and_from (p (lane_items l)) (list_all (λ l. p (lane_items l)) ls) (ap (λ x. p (lane_items x)) (sym first-is) ∙ one) (all-tests (λ l. p (lane_items l)) ls others)
 
     takes-rest : (o : ℕ) (ls : List (List Rec)) → 0 < o → AllByRecursion (λ l. list_all (λ i. i.of == 0) (lane_items l) ≡ true) ls → count_by (takes_of o) (all_items ls) ≡ 0
     unfolding all_items
@@ -344,22 +344,22 @@ module _ (sys : System) (stimuli : List (List Stim)) (j : Journal) (run : IsRun 
         by : (b : Bool) → (not b || (nat_lt 0 i.of && (took_count lane0 i.of == j.budget))) ≡ true → (not b || ((home_of sys j i.of == 0) && (took_count (all_items j.lanes) i.of == j.budget))) ≡ true
         by false h = refl
         by true h =
-            let parts = and-split (nat_lt 0 i.of) (took_count lane0 i.of == j.budget) h in
+            let parts = and_parts (nat_lt 0 i.of) (took_count lane0 i.of == j.budget) h in
             let some : 0 < i.of = grind (arith, nat_tests, parts.0) in
             rw (home-is i.of, takes-all i.of some, parts.1) refl
 
     spent-each : (is : List Item) → list_all (is_spent_right j.budget lane0) is ≡ true → list_all (spent_right sys j 0) is ≡ true
     spent-each [] h = refl
-    spent-each (i ∷ is) h = let parts = and-split (is_spent_right j.budget lane0 i) (list_all (is_spent_right j.budget lane0) is) h in rw (spent-own i parts.0, spent-each is parts.1) refl
+    spent-each (i ∷ is) h = let parts = and_parts (is_spent_right j.budget lane0 i) (list_all (is_spent_right j.budget lane0) is) h in rw (spent-own i parts.0, spent-each is parts.1) refl
 
     unspent-right : (n : ℕ) (is : List Item) → list_any (λ i. is_spent i.body) is ≡ false → list_all (spent_right sys j n) is ≡ true
     unspent-right n [] h = refl
-    unspent-right n (i ∷ is) h = let parts = or-false (is_spent i.body) (list_any (λ i. is_spent i.body) is) h in rw (parts.0, unspent-right n is parts.1) refl
+    unspent-right n (i ∷ is) h = let parts = or_parts (is_spent i.body) (list_any (λ i. is_spent i.body) is) h in rw (parts.0, unspent-right n is parts.1) refl
 
     unspent-follow : (shown : Option ℕ) (is : List Item) → list_any (λ i. is_spent i.body) is ≡ false → spents_follow shown is ≡ true
     unfolding spents_follow
     unspent-follow shown [] h = refl
-    unspent-follow shown (i ∷ is) h = let parts = or-false (is_spent i.body) (list_any (λ i. is_spent i.body) is) h in rw parts.0 (unspent-follow (shown_entry i) is parts.1)
+    unspent-follow shown (i ∷ is) h = let parts = or_parts (is_spent i.body) (list_any (λ i. is_spent i.body) is) h in rw parts.0 (unspent-follow (shown_entry i) is parts.1)
 
     spents-rest : (n : ℕ) (ls : List (List Rec)) → AllByRecursion (λ l. list_any (λ i. is_spent i.body) (lane_items l) ≡ false) ls → spents_hold sys j n ls ≡ true
     unfolding spents_hold

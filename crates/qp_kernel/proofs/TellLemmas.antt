@@ -2,6 +2,7 @@
 use Rattle.std.proofs.Common.{◌≡◌, ℕ, ◌==◌, Bool, true, false, not, cond, List, [], ◌∷◌, ◌++◌, map, refl, sym, ◌∙◌, ap, arith, Option, Some, None}
 use Rattle.std.specs.Option.{unwrap_or, option_and_then}
 use Rattle.std.specs.List.{filter, list_all}
+use Rattle.std.proofs.lemmas.Bool.{and_parts}
 use Rattle.std.proofs.lemmas.Bool.Decides.{nat_tests}
 use Rattle.qp_model.specs.declared.bodies.Body.{Body}
 use Rattle.qp_model.specs.declared.bodies.Body.TheVariants as body
@@ -15,7 +16,6 @@ use Rattle.qp_model.specs.Points.{is_look, begins_row, pieces_at, pieces_in}
 use Rattle.qp_model.specs.Sources.{source_records}
 use Rattle.qp_model.proofs.KnowingLemmas.{records_of-told}
 use Rattle.qp_orders.specs.SourceRun.{untold, source_told}
-use Rattle.qp_orders.proofs.CalmLemmas.{and-split}
 use Rattle.qp_kernel.specs.LaneZero.{told_pieces_at, told_pieces}
 use Rattle.qp_kernel.proofs.CeilingLemmas.{ceiling-next}
 
@@ -71,13 +71,13 @@ unspilled-lane w c (i ∷ is) = go (is_spill i.body) refl (unspilled-lane w (cei
 
 all-none : (ts : List ToldItem) → list_all (λ t. t.of == 0) ts ≡ true → filter (λ t. t.of == 0) ts ≡ ts
 all-none [] h = refl
-all-none (t ∷ ts) h = let parts = and-split (t.of == 0) (list_all (λ t. t.of == 0) ts) h in rw (parts.0, all-none ts parts.1) refl
+all-none (t ∷ ts) h = let parts = and_parts (t.of == 0) (list_all (λ t. t.of == 0) ts) h in rw (parts.0, all-none ts parts.1) refl
 
 alone-told : (w : Facts) (c : ℕ) (is : List Item) → list_all (λ i. i.of == 0) is ≡ true → list_all (λ t. t.of == 0) (filter (λ t. not (is_spill t.told.body)) (told_lane w c is)) ≡ true
 unfolding told_lane told
 alone-told w c [] h = refl
 alone-told w c (i ∷ is) h =
-    let parts = and-split (i.of == 0) (list_all (λ i. i.of == 0) is) h in
+    let parts = and_parts (i.of == 0) (list_all (λ i. i.of == 0) is) h in
     go (is_spill i.body) parts.0 (alone-told w (ceiling_after c i.body) is parts.1)
   where
     go : (v : Bool) → (i.of == 0) ≡ true → list_all (λ t. t.of == 0) (filter (λ t. not (is_spill t.told.body)) (told_lane w (ceiling_after c i.body) is)) ≡ true

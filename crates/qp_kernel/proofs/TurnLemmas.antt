@@ -3,6 +3,7 @@ use Rattle.std.proofs.Common.{◌≡◌, ℕ, zero, suc, Bool, true, false, ◌|
 use Rattle.std.specs.Prelude.{◌⊎◌, ◌≢◌}
 use Rattle.std.specs.List.{list_any}
 use Rattle.std.specs.Option.{is_some}
+use Rattle.std.proofs.lemmas.Bool.{or_parts}
 use Rattle.qp_chart.specs.Agenda.{start_plan}
 use Rattle.qp_chart.specs.Task.{Task}
 use Rattle.qp_model.specs.declared.systems.System.{System}
@@ -24,7 +25,7 @@ use Rattle.qp_model.proofs.GroupLemmas.{bare-append, bare-tell}
 use Rattle.qp_model.proofs.KernelRowLemmas.{IsOwnRole}
 use Rattle.qp_orders.specs.SourceRun.{untold}
 use Rattle.std.proofs.lemmas.List.{map-append}
-use Rattle.qp_orders.proofs.CalmLemmas.{or-false, calm-ends_last}
+use Rattle.qp_orders.proofs.CalmLemmas.{calm-ends_last}
 use Rattle.qp_kernel.specs.Stages.{closes}
 use Rattle.qp_kernel.proofs.AgendaLemmas.{start-closes}
 use Rattle.qp_kernel.proofs.InnerLemmas.{IsInner, AreInner, inner-append, Form, does-form}
@@ -185,8 +186,8 @@ assert-ends : (b : Body) → is_assert b ≡ true → is_end b ≡ true
 assert-ends b h = rw h refl
 
 calm-behind : (g : List Told) (t : Told) (rel : List Told) → list_any (λ t. is_end t.body) (g ++ t ∷ rel) ≡ false → is_end t.body ≡ false
-calm-behind [] t rel h = (or-false (is_end t.body) (list_any (λ t. is_end t.body) rel) h).0
-calm-behind (x ∷ g) t rel h = calm-behind g t rel (or-false (is_end x.body) (list_any (λ t. is_end t.body) (g ++ t ∷ rel)) h).1
+calm-behind [] t rel h = (or_parts (is_end t.body) (list_any (λ t. is_end t.body) rel) h).0
+calm-behind (x ∷ g) t rel h = calm-behind g t rel (or_parts (is_end x.body) (list_any (λ t. is_end t.body) (g ++ t ∷ rel)) h).1
 
 -- what came of a step before it was cut: records of its inside; or all of them, its `done`, and the front of its release
 pub data CutForm (g : List Told) : Type 0 where
@@ -227,7 +228,7 @@ own-last (x ∷ g) t own role mark = (own.0, own.1, own-last g t own.2 role mark
 
 calm-told : (p : ℕ) (g : List Told) → list_any (λ t. is_end t.body) g ≡ false → list_any (λ i. is_end i.body) (map untold (map (for_object p) g)) ≡ false
 calm-told p [] h = refl
-calm-told p (t ∷ ts) h = let parts = or-false (is_end t.body) (list_any (λ t. is_end t.body) ts) h in rw (parts.0, calm-told p ts parts.1) refl
+calm-told p (t ∷ ts) h = let parts = or_parts (is_end t.body) (list_any (λ t. is_end t.body) ts) h in rw (parts.0, calm-told p ts parts.1) refl
 
 last-ends : (p : ℕ) (g : List Told) (t : Told) → list_any (λ t. is_end t.body) g ≡ false → ends_last (map untold (map (for_object p) (g ++ t ∷ []))) ≡ true
 unfolding ends_last
@@ -293,7 +294,7 @@ drops-calm (t ∷ ts) h = rw ((drop-not_look t.body h.0).2, drops-calm ts h.1) r
 
 done-calm : (front rel : List Told) → list_any (λ t. is_end t.body) front ≡ false → list_any (λ t. is_end t.body) rel ≡ false → list_any (λ t. is_end t.body) (front ++ plain item.Done ∷ rel) ≡ false
 done-calm [] rel a b = b
-done-calm (t ∷ ts) rel a b = let parts = or-false (is_end t.body) (list_any (λ t. is_end t.body) ts) a in rw (parts.0, done-calm ts rel parts.1 b) refl
+done-calm (t ∷ ts) rel a b = let parts = or_parts (is_end t.body) (list_any (λ t. is_end t.body) ts) a in rw (parts.0, done-calm ts rel parts.1 b) refl
 
 done-unstim : (g front rel : List Told) → g ≡ front ++ plain item.Done ∷ rel → AreInner (tell front) → AreInner (tell rel) → list_any (λ t. is_some (stim_of t.body)) g ≡ false
 done-unstim g front rel whole a b = subst (λ x. list_any (λ t. is_some (stim_of t.body)) x ≡ false) (sym whole) (go front a)

@@ -1,6 +1,7 @@
 -- A home lane, read in a walk over its records.
 use Rattle.std.proofs.Common.{◌≡◌, ◌∙◌, ℕ, ◌+◌, ◌<◌, ◌==◌, Bool, true, false, not, ◌&&◌, ◌||◌, cond, List, [], ◌∷◌, ◌++◌, length, map, take, drop, get_or, ap, sym, refl, arith}
 use Rattle.std.specs.List.{list_any}
+use Rattle.std.proofs.lemmas.Bool.{and_from, and_parts}
 use Rattle.std.proofs.lemmas.Bool.Decides.{nat_tests}
 use Rattle.std.specs.Ordering.{is_eq}
 use Rattle.std.proofs.lemmas.List.{length-map, take_more, take-append-drop}
@@ -9,7 +10,6 @@ use Rattle.qp_model.specs.declared.record.Rec.{Rec}
 use Rattle.qp_model.specs.Record.{item_of}
 use Rattle.qp_model.specs.History.{lane_items}
 use Rattle.qp_model.specs.HomeLane.{all_differ, are_at_home, is_at_home, taken_by}
-use Rattle.qp_model.proofs.ListLemmas.{both_true, true_both}
 use Rattle.qp_lanes.specs.Keys.{key_cmp, same_key}
 use Rattle.qp_lanes.proofs.KeyLemmas.{same-cmp}
 
@@ -67,7 +67,7 @@ pub differ-front : (xs ys : List (ℕ × ℕ × ℕ)) → all_differ (xs ++ ys) 
 unfolding all_differ
 differ-front [] ys h = refl
 differ-front (x ∷ xs) ys h =
-    true_both _ _ (go (list_any (same_key x) xs) (list_any (same_key x) ys) (ap not (sym (list_any-append (same_key x) xs ys)) ∙ (both_true _ _ h).0)) (differ-front xs ys (both_true _ _ h).1)
+    and_from _ _ (go (list_any (same_key x) xs) (list_any (same_key x) ys) (ap not (sym (list_any-append (same_key x) xs ys)) ∙ (and_parts _ _ h).0)) (differ-front xs ys (and_parts _ _ h).1)
   where
     go : (a b : Bool) → not (a || b) ≡ true → not a ≡ true
     go true b h = h

@@ -2,8 +2,9 @@
 use Rattle.std.proofs.Common.{◌≡◌, ◌∙◌, ◌↔◌, ℕ, Bool, true, not, ◌&&◌, ◌||◌, List, [], ◌∷◌, map, None, IsTrue, ap, sym, refl}
 use Rattle.std.specs.Option.{option_map_or}
 use Rattle.std.specs.List.{list_all, list_any}
-use Rattle.std.specs.Cmp.Derive.{both_true as both}
+use Rattle.std.specs.Cmp.Derive.{and_parts as both}
 use Rattle.std.proofs.Math.Path.{fun_ext}
+use Rattle.std.proofs.lemmas.Bool.{and_parts}
 use Rattle.std.proofs.lemmas.List.Folds.{list_all-map}
 use Rattle.qp_chart.specs.StateTree.{has}
 use Rattle.qp_model.specs.declared.record.Rec.{Rec}
@@ -12,7 +13,6 @@ use Rattle.qp_model.specs.History.{lane_items}
 use Rattle.qp_model.specs.Ends.{ends_last, spills_in}
 use Rattle.qp_model.specs.Places.{in_order}
 use Rattle.qp_model.specs.OneOrder.{OneThread, Placed, IsOneOrder, is_turn, is_free, last_is_free, look_numbers, looks_right, order, stim_of, stims_placed, turns_at}
-use Rattle.qp_model.proofs.ListLemmas.{both_true}
 use Rattle.qp_lane_zero.specs.declared.stimulus_index.Placed as code
 use Rattle.qp_lane_zero.specs.AsPlaced.{as_placed, said_at}
 use Rattle.qp_lane_zero.specs.OrderTurns.{turns_in}
@@ -55,10 +55,10 @@ module _ (r : OneThread) (placed stands free : Bool) (xs : List Placed) (is : xs
     (f : free ≡ (r.cuts || not (list_any spills_in r.sources) || last_is_free r (look_numbers r.lane0))) where
   to : IsTrue (placed && stands && free) → IsOneOrder r
   to h =
-      let all = both_true _ _ h in
-      let first = both_true _ _ all.0 in
-      let ended = both_true _ _ (rw s at first.1) in
-      let turned = both_true _ _ ended.0 in
+      let all = and_parts _ _ h in
+      let first = and_parts _ _ all.0 in
+      let ended = and_parts _ _ (rw s at first.1) in
+      let turned = and_parts _ _ ended.0 in
       record {
         placed = sym p ∙ first.0;
         turns = ap (λ l. looks_right r [] l) (sym is) ∙ turned.0;

@@ -2,6 +2,7 @@
 use Rattle.std.proofs.Common.{◌≡◌, ℕ, ◌<◌, ◌≤◌, ◌==◌, nat_lt, nat_le, Bool, true, false, not, ◌&&◌, ◌||◌, cond, List, [], ◌∷◌, ◌++◌, length, refl, ◌∙◌, ap, subst, ◌⊎◌, inl, inr, Option, Some, None, arith, ◌↔◌}
 use Rattle.std.specs.Option.{unwrap_or}
 use Rattle.std.specs.List.{list_all, filter_map, cons_option}
+use Rattle.std.proofs.lemmas.Bool.{and_parts}
 use Rattle.std.proofs.lemmas.Bool.Decides.{nat_tests}
 use Rattle.qp_model.specs.declared.record.Rec.{Rec}
 use Rattle.qp_model.specs.declared.systems.System.{System}
@@ -18,7 +19,6 @@ use Rattle.qp_model.specs.WordLaw.{Words, is_pool, is_block}
 use Rattle.qp_model.specs.Sites.{blocks_of}
 use Rattle.qp_model.specs.Promises as promise
 use Rattle.qp_model.specs.Promises.{operations, back_of, life_end, LiesInLife}
-use Rattle.qp_model.proofs.ListLemmas.{both_true}
 use Rattle.qp_model.proofs.MachineLemmas.{is_allowed-rest}
 use Rattle.qp_model.proofs.LineLemmas.{same_number}
 use Rattle.qp_model.proofs.PromiseLemmas.{numbered_once}
@@ -33,7 +33,7 @@ module _ (b r : ℕ) where
   given-past : (e : Option Event) (s : Life) (is : List Item) → allowed_from (life_of b) s is ≡ true → r < s.edge → last_given b r e is ≡ e
   unfolding allowed_from last_given
   given-past e s [] h past = refl
-  given-past e s (i ∷ is) h past = go i.body (λ t h past. given-past e t is h past) (both_true _ _ h).0 (both_true _ _ h).1
+  given-past e s (i ∷ is) h past = go i.body (λ t h past. given-past e t is h past) (and_parts _ _ h).0 (and_parts _ _ h).1
     where
       go : (c : Body) → ((t : Life) → allowed_from (life_of b) t is ≡ true → r < t.edge → last_given b r e is ≡ e)
           → life_may b s c ≡ true → allowed_from (life_of b) (life_next b s c) is ≡ true → last_given b r (given_by b r e c) is ≡ e
@@ -43,7 +43,7 @@ module _ (b r : ℕ) where
               → allowed_from (life_of b) (cond same (record { out = true; edge = from }) s) is ≡ true
               → last_given b r (cond (same && nat_le from r) (Some (record { sig = sig; pars = pars })) e) is ≡ e
           at true may rest =
-              let begins : (from == s.edge) ≡ true = (both_true _ _ may).1 in
+              let begins : (from == s.edge) ≡ true = (and_parts _ _ may).1 in
               let above : nat_le from r ≡ false = grind (arith, nat_tests, past, begins) in
               rw above (later (record { out = true; edge = from }) rest (grind (arith, nat_tests, past, begins)))
           at false may rest = later s rest past
@@ -53,7 +53,7 @@ module _ (b r : ℕ) where
               → allowed_from (life_of b) (cond same (record { out = false; edge = to }) s) is ≡ true
               → last_given b r (cond (same && nat_le to r) None e) is ≡ e
           at true may rest =
-              let ends : nat_lt s.edge to ≡ true = (both_true _ _ may).1 in
+              let ends : nat_lt s.edge to ≡ true = (and_parts _ _ may).1 in
               let above : nat_le to r ≡ false = grind (arith, nat_tests, past, ends) in
               rw above (later (record { out = false; edge = to }) rest (grind (arith, nat_tests, past, ends)))
           at false may rest = later s rest past
@@ -64,7 +64,7 @@ module _ (b r : ℕ) where
       → last_given b r e is ≡ e
   unfolding allowed_from last_given life_end
   given-out e whole s [] h out going = refl
-  given-out e whole s (i ∷ is) h out going = go i.body (λ h going. given-out e whole s is h out going) (both_true _ _ h).0 (both_true _ _ h).1 going
+  given-out e whole s (i ∷ is) h out going = go i.body (λ h going. given-out e whole s is h out going) (and_parts _ _ h).0 (and_parts _ _ h).1 going
     where
       go : (c : Body) → (allowed_from (life_of b) s is ≡ true → r < life_end b whole is → last_given b r e is ≡ e)
           → life_may b s c ≡ true → allowed_from (life_of b) (life_next b s c) is ≡ true → r < unwrap_or (back_of b c) (life_end b whole is)
@@ -102,7 +102,7 @@ end-within b block (i ∷ is) h = go i.body (λ h. end-within b block is h) h
         at : (same : Bool)
             → list_all (λ n. nat_le n (length block) && is_empty (refs_at n block)) (cons_option (cond same (Some from) None) (filter_map (λ i. edge_of b i.body) is)) ≡ true
             → life_end b (length block) is ≤ length block
-        at true h = later (both_true _ _ h).1
+        at true h = later (and_parts _ _ h).1
         at false h = later h
     go (Back p n c to) later h = at (c == b) h
       where
@@ -110,7 +110,7 @@ end-within b block (i ∷ is) h = go i.body (λ h. end-within b block is h) h
             → list_all (λ n. nat_le n (length block) && is_empty (refs_at n block)) (cons_option (cond same (Some to) None) (filter_map (λ i. edge_of b i.body) is)) ≡ true
             → unwrap_or (cond same (Some to) None) (life_end b (length block) is) ≤ length block
         at true h =
-            let within : nat_le to (length block) ≡ true = (both_true _ _ (both_true _ _ h).0).0 in
+            let within : nat_le to (length block) ≡ true = (and_parts _ _ (and_parts _ _ h).0).0 in
             grind (arith, nat_tests, within)
         at false h = later h
     go _ later h = later h
@@ -199,7 +199,7 @@ edges-behind b block (x ∷ xs) ys h = edges-behind b block xs ys (behind (edge_
     behind : (o : Option ℕ) → list_all (λ n. nat_le n (length block) && is_empty (refs_at n block)) (cons_option o (filter_map (λ i. edge_of b i.body) (xs ++ ys))) ≡ true
         → list_all (λ n. nat_le n (length block) && is_empty (refs_at n block)) (filter_map (λ i. edge_of b i.body) (xs ++ ys)) ≡ true
     behind None h = h
-    behind (Some x) h = (both_true _ _ h).1
+    behind (Some x) h = (and_parts _ _ h).1
 
 -- a number that lies in a life of the event has it
 life-gives : (p b r : ℕ) (ev : Event) (pool block : List Item) → HasLives b pool block → LiesInLife p b r ev pool block
@@ -210,7 +210,7 @@ life-gives p b r ev pool block lives l =
     let split : is_allowed (life_of b) (l.earlier ++ i ∷ l.later) ≡ true = subst (λ h. is_allowed (life_of b) h ≡ true) l.given lives.alternate in
     let rest : allowed_from (life_of b) (after (life_of b) l.earlier) (i ∷ l.later) ≡ true = is_allowed-rest (life_of b) l.earlier (i ∷ l.later) split in
     let behind : allowed_from (life_of b) (record { out = true; edge = l.from }) l.later ≡ true =
-    subst (λ same. allowed_from (life_of b) (cond same (record { out = true; edge = l.from }) (after (life_of b) l.earlier)) l.later ≡ true) (same_number b) (both_true _ _ rest).1 in
+    subst (λ same. allowed_from (life_of b) (cond same (record { out = true; edge = l.from }) (after (life_of b) l.earlier)) l.later ≡ true) (same_number b) (and_parts _ _ rest).1 in
     let some : edges_empty b (l.earlier ++ i ∷ l.later) block ≡ true = subst (λ h. edges_empty b h block ≡ true) l.given lives.empty in
     let later_edges : edges_empty b l.later block ≡ true = edges-behind b block (i ∷ []) l.later (edges-behind b block l.earlier (i ∷ l.later) some) in
     let within : life_end b (length block) l.later ≤ length block = end-within b block l.later later_edges in
@@ -224,7 +224,7 @@ life-gives p b r ev pool block lives l =
 module _ (sys : System) (lanes : List (List Rec)) (words : Words sys lanes) (p b r : ℕ) (ev : Event) (is_in : is_block sys p b ≡ true) where
   in_pool : is_pool sys p ≡ true
   unfolding is_block
-  in_pool = (both_true (is_pool sys p) (nat_lt b (blocks_of sys p)) is_in).0
+  in_pool = (and_parts (is_pool sys p) (nat_lt b (blocks_of sys p)) is_in).0
 
   life-of : LiesInLife p b r ev (operations (word.Pool p) lanes) (operations (word.Block p b) lanes)
       → life_event (record { sys = sys; items = all_items lanes }) p b r ≡ Some ev
@@ -239,7 +239,7 @@ module _ (sys : System) (lanes : List (List Rec)) (words : Words sys lanes) (p b
   of-pool f =
       let i : Item = record { of = f.by; body = New f.pool f.number b f.from ev.sig ev.pars } in
       let drawn = (numbered_once (word.Pool p) lanes (words.pools p in_pool).numbers).placed f.earlier f.later i f.given in
-      let same : (f.pool == p) ≡ true = (both_true _ _ drawn).0 in
+      let same : (f.pool == p) ≡ true = (and_parts _ _ drawn).0 in
       let is : f.pool ≡ p = grind (arith, nat_tests, same) in
       record {
         earlier = f.earlier;
@@ -275,7 +275,7 @@ module _ (sys : System) (lanes : List (List Rec)) (words : Words sys lanes) (p b
       ↔ LiesInLife p b r ev (operations (word.Pool p) lanes) (operations (word.Block p b) lanes)
   unfolding event_of
   event-is =
-      let above : nat_lt 0 p ≡ true = (both_true _ _ in_pool).0 in
+      let above : nat_lt 0 p ≡ true = (and_parts _ _ in_pool).0 in
       let pooled : (p == 0) ≡ false = grind (arith, nat_tests, above) in
       rw pooled (of-life, life-of)
 

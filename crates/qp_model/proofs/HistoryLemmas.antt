@@ -2,30 +2,31 @@
 use Rattle.std.proofs.Common.{◌≡◌, ℕ, zero, suc, ◌<◌, ◌==◌, nat_lt, nat_le, Bool, true, false, not, ◌&&◌, ◌||◌, List, [], ◌∷◌, ◌++◌, length, refl, ap, arith, length-append}
 use borrow.Author.Count.{below_more}
 use Rattle.std.specs.List.{filter}
+use Rattle.std.proofs.lemmas.Bool.{and_from, and_parts}
 use Rattle.std.proofs.lemmas.Bool.Decides.{nat_tests}
 use Rattle.qp_model.specs.declared.words.Word.{Word}
 use Rattle.qp_model.specs.Record.{Item}
 use Rattle.qp_model.specs.History.{touch, same_word, Touch, Draws, Shows, Neither, drawn_on, drawn_as, drawn_below, total, numbered, hist, is_numbered}
-use Rattle.qp_model.proofs.ListLemmas.{both_true, true_both, all_below_at, all_below_from, filter-insert_not, length_filter-insert, filter-insert_only, filter-none, list_all-insert}
+use Rattle.qp_model.proofs.ListLemmas.{all_below_at, all_below_from, filter-insert_not, length_filter-insert, filter-insert_only, filter-none, list_all-insert}
 
 -- the number that a record draws is one
 pub drawn_as-on : (w : Word) (n : ℕ) (t : Touch) → drawn_as w n t ≡ true → drawn_on w t ≡ true
-drawn_as-on w n (Draws v k) h = (both_true _ _ h).0
+drawn_as-on w n (Draws v k) h = (and_parts _ _ h).0
 drawn_as-on w n (Shows v k) h = cc
 drawn_as-on w n Neither h = cc
 
 drawn_as-other : (w : Word) (n k : ℕ) (t : Touch) → drawn_as w n t ≡ true → k < n → drawn_as w k t ≡ false
 drawn_as-other w n k (Draws v j) h lt =
-    let here : (j == suc n) ≡ true = (both_true _ _ h).1 in
-    let same : same_word v w ≡ true = (both_true _ _ h).0 in
+    let here : (j == suc n) ≡ true = (and_parts _ _ h).1 in
+    let same : same_word v w ≡ true = (and_parts _ _ h).0 in
     rw same (grind (arith, nat_tests))
 drawn_as-other w n k (Shows v j) h lt = refl
 drawn_as-other w n k Neither h lt = refl
 
 pub drawn_as-below : (w : Word) (n : ℕ) (t : Touch) → drawn_as w n t ≡ true → drawn_below w (suc n) t ≡ true
 drawn_as-below w n (Draws v j) h =
-    let here : (j == suc n) ≡ true = (both_true _ _ h).1 in
-    let same : same_word v w ≡ true = (both_true _ _ h).0 in
+    let here : (j == suc n) ≡ true = (and_parts _ _ h).1 in
+    let same : same_word v w ≡ true = (and_parts _ _ h).0 in
     rw same (grind (arith, nat_tests))
 drawn_as-below w n (Shows v j) h = refl
 drawn_as-below w n Neither h = refl
@@ -71,7 +72,7 @@ length-numbered w items (suc n) h =
 pub length-hist : (w : Word) (items : List Item) → is_numbered w items ≡ true → length (hist w items) ≡ total w items
 unfolding hist is_numbered
 length-hist w items h =
-    length-numbered w items (total w items) (all_below_at (total w items) (λ n. length (filter (λ j. drawn_as w n (touch j)) items) == 1) (both_true _ _ h).1)
+    length-numbered w items (total w items) (all_below_at (total w items) (λ n. length (filter (λ j. drawn_as w n (touch j)) items) == 1) (and_parts _ _ h).1)
 
 module _ (w : Word) (xs : List Item) (i : Item) (ys : List Item) where
   pub total-draws : drawn_on w (touch i) ≡ true → total w (xs ++ i ∷ ys) ≡ suc (total w (xs ++ ys))
@@ -100,7 +101,7 @@ module _ (w : Word) (xs : List Item) (i : Item) (ys : List Item)
   only-next =
       filter-insert_only (λ j. drawn_as w (total w (xs ++ ys)) (touch j)) xs i ys next
       (filter-none (λ j. drawn_as w (total w (xs ++ ys)) (touch j)) (λ j. drawn_below w (total w (xs ++ ys)) (touch j)) (xs ++ ys)
-      (λ j. drawn_below-not w _ (touch j)) (both_true _ _ numbers).0)
+      (λ j. drawn_below-not w _ (touch j)) (and_parts _ _ numbers).0)
 
   -- the history has it at its end
   pub hist-draws : hist w (xs ++ i ∷ ys) ≡ hist w (xs ++ ys) ++ i ∷ []
@@ -118,7 +119,7 @@ module _ (w : Word) (xs : List Item) (i : Item) (ys : List Item)
   once k lt =
       below_more (λ n. (length (filter (λ j. drawn_as w n (touch j)) (xs ++ i ∷ ys)) == 1) ≡ true) (total w (xs ++ ys))
       (λ n below. rw (filter-insert_not (λ j. drawn_as w n (touch j)) xs i ys (drawn_as-other w _ n (touch i) next below))
-      (all_below_at _ (λ n. length (filter (λ j. drawn_as w n (touch j)) (xs ++ ys)) == 1) (both_true _ _ numbers).1 n below))
+      (all_below_at _ (λ n. length (filter (λ j. drawn_as w n (touch j)) (xs ++ ys)) == 1) (and_parts _ _ numbers).1 n below))
       (rw only-next refl) k (omega arith)
 
   -- and the numbers are still 0, 1 and so on, each once
@@ -126,8 +127,8 @@ module _ (w : Word) (xs : List Item) (i : Item) (ys : List Item)
   unfolding is_numbered
   is_numbered-draws =
       rw total-next
-      (true_both _ _
-      (list_all-insert _ _ xs i ys (λ j. drawn_below-more w _ (touch j)) (drawn_as-below w _ (touch i) next) (both_true _ _ numbers).0)
+      (and_from _ _
+      (list_all-insert _ _ xs i ys (λ j. drawn_below-more w _ (touch j)) (drawn_as-below w _ (touch i) next) (and_parts _ _ numbers).0)
       (all_below_from (suc (total w (xs ++ ys))) (λ n. length (filter (λ j. drawn_as w n (touch j)) (xs ++ i ∷ ys)) == 1) once))
 
 -- A record more that draws no number of w.
@@ -141,12 +142,12 @@ module _ (w : Word) (xs : List Item) (i : Item) (ys : List Item) (other : drawn_
     unfolding is_numbered
     still_once k lt =
         rw (filter-insert_not (λ j. drawn_as w k (touch j)) xs i ys (not_drawn w k (touch i) other))
-        (all_below_at (total w (xs ++ ys)) (λ n. length (filter (λ j. drawn_as w n (touch j)) (xs ++ ys)) == 1) (both_true _ _ numbers).1 k lt)
+        (all_below_at (total w (xs ++ ys)) (λ n. length (filter (λ j. drawn_as w n (touch j)) (xs ++ ys)) == 1) (and_parts _ _ numbers).1 k lt)
 
     pub is_numbered-other : is_numbered w (xs ++ i ∷ ys) ≡ true
     unfolding is_numbered
     is_numbered-other =
         rw (total-other w xs i ys other)
-        (true_both _ _
-        (list_all-insert _ _ xs i ys (λ j e. e) (not_drawn_below w (total w (xs ++ ys)) (touch i) other) (both_true _ _ numbers).0)
+        (and_from _ _
+        (list_all-insert _ _ xs i ys (λ j e. e) (not_drawn_below w (total w (xs ++ ys)) (touch i) other) (and_parts _ _ numbers).0)
         (all_below_from (total w (xs ++ ys)) (λ n. length (filter (λ j. drawn_as w n (touch j)) (xs ++ i ∷ ys)) == 1) still_once))

@@ -2,6 +2,7 @@
 use Rattle.std.proofs.Common.{◌≡◌, ◌≢◌, ℕ, suc, ◌+◌, ◌<◌, ◌==◌, nat_lt, Bool, true, false, not, ◌&&◌, ◌||◌, cond, List, [], ◌∷◌, ◌++◌, length, drop, refl, sym, ◌∙◌, ap, subst, Some, append_assoc, append-nil, arith, length-append}
 use Rattle.std.specs.Option.{unwrap_or, is_some}
 use Rattle.std.specs.List.{filter, find, position, prefix_len, slice_get, AllByRecursion}
+use Rattle.std.proofs.lemmas.Bool.{and_parts}
 use Rattle.std.proofs.lemmas.Bool.Decides.{nat_tests}
 use Rattle.std.proofs.lemmas.List.Elements.{filter-append}
 use Rattle.qp_model.specs.declared.record.Rec.{Rec}
@@ -20,7 +21,6 @@ use Rattle.qp_model.specs.Ends.{may_cut}
 use Rattle.qp_model.specs.HomeLane.{is_at_home, are_at_home, taken_by, is_home_lane}
 use Rattle.qp_model.specs.Lawful.{ObjectHolds, SourceLanes}
 use Rattle.qp_model.specs.Laws.{Ascend}
-use Rattle.qp_model.proofs.ListLemmas.{both_true}
 use Rattle.qp_model.proofs.TakenLemmas.{is_taking, takes_for, drop-head, none-in-sources}
 
 -- under a kernel the records for an object's shape are its records
@@ -61,12 +61,12 @@ none-at-home : (o p budget : ℕ) (cuts : Bool) (n : ℕ) (is : List Item) → p
 unfolding are_at_home
 none-at-home o p budget cuts n [] other h = refl
 none-at-home o p budget cuts n (i ∷ is) other h =
-    rw (at_home-takes o p i.of (n == budget) (cuts && (length is == 0)) i.body other (both_true _ _ h).0)
-    (none-at-home o p budget cuts (taken_by n i.body) is other (both_true _ _ h).1)
+    rw (at_home-takes o p i.of (n == budget) (cuts && (length is == 0)) i.body other (and_parts _ _ h).0)
+    (none-at-home o p budget cuts (taken_by n i.body) is other (and_parts _ _ h).1)
 
 none-home : (o p budget : ℕ) (cuts : Bool) (is : List Item) → p ≢ o → is_home_lane p budget cuts is ≡ true → filter (takes_for o) is ≡ []
 unfolding is_home_lane
-none-home o p budget cuts is other h = none-at-home o p budget cuts 0 is other (both_true _ _ (both_true _ _ h).0).0
+none-home o p budget cuts is other h = none-at-home o p budget cuts 0 is other (and_parts _ _ (and_parts _ _ h).0).0
 
 -- those of the front are below each of these
 abbrev pub AreBelow : List ObjectDef → List ObjectDef → Type 0

@@ -6,8 +6,6 @@ use Rattle.qp_model.specs.declared.bodies.Body.{Body}
 use Rattle.qp_model.specs.declared.bodies.Body.TheVariants as body
 use Rattle.qp_model.specs.declared.bodies.Body.TheVariants.{NoEntry, NoBlock, Armed, BadTicks, NoLifo, Malformed}
 use Rattle.qp_model.specs.Record.{entry, never, bare, one, two, three, four, five, six, seven, given, asserted, forms, read_by, body_at}
-use Rattle.qp_model.specs.Ends.{is_assert}
-use Rattle.qp_model.specs.Notes.{is_note}
 use Rattle.qp_model.specs.KindSorts.{kind_in, sort_of, is_malformed, is_of_sort, SortsHold}
 
 -- nothing is said, or what is of the kind
@@ -272,14 +270,14 @@ kinds_hold kind nums =
 
 -- what is said is of the sort of its kind
 of-sort : (b : Body) → (is_malformed b || is_of_sort (sort_of (kind_in b)) b) ≡ true
-unfolding sort_of is_note is_assert
+unfolding sort_of
+of-sort body.Malformed = refl
 of-sort _ = refl
 
 pub sorts_hold : SortsHold
 sorts_hold kind nums = go (body_at kind nums) (kinds_hold kind nums)
   where
     go : (b : Body) → (is_malformed b || (kind_in b == kind)) ≡ true → (is_malformed b || is_of_sort (sort_of kind) b) ≡ true
-    go body.Malformed tells = refl
     go b tells = by (is_malformed b) refl
       where
         by : (nothing : Bool) → is_malformed b ≡ nothing → (is_malformed b || is_of_sort (sort_of kind) b) ≡ true

@@ -1,6 +1,7 @@
 -- What is known beside a record stays when a record is added: the records are xs ++ ys before it, and xs ++ i ∷ ys after it.
 use Rattle.std.proofs.Common.{◌≡◌, ℕ, suc, ◌+◌, ◌<◌, ◌≤◌, ◌==◌, nat_le, Bool, true, false, ◌&&◌, cond, List, [], ◌∷◌, ◌++◌, length, take, refl, sym, ◌∙◌, ap, subst, ◌⊎◌, inl, inr, Option, Some, None, arith, length-append, nat_lt}
 use Rattle.std.specs.List.{filter}
+use Rattle.std.proofs.lemmas.Bool.{and_from, and_parts}
 use Rattle.std.proofs.lemmas.List.{take-append-le}
 use Rattle.std.proofs.lemmas.Bool.Decides.{nat_tests}
 use Rattle.qp_chart.specs.StateTree.{has}
@@ -20,7 +21,6 @@ use Rattle.qp_model.specs.Subscribers.{subscribers}
 use Rattle.qp_model.specs.Sites.{blocks_of}
 use Rattle.qp_model.specs.Knowing.{Facts, free_before, left_after, set_at, given_by, last_given, event_of, event_known, known_of, told, ceiling_after, records_of, ceiling_over, told_lane, told_alone, life_event}
 use Rattle.qp_model.specs.Settled.{Settled, AllSettled}
-use Rattle.qp_model.proofs.ListLemmas.{both_true, true_both}
 use Rattle.qp_model.proofs.LineLemmas.{same_number}
 use Rattle.qp_model.proofs.HistoryLemmas.{hist-draws, hist-other}
 
@@ -166,8 +166,8 @@ module _ (sys : System) (xs : List Item) (i : Item) (ys : List Item) (later : Is
 pub same_word-is : (v w : Word) → same_word v w ≡ true → v ≡ w
 same_word-is (word.Pool p) (word.Pool q) h = let is : p ≡ q = grind (arith, nat_tests) in ap word.Pool is
 same_word-is (word.Block p b) (word.Block q c) h =
-    let one : (p == q) ≡ true = (both_true _ _ h).0 in
-    let two : (b == c) ≡ true = (both_true _ _ h).1 in
+    let one : (p == q) ≡ true = (and_parts _ _ h).0 in
+    let two : (b == c) ≡ true = (and_parts _ _ h).1 in
     let is_p : p ≡ q = grind (arith, nat_tests) in
     let is_b : b ≡ c = grind (arith, nat_tests) in
     ap (λ x. word.Block x b) is_p ∙ ap (λ x. word.Block q x) is_b
@@ -208,7 +208,7 @@ module _ (xs : List Item) (i : Item) (ys : List Item) where
       → ((p b r : ℕ) → w ≡ word.Pool p → r < length (hist (word.Block p b) (xs ++ ys)) → (e : Option Event) → given_by b r e i.body ≡ e) → IsLater xs i ys
   later-draws w draws numbers given = record {
     next = λ v on. subst (λ v. (is_numbered v (xs ++ ys) ≡ true) × (drawn_as v (total v (xs ++ ys)) (touch i) ≡ true)) (same_word-is w v (drawn draws v on))
-        (numbers, rw draws (true_both _ _ (same_word-refl w) (same_number (suc (total w (xs ++ ys))))));
+        (numbers, rw draws (and_from _ _ (same_word-refl w) (same_number (suc (total w (xs ++ ys))))));
     fresh = λ p b r on lt e. given p b r (same_word-is w (word.Pool p) (drawn draws (word.Pool p) on)) lt e;
   }
     where
@@ -217,7 +217,7 @@ module _ (xs : List Item) (i : Item) (ys : List Item) where
 
       same_word-refl : (w : Word) → same_word w w ≡ true
       same_word-refl (word.Pool p) = same_number p
-      same_word-refl (word.Block p b) = true_both _ _ (same_number p) (same_number b)
+      same_word-refl (word.Block p b) = and_from _ _ (same_number p) (same_number b)
       same_word-refl (word.Queue a) = same_number a
       same_word-refl (word.Signal s) = same_number s
       same_word-refl (word.Timer t) = same_number t

@@ -4,6 +4,7 @@ use Rattle.std.specs.Prelude.{⊤, IsTrue}
 use Rattle.std.specs.declared.option.Option.{Option}
 use Rattle.std.specs.Bool.{MatchBool}
 use Rattle.std.specs.List.{list_all, count_by, AllByRecursion}
+use Rattle.std.proofs.lemmas.Bool.{or_cases, and_parts}
 use Rattle.std.proofs.lemmas.Bool.Decides.{nat_tests}
 use Rattle.qp_model.specs.declared.stimulus.Stim.{Stim}
 use Rattle.qp_model.specs.declared.words.Word.TheVariants as word
@@ -25,7 +26,7 @@ use Rattle.qp_model.specs.Sources.{SourceRuns, SourceEnd, AllDone, BeforeStimulu
 use Rattle.qp_model.specs.End.{end_of, lines_empty, block_rests, blocks_rest}
 use Rattle.qp_model.specs.Lawful.{KernelHolds, SourceLanes, EndHolds, reading_holds, is_settle, setting_of, facts_of, lanes_before, deferred_of}
 use Rattle.qp_model.specs.Laws.{StepsBeginAboveTheFloor, CooperativeStepsStandAlone, KernelRestsWhereAllAreEmpty, QuietEndLeavesNothing, QueueIsEmpty, BlockRests, StimuliDone}
-use Rattle.qp_model.proofs.ListLemmas.{both_true, all_below_at}
+use Rattle.qp_model.proofs.ListLemmas.{all_below_at}
 use Rattle.qp_model.proofs.KernelLaneLemmas.{steps_begin_above, steps_stand_alone, rests_where_empty}
 
 -- every kernel but `port` has its lane
@@ -77,22 +78,18 @@ queues_empty : (sys : System) (j : Journal) (ds : List ObjectDef)
     → AllByRecursion (QueueIsEmpty sys j) ds
 unfolding QueueIsEmpty
 queues_empty sys j [] h = tt
-queues_empty sys j (d ∷ ds) h = (no_length _ (both_true _ _ h).0, queues_empty sys j ds (both_true _ _ h).1)
-
-either : (a b : Bool) → (a || b) ≡ true → (a ≡ true) ⊎ (b ≡ true)
-either true b h = inl refl
-either false b h = inr h
+queues_empty sys j (d ∷ ds) h = (no_length _ (and_parts _ _ h).0, queues_empty sys j ds (and_parts _ _ h).1)
 
 blocks_at_rest : (sys : System) (j : Journal) → blocks_rest sys (all_items j.lanes) (deferred_of sys j sys.objects) ≡ true → (p b : ℕ) → IsTrue (is_block sys p b) → BlockRests sys j p b
 unfolding blocks_rest block_rests is_block BlockRests
 blocks_at_rest sys j h zero b is = cc
 blocks_at_rest sys j h (suc k) b is =
-    let pool : is_pool sys (suc k) ≡ true = (both_true _ _ is).0 in
-    let below : nat_lt b (blocks_of sys (suc k)) ≡ true = (both_true _ _ is).1 in
+    let pool : is_pool sys (suc k) ≡ true = (and_parts _ _ is).0 in
+    let below : nat_lt b (blocks_of sys (suc k)) ≡ true = (and_parts _ _ is).1 in
     let in_range : k < length sys.pools = grind (arith, nat_tests, pool) in
     let in_pool : b < blocks_of sys (suc k) = grind (arith, nat_tests, below) in
     let all = all_below_at (length sys.pools) (λ k. all_below (blocks_of sys (suc k)) (block_rests sys (all_items j.lanes) (deferred_of sys j sys.objects) (suc k))) h k in_range in
-    either _ _ (all_below_at (blocks_of sys (suc k)) (block_rests sys (all_items j.lanes) (deferred_of sys j sys.objects) (suc k)) all b in_pool)
+    or_cases _ _ (all_below_at (blocks_of sys (suc k)) (block_rests sys (all_items j.lanes) (deferred_of sys j sys.objects) (suc k)) all b in_pool)
 
 all_done : (spills : Bool) (stop : SourceEnd) → may_end quiet spills stop ≡ true → stop ≡ AllDone
 all_done spills AllDone h = refl

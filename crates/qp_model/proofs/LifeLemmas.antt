@@ -2,6 +2,7 @@
 use Rattle.std.proofs.Common.{◌≡◌, ℕ, zero, suc, ◌+◌, ◌<◌, ◌≤◌, ◌==◌, nat_lt, nat_le, Bool, true, false, not, ◌&&◌, ◌||◌, cond, List, [], ◌∷◌, ◌++◌, length, refl, ◌∙◌, ap, subst, ◌⊎◌, inl, inr, Option, Some, None, arith, length-append, append-nil}
 use borrow.Author.Count.{below_more}
 use Rattle.std.specs.List.{list_all, cons_option}
+use Rattle.std.proofs.lemmas.Bool.{and_from, and_parts}
 use Rattle.std.proofs.lemmas.List.{take-append-le}
 use Rattle.std.proofs.lemmas.List.Elements.{filter_map-append}
 use Rattle.std.proofs.lemmas.List.Folds.{list_all-append, list_any-append}
@@ -15,7 +16,7 @@ use Rattle.qp_model.specs.FreeBlocks.{Pool, pool_next, free_blocks}
 use Rattle.qp_model.specs.Machine.{after_from, after}
 use Rattle.qp_model.specs.References.{references}
 use Rattle.qp_model.specs.Lives.{Life, life_of, life_next, life_may, edge_of, edges, is_empty, refs_at, edges_empty, lives_cover, lives_referred, HasLives}
-use Rattle.qp_model.proofs.ListLemmas.{both_true, true_both, all_below_at, all_below_from, list_all-has}
+use Rattle.qp_model.proofs.ListLemmas.{all_below_at, all_below_from, list_all-has}
 use Rattle.qp_model.proofs.MachineLemmas.{after-append, is_allowed-append}
 
 same_number : (a : ℕ) → (a == a) ≡ true
@@ -35,11 +36,11 @@ edges_empty-grow : (at : List ℕ) (block : List Item) (i : Item) → list_all (
     → list_all (λ n. nat_le n (length (block ++ i ∷ [])) && is_empty (refs_at n (block ++ i ∷ []))) at ≡ true
 edges_empty-grow [] block i h = refl
 edges_empty-grow (x ∷ xs) block i h =
-    let within : nat_le x (length block) ≡ true = (both_true _ _ (both_true _ _ h).0).0 in
+    let within : nat_le x (length block) ≡ true = (and_parts _ _ (and_parts _ _ h).0).0 in
     let le : x ≤ length block = grind (arith, nat_tests) in
     let more : nat_le x (length (block ++ i ∷ [])) ≡ true = longer x block i le in
-    let none : is_empty (refs_at x block) ≡ true = (both_true _ _ (both_true _ _ h).0).1 in
-    true_both _ _ (true_both _ _ more (rw (refs_at-more x block i le) none)) (edges_empty-grow xs block i (both_true _ _ h).1)
+    let none : is_empty (refs_at x block) ≡ true = (and_parts _ _ (and_parts _ _ h).0).1 in
+    and_from _ _ (and_from _ _ more (rw (refs_at-more x block i le) none)) (edges_empty-grow xs block i (and_parts _ _ h).1)
   where
     longer : (x : ℕ) (block : List Item) (i : Item) → x ≤ length block → nat_le x (length (block ++ i ∷ [])) ≡ true
     longer x block i le = grind (arith, nat_tests, length-append block (i ∷ []))
@@ -117,7 +118,7 @@ not_out-empty b pool block old out =
         let here : (nat_le (length block) (length block) && is_empty (refs_at (length block) block)) ≡ true =
         subst (λ n. (nat_le n (length block) && is_empty (refs_at n block)) ≡ true) e
         (list_all-has (λ n. nat_le n (length block) && is_empty (refs_at n block)) at (after (life_of b) pool).edge all h) in
-        (both_true (nat_le (length block) (length block)) (is_empty (refs_at (length block) block)) here).1
+        (and_parts (nat_le (length block) (length block)) (is_empty (refs_at (length block) block)) here).1
 
 -- the edge that a `new` or `back` of the block adds is within its history, and no reference stands there
 edge_added : (at : List ℕ) (block : List Item) → list_all (λ n. nat_le n (length block) && is_empty (refs_at n block)) at ≡ true
@@ -290,5 +291,5 @@ edge-within b pool block old = elim (edge-from b (life_of b).first pool) [ inl f
         let here : (nat_le (after (life_of b) pool).edge (length block) && is_empty (refs_at (after (life_of b) pool).edge block)) ≡ true =
         list_all-has (λ n. nat_le n (length block) && is_empty (refs_at n block)) at (after (life_of b) pool).edge all h in
         let test : nat_le (after (life_of b) pool).edge (length block) ≡ true =
-        (both_true (nat_le (after (life_of b) pool).edge (length block)) (is_empty (refs_at (after (life_of b) pool).edge block)) here).0 in
+        (and_parts (nat_le (after (life_of b) pool).edge (length block)) (is_empty (refs_at (after (life_of b) pool).edge block)) here).0 in
         grind (arith, nat_tests)

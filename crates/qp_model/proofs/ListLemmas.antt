@@ -2,30 +2,24 @@
 use Rattle.std.proofs.Common.{◌≡◌, ℕ, zero, suc, ◌<◌, nat_le, Bool, true, false, ◌&&◌, ◌||◌, ◌==◌, subst, cond, List, [], ◌∷◌, ◌++◌, length, refl, ap, arith}
 use borrow.Author.Count.{below_more}
 use Rattle.std.specs.List.{filter, list_all}
+use Rattle.std.proofs.lemmas.Bool.{and_from, and_parts}
 use Rattle.std.proofs.lemmas.Bool.Decides.{nat_tests}
 use Rattle.std.proofs.lemmas.List.Folds.{list_all-append}
 use Rattle.qp_chart.specs.StateTree.{has}
 use Rattle.qp_model.specs.Lists.{all_below, never_falls}
-
-pub both_true : (a b : Bool) → (a && b) ≡ true → (a ≡ true) × (b ≡ true)
-both_true true b h = (refl, h)
-both_true false b h = cc
-
-pub true_both : (a b : Bool) → a ≡ true → b ≡ true → (a && b) ≡ true
-true_both a b h k = rw h k
 
 -- what holds of each number below n, holds of one
 pub all_below_at : (n : ℕ) (p : ℕ → Bool) → all_below n p ≡ true → (k : ℕ) → k < n → p k ≡ true
 unfolding all_below
 all_below_at zero p h k lt = absurd (omega arith)
 all_below_at (suc n) p h k lt =
-    let parts : (all_below n p ≡ true) × (p n ≡ true) = both_true _ _ h in
+    let parts : (all_below n p ≡ true) × (p n ≡ true) = and_parts _ _ h in
     below_more (λ j. p j ≡ true) n (all_below_at n p parts.0) parts.1 k (omega arith)
 
 pub all_below_from : (n : ℕ) (p : ℕ → Bool) → ((k : ℕ) → k < n → p k ≡ true) → all_below n p ≡ true
 unfolding all_below
 all_below_from zero p h = refl
-all_below_from (suc n) p h = true_both _ _ (all_below_from n p (λ k lt. h k (omega arith))) (h n (omega arith))
+all_below_from (suc n) p h = and_from _ _ (all_below_from n p (λ k lt. h k (omega arith))) (h n (omega arith))
 
 -- an element that fails the test leaves what passes it
 pub filter-insert_not : {X : Type 0} (p : X → Bool) (xs : List X) (i : X) (ys : List X) → p i ≡ false → filter p (xs ++ i ∷ ys) ≡ filter p (xs ++ ys)
@@ -53,40 +47,40 @@ filter-insert_only {X} p (x ∷ xs) i ys h none = go (filter-insert_only p xs i 
 -- a test that none of the elements passes
 pub filter-none : {X : Type 0} (p q : X → Bool) (xs : List X) → ((x : X) → q x ≡ true → p x ≡ false) → list_all q xs ≡ true → filter p xs ≡ []
 filter-none p q [] not_p h = refl
-filter-none p q (x ∷ xs) not_p h = rw (not_p x (both_true _ _ h).0) (filter-none p q xs not_p (both_true _ _ h).1)
+filter-none p q (x ∷ xs) not_p h = rw (not_p x (and_parts _ _ h).0) (filter-none p q xs not_p (and_parts _ _ h).1)
 
 -- a test of all that one element more passes, and that the others pass because they passed another
 pub list_all-insert : {X : Type 0} (p q : X → Bool) (xs : List X) (i : X) (ys : List X) → ((x : X) → p x ≡ true → q x ≡ true) → q i ≡ true → list_all p (xs ++ ys) ≡ true → list_all q (xs ++ i ∷ ys) ≡ true
 list_all-insert p q [] i [] more h all = rw h refl
-list_all-insert {X} p q [] i (y ∷ ys) more h all = true_both _ _ h (true_both _ _ (more y (both_true _ _ all).0) (tail ys (both_true _ _ all).1))
+list_all-insert {X} p q [] i (y ∷ ys) more h all = and_from _ _ h (and_from _ _ (more y (and_parts _ _ all).0) (tail ys (and_parts _ _ all).1))
   where
     tail : (zs : List X) → list_all p zs ≡ true → list_all q zs ≡ true
     tail [] e = refl
-    tail (z ∷ zs) e = true_both _ _ (more z (both_true _ _ e).0) (tail zs (both_true _ _ e).1)
-list_all-insert p q (x ∷ xs) i ys more h all = true_both _ _ (more x (both_true _ _ all).0) (list_all-insert p q xs i ys more h (both_true _ _ all).1)
+    tail (z ∷ zs) e = and_from _ _ (more z (and_parts _ _ e).0) (tail zs (and_parts _ _ e).1)
+list_all-insert p q (x ∷ xs) i ys more h all = and_from _ _ (more x (and_parts _ _ all).0) (list_all-insert p q xs i ys more h (and_parts _ _ all).1)
 
 -- the front, and the middle, of a list that passes a test pass it
 pub list_all-front : {X : Type 0} (p : X → Bool) (xs ys : List X) → list_all p (xs ++ ys) ≡ true → list_all p xs ≡ true
 list_all-front p [] ys h = refl
-list_all-front p (x ∷ xs) ys h = true_both _ _ (both_true _ _ h).0 (list_all-front p xs ys (both_true _ _ h).1)
+list_all-front p (x ∷ xs) ys h = and_from _ _ (and_parts _ _ h).0 (list_all-front p xs ys (and_parts _ _ h).1)
 
 pub list_all-middle : {X : Type 0} (p : X → Bool) (xs ys zs : List X) → list_all p ((xs ++ ys) ++ zs) ≡ true → list_all p ys ≡ true
 list_all-middle p [] ys zs h = list_all-front p ys zs h
-list_all-middle p (x ∷ xs) ys zs h = list_all-middle p xs ys zs (both_true _ _ h).1
+list_all-middle p (x ∷ xs) ys zs h = list_all-middle p xs ys zs (and_parts _ _ h).1
 
 -- a number at the end that is at least the others
 pub never_falls-last : (xs : List ℕ) (n : ℕ) → never_falls xs ≡ true → list_all (λ x. nat_le x n) xs ≡ true → never_falls (xs ++ n ∷ []) ≡ true
 never_falls-last [] n h le = refl
 never_falls-last (x ∷ xs) n h le =
-    let here : list_all (λ y. nat_le x y) xs ≡ true = (both_true _ _ h).0 in
-    let last : nat_le x n ≡ true = (both_true _ _ le).0 in
-    rw (list_all-append (λ y. nat_le x y) xs (n ∷ []), here, last) (never_falls-last xs n (both_true _ _ h).1 (both_true _ _ le).1)
+    let here : list_all (λ y. nat_le x y) xs ≡ true = (and_parts _ _ h).0 in
+    let last : nat_le x n ≡ true = (and_parts _ _ le).0 in
+    rw (list_all-append (λ y. nat_le x y) xs (n ∷ []), here, last) (never_falls-last xs n (and_parts _ _ h).1 (and_parts _ _ le).1)
 
 -- what all numbers of a list pass, one of them passes
 pub list_all-has : (p : ℕ → Bool) (xs : List ℕ) (x : ℕ) → list_all p xs ≡ true → has xs x ≡ true → p x ≡ true
 list_all-has p [] x all h = cc
-list_all-has p (y ∷ ys) x all h = go (y == x) refl h (list_all-has p ys x (both_true _ _ all).1)
+list_all-has p (y ∷ ys) x all h = go (y == x) refl h (list_all-has p ys x (and_parts _ _ all).1)
   where
     go : (same : Bool) → (y == x) ≡ same → (same || has ys x) ≡ true → (has ys x ≡ true → p x ≡ true) → p x ≡ true
-    go true e k later = let is : y ≡ x = grind (arith, nat_tests) in subst (λ n. p n ≡ true) is (both_true _ _ all).0
+    go true e k later = let is : y ≡ x = grind (arith, nat_tests) in subst (λ n. p n ≡ true) is (and_parts _ _ all).0
     go false e k later = later k

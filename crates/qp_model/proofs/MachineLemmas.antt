@@ -1,5 +1,6 @@
 -- What a word holds when a record is added at the end of a lane.
 use Rattle.std.proofs.Common.{◌≡◌, ℕ, suc, ◌+◌, ◌≤◌, nat_le, Bool, true, false, ◌&&◌, cond, List, [], ◌∷◌, ◌++◌, length, take, refl, arith, length-append}
+use Rattle.std.proofs.lemmas.Bool.{and_from, and_parts}
 use Rattle.std.proofs.lemmas.List.{take-append-le}
 use Rattle.std.proofs.lemmas.Bool.Decides.{nat_tests}
 use Rattle.qp_model.specs.declared.words.Word.{Word}
@@ -7,7 +8,7 @@ use Rattle.qp_model.specs.declared.bodies.Body.{Body}
 use Rattle.qp_model.specs.Record.{Item}
 use Rattle.qp_model.specs.History.{touch, same_word, Touch, Draws, Shows, Neither, drawn_on, shown_on, hist, total, is_numbered, drawn_as}
 use Rattle.qp_model.specs.Machine.{Machine, after_from, after, allowed_from, is_allowed, shown_by, is_shown}
-use Rattle.qp_model.proofs.ListLemmas.{both_true, true_both, list_all-insert}
+use Rattle.qp_model.proofs.ListLemmas.{list_all-insert}
 use Rattle.qp_model.proofs.HistoryLemmas.{hist-draws, hist-other, drawn_as-on}
 
 -- each allowed operation counts
@@ -24,18 +25,18 @@ module _ {S : Type 0} (m : Machine S) where
   pub allowed_from-append : (s : S) (xs ys : List Item) → allowed_from m s xs ≡ true → allowed_from m (after_from m s xs) ys ≡ true → allowed_from m s (xs ++ ys) ≡ true
   unfolding allowed_from after_from
   allowed_from-append s [] ys h k = k
-  allowed_from-append s (x ∷ xs) ys h k = true_both _ _ (both_true _ _ h).0 (allowed_from-append (m.next s x) xs ys (both_true _ _ h).1 k)
+  allowed_from-append s (x ∷ xs) ys h k = and_from _ _ (and_parts _ _ h).0 (allowed_from-append (m.next s x) xs ys (and_parts _ _ h).1 k)
 
   -- an allowed history in two parts
   pub allowed_from-front : (s : S) (xs ys : List Item) → allowed_from m s (xs ++ ys) ≡ true → allowed_from m s xs ≡ true
   unfolding allowed_from
   allowed_from-front s [] ys h = refl
-  allowed_from-front s (x ∷ xs) ys h = true_both _ _ (both_true _ _ h).0 (allowed_from-front (m.next s x) xs ys (both_true _ _ h).1)
+  allowed_from-front s (x ∷ xs) ys h = and_from _ _ (and_parts _ _ h).0 (allowed_from-front (m.next s x) xs ys (and_parts _ _ h).1)
 
   pub allowed_from-rest : (s : S) (xs ys : List Item) → allowed_from m s (xs ++ ys) ≡ true → allowed_from m (after_from m s xs) ys ≡ true
   unfolding allowed_from after_from
   allowed_from-rest s [] ys h = h
-  allowed_from-rest s (x ∷ xs) ys h = allowed_from-rest (m.next s x) xs ys (both_true _ _ h).1
+  allowed_from-rest s (x ∷ xs) ys h = allowed_from-rest (m.next s x) xs ys (and_parts _ _ h).1
 
   pub is_allowed-front : (xs ys : List Item) → is_allowed m (xs ++ ys) ≡ true → is_allowed m xs ≡ true
   unfolding is_allowed
@@ -44,7 +45,7 @@ module _ {S : Type 0} (m : Machine S) where
   -- each operation of an allowed history is allowed after those before it
   pub is_allowed-at : (xs ys : List Item) (i : Item) → is_allowed m (xs ++ i ∷ ys) ≡ true → m.may (after m xs) i ≡ true
   unfolding is_allowed after allowed_from
-  is_allowed-at xs ys i h = (both_true _ _ (allowed_from-rest m.first xs (i ∷ ys) h)).0
+  is_allowed-at xs ys i h = (and_parts _ _ (allowed_from-rest m.first xs (i ∷ ys) h)).0
 
   pub is_allowed-rest : (xs ys : List Item) → is_allowed m (xs ++ ys) ≡ true → allowed_from m (after m xs) ys ≡ true
   unfolding is_allowed after
@@ -57,13 +58,13 @@ module _ {S : Type 0} (m : Machine S) where
 
   pub is_allowed-append : (xs : List Item) (i : Item) → is_allowed m xs ≡ true → m.may (after m xs) i ≡ true → is_allowed m (xs ++ i ∷ []) ≡ true
   unfolding is_allowed after allowed_from
-  is_allowed-append xs i h may = allowed_from-append m.first xs (i ∷ []) h (true_both _ _ may refl)
+  is_allowed-append xs i h may = allowed_from-append m.first xs (i ∷ []) h (and_from _ _ may refl)
 
   count-from : Counts S m → (s : S) (xs : List Item) → allowed_from m s xs ≡ true → m.count (after_from m s xs) ≡ m.count s + length xs
   unfolding allowed_from after_from
   count-from counts s [] h = omega arith
   count-from counts s (x ∷ xs) h =
-      omega (arith, count-from counts (m.next s x) xs (both_true _ _ h).1, counts.rises s x (both_true _ _ h).0)
+      omega (arith, count-from counts (m.next s x) xs (and_parts _ _ h).1, counts.rises s x (and_parts _ _ h).0)
 
   -- a word has had as many operations as its history is long
   pub count-after : Counts S m → (xs : List Item) → is_allowed m xs ≡ true → m.count (after m xs) ≡ length xs
@@ -73,7 +74,7 @@ module _ {S : Type 0} (m : Machine S) where
   pub keeps-from : (P : S → Type 0) → ((s : S) (i : Item) → m.may s i ≡ true → P s → P (m.next s i)) → (s : S) (xs : List Item) → allowed_from m s xs ≡ true → P s → P (after_from m s xs)
   unfolding allowed_from after_from
   keeps-from P step s [] h p = p
-  keeps-from P step s (x ∷ xs) h p = keeps-from P step (m.next s x) xs (both_true _ _ h).1 (step s x (both_true _ _ h).0 p)
+  keeps-from P step s (x ∷ xs) h p = keeps-from P step (m.next s x) xs (and_parts _ _ h).1 (step s x (and_parts _ _ h).0 p)
 
   -- what holds at first and is kept by each allowed operation, holds after all
   pub after-keeps : (P : S → Type 0) → ((s : S) (i : Item) → m.may s i ≡ true → P s → P (m.next s i)) → P m.first → (xs : List Item) → is_allowed m xs ≡ true → P (after m xs)
@@ -85,10 +86,10 @@ module _ {S : Type 0} (m : Machine S) where
     within : (b : Body) (n : ℕ) → (nat_le n (length history) && m.says (after m (take n history)) b) ≡ true
         → (nat_le n (length (history ++ i ∷ [])) && m.says (after m (take n (history ++ i ∷ []))) b) ≡ true
     within b n h =
-        let test : nat_le n (length history) ≡ true = (both_true _ _ h).0 in
+        let test : nat_le n (length history) ≡ true = (and_parts _ _ h).0 in
         let le : n ≤ length history = grind (arith, nat_tests) in
         rw (take-append-le n history (i ∷ []) le)
-        (true_both _ _ (longer n le) (both_true _ _ h).1)
+        (and_from _ _ (longer n le) (and_parts _ _ h).1)
       where
         longer : (n : ℕ) → n ≤ length history → nat_le n (length (history ++ i ∷ [])) ≡ true
         longer n le = grind (arith, nat_tests, length-append history (i ∷ []))

@@ -2,6 +2,7 @@
 use Rattle.std.proofs.Common.{◌≡◌, ℕ, zero, suc, ◌+◌, ◌<◌, ◌≤◌, ◌==◌, nat_lt, nat_le, nat_eq, Bool, true, false, ◌&&◌, ◌||◌, cond, List, [], ◌∷◌, ◌++◌, length, drop, refl, sym, ◌∙◌, ap, subst, Option, Some, None, arith, append_assoc, append-nil, length-append}
 use Rattle.std.specs.List.{filter, filter_map, list_all, list_any, cons_option}
 use Rattle.std.specs.List.Sorted.{IsPermutation}
+use Rattle.std.proofs.lemmas.Bool.{and_from, and_parts}
 use Rattle.std.proofs.lemmas.List.Sorted.{IsPermutation-refl, IsPermutation-trans, IsPermutation-cons, IsPermutation-append_left, IsPermutation-append_comm}
 use Rattle.std.proofs.lemmas.List.{drop-append-le}
 use Rattle.std.proofs.lemmas.Bool.Decides.{nat_tests}
@@ -25,7 +26,7 @@ use Rattle.qp_model.specs.Sites.{ring_of, blocks_of}
 use Rattle.qp_model.specs.WordLaw.{is_pool, is_block}
 use Rattle.qp_model.specs.Promises as promise
 use Rattle.qp_model.specs.Promises.{operations, WasFree, NumberedOnce, WordsAreNumbered, posted_by, posted, taken_by, taken, is_lifo, queued, waiting_after, waiting, first_in_by, first_in, plainly_taken_by, plainly_taken, may_take, comes_and_goes}
-use Rattle.qp_model.proofs.ListLemmas.{both_true, true_both, all_below_at, list_all-has}
+use Rattle.qp_model.proofs.ListLemmas.{all_below_at, list_all-has}
 use Rattle.qp_model.proofs.MachineLemmas.{allowed_from-front, allowed_from-rest, is_allowed-at, is_allowed-front, is_allowed-rest, after-keeps, keeps-from}
 use Rattle.qp_model.proofs.LineLemmas.{line_is, same_number}
 use Rattle.qp_model.proofs.RecordLemmas.{same_entry-is}
@@ -51,7 +52,7 @@ edge-among b o p n from sig pars (i ∷ earlier) later = joined (edge_of b i.bod
 
 pool_has : (sys : System) (p b : ℕ) → is_block sys p b ≡ true → is_pool sys p ≡ true
 unfolding is_block
-pool_has sys p b h = (both_true (is_pool sys p) (nat_lt b (blocks_of sys p)) h).0
+pool_has sys p b h = (and_parts (is_pool sys p) (nat_lt b (blocks_of sys p)) h).0
 
 empty-is : (xs : List ℕ) → is_empty xs ≡ true → xs ≡ []
 empty-is [] h = refl
@@ -72,11 +73,11 @@ given_out_unreferenced sys lanes words p b h earlier later o n from sig pars is 
     let all : edges_empty b (earlier ++ i ∷ later) block ≡ true = rw is at (words.lives p b h).empty in
     let edge : (nat_le from (length block) && is_empty (refs_at from block)) ≡ true =
     list_all-has (λ n. nat_le n (length block) && is_empty (refs_at n block)) (edges b (earlier ++ i ∷ later)) from all (edge-among b o p n from sig pars earlier later) in
-    let within : nat_le from (length block) ≡ true = (both_true _ _ edge).0 in
+    let within : nat_le from (length block) ≡ true = (and_parts _ _ edge).0 in
     record {
-      free = first-has b (after (free_blocks (blocks_of sys p)) earlier).free (both_true _ _ least).1;
+      free = first-has b (after (free_blocks (blocks_of sys p)) earlier).free (and_parts _ _ least).1;
       counted = grind (arith, nat_tests);
-      unreferenced = empty-is _ (both_true _ _ edge).1;
+      unreferenced = empty-is _ (and_parts _ _ edge).1;
     }
 
 pub dropped_stood : promise.DroppedStood
@@ -85,7 +86,7 @@ dropped_stood sys lanes words p b h earlier later o d k is =
     let i : Item = record { of = o; body = Dec p b d k } in
     let allowed : is_allowed references (earlier ++ i ∷ later) ≡ true = rw is at (words.blocks p b h).allowed in
     let may : (nat_eq d (after references earlier).count && has (after references earlier).names k) ≡ true = is_allowed-at references earlier later i allowed in
-    (both_true _ _ may).1
+    (and_parts _ _ may).1
 
 -- how often a number stands in a list
 times : ℕ → List ℕ → ℕ
@@ -195,18 +196,18 @@ dropped_once sys lanes words p b h earlier between later o q d e k l is =
     let allowed : is_allowed references (earlier ++ (i ∷ (between ++ j ∷ later))) ≡ true = rw history at (words.blocks p b h).allowed in
     let s : Refs = after references earlier in
     let may : (nat_eq d s.count && has s.names k) ≡ true = is_allowed-at references earlier (between ++ j ∷ later) i allowed in
-    let stood : has s.names k ≡ true = (both_true _ _ may).1 in
+    let stood : has s.names k ≡ true = (and_parts _ _ may).1 in
     let names : AreNames s = after-keeps references AreNames (λ t x may are. names_stay t x.body may are) (record { once = λ n. omega arith; known = λ n le. refl }) earlier
     (is_allowed-front references earlier (i ∷ (between ++ j ∷ later)) allowed) in
     let known : k < s.count = below_count k s names (times-has k s.names stood) in
     let gone : IsGone k (references.next s i) = record { past = omega arith; none = times-without_same k s.names (names.once k) } in
     let rest : allowed_from references s (i ∷ (between ++ j ∷ later)) ≡ true = is_allowed-rest references earlier (i ∷ (between ++ j ∷ later)) allowed in
-    let behind : allowed_from references (references.next s i) (between ++ j ∷ later) ≡ true = (both_true _ _ rest).1 in
+    let behind : allowed_from references (references.next s i) (between ++ j ∷ later) ≡ true = (and_parts _ _ rest).1 in
     let still : IsGone k (after_from references (references.next s i) between) =
     keeps-from references (IsGone k) (λ t x may gone. gone_stays k t x.body may gone) (references.next s i) between (allowed_from-front references (references.next s i) between (j ∷ later) behind) gone in
     let second : allowed_from references (after_from references (references.next s i) between) (j ∷ later) ≡ true = allowed_from-rest references (references.next s i) between (j ∷ later) behind in
-    let again : (nat_eq e (after_from references (references.next s i) between).count && has (after_from references (references.next s i) between).names l) ≡ true = (both_true _ _ second).0 in
-    not_again k l (after_from references (references.next s i) between) still (both_true _ _ again).1
+    let again : (nat_eq e (after_from references (references.next s i) between).count && has (after_from references (references.next s i) between).names l) ≡ true = (and_parts _ _ second).0 in
+    not_again k l (after_from references (references.next s i) between) still (and_parts _ _ again).1
 
 -- the front of a list that begins with the entry
 front-is : (e : Entry) (es : List Entry) → is_front e es ≡ true → es ≡ e ∷ drop 1 es
@@ -233,7 +234,7 @@ order_from : (ring : ℕ) (s : Line) (history : List Item) → allowed_from (lin
     → s.entries ++ posted history ≡ taken history ++ (after_from (line ring) s history).entries
 unfolding allowed_from after_from posted taken
 order_from ring s [] h none = append-nil s.entries
-order_from ring s (i ∷ is) h none = go i.body (both_true _ _ h).0 (λ t allowed none. order_from ring t is allowed none) (both_true _ _ h).1 none
+order_from ring s (i ∷ is) h none = go i.body (and_parts _ _ h).0 (λ t allowed none. order_from ring t is allowed none) (and_parts _ _ h).1 none
   where
     go : (b : Body) → line_may ring s b ≡ true
         → ((t : Line) → allowed_from (line ring) t is ≡ true → list_any (λ i. is_lifo i.body) is ≡ false → t.entries ++ posted is ≡ taken is ++ (after_from (line ring) t is).entries)
@@ -242,7 +243,7 @@ order_from ring s (i ∷ is) h none = go i.body (both_true _ _ h).0 (λ t allowe
     go (Post a f l m e) may later allowed none = sym (append_assoc s.entries (e ∷ []) (posted is)) ∙ later (line_next s (Post a f l m e)) allowed none
     go (Lifo f l m e) may later allowed none = cc
     go (Took f l m e) may later allowed none =
-        let front : s.entries ≡ e ∷ drop 1 s.entries = front-is e s.entries (both_true _ _ may).1 in
+        let front : s.entries ≡ e ∷ drop 1 s.entries = front-is e s.entries (and_parts _ _ may).1 in
         ap (λ es. es ++ posted is) front ∙ ap (λ es. e ∷ es) (later (line_next s (Took f l m e)) allowed none)
     go _ may later allowed none = cc
 
@@ -256,7 +257,7 @@ first_in_from : (ring n : ℕ) (s : Line) (history : List Item) → allowed_from
     → drop n s.entries ++ first_in history ≡ plainly_taken n history ++ drop (waiting n history) (after_from (line ring) s history).entries
 unfolding allowed_from after_from first_in plainly_taken waiting
 first_in_from ring n s [] h few = append-nil (drop n s.entries)
-first_in_from ring n s (i ∷ is) h few = go n i.body (both_true _ _ h).0 few (λ n t allowed few. first_in_from ring n t is allowed few) (both_true _ _ h).1
+first_in_from ring n s (i ∷ is) h few = go n i.body (and_parts _ _ h).0 few (λ n t allowed few. first_in_from ring n t is allowed few) (and_parts _ _ h).1
   where
     go : (n : ℕ) (b : Body) → line_may ring s b ≡ true → n ≤ length s.entries
         → ((n : ℕ) (t : Line) → allowed_from (line ring) t is ≡ true → n ≤ length t.entries
@@ -273,7 +274,7 @@ first_in_from ring n s (i ∷ is) h few = go n i.body (both_true _ _ h).0 few (�
         longer n more few = omega (arith, length-append s.entries more)
     go n (Lifo f l m e) may few later allowed = later (suc n) (line_next s (Lifo f l m e)) allowed (omega (arith, few))
     go zero (Took f l m e) may few later allowed =
-        let front : s.entries ≡ e ∷ drop 1 s.entries = front-is e s.entries (both_true _ _ may).1 in
+        let front : s.entries ≡ e ∷ drop 1 s.entries = front-is e s.entries (and_parts _ _ may).1 in
         ap (λ es. es ++ first_in is) front ∙ ap (λ es. e ∷ es) (later 0 (line_next s (Took f l m e)) allowed (omega arith))
     go (suc n) (Took f l m e) may few later allowed =
         ap (λ es. es ++ first_in is) (sym (drop-drop n s.entries)) ∙ later n (line_next s (Took f l m e)) allowed (shorter n s.entries few)
@@ -293,7 +294,7 @@ balance_from : (ring : ℕ) (s : Line) (history : List Item) → allowed_from (l
     → IsPermutation (s.entries ++ posted history) (taken history ++ (after_from (line ring) s history).entries)
 unfolding allowed_from after_from posted taken
 balance_from ring s [] h = rw append-nil (IsPermutation-refl s.entries)
-balance_from ring s (i ∷ is) h = go i.body (both_true _ _ h).0 (λ t allowed. balance_from ring t is allowed) (both_true _ _ h).1
+balance_from ring s (i ∷ is) h = go i.body (and_parts _ _ h).0 (λ t allowed. balance_from ring t is allowed) (and_parts _ _ h).1
   where
     go : (b : Body) → line_may ring s b ≡ true
         → ((t : Line) → allowed_from (line ring) t is ≡ true → IsPermutation (t.entries ++ posted is) (taken is ++ (after_from (line ring) t is).entries))
@@ -308,7 +309,7 @@ balance_from ring s (i ∷ is) h = go i.body (both_true _ _ h).0 (λ t allowed. 
             rw (← append_assoc xs (e ∷ []) ys)
             (IsPermutation-append_left ys (xs ++ e ∷ []) (e ∷ xs) (IsPermutation-append_comm xs (e ∷ [])))
     go (Took f l m e) may later allowed =
-        let front : s.entries ≡ e ∷ drop 1 s.entries = front-is e s.entries (both_true _ _ may).1 in
+        let front : s.entries ≡ e ∷ drop 1 s.entries = front-is e s.entries (and_parts _ _ may).1 in
         rw front (IsPermutation-cons e (drop 1 s.entries ++ posted is) (taken is ++ (after_from (line ring) (line_next s (Took f l m e)) is).entries) (later (line_next s (Took f l m e)) allowed))
     go _ may later allowed = cc
 
@@ -329,7 +330,7 @@ front_stays : (ring n : ℕ) (d : Entry) (s : Line) (between : List Item) → co
 unfolding after_from comes_and_goes
 front_stays ring n d s [] goes h = let none : n ≡ 0 = grind (arith, nat_tests) in subst (λ n. is_front d (drop n s.entries) ≡ true) none h
 front_stays ring n d s (i ∷ is) goes h =
-    front_stays ring (waiting_after i.body n) d (line_next s i.body) is (both_true _ _ goes).1 (step n i.body (both_true _ _ goes).0 h)
+    front_stays ring (waiting_after i.body n) d (line_next s i.body) is (and_parts _ _ goes).1 (step n i.body (and_parts _ _ goes).0 h)
   where
     step : (n : ℕ) (b : Body) → may_take b n ≡ true → is_front d (drop n s.entries) ≡ true → is_front d (drop (waiting_after b n) (line_next s b).entries) ≡ true
     step n (Post a f l m e) p h = drop-front n d s.entries (e ∷ []) h
@@ -349,8 +350,8 @@ last_in_is_next sys lanes words a h earlier between later o q f l m g k n d e is
     let allowed : is_allowed (line ring) (earlier ++ (i ∷ (between ++ j ∷ later))) ≡ true = rw history at (words.queues a h).allowed in
     let rest : allowed_from (line ring) s (i ∷ (between ++ j ∷ later)) ≡ true = is_allowed-rest (line ring) earlier (i ∷ (between ++ j ∷ later)) allowed in
     let second : allowed_from (line ring) (after_from (line ring) (line_next s i.body) between) (j ∷ later) ≡ true =
-    allowed_from-rest (line ring) (line_next s i.body) between (j ∷ later) (both_true _ _ rest).1 in
-    let taken_front : is_front e (after_from (line ring) (line_next s i.body) between).entries ≡ true = (both_true _ _ (both_true _ _ second).0).1 in
+    allowed_from-rest (line ring) (line_next s i.body) between (j ∷ later) (and_parts _ _ rest).1 in
+    let taken_front : is_front e (after_from (line ring) (line_next s i.body) between).entries ≡ true = (and_parts _ _ (and_parts _ _ second).0).1 in
     let put_front : is_front d (after_from (line ring) (line_next s i.body) between).entries ≡ true =
     front_stays ring 0 d (line_next s i.body) between goes (same d) in
     one_front (after_from (line ring) (line_next s i.body) between).entries d e put_front taken_front
@@ -372,21 +373,21 @@ unfolding in_place
 in_place-append w n [] ys h k = let same : n + 0 ≡ n = omega arith in subst (λ m. in_place w m ys ≡ true) same k
 in_place-append w n (x ∷ xs) ys h k =
     let same : n + suc (length xs) ≡ suc n + length xs = omega arith in
-    true_both _ _ (both_true _ _ h).0 (in_place-append w (suc n) xs ys (both_true _ _ h).1 (subst (λ m. in_place w m ys ≡ true) same k))
+    and_from _ _ (and_parts _ _ h).0 (in_place-append w (suc n) xs ys (and_parts _ _ h).1 (subst (λ m. in_place w m ys ≡ true) same k))
 
 in_place-at : (w : Word) (n : ℕ) (earlier later : List Item) (i : Item) → in_place w n (earlier ++ i ∷ later) ≡ true → drawn_as w (n + length earlier) (touch i) ≡ true
 unfolding in_place
-in_place-at w n [] later i h = let same : n ≡ n + 0 = omega arith in subst (λ m. drawn_as w m (touch i) ≡ true) same (both_true _ _ h).0
+in_place-at w n [] later i h = let same : n ≡ n + 0 = omega arith in subst (λ m. drawn_as w m (touch i) ≡ true) same (and_parts _ _ h).0
 in_place-at w n (x ∷ earlier) later i h =
     let same : suc n + length earlier ≡ n + suc (length earlier) = omega arith in
-    subst (λ m. drawn_as w m (touch i) ≡ true) same (in_place-at w (suc n) earlier later i (both_true _ _ h).1)
+    subst (λ m. drawn_as w m (touch i) ≡ true) same (in_place-at w (suc n) earlier later i (and_parts _ _ h).1)
 
 list_all-filter : {X : Type 0} (p : X → Bool) (xs : List X) → list_all p (filter p xs) ≡ true
 list_all-filter p [] = refl
 list_all-filter {X} p (x ∷ xs) = go (p x) refl (list_all-filter p xs)
   where
     go : (b : Bool) → p x ≡ b → list_all p (filter p xs) ≡ true → list_all p (cond b (x ∷ filter p xs) (filter p xs)) ≡ true
-    go true e h = true_both _ _ e h
+    go true e h = and_from _ _ e h
     go false e h = h
 
 one_of : {X : Type 0} (xs : List X) → length xs ≡ 1 → (x : X) × (xs ≡ x ∷ [])
@@ -411,15 +412,15 @@ placed_all w items (suc n) h =
     at : (xs : List Item) → (x : Item) × (xs ≡ x ∷ []) → list_all (λ j. drawn_as w n (touch j)) xs ≡ true → (k : ℕ) → k ≡ n → in_place w (0 + k) xs ≡ true
     at xs here draws k is =
         let draw : list_all (λ j. drawn_as w n (touch j)) (here.0 ∷ []) ≡ true = rw here.1 at draws in
-        let first : drawn_as w n (touch here.0) ≡ true = (both_true _ _ draw).0 in
+        let first : drawn_as w n (touch here.0) ≡ true = (and_parts _ _ draw).0 in
         let same : 0 + k ≡ n = omega arith in
-        rw (here.1, same) (true_both _ _ first refl)
+        rw (here.1, same) (and_from _ _ first refl)
 
 pub numbered_once : (w : Word) (lanes : List (List Rec)) → is_numbered w (all_items lanes) ≡ true → NumberedOnce w lanes
 unfolding operations hist is_numbered
 numbered_once w lanes h =
     let each : (k : ℕ) → k < total w (all_items lanes) → (length (filter (λ j. drawn_as w k (touch j)) (all_items lanes)) == 1) ≡ true =
-    all_below_at (total w (all_items lanes)) (λ n. length (filter (λ j. drawn_as w n (touch j)) (all_items lanes)) == 1) (both_true _ _ h).1 in
+    all_below_at (total w (all_items lanes)) (λ n. length (filter (λ j. drawn_as w n (touch j)) (all_items lanes)) == 1) (and_parts _ _ h).1 in
     let places : (in_place w 0 (numbered w (all_items lanes) (total w (all_items lanes))) ≡ true) × (length (numbered w (all_items lanes) (total w (all_items lanes))) ≡ total w (all_items lanes)) =
     placed_all w (all_items lanes) (total w (all_items lanes)) each in
     record {

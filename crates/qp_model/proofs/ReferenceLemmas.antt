@@ -1,5 +1,6 @@
 -- Blocks and pools: references made and dropped, blocks given out and given back.
 use Rattle.std.proofs.Common.{◌≡◌, ℕ, suc, ◌+◌, ◌<◌, ◌≤◌, ◌==◌, nat_lt, nat_le, Bool, true, false, not, ◌||◌, cond, List, [], ◌∷◌, ◌++◌, length, refl, sym, ◌∙◌, ap, subst, IsTrue, ◌⊎◌, inl, inr, Option, Some, None, arith, take_all, length-append}
+use Rattle.std.proofs.lemmas.Bool.{and_parts}
 use Rattle.qp_model.proofs.MachineLemmas.{after-append}
 use Rattle.std.specs.List.{cons_option}
 use Rattle.std.proofs.lemmas.Bool.Decides.{nat_tests}
@@ -18,7 +19,6 @@ use Rattle.qp_model.specs.References.{Refs, references}
 use Rattle.qp_model.specs.Lives.{Life, life_of, life_next, edge_of, edges, is_empty, refs_at, HasLives}
 use Rattle.qp_model.specs.Sites.{blocks_of}
 use Rattle.qp_model.specs.WordLaw.{Words, is_pool, is_block}
-use Rattle.qp_model.proofs.ListLemmas.{both_true}
 use Rattle.qp_model.proofs.WordLemmas.{Held, held-draws, held-shows, hist-held-draws, hist-stays}
 use Rattle.qp_model.proofs.LineLemmas.{same_number}
 use Rattle.qp_model.proofs.WordLawLemmas.{free_blocks-counts, references-counts, words-block, words-pool}
@@ -168,9 +168,9 @@ module _ (sys : System) (before : List (List Rec)) (lane : List Rec) (behind : L
     pool_of : (b : ℕ) → IsTrue (is_block sys p b) → (is_pool sys p ≡ true) × (b < blocks_of sys p)
     unfolding is_block
     pool_of b h =
-        let below : nat_lt b (blocks_of sys p) ≡ true = (both_true (is_pool sys p) (nat_lt b (blocks_of sys p)) h).1 in
+        let below : nat_lt b (blocks_of sys p) ≡ true = (and_parts (is_pool sys p) (nat_lt b (blocks_of sys p)) h).1 in
         let lt : b < blocks_of sys p = grind (arith, nat_tests) in
-        ((both_true (is_pool sys p) (nat_lt b (blocks_of sys p)) h).0, lt)
+        ((and_parts (is_pool sys p) (nat_lt b (blocks_of sys p)) h).0, lt)
 
     -- whether a block of the pool is given out
     out_is : (b : ℕ) → IsTrue (is_block sys p b) → (free : Bool) → has s.free b ≡ free → (after (life_of b) (pool_now p)).out ≡ not free

@@ -1,6 +1,7 @@
 -- Why a refusal shows its numbers.
 use Rattle.std.proofs.Common.{◌≡◌, ℕ, ◌+◌, ◌-◌, ◌≤◌, ◌==◌, nat_le, Bool, true, not, ◌&&◌, cond, List, [], ◌∷◌, ◌++◌, length, take, drop, refl, sym, ◌∙◌, subst, arith}
 use Rattle.std.specs.List.{list_all}
+use Rattle.std.proofs.lemmas.Bool.{and_parts}
 use Rattle.std.proofs.lemmas.List.{take-append-drop}
 use Rattle.std.proofs.lemmas.Bool.Decides.{nat_tests}
 use Rattle.qp_model.specs.declared.record.Rec.{Rec}
@@ -21,13 +22,12 @@ use Rattle.qp_model.specs.WordLaw.{Keeps}
 use Rattle.qp_model.specs.Promises.{operations}
 use Rattle.qp_model.specs.Refusals as refusal
 use Rattle.qp_model.specs.Refusals.{Stands, HasCounts, line_at, pool_at, clock_at}
-use Rattle.qp_model.proofs.ListLemmas.{both_true}
 use Rattle.qp_model.proofs.MachineLemmas.{is_allowed-front}
 use Rattle.qp_model.proofs.LineLemmas.{IsLine, line_is, same_number}
 
 list_all-at : {X : Type 0} (p : X → Bool) (xs ys : List X) (x : X) → list_all p (xs ++ x ∷ ys) ≡ true → p x ≡ true
-list_all-at p [] ys x h = (both_true _ _ h).0
-list_all-at p (y ∷ xs) ys x h = list_all-at p xs ys x (both_true _ _ h).1
+list_all-at p [] ys x h = (and_parts _ _ h).0
+list_all-at p (y ∷ xs) ys x h = list_all-at p xs ys x (and_parts _ _ h).1
 
 -- what a record says of the word that it shows, at its mark, which is within the word's history
 shown_there : {S : Type 0} (m : Machine S) (w : Word) (lanes : List (List Rec)) (o : ℕ) (b : Body) (n : ℕ) → Keeps S m w lanes
@@ -53,12 +53,12 @@ shown_there m w lanes o b n keeps stands shows same =
 
 says_there : {S : Type 0} (m : Machine S) (w : Word) (lanes : List (List Rec)) (o : ℕ) (b : Body) (n : ℕ) → Keeps S m w lanes
     → Stands lanes o b → touch (record { of = o; body = b }) ≡ Shows w n → same_word w w ≡ true → m.says (after m (take n (operations w lanes))) b ≡ true
-says_there m w lanes o b n keeps stands shows same = (both_true _ _ (shown_there m w lanes o b n keeps stands shows same)).1
+says_there m w lanes o b n keeps stands shows same = (and_parts _ _ (shown_there m w lanes o b n keeps stands shows same)).1
 
 stands_within : {S : Type 0} (m : Machine S) (w : Word) (lanes : List (List Rec)) (o : ℕ) (b : Body) (n : ℕ) → Keeps S m w lanes
     → Stands lanes o b → touch (record { of = o; body = b }) ≡ Shows w n → same_word w w ≡ true → n ≤ length (operations w lanes)
 stands_within m w lanes o b n keeps stands shows same =
-    let test : nat_le n (length (operations w lanes)) ≡ true = (both_true _ _ (shown_there m w lanes o b n keeps stands shows same)).0 in
+    let test : nat_le n (length (operations w lanes)) ≡ true = (and_parts _ _ (shown_there m w lanes o b n keeps stands shows same)).0 in
     grind (arith, nat_tests)
 
 -- the line at a place of the history is a line
@@ -71,9 +71,9 @@ line_there sys lanes a n keeps =
 
 counts_from : (f l m : ℕ) (s : Line) → counts_are f l m s ≡ true → HasCounts f l m s
 counts_from f l m s h =
-    let first : (s.f == f) ≡ true = (both_true _ _ (both_true _ _ h).0).0 in
-    let second : (s.l == l) ≡ true = (both_true _ _ (both_true _ _ h).0).1 in
-    let third : (s.m == m) ≡ true = (both_true _ _ h).1 in
+    let first : (s.f == f) ≡ true = (and_parts _ _ (and_parts _ _ h).0).0 in
+    let second : (s.l == l) ≡ true = (and_parts _ _ (and_parts _ _ h).0).1 in
+    let third : (s.m == m) ≡ true = (and_parts _ _ h).1 in
     record { first_in = grind (arith, nat_tests); last_in = grind (arith, nat_tests); takes = grind (arith, nat_tests) }
 
 pub full_shows : refusal.FullShows
@@ -81,8 +81,8 @@ unfolding line_at
 full_shows sys lanes words a h o f l m margin stands =
     let says : (counts_are f l m (line_at sys lanes a (f + l + m)) && nat_le (ring_of sys a + 1 - (f + l - m)) margin) ≡ true =
     says_there (line (ring_of sys a)) (word.Queue a) lanes o (Full a f l m margin) (f + l + m) (words.queues a h) stands refl (same_number a) in
-    let counts : HasCounts f l m (line_at sys lanes a (f + l + m)) = counts_from f l m (line_at sys lanes a (f + l + m)) (both_true _ _ says).0 in
-    (counts, few (line_at sys lanes a (f + l + m)) counts (line_there sys lanes a (f + l + m) (words.queues a h)) (both_true _ _ says).1)
+    let counts : HasCounts f l m (line_at sys lanes a (f + l + m)) = counts_from f l m (line_at sys lanes a (f + l + m)) (and_parts _ _ says).0 in
+    (counts, few (line_at sys lanes a (f + l + m)) counts (line_there sys lanes a (f + l + m) (words.queues a h)) (and_parts _ _ says).1)
   where
     few : (s : Line) → HasCounts f l m s → IsLine (ring_of sys a) s → nat_le (ring_of sys a + 1 - (f + l - m)) margin ≡ true → ring_of sys a + 1 ≤ length s.entries + margin
     few s counts is le =
@@ -99,24 +99,24 @@ unfolding line_at
 no_entry_shows sys lanes words a h o f l m stands =
     let says : (counts_are f l m (line_at sys lanes a (f + l + m)) && (f + l - m == ring_of sys a + 1)) ≡ true =
     says_there (line (ring_of sys a)) (word.Queue a) lanes o (NoEntry a f l m) (f + l + m) (words.queues a h) stands refl (same_number a) in
-    let counts : HasCounts f l m (line_at sys lanes a (f + l + m)) = counts_from f l m (line_at sys lanes a (f + l + m)) (both_true _ _ says).0 in
-    (counts, full_there sys a f l m (line_at sys lanes a (f + l + m)) counts (line_there sys lanes a (f + l + m) (words.queues a h)) (both_true _ _ says).1)
+    let counts : HasCounts f l m (line_at sys lanes a (f + l + m)) = counts_from f l m (line_at sys lanes a (f + l + m)) (and_parts _ _ says).0 in
+    (counts, full_there sys a f l m (line_at sys lanes a (f + l + m)) counts (line_there sys lanes a (f + l + m) (words.queues a h)) (and_parts _ _ says).1)
 
 pub no_lifo_shows : refusal.NoLifoShows
 unfolding line_at
 no_lifo_shows sys lanes words a h o f l m stands =
     let says : (counts_are f l m (line_at sys lanes a (f + l + m)) && (f + l - m == ring_of sys a + 1)) ≡ true =
     says_there (line (ring_of sys a)) (word.Queue a) lanes o (NoLifo a f l m) (f + l + m) (words.queues a h) stands refl (same_number a) in
-    let counts : HasCounts f l m (line_at sys lanes a (f + l + m)) = counts_from f l m (line_at sys lanes a (f + l + m)) (both_true _ _ says).0 in
-    (counts, full_there sys a f l m (line_at sys lanes a (f + l + m)) counts (line_there sys lanes a (f + l + m) (words.queues a h)) (both_true _ _ says).1)
+    let counts : HasCounts f l m (line_at sys lanes a (f + l + m)) = counts_from f l m (line_at sys lanes a (f + l + m)) (and_parts _ _ says).0 in
+    (counts, full_there sys a f l m (line_at sys lanes a (f + l + m)) counts (line_there sys lanes a (f + l + m) (words.queues a h)) (and_parts _ _ says).1)
 
 pub nil_shows : refusal.NilShows
 unfolding line_at
 nil_shows sys lanes words a h f l m stands =
     let says : (counts_are f l m (line_at sys lanes a (f + l + m)) && (f + l == m)) ≡ true =
     says_there (line (ring_of sys a)) (word.Queue a) lanes a (Nil f l m) (f + l + m) (words.queues a h) stands refl (same_number a) in
-    let counts : HasCounts f l m (line_at sys lanes a (f + l + m)) = counts_from f l m (line_at sys lanes a (f + l + m)) (both_true _ _ says).0 in
-    (counts, none (line_at sys lanes a (f + l + m)) counts (line_there sys lanes a (f + l + m) (words.queues a h)) (both_true _ _ says).1)
+    let counts : HasCounts f l m (line_at sys lanes a (f + l + m)) = counts_from f l m (line_at sys lanes a (f + l + m)) (and_parts _ _ says).0 in
+    (counts, none (line_at sys lanes a (f + l + m)) counts (line_there sys lanes a (f + l + m) (words.queues a h)) (and_parts _ _ says).1)
   where
     empty : (es : List Entry) → length es ≡ 0 → es ≡ []
     empty [] e = refl
@@ -132,8 +132,8 @@ unfolding pool_at
 short_shows sys lanes words p h o n free reserve stands =
     let says : ((length (pool_at sys lanes p n).free == free) && nat_le free reserve) ≡ true =
     says_there (free_blocks (blocks_of sys p)) (word.Pool p) lanes o (Short p n free reserve) n (words.pools p h) stands refl (same_number p) in
-    let all : (length (pool_at sys lanes p n).free == free) ≡ true = (both_true _ _ says).0 in
-    let few : nat_le free reserve ≡ true = (both_true _ _ says).1 in (
+    let all : (length (pool_at sys lanes p n).free == free) ≡ true = (and_parts _ _ says).0 in
+    let few : nat_le free reserve ≡ true = (and_parts _ _ says).1 in (
       stands_within (free_blocks (blocks_of sys p)) (word.Pool p) lanes o (Short p n free reserve) n (words.pools p h) stands refl (same_number p),
       grind (arith, nat_tests),
       grind (arith, nat_tests),
@@ -144,8 +144,8 @@ unfolding pool_at
 no_block_shows sys lanes words p h o n free stands =
     let says : ((length (pool_at sys lanes p n).free == free) && (free == 0)) ≡ true =
     says_there (free_blocks (blocks_of sys p)) (word.Pool p) lanes o (NoBlock p n free) n (words.pools p h) stands refl (same_number p) in
-    let all : (length (pool_at sys lanes p n).free == free) ≡ true = (both_true _ _ says).0 in
-    let few : (free == 0) ≡ true = (both_true _ _ says).1 in
+    let all : (length (pool_at sys lanes p n).free == free) ≡ true = (and_parts _ _ says).0 in
+    let few : (free == 0) ≡ true = (and_parts _ _ says).1 in
     let stated : length (pool_at sys lanes p n).free ≡ free = grind (arith, nat_tests) in
     let zero_free : free ≡ 0 = grind (arith, nat_tests) in (
       stands_within (free_blocks (blocks_of sys p)) (word.Pool p) lanes o (NoBlock p n free) n (words.pools p h) stands refl (same_number p),
@@ -162,8 +162,8 @@ unfolding clock_at
 armed_shows sys lanes words t h o n counter stands =
     let says : (((clock_at lanes t n).counter == counter) && not (counter == 0)) ≡ true =
     says_there time_event (word.Timer t) lanes o (Armed t n counter) n (words.timers t h) stands refl (same_number t) in
-    let is : ((clock_at lanes t n).counter == counter) ≡ true = (both_true _ _ says).0 in
-    let above : not (counter == 0) ≡ true = (both_true _ _ says).1 in (
+    let is : ((clock_at lanes t n).counter == counter) ≡ true = (and_parts _ _ says).0 in
+    let above : not (counter == 0) ≡ true = (and_parts _ _ says).1 in (
       stands_within time_event (word.Timer t) lanes o (Armed t n counter) n (words.timers t h) stands refl (same_number t),
       grind (arith, nat_tests),
       grind (arith, nat_tests),

@@ -1,5 +1,6 @@
 -- The tests of what is settled say the same as the facts.
 use Rattle.std.proofs.Common.{◌≡◌, ℕ, ◌<◌, ◌≤◌, ◌==◌, nat_lt, nat_le, Bool, true, false, ◌||◌, List, [], ◌∷◌, length, refl, arith, ◌⊎◌, inl, inr}
+use Rattle.std.proofs.lemmas.Bool.{and_from, and_parts}
 use Rattle.std.proofs.lemmas.Bool.Decides.{nat_tests}
 use Rattle.qp_model.specs.declared.words.Word.TheVariants as word
 use Rattle.qp_model.specs.declared.bodies.Body.{Body}
@@ -7,7 +8,6 @@ use Rattle.qp_model.specs.declared.bodies.Body.TheVariants.{Took, New, Dec, Same
 use Rattle.qp_model.specs.Record.{Item}
 use Rattle.qp_model.specs.History.{hist}
 use Rattle.qp_model.specs.Settled.{Settled, AllSettled, is_settled, all_settled}
-use Rattle.qp_model.proofs.ListLemmas.{both_true, true_both}
 
 lt-from : (a b : ℕ) → nat_lt a b ≡ true → a < b
 lt-from a b h = grind (arith, nat_tests)
@@ -50,9 +50,9 @@ settled-to items _ h = refl
 pub all_settled-from : (items lane : List Item) → all_settled items lane ≡ true → AllSettled items lane
 unfolding AllSettled all_settled
 all_settled-from items [] h = tt
-all_settled-from items (j ∷ js) h = (settled-from items j.body (both_true _ _ h).0, all_settled-from items js (both_true _ _ h).1)
+all_settled-from items (j ∷ js) h = (settled-from items j.body (and_parts _ _ h).0, all_settled-from items js (and_parts _ _ h).1)
 
 pub all_settled-to : (items lane : List Item) → AllSettled items lane → all_settled items lane ≡ true
 unfolding AllSettled all_settled
 all_settled-to items [] h = refl
-all_settled-to items (j ∷ js) h = true_both _ _ (settled-to items j.body h.0) (all_settled-to items js h.1)
+all_settled-to items (j ∷ js) h = and_from _ _ (settled-to items j.body h.0) (all_settled-to items js h.1)

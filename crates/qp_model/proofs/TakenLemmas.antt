@@ -4,6 +4,7 @@ use Rattle.std.specs.Prelude.{IsTrue, ⊤}
 use Rattle.std.specs.declared.option.Option.{Option}
 use Rattle.std.specs.Option.{unwrap_or, is_some}
 use Rattle.std.specs.List.{list_all, filter, filter_map, slice_get, cons_option}
+use Rattle.std.proofs.lemmas.Bool.{and_parts}
 use Rattle.std.proofs.lemmas.Bool.Decides.{nat_tests}
 use Rattle.std.proofs.lemmas.List.Elements.{filter_map-append, filter-append}
 use Rattle.qp_model.specs.declared.words.Word.{Word}
@@ -26,7 +27,7 @@ use Rattle.qp_model.specs.Lawful.{Lawful, SourceLanes, facts_of, lanes_before}
 use Rattle.qp_model.specs.Laws.{taken_entry, taken_by, taken_in}
 use Rattle.qp_model.specs.Lists.{never_falls}
 use Rattle.qp_model.specs.History.{Touch, Draws, touch, touch_of, same_word, drawn_as, drawn_below, mark_of, marks, numbered, lane_items, all_items, hist, total, is_numbered, marks_rise}
-use Rattle.qp_model.proofs.ListLemmas.{both_true, filter-none, list_all-middle}
+use Rattle.qp_model.proofs.ListLemmas.{filter-none, list_all-middle}
 use Rattle.qp_model.proofs.WordLemmas.{all_items-append}
 
 -- the record draws a number of w, and this is its mark
@@ -142,19 +143,19 @@ taking-draws o of _ same h = absurd (cc)
 
 takes-mark : (o : ℕ) (i : Item) → takes_for o i ≡ true → (m : ℕ) × DrawsMark (word.Queue o) i m
 takes-mark o i h =
-    let test : (i.of == o) ≡ true = (both_true _ _ h).0 in
+    let test : (i.of == o) ≡ true = (and_parts _ _ h).0 in
     let same : i.of ≡ o = grind (arith, nat_tests, test) in
     let self : (o == o) ≡ true = grind (arith, nat_tests) in
-    let drawn = taking-draws o i.of i.body same (both_true _ _ h).1 in
+    let drawn = taking-draws o i.of i.body same (and_parts _ _ h).1 in
     (drawn.0, record { draws = drawn.1; same = self })
 
 never_falls-rest : (o : Option ℕ) (xs : List ℕ) → never_falls (cons_option o xs) ≡ true → never_falls xs ≡ true
 never_falls-rest None xs h = h
-never_falls-rest (Some x) xs h = (both_true _ _ h).1
+never_falls-rest (Some x) xs h = (and_parts _ _ h).1
 
 all-rest : (p : ℕ → Bool) (o : Option ℕ) (xs : List ℕ) → list_all p (cons_option o xs) ≡ true → list_all p xs ≡ true
 all-rest p None xs h = h
-all-rest p (Some x) xs h = (both_true _ _ h).1
+all-rest p (Some x) xs h = (and_parts _ _ h).1
 
 mark-draws : (w : Word) (i : Item) (m : ℕ) → DrawsMark w i m → mark_of w (touch i) ≡ Some m
 mark-draws w i m h = rw (h.draws, h.same) refl
@@ -170,14 +171,14 @@ takes-least o m (i ∷ is) h = go (takes_for o i) refl (takes-least o m is (all-
         let drawn = takes-mark o i e in
         let mark : mark_of (word.Queue o) (touch i) ≡ Some drawn.0 = mark-draws (word.Queue o) i drawn.0 drawn.1 in
         let first : list_all (λ y. nat_le m y) (cons_option (Some drawn.0) (marks (word.Queue o) is)) ≡ true = subst (λ x. list_all (λ y. nat_le m y) (cons_option x (marks (word.Queue o) is)) ≡ true) mark h in
-        let test : nat_le m drawn.0 ≡ true = (both_true _ _ first).0 in
+        let test : nat_le m drawn.0 ≡ true = (and_parts _ _ first).0 in
         (drawn.0, drawn.1, grind (arith, nat_tests, test), rest)
 
 -- the takes of o in a lane stand in the order of their numbers
 takes-order : (o n : ℕ) (is : List Item) → never_falls (marks (word.Queue o) is) ≡ true → list_all (λ i. drawn_below (word.Queue o) n (touch i)) is ≡ true
     → InOrder (word.Queue o) n (filter (takes_for o) is)
 takes-order o n [] rise below = tt
-takes-order o n (i ∷ is) rise below = go (takes_for o i) refl (takes-order o n is (never_falls-rest (mark_of (word.Queue o) (touch i)) _ rise) (both_true _ _ below).1)
+takes-order o n (i ∷ is) rise below = go (takes_for o i) refl (takes-order o n is (never_falls-rest (mark_of (word.Queue o) (touch i)) _ rise) (and_parts _ _ below).1)
   where
     go : (b : Bool) → takes_for o i ≡ b → InOrder (word.Queue o) n (filter (takes_for o) is) → InOrder (word.Queue o) n (cond b (i ∷ filter (takes_for o) is) (filter (takes_for o) is))
     go false e rest = rest
@@ -185,11 +186,11 @@ takes-order o n (i ∷ is) rise below = go (takes_for o i) refl (takes-order o n
         let drawn = takes-mark o i e in
         let mark : mark_of (word.Queue o) (touch i) ≡ Some drawn.0 = mark-draws (word.Queue o) i drawn.0 drawn.1 in
         let rising : never_falls (cons_option (Some drawn.0) (marks (word.Queue o) is)) ≡ true = subst (λ x. never_falls (cons_option x (marks (word.Queue o) is)) ≡ true) mark rise in
-        let here : drawn_below (word.Queue o) n (touch i) ≡ true = (both_true _ _ below).0 in
+        let here : drawn_below (word.Queue o) n (touch i) ≡ true = (and_parts _ _ below).0 in
         let limit : (nat_lt 0 drawn.0 && nat_le drawn.0 n) ≡ true = within n drawn.0 (touch i) drawn.1.draws drawn.1.same here in
-        let low : nat_lt 0 drawn.0 ≡ true = (both_true _ _ limit).0 in
-        let high : nat_le drawn.0 n ≡ true = (both_true _ _ limit).1 in
-        (drawn.0, drawn.1, grind (arith, nat_tests, low), grind (arith, nat_tests, high), takes-least o drawn.0 is (both_true _ _ rising).0, rest)
+        let low : nat_lt 0 drawn.0 ≡ true = (and_parts _ _ limit).0 in
+        let high : nat_le drawn.0 n ≡ true = (and_parts _ _ limit).1 in
+        (drawn.0, drawn.1, grind (arith, nat_tests, low), grind (arith, nat_tests, high), takes-least o drawn.0 is (and_parts _ _ rising).0, rest)
       where
         within : (n m : ℕ) (t : Touch) → t ≡ Draws (word.Queue o) m → same_word (word.Queue o) (word.Queue o) ≡ true → drawn_below (word.Queue o) n t ≡ true → (nat_lt 0 m && nat_le m n) ≡ true
         within n m t is same below =
@@ -247,8 +248,8 @@ told-takes w o c (i ∷ is) = go (i.of == o) (told-takes w o (ceiling_after c i.
     go false h = h
 
 list_all-at : {A : Type 0} (p : A → Bool) (xs : List A) (y : A) (ys : List A) → list_all p (xs ++ y ∷ ys) ≡ true → p y ≡ true
-list_all-at p [] y ys h = (both_true _ _ h).0
-list_all-at p (x ∷ xs) y ys h = list_all-at p xs y ys (both_true _ _ h).1
+list_all-at p [] y ys h = (and_parts _ _ h).0
+list_all-at p (x ∷ xs) y ys h = list_all-at p xs y ys (and_parts _ _ h).1
 
 -- where all takes of o stand in one lane, they are those of the queue's history, in its order
 module _ (o ring : ℕ) (front : List (List Rec)) (lane : List Rec) (back : List (List Rec)) (keeps : Keeps Line (line ring) (word.Queue o) (front ++ lane ∷ back))
@@ -266,7 +267,7 @@ module _ (o ring : ℕ) (front : List (List Rec)) (lane : List Rec) (back : List
   unfolding is_numbered marks_rise
   takes-ordered =
       let n = total (word.Queue o) (all_items (front ++ lane ∷ back)) in
-      let below : list_all (λ i. drawn_below (word.Queue o) n (touch i)) (all_items (front ++ lane ∷ back)) ≡ true = (both_true _ _ keeps.numbers).0 in
+      let below : list_all (λ i. drawn_below (word.Queue o) n (touch i)) (all_items (front ++ lane ∷ back)) ≡ true = (and_parts _ _ keeps.numbers).0 in
       let parts : list_all (λ i. drawn_below (word.Queue o) n (touch i)) ((all_items front ++ lane_items lane) ++ all_items back) ≡ true =
       subst (λ xs. list_all (λ i. drawn_below (word.Queue o) n (touch i)) xs ≡ true) all_items-parts below in
       takes-order o n (lane_items lane)

@@ -1,6 +1,7 @@
 -- A course comes to its end exactly where no assertion is among its records.
 use Rattle.std.proofs.Common.{◌≡◌, ℕ, max, Bool, true, false, not, List, [], ◌∷◌, ◌++◌, refl, sym, ◌∙◌, ap, subst, Option, Some, None, append-nil}
 use Rattle.std.specs.Bool.{MatchBool}
+use Rattle.std.proofs.lemmas.Bool.{and_parts}
 use Rattle.std.proofs.lemmas.List.Folds.{list_all-append}
 use Rattle.qp_chart.specs.declared.checked.Chart.{Chart}
 use Rattle.qp_chart.specs.Task.{Task, Begin, Run, Unhandled, Exit, Enter, Init, Done, Do, Raise, Restore}
@@ -16,7 +17,6 @@ use Rattle.qp_model.specs.Acts.{Config, Actor, Moment, Later, DoesCall, DoesDeed
 use Rattle.qp_model.specs.Step.{Step, StepBehind, Closes, at_leaf, moment}
 use Rattle.qp_model.specs.Course.{Starts, Steps, Course, Follows, FollowsAs, FollowsThrough, FollowsThroughAs, actor, first_config, chart_at, at_start}
 use Rattle.qp_model.specs.ObjectShape.{is_assert, asserts_none}
-use Rattle.qp_model.proofs.ListLemmas.{both_true}
 use Rattle.qp_model.proofs.CourseLemmas.{through-follows}
 use Rattle.qp_model.proofs.FitsLemmas.{Usual, Ending, Answers, answer-assert, fits-usual}
 use Rattle.qp_model.proofs.GroupLemmas.{bare-append, bare-tell, bare-pieces_of}
@@ -25,7 +25,7 @@ use Rattle.qp_model.proofs.LastLemmas.{Quiet, quiet-append, start-quiet, turns-q
 
 -- the back of records without an assertion has none
 quiet-back : (g h : List Told) → Quiet (g ++ h) → Quiet h
-quiet-back g h k = (both_true _ _ (sym (list_all-append (λ t. not (is_assert t.body)) g h) ∙ k)).1
+quiet-back g h k = (and_parts _ _ (sym (list_all-append (λ t. not (is_assert t.body)) g h) ∙ k)).1
 
 -- a call that asserts leaves an assertion
 call-loud : (answer : Answer) (g : List Told) → is_assertion answer ≡ true → Answers Usual answer g → Quiet g → ⊥
@@ -35,7 +35,7 @@ call-loud answer g is h k = by (subst (λ b. MatchBool b (Ending Usual answer g)
     by : Ending Usual answer g → ⊥
     by (front, t, usual, asserts, whole) =
         let last : Quiet (t ∷ []) = quiet-back front (t ∷ []) (subst (λ us. Quiet us) whole k) in
-        let quiet : not (is_assert t.body) ≡ true = (both_true _ _ last).0 in
+        let quiet : not (is_assert t.body) ≡ true = (and_parts _ _ last).0 in
         let wrong : not true ≡ true = subst (λ b. not b ≡ true) (answer-assert t.body answer asserts) quiet in cc
 
 module _ (sys : System) (a : Actor) where
@@ -111,7 +111,7 @@ module _ (sys : System) (a : Actor) where
 
       by : ((d : Config) → Steps sys a es (Some d) rest None → Quiet (bare rest) → ⊥) → (mid : Option Config) → Step sys a e c one mid → Steps sys a es mid rest None → ⊥
       by later None step more =
-          step-fails e c one step (both_true _ _ (sym (list_all-append (λ t. not (is_assert t.body)) (bare one) (bare rest)) ∙ split)).0
+          step-fails e c one step (and_parts _ _ (sym (list_all-append (λ t. not (is_assert t.body)) (bare one) (bare rest)) ∙ split)).0
       by later (Some d) step more = later d more (quiet-back (bare one) (bare rest) split)
 
   -- a course that an assertion breaks off has one among its records
@@ -125,7 +125,7 @@ module _ (sys : System) (a : Actor) where
       begun : Quiet (bare all)
       begun =
           subst (λ us. Quiet us) (ap bare told ∙ bare-tell (bare all))
-          (both_true _ _ (sym (list_all-append (λ t. not (is_assert t.body)) (bare start) (bare rest)) ∙ split)).0
+          (and_parts _ _ (sym (list_all-append (λ t. not (is_assert t.body)) (bare start) (bare rest)) ∙ split)).0
 
       by : (mid : Option Config) → mid ≡ at_leaf (start_plan a.chart).leaf inner → Steps sys a es mid rest None → ⊥
       by None leaf steps =

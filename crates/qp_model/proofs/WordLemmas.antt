@@ -1,6 +1,7 @@
 -- What a word keeps when a record is added at the end of a lane that stands among others.
 use Rattle.std.proofs.Common.{◌≡◌, ℕ, suc, ◌≤◌, ◌==◌, nat_lt, nat_le, Bool, true, false, not, ◌&&◌, ◌||◌, cond, List, [], ◌∷◌, ◌++◌, length, take, map, refl, sym, ◌∙◌, ap, Option, Some, None, append_assoc, append-nil, arith}
 use Rattle.std.specs.List.{list_all, cons_option}
+use Rattle.std.proofs.lemmas.Bool.{and_from, and_parts}
 use Rattle.std.proofs.lemmas.List.{map-append, take_all}
 use Rattle.std.proofs.lemmas.List.Elements.{filter_map-append}
 use Rattle.std.proofs.lemmas.Bool.Decides.{nat_tests}
@@ -12,7 +13,7 @@ use Rattle.qp_model.specs.Lists.{never_falls}
 use Rattle.qp_model.specs.History.{touch, Touch, Draws, Shows, Neither, same_word, mark_of, marks, marks_rise, drawn_on, shown_on, drawn_below, drawn_as, hist, total, is_numbered, lane_items, all_items}
 use Rattle.qp_model.specs.Machine.{Machine, after, is_allowed, is_shown, shown_by}
 use Rattle.qp_model.specs.WordLaw.{Keeps}
-use Rattle.qp_model.proofs.ListLemmas.{both_true, true_both, list_all-middle, never_falls-last}
+use Rattle.qp_model.proofs.ListLemmas.{list_all-middle, never_falls-last}
 use Rattle.qp_model.proofs.HistoryLemmas.{length-hist, hist-draws, hist-other, is_numbered-draws, is_numbered-other}
 use Rattle.qp_model.proofs.MachineLemmas.{Counts, after-append, is_allowed-append, count-after, is_shown-draws, is_shown-other, shown_by-none}
 
@@ -38,14 +39,14 @@ mark_within m w count history b (Draws v k) n len below shown is = go (same_word
 mark_within m w count history b (Shows v k) n len below shown is = go (same_word v w) shown is
   where
     go : (same : Bool) → cond same (nat_le k (length history) && m.says (after m (take k history)) b) true ≡ true → cond same (Some k) None ≡ Some n → n ≤ count
-    go true e f = let is : k ≡ n = cc in let le : nat_le k (length history) ≡ true = (both_true _ _ e).0 in grind (arith, nat_tests)
+    go true e f = let is : k ≡ n = cc in let le : nat_le k (length history) ≡ true = (and_parts _ _ e).0 in grind (arith, nat_tests)
     go false e f = let wrong : n ≤ count = cc in wrong
 mark_within m w count history b Neither n len below shown is = let wrong : n ≤ count = cc in wrong
 
 pub mark-draws : (w : Word) (n : ℕ) (t : Touch) → drawn_as w n t ≡ true → mark_of w t ≡ Some (suc n)
 mark-draws w n (Draws v k) h =
-    let same : same_word v w ≡ true = (both_true _ _ h).0 in
-    let here : (k == suc n) ≡ true = (both_true _ _ h).1 in
+    let same : same_word v w ≡ true = (and_parts _ _ h).0 in
+    let here : (k == suc n) ≡ true = (and_parts _ _ h).1 in
     let is : k ≡ suc n = grind (arith, nat_tests) in
     rw (same, is) refl
 mark-draws w n (Shows v k) h = cc
@@ -81,7 +82,7 @@ shown_by-says m w history b (Shows v k) n mark le says = go (same_word v w) mark
     go true e =
         let is : k ≡ n = cc in
         let test : nat_le n (length history) ≡ true = grind (arith, nat_tests) in
-        rw is (true_both _ _ test says)
+        rw is (and_from _ _ test says)
     go false e = refl
 
 -- the marks of a lane on w are at most a number that is at least the count of w's operations
@@ -101,18 +102,18 @@ module _ {S : Type 0} (m : Machine S) (w : Word) (items : List Item) (n : ℕ) (
       → list_all (λ x. nat_le x n) (marks w lane) ≡ true
   marks_within [] below said = refl
   marks_within (i ∷ is) below said =
-      joined (mark_of w (touch i)) (one_mark i (both_true _ _ below).0 (both_true _ _ said).0) (marks_within is (both_true _ _ below).1 (both_true _ _ said).1)
+      joined (mark_of w (touch i)) (one_mark i (and_parts _ _ below).0 (and_parts _ _ said).0) (marks_within is (and_parts _ _ below).1 (and_parts _ _ said).1)
     where
       joined : (o : Option ℕ) → list_all (λ x. nat_le x n) (cons_option o []) ≡ true → list_all (λ x. nat_le x n) (marks w is) ≡ true → list_all (λ x. nat_le x n) (cons_option o (marks w is)) ≡ true
       joined None h k = k
-      joined (Some x) h k = true_both _ _ (both_true _ _ h).0 k
+      joined (Some x) h k = and_from _ _ (and_parts _ _ h).0 k
 
 -- one lane among others changes
 marks_rise-change : (w : Word) (before behind : List (List Rec)) (old new : List Rec) → (never_falls (marks w (lane_items old)) ≡ true → never_falls (marks w (lane_items new)) ≡ true)
     → marks_rise w (before ++ old ∷ behind) ≡ true → marks_rise w (before ++ new ∷ behind) ≡ true
 unfolding marks_rise
-marks_rise-change w [] behind old new go h = true_both _ _ (go (both_true _ _ h).0) (both_true _ _ h).1
-marks_rise-change w (x ∷ before) behind old new go h = true_both _ _ (both_true _ _ h).0 (marks_rise-change w before behind old new go (both_true _ _ h).1)
+marks_rise-change w [] behind old new go h = and_from _ _ (go (and_parts _ _ h).0) (and_parts _ _ h).1
+marks_rise-change w (x ∷ before) behind old new go h = and_from _ _ (and_parts _ _ h).0 (marks_rise-change w before behind old new go (and_parts _ _ h).1)
 
 module _ (before : List (List Rec)) (lane : List Rec) (behind : List (List Rec)) where
   -- the records of all lanes, with the end of this one in their middle
@@ -165,7 +166,7 @@ module _ (before : List (List Rec)) (lane : List Rec) (behind : List (List Rec))
       unfolding is_numbered is_shown xs
       lane_within n more =
           marks_within m w (xs ++ ys) n numbers (omega (arith, count-total)) (lane_items lane)
-          (list_all-middle (λ j. drawn_below w (total w (xs ++ ys)) (touch j)) (all_items before) (lane_items lane) ys (both_true _ _ numbers).0)
+          (list_all-middle (λ j. drawn_below w (total w (xs ++ ys)) (touch j)) (all_items before) (lane_items lane) ys (and_parts _ _ numbers).0)
           (list_all-middle (λ j. shown_by m w (hist w (xs ++ ys)) j.body (touch j)) (all_items before) (lane_items lane) ys shown)
 
       marks-more : (n : ℕ) → mark_of w (touch i) ≡ Some n → m.count s ≤ n → marks_rise w (before ++ (lane ++ r ∷ []) ∷ behind) ≡ true

@@ -2,6 +2,7 @@
 use Rattle.std.proofs.Common.{◌≡◌, ℕ, zero, suc, ◌+◌, ◌-◌, ◌<◌, ◌==◌, nat_lt, nat_le, Bool, true, false, ◌&&◌, cond, List, [], ◌∷◌, length, refl, subst, IsTrue, Some, arith}
 use Rattle.std.specs.Prelude.{is_some}
 use Rattle.std.specs.List.{list_all, find}
+use Rattle.std.proofs.lemmas.Bool.{and_parts}
 use Rattle.std.proofs.lemmas.Bool.Decides.{nat_tests}
 use Rattle.qp_model.specs.declared.record.Rec.{Rec}
 use Rattle.qp_model.specs.declared.systems.System.{System}
@@ -20,34 +21,34 @@ use Rattle.qp_model.specs.TimeEvents.{Clock, time_event}
 use Rattle.qp_model.specs.Lives.{HasLives, has_lives}
 use Rattle.qp_model.specs.Sites.{object_at, ring_of, blocks_of}
 use Rattle.qp_model.specs.WordLaw.{Keeps, keeps, Words, words_hold, pools_hold, blocks_hold, queues_hold, signals_hold, timers_hold, is_pool, is_block, is_object, is_signal, is_timer}
-use Rattle.qp_model.proofs.ListLemmas.{both_true, all_below_at}
+use Rattle.qp_model.proofs.ListLemmas.{all_below_at}
 
 pub keeps-is : {S : Type 0} (m : Machine S) (w : Word) (lanes : List (List Rec)) → keeps m w lanes ≡ true → Keeps S m w lanes
 unfolding keeps
 keeps-is m w lanes h = record {
-  numbers = (both_true _ _ (both_true _ _ (both_true _ _ h).0).0).0;
-  allowed = (both_true _ _ (both_true _ _ (both_true _ _ h).0).0).1;
-  shown = (both_true _ _ (both_true _ _ h).0).1;
-  marks = (both_true _ _ h).1;
+  numbers = (and_parts _ _ (and_parts _ _ (and_parts _ _ h).0).0).0;
+  allowed = (and_parts _ _ (and_parts _ _ (and_parts _ _ h).0).0).1;
+  shown = (and_parts _ _ (and_parts _ _ h).0).1;
+  marks = (and_parts _ _ h).1;
 }
 
 pub has_lives-is : (b : ℕ) (pool block : List Item) → has_lives b pool block ≡ true → HasLives b pool block
 unfolding has_lives
 has_lives-is b pool block h = record {
-  alternate = (both_true _ _ (both_true _ _ (both_true _ _ h).0).0).0;
-  empty = (both_true _ _ (both_true _ _ (both_true _ _ h).0).0).1;
-  cover = (both_true _ _ (both_true _ _ h).0).1;
-  referred = (both_true _ _ h).1;
+  alternate = (and_parts _ _ (and_parts _ _ (and_parts _ _ h).0).0).0;
+  empty = (and_parts _ _ (and_parts _ _ (and_parts _ _ h).0).0).1;
+  cover = (and_parts _ _ (and_parts _ _ h).0).1;
+  referred = (and_parts _ _ h).1;
 }
 
 found_passes : (p : ℕ → Bool) (a : ℕ) (ds : List ObjectDef) → list_all (λ d. p d.priority) ds ≡ true → is_some (find (λ d. d.priority == a) ds) ≡ true → p a ≡ true
 found_passes p a [] h some = cc
-found_passes p a (d ∷ ds) h some = go (found_passes p a ds (both_true _ _ h).1) (d.priority == a) refl some
+found_passes p a (d ∷ ds) h some = go (found_passes p a ds (and_parts _ _ h).1) (d.priority == a) refl some
   where
     go : (is_some (find (λ d. d.priority == a) ds) ≡ true → p a ≡ true) → (same : Bool) → (d.priority == a) ≡ same → is_some (cond same (Some d) (find (λ d. d.priority == a) ds)) ≡ true → p a ≡ true
     go later true e k =
         let is : d.priority ≡ a = grind (arith, nat_tests) in
-        subst (λ n. p n ≡ true) is (both_true _ _ h).0
+        subst (λ n. p n ≡ true) is (and_parts _ _ h).0
     go later false e k = later k
 
 module _ (sys : System) (lanes : List (List Rec)) where
@@ -64,8 +65,8 @@ module _ (sys : System) (lanes : List (List Rec)) where
   unfolding blocks_hold is_block
   block_at h zero b is = cc
   block_at h (suc k) b is =
-      let pool : is_pool sys (suc k) ≡ true = (both_true _ _ is).0 in
-      let below : nat_lt b (blocks_of sys (suc k)) ≡ true = (both_true _ _ is).1 in
+      let pool : is_pool sys (suc k) ≡ true = (and_parts _ _ is).0 in
+      let below : nat_lt b (blocks_of sys (suc k)) ≡ true = (and_parts _ _ is).1 in
       let in_range : k < length sys.pools = grind (arith, nat_tests) in
       let in_pool : b < blocks_of sys (suc k) = grind (arith, nat_tests) in
       all_below_at (blocks_of sys (suc k)) (λ b. keeps references (word.Block (suc k) b) lanes && has_lives b (hist (word.Pool (suc k)) (all_items lanes)) (hist (word.Block (suc k) b) (all_items lanes)))
@@ -79,8 +80,8 @@ module _ (sys : System) (lanes : List (List Rec)) where
   pub signals-from : signals_hold sys lanes ≡ true → (s : ℕ) → IsTrue (is_signal sys s) → Keeps Subscribers subscribers (word.Signal s) lanes
   unfolding signals_hold
   signals-from h s is =
-      let low : nat_le 4 s ≡ true = (both_true _ _ is).0 in
-      let high : nat_lt s (length sys.signals + 4) ≡ true = (both_true _ _ is).1 in
+      let low : nat_le 4 s ≡ true = (and_parts _ _ is).0 in
+      let high : nat_lt s (length sys.signals + 4) ≡ true = (and_parts _ _ is).1 in
       let in_range : s - 4 < length sys.signals = grind (arith, nat_tests) in
       let back : (s - 4) + 4 ≡ s = grind (arith, nat_tests) in
       keeps-is subscribers (word.Signal s) lanes
@@ -98,12 +99,12 @@ module _ (sys : System) (lanes : List (List Rec)) where
   pub words-from : IsTrue (words_hold sys lanes) → Words sys lanes
   unfolding words_hold
   words-from h =
-      let blocks : blocks_hold sys lanes ≡ true = (both_true _ _ (both_true _ _ (both_true _ _ (both_true _ _ h).0).0).0).1 in
+      let blocks : blocks_hold sys lanes ≡ true = (and_parts _ _ (and_parts _ _ (and_parts _ _ (and_parts _ _ h).0).0).0).1 in
       record {
-        pools = pools-from (both_true _ _ (both_true _ _ (both_true _ _ (both_true _ _ h).0).0).0).0;
-        blocks = λ p b is. keeps-is references (word.Block p b) lanes (both_true _ _ (block_at blocks p b is)).0;
-        lives = λ p b is. has_lives-is b (hist (word.Pool p) (all_items lanes)) (hist (word.Block p b) (all_items lanes)) (both_true _ _ (block_at blocks p b is)).1;
-        queues = queues-from (both_true _ _ (both_true _ _ (both_true _ _ h).0).0).1;
-        signals = signals-from (both_true _ _ (both_true _ _ h).0).1;
-        timers = timers-from (both_true _ _ h).1;
+        pools = pools-from (and_parts _ _ (and_parts _ _ (and_parts _ _ (and_parts _ _ h).0).0).0).0;
+        blocks = λ p b is. keeps-is references (word.Block p b) lanes (and_parts _ _ (block_at blocks p b is)).0;
+        lives = λ p b is. has_lives-is b (hist (word.Pool p) (all_items lanes)) (hist (word.Block p b) (all_items lanes)) (and_parts _ _ (block_at blocks p b is)).1;
+        queues = queues-from (and_parts _ _ (and_parts _ _ (and_parts _ _ h).0).0).1;
+        signals = signals-from (and_parts _ _ (and_parts _ _ h).0).1;
+        timers = timers-from (and_parts _ _ h).1;
       }

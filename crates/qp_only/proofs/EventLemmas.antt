@@ -1,6 +1,7 @@
 -- What the records before an entry is taken tell of its event stays, along an order in which one thread makes them.
 use Rattle.std.proofs.Common.{◌≡◌, ◌∙◌, ℕ, ◌<◌, ◌==◌, nat_lt, Bool, true, false, cond, List, [], ◌∷◌, ◌++◌, map, length, Some, None, IsTrue, refl, sym, ap, subst, arith, append-nil, append_assoc, ◌⊎◌, inl, inr}
 use Rattle.std.specs.declared.option.Option.{Option}
+use Rattle.std.proofs.lemmas.Bool.{and_parts}
 use Rattle.std.proofs.lemmas.Bool.Decides.{nat_tests}
 use Rattle.std.proofs.lemmas.List.{map-append}
 use Rattle.std.proofs.lemmas.List.Elements.{filter-append}
@@ -21,7 +22,6 @@ use Rattle.qp_model.specs.Settled.{Settled}
 use Rattle.qp_model.specs.WordLaw.{is_block, is_object}
 use Rattle.qp_model.proofs.HistoryLemmas.{hist-draws, hist-other, is_numbered-draws, is_numbered-other, length-hist}
 use Rattle.qp_model.proofs.KnowingLemmas.{IsLater, back-fresh, known-stays, new-fresh, settled-stays}
-use Rattle.qp_model.proofs.ListLemmas.{both_true}
 use Rattle.qp_orders.specs.RunOrder.{items_of}
 use Rattle.qp_sound.specs.Log.{log_of}
 use Rattle.qp_sound.specs.May.{May}
@@ -39,7 +39,7 @@ front-ordered : (before xs ys : List Item) → in_order before (xs ++ ys) ≡ tr
 unfolding in_order
 front-ordered before [] ys h = refl
 front-ordered before (x ∷ xs) ys h =
-    let parts = both_true (is_next before (touch x)) (in_order (before ++ x ∷ []) (xs ++ ys)) h in rw (parts.0, front-ordered (before ++ x ∷ []) xs ys parts.1) refl
+    let parts = and_parts (is_next before (touch x)) (in_order (before ++ x ∷ []) (xs ++ ys)) h in rw (parts.0, front-ordered (before ++ x ∷ []) xs ys parts.1) refl
 
 none-numbered : (w : Word) → is_numbered w [] ≡ true
 unfolding is_numbered total

@@ -3,7 +3,7 @@
 use Rattle.std.proofs.Common.{◌≡◌, ◌∙◌, ℕ, ◌+◌, ◌-◌, ◌<◌, ◌≤◌, Bool, true, false, ◌||◌, List, [], ◌∷◌, map, length, nat_le, Option, Some, None, cond, zero, suc, refl, subst, arith}
 use Rattle.std.specs.Prelude.{slice_get, is_some}
 use Rattle.std.specs.List.{AllByRecursion, list_all, list_any, position, position_or_len}
-use Rattle.std.proofs.lemmas.Bool.{false≢true, le-leb, lt-ltb}
+use Rattle.std.proofs.lemmas.Bool.{false≢true, le-leb, lt-ltb, or_right}
 use Rattle.std.specs.Option.{option_map}
 use Rattle.qp_chart.specs.declared.actions.Plain.{Plain}
 use Rattle.qp_chart.specs.declared.actions.Plain.TheVariants as action
@@ -52,10 +52,6 @@ first-within n (p ∷ ps) some = by (nat_le n p.size) refl (first-within n ps)
 first-some : (n : ℕ) (pools : List PoolDef) → list_any (λ p. nat_le n p.size) pools ≡ true
     → is_some (position (λ size. nat_le n size) (map (λ d. d.size) pools)) ≡ true
 first-some n pools some = cond-some _ _ ∙ lt-ltb _ _ (first-within n pools some)
-
-or-right : (a b : Bool) → b ≡ true → (a || b) ≡ true
-or-right true b h = refl
-or-right false b h = h
 
 map-some : {A B : Type 0} (f : A → B) (o : Option A) → is_some (option_map f o) ≡ is_some o
 map-some f None = refl
@@ -125,7 +121,7 @@ module _ (sys : System) (sound : IsSound sys) where
   below-eight : (sig n : ℕ) → n ≤ 8 → has_pool with_eight sig n ≡ true
   unfolding has_pool is_static first_pool sizes_of
   below-eight sig n few =
-      or-right (is_static with_eight sig) _ (map-some (λ i. i + 1) _ ∙ first-some n (record { size = 8; blocks = 1 } ∷ []) (rw (le-leb n 8 few) refl))
+      or_right (is_static with_eight sig) _ (map-some (λ i. i + 1) _ ∙ first-some n (record { size = 8; blocks = 1 } ∷ []) (rw (le-leb n 8 few) refl))
 
   eight-pool : (sig : ℕ) (signal : SignalDef) → IsSignal sys sig signal → has_pool with_eight sig signal.params ≡ true
   eight-pool sig signal is = below-eight sig signal.params (all-at (λ d. d.params ≤ 8) sys.signals (sig - 4) signal sound.params is.1)

@@ -1,6 +1,6 @@
 -- A lawful journal of `sim` without a `spill` is tidy, and so the only one.
 use Rattle.std.proofs.Common.{◌≡◌, ◌∙◌, ℕ, zero, suc, ◌+◌, ◌<◌, ◌≤◌, ◌==◌, nat_le, nat_lt, Bool, true, false, cond, List, [], ◌∷◌, ◌++◌, map, length, get_or, Some, None, refl, sym, ap, subst, arith}
-use Rattle.std.proofs.lemmas.Bool.{false≢true}
+use Rattle.std.proofs.lemmas.Bool.{false≢true, and_from, and_parts}
 use Rattle.std.proofs.lemmas.Bool.Decides.{nat_tests}
 use Rattle.std.proofs.lemmas.List.{length-map, map-append}
 use Rattle.std.specs.declared.option.Option.{Option}
@@ -22,7 +22,6 @@ use Rattle.qp_model.specs.Home.{lane_at}
 use Rattle.qp_model.specs.Lawful.{facts_of, setting_of, source_lanes}
 use Rattle.qp_model.specs.OneOrder.{Placed, with_stimuli, parts_of_look, look_of}
 use Rattle.qp_model.specs.Places.{IsSerial, RecordPlace}
-use Rattle.qp_model.proofs.ListLemmas.{both_true, true_both}
 use Rattle.qp_orders.specs.RunOrder.{placed, items_of}
 use Rattle.qp_stim.specs.Rules.{StimuliFit}
 use Rattle.qp_sound.specs.May.{May}
@@ -105,7 +104,7 @@ same-word_test sys (word.Timer t) = refl
 names-all : (sys : System) (is : List Item) → list_all (λ i. is_on (has_its_word sys) (touch i)) is ≡ true → list_all (λ i. names_its sys i.of i.body) is ≡ true
 unfolding names_its
 names-all sys [] h = refl
-names-all sys (i ∷ is) h = let parts = both_true _ _ h in true_both _ _ (by (touch i) parts.0) (names-all sys is parts.1)
+names-all sys (i ∷ is) h = let parts = and_parts _ _ h in and_from _ _ (by (touch i) parts.0) (names-all sys is parts.1)
   where
     by : (t : Touch) → is_on (has_its_word sys) t ≡ true → touches_its sys t ≡ true
     by (Draws w mark) h = sym (same-word_test sys w) ∙ h
@@ -203,7 +202,7 @@ each-tidy sys stimuli j sound fit its = tidy sys stimuli j sound fit its
 
 -- what a record says that is kept is something
 said-kept : (i : Item) → is_kept i ≡ true → is_malformed i.body ≡ false
-said-kept i kept = by i.body (both_true (nat_le i.of 32) _ kept).1
+said-kept i kept = by i.body (and_parts (nat_le i.of 32) _ kept).1
   where
     by : (b : Body) → is_said b ≡ true → is_malformed b ≡ false
     by body.Malformed said = absurd (false≢true said)

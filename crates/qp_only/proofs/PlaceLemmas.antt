@@ -3,7 +3,7 @@ use Rattle.std.proofs.Common.{◌≡◌, ◌∙◌, ℕ, zero, suc, ◌+◌, ◌
 use Rattle.std.specs.Prelude.{slice_get, IsPermutation}
 use Rattle.std.specs.List.{cons_option}
 use Rattle.std.specs.Option.{option_map, option_and_then}
-use Rattle.std.proofs.lemmas.Bool.{cases_eq}
+use Rattle.std.proofs.lemmas.Bool.{cases_eq, and_parts}
 use Rattle.std.proofs.lemmas.Bool.Decides.{nat_tests}
 use Rattle.std.proofs.lemmas.List.{map-append}
 use Rattle.std.proofs.lemmas.List.Sorted.{IsPermutation-cons, IsPermutation-refl, IsPermutation-sym, IsPermutation-to_front, IsPermutation-trans}
@@ -13,7 +13,6 @@ use Rattle.qp_model.specs.Record.{Item, item_of}
 use Rattle.qp_model.specs.History.{Touch, Draws, Shows, Neither, touch, drawn_on, lane_items, total}
 use Rattle.qp_model.specs.OneOrder.{Placed}
 use Rattle.qp_model.specs.Places.{IsSerial, RecordPlace, in_order, is_next, item_at, items_at, must_precede, places, touch_at, touch_first}
-use Rattle.qp_model.proofs.ListLemmas.{both_true}
 use Rattle.qp_model.proofs.KnowingLemmas.{same_word-is}
 use Rattle.qp_orders.specs.RunOrder.{items_of}
 use Rattle.qp_replay.specs.Remaining.{place}
@@ -242,7 +241,7 @@ module _ (lanes : List (List Rec)) (all : List Placed) (are : (a : ℕ) → lane
 
         by : (t u : Touch) → touch i ≡ t → is_next xs t ≡ true → is_next (xs ++ i ∷ ys) u ≡ true → touch_first u t ≡ true → ⊥
         by (Draws w mark) (Draws v other) is one two first =
-            let parts = both_true _ _ first in
+            let parts = and_parts _ _ first in
             let same : v ≡ w = same_word-is v w parts.0 in
             let low : mark ≡ suc (total w xs) = grind (arith, nat_tests) in
             let test : (other == suc (total w (xs ++ i ∷ ys))) ≡ true = subst (λ x. (other == suc (total x (xs ++ i ∷ ys))) ≡ true) same two in
@@ -250,7 +249,7 @@ module _ (lanes : List (List Rec)) (all : List Placed) (are : (a : ℕ) → lane
             let less : other < mark = let t : nat_lt other mark ≡ true = parts.1 in grind (arith, nat_tests) in
             omega (arith, low, high, less, counts w)
         by (Draws w mark) (Shows v other) is one two first =
-            let parts = both_true _ _ first in
+            let parts = and_parts _ _ first in
             let same : v ≡ w = same_word-is v w parts.0 in
             let low : mark ≡ suc (total w xs) = grind (arith, nat_tests) in
             let test : (other == total w (xs ++ i ∷ ys)) ≡ true = subst (λ x. (other == total x (xs ++ i ∷ ys)) ≡ true) same two in
@@ -260,7 +259,7 @@ module _ (lanes : List (List Rec)) (all : List Placed) (are : (a : ℕ) → lane
             omega (arith, low, high, less, counts w, drawn)
         by (Draws w mark) Neither is one two first = cc
         by (Shows w mark) (Draws v other) is one two first =
-            let parts = both_true _ _ first in
+            let parts = and_parts _ _ first in
             let same : v ≡ w = same_word-is v w parts.0 in
             let low : mark ≡ total w xs = grind (arith, nat_tests) in
             let test : (other == suc (total w (xs ++ i ∷ ys))) ≡ true = subst (λ x. (other == suc (total x (xs ++ i ∷ ys))) ≡ true) same two in
@@ -285,7 +284,7 @@ module _ (lanes : List (List Rec)) (all : List Placed) (are : (a : ℕ) → lane
         by : (b : Bool) → ((u.lane == z.lane) && nat_lt (length (lane_in (xs ++ z ∷ us) u.lane)) (length (lane_in xs z.lane))) ≡ b
             → (b || touch_first (touch_at (item_at lanes (place_behind (xs ++ z ∷ us) u))) (touch_at (item_at lanes (place_behind xs z)))) ≡ true → ⊥
         by true e h =
-            let parts = both_true _ _ e in
+            let parts = and_parts _ _ e in
             let same : u.lane ≡ z.lane = let t : (u.lane == z.lane) ≡ true = parts.0 in grind (arith, nat_tests) in
             let less : length (lane_in (xs ++ z ∷ us) u.lane) < length (lane_in xs z.lane) = let t : nat_lt (length (lane_in (xs ++ z ∷ us) u.lane)) (length (lane_in xs z.lane)) ≡ true = parts.1 in grind (arith, nat_tests) in
             let long = ap (λ a. length (lane_in (xs ++ z ∷ us) a)) same in

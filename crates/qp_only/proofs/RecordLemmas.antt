@@ -1,11 +1,11 @@
 -- A record that says something is told by what it says: its kind and its numbers are those of its item.
 use Rattle.std.proofs.Common.{◌≡◌, Bool, true, false, List, [], ◌∷◌, map, refl}
 use Rattle.std.specs.List.{list_all}
+use Rattle.std.proofs.lemmas.Bool.{and_parts}
 use Rattle.qp_model.specs.declared.record.Rec.{Rec}
 use Rattle.qp_model.specs.KindSorts.{is_malformed, kind_in}
 use Rattle.qp_model.specs.Record.{Item, body_of, item_of}
 use Rattle.qp_model.specs.History.{lane_items}
-use Rattle.qp_model.proofs.ListLemmas.{both_true}
 use Rattle.qp_kinds.proofs.KindLemmas.{kinds_tell}
 use Rattle.qp_only.proofs.NumberLemmas.{nums_in, same, has-nums}
 
@@ -32,9 +32,9 @@ module _ (p : Item → Bool) (says : (i : Item) → p i ≡ true → is_malforme
   unfolding lane_items
   lane-of [] all = refl
   lane-of (r ∷ lane) all =
-      let parts = both_true (p (item_of r)) _ all in
+      let parts = and_parts (p (item_of r)) _ all in
       λ n. record-of r (body-of r (says (item_of r) parts.0)) n ∷ lane-of lane parts.1 n
 
   pub lanes-of : (lanes : List (List Rec)) → list_all (λ lane. list_all p (lane_items lane)) lanes ≡ true → map (map rec_in) (map (λ lane. lane_items lane) lanes) ≡ lanes
   lanes-of [] all = refl
-  lanes-of (lane ∷ lanes) all = let parts = both_true (list_all p (lane_items lane)) _ all in λ n. lane-of lane parts.0 n ∷ lanes-of lanes parts.1 n
+  lanes-of (lane ∷ lanes) all = let parts = and_parts (list_all p (lane_items lane)) _ all in λ n. lane-of lane parts.0 n ∷ lanes-of lanes parts.1 n

@@ -4,6 +4,7 @@ use Rattle.std.specs.Prelude.{codes, decimal}
 use Rattle.std.specs.Bool.{MatchBool}
 use Rattle.std.specs.Option.{option_and_then}
 use Rattle.std.specs.List.{AllByRecursion, count_by}
+use Rattle.std.proofs.lemmas.Bool.{and_parts}
 use Rattle.std.proofs.lemmas.Bool.Decides.{nat_tests}
 use Rattle.std.proofs.lemmas.List.Sums.{sum_by-cons}
 use Rattle.qp_chart.specs.declared.checked.Chart.{Chart}
@@ -24,7 +25,6 @@ use Rattle.qp_model.specs.OutputSummary.{is_took, is_done, taken_in, all_done, b
 use Rattle.qp_model.specs.Pieces.{Piece, Tell, Point, bare, tell}
 use Rattle.qp_model.specs.Step.{Step}
 use Rattle.qp_model.specs.Told.{Told, plain, taken}
-use Rattle.qp_model.proofs.ListLemmas.{both_true}
 use Rattle.qp_fits.proofs.BeginLemmas.{reads-begin}
 use Rattle.qp_fits.proofs.OpenLemmas.{open-begin, open-next}
 use Rattle.qp_fits.proofs.ReadLemmas.{reads-next, reads-whole}
@@ -50,7 +50,7 @@ use Rattle.qp_only.proofs.FollowLemmas.{sound-followable}
 begins-behind : (ps qs : List Piece) → begins_nothing (ps ++ qs) ≡ true → begins_nothing qs ≡ true
 unfolding bare
 begins-behind [] qs none = none
-begins-behind (Tell t ∷ ps) qs none = begins-behind ps qs (both_true (not (is_took t.body)) _ none).1
+begins-behind (Tell t ∷ ps) qs none = begins-behind ps qs (and_parts (not (is_took t.body)) _ none).1
 begins-behind (Point ∷ ps) qs none = begins-behind ps qs none
 
 begins-points : (ps qs : List Piece) → bare ps ≡ [] → begins_nothing qs ≡ true → begins_nothing (ps ++ qs) ≡ true

@@ -1,6 +1,7 @@
 -- Records that nothing ends, and records behind them.
 use Rattle.std.proofs.Common.{◌≡◌, ℕ, suc, ◌+◌, ◌==◌, Bool, true, false, ◌||◌, ◌&&◌, List, [], ◌∷◌, ◌++◌, length, refl, subst, arith, Option}
 use Rattle.std.specs.List.{list_any, list_all}
+use Rattle.std.proofs.lemmas.Bool.{and_from, and_parts, or_parts}
 use Rattle.qp_model.specs.declared.bodies.Body.{Body}
 use Rattle.qp_model.specs.declared.bodies.Body.TheVariants as body
 use Rattle.qp_model.specs.Record.{Item}
@@ -12,25 +13,14 @@ use Rattle.qp_model.specs.Lawful.{spill_cuts}
 abbrev pub are_calm : List Item → Bool
 are_calm is = list_any (λ i. is_end i.body) is
 
-pub or-false : (a b : Bool) → (a || b) ≡ false → (a ≡ false) × (b ≡ false)
-or-false true b h = absurd (cc)
-or-false false b h = (refl, h)
-
-pub and-true : (a b : Bool) → a ≡ true → b ≡ true → (a && b) ≡ true
-and-true a b h k = rw (h, k) refl
-
-pub and-split : (a b : Bool) → (a && b) ≡ true → (a ≡ true) × (b ≡ true)
-and-split true b h = (refl, h)
-and-split false b h = absurd (cc)
-
 pub calm-parts : (b : Body) → is_end b ≡ false → (is_assert b ≡ false) × (is_spent b ≡ false) × (is_spill b ≡ false)
 calm-parts b h =
-    let one = or-false (is_assert b || is_spent b) (is_spill b) h in
-    let two = or-false (is_assert b) (is_spent b) one.0 in
+    let one = or_parts (is_assert b || is_spent b) (is_spill b) h in
+    let two = or_parts (is_assert b) (is_spent b) one.0 in
     (two.0, two.1, one.1)
 
 calm-head : (i : Item) (is : List Item) → are_calm (i ∷ is) ≡ false → (is_end i.body ≡ false) × (are_calm is ≡ false)
-calm-head i is h = or-false (is_end i.body) (are_calm is) h
+calm-head i is h = or_parts (is_end i.body) (are_calm is) h
 
 pub calm-no_spill : (is : List Item) → are_calm is ≡ false → spills_in is ≡ false
 calm-no_spill [] h = refl
@@ -75,7 +65,7 @@ calm-states n [] ys h k = let same : n + 0 ≡ n = omega arith in subst (λ m. s
 calm-states n (i ∷ is) ys h k =
     let parts = calm-head i is h in
     let same : n + suc (length is) ≡ (n + 1) + length is = omega arith in
-    and-true _ _ (states i.body (calm-parts i.body parts.0).2) (calm-states (n + 1) is ys parts.1 (subst (λ m. spills_state m ys ≡ true) same k))
+    and_from _ _ (states i.body (calm-parts i.body parts.0).2) (calm-states (n + 1) is ys parts.1 (subst (λ m. spills_state m ys ≡ true) same k))
   where
     states : (b : Body) → is_spill b ≡ false → spill_states n b ≡ true
     states (body.Spill len) h = absurd (cc)
@@ -84,17 +74,17 @@ calm-states n (i ∷ is) ys h k =
 -- a test that passes all but some of the records that end a lane
 pub calm-all : (p : Item → Bool) (xs ys : List Item) → ((i : Item) → is_end i.body ≡ false → p i ≡ true) → are_calm xs ≡ false → list_all p ys ≡ true → list_all p (xs ++ ys) ≡ true
 calm-all p [] ys passes h k = k
-calm-all p (i ∷ is) ys passes h k = let parts = calm-head i is h in and-true _ _ (passes i parts.0) (calm-all p is ys passes parts.1 k)
+calm-all p (i ∷ is) ys passes h k = let parts = calm-head i is h in and_from _ _ (passes i parts.0) (calm-all p is ys passes parts.1 k)
 
 -- where no `spill` stands none cuts
 pub no_spill-cuts : (o : ℕ) (is : List Item) → spills_in is ≡ false → spill_cuts o is ≡ false
 no_spill-cuts o [] h = refl
 no_spill-cuts o (i ∷ []) h = refl
 no_spill-cuts o (i ∷ j ∷ []) h =
-    let rest = (or-false (is_spill i.body) (is_spill j.body || false) h).1 in
-    let none = (or-false (is_spill j.body) false rest).0 in
+    let rest = (or_parts (is_spill i.body) (is_spill j.body || false) h).1 in
+    let none = (or_parts (is_spill j.body) false rest).0 in
     rw none refl
-no_spill-cuts o (i ∷ j ∷ k ∷ is) h = no_spill-cuts o (j ∷ k ∷ is) (or-false (is_spill i.body) (spills_in (j ∷ k ∷ is)) h).1
+no_spill-cuts o (i ∷ j ∷ k ∷ is) h = no_spill-cuts o (j ∷ k ∷ is) (or_parts (is_spill i.body) (spills_in (j ∷ k ∷ is)) h).1
 
 -- a `spill` cuts the object of the record right before it
 pub spill_cuts-last : (o n : ℕ) (xs : List Item) (i : Item) → spill_cuts o (xs ++ i ∷ record { of = 0; body = body.Spill n } ∷ []) ≡ (i.of == o)
@@ -126,7 +116,7 @@ unfolding spills_state
 mild-states n [] ys h k = let same : n + 0 ≡ n = omega arith in subst (λ m. spills_state m ys ≡ true) same k
 mild-states n (i ∷ is) ys h k =
     let same : n + suc (length is) ≡ (n + 1) + length is = omega arith in
-    and-true _ _ (no_spill-states i.body h.1) (mild-states (n + 1) is ys h.2 (subst (λ m. spills_state m ys ≡ true) same k))
+    and_from _ _ (no_spill-states i.body h.1) (mild-states (n + 1) is ys h.2 (subst (λ m. spills_state m ys ≡ true) same k))
   where
     no_spill-states : (b : Body) → is_spill b ≡ false → spill_states n b ≡ true
     no_spill-states (body.Spill len) h = absurd (cc)
@@ -134,7 +124,7 @@ mild-states n (i ∷ is) ys h k =
 
 pub mild-all : (p : Item → Bool) (xs ys : List Item) → ((i : Item) → is_spent i.body ≡ false → p i ≡ true) → IsMild xs → list_all p ys ≡ true → list_all p (xs ++ ys) ≡ true
 mild-all p [] ys passes h k = k
-mild-all p (i ∷ is) ys passes h k = and-true _ _ (passes i h.0) (mild-all p is ys passes h.2 k)
+mild-all p (i ∷ is) ys passes h k = and_from _ _ (passes i h.0) (mild-all p is ys passes h.2 k)
 
 pub mild-no_spill : (xs : List Item) → IsMild xs → spills_in xs ≡ false
 mild-no_spill [] h = refl

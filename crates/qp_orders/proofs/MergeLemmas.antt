@@ -2,6 +2,7 @@
 use Rattle.std.proofs.Common.{◌≡◌, ℕ, suc, ◌+◌, ◌==◌, Bool, true, false, ◌||◌, cond, List, [], ◌∷◌, ◌++◌, length, refl, sym, ◌∙◌, ap, arith, Option, Some, None, append_assoc, append-nil}
 use Rattle.std.specs.List.{list_any}
 use Rattle.std.specs.Option.{option_map_or}
+use Rattle.std.proofs.lemmas.Bool.{or_parts}
 use Rattle.std.proofs.lemmas.Bool.Decides.{nat_tests}
 use Rattle.qp_model.specs.declared.bodies.Body.{Body}
 use Rattle.qp_model.specs.declared.bodies.Body.TheVariants as body
@@ -39,22 +40,18 @@ stimless : (k : ℕ) (cuts : Bool) (b : Body) → is_stim_at k b ≡ false → b
 stimless k cuts (body.Stim p n) h = h
 stimless k cuts _ h = refl
 
-or-parts : (a b : Bool) → (a || b) ≡ false → (a ≡ false) × (b ≡ false)
-or-parts true b h = absurd (cc)
-or-parts false b h = (refl, h)
-
 pub part-none : (lane k : ℕ) (cuts : Bool) (is : List Item) → list_any (λ i. is_stim_at k i.body) is ≡ false → part_of_look lane k cuts false is ≡ []
 unfolding part_of_look
 part-none lane k cuts [] h = refl
 part-none lane k cuts (i ∷ is) h =
-    let parts = or-parts (is_stim_at k i.body) (list_any (λ j. is_stim_at k j.body) is) h in
+    let parts = or_parts (is_stim_at k i.body) (list_any (λ j. is_stim_at k j.body) is) h in
     rw (stimless k cuts i.body parts.0) (part-none lane k cuts is parts.1)
 
 pub parts-none : (lane k : ℕ) (cuts : Bool) (sources : List (List Item)) → has_stim sources k ≡ false → parts_of_look lane k cuts sources ≡ []
 unfolding parts_of_look
 parts-none lane k cuts [] h = refl
 parts-none lane k cuts (l ∷ ls) h =
-    let parts = or-parts (list_any (λ i. is_stim_at k i.body) l) (has_stim ls k) h in
+    let parts = or_parts (list_any (λ i. is_stim_at k i.body) l) (has_stim ls k) h in
     rw (part-none lane k cuts l parts.0, parts-none (lane + 1) k cuts ls parts.1) refl
 
 pub behind-all : (lane k : ℕ) (cuts : Bool) (is : List Item) → AreBehind cuts is → part_of_look lane k cuts true is ≡ all_placed lane is

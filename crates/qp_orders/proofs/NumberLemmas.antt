@@ -1,6 +1,7 @@
 -- The numbers that records draw and show, in the order in which they were made.
 use Rattle.std.proofs.Common.{◌≡◌, suc, ◌+◌, ◌==◌, true, List, [], ◌∷◌, ◌++◌, map, length, refl, sym, ◌∙◌, ap, subst, arith, append_assoc, append-nil, length-append}
 use Rattle.std.specs.List.{filter}
+use Rattle.std.proofs.lemmas.Bool.{and_from, and_parts}
 use Rattle.std.proofs.lemmas.List.{map-append}
 use Rattle.qp_model.specs.declared.record.Rec.{Rec}
 use Rattle.qp_model.specs.declared.words.Word.{Word}
@@ -8,7 +9,6 @@ use Rattle.qp_model.specs.Record.{Item, item_of}
 use Rattle.qp_model.specs.History.{Touch, Draws, Shows, Neither, touch, drawn_on, total, lane_items, all_items}
 use Rattle.qp_model.specs.Places.{is_next, in_order}
 use Rattle.qp_orders.specs.Laws.{AreNumbered}
-use Rattle.qp_orders.proofs.CalmLemmas.{and-true, and-split}
 use Rattle.qp_orders.proofs.RunLemmas.{filter-append}
 
 pub total-append : (w : Word) (xs ys : List Item) → total w (xs ++ ys) ≡ total w xs + total w ys
@@ -36,8 +36,8 @@ in_order-append : (before xs ys : List Item) → in_order before xs ≡ true →
 unfolding in_order
 in_order-append before [] ys h k = subst (λ z. in_order z ys ≡ true) (append-nil before) k
 in_order-append before (x ∷ xs) ys h k =
-    let parts = and-split (is_next before (touch x)) (in_order (before ++ x ∷ []) xs) h in
-    and-true _ _ parts.0 (in_order-append (before ++ x ∷ []) xs ys parts.1 (subst (λ z. in_order z ys ≡ true) (sym (append_assoc before (x ∷ []) xs)) k))
+    let parts = and_parts (is_next before (touch x)) (in_order (before ++ x ∷ []) xs) h in
+    and_from _ _ parts.0 (in_order-append (before ++ x ∷ []) xs ys parts.1 (subst (λ z. in_order z ys ≡ true) (sym (append_assoc before (x ∷ []) xs)) k))
 
 next-same : (xs ys : List Item) (t : Touch) → ((w : Word) → total w xs ≡ total w ys) → is_next xs t ≡ is_next ys t
 unfolding is_next
@@ -54,7 +54,7 @@ pub numbered-next : (all more order : List Item) (i : Item) → AreNumbered all 
     → AreNumbered more (order ++ i ∷ [])
 unfolding in_order
 numbered-next all more order i old next grows = record {
-  numbers = in_order-append [] order (i ∷ []) old.numbers (and-true _ _ (next-same order all (touch i) old.totals ∙ next) refl);
+  numbers = in_order-append [] order (i ∷ []) old.numbers (and_from _ _ (next-same order all (touch i) old.totals ∙ next) refl);
   totals = λ w.
       let a = total-append w order (i ∷ []) in
       let b = old.totals w in

@@ -2,6 +2,7 @@
 use Rattle.std.proofs.Common.{◌≡◌, ℕ, suc, ◌+◌, ◌<◌, ◌≤◌, ◌==◌, nat_le, Bool, true, false, not, ◌&&◌, ◌||◌, cond, List, [], ◌∷◌, ◌++◌, length, refl, sym, ◌∙◌, ap, subst, arith, Option, Some, None, append_assoc, append-nil}
 use Rattle.std.specs.List.{list_any, filter, AllByRecursion}
 use Rattle.std.specs.Option.{option_map_or}
+use Rattle.std.proofs.lemmas.Bool.{and_from, or_parts}
 use Rattle.std.proofs.lemmas.List.{map-append}
 use Rattle.std.proofs.lemmas.List.Elements.{filter_map-append}
 use Rattle.std.proofs.lemmas.List.Folds.{list_any-append}
@@ -13,7 +14,7 @@ use Rattle.qp_model.specs.Record.{Item}
 use Rattle.qp_model.specs.Ends.{is_spill, is_end, ends_last, spills_in}
 use Rattle.qp_model.specs.OneOrder.{Placed, OneThread, is_stim_at, look_of, part_of_look, parts_of_look, with_stimuli, spills_from, order, turns_at, acts_next, is_turn, look_right, looks_right, stims_placed, look_numbers, last_is_free, is_free}
 use Rattle.qp_orders.specs.RunOrder.{placed, items_of, has_stim, is_right, all_right, stims_up_to, thread_of, RunsInOrder, EndsInOrder}
-use Rattle.qp_orders.proofs.CalmLemmas.{and-true, or-false, calm-ends_last}
+use Rattle.qp_orders.proofs.CalmLemmas.{calm-ends_last}
 use Rattle.qp_orders.specs.Placing.{LooksNone, AreBehind, all_placed, stim_item, look_item, spill_item}
 use Rattle.qp_orders.proofs.MergeLemmas.{within_after, part-append, parts-split, stimuli-append, stimuli-none, parts-none, stimulus-merged}
 use Rattle.qp_orders.proofs.TurnLemmas.{turn_by, turns_in, turns-split, turns-none, turns-own, right-other, right-append, right-none, right-looks}
@@ -43,14 +44,14 @@ order-new sys stimuli sources empty = record {
 
 no-spill_placed : (lane : ℕ) (is : List Item) → spills_in is ≡ false → all_placed lane (filter (λ i. is_spill i.body) is) ≡ []
 no-spill_placed lane [] h = refl
-no-spill_placed lane (i ∷ is) h = let parts = or-false (is_spill i.body) (spills_in is) h in rw parts.0 (no-spill_placed lane is parts.1)
+no-spill_placed lane (i ∷ is) h = let parts = or_parts (is_spill i.body) (spills_in is) h in rw parts.0 (no-spill_placed lane is parts.1)
 
 -- where no `spill` stands none is put at the end
 pub spills-none : (lane : ℕ) (sources : List (List Item)) → list_any spills_in sources ≡ false → spills_from lane sources ≡ []
 unfolding spills_from
 spills-none lane [] h = refl
 spills-none lane (l ∷ ls) h =
-    let parts = or-false (spills_in l) (list_any spills_in ls) h in
+    let parts = or_parts (spills_in l) (list_any spills_in ls) h in
     rw (no-spill_placed lane l parts.0, spills-none (lane + 1) ls parts.1) refl
 
 spill-part : (lane k : ℕ) (l : List Item) (size : ℕ) → part_of_look lane k false false (l ++ spill_item size ∷ []) ≡ part_of_look lane k false false l
@@ -116,12 +117,12 @@ spills-one : (lane : ℕ) (front : List (List Item)) (l : List Item) (back : Lis
     → spills_from lane (front ++ (l ++ spill_item size ∷ []) ∷ back) ≡ placed (lane + length front) (spill_item size) ∷ []
 unfolding spills_from
 spills-one lane [] l back size h =
-    let parts = or-false (spills_in l) (list_any spills_in back) h in
+    let parts = or_parts (spills_in l) (list_any spills_in back) h in
     let zero_more : lane + 0 ≡ lane = omega arith in
     rw (filter-append (λ i. is_spill i.body) l (spill_item size ∷ []), spills-none (lane + 1) back parts.1, zero_more)
     (ap (λ x. x ++ []) (map-append (placed lane) (filter (λ i. is_spill i.body) l) (spill_item size ∷ []) ∙ ap (λ x. x ++ placed lane (spill_item size) ∷ []) (no-spill_placed lane l parts.0)))
 spills-one lane (f ∷ front) l back size h =
-    let parts = or-false (spills_in f) (list_any spills_in (front ++ l ∷ back)) h in
+    let parts = or_parts (spills_in f) (list_any spills_in (front ++ l ∷ back)) h in
     let next : lane + suc (length front) ≡ (lane + 1) + length front = omega arith in
     rw (no-spill_placed lane f parts.0, next) (spills-one (lane + 1) front l back size parts.1)
 
@@ -193,10 +194,10 @@ module _ (sys : System) (stimuli : List (List Stim)) (looks : ℕ) (lane0 : List
       record {
         merged = λ cuts. stimuli-append cuts sources lane0 (look_item n floor ∷ []) ∙ rw (old.merged cuts, parts-none 1 n cuts sources free) refl;
         turns = right-append sys stimuli sources [] xs (placed 0 (look_item n floor) ∷ []) ∙ rw (old.turns, nobody, turns-none 1 n sources free) refl;
-        counted = rw (numbers-append lane0 (look_item n floor ∷ [])) (all-append (λ k. nat_le k n) (look_numbers lane0) (n ∷ []) (up_to-more looks n (look_numbers lane0) most old.counted) (and-true _ _ own refl));
+        counted = rw (numbers-append lane0 (look_item n floor ∷ [])) (all-append (λ k. nat_le k n) (look_numbers lane0) (n ∷ []) (up_to-more looks n (look_numbers lane0) most old.counted) (and_from _ _ own refl));
         seen =
             rw (map-append (λ x. x.item) xs (placed 0 (look_item n floor) ∷ []), numbers-append (items_of xs) (look_item n floor ∷ []))
-            (all-append (λ k. nat_le k n) (look_numbers (items_of xs)) (n ∷ []) (up_to-more looks n (look_numbers (items_of xs)) most old.seen) (and-true _ _ own refl));
+            (all-append (λ k. nat_le k n) (look_numbers (items_of xs)) (n ∷ []) (up_to-more looks n (look_numbers (items_of xs)) most old.seen) (and_from _ _ own refl));
         stims = stims-more (λ k. nat_le k looks) (λ k. nat_le k n) sources (λ k h. let few : nat_le k looks ≡ true = h in grind (arith, nat_tests, few, most)) old.stims;
         stand = stand-more (look_item n floor ∷ []) old.stand;
         calm = rw (map-append (λ x. x.item) xs (placed 0 (look_item n floor) ∷ [])) (any-both (λ i. is_end i.body) (items_of xs) (look_item n floor ∷ []) old.calm refl);
@@ -222,7 +223,7 @@ module _ (sys : System) (stimuli : List (List Stim)) (looks : ℕ) (lane0 : List
     none-here =
         let all = stims-none looks n (front ++ l ∷ back) later stims-are in
         let parts = any-front (λ lane. list_any (λ i. is_stim_at n i.body) lane) front (l ∷ back) all in
-        let rest = or-false (list_any (λ i. is_stim_at n i.body) l) (has_stim back n) parts.1 in
+        let rest = or_parts (list_any (λ i. is_stim_at n i.body) l) (has_stim back n) parts.1 in
         (parts.0, rest.0, rest.1)
 
     merged-with : (cuts : Bool) → AreBehind cuts g → with_stimuli cuts with_stimulus (lane0 ++ look_item n floor ∷ []) ≡ with_look
@@ -255,7 +256,7 @@ module _ (sys : System) (stimuli : List (List Stim)) (looks : ℕ) (lane0 : List
     quiet-block behind =
         let whole : list_any spills_in (front ++ l ∷ back) ≡ false = subst (λ x. list_any spills_in x ≡ false) are old.quiet in
         let parts = any-front spills_in front (l ∷ back) whole in
-        let rest = or-false (spills_in l) (list_any spills_in back) parts.1 in
+        let rest = or_parts (spills_in l) (list_any spills_in back) parts.1 in
         let lane : spills_in (l ++ stim_item p n ∷ g) ≡ false = any-both (λ i. is_spill i.body) l (stim_item p n ∷ g) rest.0 (spill-none g behind) in
         any-both spills_in front ((l ++ stim_item p n ∷ g) ∷ back) parts.0 (rw (lane, rest.1) refl)
 
@@ -267,10 +268,10 @@ module _ (sys : System) (stimuli : List (List Stim)) (looks : ℕ) (lane0 : List
         record {
           merged = λ cuts. merged-with cuts (behind-any cuts g behind);
           turns = turns-with false behind;
-          counted = rw (numbers-append lane0 (look_item n floor ∷ [])) (all-append (λ k. nat_le k n) (look_numbers lane0) (n ∷ []) (up_to-more looks n (look_numbers lane0) most old.counted) (and-true _ _ own refl));
+          counted = rw (numbers-append lane0 (look_item n floor ∷ [])) (all-append (λ k. nat_le k n) (look_numbers lane0) (n ∷ []) (up_to-more looks n (look_numbers lane0) most old.counted) (and_from _ _ own refl));
           seen =
               rw (items-with, numbers-append (items_of xs) (look_item n floor ∷ stim_item p n ∷ g), numbers-none g lookless)
-              (all-append (λ k. nat_le k n) (look_numbers (items_of xs)) (n ∷ []) (up_to-more looks n (look_numbers (items_of xs)) most old.seen) (and-true _ _ own refl));
+              (all-append (λ k. nat_le k n) (look_numbers (items_of xs)) (n ∷ []) (up_to-more looks n (look_numbers (items_of xs)) most old.seen) (and_from _ _ own refl));
           stims =
               stims-block (λ k. nat_le k n) false front l back p n g behind own
               (stims-more (λ k. nat_le k looks) (λ k. nat_le k n) (front ++ l ∷ back) (λ k h. let few : nat_le k looks ≡ true = h in grind (arith, nat_tests, few, most)) stims-are);

@@ -2,6 +2,7 @@
 use Rattle.std.proofs.Common.{◌≡◌, ℕ, ◌+◌, ◌<◌, ◌==◌, nat_lt, Bool, true, false, not, ◌&&◌, List, [], ◌∷◌, ◌++◌, map, length, refl, sym, ◌∙◌, ap, subst, inl, arith, append-nil}
 use Rattle.std.specs.Prelude.{◌≢◌}
 use Rattle.std.specs.List.{list_all, list_any, filter}
+use Rattle.std.proofs.lemmas.Bool.{or_parts}
 use Rattle.std.proofs.lemmas.List.{map-append, length-map}
 use Rattle.std.proofs.lemmas.List.Elements.{filter_map-append}
 use Rattle.std.proofs.lemmas.List.Folds.{list_any-append}
@@ -20,7 +21,7 @@ use Rattle.qp_orders.specs.SourceRun.{untold, untold_all, source_told, SourceGoe
 use Rattle.qp_orders.specs.Placing.{AreBehind, spill_item}
 use Rattle.qp_orders.specs.Stimulus.{ArePlain, source_items}
 use Rattle.qp_orders.specs.Laws.{stimulus_told, SourceLaneGoesOn, SourceLaneIsWhole, SourceLaneStops}
-use Rattle.qp_orders.proofs.CalmLemmas.{or-false, calm-parts, calm-no_spill, calm-ends_last, calm-spills_cut, calm-states, IsMild, mild-cut, mild-states, mild-no_spill}
+use Rattle.qp_orders.proofs.CalmLemmas.{calm-parts, calm-no_spill, calm-ends_last, calm-spills_cut, calm-states, IsMild, mild-cut, mild-states, mild-no_spill}
 use Rattle.qp_orders.proofs.StimLemmas.{all-append, any-both}
 use Rattle.qp_orders.proofs.RunLemmas.{filter-append}
 use Rattle.qp_orders.proofs.SourceLemmas.{runs-stimulus, runs-before, runs-asserted, runs-cut}
@@ -43,14 +44,14 @@ alone-append ts g = map-append (λ t. t.told) ts (map (for_object 0) g) ∙ ap (
 -- records without a `spill` are all told
 unspilled : (ts : List ToldItem) → spills_in (untold_all ts) ≡ false → source_told ts ≡ told_alone ts
 unspilled [] h = refl
-unspilled (t ∷ ts) h = let parts = or-false (is_spill t.told.body) (spills_in (untold_all ts)) h in rw parts.0 (ap (λ x. t.told ∷ x) (unspilled ts parts.1))
+unspilled (t ∷ ts) h = let parts = or_parts (is_spill t.told.body) (spills_in (untold_all ts)) h in rw parts.0 (ap (λ x. t.told ∷ x) (unspilled ts parts.1))
 
 source_told-append : (ts us : List ToldItem) → source_told (ts ++ us) ≡ source_told ts ++ source_told us
 source_told-append ts us = ap told_alone (filter-append (λ t. not (is_spill t.told.body)) ts us) ∙ map-append (λ t. t.told) (filter (λ t. not (is_spill t.told.body)) ts) (filter (λ t. not (is_spill t.told.body)) us)
 
 calm-unspent : (is : List Item) → list_any (λ i. is_end i.body) is ≡ false → list_any (λ i. is_spent i.body) is ≡ false
 calm-unspent [] h = refl
-calm-unspent (i ∷ is) h = let parts = or-false (is_end i.body) (list_any (λ i. is_end i.body) is) h in rw ((calm-parts i.body parts.0).1, calm-unspent is parts.1) refl
+calm-unspent (i ∷ is) h = let parts = or_parts (is_end i.body) (list_any (λ i. is_end i.body) is) h in rw ((calm-parts i.body parts.0).1, calm-unspent is parts.1) refl
 
 stimulus-plain : (p look : ℕ) (one : List Told) → untold_all (stimulus_told p look one) ≡ record { of = 0; body = body.Stim p look } ∷ source_items one
 stimulus-plain p look one = refl
@@ -92,7 +93,7 @@ source_lane_is_whole sys end cuts ss told old = still sys end cuts ss ss told Al
 mild-from : (is : List Item) → AreBehind false is → list_any (λ i. is_spent i.body) is ≡ false → IsMild is
 mild-from [] h k = tt
 mild-from (i ∷ is) h k =
-    let parts = or-false (is_spent i.body) (list_any (λ i. is_spent i.body) is) k in
+    let parts = or_parts (is_spent i.body) (list_any (λ i. is_spent i.body) is) k in
     (parts.0, not-true (is_spill i.body) h.1, mild-from is h.2 parts.1)
   where
     not-true : (b : Bool) → not b ≡ true → b ≡ false

@@ -2,6 +2,7 @@
 use Rattle.std.proofs.Common.{◌≡◌, ℕ, ◌<◌, ◌≤◌, ◌==◌, nat_le, Bool, true, false, ◌||◌, List, [], ◌∷◌, ◌++◌, refl, sym, ◌∙◌, ap, arith, Option, Some, None}
 use Rattle.std.specs.List.{list_all, list_any, cons_option}
 use Rattle.std.specs.Option.{option_map_or, option_map}
+use Rattle.std.proofs.lemmas.Bool.{and_from, and_parts, or_parts}
 use Rattle.std.proofs.lemmas.List.Elements.{filter_map-append}
 use Rattle.std.proofs.lemmas.List.Folds.{list_any-append, list_all-append}
 use Rattle.std.proofs.lemmas.Bool.Decides.{nat_tests}
@@ -10,7 +11,6 @@ use Rattle.qp_model.specs.declared.bodies.Body.TheVariants as body
 use Rattle.qp_model.specs.Record.{Item}
 use Rattle.qp_model.specs.OneOrder.{stim_of, is_stim_at, look_of, look_numbers}
 use Rattle.qp_orders.specs.RunOrder.{items_of, has_stim, up_to, stims_up_to}
-use Rattle.qp_orders.proofs.CalmLemmas.{and-true, and-split, or-false}
 use Rattle.qp_orders.specs.Placing.{LooksNone, AreBehind, all_placed, stim_item}
 use Rattle.qp_orders.proofs.MergeLemmas.{OtherLook, LooksOther}
 
@@ -18,10 +18,10 @@ pub all-append : {A : Type 0} (p : A → Bool) (xs ys : List A) → list_all p x
 all-append p xs ys a b = list_all-append p xs ys ∙ rw (a, b) refl
 
 pub all-front : {A : Type 0} (p : A → Bool) (xs ys : List A) → list_all p (xs ++ ys) ≡ true → (list_all p xs ≡ true) × (list_all p ys ≡ true)
-all-front p xs ys h = and-split (list_all p xs) (list_all p ys) (sym (list_all-append p xs ys) ∙ h)
+all-front p xs ys h = and_parts (list_all p xs) (list_all p ys) (sym (list_all-append p xs ys) ∙ h)
 
 pub any-front : {A : Type 0} (p : A → Bool) (xs ys : List A) → list_any p (xs ++ ys) ≡ false → (list_any p xs ≡ false) × (list_any p ys ≡ false)
-any-front p xs ys h = or-false (list_any p xs) (list_any p ys) (sym (list_any-append p xs ys) ∙ h)
+any-front p xs ys h = or_parts (list_any p xs) (list_any p ys) (sym (list_any-append p xs ys) ∙ h)
 
 pub any-both : {A : Type 0} (p : A → Bool) (xs ys : List A) → list_any p xs ≡ false → list_any p ys ≡ false → list_any p (xs ++ ys) ≡ false
 any-both p xs ys a b = list_any-append p xs ys ∙ rw (a, b) refl
@@ -30,10 +30,10 @@ any-both p xs ys a b = list_any-append p xs ys ∙ rw (a, b) refl
 pub up_to-more : (m n : ℕ) (ks : List ℕ) → m ≤ n → up_to m ks ≡ true → up_to n ks ≡ true
 up_to-more m n [] le h = refl
 up_to-more m n (k ∷ ks) le h =
-    let parts = and-split (nat_le k m) (up_to m ks) h in
+    let parts = and_parts (nat_le k m) (up_to m ks) h in
     let few : nat_le k m ≡ true = parts.0 in
     let one : nat_le k n ≡ true = grind (arith, nat_tests, few, le) in
-    and-true _ _ one (up_to-more m n ks le parts.1)
+    and_from _ _ one (up_to-more m n ks le parts.1)
 
 -- a later look is another than these
 pub looks-other : (n k : ℕ) (is : List Item) → n < k → up_to n (look_numbers is) ≡ true → LooksOther k is
@@ -43,7 +43,7 @@ looks-other n k (i ∷ is) lt h = let parts = by (look_of i.body) h in (parts.0,
     by : (o : Option (ℕ × ℕ)) → up_to n (cons_option (option_map (λ l. l.0) o) (look_numbers is)) ≡ true → OtherLook k o × (up_to n (look_numbers is) ≡ true)
     by None h = (tt, h)
     by (Some x) h =
-        let parts = and-split (nat_le x.0 n) (up_to n (look_numbers is)) h in
+        let parts = and_parts (nat_le x.0 n) (up_to n (look_numbers is)) h in
         let few : nat_le x.0 n ≡ true = parts.0 in
         let other : (k == x.0) ≡ false = grind (arith, nat_tests, few, lt) in
         (other, parts.1)
@@ -69,8 +69,8 @@ stims_pass p sources = list_all (λ lane. list_all (stim_passes p) lane) sources
 pub lane-more : (p q : ℕ → Bool) (is : List Item) → ((k : ℕ) → p k ≡ true → q k ≡ true) → list_all (stim_passes p) is ≡ true → list_all (stim_passes q) is ≡ true
 lane-more p q [] more h = refl
 lane-more p q (i ∷ is) more h =
-    let parts = and-split (stim_passes p i) (list_all (stim_passes p) is) h in
-    and-true _ _ (by (stim_of i.body) parts.0) (lane-more p q is more parts.1)
+    let parts = and_parts (stim_passes p i) (list_all (stim_passes p) is) h in
+    and_from _ _ (by (stim_of i.body) parts.0) (lane-more p q is more parts.1)
   where
     by : (o : Option (ℕ × ℕ)) → option_map_or (λ s. p s.1) o true ≡ true → option_map_or (λ s. q s.1) o true ≡ true
     by None h = refl
@@ -79,8 +79,8 @@ lane-more p q (i ∷ is) more h =
 pub stims-more : (p q : ℕ → Bool) (sources : List (List Item)) → ((k : ℕ) → p k ≡ true → q k ≡ true) → stims_pass p sources ≡ true → stims_pass q sources ≡ true
 stims-more p q [] more h = refl
 stims-more p q (l ∷ ls) more h =
-    let parts = and-split (list_all (stim_passes p) l) (stims_pass p ls) h in
-    and-true _ _ (lane-more p q l more parts.0) (stims-more p q ls more parts.1)
+    let parts = and_parts (list_all (stim_passes p) l) (stims_pass p ls) h in
+    and_from _ _ (lane-more p q l more parts.0) (stims-more p q ls more parts.1)
 
 behind-pass : (p : ℕ → Bool) (cuts : Bool) (g : List Item) → AreBehind cuts g → list_all (stim_passes p) g ≡ true
 behind-pass p cuts [] h = refl
@@ -91,23 +91,23 @@ pub stims-block : (p : ℕ → Bool) (cuts : Bool) (front : List (List Item)) (l
     → stims_pass p (front ++ l ∷ back) ≡ true → stims_pass p (front ++ (l ++ stim_item i k ∷ g) ∷ back) ≡ true
 stims-block p cuts front l back i k g behind is h =
     let parts = all-front (λ lane. list_all (stim_passes p) lane) front (l ∷ back) h in
-    let rest = and-split (list_all (stim_passes p) l) (stims_pass p back) parts.1 in
-    let block : list_all (stim_passes p) (stim_item i k ∷ g) ≡ true = and-true _ _ is (behind-pass p cuts g behind) in
-    all-append (λ lane. list_all (stim_passes p) lane) front ((l ++ stim_item i k ∷ g) ∷ back) parts.0 (and-true _ _ (all-append (stim_passes p) l (stim_item i k ∷ g) rest.0 block) rest.1)
+    let rest = and_parts (list_all (stim_passes p) l) (stims_pass p back) parts.1 in
+    let block : list_all (stim_passes p) (stim_item i k ∷ g) ≡ true = and_from _ _ is (behind-pass p cuts g behind) in
+    all-append (λ lane. list_all (stim_passes p) lane) front ((l ++ stim_item i k ∷ g) ∷ back) parts.0 (and_from _ _ (all-append (stim_passes p) l (stim_item i k ∷ g) rest.0 block) rest.1)
 
 -- records without a `stim` change nothing of it
 pub stims-mute : (p : ℕ → Bool) (cuts : Bool) (front : List (List Item)) (l : List Item) (back : List (List Item)) (g : List Item) → AreBehind cuts g
     → stims_pass p (front ++ l ∷ back) ≡ true → stims_pass p (front ++ (l ++ g) ∷ back) ≡ true
 stims-mute p cuts front l back g behind h =
     let parts = all-front (λ lane. list_all (stim_passes p) lane) front (l ∷ back) h in
-    let rest = and-split (list_all (stim_passes p) l) (stims_pass p back) parts.1 in
-    all-append (λ lane. list_all (stim_passes p) lane) front ((l ++ g) ∷ back) parts.0 (and-true _ _ (all-append (stim_passes p) l g rest.0 (behind-pass p cuts g behind)) rest.1)
+    let rest = and_parts (list_all (stim_passes p) l) (stims_pass p back) parts.1 in
+    all-append (λ lane. list_all (stim_passes p) lane) front ((l ++ g) ∷ back) parts.0 (and_from _ _ (all-append (stim_passes p) l g rest.0 (behind-pass p cuts g behind)) rest.1)
 
 -- a look after all these has no `stim`
 lane-none : (n k : ℕ) (is : List Item) → n < k → list_all (stim_passes (λ m. nat_le m n)) is ≡ true → list_any (λ i. is_stim_at k i.body) is ≡ false
 lane-none n k [] lt h = refl
 lane-none n k (i ∷ is) lt h =
-    let parts = and-split (stim_passes (λ m. nat_le m n) i) (list_all (stim_passes (λ m. nat_le m n)) is) h in
+    let parts = and_parts (stim_passes (λ m. nat_le m n) i) (list_all (stim_passes (λ m. nat_le m n)) is) h in
     rw (by i.body parts.0, lane-none n k is lt parts.1) refl
   where
     by : (b : Body) → option_map_or (λ s. nat_le s.1 n) (stim_of b) true ≡ true → is_stim_at k b ≡ false
@@ -117,7 +117,7 @@ lane-none n k (i ∷ is) lt h =
 pub stims-none : (n k : ℕ) (sources : List (List Item)) → n < k → stims_up_to n sources ≡ true → has_stim sources k ≡ false
 stims-none n k [] lt h = refl
 stims-none n k (l ∷ ls) lt h =
-    let parts = and-split (list_all (stim_passes (λ m. nat_le m n)) l) (stims_up_to n ls) h in
+    let parts = and_parts (list_all (stim_passes (λ m. nat_le m n)) l) (stims_up_to n ls) h in
     rw (lane-none n k l lt parts.0, stims-none n k ls lt parts.1) refl
 
 behind-no_stim : (k : ℕ) (cuts : Bool) (g : List Item) → AreBehind cuts g → list_any (λ i. is_stim_at k i.body) g ≡ false

@@ -3,6 +3,7 @@ use Rattle.std.proofs.Common.{◌≡◌, ℕ, ◌+◌, ◌==◌, nat_lt, Bool, t
 use Rattle.std.specs.Prelude.{◌⊎◌, ◌≢◌, IsTrue}
 use Rattle.std.specs.Bool.{MatchBool}
 use Rattle.std.specs.List.{list_all, list_any, filter_map}
+use Rattle.std.proofs.lemmas.Bool.{and_parts}
 use Rattle.std.proofs.lemmas.List.{map-append}
 use Rattle.std.proofs.lemmas.List.Elements.{filter_map-append}
 use Rattle.std.proofs.lemmas.List.Folds.{list_any-append}
@@ -26,7 +27,7 @@ use Rattle.qp_model.proofs.FitsLemmas.{is_calm, is_deferral, Usual, Ending, Answ
 use Rattle.qp_orders.specs.SourceRun.{untold}
 use Rattle.qp_orders.specs.Placing.{LooksNone, AreBehind, spill_item}
 use Rattle.qp_orders.specs.Stimulus.{IsPlain, ArePlain, StimulusForm, source_items, StimulusItems, CutItems}
-use Rattle.qp_orders.proofs.CalmLemmas.{and-split, calm-parts, calm-ends_last}
+use Rattle.qp_orders.proofs.CalmLemmas.{calm-parts, calm-ends_last}
 
 usual-plain : (b : Body) → (is_calm b || is_deferral b) ≡ true → IsPlain b
 unfolding is_calm is_deferral
@@ -53,7 +54,7 @@ plain-front (t ∷ ts) h a = (a.0, plain-front ts h a.1)
 usual-all : (g : List Told) → Usual g → ArePlain g
 usual-all [] h = tt
 usual-all (t ∷ ts) h =
-    let parts = and-split (is_calm t.body || is_deferral t.body) (list_all (λ t. is_calm t.body || is_deferral t.body) ts) h in
+    let parts = and_parts (is_calm t.body || is_deferral t.body) (list_all (λ t. is_calm t.body || is_deferral t.body) ts) h in
     (usual-plain t.body parts.0, usual-all ts parts.1)
 
 assertion-is : (b : Body) (answer : Answer) → assertion_of b ≡ Some answer → is_assert b ≡ true

@@ -2,6 +2,7 @@
 use Rattle.std.proofs.Common.{◌≡◌, ℕ, suc, ◌+◌, ◌==◌, Bool, true, false, ◌&&◌, cond, List, [], ◌∷◌, ◌++◌, length, refl, sym, ◌∙◌, ap, subst, arith, Option, Some, None, append_assoc, append-nil}
 use Rattle.std.specs.List.{list_any, filter_map}
 use Rattle.std.specs.Option.{option_map_or}
+use Rattle.std.proofs.lemmas.Bool.{and_from, and_parts, or_parts}
 use Rattle.std.proofs.lemmas.List.Elements.{filter_map-append}
 use Rattle.std.proofs.lemmas.Bool.Decides.{nat_tests}
 use Rattle.qp_model.specs.declared.stimulus.Stim.{Stim}
@@ -11,7 +12,6 @@ use Rattle.qp_model.specs.declared.bodies.Body.TheVariants as body
 use Rattle.qp_model.specs.Record.{Item}
 use Rattle.qp_model.specs.OneOrder.{Placed, Turn, stim_of, is_stim_at, look_of, turns_at, acts_next, is_turn, look_right, looks_right}
 use Rattle.qp_orders.specs.RunOrder.{placed, items_of, has_stim, is_right, all_right, thread_of}
-use Rattle.qp_orders.proofs.CalmLemmas.{and-true, and-split, or-false}
 use Rattle.qp_orders.specs.Placing.{LooksNone, AreBehind, all_placed, stim_item}
 use Rattle.qp_orders.proofs.MergeLemmas.{OtherLook, LooksOther}
 
@@ -28,14 +28,14 @@ no-turn lane k _ h = refl
 pub turns_in-none : (lane k : ℕ) (is : List Item) → list_any (λ i. is_stim_at k i.body) is ≡ false → turns_in lane k is ≡ []
 turns_in-none lane k [] h = refl
 turns_in-none lane k (i ∷ is) h =
-    let parts = or-false (is_stim_at k i.body) (list_any (λ j. is_stim_at k j.body) is) h in
+    let parts = or_parts (is_stim_at k i.body) (list_any (λ j. is_stim_at k j.body) is) h in
     rw (no-turn lane k i.body parts.0, turns_in-none lane k is parts.1) refl
 
 pub turns-none : (lane k : ℕ) (sources : List (List Item)) → has_stim sources k ≡ false → turns_at lane k sources ≡ []
 unfolding turns_at
 turns-none lane k [] h = refl
 turns-none lane k (l ∷ ls) h =
-    let parts = or-false (list_any (λ i. is_stim_at k i.body) l) (has_stim ls k) h in
+    let parts = or_parts (list_any (λ i. is_stim_at k i.body) l) (has_stim ls k) h in
     rw (turns_in-none lane k l parts.0, turns-none (lane + 1) k ls parts.1) refl
 
 pub turns-split : (lane k : ℕ) (front : List (List Item)) (l : List Item) (back : List (List Item))
@@ -109,8 +109,8 @@ pub right-looks : (sys : System) (stimuli : List (List Stim)) (lane0 : List Item
 unfolding all_right looks_right look_right
 right-looks sys stimuli lane0 sources cuts before [] ys h k = subst (λ z. looks_right (thread_of sys stimuli lane0 sources cuts) z ys ≡ true) (append-nil before) k
 right-looks sys stimuli lane0 sources cuts before (x ∷ xs) ys h k =
-    let parts = and-split (is_right sys stimuli sources before (look_of x.item.body)) (all_right sys stimuli sources (before ++ x ∷ []) xs) h in
-    and-true _ _ (by (look_of x.item.body) parts.0)
+    let parts = and_parts (is_right sys stimuli sources before (look_of x.item.body)) (all_right sys stimuli sources (before ++ x ∷ []) xs) h in
+    and_from _ _ (by (look_of x.item.body) parts.0)
     (right-looks sys stimuli lane0 sources cuts (before ++ x ∷ []) xs ys parts.1 (subst (λ z. looks_right (thread_of sys stimuli lane0 sources cuts) z ys ≡ true) (sym (append_assoc before (x ∷ []) xs)) k))
   where
     by : (o : Option (ℕ × ℕ)) → is_right sys stimuli sources before o ≡ true → look_right (thread_of sys stimuli lane0 sources cuts) before (xs ++ ys) o ≡ true

@@ -2,6 +2,7 @@
 use Rattle.std.proofs.Common.{◌≡◌, ℕ, zero, suc, ◌+◌, ◌<◌, ◌≤◌, ◌==◌, Bool, true, false, ◌&&◌, List, [], ◌∷◌, ◌++◌, length, take, drop, get_or, slice_get, refl, sym, ◌∙◌, ap, subst, arith, append_assoc, IsTrue, Some, if◌then◌else◌}
 use Rattle.std.specs.List.{count_by, find, list_all}
 use Rattle.std.specs.Option.{is_some}
+use Rattle.std.proofs.lemmas.Bool.{and_parts}
 use Rattle.std.proofs.lemmas.Bool.Decides.{nat_tests}
 use Rattle.std.proofs.lemmas.List.{take_more, take-append-drop, take_all}
 use Rattle.std.proofs.lemmas.Option.{slice_get-get_or}
@@ -12,7 +13,6 @@ use Rattle.qp_model.specs.Sites.{object_at}
 use Rattle.qp_model.specs.WordLaw.{is_object}
 use Rattle.qp_model.specs.Line.{Line}
 use Rattle.qp_model.proofs.FitsLemmas.{all-append}
-use Rattle.qp_model.proofs.ListLemmas.{both_true}
 use Rattle.qp_calls.specs.declared.answers.Counts as counts
 use Rattle.qp_calls.specs.LaneView.{Counts}
 use Rattle.qp_sound.specs.View.{view_of, shown_in}
@@ -119,7 +119,7 @@ place-there w a k h at = let few = w.holds.limits.objects a h in omega (arith, f
 found : (to : ℕ) (p : ObjectDef → Bool) (ds : List ObjectDef) → is_some (find (λ x. x.priority == to) ds) ≡ true → list_all p ds ≡ true → (d : ObjectDef) × (d.priority ≡ to) × (p d ≡ true)
 found to p [] some all = absurd (cc)
 found to p (x ∷ xs) some all =
-    let parts = both_true (p x) (list_all p xs) all in
+    let parts = and_parts (p x) (list_all p xs) all in
     go (x.priority == to) refl some (λ h. found to p xs h parts.1) parts.0
   where
     go : (u : Bool) → (x.priority == to) ≡ u → is_some (if u then Some x else find (λ y. y.priority == to) xs) ≡ true

@@ -1,6 +1,7 @@
 -- The events in the blocks, and which blocks a pool has.
 use Rattle.std.proofs.Common.{◌≡◌, ℕ, zero, suc, ◌+◌, ◌<◌, ◌≤◌, ◌==◌, nat_lt, nat_le, Bool, true, false, cond, List, [], ◌∷◌, length, get_or, refl, sym, ◌∙◌, ap, subst, arith, IsTrue, Some}
 use Rattle.std.specs.List.{list_all}
+use Rattle.std.proofs.lemmas.Bool.{and_from, and_parts}
 use Rattle.std.proofs.lemmas.Bool.Decides.{nat_tests}
 use Rattle.qp_base.specs.declared.event.Ev.{Ev}
 use Rattle.qp_model.specs.declared.systems.System.{System}
@@ -15,7 +16,6 @@ use Rattle.qp_model.specs.Machine.{after, after_from, is_allowed, allowed_from}
 use Rattle.qp_model.specs.FreeBlocks.{Pool, free_blocks, pool_may, pool_next}
 use Rattle.qp_model.specs.Sites.{blocks_of}
 use Rattle.qp_model.specs.WordLaw.{is_pool, is_block}
-use Rattle.qp_model.proofs.ListLemmas.{both_true, true_both}
 use Rattle.qp_calls.specs.declared.tokens.Hold.{Hold}
 use Rattle.qp_calls.specs.Clauses.{StandsHold, IsEvent, FitsPool, event_of, params_of}
 use Rattle.qp_sound.specs.Sound.{is_event}
@@ -69,38 +69,38 @@ event-fits sys ev h =
 -- The free blocks of a pool are blocks of it.
 all-without : (p : ℕ → Bool) (b : ℕ) (xs : List ℕ) → list_all p xs ≡ true → list_all p (without_all b xs) ≡ true
 all-without p b [] h = refl
-all-without p b (x ∷ xs) h = go (x == b) (both_true _ _ h).0 (all-without p b xs (both_true _ _ h).1)
+all-without p b (x ∷ xs) h = go (x == b) (and_parts _ _ h).0 (all-without p b xs (and_parts _ _ h).1)
   where
     go : (v : Bool) → p x ≡ true → list_all p (without_all b xs) ≡ true → list_all p (cond v (without_all b xs) (x ∷ without_all b xs)) ≡ true
     go true e later = later
-    go false e later = true_both _ _ e later
+    go false e later = and_from _ _ e later
 
 all-with : (p : ℕ → Bool) (b : ℕ) (xs : List ℕ) → list_all p xs ≡ true → p b ≡ true → list_all p (with_number b xs) ≡ true
-all-with p b [] h here = true_both _ _ here refl
-all-with p b (x ∷ xs) h here = go (nat_lt b x) (b == x) (all-with p b xs (both_true _ _ h).1 here)
+all-with p b [] h here = and_from _ _ here refl
+all-with p b (x ∷ xs) h here = go (nat_lt b x) (b == x) (all-with p b xs (and_parts _ _ h).1 here)
   where
     go : (v u : Bool) → list_all p (with_number b xs) ≡ true → list_all p (cond v (b ∷ x ∷ xs) (cond u (x ∷ xs) (x ∷ with_number b xs))) ≡ true
-    go true u later = true_both _ _ here h
+    go true u later = and_from _ _ here h
     go false true later = h
-    go false false later = true_both _ _ (both_true _ _ h).0 later
+    go false false later = and_from _ _ (and_parts _ _ h).0 later
 
 all-counted : (n k m : ℕ) → k + m ≤ n → list_all (λ x. nat_lt x n) (count_up k m) ≡ true
 all-counted n k zero le = refl
-all-counted n k (suc m) le = let lt : nat_lt k n ≡ true = below k n (omega (arith, le)) in true_both _ _ lt (all-counted n (k + 1) m (omega (arith, le)))
+all-counted n k (suc m) le = let lt : nat_lt k n ≡ true = below k n (omega (arith, le)) in and_from _ _ lt (all-counted n (k + 1) m (omega (arith, le)))
   where
     below : (a b : ℕ) → a < b → nat_lt a b ≡ true
     below a b e = grind (arith, nat_tests)
 
 free-step : (blocks : ℕ) (s : Pool) (b : Body) → list_all (λ x. nat_lt x blocks) s.free ≡ true → pool_may blocks s b ≡ true → list_all (λ x. nat_lt x blocks) (pool_next s b).free ≡ true
 free-step blocks s (New p n b from sig pars) h may = all-without (λ x. nat_lt x blocks) b s.free h
-free-step blocks s (Back p n b to) h may = all-with (λ x. nat_lt x blocks) b s.free h (both_true _ _ (both_true _ _ may).0).1
+free-step blocks s (Back p n b to) h may = all-with (λ x. nat_lt x blocks) b s.free h (and_parts _ _ (and_parts _ _ may).0).1
 free-step blocks s _ h may = h
 
 free-from : (blocks : ℕ) (s : Pool) (history : List Item) → list_all (λ x. nat_lt x blocks) s.free ≡ true → allowed_from (free_blocks blocks) s history ≡ true
     → list_all (λ x. nat_lt x blocks) (after_from (free_blocks blocks) s history).free ≡ true
 unfolding after_from allowed_from
 free-from blocks s [] h may = h
-free-from blocks s (i ∷ is) h may = free-from blocks (pool_next s i.body) is (free-step blocks s i.body h (both_true _ _ may).0) (both_true _ _ may).1
+free-from blocks s (i ∷ is) h may = free-from blocks (pool_next s i.body) is (free-step blocks s i.body h (and_parts _ _ may).0) (and_parts _ _ may).1
 
 free-all : (blocks : ℕ) (history : List Item) → is_allowed (free_blocks blocks) history ≡ true → list_all (λ x. nat_lt x blocks) (after (free_blocks blocks) history).free ≡ true
 unfolding after is_allowed
@@ -108,7 +108,7 @@ free-all blocks history may = free-from blocks ((free_blocks blocks).first) hist
 
 first-in : (p : ℕ → Bool) (b : ℕ) (xs : List ℕ) → list_all p xs ≡ true → is_first b xs ≡ true → p b ≡ true
 first-in p b [] all h = absurd (cc)
-first-in p b (x ∷ xs) all h = let same : x ≡ b = number x b h in ap p (sym same) ∙ (both_true _ _ all).0
+first-in p b (x ∷ xs) all h = let same : x ≡ b = number x b h in ap p (sym same) ∙ (and_parts _ _ all).0
   where
     number : (x y : ℕ) → (x == y) ≡ true → x ≡ y
     number x y e = grind (arith, nat_tests)
@@ -118,7 +118,7 @@ unfolding pool_in is_block
 free-block w p b q h is first =
     let all = free-all (blocks_of w.sys.now p) (hist (word.Pool p) (all_items (lists_of w.book))) (w.holds.world.sound.words.pools p h).allowed in
     let here : nat_lt b (blocks_of w.sys.now p) ≡ true = first-in (λ x. nat_lt x (blocks_of w.sys.now p)) b _ all (ap (λ x. is_first b x.free) (sym is) ∙ first) in
-    true_both _ _ h here
+    and_from _ _ h here
 
 -- a pool that an event fits is one of the system
 pub pool-fits : (w : PlainWorld) (p : ℕ) (ev : Event) → FitsPool (world_view w).sys p ev → IsTrue (is_pool w.sys.now p) × IsTrue (is_event w.sys.now ev)
@@ -126,7 +126,7 @@ unfolding view_of
 pool-fits w p ev h =
     let some : nat_lt 0 p ≡ true = lt 0 p h.some in
     let within : nat_le p (length w.sys.now.pools) ≡ true = le p (length w.sys.now.pools) h.there in
-    (true_both _ _ some within, event-fits w.sys.now ev h.event)
+    (and_from _ _ some within, event-fits w.sys.now ev h.event)
   where
     le : (a b : ℕ) → a ≤ b → nat_le a b ≡ true
     le a b e = grind (arith, nat_tests)

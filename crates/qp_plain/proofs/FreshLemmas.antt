@@ -2,6 +2,7 @@
 use Rattle.std.proofs.Common.{◌≡◌, ℕ, zero, suc, ◌+◌, ◌-◌, ◌<◌, ◌≤◌, ◌==◌, nat_lt, Bool, true, false, not, cond, List, [], ◌∷◌, ◌++◌, length, map, get_or, slice_get, slice_set, replicate, refl, sym, ◌∙◌, ap, subst, arith, is_some, Option, Some, None, length-append}
 use Rattle.std.specs.List.{list_all, AllByRecursion, find}
 use Rattle.std.specs.Option.{option_map_or}
+use Rattle.std.proofs.lemmas.Bool.{and_from, and_parts}
 use Rattle.std.proofs.lemmas.Bool.Decides.{nat_tests}
 use Rattle.std.proofs.lemmas.List.{length-set, length-replicate}
 use Rattle.std.proofs.lemmas.List.Sums.{sum_by-cons}
@@ -23,7 +24,6 @@ use Rattle.qp_model.specs.TimeEvents.{time_event}
 use Rattle.qp_model.specs.Sites.{object_at, ring_of, blocks_of}
 use Rattle.qp_model.specs.Sound.{IsSound, IsSoundPool, IsSoundObject}
 use Rattle.qp_model.specs.WordLaw.{is_object}
-use Rattle.qp_model.proofs.ListLemmas.{both_true, true_both}
 use Rattle.qp_calls.specs.LaneView.{IsNew}
 use Rattle.qp_plain_words.specs.declared.block.BlockWord.{BlockWord}
 use Rattle.qp_plain_words.specs.Sets.{are_members}
@@ -85,13 +85,13 @@ get-copies (suc n) (suc k) x = get-copies n k x
 
 -- Lanes without a record.
 pub all-more : (logs : List Log) (g : Log) → list_all is_new logs ≡ true → is_new g ≡ true → list_all is_new (logs ++ g ∷ []) ≡ true
-all-more [] g h here = true_both _ _ here refl
-all-more (x ∷ xs) g h here = true_both _ _ (both_true _ _ h).0 (all-more xs g (both_true _ _ h).1 here)
+all-more [] g h here = and_from _ _ here refl
+all-more (x ∷ xs) g h here = and_from _ _ (and_parts _ _ h).0 (all-more xs g (and_parts _ _ h).1 here)
 
 pub all-put : (logs : List Log) (k : ℕ) (g : Log) → list_all is_new logs ≡ true → is_new g ≡ true → list_all is_new (slice_set logs k g) ≡ true
 all-put [] k g h here = refl
-all-put (x ∷ xs) zero g h here = true_both _ _ here (both_true _ _ h).1
-all-put (x ∷ xs) (suc k) g h here = true_both _ _ (both_true _ _ h).0 (all-put xs k g (both_true _ _ h).1 here)
+all-put (x ∷ xs) zero g h here = and_from _ _ here (and_parts _ _ h).1
+all-put (x ∷ xs) (suc k) g h here = and_from _ _ (and_parts _ _ h).0 (all-put xs k g (and_parts _ _ h).1 here)
 
 -- what is known of such a lane
 pub record NewLog (g : Log) : Type 0 where
@@ -103,10 +103,10 @@ pub record NewLog (g : Log) : Type 0 where
 
 pub new-parts : (g : Log) → is_new g ≡ true → NewLog g
 new-parts g h =
-    let a = both_true _ _ h in
-    let b = both_true _ _ a.0 in
-    let c = both_true _ _ a.1 in
-    let d = both_true _ _ c.1 in
+    let a = and_parts _ _ h in
+    let b = and_parts _ _ a.0 in
+    let c = and_parts _ _ a.1 in
+    let d = and_parts _ _ c.1 in
     let none : (g.spare == 0) ≡ true = b.1 in
     record { recs = nothing g.recs.items b.0; spare = grind (arith, nat_tests, none); spilled = flip g.spilled c.0; stops = d.0; answered = d.1 }
   where
@@ -124,23 +124,23 @@ is-new g recs spare spilled stops answered = rw (recs, spare, spilled, stops, an
 lists-none : (logs : List Log) → list_all is_new logs ≡ true → map recs_of logs ≡ empty_lanes (length logs)
 lists-none [] h = refl
 lists-none (g ∷ gs) h =
-    let new = new-parts g (both_true _ _ h).0 in
-    ap (λ x. x ∷ map recs_of gs) new.recs ∙ ap (λ xs. [] ∷ xs) (lists-none gs (both_true _ _ h).1)
+    let new = new-parts g (and_parts _ _ h).0 in
+    ap (λ x. x ∷ map recs_of gs) new.recs ∙ ap (λ xs. [] ∷ xs) (lists-none gs (and_parts _ _ h).1)
 
 pub places-new : (logs : List Log) → list_all is_new logs ≡ true → all_places logs ≡ length logs
 places-new [] h = refl
 places-new (g ∷ gs) h =
-    let new = new-parts g (both_true _ _ h).0 in
+    let new = new-parts g (and_parts _ _ h).0 in
     let one : places_of g ≡ 1 = rw (new.spare, new.spilled) refl in
-    let later : all_places gs ≡ length gs = places-new gs (both_true _ _ h).1 in
+    let later : all_places gs ≡ length gs = places-new gs (and_parts _ _ h).1 in
     let sum = sum_by-cons places_of g gs in
     omega (arith, one, later, sum)
 
 stops-new : (logs : List Log) → list_all is_new logs ≡ true → list_all (fits_stop 0) logs ≡ true
 stops-new [] h = refl
 stops-new (g ∷ gs) h =
-    let new = new-parts g (both_true _ _ h).0 in
-    true_both _ _ (true_both _ _ new.stops new.answered) (stops-new gs (both_true _ _ h).1)
+    let new = new-parts g (and_parts _ _ h).0 in
+    and_from _ _ (and_from _ _ new.stops new.answered) (stops-new gs (and_parts _ _ h).1)
 
 pub book-lists : (n : ℕ) (b : Book) → IsNewBook n b → lists_of b ≡ empty_lanes n
 book-lists n b new = lists-none (logs_of b) new.all ∙ ap empty_lanes (length-set b.others.items b.at b.here ∙ new.long)

@@ -1,5 +1,6 @@
 -- The tables of a world after a record more.
 use Rattle.std.proofs.Common.{◌≡◌, ◌≢◌, ℕ, zero, suc, ◌+◌, ◌-◌, ◌<◌, ◌≤◌, ◌==◌, nat_lt, nat_le, Bool, true, false, ◌&&◌, List, [], ◌∷◌, length, get_or, slice_set, refl, sym, ◌∙◌, ap, subst, arith, IsTrue, Some}
+use Rattle.std.proofs.lemmas.Bool.{and_parts}
 use Rattle.std.proofs.lemmas.Bool.Decides.{nat_tests}
 use Rattle.std.proofs.lemmas.List.{length-set, get_or-set_same, get_or-set_other}
 use Rattle.qp_base.specs.declared.event.Ev.{Ev}
@@ -13,7 +14,6 @@ use Rattle.qp_model.specs.FreeBlocks.{Pool}
 use Rattle.qp_model.specs.TimeEvents.{Clock}
 use Rattle.qp_model.specs.Sites.{ring_of}
 use Rattle.qp_model.specs.WordLaw.{is_pool, is_block, is_object, is_signal, is_timer}
-use Rattle.qp_model.proofs.ListLemmas.{both_true}
 use Rattle.qp_calls.specs.Clauses.{event_of}
 use Rattle.qp_plain_words.specs.declared.block.BlockWord.{BlockWord}
 use Rattle.qp_plain_words.specs.declared.signal.SignalWord.{SignalWord}
@@ -29,7 +29,7 @@ use Rattle.qp_plain.proofs.Growth.{pool-kept, cell-kept, refs-kept, line-kept, s
 -- numbers of words
 pub timer-in : (sys : System) (t : ℕ) → IsTrue (is_timer sys t) → (0 < t) × (t ≤ length sys.timers)
 timer-in sys t h =
-    let p = both_true (nat_lt 0 t) (nat_le t (length sys.timers)) h in
+    let p = and_parts (nat_lt 0 t) (nat_le t (length sys.timers)) h in
     let some : nat_lt 0 t ≡ true = p.0 in
     let within : nat_le t (length sys.timers) ≡ true = p.1 in
     let a : 0 < t = grind (arith, nat_tests) in
@@ -38,7 +38,7 @@ timer-in sys t h =
 
 pub pool-in : (sys : System) (p : ℕ) → IsTrue (is_pool sys p) → (0 < p) × (p ≤ length sys.pools)
 pool-in sys p h =
-    let q = both_true (nat_lt 0 p) (nat_le p (length sys.pools)) h in
+    let q = and_parts (nat_lt 0 p) (nat_le p (length sys.pools)) h in
     let some : nat_lt 0 p ≡ true = q.0 in
     let within : nat_le p (length sys.pools) ≡ true = q.1 in
     let a : 0 < p = grind (arith, nat_tests) in
@@ -47,7 +47,7 @@ pool-in sys p h =
 
 pub signal-in : (sys : System) (s : ℕ) → IsTrue (is_signal sys s) → (4 ≤ s) × (s < length sys.signals + 4)
 signal-in sys s h =
-    let q = both_true (nat_le 4 s) (nat_lt s (length sys.signals + 4)) h in
+    let q = and_parts (nat_le 4 s) (nat_lt s (length sys.signals + 4)) h in
     let some : nat_le 4 s ≡ true = q.0 in
     let within : nat_lt s (length sys.signals + 4) ≡ true = q.1 in
     let a : 4 ≤ s = grind (arith, nat_tests) in

@@ -1,6 +1,7 @@
 -- What a lane keeps beside its records, when one more comes.
 use Rattle.std.proofs.Common.{◌≡◌, ◌≢◌, ℕ, suc, ◌+◌, ◌<◌, ◌==◌, nat_lt, Bool, true, false, not, ◌&&◌, ◌||◌, cond, List, [], ◌∷◌, ◌++◌, length, get_or, slice_set, Option, Some, None, refl, sym, ◌∙◌, ap, arith}
 use Rattle.std.specs.List.{list_all, list_any, count_by}
+use Rattle.std.proofs.lemmas.Bool.{and_from, and_parts}
 use Rattle.std.proofs.lemmas.Bool.Decides.{nat_tests}
 use Rattle.std.proofs.lemmas.List.{map-append, length-map, get_or-set_same, get_or-set_other}
 use Rattle.std.proofs.lemmas.List.Folds.{list_any-append}
@@ -11,7 +12,6 @@ use Rattle.qp_model.specs.declared.bodies.Body.TheVariants as body
 use Rattle.qp_model.specs.Record.{Item, item_of}
 use Rattle.qp_model.specs.Ends.{is_spill, spills_in}
 use Rattle.qp_model.specs.History.{lane_items}
-use Rattle.qp_model.proofs.ListLemmas.{both_true, true_both}
 use Rattle.qp_calls.specs.declared.answers.Counts as counts
 use Rattle.qp_calls.specs.LaneView.{Shown, Counts, NotShown}
 use Rattle.qp_calls.specs.Clauses.{nil_by}
@@ -31,7 +31,7 @@ pub record IsPlain (b : Body) : Type 0 where
   pub spill : is_spill b ≡ false
 
 pub plain-parts : (b : Body) → is_plain b ≡ true → IsPlain b
-plain-parts b h = let p = both_true _ _ h in record { nil = flip (is_nil b) p.0; spill = flip (is_spill b) p.1 }
+plain-parts b h = let p = and_parts _ _ h in record { nil = flip (is_nil b) p.0; spill = flip (is_spill b) p.1 }
   where
     flip : (v : Bool) → not v ≡ true → v ≡ false
     flip true e = sym e
@@ -159,8 +159,8 @@ caused-more items i code h =
 pub causes-more : (recs : List Rec) (r : Rec) (codes : List ℕ) → list_all (is_caused_in (lane_items recs)) codes ≡ true → list_all (is_caused_in (lane_items (recs ++ r ∷ []))) codes ≡ true
 causes-more recs r [] h = refl
 causes-more recs r (c ∷ cs) h =
-    let p = both_true _ _ h in
-    true_both _ _ (ap (λ z. is_caused_in z c) (items-more recs r) ∙ caused-more (lane_items recs) (item_of r) c p.0) (causes-more recs r cs p.1)
+    let p = and_parts _ _ h in
+    and_from _ _ (ap (λ z. is_caused_in z c) (items-more recs r) ∙ caused-more (lane_items recs) (item_of r) c p.0) (causes-more recs r cs p.1)
 
 pub spill-not_nil : (b : Body) → is_spill b ≡ true → is_nil b ≡ false
 spill-not_nil (body.Nil f l m) h = absurd (cc)

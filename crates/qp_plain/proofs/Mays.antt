@@ -1,10 +1,10 @@
 -- What stands in the hands of a world, and which record may come.
 use Rattle.std.proofs.Common.{◌≡◌, ℕ, ◌+◌, ◌-◌, ◌<◌, ◌≤◌, ◌==◌, nat_lt, nat_le, true, false, List, ◌∷◌, length, refl, subst, arith, IsTrue, Option, Some, None, inl, inr}
 use Rattle.std.specs.Option.{unwrap_or}
+use Rattle.std.proofs.lemmas.Bool.{and_from, and_parts}
 use Rattle.std.proofs.lemmas.Bool.Decides.{nat_tests}
 use Rattle.qp_model.specs.Sites.{ring_of}
 use Rattle.qp_model.specs.WordLaw.{is_block, is_object, is_timer}
-use Rattle.qp_model.proofs.ListLemmas.{both_true, true_both}
 use Rattle.std.proofs.lemmas.Option.{slice_get_within}
 use Rattle.qp_calls.specs.declared.tokens.Hold.{Hold}
 use Rattle.qp_calls.specs.declared.tokens.Fresh.{Fresh}
@@ -85,7 +85,7 @@ owned-timer w t owns =
     let lt = slice_get_within w.sys.now.timers (t - 1) owns.timer owns.there in
     let some : nat_lt 0 t ≡ true = lt-true 0 t owns.some in
     let within : nat_le t (length w.sys.now.timers) ≡ true = le-true t (length w.sys.now.timers) (omega (arith, lt, owns.some)) in
-    true_both _ _ some within
+    and_from _ _ some within
   where
     lt-true : (a b : ℕ) → a < b → nat_lt a b ≡ true
     lt-true a b h = grind (arith, nat_tests)
@@ -104,9 +104,9 @@ stands-token w (token.Pool k) h = some k.pool h.0
 -- an entry of a queue names a static signal or a pool
 pub named-good : (w : PlainWorld) (e : Entry) → is_token e ≡ true → is_good w.sys.now (entry_of e) ≡ true → is_named w.sys.now e ≡ true
 unfolding entry_of
-named-good w (token.Static sig) t h = (both_true _ _ h).0
+named-good w (token.Static sig) t h = (and_parts _ _ h).0
 named-good w (token.Pool k) t h = t
 
 pub front-good : (w : PlainWorld) (a : ℕ) (e : model.Entry) (others : List model.Entry) → IsTrue (is_object w.sys.now a) → (line_in w.sys.now (lists_of w.book) a).entries ≡ e ∷ others → is_good w.sys.now e ≡ true
 front-good w a e others h front =
-    (both_true _ _ (subst (λ xs. list_all (is_good w.sys.now) xs ≡ true) front (w.holds.world.sound.entries a h))).0
+    (and_parts _ _ (subst (λ xs. list_all (is_good w.sys.now) xs ≡ true) front (w.holds.world.sound.entries a h))).0

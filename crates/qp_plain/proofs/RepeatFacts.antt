@@ -2,6 +2,7 @@
 use Rattle.std.proofs.Common.{◌≡◌, ℕ, suc, ◌+◌, ◌-◌, ◌<◌, ◌≤◌, ◌==◌, ◌≢◌, ◌&&◌, nat_le, nat_lt, slice_get, if◌then◌else◌, Bool, true, false, List, [], ◌∷◌, length, refl, sym, ◌∙◌, ap, subst, arith, IsTrue, IsFalse, Option, Some, None}
 use Rattle.std.specs.Int.{bit_at}
 use Rattle.std.specs.Option.{option_map_or}
+use Rattle.std.proofs.lemmas.Bool.{and_parts}
 use Rattle.std.proofs.lemmas.Bool.Decides.{nat_tests}
 use Rattle.std.proofs.lemmas.Nat.Bits.{bit_at-lt}
 use Rattle.std.proofs.lemmas.Option.{slice_get_within}
@@ -23,7 +24,7 @@ use Rattle.qp_model.specs.declared.systems.System.{System}
 use Rattle.qp_model.specs.Parts.{is_static}
 use Rattle.qp_model.specs.Sound.{IsSound}
 use Rattle.qp_model.specs.WordLaw.{is_block, is_object, is_signal, is_timer}
-use Rattle.qp_model.proofs.ListLemmas.{both_true, list_all-has}
+use Rattle.qp_model.proofs.ListLemmas.{list_all-has}
 use Rattle.qp_calls.specs.declared.answers.Tick.TheVariants as ticked
 use Rattle.qp_calls.specs.declared.answers.Tick as answer
 use Rattle.qp_calls.specs.Clauses.{params_of}
@@ -208,7 +209,7 @@ block-bytes w p c h = let at = block-in w.sys.now w.holds.limits p c h in (omega
 -- a static signal
 static-fits : (sys : System) (g : ℕ) → IsSound sys → IsTrue (is_static sys g) → g < 65536
 unfolding is_static
-static-fits sys g sound h = below (slice_get sys.signals (g - 4)) refl (both_true (nat_le 4 g) (option_map_or (λ d. d.fixed) (slice_get sys.signals (g - 4)) false) h).1
+static-fits sys g sound h = below (slice_get sys.signals (g - 4)) refl (and_parts (nat_le 4 g) (option_map_or (λ d. d.fixed) (slice_get sys.signals (g - 4)) false) h).1
   where
     below : (o : Option SignalDef) → slice_get sys.signals (g - 4) ≡ o → option_map_or (λ d. d.fixed) o false ≡ true → g < 65536
     below None at fixed = absurd (cc)
@@ -221,7 +222,7 @@ entry-fits w e sound good = go (e.pool == 0) refl good
     go : (b : Bool) → (e.pool == 0) ≡ b → IsTrue (if b then (is_static w.sys.now e.block && (e.name == 0)) else is_block w.sys.now e.pool e.block) → FitsToken e
     go true is h =
         let none : e.pool ≡ 0 = grind (arith, nat_tests) in
-        let parts = both_true (is_static w.sys.now e.block) (e.name == 0) h in
+        let parts = and_parts (is_static w.sys.now e.block) (e.name == 0) h in
         let bare : (e.name == 0) ≡ true = parts.1 in
         let name : e.name ≡ 0 = grind (arith, nat_tests) in
         let few : e.block < 65536 = static-fits w.sys.now e.block sound parts.0 in
@@ -291,8 +292,8 @@ some-free b (x ∷ xs) h = omega arith
 -- so does the signal of an event
 pub signal-fits : (w : PlainWorld) (sig : ℕ) (pars : List ℕ) → IsSound w.sys.now → IsTrue (is_event w.sys.now (record { sig = sig; pars = pars })) → sig < 65536
 signal-fits w sig pars sound event =
-    let parts = both_true (nat_le 4 sig && nat_lt sig (length w.sys.now.signals + 4)) (length pars == params_of w.sys.now sig) event in
-    let few : nat_lt sig (length w.sys.now.signals + 4) ≡ true = (both_true (nat_le 4 sig) (nat_lt sig (length w.sys.now.signals + 4)) parts.0).1 in
+    let parts = and_parts (nat_le 4 sig && nat_lt sig (length w.sys.now.signals + 4)) (length pars == params_of w.sys.now sig) event in
+    let few : nat_lt sig (length w.sys.now.signals + 4) ≡ true = (and_parts (nat_le 4 sig) (nat_lt sig (length w.sys.now.signals + 4)) parts.0).1 in
     let less : sig < length w.sys.now.signals + 4 = grind (arith, nat_tests) in
     omega (arith, less, sound.few_signals)
 

@@ -1,8 +1,8 @@
 -- The stop word.
 use Rattle.std.proofs.Common.{◌≡◌, ◌≢◌, ℕ, zero, suc, ◌<◌, ◌≤◌, ◌==◌, Bool, true, false, ◌&&◌, ◌||◌, cond, List, [], ◌∷◌, length, map, slice_set, refl, sym, ◌∙◌, ap, subst, arith, inl, inr}
 use Rattle.std.specs.List.{list_all, list_any}
+use Rattle.std.proofs.lemmas.Bool.{and_from, and_parts}
 use Rattle.std.proofs.lemmas.Bool.Decides.{nat_tests}
-use Rattle.qp_model.proofs.ListLemmas.{both_true, true_both}
 use Rattle.qp_model.specs.declared.bodies.Body.{Body}
 use Rattle.qp_model.specs.declared.bodies.Body.TheVariants as body
 use Rattle.qp_model.specs.Told.{ToldItem}
@@ -18,18 +18,18 @@ use Rattle.qp_plain.specs.World.{StopIs, fits_stop, was_handed, no_codes}
 
 all-at : {X : Type 0} (p : X → Bool) (xs : List X) (k : ℕ) (x : X) → k < length xs → list_all p (slice_set xs k x) ≡ true → p x ≡ true
 all-at p [] k x lt h = absurd (omega (arith, lt))
-all-at p (z ∷ zs) zero x lt h = (both_true _ _ h).0
-all-at p (z ∷ zs) (suc k) x lt h = all-at p zs k x (omega (arith, lt)) (both_true _ _ h).1
+all-at p (z ∷ zs) zero x lt h = (and_parts _ _ h).0
+all-at p (z ∷ zs) (suc k) x lt h = all-at p zs k x (omega (arith, lt)) (and_parts _ _ h).1
 
 -- what all but one pass, and the new one
 all-put : {X : Type 0} (p q : X → Bool) (xs : List X) (k : ℕ) (x y : X) → ((z : X) → p z ≡ true → q z ≡ true) → q y ≡ true → list_all p (slice_set xs k x) ≡ true → list_all q (slice_set xs k y) ≡ true
 all-put p q [] k x y more here h = refl
-all-put {X} p q (z ∷ zs) zero x y more here h = true_both _ _ here (rest zs (both_true _ _ h).1)
+all-put {X} p q (z ∷ zs) zero x y more here h = and_from _ _ here (rest zs (and_parts _ _ h).1)
   where
     rest : (us : List X) → list_all p us ≡ true → list_all q us ≡ true
     rest [] e = refl
-    rest (u ∷ us) e = true_both _ _ (more u (both_true _ _ e).0) (rest us (both_true _ _ e).1)
-all-put p q (z ∷ zs) (suc k) x y more here h = true_both _ _ (more z (both_true _ _ h).0) (all-put p q zs k x y more here (both_true _ _ h).1)
+    rest (u ∷ us) e = and_from _ _ (more u (and_parts _ _ e).0) (rest us (and_parts _ _ e).1)
+all-put p q (z ∷ zs) (suc k) x y more here h = and_from _ _ (more z (and_parts _ _ h).0) (all-put p q zs k x y more here (and_parts _ _ h).1)
 
 any-true : (b : Bool) → (b || true) ≡ true
 any-true true = refl
@@ -81,13 +81,13 @@ stop-first code old new h some few lt is = record {
     none-all (c ∷ cs) e = absurd (cc)
 
     loosen : (g : Log) → fits_stop 0 g ≡ true → fits_stop code g ≡ true
-    loosen g e = rw nz (none-all g.answered.list (both_true (no_codes g.stops.list) (no_codes g.answered.list) e).1)
+    loosen g e = rw nz (none-all g.answered.list (and_parts (no_codes g.stops.list) (no_codes g.answered.list) e).1)
 
     before : fits_stop 0 old.here ≡ true
     before = all-at (fits_stop 0) old.others.items old.at old.here lt is.fits
 
     here : fits_stop code new.here ≡ true
-    here = rw (nz, h.answered) (none-all old.here.answered.list (both_true (no_codes old.here.stops.list) (no_codes old.here.answered.list) before).1)
+    here = rw (nz, h.answered) (none-all old.here.answered.list (and_parts (no_codes old.here.stops.list) (no_codes old.here.answered.list) before).1)
 
     handed : was_handed code new.here ≡ true
     handed = rw (h.stops, same-number code) refl
@@ -135,7 +135,7 @@ stop-answered stop old new h set lt is = record {
 -- Where the word is 0, no lane handed in a code or found one.
 pub nothing-handed : (old : Book) → old.at < length old.others.items → StopIs 0 (logs_of old) → (old.here.stops.list ≡ []) × (old.here.answered.list ≡ [])
 nothing-handed old lt is =
-    let both = both_true (no_codes old.here.stops.list) (no_codes old.here.answered.list) (all-at (fits_stop 0) old.others.items old.at old.here lt is.fits) in
+    let both = and_parts (no_codes old.here.stops.list) (no_codes old.here.answered.list) (all-at (fits_stop 0) old.others.items old.at old.here lt is.fits) in
     (empty old.here.stops.list both.0, empty old.here.answered.list both.1)
   where
     empty : (cs : List ℕ) → no_codes cs ≡ true → cs ≡ []
@@ -176,9 +176,9 @@ purses-codeless b is = left (map purse_of (logs_of b)) b.at (all-codeless (logs_
 
     all-codeless : (gs : List Log) → list_all (fits_stop 0) gs ≡ true → list_all is_codeless (map purse_of gs) ≡ true
     all-codeless [] h = refl
-    all-codeless (g ∷ gs) h = true_both _ _ (rw (sym (same g.stops.list), sym (same g.answered.list)) (both_true _ _ h).0) (all-codeless gs (both_true _ _ h).1)
+    all-codeless (g ∷ gs) h = and_from _ _ (rw (sym (same g.stops.list), sym (same g.answered.list)) (and_parts _ _ h).0) (all-codeless gs (and_parts _ _ h).1)
 
     left : (ps : List Purse) (k : ℕ) → list_all is_codeless ps ≡ true → list_all is_codeless (slice_set ps k no_purse) ≡ true
     left [] k h = refl
-    left (p ∷ ps) zero h = (both_true _ _ h).1
-    left (p ∷ ps) (suc k) h = true_both _ _ (both_true _ _ h).0 (left ps k (both_true _ _ h).1)
+    left (p ∷ ps) zero h = (and_parts _ _ h).1
+    left (p ∷ ps) (suc k) h = and_from _ _ (and_parts _ _ h).0 (left ps k (and_parts _ _ h).1)

@@ -5,6 +5,7 @@ use Rattle.std.specs.Int.RustNames.{bit_or}
 use lib.Bits.{bit_and}
 use Rattle.std.proofs.Math.Nat.{mod-eq_of_lt, pow-succ', mul-div_cancel_left}
 use Rattle.std.proofs.Math.Pow.{pow_mono}
+use Rattle.std.proofs.lemmas.Bool.{and_from, and_parts}
 use Rattle.std.proofs.lemmas.Bool.Decides.{nat_tests}
 use Rattle.std.proofs.lemmas.List.Sums.{sum_by-cons}
 use Rattle.std.proofs.lemmas.Nat.{or_disjoint}
@@ -12,7 +13,6 @@ use Rattle.std.proofs.lemmas.Nat.Bits.{and_pow, bit_at_and, bit_at_set_same, bit
 use Rattle.qp_chart.specs.StateTree.{has}
 use Rattle.qp_model.specs.Lists.{without_all}
 use Rattle.qp_model.specs.Subscribers.{bits_of_set}
-use Rattle.qp_model.proofs.ListLemmas.{both_true, true_both}
 use Rattle.qp_plain_words.specs.Sets.{are_members}
 
 abbrev set : ℕ → ℕ → ℕ
@@ -90,9 +90,9 @@ record Parts (p : ℕ) (ps : List ℕ) : Type 0 where
 parts : (p : ℕ) (ps : List ℕ) → are_members (p ∷ ps) ≡ true → Parts p ps
 unfolding are_members
 parts p ps h =
-    let a = both_true _ _ h in
-    let b = both_true _ _ a.0 in
-    let c = both_true _ _ a.1 in
+    let a = and_parts _ _ h in
+    let b = and_parts _ _ a.0 in
+    let c = and_parts _ _ a.1 in
     let low : nat_lt 0 p ≡ true = b.0 in
     let high : nat_le p 32 ≡ true = b.1 in
     record { some = grind (arith, nat_tests, low); within = grind (arith, nat_tests, high); out = flip (has ps p) c.0; others = c.1 }

@@ -3,10 +3,10 @@ use Rattle.std.proofs.Common.{◌≡◌, ℕ, suc, ◌+◌, ◌-◌, ◌%◌, �
 use mathlib.Core.Logic.{dite}
 use native.Mathlib.Decide.{ℕ_discrete}
 use Rattle.atomic_table.proofs.Lists.{one_turn}
+use Rattle.std.proofs.lemmas.Bool.{and_parts}
 use Rattle.qp_model.specs.declared.bodies.Entry.{Entry}
 use Rattle.qp_words.specs.Counting.{Each, many}
 use Rattle.qp_words.specs.Rule.{InLine, code, cell_value, Run, OnlyFirst, entries_of, is_item, is_entry}
-use Rattle.qp_words.proofs.Tokens.{both-true}
 
 -- the first entry in line that passes the test comes to another stage
 abbrev pub restaged : ℕ → (InLine → Bool) → List InLine → List InLine
@@ -22,11 +22,11 @@ false-of true n = absurd (n refl)
 false-of false n = refl
 
 pub entry-is : (d e : Entry) → is_entry d e ≡ true → e ≡ d
-entry-is d e h = let t = both-true (eqb e.pool d.pool && eqb e.block d.block) (eqb e.name d.name) h in let s = both-true (eqb e.pool d.pool) (eqb e.block d.block) t.0 in
+entry-is d e h = let t = and_parts (eqb e.pool d.pool && eqb e.block d.block) (eqb e.name d.name) h in let s = and_parts (eqb e.pool d.pool) (eqb e.block d.block) t.0 in
     λ i. record { pool = eqb-true e.pool d.pool s.0 i; block = eqb-true e.block d.block s.1 i; name = eqb-true e.name d.name t.1 i }
 
 pub item-is : (s j : ℕ) (en : Entry) (i : InLine) → is_item s j en i ≡ true → (i.stage ≡ s) × (i.cell ≡ j) × (i.entry ≡ en)
-item-is s j en i e = let t = both-true (eqb i.stage s && eqb i.cell j) (is_entry en i.entry) e in let a = both-true (eqb i.stage s) (eqb i.cell j) t.0 in
+item-is s j en i e = let t = and_parts (eqb i.stage s && eqb i.cell j) (is_entry en i.entry) e in let a = and_parts (eqb i.stage s) (eqb i.cell j) t.0 in
     (eqb-true i.stage s a.0, eqb-true i.cell j a.1, entry-is en i.entry t.1)
 
 pub entries-append : (xs ys : List InLine) → entries_of (xs ++ ys) ≡ entries_of xs ++ entries_of ys

@@ -4,6 +4,7 @@ use mathlib.Core.Option.{some}
 use mathlib.Core.Logic.{dite}
 use native.Mathlib.Decide.{ℕ_discrete}
 use lib.ListN.{get_elem?}
+use Rattle.std.proofs.lemmas.Bool.{and_parts}
 use Rattle.qp_model.specs.declared.bodies.Entry.{Entry}
 use Rattle.qp_model.specs.declared.systems.System.{System}
 use Rattle.qp_model.specs.Line.{Line}
@@ -19,7 +20,7 @@ use Rattle.qp_words.specs.declared.Serve.{Serve}
 use Rattle.qp_words.specs.declared.View.{View}
 use Rattle.qp_words.proofs.Counting.{each-map, many-snoc, many-without}
 use Rattle.qp_words.proofs.Growing.{at-here, at-else, at-each}
-use Rattle.qp_words.proofs.Tokens.{b2n, both-true, tokens-set, begun-kept, worn-kept}
+use Rattle.qp_words.proofs.Tokens.{b2n, tokens-set, begun-kept, worn-kept}
 use Rattle.qp_words.proofs.Kept.{queue-same, queues-set}
 use Rattle.qp_words.proofs.Views.{Quiet}
 use Rattle.qp_queues.proofs.Lines.{entry-is, item-is}
@@ -69,7 +70,7 @@ gained-many p b k e hands pos = dite (ℕ_discrete e.pool 0)
 
 -- places and items
 pub place-is : (a j : ℕ) (e : Entry) (x : CellPlace) → is_place a j e x ≡ true → (x.queue ≡ a) × (x.cell ≡ j) × (x.entry ≡ e)
-place-is a j e x h = let t = both-true (eqb x.queue a && eqb x.cell j) (is_entry e x.entry) h in let u = both-true (eqb x.queue a) (eqb x.cell j) t.0 in
+place-is a j e x h = let t = and_parts (eqb x.queue a && eqb x.cell j) (is_entry e x.entry) h in let u = and_parts (eqb x.queue a) (eqb x.cell j) t.0 in
     (eqb-true x.queue a u.0, eqb-true x.cell j u.1, entry-is e x.entry t.1)
 
 abbrev pub item : Entry → ℕ → ℕ → InLine

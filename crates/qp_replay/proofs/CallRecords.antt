@@ -3,6 +3,7 @@ use Rattle.std.proofs.Common.{◌≡◌, ◌∙◌, ℕ, zero, suc, ◌<◌, ◌
 use Rattle.std.specs.Prelude.{⊤, drop, map}
 use Rattle.std.specs.List.{AllByRecursion, position}
 use Rattle.std.specs.Option.{option_and_then, option_map}
+use Rattle.std.proofs.lemmas.Bool.{and_from, and_parts}
 use Rattle.std.proofs.lemmas.List.{length-map}
 use Rattle.std.proofs.lemmas.List.Quantifiers.{position-Some}
 use Rattle.std.proofs.lemmas.Bool.Decides.{nat_tests}
@@ -21,7 +22,6 @@ use Rattle.qp_model.specs.Sites.{ring_of}
 use Rattle.qp_model.specs.WordLaw.{is_pool, is_object, is_signal, is_timer}
 use Rattle.qp_model.specs.Deferral.{keep, kept_after, KeepsDeferred}
 use Rattle.qp_model.specs.Shapes.{Fits, Releases, Drops, releases_by, MakesBlock, MakesNew, NoBlockFor, MakesAgain, again_by, MakesAgainNow, Posts, PostsFront, PostsNew, PostsNewFront, Forwards, PostsOne, PostsToAll, PostsUpTo, raising, restoring, PublishesFirst, PublishesLast, Publishes, Defers, Recalls, Flushes, Subscribes, Unsubscribes, Arms, Rearms, Disarms}
-use Rattle.qp_model.proofs.ListLemmas.{both_true, true_both}
 use Rattle.qp_model.proofs.FitsLemmas.{calm-drops}
 use Rattle.qp_model.proofs.DeferralLemmas.{kept-append, kept-calm}
 use Rattle.qp_replay.specs.Numbers.{has_word, is_on}
@@ -45,10 +45,10 @@ first-there sys n p h = go (position (λ size. nat_le n size) (map (λ d. d.size
         let count : length (map (λ d. d.size) sys.pools) ≡ length sys.pools = length-map sys.pools (λ d. d.size) in
         let some : nat_lt 0 p ≡ true = grind (arith, nat_tests, is) in
         let few : nat_le p (length sys.pools) ≡ true = grind (arith, nat_tests, is, within, count) in
-        true_both _ _ some few
+        and_from _ _ some few
 
 pool-some : (sys : System) (p : ℕ) → IsTrue (is_pool sys p) → 0 < p
-pool-some sys p h = let some : nat_lt 0 p ≡ true = (both_true (nat_lt 0 p) (nat_le p (length sys.pools)) h).0 in grind (arith, nat_tests)
+pool-some sys p h = let some : nat_lt 0 p ≡ true = (and_parts (nat_lt 0 p) (nat_le p (length sys.pools)) h).0 in grind (arith, nat_tests)
 
 -- what a call of object o names is the system's
 abbrev pub CallNames : System → ℕ → Call → Type 0

@@ -2,14 +2,14 @@
 use Rattle.std.proofs.Common.{◌≡◌, ◌≢◌, ◌∙◌, ℕ, zero, suc, ◌<◌, nat_lt, Bool, true, false, ◌&&◌, List, [], ◌∷◌, ◌++◌, length, get_or, set, take, replicate, Contains, IsTrue, ⊎_elim, refl, sym, ap, subst, arith, get_or-set_other, length-append, length-set}
 use Rattle.std.specs.List.{AllByRecursion}
 use Rattle.std.proofs.Math.Seq.{take-suc}
-use Rattle.std.proofs.lemmas.Bool.{cases_eq}
+use Rattle.std.proofs.lemmas.Bool.{cases_eq, and_from, and_parts}
 use Rattle.std.proofs.lemmas.Bool.Decides.{nat_tests}
 use Rattle.std.proofs.lemmas.List.Elements.{Contains-append_right}
 use Rattle.qp_model.specs.declared.record.Rec.{Rec}
 use Rattle.qp_model.specs.Places.{RecordPlace, must_precede}
 use Rattle.qp_replay.specs.Orders.{IsCycle, closes, is_record}
 use Rattle.qp_replay.specs.Remaining.{Blocks, HasNext, Standing, front, head}
-use Rattle.qp_replay.proofs.RemainingLemmas.{both, lane-of, record-test, true-and}
+use Rattle.qp_replay.proofs.RemainingLemmas.{lane-of, record-test}
 use Rattle.qp_replay.proofs.OrderLemmas.{irreflexive, lane-first, same-place}
 
 -- each of these must stand before the next
@@ -84,7 +84,7 @@ module _ (st : Standing) (met : List Bool) (walk : List RecordPlace) (lane : ℕ
       each = length-set met lane true ∙ walked.each;
       next = next-there;
       seen = seen-more (head st lane ∷ walk) (λ x h. h);
-      chain = true-and _ _ (subst (λ z. must_precede st.lanes z (head st lane) ≡ true) (sym same) blocks.first) walked.chain;
+      chain = and_from _ _ (subst (λ z. must_precede st.lanes z (head st lane) ≡ true) (sym same) blocks.first) walked.chain;
       stand = (walked.next, walked.stand);
     }
 
@@ -96,7 +96,7 @@ module _ (st : Standing) (met : List Bool) (walk : List RecordPlace) (lane : ℕ
           each = length-set met lane true ∙ walked.each;
           next = next-there;
           seen = seen-more (b ∷ head st lane ∷ walk) (λ x h. Contains-append_right (b ∷ []) (head st lane ∷ walk) x h);
-          chain = true-and _ _ (lane-first st.lanes (head st b.lane) b refl (omega (arith, behind, ne))) (true-and _ _ blocks.first walked.chain);
+          chain = and_from _ _ (lane-first st.lanes (head st b.lane) b refl (omega (arith, behind, ne))) (and_from _ _ blocks.first walked.chain);
           stand = (blocks.waits.stands, (walked.next, walked.stand));
         }
 
@@ -104,17 +104,17 @@ module _ (st : Standing) (met : List Bool) (walk : List RecordPlace) (lane : ℕ
 chain-front : (lanes : List (List Rec)) (x : RecordPlace) (xs : List RecordPlace) (n : ℕ) → IsTrue (chained lanes (x ∷ xs)) → IsTrue (chained lanes (x ∷ take n xs))
 chain-front lanes x xs zero h = refl
 chain-front lanes x [] (suc n) h = refl
-chain-front lanes x (y ∷ ys) (suc n) h = let parts = both (must_precede lanes x y) (chained lanes (y ∷ ys)) h in true-and _ _ parts.0 (chain-front lanes y ys n parts.1)
+chain-front lanes x (y ∷ ys) (suc n) h = let parts = and_parts (must_precede lanes x y) (chained lanes (y ∷ ys)) h in and_from _ _ parts.0 (chain-front lanes y ys n parts.1)
 
 chain-remaining : (lanes : List (List Rec)) (x : RecordPlace) (xs : List RecordPlace) → IsTrue (chained lanes (x ∷ xs)) → IsTrue (chained lanes xs)
 chain-remaining lanes x [] h = refl
-chain-remaining lanes x (y ∷ ys) h = (both (must_precede lanes x y) (chained lanes (y ∷ ys)) h).1
+chain-remaining lanes x (y ∷ ys) h = (and_parts (must_precede lanes x y) (chained lanes (y ∷ ys)) h).1
 
 -- a chain that ends with h closes where h must stand before this one
 closes-from : (lanes : List (List Rec)) (c h : RecordPlace) (xs : List RecordPlace) → IsTrue (chained lanes (xs ++ h ∷ [])) → IsTrue (must_precede lanes h c) → IsTrue (closes lanes c (xs ++ h ∷ []))
 closes-from lanes c h [] chain last = last
-closes-from lanes c h (x ∷ []) chain last = let parts = both (must_precede lanes x h) true chain in true-and _ _ parts.0 last
-closes-from lanes c h (x ∷ y ∷ ys) chain last = let parts = both (must_precede lanes x y) (chained lanes (y ∷ (ys ++ h ∷ []))) chain in true-and _ _ parts.0 (closes-from lanes c h (y ∷ ys) parts.1 last)
+closes-from lanes c h (x ∷ []) chain last = let parts = and_parts (must_precede lanes x h) true chain in and_from _ _ parts.0 last
+closes-from lanes c h (x ∷ y ∷ ys) chain last = let parts = and_parts (must_precede lanes x y) (chained lanes (y ∷ (ys ++ h ∷ []))) chain in and_from _ _ parts.0 (closes-from lanes c h (y ∷ ys) parts.1 last)
 
 stand-front : (P : RecordPlace → Type 0) (xs : List RecordPlace) (n : ℕ) → AllByRecursion P xs → AllByRecursion P (take n xs)
 stand-front P xs zero all = tt
@@ -126,12 +126,12 @@ pub is-cycle : (lanes : List (List Rec)) (h : RecordPlace) (walk : List RecordPl
     → IsCycle lanes (take (suc i) walk)
 is-cycle lanes h [] i chain stand within is = absurd (omega (arith, within))
 is-cycle lanes h (x ∷ xs) zero chain stand within is =
-    let loop : must_precede lanes h h ≡ true = subst (λ z. must_precede lanes h z ≡ true) is (both (must_precede lanes h x) (chained lanes (x ∷ xs)) chain).0 in
+    let loop : must_precede lanes h h ≡ true = subst (λ z. must_precede lanes h z ≡ true) is (and_parts (must_precede lanes h x) (chained lanes (x ∷ xs)) chain).0 in
     let no = irreflexive lanes h in absurd (cc (sym no ∙ loop))
 is-cycle lanes h (x ∷ xs) (suc i) chain stand within is =
     let small : i < length xs = omega (arith, within) in
     let end : take (suc i) xs ≡ take i xs ++ h ∷ [] = take-suc xs i h small ∙ ap (λ z. take i xs ++ z ∷ []) is in
-    let parts = both (must_precede lanes h x) (chained lanes (x ∷ xs)) chain in
+    let parts = and_parts (must_precede lanes h x) (chained lanes (x ∷ xs)) chain in
     let front : IsTrue (chained lanes ((x ∷ take i xs) ++ h ∷ [])) = subst (λ z. IsTrue (chained lanes (x ∷ z))) end (chain-front lanes x xs (suc i) parts.1) in
     record {
       long = let size = ap length end in omega (arith, size, length-append (take i xs) (h ∷ []));

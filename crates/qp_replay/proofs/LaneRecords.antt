@@ -4,6 +4,7 @@ use Rattle.std.specs.Bool.{MatchBool}
 use Rattle.std.specs.List.{AllByRecursion, count_by, find, list_all, position, prefix_len}
 use Rattle.std.specs.Option.{unwrap_or, option_and_then, option_map_or}
 use Rattle.std.specs.Prelude.{⊤, slice_get, is_some, map, reverse}
+use Rattle.std.proofs.lemmas.Bool.{and_parts}
 use Rattle.std.proofs.lemmas.Bool.Decides.{nat_tests}
 use Rattle.std.proofs.lemmas.List.{append-nil, append_assoc, length-append, reverse-append}
 use Rattle.qp_chart.specs.declared.checked.Chart.{Chart}
@@ -32,7 +33,6 @@ use Rattle.qp_model.specs.KernelLane.{Role, Looks, Sees, Takes, Ends, Rests, Hol
 use Rattle.qp_model.specs.Sources.{IsSourceLane, source_records}
 use Rattle.qp_model.specs.Laws.{Ascend}
 use Rattle.qp_model.specs.Lawful.{Lawful, is_settle, ObjectHolds, CourseHolds, KernelHolds, SourceLanes, cut_of, dispatched, facts_of, lanes_before, reading_holds, setting_of}
-use Rattle.qp_model.proofs.ListLemmas.{both_true}
 use Rattle.qp_model.proofs.TakenLemmas.{drop-head}
 use Rattle.qp_stim.specs.Rules as rule
 use Rattle.qp_replay.proofs.CallRecords.{Rules, Chain, chain-all}
@@ -157,7 +157,7 @@ module _ (s : Setting) where
       → seen_next s k p others o r ≡ Some next → Comes next o r
   seen-comes k next p others o (Sees q f l m) h object all is =
       let g = granted ((o == 0) && (q == p)) _ next is in
-      let test : (q == p) ≡ true = (both_true (o == 0) (q == p) g.0).1 in
+      let test : (q == p) ≡ true = (and_parts (o == 0) (q == p) g.0).1 in
       let same : q ≡ p = grind (arith, nat_tests, test) in
       came next _ o (Sees q f l m) g.1 (by (nat_lt m (f + l))) (inl (subst (IsObject s.sys) (sym same) object))
     where
@@ -438,7 +438,7 @@ module _ (sys : System) (stimuli : List (List Stim)) (j : Journal) (sound : IsSo
       where
         go : (b : Body) → i.body ≡ b → is_at_home o spent cut i.of b ≡ true → FineItem i ⊎ (i.of ≡ o)
         go (item.Seen q f l m) e h =
-            let test : (q == o) ≡ true = (both_true (i.of == 0) (q == o) (both_true _ spent h).0).1 in
+            let test : (q == o) ≡ true = (and_parts (i.of == 0) (q == o) (and_parts _ spent h).0).1 in
             let same : q ≡ o = grind (arith, nat_tests, test) in
             inl (subst (Fine i.of) (sym e) ((rules i.of).touches (item.Seen q f l m) refl (subst (IsObject sys) (sym same) object)))
         go (item.Spill len) e h = inl (subst (Fine i.of) (sym e) ((rules i.of).touches (item.Spill len) refl refl))
@@ -451,7 +451,7 @@ module _ (sys : System) (stimuli : List (List Stim)) (j : Journal) (sound : IsSo
     unfolding are_at_home
     all-at-home o budget cuts n [] object h = tt
     all-at-home o budget cuts n (i ∷ is) object h =
-        let parts = both_true (is_at_home o (n == budget) (cuts && (length is == 0)) i.of i.body) (are_at_home o budget cuts (taken_by n i.body) is) h in
+        let parts = and_parts (is_at_home o (n == budget) (cuts && (length is == 0)) i.of i.body) (are_at_home o budget cuts (taken_by n i.body) is) h in
         (at-home o (n == budget) (cuts && (length is == 0)) i object parts.0, all-at-home o budget cuts (taken_by n i.body) is object parts.1)
 
     home-fine : (d : ObjectDef) (n : ℕ) → (j.kernel == port) ≡ true → IsObject sys d.priority → home_of sys j d.priority ≡ n → ObjectHolds sys j d → AllByRecursion FineItem (lane_items (lane_at j n))
@@ -459,7 +459,7 @@ module _ (sys : System) (stimuli : List (List Stim)) (j : Journal) (sound : IsSo
     home-fine d n is_port object home holds =
         let asked : (not (j.kernel == port) || is_home_lane d.priority j.budget (may_cut j.end) (lane_items (lane_at j (home_of sys j d.priority)))) ≡ true = holds.shapes.home in
         let here : is_home_lane d.priority j.budget (may_cut j.end) (lane_items (lane_at j (home_of sys j d.priority))) ≡ true = there (j.kernel == port) is_port asked in
-        let all = (both_true _ _ (both_true _ _ here).0).0 in
+        let all = (and_parts _ _ (and_parts _ _ here).0).0 in
         let fine : AllByRecursion FineItem (lane_items (lane_at j (home_of sys j d.priority))) =
         lane-fine (λ o. o ≡ d.priority) 0 (lane_items (lane_at j (home_of sys j d.priority))) (all-at-home d.priority j.budget (may_cut j.end) 0 (lane_items (lane_at j (home_of sys j d.priority))) object all)
         (λ o e. subst (λ p. AllByRecursion (λ t. Fine p t.body) (records_of (facts_of sys j) p 0 (lane_items (lane_at j (home_of sys j d.priority))))) (sym e) (own-fine d.priority object)) in
@@ -497,7 +497,7 @@ module _ (sys : System) (stimuli : List (List Stim)) (j : Journal) (sound : IsSo
 
         none : (is : List Item) → list_all (λ i. i.of == 0) is ≡ true → AllByRecursion (λ i. FineItem i ⊎ (i.of ≡ 0)) is
         none [] h = tt
-        none (i ∷ is) h = let first : (i.of == 0) ≡ true = (both_true _ _ h).0 in let zero_of : i.of ≡ 0 = grind (arith, nat_tests, first) in (inr zero_of, none is (both_true _ _ h).1)
+        none (i ∷ is) h = let first : (i.of == 0) ≡ true = (and_parts _ _ h).0 in let zero_of : i.of ≡ 0 = grind (arith, nat_tests, first) in (inr zero_of, none is (and_parts _ _ h).1)
 
     -- the lanes of the sources, from lane n on
     sources-fine : (ls : List (List Rec)) (n : ℕ) (sources : List (List Stim)) → drop n j.lanes ≡ ls → SourceLanes sys j n sources → length ls ≡ length sources

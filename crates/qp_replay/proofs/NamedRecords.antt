@@ -3,6 +3,7 @@ use Rattle.std.proofs.Common.{◌≡◌, ◌∙◌, ℕ, zero, suc, ◌+◌, ◌
 use Rattle.std.specs.List.{AllByRecursion, find, list_all}
 use Rattle.std.specs.Prelude.{⊤, is_some}
 use Rattle.std.specs.Int.{bit_at}
+use Rattle.std.proofs.lemmas.Bool.{and_from, and_parts}
 use Rattle.std.proofs.lemmas.Bool.Decides.{nat_tests}
 use Rattle.std.proofs.lemmas.List.{take-append-drop}
 use Rattle.std.proofs.lemmas.Option.{slice_get_within}
@@ -40,7 +41,7 @@ use Rattle.qp_model.specs.WordLaw.{Keeps, Words, is_block, is_object, is_pool, i
 use Rattle.qp_model.specs.Course.{chart_at}
 use Rattle.qp_model.specs.Lawful.{Lawful, facts_of}
 use Rattle.qp_model.proofs.HistoryLemmas.{drawn_as-on}
-use Rattle.qp_model.proofs.ListLemmas.{both_true, true_both, list_all-has}
+use Rattle.qp_model.proofs.ListLemmas.{list_all-has}
 use Rattle.qp_model.proofs.MachineLemmas.{is_allowed-front}
 use Rattle.qp_model.proofs.NumberLemmas.{number-owned}
 use Rattle.qp_stim.specs.Rules.{StimuliFit}
@@ -66,7 +67,7 @@ timer-there sys me place h =
     let within = slice_get_within sys.timers (timer_number sys.timers me place - 1) h.timer h.there in
     let some : nat_lt 0 (timer_number sys.timers me place) ≡ true = grind (arith, nat_tests, low) in
     let few : nat_le (timer_number sys.timers me place) (length sys.timers) ≡ true = grind (arith, nat_tests, low, within) in
-    true_both _ _ some few
+    and_from _ _ some few
 
 deed-names : (sys : System) (me : ℕ) (at_hand : Option token.Entry) (p : Plain) → MayAct sys me at_hand p → (names : Names) → names.me ≡ me → DeedNames sys me (deed_of names p)
 unfolding deed_of IsSoundPlain
@@ -150,11 +151,11 @@ all-each P (x ∷ xs) h = ((λ b. (h b).0), all-each P xs (λ b. (h b).1))
 
 pub all-from : {A : Type 0} (p : A → Bool) (xs : List A) → list_all p xs ≡ true → AllByRecursion (λ x. p x ≡ true) xs
 all-from p [] h = tt
-all-from p (x ∷ xs) h = let parts = both_true (p x) (list_all p xs) h in (parts.0, all-from p xs parts.1)
+all-from p (x ∷ xs) h = let parts = and_parts (p x) (list_all p xs) h in (parts.0, all-from p xs parts.1)
 
 pub all-test : {A : Type 0} (p : A → Bool) (xs : List A) → AllByRecursion (λ x. p x ≡ true) xs → list_all p xs ≡ true
 all-test p [] h = refl
-all-test p (x ∷ xs) h = true_both _ _ h.0 (all-test p xs h.1)
+all-test p (x ∷ xs) h = and_from _ _ h.0 (all-test p xs h.1)
 
 pub all-join : {A : Type 0} (P : A → Type 0) (xs ys : List A) → AllByRecursion P xs → AllByRecursion P ys → AllByRecursion P (xs ++ ys)
 all-join P [] ys h k = k
@@ -216,28 +217,28 @@ hist-has P w items h n within = all-passing P (λ i. drawn_as w n (touch i)) ite
 
 all-without : (p : ℕ → Bool) (b : ℕ) (xs : List ℕ) → list_all p xs ≡ true → list_all p (without_all b xs) ≡ true
 all-without p b [] h = refl
-all-without p b (x ∷ xs) h = go (x == b) (all-without p b xs (both_true _ _ h).1)
+all-without p b (x ∷ xs) h = go (x == b) (all-without p b xs (and_parts _ _ h).1)
   where
     go : (same : Bool) → list_all p (without_all b xs) ≡ true → list_all p (cond same (without_all b xs) (x ∷ without_all b xs)) ≡ true
     go true k = k
-    go false k = true_both _ _ (both_true _ _ h).0 k
+    go false k = and_from _ _ (and_parts _ _ h).0 k
 
 all-with : (p : ℕ → Bool) (b : ℕ) (xs : List ℕ) → list_all p xs ≡ true → p b ≡ true → list_all p (with_number b xs) ≡ true
-all-with p b [] h k = true_both _ _ k refl
-all-with p b (x ∷ xs) h k = go (nat_lt b x) (b == x) (all-with p b xs (both_true _ _ h).1 k)
+all-with p b [] h k = and_from _ _ k refl
+all-with p b (x ∷ xs) h k = go (nat_lt b x) (b == x) (all-with p b xs (and_parts _ _ h).1 k)
   where
     go : (less same : Bool) → list_all p (with_number b xs) ≡ true → list_all p (cond less (b ∷ x ∷ xs) (cond same (x ∷ xs) (x ∷ with_number b xs))) ≡ true
-    go true same later = true_both _ _ k h
+    go true same later = and_from _ _ k h
     go false true later = h
-    go false false later = true_both _ _ (both_true _ _ h).0 later
+    go false false later = and_from _ _ (and_parts _ _ h).0 later
 
 all-counted : (n k m : ℕ) → k + m ≤ n → list_all (λ x. nat_lt x n) (count_up k m) ≡ true
 all-counted n k zero le = refl
-all-counted n k (suc m) le = let less : nat_lt k n ≡ true = grind (arith, nat_tests, le) in true_both _ _ less (all-counted n (k + 1) m (omega (arith, le)))
+all-counted n k (suc m) le = let less : nat_lt k n ≡ true = grind (arith, nat_tests, le) in and_from _ _ less (all-counted n (k + 1) m (omega (arith, le)))
 
 first-passes : (p : ℕ → Bool) (b : ℕ) (xs : List ℕ) → is_first b xs ≡ true → list_all p xs ≡ true → p b ≡ true
 first-passes p b [] e h = absurd (cc)
-first-passes p b (x ∷ xs) e h = let is : x ≡ b = grind (arith, nat_tests, e) in subst (λ y. p y ≡ true) is (both_true _ _ h).0
+first-passes p b (x ∷ xs) e h = let is : x ≡ b = grind (arith, nat_tests, e) in subst (λ y. p y ≡ true) is (and_parts _ _ h).0
 
 -- a block that is given out is one of the pool
 abbrev gives_own : ℕ → Body → Bool
@@ -247,8 +248,8 @@ gives_own blocks _ = true
 gives-step : (blocks : ℕ) (s : Pool) (b : Body) → list_all (λ x. nat_lt x blocks) s.free ≡ true → pool_may blocks s b ≡ true
     → (gives_own blocks b ≡ true) × (list_all (λ x. nat_lt x blocks) (pool_next s b).free ≡ true)
 gives-step blocks s (item.New p n b from sig pars) h may =
-    (first-passes (λ x. nat_lt x blocks) b s.free (both_true _ _ may).1 h, all-without (λ x. nat_lt x blocks) b s.free h)
-gives-step blocks s (item.Back p n b to) h may = (refl, all-with (λ x. nat_lt x blocks) b s.free h (both_true _ _ (both_true _ _ may).0).1)
+    (first-passes (λ x. nat_lt x blocks) b s.free (and_parts _ _ may).1 h, all-without (λ x. nat_lt x blocks) b s.free h)
+gives-step blocks s (item.Back p n b to) h may = (refl, all-with (λ x. nat_lt x blocks) b s.free h (and_parts _ _ (and_parts _ _ may).0).1)
 gives-step blocks s b h may = (absurd (cc), absurd (cc))
 
 gives-from : (blocks : ℕ) (s : Pool) (is : List Item) → list_all (λ x. nat_lt x blocks) s.free ≡ true → allowed_from (free_blocks blocks) s is ≡ true
@@ -256,7 +257,7 @@ gives-from : (blocks : ℕ) (s : Pool) (is : List Item) → list_all (λ x. nat_
 unfolding allowed_from
 gives-from blocks s [] h allowed = tt
 gives-from blocks s (i ∷ is) h allowed =
-    let parts = both_true (pool_may blocks s i.body) (allowed_from (free_blocks blocks) (pool_next s i.body) is) allowed in
+    let parts = and_parts (pool_may blocks s i.body) (allowed_from (free_blocks blocks) (pool_next s i.body) is) allowed in
     let step = gives-step blocks s i.body h parts.0 in
     (step.0, gives-from blocks (pool_next s i.body) is step.1 parts.1)
 
@@ -305,7 +306,7 @@ first-rules sys o = record {
 
 module _ (sys : System) where
   set-step : (s : Subscribers) (o : ℕ) (b : Body) → FirstFine sys o b → list_all (is_object sys) s.members ≡ true → list_all (is_object sys) (subscribers_next s o b).members ≡ true
-  set-step s o (item.Sub sig n) fine all = true_both _ _ fine (all-without (is_object sys) o s.members all)
+  set-step s o (item.Sub sig n) fine all = and_from _ _ fine (all-without (is_object sys) o s.members all)
   set-step s o (item.Unsub sig n) fine all = all-without (is_object sys) o s.members all
   set-step s o b fine all = all
 
@@ -365,7 +366,7 @@ module _ (sys : System) where
         keeps = words.pools p h
 
         below : AllByRecursion (λ i. drawn_below (word.Pool p) all (touch i) ≡ true) (all_items lanes)
-        below = all-from (λ i. drawn_below (word.Pool p) all (touch i)) (all_items lanes) (both_true _ _ keeps.numbers).0
+        below = all-from (λ i. drawn_below (word.Pool p) all (touch i)) (all_items lanes) (and_parts _ _ keeps.numbers).0
 
         given_ones : AllByRecursion (λ i. (m : ℕ) → m < all → drawn_as (word.Pool p) m (touch i) ≡ true → gives_own (blocks_of sys p) i.body ≡ true) (all_items lanes)
         given_ones =
@@ -381,11 +382,11 @@ module _ (sys : System) where
         own o b n c from sig pars is low high =
             let there : (not (p == p) || (nat_lt 0 (suc n) && nat_le (suc n) all)) ≡ true = subst (λ x. drawn_below (word.Pool p) all (touch_of o x) ≡ true) is low in
             let limit : (nat_lt 0 (suc n) && nat_le (suc n) all) ≡ true = subst (λ u. (not u || (nat_lt 0 (suc n) && nat_le (suc n) all)) ≡ true) self there in
-            let within : nat_le (suc n) all ≡ true = (both_true (nat_lt 0 (suc n)) (nat_le (suc n) all) limit).1 in
+            let within : nat_le (suc n) all ≡ true = (and_parts (nat_lt 0 (suc n)) (nat_le (suc n) all) limit).1 in
             let less : n < all = grind (arith, nat_tests, within) in
             let next : (suc n == suc n) ≡ true = grind (arith, nat_tests) in
-            let drawn : drawn_as (word.Pool p) n (touch_of o b) ≡ true = subst (λ x. drawn_as (word.Pool p) n (touch_of o x) ≡ true) (sym is) (true_both (p == p) (suc n == suc n) self next) in
-            true_both _ _ h (subst (λ x. gives_own (blocks_of sys p) x ≡ true) is (high n less drawn))
+            let drawn : drawn_as (word.Pool p) n (touch_of o b) ≡ true = subst (λ x. drawn_as (word.Pool p) n (touch_of o x) ≡ true) (sym is) (and_from (p == p) (suc n == suc n) self next) in
+            and_from _ _ h (subst (λ x. gives_own (blocks_of sys p) x ≡ true) is (high n less drawn))
 
     abbrev OwnSet : ℕ → Item → Type 0
     OwnSet sig i = (n set : ℕ) → i.body ≡ item.Pub sig n set → AllByRecursion (λ a. IsTrue (is_object sys a)) (members set)
@@ -422,7 +423,7 @@ module _ (sys : System) where
             shown : (u : Bool) → u ≡ true
                 → cond u (nat_le n (length history) && (bits_of_set (after subscribers (take n history)).members == set)) true ≡ true
                 → (bits_of_set (after subscribers (take n history)).members == set) ≡ true
-            shown true e h = (both_true _ _ h).1
+            shown true e h = (and_parts _ _ h).1
             shown false e h = absurd (cc)
 
     pub sure : AllByRecursion (λ i. SureBody i.body) (all_items lanes)
@@ -451,7 +452,7 @@ module _ (sys : System) where
           where
             go : (u : Bool) → ((d == b) && nat_le from r) ≡ u → cond u (Some (record { sig = sig; pars = pars })) e ≡ Some ev → (e ≡ Some ev) ⊎ IsTrue (is_block sys p b)
             go true on k =
-                let test : (d == b) ≡ true = (both_true (d == b) (nat_le from r) on).0 in
+                let test : (d == b) ≡ true = (and_parts (d == b) (nat_le from r) on).0 in
                 let same : d ≡ b = grind (arith, nat_tests, test) in
                 inr (subst (λ x. IsTrue (is_block sys p x)) same (all.0 q n d from sig pars at))
             go false on k = inl k
@@ -526,12 +527,12 @@ module _ (sys : System) where
 
     pool-there : (p b : ℕ) → IsTrue (is_block sys p b) → IsTrue (is_pool sys p)
     unfolding is_block
-    pool-there p b h = (both_true (is_pool sys p) (nat_lt b (blocks_of sys p)) h).0
+    pool-there p b h = (and_parts (is_pool sys p) (nat_lt b (blocks_of sys p)) h).0
 
     same-good : (x k : Entry) → same_entry x k ≡ true → OfSystem x → OfSystem k
     same-good x k is good =
-        let front = both_true ((x.pool == k.pool) && (x.block == k.block)) (x.name == k.name) is in
-        let tests = both_true (x.pool == k.pool) (x.block == k.block) front.0 in
+        let front = and_parts ((x.pool == k.pool) && (x.block == k.block)) (x.name == k.name) is in
+        let tests = and_parts (x.pool == k.pool) (x.block == k.block) front.0 in
         let first : (x.pool == k.pool) ≡ true = tests.0 in
         let second : (x.block == k.block) ≡ true = tests.1 in
         let pool : x.pool ≡ k.pool = grind (arith, nat_tests, first) in

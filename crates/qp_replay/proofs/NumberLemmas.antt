@@ -2,7 +2,7 @@
 -- drawn once each and nothing beyond them is shown.
 use Rattle.std.proofs.Common.{◌≡◌, ◌∙◌, ℕ, zero, suc, ◌+◌, ◌≤◌, ◌<◌, ◌==◌, nat_lt, nat_le, Bool, true, false, not, ◌&&◌, ◌||◌, cond, List, [], ◌∷◌, ◌++◌, length, ⊎_elim, refl, sym, ap, subst, arith, append_assoc, length-append}
 use Rattle.std.specs.List.{filter, list_all}
-use Rattle.std.proofs.lemmas.Bool.{cases_eq, cases_lt}
+use Rattle.std.proofs.lemmas.Bool.{cases_eq, cases_lt, and_from, and_parts}
 use Rattle.std.proofs.lemmas.Bool.Decides.{nat_tests}
 use Rattle.std.proofs.lemmas.List.Elements.{filter-append}
 use Rattle.qp_model.specs.declared.words.Word.{Word}
@@ -10,13 +10,13 @@ use Rattle.qp_model.specs.declared.words.Word.TheVariants as word
 use Rattle.qp_model.specs.Record.{Item}
 use Rattle.qp_model.specs.History.{Touch, Draws, Shows, Neither, touch, drawn_as, drawn_on, same_word, total}
 use Rattle.qp_model.specs.Places.{is_next, touch_first}
-use Rattle.qp_model.proofs.ListLemmas.{both_true, filter-none, true_both}
+use Rattle.qp_model.proofs.ListLemmas.{filter-none}
 use Rattle.qp_model.proofs.KnowingLemmas.{same_word-is}
 use Rattle.qp_replay.specs.Numbers.{is_next_where, numbers_stand}
 
 pub same_word-refl : (w : Word) → same_word w w ≡ true
 same_word-refl (word.Pool p) = grind (arith, nat_tests)
-same_word-refl (word.Block p b) = let one : (p == p) ≡ true = grind (arith, nat_tests) in let two : (b == b) ≡ true = grind (arith, nat_tests) in true_both _ _ one two
+same_word-refl (word.Block p b) = let one : (p == p) ≡ true = grind (arith, nat_tests) in let two : (b == b) ≡ true = grind (arith, nat_tests) in and_from _ _ one two
 same_word-refl (word.Queue a) = grind (arith, nat_tests)
 same_word-refl (word.Signal s) = grind (arith, nat_tests)
 same_word-refl (word.Timer t) = grind (arith, nat_tests)
@@ -131,14 +131,14 @@ next-draw w all A i B m inv order is = ⊎_elim (λ e. e) (λ ne. absurd (wrong 
     wrong ne =
         let c = total w A in
         let here = same_word-refl w in
-        let above : draws_above w c (touch i) ≡ true = (both_true _ _ inv.high).0 in
-        let to : marks_to w all (touch i) ≡ true = (both_true _ _ inv.within).0 in
+        let above : draws_above w c (touch i) ≡ true = (and_parts _ _ inv.high).0 in
+        let to : marks_to w all (touch i) ≡ true = (and_parts _ _ inv.within).0 in
         let up : nat_lt c m ≡ true = rw (is, here) at above in
         let down : nat_le m all ≡ true = rw (is, here) at to in
         let less : suc c < m = grind (arith, nat_tests, up, ne) in
         let some : c < all = grind (arith, nat_tests, less, down) in
         let former : drawn w c A ≡ 0 = none-drawn w c (λ k. draws_to w c (touch k)) A (λ k h. to-not w c c (touch k) (omega arith) h) inv.low in
-        let later : drawn w c B ≡ 0 = none-drawn w c (λ k. not (touch_first (touch k) (touch i))) B (λ k h. first-not w c (touch i) (touch k) (λ v e. rw is (true_both _ _ e (is-less (suc c) m less))) h) (both_true _ _ order.sorted).0 in
+        let later : drawn w c B ≡ 0 = none-drawn w c (λ k. not (touch_first (touch k) (touch i))) B (λ k h. first-not w c (touch i) (touch k) (λ v e. rw is (and_from _ _ e (is-less (suc c) m less))) h) (and_parts _ _ order.sorted).0 in
         let mine : drawn_as w c (touch i) ≡ false = rw is (apart (same_word w w) ne) in
         let one = sym (drawn-split w c A i B) ∙ inv.once c some in
         let none : cond {A = ℕ} (drawn_as w c (touch i)) 1 0 ≡ 0 = rw mine refl in
@@ -174,8 +174,8 @@ next-show w all A i B m inv order is = ⊎_elim (λ e. e) (λ ne. ⊎_elim (λ l
         go zero e less = omega (arith, less)
         go (suc n) e less =
             let some : n < all = omega (arith, e, inv.part) in
-            let former : drawn w n A ≡ 0 = none-drawn w n (λ a. not (touch_first (touch i) (touch a))) A (λ a h. behind-not w n (touch i) (touch a) (λ v same. rw is (true_both _ _ (same-sym v w same) (is-less m (suc n) less))) h) (both_true _ _ order.behind).0 in
-            let later : drawn w n B ≡ 0 = none-drawn w n (λ k. draws_above w (total w A) (touch k)) B (λ k h. above-not w (total w A) n (touch k) (omega (arith, e)) h) (both_true _ _ inv.high).1 in
+            let former : drawn w n A ≡ 0 = none-drawn w n (λ a. not (touch_first (touch i) (touch a))) A (λ a h. behind-not w n (touch i) (touch a) (λ v same. rw is (and_from _ _ (same-sym v w same) (is-less m (suc n) less))) h) (and_parts _ _ order.behind).0 in
+            let later : drawn w n B ≡ 0 = none-drawn w n (λ k. draws_above w (total w A) (touch k)) B (λ k h. above-not w (total w A) n (touch k) (omega (arith, e)) h) (and_parts _ _ inv.high).1 in
             let one = sym (drawn-split w n A i B) ∙ inv.once n some in
             let none = mine n in
             omega (arith, one, former, later, none)
@@ -184,11 +184,11 @@ next-show w all A i B m inv order is = ⊎_elim (λ e. e) (λ ne. ⊎_elim (λ l
     too-high less =
         let c = total w A in
         let here = same_word-refl w in
-        let to : marks_to w all (touch i) ≡ true = (both_true _ _ inv.within).0 in
+        let to : marks_to w all (touch i) ≡ true = (and_parts _ _ inv.within).0 in
         let down : nat_le m all ≡ true = rw (is, here) at to in
         let some : c < all = grind (arith, nat_tests, less, down) in
         let former : drawn w c A ≡ 0 = none-drawn w c (λ k. draws_to w c (touch k)) A (λ k h. to-not w c c (touch k) (omega arith) h) inv.low in
-        let later : drawn w c B ≡ 0 = none-drawn w c (λ k. not (touch_first (touch k) (touch i))) B (λ k h. first-not w c (touch i) (touch k) (λ v e. rw is (true_both _ _ e (is-le (suc c) m less))) h) (both_true _ _ order.sorted).0 in
+        let later : drawn w c B ≡ 0 = none-drawn w c (λ k. not (touch_first (touch k) (touch i))) B (λ k h. first-not w c (touch i) (touch k) (λ v e. rw is (and_from _ _ e (is-le (suc c) m less))) h) (and_parts _ _ order.sorted).0 in
         let one = sym (drawn-split w c A i B) ∙ inv.once c some in
         let none = mine c in
         omega (arith, one, former, later, none)
@@ -205,25 +205,25 @@ total-more w A i =
     go false = refl
 
 list_all-push : {X : Type 0} (p : X → Bool) (xs : List X) (y : X) → list_all p xs ≡ true → p y ≡ true → list_all p (xs ++ y ∷ []) ≡ true
-list_all-push p [] y all here = true_both _ _ here refl
-list_all-push p (x ∷ xs) y all here = let parts = both_true _ _ all in true_both _ _ parts.0 (list_all-push p xs y parts.1 here)
+list_all-push p [] y all here = and_from _ _ here refl
+list_all-push p (x ∷ xs) y all here = let parts = and_parts _ _ all in and_from _ _ parts.0 (list_all-push p xs y parts.1 here)
 
 list_all-map : {X : Type 0} (p q : X → Bool) (xs : List X) → ((x : X) → p x ≡ true → q x ≡ true) → list_all p xs ≡ true → list_all q xs ≡ true
 list_all-map p q [] each all = refl
-list_all-map p q (x ∷ xs) each all = let parts = both_true (p x) (list_all p xs) all in true_both _ _ (each x parts.0) (list_all-map p q xs each parts.1)
+list_all-map p q (x ∷ xs) each all = let parts = and_parts (p x) (list_all p xs) all in and_from _ _ (each x parts.0) (list_all-map p q xs each parts.1)
 
 pub list_all-two : {X : Type 0} (p q r : X → Bool) (xs : List X) → ((x : X) → p x ≡ true → q x ≡ true → r x ≡ true) → list_all p xs ≡ true → list_all q xs ≡ true → list_all r xs ≡ true
 list_all-two p q r [] each all also = refl
 list_all-two p q r (x ∷ xs) each all also =
-    let one = both_true (p x) (list_all p xs) all in
-    let two = both_true (q x) (list_all q xs) also in
-    true_both _ _ (each x one.0 two.0) (list_all-two p q r xs each one.1 two.1)
+    let one = and_parts (p x) (list_all p xs) all in
+    let two = and_parts (q x) (list_all q xs) also in
+    and_from _ _ (each x one.0 two.0) (list_all-two p q r xs each one.1 two.1)
 
 pub sorted-more : (A : List Item) (i : Item) (B : List Item) → Sorted A (i ∷ B) → Sorted (A ++ i ∷ []) B
 sorted-more A i B order = record {
   behind = list_all-two (λ k. list_all (λ a. not (touch_first (touch k) (touch a))) A) (λ k. not (touch_first (touch k) (touch i))) (λ k. list_all (λ a. not (touch_first (touch k) (touch a))) (A ++ i ∷ [])) B
-      (λ k p q. list_all-push (λ a. not (touch_first (touch k) (touch a))) A i p q) (both_true _ _ order.behind).1 (both_true _ _ order.sorted).0;
-  sorted = (both_true _ _ order.sorted).1;
+      (λ k p q. list_all-push (λ a. not (touch_first (touch k) (touch a))) A i p q) (and_parts _ _ order.behind).1 (and_parts _ _ order.sorted).0;
+  sorted = (and_parts _ _ order.sorted).1;
 }
 
 to-more : (w : Word) (c d : ℕ) (t : Touch) → c ≤ d → draws_to w c t ≡ true → draws_to w d t ≡ true
@@ -239,9 +239,9 @@ raised : (w : Word) (c : ℕ) (B : List Item) → list_all (λ k. draws_above w 
 unfolding drawn
 raised w c [] all none = refl
 raised w c (k ∷ ks) all none =
-    let parts = both_true (draws_above w c (touch k)) _ all in
+    let parts = and_parts (draws_above w c (touch k)) _ all in
     let remaining = split (drawn_as w c (touch k)) refl none in
-    true_both _ _ (one (touch k) parts.0 remaining.0) (raised w c ks parts.1 remaining.1)
+    and_from _ _ (one (touch k) parts.0 remaining.0) (raised w c ks parts.1 remaining.1)
   where
     split : (b : Bool) → drawn_as w c (touch k) ≡ b → length (cond b (k ∷ filter (λ i. drawn_as w c (touch i)) ks) (filter (λ i. drawn_as w c (touch i)) ks)) ≡ 0 → (drawn_as w c (touch k) ≡ false) × (length (filter (λ i. drawn_as w c (touch i)) ks) ≡ 0)
     split true e h = absurd (omega (arith, h))
@@ -263,20 +263,20 @@ inv-draw w all A i B m inv order is =
     let next : m ≡ suc c = next-draw w all A i B m inv order is in
     let on : drawn_on w (touch i) ≡ true = rw is here in
     let more : total w (A ++ i ∷ []) ≡ suc c = total-more w A i ∙ ap (λ b. c + cond b 1 0) on ∙ plus c in
-    let to : marks_to w all (touch i) ≡ true = (both_true _ _ inv.within).0 in
+    let to : marks_to w all (touch i) ≡ true = (and_parts _ _ inv.within).0 in
     let down : nat_le m all ≡ true = rw (is, here) at to in
     let some : c < all = grind (arith, nat_tests, next, down) in
     let former : drawn w c A ≡ 0 = none-drawn w c (λ k. draws_to w c (touch k)) A (λ k h. to-not w c c (touch k) (omega arith) h) inv.low in
-    let it-is : drawn_as w c (touch i) ≡ true = rw is (true_both _ _ here (same m (suc c) next)) in
+    let it-is : drawn_as w c (touch i) ≡ true = rw is (and_from _ _ here (same m (suc c) next)) in
     let mine : cond {A = ℕ} (drawn_as w c (touch i)) 1 0 ≡ 1 = rw it-is refl in
     let one = sym (drawn-split w c A i B) ∙ inv.once c some in
     let later : drawn w c B ≡ 0 = omega (arith, one, former, mine) in
     let last : draws_to w (suc c) (touch i) ≡ true = rw (is, here) (is-le m (suc c) (omega (arith, next))) in
     record {
       once = λ n less. ap (drawn w n) (append_assoc A (i ∷ []) B) ∙ inv.once n less;
-      within = (both_true _ _ inv.within).1;
+      within = (and_parts _ _ inv.within).1;
       low = rw more (list_all-push (λ k. draws_to w (suc c) (touch k)) A i (list_all-map (λ k. draws_to w c (touch k)) (λ k. draws_to w (suc c) (touch k)) A (λ k h. to-more w c (suc c) (touch k) (omega arith) h) inv.low) last);
-      high = rw more (raised w c B (both_true _ _ inv.high).1 later);
+      high = rw more (raised w c B (and_parts _ _ inv.high).1 later);
       part = omega (arith, more, some);
     }
   where
@@ -295,9 +295,9 @@ inv-other w all A i B inv off =
     let more : total w (A ++ i ∷ []) ≡ c = total-more w A i ∙ ap (λ b. c + cond b 1 0) off ∙ plus c in
     record {
       once = λ n less. ap (drawn w n) (append_assoc A (i ∷ []) B) ∙ inv.once n less;
-      within = (both_true _ _ inv.within).1;
+      within = (and_parts _ _ inv.within).1;
       low = rw more (list_all-push (λ k. draws_to w c (touch k)) A i inv.low (free (touch i) off));
-      high = rw more (both_true _ _ inv.high).1;
+      high = rw more (and_parts _ _ inv.high).1;
       part = omega (arith, more, inv.part);
     }
   where
@@ -313,7 +313,7 @@ inv-other w all A i B inv off =
 pub all-numbered : (test : Word → Bool) (all : Word → ℕ) (A B : List Item) → ((w : Word) → test w ≡ true → Inv w (all w) A B) → Sorted A B → numbers_stand test A B ≡ true
 unfolding numbers_stand is_next
 all-numbered test all A [] inv order = refl
-all-numbered test all A (i ∷ B) inv order = true_both _ _ (here (touch i) refl) (all-numbered test all (A ++ i ∷ []) B (λ w known. there w known (touch i) refl) (sorted-more A i B order))
+all-numbered test all A (i ∷ B) inv order = and_from _ _ (here (touch i) refl) (all-numbered test all (A ++ i ∷ []) B (λ w known. there w known (touch i) refl) (sorted-more A i B order))
   where
     same : (a b : ℕ) → a ≡ b → (a == b) ≡ true
     same a b e = grind (arith, nat_tests, e)

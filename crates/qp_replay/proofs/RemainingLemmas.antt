@@ -3,6 +3,7 @@ use Rattle.std.proofs.Common.{◌≡◌, ◌≢◌, ◌∙◌, ℕ, zero, suc, �
 use Rattle.std.specs.Prelude.{IsTrue, is_some, slice_get}
 use Rattle.std.specs.List.{AllByRecursion}
 use Rattle.std.specs.Option.{option_and_then}
+use Rattle.std.proofs.lemmas.Bool.{and_from, and_parts}
 use Rattle.std.proofs.lemmas.Bool.Decides.{nat_tests}
 use Rattle.std.proofs.Math.Bool.{or-false, and-true, and-false}
 use Rattle.qp_model.specs.declared.record.Rec.{Rec}
@@ -16,11 +17,6 @@ use Rattle.qp_replay.specs.Orders.{is_record}
 use Rattle.qp_replay.specs.Marks.{has_mark}
 use Rattle.qp_replay.specs.Remaining.{Blocks, HasNext, IsRemaining, Standing, draws_mark, front, head, place, record_in, shows_mark}
 use Rattle.qp_replay.specs.declared.marks.Marks.{Marks}
-
-pub both : (a b : Bool) → (a && b) ≡ true → (a ≡ true) × (b ≡ true)
-both true true h = (refl, refl)
-both true false h = absurd (cc h)
-both false b h = absurd (cc h)
 
 -- one record more in a lane, under a test that none passes where there is no record
 pub record_in-more : (f : Option Item → Bool) → f None ≡ false → (xs : List Rec) (r : Rec) (k : ℕ)
@@ -117,7 +113,7 @@ mark-is v w x l p m n k = ap (λ b. b && same_key (x, l, p) (m, n, k)) (same-wor
 -- what draws a number with a mark, and what shows one
 pub draws-touch : (w : Word) (m : ℕ) (t : Touch) → draws_mark w m t ≡ true → (v : Word) × (t ≡ Draws v m) × (same_word v w ≡ true)
 draws-touch w m (Draws v n) h =
-    let parts = both _ _ h in
+    let parts = and_parts _ _ h in
     let same : n ≡ m = grind (arith, nat_tests, parts.1) in
     (v, ap (λ k. Draws v k) same, parts.0)
 draws-touch w m (Shows v n) h = absurd (cc h)
@@ -125,7 +121,7 @@ draws-touch w m Neither h = absurd (cc h)
 
 pub shows-touch : (w : Word) (m : ℕ) (t : Touch) → shows_mark w m t ≡ true → (v : Word) × (t ≡ Shows v m) × (same_word v w ≡ true)
 shows-touch w m (Shows v n) h =
-    let parts = both _ _ h in
+    let parts = and_parts _ _ h in
     let same : n ≡ m = grind (arith, nat_tests, parts.1) in
     (v, ap (λ k. Shows v k) same, parts.0)
 shows-touch w m (Draws v n) h = absurd (cc h)
@@ -156,7 +152,7 @@ shown-there (Some i) v m is = refl
 pub draw-blocks : (st : Standing) (draws shows : Marks) (n : ℕ) (v : Word) (m l p : ℕ) (t : Touch) → IsRemaining st.lanes st.fronts draws shows → touch_at (item_at st.lanes (head st n)) ≡ t
     → has_mark draws (key_of v) (m, l, p) ≡ true → ((u : Word) → same_word u v ≡ true → touch_first (Draws u m) t ≡ true) → Blocks st n (place l p)
 draw-blocks st draws shows n v m l p t remaining is has first =
-    let parts = both (nat_le (front st l) p) (draws_mark v m (touch_at (item_at st.lanes (place l p)))) (sym (remaining.draws_are v m l p) ∙ has) in
+    let parts = and_parts (nat_le (front st l) p) (draws_mark v m (touch_at (item_at st.lanes (place l p)))) (sym (remaining.draws_are v m l p) ∙ has) in
     let found = draws-touch v m (touch_at (item_at st.lanes (place l p))) parts.1 in
     let behind : front st l ≤ p = grind (arith, nat_tests, parts.0) in
     blocks st n (place l p) t behind is (drawn-there (item_at st.lanes (place l p)) found.0 m found.1) (rw found.1 (first found.0 found.2))
@@ -164,7 +160,7 @@ draw-blocks st draws shows n v m l p t remaining is has first =
 pub show-blocks : (st : Standing) (draws shows : Marks) (n : ℕ) (v : Word) (m l p : ℕ) (t : Touch) → IsRemaining st.lanes st.fronts draws shows → touch_at (item_at st.lanes (head st n)) ≡ t
     → has_mark shows (key_of v) (m, l, p) ≡ true → ((u : Word) → same_word u v ≡ true → touch_first (Shows u m) t ≡ true) → Blocks st n (place l p)
 show-blocks st draws shows n v m l p t remaining is has first =
-    let parts = both (nat_le (front st l) p) (shows_mark v m (touch_at (item_at st.lanes (place l p)))) (sym (remaining.shows_are v m l p) ∙ has) in
+    let parts = and_parts (nat_le (front st l) p) (shows_mark v m (touch_at (item_at st.lanes (place l p)))) (sym (remaining.shows_are v m l p) ∙ has) in
     let found = shows-touch v m (touch_at (item_at st.lanes (place l p))) parts.1 in
     let behind : front st l ≤ p = grind (arith, nat_tests, parts.0) in
     blocks st n (place l p) t behind is (shown-there (item_at st.lanes (place l p)) found.0 m found.1) (rw found.1 (first found.0 found.2))
@@ -205,12 +201,12 @@ draw-free st draws shows n v mark remaining is drawn shown x b = go (touch_at (i
   where
     go : (t : Touch) → touch_at (item_at st.lanes x) ≡ t → touch_first (touch_at (item_at st.lanes x)) (Draws v mark) ≡ true → ⊥
     go (Draws u m) e h =
-        let parts = both _ _ (ap (λ t. touch_first t (Draws v mark)) (sym e) ∙ h) in
+        let parts = and_parts _ _ (ap (λ t. touch_first t (Draws v mark)) (sym e) ∙ h) in
         let le : mark ≤ m = drawn (m, x.lane, x.at) (waits-draws st draws shows x u v m remaining b.waits.behind e parts.0) in
         let less : m < mark = grind (arith, nat_tests, parts.1) in
         omega (arith, le, less)
     go (Shows u m) e h =
-        let parts = both _ _ (ap (λ t. touch_first t (Draws v mark)) (sym e) ∙ h) in
+        let parts = and_parts _ _ (ap (λ t. touch_first t (Draws v mark)) (sym e) ∙ h) in
         let le : mark ≤ m = shown (m, x.lane, x.at) (waits-shows st draws shows x u v m remaining b.waits.behind e parts.0) in
         let less : m < mark = grind (arith, nat_tests, parts.1) in
         omega (arith, le, less)
@@ -223,7 +219,7 @@ show-free st draws shows n v mark remaining is drawn x b = go (touch_at (item_at
   where
     go : (t : Touch) → touch_at (item_at st.lanes x) ≡ t → touch_first (touch_at (item_at st.lanes x)) (Shows v mark) ≡ true → ⊥
     go (Draws u m) e h =
-        let parts = both _ _ (ap (λ t. touch_first t (Shows v mark)) (sym e) ∙ h) in
+        let parts = and_parts _ _ (ap (λ t. touch_first t (Shows v mark)) (sym e) ∙ h) in
         let less : mark < m = drawn (m, x.lane, x.at) (waits-draws st draws shows x u v m remaining b.waits.behind e parts.0) in
         let le : m ≤ mark = grind (arith, nat_tests, parts.1) in
         omega (arith, le, less)
@@ -313,9 +309,6 @@ touch-of st lanes n k t same at is = is ∙ ap (λ l. touch_at (item_at l (place
 pub match-map : {A : Type 0} (r : Option A) (P P' : Type 0) (Q Q' : A → Type 0) → MatchOption r P Q → (P → P') → ((x : A) → Q x → Q' x) → MatchOption r P' Q'
 match-map None P P' Q Q' h none some = none h
 match-map (Some x) P P' Q Q' h none some = some x h
-
-pub true-and : (a b : Bool) → a ≡ true → b ≡ true → (a && b) ≡ true
-true-and a b e f = rw (e, f) refl
 
 pub passed-mark : (fronts : List ℕ) (lane n k l p x : ℕ) (F G has new : Bool) → lane < length fronts → (n ≡ lane → k ≡ get_or fronts lane 0 → F ≡ G) → l ≡ lane → p ≡ get_or fronts lane 0 → x ≡ get_or fronts lane 0
     → has ≡ (nat_le (get_or fronts n 0) k && F) → new ≡ (has && not (G && ((l == n) && (p == k)))) → new ≡ (nat_le (get_or (set fronts lane (x + 1)) n 0) k && F)

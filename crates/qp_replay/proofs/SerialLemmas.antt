@@ -2,6 +2,7 @@
 use Rattle.std.proofs.Common.{◌≡◌, ◌∙◌, ℕ, suc, ◌+◌, ◌<◌, ◌==◌, nat_lt, nat_le, Bool, true, false, not, ◌&&◌, ◌||◌, cond, Option, Some, None, Result, Ok, Err, IfOk, List, [], ◌∷◌, ◌++◌, length, take, IsTrue, refl, sym, ap, arith}
 use Rattle.std.specs.Prelude.{slice_get, IsPermutation}
 use Rattle.std.specs.List.{filter, list_all, sum_by, cons_option}
+use Rattle.std.proofs.lemmas.Bool.{and_from, and_parts}
 use Rattle.std.proofs.lemmas.Bool.Decides.{nat_tests}
 use Rattle.std.proofs.lemmas.List.Elements.{filter_map-append}
 use Rattle.std.proofs.lemmas.List.Sorted.{sum_by-IsPermutation}
@@ -16,7 +17,7 @@ use Rattle.qp_model.specs.History.{Touch, Draws, Shows, Neither, touch, all_item
 use Rattle.qp_model.specs.Machine.{Machine, after, is_shown, shown_by}
 use Rattle.qp_model.specs.Places.{RecordPlace, in_order, is_next, item_at, items_at, must_precede, places, places_from, places_in, touch_at, touch_first}
 use Rattle.qp_model.specs.WordLaw.{Keeps, Words}
-use Rattle.qp_model.proofs.ListLemmas.{all_below_at, both_true, filter-none, true_both}
+use Rattle.qp_model.proofs.ListLemmas.{all_below_at, filter-none}
 use Rattle.qp_model.proofs.HistoryLemmas.{length-hist}
 use Rattle.qp_replay.specs.Laws.{NamedOrdersAreSerial}
 use Rattle.qp_replay.specs.Numbers.{IsNamed, has_word, is_next_where, is_on, numbers_stand}
@@ -80,7 +81,7 @@ none-fails q [] none = refl
 none-fails q (i ∷ is) none = go (q i) refl none (λ e. none-fails q is e)
   where
     go : (b : Bool) → q i ≡ b → length (cond (not b) (i ∷ filter (λ i. not (q i)) is) (filter (λ i. not (q i)) is)) ≡ 0 → (length (filter (λ i. not (q i)) is) ≡ 0 → list_all q is ≡ true) → (q i && list_all q is) ≡ true
-    go true e none remaining = true_both _ _ e (remaining none)
+    go true e none remaining = and_from _ _ e (remaining none)
     go false e none remaining = absurd (omega (arith, none))
 
 module _ (lanes : List (List Rec)) (order : List RecordPlace) (all : IsPermutation (places lanes) order) where
@@ -108,7 +109,7 @@ none-behind lanes t (y ∷ ys) each = go (item_at lanes y) (each 0 y refl) (none
   where
     go : (o : Option Item) → touch_first (touch_at o) t ≡ false → none_first t (items_at lanes ys) ≡ true → none_first t (cons_option o (items_at lanes ys)) ≡ true
     go None h remaining = remaining
-    go (Some i) h remaining = true_both _ _ (ap not h) remaining
+    go (Some i) h remaining = and_from _ _ (ap not h) remaining
 
 pub sorted-items : (lanes : List (List Rec)) (xs : List RecordPlace) → ((i j : ℕ) (x y : RecordPlace) → slice_get xs i ≡ Some x → slice_get xs j ≡ Some y → IsTrue (must_precede lanes x y) → i < j) → is_sorted (items_at lanes xs) ≡ true
 unfolding items_at
@@ -119,7 +120,7 @@ sorted-items lanes (x ∷ xs) pairs =
     go : (o : Option Item) → item_at lanes x ≡ o → is_sorted (items_at lanes xs) ≡ true → is_sorted (cons_option o (items_at lanes xs)) ≡ true
     go None is remaining = remaining
     go (Some i) is remaining =
-        true_both _ _
+        and_from _ _
         (none-behind lanes (touch i) xs (λ j y at. ap (λ o. touch_first (touch_at (item_at lanes y)) (touch_at o)) (sym is) ∙ not-first lanes y x (λ first. let less = pairs (suc j) 0 y x at refl first in omega (arith, less))))
         remaining
 
@@ -129,7 +130,7 @@ unfolding is_numbered is_shown shown_by total drawn
 numbered-inv m w lanes order all keeps =
     let items = all_items lanes in
     let T = total w items in
-    let parts = both_true _ _ keeps.numbers in
+    let parts = and_parts _ _ keeps.numbers in
     let below : list_all (λ i. drawn_below w T (touch i)) items ≡ true = parts.0 in
     let shown : list_all (λ i. shown_by m w (hist w items) i.body (touch i)) items ≡ true = keeps.shown in
     record {
@@ -151,12 +152,12 @@ numbered-inv m w lanes order all keeps =
       where
         go : (same : Bool) → (not same || (nat_lt 0 k && nat_le k (total w (all_items lanes)))) ≡ true → (not same || nat_le k (total w (all_items lanes))) ≡ true
         go false h = refl
-        go true h = (both_true _ _ h).1
+        go true h = (and_parts _ _ h).1
     to b (Shows v k) d s = go (same_word v w) s
       where
         go : (same : Bool) → cond same (nat_le k (length (hist w (all_items lanes))) && m.says (after m (take k (hist w (all_items lanes)))) b) true ≡ true → (not same || nat_le k (total w (all_items lanes))) ≡ true
         go false h = refl
-        go true h = ap (nat_le k) (sym size) ∙ (both_true _ _ h).0
+        go true h = ap (nat_le k) (sym size) ∙ (and_parts _ _ h).0
     to b Neither d s = refl
 
     above : (t : Touch) → drawn_below w (total w (all_items lanes)) t ≡ true → draws_above w 0 t ≡ true
@@ -164,7 +165,7 @@ numbered-inv m w lanes order all keeps =
       where
         go : (same : Bool) → (not same || (nat_lt 0 k && nat_le k (total w (all_items lanes)))) ≡ true → (not same || nat_lt 0 k) ≡ true
         go false h = refl
-        go true h = (both_true _ _ h).0
+        go true h = (and_parts _ _ h).0
     above (Shows v k) d = refl
     above Neither d = refl
 
@@ -189,9 +190,9 @@ all-in-order : (test : Word → Bool) (A B : List Item) → list_all (λ i. is_o
 unfolding in_order is_next numbers_stand
 all-in-order test A [] on stand = refl
 all-in-order test A (i ∷ B) on stand =
-    let here = both_true (is_on test (touch i)) (list_all (λ i. is_on test (touch i)) B) on in
-    let next = both_true (is_next_where test A (touch i)) (numbers_stand test (A ++ i ∷ []) B) stand in
-    true_both _ _ (one (touch i) here.0 next.0) (all-in-order test (A ++ i ∷ []) B here.1 next.1)
+    let here = and_parts (is_on test (touch i)) (list_all (λ i. is_on test (touch i)) B) on in
+    let next = and_parts (is_next_where test A (touch i)) (numbers_stand test (A ++ i ∷ []) B) stand in
+    and_from _ _ (one (touch i) here.0 next.0) (all-in-order test (A ++ i ∷ []) B here.1 next.1)
   where
     one : (t : Touch) → is_on test t ≡ true → is_next_where test A t ≡ true → is_next A t ≡ true
     one (Draws w m) known next = ap (λ b. not b || is_next A (Draws w m)) (sym known) ∙ next

@@ -1,6 +1,7 @@
 -- A lawful journal has few lanes, and each is short.
 use Rattle.std.proofs.Common.{◌≡◌, ◌∙◌, suc, ◌+◌, ◌^◌, ◌≤◌, ◌<◌, ◌==◌, Bool, true, false, not, ◌||◌, cond, List, [], ◌∷◌, ◌++◌, length, refl, ap, arith}
 use Rattle.std.specs.List.{AllByRecursion, count_by, list_all}
+use Rattle.std.proofs.lemmas.Bool.{and_parts}
 use Rattle.std.proofs.lemmas.Bool.Decides.{nat_tests}
 use Rattle.std.proofs.lemmas.List.Sums.{sum_by-cons}
 use Rattle.qp_model.specs.declared.record.Rec.{Rec}
@@ -14,7 +15,6 @@ use Rattle.qp_model.specs.Ends.{ends_last, is_assert, is_end, is_spent, is_spill
 use Rattle.qp_model.specs.End.{has_room}
 use Rattle.qp_model.specs.Lawful.{EndHolds, Lawful, lanes_before}
 use Rattle.qp_model.specs.Sound.{IsSound}
-use Rattle.qp_model.proofs.ListLemmas.{both_true}
 use Rattle.qp_replay.specs.Remaining.{IsSmall}
 
 pub short-more : (ls : List (List Rec)) (l : List Rec) → AllByRecursion (λ l. length l < 2 ^ 32) ls → length l < 2 ^ 32 → AllByRecursion (λ l. length l < 2 ^ 32) (ls ++ l ∷ [])
@@ -33,7 +33,7 @@ unfolding ends_last
 lane-long [] last = omega arith
 lane-long (i ∷ []) last = omega arith
 lane-long (i ∷ j ∷ is) last =
-    let parts = both_true (not (is_end i.body)) (ends_last (j ∷ is)) last in
+    let parts = and_parts (not (is_end i.body)) (ends_last (j ∷ is)) last in
     let none : is_spill i.body ≡ false = no-spill (is_assert i.body) (is_spent i.body) (is_spill i.body) parts.0 in
     let remaining = lane-long (j ∷ is) parts.1 in
     let more : count_by (λ i. not (is_spill i.body)) (i ∷ j ∷ is) ≡ 1 + count_by (λ i. not (is_spill i.body)) (j ∷ is) =
@@ -49,8 +49,8 @@ lanes-short : (lanes : List (List Rec)) → list_all (λ lane. ends_last (lane_i
 unfolding has_room
 lanes-short [] last room = tt
 lanes-short (l ∷ ls) last room =
-    let ends = both_true (ends_last (lane_items l)) (list_all (λ lane. ends_last (lane_items lane)) ls) last in
-    let has = both_true (has_room (lane_items l)) (list_all (λ lane. has_room (lane_items lane)) ls) room in
+    let ends = and_parts (ends_last (lane_items l)) (list_all (λ lane. ends_last (lane_items lane)) ls) last in
+    let has = and_parts (has_room (lane_items l)) (list_all (λ lane. has_room (lane_items lane)) ls) room in
     let long = lane-long (lane_items l) ends.0 in
     let few : count_by (λ i. not (is_spill i.body)) (lane_items l) ≤ 1000000 = grind (arith, nat_tests, has.0) in
     let same : length (lane_items l) ≡ length l = lane-length l in

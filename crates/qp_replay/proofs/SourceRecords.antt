@@ -4,6 +4,7 @@ use Rattle.std.specs.Bool.{MatchBool}
 use Rattle.std.specs.List.{AllByRecursion, Any, find}
 use Rattle.std.specs.Prelude.{slice_get, is_some, map}
 use Rattle.std.proofs.Common.{cond}
+use Rattle.std.proofs.lemmas.Bool.{and_from}
 use Rattle.std.proofs.lemmas.Bool.Decides.{nat_tests}
 use Rattle.std.proofs.lemmas.Option.{slice_get_within, slice_get-get_or}
 use Rattle.qp_base.specs.declared.event.Ev.{Ev}
@@ -24,7 +25,6 @@ use Rattle.qp_model.specs.Sound.{IsSound, IsSoundTimer}
 use Rattle.qp_model.specs.WordLaw.{is_object, is_signal, is_timer}
 use Rattle.qp_model.specs.Deferral.{KeepsDeferred}
 use Rattle.qp_model.specs.Sources.{CallFits, TicksOne, FiresInVain, Ticks, SeesEmpty, SeesEntry, Tries, priorities, Settles, StimFits, SourceEnd, AfterTry, AtAssert, InStimulus, EndsIn, SourceRuns}
-use Rattle.qp_model.proofs.ListLemmas.{true_both}
 use Rattle.qp_stim.specs.Rules as rule
 use Rattle.qp_replay.proofs.CallRecords.{Rules, Chain, chain-append, chain-front, chain-same, call-chain}
 
@@ -52,7 +52,7 @@ event-signal sys ev reserve h =
     let within = slice_get_within sys.signals (ev.sig - 4) h.def h.declared in
     let four : nat_le 4 ev.sig ≡ true = (let low = h.above_reserved in grind (arith, nat_tests, low)) in
     let few : nat_lt ev.sig (length sys.signals + 4) ≡ true = (let low = h.above_reserved in grind (arith, nat_tests, low, within)) in
-    true_both _ _ four few
+    and_from _ _ four few
 
 -- the timers from number t on, each of which posts to an object
 record Timers (sys : System) (t : ℕ) (ds : List TimerDef) : Type 0 where
@@ -103,7 +103,7 @@ module _ (sys : System) (sound : IsSound sys) (Knows : Told → Type 0) (Good : 
       let some : nat_lt 0 t ≡ true = (let low = h.some in grind (arith, nat_tests, low)) in
       let within : t ≤ length sys.timers = omega (arith, h.last) in
       let few : nat_le t (length sys.timers) ≡ true = grind (arith, nat_tests, within) in
-      true_both _ _ some few
+      and_from _ _ some few
 
   one-chain : (ring t : ℕ) (d : TimerDef) (g : List Told) → IsTrue (is_timer sys t) → IsTrue (is_object sys d.object) → TicksOne ring t d g → Chained g
   unfolding TicksOne

@@ -3,13 +3,13 @@ use Rattle.std.proofs.Common.{◌≡◌, ◌∙◌, ℕ, zero, suc, ◌<◌, Boo
 use Rattle.std.specs.Prelude.{IsTrue, is_some, slice_get}
 use Rattle.std.specs.List.{AllByRecursion, list_all}
 use Rattle.std.specs.Option.{option_and_then}
+use Rattle.std.proofs.lemmas.Bool.{and_parts}
 use Rattle.qp_model.specs.declared.record.Rec.{Rec}
 use Rattle.std.proofs.lemmas.Option.{get_or_from_slice_get}
 use Rattle.qp_model.specs.Output.{is_lane_in_range, is_record_in_range, record_item}
 use Rattle.qp_model.specs.OutputText.{line_text}
 use Rattle.qp_model.specs.Places.{RecordPlace, item_at}
 use Rattle.qp_model.specs.Record.{item_of}
-use Rattle.qp_model.proofs.ListLemmas.{both_true}
 use Rattle.qp_replay.specs.Orders.{GoesOn, is_record}
 use Rattle.qp_replay.specs.Replaying.{IsAnswer, IsReplay}
 use Rattle.qp_replay.specs.declared.places.Replayed.{Replayed}
@@ -65,15 +65,15 @@ image-at P f (x ∷ xs) (suc i) d all within = image-at P f xs i d all.1 (omega 
 
 list_all-get : {A : Type 0} (p : A → Bool) (xs : List A) (n : ℕ) (x : A) → list_all p xs ≡ true → slice_get xs n ≡ Some x → p x ≡ true
 list_all-get p [] n x all at = absurd (cc)
-list_all-get p (y ∷ ys) zero x all at = let same : y ≡ x = cc in let first : p y ≡ true = (both_true (p y) _ all).0 in rw same at first
-list_all-get p (y ∷ ys) (suc n) x all at = list_all-get p ys n x (both_true _ _ all).1 at
+list_all-get p (y ∷ ys) zero x all at = let same : y ≡ x = cc in let first : p y ≡ true = (and_parts (p y) _ all).0 in rw same at first
+list_all-get p (y ∷ ys) (suc n) x all at = list_all-get p ys n x (and_parts _ _ all).1 at
 
 -- is in range where all lanes are
 pub found-range : (form : ℕ) (lanes : List (List Rec)) (x : RecordPlace) (f : Found lanes x) → list_all (is_lane_in_range form) lanes ≡ true
     → is_record_in_range form f.found ≡ true
 found-range form lanes x f all =
     list_all-get (is_record_in_range form) f.lane x.at f.found
-    (both_true _ _ (list_all-get (is_lane_in_range form) lanes x.lane f.lane all f.lane_is)).1 f.is
+    (and_parts _ _ (list_all-get (is_lane_in_range form) lanes x.lane f.lane all f.lane_is)).1 f.is
 
 pub replay-stands : (lanes : List (List Rec)) (r : Replayed) → IsReplay lanes r → AreRecords lanes r
 replay-stands lanes (Order xs) is = answer-stands lanes (Order xs) is.0

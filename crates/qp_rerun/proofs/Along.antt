@@ -3,7 +3,7 @@ use Rattle.std.proofs.Common.{◌≡◌, ◌≢◌, ◌∙◌, ℕ, zero, suc, �
 use Rattle.std.specs.Prelude.{⊤, slice_get}
 use Rattle.std.specs.List.{AllByRecursion, list_all}
 use Rattle.std.specs.Option.{option_and_then, unwrap_or}
-use Rattle.std.proofs.lemmas.Bool.{cases_eq}
+use Rattle.std.proofs.lemmas.Bool.{cases_eq, and_parts}
 use Rattle.std.proofs.lemmas.Bool.Decides.{nat_tests}
 use Rattle.std.proofs.lemmas.List.{append-nil}
 use Rattle.std.proofs.lemmas.List.Elements.{filter-append}
@@ -23,7 +23,6 @@ use Rattle.qp_model.specs.Places.{IsSerial, RecordPlace, is_next, item_at, items
 use Rattle.qp_model.specs.WordLaw.{Keeps, is_block}
 use Rattle.qp_model.specs.Machine.{Machine, after}
 use Rattle.qp_model.specs.References.{references}
-use Rattle.qp_model.proofs.ListLemmas.{both_true}
 use Rattle.qp_replay.proofs.NumberLemmas.{same_word-refl}
 use Rattle.qp_model.specs.Sound.{IsSound}
 use Rattle.qp_model.specs.Home.{lane_at}
@@ -503,7 +502,7 @@ module _ (sys : System) (stimuli : List (List Stim)) (j : Journal) (sound : IsSo
       go (item.Took f l m e) same may =
           let take = may.2 in
           let all = world.sound.entries o take.queue.object in
-          (both_true (is_good sys e) (list_all (is_good sys) take.others) (subst (λ es. list_all (is_good sys) es ≡ true) take.front all)).0
+          (and_parts (is_good sys e) (list_all (is_good sys) take.others) (subst (λ es. list_all (is_good sys) es ≡ true) take.front all)).0
       go b same may = tt
 
   took-next : (k : ℕ) → AllByRecursion (λ i. TookGood sys i.body) (lane_items (lane_of more k))

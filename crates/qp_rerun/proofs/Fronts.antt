@@ -2,11 +2,11 @@
 use Rattle.std.proofs.Common.{◌≡◌, ◌∙◌, ℕ, zero, suc, ◌+◌, ◌<◌, ◌≤◌, ◌==◌, nat_lt, Bool, true, false, ◌&&◌, ◌||◌, List, [], ◌∷◌, ◌++◌, length, get_or, refl, sym, ap, subst, arith, Some, IsTrue}
 use Rattle.std.specs.Prelude.{slice_get, IsPermutation}
 use Rattle.std.specs.List.{AllByRecursion, sum_by}
+use Rattle.std.proofs.lemmas.Bool.{and_from, and_parts}
 use Rattle.std.proofs.lemmas.Bool.Decides.{nat_tests}
 use Rattle.std.proofs.lemmas.List.Sums.{sum_by-cons}
 use Rattle.std.proofs.lemmas.List.Sorted.{sum_by-IsPermutation}
 use Rattle.qp_model.specs.declared.record.Rec.{Rec}
-use Rattle.qp_model.proofs.ListLemmas.{both_true, true_both}
 use Rattle.qp_calls.specs.Counting.{one, times}
 use Rattle.qp_sound.proofs.Times.{times-append}
 use Rattle.qp_model.specs.Places.{IsSerial, RecordPlace, item_at, must_precede, places, places_from, places_in, touch_at, touch_first}
@@ -179,7 +179,7 @@ module _ (lanes : List (List Rec)) (order A B : List RecordPlace) (x : RecordPla
           go : (b : Bool) → below a n y ≡ b → b ≡ false
           go false e = refl
           go true e =
-              let parts = both_true (y.lane == a) (nat_lt y.at n) e in
+              let parts = and_parts (y.lane == a) (nat_lt y.at n) e in
               let same : y.lane ≡ x.lane = number-is y.lane x.lane parts.0 in
               let less : y.at < x.at = less-is y.at x.at parts.1 in
               let order = pairs (length A + suc k) (length A + 0) y x (get-behind A (x ∷ B) (suc k) y at) here (first y x same less) in
@@ -229,8 +229,8 @@ module _ (lanes : List (List Rec)) (order A B : List RecordPlace) (x : RecordPla
           let none : one (below a n x) ≡ 0 = rw (self, not_before) refl in
           let one : one (below a (suc n) x) ≡ 1 = rw (self, before_next) refl in
           let rest = tally-none (below a n) B behind-none in
-          let grows = tally-less (below a n) (below a (suc n)) A (λ y h. more y (both_true (y.lane == a) (nat_lt y.at n) h)) in
+          let grows = tally-less (below a n) (below a (suc n)) A (λ y h. more y (and_parts (y.lane == a) (nat_lt y.at n) h)) in
           omega (arith, low, high, none, one, rest, grows)
         where
           more : (y : RecordPlace) → ((y.lane == a) ≡ true) × (nat_lt y.at n ≡ true) → below a (suc n) y ≡ true
-          more y h = let less : y.at < n = less-is y.at n h.1 in true_both _ _ h.0 (grind (arith, nat_tests, less))
+          more y h = let less : y.at < n = less-is y.at n h.1 in and_from _ _ h.0 (grind (arith, nat_tests, less))

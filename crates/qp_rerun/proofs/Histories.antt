@@ -3,6 +3,7 @@ use Rattle.std.proofs.Common.{◌≡◌, ◌∙◌, ℕ, zero, suc, ◌+◌, ◌
 use Rattle.std.specs.Prelude.{slice_get, IsPermutation}
 use Rattle.std.specs.List.{All, AllByRecursion, cons_option}
 use Rattle.std.proofs.Math.Seq.{take-suc}
+use Rattle.std.proofs.lemmas.Bool.{and_from, and_parts}
 use Rattle.std.proofs.lemmas.Bool.Decides.{nat_tests}
 use Rattle.std.proofs.lemmas.List.{take_all}
 use Rattle.std.proofs.lemmas.List.Sorted.{All-permutation}
@@ -12,7 +13,7 @@ use Rattle.qp_model.specs.declared.words.Word.{Word}
 use Rattle.qp_model.specs.Record.{Item}
 use Rattle.qp_model.specs.History.{Touch, Draws, Shows, Neither, touch, drawn_on, drawn_as, all_items, hist, numbered, is_numbered, total}
 use Rattle.qp_model.specs.Places.{RecordPlace, in_order, is_next, item_at, items_at, places}
-use Rattle.qp_model.proofs.ListLemmas.{both_true, true_both, all_below_at}
+use Rattle.qp_model.proofs.ListLemmas.{all_below_at}
 use Rattle.qp_model.proofs.KnowingLemmas.{same_word-is}
 use Rattle.qp_replay.proofs.SerialLemmas.{items-places, same-count}
 use Rattle.qp_replay.proofs.NamedRecords.{all-passing}
@@ -86,7 +87,7 @@ next-draws w before (Draws v mark) on next =
     let same : mark ≡ suc (total v before) = grind (arith, nat_tests, next) in
     let here : mark ≡ suc (total w before) = same ∙ ap (λ u. suc (total u before)) is in
     let test : (mark == suc (total w before)) ≡ true = grind (arith, nat_tests, here) in
-    true_both _ _ on test
+    and_from _ _ on test
 next-draws w before (Shows v mark) on next = absurd (cc)
 next-draws w before Neither on next = absurd (cc)
 
@@ -101,7 +102,7 @@ nth-draws w before (i ∷ is) ordered n z at =
     go (drawn_on w (touch i)) refl n at (λ m later. nth-draws w (before ++ i ∷ []) is parts.1 m z later)
   where
     parts : (is_next before (touch i) ≡ true) × (in_order (before ++ i ∷ []) is ≡ true)
-    parts = both_true (is_next before (touch i)) (in_order (before ++ i ∷ []) is) ordered
+    parts = and_parts (is_next before (touch i)) (in_order (before ++ i ∷ []) is) ordered
 
     go : (b : Bool) → drawn_on w (touch i) ≡ b → (n : ℕ) → slice_get (cond b (i ∷ on_word w is) (on_word w is)) n ≡ Some z
         → ((m : ℕ) → slice_get (on_word w is) m ≡ Some z → drawn_as w (total w (before ++ i ∷ []) + m) (touch z) ≡ true)
@@ -159,7 +160,7 @@ module _ (lanes : List (List Rec)) (order : List RecordPlace) (all : IsPermutati
   numbered-take (suc n) le =
       let less : n < total w (all_items lanes) = omega (arith, le, count) in
       let within : n < length line = omega (arith, le) in
-      let test = all_below_at (total w (all_items lanes)) (λ n. length (filter (λ i. drawn_as w n (touch i)) (all_items lanes)) == 1) (both_true _ _ numbers).1 n less in
+      let test = all_below_at (total w (all_items lanes)) (λ n. length (filter (λ i. drawn_as w n (touch i)) (all_items lanes)) == 1) (and_parts _ _ numbers).1 n less in
       let size : length (filter (λ i. drawn_as w n (touch i)) (all_items lanes)) ≡ 1 = grind (arith, nat_tests, test) in
       let found = single (filter (λ i. drawn_as w n (touch i)) (all_items lanes)) size in
       let last : get_or line n found.0 ≡ found.0 = same-record n found.0 found.0 found.1 within in

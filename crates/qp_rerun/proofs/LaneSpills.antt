@@ -4,6 +4,7 @@ use Rattle.std.specs.Bool.{MatchBool}
 use Rattle.std.specs.List.{AllByRecursion, count_by}
 use Rattle.std.specs.Option.{unwrap_or}
 use Rattle.std.specs.Prelude.{⊤, slice_get}
+use Rattle.std.proofs.lemmas.Bool.{and_parts}
 use Rattle.std.proofs.lemmas.Bool.Decides.{nat_tests}
 use Rattle.std.proofs.lemmas.List.{append_assoc}
 use Rattle.qp_model.specs.declared.record.Rec.{Rec}
@@ -22,7 +23,6 @@ use Rattle.qp_model.specs.HomeLane.{is_at_home, are_at_home, taken_by, is_home_l
 use Rattle.qp_model.specs.KernelLane.{Reading, lane_read}
 use Rattle.qp_model.specs.Sound.{IsSound}
 use Rattle.qp_model.specs.Lawful.{Lawful, is_settle, ObjectHolds, KernelHolds, SourceLanes, lanes_before, reading_holds, setting_of}
-use Rattle.qp_model.proofs.ListLemmas.{both_true}
 use Rattle.qp_replay.proofs.LaneRecords.{home-at}
 
 -- no `spill` stands before a record of the lane
@@ -32,13 +32,13 @@ SpillLast lane = (xs : List Item) (y : Item) (ys : List Item) → lane ≡ xs ++
 cut-last : (end : ℕ) (xs : List Item) (y : Item) (ys : List Item) → spills_cut end (xs ++ y ∷ ys) ≡ true → spills_in xs ≡ false
 unfolding spills_cut
 cut-last end [] y ys h = refl
-cut-last end (x ∷ []) y ys h = none (is_spill x.body) (both_true (not (is_spill x.body)) (spills_cut end (y ∷ ys)) h).0
+cut-last end (x ∷ []) y ys h = none (is_spill x.body) (and_parts (not (is_spill x.body)) (spills_cut end (y ∷ ys)) h).0
   where
     none : (b : Bool) → not b ≡ true → (b || false) ≡ false
     none false h = refl
     none true h = absurd (cc)
 cut-last end (x ∷ z ∷ xs) y ys h =
-    let parts = both_true (not (is_spill x.body)) (spills_cut end (z ∷ (xs ++ y ∷ ys))) h in
+    let parts = and_parts (not (is_spill x.body)) (spills_cut end (z ∷ (xs ++ y ∷ ys))) h in
     none (is_spill x.body) parts.0 (cut-last end (z ∷ xs) y ys parts.1)
   where
     none : (b : Bool) → not b ≡ true → spills_in (z ∷ xs) ≡ false → (b || spills_in (z ∷ xs)) ≡ false
@@ -49,7 +49,7 @@ home-last : (o budget : ℕ) (cuts : Bool) (n : ℕ) (xs : List Item) (y : Item)
 unfolding are_at_home
 home-last o budget cuts n [] y ys h = refl
 home-last o budget cuts n (x ∷ xs) y ys h =
-    let parts = both_true (is_at_home o (n == budget) (cuts && (length (xs ++ y ∷ ys) == 0)) x.of x.body) (are_at_home o budget cuts (taken_by n x.body) (xs ++ y ∷ ys)) h in
+    let parts = and_parts (is_at_home o (n == budget) (cuts && (length (xs ++ y ∷ ys) == 0)) x.of x.body) (are_at_home o budget cuts (taken_by n x.body) (xs ++ y ∷ ys)) h in
     let long = length-append xs (y ∷ ys) in
     let more : (length (xs ++ y ∷ ys) == 0) ≡ false = not-none (length (xs ++ y ∷ ys)) (omega (arith, long)) in
     one x.body (length (xs ++ y ∷ ys) == 0) more parts.0 (home-last o budget cuts (taken_by n x.body) xs y ys parts.1)
@@ -81,7 +81,7 @@ module _ (sys : System) (stimuli : List (List Stim)) (j : Journal) (sound : IsSo
 
       read : (end : Option Reading) → IsTrue (reading_holds j (lane_items (lane_at j 0)) (count_by (λ i. is_settle i.body) (all_items j.lanes)) end) → spills_cut j.end (lane_items (lane_at j 0)) ≡ true
       read None h = absurd (cc)
-      read (Some k) h = (both_true _ _ (both_true _ _ h).0).1
+      read (Some k) h = (and_parts _ _ (and_parts _ _ h).0).1
 
   -- a home lane
   home-lane : (d : ObjectDef) (n : ℕ) → (j.kernel == port) ≡ true → home_of sys j d.priority ≡ n → ObjectHolds sys j d → SpillLast (lane_items (lane_at j n))
@@ -89,7 +89,7 @@ module _ (sys : System) (stimuli : List (List Stim)) (j : Journal) (sound : IsSo
   home-lane d n is_port home holds xs y ys is =
       let asked : (not (j.kernel == port) || is_home_lane d.priority j.budget (may_cut j.end) (lane_items (lane_at j (home_of sys j d.priority)))) ≡ true = holds.shapes.home in
       let here : is_home_lane d.priority j.budget (may_cut j.end) (lane_items (lane_at j (home_of sys j d.priority))) ≡ true = there (j.kernel == port) is_port asked in
-      let all = (both_true _ _ (both_true _ _ here).0).0 in
+      let all = (and_parts _ _ (and_parts _ _ here).0).0 in
       home-last d.priority j.budget (may_cut j.end) 0 xs y ys
       (subst (λ l. are_at_home d.priority j.budget (may_cut j.end) 0 l ≡ true) (ap (λ m. lane_items (lane_at j m)) home ∙ is) all)
     where

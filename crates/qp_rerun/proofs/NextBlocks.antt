@@ -1,7 +1,7 @@
 -- The next record of a serial order, where it gives out a block or gives one back: its life begins and ends where it says.
 use Rattle.std.proofs.Common.{◌≡◌, ◌∙◌, ℕ, zero, suc, ◌<◌, ◌≤◌, ◌==◌, nat_lt, nat_le, Bool, true, false, not, ◌&&◌, ◌||◌, cond, List, [], ◌∷◌, ◌++◌, length, take, refl, sym, ap, subst, arith, Option, Some, None, IsTrue}
 use Rattle.std.specs.List.{AllByRecursion, cons_option}
-use Rattle.std.proofs.lemmas.Bool.{not-true}
+use Rattle.std.proofs.lemmas.Bool.{not-true, and_parts}
 use Rattle.std.proofs.lemmas.Bool.Decides.{nat_tests}
 use Rattle.std.proofs.lemmas.List.{take_all}
 use Rattle.std.proofs.lemmas.List.Elements.{filter_map-append}
@@ -23,7 +23,7 @@ use Rattle.qp_model.specs.Lives.{HasLives, Life, edge_of, edges, edges_empty, is
 use Rattle.qp_model.specs.Sites.{blocks_of}
 use Rattle.qp_model.specs.WordLaw.{Words, is_block, is_pool}
 use Rattle.qp_model.specs.Places.{IsSerial, RecordPlace, item_at, items_at}
-use Rattle.qp_model.proofs.ListLemmas.{both_true, all_below_at, list_all-has}
+use Rattle.qp_model.proofs.ListLemmas.{all_below_at, list_all-has}
 use Rattle.qp_model.proofs.MachineLemmas.{count-after, is_allowed-at, is_allowed-front, is_allowed-rest}
 use Rattle.qp_model.proofs.WordLawLemmas.{references-counts}
 use Rattle.qp_calls.specs.Counting.{count_of}
@@ -59,7 +59,7 @@ pub edges-ascend : (b : ℕ) (s : Life) (pool : List Item) → allowed_from (lif
 unfolding allowed_from after_from edges
 edges-ascend b s [] h = (omega arith, tt)
 edges-ascend b s (i ∷ is) h =
-    let parts = both_true (life_may b s i.body) (allowed_from (life_of b) (life_next b s i.body) is) h in
+    let parts = and_parts (life_may b s i.body) (allowed_from (life_of b) (life_next b s i.body) is) h in
     go i.body parts.0 parts.1 (λ t k. edges-ascend b t is k)
   where
     step : (same out : Bool) (edge : ℕ) → (same ≡ true → s.edge ≤ edge) → allowed_from (life_of b) (cond same (record { out = out; edge = edge }) s) is ≡ true → Later b is
@@ -74,11 +74,11 @@ edges-ascend b s (i ∷ is) h =
     step false out edge up k later = later s k
 
     given : (same : Bool) (from : ℕ) → (not same || (not s.out && (from == s.edge))) ≡ true → same ≡ true → s.edge ≤ from
-    given true from h e = let is_edge : from ≡ s.edge = number-is from s.edge (both_true (not s.out) (from == s.edge) h).1 in omega (arith, is_edge)
+    given true from h e = let is_edge : from ≡ s.edge = number-is from s.edge (and_parts (not s.out) (from == s.edge) h).1 in omega (arith, is_edge)
     given false from h e = absurd (cc)
 
     back : (same : Bool) (to : ℕ) → (not same || (s.out && nat_lt s.edge to)) ≡ true → same ≡ true → s.edge ≤ to
-    back true to h e = let test : nat_lt s.edge to ≡ true = (both_true s.out (nat_lt s.edge to) h).1 in grind (arith, nat_tests, test)
+    back true to h e = let test : nat_lt s.edge to ≡ true = (and_parts s.out (nat_lt s.edge to) h).1 in grind (arith, nat_tests, test)
     back false to h e = absurd (cc)
 
     go : (c : Body) → life_may b s c ≡ true → allowed_from (life_of b) (life_next b s c) is ≡ true → Later b is → Result b s is (life_next b s c) (edge_of b c)
@@ -135,7 +135,7 @@ module _ (b : ℕ) (pool more block rest : List Item) (i : Item) (law : HasLives
       let here : (not (b == b) || (not state.out && (from == state.edge))) ≡ true = subst (λ c. life_may b state c ≡ true) is may in
       let self : (b == b) ≡ true = grind (arith, nat_tests) in
       let both : (not state.out && (from == state.edge)) ≡ true = subst (λ u. (not u || (not state.out && (from == state.edge))) ≡ true) self here in
-      let parts = both_true (not state.out) (from == state.edge) both in
+      let parts = and_parts (not state.out) (from == state.edge) both in
       number-is from state.edge parts.1 ∙ at-edge (not-true state.out parts.0)
 
   edge-low : AllByRecursion (Between 0 state.edge) (edges b pool)
@@ -153,7 +153,7 @@ module _ (b : ℕ) (pool more block rest : List Item) (i : Item) (law : HasLives
         let here : (not (b == b) || (state.out && nat_lt state.edge to)) ≡ true = subst (λ c. life_may b state c ≡ true) is may in
         let self : (b == b) ≡ true = grind (arith, nat_tests) in
         let both : (state.out && nat_lt state.edge to) ≡ true = subst (λ u. (not u || (state.out && nat_lt state.edge to)) ≡ true) self here in
-        let parts = both_true state.out (nat_lt state.edge to) both in
+        let parts = and_parts state.out (nat_lt state.edge to) both in
         (parts.0, lt-true state.edge to parts.1)
 
     edge-here : edge_of b i.body ≡ Some to
@@ -174,7 +174,7 @@ module _ (b : ℕ) (pool more block rest : List Item) (i : Item) (law : HasLives
     edges-high = lower (edges b more) (edges-ascend b (life_next b state i.body) more behind).1
       where
         behind : allowed_from (life_of b) (life_next b state i.body) more ≡ true
-        behind = (both_true (life_may b state i.body) (allowed_from (life_of b) (life_next b state i.body) more) (is_allowed-rest (life_of b) pool (i ∷ more) law.alternate)).1
+        behind = (and_parts (life_may b state i.body) (allowed_from (life_of b) (life_next b state i.body) more) (is_allowed-rest (life_of b) pool (i ∷ more) law.alternate)).1
 
         lower : (xs : List ℕ) → AllByRecursion (Between (life_next b state i.body).edge (after_from (life_of b) (life_next b state i.body) more).edge) xs → AllByRecursion (λ m. to ≤ m) xs
         lower [] h = tt
@@ -194,7 +194,7 @@ module _ (b : ℕ) (pool more block rest : List Item) (i : Item) (law : HasLives
         let self : (to == to) ≡ true = grind (arith, nat_tests) in
         let there : has (edges b (pool ++ i ∷ more)) to ≡ true = has-edge to ∙ or-right (has (edges b pool) to) (has (to ∷ edges b more) to) (ap (λ u. u || has (edges b more) to) self) in
         let test = list_all-has (λ m. nat_le m (length (block ++ rest)) && is_empty (refs_at m (block ++ rest))) (edges b (pool ++ i ∷ more)) to law.empty there in
-        let parts = both_true (nat_le to (length (block ++ rest))) (is_empty (refs_at to (block ++ rest))) test in
+        let parts = and_parts (nat_le to (length (block ++ rest))) (is_empty (refs_at to (block ++ rest))) test in
         (le-true to (length (block ++ rest)) parts.0, parts.1)
 
     not-low : (m : ℕ) → state.edge < m → has (edges b pool) m ≡ true → ⊥
@@ -282,7 +282,7 @@ module _ (sys : System) (lanes : List (List Rec)) (order A B : List RecordPlace)
       let may : ((n == (pool_in sys W p).count) && is_first b (pool_in sys W p).free) ≡ true =
       subst (λ k. (free_blocks (blocks_of sys p)).may (pool_in sys W p) k ≡ true) is
       (pool-drawn sys lanes order A B x i serial split at words W O hists world (hands_in sys W O) H few p (suc n) pool draws) in
-      let all = both_true (n == (pool_in sys W p).count) (is_first b (pool_in sys W p).free) may in
+      let all = and_parts (n == (pool_in sys W p).count) (is_first b (pool_in sys W p).free) may in
       let from_is = given-there b (hist (word.Pool p) (all_items W)) (on_word (word.Pool p) (items_at lanes B)) (hist (word.Block p b) (all_items W)) (on_word (word.Block p b) (i ∷ items_at lanes B)) i
       (law-there p b (suc n) h pool draws) (world.sound.words.lives p b h) p n from sig pars (ap (λ k. k.body) is) in
       record { block = h; number = number-is n (pool_in sys W p).count all.0; lowest = all.1; since = from_is ∙ sym (block-count p b h); event = event }
@@ -301,7 +301,7 @@ module _ (sys : System) (lanes : List (List Rec)) (order A B : List RecordPlace)
       record { block = h; number = number-is n (pool_in sys W p).count first; until = until ∙ sym (block-count p b h); token = there }
     where
       back-first : (p n b to : ℕ) → (free_blocks (blocks_of sys p)).may (pool_in sys W p) (record { of = o; body = item.Back p n b to }) ≡ true → (n == (pool_in sys W p).count) ≡ true
-      back-first p n b to h = (both_true (n == (pool_in sys W p).count) (nat_lt b (blocks_of sys p)) (both_true ((n == (pool_in sys W p).count) && nat_lt b (blocks_of sys p)) _ h).0).0
+      back-first p n b to h = (and_parts (n == (pool_in sys W p).count) (nat_lt b (blocks_of sys p)) (and_parts ((n == (pool_in sys W p).count) && nat_lt b (blocks_of sys p)) _ h).0).0
 
       whole : (p b : ℕ) → (refs_in W p b).names ≡ [] → refs_at (length (hist (word.Block p b) (all_items W))) (hist (word.Block p b) (all_items W)) ≡ []
       whole p b none = ap (λ h. (after references h).names) (take_all (length (hist (word.Block p b) (all_items W))) (hist (word.Block p b) (all_items W)) (omega arith)) ∙ none

@@ -1,5 +1,6 @@
 -- The next record of a serial order of a lawful journal may come next in the world of the records before it.
 use Rattle.std.proofs.Common.{◌≡◌, ◌∙◌, ℕ, zero, suc, ◌+◌, ◌≤◌, ◌==◌, Bool, true, false, ◌||◌, List, ◌∷◌, ◌++◌, refl, sym, ap, subst, arith, ◌⊎◌, inl, inr, Some, IsTrue}
+use Rattle.std.proofs.lemmas.Bool.{and_parts}
 use Rattle.qp_model.specs.declared.record.Rec.{Rec}
 use Rattle.qp_model.specs.declared.words.Word.{Word}
 use Rattle.qp_model.specs.declared.systems.System.{System}
@@ -11,7 +12,6 @@ use Rattle.qp_model.specs.Told.{Known, Left}
 use Rattle.qp_model.specs.History.{all_items, hist}
 use Rattle.qp_model.specs.WordLaw.{Words, is_block, is_pool}
 use Rattle.qp_model.specs.Places.{IsSerial, RecordPlace, item_at, items_at}
-use Rattle.qp_model.proofs.ListLemmas.{both_true}
 use Rattle.qp_calls.specs.Counting.{count_of, times}
 use Rattle.qp_calls.specs.Tokens.{Token, Held, Loose, hands_of, stands, take_out, token_of, with_left, without_entry}
 use Rattle.qp_calls.proofs.CountLemmas.{count-with, count-without, is_in}
@@ -24,7 +24,7 @@ use Rattle.qp_rerun.proofs.TokenCalls.{Uses, count-stands}
 
 pool-of : (sys : System) (p b : ℕ) → IsTrue (is_block sys p b) → IsTrue (is_pool sys p)
 unfolding is_block
-pool-of sys p b h = (both_true (is_pool sys p) _ h).0
+pool-of sys p b h = (and_parts (is_pool sys p) _ h).0
 
 module _ (sys : System) (lanes : List (List Rec)) (order A B : List RecordPlace) (x : RecordPlace) (i : Item) (serial : IsSerial lanes order) (split : order ≡ A ++ x ∷ B)
     (at : item_at lanes x ≡ Some i) (words : Words sys lanes) (W : List (List Rec)) (O : List ℕ) (hists : (w : Word) → hist w (all_items W) ≡ on_word w (items_at lanes A)) (world : SoundWorld sys W O)

@@ -1,7 +1,7 @@
 -- The next record of a serial order: its words are then as it says.
 use Rattle.std.proofs.Common.{◌≡◌, ◌∙◌, ℕ, zero, suc, ◌+◌, ◌-◌, ◌<◌, ◌≤◌, ◌==◌, nat_lt, nat_le, Bool, true, false, not, ◌&&◌, ◌||◌, cond, List, [], ◌∷◌, ◌++◌, length, take, filter, refl, append-nil, append_assoc, sym, ap, subst, arith, ◌⊎◌, inl, inr, Some, IsTrue}
 use Rattle.std.specs.List.{cons_option, list_all}
-use Rattle.std.proofs.lemmas.Bool.{not-true}
+use Rattle.std.proofs.lemmas.Bool.{not-true, and_parts}
 use Rattle.std.proofs.lemmas.Bool.Decides.{nat_tests}
 use Rattle.std.proofs.lemmas.List.Elements.{filter-append, filter_map-append}
 use Rattle.qp_chart.specs.StateTree.{has}
@@ -23,7 +23,6 @@ use Rattle.qp_model.specs.TimeEvents.{time_event}
 use Rattle.qp_model.specs.Sites.{blocks_of, ring_of}
 use Rattle.qp_model.specs.WordLaw.{Keeps, Words, is_block, is_object, is_pool, is_signal, is_timer}
 use Rattle.qp_model.specs.Places.{IsSerial, RecordPlace, in_order, is_next, item_at, items_at}
-use Rattle.qp_model.proofs.ListLemmas.{both_true}
 use Rattle.qp_model.proofs.MachineLemmas.{count-after, is_allowed-at}
 use Rattle.qp_model.proofs.WordLawLemmas.{free_blocks-counts, subscribers-counts, time_event-counts}
 use Rattle.qp_calls.specs.Tokens.{Token, Held, Loose, stands, token_of}
@@ -53,8 +52,8 @@ items-push lanes A x i at = filter_map-append (λ y. item_at lanes y) A (x ∷ [
 -- the next record has the next number of its word
 next-at : (before xs ys : List Item) (i : Item) → in_order before (xs ++ i ∷ ys) ≡ true → is_next (before ++ xs) (touch i) ≡ true
 unfolding in_order
-next-at before [] ys i h = subst (λ b. is_next b (touch i) ≡ true) (sym (append-nil before)) (both_true _ _ h).0
-next-at before (x ∷ xs) ys i h = subst (λ b. is_next b (touch i) ≡ true) (append_assoc before (x ∷ []) xs) (next-at (before ++ x ∷ []) xs ys i (both_true _ _ h).1)
+next-at before [] ys i h = subst (λ b. is_next b (touch i) ≡ true) (sym (append-nil before)) (and_parts _ _ h).0
+next-at before (x ∷ xs) ys i h = subst (λ b. is_next b (touch i) ≡ true) (append_assoc before (x ∷ []) xs) (next-at (before ++ x ∷ []) xs ys i (and_parts _ _ h).1)
 
 pub number-is : (x y : ℕ) → (x == y) ≡ true → x ≡ y
 number-is x y h = grind (arith, nat_tests, h)
@@ -99,8 +98,8 @@ module _ (sys : System) (lanes : List (List Rec)) (order A B : List RecordPlace)
     says : m.says (after m (hist w (all_items W))) i.body ≡ true
 
   all-at : {X : Type 0} (p : X → Bool) (xs ys : List X) (y : X) → list_all p (xs ++ y ∷ ys) ≡ true → p y ≡ true
-  all-at p [] ys y h = (both_true _ _ h).0
-  all-at p (z ∷ xs) ys y h = all-at p xs ys y (both_true _ _ h).1
+  all-at p [] ys y h = (and_parts _ _ h).0
+  all-at p (z ∷ xs) ys y h = all-at p xs ys y (and_parts _ _ h).1
 
   shown : {S : Type 0} (m : Machine S) (w : Word) (n : ℕ) → Keeps S m w lanes → touch i ≡ Shows w n → Says m w n
   unfolding is_shown shown_by is_next
@@ -120,7 +119,7 @@ module _ (sys : System) (lanes : List (List Rec)) (order A B : List RecordPlace)
       record {
         number = number;
         says = subst (λ h. m.says (after m h) i.body ≡ true) front
-            (both_true (nat_le n (length (hist w (all_items lanes)))) (m.says (after m (take n (hist w (all_items lanes)))) i.body) both).1;
+            (and_parts (nat_le n (length (hist w (all_items lanes)))) (m.says (after m (take n (hist w (all_items lanes)))) i.body) both).1;
       }
 
   -- What the world's words hold then.
@@ -175,8 +174,8 @@ module _ (sys : System) (lanes : List (List Rec)) (order A B : List RecordPlace)
 
     counts-is : (a f l m : ℕ) → IsTrue (is_object sys a) → (((line_in sys W a).f == f) && ((line_in sys W a).l == l) && ((line_in sys W a).m == m)) ≡ true → IsQueue sys W a f l m
     counts-is a f l m h test =
-        let two = both_true (((line_in sys W a).f == f) && ((line_in sys W a).l == l)) ((line_in sys W a).m == m) test in
-        let one = both_true ((line_in sys W a).f == f) ((line_in sys W a).l == l) two.0 in
+        let two = and_parts (((line_in sys W a).f == f) && ((line_in sys W a).l == l)) ((line_in sys W a).m == m) test in
+        let one = and_parts ((line_in sys W a).f == f) ((line_in sys W a).l == l) two.0 in
         record { object = h; firsts = sym (number-is (line_in sys W a).f f one.0); lasts = sym (number-is (line_in sys W a).l l one.1); takes = sym (number-is (line_in sys W a).m m two.1) }
 
     owned-is : (e : Entry) → IsTrue (is_good sys e) → IsTrue (is_in e H) → IsOwned sys G e
@@ -207,9 +206,9 @@ module _ (sys : System) (lanes : List (List Rec)) (order A B : List RecordPlace)
       unfolding May
       took-may f l m e is h =
           let may : (((f == s.f) && (l == s.l) && (m == s.m + 1)) && is_front e s.entries) ≡ true = subst (λ k. (line (ring_of sys o)).may (line_in sys W o) k ≡ true) is (line-drawn o (f + l + m) h (touches (item.Took f l m e) _ is refl)) in
-          let all = both_true ((f == s.f) && (l == s.l) && (m == s.m + 1)) (is_front e s.entries) may in
-          let two = both_true ((f == s.f) && (l == s.l)) (m == s.m + 1) all.0 in
-          let one = both_true (f == s.f) (l == s.l) two.0 in (
+          let all = and_parts ((f == s.f) && (l == s.l) && (m == s.m + 1)) (is_front e s.entries) may in
+          let two = and_parts ((f == s.f) && (l == s.l)) (m == s.m + 1) all.0 in
+          let one = and_parts (f == s.f) (l == s.l) two.0 in (
             s.m,
             number-is m (s.m + 1) two.1,
             record {
@@ -231,9 +230,9 @@ module _ (sys : System) (lanes : List (List Rec)) (order A B : List RecordPlace)
       post-may a f l m e is h good inside =
           let may : (((f == s.f + 1) && (l == s.l) && (m == s.m)) && nat_le (length s.entries) (ring_of sys a)) ≡ true =
           subst (λ k. (line (ring_of sys a)).may (line_in sys W a) k ≡ true) is (line-drawn a (f + l + m) h (touches (item.Post a f l m e) _ is refl)) in
-          let all = both_true ((f == s.f + 1) && (l == s.l) && (m == s.m)) (nat_le (length s.entries) (ring_of sys a)) may in
-          let two = both_true ((f == s.f + 1) && (l == s.l)) (m == s.m) all.0 in
-          let one = both_true (f == s.f + 1) (l == s.l) two.0 in (
+          let all = and_parts ((f == s.f + 1) && (l == s.l) && (m == s.m)) (nat_le (length s.entries) (ring_of sys a)) may in
+          let two = and_parts ((f == s.f + 1) && (l == s.l)) (m == s.m) all.0 in
+          let one = and_parts (f == s.f + 1) (l == s.l) two.0 in (
             s.f,
             number-is f (s.f + 1) one.0,
             record {
@@ -251,9 +250,9 @@ module _ (sys : System) (lanes : List (List Rec)) (order A B : List RecordPlace)
       lifo-may f l m e is h good inside =
           let may : (((f == s.f) && (l == s.l + 1) && (m == s.m)) && nat_le (length s.entries) (ring_of sys o)) ≡ true =
           subst (λ k. (line (ring_of sys o)).may (line_in sys W o) k ≡ true) is (line-drawn o (f + l + m) h (touches (item.Lifo f l m e) _ is refl)) in
-          let all = both_true ((f == s.f) && (l == s.l + 1) && (m == s.m)) (nat_le (length s.entries) (ring_of sys o)) may in
-          let two = both_true ((f == s.f) && (l == s.l + 1)) (m == s.m) all.0 in
-          let one = both_true (f == s.f) (l == s.l + 1) two.0 in (
+          let all = and_parts ((f == s.f) && (l == s.l + 1) && (m == s.m)) (nat_le (length s.entries) (ring_of sys o)) may in
+          let two = and_parts ((f == s.f) && (l == s.l + 1)) (m == s.m) all.0 in
+          let one = and_parts (f == s.f) (l == s.l + 1) two.0 in (
             s.l,
             number-is l (s.l + 1) one.1,
             record {
@@ -276,7 +275,7 @@ module _ (sys : System) (lanes : List (List Rec)) (order A B : List RecordPlace)
       nil-may f l m is h =
           let says : ((((s.f == f) && (s.l == l)) && (s.m == m)) && (f + l == m)) ≡ true =
           subst (λ b. (line (ring_of sys o)).says (line_in sys W o) b ≡ true) (ap (λ k. k.body) is) (line-shown o (f + l + m) h (touches (item.Nil f l m) _ is refl)) in
-          let all = both_true (((s.f == f) && (s.l == l)) && (s.m == m)) (f + l == m) says in
+          let all = and_parts (((s.f == f) && (s.l == l)) && (s.m == m)) (f + l == m) says in
           (counts-is o f l m h all.0, number-is (f + l) m all.1)
         where
           s : Line
@@ -287,7 +286,7 @@ module _ (sys : System) (lanes : List (List Rec)) (order A B : List RecordPlace)
       full-may a f l m margin is h =
           let says : ((((s.f == f) && (s.l == l)) && (s.m == m)) && nat_le (ring_of sys a + 1 - (f + l - m)) margin) ≡ true =
           subst (λ b. (line (ring_of sys a)).says (line_in sys W a) b ≡ true) (ap (λ k. k.body) is) (line-shown a (f + l + m) h (touches (item.Full a f l m margin) _ is refl)) in
-          let all = both_true (((s.f == f) && (s.l == l)) && (s.m == m)) (nat_le (ring_of sys a + 1 - (f + l - m)) margin) says in
+          let all = and_parts (((s.f == f) && (s.l == l)) && (s.m == m)) (nat_le (ring_of sys a + 1 - (f + l - m)) margin) says in
           (counts-is a f l m h all.0, le-is (ring_of sys a + 1 - (f + l - m)) margin all.1)
         where
           s : Line
@@ -298,7 +297,7 @@ module _ (sys : System) (lanes : List (List Rec)) (order A B : List RecordPlace)
       no_entry-may a f l m is h =
           let says : ((((s.f == f) && (s.l == l)) && (s.m == m)) && (f + l - m == ring_of sys a + 1)) ≡ true =
           subst (λ b. (line (ring_of sys a)).says (line_in sys W a) b ≡ true) (ap (λ k. k.body) is) (line-shown a (f + l + m) h (touches (item.NoEntry a f l m) _ is refl)) in
-          let all = both_true (((s.f == f) && (s.l == l)) && (s.m == m)) (f + l - m == ring_of sys a + 1) says in
+          let all = and_parts (((s.f == f) && (s.l == l)) && (s.m == m)) (f + l - m == ring_of sys a + 1) says in
           (counts-is a f l m h all.0, number-is (f + l - m) (ring_of sys a + 1) all.1)
         where
           s : Line
@@ -309,7 +308,7 @@ module _ (sys : System) (lanes : List (List Rec)) (order A B : List RecordPlace)
       no_lifo-may a f l m is h =
           let says : ((((s.f == f) && (s.l == l)) && (s.m == m)) && (f + l - m == ring_of sys a + 1)) ≡ true =
           subst (λ b. (line (ring_of sys a)).says (line_in sys W a) b ≡ true) (ap (λ k. k.body) is) (line-shown a (f + l + m) h (touches (item.NoLifo a f l m) _ is refl)) in
-          let all = both_true (((s.f == f) && (s.l == l)) && (s.m == m)) (f + l - m == ring_of sys a + 1) says in
+          let all = and_parts (((s.f == f) && (s.l == l)) && (s.m == m)) (f + l - m == ring_of sys a + 1) says in
           (counts-is a f l m h all.0, number-is (f + l - m) (ring_of sys a + 1) all.1)
         where
           s : Line
@@ -320,7 +319,7 @@ module _ (sys : System) (lanes : List (List Rec)) (order A B : List RecordPlace)
       short-may p n free reserve is h =
           let s = pool-shown p n h (touches (item.Short p n free reserve) _ is refl) in
           let says : ((length (pool_in sys W p).free == free) && nat_le free reserve) ≡ true = subst (λ b. (free_blocks (blocks_of sys p)).says (pool_in sys W p) b ≡ true) (ap (λ k. k.body) is) s.1 in
-          let all = both_true (length (pool_in sys W p).free == free) (nat_le free reserve) says in
+          let all = and_parts (length (pool_in sys W p).free == free) (nat_le free reserve) says in
           (record { pool = h; number = s.0; free_blocks = sym (number-is (length (pool_in sys W p).free) free all.0) }, le-is free reserve all.1)
 
       pub no_block-may : (p n free : ℕ) → Is (item.NoBlock p n free) → IsTrue (is_pool sys p) → May sys W G o (item.NoBlock p n free)
@@ -328,7 +327,7 @@ module _ (sys : System) (lanes : List (List Rec)) (order A B : List RecordPlace)
       no_block-may p n free is h =
           let s = pool-shown p n h (touches (item.NoBlock p n free) _ is refl) in
           let says : ((length (pool_in sys W p).free == free) && (free == 0)) ≡ true = subst (λ b. (free_blocks (blocks_of sys p)).says (pool_in sys W p) b ≡ true) (ap (λ k. k.body) is) s.1 in
-          let all = both_true (length (pool_in sys W p).free == free) (free == 0) says in
+          let all = and_parts (length (pool_in sys W p).free == free) (free == 0) says in
           (record { pool = h; number = s.0; free_blocks = sym (number-is (length (pool_in sys W p).free) free all.0) }, number-is free 0 all.1)
 
       pub inc-may : (p b r : ℕ) → Is (item.Inc p b r) → IsTrue (is_block sys p b) → IsTrue (stands (Loose p b false) H) ⊎ ((k : ℕ) × IsTrue (stands (Held p b k) H)) → May sys W G o (item.Inc p b r)
@@ -345,20 +344,20 @@ module _ (sys : System) (lanes : List (List Rec)) (order A B : List RecordPlace)
       unfolding May
       dec-may p b d k is h token =
           let may : ((d == (refs_in W p b).count) && has (refs_in W p b).names k) ≡ true = subst (λ j. references.may (refs_in W p b) j ≡ true) is (refs-drawn p b (suc d) h (touches (item.Dec p b d k) _ is refl)) in
-          record { block = h; number = number-is d (refs_in W p b).count (both_true _ _ may).0; token = stands-too (Held p b k) token }
+          record { block = h; number = number-is d (refs_in W p b).count (and_parts _ _ may).0; token = stands-too (Held p b k) token }
 
       pub sub-may : (sig n : ℕ) → Is (item.Sub sig n) → IsTrue (is_signal sys sig) → IsTrue (is_object sys o) → May sys W G o (item.Sub sig n)
       unfolding May
       sub-may sig n is h object =
           let may : ((n == (set_in W sig).count) && not (has (set_in W sig).members o)) ≡ true = subst (λ k. subscribers.may (set_in W sig) k ≡ true) is (set-drawn sig (suc n) h (touches (item.Sub sig n) _ is refl)) in
-          let all = both_true (n == (set_in W sig).count) (not (has (set_in W sig).members o)) may in
+          let all = and_parts (n == (set_in W sig).count) (not (has (set_in W sig).members o)) may in
           (record { signal = h; number = number-is n (set_in W sig).count all.0 }, not-true (has (set_in W sig).members o) all.1, object)
 
       pub unsub-may : (sig n : ℕ) → Is (item.Unsub sig n) → IsTrue (is_signal sys sig) → May sys W G o (item.Unsub sig n)
       unfolding May
       unsub-may sig n is h =
           let may : ((n == (set_in W sig).count) && has (set_in W sig).members o) ≡ true = subst (λ k. subscribers.may (set_in W sig) k ≡ true) is (set-drawn sig (suc n) h (touches (item.Unsub sig n) _ is refl)) in
-          let all = both_true (n == (set_in W sig).count) (has (set_in W sig).members o) may in
+          let all = and_parts (n == (set_in W sig).count) (has (set_in W sig).members o) may in
           (record { signal = h; number = number-is n (set_in W sig).count all.0 }, all.1)
 
       pub same-may : (sig n : ℕ) → Is (item.Same sig n) → IsTrue (is_signal sys sig) → May sys W G o (item.Same sig n)
@@ -377,7 +376,7 @@ module _ (sys : System) (lanes : List (List Rec)) (order A B : List RecordPlace)
       arm-may t n ticks interval is h =
           let may : ((n == (clock_in W t).count) && ((clock_in W t).counter == 0)) ≡ true =
           subst (λ k. time_event.may (clock_in W t) k ≡ true) is (clock-drawn t (suc n) h (touches (item.Arm t n ticks interval) _ is refl)) in
-          let all = both_true (n == (clock_in W t).count) ((clock_in W t).counter == 0) may in
+          let all = and_parts (n == (clock_in W t).count) ((clock_in W t).counter == 0) may in
           record { timer = h; number = number-is n (clock_in W t).count all.0; is_counter = sym (number-is (clock_in W t).counter 0 all.1) }
 
       pub disarm-may : (t n former : ℕ) → Is (item.Disarm t n former) → IsTrue (is_timer sys t) → May sys W G o (item.Disarm t n former)
@@ -385,8 +384,8 @@ module _ (sys : System) (lanes : List (List Rec)) (order A B : List RecordPlace)
       disarm-may t n former is h =
           let may : (((n == (clock_in W t).count) && ((clock_in W t).counter == former)) && not (former == 0)) ≡ true =
           subst (λ k. time_event.may (clock_in W t) k ≡ true) is (clock-drawn t (suc n) h (touches (item.Disarm t n former) _ is refl)) in
-          let all = both_true ((n == (clock_in W t).count) && ((clock_in W t).counter == former)) (not (former == 0)) may in
-          let two = both_true (n == (clock_in W t).count) ((clock_in W t).counter == former) all.0 in
+          let all = and_parts ((n == (clock_in W t).count) && ((clock_in W t).counter == former)) (not (former == 0)) may in
+          let two = and_parts (n == (clock_in W t).count) ((clock_in W t).counter == former) all.0 in
           (record { timer = h; number = number-is n (clock_in W t).count two.0; is_counter = sym (number-is (clock_in W t).counter former two.1) }, some-is former all.1)
 
       pub rearm-may : (t n former ticks : ℕ) → Is (item.Rearm t n former ticks) → IsTrue (is_timer sys t) → May sys W G o (item.Rearm t n former ticks)
@@ -394,7 +393,7 @@ module _ (sys : System) (lanes : List (List Rec)) (order A B : List RecordPlace)
       rearm-may t n former ticks is h =
           let may : ((n == (clock_in W t).count) && ((clock_in W t).counter == former)) ≡ true =
           subst (λ k. time_event.may (clock_in W t) k ≡ true) is (clock-drawn t (suc n) h (touches (item.Rearm t n former ticks) _ is refl)) in
-          let two = both_true (n == (clock_in W t).count) ((clock_in W t).counter == former) may in
+          let two = and_parts (n == (clock_in W t).count) ((clock_in W t).counter == former) may in
           record { timer = h; number = number-is n (clock_in W t).count two.0; is_counter = sym (number-is (clock_in W t).counter former two.1) }
 
       pub tick-may : (t n counter : ℕ) → Is (item.Tick t n counter) → IsTrue (is_timer sys t) → May sys W G o (item.Tick t n counter)
@@ -402,8 +401,8 @@ module _ (sys : System) (lanes : List (List Rec)) (order A B : List RecordPlace)
       tick-may t n counter is h =
           let may : (((n == (clock_in W t).count) && ((clock_in W t).counter == counter + 1)) && nat_lt 0 counter) ≡ true =
           subst (λ k. time_event.may (clock_in W t) k ≡ true) is (clock-drawn t (suc n) h (touches (item.Tick t n counter) _ is refl)) in
-          let all = both_true ((n == (clock_in W t).count) && ((clock_in W t).counter == counter + 1)) (nat_lt 0 counter) may in
-          let two = both_true (n == (clock_in W t).count) ((clock_in W t).counter == counter + 1) all.0 in
+          let all = and_parts ((n == (clock_in W t).count) && ((clock_in W t).counter == counter + 1)) (nat_lt 0 counter) may in
+          let two = and_parts (n == (clock_in W t).count) ((clock_in W t).counter == counter + 1) all.0 in
           (record { timer = h; number = number-is n (clock_in W t).count two.0; is_counter = sym (number-is (clock_in W t).counter (counter + 1) two.1) }, lt-is 0 counter all.1)
 
       pub fire-may : (t n reload : ℕ) → Is (item.Fire t n reload) → IsTrue (is_timer sys t) → May sys W G o (item.Fire t n reload)
@@ -411,8 +410,8 @@ module _ (sys : System) (lanes : List (List Rec)) (order A B : List RecordPlace)
       fire-may t n reload is h =
           let may : (((n == (clock_in W t).count) && ((clock_in W t).counter == 1)) && (reload == (clock_in W t).interval)) ≡ true =
           subst (λ k. time_event.may (clock_in W t) k ≡ true) is (clock-drawn t (suc n) h (touches (item.Fire t n reload) _ is refl)) in
-          let all = both_true ((n == (clock_in W t).count) && ((clock_in W t).counter == 1)) (reload == (clock_in W t).interval) may in
-          let two = both_true (n == (clock_in W t).count) ((clock_in W t).counter == 1) all.0 in
+          let all = and_parts ((n == (clock_in W t).count) && ((clock_in W t).counter == 1)) (reload == (clock_in W t).interval) may in
+          let two = and_parts (n == (clock_in W t).count) ((clock_in W t).counter == 1) all.0 in
           (record { timer = h; number = number-is n (clock_in W t).count two.0; is_counter = sym (number-is (clock_in W t).counter 1 two.1) }, number-is reload (clock_in W t).interval all.1)
 
       pub idle-may : (t n : ℕ) → Is (item.Idle t n) → IsTrue (is_timer sys t) → May sys W G o (item.Idle t n)
@@ -427,5 +426,5 @@ module _ (sys : System) (lanes : List (List Rec)) (order A B : List RecordPlace)
       armed-may t n counter is h =
           let s = clock-shown t n h (touches (item.Armed t n counter) _ is refl) in
           let says : (((clock_in W t).counter == counter) && not (counter == 0)) ≡ true = subst (λ b. time_event.says (clock_in W t) b ≡ true) (ap (λ k. k.body) is) s.1 in
-          let all = both_true ((clock_in W t).counter == counter) (not (counter == 0)) says in
+          let all = and_parts ((clock_in W t).counter == counter) (not (counter == 0)) says in
           (record { timer = h; number = s.0; is_counter = sym (number-is (clock_in W t).counter counter all.0) }, some-is counter all.1)

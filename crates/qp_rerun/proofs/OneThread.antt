@@ -3,6 +3,7 @@ use Rattle.std.proofs.Common.{◌≡◌, ◌∙◌, ℕ, zero, suc, ◌+◌, ◌
 use Rattle.std.specs.Prelude.{slice_get, IsPermutation}
 use Rattle.std.specs.List.{AllByRecursion, cons_option, list_all}
 use Rattle.std.specs.Option.{option_and_then, option_map}
+use Rattle.std.proofs.lemmas.Bool.{and_parts}
 use Rattle.std.proofs.lemmas.Bool.Decides.{nat_tests}
 use Rattle.std.proofs.lemmas.List.{append-nil, take_all}
 use Rattle.std.proofs.lemmas.List.Elements.{filter_map-append}
@@ -22,7 +23,6 @@ use Rattle.qp_model.specs.Places.{IsSerial, RecordPlace, items_at, places, place
 use Rattle.qp_model.specs.Sound.{IsSound}
 use Rattle.qp_model.specs.End.{has_room}
 use Rattle.qp_model.specs.Lawful.{EndHolds, Lawful, facts_of}
-use Rattle.qp_model.proofs.ListLemmas.{both_true}
 use Rattle.qp_stim.specs.Rules.{StimuliFit}
 use Rattle.qp_calls.specs.Counting.{count_of, times}
 use Rattle.qp_calls.specs.Tokens.{Token, hands_after}
@@ -268,8 +268,8 @@ module _ (sys : System) (stimuli : List (List Stim)) (j : Journal) (order : List
     where
       all-at : (p : List Rec → Bool) (ls : List (List Rec)) (a : ℕ) → list_all p ls ≡ true → a < length ls → p (lane_of ls a) ≡ true
       all-at p [] a h less = absurd (omega (arith, less))
-      all-at p (l ∷ ls) zero h less = (both_true _ _ h).0
-      all-at p (l ∷ ls) (suc a) h less = all-at p ls a (both_true _ _ h).1 (omega (arith, less))
+      all-at p (l ∷ ls) zero h less = (and_parts _ _ h).0
+      all-at p (l ∷ ls) (suc a) h less = all-at p ls a (and_parts _ _ h).1 (omega (arith, less))
 
   ticks-of : (o : ℕ) (H : List Token) (b : Body) → Uses sys o H b → TicksFit b
   ticks-of o H (item.Arm t n ticks interval) h = h.1

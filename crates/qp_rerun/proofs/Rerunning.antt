@@ -3,6 +3,7 @@ use Rattle.std.proofs.Common.{◌≡◌, ◌∙◌, ℕ, zero, suc, ◌+◌, ◌
 use Rattle.std.specs.Prelude.{get_or, slice_get}
 use Rattle.std.specs.Option.{option_and_then}
 use Rattle.std.specs.List.{count_by}
+use Rattle.std.proofs.lemmas.Bool.{and_parts}
 use Rattle.std.proofs.lemmas.Bool.Decides.{nat_tests}
 use Rattle.std.proofs.lemmas.List.{append-nil, length-map, length-set, take_all}
 use Rattle.std.proofs.lemmas.List.Sums.{sum_by-cons}
@@ -22,7 +23,6 @@ use Rattle.qp_model.specs.Places.{IsSerial, RecordPlace}
 use Rattle.qp_model.specs.Shapes.{ticks_fit}
 use Rattle.qp_model.specs.Sound.{IsSound}
 use Rattle.qp_model.specs.Lawful.{Lawful}
-use Rattle.qp_model.proofs.ListLemmas.{both_true}
 use Rattle.qp_stim.specs.Rules.{StimuliFit}
 use Rattle.qp_calls.specs.Counting.{times}
 use Rattle.qp_sound.specs.Log.{Orders, empty_lanes, lane_of, log_of, with_record}
@@ -43,13 +43,13 @@ use Rattle.qp_rerun.proofs.OneThread.{a_record, empty-length, lanes-same, made-p
 pub fits-timer : (b : Body) → TicksFit b → FitsTimer b
 unfolding ticks_fit
 fits-timer (item.Arm t n ticks interval) h =
-    let p = both_true _ _ h in
-    let q = both_true _ _ p.0 in
+    let p = and_parts _ _ h in
+    let q = and_parts _ _ p.0 in
     (below ticks q.1, below interval p.1)
   where
     below : (x : ℕ) → nat_lt x 65536 ≡ true → x < 65536
     below x e = grind (arith, nat_tests)
-fits-timer (item.Rearm t n former ticks) h = below ticks (both_true _ _ (both_true _ _ h).0).1
+fits-timer (item.Rearm t n former ticks) h = below ticks (and_parts _ _ (and_parts _ _ h).0).1
   where
     below : (x : ℕ) → nat_lt x 65536 ≡ true → x < 65536
     below x e = grind (arith, nat_tests)

@@ -3,6 +3,7 @@ use Rattle.std.proofs.Common.{◌≡◌, ◌∙◌, ℕ, zero, suc, ◌+◌, ◌
 use Rattle.std.specs.Prelude.{⊤, drop}
 use Rattle.std.specs.List.{AllByRecursion, list_any}
 use Rattle.std.specs.Option.{option_and_then}
+use Rattle.std.proofs.lemmas.Bool.{and_from, and_parts}
 use Rattle.std.proofs.lemmas.Bool.Decides.{nat_tests}
 use Rattle.qp_model.specs.declared.systems.System.{System}
 use Rattle.qp_model.specs.declared.bodies.Entry.{Entry}
@@ -19,7 +20,6 @@ use Rattle.qp_model.specs.Sites.{ring_of}
 use Rattle.qp_model.specs.WordLaw.{is_block, is_pool, is_object, is_signal, is_timer}
 use Rattle.qp_model.specs.Deferral.{keep, kept_after, KeepsDeferred}
 use Rattle.qp_model.specs.Shapes.{Fits, Releases, Drops, releases_by, MakesBlock, MakesNew, NoBlockFor, MakesAgain, again_by, MakesAgainNow, Posts, PostsFront, PostsNew, PostsNewFront, Forwards, PostsOne, PostsToAll, PostsUpTo, raising, restoring, PublishesFirst, PublishesLast, Publishes, Defers, Recalls, Flushes, Subscribes, Unsubscribes, Arms, Rearms, Disarms, answers_ticks, ticks_fit}
-use Rattle.qp_model.proofs.ListLemmas.{both_true, true_both}
 use Rattle.qp_model.proofs.FitsLemmas.{calm-drops}
 use Rattle.qp_model.proofs.DeferralLemmas.{kept-append, kept-calm}
 use Rattle.qp_calls.specs.Counting.{one, times, count_of}
@@ -125,22 +125,22 @@ block-good sys p b r h = go (p == 0) refl
   where
     go : (u : Bool) → (p == 0) ≡ u → cond u (is_static sys b && (r == 0)) (is_block sys p b) ≡ true
     go true is =
-        let some : nat_lt 0 p ≡ true = (both_true (nat_lt 0 p) (nat_le p (length sys.pools)) (both_true (is_pool sys p) _ h).0).0 in
+        let some : nat_lt 0 p ≡ true = (and_parts (nat_lt 0 p) (nat_le p (length sys.pools)) (and_parts (is_pool sys p) _ h).0).0 in
         let none : p ≡ 0 = grind (arith, nat_tests, is) in
         let more : 0 < p = grind (arith, nat_tests, some) in
         absurd (omega (arith, more, none))
     go false is = h
 
 static-good : (sys : System) (sig : ℕ) → is_static sys sig ≡ true → is_good sys (entry 0 sig 0) ≡ true
-static-good sys sig h = true_both _ _ h refl
+static-good sys sig h = and_from _ _ h refl
 
 same-number : (x y : ℕ) → (x == y) ≡ true → x ≡ y
 same-number x y h = grind (arith, nat_tests, h)
 
 pub entries-same : (x k : Entry) → same_entry x k ≡ true → x ≡ k
 entries-same x k h =
-    let front = both_true ((x.pool == k.pool) && (x.block == k.block)) (x.name == k.name) h in
-    let tests = both_true (x.pool == k.pool) (x.block == k.block) front.0 in
+    let front = and_parts ((x.pool == k.pool) && (x.block == k.block)) (x.name == k.name) h in
+    let tests = and_parts (x.pool == k.pool) (x.block == k.block) front.0 in
     build (same-number x.pool k.pool tests.0) (same-number x.block k.block tests.1) (same-number x.name k.name front.1)
   where
     build : x.pool ≡ k.pool → x.block ≡ k.block → x.name ≡ k.name → x ≡ k
@@ -313,7 +313,7 @@ module _ (sys : System) (o : ℕ) (Knows : Told → Type 0) where
         loose = ap (λ u. u || list_any (λ x. same_token own x) H) (same-self own)
 
         above : (p : ℕ) → IsTrue (is_pool sys p) → 0 < p
-        above p h = let test : nat_lt 0 p ≡ true = (both_true (nat_lt 0 p) (nat_le p (length sys.pools)) h).0 in grind (arith, nat_tests, test)
+        above p h = let test : nat_lt 0 p ≡ true = (and_parts (nat_lt 0 p) (nat_le p (length sys.pools)) h).0 in grind (arith, nat_tests, test)
 
     new-head : (fixed : Bool) (sig : ℕ) (pars : List ℕ) (reserve : Option ℕ) (head : List Told) (e : Entry) (F : Bag) → is_static sys sig ≡ fixed → IsTrue (is_event sys (record { sig = sig; pars = pars }))
         → MakesNew fixed (sizes_of sys) sig pars reserve head e → Heads F head e

@@ -4,6 +4,7 @@ use Rattle.std.specs.Bool.{MatchBool}
 use Rattle.std.specs.List.{AllByRecursion, count_by, find, list_all, position}
 use Rattle.std.specs.Option.{unwrap_or, option_map_or}
 use Rattle.std.specs.Prelude.{⊤, slice_get, map}
+use Rattle.std.proofs.lemmas.Bool.{and_parts}
 use Rattle.std.proofs.lemmas.Bool.Decides.{nat_tests}
 use Rattle.std.proofs.lemmas.List.{append_assoc, length-append}
 use Rattle.qp_chart.specs.declared.checked.Chart.{Chart}
@@ -30,7 +31,6 @@ use Rattle.qp_model.specs.HomeLane.{is_at_home, are_at_home, taken_by, is_home_l
 use Rattle.qp_model.specs.KernelLane.{Reading, lane_read, role_of, unread}
 use Rattle.qp_model.specs.Sources.{IsSourceLane, source_records}
 use Rattle.qp_model.specs.Lawful.{Lawful, is_settle, ObjectHolds, CourseHolds, KernelHolds, SourceLanes, cut_of, facts_of, lanes_before, reading_holds, setting_of}
-use Rattle.qp_model.proofs.ListLemmas.{both_true}
 use Rattle.qp_stim.specs.Rules as rule
 use Rattle.qp_calls.specs.Tokens.{Token, hands_by}
 use Rattle.qp_replay.proofs.LaneRecords.{RoleNames, found-one, home-at, kernel-each, unread-names}
@@ -181,7 +181,7 @@ module _ (sys : System) (stimuli : List (List Stim)) (j : Journal) (sound : IsSo
     where
       go : (b : Body) → i.body ≡ b → is_at_home o spent cut i.of b ≡ true → MuteOr (λ p. p ≡ o) i
       go (item.Seen q f l m) e h =
-          let test : (q == o) ≡ true = (both_true (i.of == 0) (q == o) (both_true _ spent h).0).1 in
+          let test : (q == o) ≡ true = (and_parts (i.of == 0) (q == o) (and_parts _ spent h).0).1 in
           let same : q ≡ o = grind (arith, nat_tests, test) in
           inl (subst (Mute sys i.of) (sym e) (record { uses = λ H. subst (λ p. IsTrue (is_object sys p)) (sym same) object; still = λ H k. refl }))
       go (item.Spill len) e h = inl (subst (Mute sys i.of) (sym e) (record { uses = λ H. refl; still = λ H k. refl }))
@@ -194,7 +194,7 @@ module _ (sys : System) (stimuli : List (List Stim)) (j : Journal) (sound : IsSo
   unfolding are_at_home
   all-at-home o budget cuts n [] object h = tt
   all-at-home o budget cuts n (i ∷ is) object h =
-      let parts = both_true (is_at_home o (n == budget) (cuts && (length is == 0)) i.of i.body) (are_at_home o budget cuts (taken_by n i.body) is) h in
+      let parts = and_parts (is_at_home o (n == budget) (cuts && (length is == 0)) i.of i.body) (are_at_home o budget cuts (taken_by n i.body) is) h in
       (at-home o (n == budget) (cuts && (length is == 0)) i object parts.0, all-at-home o budget cuts (taken_by n i.body) is object parts.1)
 
   home-lin : (d : ObjectDef) (n : ℕ) → (j.kernel == port) ≡ true → IsTrue (is_object sys d.priority) → home_of sys j d.priority ≡ n → ObjectHolds sys j d
@@ -203,7 +203,7 @@ module _ (sys : System) (stimuli : List (List Stim)) (j : Journal) (sound : IsSo
   home-lin d n is_port object home holds o =
       let asked : (not (j.kernel == port) || is_home_lane d.priority j.budget (may_cut j.end) (lane_items (lane_at j (home_of sys j d.priority)))) ≡ true = holds.shapes.home in
       let here : is_home_lane d.priority j.budget (may_cut j.end) (lane_items (lane_at j (home_of sys j d.priority))) ≡ true = there (j.kernel == port) is_port asked in
-      let all = (both_true _ _ (both_true _ _ here).0).0 in
+      let all = (and_parts _ _ (and_parts _ _ here).0).0 in
       let lin = lane-lin (λ p. p ≡ d.priority) o (lane_items (lane_at j (home_of sys j d.priority))) (all-at-home d.priority j.budget (may_cut j.end) 0 (lane_items (lane_at j (home_of sys j d.priority))) object all)
       (decide-same o d.priority) (λ e. subst (λ p. LinOf p (records_of (facts_of sys j) p 0 (lane_items (lane_at j (home_of sys j d.priority))))) (sym e) (own-lin d.priority object)) in
       subst (λ m. LinOf o (records_of (facts_of sys j) o 0 (lane_items (lane_at j m)))) home lin
@@ -225,7 +225,7 @@ module _ (sys : System) (stimuli : List (List Stim)) (j : Journal) (sound : IsSo
   told-plain c (i ∷ is) alone = go (i.of == 0) (not (is_spill i.body)) refl parts.0 (told-plain (ceiling_after c i.body) is parts.1) (λ e. told-plain c is parts.1)
     where
       parts : ((i.of == 0) ≡ true) × (list_all (λ i. i.of == 0) is ≡ true)
-      parts = both_true (i.of == 0) (list_all (λ i. i.of == 0) is) alone
+      parts = and_parts (i.of == 0) (list_all (λ i. i.of == 0) is) alone
 
       go : (z b : Bool) → not (is_spill i.body) ≡ b → z ≡ true
           → records_of (facts_of sys j) 0 (ceiling_after c i.body) (filter (λ i. not (is_spill i.body)) is) ≡ filter (λ t. not (is_spill t.body)) (records_of (facts_of sys j) 0 (ceiling_after c i.body) is)
@@ -244,7 +244,7 @@ module _ (sys : System) (stimuli : List (List Stim)) (j : Journal) (sound : IsSo
     where
       none : (is : List Item) → list_all (λ i. i.of == 0) is ≡ true → AllByRecursion (MuteOr (λ p. p ≡ 0)) is
       none [] h = tt
-      none (i ∷ is) h = let first : (i.of == 0) ≡ true = (both_true _ _ h).0 in let zero_of : i.of ≡ 0 = grind (arith, nat_tests, first) in (inr zero_of, none is (both_true _ _ h).1)
+      none (i ∷ is) h = let first : (i.of == 0) ≡ true = (and_parts _ _ h).0 in let zero_of : i.of ≡ 0 = grind (arith, nat_tests, first) in (inr zero_of, none is (and_parts _ _ h).1)
 
       spills : (ts : List Told) → AllByRecursion (λ t. not (is_spill t.body) ≡ false → Mute sys 0 t.body) ts
       spills [] = tt

@@ -1,6 +1,7 @@
 -- The actions of an object's chart name what the system has, for the tokens of their calls.
 use Rattle.std.proofs.Common.{◌≡◌, ℕ, ◌+◌, ◌==◌, nat_lt, nat_le, true, List, [], ◌∷◌, length, refl, sym, subst, arith, Option, Some, None, IsTrue}
 use Rattle.std.specs.List.{AllByRecursion}
+use Rattle.std.proofs.lemmas.Bool.{and_from}
 use Rattle.std.proofs.lemmas.Bool.Decides.{nat_tests}
 use Rattle.qp_chart.specs.Expr.{Names}
 use Rattle.qp_chart.specs.Task.{Task, Begin, Run, Unhandled, Exit, Enter, Init, Done, Do, Raise, Restore}
@@ -17,7 +18,6 @@ use Rattle.qp_model.specs.Sound.{IsSound}
 use Rattle.qp_model.specs.SoundChart.{IsSoundEvent, IsSoundPlain}
 use Rattle.qp_model.specs.WordLaw.{is_object}
 use Rattle.qp_model.specs.Course.{chart_at}
-use Rattle.qp_model.proofs.ListLemmas.{true_both}
 use Rattle.qp_calls.specs.Clauses.{IsEvent, params_of}
 use Rattle.qp_calls.specs.declared.tokens.Entry as token
 use Rattle.qp_calls.specs.declared.tokens.Entry.TheVariants as hand
@@ -36,7 +36,7 @@ event-test sys ev is =
     let four : nat_le 4 ev.sig ≡ true = grind (arith, nat_tests, low) in
     let few : nat_lt ev.sig (length sys.signals + 4) ≡ true = grind (arith, nat_tests, high) in
     let same : (length ev.pars == params_of sys ev.sig) ≡ true = grind (arith, nat_tests, pars) in
-    true_both _ _ (true_both _ _ four few) same
+    and_from _ _ (and_from _ _ four few) same
 
 event-of : (sys : System) (chart : Chart) (inside : Option ℕ) (sig : ℕ) (pars : List Bound) (reserve : Option ℕ) (names : Names) → IsSoundEvent sys chart inside sig pars reserve
     → IsTrue (is_event sys (record { sig = sig; pars = values_of names pars }))

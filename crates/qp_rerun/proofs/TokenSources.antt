@@ -4,6 +4,7 @@ use Rattle.std.specs.Bool.{MatchBool}
 use Rattle.std.specs.List.{AllByRecursion}
 use Rattle.std.specs.Option.{option_map_or}
 use Rattle.std.specs.Prelude.{slice_get}
+use Rattle.std.proofs.lemmas.Bool.{and_from}
 use Rattle.std.proofs.lemmas.Bool.Decides.{nat_tests}
 use Rattle.std.proofs.lemmas.Option.{slice_get_within}
 use Rattle.qp_base.specs.declared.event.Ev.{Ev}
@@ -20,7 +21,6 @@ use Rattle.qp_model.specs.Sites.{ring_of}
 use Rattle.qp_model.specs.Sound.{IsSound, IsSoundTimer}
 use Rattle.qp_model.specs.WordLaw.{is_object, is_timer}
 use Rattle.qp_model.specs.Sources.{CallFits, TicksOne, FiresInVain, Ticks, SeesEmpty, SeesEntry, Tries, priorities, Settles, StimFits, SourceEnd, AfterTry, AtAssert, InStimulus, EndsIn, SourceRuns}
-use Rattle.qp_model.proofs.ListLemmas.{true_both}
 use Rattle.qp_stim.specs.Rules as rule
 use Rattle.qp_calls.specs.Clauses.{params_of}
 use Rattle.qp_calls.specs.Tokens.{Token, hands_by}
@@ -37,7 +37,7 @@ fits-event sys ev reserve h =
     let few : nat_lt ev.sig (length sys.signals + 4) ≡ true = grind (arith, nat_tests, low, within) in
     let params : params_of sys ev.sig ≡ h.def.params = ap (λ o. option_map_or (λ d. d.params) o 0) h.declared in
     let count : (length ev.pars.items == params_of sys ev.sig) ≡ true = (let n = h.count in grind (arith, nat_tests, n, params)) in
-    true_both _ _ (true_both _ _ four few) count
+    and_from _ _ (and_from _ _ four few) count
 
 -- the timers from number t on, each of which posts its static signal to an object
 record Timers (sys : System) (t : ℕ) (ds : List TimerDef) : Type 0 where
@@ -54,7 +54,7 @@ all-timers sys sound = record { some = omega arith; last = omega arith; objects 
         let low = h.from_four in
         let four : nat_le 4 d.sig ≡ true = grind (arith, nat_tests, low) in
         let fixed : option_map_or (λ x. x.fixed) (slice_get sys.signals (d.sig - 4)) false ≡ true = ap (λ o. option_map_or (λ x. x.fixed) o false) h.is_signal ∙ h.static in
-        true_both _ _ four fixed
+        and_from _ _ four fixed
 
     go : (ds : List TimerDef) → AllByRecursion (IsSoundTimer sys) ds → AllByRecursion (λ d. IsTrue (is_object sys d.object) × (is_static sys d.sig ≡ true)) ds
     go [] h = tt
@@ -76,12 +76,12 @@ module _ (sys : System) (sound : IsSound sys) (Knows : Told → Type 0) (rules :
       let some : nat_lt 0 t ≡ true = (let low = h.some in grind (arith, nat_tests, low)) in
       let within : t ≤ length sys.timers = omega (arith, h.last) in
       let few : nat_le t (length sys.timers) ≡ true = grind (arith, nat_tests, within) in
-      true_both _ _ some few
+      and_from _ _ some few
 
   posts : (a f l m sig : ℕ) → IsTrue (is_object sys a) → is_static sys sig ≡ true → Alone (plain (item.Post a f l m (entry 0 sig 0)) ∷ [])
   posts a f l m sig object static =
       leads-less sys 0 Knows (λ t. 0 + 0) (λ t. 0) (λ t. 0) (λ t. 0) (plain (item.Post a f l m (entry 0 sig 0)) ∷ []) (λ t. omega arith) (λ t. omega arith)
-      (post-one sys 0 Knows rules a f l m (entry 0 sig 0) (λ t. 0) object (true_both _ _ static refl))
+      (post-one sys 0 Knows rules a f l m (entry 0 sig 0) (λ t. 0) object (and_from _ _ static refl))
 
   one-alone : (ring t : ℕ) (d : TimerDef) (g : List Told) → IsTrue (is_timer sys t) → IsTrue (is_object sys d.object) × (is_static sys d.sig ≡ true) → TicksOne ring t d g → Alone g
   unfolding TicksOne hands_by

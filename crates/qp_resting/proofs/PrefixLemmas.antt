@@ -2,13 +2,14 @@
 use Rattle.std.proofs.Common.{◌≡◌, ◌∙◌, ℕ, zero, suc, ◌+◌, ◌-◌, ◌<◌, ◌≤◌, ◌==◌, nat_le, nat_lt, Bool, true, false, not, ◌&&◌, ◌||◌, cond, List, [], ◌∷◌, ◌++◌, length, take, refl, sym, ap, arith, append_assoc, append-nil, length-append}
 use Rattle.std.specs.List.{AllByRecursion, filter, list_all}
 use Rattle.std.proofs.Math.Seq.{take-append_seam}
+use Rattle.std.proofs.lemmas.Bool.{and_from, and_parts}
 use Rattle.std.proofs.lemmas.Bool.Decides.{nat_tests}
 use Rattle.qp_model.specs.declared.words.Word.{Word}
 use Rattle.qp_model.specs.History.{Draws, Neither, Shows, Touch, drawn_as, drawn_below, drawn_on, hist, is_numbered, numbered, same_word, total, touch}
 use Rattle.qp_model.specs.Places.{in_order, is_next}
 use Rattle.qp_model.specs.Record.{Item}
 use Rattle.qp_model.proofs.KnowingLemmas.{same_word-is}
-use Rattle.qp_model.proofs.ListLemmas.{all_below_at, both_true, true_both}
+use Rattle.qp_model.proofs.ListLemmas.{all_below_at}
 use Rattle.qp_orders.proofs.RunLemmas.{filter-append}
 
 -- the record stands among these
@@ -29,8 +30,8 @@ pub stands-all : (all pre xs post : List Item) → all ≡ pre ++ (xs ++ post) �
 stands-all all pre xs post is = stands-parts all pre xs post is
 
 list_all-at : {A : Type 0} (p : A → Bool) (xs : List A) (y : A) (ys : List A) → list_all p (xs ++ y ∷ ys) ≡ true → p y ≡ true
-list_all-at p [] y ys h = (both_true _ _ h).0
-list_all-at p (x ∷ xs) y ys h = list_all-at p xs y ys (both_true _ _ h).1
+list_all-at p [] y ys h = (and_parts _ _ h).0
+list_all-at p (x ∷ xs) y ys h = list_all-at p xs y ys (and_parts _ _ h).1
 
 pub stands-each : (p : Item → Bool) (all : List Item) (i : Item) → Stands all i → list_all p all ≡ true → p i ≡ true
 stands-each p all i at h = let there : list_all p (at.front ++ i ∷ at.back) ≡ true = rw at.at at h in list_all-at p at.front i at.back there
@@ -52,30 +53,30 @@ only-filtered p xs i ys is one =
 
 pub in_order-at : (before xs : List Item) (i : Item) (ys : List Item) → in_order before (xs ++ i ∷ ys) ≡ true → is_next (before ++ xs) (touch i) ≡ true
 unfolding in_order
-in_order-at before [] i ys h = rw (append-nil before) (both_true _ _ h).0
-in_order-at before (x ∷ xs) i ys h = rw (sym (append_assoc before (x ∷ []) xs)) (in_order-at (before ++ x ∷ []) xs i ys (both_true _ _ h).1)
+in_order-at before [] i ys h = rw (append-nil before) (and_parts _ _ h).0
+in_order-at before (x ∷ xs) i ys h = rw (sym (append_assoc before (x ∷ []) xs)) (in_order-at (before ++ x ∷ []) xs i ys (and_parts _ _ h).1)
 
 pub in_order-front : (before xs ys : List Item) → in_order before (xs ++ ys) ≡ true → in_order before xs ≡ true
 unfolding in_order
 in_order-front before [] ys h = refl
 in_order-front before (x ∷ xs) ys h =
-    let parts = both_true (is_next before (touch x)) _ h in
-    true_both _ _ parts.0 (in_order-front (before ++ x ∷ []) xs ys parts.1)
+    let parts = and_parts (is_next before (touch x)) _ h in
+    and_from _ _ parts.0 (in_order-front (before ++ x ∷ []) xs ys parts.1)
 
 -- what draws the next number of w
 drawn-next : (w : Word) (before : List Item) (t : Touch) → drawn_on w t ≡ true → is_next before t ≡ true → drawn_as w (total w before) t ≡ true
 unfolding is_next
 drawn-next w before (Draws v mark) on next =
     let same : v ≡ w = same_word-is v w on in
-    true_both _ _ on (rw same at next)
+    and_from _ _ on (rw same at next)
 drawn-next w before (Shows v mark) on next = cc
 drawn-next w before Neither on next = cc
 
 drawn-within : (w : Word) (n most : ℕ) (t : Touch) → drawn_as w n t ≡ true → drawn_below w most t ≡ true → n < most
-drawn-within w n most (Draws v mark) is below = by (same_word v w) (both_true _ _ is).0 below
+drawn-within w n most (Draws v mark) is below = by (same_word v w) (and_parts _ _ is).0 below
   where
     by : (b : Bool) → b ≡ true → (not b || (nat_lt 0 mark && nat_le mark most)) ≡ true → n < most
-    by true e h = let here : (mark == suc n) ≡ true = (both_true (same_word v w) (mark == suc n) is).1 in grind (arith, nat_tests, h, here)
+    by true e h = let here : (mark == suc n) ≡ true = (and_parts (same_word v w) (mark == suc n) is).1 in grind (arith, nat_tests, h, here)
     by false e h = absurd (cc)
 drawn-within w n most (Shows v mark) is below = cc
 drawn-within w n most Neither is below = cc
@@ -89,13 +90,13 @@ module _ (w : Word) (all : List Item) (numbers : is_numbered w all ≡ true) whe
   unfolding is_numbered
   once n within =
       let one : (length (filter (λ j. drawn_as w n (touch j)) all) == 1) ≡ true =
-      all_below_at (total w all) (λ n. length (filter (λ j. drawn_as w n (touch j)) all) == 1) (both_true _ _ numbers).1 n within in
+      all_below_at (total w all) (λ n. length (filter (λ j. drawn_as w n (touch j)) all) == 1) (and_parts _ _ numbers).1 n within in
       grind (arith, nat_tests, one)
 
   its-only : (n : ℕ) (i : Item) → Stands all i → drawn_as w n (touch i) ≡ true → filter (λ j. drawn_as w n (touch j)) all ≡ i ∷ []
   unfolding is_numbered
   its-only n i at is =
-      let below : drawn_below w (total w all) (touch i) ≡ true = stands-each (λ j. drawn_below w (total w all) (touch j)) all i at (both_true _ _ numbers).0 in
+      let below : drawn_below w (total w all) (touch i) ≡ true = stands-each (λ j. drawn_below w (total w all) (touch j)) all i at (and_parts _ _ numbers).0 in
       let one : length (filter (λ j. drawn_as w n (touch j)) all) ≡ 1 = once n (drawn-within w n (total w all) (touch i) is below) in
       let there : length (filter (λ j. drawn_as w n (touch j)) (at.front ++ i ∷ at.back)) ≡ 1 = rw at.at at one in
       ap (filter (λ j. drawn_as w n (touch j))) at.at ∙ only-filtered (λ j. drawn_as w n (touch j)) at.front i at.back is there
@@ -125,7 +126,7 @@ module _ (w : Word) (all : List Item) (numbers : is_numbered w all ≡ true) whe
   unfolding in_order
   history-prefix before [] each order so_far = rw (append-nil before) so_far
   history-prefix before (x ∷ xs) each order so_far =
-      let parts = both_true (is_next before (touch x)) _ order in
+      let parts = and_parts (is_next before (touch x)) _ order in
       let next = history-next before x each.0 parts.0 so_far in
       rw (append_assoc before (x ∷ []) xs) at (history-prefix (before ++ x ∷ []) xs each.1 parts.1 next)
 

@@ -3,6 +3,7 @@ use Rattle.std.proofs.Common.{◌≡◌, ◌≢◌, ◌∙◌, ℕ, ◌+◌, ◌
 use Rattle.std.specs.Prelude.{IsTrue, slice_get}
 use Rattle.std.specs.List.{AllByRecursion, filter, find}
 use Rattle.std.specs.Option.{unwrap_or}
+use Rattle.std.proofs.lemmas.Bool.{and_parts}
 use Rattle.std.proofs.lemmas.List.{reverse-append}
 use Rattle.std.proofs.lemmas.Bool.Decides.{nat_tests}
 use Rattle.qp_chart.specs.StateTree.{has}
@@ -30,7 +31,6 @@ use Rattle.qp_model.specs.WordLaw.{Keeps, is_object}
 use Rattle.qp_model.proofs.LawLemmas.{kernel_rests_where_all_are_empty}
 use Rattle.qp_model.proofs.HistoryLemmas.{length-hist}
 use Rattle.qp_model.proofs.LineLemmas.{IsLine, line_is, same_number}
-use Rattle.qp_model.proofs.ListLemmas.{both_true}
 use Rattle.qp_model.proofs.MachineLemmas.{is_allowed-front}
 use Rattle.qp_orders.specs.Placing.{all_placed, LooksNone}
 use Rattle.qp_orders.specs.RunOrder.{items_of, placed}
@@ -156,7 +156,7 @@ module _ (ring a : ℕ) (lanes : List (List Rec)) (keeps : Keeps Line (line ring
 
   within : f + l + m ≤ total w all
   within =
-      let long : nat_le (f + l + m) (length (hist w all)) ≡ true = (both_true _ _ shown).0 in
+      let long : nat_le (f + l + m) (length (hist w all)) ≡ true = (and_parts _ _ shown).0 in
       grind (arith, nat_tests, long, length-hist w all keeps.numbers)
 
   abbrev state : Line
@@ -164,7 +164,7 @@ module _ (ring a : ℕ) (lanes : List (List Rec)) (keeps : Keeps Line (line ring
 
   counts : counts_are f l m state ≡ true
   counts =
-      let says : counts_are f l m (after (line ring) (take (f + l + m) (hist w all))) ≡ true = (both_true (nat_le (f + l + m) (length (hist w all))) _ shown).1 in
+      let says : counts_are f l m (after (line ring) (take (f + l + m) (hist w all))) ≡ true = (and_parts (nat_le (f + l + m) (length (hist w all))) _ shown).1 in
       rw (first-taken w all keeps.numbers (f + l + m) within) at says
 
   its-line : IsLine ring state
@@ -175,8 +175,8 @@ module _ (ring a : ℕ) (lanes : List (List Rec)) (keeps : Keeps Line (line ring
 
   pub seen-empty : (after (line ring) (filter (draws w all keeps.numbers) xs)).entries ≡ []
   seen-empty =
-      let two = both_true ((state.f == f) && (state.l == l)) (state.m == m) counts in
-      let one = both_true (state.f == f) (state.l == l) two.0 in
+      let two = and_parts ((state.f == f) && (state.l == l)) (state.m == m) counts in
+      let one = and_parts (state.f == f) (state.l == l) two.0 in
       let f_says : (state.f == f) ≡ true = one.0 in
       let l_says : (state.l == l) ≡ true = one.1 in
       let m_says : (state.m == m) ≡ true = two.1 in

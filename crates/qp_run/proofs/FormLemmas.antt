@@ -2,9 +2,8 @@
 use Rattle.std.proofs.Common.{◌≡◌, ℕ, ◌<◌, ◌≤◌, Bool, true, false, cond, List, [], ◌∷◌, length, refl, arith}
 use Rattle.std.specs.Prelude.{◌==◌, not, nat_le}
 use Rattle.std.specs.List.{list_all}
-use Rattle.std.proofs.lemmas.Bool.{false≢true}
+use Rattle.std.proofs.lemmas.Bool.{false≢true, and_from, and_parts}
 use Rattle.std.proofs.lemmas.Bool.Decides.{nat_tests}
-use Rattle.qp_model.proofs.ListLemmas.{both_true, true_both}
 use Rattle.qp_model.specs.Kernels.{qv}
 use Rattle.qp_model.specs.declared.journals.Journal.{Journal}
 use Rattle.qp_model.specs.Kinds.{LOOK, REST}
@@ -46,65 +45,65 @@ kernel-two false kernel within = grind (arith, nat_tests)
 module _ (form : ℕ) where
   record-one : (r : Rec) → is_record_in_range form r ≡ true → not (r.kind == REST) ≡ true → is_record_in_range 1 r ≡ true
   record-one r within other =
-      let object = both_true _ _ within in
-      let count = both_true _ _ object.0 in
-      let kinds = both_true _ _ count.0 in
-      true_both _ _ (true_both _ _ (true_both _ _ kinds.0 (kind-one (form == 2) r.kind kinds.1 other)) count.1) object.1
+      let object = and_parts _ _ within in
+      let count = and_parts _ _ object.0 in
+      let kinds = and_parts _ _ count.0 in
+      and_from _ _ (and_from _ _ (and_from _ _ kinds.0 (kind-one (form == 2) r.kind kinds.1 other)) count.1) object.1
 
   record-two : (r : Rec) → is_record_in_range form r ≡ true → is_record_in_range 2 r ≡ true
   record-two r within =
-      let object = both_true _ _ within in
-      let count = both_true _ _ object.0 in
-      let kinds = both_true _ _ count.0 in
-      true_both _ _ (true_both _ _ (true_both _ _ kinds.0 (kind-two (form == 2) r.kind kinds.1)) count.1) object.1
+      let object = and_parts _ _ within in
+      let count = and_parts _ _ object.0 in
+      let kinds = and_parts _ _ count.0 in
+      and_from _ _ (and_from _ _ (and_from _ _ kinds.0 (kind-two (form == 2) r.kind kinds.1)) count.1) object.1
 
   records-one : (rs : List Rec) → list_all (is_record_in_range form) rs ≡ true → list_all (λ (r : Rec). not (r.kind == REST)) rs ≡ true → list_all (is_record_in_range 1) rs ≡ true
   records-one [] within other = refl
   records-one (r ∷ rs) within other =
-      let a = both_true (is_record_in_range form r) _ within in
-      let b = both_true (not (r.kind == REST)) _ other in
-      true_both (is_record_in_range 1 r) _ (record-one r a.0 b.0) (records-one rs a.1 b.1)
+      let a = and_parts (is_record_in_range form r) _ within in
+      let b = and_parts (not (r.kind == REST)) _ other in
+      and_from (is_record_in_range 1 r) _ (record-one r a.0 b.0) (records-one rs a.1 b.1)
 
   records-two : (rs : List Rec) → list_all (is_record_in_range form) rs ≡ true → list_all (is_record_in_range 2) rs ≡ true
   records-two [] within = refl
   records-two (r ∷ rs) within =
-      let a = both_true (is_record_in_range form r) _ within in
-      true_both (is_record_in_range 2 r) _ (record-two r a.0) (records-two rs a.1)
+      let a = and_parts (is_record_in_range form r) _ within in
+      and_from (is_record_in_range 2 r) _ (record-two r a.0) (records-two rs a.1)
 
   lanes-one : (lanes : List (List Rec)) → list_all (is_lane_in_range form) lanes ≡ true → has_no_rest lanes ≡ true → list_all (is_lane_in_range 1) lanes ≡ true
   lanes-one [] within other = refl
   lanes-one (lane ∷ lanes) within other =
-      let a = both_true (is_lane_in_range form lane) _ within in
-      let b = both_true (list_all (λ (r : Rec). not (r.kind == REST)) lane) _ other in
-      let short = both_true (nat_le (length lane) 1000001) _ a.0 in
-      true_both (is_lane_in_range 1 lane) _ (true_both (nat_le (length lane) 1000001) _ short.0 (records-one lane short.1 b.0)) (lanes-one lanes a.1 b.1)
+      let a = and_parts (is_lane_in_range form lane) _ within in
+      let b = and_parts (list_all (λ (r : Rec). not (r.kind == REST)) lane) _ other in
+      let short = and_parts (nat_le (length lane) 1000001) _ a.0 in
+      and_from (is_lane_in_range 1 lane) _ (and_from (nat_le (length lane) 1000001) _ short.0 (records-one lane short.1 b.0)) (lanes-one lanes a.1 b.1)
 
   lanes-two : (lanes : List (List Rec)) → list_all (is_lane_in_range form) lanes ≡ true → list_all (is_lane_in_range 2) lanes ≡ true
   lanes-two [] within = refl
   lanes-two (lane ∷ lanes) within =
-      let a = both_true (is_lane_in_range form lane) _ within in
-      let short = both_true (nat_le (length lane) 1000001) _ a.0 in
-      true_both (is_lane_in_range 2 lane) _ (true_both (nat_le (length lane) 1000001) _ short.0 (records-two lane short.1)) (lanes-two lanes a.1)
+      let a = and_parts (is_lane_in_range form lane) _ within in
+      let short = and_parts (nat_le (length lane) 1000001) _ a.0 in
+      and_from (is_lane_in_range 2 lane) _ (and_from (nat_le (length lane) 1000001) _ short.0 (records-two lane short.1)) (lanes-two lanes a.1)
 
 -- a journal in range for one form is in range for another that it has
 pub range-moves : (form : ℕ) (to : Form) (j : Journal) → is_in_range form j ≡ true → has_form (number_of_form to) j ≡ true → is_in_range (number_of_form to) j ≡ true
 range-moves form One j within has =
-    let lanes = both_true _ _ within in
-    let few = both_true _ _ lanes.0 in
-    let end = both_true _ _ few.0 in
-    let most = both_true _ _ end.0 in
-    let budget = both_true _ _ most.0 in
-    let form_has = both_true (not (j.kernel == qv)) (has_no_rest j.lanes) has in
+    let lanes = and_parts _ _ within in
+    let few = and_parts _ _ lanes.0 in
+    let end = and_parts _ _ few.0 in
+    let most = and_parts _ _ end.0 in
+    let budget = and_parts _ _ most.0 in
+    let form_has = and_parts (not (j.kernel == qv)) (has_no_rest j.lanes) has in
     let kernel : nat_le j.kernel 2 ≡ true = kernel-one (form == 2) j.kernel budget.0 form_has.0 in
-    true_both _ _ (true_both _ _ (true_both _ _ (true_both _ _ (true_both _ _ kernel budget.1) most.1) end.1) few.1) (lanes-one form j.lanes lanes.1 form_has.1)
+    and_from _ _ (and_from _ _ (and_from _ _ (and_from _ _ (and_from _ _ kernel budget.1) most.1) end.1) few.1) (lanes-one form j.lanes lanes.1 form_has.1)
 range-moves form Two j within has =
-    let lanes = both_true _ _ within in
-    let few = both_true _ _ lanes.0 in
-    let end = both_true _ _ few.0 in
-    let most = both_true _ _ end.0 in
-    let budget = both_true _ _ most.0 in
+    let lanes = and_parts _ _ within in
+    let few = and_parts _ _ lanes.0 in
+    let end = and_parts _ _ few.0 in
+    let most = and_parts _ _ end.0 in
+    let budget = and_parts _ _ most.0 in
     let kernel : nat_le j.kernel 3 ≡ true = kernel-two (form == 2) j.kernel budget.0 in
-    true_both _ _ (true_both _ _ (true_both _ _ (true_both _ _ (true_both _ _ kernel budget.1) most.1) end.1) few.1) (lanes-two form j.lanes lanes.1)
+    and_from _ _ (and_from _ _ (and_from _ _ (and_from _ _ (and_from _ _ kernel budget.1) most.1) end.1) few.1) (lanes-two form j.lanes lanes.1)
 
 -- the journal of a run is lawful
 pub run-lawful : (sys : System) (sources : List (List stimulus.Stim)) (kernel : Kernel) (budget : ℕ) (j : Journal) → IsRunUnder kernel sys sources budget j
@@ -136,8 +135,8 @@ module _ (sys : System) (sources : List (List stimulus.Stim)) (budget : ℕ) (j 
 -- it has few lanes
 pub lanes-few : (form : ℕ) (j : Journal) → is_in_range form j ≡ true → length j.lanes ≤ 49
 lanes-few form j within =
-    let lanes = both_true _ (list_all (is_lane_in_range form) j.lanes) within in
-    let few : nat_le (length j.lanes) 49 ≡ true = (both_true _ (nat_le (length j.lanes) 49) lanes.0).1 in
+    let lanes = and_parts _ (list_all (is_lane_in_range form) j.lanes) within in
+    let few : nat_le (length j.lanes) 49 ≡ true = (and_parts _ (nat_le (length j.lanes) 49) lanes.0).1 in
     grind (arith, nat_tests, few)
 
 -- and nothing follows a record that ends a lane of a lawful one

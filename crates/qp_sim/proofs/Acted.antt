@@ -2,6 +2,7 @@
 use Rattle.std.proofs.Common.{◌≡◌, ◌≢◌, ℕ, zero, suc, ◌+◌, ◌<◌, ◌≤◌, ◌==◌, nat_lt, Bool, true, false, not, cond, ◌||◌, List, [], ◌∷◌, ◌++◌, map, length, drop, get_or, slice_set, refl, sym, ◌∙◌, ap, subst, arith, length-append}
 use Rattle.std.specs.List.{list_all, list_any, count_by}
 use Rattle.std.specs.Option.{is_some}
+use Rattle.std.proofs.lemmas.Bool.{and_from, and_parts}
 use Rattle.std.proofs.lemmas.Bool.Decides.{nat_tests}
 use Rattle.std.proofs.lemmas.List.{map-append, append-nil, length-map, length-set, get_or-set_same, get_or-set_other, drop_all}
 use Rattle.qp_model.specs.declared.stimulus.Stim.{Stim}
@@ -13,7 +14,6 @@ use Rattle.qp_model.specs.Ends.{is_spill}
 use Rattle.qp_model.specs.OneOrder.{stim_of}
 use Rattle.qp_model.specs.Sources.{StimFits}
 use Rattle.qp_model.specs.Kernels.{sim}
-use Rattle.qp_model.proofs.ListLemmas.{both_true, true_both}
 use Rattle.qp_calls.specs.LaneView.{LaneView, Happening, placed_by}
 use Rattle.qp_calls.specs.Notes.{spills_in}
 use Rattle.qp_orders.specs.Placing.{AreBehind}
@@ -42,8 +42,8 @@ use Rattle.qp_sim.specs.Visiting.{Leaves, Amounts, HasStopped}
 use Rattle.qp_sim.proofs.OrderLemmas.{placed-untold}
 
 all-more : {A : Type 0} (p : A → Bool) (xs : List A) (x : A) → list_all p xs ≡ true → p x ≡ true → list_all p (xs ++ x ∷ []) ≡ true
-all-more p [] x h k = true_both _ _ k refl
-all-more p (y ∷ ys) x h k = true_both _ _ (both_true _ _ h).0 (all-more p ys x (both_true _ _ h).1 k)
+all-more p [] x h k = and_from _ _ k refl
+all-more p (y ∷ ys) x h k = and_from _ _ (and_parts _ _ h).0 (all-more p ys x (and_parts _ _ h).1 k)
 
 -- The records of a whole stimulus.
 none-stim : (g : List Told) → AreBehind false (source_items g) → count_by (λ t. is_some (stim_of t.body)) g ≡ 0
@@ -87,7 +87,7 @@ pub begun-few : (n : ℕ) (hs : List Happening) → list_all is_whole hs ≡ tru
 unfolding begun_by told_by
 begun-few n [] h = omega arith
 begun-few n (x ∷ hs) h =
-    let parts = both_true _ _ h in
+    let parts = and_parts _ _ h in
     let later = begun-few n hs parts.1 in
     let both = length-append (cond (x.source == n) x.told []) (told_by n hs) in
     let here = go (x.source == n) x.told parts.0 in
@@ -103,7 +103,7 @@ pub none-spilled : (n : ℕ) (hs : List Happening) → list_all is_unspilled hs 
 unfolding told_by
 none-spilled n [] h = refl
 none-spilled n (x ∷ hs) h =
-    let parts = both_true _ _ h in
+    let parts = and_parts _ _ h in
     ap spills_in (map-append (for_object 0) (cond (x.source == n) x.told []) (told_by n hs))
     ∙ joined (cond (x.source == n) x.told []) (lane_told n hs) (go (x.source == n) x.told parts.0) (none-spilled n hs parts.1)
   where

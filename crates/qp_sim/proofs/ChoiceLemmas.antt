@@ -2,6 +2,7 @@
 use Rattle.std.proofs.Common.{◌≡◌, ℕ, zero, suc, ◌+◌, ◌-◌, ◌<◌, ◌≤◌, ◌==◌, nat_lt, Bool, true, false, ◌&&◌, ◌||◌, List, [], ◌∷◌, ◌++◌, length, take, drop, get_or, refl, sym, ◌∙◌, ap, subst, arith, Option, Some, None, if◌then◌else◌}
 use Rattle.std.specs.List.{count_by, enumerate_from, find, list_all, list_any}
 use Rattle.std.specs.Option.{is_some, option_map}
+use Rattle.std.proofs.lemmas.Bool.{and_parts, or_parts}
 use Rattle.std.proofs.lemmas.Bool.Decides.{nat_tests}
 use Rattle.std.proofs.lemmas.List.{get_or_append_left, get_or-append-add, get_or-drop, get_or-map, get_or-take, length-map, take-append-drop}
 use Rattle.std.proofs.lemmas.List.FromFn.{get_or-enumerate_from, length-enumerate_from}
@@ -11,7 +12,6 @@ use Rattle.qp_model.specs.declared.systems.System.{System}
 use Rattle.qp_model.specs.Record.{Item}
 use Rattle.qp_model.specs.Told.{Told, ToldItem}
 use Rattle.qp_model.specs.OneOrder.{Placed, Turn, acted_last, acts_next, all_empty, begun, is_stim, left_after, may_act, stim_of, turned}
-use Rattle.qp_model.proofs.ListLemmas.{both_true}
 use Rattle.qp_calls.specs.Counting.{one, times}
 use Rattle.qp_calls.specs.LaneView.{LaneView, Happening}
 use Rattle.qp_orders.specs.Placing.{all_placed}
@@ -69,21 +69,17 @@ get_or-turned n i xs d few less = go (nat_lt (n + i) (length xs)) refl
 
 -- The stimuli in the order.
 
-any-false : (x y : Bool) → (x || y) ≡ false → (x ≡ false) × (y ≡ false)
-any-false true y h = absurd (cc)
-any-false false y h = (refl, h)
-
 abbrev pub StimLess : List Item → Type 0
 StimLess is = list_any (λ i. is_some (stim_of i.body)) is ≡ false
 
 stimless-parts : (n : ℕ) (is : List Item) → StimLess is → StimLess (take n is) × StimLess (drop n is)
 stimless-parts n is h =
-    any-false (list_any (λ i. is_some (stim_of i.body)) (take n is)) (list_any (λ i. is_some (stim_of i.body)) (drop n is))
+    or_parts (list_any (λ i. is_some (stim_of i.body)) (take n is)) (list_any (λ i. is_some (stim_of i.body)) (drop n is))
     (sym (list_any-append (λ i. is_some (stim_of i.body)) (take n is) (drop n is)) ∙ ap (list_any (λ i. is_some (stim_of i.body))) (take-append-drop n is) ∙ h)
 
 untold-stimless : (ts : List ToldItem) → list_any (λ t. is_some (stim_of t.told.body)) ts ≡ false → StimLess (untold_all ts)
 untold-stimless [] h = refl
-untold-stimless (t ∷ ts) h = let parts = any-false (is_some (stim_of t.told.body)) (list_any (λ t. is_some (stim_of t.told.body)) ts) h in rw parts.0 (untold-stimless ts parts.1)
+untold-stimless (t ∷ ts) h = let parts = or_parts (is_some (stim_of t.told.body)) (list_any (λ t. is_some (stim_of t.told.body)) ts) h in rw parts.0 (untold-stimless ts parts.1)
 
 acted-append : (last : ℕ) (xs ys : List Placed) → acted_last last (xs ++ ys) ≡ acted_last (acted_last last xs) ys
 unfolding acted_last
@@ -93,7 +89,7 @@ acted-append last (x ∷ xs) ys = acted-append (if is_stim x then x.lane else la
 acted-lane : (last : ℕ) (is : List Item) → StimLess is → acted_last last (all_placed 0 is) ≡ last
 unfolding acted_last
 acted-lane last [] h = refl
-acted-lane last (i ∷ is) h = let parts = any-false (is_some (stim_of i.body)) (list_any (λ i. is_some (stim_of i.body)) is) h in
+acted-lane last (i ∷ is) h = let parts = or_parts (is_some (stim_of i.body)) (list_any (λ i. is_some (stim_of i.body)) is) h in
     ap (λ u. acted_last (if u then 0 else last) (all_placed 0 is)) parts.0 ∙ acted-lane last is parts.1
 
 acted-told : (n last : ℕ) (g : List Told) → acted_last last (all_placed n (source_items g)) ≡ (if list_any (λ t. is_some (stim_of t.body)) g then n else last)
@@ -110,7 +106,7 @@ acted-told n last (t ∷ g) = go (is_some (stim_of t.body)) (list_any (λ t. is_
 none-times : {X : Type 0} (p : X → Bool) (xs : List X) → list_any p xs ≡ false → times p xs ≡ 0
 unfolding times
 none-times p [] h = refl
-none-times p (x ∷ xs) h = let parts = any-false (p x) (list_any p xs) h in rw parts.0 (omega (arith, none-times p xs parts.1))
+none-times p (x ∷ xs) h = let parts = or_parts (p x) (list_any p xs) h in rw parts.0 (omega (arith, none-times p xs parts.1))
 
 one-stim : (h : Happening) → is_whole h ≡ true → times (λ t. is_some (stim_of t.body)) h.told ≡ 1
 one-stim h whole =
@@ -129,7 +125,7 @@ pub acted-order : (last n : ℕ) (lane : List Item) (hs : List Happening) → St
 unfolding run_order last_source
 acted-order last n lane [] none whole = acted-lane last lane none
 acted-order last n lane (h ∷ hs) none whole =
-    let parts = both_true _ _ whole in
+    let parts = and_parts _ _ whole in
     let halves = stimless-parts (h.at - n) lane none in
     acted-append last (all_placed 0 (take (h.at - n) lane) ++ placed_of h) (run_order h.at (drop (h.at - n) lane) hs)
     ∙ ap (λ k. acted_last k (run_order h.at (drop (h.at - n) lane) hs))
@@ -172,7 +168,7 @@ unfolding run_order begun_by
 begun-order k n lane [] whole = begun-lane k lane
 begun-order k n lane (h ∷ hs) whole =
     let p : Placed → Bool = λ x. is_stim x && (x.lane == suc k) in
-    let parts = both_true _ _ whole in
+    let parts = and_parts _ _ whole in
     let here : times p (placed_of h) ≡ (if h.source == suc k then 1 else 0) =
     begun-told h.source (suc k) h.told ∙ ap (λ m. if h.source == suc k then m else 0) (one-stim h parts.0) in
     times-append p (all_placed 0 (take (h.at - n) lane) ++ placed_of h) (run_order h.at (drop (h.at - n) lane) hs)

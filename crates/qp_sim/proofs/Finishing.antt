@@ -1,12 +1,12 @@
 -- What a world of `sim` leaves.
 use Rattle.std.proofs.Common.{◌≡◌, ◌≢◌, ℕ, ◌==◌, nat_lt, Bool, true, false, ◌&&◌, ◌||◌, List, [], ◌∷◌, map, get_or, refl, sym, ◌∙◌, ap, subst, arith}
 use Rattle.std.specs.List.{list_all, list_any, count_by}
+use Rattle.std.proofs.lemmas.Bool.{and_from, and_parts}
 use Rattle.std.proofs.lemmas.Bool.Decides.{nat_tests}
 use Rattle.std.proofs.lemmas.List.{length-map}
 use Rattle.qp_model.specs.declared.record.Rec.{Rec}
 use Rattle.qp_model.specs.History.{lane_items}
 use Rattle.qp_model.specs.End.{has_room}
-use Rattle.qp_model.proofs.ListLemmas.{both_true, true_both}
 use Rattle.qp_model.specs.OneOrder.{enters, leaves}
 use Rattle.qp_calls.specs.Notes.{stop_code}
 use Rattle.qp_sound.specs.View.{view_of}
@@ -27,7 +27,7 @@ use Rattle.qp_sim.proofs.Worlds.{tells, tolds, told-here, told-of, told-other, l
 all-room : (gs : List Log) → list_all (λ lane. has_room (lane_items lane)) (map recs_of gs) ≡ true
 unfolding has_room
 all-room [] = refl
-all-room (g ∷ gs) = true_both _ _ (is-le _ _ (omega (arith, g.few))) (all-room gs)
+all-room (g ∷ gs) = and_from _ _ (is-le _ _ (omega (arith, g.few))) (all-room gs)
 
 -- a code that was handed in has its record
 any-all : (p : ℕ → Bool) (c : ℕ) (xs : List ℕ) → list_any (λ x. x == c) xs ≡ true → list_all p xs ≡ true → p c ≡ true
@@ -35,8 +35,8 @@ any-all p c [] h all = absurd (cc)
 any-all p c (x ∷ xs) h all = go (x == c) refl h (any-all p c xs)
   where
     go : (u : Bool) → (x == c) ≡ u → (u || list_any (λ x. x == c) xs) ≡ true → (list_any (λ x. x == c) xs ≡ true → list_all p xs ≡ true → p c ≡ true) → p c ≡ true
-    go true e k later = let same : x ≡ c = grind (arith, nat_tests) in subst (λ y. p y ≡ true) same (both_true _ _ all).0
-    go false e k later = later k (both_true _ _ all).1
+    go true e k later = let same : x ≡ c = grind (arith, nat_tests) in subst (λ y. p y ≡ true) same (and_parts _ _ all).0
+    go false e k later = later k (and_parts _ _ all).1
 
 true-any : (u v : Bool) → v ≡ true → (u || v) ≡ true
 true-any true v e = refl
@@ -64,10 +64,10 @@ any-caused c (g ∷ gs) h = go (was_handed c g) refl h (any-caused c gs)
 all-same : (p : ℕ → Bool) (c : ℕ) (xs : List ℕ) → p c ≡ true → list_all (λ x. x == c) xs ≡ true → list_all p xs ≡ true
 all-same p c [] here h = refl
 all-same p c (x ∷ xs) here h =
-    let parts = both_true _ _ h in
+    let parts = and_parts _ _ h in
     let is : (x == c) ≡ true = parts.0 in
     let same : x ≡ c = grind (arith, nat_tests) in
-    true_both _ _ (subst (λ y. p y ≡ true) (sym same) here) (all-same p c xs here parts.1)
+    and_from _ _ (subst (λ y. p y ≡ true) (sym same) here) (all-same p c xs here parts.1)
 
 found-caused : (w : PlainWorld) → list_all (λ code. has_cause (lists_of w.book) code) w.book.here.answered.list ≡ true
 found-caused w = go (w.stop == 0) refl

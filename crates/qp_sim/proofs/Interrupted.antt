@@ -2,6 +2,7 @@
 use Rattle.std.proofs.Common.{◌≡◌, ℕ, zero, suc, ◌+◌, ◌-◌, ◌<◌, ◌≤◌, ◌==◌, nat_lt, cond, Bool, true, false, ◌⊎◌, ◌&&◌, ◌||◌, List, [], ◌∷◌, ◌++◌, map, length, drop, get_or, slice_set, refl, sym, ◌∙◌, ap, subst, arith, inl, inr, Option, Some, None}
 use Rattle.std.specs.List.{list_all, list_any}
 use Rattle.std.specs.Option.{option_map, is_some}
+use Rattle.std.proofs.lemmas.Bool.{and_from, and_parts}
 use Rattle.std.proofs.lemmas.Bool.Decides.{nat_tests}
 use Rattle.qp_model.specs.declared.stimulus.Stim.{Stim}
 use Rattle.qp_model.specs.declared.systems.System.{System}
@@ -10,7 +11,6 @@ use Rattle.qp_model.specs.Sources.{StimFits}
 use Rattle.qp_model.specs.Told.{Told}
 use Rattle.qp_model.specs.declared.stimulus.Stim.TheVariants as stim
 use Rattle.qp_model.specs.OneOrder.{all_empty, acts_next, may_act}
-use Rattle.qp_model.proofs.ListLemmas.{both_true, true_both}
 use Rattle.qp_calls.specs.LaneView.{LaneView, Purse, Happening, is_codeless, no_code, is_known}
 use Rattle.qp_calls.specs.Clauses.{Stopped}
 use Rattle.qp_sound.specs.View.{view_of}
@@ -89,16 +89,16 @@ bare-stops p = no_code p.stops
 
 all-put_back : (p : Purse → Bool) (xs : List Purse) (k : ℕ) (d y : Purse) → list_all p (slice_set xs k y) ≡ true → p (get_or xs k d) ≡ true → list_all p xs ≡ true
 all-put_back p [] k d y h here = refl
-all-put_back p (x ∷ xs) zero d y h here = true_both _ _ here (both_true _ _ h).1
-all-put_back p (x ∷ xs) (suc k) d y h here = true_both _ _ (both_true _ _ h).0 (all-put_back p xs k d y (both_true _ _ h).1 here)
+all-put_back p (x ∷ xs) zero d y h here = and_from _ _ here (and_parts _ _ h).1
+all-put_back p (x ∷ xs) (suc k) d y h here = and_from _ _ (and_parts _ _ h).0 (all-put_back p xs k d y (and_parts _ _ h).1 here)
 
 codeless-bare : (ps : List Purse) → list_all is_codeless ps ≡ true → list_all (λ p. no_code p.stops) ps ≡ true
 codeless-bare [] h = refl
-codeless-bare (p ∷ ps) h = true_both _ _ (both_true _ _ (both_true _ _ h).0).0 (codeless-bare ps (both_true _ _ h).1)
+codeless-bare (p ∷ ps) h = and_from _ _ (and_parts _ _ (and_parts _ _ h).0).0 (codeless-bare ps (and_parts _ _ h).1)
 
 none-handed : (c : ℕ) (gs : List Log) → list_all (λ p. no_code p.stops) (map purse_of gs) ≡ true → list_any (was_handed c) gs ≡ true → ⊥
 none-handed c [] h k = absurd (cc)
-none-handed c (g ∷ gs) h k = go g.stops.list (both_true _ _ h).0 k (none-handed c gs (both_true _ _ h).1)
+none-handed c (g ∷ gs) h k = go g.stops.list (and_parts _ _ h).0 k (none-handed c gs (and_parts _ _ h).1)
   where
     go : (cs : List ℕ) → no_code cs ≡ true → (list_any (λ x. x == c) cs || list_any (was_handed c) gs) ≡ true → (list_any (was_handed c) gs ≡ true → ⊥) → ⊥
     go [] e k later = later k
@@ -116,7 +116,7 @@ code-handed w code codes found bare = by (w.stop == 0) refl
         absurd (cc)
     by false e =
         let handed : list_any (was_handed w.stop) (logs_of w.book) ≡ true = subst (λ u. (u || list_any (was_handed w.stop) (logs_of w.book)) ≡ true) e w.stops.handed in
-        let parts = both_true _ _ bare in
+        let parts = and_parts _ _ bare in
         let others : list_all (λ p. no_code p.stops) (slice_set (purses w) (chosen w) no_purse) ≡ true = codeless-bare (slice_set (purses w) (chosen w) no_purse) parts.1 in
         let here : no_code (get_or (purses w) (chosen w) no_purse).stops ≡ true = subst (λ p. no_code p.stops ≡ true) (purse-here w) parts.0 in
         none-handed w.stop (logs_of w.book) (all-put_back (λ p. no_code p.stops) (purses w) (chosen w) no_purse no_purse others here) handed
@@ -185,7 +185,7 @@ module _ (w : SimWorld) (sys : System) (made : (world_view w.plain).sys ≡ sys)
   rests-there j is ss e =
       let may : may_act rests (left_of w.stim.now w.begun.items j) ≡ true = subst (λ k. may_act rests (left_of w.stim.now w.begun.items k) ≡ true) (sym is.its) is.may in
       let resting_now : rests ≡ true = subst (λ l. may_act rests l ≡ true) e may in
-      let empty = (both_true base (all_empty w.plain.sys.now (log_in w.plain)) (sym resting ∙ resting_now)).1 in
+      let empty = (and_parts base (all_empty w.plain.sys.now (log_in w.plain)) (sym resting ∙ resting_now)).1 in
       λ p object. rests-counts w.plain empty p object
 
   pub place-there : (j : ℕ) → IsChosen rests w.stim.now w.begun.items w.last (Some j) → j < length w.stim.now

@@ -1,6 +1,7 @@
 -- The calls on blocks do what their clauses say.
 use Rattle.std.proofs.Common.{◌≡◌, ℕ, suc, ◌+◌, ◌<◌, ◌≤◌, ◌==◌, nat_lt, Bool, true, false, not, ◌&&◌, List, [], ◌∷◌, length, take, refl, sym, ◌∙◌, ap, subst, arith, IsTrue, inl, inr, Option, Some, None, take_all, length-append}
 use Rattle.std.specs.Option.{unwrap_or}
+use Rattle.std.proofs.lemmas.Bool.{and_from}
 use Rattle.std.proofs.lemmas.List.{take-append-le}
 use Rattle.std.proofs.lemmas.Bool.Decides.{nat_tests}
 use Rattle.qp_chart.specs.StateTree.{has}
@@ -16,7 +17,6 @@ use Rattle.qp_model.specs.FreeBlocks.{free_blocks}
 use Rattle.qp_model.specs.Sites.{blocks_of}
 use Rattle.qp_model.specs.Knowing.{free_before, left_after, known_of, told}
 use Rattle.qp_model.specs.WordLaw.{is_block, is_pool}
-use Rattle.qp_model.proofs.ListLemmas.{true_both}
 use Rattle.qp_model.proofs.HistoryLemmas.{length-hist}
 use Rattle.qp_calls.specs.declared.tokens.Hold.{Hold}
 use Rattle.qp_calls.specs.declared.tokens.Fresh.{Fresh}
@@ -158,7 +158,7 @@ module _ (s : Step) (p b r : ℕ) (ext : Extends s s.by (Inc p b r)) (m : MayMak
     its_pool = refl;
     its_block = refl;
     draws = record {
-      up = draws-up s s.by (Inc p b r) ext.world ext.grown ext.says inc_may (word.Block p b) (true_both _ _ (same_number p) (same_number b)) inc_draws;
+      up = draws-up s s.by (Inc p b r) ext.world ext.grown ext.says inc_may (word.Block p b) (and_from _ _ (same_number p) (same_number b)) inc_draws;
       says = ap (λ x. References (length x.names)) (refs-after s s.by (Inc p b r) ext.world ext.grown ext.says inc_may p b m.block inc_draws) ∙ ap References (sym is);
     };
   }
@@ -229,7 +229,7 @@ module _ (s : Step) (h : Hold) (d : ℕ) (ext : Extends s s.by (Dec h.pool h.blo
   dec_draws = ap (λ x. Draws (word.Block h.pool h.block) (suc x)) dec_counted
 
   self : ((h.pool == h.pool) && (h.block == h.block)) ≡ true
-  self = true_both _ _ (same_number h.pool) (same_number h.block)
+  self = and_from _ _ (same_number h.pool) (same_number h.block)
 
   refs_now : length (refs_in s.more h.pool h.block).names + 1 ≡ length (refs_in s.lanes h.pool h.block).names
   refs_now =

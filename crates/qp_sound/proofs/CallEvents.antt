@@ -1,6 +1,7 @@
 -- Events of entries; a take does what its clause says.
 use Rattle.std.proofs.Common.{◌≡◌, ℕ, zero, suc, ◌+◌, ◌-◌, ◌<◌, ◌≤◌, ◌==◌, nat_lt, nat_le, true, false, ◌&&◌, List, [], ◌∷◌, length, slice_get, refl, sym, ◌∙◌, ap, subst, arith, IsTrue, Option, Some, None}
 use Rattle.std.specs.Option.{option_map_or}
+use Rattle.std.proofs.lemmas.Bool.{and_from, and_parts}
 use Rattle.std.proofs.lemmas.Bool.Decides.{nat_tests}
 use Rattle.qp_chart.specs.StateTree.{has}
 use Rattle.qp_model.specs.declared.record.Rec.{Rec}
@@ -16,7 +17,6 @@ use Rattle.qp_model.specs.Line.{Line}
 use Rattle.qp_model.specs.Parts.{is_static}
 use Rattle.qp_model.specs.Knowing.{event_of, event_known, known_of, told}
 use Rattle.qp_model.specs.WordLaw.{is_object, is_block}
-use Rattle.qp_model.proofs.ListLemmas.{both_true, true_both}
 use Rattle.qp_calls.specs.declared.tokens.Hold.{Hold}
 use Rattle.qp_calls.specs.declared.tokens.Entry.{Entry}
 use Rattle.qp_calls.specs.declared.tokens.Entry.TheVariants as token
@@ -46,8 +46,8 @@ pub record HasEvent (sys : System) (lanes : List (List Rec)) (e : model.Entry) :
 
 pub event-from : (sys : System) (ev : Event) → IsTrue (is_event sys ev) → IsEvent sys ev
 event-from sys ev h =
-    let two = both_true (nat_le 4 ev.sig && nat_lt ev.sig (length sys.signals + 4)) (length ev.pars == params_of sys ev.sig) h in
-    let first = both_true (nat_le 4 ev.sig) (nat_lt ev.sig (length sys.signals + 4)) two.0 in
+    let two = and_parts (nat_le 4 ev.sig && nat_lt ev.sig (length sys.signals + 4)) (length ev.pars == params_of sys ev.sig) h in
+    let first = and_parts (nat_le 4 ev.sig) (nat_lt ev.sig (length sys.signals + 4)) two.0 in
     let low : nat_le 4 ev.sig ≡ true = first.0 in
     let high : nat_lt ev.sig (length sys.signals + 4) ≡ true = first.1 in
     let params : (length ev.pars == params_of sys ev.sig) ≡ true = two.1 in
@@ -55,7 +55,7 @@ event-from sys ev h =
 
 pub event-to : (sys : System) (ev : Event) → IsEvent sys ev → IsTrue (is_event sys ev)
 event-to sys ev h =
-    true_both _ _ (true_both _ _ (le-true 4 ev.sig h.from) (lt-true ev.sig (length sys.signals + 4) h.within)) (same-true (length ev.pars) (params_of sys ev.sig) h.params)
+    and_from _ _ (and_from _ _ (le-true 4 ev.sig h.from) (lt-true ev.sig (length sys.signals + 4) h.within)) (same-true (length ev.pars) (params_of sys ev.sig) h.params)
   where
     le-true : (x y : ℕ) → x ≤ y → nat_le x y ≡ true
     le-true x y k = grind (arith, nat_tests)
@@ -74,12 +74,12 @@ there (y ∷ ys) (suc i) x h = let k = there ys i x h in omega (arith, k)
 -- static events
 static-good : (sys : System) (sig : ℕ) → params_of sys sig ≡ 0 → is_static sys sig ≡ true → IsTrue (is_event sys (record { sig = sig; pars = [] }))
 unfolding is_static
-static-good sys sig bare h = go (slice_get sys.signals (sig - 4)) refl (both_true _ _ h).1
+static-good sys sig bare h = go (slice_get sys.signals (sig - 4)) refl (and_parts _ _ h).1
   where
     go : (d : Option _) → slice_get sys.signals (sig - 4) ≡ d → option_map_or (λ x. x.fixed) d false ≡ true → IsTrue (is_event sys (record { sig = sig; pars = [] }))
     go None e k = absurd (cc)
     go (Some d) e k =
-        let low : nat_le 4 sig ≡ true = (both_true _ _ h).0 in
+        let low : nat_le 4 sig ≡ true = (and_parts _ _ h).0 in
         let from : 4 ≤ sig = grind (arith, nat_tests) in
         let within = there sys.signals (sig - 4) d e in
         event-to sys (record { sig = sig; pars = [] }) (record { from = from; within = omega (arith, within, from); params = sym bare })

@@ -2,6 +2,7 @@
 use Rattle.std.proofs.Common.{◌≡◌, ◌≢◌, ℕ, zero, suc, ◌+◌, ◌<◌, ◌==◌, nat_lt, nat_le, Bool, true, false, not, ◌&&◌, ◌||◌, cond, List, [], ◌∷◌, ◌++◌, length, refl, sym, ◌∙◌, ap, subst, arith, IsTrue, inl, inr, Some, append_assoc}
 use Rattle.std.specs.List.{list_all, find}
 use Rattle.std.specs.Option.{is_some}
+use Rattle.std.proofs.lemmas.Bool.{and_from}
 use Rattle.std.proofs.lemmas.Bool.Decides.{nat_tests}
 use Rattle.qp_chart.specs.StateTree.{has}
 use Rattle.qp_model.specs.declared.record.Rec.{Rec}
@@ -13,7 +14,7 @@ use Rattle.qp_model.specs.History.{all_items}
 use Rattle.qp_model.specs.Sites.{object_at, blocks_of}
 use Rattle.qp_model.specs.End.{lines_empty, names_on, same_numbers, block_rests, blocks_rest}
 use Rattle.qp_model.specs.WordLaw.{is_block, is_object}
-use Rattle.qp_model.proofs.ListLemmas.{true_both, all_below_from}
+use Rattle.qp_model.proofs.ListLemmas.{all_below_from}
 use Rattle.qp_calls.specs.Tokens.{Token, Held, Loose}
 use Rattle.qp_calls.specs.Counting.{one, times, count_of}
 use Rattle.qp_calls.specs.Deferring.{tokens_in}
@@ -114,7 +115,7 @@ same-length (x ∷ xs) ys same =
 
 all-has : (xs ys zs : List ℕ) → ((r : ℕ) → has xs r ≡ true → has ys r ≡ true) → ((r : ℕ) → has zs r ≡ true → has xs r ≡ true) → list_all (λ x. has ys x) zs ≡ true
 all-has xs ys [] h k = refl
-all-has xs ys (z ∷ zs) h k = true_both _ _ (h z (k z (rw (same_number z) refl))) (all-has xs ys zs h (λ r e. k r (rw e (or-true (z == r)))))
+all-has xs ys (z ∷ zs) h k = and_from _ _ (h z (k z (rw (same_number z) refl))) (all-has xs ys zs h (λ r e. k r (rw e (or-true (z == r)))))
   where
     or-true : (u : Bool) → (u || true) ≡ true
     or-true true = refl
@@ -124,7 +125,7 @@ pub numbers-same : (xs ys : List ℕ) → ((r : ℕ) → times (λ x. x == r) xs
 numbers-same xs ys same =
     let long = same-length xs ys same in
     let lengths : (length xs == length ys) ≡ true = grind (arith, nat_tests) in
-    true_both _ _ (true_both _ _ lengths (all-has xs ys xs (λ r e. has-times ys r (subst (λ n. 0 < n) (same r) (times-has xs r e))) (λ r e. e)))
+    and_from _ _ (and_from _ _ lengths (all-has xs ys xs (λ r e. has-times ys r (subst (λ n. 0 < n) (same r) (times-has xs r e))) (λ r e. e)))
     (all-has ys xs ys (λ r e. has-times xs r (subst (λ n. 0 < n) (sym (same r)) (times-has ys r e))) (λ r e. e))
 
 -- The references of deferred entries.
@@ -200,7 +201,7 @@ module _ (sys : System) (lanes : List (List Rec)) (order : List ℕ) (deferred :
           let some : nat_lt 0 (suc k) ≡ true = grind (arith, nat_tests) in
           let few : nat_le (suc k) (length sys.pools) ≡ true = grind (arith, nat_tests) in
           let here : nat_lt b (blocks_of sys (suc k)) ≡ true = grind (arith, nat_tests) in
-          true_both _ _ (true_both _ _ some few) here
+          and_from _ _ (and_from _ _ some few) here
 
 find-there : (p : ObjectDef → Bool) (xs : List ObjectDef) (d : ObjectDef) (ys : List ObjectDef) → p d ≡ true → is_some (find p (xs ++ d ∷ ys)) ≡ true
 find-there p [] d ys h = rw h refl
@@ -218,7 +219,7 @@ lines-none sys lanes empty done (d ∷ left) split =
     let object : is_some (find (λ x. x.priority == d.priority) sys.objects) ≡ true = subst (λ xs. is_some (find (λ x. x.priority == d.priority) xs) ≡ true) (sym split)
     (find-there (λ x. x.priority == d.priority) done d left (same_number d.priority)) in
     let none : (line_in sys lanes d.priority).entries ≡ [] = empty d.priority object in
-    true_both _ _ (ap (λ es. length es == 0) none)
+    and_from _ _ (ap (λ es. length es == 0) none)
     (lines-none sys lanes empty (done ++ d ∷ []) left (split ∙ sym (append_assoc done (d ∷ []) left)))
 
 pub quiet-end : QuietEndRests

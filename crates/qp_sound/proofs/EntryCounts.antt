@@ -1,6 +1,7 @@
 -- The entries of a queue by the log: as many came as its posts count, and as many went as its takes.
 use Rattle.std.proofs.Common.{◌≡◌, ℕ, zero, suc, ◌+◌, ◌<◌, ◌≤◌, ◌==◌, nat_lt, nat_le, Bool, true, false, ◌&&◌, List, [], ◌∷◌, ◌++◌, length, refl, sym, ◌∙◌, ap, arith, IsTrue}
 use Rattle.std.specs.List.{count_by, filter, list_all}
+use Rattle.std.proofs.lemmas.Bool.{and_from, and_parts}
 use Rattle.std.proofs.lemmas.Bool.Decides.{nat_tests}
 use Rattle.std.proofs.lemmas.List.Sums.{length-filter}
 use Rattle.qp_model.specs.declared.record.Rec.{Rec}
@@ -17,7 +18,6 @@ use Rattle.qp_model.specs.OneOrder.{Placed, enters, leaves}
 use Rattle.qp_model.specs.Sites.{ring_of}
 use Rattle.qp_model.specs.WordLaw.{is_object}
 use Rattle.qp_model.proofs.HistoryLemmas.{drawn_as-on}
-use Rattle.qp_model.proofs.ListLemmas.{both_true, true_both}
 use Rattle.qp_calls.specs.Counting.{one, times}
 use Rattle.qp_sound.specs.Log.{log_of, items_of}
 use Rattle.qp_sound.specs.Sound.{SoundWorld}
@@ -70,8 +70,8 @@ once w v mark (suc n) b on some few = go (mark == suc n) refl (once w v mark n b
 counted_once : (w : Word) (t : Touch) (n : ℕ) (b : Bool) → drawn_on w t ≡ true → drawn_below w n t ≡ true → among w t b n ≡ one b
 counted_once w (Draws v mark) n b on below =
     let both : (nat_lt 0 mark && nat_le mark n) ≡ true = rw on at below in
-    let some : nat_lt 0 mark ≡ true = (both_true (nat_lt 0 mark) (nat_le mark n) both).0 in
-    let few : nat_le mark n ≡ true = (both_true (nat_lt 0 mark) (nat_le mark n) both).1 in
+    let some : nat_lt 0 mark ≡ true = (and_parts (nat_lt 0 mark) (nat_le mark n) both).0 in
+    let few : nat_le mark n ≡ true = (and_parts (nat_lt 0 mark) (nat_le mark n) both).1 in
     let above : 0 < mark = grind (arith, nat_tests) in
     let within : mark ≤ n = grind (arith, nat_tests) in
     once w v mark n b on above within
@@ -105,7 +105,7 @@ numbered-times : (p : Item → Bool) (w : Word) (n : ℕ) (is : List Item) → (
 unfolding times
 numbered-times p w n [] on below = ap (times p) (numbered-none w n)
 numbered-times p w n (i ∷ is) on below =
-    let parts = both_true _ _ below in
+    let parts = and_parts _ _ below in
     numbered-cons p w i is n ∙ go (p i) refl (numbered-times p w n is on parts.1) parts.0
   where
     go : (u : Bool) → p i ≡ u → times p (numbered w is n) ≡ times p is → drawn_below w n (touch i) ≡ true
@@ -118,12 +118,12 @@ filter_on p q [] h = refl
 filter_on p q (i ∷ is) h = go (q i) refl (filter_on p q is h)
   where
     go : (u : Bool) → q i ≡ u → list_all p (filter q is) ≡ true → list_all p (filter q (i ∷ is)) ≡ true
-    go true e rest = rw e (true_both _ _ (h i e) rest)
+    go true e rest = rw e (and_from _ _ (h i e) rest)
     go false e rest = rw e rest
 
 all-both : (p : Item → Bool) (xs ys : List Item) → list_all p xs ≡ true → list_all p ys ≡ true → list_all p (xs ++ ys) ≡ true
 all-both p [] ys h k = k
-all-both p (x ∷ xs) ys h k = let parts = both_true _ _ h in true_both _ _ parts.0 (all-both p xs ys parts.1 k)
+all-both p (x ∷ xs) ys h k = let parts = and_parts _ _ h in and_from _ _ parts.0 (all-both p xs ys parts.1 k)
 
 numbered-on : (w : Word) (is : List Item) (n : ℕ) → list_all (λ i. drawn_on w (touch i)) (numbered w is n) ≡ true
 unfolding numbered
@@ -144,7 +144,7 @@ and_false true = refl
 and_false false = refl
 
 leaves_on : (a o : ℕ) (b : Body) → leaves a (record { of = o; body = b }) ≡ true → drawn_on (word.Queue a) (touch_of o b) ≡ true
-leaves_on a o (Took f l m e) h = (both_true _ _ h).0
+leaves_on a o (Took f l m e) h = (and_parts _ _ h).0
 leaves_on a o _ h = absurd (let no : false ≡ true = sym (and_false (o == a)) ∙ h in cc)
 
 -- what came and went by these operations
@@ -156,8 +156,8 @@ moves : (ring a : ℕ) (s : Line) (is : List Item) → list_all (λ i. drawn_on 
 unfolding after_from allowed_from times
 moves ring a s [] on may = record { came = omega arith; went = omega arith }
 moves ring a s (i ∷ is) on may =
-    let parts = both_true _ _ on in
-    let right = both_true _ _ may in
+    let parts = and_parts _ _ on in
+    let right = and_parts _ _ may in
     step i.body parts.0 right.0 (moves ring a (line_next s i.body) is parts.1 right.1)
   where
     step : (b : Body) → drawn_on (word.Queue a) (touch_of i.of b) ≡ true → line_may ring s b ≡ true → Moved a (line_next s b) (after_from (line ring) (line_next s i.body) is) is
@@ -195,7 +195,7 @@ module _ (sys : System) (lanes : List (List Rec)) (order : List ℕ) (world : So
   unfolding hist is_numbered
   by_log p on =
       let w : Word = word.Queue a in
-      let below = (both_true _ _ (world.sound.words.queues a object).numbers).0 in
+      let below = (and_parts _ _ (world.sound.words.queues a object).numbers).0 in
       count-times (λ x. p x.item) (log_of lanes order) ∙ items-times p (log_of lanes order) ∙ times-log p lanes order world.orders
       ∙ sym (numbered-times p w (total w (all_items lanes)) (all_items lanes) on below)
 

@@ -1,6 +1,7 @@
 -- References and the events of their blocks.
 use Rattle.std.proofs.Common.{◌≡◌, ℕ, ◌+◌, ◌<◌, ◌≤◌, ◌==◌, nat_lt, nat_le, Bool, true, false, ◌&&◌, ◌||◌, cond, List, [], ◌∷◌, ◌++◌, length, refl, subst, arith, ◌⊎◌, Option, Some, None}
 use Rattle.std.specs.List.{list_all, cons_option}
+use Rattle.std.proofs.lemmas.Bool.{and_from, and_parts}
 use Rattle.std.proofs.lemmas.Bool.Decides.{nat_tests}
 use Rattle.qp_chart.specs.StateTree.{has}
 use Rattle.qp_model.specs.declared.words.Word.TheVariants as word
@@ -17,7 +18,6 @@ use Rattle.qp_model.specs.References.{Refs, references, refs_may, refs_next}
 use Rattle.qp_model.specs.Lives.{edge_of, edges, is_empty, refs_at, HasLives, edges_empty}
 use Rattle.qp_model.specs.Knowing.{Facts, given_by, last_given, event_of, event_known, known_of, life_event}
 use Rattle.qp_model.specs.Settled.{Settled}
-use Rattle.qp_model.proofs.ListLemmas.{both_true, true_both}
 use Rattle.qp_model.proofs.MachineLemmas.{after-keeps}
 use Rattle.qp_model.proofs.KnowingLemmas.{IsLater, known-stays}
 use Rattle.qp_calls.specs.Counting.{one, times}
@@ -69,7 +69,7 @@ names_stay s (Inc p b r) h is =
     subst (λ n. AreNames (record { count = s.count + 1; names = n ∷ s.names })) at (made_names s is)
 names_stay s (Dec p b d k) h is = record {
   below = λ q e. let lt = is.below q (has-without s.names k q e) in omega (arith, lt);
-  once = λ q. fewer q (times-without_one s.names k q (both_true _ _ h).1) (is.once q);
+  once = λ q. fewer q (times-without_one s.names k q (and_parts _ _ h).1) (is.once q);
 }
   where
     fewer : (q : ℕ) → times (λ x. x == q) (without_one k s.names) + one (k == q) ≡ times (λ x. x == q) s.names → times (λ x. x == q) s.names ≤ 1 → times (λ x. x == q) (without_one k s.names) ≤ 1
@@ -88,7 +88,7 @@ cell-last b r e (i ∷ is) h = go i.body h (λ c k. cell-last b r c is k)
   where
     split : (u : Bool) (n : ℕ) → list_all (λ x. nat_le x r) (cons_option (cond u (Some n) None) (edges b is)) ≡ true
         → ((u && nat_le n r) ≡ u) × (list_all (λ x. nat_le x r) (edges b is) ≡ true)
-    split true n k = ((both_true _ _ k).0, (both_true _ _ k).1)
+    split true n k = ((and_parts _ _ k).0, (and_parts _ _ k).1)
     split false n k = (refl, k)
 
     go : (c : Body) → list_all (λ n. nat_le n r) (cons_option (edge_of b c) (edges b is)) ≡ true
@@ -105,7 +105,7 @@ edges-within b pool block lives = go (edges b pool) lives.empty
   where
     go : (ns : List ℕ) → list_all (λ n. nat_le n (length block) && is_empty (refs_at n block)) ns ≡ true → list_all (λ n. nat_le n (length block)) ns ≡ true
     go [] h = refl
-    go (n ∷ ns) h = true_both _ _ (both_true _ _ (both_true _ _ h).0).0 (go ns (both_true _ _ h).1)
+    go (n ∷ ns) h = and_from _ _ (and_parts _ _ (and_parts _ _ h).0).0 (go ns (and_parts _ _ h).1)
 
 pub cell-append : (b : ℕ) (e : Option Event) (xs : List Item) (i : Item) → cell_after b e (xs ++ i ∷ []) ≡ cell_next b (cell_after b e xs) i.body
 unfolding cell_after

@@ -1,6 +1,7 @@
 -- A sound world stays sound, whatever record may come.
 use Rattle.std.proofs.Common.{◌≡◌, ℕ, suc, ◌+◌, ◌<◌, ◌≤◌, true, false, List, [], ◌∷◌, ◌++◌, length, take, refl, sym, ◌∙◌, ap, subst, arith, IsTrue, ◌⊎◌, inl, inr, take_all}
 use Rattle.std.specs.List.{list_all}
+use Rattle.std.proofs.lemmas.Bool.{and_from}
 use Rattle.qp_chart.specs.StateTree.{has}
 use Rattle.qp_model.specs.declared.record.Rec.{Rec}
 use Rattle.qp_model.specs.declared.words.Word.TheVariants as word
@@ -21,7 +22,6 @@ use Rattle.qp_model.specs.Line.{Line, line}
 use Rattle.qp_model.specs.Sites.{ring_of, blocks_of}
 use Rattle.qp_model.specs.Knowing.{known_of, left_after}
 use Rattle.qp_model.specs.WordLaw.{is_object, is_pool, is_signal, is_timer}
-use Rattle.qp_model.proofs.ListLemmas.{true_both}
 use Rattle.qp_model.proofs.WordLemmas.{Held as HeldWord}
 use Rattle.qp_model.proofs.LineLemmas.{held-seen, held-nil, held-full, held-no_entry, held-no_lifo}
 use Rattle.qp_model.proofs.ReferenceLemmas.{held-short, held-no_block}
@@ -143,7 +143,7 @@ module _ (sys : System) (before : List (List Rec)) (lane : List Rec) (behind : L
   keeps-sub : (o sig n : ℕ) → Says o (Sub sig n) → IsSignal sys old_lanes sig n → has (set_in old_lanes sig).members o ≡ false → IsTrue (is_object sys o) → Sound sys new_lanes hands
   keeps-sub o sig n is m none object =
       sound-signal_drawn sys before lane behind r _ is hands old sig m.signal (set_draws sig n m) (λ h. held.keeps)
-      (subst (λ x. IsTrue (list_all (is_object sys) x.members)) (sym (set_state sig _ held)) (true_both _ _ object (all-without (is_object sys) o (set_in old_lanes sig).members (old.subscribed sig m.signal))))
+      (subst (λ x. IsTrue (list_all (is_object sys) x.members)) (sym (set_state sig _ held)) (and_from _ _ object (all-without (is_object sys) o (set_in old_lanes sig).members (old.subscribed sig m.signal))))
     where
       held : HeldWord Subscribers subscribers (word.Signal sig) new_lanes (record { count = (set_in old_lanes sig).count + 1; members = o ∷ without_all o (set_in old_lanes sig).members })
       held = held-sub before lane behind r sig (set_in old_lanes sig) (held_set sig m.signal) o (is ∙ ap (λ x. record { of = o; body = Sub sig x }) m.number) none

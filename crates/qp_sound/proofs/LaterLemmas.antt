@@ -1,6 +1,7 @@
 -- A record that may come is later than all that is known, and what it states of its own word has been reached.
 use Rattle.std.proofs.Common.{◌≡◌, ℕ, zero, suc, ◌+◌, ◌<◌, ◌≤◌, ◌==◌, nat_lt, nat_le, Bool, true, false, ◌||◌, List, [], ◌∷◌, ◌++◌, length, refl, sym, ◌∙◌, ap, subst, arith, IsTrue, ◌⊎◌, inl, inr, Option}
 use Rattle.std.specs.List.{list_all}
+use Rattle.std.proofs.lemmas.Bool.{and_from, and_parts}
 use Rattle.std.proofs.lemmas.Bool.Decides.{nat_tests}
 use Rattle.qp_chart.specs.StateTree.{has}
 use Rattle.qp_model.specs.declared.record.Rec.{Rec}
@@ -16,7 +17,6 @@ use Rattle.qp_model.specs.History.{Draws, touch, touch_of, same_word, drawn_on, 
 use Rattle.qp_model.specs.Knowing.{given_by}
 use Rattle.qp_model.specs.Settled.{is_settled}
 use Rattle.qp_model.specs.WordLaw.{Words, is_block, is_object, is_pool, is_signal}
-use Rattle.qp_model.proofs.ListLemmas.{both_true, true_both}
 use Rattle.qp_model.proofs.HistoryLemmas.{length-hist}
 use Rattle.qp_model.proofs.WordLemmas.{all_items-split, all_items-grown}
 use Rattle.qp_model.proofs.KnowingLemmas.{IsLater, later-undrawn, new-fresh, back-fresh, settled-stays}
@@ -90,7 +90,7 @@ module _ (sys : System) (xs : List Item) (i : Item) (ys : List Item) (later : Is
   pub all_made-stays : (lane : List Item) → all_made (xs ++ ys) lane ≡ true → all_made (xs ++ i ∷ ys) lane ≡ true
   unfolding all_made
   all_made-stays [] h = refl
-  all_made-stays (j ∷ js) h = true_both _ _ (handles-stays j.body (both_true _ _ h).0) (all_made-stays js (both_true _ _ h).1)
+  all_made-stays (j ∷ js) h = and_from _ _ (handles-stays j.body (and_parts _ _ h).0) (all_made-stays js (and_parts _ _ h).1)
 
 -- Entries in queues and hands were made.
 part-of-sum : (n : ℕ) (f : ℕ → ℕ) (a : ℕ) → a < n → f a ≤ sum_below n f
@@ -135,7 +135,7 @@ module _ (sys : System) (lanes : List (List Rec)) (hands : List Token) (sound : 
       → IsTrue (is_block sys e.pool e.block) × IsTrue (has (refs_in lanes e.pool e.block).names e.name)
   unfolding queued times
   front-stands a e others h few some front =
-      let good : is_good sys e ≡ true = (both_true _ _ (subst (λ es. list_all (is_good sys) es ≡ true) front (sound.entries a h))).0 in
+      let good : is_good sys e ≡ true = (and_parts _ _ (subst (λ es. list_all (is_good sys) es ≡ true) front (sound.entries a h))).0 in
       let pooled : (e.pool == 0) ≡ false = grind (arith, nat_tests) in
       let block : is_block sys e.pool e.block ≡ true = rw pooled at good in
       let self : one (is_ref (token_of e) e) ≡ 1 = ap one (same-self (token_of e)) in
@@ -229,7 +229,7 @@ module _ (sys : System) (before : List (List Rec)) (lane : List Rec) (behind : L
       go (New p n c from sig pars) t up =
           let lt = long-pool p n (block-pool sys p c t.block).0 t.number (up (word.Pool p) (same_number p)) in
           le-to n (length (hist (word.Pool p) (all_items new_lanes))) (omega (arith, lt))
-      go (Dec p c d k) t up = lt-to d _ (long-block p c d t.block t.number (up (word.Block p c) (true_both _ _ (same_number p) (same_number c))))
+      go (Dec p c d k) t up = lt-to d _ (long-block p c d t.block t.number (up (word.Block p c) (and_from _ _ (same_number p) (same_number c))))
       go (Same sig n) t up = le-to n _ (long-signal sig n t.signal t.number)
       go _ t up = refl
 
@@ -240,7 +240,7 @@ module _ (sys : System) (before : List (List Rec)) (lane : List Rec) (behind : L
       go : (c : Body) → May sys lanes hands o c → ((w : Word) → drawn_on w (touch_of o c) ≡ true → total w (all_items new_lanes) ≡ suc (total w (all_items lanes)))
           → handles_made (all_items new_lanes) c ≡ true
       go (Took f l m e) t up = taken-made f l m e t
-      go (Inc p c n) t up = or_right (p == 0) _ (lt-to n _ (long-block p c n t.block t.number (up (word.Block p c) (true_both _ _ (same_number p) (same_number c)))))
+      go (Inc p c n) t up = or_right (p == 0) _ (lt-to n _ (long-block p c n t.block t.number (up (word.Block p c) (and_from _ _ (same_number p) (same_number c)))))
       go (Dec p c d k) t up = still-made (entry p c k) (held-is_made sys lanes hands old p c k t.token)
       go (Post a f l m e) t up = still-made e (owned-made sys lanes hands old e t.2.owned.token)
       go (Lifo f l m e) t up = still-made e (owned-made sys lanes hands old e t.2.owned.token)

@@ -1,6 +1,7 @@
 -- The laws of a world of one thread.
 use Rattle.std.proofs.Common.{◌≡◌, ◌≢◌, ℕ, zero, suc, ◌+◌, ◌<◌, ◌≤◌, ◌==◌, nat_lt, Bool, true, false, not, ◌&&◌, ◌||◌, cond, List, [], ◌∷◌, ◌++◌, length, drop, slice_set, refl, sym, ◌∙◌, ap, subst, arith, inl, inr, Some}
 use Rattle.std.specs.List.{list_all, list_any, fold, filter}
+use Rattle.std.proofs.lemmas.Bool.{and_from, and_parts}
 use Rattle.std.proofs.lemmas.Bool.Decides.{nat_tests}
 use Rattle.qp_model.specs.declared.record.Rec.{Rec}
 use Rattle.qp_model.specs.declared.words.Word.{Word}
@@ -15,7 +16,6 @@ use Rattle.qp_model.specs.Told.{ToldItem, for_object}
 use Rattle.qp_model.specs.History.{touch, drawn_on, lane_items, all_items, total}
 use Rattle.qp_model.specs.Knowing.{Facts, known_of, told, told_lane, ceiling_after}
 use Rattle.qp_model.specs.Settled.{AllSettled, is_settled, all_settled}
-use Rattle.qp_model.proofs.ListLemmas.{both_true, true_both}
 use Rattle.qp_model.proofs.KnowingLemmas.{told_lane-stays, records_of-told}
 use Rattle.qp_model.proofs.SettledLemmas.{all_settled-from}
 use Rattle.qp_calls.specs.LaneView.{Gains, LaneView, ceiling_in, is_known, mark_after, own_after}
@@ -161,7 +161,7 @@ causes-kept sys lanes order at spare by stops answered purses h = go stops h
     go : (codes : List ℕ) → list_all (is_caused_in (lane_items (lane_of lanes at))) codes ≡ true
         → list_all (λ code. is_caused (told_lane (facts_in sys lanes) 0 (lane_items (lane_of lanes at))) code) codes ≡ true
     go [] k = refl
-    go (code ∷ codes) k = true_both _ _ (caused-told (facts_in sys lanes) (lane_items (lane_of lanes at)) code ∙ (both_true _ _ k).0) (go codes (both_true _ _ k).1)
+    go (code ∷ codes) k = and_from _ _ (caused-told (facts_in sys lanes) (lane_items (lane_of lanes at)) code ∙ (and_parts _ _ k).0) (go codes (and_parts _ _ k).1)
 
 last-caused : (code : ℕ) (ts : List ToldItem) → 0 < code → last_code ts ≡ code → list_any (λ t. stop_code t.told.body == code) ts ≡ true
 unfolding last_code
@@ -178,7 +178,7 @@ unfolding view_of
 stop-caused sys lanes order at spare by stops answered purses code (inl seven) = let is : (code == 7) ≡ true = grind (arith, nat_tests) in rw is refl
 stop-caused sys lanes order at spare by stops answered purses code (inr last) =
     or_right (code == 7) _
-    (true_both _ _ (above code last.0)
+    (and_from _ _ (above code last.0)
     (sym (any-told (λ b. stop_code b == code) (facts_in sys lanes) 0 (lane_items (lane_of lanes at))) ∙ last-caused code _ last.0 last.1))
   where
     or_right : (a b : Bool) → b ≡ true → (a || b) ≡ true
@@ -198,7 +198,7 @@ any-more p (x ∷ xs) ys h = go (p x) h (any-more p xs ys)
 
 pub causes-stay : CausesStay
 causes-stay items more [] h = refl
-causes-stay items more (code ∷ codes) h = true_both _ _ (go (code == 7) (nat_lt 0 code) (both_true _ _ h).0) (causes-stay items more codes (both_true _ _ h).1)
+causes-stay items more (code ∷ codes) h = and_from _ _ (go (code == 7) (nat_lt 0 code) (and_parts _ _ h).0) (causes-stay items more codes (and_parts _ _ h).1)
   where
     go : (u v : Bool) → (u || (v && list_any (λ i. stop_code i.body == code) items)) ≡ true → (u || (v && list_any (λ i. stop_code i.body == code) (items ++ more))) ≡ true
     go true v k = refl

@@ -1,11 +1,11 @@
 -- The log has each record once: as many operations of each word as all lanes together, and each number is that of the operations so far.
 use Rattle.std.proofs.Common.{◌≡◌, ℕ, suc, ◌+◌, ◌<◌, Bool, true, false, List, [], ◌∷◌, ◌++◌, map, length, take, drop, slice_set, refl, sym, ◌∙◌, ap, arith, append_assoc, append-nil}
+use Rattle.std.proofs.lemmas.Bool.{and_from, and_parts}
 use Rattle.qp_model.specs.declared.record.Rec.{Rec}
 use Rattle.qp_model.specs.declared.words.Word.{Word}
 use Rattle.qp_model.specs.Record.{Item, item_of}
 use Rattle.qp_model.specs.History.{Touch, touch, drawn_on, lane_items, all_items, total}
 use Rattle.qp_model.specs.Places.{is_next, in_order}
-use Rattle.qp_model.proofs.ListLemmas.{both_true, true_both}
 use Rattle.qp_model.proofs.LineLemmas.{same_number}
 use Rattle.qp_model.proofs.WordLemmas.{all_items-split}
 use Rattle.qp_calls.specs.Counting.{one, times}
@@ -75,8 +75,8 @@ total-log w lanes order orders =
 
 pub in_order-push : (before xs : List Item) (i : Item) → in_order before xs ≡ true → is_next (before ++ xs) (touch i) ≡ true → in_order before (xs ++ i ∷ []) ≡ true
 unfolding in_order
-in_order-push before [] i h k = true_both _ _ (rw (append-nil before) at k) refl
-in_order-push before (x ∷ xs) i h k = true_both _ _ (both_true _ _ h).0 (in_order-push (before ++ x ∷ []) xs i (both_true _ _ h).1 (rw (append_assoc before (x ∷ []) xs) k))
+in_order-push before [] i h k = and_from _ _ (rw (append-nil before) at k) refl
+in_order-push before (x ∷ xs) i h k = and_from _ _ (and_parts _ _ h).0 (in_order-push (before ++ x ∷ []) xs i (and_parts _ _ h).1 (rw (append_assoc before (x ∷ []) xs) k))
 
 pub next-is : (items others : List Item) (t : Touch) → ((w : Word) → total w others ≡ total w items) → Next items t → is_next others t ≡ true
 unfolding is_next

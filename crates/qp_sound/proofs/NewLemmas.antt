@@ -2,6 +2,7 @@
 use Rattle.std.proofs.Common.{◌≡◌, ℕ, zero, suc, ◌+◌, ◌-◌, ◌<◌, ◌≤◌, ◌==◌, Bool, true, false, cond, List, [], ◌∷◌, length, slice_get, refl, sym, ◌∙◌, ap, subst, arith, IsTrue, Option, Some, None}
 use Rattle.std.specs.List.{find, AllByRecursion}
 use Rattle.std.specs.Option.{is_some, option_map_or}
+use Rattle.std.proofs.lemmas.Bool.{and_parts}
 use Rattle.std.proofs.lemmas.Bool.Decides.{nat_tests}
 use Rattle.qp_model.specs.declared.words.Word.{Word}
 use Rattle.qp_model.specs.declared.words.Word.TheVariants as word
@@ -24,7 +25,6 @@ use Rattle.qp_model.specs.Parts.{is_static}
 use Rattle.qp_model.specs.Sites.{object_at, ring_of, blocks_of}
 use Rattle.qp_model.specs.Sound.{IsSound, IsSoundSignal}
 use Rattle.qp_model.specs.WordLaw.{Keeps, Words, is_object}
-use Rattle.qp_model.proofs.ListLemmas.{both_true}
 use Rattle.qp_calls.specs.Counting.{times}
 use Rattle.qp_calls.specs.Clauses.{params_of}
 use Rattle.qp_calls.specs.LaneView.{FreeBlocks, first_shown}
@@ -179,7 +179,7 @@ all-at P (y ∷ ys) (suc i) x all h = all-at P ys i x all.1 h
 
 bare-signals : (sys : System) → IsSound sys → (sig : ℕ) → IsTrue (is_static sys sig) → params_of sys sig ≡ 0
 unfolding is_static
-bare-signals sys sound sig h = go (slice_get sys.signals (sig - 4)) refl (both_true _ _ h).1
+bare-signals sys sound sig h = go (slice_get sys.signals (sig - 4)) refl (and_parts _ _ h).1
   where
     go : (d : Option SignalDef) → slice_get sys.signals (sig - 4) ≡ d → option_map_or (λ x. x.fixed) d false ≡ true → option_map_or (λ x. x.params) d 0 ≡ 0
     go None e k = refl

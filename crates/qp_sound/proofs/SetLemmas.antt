@@ -1,6 +1,7 @@
 -- A set of subscribers as bits.
 use Rattle.std.proofs.Common.{◌≡◌, ℕ, zero, suc, ◌+◌, ◌-◌, ◌*◌, ◌/◌, ◌%◌, ◌^◌, ◌<◌, ◌==◌, nat_lt, Bool, true, false, not, ◌&&◌, ◌||◌, cond, List, [], ◌∷◌, refl, sym, ◌∙◌, ap, subst, arith, IsTrue, pow_pos}
 use Rattle.std.specs.List.{list_all}
+use Rattle.std.proofs.lemmas.Bool.{and_from, and_parts}
 use Rattle.std.proofs.lemmas.Bool.Decides.{nat_tests}
 use Rattle.std.proofs.lemmas.List.Sums.{sum_by-cons}
 use Rattle.std.specs.Int.{bit_at}
@@ -19,7 +20,7 @@ use Rattle.qp_model.specs.Machine.{after, is_allowed}
 use Rattle.qp_model.specs.Subscribers.{Subscribers, subscribers, subscribers_may, subscribers_next, bits_of_set}
 use Rattle.qp_model.specs.Parts.{members, members_below}
 use Rattle.qp_model.specs.WordLaw.{is_object, is_signal}
-use Rattle.qp_model.proofs.ListLemmas.{both_true, true_both, list_all-has}
+use Rattle.qp_model.proofs.ListLemmas.{list_all-has}
 use Rattle.qp_model.proofs.MachineLemmas.{after-keeps}
 use Rattle.qp_calls.specs.Counting.{one}
 use Rattle.qp_sound.specs.WordStates.{set_in}
@@ -51,14 +52,14 @@ has-without_other o p (x ∷ xs) h = go (x == o) refl (has-without_other o p xs 
 
 apart-without : (o : ℕ) (xs : List ℕ) → are_apart xs ≡ true → are_apart (without_all o xs) ≡ true
 apart-without o [] h = refl
-apart-without o (x ∷ xs) h = go (x == o) refl (apart-without o xs (both_true _ _ h).1)
+apart-without o (x ∷ xs) h = go (x == o) refl (apart-without o xs (and_parts _ _ h).1)
   where
     go : (u : Bool) → (x == o) ≡ u → are_apart (without_all o xs) ≡ true → are_apart (cond u (without_all o xs) (x ∷ without_all o xs)) ≡ true
     go true e later = later
-    go false e later = true_both _ _ (ap not (has-without_other o x xs e) ∙ (both_true _ _ h).0) later
+    go false e later = and_from _ _ (ap not (has-without_other o x xs e) ∙ (and_parts _ _ h).0) later
 
 set_stays : (s : Subscribers) (o : ℕ) (b : Body) → subscribers_may s o b ≡ true → are_apart s.members ≡ true → are_apart (subscribers_next s o b).members ≡ true
-set_stays s o (Sub sig n) h k = true_both _ _ (ap not (has-without_same o s.members)) (apart-without o s.members k)
+set_stays s o (Sub sig n) h k = and_from _ _ (ap not (has-without_same o s.members)) (apart-without o s.members k)
 set_stays s o (Unsub sig n) h k = apart-without o s.members k
 set_stays s o _ h k = absurd (cc)
 
@@ -135,10 +136,10 @@ bits-has (zero ∷ ms) h k =
     let sum : bits_of_set (zero ∷ ms) ≡ 0 + bits_of_set ms = sum_by-cons (λ p. 2 ^ p / 2) zero ms in
     let same : bits_of_set (zero ∷ ms) ≡ bits_of_set ms = omega (arith, sum) in
     let none : (zero == suc k) ≡ false = grind (arith, nat_tests) in
-    ap (λ x. bit_at x k) same ∙ bits-has ms (both_true _ _ h).1 k ∙ sym (ap (λ u. one (u || has ms (suc k))) none)
+    ap (λ x. bit_at x k) same ∙ bits-has ms (and_parts _ _ h).1 k ∙ sym (ap (λ u. one (u || has ms (suc k))) none)
 bits-has (suc j ∷ ms) h k =
-    ap (λ x. bit_at x k) sum ∙ bit-more j (bits_of_set ms) (bits-has ms (both_true _ _ h).1 j ∙ ap one (not-true _ (both_true _ _ h).0)) k
-    ∙ go (j == k) refl (bits-has ms (both_true _ _ h).1 k)
+    ap (λ x. bit_at x k) sum ∙ bit-more j (bits_of_set ms) (bits-has ms (and_parts _ _ h).1 j ∙ ap one (not-true _ (and_parts _ _ h).0)) k
+    ∙ go (j == k) refl (bits-has ms (and_parts _ _ h).1 k)
   where
     sum : bits_of_set (suc j ∷ ms) ≡ 2 ^ j + bits_of_set ms
     sum = sum_by-cons (λ p. 2 ^ p / 2) (suc j) ms ∙ ap (λ x. x + bits_of_set ms) (bit-suc j)
@@ -162,7 +163,7 @@ all-members p set h zero = refl
 all-members p set h (suc n) = go ((set / 2 ^ n) % 2 == 1) refl (all-members p set h n)
   where
     go : (u : Bool) → ((set / 2 ^ n) % 2 == 1) ≡ u → list_all p (members_below n set) ≡ true → list_all p (cond u (suc n ∷ members_below n set) (members_below n set)) ≡ true
-    go true e later = let set_is : set / 2 ^ n % 2 ≡ 1 = grind (arith, nat_tests) in true_both _ _ (h n set_is) later
+    go true e later = let set_is : set / 2 ^ n % 2 ≡ 1 = grind (arith, nat_tests) in and_from _ _ (h n set_is) later
     go false e later = later
 
 pub subscribers-objects : (sys : System) (lanes : List (List Rec)) (order : List ℕ) → SoundWorld sys lanes order → (sig : ℕ) → IsTrue (is_signal sys sig)

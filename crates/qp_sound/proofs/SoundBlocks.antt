@@ -1,6 +1,7 @@
 -- References are made and dropped: a sound world stays sound.
 use Rattle.std.proofs.Common.{◌≡◌, ℕ, suc, ◌+◌, ◌<◌, ◌≤◌, ◌==◌, nat_le, Bool, true, false, ◌&&◌, ◌||◌, List, [], ◌∷◌, ◌++◌, length, refl, sym, ◌∙◌, ap, subst, arith, IsTrue, inl, None}
 use Rattle.std.specs.List.{list_all}
+use Rattle.std.proofs.lemmas.Bool.{and_from}
 use Rattle.std.proofs.lemmas.Bool.Decides.{nat_tests}
 use Rattle.qp_chart.specs.StateTree.{has}
 use Rattle.qp_model.specs.declared.record.Rec.{Rec}
@@ -15,7 +16,6 @@ use Rattle.qp_model.specs.Machine.{after}
 use Rattle.qp_model.specs.Lives.{life_of, edges}
 use Rattle.qp_model.specs.Knowing.{event_of, last_given}
 use Rattle.qp_model.specs.WordLaw.{Words, is_block}
-use Rattle.qp_model.proofs.ListLemmas.{true_both}
 use Rattle.qp_model.proofs.WordLemmas.{hist-stays}
 use Rattle.qp_model.proofs.KnowingLemmas.{IsLater}
 use Rattle.qp_model.proofs.LifeLemmas.{edge-within}
@@ -138,7 +138,7 @@ module _ (sys : System) (before : List (List Rec)) (lane : List Rec) (behind : L
         words = made-words;
         block = each-block sys (BlockIn sys new_lanes made) p b made-here made-there;
         event = made-events;
-        tokens = true_both _ _ h (all-take_out (names_block sys) (Loose p b false) hands old.tokens);
+        tokens = and_from _ _ h (all-take_out (names_block sys) (Loose p b false) hands old.tokens);
         entries = entries-stay sys before lane behind r _ is (λ a. refl) old.entries;
         subscribed = subscribed-stay sys before lane behind r _ is (λ s. refl) old.subscribed;
       }
@@ -303,5 +303,5 @@ module _ (sys : System) (before : List (List Rec)) (lane : List Rec) (behind : L
       }
         where
           named : (xs : List ℕ) → list_all (names_block sys) (with_left p b (Left (length xs)) (take_out (Held p b k) hands)) ≡ true
-          named [] = true_both _ _ h (all-take_out (names_block sys) (Held p b k) hands old.tokens)
+          named [] = and_from _ _ h (all-take_out (names_block sys) (Held p b k) hands old.tokens)
           named (x ∷ xs) = all-take_out (names_block sys) (Held p b k) hands old.tokens

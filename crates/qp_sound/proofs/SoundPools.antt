@@ -1,5 +1,6 @@
 -- Blocks are given out and come back: a sound world stays sound.
 use Rattle.std.proofs.Common.{◌≡◌, ℕ, suc, ◌<◌, ◌==◌, Bool, true, false, not, ◌&&◌, cond, List, [], ◌∷◌, ◌++◌, length, refl, sym, ◌∙◌, ap, subst, arith, IsTrue, take_all, Option, Some, None}
+use Rattle.std.proofs.lemmas.Bool.{and_from}
 use Rattle.std.proofs.lemmas.Bool.Decides.{nat_tests}
 use Rattle.qp_chart.specs.StateTree.{has}
 use Rattle.qp_model.specs.declared.record.Rec.{Rec}
@@ -16,7 +17,6 @@ use Rattle.qp_model.specs.FreeBlocks.{free_blocks}
 use Rattle.qp_model.specs.Lives.{Life, life_of, life_next, refs_at, is_empty}
 use Rattle.qp_model.specs.Sites.{blocks_of}
 use Rattle.qp_model.specs.WordLaw.{Words, is_block, is_pool}
-use Rattle.qp_model.proofs.ListLemmas.{true_both}
 use Rattle.qp_model.proofs.MachineLemmas.{after-append}
 use Rattle.qp_model.proofs.WordLemmas.{hist-held-draws}
 use Rattle.qp_model.proofs.WordLawLemmas.{free_blocks-counts}
@@ -152,7 +152,7 @@ module _ (sys : System) (before : List (List Rec)) (lane : List Rec) (behind : L
         words = new-words;
         block = each-block sys (BlockIn sys new_lanes given_out) p b new-here new-there;
         event = new-events;
-        tokens = true_both _ _ h old.tokens;
+        tokens = and_from _ _ h old.tokens;
         entries = entries-stay sys before lane behind r _ is (λ a. refl) old.entries;
         subscribed = subscribed-stay sys before lane behind r _ is (λ s. refl) old.subscribed;
       }

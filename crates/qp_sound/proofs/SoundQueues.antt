@@ -1,6 +1,7 @@
 -- Entries are posted and taken, and records that change no block and no queue: a sound world stays sound.
 use Rattle.std.proofs.Common.{◌≡◌, ◌≢◌, ℕ, suc, ◌+◌, ◌<◌, ◌≤◌, ◌==◌, Bool, true, false, ◌&&◌, cond, List, [], ◌∷◌, ◌++◌, length, refl, sym, ◌∙◌, ap, subst, arith, IsTrue, ◌⊎◌, inl, inr}
 use Rattle.std.specs.List.{list_all}
+use Rattle.std.proofs.lemmas.Bool.{and_from, and_parts}
 use Rattle.std.proofs.lemmas.List.Folds.{list_all-append}
 use Rattle.std.proofs.lemmas.Bool.Decides.{nat_tests}
 use Rattle.qp_chart.specs.StateTree.{has}
@@ -15,7 +16,6 @@ use Rattle.qp_model.specs.Line.{Line}
 use Rattle.qp_model.specs.Sites.{ring_of}
 use Rattle.qp_model.specs.Parts.{is_static}
 use Rattle.qp_model.specs.WordLaw.{Words, is_block, is_object, is_signal}
-use Rattle.qp_model.proofs.ListLemmas.{both_true, true_both}
 use Rattle.qp_model.proofs.WordLawLemmas.{words-queue}
 use Rattle.qp_model.proofs.KnowingLemmas.{IsLater}
 use Rattle.qp_model.proofs.LineLemmas.{held-post, held-lifo, held-took}
@@ -92,7 +92,7 @@ module _ (hands : List Token) where
     where
       go : (v : Bool) → cond v (is_static sys e.block && (e.name == 0)) (is_block sys e.pool e.block) ≡ true → list_all (names_block sys) (cond v hands (token_of e ∷ hands)) ≡ true
       go true g = tokens
-      go false g = true_both _ _ g tokens
+      go false g = and_from _ _ g tokens
 
 pub entries-of : (sys : System) (lanes : List (List Rec)) (a : ℕ) → IsTrue (is_object sys a) → entries_in sys lanes a ≡ (line_in sys lanes a).entries
 unfolding entries_in
@@ -213,7 +213,7 @@ module _ (sys : System) (before : List (List Rec)) (lane : List Rec) (behind : L
         sound-moved a h few _ is (record { entries = e ∷ (queue_line a).entries; f = (queue_line a).f; l = (queue_line a).l + 1; m = (queue_line a).m })
         held.state (ap (Draws (word.Queue a)) (omega arith)) (without_entry e hands)
         (words-queue sys before lane behind r _ is old.words a _ (inl refl) (λ k. held.keeps))
-        (named-out hands sys e old.tokens) (true_both _ _ good (old.entries a h))
+        (named-out hands sys e old.tokens) (and_from _ _ good (old.entries a h))
         (λ p b n some. let out = entry-out hands e stand p b n some in omega (arith, out))
         (loose-out hands e)
 
@@ -228,6 +228,6 @@ module _ (sys : System) (before : List (List Rec)) (lane : List Rec) (behind : L
         sound-moved a h few _ is (record { entries = rest; f = (queue_line a).f; l = (queue_line a).l; m = (queue_line a).m + 1 })
         held.state (ap (Draws (word.Queue a)) (omega arith)) (with_entry e hands)
         (words-queue sys before lane behind r _ is old.words a _ (inl refl) (λ k. held.keeps))
-        (named-in hands sys e (both_true _ _ good).0 old.tokens) (both_true _ _ good).1
+        (named-in hands sys e (and_parts _ _ good).0 old.tokens) (and_parts _ _ good).1
         (λ p b n some. let more = entry-in hands e p b n some in let fewer : times (is_ref (Held p b n)) (queue_line a).entries ≡ one (is_ref (Held p b n) e) + times (is_ref (Held p b n)) rest = rw front refl in omega (arith, more, fewer))
         (loose-in hands e)

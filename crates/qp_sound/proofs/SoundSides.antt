@@ -1,6 +1,7 @@
 -- Records that show a word, or are on a signal or a time event, or on no word: a sound world stays sound.
 use Rattle.std.proofs.Common.{◌≡◌, ℕ, suc, ◌==◌, Bool, true, false, List, [], ◌∷◌, ◌++◌, refl, subst, arith, cond, IsTrue, inl, inr}
 use Rattle.std.specs.List.{list_all}
+use Rattle.std.proofs.lemmas.Bool.{and_from, and_parts}
 use Rattle.std.proofs.lemmas.Bool.Decides.{nat_tests}
 use Rattle.qp_model.specs.declared.record.Rec.{Rec}
 use Rattle.qp_model.specs.declared.words.Word.{Word}
@@ -16,7 +17,6 @@ use Rattle.qp_model.specs.TimeEvents.{Clock, time_event}
 use Rattle.qp_model.specs.Lives.{HasLives}
 use Rattle.qp_model.specs.Sites.{ring_of, blocks_of}
 use Rattle.qp_model.specs.WordLaw.{Keeps, is_block, is_object, is_pool, is_signal, is_timer}
-use Rattle.qp_model.proofs.ListLemmas.{both_true, true_both}
 use Rattle.qp_model.proofs.WordLemmas.{hist-stays}
 use Rattle.qp_model.proofs.WordLawLemmas.{words-note, words-queue, words-pool, words-signal, words-timer}
 use Rattle.qp_model.proofs.KnowingLemmas.{IsLater, later-undrawn}
@@ -104,8 +104,8 @@ module _ (sys : System) (before : List (List Rec)) (lane : List Rec) (behind : L
 -- objects without one of them are objects
 pub all-without : (p : ℕ → Bool) (o : ℕ) (xs : List ℕ) → list_all p xs ≡ true → list_all p (without_all o xs) ≡ true
 all-without p o [] h = refl
-all-without p o (x ∷ xs) h = go (x == o) (all-without p o xs (both_true _ _ h).1)
+all-without p o (x ∷ xs) h = go (x == o) (all-without p o xs (and_parts _ _ h).1)
   where
     go : (u : Bool) → list_all p (without_all o xs) ≡ true → list_all p (cond u (without_all o xs) (x ∷ without_all o xs)) ≡ true
     go true later = later
-    go false later = true_both _ _ (both_true _ _ h).0 later
+    go false later = and_from _ _ (and_parts _ _ h).0 later

@@ -1,5 +1,6 @@
 -- What a sound world says of a block: of its word, its life, its references and its tokens.
 use Rattle.std.proofs.Common.{◌≡◌, ℕ, ◌+◌, ◌<◌, nat_lt, Bool, true, false, not, List, [], ◌∷◌, length, refl, ◌∙◌, ap, arith, IsTrue}
+use Rattle.std.proofs.lemmas.Bool.{and_parts}
 use Rattle.std.proofs.lemmas.Bool.Decides.{nat_tests}
 use Rattle.qp_chart.specs.StateTree.{has}
 use Rattle.qp_model.specs.declared.record.Rec.{Rec}
@@ -16,7 +17,6 @@ use Rattle.qp_model.specs.TimeEvents.{time_event}
 use Rattle.qp_model.specs.Lives.{is_empty}
 use Rattle.qp_model.specs.Sites.{ring_of, blocks_of}
 use Rattle.qp_model.specs.WordLaw.{Keeps, Words, is_block, is_pool, is_object, is_signal, is_timer}
-use Rattle.qp_model.proofs.ListLemmas.{both_true}
 use Rattle.qp_model.proofs.HistoryLemmas.{length-hist}
 use Rattle.qp_model.proofs.MachineLemmas.{Counts, count-after}
 use Rattle.qp_model.proofs.LineLemmas.{IsLine, line-counts, line_is}
@@ -38,9 +38,9 @@ count-total m w lanes counts keeps = count-after m counts (hist w (all_items lan
 pub block-pool : (sys : System) (p b : ℕ) → IsTrue (is_block sys p b) → IsTrue (is_pool sys p) × (b < blocks_of sys p) × (0 < p)
 unfolding is_block
 block-pool sys p b h =
-    let pool : is_pool sys p ≡ true = (both_true (is_pool sys p) (nat_lt b (blocks_of sys p)) h).0 in
-    let below : nat_lt b (blocks_of sys p) ≡ true = (both_true (is_pool sys p) (nat_lt b (blocks_of sys p)) h).1 in
-    let some : nat_lt 0 p ≡ true = (both_true _ _ pool).0 in
+    let pool : is_pool sys p ≡ true = (and_parts (is_pool sys p) (nat_lt b (blocks_of sys p)) h).0 in
+    let below : nat_lt b (blocks_of sys p) ≡ true = (and_parts (is_pool sys p) (nat_lt b (blocks_of sys p)) h).1 in
+    let some : nat_lt 0 p ≡ true = (and_parts _ _ pool).0 in
     let lt : b < blocks_of sys p = grind (arith, nat_tests) in
     let up : 0 < p = grind (arith, nat_tests) in
     (pool, lt, up)

@@ -1,10 +1,10 @@
 -- How often tokens and references occur, when one comes or goes.
 use Rattle.std.proofs.Common.{◌≡◌, ◌≢◌, ℕ, zero, suc, ◌+◌, ◌<◌, ◌==◌, Bool, true, false, ◌||◌, cond, List, [], ◌∷◌, ◌++◌, refl, ◌∙◌, ap, arith}
 use Rattle.std.specs.List.{list_any, list_all}
+use Rattle.std.proofs.lemmas.Bool.{and_from, and_parts}
 use Rattle.std.proofs.lemmas.Bool.Decides.{nat_tests}
 use Rattle.qp_chart.specs.StateTree.{has}
 use Rattle.qp_model.specs.Lists.{without_one}
-use Rattle.qp_model.proofs.ListLemmas.{both_true, true_both}
 use Rattle.qp_calls.specs.Tokens.{Token, same_token, take_out, stands}
 use Rattle.qp_calls.proofs.HandLemmas.{same-equal, same-self}
 use Rattle.qp_calls.specs.Counting.{one, times}
@@ -49,19 +49,19 @@ absent-times t (x ∷ xs) h = go (same_token t x) h (absent-times t xs)
 pub all-take_out : (p : Token → Bool) (t : Token) (hands : List Token) → list_all p hands ≡ true → list_all p (take_out t hands) ≡ true
 unfolding take_out
 all-take_out p t [] h = refl
-all-take_out p t (x ∷ xs) h = go (same_token t x) (all-take_out p t xs (both_true _ _ h).1)
+all-take_out p t (x ∷ xs) h = go (same_token t x) (all-take_out p t xs (and_parts _ _ h).1)
   where
     go : (b : Bool) → list_all p (take_out t xs) ≡ true → list_all p (cond b xs (x ∷ take_out t xs)) ≡ true
-    go true later = (both_true _ _ h).1
-    go false later = true_both _ _ (both_true _ _ h).0 later
+    go true later = (and_parts _ _ h).1
+    go false later = and_from _ _ (and_parts _ _ h).0 later
 
 pub all-stands : (p : Token → Bool) (t : Token) (hands : List Token) → list_all p hands ≡ true → stands t hands ≡ true → p t ≡ true
 unfolding stands
 all-stands p t [] h k = cc
-all-stands p t (x ∷ xs) h k = go (same_token t x) refl k (λ e. all-stands p t xs (both_true _ _ h).1 e)
+all-stands p t (x ∷ xs) h k = go (same_token t x) refl k (λ e. all-stands p t xs (and_parts _ _ h).1 e)
   where
     go : (b : Bool) → same_token t x ≡ b → (b || list_any (λ y. same_token t y) xs) ≡ true → (list_any (λ y. same_token t y) xs ≡ true → p t ≡ true) → p t ≡ true
-    go true is e later = ap p (same-equal t x is) ∙ (both_true _ _ h).0
+    go true is e later = ap p (same-equal t x is) ∙ (and_parts _ _ h).0
     go false is e later = later e
 
 -- a reference that occurs is one of the list

@@ -2,6 +2,7 @@
 use Rattle.std.proofs.Common.{◌≡◌, ℕ, zero, suc, ◌+◌, ◌<◌, ◌≤◌, ◌==◌, Bool, true, false, ◌||◌, cond, List, [], ◌∷◌, ◌++◌, length, map, slice_set, refl, sym, ◌∙◌, ap, subst, arith, IsTrue, ◌⊎◌, Some, None}
 use Rattle.std.specs.List.{list_any, list_all}
 use Rattle.std.specs.Option.{unwrap_or}
+use Rattle.std.proofs.lemmas.Bool.{and_from, and_parts}
 use Rattle.std.proofs.lemmas.List.{map-append}
 use Rattle.std.proofs.lemmas.Bool.Decides.{nat_tests}
 use Rattle.qp_model.specs.declared.record.Rec.{Rec}
@@ -22,7 +23,7 @@ use Rattle.qp_model.specs.Knowing.{Facts, event_of, known_of, told, told_lane, c
 use Rattle.qp_model.specs.Settled.{AllSettled, is_settled, all_settled, Settled}
 use Rattle.qp_model.specs.Sites.{ring_of, blocks_of}
 use Rattle.qp_model.specs.WordLaw.{is_object, is_block, is_pool}
-use Rattle.qp_model.proofs.ListLemmas.{both_true, true_both, list_all-middle}
+use Rattle.qp_model.proofs.ListLemmas.{list_all-middle}
 use Rattle.qp_model.proofs.MachineLemmas.{after-append}
 use Rattle.qp_model.proofs.HistoryLemmas.{hist-draws}
 use Rattle.qp_model.proofs.WordLemmas.{hist-stays}
@@ -80,13 +81,13 @@ any-made items e (j ∷ js) h k = go (handles (token_of e) j.body) refl h (any-m
   where
     go : (u : Bool) → handles (token_of e) j.body ≡ u → (u || list_any (λ i. handles (token_of e) i.body) js) ≡ true
         → (list_any (λ i. handles (token_of e) i.body) js ≡ true → list_all (λ i. handles_made items i.body) js ≡ true → is_made items e ≡ true) → is_made items e ≡ true
-    go true at g later = handled-made items e j.body at (both_true _ _ k).0
-    go false at g later = later g (both_true _ _ k).1
+    go true at g later = handled-made items e j.body at (and_parts _ _ k).0
+    go false at g later = later g (and_parts _ _ k).1
 
 -- What all lanes hold, each lane holds.
 pub all-front : {X : Type 0} (p : X → Bool) (xs ys : List X) → list_all p (xs ++ ys) ≡ true → (list_all p xs ≡ true) × (list_all p ys ≡ true)
 all-front p [] ys h = (refl, h)
-all-front p (x ∷ xs) ys h = let k = all-front p xs ys (both_true _ _ h).1 in (true_both _ _ (both_true _ _ h).0 k.0, k.1)
+all-front p (x ∷ xs) ys h = let k = all-front p xs ys (and_parts _ _ h).1 in (and_from _ _ (and_parts _ _ h).0 k.0, k.1)
 
 pub all-lane : (p : Item → Bool) (lanes : List (List Rec)) (k : ℕ) → list_all p (all_items lanes) ≡ true → list_all p (lane_items (lane_of lanes k)) ≡ true
 unfolding all_items lane_items
@@ -123,7 +124,7 @@ items-left p (l ∷ ls) (suc at) h =
   where
     all-both : {X : Type 0} (p : X → Bool) (xs ys : List X) → list_all p xs ≡ true → list_all p ys ≡ true → list_all p (xs ++ ys) ≡ true
     all-both p [] ys h k = k
-    all-both p (x ∷ xs) ys h k = true_both _ _ (both_true _ _ h).0 (all-both p xs ys (both_true _ _ h).1 k)
+    all-both p (x ∷ xs) ys h k = and_from _ _ (and_parts _ _ h).0 (all-both p xs ys (and_parts _ _ h).1 k)
 
 -- what a lane knows was made
 pub known-made : (sys : System) (lanes : List (List Rec)) (order : List ℕ) (k : ℕ) (e : Entry) → SoundWorld sys lanes order
@@ -265,7 +266,7 @@ module _ (sys : System) (lanes : List (List Rec)) (order : List ℕ) (at : ℕ) 
       → hist w (all_items more) ≡ hist w (all_items lanes) ++ this ∷ []
   hist-now w self numbers draws =
       let next : drawn_as w (total w (front ++ rest)) (touch_of o b) ≡ true =
-      subst (λ z. drawn_as w (total w z) (touch_of o b) ≡ true) items_before (rw draws (true_both _ _ self (same_number (suc (total w (all_items lanes)))))) in
+      subst (λ z. drawn_as w (total w z) (touch_of o b) ≡ true) items_before (rw draws (and_from _ _ self (same_number (suc (total w (all_items lanes)))))) in
       ap (hist w) items_after
       ∙ hist-draws w front this rest (subst (λ z. IsTrue (is_numbered w z)) items_before numbers) next
       ∙ ap (λ z. hist w z ++ this ∷ []) (sym items_before)
@@ -285,7 +286,7 @@ module _ (sys : System) (lanes : List (List Rec)) (order : List ℕ) (at : ℕ) 
   pub refs-now : (p c : ℕ) → IsTrue (is_block sys p c) → touch_of o b ≡ Draws (word.Block p c) (suc (total (word.Block p c) (all_items lanes))) → refs_in more p c ≡ refs_next (refs_in lanes p c) b
   unfolding refs_in
   refs-now p c h draws =
-      ap (after references) (hist-now (word.Block p c) (true_both _ _ (same_number p) (same_number c)) (old.sound.words.blocks p c h).numbers draws)
+      ap (after references) (hist-now (word.Block p c) (and_from _ _ (same_number p) (same_number c)) (old.sound.words.blocks p c h).numbers draws)
       ∙ after-append references (hist (word.Block p c) (all_items lanes)) this
 
   pub pool-still : (p : ℕ) → drawn_on (word.Pool p) (touch_of o b) ≡ false → pool_in sys more p ≡ pool_in sys lanes p

@@ -1,6 +1,7 @@
 -- A world stays sound, and its hands are what the record leaves.
 use Rattle.std.proofs.Common.{◌≡◌, ℕ, suc, ◌<◌, Bool, true, List, [], ◌∷◌, ◌++◌, length, take, drop, refl, sym, ◌∙◌, ap, subst, IsTrue}
 use Rattle.std.specs.List.{list_all}
+use Rattle.std.proofs.lemmas.Bool.{and_from, and_parts}
 use Rattle.std.proofs.lemmas.List.{map-append}
 use Rattle.qp_model.specs.declared.record.Rec.{Rec}
 use Rattle.qp_model.specs.declared.systems.System.{System}
@@ -13,7 +14,6 @@ use Rattle.qp_model.specs.Places.{is_next, in_order}
 use Rattle.qp_model.specs.Knowing.{known_of, told}
 use Rattle.qp_model.specs.Settled.{AllSettled, is_settled, all_settled}
 use Rattle.qp_model.specs.WordLaw.{Words}
-use Rattle.qp_model.proofs.ListLemmas.{both_true, true_both}
 use Rattle.qp_model.proofs.WordLemmas.{all_items-split, all_items-grown}
 use Rattle.qp_model.proofs.KnowingLemmas.{IsLater, known-stays, all_settled-stays}
 use Rattle.qp_model.proofs.SettledLemmas.{all_settled-from, all_settled-to}
@@ -38,12 +38,12 @@ told_log-stays sys xs i ys later (x ∷ log) settled =
 
 -- of all records in the middle of a list, tests hold
 all-insert : {X : Type 0} (p : X → Bool) (xs : List X) (i : X) (ys : List X) → list_all p (xs ++ ys) ≡ true → p i ≡ true → list_all p (xs ++ i ∷ ys) ≡ true
-all-insert p [] i ys h k = true_both _ _ k h
-all-insert p (x ∷ xs) i ys h k = true_both _ _ (both_true _ _ h).0 (all-insert p xs i ys (both_true _ _ h).1 k)
+all-insert p [] i ys h k = and_from _ _ k h
+all-insert p (x ∷ xs) i ys h k = and_from _ _ (and_parts _ _ h).0 (all-insert p xs i ys (and_parts _ _ h).1 k)
 
 all-push : {X : Type 0} (p : X → Bool) (xs : List X) (i : X) → list_all p xs ≡ true → p i ≡ true → list_all p (xs ++ i ∷ []) ≡ true
-all-push p [] i h k = true_both _ _ k refl
-all-push p (x ∷ xs) i h k = true_both _ _ (both_true _ _ h).0 (all-push p xs i (both_true _ _ h).1 k)
+all-push p [] i h k = and_from _ _ k refl
+all-push p (x ∷ xs) i h k = and_from _ _ (and_parts _ _ h).0 (all-push p xs i (and_parts _ _ h).1 k)
 
 module _ (sys : System) (lanes : List (List Rec)) (order : List ℕ) (at : ℕ) (r : Rec) (o : ℕ) (b : Body) (world : SoundWorld sys lanes order) (within : at < length lanes)
     (is : item_of r ≡ record { of = o; body = b }) (may : May sys lanes (hands_in sys lanes order) o b) where

@@ -1,5 +1,6 @@
 -- The view that has all lanes knows the whole, and the start.
 use Rattle.std.proofs.Common.{◌≡◌, ℕ, zero, suc, ◌+◌, ◌-◌, ◌<◌, ◌≤◌, ◌≢◌, nat_lt, List, [], ◌∷◌, ◌++◌, Bool, true, false, cond, ◌&&◌, length, replicate, get_or, refl, sym, ap, subst, ◌∙◌, arith, eqb, eq-eqb, ne_eqb, IsTrue, append-nil}
+use Rattle.std.proofs.lemmas.Bool.{and_from, and_parts}
 use Rattle.std.proofs.lemmas.Bool.Decides.{nat_tests}
 use mathlib.Core.Option.{some, some-injective, some-ne-none}
 use mathlib.Core.Logic.{dite}
@@ -24,7 +25,6 @@ use Rattle.qp_model.specs.Subscribers.{subscribers}
 use Rattle.qp_model.specs.TimeEvents.{time_event}
 use Rattle.qp_model.specs.Sites.{ring_of, blocks_of}
 use Rattle.qp_model.specs.WordLaw.{Keeps, Words, is_pool, is_block, is_object}
-use Rattle.qp_model.proofs.ListLemmas.{both_true, true_both}
 use Rattle.qp_model.proofs.BeginningLemmas.{all_items-empty, held-first, words-first}
 use Rattle.qp_model.proofs.WordLemmas.{all_items-append}
 use Rattle.qp_words.specs.Counting.{Each, total, many, upto}
@@ -67,7 +67,7 @@ module _ (xs ys : List (List Rec)) (same : all_items ys ≡ all_items xs) (rise 
 rise-front : (w : Word) (xs ys : List (List Rec)) → marks_rise w (xs ++ ys) ≡ true → marks_rise w xs ≡ true
 unfolding marks_rise
 rise-front w [] ys h = refl
-rise-front w (x ∷ xs) ys h = true_both _ _ (both_true _ _ h).0 (rise-front w xs ys (both_true _ _ h).1)
+rise-front w (x ∷ xs) ys h = and_from _ _ (and_parts _ _ h).0 (rise-front w xs ys (and_parts _ _ h).1)
 
 -- the lanes behind are empty
 front-leaves : (sys : System) (now : Now) (xs : List (List Rec)) (n : ℕ) → Leaves sys (xs ++ replicate n []) now → Leaves sys xs now

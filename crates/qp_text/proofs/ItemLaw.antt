@@ -4,6 +4,7 @@ use Rattle.std.specs.Prelude.{decimal, ◌==◌, ◌&&◌, nat_lt}
 use Rattle.std.specs.Fmt.{signed_decimal}
 use Rattle.std.specs.Int.{cast_signed, w64}
 use Rattle.std.specs.Option.{option_map}
+use Rattle.std.proofs.lemmas.Bool.{and_from}
 use Rattle.std.proofs.lemmas.Bool.Decides.{nat_tests}
 use Rattle.qp_model.specs.Kinds.{SAY}
 use Rattle.qp_model.specs.Vocabulary.{word_text, has_count}
@@ -11,7 +12,6 @@ use Rattle.qp_model.specs.Output.{JournalItem, item, last_id}
 use Rattle.qp_model.specs.OutputText.{after_spaces, number_texts, say_texts, line_text}
 use Rattle.qp_text.specs.Numbers.{number_at, number_of, numbers_at, signed_of}
 use Rattle.qp_text.specs.LineItem.{counted, has_signs, id_of, item_of_line, numbered}
-use Rattle.qp_model.proofs.ListLemmas.{true_both}
 use Rattle.qp_text.specs.TextLaw.{has_64_bits}
 use Rattle.qp_text.proofs.OptionLemmas.{and_then-some, option_map-some}
 use Rattle.qp_text.proofs.NumberLaw.{number_of-is, signed_of-is}
@@ -77,7 +77,7 @@ numbers_at-fit signs place (t ∷ texts) nums is =
     let rest = option_map-some (λ rest. first.0 ∷ rest) (numbers_at signs (place + 1) texts) nums first.2 in
     let small = number-fits (signs && (place == 1)) t first.0 first.1 in
     let fits : nat_lt first.0 (2 ^ 64) ≡ true = grind (arith, nat_tests) in
-    rw (← rest.2) (true_both (nat_lt first.0 (2 ^ 64)) (has_64_bits rest.0) fits (numbers_at-fit signs (place + 1) texts rest.0 rest.1))
+    rw (← rest.2) (and_from (nat_lt first.0 (2 ^ 64)) (has_64_bits rest.0) fits (numbers_at-fit signs (place + 1) texts rest.0 rest.1))
 
 -- the parts of a line with spaces between them
 pub joined-spaces : (word : List ℕ) (texts : List (List ℕ)) → joined 32 (word ∷ texts) ≡ word ++ after_spaces texts

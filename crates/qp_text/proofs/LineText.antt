@@ -5,12 +5,11 @@ use Rattle.std.specs.Fmt.{signed_decimal}
 use Rattle.std.specs.Int.{cast_signed, w64}
 use Rattle.std.specs.List.{list_all}
 use Rattle.std.specs.Str.Parse.{AllDigits}
-use Rattle.std.proofs.lemmas.Bool.{le-leb, ltb-true}
+use Rattle.std.proofs.lemmas.Bool.{le-leb, ltb-true, and_from, and_parts}
 use Rattle.std.proofs.lemmas.Bool.Decides.{nat_tests}
 use Rattle.std.proofs.lemmas.Fmt.{decimal_is_IsNumeral, decimal_nonempty}
 use Rattle.std.proofs.lemmas.Str.Parse.{digit_from_value}
 use Rattle.std.proofs.lemmas.List.Folds.{list_all-append}
-use Rattle.qp_model.proofs.ListLemmas.{both_true, true_both}
 use Rattle.qp_model.specs.Vocabulary.{word_text, has_count}
 use Rattle.qp_model.specs.Output.{JournalItem, last_id}
 use Rattle.qp_model.specs.OutputText.{after_spaces, number_texts}
@@ -30,7 +29,7 @@ digits-free sep [] low all = refl
 digits-free sep (c ∷ digits) low all =
     let digit = digit_from_value c all.0 in
     let other : (c == sep) ≡ false = grind (arith, nat_tests) in
-    true_both (not (c == sep)) (is_free sep digits) (rw other refl) (digits-free sep digits low all.1)
+    and_from (not (c == sep)) (is_free sep digits) (rw other refl) (digits-free sep digits low all.1)
 
 pub decimal-free : (sep n : ℕ) → sep < 48 → n < 2 ^ 64 → is_free sep (decimal n) ≡ true
 decimal-free sep n low small = digits-free sep (decimal n) low (decimal_is_IsNumeral n small).0.1
@@ -41,7 +40,7 @@ signed-plain [] n free read low =
     let shown = number_of-is [] n read in
     absurd (omega (arith, decimal_nonempty n shown.1, ap length shown.0))
 signed-plain (b ∷ digits) n free read low =
-    let first = (both_true (not (b == 45)) (is_free 45 digits) free).0 in
+    let first = (and_parts (not (b == 45)) (is_free 45 digits) free).0 in
     let fits : nat_lt n (2 ^ 63) ≡ true = grind (arith, nat_tests) in
     go (b == 45) refl first fits where
       go : (minus : Bool) → (b == 45) ≡ minus → not (b == 45) ≡ true → nat_lt n (2 ^ 63) ≡ true
@@ -86,8 +85,8 @@ texts-free : (sep : ℕ) (signs : Bool) (place : ℕ) (nums : List ℕ) → sep 
     → list_all (is_free sep) (texts_at signs place nums) ≡ true
 texts-free sep signs place [] before fits = refl
 texts-free sep signs place (n ∷ nums) before fits =
-    let both = both_true (nat_lt n (2 ^ 64)) (has_64_bits nums) fits in
-    true_both (is_free sep (text_of (signs && (place == 1)) n)) (list_all (is_free sep) (texts_at signs (place + 1) nums))
+    let both = and_parts (nat_lt n (2 ^ 64)) (has_64_bits nums) fits in
+    and_from (is_free sep (text_of (signs && (place == 1)) n)) (list_all (is_free sep) (texts_at signs (place + 1) nums))
     (text_of-free sep (signs && (place == 1)) n before (ltb-true n (2 ^ 64) both.0)) (texts-free sep signs (place + 1) nums before both.1)
 
 -- the text of a number is read as the number
@@ -99,7 +98,7 @@ number-read false n small = number_of-decimal n small
 numbers-read : (signs : Bool) (place : ℕ) (nums : List ℕ) → has_64_bits nums ≡ true → numbers_at signs place (texts_at signs place nums) ≡ Some nums
 numbers-read signs place [] fits = refl
 numbers-read signs place (n ∷ nums) fits =
-    let both = both_true (nat_lt n (2 ^ 64)) (has_64_bits nums) fits in
+    let both = and_parts (nat_lt n (2 ^ 64)) (has_64_bits nums) fits in
     let first : number_at signs place (text_of (signs && (place == 1)) n) ≡ Some n = number-read (signs && (place == 1)) n (ltb-true n (2 ^ 64) both.0) in
     rw (first, numbers-read signs (place + 1) nums both.1) refl
 
@@ -108,15 +107,15 @@ parts-line : (word : List ℕ) (texts : List (List ℕ)) → is_free 32 word ≡
     → split 32 (word ++ after_spaces texts) ≡ word ∷ texts
 parts-line word [] free all = rw (append-nil word) (split-free 32 word free)
 parts-line word (t ∷ texts) free all =
-    let both = both_true (is_free 32 t) (list_all (is_free 32) texts) all in
+    let both = and_parts (is_free 32 t) (list_all (is_free 32) texts) all in
     split-first 32 word (t ++ after_spaces texts) free ∙ ap (λ parts. word ∷ parts) (parts-line t texts both.0 both.1)
 
 -- texts without newlines make a line without one
 spaces-free : (texts : List (List ℕ)) → list_all (is_free 10) texts ≡ true → is_free 10 (after_spaces texts) ≡ true
 spaces-free [] all = refl
 spaces-free (t ∷ texts) all =
-    let both = both_true (is_free 10 t) (list_all (is_free 10) texts) all in
-    list_all-append (λ (b : ℕ). not (b == 10)) t (after_spaces texts) ∙ true_both (is_free 10 t) (is_free 10 (after_spaces texts)) both.0 (spaces-free texts both.1)
+    let both = and_parts (is_free 10 t) (list_all (is_free 10) texts) all in
+    list_all-append (λ (b : ℕ). not (b == 10)) t (after_spaces texts) ∙ and_from (is_free 10 t) (is_free 10 (after_spaces texts)) both.0 (spaces-free texts both.1)
 
 -- the last id of each form
 last_id-46 : (form : ℕ) → last_id form ≤ 46
@@ -159,5 +158,5 @@ module _ (form : ℕ) (i : JournalItem) (is : IsItem form i) where
       let texts = texts-free 10 (has_signs form i.id) 0 i.nums (omega arith) is.fits in
       let shown : list_all (is_free 10) (number_texts form i.id i.nums) ≡ true = ap (list_all (is_free 10)) (sym (texts_at-are form i.id i.nums)) ∙ texts in
       list_all-append (λ (b : ℕ). not (b == 10)) (word_text i.id) (after_spaces (number_texts form i.id i.nums))
-      ∙ true_both (is_free 10 (word_text i.id)) (is_free 10 (after_spaces (number_texts form i.id i.nums))) (word-no_newline i.id small)
+      ∙ and_from (is_free 10 (word_text i.id)) (is_free 10 (after_spaces (number_texts form i.id i.nums))) (word-no_newline i.id small)
       (spaces-free (number_texts form i.id i.nums) shown)

@@ -6,12 +6,11 @@ use Rattle.std.specs.Fmt.{signed_decimal}
 use Rattle.std.specs.Str.{bytes_eq}
 use Rattle.std.specs.Str.Parse.{AllDigits}
 use Rattle.std.proofs.lemmas.Slice.Eq.{bytes_eq-Decides}
-use Rattle.std.proofs.lemmas.Bool.{ltb-true, leb-true, eqb-true}
+use Rattle.std.proofs.lemmas.Bool.{ltb-true, leb-true, eqb-true, and_parts}
 use Rattle.std.proofs.lemmas.Bool.Decides.{nat_tests}
 use Rattle.std.proofs.lemmas.Fmt.{digits_value-decimal}
 use Rattle.std.proofs.lemmas.Str.Parse.{IsNumeralModel, numerals_by_fold, tells_digits}
 use Rattle.qp_text.specs.Numbers.{and_then, bits_of_negative, bits_of_positive, fitting, if_canonical, number_of, signed_of, value_after}
-use Rattle.qp_model.proofs.ListLemmas.{both_true}
 use Rattle.qp_text.proofs.OptionLemmas.{cond-some, and_then-some}
 use Rattle.qp_text.proofs.ValueLemmas.{fitting-some}
 
@@ -58,7 +57,7 @@ signed_of-is (b ∷ digits) n is = go (b == 45) refl is where
       let m = size.0 in
       let read = number_of-is digits m size.1 in
       let fits = cond-some (nat_le 1 m && nat_le m (2 ^ 63)) (2 ^ 64 - m) n size.2 in
-      let both = both_true (nat_le 1 m) (nat_le m (2 ^ 63)) fits.0 in
+      let both = and_parts (nat_le 1 m) (nat_le m (2 ^ 63)) fits.0 in
       (rw (← fits.1, negative m (leb-true 1 m both.0) (leb-true m (2 ^ 63) both.1), eqb-true b 45 minus, read.0) refl, omega (arith, fits.1, leb-true 1 m both.0))
   go false minus is =
       let size = and_then-some (number_of (b ∷ digits)) bits_of_positive n is in

@@ -4,8 +4,7 @@ use Rattle.std.proofs.lemmas.Bool.Decides.{nat_tests}
 use Rattle.std.specs.Prelude.{◌==◌, ◌&&◌, ◌⊎◌, nat_le, nat_lt, option_to_list}
 use Rattle.std.specs.List.{list_all}
 use Rattle.std.specs.Option.{is_some}
-use Rattle.std.proofs.lemmas.Bool.{eqb-true, le-leb, leb-true, ltb-true}
-use Rattle.qp_model.proofs.ListLemmas.{both_true, true_both}
+use Rattle.std.proofs.lemmas.Bool.{eqb-true, le-leb, leb-true, ltb-true, and_from, and_parts}
 use Rattle.qp_model.specs.Kinds.{QP, LANE, END, BEGIN}
 use Rattle.qp_model.specs.declared.record.Rec.{Rec}
 use Rattle.qp_model.specs.Vocabulary.{has_count}
@@ -21,14 +20,14 @@ lane-grows : (form : ℕ) (lane : List Rec) (id o : ℕ) (nums : List ℕ) → B
     → is_lane_in_range form (lane ++ record { kind = id; of = o; nums = record { items = nums } } ∷ []) ≡ true
 lane-grows form lane id o nums first past count small room lane_fits =
     let r : Rec = record { kind = id; of = o; nums = record { items = nums } } in
-    let lane_parts = both_true (nat_le (length lane) 1000001) (list_all (is_record_in_range form) lane) lane_fits in
+    let lane_parts = and_parts (nat_le (length lane) 1000001) (list_all (is_record_in_range form) lane) lane_fits in
     let longer : nat_le (length (lane ++ r ∷ [])) 1000001 ≡ true =
     le-leb _ _ (omega (arith, length-append lane (r ∷ []), ltb-true (length lane) 1000001 room)) in
-    let kind : (nat_le BEGIN id && nat_le id (last_id form)) ≡ true = true_both (nat_le BEGIN id) (nat_le id (last_id form)) (le-leb _ _ first) (le-leb _ _ past) in
+    let kind : (nat_le BEGIN id && nat_le id (last_id form)) ≡ true = and_from (nat_le BEGIN id) (nat_le id (last_id form)) (le-leb _ _ first) (le-leb _ _ past) in
     let fits : is_record_in_range form r ≡ true =
-    true_both (nat_le BEGIN id && nat_le id (last_id form) && has_count id (o ∷ nums)) (nat_le o 32)
-    (true_both (nat_le BEGIN id && nat_le id (last_id form)) (has_count id (o ∷ nums)) kind count) small in
-    true_both (nat_le (length (lane ++ r ∷ [])) 1000001) (list_all (is_record_in_range form) (lane ++ r ∷ []))
+    and_from (nat_le BEGIN id && nat_le id (last_id form) && has_count id (o ∷ nums)) (nat_le o 32)
+    (and_from (nat_le BEGIN id && nat_le id (last_id form)) (has_count id (o ∷ nums)) kind count) small in
+    and_from (nat_le (length (lane ++ r ∷ [])) 1000001) (list_all (is_record_in_range form) (lane ++ r ∷ []))
     longer (all-more (is_record_in_range form) lane r lane_parts.1 fits)
 
 -- a reading under way, with no last line yet
@@ -107,7 +106,7 @@ module _ (p : Reading) (begun : p.begun ≡ true) (unended : p.end ≡ None) (ra
     go true fits is =
         let r : Rec = record { kind = id; of = o; nums = record { items = nums } } in
         let head : JournalItem = item QP (p.form ∷ p.kernel ∷ p.budget ∷ []) in
-        let both = both_true (nat_le o 32) (nat_lt (length lane) 1000001) fits in
+        let both = and_parts (nat_le o 32) (nat_lt (length lane) 1000001) fits in
         let whole : list_all (is_lane_in_range p.form) (p.lanes ++ lane ∷ []) ≡ true = rw here at ranged.lanes in
         let few : length (p.lanes ++ lane ∷ []) ≤ 49 = rw here at ranged.count in
         let front = all-front (is_lane_in_range p.form) p.lanes lane whole in
@@ -123,7 +122,7 @@ module _ (p : Reading) (begun : p.begun ≡ true) (unended : p.end ≡ None) (ra
             low = ranged.low;
             high = ranged.high;
             lanes = all-more (is_lane_in_range p.form) p.lanes (lane ++ r ∷ []) front.0 grown;
-            bits = all-more lane_has_64_bits p.lanes (lane ++ r ∷ []) bits_front.0 (all-more record_has_64_bits lane r bits_front.1 (both_true (nat_lt o (2 ^ 64)) (has_64_bits nums) bits).1);
+            bits = all-more lane_has_64_bits p.lanes (lane ++ r ∷ []) bits_front.0 (all-more record_has_64_bits lane r bits_front.1 (and_parts (nat_lt o (2 ^ 64)) (has_64_bits nums) bits).1);
             count = omega (arith, few, length-append p.lanes (lane ∷ []), length-append p.lanes ((lane ++ r ∷ []) ∷ []));
             ended = λ status end. let none = rw unended at end in absurd cc;
           };

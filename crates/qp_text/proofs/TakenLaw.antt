@@ -2,8 +2,7 @@
 use Rattle.std.proofs.Common.{◌≡◌, ◌∙◌, ℕ, suc, ◌+◌, ◌≤◌, Bool, true, false, List, [], ◌∷◌, ◌++◌, map, length, Option, Some, None, Result, Ok, Err, cond, refl, sym, ap, append_assoc, append-nil, arith}
 use Rattle.std.specs.Prelude.{◌==◌, ◌&&◌, ◌⊎◌, nat_le}
 use Rattle.std.specs.List.{list_all}
-use Rattle.std.proofs.lemmas.Bool.{eqb-true}
-use Rattle.qp_model.proofs.ListLemmas.{both_true, true_both}
+use Rattle.std.proofs.lemmas.Bool.{eqb-true, and_from, and_parts}
 use Rattle.qp_model.specs.Kinds.{QP, LANE, END}
 use Rattle.qp_model.specs.declared.record.Rec.{Rec}
 use Rattle.qp_model.specs.Output.{JournalItem, item, record_item, items_of_lane, items_of_lanes, last_kernel, is_lane_in_range, is_end_status}
@@ -57,18 +56,18 @@ records-more lanes lane r =
 
 -- a test of all, with one more
 pub all-more : {X : Type 0} (test : X → Bool) (xs : List X) (x : X) → list_all test xs ≡ true → test x ≡ true → list_all test (xs ++ x ∷ []) ≡ true
-all-more test [] x all last = true_both (test x) true last refl
+all-more test [] x all last = and_from (test x) true last refl
 all-more test (y ∷ xs) x all last =
-    let both = both_true (test y) (list_all test xs) all in
-    true_both (test y) (list_all test (xs ++ x ∷ [])) both.0 (all-more test xs x both.1 last)
+    let both = and_parts (test y) (list_all test xs) all in
+    and_from (test y) (list_all test (xs ++ x ∷ [])) both.0 (all-more test xs x both.1 last)
 
 -- a test of all but the last
 pub all-front : {X : Type 0} (test : X → Bool) (xs : List X) (x : X) → list_all test (xs ++ x ∷ []) ≡ true → (list_all test xs ≡ true) × (test x ≡ true)
-all-front test [] x all = (refl, (both_true (test x) true all).0)
+all-front test [] x all = (refl, (and_parts (test x) true all).0)
 all-front test (y ∷ xs) x all =
-    let both = both_true (test y) (list_all test (xs ++ x ∷ [])) all in
+    let both = and_parts (test y) (list_all test (xs ++ x ∷ [])) all in
     let front = all-front test xs x both.1 in
-    (true_both (test y) (list_all test xs) both.0 front.0, front.1)
+    (and_from (test y) (list_all test xs) both.0 front.0, front.1)
 
 -- what one item more does to a reading
 pub record Takes (p q : Reading) (form : ℕ) (i : JournalItem) : Type 0 where
@@ -86,9 +85,9 @@ begin-is form (stated ∷ kernel ∷ budget ∷ []) q known is =
           → Takes at_start q form (item QP (stated ∷ kernel ∷ budget ∷ []))
       go false fits is = absurd cc
       go true fits is =
-          let three = both_true ((stated == form) && nat_le kernel (last_kernel form) && nat_le 1 budget) (nat_le budget 1000000) fits in
-          let two = both_true ((stated == form) && nat_le kernel (last_kernel form)) (nat_le 1 budget) three.0 in
-          let one = both_true (stated == form) (nat_le kernel (last_kernel form)) two.0 in
+          let three = and_parts ((stated == form) && nat_le kernel (last_kernel form) && nat_le 1 budget) (nat_le budget 1000000) fits in
+          let two = and_parts ((stated == form) && nat_le kernel (last_kernel form)) (nat_le 1 budget) three.0 in
+          let one = and_parts (stated == form) (nat_le kernel (last_kernel form)) two.0 in
           let this : record at_start { begun = true; form = form; kernel = kernel; budget = budget } ≡ q = cc in
           rw (← this) record {
             begun = refl;

@@ -3,10 +3,9 @@ use Rattle.std.proofs.Common.{◌≡◌, ◌∙◌, ℕ, ◌+◌, ◌≤◌, Boo
 use Rattle.std.specs.Prelude.{◌==◌, ◌&&◌, ◌⊎◌, not, nat_le, codes}
 use Rattle.std.specs.List.{list_all}
 use Rattle.std.specs.Str.{bytes_eq}
-use Rattle.std.proofs.lemmas.Bool.{le-leb, leb-true}
+use Rattle.std.proofs.lemmas.Bool.{le-leb, leb-true, and_from, and_parts}
 use Rattle.std.proofs.lemmas.Bool.Decides.{nat_tests}
 use Rattle.std.proofs.lemmas.Grind.{flat_map-append}
-use Rattle.qp_model.proofs.ListLemmas.{both_true, true_both}
 use Rattle.qp_model.specs.Kinds.{BEGIN, REST}
 use Rattle.qp_model.specs.declared.record.Rec.{Rec}
 use Rattle.qp_model.specs.declared.journals.Journal.{Journal}
@@ -89,20 +88,20 @@ pub record IsText (v : ℕ) (j : Journal) (bytes : List ℕ) : Type 0 where
 no_rest-lane : (lane : List Rec) → list_all (is_record_in_range 1) lane ≡ true → list_all (λ (r : Rec). not (r.kind == REST)) lane ≡ true
 no_rest-lane [] fits = refl
 no_rest-lane (r ∷ lane) fits =
-    let both = both_true (is_record_in_range 1 r) (list_all (is_record_in_range 1) lane) fits in
-    let three = both_true (nat_le BEGIN r.kind && nat_le r.kind 45 && has_count r.kind (r.of ∷ r.nums.items)) (nat_le r.of 32) both.0 in
-    let two = both_true (nat_le BEGIN r.kind && nat_le r.kind 45) (has_count r.kind (r.of ∷ r.nums.items)) three.0 in
-    let one = both_true (nat_le BEGIN r.kind) (nat_le r.kind 45) two.0 in
+    let both = and_parts (is_record_in_range 1 r) (list_all (is_record_in_range 1) lane) fits in
+    let three = and_parts (nat_le BEGIN r.kind && nat_le r.kind 45 && has_count r.kind (r.of ∷ r.nums.items)) (nat_le r.of 32) both.0 in
+    let two = and_parts (nat_le BEGIN r.kind && nat_le r.kind 45) (has_count r.kind (r.of ∷ r.nums.items)) three.0 in
+    let one = and_parts (nat_le BEGIN r.kind) (nat_le r.kind 45) two.0 in
     let small : r.kind ≤ 45 = leb-true r.kind 45 one.1 in
     let other : (r.kind == REST) ≡ false = grind (arith, nat_tests) in
-    true_both (not (r.kind == REST)) (list_all (λ (x : Rec). not (x.kind == REST)) lane) (rw other refl) (no_rest-lane lane both.1)
+    and_from (not (r.kind == REST)) (list_all (λ (x : Rec). not (x.kind == REST)) lane) (rw other refl) (no_rest-lane lane both.1)
 
 no_rest-lanes : (lanes : List (List Rec)) → list_all (is_lane_in_range 1) lanes ≡ true → has_no_rest lanes ≡ true
 no_rest-lanes [] fits = refl
 no_rest-lanes (lane ∷ lanes) fits =
-    let both = both_true (is_lane_in_range 1 lane) (list_all (is_lane_in_range 1) lanes) fits in
-    let records = both_true (nat_le (length lane) 1000001) (list_all (is_record_in_range 1) lane) both.0 in
-    true_both (list_all (λ (r : Rec). not (r.kind == REST)) lane) (has_no_rest lanes) (no_rest-lane lane records.1) (no_rest-lanes lanes both.1)
+    let both = and_parts (is_lane_in_range 1 lane) (list_all (is_lane_in_range 1) lanes) fits in
+    let records = and_parts (nat_le (length lane) 1000001) (list_all (is_record_in_range 1) lane) both.0 in
+    and_from (list_all (λ (r : Rec). not (r.kind == REST)) lane) (has_no_rest lanes) (no_rest-lane lane records.1) (no_rest-lanes lanes both.1)
 
 form-holds : (v : ℕ) (j : Journal) → (v ≡ 1) ⊎ (v ≡ 2) → nat_le j.kernel (last_kernel v) ≡ true → list_all (is_lane_in_range v) j.lanes ≡ true → has_form v j ≡ true
 form-holds v j (inr two) kernel lanes = rw two refl
@@ -126,12 +125,12 @@ finish-is number v p j (inl good) (Some status) end is =
     let last = ranged.ended status end in
     let lanes_are : all_lanes p ≡ p.lanes = rw last.1 (append-nil p.lanes) in
     let range : is_in_range p.form (journal_of p status) ≡ true =
-    true_both (nat_le p.kernel (last_kernel p.form) && nat_le 1 p.budget && nat_le p.budget 1000000 && is_end_status status && nat_le (length p.lanes) 49)
+    and_from (nat_le p.kernel (last_kernel p.form) && nat_le 1 p.budget && nat_le p.budget 1000000 && is_end_status status && nat_le (length p.lanes) 49)
     (list_all (is_lane_in_range p.form) p.lanes)
-    (true_both (nat_le p.kernel (last_kernel p.form) && nat_le 1 p.budget && nat_le p.budget 1000000 && is_end_status status) (nat_le (length p.lanes) 49)
-    (true_both (nat_le p.kernel (last_kernel p.form) && nat_le 1 p.budget && nat_le p.budget 1000000) (is_end_status status)
-    (true_both (nat_le p.kernel (last_kernel p.form) && nat_le 1 p.budget) (nat_le p.budget 1000000)
-    (true_both (nat_le p.kernel (last_kernel p.form)) (nat_le 1 p.budget) ranged.kernel ranged.low) ranged.high) last.0)
+    (and_from (nat_le p.kernel (last_kernel p.form) && nat_le 1 p.budget && nat_le p.budget 1000000 && is_end_status status) (nat_le (length p.lanes) 49)
+    (and_from (nat_le p.kernel (last_kernel p.form) && nat_le 1 p.budget && nat_le p.budget 1000000) (is_end_status status)
+    (and_from (nat_le p.kernel (last_kernel p.form) && nat_le 1 p.budget) (nat_le p.budget 1000000)
+    (and_from (nat_le p.kernel (last_kernel p.form)) (nat_le 1 p.budget) ranged.kernel ranged.low) ranged.high) last.0)
     (le-leb (length p.lanes) 49 (rw lanes_are at ranged.count)))
     (rw lanes_are at ranged.lanes) in
     let whole : IsText p.form (journal_of p status) (text_so_far p) = record {

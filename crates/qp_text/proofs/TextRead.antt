@@ -2,11 +2,10 @@
 use Rattle.std.proofs.Common.{◌≡◌, ◌∙◌, ℕ, ◌+◌, ◌^◌, ◌<◌, ◌≤◌, Bool, true, false, List, [], ◌∷◌, ◌++◌, map, length, Option, Some, None, Result, Ok, cond, refl, sym, ap, subst, append_assoc, append-nil, length-append, arith, inl, inr}
 use Rattle.std.specs.Prelude.{◌==◌, ◌&&◌, ◌||◌, ◌⊎◌, not, nat_lt, nat_le, option_to_list}
 use Rattle.std.specs.List.{list_all}
-use Rattle.std.proofs.lemmas.Bool.{eqb-true, eq-eqb, le-leb, leb-true}
+use Rattle.std.proofs.lemmas.Bool.{eqb-true, eq-eqb, le-leb, leb-true, and_from, and_parts}
 use Rattle.std.proofs.lemmas.Bool.Decides.{nat_tests}
 use Rattle.std.proofs.lemmas.Fmt.{decimal_digit}
 use Rattle.std.proofs.lemmas.Grind.{flat_map-append}
-use Rattle.qp_model.proofs.ListLemmas.{both_true, true_both}
 use Rattle.qp_model.specs.Kinds.{QP, LANE, END, BEGIN}
 use Rattle.qp_model.specs.declared.record.Rec.{Rec}
 use Rattle.qp_model.specs.declared.journals.Journal.{Journal}
@@ -87,16 +86,16 @@ module _ (form kernel budget : ℕ) where
   record-item : (r : Rec) → is_record_in_range form r ≡ true → has_64_bits r.nums.items ≡ true
       → IsItem form (record_item r) × (BEGIN ≤ r.kind) × (nat_le r.of 32 ≡ true)
   record-item r fits bits =
-      let three = both_true (nat_le BEGIN r.kind && nat_le r.kind (last_id form) && has_count r.kind (r.of ∷ r.nums.items)) (nat_le r.of 32) fits in
-      let two = both_true (nat_le BEGIN r.kind && nat_le r.kind (last_id form)) (has_count r.kind (r.of ∷ r.nums.items)) three.0 in
-      let one = both_true (nat_le BEGIN r.kind) (nat_le r.kind (last_id form)) two.0 in
+      let three = and_parts (nat_le BEGIN r.kind && nat_le r.kind (last_id form) && has_count r.kind (r.of ∷ r.nums.items)) (nat_le r.of 32) fits in
+      let two = and_parts (nat_le BEGIN r.kind && nat_le r.kind (last_id form)) (has_count r.kind (r.of ∷ r.nums.items)) three.0 in
+      let one = and_parts (nat_le BEGIN r.kind) (nat_le r.kind (last_id form)) two.0 in
       let first : BEGIN ≤ r.kind = leb-true BEGIN r.kind one.0 in
       let small : r.of ≤ 1000000 = omega (arith, leb-true r.of 32 three.1) in (
         record {
           first = omega (arith, first);
           past = leb-true r.kind (last_id form) one.1;
           count = two.1;
-          fits = true_both (nat_lt r.of (2 ^ 64)) (has_64_bits r.nums.items) (bits-small r.of small) bits;
+          fits = and_from (nat_lt r.of (2 ^ 64)) (has_64_bits r.nums.items) (bits-small r.of small) bits;
         },
         first,
         three.1,
@@ -119,8 +118,8 @@ module _ (form kernel budget : ℕ) where
   reads-records lanes lane [] fits bits few = λ number rest.
       (number, ap (λ (all : List Rec). read_parts number (under lanes (Some all)) (split 10 rest)) (sym (append-nil lane)))
   reads-records lanes lane (r ∷ records) fits bits few =
-      let both = both_true (is_record_in_range form r) (list_all (is_record_in_range form) records) fits in
-      let bits_both = both_true (record_has_64_bits r) (lane_has_64_bits records) bits in
+      let both = and_parts (is_record_in_range form r) (list_all (is_record_in_range form) records) fits in
+      let bits_both = and_parts (record_has_64_bits r) (lane_has_64_bits records) bits in
       let is = record-item r both.0 bits_both.0 in
       let next = under lanes (Some (lane ++ r ∷ [])) in
       let line = reads-item lanes (Some lane) (record_item r) next is.0 (record-taken lanes lane r is.1 is.2 (omega arith)) in
@@ -133,14 +132,14 @@ module _ (form kernel budget : ℕ) where
       → is_lane_in_range form lane ≡ true → lane_has_64_bits lane ≡ true
       → ReadsOn (under lanes before) (under (lanes ++ option_to_list before) (Some lane)) (lines_text form (items_of_lane number lane))
   reads-lane lanes before number lane next few fits bits =
-      let both = both_true (nat_le (length lane) 1000001) (list_all (is_record_in_range form) lane) fits in
+      let both = and_parts (nat_le (length lane) 1000001) (list_all (is_record_in_range form) lane) fits in
       let i : JournalItem = item LANE (number ∷ []) in
       let all = lanes ++ option_to_list before in
       let is : IsItem form i = record {
         first = omega arith;
         past = low-id form LANE (omega arith);
         count = refl;
-        fits = true_both (nat_lt number (2 ^ 64)) true (bits-small number (omega arith)) refl;
+        fits = and_from (nat_lt number (2 ^ 64)) true (bits-small number (omega arith)) refl;
       } in
       let goes : go_on (under lanes before) i ≡ Ok (under all (Some [])) = rw (← next, eq-eqb number number refl, le-leb number 48 few) refl in
       reads-then (under lanes before) (under all (Some [])) (under all (Some lane)) (line_text form i) (lines_text form (map record_item lane))
@@ -158,7 +157,7 @@ module _ (form kernel budget : ℕ) where
           first = omega arith;
           past = low-id form END (omega arith);
           count = refl;
-          fits = true_both (nat_lt status (2 ^ 64)) true (bits-small status (omega (arith, status-small status good))) refl;
+          fits = and_from (nat_lt status (2 ^ 64)) true (bits-small status (omega (arith, status-small status good))) refl;
         } in
         let goes : go_on (under lanes before) last ≡ Ok (ended (lanes ++ option_to_list before) status) = rw good refl in
         reads-item lanes before last (ended (lanes ++ option_to_list before) status) is goes
@@ -172,8 +171,8 @@ module _ (form kernel budget : ℕ) where
         subst (λ (lanes : List (List Rec)). ReadsOn (under done before) (ended lanes status) (line_text form last ++ [])) (sym (append-nil all))
         (subst (λ (bytes : List ℕ). ReadsOn (under done before) (ended all status) bytes) (sym (append-nil (line_text form last))) (reads-end done before))
     reads-lanes done before number (lane ∷ lanes) next few fits bits =
-        let both = both_true (is_lane_in_range form lane) (list_all (is_lane_in_range form) lanes) fits in
-        let bits_both = both_true (lane_has_64_bits lane) (records_have_64_bits lanes) bits in
+        let both = and_parts (is_lane_in_range form lane) (list_all (is_lane_in_range form) lanes) fits in
+        let bits_both = and_parts (lane_has_64_bits lane) (records_have_64_bits lanes) bits in
         let all = done ++ option_to_list before in
         let here = items_of_lane number lane in
         let behind = items_of_lanes (number + 1) lanes ++ last ∷ [] in
@@ -237,12 +236,12 @@ reads-first form kernel budget known fits low high =
 reads-all : (form : ℕ) (j : Journal) → has_form form j ≡ true → is_in_range form j ≡ true → records_have_64_bits j.lanes ≡ true
     → ReadsOn at_start (ended form j.kernel j.budget j.lanes j.end) (text form j)
 reads-all form j has fits bits =
-    let six = both_true (nat_le j.kernel (last_kernel form) && nat_le 1 j.budget && nat_le j.budget 1000000 && is_end_status j.end && nat_le (length j.lanes) 49)
+    let six = and_parts (nat_le j.kernel (last_kernel form) && nat_le 1 j.budget && nat_le j.budget 1000000 && is_end_status j.end && nat_le (length j.lanes) 49)
     (list_all (is_lane_in_range form) j.lanes) fits in
-    let five = both_true (nat_le j.kernel (last_kernel form) && nat_le 1 j.budget && nat_le j.budget 1000000 && is_end_status j.end) (nat_le (length j.lanes) 49) six.0 in
-    let four = both_true (nat_le j.kernel (last_kernel form) && nat_le 1 j.budget && nat_le j.budget 1000000) (is_end_status j.end) five.0 in
-    let three = both_true (nat_le j.kernel (last_kernel form) && nat_le 1 j.budget) (nat_le j.budget 1000000) four.0 in
-    let two = both_true (nat_le j.kernel (last_kernel form)) (nat_le 1 j.budget) three.0 in
+    let five = and_parts (nat_le j.kernel (last_kernel form) && nat_le 1 j.budget && nat_le j.budget 1000000 && is_end_status j.end) (nat_le (length j.lanes) 49) six.0 in
+    let four = and_parts (nat_le j.kernel (last_kernel form) && nat_le 1 j.budget && nat_le j.budget 1000000) (is_end_status j.end) five.0 in
+    let three = and_parts (nat_le j.kernel (last_kernel form) && nat_le 1 j.budget) (nat_le j.budget 1000000) four.0 in
+    let two = and_parts (nat_le j.kernel (last_kernel form)) (nat_le 1 j.budget) three.0 in
     let few : 0 + length j.lanes ≤ 49 = omega (arith, leb-true (length j.lanes) 49 five.1) in
     reads-then at_start (under form j.kernel j.budget [] None) (ended form j.kernel j.budget j.lanes j.end)
     (line_text form (head_item form j)) (lines_text form (items_of_lanes 0 j.lanes ++ end_item j ∷ []))

@@ -3,8 +3,7 @@ use Rattle.std.proofs.Common.{◌≡◌, ℕ, zero, suc, ◌+◌, ◌-◌, ◌<�
 use Rattle.std.specs.Prelude.{List, [], ◌∷◌, ◌==◌, ◌&&◌, ◌||◌, ◌⊎◌, length, nat_le, slice_index}
 use Rattle.qp_model.specs.Kinds.{NEW, ASSERT}
 use Rattle.std.specs.List.{list_all}
-use Rattle.std.proofs.lemmas.Bool.{leb-true, eqb-true}
-use Rattle.qp_model.proofs.ListLemmas.{both_true}
+use Rattle.std.proofs.lemmas.Bool.{leb-true, eqb-true, and_parts}
 use Rattle.std.specs.Str.{bytes_eq}
 use Rattle.qp_model.specs.Vocabulary.{word_text, has_assert_count, has_count, counts}
 use Rattle.qp_text.specs.LineItem.{id_from}
@@ -25,8 +24,8 @@ id-none last id word past =
 -- no number of the list is above n
 pub index-within : (xs : List ℕ) (n i : ℕ) → list_all (λ (x : ℕ). nat_le x n) xs ≡ true → slice_index xs i ≤ n
 index-within [] n i within = omega arith
-index-within (x ∷ xs) n zero within = leb-true x n (both_true (nat_le x n) (list_all (λ (y : ℕ). nat_le y n) xs) within).0
-index-within (x ∷ xs) n (suc i) within = index-within xs n i (both_true (nat_le x n) (list_all (λ (y : ℕ). nat_le y n) xs) within).1
+index-within (x ∷ xs) n zero within = leb-true x n (and_parts (nat_le x n) (list_all (λ (y : ℕ). nat_le y n) xs) within).0
+index-within (x ∷ xs) n (suc i) within = index-within xs n i (and_parts (nat_le x n) (list_all (λ (y : ℕ). nat_le y n) xs) within).1
 
 -- one of two tests holds
 one_of : (a b c d : Bool) → ((a && b) || (c && d)) ≡ true → (b ≡ true) ⊎ (d ≡ true)
@@ -51,7 +50,7 @@ assert-small (o ∷ code ∷ nums) has =
 count-by : (is_new is_assert : Bool) (id : ℕ) (nums : List ℕ)
     → cond is_new (nat_le 6 (length nums) && nat_le (length nums) 14) (cond is_assert (has_assert_count nums) (length nums == slice_index counts id)) ≡ true
     → length nums ≤ 14
-count-by true is_assert id nums has = leb-true (length nums) 14 (both_true (nat_le 6 (length nums)) (nat_le (length nums) 14) has).1
+count-by true is_assert id nums has = leb-true (length nums) 14 (and_parts (nat_le 6 (length nums)) (nat_le (length nums) 14) has).1
 count-by false true id nums has = assert-small nums has
 count-by false false id nums has =
     omega (arith, eqb-true (length nums) (slice_index counts id) has, index-within counts 14 id refl)

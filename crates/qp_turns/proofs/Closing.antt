@@ -1,7 +1,7 @@
 -- What is left of a step at a scheduling point still closes with `done`.
 use Rattle.std.proofs.Common.{◌≡◌, ℕ, ◌+◌, ◌-◌, Bool, true, false, not, ◌&&◌, List, [], ◌∷◌, ◌++◌, refl, sym, subst, inr, Option, Some, None, arith, append_assoc, append-nil}
 use Rattle.std.specs.Prelude.{IsTrue, nat_lt, pos}
-use Rattle.std.proofs.lemmas.Bool.{lt-ltb}
+use Rattle.std.proofs.lemmas.Bool.{lt-ltb, and_parts}
 use Rattle.qp_chart.specs.Task.{Task}
 use Rattle.qp_model.specs.declared.systems.System.{System}
 use Rattle.qp_model.specs.declared.bodies.Body.TheVariants as item
@@ -60,15 +60,11 @@ some-left sys a at left later c d g closing none reaches = by later.publishing r
         (subst (λ ps. DoesLeft sys a at left.publishing left.posts left.tasks c ps (Some all.1)) (sym (append_assoc (tell g ++ Point ∷ []) all.0 (Point ∷ [])))
         (reaches (all.0 ++ Point ∷ []) (Some all.1) (rw (is, none) all.2)))
 
-and-parts : (a b : Bool) → (a && b) ≡ true → (a ≡ true) × (b ≡ true)
-and-parts true b h = (refl, h)
-and-parts false b h = absurd (cc)
-
 closes-behind : (done rest : List Task) → (rest ≡ [] → ⊥) → closes (done ++ rest) ≡ true → closes rest ≡ true
 closes-behind [] rest some h = h
 closes-behind (t ∷ []) [] some h = absurd (some refl)
-closes-behind (t ∷ []) (u ∷ us) some h = (and-parts (not (is_done t)) (closes (u ∷ us)) h).1
-closes-behind (t ∷ u ∷ us) rest some h = closes-behind (u ∷ us) rest some (and-parts (not (is_done t)) (closes ((u ∷ us) ++ rest)) h).1
+closes-behind (t ∷ []) (u ∷ us) some h = (and_parts (not (is_done t)) (closes (u ∷ us)) h).1
+closes-behind (t ∷ u ∷ us) rest some h = closes-behind (u ∷ us) rest some (and_parts (not (is_done t)) (closes ((u ∷ us) ++ rest)) h).1
 
 pub closes-left : (sys : System) (a : Actor) (at : Moment) (left later : Remainder) (c d : Config) (g : List Told) (done : List Task) → closes left.tasks ≡ true → left.tasks ≡ done ++ later.tasks
     → Reaches sys a at left c (tell g ++ Point ∷ []) later d → closes later.tasks ≡ true

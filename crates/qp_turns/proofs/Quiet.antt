@@ -1,6 +1,7 @@
 -- The records of a start, and the lane that has them.
 use Rattle.std.proofs.Common.{◌≡◌, ℕ, Bool, true, false, not, ◌||◌, List, [], ◌∷◌, ◌++◌, map, refl, sym, ap, subst, Option, Some, None}
 use Rattle.std.specs.List.{list_any}
+use Rattle.std.proofs.lemmas.Bool.{and_parts, or_parts}
 use Rattle.qp_model.specs.declared.systems.System.{System}
 use Rattle.qp_model.specs.declared.bodies.Body.{Body}
 use Rattle.qp_model.specs.declared.bodies.Body.TheVariants as body
@@ -13,7 +14,6 @@ use Rattle.qp_model.specs.Told.{Told, ToldItem, for_object, plain}
 use Rattle.qp_model.specs.OneOrder.{look_of}
 use Rattle.qp_orders.specs.Placing.{LooksNone}
 use Rattle.qp_orders.specs.SourceRun.{untold, untold_all}
-use Rattle.qp_orders.proofs.CalmLemmas.{and-split, or-false}
 use Rattle.qp_calls.specs.Clauses.{Stops}
 use Rattle.qp_calls.specs.LaneView.{Gains, LaneView, is_known}
 use Rattle.qp_dispatch.specs.Objects.{works_for}
@@ -48,14 +48,14 @@ drops-quiet p (t ∷ g) drops =
 pub done-quiet : (p : ℕ) (g rel : List Told) → AreOwn g → list_any (λ t. is_end t.body) g ≡ false → AreDrops rel → IsQuiet p (g ++ plain body.Done ∷ rel)
 done-quiet p [] rel own calm drops = let rest = drops-quiet p rel drops in record { calm = rest.calm; lookless = (refl, rest.lookless) }
 done-quiet p (t ∷ g) rel own calm drops =
-    let parts = or-false (is_end t.body) (list_any (λ x. is_end x.body) g) calm in
+    let parts = or_parts (is_end t.body) (list_any (λ x. is_end x.body) g) calm in
     let rest = done-quiet p g rel own.2 parts.1 drops in
     record { calm = rw (parts.0) (rest.calm); lookless = (no-look t.body (own-not_look t.body own.0), rest.lookless) }
 
 quiet-front : (p : ℕ) (g more : List Told) → IsQuiet p (g ++ more) → IsQuiet p g
 quiet-front p [] more q = record { calm = refl; lookless = tt }
 quiet-front p (t ∷ g) more q =
-    let parts = or-false (is_end t.body) (list_any (λ x. is_end x.body) (g ++ more)) q.calm in
+    let parts = or_parts (is_end t.body) (list_any (λ x. is_end x.body) (g ++ more)) q.calm in
     let rest = quiet-front p g more (record { calm = parts.1; lookless = q.lookless.1 }) in
     record { calm = rw (parts.0) (rest.calm); lookless = (q.lookless.0, rest.lookless) }
 
@@ -67,10 +67,10 @@ ends-quiet : (p : ℕ) (g : List Told) (u : Told) (more : List Told) → AreOwn 
 unfolding ends_last
 ends-quiet p [] u more own last = record { calm = refl; lookless = tt }
 ends-quiet p (t ∷ []) u more own last =
-    let parts = and-split (not (is_end t.body)) (ends_last (map untold (map (for_object p) (u ∷ more)))) last in
+    let parts = and_parts (not (is_end t.body)) (ends_last (map untold (map (for_object p) (u ∷ more)))) last in
     record { calm = rw (not-yes (is_end t.body) parts.0) refl; lookless = (no-look t.body (own-not_look t.body own.0), tt) }
 ends-quiet p (t ∷ z ∷ g) u more own last =
-    let parts = and-split (not (is_end t.body)) (ends_last (map untold (map (for_object p) ((z ∷ g) ++ u ∷ more)))) last in
+    let parts = and_parts (not (is_end t.body)) (ends_last (map untold (map (for_object p) ((z ∷ g) ++ u ∷ more)))) last in
     let rest = ends-quiet p (z ∷ g) u more own.2 parts.1 in
     record { calm = rw (not-yes (is_end t.body) parts.0) (rest.calm); lookless = (no-look t.body (own-not_look t.body own.0), rest.lookless) }
 

@@ -2,6 +2,7 @@
 use Rattle.std.proofs.Common.{◌≡◌, ℕ, ◌+◌, ◌<◌, ◌≤◌, ◌==◌, cond, Bool, true, false, not, ◌||◌, ◌&&◌, List, [], ◌∷◌, ◌++◌, map, length, reverse, refl, sym, ◌∙◌, ap, subst, inl, inr, Option, Some, None, arith, append_assoc, append-nil, length-append}
 use Rattle.std.specs.Prelude.{◌⊎◌}
 use Rattle.std.specs.List.{AllByRecursion, list_all, list_any}
+use Rattle.std.proofs.lemmas.Bool.{or_parts}
 use Rattle.std.proofs.lemmas.Bool.Decides.{nat_tests}
 use Rattle.qp_chart.specs.StateTree.{has}
 use Rattle.qp_chart.specs.declared.checked.Chart.{Chart}
@@ -66,7 +67,6 @@ use Rattle.qp_kernel.proofs.OrderGrowth.{in_order-grows}
 use Rattle.qp_model.proofs.StepLemmas.{goes_on-completes}
 use Rattle.qp_model.specs.OneOrder.{stim_of}
 use Rattle.qp_orders.specs.Placing.{LooksNone}
-use Rattle.qp_orders.proofs.CalmLemmas.{or-false}
 use Rattle.std.specs.Option.{is_some}
 use Rattle.qp_turns.specs.declared.halting.Halt.TheVariants as halt
 use Rattle.qp_turns.specs.Ordering.{InOrder, StopsInOrder}
@@ -218,7 +218,7 @@ ends-code (t ∷ u ∷ ts) ends some = by (is_assert t.told.body) refl ends some
 
 front-calm : (xs ys : List Told) → list_any (λ t. is_end t.body) (xs ++ ys) ≡ false → list_any (λ t. is_end t.body) xs ≡ false
 front-calm [] ys h = refl
-front-calm (x ∷ xs) ys h = let parts = or-false (is_end x.body) (list_any (λ t. is_end t.body) (xs ++ ys)) h in rw (parts.0, front-calm xs ys parts.1) refl
+front-calm (x ∷ xs) ys h = let parts = or_parts (is_end x.body) (list_any (λ t. is_end t.body) (xs ++ ys)) h in rw (parts.0, front-calm xs ys parts.1) refl
 
 module _ (sys : System) (sound : IsSound sys) (terms : Terms) (looks : ℕ) (front : List ℕ) (p : ℕ) (xs : Objects) (v : LaneView)
     (k : Knows sys terms looks (front ++ p ∷ []) xs v) (at : IsRunning sys p k.state) where

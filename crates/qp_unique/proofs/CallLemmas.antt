@@ -1,5 +1,6 @@
 -- By what the words hold, a call goes on by one record alone.
 use Rattle.std.proofs.Common.{◌≡◌, ℕ, zero, suc, ◌+◌, ◌-◌, ◌≤◌, ◌==◌, nat_lt, max, Bool, true, false, not, ◌&&◌, ◌||◌, List, [], ◌∷◌, length, Some, None, is_none, refl, sym, subst, ap, arith}
+use Rattle.std.proofs.lemmas.Bool.{and_parts}
 use Rattle.std.proofs.lemmas.Bool.Decides.{nat_tests}
 use Rattle.std.specs.declared.option.Option.{Option}
 use Rattle.std.specs.Option.{unwrap_or, option_map}
@@ -12,7 +13,6 @@ use Rattle.qp_model.specs.Record.{entry}
 use Rattle.qp_model.specs.Line.{same_entry}
 use Rattle.qp_model.specs.Lists.{is_first, without_one}
 use Rattle.qp_model.specs.Lives.{life_may}
-use Rattle.qp_model.proofs.ListLemmas.{both_true}
 use Rattle.qp_model.specs.Subscribers.{bits_of_set}
 use Rattle.qp_model.specs.Told.{Told, Known, Nothing, Free, Left, Former, Member, plain, raised, dropped}
 use Rattle.qp_model.specs.Calls as call
@@ -183,7 +183,7 @@ module _ (sys : System) (h : Held) where
   same-list-is : (xs ys : List ℕ) → same_list xs ys ≡ true → xs ≡ ys
   same-list-is [] [] h = refl
   same-list-is (x ∷ xs) (y ∷ ys) h =
-      let both = both_true (x == y) (same_list xs ys) h in
+      let both = and_parts (x == y) (same_list xs ys) h in
       let e1 : x ≡ y = grind (arith, nat_tests) in
       let e2 : xs ≡ ys = same-list-is xs ys both.1 in
       cc

@@ -1,5 +1,6 @@
 -- Each record of a run comes next by what the words hold after the records before it.
 use Rattle.std.proofs.Common.{◌≡◌, ◌∙◌, ℕ, suc, ◌+◌, ◌<◌, ◌≤◌, ◌==◌, nat_lt, true, ◌&&◌, List, [], ◌∷◌, ◌++◌, length, take, refl, sym, ap, subst, arith}
+use Rattle.std.proofs.lemmas.Bool.{and_from, and_parts}
 use Rattle.std.proofs.lemmas.Bool.Decides.{nat_tests}
 use Rattle.std.specs.declared.option.Option.{Option}
 use Rattle.std.specs.List.{AllByRecursion}
@@ -25,7 +26,6 @@ use Rattle.qp_model.specs.Subscribers.{subscribers}
 use Rattle.qp_model.specs.TimeEvents.{time_event}
 use Rattle.qp_model.specs.Sites.{ring_of, blocks_of}
 use Rattle.qp_model.specs.WordLaw.{Keeps, Words, is_pool, is_block}
-use Rattle.qp_model.proofs.ListLemmas.{both_true, true_both}
 use Rattle.qp_model.proofs.MachineLemmas.{Counts, after-append}
 use Rattle.qp_model.proofs.WordLawLemmas.{free_blocks-counts, subscribers-counts, time_event-counts}
 use Rattle.qp_unique.specs.Held.{comes_next, known_then}
@@ -40,7 +40,7 @@ said o b = record { of = o; body = b }
 -- the block's pool
 pool-of-block : (sys : System) (p b : ℕ) → is_block sys p b ≡ true → is_pool sys p ≡ true
 unfolding is_block
-pool-of-block sys p b h = (both_true _ _ h).0
+pool-of-block sys p b h = (and_parts _ _ h).0
 
 module _ (sys : System) (lanes : List (List Rec)) (words : Words sys lanes) (order : List Item)
     (inside : (P : Item → Type 0) → AllByRecursion P (all_items lanes) → AllByRecursion P order) (ordered : in_order [] order ≡ true)
@@ -73,7 +73,7 @@ module _ (sys : System) (lanes : List (List Rec)) (words : Words sys lanes) (ord
 
   both-counts : {S : Type 0} (m : Machine S) (w : Word) (mark o : ℕ) (b : Body) → Counts S m → Keeps S m w lanes → At o b → touch_of o b ≡ Shows w mark
       → ((mark == m.count (after m (log_of w xs))) && m.says (after m (log_of w xs)) b) ≡ true
-  both-counts m w mark o b rises keeps at is = true_both _ _ (counts m w mark o b rises keeps at is) (shows m w mark o b keeps at is).2
+  both-counts m w mark o b rises keeps at is = and_from _ _ (counts m w mark o b rises keeps at is) (shows m w mark o b keeps at is).2
 
   -- the lives of a block
   lived : (p c : ℕ) (o : ℕ) (b : Body) (mark : ℕ) → is_block sys p c ≡ true → At o b → touch_of o b ≡ Draws (word.Pool p) mark
@@ -99,7 +99,7 @@ module _ (sys : System) (lanes : List (List Rec)) (words : Words sys lanes) (ord
       let lt : b < blocks_of sys p =
       given-below (blocks_of sys p) o p n b from sig pars rest.0 (log_of (word.Pool p) xs) (subst (λ zs. is_allowed (free_blocks (blocks_of sys p)) zs ≡ true) rest.1 keeps.allowed) in
       let below : nat_lt b (blocks_of sys p) ≡ true = grind (arith, nat_tests) in
-      true_both _ _ pool below
+      and_from _ _ pool below
 
   back : (p n b to o : ℕ) → is_pool sys p ≡ true → At o (Back p n b to) → is_block sys p b ≡ true
   unfolding is_block
@@ -107,7 +107,7 @@ module _ (sys : System) (lanes : List (List Rec)) (words : Words sys lanes) (ord
       let may = draws (free_blocks (blocks_of sys p)) (word.Pool p) (suc n) o (Back p n b to) (words.pools p pool) at refl in
       let lt : b < blocks_of sys p = back-below (blocks_of sys p) (after (free_blocks (blocks_of sys p)) (log_of (word.Pool p) xs)) p n b to may in
       let below : nat_lt b (blocks_of sys p) ≡ true = grind (arith, nat_tests) in
-      true_both _ _ pool below
+      and_from _ _ pool below
 
   module _ (events : Entry → Option Event) (c : ℕ) where
     pub comes-front : (o : ℕ) (b : Body) → At o b → names_its sys o b ≡ true → comes_next sys (held_after sys events c xs) o b ≡ true
@@ -121,10 +121,10 @@ module _ (sys : System) (lanes : List (List Rec)) (words : Words sys lanes) (ord
     comes-front o (NoEntry a f l m) at h = (shows (line (ring_of sys a)) (word.Queue a) (f + l + m) o (NoEntry a f l m) (words.queues a h) at refl).2
     comes-front o (NoLifo a f l m) at h = (shows (line (ring_of sys a)) (word.Queue a) (f + l + m) o (NoLifo a f l m) (words.queues a h) at refl).2
     comes-front o (New p n b from sig pars) at h =
-        true_both _ _ (draws (free_blocks (blocks_of sys p)) (word.Pool p) (suc n) o (New p n b from sig pars) (words.pools p h) at refl)
+        and_from _ _ (draws (free_blocks (blocks_of sys p)) (word.Pool p) (suc n) o (New p n b from sig pars) (words.pools p h) at refl)
         (lived p b o (New p n b from sig pars) (suc n) (given p n b from sig o pars h at) at refl)
     comes-front o (Back p n b to) at h =
-        true_both _ _ (draws (free_blocks (blocks_of sys p)) (word.Pool p) (suc n) o (Back p n b to) (words.pools p h) at refl)
+        and_from _ _ (draws (free_blocks (blocks_of sys p)) (word.Pool p) (suc n) o (Back p n b to) (words.pools p h) at refl)
         (lived p b o (Back p n b to) (suc n) (back p n b to o h at) at refl)
     comes-front o (Short p n free reserve) at h =
         both-counts (free_blocks (blocks_of sys p)) (word.Pool p) n o (Short p n free reserve) (free_blocks-counts (blocks_of sys p)) (words.pools p h) at refl

@@ -1,5 +1,6 @@
 -- The records before a place of a run's order are the front of each word's history.
 use Rattle.std.proofs.Common.{◌≡◌, ◌∙◌, ℕ, zero, suc, ◌<◌, ◌≤◌, ◌==◌, nat_lt, nat_le, Bool, true, false, not, ◌&&◌, ◌||◌, cond, List, [], ◌∷◌, ◌++◌, length, take, refl, sym, ap, subst, arith, append-nil, length-append}
+use Rattle.std.proofs.lemmas.Bool.{and_parts}
 use Rattle.std.proofs.lemmas.Bool.Decides.{nat_tests}
 use Rattle.std.proofs.lemmas.List.{append_assoc}
 use Rattle.std.proofs.lemmas.List.Elements.{filter-append}
@@ -11,7 +12,7 @@ use Rattle.qp_model.specs.Record.{Item}
 use Rattle.qp_model.specs.History.{Touch, Draws, Shows, Neither, touch, same_word, drawn_on, drawn_as, drawn_below, total, numbered, is_numbered, hist}
 use Rattle.qp_model.specs.Places.{is_next, in_order}
 use Rattle.qp_model.specs.Machine.{Machine, after, is_allowed, shown_by, is_shown}
-use Rattle.qp_model.proofs.ListLemmas.{both_true, all_below_at}
+use Rattle.qp_model.proofs.ListLemmas.{all_below_at}
 use Rattle.qp_model.proofs.HistoryLemmas.{length-hist}
 use Rattle.qp_model.proofs.KnowingLemmas.{same_word-is}
 use Rattle.qp_model.proofs.MachineLemmas.{Counts, is_allowed-at, is_allowed-front, count-after}
@@ -31,7 +32,7 @@ in-list all i p inside h = inside (λ j. p j ≡ true) (each all h)
   where
     each : (xs : List Item) → list_all p xs ≡ true → AllByRecursion (λ j. p j ≡ true) xs
     each [] h = tt
-    each (x ∷ xs) h = ((both_true _ _ h).0, each xs (both_true _ _ h).1)
+    each (x ∷ xs) h = ((and_parts _ _ h).0, each xs (and_parts _ _ h).1)
 
 -- no element passes, or no other than this one
 none-passes : (p : Item → Bool) (xs : List Item) → filter p xs ≡ [] → AllByRecursion (λ j. p j ≡ true → ⊥) xs
@@ -85,8 +86,8 @@ same_word-refl (word.Timer t) = grind (arith, nat_tests)
 -- the place of a record in an order
 pub next-at : (before xs : List Item) (i : Item) (ys : List Item) → in_order before (xs ++ i ∷ ys) ≡ true → is_next (before ++ xs) (touch i) ≡ true
 unfolding in_order
-next-at before [] i ys h = rw (append-nil before) ((both_true _ _ h).0)
-next-at before (x ∷ xs) i ys h = subst (λ zs. is_next zs (touch i) ≡ true) (append_assoc before (x ∷ []) xs) (next-at (before ++ x ∷ []) xs i ys (both_true _ _ h).1)
+next-at before [] i ys h = rw (append-nil before) ((and_parts _ _ h).0)
+next-at before (x ∷ xs) i ys h = subst (λ zs. is_next zs (touch i) ≡ true) (append_assoc before (x ∷ []) xs) (next-at (before ++ x ∷ []) xs i ys (and_parts _ _ h).1)
 
 -- the history up to a number
 numbered-more : (w : Word) (all : List Item) (k n : ℕ) → k ≤ n → (more : List Item) × (numbered w all n ≡ numbered w all k ++ more)
@@ -129,7 +130,7 @@ module _ (all order : List Item) (inside : (P : Item → Type 0) → AllByRecurs
     unfolding is_numbered
     drawn-below xs i ys is h =
         let at = draws-is w (touch i) h in
-        let below = in-list all i (λ j. drawn_below w (total w all) (touch j)) (placed-in xs i ys is) (both_true _ _ numbers).0 in
+        let below = in-list all i (λ j. drawn_below w (total w all) (touch j)) (placed-in xs i ys is) (and_parts _ _ numbers).0 in
         let one : (not (same_word w w) || (nat_lt 0 at.0 && nat_le at.0 (total w all))) ≡ true = subst (λ t. drawn_below w (total w all) t ≡ true) at.1 below in
         let two : (same_word w w && (at.0 == suc (total w xs))) ≡ true = subst (λ t. drawn_as w (total w xs) t ≡ true) at.1 (drawn-next xs i ys is h) in
         let yes : same_word w w ≡ true = same_word-refl w in
@@ -142,7 +143,7 @@ module _ (all order : List Item) (inside : (P : Item → Type 0) → AllByRecurs
     unfolding is_numbered
     drawn-alone xs i ys is h =
         only-one (λ j. drawn_as w (total w xs) (touch j)) all i (placed-in xs i ys is) (drawn-next xs i ys is h)
-        (all_below_at (total w all) (λ n. length (filter (λ j. drawn_as w n (touch j)) all) == 1) (both_true _ _ numbers).1 (total w xs) (drawn-below xs i ys is h))
+        (all_below_at (total w all) (λ n. length (filter (λ j. drawn_as w n (touch j)) all) == 1) (and_parts _ _ numbers).1 (total w xs) (drawn-below xs i ys is h))
 
     -- up to a place of the order the history is what was drawn before it
     pub numbered-front : (xs ys : List Item) → order ≡ xs ++ ys → numbered w all (total w xs) ≡ log_of w xs
@@ -222,10 +223,10 @@ module _ (all order : List Item) (inside : (P : Item → Type 0) → AllByRecurs
             subst (λ t. shown_by m w (hist w all) i.body t ≡ true) h one in
             let three : (nat_le mark (length (hist w all)) && m.says (after m (take mark (hist w all))) i.body) ≡ true =
             subst (λ b. cond b (nat_le mark (length (hist w all)) && m.says (after m (take mark (hist w all))) i.body) true ≡ true) (same_word-refl w) two in
-            let few : mark ≤ length (hist w all) = let test : nat_le mark (length (hist w all)) ≡ true = (both_true _ _ three).0 in grind (arith, nat_tests) in
+            let few : mark ≤ length (hist w all) = let test : nat_le mark (length (hist w all)) ≡ true = (and_parts _ _ three).0 in grind (arith, nat_tests) in
             let size : length (hist w all) ≡ total w all = length-hist w all numbers in
             let number : mark ≡ total w xs = grind (arith, nat_tests) in
-            (number, omega (arith, few, size), (both_true _ _ three).1)
+            (number, omega (arith, few, size), (and_parts _ _ three).1)
 
         -- a record that shows the word says what it holds there
         pub says-next : (xs : List Item) (i : Item) (ys : List Item) (mark : ℕ) → order ≡ xs ++ i ∷ ys → touch i ≡ Shows w mark

@@ -1,6 +1,7 @@
 -- A lawful journal of `sim` without a `spill`: its lanes, and its order.
 use Rattle.std.proofs.Common.{◌≡◌, ◌∙◌, ℕ, suc, ◌+◌, ◌==◌, Bool, true, false, not, ◌&&◌, ◌||◌, cond, List, [], ◌∷◌, ◌++◌, map, length, drop, Some, None, refl, sym, ap, subst, arith, append-nil}
 use Rattle.std.specs.Prelude.{⊤}
+use Rattle.std.proofs.lemmas.Bool.{and_parts}
 use Rattle.std.proofs.lemmas.Bool.Decides.{nat_tests}
 use Rattle.std.proofs.lemmas.List.{append_assoc, map-append}
 use Rattle.std.specs.declared.option.Option.{Option}
@@ -19,7 +20,6 @@ use Rattle.qp_model.specs.Kernels.{sim, port, has_one_order}
 use Rattle.qp_model.specs.Places.{in_order}
 use Rattle.qp_model.specs.OneOrder.{Placed, OneThread, IsOneOrder, with_stimuli, parts_of_look, part_of_look, belongs, look_of, stim_of, order, spills_from, looks_right, look_right, turns_at, acts_next, is_turn, no_look, is_free}
 use Rattle.qp_model.specs.Lawful.{Lawful, KernelHolds, OrderHolds, setting_of, source_lanes, lanes_before, one_thread}
-use Rattle.qp_model.proofs.ListLemmas.{both_true}
 use Rattle.qp_orders.specs.RunOrder.{placed, items_of}
 use Rattle.qp_orders.specs.Placing.{look_item}
 use Rattle.qp_orders.proofs.RunLemmas.{spills-none}
@@ -136,20 +136,20 @@ any-none (l ∷ ls) h = rw (each-unspilt l h.0) (any-none ls h.1)
 -- each look has the stimulus that acts in it
 looks-at : (r : OneThread) (before xs : List Placed) (x : Placed) (ys : List Placed) → looks_right r before (xs ++ x ∷ ys) ≡ true → look_right r (before ++ xs) ys (look_of x.item.body) ≡ true
 unfolding looks_right
-looks-at r before [] x ys h = rw (append-nil before) (both_true _ _ h).0
+looks-at r before [] x ys h = rw (append-nil before) (and_parts _ _ h).0
 looks-at r before (z ∷ xs) x ys h =
-    subst (λ zs. look_right r zs ys (look_of x.item.body) ≡ true) (append_assoc before (z ∷ []) xs) (looks-at r (before ++ z ∷ []) xs x ys (both_true _ _ h).1)
+    subst (λ zs. look_right r zs ys (look_of x.item.body) ≡ true) (append_assoc before (z ∷ []) xs) (looks-at r (before ++ z ∷ []) xs x ys (and_parts _ _ h).1)
 
 -- nothing follows what ends a run
 pub ends-before : (xs : List Item) (x : Item) (ys : List Item) → ends_last (xs ++ x ∷ ys) ≡ true → list_any (λ i. is_end i.body) xs ≡ false
 unfolding ends_last
 ends-before [] x ys h = refl
-ends-before (i ∷ []) x ys h = let parts = both_true _ _ h in by (is_end i.body) parts.0
+ends-before (i ∷ []) x ys h = let parts = and_parts _ _ h in by (is_end i.body) parts.0
   where
     by : (b : Bool) → not b ≡ true → (b || false) ≡ false
     by true e = absurd (cc)
     by false e = refl
-ends-before (i ∷ j ∷ xs) x ys h = let parts = both_true _ _ h in by (is_end i.body) parts.0 (ends-before (j ∷ xs) x ys parts.1)
+ends-before (i ∷ j ∷ xs) x ys h = let parts = and_parts _ _ h in by (is_end i.body) parts.0 (ends-before (j ∷ xs) x ys parts.1)
   where
     by : (b : Bool) → not b ≡ true → list_any (λ i. is_end i.body) (j ∷ xs) ≡ false → (b || list_any (λ i. is_end i.body) (j ∷ xs)) ≡ false
     by true e h = absurd (cc)

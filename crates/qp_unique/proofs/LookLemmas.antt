@@ -1,5 +1,6 @@
 -- The stimulus of a look: which records of which source it has.
 use Rattle.std.proofs.Common.{◌≡◌, ◌∙◌, ℕ, suc, ◌+◌, ◌==◌, Bool, true, false, ◌||◌, cond, List, [], ◌∷◌, ◌++◌, length, if◌then◌else◌, Some, None, refl, sym, ap, subst, arith, append-nil}
+use Rattle.std.proofs.lemmas.Bool.{or_parts}
 use Rattle.std.proofs.lemmas.Bool.Decides.{nat_tests}
 use Rattle.std.specs.declared.option.Option.{Option}
 use Rattle.std.specs.Option.{option_map_or, is_some}
@@ -96,17 +97,13 @@ stim-not : (n : ℕ) (b : Body) → stim_of b ≡ None → is_stim_at n b ≡ fa
 stim-not n (body.Stim i j) h = absurd (cc)
 stim-not n b h = refl
 
-or-false : (a b : Bool) → (a || b) ≡ false → (a ≡ false) × (b ≡ false)
-or-false true b h = absurd (cc)
-or-false false b h = (refl, h)
-
 -- behind the stimulus of a look its records go up to the next stimulus
 pub part-behind : (lane n : ℕ) (cuts : Bool) (is : List Item) → list_any (λ i. is_stim_at n i.body) is ≡ false → spills_in is ≡ false
     → part_of_look lane n cuts true is ≡ all_placed lane (up_to_stim is)
 unfolding part_of_look
 part-behind lane n cuts [] none unspilt = refl
 part-behind lane n cuts (i ∷ is) none unspilt =
-    by (stim_of i.body) refl (or-false (is_stim_at n i.body) (list_any (λ j. is_stim_at n j.body) is) none) (or-false (is_spill i.body) (spills_in is) unspilt)
+    by (stim_of i.body) refl (or_parts (is_stim_at n i.body) (list_any (λ j. is_stim_at n j.body) is) none) (or_parts (is_spill i.body) (spills_in is) unspilt)
     (λ a b. part-behind lane n cuts is a b)
   where
     or-true : (c : Bool) → (c || true) ≡ true

@@ -1,5 +1,6 @@
 -- Two runs have the same order.
 use Rattle.std.proofs.Common.{◌≡◌, ◌∙◌, ℕ, suc, ◌+◌, ◌≤◌, ◌==◌, Bool, true, false, List, [], ◌∷◌, ◌++◌, length, get_or, Some, None, refl, sym, ap, subst, inl, inr, ◌⊎◌, arith, append-nil}
+use Rattle.std.proofs.lemmas.Bool.{and_parts}
 use Rattle.std.proofs.lemmas.Bool.Decides.{nat_tests}
 use Rattle.std.proofs.lemmas.List.{append_assoc}
 use Rattle.std.specs.declared.option.Option.{Option}
@@ -19,7 +20,6 @@ use Rattle.qp_model.specs.Sites.{object_at}
 use Rattle.qp_model.specs.KernelLane.{Setting, threshold_of, Reading, Upcoming, Inside, Looking, Chosen, Ended, Resting, Again, Over, Halted, role_of, Looks, Drops, lane_on, is_whole, is_over, unread}
 use Rattle.qp_model.specs.OneOrder.{Placed, Turn, with_stimuli, parts_of_look, acts_next, look_of}
 use Rattle.qp_model.specs.Points.{pieces_in}
-use Rattle.qp_model.proofs.ListLemmas.{both_true}
 use Rattle.qp_sources.specs.SourceState.{Between, source_after}
 use Rattle.qp_orders.specs.RunOrder.{placed}
 use Rattle.qp_orders.specs.Placing.{look_item, all_placed, stim_item}
@@ -224,8 +224,8 @@ module _ (sys : System) (charts : (p : ℕ) (d : ObjectDef) → object_at sys p 
       by : (is_whole sim a.last ≡ true) ⊎ (list_any (λ z. is_end z.item.body) (order_of sys charts stimuli budget a) ≡ true) → ⊥
       by (inl whole) =
           let here : is_whole sim k ≡ true = subst (λ (x : Reading). is_whole sim x ≡ true) last whole in
-          let parts = both_true _ _ here in
-          let first = both_true _ _ parts.0 in
+          let parts = and_parts _ _ here in
+          let first = and_parts _ _ parts.0 in
           over-none (in_sim sys b.has) refl k _ ib (none k.unstarted first.0) (inl (over k.place parts.1)) (slot sys charts stimuli budget bounded positive b xs front ib lb k g.two)
       by (inr some) =
           let whole : order_of sys charts stimuli budget a ≡ xs = g.one.order ∙ append-nil xs in

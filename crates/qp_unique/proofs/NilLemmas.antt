@@ -3,6 +3,7 @@ use Rattle.std.proofs.Common.{◌≡◌, ℕ, Bool, true, false, not, ◌&&◌, 
 use Rattle.std.specs.Bool.{MatchBool}
 use Rattle.std.specs.declared.option.Option.{Option}
 use Rattle.std.specs.List.{list_all}
+use Rattle.std.proofs.lemmas.Bool.{and_from, and_parts}
 use Rattle.qp_model.specs.declared.systems.System.{System}
 use Rattle.qp_model.specs.declared.bodies.Entry.{Entry}
 use Rattle.qp_model.specs.declared.bodies.Body.{Body}
@@ -43,17 +44,10 @@ unfolding is_calm is_deferral
 calm-not (item.Nil f l m) h = absurd (cc)
 calm-not b h = refl
 
-and-parts : (a b : Bool) → (a && b) ≡ true → (a ≡ true) × (b ≡ true)
-and-parts true b h = (refl, h)
-and-parts false b h = absurd (cc)
-
-and-both : (a b : Bool) → a ≡ true → b ≡ true → (a && b) ≡ true
-and-both a b h k = rw (h, k) refl
-
 pub usual-nilless : (g : List Told) → Usual g → Nilless g
 usual-nilless [] h = refl
 usual-nilless (t ∷ g) h =
-    let parts = and-parts (is_calm t.body || is_deferral t.body) _ h in and-both (not (is_nil t.body)) _ (calm-not t.body parts.0) (usual-nilless g parts.1)
+    let parts = and_parts (is_calm t.body || is_deferral t.body) _ h in and_from (not (is_nil t.body)) _ (calm-not t.body parts.0) (usual-nilless g parts.1)
 
 assert-not : (b : Body) (answer : Answer) → assertion_of b ≡ Some answer → not (is_nil b) ≡ true
 assert-not (item.Nil f l m) answer h = absurd (cc)
@@ -64,7 +58,7 @@ unfolding Answers Ending
 answers-nilless answer g h = by (is_assertion answer) h
   where
     by : (b : Bool) → MatchBool b (Ending Usual answer g) (Usual g) → Nilless g
-    by true k = nilless-same k.4 (nilless-append k.0 (k.1 ∷ []) (usual-nilless k.0 k.2) (and-both (not (is_nil k.1.body)) true (assert-not k.1.body answer k.3) refl))
+    by true k = nilless-same k.4 (nilless-append k.0 (k.1 ∷ []) (usual-nilless k.0 k.2) (and_from (not (is_nil k.1.body)) true (assert-not k.1.body answer k.3) refl))
     by false k = usual-nilless g k
 
 drops-nilless : (e : Entry) (g : List Told) → Drops e g → Nilless g
@@ -94,7 +88,7 @@ module _ (sys : System) (o : ℕ) (now : Option Entry) where
   actions-nilless g h = sequence-nilless (IsAction sys o now) action-nilless g h
 
   group-nilless : (g : List Told) → IsGroup sys o now g → Nilless g
-  group-nilless g (IsMove b move is) = nilless-same is (and-both (not (is_nil b)) true (move-not b move) refl)
+  group-nilless g (IsMove b move is) = nilless-same is (and_from (not (is_nil b)) true (move-not b move) refl)
   group-nilless g (IsAct act) = action-nilless g act
   group-nilless g (IsLocked former ceiling inner acts is) = nilless-same is (nilless-append inner _ (actions-nilless inner acts) refl)
 
@@ -119,7 +113,7 @@ head-not b h = refl
 module _ (sys : System) (o : ℕ) where
   step-head : (e : Entry) (g : List Told) → StepHead e g → Nilless g
   unfolding StepHead
-  step-head e g (f, l, m, known, head, is_it, is) = nilless-same is (and-both (not (is_nil head)) true (head-not head is_it) refl)
+  step-head e g (f, l, m, known, head, is_it, is) = nilless-same is (and_from (not (is_nil head)) true (head-not head is_it) refl)
 
   turn-nilless : (g : List Told) → IsTurn sys o false g → Nilless g
   unfolding StepGroup

@@ -1,5 +1,6 @@
 -- A block that is given out is one of its pool.
 use Rattle.std.proofs.Common.{◌≡◌, ℕ, zero, suc, ◌+◌, ◌<◌, ◌≤◌, ◌==◌, nat_lt, Bool, true, false, not, ◌&&◌, cond, List, [], ◌∷◌, ◌++◌, subst, arith}
+use Rattle.std.proofs.lemmas.Bool.{and_parts}
 use Rattle.std.proofs.lemmas.Bool.Decides.{nat_tests}
 use Rattle.std.specs.List.{AllByRecursion}
 use Rattle.qp_chart.specs.StateTree.{has}
@@ -9,7 +10,6 @@ use Rattle.qp_model.specs.Record.{Item}
 use Rattle.qp_model.specs.Lists.{count_up, without_all, with_number, is_first}
 use Rattle.qp_model.specs.Machine.{allowed_from, is_allowed}
 use Rattle.qp_model.specs.FreeBlocks.{Pool, pool_next, pool_may, free_blocks}
-use Rattle.qp_model.proofs.ListLemmas.{both_true}
 
 -- a pool of so many blocks
 module _ (size : ℕ) where
@@ -44,7 +44,7 @@ module _ (size : ℕ) where
   pub back-below : (s : Pool) (p n b to : ℕ) → pool_may size s (Back p n b to) ≡ true → b < size
   back-below s p n b to may =
       let test : ((n == s.count) && nat_lt b size && not (has s.free b)) ≡ true = may in
-      let lt : nat_lt b size ≡ true = (both_true _ _ (both_true _ _ test).0).1 in
+      let lt : nat_lt b size ≡ true = (and_parts _ _ (and_parts _ _ test).0).1 in
       grind (arith, nat_tests)
 
   step-below : (s : Pool) (body : Body) → AllBelow s.free → pool_may size s body ≡ true → AllBelow (pool_next s body).free
@@ -56,8 +56,8 @@ module _ (size : ℕ) where
     given-from : (s : Pool) (before : List Item) → AllBelow s.free
         → allowed_from (free_blocks size) s (before ++ record { of = o; body = New p n b from sig pars } ∷ later) ≡ true → b < size
     unfolding allowed_from
-    given-from s [] h allowed = first-below b s.free h ((both_true _ _ (both_true _ _ allowed).0).1)
-    given-from s (i ∷ is) h allowed = let parts = both_true _ _ allowed in given-from (pool_next s i.body) is (step-below s i.body h parts.0) parts.1
+    given-from s [] h allowed = first-below b s.free h ((and_parts _ _ (and_parts _ _ allowed).0).1)
+    given-from s (i ∷ is) h allowed = let parts = and_parts _ _ allowed in given-from (pool_next s i.body) is (step-below s i.body h parts.0) parts.1
 
     pub given-below : (before : List Item) → is_allowed (free_blocks size) (before ++ record { of = o; body = New p n b from sig pars } ∷ later) ≡ true → b < size
     unfolding is_allowed

@@ -1,5 +1,6 @@
 -- What is known of a lawful, tidy journal of `sim` without a `spill`.
 use Rattle.std.proofs.Common.{◌≡◌, ◌∙◌, ℕ, ◌+◌, ◌==◌, Bool, true, false, not, ◌||◌, cond, List, [], ◌∷◌, ◌++◌, length, Some, None, refl, sym, ap, subst, inl, inr, ◌⊎◌, arith, append-nil}
+use Rattle.std.proofs.lemmas.Bool.{and_parts}
 use Rattle.std.proofs.lemmas.Bool.Decides.{nat_tests}
 use Rattle.std.proofs.lemmas.List.{append_assoc, map-append}
 use Rattle.std.proofs.lemmas.List.Elements.{filter-append}
@@ -35,7 +36,6 @@ use Rattle.qp_model.specs.Points.{lane_pieces, pieces_in}
 use Rattle.qp_model.specs.OneOrder.{Placed}
 use Rattle.qp_model.specs.Lawful.{Lawful, ObjectHolds, facts_of, setting_of, cut_of, spill_cuts, reading_holds}
 use Rattle.qp_model.specs.WordLaw.{is_object}
-use Rattle.qp_model.proofs.ListLemmas.{both_true}
 use Rattle.qp_model.proofs.LineLemmas.{line_is}
 use Rattle.qp_orders.proofs.CalmLemmas.{no_spill-cuts}
 use Rattle.qp_fits.specs.Decides.{Decides}
@@ -66,7 +66,7 @@ filter-none-spill (i ∷ is) h = rw h.0 (ap (λ js. i ∷ js) (filter-none-spill
 
 pub all-of : (p : Item → Bool) (xs : List Item) → list_all p xs ≡ true → AllByRecursion (λ i. p i ≡ true) xs
 all-of p [] h = tt
-all-of p (x ∷ xs) h = let parts = both_true _ _ h in (parts.0, all-of p xs parts.1)
+all-of p (x ∷ xs) h = let parts = and_parts _ _ h in (parts.0, all-of p xs parts.1)
 
 -- a record that finds the queue empty is told
 nil-among : (w : Facts) (o f l m : ℕ) (i : Item) (ys : List Item) → i.of ≡ o → i.body ≡ body.Nil f l m → (c : ℕ) (xs : List Item) → Nilless (records_of w o c (xs ++ i ∷ ys)) → ⊥
@@ -74,14 +74,14 @@ unfolding records_of told
 nil-among w o f l m i ys of nil c [] h =
     let own : (i.of == o) ≡ true = grind (arith, nat_tests) in
     let one = subst (λ b. Nilless (cond b (told w o c i.body ∷ records_of w o (ceiling_after c i.body) ys) (records_of w o (ceiling_after c i.body) ys))) own h in
-    let parts = both_true _ _ one in
+    let parts = and_parts _ _ one in
     let no : not true ≡ true = subst (λ d. not (is_nil d) ≡ true) nil parts.0 in
     cc
 nil-among w o f l m i ys of nil c (x ∷ xs) h = by (x.of == o) h (λ k. nil-among w o f l m i ys of nil (ceiling_after c x.body) xs k)
   where
     by : (b : Bool) → Nilless (cond b (told w o c x.body ∷ records_of w o (ceiling_after c x.body) (xs ++ i ∷ ys)) (records_of w o (ceiling_after c x.body) (xs ++ i ∷ ys)))
         → (Nilless (records_of w o (ceiling_after c x.body) (xs ++ i ∷ ys)) → ⊥) → ⊥
-    by true h later = later (both_true _ _ h).1
+    by true h later = later (and_parts _ _ h).1
     by false h later = later h
 
 none : (w : Word) {S : Type 0} (m : Machine S) → is_allowed m (log_of w []) ≡ true
@@ -143,7 +143,7 @@ module _ (sys : System) (stimuli : List (List Stim)) (j : Journal) (law : Lawful
       by : (settles : ℕ) (o : Option Reading) → o ≡ lane_on (in_sim sys has_one) (unread sys) zero_lane → reading_holds j zero_lane settles o ≡ true
           → (last : Reading) × (lane_on (in_sim sys has_one) (unread sys) zero_lane ≡ Some last) × ((may_cut j.end ≡ true) ⊎ (is_whole sim last ≡ true))
       by settles None e h = absurd (cc)
-      by settles (Some k) e h = (k, sym e, on (may_cut j.end) refl (both_true _ _ h).1)
+      by settles (Some k) e h = (k, sym e, on (may_cut j.end) refl (and_parts _ _ h).1)
         where
           on : (b : Bool) → may_cut j.end ≡ b → cond b ((length k.unstarted == 0) || list_any (λ i. is_assert i.body) zero_lane) (is_whole j.kernel k) ≡ true → (may_cut j.end ≡ true) ⊎ (is_whole sim k ≡ true)
           on true e h = inl e
@@ -183,7 +183,7 @@ module _ (sys : System) (stimuli : List (List Stim)) (j : Journal) (law : Lawful
         (subst (λ o. FollowsTo sys d (cut_of sys j o) (pieces_in (facts_of sys j) (setting_of sys j) o (unread sys) zero_lane)) own found.0) in
         let reads = holds _ _ (pieces-decided sys d (followable p d is) (cut_of sys j p) (pieces_in (facts_of sys j) (in_sim sys has_one) p (unread sys) zero_lane)) moved in
         by (run sys (actor d (chart_of p d is)) (start_state (actor d (chart_of p d is)) (first_config d)) (pieces_in (facts_of sys j) (in_sim sys has_one) p (unread sys) zero_lane)) refl
-        (both_true _ _ reads).0 (cut-is p)
+        (and_parts _ _ reads).0 (cut-is p)
       where
         either : (b c : Bool) (s : State) (at : Bool) → (at || (is_end_of_course s || expects_point s)) ≡ true → MayEnd at s
         either b c s true h = inr (inr refl)

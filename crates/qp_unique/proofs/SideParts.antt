@@ -1,5 +1,6 @@
 -- The lanes of sources and the budgets of a lawful journal of `sim` without a `spill`.
 use Rattle.std.proofs.Common.{◌≡◌, ◌∙◌, ℕ, zero, suc, ◌+◌, ◌<◌, ◌≤◌, ◌==◌, nat_le, Bool, true, false, not, ◌&&◌, ◌||◌, cond, List, [], ◌∷◌, ◌++◌, map, length, drop, get_or, Some, None, refl, sym, ap, subst, arith}
+use Rattle.std.proofs.lemmas.Bool.{and_parts}
 use Rattle.std.proofs.lemmas.Bool.Decides.{nat_tests}
 use Rattle.std.proofs.lemmas.List.{append_assoc, map-append}
 use Rattle.std.proofs.lemmas.List.Sums.{sum_by-cons}
@@ -27,7 +28,6 @@ use Rattle.qp_model.specs.KernelLane.{Reading, lane_on, lane_next, unread}
 use Rattle.qp_model.specs.OneOrder.{Placed, with_stimuli, parts_of_look, look_of, stim_of, look_numbers, stims_placed}
 use Rattle.qp_model.specs.Sources.{SourceEnd, InStimulus, IsSourceLane, SourceRuns, source_records, may_end}
 use Rattle.qp_model.specs.Lawful.{Lawful, EndHolds, SourceLanes, facts_of, source_lanes, lanes_before, one_thread}
-use Rattle.qp_model.proofs.ListLemmas.{both_true}
 use Rattle.qp_model.proofs.KernelRowLemmas.{lane_on-append}
 use Rattle.qp_sources.specs.SourceState.{SourceState, Between, source_after, source_stops, stops_after}
 use Rattle.qp_sources.proofs.LawLemmas.{call-laws}
@@ -55,12 +55,12 @@ drop-at (x ∷ xs) (suc n) r rs h =
     (later.0, ap (λ k. drop k (x ∷ xs)) next ∙ later.1)
 
 list-at : {A : Type 0} (p : A → Bool) (xs : List A) (x : A) (ys : List A) → list_all p (xs ++ x ∷ ys) ≡ true → p x ≡ true
-list-at p [] x ys h = (both_true _ _ h).0
-list-at p (z ∷ xs) x ys h = list-at p xs x ys (both_true _ _ h).1
+list-at p [] x ys h = (and_parts _ _ h).0
+list-at p (z ∷ xs) x ys h = list-at p xs x ys (and_parts _ _ h).1
 
 each-object : (p : ObjectDef → Bool) (ds : List ObjectDef) → list_all p ds ≡ true → AllByRecursion (λ d. p d ≡ true) ds
 each-object p [] h = tt
-each-object p (d ∷ ds) h = let parts = both_true _ _ h in (parts.0, each-object p ds parts.1)
+each-object p (d ∷ ds) h = let parts = and_parts _ _ h in (parts.0, each-object p ds parts.1)
 
 -- a look with this number
 look-found : (lane : List Item) (n : ℕ) → has (look_numbers lane) n ≡ true → (front : List Item) × (i : Item) × (floor : ℕ) × (back : List Item) × (lane ≡ front ++ i ∷ back) × (look_of i.body ≡ Some (n, floor))
@@ -126,19 +126,19 @@ spents-each : (sys : System) (j : Journal) (n : ℕ) (lanes : List (List Rec)) �
 unfolding spents_hold all_items
 spents-each sys j n [] h = tt
 spents-each sys j n (l ∷ ls) h =
-    let parts = both_true _ _ h in
-    all-join _ (lane_items l) (all_items ls) (each (lane_items l) (both_true _ _ parts.0).0) (spents-each sys j (n + 1) ls parts.1)
+    let parts = and_parts _ _ h in
+    all-join _ (lane_items l) (all_items ls) (each (lane_items l) (and_parts _ _ parts.0).0) (spents-each sys j (n + 1) ls parts.1)
   where
     right : (i : Item) → spent_right sys j n i ≡ true → is_spent i.body ≡ true → took_count (all_items j.lanes) i.of ≡ j.budget
     right i h spent =
         let one : (not true || ((home_of sys j i.of == n) && (took_count (all_items j.lanes) i.of == j.budget))) ≡ true =
         subst (λ b. (not b || ((home_of sys j i.of == n) && (took_count (all_items j.lanes) i.of == j.budget))) ≡ true) spent h in
-        let two : (took_count (all_items j.lanes) i.of == j.budget) ≡ true = (both_true (home_of sys j i.of == n) (took_count (all_items j.lanes) i.of == j.budget) one).1 in
+        let two : (took_count (all_items j.lanes) i.of == j.budget) ≡ true = (and_parts (home_of sys j i.of == n) (took_count (all_items j.lanes) i.of == j.budget) one).1 in
         grind (arith, nat_tests)
 
     each : (is : List Item) → list_all (spent_right sys j n) is ≡ true → AllByRecursion (λ i. is_spent i.body ≡ true → took_count (all_items j.lanes) i.of ≡ j.budget) is
     each [] h = tt
-    each (i ∷ is) h = let parts = both_true _ _ h in (λ spent. right i parts.0 spent, each is parts.1)
+    each (i ∷ is) h = let parts = and_parts _ _ h in (λ spent. right i parts.0 spent, each is parts.1)
 
 module _ (sys : System) (stimuli : List (List Stim)) (j : Journal) (law : Lawful sys stimuli j) (is_sim : j.kernel ≡ sim) (t : Threaded sys stimuli j) where
   -- the lane of a source by its place
@@ -192,7 +192,7 @@ module _ (sys : System) (stimuli : List (List Stim)) (j : Journal) (law : Lawful
       within : (stop : SourceEnd) → stop ≡ InStimulus → may_end j.end (spills_in l) stop ≡ true → spills_in l ≡ false → ⊥
       within stop e may none =
           let one : (may_cut j.end && spills_in l) ≡ true = subst (λ s. may_end j.end (spills_in l) s ≡ true) e may in
-          let two : spills_in l ≡ true = (both_true (may_cut j.end) (spills_in l) one).1 in
+          let two : spills_in l ≡ true = (and_parts (may_cut j.end) (spills_in l) one).1 in
           let no : true ≡ false = sym two ∙ none in
           cc
 

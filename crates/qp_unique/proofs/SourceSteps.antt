@@ -1,5 +1,6 @@
 -- One record more of a source's lane.
 use Rattle.std.proofs.Common.{◌≡◌, ◌∙◌, ℕ, ◌+◌, ◌==◌, Bool, true, false, not, ◌&&◌, cond, List, [], ◌∷◌, ◌++◌, map, Some, None, refl, sym, ap, subst, arith}
+use Rattle.std.proofs.lemmas.Bool.{and_parts}
 use Rattle.std.proofs.lemmas.Bool.Decides.{nat_tests}
 use Rattle.std.proofs.lemmas.List.{map-append}
 use Rattle.std.proofs.lemmas.List.Elements.{filter-append}
@@ -152,17 +153,13 @@ after-first sys r end t g e = by (source_next sys sim r t) refl e
 abbrev pub alone : List Item → Type 0
 alone l = list_all (λ i. i.of == 0) l ≡ true
 
-and-parts : (a b : Bool) → (a && b) ≡ true → (a ≡ true) × (b ≡ true)
-and-parts true b h = (refl, h)
-and-parts false b h = absurd (cc)
-
 pub alone-at : (xs : List Item) (i : Item) (ys : List Item) → alone (xs ++ i ∷ ys) → (i.of ≡ 0) × alone ys
 alone-at [] i ys h =
-    let parts = and-parts (i.of == 0) (list_all (λ j. j.of == 0) ys) h in
+    let parts = and_parts (i.of == 0) (list_all (λ j. j.of == 0) ys) h in
     let test : (i.of == 0) ≡ true = parts.0 in
     let e : i.of ≡ 0 = grind (arith, nat_tests) in
     (e, parts.1)
-alone-at (x ∷ xs) i ys h = alone-at xs i ys (and-parts (x.of == 0) (list_all (λ j. j.of == 0) (xs ++ i ∷ ys)) h).1
+alone-at (x ∷ xs) i ys h = alone-at xs i ys (and_parts (x.of == 0) (list_all (λ j. j.of == 0) (xs ++ i ∷ ys)) h).1
 
 pub record-first : (w : Facts) (c : ℕ) (i : Item) (is : List Item) → i.of ≡ 0 → records_of w 0 c (i ∷ is) ≡ told w 0 c i.body ∷ records_of w 0 (ceiling_after c i.body) is
 unfolding records_of
@@ -221,5 +218,5 @@ pub stops-none : (sys : System) (u : Underway) (k : ℕ) (left : List Stim) (sto
 stops-none sys u k left AfterTry t h not = absurd (untried u h)
 stops-none sys u k left AtAssert t h not = asserted-none sys sim u t h
 stops-none sys u k left InStimulus t h not = absurd (not refl)
-stops-none sys u k left AllDone t h not = done-none sys sim u t (and-parts (underway_done u) _ h).0
-stops-none sys u k left BeforeStimulus t h not = done-none sys sim u t (and-parts (underway_done u) _ h).0
+stops-none sys u k left AllDone t h not = done-none sys sim u t (and_parts (underway_done u) _ h).0
+stops-none sys u k left BeforeStimulus t h not = done-none sys sim u t (and_parts (underway_done u) _ h).0

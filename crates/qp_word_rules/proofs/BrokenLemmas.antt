@@ -4,6 +4,7 @@ use Rattle.std.specs.declared.option.Option.{Option}
 use Rattle.std.specs.List.{filter, flat_map, list_all, AllByRecursion}
 use Rattle.std.specs.Prelude.{slice_get}
 use Rattle.std.specs.Option.{option_map_or}
+use Rattle.std.proofs.lemmas.Bool.{and_from, and_parts}
 use Rattle.qp_model.specs.declared.systems.PoolDef.{PoolDef}
 use Rattle.std.proofs.lemmas.Bool.Decides.{nat_tests}
 use Rattle.std.proofs.lemmas.List.Folds.{list_all-append}
@@ -17,7 +18,6 @@ use Rattle.qp_model.specs.Machine.{is_allowed}
 use Rattle.qp_model.specs.References.{references}
 use Rattle.qp_model.specs.Sites.{blocks_of}
 use Rattle.qp_model.specs.WordLaw.{is_object}
-use Rattle.qp_model.proofs.ListLemmas.{both_true, true_both}
 use Rattle.qp_word_rules.specs.declared.verdict.Broken.{Broken}
 use Rattle.qp_word_rules.specs.declared.rules.Rule.{Rule}
 use Rattle.qp_word_rules.specs.declared.rules.Rule.TheVariants as rule
@@ -104,8 +104,8 @@ module _ (sys : System) (lanes : List (List Rec)) where
 -- an element of a list that passes a test
 pub list_all-at : {X : Type 0} (p : X → Bool) (xs : List X) (i : ℕ) (x : X) → list_all p xs ≡ true → i < length xs → x ≡ get_or xs i x → p x ≡ true
 list_all-at p [] i x all lt is = absurd (omega arith)
-list_all-at p (y ∷ ys) zero x all lt is = ap p is ∙ (both_true _ _ all).0
-list_all-at p (y ∷ ys) (suc i) x all lt is = list_all-at p ys i x (both_true _ _ all).1 (omega arith) is
+list_all-at p (y ∷ ys) zero x all lt is = ap p is ∙ (and_parts _ _ all).0
+list_all-at p (y ∷ ys) (suc i) x all lt is = list_all-at p ys i x (and_parts _ _ all).1 (omega arith) is
 
 pub broken-all : (sys : System) (lanes : List (List Rec)) (ws : List Word) (b : Option Broken) → ws ≡ words_of sys
     → b ≡ first_broken (tries_by (rule_test sys lanes) word_rules ws) → b ≡ first_broken (word_tries sys lanes)

@@ -2,6 +2,7 @@
 use Rattle.std.proofs.Common.{◌≡◌, ℕ, ◌<◌, Bool, true, false, not, ◌&&◌, ◌||◌, List, [], ◌∷◌, ◌++◌, refl, sym, ◌∙◌, Some, None}
 use Rattle.std.specs.declared.option.Option.{Option}
 use Rattle.std.specs.List.{list_all, AllByRecursion}
+use Rattle.std.proofs.lemmas.Bool.{and_from, and_parts}
 use Rattle.qp_model.specs.declared.record.Rec.{Rec}
 use Rattle.qp_model.specs.declared.systems.System.{System}
 use Rattle.qp_model.specs.declared.words.Word.{Word}
@@ -10,7 +11,6 @@ use Rattle.qp_model.specs.Record.{Item}
 use Rattle.qp_model.specs.History.{all_items, hist}
 use Rattle.qp_model.specs.Lives.{HasLives, has_lives}
 use Rattle.qp_model.specs.WordLaw.{Words}
-use Rattle.qp_model.proofs.ListLemmas.{both_true, true_both}
 use Rattle.qp_model.proofs.WordTestLemmas.{has_lives-is}
 use Rattle.qp_word_rules.specs.declared.verdict.Broken.{Broken}
 use Rattle.qp_word_rules.specs.declared.rules.Rule.{Rule}
@@ -43,7 +43,7 @@ at-none h r (w ∷ ws) none = go (is_site r w) refl (h r w) refl none (at-none h
 none-at : (h : Rule → Word → Bool) (r : Rule) (ws : List Word) → list_all (λ w. not (is_site r w) || h r w) ws ≡ true → first_broken (tries_at h r ws) ≡ None
 unfolding first_broken
 none-at h r [] all = refl
-none-at h r (w ∷ ws) all = go (is_site r w) refl (h r w) refl (both_true _ _ all).0 (none-at h r ws (both_true _ _ all).1)
+none-at h r (w ∷ ws) all = go (is_site r w) refl (h r w) refl (and_parts _ _ all).0 (none-at h r ws (and_parts _ _ all).1)
   where
     go : (s : Bool) → is_site r w ≡ s → (t : Bool) → h r w ≡ t → (not (is_site r w) || h r w) ≡ true → first_broken (tries_at h r ws) ≡ None → first_broken (tries_at h r (w ∷ ws)) ≡ None
     go true e true f k later = rw (e, f) later
@@ -52,7 +52,7 @@ none-at h r (w ∷ ws) all = go (is_site r w) refl (h r w) refl (both_true _ _ a
 
 lives-to : (b : ℕ) (pool block : List Item) → HasLives b pool block → has_lives b pool block ≡ true
 unfolding has_lives
-lives-to b pool block h = true_both _ _ (true_both _ _ (true_both _ _ h.alternate h.empty) h.cover) h.referred
+lives-to b pool block h = and_from _ _ (and_from _ _ (and_from _ _ h.alternate h.empty) h.cover) h.referred
 
 module _ (sys : System) (lanes : List (List Rec)) where
   -- the definition holds at all its sites
@@ -118,12 +118,12 @@ module _ (sys : System) (lanes : List (List Rec)) where
   words-from-rules : RulesHold → Words sys lanes
   unfolding rule_holds operations_allowed shown_right lives_hold
   words-from-rules h = record {
-    pools = λ p is. record { numbers = h.numbers.pools p is; allowed = h.free.pools p is; shown = (both_true _ _ (h.shown.pools p is)).0; marks = (both_true _ _ (h.shown.pools p is)).1 };
-    blocks = λ p b is. record { numbers = h.numbers.blocks p b is; allowed = h.references.blocks p b is; shown = (both_true _ _ (h.shown.blocks p b is)).0; marks = (both_true _ _ (h.shown.blocks p b is)).1 };
+    pools = λ p is. record { numbers = h.numbers.pools p is; allowed = h.free.pools p is; shown = (and_parts _ _ (h.shown.pools p is)).0; marks = (and_parts _ _ (h.shown.pools p is)).1 };
+    blocks = λ p b is. record { numbers = h.numbers.blocks p b is; allowed = h.references.blocks p b is; shown = (and_parts _ _ (h.shown.blocks p b is)).0; marks = (and_parts _ _ (h.shown.blocks p b is)).1 };
     lives = λ p b is. has_lives-is b (hist (word.Pool p) (all_items lanes)) (hist (word.Block p b) (all_items lanes)) (h.lives.blocks p b is);
-    queues = λ a is. record { numbers = h.numbers.queues a is; allowed = h.line.queues a is; shown = (both_true _ _ (h.shown.queues a is)).0; marks = (both_true _ _ (h.shown.queues a is)).1 };
-    signals = λ s is. record { numbers = h.numbers.signals s is; allowed = h.subscribers.signals s is; shown = (both_true _ _ (h.shown.signals s is)).0; marks = (both_true _ _ (h.shown.signals s is)).1 };
-    timers = λ t is. record { numbers = h.numbers.timers t is; allowed = h.timers.timers t is; shown = (both_true _ _ (h.shown.timers t is)).0; marks = (both_true _ _ (h.shown.timers t is)).1 };
+    queues = λ a is. record { numbers = h.numbers.queues a is; allowed = h.line.queues a is; shown = (and_parts _ _ (h.shown.queues a is)).0; marks = (and_parts _ _ (h.shown.queues a is)).1 };
+    signals = λ s is. record { numbers = h.numbers.signals s is; allowed = h.subscribers.signals s is; shown = (and_parts _ _ (h.shown.signals s is)).0; marks = (and_parts _ _ (h.shown.signals s is)).1 };
+    timers = λ t is. record { numbers = h.numbers.timers t is; allowed = h.timers.timers t is; shown = (and_parts _ _ (h.shown.timers t is)).0; marks = (and_parts _ _ (h.shown.timers t is)).1 };
   }
 
   rules-from-words : Words sys lanes → RulesHold
@@ -135,11 +135,11 @@ module _ (sys : System) (lanes : List (List Rec)) where
     lives = record { pools = λ p is. refl; blocks = λ p b is. lives-to b (hist (word.Pool p) (all_items lanes)) (hist (word.Block p b) (all_items lanes)) (w.lives p b is); queues = λ a is. refl; signals = λ s is. refl; timers = λ t is. refl };
     line = record { pools = λ p is. refl; blocks = λ p b is. refl; queues = λ a is. (w.queues a is).allowed; signals = λ s is. refl; timers = λ t is. refl };
     shown = record {
-      pools = λ p is. true_both _ _ (w.pools p is).shown (w.pools p is).marks;
-      blocks = λ p b is. true_both _ _ (w.blocks p b is).shown (w.blocks p b is).marks;
-      queues = λ a is. true_both _ _ (w.queues a is).shown (w.queues a is).marks;
-      signals = λ s is. true_both _ _ (w.signals s is).shown (w.signals s is).marks;
-      timers = λ t is. true_both _ _ (w.timers t is).shown (w.timers t is).marks;
+      pools = λ p is. and_from _ _ (w.pools p is).shown (w.pools p is).marks;
+      blocks = λ p b is. and_from _ _ (w.blocks p b is).shown (w.blocks p b is).marks;
+      queues = λ a is. and_from _ _ (w.queues a is).shown (w.queues a is).marks;
+      signals = λ s is. and_from _ _ (w.signals s is).shown (w.signals s is).marks;
+      timers = λ t is. and_from _ _ (w.timers t is).shown (w.timers t is).marks;
     };
     subscribers = record { pools = λ p is. refl; blocks = λ p b is. refl; queues = λ a is. refl; signals = λ s is. (w.signals s is).allowed; timers = λ t is. refl };
     timers = record { pools = λ p is. refl; blocks = λ p b is. refl; queues = λ a is. refl; signals = λ s is. refl; timers = λ t is. (w.timers t is).allowed };

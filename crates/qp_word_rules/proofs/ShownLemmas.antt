@@ -3,6 +3,7 @@ use Rattle.std.proofs.Common.{◌≡◌, ℕ, zero, suc, ◌+◌, ◌^◌, ◌<�
 use Rattle.std.specs.declared.option.Option.{Option}
 use Rattle.std.specs.List.{filter, list_all}
 use Rattle.std.proofs.Math.Bool.{and-true}
+use Rattle.std.proofs.lemmas.Bool.{and_from, and_parts}
 use Rattle.std.proofs.lemmas.Bool.Decides.{nat_tests}
 use Rattle.qp_model.specs.declared.words.Word.{Word}
 use Rattle.qp_model.specs.declared.bodies.Body.{Body}
@@ -11,7 +12,6 @@ use Rattle.qp_model.specs.Lists.{never_falls}
 use Rattle.qp_model.specs.History.{Touch, Draws, Shows, Neither, touch, same_word, mark_of, marks}
 use Rattle.qp_model.specs.Machine.{Machine, after, after_from, shown_by}
 use Rattle.qp_model.specs.WordOf.{fitting_number}
-use Rattle.qp_model.proofs.ListLemmas.{both_true, true_both}
 use Rattle.qp_lanes.specs.Groups.{has_key, of_key, grouped_from, grouped}
 use Rattle.qp_histories.specs.Marks.{word_use, touched, shown_number, shown_key, mark_number, rises_from, shows_within}
 use Rattle.qp_word_states.specs.WordState.{shows_from}

@@ -1,12 +1,12 @@
 -- Flags of references under an operation.
 use Rattle.std.proofs.Common.{◌≡◌, ℕ, zero, suc, ◌+◌, ◌-◌, ◌≤◌, ◌==◌, nat_lt, Bool, true, false, ◌||◌, cond, List, [], ◌∷◌, ◌++◌, length, get_or, set, refl, ap, sym, ◌∙◌, arith, length-append, length-set}
+use Rattle.std.proofs.lemmas.Bool.{and_parts}
 use Rattle.std.proofs.lemmas.Bool.Decides.{nat_tests}
 use Rattle.qp_chart.specs.StateTree.{has}
 use Rattle.qp_model.specs.declared.bodies.Body.TheVariants.{Inc, Dec}
 use Rattle.qp_model.specs.Lists.{without_one}
 use Rattle.qp_model.specs.References.{Refs, refs_may, refs_next}
 use Rattle.qp_model.specs.Lives.{is_empty}
-use Rattle.qp_model.proofs.ListLemmas.{both_true}
 use Rattle.qp_word_states.specs.Standing.{places, Stands}
 
 -- a number stands in a list where it has places there
@@ -101,7 +101,7 @@ module _ (s : Refs) (flags : List Bool) (standing : ℕ) (h : Stands s flags sta
 
   pub stands-dec : (p b d k : ℕ) → refs_may s (Dec p b d k) ≡ true → Stands (refs_next s (Dec p b d k)) (set flags k false ++ false ∷ []) (standing - 1)
   stands-dec p b d k may =
-      let held : has s.names k ≡ true = (both_true (d == s.count) (has s.names k) may).1 in
+      let held : has s.names k ≡ true = (and_parts (d == s.count) (has s.names k) may).1 in
       record {
         counted = omega (arith, h.counted, length-append (set flags k false) (false ∷ []), length-set flags k false);
         total = omega (arith, h.total, length-without k s.names held);

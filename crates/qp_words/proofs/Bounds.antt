@@ -3,6 +3,7 @@ use Rattle.std.proofs.Common.{◌≡◌, ℕ, zero, suc, ◌+◌, ◌*◌, ◌^�
 use mathlib.Core.Logic.{dite}
 use native.Mathlib.Decide.{ℕ_discrete}
 use Rattle.std.specs.List.{filter}
+use Rattle.std.proofs.lemmas.Bool.{and_parts}
 use Rattle.std.proofs.lemmas.Bool.Decides.{nat_tests}
 use Rattle.qp_chart.specs.StateTree.{has}
 use Rattle.qp_model.specs.declared.record.Rec.{Rec}
@@ -19,7 +20,6 @@ use Rattle.qp_model.specs.References.{Refs, refs_next, refs_may, references}
 use Rattle.qp_model.specs.Line.{Line, line}
 use Rattle.qp_model.specs.Sites.{ring_of, blocks_of}
 use Rattle.qp_model.specs.WordLaw.{is_pool, is_block, is_object}
-use Rattle.qp_model.proofs.ListLemmas.{both_true}
 use Rattle.qp_model.proofs.HistoryLemmas.{length-hist}
 use Rattle.qp_model.proofs.MachineLemmas.{after-keeps, count-after}
 use Rattle.qp_model.proofs.LineLemmas.{line_is, IsLine, line-counts}
@@ -86,7 +86,7 @@ with-ascends b lo n (x ∷ xs) l h a = go (λ gt. with-ascends b (x + 1) n xs gt
 pool-step : (n : ℕ) (s : Pool) (b : Body) → pool_may n s b ≡ true → Ascends 0 n s.free → Ascends 0 n (pool_next s b).free
 pool-step n s (New p k b from sig pars) m a = without-ascends b 0 n s.free a
 pool-step n s (Back p k b to) m a =
-    let t : nat_lt b n ≡ true = (both_true (k == s.count) (nat_lt b n) (both_true ((k == s.count) && nat_lt b n) (not (has s.free b)) m).0).1 in let lt : b < n = grind (arith, nat_tests) in with-ascends b 0 n s.free (omega arith) lt a
+    let t : nat_lt b n ≡ true = (and_parts (k == s.count) (nat_lt b n) (and_parts ((k == s.count) && nat_lt b n) (not (has s.free b)) m).0).1 in let lt : b < n = grind (arith, nat_tests) in with-ascends b 0 n s.free (omega arith) lt a
 pool-step n s _ m a = cc
 
 without-one-length : (k : ℕ) (xs : List ℕ) → length (without_one k xs) ≤ length xs

@@ -4,6 +4,7 @@ use mathlib.Core.Option.{some}
 use mathlib.Core.Logic.{dite}
 use native.Mathlib.Decide.{ℕ_discrete}
 use lib.ListN.{get_elem?}
+use Rattle.std.proofs.lemmas.Bool.{and_parts}
 use Rattle.qp_chart.specs.StateTree.{has}
 use Rattle.qp_model.specs.declared.bodies.Entry.{Entry}
 use Rattle.qp_model.specs.declared.systems.System.{System}
@@ -99,15 +100,11 @@ module _ (sys : System) (views : List View) (now : Now) (id : ℕ) (v : View) (a
   pub held-stands : (k : ℕ) → 0 < p → 0 < many (is_ref p b k) v.hands → 0 < many (λ r. eqb r k) (now.refs p b).names
   held-stands k pos h = let f = total-at (λ (z : View). many (is_ref p b k) z.hands) views id v at_id in let t = tokens.hand p b k pos in omega arith
 
-pub both-true : (a b : Bool) → (a && b) ≡ true → (a ≡ true) × (b ≡ true)
-both-true true b e = (refl, e)
-both-true false b e = absurd (true≢false (sym e))
-
 pub spot-is : (p b : ℕ) (x : Spot) → is_spot p b x ≡ true → (x.pool ≡ p) × (x.block ≡ b)
-spot-is p b x e = let t = both-true (eqb x.pool p) (eqb x.block b) e in (eqb-true x.pool p t.0, eqb-true x.block b t.1)
+spot-is p b x e = let t = and_parts (eqb x.pool p) (eqb x.block b) e in (eqb-true x.pool p t.0, eqb-true x.block b t.1)
 
 pub ref-is : (p b k : ℕ) (x : Entry) → is_ref p b k x ≡ true → x ≡ ref p b k
-ref-is p b k x e = let t = both-true (eqb x.pool p && eqb x.block b) (eqb x.name k) e in let s = both-true (eqb x.pool p) (eqb x.block b) t.0 in λ i. record { pool = eqb-true x.pool p s.0 i; block = eqb-true x.block b s.1 i; name = eqb-true x.name k t.1 i }
+ref-is p b k x e = let t = and_parts (eqb x.pool p && eqb x.block b) (eqb x.name k) e in let s = and_parts (eqb x.pool p) (eqb x.block b) t.0 in λ i. record { pool = eqb-true x.pool p s.0 i; block = eqb-true x.block b s.1 i; name = eqb-true x.name k t.1 i }
 
 -- a spot of block b says what any of it says at another block
 pub spot-same : (p b n q c : ℕ) (x : Spot) → is_spot p b x ≡ true → is_spot q c x ≡ is_spot q c (spot p b n)

@@ -1,4 +1,4 @@
-use Rattle.qp_model.proofs.ListLemmas.{both_true}
+use Rattle.std.proofs.lemmas.Bool.{and_parts}
 use Rattle.qp_commands.proofs.LimitLemmas.{limit-few, limit-some}
 use Rattle.qp_run.proofs.VerdictLemmas.{agrees-check, agrees-decode, agrees-generate, agrees-migrate, agrees-replay, agrees-run}
 use Rattle.qp_run.proofs.top.carry_out.Goals as goal
@@ -16,13 +16,13 @@ pub returns-in-Check-clause-told : goal.returns-in-Check-clause-told
 returns-in-Check-clause-told g c = rw c.in-Check.is (agrees-check _ _ _ c.check_files.ensures.told)
 
 pub run_files-requires-clause-some : goal.run_files-requires-clause-some
-run_files-requires-clause-some g c = limit-some 1000000 _ (both_true _ _ (rw c.in-Run.is at c.requires)).0
+run_files-requires-clause-some g c = limit-some 1000000 _ (and_parts _ _ (rw c.in-Run.is at c.requires)).0
 
 pub run_files-requires-clause-few : goal.run_files-requires-clause-few
-run_files-requires-clause-few g c = limit-few 1000000 _ (both_true _ _ (rw c.in-Run.is at c.requires)).0
+run_files-requires-clause-few g c = limit-few 1000000 _ (and_parts _ _ (rw c.in-Run.is at c.requires)).0
 
 pub run_files-requires-clause-form : goal.run_files-requires-clause-form
-run_files-requires-clause-form g c = (both_true _ _ (rw c.in-Run.is at c.requires)).1
+run_files-requires-clause-form g c = (and_parts _ _ (rw c.in-Run.is at c.requires)).1
 
 pub returns-in-Run-clause-out : goal.returns-in-Run-clause-out
 returns-in-Run-clause-out g c = rw c.in-Run.is c.run_files.ensures.out

@@ -1,8 +1,8 @@
 use Rattle.std.proofs.Common.{◌≡◌, ◌∙◌, ◌+◌, ap, sym, take, arith}
+use Rattle.std.proofs.lemmas.Bool.{and_parts}
 use Rattle.qp_model.specs.Record.{Item, item_of}
 use Rattle.qp_model.specs.Machine.{after, after_from}
 use Rattle.qp_model.specs.References.{references, refs_next}
-use Rattle.qp_model.proofs.ListLemmas.{both_true}
 use Rattle.qp_model.proofs.MachineLemmas.{after-append}
 use Rattle.qp_ending.specs.Resting.{makes_below}
 use Rattle.qp_lanes.proofs.WalkLemmas.{front_seen, test_rest}
@@ -17,7 +17,7 @@ unfolding item_of
 apply-requires-clause-inside c =
     let p = λ (i : Item). makes_below c.args.size i.body in
     let rest = test_rest (λ r. item_of r.now) c.history.view_is c.deref-r-items.ensures.value c.loop-r.r-index c.r-item.result c.loop-r-test.true c.r-item.is p in
-    rw (c.loop-r.invariant.long, c.body.ensures) (both_true _ _ (sym rest ∙ c.loop-r.invariant.below)).0
+    rw (c.loop-r.invariant.long, c.body.ensures) (and_parts _ _ (sym rest ∙ c.loop-r.invariant.below)).0
 
 pub loop-r-preserved : goal.loop-r-preserved
 unfolding item_of
@@ -35,5 +35,5 @@ loop-r-preserved c =
       counted = rw (next, moved) (c.apply.ensures.counted s c.loop-r.invariant.counted);
       long = c.apply.ensures.size ∙ c.loop-r.invariant.long;
       few = omega (arith, c.apply.ensures.bounded, c.loop-r.invariant.few);
-      below = (both_true _ _ (sym rest ∙ c.loop-r.invariant.below)).1;
+      below = (and_parts _ _ (sym rest ∙ c.loop-r.invariant.below)).1;
     }

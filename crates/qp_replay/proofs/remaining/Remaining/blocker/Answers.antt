@@ -1,10 +1,11 @@
 use Rattle.std.proofs.Common.{◌≡◌, ◌∙◌, true, nat_lt, nat_le, ap, sym, subst, arith}
+use Rattle.std.proofs.lemmas.Bool.{and_from}
 use Rattle.std.proofs.lemmas.Bool.Decides.{nat_tests}
 use Rattle.qp_model.specs.Touches.{as_word}
 use Rattle.qp_model.specs.History.{Draws, Shows}
 use Rattle.qp_replay.specs.Marks.{has_mark}
 use Rattle.qp_replay.specs.Remaining.{IsRemaining, Standing}
-use Rattle.qp_replay.proofs.RemainingLemmas.{draw-blocks, draw-free, match-map, none-free, show-blocks, show-free, true-and}
+use Rattle.qp_replay.proofs.RemainingLemmas.{draw-blocks, draw-free, match-map, none-free, show-blocks, show-free}
 use Rattle.qp_replay.proofs.remaining.Remaining.blocker.Goals as goal
 
 pub returns-in-Some : goal.returns-in-Some
@@ -17,7 +18,7 @@ returns-in-Some c =
     let found = c.in-Some.ensures in
     let less : nat_lt found.0 c.in-Draws.mark ≡ true = grind (arith, nat_tests, found.1) in
     draw-blocks c.args.self.now draws shows c.args.lane v found.0 x.lane x.place (Draws v c.in-Draws.mark) remaining (sym c.in-Draws.ensures)
-    (ap (λ k. has_mark draws k (found.0, x.lane, x.place)) (sym c.key_of.ensures) ∙ found.2) (λ u same. true-and _ _ same less)
+    (ap (λ k. has_mark draws k (found.0, x.lane, x.place)) (sym c.key_of.ensures) ∙ found.2) (λ u same. and_from _ _ same less)
 
 pub returns-in-None : goal.returns-in-None
 returns-in-None c =
@@ -34,7 +35,7 @@ returns-in-None c =
     (λ x found.
     let less : nat_lt found.0 mark ≡ true = grind (arith, nat_tests, found.1) in
     show-blocks st draws shows c.args.lane v found.0 x.lane x.place (Draws v mark) remaining (sym c.in-Draws.ensures)
-    (ap (λ k. has_mark shows k (found.0, x.lane, x.place)) (sym c.key_of-in-None.ensures) ∙ found.2) (λ u same. true-and _ _ same less))
+    (ap (λ k. has_mark shows k (found.0, x.lane, x.place)) (sym c.key_of-in-None.ensures) ∙ found.2) (λ u same. and_from _ _ same less))
 
 pub returns-in-Shows : goal.returns-in-Shows
 returns-in-Shows c =
@@ -49,7 +50,7 @@ returns-in-Shows c =
     (λ x found.
     let le : nat_le found.0 mark ≡ true = grind (arith, nat_tests, found.1) in
     draw-blocks st draws shows c.args.lane v found.0 x.lane x.place (Shows v mark) remaining (sym c.in-Shows.ensures)
-    (ap (λ k. has_mark draws k (found.0, x.lane, x.place)) (sym c.key_of-in-Shows.ensures) ∙ found.2) (λ u same. true-and _ _ same le))
+    (ap (λ k. has_mark draws k (found.0, x.lane, x.place)) (sym c.key_of-in-Shows.ensures) ∙ found.2) (λ u same. and_from _ _ same le))
 
 pub returns-in-Neither : goal.returns-in-Neither
 returns-in-Neither c = let a = c.in-Neither.ensures in none-free c.args.self.now c.args.lane (sym a)
