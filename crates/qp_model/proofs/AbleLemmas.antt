@@ -104,7 +104,7 @@ module _ (sys : System) where
     entry = (and_parts a b (and_parts (a && b) c (and_parts ((a && b) && c) d h).0).0).0;
     exit = (and_parts a b (and_parts (a && b) c (and_parts ((a && b) && c) d h).0).0).1;
     init_do = (and_parts (a && b) c (and_parts ((a && b) && c) d h).0).1;
-    row = (and_parts ((a && b) && c) d h).1
+    row = (and_parts ((a && b) && c) d h).1;
   }
     where
       a : Bool
