@@ -1,6 +1,6 @@
 -- Edits of TOML tables keep the order of keys.
 use Rattle.std.proofs.Common.{◌≡◌, ℕ, Ordering, Less, Equal, Greater, nat_cmp, is_lt, Bool, true, false, cond, ◌&&◌, List, [], ◌∷◌, ◌++◌, Option, Some, None, refl, ◌∙◌, ap, subst, ◌⊎◌, inl, inr}
-use Rattle.std.specs.Prelude.{option_map, option_and_then}
+use Rattle.std.specs.Prelude.{option_and_then}
 use Rattle.std.proofs.lemmas.Bool.{and_from}
 use Rattle.std.proofs.lemmas.Cmp.{nat_list_cmp_total}
 use Rattle.std.specs.Cmp.Lexicographic.{slice_cmp}
@@ -8,6 +8,7 @@ use Rattle.std.specs.Ordering.{match_ordering, ordering_reverse}
 use Rattle.toml_parser.specs.Strings.{Key}
 use Rattle.toml.specs.Data.{Data, table, Items, item, no_items, push_item, same_key, is_before, is_sorted, items_are_sorted, members_are_sorted}
 use Rattle.toml.specs.Tables.{implicit, dotted, header, Node, value, open_table, open_array, Nodes, no_nodes, node, get_node, insert, replace, close_node, close, Edit, header_node, dot_node, by_header, by_dot, along_header, along_dots, Definition, key_value, std_table, array_table, Expression, new_node, redefine, at_found, at_key, put, Document, define}
+use Rattle.qp_model.proofs.ListLemmas.{mapped}
 
 -- the key comes before the first key of the nodes
 abbrev comes_before : List ℕ → Nodes → Bool
@@ -105,10 +106,6 @@ pub then-Some : {A B : Type 0} (o : Option A) (f : A → Option B) (y : B) → o
 then-Some None f y e = cc
 then-Some (Some x) f y e = (x, refl, e)
 
-pub map-Some : {A B : Type 0} (f : A → B) (o : Option A) (y : B) → option_map f o ≡ Some y → (x : A) × (o ≡ Some x) × (f x ≡ y)
-map-Some f None y e = cc
-map-Some f (Some x) y e = (x, refl, let is : f x ≡ y = cc in is)
-
 pub some-is : {A : Type 0} (x y : A) → (let o : Option A = Some x in o) ≡ Some y → x ≡ y
 some-is x y e = cc
 
@@ -124,33 +121,33 @@ module _ (edit : Edit) (keeps : Keeps edit) where
   header_node-sorted : (x y : Node) → SortedNode x → header_node edit x ≡ Some y → SortedNode y
   header_node-sorted (value d) y h e = cc
   header_node-sorted (open_table origin inner) y h e =
-      let got = map-Some (open_table origin) (edit inner) y e in subst SortedNode got.2 (keeps inner got.0 h got.1)
+      let got = mapped (open_table origin) (edit inner) y e in subst SortedNode got.2 (keeps inner got.0 h got.1)
   header_node-sorted (open_array done last) y h e =
-      let got = map-Some (open_array done) (edit last) y e in subst SortedNode got.2 (h.0, keeps last got.0 h.1 got.1)
+      let got = mapped (open_array done) (edit last) y e in subst SortedNode got.2 (h.0, keeps last got.0 h.1 got.1)
 
   dot_node-sorted : (x y : Node) → SortedNode x → dot_node edit x ≡ Some y → SortedNode y
   dot_node-sorted (value d) y h e = cc
   dot_node-sorted (open_table header inner) y h e = cc
   dot_node-sorted (open_table implicit inner) y h e =
-      let got = map-Some (open_table dotted) (edit inner) y e in subst SortedNode got.2 (keeps inner got.0 h got.1)
+      let got = mapped (open_table dotted) (edit inner) y e in subst SortedNode got.2 (keeps inner got.0 h got.1)
   dot_node-sorted (open_table dotted inner) y h e =
-      let got = map-Some (open_table dotted) (edit inner) y e in subst SortedNode got.2 (keeps inner got.0 h got.1)
+      let got = mapped (open_table dotted) (edit inner) y e in subst SortedNode got.2 (keeps inner got.0 h got.1)
   dot_node-sorted (open_array done last) y h e = cc
 
   by_header-sorted : (k : List ℕ) (ns new : Nodes) (o : Option Node) → SortedNodes ns → get_node k ns ≡ o → by_header k edit ns o ≡ Some new → SortedNodes new
   by_header-sorted k ns new None h is e =
-      let got = map-Some (λ inner. insert k (open_table implicit inner) ns) (edit no_nodes) new e in
+      let got = mapped (λ inner. insert k (open_table implicit inner) ns) (edit no_nodes) new e in
       subst SortedNodes got.2 (insert-sorted k (open_table implicit got.0) ns (keeps no_nodes got.0 tt got.1) h)
   by_header-sorted k ns new (Some x) h is e =
-      let got = map-Some (λ y. replace k y ns) (header_node edit x) new e in
+      let got = mapped (λ y. replace k y ns) (header_node edit x) new e in
       subst SortedNodes got.2 (replace-sorted k got.0 ns (header_node-sorted x got.0 (get-sorted k ns x h is) got.1) h)
 
   by_dot-sorted : (k : List ℕ) (ns new : Nodes) (o : Option Node) → SortedNodes ns → get_node k ns ≡ o → by_dot k edit ns o ≡ Some new → SortedNodes new
   by_dot-sorted k ns new None h is e =
-      let got = map-Some (λ inner. insert k (open_table dotted inner) ns) (edit no_nodes) new e in
+      let got = mapped (λ inner. insert k (open_table dotted inner) ns) (edit no_nodes) new e in
       subst SortedNodes got.2 (insert-sorted k (open_table dotted got.0) ns (keeps no_nodes got.0 tt got.1) h)
   by_dot-sorted k ns new (Some x) h is e =
-      let got = map-Some (λ y. replace k y ns) (dot_node edit x) new e in
+      let got = mapped (λ y. replace k y ns) (dot_node edit x) new e in
       subst SortedNodes got.2 (replace-sorted k got.0 ns (dot_node-sorted x got.0 (get-sorted k ns x h is) got.1) h)
 
 header-keeps : (edit : Edit) → Keeps edit → (path : List (List ℕ)) → Keeps (along_header path edit)
@@ -189,7 +186,7 @@ at_key-keeps k what good ns new h e = by (get_node k ns) refl e
     by : (o : Option Node) → get_node k ns ≡ o → at_found k what ns o ≡ Some new → SortedNodes new
     by None is f = let same : insert k (new_node what) ns ≡ new = cc in subst SortedNodes same (insert-sorted k (new_node what) ns (new-sorted what good) h)
     by (Some x) is f =
-        let got = map-Some (λ y. replace k y ns) (redefine what x) new f in
+        let got = mapped (λ y. replace k y ns) (redefine what x) new f in
         subst SortedNodes got.2 (replace-sorted k got.0 ns (redefine-sorted what x got.0 (get-sorted k ns x h is) got.1) h)
 
 pub put-keeps : (key : Key) (d : Data) → is_sorted d ≡ true → Keeps (put key d)
@@ -198,11 +195,11 @@ put-keeps key d good = dots-keep (at_key key.1 (key_value d)) (at_key-keeps key.
 pub define-sorted : (doc : Document) (e : Expression) (next : Document) → SortedNodes doc.0 → SortedDefinition e.1 → define doc e ≡ Some next → SortedNodes next.0
 unfolding define
 define-sorted doc (key, key_value d) next h good e =
-    let got = map-Some (λ root. (root, doc.1)) (along_header doc.1 (put key d) doc.0) next e in
+    let got = mapped (λ root. (root, doc.1)) (along_header doc.1 (put key d) doc.0) next e in
     subst (λ (n : Document). SortedNodes n.0) got.2 (header-keeps (put key d) (put-keeps key d good) doc.1 doc.0 got.0 h got.1)
 define-sorted doc (key, std_table) next h good e =
-    let got = map-Some (λ root. (root, key.0 ++ key.1 ∷ [])) (along_header key.0 (at_key key.1 std_table) doc.0) next e in
+    let got = mapped (λ root. (root, key.0 ++ key.1 ∷ [])) (along_header key.0 (at_key key.1 std_table) doc.0) next e in
     subst (λ (n : Document). SortedNodes n.0) got.2 (header-keeps (at_key key.1 std_table) (at_key-keeps key.1 std_table tt) key.0 doc.0 got.0 h got.1)
 define-sorted doc (key, array_table) next h good e =
-    let got = map-Some (λ root. (root, key.0 ++ key.1 ∷ [])) (along_header key.0 (at_key key.1 array_table) doc.0) next e in
+    let got = mapped (λ root. (root, key.0 ++ key.1 ∷ [])) (along_header key.0 (at_key key.1 array_table) doc.0) next e in
     subst (λ (n : Document). SortedNodes n.0) got.2 (header-keeps (at_key key.1 array_table) (at_key-keeps key.1 array_table tt) key.0 doc.0 got.0 h got.1)

@@ -9,7 +9,8 @@ use Rattle.toml_parser.specs.declared.scalar.Scalar.TheVariants as scalar
 use Rattle.toml.specs.Data.{Data, string, array, table, Items, no_items, push_item, Members, is_sorted, items_are_sorted, members_are_sorted}
 use Rattle.toml.specs.Tables.{Nodes, no_nodes, close, Definition, key_value, std_table, array_table, Expression, put, Document, define}
 use Rattle.toml.specs.Parse.{after_element, keyval, key_equals, items, members, atom, scalar_data, val, header_key, expression, line, ends_line, lines, skip_bom, parse_document}
-use Rattle.qp_alike.proofs.NodeLemmas.{SortedNodes, SortedDefinition, push-sorted, close-sorted, then-Some, map-Some, some-is, if-Some, put-keeps, define-sorted}
+use Rattle.qp_alike.proofs.NodeLemmas.{SortedNodes, SortedDefinition, push-sorted, close-sorted, then-Some, some-is, if-Some, put-keeps, define-sorted}
+use Rattle.qp_model.proofs.ListLemmas.{mapped}
 
 -- a value that is read has its keys in order
 scalar-sorted : (s : Scalar) → is_sorted (scalar_data s) ≡ true
@@ -34,14 +35,14 @@ atom-sorted text d rest e = by (if-Some (starts_string text) _ _ (Some (d, rest)
   where
     by : (option_map string_read (quoted text) ≡ Some (d, rest)) ⊎ (option_map scalar_read (unquoted text) ≡ Some (d, rest))
         → is_sorted d ≡ true
-    by (inl f) = let got = map-Some string_read (quoted text) (d, rest) f in let is : string got.0.0 ≡ d = ap (λ (p : Data × List ℕ). p.0) got.2 in subst (λ x. is_sorted x ≡ true) is refl
-    by (inr f) = let got = map-Some scalar_read (unquoted text) (d, rest) f in let is : scalar_data got.0.0 ≡ d = ap (λ (p : Data × List ℕ). p.0) got.2 in subst (λ x. is_sorted x ≡ true) is (scalar-sorted got.0.0)
+    by (inl f) = let got = mapped string_read (quoted text) (d, rest) f in let is : string got.0.0 ≡ d = ap (λ (p : Data × List ℕ). p.0) got.2 in subst (λ x. is_sorted x ≡ true) is refl
+    by (inr f) = let got = mapped scalar_read (unquoted text) (d, rest) f in let is : scalar_data got.0.0 ≡ d = ap (λ (p : Data × List ℕ). p.0) got.2 in subst (λ x. is_sorted x ≡ true) is (scalar-sorted got.0.0)
 
 module _ (read : List ℕ → Option (Data × List ℕ)) (sorted : Reads read) where
   keyval-sorted : (text : List ℕ) (key : Key) (d : Data) (rest : List ℕ) → keyval read text ≡ Some ((key, d), rest) → is_sorted d ≡ true
   keyval-sorted text key d rest e =
       let got = then-Some (key_equals text) (λ k. option_map (λ p. ((k.0, p.0), p.1)) (read k.1)) ((key, d), rest) e in
-      let one = map-Some (λ (p : Data × List ℕ). ((got.0.0, p.0), p.1)) (read got.0.1) ((key, d), rest) got.2 in
+      let one = mapped (λ (p : Data × List ℕ). ((got.0.0, p.0), p.1)) (read got.0.1) ((key, d), rest) got.2 in
       let is : one.0.0 ≡ d = ap (λ (p : (Key × Data) × List ℕ). p.0.1) one.2 in
       subst (λ x. is_sorted x ≡ true) is (sorted got.0.1 one.0.0 one.0.1 one.1)
 
@@ -94,13 +95,13 @@ table_in depth text = option_map (λ (p : Members × List ℕ). (table p.0, p.1)
 
 list_in-sorted : (depth : ℕ) → Reads (val depth) → Reads (list_in depth)
 list_in-sorted depth more text d rest f =
-    let got = map-Some (λ (p : Items × List ℕ). (array p.0, p.1)) (items (val depth) (length text) no_items (drop 1 text)) (d, rest) f in
+    let got = mapped (λ (p : Items × List ℕ). (array p.0, p.1)) (items (val depth) (length text) no_items (drop 1 text)) (d, rest) f in
     let is : array got.0.0 ≡ d = ap (λ (p : Data × List ℕ). p.0) got.2 in
     subst (λ x. is_sorted x ≡ true) is (items-sorted (val depth) more (length text) no_items (drop 1 text) got.0.0 got.0.1 refl got.1)
 
 table_in-sorted : (depth : ℕ) → Reads (val depth) → Reads (table_in depth)
 table_in-sorted depth more text d rest f =
-    let got = map-Some (λ (p : Members × List ℕ). (table p.0, p.1)) (members (val depth) (length text) no_nodes (drop 1 text)) (d, rest) f in
+    let got = mapped (λ (p : Members × List ℕ). (table p.0, p.1)) (members (val depth) (length text) no_nodes (drop 1 text)) (d, rest) f in
     let is : table got.0.0 ≡ d = ap (λ (p : Data × List ℕ). p.0) got.2 in
     subst (λ x. is_sorted x ≡ true) is (members-sorted (val depth) more (length text) no_nodes (drop 1 text) got.0.0 got.0.1 tt got.1)
 
@@ -124,7 +125,7 @@ headed what p = ((p.0, what), p.1)
 header-plain : (what : Definition) (r : Option (Key × List ℕ)) (e : Expression) (rest : List ℕ) → SortedDefinition what
     → option_map (headed what) r ≡ Some (e, rest) → SortedDefinition e.1
 header-plain what r e rest good f =
-    let got = map-Some (headed what) r (e, rest) f in
+    let got = mapped (headed what) r (e, rest) f in
     let is : what ≡ e.1 = ap (λ (p : Expression × List ℕ). p.0.1) got.2 in
     subst SortedDefinition is good
 
@@ -133,7 +134,7 @@ value_line text = option_map (λ (p : (Key × Data) × List ℕ). ((p.0.0, key_v
 
 value_line-sorted : (text : List ℕ) (e : Expression) (rest : List ℕ) → value_line text ≡ Some (e, rest) → SortedDefinition e.1
 value_line-sorted text e rest f =
-    let got = map-Some (λ (p : (Key × Data) × List ℕ). ((p.0.0, key_value p.0.1), p.1)) (keyval (val recursion_limit) text) (e, rest) f in
+    let got = mapped (λ (p : (Key × Data) × List ℕ). ((p.0.0, key_value p.0.1), p.1)) (keyval (val recursion_limit) text) (e, rest) f in
     let is : key_value got.0.0.1 ≡ e.1 = ap (λ (p : Expression × List ℕ). p.0.1) got.2 in
     subst SortedDefinition is (keyval-sorted (val recursion_limit) (val-sorted recursion_limit) text got.0.0.0 got.0.0.1 got.0.1 got.1)
 
@@ -143,7 +144,7 @@ array_line text = option_and_then (λ (k : Key × List ℕ). option_map (λ rest
 array_line-sorted : (text : List ℕ) (e : Expression) (rest : List ℕ) → array_line text ≡ Some (e, rest) → SortedDefinition e.1
 array_line-sorted text e rest f =
     let got = then-Some (header_key (drop 2 text)) (λ (k : Key × List ℕ). option_map (λ rest. ((k.0, array_table), rest)) (cond (first k.1 == right_bracket) (Some (drop 1 k.1)) None)) (e, rest) f in
-    let one = map-Some (λ (more : List ℕ). ((got.0.0, array_table), more)) (cond (first got.0.1 == right_bracket) (Some (drop 1 got.0.1)) None) (e, rest) got.2 in
+    let one = mapped (λ (more : List ℕ). ((got.0.0, array_table), more)) (cond (first got.0.1 == right_bracket) (Some (drop 1 got.0.1)) None) (e, rest) got.2 in
     let is : array_table ≡ e.1 = ap (λ (p : Expression × List ℕ). p.0.1) one.2 in
     subst SortedDefinition is tt
 
@@ -188,5 +189,5 @@ lines-sorted (suc n) doc text end h e = by (length (skip_blank text) == 0) e (λ
 pub document-sorted : (text : List ℕ) (tree : Members) → parse_document text ≡ Some tree → members_are_sorted tree ≡ true
 unfolding parse_document
 document-sorted text tree e =
-    let got = map-Some (λ (doc : Document). close doc.0) (lines (suc (length text)) (no_nodes, []) (skip_bom text)) tree e in
+    let got = mapped (λ (doc : Document). close doc.0) (lines (suc (length text)) (no_nodes, []) (skip_bom text)) tree e in
     subst (λ t. members_are_sorted t ≡ true) got.2 (close-sorted got.0.0 (lines-sorted (suc (length text)) (no_nodes, []) (skip_bom text) got.0 tt got.1))

@@ -1,8 +1,7 @@
 -- How often tokens stand in hands and lists.
 use Rattle.std.proofs.Common.{◌≡◌, ℕ, ◌+◌, ◌<◌, ◌≤◌, ◌==◌, nat_lt, Bool, true, false, ◌||◌, List, [], ◌∷◌, ◌++◌, map, refl, ◌∙◌, arith, if◌then◌else◌}
 use Rattle.std.proofs.lemmas.List.{map-append}
-use Rattle.std.proofs.lemmas.Bool.{and_parts}
-use Rattle.std.proofs.lemmas.Bool.Decides.{nat_tests}
+use Rattle.std.proofs.lemmas.Bool.{and_parts, lt-ltb, ltb-true}
 use Rattle.std.specs.List.{list_any, list_all}
 use Rattle.qp_model.specs.declared.bodies.Entry as model
 use Rattle.qp_model.specs.Record.{entry}
@@ -16,6 +15,7 @@ use Rattle.qp_calls.specs.Counting.{one, times, count_of}
 use Rattle.qp_calls.specs.Deferring.{tokens_in, is_named, StandAll}
 use Rattle.qp_calls.proofs.HandLemmas.{same-equal, same-self}
 use Rattle.qp_calls.proofs.Releasing.{not_zero, with-pool}
+use Rattle.qp_model.proofs.ListLemmas.{all-push}
 
 -- how often an entry is this token
 abbrev pub count_in : Token → model.Entry → ℕ
@@ -81,18 +81,12 @@ front-counts : (p b r : ℕ) (hands : List Token) → 0 < p → 0 < count_of (He
 unfolding times
 front-counts p b r hands some = rw (with-pool p b r hands some, same-self (Held p b r)) (omega arith)
 
-pub lt-from : (a b : ℕ) → nat_lt a b ≡ true → a < b
-lt-from a b h = grind (arith, nat_tests)
-
-lt-to : (a b : ℕ) → a < b → nat_lt a b ≡ true
-lt-to a b h = grind (arith, nat_tests)
-
 -- the first entry of a list may be handed in
 pub stand-front : (k : Entry) (ks : List Entry) (v : LaneView) → StandAll (k ∷ ks) v → Stands k v
 unfolding entry_of
 stand-front (token.Static sig) ks v all = (and_parts (is_static v.sys sig) (list_all (λ e. is_named v.sys e) ks) all.named).0
 stand-front (token.Pool h) ks v all =
-    let some : 0 < h.pool = lt-from 0 h.pool (and_parts (nat_lt 0 h.pool) (list_all (λ e. is_named v.sys e) ks) all.named).0 in
+    let some : 0 < h.pool = ltb-true 0 h.pool (and_parts (nat_lt 0 h.pool) (list_all (λ e. is_named v.sys e) ks) all.named).0 in
     let front = front-counts h.pool h.block h.name (tokens_in (map entry_of ks)) some in
     (some, count-stands (Held h.pool h.block h.name) v.hands (omega (arith, front, all.counts (Held h.pool h.block h.name))))
 
@@ -113,20 +107,14 @@ stand-still ks v w all more sys = record { named = rw sys all.named; counts = λ
 pub stand-same : (ks : List Entry) (v w : LaneView) → StandAll ks v → w.hands ≡ v.hands → w.sys ≡ v.sys → StandAll ks w
 stand-same ks v w all hands sys = stand-still ks v w all (λ t. rw hands (omega arith)) sys
 
-all-last : {X : Type 0} (p : X → Bool) (xs : List X) (x : X) → list_all p xs ≡ true → p x ≡ true → list_all p (xs ++ x ∷ []) ≡ true
-all-last p [] x h k = rw k refl
-all-last p (y ∷ ys) x h k =
-    let parts = and_parts (p y) (list_all p ys) h in
-    rw (parts.0, all-last p ys x parts.1 k) refl
-
 stands-named : (e : Entry) (v : LaneView) → Stands e v → is_named v.sys e ≡ true
 stands-named (token.Static sig) v h = h
-stands-named (token.Pool k) v h = lt-to 0 k.pool h.0
+stands-named (token.Pool k) v h = lt-ltb 0 k.pool h.0
 
 -- one more entry at the end of a list, whose token came to the hands
 pub stand-more : (ks : List Entry) (e : Entry) (v w : LaneView) → StandAll ks v → Stands e w → w.hands ≡ with_entry (entry_of e) v.hands → w.sys ≡ v.sys → StandAll (ks ++ e ∷ []) w
 stand-more ks e v w all stands hands sys = record {
-  named = all-last (λ x. is_named w.sys x) ks e (rw sys all.named) (stands-named e w stands);
+  named = all-push (λ x. is_named w.sys x) ks e (rw sys all.named) (stands-named e w stands);
   counts = λ t.
       let last = tokens-append t (map entry_of ks) (entry_of e) in
       let more = count-with t (entry_of e) v.hands in

@@ -2,6 +2,7 @@
 use Rattle.std.proofs.Common.{◌≡◌, ℕ, List, [], ◌∷◌, map, refl, ap, nat_le, Bool, true, false}
 use Rattle.std.specs.List.{position, prefix_len, list_any, AllByRecursion}
 use Rattle.std.proofs.Common.{length, not, cond, zero, suc, sym, ◌||◌, slice_get, nat_lt}
+use Rattle.std.proofs.lemmas.Bool.{lt-ltb, le-leb}
 use Rattle.std.proofs.lemmas.List.{length-map}
 use Rattle.std.proofs.Common.{Some, None, Option, get_or, ◌<◌, ◌≤◌, ◌-◌, ◌+◌, arith, ◌⊎◌, inl, inr}
 use Rattle.std.specs.Option.{option_map}
@@ -15,12 +16,6 @@ use Rattle.qp_model.specs.Parts.{first_pool, sizes_of, is_static}
 use Rattle.qp_model.specs.Told.{Event}
 use Rattle.qp_model.specs.Sound.{IsSound, IsSoundSignal}
 use Rattle.qp_calls.specs.Clauses.{FitsPool, IsEvent}
-
-pub le_true : (a b : ℕ) → a ≤ b → nat_le a b ≡ true
-le_true a b h = grind (arith, nat_tests)
-
-pub lt_true : (a b : ℕ) → a < b → nat_lt a b ≡ true
-lt_true a b h = grind (arith, nat_tests)
 
 prefix-sizes : (n : ℕ) (pools : List PoolDef) → prefix_len (λ size. not (nat_le n size)) (map (λ d. d.size) pools) ≡ prefix_len (λ d. not (nat_le n d.size)) pools
 prefix-sizes n [] = refl
@@ -62,7 +57,7 @@ any-prefix p (x ∷ xs) h = go (p x) h (any-prefix p xs)
 position-any : {X : Type 0} (p : X → Bool) (xs : List X) → list_any p xs ≡ true → (i : ℕ) × (position p xs ≡ Some i)
 position-any p xs h =
     let lt : prefix_len (λ x. not (p x)) xs < length xs = any-prefix p xs h in
-    let is : nat_lt (prefix_len (λ x. not (p x)) xs) (length xs) ≡ true = lt_true _ _ lt in
+    let is : nat_lt (prefix_len (λ x. not (p x)) xs) (length xs) ≡ true = lt-ltb _ _ lt in
     (prefix_len (λ x. not (p x)) xs, rw is refl)
 
 pub at_place : {A : Type 0} (P : A → Type 0) (xs : List A) → AllByRecursion P xs → (i : ℕ) (x : A) → slice_get xs i ≡ Some x → P x
@@ -87,7 +82,7 @@ pool_of_sound sys ev sound is pooled = go (slice_get sys.signals (ev.sig - 4)) r
         past (inl h) = let e = h.2 in cc
         past (inr h) = let le = h.0 in omega (arith, le, is.within, is.from)
     go (Some d) at =
-        let four : nat_le 4 ev.sig ≡ true = le_true 4 ev.sig is.from in
+        let four : nat_le 4 ev.sig ≡ true = le-leb 4 ev.sig is.from in
         let fixed : d.fixed ≡ false = rw (four, at) at pooled in
         let params : length ev.pars ≡ d.params = rw at at is.params in
         let signal = at_place (IsSoundSignal sys.pools) sys.signals sound.signals (ev.sig - 4) d at in

@@ -6,7 +6,7 @@ use Rattle.qp_model.specs.declared.bodies.Entry as model
 use Rattle.qp_model.specs.declared.bodies.Body.TheVariants as item
 use Rattle.qp_model.specs.Told.{Told, plain, dropped}
 use Rattle.qp_model.specs.Calls as call
-use Rattle.qp_model.specs.Calls.{Answer, Flushed}
+use Rattle.qp_model.specs.Calls.{Flushed}
 use Rattle.qp_model.specs.Deferral.{keep, kept_after, KeepsDeferred}
 use Rattle.qp_model.specs.Shapes.{Fits, Flushes, Drops, releases_by}
 use Rattle.qp_model.proofs.DeferralLemmas.{kept-append, kept-calm}
@@ -20,6 +20,7 @@ use Rattle.qp_calls.specs.Deferring.{AnswersKept, FlushCut, FlushesEntry, Flushe
 use Rattle.qp_calls.proofs.Growing.{gains-none, grows-then}
 use Rattle.qp_calls.proofs.CountLemmas.{count-with, count-without, stand-front, stand-rest, stands-in}
 use Rattle.qp_calls.proofs.Recalling.{entry-same}
+use Rattle.qp_model.proofs.ListLemmas.{nothing-left}
 
 flushes-append : (n m : ℕ) (g h : List Told) → Flushes n g → Flushes m h → Flushes (n + m) (g ++ h)
 unfolding Flushes
@@ -98,16 +99,12 @@ flushes-more n kept mid more a v w some one =
       stand = stand-rest one.k more.entries.items v w all one.hands one.grows.sys;
     }
 
-no_more : {X : Type 0} (xs : List X) → length xs ≡ 0 → xs ≡ []
-no_more [] h = refl
-no_more (x ∷ xs) h = absurd (omega arith)
-
 -- the whole list was flushed
 pub flushed-all : (n : ℕ) (kept more : Deferred) (a w : LaneView) → FlushesSome n kept more a w → n ≡ length kept.entries.items → AnswersKept None call.Flush (did.Value n) kept more a w
 unfolding Fits KeepsDeferred
 flushed-all n kept more a w some all =
     let left : length more.entries.items ≡ 0 = omega (arith, some.count) in
-    let none : more.entries.items ≡ [] = no_more more.entries.items left in
+    let none : more.entries.items ≡ [] = nothing-left more.entries.items left in
     record {
       answer = Flushed n;
       g = some.g;

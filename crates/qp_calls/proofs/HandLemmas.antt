@@ -1,21 +1,18 @@
 -- Tokens in the hands of a lane.
-use Rattle.std.proofs.Common.{◌≡◌, ℕ, zero, ◌==◌, Bool, true, false, ◌&&◌, ◌||◌, List, [], ◌∷◌, ◌++◌, refl, sym, ◌∙◌, arith, IsTrue, if◌then◌else◌}
-use Rattle.std.proofs.lemmas.Bool.Decides.{nat_tests}
+use Rattle.std.proofs.Common.{◌≡◌, ℕ, zero, ◌==◌, Bool, true, false, ◌&&◌, ◌||◌, List, [], ◌∷◌, ◌++◌, refl, sym, ◌∙◌, IsTrue, if◌then◌else◌}
 use Rattle.std.specs.List.{list_any}
 use Rattle.qp_model.specs.declared.bodies.Entry as model
 use Rattle.qp_model.specs.declared.bodies.Body.{Body}
 use Rattle.qp_model.specs.declared.bodies.Body.TheVariants.{Took, New, Inc, Dec, Back, Post, Lifo}
 use Rattle.qp_model.specs.Told.{ToldItem, Known, Left}
-use Rattle.std.proofs.lemmas.Bool.{and_parts}
+use Rattle.std.proofs.lemmas.Bool.{and_parts, eqb-true, or_right}
 use Rattle.qp_calls.specs.Tokens.{Token, Held, Loose, same_token, token_of, take_out, stands, with_entry, without_entry, with_left, hands_of, hands_by, hands_after, handles}
+use Rattle.qp_model.proofs.LineLemmas.{same_number}
 
 pub hands-append : (hands : List Token) (g h : List ToldItem) → hands_after hands (g ++ h) ≡ hands_after (hands_after hands g) h
 unfolding hands_after
 hands-append hands [] h = refl
 hands-append hands (t ∷ g) h = hands-append (hands_by hands t.told) g h
-
-pub same_number : (a : ℕ) → (a == a) ≡ true
-same_number a = grind (arith, nat_tests)
 
 pub held-first : (p b r : ℕ) (hands : List Token) → IsTrue (stands (Held p b r) (Held p b r ∷ hands))
 unfolding stands
@@ -39,17 +36,14 @@ or_true : (b : Bool) → (b || true) ≡ true
 or_true true = refl
 or_true false = refl
 
-eq-from : (a b : ℕ) → (a == b) ≡ true → a ≡ b
-eq-from a b h = grind (arith, nat_tests)
-
 apart_bool : {X : Type 0} (u : Bool) → (u && false) ≡ true → X
 apart_bool u h = let e : false ≡ true = (and_parts u false h).1 in absurd (cc)
 
 loose_equal : (p b q c : ℕ) (u : Bool) → ((p == q) && (b == c)) ≡ true → Loose p b u ≡ Loose q c u
 loose_equal p b q c u h =
     let parts = and_parts _ _ h in
-    let p_is : p ≡ q = eq-from p q parts.0 in
-    let b_is : b ≡ c = eq-from b c parts.1 in
+    let p_is : p ≡ q = eqb-true p q parts.0 in
+    let b_is : b ≡ c = eqb-true b c parts.1 in
     cc
 
 -- two tokens that test as the same are
@@ -57,9 +51,9 @@ pub same-equal : (t x : Token) → same_token t x ≡ true → t ≡ x
 same-equal (Held p b r) (Held q c s) h =
     let parts = and_parts _ _ h in
     let first = and_parts _ _ parts.0 in
-    let p_is : p ≡ q = eq-from p q first.0 in
-    let b_is : b ≡ c = eq-from b c first.1 in
-    let r_is : r ≡ s = eq-from r s parts.1 in
+    let p_is : p ≡ q = eqb-true p q first.0 in
+    let b_is : b ≡ c = eqb-true b c first.1 in
+    let r_is : r ≡ s = eqb-true r s parts.1 in
     cc
 same-equal (Loose p b true) (Loose q c true) h = loose_equal p b q c true (and_parts _ _ h).0
 same-equal (Loose p b true) (Loose q c false) h = apart_bool _ h
@@ -88,10 +82,6 @@ stands-out t x (y ∷ ys) h = go (same_token x y) (same_token t y) refl refl h (
     go true false xy ty k ih = rw k (or_true (same_token t x))
     go false true xy ty k ih = rw ty (or_true (same_token t x))
     go false false xy ty k ih = rw ty (ih k)
-
-or_right : (u v : Bool) → v ≡ true → (u || v) ≡ true
-or_right true v h = refl
-or_right false v h = h
 
 pub stands-with : (t : Token) (e : model.Entry) (hands : List Token) → stands t hands ≡ true → stands t (with_entry e hands) ≡ true
 stands-with t e hands h = go (e.pool == 0)

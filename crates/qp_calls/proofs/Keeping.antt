@@ -1,11 +1,12 @@
 -- Deferral as the parts that it is made of.
 use Rattle.std.proofs.Common.{◌≡◌, ℕ, zero, suc, ◌-◌, ◌<◌, nat_lt, Bool, true, false, not, List, [], ◌∷◌, ◌++◌, length, drop, refl, ◌∙◌, ap, subst, arith, Some}
+use Rattle.std.proofs.lemmas.Bool.{ltb-true}
 use Rattle.std.proofs.lemmas.List.{map-append, length-append, length-map}
 use Rattle.qp_model.specs.declared.bodies.Entry as model
 use Rattle.qp_model.specs.declared.bodies.Body.TheVariants.{Defer, NoDefer}
 use Rattle.qp_model.specs.Told.{Told, plain}
 use Rattle.qp_model.specs.Calls as call
-use Rattle.qp_model.specs.Calls.{Answer, Granted, Refused}
+use Rattle.qp_model.specs.Calls.{Granted, Refused}
 use Rattle.qp_model.specs.Deferral.{keep, kept_after, KeepsDeferred}
 use Rattle.qp_model.specs.Shapes.{Fits, Defers, MakesAgain, again_by, MakesAgainNow}
 use Rattle.qp_model.proofs.DeferralLemmas.{kept-append}
@@ -18,7 +19,7 @@ use Rattle.qp_calls.specs.Clauses.{Stands, entry_of}
 use Rattle.qp_calls.specs.Entries.{Again}
 use Rattle.qp_calls.specs.Deferring.{AnswersKept, StandAll, kept_in}
 use Rattle.qp_calls.proofs.Growing.{grows-room, grows-then, stands-still}
-use Rattle.qp_calls.proofs.CountLemmas.{count-with, lt-from, stand-more, stand-same, tokens-append}
+use Rattle.qp_calls.proofs.CountLemmas.{count-with, stand-more, stand-same, tokens-append}
 
 -- the records of another reference leave the list
 pub kept-again : (room : ℕ) (kept : List model.Entry) (e made : model.Entry) (head : List Told) → MakesAgain e head made → kept_after room kept head ≡ Some kept
@@ -101,6 +102,6 @@ is_open false h = absurd (cc)
 -- the last of as many as there is room for, and one more
 pub pushed : {X : Type 0} (xs : List X) (x : X) (cap : ℕ) → nat_lt (length xs) cap ≡ true → drop (length (xs ++ x ∷ []) - cap) (xs ++ x ∷ []) ≡ xs ++ x ∷ []
 pushed xs x cap h =
-    let lt : length xs < cap = lt-from (length xs) cap h in
+    let lt : length xs < cap = ltb-true (length xs) cap h in
     let none : length (xs ++ x ∷ []) - cap ≡ 0 = simp length-append (omega arith) in
     rw none refl

@@ -1,13 +1,14 @@
 -- Notes that groups add.
-use Rattle.std.proofs.Common.{◌≡◌, ℕ, ◌-◌, ◌<◌, ◌≤◌, true, false, [], ◌∷◌, refl, ◌∙◌, ap, subst, arith}
+use Rattle.std.proofs.Common.{◌≡◌, ℕ, ◌-◌, ◌<◌, ◌≤◌, true, false, [], ◌∷◌, refl, ◌∙◌, subst, arith}
 use Rattle.qp_model.specs.declared.record.Rec.{Rec}
 use Rattle.qp_model.specs.declared.bodies.Entry as model
 use Rattle.qp_model.specs.declared.bodies.Body.{Body}
 use Rattle.qp_model.specs.declared.bodies.Body.TheVariants.{Spill, BadTicks}
-use Rattle.qp_model.specs.Record.{Item, item_of, body_of}
+use Rattle.qp_model.specs.Record.{item_of, body_of}
 use Rattle.qp_model.specs.Ends.{is_spill}
 use Rattle.qp_calls.specs.LaneView.{LaneView, Adds, GrowsOf, ceiling_in}
 use Rattle.qp_calls.specs.Notes.{IsNote, MayNote, is_note, spare_after, told_as, told_note}
+use Rattle.qp_model.proofs.RecordLemmas.{body-is, of-is}
 
 is_a_note : (b : Body) (v : LaneView) → is_note b ≡ true → 0 < v.spare → IsNote b v
 is_a_note (Spill n) v h s = absurd (cc)
@@ -18,26 +19,18 @@ no_spill : (b : Body) → is_note b ≡ true → is_spill b ≡ false
 no_spill (Spill n) h = absurd (cc)
 no_spill _ h = refl
 
-says : (o : ℕ) (b : Body) (r : Rec) → item_of r ≡ record { of = o; body = b } → body_of r ≡ b
-unfolding item_of
-says o b r is = ap (λ (i : Item). i.body) is
-
-of_is : (o : ℕ) (b : Body) (r : Rec) → item_of r ≡ record { of = o; body = b } → r.of ≡ o
-unfolding item_of
-of_is o b r is = ap (λ (i : Item). i.of) is
-
 -- a note may be added
 pub may-note : (o : ℕ) (b : Body) (r : Rec) (v : LaneView) → item_of r ≡ record { of = o; body = b } → is_note b ≡ true → 0 < v.spare → MayNote r v
 unfolding MayNote
-may-note o b r v is note spare = rw (says o b r is) (is_a_note b v note spare)
+may-note o b r v is note spare = rw (body-is o b r is) (is_a_note b v note spare)
 
 -- and is then the lane's last record
 pub adds-note : (o : ℕ) (b : Body) (r : Rec) (v w : LaneView) → item_of r ≡ record { of = o; body = b } → is_note b ≡ true → o ≡ v.by → 0 < v.spare
     → GrowsOf r.of (told_note r v) v w → w.spare ≡ spare_after r v.spare → Adds (told_as (ceiling_in 0 v.told) b ∷ []) v w
 unfolding told_note spare_after
 adds-note o b r v w is note by some grown spare =
-    let body : body_of r ≡ b = says o b r is in
-    let mine : r.of ≡ v.by = of_is o b r is ∙ by in
+    let body : body_of r ≡ b = body-is o b r is in
+    let mine : r.of ≡ v.by = of-is o b r is ∙ by in
     let less : w.spare ≡ v.spare - 1 = spare ∙ rw (body, no_spill b note) refl in
     record {
       grows = subst (λ x. GrowsOf x (told_as (ceiling_in 0 v.told) b ∷ []) v w) mine (subst (λ x. GrowsOf r.of (told_as (ceiling_in 0 v.told) x ∷ []) v w) body grown);

@@ -21,11 +21,12 @@ use Rattle.qp_calls.specs.LaneView.{LaneView, Grows, Adds, Roomier}
 use Rattle.qp_calls.specs.Clauses.{Stands, entry_of}
 use Rattle.qp_calls.specs.Entries.{Again, PostsFirst, Released, did_of, is_value}
 use Rattle.qp_calls.specs.Deferring.{AnswersKept, FlushesEntry, RecallsOne, StandAll, kept_in, tokens_in}
-use Rattle.qp_calls.proofs.HandLemmas.{same_number, stands-with}
+use Rattle.qp_calls.proofs.HandLemmas.{stands-with}
 use Rattle.qp_calls.proofs.Growing.{grows-room, grows-then, stands-still}
 use Rattle.qp_calls.proofs.CountLemmas.{count-with, count-without, stand-front, stand-rest, stand-same, stand-still, stand-tail, stands-in}
 use Rattle.qp_calls.proofs.Answering.{with_front_head, without-with}
 use Rattle.qp_calls.proofs.Keeping.{kept-again}
+use Rattle.qp_model.proofs.LineLemmas.{same_number}
 
 -- the records of a last-in post leave the list
 kept-posted : (room : ℕ) (kept : List model.Entry) (o : ℕ) (head g : List Told) (e k : model.Entry) (answer : Answer)

@@ -13,8 +13,9 @@ use Rattle.qp_calls.specs.Tokens.{Token, Held, Loose, take_out, stands, with_ent
 use Rattle.qp_calls.specs.LaneView.{LaneView, Grows, Adds, mark_after, mark_by}
 use Rattle.qp_calls.specs.Clauses.{DropsOne, GoesBack, MakesMore, Stands, entry_of}
 use Rattle.qp_calls.specs.Entries.{Release, Again}
-use Rattle.qp_calls.proofs.HandLemmas.{loose-first, held-first, same_number, same-self}
+use Rattle.qp_calls.proofs.HandLemmas.{loose-first, held-first, same-self}
 use Rattle.qp_calls.proofs.Growing.{grows-then, gains-none}
+use Rattle.qp_model.proofs.LineLemmas.{same_number}
 
 -- a token in front is the first of its kind
 pub take_out-first : (t : Token) (hands : List Token) → take_out t (t ∷ hands) ≡ hands

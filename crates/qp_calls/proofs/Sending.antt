@@ -1,7 +1,7 @@
 -- A source's publication, member by member.
 use Rattle.std.proofs.Common.{◌≡◌, ℕ, zero, suc, ◌+◌, ◌-◌, ◌<◌, nat_lt, Bool, true, false, List, [], ◌∷◌, ◌++◌, length, refl, sym, ◌∙◌, ap, subst, arith, append_assoc, IsTrue, Option, Some, None, Result, Ok, Err, inl, inr}
 use Rattle.std.specs.Prelude.{◌≢◌, ◌⊎◌}
-use Rattle.std.proofs.lemmas.Bool.{and_parts}
+use Rattle.std.proofs.lemmas.Bool.{lt-ltb}
 use Rattle.std.proofs.lemmas.List.{append-nil}
 use Rattle.std.specs.List.{list_all}
 use Rattle.qp_model.specs.declared.systems.System.{System}
@@ -29,10 +29,11 @@ use Rattle.qp_calls.specs.Entries.{Released}
 use Rattle.qp_calls.specs.Groups.{Answers}
 use Rattle.qp_calls.specs.Publishing.{Announced, AreObjects, PostsAgain, PostsAll, PostsCut, PostsFront, PostsSome, PostsWhole, PublishCut, PublishesAll}
 use Rattle.qp_calls.proofs.Growing.{gains-none, grows-room, grows-then, stands-still}
-use Rattle.qp_calls.proofs.FirstPool.{lt_true, pool_of_sound}
+use Rattle.qp_calls.proofs.FirstPool.{pool_of_sound}
 use Rattle.qp_calls.proofs.Answering.{without-with}
 use Rattle.qp_calls.proofs.Flushing.{could_drop}
 use Rattle.qp_calls.proofs.Announcing.{members-none, one-asserted, one-granted}
+use Rattle.qp_model.proofs.TakenLemmas.{list_all-at}
 
 -- Posts to several members.
 
@@ -72,7 +73,7 @@ could_post ring e to =
     (a.0 ++ (plain (item.Post to 1 0 0 a.1) ∷ []), (a.0, a.1, a.2, (1, 0, 0, refl, free ring)))
   where
     free : (r : ℕ) → nat_lt 0 (r + 1 - (1 - 1 + 0 - 0)) ≡ true
-    free r = lt_true 0 (r + 1 - (1 - 1 + 0 - 0)) (omega arith)
+    free r = lt-ltb 0 (r + 1 - (1 - 1 + 0 - 0)) (omega arith)
 
 -- a post is a record at least
 post_some : (ring : ℕ) (e : model.Entry) (to : ℕ) (g : List Told) → PostsOne ring e to Granted g → g ≢ []
@@ -219,17 +220,13 @@ fixed-whole made sig all left a w is some none =
     let at : PostsSome (entry 0 sig 0) all left a w = subst (λ x. PostsSome (entry_of x) all left a w) is some in
     rw is (some-fixed sig all left a w at none)
 
-all-second : {X : Type 0} (p : X → Bool) (xs : List X) (y : X) (ys : List X) → list_all p (xs ++ y ∷ ys) ≡ true → p y ≡ true
-all-second p [] y ys h = (and_parts (p y) (list_all p ys) h).0
-all-second p (x ∷ xs) y ys h = all-second p xs y ys (and_parts (p x) (list_all p (xs ++ y ∷ ys)) h).1
-
 -- the next member is an object
 pub next-object : (e : model.Entry) (all left to rest : ℕ) (a v r : LaneView) → PostsSome e all left a v → Roomier v r → members left ≡ to ∷ members rest → AreObjects a.sys all
     → IsTrue (is_object r.sys to)
 next-object e all left to rest a v r some room first objects =
     let split : members all ≡ some.sent ++ to ∷ members rest = some.split ∙ ap (λ x. some.sent ++ x) first in
     let whole : list_all (λ x. is_object a.sys x) (some.sent ++ to ∷ members rest) ≡ true = subst (λ ms. list_all (λ x. is_object a.sys x) ms ≡ true) split objects in
-    rw (same_sys a v r e all left some room) (all-second (λ x. is_object a.sys x) some.sent to (members rest) whole)
+    rw (same_sys a v r e all left some room) (list_all-at (λ x. is_object a.sys x) some.sent to (members rest) whole)
 
 -- The whole publication.
 

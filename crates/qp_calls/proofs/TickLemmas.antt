@@ -1,9 +1,9 @@
 -- Ticks timer by timer.
 use Rattle.std.proofs.Common.{◌≡◌, ℕ, ◌+◌, ◌<◌, ◌≤◌, ◌==◌, nat_lt, Bool, true, false, List, [], ◌∷◌, ◌++◌, map, length, take, drop, slice_get, get_or, refl, sym, ◌∙◌, ap, subst, arith, append_assoc, IsTrue, Some, None, Ok, ◌⊎◌, inl, inr}
 use Rattle.std.specs.Prelude.{◌≢◌}
+use Rattle.std.proofs.lemmas.Bool.{ne_eqb, le-leb, eq-eqb}
 use Rattle.std.proofs.lemmas.List.{map-append, append-nil, length-take-le, take_all, take_more, take-append-drop}
 use Rattle.std.proofs.lemmas.Option.{slice_get-get_or}
-use Rattle.std.proofs.lemmas.Bool.Decides.{nat_tests}
 use Rattle.std.specs.Bool.{MatchBool}
 use Rattle.qp_model.specs.declared.systems.System.{System}
 use Rattle.qp_model.specs.declared.systems.TimerDef.{TimerDef}
@@ -23,7 +23,7 @@ use Rattle.qp_calls.specs.Tokens.{hands_after, hands_by}
 use Rattle.qp_calls.specs.LaneView.{LaneView, Gains, Grows, AddsOf, Adds, Roomier}
 use Rattle.qp_calls.specs.Entries.{PostsEntry, did_of}
 use Rattle.qp_calls.specs.Ticking.{FiredInVain, GrowsByTicks, TickCut, TickedAll, TickedSome, TickedTimer, TicksTimer, by_ticker, timer_of}
-use Rattle.qp_calls.proofs.FirstPool.{at_place, le_true}
+use Rattle.qp_calls.proofs.FirstPool.{at_place}
 use Rattle.qp_calls.proofs.Growing.{gains-none, gains-then, room-then}
 
 idle_hands : (t n : ℕ) (a v : LaneView) → Grows (plain (item.Idle t n) ∷ []) a v → v.hands ≡ a.hands
@@ -236,7 +236,7 @@ timer-object sys d h = rw h.is_owner refl
 
 pub timer-static : (sys : System) (d : TimerDef) → IsSoundTimer sys d → is_static sys d.sig ≡ true
 unfolding is_static
-timer-static sys d h = rw (le_true 4 d.sig h.from_four, h.is_signal, h.static) refl
+timer-static sys d h = rw (le-leb 4 d.sig h.from_four, h.is_signal, h.static) refl
 
 pub record At (xs : List TimerDef) (i : ℕ) (d : TimerDef) : Type 0 where
   pub within : i < length xs
@@ -262,18 +262,12 @@ at xs ys i dflt same lt =
 pub sound-at : (sys : System) (i : ℕ) (d : TimerDef) → IsSound sys → At sys.timers i d → IsSoundTimer sys d
 sound-at sys i d sound at = at_place (IsSoundTimer sys) sys.timers sound.timers i d at.here
 
-eq-to : (a b : ℕ) → a ≡ b → (a == b) ≡ true
-eq-to a b h = grind (arith, nat_tests)
-
-ne-to : (a b : ℕ) → (a ≡ b → ⊥) → (a == b) ≡ false
-ne-to a b h = grind (arith, nat_tests)
-
 -- one round of the loop
 pub ticked-skip : (rate i : ℕ) (ts : List TimerDef) (d : TimerDef) (a v w : LaneView) → TickedSome rate (take i ts) a v → At ts i d → (d.rate ≡ rate → ⊥) → w ≡ v
     → TickedSome rate (take (i + 1) ts) a w
 ticked-skip rate i ts d a v w some here other same =
     subst (λ xs. TickedSome rate xs a w) (sym here.more)
-    (subst (λ x. TickedSome rate (take i ts ++ d ∷ []) a x) (sym same) (ticked-other rate (take i ts) d a v some (ne-to d.rate rate other)))
+    (subst (λ x. TickedSome rate (take i ts ++ d ∷ []) a x) (sym same) (ticked-other rate (take i ts) d a v some (ne_eqb d.rate rate other)))
 
 first_at : (rate i t n : ℕ) (ts : List TimerDef) (d : TimerDef) → At ts i d → t ≡ i + 1 → t ≡ 1 + length (take i ts)
 first_at rate i t n ts d here is = let count = here.count in omega (arith, is, count)
@@ -284,17 +278,17 @@ ticked-round rate i t n ts d x a v u w some here same is one value left =
     let valued : TickedTimer t d.object d.sig v u = subst (λ y. TicksTimer t d.object d.sig v u (Ok y)) value one in
     let placed : TickedTimer (1 + length (take i ts)) d.object d.sig v u = subst (λ k. TickedTimer k d.object d.sig v u) (first_at rate i t n ts d here is) valued in
     subst (λ xs. TickedSome rate xs a w) (sym here.more)
-    (subst (λ z. TickedSome rate (take i ts ++ d ∷ []) a z) (sym left) (ticked-more rate (take i ts) d a v u some (eq-to d.rate rate same) placed))
+    (subst (λ z. TickedSome rate (take i ts ++ d ∷ []) a z) (sym left) (ticked-more rate (take i ts) d a v u some (eq-eqb d.rate rate same) placed))
 
 pub ticked-stop : (rate i t code : ℕ) (ts : List TimerDef) (d : TimerDef) (x : Did) (a v w : LaneView) → TickedSome rate (take i ts) a v → At ts i d → a.sys.timers ≡ ts → d.rate ≡ rate
     → t ≡ i + 1 → TicksTimer t d.object d.sig v w (Ok x) → x ≡ did.Assert code → (code ≡ 1) × TickedAll rate true a w
 ticked-stop rate i t code ts d x a v w some here timers same is one value =
     let valued : (code ≡ 1) × FiredInVain t d.object d.sig v w = subst (λ y. TicksTimer t d.object d.sig v w (Ok y)) value one in
     let placed : FiredInVain (1 + length (take i ts)) d.object d.sig v w = subst (λ k. FiredInVain k d.object d.sig v w) (first_at rate i t code ts d here is) valued.1 in
-    (valued.0, ticked-vain rate (take i ts) (drop (i + 1) ts) d a v w some (eq-to d.rate rate same) placed (timers ∙ here.split))
+    (valued.0, ticked-vain rate (take i ts) (drop (i + 1) ts) d a v w some (eq-eqb d.rate rate same) placed (timers ∙ here.split))
 
 pub ticked-left : (rate i : ℕ) (ts : List TimerDef) (d : TimerDef) (a v w : LaneView) → TickedSome rate (take i ts) a v → At ts i d → a.sys.timers ≡ ts → d.rate ≡ rate → w ≡ v → TickCut rate a w
-ticked-left rate i ts d a v w some here timers is same = ticked-cut rate (take i ts) d (drop (i + 1) ts) a v w some (timers ∙ here.split) (eq-to d.rate rate is) same
+ticked-left rate i ts d a v w some here timers is same = ticked-cut rate (take i ts) d (drop (i + 1) ts) a v w some (timers ∙ here.split) (eq-eqb d.rate rate is) same
 
 pub ticked-end : (rate i : ℕ) (ts : List TimerDef) (a w : LaneView) → TickedSome rate (take i ts) a w → a.sys.timers ≡ ts → length ts ≤ i → TickedAll rate false a w
 ticked-end rate i ts a w some timers all = ticked-all rate (take i ts) a w some (take_all i ts all ∙ sym timers)

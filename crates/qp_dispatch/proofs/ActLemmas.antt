@@ -79,10 +79,6 @@ tokens-join t (e ∷ es) fs =
     let back = count-with t e (tokens_in es) in
     omega (arith, front, back, tokens-join t es fs)
 
-pub all-left : {X : Type 0} (f : X → Bool) (xs ys : List X) → list_all f (xs ++ ys) ≡ true → list_all f xs ≡ true
-all-left f [] ys h = refl
-all-left f (x ∷ xs) ys h = let parts = and_parts (f x) (list_all f (xs ++ ys)) h in rw (parts.0, all-left f xs ys parts.1) refl
-
 pub all-right : {X : Type 0} (f : X → Bool) (xs ys : List X) → list_all f (xs ++ ys) ≡ true → list_all f ys ≡ true
 all-right f [] ys h = h
 all-right f (x ∷ xs) ys h = all-right f xs ys (and_parts (f x) (list_all f (xs ++ ys)) h).1

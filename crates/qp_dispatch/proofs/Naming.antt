@@ -1,6 +1,7 @@
 -- What the actions of a sound chart name.
 use Rattle.std.proofs.Common.{◌≡◌, ℕ, zero, suc, ◌+◌, ◌-◌, ◌<◌, ◌≤◌, nat_le, true, false, List, [], ◌∷◌, length, slice_get, refl, sym, ◌∙◌, subst, arith, IsTrue, Option, Some, None}
 use Rattle.std.specs.Prelude.{IsSome}
+use Rattle.std.proofs.lemmas.Bool.{lt-ltb, le-leb}
 use Rattle.std.proofs.lemmas.List.{length-map}
 use Rattle.qp_chart.specs.Expr.{Names}
 use Rattle.qp_chart.specs.declared.expression.Bound.{Bound}
@@ -20,8 +21,9 @@ use Rattle.qp_model.specs.WordLaw.{is_object, is_signal}
 use Rattle.qp_calls.specs.declared.tokens.Entry.{Entry}
 use Rattle.qp_calls.specs.LaneView.{LaneView}
 use Rattle.qp_calls.specs.Clauses.{IsEvent, Owns}
-use Rattle.qp_calls.proofs.FirstPool.{at_place, le_true, lt_true}
+use Rattle.qp_calls.proofs.FirstPool.{at_place}
 use Rattle.qp_dispatch.specs.SoundFor.{HasTimer, IsHome, MayAct}
+use Rattle.qp_model.proofs.ListLemmas.{nothing-left}
 
 pub receives : (sys : System) (me : ℕ) (chart : Chart) (to : Target) → IsHome sys me chart → IsReceiver sys to → IsTrue (is_object sys (object_of me to))
 unfolding is_object
@@ -43,7 +45,7 @@ params-few sys chart inside sig pars reserve sound e =
 pub declared : (sys : System) (sig : ℕ) → IsDeclared sys sig → IsTrue (is_signal sys sig)
 declared sys sig d =
     let lt = within sys.signals (sig - 4) d.0 d.1.1 in
-    rw (le_true 4 sig d.1.0, lt_true sig (length sys.signals + 4) (omega (arith, lt, d.1.0))) refl
+    rw (le-leb 4 sig d.1.0, lt-ltb sig (length sys.signals + 4) (omega (arith, lt, d.1.0))) refl
 
 -- the event of a sound action
 pub sound-event : (sys : System) (chart : Chart) (inside : Option ℕ) (sig : ℕ) (pars : List Bound) (reserve : Option ℕ) (names : Names) (ev : Event)
@@ -63,12 +65,8 @@ pub sound-reserve : (sys : System) (chart : Chart) (inside : Option ℕ) (sig : 
     → is_static sys sig ≡ true → reserve ≡ None
 unfolding is_static
 sound-reserve sys chart inside sig pars reserve e h =
-    let fixed : e.signal.fixed ≡ true = rw (le_true 4 sig e.is_signal.0, e.is_signal.1) at h in
+    let fixed : e.signal.fixed ≡ true = rw (le-leb 4 sig e.is_signal.0, e.is_signal.1) at h in
     e.reserve_pooled fixed
-
-nothing : {X : Type 0} (xs : List X) → length xs ≡ 0 → xs ≡ []
-nothing [] h = refl
-nothing (x ∷ xs) h = absurd (omega (arith, h))
 
 -- a static event has no parameters
 pub static-bare : (sys : System) (ev : Event) → IsSound sys → IsEvent sys ev → is_static sys ev.sig ≡ true → ev.pars ≡ []
@@ -77,15 +75,15 @@ static-bare sys ev sound is fixed = go (slice_get sys.signals (ev.sig - 4)) refl
   where
     go : (o : Option SignalDef) → slice_get sys.signals (ev.sig - 4) ≡ o → ev.pars ≡ []
     go None at =
-        let four : nat_le 4 ev.sig ≡ true = le_true 4 ev.sig is.from in
+        let four : nat_le 4 ev.sig ≡ true = le-leb 4 ev.sig is.from in
         let h : false ≡ true = rw (four, at) at fixed in
         absurd (cc)
     go (Some d) at =
-        let four : nat_le 4 ev.sig ≡ true = le_true 4 ev.sig is.from in
+        let four : nat_le 4 ev.sig ≡ true = le-leb 4 ev.sig is.from in
         let here : d.fixed ≡ true = rw (four, at) at fixed in
         let params : length ev.pars ≡ d.params = rw at at is.params in
         let signal = at_place (IsSoundSignal sys.pools) sys.signals sound.signals (ev.sig - 4) d at in
-        nothing ev.pars (params ∙ signal.bare here)
+        nothing-left ev.pars (params ∙ signal.bare here)
 
 -- the timer at a place of the object's chart
 pub owns-timer : (sys : System) (me t place : ℕ) (v : LaneView) → v.sys ≡ sys → v.by ≡ me → t ≡ timer_number sys.timers me place → HasTimer sys me place → Owns v t

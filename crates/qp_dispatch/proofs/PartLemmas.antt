@@ -10,7 +10,7 @@ use Rattle.qp_chart.specs.Task.{Task}
 use Rattle.qp_model.specs.declared.record.Rec.{Rec}
 use Rattle.qp_model.specs.declared.bodies.Body.{Body}
 use Rattle.qp_model.specs.declared.bodies.Body.TheVariants as item
-use Rattle.qp_model.specs.Record.{Item, item_of, body_of}
+use Rattle.qp_model.specs.Record.{item_of, body_of}
 use Rattle.qp_model.specs.Told.{plain, raised, for_object}
 use Rattle.qp_model.specs.Pieces.{Point}
 use Rattle.qp_model.specs.Acts.{Moment}
@@ -36,7 +36,9 @@ use Rattle.qp_dispatch.specs.Lasts.{config_of, actor_of}
 use Rattle.qp_dispatch.specs.Acting.{ActDone, ActAsserts, ActBegins, ActCut, Keeps, is_publication}
 use Rattle.qp_dispatch.specs.Parts.{Goes, Asserts, CutShort, GoesFurther, StandWith, held_by}
 use Rattle.qp_dispatch.proofs.Quiet.{Quiet, ceiling-append, spills-append}
-use Rattle.qp_dispatch.proofs.ActLemmas.{all-left, all-right, calm-quiet, counts-join}
+use Rattle.qp_dispatch.proofs.ActLemmas.{all-right, calm-quiet, counts-join}
+use Rattle.qp_model.proofs.ListLemmas.{list_all-front}
+use Rattle.qp_model.proofs.RecordLemmas.{body-is, of-is}
 
 -- Notes.
 
@@ -53,23 +55,15 @@ noted r a v w room is mine some grown spare =
     let told : v.told ≡ a.told = rw room.same refl in
     subst (λ t. Grows (told_as (ceiling_in 0 t) (body_of r) ∷ []) a w) told (grows-room (told_as (ceiling_in 0 v.told) (body_of r) ∷ []) a v w room one.grows)
 
-pub rec-of : (me : ℕ) (b : Body) (r : Rec) → item_of r ≡ record { of = me; body = b } → r.of ≡ me
-unfolding item_of
-rec-of me b r is = ap (λ (i : Item). i.of) is
-
-rec-body : (me : ℕ) (b : Body) (r : Rec) → item_of r ≡ record { of = me; body = b } → body_of r ≡ b
-unfolding item_of
-rec-body me b r is = ap (λ (i : Item). i.body) is
-
 pub rec-mine : (me : ℕ) (b : Body) (r : Rec) (v : LaneView) → item_of r ≡ record { of = me; body = b } → v.by ≡ me → v.by ≡ r.of
-rec-mine me b r v is by = by ∙ sym (rec-of me b r is)
+rec-mine me b r v is by = by ∙ sym (of-is me b r is)
 
 pub rec-note : (me : ℕ) (b : Body) (r : Rec) → item_of r ≡ record { of = me; body = b } → is_note b ≡ true → IsTrue (is_note (body_of r))
-rec-note me b r is note = rw (rec-body me b r is) note
+rec-note me b r is note = rw (body-is me b r is) note
 
 pub rec-told : (me : ℕ) (b : Body) (r : Rec) (v w : LaneView) → item_of r ≡ record { of = me; body = b } → Grows (told_note r v) v w → Grows (told_as (ceiling_in 0 v.told) b ∷ []) v w
 unfolding told_note
-rec-told me b r v w is grown = subst (λ x. Grows (told_as (ceiling_in 0 v.told) x ∷ []) v w) (rec-body me b r is) grown
+rec-told me b r v w is grown = subst (λ x. Grows (told_as (ceiling_in 0 v.told) x ∷ []) v w) (body-is me b r is) grown
 
 -- What stands.
 
@@ -85,8 +79,8 @@ stand-fewer es fs v named less all = record { named = named; counts = λ t. omeg
 -- without those in the middle
 pub stand-without : (es ds fs : List Entry) (v : LaneView) → StandAll ((es ++ ds) ++ fs) v → StandAll ((es ++ []) ++ fs) v
 stand-without es ds fs v all =
-    let left = all-left (λ e. is_named v.sys e) (es ++ ds) fs all.named in
-    let named = all-left (λ e. is_named v.sys e) es ds left in
+    let left = list_all-front (λ e. is_named v.sys e) (es ++ ds) fs all.named in
+    let named = list_all-front (λ e. is_named v.sys e) es ds left in
     let right = all-right (λ e. is_named v.sys e) (es ++ ds) fs all.named in
     rw (append-nil es)
     (stand-fewer ((es ++ ds) ++ fs) (es ++ fs) v (all-both es fs v named right) (λ t. omega (arith, counts-join t (es ++ ds) fs, counts-join t es ds, counts-join t es fs)) all)

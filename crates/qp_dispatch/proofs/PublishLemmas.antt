@@ -3,19 +3,18 @@ use Rattle.std.proofs.Common.{◌≡◌, ℕ, zero, suc, ◌<◌, Bool, true, fa
 use Rattle.std.specs.Prelude.{pos}
 use Rattle.std.specs.List.{list_all}
 use Rattle.std.specs.Option.{unwrap_or}
-use Rattle.std.proofs.lemmas.Bool.{and_parts}
+use Rattle.std.proofs.lemmas.Bool.{and_parts, lt-ltb}
 use Rattle.std.proofs.lemmas.List.{map-append}
 use Rattle.qp_chart.specs.Expr.{Names}
 use Rattle.qp_chart.specs.declared.expression.Bound.{Bound}
 use Rattle.qp_chart.specs.declared.actions.Plain.TheVariants as action
 use Rattle.qp_chart.specs.Task as task
-use Rattle.qp_chart.specs.Task.{Task}
 use Rattle.qp_model.specs.declared.systems.System.{System}
 use Rattle.qp_model.specs.declared.bodies.Entry as model
 use Rattle.qp_model.specs.declared.bodies.Body.TheVariants as item
 use Rattle.qp_model.specs.Told.{Told, Event, plain, raised, for_object}
 use Rattle.qp_model.specs.Calls as call
-use Rattle.qp_model.specs.Calls.{Calls, Answer, Granted, Refused, AtQueue, AtPool, deed_of, ok_after, values_of}
+use Rattle.qp_model.specs.Calls.{Calls, Answer, Granted, Refused, AtPool, deed_of, ok_after, values_of}
 use Rattle.qp_model.specs.Parts.{is_static, sizes_of, members}
 use Rattle.qp_model.specs.Sites.{ring_of}
 use Rattle.qp_model.specs.WordLaw.{is_object}
@@ -44,18 +43,19 @@ use Rattle.qp_calls.specs.Publishing.{AreObjects, Begins, BeginsGoing, GoesOn, G
 use Rattle.qp_calls.specs.Deferring.{ChangeAlike, is_named, kept_in}
 use Rattle.qp_calls.proofs.Announcing.{members-none}
 use Rattle.qp_calls.proofs.CountLemmas.{count-with, count-without, stand-same, stands-in}
-use Rattle.qp_calls.proofs.FirstPool.{lt_true}
 use Rattle.qp_dispatch.specs.declared.lasting.Lasting.{Lasting}
 use Rattle.qp_dispatch.specs.declared.part.Under.{Under}
 use Rattle.qp_dispatch.specs.declared.work.Work.{Work}
 use Rattle.qp_dispatch.specs.Lasts.{config_of, actor_of, entry_in, moment_of, names_at}
 use Rattle.qp_dispatch.specs.Acting.{Keeps}
 use Rattle.qp_dispatch.specs.Parts.{Goes, Asserts, IsPublishing, held_by, publishing_of}
-use Rattle.qp_dispatch.proofs.Quiet.{Quiet, ceiling-append, no_block-quiet, one-quiet, quiet-append, quiet-ceiling, quiet-drops, quiet-new, quiet-spillless, spills-append, Spillless, spillless-append}
+use Rattle.qp_dispatch.proofs.Quiet.{Quiet, ceiling-append, no_block-quiet, one-quiet, quiet-ceiling, quiet-drops, quiet-new, quiet-spillless, spills-append, Spillless, spillless-append}
 use Rattle.qp_dispatch.proofs.Rising.{mild-rise, one-mild}
 use Rattle.qp_dispatch.proofs.CallLemmas.{stand-risen, value-no, value-yes}
-use Rattle.qp_dispatch.proofs.ActLemmas.{all-left, calm-quiet, counts-join, last-asserted, last-snoc, ok-value, stand-change}
+use Rattle.qp_dispatch.proofs.ActLemmas.{calm-quiet, counts-join, last-asserted, last-snoc, ok-value, stand-change}
 use Rattle.qp_dispatch.proofs.PartLemmas.{stand-without}
+use Rattle.qp_model.proofs.LastLemmas.{quiet-append}
+use Rattle.qp_model.proofs.ListLemmas.{list_all-front, all-push}
 
 -- A publication's notes are those of any object.
 
@@ -156,7 +156,7 @@ last-spills c ms g v w h grows none =
 
 named-of : (e : Entry) (v : LaneView) → Stands e v → is_named v.sys e ≡ true
 named-of (token.Static sig) v h = h
-named-of (token.Pool k) v h = lt_true 0 k.pool h.0
+named-of (token.Pool k) v h = lt-ltb 0 k.pool h.0
 
 one-more : (es : List Entry) (e : Entry) (v w : LaneView) → w.hands ≡ with_entry (entry_of e) v.hands → ChangeAlike (map entry_of (es ++ [])) (map entry_of (es ++ e ∷ [])) v w
 unfolding times
@@ -171,10 +171,6 @@ one-less es e v w stands hands t =
     let less = count-without t (entry_of e) v.hands (stands-in e v stands) in
     let alone = count-with t (entry_of e) [] in
     rw hands (omega (arith, less, alone, counts-join t es [], counts-join t es (e ∷ [])))
-
-one-named : {X : Type 0} (p : X → Bool) (xs : List X) (x : X) → list_all p xs ≡ true → p x ≡ true → list_all p (xs ++ x ∷ []) ≡ true
-one-named p [] x h k = rw k refl
-one-named p (y ∷ ys) x h k = let parts = and_parts (p y) (list_all p ys) h in rw (parts.0, one-named p ys x parts.1 k) refl
 
 keeps-same : (k : Lasting) (n : ℕ) → Keeps k (record k { ok = pos n })
 keeps-same k n = record { leaf = refl; room = refl; few = λ few. few }
@@ -212,8 +208,8 @@ module _ (me : ℕ) (k : Lasting) (work : Work) (sig : ℕ) (pars : List Bound) 
         hands = alike;
         stand = λ others all.
             stand-change (k.list.entries.items ++ []) (k.list.entries.items ++ p.entry ∷ []) others v w alike
-            (one-named (λ e. is_named w.sys e) k.list.entries.items p.entry
-            (rw h.grows.sys (all-left (λ e. is_named v.sys e) k.list.entries.items [] (all-left (λ e. is_named v.sys e) (k.list.entries.items ++ []) others all.named))) (named-of p.entry w h.stands))
+            (all-push (λ e. is_named w.sys e) k.list.entries.items p.entry
+            (rw h.grows.sys (list_all-front (λ e. is_named v.sys e) k.list.entries.items [] (list_all-front (λ e. is_named v.sys e) (k.list.entries.items ++ []) others all.named))) (named-of p.entry w h.stands))
             h.grows.sys all;
         publishing = (rw h.left h.objects, sym h.former);
       }
@@ -351,7 +347,7 @@ goes-published me c later at k p former d raised v w some left same stands is wa
       hands = alike;
       stand = λ others all.
           stand-change (k.list.entries.items ++ p.entry ∷ []) (k.list.entries.items ++ []) others v w alike
-          (rw (append-nil k.list.entries.items, h.grows.sys) (all-left (λ e. is_named v.sys e) k.list.entries.items (p.entry ∷ []) (all-left (λ e. is_named v.sys e) (k.list.entries.items ++ p.entry ∷ []) others all.named)))
+          (rw (append-nil k.list.entries.items, h.grows.sys) (list_all-front (λ e. is_named v.sys e) k.list.entries.items (p.entry ∷ []) (list_all-front (λ e. is_named v.sys e) (k.list.entries.items ++ p.entry ∷ []) others all.named)))
           h.grows.sys all;
       publishing = tt;
     }

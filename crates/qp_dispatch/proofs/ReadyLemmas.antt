@@ -22,19 +22,11 @@ use Rattle.qp_calls.specs.declared.tokens.Entry.{Entry}
 use Rattle.qp_calls.proofs.FirstPool.{at_place}
 use Rattle.qp_dispatch.specs.SoundFor.{IsHome, MayAct, MayTask}
 use Rattle.qp_dispatch.specs.Resume.{IsReady}
-
-all-append : {X : Type 0} (P : X → Type 0) (xs ys : List X) → AllByRecursion P xs → AllByRecursion P ys → AllByRecursion P (xs ++ ys)
-all-append P [] ys h k = k
-all-append P (x ∷ xs) ys h k = (h.0, all-append P xs ys h.1 k)
-
-some-same : {X : Type 0} {x y : X} → Some x ≡ Some y → x ≡ y
-some-same e = cc
+use Rattle.qp_model.proofs.AbleLemmas.{some-same, handler_is}
+use Rattle.qp_model.proofs.NumberLemmas.{every-append}
 
 not-some : {A : Type 0} → IsSome {T = ℕ} None → A
 not-some e = absurd (cc)
-
-handler_is : ℕ → ℕ × Row → Handler
-handler_is s found = record { state = s; place = found.0; row = found.1 }
 
 module _ (sys : System) (me : ℕ) (chart : Chart) (home : IsHome sys me chart) (sound : IsSoundChart sys chart) where
   module _ (hand : Option Entry) where
@@ -42,7 +34,7 @@ module _ (sys : System) (me : ℕ) (chart : Chart) (home : IsHome sys me chart) 
     May ts = AllByRecursion (MayTask sys me hand) ts
 
     may-append : (xs ys : List Task) → May xs → May ys → May (xs ++ ys)
-    may-append xs ys h k = all-append (MayTask sys me hand) xs ys h k
+    may-append xs ys h k = every-append (MayTask sys me hand) xs ys h k
 
     module _ (inside : Option ℕ) (at_hand : IsSome inside → IsSome hand) where
       plain-may : (p : Plain) → IsSoundPlain sys chart inside p → MayAct sys me hand p

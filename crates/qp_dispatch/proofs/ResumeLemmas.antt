@@ -51,13 +51,14 @@ use Rattle.qp_dispatch.specs.Parts.{held_by, left_by}
 use Rattle.qp_dispatch.specs.SoundFor.{MayTask}
 use Rattle.qp_dispatch.specs.Runs.{CanEnd, MayRun, RunAsserts, RunCut, Runs, Setting, hand_of, tasks_in}
 use Rattle.qp_dispatch.specs.Resume.{BeginsOn, EndsAsserted, Halts, HaltsFull, IsGoing, IsLaneOf, ReleasesEntry, Resumes, ToEnd, ToPoint, entry_here, event_at, event_in, held_in, left_of, step_entry}
-use Rattle.qp_dispatch.proofs.ActLemmas.{all-left, calm-quiet, counts-join, last-snoc, stand-change}
+use Rattle.qp_dispatch.proofs.ActLemmas.{calm-quiet, counts-join, last-snoc, stand-change}
 use Rattle.qp_dispatch.proofs.Quiet.{quiet-drops}
 use Rattle.qp_model.proofs.GroupLemmas.{bare-append}
 use Rattle.qp_dispatch.proofs.FailLemmas.{front-none}
 use Rattle.qp_dispatch.proofs.PartLemmas.{stand-in}
 use Rattle.qp_dispatch.proofs.PublishLemmas.{one-less}
 use Rattle.qp_dispatch.proofs.RunLemmas.{able-behind, all-behind, stand-hand, stand-left}
+use Rattle.qp_model.proofs.ListLemmas.{list_all-front}
 
 -- A lane without room spills.
 
@@ -309,7 +310,7 @@ module _ (home : Setting) (ceiling later : ℕ) (k m : Lasting) (g : Going) (v w
             (stand-left (m.list.entries.items ++ []) [] z
             (stand-change (m.list.entries.items ++ hand ∷ []) (m.list.entries.items ++ []) [] w z less
             (subst (λ es. list_all (λ x. is_named z.sys x) es ≡ true) (sym (append-nil m.list.entries.items))
-            (subst (λ s. list_all (λ x. is_named s x) m.list.entries.items ≡ true) (sym rel.grows.sys) (all-left (λ x. is_named w.sys x) m.list.entries.items (hand ∷ []) plain_stood.named)))
+            (subst (λ s. list_all (λ x. is_named s x) m.list.entries.items ≡ true) (sym rel.grows.sys) (list_all-front (λ x. is_named w.sys x) m.list.entries.items (hand ∷ []) plain_stood.named)))
             rel.grows.sys (subst (λ es. StandAll es w) (sym (append-nil (m.list.entries.items ++ hand ∷ []))) plain_stood)));
       }
 

@@ -36,14 +36,15 @@ use Rattle.qp_dispatch.specs.Acting.{Keeps}
 use Rattle.qp_dispatch.specs.Parts.{Goes, Asserts, CutShort, FewerLeft, GoesFurther, IsPublishing, Parts, held_by, left_by, publishing_of, entries_under}
 use Rattle.qp_dispatch.specs.SoundFor.{MayTask}
 use Rattle.qp_dispatch.specs.Runs.{MayRun, NothingLeft, PartDoes, RunAsserts, RunCut, Runs, Setting, hand_of, weight}
-use Rattle.qp_dispatch.proofs.ActLemmas.{all-left, counts-join}
+use Rattle.qp_dispatch.proofs.ActLemmas.{counts-join}
 use Rattle.qp_dispatch.proofs.FailLemmas.{left-tells, point-behind}
 use Rattle.qp_dispatch.proofs.PartLemmas.{stand-fewer, stand-in}
+use Rattle.qp_model.proofs.ListLemmas.{list_all-front}
 
 -- What a run rests on, at each part.
 
 pub stand-left : (es fs : List Entry) (v : LaneView) → StandAll (es ++ fs) v → StandAll es v
-stand-left es fs v all = stand-fewer (es ++ fs) es v (all-left (λ e. is_named v.sys e) es fs all.named) (λ t. omega (arith, counts-join t es fs)) all
+stand-left es fs v all = stand-fewer (es ++ fs) es v (list_all-front (λ e. is_named v.sys e) es fs all.named) (λ t. omega (arith, counts-join t es fs)) all
 
 pub stand-hand : (es : List Entry) (hand : Option Entry) (v : LaneView) → StandAll (es ++ hand_of hand) v → StandsIn hand v
 stand-hand es None v all = tt

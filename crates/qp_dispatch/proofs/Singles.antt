@@ -1,11 +1,9 @@
 -- Calls of one record.
-use Rattle.std.proofs.Common.{◌≡◌, ℕ, zero, suc, ◌-◌, ◌<◌, nat_lt, Bool, true, false, ◌&&◌, [], ◌∷◌, refl, sym, ◌∙◌, ap, subst, arith, None}
-use Rattle.std.proofs.lemmas.Bool.{and_parts}
-use Rattle.std.proofs.lemmas.Bool.Decides.{nat_tests}
+use Rattle.std.proofs.Common.{◌≡◌, ℕ, zero, suc, ◌-◌, ◌<◌, nat_lt, Bool, true, false, ◌&&◌, [], ◌∷◌, refl, sym, ◌∙◌, subst, arith, None}
+use Rattle.std.proofs.lemmas.Bool.{and_parts, ltb-true}
 use Rattle.qp_model.specs.declared.record.Rec.{Rec}
-use Rattle.qp_model.specs.declared.bodies.Body.{Body}
 use Rattle.qp_model.specs.declared.bodies.Body.TheVariants.{BadTicks, Arm, Armed, Rearm, Disarm, Idle, Sub, Unsub}
-use Rattle.qp_model.specs.Record.{Item, item_of, body_of}
+use Rattle.qp_model.specs.Record.{item_of}
 use Rattle.qp_model.specs.Told.{plain, same_in}
 use Rattle.qp_model.specs.Calls as call
 use Rattle.qp_model.specs.Calls.{Granted, Refused, AtTimer, AtTicks}
@@ -19,14 +17,7 @@ use Rattle.qp_calls.specs.Notes.{MayNote, spare_after, told_note, told_as}
 use Rattle.qp_calls.specs.Clauses as clause
 use Rattle.qp_calls.specs.Groups.{Answers}
 use Rattle.qp_calls.proofs.Answering.{answers-room}
-
-body-is : (o : ℕ) (b : Body) (r : Rec) → item_of r ≡ record { of = o; body = b } → body_of r ≡ b
-unfolding item_of
-body-is o b r is = ap (λ (i : Item). i.body) is
-
-of-is : (o : ℕ) (b : Body) (r : Rec) → item_of r ≡ record { of = o; body = b } → r.of ≡ o
-unfolding item_of
-of-is o b r is = ap (λ (i : Item). i.of) is
+use Rattle.qp_model.proofs.RecordLemmas.{body-is, of-is}
 
 -- assertion 4 may be noted
 pub may-refuse : (me t ticks interval : ℕ) (r : Rec) (v : LaneView) → item_of r ≡ record { of = me; body = BadTicks t ticks interval } → ticks_fit ticks interval ≡ false → 0 < v.spare → MayNote r v
@@ -51,15 +42,12 @@ pub record TicksFit (ticks interval : ℕ) : Type 0 where
   pub ticks_few : ticks < 65536
   pub interval_few : interval < 65536
 
-below : (a b : ℕ) → nat_lt a b ≡ true → a < b
-below a b h = grind (arith, nat_tests)
-
 pub fit-parts : (ticks interval : ℕ) → ticks_fit ticks interval ≡ true → TicksFit ticks interval
 unfolding ticks_fit
 fit-parts ticks interval h =
     let last = and_parts (nat_lt 0 ticks && nat_lt ticks 65536) (nat_lt interval 65536) h in
     let first = and_parts (nat_lt 0 ticks) (nat_lt ticks 65536) last.0 in
-    record { some = below 0 ticks first.0; ticks_few = below ticks 65536 first.1; interval_few = below interval 65536 last.1 }
+    record { some = ltb-true 0 ticks first.0; ticks_few = ltb-true ticks 65536 first.1; interval_few = ltb-true interval 65536 last.1 }
 
 -- Subscriptions.
 

@@ -8,7 +8,8 @@ use Rattle.qp_model.specs.History.{lane_items, all_items}
 use Rattle.qp_model.specs.End.{took_count, takes_of, is_object}
 use Rattle.qp_ending.specs.declared.takes.Takes.{Takes}
 use Rattle.qp_ending.specs.Takes.{AreTakesOf}
-use Rattle.qp_lanes.proofs.ItemLemmas.{items-up_to, items-none, count_by-append, all_items-count}
+use Rattle.qp_lanes.proofs.ItemLemmas.{items-up_to, items-none, all_items-count}
+use Rattle.qp_model.proofs.NumberLemmas.{count-append}
 
 took_count-none : (o : ℕ) → took_count (lane_items []) o ≡ 0
 unfolding took_count
@@ -18,7 +19,7 @@ module _ (o : ℕ) (lane : List Rec) (i : ℕ) (r : Rec) (inside : i < length la
   took_count-more : took_count (lane_items (take (i + 1) lane)) o ≡ took_count (lane_items (take i lane)) o + cond (takes_of o (item_of r)) 1 0
   unfolding took_count
   took_count-more =
-      ap (λ l. took_count l o) (items-up_to lane i r inside is) ∙ count_by-append (takes_of o) (lane_items (take i lane)) (item_of r ∷ [])
+      ap (λ l. took_count l o) (items-up_to lane i r inside is) ∙ count-append (takes_of o) (lane_items (take i lane)) (item_of r ∷ [])
       ∙ ap (λ n. took_count (lane_items (take i lane)) o + n) (zero-add (cond (takes_of o (item_of r)) 1 0))
 
   -- one record more

@@ -1,5 +1,6 @@
 -- The records of calls that leave one record.
 use Rattle.std.proofs.Common.{◌≡◌, ◌↔◌, ℕ, zero, suc, ◌==◌, Bool, true, false, not, ◌&&◌, List, [], ◌∷◌, IsTrue, Some, refl, sym, subst, arith}
+use Rattle.std.proofs.lemmas.Bool.{not-true}
 use Rattle.std.proofs.lemmas.Bool.Decides.{nat_tests}
 use Rattle.std.specs.declared.option.Option.{Option}
 use Rattle.qp_model.specs.declared.systems.System.{System}
@@ -8,7 +9,7 @@ use Rattle.qp_model.specs.declared.bodies.Body.{Body}
 use Rattle.qp_model.specs.declared.bodies.Body.TheVariants as item
 use Rattle.qp_model.specs.Told.{Told, Known, Nothing, Member, plain, same_in}
 use Rattle.qp_model.specs.Calls as call
-use Rattle.qp_model.specs.Calls.{Call, Answer, Granted, Refused, Flushed, AtQueue, AtPool, AtTimer, AtTicks, AtFront}
+use Rattle.qp_model.specs.Calls.{Call, Answer, Granted, Refused, AtTimer, AtTicks}
 use Rattle.qp_model.specs.Parts.{timer_number}
 use Rattle.qp_model.specs.Shapes.{Fits, Subscribes, Unsubscribes, Arms, Rearms, Disarms, answers_ticks, ticks_fit}
 use Rattle.qp_model.specs.Deferral.{KeepsDeferred}
@@ -25,10 +26,6 @@ ArmsFit t ticks interval answer g = Arms t ticks interval answer g × IsTrue (an
 
 abbrev RearmsFit : ℕ → ℕ → Answer → List Told → Type 0
 RearmsFit t ticks answer g = Rearms t ticks answer g × IsTrue (answers_ticks (ticks_fit ticks 0) answer)
-
-refused : (fit : Bool) → not fit ≡ true → fit ≡ false
-refused true h = absurd (cc)
-refused false h = refl
 
 module _ (sys : System) (o : ℕ) (now : Option Entry) (kept : List Entry) (a : Answer) (k : List Entry) (room : ℕ) where
   -- a record that ends a call
@@ -194,7 +191,7 @@ module _ (sys : System) (o : ℕ) (now : Option Entry) (kept : List Entry) (a : 
           let fit : ticks_fit ticks interval ≡ true = h.1 in
           rw h.0.2 (at-step sys o now kept _ (Whole AtTimer) a k _ [] (rw (same_number timer, fit) refl) (ended AtTimer q r))
       into AtTicks q g h r =
-          let fit : ticks_fit ticks interval ≡ false = refused (ticks_fit ticks interval) h.1 in
+          let fit : ticks_fit ticks interval ≡ false = not-true (ticks_fit ticks interval) h.1 in
           rw h.0 (at-step sys o now kept _ (Whole AtTicks) a k _ [] (rw (same_number timer, same_number ticks, same_number interval, fit) refl) (ended AtTicks q r))
       into b q g h r = absurd h.0
 
@@ -248,7 +245,7 @@ module _ (sys : System) (o : ℕ) (now : Option Entry) (kept : List Entry) (a : 
           let fit : ticks_fit ticks 0 ≡ true = h.1 in
           rw h.0.1 (at-step sys o now kept _ (Whole Refused) a k _ [] (rw (same_number timer, same_number ticks, fit) refl) (ended Refused q r))
       into AtTicks q g h r =
-          let fit : ticks_fit ticks 0 ≡ false = refused (ticks_fit ticks 0) h.1 in
+          let fit : ticks_fit ticks 0 ≡ false = not-true (ticks_fit ticks 0) h.1 in
           rw h.0 (at-step sys o now kept _ (Whole AtTicks) a k _ [] (rw (same_number timer, same_number ticks, fit) refl) (ended AtTicks q r))
       into b q g h r = absurd h.0
 

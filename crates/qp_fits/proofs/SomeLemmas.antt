@@ -8,13 +8,13 @@ use Rattle.qp_model.specs.declared.bodies.Body.TheVariants as item
 use Rattle.qp_model.specs.Record.{entry}
 use Rattle.qp_model.specs.Told.{Told, Known, plain, dropped, raised}
 use Rattle.qp_model.specs.Calls as call
-use Rattle.qp_model.specs.Calls.{Call, Answer, Granted, Refused, Flushed, AtQueue, AtPool, AtTimer, AtTicks, AtFront}
+use Rattle.qp_model.specs.Calls.{Call, Answer, Granted, Refused, Flushed, AtQueue, AtPool, AtTicks, AtFront}
 use Rattle.qp_model.specs.Parts.{is_static, sizes_of, first_pool, members, timer_number}
 use Rattle.qp_model.specs.Shapes.{Fits, NoBlockFor, MakesNew, MakesAgainNow, Posts, PostsFront, Subscribes, Unsubscribes, Arms, Rearms, Disarms, ticks_fit}
 use Rattle.qp_model.specs.Shapes as shapes
 use Rattle.qp_model.specs.Deferral.{KeepsDeferred}
 use Rattle.qp_model.specs.Able.{has_pool}
-use Rattle.qp_model.proofs.Completes.{release, release_drops, again_any}
+use Rattle.qp_model.proofs.Completes.{release, release_drops, again_any, pool_number}
 use Rattle.qp_fits.specs.CallState.{Behind, Ends, FlushesOn, PublishesOn, Goal, ToQueue, ToFront, ToDeferred, ToSet, CallStage, Begins, Refers, Puts, Raises, Restores, Drops, Returns, Flushes, Whole}
 use Rattle.qp_fits.specs.CallStateNext.{stage_next, begin_next, defer_next, new_next, now_next, released, again, restored, publishes_on, flushes_on, goes_on, call_state_begin}
 use Rattle.qp_fits.specs.Reads.{Reads, stage_open, IsOpen, call_able}
@@ -33,11 +33,6 @@ use Rattle.qp_model.proofs.RecordLemmas.{same_entry-refl}
 drops_any : (e : Entry) → shapes.Drops e (release e.pool e)
 unfolding shapes.Drops
 drops_any e = release_drops e.pool e
-
--- a pool that is there has a number
-pool_number : (q : Option ℕ) → is_some q ≡ true → (p : ℕ) × (q ≡ Some p)
-pool_number None h = absurd (cc)
-pool_number (Some p) h = (p, refl)
 
 module _ (sys : System) (o : ℕ) (now : Option Entry) where
   abbrev Some_at : List Entry → CallStage → Type 0

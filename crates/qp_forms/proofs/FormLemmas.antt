@@ -25,7 +25,7 @@ use Rattle.qp_model.specs.Output.{has_form, has_no_rest, is_end_status, is_lane_
 use Rattle.qp_model.specs.Parts.{sizes_of}
 use Rattle.qp_model.specs.Sound.{IsSound, IsSoundPool}
 use Rattle.qp_model.proofs.HomeLemmas.{home_records-kernel}
-use Rattle.qp_model.proofs.TakenLemmas.{drop-head}
+use Rattle.qp_model.proofs.TakenLemmas.{drop-head, list_all-at}
 use Rattle.qp_forms.specs.Laws.{CanBeWritten, QvHasForm, SimHasForms}
 use Rattle.qp_forms.proofs.CountLemmas.{form_for, is_said_by, is_kept, is_kept_by, kept-more, lane-kept, or-both, said-more}
 use Rattle.qp_forms.proofs.CallLemmas.{AllSaid}
@@ -84,10 +84,6 @@ sources-kept rests sys small j (l ∷ ls) n (ss ∷ more) at h len =
     let shorter : length ls ≡ length more = omega (arith, len) in
     and_from _ _ (subst (λ x. list_all (is_kept_by rests) (lane_items x) ≡ true) here (kept-more rests (lane_items (lane_at j n)) kept)) (sources-kept rests sys small j ls (n + 1) more behind.1 h.1 shorter)
 
-all-at : {A : Type 0} (p : A → Bool) (xs : List A) (y : A) (ys : List A) → list_all p (xs ++ y ∷ ys) ≡ true → p y ≡ true
-all-at p [] y ys h = (and_parts _ _ h).0
-all-at p (x ∷ xs) y ys h = all-at p xs y ys (and_parts _ _ h).1
-
 -- an object of at most 32, all of whose records in a lane say so
 abbrev IsKept : List Item → ℕ → Type 0
 IsKept lane o = (o ≤ 32) × (list_all (says o) lane ≡ true)
@@ -100,7 +96,7 @@ owned-kept rests lane front (i ∷ is) at all = and_from _ _ (by all.0) (owned-k
     by (inl (low, records)) =
         let within : nat_le i.of 32 ≡ true = grind (arith, nat_tests, low) in
         let itself : (i.of == i.of) ≡ true = grind (arith, nat_tests) in
-        let mine : says i.of i ≡ true = all-at (says i.of) front i is (rw at records) in
+        let mine : says i.of i ≡ true = list_all-at (says i.of) front i is (rw at records) in
         and_from _ _ within (said-more rests i.body (rw itself at mine))
     by (inr (none, said)) =
         let within : nat_le i.of 32 ≡ true = grind (arith, nat_tests, none) in

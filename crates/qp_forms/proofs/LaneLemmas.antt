@@ -1,12 +1,10 @@
 -- Each record of a kernel's lane is of an object, or is one that says so.
-use Rattle.std.proofs.Common.{◌≡◌, ℕ, ◌+◌, ◌==◌, nat_lt, Bool, true, false, not, ◌&&◌, cond, List, [], ◌∷◌, ◌++◌, map, reverse, refl, sym, ◌∙◌, subst, Some, None, inl, inr, arith, ◌⊎◌}
+use Rattle.std.proofs.Common.{◌≡◌, ℕ, ◌+◌, ◌==◌, nat_lt, Bool, true, false, not, ◌&&◌, cond, List, [], ◌∷◌, ◌++◌, map, refl, sym, ◌∙◌, subst, Some, None, inl, inr, ◌⊎◌}
 use Rattle.std.specs.Prelude.{⊤}
 use Rattle.std.specs.declared.option.Option.{Option}
 use Rattle.std.specs.Option.{option_and_then}
 use Rattle.std.specs.List.{AllByRecursion, filter}
-use Rattle.std.proofs.lemmas.Bool.{and_parts}
-use Rattle.std.proofs.lemmas.Bool.Decides.{nat_tests}
-use Rattle.std.proofs.lemmas.List.{reverse-append}
+use Rattle.std.proofs.lemmas.Bool.{and_parts, eqb-true}
 use Rattle.qp_model.specs.declared.systems.ObjectDef.{ObjectDef}
 use Rattle.qp_model.specs.declared.bodies.Body.{Body}
 use Rattle.qp_model.specs.declared.bodies.Body.TheVariants as body
@@ -14,6 +12,7 @@ use Rattle.qp_model.specs.Record.{Item}
 use Rattle.qp_model.specs.KernelLane.{Role, Looks, Sees, Takes, Ends, Rests, Holds, Drops, RunsOut, Spills, Acts, role_of, Setting, above, Upcoming, Inside, Looking, Chosen, Ended, Resting, Again, Over, Halted, Reading, base_ended, found_none, looking_at, look_next, seen_next, own_next, inside_next, found_next, ended_next, rest_next, place_next, start_next, started_next, role_next, lane_next, lane_on, unread, lane_read}
 use Rattle.qp_model.specs.Kernels.{qk, qv}
 use Rattle.qp_forms.proofs.CountLemmas.{is_said_by}
+use Rattle.qp_model.proofs.KernelLaneLemmas.{granted, AllByRecursion-reverse}
 
 -- a record by its part, where that tells what it says
 abbrev is_known : Bool → Role → Bool
@@ -35,23 +34,6 @@ known-said rests body.Spent h = refl
 known-said rests (body.Spill x) h = refl
 known-said rests (body.Rest k) h = h
 known-said rests _ h = absurd (cc)
-
-granted : {A : Type 0} (b : Bool) (x y : A) → cond b (Some x) None ≡ Some y → (b ≡ true) × (x ≡ y)
-granted true x y h = (refl, cc)
-granted false x y h = absurd (cc)
-
-same : (m n : ℕ) → (m == n) ≡ true → m ≡ n
-same m n h = grind (arith, nat_tests)
-
-all-append : {A : Type 0} (P : A → Type 0) (xs ys : List A) → AllByRecursion P xs → AllByRecursion P ys → AllByRecursion P (xs ++ ys)
-all-append P [] ys h k = k
-all-append P (x ∷ xs) ys h k = (h.0, all-append P xs ys h.1 k)
-
-all-reverse : {A : Type 0} (P : A → Type 0) (xs : List A) → AllByRecursion P xs → AllByRecursion P (reverse xs)
-all-reverse P [] h = tt
-all-reverse P (x ∷ xs) h =
-    let e : reverse (x ∷ xs) ≡ reverse xs ++ x ∷ [] = reverse-append (x ∷ []) xs in
-    rw e (all-append P (reverse xs) (x ∷ []) (all-reverse P xs h.1) (h.0, tt))
 
 all-higher : (Q : ℕ → Type 0) (floor : ℕ) (ds : List ObjectDef) → AllByRecursion Q (map (λ d. d.priority) ds)
     → AllByRecursion Q (map (λ d. d.priority) (filter (λ d. nat_lt floor d.priority) ds))
@@ -84,7 +66,7 @@ module _ (s : Setting) (rests : Bool) (other : rests ≡ false → (s.kernel == 
 
   all-above : (floor : ℕ) → AllByRecursion Q (above s.sys floor)
   unfolding above
-  all-above floor = all-reverse Q _ (all-higher Q floor s.sys.objects objects)
+  all-above floor = AllByRecursion-reverse Q _ (all-higher Q floor s.sys.objects objects)
 
   base-its : (k : Reading) → Its k → Its (base_ended s k)
   base-its k its = by (not (s.kernel == qk) && s.has_stimulus k.looks)
@@ -115,7 +97,7 @@ module _ (s : Setting) (rests : Bool) (other : rests ≡ false → (s.kernel == 
       let ok = granted _ _ next e in
       let zero = and_parts (o == 0) _ (and_parts ((o == 0) && (n == k.looks + 1)) _ ok.0).0 in
       let its_look : Its (record k { looks = n }) = record { unstarted = its.unstarted; running = its.running; place = its.place } in
-      (inr (same o 0 zero.0, refl), subst Its ok.1 (looked-its (record k { looks = n }) (above s.sys floor) its_look (all-above floor)))
+      (inr (eqb-true o 0 zero.0, refl), subst Its ok.1 (looked-its (record k { looks = n }) (above s.sys floor) its_look (all-above floor)))
   look k next o (Sees p f l m) its e = absurd (cc)
   look k next o Takes its e = absurd (cc)
   look k next o Ends its e = absurd (cc)
@@ -129,7 +111,7 @@ module _ (s : Setting) (rests : Bool) (other : rests ≡ false → (s.kernel == 
   seen : (k next : Reading) (p : ℕ) (others : List ℕ) (o : ℕ) (r : Role) → Its k → Q p → AllByRecursion Q others → seen_next s k p others o r ≡ Some next → Fine o r × Its next
   seen k next p others o (Sees q f l m) its one all e =
       let ok = granted _ _ next e in
-      (inr (same o 0 (and_parts (o == 0) _ ok.0).0, refl), subst Its ok.1 (by (nat_lt m (f + l))))
+      (inr (eqb-true o 0 (and_parts (o == 0) _ ok.0).0, refl), subst Its ok.1 (by (nat_lt m (f + l))))
     where
       by : (b : Bool) → Its (cond b (record k { place = Chosen p }) (looking_at s k others))
       by true = record { unstarted = its.unstarted; running = its.running; place = one }
@@ -166,16 +148,16 @@ module _ (s : Setting) (rests : Bool) (other : rests ≡ false → (s.kernel == 
   inside k next (p ∷ outer) o r its all e = by (o == p) refl e
     where
       by : (b : Bool) → (o == p) ≡ b → cond b (own_next k p outer r) (look_next s k o r) ≡ Some next → Fine o r × Its next
-      by true is e = (inl (subst Q (sym (same o p is)) all.0), own k next p outer r its all.0 all.1 e)
+      by true is e = (inl (subst Q (sym (eqb-true o p is)) all.0), own k next p outer r its all.0 all.1 e)
       by false is e = look k next o r its e
 
   found : (k next : Reading) (p o : ℕ) (r : Role) → Its k → Q p → found_next k p o r ≡ Some next → Fine o r × Its next
   found k next p o Takes its one e =
       let ok = granted _ _ next e in
-      (inl (subst Q (sym (same o p ok.0)) one), subst Its ok.1 (record { unstarted = its.unstarted; running = (one, its.running); place = tt }))
+      (inl (subst Q (sym (eqb-true o p ok.0)) one), subst Its ok.1 (record { unstarted = its.unstarted; running = (one, its.running); place = tt }))
   found k next p o RunsOut its one e =
       let ok = granted _ _ next e in
-      (inl (subst Q (sym (same o p ok.0)) one), subst Its ok.1 (record { unstarted = its.unstarted; running = its.running; place = tt }))
+      (inl (subst Q (sym (eqb-true o p ok.0)) one), subst Its ok.1 (record { unstarted = its.unstarted; running = its.running; place = tt }))
   found k next p o (Looks n floor) its one e = absurd (cc)
   found k next p o (Sees q f l m) its one e = absurd (cc)
   found k next p o Ends its one e = absurd (cc)
@@ -187,7 +169,7 @@ module _ (s : Setting) (rests : Bool) (other : rests ≡ false → (s.kernel == 
 
   ended : (k next : Reading) (p o : ℕ) (r : Role) → Its k → Q p → ended_next s k p o r ≡ Some next → Fine o r × Its next
   unfolding ended_next
-  ended k next p o Drops its one e = let ok = granted _ _ next e in (inl (subst Q (sym (same o p ok.0)) one), subst Its ok.1 its)
+  ended k next p o Drops its one e = let ok = granted _ _ next e in (inl (subst Q (sym (eqb-true o p ok.0)) one), subst Its ok.1 its)
   ended k next p o (Looks n floor) its one e = look k next o (Looks n floor) its e
   ended k next p o (Sees q f l m) its one e = look k next o (Sees q f l m) its e
   ended k next p o Takes its one e = look k next o Takes its e
@@ -199,7 +181,7 @@ module _ (s : Setting) (rests : Bool) (other : rests ≡ false → (s.kernel == 
   ended k next p o Acts its one e = look k next o Acts its e
 
   rested : (k next : Reading) (o : ℕ) (r : Role) → Its k → rests ≡ true → rest_next s k o r ≡ Some next → Fine o r × Its next
-  rested k next o (Rests n) its may e = let ok = granted _ _ next e in (inr (same o 0 (and_parts (o == 0) _ ok.0).0, may), subst Its ok.1 (base-its k its))
+  rested k next o (Rests n) its may e = let ok = granted _ _ next e in (inr (eqb-true o 0 (and_parts (o == 0) _ ok.0).0, may), subst Its ok.1 (base-its k its))
   rested k next o (Looks n floor) its may e = absurd (cc)
   rested k next o (Sees q f l m) its may e = absurd (cc)
   rested k next o Takes its may e = absurd (cc)
@@ -247,14 +229,14 @@ module _ (s : Setting) (rests : Bool) (other : rests ≡ false → (s.kernel == 
   started k next o r (p ∷ others) its all e = by (o == p) refl e
     where
       by : (b : Bool) → (o == p) ≡ b → cond b (start_next k others r) None ≡ Some next → Fine o r × Its next
-      by true is e = (inl (subst Q (sym (same o p is)) all.0), starts k next others r its all.1 e)
+      by true is e = (inl (subst Q (sym (eqb-true o p is)) all.0), starts k next others r its all.1 e)
       by false is e = absurd (cc)
 
   by_role : (k next : Reading) (o : ℕ) (r : Role) → Its k → role_next s k o r ≡ Some next → Fine o r × Its next
   unfolding role_next
   by_role k next o Spills its e =
       let ok = granted _ _ next e in
-      (inr (same o 0 ok.0, refl), subst Its ok.1 (record { unstarted = tt; running = its.running; place = tt }))
+      (inr (eqb-true o 0 ok.0, refl), subst Its ok.1 (record { unstarted = tt; running = its.running; place = tt }))
   by_role k next o (Looks n floor) its e = started k next o (Looks n floor) k.unstarted its its.unstarted e
   by_role k next o (Sees q f l m) its e = started k next o (Sees q f l m) k.unstarted its its.unstarted e
   by_role k next o Takes its e = started k next o Takes k.unstarted its its.unstarted e

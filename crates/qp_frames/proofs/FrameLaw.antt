@@ -3,7 +3,7 @@ use Rattle.std.proofs.Common.{◌≡◌, ◌∙◌, ℕ, suc, ◌-◌, ◌≤◌
 use Rattle.std.specs.Prelude.{◌==◌, ◌||◌, not, nat_lt, slice_index}
 use Rattle.std.specs.List.{flat_map}
 use Rattle.std.proofs.Math.Seq.{get_or-append_seam, take-append_seam, take-suc}
-use Rattle.std.proofs.lemmas.Bool.{eq-eqb, eqb-true, and_parts, or_parts}
+use Rattle.std.proofs.lemmas.Bool.{eq-eqb, eqb-true, and_parts, or_parts, not-false}
 use Rattle.std.proofs.lemmas.Bool.Decides.{nat_tests}
 use Rattle.std.proofs.lemmas.List.{take_all}
 use Rattle.std.proofs.lemmas.List.Folds.{list_all-append}
@@ -34,10 +34,6 @@ front-and_last bytes some =
 pub no_error : {A E : Type 0} (wrong : Bool) (e : E) (x : Result A E) (y : A) → cond wrong (Err e) x ≡ Ok y → (wrong ≡ false) × (x ≡ Ok y)
 no_error true e x y is = absurd cc
 no_error false e x y is = (refl, is)
-
-not_false : (b : Bool) → not b ≡ false → b ≡ true
-not_false true h = cc
-not_false false h = cc
 
 -- the item of numbers that were read
 with_numbers-is : (start form id : ℕ) (read : Result (List ℕ) ℕ) (i : JournalItem) → with_numbers start form id read ≡ Ok i
@@ -71,7 +67,7 @@ summed-is start form wanted sequence id numbers i whole all is =
     let nums = with_numbers-is start form id (numbers_from form 0 0 numbers) i numbered.1 in
     let bytes = numbers-are form numbers nums.0 whole all nums.1 in
     let ids = or_parts (id == 0) (nat_lt (last_id form) id) numbered.0 in
-    summed-item form wanted sequence id numbers nums.0 i (eqb-true sequence wanted (not_false (sequence == wanted) known.0)) ids.0 ids.1 nums.2 nums.3 bytes.0 bytes.1
+    summed-item form wanted sequence id numbers nums.0 i (eqb-true sequence wanted (not-false (sequence == wanted) known.0)) ids.0 ids.1 nums.2 nums.3 bytes.0 bytes.1
 
 -- the item of a frame by the bytes before its checksum
 body-is : (start form wanted found : ℕ) (body : List ℕ) (i : JournalItem) → are_bytes body ≡ true → item_of_body start form wanted body found ≡ Ok i
@@ -82,8 +78,8 @@ body-is start form wanted found (sequence ∷ id ∷ numbers) i all is =
     let whole = no_error (not (is_whole form numbers)) (At start 4 0 0) _ i is in
     let sum = no_error (not (found == checksum (sequence ∷ id ∷ numbers))) (At start 2 (checksum (sequence ∷ id ∷ numbers)) found) _ i whole.1 in
     let bytes = (and_parts (nat_lt id 256) (are_bytes numbers) (and_parts (nat_lt sequence 256) (are_bytes (id ∷ numbers)) all).1).1 in
-    let shown = summed-is start form wanted sequence id numbers i (not_false (is_whole form numbers) whole.0) bytes sum.1 in
-    (shown.0, eqb-true found (checksum (sequence ∷ id ∷ numbers)) (not_false (found == checksum (sequence ∷ id ∷ numbers)) sum.0), shown.1)
+    let shown = summed-is start form wanted sequence id numbers i (not-false (is_whole form numbers) whole.0) bytes sum.1 in
+    (shown.0, eqb-true found (checksum (sequence ∷ id ∷ numbers)) (not-false (found == checksum (sequence ∷ id ∷ numbers)) sum.0), shown.1)
 
 -- a frame's bytes with its checksum
 abbrev pub summed_bytes : ℕ → ℕ → JournalItem → List ℕ

@@ -19,8 +19,8 @@ use Rattle.qp_model.specs.Acts.{Actor, Config, names_of}
 use Rattle.qp_model.specs.Able.{task_able, chart_able}
 use Rattle.qp_model.specs.Step.{whole_step}
 use Rattle.qp_model.proofs.AbleLemmas.{step-able}
-use Rattle.qp_orders.proofs.StimLemmas.{all-append}
 use Rattle.qp_kernel.specs.Stages.{is_done, closes}
+use Rattle.qp_model.proofs.FitsLemmas.{all-append}
 
 -- none of them is `done`
 abbrev pub NoneDone : List Task → Type 0

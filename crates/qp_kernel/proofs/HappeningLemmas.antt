@@ -23,19 +23,11 @@ use Rattle.qp_orders.specs.Stimulus.{source_items}
 use Rattle.qp_orders.specs.SourceRun.{untold}
 use Rattle.qp_orders.proofs.OrderLaws.{stimuli_are_their_own}
 use Rattle.qp_kernel.specs.Happenings.{run_order, rises, told_by, lanes_from, begun_by, placed_of}
+use Rattle.qp_model.proofs.NumberLemmas.{count-append}
 
 -- what a test counts
 abbrev pub one : Bool → ℕ
 one b = cond b 1 0
-
--- counting over two lists
-pub count-append : {A : Type 0} (p : A → Bool) (xs ys : List A) → count_by p (xs ++ ys) ≡ count_by p xs + count_by p ys
-count-append p [] ys = let none : count_by p [] ≡ 0 = refl in omega (arith, none)
-count-append p (x ∷ xs) ys =
-    let whole = sum_by-cons (λ a. cond (p a) 1 0) x (xs ++ ys) in
-    let part = sum_by-cons (λ a. cond (p a) 1 0) x xs in
-    let later = count-append p xs ys in
-    omega (arith, whole, part, later)
 
 pub count-cons : {A : Type 0} (p : A → Bool) (x : A) (xs : List A) → count_by p (x ∷ xs) ≡ cond (p x) 1 0 + count_by p xs
 count-cons p x xs = sum_by-cons (λ a. cond (p a) 1 0) x xs

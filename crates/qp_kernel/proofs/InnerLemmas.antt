@@ -11,7 +11,7 @@ use Rattle.qp_model.specs.declared.bodies.Body.{Body}
 use Rattle.qp_model.specs.declared.bodies.Body.TheVariants as item
 use Rattle.qp_model.specs.Told.{Told, plain, raised}
 use Rattle.qp_model.specs.Calls as call
-use Rattle.qp_model.specs.Calls.{Call, Answer, Granted, AtQueue, Deed, Sets, Says, Calls, deed_of, ok_after, is_assertion}
+use Rattle.qp_model.specs.Calls.{Call, Answer, Deed, Sets, Says, Calls, deed_of, ok_after, is_assertion}
 use Rattle.qp_model.specs.Pieces.{Piece, Tell, Point, tell, piece_of, with_points, pieces_of}
 use Rattle.qp_model.specs.Acts.{Config, Actor, Moment, Later, DoesCall, DoesDeed, DoesTask, Does, names_of}
 use Rattle.qp_model.specs.KernelLane.{role_of}
@@ -20,6 +20,7 @@ use Rattle.qp_model.specs.OneOrder.{stim_of}
 use Rattle.qp_model.proofs.FitsLemmas.{is_calm, is_deferral, Usual, Ending, Answers, fits-usual, assertion_of}
 use Rattle.qp_model.proofs.KernelRowLemmas.{IsOwnRole}
 use Rattle.qp_kernel.specs.Stages.{is_done, closes}
+use Rattle.qp_model.proofs.PublicationLemmas.{tell-append, with_points-append}
 
 -- a record of the inside of a step
 pub record IsInner (b : Body) : Type 0 where
@@ -96,15 +97,6 @@ assert-piece t (item.Armed x n c) answer h = (refl, refl)
 assert-piece t (item.BadTicks x n i) answer h = (refl, refl)
 assert-piece t (item.NoLifo a f l m) answer h = (refl, refl)
 assert-piece t _ answer h = absurd (cc)
-
-with_points-append : (g h : List Told) → with_points (g ++ h) ≡ with_points g ++ with_points h
-unfolding with_points
-with_points-append [] h = refl
-with_points-append (t ∷ ts) h = ap (λ x. piece_of t t.body ++ x) (with_points-append ts h) ∙ sym (append_assoc (piece_of t t.body) (with_points ts) (with_points h))
-
-tell-append : (g h : List Told) → tell (g ++ h) ≡ tell g ++ tell h
-tell-append [] h = refl
-tell-append (t ∷ ts) h = ap (λ x. Tell t ∷ x) (tell-append ts h)
 
 -- the pieces of a call that ends in its assertion
 asserted-last : (x : Call) (front : List Told) (t : Told) (answer : Answer) → assertion_of t.body ≡ Some answer → pieces_of x (front ++ t ∷ []) ≡ pieces_of x front ++ Tell t ∷ []

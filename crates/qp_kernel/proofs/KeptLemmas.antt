@@ -12,9 +12,7 @@ use Rattle.qp_model.specs.Acts.{Config, Actor}
 use Rattle.qp_model.specs.Deferral.{keep, kept_after}
 use Rattle.qp_model.specs.Course.{Course}
 use Rattle.qp_model.proofs.DeferralLemmas.{Kept, course-keeps}
-
-some-is : {A : Type 0} {x y : A} → Some x ≡ Some y → x ≡ y
-some-is e = cc
+use Rattle.qp_model.proofs.AbleLemmas.{some-same}
 
 dropped : (old : List Entry) → length (drop 1 old) ≤ length old
 dropped [] = omega arith
@@ -28,34 +26,34 @@ keep-within room old new (item.Defer e) is few = by (nat_lt (length old) room) r
     by true t is =
         let less : length old < room = grind (arith, nat_tests, t) in
         let long = length-append old (e ∷ []) in
-        let same : length (old ++ e ∷ []) ≡ length new = ap length (some-is is) in
+        let same : length (old ++ e ∷ []) ≡ length new = ap length (some-same is) in
         omega (arith, less, long, same)
     by false t is = absurd (cc)
 keep-within room old new item.NoDefer is few = by (nat_lt (length old) room) is
   where
     by : (v : Bool) → cond v None (Some old) ≡ Some new → length new ≤ room
     by true is = absurd (cc)
-    by false is = let same : length old ≡ length new = ap length (some-is is) in omega (arith, same, few)
+    by false is = let same : length old ≡ length new = ap length (some-same is) in omega (arith, same, few)
 keep-within room old new (item.Recall e) is few = by _ is
   where
     by : (v : Bool) → cond v (Some (drop 1 old)) None ≡ Some new → length new ≤ room
-    by true is = let same : length (drop 1 old) ≡ length new = ap length (some-is is) in let less = dropped old in omega (arith, same, few, less)
+    by true is = let same : length (drop 1 old) ≡ length new = ap length (some-same is) in let less = dropped old in omega (arith, same, few, less)
     by false is = absurd (cc)
 keep-within room old new (item.Flush e) is few = by _ is
   where
     by : (v : Bool) → cond v (Some (drop 1 old)) None ≡ Some new → length new ≤ room
-    by true is = let same : length (drop 1 old) ≡ length new = ap length (some-is is) in let less = dropped old in omega (arith, same, few, less)
+    by true is = let same : length (drop 1 old) ≡ length new = ap length (some-same is) in let less = dropped old in omega (arith, same, few, less)
     by false is = absurd (cc)
 keep-within room old new item.NoRecall is few = by (length old == 0) is
   where
     by : (v : Bool) → cond v (Some old) None ≡ Some new → length new ≤ room
-    by true is = let same : length old ≡ length new = ap length (some-is is) in omega (arith, same, few)
+    by true is = let same : length old ≡ length new = ap length (some-same is) in omega (arith, same, few)
     by false is = absurd (cc)
-keep-within room old new _ is few = let same : length old ≡ length new = ap length (some-is is) in omega (arith, same, few)
+keep-within room old new _ is few = let same : length old ≡ length new = ap length (some-same is) in omega (arith, same, few)
 
 pub kept-within : (room : ℕ) (old new : List Entry) (g : List Told) → kept_after room old g ≡ Some new → length old ≤ room → length new ≤ room
 unfolding kept_after
-kept-within room old new [] is few = let same : length old ≡ length new = ap length (some-is is) in omega (arith, same, few)
+kept-within room old new [] is few = let same : length old ≡ length new = ap length (some-same is) in omega (arith, same, few)
 kept-within room old new (t ∷ g) is few = by (keep room old t.body) refl is (λ mid k e. kept-within room mid new g e (keep-within room old mid t.body k few))
   where
     by : (o : Option (List Entry)) → keep room old t.body ≡ o → option_and_then (λ rest. kept_after room rest g) o ≡ Some new

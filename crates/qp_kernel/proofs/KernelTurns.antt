@@ -21,7 +21,7 @@ use Rattle.qp_model.specs.Acts.{Config}
 use Rattle.qp_model.proofs.StepLemmas.{goes_on-completes}
 use Rattle.qp_model.proofs.KernelRowLemmas.{IsWithin}
 use Rattle.qp_kernel.specs.Stages as stage
-use Rattle.qp_kernel.specs.Stages.{Stage, IsReady, ComesTo, closes, may_wait}
+use Rattle.qp_kernel.specs.Stages.{Stage, IsReady, closes, may_wait}
 use Rattle.qp_kernel.specs.LaneZero.{told_pieces, Agree, setting, owed_point, LaneZero}
 use Rattle.qp_kernel.specs.ZeroEnds.{ZeroEnds}
 use Rattle.qp_kernel.specs.Turning.{AreNumbered, AreAble, IsObject, IsWithinStep, moved, having}
@@ -30,16 +30,14 @@ use Rattle.qp_kernel.proofs.ToldPieces.{ceiling_through}
 use Rattle.qp_kernel.proofs.ZeroLemmas.{zero-point, zero-done, zero-started}
 use Rattle.qp_kernel.proofs.ZeroEndLemmas.{zero-failed, zero-failed_start, zero-spilled, zero-spilled_done, zero-spilled_start}
 use Rattle.qp_kernel.proofs.TurnLemmas.{inner-own, inner-calm, point-inner, CutForm, WithinIt, BehindIt, cut-form, done-form, failed-form, start-form, start-failed, start-cut}
-
-some-is : {A : Type 0} {x y : A} → Some x ≡ Some y → x ≡ y
-some-is e = cc
+use Rattle.qp_model.proofs.AbleLemmas.{some-same}
 
 -- there is no other
 pub only : (sys : System) (p : ℕ) (d f : ObjectDef) (chart other : Chart) (P : ObjectDef → Chart → Type 0) → IsObject sys p d chart
     → f.priority ≡ p → object_at sys f.priority ≡ Some f → chart_at sys f.chart ≡ Some other → P d chart → P f other
 only sys p d f chart other P is same at its h =
-    let one : d ≡ f = some-is (sym is.found ∙ ap (object_at sys) (is.priority ∙ sym same) ∙ at) in
-    let two : chart ≡ other = some-is (sym is.its ∙ ap (λ x. chart_at sys x.chart) one ∙ its) in
+    let one : d ≡ f = some-same (sym is.found ∙ ap (object_at sys) (is.priority ∙ sym same) ∙ at) in
+    let two : chart ≡ other = some-same (sym is.its ∙ ap (λ x. chart_at sys x.chart) one ∙ its) in
     subst (λ x. P f x) two (subst (λ x. P x chart) one h)
 
 module _ (sys : System) (kernel budget : ℕ) (told : List ToldItem) (now : ℕ → Bool) (upto : ℕ) (k : Reading) (stages : ℕ → Stage) (entries : ℕ → List Entry)

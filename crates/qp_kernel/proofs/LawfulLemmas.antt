@@ -4,7 +4,7 @@ use Rattle.std.specs.Prelude.{⊤, ◌⊎◌, slice_get}
 use Rattle.std.specs.Bool.{MatchBool}
 use Rattle.std.specs.Option.{unwrap_or, is_some}
 use Rattle.std.specs.List.{list_any, list_all, count_by, filter_map, find, AllByRecursion}
-use Rattle.std.proofs.lemmas.Bool.{and_from, and_parts, or_parts}
+use Rattle.std.proofs.lemmas.Bool.{and_from, and_parts, or_parts, not-false}
 use Rattle.std.proofs.lemmas.Bool.Decides.{nat_tests}
 use Rattle.qp_chart.specs.declared.checked.Chart.{Chart}
 use Rattle.qp_model.specs.declared.record.Rec.{Rec}
@@ -48,7 +48,8 @@ use Rattle.qp_kernel.specs.Run.{SourcesEnd, IsRun}
 use Rattle.qp_kernel.proofs.AlikeKernels.{one-order_kernel, one-order_no-port, runs-alike}
 use Rattle.qp_kernel.proofs.BareLemmas.{bare-told}
 use Rattle.qp_kernel.proofs.TellLemmas.{untold-lane, pieces-lane, source-lane}
-use Rattle.qp_kernel.proofs.ZeroLemmas.{count-append, count-cons}
+use Rattle.qp_kernel.proofs.ZeroLemmas.{count-cons}
+use Rattle.qp_model.proofs.NumberLemmas.{count-append}
 
 pub all-zip : {A : Type 0} (P Q R : A → Type 0) (xs : List A) → ((x : A) → P x → Q x → R x) → AllByRecursion P xs → AllByRecursion Q xs → AllByRecursion R xs
 all-zip P Q R [] go p q = tt
@@ -85,10 +86,6 @@ mark-other (body.Recall e) h = absurd (cc)
 mark-other body.NoRecall h = absurd (cc)
 mark-other (body.Flush e) h = absurd (cc)
 mark-other _ h = refl
-
-not-false : (b : Bool) → not b ≡ false → b ≡ true
-not-false true h = refl
-not-false false h = absurd (cc)
 
 match-true : (b : Bool) (A : Type 0) → b ≡ true → A → MatchBool b A ⊤
 match-true true A h a = a

@@ -31,6 +31,7 @@ use Rattle.qp_kernel.proofs.AgendaLemmas.{start-closes}
 use Rattle.qp_kernel.proofs.InnerLemmas.{IsInner, AreInner, inner-append, Form, does-form}
 use Rattle.qp_kernel.proofs.ToldPieces.{AreOwn}
 use Rattle.qp_kernel.proofs.ZeroLemmas.{AreDrops, drop-not_look}
+use Rattle.qp_model.proofs.PublicationLemmas.{tell-append}
 
 inner : (b : Body) → IsOwnRole (role_of b) → is_turn_mark b ≡ false → is_end b ≡ false → is_some (stim_of b) ≡ false → IsInner b
 inner b own mark calm stim = record { own = own; unmarked = mark; calm = calm; unstim = stim }
@@ -49,10 +50,6 @@ by_pool-drops (suc n) e g h = releases-drops e.pool e.block e.name g h
 pub drops-are : (e : Entry) (g : List Told) → Drops e g → AreDrops g × AreInner (tell g)
 unfolding Drops
 drops-are e g h = by_pool-drops e.pool e g h
-
-tell-append : (g h : List Told) → tell (g ++ h) ≡ tell g ++ tell h
-tell-append [] h = refl
-tell-append (t ∷ ts) h = ap (λ x. Tell t ∷ x) (tell-append ts h)
 
 -- the last records of a publication
 last-inner : (o : ℕ) (e : Entry) (former : ℕ) (ms : List ℕ) (g : List Told) → PublishesLast o e former ms g → AreInner (tell g)

@@ -25,7 +25,7 @@ use Rattle.qp_model.specs.Acts.{Config}
 use Rattle.qp_model.specs.Lawful.{spill_cuts}
 use Rattle.qp_model.proofs.KernelRowLemmas.{lane_on-then, spent-next, IsOwnRole, IsWithin, seen-entry}
 use Rattle.qp_kernel.specs.Stages as stage
-use Rattle.qp_kernel.specs.Stages.{Stage, IsReady, ComesTo, may_wait, is_resting}
+use Rattle.qp_kernel.specs.Stages.{Stage, ComesTo, may_wait, is_resting}
 use Rattle.qp_orders.specs.SourceRun.{untold}
 use Rattle.qp_kernel.specs.LaneZero.{told_pieces_at, told_pieces, Agree, setting, owed_point, HasOneRow, LaneZero}
 use Rattle.qp_model.specs.ObjectShape.{HasShape}
@@ -34,8 +34,9 @@ use Rattle.qp_kernel.specs.Turning.{AreNumbered, AreAble, IsWithinStep}
 use Rattle.qp_orders.proofs.CalmLemmas.{are_calm, calm-parts, calm-no_spill, calm-ends_last, calm-spills_cut, calm-spents_follow, calm-states, calm-all, no_spill-cuts, IsMild, mild-follow, mild-cut, mild-states, mild-all, mild-no_spill}
 use Rattle.qp_kernel.proofs.BareLemmas.{own-unmarked, own-calm, own-append, follows-own, shape-spent}
 use Rattle.qp_kernel.proofs.WaitLemmas.{point_if, stopped-anywhere, follows-resting, follows-waiting, follows-failed, follows-failed_start, follows-cut, follows-cut_start}
-use Rattle.qp_kernel.proofs.ZeroLemmas.{any-append, count-append, own-takes, ends-told, told-unmarked, AreDrops, drops-told, done-takes, reads-done}
+use Rattle.qp_kernel.proofs.ZeroLemmas.{any-append, own-takes, ends-told, told-unmarked, AreDrops, drops-told, done-takes, reads-done}
 use Rattle.qp_kernel.proofs.ToldPieces.{pieces-then, pieces-one, pieces-other, none-owed, not-zero, no-row, pieces-told, AreOwn, AreTold, own-told, told-append, ceiling_through, pieces_for, reads-own, reads-start}
+use Rattle.qp_model.proofs.NumberLemmas.{count-append}
 
 one-idle : (place : Upcoming) (idle : ℕ) → HasOneRow place idle → idle ≤ 1
 one-idle Over idle h = h

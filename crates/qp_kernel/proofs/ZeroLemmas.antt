@@ -4,7 +4,6 @@ use Rattle.std.specs.Prelude.{⊤}
 use Rattle.std.specs.List.{list_any, count_by}
 use Rattle.std.proofs.lemmas.List.{map-append}
 use Rattle.std.proofs.lemmas.List.Folds.{list_any-append}
-use Rattle.std.proofs.lemmas.List.Sums.{sum_by-append}
 use Rattle.std.proofs.lemmas.Bool.Decides.{nat_tests}
 use Rattle.qp_chart.specs.declared.checked.Chart.{Chart}
 use Rattle.qp_model.specs.declared.systems.System.{System}
@@ -31,12 +30,10 @@ use Rattle.qp_kernel.specs.LaneZero.{told_pieces, Agree, setting, owed_point, ro
 use Rattle.qp_kernel.specs.Turning.{AreNumbered, AreAble, IsWithinStep, moved, having}
 use Rattle.qp_kernel.proofs.StageLemmas.{comes-took, comes-point, comes-done, comes-started}
 use Rattle.qp_kernel.proofs.ToldPieces.{pieces-then, pieces-one, none-owed, not-zero, pieces-look, pieces-other, pieces-told, AreOwn, AreTold, own-told, told-append, ceiling_through, reads-own, reads-start}
+use Rattle.qp_model.proofs.NumberLemmas.{count-append}
 
 pub any-append : {A : Type 0} (p : A → Bool) (xs ys : List A) → list_any p xs ≡ false → list_any p ys ≡ false → list_any p (xs ++ ys) ≡ false
 any-append p xs ys a b = list_any-append p xs ys ∙ rw (a, b) refl
-
-pub count-append : {A : Type 0} (p : A → Bool) (xs ys : List A) → count_by p (xs ++ ys) ≡ count_by p xs + count_by p ys
-count-append p xs ys = sum_by-append (λ x. cond (p x) 1 0) xs ys
 
 -- an element that doesn't pass
 pub count-cons : {A : Type 0} (p : A → Bool) (x : A) (xs : List A) → p x ≡ false → count_by p (x ∷ xs) ≡ count_by p xs

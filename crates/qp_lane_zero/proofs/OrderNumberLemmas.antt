@@ -9,6 +9,7 @@ use Rattle.qp_model.specs.History.{Touch, Draws, Shows, Neither, touch, drawn_on
 use Rattle.qp_model.specs.Places.{is_next, in_order}
 use Rattle.qp_lanes.specs.WordTotals.{is_next_at, drawn_at}
 use Rattle.qp_lanes.proofs.ItemLemmas.{map-from, map-up_to}
+use Rattle.qp_model.proofs.HistoryLemmas.{total-length}
 
 total-snoc : (w : Word) (before : List Item) (i : Item) → total w (before ++ i ∷ []) ≡ total w before + cond (drawn_on w (touch i)) 1 0
 unfolding total
@@ -20,15 +21,6 @@ total-snoc w before i =
     go true = refl
     go false = refl
 
-total-le : (w : Word) (items : List Item) → total w items ≤ length items
-unfolding total
-total-le w [] = omega arith
-total-le w (i ∷ is) = go (drawn_on w (touch i)) (total-le w is)
-  where
-    go : (b : Bool) → total w is ≤ length is → length (cond b (i ∷ filter (λ x. drawn_on w (touch x)) is) (filter (λ x. drawn_on w (touch x)) is)) ≤ length (i ∷ is)
-    go true h = omega arith
-    go false h = omega arith
-
 is_next-is : (before : List Item) (totals : Word → ℕ) → ((w : Word) → totals w ≡ total w before) → (t : Touch) → is_next_at totals t ≡ is_next before t
 unfolding is_next
 is_next-is before totals e (Draws w mark) = ap (λ n. mark == suc n) (e w)
@@ -37,7 +29,7 @@ is_next-is before totals e Neither = refl
 
 module _ {X : Type 0} (said : X → Item) (xs : List X) (i : ℕ) where
   pub total-small : (w : Word) → i ≤ length xs → total w (map said (take i xs)) ≤ i
-  total-small w h = let e : length (map said (take i xs)) ≤ i = simp (length-map, length-take) (omega arith) in omega (arith, total-le w (map said (take i xs)))
+  total-small w h = let e : length (map said (take i xs)) ≤ i = simp (length-map, length-take) (omega arith) in omega (arith, total-length w (map said (take i xs)))
 
   pub in_order-end : (before : List Item) → length xs ≤ i → in_order before (map said (drop i xs)) ≡ true
   unfolding in_order

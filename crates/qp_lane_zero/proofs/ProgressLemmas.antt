@@ -19,10 +19,11 @@ use Rattle.qp_lanes.specs.WordTotals.{count_in}
 use Rattle.qp_lane_zero.specs.StimulusIndex.{parts_at}
 use Rattle.qp_lane_zero.specs.Turns.{IsProgress, left_from, first_acting, turn_of, next_turn}
 use Rattle.qp_lane_zero.specs.OrderTurns.{RunsAs, turn_in, turns_in, look_stands}
-use Rattle.qp_lanes.proofs.ItemLemmas.{count_by-append, map-from, map-up_to}
+use Rattle.qp_lanes.proofs.ItemLemmas.{map-from, map-up_to}
+use Rattle.qp_model.proofs.NumberLemmas.{count-append}
 
 count_by-snoc : {X : Type 0} (p : X → Bool) (xs : List X) (x : X) → count_by p (xs ++ x ∷ []) ≡ count_by p xs + cond (p x) 1 0
-count_by-snoc p xs x = count_by-append p xs (x ∷ []) ∙ ap (λ n. count_by p xs + n) (zero-add (cond (p x) 1 0))
+count_by-snoc p xs x = count-append p xs (x ∷ []) ∙ ap (λ n. count_by p xs + n) (zero-add (cond (p x) 1 0))
 
 acted_last-snoc : (last : ℕ) (xs : List Placed) (x : Placed) → acted_last last (xs ++ x ∷ []) ≡ cond (is_stim x) x.lane (acted_last last xs)
 unfolding acted_last

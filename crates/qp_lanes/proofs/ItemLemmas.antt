@@ -1,13 +1,13 @@
 -- The records of a lane as a loop comes to them.
 use Rattle.std.proofs.Common.{◌≡◌, ◌∙◌, ℕ, ◌+◌, ◌<◌, Bool, cond, ◌||◌, List, [], ◌∷◌, ◌++◌, map, length, take, drop, get_or, ap, sym, refl, append-nil}
 use Rattle.std.specs.List.{count_by, list_any, list_all}
-use Rattle.std.proofs.lemmas.List.Sums.{sum_by-append}
 use Rattle.std.proofs.lemmas.List.Folds.{list_all-map, fold-map}
 use Rattle.std.proofs.lemmas.List.{drop_more, take_more, map-append}
 use Rattle.qp_model.specs.declared.record.Rec.{Rec}
 use Rattle.qp_model.specs.Record.{Item, item_of}
 use Rattle.qp_model.specs.History.{lane_items, all_items}
 use Rattle.qp_model.proofs.WordLemmas.{all_items-append}
+use Rattle.qp_model.proofs.NumberLemmas.{count-append}
 
 module _ {X Y : Type 0} (f : X → Y) (xs : List X) (i : ℕ) (x : X) (inside : i < length xs) (is : x ≡ get_or xs i x) where
   pub map-from : map f (drop i xs) ≡ f x ∷ map f (drop (i + 1) xs)
@@ -49,9 +49,6 @@ pub items-all : (p : Item → Bool) (lane : List Rec) → list_all (λ r. p (ite
 unfolding lane_items
 items-all p lane = sym (list_all-map p item_of lane)
 
-pub count_by-append : {X : Type 0} (p : X → Bool) (xs ys : List X) → count_by p (xs ++ ys) ≡ count_by p xs + count_by p ys
-count_by-append p xs ys = sum_by-append (λ x. cond (p x) 1 0) xs ys
-
 -- the records of one lane more
 pub all_items-up_to : (lanes : List (List Rec)) (i : ℕ) (lane : List Rec) → i < length lanes → lane ≡ get_or lanes i lane
     → all_items (take (i + 1) lanes) ≡ all_items (take i lanes) ++ lane_items lane
@@ -62,4 +59,4 @@ all_items-up_to lanes i lane inside is =
 
 pub all_items-count : (p : Item → Bool) (lanes : List (List Rec)) (i : ℕ) (lane : List Rec) → i < length lanes → lane ≡ get_or lanes i lane
     → count_by p (all_items (take (i + 1) lanes)) ≡ count_by p (all_items (take i lanes)) + count_by p (lane_items lane)
-all_items-count p lanes i lane inside is = ap (count_by p) (all_items-up_to lanes i lane inside is) ∙ count_by-append p (all_items (take i lanes)) (lane_items lane)
+all_items-count p lanes i lane inside is = ap (count_by p) (all_items-up_to lanes i lane inside is) ∙ count-append p (all_items (take i lanes)) (lane_items lane)

@@ -22,15 +22,15 @@ use Rattle.qp_model.proofs.FitsLemmas.{all-append}
 use Rattle.qp_model.specs.Able.{is_able, task_able, act_able, state_able, chart_able}
 
 -- an element of a list that passes
-all-get : {X : Type 0} (f : X → Bool) (xs : List X) (k : ℕ) (x : X) → list_all f xs ≡ true → slice_get xs k ≡ Some x → f x ≡ true
+pub all-get : {X : Type 0} (f : X → Bool) (xs : List X) (k : ℕ) (x : X) → list_all f xs ≡ true → slice_get xs k ≡ Some x → f x ≡ true
 all-get f [] k x h is = absurd (cc)
 all-get f (y ∷ ys) zero x h is = let same : y ≡ x = cc in subst (λ z. f z ≡ true) same (and_parts (f y) (list_all f ys) h).0
 all-get f (y ∷ ys) (suc k) x h is = all-get f ys k x (and_parts (f y) (list_all f ys) h).1 is
 
-some-same : {X : Type 0} {x y : X} → Some x ≡ Some y → x ≡ y
+pub some-same : {X : Type 0} {x y : X} → Some x ≡ Some y → x ≡ y
 some-same e = cc
 
-handler_is : ℕ → ℕ × Row → Handler
+pub handler_is : ℕ → ℕ × Row → Handler
 handler_is s found = record { state = s; place = found.0; row = found.1 }
 
 module _ (sys : System) where

@@ -92,7 +92,7 @@ keeps_none room [] = refl
 keeps_none room (e ∷ es) = rw (same_entry-refl e) (kept-release room es e.pool e (flush_all es) ∙ keeps_none room es)
 
 -- a pool that is there has a number
-pool_number : (o : Option ℕ) → is_some o ≡ true → (p : ℕ) × (o ≡ Some p)
+pub pool_number : (o : Option ℕ) → is_some o ≡ true → (p : ℕ) × (o ≡ Some p)
 pool_number None h = absurd (cc)
 pool_number (Some p) h = (p, refl)
 

@@ -29,10 +29,10 @@ use Rattle.qp_model.proofs.ShapeLemmas.{StepShape, StartShape, Turned, step-shap
 abbrev pub AtPoint : List Piece → List Piece → Type 0
 AtPoint front back = IsTrue (ends_at_point front) ⊎ IsTrue (begins_at_point back)
 
-first-same : {X : Type 0} {x y : X} {xs ys : List X} → x ∷ xs ≡ y ∷ ys → x ≡ y
+pub first-same : {X : Type 0} {x y : X} {xs ys : List X} → x ∷ xs ≡ y ∷ ys → x ≡ y
 first-same e = cc
 
-rest-same : {X : Type 0} {x y : X} {xs ys : List X} → x ∷ xs ≡ y ∷ ys → xs ≡ ys
+pub rest-same : {X : Type 0} {x y : X} {xs ys : List X} → x ∷ xs ≡ y ∷ ys → xs ≡ ys
 rest-same e = cc
 
 -- two ways to cut one list in two

@@ -1,5 +1,5 @@
 -- Histories when a record is added at the end of a lane: the records are xs ++ ys before it, and xs ++ i ∷ ys after it.
-use Rattle.std.proofs.Common.{◌≡◌, ℕ, zero, suc, ◌<◌, ◌==◌, nat_lt, nat_le, Bool, true, false, not, ◌&&◌, ◌||◌, List, [], ◌∷◌, ◌++◌, length, refl, ap, arith, length-append}
+use Rattle.std.proofs.Common.{◌≡◌, ℕ, zero, suc, ◌<◌, ◌≤◌, cond, ◌==◌, nat_lt, nat_le, Bool, true, false, not, ◌&&◌, ◌||◌, List, [], ◌∷◌, ◌++◌, length, refl, ap, arith, length-append}
 use borrow.Author.Count.{below_more}
 use Rattle.std.specs.List.{filter}
 use Rattle.std.proofs.lemmas.Bool.{and_from, and_parts}
@@ -151,3 +151,23 @@ module _ (w : Word) (xs : List Item) (i : Item) (ys : List Item) (other : drawn_
         (and_from _ _
         (list_all-insert _ _ xs i ys (λ j e. e) (not_drawn_below w (total w (xs ++ ys)) (touch i) other) (and_parts _ _ numbers).0)
         (all_below_from (total w (xs ++ ys)) (λ n. length (filter (λ j. drawn_as w n (touch j)) (xs ++ i ∷ ys)) == 1) still_once))
+
+-- no more draws than items
+pub total-length : (w : Word) (is : List Item) → total w is ≤ length is
+unfolding total
+total-length w [] = omega arith
+total-length w (i ∷ is) = go (drawn_on w (touch i)) (total-length w is)
+  where
+    go : (u : Bool) → length (filter (λ j. drawn_on w (touch j)) is) ≤ length is
+        → length (cond u (i ∷ filter (λ j. drawn_on w (touch j)) is) (filter (λ j. drawn_on w (touch j)) is)) ≤ suc (length is)
+    go true later = omega (arith, later)
+    go false later = omega (arith, later)
+
+-- nothing was drawn where there is nothing
+pub no-hist : (w : Word) → hist w [] ≡ []
+unfolding hist total numbered
+no-hist w = refl
+
+pub no-total : (w : Word) → total w [] ≡ 0
+unfolding total
+no-total w = refl

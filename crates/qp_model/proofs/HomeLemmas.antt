@@ -28,13 +28,13 @@ pub home_records-kernel : (w : Facts) (j : Journal) (o : ℕ) → (j.kernel == p
 unfolding home_records by_object own_items
 home_records-kernel w j o is = rw is refl
 
-prefix-front : {A : Type 0} (p : A → Bool) (front : List A) (d : A) (rest : List A) → AllByRecursion (λ x. p x ≡ false) front → p d ≡ true → prefix_len (λ x. not (p x)) (front ++ d ∷ rest) ≡ length front
+pub prefix-front : {A : Type 0} (p : A → Bool) (front : List A) (d : A) (rest : List A) → AllByRecursion (λ x. p x ≡ false) front → p d ≡ true → prefix_len (λ x. not (p x)) (front ++ d ∷ rest) ≡ length front
 prefix-front p [] d rest h here = rw here refl
 prefix-front p (x ∷ front) d rest h here =
     let behind : prefix_len (λ y. not (p y)) (front ++ d ∷ rest) ≡ length front = prefix-front p front d rest h.1 here in
     rw h.0 (omega (arith, behind))
 
-position-front : {A : Type 0} (p : A → Bool) (front : List A) (d : A) (rest : List A) → AllByRecursion (λ x. p x ≡ false) front → p d ≡ true → position p (front ++ d ∷ rest) ≡ Some (length front)
+pub position-front : {A : Type 0} (p : A → Bool) (front : List A) (d : A) (rest : List A) → AllByRecursion (λ x. p x ≡ false) front → p d ≡ true → position p (front ++ d ∷ rest) ≡ Some (length front)
 position-front p front d rest h here =
     let at : prefix_len (λ y. not (p y)) (front ++ d ∷ rest) ≡ length front = prefix-front p front d rest h here in
     let whole : length (front ++ d ∷ rest) ≡ length front + suc (length rest) = length-append front (d ∷ rest) in
@@ -72,7 +72,7 @@ none-home o p budget cuts is other h = none-at-home o p budget cuts 0 is other (
 abbrev pub AreBelow : List ObjectDef → List ObjectDef → Type 0
 AreBelow front ds = AllByRecursion (λ d. AllByRecursion (λ x. x.priority < d.priority) front) ds
 
-All-snoc : {A : Type 0} (P : A → Type 0) (xs : List A) (y : A) → AllByRecursion P xs → P y → AllByRecursion P (xs ++ y ∷ [])
+pub All-snoc : {A : Type 0} (P : A → Type 0) (xs : List A) (y : A) → AllByRecursion P xs → P y → AllByRecursion P (xs ++ y ∷ [])
 All-snoc P [] y h k = (k, tt)
 All-snoc P (x ∷ xs) y h k = (h.0, All-snoc P xs y h.1 k)
 

@@ -15,14 +15,11 @@ use Rattle.qp_model.specs.Record.{Item}
 use Rattle.qp_model.specs.KernelLane.{Role, Looks, Sees, Takes, Ends, Rests, Holds, Drops, RunsOut, Spills, Acts, role_of, under_way_after, ceiling_of, Setting, floor_in, above, Upcoming, Inside, Looking, Chosen, Ended, Resting, Again, Over, Halted, Reading, base_ended, found_none, looking_at, look_next, seen_next, own_next, inside_next, found_next, ended_next, rest_next, place_next, start_next, started_next, role_next, lane_next, lane_on, unread, lane_read}
 use Rattle.qp_model.specs.Kernels.{qk, qv}
 use Rattle.qp_model.specs.KernelLaws.{under_way, ceiling_on, floor_after, SeesNone, EndsInLook, StepsBeginAbove, StepsStandAlone, SeesEach, RestsWhereAllAreEmpty}
+use Rattle.qp_model.proofs.NumberLemmas.{every, every-append}
 
-granted : {A : Type 0} (b : Bool) (x y : A) → cond b (Some x) None ≡ Some y → (b ≡ true) × (x ≡ y)
+pub granted : {A : Type 0} (b : Bool) (x y : A) → cond b (Some x) None ≡ Some y → (b ≡ true) × (x ≡ y)
 granted true x y h = (refl, cc)
 granted false x y h = absurd (cc)
-
-AllByRecursion-append : {A : Type 0} (P : A → Type 0) (xs ys : List A) → AllByRecursion P xs → AllByRecursion P ys → AllByRecursion P (xs ++ ys)
-AllByRecursion-append P [] ys h k = k
-AllByRecursion-append P (x ∷ xs) ys h k = (h.0, AllByRecursion-append P xs ys h.1 k)
 
 under_way-append : (running : List ℕ) (xs ys : List Item) → under_way running (xs ++ ys) ≡ under_way (under_way running xs) ys
 unfolding under_way
@@ -44,7 +41,7 @@ unfolding ceiling_on
 ceiling_on-snoc before i r is = ceiling_on-append 0 before (i ∷ []) ∙ ap (λ x. ceiling_of (ceiling_on 0 before) x) is
 
 -- a record by its part
-Looks-is : (b : Body) (n floor : ℕ) → role_of b ≡ Looks n floor → b ≡ body.Look n floor
+pub Looks-is : (b : Body) (n floor : ℕ) → role_of b ≡ Looks n floor → b ≡ body.Look n floor
 unfolding role_of
 Looks-is (body.Look k x) n floor e = cc
 Looks-is (body.Seen p f l m) n floor e = absurd (cc)
@@ -59,7 +56,7 @@ Looks-is body.Spent n floor e = absurd (cc)
 Looks-is (body.Spill x) n floor e = absurd (cc)
 Looks-is _ n floor e = absurd (cc)
 
-Sees-is : (b : Body) (q f l m : ℕ) → role_of b ≡ Sees q f l m → b ≡ body.Seen q f l m
+pub Sees-is : (b : Body) (q f l m : ℕ) → role_of b ≡ Sees q f l m → b ≡ body.Seen q f l m
 unfolding role_of
 Sees-is (body.Look k x) q f l m e = absurd (cc)
 Sees-is (body.Seen p g h n) q f l m e = cc
@@ -82,15 +79,11 @@ pub record IsAbove (ds : List ObjectDef) (floor p : ℕ) : Type 0 where
   pub higher : floor < p
   pub limited : (n : ℕ) → AllByRecursion (λ d. d.priority ≤ n) ds → p ≤ n
 
-AllByRecursion-map : {A : Type 0} (P Q : A → Type 0) → ((x : A) → P x → Q x) → (xs : List A) → AllByRecursion P xs → AllByRecursion Q xs
-AllByRecursion-map P Q go [] h = tt
-AllByRecursion-map P Q go (x ∷ xs) h = (go x h.0, AllByRecursion-map P Q go xs h.1)
-
-AllByRecursion-reverse : {A : Type 0} (P : A → Type 0) (xs : List A) → AllByRecursion P xs → AllByRecursion P (reverse xs)
+pub AllByRecursion-reverse : {A : Type 0} (P : A → Type 0) (xs : List A) → AllByRecursion P xs → AllByRecursion P (reverse xs)
 AllByRecursion-reverse P [] h = tt
 AllByRecursion-reverse P (x ∷ xs) h =
     let e : reverse (x ∷ xs) ≡ reverse xs ++ x ∷ [] = reverse-append (x ∷ []) xs in
-    rw e (AllByRecursion-append P (reverse xs) (x ∷ []) (AllByRecursion-reverse P xs h.1) (h.0, tt))
+    rw e (every-append P (reverse xs) (x ∷ []) (AllByRecursion-reverse P xs h.1) (h.0, tt))
 
 wider : (d : ObjectDef) (ds : List ObjectDef) (floor p : ℕ) → IsAbove ds floor p → IsAbove (d ∷ ds) floor p
 wider d ds floor p h = record { higher = h.higher; limited = λ n all. h.limited n all.1 }
@@ -98,7 +91,7 @@ wider d ds floor p h = record { higher = h.higher; limited = λ n all. h.limited
 higher_ones : (ds : List ObjectDef) (floor : ℕ) → AllByRecursion (IsAbove ds floor) (map (λ d. d.priority) (filter (λ d. nat_lt floor d.priority) ds))
 higher_ones [] floor = tt
 higher_ones (d ∷ ds) floor =
-    go (nat_lt floor d.priority) refl (AllByRecursion-map (IsAbove ds floor) (IsAbove (d ∷ ds) floor) (wider d ds floor) _ (higher_ones ds floor))
+    go (nat_lt floor d.priority) refl (every (IsAbove ds floor) (IsAbove (d ∷ ds) floor) (wider d ds floor) _ (higher_ones ds floor))
   where
     go : (b : Bool) → nat_lt floor d.priority ≡ b
         → AllByRecursion (IsAbove (d ∷ ds) floor) (map (λ x. x.priority) (filter (λ x. nat_lt floor x.priority) ds))
@@ -234,7 +227,7 @@ module _ (s : Setting) (before : List Item) (i : Item) where
             empties = looked.empties ++ record { of = 0; body = body.Seen p f l m } ∷ [];
             n = looked.n;
             stands = stands ∙ append_assoc looked.front (record { of = 0; body = body.Look looked.n (floor_in s.sys s.kernel k.running k.ceiling) } ∷ looked.empties) (record { of = 0; body = body.Seen p f l m } ∷ []);
-            none = AllByRecursion-append SeesNone looked.empties (record { of = 0; body = body.Seen p f l m } ∷ []) looked.none ((p, f, l, m, refl, grind (arith, nat_tests, test)), tt);
+            none = every-append SeesNone looked.empties (record { of = 0; body = body.Seen p f l m } ∷ []) looked.none ((p, f, l, m, refl, grind (arith, nat_tests, test)), tt);
             objects = looked.objects ++ p ∷ [];
             saw = SeesEach-snoc looked.objects looked.empties p f l m looked.saw (grind (arith, nat_tests, test));
             all = append_assoc looked.objects (p ∷ []) others ∙ looked.all;

@@ -57,7 +57,7 @@ records_of-told w o c (i ∷ is) = go (i.of == o) refl (records_of-told w o (cei
         rw (later, sym (ap (λ x. told w x c i.body) is_o)) refl
     go false e later = later
 
-last_given-append : (b r : ℕ) (e : Option Event) (xs : List Item) (i : Item) → last_given b r e (xs ++ i ∷ []) ≡ given_by b r (last_given b r e xs) i.body
+pub last_given-append : (b r : ℕ) (e : Option Event) (xs : List Item) (i : Item) → last_given b r e (xs ++ i ∷ []) ≡ given_by b r (last_given b r e xs) i.body
 unfolding last_given
 last_given-append b r e [] i = refl
 last_given-append b r e (x ∷ xs) i = last_given-append b r (given_by b r e x.body) xs i

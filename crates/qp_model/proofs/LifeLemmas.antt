@@ -17,10 +17,8 @@ use Rattle.qp_model.specs.Machine.{after_from, after}
 use Rattle.qp_model.specs.References.{references}
 use Rattle.qp_model.specs.Lives.{Life, life_of, life_next, life_may, edge_of, edges, is_empty, refs_at, edges_empty, lives_cover, lives_referred, HasLives}
 use Rattle.qp_model.proofs.ListLemmas.{all_below_at, all_below_from, list_all-has}
+use Rattle.qp_model.proofs.LineLemmas.{same_number}
 use Rattle.qp_model.proofs.MachineLemmas.{after-append, is_allowed-append}
-
-same_number : (a : ℕ) → (a == a) ≡ true
-same_number a = grind (arith, nat_tests)
 
 -- the references at a place within a history stay when it grows
 refs_at-more : (n : ℕ) (block : List Item) (i : Item) → n ≤ length block → refs_at n (block ++ i ∷ []) ≡ refs_at n block
@@ -199,7 +197,7 @@ lives-other b pool block i other old =
     may_stay (Back p n c to) e s = rw (not_same (c == b) to e) refl
     may_stay _ e s = refl
 
-has-without_same : (b : ℕ) (xs : List ℕ) → has (without_all b xs) b ≡ false
+pub has-without_same : (b : ℕ) (xs : List ℕ) → has (without_all b xs) b ≡ false
 has-without_same b [] = refl
 has-without_same b (x ∷ xs) = go (x == b) refl (has-without_same b xs)
   where

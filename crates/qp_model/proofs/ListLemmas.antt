@@ -1,7 +1,9 @@
 -- Tests of lists, and an element put into the middle of one.
-use Rattle.std.proofs.Common.{◌≡◌, ℕ, zero, suc, ◌<◌, nat_le, Bool, true, false, ◌&&◌, ◌||◌, ◌==◌, subst, cond, List, [], ◌∷◌, ◌++◌, length, refl, ap, arith}
+use Rattle.std.proofs.Common.{◌≡◌, ◌∙◌, ℕ, zero, suc, ◌<◌, nat_le, Bool, true, false, ◌&&◌, ◌||◌, ◌==◌, subst, cond, List, [], ◌∷◌, ◌++◌, length, refl, ap, Some, None, arith}
 use borrow.Author.Count.{below_more}
-use Rattle.std.specs.List.{filter, list_all}
+use Rattle.std.specs.declared.option.Option.{Option}
+use Rattle.std.specs.Option.{option_map}
+use Rattle.std.specs.List.{AllByRecursion, filter, list_all, slice_get}
 use Rattle.std.proofs.lemmas.Bool.{and_from, and_parts}
 use Rattle.std.proofs.lemmas.Bool.Decides.{nat_tests}
 use Rattle.std.proofs.lemmas.List.Folds.{list_all-append}
@@ -84,3 +86,22 @@ list_all-has p (y ∷ ys) x all h = go (y == x) refl h (list_all-has p ys x (and
     go : (same : Bool) → (y == x) ≡ same → (same || has ys x) ≡ true → (has ys x ≡ true → p x ≡ true) → p x ≡ true
     go true e k later = let is : y ≡ x = grind (arith, nat_tests) in subst (λ n. p n ≡ true) is (and_parts _ _ all).0
     go false e k later = later k
+
+-- one more of those that pass
+pub all-push : {X : Type 0} (p : X → Bool) (xs : List X) (i : X) → list_all p xs ≡ true → p i ≡ true → list_all p (xs ++ i ∷ []) ≡ true
+all-push p xs i h k = list_all-append p xs (i ∷ []) ∙ and_from _ _ h (and_from _ _ k refl)
+
+-- what holds of each holds of one
+pub each-at : {X : Type 0} (P : X → Type 0) (xs : List X) (i : ℕ) (x : X) → AllByRecursion P xs → slice_get xs i ≡ Some x → P x
+each-at P [] i x all h = absurd (cc)
+each-at P (y ∷ ys) zero x all h = let same : y ≡ x = cc in subst P same all.0
+each-at P (y ∷ ys) (suc i) x all h = each-at P ys i x all.1 h
+
+pub nothing-left : {X : Type 0} (xs : List X) → length xs ≡ 0 → xs ≡ []
+nothing-left [] h = refl
+nothing-left (x ∷ xs) h = absurd (omega (arith, h))
+
+-- what a map of an option gives
+pub mapped : {A B : Type 0} (f : A → B) (o : Option A) (y : B) → option_map f o ≡ Some y → (a : A) × (o ≡ Some a) × (f a ≡ y)
+mapped f None y is = absurd (cc)
+mapped f (Some a) y is = (a, refl, cc)

@@ -3,6 +3,7 @@ use Rattle.std.proofs.Common.{◌≡◌, ℕ, zero, suc, ◌+◌, ◌-◌, ◌<�
 use Rattle.std.specs.declared.option.Option.{Option}
 use Rattle.std.specs.Option.{option_map, option_map_or}
 use Rattle.std.specs.List.{AllByRecursion, count_by, filter, find, flat_map, slice_get}
+use Rattle.std.proofs.lemmas.Bool.{lt-ltb, le-ltb}
 use Rattle.std.proofs.lemmas.List.Elements.{filter-append}
 use Rattle.std.proofs.lemmas.List.Sums.{length-filter}
 use Rattle.std.proofs.lemmas.Bool.Decides.{nat_tests}
@@ -25,15 +26,15 @@ pub record IsNumberOf (timers : List TimerDef) (o n : ℕ) : Type 0 where
   pub there : slice_get timers (n - 1) ≡ Some timer
   pub owner : timer.object ≡ o
 
-every : {A : Type 0} (P Q : A → Type 0) → ((x : A) → P x → Q x) → (xs : List A) → AllByRecursion P xs → AllByRecursion Q xs
+pub every : {A : Type 0} (P Q : A → Type 0) → ((x : A) → P x → Q x) → (xs : List A) → AllByRecursion P xs → AllByRecursion Q xs
 every P Q step [] h = tt
 every P Q step (x ∷ xs) h = (step x h.0, every P Q step xs h.1)
 
-every-append : {A : Type 0} (P : A → Type 0) (xs ys : List A) → AllByRecursion P xs → AllByRecursion P ys → AllByRecursion P (xs ++ ys)
+pub every-append : {A : Type 0} (P : A → Type 0) (xs ys : List A) → AllByRecursion P xs → AllByRecursion P ys → AllByRecursion P (xs ++ ys)
 every-append P [] ys h k = k
 every-append P (x ∷ xs) ys h k = (h.0, every-append P xs ys h.1 k)
 
-count-append : {A : Type 0} (p : A → Bool) (xs ys : List A) → count_by p (xs ++ ys) ≡ count_by p xs + count_by p ys
+pub count-append : {A : Type 0} (p : A → Bool) (xs ys : List A) → count_by p (xs ++ ys) ≡ count_by p xs + count_by p ys
 count-append p xs ys =
     let parts : length (filter p (xs ++ ys)) ≡ length (filter p xs ++ filter p ys) = ap length (filter-append p xs ys) in
     omega (arith, parts, length-append (filter p xs) (filter p ys), length-filter p (xs ++ ys), length-filter p xs, length-filter p ys)
@@ -82,12 +83,6 @@ found-is o object (d ∷ ds) found = by (found-is o object ds) (d.priority == o)
         subst (λ x. x.priority ≡ o) same is
     by behind false test = behind (rw test at found)
 
-below : (n o : ℕ) → n < o → nat_lt n o ≡ true
-below n o h = grind (arith, nat_tests, h)
-
-above : (n o : ℕ) → o ≤ n → nat_lt n o ≡ false
-above n o h = grind (arith, nat_tests, h)
-
 module _ (charts : List Chart) where
   of-its : (d : ObjectDef) (ts : List Timer) → AllByRecursion (λ t. t.object ≡ d.priority) (map (timer_of d) ts)
   of-its d [] = tt
@@ -106,7 +101,7 @@ module _ (charts : List Chart) where
   later o [] h = tt
   later o (d ∷ ds) h =
       every-append (λ t. nat_lt t.object o ≡ false) (timers_of charts d) (flat_map (timers_of charts) ds)
-      (every (λ t. t.object ≡ d.priority) (λ t. nat_lt t.object o ≡ false) (λ t is. above t.object o (omega (arith, is, h.0))) (timers_of charts d) (its-own d))
+      (every (λ t. t.object ≡ d.priority) (λ t. nat_lt t.object o ≡ false) (λ t is. le-ltb t.object o (omega (arith, is, h.0))) (timers_of charts d) (its-own d))
       (later o ds h.1)
 
   module _ (o place : ℕ) (object : ObjectDef) (chart : Chart) (timer : Timer) (its : slice_get charts (object.chart - 1) ≡ Some chart) (at : slice_get chart.timer place ≡ Some timer) where
@@ -134,14 +129,14 @@ module _ (charts : List Chart) where
             let is : d.priority ≡ o = grind (arith, nat_tests, test) in
             let same : d ≡ object = same_Some d object (rw test at found) in
             let own : count_by (λ t. nat_lt t.object o) first ≡ 0 =
-            count-none (λ t. nat_lt t.object o) first (every (λ t. t.object ≡ d.priority) (λ t. nat_lt t.object o ≡ false) (λ t e. above t.object o (omega (arith, e, is))) first (its-own d)) in
+            count-none (λ t. nat_lt t.object o) first (every (λ t. t.object ≡ d.priority) (λ t. nat_lt t.object o ≡ false) (λ t e. le-ltb t.object o (omega (arith, e, is))) first (its-own d)) in
             let others : count_by (λ t. nat_lt t.object o) rest ≡ 0 = count-none (λ t. nat_lt t.object o) rest (later o ds (every (λ x. d.priority < x.priority) (λ x. o < x.priority) (λ x e. omega (arith, e, is)) ds h.1)) in
             let none : count_by (λ t. nat_lt t.object o) (first ++ rest) + place ≡ place = omega (arith, both, own, others) in
             rw none (get-front first rest place (timer_of object timer) (subst (λ x. slice_get (timers_of charts x) place ≡ Some (timer_of object timer)) (sym same) here))
         by after false test =
             let before : d.priority < o = found-above d.priority o object ds h.1 (rw test at found) in
             let own : count_by (λ t. nat_lt t.object o) first ≡ length first =
-            count-all (λ t. nat_lt t.object o) first (every (λ t. t.object ≡ d.priority) (λ t. nat_lt t.object o ≡ true) (λ t e. below t.object o (omega (arith, e, before))) first (its-own d)) in
+            count-all (λ t. nat_lt t.object o) first (every (λ t. t.object ≡ d.priority) (λ t. nat_lt t.object o ≡ true) (λ t e. lt-ltb t.object o (omega (arith, e, before))) first (its-own d)) in
             let behind : count_by (λ t. nat_lt t.object o) (first ++ rest) + place ≡ length first + (count_by (λ t. nat_lt t.object o) rest + place) = omega (arith, both, own) in
             rw behind (get-behind first rest (count_by (λ t. nat_lt t.object o) rest + place) ∙ after (rw test at found))
 

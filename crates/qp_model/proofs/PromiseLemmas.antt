@@ -25,7 +25,7 @@ use Rattle.qp_model.specs.Lives.{edge_of, edges, is_empty, refs_at, edges_empty}
 use Rattle.qp_model.specs.Sites.{ring_of, blocks_of}
 use Rattle.qp_model.specs.WordLaw.{is_pool, is_block}
 use Rattle.qp_model.specs.Promises as promise
-use Rattle.qp_model.specs.Promises.{operations, WasFree, NumberedOnce, WordsAreNumbered, posted_by, posted, taken_by, taken, is_lifo, queued, waiting_after, waiting, first_in_by, first_in, plainly_taken_by, plainly_taken, may_take, comes_and_goes}
+use Rattle.qp_model.specs.Promises.{operations, NumberedOnce, posted_by, posted, taken_by, taken, is_lifo, queued, waiting_after, waiting, first_in_by, first_in, plainly_taken_by, plainly_taken, may_take, comes_and_goes}
 use Rattle.qp_model.proofs.ListLemmas.{all_below_at, list_all-has}
 use Rattle.qp_model.proofs.MachineLemmas.{allowed_from-front, allowed_from-rest, is_allowed-at, is_allowed-front, is_allowed-rest, after-keeps, keeps-from}
 use Rattle.qp_model.proofs.LineLemmas.{line_is, same_number}
@@ -50,7 +50,7 @@ edge-among b o p n from sig pars (i ∷ earlier) later = joined (edge_of b i.bod
         at true h = refl
         at false h = h
 
-pool_has : (sys : System) (p b : ℕ) → is_block sys p b ≡ true → is_pool sys p ≡ true
+pub pool_has : (sys : System) (p b : ℕ) → is_block sys p b ≡ true → is_pool sys p ≡ true
 unfolding is_block
 pool_has sys p b h = (and_parts (is_pool sys p) (nat_lt b (blocks_of sys p)) h).0
 
@@ -58,7 +58,7 @@ empty-is : (xs : List ℕ) → is_empty xs ≡ true → xs ≡ []
 empty-is [] h = refl
 empty-is (x ∷ xs) h = cc
 
-first-has : (b : ℕ) (xs : List ℕ) → is_first b xs ≡ true → has xs b ≡ true
+pub first-has : (b : ℕ) (xs : List ℕ) → is_first b xs ≡ true → has xs b ≡ true
 first-has b [] e = cc
 first-has b (x ∷ xs) e = rw e refl
 
@@ -390,7 +390,7 @@ list_all-filter {X} p (x ∷ xs) = go (p x) refl (list_all-filter p xs)
     go true e h = and_from _ _ e h
     go false e h = h
 
-one_of : {X : Type 0} (xs : List X) → length xs ≡ 1 → (x : X) × (xs ≡ x ∷ [])
+pub one_of : {X : Type 0} (xs : List X) → length xs ≡ 1 → (x : X) × (xs ≡ x ∷ [])
 one_of [] e = absurd (omega arith)
 one_of (x ∷ []) e = (x, refl)
 one_of (x ∷ y ∷ xs) e = absurd (omega arith)

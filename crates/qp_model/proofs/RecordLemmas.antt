@@ -1,11 +1,11 @@
 -- What crates prove of records: entries that are the same, what a record says, and the records of a lane as a loop comes to them.
-use Rattle.std.proofs.Common.{◌≡◌, ◌∙◌, ℕ, ◌+◌, ◌<◌, ◌≤◌, true, List, [], ◌∷◌, ◌++◌, map, length, take, drop, get_or, ap, sym, refl, arith}
+use Rattle.std.proofs.Common.{◌≡◌, ◌∙◌, ℕ, suc, ◌+◌, ◌<◌, ◌≤◌, true, List, [], ◌∷◌, ◌++◌, map, length, take, drop, get_or, ap, sym, refl, arith}
 use Rattle.std.proofs.lemmas.Bool.Decides.{nat_tests}
 use Rattle.std.proofs.lemmas.List.{drop_more, drop_all, take_more, map-append, take-append-drop}
 use Rattle.qp_model.specs.declared.record.Rec.{Rec}
 use Rattle.qp_model.specs.declared.bodies.Entry.{Entry}
 use Rattle.qp_model.specs.declared.bodies.Body.{Body}
-use Rattle.qp_model.specs.Record.{entry, item_of}
+use Rattle.qp_model.specs.Record.{Item, body_of, entry, item_of}
 use Rattle.qp_model.specs.Told.{Told, Known}
 use Rattle.qp_model.specs.Line.{same_entry}
 use Rattle.qp_model.specs.History.{lane_items}
@@ -23,6 +23,21 @@ same_entry-is d e h =
 -- a record by what it says and what is known
 pub told-is : (t : Told) (body : Body) (known : Known) → t.body ≡ body → t.known ≡ known → t ≡ record { body = body; known = known }
 told-is t body known is_body is_known = let whole : t ≡ record { body = t.body; known = t.known } = refl in cc
+
+-- a record by its item
+pub body-is : (o : ℕ) (b : Body) (r : Rec) → item_of r ≡ record { of = o; body = b } → body_of r ≡ b
+unfolding item_of
+body-is o b r is = ap (λ (i : Item). i.body) is
+
+pub of-is : (o : ℕ) (b : Body) (r : Rec) → item_of r ≡ record { of = o; body = b } → r.of ≡ o
+unfolding item_of
+of-is o b r is = ap (λ (i : Item). i.of) is
+
+-- as many items as records
+pub lane-length : (lane : List Rec) → length (lane_items lane) ≡ length lane
+unfolding lane_items
+lane-length [] = refl
+lane-length (r ∷ lane) = ap suc (lane-length lane)
 
 -- one record more of a lane
 module _ (lane : List Rec) (i : ℕ) (r : Rec) (inside : i < length lane) (is : r ≡ get_or lane i r) where

@@ -1,6 +1,6 @@
 -- The tests of what is settled say the same as the facts.
-use Rattle.std.proofs.Common.{◌≡◌, ℕ, ◌<◌, ◌≤◌, ◌==◌, nat_lt, nat_le, Bool, true, false, ◌||◌, List, [], ◌∷◌, length, refl, arith, ◌⊎◌, inl, inr}
-use Rattle.std.proofs.lemmas.Bool.{and_from, and_parts}
+use Rattle.std.proofs.Common.{◌≡◌, ℕ, ◌<◌, ◌≤◌, ◌==◌, nat_lt, Bool, true, false, ◌||◌, List, [], ◌∷◌, length, refl, arith, ◌⊎◌, inl, inr}
+use Rattle.std.proofs.lemmas.Bool.{and_from, and_parts, lt-ltb, ltb-true, leb-true, le-leb}
 use Rattle.std.proofs.lemmas.Bool.Decides.{nat_tests}
 use Rattle.qp_model.specs.declared.words.Word.TheVariants as word
 use Rattle.qp_model.specs.declared.bodies.Body.{Body}
@@ -9,42 +9,30 @@ use Rattle.qp_model.specs.Record.{Item}
 use Rattle.qp_model.specs.History.{hist}
 use Rattle.qp_model.specs.Settled.{Settled, AllSettled, is_settled, all_settled}
 
-lt-from : (a b : ℕ) → nat_lt a b ≡ true → a < b
-lt-from a b h = grind (arith, nat_tests)
-
-lt-to : (a b : ℕ) → a < b → nat_lt a b ≡ true
-lt-to a b h = grind (arith, nat_tests)
-
-le-from : (a b : ℕ) → nat_le a b ≡ true → a ≤ b
-le-from a b h = grind (arith, nat_tests)
-
-le-to : (a b : ℕ) → a ≤ b → nat_le a b ≡ true
-le-to a b h = grind (arith, nat_tests)
-
 pub settled-from : (items : List Item) (b : Body) → is_settled items b ≡ true → Settled items b
 unfolding Settled is_settled
 settled-from items (Took f l m e) h = go (e.pool == 0) (nat_lt e.name (length (hist (word.Block e.pool e.block) items))) refl refl h
   where
     go : (u v : Bool) → (e.pool == 0) ≡ u → nat_lt e.name (length (hist (word.Block e.pool e.block) items)) ≡ v → (u || v) ≡ true → (e.pool ≡ 0) ⊎ (e.name < length (hist (word.Block e.pool e.block) items))
     go true v p q k = inl (grind (arith, nat_tests))
-    go false true p q k = inr (lt-from e.name (length (hist (word.Block e.pool e.block) items)) q)
+    go false true p q k = inr (ltb-true e.name (length (hist (word.Block e.pool e.block) items)) q)
     go false false p q k = absurd (cc)
-settled-from items (New p n b from sig pars) h = le-from n (length (hist (word.Pool p) items)) h
-settled-from items (Dec p b d k) h = lt-from d (length (hist (word.Block p b) items)) h
-settled-from items (Same sig n) h = le-from n (length (hist (word.Signal sig) items)) h
+settled-from items (New p n b from sig pars) h = leb-true n (length (hist (word.Pool p) items)) h
+settled-from items (Dec p b d k) h = ltb-true d (length (hist (word.Block p b) items)) h
+settled-from items (Same sig n) h = leb-true n (length (hist (word.Signal sig) items)) h
 settled-from items _ h = tt
 
 pub settled-to : (items : List Item) (b : Body) → Settled items b → is_settled items b ≡ true
 unfolding Settled is_settled
 settled-to items (Took f l m e) (inl h) = let is : (e.pool == 0) ≡ true = grind (arith, nat_tests) in rw is refl
-settled-to items (Took f l m e) (inr h) = rw (lt-to e.name (length (hist (word.Block e.pool e.block) items)) h) (or_true (e.pool == 0))
+settled-to items (Took f l m e) (inr h) = rw (lt-ltb e.name (length (hist (word.Block e.pool e.block) items)) h) (or_true (e.pool == 0))
   where
     or_true : (u : Bool) → (u || true) ≡ true
     or_true true = refl
     or_true false = refl
-settled-to items (New p n b from sig pars) h = le-to n (length (hist (word.Pool p) items)) h
-settled-to items (Dec p b d k) h = lt-to d (length (hist (word.Block p b) items)) h
-settled-to items (Same sig n) h = le-to n (length (hist (word.Signal sig) items)) h
+settled-to items (New p n b from sig pars) h = le-leb n (length (hist (word.Pool p) items)) h
+settled-to items (Dec p b d k) h = lt-ltb d (length (hist (word.Block p b) items)) h
+settled-to items (Same sig n) h = le-leb n (length (hist (word.Signal sig) items)) h
 settled-to items _ h = refl
 
 pub all_settled-from : (items lane : List Item) → all_settled items lane ≡ true → AllSettled items lane

@@ -247,7 +247,7 @@ told-takes w o c (i ∷ is) = go (i.of == o) (told-takes w o (ceiling_after c i.
     go true h = ap (λ xs. cons_option (taken_entry i.body) xs) h
     go false h = h
 
-list_all-at : {A : Type 0} (p : A → Bool) (xs : List A) (y : A) (ys : List A) → list_all p (xs ++ y ∷ ys) ≡ true → p y ≡ true
+pub list_all-at : {A : Type 0} (p : A → Bool) (xs : List A) (y : A) (ys : List A) → list_all p (xs ++ y ∷ ys) ≡ true → p y ≡ true
 list_all-at p [] y ys h = (and_parts _ _ h).0
 list_all-at p (x ∷ xs) y ys h = list_all-at p xs y ys (and_parts _ _ h).1
 

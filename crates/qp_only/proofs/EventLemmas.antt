@@ -14,13 +14,13 @@ use Rattle.qp_model.specs.declared.bodies.Body.{Body}
 use Rattle.qp_model.specs.declared.bodies.Body.TheVariants.{Took, New, Back}
 use Rattle.qp_model.specs.Record.{Item}
 use Rattle.qp_model.specs.Told.{Event}
-use Rattle.qp_model.specs.History.{touch, touch_of, drawn_as, drawn_on, hist, is_numbered, numbered, total}
+use Rattle.qp_model.specs.History.{touch, touch_of, drawn_as, drawn_on, hist, is_numbered, total}
 use Rattle.qp_model.specs.Knowing.{event_of, event_known, given_by, known_of, last_given, life_event}
 use Rattle.qp_model.specs.Places.{in_order, is_next}
 use Rattle.qp_model.specs.OneOrder.{Placed}
 use Rattle.qp_model.specs.Settled.{Settled}
 use Rattle.qp_model.specs.WordLaw.{is_block, is_object}
-use Rattle.qp_model.proofs.HistoryLemmas.{hist-draws, hist-other, is_numbered-draws, is_numbered-other, length-hist}
+use Rattle.qp_model.proofs.HistoryLemmas.{hist-draws, hist-other, is_numbered-draws, is_numbered-other, length-hist, no-hist}
 use Rattle.qp_model.proofs.KnowingLemmas.{IsLater, back-fresh, known-stays, new-fresh, settled-stays}
 use Rattle.qp_orders.specs.RunOrder.{items_of}
 use Rattle.qp_sound.specs.Log.{log_of}
@@ -45,10 +45,6 @@ none-numbered : (w : Word) → is_numbered w [] ≡ true
 unfolding is_numbered total
 none-numbered w = refl
 
-none-there : (w : Word) → hist w [] ≡ []
-unfolding hist numbered total
-none-there w = refl
-
 pub ordered-numbered : (w : Word) (xs : List Item) → in_order [] xs ≡ true → is_numbered w xs ≡ true
 ordered-numbered w = from-behind (λ xs. in_order [] xs ≡ true → is_numbered w xs ≡ true) (λ h. none-numbered w) more
   where
@@ -69,7 +65,7 @@ ordered-numbered w = from-behind (λ xs. in_order [] xs ≡ true → is_numbered
 
 -- the history of a word is the records on it, in their order
 pub ordered-hist : (w : Word) (xs : List Item) → in_order [] xs ≡ true → hist w xs ≡ on_word w xs
-ordered-hist w = from-behind (λ xs. in_order [] xs ≡ true → hist w xs ≡ on_word w xs) (λ h. none-there w) more
+ordered-hist w = from-behind (λ xs. in_order [] xs ≡ true → hist w xs ≡ on_word w xs) (λ h. no-hist w) more
   where
     more : (xs : List Item) (i : Item) → (in_order [] xs ≡ true → hist w xs ≡ on_word w xs) → in_order [] (xs ++ i ∷ []) ≡ true → hist w (xs ++ i ∷ []) ≡ on_word w (xs ++ i ∷ [])
     more xs i before h = by (drawn_on w (touch i)) refl

@@ -1,7 +1,7 @@
 -- The objects of a sound system can be followed. What their charts ask for is there: a pool for each event, and an entry at hand
 -- where one is forwarded or deferred.
-use Rattle.std.proofs.Common.{◌≡◌, ◌∙◌, ℕ, ◌+◌, ◌-◌, ◌<◌, ◌≤◌, Bool, true, false, ◌||◌, List, [], ◌∷◌, map, length, nat_le, Option, Some, None, cond, zero, suc, refl, subst, arith}
-use Rattle.std.specs.Prelude.{slice_get, is_some}
+use Rattle.std.proofs.Common.{◌≡◌, ◌∙◌, ℕ, ◌+◌, ◌-◌, ◌<◌, ◌≤◌, Bool, true, false, ◌||◌, List, [], ◌∷◌, map, length, nat_le, Option, Some, None, cond, refl, arith}
+use Rattle.std.specs.Prelude.{is_some}
 use Rattle.std.specs.List.{AllByRecursion, list_all, list_any, position, position_or_len}
 use Rattle.std.proofs.lemmas.Bool.{false≢true, le-leb, lt-ltb, or_right}
 use Rattle.std.specs.Option.{option_map}
@@ -23,15 +23,11 @@ use Rattle.qp_model.specs.Course.{chart_at}
 use Rattle.qp_course.specs.Followable.{IsFollowable, with_eight}
 use Rattle.qp_model.specs.Sound.{IsSound, IsSoundObject, IsSoundSignal}
 use Rattle.qp_model.specs.SoundChart.{IsSignal, IsSoundAct, IsSoundChart, IsSoundEvent, IsSoundPlain, IsSoundRow, IsSoundState}
+use Rattle.qp_model.proofs.ListLemmas.{each-at}
 
 all-of : {A : Type 0} {P : A → Type 0} (p : A → Bool) → ((x : A) → P x → p x ≡ true) → (xs : List A) → AllByRecursion P xs → list_all p xs ≡ true
 all-of p f [] all = refl
 all-of p f (x ∷ xs) all = rw (f x all.0, all-of p f xs all.1) refl
-
-all-at : {A : Type 0} (P : A → Type 0) (xs : List A) (n : ℕ) (x : A) → AllByRecursion P xs → slice_get xs n ≡ Some x → P x
-all-at P [] n x all at_n = absurd cc
-all-at P (y ∷ xs) zero x all at_n = let same : y ≡ x = cc in subst P same all.0
-all-at P (y ∷ xs) (suc n) x all at_n = all-at P xs n x all.1 at_n
 
 cond-some : {A : Type 0} (b : Bool) (x : A) → is_some (cond b (Some x) None) ≡ b
 cond-some true x = refl
@@ -63,7 +59,7 @@ module _ (sys : System) (sound : IsSound sys) where
   its-pool sig signal is = by signal.fixed refl
     where
       its : IsSoundSignal sys.pools signal
-      its = all-at (IsSoundSignal sys.pools) sys.signals (sig - 4) signal sound.signals is.1
+      its = each-at (IsSoundSignal sys.pools) sys.signals (sig - 4) signal sound.signals is.1
 
       by : (b : Bool) → signal.fixed ≡ b → has_pool sys sig signal.params ≡ true
       by true e = rw (le-leb 4 sig is.0, is.1, e) refl
@@ -124,7 +120,7 @@ module _ (sys : System) (sound : IsSound sys) where
       or_right (is_static with_eight sig) _ (map-some (λ i. i + 1) _ ∙ first-some n (record { size = 8; blocks = 1 } ∷ []) (rw (le-leb n 8 few) refl))
 
   eight-pool : (sig : ℕ) (signal : SignalDef) → IsSignal sys sig signal → has_pool with_eight sig signal.params ≡ true
-  eight-pool sig signal is = below-eight sig signal.params (all-at (λ d. d.params ≤ 8) sys.signals (sig - 4) signal sound.params is.1)
+  eight-pool sig signal is = below-eight sig signal.params (each-at (λ d. d.params ≤ 8) sys.signals (sig - 4) signal sound.params is.1)
 
   object-followable : (d : ObjectDef) → IsSoundObject sys.charts d → IsFollowable sys d
   object-followable d is = record {
@@ -135,7 +131,7 @@ module _ (sys : System) (sound : IsSound sys) where
   }
     where
       chart : IsSoundChart sys is.its
-      chart = all-at (IsSoundChart sys) sys.charts (d.chart - 1) is.its sound.charts is.is_its
+      chart = each-at (IsSoundChart sys) sys.charts (d.chart - 1) is.its sound.charts is.is_its
 
       chart_is : chart_at sys d.chart ≡ Some is.its
       chart_is = is.is_its

@@ -1,7 +1,7 @@
 -- What a record says has its numbers.
-use Rattle.std.proofs.Common.{◌≡◌, ℕ, zero, suc, Bool, true, false, ◌==◌, cond, List, [], ◌∷◌, refl, sym, ap, arith}
+use Rattle.std.proofs.Common.{◌≡◌, ℕ, zero, suc, Bool, true, false, ◌==◌, cond, List, [], ◌∷◌, refl, sym, ap}
 use Rattle.std.specs.Prelude.{slice_get, MatchBool}
-use Rattle.std.proofs.lemmas.Bool.Decides.{nat_tests}
+use Rattle.std.proofs.lemmas.Bool.{eqb-true}
 use Rattle.qp_model.specs.declared.record.Rec.{Rec}
 use Rattle.qp_model.specs.declared.bodies.Body.{Body}
 use Rattle.qp_model.specs.declared.bodies.Body.TheVariants as body
@@ -143,9 +143,6 @@ given-gives (a ∷ b ∷ c ∷ []) = tt
 given-gives (a ∷ b ∷ c ∷ d ∷ []) = tt
 given-gives (a ∷ b ∷ c ∷ d ∷ e ∷ pars) = refl
 
-pub same : (m n : ℕ) → (m == n) ≡ true → m ≡ n
-same m n h = grind (arith, nat_tests)
-
 asserted-gives : Gives asserted
 asserted-gives [] = tt
 asserted-gives (code ∷ []) = tt
@@ -155,15 +152,15 @@ asserted-gives (code ∷ a ∷ b ∷ c ∷ []) = go (code == 2) (code == 3) (cod
   where
     go : (u v w : Bool) → (code == 2) ≡ u → (code == 3) ≡ v → (code == 4) ≡ w
         → HasNumbers (cond u (body.NoBlock a b c) (cond v (body.Armed a b c) (cond w (body.BadTicks a b c) body.Malformed))) (code ∷ a ∷ b ∷ c ∷ [])
-    go true v w is other third = ap (λ n. n ∷ a ∷ b ∷ c ∷ []) (sym (same code 2 is))
-    go false true w other is third = ap (λ n. n ∷ a ∷ b ∷ c ∷ []) (sym (same code 3 is))
-    go false false true other third is = ap (λ n. n ∷ a ∷ b ∷ c ∷ []) (sym (same code 4 is))
+    go true v w is other third = ap (λ n. n ∷ a ∷ b ∷ c ∷ []) (sym (eqb-true code 2 is))
+    go false true w other is third = ap (λ n. n ∷ a ∷ b ∷ c ∷ []) (sym (eqb-true code 3 is))
+    go false false true other third is = ap (λ n. n ∷ a ∷ b ∷ c ∷ []) (sym (eqb-true code 4 is))
     go false false false other third is = tt
 asserted-gives (code ∷ a ∷ b ∷ c ∷ d ∷ []) = go (code == 1) (code == 5) refl refl
   where
     go : (u v : Bool) → (code == 1) ≡ u → (code == 5) ≡ v → HasNumbers (cond u (body.NoEntry a b c d) (cond v (body.NoLifo a b c d) body.Malformed)) (code ∷ a ∷ b ∷ c ∷ d ∷ [])
-    go true v is other = ap (λ n. n ∷ a ∷ b ∷ c ∷ d ∷ []) (sym (same code 1 is))
-    go false true other is = ap (λ n. n ∷ a ∷ b ∷ c ∷ d ∷ []) (sym (same code 5 is))
+    go true v is other = ap (λ n. n ∷ a ∷ b ∷ c ∷ d ∷ []) (sym (eqb-true code 1 is))
+    go false true other is = ap (λ n. n ∷ a ∷ b ∷ c ∷ d ∷ []) (sym (eqb-true code 5 is))
     go false false other is = tt
 asserted-gives (code ∷ a ∷ b ∷ c ∷ d ∷ e ∷ rest) = tt
 

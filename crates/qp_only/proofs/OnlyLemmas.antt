@@ -1,6 +1,6 @@
 -- A lawful journal of `sim` without a `spill` is tidy, and so the only one.
 use Rattle.std.proofs.Common.{◌≡◌, ◌∙◌, ℕ, zero, suc, ◌+◌, ◌<◌, ◌≤◌, ◌==◌, nat_le, nat_lt, Bool, true, false, cond, List, [], ◌∷◌, ◌++◌, map, length, get_or, Some, None, refl, sym, ap, subst, arith}
-use Rattle.std.proofs.lemmas.Bool.{false≢true, and_from, and_parts}
+use Rattle.std.proofs.lemmas.Bool.{false≢true, and_from, and_parts, ne_eqb}
 use Rattle.std.proofs.lemmas.Bool.Decides.{nat_tests}
 use Rattle.std.proofs.lemmas.List.{length-map, map-append}
 use Rattle.std.specs.declared.option.Option.{Option}
@@ -35,7 +35,6 @@ use Rattle.qp_rerun.proofs.OneThread.{one-thread}
 use Rattle.qp_unique.specs.Fronts.{has_word, names_its, touches_its}
 use Rattle.qp_unique.specs.Tidy.{run_order, IsTidy}
 use Rattle.qp_unique.proofs.EqualLemmas.{part-elsewhere, zero-is}
-use Rattle.qp_unique.proofs.AwayLemmas.{differs}
 use Rattle.qp_unique.proofs.JournalLemmas.{Threaded, threaded, lane0-is, in-order, turn-at, each-unspilt}
 use Rattle.qp_unique.proofs.RunLanes.{lane-stands}
 use Rattle.qp_unique.proofs.SideParts.{at-place, source-of, placed-of, lane-unspilt}
@@ -57,7 +56,7 @@ unfolding parts_of_look
 parts-beyond lane k cuts [] j few = refl
 parts-beyond lane k cuts (l ∷ ls) j few =
     let more : lane + suc (length ls) ≤ j = few in
-    let here = part-elsewhere lane j k cuts false l (differs lane j (λ e. omega (arith, more, e))) in
+    let here = part-elsewhere lane j k cuts false l (ne_eqb lane j (λ e. omega (arith, more, e))) in
     lane_in-append _ (parts_of_look (lane + 1) k cuts ls) j ∙ ap (λ us. us ++ lane_in (parts_of_look (lane + 1) k cuts ls) j) here ∙ parts-beyond (lane + 1) k cuts ls j (omega (arith, more))
 
 order-beyond : (cuts : Bool) (sources : List (List Item)) (lane0 : List Item) (j : ℕ) → 1 + length sources ≤ j → lane_in (with_stimuli cuts sources lane0) j ≡ []
@@ -72,7 +71,7 @@ order-beyond cuts sources (i ∷ is) j few =
     own o = option_map_or (λ (l : ℕ × ℕ). parts_of_look 1 l.0 cuts sources) o []
 
     other : (0 == j) ≡ false
-    other = differs 0 j (λ e. omega (arith, few, e))
+    other = ne_eqb 0 j (λ e. omega (arith, few, e))
 
     none : (o : Option (ℕ × ℕ)) → lane_in (own o) j ≡ []
     none None = refl

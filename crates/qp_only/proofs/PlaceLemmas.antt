@@ -23,6 +23,7 @@ use Rattle.qp_rerun.proofs.Histories.{total-append}
 use Rattle.qp_unique.proofs.FrontLemmas.{next-at, same_word-refl}
 use Rattle.qp_unique.proofs.SourceSteps.{lane_in-append}
 use Rattle.qp_unique.proofs.Sides.{lane_in}
+use Rattle.qp_model.proofs.LineLemmas.{same_number}
 
 -- the place of a record behind these
 abbrev pub place_behind : List Placed → Placed → RecordPlace
@@ -47,14 +48,11 @@ places_of-at before (z ∷ zs) (suc k) x at =
     let more = places_of-at (before ++ z ∷ []) zs k x at in
     (z ∷ more.0, more.1, more.2, ap (λ us. z ∷ us) more.3, more.4 ∙ ap (λ us. place_behind us more.1) (append_assoc before (z ∷ []) more.0))
 
-same-true : (a : ℕ) → (a == a) ≡ true
-same-true a = grind (arith, nat_tests)
-
 -- a lane with a record more
 lane-one : (xs : List Placed) (z : Placed) (ys : List Placed) → lane_in (xs ++ z ∷ ys) z.lane ≡ lane_in xs z.lane ++ z.item ∷ lane_in ys z.lane
 lane-one xs z ys =
     lane_in-append xs (z ∷ ys) z.lane
-    ∙ ap (λ b. lane_in xs z.lane ++ map (λ (x : Placed). x.item) (cond b (z ∷ filter (λ x. x.lane == z.lane) ys) (filter (λ x. x.lane == z.lane) ys))) (same-true z.lane)
+    ∙ ap (λ b. lane_in xs z.lane ++ map (λ (x : Placed). x.item) (cond b (z ∷ filter (λ x. x.lane == z.lane) ys) (filter (λ x. x.lane == z.lane) ys))) (same_number z.lane)
 
 lane-grows : (xs : List Placed) (z : Placed) → length (lane_in (xs ++ z ∷ []) z.lane) ≡ length (lane_in xs z.lane) + 1
 lane-grows xs z = ap length (lane-one xs z []) ∙ length-append (lane_in xs z.lane) (z.item ∷ [])

@@ -1,13 +1,13 @@
 -- A record that says something is told by what it says: its kind and its numbers are those of its item.
 use Rattle.std.proofs.Common.{◌≡◌, Bool, true, false, List, [], ◌∷◌, map, refl}
 use Rattle.std.specs.List.{list_all}
-use Rattle.std.proofs.lemmas.Bool.{and_parts}
+use Rattle.std.proofs.lemmas.Bool.{and_parts, eqb-true}
 use Rattle.qp_model.specs.declared.record.Rec.{Rec}
 use Rattle.qp_model.specs.KindSorts.{is_malformed, kind_in}
 use Rattle.qp_model.specs.Record.{Item, body_of, item_of}
 use Rattle.qp_model.specs.History.{lane_items}
 use Rattle.qp_kinds.proofs.KindLemmas.{kinds_tell}
-use Rattle.qp_only.proofs.NumberLemmas.{nums_in, same, has-nums}
+use Rattle.qp_only.proofs.NumberLemmas.{nums_in, has-nums}
 
 -- the record that says this for this object
 abbrev pub rec_in : Item → Rec
@@ -21,7 +21,7 @@ record-of : (r : Rec) → is_malformed (body_of r) ≡ false → rec_in (item_of
 unfolding item_of
 record-of r says =
     let tells = kinds_tell r in
-    let kind : kind_in (body_of r) ≡ r.kind = same _ _ (rw says at tells) in
+    let kind : kind_in (body_of r) ≡ r.kind = eqb-true _ _ (rw says at tells) in
     let has = has-nums r in
     let nums : nums_in (body_of r) ≡ r.nums.items = rw says at has in
     λ n. record { kind = kind n; of = r.of; nums = record { items = nums n } }

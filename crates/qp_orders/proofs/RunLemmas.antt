@@ -18,7 +18,8 @@ use Rattle.qp_orders.proofs.CalmLemmas.{calm-ends_last}
 use Rattle.qp_orders.specs.Placing.{LooksNone, AreBehind, all_placed, stim_item, look_item, spill_item}
 use Rattle.qp_orders.proofs.MergeLemmas.{within_after, part-append, parts-split, stimuli-append, stimuli-none, parts-none, stimulus-merged}
 use Rattle.qp_orders.proofs.TurnLemmas.{turn_by, turns_in, turns-split, turns-none, turns-own, right-other, right-append, right-none, right-looks}
-use Rattle.qp_orders.proofs.StimLemmas.{any-front, any-both, all-append, up_to-more, looks-other, numbers-none, numbers-append, items-placed, stims_pass, stims-more, stims-block, stims-mute, stims-none}
+use Rattle.qp_orders.proofs.StimLemmas.{any-front, any-both, up_to-more, looks-other, numbers-none, numbers-append, items-placed, stims_pass, stims-more, stims-block, stims-mute, stims-none}
+use Rattle.qp_model.proofs.FitsLemmas.{all-append}
 
 -- nothing has been recorded yet
 pub order-new : (sys : System) (stimuli : List (List Stim)) (sources : List (List Item)) → AllByRecursion (λ l. l ≡ []) sources → RunsInOrder sys stimuli 0 [] sources []

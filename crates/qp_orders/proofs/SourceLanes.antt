@@ -22,10 +22,11 @@ use Rattle.qp_orders.specs.Placing.{AreBehind, spill_item}
 use Rattle.qp_orders.specs.Stimulus.{ArePlain, source_items}
 use Rattle.qp_orders.specs.Laws.{stimulus_told, SourceLaneGoesOn, SourceLaneIsWhole, SourceLaneStops}
 use Rattle.qp_orders.proofs.CalmLemmas.{calm-parts, calm-no_spill, calm-ends_last, calm-spills_cut, calm-states, IsMild, mild-cut, mild-states, mild-no_spill}
-use Rattle.qp_orders.proofs.StimLemmas.{all-append, any-both}
+use Rattle.qp_orders.proofs.StimLemmas.{any-both}
 use Rattle.qp_orders.proofs.RunLemmas.{filter-append}
 use Rattle.qp_orders.proofs.SourceLemmas.{runs-stimulus, runs-before, runs-asserted, runs-cut}
 use Rattle.qp_orders.proofs.StimulusForm.{stimulus-form, stimulus-items, cut-plain, cut-items}
+use Rattle.qp_model.proofs.FitsLemmas.{all-append}
 
 untold-append : (ts us : List ToldItem) → untold_all (ts ++ us) ≡ untold_all ts ++ untold_all us
 untold-append ts us = map-append untold ts us

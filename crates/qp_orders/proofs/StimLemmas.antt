@@ -13,9 +13,7 @@ use Rattle.qp_model.specs.OneOrder.{stim_of, is_stim_at, look_of, look_numbers}
 use Rattle.qp_orders.specs.RunOrder.{items_of, has_stim, up_to, stims_up_to}
 use Rattle.qp_orders.specs.Placing.{LooksNone, AreBehind, all_placed, stim_item}
 use Rattle.qp_orders.proofs.MergeLemmas.{OtherLook, LooksOther}
-
-pub all-append : {A : Type 0} (p : A → Bool) (xs ys : List A) → list_all p xs ≡ true → list_all p ys ≡ true → list_all p (xs ++ ys) ≡ true
-all-append p xs ys a b = list_all-append p xs ys ∙ rw (a, b) refl
+use Rattle.qp_model.proofs.FitsLemmas.{all-append}
 
 pub all-front : {A : Type 0} (p : A → Bool) (xs ys : List A) → list_all p (xs ++ ys) ≡ true → (list_all p xs ≡ true) × (list_all p ys ≡ true)
 all-front p xs ys h = and_parts (list_all p xs) (list_all p ys) (sym (list_all-append p xs ys) ∙ h)

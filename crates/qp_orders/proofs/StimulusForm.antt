@@ -1,5 +1,5 @@
 -- The records of a stimulus: none of them is a look, another `stim`, or the end of a lane but by an assertion, and no queue is seen with an entry.
-use Rattle.std.proofs.Common.{◌≡◌, ℕ, ◌+◌, ◌==◌, nat_lt, Bool, true, false, not, ◌||◌, List, [], ◌∷◌, ◌++◌, map, refl, sym, ◌∙◌, ap, subst, inl, inr, arith, Some, None, append_assoc, append-nil}
+use Rattle.std.proofs.Common.{◌≡◌, ℕ, ◌+◌, ◌==◌, nat_lt, Bool, true, false, not, ◌||◌, List, [], ◌∷◌, ◌++◌, map, refl, sym, ◌∙◌, ap, subst, inl, inr, arith, None, append_assoc, append-nil}
 use Rattle.std.specs.Prelude.{◌⊎◌, ◌≢◌, IsTrue}
 use Rattle.std.specs.Bool.{MatchBool}
 use Rattle.std.specs.List.{list_all, list_any, filter_map}
@@ -17,13 +17,13 @@ use Rattle.qp_model.specs.declared.bodies.Body.TheVariants as body
 use Rattle.qp_model.specs.Record.{Item}
 use Rattle.qp_model.specs.Told.{Told, plain, for_object}
 use Rattle.qp_model.specs.Calls as call
-use Rattle.qp_model.specs.Calls.{Call, Answer, is_assertion}
+use Rattle.qp_model.specs.Calls.{Call}
 use Rattle.qp_model.specs.Kernels.{sim, may_try}
 use Rattle.qp_model.specs.Sites.{ring_of}
 use Rattle.qp_model.specs.Ends.{is_assert, is_spent, is_spill, is_end, ends_last}
 use Rattle.qp_model.specs.OneOrder.{stim_of, look_of}
 use Rattle.qp_model.specs.Sources.{CallFits, TicksOne, FiresInVain, Ticks, SeesEmpty, Tries, Settles, StimFits, entry_seen, priorities}
-use Rattle.qp_model.proofs.FitsLemmas.{is_calm, is_deferral, Usual, Ending, Answers, fits-usual, assertion_of}
+use Rattle.qp_model.proofs.FitsLemmas.{is_calm, is_deferral, Usual, Ending, Answers, fits-usual, answer-assert}
 use Rattle.qp_orders.specs.SourceRun.{untold}
 use Rattle.qp_orders.specs.Placing.{LooksNone, AreBehind, spill_item}
 use Rattle.qp_orders.specs.Stimulus.{IsPlain, ArePlain, StimulusForm, source_items, StimulusItems, CutItems}
@@ -57,14 +57,6 @@ usual-all (t ∷ ts) h =
     let parts = and_parts (is_calm t.body || is_deferral t.body) (list_all (λ t. is_calm t.body || is_deferral t.body) ts) h in
     (usual-plain t.body parts.0, usual-all ts parts.1)
 
-assertion-is : (b : Body) (answer : Answer) → assertion_of b ≡ Some answer → is_assert b ≡ true
-assertion-is (body.NoEntry a f l m) answer h = refl
-assertion-is (body.NoBlock p n free) answer h = refl
-assertion-is (body.Armed t n c) answer h = refl
-assertion-is (body.BadTicks t n i) answer h = refl
-assertion-is (body.NoLifo a f l m) answer h = refl
-assertion-is _ answer h = absurd (cc)
-
 -- a call of a source
 call-form : (sys : System) (x : Call) (asserted : Bool) (g : List Told) → CallFits sys x asserted g → StimulusForm asserted g
 unfolding CallFits Answers Ending StimulusForm
@@ -72,7 +64,7 @@ call-form sys x asserted g h = by asserted (subst (λ b. MatchBool b (Ending Usu
   where
     by : (b : Bool) → MatchBool b (Ending Usual h.0 g) (Usual g) → StimulusForm b g
     by false u = usual-all g u
-    by true u = (u.0, usual-all u.0 u.2, u.1, assertion-is u.1.body h.0 u.3, u.4)
+    by true u = (u.0, usual-all u.0 u.2, u.1, answer-assert u.1.body h.0 u.3, u.4)
 
 -- a tick of one timer
 tick-plain : (ring t : ℕ) (d : TimerDef) (g : List Told) → TicksOne ring t d g → ArePlain g

@@ -2,7 +2,7 @@
 use Rattle.std.proofs.Common.{◌≡◌, ℕ, zero, suc, ◌+◌, ◌<◌, ◌≤◌, ◌==◌, Bool, true, false, ◌&&◌, List, [], ◌∷◌, ◌++◌, length, take, drop, get_or, slice_get, refl, sym, ◌∙◌, ap, subst, arith, append_assoc, IsTrue, Some, if◌then◌else◌}
 use Rattle.std.specs.List.{count_by, find, list_all}
 use Rattle.std.specs.Option.{is_some}
-use Rattle.std.proofs.lemmas.Bool.{and_parts}
+use Rattle.std.proofs.lemmas.Bool.{and_parts, eqb-true, ne_eqb, eq-eqb}
 use Rattle.std.proofs.lemmas.Bool.Decides.{nat_tests}
 use Rattle.std.proofs.lemmas.List.{take_more, take-append-drop, take_all}
 use Rattle.std.proofs.lemmas.Option.{slice_get-get_or}
@@ -29,15 +29,6 @@ use Rattle.qp_plain.proofs.Calling.{queue-at}
 abbrev pub is_empty : PlainWorld → ObjectDef → Bool
 is_empty w d = count_by (λ x. enters d.priority x.item) (log_in w) == count_by (λ x. leaves d.priority x.item) (log_in w)
 
-eq-to : (a b : ℕ) → a ≡ b → (a == b) ≡ true
-eq-to a b h = grind (arith, nat_tests)
-
-ne-to : (a b : ℕ) → (a ≡ b → ⊥) → (a == b) ≡ false
-ne-to a b h = grind (arith, nat_tests)
-
-eq-from : (a b : ℕ) → (a == b) ≡ true → a ≡ b
-eq-from a b h = grind (arith, nat_tests)
-
 one-fails : {X : Type 0} (p : X → Bool) (xs : List X) (y : X) (ys : List X) → p y ≡ false → list_all p (xs ++ y ∷ ys) ≡ false
 one-fails p [] y ys h = rw h refl
 one-fails p (x ∷ xs) y ys h = go (p x) (one-fails p xs y ys h)
@@ -50,12 +41,12 @@ one-fails p (x ∷ xs) y ys h = go (p x) (one-fails p xs y ys h)
 pub empty-line : (w : PlainWorld) (d : ObjectDef) → IsTrue (is_object w.sys.now d.priority) → (line_in w.sys.now (lists_of w.book) d.priority).f + (line_in w.sys.now (lists_of w.book) d.priority).l ≡ (line_in w.sys.now (lists_of w.book) d.priority).m
     → is_empty w d ≡ true
 empty-line w d object is =
-    eq-to _ _ (entered-counts w.sys.now (lists_of w.book) w.book.order.items w.holds.world d.priority object ∙ is ∙ sym (left-counts w.sys.now (lists_of w.book) w.book.order.items w.holds.world d.priority object))
+    eq-eqb _ _ (entered-counts w.sys.now (lists_of w.book) w.book.order.items w.holds.world d.priority object ∙ is ∙ sym (left-counts w.sys.now (lists_of w.book) w.book.order.items w.holds.world d.priority object))
 
 pub full-line : (w : PlainWorld) (d : ObjectDef) → IsTrue (is_object w.sys.now d.priority) → ((line_in w.sys.now (lists_of w.book) d.priority).f + (line_in w.sys.now (lists_of w.book) d.priority).l ≡ (line_in w.sys.now (lists_of w.book) d.priority).m → ⊥)
     → is_empty w d ≡ false
 full-line w d object is =
-    ne-to _ _ (λ same. is (sym (entered-counts w.sys.now (lists_of w.book) w.book.order.items w.holds.world d.priority object) ∙ same ∙ left-counts w.sys.now (lists_of w.book) w.book.order.items w.holds.world d.priority object))
+    ne_eqb _ _ (λ same. is (sym (entered-counts w.sys.now (lists_of w.book) w.book.order.items w.holds.world d.priority object) ∙ same ∙ left-counts w.sys.now (lists_of w.book) w.book.order.items w.holds.world d.priority object))
 
 -- An object at a place of the list.
 
@@ -63,7 +54,7 @@ there : (to : ℕ) (ds : List ObjectDef) (k : ℕ) (d : ObjectDef) → slice_get
 there to [] k d at is = absurd (cc)
 there to (x ∷ xs) zero d at is =
     let same : x ≡ d = cc in
-    let here : (x.priority == to) ≡ true = eq-to x.priority to (ap (λ (y : ObjectDef). y.priority) same ∙ is) in
+    let here : (x.priority == to) ≡ true = eq-eqb x.priority to (ap (λ (y : ObjectDef). y.priority) same ∙ is) in
     rw here refl
 there to (x ∷ xs) (suc k) d at is = go (x.priority == to) (there to xs k d at is)
   where
@@ -133,7 +124,7 @@ unfolding all_empty is_object object_at view_of shown_in
 rests-counts w empty p object =
     let line : Line = line_in w.sys.now (lists_of w.book) p in
     let one = found p (is_empty w) w.sys.now.objects object empty in
-    let same : count_by (λ x. enters one.0.priority x.item) (log_in w) ≡ count_by (λ x. leaves one.0.priority x.item) (log_in w) = eq-from _ _ one.2 in
+    let same : count_by (λ x. enters one.0.priority x.item) (log_in w) ≡ count_by (λ x. leaves one.0.priority x.item) (log_in w) = eqb-true _ _ one.2 in
     let its : count_by (λ x. enters p x.item) (log_in w) ≡ count_by (λ x. leaves p x.item) (log_in w) =
     subst (λ a. count_by (λ x. enters a x.item) (log_in w) ≡ count_by (λ x. leaves a x.item) (log_in w)) one.1 same in (
       line.f,

@@ -1,13 +1,12 @@
 -- How many records and operations a world has at most.
 use Rattle.std.proofs.Common.{ℕ, suc, ◌+◌, ◌*◌, ◌≤◌, ◌==◌, Bool, true, false, cond, List, [], ◌∷◌, length, map, arith, IsTrue, length-append}
 use Rattle.std.proofs.lemmas.List.{length-set}
-use Rattle.std.proofs.lemmas.List.Sums.{length-filter, count_by-le-length}
 use Rattle.qp_model.specs.declared.record.Rec.{Rec}
 use Rattle.qp_model.specs.declared.words.Word.{Word}
 use Rattle.qp_model.specs.declared.words.Word.TheVariants as word
 use Rattle.qp_model.specs.declared.systems.System.{System}
 use Rattle.qp_model.specs.Record.{Item}
-use Rattle.qp_model.specs.History.{touch, drawn_on, hist, total, all_items, lane_items}
+use Rattle.qp_model.specs.History.{hist, total, all_items, lane_items}
 use Rattle.qp_model.specs.WordLaw.{Words, is_pool, is_block, is_object, is_signal, is_timer}
 use Rattle.qp_model.specs.declared.bodies.Body.{Body}
 use Rattle.qp_model.specs.declared.bodies.Body.TheVariants.{Inc, Dec}
@@ -21,6 +20,7 @@ use Rattle.qp_plain.specs.declared.book.Book.{Book}
 use Rattle.qp_plain.specs.Books.{recs_of}
 use Rattle.qp_plain.specs.Book.{lists_of, logs_of}
 use Rattle.qp_plain.proofs.LogLemmas.{length-kinds}
+use Rattle.qp_model.proofs.HistoryLemmas.{total-length}
 
 one-lane : (g : Log) → length (lane_items (recs_of g)) ≤ 1000001
 one-lane g = let all = length-kinds (lane_items g.recs.items) in omega (arith, all, g.few, g.spills)
@@ -40,16 +40,9 @@ records-few b =
     let long = length-set b.others.items b.at b.here in
     omega (arith, all, long, b.few)
 
-total-few : (w : Word) (items : List Item) → total w items ≤ length items
-unfolding total
-total-few w items =
-    let is = length-filter (λ i. drawn_on w (touch i)) items in
-    let le = count_by-le-length (λ i. drawn_on w (touch i)) items in
-    omega (arith, is, le)
-
 module _ (sys : System) (b : Book) (words : Words sys (lists_of b)) where
   few : (w : Word) → total w (all_items (lists_of b)) ≤ 49000049
-  few w = let t = total-few w (all_items (lists_of b)) in let all = records-few b in omega (arith, t, all)
+  few w = let t = total-length w (all_items (lists_of b)) in let all = records-few b in omega (arith, t, all)
 
   pub pool-few : (p : ℕ) → IsTrue (is_pool sys p) → (pool_in sys (lists_of b) p).count ≤ 49000049
   pool-few p h = let is = pool-count sys (lists_of b) words p h in let le = few (word.Pool p) in omega (arith, is, le)

@@ -40,6 +40,7 @@ use Rattle.qp_plain.specs.Fresh.{made, first_pool, first_queue, is_new, no_recs,
 use Rattle.qp_plain.specs.Tables.{PoolsHold, BlocksHold, CellsHold, QueuesHold, SignalsHold, TimersHold, Limits, place, no_pool, no_block, no_queue, no_signal, no_clock}
 use Rattle.qp_plain.specs.World.{WorldHolds, StopIs, fits_stop, no_codes}
 use Rattle.qp_plain.proofs.Holding.{pool-in, signal-in, timer-in}
+use Rattle.qp_model.proofs.ListLemmas.{each-at}
 
 -- Lists made by a function.
 pub length-made : {X : Type 0} (f : ℕ → X) (n : ℕ) → length (made f n) ≡ n
@@ -220,18 +221,12 @@ timers-new sys n = record {
       get-made (λ k. no_clock) (length sys.timers) (t - 1) no_clock (omega (arith, at.0, at.1)) ∙ sym (ap (after time_event) (no-hist (word.Timer t) n));
 }
 
--- The limits of a sound system.
-all-at : {X : Type 0} (P : X → Type 0) (xs : List X) (i : ℕ) (x : X) → AllByRecursion P xs → slice_get xs i ≡ Some x → P x
-all-at P [] i x all h = absurd (cc)
-all-at P (y ∷ ys) zero x all h = let same : y ≡ x = cc in subst P same all.0
-all-at P (y ∷ ys) (suc i) x all h = all-at P ys i x all.1 h
-
 pub blocks-few : (sys : System) → IsSound sys → (p : ℕ) → blocks_of sys p ≤ 32
 blocks-few sys sound p = go (slice_get sys.pools (p - 1)) refl
   where
     go : (d : Option PoolDef) → slice_get sys.pools (p - 1) ≡ d → option_map_or (λ x. x.blocks) d 0 ≤ 32
     go None e = omega arith
-    go (Some d) e = let pool : IsSoundPool d = all-at IsSoundPool sys.pools (p - 1) d sound.pools e in pool.few_blocks
+    go (Some d) e = let pool : IsSoundPool d = each-at IsSoundPool sys.pools (p - 1) d sound.pools e in pool.few_blocks
 
 object-some : (sys : System) (xs : List ObjectDef) (a : ℕ) → AllByRecursion (λ d. d.priority ≤ 32) xs → AllByRecursion (IsSoundObject sys.charts) xs
     → is_some (find (λ d. d.priority == a) xs) ≡ true → (0 < a) × (a ≤ 32)

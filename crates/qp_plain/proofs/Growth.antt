@@ -1,6 +1,5 @@
 -- What the words hold after a record more.
-use Rattle.std.proofs.Common.{◌≡◌, ℕ, suc, ◌+◌, ◌==◌, true, false, List, [], ◌∷◌, ◌++◌, take, drop, refl, sym, ◌∙◌, ap, subst, arith, IsTrue, None}
-use Rattle.std.proofs.lemmas.Bool.Decides.{nat_tests}
+use Rattle.std.proofs.Common.{◌≡◌, ℕ, suc, ◌+◌, ◌==◌, true, false, List, [], ◌∷◌, ◌++◌, take, drop, refl, sym, ◌∙◌, ap, subst, IsTrue, None}
 use Rattle.qp_model.specs.declared.words.Word.{Word}
 use Rattle.qp_model.specs.declared.words.Word.TheVariants as word
 use Rattle.qp_model.specs.declared.bodies.Body.{Body}
@@ -16,7 +15,7 @@ use Rattle.qp_model.specs.Sites.{ring_of, blocks_of}
 use Rattle.qp_model.specs.WordLaw.{Keeps, Words, is_pool, is_block, is_object, is_signal, is_timer}
 use Rattle.qp_model.proofs.HistoryLemmas.{hist-draws}
 use Rattle.qp_model.proofs.MachineLemmas.{Counts, after-append}
-use Rattle.qp_model.proofs.LineLemmas.{line-counts}
+use Rattle.qp_model.proofs.LineLemmas.{line-counts, same_number}
 use Rattle.qp_model.proofs.WordLemmas.{all_items-split, all_items-grown, hist-stays}
 use Rattle.qp_model.proofs.WordLawLemmas.{references-counts, free_blocks-counts, subscribers-counts, time_event-counts}
 use Rattle.qp_sound.specs.Log.{lane_of}
@@ -26,18 +25,15 @@ use Rattle.qp_sound.proofs.Logs.{lanes-split, lanes-grown}
 use Rattle.qp_sound.proofs.Standing.{count-total}
 use Rattle.qp_sound.proofs.Events.{cell-append}
 
-number-self : (n : ℕ) → (n == n) ≡ true
-number-self n = grind (arith, nat_tests)
-
 pub word-self : (w : Word) → same_word w w ≡ true
-word-self (word.Pool p) = number-self p
-word-self (word.Block p b) = rw (number-self p, number-self b) refl
-word-self (word.Queue a) = number-self a
-word-self (word.Signal s) = number-self s
-word-self (word.Timer t) = number-self t
+word-self (word.Pool p) = same_number p
+word-self (word.Block p b) = rw (same_number p, same_number b) refl
+word-self (word.Queue a) = same_number a
+word-self (word.Signal s) = same_number s
+word-self (word.Timer t) = same_number t
 
 drawn-as : (w : Word) (n : ℕ) (t : Touch) → t ≡ Draws w (suc n) → drawn_as w n t ≡ true
-drawn-as w n t is = rw (is, word-self w, number-self (suc n)) refl
+drawn-as w n t is = rw (is, word-self w, same_number (suc n)) refl
 
 module _ (s : Step) (o : ℕ) (b : Body) (grown : Grown s.lanes s.order s.at s.rec s.more s.longer) (says : item_of s.rec ≡ record { of = o; body = b }) where
   abbrev this : Item

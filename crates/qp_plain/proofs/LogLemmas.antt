@@ -3,7 +3,7 @@ use Rattle.std.proofs.Common.{◌≡◌, ◌≢◌, ℕ, suc, ◌+◌, ◌<◌, 
 use Rattle.std.specs.List.{list_all, list_any, count_by}
 use Rattle.std.proofs.lemmas.Bool.{and_from, and_parts}
 use Rattle.std.proofs.lemmas.Bool.Decides.{nat_tests}
-use Rattle.std.proofs.lemmas.List.{map-append, length-map, get_or-set_same, get_or-set_other}
+use Rattle.std.proofs.lemmas.List.{map-append, get_or-set_same, get_or-set_other}
 use Rattle.std.proofs.lemmas.List.Folds.{list_any-append}
 use Rattle.std.proofs.lemmas.List.Sums.{sum_by-append, sum_by-cons}
 use Rattle.qp_model.specs.declared.record.Rec.{Rec}
@@ -109,10 +109,6 @@ no-spills (i ∷ is) h = go (is_spill i.body) refl h (no-spills is)
         let y : ◌≡◌ {A = ℕ} (cond (is_spill i.body) 1 0) 0 = rw e refl in
         let none = later k in
         omega (arith, b, y, none)
-
-pub length-items : (recs : List Rec) → length (lane_items recs) ≡ length recs
-unfolding lane_items
-length-items recs = length-map recs item_of
 
 -- the last `nil`
 nil-append : (a : ℕ) (x : Shown) (items : List Item) (i : Item) → last_nil_in a x (items ++ i ∷ []) ≡ nil_by a (last_nil_in a x items) i.of i.body

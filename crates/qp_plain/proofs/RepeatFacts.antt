@@ -46,8 +46,9 @@ use Rattle.qp_plain.specs.Repeat.{CountsDown, FitsTimer, FitsToken, MayAt, MayRe
 use Rattle.qp_plain.specs.Tables.{SignalIs}
 use Rattle.qp_plain.proofs.Few.{line-few}
 use Rattle.qp_plain.proofs.Holding.{block-in}
-use Rattle.qp_plain.proofs.LogLemmas.{length-items, length-kinds, no-spills, regular}
+use Rattle.qp_plain.proofs.LogLemmas.{length-kinds, no-spills, regular}
 use Rattle.qp_plain.proofs.SignalTable as signal_table
+use Rattle.qp_model.proofs.RecordLemmas.{lane-length}
 
 -- What the record says of its word, and of its tokens.
 module _ (w : PlainWorld) (r : Rec) (next : MayRepeat r w) where
@@ -272,7 +273,7 @@ pub few-here : (w : PlainWorld) → length (lane_in w) < 1000000 → regular (la
 few-here w less =
     let here : length w.book.here.recs.items < 1000000 = subst (λ (l : List Rec). length l < 1000000) (lane-here w.book.others.items w.book.at w.book.here w.book.within) less in
     let all = length-kinds (lane_items w.book.here.recs.items) in
-    let long = length-items w.book.here.recs.items in
+    let long = lane-length w.book.here.recs.items in
     omega (arith, here, all, long)
 
 -- the counts of a queue fit their type

@@ -15,6 +15,7 @@ use Rattle.qp_plain.specs.declared.book.Book.{Book}
 use Rattle.qp_plain.specs.Book.{Hands, Answers, logs_of, purse_of, no_purse, purses_of}
 use Rattle.qp_plain.specs.Books.{all_logs}
 use Rattle.qp_plain.specs.World.{StopIs, fits_stop, was_handed, no_codes}
+use Rattle.qp_model.proofs.LineLemmas.{same_number}
 
 all-at : {X : Type 0} (p : X → Bool) (xs : List X) (k : ℕ) (x : X) → k < length xs → list_all p (slice_set xs k x) ≡ true → p x ≡ true
 all-at p [] k x lt h = absurd (omega (arith, lt))
@@ -53,9 +54,6 @@ any-kept p (z ∷ zs) (suc k) x y keeps h = go (p z) h (any-kept p zs k x y keep
     go true g later = refl
     go false g later = later g
 
-same-number : (n : ℕ) → (n == n) ≡ true
-same-number n = grind (arith, nat_tests)
-
 not-zero : (n : ℕ) → n ≢ 0 → (n == 0) ≡ false
 not-zero n h = grind (arith, nat_tests)
 
@@ -90,7 +88,7 @@ stop-first code old new h some few lt is = record {
     here = rw (nz, h.answered) (none-all old.here.answered.list (and_parts (no_codes old.here.stops.list) (no_codes old.here.answered.list) before).1)
 
     handed : was_handed code new.here ≡ true
-    handed = rw (h.stops, same-number code) refl
+    handed = rw (h.stops, same_number code) refl
 
 -- A later one changes nothing.
 pub stop-later : (stop code : ℕ) (old new : Book) → Hands code old new → stop ≢ 0 → old.at < length old.others.items → StopIs stop (logs_of old) → StopIs stop (logs_of new)
@@ -130,7 +128,7 @@ stop-answered stop old new h set lt is = record {
     was = subst (λ v. (v || list_any (was_handed stop) (logs_of old)) ≡ true) nz is.handed
 
     here : fits_stop stop new.here ≡ true
-    here = rw (nz, h.answered, same-number stop) (found stop old.here nz (all-at (fits_stop stop) old.others.items old.at old.here lt is.fits))
+    here = rw (nz, h.answered, same_number stop) (found stop old.here nz (all-at (fits_stop stop) old.others.items old.at old.here lt is.fits))
 
 -- Where the word is 0, no lane handed in a code or found one.
 pub nothing-handed : (old : Book) → old.at < length old.others.items → StopIs 0 (logs_of old) → (old.here.stops.list ≡ []) × (old.here.answered.list ≡ [])

@@ -1,12 +1,12 @@
 -- The ones of a number of 32 bits, when one bit changes.
-use Rattle.std.proofs.Common.{◌≡◌, ◌≢◌, ℕ, zero, suc, ◌+◌, ◌-◌, ◌*◌, ◌%◌, ◌^◌, ◌<◌, ◌≤◌, ◌==◌, Bool, true, false, cond, List, [], ◌∷◌, length, refl, sym, ◌∙◌, ap, subst, arith, lit<, w32}
+use Rattle.std.proofs.Common.{◌≡◌, ◌≢◌, ℕ, zero, suc, ◌+◌, ◌-◌, ◌*◌, ◌%◌, ◌^◌, ◌<◌, ◌≤◌, ◌==◌, Bool, true, false, cond, [], ◌∷◌, length, refl, sym, ◌∙◌, ap, arith, lit<, w32}
 use Rattle.std.specs.Int.{bit_at, bit_not, trailing_zeros}
 use Rattle.std.specs.Int.RustNames.{bit_or}
 use lib.Bits.{bit_and}
 use Rattle.std.specs.List.{filter}
 use Rattle.std.proofs.Math.Nat.{mod-eq_of_lt}
 use Rattle.std.proofs.Math.Pow.{pow_mono}
-use Rattle.std.proofs.lemmas.Bool.Decides.{nat_tests}
+use Rattle.std.proofs.lemmas.Bool.{eqb-false}
 use Rattle.std.proofs.lemmas.Nat.Bits.{bit_at-lt, bit_at_set_same, bit_at_set_other, bit_at_clear_same, bit_at_clear_other, bit_at-trailing_zeros, bit_at_ones, bit_at_ones_above}
 use Rattle.qp_chart.specs.StateTree.{has}
 use Rattle.qp_model.specs.Lists.{count_up, without_all, with_number, is_first}
@@ -25,22 +25,19 @@ one x h = rw h refl
 none : (x : ℕ) → x ≡ 0 → (x == 1) ≡ false
 none x h = rw h refl
 
-differ : (i k : ℕ) → (i == k) ≡ false → i ≢ k
-differ i k h = grind (arith, nat_tests)
-
 -- the bit after `n & !(1 << k)`
 clear-same : (n k : ℕ) → k < 32 → (bit_at (clear n k) k == 1) ≡ false
 clear-same n k lt = none _ (bit_at_clear_same w32 n k lt)
 
 clear-other : (n k i : ℕ) → k < 32 → i < 0 + 32 → (i == k) ≡ false → (bit_at (clear n k) i == 1) ≡ (bit_at n i == 1)
-clear-other n k i lt below other = ap (λ x. x == 1) (bit_at_clear_other w32 n k lt i (omega (arith, below)) (differ i k other))
+clear-other n k i lt below other = ap (λ x. x == 1) (bit_at_clear_other w32 n k lt i (omega (arith, below)) (eqb-false i k other))
 
 -- the bit after `n | 1 << k`
 set-same : (n k : ℕ) → k < 32 → (bit_at (set n k) k == 1) ≡ true
 set-same n k lt = one _ (bit_at_set_same w32 n k lt)
 
 set-other : (n k i : ℕ) → k < 32 → (i == k) ≡ false → (bit_at (set n k) i == 1) ≡ (bit_at n i == 1)
-set-other n k i lt other = ap (λ x. x == 1) (bit_at_set_other w32 n k lt i (differ i k other))
+set-other n k i lt other = ap (λ x. x == 1) (bit_at_set_other w32 n k lt i (eqb-false i k other))
 
 pub places-clear : (n k : ℕ) → k < 32 → places (clear n k) ≡ without_all k (places n)
 unfolding places

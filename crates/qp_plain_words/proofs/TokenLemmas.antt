@@ -1,8 +1,9 @@
 -- Tokens in a ring that gains one or loses one.
-use Rattle.std.proofs.Common.{◌≡◌, ℕ, zero, suc, Bool, true, false, ◌&&◌, List, [], ◌∷◌, ◌++◌, take, drop, length, refl, Option, Some, slice_get}
+use Rattle.std.proofs.Common.{◌≡◌, ℕ, zero, suc, Bool, true, ◌&&◌, List, [], ◌∷◌, ◌++◌, take, drop, refl, Some, slice_get}
 use Rattle.std.specs.List.{list_all}
 use Rattle.circular_buffer.specs.Buffer.{keep_last}
 use Rattle.std.proofs.lemmas.Bool.{and_from, and_parts}
+use Rattle.qp_model.proofs.ListLemmas.{all-push}
 
 all-drop : {X : Type 0} (p : X → Bool) (xs : List X) (k : ℕ) → list_all p xs ≡ true → list_all p (drop k xs) ≡ true
 all-drop p xs zero h = h
@@ -14,12 +15,8 @@ all-take p xs zero h = refl
 all-take p [] (suc k) h = refl
 all-take p (x ∷ xs) (suc k) h = and_from _ _ (and_parts _ _ h).0 (all-take p xs k (and_parts _ _ h).1)
 
-all-end : {X : Type 0} (p : X → Bool) (xs : List X) (x : X) → list_all p xs ≡ true → p x ≡ true → list_all p (xs ++ x ∷ []) ≡ true
-all-end p [] x h here = and_from _ _ here refl
-all-end p (y ∷ ys) x h here = and_from _ _ (and_parts _ _ h).0 (all-end p ys x (and_parts _ _ h).1 here)
-
 pub all-pushed : {X : Type 0} (p : X → Bool) (n : ℕ) (xs : List X) (x : X) → list_all p xs ≡ true → p x ≡ true → list_all p (keep_last n (xs ++ x ∷ [])) ≡ true
-all-pushed p n xs x h here = all-drop p (xs ++ x ∷ []) _ (all-end p xs x h here)
+all-pushed p n xs x h here = all-drop p (xs ++ x ∷ []) _ (all-push p xs x h here)
 
 pub all-front : {X : Type 0} (p : X → Bool) (n : ℕ) (xs : List X) (x : X) → list_all p xs ≡ true → p x ≡ true → list_all p (take n (x ∷ xs)) ≡ true
 all-front p n xs x h here = all-take p (x ∷ xs) n (and_from _ _ here h)

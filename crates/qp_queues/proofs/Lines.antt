@@ -3,7 +3,7 @@ use Rattle.std.proofs.Common.{◌≡◌, ℕ, suc, ◌+◌, ◌-◌, ◌%◌, �
 use mathlib.Core.Logic.{dite}
 use native.Mathlib.Decide.{ℕ_discrete}
 use Rattle.atomic_table.proofs.Lists.{one_turn}
-use Rattle.std.proofs.lemmas.Bool.{and_parts}
+use Rattle.std.proofs.lemmas.Bool.{and_parts, false_from_ne_true}
 use Rattle.qp_model.specs.declared.bodies.Entry.{Entry}
 use Rattle.qp_words.specs.Counting.{Each, many}
 use Rattle.qp_words.specs.Rule.{InLine, code, cell_value, Run, OnlyFirst, entries_of, is_item, is_entry}
@@ -16,10 +16,6 @@ restaged stage p (i ∷ is) = cond (p i) (record i { stage = stage } ∷ is) (i 
 cond-zero : (b : Bool) → cond {A = ℕ} b 0 0 ≡ 0
 cond-zero true = refl
 cond-zero false = refl
-
-false-of : (b : Bool) → (b ≡ true → ⊥) → b ≡ false
-false-of true n = absurd (n refl)
-false-of false n = refl
 
 pub entry-is : (d e : Entry) → is_entry d e ≡ true → e ≡ d
 entry-is d e h = let t = and_parts (eqb e.pool d.pool && eqb e.block d.block) (eqb e.name d.name) h in let s = and_parts (eqb e.pool d.pool) (eqb e.block d.block) t.0 in
@@ -145,7 +141,7 @@ module _ (s t j : ℕ) (en : Entry) where
 
   -- the cells: that of the item, and the others
   not-item : (i : InLine) → i.cell ≢ j → p i ≡ false
-  not-item i n = false-of (p i) (λ e. n (item-is s j en i e).1)
+  not-item i n = false_from_ne_true (p i) (λ e. n (item-is s j en i e).1)
 
   none-passes : (xs : List InLine) → Absent j xs → many p xs ≡ 0
   none-passes [] e = refl

@@ -4,7 +4,7 @@ use mathlib.Core.Option.{some}
 use mathlib.Core.Logic.{dite}
 use native.Mathlib.Decide.{ℕ_discrete}
 use lib.ListN.{get_elem?}
-use Rattle.std.proofs.lemmas.Bool.{and_parts}
+use Rattle.std.proofs.lemmas.Bool.{and_parts, and_left}
 use Rattle.qp_model.specs.declared.bodies.Entry.{Entry}
 use Rattle.qp_model.specs.declared.systems.System.{System}
 use Rattle.qp_model.specs.Line.{Line}
@@ -51,12 +51,8 @@ tokens-line sys views now id v u at_id tokens a inside s moved fresh used =
     (worn-kept sys views now next id v u at_id tokens used (λ p b. refl) (λ p b. refl))
     tokens.named
 
--- an entry that isn't static leaves the hands, or comes into them
-and-false : (t s : Bool) → t ≡ false → (t && s) ≡ false
-and-false t s e = rw e refl
-
 static-ref : (p b k : ℕ) (e : Entry) → 0 < p → e.pool ≡ 0 → is_ref p b k e ≡ false
-static-ref p b k e pos z = and-false (eqb e.pool p && eqb e.block b) (eqb e.name k) (and-false (eqb e.pool p) (eqb e.block b) (ne_eqb e.pool p (λ q. absurd (omega arith))))
+static-ref p b k e pos z = and_left (eqb e.pool p && eqb e.block b) (eqb e.name k) (and_left (eqb e.pool p) (eqb e.block b) (ne_eqb e.pool p (λ q. absurd (omega arith))))
 
 pub spent-many : (p b k : ℕ) (e : Entry) (hands : List Entry) → 0 < p → (0 < e.pool → 0 < many (is_entry e) hands) → many (is_ref p b k) (spent e hands) + b2n (is_ref p b k e) ≡ many (is_ref p b k) hands
 spent-many p b k e hands pos own = dite (ℕ_discrete e.pool 0)

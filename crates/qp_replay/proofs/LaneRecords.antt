@@ -1,7 +1,7 @@
 -- The records of a lawful journal: what holds of each of them.
 use Rattle.std.proofs.Common.{◌≡◌, ◌∙◌, ℕ, zero, suc, ◌+◌, ◌<◌, ◌==◌, nat_lt, Bool, true, false, not, ◌&&◌, ◌||◌, List, [], ◌∷◌, ◌++◌, length, drop, filter, refl, sym, ap, subst, arith, cond, ◌⊎◌, inl, inr, Option, Some, None, IsTrue}
 use Rattle.std.specs.Bool.{MatchBool}
-use Rattle.std.specs.List.{AllByRecursion, count_by, find, list_all, position, prefix_len}
+use Rattle.std.specs.List.{AllByRecursion, count_by, find, list_all, position}
 use Rattle.std.specs.Option.{unwrap_or, option_and_then, option_map_or}
 use Rattle.std.specs.Prelude.{⊤, slice_get, is_some, map, reverse}
 use Rattle.std.proofs.lemmas.Bool.{and_parts}
@@ -38,10 +38,10 @@ use Rattle.qp_stim.specs.Rules as rule
 use Rattle.qp_replay.proofs.CallRecords.{Rules, Chain, chain-all}
 use Rattle.qp_replay.proofs.CourseRecords.{ChartNames, cut-chain}
 use Rattle.qp_replay.proofs.SourceRecords.{own-objects, source-chain}
-
-all-append : {A : Type 0} (P : A → Type 0) (xs ys : List A) → AllByRecursion P xs → AllByRecursion P ys → AllByRecursion P (xs ++ ys)
-all-append P [] ys h k = k
-all-append P (x ∷ xs) ys h k = (h.0, all-append P xs ys h.1 k)
+use Rattle.qp_model.proofs.AbleLemmas.{some-same}
+use Rattle.qp_model.proofs.NumberLemmas.{every-append}
+use Rattle.qp_model.proofs.KernelLaneLemmas.{granted}
+use Rattle.qp_model.proofs.HomeLemmas.{position-front}
 
 all-front : {A : Type 0} (P : A → Type 0) (xs ys : List A) → AllByRecursion P (xs ++ ys) → AllByRecursion P xs
 all-front P [] ys h = tt
@@ -92,14 +92,6 @@ pub record ReadingNames (sys : System) (k : Reading) : Type 0 where
   running : AllByRecursion (IsObject sys) k.running
   place : PlaceNames sys k.place
 
-some-same : {A : Type 0} {x y : A} → Some x ≡ Some y → x ≡ y
-some-same e = cc
-
--- what a test that passed leaves
-granted : {A : Type 0} (b : Bool) (x y : A) → cond b (Some x) None ≡ Some y → (b ≡ true) × (x ≡ y)
-granted true x y h = (refl, some-same h)
-granted false x y h = absurd (cc)
-
 module _ (s : Setting) where
   above-names : (floor : ℕ) → AllByRecursion (IsObject s.sys) (above s.sys floor)
   unfolding above
@@ -107,7 +99,7 @@ module _ (s : Setting) where
     where
       turned : (xs : List ℕ) → AllByRecursion (IsObject s.sys) xs → AllByRecursion (IsObject s.sys) (reverse xs)
       turned [] h = tt
-      turned (x ∷ xs) h = subst (AllByRecursion (IsObject s.sys)) (sym (reverse-append (x ∷ []) xs)) (all-append (IsObject s.sys) (reverse xs) (x ∷ []) (turned xs h.1) (h.0, tt))
+      turned (x ∷ xs) h = subst (AllByRecursion (IsObject s.sys)) (sym (reverse-append (x ∷ []) xs)) (every-append (IsObject s.sys) (reverse xs) (x ∷ []) (turned xs h.1) (h.0, tt))
 
       kept : (ds : List ObjectDef) → AllByRecursion (IsObject s.sys) (map (λ d. d.priority) ds) → AllByRecursion (IsObject s.sys) (map (λ d. d.priority) (filter (λ d. nat_lt floor d.priority) ds))
       kept [] h = tt
@@ -267,20 +259,6 @@ module _ (s : Setting) where
   unread-names = record { unstarted = own-objects s.sys; running = tt; place = tt }
 
 -- All records of a lawful journal.
-
-prefix-front : {A : Type 0} (p : A → Bool) (front : List A) (d : A) (rest : List A) → AllByRecursion (λ x. p x ≡ false) front → p d ≡ true → prefix_len (λ x. not (p x)) (front ++ d ∷ rest) ≡ length front
-prefix-front p [] d rest h here = rw here refl
-prefix-front p (x ∷ front) d rest h here =
-    let behind : prefix_len (λ y. not (p y)) (front ++ d ∷ rest) ≡ length front = prefix-front p front d rest h.1 here in
-    rw h.0 (omega (arith, behind))
-
-position-front : {A : Type 0} (p : A → Bool) (front : List A) (d : A) (rest : List A) → AllByRecursion (λ x. p x ≡ false) front → p d ≡ true → position p (front ++ d ∷ rest) ≡ Some (length front)
-position-front p front d rest h here =
-    let at : prefix_len (λ y. not (p y)) (front ++ d ∷ rest) ≡ length front = prefix-front p front d rest h here in
-    let whole : length (front ++ d ∷ rest) ≡ length front + suc (length rest) = length-append front (d ∷ rest) in
-    let within : length front < length (front ++ d ∷ rest) = omega (arith, whole) in
-    let test : nat_lt (prefix_len (λ y. not (p y)) (front ++ d ∷ rest)) (length (front ++ d ∷ rest)) ≡ true = grind (arith, nat_tests, at, within) in
-    rw test (ap (λ n. Some n) at)
 
 -- an object is the only one of its priority
 others-differ : (front : List ObjectDef) (d : ObjectDef) (rest : List ObjectDef) → Ascend (front ++ d ∷ rest) → AllByRecursion (λ x. (x.priority == d.priority) ≡ false) front
@@ -509,7 +487,7 @@ module _ (sys : System) (stimuli : List (List Stim)) (j : Journal) (sound : IsSo
         let behind = drop-head n j.lanes l ls at in
         let here : lane_at j n ≡ l = ap (λ x. unwrap_or x []) behind.0 in
         let fine : AllByRecursion FineItem (lane_items (lane_at j n)) = source-fine ss (lane_items (lane_at j n)) fits.0 (lane-known n) h.0 in
-        all-append FineItem (lane_items l) (all_items ls) (subst (λ x. AllByRecursion FineItem (lane_items x)) here fine)
+        every-append FineItem (lane_items l) (all_items ls) (subst (λ x. AllByRecursion FineItem (lane_items x)) here fine)
         (sources-fine ls (n + 1) more behind.1 h.1 (omega (arith, len)) fits.1)
 
     -- the home lanes of these objects, and then the sources
@@ -527,7 +505,7 @@ module _ (sys : System) (stimuli : List (List Stim)) (j : Journal) (sound : IsSo
         let lane : lane_at j n ≡ l = ap (λ x. unwrap_or x []) behind.0 in
         let longer : length (front ++ d ∷ []) ≡ length front + 1 = length-append front (d ∷ []) in
         let fine = home-fine d n is_port objects.0 (home-at sys j is_port sound.ascend front d ds at ∙ sym here) holds.0 in
-        all-append FineItem (lane_items l) (all_items ls) (subst (λ x. AllByRecursion FineItem (lane_items x)) lane fine)
+        every-append FineItem (lane_items l) (all_items ls) (subst (λ x. AllByRecursion FineItem (lane_items x)) lane fine)
         (homes-fine (front ++ d ∷ []) ds (n + 1) ls is_port (append_assoc front (d ∷ []) ds ∙ at) (omega (arith, here, longer)) behind.1 (omega (arith, len)) sources holds.1 objects.1)
 
     count : length j.lanes ≡ lanes_before sys j + length stimuli
@@ -558,12 +536,12 @@ module _ (sys : System) (stimuli : List (List Stim)) (j : Journal) (sound : IsSo
             let one = before false e in
             let whole : length j.lanes ≡ suc (length ls) = ap length at in
             let here : lane_at j 0 ≡ l = ap (λ x. unwrap_or (slice_get x 0) []) at in
-            all-append FineItem (lane_items l) (all_items ls) (subst (λ x. AllByRecursion FineItem (lane_items x)) here (zero-fine e))
+            every-append FineItem (lane_items l) (all_items ls) (subst (λ x. AllByRecursion FineItem (lane_items x)) here (zero-fine e))
             (sources-fine ls 1 stimuli (ap (drop 1) at) (subst (λ n. SourceLanes sys j n stimuli) one lawful.sources.lanes) (omega (arith, count, one, whole)) fit.stimuli)
         go true e (l ∷ ls) at =
             let many = before true e in
             let whole : length j.lanes ≡ suc (length ls) = ap length at in
             let here : lane_at j 0 ≡ l = ap (λ x. unwrap_or (slice_get x 0) []) at in
             let none : l ≡ [] = empty l e here in
-            all-append FineItem (lane_items l) (all_items ls) (subst (λ x. AllByRecursion FineItem (lane_items x)) (sym none) tt)
+            every-append FineItem (lane_items l) (all_items ls) (subst (λ x. AllByRecursion FineItem (lane_items x)) (sym none) tt)
             (homes-fine [] sys.objects 1 ls e refl (omega arith) (ap (drop 1) at) (omega (arith, count, many, whole)) (subst (λ n. SourceLanes sys j n stimuli) many lawful.sources.lanes) lawful.objects (own-objects sys))

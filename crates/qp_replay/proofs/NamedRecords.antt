@@ -43,7 +43,7 @@ use Rattle.qp_model.specs.Lawful.{Lawful, facts_of}
 use Rattle.qp_model.proofs.HistoryLemmas.{drawn_as-on}
 use Rattle.qp_model.proofs.ListLemmas.{list_all-has}
 use Rattle.qp_model.proofs.MachineLemmas.{is_allowed-front}
-use Rattle.qp_model.proofs.NumberLemmas.{number-owned}
+use Rattle.qp_model.proofs.NumberLemmas.{number-owned, every-append}
 use Rattle.qp_stim.specs.Rules.{StimuliFit}
 use Rattle.qp_calls.specs.Counting.{one}
 use Rattle.qp_calls.specs.declared.tokens.Entry as token
@@ -157,10 +157,6 @@ pub all-test : {A : Type 0} (p : A → Bool) (xs : List A) → AllByRecursion (�
 all-test p [] h = refl
 all-test p (x ∷ xs) h = and_from _ _ h.0 (all-test p xs h.1)
 
-pub all-join : {A : Type 0} (P : A → Type 0) (xs ys : List A) → AllByRecursion P xs → AllByRecursion P ys → AllByRecursion P (xs ++ ys)
-all-join P [] ys h k = k
-all-join P (x ∷ xs) ys h k = (h.0, all-join P xs ys h.1 k)
-
 pub all-parts : {A : Type 0} (P : A → Type 0) (xs ys : List A) → AllByRecursion P (xs ++ ys) → AllByRecursion P xs × AllByRecursion P ys
 all-parts P [] ys h = (tt, h)
 all-parts P (x ∷ xs) ys h = let parts = all-parts P xs ys h.1 in ((h.0, parts.0), parts.1)
@@ -190,7 +186,7 @@ numbered-all : (P Q : Item → Type 0) (w : Word) (items : List Item) → ((i : 
 unfolding numbered
 numbered-all P Q w items go h zero = tt
 numbered-all P Q w items go h (suc n) =
-    all-join Q (numbered w items n) (filter (λ i. drawn_as w n (touch i)) items) (numbered-all P Q w items go h n)
+    every-append Q (numbered w items n) (filter (λ i. drawn_as w n (touch i)) items) (numbered-all P Q w items go h n)
     (all-passed P Q (λ i. drawn_as w n (touch i)) (λ i e p. go i (drawn_as-on w n (touch i) e) p) items h)
 
 hist-all : (P Q : Item → Type 0) (w : Word) (items : List Item) → ((i : Item) → drawn_on w (touch i) ≡ true → P i → Q i) → AllByRecursion P items → AllByRecursion Q (hist w items)

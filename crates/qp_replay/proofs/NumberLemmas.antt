@@ -10,7 +10,7 @@ use Rattle.qp_model.specs.declared.words.Word.TheVariants as word
 use Rattle.qp_model.specs.Record.{Item}
 use Rattle.qp_model.specs.History.{Touch, Draws, Shows, Neither, touch, drawn_as, drawn_on, same_word, total}
 use Rattle.qp_model.specs.Places.{is_next, touch_first}
-use Rattle.qp_model.proofs.ListLemmas.{filter-none}
+use Rattle.qp_model.proofs.ListLemmas.{filter-none, all-push}
 use Rattle.qp_model.proofs.KnowingLemmas.{same_word-is}
 use Rattle.qp_replay.specs.Numbers.{is_next_where, numbers_stand}
 
@@ -204,10 +204,6 @@ total-more w A i =
     go true = refl
     go false = refl
 
-list_all-push : {X : Type 0} (p : X → Bool) (xs : List X) (y : X) → list_all p xs ≡ true → p y ≡ true → list_all p (xs ++ y ∷ []) ≡ true
-list_all-push p [] y all here = and_from _ _ here refl
-list_all-push p (x ∷ xs) y all here = let parts = and_parts _ _ all in and_from _ _ parts.0 (list_all-push p xs y parts.1 here)
-
 list_all-map : {X : Type 0} (p q : X → Bool) (xs : List X) → ((x : X) → p x ≡ true → q x ≡ true) → list_all p xs ≡ true → list_all q xs ≡ true
 list_all-map p q [] each all = refl
 list_all-map p q (x ∷ xs) each all = let parts = and_parts (p x) (list_all p xs) all in and_from _ _ (each x parts.0) (list_all-map p q xs each parts.1)
@@ -222,7 +218,7 @@ list_all-two p q r (x ∷ xs) each all also =
 pub sorted-more : (A : List Item) (i : Item) (B : List Item) → Sorted A (i ∷ B) → Sorted (A ++ i ∷ []) B
 sorted-more A i B order = record {
   behind = list_all-two (λ k. list_all (λ a. not (touch_first (touch k) (touch a))) A) (λ k. not (touch_first (touch k) (touch i))) (λ k. list_all (λ a. not (touch_first (touch k) (touch a))) (A ++ i ∷ [])) B
-      (λ k p q. list_all-push (λ a. not (touch_first (touch k) (touch a))) A i p q) (and_parts _ _ order.behind).1 (and_parts _ _ order.sorted).0;
+      (λ k p q. all-push (λ a. not (touch_first (touch k) (touch a))) A i p q) (and_parts _ _ order.behind).1 (and_parts _ _ order.sorted).0;
   sorted = (and_parts _ _ order.sorted).1;
 }
 
@@ -275,7 +271,7 @@ inv-draw w all A i B m inv order is =
     record {
       once = λ n less. ap (drawn w n) (append_assoc A (i ∷ []) B) ∙ inv.once n less;
       within = (and_parts _ _ inv.within).1;
-      low = rw more (list_all-push (λ k. draws_to w (suc c) (touch k)) A i (list_all-map (λ k. draws_to w c (touch k)) (λ k. draws_to w (suc c) (touch k)) A (λ k h. to-more w c (suc c) (touch k) (omega arith) h) inv.low) last);
+      low = rw more (all-push (λ k. draws_to w (suc c) (touch k)) A i (list_all-map (λ k. draws_to w c (touch k)) (λ k. draws_to w (suc c) (touch k)) A (λ k h. to-more w c (suc c) (touch k) (omega arith) h) inv.low) last);
       high = rw more (raised w c B (and_parts _ _ inv.high).1 later);
       part = omega (arith, more, some);
     }
@@ -296,7 +292,7 @@ inv-other w all A i B inv off =
     record {
       once = λ n less. ap (drawn w n) (append_assoc A (i ∷ []) B) ∙ inv.once n less;
       within = (and_parts _ _ inv.within).1;
-      low = rw more (list_all-push (λ k. draws_to w c (touch k)) A i inv.low (free (touch i) off));
+      low = rw more (all-push (λ k. draws_to w c (touch k)) A i inv.low (free (touch i) off));
       high = rw more (and_parts _ _ inv.high).1;
       part = omega (arith, more, inv.part);
     }

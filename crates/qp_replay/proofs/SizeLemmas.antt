@@ -1,5 +1,5 @@
 -- A lawful journal has few lanes, and each is short.
-use Rattle.std.proofs.Common.{◌≡◌, ◌∙◌, suc, ◌+◌, ◌^◌, ◌≤◌, ◌<◌, ◌==◌, Bool, true, false, not, ◌||◌, cond, List, [], ◌∷◌, ◌++◌, length, refl, ap, arith}
+use Rattle.std.proofs.Common.{◌≡◌, ◌∙◌, ◌+◌, ◌^◌, ◌≤◌, ◌<◌, ◌==◌, Bool, true, false, not, ◌||◌, cond, List, [], ◌∷◌, ◌++◌, length, refl, arith}
 use Rattle.std.specs.List.{AllByRecursion, count_by, list_all}
 use Rattle.std.proofs.lemmas.Bool.{and_parts}
 use Rattle.std.proofs.lemmas.Bool.Decides.{nat_tests}
@@ -16,6 +16,7 @@ use Rattle.qp_model.specs.End.{has_room}
 use Rattle.qp_model.specs.Lawful.{EndHolds, Lawful, lanes_before}
 use Rattle.qp_model.specs.Sound.{IsSound}
 use Rattle.qp_replay.specs.Remaining.{IsSmall}
+use Rattle.qp_model.proofs.RecordLemmas.{lane-length}
 
 pub short-more : (ls : List (List Rec)) (l : List Rec) → AllByRecursion (λ l. length l < 2 ^ 32) ls → length l < 2 ^ 32 → AllByRecursion (λ l. length l < 2 ^ 32) (ls ++ l ∷ [])
 short-more [] l all short = (short, tt)
@@ -39,11 +40,6 @@ lane-long (i ∷ j ∷ is) last =
     let more : count_by (λ i. not (is_spill i.body)) (i ∷ j ∷ is) ≡ 1 + count_by (λ i. not (is_spill i.body)) (j ∷ is) =
     sum_by-cons (λ i. cond (not (is_spill i.body)) 1 0) i (j ∷ is) ∙ rw none refl in
     omega (arith, remaining, more)
-
-lane-length : (l : List Rec) → length (lane_items l) ≡ length l
-unfolding lane_items
-lane-length [] = refl
-lane-length (r ∷ rs) = ap suc (lane-length rs)
 
 lanes-short : (lanes : List (List Rec)) → list_all (λ lane. ends_last (lane_items lane)) lanes ≡ true → list_all (λ lane. has_room (lane_items lane)) lanes ≡ true → AllByRecursion (λ l. length l < 2 ^ 32) lanes
 unfolding has_room

@@ -1,5 +1,5 @@
 -- Each place of what a replay answers is that of a record.
-use Rattle.std.proofs.Common.{◌≡◌, ◌∙◌, ℕ, zero, suc, ◌<◌, Bool, true, List, [], ◌∷◌, ◌++◌, decimal, length, map, get_or, Option, Some, None, refl, ap, append_assoc, arith}
+use Rattle.std.proofs.Common.{◌≡◌, ◌∙◌, ℕ, zero, suc, ◌<◌, true, List, [], ◌∷◌, ◌++◌, decimal, length, map, get_or, Option, Some, None, refl, ap, append_assoc, arith}
 use Rattle.std.specs.Prelude.{IsTrue, is_some, slice_get}
 use Rattle.std.specs.List.{AllByRecursion, list_all}
 use Rattle.std.specs.Option.{option_and_then}
@@ -15,6 +15,7 @@ use Rattle.qp_replay.specs.Replaying.{IsAnswer, IsReplay}
 use Rattle.qp_replay.specs.declared.places.Replayed.{Replayed}
 use Rattle.qp_replay.specs.declared.places.Replayed.TheVariants.{Order, Cycle}
 use Rattle.qp_replayed.specs.Text.{AreRecords, place_line}
+use Rattle.qp_model.proofs.AbleLemmas.{all-get}
 
 goes-stand : (lanes : List (List Rec)) (before xs : List RecordPlace) → GoesOn lanes before xs → AllByRecursion (λ x. IsTrue (is_record lanes x)) xs
 goes-stand lanes before [] goes = tt
@@ -63,17 +64,12 @@ image-at P f [] i d all within = absurd (omega (arith, within))
 image-at P f (x ∷ xs) zero d all within = all.0
 image-at P f (x ∷ xs) (suc i) d all within = image-at P f xs i d all.1 (omega (arith, within))
 
-list_all-get : {A : Type 0} (p : A → Bool) (xs : List A) (n : ℕ) (x : A) → list_all p xs ≡ true → slice_get xs n ≡ Some x → p x ≡ true
-list_all-get p [] n x all at = absurd (cc)
-list_all-get p (y ∷ ys) zero x all at = let same : y ≡ x = cc in let first : p y ≡ true = (and_parts (p y) _ all).0 in rw same at first
-list_all-get p (y ∷ ys) (suc n) x all at = list_all-get p ys n x (and_parts _ _ all).1 at
-
 -- is in range where all lanes are
 pub found-range : (form : ℕ) (lanes : List (List Rec)) (x : RecordPlace) (f : Found lanes x) → list_all (is_lane_in_range form) lanes ≡ true
     → is_record_in_range form f.found ≡ true
 found-range form lanes x f all =
-    list_all-get (is_record_in_range form) f.lane x.at f.found
-    (and_parts _ _ (list_all-get (is_lane_in_range form) lanes x.lane f.lane all f.lane_is)).1 f.is
+    all-get (is_record_in_range form) f.lane x.at f.found
+    (and_parts _ _ (all-get (is_lane_in_range form) lanes x.lane f.lane all f.lane_is)).1 f.is
 
 pub replay-stands : (lanes : List (List Rec)) (r : Replayed) → IsReplay lanes r → AreRecords lanes r
 replay-stands lanes (Order xs) is = answer-stands lanes (Order xs) is.0

@@ -41,13 +41,14 @@ use Rattle.qp_sound.proofs.Times.{all-stands, stands-times, sum-change, sum-same
 use Rattle.qp_sound.proofs.WorldLemmas as front_of
 use Rattle.qp_sound.proofs.WorldLemmas.{hands_now, world-more}
 use Rattle.qp_replay.specs.Numbers.{has_word, is_on}
-use Rattle.qp_replay.proofs.NamedRecords.{SureBody, all-from, all-join, named-records, sure-records}
+use Rattle.qp_replay.proofs.NamedRecords.{SureBody, all-from, named-records, sure-records}
 use Rattle.qp_rerun.proofs.Histories.{next-draws}
 use Rattle.qp_model.specs.Ends.{spills_in}
 use Rattle.qp_rerun.proofs.LaneSpills.{SpillLast}
 use Rattle.qp_rerun.proofs.NextMay.{hands-same, LeftAlike, next-may}
 use Rattle.qp_rerun.proofs.NextRecords.{history, items-push, next, on_word}
 use Rattle.qp_rerun.proofs.TokenCalls.{Lin, Rules, Uses, hands_told, told-append}
+use Rattle.qp_model.proofs.NumberLemmas.{every-append}
 
 -- a record taken states a good entry
 abbrev pub TookGood : System → Body → Type 0
@@ -512,7 +513,7 @@ module _ (sys : System) (stimuli : List (List Stim)) (j : Journal) (sound : IsSo
       here : AllByRecursion (λ i. TookGood sys i.body) (lane_items (lane_of more a))
       here =
           subst (λ l. AllByRecursion (λ i. TookGood sys i.body) (lane_items l)) (sym lane-here)
-          (subst (AllByRecursion (λ i. TookGood sys i.body)) (sym (lane-append front (r ∷ []))) (all-join (λ i. TookGood sys i.body) (lane_items front) (i ∷ []) (along.took a) (took-this, tt)))
+          (subst (AllByRecursion (λ i. TookGood sys i.body)) (sym (lane-append front (r ∷ []))) (every-append (λ i. TookGood sys i.body) (lane_items front) (i ∷ []) (along.took a) (took-this, tt)))
 
   -- the world goes on along the order
   pub along-next : Along sys j objects (A ++ x ∷ []) more (O ++ a ∷ [])

@@ -2,7 +2,7 @@
 use Rattle.std.proofs.Common.{◌≡◌, ◌∙◌, ℕ, zero, suc, ◌+◌, ◌<◌, ◌≤◌, ◌==◌, nat_lt, Bool, true, false, ◌&&◌, ◌||◌, List, [], ◌∷◌, ◌++◌, length, get_or, refl, sym, ap, subst, arith, Some, IsTrue}
 use Rattle.std.specs.Prelude.{slice_get, IsPermutation}
 use Rattle.std.specs.List.{AllByRecursion, sum_by}
-use Rattle.std.proofs.lemmas.Bool.{and_from, and_parts}
+use Rattle.std.proofs.lemmas.Bool.{and_from, and_parts, eqb-true, ltb-true}
 use Rattle.std.proofs.lemmas.Bool.Decides.{nat_tests}
 use Rattle.std.proofs.lemmas.List.Sums.{sum_by-cons}
 use Rattle.std.proofs.lemmas.List.Sorted.{sum_by-IsPermutation}
@@ -130,12 +130,6 @@ get-behind (x ∷ xs) ys k y at =
     let next : suc (length xs + k) ≡ length (x ∷ xs) + k = omega arith in
     subst (λ n. slice_get (x ∷ (xs ++ ys)) n ≡ Some y) next (get-behind xs ys k y at)
 
-pub number-is : (x y : ℕ) → (x == y) ≡ true → x ≡ y
-number-is x y h = grind (arith, nat_tests, h)
-
-less-is : (x y : ℕ) → nat_lt x y ≡ true → x < y
-less-is x y h = grind (arith, nat_tests, h)
-
 past : (x y : ℕ) → nat_lt x (suc y) ≡ false → y < x
 past x y h = grind (arith, nat_tests, h)
 
@@ -180,8 +174,8 @@ module _ (lanes : List (List Rec)) (order A B : List RecordPlace) (x : RecordPla
           go false e = refl
           go true e =
               let parts = and_parts (y.lane == a) (nat_lt y.at n) e in
-              let same : y.lane ≡ x.lane = number-is y.lane x.lane parts.0 in
-              let less : y.at < x.at = less-is y.at x.at parts.1 in
+              let same : y.lane ≡ x.lane = eqb-true y.lane x.lane parts.0 in
+              let less : y.at < x.at = ltb-true y.at x.at parts.1 in
               let order = pairs (length A + suc k) (length A + 0) y x (get-behind A (x ∷ B) (suc k) y at) here (first y x same less) in
               absurd (omega (arith, order))
 
@@ -196,7 +190,7 @@ module _ (lanes : List (List Rec)) (order A B : List RecordPlace) (x : RecordPla
           go false e v f = refl
           go true e true f = refl
           go true e false f =
-              let same : x.lane ≡ y.lane = sym (number-is y.lane x.lane e) in
+              let same : x.lane ≡ y.lane = sym (eqb-true y.lane x.lane e) in
               let less : x.at < y.at = past y.at x.at f in
               let found = get-front A (x ∷ B) k y at in
               let order = pairs (length A + 0) k x y here found.0 (first x y same less) in
@@ -233,4 +227,4 @@ module _ (lanes : List (List Rec)) (order A B : List RecordPlace) (x : RecordPla
           omega (arith, low, high, none, one, rest, grows)
         where
           more : (y : RecordPlace) → ((y.lane == a) ≡ true) × (nat_lt y.at n ≡ true) → below a (suc n) y ≡ true
-          more y h = let less : y.at < n = less-is y.at n h.1 in and_from _ _ h.0 (grind (arith, nat_tests, less))
+          more y h = let less : y.at < n = ltb-true y.at n h.1 in and_from _ _ h.0 (grind (arith, nat_tests, less))

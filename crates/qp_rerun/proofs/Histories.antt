@@ -18,6 +18,7 @@ use Rattle.qp_model.proofs.KnowingLemmas.{same_word-is}
 use Rattle.qp_replay.proofs.SerialLemmas.{items-places, same-count}
 use Rattle.qp_replay.proofs.NamedRecords.{all-passing}
 use Rattle.qp_replay.proofs.LaneRecords.{all-filter}
+use Rattle.qp_model.proofs.PromiseLemmas.{one_of}
 
 -- Elements by their places in a list, and by recursion.
 
@@ -118,11 +119,6 @@ nth-draws w before (i ∷ is) ordered n z at =
         let more : total w (before ++ i ∷ []) + m ≡ total w before + suc m = (let sum = total-append w before (i ∷ []) in let one = total-one w i true on in omega (arith, sum, one)) in
         subst (λ k. drawn_as w k (touch z) ≡ true) more (later m at)
 
-single : {A : Type 0} (xs : List A) → length xs ≡ 1 → (y : A) × (xs ≡ y ∷ [])
-single [] e = absurd (omega (arith, e))
-single (x ∷ []) e = (x, refl)
-single (x ∷ y ∷ xs) e = absurd (omega (arith, e))
-
 one-is : {A : Type 0} (P : A → Type 0) (xs : List A) (n : ℕ) (d : A) → AllByRecursion P xs → n < length xs → P (get_or xs n d)
 one-is P [] n d h less = absurd (omega (arith, less))
 one-is P (x ∷ xs) zero d h less = h.0
@@ -162,7 +158,7 @@ module _ (lanes : List (List Rec)) (order : List RecordPlace) (all : IsPermutati
       let within : n < length line = omega (arith, le) in
       let test = all_below_at (total w (all_items lanes)) (λ n. length (filter (λ i. drawn_as w n (touch i)) (all_items lanes)) == 1) (and_parts _ _ numbers).1 n less in
       let size : length (filter (λ i. drawn_as w n (touch i)) (all_items lanes)) ≡ 1 = grind (arith, nat_tests, test) in
-      let found = single (filter (λ i. drawn_as w n (touch i)) (all_items lanes)) size in
+      let found = one_of (filter (λ i. drawn_as w n (touch i)) (all_items lanes)) size in
       let last : get_or line n found.0 ≡ found.0 = same-record n found.0 found.0 found.1 within in
       ap (λ xs. xs ++ filter (λ i. drawn_as w n (touch i)) (all_items lanes)) (numbered-take n (omega (arith, le)))
       ∙ ap (λ xs. take n line ++ xs) (found.1 ∙ ap (λ y. y ∷ []) (sym last))

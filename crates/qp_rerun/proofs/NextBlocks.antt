@@ -1,7 +1,7 @@
 -- The next record of a serial order, where it gives out a block or gives one back: its life begins and ends where it says.
 use Rattle.std.proofs.Common.{◌≡◌, ◌∙◌, ℕ, zero, suc, ◌<◌, ◌≤◌, ◌==◌, nat_lt, nat_le, Bool, true, false, not, ◌&&◌, ◌||◌, cond, List, [], ◌∷◌, ◌++◌, length, take, refl, sym, ap, subst, arith, Option, Some, None, IsTrue}
 use Rattle.std.specs.List.{AllByRecursion, cons_option}
-use Rattle.std.proofs.lemmas.Bool.{not-true, and_parts}
+use Rattle.std.proofs.lemmas.Bool.{not-true, and_parts, eqb-true, ltb-true, leb-true}
 use Rattle.std.proofs.lemmas.Bool.Decides.{nat_tests}
 use Rattle.std.proofs.lemmas.List.{take_all}
 use Rattle.std.proofs.lemmas.List.Elements.{filter_map-append}
@@ -33,7 +33,7 @@ use Rattle.qp_sound.specs.Sound.{SoundWorld, hands_in, is_event}
 use Rattle.qp_sound.specs.WordStates.{life_in, pool_in, refs_in}
 use Rattle.qp_sound.proofs.Times.{stands-times}
 use Rattle.qp_replay.proofs.NumberLemmas.{same_word-refl}
-use Rattle.qp_rerun.proofs.NextRecords.{history, number-is, on_word, pool-drawn, stands-too}
+use Rattle.qp_rerun.proofs.NextRecords.{history, on_word, pool-drawn, stands-too}
 
 -- The edges of a block's lives ascend.
 
@@ -74,7 +74,7 @@ edges-ascend b s (i ∷ is) h =
     step false out edge up k later = later s k
 
     given : (same : Bool) (from : ℕ) → (not same || (not s.out && (from == s.edge))) ≡ true → same ≡ true → s.edge ≤ from
-    given true from h e = let is_edge : from ≡ s.edge = number-is from s.edge (and_parts (not s.out) (from == s.edge) h).1 in omega (arith, is_edge)
+    given true from h e = let is_edge : from ≡ s.edge = eqb-true from s.edge (and_parts (not s.out) (from == s.edge) h).1 in omega (arith, is_edge)
     given false from h e = absurd (cc)
 
     back : (same : Bool) (to : ℕ) → (not same || (s.out && nat_lt s.edge to)) ≡ true → same ≡ true → s.edge ≤ to
@@ -91,20 +91,11 @@ has-all P [] n all h = absurd (cc)
 has-all P (x ∷ xs) n all h = go (x == n) refl h (λ k. has-all P xs n all.1 k)
   where
     go : (b : Bool) → (x == n) ≡ b → (b || has xs n) ≡ true → (has xs n ≡ true → P n) → P n
-    go true e h more = subst P (number-is x n e) all.0
+    go true e h more = subst P (eqb-true x n e) all.0
     go false e h more = more h
 
 empty-is : (xs : List ℕ) → xs ≡ [] → is_empty xs ≡ true
 empty-is xs e = ap is_empty e
-
-le-false : (a b : ℕ) → nat_le a b ≡ false → b < a
-le-false a b h = grind (arith, nat_tests, h)
-
-le-true : (a b : ℕ) → nat_le a b ≡ true → a ≤ b
-le-true a b h = grind (arith, nat_tests, h)
-
-lt-true : (a b : ℕ) → nat_lt a b ≡ true → a < b
-lt-true a b h = grind (arith, nat_tests, h)
 
 take-front : {A : Type 0} (xs ys : List A) (n : ℕ) → n ≤ length xs → take n (xs ++ ys) ≡ take n xs
 take-front xs ys zero le = refl
@@ -128,7 +119,7 @@ module _ (b : ℕ) (pool more block rest : List Item) (i : Item) (law : HasLives
   unfolding lives_cover
   at-edge out =
       let covers : (state.out || (state.edge == length block)) ≡ true = lives.cover in
-      number-is state.edge (length block) (subst (λ o. (o || (state.edge == length block)) ≡ true) out covers)
+      eqb-true state.edge (length block) (subst (λ o. (o || (state.edge == length block)) ≡ true) out covers)
 
   pub given-there : (p n from sig : ℕ) (pars : List ℕ) → i.body ≡ item.New p n b from sig pars → from ≡ length block
   given-there p n from sig pars is =
@@ -136,7 +127,7 @@ module _ (b : ℕ) (pool more block rest : List Item) (i : Item) (law : HasLives
       let self : (b == b) ≡ true = grind (arith, nat_tests) in
       let both : (not state.out && (from == state.edge)) ≡ true = subst (λ u. (not u || (not state.out && (from == state.edge))) ≡ true) self here in
       let parts = and_parts (not state.out) (from == state.edge) both in
-      number-is from state.edge parts.1 ∙ at-edge (not-true state.out parts.0)
+      eqb-true from state.edge parts.1 ∙ at-edge (not-true state.out parts.0)
 
   edge-low : AllByRecursion (Between 0 state.edge) (edges b pool)
   unfolding after
@@ -154,7 +145,7 @@ module _ (b : ℕ) (pool more block rest : List Item) (i : Item) (law : HasLives
         let self : (b == b) ≡ true = grind (arith, nat_tests) in
         let both : (state.out && nat_lt state.edge to) ≡ true = subst (λ u. (not u || (state.out && nat_lt state.edge to)) ≡ true) self here in
         let parts = and_parts state.out (nat_lt state.edge to) both in
-        (parts.0, lt-true state.edge to parts.1)
+        (parts.0, ltb-true state.edge to parts.1)
 
     edge-here : edge_of b i.body ≡ Some to
     edge-here = let self : (b == b) ≡ true = grind (arith, nat_tests) in ap (edge_of b) is ∙ ap (λ u. cond u (Some to) None) self
@@ -195,7 +186,7 @@ module _ (b : ℕ) (pool more block rest : List Item) (i : Item) (law : HasLives
         let there : has (edges b (pool ++ i ∷ more)) to ≡ true = has-edge to ∙ or-right (has (edges b pool) to) (has (to ∷ edges b more) to) (ap (λ u. u || has (edges b more) to) self) in
         let test = list_all-has (λ m. nat_le m (length (block ++ rest)) && is_empty (refs_at m (block ++ rest))) (edges b (pool ++ i ∷ more)) to law.empty there in
         let parts = and_parts (nat_le to (length (block ++ rest))) (is_empty (refs_at to (block ++ rest))) test in
-        (le-true to (length (block ++ rest)) parts.0, parts.1)
+        (leb-true to (length (block ++ rest)) parts.0, parts.1)
 
     not-low : (m : ℕ) → state.edge < m → has (edges b pool) m ≡ true → ⊥
     not-low m above h = let between = has-all (Between 0 state.edge) (edges b pool) m edge-low h in let low = between.below in omega (arith, above, low)
@@ -217,7 +208,7 @@ module _ (b : ℕ) (pool more block rest : List Item) (i : Item) (law : HasLives
 
         found : (u : Bool) → has (edges b pool) (length block) ≡ u → (v : Bool) → (to == length block) ≡ v → (has (edges b pool) (length block) || ((to == length block) || has (edges b more) (length block))) ≡ true → ⊥
         found true e v f h = not-low (length block) past e
-        found false e true f h = let is_end : to ≡ length block = number-is to (length block) f in omega (arith, is_end, less)
+        found false e true f h = let is_end : to ≡ length block = eqb-true to (length block) f in omega (arith, is_end, less)
         found false e false f h =
             let there : has (edges b more) (length block) ≡ true = later (has (edges b pool) (length block)) (to == length block) e f h in
             let high = has-all (λ m. to ≤ m) (edges b more) (length block) edges-high there in
@@ -245,8 +236,8 @@ module _ (b : ℕ) (pool more block rest : List Item) (i : Item) (law : HasLives
     back-there = go (nat_lt to (length block)) refl (nat_lt (length block) to) refl
       where
         go : (u : Bool) → nat_lt to (length block) ≡ u → (v : Bool) → nat_lt (length block) to ≡ v → to ≡ length block
-        go true e v f = absurd (not-before (lt-true to (length block) e))
-        go false e true f = absurd (not-past (lt-true (length block) to f))
+        go true e v f = absurd (not-before (ltb-true to (length block) e))
+        go false e true f = absurd (not-past (ltb-true (length block) to f))
         go false e false f = grind (arith, nat_tests, e, f)
 
 -- The records of a pool, of the next record of a serial order.
@@ -285,7 +276,7 @@ module _ (sys : System) (lanes : List (List Rec)) (order A B : List RecordPlace)
       let all = and_parts (n == (pool_in sys W p).count) (is_first b (pool_in sys W p).free) may in
       let from_is = given-there b (hist (word.Pool p) (all_items W)) (on_word (word.Pool p) (items_at lanes B)) (hist (word.Block p b) (all_items W)) (on_word (word.Block p b) (i ∷ items_at lanes B)) i
       (law-there p b (suc n) h pool draws) (world.sound.words.lives p b h) p n from sig pars (ap (λ k. k.body) is) in
-      record { block = h; number = number-is n (pool_in sys W p).count all.0; lowest = all.1; since = from_is ∙ sym (block-count p b h); event = event }
+      record { block = h; number = eqb-true n (pool_in sys W p).count all.0; lowest = all.1; since = from_is ∙ sym (block-count p b h); event = event }
 
   pub back-may : (p n b to : ℕ) → i ≡ record { of = o; body = item.Back p n b to } → IsTrue (is_pool sys p) → IsTrue (is_block sys p b) → IsTrue (stands (Loose p b true) H)
       → May sys W (hands_in sys W O) o (item.Back p n b to)
@@ -298,7 +289,7 @@ module _ (sys : System) (lanes : List (List Rec)) (order A B : List RecordPlace)
       let first = back-first p n b to (subst (λ k. (free_blocks (blocks_of sys p)).may (pool_in sys W p) k ≡ true) is may) in
       let until = back-there b (hist (word.Pool p) (all_items W)) (on_word (word.Pool p) (items_at lanes B)) (hist (word.Block p b) (all_items W)) (on_word (word.Block p b) (i ∷ items_at lanes B)) i
       (law-there p b (suc n) h pool draws) (world.sound.words.lives p b h) p n to (ap (λ k. k.body) is) (whole p b used.0) (past p b h used.2) in
-      record { block = h; number = number-is n (pool_in sys W p).count first; until = until ∙ sym (block-count p b h); token = there }
+      record { block = h; number = eqb-true n (pool_in sys W p).count first; until = until ∙ sym (block-count p b h); token = there }
     where
       back-first : (p n b to : ℕ) → (free_blocks (blocks_of sys p)).may (pool_in sys W p) (record { of = o; body = item.Back p n b to }) ≡ true → (n == (pool_in sys W p).count) ≡ true
       back-first p n b to h = (and_parts (n == (pool_in sys W p).count) (nat_lt b (blocks_of sys p)) (and_parts ((n == (pool_in sys W p).count) && nat_lt b (blocks_of sys p)) _ h).0).0

@@ -1,7 +1,7 @@
 -- The next record of a serial order: its words are then as it says.
 use Rattle.std.proofs.Common.{◌≡◌, ◌∙◌, ℕ, zero, suc, ◌+◌, ◌-◌, ◌<◌, ◌≤◌, ◌==◌, nat_lt, nat_le, Bool, true, false, not, ◌&&◌, ◌||◌, cond, List, [], ◌∷◌, ◌++◌, length, take, filter, refl, append-nil, append_assoc, sym, ap, subst, arith, ◌⊎◌, inl, inr, Some, IsTrue}
 use Rattle.std.specs.List.{cons_option, list_all}
-use Rattle.std.proofs.lemmas.Bool.{not-true, and_parts}
+use Rattle.std.proofs.lemmas.Bool.{not-true, and_parts, eqb-true}
 use Rattle.std.proofs.lemmas.Bool.Decides.{nat_tests}
 use Rattle.std.proofs.lemmas.List.Elements.{filter-append, filter_map-append}
 use Rattle.qp_chart.specs.StateTree.{has}
@@ -35,7 +35,8 @@ use Rattle.qp_sound.proofs.Times.{stands-times}
 use Rattle.qp_replay.proofs.NumberLemmas.{same_word-refl}
 use Rattle.qp_replay.proofs.SerialLemmas.{all-of}
 use Rattle.qp_rerun.proofs.Histories.{hist-line}
-use Rattle.qp_rerun.proofs.TokenCalls.{count-stands, entries-same}
+use Rattle.qp_rerun.proofs.TokenCalls.{count-stands}
+use Rattle.qp_model.proofs.RecordLemmas.{same_entry-is}
 
 -- the records on a word, among these
 abbrev pub on_word : Word → List Item → List Item
@@ -54,9 +55,6 @@ next-at : (before xs ys : List Item) (i : Item) → in_order before (xs ++ i ∷
 unfolding in_order
 next-at before [] ys i h = subst (λ b. is_next b (touch i) ≡ true) (sym (append-nil before)) (and_parts _ _ h).0
 next-at before (x ∷ xs) ys i h = subst (λ b. is_next b (touch i) ≡ true) (append_assoc before (x ∷ []) xs) (next-at (before ++ x ∷ []) xs ys i (and_parts _ _ h).1)
-
-pub number-is : (x y : ℕ) → (x == y) ≡ true → x ≡ y
-number-is x y h = grind (arith, nat_tests, h)
 
 front-take : {A : Type 0} (xs ys : List A) (n : ℕ) → n ≡ length xs → take n (xs ++ ys) ≡ xs
 front-take [] ys zero is = refl
@@ -105,7 +103,7 @@ module _ (sys : System) (lanes : List (List Rec)) (order A B : List RecordPlace)
   unfolding is_shown shown_by is_next
   shown m w n keeps shows =
       let test : (n == total w (items_at lanes A)) ≡ true = subst (λ t. is_next (items_at lanes A) t ≡ true) shows next in
-      let number : n ≡ length (hist w (all_items W)) = number-is n (total w (items_at lanes A)) test ∙ total-now w in
+      let number : n ≡ length (hist w (all_items W)) = eqb-true n (total w (items_at lanes A)) test ∙ total-now w in
       let all : list_all (λ k. shown_by m w (hist w (all_items lanes)) k.body (touch k)) (items_at lanes A ++ i ∷ items_at lanes B) ≡ true =
       subst (λ is. list_all (λ k. shown_by m w (hist w (all_items lanes)) k.body (touch k)) is ≡ true) parts
       (all-of lanes order serial.all (λ k. shown_by m w (hist w (all_items lanes)) k.body (touch k)) keeps.shown) in
@@ -176,13 +174,13 @@ module _ (sys : System) (lanes : List (List Rec)) (order A B : List RecordPlace)
     counts-is a f l m h test =
         let two = and_parts (((line_in sys W a).f == f) && ((line_in sys W a).l == l)) ((line_in sys W a).m == m) test in
         let one = and_parts ((line_in sys W a).f == f) ((line_in sys W a).l == l) two.0 in
-        record { object = h; firsts = sym (number-is (line_in sys W a).f f one.0); lasts = sym (number-is (line_in sys W a).l l one.1); takes = sym (number-is (line_in sys W a).m m two.1) }
+        record { object = h; firsts = sym (eqb-true (line_in sys W a).f f one.0); lasts = sym (eqb-true (line_in sys W a).l l one.1); takes = sym (eqb-true (line_in sys W a).m m two.1) }
 
     owned-is : (e : Entry) → IsTrue (is_good sys e) → IsTrue (is_in e H) → IsOwned sys G e
     owned-is e good inside = record { good = good; token = go (e.pool == 0) refl inside }
       where
         go : (u : Bool) → (e.pool == 0) ≡ u → (u || stands (token_of e) H) ≡ true → (e.pool ≡ 0) ⊎ IsTrue (stands (token_of e) G)
-        go true is h = inl (number-is e.pool 0 is)
+        go true is h = inl (eqb-true e.pool 0 is)
         go false is h = inr (stands-too (token_of e) h)
 
     le-is : (a b : ℕ) → nat_le a b ≡ true → a ≤ b
@@ -210,9 +208,9 @@ module _ (sys : System) (lanes : List (List Rec)) (order A B : List RecordPlace)
           let two = and_parts ((f == s.f) && (l == s.l)) (m == s.m + 1) all.0 in
           let one = and_parts (f == s.f) (l == s.l) two.0 in (
             s.m,
-            number-is m (s.m + 1) two.1,
+            eqb-true m (s.m + 1) two.1,
             record {
-              queue = record { object = h; firsts = number-is f s.f one.0; lasts = number-is l s.l one.1; takes = refl };
+              queue = record { object = h; firsts = eqb-true f s.f one.0; lasts = eqb-true l s.l one.1; takes = refl };
               others = (first s.entries all.1).0;
               front = (first s.entries all.1).1;
             },
@@ -223,7 +221,7 @@ module _ (sys : System) (lanes : List (List Rec)) (order A B : List RecordPlace)
 
           first : (es : List Entry) → is_front e es ≡ true → (others : List Entry) × (es ≡ e ∷ others)
           first [] h = absurd (cc)
-          first (y ∷ ys) h = (ys, ap (λ z. z ∷ ys) (entries-same y e h))
+          first (y ∷ ys) h = (ys, ap (λ z. z ∷ ys) (same_entry-is y e h))
 
       pub post-may : (a f l m : ℕ) (e : Entry) → Is (item.Post a f l m e) → IsTrue (is_object sys a) → IsTrue (is_good sys e) → IsTrue (is_in e H) → May sys W G o (item.Post a f l m e)
       unfolding May
@@ -234,9 +232,9 @@ module _ (sys : System) (lanes : List (List Rec)) (order A B : List RecordPlace)
           let two = and_parts ((f == s.f + 1) && (l == s.l)) (m == s.m) all.0 in
           let one = and_parts (f == s.f + 1) (l == s.l) two.0 in (
             s.f,
-            number-is f (s.f + 1) one.0,
+            eqb-true f (s.f + 1) one.0,
             record {
-              queue = record { object = h; firsts = refl; lasts = number-is l s.l one.1; takes = number-is m s.m two.1 };
+              queue = record { object = h; firsts = refl; lasts = eqb-true l s.l one.1; takes = eqb-true m s.m two.1 };
               room = le-is (length s.entries) (ring_of sys a) all.1;
               owned = owned-is e good inside;
             },
@@ -254,9 +252,9 @@ module _ (sys : System) (lanes : List (List Rec)) (order A B : List RecordPlace)
           let two = and_parts ((f == s.f) && (l == s.l + 1)) (m == s.m) all.0 in
           let one = and_parts (f == s.f) (l == s.l + 1) two.0 in (
             s.l,
-            number-is l (s.l + 1) one.1,
+            eqb-true l (s.l + 1) one.1,
             record {
-              queue = record { object = h; firsts = number-is f s.f one.0; lasts = refl; takes = number-is m s.m two.1 };
+              queue = record { object = h; firsts = eqb-true f s.f one.0; lasts = refl; takes = eqb-true m s.m two.1 };
               room = le-is (length s.entries) (ring_of sys o) all.1;
               owned = owned-is e good inside;
             },
@@ -276,7 +274,7 @@ module _ (sys : System) (lanes : List (List Rec)) (order A B : List RecordPlace)
           let says : ((((s.f == f) && (s.l == l)) && (s.m == m)) && (f + l == m)) ≡ true =
           subst (λ b. (line (ring_of sys o)).says (line_in sys W o) b ≡ true) (ap (λ k. k.body) is) (line-shown o (f + l + m) h (touches (item.Nil f l m) _ is refl)) in
           let all = and_parts (((s.f == f) && (s.l == l)) && (s.m == m)) (f + l == m) says in
-          (counts-is o f l m h all.0, number-is (f + l) m all.1)
+          (counts-is o f l m h all.0, eqb-true (f + l) m all.1)
         where
           s : Line
           s = line_in sys W o
@@ -298,7 +296,7 @@ module _ (sys : System) (lanes : List (List Rec)) (order A B : List RecordPlace)
           let says : ((((s.f == f) && (s.l == l)) && (s.m == m)) && (f + l - m == ring_of sys a + 1)) ≡ true =
           subst (λ b. (line (ring_of sys a)).says (line_in sys W a) b ≡ true) (ap (λ k. k.body) is) (line-shown a (f + l + m) h (touches (item.NoEntry a f l m) _ is refl)) in
           let all = and_parts (((s.f == f) && (s.l == l)) && (s.m == m)) (f + l - m == ring_of sys a + 1) says in
-          (counts-is a f l m h all.0, number-is (f + l - m) (ring_of sys a + 1) all.1)
+          (counts-is a f l m h all.0, eqb-true (f + l - m) (ring_of sys a + 1) all.1)
         where
           s : Line
           s = line_in sys W a
@@ -309,7 +307,7 @@ module _ (sys : System) (lanes : List (List Rec)) (order A B : List RecordPlace)
           let says : ((((s.f == f) && (s.l == l)) && (s.m == m)) && (f + l - m == ring_of sys a + 1)) ≡ true =
           subst (λ b. (line (ring_of sys a)).says (line_in sys W a) b ≡ true) (ap (λ k. k.body) is) (line-shown a (f + l + m) h (touches (item.NoLifo a f l m) _ is refl)) in
           let all = and_parts (((s.f == f) && (s.l == l)) && (s.m == m)) (f + l - m == ring_of sys a + 1) says in
-          (counts-is a f l m h all.0, number-is (f + l - m) (ring_of sys a + 1) all.1)
+          (counts-is a f l m h all.0, eqb-true (f + l - m) (ring_of sys a + 1) all.1)
         where
           s : Line
           s = line_in sys W a
@@ -320,7 +318,7 @@ module _ (sys : System) (lanes : List (List Rec)) (order A B : List RecordPlace)
           let s = pool-shown p n h (touches (item.Short p n free reserve) _ is refl) in
           let says : ((length (pool_in sys W p).free == free) && nat_le free reserve) ≡ true = subst (λ b. (free_blocks (blocks_of sys p)).says (pool_in sys W p) b ≡ true) (ap (λ k. k.body) is) s.1 in
           let all = and_parts (length (pool_in sys W p).free == free) (nat_le free reserve) says in
-          (record { pool = h; number = s.0; free_blocks = sym (number-is (length (pool_in sys W p).free) free all.0) }, le-is free reserve all.1)
+          (record { pool = h; number = s.0; free_blocks = sym (eqb-true (length (pool_in sys W p).free) free all.0) }, le-is free reserve all.1)
 
       pub no_block-may : (p n free : ℕ) → Is (item.NoBlock p n free) → IsTrue (is_pool sys p) → May sys W G o (item.NoBlock p n free)
       unfolding May
@@ -328,7 +326,7 @@ module _ (sys : System) (lanes : List (List Rec)) (order A B : List RecordPlace)
           let s = pool-shown p n h (touches (item.NoBlock p n free) _ is refl) in
           let says : ((length (pool_in sys W p).free == free) && (free == 0)) ≡ true = subst (λ b. (free_blocks (blocks_of sys p)).says (pool_in sys W p) b ≡ true) (ap (λ k. k.body) is) s.1 in
           let all = and_parts (length (pool_in sys W p).free == free) (free == 0) says in
-          (record { pool = h; number = s.0; free_blocks = sym (number-is (length (pool_in sys W p).free) free all.0) }, number-is free 0 all.1)
+          (record { pool = h; number = s.0; free_blocks = sym (eqb-true (length (pool_in sys W p).free) free all.0) }, eqb-true free 0 all.1)
 
       pub inc-may : (p b r : ℕ) → Is (item.Inc p b r) → IsTrue (is_block sys p b) → IsTrue (stands (Loose p b false) H) ⊎ ((k : ℕ) × IsTrue (stands (Held p b k) H)) → May sys W G o (item.Inc p b r)
       unfolding May
@@ -336,7 +334,7 @@ module _ (sys : System) (lanes : List (List Rec)) (order A B : List RecordPlace)
           let may : (r == (refs_in W p b).count) ≡ true = subst (λ k. references.may (refs_in W p b) k ≡ true) is (refs-drawn p b (suc r) h (touches (item.Inc p b r) _ is refl)) in
           record {
             block = h;
-            number = number-is r (refs_in W p b).count may;
+            number = eqb-true r (refs_in W p b).count may;
             token = elim token [ inl loose ↦ inl (stands-too (Loose p b false) loose) | inr other ↦ inr (other.0, stands-too (Held p b other.0) other.1) ];
           }
 
@@ -344,21 +342,21 @@ module _ (sys : System) (lanes : List (List Rec)) (order A B : List RecordPlace)
       unfolding May
       dec-may p b d k is h token =
           let may : ((d == (refs_in W p b).count) && has (refs_in W p b).names k) ≡ true = subst (λ j. references.may (refs_in W p b) j ≡ true) is (refs-drawn p b (suc d) h (touches (item.Dec p b d k) _ is refl)) in
-          record { block = h; number = number-is d (refs_in W p b).count (and_parts _ _ may).0; token = stands-too (Held p b k) token }
+          record { block = h; number = eqb-true d (refs_in W p b).count (and_parts _ _ may).0; token = stands-too (Held p b k) token }
 
       pub sub-may : (sig n : ℕ) → Is (item.Sub sig n) → IsTrue (is_signal sys sig) → IsTrue (is_object sys o) → May sys W G o (item.Sub sig n)
       unfolding May
       sub-may sig n is h object =
           let may : ((n == (set_in W sig).count) && not (has (set_in W sig).members o)) ≡ true = subst (λ k. subscribers.may (set_in W sig) k ≡ true) is (set-drawn sig (suc n) h (touches (item.Sub sig n) _ is refl)) in
           let all = and_parts (n == (set_in W sig).count) (not (has (set_in W sig).members o)) may in
-          (record { signal = h; number = number-is n (set_in W sig).count all.0 }, not-true (has (set_in W sig).members o) all.1, object)
+          (record { signal = h; number = eqb-true n (set_in W sig).count all.0 }, not-true (has (set_in W sig).members o) all.1, object)
 
       pub unsub-may : (sig n : ℕ) → Is (item.Unsub sig n) → IsTrue (is_signal sys sig) → May sys W G o (item.Unsub sig n)
       unfolding May
       unsub-may sig n is h =
           let may : ((n == (set_in W sig).count) && has (set_in W sig).members o) ≡ true = subst (λ k. subscribers.may (set_in W sig) k ≡ true) is (set-drawn sig (suc n) h (touches (item.Unsub sig n) _ is refl)) in
           let all = and_parts (n == (set_in W sig).count) (has (set_in W sig).members o) may in
-          (record { signal = h; number = number-is n (set_in W sig).count all.0 }, all.1)
+          (record { signal = h; number = eqb-true n (set_in W sig).count all.0 }, all.1)
 
       pub same-may : (sig n : ℕ) → Is (item.Same sig n) → IsTrue (is_signal sys sig) → May sys W G o (item.Same sig n)
       unfolding May
@@ -369,7 +367,7 @@ module _ (sys : System) (lanes : List (List Rec)) (order A B : List RecordPlace)
       pub-may sig n set is h =
           let s = set-shown sig n h (touches (item.Pub sig n set) _ is refl) in
           let says : (bits_of_set (set_in W sig).members == set) ≡ true = subst (λ b. subscribers.says (set_in W sig) b ≡ true) (ap (λ k. k.body) is) s.1 in
-          (record { signal = h; number = s.0 }, sym (number-is (bits_of_set (set_in W sig).members) set says))
+          (record { signal = h; number = s.0 }, sym (eqb-true (bits_of_set (set_in W sig).members) set says))
 
       pub arm-may : (t n ticks interval : ℕ) → Is (item.Arm t n ticks interval) → IsTrue (is_timer sys t) → May sys W G o (item.Arm t n ticks interval)
       unfolding May
@@ -377,7 +375,7 @@ module _ (sys : System) (lanes : List (List Rec)) (order A B : List RecordPlace)
           let may : ((n == (clock_in W t).count) && ((clock_in W t).counter == 0)) ≡ true =
           subst (λ k. time_event.may (clock_in W t) k ≡ true) is (clock-drawn t (suc n) h (touches (item.Arm t n ticks interval) _ is refl)) in
           let all = and_parts (n == (clock_in W t).count) ((clock_in W t).counter == 0) may in
-          record { timer = h; number = number-is n (clock_in W t).count all.0; is_counter = sym (number-is (clock_in W t).counter 0 all.1) }
+          record { timer = h; number = eqb-true n (clock_in W t).count all.0; is_counter = sym (eqb-true (clock_in W t).counter 0 all.1) }
 
       pub disarm-may : (t n former : ℕ) → Is (item.Disarm t n former) → IsTrue (is_timer sys t) → May sys W G o (item.Disarm t n former)
       unfolding May
@@ -386,7 +384,7 @@ module _ (sys : System) (lanes : List (List Rec)) (order A B : List RecordPlace)
           subst (λ k. time_event.may (clock_in W t) k ≡ true) is (clock-drawn t (suc n) h (touches (item.Disarm t n former) _ is refl)) in
           let all = and_parts ((n == (clock_in W t).count) && ((clock_in W t).counter == former)) (not (former == 0)) may in
           let two = and_parts (n == (clock_in W t).count) ((clock_in W t).counter == former) all.0 in
-          (record { timer = h; number = number-is n (clock_in W t).count two.0; is_counter = sym (number-is (clock_in W t).counter former two.1) }, some-is former all.1)
+          (record { timer = h; number = eqb-true n (clock_in W t).count two.0; is_counter = sym (eqb-true (clock_in W t).counter former two.1) }, some-is former all.1)
 
       pub rearm-may : (t n former ticks : ℕ) → Is (item.Rearm t n former ticks) → IsTrue (is_timer sys t) → May sys W G o (item.Rearm t n former ticks)
       unfolding May
@@ -394,7 +392,7 @@ module _ (sys : System) (lanes : List (List Rec)) (order A B : List RecordPlace)
           let may : ((n == (clock_in W t).count) && ((clock_in W t).counter == former)) ≡ true =
           subst (λ k. time_event.may (clock_in W t) k ≡ true) is (clock-drawn t (suc n) h (touches (item.Rearm t n former ticks) _ is refl)) in
           let two = and_parts (n == (clock_in W t).count) ((clock_in W t).counter == former) may in
-          record { timer = h; number = number-is n (clock_in W t).count two.0; is_counter = sym (number-is (clock_in W t).counter former two.1) }
+          record { timer = h; number = eqb-true n (clock_in W t).count two.0; is_counter = sym (eqb-true (clock_in W t).counter former two.1) }
 
       pub tick-may : (t n counter : ℕ) → Is (item.Tick t n counter) → IsTrue (is_timer sys t) → May sys W G o (item.Tick t n counter)
       unfolding May
@@ -403,7 +401,7 @@ module _ (sys : System) (lanes : List (List Rec)) (order A B : List RecordPlace)
           subst (λ k. time_event.may (clock_in W t) k ≡ true) is (clock-drawn t (suc n) h (touches (item.Tick t n counter) _ is refl)) in
           let all = and_parts ((n == (clock_in W t).count) && ((clock_in W t).counter == counter + 1)) (nat_lt 0 counter) may in
           let two = and_parts (n == (clock_in W t).count) ((clock_in W t).counter == counter + 1) all.0 in
-          (record { timer = h; number = number-is n (clock_in W t).count two.0; is_counter = sym (number-is (clock_in W t).counter (counter + 1) two.1) }, lt-is 0 counter all.1)
+          (record { timer = h; number = eqb-true n (clock_in W t).count two.0; is_counter = sym (eqb-true (clock_in W t).counter (counter + 1) two.1) }, lt-is 0 counter all.1)
 
       pub fire-may : (t n reload : ℕ) → Is (item.Fire t n reload) → IsTrue (is_timer sys t) → May sys W G o (item.Fire t n reload)
       unfolding May
@@ -412,14 +410,14 @@ module _ (sys : System) (lanes : List (List Rec)) (order A B : List RecordPlace)
           subst (λ k. time_event.may (clock_in W t) k ≡ true) is (clock-drawn t (suc n) h (touches (item.Fire t n reload) _ is refl)) in
           let all = and_parts ((n == (clock_in W t).count) && ((clock_in W t).counter == 1)) (reload == (clock_in W t).interval) may in
           let two = and_parts (n == (clock_in W t).count) ((clock_in W t).counter == 1) all.0 in
-          (record { timer = h; number = number-is n (clock_in W t).count two.0; is_counter = sym (number-is (clock_in W t).counter 1 two.1) }, number-is reload (clock_in W t).interval all.1)
+          (record { timer = h; number = eqb-true n (clock_in W t).count two.0; is_counter = sym (eqb-true (clock_in W t).counter 1 two.1) }, eqb-true reload (clock_in W t).interval all.1)
 
       pub idle-may : (t n : ℕ) → Is (item.Idle t n) → IsTrue (is_timer sys t) → May sys W G o (item.Idle t n)
       unfolding May
       idle-may t n is h =
           let s = clock-shown t n h (touches (item.Idle t n) _ is refl) in
           let says : ((clock_in W t).counter == 0) ≡ true = subst (λ b. time_event.says (clock_in W t) b ≡ true) (ap (λ k. k.body) is) s.1 in
-          record { timer = h; number = s.0; is_counter = sym (number-is (clock_in W t).counter 0 says) }
+          record { timer = h; number = s.0; is_counter = sym (eqb-true (clock_in W t).counter 0 says) }
 
       pub armed-may : (t n counter : ℕ) → Is (item.Armed t n counter) → IsTrue (is_timer sys t) → May sys W G o (item.Armed t n counter)
       unfolding May
@@ -427,4 +425,4 @@ module _ (sys : System) (lanes : List (List Rec)) (order A B : List RecordPlace)
           let s = clock-shown t n h (touches (item.Armed t n counter) _ is refl) in
           let says : (((clock_in W t).counter == counter) && not (counter == 0)) ≡ true = subst (λ b. time_event.says (clock_in W t) b ≡ true) (ap (λ k. k.body) is) s.1 in
           let all = and_parts ((clock_in W t).counter == counter) (not (counter == 0)) says in
-          (record { timer = h; number = s.0; is_counter = sym (number-is (clock_in W t).counter counter all.0) }, some-is counter all.1)
+          (record { timer = h; number = s.0; is_counter = sym (eqb-true (clock_in W t).counter counter all.0) }, some-is counter all.1)

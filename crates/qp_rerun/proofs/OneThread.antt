@@ -3,20 +3,19 @@ use Rattle.std.proofs.Common.{◌≡◌, ◌∙◌, ℕ, zero, suc, ◌+◌, ◌
 use Rattle.std.specs.Prelude.{slice_get, IsPermutation}
 use Rattle.std.specs.List.{AllByRecursion, cons_option, list_all}
 use Rattle.std.specs.Option.{option_and_then, option_map}
-use Rattle.std.proofs.lemmas.Bool.{and_parts}
+use Rattle.std.proofs.lemmas.Bool.{and_parts, eqb-true}
 use Rattle.std.proofs.lemmas.Bool.Decides.{nat_tests}
 use Rattle.std.proofs.lemmas.List.{append-nil, take_all}
 use Rattle.std.proofs.lemmas.List.Elements.{filter_map-append}
 use Rattle.std.proofs.lemmas.List.Sorted.{All-permutation}
 use Rattle.qp_model.specs.declared.record.Rec.{Rec}
 use Rattle.qp_model.specs.declared.stimulus.Stim.{Stim}
-use Rattle.qp_model.specs.declared.words.Word.{Word}
 use Rattle.qp_model.specs.declared.systems.System.{System}
 use Rattle.qp_model.specs.declared.journals.Journal.{Journal}
 use Rattle.qp_model.specs.declared.bodies.Body.{Body}
 use Rattle.qp_model.specs.declared.bodies.Body.TheVariants as item
 use Rattle.qp_model.specs.Record.{Item, item_of}
-use Rattle.qp_model.specs.History.{all_items, hist, lane_items, numbered, total}
+use Rattle.qp_model.specs.History.{all_items, hist, lane_items}
 use Rattle.qp_model.specs.Knowing.{records_of}
 use Rattle.qp_model.specs.Home.{lane_at}
 use Rattle.qp_model.specs.Places.{IsSerial, RecordPlace, items_at, places, places_from, places_in}
@@ -33,12 +32,14 @@ use Rattle.qp_sound.proofs.Logs.{log-grows}
 use Rattle.qp_sound.proofs.NewLemmas.{new-sound}
 use Rattle.qp_rerun.specs.Laws.{GoesOn, OneThreadMakesIt, TicksFit, World, made, made_on, placed_at, record_at, with_next}
 use Rattle.qp_rerun.proofs.Along.{Along, Found, Knows, TookGood, along-next, at-record, get-lane, items-get, local, may-this, owned, rules-known, unspilled, uses-this, world-next}
-use Rattle.qp_rerun.proofs.Fronts.{below, in-lane, number-is, stands-there, tally-permutation, tally-same}
+use Rattle.qp_rerun.proofs.Fronts.{below, in-lane, stands-there, tally-permutation, tally-same}
 use Rattle.qp_rerun.proofs.Histories.{by-index, from-index}
 use Rattle.qp_rerun.proofs.LaneSpills.{spill-last}
 use Rattle.qp_rerun.proofs.TokenCalls.{Lin, Uses}
 use Rattle.qp_rerun.proofs.TokenLanes.{owners-lin}
 use Rattle.qp_rerun.proofs.TokenNames.{chart-names}
+use Rattle.qp_model.proofs.NumberLemmas.{every-append, every}
+use Rattle.qp_model.proofs.HistoryLemmas.{no-hist}
 
 -- Places of records.
 
@@ -53,14 +54,6 @@ record From (k : ℕ) (ls : List (List Rec)) (x : RecordPlace) : Type 0 where
   lane : m < length ls
   place : x.at < length (lane_of ls m)
 
-all-of : {A : Type 0} (P Q : A → Type 0) → ((x : A) → P x → Q x) → (xs : List A) → AllByRecursion P xs → AllByRecursion Q xs
-all-of P Q go [] h = tt
-all-of P Q go (x ∷ xs) h = (go x h.0, all-of P Q go xs h.1)
-
-both-parts : {A : Type 0} (P : A → Type 0) (xs ys : List A) → AllByRecursion P xs → AllByRecursion P ys → AllByRecursion P (xs ++ ys)
-both-parts P [] ys h k = k
-both-parts P (x ∷ xs) ys h k = (h.0, both-parts P xs ys h.1 k)
-
 there-at : {A : Type 0} (P : A → Type 0) (xs : List A) (x : A) (ys : List A) → AllByRecursion P (xs ++ x ∷ ys) → P x
 there-at P [] x ys h = h.0
 there-at P (y ∷ xs) x ys h = there-at P xs x ys h.1
@@ -74,15 +67,15 @@ all-from-lane : (k : ℕ) (ls : List (List Rec)) → AllByRecursion (From k ls) 
 unfolding places_from
 all-from-lane k [] = tt
 all-from-lane k (l ∷ ls) =
-    both-parts (From k (l ∷ ls)) (places_in k 0 l) (places_from (suc k) ls)
-    (all-of (λ x. (x.lane ≡ k) × (x.at < length l)) (From k (l ∷ ls)) (λ x h. let same = h.0 in record { m = 0; is = omega (arith, same); lane = omega arith; place = h.1 }) (places_in k 0 l)
+    every-append (From k (l ∷ ls)) (places_in k 0 l) (places_from (suc k) ls)
+    (every (λ x. (x.lane ≡ k) × (x.at < length l)) (From k (l ∷ ls)) (λ x h. let same = h.0 in record { m = 0; is = omega (arith, same); lane = omega arith; place = h.1 }) (places_in k 0 l)
     (in-one k 0 (length l) l (omega arith)))
-    (all-of (From (suc k) ls) (From k (l ∷ ls)) (λ x h. let same = h.is in let less = h.lane in record { m = suc h.m; is = omega (arith, same); lane = omega (arith, less); place = h.place })
+    (every (From (suc k) ls) (From k (l ∷ ls)) (λ x h. let same = h.is in let less = h.lane in record { m = suc h.m; is = omega (arith, same); lane = omega (arith, less); place = h.place })
     (places_from (suc k) ls) (all-from-lane (suc k) ls))
 
 all-there : (lanes : List (List Rec)) → AllByRecursion (There lanes) (places lanes)
 unfolding places
-all-there lanes = all-of (From 0 lanes) (There lanes) (λ x h. one x h.m h.is h.lane h.place) (places_from 0 lanes) (all-from-lane 0 lanes)
+all-there lanes = every (From 0 lanes) (There lanes) (λ x h. one x h.m h.is h.lane h.place) (places_from 0 lanes) (all-from-lane 0 lanes)
   where
     one : (x : RecordPlace) (m : ℕ) → x.lane ≡ 0 + m → m < length lanes → x.at < length (lane_of lanes m) → There lanes x
     one x m is lane place =
@@ -134,10 +127,6 @@ no-items : (n : ℕ) → all_items (empty_lanes n) ≡ []
 unfolding all_items lane_items
 no-items zero = refl
 no-items (suc n) = no-items n
-
-no-hist : (w : Word) → hist w [] ≡ []
-unfolding hist total numbered
-no-hist w = refl
 
 made_on-append : (lanes : List (List Rec)) (w : World) (xs ys : List RecordPlace) → made_on lanes w (xs ++ ys) ≡ made_on lanes (made_on lanes w xs) ys
 unfolding made_on
@@ -301,7 +290,7 @@ module _ (sys : System) (stimuli : List (List Stim)) (j : Journal) (order : List
   unfolding places
   lane-count a less =
       tally-permutation (λ y. y.lane == a) (places j.lanes) order serial.all
-      ∙ tally-same (λ y. y.lane == a) (below a (length (lane_of j.lanes a))) (places j.lanes) (all-of (There j.lanes) (λ y. (y.lane == a) ≡ below a (length (lane_of j.lanes a)) y) one (places j.lanes) (all-there j.lanes))
+      ∙ tally-same (λ y. y.lane == a) (below a (length (lane_of j.lanes a))) (places j.lanes) (every (There j.lanes) (λ y. (y.lane == a) ≡ below a (length (lane_of j.lanes a)) y) one (places j.lanes) (all-there j.lanes))
       ∙ in-lane a (length (lane_of j.lanes a)) 0 a j.lanes (omega arith) less (omega arith)
     where
       one : (y : RecordPlace) → There j.lanes y → (y.lane == a) ≡ below a (length (lane_of j.lanes a)) y
@@ -310,7 +299,7 @@ module _ (sys : System) (stimuli : List (List Stim)) (j : Journal) (order : List
           go : (u : Bool) → (y.lane == a) ≡ u → u ≡ (u && nat_lt y.at (length (lane_of j.lanes a)))
           go false e = refl
           go true e =
-              let same : y.lane ≡ a = number-is y.lane a e in
+              let same : y.lane ≡ a = eqb-true y.lane a e in
               let few : y.at < length (lane_of j.lanes a) = subst (λ k. y.at < length (lane_of j.lanes k)) same h.place in
               let test : nat_lt y.at (length (lane_of j.lanes a)) ≡ true = grind (arith, nat_tests, few) in
               sym test

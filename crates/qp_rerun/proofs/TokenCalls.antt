@@ -30,6 +30,7 @@ use Rattle.qp_calls.proofs.HandLemmas.{same-self, same-equal}
 use Rattle.qp_sound.specs.Sound.{is_event, is_good}
 use Rattle.qp_replay.specs.Numbers.{has_word, is_on}
 use Rattle.qp_replay.proofs.CallRecords.{first-there}
+use Rattle.qp_model.proofs.RecordLemmas.{same_entry-is}
 
 -- Counts.
 
@@ -133,18 +134,6 @@ block-good sys p b r h = go (p == 0) refl
 
 static-good : (sys : System) (sig : ℕ) → is_static sys sig ≡ true → is_good sys (entry 0 sig 0) ≡ true
 static-good sys sig h = and_from _ _ h refl
-
-same-number : (x y : ℕ) → (x == y) ≡ true → x ≡ y
-same-number x y h = grind (arith, nat_tests, h)
-
-pub entries-same : (x k : Entry) → same_entry x k ≡ true → x ≡ k
-entries-same x k h =
-    let front = and_parts ((x.pool == k.pool) && (x.block == k.block)) (x.name == k.name) h in
-    let tests = and_parts (x.pool == k.pool) (x.block == k.block) front.0 in
-    build (same-number x.pool k.pool tests.0) (same-number x.block k.block tests.1) (same-number x.name k.name front.1)
-  where
-    build : x.pool ≡ k.pool → x.block ≡ k.block → x.name ≡ k.name → x ≡ k
-    build p b n = ap (λ q. entry q x.block x.name) p ∙ ap (λ c. entry k.pool c x.name) b ∙ ap (λ m. entry k.pool k.block m) n
 
 -- what a call of object o names is the system's
 abbrev pub CallNames : System → ℕ → Call → Type 0
@@ -598,7 +587,7 @@ module _ (sys : System) (o : ℕ) (Knows : Told → Type 0) where
     oldest room (x ∷ xs) new k rest h = go (same_entry x k) refl h
       where
         go : (u : Bool) → same_entry x k ≡ u → option_and_then (λ next. kept_after room next rest) (cond u (Some xs) None) ≡ Some new → Oldest room (x ∷ xs) new k rest
-        go true is h = record { others = xs; whole = ap (λ y. y ∷ xs) (entries-same x k is); behind = h }
+        go true is h = record { others = xs; whole = ap (λ y. y ∷ xs) (same_entry-is x k is); behind = h }
         go false is h = absurd (cc)
 
     recalled : (room : ℕ) (old new : List Entry) (k : Entry) (rest : List Told) → kept_after room old (plain (item.Recall k) ∷ rest) ≡ Some new → Oldest room old new k rest

@@ -6,12 +6,9 @@ use Rattle.qp_model.specs.Ends.{is_spill}
 use Rattle.qp_model.specs.OneOrder.{Placed, belongs, look_of, part_of_look, parts_of_look, spills_from, with_stimuli}
 use Rattle.qp_model.specs.Record.{Item}
 use Rattle.qp_orders.specs.RunOrder.{placed}
+use Rattle.qp_model.proofs.NumberLemmas.{every-append}
 
 -- ---- each of these is so
-
-pub all-append : {A : Type 0} (P : A → Type 0) (xs ys : List A) → AllByRecursion P xs → AllByRecursion P ys → AllByRecursion P (xs ++ ys)
-all-append P [] ys h k = k
-all-append P (x ∷ xs) ys h k = (h.0, all-append P xs ys h.1 k)
 
 pub all-front : {A : Type 0} (P : A → Type 0) (xs ys : List A) → AllByRecursion P (xs ++ ys) → AllByRecursion P xs
 all-front P [] ys h = tt
@@ -34,12 +31,12 @@ module _ (P : Item → Type 0) where
   unfolding part_of_look
   part-all lane k cuts within [] h = tt
   part-all lane k cuts within (i ∷ is) h =
-      all-append OfRecord _ _ (one-or-none OfRecord (belongs k cuts within i.body) (placed lane i) h.0) (part-all lane k cuts (belongs k cuts within i.body) is h.1)
+      every-append OfRecord _ _ (one-or-none OfRecord (belongs k cuts within i.body) (placed lane i) h.0) (part-all lane k cuts (belongs k cuts within i.body) is h.1)
 
   parts-all : (lane k : ℕ) (cuts : Bool) (sources : List (List Item)) → AllByRecursion (AllByRecursion P) sources → AllByRecursion OfRecord (parts_of_look lane k cuts sources)
   unfolding parts_of_look
   parts-all lane k cuts [] h = tt
-  parts-all lane k cuts (l ∷ ls) h = all-append OfRecord _ _ (part-all lane k cuts false l h.0) (parts-all (lane + 1) k cuts ls h.1)
+  parts-all lane k cuts (l ∷ ls) h = every-append OfRecord _ _ (part-all lane k cuts false l h.0) (parts-all (lane + 1) k cuts ls h.1)
 
   behind-all : (cuts : Bool) (sources : List (List Item)) (o : Option (ℕ × ℕ)) → AllByRecursion (AllByRecursion P) sources
       → AllByRecursion OfRecord (option_map_or (λ l. parts_of_look 1 l.0 cuts sources) o [])
@@ -51,7 +48,7 @@ module _ (P : Item → Type 0) where
   unfolding with_stimuli
   stimuli-all cuts sources [] h k = tt
   stimuli-all cuts sources (i ∷ is) h k =
-      (k.0, all-append OfRecord _ _ (behind-all cuts sources (look_of i.body) h) (stimuli-all cuts sources is h k.1))
+      (k.0, every-append OfRecord _ _ (behind-all cuts sources (look_of i.body) h) (stimuli-all cuts sources is h k.1))
 
 -- ---- a record of lane 0 stands among those of lane 0
 
@@ -62,13 +59,13 @@ part-source : (lane k : ℕ) (cuts within : Bool) (is : List Item) → 0 < lane 
 unfolding part_of_look
 part-source lane k cuts within [] some = tt
 part-source lane k cuts within (i ∷ is) some =
-    all-append IsOfSource _ _ (one-or-none IsOfSource (belongs k cuts within i.body) (placed lane i) some) (part-source lane k cuts (belongs k cuts within i.body) is some)
+    every-append IsOfSource _ _ (one-or-none IsOfSource (belongs k cuts within i.body) (placed lane i) some) (part-source lane k cuts (belongs k cuts within i.body) is some)
 
 parts-source : (lane k : ℕ) (cuts : Bool) (sources : List (List Item)) → 0 < lane → AllByRecursion IsOfSource (parts_of_look lane k cuts sources)
 unfolding parts_of_look
 parts-source lane k cuts [] some = tt
 parts-source lane k cuts (l ∷ ls) some =
-    all-append IsOfSource _ _ (part-source lane k cuts false l some) (parts-source (lane + 1) k cuts ls (omega (arith, some)))
+    every-append IsOfSource _ _ (part-source lane k cuts false l some) (parts-source (lane + 1) k cuts ls (omega (arith, some)))
 
 behind-source : (cuts : Bool) (sources : List (List Item)) (o : Option (ℕ × ℕ)) → AllByRecursion IsOfSource (option_map_or (λ l. parts_of_look 1 l.0 cuts sources) o [])
 behind-source cuts sources None = tt
@@ -82,7 +79,7 @@ pub spills-source : (lane : ℕ) (sources : List (List Item)) → 0 < lane → A
 unfolding spills_from
 spills-source lane [] some = tt
 spills-source lane (l ∷ ls) some =
-    all-append IsOfSource _ _ (spill-source lane (filter (λ i. is_spill i.body) l) some) (spills-source (lane + 1) ls (omega (arith, some)))
+    every-append IsOfSource _ _ (spill-source lane (filter (λ i. is_spill i.body) l) some) (spills-source (lane + 1) ls (omega (arith, some)))
 
 -- it stands behind all records of sources
 record Behind (sources ys before : List Placed) (x : Placed) (behind : List Placed) : Type 0 where

@@ -11,6 +11,7 @@ use Rattle.qp_model.specs.Record.{Item}
 use Rattle.qp_model.proofs.KnowingLemmas.{same_word-is}
 use Rattle.qp_model.proofs.ListLemmas.{all_below_at}
 use Rattle.qp_orders.proofs.RunLemmas.{filter-append}
+use Rattle.qp_model.proofs.TakenLemmas.{list_all-at}
 
 -- the record stands among these
 pub record Stands (all : List Item) (i : Item) : Type 0 where
@@ -28,10 +29,6 @@ stands-parts all pre (x ∷ xs) post is = (
 -- each record of a part stands among all
 pub stands-all : (all pre xs post : List Item) → all ≡ pre ++ (xs ++ post) → AllByRecursion (Stands all) xs
 stands-all all pre xs post is = stands-parts all pre xs post is
-
-list_all-at : {A : Type 0} (p : A → Bool) (xs : List A) (y : A) (ys : List A) → list_all p (xs ++ y ∷ ys) ≡ true → p y ≡ true
-list_all-at p [] y ys h = (and_parts _ _ h).0
-list_all-at p (x ∷ xs) y ys h = list_all-at p xs y ys (and_parts _ _ h).1
 
 pub stands-each : (p : Item → Bool) (all : List Item) (i : Item) → Stands all i → list_all p all ≡ true → p i ≡ true
 stands-each p all i at h = let there : list_all p (at.front ++ i ∷ at.back) ≡ true = rw at.at at h in list_all-at p at.front i at.back there

@@ -2,7 +2,7 @@
 use Rattle.std.proofs.Common.{◌≡◌, ◌≢◌, ℕ, zero, suc, ◌+◌, ◌<◌, ◌≤◌, ◌==◌, nat_lt, Bool, true, false, not, cond, ◌||◌, List, [], ◌∷◌, ◌++◌, map, length, drop, get_or, slice_set, refl, sym, ◌∙◌, ap, subst, arith, length-append}
 use Rattle.std.specs.List.{list_all, list_any, count_by}
 use Rattle.std.specs.Option.{is_some}
-use Rattle.std.proofs.lemmas.Bool.{and_from, and_parts}
+use Rattle.std.proofs.lemmas.Bool.{and_parts, eqb-true, eqb-false}
 use Rattle.std.proofs.lemmas.Bool.Decides.{nat_tests}
 use Rattle.std.proofs.lemmas.List.{map-append, append-nil, length-map, length-set, get_or-set_same, get_or-set_other, drop_all}
 use Rattle.qp_model.specs.declared.stimulus.Stim.{Stim}
@@ -27,7 +27,7 @@ use Rattle.qp_plain.specs.declared.world.PlainWorld.{PlainWorld}
 use Rattle.qp_plain.specs.Book.{lists_of, logs_of}
 use Rattle.qp_plain.specs.Books.{recs_of}
 use Rattle.qp_plain.specs.LaneLaws.{told-length}
-use Rattle.qp_plain.proofs.LogLemmas.{length-kinds, length-items}
+use Rattle.qp_plain.proofs.LogLemmas.{length-kinds}
 use Rattle.qp_plain.proofs.Holding.{any-default}
 use Rattle.qp_sound.specs.Log.{lane_of}
 use Rattle.qp_sound.specs.Sound.{facts_in}
@@ -40,10 +40,9 @@ use Rattle.qp_sim.specs.Choosing.{left_of}
 use Rattle.qp_sim.specs.SimHolds.{SimHolds, Counts, is_whole, is_unspilled, last_source}
 use Rattle.qp_sim.specs.Visiting.{Leaves, Amounts, HasStopped}
 use Rattle.qp_sim.proofs.OrderLemmas.{placed-untold}
-
-all-more : {A : Type 0} (p : A → Bool) (xs : List A) (x : A) → list_all p xs ≡ true → p x ≡ true → list_all p (xs ++ x ∷ []) ≡ true
-all-more p [] x h k = and_from _ _ k refl
-all-more p (y ∷ ys) x h k = and_from _ _ (and_parts _ _ h).0 (all-more p ys x (and_parts _ _ h).1 k)
+use Rattle.qp_model.proofs.LineLemmas.{same_number}
+use Rattle.qp_model.proofs.ListLemmas.{all-push}
+use Rattle.qp_model.proofs.RecordLemmas.{lane-length}
 
 -- The records of a whole stimulus.
 none-stim : (g : List Told) → AreBehind false (source_items g) → count_by (λ t. is_some (stim_of t.body)) g ≡ 0
@@ -125,7 +124,7 @@ none-spilled n (x ∷ hs) h =
 
 -- a lane is at most that long
 one-few : (g : Log) → length (recs_of g) ≤ 1000001
-one-few g = let all = length-kinds (lane_items g.recs.items) in let n = length-items g.recs.items in omega (arith, all, n, g.few, g.spills)
+one-few g = let all = length-kinds (lane_items g.recs.items) in let n = lane-length g.recs.items in omega (arith, all, n, g.few, g.spills)
 
 lane-few : (gs : List Log) (k : ℕ) → length (get_or (map recs_of gs) k []) ≤ 1000001
 lane-few [] k = omega arith
@@ -136,7 +135,7 @@ pub told-few : (w : PlainWorld) (k : ℕ) → length (get_or (tolds w) k []) ≤
 told-few w k =
     let few = lane-few (logs_of w.book) k in
     let told = ap length (told-of w k) ∙ told-length (facts_in w.sys.now (lists_of w.book)) 0 (lane_items (lane_of (lists_of w.book) k)) in
-    let items = length-items (lane_of (lists_of w.book) k) in
+    let items = lane-length (lane_of (lists_of w.book) k) in
     omega (arith, few, told, items)
 
 pub within-drop : {A : Type 0} (n : ℕ) (xs ys : List A) (y : A) → drop n xs ≡ y ∷ ys → n < length xs
@@ -144,17 +143,8 @@ within-drop n [] ys y e = absurd (cc (sym (drop_all n [] (omega arith)) ∙ e))
 within-drop zero (x ∷ xs) ys y e = omega arith
 within-drop (suc n) (x ∷ xs) ys y e = let k = within-drop n xs ys y e in omega (arith, k)
 
-number-self : (n : ℕ) → (n == n) ≡ true
-number-self n = grind (arith, nat_tests)
-
 apart : (n j : ℕ) → (n == j) ≡ false → (j + 1 == n + 1) ≡ false
 apart n j e = grind (arith, nat_tests)
-
-equal : (n j : ℕ) → (n == j) ≡ true → n ≡ j
-equal n j e = grind (arith, nat_tests)
-
-differ : (n j : ℕ) → (n == j) ≡ false → n ≢ j
-differ n j e = grind (arith, nat_tests)
 
 pub drop-get : {A : Type 0} (n : ℕ) (xs : List A) (d : A) → n < length xs → (ys : List A) × (drop n xs ≡ get_or xs n d ∷ ys)
 drop-get n [] d lt = absurd (omega (arith, lt))
@@ -204,19 +194,19 @@ module _ (plan : List (List Stim)) (counted : List ℕ) (last : ℕ) (hs : List 
   sources_now n some few true e =
       let is : n ≡ j + 1 = grind (arith, nat_tests) in
       ap (λ k. get_or w.aside.told k []) is ∙ leaves.told ∙ ap (λ l. l ++ map (for_object 0) g) (old.sources (j + 1) (omega arith) (omega (arith, lt)))
-      ∙ sym (lane_more (j + 1) ∙ ap (λ u. lane_told (j + 1) hs ++ map (for_object 0) (cond u g [])) (number-self (j + 1)))
+      ∙ sym (lane_more (j + 1) ∙ ap (λ u. lane_told (j + 1) hs ++ map (for_object 0) (cond u g [])) (same_number (j + 1)))
       ∙ ap (λ k. lane_told k (hs ++ h ∷ [])) (sym is)
   sources_now n some few false e =
       let off : (j + 1 == n) ≡ false = grind (arith, nat_tests) in
-      leaves.others n (differ n (j + 1) e) ∙ old.sources n some few
+      leaves.others n (eqb-false n (j + 1) e) ∙ old.sources n some few
       ∙ sym (lane_more n ∙ ap (λ u. lane_told n hs ++ map (for_object 0) (cond u g [])) off ∙ append-nil (lane_told n hs))
 
   begun_now : Counts plan counted last hs → (n : ℕ) → n < length plan → (u : Bool) → (n == j) ≡ u → get_or next n 0 ≡ begun_by (n + 1) (hs ++ h ∷ [])
   begun_now c n few true e =
-      let is : n ≡ j = equal n j e in
+      let is : n ≡ j = eqb-true n j e in
       let room : j < length counted = let long = old.counted in omega (arith, long, lt) in
       let more = begun-happens (j + 1) hs h in
-      let self : as_one (j + 1 == j + 1) ≡ 1 = ap as_one (number-self (j + 1)) in
+      let self : as_one (j + 1 == j + 1) ≡ 1 = ap as_one (same_number (j + 1)) in
       let was = c.begun_are j lt in
       let here : get_or next j 0 ≡ place = get_or-set_same counted j place 0 room in
       ap (λ k. get_or next k 0) is ∙ omega (arith, here, place_is, was, more, self) ∙ ap (λ k. begun_by (k + 1) (hs ++ h ∷ [])) (sym is)
@@ -224,18 +214,18 @@ module _ (plan : List (List Stim)) (counted : List ℕ) (last : ℕ) (hs : List 
       let more = begun-happens (n + 1) hs h in
       let off : as_one (j + 1 == n + 1) ≡ 0 = ap as_one (apart n j e) in
       let was = c.begun_are n few in
-      let here : get_or next n 0 ≡ get_or counted n 0 = get_or-set_other counted j n place 0 (differ n j e) in
+      let here : get_or next n 0 ≡ get_or counted n 0 = get_or-set_other counted j n place 0 (eqb-false n j e) in
       omega (arith, here, was, more, off)
 
   few_now : Counts plan counted last hs → (n : ℕ) → n < length plan → (u : Bool) → (n == j) ≡ u → get_or next n 0 ≤ length (get_or plan n [])
   few_now c n few true e =
-      let is : n ≡ j = equal n j e in
+      let is : n ≡ j = eqb-true n j e in
       let room : j < length counted = let long = old.counted in omega (arith, long, lt) in
       let here : get_or next j 0 ≡ place = get_or-set_same counted j place 0 room in
       let one = within-drop (get_or counted j 0) (get_or plan j []) left s its in
       subst (λ k. get_or next k 0 ≤ length (get_or plan k [])) (sym is) (omega (arith, here, place_is, one))
   few_now c n few false e =
-      let here : get_or next n 0 ≡ get_or counted n 0 = get_or-set_other counted j n place 0 (differ n j e) in
+      let here : get_or next n 0 ≡ get_or counted n 0 = get_or-set_other counted j n place 0 (eqb-false n j e) in
       let was = c.few n few in
       omega (arith, here, was)
 
@@ -243,9 +233,9 @@ module _ (plan : List (List Stim)) (counted : List ℕ) (last : ℕ) (hs : List 
   counts_now one is fits =
       let c = old.counts refl in
       record {
-        whole = all-more is_whole hs h c.whole (subst (λ l. is_whole (record { at = length v.told; source = j + 1; told = l }) ≡ true) (sym is) (whole-one sys s place look one fits (length v.told) (j + 1)));
-        calm = all-more is_unspilled hs h c.calm (subst (λ l. is_unspilled (record { at = length v.told; source = j + 1; told = l }) ≡ true) (sym is) (unspilled-one sys s place look one fits (length v.told) (j + 1)));
-        sources = all-more (λ x. nat_lt 0 x.source) hs h c.sources (above j);
+        whole = all-push is_whole hs h c.whole (subst (λ l. is_whole (record { at = length v.told; source = j + 1; told = l }) ≡ true) (sym is) (whole-one sys s place look one fits (length v.told) (j + 1)));
+        calm = all-push is_unspilled hs h c.calm (subst (λ l. is_unspilled (record { at = length v.told; source = j + 1; told = l }) ≡ true) (sym is) (unspilled-one sys s place look one fits (length v.told) (j + 1)));
+        sources = all-push (λ x. nat_lt 0 x.source) hs h c.sources (above j);
         begun_are = λ n few. begun_now c n few (n == j) refl;
         few = λ n few. few_now c n few (n == j) refl;
         last_is = sym (last-more 0 hs h);

@@ -1,6 +1,7 @@
 -- A world of `sim` in which nothing has happened.
 use Rattle.std.proofs.Common.{◌≡◌, ℕ, ◌+◌, ◌==◌, false, List, [], length, get_or, replicate, refl, sym, ◌∙◌, ap, arith}
 use Rattle.std.specs.List.{filter}
+use Rattle.std.proofs.lemmas.Bool.{le-leb}
 use Rattle.std.proofs.lemmas.List.{length-replicate, get_or-replicate}
 use Rattle.qp_model.specs.declared.stimulus.Stim.{Stim}
 use Rattle.qp_model.specs.History.{lane_items}
@@ -17,7 +18,6 @@ use Rattle.qp_plain.specs.NewWorld.{lanes_in}
 use Rattle.qp_plain.specs.WorldView.{world_view}
 use Rattle.qp_sim.specs.NewSim.{IsFirst}
 use Rattle.qp_sim.specs.SimHolds.{SimHolds, Counts, last_source}
-use Rattle.qp_sim.proofs.OrderLemmas.{is-le}
 use Rattle.qp_sim.proofs.Worlds.{tells, told-here, told-of, told-other, lane-is, long-aside, long-beside}
 
 module _ (w : PlainWorld) (first : IsFirst w) where
@@ -59,7 +59,7 @@ module _ (w : PlainWorld) (first : IsFirst w) where
       recent = omega arith;
       order = order-first;
       sources = λ n some few. told-other w n (λ e. let at = first.first in omega (arith, at, e, some)) ∙ told-of w n ∙ untold n;
-      rises = is-le 0 (length (world_view w).told) (omega arith);
+      rises = le-leb 0 (length (world_view w).told) (omega arith);
       counts = λ e. counts-first;
       halts = λ e. absurd (cc);
     }

@@ -1,7 +1,7 @@
 -- What a world of `sim` leaves.
 use Rattle.std.proofs.Common.{◌≡◌, ◌≢◌, ℕ, ◌==◌, nat_lt, Bool, true, false, ◌&&◌, ◌||◌, List, [], ◌∷◌, map, get_or, refl, sym, ◌∙◌, ap, subst, arith}
 use Rattle.std.specs.List.{list_all, list_any, count_by}
-use Rattle.std.proofs.lemmas.Bool.{and_from, and_parts}
+use Rattle.std.proofs.lemmas.Bool.{and_from, and_parts, or_right, le-leb}
 use Rattle.std.proofs.lemmas.Bool.Decides.{nat_tests}
 use Rattle.std.proofs.lemmas.List.{length-map}
 use Rattle.qp_model.specs.declared.record.Rec.{Rec}
@@ -21,13 +21,12 @@ use Rattle.qp_plain.specs.World.{was_handed, StopIs}
 use Rattle.qp_plain.proofs.Stopping.{nothing-handed, all-answered}
 use Rattle.qp_sim.specs.declared.world.SimWorld.{SimWorld}
 use Rattle.qp_sim.specs.SimEnded.{IsSimEnded, has_cause}
-use Rattle.qp_sim.proofs.OrderLemmas.{is-le}
 use Rattle.qp_sim.proofs.Worlds.{tells, tolds, told-here, told-of, told-other, lane-is, long, long-aside}
 
 all-room : (gs : List Log) → list_all (λ lane. has_room (lane_items lane)) (map recs_of gs) ≡ true
 unfolding has_room
 all-room [] = refl
-all-room (g ∷ gs) = and_from _ _ (is-le _ _ (omega (arith, g.few))) (all-room gs)
+all-room (g ∷ gs) = and_from _ _ (le-leb _ _ (omega (arith, g.few))) (all-room gs)
 
 -- a code that was handed in has its record
 any-all : (p : ℕ → Bool) (c : ℕ) (xs : List ℕ) → list_any (λ x. x == c) xs ≡ true → list_all p xs ≡ true → p c ≡ true
@@ -37,10 +36,6 @@ any-all p c (x ∷ xs) h all = go (x == c) refl h (any-all p c xs)
     go : (u : Bool) → (x == c) ≡ u → (u || list_any (λ x. x == c) xs) ≡ true → (list_any (λ x. x == c) xs ≡ true → list_all p xs ≡ true → p c ≡ true) → p c ≡ true
     go true e k later = let same : x ≡ c = grind (arith, nat_tests) in subst (λ y. p y ≡ true) same (and_parts _ _ all).0
     go false e k later = later k (and_parts _ _ all).1
-
-true-any : (u v : Bool) → v ≡ true → (u || v) ≡ true
-true-any true v e = refl
-true-any false v e = e
 
 any-caused : (c : ℕ) (gs : List Log) → list_any (was_handed c) gs ≡ true → has_cause (map recs_of gs) c ≡ true
 any-caused c [] h = absurd (cc)
@@ -54,7 +49,7 @@ any-caused c (g ∷ gs) h = go (was_handed c g) refl h (any-caused c gs)
 
     later : (u x y : Bool) → (u || y) ≡ true → (u || (x || y)) ≡ true
     later true x y k = refl
-    later false x y k = true-any x y k
+    later false x y k = or_right x y k
 
     go : (u : Bool) → was_handed c g ≡ u → (u || list_any (was_handed c) gs) ≡ true → (list_any (was_handed c) gs ≡ true → has_cause (map recs_of gs) c ≡ true)
         → has_cause (map recs_of (g ∷ gs)) c ≡ true

@@ -1,16 +1,9 @@
 -- Records as the log of a world has them.
-use Rattle.std.proofs.Common.{◌≡◌, ℕ, ◌≤◌, nat_le, true, List, [], ◌∷◌, map, refl, ap, arith}
-use Rattle.std.proofs.lemmas.Bool.Decides.{nat_tests}
+use Rattle.std.proofs.Common.{◌≡◌, ℕ, ◌≤◌, List, [], ◌∷◌, map, refl, ap}
 use Rattle.qp_model.specs.Told.{ToldItem}
 use Rattle.qp_calls.specs.LaneView.{placed_by}
 use Rattle.qp_orders.specs.Placing.{all_placed}
 use Rattle.qp_orders.specs.SourceRun.{untold_all}
-
-pub le-is : (a b : ℕ) → nat_le a b ≡ true → a ≤ b
-le-is a b e = grind (arith, nat_tests)
-
-pub is-le : (a b : ℕ) → a ≤ b → nat_le a b ≡ true
-is-le a b le = grind (arith, nat_tests)
 
 pub placed-untold : (lane : ℕ) (ts : List ToldItem) → map (placed_by lane) ts ≡ all_placed lane (untold_all ts)
 placed-untold lane [] = refl

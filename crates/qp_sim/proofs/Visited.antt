@@ -33,6 +33,7 @@ use Rattle.qp_sim.specs.Newest.{newest}
 use Rattle.qp_sim.specs.Visiting.{Rests, HasStopped, Amounts, Visits}
 use Rattle.qp_sim.proofs.Worlds.{tolds, told-here, told-other, lane-is, own_purse}
 use Rattle.qp_sim.proofs.Beside.{Went, before, behind, lane_there, tolds_first, source-leaves, source-stopped}
+use Rattle.qp_model.proofs.HistoryLemmas.{no-total}
 
 went-gains : (ts : List ToldItem) (v w : LaneView) → Gains ts v w → KeepsOwn v w → Went ts v w
 went-gains ts v w g own = record {
@@ -86,10 +87,6 @@ total-both x (i ∷ is) js = go (drawn_on x (touch i)) refl (total-both x is js)
     go true e h = rw e (omega (arith, h))
     go false e h = rw e h
 
-total-none : (x : Word) → total x [] ≡ 0
-unfolding total
-total-none x = refl
-
 placed_items : ℕ → List Told → List Item
 placed_items lane g = items_of (map (placed_by lane) (map (for_object 0) g))
 
@@ -103,7 +100,7 @@ looks-none x lane (o ∷ os) g h =
   where
     by : ((h.0 + h.1 ≡ h.2) × SeesEntry os h.3) ⊎ ((h.2 < h.0 + h.1) × (h.3 ≡ [])) → (SeesEntry os h.3 → total x (placed_items lane h.3) ≡ 0) → total x (placed_items lane h.3) ≡ 0
     by (inl k) later = later k.1
-    by (inr k) later = ap (λ g. total x (placed_items lane g)) k.1 ∙ total-none x
+    by (inr k) later = ap (λ g. total x (placed_items lane g)) k.1 ∙ no-total x
 
 silent : (x : Word) (lane place look : ℕ) (one : List Told) → total x (placed_items lane one) ≡ 0 → total x (placed_items lane (begun place look (plain body.Settle ∷ one))) ≡ 0
 unfolding placed_items

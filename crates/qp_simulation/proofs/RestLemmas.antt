@@ -1,23 +1,20 @@
 -- What objects show that rest is what their courses leave.
-use Rattle.std.proofs.Common.{◌≡◌, ℕ, ◌==◌, Bool, true, false, cond, List, [], ◌∷◌, refl, sym, ◌∙◌, ap, subst, Option, Some, None, arith}
+use Rattle.std.proofs.Common.{◌≡◌, ℕ, ◌==◌, Bool, true, false, cond, List, [], ◌∷◌, refl, sym, ◌∙◌, ap, subst, Some, None}
 use Rattle.std.specs.Prelude.{slice_get}
 use Rattle.std.specs.List.{AllByRecursion}
 use Rattle.qp_chart.specs.StateTree.{has}
-use Rattle.qp_chart.specs.declared.checked.Chart.{Chart}
 use Rattle.qp_model.specs.declared.journals.Journal.{Journal}
 use Rattle.qp_model.specs.declared.record.Rec.{Rec}
 use Rattle.qp_model.specs.declared.stimulus.Stim.{Stim}
 use Rattle.qp_model.specs.declared.systems.System.{System}
 use Rattle.qp_model.specs.declared.systems.ObjectDef.{ObjectDef}
-use Rattle.qp_model.specs.Course.{chart_at}
 use Rattle.qp_model.specs.History.{lane_items}
 use Rattle.qp_model.specs.Home.{by_object, home_of, lane_at}
-use Rattle.qp_model.specs.Kernels.{port}
-use Rattle.qp_model.specs.Knowing.{records_of, told_lane}
+use Rattle.qp_model.specs.Knowing.{records_of}
 use Rattle.qp_model.specs.Lawful.{facts_of}
 use Rattle.qp_model.specs.Sites.{object_at}
 use Rattle.qp_model.specs.Sound.{IsSound}
-use Rattle.qp_model.specs.Told.{Told, ToldItem}
+use Rattle.qp_model.specs.Told.{Told}
 use Rattle.qp_model.proofs.KnowingLemmas.{records_of-told}
 use Rattle.qp_calls.specs.LaneView.{LaneView}
 use Rattle.qp_dispatch.specs.Lasts.{config_of}
@@ -27,18 +24,17 @@ use Rattle.qp_kernel.specs.Turning.{Terms, kernel_in}
 use Rattle.qp_kernel.specs.ZeroEnds.{own_told}
 use Rattle.qp_kernel.proofs.LawfulLemmas.{IsFound, all-found}
 use Rattle.qp_rests.specs.declared.rest.Rest.{Rest}
-use Rattle.qp_rests.specs.Rests.{AreRests, AreRestsIn, IsRestIn, IsRestOf}
-use Rattle.qp_turns.specs.declared.objects.Objects.{Objects}
+use Rattle.qp_rests.specs.Rests.{AreRests, AreRestsIn, IsRestOf}
 use Rattle.qp_turns.specs.declared.objects.Slot.{Slot}
-use Rattle.qp_turns.specs.AtRest.{OthersRest, RestsAt, StopsAtRest}
-use Rattle.qp_turns.specs.Objects.{leaf_in, leaf_there, vars_in, vars_there}
+use Rattle.qp_turns.specs.AtRest.{OthersRest, StopsAtRest}
+use Rattle.qp_turns.specs.Objects.{leaf_there, vars_there}
 use Rattle.qp_turns.specs.Turning.{Idled, Stand, TurnsTo}
-use Rattle.qp_turns.proofs.Places.{some-same}
 use Rattle.qp_turns.proofs.Resting.{rests-still}
 use Rattle.qp_simulation.specs.Left.{IsLeft}
 use Rattle.qp_simulation.specs.Resting.{AreShown, IsShown, RestsAfter}
 use Rattle.qp_simulation.proofs.Kernels.{no-port}
 use Rattle.qp_simulation.proofs.LeftLemmas.{zero-told}
+use Rattle.qp_model.proofs.AbleLemmas.{some-same}
 
 leaf-shown : (slot : Slot) (n : ℕ) → leaf_there (Some (Some slot)) ≡ Some n → n ≡ slot.object.lasting.leaf
 leaf-shown slot n h = by slot.object.started h

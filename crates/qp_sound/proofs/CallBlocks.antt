@@ -1,15 +1,13 @@
 -- The calls on blocks do what their clauses say.
-use Rattle.std.proofs.Common.{◌≡◌, ℕ, suc, ◌+◌, ◌<◌, ◌≤◌, ◌==◌, nat_lt, Bool, true, false, not, ◌&&◌, List, [], ◌∷◌, length, take, refl, sym, ◌∙◌, ap, subst, arith, IsTrue, inl, inr, Option, Some, None, take_all, length-append}
+use Rattle.std.proofs.Common.{◌≡◌, ℕ, suc, ◌+◌, ◌<◌, ◌≤◌, ◌==◌, Bool, true, false, not, ◌&&◌, [], ◌∷◌, length, take, refl, sym, ◌∙◌, ap, subst, arith, IsTrue, inl, inr, Option, Some, None, take_all, length-append}
 use Rattle.std.specs.Option.{unwrap_or}
-use Rattle.std.proofs.lemmas.Bool.{and_from}
+use Rattle.std.proofs.lemmas.Bool.{and_from, lt-ltb}
 use Rattle.std.proofs.lemmas.List.{take-append-le}
-use Rattle.std.proofs.lemmas.Bool.Decides.{nat_tests}
 use Rattle.qp_chart.specs.StateTree.{has}
 use Rattle.qp_model.specs.declared.words.Word.TheVariants as word
 use Rattle.qp_model.specs.declared.bodies.Body.{Body}
 use Rattle.qp_model.specs.declared.bodies.Body.TheVariants.{New, Inc, Dec, Back}
 use Rattle.qp_model.specs.Told.{Event, plain, given, dropped}
-use Rattle.qp_model.specs.Lists.{is_first}
 use Rattle.qp_model.specs.History.{Draws, touch_of, drawn_on, hist, total, all_items}
 use Rattle.qp_model.specs.Machine.{after}
 use Rattle.qp_model.specs.References.{references}
@@ -24,7 +22,6 @@ use Rattle.qp_calls.specs.declared.answers.Give.TheVariants as give
 use Rattle.qp_calls.specs.LaneView.{FreeBlocks, References}
 use Rattle.qp_calls.specs.Tokens.{Held, Loose, stands, take_out}
 use Rattle.qp_calls.specs.Clauses.{Gives, Makes, DropsOne, shortage_of, StandsHold, StandsFresh}
-use Rattle.qp_calls.proofs.HandLemmas.{same_number}
 use Rattle.qp_sound.specs.WordStates.{pool_in, refs_in}
 use Rattle.qp_sound.specs.Sound.{SoundWorld, facts_in, hands_in, names_block}
 use Rattle.qp_sound.specs.May.{May, MayGive, MayMake, IsPool}
@@ -35,13 +32,8 @@ use Rattle.qp_sound.proofs.Times.{all-stands, take_out-absent, stands-times}
 use Rattle.qp_sound.proofs.Standing.{block-pool, pool-count, refs-count, free-life, out-not_free, held-stands}
 use Rattle.qp_sound.proofs.FreeLemmas.{free-ascends, length-without_first, length-with_number, length-without_one}
 use Rattle.qp_sound.proofs.CallParts.{adds, draws-up, hands-after, hist-after, pool-after, refs-after, pool-same, refs-same}
-
-lt-true : (a b : ℕ) → a < b → nat_lt a b ≡ true
-lt-true a b h = grind (arith, nat_tests)
-
-in-list : (b : ℕ) (xs : List ℕ) → is_first b xs ≡ true → has xs b ≡ true
-in-list b [] e = absurd (cc)
-in-list b (x ∷ xs) e = rw e refl
+use Rattle.qp_model.proofs.LineLemmas.{same_number}
+use Rattle.qp_model.proofs.PromiseLemmas.{first-has}
 
 -- A block is given out.
 module _ (s : Step) (p n b from : ℕ) (ev : Event) (ext : Extends s s.by (New p n b from ev.sig ev.pars)) (m : MayGive s.sys s.lanes p n b from ev) where
@@ -85,7 +77,7 @@ module _ (s : Step) (p n b from : ℕ) (ev : Event) (ext : Extends s s.by (New p
   bare_after : (refs_in s.more p b).names ≡ []
   bare_after =
       ap (λ x. x.names) (refs-same s s.by body ext.world ext.grown ext.says may p b refl)
-      ∙ (ext.world.sound.block p b m.block).idle (free_out _ (sym (free-life s.sys s.lanes ext.world.sound.words p b m.block) ∙ in-list b _ m.lowest))
+      ∙ (ext.world.sound.block p b m.block).idle (free_out _ (sym (free-life s.sys s.lanes ext.world.sound.words p b m.block) ∙ first-has b _ m.lowest))
     where
       free_out : (v : Bool) → not v ≡ true → v ≡ false
       free_out true e = cc
@@ -101,7 +93,7 @@ module _ (s : Step) (p n b from : ℕ) (ev : Event) (ext : Extends s s.by (New p
     adds = adds s s.by body ext.world ext.grown ext.says may ext.less _ told_is;
     its_pool = refl;
     unused = refl;
-    enough = lt-true _ _ enough;
+    enough = lt-ltb _ _ enough;
     draws = record {
       up = draws-up s s.by body ext.world ext.grown ext.says may (word.Pool p) (same_number p) draws;
       says = ap FreeBlocks (omega (arith, pool_after));

@@ -23,7 +23,7 @@ use Rattle.qp_calls.specs.declared.tokens.Entry.TheVariants as token
 use Rattle.qp_calls.specs.Tokens.{Held, stands, with_entry}
 use Rattle.qp_calls.specs.Clauses.{Stands, EventIs, IsEvent, entry_of, params_of}
 use Rattle.qp_calls.specs.Deferring.{is_named}
-use Rattle.qp_calls.proofs.HandLemmas.{same_number, held-first}
+use Rattle.qp_calls.proofs.HandLemmas.{held-first}
 use Rattle.qp_calls.proofs.Releasing.{with-pool}
 use Rattle.qp_sound.specs.WordStates.{line_in, refs_in, cell_in}
 use Rattle.qp_sound.specs.Sound.{SoundWorld, facts_in, hands_in, is_event, names_block}
@@ -37,6 +37,7 @@ use Rattle.qp_sound.proofs.NextLemmas.{queue_total}
 use Rattle.qp_sound.proofs.LaterLemmas.{front-made, front-stands}
 use Rattle.qp_sound.proofs.CallParts.{adds, draws-up, hands-after, line-after, event_of-same}
 use Rattle.qp_sound.proofs.CallQueues.{shows, room-is}
+use Rattle.qp_model.proofs.LineLemmas.{same_number}
 
 -- an entry has an event of the system
 pub record HasEvent (sys : System) (lanes : List (List Rec)) (e : model.Entry) : Type 0 where

@@ -1,6 +1,7 @@
 -- The calls on queues do what their clauses say.
-use Rattle.std.proofs.Common.{◌≡◌, ℕ, suc, ◌+◌, ◌-◌, ◌<◌, ◌≤◌, ◌==◌, nat_lt, true, false, List, [], ◌∷◌, ◌++◌, length, refl, sym, ◌∙◌, ap, arith, inl, inr, Option, Some, None}
+use Rattle.std.proofs.Common.{◌≡◌, ℕ, suc, ◌+◌, ◌-◌, ◌<◌, ◌≤◌, ◌==◌, false, List, [], ◌∷◌, ◌++◌, length, refl, sym, ◌∙◌, ap, arith, inl, inr, Option, Some, None}
 use Rattle.std.specs.Option.{unwrap_or}
+use Rattle.std.proofs.lemmas.Bool.{lt-ltb}
 use Rattle.std.proofs.lemmas.Bool.Decides.{nat_tests}
 use Rattle.qp_model.specs.declared.record.Rec.{Rec}
 use Rattle.qp_model.specs.declared.words.Word.TheVariants as word
@@ -18,7 +19,6 @@ use Rattle.qp_calls.specs.declared.tokens.Entry.TheVariants as token
 use Rattle.qp_calls.specs.LaneView.{LaneView, Purse, Counts, Looks}
 use Rattle.qp_calls.specs.Tokens.{Held}
 use Rattle.qp_calls.specs.Clauses.{Stands, ShowsQueue, entry_of, refusal_of}
-use Rattle.qp_calls.proofs.HandLemmas.{same_number}
 use Rattle.qp_sound.specs.WordStates.{line_in}
 use Rattle.qp_sound.specs.Sound.{SoundWorld, facts_in, hands_in, names_block}
 use Rattle.qp_sound.specs.May.{May, IsQueue, IsOwned}
@@ -29,9 +29,7 @@ use Rattle.qp_sound.proofs.Times.{all-stands}
 use Rattle.qp_sound.proofs.Standing.{line-in}
 use Rattle.qp_sound.proofs.NextLemmas.{queue_total}
 use Rattle.qp_sound.proofs.CallParts.{adds, draws-up, line-after, line-same}
-
-lt-true : (a b : ℕ) → a < b → nat_lt a b ≡ true
-lt-true a b h = grind (arith, nat_tests)
+use Rattle.qp_model.proofs.LineLemmas.{same_number}
 
 not_zero : (p : ℕ) → 0 < p → (p == 0) ≡ false
 not_zero p h = grind (arith, nat_tests)
@@ -96,7 +94,7 @@ claim-done s to f l m e margin ext stand q enough =
       l = l;
       m = m;
       adds = adds s s.by (Post to (f + 1) l m (entry_of e)) ext.world ext.grown ext.says (post_may s to f l m e ext stand q room) ext.less _ (post_told s to f l m e ext stand q room);
-      enough = lt-true _ _ (omega (arith, enough, counted.0));
+      enough = lt-ltb _ _ (omega (arith, enough, counted.0));
       up = draws-up s s.by (Post to (f + 1) l m (entry_of e)) ext.world ext.grown ext.says (post_may s to f l m e ext stand q room) (word.Queue to) (same_number to) (post_draws s to f l m e ext stand q room);
       shows = shows s to (f + 1) l m s.sys s.more s.longer s.left (post_line s to f l m e ext stand q room);
     }

@@ -14,7 +14,6 @@ use Rattle.qp_model.specs.Knowing.{known_of, set_at, told}
 use Rattle.qp_model.specs.WordLaw.{is_object}
 use Rattle.qp_model.proofs.HistoryLemmas.{length-hist}
 use Rattle.qp_calls.specs.LaneView.{AddsOf}
-use Rattle.qp_calls.proofs.HandLemmas.{same_number}
 use Rattle.qp_sound.specs.WordStates.{set_in}
 use Rattle.qp_sound.specs.Sound.{SoundWorld, facts_in}
 use Rattle.qp_sound.specs.May.{May, IsSignal, IsTimer}
@@ -24,6 +23,7 @@ use Rattle.qp_sound.specs.Calls.{SubscribeChanges, SubscribeKeeps, UnsubscribeCh
 use Rattle.qp_sound.proofs.Standing.{set-count, clock-count}
 use Rattle.qp_sound.proofs.CallParts.{adds, draws-up, set-same}
 use Rattle.qp_sound.proofs.SetLemmas.{subscribers-objects}
+use Rattle.qp_model.proofs.LineLemmas.{same_number}
 
 -- Records that state all.
 

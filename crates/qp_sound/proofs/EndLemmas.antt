@@ -19,7 +19,6 @@ use Rattle.qp_calls.specs.Tokens.{Token, Held, Loose}
 use Rattle.qp_calls.specs.Counting.{one, times, count_of}
 use Rattle.qp_calls.specs.Deferring.{tokens_in}
 use Rattle.qp_calls.proofs.CountLemmas.{count-with}
-use Rattle.qp_calls.proofs.HandLemmas.{same_number}
 use Rattle.qp_sound.specs.WordStates.{pool_in, life_in, refs_in, line_in}
 use Rattle.qp_sound.specs.Sound.{Sound, SoundWorld, BlockIn, sum_below, queued, queues, entries_in, is_ref, hands_in}
 use Rattle.qp_sound.specs.Ending.{BlockStands, IsFree, IsLoose, IsReferred, OnlyDeferred, stands_in}
@@ -28,6 +27,7 @@ use Rattle.qp_sound.proofs.Times.{has-times, times-without_one}
 use Rattle.qp_sound.proofs.Standing.{free-life, names-in}
 use Rattle.qp_sound.proofs.FreeLemmas.{length-without_one}
 use Rattle.qp_sound.proofs.SoundParts.{swap-eq}
+use Rattle.qp_model.proofs.LineLemmas.{same_number}
 
 -- Where each block stands.
 module _ (sys : System) (lanes : List (List Rec)) (hands : List Token) (sound : Sound sys lanes hands) (p b : ℕ) (h : IsTrue (is_block sys p b)) where

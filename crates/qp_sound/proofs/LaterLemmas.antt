@@ -1,7 +1,7 @@
 -- A record that may come is later than all that is known, and what it states of its own word has been reached.
 use Rattle.std.proofs.Common.{◌≡◌, ℕ, zero, suc, ◌+◌, ◌<◌, ◌≤◌, ◌==◌, nat_lt, nat_le, Bool, true, false, ◌||◌, List, [], ◌∷◌, ◌++◌, length, refl, sym, ◌∙◌, ap, subst, arith, IsTrue, ◌⊎◌, inl, inr, Option}
 use Rattle.std.specs.List.{list_all}
-use Rattle.std.proofs.lemmas.Bool.{and_from, and_parts}
+use Rattle.std.proofs.lemmas.Bool.{and_from, and_parts, or_right}
 use Rattle.std.proofs.lemmas.Bool.Decides.{nat_tests}
 use Rattle.qp_chart.specs.StateTree.{has}
 use Rattle.qp_model.specs.declared.record.Rec.{Rec}
@@ -23,7 +23,7 @@ use Rattle.qp_model.proofs.KnowingLemmas.{IsLater, later-undrawn, new-fresh, bac
 use Rattle.qp_model.proofs.SettledLemmas.{settled-from, settled-to}
 use Rattle.qp_calls.specs.Tokens.{Token, Held, token_of, stands}
 use Rattle.qp_calls.specs.Counting.{one, times}
-use Rattle.qp_calls.proofs.HandLemmas.{same_number, same-self}
+use Rattle.qp_calls.proofs.HandLemmas.{same-self}
 use Rattle.qp_sound.specs.WordStates.{pool_in, refs_in, line_in, set_in}
 use Rattle.qp_sound.specs.Sound.{Sound, sum_below, queued, queues, entries_in, is_ref, is_good, is_made, handles_made, all_made, names_block}
 use Rattle.qp_sound.specs.May.{May}
@@ -33,6 +33,7 @@ use Rattle.qp_sound.proofs.NextLemmas.{next-of}
 use Rattle.qp_sound.proofs.Standing.{pool-count, refs-count, refs-long, set-count, block-pool, names-in, held-stands}
 use Rattle.qp_sound.proofs.SoundParts.{later-next}
 use Rattle.qp_sound.proofs.SoundQueues.{entries-of}
+use Rattle.qp_model.proofs.LineLemmas.{same_number}
 
 -- Each kind.
 module _ (sys : System) (before : List (List Rec)) (lane : List Rec) (behind : List (List Rec)) (r : Rec) (o : ℕ) (b : Body)
@@ -101,10 +102,6 @@ part-of-sum (suc n) f a lt = go (a == n) refl (part-of-sum n f a)
     go : (u : Bool) → (a == n) ≡ u → (a < n → f a ≤ sum_below n f) → f a ≤ sum_below n f + f n
     go true e later = let is : a ≡ n = grind (arith, nat_tests) in let same : f a ≡ f n = ap f is in omega (arith, same)
     go false e later = let less : a < n = grind (arith, nat_tests) in let k = later less in omega (arith, k)
-
-or_right : (u v : Bool) → v ≡ true → (u || v) ≡ true
-or_right true v h = refl
-or_right false v h = h
 
 module _ (sys : System) (lanes : List (List Rec)) (hands : List Token) (sound : Sound sys lanes hands) where
   -- a reference that stands was made

@@ -1,10 +1,9 @@
 -- The laws of a world of one thread.
-use Rattle.std.proofs.Common.{◌≡◌, ◌≢◌, ℕ, zero, suc, ◌+◌, ◌<◌, ◌≤◌, ◌==◌, nat_lt, Bool, true, false, not, ◌&&◌, ◌||◌, cond, List, [], ◌∷◌, ◌++◌, length, drop, slice_set, refl, sym, ◌∙◌, ap, subst, arith, inl, inr, Some}
-use Rattle.std.specs.List.{list_all, list_any, fold, filter}
+use Rattle.std.proofs.Common.{◌≡◌, ◌≢◌, ℕ, suc, ◌+◌, ◌<◌, ◌≤◌, ◌==◌, nat_lt, Bool, true, false, not, ◌&&◌, ◌||◌, cond, List, [], ◌∷◌, ◌++◌, length, drop, slice_set, refl, sym, ◌∙◌, ap, subst, arith, inl, inr, Some}
+use Rattle.std.specs.List.{list_all, list_any, fold}
 use Rattle.std.proofs.lemmas.Bool.{and_from, and_parts}
 use Rattle.std.proofs.lemmas.Bool.Decides.{nat_tests}
 use Rattle.qp_model.specs.declared.record.Rec.{Rec}
-use Rattle.qp_model.specs.declared.words.Word.{Word}
 use Rattle.qp_model.specs.declared.systems.System.{System}
 use Rattle.qp_model.specs.declared.bodies.Body.{Body}
 use Rattle.qp_model.specs.declared.bodies.Body.TheVariants.{Took, Nil, Seen, New, Short, Inc, Dec, Back, Post, Lifo, Full, Pub, Sub, Unsub, Same, Arm, Disarm, Rearm, Idle, Tick, Fire, NoEntry, NoBlock, Armed, NoLifo}
@@ -13,7 +12,7 @@ use Rattle.qp_model.specs.declared.bodies.Entry.{Entry}
 use Rattle.qp_model.specs.Record.{Item, item_of, body_of, entry}
 use Rattle.qp_model.specs.Ends.{is_spill}
 use Rattle.qp_model.specs.Told.{ToldItem, for_object}
-use Rattle.qp_model.specs.History.{touch, drawn_on, lane_items, all_items, total}
+use Rattle.qp_model.specs.History.{lane_items, all_items}
 use Rattle.qp_model.specs.Knowing.{Facts, known_of, told, told_lane, ceiling_after}
 use Rattle.qp_model.specs.Settled.{AllSettled, is_settled, all_settled}
 use Rattle.qp_model.proofs.KnowingLemmas.{told_lane-stays, records_of-told}
@@ -21,9 +20,9 @@ use Rattle.qp_model.proofs.SettledLemmas.{all_settled-from}
 use Rattle.qp_calls.specs.LaneView.{Gains, LaneView, ceiling_in, is_known, mark_after, own_after}
 use Rattle.qp_calls.specs.LaneLaws.{is_caused}
 use Rattle.qp_calls.specs.Notes.{IsNote, MayNote, told_as, told_note, stop_code, last_code}
-use Rattle.qp_calls.specs.Tokens.{Token, handles, hands_after, stands, token_of}
+use Rattle.qp_calls.specs.Tokens.{Token, hands_after}
 use Rattle.qp_sound.specs.Log.{lane_of, log_of, items_of, first_placed, with_record}
-use Rattle.qp_sound.specs.Sound.{SoundWorld, all_made, facts_in, handles_made, hands_in, is_made}
+use Rattle.qp_sound.specs.Sound.{SoundWorld, facts_in, hands_in, is_made}
 use Rattle.qp_sound.specs.May.{May}
 use Rattle.qp_sound.specs.View.{view_of, event_in}
 use Rattle.qp_sound.specs.Step.{Step, Grown, before, behind, MayCome}
@@ -34,7 +33,7 @@ use Rattle.qp_sound.proofs.CallEvents.{held-has, held-same, event-its}
 use Rattle.qp_sound.proofs.ViewLemmas.{any-told, all-lane, known-made}
 use Rattle.qp_sound.proofs.WorldLemmas as world
 use Rattle.qp_sound.proofs.CallParts.{world-after, gains, event_of-same}
-use Rattle.qp_sound.proofs.LaterLemmas.{held-is_made}
+use Rattle.qp_model.proofs.HistoryLemmas.{total-length}
 
 pub stays-sound : StaysSound
 stays-sound s o b old grown says may = world-after s o b old grown says may
@@ -207,16 +206,6 @@ causes-stay items more (code ∷ codes) h = and_from _ _ (go (code == 7) (nat_lt
 
 -- No word has had more operations than the world has records.
 
-drawn-few : (w : Word) (is : List Item) → total w is ≤ length is
-unfolding total
-drawn-few w [] = omega arith
-drawn-few w (i ∷ is) = go (drawn_on w (touch i)) (drawn-few w is)
-  where
-    go : (u : Bool) → length (filter (λ j. drawn_on w (touch j)) is) ≤ length is
-        → length (cond u (i ∷ filter (λ j. drawn_on w (touch j)) is) (filter (λ j. drawn_on w (touch j)) is)) ≤ suc (length is)
-    go true later = omega (arith, later)
-    go false later = omega (arith, later)
-
 log-short : (lanes : List (List Rec)) (order : List ℕ) → length (items_of (log_of lanes order)) ≤ length order
 unfolding log_of
 log-short lanes [] = omega arith
@@ -230,7 +219,7 @@ log-short lanes (x ∷ order) = go (lane_of lanes x) (log-short (slice_set lanes
 pub words-few : WordsAreFew
 words-few lanes order orders w =
     let same = total-log w lanes order orders in
-    let few = drawn-few w (items_of (log_of lanes order)) in
+    let few = total-length w (items_of (log_of lanes order)) in
     let short = log-short lanes order in
     omega (arith, same, few, short)
 

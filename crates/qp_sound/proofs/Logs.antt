@@ -1,6 +1,7 @@
 -- The log of a world: it has each lane whole, and grows at its end.
 use Rattle.std.proofs.Common.{◌≡◌, ◌≢◌, ℕ, zero, suc, ◌+◌, ◌<◌, ◌==◌, Bool, true, false, cond, List, [], ◌∷◌, ◌++◌, length, map, take, drop, slice_set, refl, sym, ◌∙◌, ap, subst, arith, length-append}
 use Rattle.std.specs.List.{filter}
+use Rattle.std.proofs.lemmas.Bool.{eqb-true, eqb-false}
 use Rattle.std.proofs.lemmas.Bool.Decides.{nat_tests}
 use Rattle.qp_model.specs.declared.record.Rec.{Rec}
 use Rattle.qp_model.specs.Record.{item_of}
@@ -48,12 +49,6 @@ lane-there [] a some = absurd (omega (arith, some))
 lane-there (x ∷ xs) zero some = omega arith
 lane-there (x ∷ xs) (suc a) some = let k = lane-there xs a some in omega (arith, k)
 
-differ-from : (a b : ℕ) → (a == b) ≡ false → a ≢ b
-differ-from a b e = grind (arith, nat_tests)
-
-same-from : (a b : ℕ) → (a == b) ≡ true → a ≡ b
-same-from a b e = grind (arith, nat_tests)
-
 -- The first record of a lane goes, and the order's first name with it.
 module _ (lanes : List (List Rec)) (x : ℕ) (order : List ℕ) (orders : Orders lanes (x ∷ order)) where
   abbrev pub without_first : List (List Rec)
@@ -76,7 +71,7 @@ module _ (lanes : List (List Rec)) (x : ℕ) (order : List ℕ) (orders : Orders
 
       go : (u : Bool) → (x == a) ≡ u → times (λ y. y == a) order ≡ length (lane_of without_first a)
       go true e =
-          let is : x ≡ a = same-from x a e in
+          let is : x ≡ a = eqb-true x a e in
           let n = orders a in
           let z : one (x == a) ≡ 1 = rw e refl in
           let now : lane_of without_first a ≡ drop 1 (lane_of lanes x) = ap (lane_of without_first) (sym is) ∙ lane-set_same lanes x (drop 1 (lane_of lanes x)) (lane-there lanes x some-first) in
@@ -86,7 +81,7 @@ module _ (lanes : List (List Rec)) (x : ℕ) (order : List ℕ) (orders : Orders
       go false e =
           let n = orders a in
           let z : one (x == a) ≡ 0 = rw e refl in
-          let now : lane_of without_first a ≡ lane_of lanes a = lane-set_other lanes x a (drop 1 (lane_of lanes x)) (λ k. differ-from x a e (sym k)) in
+          let now : lane_of without_first a ≡ lane_of lanes a = lane-set_other lanes x a (drop 1 (lane_of lanes x)) (λ k. eqb-false x a e (sym k)) in
           rw now (omega (arith, n, z))
 
 -- With one more record at the end of a lane, the log has it at its end: the first record of lane x stays the first.
@@ -150,14 +145,14 @@ module _ (lanes : List (List Rec)) (x : ℕ) (order : List ℕ) (orders : Orders
           → first_placed x (lane_of (with_record lanes at r) x) (log_of (slice_set (with_record lanes at r) x (drop 1 (lane_of (with_record lanes at r) x))) (order ++ at ∷ []))
           ≡ first_placed x whole (log_of rest order) ++ record { lane = at; item = item_of r } ∷ []
       go true e =
-          let is : x ≡ at = same-from x at e in
+          let is : x ≡ at = eqb-true x at e in
           let one_lane : lane_of (with_record lanes at r) x ≡ whole ++ r ∷ [] = subst (λ k. lane_of (with_record lanes k r) x ≡ whole ++ r ∷ []) is lane_here in
           let all_lanes : slice_set (with_record lanes at r) x (drop 1 (whole ++ r ∷ [])) ≡ with_record rest at r =
           subst (λ k. slice_set (with_record lanes k r) x (drop 1 (whole ++ r ∷ [])) ≡ with_record rest k r) is lanes_here in
           ap (λ l. first_placed x l (log_of (slice_set (with_record lanes at r) x (drop 1 l)) (order ++ at ∷ []))) one_lane
           ∙ grown_here (slice_set (with_record lanes at r) x (drop 1 (whole ++ r ∷ []))) all_lanes
       go false e =
-          let differ = differ-from x at e in
+          let differ = eqb-false x at e in
           ap (λ l. first_placed x l (log_of (slice_set (with_record lanes at r) x (drop 1 l)) (order ++ at ∷ []))) (lane_elsewhere differ)
           ∙ ap (λ z. first_placed x whole (log_of z (order ++ at ∷ []))) (lanes_elsewhere differ)
           ∙ first_more whole _ _ later
@@ -188,7 +183,7 @@ orders-more lanes order at r orders lt a = go (at == a) refl
   where
     go : (u : Bool) → (at == a) ≡ u → times (λ x. x == a) (order ++ at ∷ []) ≡ length (lane_of (with_record lanes at r) a)
     go true e =
-        let is : at ≡ a = same-from at a e in
+        let is : at ≡ a = eqb-true at a e in
         let now : lane_of (with_record lanes at r) a ≡ lane_of lanes at ++ r ∷ [] = ap (lane_of (with_record lanes at r)) (sym is) ∙ lane-set_same lanes at (lane_of lanes at ++ r ∷ []) lt in
         let same : length (lane_of lanes a) ≡ length (lane_of lanes at) = ap (λ k. length (lane_of lanes k)) (sym is) in
         let z : one (at == a) ≡ 1 = rw e refl in
@@ -197,7 +192,7 @@ orders-more lanes order at r orders lt a = go (at == a) refl
         let long = length-append (lane_of lanes at) (r ∷ []) in
         rw now (omega (arith, z, split, n, same, long))
     go false e =
-        let now : lane_of (with_record lanes at r) a ≡ lane_of lanes a = lane-set_other lanes at a (lane_of lanes at ++ r ∷ []) (λ k. differ-from at a e (sym k)) in
+        let now : lane_of (with_record lanes at r) a ≡ lane_of lanes a = lane-set_other lanes at a (lane_of lanes at ++ r ∷ []) (λ k. eqb-false at a e (sym k)) in
         let z : one (at == a) ≡ 0 = rw e refl in
         let split = times-append (λ x. x == a) order (at ∷ []) in
         let n = orders a in
@@ -224,13 +219,13 @@ lanes-log lanes (x ∷ order) orders a =
             → items_of (cond u (record { lane = x; item = item_of r } ∷ filter (λ y. y.lane == a) (log_of (without_first lanes x order orders) order)) (filter (λ y. y.lane == a) (log_of (without_first lanes x order orders) order)))
             ≡ map item_of (lane_of lanes a)
         split true k =
-            let is : x ≡ a = same-from x a k in
+            let is : x ≡ a = eqb-true x a k in
             let rest : lane_of (without_first lanes x order orders) a ≡ rs =
             ap (lane_of (without_first lanes x order orders)) (sym is) ∙ lane-set_same lanes x (drop 1 (lane_of lanes x)) (lane-there lanes x (some-first lanes x order orders)) ∙ ap (drop 1) e in
             let whole : lane_of lanes a ≡ r ∷ rs = ap (lane_of lanes) (sym is) ∙ e in
             rw whole (ap (λ zs. item_of r ∷ zs) (later ∙ ap (map item_of) rest))
         split false k =
-            let kept : lane_of (without_first lanes x order orders) a ≡ lane_of lanes a = lane-set_other lanes x a (drop 1 (lane_of lanes x)) (λ e. differ-from x a k (sym e)) in
+            let kept : lane_of (without_first lanes x order orders) a ≡ lane_of lanes a = lane-set_other lanes x a (drop 1 (lane_of lanes x)) (λ e. eqb-false x a k (sym e)) in
             later ∙ ap (map item_of) kept
 
 -- The lanes around the one that grows.

@@ -35,6 +35,8 @@ use Rattle.qp_sound.specs.Sound.{Sound, BlockIn, EventIn, hands_in, told_log, qu
 use Rattle.qp_sound.specs.View.{view_of, shown_in, own_of_line}
 use Rattle.qp_sound.specs.Laws.{NewWorldIsSound, NewLaneIsNew}
 use Rattle.qp_sound.proofs.EndLemmas.{sum-none}
+use Rattle.qp_model.proofs.ListLemmas.{each-at}
+use Rattle.qp_model.proofs.HistoryLemmas.{no-hist, no-total}
 
 no-items : (n : ℕ) → all_items (empty_lanes n) ≡ []
 unfolding all_items lane_items
@@ -50,14 +52,6 @@ no-lane : (n a : ℕ) → lane_of (empty_lanes n) a ≡ []
 no-lane zero a = refl
 no-lane (suc n) zero = refl
 no-lane (suc n) (suc a) = no-lane n a
-
-no-hist : (w : Word) → hist w [] ≡ []
-unfolding hist total numbered
-no-hist w = refl
-
-no-total : (w : Word) → total w [] ≡ 0
-unfolding total
-no-total w = refl
 
 none-numbered : (w : Word) → is_numbered w [] ≡ true
 unfolding is_numbered all_below total
@@ -172,18 +166,13 @@ few-objects : (sys : System) → IsSound sys → (a : ℕ) → IsTrue (is_object
 unfolding is_object object_at
 few-objects sys sound a h = object-few sys.objects a sound.priorities h
 
-all-at : {X : Type 0} (P : X → Type 0) (xs : List X) (i : ℕ) (x : X) → AllByRecursion P xs → slice_get xs i ≡ Some x → P x
-all-at P [] i x all h = absurd (cc)
-all-at P (y ∷ ys) zero x all h = let same : y ≡ x = cc in subst P same all.0
-all-at P (y ∷ ys) (suc i) x all h = all-at P ys i x all.1 h
-
 bare-signals : (sys : System) → IsSound sys → (sig : ℕ) → IsTrue (is_static sys sig) → params_of sys sig ≡ 0
 unfolding is_static
 bare-signals sys sound sig h = go (slice_get sys.signals (sig - 4)) refl (and_parts _ _ h).1
   where
     go : (d : Option SignalDef) → slice_get sys.signals (sig - 4) ≡ d → option_map_or (λ x. x.fixed) d false ≡ true → option_map_or (λ x. x.params) d 0 ≡ 0
     go None e k = refl
-    go (Some d) e k = let signal : IsSoundSignal sys.pools d = all-at (IsSoundSignal sys.pools) sys.signals (sig - 4) d sound.signals e in signal.bare k
+    go (Some d) e k = let signal : IsSoundSignal sys.pools d = each-at (IsSoundSignal sys.pools) sys.signals (sig - 4) d sound.signals e in signal.bare k
 
 pub new-sound : NewWorldIsSound
 unfolding all_settled all_made log_of times in_order

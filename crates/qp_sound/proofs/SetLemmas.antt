@@ -25,19 +25,12 @@ use Rattle.qp_model.proofs.MachineLemmas.{after-keeps}
 use Rattle.qp_calls.specs.Counting.{one}
 use Rattle.qp_sound.specs.WordStates.{set_in}
 use Rattle.qp_sound.specs.Sound.{SoundWorld}
+use Rattle.qp_model.proofs.LifeLemmas.{has-without_same}
 
 -- No object is in the set twice.
 abbrev pub are_apart : List ℕ → Bool
 are_apart [] = true
 are_apart (x ∷ xs) = not (has xs x) && are_apart xs
-
-pub has-without_same : (o : ℕ) (xs : List ℕ) → has (without_all o xs) o ≡ false
-has-without_same o [] = refl
-has-without_same o (x ∷ xs) = go (x == o) refl (has-without_same o xs)
-  where
-    go : (u : Bool) → (x == o) ≡ u → has (without_all o xs) o ≡ false → has (cond u (without_all o xs) (x ∷ without_all o xs)) o ≡ false
-    go true e later = later
-    go false e later = rw e later
 
 pub has-without_other : (o p : ℕ) (xs : List ℕ) → (p == o) ≡ false → has (without_all o xs) p ≡ has xs p
 has-without_other o p [] h = refl

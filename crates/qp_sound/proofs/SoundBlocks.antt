@@ -22,7 +22,7 @@ use Rattle.qp_model.proofs.LifeLemmas.{edge-within}
 use Rattle.qp_model.proofs.ReferenceLemmas.{Alive, held-inc, held-dec, words-inc, words-dec}
 use Rattle.qp_calls.specs.Tokens.{Token, Held, Loose, same_token, take_out, stands, with_left}
 use Rattle.qp_calls.specs.Counting.{one, times, count_of}
-use Rattle.qp_calls.proofs.HandLemmas.{same_number, same-self}
+use Rattle.qp_calls.proofs.HandLemmas.{same-self}
 use Rattle.qp_sound.specs.WordStates.{life_in, refs_in, cell_in, cell_after}
 use Rattle.qp_sound.specs.Sound.{Sound, BlockIn, EventIn, facts_in, queued, names_block}
 use Rattle.qp_sound.proofs.Times.{times-take_out, times-other, take_out-absent, stands-times, all-take_out}
@@ -31,6 +31,7 @@ use Rattle.qp_sound.proofs.Events.{has-without, cell-last, edges-within, event-l
 use Rattle.qp_sound.proofs.Staying.{life-stays, cell-stays, refs-stays, queued-stays, entries-stay, subscribed-stay}
 use Rattle.qp_sound.proofs.Standing.{block-pool, refs-count, refs-long, held-refs, held-stands, referred-out, referred-alive}
 use Rattle.qp_sound.proofs.SoundParts.{swap-eq, flipped, each-block, same-block, later-next, event_of-stays, event-kept}
+use Rattle.qp_model.proofs.LineLemmas.{same_number}
 
 module _ (sys : System) (before : List (List Rec)) (lane : List Rec) (behind : List (List Rec)) (r : Rec) where
   abbrev old_lanes : List (List Rec)

@@ -24,7 +24,6 @@ use Rattle.qp_model.proofs.KnowingLemmas.{IsLater, new-fresh, back-fresh}
 use Rattle.qp_model.proofs.ReferenceLemmas.{words-new, words-back}
 use Rattle.qp_calls.specs.Tokens.{Token, Held, Loose, same_token, take_out, stands}
 use Rattle.qp_calls.specs.Counting.{one, times, count_of}
-use Rattle.qp_calls.proofs.HandLemmas.{same_number}
 use Rattle.qp_sound.specs.WordStates.{pool_in, life_in, refs_in, cell_in, cell_after, cell_next}
 use Rattle.qp_sound.specs.Sound.{Sound, BlockIn, EventIn, queued, names_block, is_event}
 use Rattle.qp_sound.proofs.Times.{times-take_out, times-other, stands-times, all-take_out}
@@ -33,6 +32,7 @@ use Rattle.qp_sound.proofs.Events.{cell-append}
 use Rattle.qp_sound.proofs.Staying.{life-stays, cell-stays, refs-stays, queued-stays, entries-stay, subscribed-stay}
 use Rattle.qp_sound.proofs.Standing.{block-pool, pool-count, refs-long, free-life, out-not_free}
 use Rattle.qp_sound.proofs.SoundParts.{flipped, each-block, same-block, later-next, event-kept}
+use Rattle.qp_model.proofs.LineLemmas.{same_number}
 
 module _ (sys : System) (before : List (List Rec)) (lane : List Rec) (behind : List (List Rec)) (r : Rec) where
   abbrev old_lanes : List (List Rec)

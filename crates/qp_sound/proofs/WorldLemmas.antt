@@ -27,6 +27,7 @@ use Rattle.qp_sound.proofs.LogTotals.{total-log, in_order-push, next-is}
 use Rattle.qp_sound.proofs.NextLemmas.{next-of}
 use Rattle.qp_sound.proofs.KindLemmas.{sound-stays}
 use Rattle.qp_sound.proofs.LaterLemmas.{later-of, all_made-stays, settled-now, handled-now}
+use Rattle.qp_model.proofs.ListLemmas.{all-push}
 
 -- what is told of a log stays
 pub told_log-stays : (sys : System) (xs : List Item) (i : Item) (ys : List Item) → IsLater xs i ys → (log : List Placed) → AllSettled (xs ++ ys) (items_of log)
@@ -40,10 +41,6 @@ told_log-stays sys xs i ys later (x ∷ log) settled =
 all-insert : {X : Type 0} (p : X → Bool) (xs : List X) (i : X) (ys : List X) → list_all p (xs ++ ys) ≡ true → p i ≡ true → list_all p (xs ++ i ∷ ys) ≡ true
 all-insert p [] i ys h k = and_from _ _ k h
 all-insert p (x ∷ xs) i ys h k = and_from _ _ (and_parts _ _ h).0 (all-insert p xs i ys (and_parts _ _ h).1 k)
-
-all-push : {X : Type 0} (p : X → Bool) (xs : List X) (i : X) → list_all p xs ≡ true → p i ≡ true → list_all p (xs ++ i ∷ []) ≡ true
-all-push p [] i h k = and_from _ _ k refl
-all-push p (x ∷ xs) i h k = and_from _ _ (and_parts _ _ h).0 (all-push p xs i (and_parts _ _ h).1 k)
 
 module _ (sys : System) (lanes : List (List Rec)) (order : List ℕ) (at : ℕ) (r : Rec) (o : ℕ) (b : Body) (world : SoundWorld sys lanes order) (within : at < length lanes)
     (is : item_of r ≡ record { of = o; body = b }) (may : May sys lanes (hands_in sys lanes order) o b) where

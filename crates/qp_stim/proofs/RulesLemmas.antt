@@ -24,6 +24,7 @@ use Rattle.qp_stim.specs.Codes.{exceeds, all_fit, is_out, event, stands, post_st
 use Rattle.qp_stim.specs.Stimuli.{◌>>=◌, Fault, add_to_last, sources_after, fails_at, read_on, stimuli_of}
 use Rattle.qp_stim.specs.Answer.{Answers}
 use Rattle.qp_stim.specs.Rules.{EventFits, PostFits, StimFits, StimuliFit}
+use Rattle.qp_model.proofs.HomeLemmas.{All-snoc}
 
 few_by : (b : Bool) (s : Signal) (rest : Option Signal) → s.params ≤ 8 → IfSome rest (λ r. r.params ≤ 8) → IfSome (cond b (Some s) rest) (λ r. r.params ≤ 8)
 few_by true s rest first others = first
@@ -214,10 +215,6 @@ line_fits : (sys : System) (sources : ℕ) (text : List ℕ) (step : Step) → s
 unfolding step_of
 line_fits sys sources text step h = line_by sys sources (is_skipped text) (said_of text) step h
 
-AllByRecursion-push : {X : Type 0} (P : X → Type 0) (xs : List X) (x : X) → AllByRecursion P xs → P x → AllByRecursion P (xs ++ x ∷ [])
-AllByRecursion-push P [] x all h = (h, tt)
-AllByRecursion-push P (y ∷ ys) x all h = (all.0, AllByRecursion-push P ys x all.1 h)
-
 length-add_to_last : (s : Stim) (sources : List (List Stim)) → length (add_to_last s sources) ≡ length sources
 length-add_to_last s [] = refl
 length-add_to_last s (x ∷ []) = refl
@@ -226,7 +223,7 @@ length-add_to_last s (x ∷ y ∷ xs) = ap suc (length-add_to_last s (y ∷ xs))
 add_to_last-fits : (sys : System) (s : Stim) (sources : List (List Stim)) → StimFits sys s → AllByRecursion (AllByRecursion (StimFits sys)) sources
     → AllByRecursion (AllByRecursion (StimFits sys)) (add_to_last s sources)
 add_to_last-fits sys s [] fits all = tt
-add_to_last-fits sys s (x ∷ []) fits all = (AllByRecursion-push (StimFits sys) x s all.0 fits, tt)
+add_to_last-fits sys s (x ∷ []) fits all = (All-snoc (StimFits sys) x s all.0 fits, tt)
 add_to_last-fits sys s (x ∷ y ∷ xs) fits all = (all.0, add_to_last-fits sys s (y ∷ xs) fits all.1)
 
 after_fits : (sys : System) (sources : List (List Stim)) (step : Step) → StimuliFit sys sources → StepFits sys (length sources) step
@@ -235,7 +232,7 @@ unfolding StepFits
 after_fits sys sources Skips fits step = fits
 after_fits sys sources Opens fits step = record {
   few = omega (arith, length-append sources ([] ∷ []), step);
-  stimuli = AllByRecursion-push (AllByRecursion (StimFits sys)) sources [] fits.stimuli tt;
+  stimuli = All-snoc (AllByRecursion (StimFits sys)) sources [] fits.stimuli tt;
 }
 after_fits sys sources (Adds s) fits step = record {
   few = omega (arith, length-add_to_last s sources, fits.few);

@@ -2,9 +2,9 @@
 use Rattle.std.proofs.Common.{◌≡◌, ℕ, zero, suc, ◌+◌, ◌<◌, ◌≤◌, ◌==◌, Bool, true, false, List, [], ◌∷◌, ◌++◌, map, length, take, drop, slice_get, get_or, refl, sym, ◌∙◌, ap, subst, arith, append_assoc, IsTrue, Some, inl, inr, if◌then◌else◌}
 use Rattle.std.specs.List.{find}
 use Rattle.std.specs.Option.{is_some}
+use Rattle.std.proofs.lemmas.Bool.{eq-eqb}
 use Rattle.std.proofs.lemmas.List.{map-append, append-nil, take_all, take_more, take-append-drop}
 use Rattle.std.proofs.lemmas.Option.{slice_get-get_or}
-use Rattle.std.proofs.lemmas.Bool.Decides.{nat_tests}
 use Rattle.qp_model.specs.declared.systems.System.{System}
 use Rattle.qp_model.specs.declared.systems.ObjectDef.{ObjectDef}
 use Rattle.qp_model.specs.declared.bodies.Body.TheVariants as body
@@ -19,15 +19,12 @@ use Rattle.qp_calls.specs.Clauses.{Sees}
 use Rattle.qp_calls.proofs.Growing.{gains-none, grows-room, grows-then}
 use Rattle.qp_stimulus.specs.Settling.{SeesNone, SeesSome, SettleCut}
 
-eq-to : (a b : ℕ) → a ≡ b → (a == b) ≡ true
-eq-to a b h = grind (arith, nat_tests)
-
 -- an object of the list is one of the system
 found : (to : ℕ) (ds : List ObjectDef) (k : ℕ) (d : ObjectDef) → slice_get ds k ≡ Some d → d.priority ≡ to → is_some (find (λ x. x.priority == to) ds) ≡ true
 found to [] k d at is = absurd (cc)
 found to (x ∷ xs) zero d at is =
     let same : x ≡ d = cc in
-    let here : (x.priority == to) ≡ true = eq-to x.priority to (ap (λ (y : ObjectDef). y.priority) same ∙ is) in
+    let here : (x.priority == to) ≡ true = eq-eqb x.priority to (ap (λ (y : ObjectDef). y.priority) same ∙ is) in
     rw here refl
 found to (x ∷ xs) (suc k) d at is = go (x.priority == to) (found to xs k d at is)
   where

@@ -6,7 +6,6 @@ use Rattle.std.specs.Option.{is_some}
 use Rattle.std.specs.List.{count_by}
 use Rattle.std.proofs.lemmas.Bool.Decides.{nat_tests}
 use Rattle.std.proofs.lemmas.List.Sums.{sum_by-cons}
-use Rattle.qp_lanes.proofs.ItemLemmas.{count_by-append}
 use Rattle.qp_model.specs.declared.bodies.Body.{Body}
 use Rattle.qp_model.specs.declared.bodies.Body.TheVariants as body
 use Rattle.qp_model.specs.KindSorts.{is_malformed, kind_in}
@@ -15,6 +14,7 @@ use Rattle.qp_model.specs.Record.{Item}
 use Rattle.qp_tally.specs.Counting.{AreBlocks, AreCounts, AreNone, AreTurns, back_of, counted, done_of, given_by, giver, most, taker, took_of}
 use Rattle.qp_tally.specs.declared.turns.Turns.{Turns}
 use Rattle.qp_tally.specs.declared.blocks.Blocks.{Blocks}
+use Rattle.qp_model.proofs.NumberLemmas.{count-append}
 
 get-set : (xs : List ℕ) (k v n : ℕ) → slice_get (slice_set xs k v) k ≡ Some n → n ≡ v
 get-set [] k v n h = absurd (cc)
@@ -43,7 +43,7 @@ one_if b = cond b 1 0
 
 more-counts : (test : Item → Bool) (items : List Item) (x : Item) (b : Bool) → test x ≡ b → count_by test (items ++ x ∷ []) ≡ count_by test items + one_if b
 more-counts test items x b is =
-    let whole = count_by-append test items (x ∷ []) in
+    let whole = count-append test items (x ∷ []) in
     let last : count_by test (x ∷ []) ≡ one_if (test x) + 0 = sum_by-cons (λ (y : Item). cond (test y) 1 0) x [] in
     let its : one_if (test x) ≡ one_if b = ap one_if is in
     omega (arith, whole, last, its)

@@ -13,11 +13,12 @@ use Rattle.qp_model.specs.OutputText.{after_spaces, number_texts, say_texts, lin
 use Rattle.qp_text.specs.Numbers.{number_at, number_of, numbers_at, signed_of}
 use Rattle.qp_text.specs.LineItem.{counted, has_signs, id_of, item_of_line, numbered}
 use Rattle.qp_text.specs.TextLaw.{has_64_bits}
-use Rattle.qp_text.proofs.OptionLemmas.{and_then-some, option_map-some}
+use Rattle.qp_text.proofs.OptionLemmas.{and_then-some}
 use Rattle.qp_text.proofs.NumberLaw.{number_of-is, signed_of-is}
 use Rattle.qp_text.proofs.ReadLemmas.{split-cons}
 use Rattle.qp_text.proofs.SplitLemmas.{joined, joined-split}
 use Rattle.qp_text.proofs.WordLaw.{id_from-is}
+use Rattle.qp_model.proofs.ListLemmas.{mapped}
 
 -- the text of a number, with its sign if it has one
 abbrev pub text_of : Bool → ℕ → List ℕ
@@ -61,7 +62,7 @@ numbers_at-are signs place [] [] is = refl
 numbers_at-are signs place [] (n ∷ nums) is = cc
 numbers_at-are signs place (t ∷ texts) nums is =
     let first = and_then-some (number_at signs place t) (λ n. option_map (λ rest. n ∷ rest) (numbers_at signs (place + 1) texts)) nums is in
-    let rest = option_map-some (λ rest. first.0 ∷ rest) (numbers_at signs (place + 1) texts) nums first.2 in
+    let rest = mapped (λ rest. first.0 ∷ rest) (numbers_at signs (place + 1) texts) nums first.2 in
     rw (← rest.2, number-is (signs && (place == 1)) t first.0 first.1, numbers_at-are signs (place + 1) texts rest.0 rest.1) refl
 
 -- numbers that are read have 64 bits
@@ -74,7 +75,7 @@ numbers_at-fit signs place [] [] is = refl
 numbers_at-fit signs place [] (n ∷ nums) is = cc
 numbers_at-fit signs place (t ∷ texts) nums is =
     let first = and_then-some (number_at signs place t) (λ n. option_map (λ rest. n ∷ rest) (numbers_at signs (place + 1) texts)) nums is in
-    let rest = option_map-some (λ rest. first.0 ∷ rest) (numbers_at signs (place + 1) texts) nums first.2 in
+    let rest = mapped (λ rest. first.0 ∷ rest) (numbers_at signs (place + 1) texts) nums first.2 in
     let small = number-fits (signs && (place == 1)) t first.0 first.1 in
     let fits : nat_lt first.0 (2 ^ 64) ≡ true = grind (arith, nat_tests) in
     rw (← rest.2) (and_from (nat_lt first.0 (2 ^ 64)) (has_64_bits rest.0) fits (numbers_at-fit signs (place + 1) texts rest.0 rest.1))

@@ -11,8 +11,9 @@ use Rattle.std.proofs.lemmas.Bool.Decides.{nat_tests}
 use Rattle.std.proofs.lemmas.Fmt.{digits_value-decimal}
 use Rattle.std.proofs.lemmas.Str.Parse.{IsNumeralModel, numerals_by_fold, tells_digits}
 use Rattle.qp_text.specs.Numbers.{and_then, bits_of_negative, bits_of_positive, fitting, if_canonical, number_of, signed_of, value_after}
-use Rattle.qp_text.proofs.OptionLemmas.{cond-some, and_then-some}
+use Rattle.qp_text.proofs.OptionLemmas.{and_then-some}
 use Rattle.qp_text.proofs.ValueLemmas.{fitting-some}
+use Rattle.qp_model.proofs.KernelLaneLemmas.{granted}
 
 -- the value is that of decimal digits
 pub own : IsNumeralModel (AllDigits 10) (value_after 0)
@@ -29,8 +30,8 @@ number_of-decimal n low =
 pub number_of-is : (text : List ℕ) (n : ℕ) → number_of text ≡ Some n → (decimal n ≡ text) × (n < 2 ^ 64)
 number_of-is text n is =
     let value = and_then-some (fitting (value_after 0 text)) (if_canonical text) n is in
-    let fits = cond-some (nat_lt (value_after 0 text) (2 ^ 64)) (value_after 0 text) value.0 value.1 in
-    let same = cond-some (bytes_eq (decimal value.0) text) value.0 n value.2 in (
+    let fits = granted (nat_lt (value_after 0 text) (2 ^ 64)) (value_after 0 text) value.0 value.1 in
+    let same = granted (bytes_eq (decimal value.0) text) value.0 n value.2 in (
       rw (← same.1) ((bytes_eq-Decides (decimal value.0) text).0 same.0),
       omega (arith, ltb-true (value_after 0 text) (2 ^ 64) fits.0, fits.1, same.1),
     )
@@ -56,12 +57,12 @@ signed_of-is (b ∷ digits) n is = go (b == 45) refl is where
       let size = and_then-some (number_of digits) bits_of_negative n is in
       let m = size.0 in
       let read = number_of-is digits m size.1 in
-      let fits = cond-some (nat_le 1 m && nat_le m (2 ^ 63)) (2 ^ 64 - m) n size.2 in
+      let fits = granted (nat_le 1 m && nat_le m (2 ^ 63)) (2 ^ 64 - m) n size.2 in
       let both = and_parts (nat_le 1 m) (nat_le m (2 ^ 63)) fits.0 in
       (rw (← fits.1, negative m (leb-true 1 m both.0) (leb-true m (2 ^ 63) both.1), eqb-true b 45 minus, read.0) refl, omega (arith, fits.1, leb-true 1 m both.0))
   go false minus is =
       let size = and_then-some (number_of (b ∷ digits)) bits_of_positive n is in
       let m = size.0 in
       let read = number_of-is (b ∷ digits) m size.1 in
-      let fits = cond-some (nat_lt m (2 ^ 63)) m n size.2 in
+      let fits = granted (nat_lt m (2 ^ 63)) m n size.2 in
       (rw (← fits.1, positive m (ltb-true m (2 ^ 63) fits.0)) read.0, omega (arith, fits.1, read.1))

@@ -12,7 +12,8 @@ use Rattle.qp_model.specs.Output.{JournalItem, item, record_item, items_of_lanes
 use Rattle.qp_text.specs.declared.progress.Reading.{Reading}
 use Rattle.qp_text.specs.Progress.{all_lanes, at_start, begin, open_lane, close, add_record, go_on, take_item}
 use Rattle.qp_text.specs.TextLaw.{has_64_bits, lane_has_64_bits, record_has_64_bits}
-use Rattle.qp_text.proofs.TakenLaw.{Ranged, Takes, begin-is, lanes-more, records-more, taken, all-more, all-front}
+use Rattle.qp_text.proofs.TakenLaw.{Ranged, Takes, begin-is, lanes-more, records-more, taken, all-front}
+use Rattle.qp_model.proofs.ListLemmas.{all-push}
 
 -- one record more in a lane
 lane-grows : (form : ℕ) (lane : List Rec) (id o : ℕ) (nums : List ℕ) → BEGIN ≤ id → id ≤ last_id form → has_count id (o ∷ nums) ≡ true
@@ -28,7 +29,7 @@ lane-grows form lane id o nums first past count small room lane_fits =
     and_from (nat_le BEGIN id && nat_le id (last_id form) && has_count id (o ∷ nums)) (nat_le o 32)
     (and_from (nat_le BEGIN id && nat_le id (last_id form)) (has_count id (o ∷ nums)) kind count) small in
     and_from (nat_le (length (lane ++ r ∷ [])) 1000001) (list_all (is_record_in_range form) (lane ++ r ∷ []))
-    longer (all-more (is_record_in_range form) lane r lane_parts.1 fits)
+    longer (all-push (is_record_in_range form) lane r lane_parts.1 fits)
 
 -- a reading under way, with no last line yet
 module _ (p : Reading) (begun : p.begun ≡ true) (unended : p.end ≡ None) (ranged : Ranged p) where
@@ -55,8 +56,8 @@ module _ (p : Reading) (begun : p.begun ≡ true) (unended : p.end ≡ None) (ra
             kernel = ranged.kernel;
             low = ranged.low;
             high = ranged.high;
-            lanes = all-more (is_lane_in_range p.form) (all_lanes p) [] ranged.lanes refl;
-            bits = all-more lane_has_64_bits (all_lanes p) [] ranged.bits refl;
+            lanes = all-push (is_lane_in_range p.form) (all_lanes p) [] ranged.lanes refl;
+            bits = all-push lane_has_64_bits (all_lanes p) [] ranged.bits refl;
             count = omega (arith, length-append (all_lanes p) ([] ∷ []), leb-true number 48 few, eqb-true number (length (all_lanes p)) next);
             ended = λ status end. let none = rw unended at end in absurd cc;
           };
@@ -121,8 +122,8 @@ module _ (p : Reading) (begun : p.begun ≡ true) (unended : p.end ≡ None) (ra
             kernel = ranged.kernel;
             low = ranged.low;
             high = ranged.high;
-            lanes = all-more (is_lane_in_range p.form) p.lanes (lane ++ r ∷ []) front.0 grown;
-            bits = all-more lane_has_64_bits p.lanes (lane ++ r ∷ []) bits_front.0 (all-more record_has_64_bits lane r bits_front.1 (and_parts (nat_lt o (2 ^ 64)) (has_64_bits nums) bits).1);
+            lanes = all-push (is_lane_in_range p.form) p.lanes (lane ++ r ∷ []) front.0 grown;
+            bits = all-push lane_has_64_bits p.lanes (lane ++ r ∷ []) bits_front.0 (all-push record_has_64_bits lane r bits_front.1 (and_parts (nat_lt o (2 ^ 64)) (has_64_bits nums) bits).1);
             count = omega (arith, few, length-append p.lanes (lane ∷ []), length-append p.lanes ((lane ++ r ∷ []) ∷ []));
             ended = λ status end. let none = rw unended at end in absurd cc;
           };

@@ -54,13 +54,6 @@ records-more lanes lane r =
     ∙ sym (append_assoc (items_of_lanes 0 lanes) (items_of_lane (0 + length lanes) lane) (record_item r ∷ []))
     ∙ ap (λ t. t ++ record_item r ∷ []) (sym (lanes-more 0 lanes lane))
 
--- a test of all, with one more
-pub all-more : {X : Type 0} (test : X → Bool) (xs : List X) (x : X) → list_all test xs ≡ true → test x ≡ true → list_all test (xs ++ x ∷ []) ≡ true
-all-more test [] x all last = and_from (test x) true last refl
-all-more test (y ∷ xs) x all last =
-    let both = and_parts (test y) (list_all test xs) all in
-    and_from (test y) (list_all test (xs ++ x ∷ [])) both.0 (all-more test xs x both.1 last)
-
 -- a test of all but the last
 pub all-front : {X : Type 0} (test : X → Bool) (xs : List X) (x : X) → list_all test (xs ++ x ∷ []) ≡ true → (list_all test xs ≡ true) × (test x ≡ true)
 all-front test [] x all = (refl, (and_parts (test x) true all).0)

@@ -19,11 +19,12 @@ use Rattle.qp_turns.specs.declared.objects.Objects.{Objects}
 use Rattle.qp_turns.specs.Objects.{MayStartAt, StartsAt}
 use Rattle.qp_turns.specs.Knowing.{IsNamed, KnowsAt}
 use Rattle.qp_turns.specs.Starting.{AllStarted, GrowsAlong, GrowsAndStops, HasBegun, HaveBegun, StartStopped, StartsAll, StartsOne, left_from}
-use Rattle.qp_turns.proofs.Places.{follow-none, follow-then, some-same}
+use Rattle.qp_turns.proofs.Places.{follow-none, follow-then}
 use Rattle.qp_turns.proofs.SoundObjects.{named}
 use Rattle.qp_turns.proofs.Fresh.{all-begun}
 use Rattle.qp_turns.proofs.Starts.{done-grows, done-knows, done-order, done-unstim, may-start, opened, refused-grows, stopped-start, stopped-turn, threshold-is}
 use Rattle.qp_kernel.specs.Turning.{Terms, under}
+use Rattle.qp_model.proofs.AbleLemmas.{some-same}
 
 -- The next object.
 

@@ -24,16 +24,15 @@ use Rattle.qp_dispatch.specs.Objects.{IsMade}
 use Rattle.qp_dispatch.specs.Resume.{held_in}
 use Rattle.qp_kernel.specs.Happenings.{IsInOrder, SourcesMarch, begun_by, lanes_from, lanes_of, rises, run_order, told_by}
 use Rattle.qp_kernel.specs.Stages as stage
-use Rattle.qp_kernel.specs.Stages.{Stage, is_resting, may_wait}
 use Rattle.qp_kernel.proofs.KernelLaws.{lane_begins}
 use Rattle.qp_turns.specs.declared.objects.Objects.{Objects}
 use Rattle.qp_turns.specs.declared.objects.Slot.{Slot}
 use Rattle.qp_turns.specs.Objects.{AreMade, IsPlace}
 use Rattle.qp_turns.specs.Knowing.{KnowsAt, KnowsObject, MayLook, kept_count, own_count}
 use Rattle.qp_turns.specs.Starting.{HasBegun, HaveBegun, IsFresh, left_from}
-use Rattle.qp_turns.proofs.Places.{some-same}
 use Rattle.qp_turns.proofs.SoundObjects.{numbered, sound-object}
 use Rattle.qp_kernel.specs.Turning.{Terms}
+use Rattle.qp_model.proofs.AbleLemmas.{some-same}
 
 -- The order of a lane that has done nothing.
 

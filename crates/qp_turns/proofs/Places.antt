@@ -14,9 +14,7 @@ use Rattle.qp_turns.specs.declared.objects.Objects.{Objects}
 use Rattle.qp_turns.specs.declared.objects.Slot.{Slot}
 use Rattle.qp_turns.specs.Objects.{IsAt, Puts}
 use Rattle.qp_turns.specs.Knowing.{HandsCover, HandsFollow, kept_count, own_count}
-
-pub some-same : {A : Type 0} {x y : A} → Some x ≡ Some y → x ≡ y
-some-same e = cc
+use Rattle.qp_model.proofs.AbleLemmas.{some-same}
 
 -- what was put stands there, and the others as before
 pub get-put : {A : Type 0} (xs : List A) (p : ℕ) (x y : A) → slice_get xs p ≡ Some x → slice_get (slice_set xs p y) p ≡ Some y

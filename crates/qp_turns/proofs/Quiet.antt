@@ -1,7 +1,7 @@
 -- The records of a start, and the lane that has them.
-use Rattle.std.proofs.Common.{◌≡◌, ℕ, Bool, true, false, not, ◌||◌, List, [], ◌∷◌, ◌++◌, map, refl, sym, ap, subst, Option, Some, None}
+use Rattle.std.proofs.Common.{◌≡◌, ℕ, true, false, not, ◌||◌, List, [], ◌∷◌, ◌++◌, map, refl, sym, ap, subst, Option, Some, None}
 use Rattle.std.specs.List.{list_any}
-use Rattle.std.proofs.lemmas.Bool.{and_parts, or_parts}
+use Rattle.std.proofs.lemmas.Bool.{and_parts, or_parts, not-true}
 use Rattle.qp_model.specs.declared.systems.System.{System}
 use Rattle.qp_model.specs.declared.bodies.Body.{Body}
 use Rattle.qp_model.specs.declared.bodies.Body.TheVariants as body
@@ -59,20 +59,16 @@ quiet-front p (t ∷ g) more q =
     let rest = quiet-front p g more (record { calm = parts.1; lookless = q.lookless.1 }) in
     record { calm = rw (parts.0) (rest.calm); lookless = (q.lookless.0, rest.lookless) }
 
-not-yes : (b : Bool) → not b ≡ true → b ≡ false
-not-yes true h = absurd (cc)
-not-yes false h = refl
-
 ends-quiet : (p : ℕ) (g : List Told) (u : Told) (more : List Told) → AreOwn (g ++ u ∷ more) → ends_last (map untold (map (for_object p) (g ++ u ∷ more))) ≡ true → IsQuiet p g
 unfolding ends_last
 ends-quiet p [] u more own last = record { calm = refl; lookless = tt }
 ends-quiet p (t ∷ []) u more own last =
     let parts = and_parts (not (is_end t.body)) (ends_last (map untold (map (for_object p) (u ∷ more)))) last in
-    record { calm = rw (not-yes (is_end t.body) parts.0) refl; lookless = (no-look t.body (own-not_look t.body own.0), tt) }
+    record { calm = rw (not-true (is_end t.body) parts.0) refl; lookless = (no-look t.body (own-not_look t.body own.0), tt) }
 ends-quiet p (t ∷ z ∷ g) u more own last =
     let parts = and_parts (not (is_end t.body)) (ends_last (map untold (map (for_object p) ((z ∷ g) ++ u ∷ more)))) last in
     let rest = ends-quiet p (z ∷ g) u more own.2 parts.1 in
-    record { calm = rw (not-yes (is_end t.body) parts.0) (rest.calm); lookless = (no-look t.body (own-not_look t.body own.0), rest.lookless) }
+    record { calm = rw (not-true (is_end t.body) parts.0) (rest.calm); lookless = (no-look t.body (own-not_look t.body own.0), rest.lookless) }
 
 pub whole-quiet : (sys : System) (a : Actor) (p : ℕ) (first : Config) (g : List Told) (c : Config) → Starts sys a first (tell g) (Some c) → IsQuiet p g
 whole-quiet sys a p first g c starts = let form = start-form sys a first g c starts in subst (IsQuiet p) (sym form.whole) (done-quiet p form.front [] form.own form.calm tt)

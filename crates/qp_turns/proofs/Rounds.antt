@@ -29,7 +29,9 @@ use Rattle.qp_turns.specs.Ordering.{AreSeenEmpty, IdlesInOrder, IsSeenEmpty, Loo
 use Rattle.qp_turns.proofs.SoundObjects.{numbered}
 use Rattle.qp_turns.proofs.Places.{follow-none, follow-then}
 use Rattle.qp_turns.proofs.Tops.{empty-is, some-last}
-use Rattle.qp_turns.proofs.Rows.{SameButPlace, all-reverse, looking-same}
+use Rattle.qp_turns.proofs.Rows.{SameButPlace, looking-same}
+use Rattle.qp_model.proofs.NumberLemmas.{every}
+use Rattle.qp_model.proofs.KernelLaneLemmas.{AllByRecursion-reverse}
 
 -- Going onward.
 
@@ -48,16 +50,12 @@ stopped-from sys terms xs v ys w u on stop = record { zero = stop.zero; why = by
 
 -- The thresholds of the objects under way.
 
-all-map : {A : Type 0} (P Q : A → Type 0) → ((x : A) → P x → Q x) → (xs : List A) → AllByRecursion P xs → AllByRecursion Q xs
-all-map P Q f [] h = tt
-all-map P Q f (x ∷ xs) h = (f x h.0, all-map P Q f xs h.1)
-
 pub held-of : (sys : System) (terms : Terms) (looks : ℕ) (stack : List ℕ) (xs : Objects) (v : LaneView) → KnowsAt (MayLook sys) sys terms looks stack xs v → AreHeld sys stack xs
 unfolding threshold_of object_at
 held-of sys terms looks stack xs v k =
     let names : AllByRecursion (IsNamed sys) (reverse stack) = subst (AllByRecursion (IsNamed sys)) k.knows.running k.at.stack.named in
-    let straight : AllByRecursion (IsNamed sys) stack = subst (AllByRecursion (IsNamed sys)) (reverse-reverse stack) (all-reverse (IsNamed sys) (reverse stack) names) in
-    all-map (IsNamed sys) (λ p. threshold_in xs.slots.items p ≡ threshold_of sys p)
+    let straight : AllByRecursion (IsNamed sys) stack = subst (AllByRecursion (IsNamed sys)) (reverse-reverse stack) (AllByRecursion-reverse (IsNamed sys) (reverse stack) names) in
+    every (IsNamed sys) (λ p. threshold_in xs.slots.items p ≡ threshold_of sys p)
     (λ p n.
     let o = k.knows.objects n.object n.chart n.found n.its in
     let here : threshold_of sys n.object.priority ≡ n.object.threshold = ap (λ d. option_map_or (λ x. x.threshold) d 0) n.found in

@@ -1,5 +1,5 @@
 -- Rows of looks: the objects above a floor, and readings while they are looked at.
-use Rattle.std.proofs.Common.{◌≡◌, ℕ, zero, suc, ◌+◌, ◌<◌, ◌≤◌, ◌==◌, cond, Bool, true, false, not, ◌&&◌, List, [], ◌∷◌, ◌++◌, map, length, reverse, take, nat_lt, refl, sym, ◌∙◌, ap, subst, Some, arith}
+use Rattle.std.proofs.Common.{◌≡◌, ℕ, zero, suc, ◌+◌, ◌<◌, ◌≤◌, ◌==◌, cond, Bool, true, false, not, ◌&&◌, List, [], ◌∷◌, ◌++◌, map, length, reverse, take, nat_lt, refl, ◌∙◌, ap, Some, arith}
 use Rattle.std.specs.Prelude.{slice_get}
 use Rattle.std.specs.List.{AllByRecursion, filter}
 use Rattle.std.proofs.lemmas.List.{map-append, reverse-append}
@@ -13,6 +13,7 @@ use Rattle.qp_kernel.specs.LaneZero.{Agree, setting}
 use Rattle.qp_kernel.specs.Turning.{Terms, kernel_in}
 use Rattle.qp_turns.specs.Knowing.{IsAbove, IsNamed}
 use Rattle.qp_turns.specs.Turning.{row_below}
+use Rattle.qp_model.proofs.KernelLaneLemmas.{AllByRecursion-reverse}
 
 filter-append : {A : Type 0} (p : A → Bool) (xs ys : List A) → filter p (xs ++ ys) ≡ filter p xs ++ filter p ys
 filter-append p [] ys = refl
@@ -63,14 +64,6 @@ row-whole sys floor = ap (λ xs. reverse (map (λ x. x.priority) (filter (λ x. 
 
 -- All of a row are objects above the floor.
 
-all-append : {A : Type 0} (P : A → Type 0) (xs ys : List A) → AllByRecursion P xs → AllByRecursion P ys → AllByRecursion P (xs ++ ys)
-all-append P [] ys a b = b
-all-append P (x ∷ xs) ys a b = (a.0, all-append P xs ys a.1 b)
-
-pub all-reverse : {A : Type 0} (P : A → Type 0) (xs : List A) → AllByRecursion P xs → AllByRecursion P (reverse xs)
-all-reverse P [] h = tt
-all-reverse P (x ∷ xs) h = subst (AllByRecursion P) (sym (reverse-append (x ∷ []) xs)) (all-append P (reverse xs) (x ∷ []) (all-reverse P xs h.1) (h.0, tt))
-
 all-above : (sys : System) (floor : ℕ) (ds : List ObjectDef) → AllByRecursion (λ d. IsNamed sys d.priority) ds
     → AllByRecursion (λ p. IsNamed sys p × (floor < p)) (map (λ d. d.priority) (filter (λ d. nat_lt floor d.priority) ds))
 all-above sys floor [] h = tt
@@ -83,7 +76,7 @@ all-above sys floor (d ∷ ds) h = by (nat_lt floor d.priority) refl (all-above 
 
 pub row-named : (sys : System) (floor : ℕ) → AllByRecursion (λ d. IsNamed sys d.priority) sys.objects → AllByRecursion (λ p. IsNamed sys p × (floor < p)) (above sys floor)
 unfolding above
-row-named sys floor h = all-reverse _ _ (all-above sys floor sys.objects h)
+row-named sys floor h = AllByRecursion-reverse _ _ (all-above sys floor sys.objects h)
 
 -- Above those under way.
 

@@ -37,7 +37,7 @@ use Rattle.qp_dispatch.proofs.ActLemmas.{last-snoc}
 use Rattle.qp_kernel.specs.Happenings.{IsInOrder, IsOrderEnded, has_no_stim, lanes_of}
 use Rattle.qp_kernel.specs.Laws.{AllWait, OthersWait}
 use Rattle.qp_kernel.specs.Stages as stage
-use Rattle.qp_kernel.specs.Stages.{Stage, is_resting, may_wait}
+use Rattle.qp_kernel.specs.Stages.{is_resting, may_wait}
 use Rattle.qp_kernel.specs.Turning.{IsObject, KernelState, Stands, having, moved, spill_told, Terms, kernel_in}
 use Rattle.qp_kernel.specs.ZeroEnds.{ZeroEnds}
 use Rattle.qp_kernel.proofs.KernelLaws.{assertion_ends_start, full_lane_ends, object_starts, spill_ends_start}
@@ -49,13 +49,14 @@ use Rattle.qp_turns.specs.Objects.{IsAt, MayStartAt, Puts, StartsAt}
 use Rattle.qp_turns.specs.Knowing.{HandsCover, HandsFollow, HasNotStarted, IsNamed, IsObjectOf, KnowsAt, KnowsObject, StageIs, last_is}
 use Rattle.qp_turns.specs.Starting.{GrowsAlong, GrowsAndStops, HasBegun, StartStopped}
 use Rattle.qp_turns.specs.Turning.{TurnStopped}
-use Rattle.qp_turns.proofs.Places.{cover-follows, follow-put, some-same}
+use Rattle.qp_turns.proofs.Places.{cover-follows, follow-put}
 use Rattle.qp_turns.proofs.SoundObjects.{able, numbered, ready}
 use Rattle.qp_turns.proofs.Staying.{all-put, resting-waits}
 use Rattle.qp_turns.proofs.Halted.{agreed, same-lanes}
 use Rattle.qp_turns.proofs.Stepping.{ceiling-of, code-behind, cuts-behind, ends-code, last-own}
 use Rattle.qp_turns.proofs.Ordered.{unstim-grows, unstim-items}
 use Rattle.qp_turns.proofs.Quiet.{IsQuiet, calm-items, cut-quiet, ended-stops, gains-set, own-lookless, spill-last, whole-quiet}
+use Rattle.qp_model.proofs.AbleLemmas.{some-same}
 
 -- an object at its start
 module _ (sys : System) (sound : IsSound sys) (terms : Terms) (p : ℕ) (others : List ℕ) (xs : Objects) (v : LaneView) (n : IsNamed sys p) (apart : has others p ≡ false)

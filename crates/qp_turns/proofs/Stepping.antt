@@ -77,13 +77,14 @@ use Rattle.qp_turns.specs.declared.objects.Objects.{Objects}
 use Rattle.qp_turns.specs.declared.objects.Slot.{Slot}
 use Rattle.qp_turns.specs.Objects.{IsAt, MayResumeAt, Puts, ResumesAt}
 use Rattle.qp_turns.specs.Knowing.{Descends, HandsCover, HandsFollow, IsInTurn, IsLane, IsNamed, IsObjectOf, IsRunning, Knows, KnowsAt, KnowsObject, MayLook, StageIs, is_busy, is_paused, last_is}
-use Rattle.qp_turns.proofs.Places.{cover-follows, follow-put, some-same}
+use Rattle.qp_turns.proofs.Places.{cover-follows, follow-put}
 use Rattle.qp_turns.proofs.SoundObjects.{able, numbered, ready}
 use Rattle.qp_turns.proofs.Resting.{PassBy, pass-both, pass-kernel, pass-other}
 use Rattle.qp_turns.proofs.Rows.{above-not}
 use Rattle.qp_turns.proofs.Staying.{all-put, others-wait, paused-waits}
 use Rattle.qp_turns.proofs.Halted.{agreed, last-told, same-lanes}
 use Rattle.qp_turns.proofs.Closing.{closes-left}
+use Rattle.qp_model.proofs.AbleLemmas.{some-same}
 
 -- the lane went on by records of p and of the kernel
 pub record AddsAlone (p : ℕ) (v w : LaneView) : Type 0 where

@@ -1,6 +1,7 @@
 -- Which looks have a stimulus, after one happening more.
 use Rattle.std.proofs.Common.{◌≡◌, ℕ, ◌+◌, ◌<◌, ◌≤◌, ◌==◌, cond, Bool, true, false, ◌||◌, List, [], ◌∷◌, ◌++◌, map, length, refl, sym, ◌∙◌, ap, None, arith, append-nil, append_assoc}
 use Rattle.std.specs.List.{list_any}
+use Rattle.std.proofs.lemmas.Bool.{or_right}
 use Rattle.std.proofs.lemmas.List.{map-append}
 use Rattle.std.proofs.lemmas.Bool.Decides.{nat_tests}
 use Rattle.qp_model.specs.declared.stimulus.Stim.{Stim}
@@ -30,10 +31,6 @@ any-append k (x ∷ xs) ys = by (is_stim_at k x.body) (any-append k xs ys)
 or-none : (b c : Bool) → c ≡ false → (b || c) ≡ b
 or-none true c h = refl
 or-none false c h = h
-
-or-yes : (b c : Bool) → c ≡ true → (b || c) ≡ true
-or-yes true c h = refl
-or-yes false c h = h
 
 pub items-append : (g h : List Told) → source_items (g ++ h) ≡ source_items g ++ source_items h
 items-append g h = ap (map untold) (map-append (for_object 0) g h) ∙ map-append untold (map (for_object 0) g) (map (for_object 0) h)
@@ -69,10 +66,10 @@ stims-more k i (ss ∷ more) hs h some low few = by (h.source == i) refl (λ l f
     by : (b : Bool) → (h.source == i) ≡ b → (i + 1 ≤ h.source → h.source < i + 1 + length more → has_stim (lanes_from (i + 1) more (hs ++ h ∷ [])) k ≡ true)
         → has_at k (source_items (told_by i (hs ++ h ∷ []))) ≡ (has_at k (source_items (told_by i hs)) || has_at k (source_items (cond b h.told [])))
         → (has_at k (source_items (told_by i (hs ++ h ∷ []))) || has_stim (lanes_from (i + 1) more (hs ++ h ∷ [])) k) ≡ true
-    by true is go lane = let here : has_at k (source_items (told_by i (hs ++ h ∷ []))) ≡ true = lane ∙ or-yes (has_at k (source_items (told_by i hs))) (has_at k (source_items h.told)) some in rw here refl
+    by true is go lane = let here : has_at k (source_items (told_by i (hs ++ h ∷ []))) ≡ true = lane ∙ or_right (has_at k (source_items (told_by i hs))) (has_at k (source_items h.told)) some in rw here refl
     by false is go lane =
         let other : i + 1 ≤ h.source = grind (arith, nat_tests) in
-        or-yes (has_at k (source_items (told_by i (hs ++ h ∷ [])))) (has_stim (lanes_from (i + 1) more (hs ++ h ∷ [])) k) (go other (omega (arith, few)))
+        or_right (has_at k (source_items (told_by i (hs ++ h ∷ [])))) (has_stim (lanes_from (i + 1) more (hs ++ h ∷ [])) k) (go other (omega (arith, few)))
 
 -- records behind a `stim` have none
 pub behind-none : (cuts : Bool) (k : ℕ) (is : List Item) → AreBehind cuts is → has_at k is ≡ false

@@ -27,7 +27,7 @@ use Rattle.qp_turns.specs.Objects.{BeginsAt, MayBeginAt, taken_in, taken_there}
 use Rattle.qp_turns.specs.Knowing.{Descends, IsAbove, IsLane, IsNamed, IsRunning, IsScanning, KnowsAt}
 use Rattle.qp_orders.specs.RunOrder.{has_stim}
 use Rattle.qp_turns.specs.Turning.{Entered, Passed, Stand, Stood, TurnStopped, row_below}
-use Rattle.qp_turns.proofs.Places.{follow-none, some-same}
+use Rattle.qp_turns.proofs.Places.{follow-none}
 use Rattle.qp_turns.proofs.SoundObjects.{is-object, numbered, sound-object}
 use Rattle.qp_turns.proofs.Rows.{row-next, row-skip}
 use Rattle.qp_turns.proofs.Staying.{all-wait}
@@ -35,6 +35,7 @@ use Rattle.qp_turns.proofs.Halted.{same-lanes, stops-elsewhere}
 use Rattle.qp_turns.proofs.Looking.{GoesFor, passed}
 use Rattle.qp_turns.proofs.Visiting.{at-place, at-rest, entered, follows, found, found-stands, spent-ends}
 use Rattle.qp_turns.proofs.Turns.{noted}
+use Rattle.qp_model.proofs.AbleLemmas.{some-same}
 
 pub seen-goes : (p : ℕ) (c : Counts) (v v1 v2 : LaneView) → Roomier v v1 → Sees p v1 v2 c → spills_in v.told ≡ false → GoesFor (seen_told p c.f c.l c.m ∷ []) v v2
 unfolding hands_after hands_by ceiling_in

@@ -1,5 +1,6 @@
 -- An object without a step under way goes on by an entry that it takes; and a list that is whole goes on by nothing.
 use Rattle.std.proofs.Common.{◌≡◌, ◌∙◌, ℕ, zero, suc, ◌+◌, ◌==◌, nat_lt, Bool, true, false, not, ◌&&◌, ◌||◌, cond, List, [], ◌∷◌, ◌++◌, length, Some, None, refl, sym, ap, subst, inl, inr, ◌⊎◌, arith}
+use Rattle.std.proofs.lemmas.Bool.{ne_eqb}
 use Rattle.std.proofs.lemmas.Bool.Decides.{nat_tests}
 use Rattle.std.specs.declared.option.Option.{Option}
 use Rattle.std.specs.Option.{option_map, option_map_or, option_and_then, unwrap_or}
@@ -32,13 +33,6 @@ use Rattle.qp_course.proofs.NextLemmas.{mapped, tested}
 use Rattle.qp_unique.proofs.KernelLemmas.{Slot, Starts, Runs, Releases, IsLook, IsSeen, IsTook, IsSpent, IsRest, Went, IsDone, GoesOn, slot-of}
 use Rattle.qp_unique.proofs.StackLemmas.{NotOf, PlaceAway, Away, away-looked}
 
-pub differs : (a b : ℕ) → (a ≡ b → ⊥) → (a == b) ≡ false
-differs a b h = by (a == b) refl
-  where
-    by : (c : Bool) → (a == b) ≡ c → c ≡ false
-    by true e = let same : a ≡ b = grind (arith, nat_tests) in absurd (h same)
-    by false e = refl
-
 module _ (w : Facts) (s : Setting) (p : ℕ) (some : p ≡ 0 → ⊥) where
   -- its pieces are none, or begin with an entry that it takes
   abbrev pub BeginsTook : List Piece → Type 0
@@ -49,7 +43,7 @@ module _ (w : Facts) (s : Setting) (p : ℕ) (some : p ≡ 0 → ⊥) where
     where
       by : (place : Upcoming) (os : List ℕ) → NotOf os p → (looks : Bool) → begins_row p place os looks ≡ false
       by Inside [] h looks = refl
-      by Inside (q ∷ outer) h true = differs q p h.0
+      by Inside (q ∷ outer) h true = ne_eqb q p h.0
       by Inside (q ∷ outer) h false = refl
       by (Looking q others) os h looks = refl
       by (Chosen q) os h looks = refl
@@ -61,7 +55,7 @@ module _ (w : Facts) (s : Setting) (p : ℕ) (some : p ≡ 0 → ⊥) where
 
   other-none : (k : Reading) (i : Item) → Away p k → (i.of ≡ p → ⊥) → pieces_at w p k i ≡ []
   unfolding pieces_at
-  other-none k i away other = rw (differs i.of p other, row-none k (is_look i.body) away) refl
+  other-none k i away other = rw (ne_eqb i.of p other, row-none k (is_look i.body) away) refl
 
   abbrev Goes : Reading → Reading → Item → Type 0
   Goes k next i =

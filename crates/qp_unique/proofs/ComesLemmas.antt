@@ -1,6 +1,6 @@
 -- Each record of a run comes next by what the words hold after the records before it.
 use Rattle.std.proofs.Common.{◌≡◌, ◌∙◌, ℕ, suc, ◌+◌, ◌<◌, ◌≤◌, ◌==◌, nat_lt, true, ◌&&◌, List, [], ◌∷◌, ◌++◌, length, take, refl, sym, ap, subst, arith}
-use Rattle.std.proofs.lemmas.Bool.{and_from, and_parts}
+use Rattle.std.proofs.lemmas.Bool.{and_from}
 use Rattle.std.proofs.lemmas.Bool.Decides.{nat_tests}
 use Rattle.std.specs.declared.option.Option.{Option}
 use Rattle.std.specs.List.{AllByRecursion}
@@ -32,15 +32,11 @@ use Rattle.qp_unique.specs.Held.{comes_next, known_then}
 use Rattle.qp_unique.specs.Fronts.{log_of, held_after, names_its, has_word}
 use Rattle.qp_unique.proofs.PoolLemmas.{back-below, given-below}
 use Rattle.qp_unique.proofs.FrontLemmas.{same_word-refl, is-next, hist-next, drawn-below, may-next, says-next, count-next, take-front, take-next}
+use Rattle.qp_model.proofs.PromiseLemmas.{pool_has}
 
 -- a record of o
 abbrev said : ℕ → Body → Item
 said o b = record { of = o; body = b }
-
--- the block's pool
-pool-of-block : (sys : System) (p b : ℕ) → is_block sys p b ≡ true → is_pool sys p ≡ true
-unfolding is_block
-pool-of-block sys p b h = (and_parts _ _ h).0
 
 module _ (sys : System) (lanes : List (List Rec)) (words : Words sys lanes) (order : List Item)
     (inside : (P : Item → Type 0) → AllByRecursion P (all_items lanes) → AllByRecursion P order) (ordered : in_order [] order ≡ true)
@@ -79,7 +75,7 @@ module _ (sys : System) (lanes : List (List Rec)) (words : Words sys lanes) (ord
   lived : (p c : ℕ) (o : ℕ) (b : Body) (mark : ℕ) → is_block sys p c ≡ true → At o b → touch_of o b ≡ Draws (word.Pool p) mark
       → (life_of c).may (after (life_of c) (log_of (word.Pool p) xs)) (said o b) ≡ true
   lived p c o b mark block at is =
-      may-next (all_items lanes) order inside ordered (word.Pool p) (words.pools p (pool-of-block sys p c block)).numbers (life_of c) (words.lives p c block).alternate
+      may-next (all_items lanes) order inside ordered (word.Pool p) (words.pools p (pool_has sys p c block)).numbers (life_of c) (words.lives p c block).alternate
       xs (said o b) ys at (subst (λ t. drawn_on (word.Pool p) t ≡ true) (sym is) (same_word-refl (word.Pool p)))
 
   -- the number drawn is that of the operations before

@@ -1,5 +1,6 @@
 -- Two runs with the same order have the same lanes.
 use Rattle.std.proofs.Common.{◌≡◌, ◌∙◌, ℕ, zero, suc, ◌+◌, ◌≤◌, ◌==◌, Bool, true, false, cond, List, [], ◌∷◌, ◌++◌, length, Some, None, refl, sym, ap, arith, length-append}
+use Rattle.std.proofs.lemmas.Bool.{ne_eqb}
 use Rattle.std.proofs.lemmas.List.{append_assoc}
 use Rattle.std.specs.declared.option.Option.{Option}
 use Rattle.std.specs.Option.{option_map_or}
@@ -13,7 +14,6 @@ use Rattle.qp_model.specs.KernelLane.{threshold_of, unread}
 use Rattle.qp_model.specs.OneOrder.{with_stimuli, parts_of_look, part_of_look, belongs, look_of}
 use Rattle.qp_orders.specs.RunOrder.{placed}
 use Rattle.qp_unique.proofs.StackLemmas.{IsObject}
-use Rattle.qp_unique.proofs.AwayLemmas.{differs}
 use Rattle.qp_unique.proofs.SourceSteps.{lane_in-append}
 use Rattle.qp_unique.proofs.LoopLemmas.{same-order, agree-first, lane-whole}
 use Rattle.qp_unique.proofs.Sides.{Side, HasEnded, order_of, lane_in}
@@ -32,7 +32,7 @@ parts-elsewhere : (lane k : ℕ) (cuts : Bool) (sources : List (List Item)) → 
 unfolding parts_of_look
 parts-elsewhere lane k cuts [] = refl
 parts-elsewhere lane k cuts (l ∷ ls) =
-    let here = part-elsewhere (1 + lane) 0 k cuts false l (differs (1 + lane) 0 (λ e. omega (arith, e))) in
+    let here = part-elsewhere (1 + lane) 0 k cuts false l (ne_eqb (1 + lane) 0 (λ e. omega (arith, e))) in
     let next : (1 + lane) + 1 ≡ 1 + (lane + 1) = omega arith in
     lane_in-append (part_of_look (1 + lane) k cuts false l) (parts_of_look ((1 + lane) + 1) k cuts ls) 0
     ∙ ap (λ zs. zs ++ lane_in (parts_of_look ((1 + lane) + 1) k cuts ls) 0) here ∙ ap (λ n. lane_in (parts_of_look n k cuts ls) 0) next ∙ parts-elsewhere (lane + 1) k cuts ls

@@ -23,9 +23,7 @@ use Rattle.qp_unique.proofs.StackLemmas.{Stacked, PlaceStacked, IsObject, stacke
 use Rattle.qp_unique.proofs.StepLemmas.{slot-looks}
 use Rattle.qp_unique.proofs.ItemLemmas.{step, slot, comes-here, own-unmarked, tells-at}
 use Rattle.qp_unique.proofs.Sides.{Side, Along, Agree, IsFront, in_sim, order_of, lane_in}
-
-some-is : {A : Type 0} {x y : A} → Some x ≡ Some y → x ≡ y
-some-is e = cc
+use Rattle.qp_model.proofs.AbleLemmas.{some-same}
 
 ends-told : (ps : List Piece) (t : Told) → ends_at_point (ps ++ Tell t ∷ []) ≡ false
 unfolding ends_at_point
@@ -83,7 +81,7 @@ module _ (sys : System) (charts : (p : ℕ) (d : ObjectDef) → object_at sys p 
 
     next-is : (step sys charts stimuli budget bounded positive b xs front i lb k g.two).0 ≡ (step sys charts stimuli budget bounded positive a xs front i la k g.one).0
     next-is =
-        some-is (sym (step sys charts stimuli budget bounded positive b xs front i lb k g.two).1 ∙ sym (next-same sys sim a.has b.has k i g.looks new)
+        some-same (sym (step sys charts stimuli budget bounded positive b xs front i lb k g.two).1 ∙ sym (next-same sys sim a.has b.has k i g.looks new)
         ∙ (step sys charts stimuli budget bounded positive a xs front i la k g.one).1)
 
     looks-on : (next : Reading) → (step sys charts stimuli budget bounded positive a xs front i la k g.one).0 ≡ next → a.has next.looks ≡ b.has next.looks

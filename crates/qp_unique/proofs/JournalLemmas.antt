@@ -25,15 +25,12 @@ use Rattle.qp_orders.specs.Placing.{look_item}
 use Rattle.qp_orders.proofs.RunLemmas.{spills-none}
 use Rattle.qp_unique.specs.Tidy.{run_order}
 use Rattle.qp_unique.proofs.Sides.{in_sim}
+use Rattle.qp_model.proofs.NumberLemmas.{every-append}
 
 -- something true of all
 pub all-front : {A : Type 0} (P : A → Type 0) (xs ys : List A) → AllByRecursion P (xs ++ ys) → AllByRecursion P xs × AllByRecursion P ys
 all-front P [] ys h = (tt, h)
 all-front P (x ∷ xs) ys h = let more = all-front P xs ys h.1 in ((h.0, more.0), more.1)
-
-pub all-join : {A : Type 0} (P : A → Type 0) (xs ys : List A) → AllByRecursion P xs → AllByRecursion P ys → AllByRecursion P (xs ++ ys)
-all-join P [] ys h k = k
-all-join P (x ∷ xs) ys h k = (h.0, all-join P xs ys h.1 k)
 
 -- the lanes of a run with one thread
 pub lanes-split : (lanes : List (List Rec)) (n : ℕ) → length lanes ≡ 1 + n → (l : List Rec) × (ls : List (List Rec)) × (lanes ≡ l ∷ ls) × (length ls ≡ n)
@@ -78,7 +75,7 @@ module _ (P : Item → Type 0) where
   parts-all lane k cuts [] h = tt
   parts-all lane k cuts (l ∷ ls) h =
       subst (AllByRecursion P) (sym (map-append (λ (x : Placed). x.item) (part_of_look lane k cuts false l) (parts_of_look (lane + 1) k cuts ls)))
-      (all-join P _ _ (part-all lane k cuts false l h.0) (parts-all (lane + 1) k cuts ls h.1))
+      (every-append P _ _ (part-all lane k cuts false l h.0) (parts-all (lane + 1) k cuts ls h.1))
 
   pub order-all : (cuts : Bool) (sources : List (List Item)) (lane0 : List Item) → AllByRecursion P lane0 → AllByRecursion (λ l. AllByRecursion P l) sources
       → AllByRecursion P (items_of (with_stimuli cuts sources lane0))
@@ -87,7 +84,7 @@ module _ (P : Item → Type 0) where
   order-all cuts sources (i ∷ is) h all = (
     h.0,
     subst (AllByRecursion P) (sym (map-append (λ (x : Placed). x.item) (own (look_of i.body)) (with_stimuli cuts sources is)))
-        (all-join P _ _ (look (look_of i.body)) (order-all cuts sources is h.1 all)),
+        (every-append P _ _ (look (look_of i.body)) (order-all cuts sources is h.1 all)),
   )
     where
       own : Option (ℕ × ℕ) → List Placed

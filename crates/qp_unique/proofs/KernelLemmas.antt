@@ -11,6 +11,7 @@ use Rattle.qp_model.specs.Ends.{is_spill}
 use Rattle.qp_model.specs.Kernels.{sim, qk}
 use Rattle.qp_model.specs.KernelLane.{Role, Looks, Sees, Takes, Ends, Rests, Holds, Drops, RunsOut, Spills, Acts, role_of, Setting, floor_in, above, Upcoming, Inside, Looking, Chosen, Ended, Resting, Again, Over, Halted, Reading, base_ended, found_none, looking_at, look_next, seen_next, own_next, inside_next, found_next, ended_next, rest_next, place_next, start_next, started_next, role_next, lane_next}
 use Rattle.qp_orders.specs.Placing.{look_item}
+use Rattle.qp_model.proofs.KernelLaneLemmas.{granted, Looks-is, Sees-is}
 
 -- the role of a record of the object whose start or step is under way
 abbrev pub IsOwned : Role → Type 0
@@ -47,24 +48,6 @@ pub data Slot (s : Setting) (k next : Reading) (i : Item) : Type 0 where
   IsSpent : (p : ℕ) → k.unstarted ≡ [] → k.place ≡ Chosen p → i ≡ record { of = p; body = body.Spent } → record k { place = Halted } ≡ next → Slot s k next i
   IsRest : k.unstarted ≡ [] → k.place ≡ Resting → i ≡ record { of = 0; body = body.Rest k.looks } → base_ended s k ≡ next → Slot s k next i
 
-looks-is : (b : Body) (n floor : ℕ) → role_of b ≡ Looks n floor → b ≡ body.Look n floor
-unfolding role_of
-looks-is (body.Look n floor) m g h = ap (λ r. by r) h
-  where
-    by : Role → Body
-    by (Looks n floor) = body.Look n floor
-    by r = body.Look 0 0
-looks-is b n floor h = absurd (cc)
-
-sees-is : (b : Body) (p f l m : ℕ) → role_of b ≡ Sees p f l m → b ≡ body.Seen p f l m
-unfolding role_of
-sees-is (body.Seen p f l m) q g k n h = ap (λ r. by r) h
-  where
-    by : Role → Body
-    by (Sees p f l m) = body.Seen p f l m
-    by r = body.Seen 0 0 0 0
-sees-is b p f l m h = absurd (cc)
-
 takes-is : (b : Body) → role_of b ≡ Takes → (f l m : ℕ) × (e : Entry) × (b ≡ body.Took f l m e)
 unfolding role_of
 takes-is (body.Took f l m e) h = (f, l, m, e, refl)
@@ -92,11 +75,6 @@ spills-is b h = absurd (cc)
 -- an item by its parts
 pub item-is : (i : Item) (o : ℕ) (b : Body) → i.of ≡ o → i.body ≡ b → i ≡ record { of = o; body = b }
 item-is i o b e1 e2 = ap (λ x. record { of = x; body = i.body }) e1 ∙ ap (λ x. record { of = o; body = x }) e2
-
--- an option that holds where a test is passed
-given : {A : Type 0} (b : Bool) (x y : A) → cond b (Some x) None ≡ Some y → (b ≡ true) × (x ≡ y)
-given true x y h = (refl, cc)
-given false x y h = absurd (cc)
 
 -- the same, of an option that may be none itself
 given-by : {A : Type 0} (b : Bool) (x : Option A) (y : A) → cond b x None ≡ Some y → (b ≡ true) × (x ≡ Some y)
@@ -140,12 +118,12 @@ module _ (s : Setting) (is_sim : s.kernel ≡ sim) (k next : Reading) (i : Item)
   look-slot : (r : Role) → role_of i.body ≡ r → k.unstarted ≡ [] → MayLook k.place → look_next s k i.of r ≡ Some next → Slot s k next i
   unfolding look_next
   look-slot (Looks n floor) is none may h =
-      let at = given ((i.of == 0) && (n == k.looks + 1) && (floor == floor_in s.sys s.kernel k.running k.ceiling)) _ _ h in
+      let at = granted ((i.of == 0) && (n == k.looks + 1) && (floor == floor_in s.sys s.kernel k.running k.ceiling)) _ _ h in
       let test : ((i.of == 0) && (n == k.looks + 1) && (floor == floor_in s.sys s.kernel k.running k.ceiling)) ≡ true = at.0 in
       let e1 : i.of ≡ 0 = grind (arith, nat_tests) in
       let e2 : n ≡ k.looks + 1 = grind (arith, nat_tests) in
       let e3 : floor ≡ floor_in s.sys s.kernel k.running k.ceiling = grind (arith, nat_tests) in
-      let e4 : i.body ≡ body.Look n floor = looks-is i.body n floor is in
+      let e4 : i.body ≡ body.Look n floor = Looks-is i.body n floor is in
       IsLook none may (item-is i 0 _ e1 (e4 ∙ ap (λ x. body.Look x floor) e2 ∙ ap (λ x. body.Look (k.looks + 1) x) e3))
       (ap (λ x. looking_at s (record k { looks = x }) (above s.sys (floor_in s.sys s.kernel k.running k.ceiling))) (sym e2)
       ∙ ap (λ x. looking_at s (record k { looks = n }) (above s.sys x)) (sym e3) ∙ at.1)
@@ -153,24 +131,24 @@ module _ (s : Setting) (is_sim : s.kernel ≡ sim) (k next : Reading) (i : Item)
 
   seen-slot : (p : ℕ) (others : List ℕ) (r : Role) → role_of i.body ≡ r → k.unstarted ≡ [] → k.place ≡ Looking p others → seen_next s k p others i.of r ≡ Some next → Slot s k next i
   seen-slot p others (Sees q f l m) is none at h =
-      let ok = given ((i.of == 0) && (q == p)) _ _ h in
+      let ok = granted ((i.of == 0) && (q == p)) _ _ h in
       let test : ((i.of == 0) && (q == p)) ≡ true = ok.0 in
       let e1 : i.of ≡ 0 = grind (arith, nat_tests) in
       let e2 : q ≡ p = grind (arith, nat_tests) in
-      let e3 : i.body ≡ body.Seen q f l m = sees-is i.body q f l m is in
+      let e3 : i.body ≡ body.Seen q f l m = Sees-is i.body q f l m is in
       IsSeen p others f l m none at (item-is i 0 _ e1 (e3 ∙ ap (λ x. body.Seen x f l m) e2)) ok.1
   seen-slot p others r is none at h = absurd (cc)
 
   found-slot : (p : ℕ) (r : Role) → role_of i.body ≡ r → k.unstarted ≡ [] → k.place ≡ Chosen p → found_next k p i.of r ≡ Some next → Slot s k next i
   found-slot p Takes is none at h =
-      let ok = given (i.of == p) _ _ h in
+      let ok = granted (i.of == p) _ _ h in
       let test : (i.of == p) ≡ true = ok.0 in
       let e1 : i.of ≡ p = grind (arith, nat_tests) in
       let took = takes-is i.body is in
       let e2 : i.body ≡ body.Took took.0 took.1 took.2 took.3 = took.4 in
       IsTook p took.0 took.1 took.2 took.3 none at (item-is i p _ e1 e2) ok.1
   found-slot p RunsOut is none at h =
-      let ok = given (i.of == p) _ _ h in
+      let ok = granted (i.of == p) _ _ h in
       let test : (i.of == p) ≡ true = ok.0 in
       let e1 : i.of ≡ p = grind (arith, nat_tests) in
       let e2 : i.body ≡ body.Spent = spent-is i.body is in
@@ -186,7 +164,7 @@ module _ (s : Setting) (is_sim : s.kernel ≡ sim) (k next : Reading) (i : Item)
 
       by : (r : Role) → role_of i.body ≡ r → ended_next s k p i.of r ≡ Some next → Slot s k next i
       by Drops is h =
-          let ok = given (i.of == p) _ _ h in
+          let ok = granted (i.of == p) _ _ h in
           let test : (i.of == p) ≡ true = ok.0 in
           let e1 : i.of ≡ p = grind (arith, nat_tests) in
           Releases p none at e1 is ok.1
@@ -202,7 +180,7 @@ module _ (s : Setting) (is_sim : s.kernel ≡ sim) (k next : Reading) (i : Item)
 
   rest-slot : (r : Role) → role_of i.body ≡ r → k.unstarted ≡ [] → k.place ≡ Resting → rest_next s k i.of r ≡ Some next → Slot s k next i
   rest-slot (Rests n) is none at h =
-      let ok = given ((i.of == 0) && (n == k.looks)) _ _ h in
+      let ok = granted ((i.of == 0) && (n == k.looks)) _ _ h in
       let test : ((i.of == 0) && (n == k.looks)) ≡ true = ok.0 in
       let e1 : i.of ≡ 0 = grind (arith, nat_tests) in
       let e2 : n ≡ k.looks = grind (arith, nat_tests) in
@@ -334,7 +312,7 @@ module _ (sys : System) (kernel : ℕ) (f g : ℕ → Bool) (k : Reading) where
   next-same i same new = by (role_of i.body) refl
     where
       look : (r : Role) → role_of i.body ≡ r → (n floor : ℕ) → r ≡ Looks n floor → f n ≡ g n
-      look r is n floor e = new n floor (looks-is i.body n floor (is ∙ e))
+      look r is n floor e = new n floor (Looks-is i.body n floor (is ∙ e))
 
       by : (r : Role) → role_of i.body ≡ r → role_next first k i.of r ≡ role_next second k i.of r
       by Spills is = refl

@@ -1,5 +1,6 @@
 -- Two runs that have come equally far go on by the same record of lane 0.
 use Rattle.std.proofs.Common.{◌≡◌, ◌∙◌, ℕ, ◌+◌, ◌<◌, ◌≤◌, ◌==◌, true, false, not, List, [], ◌∷◌, ◌++◌, Some, None, refl, sym, ap, subst, inl, inr, ◌⊎◌, arith, append-nil}
+use Rattle.std.proofs.lemmas.Bool.{ne_eqb}
 use Rattle.std.proofs.lemmas.Bool.Decides.{nat_tests}
 use Rattle.std.specs.declared.option.Option.{Option}
 use Rattle.std.specs.List.{count_by, AllByRecursion}
@@ -30,10 +31,11 @@ use Rattle.qp_unique.specs.NextInCourse.{piece_told, PieceComes}
 use Rattle.qp_unique.proofs.CourseLemmas.{course_goes_on_alone}
 use Rattle.qp_unique.proofs.KernelLemmas.{Slot, Starts, Runs, Releases, IsLook, IsSeen, IsTook, IsSpent, IsRest, IsOwned, item-is}
 use Rattle.qp_unique.proofs.StackLemmas.{IsObject, Below, Descends, PlaceStacked, NotOf, Away, away-looked, below-not}
-use Rattle.qp_unique.proofs.AwayLemmas.{differs, away-pieces, BeginsTook, MustRelease, must-release}
+use Rattle.qp_unique.proofs.AwayLemmas.{away-pieces, BeginsTook, MustRelease, must-release}
 use Rattle.qp_unique.proofs.StepLemmas.{starts-only, runs-only, ended-only, look-only, seen-only, chosen-only, rest-only, over-none, LookHere}
 use Rattle.qp_unique.proofs.ItemLemmas.{run-first, named, step, unspilt-here, slot, order-here, comes-here, course-here, own-unmarked, told-next}
 use Rattle.qp_unique.proofs.Sides.{Side, Agree, in_sim, order_of, held_to, MayEnd}
+use Rattle.qp_model.proofs.AbleLemmas.{some-same}
 
 -- a look behind the release of p leaves p with no step under way
 away-after : (s : Setting) (k next : Reading) (i : Item) (p : ℕ) → Slot s k next i → k.place ≡ Ended p → (role_of i.body ≡ Drops → ⊥) → NotOf k.running p → k.unstarted ≡ [] → Away p next
@@ -54,9 +56,6 @@ told-role w p c d h = h
 abbrev TakesOrEnds : ℕ → Item → Type 0
 TakesOrEnds p i = ((f l m : ℕ) × (e : Entry) × (i ≡ record { of = p; body = body.Took f l m e })) ⊎ (i ≡ record { of = p; body = body.Spent })
 
-some-is : {A : Type 0} {x y : A} → Some x ≡ Some y → x ≡ y
-some-is e = cc
-
 tell-is : {t u : Told} → Tell t ≡ Tell u → t ≡ u
 tell-is e = cc
 
@@ -71,7 +70,7 @@ left : (sys : System) (d : ObjectDef) (chart : Chart) (w : Facts) (s : Setting) 
 unfolding run told piece_next
 left sys d chart w s one two end p some before more must same went may tail (inl none) =
     let stays : run sys (actor d chart) two [] ≡ Some end = subst (λ ps. run sys (actor d chart) two ps ≡ Some end) none went in
-    let last : end ≡ one = sym (some-is stays) ∙ same in
+    let last : end ≡ one = sym (some-same stays) ∙ same in
     let ends : MayEnd (ends_at_point before) one =
     subst (λ z. MayEnd (ends_at_point before) z) last (subst (λ ps. MayEnd (ends_at_point ps) end) (append-nil before) (subst (λ ps. MayEnd (ends_at_point (before ++ ps)) end) none may)) in
     by ends
@@ -113,10 +112,10 @@ module _ (sys : System) (charts : (p : ℕ) (d : ObjectDef) → object_at sys p 
         let two = told-next sys charts stimuli budget bounded positive b xs front ib lb k g.two p d.0 d.1 d.2 ofb unmarked_b in
         let mids : Some one.0 ≡ Some two.0 =
         sym one.1 ∙ ap (run sys (actor d.0 (charts p d.0 d.1)) (start_state (actor d.0 (charts p d.0 d.1)) (first_config d.0))) (g.pieces p) ∙ two.1 in
-        let same : one.0 ≡ two.0 = some-is mids in
+        let same : one.0 ≡ two.0 = some-same mids in
         let told_both : Some (Tell (told a.w p k.ceiling ia.body)) ≡ Some (Tell (told b.w p k.ceiling ib.body)) =
         sym one.2 ∙ ap (piece_told sys held (actor d.0 (charts p d.0 d.1))) same ∙ two.2 in
-        let whole : told a.w p k.ceiling ia.body ≡ told b.w p k.ceiling ib.body = tell-is (some-is told_both) in
+        let whole : told a.w p k.ceiling ia.body ≡ told b.w p k.ceiling ib.body = tell-is (some-same told_both) in
         item-is ia ib.of ib.body (ofa ∙ sym ofb) (ap (λ (t : Told). t.body) whole)
 
     -- where a record of p comes no look does, while its step is under way
@@ -127,13 +126,13 @@ module _ (sys : System) (charts : (p : ℕ) (d : ObjectDef) → object_at sys p 
         let d = named sys charts stimuli budget bounded positive p its in
         let one = told-next sys charts stimuli budget bounded positive a xs front ia la k g.one p d.0 d.1 d.2 of unmarked in
         let two = course-here sys charts stimuli budget bounded positive b xs front ib lb k g.two p d.0 d.1 in
-        let other : (0 == p) ≡ false = differs 0 p (λ e. positive p its (sym e)) in
+        let other : (0 == p) ≡ false = ne_eqb 0 p (λ e. positive p its (sym e)) in
         let self : (p == p) ≡ true = grind (arith, nat_tests) in
         let begins : begins_row p k.place k.running true ≡ true = rw (at, runs) self in
         let point : pieces_at b.w p k ib ≡ Point ∷ [] = ap (pieces_at b.w p k) look ∙ rw (other, begins) refl in
         let mids : Some one.0 ≡ Some two.0 =
         sym one.1 ∙ ap (run_of sys d.0 (charts p d.0 d.1)) (g.pieces p) ∙ two.2 in
-        let same : two.0 ≡ one.0 = sym (some-is mids) in
+        let same : two.0 ≡ one.0 = sym (some-same mids) in
         let first = subst (λ ps. run sys (actor d.0 (charts p d.0 d.1)) two.0 (ps ++ pieces_in b.w (in_sim sys b.has) p (step sys charts stimuli budget bounded positive b xs front ib lb k g.two).0 lb) ≡ Some two.1) point two.3 in
         let later = run-first sys (actor d.0 (charts p d.0 d.1)) two.0 two.1 Point _ first in
         let alone = course_goes_on_alone sys held (actor d.0 (charts p d.0 d.1)) two.0 later.0 Point (b.counted xs _ k.ceiling g.two.order) tt later.1 in
@@ -151,11 +150,11 @@ module _ (sys : System) (charts : (p : ℕ) (d : ObjectDef) → object_at sys p 
         let two = course-here sys charts stimuli budget bounded positive b xs front ib lb k g.two p d.0 d.1 in
         let must : MustRelease sys (actor d.0 (charts p d.0 d.1)) one.0 =
         must-release sys (actor d.0 (charts p d.0 d.1)) one.0 one.3.0 (told a.w p k.ceiling ia.body) (told-role a.w p k.ceiling ia.body role) one.3.1 in
-        let other : (0 == p) ≡ false = differs 0 p (λ e. positive p its (sym e)) in
+        let other : (0 == p) ≡ false = ne_eqb 0 p (λ e. positive p its (sym e)) in
         let begins : begins_row p k.place k.running true ≡ false = rw at refl in
         let none : pieces_at b.w p k ib ≡ [] = ap (pieces_at b.w p k) look ∙ rw (other, begins) refl in
         let mids : Some one.0 ≡ Some two.0 = sym one.1 ∙ ap (run_of sys d.0 (charts p d.0 d.1)) (g.pieces p) ∙ two.2 in
-        let same : two.0 ≡ one.0 = sym (some-is mids) in
+        let same : two.0 ≡ one.0 = sym (some-same mids) in
         let there = step sys charts stimuli budget bounded positive b xs front ib lb k g.two in
         let not_drops : role_of ib.body ≡ Drops → ⊥ = λ e. (let wrong : Looks (k.looks + 1) (floor_in sys sim k.running k.ceiling) ≡ Drops = ap (λ (x : Item). role_of x.body) (sym look) ∙ e in cc) in
         let away = away-after (in_sim sys b.has) k there.0 ib p (slot sys charts stimuli budget bounded positive b xs front ib lb k g.two) at not_drops not started in

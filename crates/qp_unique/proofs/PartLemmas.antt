@@ -30,9 +30,7 @@ use Rattle.qp_unique.proofs.AwayLemmas.{done-none}
 use Rattle.qp_unique.proofs.StimulusLemmas.{stimulus_goes_on_alone}
 use Rattle.qp_unique.proofs.SourceSteps.{stim-read, other-read, after-split, after-first, alone, alone-at, record-first, stim-some, stops-none}
 use Rattle.qp_unique.proofs.Sides.{Side, order_of, held_to}
-
-some-is : {A : Type 0} {x y : A} → Some x ≡ Some y → x ≡ y
-some-is e = cc
+use Rattle.qp_model.proofs.AbleLemmas.{some-same}
 
 pub no-stim : (b : Body) → is_some (stim_of b) ≡ false → stim_of b ≡ None
 no-stim b h = by (stim_of b) refl h
@@ -111,7 +109,7 @@ module _ (sys : System) (charts : (p : ℕ) (d : ObjectDef) → object_at sys p 
             let one : source_after sys sim (Some (first_of n)) (records_of a.w 0 0 done) ≡ Some end =
             subst (λ l. source_after sys sim (Some (first_of n)) (records_of a.w 0 0 l) ≡ Some end) whole
             (subst (λ m. source_after sys sim (Some (first_of m)) (records_of a.w 0 0 h.lane) ≡ Some end) h.at reads) in
-            let same : end ≡ Within u k left = some-is (sym one ∙ read) in
+            let same : end ≡ Within u k left = some-same (sym one ∙ read) in
             stops-none sys u k left stop t (subst (λ s. source_stops sim s stop ≡ true) same stops) not
         by (z ∷ zs) first (own, end, stop, reads, stops, not) is =
             let alone_z = alone-at done z zs (subst alone is own) in
@@ -120,7 +118,7 @@ module _ (sys : System) (charts : (p : ℕ) (d : ObjectDef) → object_at sys p 
             (subst (λ m. source_after sys sim (Some (first_of m)) (records_of a.w 0 0 h.lane) ≡ Some end) h.at reads) in
             let split = after-split sys (first_of n) end (records_of a.w 0 0 done) (records_of a.w 0 (ceiling_over 0 done) (z ∷ zs))
             (subst (λ ts. source_after sys sim (Some (first_of n)) ts ≡ Some end) (records_of-append a.w 0 0 done (z ∷ zs)) one) in
-            let same : split.0 ≡ Within u k left = some-is (sym split.1 ∙ read) in
+            let same : split.0 ≡ Within u k left = some-same (sym split.1 ∙ read) in
             let next = after-first sys split.0 end (told a.w 0 (ceiling_over 0 done) z.body) _
             (subst (λ ts. source_after sys sim (Some split.0) ts ≡ Some end) (record-first a.w (ceiling_over 0 done) z zs alone_z.0) split.2) in
             let stim = stim-some z.body first in
@@ -173,7 +171,7 @@ module _ (sys : System) (charts : (p : ℕ) (d : ObjectDef) → object_at sys p 
       let nb = part-next b xs n done z rb hb in
       let one = other-read sys a.w (ceiling_over 0 done) na.0 na.1 y.body (no-stim y.body (no-first y ra ha.plain).0) na.3 in
       let two = other-read sys b.w (ceiling_over 0 done) nb.0 nb.1 z.body (no-stim z.body (no-first z rb hb.plain).0) nb.3 in
-      let mids : na.0 ≡ nb.0 = some-is (sym na.2 ∙ ap (λ ts. source_after sys sim (Some (first_of n)) ts) told_so ∙ nb.2) in
+      let mids : na.0 ≡ nb.0 = some-same (sym na.2 ∙ ap (λ ts. source_after sys sim (Some (first_of n)) ts) told_so ∙ nb.2) in
       let states : Within one.0 one.2 one.3 ≡ Within two.0 two.2 two.3 = sym one.4 ∙ mids ∙ two.4 in
       let same : one.0 ≡ two.0 = under states in
       let ta = stimulus_goes_on_alone sys (held_to sys (ceiling_over 0 done) xs) sim one.0 one.1 (told a.w 0 (ceiling_over 0 done) y.body)
@@ -181,7 +179,7 @@ module _ (sys : System) (charts : (p : ℕ) (d : ObjectDef) → object_at sys p 
       let tb = stimulus_goes_on_alone sys (held_to sys (ceiling_over 0 done) xs) sim two.0 two.1 (told b.w 0 (ceiling_over 0 done) z.body)
       (b.counted xs _ (ceiling_over 0 done) hb.order) nb.5 two.5 in
       let both : told a.w 0 (ceiling_over 0 done) y.body ≡ told b.w 0 (ceiling_over 0 done) z.body =
-      some-is (sym ta ∙ ap (underway_told sys (held_to sys (ceiling_over 0 done) xs)) same ∙ tb) in
+      some-same (sym ta ∙ ap (underway_told sys (held_to sys (ceiling_over 0 done) xs)) same ∙ tb) in
       let bodies : y.body ≡ z.body = ap (λ (t : Told). t.body) both in
       let whole : y ≡ z = item-is y z.of z.body (na.4 ∙ sym nb.4) bodies in
       (whole, na.4, both ∙ ap (told b.w 0 (ceiling_over 0 done)) (sym bodies))

@@ -1,5 +1,6 @@
 -- The lanes of sources in the order of a run with one thread.
 use Rattle.std.proofs.Common.{◌≡◌, ◌∙◌, ℕ, suc, ◌+◌, ◌==◌, Bool, true, false, ◌&&◌, ◌||◌, cond, List, [], ◌∷◌, ◌++◌, map, length, get_or, Some, None, refl, sym, ap, subst, arith, append-nil}
+use Rattle.std.proofs.lemmas.Bool.{ne_eqb}
 use Rattle.std.proofs.lemmas.Bool.Decides.{nat_tests}
 use Rattle.std.proofs.lemmas.List.{append_assoc}
 use Rattle.std.specs.declared.option.Option.{Option}
@@ -21,7 +22,6 @@ use Rattle.qp_orders.specs.RunOrder.{placed, has_stim}
 use Rattle.qp_orders.specs.Placing.{look_item, all_placed, stim_item}
 use Rattle.qp_unique.proofs.KernelLemmas.{item-is}
 use Rattle.qp_unique.proofs.LookLemmas.{begins, begun_in, up_to_stim, from_stim, stim-split, stim-first, begun-append, same-front, StimFirst, turnless, one-turn, look-free, look-stimulated, turns-none, turns-one, stim-at}
-use Rattle.qp_unique.proofs.AwayLemmas.{differs}
 use Rattle.qp_unique.proofs.ItemLemmas.{none-at}
 use Rattle.qp_unique.proofs.SourceSteps.{lane_in-append, lane_in-own, lane_in-other, begun-is, place_of, place-after, stim-read, other-read, stim-some, stim-is, alone, alone-at, after-split, after-first, record-first}
 use Rattle.qp_model.proofs.KnowingLemmas.{records_of-append}
@@ -128,7 +128,7 @@ first-stim sys w i next ss h = by (begins i) refl
 -- the records of a lane, behind a record of lane 0 and some of one source
 pub lane-with : (xs : List Placed) (i : Item) (m : ℕ) (gs : List Item) (j : ℕ) → (j ≡ 0 → ⊥) → lane_in (xs ++ placed 0 i ∷ all_placed (1 + m) gs) j ≡ lane_in xs j ++ lane_in (all_placed (1 + m) gs) j
 lane-with xs i m gs j some =
-    let other : (0 == j) ≡ false = differs 0 j (λ e. some (sym e)) in
+    let other : (0 == j) ≡ false = ne_eqb 0 j (λ e. some (sym e)) in
     lane_in-append xs (placed 0 i ∷ all_placed (1 + m) gs) j ∙ ap (λ b. lane_in xs j ++ map (λ (x : Placed). x.item) (cond b (placed 0 i ∷ filter (λ x. x.lane == j) (all_placed (1 + m) gs)) (filter (λ x. x.lane == j) (all_placed (1 + m) gs)))) other
 
 pub lane-own : (xs : List Placed) (i : Item) (m : ℕ) (gs : List Item) → lane_in (xs ++ placed 0 i ∷ all_placed (1 + m) gs) (1 + m) ≡ lane_in xs (1 + m) ++ gs
@@ -243,7 +243,7 @@ module _ (sys : System) (stimuli : List (List Stim)) where
                 first = stim-first sc.more;
               })
           by false e =
-              let other : (1 + m == 1 + length before) ≡ false = differs (1 + m) (1 + length before) (λ x. let same : length before ≡ m = omega (arith, x) in let yes : (length before == m) ≡ true = grind (arith, nat_tests) in cc) in
+              let other : (1 + m == 1 + length before) ≡ false = ne_eqb (1 + m) (1 + length before) (λ x. let same : length before ≡ m = omega (arith, x) in let yes : (length before == m) ≡ true = grind (arith, nat_tests) in cc) in
               record { rest = h.rest; is = h.is ∙ ap (λ ys. ys ++ h.rest) (sym (lane-other xs i m gs (1 + length before) (above-zero (length before)) other)); first = h.first }
 
   module _ (a : Lined sys stimuli) where

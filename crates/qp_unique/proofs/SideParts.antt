@@ -1,6 +1,6 @@
 -- The lanes of sources and the budgets of a lawful journal of `sim` without a `spill`.
 use Rattle.std.proofs.Common.{◌≡◌, ◌∙◌, ℕ, zero, suc, ◌+◌, ◌<◌, ◌≤◌, ◌==◌, nat_le, Bool, true, false, not, ◌&&◌, ◌||◌, cond, List, [], ◌∷◌, ◌++◌, map, length, drop, get_or, Some, None, refl, sym, ap, subst, arith}
-use Rattle.std.proofs.lemmas.Bool.{and_parts}
+use Rattle.std.proofs.lemmas.Bool.{and_parts, ne_eqb}
 use Rattle.std.proofs.lemmas.Bool.Decides.{nat_tests}
 use Rattle.std.proofs.lemmas.List.{append_assoc, map-append}
 use Rattle.std.proofs.lemmas.List.Sums.{sum_by-cons}
@@ -38,12 +38,13 @@ use Rattle.qp_unique.specs.Tidy.{run_order}
 use Rattle.qp_unique.proofs.KernelLemmas.{Slot, slot-of}
 use Rattle.qp_unique.proofs.StackLemmas.{found-in}
 use Rattle.qp_unique.proofs.ItemLemmas.{none-at}
-use Rattle.qp_unique.proofs.AwayLemmas.{differs}
 use Rattle.qp_unique.proofs.LoopLemmas.{look-whole}
 use Rattle.qp_unique.proofs.RunLanes.{look-body}
-use Rattle.qp_unique.proofs.JournalLemmas.{all-front, all-join, parts-all, Threaded, all-split, lane0-is, sources-each, inside, ends-run, each-unspilt, lane-each}
+use Rattle.qp_unique.proofs.JournalLemmas.{all-front, parts-all, Threaded, all-split, lane0-is, sources-each, inside, ends-run, each-unspilt, lane-each}
 use Rattle.qp_unique.proofs.SideLemmas.{holds, filter-none-spill, all-of, kernel-read, unspilt-zero, has_one}
 use Rattle.qp_unique.proofs.Sides.{in_sim}
+use Rattle.qp_model.proofs.NumberLemmas.{every-append, count-append}
+use Rattle.qp_model.proofs.TakenLemmas.{list_all-at}
 
 drop-at : (xs : List (List Rec)) (n : ℕ) (r : List Rec) (rs : List (List Rec)) → drop n xs ≡ r ∷ rs → (unwrap_or (slice_get xs n) [] ≡ r) × (drop (n + 1) xs ≡ rs)
 drop-at [] zero r rs h = absurd (cc)
@@ -53,10 +54,6 @@ drop-at (x ∷ xs) (suc n) r rs h =
     let later = drop-at xs n r rs h in
     let next : suc n + 1 ≡ suc (n + 1) = omega arith in
     (later.0, ap (λ k. drop k (x ∷ xs)) next ∙ later.1)
-
-list-at : {A : Type 0} (p : A → Bool) (xs : List A) (x : A) (ys : List A) → list_all p (xs ++ x ∷ ys) ≡ true → p x ≡ true
-list-at p [] x ys h = (and_parts _ _ h).0
-list-at p (z ∷ xs) x ys h = list-at p xs x ys (and_parts _ _ h).1
 
 each-object : (p : ObjectDef → Bool) (ds : List ObjectDef) → list_all p ds ≡ true → AllByRecursion (λ d. p d ≡ true) ds
 each-object p [] h = tt
@@ -76,11 +73,6 @@ look-found (i ∷ is) n h = by (look_of i.body) refl h (λ k. look-found is n k)
         on : (c : Bool) → (l.0 == n) ≡ c → (c || has (look_numbers is) n) ≡ true → (front : List Item) × (x : Item) × (floor : ℕ) × (back : List Item) × (i ∷ is ≡ front ++ x ∷ back) × (look_of x.body ≡ Some (n, floor))
         on true same h = let number : l.0 ≡ n = grind (arith, nat_tests) in ([], i, l.1, is, refl, e ∙ ap (λ m. Some (m, l.1)) number)
         on false same h = let more = later h in (i ∷ more.0, more.1, more.2, more.3, ap (λ us. i ∷ us) more.4, more.5)
-
--- counts
-count-append : {A : Type 0} (f : A → Bool) (xs ys : List A) → count_by f (xs ++ ys) ≡ count_by f xs + count_by f ys
-count-append f [] ys = let zero_is : count_by f [] ≡ 0 = refl in omega (arith, zero_is)
-count-append f (x ∷ xs) ys = omega (arith, sum_by-cons (λ x. cond (f x) 1 0) x (xs ++ ys), sum_by-cons (λ x. cond (f x) 1 0) x xs, count-append f xs ys)
 
 count-items : (f : Item → Bool) (xs : List Placed) → count_by (λ (z : Placed). f z.item) xs ≡ count_by f (items_of xs)
 count-items f [] = refl
@@ -118,7 +110,7 @@ each-by P (l ∷ ls) h = (h [] l ls refl, each-by P ls (λ front x back is. h (l
 pub joined-each : (P : Item → Type 0) (ls : List (List Rec)) → AllByRecursion (λ l. AllByRecursion P l) (map (λ lane. lane_items lane) ls) → AllByRecursion P (all_items ls)
 unfolding all_items
 joined-each P [] h = tt
-joined-each P (l ∷ ls) h = all-join P (lane_items l) (all_items ls) h.0 (joined-each P ls h.1)
+joined-each P (l ∷ ls) h = every-append P (lane_items l) (all_items ls) h.0 (joined-each P ls h.1)
 
 -- a `spent` shows that the budget is taken
 spents-each : (sys : System) (j : Journal) (n : ℕ) (lanes : List (List Rec)) → spents_hold sys j n lanes ≡ true
@@ -127,7 +119,7 @@ unfolding spents_hold all_items
 spents-each sys j n [] h = tt
 spents-each sys j n (l ∷ ls) h =
     let parts = and_parts _ _ h in
-    all-join _ (lane_items l) (all_items ls) (each (lane_items l) (and_parts _ _ parts.0).0) (spents-each sys j (n + 1) ls parts.1)
+    every-append _ (lane_items l) (all_items ls) (each (lane_items l) (and_parts _ _ parts.0).0) (spents-each sys j (n + 1) ls parts.1)
   where
     right : (i : Item) → spent_right sys j n i ≡ true → is_spent i.body ≡ true → took_count (all_items j.lanes) i.of ≡ j.budget
     right i h spent =
@@ -226,8 +218,8 @@ module _ (sys : System) (stimuli : List (List Stim)) (j : Journal) (law : Lawful
   unfolding stims_placed one_thread
   placed-of before l behind is xs i ys split p n stim =
       let all = t.ordered.placed in
-      let lane = list-at (λ lane. list_all (λ i. option_map_or (λ s. has (look_numbers (lane_items (lane_at j 0))) s.1) (stim_of i.body) true) lane) before l behind (subst (λ ls. list_all (λ lane. list_all (λ i. option_map_or (λ s. has (look_numbers (lane_items (lane_at j 0))) s.1) (stim_of i.body) true) lane) ls ≡ true) is all) in
-      let one = list-at (λ i. option_map_or (λ s. has (look_numbers (lane_items (lane_at j 0))) s.1) (stim_of i.body) true) xs i ys (subst (λ us. list_all (λ i. option_map_or (λ s. has (look_numbers (lane_items (lane_at j 0))) s.1) (stim_of i.body) true) us ≡ true) split lane) in
+      let lane = list_all-at (λ lane. list_all (λ i. option_map_or (λ s. has (look_numbers (lane_items (lane_at j 0))) s.1) (stim_of i.body) true) lane) before l behind (subst (λ ls. list_all (λ lane. list_all (λ i. option_map_or (λ s. has (look_numbers (lane_items (lane_at j 0))) s.1) (stim_of i.body) true) lane) ls ≡ true) is all) in
+      let one = list_all-at (λ i. option_map_or (λ s. has (look_numbers (lane_items (lane_at j 0))) s.1) (stim_of i.body) true) xs i ys (subst (λ us. list_all (λ i. option_map_or (λ s. has (look_numbers (lane_items (lane_at j 0))) s.1) (stim_of i.body) true) us ≡ true) split lane) in
       let two : has (look_numbers (lane_items (lane_at j 0))) n ≡ true =
       subst (λ d. option_map_or (λ s. has (look_numbers (lane_items (lane_at j 0))) s.1) (stim_of d) true ≡ true) stim one in
       let found = look-found (lane_items (lane_at j 0)) n two in
@@ -243,7 +235,7 @@ module _ (sys : System) (stimuli : List (List Stim)) (j : Journal) (law : Lawful
   untaken p some (i ∷ is) h = (by i.body (let e : i.of ≡ 0 = let test : (i.of == 0) ≡ true = h.0 in grind (arith, nat_tests) in e), untaken p some is h.1)
     where
       by : (b : Body) → i.of ≡ 0 → takes_of p (record { of = i.of; body = b }) ≡ false
-      by (body.Took f l m e) of = rw of (differs 0 p (λ z. some (sym z)))
+      by (body.Took f l m e) of = rw of (ne_eqb 0 p (λ z. some (sym z)))
       by b of = refl
 
   sources-untaken : (p : ℕ) → (p ≡ 0 → ⊥) → AllByRecursion (λ l. AllByRecursion (λ i. takes_of p i ≡ false) l) (source_lanes sys j)

@@ -34,10 +34,11 @@ use Rattle.qp_unique.specs.Laws.{TidyJournalsAreOne}
 use Rattle.qp_unique.proofs.StackLemmas.{found-in, IsObject}
 use Rattle.qp_unique.proofs.LoopLemmas.{lane-whole}
 use Rattle.qp_unique.proofs.EqualLemmas.{same-lanes, zero-is}
-use Rattle.qp_unique.proofs.JournalLemmas.{all-join, Threaded, threaded, all-split, lane0-is, ends-run, turn-at, each-unspilt}
+use Rattle.qp_unique.proofs.JournalLemmas.{Threaded, threaded, all-split, lane0-is, ends-run, turn-at, each-unspilt}
 use Rattle.qp_unique.proofs.SideLemmas.{kernel-read, unspilt-zero, course-of, unmarked-of, comes-of, counted-of}
 use Rattle.qp_unique.proofs.SideParts.{slot-at, source-of, placed-of, within-of, spent-of, lane-unspilt, each-by, joined-each}
 use Rattle.qp_unique.proofs.Sides.{Side, HasEnded, in_sim, order_of, lane_in}
+use Rattle.qp_model.proofs.NumberLemmas.{every-append}
 
 -- tests of elements
 none-each : {A : Type 0} (p : A → Bool) (xs : List A) → list_any p xs ≡ false → AllByRecursion (λ x. p x ≡ false) xs
@@ -159,7 +160,7 @@ module _ (sys : System) (stimuli : List (List Stim)) (sound : IsSound sys) (foll
             joined-each (λ i. is_end i.body ≡ false) t.others (subst (AllByRecursion (λ l. AllByRecursion (λ i. is_end i.body ≡ false) l)) t.sources_are sources_none) in
             let all : AllByRecursion (λ i. is_end i.body ≡ false) (all_items j.lanes) =
             subst (AllByRecursion (λ i. is_end i.body ≡ false)) (sym (all-split sys stimuli j t))
-            (all-join (λ i. is_end i.body ≡ false) (lane_items t.first) (all_items t.others) (subst (AllByRecursion (λ i. is_end i.body ≡ false)) (lane0-is sys stimuli j t) zero_none) others) in
+            (every-append (λ i. is_end i.body ≡ false) (lane_items t.first) (all_items t.others) (subst (AllByRecursion (λ i. is_end i.body ≡ false)) (lane0-is sys stimuli j t) zero_none) others) in
             absurd (cut-end (all_items j.lanes) j.end law.end.stated cut (each-none (λ i. is_end i.body) (all_items j.lanes) all))
 
 any-find : {A : Type 0} (p : A → Bool) (xs : List A) → list_any p xs ≡ true → (front : List A) × (x : A) × (back : List A) × (xs ≡ front ++ x ∷ back) × (p x ≡ true)

@@ -8,33 +8,29 @@ use Rattle.std.proofs.lemmas.Bool.Decides.{nat_tests}
 use Rattle.qp_chart.specs.StateTree.{has}
 use Rattle.qp_model.specs.declared.record.Rec.{Rec}
 use Rattle.qp_model.specs.declared.systems.System.{System}
-use Rattle.qp_model.specs.declared.words.Word.{Word}
 use Rattle.qp_model.specs.declared.words.Word.TheVariants as word
 use Rattle.qp_model.specs.declared.bodies.Body.{Body}
 use Rattle.qp_model.specs.declared.bodies.Body.TheVariants.{New, Back, Inc, Dec}
-use Rattle.qp_model.specs.Record.{Item, item_of}
+use Rattle.qp_model.specs.Record.{Item}
 use Rattle.qp_model.specs.Lists.{count_up, without_one, without_all, with_number, is_first}
-use Rattle.qp_model.specs.History.{total, hist, lane_items, all_items}
+use Rattle.qp_model.specs.History.{hist, lane_items, all_items}
 use Rattle.qp_model.specs.FreeBlocks.{Pool, pool_next, pool_may, free_blocks}
 use Rattle.qp_model.specs.References.{Refs, refs_next, refs_may, references}
 use Rattle.qp_model.specs.Line.{Line, line}
 use Rattle.qp_model.specs.Sites.{ring_of, blocks_of}
 use Rattle.qp_model.specs.WordLaw.{is_pool, is_block, is_object}
-use Rattle.qp_model.proofs.HistoryLemmas.{length-hist}
+use Rattle.qp_model.proofs.HistoryLemmas.{length-hist, total-length}
 use Rattle.qp_model.proofs.MachineLemmas.{after-keeps, count-after}
 use Rattle.qp_model.proofs.LineLemmas.{line_is, IsLine, line-counts}
 use Rattle.qp_model.proofs.WordLawLemmas.{free_blocks-counts, references-counts}
 use Rattle.qp_words.specs.Counting.{Each, many}
 use Rattle.qp_words.specs.Now.{Now, Leaves}
 use Rattle.qp_words.specs.Rule.{bits_value}
+use Rattle.qp_model.proofs.RecordLemmas.{lane-length}
 
 length-map : (f : Rec → Item) (xs : List Rec) → length (map f xs) ≡ length xs
 length-map f [] = refl
 length-map f (x ∷ xs) = ap suc (length-map f xs)
-
-lane-length : (lane : List Rec) → length (lane_items lane) ≡ length lane
-unfolding lane_items
-lane-length lane = length-map item_of lane
 
 all-length : (m : ℕ) (lanes : List (List Rec)) → Each (λ (l : List Rec). length l ≤ m) lanes → length (all_items lanes) ≤ m * length lanes
 unfolding all_items
@@ -48,10 +44,6 @@ filter-length {X} p (x ∷ xs) = go (p x) (filter-length p xs)
     go : (b : Bool) → length (filter p xs) ≤ length xs → length (cond b (x ∷ filter p xs) (filter p xs)) ≤ suc (length xs)
     go true h = omega arith
     go false h = omega arith
-
-total-length : (w : Word) (items : List Item) → total w items ≤ length items
-unfolding total
-total-length w items = filter-length _ items
 
 -- ascending from lo, below n
 abbrev pub Ascends : ℕ → ℕ → List ℕ → Type 0

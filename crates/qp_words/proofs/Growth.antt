@@ -1,5 +1,6 @@
 -- How the histories of words grow with a record, and what lasts: what words were, and the events of lives.
 use Rattle.std.proofs.Common.{◌≡◌, ℕ, suc, ◌+◌, ◌==◌, ◌<◌, ◌≤◌, ◌≢◌, ◌⊎◌, nat_le, Bool, true, false, ◌&&◌, cond, List, [], ◌∷◌, ◌++◌, length, take, get_or, refl, sym, ap, subst, ◌∙◌, inl, inr, ⊎_elim, arith, eqb-true, IsTrue, Option, Some, None, take_all, length-append}
+use Rattle.std.proofs.lemmas.Bool.{ne_eqb}
 use Rattle.std.proofs.lemmas.List.{take-append-le}
 use Rattle.std.proofs.lemmas.Bool.Decides.{nat_tests}
 use mathlib.Core.Logic.{dite}
@@ -28,9 +29,10 @@ use Rattle.qp_words.specs.Now.{Now, at_two, with_refs, with_line, content_by, co
 use Rattle.qp_words.specs.Rule.{pool_at, block_at, queue_at, mark_in, pool_value, refs_value, line_value, Was, Past, event_in, IsKnown, Holds}
 use Rattle.qp_words.specs.declared.Content.{Content}
 use Rattle.qp_words.specs.declared.View.{View}
-use Rattle.qp_words.proofs.Growing.{apart, two-else, two-each}
+use Rattle.qp_words.proofs.Growing.{two-else, two-each}
 use Rattle.qp_words.proofs.Tokens.{each-two}
 use Rattle.qp_words.proofs.Marks.{pool-mark, block-mark, queue-mark}
+use Rattle.qp_model.proofs.KnowingLemmas.{last_given-append}
 
 -- the history stays, or has the item at its end
 abbrev pub Longer : Item → List Item → List Item → Type 0
@@ -43,11 +45,6 @@ pub record Grows (sys : System) (old new : List (List Rec)) (now next : Now) (i 
   pub line : (a : ℕ) → IsTrue (is_object sys a) → Longer i (hist (word.Queue a) (all_items old)) (hist (word.Queue a) (all_items new))
   pub counts : (p b : ℕ) → (now.refs p b).count ≤ (next.refs p b).count
   pub given : (p b k : ℕ) → IsTrue (is_block sys p b) → k < (now.refs p b).count → last_given b k None (hist (word.Pool p) (all_items new)) ≡ last_given b k None (hist (word.Pool p) (all_items old))
-
-last-append : (b k : ℕ) (e : Option Event) (xs : List Item) (i : Item) → last_given b k e (xs ++ i ∷ []) ≡ given_by b k (last_given b k e xs) i.body
-unfolding last_given
-last-append b k e [] i = refl
-last-append b k e (x ∷ xs) i = last-append b k (given_by b k e x.body) xs i
 
 module _ (sys : System) (before : List (List Rec)) (lane : List Rec) (behind : List (List Rec)) (now : Now) (leaves : Leaves sys (before ++ lane ∷ behind) now) (r : Rec) (i : Item) (is : item_of r ≡ i) where
   abbrev old : List (List Rec)
@@ -86,8 +83,8 @@ module _ (sys : System) (before : List (List Rec)) (lane : List Rec) (behind : L
       and-false false = refl
 
       off-block : (p b q c : ℕ) → (q ≢ p) ⊎ (c ≢ b) → ((p == q) && (b == c)) ≡ false
-      off-block p b q c (inl n) = rw (apart p q (λ e. n (sym e))) refl
-      off-block p b q c (inr n) = rw (apart b c (λ e. n (sym e)), and-false (p == q)) refl
+      off-block p b q c (inl n) = rw (ne_eqb p q (λ e. n (sym e))) refl
+      off-block p b q c (inr n) = rw (ne_eqb b c (λ e. n (sym e)), and-false (p == q)) refl
 
   pub grows-pool : (p : ℕ) (next : Now) → IsTrue (is_pool sys p) → touch i ≡ Draws (word.Pool p) (suc (now.pool p).count) → ((q c : ℕ) → (now.refs q c).count ≤ (next.refs q c).count)
       → ((c k : ℕ) (e : Option Event) → k < (now.refs p c).count → given_by c k e i.body ≡ e) → Grows sys old grown now next i
@@ -98,7 +95,7 @@ module _ (sys : System) (before : List (List Rec)) (lane : List Rec) (behind : L
     counts = more;
     given = λ q c k h l. dite (ℕ_discrete q p)
         (λ e. subst (λ z. k < (now.refs z c).count → last_given c k None (hist (word.Pool z) (all_items grown)) ≡ last_given c k None (hist (word.Pool z) (all_items old))) (sym e)
-        (λ l. ap (last_given c k None) longer ∙ (last-append c k None (hist (word.Pool p) (all_items old)) i ∙ still c k (last_given c k None (hist (word.Pool p) (all_items old))) l)) l)
+        (λ l. ap (last_given c k None) longer ∙ (last_given-append c k None (hist (word.Pool p) (all_items old)) i ∙ still c k (last_given c k None (hist (word.Pool p) (all_items old))) l)) l)
         (λ ne. ap (last_given c k None) (other q ne));
   }
     where
@@ -107,14 +104,14 @@ module _ (sys : System) (before : List (List Rec)) (lane : List Rec) (behind : L
           (rw (on, same_number p, same_number (suc (now.pool p).count)) refl)
 
       other : (q : ℕ) → q ≢ p → hist (word.Pool q) (all_items grown) ≡ hist (word.Pool q) (all_items old)
-      other q ne = stays (word.Pool q) (ap (drawn_on (word.Pool q)) on ∙ apart p q (λ z. ne (sym z)))
+      other q ne = stays (word.Pool q) (ap (drawn_on (word.Pool q)) on ∙ ne_eqb p q (λ z. ne (sym z)))
 
   pub grows-queue : (a n : ℕ) (s : Line) → IsTrue (is_object sys a) → touch i ≡ Draws (word.Queue a) n → n ≡ suc ((now.line a).f + (now.line a).l + (now.line a).m) → Grows sys old grown now (with_line now a s) i
   grows-queue a n s object on number = record {
     pool = λ q h. inl (stays (word.Pool q) (ap (drawn_on (word.Pool q)) on));
     refs = λ q c h. inl (stays (word.Block q c) (ap (drawn_on (word.Block q c)) on));
     line = λ d h. dite (ℕ_discrete d a) (λ e. subst (λ z. Longer i (hist (word.Queue z) (all_items old)) (hist (word.Queue z) (all_items grown))) (sym e) (inr longer))
-        (λ ne. inl (stays (word.Queue d) (ap (drawn_on (word.Queue d)) on ∙ apart a d (λ z. ne (sym z)))));
+        (λ ne. inl (stays (word.Queue d) (ap (drawn_on (word.Queue d)) on ∙ ne_eqb a d (λ z. ne (sym z)))));
     counts = λ p b. omega arith;
     given = λ q c k h l. ap (last_given c k None) (stays (word.Pool q) (ap (drawn_on (word.Pool q)) on));
   }

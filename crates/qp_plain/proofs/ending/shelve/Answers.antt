@@ -1,4 +1,4 @@
-use Rattle.std.proofs.Common.{◌≡◌, ◌+◌, ◌<◌, ◌≤◌, ◌∷◌, [], ◌++◌, ℕ, List, map, length, refl, sym, ap, ◌∙◌, append_assoc, append-nil, length-append, arith}
+use Rattle.std.proofs.Common.{◌≡◌, ◌+◌, ◌<◌, ◌≤◌, ◌∷◌, [], ◌++◌, ℕ, List, map, length, sym, ap, ◌∙◌, append_assoc, append-nil, length-append, arith}
 use Rattle.std.specs.Vec.{vec_capacity}
 use Rattle.std.specs.Vec.Iter.{into_iter_items}
 use Rattle.std.proofs.lemmas.List.{map-append, length-map}
@@ -6,10 +6,7 @@ use Rattle.qp_model.specs.declared.record.Rec.{Rec}
 use Rattle.qp_plain.specs.declared.log.Log.{Log}
 use Rattle.qp_plain.specs.Books.{recs_of}
 use Rattle.qp_plain.proofs.ending.shelve.Goals as goal
-
-nothing-left : {X : Type 0} (xs : List X) → length xs ≡ 0 → xs ≡ []
-nothing-left [] h = refl
-nothing-left (x ∷ xs) h = absurd (omega arith)
+use Rattle.qp_model.proofs.ListLemmas.{nothing-left}
 
 -- one more lane
 one-more : (front : List (List Rec)) (gs : List Log) (g : Log) (now new : List (List Rec)) → now ≡ front ++ map recs_of gs → new ≡ now ++ recs_of g ∷ []

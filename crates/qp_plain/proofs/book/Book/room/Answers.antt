@@ -2,14 +2,15 @@ use Rattle.std.proofs.Common.{refl, ap, arith}
 use Rattle.qp_model.specs.History.{lane_items}
 use Rattle.qp_plain.specs.Lane.{spill_place}
 use Rattle.qp_plain.proofs.BookLemmas.{places-change, lists-same}
-use Rattle.qp_plain.proofs.LogLemmas.{length-kinds, length-items}
+use Rattle.qp_plain.proofs.LogLemmas.{length-kinds}
 use Rattle.qp_plain.proofs.book.Book.room.Goals as goal
+use Rattle.qp_model.proofs.RecordLemmas.{lane-length}
 
 pub overflow_cast-result : goal.overflow_cast-result
 overflow_cast-result c =
     let g = c.args.self.now.here in
     let all = length-kinds (lane_items g.recs.items) in
-    let long = length-items g.recs.items in
+    let long = lane-length g.recs.items in
     let len = g.recs.ok in
     record { fits = omega (arith, all, long, g.few, g.spills, c.len-len.ensures, len.0) }
 

@@ -13,19 +13,19 @@ use Rattle.qp_sound.specs.Log.{lane_of}
 use Rattle.qp_sound.specs.Sound.{facts_in}
 use Rattle.qp_plain.specs.Book.{Keeps, IsRoomFault}
 use Rattle.qp_plain.specs.LaneLaws.{lane-here, told-length}
-use Rattle.qp_plain.proofs.LogLemmas.{length-items}
 use Rattle.qp_calls.specs.declared.answers.RoomFault.{RoomFault}
 use Rattle.qp_calls.specs.declared.answers.RoomFault.TheVariants as fault
 use Rattle.qp_calls.specs.Clauses.{Faults}
 use Rattle.std.specs.Result.{IfErr, OnErr, OnOk}
 use Rattle.std.specs.declared.result.Result.{Result}
 use Rattle.qp_plain.proofs.calls.PlainWorldOps.room.Goals as goal
+use Rattle.qp_model.proofs.RecordLemmas.{lane-length}
 
 told-here : (w : PlainWorld) → length (world_view w).told ≡ length w.book.here.recs.items
 unfolding view_of
 told-here w =
     told-length (facts_in w.sys.now (lists_of w.book)) 0 (lane_items (lane_of (lists_of w.book) w.book.at))
-    ∙ length-items (lane_of (lists_of w.book) w.book.at) ∙ ap (λ (l : List Rec). length l) (lane-here w.book.others.items w.book.at w.book.here w.book.within)
+    ∙ lane-length (lane_of (lists_of w.book) w.book.at) ∙ ap (λ (l : List Rec). length l) (lane-here w.book.others.items w.book.at w.book.here w.book.within)
 
 moved : (w : PlainWorld) (b : Book) → Keeps w.book b → WorldHolds w.sys.now (lists_of b) b.order.items w.pools.items w.blocks.items w.cells.items w.queues.items w.signals.items w.timers.items
 moved w b keeps =

@@ -4,8 +4,9 @@ use Rattle.qp_model.specs.declared.record.Rec.{Rec}
 use Rattle.qp_model.specs.History.{lane_items}
 use Rattle.qp_calls.specs.LaneView.{NotShown}
 use Rattle.qp_plain.specs.Lane.{is_caused_in, last_nil_in, nil_of, spill_place}
-use Rattle.qp_plain.proofs.LogLemmas.{regular, spills, length-kinds, length-items}
+use Rattle.qp_plain.proofs.LogLemmas.{regular, spills, length-kinds}
 use Rattle.qp_plain.proofs.log.Log.make_room.Goals as goal
+use Rattle.qp_model.proofs.RecordLemmas.{lane-length}
 
 place-le : (b : Bool) → spill_place b ≤ 1
 place-le true = omega arith
@@ -16,7 +17,7 @@ invariant_of-self-2 c =
     let s = c.args.self.now in
     let is = c.in-Ok.ensures.items in
     let all = length-kinds (lane_items s.recs.items) in
-    let long = length-items s.recs.items in
+    let long = lane-length s.recs.items in
     let place = place-le s.spilled in
     record {
       roomy = omega (arith, place, c.in-Ok.ensures.ok, c.in-Ok.ensures.len);
