@@ -163,12 +163,17 @@ each-stop read place front i ts d f h refused =
     ap (with_front front) (each-first read place i ts d h ∙ each-Err read place (i + 1) (members (get_or ts i d)) (map members (drop (i + 1) ts)) f refused)
 
 -- all tables are read
-pub each-last : {A : Type 0} (read : List Part → Members → Result A Fault) (place : List Part) (front : List A) (i : ℕ) (ts : List (Bor Table)) → length ts ≤ i
+each-last : {A : Type 0} (read : List Part → Members → Result A Fault) (place : List Part) (front : List A) (i : ℕ) (ts : List (Bor Table)) → length ts ≤ i
     → with_front front (each read place (i + 1) (map members (drop i ts))) ≡ Ok front
 each-last read place front i ts h =
     ap (λ (l : List (Bor Table)). with_front front (each read place (i + 1) (map members l))) (drop_all i ts h)
     ∙ ap (with_front front) (each-end read place (i + 1))
     ∙ with_front-end front
+
+-- so what was read is the whole
+pub each-whole : {A : Type 0} (read : List Part → Members → Result A Fault) (place : List Part) (front : List A) (i : ℕ) (ts : List (Bor Table)) (whole : Result (List A) Fault)
+    → length ts ≤ i → with_front front (each read place (i + 1) (map members (drop i ts))) ≡ whole → whole ≡ Ok front
+each-whole read place front i ts whole h invariant = sym invariant ∙ each-last read place front i ts h
 
 -- a table that the program refuses
 pub each-refused : {A : Type 0} (read : List Part → Members → Result A Fault) (place : List Part) (front : List A) (i : ℕ) (ts : List (Bor Table)) (table : Bor Table)

@@ -2,6 +2,7 @@
 #![tactic(auto)]
 
 mod document;
+mod entries;
 mod fault;
 mod lists;
 mod name;

@@ -1,13 +1,13 @@
 //! Names, texts and action lists at keys.
 
-ghost use Rattle.std.specs.Prelude.{◌≡◌, ◌≤◌, ◌∷◌, ◌++◌, [], length, map, IfOk};
+ghost use Rattle.std.specs.Prelude.{◌≡◌, ◌≤◌, ◌∷◌, ◌++◌, [], length, map, Some, IfOk};
 ghost use Rattle.std.specs.Option.{option_map};
 ghost use Rattle.toml.specs.Data.{as_str};
 ghost use Rattle.toml.specs.View.{view, items_view, table_view};
 ghost use Rattle.qp_names.specs.declared.place.Part.TheVariants.{Key};
 ghost use Rattle.qp_document.specs.Refused.{Gives};
 ghost use Rattle.qp_document.specs.Tree.{needed, defaulted, optional};
-ghost use Rattle.qp_document.specs.Values.{allowed, name_of, text_of, all_of_kind, short_texts, texts_of};
+ghost use Rattle.qp_document.specs.Values.{allowed, name_of, text_of, all_of_kind, items_of_kind, short_texts, some_texts, texts_of};
 
 use crate::fault::SystemFault;
 use crate::name::is_allowed;
@@ -121,18 +121,36 @@ fn copies(alloc: Global, place: KeyPlace, texts: &[&str]) -> Result<Texts, Syste
     Ok(Texts { items })
 }
 
+/// The texts of a value, or nothing where it is no list of texts.
+#[tactic(auto, unfolding(crate::specs::Values::items_of_kind))]
+fn strings_in(alloc: Global, value: &Value) -> Result<Option<Vec<&str>>, AllocError>
+    ensures { IfOk result (λ r. option_map (λ v. map (λ s. s.now) v.items) r ≡ items_of_kind as_str (view value.now)) }
+{
+    match value.as_array() {
+        None => Ok(None),
+        Some(items) => strings(alloc, items),
+    }
+}
+
+/// Copies of at most 16 texts.
+fn few_copies(alloc: Global, place: KeyPlace, texts: &[&str]) -> Result<Texts, SystemFault>
+    ensures { Gives (λ t. t) result (some_texts (place.entry.at.now ++ Key place.entry.key ∷ []) (Some (map (λ s. s.now) texts.now))) }
+{
+    if texts.len() > 16 {
+        Err(place.refuse(code::TOO_MANY))
+    } else {
+        copies(alloc, place, texts)
+    }
+}
+
 /// An action list.
-#[tactic(auto, unfolding(crate::specs::Values::texts_of, crate::specs::Values::items_of_kind))]
+#[tactic(auto, unfolding(crate::specs::Values::texts_of))]
 fn texts(alloc: Global, place: KeyPlace, value: &Value) -> Result<Texts, SystemFault>
     ensures { Gives (λ t. t) result (texts_of (place.entry.at.now ++ Key place.entry.key ∷ []) (view value.now)) }
 {
-    let Some(items) = value.as_array() else {
-        return Err(place.refuse(code::WRONG_KIND));
-    };
-    match strings(alloc, items)? {
+    match strings_in(alloc, value)? {
         None => Err(place.refuse(code::WRONG_KIND)),
-        Some(texts) if texts.len() > 16 => Err(place.refuse(code::TOO_MANY)),
-        Some(texts) => copies(alloc, place, &texts),
+        Some(texts) => few_copies(alloc, place, &texts),
     }
 }
 

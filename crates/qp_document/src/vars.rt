@@ -1,12 +1,13 @@
 //! Variables and their first values.
 
-ghost use Rattle.std.specs.Prelude.{◌≡◌, ◌∷◌, ◌++◌, [], map, IfOk};
-ghost use Rattle.std.specs.Option.{option_map};
+ghost use Rattle.std.specs.Prelude.{◌≡◌, ◌∷◌, ◌++◌, [], map, Some, IfOk};
+ghost use Rattle.std.specs.Option.{option_and_then, option_map};
+ghost use Rattle.toml.specs.Data.{as_table};
 ghost use Rattle.toml.specs.View.{view, table_view};
 ghost use Rattle.qp_names.specs.declared.place.Part.TheVariants.{Key};
 ghost use Rattle.qp_document.specs.Refused.{Gives};
 ghost use Rattle.qp_document.specs.Tree.{defaulted};
-ghost use Rattle.qp_document.specs.Values.{all_integers, is_above, named_vars, vars_of};
+ghost use Rattle.qp_document.specs.Values.{all_integers, is_above, named_vars, some_vars, vars_of};
 ghost use Rattle.qp_document.specs.Views.{vars_view};
 
 use crate::fault::SystemFault;
@@ -52,6 +53,34 @@ fn is_more(most: Option<usize>, count: usize) -> bool
     }
 }
 
+/// The integers of a value, or nothing where it is no table of integers.
+fn integers_in(alloc: Global, value: &Value) -> Result<Option<Vec<(&str, i64)>>, AllocError>
+    ensures { IfOk result (λ r. option_map (λ v. map (λ x. (x.0.now, x.1)) v.items) r
+        ≡ option_and_then (λ members. all_integers members) (as_table (view value.now))) }
+{
+    match value.as_table() {
+        None => Ok(None),
+        Some(table) => integers(alloc, table),
+    }
+}
+
+/// Variables, each of whose keys has to be a name, at most so many where there is a limit.
+fn few_named(
+    alloc: Global,
+    place: KeyPlace,
+    most: Option<usize>,
+    vars: &[(&str, i64)],
+) -> Result<Vars, SystemFault>
+    ensures { Gives vars_view result (some_vars most (place.entry.at.now ++ Key place.entry.key ∷ [])
+        (Some (map (λ x. (x.0.now, x.1)) vars.now))) }
+{
+    if is_more(most, vars.len()) {
+        Err(place.refuse(code::TOO_MANY))
+    } else {
+        named(alloc, place, vars)
+    }
+}
+
 /// Variables, at most so many where there is a limit.
 #[tactic(auto, unfolding(crate::specs::Values::vars_of))]
 fn vars(
@@ -62,13 +91,9 @@ fn vars(
 ) -> Result<Vars, SystemFault>
     ensures { Gives vars_view result (vars_of most (place.entry.at.now ++ Key place.entry.key ∷ []) (view value.now)) }
 {
-    let Some(table) = value.as_table() else {
-        return Err(place.refuse(code::WRONG_KIND));
-    };
-    match integers(alloc, table)? {
+    match integers_in(alloc, value)? {
         None => Err(place.refuse(code::WRONG_KIND)),
-        Some(vars) if is_more(most, vars.len()) => Err(place.refuse(code::TOO_MANY)),
-        Some(vars) => named(alloc, place, &vars),
+        Some(vars) => few_named(alloc, place, most, &vars),
     }
 }
 
