@@ -1,11 +1,13 @@
 -- Commands as `clap` reads them, and what it finds.
-use Rattle.std.proofs.Common.{◌≡◌, ◌∙◌, ap, ap₂, refl, sym, List, [], ◌∷◌, Bool, ◌&&◌, true, false, None, Some}
+use Rattle.std.proofs.Common.{◌≡◌, ◌∙◌, ap, ap₂, refl, sym, List, [], ◌∷◌, Bool, ◌&&◌, true, false, Option, None, Some, codes, option_and_then, option_map}
 use Rattle.clap.specs.Words.{AddsArg, App, HasMatchesOf, IsAmong, Kinds, Row, Rule, Text, app_of, fault_of, found_of, is_simple, is_simple_and_free, matches_of, rows_of, rule_of, with_rule}
 use Rattle.clap.specs.declared.builder.arg.Arg.{Arg}
 use Rattle.clap.specs.declared.builder.command.Command.{Command}
 use Rattle.clap.specs.declared.error.kind.ErrorKind.{ErrorKind}
 use Rattle.clap.specs.declared.parser.matches.ArgMatches.{ArgMatches}
-use Rattle.qp_commands.specs.WordTable.{decode_app, files_app, found_in, generate_app, migrate_app, rows_unless, run_app}
+use Rattle.qp_commands.specs.declared.apps.Word.{Word}
+use Rattle.qp_commands.specs.declared.apps.Word.TheVariants as named
+use Rattle.qp_commands.specs.WordTable.{Asked, CheckWords, app_under, asked_under, check, decode_app, files_app, files_in, found_in, generate_app, migrate_app, read_under, replay, rows_unless, run_app}
 
 -- a command with one argument more
 pub app-arg : (old new : Command) (a : Arg) (app : App) (rule : Rule) → AddsArg old a new → a.global ≡ false
@@ -54,3 +56,25 @@ files-simple word = refl
 pub generate-simple : is_simple_and_free generate_app ≡ true
 unfolding generate_app
 generate-simple = refl
+
+pub under-simple : (word : Word) → is_simple_and_free (app_under word) ≡ true
+under-simple named.Run = run-simple
+under-simple named.Decode = decode-simple
+under-simple named.Migrate = migrate-simple
+under-simple named.Check = files-simple (codes "check")
+under-simple named.Replay = files-simple (codes "replay")
+under-simple named.Generate = generate-simple
+
+map-then : (make : CheckWords → Asked) (found : Option (List Row))
+    → option_and_then (λ rows. option_map make (files_in rows)) found ≡ option_map make (option_and_then files_in found)
+map-then make None = refl
+map-then make (Some rows) = refl
+
+-- what words ask for under a command word, by what `clap` finds
+pub under-asked : (word : Word) (words : List Text) → option_and_then (read_under word) (found_in (app_under word) words) ≡ asked_under word words
+under-asked named.Run words = refl
+under-asked named.Decode words = refl
+under-asked named.Migrate words = refl
+under-asked named.Check words = map-then check (found_in (files_app (codes "check")) words)
+under-asked named.Replay words = map-then replay (found_in (files_app (codes "replay")) words)
+under-asked named.Generate words = refl

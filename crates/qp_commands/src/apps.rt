@@ -1,11 +1,22 @@
 //! The commands that `clap` reads, one for each command word.
 ghost use Rattle.std.specs.Prelude.{◌≡◌, [], true, false, option_map, IfOk};
-ghost use Rattle.qp_commands.specs.WordTable.{plain_app, operand, option, decode_app, files_app, found_in, generate_app, migrate_app, run_app, texts};
+ghost use Rattle.qp_commands.specs.WordTable.{plain_app, operand, option, app_under, decode_app, files_app, found_in, generate_app, migrate_app, run_app, texts};
 ghost use Rattle.clap.specs.Words.{app_of, found_of, is_simple_and_free, rows_of, rule_of};
 
 use clap::error::ErrorKind;
 use clap::{Arg, ArgAction, ArgMatches, Command};
 use std::alloc::{AllocError, Global};
+
+/// A command word.
+#[derive(Clone, Copy)]
+pub(crate) enum Word {
+    Run,
+    Decode,
+    Migrate,
+    Check,
+    Replay,
+    Generate,
+}
 
 /// An option with one value, as `--name VALUE`.
 fn option<'w>(alloc: Global, name: &'w str) -> Arg<'w>
@@ -32,7 +43,7 @@ fn plain<'w>(alloc: Global, word: &'w str) -> Command<'w>
         .disable_version_flag(true)
 }
 
-pub(crate) fn run_app<'w>(alloc: Global) -> Result<Command<'w>, AllocError>
+fn run_app<'w>(alloc: Global) -> Result<Command<'w>, AllocError>
     ensures { IfOk result (λ command. app_of command ≡ run_app) }
 {
     plain(alloc, "run")
@@ -44,13 +55,13 @@ pub(crate) fn run_app<'w>(alloc: Global) -> Result<Command<'w>, AllocError>
         .arg(operand(alloc, "stimuli"))
 }
 
-pub(crate) fn decode_app<'w>(alloc: Global) -> Result<Command<'w>, AllocError>
+fn decode_app<'w>(alloc: Global) -> Result<Command<'w>, AllocError>
     ensures { IfOk result (λ command. app_of command ≡ decode_app) }
 {
     plain(alloc, "decode").arg(operand(alloc, "frames"))
 }
 
-pub(crate) fn migrate_app<'w>(alloc: Global) -> Result<Command<'w>, AllocError>
+fn migrate_app<'w>(alloc: Global) -> Result<Command<'w>, AllocError>
     ensures { IfOk result (λ command. app_of command ≡ migrate_app) }
 {
     plain(alloc, "migrate")
@@ -60,7 +71,7 @@ pub(crate) fn migrate_app<'w>(alloc: Global) -> Result<Command<'w>, AllocError>
 }
 
 /// A command of a system, its stimuli and a journal.
-pub(crate) fn files_app<'w>(alloc: Global, word: &'w str) -> Result<Command<'w>, AllocError>
+fn files_app<'w>(alloc: Global, word: &'w str) -> Result<Command<'w>, AllocError>
     ensures { IfOk result (λ command. app_of command ≡ files_app word.entry.now) }
 {
     plain(alloc, word)
@@ -69,10 +80,24 @@ pub(crate) fn files_app<'w>(alloc: Global, word: &'w str) -> Result<Command<'w>,
         .arg(operand(alloc, "journal"))
 }
 
-pub(crate) fn generate_app<'w>(alloc: Global) -> Result<Command<'w>, AllocError>
+fn generate_app<'w>(alloc: Global) -> Result<Command<'w>, AllocError>
     ensures { IfOk result (λ command. app_of command ≡ generate_app) }
 {
     plain(alloc, "gen").arg(operand(alloc, "number"))
+}
+
+/// The command of a word.
+pub(crate) fn app<'w>(alloc: Global, word: Word) -> Result<Command<'w>, AllocError>
+    ensures { IfOk result (λ command. app_of command ≡ app_under word) }
+{
+    match word {
+        Word::Run => run_app(alloc),
+        Word::Decode => decode_app(alloc),
+        Word::Migrate => migrate_app(alloc),
+        Word::Check => files_app(alloc, "check"),
+        Word::Replay => files_app(alloc, "replay"),
+        Word::Generate => generate_app(alloc),
+    }
 }
 
 /// What the command finds in the words, of which the first is its own; None where it refuses them.

@@ -1,9 +1,9 @@
 //! What a call asks for: its command word, and what `clap` reads of the rest.
-ghost use Rattle.std.specs.Prelude.{◌≡◌, option_and_then, option_map, IfOk};
-ghost use Rattle.qp_commands.specs.WordTable.{asked_of, check_asked, check_words, command_in, decode_asked, decode_in, files_app, files_in, found_in, generate_asked, generate_in, migrate_asked, migrate_in, operand_at, replay_asked, run_asked, run_in, texts};
+ghost use Rattle.std.specs.Prelude.{◌≡◌, option_map, IfOk};
+ghost use Rattle.qp_commands.specs.WordTable.{asked_of, asked_under, check_in, check_words, command_in, decode_in, files_in, generate_in, migrate_in, operand_at, read_under, replay_in, run_in, texts};
 ghost use Rattle.clap.specs.Words.{found_of, rows_of};
 
-use crate::apps::{decode_app, files_app, generate_app, matches_in, migrate_app, run_app};
+use crate::apps::{Word, app, matches_in};
 use crate::values::{
     Form, Kernel, Kind, Output, budget_of, form_of, form_under, kernel_of, kind_of, made_of,
     output_of,
@@ -122,6 +122,32 @@ fn files_found<'w>(found: &ArgMatches<'w>) -> Option<Files<'w>>
     })
 }
 
+fn check_found<'w>(found: &ArgMatches<'w>) -> Option<Command<'w>>
+    ensures { option_map asked_of result ≡ check_in (rows_of (found_of found.now)) }
+{
+    match files_found(found) {
+        Some(files) => Some(Command::Check {
+            system: files.system,
+            stimuli: files.stimuli,
+            journal: files.journal,
+        }),
+        None => None,
+    }
+}
+
+fn replay_found<'w>(found: &ArgMatches<'w>) -> Option<Command<'w>>
+    ensures { option_map asked_of result ≡ replay_in (rows_of (found_of found.now)) }
+{
+    match files_found(found) {
+        Some(files) => Some(Command::Replay {
+            system: files.system,
+            stimuli: files.stimuli,
+            journal: files.journal,
+        }),
+        None => None,
+    }
+}
+
 fn generate_found<'w>(found: &ArgMatches<'w>) -> Option<Command<'w>>
     ensures { option_map asked_of result ≡ generate_in (rows_of (found_of found.now)) }
 {
@@ -130,79 +156,30 @@ fn generate_found<'w>(found: &ArgMatches<'w>) -> Option<Command<'w>>
     })
 }
 
-fn run_of<'w>(alloc: Global, words: &'w [&'w str]) -> Result<Option<Command<'w>>, AllocError>
-    ensures { IfOk result (λ found. option_map asked_of found ≡ run_asked (texts words.entry.now)) }
+/// What was found under this command word.
+fn command_found<'w>(word: Word, found: &ArgMatches<'w>) -> Option<Command<'w>>
+    ensures { option_map asked_of result ≡ read_under word (rows_of (found_of found.now)) }
 {
-    match matches_in(run_app(alloc)?, words)? {
-        Some(found) => Ok(run_found(&found)),
-        None => Ok(None),
+    match word {
+        Word::Run => run_found(found),
+        Word::Decode => decode_found(found),
+        Word::Migrate => migrate_found(found),
+        Word::Check => check_found(found),
+        Word::Replay => replay_found(found),
+        Word::Generate => generate_found(found),
     }
 }
 
-fn decode_of<'w>(alloc: Global, words: &'w [&'w str]) -> Result<Option<Command<'w>>, AllocError>
-    ensures { IfOk result (λ found. option_map asked_of found ≡ decode_asked (texts words.entry.now)) }
-{
-    match matches_in(decode_app(alloc)?, words)? {
-        Some(found) => Ok(decode_found(&found)),
-        None => Ok(None),
-    }
-}
-
-fn migrate_of<'w>(alloc: Global, words: &'w [&'w str]) -> Result<Option<Command<'w>>, AllocError>
-    ensures { IfOk result (λ found. option_map asked_of found ≡ migrate_asked (texts words.entry.now)) }
-{
-    match matches_in(migrate_app(alloc)?, words)? {
-        Some(found) => Ok(migrate_found(&found)),
-        None => Ok(None),
-    }
-}
-
-/// The three files of the command with this word.
-fn files_of<'w>(
+/// What the words ask for, of which the first is this command word; None where they are refused.
+fn asked<'w>(
     alloc: Global,
-    word: &'w str,
+    word: Word,
     words: &'w [&'w str],
-) -> Result<Option<Files<'w>>, AllocError>
-    ensures { IfOk result (λ files. option_map (λ f. check_words f.system.now f.stimuli.now f.journal.now) files
-        ≡ option_and_then files_in (found_in (files_app word.entry.now) (texts words.entry.now))) }
+) -> Result<Option<Command<'w>>, AllocError>
+    ensures { IfOk result (λ found. option_map asked_of found ≡ asked_under word (texts words.entry.now)) }
 {
-    match matches_in(files_app(alloc, word)?, words)? {
-        Some(found) => Ok(files_found(&found)),
-        None => Ok(None),
-    }
-}
-
-fn check_of<'w>(alloc: Global, words: &'w [&'w str]) -> Result<Option<Command<'w>>, AllocError>
-    ensures { IfOk result (λ found. option_map asked_of found ≡ check_asked (texts words.entry.now)) }
-{
-    match files_of(alloc, "check", words)? {
-        Some(files) => Ok(Some(Command::Check {
-            system: files.system,
-            stimuli: files.stimuli,
-            journal: files.journal,
-        })),
-        None => Ok(None),
-    }
-}
-
-fn replay_of<'w>(alloc: Global, words: &'w [&'w str]) -> Result<Option<Command<'w>>, AllocError>
-    ensures { IfOk result (λ found. option_map asked_of found ≡ replay_asked (texts words.entry.now)) }
-{
-    match files_of(alloc, "replay", words)? {
-        Some(files) => Ok(Some(Command::Replay {
-            system: files.system,
-            stimuli: files.stimuli,
-            journal: files.journal,
-        })),
-        None => Ok(None),
-    }
-}
-
-fn generate_of<'w>(alloc: Global, words: &'w [&'w str]) -> Result<Option<Command<'w>>, AllocError>
-    ensures { IfOk result (λ found. option_map asked_of found ≡ generate_asked (texts words.entry.now)) }
-{
-    match matches_in(generate_app(alloc)?, words)? {
-        Some(found) => Ok(generate_found(&found)),
+    match matches_in(app(alloc, word)?, words)? {
+        Some(found) => Ok(command_found(word, &found)),
         None => Ok(None),
     }
 }
@@ -220,12 +197,12 @@ pub fn command_of<'w>(
         return Ok(None);
     };
     match *word {
-        "run" => run_of(alloc, words),
-        "decode" => decode_of(alloc, words),
-        "migrate" => migrate_of(alloc, words),
-        "check" => check_of(alloc, words),
-        "replay" => replay_of(alloc, words),
-        "gen" => generate_of(alloc, words),
+        "run" => asked(alloc, Word::Run, words),
+        "decode" => asked(alloc, Word::Decode, words),
+        "migrate" => asked(alloc, Word::Migrate, words),
+        "check" => asked(alloc, Word::Check, words),
+        "replay" => asked(alloc, Word::Replay, words),
+        "gen" => asked(alloc, Word::Generate, words),
         _ => Ok(None),
     }
 }

@@ -1,7 +1,0 @@
-use Rattle.std.proofs.Common.{◌∙◌, ap}
-use Rattle.clap.specs.Words.{is_simple_and_free}
-use Rattle.qp_commands.proofs.WordApps.{migrate-simple}
-use Rattle.qp_commands.proofs.asking.migrate_of.Goals as goal
-
-pub matches_in-requires : goal.matches_in-requires
-matches_in-requires c = ap is_simple_and_free c.in_ok-migrate_app.ensures ∙ migrate-simple
