@@ -1,13 +1,16 @@
 -- Commands as `clap` reads them, and what it finds.
-use Rattle.std.proofs.Common.{◌≡◌, ◌∙◌, ap, ap₂, refl, sym, List, [], ◌∷◌, Bool, ◌&&◌, true, false, Option, None, Some, codes, option_and_then, option_map}
+use Rattle.std.proofs.Common.{◌≡◌, ◌∙◌, ℕ, ◌+◌, ◌<◌, ◌≤◌, ap, ap₂, drop, get_or, length, refl, sym, List, [], ◌∷◌, Bool, ◌&&◌, true, false, Option, None, Some, codes, option_and_then, option_map}
+use Rattle.std.proofs.lemmas.List.{at_drop_all, at_drop_more}
 use Rattle.clap.specs.Words.{AddsArg, App, HasMatchesOf, IsAmong, Kinds, Row, Rule, Text, app_of, fault_of, found_of, is_simple, is_simple_and_free, matches_of, rows_of, rule_of, with_rule}
 use Rattle.clap.specs.declared.builder.arg.Arg.{Arg}
 use Rattle.clap.specs.declared.builder.command.Command.{Command}
 use Rattle.clap.specs.declared.error.kind.ErrorKind.{ErrorKind}
 use Rattle.clap.specs.declared.parser.matches.ArgMatches.{ArgMatches}
+use Rattle.qp_commands.specs.declared.apps.Argument.{Argument}
 use Rattle.qp_commands.specs.declared.apps.Word.{Word}
 use Rattle.qp_commands.specs.declared.apps.Word.TheVariants as named
-use Rattle.qp_commands.specs.WordTable.{Asked, CheckWords, app_under, asked_under, check, decode_app, files_app, files_in, found_in, generate_app, migrate_app, read_under, replay, rows_unless, run_app}
+use Rattle.qp_commands.specs.WordTable.{Asked, CheckWords, check, decode_app, files_app, files_in, found_in, generate_app, migrate_app, replay, rows_unless, run_app}
+use Rattle.qp_commands.specs.ByWord.{app_under, asked_under, read_under, rule_under, with_arguments}
 
 -- a command with one argument more
 pub app-arg : (old new : Command) (a : Arg) (app : App) (rule : Rule) → AddsArg old a new → a.global ≡ false
@@ -56,6 +59,18 @@ files-simple word = refl
 pub generate-simple : is_simple_and_free generate_app ≡ true
 unfolding generate_app
 generate-simple = refl
+
+-- a command with arguments added in turn
+pub arguments-next : (arguments : List Argument) (i : ℕ) (default : Argument) (old new : Command) (a : Arg) (app : App) → i < length arguments
+    → AddsArg old a new → a.global ≡ false → rule_of a ≡ rule_under (get_or arguments i default)
+    → with_arguments (app_of old) (drop i arguments) ≡ app → with_arguments (app_of new) (drop (i + 1) arguments) ≡ app
+arguments-next arguments i default old new a app below added local rule so_far =
+    ap (λ longer. with_arguments longer (drop (i + 1) arguments)) (app-arg old new a (app_of old) (rule_under (get_or arguments i default)) added local refl rule)
+    ∙ (sym (at_drop_more (with_arguments (app_of old)) arguments i default below) ∙ so_far)
+
+pub arguments-end : (arguments : List Argument) (i : ℕ) (command : Command) (app : App) → length arguments ≤ i
+    → with_arguments (app_of command) (drop i arguments) ≡ app → app_of command ≡ app
+arguments-end arguments i command app above so_far = sym (at_drop_all (with_arguments (app_of command)) arguments i above) ∙ so_far
 
 pub under-simple : (word : Word) → is_simple_and_free (app_under word) ≡ true
 under-simple named.Run = run-simple

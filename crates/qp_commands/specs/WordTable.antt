@@ -6,8 +6,6 @@ use Rattle.clap.specs.Words.{App, Kinds, Row, Rule, Text, fault_of, first_of, ma
 use Rattle.clap.specs.Simple.{new_shape}
 use Rattle.clap.specs.declared.builder.action.ArgAction.TheVariants.{Set}
 use Rattle.qp_text.specs.Numbers.{number_of}
-use Rattle.qp_commands.specs.declared.apps.Word.{Word}
-use Rattle.qp_commands.specs.declared.apps.Word.TheVariants as named
 use Rattle.qp_commands.specs.declared.asking.Command.{Command}
 use Rattle.qp_commands.specs.declared.asking.Command.TheVariants.{Run, Decode, Migrate, Check, Replay, Generate}
 use Rattle.qp_commands.specs.declared.values.Kernel.{Kernel}
@@ -239,13 +237,6 @@ generate_with None = None
 abbrev pub generate_in : List Row → Option Asked
 generate_in rows = generate_with (made_in (first_of (codes "number") rows))
 
--- what the rows of `check` and of `replay` ask for
-abbrev pub check_in : List Row → Option Asked
-check_in rows = option_map check (files_in rows)
-
-abbrev pub replay_in : List Row → Option Asked
-replay_in rows = option_map replay (files_in rows)
-
 -- what the words ask for, by their command word
 abbrev pub run_asked : List Text → Option Asked
 run_asked words = option_and_then run_in (found_in run_app words)
@@ -264,32 +255,6 @@ replay_asked words = option_map replay (option_and_then files_in (found_in (file
 
 abbrev pub generate_asked : List Text → Option Asked
 generate_asked words = option_and_then generate_in (found_in generate_app words)
-
--- by a command word: what `clap` reads, what its rows ask for, and what the words do
-
-abbrev pub app_under : Word → App
-app_under named.Run = run_app
-app_under named.Decode = decode_app
-app_under named.Migrate = migrate_app
-app_under named.Check = files_app (codes "check")
-app_under named.Replay = files_app (codes "replay")
-app_under named.Generate = generate_app
-
-abbrev pub read_under : Word → List Row → Option Asked
-read_under named.Run rows = run_in rows
-read_under named.Decode rows = decode_in rows
-read_under named.Migrate rows = migrate_in rows
-read_under named.Check rows = check_in rows
-read_under named.Replay rows = replay_in rows
-read_under named.Generate rows = generate_in rows
-
-abbrev pub asked_under : Word → List Text → Option Asked
-asked_under named.Run words = run_asked words
-asked_under named.Decode words = decode_asked words
-asked_under named.Migrate words = migrate_asked words
-asked_under named.Check words = check_asked words
-asked_under named.Replay words = replay_asked words
-asked_under named.Generate words = generate_asked words
 
 -- what the words ask for, where they are a command
 unfoldable pub asked_by : Text → List Text → Option Asked

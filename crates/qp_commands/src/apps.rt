@@ -1,6 +1,7 @@
 //! The commands that `clap` reads, one for each command word.
 ghost use Rattle.std.specs.Prelude.{◌≡◌, [], true, false, option_map, IfOk};
-ghost use Rattle.qp_commands.specs.WordTable.{plain_app, operand, option, app_under, decode_app, files_app, found_in, generate_app, migrate_app, run_app, texts};
+ghost use Rattle.qp_commands.specs.WordTable.{found_in, operand, option, plain_app, texts};
+ghost use Rattle.qp_commands.specs.ByWord.{app_under, rule_under, text_of, with_arguments};
 ghost use Rattle.clap.specs.Words.{app_of, found_of, is_simple_and_free, rows_of, rule_of};
 
 use clap::error::ErrorKind;
@@ -17,6 +18,39 @@ pub(crate) enum Word {
     Replay,
     Generate,
 }
+
+/// An argument of a command, by its name.
+#[derive(Clone, Copy)]
+enum Argument {
+    Option(&'static str),
+    Operand(&'static str),
+}
+
+const RUN: &[Argument] = &[
+    Argument::Option("kernel"),
+    Argument::Option("budget"),
+    Argument::Option("out"),
+    Argument::Option("form"),
+    Argument::Operand("system"),
+    Argument::Operand("stimuli"),
+];
+
+const DECODE: &[Argument] = &[Argument::Operand("frames")];
+
+const MIGRATE: &[Argument] = &[
+    Argument::Option("from"),
+    Argument::Option("to"),
+    Argument::Operand("file"),
+];
+
+/// A system, its stimuli and a journal.
+const FILES: &[Argument] = &[
+    Argument::Operand("system"),
+    Argument::Operand("stimuli"),
+    Argument::Operand("journal"),
+];
+
+const GENERATE: &[Argument] = &[Argument::Operand("number")];
 
 /// An option with one value, as `--name VALUE`.
 fn option<'w>(alloc: Global, name: &'w str) -> Arg<'w>
@@ -43,61 +77,63 @@ fn plain<'w>(alloc: Global, word: &'w str) -> Command<'w>
         .disable_version_flag(true)
 }
 
-fn run_app<'w>(alloc: Global) -> Result<Command<'w>, AllocError>
-    ensures { IfOk result (λ command. app_of command ≡ run_app) }
+fn arg_of<'w>(alloc: Global, argument: &Argument) -> Arg<'w>
+    ensures rule { rule_of result ≡ rule_under argument.now }
+    ensures local { result.global ≡ false }
 {
-    plain(alloc, "run")
-        .arg(option(alloc, "kernel"))?
-        .arg(option(alloc, "budget"))?
-        .arg(option(alloc, "out"))?
-        .arg(option(alloc, "form"))?
-        .arg(operand(alloc, "system"))?
-        .arg(operand(alloc, "stimuli"))
+    match argument {
+        Argument::Option(name) => option(alloc, name),
+        Argument::Operand(name) => operand(alloc, name),
+    }
 }
 
-fn decode_app<'w>(alloc: Global) -> Result<Command<'w>, AllocError>
-    ensures { IfOk result (λ command. app_of command ≡ decode_app) }
+/// The command with these arguments added in turn.
+fn with_arguments<'w>(
+    alloc: Global,
+    mut command: Command<'w>,
+    arguments: &[Argument],
+) -> Result<Command<'w>, AllocError>
+    ensures { IfOk result (λ longer. app_of longer ≡ with_arguments (app_of command.entry) arguments.now) }
 {
-    plain(alloc, "decode").arg(operand(alloc, "frames"))
+    for a in arguments {
+        command = command.arg(arg_of(alloc, a))?;
+    }
+    Ok(command)
 }
 
-fn migrate_app<'w>(alloc: Global) -> Result<Command<'w>, AllocError>
-    ensures { IfOk result (λ command. app_of command ≡ migrate_app) }
+/// The arguments of a command word.
+fn arguments_of(word: Word) -> &'static [Argument]
+    ensures { with_arguments (plain_app (text_of word) []) result.now ≡ app_under word }
 {
-    plain(alloc, "migrate")
-        .arg(option(alloc, "from"))?
-        .arg(option(alloc, "to"))?
-        .arg(operand(alloc, "file"))
+    match word {
+        Word::Run => RUN,
+        Word::Decode => DECODE,
+        Word::Migrate => MIGRATE,
+        Word::Check => FILES,
+        Word::Replay => FILES,
+        Word::Generate => GENERATE,
+    }
 }
 
-/// A command of a system, its stimuli and a journal.
-fn files_app<'w>(alloc: Global, word: &'w str) -> Result<Command<'w>, AllocError>
-    ensures { IfOk result (λ command. app_of command ≡ files_app word.entry.now) }
+/// The text of a command word.
+fn text_of<'w>(word: Word) -> &'w str
+    ensures { result.now ≡ text_of word }
 {
-    plain(alloc, word)
-        .arg(operand(alloc, "system"))?
-        .arg(operand(alloc, "stimuli"))?
-        .arg(operand(alloc, "journal"))
-}
-
-fn generate_app<'w>(alloc: Global) -> Result<Command<'w>, AllocError>
-    ensures { IfOk result (λ command. app_of command ≡ generate_app) }
-{
-    plain(alloc, "gen").arg(operand(alloc, "number"))
+    match word {
+        Word::Run => "run",
+        Word::Decode => "decode",
+        Word::Migrate => "migrate",
+        Word::Check => "check",
+        Word::Replay => "replay",
+        Word::Generate => "gen",
+    }
 }
 
 /// The command of a word.
 pub(crate) fn app<'w>(alloc: Global, word: Word) -> Result<Command<'w>, AllocError>
     ensures { IfOk result (λ command. app_of command ≡ app_under word) }
 {
-    match word {
-        Word::Run => run_app(alloc),
-        Word::Decode => decode_app(alloc),
-        Word::Migrate => migrate_app(alloc),
-        Word::Check => files_app(alloc, "check"),
-        Word::Replay => files_app(alloc, "replay"),
-        Word::Generate => generate_app(alloc),
-    }
+    with_arguments(alloc, plain(alloc, text_of(word)), arguments_of(word))
 }
 
 /// What the command finds in the words, of which the first is its own; None where it refuses them.

@@ -1,6 +1,7 @@
 //! What a call asks for: its command word, and what `clap` reads of the rest.
 ghost use Rattle.std.specs.Prelude.{◌≡◌, option_map, IfOk};
-ghost use Rattle.qp_commands.specs.WordTable.{asked_of, asked_under, check_in, check_words, command_in, decode_in, files_in, generate_in, migrate_in, operand_at, read_under, replay_in, run_in, texts};
+ghost use Rattle.qp_commands.specs.WordTable.{asked_of, check_words, command_in, decode_in, files_in, generate_in, migrate_in, operand_at, run_in, texts};
+ghost use Rattle.qp_commands.specs.ByWord.{asked_under, check_in, read_under, replay_in};
 ghost use Rattle.clap.specs.Words.{found_of, rows_of};
 
 use crate::apps::{Word, app, matches_in};

@@ -1,19 +1,11 @@
+use Rattle.std.proofs.Common.{◌∙◌, ap, []}
+use Rattle.std.proofs.lemmas.Result.{IfOk-weaker}
+use Rattle.qp_commands.specs.WordTable.{plain_app}
+use Rattle.qp_commands.specs.ByWord.{with_arguments}
 use Rattle.qp_commands.proofs.apps.app.Goals as goal
 
-pub returns-in-Run : goal.returns-in-Run
-returns-in-Run c = rw c.in-Run.is c.run_app.ensures
-
-pub returns-in-Decode : goal.returns-in-Decode
-returns-in-Decode c = rw c.in-Decode.is c.decode_app.ensures
-
-pub returns-in-Migrate : goal.returns-in-Migrate
-returns-in-Migrate c = rw c.in-Migrate.is c.migrate_app.ensures
-
-pub returns-in-Check : goal.returns-in-Check
-returns-in-Check c = rw c.in-Check.is c.files_app.ensures
-
-pub returns-in-Replay : goal.returns-in-Replay
-returns-in-Replay c = rw c.in-Replay.is c.files_app-in-Replay.ensures
-
-pub returns-in-Generate : goal.returns-in-Generate
-returns-in-Generate c = rw c.in-Generate.is c.generate_app.ensures
+pub returns : goal.returns
+returns c =
+    let begun = c.plain.ensures ∙ ap (λ text. plain_app text []) c.text_of.ensures in
+    IfOk-weaker c.with_arguments.result _ _
+    (λ m h. h ∙ (ap (λ app. with_arguments app c.arguments_of.result.now) begun ∙ c.arguments_of.ensures)) c.with_arguments.ensures

@@ -1,6 +1,7 @@
 use Rattle.std.proofs.Common.{◌≡◌, ◌∙◌, ap, None, Some, option_and_then}
 use Rattle.clap.specs.Words.{found_of, is_simple_and_free, rows_of}
-use Rattle.qp_commands.specs.WordTable.{app_under, found_in, read_under, texts}
+use Rattle.qp_commands.specs.WordTable.{found_in, texts}
+use Rattle.qp_commands.specs.ByWord.{app_under, read_under}
 use Rattle.qp_commands.proofs.WordApps.{under-asked, under-simple}
 use Rattle.qp_commands.proofs.asking.asked.Goals as goal
 
