@@ -27,10 +27,11 @@ use Rattle.qp_course.specs.Runs.{IsAble, CanRun}
 use Rattle.qp_course.proofs.BackLemmas.{some-first}
 use Rattle.qp_course.proofs.ReadyLemmas.{ready-start, ready-next, can-next}
 use Rattle.qp_course.proofs.FewStateLemmas.{few-start, few-next}
+use Rattle.qp_course.proofs.NeverLemmas.{none-some}
 
 whole : (s : CallStage) (answer : Answer) → stage_answer s ≡ Some answer → s ≡ Whole answer
 whole (Whole own) answer h = ap Whole (some-first h)
-whole s answer h = absurd (cc)
+whole s answer h = absurd (none-some h)
 
 -- a flush that is whole tells no more entries than a deferred list has room for
 pub whole-few : (sys : System) (a : Actor) (way : Way) (rest : CallState) → CanGoOn sys a way rest → a.room ≤ 255

@@ -31,6 +31,7 @@ use Rattle.qp_course.proofs.NextLemmas.{mapped, tested}
 use Rattle.qp_course.proofs.BackLemmas.{some-first}
 use Rattle.qp_course.proofs.PassLemmas.{Shape, settle-shape, through-none}
 use Rattle.qp_course.proofs.QuietLemmas.{call-plain}
+use Rattle.qp_course.proofs.NeverLemmas.{none-some}
 
 -- `done` is the last of these tasks, and no other is
 abbrev pub ends_once : List Task → Bool
@@ -307,13 +308,13 @@ module _ (sys : System) (a : Actor) where
       let body = same-body (raised-is ceiling at.0 t.body t.known at.1) in
       under-counts (Raising way ceiling ts leaf c) later t.body refl (record { done = ap is_done body; took = ap is_took body })
       (subst IsUnder at.2 (settle-under a way leaf ts (record c { former = at.0 }) h))
-  next-counts (AtPoint ev x ts leaf c) t later e h = absurd (cc)
+  next-counts (AtPoint ev x ts leaf c) t later e h = absurd (none-some e)
   next-counts (InCall way inner rest ts leaf c) t later e h =
       let at = mapped (λ more. posted (inner && is_post t.body) a way inner more leaf ts (record c { kept = more.kept })) (call_state_next sys a.o (moment_of way).entry rest t) later e in
       let is = call-plain sys a.o (moment_of way).entry rest t at.0 at.1 in
       under-counts (InCall way inner rest ts leaf c) later t.body refl (record { done = is.0; took = is.1 })
       (subst IsUnder at.2 (posted-under (inner && is_post t.body) a way inner at.0 leaf ts (record c { kept = at.0.kept }) h))
-  next-counts (AtPost way rest ts leaf c) t later e h = absurd (cc)
+  next-counts (AtPost way rest ts leaf c) t later e h = absurd (none-some e)
   next-counts (Releasing x c) t later e h =
       let at = mapped (λ (y : ℕ × ℕ). left_over x y.0 y.1 c) (dropped_by x t.body t.known) later e in
       let body = same-body (dropped-is x at.0 t.body t.known at.1) in
@@ -327,7 +328,7 @@ module _ (sys : System) (a : Actor) where
       let at = tested (comes_back p b d t.body t.known) (Between c) later e in
       let body = same-body (back-is p b d t.body t.known at.0).1 in
       rests-count (Returning p b d c) later t.body refl (ap open_in (sym at.1)) (subst WillEnd at.1 tt) (record { done = ap is_done body; took = ap is_took body }) (ap is_assert body)
-  next-counts Asserted t later e h = absurd (cc)
+  next-counts Asserted t later e h = absurd (none-some e)
 
   -- records that are read, as many steps done as began
   pub told-counts : (g : List Told) (s later : State) → run_told sys a s g ≡ Some later → WillEnd s

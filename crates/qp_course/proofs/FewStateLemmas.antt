@@ -23,6 +23,7 @@ use Rattle.qp_course.specs.Followable.{with_eight}
 use Rattle.qp_course.specs.FewLeft.{AreFew, FewLeft}
 use Rattle.qp_course.proofs.NextLemmas.{mapped, tested}
 use Rattle.qp_course.proofs.BackLemmas.{some-first}
+use Rattle.qp_course.proofs.NeverLemmas.{none-some}
 
 module _ (a : Actor) (way : Way) (leaf : ℕ) (ts : List Task) (few : AreFew way ts) (go : Config → State) (goes : (d : Config) → FewLeft (go d)) where
   few-done : (c : Config) → FewLeft (done way leaf ts go c)
@@ -107,11 +108,11 @@ module _ (sys : System) (a : Actor) (few : chart_able with_eight a.chart ≡ tru
       let at = mapped (λ former. settle a way leaf ts (record c { former = former })) (raised_from ceiling t.body t.known) later e in
       let former : ℕ = at.0 in
       subst FewLeft at.2 (few-settle a way leaf ts (record c { former = former }) h)
-  few-next (AtPoint ev x ts leaf c) (Tell t) later e h = absurd (cc)
+  few-next (AtPoint ev x ts leaf c) (Tell t) later e h = absurd (none-some e)
   few-next (InCall way inner rest ts leaf c) (Tell t) later e h =
       let at = mapped (λ more. posted (inner && is_post t.body) a way inner more leaf ts (record c { kept = more.kept })) (call_state_next sys a.o (moment_of way).entry rest t) later e in
       subst FewLeft at.2 (few-posted (inner && is_post t.body) way inner at.0 leaf ts (record c { kept = at.0.kept }) h)
-  few-next (AtPost way rest ts leaf c) (Tell t) later e h = absurd (cc)
+  few-next (AtPost way rest ts leaf c) (Tell t) later e h = absurd (none-some e)
   few-next (Releasing x c) (Tell t) later e h =
       let at = mapped (λ (y : ℕ × ℕ). left_over x y.0 y.1 c) (dropped_by x t.body t.known) later e in
       subst FewLeft at.2 (by at.0.0 at.0.1)
@@ -122,8 +123,8 @@ module _ (sys : System) (a : Actor) (few : chart_able with_eight a.chart ≡ tru
   few-next (Returning p b d c) (Tell t) later e h =
       let at = tested (comes_back p b d t.body t.known) (Between c) later e in
       subst FewLeft at.1 tt
-  few-next Asserted (Tell t) later e h = absurd (cc)
+  few-next Asserted (Tell t) later e h = absurd (none-some e)
   few-next (AtPoint ev x ts leaf c) Point later e h = subst FewLeft (some-first e) (few-settle a (Stepping ev x) leaf ts c h)
   few-next (AtPost way rest ts leaf c) Point later e h =
       subst FewLeft (some-first e) (few-resume a way leaf ts h (settle a way leaf ts) (λ d. few-settle a way leaf ts d h) true rest c)
-  few-next s Point later e h = absurd (cc)
+  few-next s Point later e h = absurd (none-some e)

@@ -1,4 +1,5 @@
 -- Lemmas of the course.
+pub mod NeverLemmas
 pub mod RowLemmas
 pub mod TaskLemmas
 pub mod GoesLemmas

@@ -22,6 +22,7 @@ use Rattle.qp_course.specs.Runs.{IsAble, CanRun, is_point}
 use Rattle.qp_course.proofs.BackLemmas.{some-first}
 use Rattle.qp_course.proofs.PassLemmas.{Shape, pass-none, resume-shape, settle-shape, start-none}
 use Rattle.qp_course.proofs.CanLemmas.{run-next}
+use Rattle.qp_course.proofs.NeverLemmas.{none-some}
 
 -- at most so many points are to come before another piece
 abbrev pub points_left : State → ℕ
@@ -75,7 +76,7 @@ module _ (a : Actor) where
   unfolding point_next
   point-fewer (AtPoint ev e ts leaf c) later h = let same = ap points_left (some-first h) in omega (arith, same, settled ev e leaf ts c)
   point-fewer (AtPost way rest ts leaf c) later h = let same = ap points_left (some-first h) in omega (arith, same, resumes way rest leaf ts c)
-  point-fewer s later h = absurd (cc)
+  point-fewer s later h = absurd (none-some h)
 
   unexpected : (s : State) → point_next a s ≡ None → expects_point s ≡ false
   unfolding point_next

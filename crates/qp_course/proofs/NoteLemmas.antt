@@ -7,6 +7,7 @@ use Rattle.qp_model.specs.declared.bodies.Body.TheVariants as item
 use Rattle.qp_model.specs.Told as told
 use Rattle.qp_model.specs.Told.{Told, Event, Known, plain, raised, taken, dropped}
 use Rattle.qp_course.specs.Note.{Note, Begin, Run, Unhandled, Exit, Enter, Init, Done, Say, Unlock, body_of, note_of, same_note, is_noted, tells, raised_from, taken_by, dropped_by, comes_back}
+use Rattle.qp_course.proofs.NeverLemmas.{false-true, none-some}
 
 -- a record by its parts
 abbrev pub record_of : Body → Known → Told
@@ -43,7 +44,7 @@ same-is (Init s) (Init t) h = ap Init (same-nat s t h)
 same-is Done Done h = refl
 same-is (Say v) (Say w) h = ap Say (same-nat v w h)
 same-is (Unlock c) (Unlock d) h = ap Unlock (same-nat c d h)
-same-is n m h = absurd (cc)
+same-is n m h = absurd (false-true h)
 
 is-same : (n : Note) → same_note n n ≡ true
 unfolding same_note
@@ -68,7 +69,7 @@ note-body (item.Init s) n h = ap body_of (same-is (Init s) n h)
 note-body item.Done n h = ap body_of (same-is Done n h)
 note-body (item.Say v) n h = ap body_of (same-is (Say v) n h)
 note-body (item.Unlock c) n h = ap body_of (same-is (Unlock c) n h)
-note-body b n h = absurd (cc)
+note-body b n h = absurd (false-true h)
 
 body-note : (n : Note) → note_of (body_of n) ≡ Some n
 unfolding note_of
@@ -86,7 +87,7 @@ body-note (Unlock c) = refl
 pub tells-is : (n : Note) (body : Body) (known : Known) → tells n body known ≡ true → record_of body known ≡ plain (body_of n)
 unfolding tells
 tells-is n body told.Nothing h = ap plain (note-body body n h)
-tells-is n body known h = absurd (cc)
+tells-is n body known h = absurd (false-true h)
 
 pub is-tells : (n : Note) → tells n (body_of n) told.Nothing ≡ true
 unfolding tells
@@ -104,7 +105,7 @@ raised-is ceiling former (item.Lock r) (told.Former f) h =
     let same : f ≡ former = at.1 in
     let top : r ≡ max f ceiling = same-nat r (max f ceiling) at.0 in
     subst (λ x. record_of (item.Lock r) (told.Former f) ≡ raised (max x ceiling) x) same (ap (λ x. raised x f) top)
-raised-is ceiling former body known h = absurd (cc)
+raised-is ceiling former body known h = absurd (none-some h)
 
 pub is-raised : (ceiling former : ℕ) → raised_from ceiling (item.Lock (max former ceiling)) (told.Former former) ≡ Some former
 unfolding raised_from
@@ -120,7 +121,7 @@ taken-is e ev (item.Took f l m d) (told.OfEvent w) h =
   where
     first_some : {X : Type 0} {x y : X} → Some x ≡ Some y → x ≡ y
     first_some e = cc
-taken-is e ev body known h = absurd (cc)
+taken-is e ev body known h = absurd (none-some h)
 
 some-first : {X : Type 0} {x y : X} → Some x ≡ Some y → x ≡ y
 some-first e = cc
@@ -136,7 +137,7 @@ dropped-is e x (item.Dec p b d k) (told.Left left) h =
     let block : b ≡ e.block = same-nat b e.block (both-right (p == e.pool) (b == e.block) front) in
     subst (λ y. dropped p b d k left ≡ dropped e.pool e.block y.0 e.name y.1) at.1
     (ap (λ z. dropped z b d k left) pool ∙ ap (λ z. dropped e.pool z d k left) block ∙ ap (λ z. dropped e.pool e.block d z left) name)
-dropped-is e x body known h = absurd (cc)
+dropped-is e x body known h = absurd (none-some h)
 
 pub is-dropped : (e : Entry) (d left : ℕ) → dropped_by e (item.Dec e.pool e.block d e.name) (told.Left left) ≡ Some (d, left)
 unfolding dropped_by
@@ -150,7 +151,7 @@ back-is p b d (item.Back q n c to) told.Nothing h =
     let pool : q ≡ p = same-nat q p (both-left (q == p) (c == b) front) in
     let block : c ≡ b = same-nat c b (both-right (q == p) (c == b) front) in
     (n, ap (λ z. plain (item.Back z n c to)) pool ∙ ap (λ z. plain (item.Back p n z to)) block ∙ ap (λ z. plain (item.Back p n b z)) last)
-back-is p b d body known h = absurd (cc)
+back-is p b d body known h = absurd (false-true h)
 
 pub is-back : (p b d n : ℕ) → comes_back p b d (item.Back p n b (d + 1)) told.Nothing ≡ true
 unfolding comes_back

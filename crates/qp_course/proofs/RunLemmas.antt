@@ -18,6 +18,7 @@ use Rattle.qp_course.proofs.NextLemmas.{goes-next}
 use Rattle.qp_course.proofs.BackLemmas.{next-goes, some-first}
 use Rattle.qp_course.proofs.ReadyLemmas.{ready-start, ready-next}
 use Rattle.qp_course.proofs.EndLemmas.{goes-end, end-goes, goes-some}
+use Rattle.qp_course.proofs.NeverLemmas.{false-true, none-some}
 
 pub under : (sys : System) (a : Actor) (s : State) → IsReady sys a s → IsUnderWay s
 under sys a (Between c) h = tt
@@ -35,14 +36,14 @@ pub point-expected : (a : Actor) (s later : State) → point_next a s ≡ Some l
 unfolding point_next
 point-expected a (AtPoint ev e ts leaf c) later h = refl
 point-expected a (AtPost way rest ts leaf c) later h = refl
-point-expected a s later h = absurd (cc)
+point-expected a s later h = absurd (none-some h)
 
 -- where a point is expected, nothing else may come
 pub expected-point : (sys : System) (a : Actor) (s : State) (ps : List Piece) → expects_point s ≡ true → Goes sys a anywhere s ps → begins_at_point ps ≡ true
 unfolding Goes
 expected-point sys a (AtPoint ev e ts leaf c) ps h (rest, is, k) = ap begins_at_point is
 expected-point sys a (AtPost way rest ts leaf c) ps h (more, is, k) = ap begins_at_point is
-expected-point sys a s ps h k = absurd (cc)
+expected-point sys a s ps h k = absurd (false-true h)
 
 pub either : (x y : Bool) → (x || y) ≡ true → (x ≡ true) ⊎ (y ≡ true)
 either true y h = inl refl
@@ -96,7 +97,7 @@ module _ (begin : ReadsBegin) (whole : ReadsWhole) (reads_next : ReadsNext) (fir
   stops-here s (Point ∷ back) ready h at =
       let step = goes-next begin whole reads_next sys a anywhere s Point back (under sys a s ready) h in
       or-right (is_end s) (expects_point s) (point-expected a s step.0 step.1)
-  stops-here s (Tell t ∷ back) ready h at = absurd (cc)
+  stops-here s (Tell t ∷ back) ready h at = absurd (false-true at)
 
   pub here-stops : (s : State) → IsReady sys a s → (is_end s || expects_point s) ≡ true → (back : List Piece) × Goes sys a anywhere s back × (begins_at_point back ≡ true)
   here-stops s ready h = by (either (is_end s) (expects_point s) h)

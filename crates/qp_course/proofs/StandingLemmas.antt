@@ -36,6 +36,7 @@ use Rattle.qp_course.proofs.DoneLemmas.{open_of, open_in, start-under, told-coun
 use Rattle.qp_course.proofs.FollowLemmas.{records-decided}
 use Rattle.qp_course.proofs.SettleLemmas.{back-settle}
 use Rattle.qp_course.proofs.ToldLemmas.{told-goes}
+use Rattle.qp_course.proofs.NeverLemmas.{none-some}
 
 -- the course ends in this configuration
 abbrev at : Config → Aim
@@ -56,7 +57,7 @@ rests sys a (Releasing e d) c h = (
 )
 rests sys a (Returning p b k d) c h =
     (Tell (plain (item.Back p 0 b (k + 1))) ∷ [], (0, ([], refl, steps-none sys a (at c) d cc)), refl, refl)
-rests sys a s c h = absurd (cc)
+rests sys a s c h = absurd (none-some h)
 
 module _ (sys : System) (d : ObjectDef) (f : IsFollowable sys d) (g : List Told) (follow : FollowSomehow sys d g) where
   abbrev a : Actor

@@ -142,27 +142,36 @@ unfolding handled
 handled-none chart leaf found old new is e =
     subst (λ o. Adds (handled chart leaf o) old new leaf) (sym is) (record { tasks = e; leaf = refl })
 
+-- more tasks behind those that were added
+past : (old xs ys new : List task.Task) → new ≡ old ++ xs → new ++ ys ≡ old ++ (xs ++ ys)
+past old xs ys new e = ap (λ zs. zs ++ ys) e ∙ append_assoc old xs ys
+
+pub start-adds : (chart : Chart) (old a b c d e : List task.Task) (leaf : ℕ) → a ≡ old ++ task.Begin ∷ [] → b ≡ a ++ tasks_of chart.init_do
+    → c ≡ b ++ entries chart (entered chart None chart.init) → Adds (drill chart chart.init) c d leaf → e ≡ d ++ task.Done ∷ []
+    → Adds (start_plan chart) old e leaf
+unfolding start_plan
+start-adds chart old a b c d e leaf one two three four five =
+    let first : b ≡ old ++ (task.Begin ∷ tasks_of chart.init_do) = two ∙ past old (task.Begin ∷ []) (tasks_of chart.init_do) a one in
+    let second : c ≡ old ++ ((task.Begin ∷ tasks_of chart.init_do) ++ entries chart (entered chart None chart.init)) =
+    three ∙ past old (task.Begin ∷ tasks_of chart.init_do) (entries chart (entered chart None chart.init)) b first in
+    let begun = before (task.Begin ∷ tasks_of chart.init_do ++ entries chart (entered chart None chart.init)) (drill chart chart.init) in
+    let third = adds-more (task.Begin ∷ tasks_of chart.init_do ++ entries chart (entered chart None chart.init)) old c d (drill chart chart.init) leaf second four in
+    record { tasks = five ∙ past old begun.tasks (task.Done ∷ []) d third.tasks; leaf = third.leaf }
+
+pub step-adds : (chart : Chart) (leaf : ℕ) (names : Names) (sig : ℕ) (found : Option Handler) (old mid new : List task.Task) (after : ℕ) → found ≡ handler chart names sig leaf
+    → Adds (handled chart leaf found) old mid after → new ≡ mid ++ task.Done ∷ [] → Adds (step_plan chart leaf names sig) old new after
+unfolding step_plan
+step-adds chart leaf names sig found old mid new after e k last =
+    let does = subst (λ o. Adds (handled chart leaf o) old mid after) e k in
+    record { tasks = last ∙ past old (handled chart leaf (handler chart names sig leaf)).tasks (task.Done ∷ []) mid does.tasks; leaf = does.leaf }
+
 -- a plan of these tasks and this leaf
 abbrev pub plan_of : List task.Task → ℕ → Plan
 plan_of tasks leaf = record { tasks = tasks; leaf = leaf }
 
-plan-same : {xs ys : List task.Task} {m n : ℕ} → xs ≡ ys → m ≡ n → plan_of xs m ≡ plan_of ys n
-plan-same p q = λ i. record { tasks = p i; leaf = q i }
-
-pub start-is : (chart : Chart) (a b c d e : List task.Task) (leaf : ℕ) → a ≡ task.Begin ∷ [] → b ≡ a ++ tasks_of chart.init_do
-    → c ≡ b ++ entries chart (entered chart None chart.init) → Adds (drill chart chart.init) c d leaf → e ≡ d ++ task.Done ∷ []
-    → plan_of e leaf ≡ start_plan chart
-unfolding start_plan
-start-is chart a b c d e leaf one two three four five =
-    plan-same (five ∙ ap (λ ys. ys ++ task.Done ∷ []) four.tasks ∙ ap (λ ys. (ys ++ (drill chart chart.init).tasks) ++ task.Done ∷ []) three
-    ∙ ap (λ ys. ((ys ++ entries chart (entered chart None chart.init)) ++ (drill chart chart.init).tasks) ++ task.Done ∷ []) two
-    ∙ ap (λ ys. (((ys ++ tasks_of chart.init_do) ++ entries chart (entered chart None chart.init)) ++ (drill chart chart.init).tasks) ++ task.Done ∷ []) one) four.leaf
-
-pub step-is : (chart : Chart) (leaf : ℕ) (names : Names) (sig : ℕ) (found : Option Handler) (tasks new : List task.Task) (after : ℕ) → found ≡ handler chart names sig leaf
-    → Adds (handled chart leaf found) [] tasks after → new ≡ tasks ++ task.Done ∷ [] → plan_of new after ≡ step_plan chart leaf names sig
-unfolding step_plan
-step-is chart leaf names sig found tasks new after e k last =
-    plan-same (last ∙ ap (λ ys. ys ++ task.Done ∷ []) k.tasks ∙ ap (λ o. (handled chart leaf o).tasks ++ task.Done ∷ []) e) (k.leaf ∙ ap (λ o. (handled chart leaf o).leaf) e)
+-- all tasks of a plan
+pub adds-all : (plan : Plan) (tasks : List task.Task) (leaf : ℕ) → Adds plan [] tasks leaf → plan_of tasks leaf ≡ plan
+adds-all plan tasks leaf h = λ i. record { tasks = h.tasks i; leaf = h.leaf i }
 
 -- what follows for each value that is made
 pub made-ok : {X E : Type 0} (P Q : X → Type 0) (r : Result X E) → ((x : X) → P x → Q x) → IfOk r P → IfOk r Q

@@ -22,6 +22,7 @@ use Rattle.qp_course.proofs.ReadyLemmas.{ready-settle, ready-next}
 use Rattle.qp_course.proofs.EndLemmas.{goes-end, end-goes, goes-some}
 use Rattle.qp_course.proofs.PassLemmas.{Shape, settle-shape, through-none, pass-none, pass-point, unpass}
 use Rattle.qp_course.proofs.RunLemmas.{under, point-expected, expected-point, either, or-right, stops-here, here-stops, start-into, start-back, begun, Fronts}
+use Rattle.qp_course.proofs.NeverLemmas.{false-true}
 
 head-same : {X : Type 0} {x y : X} {xs ys : List X} → x ∷ xs ≡ y ∷ ys → x ≡ y
 head-same e = cc
@@ -33,7 +34,7 @@ tail-same e = cc
 end-none : (s : State) → is_end s ≡ true → expects_point s ≡ false
 end-none (Between c) h = refl
 end-none Asserted h = refl
-end-none s h = absurd (cc)
+end-none s h = absurd (false-true h)
 
 -- a piece before others leaves how the list ends
 ends-cons : (p : Piece) (ps : List Piece) (t : Told) (g : List Told) → bare ps ≡ t ∷ g → ends_at_point (p ∷ ps) ≡ ends_at_point ps
@@ -50,7 +51,7 @@ Fact (t ∷ g) ps tail = ends_at_point ps ≡ true → (us : List Piece) × (tai
 -- behind a last record, a list that ends at a point goes on with one
 point-left : (t : Told) (rest : List Piece) → bare rest ≡ [] → ends_at_point (Tell t ∷ rest) ≡ true → (us : List Piece) × (rest ≡ Point ∷ us)
 unfolding bare ends_at_point
-point-left t [] e h = absurd (cc)
+point-left t [] e h = absurd (false-true h)
 point-left t (Point ∷ us) e h = (us, refl)
 point-left t (Tell u ∷ us) e h = absurd (cc)
 

@@ -2,14 +2,16 @@
 
 ghost use Rattle.std.specs.Prelude.{◌≡◌, ◌++◌, IfOk};
 ghost use Rattle.qp_chart.specs.Expr.{names_in};
-ghost use Rattle.qp_chart.specs.Drill.{initial, drill, before};
+ghost use Rattle.qp_chart.specs.MainState.{exited, entered};
+ghost use Rattle.qp_chart.specs.Task.{exits, entries};
+ghost use Rattle.qp_chart.specs.Drill.{initial, drill};
 ghost use Rattle.qp_chart.specs.Agenda.{crossing, moves, handled, start_plan, step_plan};
 ghost use Rattle.qp_course.specs.Plans.{Adds};
 ghost use Rattle.qp_course.specs.AsTask.{as_tasks};
 
 use crate::handler::{Handler, handler_of};
 use crate::state_acts::init_acts;
-use crate::tasks::{Task, push_acts, push_entries, push_exits};
+use crate::tasks::{Task, push_acts, push_entries, push_exits, push_task};
 use qp_chart::{Chart, Env};
 use qp_state_tree::{entered, exited, init_of, main_state};
 use std::alloc::{AllocError, Global};
@@ -35,6 +37,34 @@ impl<'a> Model for Plan<'a> {
     ghost view = { λ plan. record { tasks = as_tasks plan.tasks.items; leaf = plan.leaf } };
 }
 
+/// Adds the exits from `s` up to below the main state.
+fn push_exited<'a>(
+    alloc: Global,
+    chart: &'a Chart,
+    main: Option<u8>,
+    s: u8,
+    tasks: &mut Vec<Task<'a>>,
+) -> Result<(), AllocError>
+    ensures { IfOk result (λ _. as_tasks tasks.new.items ≡ as_tasks tasks.old.items ++ exits chart.now (exited chart.now main s)) }
+{
+    let path = exited(alloc, chart, main, s)?;
+    push_exits(chart, &path, tasks)
+}
+
+/// Adds the entries from below the main state down to `t`.
+fn push_entered<'a>(
+    alloc: Global,
+    chart: &'a Chart,
+    main: Option<u8>,
+    t: u8,
+    tasks: &mut Vec<Task<'a>>,
+) -> Result<(), AllocError>
+    ensures { IfOk result (λ _. as_tasks tasks.new.items ≡ as_tasks tasks.old.items ++ entries chart.now (entered chart.now main t)) }
+{
+    let path = entered(alloc, chart, main, t)?;
+    push_entries(chart, &path, tasks)
+}
+
 /// Adds the note of an initial transition from `s`, its actions, and the entries down to its target.
 #[tactic(auto, unfolding(qp_chart::specs::Drill::initial))]
 fn push_initial<'a>(
@@ -46,10 +76,9 @@ fn push_initial<'a>(
 ) -> Result<(), AllocError>
     ensures { IfOk result (λ _. as_tasks tasks.new.items ≡ as_tasks tasks.old.items ++ initial chart.now s t) }
 {
-    let path = entered(alloc, chart, Some(s), t)?;
-    tasks.push(Task::Init { state: s })?;
+    push_task(Task::Init { state: s }, tasks)?;
     push_acts(init_acts(chart, s), tasks)?;
-    push_entries(chart, &path, tasks)
+    push_entered(alloc, chart, Some(s), t, tasks)
 }
 
 /// Adds the initial transitions from `s` on, and tells the leaf after them.
@@ -86,10 +115,8 @@ fn push_crossing<'a>(
 ) -> Result<(), AllocError>
     ensures { IfOk result (λ _. as_tasks tasks.new.items ≡ as_tasks tasks.old.items ++ crossing chart.now main leaf t) }
 {
-    let outwards = exited(alloc, chart, main, leaf)?;
-    push_exits(chart, &outwards, tasks)?;
-    let inwards = entered(alloc, chart, main, t)?;
-    push_entries(chart, &inwards, tasks)
+    push_exited(alloc, chart, main, leaf, tasks)?;
+    push_entered(alloc, chart, main, t, tasks)
 }
 
 /// Adds the move of a row of `s`, and tells the leaf after it.
@@ -124,18 +151,36 @@ fn push_handled<'a>(
 {
     match found {
         Some(h) => {
-            tasks.push(Task::Run {
+            let note = Task::Run {
                 state: h.state,
                 place: h.place,
-            })?;
+            };
+            push_task(note, tasks)?;
             push_acts(h.row.acts(), tasks)?;
             push_moves(alloc, chart, leaf, h.state, h.row.to(), tasks)
         }
         None => {
-            tasks.push(Task::Unhandled)?;
+            push_task(Task::Unhandled, tasks)?;
             Ok(leaf)
         }
     }
+}
+
+/// Adds all of a step, and tells the leaf after it.
+fn push_step<'a>(
+    alloc: Global,
+    chart: &'a Chart,
+    leaf: u8,
+    env: &Env<'_>,
+    sig: u64,
+    tasks: &mut Vec<Task<'a>>,
+) -> Result<u8, AllocError>
+    ensures { IfOk result (λ after. Adds (step_plan chart.now leaf (names_in env.now) sig) (as_tasks tasks.old.items) (as_tasks tasks.new.items) after) }
+{
+    let found = handler_of(chart, env, sig, leaf);
+    let after = push_handled(alloc, chart, leaf, found, tasks)?;
+    push_task(Task::Done, tasks)?;
+    Ok(after)
 }
 
 /// The agenda of a step from the leaf over an event of this signal.
@@ -149,10 +194,24 @@ pub fn step_plan<'a>(
     ensures { IfOk result (λ plan. plan ≡ step_plan chart.now leaf (names_in env.now) sig) }
 {
     let mut tasks = Vec::new(alloc);
-    let found = handler_of(chart, env, sig, leaf);
-    let leaf = push_handled(alloc, chart, leaf, found, &mut tasks)?;
-    tasks.push(Task::Done)?;
+    let leaf = push_step(alloc, chart, leaf, env, sig, &mut tasks)?;
     Ok(Plan { tasks, leaf })
+}
+
+/// Adds all of a start, and tells the leaf after it.
+fn push_start<'a>(
+    alloc: Global,
+    chart: &'a Chart,
+    tasks: &mut Vec<Task<'a>>,
+) -> Result<u8, AllocError>
+    ensures { IfOk result (λ leaf. Adds (start_plan chart.now) (as_tasks tasks.old.items) (as_tasks tasks.new.items) leaf) }
+{
+    push_task(Task::Begin, tasks)?;
+    push_acts(chart.init_do(), tasks)?;
+    push_entered(alloc, chart, None, chart.init(), tasks)?;
+    let leaf = push_drill(alloc, chart, chart.init(), tasks)?;
+    push_task(Task::Done, tasks)?;
+    Ok(leaf)
 }
 
 /// The agenda of a start: the chart's initial actions, the entries down to the initial state, and its initial transitions.
@@ -160,11 +219,6 @@ pub fn start_plan<'a>(alloc: Global, chart: &'a Chart) -> Result<Plan<'a>, Alloc
     ensures { IfOk result (λ plan. plan ≡ start_plan chart.now) }
 {
     let mut tasks = Vec::new(alloc);
-    tasks.push(Task::Begin)?;
-    push_acts(chart.init_do(), &mut tasks)?;
-    let path = entered(alloc, chart, None, chart.init())?;
-    push_entries(chart, &path, &mut tasks)?;
-    let leaf = push_drill(alloc, chart, chart.init(), &mut tasks)?;
-    tasks.push(Task::Done)?;
+    let leaf = push_start(alloc, chart, &mut tasks)?;
     Ok(Plan { tasks, leaf })
 }

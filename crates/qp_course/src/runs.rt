@@ -1,6 +1,6 @@
 //! What records and pieces make of the states of a course, one after another.
 
-ghost use Rattle.std.specs.Prelude.{◌≡◌, [], map, true, Some, None, IfOk, MatchOption};
+ghost use Rattle.std.specs.Prelude.{◌≡◌, ◌||◌, [], map, true, Some, None, IfOk, MatchOption};
 ghost use Rattle.std.specs.Option.{option_map, option_copied};
 ghost use Rattle.qp_model.specs.Able.{chart_able};
 ghost use Rattle.qp_model.specs.Pieces.{ends_at_point};
@@ -15,7 +15,7 @@ ghost use Rattle.qp_course.specs.AsState.{as_actor, as_state, config_of};
 
 use crate::agenda::start_plan;
 use crate::settle::settle;
-use crate::states::{Actor, Left, Own, State, Way};
+use crate::states::{Actor, Left, Own, State, Way, discard};
 use qp_fits::{Cut, Kept, Piece, Told};
 use qp_model::ObjectDef;
 use std::alloc::{AllocError, Global};
@@ -97,6 +97,22 @@ impl<'a> State<'a> {
         }
     }
 
+    /// The course ends in this state, if it may: nothing is left of the state.
+    fn ends(self) -> bool
+        ensures { result ≡ is_end (as_state self.entry) }
+    {
+        let may = self.is_end();
+        discard(self);
+        may
+    }
+
+    /// A list may stop here, where `at_point` tells whether it stops at a point anyway.
+    fn may_stop(&self, at_point: bool) -> bool
+        ensures { result ≡ (at_point || (is_end (as_state self.now) || expects_point (as_state self.now))) }
+    {
+        at_point || self.is_end() || self.expects_point()
+    }
+
     /// A list without its points may be cut so in this state.
     #[tactic(auto, unfolding(crate::specs::Passing::may_end_told))]
     pub(crate) fn may_end_told(self, who: &Actor<'a>, cut: Cut, nothing: bool) -> bool
@@ -104,20 +120,24 @@ impl<'a> State<'a> {
         requires can { CanRun who.now.sys.now (as_actor who.now) (as_state self) }
         ensures { result ≡ may_end_told (as_actor who.now) (as_cut cut) nothing (as_state self.entry) }
     {
+        let stops = self.may_stop(nothing);
+        let ends = self.passed(who).ends();
         match cut {
-            Cut::Whole => self.passed(who).is_end(),
-            Cut::Stopped => nothing || self.is_end() || self.expects_point(),
+            Cut::Whole => ends,
+            Cut::Stopped => stops,
             Cut::Anywhere => true,
         }
     }
 
     /// A list may be cut so in this state.
-    pub(crate) fn may_end(&self, cut: Cut, at_point: bool) -> bool
-        ensures { result ≡ may_end (as_cut cut) at_point (as_state self.now) }
+    pub(crate) fn may_end(self, cut: Cut, at_point: bool) -> bool
+        ensures { result ≡ may_end (as_cut cut) at_point (as_state self.entry) }
     {
+        let stops = self.may_stop(at_point);
+        let ends = self.ends();
         match cut {
-            Cut::Whole => self.is_end(),
-            Cut::Stopped => at_point || self.is_end() || self.expects_point(),
+            Cut::Whole => ends,
+            Cut::Stopped => stops,
             Cut::Anywhere => true,
         }
     }

@@ -4,7 +4,7 @@ ghost use Rattle.std.specs.Prelude.{◌≡◌};
 ghost use Rattle.qp_course.specs.AsState.{as_state};
 ghost use Rattle.qp_course.specs.Standing.{ShowsLeft, left_in};
 
-use crate::states::{Own, State};
+use crate::states::{Own, State, discard};
 
 /// The state of an object between two steps, with its variables in the order of its chart.
 #[derive(Drop)]
@@ -42,7 +42,10 @@ impl<'a> State<'a> {
                 kept: _kept,
                 ..
             } => Some(own.shown()),
-            _other => None,
+            other => {
+                discard(other);
+                None
+            }
         }
     }
 }

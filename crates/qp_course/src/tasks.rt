@@ -1,8 +1,8 @@
 //! What a step or a start is to do, one by one.
 
-ghost use Rattle.std.specs.Prelude.{◌≡◌, ◌++◌, map, IfOk};
-ghost use Rattle.qp_chart.specs.Task.{Do, tasks_of, act_tasks, exits, entries};
-ghost use Rattle.qp_course.specs.AsTask.{as_tasks};
+ghost use Rattle.std.specs.Prelude.{◌≡◌, ◌∷◌, [], ◌++◌, map, IfOk};
+ghost use Rattle.qp_chart.specs.Task.{Do, Raise, Restore, tasks_of, act_tasks, exits, entries};
+ghost use Rattle.qp_course.specs.AsTask.{as_task, as_tasks};
 
 use crate::state_acts::{entry_acts, exit_acts};
 use qp_chart::{Act, Chart, Plain};
@@ -25,14 +25,35 @@ pub enum Task<'a> {
     Restore,
 }
 
+/// Adds a task.
+pub(crate) fn push_task<'a>(task: Task<'a>, tasks: &mut Vec<Task<'a>>) -> Result<(), AllocError>
+    ensures { IfOk result (λ _. as_tasks tasks.new.items ≡ as_tasks tasks.old.items ++ as_task task.entry ∷ []) }
+{
+    tasks.push(task)?;
+    Ok(())
+}
+
 /// Adds the actions within `locked`.
 fn push_plains<'a>(plains: &'a [Plain], tasks: &mut Vec<Task<'a>>) -> Result<(), AllocError>
     ensures { IfOk result (λ _. as_tasks tasks.new.items ≡ as_tasks tasks.old.items ++ map Do plains.now) }
 {
     for plain in plains {
-        tasks.push(Task::Do(plain))?;
+        push_task(Task::Do(plain), tasks)?;
     }
     Ok(())
+}
+
+/// Adds `locked`: the actions within, and its two marks.
+fn push_locked<'a>(
+    ceiling: u8,
+    plains: &'a [Plain],
+    tasks: &mut Vec<Task<'a>>,
+) -> Result<(), AllocError>
+    ensures { IfOk result (λ _. as_tasks tasks.new.items ≡ as_tasks tasks.old.items ++ Raise ceiling ∷ map Do plains.now ++ Restore ∷ []) }
+{
+    push_task(Task::Raise { ceiling }, tasks)?;
+    push_plains(plains, tasks)?;
+    push_task(Task::Restore, tasks)
 }
 
 /// Adds the tasks of an action.
@@ -41,14 +62,9 @@ fn push_act<'a>(act: &'a Act, tasks: &mut Vec<Task<'a>>) -> Result<(), AllocErro
     ensures { IfOk result (λ _. as_tasks tasks.new.items ≡ as_tasks tasks.old.items ++ act_tasks act.now) }
 {
     match act {
-        Act::Plain(plain) => tasks.push(Task::Do(plain))?,
-        Act::Locked { ceiling, acts } => {
-            tasks.push(Task::Raise { ceiling: *ceiling })?;
-            push_plains(acts.items.as_slice(), tasks)?;
-            tasks.push(Task::Restore)?;
-        }
+        Act::Plain(plain) => push_task(Task::Do(plain), tasks),
+        Act::Locked { ceiling, acts } => push_locked(*ceiling, acts.items.as_slice(), tasks),
     }
-    Ok(())
 }
 
 /// Adds the tasks of some actions, in order.
@@ -70,7 +86,7 @@ pub(crate) fn push_exits<'a>(
     ensures { IfOk result (λ _. as_tasks tasks.new.items ≡ as_tasks tasks.old.items ++ exits chart.now path.now) }
 {
     for s in path {
-        tasks.push(Task::Exit { state: *s })?;
+        push_task(Task::Exit { state: *s }, tasks)?;
         push_acts(exit_acts(chart, *s), tasks)?;
     }
     Ok(())
@@ -85,7 +101,7 @@ pub(crate) fn push_entries<'a>(
     ensures { IfOk result (λ _. as_tasks tasks.new.items ≡ as_tasks tasks.old.items ++ entries chart.now path.now) }
 {
     for s in path {
-        tasks.push(Task::Enter { state: *s })?;
+        push_task(Task::Enter { state: *s }, tasks)?;
         push_acts(entry_acts(chart, *s), tasks)?;
     }
     Ok(())

@@ -1,13 +1,13 @@
 //! What a record or a point makes of a state.
 
-ghost use Rattle.std.specs.Prelude.{◌≡◌, true, false, ◌&&◌, Some, None, IfOk, MatchResult};
+ghost use Rattle.std.specs.Prelude.{◌≡◌, true, false, ◌&&◌, if◌then◌else◌, Some, None, IfOk, MatchResult};
 ghost use Rattle.std.specs.Option.{option_map};
 ghost use Rattle.qp_model.specs.Able.{chart_able};
 ghost use Rattle.qp_model.specs.Groups.{is_post};
 ghost use Rattle.qp_fits.specs.CallStateNext.{call_state_next};
 ghost use Rattle.qp_course.specs.Goes.{moment_of};
 ghost use Rattle.qp_course.specs.Note.{raised_from, taken_by, dropped_by};
-ghost use Rattle.qp_course.specs.Machine.{settle, noted, posted, step_state, left_over, tell_next, point_next};
+ghost use Rattle.qp_course.specs.Machine.{Between, settle, noted, posted, step_state, left_over, tell_next, point_next};
 ghost use Rattle.qp_course.specs.Followable.{with_eight};
 ghost use Rattle.qp_course.specs.Ready.{CanGoOn};
 ghost use Rattle.qp_course.specs.FewLeft.{AreFew};
@@ -18,7 +18,7 @@ ghost use Rattle.qp_course.specs.AsState.{as_actor, as_way, as_state, config_of}
 use crate::agenda::step_plan;
 use crate::notes::{comes_back, dropped_by, raised_from, tells};
 use crate::settle::{done, env_of, resume, settle};
-use crate::states::{Actor, Left, Own, State, Step, Way};
+use crate::states::{Actor, Left, Own, State, Step, Way, discard};
 use arrayvec::ArrayVec;
 use qp_fits::{CallState, Kept, Known, Told};
 use qp_model::{Body, Entry, Params};
@@ -100,6 +100,27 @@ fn noted<'a>(
         done(who, way, left, own, kept)
     } else {
         settle(who, way, left, own, kept)
+    }
+}
+
+/// A record was the note that was to come, or not.
+fn after_note<'a>(
+    who: &Actor<'a>,
+    is_told: bool,
+    way: Way,
+    ends: bool,
+    left: Left<'a>,
+    own: Own,
+    kept: Kept,
+) -> Option<State<'a>>
+    requires { AreFew (as_way way) (as_tasks left.tasks.items) }
+    ensures { option_map as_state result ≡ (if is_told then Some (noted (as_actor who.now) (as_way way) ends left.entry.leaf
+        (as_tasks left.entry.tasks.items) (config_of own kept)) else None) }
+{
+    if is_told {
+        Some(noted(who, way, ends, left, own, kept))
+    } else {
+        None
     }
 }
 
@@ -213,6 +234,17 @@ fn released<'a>(told: &Told, entry: Entry, own: Own, kept: Kept) -> Option<State
     }
 }
 
+/// A record was the return of the block, or not.
+fn after_back<'a>(is_back: bool, own: Own, kept: Kept) -> Option<State<'a>>
+    ensures { option_map as_state result ≡ (if is_back then Some (Between (config_of own kept)) else None) }
+{
+    if is_back {
+        Some(State::Between { own, kept })
+    } else {
+        None
+    }
+}
+
 impl<'a> State<'a> {
     /// The state behind a record, where it may come.
     #[tactic(auto, unfolding(crate::specs::Machine::tell_next))]
@@ -236,10 +268,8 @@ impl<'a> State<'a> {
                 own,
                 kept,
             } => {
-                if !tells(note, told) {
-                    return Ok(None);
-                }
-                Ok(Some(noted(who, way, ends, left, own, kept)))
+                let is_told = tells(note, told);
+                Ok(after_note(who, is_told, way, ends, left, own, kept))
             }
             State::Raising {
                 way,
@@ -257,12 +287,13 @@ impl<'a> State<'a> {
             } => called(who, told, way, inner, rest, left, own),
             State::Releasing { entry, own, kept } => Ok(released(told, entry, own, kept)),
             State::Returning { p, b, d, own, kept } => {
-                if !comes_back(p, b, d, told) {
-                    return Ok(None);
-                }
-                Ok(Some(State::Between { own, kept }))
+                let is_back = comes_back(p, b, d, told);
+                Ok(after_back(is_back, own, kept))
             }
-            State::AtPoint { .. } | State::AtPost { .. } | State::Asserted => Ok(None),
+            other => {
+                discard(other);
+                Ok(None)
+            }
         }
     }
 

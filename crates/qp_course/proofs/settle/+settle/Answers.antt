@@ -1,4 +1,4 @@
-use Rattle.std.proofs.Common.{List, ℤ, ap, ◌∙◌, is_some, rules}
+use Rattle.std.proofs.Common.{◌≡◌, ℕ, List, ℤ, refl, sym, ap, ◌∙◌, is_some, rules}
 use Rattle.std.specs.Prelude.{slice_set}
 use Rattle.std.specs.Int.{w64}
 use Rattle.std.proofs.lemmas.Int.{to_z-of_z}
@@ -10,12 +10,20 @@ use Rattle.qp_model.specs.Calls.{deed_of}
 use Rattle.qp_fits.specs.CallState.{CallState}
 use Rattle.qp_fits.specs.CallStateNext.{call_state_begin}
 use Rattle.qp_fits.specs.AsCall.{as_call}
-use Rattle.qp_course.specs.Goes.{moment_of}
-use Rattle.qp_course.specs.Machine.{done, resume, deed_state, settle}
-use Rattle.qp_course.specs.AsTask.{as_tasks}
+use Rattle.qp_chart.specs.Task as task
+use Rattle.qp_model.specs.Acts.{Actor, Config}
+use Rattle.qp_course.specs.declared.tasks.Task.{Task}
+use Rattle.qp_course.specs.Goes.{Way, moment_of}
+use Rattle.qp_course.specs.Machine.{State, done, resume, deed_state, task_state, settle}
+use Rattle.qp_course.specs.AsTask.{as_task, as_tasks}
 use Rattle.qp_course.specs.AsState.{as_actor, as_way, config_of}
 use Rattle.qp_course.proofs.FewLemmas.{makes-few}
 use Rattle.qp_course.proofs.settle.+settle.Goals as goal
+
+-- the state of a task that is known
+of-task : (a : Actor) (way : Way) (leaf : ℕ) (ts : List task.Task) (go : Config → State) (c : Config) (s : State) (t u : Task) → t ≡ u
+    → s ≡ task_state a way leaf ts go c (as_task u) → s ≡ task_state a way leaf ts go c (as_task t)
+of-task a way leaf ts go c s t u is e = e ∙ ap (λ (x : Task). task_state a way leaf ts go c (as_task x)) (sym is)
 
 pub act-returns-in-Says : goal.act-returns-in-Says
 unfolding deed_state
@@ -53,3 +61,27 @@ unfolding task_able
 begin-act-requires t c =
     let asked = rw c.in-Do.is at c.requires.own_few in
     (search rules, (c.requires.few, makes-few (is_some (moment_of (as_way c.args.way)).entry) c.in-Do.plain.now asked))
+
+pub begin-returns-in-Do : goal.begin-returns-in-Do
+unfolding task_state
+begin-returns-in-Do t c = of-task (as_actor c.args.who.now) (as_way c.args.way) _ _ _ _ _ _ _ c.in-Do.is c.act.ensures
+
+pub begin-returns-in-Raise : goal.begin-returns-in-Raise
+unfolding task_state
+begin-returns-in-Raise t c = of-task (as_actor c.args.who.now) (as_way c.args.way) _ _ _ _ _ _ _ c.in-Raise.is refl
+
+pub begin-returns-in-Restore : goal.begin-returns-in-Restore
+unfolding task_state
+begin-returns-in-Restore t c = of-task (as_actor c.args.who.now) (as_way c.args.way) _ _ _ _ _ _ _ c.in-Restore.is c.telling.ensures
+
+pub begin-returns-in-Begin : goal.begin-returns-in-Begin
+unfolding task_state
+begin-returns-in-Begin t c = of-task (as_actor c.args.who.now) (as_way c.args.way) _ _ _ _ _ _ _ c.in-Begin.is c.telling-in-Begin.ensures
+
+pub begin-returns-in-Unhandled : goal.begin-returns-in-Unhandled
+unfolding task_state
+begin-returns-in-Unhandled t c = of-task (as_actor c.args.who.now) (as_way c.args.way) _ _ _ _ _ _ _ c.in-Unhandled.is c.telling-in-Unhandled.ensures
+
+pub begin-returns-in-Done : goal.begin-returns-in-Done
+unfolding task_state
+begin-returns-in-Done t c = of-task (as_actor c.args.who.now) (as_way c.args.way) _ _ _ _ _ _ _ c.in-Done.is c.telling-in-Done.ensures
