@@ -117,13 +117,10 @@ fn holds(
 {
     match rule {
         Rule::DrawnNumbers => numbered(alloc, records, word),
-        Rule::FreeBlocks => allowed(alloc, sys, records, word),
-        Rule::References => allowed(alloc, sys, records, word),
         Rule::Lives => lives_hold(alloc, records, word),
-        Rule::Line => allowed(alloc, sys, records, word),
         Rule::ShownNumbers => shown_right(alloc, sys, records, word),
-        Rule::Subscribers => allowed(alloc, sys, records, word),
-        Rule::TimeEvents => allowed(alloc, sys, records, word),
+        Rule::FreeBlocks | Rule::References | Rule::Line | Rule::Subscribers | Rule::TimeEvents =>
+            allowed(alloc, sys, records, word),
     }
 }
 

@@ -7,7 +7,7 @@ use crate::verdict::Site;
 use qp_model::{Word, definitions};
 
 /// A definition of words.
-#[derive(Clone, Copy, PartialEq, Eq, Debug)]
+#[derive(Clone, Copy)]
 pub(crate) enum Rule {
     DrawnNumbers,
     FreeBlocks,
