@@ -6,11 +6,12 @@ ghost use Rattle.qp_chart.specs.StateTree.{has};
 ghost use Rattle.qp_model.specs.End.{same_numbers};
 ghost use Rattle.qp_model.specs.Lists.{without_one};
 ghost use Rattle.qp_model.specs.Machine.{after};
+ghost use Rattle.qp_model.specs.Record.{item_of};
 ghost use Rattle.qp_model.specs.References.{Refs, references, refs_next};
 ghost use Rattle.qp_ending.specs.Resting.{Counted, makes_below};
 
 use qp_lanes::groups::Group;
-use qp_model::Body;
+use qp_model::{Body, Rec};
 use qp_word_states::lives::marked;
 use std::alloc::{AllocError, Global};
 
@@ -88,15 +89,38 @@ impl ReferenceCounts {
         }
     }
 
+    /// Makes the operation that a record states.
+    #[tactic(auto, unfolding(qp_model::specs::Record::item_of))]
+    fn apply_record(&mut self, r: &Rec)
+        requires inside { IsTrue (makes_below (length self.old.counts.items) (item_of r.now).body) }
+        requires room { self.old.total + 1 < 2 ^ 64 }
+        requires counts { (names : List ℕ) × Counted names self.old.counts.items self.old.total }
+        ensures counted { (s : Refs) → Counted s.names self.old.counts.items self.old.total → Counted (refs_next s (item_of r.now).body).names
+            self.new.counts.items self.new.total }
+        ensures size { length self.new.counts.items ≡ length self.old.counts.items }
+        ensures bounded { self.new.total ≤ self.old.total + 1 }
+    {
+        self.apply(&r.body());
+    }
+
+    /// Makes these operations, where no reference stands.
+    fn apply_all(&mut self, history: &Group)
+        requires below { IsTrue (list_all (λ i. makes_below (length self.old.counts.items) i.body) history.now) }
+        requires none { Counted [] self.old.counts.items self.old.total }
+        ensures { Counted (after references history.now).names self.new.counts.items self.new.total }
+    {
+        for r in &history.items {
+            self.apply_record(r);
+        }
+    }
+
     /// What stands after these operations, whose references are numbered below `size`.
     pub(crate) fn after(alloc: Global, history: &Group, size: usize) -> Result<Self, AllocError>
         requires { IsTrue (list_all (λ i. makes_below size i.body) history.now) }
         ensures { IfOk result (λ s. Counted (after references history.now).names s.counts.items s.total) }
     {
         let mut counts = ReferenceCounts::none(alloc, size)?;
-        for r in &history.items {
-            counts.apply(&r.body());
-        }
+        counts.apply_all(history);
         Ok(counts)
     }
 

@@ -43,7 +43,6 @@ fn line_is_empty(
 }
 
 /// Whether every queue is empty in the end.
-#[tactic(auto, unfolding(qp_model::specs::End::lines_empty))]
 fn lines_empty(alloc: Global, sys: &System, records: &RecordsByWord) -> Result<bool, AllocError>
     ensures { IfOk result (λ b. b ≡ lines_empty sys.now (all_items records.now)) }
 {

@@ -6,5 +6,5 @@ use Rattle.qp_ending.proofs.journal_end.budgets_are_kept.Given as goal
 
 abbrev pub invariant-loop-d : goal.invariant-loop-d
 invariant-loop-d l =
-    list_all (λ d. nat_le (took_count (all_items l.j.lanes) d.priority) l.j.budget) (drop l.d-index l.sys.objects)
-    ≡ list_all (λ d. nat_le (took_count (all_items l.j.lanes) d.priority) l.j.budget) l.sys.objects
+    list_all (λ d. nat_le (took_count (all_items l.j.lanes) d.priority) l.j.budget) (drop l.d-index l.d-items)
+    ≡ list_all (λ d. nat_le (took_count (all_items l.j.lanes) d.priority) l.j.budget) l.d-items
