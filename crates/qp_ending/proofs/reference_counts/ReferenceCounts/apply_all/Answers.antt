@@ -1,8 +1,8 @@
 use Rattle.std.proofs.Common.{◌≡◌, ◌∙◌, ◌+◌, ap, sym, refl, take, length, arith}
+use Rattle.std.proofs.lemmas.Bool.{and_parts}
 use Rattle.qp_model.specs.Record.{Item, item_of}
 use Rattle.qp_model.specs.Machine.{after, after_from}
 use Rattle.qp_model.specs.References.{references}
-use Rattle.qp_model.proofs.ListLemmas.{both_true}
 use Rattle.qp_model.proofs.MachineLemmas.{after-append}
 use Rattle.qp_ending.specs.Resting.{makes_below}
 use Rattle.qp_lanes.proofs.WalkLemmas.{front_seen, test_rest}
@@ -16,7 +16,7 @@ pub apply_record-requires-clause-inside : goal.apply_record-requires-clause-insi
 apply_record-requires-clause-inside c =
     let p = λ (i : Item). makes_below (length c.args.self.now.counts.items) i.body in
     let rest = test_rest (λ r. item_of r.now) c.history.view_is c.deref-r-items.ensures.value c.loop-r.r-index c.r-item.result c.loop-r-test.true c.r-item.is p in
-    rw c.loop-r.invariant.long (both_true _ _ (sym rest ∙ c.loop-r.invariant.below)).0
+    rw c.loop-r.invariant.long (and_parts _ _ (sym rest ∙ c.loop-r.invariant.below)).0
 
 pub loop-r-preserved : goal.loop-r-preserved
 loop-r-preserved c =
@@ -32,5 +32,5 @@ loop-r-preserved c =
       counted = rw next (c.apply_record.ensures.counted s c.loop-r.invariant.counted);
       long = c.apply_record.ensures.size ∙ c.loop-r.invariant.long;
       few = omega (arith, c.apply_record.ensures.bounded, c.loop-r.invariant.few);
-      below = (both_true _ _ (sym rest ∙ c.loop-r.invariant.below)).1;
+      below = (and_parts _ _ (sym rest ∙ c.loop-r.invariant.below)).1;
     }
