@@ -1,5 +1,6 @@
 -- Commands as `clap` reads them, and what it finds.
 use Rattle.std.proofs.Common.{◌≡◌, ◌∙◌, ℕ, ◌+◌, ◌<◌, ◌≤◌, ap, ap₂, drop, get_or, length, refl, sym, List, [], ◌∷◌, Bool, ◌&&◌, true, false, Option, None, Some, codes, option_and_then, option_map}
+use Rattle.std.proofs.lemmas.Bool.{and_parts}
 use Rattle.std.proofs.lemmas.List.{at_drop_all, at_drop_more}
 use Rattle.clap.specs.Words.{AddsArg, App, HasMatchesOf, IsAmong, Kinds, Row, Rule, Text, app_of, fault_of, found_of, is_simple, is_simple_and_free, matches_of, rows_of, rule_of, with_rule}
 use Rattle.clap.specs.declared.builder.arg.Arg.{Arg}
@@ -17,10 +18,6 @@ pub app-arg : (old new : Command) (a : Arg) (app : App) (rule : Rule) → AddsAr
     → app_of old ≡ app → rule_of a ≡ rule → app_of new ≡ with_rule app rule
 app-arg old new a app rule added local is by = added.shape local ∙ ap₂ with_rule is by
 
-both_left : (a b : Bool) → (a && b) ≡ true → a ≡ true
-both_left true b h = refl
-both_left false b h = h
-
 rows-no_fault : (kinds : Kinds) (rows : List Row) → kinds ≡ [] → rows_unless kinds rows ≡ Some rows
 rows-no_fault kinds rows none = rw none refl
 
@@ -32,7 +29,7 @@ rows-fault (k ∷ ks) rows kind among = refl
 pub found-taken : (app : App) (words : List Text) (m : ArgMatches) → is_simple_and_free app ≡ true → fault_of app words ≡ []
     → HasMatchesOf app words m → Some (rows_of (found_of m)) ≡ found_in app words
 found-taken app words m simple none has =
-    ap Some (has (both_left (is_simple app) _ simple)).0 ∙ sym (rows-no_fault (fault_of app words) (matches_of app words) none)
+    ap Some (has (and_parts (is_simple app) _ simple).0).0 ∙ sym (rows-no_fault (fault_of app words) (matches_of app words) none)
 
 -- where it refuses them for another cause than memory, it found nothing
 pub found-refused : (app : App) (words : List Text) (kind : ErrorKind) → IsAmong kind (fault_of app words) → None ≡ found_in app words

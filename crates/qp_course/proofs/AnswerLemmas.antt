@@ -1,5 +1,6 @@
 -- What is answered of an object's list.
 use Rattle.std.proofs.Common.{◌≡◌, ℕ, suc, ◌≤◌, ◌==◌, Bool, true, false, ◌&&◌, List, [], ◌∷◌, length, map, not, refl, sym, ◌∙◌, ap, subst, Some, None, arith}
+use Rattle.std.proofs.lemmas.Bool.{and_right}
 use Rattle.std.proofs.lemmas.Bool.Decides.{nat_tests}
 use Rattle.qp_chart.specs.declared.checked.Chart.{Chart}
 use Rattle.qp_model.specs.declared.systems.System.{System}
@@ -20,17 +21,13 @@ use Rattle.qp_course.specs.Passing.{run_told, is_none_told, told_well, asserts_w
 use Rattle.qp_course.specs.Decided.{ends_well, reads_to}
 use Rattle.qp_course.specs.Followable.{with_eight, IsFollowable}
 use Rattle.qp_course.specs.Runs.{IsAble, CanRun, piece_asserts}
-use Rattle.qp_course.proofs.BackLemmas.{some-first}
 use Rattle.qp_course.proofs.CanLemmas.{run-start}
 use Rattle.qp_course.proofs.FollowLemmas.{pieces-decided, records-decided}
+use Rattle.qp_model.proofs.AbleLemmas.{some-same}
 
 -- a course begins so that it can run
 pub begun-can : (sys : System) (a : Actor) (d : ObjectDef) (s : State) → IsAble sys a → s ≡ start_state a (first_config d) → CanRun sys a s
 begun-can sys a d s able is = subst (λ x. CanRun sys a x) (sym is) (run-start sys a able (first_config d) (omega arith))
-
-and-not : (a b : Bool) → b ≡ false → (a && b) ≡ false
-and-not true b h = h
-and-not false b h = refl
 
 and-is : (a b : Bool) → b ≡ true → (a && b) ≡ a
 and-is true b h = h
@@ -41,15 +38,15 @@ module _ (sys : System) (d : ObjectDef) (f : IsFollowable sys d) where
   pub told-asserted : (cut : Cut) (g : List Told) → asserts_where_cut cut g ≡ false → Decides false ((ps : List Piece) × (bare ps ≡ g) × FollowsTo sys d cut ps)
   unfolding told_to
   told-asserted cut g loud =
-      subst (λ x. Decides x ((ps : List Piece) × (bare ps ≡ g) × FollowsTo sys d cut ps)) (and-not _ (asserts_where_cut cut g) loud) (records-decided sys d f cut g)
+      subst (λ x. Decides x ((ps : List Piece) × (bare ps ≡ g) × FollowsTo sys d cut ps)) (and_right _ (asserts_where_cut cut g) loud) (records-decided sys d f cut g)
 
   pub pieces-asserted : (cut : Cut) (ps : List Piece) → asserts_where_cut cut (bare ps) ≡ false → Decides false (FollowsTo sys d cut ps)
   unfolding reads_to
-  pieces-asserted cut ps loud = subst (λ x. Decides x (FollowsTo sys d cut ps)) (and-not _ (asserts_where_cut cut (bare ps)) loud) (pieces-decided sys d f cut ps)
+  pieces-asserted cut ps loud = subst (λ x. Decides x (FollowsTo sys d cut ps)) (and_right _ (asserts_where_cut cut (bare ps)) loud) (pieces-decided sys d f cut ps)
 
 module _ (sys : System) (d : ObjectDef) (f : IsFollowable sys d) (chart : Chart) (found : chart_at sys d.chart ≡ Some chart) where
   its : f.its ≡ chart
-  its = some-first (sym f.is_its ∙ found)
+  its = some-same (sym f.is_its ∙ found)
 
   -- the object of the chart that is found
   pub its-able : (own : System) (a : Actor) → own ≡ sys → a ≡ actor d chart → d.defer ≤ 255 → IsAble own a

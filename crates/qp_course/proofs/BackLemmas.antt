@@ -17,11 +17,11 @@ use Rattle.qp_course.specs.Machine.{State, Between, Telling, Raising, AtPoint, I
 use Rattle.qp_course.proofs.NoteLemmas.{record_of, tells-is, raised-is, taken-is, dropped-is, back-is}
 use Rattle.qp_course.proofs.CourseLemmas.{goes-took}
 use Rattle.qp_course.proofs.SettleLemmas.{back-settle, back-resume}
-use Rattle.qp_course.proofs.NextLemmas.{mapped, tested, first-rest, back-noted, back-posted, back-step}
+use Rattle.qp_course.proofs.NextLemmas.{first-rest, back-noted, back-posted, back-step}
 use Rattle.qp_course.proofs.NeverLemmas.{none-some}
-
-pub some-first : {X : Type 0} {x y : X} → Some x ≡ Some y → x ≡ y
-some-first e = cc
+use Rattle.qp_model.proofs.KernelLaneLemmas.{granted}
+use Rattle.qp_model.proofs.AbleLemmas.{some-same}
+use Rattle.qp_model.proofs.ListLemmas.{mapped}
 
 module _ (begin : ReadsBegin) (whole : ReadsWhole) (reads_next : ReadsNext) (sys : System) (a : Actor) (aim : Aim) where
   pub next-goes : (s : State) (p : Piece) (ps : List Piece) (later : State) → next sys a s p ≡ Some later → Goes sys a aim later ps → Goes sys a aim s (p ∷ ps)
@@ -34,7 +34,7 @@ module _ (begin : ReadsBegin) (whole : ReadsWhole) (reads_next : ReadsNext) (sys
       subst (λ q. StepsGo sys a aim c (Tell q ∷ ps)) (sym took.3)
       (goes-took sys a aim c took.0 took.1 took.2 entry event ps (back-step begin whole reads_next sys a aim entry event c ps (subst (λ s. Goes sys a aim s ps) (sym at.2) h)))
   next-goes (Telling way n ends ts leaf c) (Tell t) ps later e h =
-      let at = tested (tells n t.body t.known) (noted a way ends leaf ts c) later e in
+      let at = granted (tells n t.body t.known) (noted a way ends leaf ts c) later e in
       (ps, ap (λ q. Tell q ∷ ps) (tells-is n t.body t.known at.0), back-noted begin whole reads_next sys a aim way ends leaf ts c ps (subst (λ s. Goes sys a aim s ps) (sym at.1) h))
   next-goes (Raising way ceiling ts leaf c) (Tell t) ps later e h =
       let at = mapped (λ former. settle a way leaf ts (record c { former = former })) (raised_from ceiling t.body t.known) later e in
@@ -69,15 +69,15 @@ module _ (begin : ReadsBegin) (whole : ReadsWhole) (reads_next : ReadsNext) (sys
       )
       by d (suc left) is k = (dropped x.pool x.block d x.name (suc left) ∷ [], ps, inl (d, left, refl), ap (λ q. Tell q ∷ ps) is, k)
   next-goes (Returning p b d c) (Tell t) ps later e h =
-      let at = tested (comes_back p b d t.body t.known) (Between c) later e in
+      let at = granted (comes_back p b d t.body t.known) (Between c) later e in
       let is = back-is p b d t.body t.known at.0 in
       let k : StepsGo sys a aim c ps = subst (λ s. Goes sys a aim s ps) (sym at.1) h in
       (is.0, (ps, ap (λ q. Tell q ∷ ps) is.1, k))
   next-goes Asserted (Tell t) ps later e h = absurd (none-some e)
   next-goes (AtPoint ev x ts leaf c) Point ps later e h =
-      let same : settle a (Stepping ev x) leaf ts c ≡ later = some-first e in
+      let same : settle a (Stepping ev x) leaf ts c ≡ later = some-same e in
       (ps, refl, back-settle begin sys a aim (Stepping ev x) leaf ts c ps (subst (λ s. Goes sys a aim s ps) (sym same) h))
   next-goes (AtPost way rest ts leaf c) Point ps later e h =
-      let same : resume way true rest leaf ts (settle a way leaf ts) c ≡ later = some-first e in
+      let same : resume way true rest leaf ts (settle a way leaf ts) c ≡ later = some-same e in
       (ps, refl, back-resume sys a aim way leaf ts (settle a way leaf ts) (λ d zs k. back-settle begin sys a aim way leaf ts d zs k) true rest c ps (subst (λ s. Goes sys a aim s ps) (sym same) h))
   next-goes s Point ps later e h = absurd (none-some e)

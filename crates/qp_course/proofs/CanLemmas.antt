@@ -11,7 +11,7 @@ use Rattle.qp_model.specs.Calls.{Answer, Flushed}
 use Rattle.qp_model.specs.Able.{chart_able}
 use Rattle.qp_model.specs.Pieces.{Piece}
 use Rattle.qp_model.specs.Acts.{Config, Actor, names_of}
-use Rattle.qp_model.proofs.AbleLemmas.{step-able, start-able}
+use Rattle.qp_model.proofs.AbleLemmas.{step-able, start-able, some-same}
 use Rattle.qp_fits.specs.CallState.{CallStage, Whole, CallState}
 use Rattle.qp_fits.specs.CallStateNext.{call_state_next, stage_answer}
 use Rattle.qp_fits.specs.Reads.{Reads}
@@ -24,13 +24,12 @@ use Rattle.qp_course.specs.Followable.{with_eight}
 use Rattle.qp_course.specs.Ready.{IsWithin, CanGoOn}
 use Rattle.qp_course.specs.FewLeft.{AreFew}
 use Rattle.qp_course.specs.Runs.{IsAble, CanRun}
-use Rattle.qp_course.proofs.BackLemmas.{some-first}
 use Rattle.qp_course.proofs.ReadyLemmas.{ready-start, ready-next, can-next}
 use Rattle.qp_course.proofs.FewStateLemmas.{few-start, few-next}
 use Rattle.qp_course.proofs.NeverLemmas.{none-some}
 
 whole : (s : CallStage) (answer : Answer) → stage_answer s ≡ Some answer → s ≡ Whole answer
-whole (Whole own) answer h = ap Whole (some-first h)
+whole (Whole own) answer h = ap Whole (some-same h)
 whole s answer h = absurd (none-some h)
 
 -- a flush that is whole tells no more entries than a deferred list has room for

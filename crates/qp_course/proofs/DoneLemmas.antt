@@ -27,11 +27,12 @@ use Rattle.qp_course.specs.Machine.{State, Between, Telling, Raising, AtPoint, I
 use Rattle.qp_course.specs.Passing.{through, settle_past, pass_actions, pass, run_told}
 use Rattle.qp_course.specs.Standing.{left_in}
 use Rattle.qp_course.proofs.NoteLemmas.{tells-is, raised-is, taken-is, dropped-is, back-is}
-use Rattle.qp_course.proofs.NextLemmas.{mapped, tested}
-use Rattle.qp_course.proofs.BackLemmas.{some-first}
 use Rattle.qp_course.proofs.PassLemmas.{Shape, settle-shape, through-none}
 use Rattle.qp_course.proofs.QuietLemmas.{call-plain}
 use Rattle.qp_course.proofs.NeverLemmas.{none-some}
+use Rattle.qp_model.proofs.KernelLaneLemmas.{granted}
+use Rattle.qp_model.proofs.AbleLemmas.{some-same}
+use Rattle.qp_model.proofs.ListLemmas.{mapped}
 
 -- `done` is the last of these tasks, and no other is
 abbrev pub ends_once : List Task → Bool
@@ -300,7 +301,7 @@ module _ (sys : System) (a : Actor) where
       subst (λ b. Counts (Between c) b later) (sym body) (subst (λ s. Counts (Between c) (item.Took took.0 took.1 took.2 at.0.0) s) at.2
       (record { ends = under.0; counts = rw under.1 refl; loud = λ k. under.1 }))
   next-counts (Telling way n ends ts leaf c) t later e h =
-      let at = tested (tells n t.body t.known) (noted a way ends leaf ts c) later e in
+      let at = granted (tells n t.body t.known) (noted a way ends leaf ts c) later e in
       let body : t.body ≡ body_of n = same-body (tells-is n t.body t.known at.0) in
       subst (λ b. Counts (Telling way n ends ts leaf c) b later) (sym body) (subst (λ s. Counts (Telling way n ends ts leaf c) (body_of n) s) at.1 (telling-counts a way n ends ts leaf c h))
   next-counts (Raising way ceiling ts leaf c) t later e h =
@@ -325,7 +326,7 @@ module _ (sys : System) (a : Actor) where
       over d zero = (tt, refl)
       over d (suc left) = (tt, refl)
   next-counts (Returning p b d c) t later e h =
-      let at = tested (comes_back p b d t.body t.known) (Between c) later e in
+      let at = granted (comes_back p b d t.body t.known) (Between c) later e in
       let body = same-body (back-is p b d t.body t.known at.0).1 in
       rests-count (Returning p b d c) later t.body refl (ap open_in (sym at.1)) (subst WillEnd at.1 tt) (record { done = ap is_done body; took = ap is_took body }) (ap is_assert body)
   next-counts Asserted t later e h = absurd (none-some e)
@@ -334,7 +335,7 @@ module _ (sys : System) (a : Actor) where
   pub told-counts : (g : List Told) (s later : State) → run_told sys a s g ≡ Some later → WillEnd s
       → count_by (λ t. is_done t.body) g + open_in later ≡ count_by (λ t. is_took t.body) g + open_in s
   unfolding run_told
-  told-counts [] s later e h = let same : open_in later ≡ open_in s = ap open_in (sym (some-first e)) in omega (arith, same)
+  told-counts [] s later e h = let same : open_in later ≡ open_in s = ap open_in (sym (some-same e)) in omega (arith, same)
   told-counts (t ∷ g) s later e h = by (λ mid k ends. told-counts g mid later k ends) (tell_next sys a (pass a s) t) refl e
     where
       by : ((mid : State) → run_told sys a mid g ≡ Some later → WillEnd mid → count_by (λ t. is_done t.body) g + open_in later ≡ count_by (λ t. is_took t.body) g + open_in mid)
@@ -370,6 +371,6 @@ module _ (sys : System) (a : Actor) where
           ended [] false loud k last more = more last
           ended (u ∷ g) false loud k last more = more last
           ended [] true loud k last more =
-              let same : open_in mid ≡ open_in later = ap open_in (some-first k) in
+              let same : open_in mid ≡ open_in later = ap open_in (some-same k) in
               let one = loud refl in absurd (omega (arith, one, same, rests))
           ended (u ∷ g) true loud k last more = absurd (cc)

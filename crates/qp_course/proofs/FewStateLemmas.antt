@@ -12,7 +12,7 @@ use Rattle.qp_model.specs.Calls.{Answer, Deed, Sets, Says, Calls, deed_of, ok_af
 use Rattle.qp_model.specs.Able.{task_able, chart_able}
 use Rattle.qp_model.specs.Pieces.{Piece, Tell, Point}
 use Rattle.qp_model.specs.Acts.{Config, Actor, names_of}
-use Rattle.qp_model.proofs.AbleLemmas.{step-able, start-able}
+use Rattle.qp_model.proofs.AbleLemmas.{step-able, start-able, some-same}
 use Rattle.qp_model.proofs.Completes.{able-rest}
 use Rattle.qp_fits.specs.CallState.{CallStage, Whole, CallState}
 use Rattle.qp_fits.specs.CallStateNext.{call_state_begin, call_state_next, stage_answer}
@@ -21,9 +21,9 @@ use Rattle.qp_course.specs.Goes.{Way, Starting, Stepping, moment_of}
 use Rattle.qp_course.specs.Machine.{State, Between, Telling, Raising, AtPoint, InCall, AtPost, Releasing, Returning, Asserted, has_inner, done, answered, resumed, resume, deed_state, task_state, closed, settle, noted, posted, step_state, start_state, left_over, tell_next, point_next, next}
 use Rattle.qp_course.specs.Followable.{with_eight}
 use Rattle.qp_course.specs.FewLeft.{AreFew, FewLeft}
-use Rattle.qp_course.proofs.NextLemmas.{mapped, tested}
-use Rattle.qp_course.proofs.BackLemmas.{some-first}
 use Rattle.qp_course.proofs.NeverLemmas.{none-some}
+use Rattle.qp_model.proofs.KernelLaneLemmas.{granted}
+use Rattle.qp_model.proofs.ListLemmas.{mapped}
 
 module _ (a : Actor) (way : Way) (leaf : ℕ) (ts : List Task) (few : AreFew way ts) (go : Config → State) (goes : (d : Config) → FewLeft (go d)) where
   few-done : (c : Config) → FewLeft (done way leaf ts go c)
@@ -102,7 +102,7 @@ module _ (sys : System) (a : Actor) (few : chart_able with_eight a.chart ≡ tru
       let at = mapped (λ (x : Entry × Event). step_state a x.0 x.1 c) (taken_by t.body t.known) later e in
       subst FewLeft at.2 (few-step at.0.0 at.0.1 c)
   few-next (Telling way n ends ts leaf c) (Tell t) later e h =
-      let at = tested (tells n t.body t.known) (noted a way ends leaf ts c) later e in
+      let at = granted (tells n t.body t.known) (noted a way ends leaf ts c) later e in
       subst FewLeft at.1 (few-noted way ends leaf ts c h)
   few-next (Raising way ceiling ts leaf c) (Tell t) later e h =
       let at = mapped (λ former. settle a way leaf ts (record c { former = former })) (raised_from ceiling t.body t.known) later e in
@@ -121,10 +121,10 @@ module _ (sys : System) (a : Actor) (few : chart_able with_eight a.chart ≡ tru
       by d zero = tt
       by d (suc left) = tt
   few-next (Returning p b d c) (Tell t) later e h =
-      let at = tested (comes_back p b d t.body t.known) (Between c) later e in
+      let at = granted (comes_back p b d t.body t.known) (Between c) later e in
       subst FewLeft at.1 tt
   few-next Asserted (Tell t) later e h = absurd (none-some e)
-  few-next (AtPoint ev x ts leaf c) Point later e h = subst FewLeft (some-first e) (few-settle a (Stepping ev x) leaf ts c h)
+  few-next (AtPoint ev x ts leaf c) Point later e h = subst FewLeft (some-same e) (few-settle a (Stepping ev x) leaf ts c h)
   few-next (AtPost way rest ts leaf c) Point later e h =
-      subst FewLeft (some-first e) (few-resume a way leaf ts h (settle a way leaf ts) (λ d. few-settle a way leaf ts d h) true rest c)
+      subst FewLeft (some-same e) (few-resume a way leaf ts h (settle a way leaf ts) (λ d. few-settle a way leaf ts d h) true rest c)
   few-next s Point later e h = absurd (none-some e)

@@ -11,6 +11,7 @@ use Rattle.qp_model.specs.Pieces.{Piece, Tell, Point, bare, tell, pieces_of}
 use Rattle.qp_model.specs.Acts.{Config, Actor, names_of, Later, DoesCall, DoesDeed, Notes, DoesTask, Does}
 use Rattle.qp_model.proofs.GroupLemmas.{bare-append, bare-pieces_of}
 use Rattle.qp_course.specs.Goes.{Way, Starting, Stepping, moment_of, Ends, call_pieces, CallGoes, DeedGoes, TaskGoes, TasksGo}
+use Rattle.qp_model.proofs.PublicationLemmas.{tell-append}
 
 -- the pieces of tasks as the list has them: those of a start stand there without points
 abbrev pub pieces_by : Way → List Piece → List Piece
@@ -32,14 +33,10 @@ unfolding bare
 by-tell Starting t ps = refl
 by-tell (Stepping ev e) t ps = refl
 
-tells-append : (xs ys : List Told) → tell (xs ++ ys) ≡ tell xs ++ tell ys
-tells-append [] ys = refl
-tells-append (x ∷ xs) ys = ap (λ zs. Tell x ∷ zs) (tells-append xs ys)
-
 by-call : (way : Way) (x : Call) (g : List Told) (ps : List Piece) → pieces_by way (pieces_of x g ++ ps) ≡ call_pieces way x g ++ pieces_by way ps
 by-call (Stepping ev e) x g ps = refl
 by-call Starting x g ps =
-    ap tell (bare-append (pieces_of x g) ps) ∙ tells-append (bare (pieces_of x g)) (bare ps) ∙ ap (λ zs. tell zs ++ tell (bare ps)) (bare-pieces_of x g)
+    ap tell (bare-append (pieces_of x g) ps) ∙ tell-append (bare (pieces_of x g)) (bare ps) ∙ ap (λ zs. tell zs ++ tell (bare ps)) (bare-pieces_of x g)
 
 by-alone : (way : Way) (x : Call) (g : List Told) → pieces_by way (pieces_of x g) ≡ call_pieces way x g
 by-alone (Stepping ev e) x g = refl

@@ -11,17 +11,12 @@ use Rattle.qp_model.specs.Told.{Told}
 use Rattle.qp_model.specs.Calls as call
 use Rattle.qp_model.specs.Calls.{Call}
 use Rattle.qp_model.specs.Deferral.{keep, kept_after, KeepsDeferred}
-
-when-true : {X : Type 0} (b : Bool) (x y : X) → cond b (Some x) None ≡ Some y → (b ≡ true) × (x ≡ y)
-when-true true x y h = (refl, cc)
-when-true false x y h = absurd (cc)
+use Rattle.qp_model.proofs.KernelLaneLemmas.{granted}
+use Rattle.qp_model.proofs.AbleLemmas.{some-same}
 
 when-false : {X : Type 0} (b : Bool) (x y : X) → cond b None (Some x) ≡ Some y → x ≡ y
 when-false true x y h = absurd (cc)
 when-false false x y h = cc
-
-some-first : {X : Type 0} {x y : X} → Some x ≡ Some y → x ≡ y
-some-first e = cc
 
 added : (room : ℕ) (kept new : List Entry) (e : Entry) → nat_lt (length kept) room ≡ true → kept ++ e ∷ [] ≡ new → length new ≤ room
 added room kept new e test is =
@@ -37,16 +32,16 @@ same room kept new is h = omega (arith, ap length is)
 keep-within : (room : ℕ) (kept new : List Entry) (b : Body) → keep room kept b ≡ Some new → length kept ≤ room → length new ≤ room
 unfolding keep
 keep-within room kept new (Defer e) is h =
-    let at = when-true (nat_lt (length kept) room) (kept ++ e ∷ []) new is in added room kept new e at.0 at.1
+    let at = granted (nat_lt (length kept) room) (kept ++ e ∷ []) new is in added room kept new e at.0 at.1
 keep-within room kept new NoDefer is h = same room kept new (when-false (nat_lt (length kept) room) kept new is) h
-keep-within room kept new (Recall e) is h = dropped room kept new (when-true (is_front e kept) (drop 1 kept) new is).1 h
-keep-within room kept new (Flush e) is h = dropped room kept new (when-true (is_front e kept) (drop 1 kept) new is).1 h
-keep-within room kept new NoRecall is h = same room kept new (when-true (length kept == 0) kept new is).1 h
-keep-within room kept new b is h = same room kept new (some-first is) h
+keep-within room kept new (Recall e) is h = dropped room kept new (granted (is_front e kept) (drop 1 kept) new is).1 h
+keep-within room kept new (Flush e) is h = dropped room kept new (granted (is_front e kept) (drop 1 kept) new is).1 h
+keep-within room kept new NoRecall is h = same room kept new (granted (length kept == 0) kept new is).1 h
+keep-within room kept new b is h = same room kept new (some-same is) h
 
 after-within : (room : ℕ) (g : List Told) (kept new : List Entry) → kept_after room kept g ≡ Some new → length kept ≤ room → length new ≤ room
 unfolding kept_after
-after-within room [] kept new is h = same room kept new (some-first is) h
+after-within room [] kept new is h = same room kept new (some-same is) h
 after-within room (t ∷ g) kept new is h = by (λ mid e within. after-within room g mid new e within) (keep room kept t.body) refl is
   where
     by : ((mid : List Entry) → kept_after room mid g ≡ Some new → length mid ≤ room → length new ≤ room) → (o : Option (List Entry)) → keep room kept t.body ≡ o

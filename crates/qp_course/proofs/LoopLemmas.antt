@@ -19,10 +19,10 @@ use Rattle.qp_course.specs.Goes.{Way, Starting, Stepping}
 use Rattle.qp_course.specs.Machine.{State, Between, Telling, Raising, AtPoint, InCall, AtPost, Releasing, Returning, Asserted, answered, resumed, resume, closed, settle, tell_next, point_next, next, run, expects_point}
 use Rattle.qp_course.specs.Passing.{pass, run_told}
 use Rattle.qp_course.specs.Runs.{IsAble, CanRun, is_point}
-use Rattle.qp_course.proofs.BackLemmas.{some-first}
 use Rattle.qp_course.proofs.PassLemmas.{Shape, pass-none, resume-shape, settle-shape, start-none}
 use Rattle.qp_course.proofs.CanLemmas.{run-next}
 use Rattle.qp_course.proofs.NeverLemmas.{none-some}
+use Rattle.qp_model.proofs.AbleLemmas.{some-same}
 
 -- at most so many points are to come before another piece
 abbrev pub points_left : State → ℕ
@@ -74,8 +74,8 @@ module _ (a : Actor) where
   -- a point leaves fewer of them
   pub point-fewer : (s later : State) → point_next a s ≡ Some later → points_left later < points_left s
   unfolding point_next
-  point-fewer (AtPoint ev e ts leaf c) later h = let same = ap points_left (some-first h) in omega (arith, same, settled ev e leaf ts c)
-  point-fewer (AtPost way rest ts leaf c) later h = let same = ap points_left (some-first h) in omega (arith, same, resumes way rest leaf ts c)
+  point-fewer (AtPoint ev e ts leaf c) later h = let same = ap points_left (some-same h) in omega (arith, same, settled ev e leaf ts c)
+  point-fewer (AtPost way rest ts leaf c) later h = let same = ap points_left (some-same h) in omega (arith, same, resumes way rest leaf ts c)
   point-fewer s later h = absurd (none-some h)
 
   unexpected : (s : State) → point_next a s ≡ None → expects_point s ≡ false

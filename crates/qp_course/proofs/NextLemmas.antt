@@ -1,7 +1,6 @@
 -- What a piece makes of a state is what may come after it.
-use Rattle.std.proofs.Common.{◌≡◌, ℕ, suc, ◌+◌, Bool, true, false, ◌&&◌, List, [], ◌∷◌, ◌++◌, cond, refl, sym, ◌∙◌, ap, subst, inl, inr, ◌⊎◌, Option, Some, None}
+use Rattle.std.proofs.Common.{◌≡◌, ℕ, suc, ◌+◌, Bool, true, false, ◌&&◌, List, [], ◌∷◌, ◌++◌, refl, sym, ◌∙◌, ap, subst, inl, inr, ◌⊎◌, Some, None}
 use Rattle.std.specs.Prelude.{max}
-use Rattle.std.specs.Option.{option_map}
 use Rattle.std.specs.Bool.{MatchBool}
 use Rattle.qp_chart.specs.Task.{Task}
 use Rattle.qp_chart.specs.Agenda.{step_plan}
@@ -24,25 +23,11 @@ use Rattle.qp_course.specs.Machine.{State, Between, Telling, Raising, AtPoint, I
 use Rattle.qp_course.proofs.NoteLemmas.{is-tells, is-raised, is-dropped, is-back}
 use Rattle.qp_course.proofs.CourseLemmas.{took-goes}
 use Rattle.qp_course.proofs.SettleLemmas.{into-settle, back-settle, into-resume, back-resume, into-done, back-done}
+use Rattle.qp_model.proofs.CutLemmas.{first-same, rest-same}
 
 -- the state behind a piece, and what may come from there
 abbrev pub Behind : System → Actor → Aim → State → Piece → List Piece → Type 0
 Behind sys a aim s p ps = (later : State) × (next sys a s p ≡ Some later) × Goes sys a aim later ps
-
--- an option that was mapped
-pub mapped : {X Y : Type 0} (f : X → Y) (o : Option X) (y : Y) → option_map f o ≡ Some y → (x : X) × (o ≡ Some x) × (f x ≡ y)
-mapped f None y h = absurd (cc)
-mapped f (Some x) y h = (x, refl, cc)
-
-pub tested : {X : Type 0} (b : Bool) (x y : X) → cond b (Some x) None ≡ Some y → (b ≡ true) × (x ≡ y)
-tested true x y h = (refl, cc)
-tested false x y h = absurd (cc)
-
-first-same : {X : Type 0} {x y : X} {xs ys : List X} → x ∷ xs ≡ y ∷ ys → x ≡ y
-first-same e = cc
-
-rest-same : {X : Type 0} {x y : X} {xs ys : List X} → x ∷ xs ≡ y ∷ ys → xs ≡ ys
-rest-same e = cc
 
 -- a record of a call, and its point where it is a post of a publication
 pub inner-first : (inner : Bool) (t : Told) (g : List Told)

@@ -15,8 +15,9 @@ use Rattle.qp_fits.specs.CallStateLaws.{ReadsBegin, ReadsWhole, ReadsNext}
 use Rattle.qp_course.specs.Goes.{Aim, Way, Starting, Stepping, moment_of}
 use Rattle.qp_course.specs.Machine.{State, Between, Telling, Raising, AtPoint, InCall, AtPost, Releasing, Returning, Asserted, Goes, has_inner, answered, resumed, resume, deed_state, task_state, closed, closing, settle, point_next, next, expects_point}
 use Rattle.qp_course.specs.Passing.{through, settle_past, pass_actions, pass}
-use Rattle.qp_course.proofs.BackLemmas.{next-goes, some-first}
+use Rattle.qp_course.proofs.BackLemmas.{next-goes}
 use Rattle.qp_course.proofs.NeverLemmas.{none-some}
+use Rattle.qp_model.proofs.AbleLemmas.{some-same}
 
 -- no point is expected
 pub pass-none : (a : Actor) (s : State) → expects_point s ≡ false → pass a s ≡ s
@@ -172,8 +173,8 @@ module _ (a : Actor) where
   -- a point that is read is one that is passed
   pub pass-point : (s later : State) → point_next a s ≡ Some later → pass a later ≡ pass a s
   unfolding point_next pass pass_actions
-  pass-point (AtPoint ev e ts leaf c) later h = ap (pass a) (sym (some-first h)) ∙ pass-settle ev e leaf ts c
-  pass-point (AtPost way rest ts leaf c) later h = ap (pass a) (sym (some-first h)) ∙ resume-plain way true rest ts leaf c
+  pass-point (AtPoint ev e ts leaf c) later h = ap (pass a) (sym (some-same h)) ∙ pass-settle ev e leaf ts c
+  pass-point (AtPost way rest ts leaf c) later h = ap (pass a) (sym (some-same h)) ∙ resume-plain way true rest ts leaf c
   pass-point s later h = absurd (none-some h)
 
 module _ (begin : ReadsBegin) (whole : ReadsWhole) (reads_next : ReadsNext) (sys : System) (a : Actor) (aim : Aim) where

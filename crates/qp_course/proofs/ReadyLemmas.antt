@@ -16,7 +16,7 @@ use Rattle.qp_model.specs.Calls.{Call, Answer, Deed, Sets, Says, Calls, deed_of,
 use Rattle.qp_model.specs.Able.{is_able, task_able, chart_able}
 use Rattle.qp_model.specs.Pieces.{Piece, Tell, Point}
 use Rattle.qp_model.specs.Acts.{Config, Actor, names_of}
-use Rattle.qp_model.proofs.AbleLemmas.{step-able, start-able}
+use Rattle.qp_model.proofs.AbleLemmas.{step-able, start-able, some-same}
 use Rattle.qp_model.proofs.Completes.{able-first, able-rest}
 use Rattle.qp_fits.specs.CallState.{CallStage, Whole, CallState}
 use Rattle.qp_fits.specs.CallStateNext.{call_state_begin, call_state_next, stage_answer}
@@ -28,9 +28,9 @@ use Rattle.qp_course.specs.Machine.{State, Between, Telling, Raising, AtPoint, I
 use Rattle.qp_course.specs.Ready.{AreAble, IsWithin, CanGoOn, IsReady}
 use Rattle.qp_course.proofs.KeptLemmas.{keeps-within}
 use Rattle.qp_course.proofs.FlushedLemmas.{flushed-few}
-use Rattle.qp_course.proofs.NextLemmas.{mapped, tested}
-use Rattle.qp_course.proofs.BackLemmas.{some-first}
 use Rattle.qp_course.proofs.NeverLemmas.{none-some}
+use Rattle.qp_model.proofs.KernelLaneLemmas.{granted}
+use Rattle.qp_model.proofs.ListLemmas.{mapped}
 
 -- what a deed asks for
 abbrev DeedAble : System → Option Entry → Deed → Type 0
@@ -157,7 +157,7 @@ module _ (begin : ReadsBegin) (reads_next : ReadsNext) (first : OpenBegin) (open
       let at = mapped (λ (x : Entry × Event). step_state a x.0 x.1 c) (taken_by t.body t.known) later e in
       subst (IsReady sys a) at.2 (ready-step at.0.0 at.0.1 c h)
   ready-next (Telling way n ends ts leaf c) (Tell t) later e h =
-      let at = tested (tells n t.body t.known) (noted a way ends leaf ts c) later e in
+      let at = granted (tells n t.body t.known) (noted a way ends leaf ts c) later e in
       subst (IsReady sys a) at.1 (ready-noted way ends leaf ts c h.0 h.1)
   ready-next (Raising way ceiling ts leaf c) (Tell t) later e h =
       let at = mapped (λ former. settle a way leaf ts (record c { former = former })) (raised_from ceiling t.body t.known) later e in
@@ -176,12 +176,12 @@ module _ (begin : ReadsBegin) (reads_next : ReadsNext) (first : OpenBegin) (open
       by d zero = h
       by d (suc left) = h
   ready-next (Returning p b d c) (Tell t) later e h =
-      let at = tested (comes_back p b d t.body t.known) (Between c) later e in
+      let at = granted (comes_back p b d t.body t.known) (Between c) later e in
       subst (IsReady sys a) at.1 h
   ready-next Asserted (Tell t) later e h = absurd (none-some e)
   ready-next (AtPoint ev x ts leaf c) Point later e h =
-      subst (IsReady sys a) (some-first e) (ready-settle begin first sys a (Stepping ev x) leaf ts c h.0 h.1)
+      subst (IsReady sys a) (some-same e) (ready-settle begin first sys a (Stepping ev x) leaf ts c h.0 h.1)
   ready-next (AtPost way rest ts leaf c) Point later e h =
-      subst (IsReady sys a) (some-first e)
+      subst (IsReady sys a) (some-same e)
       (ready-resume sys a way leaf ts h.1 (settle a way leaf ts) (λ d w. ready-settle begin first sys a way leaf ts d h.1 w) true rest c h.0)
   ready-next s Point later e h = absurd (none-some e)

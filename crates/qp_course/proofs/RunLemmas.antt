@@ -1,7 +1,8 @@
 -- A list is a front of a course exactly where its states read it.
-use Rattle.std.proofs.Common.{◌≡◌, ◌≤◌, Bool, true, false, ◌||◌, List, [], ◌∷◌, ◌++◌, length, refl, sym, ◌∙◌, ap, subst, inl, inr, ◌⊎◌, Option, Some, None, append-nil}
+use Rattle.std.proofs.Common.{◌≡◌, ◌≤◌, true, ◌||◌, List, [], ◌∷◌, ◌++◌, length, refl, sym, ◌∙◌, ap, subst, inl, inr, ◌⊎◌, Option, Some, None, append-nil}
 use Rattle.std.specs.Bool.{IsTrue}
 use Rattle.std.specs.Option.{option_and_then}
+use Rattle.std.proofs.lemmas.Bool.{or_left, or_cases, or_right}
 use Rattle.qp_model.specs.declared.systems.System.{System}
 use Rattle.qp_model.specs.Pieces.{Piece, Tell, Point, ends_at_point, begins_at_point}
 use Rattle.qp_model.specs.Able.{chart_able}
@@ -15,10 +16,11 @@ use Rattle.qp_course.specs.Ready.{IsReady}
 use Rattle.qp_course.specs.Decided.{ends_well}
 use Rattle.qp_course.proofs.SettleLemmas.{into-settle, back-settle}
 use Rattle.qp_course.proofs.NextLemmas.{goes-next}
-use Rattle.qp_course.proofs.BackLemmas.{next-goes, some-first}
+use Rattle.qp_course.proofs.BackLemmas.{next-goes}
 use Rattle.qp_course.proofs.ReadyLemmas.{ready-start, ready-next}
 use Rattle.qp_course.proofs.EndLemmas.{goes-end, end-goes, goes-some}
 use Rattle.qp_course.proofs.NeverLemmas.{false-true, none-some}
+use Rattle.qp_model.proofs.AbleLemmas.{some-same}
 
 pub under : (sys : System) (a : Actor) (s : State) → IsReady sys a s → IsUnderWay s
 under sys a (Between c) h = tt
@@ -45,17 +47,6 @@ expected-point sys a (AtPoint ev e ts leaf c) ps h (rest, is, k) = ap begins_at_
 expected-point sys a (AtPost way rest ts leaf c) ps h (more, is, k) = ap begins_at_point is
 expected-point sys a s ps h k = absurd (false-true h)
 
-pub either : (x y : Bool) → (x || y) ≡ true → (x ≡ true) ⊎ (y ≡ true)
-either true y h = inl refl
-either false y h = inr h
-
-pub or-left : (x y : Bool) → x ≡ true → (x || y) ≡ true
-or-left x y h = rw h refl
-
-pub or-right : (x y : Bool) → y ≡ true → (x || y) ≡ true
-or-right true y h = refl
-or-right false y h = h
-
 module _ (begin : ReadsBegin) (whole : ReadsWhole) (reads_next : ReadsNext) (first : OpenBegin) (open_next : OpenNext) (open_reads : OpenReads)
     (sys : System) (a : Actor) (able : chart_able sys a.chart ≡ true) where
   -- pieces at the front of what may come are read
@@ -71,7 +62,7 @@ module _ (begin : ReadsBegin) (whole : ReadsWhole) (reads_next : ReadsNext) (fir
   -- and back
   pub run-goes : (ps back : List Piece) (s later : State) → run sys a s ps ≡ Some later → Goes sys a anywhere later back → Goes sys a anywhere s (ps ++ back)
   unfolding run
-  run-goes [] back s later e h = subst (λ x. Goes sys a anywhere x back) (sym (some-first e)) h
+  run-goes [] back s later e h = subst (λ x. Goes sys a anywhere x back) (sym (some-same e)) h
   run-goes (p ∷ ps) back s later e h = by (λ mid k. run-goes ps back mid later k h) (next sys a s p) refl e
     where
       by : ((mid : State) → run sys a mid ps ≡ Some later → Goes sys a anywhere mid (ps ++ back)) → (o : Option State) → next sys a s p ≡ o
@@ -82,7 +73,7 @@ module _ (begin : ReadsBegin) (whole : ReadsWhole) (reads_next : ReadsNext) (fir
   -- a state that was read to can go on
   pub run-ready : (ps : List Piece) (s later : State) → IsReady sys a s → run sys a s ps ≡ Some later → IsReady sys a later
   unfolding run
-  run-ready [] s later ready e = subst (IsReady sys a) (some-first e) ready
+  run-ready [] s later ready e = subst (IsReady sys a) (some-same e) ready
   run-ready (p ∷ ps) s later ready e = by (λ mid can k. run-ready ps mid later can k) (next sys a s p) refl e
     where
       by : ((mid : State) → IsReady sys a mid → run sys a mid ps ≡ Some later → IsReady sys a later) → (o : Option State) → next sys a s p ≡ o
@@ -93,14 +84,14 @@ module _ (begin : ReadsBegin) (whole : ReadsWhole) (reads_next : ReadsNext) (fir
   -- what may come from a state of a list that stopped there
   pub stops-here : (s : State) (back : List Piece) → IsReady sys a s → Goes sys a anywhere s back → begins_at_point back ≡ true → (is_end s || expects_point s) ≡ true
   unfolding next
-  stops-here s [] ready h at = or-left (is_end s) (expects_point s) (goes-end sys a s ready h)
+  stops-here s [] ready h at = or_left (is_end s) (expects_point s) (goes-end sys a s ready h)
   stops-here s (Point ∷ back) ready h at =
       let step = goes-next begin whole reads_next sys a anywhere s Point back (under sys a s ready) h in
-      or-right (is_end s) (expects_point s) (point-expected a s step.0 step.1)
+      or_right (is_end s) (expects_point s) (point-expected a s step.0 step.1)
   stops-here s (Tell t ∷ back) ready h at = absurd (false-true at)
 
   pub here-stops : (s : State) → IsReady sys a s → (is_end s || expects_point s) ≡ true → (back : List Piece) × Goes sys a anywhere s back × (begins_at_point back ≡ true)
-  here-stops s ready h = by (either (is_end s) (expects_point s) h)
+  here-stops s ready h = by (or_cases (is_end s) (expects_point s) h)
     where
       by : (is_end s ≡ true) ⊎ (expects_point s ≡ true) → (back : List Piece) × Goes sys a anywhere s back × (begins_at_point back ≡ true)
       by (inl k) = ([], end-goes sys a s k, refl)
@@ -136,8 +127,8 @@ module _ (begin : ReadsBegin) (whole : ReadsWhole) (reads_next : ReadsNext) (fir
       where
         by : (later : State) → IsReady sys a later → Goes sys a anywhere later back → IsTrue (ends_at_point ps) ⊎ IsTrue (begins_at_point back)
             → (ends_at_point ps || (is_end later || expects_point later)) ≡ true
-        by later ready k (inl front) = or-left (ends_at_point ps) (is_end later || expects_point later) front
-        by later ready k (inr behind) = or-right (ends_at_point ps) (is_end later || expects_point later) (stops-here later back ready k behind)
+        by later ready k (inl front) = or_left (ends_at_point ps) (is_end later || expects_point later) front
+        by later ready k (inr behind) = or_right (ends_at_point ps) (is_end later || expects_point later) (stops-here later back ready k behind)
     fronts-well Anywhere ps (back, h) =
         let read = goes-run ps back (start_state a c) begun (start-into (ps ++ back) h) in
         ap (ends_well Anywhere (ends_at_point ps)) read.1
@@ -159,6 +150,6 @@ module _ (begin : ReadsBegin) (whole : ReadsWhole) (reads_next : ReadsNext) (fir
         by : (cut : Cut) (o : Option State) → run sys a (start_state a c) ps ≡ o → ends_well cut (ends_at_point ps) o ≡ true → Fronts cut ps
         by cut None e h = absurd (cc)
         by Whole (Some later) e h = rw append-nil at (front later [] e (end-goes sys a later h))
-        by Stopped (Some later) e h = stopped later e (either (ends_at_point ps) (is_end later || expects_point later) h)
+        by Stopped (Some later) e h = stopped later e (or_cases (ends_at_point ps) (is_end later || expects_point later) h)
         by Anywhere (Some later) e h =
             let some = goes-some open_reads sys a later (run-ready ps (start_state a c) later begun e) in (some.0, front later some.0 e some.1)

@@ -30,13 +30,13 @@ use Rattle.qp_course.specs.Machine.{State, Between, Releasing, Returning, Goes, 
 use Rattle.qp_course.specs.Passing.{run_told, is_none_told, told_well, told_to, asserts_where_cut}
 use Rattle.qp_course.specs.Standing.{left_in, ShowsLeft, FollowSomehow, LeavesAt, StandsAt}
 use Rattle.qp_course.specs.declared.standing.Standing.{Standing}
-use Rattle.qp_course.proofs.BackLemmas.{some-first}
 use Rattle.qp_course.proofs.CourseLemmas.{goes-course, steps-none}
 use Rattle.qp_course.proofs.DoneLemmas.{open_of, open_in, start-under, told-counts, told-quiet}
 use Rattle.qp_course.proofs.FollowLemmas.{records-decided}
 use Rattle.qp_course.proofs.SettleLemmas.{back-settle}
 use Rattle.qp_course.proofs.ToldLemmas.{told-goes}
 use Rattle.qp_course.proofs.NeverLemmas.{none-some}
+use Rattle.qp_model.proofs.AbleLemmas.{some-same}
 
 -- the course ends in this configuration
 abbrev at : Config → Aim
@@ -67,7 +67,7 @@ module _ (sys : System) (d : ObjectDef) (f : IsFollowable sys d) (g : List Told)
   pub read-at : (chart : Chart) → chart_at sys d.chart ≡ Some chart → (own : System) (b : Actor) → own ≡ sys → b ≡ actor d chart → (s : State)
       → s ≡ start_state b (first_config d) → run_told own b s g ≡ run_told sys (actor d f.its) (start_state (actor d f.its) (first_config d)) g
   read-at chart found own b same is s begun =
-      let its : chart ≡ f.its = some-first (sym found ∙ f.is_its) in
+      let its : chart ≡ f.its = some-same (sym found ∙ f.is_its) in
       ap (λ x. run_told own b x g) begun ∙ ap (λ x. run_told x b (start_state b (first_config d)) g) same
       ∙ ap (λ x. run_told sys x (start_state x (first_config d)) g) (is ∙ ap (actor d) its)
 

@@ -2,6 +2,7 @@
 use Rattle.std.proofs.Common.{◌≡◌, ℕ, ◌≤◌, Bool, true, false, ◌||◌, List, [], ◌∷◌, ◌++◌, length, refl, sym, ◌∙◌, ap, subst, inl, inr, ◌⊎◌, Option, Some, None, append-nil, append_assoc}
 use Rattle.std.specs.Bool.{IsTrue}
 use Rattle.std.specs.Option.{option_and_then}
+use Rattle.std.proofs.lemmas.Bool.{or_cases, or_right}
 use Rattle.qp_chart.specs.Task.{Task}
 use Rattle.qp_model.specs.declared.systems.System.{System}
 use Rattle.qp_model.specs.declared.bodies.Entry.{Entry}
@@ -17,18 +18,14 @@ use Rattle.qp_course.specs.Machine.{State, Between, Telling, Raising, AtPoint, I
 use Rattle.qp_course.specs.Ready.{AreAble, IsWithin, IsReady}
 use Rattle.qp_course.specs.Passing.{through, settle_past, pass_actions, pass, run_told, is_none_told, may_end_told, told_well}
 use Rattle.qp_course.proofs.NextLemmas.{goes-next}
-use Rattle.qp_course.proofs.BackLemmas.{next-goes, some-first}
+use Rattle.qp_course.proofs.BackLemmas.{next-goes}
 use Rattle.qp_course.proofs.ReadyLemmas.{ready-settle, ready-next}
 use Rattle.qp_course.proofs.EndLemmas.{goes-end, end-goes, goes-some}
 use Rattle.qp_course.proofs.PassLemmas.{Shape, settle-shape, through-none, pass-none, pass-point, unpass}
-use Rattle.qp_course.proofs.RunLemmas.{under, point-expected, expected-point, either, or-right, stops-here, here-stops, start-into, start-back, begun, Fronts}
+use Rattle.qp_course.proofs.RunLemmas.{under, point-expected, expected-point, stops-here, here-stops, start-into, start-back, begun, Fronts}
 use Rattle.qp_course.proofs.NeverLemmas.{false-true}
-
-head-same : {X : Type 0} {x y : X} {xs ys : List X} → x ∷ xs ≡ y ∷ ys → x ≡ y
-head-same e = cc
-
-tail-same : {X : Type 0} {x y : X} {xs ys : List X} → x ∷ xs ≡ y ∷ ys → xs ≡ ys
-tail-same e = cc
+use Rattle.qp_model.proofs.AbleLemmas.{some-same}
+use Rattle.qp_model.proofs.CutLemmas.{first-same, rest-same}
 
 -- a course that may end expects no point
 end-none : (s : State) → is_end s ≡ true → expects_point s ≡ false
@@ -116,14 +113,14 @@ module _ (begin : ReadsBegin) (whole : ReadsWhole) (reads_next : ReadsNext) (fir
   skip (Tell u ∷ ps) t g back s e ready h = by (expects_point s) refl
     where
       same : Tell u ≡ Tell t
-      same = ap Tell (head-same e)
+      same = ap Tell (first-same e)
 
       by : (b : Bool) → expects_point s ≡ b
           → (rest : List Piece) × (bare rest ≡ g) × Goes sys a anywhere (pass a s) (Tell t ∷ (rest ++ back)) × (ends_at_point (Tell u ∷ ps) ≡ ends_at_point (Tell t ∷ rest))
       by true is = let wrong = expected-point sys a s (Tell u ∷ (ps ++ back)) is h in absurd (cc)
       by false is = (
         ps,
-        tail-same e,
+        rest-same e,
         subst (λ x. Goes sys a anywhere x (Tell t ∷ (ps ++ back))) (sym (pass-none a s is)) (subst (λ p. Goes sys a anywhere s (p ∷ (ps ++ back))) same h),
         ap (λ p. ends_at_point (p ∷ ps)) same,
       )
@@ -149,7 +146,7 @@ module _ (begin : ReadsBegin) (whole : ReadsWhole) (reads_next : ReadsNext) (fir
   pub told-goes : (aim : Aim) (g : List Told) (s later : State) (back : List Piece) → run_told sys a s g ≡ Some later → Goes sys a aim later back
       → (ps : List Piece) × (bare ps ≡ g) × Goes sys a aim s (ps ++ back)
   unfolding run_told next bare
-  told-goes aim [] s later back e h = ([], refl, subst (λ x. Goes sys a aim x back) (sym (some-first e)) h)
+  told-goes aim [] s later back e h = ([], refl, subst (λ x. Goes sys a aim x back) (sym (some-same e)) h)
   told-goes aim (t ∷ g) s later back e h = by (λ mid k. told-goes aim g mid later back k h) (tell_next sys a (pass a s) t) refl e
     where
       by : ((mid : State) → run_told sys a mid g ≡ Some later → (ps : List Piece) × (bare ps ≡ g) × Goes sys a aim mid (ps ++ back))
@@ -168,7 +165,7 @@ module _ (begin : ReadsBegin) (whole : ReadsWhole) (reads_next : ReadsNext) (fir
   -- a state that was read to can go on
   pub told-ready : (g : List Told) (s later : State) → IsReady sys a s → run_told sys a s g ≡ Some later → IsReady sys a later
   unfolding run_told next
-  told-ready [] s later ready e = subst (IsReady sys a) (some-first e) ready
+  told-ready [] s later ready e = subst (IsReady sys a) (some-same e) ready
   told-ready (t ∷ g) s later ready e = by (λ mid can k. told-ready g mid later can k) (tell_next sys a (pass a s) t) refl e
     where
       by : ((mid : State) → IsReady sys a mid → run_told sys a mid g ≡ Some later → IsReady sys a later) → (o : Option State) → tell_next sys a (pass a s) t ≡ o
@@ -188,7 +185,7 @@ module _ (begin : ReadsBegin) (whole : ReadsWhole) (reads_next : ReadsNext) (fir
   tail-stops : (tail back : List Piece) (s : State) → bare tail ≡ [] → IsReady sys a s → Goes sys a anywhere s (tail ++ back) → begins_at_point back ≡ true → (is_end s || expects_point s) ≡ true
   unfolding bare
   tail-stops [] back s e ready h at = stops-here begin whole reads_next first open_next open_reads sys a able s back ready h at
-  tail-stops (Point ∷ us) back s e ready h at = or-right (is_end s) (expects_point s) (point-read s (us ++ back) ready h).4
+  tail-stops (Point ∷ us) back s e ready h at = or_right (is_end s) (expects_point s) (point-read s (us ++ back) ready h).4
   tail-stops (Tell t ∷ us) back s e ready h at = absurd (cc)
 
   module _ (c : Config) (within : length c.kept ≤ a.room) where
@@ -215,7 +212,7 @@ module _ (begin : ReadsBegin) (whole : ReadsWhole) (reads_next : ReadsNext) (fir
         by (t ∷ g) later tail ready none k f (inl front) =
             let left = f front in
             let point : Goes sys a anywhere later (Point ∷ (left.0 ++ back)) = subst (λ zs. Goes sys a anywhere later (zs ++ back)) left.1 k in
-            or-right (is_end later) (expects_point later) (point-read later (left.0 ++ back) ready point).4
+            or_right (is_end later) (expects_point later) (point-read later (left.0 ++ back) ready point).4
         by (t ∷ g) later tail ready none k f (inr behind) = tail-stops tail back later none ready k behind
     fronts-told Anywhere g ps e (back, h) =
         let read = goes-told g ps back (start_state a c) e (begun begin whole reads_next first open_next open_reads sys a able c within)
@@ -260,7 +257,7 @@ module _ (begin : ReadsBegin) (whole : ReadsWhole) (reads_next : ReadsNext) (fir
             → (ps : List Piece) × (bare ps ≡ g) × Fronts begin whole reads_next first open_next open_reads sys a able c within cut ps
         by cut None e h = absurd (cc)
         by Whole (Some later) e h = ended later e h
-        by Stopped (Some later) e h = stopped later e (either (is_none_told g) (is_end later || expects_point later) h)
+        by Stopped (Some later) e h = stopped later e (or_cases (is_none_told g) (is_end later || expects_point later) h)
         by Anywhere (Some later) e h =
             let some = goes-some open_reads sys a later (told-ready g (start_state a c) later ready e) in
             let read = told-goes anywhere g (start_state a c) later some.0 e some.1 in (read.0, read.1, (some.0, front (read.0 ++ some.0) read.2))

@@ -35,7 +35,6 @@ use Rattle.qp_course.specs.Machine.{State, Between, AtPoint, AtPost, Releasing, 
 use Rattle.qp_course.specs.Passing.{pass, run_told}
 use Rattle.qp_course.specs.Ready.{IsReady}
 use Rattle.qp_course.specs.Standing.{left_in}
-use Rattle.qp_course.proofs.BackLemmas.{some-first}
 use Rattle.qp_course.proofs.CourseLemmas.{course-goes}
 use Rattle.qp_course.proofs.DoneLemmas.{open_in, start-under, told-counts}
 use Rattle.qp_course.proofs.NextLemmas.{goes-next}
@@ -45,6 +44,7 @@ use Rattle.qp_course.proofs.RunLemmas.{begun, under}
 use Rattle.qp_course.proofs.SettleLemmas.{into-settle}
 use Rattle.qp_only.specs.Laws.{SummariesAreOne}
 use Rattle.qp_only.proofs.FollowLemmas.{sound-followable}
+use Rattle.qp_model.proofs.AbleLemmas.{some-same}
 
 -- what begins nothing begins nothing further back
 begins-behind : (ps qs : List Piece) → begins_nothing (ps ++ qs) ≡ true → begins_nothing qs ≡ true
@@ -178,7 +178,7 @@ module _ (sys : System) (d : ObjectDef) (chart : Chart) (able : chart_able sys c
   one-left c e first second =
       let x = comes-to c first in
       let y = comes-to e second in
-      some-first (sym x.2 ∙ ap left_in (some-first (sym x.1 ∙ y.1)) ∙ y.2)
+      some-same (sym x.2 ∙ ap left_in (some-same (sym x.1 ∙ y.1)) ∙ y.2)
 
 one-text : (sys : System) (d : ObjectDef) → IsFollowable sys d → (ts : List Told) (x y : List ℕ) → IsStateText sys d (chart_at sys d.chart) ts x → IsStateText sys d (chart_at sys d.chart) ts y → x ≡ y
 unfolding IsStateText

@@ -29,9 +29,10 @@ use Rattle.qp_sources.specs.Underway.{Underway, Calling, Ticking, Settling, unde
 use Rattle.qp_course.specs.Note.{Note, tells, note_of, taken_by, raised_from, dropped_by, comes_back}
 use Rattle.qp_course.specs.Goes.{moment_of}
 use Rattle.qp_course.specs.Machine.{State, Between, Telling, Raising, AtPoint, InCall, AtPost, Releasing, Returning, Asserted, tell_next, is_end, expects_point}
-use Rattle.qp_course.proofs.NextLemmas.{mapped, tested}
 use Rattle.qp_unique.proofs.KernelLemmas.{Slot, Starts, Runs, Releases, IsLook, IsSeen, IsTook, IsSpent, IsRest, Went, IsDone, GoesOn, slot-of}
 use Rattle.qp_unique.proofs.StackLemmas.{NotOf, PlaceAway, Away, away-looked}
+use Rattle.qp_model.proofs.KernelLaneLemmas.{granted}
+use Rattle.qp_model.proofs.ListLemmas.{mapped}
 
 module _ (w : Facts) (s : Setting) (p : ℕ) (some : p ≡ 0 → ⊥) where
   -- its pieces are none, or begin with an entry that it takes
@@ -206,7 +207,7 @@ raised-role c b k role = refl
 pub must-release : (sys : System) (a : Actor) (s later : State) (t : Told) → role_of t.body ≡ Drops → tell_next sys a s t ≡ Some later → MustRelease sys a s
 unfolding tell_next call_state_next dropped_by comes_back
 must-release sys a (Between c) later t role h = absurd (let x = mapped _ (taken_by t.body t.known) later h in let no : None ≡ Some x.0 = sym (taken-role t.body t.known role) ∙ x.1 in cc)
-must-release sys a (Telling way n ends ts leaf c) later t role h = absurd (note-role t.body n t.known (tested _ _ _ h).0 role)
+must-release sys a (Telling way n ends ts leaf c) later t role h = absurd (note-role t.body n t.known (granted _ _ _ h).0 role)
 must-release sys a (Raising way ceiling ts leaf c) later t role h =
     absurd (let x = mapped _ (raised_from ceiling t.body t.known) later h in let no : None ≡ Some x.0 = sym (raised-role ceiling t.body t.known role) ∙ x.1 in cc)
 must-release sys a (AtPoint ev e ts leaf c) later t role h = absurd (cc)

@@ -17,11 +17,12 @@ use Rattle.qp_course.specs.Note.{body_of, taken_by, dropped_by, raised_from}
 use Rattle.qp_course.specs.Goes.{moment_of}
 use Rattle.qp_course.specs.Machine.{State, Between, Telling, Raising, AtPoint, InCall, AtPost, Releasing, Returning, Asserted, next, tell_next, point_next}
 use Rattle.qp_course.proofs.NoteLemmas.{tells-is, raised-is, taken-is, dropped-is, back-is}
-use Rattle.qp_course.proofs.NextLemmas.{mapped, tested}
 use Rattle.qp_unique.specs.Held.{Held, IsCounted, Comes, comes_next, known_then}
 use Rattle.qp_unique.specs.NextInCourse.{took_told, piece_told, PieceComes}
 use Rattle.qp_unique.specs.Laws.{CourseGoesOnAlone}
 use Rattle.qp_unique.proofs.CallLemmas.{call_goes_on_alone, dropped-alone, returned-alone}
+use Rattle.qp_model.proofs.KernelLaneLemmas.{granted}
+use Rattle.qp_model.proofs.ListLemmas.{mapped}
 
 module _ (sys : System) (h : Held) (a : Actor) (counted : IsCounted h) where
   -- the front entry is taken
@@ -54,7 +55,7 @@ module _ (sys : System) (h : Held) (a : Actor) (counted : IsCounted h) where
       let same = took-alone at.0 at.1 at.2 x.0.0 x.0.1 (subst (Comes sys h a.o) whole comes) in
       ap (option_map Tell) same ∙ ap (λ y. Some (Tell y)) (sym whole)
   tell-alone (Telling way n ends ts leaf c) later t comes is =
-      let at = tells-is n t.body t.known (tested _ _ _ is).0 in
+      let at = tells-is n t.body t.known (granted _ _ _ is).0 in
       let whole : t ≡ plain (body_of n) = at in
       ap (λ y. Some (Tell y)) (sym whole)
   tell-alone (Raising way ceiling ts leaf c) later t comes is =
@@ -78,7 +79,7 @@ module _ (sys : System) (h : Held) (a : Actor) (counted : IsCounted h) where
       let same = dropped-alone sys h a.o e x.0.0 x.0.1 (subst (Comes sys h a.o) whole comes) in
       ap (λ y. Some (Tell y)) (same ∙ sym whole)
   tell-alone (Returning p b d c) later t comes is =
-      let x = back-is p b d t.body t.known (tested _ _ _ is).0 in
+      let x = back-is p b d t.body t.known (granted _ _ _ is).0 in
       let whole : t ≡ plain (item.Back p x.0 b (d + 1)) = x.1 in
       let same = returned-alone sys h a.o p b d x.0 (subst (Comes sys h a.o) whole comes) in
       ap (λ y. Some (Tell y)) (same ∙ sym whole)

@@ -15,7 +15,6 @@ use Rattle.qp_model.specs.Knowing.{Facts, told, records_of, ceiling_over}
 use Rattle.qp_model.specs.Ends.{is_spill, spills_in}
 use Rattle.qp_model.specs.Kernels.{sim}
 use Rattle.qp_model.specs.OneOrder.{Placed, Turn, with_stimuli, parts_of_look, turns_at, acts_next, is_turn, begun, look_of, stim_of, is_stim_at, left_after, may_act, turned, all_empty, acted_last}
-use Rattle.qp_course.proofs.NextLemmas.{mapped}
 use Rattle.qp_sources.specs.SourceState.{SourceState, Between, Within, source_next, source_after}
 use Rattle.qp_orders.proofs.MergeLemmas.{stimuli-append}
 use Rattle.qp_orders.specs.RunOrder.{placed, has_stim}
@@ -27,6 +26,7 @@ use Rattle.qp_unique.proofs.SourceSteps.{lane_in-append, lane_in-own, lane_in-ot
 use Rattle.qp_model.proofs.KnowingLemmas.{records_of-append}
 use Rattle.qp_unique.proofs.PartLemmas.{no-stim}
 use Rattle.qp_unique.proofs.Sides.{Lined, IsFront, lane_in, lined_order}
+use Rattle.qp_model.proofs.ListLemmas.{mapped}
 
 pub look-body : (b : Body) (l : ℕ × ℕ) → look_of b ≡ Some l → b ≡ body.Look l.0 l.1
 look-body (body.Look n floor) l h = ap (λ o. by o) h

@@ -22,11 +22,11 @@ use Rattle.qp_model.specs.OneOrder.{Placed, stim_of, is_stim, begun}
 use Rattle.qp_sources.specs.Underway.{Underway, underway_begin, underway_next, underway_done}
 use Rattle.qp_sources.specs.SourceState.{SourceState, Between, Within, source_next, source_after, source_stops, stim_next, goes_on}
 use Rattle.qp_sources.proofs.StimLemmas.{underway-stim}
-use Rattle.qp_course.proofs.NextLemmas.{mapped}
 use Rattle.qp_orders.specs.Placing.{all_placed}
 use Rattle.qp_unique.proofs.LookLemmas.{begins, begun_in}
 use Rattle.qp_unique.proofs.AwayLemmas.{done-none, asserted-none, untried}
 use Rattle.qp_unique.proofs.Sides.{lane_in}
+use Rattle.qp_model.proofs.ListLemmas.{mapped}
 
 -- the records of a lane in the order
 pub lane_in-append : (xs ys : List Placed) (j : ℕ) → lane_in (xs ++ ys) j ≡ lane_in xs j ++ lane_in ys j

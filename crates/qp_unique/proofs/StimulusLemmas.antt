@@ -15,12 +15,13 @@ use Rattle.qp_fits.specs.CallStateNext.{call_state_next, stage_next}
 use Rattle.qp_sources.specs.TickState.{Due, TickState, Reaching, Fired, Vain, had_room, tick_next, reach_next, fired_next}
 use Rattle.qp_sources.specs.SettleState.{SettleState, Before, Seeing, settle_next, before_next, seen_next, behind_seen}
 use Rattle.qp_sources.specs.Underway.{Underway, Calling, Ticking, Settling, underway_next}
-use Rattle.qp_course.proofs.NextLemmas.{mapped, tested}
 use Rattle.qp_unique.specs.Held.{Held, IsCounted, Comes, comes_next}
 use Rattle.qp_unique.specs.NextInCall.{post_told}
 use Rattle.qp_unique.specs.NextInSource.{reach_told, tick_told, seen_told, settle_told, underway_told}
 use Rattle.qp_unique.specs.Laws.{StimulusGoesOnAlone}
 use Rattle.qp_unique.proofs.CallLemmas.{call_goes_on_alone, post-granted, post-asserted}
+use Rattle.qp_model.proofs.KernelLaneLemmas.{granted}
+use Rattle.qp_model.proofs.ListLemmas.{mapped}
 
 abbrev tells : Body → Known → Told
 tells b k = record { body = b; known = k }
@@ -30,12 +31,12 @@ module _ (sys : System) (h : Held) where
       → reach_told (h.clocks x.t) x.t ≡ tells b k
   unfolding comes_next
   reach-alone x left (body.Idle t n) Nothing later is comes =
-      let e1 : t ≡ x.t = let test : (t == x.t) ≡ true = (tested _ _ _ is).0 in grind (arith, nat_tests) in
+      let e1 : t ≡ x.t = let test : (t == x.t) ≡ true = (granted _ _ _ is).0 in grind (arith, nat_tests) in
       let off : ((h.clocks t).counter == 0) ≡ true = grind (arith, nat_tests) in
       let e2 : n ≡ (h.clocks t).count = grind (arith, nat_tests) in
       rw (sym e1, off, e2) refl
   reach-alone x left (body.Tick t n counter) Nothing later is comes =
-      let e1 : t ≡ x.t = let test : (t == x.t) ≡ true = (tested _ _ _ is).0 in grind (arith, nat_tests) in
+      let e1 : t ≡ x.t = let test : (t == x.t) ≡ true = (granted _ _ _ is).0 in grind (arith, nat_tests) in
       let e2 : n ≡ (h.clocks t).count = grind (arith, nat_tests) in
       let e3 : (h.clocks t).counter ≡ counter + 1 = grind (arith, nat_tests) in
       let some : nat_lt 0 counter ≡ true = grind (arith, nat_tests) in
@@ -44,7 +45,7 @@ module _ (sys : System) (h : Held) where
       let e4 : (h.clocks t).counter - 1 ≡ counter = omega (arith, e3) in
       rw (sym e1, on, more, e2, e4) refl
   reach-alone x left (body.Fire t n reload) Nothing later is comes =
-      let e1 : t ≡ x.t = let test : (t == x.t) ≡ true = (tested _ _ _ is).0 in grind (arith, nat_tests) in
+      let e1 : t ≡ x.t = let test : (t == x.t) ≡ true = (granted _ _ _ is).0 in grind (arith, nat_tests) in
       let e2 : n ≡ (h.clocks t).count = grind (arith, nat_tests) in
       let one : ((h.clocks t).counter == 1) ≡ true = grind (arith, nat_tests) in
       let on : ((h.clocks t).counter == 0) ≡ false = grind (arith, nat_tests) in
@@ -56,7 +57,7 @@ module _ (sys : System) (h : Held) where
       → comes_next sys h 0 b ≡ true → post_told (ring_of sys object) (h.lines object) object None (entry 0 sig 0) ≡ tells b k
   unfolding had_room
   fired-alone object sig left (body.Post a f l m e) Nothing later is comes =
-      let test : ((a == object) && same_entry e (entry 0 sig 0) && had_room (ring_of sys object) f l m) ≡ true = (tested _ _ _ is).0 in
+      let test : ((a == object) && same_entry e (entry 0 sig 0) && had_room (ring_of sys object) f l m) ≡ true = (granted _ _ _ is).0 in
       let e1 : a ≡ object = grind (arith, nat_tests) in
       let same : same_entry e (entry 0 sig 0) ≡ true = grind (arith, nat_tests) in
       let e2 : e ≡ entry 0 sig 0 = same_entry-is e (entry 0 sig 0) same in
@@ -65,7 +66,7 @@ module _ (sys : System) (h : Held) where
       subst (λ y. post_told (ring_of sys y) (h.lines y) y None (entry 0 sig 0) ≡ plain (body.Post a f l m e)) e1
       (subst (λ y. post_told (ring_of sys a) (h.lines a) a None y ≡ plain (body.Post a f l m e)) e2 whole)
   fired-alone object sig left (body.NoEntry a f l m) Nothing later is comes =
-      let e1 : a ≡ object = let test : (a == object) ≡ true = (tested _ _ _ is).0 in grind (arith, nat_tests) in
+      let e1 : a ≡ object = let test : (a == object) ≡ true = (granted _ _ _ is).0 in grind (arith, nat_tests) in
       subst (λ y. post_told (ring_of sys y) (h.lines y) y None (entry 0 sig 0) ≡ plain (body.NoEntry a f l m)) e1 (post-asserted sys h 0 a f l m (entry 0 sig 0) comes)
   fired-alone object sig left b k later is comes = absurd (cc)
 
