@@ -1,5 +1,6 @@
 use Rattle.std.proofs.Common.{◌≡◌, ◌∙◌, ◌+◌, ◌++◌, ◌∷◌, [], Some, None, ap, sym, refl, take, append-nil}
 use Rattle.std.specs.List.{filter_map}
+use Rattle.std.proofs.lemmas.List.{take_all}
 use Rattle.std.proofs.lemmas.List.Elements.{filter_map-append}
 use Rattle.qp_model.specs.Record.{item_of}
 use Rattle.qp_model.specs.History.{lane_items}
@@ -28,3 +29,7 @@ loop-r-preserved c =
           let is : counts_by by item.body ≡ None = sym c.counts.ensures ∙ w.in-None.is in
           rw w.all-is (c.loop-r.invariant ∙ sym (grows ∙ rw is (append-nil before)))
     ]
+
+pub returns : goal.returns
+returns c =
+    c.loop-r.invariant ∙ ap (λ l. filter_map (λ i. counts_by c.args.by i.body) (lane_items l)) (take_all c.loop-r.r-index c.args.lane.now c.loop-r-test.false)
