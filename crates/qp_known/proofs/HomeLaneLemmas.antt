@@ -106,11 +106,3 @@ module _ (all : List (ℕ × ℕ × ℕ)) (i : ℕ) (x d : ℕ × ℕ × ℕ) (i
       go true false = refl
       go false true = refl
       go false false = refl
-
-pub from_not : (b : Bool) → not b ≡ false → b ≡ true
-from_not true h = refl
-from_not false h = cc
-
-pub to_not : (b : Bool) → not b ≡ true → b ≡ false
-to_not true h = cc
-to_not false h = refl

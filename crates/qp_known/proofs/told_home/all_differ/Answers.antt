@@ -1,9 +1,10 @@
 use Rattle.std.proofs.Common.{rules, ◌∙◌, ap, sym, refl}
+use Rattle.std.proofs.lemmas.Bool.{not-true, not-false}
 use Rattle.std.proofs.lemmas.List.{take_all}
 use Rattle.std.specs.BTreeSet.{contains}
 use Rattle.qp_model.specs.HomeLane.{all_differ}
 use Rattle.qp_lanes.specs.Keys.{key_cmp}
-use Rattle.qp_known.proofs.HomeLaneLemmas.{differ-next, differ-not, from_not, seen-next, to_not}
+use Rattle.qp_known.proofs.HomeLaneLemmas.{differ-next, differ-not, seen-next}
 use Rattle.qp_known.proofs.told_home.all_differ.Goals as goal
 
 pub loop-counts-init : goal.loop-counts-init
@@ -13,7 +14,7 @@ loop-counts-init c = record { seen = λ q. search rules; differ = refl }
 pub returns-then-not-branch : goal.returns-then-not-branch
 returns-then-not-branch c =
     differ-not c.args.all.now c.loop-counts.counts-index _ _ c.loop-counts-test.true refl (λ q. contains key_cmp c.loop-counts.seen q) c.loop-counts.invariant.seen
-    (from_not _ (sym c.in_ok-insert.ensures.added ∙ c.if-not-branch.true))
+    (not-false _ (sym c.in_ok-insert.ensures.added ∙ c.if-not-branch.true))
 
 pub loop-counts-preserved : goal.loop-counts-preserved
 loop-counts-preserved c = record {
@@ -22,7 +23,7 @@ loop-counts-preserved c = record {
       (λ q. contains key_cmp c.insert.new.self q) c.in_ok-insert.ensures.updates.0;
   differ =
       differ-next c.args.all.now c.loop-counts.counts-index _ _ c.loop-counts-test.true refl (λ q. contains key_cmp c.loop-counts.seen q) c.loop-counts.invariant.seen
-      (to_not _ (sym c.in_ok-insert.ensures.added ∙ c.if-not-branch.false)) c.loop-counts.invariant.differ;
+      (not-true _ (sym c.in_ok-insert.ensures.added ∙ c.if-not-branch.false)) c.loop-counts.invariant.differ;
 }
 
 pub returns : goal.returns
