@@ -49,12 +49,11 @@ use Rattle.qp_dispatch.specs.declared.work.Work.{Work}
 use Rattle.qp_dispatch.specs.Lasts.{config_of, actor_of, entry_in, moment_of, names_at}
 use Rattle.qp_dispatch.specs.Acting.{Keeps}
 use Rattle.qp_dispatch.specs.Parts.{Goes, Asserts, IsPublishing, held_by, publishing_of}
-use Rattle.qp_dispatch.proofs.Quiet.{Quiet, ceiling-append, no_block-quiet, one-quiet, quiet-ceiling, quiet-drops, quiet-new, quiet-spillless, spills-append, Spillless, spillless-append}
+use Rattle.qp_dispatch.proofs.Quiet.{Quiet, ceiling-append, no_block-quiet, one-quiet, quiet-append, quiet-ceiling, quiet-drops, quiet-new, quiet-spillless, spills-append, Spillless, spillless-append}
 use Rattle.qp_dispatch.proofs.Rising.{mild-rise, one-mild}
 use Rattle.qp_dispatch.proofs.CallLemmas.{stand-risen, value-no, value-yes}
 use Rattle.qp_dispatch.proofs.ActLemmas.{calm-quiet, counts-join, last-asserted, last-snoc, ok-value, stand-change}
 use Rattle.qp_dispatch.proofs.PartLemmas.{stand-without}
-use Rattle.qp_model.proofs.LastLemmas.{quiet-append}
 use Rattle.qp_model.proofs.ListLemmas.{list_all-front, all-push}
 
 -- A publication's notes are those of any object.

@@ -2,6 +2,7 @@
 use Rattle.std.proofs.Common.{◌≡◌, ℕ, zero, suc, Bool, true, false, ◌||◌, List, [], ◌∷◌, ◌++◌, map, refl, sym, ◌∙◌, subst, inl, inr, Option, Some, None}
 use Rattle.std.specs.List.{list_all, list_any}
 use Rattle.std.proofs.lemmas.Bool.{and_parts}
+use Rattle.qp_model.proofs.FitsLemmas.{all-append}
 use Rattle.qp_model.specs.declared.systems.System.{System}
 use Rattle.qp_model.specs.declared.bodies.Entry.{Entry}
 use Rattle.qp_model.specs.declared.bodies.Body.{Body}
@@ -15,7 +16,6 @@ use Rattle.qp_model.specs.Shapes.{Fits, MakesBlock, MakesNew, again_by, MakesAga
 use Rattle.qp_calls.specs.LaneView.{ceiling_in}
 use Rattle.qp_calls.specs.Notes.{spills_in}
 use Rattle.qp_dispatch.specs.CallsDone.{is_single}
-use Rattle.qp_model.proofs.LastLemmas.{quiet-append}
 
 -- a record that is no `lock`, `unlock` or `spill`
 abbrev pub is_quiet : Body → Bool
@@ -26,6 +26,9 @@ is_quiet _ = true
 
 abbrev pub Quiet : List Told → Type 0
 Quiet g = list_all (λ t. is_quiet t.body) g ≡ true
+
+pub quiet-append : (g h : List Told) → Quiet g → Quiet h → Quiet (g ++ h)
+quiet-append g h a b = all-append (λ t. is_quiet t.body) g h a b
 
 quiet-same : {g h : List Told} → g ≡ h → Quiet h → Quiet g
 quiet-same {g} {h} e k = subst (λ us. Quiet us) (sym e) k
