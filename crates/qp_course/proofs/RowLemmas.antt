@@ -1,13 +1,8 @@
 -- The handler of a walk outwards.
-use Rattle.std.proofs.Common.{◌≡◌, ◌≢◌, ℕ, zero, suc, ◌+◌, ◌-◌, ◌<◌, ◌≤◌, ◌==◌, Bool, true, false, ◌&&◌, List, [], ◌∷◌, ◌++◌, length, drop, get_or, cond, refl, sym, ◌∙◌, ap, Option, Some, None, is_some, arith, append_assoc, append-nil, add-one, drop-cons}
-use Rattle.std.specs.List.{find}
+use Rattle.std.proofs.Common.{◌≡◌, ℕ, suc, ◌+◌, ◌-◌, ◌<◌, ◌≤◌, ◌==◌, Bool, true, false, ◌&&◌, List, ◌∷◌, length, drop, get_or, cond, refl, sym, ◌∙◌, ap, Option, Some, None, is_some, add-one, drop-cons}
 use Rattle.std.proofs.lemmas.List.{drop_all}
-use Rattle.std.proofs.lemmas.Bool.Decides.{nat_tests}
 use Rattle.qp_chart.specs.declared.checked.Row.{Row}
-use Rattle.qp_chart.specs.declared.checked.State.{State}
-use Rattle.qp_chart.specs.declared.checked.Chart.{Chart}
 use Rattle.qp_chart.specs.Expr.{Names}
-use Rattle.qp_chart.specs.StateTree.{has, parent_of, path_of, up}
 use Rattle.qp_chart.specs.Handler.{Handler, passes, first_row, handler_at}
 
 -- a row was found at the state, or not
