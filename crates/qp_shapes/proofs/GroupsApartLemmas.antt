@@ -12,6 +12,7 @@ use Rattle.qp_shapes.specs.ShapeUnit.{goes_to, works_on, again_first, behind_aga
 use Rattle.qp_shapes.specs.ShapeAssertion.{no_entry_first, behind_no_entry, no_lifo_first, behind_no_lifo, cut_first, behind_cut, new_cut_first, behind_new_cut, recall_cut_first, behind_recall_reference, behind_recall_cut, plain_cut, given_cut, assertion_first, behind_assertion}
 use Rattle.qp_shapes.specs.GroupsRead.{is_outer}
 use Rattle.qp_shapes.proofs.ShapeSoundLemmas.{passed}
+use Rattle.qp_shapes.proofs.NeverLemmas.{false-true, none-some}
 
 -- no reader goes on where it answers nothing
 either-none : (b : Bool) (r : Option (List Told)) → r ≡ None → cond b r None ≡ None
@@ -29,7 +30,7 @@ no_entry-again sys e (t ∷ ts) r h = by t.body t.known h
   where
     by : (body : Body) (known : Known) → no_entry_first body known ts ≡ Some r → again_first sys e body known ts ≡ None
     by (item.NoEntry a f l m) Nothing h = refl
-    by body known h = absurd (cc)
+    by body known h = absurd (none-some h)
 
 cut-entry : (sys : System) (o : ℕ) (e : Entry) (ts r : List Told) → behind_cut o ts ≡ Some r → behind_entry sys e ts ≡ None
 cut-entry sys o e [] r h = refl
@@ -38,7 +39,7 @@ cut-entry sys o e (t ∷ ts) r h = by t.body t.known h
     by : (body : Body) (known : Known) → cut_first o body known ts ≡ Some r → new_first sys e body known ts ≡ None
     by (item.NoEntry a f l m) Nothing h = refl
     by (item.NoLifo a f l m) Nothing h = refl
-    by body known h = absurd (cc)
+    by body known h = absurd (none-some h)
 
 no_lifo-lifo : (o : ℕ) (k e : Entry) (ts r : List Told) → behind_no_lifo o ts ≡ Some r → behind_lifo k e ts ≡ None
 no_lifo-lifo o k e [] r h = refl
@@ -46,7 +47,7 @@ no_lifo-lifo o k e (t ∷ ts) r h = by t.body t.known h
   where
     by : (body : Body) (known : Known) → no_lifo_first o body known ts ≡ Some r → lifo_first k e body known ts ≡ None
     by (item.NoLifo a f l m) Nothing h = refl
-    by body known h = absurd (cc)
+    by body known h = absurd (none-some h)
 
 new-apart : (sys : System) (o p b : ℕ) (ts r : List Told) → behind_new_cut o p b ts ≡ Some r → behind_new sys p b ts ≡ None
 new-apart sys o p b [] r h = refl
@@ -54,7 +55,7 @@ new-apart sys o p b (t ∷ ts) r h = by t.body t.known h
   where
     by : (body : Body) (known : Known) → new_cut_first o p b body known ts ≡ Some r → reference_first sys p b body known ts ≡ None
     by (item.Inc q c n) Nothing h = either-none ((q == p) && (c == b)) (behind_entry sys (entry p b n) ts) (cut-entry sys o (entry p b n) ts r (passed _ _ r h).1)
-    by body known h = absurd (cc)
+    by body known h = absurd (none-some h)
 
 reference-apart : (o : ℕ) (k : Entry) (ts r : List Told) → behind_recall_reference o k ts ≡ Some r → behind_reference k ts ≡ None
 reference-apart o k [] r h = refl
@@ -62,7 +63,7 @@ reference-apart o k (t ∷ ts) r h = by t.body t.known h
   where
     by : (body : Body) (known : Known) → recall_cut_first o k body known ts ≡ Some r → recalled_first k body known ts ≡ None
     by (item.Inc p b n) Nothing h = either-none ((p == k.pool) && (b == k.block)) (behind_lifo k (entry p b n) ts) (no_lifo-lifo o k (entry p b n) ts r (passed _ _ r h).1)
-    by body known h = absurd (cc)
+    by body known h = absurd (none-some h)
 
 recall-apart : (o : ℕ) (k : Entry) (ts r : List Told) → behind_recall_cut o k ts ≡ Some r → behind_recall k ts ≡ None
 unfolding behind_recall behind_recall_cut
@@ -86,18 +87,18 @@ assertion-apart sys o now (t ∷ ts) r h = by t.known t.body h
     alone (item.BadTicks u ticks interval) h = refl
     alone (item.Inc p b n) h = either-none (works_on now p b) (behind_again sys (entry p b n) ts) (no_entry-again sys (entry p b n) ts r (passed _ _ r h).1)
     alone (item.Recall k) h = recall-apart o k ts r h
-    alone body h = absurd (cc)
+    alone body h = absurd (none-some h)
 
     made : (free : ℕ) (body : Body) → given_cut sys o free body ts ≡ Some r → given_first sys free body ts ≡ None
     made free (item.New p n b from sig pars) h =
         either-none (nat_lt 0 free && goes_to (sizes_of sys) (length pars) p && not (is_static sys sig)) (behind_new sys p b ts)
         (new-apart sys o p b ts r (passed (nat_lt 0 free && goes_to (sizes_of sys) (length pars) p && not (is_static sys sig)) (behind_new_cut o p b ts) r h).1)
-    made free body h = absurd (cc)
+    made free body h = absurd (none-some h)
 
     by : (known : Known) (body : Body) → assertion_first sys o now body known ts ≡ Some r → unit_first sys o now body known ts ≡ None
     by Nothing body h = alone body h
     by (Free free) body h = made free body h
-    by known body h = absurd (cc)
+    by known body h = absurd (none-some h)
 
 -- an outer record begins neither
 outer-plain : (sys : System) (o : ℕ) (now : Option Entry) (ts : List Told) (body : Body) → is_outer body ≡ true → (plain_first sys o now body ts ≡ None) × (plain_cut sys o now body ts ≡ None)
@@ -108,7 +109,7 @@ outer-plain sys o now ts (item.Lock ceiling) h = (refl, refl)
 outer-plain sys o now ts (item.Exit s) h = (refl, refl)
 outer-plain sys o now ts (item.Enter s) h = (refl, refl)
 outer-plain sys o now ts (item.Init s) h = (refl, refl)
-outer-plain sys o now ts body h = absurd (cc)
+outer-plain sys o now ts body h = absurd (false-true h)
 
 outer-given : (sys : System) (o free : ℕ) (ts : List Told) (body : Body) → is_outer body ≡ true → (given_first sys free body ts ≡ None) × (given_cut sys o free body ts ≡ None)
 unfolding given_first given_cut
@@ -118,7 +119,7 @@ outer-given sys o free ts (item.Lock ceiling) h = (refl, refl)
 outer-given sys o free ts (item.Exit s) h = (refl, refl)
 outer-given sys o free ts (item.Enter s) h = (refl, refl)
 outer-given sys o free ts (item.Init s) h = (refl, refl)
-outer-given sys o free ts body h = absurd (cc)
+outer-given sys o free ts body h = absurd (false-true h)
 
 outer-member : (ts : List Told) (body : Body) → is_outer body ≡ true → member_first body ts ≡ None
 outer-member ts (item.Unlock ceiling) h = refl
@@ -127,7 +128,7 @@ outer-member ts (item.Lock ceiling) h = refl
 outer-member ts (item.Exit s) h = refl
 outer-member ts (item.Enter s) h = refl
 outer-member ts (item.Init s) h = refl
-outer-member ts body h = absurd (cc)
+outer-member ts body h = absurd (false-true h)
 
 pub outer-apart : (sys : System) (o : ℕ) (now : Option Entry) (t : Told) (ts : List Told) → is_outer t.body ≡ true
     → (behind_unit sys o now (t ∷ ts) ≡ None) × (behind_assertion sys o now (t ∷ ts) ≡ None)

@@ -7,17 +7,18 @@ use Rattle.qp_model.specs.Sequence.{Sequence}
 use Rattle.qp_model.specs.Groups.{is_move}
 use Rattle.qp_shapes.specs.GroupsRead.{ReadsAll, IsElement, Notes, Acts, Locks, RaisesOnly, IsEnd, EndsPlainly, EndsUnder, Breaks, is_close, is_outer}
 use Rattle.qp_shapes.proofs.GroupsReadLemmas.{Parts, Lasts, compare, reads-last, outer-behind, no-close}
+use Rattle.qp_shapes.proofs.NeverLemmas.{false-true}
 
 move-outer : (b : Body) → is_move b ≡ true → is_outer b ≡ true
 move-outer (item.Exit s) h = refl
 move-outer (item.Enter s) h = refl
 move-outer (item.Init s) h = refl
-move-outer b h = absurd (cc)
+move-outer b h = absurd (false-true h)
 
 close-outer : (b : Body) → is_close b ≡ true → is_outer b ≡ true
 close-outer (item.Unlock ceiling) h = refl
 close-outer item.Done h = refl
-close-outer b h = absurd (cc)
+close-outer b h = absurd (false-true h)
 
 move-open : (b : Body) → is_move b ≡ true → is_close b ≡ true → ⊥
 move-open (item.Exit s) h k = cc

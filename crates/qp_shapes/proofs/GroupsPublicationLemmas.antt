@@ -16,6 +16,7 @@ use Rattle.qp_shapes.specs.GroupsRead.{is_outer}
 use Rattle.qp_shapes.proofs.ShapeRunLemmas.{end_of}
 use Rattle.qp_shapes.proofs.ShapeStageLemmas.{run-step, given-is, made-is, StartRecord, OfBlock, OfSet, start-is}
 use Rattle.qp_shapes.proofs.GroupsApartLemmas.{shown-apart, given-apart}
+use Rattle.qp_shapes.proofs.NeverLemmas.{false-true}
 
 -- behind the end nothing is read
 end-run : (sys : System) (o : ℕ) (b c : Bool) (g : List Told) → run sys o g (end_of b) ≡ Some (end_of c) → (g ≡ []) × (b ≡ c)
@@ -61,7 +62,7 @@ outer-start sys o (item.Lock ceiling) known h = refl
 outer-start sys o (item.Exit s) known h = refl
 outer-start sys o (item.Enter s) known h = refl
 outer-start sys o (item.Init s) known h = refl
-outer-start sys o body known h = absurd (cc)
+outer-start sys o body known h = absurd (false-true h)
 
 pub run-inner : (sys : System) (o : ℕ) (b : Bool) (t : Told) (ts : List Told) → run sys o (t ∷ ts) stage.Start ≡ Some (end_of b) → is_outer t.body ≡ true → ⊥
 unfolding next

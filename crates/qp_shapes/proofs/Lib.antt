@@ -1,3 +1,4 @@
+pub mod NeverLemmas
 pub mod ShapeReleaseLemmas
 pub mod ShapePartLemmas
 pub mod ShapePostLemmas

@@ -17,6 +17,7 @@ use Rattle.qp_shapes.proofs.ShapeReleaseLemmas.{told-is, release-sound, release-
 use Rattle.qp_shapes.proofs.ShapeSoundLemmas.{both, either, number}
 use Rattle.qp_shapes.proofs.ObjectTestLemmas.{decides-by}
 use Rattle.qp_shapes.proofs.ObjectCutLemmas.{released}
+use Rattle.qp_shapes.proofs.NeverLemmas.{false-true}
 
 -- no records behind
 empty-rest : (ts : List Told) → (length ts == 0) ≡ true → ts ≡ []
@@ -94,7 +95,7 @@ front-of e (t ∷ ts) h =
             let tests = both (left == 0) (is_done (behind_back p b d ts)) back in
             returned above d left t_is (number left 0 tests.0)
             (ap (λ x. behind_back x e.block d ts) (sym e1) ∙ ap (λ x. behind_back p x d ts) (sym e2) ∙ end-is (behind_back p b d ts) tests.1)
-    by body known is_body is_known above h = absurd (cc)
+    by body known is_body is_known above h = absurd (false-true h)
 
 -- each front is one
 of-front : (e : Entry) (told : List Told) → FrontOf (Drops e) told → release_front e told ≡ true

@@ -18,6 +18,7 @@ use Rattle.qp_shapes.proofs.GroupsElementLemmas.{element-parts}
 use Rattle.qp_shapes.proofs.GroupsFirstLemmas.{done-is}
 use Rattle.qp_shapes.proofs.ObjectReadLemmas.{KindLaws, break-open, turns-tail, tail-turns}
 use Rattle.qp_shapes.proofs.ObjectTurnLemmas.{taken-is, step-is, step-told, begin-is}
+use Rattle.qp_shapes.proofs.NeverLemmas.{false-true}
 
 -- a test by what it tells, each way
 pub decides-by : (P : Type 0) (b : Bool) → (b ≡ true → P) → (P → b ≡ true) → Decides b P
@@ -154,7 +155,7 @@ spent-is (t ∷ ts) h = inr (by t.body t.known refl refl h)
     by : (body : Body) (known : Known) → t.body ≡ body → t.known ≡ known → spent_first body known ts ≡ true → t ∷ ts ≡ plain item.Spent ∷ []
     by item.Spent Nothing is_body is_known h =
         let whole : t ≡ plain item.Spent = told-is t _ _ is_body is_known in let behind : ts ≡ [] = none ts h in ap (λ u. u ∷ ts) whole ∙ ap (λ us. plain item.Spent ∷ us) behind
-    by body known is_body is_known h = absurd (cc)
+    by body known is_body is_known h = absurd (false-true h)
 
 pub tail-else : (k : Kinds) (told : List Told) (b : Bool) → None ≡ taken_entry told → b ≡ is_spent told → Decides b (IsTailOf k told)
 tail-else k told b none b_is = decides-by (IsTailOf k told) b sound whole

@@ -15,6 +15,7 @@ use Rattle.qp_shapes.proofs.ShapeReleaseLemmas.{when-passed, told-is}
 use Rattle.qp_shapes.proofs.GroupsReadLemmas.{Parts, reads-close}
 use Rattle.qp_shapes.proofs.GroupsElementLemmas.{element-parts}
 use Rattle.qp_shapes.proofs.GroupsFirstLemmas.{leaves-at, leaves-sound, leaves-whole, done-is}
+use Rattle.qp_shapes.proofs.NeverLemmas.{false-true, none-some, some-none}
 
 pub taken-is : (t : Told) (e : Entry) → taken_first t.body t.known ≡ Some e → (f l m : ℕ) × (known : Known) × (t ≡ takes f l m e known)
 taken-is t e h = by t.body refl h
@@ -24,14 +25,14 @@ taken-is t e h = by t.body refl h
         let same : d ≡ e = cc in
         let whole : t ≡ takes f l m d t.known = told-is t _ _ is_body refl in
         (f, l, m, t.known, whole ∙ ap (λ x. takes f l m x t.known) same)
-    by body is_body h = absurd (cc)
+    by body is_body h = absurd (none-some h)
 
 head-tells : (t : Told) → tells_head t.body t.known ≡ true → (b : Body) × (is_head b ≡ true) × (t ≡ plain b)
 head-tells t h = by t.known refl h
   where
     by : (known : Known) → t.known ≡ known → tells_head t.body known ≡ true → (b : Body) × (is_head b ≡ true) × (t ≡ plain b)
     by Nothing is h = (t.body, h, told-is t t.body Nothing refl is)
-    by known is h = absurd (cc)
+    by known is h = absurd (false-true h)
 
 -- the first two records of a step
 pub step-is : (told body : List Told) (e : Entry) → taken_entry told ≡ Some e → behind_head told ≡ Some body → (head : List Told) × StepHead e head × (told ≡ head ++ body)
@@ -101,7 +102,7 @@ look-entry b told rest look is = ap taken_entry is ∙ by b look
     by : (b : Body) → is_look b ≡ true → taken_entry (plain b ∷ rest) ≡ None
     by (item.Nil f l m) look = refl
     by (item.Seen p f l m) look = refl
-    by b look = absurd (cc)
+    by b look = absurd (false-true look)
 
 -- a step in front of a list
 turn-steps : (act : Option Entry → List Told → Type 0) (release : Entry → List Told → Type 0) (nils : Bool) (told g other : List Told) (e : Entry) → taken_entry told ≡ Some e
@@ -156,7 +157,7 @@ look-is nils (t ∷ ts) rest h = by t.known refl h
         let whole : t ≡ plain t.body = told-is t _ _ refl is_known in
         let behind : ts ≡ rest = test.1 in
         (t.body, tests.0, tests.1, ap (λ u. u ∷ ts) whole ∙ ap (λ us. plain t.body ∷ us) behind)
-    by known is_known h = absurd (cc)
+    by known is_known h = absurd (none-some h)
 
 pub turn-look : (act : Option Entry → List Told → Type 0) (release : Entry → List Told → Type 0) (nils : Bool) (told : List Told) (r : Option (List Told))
     → None ≡ taken_entry told → r ≡ behind_look nils told → Leaves (IsTurnOf act release nils) told r
@@ -180,4 +181,4 @@ begin-is (t ∷ ts) rest h = by t.body t.known refl refl h
   where
     by : (body : Body) (known : Known) → t.body ≡ body → t.known ≡ known → Some rest ≡ begin_first body known ts → t ∷ ts ≡ plain item.Begin ∷ rest
     by item.Begin Nothing is_body is_known h = let whole : t ≡ plain item.Begin = told-is t _ _ is_body is_known in let behind : ts ≡ rest = cc in cc
-    by body known is_body is_known h = absurd (cc)
+    by body known is_body is_known h = absurd (some-none h)

@@ -16,6 +16,7 @@ use Rattle.qp_model.specs.Shapes.{Drops, releases_by, MakesNew, MakesBlock, NoBl
 use Rattle.qp_shapes.specs.ShapeUnit.{had_room, is_used, is_static_entry, post_first, behind_post}
 use Rattle.qp_shapes.proofs.ShapeReleaseLemmas.{when-passed, told-is, release-sound, release-whole}
 use Rattle.qp_shapes.proofs.ShapePartLemmas.{same_entry-itself, same_entry-is, first-used}
+use Rattle.qp_shapes.proofs.NeverLemmas.{none-some}
 
 -- what a post leaves behind the records that made its entry, where it doesn't end in an assertion
 pub data Posted (sys : System) (e : Entry) (g : List Told) : Type 0 where
@@ -41,7 +42,7 @@ posted-sound sys e (t ∷ ts) rest h = by t.body t.known refl refl h
         let whole : t ≡ plain (item.Full to f l m margin) = told-is t _ _ is_body is_known in
         let behind : ts ≡ rel.0 ++ rest = rel.2 in
         (plain (item.Full to f l m margin) ∷ rel.0, IsRefused to f l m margin rel.0 rel.1 refl, cc)
-    by body known is_body is_known k = absurd (cc)
+    by body known is_body is_known k = absurd (none-some k)
 
 pub posted-whole : (sys : System) (e : Entry) (g rest : List Told) → Posted sys e g → behind_post sys e (g ++ rest) ≡ Some rest
 posted-whole sys e g rest (IsPosted to f l m room is) = rw (is, same_entry-itself e, room) refl

@@ -9,6 +9,7 @@ use Rattle.qp_model.specs.Told.{Told, Known, Nothing, Left, plain, dropped}
 use Rattle.qp_model.specs.Shapes.{Drops, Releases, releases_by}
 use Rattle.qp_model.proofs.LineLemmas.{same_number}
 use Rattle.qp_shapes.specs.ShapeRelease.{Leaves, when, back_first, behind_back, left_behind, drop_first, behind_drop, behind_release}
+use Rattle.qp_shapes.proofs.NeverLemmas.{none-some}
 
 -- what a reader answers is what stands behind, where it answers that behind each such list, and only there
 pub leaves : (P : List Told → Type 0) (behind : List Told → Option (List Told))
@@ -48,7 +49,7 @@ back-sound p b d (t ∷ ts) rest h = by t.body t.known refl refl h
         let whole : t ≡ plain (item.Back q n c to) = told-is t _ _ is_body is_known in
         let behind : ts ≡ rest = passed.1 in
         (n, cc)
-    by body known is_body is_known k = absurd (cc)
+    by body known is_body is_known k = absurd (none-some k)
 
 -- the release of an entry of a pool
 drop-sound : (e : Entry) (told rest : List Told) → behind_drop e told ≡ Some rest → (g : List Told) × Releases e.pool e.block e.name g × (told ≡ g ++ rest)
@@ -76,7 +77,7 @@ drop-sound e (t ∷ ts) rest h = by t.body t.known refl refl h
             let e3 : k ≡ e.name = grind (arith, nat_tests) in
             let whole : t ≡ dropped p b d k (suc left) = told-is t _ _ is_body is_known in
             (dropped e.pool e.block d e.name (suc left) ∷ [], inl (d, left, refl), cc)
-    by body known is_body is_known h = absurd (cc)
+    by body known is_body is_known h = absurd (none-some h)
 
 drop-whole : (e : Entry) (g rest : List Told) → Releases e.pool e.block e.name g → behind_drop e (g ++ rest) ≡ Some rest
 drop-whole e g rest (inl h) = rw (h.2, same_number e.pool, same_number e.block, same_number e.name) refl

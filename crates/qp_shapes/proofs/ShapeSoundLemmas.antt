@@ -17,6 +17,7 @@ use Rattle.qp_shapes.specs.ShapeUnit.{IsUnit, MakesCall, is_used, goes_to, is_st
 use Rattle.qp_shapes.proofs.ShapeReleaseLemmas.{when-passed, told-is, release-sound}
 use Rattle.qp_shapes.proofs.ShapePostLemmas.{Posted, posted-sound, posted-posts, static-entry, entry-static, new-static, new-block, short-no_block, again-static, again-pooled, none-drops, IsRefused}
 use Rattle.qp_shapes.proofs.ShapePartLemmas.{same_entry-itself, same_entry-is, some-static, goes-first, used-first}
+use Rattle.qp_shapes.proofs.NeverLemmas.{none-some}
 
 pub both : (a b : Bool) → (a && b) ≡ true → (a ≡ true) × (b ≡ true)
 both true b h = (refl, h)
@@ -190,7 +191,7 @@ block-unit sys o now p n b from sig free pars (t ∷ ts) rest above goes pooled 
         let unit = new-unit sys o now p n b from sig free r pars ts rest above goes pooled test.1 in
         let behind : ts ≡ unit.0 ++ rest = unit.2 in
         (plain (item.Inc p b r) ∷ unit.0, unit.1, cc)
-    by body known is_body is_known k = absurd (cc)
+    by body known is_body is_known k = absurd (none-some k)
 
 -- a last-in post of a recalled entry, and the release of its deferral
 pub lifo-sound : (k e : Entry) (told rest : List Told) → behind_lifo k e told ≡ Some rest
@@ -207,4 +208,4 @@ lifo-sound k e (t ∷ ts) rest h = by t.body t.known refl refl h
         let rel = release-sound k ts rest test.1 in
         let behind : ts ≡ rel.0 ++ rest = rel.2 in
         (f, l, m, rel.0, rel.1, cc)
-    by body known is_body is_known h = absurd (cc)
+    by body known is_body is_known h = absurd (none-some h)

@@ -20,11 +20,12 @@ use Rattle.qp_shapes.specs.ShapePublication.{stage_if, released, next_post, publ
 use Rattle.qp_shapes.proofs.ShapeReleaseLemmas.{told-is}
 use Rattle.qp_shapes.proofs.ShapePartLemmas.{same_entry-is}
 use Rattle.qp_shapes.proofs.ShapeSoundLemmas.{both, number}
+use Rattle.qp_shapes.proofs.NeverLemmas.{none-some}
 
 -- a test that is passed, and the stage behind it
 stage-passed : (test : Bool) (s x : PublishStage) → stage_if test s ≡ Some x → (test ≡ true) × (x ≡ s)
 stage-passed true s x h = (refl, cc)
-stage-passed false s x h = absurd (cc)
+stage-passed false s x h = absurd (none-some h)
 
 not-true : (b : Bool) → not b ≡ true → b ≡ false
 not-true true h = absurd (cc)
@@ -56,7 +57,7 @@ given-is p b sig t x h = by t.body t.known refl refl h
         let e2 : c ≡ b = number c b tests.1 in
         let whole : t ≡ plain (item.Inc q c r) = told-is t _ _ is_body is_known in
         (r, cc, test.1)
-    by body known is_body is_known h = absurd (cc)
+    by body known is_body is_known h = absurd (none-some h)
 
 pub made-is : (o : ℕ) (e : Entry) (sig : ℕ) (t : Told) (x : PublishStage) → made_next o e sig t.body t.known ≡ Some x → (n set : ℕ) × (t ≡ plain (item.Pub sig n set)) × (x ≡ published o e set)
 unfolding made_next
@@ -68,7 +69,7 @@ made-is o e sig t x h = by t.body t.known refl refl h
         let e1 : s ≡ sig = number s sig test.0 in
         let whole : t ≡ plain (item.Pub s n set) = told-is t _ _ is_body is_known in
         (n, set, cc, test.1)
-    by body known is_body is_known h = absurd (cc)
+    by body known is_body is_known h = absurd (none-some h)
 
 pub raised-is : (e : Entry) (former : ℕ) (t : Told) (x : PublishStage) → raised_next e former t.body t.known ≡ Some x → (t ≡ plain (item.Unlock former)) × (x ≡ released e)
 raised-is e former t x h = by t.body t.known refl refl h
@@ -79,7 +80,7 @@ raised-is e former t x h = by t.body t.known refl refl h
         let e1 : c ≡ former = number c former test.0 in
         let whole : t ≡ plain (item.Unlock c) = told-is t _ _ is_body is_known in
         (cc, test.1)
-    by body known is_body is_known h = absurd (cc)
+    by body known is_body is_known h = absurd (none-some h)
 
 pub posted-is : (e : Entry) (t : Told) (x : PublishStage) → posted_next e t.body t.known ≡ Some x → (d left : ℕ) × (t ≡ dropped e.pool e.block d e.name left) × (x ≡ left_next e.pool e.block d left)
 posted-is e t x h = by t.body t.known refl refl h
@@ -93,7 +94,7 @@ posted-is e t x h = by t.body t.known refl refl h
         let e3 : k ≡ e.name = grind (arith, nat_tests) in
         let whole : t ≡ dropped p b d k left = told-is t _ _ is_body is_known in
         (d, left, cc, cc)
-    by body known is_body is_known h = absurd (cc)
+    by body known is_body is_known h = absurd (none-some h)
 
 pub dropped-is : (p b d : ℕ) (t : Told) (x : PublishStage) → dropped_next p b d t.body t.known ≡ Some x → (n : ℕ) × (t ≡ plain (item.Back p n b (d + 1))) × (x ≡ stage.Whole)
 dropped-is p b d t x h = by t.body t.known refl refl h
@@ -106,7 +107,7 @@ dropped-is p b d t x h = by t.body t.known refl refl h
         let e3 : to ≡ d + 1 = grind (arith, nat_tests) in
         let whole : t ≡ plain (item.Back q n c to) = told-is t _ _ is_body is_known in
         (n, cc, test.1)
-    by body known is_body is_known h = absurd (cc)
+    by body known is_body is_known h = absurd (none-some h)
 
 pub lock-is : (p : Posting) (t : Told) (x : PublishStage) → lock_next p t.body t.known ≡ Some x
     → (former : ℕ) × (t ≡ raised (max former p.to) former) × (x ≡ stage.Posts (record { entry = p.entry; to = p.to; below = p.below; set = p.set; ceiling = ceiling.Rose former }))
@@ -119,7 +120,7 @@ lock-is p t x h = by t.body t.known refl refl h
         let e1 : c ≡ max former p.to = number c (max former p.to) test.0 in
         let whole : t ≡ raised c former = told-is t _ _ is_body is_known in
         (former, whole ∙ ap (λ y. raised y former) e1, test.1)
-    by body known is_body is_known h = absurd (cc)
+    by body known is_body is_known h = absurd (none-some h)
 
 pub reference-is : (p : Posting) (t : Told) (x : PublishStage) → reference_next p t.body t.known ≡ Some x → (r : ℕ) × (t ≡ plain (item.Inc p.entry.pool p.entry.block r)) × (x ≡ stage.Referred p r)
 reference-is p t x h = by t.body t.known refl refl h
@@ -133,7 +134,7 @@ reference-is p t x h = by t.body t.known refl refl h
         let e2 : c ≡ p.entry.block = number c p.entry.block tests.1 in
         let whole : t ≡ plain (item.Inc q c r) = told-is t _ _ is_body is_known in
         (r, cc, test.1)
-    by body known is_body is_known h = absurd (cc)
+    by body known is_body is_known h = absurd (none-some h)
 
 -- a post, or a queue with no entry left
 pub data PostRecord (sys : System) (p : Posting) (e : Entry) (t : Told) (x : PublishStage) : Type 0 where
@@ -158,7 +159,7 @@ post-is sys p e t x h = by t.body t.known refl refl h
         let e1 : a ≡ p.to = number a p.to test.0 in
         let whole : t ≡ plain (item.NoEntry a f l m) = told-is t _ _ is_body is_known in
         OfNoEntry f l m (cc) test.1
-    by body known is_body is_known h = absurd (cc)
+    by body known is_body is_known h = absurd (none-some h)
 
 -- a block for a new event, or the set of a static one
 pub data StartRecord (sys : System) (o : ℕ) (t : Told) (x : PublishStage) : Type 0 where
@@ -179,4 +180,4 @@ start-is sys o t x h = by t.body t.known refl refl h
     by (item.Pub sig n set) Nothing is_body is_known h =
         let test = stage-passed (is_static sys sig) (published o (entry 0 sig 0) set) x h in
         OfSet sig n set (told-is t _ _ is_body is_known) test.0 test.1
-    by body known is_body is_known h = absurd (cc)
+    by body known is_body is_known h = absurd (none-some h)
