@@ -1,5 +1,6 @@
 -- What the first record of a list tells of the group in front, and what stands behind it.
 use Rattle.std.proofs.Common.{◌≡◌, ℕ, ◌==◌, nat_le, max, Bool, true, false, cond, List, [], ◌∷◌, ◌++◌, Some, None, refl, sym, ◌∙◌, ap, subst, append_assoc, arith}
+use Rattle.std.proofs.lemmas.Bool.{eqb-true}
 use Rattle.std.proofs.lemmas.Bool.Decides.{nat_tests}
 use Rattle.std.specs.declared.option.Option.{Option}
 use Rattle.qp_model.specs.declared.bodies.Body.{Body}
@@ -9,11 +10,12 @@ use Rattle.qp_model.specs.Groups.{is_move}
 use Rattle.qp_shapes.specs.ShapeRelease.{Leaves}
 use Rattle.qp_shapes.specs.GroupsRead.{ReadsAll, IsElement, Notes, Acts, Locks, is_outer}
 use Rattle.qp_shapes.specs.GroupsFirst.{is_note, former_of, unlock_first, behind_unlock, done_first, behind_done}
-use Rattle.qp_shapes.proofs.ShapeReleaseLemmas.{when-passed, told-is}
-use Rattle.qp_shapes.proofs.ShapeSoundLemmas.{number}
+use Rattle.qp_shapes.proofs.ShapeReleaseLemmas.{when-passed}
 use Rattle.qp_shapes.proofs.GroupsReadLemmas.{Parts, reads-close}
 use Rattle.qp_shapes.proofs.GroupsElementLemmas.{element-parts}
 use Rattle.qp_shapes.proofs.NeverLemmas.{false-true, none-some}
+use Rattle.qp_model.proofs.RecordLemmas.{told-is}
+use Rattle.qp_model.proofs.LineLemmas.{same_number}
 
 -- what a reader answers at one list, where it answers that behind each such list in front, and only there
 pub leaves-at : (P : List Told → Type 0) (told : List Told) (r : Option (List Told))
@@ -79,9 +81,6 @@ former-raised t f h = by t.body t.known refl refl h
 pub raised-former : (f c : ℕ) → former_of (raised (max f c) f).body (raised (max f c) f).known ≡ Some f
 raised-former f c = let le : nat_le f (max f c) ≡ true = grind (arith, nat_tests) in rw le refl
 
-same-number : (a : ℕ) → (a == a) ≡ true
-same-number a = grind (arith, nat_tests)
-
 unlock-is : (f : ℕ) (told rest : List Told) → behind_unlock f told ≡ Some rest → told ≡ plain (item.Unlock f) ∷ rest
 unlock-is f [] rest h = absurd (cc)
 unlock-is f (t ∷ ts) rest h = by t.body t.known refl refl h
@@ -89,7 +88,7 @@ unlock-is f (t ∷ ts) rest h = by t.body t.known refl refl h
     by : (body : Body) (known : Known) → t.body ≡ body → t.known ≡ known → unlock_first f body known ts ≡ Some rest → t ∷ ts ≡ plain (item.Unlock f) ∷ rest
     by (item.Unlock c) Nothing is_body is_known h =
         let test = when-passed _ ts rest h in
-        let same : c ≡ f = number c f test.0 in
+        let same : c ≡ f = eqb-true c f test.0 in
         let whole : t ≡ plain (item.Unlock c) = told-is t _ _ is_body is_known in
         let behind : ts ≡ rest = test.1 in cc
     by body known is_body is_known h = absurd (none-some h)
@@ -139,7 +138,7 @@ locked-leaves W laws t ts rest f h reads = leaves-at (IsElement W) (t ∷ ts) (b
         let tails : ts ≡ (inner ++ (plain (item.Unlock k) ∷ [])) ++ other = cc in
         let close : rest ≡ plain (item.Unlock k) ∷ other =
         reads-close is_outer W laws ts rest reads inner (plain (item.Unlock k)) other s refl (tails ∙ append_assoc inner (plain (item.Unlock k) ∷ []) other) in
-        ap (behind_unlock f) close ∙ ap (λ x. behind_unlock f (plain (item.Unlock x) ∷ other)) same ∙ rw (same-number f) refl
+        ap (behind_unlock f) close ∙ ap (λ x. behind_unlock f (plain (item.Unlock x) ∷ other)) same ∙ rw (same_number f) refl
 
 -- an action, where the first record is no note and raises no ceiling
 pub acts-leaves : (W : List Told → Type 0) → (t : Told) (ts : List Told) (r : Option (List Told)) → is_note t.body t.known ≡ false → former_of t.body t.known ≡ None

@@ -1,5 +1,6 @@
 -- A list that is a front of the release of an entry.
 use Rattle.std.proofs.Common.{◌≡◌, ℕ, zero, suc, ◌+◌, ◌<◌, ◌==◌, nat_lt, Bool, true, false, ◌&&◌, ◌||◌, ◌⊎◌, inl, inr, List, [], ◌∷◌, ◌++◌, length, Some, None, refl, sym, ◌∙◌, ap, subst, append-nil, arith}
+use Rattle.std.proofs.lemmas.Bool.{and_parts, or_cases, eqb-true}
 use Rattle.std.proofs.lemmas.Bool.Decides.{nat_tests}
 use Rattle.std.specs.declared.option.Option.{Option}
 use Rattle.qp_fits.specs.Decides.{Decides}
@@ -13,11 +14,11 @@ use Rattle.qp_shapes.specs.ShapeRelease.{Leaves, behind_back, behind_release}
 use Rattle.qp_shapes.specs.ObjectRead.{FrontOf}
 use Rattle.qp_shapes.specs.ShapePublication.{is_done}
 use Rattle.qp_shapes.specs.ObjectFirst.{drop_front, release_front}
-use Rattle.qp_shapes.proofs.ShapeReleaseLemmas.{told-is, release-sound, release-leaves}
-use Rattle.qp_shapes.proofs.ShapeSoundLemmas.{both, either, number}
+use Rattle.qp_shapes.proofs.ShapeReleaseLemmas.{release-sound, release-leaves}
 use Rattle.qp_shapes.proofs.ObjectTestLemmas.{decides-by}
 use Rattle.qp_shapes.proofs.ObjectCutLemmas.{released}
 use Rattle.qp_shapes.proofs.NeverLemmas.{false-true}
+use Rattle.qp_model.proofs.RecordLemmas.{told-is}
 
 -- no records behind
 empty-rest : (ts : List Told) → (length ts == 0) ≡ true → ts ≡ []
@@ -57,7 +58,7 @@ front-of : (e : Entry) (told : List Told) → release_front e told ≡ true → 
 unfolding FrontOf
 front-of e [] h = released e
 front-of e (t ∷ ts) h =
-    let tests = both (nat_lt 0 e.pool) (drop_front e t.body t.known ts) h in
+    let tests = and_parts (nat_lt 0 e.pool) (drop_front e t.body t.known ts) h in
     by t.body t.known refl refl tests.0 tests.1
   where
     last : (p b d k left : ℕ) → t ≡ dropped p b d k left → p ≡ e.pool → b ≡ e.block → k ≡ e.name → t ≡ dropped e.pool e.block d e.name left
@@ -80,20 +81,20 @@ front-of e (t ∷ ts) h =
 
     by : (body : Body) (known : Known) → t.body ≡ body → t.known ≡ known → nat_lt 0 e.pool ≡ true → drop_front e body known ts ≡ true → (back : List Told) × Drops e (t ∷ (ts ++ back))
     by (item.Dec p b d k) (Left left) is_body is_known above h =
-        let tests = both ((p == e.pool) && (b == e.block) && (k == e.name)) ((length ts == 0) || (left == 0) && is_done (behind_back p b d ts)) h in
-        let same = both ((p == e.pool) && (b == e.block)) (k == e.name) tests.0 in
-        let of_block = both (p == e.pool) (b == e.block) same.0 in
-        let e1 : p ≡ e.pool = number p e.pool of_block.0 in
-        let e2 : b ≡ e.block = number b e.block of_block.1 in
-        let t_is = last p b d k left (told-is t _ _ is_body is_known) e1 e2 (number k e.name same.1) in
-        ends d left p b t_is e1 e2 (either (length ts == 0) ((left == 0) && is_done (behind_back p b d ts)) tests.1)
+        let tests = and_parts ((p == e.pool) && (b == e.block) && (k == e.name)) ((length ts == 0) || (left == 0) && is_done (behind_back p b d ts)) h in
+        let same = and_parts ((p == e.pool) && (b == e.block)) (k == e.name) tests.0 in
+        let of_block = and_parts (p == e.pool) (b == e.block) same.0 in
+        let e1 : p ≡ e.pool = eqb-true p e.pool of_block.0 in
+        let e2 : b ≡ e.block = eqb-true b e.block of_block.1 in
+        let t_is = last p b d k left (told-is t _ _ is_body is_known) e1 e2 (eqb-true k e.name same.1) in
+        ends d left p b t_is e1 e2 (or_cases (length ts == 0) ((left == 0) && is_done (behind_back p b d ts)) tests.1)
       where
         ends : (d left p b : ℕ) → t ≡ dropped e.pool e.block d e.name left → p ≡ e.pool → b ≡ e.block → ((length ts == 0) ≡ true) ⊎ (((left == 0) && is_done (behind_back p b d ts)) ≡ true)
             → (back : List Told) × Drops e (t ∷ (ts ++ back))
         ends d left p b t_is e1 e2 (inl none) = alone above d left t_is (empty-rest ts none)
         ends d left p b t_is e1 e2 (inr back) =
-            let tests = both (left == 0) (is_done (behind_back p b d ts)) back in
-            returned above d left t_is (number left 0 tests.0)
+            let tests = and_parts (left == 0) (is_done (behind_back p b d ts)) back in
+            returned above d left t_is (eqb-true left 0 tests.0)
             (ap (λ x. behind_back x e.block d ts) (sym e1) ∙ ap (λ x. behind_back p x d ts) (sym e2) ∙ end-is (behind_back p b d ts) tests.1)
     by body known is_body is_known above h = absurd (false-true h)
 

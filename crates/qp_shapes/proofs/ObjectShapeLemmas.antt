@@ -1,5 +1,6 @@
 -- An object's shape is tested part by part.
 use Rattle.std.proofs.Common.{◌≡◌, ℕ, suc, ◌<◌, Bool, true, false, ◌⊎◌, inl, inr, List, [], ◌∷◌, ◌++◌, length, IsTrue, Some, None, refl, sym, ◌∙◌, ap, subst, arith}
+use Rattle.std.proofs.lemmas.Bool.{eqb-true}
 use Rattle.qp_fits.specs.Decides.{Decides}
 use Rattle.qp_model.specs.declared.systems.System.{System}
 use Rattle.qp_model.specs.declared.bodies.Entry.{Entry}
@@ -20,7 +21,6 @@ use Rattle.qp_shapes.proofs.GroupsLawLemmas.{whole-parts, last-lasts}
 use Rattle.qp_shapes.proofs.ObjectReadLemmas.{KindLaws}
 use Rattle.qp_shapes.proofs.ObjectTestLemmas.{decides-by, object-decided, object-not}
 use Rattle.qp_shapes.proofs.ObjectCutLemmas.{cut-object, whole-object, object-cut, empty-cut}
-use Rattle.qp_shapes.proofs.ShapeSoundLemmas.{number}
 
 release-unique : (e : Entry) (g gs h hs : List Told) → Drops e g → Drops e h → g ++ gs ≡ h ++ hs → gs ≡ hs
 release-unique e g gs h hs x y is =
@@ -70,8 +70,8 @@ unbegun-decided sys o nils cut told b none is = decides-by (CutGroups sys o nils
 
     sound : (cut : Cut) → is_unbegun cut told ≡ true → CutGroups sys o nils cut told
     sound Whole h = absurd (cc)
-    sound Stopped h = empty-cut sys o nils Stopped told (empty-is told (number (length told) 0 h)) (λ k. cc)
-    sound Anywhere h = empty-cut sys o nils Anywhere told (empty-is told (number (length told) 0 h)) (λ k. cc)
+    sound Stopped h = empty-cut sys o nils Stopped told (empty-is told (eqb-true (length told) 0 h)) (λ k. cc)
+    sound Anywhere h = empty-cut sys o nils Anywhere told (empty-is told (eqb-true (length told) 0 h)) (λ k. cc)
 
     whole : (cut : Cut) → told ≡ [] → CutGroups sys o nils cut told → is_unbegun cut told ≡ true
     whole Whole e h = absurd (object-not (kinds sys o Whole) nils told none (whole-object sys o nils told h))

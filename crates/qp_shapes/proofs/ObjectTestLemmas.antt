@@ -1,5 +1,6 @@
 -- What is tested of an object's list.
 use Rattle.std.proofs.Common.{◌≡◌, ℕ, suc, ◌==◌, Bool, true, false, ◌&&◌, ◌⊎◌, inl, inr, List, [], ◌∷◌, ◌++◌, length, IsTrue, Some, None, refl, sym, ◌∙◌, ap, subst, arith}
+use Rattle.std.proofs.lemmas.Bool.{and_parts}
 use Rattle.std.proofs.lemmas.Bool.Decides.{nat_tests}
 use Rattle.qp_fits.specs.Decides.{Decides}
 use Rattle.qp_model.specs.declared.bodies.Entry.{Entry}
@@ -11,7 +12,6 @@ use Rattle.qp_shapes.specs.GroupsRead.{ReadsAll, IsElement, Breaks, is_close, is
 use Rattle.qp_shapes.specs.GroupsFirst.{behind_done}
 use Rattle.qp_shapes.specs.ObjectRead.{Kinds, Closes, IsTurnOf, IsTailOf, EndsHere, IsSpent, BreaksOffIn, TakesOnly, ReleasesOnly, TurnsOf, FrontOf, IsObjectOf, Starts, BreaksStart, IsStepEnd, BreaksIt, ReleasesIt, IsStartEnd, GoesOn, BreaksFirst}
 use Rattle.qp_shapes.specs.ObjectFirst.{taken_entry, behind_head, spent_first, is_spent, behind_begin}
-use Rattle.qp_shapes.proofs.ShapeReleaseLemmas.{told-is}
 use Rattle.qp_shapes.proofs.GroupsDecideLemmas.{decides-as}
 use Rattle.qp_shapes.proofs.GroupsReadLemmas.{Parts, reads-close}
 use Rattle.qp_shapes.proofs.GroupsElementLemmas.{element-parts}
@@ -19,6 +19,7 @@ use Rattle.qp_shapes.proofs.GroupsFirstLemmas.{done-is}
 use Rattle.qp_shapes.proofs.ObjectReadLemmas.{KindLaws, break-open, turns-tail, tail-turns}
 use Rattle.qp_shapes.proofs.ObjectTurnLemmas.{taken-is, step-is, step-told, begin-is}
 use Rattle.qp_shapes.proofs.NeverLemmas.{false-true}
+use Rattle.qp_model.proofs.RecordLemmas.{told-is}
 
 -- a test by what it tells, each way
 pub decides-by : (P : Type 0) (b : Bool) → (b ≡ true → P) → (P → b ≡ true) → Decides b P
@@ -114,10 +115,6 @@ tail-steps k told body e b taken_is head_is d = decides-as (IsStepEnd k e body) 
         let behind : more ≡ body = cc in
         ReleasesIt any (subst (λ us. Closes (k.act (Some e)) (FrontOf (k.release e)) us) behind (subst (λ x. Closes (k.act (Some x)) (FrontOf (k.release x)) more) same.0 c))
 
-both-true : (a b : Bool) → (a && b) ≡ true → (a ≡ true) × (b ≡ true)
-both-true true b h = (refl, h)
-both-true false b h = absurd (cc)
-
 pub tail-takes : (k : Kinds) (told : List Told) (e : Entry) (b : Bool) → Some e ≡ taken_entry told → None ≡ behind_head told → b ≡ (k.anywhere && (length told == 1)) → Decides b (IsTailOf k told)
 tail-takes k told e b taken_is none b_is = decides-by (IsTailOf k told) b sound whole
   where
@@ -131,7 +128,7 @@ tail-takes k told e b taken_is none b_is = decides-by (IsTailOf k told) b sound 
 
     sound : b ≡ true → IsTailOf k told
     sound h =
-        let tests = both-true k.anywhere (length told == 1) (sym b_is ∙ h) in
+        let tests = and_parts k.anywhere (length told == 1) (sym b_is ∙ h) in
         let one = single told taken_is tests.1 in TakesOnly one.0 one.1 one.2 e one.3 tests.0 one.4
 
     whole : IsTailOf k told → b ≡ true

@@ -1,6 +1,7 @@
 -- What the first records of an object's turns tell, and what stands behind these.
-use Rattle.std.proofs.Common.{◌≡◌, ℕ, Bool, true, false, ◌&&◌, List, [], ◌∷◌, ◌++◌, Some, None, refl, sym, ◌∙◌, ap, subst, append_assoc}
+use Rattle.std.proofs.Common.{◌≡◌, ℕ, Bool, true, ◌&&◌, List, [], ◌∷◌, ◌++◌, Some, None, refl, sym, ◌∙◌, ap, subst, append_assoc}
 use Rattle.std.specs.declared.option.Option.{Option}
+use Rattle.std.proofs.lemmas.Bool.{and_parts}
 use Rattle.qp_model.specs.declared.bodies.Entry.{Entry}
 use Rattle.qp_model.specs.declared.bodies.Body.{Body}
 use Rattle.qp_model.specs.declared.bodies.Body.TheVariants as item
@@ -11,11 +12,12 @@ use Rattle.qp_shapes.specs.GroupsRead.{ReadsAll, IsElement, is_close, is_outer}
 use Rattle.qp_shapes.specs.GroupsFirst.{behind_done}
 use Rattle.qp_shapes.specs.ObjectRead.{Closes, is_look, IsTurnOf, Steps, Finds}
 use Rattle.qp_shapes.specs.ObjectFirst.{taken_first, taken_entry, tells_head, behind_head, look_first, behind_look, begin_first, behind_begin}
-use Rattle.qp_shapes.proofs.ShapeReleaseLemmas.{when-passed, told-is}
+use Rattle.qp_shapes.proofs.ShapeReleaseLemmas.{when-passed}
 use Rattle.qp_shapes.proofs.GroupsReadLemmas.{Parts, reads-close}
 use Rattle.qp_shapes.proofs.GroupsElementLemmas.{element-parts}
 use Rattle.qp_shapes.proofs.GroupsFirstLemmas.{leaves-at, leaves-sound, leaves-whole, done-is}
 use Rattle.qp_shapes.proofs.NeverLemmas.{false-true, none-some, some-none}
+use Rattle.qp_model.proofs.RecordLemmas.{told-is}
 
 pub taken-is : (t : Told) (e : Entry) → taken_first t.body t.known ≡ Some e → (f l m : ℕ) × (known : Known) × (t ≡ takes f l m e known)
 taken-is t e h = by t.body refl h
@@ -142,10 +144,6 @@ turn-headless act release nils told e taken_is none = leaves-at (IsTurnOf act re
         let step = turn-steps act release nils told g other e (sym taken_is) t is in
         let both : None ≡ Some (step.0 ++ other) = none ∙ step.2 in absurd (cc)
 
-both-true : (a b : Bool) → (a && b) ≡ true → (a ≡ true) × (b ≡ true)
-both-true true b h = (refl, h)
-both-true false b h = absurd (cc)
-
 look-is : (nils : Bool) (told rest : List Told) → behind_look nils told ≡ Some rest → (b : Body) × (is_look b ≡ true) × (nils ≡ true) × (told ≡ plain b ∷ rest)
 look-is nils [] rest h = absurd (cc)
 look-is nils (t ∷ ts) rest h = by t.known refl h
@@ -153,7 +151,7 @@ look-is nils (t ∷ ts) rest h = by t.known refl h
     by : (known : Known) → t.known ≡ known → look_first nils t.body known ts ≡ Some rest → (b : Body) × (is_look b ≡ true) × (nils ≡ true) × (t ∷ ts ≡ plain b ∷ rest)
     by Nothing is_known h =
         let test = when-passed (is_look t.body && nils) ts rest h in
-        let tests = both-true (is_look t.body) nils test.0 in
+        let tests = and_parts (is_look t.body) nils test.0 in
         let whole : t ≡ plain t.body = told-is t _ _ refl is_known in
         let behind : ts ≡ rest = test.1 in
         (t.body, tests.0, tests.1, ap (λ u. u ∷ ts) whole ∙ ap (λ us. plain t.body ∷ us) behind)

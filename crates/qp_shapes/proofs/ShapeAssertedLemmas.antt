@@ -1,5 +1,6 @@
 -- Calls that end in their assertions are read off the front of a list, each way.
 use Rattle.std.proofs.Common.{◌≡◌, ℕ, ◌==◌, nat_lt, Bool, true, false, not, cond, ◌&&◌, List, [], ◌∷◌, ◌++◌, length, Some, None, refl, sym, subst, inr, arith}
+use Rattle.std.proofs.lemmas.Bool.{and_parts, not-true, or_cases, eqb-true}
 use Rattle.std.proofs.lemmas.Bool.Decides.{nat_tests}
 use Rattle.std.specs.declared.option.Option.{Option}
 use Rattle.qp_model.specs.declared.systems.System.{System}
@@ -9,19 +10,20 @@ use Rattle.qp_model.specs.declared.bodies.Body.TheVariants as item
 use Rattle.qp_model.specs.Record.{entry}
 use Rattle.qp_model.specs.Told.{Told, Known, Nothing, Free, plain, given}
 use Rattle.qp_model.specs.Calls as call
-use Rattle.qp_model.specs.Calls.{Call, Answer, Granted, Refused, Flushed, AtQueue, AtPool, AtTimer, AtTicks, AtFront, is_assertion}
+use Rattle.qp_model.specs.Calls.{AtQueue, AtFront}
 use Rattle.qp_model.specs.Parts.{is_static, sizes_of}
 use Rattle.qp_model.specs.Shapes.{Fits, FitsAny, MakesNew, MakesBlock, MakesAgain, Posts, PostsFront, PostsNew, PostsNewFront, Recalls}
 use Rattle.qp_shapes.specs.ShapeUnit.{goes_to, some_static}
-use Rattle.qp_shapes.proofs.ShapeReleaseLemmas.{when-passed, told-is}
+use Rattle.qp_shapes.proofs.ShapeReleaseLemmas.{when-passed}
 use Rattle.qp_shapes.proofs.ShapePostLemmas.{new-block, again-static, again-pooled}
 use Rattle.qp_shapes.proofs.ShapePartLemmas.{goes-first}
 use Rattle.qp_shapes.specs.ShapeRelease.{Leaves}
 use Rattle.qp_shapes.specs.ShapeAssertion.{IsAsserted, Asserts, no_entry_first, behind_no_entry, no_lifo_first, behind_no_lifo, cut_first, behind_cut, new_cut_first, behind_new_cut, recall_cut_first, behind_recall_reference, behind_recall_cut, plain_cut, given_cut, assertion_first, behind_assertion}
 use Rattle.qp_shapes.proofs.ShapeReleaseLemmas.{leaves}
-use Rattle.qp_shapes.proofs.ShapeSoundLemmas.{both, either, number, passed}
-use Rattle.qp_shapes.proofs.ShapeAssertionLemmas.{assertion-whole, not-true, no_entry-asserted, no_lifo-asserted, no_block-asserted, armed-asserted, bad_ticks-asserted, again-asserted}
+use Rattle.qp_shapes.proofs.ShapeSoundLemmas.{passed}
+use Rattle.qp_shapes.proofs.ShapeAssertionLemmas.{assertion-whole, no_entry-asserted, no_lifo-asserted, no_block-asserted, armed-asserted, bad_ticks-asserted, again-asserted}
 use Rattle.qp_shapes.proofs.NeverLemmas.{none-some}
+use Rattle.qp_model.proofs.RecordLemmas.{told-is}
 
 no_entry-sound : (told rest : List Told) → behind_no_entry told ≡ Some rest → (a f l m : ℕ) × (told ≡ plain (item.NoEntry a f l m) ∷ rest)
 no_entry-sound [] rest h = absurd (cc)
@@ -38,7 +40,7 @@ no_lifo-sound o (t ∷ ts) rest h = by t.body t.known refl refl h
     by : (body : Body) (known : Known) → t.body ≡ body → t.known ≡ known → no_lifo_first o body known ts ≡ Some rest → (f l m : ℕ) × (t ∷ ts ≡ plain (item.NoLifo o f l m) ∷ rest)
     by (item.NoLifo a f l m) Nothing is_body is_known h =
         let test = when-passed _ ts rest h in
-        let own : a ≡ o = number a o test.0 in
+        let own : a ≡ o = eqb-true a o test.0 in
         let whole : t ≡ plain (item.NoLifo a f l m) = told-is t _ _ is_body is_known in
         let behind : ts ≡ rest = test.1 in
         (f, l, m, cc)
@@ -66,7 +68,7 @@ cut-asserted sys o now p n b from sig free r pars (t ∷ ts) rest above goes poo
         (plain (item.NoEntry a f l m) ∷ [], Asserts (call.Post a sig pars None None) AtQueue refl (inr (head, entry p b r, makes, (f, l, m, refl))) refl, cc)
     by (item.NoLifo a f l m) Nothing is_body is_known h =
         let test = when-passed _ ts rest h in
-        let own : a ≡ o = number a o test.0 in
+        let own : a ≡ o = eqb-true a o test.0 in
         let whole : t ≡ plain (item.NoLifo a f l m) = told-is t _ _ is_body is_known in
         let behind : ts ≡ rest = test.1 in
         (plain (item.NoLifo o f l m) ∷ [], Asserts (call.Lifo sig pars None) AtFront refl (inr (head, entry p b r, makes, (f, l, m, refl))) refl, cc)
@@ -82,9 +84,9 @@ new-asserted sys o now p n b from sig free pars (t ∷ ts) rest above goes poole
         → (g : List Told) × IsAsserted sys o now (given p n b from sig pars free ∷ g) × (t ∷ ts ≡ g ++ rest)
     by (item.Inc q c r) Nothing is_body is_known k =
         let test = passed _ _ rest k in
-        let tests = both (q == p) (c == b) test.0 in
-        let e1 : q ≡ p = number q p tests.0 in
-        let e2 : c ≡ b = number c b tests.1 in
+        let tests = and_parts (q == p) (c == b) test.0 in
+        let e1 : q ≡ p = eqb-true q p tests.0 in
+        let e2 : c ≡ b = eqb-true c b tests.1 in
         let whole : t ≡ plain (item.Inc q c r) = told-is t _ _ is_body is_known in
         let asserted = cut-asserted sys o now p n b from sig free r pars ts rest above goes pooled test.1 in
         let behind : ts ≡ asserted.0 ++ rest = asserted.2 in
@@ -111,9 +113,9 @@ recall-asserted sys o now k told rest h = by (k.pool == 0) refl h
             → (g : List Told) × IsAsserted sys o now (plain (item.Recall k) ∷ g) × (t ∷ ts ≡ g ++ rest)
         from (item.Inc p b r) Nothing is_body is_known h =
             let test = passed _ _ rest h in
-            let tests = both (p == k.pool) (b == k.block) test.0 in
-            let e1 : p ≡ k.pool = number p k.pool tests.0 in
-            let e2 : b ≡ k.block = number b k.block tests.1 in
+            let tests = and_parts (p == k.pool) (b == k.block) test.0 in
+            let e1 : p ≡ k.pool = eqb-true p k.pool tests.0 in
+            let e2 : b ≡ k.block = eqb-true b k.block tests.1 in
             let whole : t ≡ plain (item.Inc p b r) = told-is t _ _ is_body is_known in
             let lifo = no_lifo-sound o ts rest test.1 in
             let again : MakesAgain k (plain (item.Inc p b r) ∷ []) (entry p b r) =
@@ -125,7 +127,7 @@ recall-asserted sys o now k told rest h = by (k.pool == 0) refl h
 
     by : (static : Bool) → (k.pool == 0) ≡ static → cond static (behind_no_lifo o told) (behind_recall_reference o k told) ≡ Some rest
         → (g : List Told) × IsAsserted sys o now (plain (item.Recall k) ∷ g) × (told ≡ g ++ rest)
-    by true is h = let lifo = no_lifo-sound o told rest h in (plain (item.NoLifo o lifo.0 lifo.1 lifo.2) ∷ [], asserted [] k lifo.0 lifo.1 lifo.2 (again-static k (number k.pool 0 is)), lifo.3)
+    by true is h = let lifo = no_lifo-sound o told rest h in (plain (item.NoLifo o lifo.0 lifo.1 lifo.2) ∷ [], asserted [] k lifo.0 lifo.1 lifo.2 (again-static k (eqb-true k.pool 0 is)), lifo.3)
     by false is h = reference is told h
 
 one-record : (sys : System) (o : ℕ) (now : Option Entry) (t : Told) (ts rest : List Told) (x : Told) → t ≡ x → IsAsserted sys o now (x ∷ []) → ts ≡ rest
@@ -139,11 +141,11 @@ more-records sys o now t ts rest x is asserted = let behind : ts ≡ asserted.0 
 plain-sound : (sys : System) (o : ℕ) (now : Option Entry) (t : Told) (ts rest : List Told) (body : Body) → t ≡ plain body → plain_cut sys o now body ts ≡ Some rest
     → (g : List Told) × IsAsserted sys o now g × (t ∷ ts ≡ g ++ rest)
 unfolding plain_cut
-plain-sound sys o now t ts rest (item.NoEntry a f l m) is h = let test = when-passed _ ts rest h in one-record sys o now t ts rest _ is (no_entry-asserted sys o now a f l m (either (some_static sys) _ test.0)) test.1
+plain-sound sys o now t ts rest (item.NoEntry a f l m) is h = let test = when-passed _ ts rest h in one-record sys o now t ts rest _ is (no_entry-asserted sys o now a f l m (or_cases (some_static sys) _ test.0)) test.1
 plain-sound sys o now t ts rest (item.NoLifo a f l m) is h =
     let test = when-passed _ ts rest h in
-    let tests = both (some_static sys) (a == o) test.0 in
-    let own : a ≡ o = number a o tests.1 in
+    let tests = and_parts (some_static sys) (a == o) test.0 in
+    let own : a ≡ o = eqb-true a o tests.1 in
     one-record sys o now t ts rest (plain (item.NoLifo o f l m)) (cc) (no_lifo-asserted sys o now f l m tests.0) test.1
 plain-sound sys o now t ts rest (item.NoBlock p n free) is h = let test = when-passed _ ts rest h in one-record sys o now t ts rest _ is (no_block-asserted sys o now p n free test.0) test.1
 plain-sound sys o now t ts rest (item.Armed u n counter) is h = one-record sys o now t ts rest _ is (armed-asserted sys o now u n counter) (cc)
@@ -160,8 +162,8 @@ given-sound : (sys : System) (o : ℕ) (now : Option Entry) (t : Told) (ts rest 
 unfolding given_cut
 given-sound sys o now t ts rest free (item.New p n b from sig pars) is h =
     let test = passed (nat_lt 0 free && goes_to (sizes_of sys) (length pars) p && not (is_static sys sig)) (behind_new_cut o p b ts) rest h in
-    let tests = both (nat_lt 0 free && goes_to (sizes_of sys) (length pars) p) (not (is_static sys sig)) test.0 in
-    let more = both (nat_lt 0 free) (goes_to (sizes_of sys) (length pars) p) tests.0 in
+    let tests = and_parts (nat_lt 0 free && goes_to (sizes_of sys) (length pars) p) (not (is_static sys sig)) test.0 in
+    let more = and_parts (nat_lt 0 free) (goes_to (sizes_of sys) (length pars) p) tests.0 in
     more-records sys o now t ts rest _ is (new-asserted sys o now p n b from sig free pars ts rest more.0 more.1 (not-true (is_static sys sig) tests.1) test.1)
 given-sound sys o now t ts rest free body is h = absurd (none-some h)
 

@@ -1,5 +1,6 @@
 -- The records of calls that end in their assertions.
-use Rattle.std.proofs.Common.{◌≡◌, ℕ, ◌==◌, nat_lt, Bool, true, false, not, List, [], ◌∷◌, ◌++◌, length, Some, None, refl, sym, ◌∙◌, ap, subst, inl, inr, ◌⊎◌, arith, append_assoc}
+use Rattle.std.proofs.Common.{◌≡◌, ℕ, ◌==◌, nat_lt, Bool, true, false, List, [], ◌∷◌, ◌++◌, length, Some, None, refl, sym, ◌∙◌, ap, subst, inl, inr, ◌⊎◌, arith, append_assoc}
+use Rattle.std.proofs.lemmas.Bool.{or_left, eqb-true, or_right}
 use Rattle.std.proofs.lemmas.Bool.Decides.{nat_tests}
 use Rattle.std.specs.declared.option.Option.{Option}
 use Rattle.std.specs.Option.{unwrap_or}
@@ -9,7 +10,7 @@ use Rattle.qp_model.specs.declared.bodies.Body.TheVariants as item
 use Rattle.qp_model.specs.Record.{entry}
 use Rattle.qp_model.specs.Told.{Told, plain}
 use Rattle.qp_model.specs.Calls as call
-use Rattle.qp_model.specs.Calls.{Call, Answer, Granted, Refused, Flushed, AtQueue, AtPool, AtTimer, AtTicks, AtFront, is_assertion}
+use Rattle.qp_model.specs.Calls.{Answer, Granted, Refused, Flushed, AtQueue, AtPool, AtTimer, AtTicks, AtFront, is_assertion}
 use Rattle.qp_model.specs.Parts.{is_static, sizes_of}
 use Rattle.qp_model.specs.Sites.{ring_of}
 use Rattle.qp_model.specs.Shapes.{Fits, FitsAny, MakesBlock, NoBlockFor, MakesAgain, MakesAgainNow, Posts, PostsFront, PostsNew, PostsNewFront, Forwards, Defers, Recalls, Subscribes, Unsubscribes, Arms, Rearms, Disarms}
@@ -18,8 +19,6 @@ use Rattle.qp_shapes.specs.ShapeUnit.{is_used, works_on, works_on_static, some_s
 use Rattle.qp_shapes.proofs.ShapePostLemmas.{new-static, new-cases, again-cases, again-static, again-pooled}
 use Rattle.qp_shapes.proofs.ShapePartLemmas.{static-some, some-static, first-goes, used-first, first-used}
 use Rattle.qp_shapes.specs.ShapeAssertion.{IsAsserted, Asserts, behind_cut, behind_recall_cut, plain_cut, given_cut, behind_assertion}
-use Rattle.qp_shapes.proofs.ShapeSoundLemmas.{number}
-use Rattle.qp_shapes.proofs.ShapeWholeLemmas.{or-left, or-right}
 
 -- a post, and a last-in post, that find no entry
 post-cut : (ring to : ℕ) (margin : Option ℕ) (head : List Told) (e : Entry) (answer : Answer) (g : List Told)
@@ -96,7 +95,7 @@ post-whole sys o now to sig pars margin reserve answer g rest (inr h) cut =
     by : (f l m : ℕ)
         → ((is_static sys sig ≡ true) × (h.0 ≡ []) × (h.1 ≡ entry 0 sig 0)) ⊎ ((is_static sys sig ≡ false) × MakesBlock (sizes_of sys) sig pars reserve h.0 h.1)
         → behind_assertion sys o now (h.0 ++ (plain (item.NoEntry to f l m) ∷ rest)) ≡ Some rest
-    by f l m (inl k) = let test = or-left (some_static sys) (works_on_static now) (static-some sys sig k.0) in rw (k.1, test) refl
+    by f l m (inl k) = let test = or_left (some_static sys) (works_on_static now) (static-some sys sig k.0) in rw (k.1, test) refl
     by f l m (inr k) = given-whole sys o now sig pars reserve h.0 h.1 (plain (item.NoEntry to f l m) ∷ rest) rest k.0 k.1 refl
 
 lifo-whole : (sys : System) (o : ℕ) (now : Option Entry) (sig : ℕ) (pars : List ℕ) (reserve : Option ℕ) (answer : Answer) (g rest : List Told)
@@ -126,7 +125,7 @@ forward-whole sys o (Some k) to margin answer g rest h cut =
     by : (f l m : ℕ)
         → ((k.pool ≡ 0) × (h.0 ≡ []) × (h.1 ≡ k)) ⊎ ((nat_lt 0 k.pool ≡ true) × ((r : ℕ) × (h.0 ≡ plain (item.Inc k.pool k.block r) ∷ []) × (h.1 ≡ entry k.pool k.block r)))
         → behind_assertion sys o (Some k) (h.0 ++ (plain (item.NoEntry to f l m) ∷ rest)) ≡ Some rest
-    by f l m (inl is) = let test = or-right (some_static sys) (k.pool == 0) (ap (λ p. p == 0) is.0) in rw (is.1, test) refl
+    by f l m (inl is) = let test = or_right (some_static sys) (k.pool == 0) (ap (λ p. p == 0) is.0) in rw (is.1, test) refl
     by f l m (inr is) = rw (is.1.1, is.0, same_number k.pool, same_number k.block) refl
 
 recall-whole : (sys : System) (o : ℕ) (now : Option Entry) (answer : Answer) (g rest : List Told)
@@ -241,10 +240,6 @@ assertion-whole sys o now g rest (Asserts (call.Arm t ticks interval) answer sin
 assertion-whole sys o now g rest (Asserts (call.Rearm t ticks) answer single h cut) = rearm-whole sys o now t ticks answer g rest h cut
 assertion-whole sys o now g rest (Asserts (call.Disarm t) answer single h cut) = absurd (disarm-none t answer g h cut)
 
-pub not-true : (b : Bool) → not b ≡ true → b ≡ false
-not-true true h = absurd (cc)
-not-true false h = refl
-
 -- Conversely each is such a call: a post that finds no entry,
 pub no_entry-asserted : (sys : System) (o : ℕ) (now : Option Entry) (a f l m : ℕ) → (some_static sys ≡ true) ⊎ (works_on_static now ≡ true) → IsAsserted sys o now (plain (item.NoEntry a f l m) ∷ [])
 unfolding FitsAny Fits PostsNew Posts Forwards MakesAgainNow
@@ -252,7 +247,7 @@ no_entry-asserted sys o now a f l m (inl h) =
     let sig = some-static sys h in
     Asserts (call.Post a sig.0 [] None None) AtQueue refl (inr ([], entry 0 sig.0 0, new-static (is_static sys sig.0) (sizes_of sys) sig.0 [] None sig.1, (f, l, m, refl))) refl
 no_entry-asserted sys o None a f l m (inr h) = absurd (cc)
-no_entry-asserted sys o (Some k) a f l m (inr h) = Asserts (call.Forward a None) AtQueue refl ([], k, again-static k (number k.pool 0 h), (f, l, m, refl)) refl
+no_entry-asserted sys o (Some k) a f l m (inr h) = Asserts (call.Forward a None) AtQueue refl ([], k, again-static k (eqb-true k.pool 0 h), (f, l, m, refl)) refl
 
 pub no_lifo-asserted : (sys : System) (o : ℕ) (now : Option Entry) (f l m : ℕ) → some_static sys ≡ true → IsAsserted sys o now (plain (item.NoLifo o f l m) ∷ [])
 unfolding FitsAny Fits PostsNewFront PostsFront

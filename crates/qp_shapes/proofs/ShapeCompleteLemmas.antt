@@ -1,5 +1,6 @@
 -- Each stage behind a record can come to an end, so what is read is a front of a publication.
 use Rattle.std.proofs.Common.{◌≡◌, ℕ, zero, suc, ◌+◌, ◌==◌, nat_lt, max, Bool, true, false, cond, List, [], ◌∷◌, ◌++◌, Some, refl, sym, ◌∙◌, subst, arith}
+use Rattle.std.proofs.lemmas.Bool.{eqb-true}
 use Rattle.std.proofs.lemmas.Bool.Decides.{nat_tests}
 use Rattle.std.specs.declared.option.Option.{Option}
 use Rattle.qp_model.specs.declared.systems.System.{System}
@@ -18,7 +19,6 @@ use Rattle.qp_shapes.specs.declared.shape_stage.PublishStage.{PublishStage}
 use Rattle.qp_shapes.specs.declared.shape_stage.PublishStage.TheVariants as stage
 use Rattle.qp_shapes.specs.ShapePublication.{released, after_posts, next_post, published, made_next, posts_next, left_next, next, run}
 use Rattle.qp_shapes.proofs.ShapePostLemmas.{again-static, again-pooled}
-use Rattle.qp_shapes.proofs.ShapeSoundLemmas.{number}
 use Rattle.qp_shapes.proofs.ShapeStageLemmas.{run-step, step-run, given-is, made-is, raised-is, posted-is, dropped-is, lock-is, reference-is, PostRecord, OfPost, OfNoEntry, post-is, StartRecord, OfBlock, OfSet, start-is}
 use Rattle.qp_shapes.proofs.ShapeRunLemmas.{end_of, is_rising, posting, posts-other}
 use Rattle.qp_shapes.proofs.ShapePublishLemmas.{First, NoMember, Member, first-member}
@@ -76,7 +76,7 @@ post-cuts sys o p low = by (p.entry.pool == 0) refl
     cut g one = (g, false, one-cut sys o p g low one)
 
     by : (fixed : Bool) → (p.entry.pool == 0) ≡ fixed → Completes sys o (stage.Posts p)
-    by true is = cut (plain (item.NoEntry p.to 0 0 0) ∷ []) ([], p.entry, again-static p.entry (number p.entry.pool 0 is), (0, 0, 0, refl))
+    by true is = cut (plain (item.NoEntry p.to 0 0 0) ∷ []) ([], p.entry, again-static p.entry (eqb-true p.entry.pool 0 is), (0, 0, 0, refl))
     by false is =
         cut (plain (item.Inc p.entry.pool p.entry.block 0) ∷ plain (item.NoEntry p.to 0 0 0) ∷ [])
         (plain (item.Inc p.entry.pool p.entry.block 0) ∷ [], entry p.entry.pool p.entry.block 0, again-pooled p.entry 0 (above p.entry.pool is), (0, 0, 0, refl))

@@ -2,6 +2,7 @@
 use Rattle.std.proofs.Common.{◌≡◌, ℕ, Bool, true, false, ◌&&◌, ◌||◌, List, [], ◌∷◌, ◌++◌, length, Some, None, refl, sym, ◌∙◌, ap, subst, inl, inr, ◌⊎◌, append-nil}
 use Rattle.std.specs.declared.option.Option.{Option}
 use Rattle.std.specs.Option.{is_some}
+use Rattle.std.proofs.lemmas.Bool.{and_parts, or_left, or_cases, or_right}
 use Rattle.qp_fits.specs.Decides.{Decides}
 use Rattle.qp_model.specs.declared.systems.System.{System}
 use Rattle.qp_model.specs.declared.bodies.Entry.{Entry}
@@ -20,8 +21,6 @@ use Rattle.qp_shapes.specs.declared.shape_stage.PublishStage.{PublishStage}
 use Rattle.qp_shapes.specs.declared.shape_stage.PublishStage.TheVariants as stage
 use Rattle.qp_shapes.specs.ShapePublication.{run, is_done, is_cut}
 use Rattle.qp_shapes.proofs.ShapePartLemmas.{first-used}
-use Rattle.qp_shapes.proofs.ShapeSoundLemmas.{both, either}
-use Rattle.qp_shapes.proofs.ShapeWholeLemmas.{or-left, or-right}
 use Rattle.qp_shapes.proofs.ShapeAssertionLemmas.{assertion-whole, no_block-asserted}
 use Rattle.qp_shapes.proofs.ShapeAssertedLemmas.{assertion-leaves}
 use Rattle.qp_shapes.proofs.ShapeRunLemmas.{end_of}
@@ -64,7 +63,7 @@ asserted-done sys o now g h =
     ap is_done whole
 
 asserts-sound : (sys : System) (o : ℕ) (now : Option Entry) (told : List Told) → (is_done (behind_assertion sys o now told) || is_cut (run sys o told stage.Start)) ≡ true → IsCut sys o now told
-asserts-sound sys o now told h = by (either (is_done (behind_assertion sys o now told)) (is_cut (run sys o told stage.Start)) h)
+asserts-sound sys o now told h = by (or_cases (is_done (behind_assertion sys o now told)) (is_cut (run sys o told stage.Start)) h)
   where
     by : (is_done (behind_assertion sys o now told) ≡ true) ⊎ (is_cut (run sys o told stage.Start) ≡ true) → IsCut sys o now told
     by (inl h) = asserted-cut sys o now told (done-asserted sys o now told (done-is (behind_assertion sys o now told) h))
@@ -117,8 +116,8 @@ asserts-whole : (sys : System) (o : ℕ) (now : Option Entry) (told : List Told)
 asserts-whole sys o now told h = by (cut-read sys o now told h)
   where
     by : (run sys o told stage.Start ≡ Some stage.Cut) ⊎ IsAsserted sys o now told → (is_done (behind_assertion sys o now told) || is_cut (run sys o told stage.Start)) ≡ true
-    by (inl is) = or-right (is_done (behind_assertion sys o now told)) (is_cut (run sys o told stage.Start)) (ap is_cut is)
-    by (inr asserted) = or-left (is_done (behind_assertion sys o now told)) (is_cut (run sys o told stage.Start)) (asserted-done sys o now told asserted)
+    by (inl is) = or_right (is_done (behind_assertion sys o now told)) (is_cut (run sys o told stage.Start)) (ap is_cut is)
+    by (inr asserted) = or_left (is_done (behind_assertion sys o now told)) (is_cut (run sys o told stage.Start)) (asserted-done sys o now told asserted)
 
 pub asserts-decides : (sys : System) (o : ℕ) (now : Option Entry) (told : List Told) → Decides (is_done (behind_assertion sys o now told) || is_cut (run sys o told stage.Start)) (IsCut sys o now told)
 asserts-decides sys o now told =
@@ -145,7 +144,7 @@ stops-sound : (sys : System) (o : ℕ) (now : Option Entry) (told : List Told) �
 unfolding ends_in_post
 stops-sound sys o now [] h = absurd (cc)
 stops-sound sys o now (t ∷ ts) h =
-    let tests = both (ends_in_post (t ∷ ts)) (is_some (run sys o (t ∷ ts) stage.Start)) h in
+    let tests = and_parts (ends_in_post (t ∷ ts)) (is_some (run sys o (t ∷ ts) stage.Start)) h in
     let front = read-front sys o now t ts tests.1 in
     (front.0, front.1, None, answer_of front.2, front.3, front.4, tests.0)
 

@@ -2,6 +2,7 @@
 use Rattle.std.proofs.Common.{◌≡◌, ℕ, ◌==◌, Bool, true, false, cond, ◌&&◌, ◌||◌, List, [], ◌∷◌, ◌++◌, Some, None, refl, sym, ◌∙◌, ap, subst, inl, inr, ◌⊎◌, append-nil}
 use Rattle.std.specs.declared.option.Option.{Option}
 use Rattle.std.specs.Option.{is_some}
+use Rattle.std.proofs.lemmas.Bool.{and_parts, or_left, and_from, or_cases, or_right}
 use Rattle.qp_model.specs.declared.systems.System.{System}
 use Rattle.qp_model.specs.declared.bodies.Entry.{Entry}
 use Rattle.qp_model.specs.declared.bodies.Body.{Body}
@@ -19,8 +20,7 @@ use Rattle.qp_shapes.specs.declared.shape_stage.PublishStage.TheVariants as stag
 use Rattle.qp_shapes.specs.ShapePublication.{released, run, is_done}
 use Rattle.qp_shapes.specs.ShapeFront.{release_front, entry_front_first, entry_front, again_front_first, again_front, new_front_first, new_front}
 use Rattle.qp_shapes.proofs.ShapeReleaseLemmas.{when-passed, release-sound, release-whole}
-use Rattle.qp_shapes.proofs.ShapeSoundLemmas.{both, either, passed}
-use Rattle.qp_shapes.proofs.ShapeWholeLemmas.{or-left, or-right}
+use Rattle.qp_shapes.proofs.ShapeSoundLemmas.{passed}
 use Rattle.qp_shapes.proofs.ShapeRunLemmas.{end_of, drops-sound}
 use Rattle.qp_shapes.proofs.ShapeReadLemmas.{drops-whole}
 use Rattle.qp_shapes.proofs.ShapeCompleteLemmas.{released-ends, run-ends, run-on, run-front}
@@ -49,14 +49,11 @@ pub done-all : (F : List Told → Option (List Told)) (ts : List Told) → is_do
 done-all F ts h = subst (λ us. F us ≡ Some []) (sym (append-nil ts)) (done-is (F ts) h)
 
 pub done-either : (F G : List Told → Option (List Told)) (ts : List Told) → (is_done (F ts) || is_done (G ts)) ≡ true → Front F G ts
-done-either F G ts h = by (either (is_done (F ts)) (is_done (G ts)) h)
+done-either F G ts h = by (or_cases (is_done (F ts)) (is_done (G ts)) h)
   where
     by : (is_done (F ts) ≡ true) ⊎ (is_done (G ts) ≡ true) → Front F G ts
     by (inl k) = ([], inl (done-all F ts k))
     by (inr k) = ([], inr (done-all G ts k))
-
-pub and-true : (a b : Bool) → a ≡ true → b ≡ true → (a && b) ≡ true
-and-true a b h k = rw (h, k) refl
 
 -- behind a test that is passed
 pub lift : (test : Bool) (F G : List Told → Option (List Told)) (ts : List Told) → test ≡ true → Front F G ts → Front (λ us. cond test (F us) None) (λ us. cond test (G us) None) ts
@@ -106,14 +103,14 @@ entry-new : (sys : System) (o : ℕ) (e : Entry) (body : Body) (known : Known) (
 unfolding entry_front_first
 entry-new sys o e (item.Full a f l m k) Nothing ts back h = release-front-whole sys o e ts back h
 entry-new sys o e (item.Post a f l m x) Nothing ts back h =
-    or-left (is_done (new_first sys e (item.Post a f l m x) Nothing ts)) (is_done (cut_first o (item.Post a f l m x) Nothing ts)) (leaf-whole (new_first sys e (item.Post a f l m x) Nothing) ts back (same_entry x e && had_room sys a f l m, λ rest. refl) h)
-entry-new sys o e (item.Lifo f l m x) Nothing ts back h = or-left (is_done (new_first sys e (item.Lifo f l m x) Nothing ts)) (is_done (cut_first o (item.Lifo f l m x) Nothing ts)) (leaf-whole (new_first sys e (item.Lifo f l m x) Nothing) ts back (same_entry x e, λ rest. refl) h)
+    or_left (is_done (new_first sys e (item.Post a f l m x) Nothing ts)) (is_done (cut_first o (item.Post a f l m x) Nothing ts)) (leaf-whole (new_first sys e (item.Post a f l m x) Nothing) ts back (same_entry x e && had_room sys a f l m, λ rest. refl) h)
+entry-new sys o e (item.Lifo f l m x) Nothing ts back h = or_left (is_done (new_first sys e (item.Lifo f l m x) Nothing ts)) (is_done (cut_first o (item.Lifo f l m x) Nothing ts)) (leaf-whole (new_first sys e (item.Lifo f l m x) Nothing) ts back (same_entry x e, λ rest. refl) h)
 entry-new sys o e body known ts back h = absurd (none-some h)
 
 entry-cut : (sys : System) (o : ℕ) (e : Entry) (body : Body) (known : Known) (ts back : List Told) → cut_first o body known (ts ++ back) ≡ Some [] → entry_front_first sys o e body known ts ≡ true
 unfolding entry_front_first
-entry-cut sys o e (item.NoEntry a f l m) Nothing ts back h = or-right (is_done (new_first sys e (item.NoEntry a f l m) Nothing ts)) (is_done (cut_first o (item.NoEntry a f l m) Nothing ts)) (leaf-whole (cut_first o (item.NoEntry a f l m) Nothing) ts back (true, λ rest. refl) h)
-entry-cut sys o e (item.NoLifo a f l m) Nothing ts back h = or-right (is_done (new_first sys e (item.NoLifo a f l m) Nothing ts)) (is_done (cut_first o (item.NoLifo a f l m) Nothing ts)) (leaf-whole (cut_first o (item.NoLifo a f l m) Nothing) ts back (a == o, λ rest. refl) h)
+entry-cut sys o e (item.NoEntry a f l m) Nothing ts back h = or_right (is_done (new_first sys e (item.NoEntry a f l m) Nothing ts)) (is_done (cut_first o (item.NoEntry a f l m) Nothing ts)) (leaf-whole (cut_first o (item.NoEntry a f l m) Nothing) ts back (true, λ rest. refl) h)
+entry-cut sys o e (item.NoLifo a f l m) Nothing ts back h = or_right (is_done (new_first sys e (item.NoLifo a f l m) Nothing ts)) (is_done (cut_first o (item.NoLifo a f l m) Nothing ts)) (leaf-whole (cut_first o (item.NoLifo a f l m) Nothing) ts back (a == o, λ rest. refl) h)
 entry-cut sys o e body known ts back h = absurd (none-some h)
 
 entry-whole : (sys : System) (o : ℕ) (e : Entry) (told back : List Told) → (behind_entry sys e (told ++ back) ≡ Some []) ⊎ (behind_cut o (told ++ back) ≡ Some []) → entry_front sys o e told ≡ true
@@ -137,13 +134,13 @@ again-post : (sys : System) (o : ℕ) (e : Entry) (body : Body) (known : Known) 
 unfolding again_front_first
 again-post sys o e (item.Full a f l m k) Nothing ts back h = release-front-whole sys o e ts back h
 again-post sys o e (item.Post a f l m x) Nothing ts back h =
-    or-left (is_done (again_first sys e (item.Post a f l m x) Nothing ts)) (is_done (no_entry_first (item.Post a f l m x) Nothing ts)) (leaf-whole (again_first sys e (item.Post a f l m x) Nothing) ts back (same_entry x e && had_room sys a f l m, λ rest. refl) h)
-again-post sys o e (item.Defer x) Nothing ts back h = or-left (is_done (again_first sys e (item.Defer x) Nothing ts)) (is_done (no_entry_first (item.Defer x) Nothing ts)) (leaf-whole (again_first sys e (item.Defer x) Nothing) ts back (same_entry x e, λ rest. refl) h)
+    or_left (is_done (again_first sys e (item.Post a f l m x) Nothing ts)) (is_done (no_entry_first (item.Post a f l m x) Nothing ts)) (leaf-whole (again_first sys e (item.Post a f l m x) Nothing) ts back (same_entry x e && had_room sys a f l m, λ rest. refl) h)
+again-post sys o e (item.Defer x) Nothing ts back h = or_left (is_done (again_first sys e (item.Defer x) Nothing ts)) (is_done (no_entry_first (item.Defer x) Nothing ts)) (leaf-whole (again_first sys e (item.Defer x) Nothing) ts back (same_entry x e, λ rest. refl) h)
 again-post sys o e body known ts back h = absurd (none-some h)
 
 again-cut : (sys : System) (o : ℕ) (e : Entry) (body : Body) (known : Known) (ts back : List Told) → no_entry_first body known (ts ++ back) ≡ Some [] → again_front_first sys o e body known ts ≡ true
 unfolding again_front_first
-again-cut sys o e (item.NoEntry a f l m) Nothing ts back h = or-right (is_done (again_first sys e (item.NoEntry a f l m) Nothing ts)) (is_done (no_entry_first (item.NoEntry a f l m) Nothing ts)) (leaf-whole (no_entry_first (item.NoEntry a f l m) Nothing) ts back (true, λ rest. refl) h)
+again-cut sys o e (item.NoEntry a f l m) Nothing ts back h = or_right (is_done (again_first sys e (item.NoEntry a f l m) Nothing ts)) (is_done (no_entry_first (item.NoEntry a f l m) Nothing ts)) (leaf-whole (no_entry_first (item.NoEntry a f l m) Nothing) ts back (true, λ rest. refl) h)
 again-cut sys o e body known ts back h = absurd (none-some h)
 
 pub again-whole : (sys : System) (o : ℕ) (e : Entry) (told back : List Told) → (behind_again sys e (told ++ back) ≡ Some []) ⊎ (behind_no_entry (told ++ back) ≡ Some []) → again_front sys o e told ≡ true
@@ -156,7 +153,7 @@ again-whole sys o e (t ∷ ts) back (inr h) = again-cut sys o e t.body t.known t
 new-first-sound : (sys : System) (o p b : ℕ) (body : Body) (known : Known) (ts : List Told) → new_front_first sys o p b body known ts ≡ true → Front (reference_first sys p b body known) (new_cut_first o p b body known) ts
 unfolding new_front_first
 new-first-sound sys o p b (item.Inc q c r) Nothing ts h =
-    let tests = both ((q == p) && (c == b)) (entry_front sys o (entry p b r) ts) h in
+    let tests = and_parts ((q == p) && (c == b)) (entry_front sys o (entry p b r) ts) h in
     lift ((q == p) && (c == b)) (behind_entry sys (entry p b r)) (behind_cut o) ts tests.0 (entry-sound sys o (entry p b r) ts tests.1)
 new-first-sound sys o p b body known ts h = absurd (false-true h)
 
@@ -169,14 +166,14 @@ new-post : (sys : System) (o p b : ℕ) (body : Body) (known : Known) (ts back :
 unfolding new_front_first
 new-post sys o p b (item.Inc q c r) Nothing ts back h =
     let tests = passed ((q == p) && (c == b)) (behind_entry sys (entry p b r) (ts ++ back)) [] h in
-    and-true ((q == p) && (c == b)) (entry_front sys o (entry p b r) ts) tests.0 (entry-whole sys o (entry p b r) ts back (inl tests.1))
+    and_from ((q == p) && (c == b)) (entry_front sys o (entry p b r) ts) tests.0 (entry-whole sys o (entry p b r) ts back (inl tests.1))
 new-post sys o p b body known ts back h = absurd (none-some h)
 
 new-cut : (sys : System) (o p b : ℕ) (body : Body) (known : Known) (ts back : List Told) → new_cut_first o p b body known (ts ++ back) ≡ Some [] → new_front_first sys o p b body known ts ≡ true
 unfolding new_front_first
 new-cut sys o p b (item.Inc q c r) Nothing ts back h =
     let tests = passed ((q == p) && (c == b)) (behind_cut o (ts ++ back)) [] h in
-    and-true ((q == p) && (c == b)) (entry_front sys o (entry p b r) ts) tests.0 (entry-whole sys o (entry p b r) ts back (inr tests.1))
+    and_from ((q == p) && (c == b)) (entry_front sys o (entry p b r) ts) tests.0 (entry-whole sys o (entry p b r) ts back (inr tests.1))
 new-cut sys o p b body known ts back h = absurd (none-some h)
 
 pub new-whole : (sys : System) (o p b : ℕ) (told back : List Told) → (behind_new sys p b (told ++ back) ≡ Some []) ⊎ (behind_new_cut o p b (told ++ back) ≡ Some []) → new_front sys o p b told ≡ true

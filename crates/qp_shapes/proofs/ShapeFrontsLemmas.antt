@@ -2,6 +2,7 @@
 use Rattle.std.proofs.Common.{◌≡◌, ℕ, Bool, true, false, ◌||◌, List, [], ◌∷◌, ◌++◌, Some, None, refl, sym, ◌∙◌, subst, inl, inr, ◌⊎◌, append-nil}
 use Rattle.std.specs.declared.option.Option.{Option}
 use Rattle.std.specs.Option.{is_some}
+use Rattle.std.proofs.lemmas.Bool.{or_left, or_cases, or_right}
 use Rattle.qp_fits.specs.Decides.{Decides}
 use Rattle.qp_model.specs.declared.systems.System.{System}
 use Rattle.qp_model.specs.declared.bodies.Entry.{Entry}
@@ -9,7 +10,7 @@ use Rattle.qp_model.specs.declared.bodies.Body.TheVariants as item
 use Rattle.qp_model.specs.Told.{Told, plain}
 use Rattle.qp_model.specs.Calls as call
 use Rattle.qp_model.specs.Calls.{AtQueue}
-use Rattle.qp_model.specs.Shapes.{Fits, FitsAny}
+use Rattle.qp_model.specs.Shapes.{FitsAny}
 use Rattle.qp_shapes.specs.ShapeUnit.{IsUnit, SaysValue, behind_unit}
 use Rattle.qp_shapes.specs.ShapeAssertion.{IsAsserted, behind_assertion}
 use Rattle.qp_shapes.specs.ShapeAction.{IsWhole, OfUnit, OfPublication, IsCut, IsFront}
@@ -17,8 +18,7 @@ use Rattle.qp_shapes.specs.declared.shape_stage.PublishStage.{PublishStage}
 use Rattle.qp_shapes.specs.declared.shape_stage.PublishStage.TheVariants as stage
 use Rattle.qp_shapes.specs.ShapePublication.{run}
 use Rattle.qp_shapes.specs.ShapeFront.{unit_front}
-use Rattle.qp_shapes.proofs.ShapeSoundLemmas.{either}
-use Rattle.qp_shapes.proofs.ShapeWholeLemmas.{unit-whole, or-left, or-right}
+use Rattle.qp_shapes.proofs.ShapeWholeLemmas.{unit-whole}
 use Rattle.qp_shapes.proofs.ShapeAssertionLemmas.{assertion-whole}
 use Rattle.qp_shapes.proofs.ShapePublishLemmas.{answer_of}
 use Rattle.qp_shapes.proofs.ShapeActionLemmas.{unit-sound, publication-run}
@@ -39,7 +39,7 @@ of-unit : (sys : System) (o : ℕ) (now : Option Entry) (told : List Told) → b
 of-unit sys o now told h = let found = unit-sound sys o now told [] h in subst (λ us. IsUnit sys o now us) (sym (found.2 ∙ append-nil found.0)) found.1
 
 front-sound : (sys : System) (o : ℕ) (now : Option Entry) (told : List Told) → (is_some (run sys o told stage.Start) || unit_front sys o now told) ≡ true → IsFront sys o now told
-front-sound sys o now told h = by (either (is_some (run sys o told stage.Start)) (unit_front sys o now told) h)
+front-sound sys o now told h = by (or_cases (is_some (run sys o told stage.Start)) (unit_front sys o now told) h)
   where
     unit : Front (behind_unit sys o now) (behind_assertion sys o now) told → IsFront sys o now told
     unit front = of front.1
@@ -56,10 +56,10 @@ front-whole : (sys : System) (o : ℕ) (now : Option Entry) (told : List Told) �
 front-whole sys o now told h = by h.0 h.1
   where
     read : (back : List Told) (s : PublishStage) → run sys o (told ++ back) stage.Start ≡ Some s → (is_some (run sys o told stage.Start) || unit_front sys o now told) ≡ true
-    read back s is = or-left (is_some (run sys o told stage.Start)) (unit_front sys o now told) (front-read sys o told back s is)
+    read back s is = or_left (is_some (run sys o told stage.Start)) (unit_front sys o now told) (front-read sys o told back s is)
 
     unit : (back : List Told) → (behind_unit sys o now (told ++ back) ≡ Some []) ⊎ (behind_assertion sys o now (told ++ back) ≡ Some []) → (is_some (run sys o told stage.Start) || unit_front sys o now told) ≡ true
-    unit back is = or-right (is_some (run sys o told stage.Start)) (unit_front sys o now told) (unit-front-whole sys o now told back is)
+    unit back is = or_right (is_some (run sys o told stage.Start)) (unit_front sys o now told) (unit-front-whole sys o now told back is)
 
     cut : (back : List Told) → (run sys o (told ++ back) stage.Start ≡ Some stage.Cut) ⊎ IsAsserted sys o now (told ++ back) → (is_some (run sys o told stage.Start) || unit_front sys o now told) ≡ true
     cut back (inl is) = read back stage.Cut is

@@ -5,30 +5,12 @@ use Rattle.std.proofs.Math.ListN.{replicate}
 use Rattle.std.proofs.lemmas.List.{length-replicate, at_drop_all}
 use Rattle.std.specs.declared.option.Option.{Option}
 use Rattle.std.specs.Option.{option_map, option_map_or}
-use Rattle.std.specs.List.{list_any, count_by, position_or_len}
+use Rattle.std.specs.List.{list_any, position_or_len}
 use Rattle.qp_model.specs.declared.systems.System.{System}
 use Rattle.qp_model.specs.declared.systems.SignalDef.{SignalDef}
 use Rattle.qp_model.specs.declared.systems.PoolDef.{PoolDef}
-use Rattle.qp_model.specs.declared.systems.TimerDef.{TimerDef}
-use Rattle.qp_model.specs.declared.bodies.Entry.{Entry}
-use Rattle.qp_model.specs.Record.{entry}
-use Rattle.qp_model.specs.Line.{same_entry}
 use Rattle.qp_model.specs.Parts.{is_static, first_pool}
-use Rattle.qp_model.proofs.LineLemmas.{same_number}
 use Rattle.qp_shapes.specs.ShapeUnit.{stands_out, is_used, used_on, goes_to, some_static}
-
--- entries
-pub same_entry-itself : (e : Entry) → same_entry e e ≡ true
-same_entry-itself e = rw (same_number e.pool, same_number e.block, same_number e.name) refl
-
-pub same_entry-is : (d e : Entry) → same_entry d e ≡ true → d ≡ e
-same_entry-is d e h =
-    let e1 : d.pool ≡ e.pool = grind (arith, nat_tests) in
-    let e2 : d.block ≡ e.block = grind (arith, nat_tests) in
-    let e3 : d.name ≡ e.name = grind (arith, nat_tests) in
-    let left : d ≡ entry d.pool d.block d.name = refl in
-    let right : e ≡ entry e.pool e.block e.name = refl in
-    cc
 
 -- static events
 pub static-some : (sys : System) (sig : ℕ) → is_static sys sig ≡ true → some_static sys ≡ true

@@ -14,9 +14,11 @@ use Rattle.qp_model.specs.Parts.{is_static, first_pool}
 use Rattle.qp_model.specs.Sites.{ring_of}
 use Rattle.qp_model.specs.Shapes.{Drops, releases_by, MakesNew, MakesBlock, NoBlockFor, MakesAgain, again_by, Posts, PostsFront}
 use Rattle.qp_shapes.specs.ShapeUnit.{had_room, is_used, is_static_entry, post_first, behind_post}
-use Rattle.qp_shapes.proofs.ShapeReleaseLemmas.{when-passed, told-is, release-sound, release-whole}
-use Rattle.qp_shapes.proofs.ShapePartLemmas.{same_entry-itself, same_entry-is, first-used}
+use Rattle.qp_shapes.proofs.ShapeReleaseLemmas.{when-passed, release-sound, release-whole}
+use Rattle.qp_shapes.proofs.ShapePartLemmas.{first-used}
 use Rattle.qp_shapes.proofs.NeverLemmas.{none-some}
+use Rattle.qp_model.proofs.RecordLemmas.{same_entry-is, told-is}
+use Rattle.qp_model.proofs.LineLemmas.{same_entry-refl}
 
 -- what a post leaves behind the records that made its entry, where it doesn't end in an assertion
 pub data Posted (sys : System) (e : Entry) (g : List Told) : Type 0 where
@@ -45,7 +47,7 @@ posted-sound sys e (t ∷ ts) rest h = by t.body t.known refl refl h
     by body known is_body is_known k = absurd (none-some k)
 
 pub posted-whole : (sys : System) (e : Entry) (g rest : List Told) → Posted sys e g → behind_post sys e (g ++ rest) ≡ Some rest
-posted-whole sys e g rest (IsPosted to f l m room is) = rw (is, same_entry-itself e, room) refl
+posted-whole sys e g rest (IsPosted to f l m room is) = rw (is, same_entry-refl e, room) refl
 posted-whole sys e g rest (IsRefused to f l m margin rel drops is) = rw is (release-whole e rel rest drops)
 
 -- posts are these, behind their heads

@@ -12,7 +12,7 @@ use Rattle.qp_model.specs.Calls.{Granted, AtQueue}
 use Rattle.qp_model.specs.Parts.{is_static, sizes_of, members, members_below}
 use Rattle.qp_model.specs.Sites.{ring_of}
 use Rattle.qp_model.specs.Shapes.{Drops, Releases, releases_by, MakesNew, MakesBlock, Posts, PostsOne, PostsToAll, PostsUpTo, raising, restoring, PublishesFirst, PublishesLast, Publishes}
-use Rattle.qp_model.proofs.LineLemmas.{same_number}
+use Rattle.qp_model.proofs.LineLemmas.{same_number, same_entry-refl}
 use Rattle.qp_shapes.specs.ShapeUnit.{had_room}
 use Rattle.qp_shapes.specs.declared.shape_stage.Ceiling.{Ceiling}
 use Rattle.qp_shapes.specs.declared.shape_stage.Ceiling.TheVariants as ceiling
@@ -21,7 +21,7 @@ use Rattle.qp_shapes.specs.declared.shape_stage.PublishStage.{PublishStage}
 use Rattle.qp_shapes.specs.declared.shape_stage.PublishStage.TheVariants as stage
 use Rattle.qp_shapes.specs.ShapePublication.{released, after_posts, next_post, published, start_first, made_next, post_next, reference_next, posts_next, left_next, posted_next, dropped_next, next, run}
 use Rattle.qp_shapes.proofs.ShapePostLemmas.{new-cases, again-cases}
-use Rattle.qp_shapes.proofs.ShapePartLemmas.{same_entry-itself, first-goes}
+use Rattle.qp_shapes.proofs.ShapePartLemmas.{first-goes}
 use Rattle.qp_shapes.proofs.ShapeStageLemmas.{step-run}
 use Rattle.qp_shapes.proofs.ShapeRunLemmas.{end_of, restored, is_rising, posting, Finish, Finishes, Cuts, posts-other}
 use Rattle.qp_shapes.proofs.ShapePublishLemmas.{First, NoMember, Member, first-member, Published, PublishesAll, PublishesUpTo, answer_of}
@@ -62,7 +62,7 @@ ending-whole sys o e (ceiling.Rose former) rel h = rw (same_number former) (drop
 -- a record of a post,
 pub post-next : (sys : System) (p : Posting) (e : Entry) (f l m : ℕ) → had_room sys p.to f l m ≡ true → post_next sys p e (item.Post p.to f l m e) Nothing ≡ Some (next_post p.entry p.set p.ceiling p.below)
 unfolding post_next
-post-next sys p e f l m room = rw (same_number p.to, same_entry-itself e, room) refl
+post-next sys p e f l m room = rw (same_number p.to, same_entry-refl e, room) refl
 
 pub no_entry-next : (sys : System) (p : Posting) (e : Entry) (f l m : ℕ) → post_next sys p e (item.NoEntry p.to f l m) Nothing ≡ Some stage.Cut
 unfolding post_next

@@ -1,6 +1,7 @@
 -- Fronts of recalled entries, each way.
 use Rattle.std.proofs.Common.{◌≡◌, ℕ, ◌==◌, Bool, true, false, cond, ◌&&◌, List, [], ◌∷◌, ◌++◌, Some, None, refl, inl, inr, ◌⊎◌}
 use Rattle.std.specs.declared.option.Option.{Option}
+use Rattle.std.proofs.lemmas.Bool.{and_parts, and_from}
 use Rattle.qp_model.specs.declared.systems.System.{System}
 use Rattle.qp_model.specs.declared.bodies.Entry.{Entry}
 use Rattle.qp_model.specs.declared.bodies.Body.{Body}
@@ -13,8 +14,8 @@ use Rattle.qp_shapes.specs.ShapeRelease.{behind_release}
 use Rattle.qp_shapes.specs.ShapeUnit.{lifo_first, behind_lifo, recalled_first, behind_reference, behind_recall}
 use Rattle.qp_shapes.specs.ShapeAssertion.{no_lifo_first, behind_no_lifo, recall_cut_first, behind_recall_reference, behind_recall_cut}
 use Rattle.qp_shapes.specs.ShapeFront.{release_front, lifo_front_first, lifo_front, reference_front_first, reference_front, recall_front}
-use Rattle.qp_shapes.proofs.ShapeSoundLemmas.{both, passed}
-use Rattle.qp_shapes.proofs.ShapeFrontLemmas.{Front, leaf-whole, done-all, and-true, lift, release-front-sound, release-front-whole}
+use Rattle.qp_shapes.proofs.ShapeSoundLemmas.{passed}
+use Rattle.qp_shapes.proofs.ShapeFrontLemmas.{Front, leaf-whole, done-all, lift, release-front-sound, release-front-whole}
 use Rattle.qp_shapes.proofs.NeverLemmas.{false-true, none-some}
 
 through : (test : Bool) (r : Option (List Told)) → test ≡ true → r ≡ Some [] → cond test r None ≡ Some []
@@ -25,7 +26,7 @@ through false r h k = absurd (cc)
 lifo-first-sound : (sys : System) (o : ℕ) (k e : Entry) (body : Body) (known : Known) (ts : List Told) → lifo_front_first sys o k e body known ts ≡ true → Front (lifo_first k e body known) (no_lifo_first o body known) ts
 unfolding lifo_front_first
 lifo-first-sound sys o k e (item.Lifo f l m x) Nothing ts h =
-    let tests = both (same_entry x e) (release_front sys o k ts) h in
+    let tests = and_parts (same_entry x e) (release_front sys o k ts) h in
     let rel = release-front-sound sys o k ts tests.1 in
     (rel.0, inl (through (same_entry x e) (behind_release k (ts ++ rel.0)) tests.0 rel.1))
 lifo-first-sound sys o k e body known ts h = ([], inr (done-all (no_lifo_first o body known) ts h))
@@ -39,7 +40,7 @@ lifo-post : (sys : System) (o : ℕ) (k e : Entry) (body : Body) (known : Known)
 unfolding lifo_front_first
 lifo-post sys o k e (item.Lifo f l m x) Nothing ts back h =
     let tests = passed (same_entry x e) (behind_release k (ts ++ back)) [] h in
-    and-true (same_entry x e) (release_front sys o k ts) tests.0 (release-front-whole sys o k ts back tests.1)
+    and_from (same_entry x e) (release_front sys o k ts) tests.0 (release-front-whole sys o k ts back tests.1)
 lifo-post sys o k e body known ts back h = absurd (none-some h)
 
 lifo-cut : (sys : System) (o : ℕ) (k e : Entry) (body : Body) (known : Known) (ts back : List Told) → no_lifo_first o body known (ts ++ back) ≡ Some [] → lifo_front_first sys o k e body known ts ≡ true
@@ -58,7 +59,7 @@ reference-first-sound : (sys : System) (o : ℕ) (k : Entry) (body : Body) (know
     → Front (recalled_first k body known) (recall_cut_first o k body known) ts
 unfolding reference_front_first
 reference-first-sound sys o k (item.Inc p b r) Nothing ts h =
-    let tests = both ((p == k.pool) && (b == k.block)) (lifo_front sys o k (entry p b r) ts) h in
+    let tests = and_parts ((p == k.pool) && (b == k.block)) (lifo_front sys o k (entry p b r) ts) h in
     lift ((p == k.pool) && (b == k.block)) (behind_lifo k (entry p b r)) (behind_no_lifo o) ts tests.0 (lifo-sound sys o k (entry p b r) ts tests.1)
 reference-first-sound sys o k body known ts h = absurd (false-true h)
 
@@ -71,14 +72,14 @@ reference-post : (sys : System) (o : ℕ) (k : Entry) (body : Body) (known : Kno
 unfolding reference_front_first
 reference-post sys o k (item.Inc p b r) Nothing ts back h =
     let tests = passed ((p == k.pool) && (b == k.block)) (behind_lifo k (entry p b r) (ts ++ back)) [] h in
-    and-true ((p == k.pool) && (b == k.block)) (lifo_front sys o k (entry p b r) ts) tests.0 (lifo-whole sys o k (entry p b r) ts back (inl tests.1))
+    and_from ((p == k.pool) && (b == k.block)) (lifo_front sys o k (entry p b r) ts) tests.0 (lifo-whole sys o k (entry p b r) ts back (inl tests.1))
 reference-post sys o k body known ts back h = absurd (none-some h)
 
 reference-cut : (sys : System) (o : ℕ) (k : Entry) (body : Body) (known : Known) (ts back : List Told) → recall_cut_first o k body known (ts ++ back) ≡ Some [] → reference_front_first sys o k body known ts ≡ true
 unfolding reference_front_first
 reference-cut sys o k (item.Inc p b r) Nothing ts back h =
     let tests = passed ((p == k.pool) && (b == k.block)) (behind_no_lifo o (ts ++ back)) [] h in
-    and-true ((p == k.pool) && (b == k.block)) (lifo_front sys o k (entry p b r) ts) tests.0 (lifo-whole sys o k (entry p b r) ts back (inr tests.1))
+    and_from ((p == k.pool) && (b == k.block)) (lifo_front sys o k (entry p b r) ts) tests.0 (lifo-whole sys o k (entry p b r) ts back (inr tests.1))
 reference-cut sys o k body known ts back h = absurd (none-some h)
 
 reference-whole : (sys : System) (o : ℕ) (k : Entry) (told back : List Told) → (behind_reference k (told ++ back) ≡ Some []) ⊎ (behind_recall_reference o k (told ++ back) ≡ Some []) → reference_front sys o k told ≡ true

@@ -10,6 +10,7 @@ use Rattle.qp_model.specs.Shapes.{Drops, Releases, releases_by}
 use Rattle.qp_model.proofs.LineLemmas.{same_number}
 use Rattle.qp_shapes.specs.ShapeRelease.{Leaves, when, back_first, behind_back, left_behind, drop_first, behind_drop, behind_release}
 use Rattle.qp_shapes.proofs.NeverLemmas.{none-some}
+use Rattle.qp_model.proofs.RecordLemmas.{told-is}
 
 -- what a reader answers is what stands behind, where it answers that behind each such list, and only there
 pub leaves : (P : List Told → Type 0) (behind : List Told → Option (List Told))
@@ -30,10 +31,6 @@ leaves P behind sound whole told = by (behind told) refl
 pub when-passed : (test : Bool) (told rest : List Told) → when test told ≡ Some rest → (test ≡ true) × (told ≡ rest)
 when-passed true told rest h = (refl, cc)
 when-passed false told rest h = cc
-
--- a record by what it says and what is known
-pub told-is : (t : Told) (body : Body) (known : Known) → t.body ≡ body → t.known ≡ known → t ≡ record { body = body; known = known }
-told-is t body known is_body is_known = let whole : t ≡ record { body = t.body; known = t.known } = refl in cc
 
 back-sound : (p b d : ℕ) (told rest : List Told) → behind_back p b d told ≡ Some rest → (n : ℕ) × (told ≡ plain (item.Back p n b (d + 1)) ∷ rest)
 back-sound p b d [] rest h = absurd (cc)

@@ -1,5 +1,6 @@
 -- What a publication's stages are read over: releases, restored ceilings and posts.
 use Rattle.std.proofs.Common.{◌≡◌, ℕ, zero, suc, ◌+◌, ◌/◌, ◌%◌, ◌^◌, ◌==◌, nat_lt, Bool, true, false, cond, List, [], ◌∷◌, ◌++◌, Some, refl, sym, ◌∙◌, ap, subst, inl, inr, arith, append_assoc}
+use Rattle.std.proofs.lemmas.Bool.{eqb-true}
 use Rattle.std.proofs.lemmas.Bool.Decides.{nat_tests}
 use Rattle.qp_model.specs.declared.systems.System.{System}
 use Rattle.qp_model.specs.declared.bodies.Entry.{Entry}
@@ -19,7 +20,6 @@ use Rattle.qp_shapes.specs.declared.shape_stage.PublishStage.{PublishStage}
 use Rattle.qp_shapes.specs.declared.shape_stage.PublishStage.TheVariants as stage
 use Rattle.qp_shapes.specs.ShapePublication.{released, after_posts, next_post, post_next, reference_next, posts_next, left_next, next, run}
 use Rattle.qp_shapes.proofs.ShapePostLemmas.{again-static, again-pooled, none-drops}
-use Rattle.qp_shapes.proofs.ShapeSoundLemmas.{number}
 use Rattle.qp_shapes.proofs.ShapeStageLemmas.{run-step, raised-is, posted-is, dropped-is, reference-is, PostRecord, OfPost, OfNoEntry, post-is}
 
 -- how a publication ends: whole, or cut by assertion 1
@@ -96,7 +96,7 @@ pub drops-sound : (sys : System) (o : ℕ) (e : Entry) (g : List Told) (b : Bool
 drops-sound sys o e g b h = by (e.pool == 0) refl h
   where
     by : (fixed : Bool) → (e.pool == 0) ≡ fixed → run sys o g (cond fixed stage.Whole (stage.Posted e)) ≡ Some (end_of b) → (b ≡ true) × Drops e g
-    by true is h = let end = whole-run sys o g b h in (end.0, subst (λ us. Drops e us) (sym end.1) (none-drops e (number e.pool 0 is)))
+    by true is h = let end = whole-run sys o g b h in (end.0, subst (λ us. Drops e us) (sym end.1) (none-drops e (eqb-true e.pool 0 is)))
     by false is h = let rel = posted-run sys o e g b h in (rel.0, pooled-drops e g is rel.1)
 
 -- what follows the posts
@@ -163,7 +163,7 @@ one-sound sys o p b (t ∷ ts) low h =
   where
     by : (x : PublishStage) (fixed : Bool) → (p.entry.pool == 0) ≡ fixed → cond fixed (post_next sys p p.entry t.body t.known) (reference_next p t.body t.known) ≡ Some x → run sys o ts x ≡ Some (end_of b)
         → One sys o p b (t ∷ ts)
-    by x true is k behind = tail-one sys o p b [] p.entry t ts x (again-static p.entry (number p.entry.pool 0 is)) (post-is sys p p.entry t x k) behind
+    by x true is k behind = tail-one sys o p b [] p.entry t ts x (again-static p.entry (eqb-true p.entry.pool 0 is)) (post-is sys p p.entry t x k) behind
     by x false is k behind =
         let ref = reference-is p t x k in
         let first : t ≡ plain (item.Inc p.entry.pool p.entry.block ref.0) = ref.1 in

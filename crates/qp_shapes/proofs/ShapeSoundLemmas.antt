@@ -1,5 +1,6 @@
 -- What is read off the front of a list is a unit.
-use Rattle.std.proofs.Common.{◌≡◌, ℕ, zero, suc, ◌==◌, nat_lt, Bool, true, false, cond, ◌&&◌, ◌||◌, List, [], ◌∷◌, ◌++◌, length, Some, None, refl, sym, ap, subst, inl, inr, ◌⊎◌, arith}
+use Rattle.std.proofs.Common.{◌≡◌, ℕ, zero, suc, ◌==◌, nat_lt, Bool, true, false, cond, ◌&&◌, ◌||◌, List, [], ◌∷◌, ◌++◌, length, Some, None, refl, sym, subst, inl, inr, ◌⊎◌, arith}
+use Rattle.std.proofs.lemmas.Bool.{and_parts, eqb-true}
 use Rattle.std.proofs.lemmas.Bool.Decides.{nat_tests}
 use Rattle.std.specs.declared.option.Option.{Option}
 use Rattle.qp_model.specs.declared.systems.System.{System}
@@ -10,25 +11,16 @@ use Rattle.qp_model.specs.Record.{entry}
 use Rattle.qp_model.specs.Line.{same_entry}
 use Rattle.qp_model.specs.Told.{Told, Known, Nothing, plain, given}
 use Rattle.qp_model.specs.Calls as call
-use Rattle.qp_model.specs.Calls.{Call, Answer, Granted, Refused, Flushed, AtQueue, AtPool, AtTimer, AtTicks, AtFront, is_assertion}
+use Rattle.qp_model.specs.Calls.{Granted, Refused}
 use Rattle.qp_model.specs.Parts.{is_static, sizes_of}
 use Rattle.qp_model.specs.Shapes.{Fits, FitsAny, Drops, MakesNew, MakesBlock, MakesAgain, MakesAgainNow, PostsFront, PostsNew, PostsNewFront, Forwards, Defers, Arms, Rearms, Disarms}
 use Rattle.qp_shapes.specs.ShapeUnit.{IsUnit, MakesCall, is_used, goes_to, is_static_entry, is_static_now, works_on, works_on_static, some_static, post_first, behind_post, again_first, behind_again, new_first, behind_entry, reference_first, behind_new, lifo_first, behind_lifo}
-use Rattle.qp_shapes.proofs.ShapeReleaseLemmas.{when-passed, told-is, release-sound}
+use Rattle.qp_shapes.proofs.ShapeReleaseLemmas.{when-passed, release-sound}
 use Rattle.qp_shapes.proofs.ShapePostLemmas.{Posted, posted-sound, posted-posts, static-entry, entry-static, new-static, new-block, short-no_block, again-static, again-pooled, none-drops, IsRefused}
-use Rattle.qp_shapes.proofs.ShapePartLemmas.{same_entry-itself, same_entry-is, some-static, goes-first, used-first}
+use Rattle.qp_shapes.proofs.ShapePartLemmas.{some-static, goes-first, used-first}
 use Rattle.qp_shapes.proofs.NeverLemmas.{none-some}
-
-pub both : (a b : Bool) → (a && b) ≡ true → (a ≡ true) × (b ≡ true)
-both true b h = (refl, h)
-both false b h = absurd (cc)
-
-pub either : (a b : Bool) → (a || b) ≡ true → (a ≡ true) ⊎ (b ≡ true)
-either true b h = inl refl
-either false b h = inr h
-
-pub number : (a b : ℕ) → (a == b) ≡ true → a ≡ b
-number a b h = grind (arith, nat_tests)
+use Rattle.qp_model.proofs.RecordLemmas.{same_entry-is, told-is}
+use Rattle.qp_model.proofs.LineLemmas.{same_entry-refl}
 
 -- A test that is passed before what stands behind is read.
 pub passed : (test : Bool) (behind : Option (List Told)) (rest : List Told) → cond test behind None ≡ Some rest → (test ≡ true) × (behind ≡ Some rest)
@@ -45,10 +37,10 @@ static-unit sys o now e g posted (inl h) =
     (inr ([], e, subst (λ x. MakesNew (is_static sys e.block) (sizes_of sys) e.block [] None [] x) (sym is.0) (new-static (is_static sys e.block) (sizes_of sys) e.block [] None is.1), posts.3)) posts.4
 static-unit sys o None e g posted (inr h) = absurd (cc)
 static-unit sys o (Some k) e g posted (inr h) =
-    let tests = both (k.pool == 0) (same_entry k e) h in
+    let tests = and_parts (k.pool == 0) (same_entry k e) h in
     let same : k ≡ e = same_entry-is k e tests.1 in
     let posts = posted-posts sys e [] g posted in
-    MakesCall (call.Forward posts.0 posts.1) posts.2 refl ([], e, subst (λ x. MakesAgain k [] x) same (again-static k (number k.pool 0 tests.0)), posts.3) posts.4
+    MakesCall (call.Forward posts.0 posts.1) posts.2 refl ([], e, subst (λ x. MakesAgain k [] x) same (again-static k (eqb-true k.pool 0 tests.0)), posts.3) posts.4
 
 -- a refusal alone is one of a static event
 pub full-unit : (sys : System) (o : ℕ) (now : Option Entry) (to f l m margin : ℕ) → (some_static sys ≡ true) ⊎ (works_on_static now ≡ true) → IsUnit sys o now (plain (item.Full to f l m margin) ∷ [])
@@ -57,8 +49,8 @@ full-unit sys o now to f l m margin (inl h) =
     static-unit sys o now (entry 0 sig.0 0) (plain (item.Full to f l m margin) ∷ []) (IsRefused to f l m margin [] (none-drops (entry 0 sig.0 0) refl) refl) (inl (entry-static sys sig.0 sig.1))
 full-unit sys o None to f l m margin (inr h) = absurd (cc)
 full-unit sys o (Some k) to f l m margin (inr h) =
-    let now_is : is_static_now (Some k) k ≡ true = rw h (same_entry-itself k) in
-    static-unit sys o (Some k) k (plain (item.Full to f l m margin) ∷ []) (IsRefused to f l m margin [] (none-drops k (number k.pool 0 h)) refl) (inr now_is)
+    let now_is : is_static_now (Some k) k ≡ true = rw h (same_entry-refl k) in
+    static-unit sys o (Some k) k (plain (item.Full to f l m margin) ∷ []) (IsRefused to f l m margin [] (none-drops k (eqb-true k.pool 0 h)) refl) (inr now_is)
 
 -- a last-in post of a static event
 pub lifo-unit : (sys : System) (o : ℕ) (now : Option Entry) (f l m : ℕ) (e : Entry) → is_static_entry sys e ≡ true → IsUnit sys o now (plain (item.Lifo f l m e) ∷ [])
@@ -73,9 +65,9 @@ pub defer-unit : (sys : System) (o : ℕ) (now : Option Entry) (e : Entry) → i
 unfolding FitsAny Fits Defers MakesAgainNow
 defer-unit sys o None e h = absurd (cc)
 defer-unit sys o (Some k) e h =
-    let tests = both (k.pool == 0) (same_entry k e) h in
+    let tests = and_parts (k.pool == 0) (same_entry k e) h in
     let same : k ≡ e = same_entry-is k e tests.1 in
-    MakesCall call.Defer Granted refl ([], e, subst (λ x. MakesAgain k [] x) same (again-static k (number k.pool 0 tests.0)), refl) refl
+    MakesCall call.Defer Granted refl ([], e, subst (λ x. MakesAgain k [] x) same (again-static k (eqb-true k.pool 0 tests.0)), refl) refl
 
 pub short-unit : (sys : System) (o : ℕ) (now : Option Entry) (p n free r : ℕ) → is_used (sizes_of sys) p ≡ true → IsUnit sys o now (plain (item.Short p n free r) ∷ [])
 unfolding FitsAny Fits PostsNew is_static
@@ -184,9 +176,9 @@ block-unit sys o now p n b from sig free pars (t ∷ ts) rest above goes pooled 
         → (g : List Told) × IsUnit sys o now (given p n b from sig pars free ∷ g) × (t ∷ ts ≡ g ++ rest)
     by (item.Inc q c r) Nothing is_body is_known k =
         let test = passed _ _ rest k in
-        let tests = both (q == p) (c == b) test.0 in
-        let e1 : q ≡ p = number q p tests.0 in
-        let e2 : c ≡ b = number c b tests.1 in
+        let tests = and_parts (q == p) (c == b) test.0 in
+        let e1 : q ≡ p = eqb-true q p tests.0 in
+        let e2 : c ≡ b = eqb-true c b tests.1 in
         let whole : t ≡ plain (item.Inc q c r) = told-is t _ _ is_body is_known in
         let unit = new-unit sys o now p n b from sig free r pars ts rest above goes pooled test.1 in
         let behind : ts ≡ unit.0 ++ rest = unit.2 in

@@ -1,5 +1,6 @@
 -- The record that each stage of a publication waits for.
 use Rattle.std.proofs.Common.{◌≡◌, ℕ, ◌+◌, ◌==◌, nat_lt, max, Bool, true, false, not, ◌&&◌, List, ◌∷◌, length, Some, None, refl, sym, ◌∙◌, ap, arith}
+use Rattle.std.proofs.lemmas.Bool.{and_parts, not-true, eqb-true}
 use Rattle.std.proofs.lemmas.Bool.Decides.{nat_tests}
 use Rattle.std.specs.declared.option.Option.{Option}
 use Rattle.std.specs.Option.{option_and_then}
@@ -17,19 +18,13 @@ use Rattle.qp_shapes.specs.declared.shape_stage.Posting.{Posting}
 use Rattle.qp_shapes.specs.declared.shape_stage.PublishStage.{PublishStage}
 use Rattle.qp_shapes.specs.declared.shape_stage.PublishStage.TheVariants as stage
 use Rattle.qp_shapes.specs.ShapePublication.{stage_if, released, next_post, published, start_first, given_next, made_next, post_next, reference_next, lock_next, raised_next, left_next, posted_next, dropped_next, next, run}
-use Rattle.qp_shapes.proofs.ShapeReleaseLemmas.{told-is}
-use Rattle.qp_shapes.proofs.ShapePartLemmas.{same_entry-is}
-use Rattle.qp_shapes.proofs.ShapeSoundLemmas.{both, number}
 use Rattle.qp_shapes.proofs.NeverLemmas.{none-some}
+use Rattle.qp_model.proofs.RecordLemmas.{same_entry-is, told-is}
 
 -- a test that is passed, and the stage behind it
 stage-passed : (test : Bool) (s x : PublishStage) → stage_if test s ≡ Some x → (test ≡ true) × (x ≡ s)
 stage-passed true s x h = (refl, cc)
 stage-passed false s x h = absurd (none-some h)
-
-not-true : (b : Bool) → not b ≡ true → b ≡ false
-not-true true h = absurd (cc)
-not-true false h = refl
 
 -- the first of more records
 pub run-step : (sys : System) (o : ℕ) (t : Told) (ts : List Told) (s end : PublishStage) → run sys o (t ∷ ts) s ≡ Some end
@@ -52,9 +47,9 @@ given-is p b sig t x h = by t.body t.known refl refl h
     by : (body : Body) (known : Known) → t.body ≡ body → t.known ≡ known → given_next p b sig body known ≡ Some x → (r : ℕ) × (t ≡ plain (item.Inc p b r)) × (x ≡ stage.Made (entry p b r) sig)
     by (item.Inc q c r) Nothing is_body is_known h =
         let test = stage-passed _ _ x h in
-        let tests = both (q == p) (c == b) test.0 in
-        let e1 : q ≡ p = number q p tests.0 in
-        let e2 : c ≡ b = number c b tests.1 in
+        let tests = and_parts (q == p) (c == b) test.0 in
+        let e1 : q ≡ p = eqb-true q p tests.0 in
+        let e2 : c ≡ b = eqb-true c b tests.1 in
         let whole : t ≡ plain (item.Inc q c r) = told-is t _ _ is_body is_known in
         (r, cc, test.1)
     by body known is_body is_known h = absurd (none-some h)
@@ -66,7 +61,7 @@ made-is o e sig t x h = by t.body t.known refl refl h
     by : (body : Body) (known : Known) → t.body ≡ body → t.known ≡ known → made_next o e sig body known ≡ Some x → (n set : ℕ) × (t ≡ plain (item.Pub sig n set)) × (x ≡ published o e set)
     by (item.Pub s n set) Nothing is_body is_known h =
         let test = stage-passed (s == sig) _ x h in
-        let e1 : s ≡ sig = number s sig test.0 in
+        let e1 : s ≡ sig = eqb-true s sig test.0 in
         let whole : t ≡ plain (item.Pub s n set) = told-is t _ _ is_body is_known in
         (n, set, cc, test.1)
     by body known is_body is_known h = absurd (none-some h)
@@ -77,7 +72,7 @@ raised-is e former t x h = by t.body t.known refl refl h
     by : (body : Body) (known : Known) → t.body ≡ body → t.known ≡ known → raised_next e former body known ≡ Some x → (t ≡ plain (item.Unlock former)) × (x ≡ released e)
     by (item.Unlock c) Nothing is_body is_known h =
         let test = stage-passed (c == former) (released e) x h in
-        let e1 : c ≡ former = number c former test.0 in
+        let e1 : c ≡ former = eqb-true c former test.0 in
         let whole : t ≡ plain (item.Unlock c) = told-is t _ _ is_body is_known in
         (cc, test.1)
     by body known is_body is_known h = absurd (none-some h)
@@ -117,7 +112,7 @@ lock-is p t x h = by t.body t.known refl refl h
         → (former : ℕ) × (t ≡ raised (max former p.to) former) × (x ≡ stage.Posts (record { entry = p.entry; to = p.to; below = p.below; set = p.set; ceiling = ceiling.Rose former }))
     by (item.Lock c) (Former former) is_body is_known h =
         let test = stage-passed (c == max former p.to) _ x h in
-        let e1 : c ≡ max former p.to = number c (max former p.to) test.0 in
+        let e1 : c ≡ max former p.to = eqb-true c (max former p.to) test.0 in
         let whole : t ≡ raised c former = told-is t _ _ is_body is_known in
         (former, whole ∙ ap (λ y. raised y former) e1, test.1)
     by body known is_body is_known h = absurd (none-some h)
@@ -129,9 +124,9 @@ reference-is p t x h = by t.body t.known refl refl h
         → (r : ℕ) × (t ≡ plain (item.Inc p.entry.pool p.entry.block r)) × (x ≡ stage.Referred p r)
     by (item.Inc q c r) Nothing is_body is_known h =
         let test = stage-passed ((q == p.entry.pool) && (c == p.entry.block)) (stage.Referred p r) x h in
-        let tests = both (q == p.entry.pool) (c == p.entry.block) test.0 in
-        let e1 : q ≡ p.entry.pool = number q p.entry.pool tests.0 in
-        let e2 : c ≡ p.entry.block = number c p.entry.block tests.1 in
+        let tests = and_parts (q == p.entry.pool) (c == p.entry.block) test.0 in
+        let e1 : q ≡ p.entry.pool = eqb-true q p.entry.pool tests.0 in
+        let e2 : c ≡ p.entry.block = eqb-true c p.entry.block tests.1 in
         let whole : t ≡ plain (item.Inc q c r) = told-is t _ _ is_body is_known in
         (r, cc, test.1)
     by body known is_body is_known h = absurd (none-some h)
@@ -148,15 +143,15 @@ post-is sys p e t x h = by t.body t.known refl refl h
     by : (body : Body) (known : Known) → t.body ≡ body → t.known ≡ known → post_next sys p e body known ≡ Some x → PostRecord sys p e t x
     by (item.Post a f l m y) Nothing is_body is_known h =
         let test = stage-passed ((a == p.to) && same_entry y e && had_room sys a f l m) (next_post p.entry p.set p.ceiling p.below) x h in
-        let tests = both ((a == p.to) && same_entry y e) (had_room sys a f l m) test.0 in
-        let more = both (a == p.to) (same_entry y e) tests.0 in
-        let e1 : a ≡ p.to = number a p.to more.0 in
+        let tests = and_parts ((a == p.to) && same_entry y e) (had_room sys a f l m) test.0 in
+        let more = and_parts (a == p.to) (same_entry y e) tests.0 in
+        let e1 : a ≡ p.to = eqb-true a p.to more.0 in
         let e2 : y ≡ e = same_entry-is y e more.1 in
         let whole : t ≡ plain (item.Post a f l m y) = told-is t _ _ is_body is_known in
         OfPost f l m (cc) (ap (λ z. had_room sys z f l m) (sym e1) ∙ tests.1) test.1
     by (item.NoEntry a f l m) Nothing is_body is_known h =
         let test = stage-passed (a == p.to) stage.Cut x h in
-        let e1 : a ≡ p.to = number a p.to test.0 in
+        let e1 : a ≡ p.to = eqb-true a p.to test.0 in
         let whole : t ≡ plain (item.NoEntry a f l m) = told-is t _ _ is_body is_known in
         OfNoEntry f l m (cc) test.1
     by body known is_body is_known h = absurd (none-some h)
@@ -174,8 +169,8 @@ start-is sys o t x h = by t.body t.known refl refl h
     by : (body : Body) (known : Known) → t.body ≡ body → t.known ≡ known → start_first sys o body known ≡ Some x → StartRecord sys o t x
     by (item.New p n b from sig pars) (Free free) is_body is_known h =
         let test = stage-passed (nat_lt 0 free && goes_to (sizes_of sys) (length pars) p && not (is_static sys sig)) (stage.Given p b sig) x h in
-        let tests = both (nat_lt 0 free && goes_to (sizes_of sys) (length pars) p) (not (is_static sys sig)) test.0 in
-        let more = both (nat_lt 0 free) (goes_to (sizes_of sys) (length pars) p) tests.0 in
+        let tests = and_parts (nat_lt 0 free && goes_to (sizes_of sys) (length pars) p) (not (is_static sys sig)) test.0 in
+        let more = and_parts (nat_lt 0 free) (goes_to (sizes_of sys) (length pars) p) tests.0 in
         OfBlock p n b from sig free pars (told-is t _ _ is_body is_known) more.0 more.1 (not-true (is_static sys sig) tests.1) test.1
     by (item.Pub sig n set) Nothing is_body is_known h =
         let test = stage-passed (is_static sys sig) (published o (entry 0 sig 0) set) x h in

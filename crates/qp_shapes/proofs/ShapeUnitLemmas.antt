@@ -1,5 +1,6 @@
 -- Units are read off the front of a list, each way.
 use Rattle.std.proofs.Common.{◌≡◌, ℕ, ◌==◌, nat_lt, Bool, true, false, not, cond, ◌&&◌, List, [], ◌∷◌, ◌++◌, length, Some, refl, sym, ap, subst, arith, append-nil}
+use Rattle.std.proofs.lemmas.Bool.{and_parts, or_cases, eqb-true}
 use Rattle.std.proofs.lemmas.Bool.Decides.{nat_tests}
 use Rattle.std.specs.declared.option.Option.{Option}
 use Rattle.qp_model.specs.declared.systems.System.{System}
@@ -9,17 +10,18 @@ use Rattle.qp_model.specs.declared.bodies.Body.TheVariants as item
 use Rattle.qp_model.specs.Record.{entry}
 use Rattle.qp_model.specs.Told.{Told, Known, Nothing, Free, Member, plain}
 use Rattle.qp_model.specs.Calls as call
-use Rattle.qp_model.specs.Calls.{Call, Answer, Granted, Refused, Flushed, AtQueue, AtPool, AtTimer, AtTicks, AtFront, is_assertion}
+use Rattle.qp_model.specs.Calls.{Granted, Refused}
 use Rattle.qp_model.specs.Parts.{is_static, sizes_of}
 use Rattle.qp_model.specs.Shapes.{Fits, FitsAny, Drops, MakesAgain, PostsFront, Defers, Recalls, Flushes, Subscribes, Unsubscribes}
 use Rattle.qp_shapes.specs.ShapeUnit.{IsUnit, SaysValue, MakesCall, FlushesOne, had_room, goes_to, is_static_entry, some_static, behind_new, behind_lifo, recalled_first, behind_reference, behind_recall, plain_first, given_first, member_first, unit_first, behind_unit}
-use Rattle.qp_shapes.proofs.ShapeReleaseLemmas.{when-passed, told-is, release-sound}
+use Rattle.qp_shapes.proofs.ShapeReleaseLemmas.{when-passed, release-sound}
 use Rattle.qp_shapes.proofs.ShapePostLemmas.{again-static, again-pooled, IsPosted}
 use Rattle.qp_shapes.specs.ShapeRelease.{Leaves}
 use Rattle.qp_shapes.proofs.ShapeReleaseLemmas.{leaves}
-use Rattle.qp_shapes.proofs.ShapeSoundLemmas.{both, either, number, passed, static-unit, full-unit, lifo-unit, defer-unit, short-unit, arm-unit, rearm-unit, disarm-unit, idle-unit, again-unit, block-unit, lifo-sound}
+use Rattle.qp_shapes.proofs.ShapeSoundLemmas.{passed, static-unit, full-unit, lifo-unit, defer-unit, short-unit, arm-unit, rearm-unit, disarm-unit, idle-unit, again-unit, block-unit, lifo-sound}
 use Rattle.qp_shapes.proofs.ShapeWholeLemmas.{unit-whole}
 use Rattle.qp_shapes.proofs.NeverLemmas.{none-some}
+use Rattle.qp_model.proofs.RecordLemmas.{told-is}
 
 -- a recalled entry
 recall-sound : (sys : System) (o : ℕ) (now : Option Entry) (k : Entry) (told rest : List Told) → behind_recall k told ≡ Some rest
@@ -42,9 +44,9 @@ recall-sound sys o now k told rest h = by (k.pool == 0) refl h
             → (g : List Told) × IsUnit sys o now (plain (item.Recall k) ∷ g) × (t ∷ ts ≡ g ++ rest)
         from (item.Inc p b r) Nothing is_body is_known h =
             let test = passed _ _ rest h in
-            let tests = both (p == k.pool) (b == k.block) test.0 in
-            let e1 : p ≡ k.pool = number p k.pool tests.0 in
-            let e2 : b ≡ k.block = number b k.block tests.1 in
+            let tests = and_parts (p == k.pool) (b == k.block) test.0 in
+            let e1 : p ≡ k.pool = eqb-true p k.pool tests.0 in
+            let e2 : b ≡ k.block = eqb-true b k.block tests.1 in
             let whole : t ≡ plain (item.Inc p b r) = told-is t _ _ is_body is_known in
             let lifo = lifo-sound k (entry p b r) ts rest test.1 in
             let again : MakesAgain k (plain (item.Inc p b r) ∷ []) (entry p b r) =
@@ -58,7 +60,7 @@ recall-sound sys o now k told rest h = by (k.pool == 0) refl h
         → (g : List Told) × IsUnit sys o now (plain (item.Recall k) ∷ g) × (told ≡ g ++ rest)
     by true is h =
         let lifo = lifo-sound k k told rest h in
-        (plain (item.Lifo lifo.0 lifo.1 lifo.2 k) ∷ lifo.3, unit [] k lifo.0 lifo.1 lifo.2 lifo.3 (again-static k (number k.pool 0 is)) lifo.4, lifo.5)
+        (plain (item.Lifo lifo.0 lifo.1 lifo.2 k) ∷ lifo.3, unit [] k lifo.0 lifo.1 lifo.2 lifo.3 (again-static k (eqb-true k.pool 0 is)) lifo.4, lifo.5)
     by false is h = reference is told h
 
 -- one flushed entry
@@ -92,10 +94,10 @@ plain-sound sys o now t ts rest (item.Disarm u n former) is h = one-record sys o
 plain-sound sys o now t ts rest (item.Idle u n) is h = one-record sys o now t ts rest _ is (idle-unit sys o now u n) (cc)
 plain-sound sys o now t ts rest (item.Post to f l m e) is h =
     let test = when-passed _ ts rest h in
-    let tests = both (had_room sys to f l m) _ test.0 in
-    one-record sys o now t ts rest _ is (static-unit sys o now e _ (IsPosted to f l m tests.0 refl) (either (is_static_entry sys e) _ tests.1)) test.1
+    let tests = and_parts (had_room sys to f l m) _ test.0 in
+    one-record sys o now t ts rest _ is (static-unit sys o now e _ (IsPosted to f l m tests.0 refl) (or_cases (is_static_entry sys e) _ tests.1)) test.1
 plain-sound sys o now t ts rest (item.Full to f l m margin) is h =
-    let test = when-passed _ ts rest h in one-record sys o now t ts rest _ is (full-unit sys o now to f l m margin (either (some_static sys) _ test.0)) test.1
+    let test = when-passed _ ts rest h in one-record sys o now t ts rest _ is (full-unit sys o now to f l m margin (or_cases (some_static sys) _ test.0)) test.1
 plain-sound sys o now t ts rest (item.Lifo f l m e) is h = let test = when-passed _ ts rest h in one-record sys o now t ts rest _ is (lifo-unit sys o now f l m e test.0) test.1
 plain-sound sys o now t ts rest (item.Defer e) is h = let test = when-passed _ ts rest h in one-record sys o now t ts rest _ is (defer-unit sys o now e test.0) test.1
 plain-sound sys o now t ts rest (item.Inc p b r) is h = let test = passed _ _ rest h in more-records sys o now t ts rest _ is (again-unit sys o now p b r ts rest test.0 test.1)
@@ -109,8 +111,8 @@ given-sound : (sys : System) (o : ℕ) (now : Option Entry) (t : Told) (ts rest 
 unfolding given_first
 given-sound sys o now t ts rest free (item.New p n b from sig pars) is h =
     let test = passed (nat_lt 0 free && goes_to (sizes_of sys) (length pars) p && not (is_static sys sig)) (behind_new sys p b ts) rest h in
-    let tests = both (nat_lt 0 free && goes_to (sizes_of sys) (length pars) p) (not (is_static sys sig)) test.0 in
-    let more = both (nat_lt 0 free) (goes_to (sizes_of sys) (length pars) p) tests.0 in
+    let tests = and_parts (nat_lt 0 free && goes_to (sizes_of sys) (length pars) p) (not (is_static sys sig)) test.0 in
+    let more = and_parts (nat_lt 0 free) (goes_to (sizes_of sys) (length pars) p) tests.0 in
     more-records sys o now t ts rest _ is (block-unit sys o now p n b from sig free pars ts rest more.0 more.1 (not-true (is_static sys sig) tests.1) test.1)
   where
     not-true : (b : Bool) → not b ≡ true → b ≡ false

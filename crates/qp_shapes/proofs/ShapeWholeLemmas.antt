@@ -1,5 +1,6 @@
 -- Each unit is read off the front of a list.
-use Rattle.std.proofs.Common.{◌≡◌, ℕ, ◌==◌, nat_lt, Bool, true, false, ◌||◌, List, [], ◌∷◌, ◌++◌, length, Some, None, refl, sym, ◌∙◌, ap, subst, inl, inr, ◌⊎◌, arith, append_assoc, append-nil}
+use Rattle.std.proofs.Common.{◌≡◌, ℕ, ◌==◌, nat_lt, true, false, ◌||◌, List, [], ◌∷◌, ◌++◌, length, Some, None, refl, sym, ◌∙◌, ap, subst, inl, inr, ◌⊎◌, arith, append_assoc, append-nil}
+use Rattle.std.proofs.lemmas.Bool.{or_left, or_right}
 use Rattle.std.proofs.lemmas.Bool.Decides.{nat_tests}
 use Rattle.std.specs.declared.option.Option.{Option}
 use Rattle.std.specs.Option.{unwrap_or}
@@ -13,11 +14,11 @@ use Rattle.qp_model.specs.Calls.{Call, Answer, Granted, Refused, Flushed, AtQueu
 use Rattle.qp_model.specs.Parts.{is_static, sizes_of}
 use Rattle.qp_model.specs.Sites.{ring_of}
 use Rattle.qp_model.specs.Shapes.{Fits, FitsAny, Drops, MakesBlock, MakesAgain, MakesAgainNow, PostsNew, PostsNewFront, Forwards, Defers, Recalls, Flushes, Subscribes, Unsubscribes, Arms, Rearms, Disarms}
-use Rattle.qp_model.proofs.LineLemmas.{same_number}
+use Rattle.qp_model.proofs.LineLemmas.{same_number, same_entry-refl}
 use Rattle.qp_shapes.specs.ShapeUnit.{is_single, IsUnit, SaysValue, MakesCall, FlushesOne, is_static_entry, is_static_now, works_on_static, some_static, behind_again, behind_entry, behind_lifo, behind_recall, plain_first, given_first, behind_unit}
 use Rattle.qp_shapes.proofs.ShapeReleaseLemmas.{release-whole}
 use Rattle.qp_shapes.proofs.ShapePostLemmas.{Posted, posts-posted, entry-static, new-cases, no-block, again-cases, drops-none, front-is, IsPosted, IsRefused}
-use Rattle.qp_shapes.proofs.ShapePartLemmas.{same_entry-itself, static-some, first-goes}
+use Rattle.qp_shapes.proofs.ShapePartLemmas.{static-some, first-goes}
 use Rattle.qp_shapes.proofs.NeverLemmas.{false-true}
 
 -- a post of a static entry,
@@ -29,11 +30,11 @@ static-whole sys o now e g rest (IsRefused to f l m margin rel drops is) low kno
 
 -- of an entry of a new block, and of a new reference
 entry-whole : (sys : System) (e : Entry) (g rest : List Told) → Posted sys e g → behind_entry sys e (g ++ rest) ≡ Some rest
-entry-whole sys e g rest (IsPosted to f l m room is) = rw (is, same_entry-itself e, room) refl
+entry-whole sys e g rest (IsPosted to f l m room is) = rw (is, same_entry-refl e, room) refl
 entry-whole sys e g rest (IsRefused to f l m margin rel drops is) = rw is (release-whole e rel rest drops)
 
 again-whole : (sys : System) (e : Entry) (g rest : List Told) → Posted sys e g → behind_again sys e (g ++ rest) ≡ Some rest
-again-whole sys e g rest (IsPosted to f l m room is) = rw (is, same_entry-itself e, room) refl
+again-whole sys e g rest (IsPosted to f l m room is) = rw (is, same_entry-refl e, room) refl
 again-whole sys e g rest (IsRefused to f l m margin rel drops is) = rw is (release-whole e rel rest drops)
 
 -- a block given out, and what is behind its first reference
@@ -55,13 +56,6 @@ reference-whole : (sys : System) (o : ℕ) (k : Entry) (r : ℕ) (tail rest : Li
 unfolding plain_first
 reference-whole sys o k r tail rest pooled behind = rw (pooled, same_number k.pool, same_number k.block) behind
 
-pub or-left : (a b : Bool) → a ≡ true → (a || b) ≡ true
-or-left a b h = rw h refl
-
-pub or-right : (a b : Bool) → b ≡ true → (a || b) ≡ true
-or-right true b h = refl
-or-right false b h = h
-
 -- the post of a new event
 post-whole : (sys : System) (o : ℕ) (now : Option Entry) (to sig : ℕ) (pars : List ℕ) (margin reserve : Option ℕ) (answer : Answer) (g rest : List Told)
     → PostsNew (is_static sys sig) (sizes_of sys) (ring_of sys to) to sig pars margin reserve answer g → is_assertion answer ≡ false → behind_unit sys o now (g ++ rest) ≡ Some rest
@@ -78,7 +72,7 @@ post-whole sys o now to sig pars margin reserve answer g rest (inr h) calm =
         → behind_unit sys o now (h.0 ++ (core ++ rest)) ≡ Some rest
     by core posted (inl k) =
         let of_static : is_static_entry sys h.1 ≡ true = ap (is_static_entry sys) k.2 ∙ entry-static sys sig k.0 in
-        rw k.1 (static-whole sys o now h.1 core rest posted (ap (λ x. x.pool) k.2) (or-left _ _ of_static) (or-left _ _ (static-some sys sig k.0)))
+        rw k.1 (static-whole sys o now h.1 core rest posted (ap (λ x. x.pool) k.2) (or_left _ _ of_static) (or_left _ _ (static-some sys sig k.0)))
     by core posted (inr k) = block-whole sys o now sig pars reserve h.0 h.1 (core ++ rest) rest k.0 k.1 (entry-whole sys h.1 core rest posted)
 
 -- the last-in post of a new event
@@ -96,7 +90,7 @@ post_front-whole sys o now sig pars reserve answer g rest (inr h) calm =
         → ((is_static sys sig ≡ true) × (h.0 ≡ []) × (h.1 ≡ entry 0 sig 0)) ⊎ ((is_static sys sig ≡ false) × MakesBlock (sizes_of sys) sig pars reserve h.0 h.1)
         → behind_unit sys o now (h.0 ++ (plain (item.Lifo f l m h.1) ∷ rest)) ≡ Some rest
     by f l m (inl k) = let of_static : is_static_entry sys h.1 ≡ true = ap (is_static_entry sys) k.2 ∙ entry-static sys sig k.0 in rw (k.1, of_static) refl
-    by f l m (inr k) = block-whole sys o now sig pars reserve h.0 h.1 (plain (item.Lifo f l m h.1) ∷ rest) rest k.0 k.1 (rw (same_entry-itself h.1) refl)
+    by f l m (inr k) = block-whole sys o now sig pars reserve h.0 h.1 (plain (item.Lifo f l m h.1) ∷ rest) rest k.0 k.1 (rw (same_entry-refl h.1) refl)
 
 -- the event that a step works on is posted once more
 forward-whole : (sys : System) (o : ℕ) (now : Option Entry) (to : ℕ) (margin : Option ℕ) (answer : Answer) (g rest : List Told)
@@ -113,8 +107,8 @@ forward-whole sys o (Some k) to margin answer g rest h calm =
         → behind_unit sys o (Some k) (h.0 ++ (core ++ rest)) ≡ Some rest
     by core posted (inl is) =
         let zero_pool : (k.pool == 0) ≡ true = ap (λ p. p == 0) is.0 in
-        let now_is : is_static_now (Some k) h.1 ≡ true = rw (is.2, zero_pool) (same_entry-itself k) in
-        rw is.1 (static-whole sys o (Some k) h.1 core rest posted (ap (λ x. x.pool) is.2 ∙ is.0) (or-right _ _ now_is) (or-right _ _ zero_pool))
+        let now_is : is_static_now (Some k) h.1 ≡ true = rw (is.2, zero_pool) (same_entry-refl k) in
+        rw is.1 (static-whole sys o (Some k) h.1 core rest posted (ap (λ x. x.pool) is.2 ∙ is.0) (or_right _ _ now_is) (or_right _ _ zero_pool))
     by core posted (inr is) =
         rw is.1.1 (reference-whole sys o k is.1.0 (core ++ rest) rest is.0 (subst (λ x. behind_again sys x (core ++ rest) ≡ Some rest) is.1.2 (again-whole sys h.1 core rest posted)))
 
@@ -131,12 +125,12 @@ defer-whole sys o (Some k) Granted g rest h calm =
         → behind_unit sys o (Some k) (h.0 ++ (plain (item.Defer h.1) ∷ rest)) ≡ Some rest
     by (inl is) =
         let zero_pool : (k.pool == 0) ≡ true = ap (λ p. p == 0) is.0 in
-        let now_is : is_static_now (Some k) h.1 ≡ true = rw (is.2, zero_pool) (same_entry-itself k) in
+        let now_is : is_static_now (Some k) h.1 ≡ true = rw (is.2, zero_pool) (same_entry-refl k) in
         rw (is.1, now_is) refl
     by (inr is) =
         rw is.1.1
         (reference-whole sys o k is.1.0 (plain (item.Defer h.1) ∷ rest) rest is.0
-        (subst (λ x. behind_again sys x (plain (item.Defer h.1) ∷ rest) ≡ Some rest) is.1.2 (rw (same_entry-itself h.1) refl)))
+        (subst (λ x. behind_again sys x (plain (item.Defer h.1) ∷ rest) ≡ Some rest) is.1.2 (rw (same_entry-refl h.1) refl)))
 defer-whole sys o now Refused g rest h calm = rw h refl
 defer-whole sys o now (Flushed n) g rest h calm = absurd h
 defer-whole sys o now AtQueue g rest h calm = absurd h
@@ -147,7 +141,7 @@ defer-whole sys o now AtFront g rest h calm = absurd h
 
 -- the oldest deferred entry is recalled
 lifo-whole : (k e : Entry) (rel rest : List Told) (f l m : ℕ) → Drops k rel → behind_lifo k e (plain (item.Lifo f l m e) ∷ (rel ++ rest)) ≡ Some rest
-lifo-whole k e rel rest f l m drops = rw (same_entry-itself e) (release-whole k rel rest drops)
+lifo-whole k e rel rest f l m drops = rw (same_entry-refl e) (release-whole k rel rest drops)
 
 recalled-whole : (k e : Entry) (head rel rest : List Told) (f l m : ℕ) → MakesAgain k head e → Drops k rel
     → behind_recall k (head ++ (plain (item.Lifo f l m e) ∷ (rel ++ rest))) ≡ Some rest

@@ -1,6 +1,6 @@
 use Rattle.std.proofs.Common.{length, sym, ap}
+use Rattle.std.proofs.lemmas.Bool.{eqb-true}
 use Rattle.qp_fits.specs.AsPiece.{as_cut}
-use Rattle.qp_shapes.proofs.ShapeSoundLemmas.{number}
 use Rattle.qp_shapes.proofs.GroupsEndLemmas.{empty-is, some-is, whole-decided, stopped-decided, none-decided, front-decided}
 use Rattle.qp_shapes.proofs.groups_end.is_last.Goals as goal
 
@@ -15,7 +15,7 @@ returns-in-Stopped c =
 pub returns-then-is_empty : goal.returns-then-is_empty
 returns-then-is_empty c =
     none-decided c.args.scene.now.sys.now c.args.scene.now.o c.args.now c.args.told.now (as_cut c.args.cut) (ap as_cut c.in-Anywhere.is)
-    (empty-is c.args.told.now (number (length c.args.told.now) 0 (sym c.if-is_empty.ensures)))
+    (empty-is c.args.told.now (eqb-true (length c.args.told.now) 0 (sym c.if-is_empty.ensures)))
 
 pub returns-else-is_empty : goal.returns-else-is_empty
 returns-else-is_empty c =

@@ -1,7 +1,7 @@
 use Rattle.std.proofs.Common.{true, length, refl, sym}
+use Rattle.std.proofs.lemmas.Bool.{eqb-true}
 use Rattle.qp_model.specs.Groups.{IsLast, Stops}
 use Rattle.qp_shapes.specs.ShapeAction.{StopsInside}
-use Rattle.qp_shapes.proofs.ShapeSoundLemmas.{number}
 use Rattle.qp_shapes.proofs.GroupsDecideLemmas.{decides-yes, holds, fails}
 use Rattle.qp_shapes.proofs.GroupsEndLemmas.{empty-is, inside-last, stops-decided, some-is}
 use Rattle.qp_shapes.proofs.groups_end.stops.Goals as goal
@@ -9,7 +9,7 @@ use Rattle.qp_shapes.proofs.groups_end.stops.Goals as goal
 pub returns-then-is_empty : goal.returns-then-is_empty
 returns-then-is_empty c =
     decides-yes (IsLast c.args.scene.now.sys.now c.args.scene.now.o c.args.now true c.args.told.now)
-    (Stops refl (empty-is c.args.told.now (number (length c.args.told.now) 0 (sym c.if-is_empty.ensures))))
+    (Stops refl (empty-is c.args.told.now (eqb-true (length c.args.told.now) 0 (sym c.if-is_empty.ensures))))
 
 pub returns-then-stops_in_publication : goal.returns-then-stops_in_publication
 returns-then-stops_in_publication c =
