@@ -17,6 +17,7 @@ use Rattle.qp_system.specs.Between.{sizes_fault, signal_fault, chart_named, time
 use Rattle.qp_model.specs.Sound.{SizesAscend}
 use Rattle.qp_document.specs.Views.{pool_view, signal_view}
 use Rattle.qp_system.proofs.PassLemmas.{list_any-map}
+use Rattle.qp_model.proofs.NumberLemmas.{every}
 
 none-two : (o later : Option Fault) → option_or o later ≡ None → (o ≡ None) × (later ≡ None)
 none-two None later h = (refl, h)
@@ -31,11 +32,6 @@ none-both o os h = none-two o (first_of os) h
 pub fault_if-None : (test : Bool) (code : ℕ) (path : List Part) → fault_if test code path ≡ None → test ≡ false
 fault_if-None true code path h = absurd (none-some _ (sym h))
 fault_if-None false code path h = refl
-
--- what holds of all holds of all that follows from it
-pub every : {A : Type 0} (P Q : A → Type 0) → ((x : A) → P x → Q x) → (xs : List A) → AllByRecursion P xs → AllByRecursion Q xs
-every P Q step [] h = tt
-every P Q step (x ∷ xs) h = (step x h.0, every P Q step xs h.1)
 
 -- what holds of the things that are seen holds of what they are seen of
 pub every-unmap : {X A : Type 0} (P : A → Type 0) (view : X → A) (xs : List X) → AllByRecursion P (map view xs) → AllByRecursion (λ x. P (view x)) xs

@@ -17,8 +17,9 @@ use Rattle.qp_system.specs.Later.{later_of, later_fault}
 use Rattle.qp_model.specs.Sound.{SizesAscend}
 use Rattle.qp_system.specs.Within.{names_of, in_chart, within_chart, charts_fault}
 use Rattle.qp_document.specs.Views.{signal_view, chart_view, object_view}
-use Rattle.qp_system.proofs.BehindLemmas.{none-both, every, every-unmap, each-in, signals-bare, IsPlaced, each-placed, priorities-distinct, timers-few, sizes-ascend, signals-pooled}
+use Rattle.qp_system.proofs.BehindLemmas.{none-both, every-unmap, each-in, signals-bare, IsPlaced, each-placed, priorities-distinct, timers-few, sizes-ascend, signals-pooled}
 use Rattle.qp_system.proofs.OrderLemmas.{priorities}
+use Rattle.qp_model.proofs.NumberLemmas.{every}
 
 -- tables that fit together, with charts that have no fault
 pub record IsPassed (raw : RawSystem) : Type 0 where

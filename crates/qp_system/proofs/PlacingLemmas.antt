@@ -4,9 +4,9 @@ use Rattle.std.specs.declared.option.Option.{Option}
 use Rattle.std.specs.Option.{option_map, option_map_or, is_none}
 use Rattle.std.specs.List.{find, list_all, list_any, sum_by}
 use Rattle.std.specs.Str.{bytes_eq}
+use Rattle.std.proofs.lemmas.Bool.{lt-ltb, le-ltb}
 use Rattle.std.proofs.lemmas.List.{take_more, map-append, length-map}
 use Rattle.std.proofs.lemmas.List.Sums.{sum_by-append}
-use Rattle.std.proofs.lemmas.Bool.Decides.{nat_tests}
 use Rattle.arrayvec.specs.ArrayString.{ArrayString}
 use Rattle.qp_names.specs.declared.place.Part.TheVariants.{Key, Pos}
 use Rattle.qp_names.specs.Keys.{CHART, OBJECT, VARS, PRIORITY, THRESHOLD}
@@ -42,12 +42,6 @@ has_vars-view own (v ∷ vs) =
 -- the variables of the object are all among those of the chart
 abbrev pub all_known : RawChart → RawObject → Bool
 all_known c o = list_all (λ (var : ArrayString × ℤ). list_any (λ (v : ArrayString × ℤ). bytes_eq v.0.bytes var.0.bytes) c.vars) o.vars
-
-below-holds : (m n : ℕ) → m < n → nat_lt m n ≡ true
-below-holds m n h = grind (arith, nat_tests)
-
-below-fails : (m n : ℕ) → n ≤ m → nat_lt m n ≡ false
-below-fails m n h = grind (arith, nat_tests)
 
 module _ (charts : List RawChart) (earlier : List RawObject) (k : ℕ) (o : RawObject) where
   -- the object's first fault
@@ -102,7 +96,7 @@ module _ (charts : List RawChart) (earlier : List RawObject) (k : ℕ) (o : RawO
     bad_threshold e known once low h =
         first-tail _ _ _ (fault_if-fails _ _ _ there) (first-tail _ _ _ (fault_if-fails _ _ _ (vars-is ∙ ap not known))
         (first-tail _ _ _ (fault_if-fails _ _ _ (taken-is ∙ once))
-        (first-head _ _ _ (fault_if-holds _ _ _ e (below-holds o.threshold o.priority low) h))))
+        (first-head _ _ _ (fault_if-holds _ _ _ e (lt-ltb o.threshold o.priority low) h))))
 
     module _ (timers : ℕ) (so_far : timers ≡ sum_by (timers_of (map chart_view charts)) (map object_view earlier)) where
       sum-is : sum_by (timers_of (map chart_view charts)) (map object_view earlier) + timers_of (map chart_view charts) (object_view o) ≡ timers + length c.timer
@@ -114,16 +108,16 @@ module _ (charts : List RawChart) (earlier : List RawObject) (k : ℕ) (o : RawO
       bad_count e known once high many h =
           first-tail _ _ _ (fault_if-fails _ _ _ there) (first-tail _ _ _ (fault_if-fails _ _ _ (vars-is ∙ ap not known))
           (first-tail _ _ _ (fault_if-fails _ _ _ (taken-is ∙ once))
-          (first-tail _ _ _ (fault_if-fails _ _ _ (below-fails o.threshold o.priority high))
-          (first-head _ _ _ (fault_if-holds _ _ _ e (ap (nat_lt 64) sum-is ∙ below-holds 64 (timers + length c.timer) many) h)))))
+          (first-tail _ _ _ (fault_if-fails _ _ _ (le-ltb o.threshold o.priority high))
+          (first-head _ _ _ (fault_if-holds _ _ _ e (ap (nat_lt 64) sum-is ∙ lt-ltb 64 (timers + length c.timer) many) h)))))
 
       pub placed : all_known c o ≡ true → taken ≡ false → o.priority ≤ o.threshold → timers + length c.timer ≤ 64 → faulty ≡ None
       unfolding placing_fault
       placed known once high few =
           none-head _ _ (fault_if-fails _ _ _ there) (none-head _ _ (fault_if-fails _ _ _ (vars-is ∙ ap not known))
           (none-head _ _ (fault_if-fails _ _ _ (taken-is ∙ once))
-          (none-head _ _ (fault_if-fails _ _ _ (below-fails o.threshold o.priority high))
-          (none-head _ _ (fault_if-fails _ _ _ (ap (nat_lt 64) sum-is ∙ below-fails 64 (timers + length c.timer) few)) none-end))))
+          (none-head _ _ (fault_if-fails _ _ _ (le-ltb o.threshold o.priority high))
+          (none-head _ _ (fault_if-fails _ _ _ (ap (nat_lt 64) sum-is ∙ le-ltb 64 (timers + length c.timer) few)) none-end))))
 
 -- one more of a sum
 sum_by-more : {A : Type 0} (f : A → ℕ) (xs : List A) (x : A) → sum_by f (xs ++ x ∷ []) ≡ sum_by f xs + f x

@@ -3,6 +3,7 @@ use Rattle.std.proofs.Common.{◌≡◌, ℕ, ℤ, pos, ◌+◌, ◌-◌, ◌<�
 use Rattle.std.specs.declared.option.Option.{Option}
 use Rattle.std.specs.Option.{option_map, option_and_then, unwrap_or}
 use Rattle.std.specs.List.{AllByRecursion, Contains, list_all, slice_get}
+use Rattle.std.proofs.lemmas.Bool.{and_parts}
 use Rattle.std.proofs.lemmas.List.{length-map}
 use Rattle.std.proofs.lemmas.List.Elements.{recursion_from_All}
 use Rattle.std.proofs.lemmas.List.Sorted.{Contains-permutation}
@@ -42,16 +43,12 @@ use Rattle.qp_system.proofs.NamedLemmas.{number-above, number-below}
 use Rattle.qp_system.proofs.TimerLemmas.{every-at, IsOwned, each-owned}
 use Rattle.qp_system.proofs.PairLemmas.{Corresponds-each, Corresponds-every, Corresponds-length, Corresponds-partner}
 
-both-true : (a b : Bool) → (a && b) ≡ true → (a ≡ true) × (b ≡ true)
-both-true true b h = (refl, h)
-both-true false b h = cc
-
 -- two tests that pass for all
 all-pass : {A : Type 0} (p q : A → Bool) (xs : List A) → list_all p xs ≡ true → list_all q xs ≡ true → AllByRecursion (λ x. (p x ≡ true) × (q x ≡ true)) xs
 all-pass p q [] h k = tt
 all-pass p q (x ∷ xs) h k =
-    let a = both-true (p x) (list_all p xs) h in
-    let b = both-true (q x) (list_all q xs) k in
+    let a = and_parts (p x) (list_all p xs) h in
+    let b = and_parts (q x) (list_all q xs) k in
     ((a.0, b.0), all-pass p q xs a.1 b.1)
 
 module _ (sys : System) (raw : RawSystem) (signals : sys.signals ≡ raw.signals) (objects : AreObjectsOf raw.charts raw.objects sys.objects) where
@@ -160,7 +157,7 @@ module _ (sys : System) (raw : RawSystem) (signals : sys.signals ≡ raw.signals
     free-reserve s event z None static allowed byte fixed = refl
     free-reserve s event z (Some n) static allowed byte fixed =
         let here : reserve_allowed names event (Some (pos n)) ≡ true = subst (λ y. reserve_allowed names event y ≡ true) byte allowed in
-        let second : not (is_static names event.signal) ≡ true = (both-true (is_between 0 255 (pos n)) (not (is_static names event.signal)) here).1 in
+        let second : not (is_static names event.signal) ≡ true = (and_parts (is_between 0 255 (pos n)) (not (is_static names event.signal)) here).1 in
         let no : true ≡ false = sym second ∙ ap not (static ∙ fixed) in
         cc
 
@@ -168,7 +165,7 @@ module _ (sys : System) (raw : RawSystem) (signals : sys.signals ≡ raw.signals
         → event_fits names (params_in inside) e ≡ true → reserve_allowed names e z ≡ true → IsByteOf z r → IsSoundEvent sys chart inside sig pars r
     event inside e sig pars z r made fits allowed byte =
         let s = declared e.signal sig made.signal_is in
-        let test : (length e.pars == params_of names e.signal) ≡ true = (both-true _ _ fits).0 in
+        let test : (length e.pars == params_of names e.signal) ≡ true = (and_parts _ _ fits).0 in
         let count : length e.pars ≡ params_of names e.signal = grind (arith, nat_tests, test) in
         record {
           signal = s.0;
@@ -188,7 +185,7 @@ module _ (sys : System) (raw : RawSystem) (signals : sys.signals ≡ raw.signals
         rw is (omega (arith, below, var-count), reaches inside value b binds)
     plain-sound inside (Say value) p (b, is, binds) range fits = rw is (reaches inside value b binds)
     plain-sound inside (Post address e margin reserve) p (to, sig, pars, m, r, is, target, made, mb, rb) range fits =
-        rw is (receiver address to target, event inside e sig pars reserve r made fits (both-true _ _ range).1 rb)
+        rw is (receiver address to target, event inside e sig pars reserve r made fits (and_parts _ _ range).1 rb)
     plain-sound inside (Lifo e reserve) p (sig, pars, r, is, made, rb) range fits = rw is (event inside e sig pars reserve r made fits range rb)
     plain-sound inside (Forward address margin) p (to, m, is, target, mb) range fits = rw is (receiver address to target, fits)
     plain-sound inside (Publish e reserve) p (sig, pars, r, is, made, rb) range fits = rw is (event inside e sig pars reserve r made fits range rb)
@@ -203,7 +200,7 @@ module _ (sys : System) (raw : RawSystem) (signals : sys.signals ≡ raw.signals
 
     ceiling-inside : (z : ℤ) (n : ℕ) → is_between 1 32 z ≡ true → z ≡ pos n → (1 ≤ n) × (n ≤ 32)
     ceiling-inside z n h e =
-        let both = both-true _ _ (rw e at h) in
+        let both = and_parts _ _ (rw e at h) in
         let low : nat_le 1 n ≡ true = both.0 in
         let high : nat_le n 32 ≡ true = both.1 in
         (grind (arith, nat_tests, low), grind (arith, nat_tests, high))
@@ -212,7 +209,7 @@ module _ (sys : System) (raw : RawSystem) (signals : sys.signals ≡ raw.signals
     unfolding IsActOf command_in_range command_fits
     act-sound inside (Plain order) a (p, is, made) range fits = rw is (plain-sound inside order p made range fits)
     act-sound inside (Locked number orders) a (ceiling, ps, is, same, made) range fits =
-        let two = both-true _ _ range in
+        let two = and_parts _ _ range in
         let bounds = ceiling-inside number ceiling two.0 same in
         rw is (
           bounds.0,

@@ -32,7 +32,7 @@ use Rattle.qp_system.specs.SystemOf.{chart_names, first_value, IsObjectOf, IsSys
 use Rattle.qp_model.specs.Sound.{timer_of, timers_of}
 use Rattle.qp_document.specs.Views.{pool_view, signal_view, timer_view, chart_view, object_view, raw_view}
 use Rattle.qp_system.specs.Within.{names_of}
-use Rattle.qp_system.proofs.BehindLemmas.{every, IsPlaced}
+use Rattle.qp_system.proofs.BehindLemmas.{IsPlaced}
 use Rattle.qp_document.proofs.FewLemmas.{raw-is_few, IsInRange, raw-is_in_range}
 use Rattle.qp_system.proofs.NamedLemmas.{number-above, number-below, number-names, named-view}
 use Rattle.qp_system.proofs.PassedLemmas.{IsPassed, passed-from}
@@ -40,6 +40,7 @@ use Rattle.qp_document.proofs.RangeLemmas.{PoolInRange, SignalInRange, TimerInRa
 use Rattle.qp_system.proofs.SoundChartLemmas.{chart-sound}
 use Rattle.qp_system.proofs.TimerLemmas.{every-two, every-at, every-map, every-flat_map, Fits, timers-fit, IsOwned, each-owned}
 use Rattle.qp_system.proofs.PairLemmas.{Corresponds-every, Corresponds-length, Corresponds-partner, some-same}
+use Rattle.qp_model.proofs.NumberLemmas.{every}
 
 pub read-few : (bytes : List ℕ) (raw : RawSystem) → TreeGives bytes (Ok (raw_view raw)) → IsFew raw
 unfolding TreeGives

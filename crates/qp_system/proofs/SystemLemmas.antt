@@ -25,7 +25,7 @@ use Rattle.qp_system.specs.Placed.{chart_place, HasChart, IsWithin}
 use Rattle.qp_system.specs.SystemOf.{chart_names, first_value, first_values, IsObjectOf, AreObjectsOf, HasFault, RefusesSystem}
 use Rattle.qp_model.specs.Sound.{timer_of, timers_of}
 use Rattle.qp_document.specs.Views.{chart_view, object_view}
-use Rattle.qp_system.proofs.BehindLemmas.{every, IsPlaced}
+use Rattle.qp_system.proofs.BehindLemmas.{IsPlaced}
 use Rattle.qp_document.proofs.FewLemmas.{IsInRange}
 use Rattle.qp_system.proofs.NamedLemmas.{number-above, number-below, number-none, number-position, named-view}
 use Rattle.qp_system.proofs.OrderLemmas.{Ascend-sorted}
@@ -33,6 +33,7 @@ use Rattle.qp_system.proofs.PassedLemmas.{IsPassed, passed-from}
 use Rattle.qp_document.proofs.RangeLemmas.{ObjectInRange}
 use Rattle.qp_system.proofs.SoundLemmas.{read-in_range}
 use Rattle.qp_system.proofs.PairLemmas.{Corresponds-each}
+use Rattle.qp_model.proofs.NumberLemmas.{every}
 
 -- a refusal of the tables, or of the whole, is one of the system
 pub refuses-system : (bytes : List ℕ) (e : SystemFault) → RefusesBytes e bytes ⊎ HasLater bytes e → RefusesSystem bytes e

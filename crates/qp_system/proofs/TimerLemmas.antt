@@ -1,8 +1,9 @@
 -- The time events of a system that was read.
-use Rattle.std.proofs.Common.{◌≡◌, ℕ, zero, suc, ◌-◌, ◌≤◌, ◌==◌, Bool, true, false, not, List, [], ◌∷◌, ◌++◌, map, Some, None, refl, sym, ap, arith}
+use Rattle.std.proofs.Common.{◌≡◌, ℕ, zero, suc, ◌-◌, ◌≤◌, ◌==◌, Bool, true, false, List, [], ◌∷◌, ◌++◌, map, Some, None, refl, sym, ap, arith}
 use Rattle.std.specs.declared.option.Option.{Option}
 use Rattle.std.specs.Option.{option_map, option_and_then, unwrap_or}
 use Rattle.std.specs.List.{All, AllByRecursion, find, flat_map, slice_get}
+use Rattle.std.proofs.lemmas.Bool.{not-false}
 use Rattle.std.proofs.lemmas.List.Elements.{recursion_from_All}
 use Rattle.std.proofs.lemmas.Option.{none-some, slice_get-map}
 use Rattle.std.proofs.lemmas.Bool.Decides.{nat_tests}
@@ -25,6 +26,7 @@ use Rattle.qp_system.proofs.BehindLemmas.{none-both, fault_if-None, each-in}
 use Rattle.qp_system.proofs.NamedLemmas.{number-above}
 use Rattle.qp_document.proofs.RangeLemmas.{TimerInRange}
 use Rattle.qp_system.proofs.PairLemmas.{Corresponds-every}
+use Rattle.qp_model.proofs.NumberLemmas.{every-append}
 
 -- what two facts give of each thing
 pub every-two : {A : Type 0} (P Q R : A → Type 0) → ((x : A) → P x → Q x → R x) → (xs : List A) → AllByRecursion P xs → AllByRecursion Q xs → AllByRecursion R xs
@@ -41,10 +43,6 @@ pub every-map : {A B : Type 0} (P : B → Type 0) (f : A → B) (xs : List A) �
 every-map P f [] h = tt
 every-map P f (x ∷ xs) h = (h.0, every-map P f xs h.1)
 
-every-append : {A : Type 0} (P : A → Type 0) (xs ys : List A) → AllByRecursion P xs → AllByRecursion P ys → AllByRecursion P (xs ++ ys)
-every-append P [] ys h k = k
-every-append P (x ∷ xs) ys h k = (h.0, every-append P xs ys h.1 k)
-
 pub every-flat_map : {A B : Type 0} (P : B → Type 0) (f : A → List B) (xs : List A) → AllByRecursion (λ x. AllByRecursion P (f x)) xs → AllByRecursion P (flat_map f xs)
 every-flat_map P f [] h = tt
 every-flat_map P f (x ∷ xs) h = every-append P (f x) (flat_map f xs) h.0 (every-flat_map P f xs h.1)
@@ -56,10 +54,6 @@ pub record Fits (signals : List SignalDef) (t : Timer) : Type 0 where
   pub is_signal : slice_get signals (t.signal - 4) ≡ Some signal
   pub static : signal.fixed ≡ true
   pub rate : t.rate ≤ 3
-
-not-false : (b : Bool) → not b ≡ false → b ≡ true
-not-false true h = refl
-not-false false h = cc
 
 module _ (signals : List SignalDef) (objects : List RawObject) where
   abbrev names : Names
