@@ -1,5 +1,12 @@
-//! A test of the top call that is too long for the tables of qp_verdicts, whose program two compilers build: journals of a million records.
+//! Tests of the top call that are too long for the tables of qp_verdicts, whose program two compilers build: journals of a million records;
+//! and of its output in pieces, to sinks that fail.
+//!
+//! They stand beside qp_run and qp_output, over their public calls, so that neither is proved a second time for them.
 #![tactic(auto)]
 
+#[cfg(test)]
+mod pieces;
+#[cfg(test)]
+mod samples;
 #[cfg(test)]
 mod spills;

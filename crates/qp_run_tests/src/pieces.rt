@@ -1,0 +1,194 @@
+//! Calls whose output goes on in pieces, to sinks that take all of it and to sinks that fail.
+
+use crate::samples::{LAMP, shelf, sink};
+use qp_base::{MemShelf, NoGate};
+use qp_output::in_pieces;
+use std::alloc::{AllocError, Global};
+use std::process::Abort;
+use std::sync::Wait;
+use std::test::Fail;
+
+/// The room for the output, its puts that fail and those of the note, each with how many bytes it keeps; and what the call comes to: the
+/// number of its answer, how many bytes of its output have gone on, and its note.
+type Case = (
+    u64,
+    &'static [(u64, u64)],
+    &'static [(u64, u64)],
+    u8,
+    usize,
+    &'static str,
+);
+
+/// A call by its words and files, with its whole output.
+#[derive(Clone, Copy)]
+struct Call<'t> {
+    words: &'t [&'t str],
+    files: &'t [(&'t str, &'t str)],
+    whole: &'t str,
+}
+
+/// Whether the call comes to what the case says.
+fn is_so<R: Wait>(
+    waits: &R,
+    alloc: Global,
+    call: &Call<'_>,
+    files: &mut MemShelf,
+    case: &Case,
+) -> Result<bool, AllocError> {
+    let (room, failing, failing_notes, answer, len, note) = *case;
+    let out = sink(alloc, room, failing)?;
+    let mut notes = sink(alloc, 1000, failing_notes)?;
+    let carried = in_pieces(waits, alloc, call.words, files, out, &mut notes, &NoGate);
+    let is_told = carried.status.number() == answer && notes.bytes() == note.as_bytes();
+    Ok(is_told && is_front(carried.out.bytes(), call.whole, len))
+}
+
+/// Whether the output is the first so many bytes of this.
+fn is_front(out: &[u8], whole: &str, len: usize) -> bool {
+    out.len() == len && whole.as_bytes().starts_with(out)
+}
+
+/// Asserts that the call comes to what each case says.
+fn expect<R: Abort + Wait>(
+    rt: &R,
+    alloc: Global,
+    call: &Call<'_>,
+    cases: &[Case],
+) -> Result<(), AllocError> {
+    let mut files = shelf(alloc, call.files)?;
+    for (i, case) in cases.iter().enumerate() {
+        assert!(rt; is_so(rt, alloc, call, &mut files, case)?, "case {i}");
+    }
+    Ok(())
+}
+
+/// A journal of so many records, each a line of 8 bytes, and 27 bytes besides.
+fn journal(alloc: Global, records: usize) -> Result<String, AllocError> {
+    let records = "begin 1\n".repeat(alloc, records)?;
+    format!(in alloc; "qp 1 0 100000\nlane 0\n{records}end 0\n")
+}
+
+/// The same of what `migrate --to 1` makes of a journal in form 1, which is the journal again.
+fn expect_again<R: Abort + Wait>(
+    rt: &R,
+    alloc: Global,
+    records: usize,
+    cases: &[Case],
+) -> Result<(), AllocError> {
+    let text = journal(alloc, records)?;
+    let call = Call {
+        words: &["migrate", "--to", "1", "journal"],
+        files: &[("journal", text.as_str())],
+        whole: text.as_str(),
+    };
+    expect(rt, alloc, &call, cases)
+}
+
+const FAULT: &str = "qp: write fault\n";
+
+/// 160,027 bytes go on as 65,533, 65,536 and 28,958: a full device, a pipe that closes, a fault at each piece, and no fourth piece.
+const LONG: [Case; 7] = [
+    (200000, &[(0, 0)], &[], 7, 0, FAULT),
+    (200000, &[(0, 100)], &[], 7, 100, FAULT),
+    (200000, &[(1, 5)], &[], 7, 65538, FAULT),
+    (200000, &[(1, 65536)], &[], 7, 131069, FAULT),
+    (200000, &[(2, 7)], &[], 7, 131076, FAULT),
+    (200000, &[(2, 28958)], &[], 7, 160027, FAULT),
+    (200000, &[(3, 0)], &[], 0, 160027, ""),
+];
+
+#[test]
+fn a_long_output_goes_on_in_three_pieces(rt: HostRuntime) -> Result<(), Fail> {
+    expect_again(&rt, rt.alloc(), 20000, &LONG)?;
+    Ok(())
+}
+
+/// Rooms for a part of the output, and just enough.
+const FULL: [Case; 4] = [
+    (0, &[], &[], 7, 0, FAULT),
+    (70000, &[], &[], 7, 70000, FAULT),
+    (160026, &[], &[], 7, 160026, FAULT),
+    (160027, &[], &[], 0, 160027, ""),
+];
+
+#[test]
+fn a_device_that_fills_up_keeps_the_first_part(rt: HostRuntime) -> Result<(), Fail> {
+    expect_again(&rt, rt.alloc(), 20000, &FULL)?;
+    Ok(())
+}
+
+const SHORT: [Case; 3] = [
+    (1000, &[(1, 0)], &[], 0, 51, ""),
+    (1000, &[(0, 50)], &[], 7, 50, FAULT),
+    (1000, &[(0, 0)], &[], 7, 0, FAULT),
+];
+
+#[test]
+fn a_short_output_goes_on_at_the_end(rt: HostRuntime) -> Result<(), Fail> {
+    expect_again(&rt, rt.alloc(), 3, &SHORT)?;
+    Ok(())
+}
+
+/// A run of the lamp that spends its budget, which is one event, and has two.
+const SPENDING: Call<'static> = Call {
+    words: &["run", "--budget", "1", "system", "stimuli"],
+    files: &[
+        ("system", LAMP),
+        ("stimuli", "source 1\npost lamp GO\npost lamp GO\n"),
+    ],
+    whole: "qp 1 0 1
+lane 0
+begin 1
+enter 1 1
+done 1
+look 0 1 0
+seen 0 1 1 0 0
+took 1 1 0 1 0 4 0
+run 1 1 1
+exit 1 1
+enter 1 2
+done 1
+look 0 2 0
+seen 0 1 2 0 1
+spent 1
+lane 1
+stim 0 1 1
+post 0 1 1 0 0 0 4 0
+stim 0 2 2
+post 0 1 2 0 1 0 4 0
+end 4
+",
+};
+
+/// No fault; one of the output, for which the note is held back; and one of the note.
+const SPENT: [Case; 3] = [
+    (1000, &[], &[], 4, 233, "qp: spent in lane 0\n"),
+    (1000, &[(0, 20)], &[], 7, 20, FAULT),
+    (1000, &[], &[(0, 3)], 7, 233, "qp:"),
+];
+
+#[test]
+fn the_output_goes_first_and_the_note_then(rt: HostRuntime) -> Result<(), Fail> {
+    expect(&rt, rt.alloc(), &SPENDING, &SPENT)?;
+    Ok(())
+}
+
+const REFUSED: Call<'static> = Call {
+    words: &["decode", "x.qs"],
+    files: &[],
+    whole: "",
+};
+
+#[test]
+fn a_refusal_puts_nothing_but_its_line(rt: HostRuntime) -> Result<(), Fail> {
+    let cases = [(
+        0,
+        [(0, 0)].as_slice(),
+        [].as_slice(),
+        2,
+        0,
+        "qp: x.qs: absent\n",
+    )];
+    expect(&rt, rt.alloc(), &REFUSED, &cases)?;
+    Ok(())
+}
