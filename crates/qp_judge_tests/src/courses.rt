@@ -9,13 +9,13 @@ ghost use Rattle.qp_model.specs.Able.{state_able, chart_able};
 ghost use Rattle.qp_course.specs.Followable.{IsFollowable};
 
 use crate::samples::Line::{Begin, Done, Enter, Init, Run, Taken, TakenUnknown, Unhandled};
-use crate::samples::{Line, all_told, lamp, name, plain};
+use crate::samples::{Line, lamp, name, put_told};
 use qp_chart::{
     Chart, ChartFault, Env, Name, Names, ObjNames, RawChart, RawRows, RawState, RawStates,
     RawTimers, SigNames, State, Texts, Vars,
 };
 use qp_course::{Task, follows, follows_with_points, start_plan, step_plan};
-use qp_fits::{Cut, Piece};
+use qp_fits::{Cut, Known, Piece, Told};
 use qp_model::{Body, Charts, ObjectDefs, PoolDefs, SignalDefs, System, TimerDefs};
 use std::alloc::{AllocError, Global};
 use std::test::Fail;
@@ -81,9 +81,28 @@ fn chart(alloc: Global) -> Result<Chart, ChartFault> {
     Chart::check(alloc, &raw, &names)
 }
 
-fn is_entry(task: &Task, state: u8) -> bool {
+/// Whether a task is the entry into a state, or its initial transition.
+fn is_into(task: &Task, is_entry: bool, state: u8) -> bool {
     match task {
-        Task::Enter { state: entered } => *entered == state,
+        Task::Enter { state: of } => is_entry && *of == state,
+        Task::Init { state: of } => !is_entry && *of == state,
+        _ => false,
+    }
+}
+
+/// Whether tasks enter the outer state, and then by its initial transition the inner one.
+fn enter_both(tasks: &[Task]) -> bool {
+    match tasks {
+        [outer, init, inner] => {
+            is_into(outer, true, 1) && is_into(init, false, 1) && is_into(inner, true, 2)
+        }
+        _ => false,
+    }
+}
+
+fn is_start(tasks: &[Task]) -> bool {
+    match tasks {
+        [Task::Begin, within @ .., Task::Done] => enter_both(within),
         _ => false,
     }
 }
@@ -92,16 +111,12 @@ fn is_entry(task: &Task, state: u8) -> bool {
 fn a_start_enters_down_to_the_leaf(rt: HostRuntime) -> Result<(), Fail> {
     let chart = chart(rt.alloc())?;
     let plan = start_plan(rt.alloc(), &chart)?;
-    assert!(rt; plan.leaf == 2);
-    let [first, outer, init, inner, last] = plan.tasks.as_slice() else {
-        return Err(Fail::from("a start has five tasks here"));
-    };
-    assert!(rt; matches!(first, Task::Begin));
-    assert!(rt; is_entry(outer, 1));
-    assert!(rt; matches!(init, Task::Init { state: 1 }));
-    assert!(rt; is_entry(inner, 2));
-    assert!(rt; matches!(last, Task::Done));
+    assert!(rt; plan.leaf == 2 && is_start(plan.tasks.as_slice()));
     Ok(())
+}
+
+fn is_unhandled(tasks: &[Task]) -> bool {
+    matches!(tasks, [Task::Unhandled, Task::Done])
 }
 
 #[test]
@@ -114,8 +129,7 @@ fn an_event_without_a_row_is_unhandled(rt: HostRuntime) -> Result<(), Fail> {
         me: 1,
     };
     let plan = step_plan(rt.alloc(), &chart, 2, &env, 4)?;
-    assert!(rt; plan.leaf == 2);
-    assert!(rt; matches!(plan.tasks.as_slice(), [Task::Unhandled, Task::Done]));
+    assert!(rt; plan.leaf == 2 && is_unhandled(plan.tasks.as_slice()));
     Ok(())
 }
 
@@ -147,7 +161,7 @@ fn is_idle(chart: &Chart) -> bool
 }
 
 /// A system of this chart alone.
-fn system(alloc: Global, chart: Chart) -> Result<System, AllocError>
+fn system_of(alloc: Global, chart: Chart) -> Result<System, AllocError>
     requires { (sys : System) → chart_able sys chart ≡ true }
     ensures { IfOk result (λ sys. (d : ObjectDef) → d.chart ≡ 1 → IsFollowable sys d) }
 {
@@ -170,6 +184,17 @@ fn system(alloc: Global, chart: Chart) -> Result<System, AllocError>
     })
 }
 
+/// A system of the chart of two states alone.
+fn system(alloc: Global) -> Result<System, Fail>
+    ensures { IfOk result (λ sys. (d : ObjectDef) → d.chart ≡ 1 → IsFollowable sys d) }
+{
+    let chart = chart(alloc)?;
+    if !is_idle(&chart) {
+        return Err(Fail::from("the chart has no action"));
+    }
+    Ok(system_of(alloc, chart)?)
+}
+
 /// A start, and a step over an event that has no row.
 const START_AND_STEP: [Line; 8] = [
     Begin,
@@ -182,80 +207,77 @@ const START_AND_STEP: [Line; 8] = [
     Done,
 ];
 
-/// Whether the first so many of these records follow the chart.
-fn do_follow(alloc: Global, sys: &System, cut: Cut, lines: &[Line]) -> Result<bool, AllocError>
+/// Whether so many of these records, and others behind them, follow the chart.
+fn do_follow(
+    alloc: Global,
+    sys: &System,
+    cut: Cut,
+    front: usize,
+    behind: &[Line],
+) -> Result<bool, AllocError>
     requires { (d : ObjectDef) → d.chart ≡ 1 → IsFollowable sys.now d }
 {
-    let told = all_told(alloc, lines)?;
+    let mut told = Vec::new(alloc);
+    put_told(&mut told, START_AND_STEP.get(..front).unwrap_or(&[]))?;
+    put_told(&mut told, behind)?;
     follows(alloc, sys, &lamp(alloc), cut, told.as_slice())
 }
 
-const FRONTS: [(Cut, usize, bool); 9] = [
-    (Cut::Whole, 0, false),
-    (Cut::Stopped, 0, true),
-    (Cut::Whole, 4, false),
-    (Cut::Stopped, 4, false),
-    (Cut::Anywhere, 4, true),
-    (Cut::Whole, 5, true),
-    (Cut::Whole, 7, false),
-    (Cut::Anywhere, 7, true),
-    (Cut::Whole, 8, true),
+const LISTS: [(Cut, usize, &[Line], bool); 15] = [
+    (Cut::Whole, 0, &[], false),
+    (Cut::Stopped, 0, &[], true),
+    (Cut::Whole, 4, &[], false),
+    (Cut::Stopped, 4, &[], false),
+    (Cut::Anywhere, 4, &[], true),
+    (Cut::Whole, 5, &[], true),
+    (Cut::Whole, 7, &[], false),
+    (Cut::Anywhere, 7, &[], true),
+    (Cut::Whole, 8, &[], true),
+    // Records that don't follow those before them.
+    (Cut::Anywhere, 1, &[Enter(2)], false),
+    (Cut::Anywhere, 4, &[Enter(2)], false),
+    (Cut::Anywhere, 5, &[Begin], false),
+    (Cut::Anywhere, 5, &[TakenUnknown(0)], false),
+    (Cut::Anywhere, 6, &[Run(2, 1)], false),
+    (Cut::Anywhere, 7, &[Unhandled], false),
 ];
 
 #[test]
 fn a_start_and_a_step_follow_their_chart(rt: HostRuntime) -> Result<(), Fail> {
-    let chart = chart(rt.alloc())?;
-    assert!(rt; is_idle(&chart));
-    let sys = system(rt.alloc(), chart)?;
-    for (cut, n, want) in &FRONTS {
-        let front = &START_AND_STEP[..(*n).min(8)];
+    let sys = system(rt.alloc())?;
+    for (i, (cut, front, behind, want)) in LISTS.iter().enumerate() {
         assert!(rt;
-            do_follow(rt.alloc(), &sys, *cut, front)? == *want,
-            "the first {n}"
+            do_follow(rt.alloc(), &sys, *cut, *front, behind)? == *want,
+            "list {i}"
         );
     }
     Ok(())
 }
 
-/// Records that don't follow those before them.
-const DEFECTS: [(usize, Line); 6] = [
-    (1, Enter(2)),
-    (4, Enter(2)),
-    (5, Begin),
-    (5, TakenUnknown(0)),
-    (6, Run(2, 1)),
-    (7, Unhandled),
-];
+const BEGUN: Piece = Piece::Tell(Told {
+    body: Body::Begin,
+    known: Known::Nothing,
+});
 
-#[test]
-fn records_that_do_not_follow(rt: HostRuntime) -> Result<(), Fail> {
-    let chart = chart(rt.alloc())?;
-    assert!(rt; is_idle(&chart));
-    let sys = system(rt.alloc(), chart)?;
-    for (n, defect) in &DEFECTS {
-        let last = (*n).min(7);
-        let mut lines = START_AND_STEP;
-        lines[last] = *defect;
-        assert!(rt;
-            !do_follow(rt.alloc(), &sys, Cut::Anywhere, &lines[..=last])?,
-            "record {n}"
-        );
-    }
-    Ok(())
+const ENTERED: Piece = Piece::Tell(Told {
+    body: Body::Enter { state: 1 },
+    known: Known::Nothing,
+});
+
+const POINTS: [([Piece; 2], bool); 2] = [([BEGUN, ENTERED], true), ([BEGUN, Piece::Point], false)];
+
+/// Whether these records and points follow the chart.
+fn do_follow_with_points(alloc: Global, sys: &System, records: &[Piece]) -> Result<bool, AllocError>
+    requires { (d : ObjectDef) → d.chart ≡ 1 → IsFollowable sys.now d }
+{
+    follows_with_points(alloc, sys, &lamp(alloc), Cut::Anywhere, records)
 }
 
 #[test]
 fn a_start_has_no_point(rt: HostRuntime) -> Result<(), Fail> {
-    let chart = chart(rt.alloc())?;
-    assert!(rt; is_idle(&chart));
-    let sys = system(rt.alloc(), chart)?;
-    let d = lamp(rt.alloc());
-    let records = [
-        Piece::Tell(plain(Body::Begin)),
-        Piece::Tell(plain(Body::Enter { state: 1 })),
-    ];
-    assert!(rt; follows_with_points(rt.alloc(), &sys, &d, Cut::Anywhere, &records)?);
-    let pointed = [Piece::Tell(plain(Body::Begin)), Piece::Point];
-    assert!(rt; !follows_with_points(rt.alloc(), &sys, &d, Cut::Anywhere, &pointed)?);
+    let sys = system(rt.alloc())?;
+    for (records, want) in &POINTS {
+        assert!(rt; do_follow_with_points(rt.alloc(), &sys, records)? == *want);
+    }
     Ok(())
 }

@@ -66,30 +66,44 @@ fn whole_publications(rt: HostRuntime) -> Result<(), Fail> {
     Ok(())
 }
 
-/// Whether a list ends in an assertion, whether it stops in a publication, and whether it is a front of an action.
-fn parts(alloc: Global, lines: &[Line]) -> Result<(bool, bool, bool), AllocError> {
+/// What is asked of a list: whether it ends in an assertion, whether it stops in a publication, and whether it is a front of an action.
+#[derive(Clone, Copy)]
+enum Part {
+    Asserts,
+    Stops,
+    Begins,
+}
+
+fn is_part(alloc: Global, part: Part, lines: &[Line]) -> Result<bool, AllocError> {
     let sys = system(alloc)?;
     let told = all_told(alloc, lines)?;
     let scene = Scene::of(&sys, 1);
-    let told = told.as_slice();
-    Ok((
-        asserts(&scene, None, told),
-        stops_in_publication(&scene, told),
-        is_front(&scene, None, told),
-    ))
+    Ok(match part {
+        Part::Asserts => asserts(&scene, None, told.as_slice()),
+        Part::Stops => stops_in_publication(&scene, told.as_slice()),
+        Part::Begins => is_front(&scene, None, told.as_slice()),
+    })
 }
 
+const POSTED: [Line; 3] = [SHOWN, Raised(2), Posted(2, STATIC)];
+
+const REFUSED: [Line; 4] = [SHOWN, Raised(2), Posted(2, STATIC), NoEntry(1, 1)];
+
 /// A queue with no entry cuts a publication, and a lane may stop in one.
+const PARTS: [(Part, &[Line], bool); 7] = [
+    (Part::Asserts, &REFUSED, true),
+    (Part::Stops, &REFUSED, false),
+    (Part::Asserts, &POSTED, false),
+    (Part::Stops, &POSTED, true),
+    (Part::Begins, &POSTED, true),
+    (Part::Begins, &[Recall(POOLED), Referred(0)], true),
+    (Part::Begins, &[Posted(2, STATIC), Posted(1, STATIC)], false),
+];
+
 #[test]
 fn parts_of_publications(rt: HostRuntime) -> Result<(), Fail> {
-    let alloc = rt.alloc();
-    let (ends, stops, _) = parts(alloc, &[SHOWN, Raised(2), Posted(2, STATIC), NoEntry(1, 1)])?;
-    assert!(rt; ends && !stops);
-    let (ends, stops, begins) = parts(alloc, &[SHOWN, Raised(2), Posted(2, STATIC)])?;
-    assert!(rt; !ends && stops && begins);
-    let (_, _, begins) = parts(alloc, &[Recall(POOLED), Referred(0)])?;
-    assert!(rt; begins);
-    let (_, _, begins) = parts(alloc, &[Posted(2, STATIC), Posted(1, STATIC)])?;
-    assert!(rt; !begins);
+    for (i, (part, lines, want)) in PARTS.iter().enumerate() {
+        assert!(rt; is_part(rt.alloc(), *part, lines)? == *want, "case {i}");
+    }
     Ok(())
 }

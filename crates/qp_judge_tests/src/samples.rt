@@ -63,7 +63,7 @@ pub fn system(alloc: Global) -> Result<System, AllocError> {
 }
 
 /// A record beside which nothing is known.
-pub fn plain(body: Body) -> Told {
+fn plain(body: Body) -> Told {
     beside(body, Known::Nothing)
 }
 
@@ -167,12 +167,18 @@ pub fn told(line: &Line) -> Told {
     }
 }
 
-/// The records of lines.
-pub fn all_told(alloc: Global, lines: &[Line]) -> Result<Vec<Told>, AllocError> {
-    let mut all = Vec::new(alloc);
+/// Adds the records of lines.
+pub fn put_told(all: &mut Vec<Told>, lines: &[Line]) -> Result<(), AllocError> {
     for line in lines {
         all.push(told(line))?;
     }
+    Ok(())
+}
+
+/// The records of lines.
+pub fn all_told(alloc: Global, lines: &[Line]) -> Result<Vec<Told>, AllocError> {
+    let mut all = Vec::new(alloc);
+    put_told(&mut all, lines)?;
     Ok(all)
 }
 

@@ -8,9 +8,7 @@ use std::alloc::{AllocError, Global};
 use std::test::Fail;
 
 /// A tick, and then a settle.
-fn stimuli(alloc: Global) -> Result<Vec<Stim>, AllocError> {
-    Ok(vec![in alloc; Stim::Tick { rate: 0 }, Stim::Settle]?)
-}
+const STIMULI: [Stim; 2] = [Stim::Tick { rate: 0 }, Stim::Settle];
 
 fn told(alloc: Global, lane: &[Rec]) -> Result<Vec<Told>, AllocError> {
     let mut all = Vec::new(alloc);
@@ -23,13 +21,17 @@ fn told(alloc: Global, lane: &[Rec]) -> Result<Vec<Told>, AllocError> {
     Ok(all)
 }
 
+/// Whether these are the records of the source, under a kernel.
+fn is_lane(alloc: Global, kernel: u8, lane: &[Rec]) -> Result<bool, AllocError> {
+    let sys = system(alloc)?;
+    let told = told(alloc, lane)?;
+    is_source_lane(alloc, &sys, kernel, 0, &STIMULI, lane, told.as_slice())
+}
+
 /// A settle is tried in vain where a run has threads, and no two tries look alike.
 #[test]
 fn tries(rt: HostRuntime) -> Result<(), Fail> {
-    let alloc = rt.alloc();
-    let sys = system(alloc)?;
-    let stimuli = stimuli(alloc)?;
-    let lane = vec![in alloc;
+    let lane = [
         Rec::stim(1, 0),
         Rec::idle(0, 1, 0),
         Rec::stim(2, 0),
@@ -37,24 +39,38 @@ fn tries(rt: HostRuntime) -> Result<(), Fail> {
         Rec::seen(1, 1, 0, 0),
         Rec::settle(),
         Rec::seen(1, 1, 0, 1),
-    ]?;
-    let told = told(alloc, &lane)?;
-    assert!(rt; is_source_lane(alloc, &sys, 1, 0, &stimuli, &lane, &told)?);
-    assert!(rt; !is_source_lane(alloc, &sys, 0, 0, &stimuli, &lane, &told)?);
+    ];
+    for (kernel, want) in &[(1, true), (0, false)] {
+        assert!(rt;
+            is_lane(rt.alloc(), *kernel, &lane)? == *want,
+            "kernel {kernel}"
+        );
+    }
     Ok(())
+}
+
+/// Whether the lane may stop behind these records, within a stimulus.
+fn stops_within(alloc: Global, lane: &[Rec]) -> Result<bool, AllocError> {
+    let sys = system(alloc)?;
+    let told = told(alloc, lane)?;
+    let stops = may_stop(alloc, &sys, 1, &STIMULI, told.as_slice())?;
+    Ok(stops.in_stimulus && !stops.all_done && !stops.before_stimulus)
+}
+
+/// Whether a `spill` that cuts a stimulus may stand behind these records, or else one behind a whole stimulus.
+fn may_spill(alloc: Global, cuts: bool, lane: &[Rec]) -> Result<bool, AllocError> {
+    let sys = system(alloc)?;
+    let told = told(alloc, lane)?;
+    spill_stands(alloc, &sys, 1, cuts, &STIMULI, told.as_slice())
 }
 
 /// A timer that fired has yet to post.
 #[test]
 fn cuts(rt: HostRuntime) -> Result<(), Fail> {
-    let alloc = rt.alloc();
-    let sys = system(alloc)?;
-    let stimuli = stimuli(alloc)?;
-    let lane = vec![in alloc; Rec::stim(1, 0), Rec::fire(1, 0, 0)]?;
-    let told = told(alloc, &lane)?;
-    let stops = may_stop(alloc, &sys, 1, &stimuli, &told)?;
-    assert!(rt; stops.in_stimulus && !stops.all_done && !stops.before_stimulus);
-    assert!(rt; spill_stands(alloc, &sys, 1, true, &stimuli, &told)?);
-    assert!(rt; !spill_stands(alloc, &sys, 1, false, &stimuli, &told)?);
+    let lane = [Rec::stim(1, 0), Rec::fire(1, 0, 0)];
+    assert!(rt; stops_within(rt.alloc(), &lane)?);
+    for cuts in [true, false] {
+        assert!(rt; may_spill(rt.alloc(), cuts, &lane)? == cuts);
+    }
     Ok(())
 }
