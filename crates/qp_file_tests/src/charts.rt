@@ -2,9 +2,16 @@
 
 use crate::samples::{CHART, TREE};
 use qp_chart::{Chart, Row, State, Timer};
+use qp_model::System;
 use qp_system::system_of_bytes;
 use std::alloc::{AllocError, Global};
 use std::test::Fail;
+
+/// The system of a file whose chart ends so.
+fn system(alloc: Global, rest: &str) -> Result<System, Fail> {
+    let text = format!(in alloc; "{CHART}{rest}")?;
+    Ok(system_of_bytes(alloc, text.as_bytes())?)
+}
 
 /// Whether a row goes from GO to the first state without a guard, with one action.
 fn row_is_right(row: &Row) -> bool {
@@ -40,17 +47,20 @@ fn chart_is_right(chart: &Chart) -> bool {
         && state_is_right(&chart.state()[0])
 }
 
+fn is_small(charts: &[Chart]) -> bool {
+    match charts {
+        [chart] => chart_is_right(chart),
+        _ => false,
+    }
+}
+
 /// Names become numbers: states from 1, signals from 4.
 #[test]
 fn a_chart_is_read(rt: HostRuntime) -> Result<(), Fail> {
     let rest =
         "init = 's'\ntimer = [{ name = 'T', signal = 'TICK', rate = 0 }]\nstate = [{ name = 's', row = [{ on = 'GO', do = ['x = 1'], to = 's' }] }]";
-    let text = format!(in rt.alloc(); "{CHART}{rest}")?;
-    let sys = system_of_bytes(rt.alloc(), text.as_str().as_bytes())?;
-    let [chart] = sys.charts.items.as_slice() else {
-        return Err(Fail::from("one chart"));
-    };
-    assert!(rt; chart_is_right(chart));
+    let sys = system(rt.alloc(), rest)?;
+    assert!(rt; is_small(sys.charts.items.as_slice()));
     Ok(())
 }
 
@@ -80,47 +90,59 @@ fn tree_is_right(chart: &Chart) -> bool {
         && chart.state()[1].init() == Some(5)
 }
 
+fn is_tree(charts: &[Chart]) -> bool {
+    match charts {
+        [chart] => tree_is_right(chart),
+        _ => false,
+    }
+}
+
 /// The tree of the worked transitions.
 #[test]
 fn a_tree_is_read(rt: HostRuntime) -> Result<(), Fail> {
-    let text = format!(in rt.alloc(); "{CHART}{TREE}")?;
-    let sys = system_of_bytes(rt.alloc(), text.as_str().as_bytes())?;
-    let [chart] = sys.charts.items.as_slice() else {
-        return Err(Fail::from("one chart"));
-    };
-    assert!(rt; tree_is_right(chart));
+    let sys = system(rt.alloc(), TREE)?;
+    assert!(rt; is_tree(sys.charts.items.as_slice()));
     Ok(())
 }
 
-/// The file of the largest chart: 64 states with 32 rows of 16 actions each.
-fn largest(alloc: Global) -> Result<String, AllocError> {
-    let mut row = String::from_str(alloc, "{ on = 'GO', when = 'x == 1', to = 's1', do = [")?;
-    for _ in 0..16 {
-        row.push_str("'x = x + 1',")?;
-    }
-    row.push_str("] },")?;
-    let mut text = format!(in alloc; "{CHART}init = 's1'\nstate = [\n")?;
+/// Rows of 16 actions each.
+fn rows(alloc: Global, count: usize) -> Result<String, AllocError> {
+    let acts = "'x = x + 1',".repeat(alloc, 16)?;
+    let row = format!(in alloc; "{{ on = 'GO', when = 'x == 1', to = 's1', do = [{acts}] }},")?;
+    row.repeat(alloc, count)
+}
+
+/// States with these rows.
+fn put_states(text: &mut String, alloc: Global, rows: &str) -> Result<(), AllocError> {
     for i in 1..=64u8 {
-        text.push_str(format!(in alloc; "{{ name = 's{i}', row = [")?.as_str())?;
-        for _ in 0..32 {
-            text.push_str(row.as_str())?;
-        }
-        text.push_str("] },\n")?;
+        let state = format!(in alloc; "{{ name = 's{i}', row = [{rows}] }},\n")?;
+        text.push_str(state.as_str())?;
     }
-    text.push_str("]\n")?;
+    text.push_str("]\n")
+}
+
+/// The end of the file of the largest chart: 64 states with 32 rows of 16 actions each.
+fn largest(alloc: Global) -> Result<String, AllocError> {
+    let rows = rows(alloc, 32)?;
+    let mut text = String::from_str(alloc, "init = 's1'\nstate = [\n")?;
+    put_states(&mut text, alloc, rows.as_str())?;
     Ok(text)
+}
+
+fn is_largest(charts: &[Chart]) -> bool {
+    match charts {
+        [chart] => {
+            chart.state().len() == 64 && chart.state().iter().all(|state| state.row().len() == 32)
+        }
+        _ => false,
+    }
 }
 
 /// Memory is there for the largest chart.
 #[test]
 fn the_largest_chart_is_read(rt: HostRuntime) -> Result<(), Fail> {
-    let text = largest(rt.alloc())?;
-    let sys = system_of_bytes(rt.alloc(), text.as_str().as_bytes())?;
-    let [chart] = sys.charts.items.as_slice() else {
-        return Err(Fail::from("one chart"));
-    };
-    assert!(rt;
-        chart.state().len() == 64 && chart.state().iter().all(|state| state.row().len() == 32)
-    );
+    let rest = largest(rt.alloc())?;
+    let sys = system(rt.alloc(), rest.as_str())?;
+    assert!(rt; is_largest(sys.charts.items.as_slice()));
     Ok(())
 }

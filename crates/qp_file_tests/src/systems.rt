@@ -1,11 +1,36 @@
 //! The systems of the files of worked runs.
 
 use crate::samples::{GEN, LAMP, PAIR, PRIO, SIGNALS, SUM, TABLE, THREE};
-use qp_model::System;
+use qp_model::{ObjectDef, System, TimerDef};
 use qp_system::system_of_bytes;
 use std::alloc::{AllocError, Global};
 use std::process::Abort;
 use std::test::Fail;
+
+fn put_object(text: &mut String, alloc: Global, object: &ObjectDef) -> Result<(), AllocError> {
+    let name = &object.name;
+    let (chart, priority, threshold) = (object.chart, object.priority, object.threshold);
+    let (ring, defer, vars) = (object.ring, object.defer, object.vars.items.as_slice());
+    let line = format!(in alloc;
+        "\n{name} {chart} {priority} {threshold} {ring} {defer} {vars:?}"
+    )?;
+    text.push_str(line.as_str())
+}
+
+fn put_timer(text: &mut String, alloc: Global, timer: &TimerDef) -> Result<(), AllocError> {
+    let line = format!(in alloc; "\n{} {} {}", timer.object, timer.sig, timer.rate)?;
+    text.push_str(line.as_str())
+}
+
+fn put_lines(text: &mut String, alloc: Global, sys: &System) -> Result<(), AllocError> {
+    for object in &sys.objects.items {
+        put_object(text, alloc, object)?;
+    }
+    for timer in &sys.timers.items {
+        put_timer(text, alloc, timer)?;
+    }
+    Ok(())
+}
 
 /// A line for the counts of pools, signals and charts, one for each object and one for each time event.
 fn outline(alloc: Global, sys: &System) -> Result<String, AllocError> {
@@ -13,20 +38,17 @@ fn outline(alloc: Global, sys: &System) -> Result<String, AllocError> {
     let signals = sys.signals.items.len();
     let charts = sys.charts.items.len();
     let mut text = format!(in alloc; "{pools} {signals} {charts}")?;
-    for object in &sys.objects.items {
-        let name = &object.name;
-        let (chart, priority, threshold) = (object.chart, object.priority, object.threshold);
-        let (ring, defer, vars) = (object.ring, object.defer, object.vars.items.as_slice());
-        let line = format!(in alloc;
-            "\n{name} {chart} {priority} {threshold} {ring} {defer} {vars:?}"
-        )?;
-        text.push_str(&line)?;
-    }
-    for timer in &sys.timers.items {
-        let line = format!(in alloc; "\n{} {} {}", timer.object, timer.sig, timer.rate)?;
-        text.push_str(&line)?;
-    }
+    put_lines(&mut text, alloc, sys)?;
     Ok(text)
+}
+
+/// What a file made of these two texts says, or why it is refused.
+fn said(alloc: Global, front: &str, rest: &str) -> Result<String, AllocError> {
+    let text = format!(in alloc; "{front}{rest}")?;
+    match system_of_bytes(alloc, text.as_bytes()) {
+        Ok(sys) => outline(alloc, &sys),
+        Err(fault) => format!(in alloc; "{fault}"),
+    }
 }
 
 /// Asserts what a file made of these two texts says.
@@ -37,21 +59,26 @@ fn expect(
     rest: &str,
     want: &str,
 ) -> Result<(), AllocError> {
-    let text = format!(in alloc; "{front}{rest}")?;
-    match system_of_bytes(alloc, text.as_bytes()) {
-        Ok(sys) => {
-            let found = outline(alloc, &sys)?;
-            assert_eq!(rt; found.as_str(), want, "in {text}");
-            Ok(())
-        }
-        Err(fault) => {
-            assert!(rt; false, "{fault} in {text}");
-            Ok(())
-        }
-    }
+    let found = said(alloc, front, rest)?;
+    assert!(rt; found.as_str() == want, "{found} of {front}{rest}");
+    Ok(())
 }
 
-const FILES: [(&str, &str, &str); 5] = [
+/// Time events of two charts, whose objects stand in descending priority; one of two first values is replaced.
+const TIMES: &str = "chart = [
+  { name = 'one', init = 's', vars = { y = -7, x = 3 }, state = [{ name = 's' }], timer = [
+    { name = 'B', signal = 'TB', rate = 3 }, { name = 'A', signal = 'TA', rate = 1 },
+  ] },
+  { name = 'two', init = 's', state = [{ name = 's' }], timer = [{ name = 'A', signal = 'GO', rate = 2 }] },
+]
+object = [
+  { name = 'c', chart = 'one', priority = 32, queue = 0, defer = 255 },
+  { name = 'b', chart = 'two', priority = 7, threshold = 9, queue = 255 },
+  { name = 'a', chart = 'one', priority = 2, queue = 1, vars = { y = 5 } },
+]
+pool = [{ size = 1, blocks = 1 }, { size = 8, blocks = 32 }]";
+
+const FILES: [(&str, &str, &str); 7] = [
     (LAMP, "", "0 1 1\nlamp 1 1 1 1 0 []"),
     (PAIR, "", "0 1 2\na 1 1 1 1 0 []\nb 2 2 2 1 0 []"),
     (SUM, "", "1 1 1\nsum 1 1 1 31 0 [0]"),
@@ -60,6 +87,17 @@ const FILES: [(&str, &str, &str); 5] = [
         SIGNALS,
         THREE,
         "1 5 2\no1 1 1 1 1 0 []\no2 1 2 2 1 0 []\no3 2 3 3 1 0 [0]",
+    ),
+    // Objects in ascending priority wherever they stand, variables in ascending name, and time events by object.
+    (
+        TABLE,
+        "",
+        "2 4 2\nann 1 1 1 7 0 [1, 2]\nbob 1 2 2 7 0 [2, 4]\ncat 1 3 3 7 0 [4, 8]\ndan 1 4 4 7 0 [8, 16]\neve 1 5 5 7 0 [16, 1]\ntable 2 6 6 7 5 [0]\n1 4 0\n2 4 0\n3 4 0\n4 4 0\n5 4 0",
+    ),
+    (
+        SIGNALS,
+        TIMES,
+        "2 5 2\na 1 2 2 1 0 [3, 5]\nb 2 7 9 255 0 []\nc 1 32 32 0 255 [3, -7]\n2 8 3\n2 7 1\n7 4 2\n32 8 3\n32 7 1",
     ),
 ];
 
@@ -72,36 +110,6 @@ fn named_files(rt: HostRuntime) -> Result<(), Fail> {
     Ok(())
 }
 
-/// Objects in ascending priority wherever they stand, variables in ascending name, and time events by object.
-#[test]
-fn philosophers(rt: HostRuntime) -> Result<(), Fail> {
-    let want =
-        "2 4 2\nann 1 1 1 7 0 [1, 2]\nbob 1 2 2 7 0 [2, 4]\ncat 1 3 3 7 0 [4, 8]\ndan 1 4 4 7 0 [8, 16]\neve 1 5 5 7 0 [16, 1]\ntable 2 6 6 7 5 [0]\n1 4 0\n2 4 0\n3 4 0\n4 4 0\n5 4 0";
-    expect(&rt, rt.alloc(), TABLE, "", want)?;
-    Ok(())
-}
-
-/// Time events of two charts, whose objects stand in descending priority; one of two first values is replaced.
-#[test]
-fn time_events(rt: HostRuntime) -> Result<(), Fail> {
-    let rest = "chart = [
-  { name = 'one', init = 's', vars = { y = -7, x = 3 }, state = [{ name = 's' }], timer = [
-    { name = 'B', signal = 'TB', rate = 3 }, { name = 'A', signal = 'TA', rate = 1 },
-  ] },
-  { name = 'two', init = 's', state = [{ name = 's' }], timer = [{ name = 'A', signal = 'GO', rate = 2 }] },
-]
-object = [
-  { name = 'c', chart = 'one', priority = 32, queue = 0, defer = 255 },
-  { name = 'b', chart = 'two', priority = 7, threshold = 9, queue = 255 },
-  { name = 'a', chart = 'one', priority = 2, queue = 1, vars = { y = 5 } },
-]
-pool = [{ size = 1, blocks = 1 }, { size = 8, blocks = 32 }]";
-    let want =
-        "2 5 2\na 1 2 2 1 0 [3, 5]\nb 2 7 9 255 0 []\nc 1 32 32 0 255 [3, -7]\n2 8 3\n2 7 1\n7 4 2\n32 8 3\n32 7 1";
-    expect(&rt, rt.alloc(), SIGNALS, rest, want)?;
-    Ok(())
-}
-
 /// A system of one object `lamp` and one chart `c` with the initial state `s`, whose other keys follow.
 fn one(alloc: Global, queue: u8, defer: u8, blocks: u8, chart: &str) -> Result<String, AllocError> {
     format!(in alloc;
@@ -109,7 +117,8 @@ fn one(alloc: Global, queue: u8, defer: u8, blocks: u8, chart: &str) -> Result<S
     )
 }
 
-const ONES: [(u8, u8, u8, &str, &str); 8] = [
+/// The systems of one object, by their queue, deferred events, blocks and chart.
+const ONES: [(u8, u8, u8, &str, &str); 11] = [
     (
         1,
         0,
@@ -166,9 +175,30 @@ const ONES: [(u8, u8, u8, &str, &str); 8] = [
         "init = 's'\nstate = [{ name = 's', row = [{ on = 'GO', do = ['say -4'] }] }]",
         "1 5 1\nlamp 1 1 1 1 0 []",
     ),
+    // Nested states, and time events.
+    (
+        3,
+        0,
+        2,
+        "init = 'c'\nstate = [{ name = 'a', row = [{ on = 'GO', do = ['say 7'] }] }, { name = 'b', parent = 'a' }, { name = 'c', parent = 'b', row = [{ on = 'GO', when = '0', do = ['say 1'] }] }]",
+        "1 5 1\nlamp 1 1 1 3 0 []",
+    ),
+    (
+        3,
+        0,
+        2,
+        "init = 'f'\nstate = [{ name = 'a' }, { name = 'b', parent = 'a', init = 'e' }, { name = 'c', parent = 'b' }, { name = 'd', parent = 'c' }, { name = 'e', parent = 'd' }, { name = 'f', parent = 'e' }, { name = 'g', parent = 'a' }, { name = 'h', parent = 'g' }, { name = 'k' }]",
+        "1 5 1\nlamp 1 1 1 3 0 []",
+    ),
+    (
+        3,
+        0,
+        2,
+        "init = 's'\ninit_do = ['arm A(2, 0)', 'arm B(2, 2)']\ntimer = [{ name = 'A', signal = 'TA', rate = 0 }, { name = 'B', signal = 'TB', rate = 0 }]\nstate = [{ name = 's', row = [{ on = 'GO', do = ['disarm A', 'say ok', 'arm B(1, 0)'] }] }]",
+        "1 5 1\nlamp 1 1 1 3 0 []\n1 7 0\n1 8 0",
+    ),
 ];
 
-/// The systems of one object, by their queue, deferred events, blocks and chart.
 #[test]
 fn one_object(rt: HostRuntime) -> Result<(), Fail> {
     for (queue, defer, blocks, chart, want) in &ONES {
@@ -178,55 +208,30 @@ fn one_object(rt: HostRuntime) -> Result<(), Fail> {
     Ok(())
 }
 
-const MORE: [(&str, &str); 3] = [
-    (
-        "init = 'c'\nstate = [{ name = 'a', row = [{ on = 'GO', do = ['say 7'] }] }, { name = 'b', parent = 'a' }, { name = 'c', parent = 'b', row = [{ on = 'GO', when = '0', do = ['say 1'] }] }]",
-        "1 5 1\nlamp 1 1 1 3 0 []",
-    ),
-    (
-        "init = 'f'\nstate = [{ name = 'a' }, { name = 'b', parent = 'a', init = 'e' }, { name = 'c', parent = 'b' }, { name = 'd', parent = 'c' }, { name = 'e', parent = 'd' }, { name = 'f', parent = 'e' }, { name = 'g', parent = 'a' }, { name = 'h', parent = 'g' }, { name = 'k' }]",
-        "1 5 1\nlamp 1 1 1 3 0 []",
-    ),
-    (
-        "init = 's'\ninit_do = ['arm A(2, 0)', 'arm B(2, 2)']\ntimer = [{ name = 'A', signal = 'TA', rate = 0 }, { name = 'B', signal = 'TB', rate = 0 }]\nstate = [{ name = 's', row = [{ on = 'GO', do = ['disarm A', 'say ok', 'arm B(1, 0)'] }] }]",
-        "1 5 1\nlamp 1 1 1 3 0 []\n1 7 0\n1 8 0",
-    ),
-];
-
-/// Nested states, and time events.
-#[test]
-fn one_object_more(rt: HostRuntime) -> Result<(), Fail> {
-    for (chart, want) in &MORE {
-        let text = one(rt.alloc(), 3, 0, 2, chart)?;
-        expect(&rt, rt.alloc(), &text, "", want)?;
-    }
-    Ok(())
-}
-
-/// Three objects of the priorities 1, 3 and 4, by the keys that `low` and `three` have besides.
-fn prio(alloc: Global, low: &str, three: &str) -> Result<String, AllocError> {
+/// Three objects of the priorities 1, 3 and 4, by the keys that `low` has besides.
+fn prio(alloc: Global, low: &str) -> Result<String, AllocError> {
     format!(in alloc;
-        "{SIGNALS}{PRIO}object = [\n{{ name = 'low', chart = 'c', priority = 1, queue = 1{low} }},\n{{ name = 'three', chart = 'q', priority = 3, queue = 1{three} }},\n{{ name = 'top', chart = 'q', priority = 4, queue = 1 }},\n]\n"
+        "{SIGNALS}{PRIO}object = [\n{{ name = 'low', chart = 'c', priority = 1, queue = 1{low} }},\n{{ name = 'three', chart = 'q', priority = 3, queue = 1 }},\n{{ name = 'top', chart = 'q', priority = 4, queue = 1 }},\n]\n"
     )
 }
+
+const PRIOS: [(&str, &str); 2] = [
+    (
+        "",
+        "1 5 2\nlow 1 1 1 1 0 []\nthree 2 3 3 1 0 []\ntop 2 4 4 1 0 []",
+    ),
+    (
+        ", threshold = 3",
+        "1 5 2\nlow 1 1 3 1 0 []\nthree 2 3 3 1 0 []\ntop 2 4 4 1 0 []",
+    ),
+];
 
 /// A threshold is the priority where the file has none.
 #[test]
 fn thresholds(rt: HostRuntime) -> Result<(), Fail> {
-    let alloc = rt.alloc();
-    expect(
-        &rt,
-        alloc,
-        &prio(alloc, "", "")?,
-        "",
-        "1 5 2\nlow 1 1 1 1 0 []\nthree 2 3 3 1 0 []\ntop 2 4 4 1 0 []",
-    )?;
-    expect(
-        &rt,
-        alloc,
-        &prio(alloc, ", threshold = 3", "")?,
-        "",
-        "1 5 2\nlow 1 1 3 1 0 []\nthree 2 3 3 1 0 []\ntop 2 4 4 1 0 []",
-    )?;
+    for (low, want) in &PRIOS {
+        let text = prio(rt.alloc(), low)?;
+        expect(&rt, rt.alloc(), &text, "", want)?;
+    }
     Ok(())
 }
