@@ -37,7 +37,7 @@ use Rattle.qp_dispatch.specs.Runs.{Setting}
 use Rattle.qp_dispatch.specs.SoundFor.{IsHome}
 use Rattle.qp_dispatch.proofs.SoundAble.{sound-ready}
 use Rattle.qp_dispatch.proofs.Taking.{taken-is}
-use Rattle.qp_dispatch_tests.specs.declared.trial.Actor.{Actor}
+use Rattle.qp_dispatch_tests.specs.declared.actor.Actor.{Actor}
 use Rattle.qp_dispatch_tests.specs.Trial.{AfterPart, AfterStart, IsBase, IsKnown, IsOnItsWay, IsResting, IsUnstarted}
 use Rattle.qp_dispatch_tests.proofs.LaneLemmas.{base-lane, base-quiet, base-room, lane-base, look-told}
 

@@ -15,8 +15,8 @@ use Rattle.qp_dispatch.specs.declared.steps.Step.{Step}
 use Rattle.qp_dispatch.specs.declared.steps.Step.TheVariants as step
 use Rattle.qp_dispatch.specs.Objects.{home_of}
 use Rattle.qp_dispatch.specs.Resume.{IsReady, IsUnderWay}
-use Rattle.qp_dispatch_tests.specs.declared.trial.Actor.{Actor}
-use Rattle.qp_dispatch_tests.specs.declared.trial.End.{End}
+use Rattle.qp_dispatch_tests.specs.declared.actor.Actor.{Actor}
+use Rattle.qp_dispatch_tests.specs.declared.actor.End.{End}
 
 -- the lane is of this sound system, serves all objects, and has this ceiling and no `spill`
 pub record IsBase (sys : System) (ceiling : ℕ) (v : LaneView) : Type 0 where

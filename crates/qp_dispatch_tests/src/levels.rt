@@ -1,6 +1,6 @@
 //! Transitions: in every direction of a tree of nine states, and over six levels with actions at each.
 
-use crate::bench::{plain, text_after};
+use crate::bench::{Case, PLAIN, see, see_all, see_points};
 use crate::trial::Plan;
 use std::test::Fail;
 
@@ -28,61 +28,156 @@ state = [
 ]
 ";
 
-/// The signal, the notes of a step from f, and the leaf after it.
-const STEPS: [(u16, &str, u8); 10] = [
-    (4, "run 1 6 1, exit 1 6, enter 1 6", 6),
-    (
-        5,
-        "run 1 3 1, exit 1 6, exit 1 5, exit 1 4, exit 1 3, enter 1 3",
-        3,
-    ),
-    (6, "run 1 3 2, exit 1 6, exit 1 5, exit 1 4, enter 1 4", 4),
-    (
-        7,
-        "run 1 3 3, exit 1 6, exit 1 5, exit 1 4, enter 1 4, enter 1 5, enter 1 6",
-        6,
-    ),
-    (8, "run 1 6 2, exit 1 6", 5),
-    (
-        9,
-        "run 1 5 1, exit 1 6, exit 1 5, exit 1 4, exit 1 3, init 1 2, enter 1 3, enter 1 4, enter 1 5",
-        5,
-    ),
-    (
-        10,
-        "run 1 2 1, exit 1 6, exit 1 5, exit 1 4, exit 1 3, exit 1 2, enter 1 7",
-        7,
-    ),
-    (
-        11,
-        "run 1 4 1, exit 1 6, exit 1 5, exit 1 4, exit 1 3, exit 1 2, enter 1 7, enter 1 8",
-        8,
-    ),
-    (
-        12,
-        "run 1 6 3, exit 1 6, exit 1 5, exit 1 4, exit 1 3, exit 1 2, exit 1 1, enter 1 9",
-        9,
-    ),
-    (
-        13,
-        "run 1 1 1, exit 1 6, exit 1 5, exit 1 4, exit 1 3, exit 1 2, exit 1 1, enter 1 1",
-        1,
-    ),
+/// The start, whose leaf is f.
+const IN_F: &str =
+    "begin 1, enter 1 1, enter 1 2, enter 1 3, enter 1 4, enter 1 5, enter 1 6, done 1";
+
+const STEPS: [Case<'static>; 10] = [
+    Case {
+        name: "FF",
+        system: &[TREE],
+        plan: Plan {
+            posts: &[(1, 4)],
+            ..PLAIN
+        },
+        records: &[
+            "post 0 1 1 0 0 0 4 0",
+            IN_F,
+            "took 1 1 0 1 0 4 0, run 1 6 1, exit 1 6, enter 1 6, done 1, nil 1 1 0 1",
+        ],
+        report: "empty leaf 6 taken 1",
+    },
+    Case {
+        name: "CC",
+        system: &[TREE],
+        plan: Plan {
+            posts: &[(1, 5)],
+            ..PLAIN
+        },
+        records: &[
+            "post 0 1 1 0 0 0 5 0",
+            IN_F,
+            "took 1 1 0 1 0 5 0, run 1 3 1, exit 1 6, exit 1 5, exit 1 4, exit 1 3, enter 1 3, done 1, nil 1 1 0 1",
+        ],
+        report: "empty leaf 3 taken 1",
+    },
+    Case {
+        name: "CD",
+        system: &[TREE],
+        plan: Plan {
+            posts: &[(1, 6)],
+            ..PLAIN
+        },
+        records: &[
+            "post 0 1 1 0 0 0 6 0",
+            IN_F,
+            "took 1 1 0 1 0 6 0, run 1 3 2, exit 1 6, exit 1 5, exit 1 4, enter 1 4, done 1, nil 1 1 0 1",
+        ],
+        report: "empty leaf 4 taken 1",
+    },
+    Case {
+        name: "CF",
+        system: &[TREE],
+        plan: Plan {
+            posts: &[(1, 7)],
+            ..PLAIN
+        },
+        records: &[
+            "post 0 1 1 0 0 0 7 0",
+            IN_F,
+            "took 1 1 0 1 0 7 0, run 1 3 3, exit 1 6, exit 1 5, exit 1 4, enter 1 4, enter 1 5, enter 1 6, done 1, nil 1 1 0 1",
+        ],
+        report: "empty leaf 6 taken 1",
+    },
+    Case {
+        name: "FE",
+        system: &[TREE],
+        plan: Plan {
+            posts: &[(1, 8)],
+            ..PLAIN
+        },
+        records: &[
+            "post 0 1 1 0 0 0 8 0",
+            IN_F,
+            "took 1 1 0 1 0 8 0, run 1 6 2, exit 1 6, done 1, nil 1 1 0 1",
+        ],
+        report: "empty leaf 5 taken 1",
+    },
+    Case {
+        name: "EB",
+        system: &[TREE],
+        plan: Plan {
+            posts: &[(1, 9)],
+            ..PLAIN
+        },
+        records: &[
+            "post 0 1 1 0 0 0 9 0",
+            IN_F,
+            "took 1 1 0 1 0 9 0, run 1 5 1, exit 1 6, exit 1 5, exit 1 4, exit 1 3, init 1 2, enter 1 3, enter 1 4, enter 1 5, done 1, nil 1 1 0 1",
+        ],
+        report: "empty leaf 5 taken 1",
+    },
+    Case {
+        name: "BG",
+        system: &[TREE],
+        plan: Plan {
+            posts: &[(1, 10)],
+            ..PLAIN
+        },
+        records: &[
+            "post 0 1 1 0 0 0 10 0",
+            IN_F,
+            "took 1 1 0 1 0 10 0, run 1 2 1, exit 1 6, exit 1 5, exit 1 4, exit 1 3, exit 1 2, enter 1 7, done 1, nil 1 1 0 1",
+        ],
+        report: "empty leaf 7 taken 1",
+    },
+    Case {
+        name: "DH",
+        system: &[TREE],
+        plan: Plan {
+            posts: &[(1, 11)],
+            ..PLAIN
+        },
+        records: &[
+            "post 0 1 1 0 0 0 11 0",
+            IN_F,
+            "took 1 1 0 1 0 11 0, run 1 4 1, exit 1 6, exit 1 5, exit 1 4, exit 1 3, exit 1 2, enter 1 7, enter 1 8, done 1, nil 1 1 0 1",
+        ],
+        report: "empty leaf 8 taken 1",
+    },
+    Case {
+        name: "FK",
+        system: &[TREE],
+        plan: Plan {
+            posts: &[(1, 12)],
+            ..PLAIN
+        },
+        records: &[
+            "post 0 1 1 0 0 0 12 0",
+            IN_F,
+            "took 1 1 0 1 0 12 0, run 1 6 3, exit 1 6, exit 1 5, exit 1 4, exit 1 3, exit 1 2, exit 1 1, enter 1 9, done 1, nil 1 1 0 1",
+        ],
+        report: "empty leaf 9 taken 1",
+    },
+    Case {
+        name: "AA",
+        system: &[TREE],
+        plan: Plan {
+            posts: &[(1, 13)],
+            ..PLAIN
+        },
+        records: &[
+            "post 0 1 1 0 0 0 13 0",
+            IN_F,
+            "took 1 1 0 1 0 13 0, run 1 1 1, exit 1 6, exit 1 5, exit 1 4, exit 1 3, exit 1 2, exit 1 1, enter 1 1, done 1, nil 1 1 0 1",
+        ],
+        report: "empty leaf 1 taken 1",
+    },
 ];
 
 #[test]
 fn each_direction_exits_and_enters(rt: HostRuntime) -> Result<(), Fail> {
-    let alloc = rt.alloc();
-    for (signal, notes, leaf) in &STEPS {
-        let posts = [(1, *signal)];
-        let text = text_after(&rt, alloc, TREE, &plain(&posts))?;
-        let wanted = format!(in alloc;
-            "post 0 1 1 0 0 0 {signal} 0, begin 1, enter 1 1, enter 1 2, enter 1 3, enter 1 4, enter 1 5, enter 1 6, done 1, took 1 1 0 1 0 {signal} 0, {notes}, done 1, nil 1 1 0 1
-empty leaf {leaf} taken 1"
-        )?;
-        assert_eq!(rt; text.as_str(), wanted.as_str());
-    }
-    Ok(())
+    see_all(&rt, rt.alloc(), &STEPS)
 }
 
 /// Two chains of six states, each with an entry and an exit action.
@@ -109,12 +204,9 @@ state = [
 ]
 ";
 
-/// The start has no scheduling point.
-const START: &str =
-    "post 0 1 1 0 0 0 5 0, post 0 1 2 0 0 0 4 0, begin 1, say 1 1, lock 1 2, say 1 3, say 1 4, unlock 1 0, say 1 5, enter 1 1, say 1 11, init 1 1, say 1 91, enter 1 2, say 1 12, enter 1 3, say 1 13, init 1 3, lock 1 1, say 1 92, unlock 1 0, enter 1 4, say 1 14, enter 1 5, say 1 15, enter 1 6, say 1 16, say 1 116, done 1";
-
-/// What comes up to each scheduling point of the two steps.
-const PARTS: [&str; 31] = [
+/// What comes up to each scheduling point of the two steps. The start has none.
+const RECORDS: [&str; 33] = [
+    "post 0 1 1 0 0 0 5 0, post 0 1 2 0 0 0 4 0, begin 1, say 1 1, lock 1 2, say 1 3, say 1 4, unlock 1 0, say 1 5, enter 1 1, say 1 11, init 1 1, say 1 91, enter 1 2, say 1 12, enter 1 3, say 1 13, init 1 3, lock 1 1, say 1 92, unlock 1 0, enter 1 4, say 1 14, enter 1 5, say 1 15, enter 1 6, say 1 16, say 1 116, done 1",
     "took 1 2 0 1 0 5 0, run 1 6 1, lock 1 3, say 1 6, look 0 1 3",
     "unlock 1 0, look 0 2 0",
     "exit 1 6, say 1 26, look 0 3 0",
@@ -146,32 +238,26 @@ const PARTS: [&str; 31] = [
     "enter 1 5, say 1 15, look 0 29 0",
     "enter 1 6, say 1 16, look 0 30 0",
     "say 1 116, look 0 31 0",
+    "done 1, nil 1 2 0 2",
 ];
+
+/// The two steps whole.
+const THERE_AND_BACK: Case<'static> = Case {
+    name: "two steps",
+    system: &[CHAINS],
+    plan: Plan {
+        posts: &[(1, 5), (1, 4)],
+        ..PLAIN
+    },
+    records: &RECORDS,
+    report: "empty leaf 6 taken 2",
+};
 
 /// The two steps whole, and ended at each of their scheduling points. The leaf is the former one until its step is done.
 #[test]
 fn transitions_over_six_levels_end_at_any_point(rt: HostRuntime) -> Result<(), Fail> {
     let alloc = rt.alloc();
-    let posts = [(1, 5), (1, 4)];
-    let mut wanted = String::from_str(alloc, START)?;
-    for (i, part) in PARTS.iter().enumerate() {
-        wanted.push_str(", ")?;
-        wanted.push_str(part)?;
-        let mut there = String::from_str(alloc, wanted.as_str())?;
-        there.push_str(if i < 14 {
-            "\nleft leaf 6 taken 1"
-        } else {
-            "\nleft leaf 12 taken 2"
-        })?;
-        let plan = Plan {
-            until: i as u32 + 1,
-            ..plain(&posts)
-        };
-        let text = text_after(&rt, alloc, CHAINS, &plan)?;
-        assert_eq!(rt; text.as_str(), there.as_str());
-    }
-    wanted.push_str(", done 1, nil 1 2 0 2\nempty leaf 6 taken 2")?;
-    let text = text_after(&rt, alloc, CHAINS, &plain(&posts))?;
-    assert_eq!(rt; text.as_str(), wanted.as_str());
-    Ok(())
+    see_points(&rt, alloc, &THERE_AND_BACK, 1, 14, "left leaf 6 taken 1")?;
+    see_points(&rt, alloc, &THERE_AND_BACK, 15, 31, "left leaf 12 taken 2")?;
+    see(&rt, alloc, &THERE_AND_BACK)
 }

@@ -4,6 +4,8 @@
 //! texts.
 #![tactic(auto)]
 
+// Named by the definitions of specs/, which stand outside of tests too.
+mod actor;
 #[cfg(test)]
 mod answers;
 #[cfg(test)]
@@ -24,4 +26,5 @@ mod refusals;
 mod shown;
 #[cfg(test)]
 mod systems;
-pub mod trial;
+#[cfg(test)]
+mod trial;

@@ -1,11 +1,15 @@
 //! Each action once refused, and once in its assertion.
 
-use crate::bench::{plain, text_after};
+use crate::bench::{Case, PLAIN, see};
 use crate::systems::pair;
+use crate::trial::Plan;
 use std::test::Fail;
 
 /// The queue of object 2 is full before object 1 starts.
-const POSTS: [(u8, u16); 2] = [(2, 6), (1, 4)];
+const PLAN: Plan<'static> = Plan {
+    posts: &[(2, 6), (1, 4)],
+    ..PLAIN
+};
 
 /// The actions of a row, and what they do. Each refusal answers 0 where an answer before it was 1.
 const REFUSED: [(&str, &str); 14] = [
@@ -69,88 +73,128 @@ const REFUSED: [(&str, &str); 14] = [
 
 #[test]
 fn each_action_that_is_refused_answers_0(rt: HostRuntime) -> Result<(), Fail> {
-    let alloc = rt.alloc();
     for (acts, records) in &REFUSED {
-        let system = pair(alloc, "", acts)?;
-        let text = text_after(&rt, alloc, system.as_str(), &plain(&POSTS))?;
-        let wanted = format!(in alloc;
-            "post 0 2 1 0 0 0 6 0, post 0 1 1 0 0 0 4 0, begin 1, enter 1 1, done 1, took 1 1 0 1 0 4 0, run 1 1 1, {records}, done 1, nil 1 1 0 1
-empty leaf 1 taken 1"
-        )?;
-        assert_eq!(rt; text.as_str(), wanted.as_str());
+        let case = Case {
+            name: acts,
+            system: &pair("", acts),
+            plan: PLAN,
+            records: &[
+                "post 0 2 1 0 0 0 6 0, post 0 1 1 0 0 0 4 0, begin 1, enter 1 1, done 1, took 1 1 0 1 0 4 0, run 1 1 1",
+                records,
+                "done 1, nil 1 1 0 1",
+            ],
+            report: "empty leaf 1 taken 1",
+        };
+        see(&rt, rt.alloc(), &case)?;
     }
     Ok(())
 }
 
-/// The actions of a row, the code of their assertion, and what they do. Timer 1 is armed, and timer 2 isn't.
-const ASSERTED: [(&str, u8, &str); 21] = [
-    ("'post peer X', 'say ok'", 1, "assert 1 1 2 1 0 0"),
+/// The actions of a row, the report with the code of their assertion, and what they do. Timer 1 is armed, and timer 2 isn't.
+const ASSERTED: [(&str, &str, &str); 21] = [
+    (
+        "'post peer X', 'say ok'",
+        "stopped 1 leaf 1 taken 1",
+        "assert 1 1 2 1 0 0",
+    ),
     (
         "'post peer N(3)', 'say ok'",
-        1,
+        "stopped 1 leaf 1 taken 1",
         "new 1 1 0 0 0 5 3, inc 1 1 0 0, assert 1 1 2 1 0 0",
     ),
     (
         "'post me N(1)', 'post me N(2)', 'say ok'",
-        2,
+        "stopped 2 leaf 1 taken 1",
         "new 1 1 0 0 0 5 1, inc 1 1 0 0, post 1 1 2 0 1 1 0 0, look 0 1 0, assert 1 2 1 1 0",
     ),
     (
         "'post me N(1)', 'lifo N(2)', 'say ok'",
-        2,
+        "stopped 2 leaf 1 taken 1",
         "new 1 1 0 0 0 5 1, inc 1 1 0 0, post 1 1 2 0 1 1 0 0, look 0 1 0, assert 1 2 1 1 0",
     ),
     (
         "'post me N(1)', 'publish N(2)', 'say ok'",
-        2,
+        "stopped 2 leaf 1 taken 1",
         "new 1 1 0 0 0 5 1, inc 1 1 0 0, post 1 1 2 0 1 1 0 0, look 0 1 0, assert 1 2 1 1 0",
     ),
     (
         "'post me X', 'lifo X', 'say ok'",
-        5,
+        "stopped 5 leaf 1 taken 1",
         "post 1 1 2 0 1 0 6 0, look 0 1 0, assert 1 5 1 2 0 1",
     ),
     (
         "'post me X', 'lifo N(3)', 'say ok'",
-        5,
+        "stopped 5 leaf 1 taken 1",
         "post 1 1 2 0 1 0 6 0, look 0 1 0, new 1 1 0 0 0 5 3, inc 1 1 0 0, assert 1 5 1 2 0 1",
     ),
-    ("'forward peer', 'say ok'", 1, "assert 1 1 2 1 0 0"),
+    (
+        "'forward peer', 'say ok'",
+        "stopped 1 leaf 1 taken 1",
+        "assert 1 1 2 1 0 0",
+    ),
     (
         "'defer', 'post me X', 'recall', 'say ok'",
-        5,
+        "stopped 5 leaf 1 taken 1",
         "defer 1 0 4 0, look 0 1 0, post 1 1 2 0 1 0 6 0, look 0 2 0, recall 1 0 4 0, assert 1 5 1 2 0 1",
     ),
     (
         "'subscribe N', 'post me X', 'publish N(3)', 'say ok'",
-        1,
+        "stopped 1 leaf 1 taken 1",
         "sub 1 5 0, look 0 1 0, post 1 1 2 0 1 0 6 0, look 0 2 0, new 1 1 0 0 0 5 3, inc 1 1 0 0, pub 1 5 1 1, lock 1 1, inc 1 1 0 1, assert 1 1 1 2 0 1",
     ),
     (
         "'locked 3 [say 1; post peer X; say ok]', 'say ok'",
-        1,
+        "stopped 1 leaf 1 taken 1",
         "lock 1 3, say 1 1, look 0 1 3, assert 1 1 2 1 0 0",
     ),
-    ("'arm A(1, 0)', 'say ok'", 3, "assert 1 3 1 1 5"),
+    (
+        "'arm A(1, 0)', 'say ok'",
+        "stopped 3 leaf 1 taken 1",
+        "assert 1 3 1 1 5",
+    ),
     (
         "'arm B(65535, 65535)', 'arm B(1, 0)'",
-        3,
+        "stopped 3 leaf 1 taken 1",
         "arm 1 2 0 65535 65535, look 0 1 0, assert 1 3 2 1 65535",
     ),
-    ("'arm A(0, 0)', 'say ok'", 4, "assert 1 4 1 0 0"),
-    ("'arm A(65536, 1)', 'say ok'", 4, "assert 1 4 1 65536 1"),
-    ("'arm A(1, 65536)', 'say ok'", 4, "assert 1 4 1 1 65536"),
-    ("'arm B(0, 7)', 'say ok'", 4, "assert 1 4 2 0 7"),
+    (
+        "'arm A(0, 0)', 'say ok'",
+        "stopped 4 leaf 1 taken 1",
+        "assert 1 4 1 0 0",
+    ),
+    (
+        "'arm A(65536, 1)', 'say ok'",
+        "stopped 4 leaf 1 taken 1",
+        "assert 1 4 1 65536 1",
+    ),
+    (
+        "'arm A(1, 65536)', 'say ok'",
+        "stopped 4 leaf 1 taken 1",
+        "assert 1 4 1 1 65536",
+    ),
+    (
+        "'arm B(0, 7)', 'say ok'",
+        "stopped 4 leaf 1 taken 1",
+        "assert 1 4 2 0 7",
+    ),
     (
         "'arm B(1 - 2, 0)', 'say ok'",
-        4,
+        "stopped 4 leaf 1 taken 1",
         "assert 1 4 2 18446744073709551615 0",
     ),
-    ("'rearm A(0)', 'say ok'", 4, "assert 1 4 1 0 0"),
-    ("'rearm B(65536)', 'say ok'", 4, "assert 1 4 2 65536 0"),
+    (
+        "'rearm A(0)', 'say ok'",
+        "stopped 4 leaf 1 taken 1",
+        "assert 1 4 1 0 0",
+    ),
+    (
+        "'rearm B(65536)', 'say ok'",
+        "stopped 4 leaf 1 taken 1",
+        "assert 1 4 2 65536 0",
+    ),
     (
         "'rearm A(65535)', 'rearm A(0 - 1)'",
-        4,
+        "stopped 4 leaf 1 taken 1",
         "rearm 1 1 1 5 65535, look 0 1 0, assert 1 4 1 18446744073709551615 0",
     ),
 ];
@@ -158,15 +202,18 @@ const ASSERTED: [(&str, u8, &str); 21] = [
 /// Nothing follows an assertion. The leaf stays, and the stop word has its code.
 #[test]
 fn each_action_ends_in_its_assertion(rt: HostRuntime) -> Result<(), Fail> {
-    let alloc = rt.alloc();
-    for (acts, code, records) in &ASSERTED {
-        let system = pair(alloc, "'arm A(5, 0)'", acts)?;
-        let text = text_after(&rt, alloc, system.as_str(), &plain(&POSTS))?;
-        let wanted = format!(in alloc;
-            "post 0 2 1 0 0 0 6 0, post 0 1 1 0 0 0 4 0, begin 1, arm 1 1 0 5 0, enter 1 1, done 1, took 1 1 0 1 0 4 0, run 1 1 1, {records}
-stopped {code} leaf 1 taken 1"
-        )?;
-        assert_eq!(rt; text.as_str(), wanted.as_str());
+    for (acts, report, records) in &ASSERTED {
+        let case = Case {
+            name: acts,
+            system: &pair("'arm A(5, 0)'", acts),
+            plan: PLAN,
+            records: &[
+                "post 0 2 1 0 0 0 6 0, post 0 1 1 0 0 0 4 0, begin 1, arm 1 1 0 5 0, enter 1 1, done 1, took 1 1 0 1 0 4 0, run 1 1 1",
+                records,
+            ],
+            report,
+        };
+        see(&rt, rt.alloc(), &case)?;
     }
     Ok(())
 }
@@ -174,17 +221,14 @@ stopped {code} leaf 1 taken 1"
 /// An object whose start has ended in an assertion has no leaf.
 #[test]
 fn a_start_ends_in_an_assertion(rt: HostRuntime) -> Result<(), Fail> {
-    let alloc = rt.alloc();
-    let system = pair(
-        alloc,
-        "'say 1', 'locked 3 [say 2; post peer X]', 'say 3'",
-        "",
-    )?;
-    let text = text_after(&rt, alloc, system.as_str(), &plain(&POSTS))?;
-    assert_eq!(rt;
-        text.as_str(),
-        "post 0 2 1 0 0 0 6 0, post 0 1 1 0 0 0 4 0, begin 1, say 1 1, lock 1 3, say 1 2, assert 1 1 2 1 0 0
-stopped 1 taken 0"
-    );
-    Ok(())
+    let case = Case {
+        name: "a start",
+        system: &pair("'say 1', 'locked 3 [say 2; post peer X]', 'say 3'", ""),
+        plan: PLAN,
+        records: &[
+            "post 0 2 1 0 0 0 6 0, post 0 1 1 0 0 0 4 0, begin 1, say 1 1, lock 1 3, say 1 2, assert 1 1 2 1 0 0",
+        ],
+        report: "stopped 1 taken 0",
+    };
+    see(&rt, rt.alloc(), &case)
 }

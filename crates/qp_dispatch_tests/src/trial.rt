@@ -5,6 +5,7 @@ ghost use Rattle.qp_model.specs.Sound.{IsSound};
 ghost use Rattle.qp_model.specs.WordLaw.{is_object};
 ghost use Rattle.qp_dispatch_tests.specs.Trial.{AfterPart, AfterStart, AfterStep, AfterTake, IsBase, IsOnItsWay, IsResting, IsUnstarted};
 
+use crate::actor::{Actor, End};
 use arrayvec::ArrayVec;
 use qp_base::Steps;
 use qp_calls::{Did, Ops, Take, post_static};
@@ -16,60 +17,36 @@ use std::marker::Brand;
 use std::sync::Wait;
 use std::sync::ledger::{Blank, Ledger};
 
-/// Why a trial ended.
-#[derive(Drop, Clone, Copy)]
-pub enum End {
-    /// The queue of the object is empty.
-    Empty,
-    /// It was ended at the scheduling point asked for.
-    Left,
-    /// Its lane has stopped.
-    Stopped,
-    /// Memory was refused.
-    Memory,
-    /// The system lacks what was named, the lane has no room, or the trial is too long.
-    Refused,
-}
-
 /// What is tried.
 #[derive(Clone, Copy)]
-pub struct Plan<'a> {
+pub(crate) struct Plan<'a> {
     /// The object.
-    pub me: u8,
+    pub(crate) me: u8,
     /// How many notes stand in the lane before all else.
-    pub notes: u32,
+    pub(crate) notes: u32,
     /// What a source posts: static signals to objects.
-    pub posts: &'a [(u8, u16)],
+    pub(crate) posts: &'a [(u8, u16)],
     /// The objects that start before it, and do nothing else.
-    pub others: &'a [u8],
+    pub(crate) others: &'a [u8],
     /// The scheduling point at which it is ended, counted from 1; 0 for none.
-    pub until: u32,
+    pub(crate) until: u32,
 }
 
 /// What an object shows at the end of its trial, and the code of the stop word.
 #[derive(Drop)]
-pub struct Report {
-    pub end: End,
-    pub stopped: Option<u8>,
-    pub leaf: Option<u8>,
-    pub taken: u32,
-    pub vars: ArrayVec<i64, 16>,
+pub(crate) struct Report {
+    pub(crate) end: End,
+    pub(crate) stopped: Option<u8>,
+    pub(crate) leaf: Option<u8>,
+    pub(crate) taken: u32,
+    pub(crate) vars: ArrayVec<i64, 16>,
 }
 
 /// A trial that has ended: its records, and its report.
 #[derive(Drop)]
-pub struct Trial {
-    pub lanes: Lanes,
-    pub report: Report,
-}
-
-/// An object with its priority, the ceiling of its lane, and how many scheduling points its steps have come to.
-#[derive(Drop)]
-pub struct Actor {
-    pub(crate) me: u8,
-    pub(crate) object: Object,
-    pub(crate) ceiling: u8,
-    pub(crate) points: u32,
+pub(crate) struct Trial {
+    pub(crate) lanes: Lanes,
+    pub(crate) report: Report,
 }
 
 /// Whether the system has an object of this priority.
@@ -229,6 +206,19 @@ impl Actor {
         End::Refused
     }
 
+    /// Starts, and then steps until its queue is empty, its lane stops, or it is ended.
+    fn play<O: Ops, R: Wait>(&mut self, rt: &R, ops: &mut O, sys: &System, until: u32) -> End
+        requires new { IsUnstarted sys.now self.old }
+        requires base { IsBase sys.now self.old.ceiling (O.lane ops.old) }
+    {
+        match self.start(ops, sys) {
+            Step::Done => self.steps(rt, ops, sys, until),
+            Step::Stopped => End::Stopped,
+            Step::Memory => End::Memory,
+            Step::Point => End::Refused,
+        }
+    }
+
     /// Ends the object, and tells what it showed.
     fn report<O: Ops>(self, ops: &mut O, end: End) -> Report {
         let stopped = ops.stopped();
@@ -262,6 +252,49 @@ fn start_other<O: Ops>(alloc: Global, ops: &mut O, sys: &System, p: u8, ceiling:
     }
 }
 
+/// Adds so many notes.
+fn notes<O: Ops>(ops: &mut O, sys: &System, count: u32) -> Option<()>
+    requires { IsBase sys.now 0 (O.lane ops.old) }
+    ensures { IfSome result (λ _. IsBase sys.now 0 (O.lane ops.new)) }
+{
+    for _i in 0..count {
+        note(ops, sys)?;
+    }
+    Some(())
+}
+
+/// A source posts static events, and counts its tries in a ledger of its own.
+fn posts<O: Ops, L: Ledger>(
+    ops: &mut O,
+    sys: &System,
+    posts: &[(u8, u16)],
+    blank: Blank,
+) -> Option<()>
+    requires name { blank.name ≡ L.name }
+    requires parts { blank.parts ≡ L.parts }
+    requires some { 0 < blank.parts }
+    requires base { IsBase sys.now 0 (O.lane ops.old) }
+    ensures { IfSome result (λ _. IsBase sys.now 0 (O.lane ops.new)) }
+{
+    let mut steps = Steps::<L>::open(blank);
+    for (to, sig) in posts {
+        post(ops, sys, *to, *sig, &mut steps)?;
+    }
+    Some(())
+}
+
+/// Starts objects that do nothing else, and answers the ceiling after them.
+fn start_others<O: Ops>(alloc: Global, ops: &mut O, sys: &System, others: &[u8]) -> Option<u8>
+    requires { IsBase sys.now 0 (O.lane ops.old) }
+    ensures { IfSome result (λ c. IsBase sys.now c (O.lane ops.new)) }
+{
+    let mut ceiling = 0;
+    for p in others {
+        ceiling = start_other(alloc, ops, sys, *p, ceiling)?;
+    }
+    Some(ceiling)
+}
+
 /// What happens before the object of a plan is made: the notes, the posts, and the starts of the others. It answers the ceiling
 /// after them.
 fn begin<O: Ops, L: Ledger>(
@@ -277,18 +310,9 @@ fn begin<O: Ops, L: Ledger>(
     requires base { IsBase sys.now 0 (O.lane ops.old) }
     ensures { IfSome result (λ c. IsBase sys.now c (O.lane ops.new)) }
 {
-    let mut steps = Steps::<L>::open(blank);
-    for _i in 0..plan.notes {
-        note(ops, sys)?;
-    }
-    for (to, sig) in plan.posts {
-        post(ops, sys, *to, *sig, &mut steps)?;
-    }
-    let mut ceiling = 0;
-    for p in plan.others {
-        ceiling = start_other(alloc, ops, sys, *p, ceiling)?;
-    }
-    Some(ceiling)
+    notes(ops, sys, plan.notes)?;
+    posts::<O, L>(ops, sys, plan.posts, blank)?;
+    start_others(alloc, ops, sys, plan.others)
 }
 
 /// Makes the object of a plan, starts it, and lets it step until its queue is empty, its lane stops, or it is ended.
@@ -307,17 +331,12 @@ fn play<O: Ops, L: Ledger, R: Wait>(
 {
     let ceiling = begin::<O, L>(alloc, ops, sys, plan, blank)?;
     let mut actor = Actor::new(alloc, sys, plan.me, ceiling)?;
-    let end = match actor.start(ops, sys) {
-        Step::Done => actor.steps(rt, ops, sys, plan.until),
-        Step::Stopped => End::Stopped,
-        Step::Memory => End::Memory,
-        Step::Point => End::Refused,
-    };
+    let end = actor.play(rt, ops, sys, plan.until);
     Some(actor.report(ops, end))
 }
 
 /// Tries a plan in a new world with one lane.
-pub fn run<R: Wait>(rt: &R, alloc: Global, sys: &System, plan: &Plan<'_>) -> Option<Trial>
+pub(crate) fn run<R: Wait>(rt: &R, alloc: Global, sys: &System, plan: &Plan<'_>) -> Option<Trial>
     requires { IsSound sys.now }
 {
     let Ok(mut world) = PlainWorld::new(alloc, sys, 1) else {

@@ -2,7 +2,7 @@ use Rattle.std.proofs.Common.{refl, arith}
 use Rattle.qp_model.specs.declared.bodies.Body.TheVariants.{Look}
 use Rattle.qp_calls.proofs.Noting.{may-note}
 use Rattle.qp_dispatch_tests.proofs.ActorLemmas.{marked}
-use Rattle.qp_dispatch_tests.proofs.trial.Actor.mark.Goals as goal
+use Rattle.qp_dispatch_tests.proofs.actor.Actor.mark.Goals as goal
 
 pub note-requires : goal.note-requires
 note-requires g c = may-note 0 (Look c.saturating_add-self.result c.args.self.now.ceiling) c.look.result _ c.look.ensures refl (omega (arith, c.in-Ok.ensures.ok))

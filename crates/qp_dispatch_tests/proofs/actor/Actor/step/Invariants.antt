@@ -1,5 +1,5 @@
 use Rattle.qp_dispatch_tests.specs.Trial.{IsOnItsWay}
-use Rattle.qp_dispatch_tests.proofs.trial.Actor.step.Given as goal
+use Rattle.qp_dispatch_tests.proofs.actor.Actor.step.Given as goal
 
 -- the object stands within its step
 abbrev pub invariant-loop-i : goal.invariant-loop-i

@@ -1,5 +1,5 @@
 use Rattle.qp_dispatch_tests.specs.Trial.{IsResting}
-use Rattle.qp_dispatch_tests.proofs.trial.Actor.steps.Given as goal
+use Rattle.qp_dispatch_tests.proofs.actor.Actor.steps.Given as goal
 
 -- the object rests
 abbrev pub invariant-loop-i : goal.invariant-loop-i

@@ -1,6 +1,6 @@
 use Rattle.std.proofs.Common.{refl}
 use Rattle.qp_dispatch_tests.proofs.ActorLemmas.{may-resume, resumed}
-use Rattle.qp_dispatch_tests.proofs.trial.Actor.resume.Goals as goal
+use Rattle.qp_dispatch_tests.proofs.actor.Actor.resume.Goals as goal
 
 pub resume-requires : goal.resume-requires
 resume-requires g c = may-resume c.args.sys.now c.args.self.now (g.O.Ops.lane c.args.ops.now) c.requires

@@ -1,6 +1,6 @@
 use Rattle.std.proofs.Common.{refl}
 use Rattle.qp_dispatch_tests.proofs.ActorLemmas.{may-start, started}
-use Rattle.qp_dispatch_tests.proofs.trial.Actor.start.Goals as goal
+use Rattle.qp_dispatch_tests.proofs.actor.Actor.start.Goals as goal
 
 pub start-requires : goal.start-requires
 start-requires g c = may-start c.args.sys.now c.args.self.now (g.O.Ops.lane c.args.ops.now) c.requires.new c.requires.base
