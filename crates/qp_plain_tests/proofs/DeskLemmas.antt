@@ -31,8 +31,8 @@ use Rattle.qp_calls.specs.Counting.{times}
 use Rattle.qp_calls.specs.Deferring.{StandAll, is_named, tokens_in}
 use Rattle.qp_calls.specs.Groups.{EndsStep}
 use Rattle.qp_calls.proofs.CountLemmas.{count-with, stand-rest}
-use Rattle.qp_plain_tests.specs.declared.desk.End.{End}
-use Rattle.qp_plain_tests.specs.declared.desk.End.TheVariants as ended
+use Rattle.qp_plain_tests.specs.declared.ends.End.{End}
+use Rattle.qp_plain_tests.specs.declared.ends.End.TheVariants as ended
 use Rattle.qp_plain_tests.specs.Desk.{MayGoOn, MayStillGoOn, Steady}
 use Rattle.qp_plain_tests.proofs.DeedLemmas.{both, done-steady, stand-others, steady-goes}
 

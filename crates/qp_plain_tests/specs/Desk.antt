@@ -10,8 +10,8 @@ use Rattle.qp_calls.specs.declared.did.Did.{Did}
 use Rattle.qp_calls.specs.LaneView.{LaneView, ceiling_in}
 use Rattle.qp_calls.specs.Tokens.{without_entry}
 use Rattle.qp_model.specs.declared.bodies.Entry as model
-use Rattle.qp_plain_tests.specs.declared.desk.End.{End}
-use Rattle.qp_plain_tests.specs.declared.desk.End.TheVariants as ended
+use Rattle.qp_plain_tests.specs.declared.ends.End.{End}
+use Rattle.qp_plain_tests.specs.declared.ends.End.TheVariants as ended
 use Rattle.qp_calls.specs.Deferring.{StandAll}
 use Rattle.qp_calls.specs.Entries.{is_value}
 

@@ -256,6 +256,91 @@ pub(crate) fn perform<O: Ops, L: Ledger>(
     }
 }
 
+/// Posts an event last in.
+fn post_lifo<O: Ops, L: Ledger>(
+    ops: &mut O,
+    sys: &System,
+    o: u8,
+    ev: &Ev,
+    reserve: Option<u8>,
+    steps: &mut Steps<L>,
+) -> Option<Did>
+    requires of { (O.lane ops.old).sys ≡ sys.now }
+    requires mine { (O.lane ops.old).by ≡ o }
+    requires sound { IsSound sys.now }
+    requires event { IsEvent sys.now (event_of ev.now) }
+    ensures { StaysSteady (O.lane ops.old) (O.lane ops.new) result }
+{
+    if !has_object(sys, o) {
+        return None;
+    }
+    lifo_new(ops, sys, ev, reserve, steps).ok()
+}
+
+/// Does a deed with an event.
+fn send<O: Ops, L: Ledger>(
+    ops: &mut O,
+    sys: &System,
+    o: u8,
+    deed: &Deed,
+    ev: &Ev,
+    steps: &mut Steps<L>,
+) -> Option<Did>
+    requires of { (O.lane ops.old).sys ≡ sys.now }
+    requires mine { (O.lane ops.old).by ≡ o }
+    requires sound { IsSound sys.now }
+    requires event { IsEvent sys.now (event_of ev.now) }
+    ensures { StaysSteady (O.lane ops.old) (O.lane ops.new) result }
+{
+    match deed {
+        Deed::Post(to, _, _, margin, reserve) => post(ops, sys, *to, ev, *margin, *reserve, steps),
+        Deed::Lifo(_, _, reserve) => post_lifo(ops, sys, o, ev, *reserve, steps),
+        Deed::Publish(_, _, reserve) => publish(ops, sys, ev, *reserve, steps).ok(),
+        Deed::Announce(_, _, reserve) => announce(ops, sys, o, ev, *reserve, steps),
+        _ => None,
+    }
+}
+
+/// Makes the event of a deed, and does the deed.
+fn send_new<O: Ops, L: Ledger>(
+    ops: &mut O,
+    sys: &System,
+    o: u8,
+    deed: &Deed,
+    sig: u16,
+    pars: &[u64],
+    steps: &mut Steps<L>,
+) -> Option<Did>
+    requires of { (O.lane ops.old).sys ≡ sys.now }
+    requires mine { (O.lane ops.old).by ≡ o }
+    requires sound { IsSound sys.now }
+    ensures { StaysSteady (O.lane ops.old) (O.lane ops.new) result }
+{
+    let ev = event(sys, sig, pars)?;
+    send(ops, sys, o, deed, &ev, steps)
+}
+
+/// Does a deed of a timer.
+fn time<O: Ops, L: Ledger>(
+    ops: &mut O,
+    sys: &System,
+    o: u8,
+    deed: &Deed,
+    steps: &mut Steps<L>,
+) -> Option<Did>
+    requires its { (O.lane ops.old).sys ≡ sys.now }
+    requires mine { (O.lane ops.old).by ≡ o }
+    ensures { StaysSteady (O.lane ops.old) (O.lane ops.new) result }
+{
+    match deed {
+        Deed::Arm(timer, ticks, interval) => arm(ops, sys, o, *timer, *ticks, *interval, steps),
+        Deed::Rearm(timer, ticks) => change(ops, sys, o, *timer, *ticks, steps),
+        Deed::Disarm(timer) => change(ops, sys, o, *timer, 0, steps),
+        Deed::ArmBadly(timer) => arm_badly(ops, o, *timer),
+        _ => None,
+    }
+}
+
 /// Does a deed that needs no entry.
 fn act<O: Ops, L: Ledger>(
     ops: &mut O,
@@ -271,33 +356,14 @@ fn act<O: Ops, L: Ledger>(
 {
     let o = owner(ops);
     match deed {
-        Deed::Post(to, sig, pars, margin, reserve) => {
-            let ev = event(sys, *sig, pars)?;
-            post(ops, sys, *to, &ev, *margin, *reserve, steps)
-        }
-        Deed::Lifo(sig, pars, reserve) => {
-            let ev = event(sys, *sig, pars)?;
-            if !has_object(sys, o) {
-                return None;
-            }
-            lifo_new(ops, sys, &ev, *reserve, steps).ok()
-        }
-        Deed::Publish(sig, pars, reserve) => {
-            let ev = event(sys, *sig, pars)?;
-            publish(ops, sys, &ev, *reserve, steps).ok()
-        }
-        Deed::Announce(sig, pars, reserve) => {
-            let ev = event(sys, *sig, pars)?;
-            announce(ops, sys, o, &ev, *reserve, steps)
-        }
+        Deed::Post(_, sig, pars, _, _)
+        | Deed::Lifo(sig, pars, _)
+        | Deed::Publish(sig, pars, _)
+        | Deed::Announce(sig, pars, _) => send_new(ops, sys, o, deed, *sig, pars, steps),
         Deed::Tick(rate) => tick_rate(ops, sys, *rate, steps).ok(),
         Deed::Subscribe(sig) => subscribing(ops, sys, o, *sig, true),
         Deed::Unsubscribe(sig) => subscribing(ops, sys, o, *sig, false),
-        Deed::Arm(timer, ticks, interval) => arm(ops, sys, o, *timer, *ticks, *interval, steps),
-        Deed::Rearm(timer, ticks) => change(ops, sys, o, *timer, *ticks, steps),
-        Deed::Disarm(timer) => change(ops, sys, o, *timer, 0, steps),
-        Deed::ArmBadly(timer) => arm_badly(ops, o, *timer),
         Deed::SayOk => say(ops, o, i64::from(ok)),
-        _ => None,
+        _ => time(ops, sys, o, deed, steps),
     }
 }

@@ -5,23 +5,13 @@ ghost use Rattle.qp_plain.specs.WorldView.{world_view};
 ghost use Rattle.qp_plain_tests.specs.Desk.{MayGoOn, MayStillGoOn};
 
 use crate::deeds::{Deed, has_object, perform};
+use crate::ends::End;
 use qp_base::Steps;
 use qp_calls::{Deferred, Did, Entry, Ops, Take, end_step};
 use qp_model::{Rec, System};
 use qp_plain::PlainWorld;
 use std::sync::Wait;
 use std::sync::ledger::{Blank, Ledger};
-
-/// Why a test ends.
-#[derive(Drop)]
-pub(crate) enum End {
-    /// All is done.
-    Whole,
-    /// An assertion, by its code.
-    Assert(u8),
-    /// The system lacks what was named, or the lane has no room.
-    Refused,
-}
 
 /// What happens next, with the records that it leaves.
 #[derive(Clone, Copy)]

@@ -7,8 +7,13 @@
 mod acts;
 #[cfg(test)]
 mod bench;
+#[cfg(test)]
 mod deeds;
+#[cfg(test)]
 mod desk;
+// Named by the definitions of specs/, which stand outside of tests too.
+mod ends;
+#[cfg(test)]
 mod handlers;
 #[cfg(test)]
 mod lanes;

@@ -1,7 +1,7 @@
 //! Worked examples: the records of whole runs, act by act, in one lane and in two.
 
 use crate::acts::{GO_POST, Kind, N, Run, X, X_POST};
-use crate::bench::see;
+use crate::bench::see_all;
 use crate::deeds::Deed;
 use crate::desk::Act;
 use std::test::Fail;
@@ -381,8 +381,5 @@ const RUNS: [Run<'static>; 16] = [
 
 #[test]
 fn groups_of_calls_leave_their_records(rt: HostRuntime) -> Result<(), Fail> {
-    for run in &RUNS {
-        see(&rt, rt.alloc(), run)?;
-    }
-    Ok(())
+    see_all(&rt, rt.alloc(), &RUNS)
 }

@@ -1,30 +1,39 @@
 //! Lanes as texts.
 
 use qp_model::vocabulary::word_text;
-use qp_model::{Lane, Rec};
-use std::alloc::{AllocError, Global};
+use qp_model::{Lanes, Rec};
+use std::alloc::AllocError;
 
 /// A record as a line: its word, its object and its numbers.
-fn put_record(text: &mut String, rec: &Rec, alloc: Global) -> Result<(), AllocError> {
+fn put_record(text: &mut String, rec: &Rec) -> Result<(), AllocError> {
     if rec.kind >= 1 && rec.kind <= 46 {
         text.push_str(word_text(rec.kind))?;
     }
-    let of = rec.of;
-    text.push_str(format!(in alloc; " {of}")?.as_str())?;
+    write!(text, " {}", rec.of)?;
     for n in &rec.nums {
-        text.push_str(format!(in alloc; " {n}")?.as_str())?;
+        write!(text, " {n}")?;
     }
     Ok(())
 }
 
 /// The records of a lane, with commas between them.
-pub(crate) fn lane_text(alloc: Global, lane: &Lane) -> Result<String, AllocError> {
-    let mut text = String::new(alloc);
-    for (i, rec) in lane.items.iter().enumerate() {
-        if i > 0 {
-            text.push_str(", ")?;
-        }
-        put_record(&mut text, rec, alloc)?;
+fn put_lane(text: &mut String, records: &[Rec]) -> Result<(), AllocError> {
+    let mut between = "";
+    for rec in records {
+        text.push_str(between)?;
+        put_record(text, rec)?;
+        between = ", ";
     }
-    Ok(text)
+    Ok(())
+}
+
+/// Lanes, with lines between them.
+pub(crate) fn put_lanes(text: &mut String, lanes: &Lanes) -> Result<(), AllocError> {
+    let mut between = "";
+    for lane in lanes.items.iter() {
+        text.push_str(between)?;
+        put_lane(text, lane.items.as_slice())?;
+        between = "\n";
+    }
+    Ok(())
 }

@@ -22,7 +22,20 @@ timer = [{{ name = 'A', signal = 'TA', rate = 0 }}, {{ name = 'B', signal = 'TB'
     )
 }
 
-/// So many objects, each with a ring of one, and a pool with two blocks for one parameter.
+/// An object with a ring of one.
+fn put_object(text: &mut String, priority: u8) -> Result<(), AllocError> {
+    write!(
+        text,
+        "[[object]]
+name = 'o{priority}'
+chart = 'c'
+priority = {priority}
+queue = 1
+"
+    )
+}
+
+/// So many objects, and a pool with two blocks for one parameter.
 pub(crate) fn many(alloc: Global, objects: u8) -> Result<String, AllocError> {
     let mut text = format!(in alloc;
         "qp = 1
@@ -33,16 +46,8 @@ init = 's'
 state = [{{ name = 's' }}]
 "
     )?;
-    for p in 1..objects.saturating_add(1) {
-        let object = format!(in alloc;
-            "[[object]]
-name = 'o{p}'
-chart = 'c'
-priority = {p}
-queue = 1
-"
-        )?;
-        text.push_str(object.as_str())?;
+    for priority in 1..=objects {
+        put_object(&mut text, priority)?;
     }
     Ok(text)
 }

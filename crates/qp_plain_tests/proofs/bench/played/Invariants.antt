@@ -1,4 +1,4 @@
-use Rattle.qp_plain_tests.proofs.bench.found.Given as goal
+use Rattle.qp_plain_tests.proofs.bench.played.Given as goal
 
 -- the ledger is the new one
 abbrev pub ghosts-play : goal.ghosts-play
