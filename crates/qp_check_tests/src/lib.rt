@@ -2,10 +2,12 @@
 #![tactic(auto)]
 
 #[cfg(test)]
-mod run_tests;
+mod runs;
 #[cfg(test)]
-mod tests;
+mod samples;
 #[cfg(test)]
-mod told_tests;
+mod told;
 #[cfg(test)]
-mod verdict_tests;
+mod verdicts;
+#[cfg(test)]
+mod words;
