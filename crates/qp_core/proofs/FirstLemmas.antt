@@ -25,7 +25,7 @@ use Rattle.qp_words.specs.declared.Serve.{Serve}
 use Rattle.qp_table.specs.Whole.{first_now, later_lanes}
 use Rattle.qp_table.proofs.Ends.{opens}
 use Rattle.qp_table.proofs.Lanes.{adds-nothing, keeps, swaps}
-use Rattle.qp_core.specs.Keeps.{seen_view}
+use Rattle.qp_seats.specs.Keeps.{seen_view}
 use Rattle.qp_core.specs.Standing.{bank, has_number, TableHolds}
 use Rattle.qp_core.specs.First.{first_word, first_serve, first_serves}
 use Rattle.qp_core.specs.Runs.{IsFirst, first_seat, IsFresh}

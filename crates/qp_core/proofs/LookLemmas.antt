@@ -22,13 +22,13 @@ use Rattle.qp_words.specs.declared.View.{View}
 use Rattle.qp_words.proofs.Bounds.{Ascends, pool-ascends, map-small}
 use Rattle.qp_queues.specs.Laws.{f_in, l_in, m_in}
 use Rattle.qp_table.proofs.Looks.{looks, looks_from, shows-short, shows-no_block, shows-seen, shows-nil, shows-full, shows-no_entry, shows-no_lifo}
-use Rattle.qp_core.specs.Seats.{noting}
-use Rattle.qp_core.specs.Blocks.{number_in, low_in}
+use Rattle.qp_seats.specs.Seats.{noting}
+use Rattle.qp_seats.specs.Blocks.{number_in, low_in}
 use Rattle.qp_core.specs.Looks.{is_word, ones, counts_match, entries_in, states_pool, states_queue, states, may_state, may_look, looked}
-use Rattle.qp_core.specs.Keeps.{seen_view, StepKeeps}
-use Rattle.qp_core.specs.declared.seats.Seat.{Seat}
-use Rattle.qp_core.proofs.Standing.{has-room}
-use Rattle.qp_core.proofs.BlockLemmas.{adds, down, down-ascends, down-bits, down-length}
+use Rattle.qp_seats.specs.Keeps.{seen_view, StepKeeps}
+use Rattle.qp_seats.specs.declared.seats.Seat.{Seat}
+use Rattle.qp_seats.proofs.Standing.{has-room}
+use Rattle.qp_seats.proofs.BlockLemmas.{adds, down, down-ascends, down-bits, down-length}
 
 -- a map of blocks has as many bits as blocks
 ones-none : (k : ℕ) → ones k 0 ≡ 0

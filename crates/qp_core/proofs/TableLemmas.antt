@@ -16,10 +16,10 @@ use Rattle.qp_words.specs.declared.View.{View}
 use Rattle.qp_words.proofs.Counting.{each-snoc, many-without}
 use Rattle.qp_words.proofs.Tokens.{b2n}
 use Rattle.qp_table.proofs.Lanes.{adds-nothing, looks-on, grants, hands-over, joins, set-last, set-longer}
-use Rattle.qp_core.specs.Keeps.{seen_view, HasOwn, StepKeeps}
+use Rattle.qp_seats.specs.Keeps.{seen_view, HasOwn, StepKeeps}
 use Rattle.qp_core.specs.Standing.{bank, is_own, Owns, has_number, TableHolds}
 use Rattle.qp_core.specs.State.{stands_as, bare, may_pass, SetsBy, in_part, giving_up, first_logs, split_off, joining}
-use Rattle.qp_core.specs.declared.seats.Seat.{Seat}
+use Rattle.qp_seats.specs.declared.seats.Seat.{Seat}
 use Rattle.qp_core.proofs.SeatLemmas.{each-at, each-set, any-set, any-snoc, get-set-else, at-below, at-view, set-view, snoc-view, own-some, own-more, Same, failing-is, passing-is, all-unused}
 
 module _ (sys : System) (lanes : ℕ) (words : List ℕ) (seats : List Seat) (t : TableHolds sys lanes words seats) (i : ℕ) (x : Seat) (at : slice_get seats i ≡ Some x) where

@@ -4,7 +4,7 @@ use Rattle.qp_model.specs.declared.systems.System.{System}
 use Rattle.qp_model.specs.Sites.{blocks_of}
 use Rattle.qp_model.specs.WordLaw.{is_pool, is_object}
 use Rattle.qp_words.specs.declared.Serve.{Serve}
-use Rattle.qp_core.specs.Blocks.{bit_of}
+use Rattle.qp_seats.specs.Blocks.{bit_of}
 
 -- a pool's word has all its blocks free; all others are 0
 abbrev pub first_word : System → ℕ → ℕ

@@ -1,9 +1,3 @@
-pub mod Lists
-pub mod Seats
-pub mod Words
-pub mod Keeps
-pub mod Blocks
-pub mod Queues
 pub mod Looks
 pub mod Steps
 pub mod Standing

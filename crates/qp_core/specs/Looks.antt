@@ -14,10 +14,10 @@ use Rattle.qp_model.specs.WordLaw.{is_pool, is_block, is_object}
 use Rattle.qp_words.specs.Rule.{pool_at, block_at, queue_at}
 use Rattle.qp_words.specs.After.{reading}
 use Rattle.qp_queues.specs.Laws.{f_in, l_in, m_in}
-use Rattle.qp_core.specs.Seats.{may_act, may_add, noting}
-use Rattle.qp_core.specs.Blocks.{number_in, low_in, size_of, is_ref_to}
-use Rattle.qp_core.specs.Queues.{serves_it}
-use Rattle.qp_core.specs.declared.seats.Seat.{Seat}
+use Rattle.qp_seats.specs.Seats.{may_act, may_add, noting}
+use Rattle.qp_seats.specs.Blocks.{number_in, low_in, size_of, is_ref_to}
+use Rattle.qp_seats.specs.Queues.{serves_it}
+use Rattle.qp_seats.specs.declared.seats.Seat.{Seat}
 
 -- a word of the event table that the system has, and what it shows
 abbrev pub is_word : System → Word → Bool

@@ -10,7 +10,7 @@ use Rattle.qp_queues.specs.Laws.{cells_of}
 use Rattle.qp_table.specs.Whole.{first_now}
 use Rattle.qp_core.specs.State.{bare, may_apply, Applies}
 use Rattle.qp_core.specs.Standing.{TableHolds}
-use Rattle.qp_core.specs.declared.seats.Seat.{Seat}
+use Rattle.qp_seats.specs.declared.seats.Seat.{Seat}
 use Rattle.qp_core.specs.declared.state.CoreState.{CoreState}
 use Rattle.qp_core.specs.declared.runs.CoreFault.{CoreFault}
 use Rattle.qp_core.specs.declared.runs.CoreFault.TheVariants as fault

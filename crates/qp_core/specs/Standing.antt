@@ -8,8 +8,8 @@ use Rattle.qp_words.specs.After.{nothing}
 use Rattle.qp_words.specs.declared.Glance.{Glance}
 use Rattle.qp_words.specs.declared.Log.{Log}
 use Rattle.qp_words.specs.declared.View.{View}
-use Rattle.qp_core.specs.Keeps.{seen_view}
-use Rattle.qp_core.specs.declared.seats.Seat.{Seat}
+use Rattle.qp_seats.specs.Keeps.{seen_view}
+use Rattle.qp_seats.specs.declared.seats.Seat.{Seat}
 
 -- the views are those of the seats, each with what words showed it
 abbrev pub AreViews : List Seat → List View → Type 0

@@ -1,21 +1,22 @@
 //! Looks.
 
-ghost use Rattle.std.specs.Prelude.{◌≡◌, ◌≤◌, ◌++◌, Ok, OnOk};
+ghost use Rattle.std.specs.Prelude.{◌≡◌, ◌+◌, ◌≤◌, ◌==◌, ◌&&◌, ◌++◌, None, Ok, OnOk, OnErr};
 ghost use Rattle.qp_model.specs.Record.{body_of};
 ghost use Rattle.qp_words.specs.After.{reading};
-ghost use Rattle.qp_core.specs.Words.{Steps};
-ghost use Rattle.qp_core.specs.Looks.{is_word, ones, states_pool, states_queue, states, may_look, looked, may_read, may_peek};
+ghost use Rattle.qp_seats.specs.Words.{Steps};
+ghost use Rattle.qp_queues.specs.Laws.{f_in, l_in, m_in};
+ghost use Rattle.qp_seats.specs.Seats.{may_add, noting};
+ghost use Rattle.qp_core.specs.Looks.{is_word, ones, counts_match, entries_in, states_pool, states_queue, states, may_look, looked, may_read, may_peek};
 
-use crate::asked::{has_block, has_object, has_pool, size_of};
-use crate::blocks::ONE;
-use crate::entries::{lifos_in, posts_in, takes_in};
-use crate::items::{Items, no_items};
-use crate::queues::serves_it;
-use crate::seats::{Seat, SeatGive, copy_of_give};
-use crate::words::{Words, pool_at, queue_at};
 use arrayvec::ArrayVec;
 use qp_base::Memory;
 use qp_model::{Body, Rec, System, Word};
+use qp_seats::asked::{has_block, has_object, has_pool, size_of};
+use qp_seats::blocks::ONE;
+use qp_seats::entries::{lifos_in, posts_in, takes_in};
+use qp_seats::queues::serves_it;
+use qp_seats::words::{Words, pool_at, queue_at};
+use qp_seats::{Items, Seat, SeatGive, copy_of_give, no_items};
 use std::alloc::Global;
 
 /// Whether it is a word of the event table that the system has.
@@ -67,35 +68,51 @@ fn states_pool(word: u64, q: u8, by: u8, rec: &Rec) -> bool
     }
 }
 
+/// Whether a queue's word shows these counts.
+fn counts_match(word: u64, f: u64, l: u64, m: u64) -> bool
+    ensures { result ≡ counts_match word f l m }
+{
+    f == u64::from(posts_in(word))
+        && l == u64::from(lifos_in(word))
+        && m == u64::from(takes_in(word))
+}
+
+/// How many entries a queue's word counts.
+fn entries_in(word: u64) -> u64
+    ensures { result ≡ entries_in word }
+{
+    (u64::from(posts_in(word)) + u64::from(lifos_in(word))).saturating_sub(u64::from(takes_in(
+        word,
+    )))
+}
+
+/// Whether a queue's word counts as many takes as posts.
+fn is_empty(word: u64) -> bool
+    ensures { result ≡ (f_in word + l_in word == m_in word) }
+{
+    u64::from(posts_in(word)) + u64::from(lifos_in(word)) == u64::from(takes_in(word))
+}
+
 /// Whether the record states what the queue's word shows.
 fn states_queue(ring: u8, word: u64, q: u8, by: u8, rec: &Rec) -> bool
     ensures { result ≡ states_queue ring word q by rec.now.of (body_of rec.now) }
 {
     let object = u64::from(q);
-    let posts = u64::from(posts_in(word));
-    let lifos = u64::from(lifos_in(word));
-    let takes = u64::from(takes_in(word));
-    let entries = (posts + lifos).saturating_sub(takes);
     let cells = u64::from(ring) + 1;
     let of = rec.of;
     match rec.body() {
         Body::Nil { f, l, m } => {
-            of == by
-                && of == q
-                && (f == posts && l == lifos && m == takes)
-                && posts + lifos == takes
+            of == by && of == q && counts_match(word, f, l, m) && is_empty(word)
         }
-        Body::Seen { p, f, l, m } => {
-            of == 0 && p == object && (f == posts && l == lifos && m == takes)
-        }
+        Body::Seen { p, f, l, m } => of == 0 && p == object && counts_match(word, f, l, m),
         Body::Full { a, f, l, m, margin } => {
             of == by
                 && a == object
-                && (f == posts && l == lifos && m == takes)
-                && cells.saturating_sub(entries) <= margin
+                && counts_match(word, f, l, m)
+                && cells.saturating_sub(entries_in(word)) <= margin
         }
         Body::NoEntry { a, f, l, m } | Body::NoLifo { a, f, l, m } => {
-            of == by && a == object && (f == posts && l == lifos && m == takes) && entries == cells
+            of == by && a == object && counts_match(word, f, l, m) && entries_in(word) == cells
         }
         _ => false,
     }
@@ -141,6 +158,38 @@ fn add_read(out: &mut Items<SeatGive>, gives: &[SeatGive], p: u8, b: u8) -> Resu
     Ok(())
 }
 
+/// Adds the record, where it is a shown record on the word and states what it shows.
+fn show(
+    sys: &System,
+    lanes: u32,
+    words: &Words,
+    seat: &mut Seat,
+    word: Word,
+    rec: &Rec,
+) -> Result<bool, Memory>
+    ensures { Steps (may_add lanes seat.old && states sys.now words.now word seat.old.by rec.now) (seat.new ≡ noting rec.now seat.old)
+        (seat.new ≡ seat.old) result }
+{
+    if !(seat.may_add(lanes) && states(sys, words, word, seat.by, rec)) {
+        return Ok(false);
+    }
+    seat.note(copy_of(rec))?;
+    Ok(true)
+}
+
+/// Reads a word. A look at a block's word reads where the life of a fresh block begins.
+fn read_word(alloc: Global, seat: &mut Seat, word: Word) -> Result<(), Memory>
+    ensures ok { OnOk result (seat.new ≡ looked seat.old word None) }
+    ensures err { OnErr result (seat.new ≡ seat.old) }
+{
+    if let Word::Block(p, b) = word {
+        let mut gives = no_items(alloc);
+        add_read(&mut gives, seat.gives.items.as_slice(), p, b)?;
+        seat.gives = gives;
+    }
+    Ok(())
+}
+
 /// Reads a numbered word, and adds a record of what it shows.
 pub fn look(
     alloc: Global,
@@ -157,22 +206,11 @@ pub fn look(
     if !is_word(sys, word) {
         return Ok(false);
     }
-    match rec {
-        Some(rec) => {
-            if !(seat.may_add(lanes) && states(sys, words, word, seat.by, rec)) {
-                return Ok(false);
-            }
-            seat.note(copy_of(rec))?;
-        }
-        None => {
-            if let Word::Block(p, b) = word {
-                let mut gives = no_items(alloc);
-                add_read(&mut gives, seat.gives.items.as_slice(), p, b)?;
-                seat.gives = gives;
-            }
-        }
-    }
-    Ok(true)
+    let Some(rec) = rec else {
+        read_word(alloc, seat, word)?;
+        return Ok(true);
+    };
+    show(sys, lanes, words, seat, word, rec)
 }
 
 /// Whether the seat may read the event word.

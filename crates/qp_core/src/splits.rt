@@ -3,21 +3,20 @@
 ghost use Rattle.std.specs.Prelude.{◌≡◌, ◌<◌, ◌==◌, ◌&&◌, ◌++◌, [], ◌∷◌, IfOk, OnOk, OnErr, Some, length, slice_get, slice_set};
 ghost use Rattle.std.specs.List.{filter, list_any, list_all, position};
 ghost use Rattle.qp_words.specs.Rule.{on_queue};
-ghost use Rattle.qp_core.specs.Words.{Steps};
+ghost use Rattle.qp_seats.specs.Words.{Steps};
 ghost use Rattle.qp_core.specs.Standing.{has_number};
-ghost use Rattle.qp_core.specs.State.{in_set, serves_set, may_pass, may_split, out_part, giving_up, split_off, may_join, joining, Joins, StepsSeat};
-ghost use Rattle.qp_core.specs.declared.seats.Seat.{Seat as ASeat};
+ghost use Rattle.qp_core.specs.State.{in_set, serves_set, may_pass, may_split, in_part, out_part, giving_up, first_logs, split_off, may_join, joining, Joins, StepsSeat};
+ghost use Rattle.qp_seats.specs.declared.seats.Seat.{Seat as ASeat};
 
-use crate::items::{Items, no_items};
 use crate::ops::Op;
-use crate::queues::serves_it;
-use crate::seats::{Seat, SeatGive, copy_of_give};
 use crate::state::{bare, empty_log, seat_place};
 use crate::steps::step;
-use crate::words::Words;
 use qp_base::Memory;
-use qp_model::System;
-use qp_words::{CellPlace, Serve};
+use qp_model::{Entry, System};
+use qp_seats::queues::serves_it;
+use qp_seats::words::Words;
+use qp_seats::{Items, Seat, SeatGive, SeatLog, copy_of_give, no_items};
+use qp_words::{CellPlace, Fill, Serve, Spot};
 use std::alloc::Global;
 use std::mem;
 
@@ -79,26 +78,42 @@ fn may_split(seats: &Items<Seat>, seat: &Seat, into: u32, set: u32) -> bool
     !is_known(seats, into) && serves_set(seat, set, 32) && may_all_pass(seat, set)
 }
 
-/// The seat that is split off.
-fn split_off(alloc: Global, lanes: u32, into: u32, set: u32, seat: &Seat) -> Result<Seat, Memory>
-    ensures { IfOk result (λ x. x ≡ split_off lanes into set seat.now) }
+/// The objects that are handed over.
+fn among(alloc: Global, serves: &Items<Serve>, set: u32) -> Result<Items<Serve>, Memory>
+    ensures { IfOk result (λ xs. xs ≡ filter (in_part set) serves.now) }
 {
-    let items = seat
-        .serves
+    let items = serves
         .items
         .iter()
         .copied()
         .filter(|x| in_set(set, x.object))
         .collect(alloc)
         .map_err(|_| Memory)?;
-    let mut part = bare(alloc, into, true);
-    if into < lanes {
-        part.logs
-            .items
-            .push(empty_log(alloc, into))
+    Ok(Items { items })
+}
+
+/// The lane that a seat begins with.
+fn first_logs(alloc: Global, lanes: u32, number: u32) -> Result<Items<SeatLog>, Memory>
+    ensures { IfOk result (λ gs. gs ≡ first_logs lanes number) }
+{
+    let mut logs = no_items(alloc);
+    if number < lanes {
+        logs.items
+            .push(empty_log(alloc, number))
             .map_err(|_| Memory)?;
     }
-    part.serves = Items { items };
+    Ok(logs)
+}
+
+/// The seat that is split off.
+fn split_off(alloc: Global, lanes: u32, into: u32, set: u32, seat: &Seat) -> Result<Seat, Memory>
+    ensures { IfOk result (λ x. x ≡ split_off lanes into set seat.now) }
+{
+    let serves = among(alloc, &seat.serves, set)?;
+    let logs = first_logs(alloc, lanes, into)?;
+    let mut part = bare(alloc, into, true);
+    part.serves = serves;
+    part.logs = logs;
     Ok(part)
 }
 
@@ -166,8 +181,8 @@ pub fn split(
     if !may_split(seats, seat, into, set) {
         return Ok(false);
     }
-    let part = split_off(alloc, lanes, into, set, seat)?;
     let kept = others(alloc, &seat.serves, set)?;
+    let part = split_off(alloc, lanes, into, set, seat)?;
     add_seat(seats, part)?;
     set_serves(seats, at, kept);
     Ok(true)
@@ -196,34 +211,93 @@ fn add_gives(out: &mut Items<SeatGive>, gives: &[SeatGive]) -> Result<(), Memory
     Ok(())
 }
 
+/// All gives of both.
+fn both_gives(
+    alloc: Global,
+    xs: &Items<SeatGive>,
+    ys: &Items<SeatGive>,
+) -> Result<Items<SeatGive>, Memory>
+    ensures { IfOk result (λ zs. zs ≡ xs.now ++ ys.now) }
+{
+    let mut gives = no_items(alloc);
+    add_gives(&mut gives, xs.items.as_slice())?;
+    add_gives(&mut gives, ys.items.as_slice())?;
+    Ok(gives)
+}
+
+/// What seats hold of blocks.
+#[derive(Drop)]
+struct Blocks {
+    fresh: Items<Spot>,
+    used: Items<Spot>,
+    hands: Items<Entry>,
+    fills: Items<Fill>,
+}
+
+/// What both seats hold of blocks.
+fn both_blocks(alloc: Global, seat: &Seat, other: &Seat) -> Result<Blocks, Memory>
+    ensures fresh { IfOk result (λ k. k.fresh ≡ seat.now.fresh ++ other.now.fresh) }
+    ensures used { IfOk result (λ k. k.used ≡ seat.now.used ++ other.now.used) }
+    ensures hands { IfOk result (λ k. k.hands ≡ seat.now.hands ++ other.now.hands) }
+    ensures fills { IfOk result (λ k. k.fills ≡ seat.now.fills ++ other.now.fills) }
+{
+    let fresh = both(alloc, &seat.fresh, &other.fresh)?;
+    let used = both(alloc, &seat.used, &other.used)?;
+    let hands = both(alloc, &seat.hands, &other.hands)?;
+    let fills = both(alloc, &seat.fills, &other.fills)?;
+    Ok(Blocks {
+        fresh,
+        used,
+        hands,
+        fills,
+    })
+}
+
+/// What seats hold of queues.
+#[derive(Drop)]
+struct Queues {
+    claims: Items<CellPlace>,
+    takes: Items<CellPlace>,
+    serves: Items<Serve>,
+}
+
+/// What both seats hold of queues.
+fn both_queues(alloc: Global, seat: &Seat, other: &Seat) -> Result<Queues, Memory>
+    ensures claims { IfOk result (λ k. k.claims ≡ seat.now.claims ++ other.now.claims) }
+    ensures takes { IfOk result (λ k. k.takes ≡ seat.now.takes ++ other.now.takes) }
+    ensures serves { IfOk result (λ k. k.serves ≡ seat.now.serves ++ other.now.serves) }
+{
+    let claims = both(alloc, &seat.claims, &other.claims)?;
+    let takes = both(alloc, &seat.takes, &other.takes)?;
+    let serves = both(alloc, &seat.serves, &other.serves)?;
+    Ok(Queues {
+        claims,
+        takes,
+        serves,
+    })
+}
+
 /// The seat takes over all that the other has. Where memory is refused both are as they were.
 fn take_over(alloc: Global, seat: &mut Seat, other: &mut Seat) -> Result<(), Memory>
     ensures ok { OnOk result (seat.new ≡ joining seat.old other.old) }
     ensures same { OnErr result (seat.new ≡ seat.old) }
     ensures whole { OnErr result (other.new ≡ other.old) }
 {
-    let fresh = both(alloc, &seat.fresh, &other.fresh)?;
-    let used = both(alloc, &seat.used, &other.used)?;
-    let hands = both(alloc, &seat.hands, &other.hands)?;
-    let fills = both(alloc, &seat.fills, &other.fills)?;
-    let claims = both(alloc, &seat.claims, &other.claims)?;
-    let takes = both(alloc, &seat.takes, &other.takes)?;
-    let serves = both(alloc, &seat.serves, &other.serves)?;
-    let mut gives = no_items(alloc);
-    add_gives(&mut gives, seat.gives.items.as_slice())?;
-    add_gives(&mut gives, other.gives.items.as_slice())?;
+    let gives = both_gives(alloc, &seat.gives, &other.gives)?;
+    let queues = both_queues(alloc, seat, other)?;
+    let blocks = both_blocks(alloc, seat, other)?;
     seat.logs
         .items
         .append(&mut other.logs.items)
         .map_err(|_| Memory)?;
-    seat.fresh = fresh;
-    seat.used = used;
-    seat.hands = hands;
     seat.gives = gives;
-    seat.fills = fills;
-    seat.claims = claims;
-    seat.takes = takes;
-    seat.serves = serves;
+    seat.fresh = blocks.fresh;
+    seat.used = blocks.used;
+    seat.hands = blocks.hands;
+    seat.fills = blocks.fills;
+    seat.claims = queues.claims;
+    seat.takes = queues.takes;
+    seat.serves = queues.serves;
     Ok(())
 }
 

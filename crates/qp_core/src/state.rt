@@ -7,13 +7,12 @@ ghost use Rattle.qp_core.specs.First.{first_word, first_serve, first_serves};
 ghost use Rattle.qp_core.specs.State.{stands_as, bare, shown_by, lane_records, records_at, SetsBy};
 ghost use Rattle.qp_core.specs.Runs.{HoldsOf, IsFirst, first_seat};
 
-use crate::asked::{bit_of, has_object, has_pool};
-use crate::items::{Items, no_items};
-use crate::seats::{Seat, SeatLog};
 use crate::splits::add_seat;
-use crate::words::{WORDS, Words, block_at, pool_at, queue_at};
 use qp_base::Memory;
 use qp_model::{Lane, Rec, System, Word};
+use qp_seats::asked::{bit_of, has_object, has_pool};
+use qp_seats::words::{WORDS, Words, block_at, pool_at, queue_at};
+use qp_seats::{Items, Seat, SeatLog, no_items};
 use qp_words::Serve;
 use std::alloc::Global;
 use std::mem;

@@ -1,0 +1,4 @@
+pub mod ListLemmas
+pub mod Standing
+pub mod BlockLemmas
+pub mod QueueLemmas

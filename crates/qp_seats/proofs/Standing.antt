@@ -1,0 +1,17 @@
+-- A seat of the lanes has room for a record.
+use Rattle.std.proofs.Common.{◌≡◌, ℕ, ◌<◌, nat_lt, List, [], ◌∷◌, true, length, refl, arith}
+use Rattle.std.proofs.lemmas.Bool.Decides.{nat_tests}
+use Rattle.qp_words.specs.Counting.{total}
+use Rattle.qp_words.specs.After.{HasRoom}
+use Rattle.qp_words.specs.declared.Glance.{Glance}
+use Rattle.qp_words.specs.declared.Log.{Log}
+use Rattle.qp_seats.specs.Seats.{records_of}
+use Rattle.qp_seats.specs.Keeps.{seen_view}
+use Rattle.qp_seats.specs.declared.seats.Seat.{Seat}
+
+own-first : (x : Seat) (s : List Glance) (gs : List Log) → x.logs ≡ gs → 0 < length gs → total (λ (g : Log). length g.recs) x.logs < 1000001 → HasRoom (seen_view x s)
+own-first x s [] e pos few = absurd (omega arith)
+own-first x s (g ∷ gs) e pos few = record { own = g; others = gs; is = e; room = few }
+
+pub has-room : (lanes : ℕ) (x : Seat) (s : List Glance) → (nat_lt x.number lanes ≡ true → 0 < length x.logs) → (nat_lt x.number lanes ≡ true) × (nat_lt (records_of x) 1000001 ≡ true) → HasRoom (seen_view x s)
+has-room lanes x s own fits = let test : nat_lt (records_of x) 1000001 ≡ true = fits.1 in own-first x s x.logs refl (own fits.0) (grind (arith, nat_tests))

@@ -1,0 +1,6 @@
+pub mod Lists
+pub mod Seats
+pub mod Words
+pub mod Keeps
+pub mod Blocks
+pub mod Queues
