@@ -11,7 +11,6 @@ use Rattle.std.specs.Option.{option_map_or}
 use Rattle.qp_model.specs.declared.systems.System.{System}
 use Rattle.qp_base.specs.declared.faults.Memory.{Memory}
 use Rattle.qp_words.specs.declared.Serve.{Serve}
-use Rattle.qp_words.proofs.Tokens.{both-true}
 use Rattle.qp_seats.specs.Words.{Steps}
 use Rattle.qp_seats.specs.Keeps.{HasOwn, StepKeeps}
 use Rattle.qp_core.specs.Standing.{has_number, TableHolds}

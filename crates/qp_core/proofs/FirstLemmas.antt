@@ -1,5 +1,5 @@
 -- The table where nothing has happened meets the rule.
-use Rattle.std.proofs.Common.{◌≡◌, ℕ, zero, suc, ◌+◌, ◌-◌, ◌*◌, ◌/◌, ◌%◌, ◌^◌, ◌<◌, ◌≤◌, ◌==◌, nat_lt, nat_le, List, [], ◌∷◌, ◌++◌, Bool, true, false, cond, length, get_or, slice_get, refl, sym, ap, subst, ◌∙◌, arith, eqb, eq-eqb, eqb-true, pow-suc, append_assoc, append-nil, Option, Some, None, Ok, Err, OnOk, is_some}
+use Rattle.std.proofs.Common.{◌≡◌, ℕ, zero, suc, ◌+◌, ◌-◌, ◌*◌, ◌/◌, ◌%◌, ◌^◌, ◌<◌, ◌≤◌, ◌==◌, nat_lt, nat_le, List, [], ◌∷◌, ◌++◌, Bool, true, false, cond, length, get_or, slice_get, refl, sym, ap, ◌∙◌, arith, eqb, eq-eqb, eqb-true, pow-suc, append_assoc, append-nil, Option, Some, None, Ok, Err, OnOk, is_some}
 use Rattle.std.specs.declared.result.Result.{Result}
 use Rattle.std.proofs.lemmas.Bool.{and_parts}
 use Rattle.qp_base.specs.declared.faults.Memory.{Memory}
@@ -30,13 +30,9 @@ use Rattle.qp_core.specs.Standing.{bank, has_number, TableHolds}
 use Rattle.qp_core.specs.First.{first_word, first_serve, first_serves}
 use Rattle.qp_core.specs.Runs.{IsFirst, first_seat, IsFresh}
 use Rattle.qp_core.specs.declared.state.CoreState.{CoreState}
+use Rattle.qp_model.proofs.ListLemmas.{each-at}
 
 -- What a system has
-
-all-at : {X : Type 0} (P : X → Type 0) (xs : List X) (i : ℕ) (x : X) → AllByRecursion P xs → slice_get xs i ≡ Some x → P x
-all-at P [] i x all e = absurd (cc)
-all-at P (y ∷ xs) zero x all e = let is : y ≡ x = cc in subst P is all.0
-all-at P (y ∷ xs) (suc i) x all e = all-at P xs i x all.1 e
 
 module _ (sys : System) (sound : IsSound sys) where
   few-blocks : (p : ℕ) → blocks_of sys p ≤ 32
@@ -44,14 +40,14 @@ module _ (sys : System) (sound : IsSound sys) where
     where
       go : (o : Option PoolDef) → slice_get sys.pools (p - 1) ≡ o → option_map_or (λ (d : PoolDef). d.blocks) o 0 ≤ 32
       go None at = omega arith
-      go (Some d) at = (all-at IsSoundPool sys.pools (p - 1) d sound.pools at).few_blocks
+      go (Some d) at = (each-at IsSoundPool sys.pools (p - 1) d sound.pools at).few_blocks
 
   few-params : (sig : ℕ) → params_of sys sig ≤ 8
   few-params sig = go (slice_get sys.signals (sig - 4)) refl
     where
       go : (o : Option SignalDef) → slice_get sys.signals (sig - 4) ≡ o → option_map_or (λ (d : SignalDef). d.params) o 0 ≤ 8
       go None at = omega arith
-      go (Some d) at = all-at (λ (x : SignalDef). x.params ≤ 8) sys.signals (sig - 4) d sound.params at
+      go (Some d) at = each-at (λ (x : SignalDef). x.params ≤ 8) sys.signals (sig - 4) d sound.params at
 
   few-signals : (sig : ℕ) → is_static sys sig ≡ true → sig < 65536
   unfolding is_static

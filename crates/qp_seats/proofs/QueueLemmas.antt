@@ -1,6 +1,6 @@
 -- Each step on a queue keeps the rule where it is allowed.
 use Rattle.std.proofs.Common.{◌≡◌, ◌≢◌, ℕ, zero, suc, ◌+◌, ◌-◌, ◌*◌, ◌/◌, ◌%◌, ◌<◌, ◌≤◌, ◌==◌, nat_lt, nat_le, List, [], ◌∷◌, ◌++◌, Bool, true, false, not, cond, ◌&&◌, length, set, get_or, refl, sym, ap, subst, ◌∙◌, arith, eqb, eq-eqb, ne_eqb, eqb-true, true≢false, mod-eq_of_lt, mod-lt, IsTrue, Option, Some, None}
-use Rattle.std.proofs.lemmas.Bool.{and_parts}
+use Rattle.std.proofs.lemmas.Bool.{and_parts, not-true}
 use Rattle.std.proofs.lemmas.Bool.Decides.{nat_tests}
 use Rattle.std.specs.List.{list_any, find}
 use mathlib.Core.Option.{some}
@@ -33,10 +33,6 @@ use Rattle.qp_seats.specs.declared.seats.Seat.{Seat}
 use Rattle.qp_seats.proofs.ListLemmas.{any-many, none-many}
 use Rattle.qp_seats.proofs.Standing.{has-room}
 use Rattle.qp_seats.proofs.BlockLemmas.{adds-two}
-
-not-true : (b : Bool) → not b ≡ true → b ≡ false
-not-true true h = cc
-not-true false h = refl
 
 -- the entry that a step names is static or in hand
 in-hand-case : (sys : System) (x : Seat) (s : List Glance) (p b k : ℕ) → ((sig : ℕ) → IsTrue (is_static sys sig) → sig < 65536) → (c : Bool) → (p == 0) ≡ c → cond c ((b == 0) && is_static sys k) (is_block sys p b && list_any (is_ref p b k) x.hands) ≡ true
