@@ -4,7 +4,7 @@
 //! texts.
 #![tactic(auto)]
 
-// Named by the definitions of specs/, which stand outside of tests too.
+// These two stand outside of tests too: the definitions of specs/ name the types, and proofs/ holds proofs of their methods.
 mod actor;
 #[cfg(test)]
 mod answers;
@@ -26,5 +26,4 @@ mod refusals;
 mod shown;
 #[cfg(test)]
 mod systems;
-#[cfg(test)]
 mod trial;
