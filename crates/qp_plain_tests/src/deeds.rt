@@ -268,6 +268,7 @@ fn post_lifo<O: Ops, L: Ledger>(
     requires of { (O.lane ops.old).sys ≡ sys.now }
     requires mine { (O.lane ops.old).by ≡ o }
     requires sound { IsSound sys.now }
+    requires serves { (p : ℕ) → IsTrue ((O.lane ops.old).serves p) }
     requires event { IsEvent sys.now (event_of ev.now) }
     ensures { StaysSteady (O.lane ops.old) (O.lane ops.new) result }
 {
@@ -289,6 +290,7 @@ fn send<O: Ops, L: Ledger>(
     requires of { (O.lane ops.old).sys ≡ sys.now }
     requires mine { (O.lane ops.old).by ≡ o }
     requires sound { IsSound sys.now }
+    requires serves { (p : ℕ) → IsTrue ((O.lane ops.old).serves p) }
     requires event { IsEvent sys.now (event_of ev.now) }
     ensures { StaysSteady (O.lane ops.old) (O.lane ops.new) result }
 {
@@ -314,6 +316,7 @@ fn send_new<O: Ops, L: Ledger>(
     requires of { (O.lane ops.old).sys ≡ sys.now }
     requires mine { (O.lane ops.old).by ≡ o }
     requires sound { IsSound sys.now }
+    requires serves { (p : ℕ) → IsTrue ((O.lane ops.old).serves p) }
     ensures { StaysSteady (O.lane ops.old) (O.lane ops.new) result }
 {
     let ev = event(sys, sig, pars)?;
