@@ -3,41 +3,48 @@
 ghost use Rattle.std.specs.Prelude.{◌≡◌, IfOk};
 ghost use Rattle.qp_histories.specs.Numbers.{WordsFit};
 
-use crate::samples::{Part, Parts, Row, SIM, nothing, object, one_lane, signal, two_lanes};
+use crate::samples::{Part, Parts, Row, SIM, object, one_lane, signal, two_lanes};
 use qp_check::Site;
 use qp_ending::ending::end_holds;
 use qp_histories::records_by_word::RecordsByWord;
 use qp_model::kinds::{
     ARM, BACK, DEC, DEFER, FIRE, FULL, INC, NEW, NIL, POST, SEEN, SHORT, SUB, TOOK, UNSUB,
 };
-use qp_model::{Journal, Lanes, PoolDef, System, TimerDef};
+use qp_model::{
+    Charts, Journal, Lanes, ObjectDefs, PoolDef, PoolDefs, SignalDefs, System, TimerDef, TimerDefs,
+};
 use qp_word_rules::judge::words_broken;
 use qp_word_rules::verdict::Broken;
 use std::alloc::{AllocError, Global};
 use std::test::Fail;
 
-/// Signals 4 to 6, of which 5 isn't static.
-fn add_signals(sys: &mut System) -> Result<(), AllocError> {
-    sys.signals.items.push(signal("GO", 0, true))?;
-    sys.signals.items.push(signal("N", 1, false))?;
-    sys.signals.items.push(signal("X", 0, true))?;
-    Ok(())
-}
-
-/// A pool of two blocks, signals 4 to 6, an object with a ring of 1, and a time event.
+/// A pool of two blocks, signals 4 to 6, of which 5 isn't static, an object with a ring of 1, and a time event.
 fn system(alloc: Global) -> Result<System, AllocError>
     ensures { IfOk result (λ s. WordsFit s) }
 {
-    let mut sys = nothing(alloc);
-    add_signals(&mut sys)?;
-    sys.pools.items.push(PoolDef { size: 1, blocks: 2 })?;
-    sys.objects.items.push(object(alloc, "lamp", 1, 1))?;
-    sys.timers.items.push(TimerDef {
-        object: 1,
-        sig: 6,
-        rate: 0,
-    })?;
-    Ok(sys)
+    let pools = vec![in alloc; PoolDef { size: 1, blocks: 2 }]?;
+    let signals = vec![in alloc;
+        signal("GO", 0, true),
+        signal("N", 1, false),
+        signal("X", 0, true),
+    ]?;
+    let objects = vec![in alloc; object(alloc, "lamp", 1, 1)]?;
+    let timers = vec![in alloc;
+        TimerDef {
+            object: 1,
+            sig: 6,
+            rate: 0
+        },
+    ]?;
+    Ok(System {
+        pools: PoolDefs { items: pools },
+        signals: SignalDefs { items: signals },
+        charts: Charts {
+            items: Vec::new(alloc),
+        },
+        objects: ObjectDefs { items: objects },
+        timers: TimerDefs { items: timers },
+    })
 }
 
 fn broken_in(alloc: Global, sys: &System, lanes: &Lanes) -> Result<Option<Broken>, AllocError>
