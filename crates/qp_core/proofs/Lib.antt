@@ -1,5 +1,3 @@
-pub mod LookLemmas
-pub mod StepLemmas
 pub mod SeatLemmas
 pub mod TableLemmas
 pub mod FirstLemmas

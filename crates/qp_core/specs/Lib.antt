@@ -1,5 +1,3 @@
-pub mod Looks
-pub mod Steps
 pub mod Standing
 pub mod First
 pub mod State

@@ -7,11 +7,11 @@ ghost use Rattle.std.specs.List.{position};
 ghost use Rattle.qp_core.specs.State.{stands_as, may_apply, Applies};
 ghost use Rattle.qp_core.specs.Runs.{HoldsOf, EndsAs};
 
-use crate::ops::Op;
 use crate::splits::{join, split, step_at};
 use crate::state::{CoreState, seat_place};
 use qp_base::Memory;
 use qp_model::System;
+use qp_seats::Op;
 use std::alloc::Global;
 
 /// Why a schedule wasn't run to its end.

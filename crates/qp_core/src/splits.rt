@@ -8,14 +8,11 @@ ghost use Rattle.qp_core.specs.Standing.{has_number};
 ghost use Rattle.qp_core.specs.State.{in_set, serves_set, may_pass, may_split, in_part, out_part, giving_up, first_logs, split_off, may_join, joining, Joins, StepsSeat};
 ghost use Rattle.qp_seats.specs.declared.seats.Seat.{Seat as ASeat};
 
-use crate::ops::Op;
 use crate::state::{bare, empty_log, seat_place};
-use crate::steps::step;
 use qp_base::Memory;
 use qp_model::{Entry, System};
-use qp_seats::queues::serves_it;
 use qp_seats::words::Words;
-use qp_seats::{Items, Seat, SeatGive, SeatLog, copy_of_give, no_items};
+use qp_seats::{Items, Op, Seat, SeatGive, SeatLog, copy_of_give, no_items, serves_it, step};
 use qp_words::{CellPlace, Fill, Serve, Spot};
 use std::alloc::Global;
 use std::mem;

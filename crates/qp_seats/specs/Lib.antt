@@ -4,3 +4,5 @@ pub mod Words
 pub mod Keeps
 pub mod Blocks
 pub mod Queues
+pub mod Looks
+pub mod Steps

@@ -1,13 +1,19 @@
-//! The seats of the event table, and the steps by which a seat changes a word.
+//! The seats of the event table, and the atomic steps that one seat takes by itself.
 #![tactic(auto)]
 
 pub mod asked;
-pub mod blocks;
-pub mod entries;
+mod blocks;
+mod entries;
 mod items;
-pub mod queues;
+mod looks;
+mod ops;
+mod queues;
 mod seats;
+mod steps;
 pub mod words;
 
 pub use items::{Items, no_items};
+pub use ops::Op;
+pub use queues::serves_it;
 pub use seats::{Seat, SeatGive, SeatLog, copy_of_give};
+pub use steps::step;

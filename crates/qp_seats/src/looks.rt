@@ -6,17 +6,18 @@ ghost use Rattle.qp_words.specs.After.{reading};
 ghost use Rattle.qp_seats.specs.Words.{Steps};
 ghost use Rattle.qp_queues.specs.Laws.{f_in, l_in, m_in};
 ghost use Rattle.qp_seats.specs.Seats.{may_add, noting};
-ghost use Rattle.qp_core.specs.Looks.{is_word, ones, counts_match, entries_in, states_pool, states_queue, states, may_look, looked, may_read, may_peek};
+ghost use Rattle.qp_seats.specs.Looks.{is_word, ones, counts_match, entries_in, states_pool, states_queue, states, may_look, looked, may_read, may_peek};
 
+use crate::asked::{has_block, has_object, has_pool, size_of};
+use crate::blocks::ONE;
+use crate::entries::{lifos_in, posts_in, takes_in};
+use crate::items::{Items, no_items};
+use crate::queues::serves_it;
+use crate::seats::{Seat, SeatGive, copy_of_give};
+use crate::words::{Words, pool_at, queue_at};
 use arrayvec::ArrayVec;
 use qp_base::Memory;
 use qp_model::{Body, Rec, System, Word};
-use qp_seats::asked::{has_block, has_object, has_pool, size_of};
-use qp_seats::blocks::ONE;
-use qp_seats::entries::{lifos_in, posts_in, takes_in};
-use qp_seats::queues::serves_it;
-use qp_seats::words::{Words, pool_at, queue_at};
-use qp_seats::{Items, Seat, SeatGive, copy_of_give, no_items};
 use std::alloc::Global;
 
 /// Whether it is a word of the event table that the system has.
@@ -81,9 +82,8 @@ fn counts_match(word: u64, f: u64, l: u64, m: u64) -> bool
 fn entries_in(word: u64) -> u64
     ensures { result ≡ entries_in word }
 {
-    (u64::from(posts_in(word)) + u64::from(lifos_in(word))).saturating_sub(u64::from(takes_in(
-        word,
-    )))
+    let posts = u64::from(posts_in(word)) + u64::from(lifos_in(word));
+    posts.saturating_sub(u64::from(takes_in(word)))
 }
 
 /// Whether a queue's word counts as many takes as posts.

@@ -3,16 +3,16 @@
 ghost use Rattle.std.specs.Prelude.{◌≡◌};
 ghost use Rattle.qp_seats.specs.Words.{Steps};
 ghost use Rattle.qp_seats.specs.Keeps.{HasOwn, StepKeeps};
-ghost use Rattle.qp_core.specs.Steps.{may_step, Steps_one};
+ghost use Rattle.qp_seats.specs.Steps.{may_step, Steps_one};
 
+use crate::blocks::{drop_reference, fill, give, make, put_back};
 use crate::looks::{look, may_peek, may_read};
 use crate::ops::Op;
+use crate::queues::{claim, empty, free, lay, lifo};
+use crate::seats::Seat;
+use crate::words::Words;
 use qp_base::Memory;
 use qp_model::System;
-use qp_seats::Seat;
-use qp_seats::blocks::{drop_reference, fill, give, make, put_back};
-use qp_seats::queues::{claim, empty, free, lay, lifo};
-use qp_seats::words::Words;
 use std::alloc::Global;
 
 /// The step by its kind.
