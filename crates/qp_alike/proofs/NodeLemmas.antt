@@ -106,9 +106,6 @@ pub then-Some : {A B : Type 0} (o : Option A) (f : A → Option B) (y : B) → o
 then-Some None f y e = cc
 then-Some (Some x) f y e = (x, refl, e)
 
-pub some-is : {A : Type 0} (x y : A) → (let o : Option A = Some x in o) ≡ Some y → x ≡ y
-some-is x y e = cc
-
 pub if-Some : {A : Type 0} (c : Bool) (u v : A) (y : A) → cond c u v ≡ y → (u ≡ y) ⊎ (v ≡ y)
 if-Some true u v y e = inl e
 if-Some false u v y e = inr e

@@ -1,6 +1,7 @@
 -- The keys of each table of a TOML document ascend.
 use Rattle.std.proofs.Common.{◌≡◌, ℕ, zero, suc, Bool, true, false, cond, ◌&&◌, ◌==◌, List, [], Option, Some, None, refl, ◌∙◌, ap, subst, ◌⊎◌, inl, inr}
 use Rattle.std.specs.Prelude.{length, drop, slice_index, option_map, option_and_then}
+use Rattle.std.proofs.lemmas.Option.{same_Some}
 use Rattle.toml_parser.specs.Lexical.{left_bracket, left_brace, right_bracket, right_brace, first, skip_blank, skip_ws}
 use Rattle.toml_parser.specs.Strings.{Key, quoted, starts_string, recursion_limit}
 use Rattle.toml_parser.specs.Numbers.{unquoted}
@@ -9,7 +10,7 @@ use Rattle.toml_parser.specs.declared.scalar.Scalar.TheVariants as scalar
 use Rattle.toml.specs.Data.{Data, string, array, table, Items, no_items, push_item, Members, is_sorted, items_are_sorted, members_are_sorted}
 use Rattle.toml.specs.Tables.{Nodes, no_nodes, close, Definition, key_value, std_table, array_table, Expression, put, Document, define}
 use Rattle.toml.specs.Parse.{after_element, keyval, key_equals, items, members, atom, scalar_data, val, header_key, expression, line, ends_line, lines, skip_bom, parse_document}
-use Rattle.qp_alike.proofs.NodeLemmas.{SortedNodes, SortedDefinition, push-sorted, close-sorted, then-Some, some-is, if-Some, put-keeps, define-sorted}
+use Rattle.qp_alike.proofs.NodeLemmas.{SortedNodes, SortedDefinition, push-sorted, close-sorted, then-Some, if-Some, put-keeps, define-sorted}
 use Rattle.qp_model.proofs.ListLemmas.{mapped}
 
 -- a value that is read has its keys in order
@@ -53,7 +54,7 @@ module _ (read : List ℕ → Option (Data × List ℕ)) (sorted : Reads read) w
       → cond ends (Some (found, drop 1 start)) (option_and_then (on_item n found) (read start)) ≡ Some (ds, rest)
       → ((v : Data × List ℕ) (text : List ℕ) (ds : Items) (rest : List ℕ) → items_are_sorted (push_item found v.0) ≡ true → items read n (push_item found v.0) text ≡ Some (ds, rest) → items_are_sorted ds ≡ true)
       → items_are_sorted ds ≡ true
-  item-sorted n found start ds rest true h f more = let is : found ≡ ds = ap (λ (p : Items × List ℕ). p.0) (some-is (found, drop 1 start) (ds, rest) f) in subst (λ x. items_are_sorted x ≡ true) is h
+  item-sorted n found start ds rest true h f more = let is : found ≡ ds = ap (λ (p : Items × List ℕ). p.0) (same_Some (found, drop 1 start) (ds, rest) f) in subst (λ x. items_are_sorted x ≡ true) is h
   item-sorted n found start ds rest false h f more =
       let got = then-Some (read start) (on_item n found) (ds, rest) f in
       let next = then-Some (after_element right_bracket got.0.1) (items read n (push_item found got.0.0)) (ds, rest) got.2 in
@@ -72,7 +73,7 @@ module _ (read : List ℕ → Option (Data × List ℕ)) (sorted : Reads read) w
       → cond ends (Some (close found, drop 1 start)) (option_and_then (on_member n found) (keyval read start)) ≡ Some (ms, rest)
       → ((found : Nodes) (text : List ℕ) (ms : Members) (rest : List ℕ) → SortedNodes found → members read n found text ≡ Some (ms, rest) → members_are_sorted ms ≡ true)
       → members_are_sorted ms ≡ true
-  member-sorted n found start ms rest true h f more = let is : close found ≡ ms = ap (λ (p : Members × List ℕ). p.0) (some-is (close found, drop 1 start) (ms, rest) f) in subst (λ x. members_are_sorted x ≡ true) is (close-sorted found h)
+  member-sorted n found start ms rest true h f more = let is : close found ≡ ms = ap (λ (p : Members × List ℕ). p.0) (same_Some (close found, drop 1 start) (ms, rest) f) in subst (λ x. members_are_sorted x ≡ true) is (close-sorted found h)
   member-sorted n found start ms rest false h f more =
       let got = then-Some (keyval read start) (on_member n found) (ms, rest) f in
       let made = then-Some (put got.0.0.0 got.0.0.1 found) (λ more. option_and_then (members read n more) (after_element right_brace got.0.1)) (ms, rest) got.2 in

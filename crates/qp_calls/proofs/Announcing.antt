@@ -2,7 +2,7 @@
 use Rattle.std.proofs.Common.{◌≡◌, ℕ, max, Bool, true, false, List, [], ◌∷◌, ◌++◌, map, refl, sym, ◌∙◌, ap, subst, arith, append_assoc, Option, Some, None, ◌⊎◌, inl, inr}
 use Rattle.qp_model.specs.declared.bodies.Entry as model
 use Rattle.qp_model.specs.declared.bodies.Body.TheVariants as item
-use Rattle.qp_model.specs.Told.{Told, ToldItem, Event, plain, raised, for_object}
+use Rattle.qp_model.specs.Told.{Told, Event, plain, raised, for_object}
 use Rattle.qp_model.specs.Calls as call
 use Rattle.qp_model.specs.Calls.{Answer, Granted, Refused, Flushed, AtQueue, AtPool, AtTimer, AtTicks, AtFront}
 use Rattle.qp_model.specs.Parts.{is_static, members, members_below, sizes_of}
@@ -20,6 +20,7 @@ use Rattle.qp_calls.specs.Groups.{Answers}
 use Rattle.qp_calls.specs.Publishing.{Announced, AreObjects, BeginsGoing, EndsGoing, GoesOnAssert, GoesOnGoing, Marks, PostsAgain}
 use Rattle.qp_calls.proofs.Growing.{gains-none, grows-room, grows-then, stands-still}
 use Rattle.qp_calls.proofs.Answering.{with_head, without-with}
+use Rattle.qp_calls.proofs.NoteLemmas.{ceiling-append}
 
 pub_hands : (sig n set : ℕ) (a v : LaneView) → Grows (plain (item.Pub sig n set) ∷ []) a v → v.hands ≡ a.hands
 unfolding hands_after hands_by
@@ -80,11 +81,6 @@ unfolding restoring
 lower-some former set top rest a q w is same adds =
     let here : Adds (plain (item.Unlock former) ∷ []) a w = subst (λ x. Adds (plain (item.Unlock former) ∷ []) x w) same adds in
     rw is (record { grows = here.grows; hands = unlock_hands former a w here.grows; spare = omega (arith, here.spare) })
-
-ceiling-append : (c : ℕ) (xs ys : List ToldItem) → ceiling_in c (xs ++ ys) ≡ ceiling_in (ceiling_in c xs) ys
-unfolding ceiling_in
-ceiling-append c [] ys = refl
-ceiling-append c (x ∷ xs) ys = ceiling-append _ xs ys
 
 -- an entry is made at no other ceiling
 ceiling-made : (fixed : Bool) (sizes : List ℕ) (sig : ℕ) (pars : List ℕ) (reserve : Option ℕ) (head : List Told) (e : model.Entry) (o c n set : ℕ)

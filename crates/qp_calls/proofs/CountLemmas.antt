@@ -8,14 +8,16 @@ use Rattle.qp_model.specs.Record.{entry}
 use Rattle.qp_model.specs.Parts.{is_static}
 use Rattle.qp_calls.specs.declared.tokens.Entry.{Entry}
 use Rattle.qp_calls.specs.declared.tokens.Entry.TheVariants as token
-use Rattle.qp_calls.specs.Tokens.{Token, Held, same_token, token_of, take_out, stands, with_entry, without_entry}
+use Rattle.qp_calls.specs.Tokens.{Token, Held, same_token, token_of, take_out, stands, with_entry, without_entry, hands_after, hands_by}
 use Rattle.qp_calls.specs.LaneView.{LaneView}
-use Rattle.qp_calls.specs.Clauses.{Stands, entry_of}
+use Rattle.qp_calls.specs.Clauses.{Stands, entry_of, TakesIt}
 use Rattle.qp_calls.specs.Counting.{one, times, count_of}
 use Rattle.qp_calls.specs.Deferring.{tokens_in, is_named, StandAll}
 use Rattle.qp_calls.proofs.HandLemmas.{same-equal, same-self}
-use Rattle.qp_calls.proofs.Releasing.{not_zero, with-pool}
+use Rattle.qp_calls.proofs.Releasing.{with-pool}
 use Rattle.qp_model.proofs.ListLemmas.{all-push}
+use Rattle.qp_model.specs.Told.{taken}
+use Rattle.qp_model.proofs.NumberLemmas.{not-zero}
 
 -- how often an entry is this token
 abbrev pub count_in : Token → model.Entry → ℕ
@@ -54,7 +56,7 @@ count-without t e hands h = go (e.pool == 0) h
     go false k = count-take_out t (token_of e) hands k
 
 -- what occurs stands
-count-stands : (t : Token) (hands : List Token) → 0 < count_of t hands → stands t hands ≡ true
+pub count-stands : (t : Token) (hands : List Token) → 0 < count_of t hands → stands t hands ≡ true
 unfolding stands times
 count-stands t [] h = absurd (omega arith)
 count-stands t (y ∷ ys) h = go (same_token t y) h (count-stands t ys)
@@ -75,7 +77,7 @@ tokens-append t (x ∷ es) e =
 pub stands-in : (e : Entry) (v : LaneView) → Stands e v → is_in (entry_of e) v.hands ≡ true
 unfolding entry_of
 stands-in (token.Static sig) v h = refl
-stands-in (token.Pool k) v h = rw (not_zero k.pool h.0) h.1
+stands-in (token.Pool k) v h = rw (not-zero k.pool h.0) h.1
 
 front-counts : (p b r : ℕ) (hands : List Token) → 0 < p → 0 < count_of (Held p b r) (with_entry (entry p b r) hands)
 unfolding times
@@ -107,7 +109,7 @@ stand-still ks v w all more sys = record { named = rw sys all.named; counts = λ
 pub stand-same : (ks : List Entry) (v w : LaneView) → StandAll ks v → w.hands ≡ v.hands → w.sys ≡ v.sys → StandAll ks w
 stand-same ks v w all hands sys = stand-still ks v w all (λ t. rw hands (omega arith)) sys
 
-stands-named : (e : Entry) (v : LaneView) → Stands e v → is_named v.sys e ≡ true
+pub stands-named : (e : Entry) (v : LaneView) → Stands e v → is_named v.sys e ≡ true
 stands-named (token.Static sig) v h = h
 stands-named (token.Pool k) v h = lt-ltb 0 k.pool h.0
 
@@ -127,3 +129,12 @@ stand-tail k ks v all = record {
   named = (and_parts (is_named v.sys k) (list_all (λ e. is_named v.sys e) ks) all.named).1;
   counts = λ t. let front = count-with t (entry_of k) (tokens_in (map entry_of ks)) in omega (arith, front, all.counts t);
 }
+
+-- the hands have the entry that was taken, and the object keeps it
+pub taken-hands : (me : ℕ) (e : Entry) (v w : LaneView) → TakesIt me e v w → w.hands ≡ with_entry (entry_of e) v.hands
+unfolding hands_after hands_by
+taken-hands me e v w t = t.adds.grows.hands
+
+pub none-stand : (v : LaneView) → StandAll [] v
+unfolding times
+none-stand v = record { named = refl; counts = λ t. omega arith }

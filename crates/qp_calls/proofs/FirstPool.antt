@@ -1,7 +1,7 @@
 -- The pools of a system by their sizes.
 use Rattle.std.proofs.Common.{◌≡◌, ℕ, List, [], ◌∷◌, map, refl, ap, nat_le, Bool, true, false}
-use Rattle.std.specs.List.{position, prefix_len, list_any, AllByRecursion}
-use Rattle.std.proofs.Common.{length, not, cond, zero, suc, sym, ◌||◌, slice_get, nat_lt}
+use Rattle.std.specs.List.{position, prefix_len, list_any}
+use Rattle.std.proofs.Common.{length, not, cond, sym, ◌||◌, slice_get, nat_lt}
 use Rattle.std.proofs.lemmas.Bool.{lt-ltb, le-leb}
 use Rattle.std.proofs.lemmas.List.{length-map}
 use Rattle.std.proofs.Common.{Some, None, Option, get_or, ◌<◌, ◌≤◌, ◌-◌, ◌+◌, arith, ◌⊎◌, inl, inr}
@@ -15,6 +15,7 @@ use Rattle.qp_model.specs.declared.systems.System.{System}
 use Rattle.qp_model.specs.Parts.{first_pool, sizes_of, is_static}
 use Rattle.qp_model.specs.Told.{Event}
 use Rattle.qp_model.specs.Sound.{IsSound, IsSoundSignal}
+use Rattle.qp_model.proofs.ListLemmas.{every-at}
 use Rattle.qp_calls.specs.Clauses.{FitsPool, IsEvent}
 
 prefix-sizes : (n : ℕ) (pools : List PoolDef) → prefix_len (λ size. not (nat_le n size)) (map (λ d. d.size) pools) ≡ prefix_len (λ d. not (nat_le n d.size)) pools
@@ -60,11 +61,6 @@ position-any p xs h =
     let is : nat_lt (prefix_len (λ x. not (p x)) xs) (length xs) ≡ true = lt-ltb _ _ lt in
     (prefix_len (λ x. not (p x)) xs, rw is refl)
 
-pub at_place : {A : Type 0} (P : A → Type 0) (xs : List A) → AllByRecursion P xs → (i : ℕ) (x : A) → slice_get xs i ≡ Some x → P x
-at_place P [] h i x at = absurd (cc)
-at_place P (y ∷ ys) h zero x at = let same : y ≡ x = cc in rw (sym same) h.0
-at_place P (y ∷ ys) h (suc i) x at = at_place P ys h.1 i x at
-
 pub record HasPool (sys : System) (n : ℕ) : Type 0 where
   pub few : length sys.pools ≤ 15
   pub number : ℕ
@@ -85,7 +81,7 @@ pool_of_sound sys ev sound is pooled = go (slice_get sys.signals (ev.sig - 4)) r
         let four : nat_le 4 ev.sig ≡ true = le-leb 4 ev.sig is.from in
         let fixed : d.fixed ≡ false = rw (four, at) at pooled in
         let params : length ev.pars ≡ d.params = rw at at is.params in
-        let signal = at_place (IsSoundSignal sys.pools) sys.signals sound.signals (ev.sig - 4) d at in
+        let signal = every-at (IsSoundSignal sys.pools) sys.signals sound.signals (ev.sig - 4) d at in
         let any : list_any (λ q. nat_le (length ev.pars) q.size) sys.pools ≡ true = rw params (signal.pooled fixed) in
         let found = position-any (λ q. nat_le (length ev.pars) q.size) sys.pools any in
         record { few = sound.few_pools; number = found.0 + 1; first = rw (position-sizes (length ev.pars) sys.pools, found.1) refl }

@@ -32,10 +32,6 @@ stands-more t x hands h = go (same_token t x) (list_any (λ y. same_token t y) h
     go true v h = refl
     go false v h = h
 
-or_true : (b : Bool) → (b || true) ≡ true
-or_true true = refl
-or_true false = refl
-
 apart_bool : {X : Type 0} (u : Bool) → (u && false) ≡ true → X
 apart_bool u h = let e : false ≡ true = (and_parts u false h).1 in absurd (cc)
 
@@ -79,8 +75,8 @@ stands-out t x (y ∷ ys) h = go (same_token x y) (same_token t y) refl refl h (
     go true true xy ty k ih =
         let same : t ≡ x = same-equal t y ty ∙ sym (same-equal x y xy) in
         rw (same, same-self x) refl
-    go true false xy ty k ih = rw k (or_true (same_token t x))
-    go false true xy ty k ih = rw ty (or_true (same_token t x))
+    go true false xy ty k ih = rw k (or_right (same_token t x) true refl)
+    go false true xy ty k ih = rw ty (or_right (same_token t x) true refl)
     go false false xy ty k ih = rw ty (ih k)
 
 pub stands-with : (t : Token) (e : model.Entry) (hands : List Token) → stands t hands ≡ true → stands t (with_entry e hands) ≡ true

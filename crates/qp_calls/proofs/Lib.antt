@@ -13,3 +13,4 @@ pub mod SetBits
 pub mod Announcing
 pub mod Sending
 pub mod TickLemmas
+pub mod NoteLemmas

@@ -1,6 +1,5 @@
 -- Entries whose references are dropped, and entries that get another reference.
-use Rattle.std.proofs.Common.{◌≡◌, ℕ, zero, suc, ◌+◌, ◌<◌, ◌==◌, true, false, List, [], ◌∷◌, refl, sym, ◌∙◌, subst, arith, add-one, IsTrue, inl, inr}
-use Rattle.std.proofs.lemmas.Bool.Decides.{nat_tests}
+use Rattle.std.proofs.Common.{◌≡◌, ℕ, zero, suc, ◌+◌, ◌<◌, true, List, [], ◌∷◌, refl, sym, ◌∙◌, subst, arith, add-one, IsTrue, inl, inr}
 use Rattle.qp_model.specs.declared.words.Word.TheVariants as word
 use Rattle.qp_model.specs.declared.bodies.Body.TheVariants.{Back, Inc}
 use Rattle.qp_model.specs.Record.{entry}
@@ -16,20 +15,18 @@ use Rattle.qp_calls.specs.Entries.{Release, Again}
 use Rattle.qp_calls.proofs.HandLemmas.{loose-first, held-first, same-self}
 use Rattle.qp_calls.proofs.Growing.{grows-then, gains-none}
 use Rattle.qp_model.proofs.LineLemmas.{same_number}
+use Rattle.qp_model.proofs.NumberLemmas.{not-zero}
 
 -- a token in front is the first of its kind
 pub take_out-first : (t : Token) (hands : List Token) → take_out t (t ∷ hands) ≡ hands
 unfolding take_out
 take_out-first t hands = rw (same-self t) refl
 
-pub not_zero : (p : ℕ) → 0 < p → (p == 0) ≡ false
-not_zero p h = grind (arith, nat_tests)
-
 pub without-pool : (p b r : ℕ) (hands : List Token) → 0 < p → without_entry (entry p b r) hands ≡ take_out (Held p b r) hands
-without-pool p b r hands some = rw (not_zero p some) refl
+without-pool p b r hands some = rw (not-zero p some) refl
 
 pub with-pool : (p b r : ℕ) (hands : List Token) → 0 < p → with_entry (entry p b r) hands ≡ Held p b r ∷ hands
-with-pool p b r hands some = rw (not_zero p some) refl
+with-pool p b r hands some = rw (not-zero p some) refl
 
 drops : (p b r : ℕ) (g : List Told) → 0 < p → Releases p b r g → Drops (entry p b r) g
 unfolding Drops

@@ -230,12 +230,12 @@ next-object e all left to rest a v r some room first objects =
 
 -- The whole publication.
 
-no_raise : (former : ℕ) (ms : List ℕ) → raising 0 former ms ≡ []
+pub no_raise : (former : ℕ) (ms : List ℕ) → raising 0 former ms ≡ []
 unfolding raising
 no_raise former [] = refl
 no_raise former (a ∷ ms) = refl
 
-no_restore : (former : ℕ) (ms : List ℕ) → restoring 0 former ms ≡ []
+pub no_restore : (former : ℕ) (ms : List ℕ) → restoring 0 former ms ≡ []
 unfolding restoring
 no_restore former [] = refl
 no_restore former (a ∷ ms) = refl

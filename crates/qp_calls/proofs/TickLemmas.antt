@@ -17,13 +17,13 @@ use Rattle.qp_model.specs.Sound.{IsSound, IsSoundTimer}
 use Rattle.qp_model.specs.WordLaw.{is_object}
 use Rattle.qp_model.specs.Sources.{Ticks, TicksOne, FiresInVain}
 use Rattle.qp_model.specs.Shapes.{Posts}
+use Rattle.qp_model.proofs.ListLemmas.{every-at}
 use Rattle.qp_calls.specs.declared.did.Did.{Did}
 use Rattle.qp_calls.specs.declared.did.Did.TheVariants as did
 use Rattle.qp_calls.specs.Tokens.{hands_after, hands_by}
 use Rattle.qp_calls.specs.LaneView.{LaneView, Gains, Grows, AddsOf, Adds, Roomier}
 use Rattle.qp_calls.specs.Entries.{PostsEntry, did_of}
 use Rattle.qp_calls.specs.Ticking.{FiredInVain, GrowsByTicks, TickCut, TickedAll, TickedSome, TickedTimer, TicksTimer, by_ticker, timer_of}
-use Rattle.qp_calls.proofs.FirstPool.{at_place}
 use Rattle.qp_calls.proofs.Growing.{gains-none, gains-then, room-then}
 
 idle_hands : (t n : ℕ) (a v : LaneView) → Grows (plain (item.Idle t n) ∷ []) a v → v.hands ≡ a.hands
@@ -260,7 +260,7 @@ at xs ys i dflt same lt =
     })
 
 pub sound-at : (sys : System) (i : ℕ) (d : TimerDef) → IsSound sys → At sys.timers i d → IsSoundTimer sys d
-sound-at sys i d sound at = at_place (IsSoundTimer sys) sys.timers sound.timers i d at.here
+sound-at sys i d sound at = every-at (IsSoundTimer sys) sys.timers sound.timers i d at.here
 
 -- one round of the loop
 pub ticked-skip : (rate i : ℕ) (ts : List TimerDef) (d : TimerDef) (a v w : LaneView) → TickedSome rate (take i ts) a v → At ts i d → (d.rate ≡ rate → ⊥) → w ≡ v

@@ -29,7 +29,7 @@ use Rattle.qp_chart.proofs.TreeLemmas.{paths_that_end_are_trees}
 use Rattle.qp_chart.proofs.ChartTree.{none-both, fault_if-None, first_in-None, IsInside, path-short}
 
 -- two lists side by side
-Corresponds-length : {A B : Type 0} (R : A → B → Type 0) (xs : List A) (ys : List B) → Corresponds R xs ys → length xs ≡ length ys
+pub Corresponds-length : {A B : Type 0} (R : A → B → Type 0) (xs : List A) (ys : List B) → Corresponds R xs ys → length xs ≡ length ys
 unfolding Corresponds
 Corresponds-length R [] [] h = refl
 Corresponds-length R [] (y ∷ ys) h = absurd h

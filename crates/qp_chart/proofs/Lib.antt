@@ -4,6 +4,6 @@ pub mod TreeLemmas
 mod TransitionTable
 pub mod BindingLemmas
 mod ParentsLemmas
-mod ChartTree
+pub mod ChartTree
 pub mod LegalLemmas
 pub mod CrossingLemmas

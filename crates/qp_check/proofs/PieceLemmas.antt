@@ -13,17 +13,11 @@ use Rattle.qp_model.specs.KernelLane.{Setting, Reading, Upcoming, Inside, lane_n
 use Rattle.qp_model.specs.Knowing.{Facts, told}
 use Rattle.qp_model.specs.Pieces.{Piece, Tell, Point}
 use Rattle.qp_model.specs.Points.{begins_row, is_look, pieces_at, pieces_in}
+use Rattle.qp_model.proofs.NumberLemmas.{eqb-sym}
+use Rattle.qp_model.proofs.KernelRowLemmas.{no-row}
 use Rattle.qp_lanes.specs.Options.{allowed}
 use Rattle.qp_check.specs.ObjectPieces.{is_it, listed, own_piece, point_of, stepping}
 use Rattle.qp_lanes.proofs.ItemLemmas.{items-from, items-none}
-
--- two equal numbers
-eq_sym : (m n : ℕ) → (m == n) ≡ (n == m)
-eq_sym m n = go (m == n) refl
-  where
-    go : (b : Bool) → (m == n) ≡ b → b ≡ (n == m)
-    go true e = let f : (n == m) ≡ true = grind (arith, nat_tests) in sym f
-    go false e = let f : (n == m) ≡ false = grind (arith, nat_tests) in sym f
 
 point-own : (of : ℕ) (place : Upcoming) (running : List ℕ) → is_it of (stepping of place running) ≡ false
 point-own of Inside (p ∷ outer) = go (p == of) refl
@@ -42,10 +36,6 @@ point-other o of Inside (p ∷ outer) other = go (p == of) refl (p == o) refl
     go false e b f = refl
 point-other o of _ _ other = refl
 
-row-none : (o : ℕ) (place : Upcoming) (running : List ℕ) → begins_row o place running false ≡ false
-row-none o Inside (p ∷ outer) = refl
-row-none o _ _ = refl
-
 -- what a record is to an object
 pub pieces-are : (w : Facts) (o : ℕ) (k : Reading) (i : Item)
     → pieces_at w o k i ≡ cond (o == i.of) (listed (own_piece w k.ceiling i)) [] ++ cond (is_it o (point_of k i)) (Point ∷ []) []
@@ -53,7 +43,7 @@ unfolding pieces_at own_piece
 pieces-are w o k i = go (i.of == o) refl (is_look i.body) refl
   where
     flip : (m n : ℕ) (b : Bool) → (m == n) ≡ b → (n == m) ≡ b
-    flip m n b e = eq_sym n m ∙ e
+    flip m n b e = eqb-sym n m ∙ e
 
     own : (t : Bool) → cond t [] (Tell (told w i.of k.ceiling i.body) ∷ []) ≡ listed (cond t None (Some (Tell (told w i.of k.ceiling i.body))))
     own true = refl
@@ -69,7 +59,7 @@ pieces-are w o k i = go (i.of == o) refl (is_look i.body) refl
         let is : o ≡ i.of = grind (arith, nat_tests) in
         rw (flip i.of o true e, is) (own (is_turn_mark i.body) ∙ sym (append-nil (listed (cond (is_turn_mark i.body) None (Some (Tell (told w i.of k.ceiling i.body)))))))
     go false e true f = rw (flip i.of o false e, point-other o i.of k.place k.running e) refl
-    go false e false f = rw (flip i.of o false e, row-none o k.place k.running) refl
+    go false e false f = rw (flip i.of o false e, no-row o k.place k.running) refl
 
 module _ (w : Facts) (s : Setting) (k : Reading) (lane : List Rec) (i : ℕ) where
   -- a lane that reads on, at its next record

@@ -18,8 +18,9 @@ use Rattle.qp_model.specs.OneOrder.{IsOneOrder}
 use Rattle.qp_model.specs.Points.{lane_pieces}
 use Rattle.qp_fits.specs.Decides.{Decides}
 use Rattle.qp_lane_zero.specs.OneOrder.{run_of}
-use Rattle.qp_check.proofs.DecideLemmas.{decides-as, decides-false, decides-true, decides-where}
+use Rattle.qp_check.proofs.DecideLemmas.{decides-where}
 use Rattle.std.specs.Prelude.{count_by}
+use Rattle.qp_shapes.proofs.GroupsDecideLemmas.{decides-as, decides-no, decides-yes}
 
 module _ (sys : System) (j : Journal) where
   abbrev Reads : Bool
@@ -29,7 +30,7 @@ module _ (sys : System) (j : Journal) where
   Points = AllByRecursion (λ d. FollowsTo sys d (cut_of sys j d.priority) (lane_pieces (facts_of sys j) (setting_of sys j) d.priority (lane_items (lane_at j 0)))) sys.objects
 
   pub kernel-unread : false ≡ Reads → Decides false (KernelHolds sys j)
-  kernel-unread fails = decides-false (KernelHolds sys j) (λ h. let bad : false ≡ true = fails ∙ h.lane in let absent : ⊥ = cc in absent)
+  kernel-unread fails = decides-no (KernelHolds sys j) (λ h. let bad : false ≡ true = fails ∙ h.lane in let absent : ⊥ = cc in absent)
 
   pub kernel-read : true ≡ Reads → (b : Bool) → Decides b Points → Decides b (KernelHolds sys j)
   kernel-read reads b h = decides-as Points (KernelHolds sys j) b (λ points. record { lane = sym reads; points = points }) (λ k. k.points) h
@@ -52,14 +53,14 @@ module _ (sys : System) (j : Journal) where
 
 -- a question of a truth value's kind, in the other order
 pub unasked : (P : Type 0) (b : Bool) → b ≡ false → Decides true (MatchBool b P ⊤)
-unasked P b is = decides-true (MatchBool b P ⊤) (rw is tt)
+unasked P b is = decides-yes (MatchBool b P ⊤) (rw is tt)
 
 pub when-asked : (P : Type 0) (b : Bool) → b ≡ true → (c : Bool) → Decides c P → Decides c (MatchBool b P ⊤)
 when-asked P b is c h = decides-as P (MatchBool b P ⊤) c (λ p. rw is p) (λ m. rw is at m) h
 
 -- one of two parts
 pub both-not : (P Q : Type 0) → (P → ⊥) → Decides false (P × Q)
-both-not P Q fails = decides-false (P × Q) (λ h. fails h.0)
+both-not P Q fails = decides-no (P × Q) (λ h. fails h.0)
 
 pub both-as : (P Q : Type 0) → P → (b : Bool) → Decides b Q → Decides b (P × Q)
 both-as P Q p b h = decides-as Q (P × Q) b (λ q. (p, q)) (λ pq. pq.1) h
@@ -78,7 +79,7 @@ module _ (sys : System) (stimuli : List (List Stim)) (j : Journal) where
 
   pub order-found : HasOrder true → Decides true (OrderHolds sys stimuli j)
   unfolding OrderHolds
-  order-found h = decides-true ((cuts : Bool) × SpillsStand sys j cuts 1 stimuli × IsOneOrder (one_thread sys stimuli j cuts)) (true, h.0, h.1)
+  order-found h = decides-yes ((cuts : Bool) × SpillsStand sys j cuts 1 stimuli × IsOneOrder (one_thread sys stimuli j cuts)) (true, h.0, h.1)
 
   pub order-behind : (HasOrder true → ⊥) → (b : Bool) → Decides b (HasOrder false) → Decides b (OrderHolds sys stimuli j)
   unfolding OrderHolds

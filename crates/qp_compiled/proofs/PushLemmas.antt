@@ -1,7 +1,7 @@
 -- Codes that are added one after another.
-use Rattle.std.proofs.Common.{◌≡◌, ℕ, suc, ◌+◌, ◌<◌, ◌≤◌, List, [], ◌∷◌, ◌++◌, length, get_or, map, drop, refl, sym, ◌∙◌, ap, Option, Some, None, arith, append_assoc, append-nil, add-one, drop-cons}
+use Rattle.std.proofs.Common.{◌≡◌, ℕ, ◌+◌, ◌<◌, ◌≤◌, List, [], ◌∷◌, ◌++◌, length, get_or, map, drop, refl, ◌∙◌, ap, Option, Some, None, arith, append_assoc}
 use Rattle.std.specs.List.{slice_get}
-use Rattle.std.proofs.lemmas.List.{drop_all, map-append}
+use Rattle.std.proofs.lemmas.List.{map-append}
 use Rattle.std.proofs.lemmas.Option.{slice_get-get_or}
 use Rattle.qp_chart.specs.Task as task
 use Rattle.qp_chart.specs.declared.checked.Chart.{Chart}
@@ -15,23 +15,11 @@ use Rattle.qp_compiled.specs.declared.code.Code.{Code}
 use Rattle.qp_compiled.specs.declared.code.Code.TheVariants as code
 use Rattle.qp_compiled.specs.Codes.{acts_in, within_task, plain_task, task_at, tasks_at}
 use Rattle.qp_compiled.specs.Within.{IsLocked}
+use Rattle.qp_state_tree.proofs.PlanLemmas.{made-step, made-all}
 
 -- a code is pushed
 pub pushed : (chart : Chart) (xs ys : List Code) (x : Code) (t : task.Task) → task_at chart x ≡ t → ys ≡ xs ++ x ∷ [] → tasks_at chart ys ≡ tasks_at chart xs ++ t ∷ []
 pushed chart xs ys x t is e = ap (tasks_at chart) e ∙ map-append (task_at chart) xs (x ∷ []) ∙ ap (λ u. tasks_at chart xs ++ u ∷ []) is
-
--- what an element makes stands before what the others make
-pub each-step : {X Y : Type 0} (f : List X → List Y) (g : X → List Y) → ((x : X) (xs : List X) → f (x ∷ xs) ≡ g x ++ f xs)
-    → (xs : List X) (i : ℕ) (x d : X) (done new whole : List Y) → i < length xs → x ≡ get_or xs i d → new ≡ done ++ g x → done ++ f (drop i xs) ≡ whole
-    → new ++ f (drop (i + 1) xs) ≡ whole
-each-step f g cons xs i x d done new whole h is e k =
-    let rest : drop i xs ≡ x ∷ drop (i + 1) xs = rw add-one (drop-cons xs i d h ∙ ap (λ y. y ∷ drop (suc i) xs) (sym is)) in
-    ap (λ ys. ys ++ f (drop (i + 1) xs)) e ∙ append_assoc done (g x) (f (drop (i + 1) xs)) ∙ ap (λ ys. done ++ ys) (sym (cons x (drop (i + 1) xs)))
-    ∙ ap (λ ys. done ++ f ys) (sym rest) ∙ k
-
--- no element is left
-pub each-end : {X Y : Type 0} (f : List X → List Y) (xs : List X) (i : ℕ) (done whole : List Y) → f [] ≡ [] → length xs ≤ i → done ++ f (drop i xs) ≡ whole → done ≡ whole
-each-end f xs i done whole none h k = sym (append-nil done) ∙ ap (λ ys. done ++ ys) (sym none) ∙ ap (λ ys. done ++ f ys) (sym (drop_all i xs h)) ∙ k
 
 -- the task of an action within `locked`
 within-is : (plains : List Plain) (o : Option Act) (i : ℕ) (d : Plain) → IsLocked plains o → i < length plains → within_task i o ≡ Do (get_or plains i d)
@@ -50,7 +38,7 @@ within-step chart list at i plains codes new whole locked h e k = by plains lock
         → tasks_at chart new ++ map Do (drop (i + 1) plains) ≡ whole
     by [] locked h k = absurd (omega (arith, h))
     by (d ∷ ps) locked h k =
-        each-step (λ xs. map Do xs) (λ x. Do x ∷ []) (λ x xs. refl) (d ∷ ps) i (get_or (d ∷ ps) i d) d (tasks_at chart codes) (tasks_at chart new) whole h refl
+        made-step (λ xs. map Do xs) (λ x. Do x ∷ []) (λ x xs. refl) (d ∷ ps) i (get_or (d ∷ ps) i d) d (tasks_at chart codes) (tasks_at chart new) whole h refl
         (pushed chart codes new _ _ (within-is (d ∷ ps) (slice_get (acts_in chart list) at) i d locked h) e) k
 
 -- an action that stands alone
@@ -74,14 +62,9 @@ locked-is chart c plains a codes one two new e h k l =
 pub is-locked : (plains : List Plain) (c : ℕ) (o : Option Act) (a : Act) → o ≡ Some a → a ≡ act.Locked c plains → IsLocked plains o
 is-locked plains c o a e is = rw (e, is) refl
 
-pub acts-step : (xs : List Act) (i : ℕ) (x d : Act) (done new whole : List task.Task) → i < length xs → x ≡ get_or xs i d → new ≡ done ++ act_tasks x
-    → done ++ tasks_of (drop i xs) ≡ whole → new ++ tasks_of (drop (i + 1) xs) ≡ whole
-unfolding tasks_of
-acts-step = each-step tasks_of act_tasks (λ x xs. refl)
-
 pub acts-end : (xs : List Act) (i : ℕ) (done whole : List task.Task) → length xs ≤ i → done ++ tasks_of (drop i xs) ≡ whole → done ≡ whole
 unfolding tasks_of
-acts-end xs i done whole h k = each-end tasks_of xs i done whole refl h k
+acts-end xs i done whole h k = made-all tasks_of xs i done whole refl h k
 
 -- an exit of a state
 pub exits-step : (chart : Chart) (xs : List ℕ) (i s : ℕ) (codes note : List Code) (new whole : List task.Task) → i < length xs → s ≡ get_or xs i 0
@@ -90,12 +73,12 @@ pub exits-step : (chart : Chart) (xs : List ℕ) (i s : ℕ) (codes note : List 
 unfolding exits task_at acts_in
 exits-step chart xs i s codes note new whole h is one two k =
     let told = pushed chart codes note (code.Exit s) (Exit s) refl one in
-    each-step (exits chart) (λ s. Exit s ∷ tasks_of (acts_in chart (of.Exit s))) (λ x xs. refl) xs i s 0 (tasks_at chart codes) new whole h is
+    made-step (exits chart) (λ s. Exit s ∷ tasks_of (acts_in chart (of.Exit s))) (λ x xs. refl) xs i s 0 (tasks_at chart codes) new whole h is
     (two ∙ ap (λ ys. ys ++ tasks_of (acts_in chart (of.Exit s))) told ∙ append_assoc (tasks_at chart codes) (Exit s ∷ []) _) k
 
 pub exits-end : (chart : Chart) (xs : List ℕ) (i : ℕ) (done whole : List task.Task) → length xs ≤ i → done ++ exits chart (drop i xs) ≡ whole → done ≡ whole
 unfolding exits
-exits-end chart xs i done whole h k = each-end (exits chart) xs i done whole refl h k
+exits-end chart xs i done whole h k = made-all (exits chart) xs i done whole refl h k
 
 -- an entry of a state
 pub entries-step : (chart : Chart) (xs : List ℕ) (i s : ℕ) (codes note : List Code) (new whole : List task.Task) → i < length xs → s ≡ get_or xs i 0
@@ -104,9 +87,9 @@ pub entries-step : (chart : Chart) (xs : List ℕ) (i s : ℕ) (codes note : Lis
 unfolding entries task_at acts_in
 entries-step chart xs i s codes note new whole h is one two k =
     let told = pushed chart codes note (code.Enter s) (Enter s) refl one in
-    each-step (entries chart) (λ s. Enter s ∷ tasks_of (acts_in chart (of.Entry s))) (λ x xs. refl) xs i s 0 (tasks_at chart codes) new whole h is
+    made-step (entries chart) (λ s. Enter s ∷ tasks_of (acts_in chart (of.Entry s))) (λ x xs. refl) xs i s 0 (tasks_at chart codes) new whole h is
     (two ∙ ap (λ ys. ys ++ tasks_of (acts_in chart (of.Entry s))) told ∙ append_assoc (tasks_at chart codes) (Enter s ∷ []) _) k
 
 pub entries-end : (chart : Chart) (xs : List ℕ) (i : ℕ) (done whole : List task.Task) → length xs ≤ i → done ++ entries chart (drop i xs) ≡ whole → done ≡ whole
 unfolding entries
-entries-end chart xs i done whole h k = each-end (entries chart) xs i done whole refl h k
+entries-end chart xs i done whole h k = made-all (entries chart) xs i done whole refl h k

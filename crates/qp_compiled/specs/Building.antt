@@ -11,11 +11,6 @@ use Rattle.qp_compiled.specs.declared.choice.Choice.{Choice}
 use Rattle.qp_compiled.specs.declared.choice.Choices.{Choices}
 use Rattle.qp_compiled.specs.declared.choice.Leaf.{Leaf}
 
--- the tasks of a plan stand behind the old ones, and its leaf is told
-pub record Adds (plan : drill.Plan) (old new : List Task) (after : ℕ) : Type 0 where
-  pub tasks : new ≡ old ++ plan.tasks
-  pub leaf : after ≡ plan.leaf
-
 -- tasks stand behind the old ones
 abbrev pub Extends : List Task → List Task → Type 0
 Extends old new = (more : List Task) × (new ≡ old ++ more)

@@ -5,7 +5,8 @@ ghost use Rattle.qp_chart.specs.Drill.{initial, drill};
 ghost use Rattle.qp_chart.specs.Agenda.{crossing, moves, handled, ended, start_plan};
 ghost use Rattle.qp_chart.specs.Handler.{Handler};
 ghost use Rattle.qp_compiled.specs.Codes.{row_at, tasks_at};
-ghost use Rattle.qp_compiled.specs.Building.{Adds, Places};
+ghost use Rattle.qp_state_tree.specs.Plans.{Adds};
+ghost use Rattle.qp_compiled.specs.Building.{Places};
 
 use crate::agenda::{Agenda, Plan};
 use crate::code::{ActionList, Code};

@@ -1,5 +1,6 @@
 -- What may come after a piece may come with it.
 use Rattle.std.proofs.Common.{◌≡◌, ℕ, zero, suc, ◌+◌, true, ◌&&◌, List, [], ◌∷◌, ◌++◌, refl, sym, ◌∙◌, ap, subst, inl, inr, Some}
+use Rattle.std.proofs.lemmas.Option.{none-some}
 use Rattle.qp_model.specs.declared.systems.System.{System}
 use Rattle.qp_model.specs.declared.bodies.Entry.{Entry}
 use Rattle.qp_model.specs.declared.bodies.Body.TheVariants as item
@@ -18,7 +19,6 @@ use Rattle.qp_course.proofs.NoteLemmas.{record_of, tells-is, raised-is, taken-is
 use Rattle.qp_course.proofs.CourseLemmas.{goes-took}
 use Rattle.qp_course.proofs.SettleLemmas.{back-settle, back-resume}
 use Rattle.qp_course.proofs.NextLemmas.{first-rest, back-noted, back-posted, back-step}
-use Rattle.qp_course.proofs.NeverLemmas.{none-some}
 use Rattle.qp_model.proofs.KernelLaneLemmas.{granted}
 use Rattle.qp_model.proofs.AbleLemmas.{some-same}
 use Rattle.qp_model.proofs.ListLemmas.{mapped}
@@ -46,13 +46,13 @@ module _ (begin : ReadsBegin) (whole : ReadsWhole) (reads_next : ReadsNext) (sys
           back-settle begin sys a aim way leaf ts (record c { former = former }) ps (subst (λ s. Goes sys a aim s ps) (sym at.2) h),
         ),
       )
-  next-goes (AtPoint ev x ts leaf c) (Tell t) ps later e h = absurd (none-some e)
+  next-goes (AtPoint ev x ts leaf c) (Tell t) ps later e h = absurd (none-some _ e)
   next-goes (InCall way inner rest ts leaf c) (Tell t) ps later e h =
       let at = mapped (λ more. posted (inner && is_post t.body) a way inner more leaf ts (record c { kept = more.kept })) (call_state_next sys a.o (moment_of way).entry rest t) later e in
       let more : CallState = at.0 in
       first-rest reads_next sys a way inner rest (LeftGoes sys a aim way ts leaf) c t more ps at.1
       (back-posted begin whole reads_next sys a aim (inner && is_post t.body) way inner more leaf ts (record c { kept = more.kept }) ps (subst (λ s. Goes sys a aim s ps) (sym at.2) h))
-  next-goes (AtPost way rest ts leaf c) (Tell t) ps later e h = absurd (none-some e)
+  next-goes (AtPost way rest ts leaf c) (Tell t) ps later e h = absurd (none-some _ e)
   next-goes (Releasing x c) (Tell t) ps later e h =
       let at = mapped (λ (y : ℕ × ℕ). left_over x y.0 y.1 c) (dropped_by x t.body t.known) later e in
       let is = dropped-is x at.0 t.body t.known at.1 in
@@ -73,11 +73,11 @@ module _ (begin : ReadsBegin) (whole : ReadsWhole) (reads_next : ReadsNext) (sys
       let is = back-is p b d t.body t.known at.0 in
       let k : StepsGo sys a aim c ps = subst (λ s. Goes sys a aim s ps) (sym at.1) h in
       (is.0, (ps, ap (λ q. Tell q ∷ ps) is.1, k))
-  next-goes Asserted (Tell t) ps later e h = absurd (none-some e)
+  next-goes Asserted (Tell t) ps later e h = absurd (none-some _ e)
   next-goes (AtPoint ev x ts leaf c) Point ps later e h =
       let same : settle a (Stepping ev x) leaf ts c ≡ later = some-same e in
       (ps, refl, back-settle begin sys a aim (Stepping ev x) leaf ts c ps (subst (λ s. Goes sys a aim s ps) (sym same) h))
   next-goes (AtPost way rest ts leaf c) Point ps later e h =
       let same : resume way true rest leaf ts (settle a way leaf ts) c ≡ later = some-same e in
       (ps, refl, back-resume sys a aim way leaf ts (settle a way leaf ts) (λ d zs k. back-settle begin sys a aim way leaf ts d zs k) true rest c ps (subst (λ s. Goes sys a aim s ps) (sym same) h))
-  next-goes s Point ps later e h = absurd (none-some e)
+  next-goes s Point ps later e h = absurd (none-some _ e)

@@ -1,5 +1,6 @@
 -- States from which an object's course can run.
 use Rattle.std.proofs.Common.{◌≡◌, ℕ, ◌≤◌, true, [], sym, ◌∙◌, ap, subst, Some, arith}
+use Rattle.std.proofs.lemmas.Option.{none-some}
 use Rattle.qp_chart.specs.Expr.{Names}
 use Rattle.qp_chart.specs.Drill.{Plan}
 use Rattle.qp_chart.specs.declared.checked.Chart.{Chart}
@@ -26,11 +27,10 @@ use Rattle.qp_course.specs.FewLeft.{AreFew}
 use Rattle.qp_course.specs.Runs.{IsAble, CanRun}
 use Rattle.qp_course.proofs.ReadyLemmas.{ready-start, ready-next, can-next}
 use Rattle.qp_course.proofs.FewStateLemmas.{few-start, few-next}
-use Rattle.qp_course.proofs.NeverLemmas.{none-some}
 
 whole : (s : CallStage) (answer : Answer) → stage_answer s ≡ Some answer → s ≡ Whole answer
 whole (Whole own) answer h = ap Whole (some-same h)
-whole s answer h = absurd (none-some h)
+whole s answer h = absurd (none-some _ h)
 
 -- a flush that is whole tells no more entries than a deferred list has room for
 pub whole-few : (sys : System) (a : Actor) (way : Way) (rest : CallState) → CanGoOn sys a way rest → a.room ≤ 255

@@ -4,6 +4,7 @@ use Rattle.std.specs.Prelude.{slice_set}
 use Rattle.std.specs.Option.{option_and_then}
 use Rattle.std.specs.List.{count_by}
 use Rattle.std.proofs.lemmas.List.Sums.{sum_by-cons}
+use Rattle.std.proofs.lemmas.Option.{none-some}
 use Rattle.qp_chart.specs.declared.actions.Plain.{Plain}
 use Rattle.qp_chart.specs.Task as task
 use Rattle.qp_chart.specs.Task.{Task}
@@ -29,7 +30,6 @@ use Rattle.qp_course.specs.Standing.{left_in}
 use Rattle.qp_course.proofs.NoteLemmas.{tells-is, raised-is, taken-is, dropped-is, back-is}
 use Rattle.qp_course.proofs.PassLemmas.{Shape, settle-shape, through-none}
 use Rattle.qp_course.proofs.QuietLemmas.{call-plain}
-use Rattle.qp_course.proofs.NeverLemmas.{none-some}
 use Rattle.qp_model.proofs.KernelLaneLemmas.{granted}
 use Rattle.qp_model.proofs.AbleLemmas.{some-same}
 use Rattle.qp_model.proofs.ListLemmas.{mapped}
@@ -309,13 +309,13 @@ module _ (sys : System) (a : Actor) where
       let body = same-body (raised-is ceiling at.0 t.body t.known at.1) in
       under-counts (Raising way ceiling ts leaf c) later t.body refl (record { done = ap is_done body; took = ap is_took body })
       (subst IsUnder at.2 (settle-under a way leaf ts (record c { former = at.0 }) h))
-  next-counts (AtPoint ev x ts leaf c) t later e h = absurd (none-some e)
+  next-counts (AtPoint ev x ts leaf c) t later e h = absurd (none-some _ e)
   next-counts (InCall way inner rest ts leaf c) t later e h =
       let at = mapped (λ more. posted (inner && is_post t.body) a way inner more leaf ts (record c { kept = more.kept })) (call_state_next sys a.o (moment_of way).entry rest t) later e in
       let is = call-plain sys a.o (moment_of way).entry rest t at.0 at.1 in
       under-counts (InCall way inner rest ts leaf c) later t.body refl (record { done = is.0; took = is.1 })
       (subst IsUnder at.2 (posted-under (inner && is_post t.body) a way inner at.0 leaf ts (record c { kept = at.0.kept }) h))
-  next-counts (AtPost way rest ts leaf c) t later e h = absurd (none-some e)
+  next-counts (AtPost way rest ts leaf c) t later e h = absurd (none-some _ e)
   next-counts (Releasing x c) t later e h =
       let at = mapped (λ (y : ℕ × ℕ). left_over x y.0 y.1 c) (dropped_by x t.body t.known) later e in
       let body = same-body (dropped-is x at.0 t.body t.known at.1) in
@@ -329,7 +329,7 @@ module _ (sys : System) (a : Actor) where
       let at = granted (comes_back p b d t.body t.known) (Between c) later e in
       let body = same-body (back-is p b d t.body t.known at.0).1 in
       rests-count (Returning p b d c) later t.body refl (ap open_in (sym at.1)) (subst WillEnd at.1 tt) (record { done = ap is_done body; took = ap is_took body }) (ap is_assert body)
-  next-counts Asserted t later e h = absurd (none-some e)
+  next-counts Asserted t later e h = absurd (none-some _ e)
 
   -- records that are read, as many steps done as began
   pub told-counts : (g : List Told) (s later : State) → run_told sys a s g ≡ Some later → WillEnd s

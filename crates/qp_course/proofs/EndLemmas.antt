@@ -2,6 +2,7 @@
 use Rattle.std.proofs.Common.{◌≡◌, ℕ, suc, ◌+◌, Bool, true, false, ◌&&◌, List, [], ◌∷◌, ◌++◌, refl, ◌∙◌, ap, inl, inr, ◌⊎◌, Some, None}
 use Rattle.std.specs.Prelude.{max}
 use Rattle.std.specs.Bool.{MatchBool}
+use Rattle.std.proofs.lemmas.Bool.{false≢true}
 use Rattle.qp_chart.specs.Task.{Task}
 use Rattle.qp_model.specs.declared.systems.System.{System}
 use Rattle.qp_model.specs.declared.bodies.Entry.{Entry}
@@ -22,7 +23,6 @@ use Rattle.qp_course.specs.Ready.{AreAble, IsWithin, CanGoOn, IsReady}
 use Rattle.qp_course.proofs.CourseLemmas.{steps-none}
 use Rattle.qp_course.proofs.SomeLemmas.{left-some}
 use Rattle.qp_course.proofs.NextLemmas.{inner-first}
-use Rattle.qp_course.proofs.NeverLemmas.{false-true}
 
 -- records of a call that is under way are some
 rest-some : (sys : System) (a : Actor) (way : Way) (inner : Bool) (rest : CallState) (later : Later) (c : Config) → stage_answer rest.stage ≡ None
@@ -64,7 +64,7 @@ pub end-goes : (sys : System) (a : Actor) (s : State) → is_end s ≡ true → 
 unfolding Goes
 end-goes sys a (Between c) h = steps-none sys a anywhere c tt
 end-goes sys a Asserted h = refl
-end-goes sys a s h = absurd (false-true h)
+end-goes sys a s h = absurd (false≢true h)
 
 module _ (open_reads : OpenReads) (sys : System) (a : Actor) where
   -- what comes after the end of an action

@@ -1,6 +1,7 @@
 -- The tasks left in each state of a course make events of at most eight parameters.
 use Rattle.std.proofs.Common.{◌≡◌, ℕ, zero, suc, Bool, true, false, ◌&&◌, List, [], ◌∷◌, subst, Some, is_some}
 use Rattle.std.specs.Prelude.{slice_set}
+use Rattle.std.proofs.lemmas.Option.{none-some}
 use Rattle.qp_chart.specs.Task as task
 use Rattle.qp_chart.specs.Task.{Task}
 use Rattle.qp_chart.specs.Agenda.{step_plan, start_plan}
@@ -21,7 +22,6 @@ use Rattle.qp_course.specs.Goes.{Way, Starting, Stepping, moment_of}
 use Rattle.qp_course.specs.Machine.{State, Between, Telling, Raising, AtPoint, InCall, AtPost, Releasing, Returning, Asserted, has_inner, done, answered, resumed, resume, deed_state, task_state, closed, settle, noted, posted, step_state, start_state, left_over, tell_next, point_next, next}
 use Rattle.qp_course.specs.Followable.{with_eight}
 use Rattle.qp_course.specs.FewLeft.{AreFew, FewLeft}
-use Rattle.qp_course.proofs.NeverLemmas.{none-some}
 use Rattle.qp_model.proofs.KernelLaneLemmas.{granted}
 use Rattle.qp_model.proofs.ListLemmas.{mapped}
 
@@ -108,11 +108,11 @@ module _ (sys : System) (a : Actor) (few : chart_able with_eight a.chart ≡ tru
       let at = mapped (λ former. settle a way leaf ts (record c { former = former })) (raised_from ceiling t.body t.known) later e in
       let former : ℕ = at.0 in
       subst FewLeft at.2 (few-settle a way leaf ts (record c { former = former }) h)
-  few-next (AtPoint ev x ts leaf c) (Tell t) later e h = absurd (none-some e)
+  few-next (AtPoint ev x ts leaf c) (Tell t) later e h = absurd (none-some _ e)
   few-next (InCall way inner rest ts leaf c) (Tell t) later e h =
       let at = mapped (λ more. posted (inner && is_post t.body) a way inner more leaf ts (record c { kept = more.kept })) (call_state_next sys a.o (moment_of way).entry rest t) later e in
       subst FewLeft at.2 (few-posted (inner && is_post t.body) way inner at.0 leaf ts (record c { kept = at.0.kept }) h)
-  few-next (AtPost way rest ts leaf c) (Tell t) later e h = absurd (none-some e)
+  few-next (AtPost way rest ts leaf c) (Tell t) later e h = absurd (none-some _ e)
   few-next (Releasing x c) (Tell t) later e h =
       let at = mapped (λ (y : ℕ × ℕ). left_over x y.0 y.1 c) (dropped_by x t.body t.known) later e in
       subst FewLeft at.2 (by at.0.0 at.0.1)
@@ -123,8 +123,8 @@ module _ (sys : System) (a : Actor) (few : chart_able with_eight a.chart ≡ tru
   few-next (Returning p b d c) (Tell t) later e h =
       let at = granted (comes_back p b d t.body t.known) (Between c) later e in
       subst FewLeft at.1 tt
-  few-next Asserted (Tell t) later e h = absurd (none-some e)
+  few-next Asserted (Tell t) later e h = absurd (none-some _ e)
   few-next (AtPoint ev x ts leaf c) Point later e h = subst FewLeft (some-same e) (few-settle a (Stepping ev x) leaf ts c h)
   few-next (AtPost way rest ts leaf c) Point later e h =
       subst FewLeft (some-same e) (few-resume a way leaf ts h (settle a way leaf ts) (λ d. few-settle a way leaf ts d h) true rest c)
-  few-next s Point later e h = absurd (none-some e)
+  few-next s Point later e h = absurd (none-some _ e)

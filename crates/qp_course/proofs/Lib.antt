@@ -1,5 +1,4 @@
 -- Lemmas of the course.
-pub mod NeverLemmas
 pub mod RowLemmas
 pub mod TaskLemmas
 pub mod GoesLemmas

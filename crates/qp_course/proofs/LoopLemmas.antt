@@ -3,6 +3,7 @@ use Rattle.std.proofs.Common.{◌≡◌, ℕ, zero, suc, ◌+◌, ◌-◌, ◌<�
 use Rattle.std.specs.Prelude.{slice_get}
 use Rattle.std.specs.Option.{option_and_then}
 use Rattle.std.proofs.lemmas.List.{drop_all}
+use Rattle.std.proofs.lemmas.Option.{none-some}
 use Rattle.qp_chart.specs.Task.{Task}
 use Rattle.qp_model.specs.declared.systems.System.{System}
 use Rattle.qp_model.specs.declared.bodies.Entry.{Entry}
@@ -21,7 +22,6 @@ use Rattle.qp_course.specs.Passing.{pass, run_told}
 use Rattle.qp_course.specs.Runs.{IsAble, CanRun, is_point}
 use Rattle.qp_course.proofs.PassLemmas.{Shape, pass-none, resume-shape, settle-shape, start-none}
 use Rattle.qp_course.proofs.CanLemmas.{run-next}
-use Rattle.qp_course.proofs.NeverLemmas.{none-some}
 use Rattle.qp_model.proofs.AbleLemmas.{some-same}
 
 -- at most so many points are to come before another piece
@@ -76,7 +76,7 @@ module _ (a : Actor) where
   unfolding point_next
   point-fewer (AtPoint ev e ts leaf c) later h = let same = ap points_left (some-same h) in omega (arith, same, settled ev e leaf ts c)
   point-fewer (AtPost way rest ts leaf c) later h = let same = ap points_left (some-same h) in omega (arith, same, resumes way rest leaf ts c)
-  point-fewer s later h = absurd (none-some h)
+  point-fewer s later h = absurd (none-some _ h)
 
   unexpected : (s : State) → point_next a s ≡ None → expects_point s ≡ false
   unfolding point_next

@@ -1,13 +1,13 @@
 -- Notes and other single records, and what is read of them.
 use Rattle.std.proofs.Common.{◌≡◌, ℕ, ◌+◌, ◌==◌, max, Bool, true, false, ◌&&◌, refl, ◌∙◌, ap, subst, Some}
-use Rattle.std.proofs.lemmas.Bool.{and_from, eqb-true, and_parts}
+use Rattle.std.proofs.lemmas.Bool.{and_from, eqb-true, and_parts, false≢true}
+use Rattle.std.proofs.lemmas.Option.{none-some}
 use Rattle.qp_model.specs.declared.bodies.Entry.{Entry}
 use Rattle.qp_model.specs.declared.bodies.Body.{Body}
 use Rattle.qp_model.specs.declared.bodies.Body.TheVariants as item
 use Rattle.qp_model.specs.Told as told
 use Rattle.qp_model.specs.Told.{Told, Event, Known, plain, raised, taken, dropped}
 use Rattle.qp_course.specs.Note.{Note, Begin, Run, Unhandled, Exit, Enter, Init, Done, Say, Unlock, body_of, note_of, same_note, is_noted, tells, raised_from, taken_by, dropped_by, comes_back}
-use Rattle.qp_course.proofs.NeverLemmas.{false-true, none-some}
 use Rattle.qp_model.proofs.KernelLaneLemmas.{granted}
 use Rattle.qp_model.proofs.LineLemmas.{same_number}
 
@@ -29,7 +29,7 @@ same-is (Init s) (Init t) h = ap Init (eqb-true s t h)
 same-is Done Done h = refl
 same-is (Say v) (Say w) h = ap Say (eqb-true v w h)
 same-is (Unlock c) (Unlock d) h = ap Unlock (eqb-true c d h)
-same-is n m h = absurd (false-true h)
+same-is n m h = absurd (false≢true h)
 
 is-same : (n : Note) → same_note n n ≡ true
 unfolding same_note
@@ -54,7 +54,7 @@ note-body (item.Init s) n h = ap body_of (same-is (Init s) n h)
 note-body item.Done n h = ap body_of (same-is Done n h)
 note-body (item.Say v) n h = ap body_of (same-is (Say v) n h)
 note-body (item.Unlock c) n h = ap body_of (same-is (Unlock c) n h)
-note-body b n h = absurd (false-true h)
+note-body b n h = absurd (false≢true h)
 
 body-note : (n : Note) → note_of (body_of n) ≡ Some n
 unfolding note_of
@@ -72,7 +72,7 @@ body-note (Unlock c) = refl
 pub tells-is : (n : Note) (body : Body) (known : Known) → tells n body known ≡ true → record_of body known ≡ plain (body_of n)
 unfolding tells
 tells-is n body told.Nothing h = ap plain (note-body body n h)
-tells-is n body known h = absurd (false-true h)
+tells-is n body known h = absurd (false≢true h)
 
 pub is-tells : (n : Note) → tells n (body_of n) told.Nothing ≡ true
 unfolding tells
@@ -85,7 +85,7 @@ raised-is ceiling former (item.Lock r) (told.Former f) h =
     let same : f ≡ former = at.1 in
     let top : r ≡ max f ceiling = eqb-true r (max f ceiling) at.0 in
     subst (λ x. record_of (item.Lock r) (told.Former f) ≡ raised (max x ceiling) x) same (ap (λ x. raised x f) top)
-raised-is ceiling former body known h = absurd (none-some h)
+raised-is ceiling former body known h = absurd (none-some _ h)
 
 pub is-raised : (ceiling former : ℕ) → raised_from ceiling (item.Lock (max former ceiling)) (told.Former former) ≡ Some former
 unfolding raised_from
@@ -101,7 +101,7 @@ taken-is e ev (item.Took f l m d) (told.OfEvent w) h =
   where
     first_some : {X : Type 0} {x y : X} → Some x ≡ Some y → x ≡ y
     first_some e = cc
-taken-is e ev body known h = absurd (none-some h)
+taken-is e ev body known h = absurd (none-some _ h)
 
 pub dropped-is : (e : Entry) (x : ℕ × ℕ) (body : Body) (known : Known) → dropped_by e body known ≡ Some x
     → record_of body known ≡ dropped e.pool e.block x.0 e.name x.1
@@ -114,7 +114,7 @@ dropped-is e x (item.Dec p b d k) (told.Left left) h =
     let block : b ≡ e.block = eqb-true b e.block (and_parts (p == e.pool) (b == e.block) front).1 in
     subst (λ y. dropped p b d k left ≡ dropped e.pool e.block y.0 e.name y.1) at.1
     (ap (λ z. dropped z b d k left) pool ∙ ap (λ z. dropped e.pool z d k left) block ∙ ap (λ z. dropped e.pool e.block d z left) name)
-dropped-is e x body known h = absurd (none-some h)
+dropped-is e x body known h = absurd (none-some _ h)
 
 pub is-dropped : (e : Entry) (d left : ℕ) → dropped_by e (item.Dec e.pool e.block d e.name) (told.Left left) ≡ Some (d, left)
 unfolding dropped_by
@@ -128,7 +128,7 @@ back-is p b d (item.Back q n c to) told.Nothing h =
     let pool : q ≡ p = eqb-true q p (and_parts (q == p) (c == b) front).0 in
     let block : c ≡ b = eqb-true c b (and_parts (q == p) (c == b) front).1 in
     (n, ap (λ z. plain (item.Back z n c to)) pool ∙ ap (λ z. plain (item.Back p n z to)) block ∙ ap (λ z. plain (item.Back p n b z)) last)
-back-is p b d body known h = absurd (false-true h)
+back-is p b d body known h = absurd (false≢true h)
 
 pub is-back : (p b d n : ℕ) → comes_back p b d (item.Back p n b (d + 1)) told.Nothing ≡ true
 unfolding comes_back

@@ -1,6 +1,7 @@
 -- Points that are passed.
 use Rattle.std.proofs.Common.{◌≡◌, ℕ, zero, suc, Bool, true, false, List, [], ◌∷◌, ◌++◌, refl, sym, ◌∙◌, ap, subst, inl, inr, ◌⊎◌, Some}
 use Rattle.std.specs.Prelude.{slice_set}
+use Rattle.std.proofs.lemmas.Option.{none-some}
 use Rattle.qp_chart.specs.Task as task
 use Rattle.qp_chart.specs.Task.{Task}
 use Rattle.qp_model.specs.declared.systems.System.{System}
@@ -16,7 +17,6 @@ use Rattle.qp_course.specs.Goes.{Aim, Way, Starting, Stepping, moment_of}
 use Rattle.qp_course.specs.Machine.{State, Between, Telling, Raising, AtPoint, InCall, AtPost, Releasing, Returning, Asserted, Goes, has_inner, answered, resumed, resume, deed_state, task_state, closed, closing, settle, point_next, next, expects_point}
 use Rattle.qp_course.specs.Passing.{through, settle_past, pass_actions, pass}
 use Rattle.qp_course.proofs.BackLemmas.{next-goes}
-use Rattle.qp_course.proofs.NeverLemmas.{none-some}
 use Rattle.qp_model.proofs.AbleLemmas.{some-same}
 
 -- no point is expected
@@ -175,7 +175,7 @@ module _ (a : Actor) where
   unfolding point_next pass pass_actions
   pass-point (AtPoint ev e ts leaf c) later h = ap (pass a) (sym (some-same h)) ∙ pass-settle ev e leaf ts c
   pass-point (AtPost way rest ts leaf c) later h = ap (pass a) (sym (some-same h)) ∙ resume-plain way true rest ts leaf c
-  pass-point s later h = absurd (none-some h)
+  pass-point s later h = absurd (none-some _ h)
 
 module _ (begin : ReadsBegin) (whole : ReadsWhole) (reads_next : ReadsNext) (sys : System) (a : Actor) (aim : Aim) where
   -- what may come behind points may come with points before it

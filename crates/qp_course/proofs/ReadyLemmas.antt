@@ -2,6 +2,7 @@
 use Rattle.std.proofs.Common.{◌≡◌, ℕ, zero, suc, ◌≤◌, Bool, true, false, ◌&&◌, List, [], ◌∷◌, length, refl, ap, subst, Option, Some, is_some}
 use Rattle.std.specs.Prelude.{slice_set}
 use Rattle.std.proofs.lemmas.List.{length-map}
+use Rattle.std.proofs.lemmas.Option.{none-some}
 use Rattle.qp_chart.specs.Expr.{Names}
 use Rattle.qp_chart.specs.declared.actions.Plain.{Plain}
 use Rattle.qp_chart.specs.declared.actions.Plain.TheVariants as action
@@ -28,7 +29,6 @@ use Rattle.qp_course.specs.Machine.{State, Between, Telling, Raising, AtPoint, I
 use Rattle.qp_course.specs.Ready.{AreAble, IsWithin, CanGoOn, IsReady}
 use Rattle.qp_course.proofs.KeptLemmas.{keeps-within}
 use Rattle.qp_course.proofs.FlushedLemmas.{flushed-few}
-use Rattle.qp_course.proofs.NeverLemmas.{none-some}
 use Rattle.qp_model.proofs.KernelLaneLemmas.{granted}
 use Rattle.qp_model.proofs.ListLemmas.{mapped}
 
@@ -163,11 +163,11 @@ module _ (begin : ReadsBegin) (reads_next : ReadsNext) (first : OpenBegin) (open
       let at = mapped (λ former. settle a way leaf ts (record c { former = former })) (raised_from ceiling t.body t.known) later e in
       let former : ℕ = at.0 in
       subst (IsReady sys a) at.2 (ready-settle begin first sys a way leaf ts (record c { former = former }) h.0 h.1)
-  ready-next (AtPoint ev x ts leaf c) (Tell t) later e h = absurd (none-some e)
+  ready-next (AtPoint ev x ts leaf c) (Tell t) later e h = absurd (none-some _ e)
   ready-next (InCall way inner rest ts leaf c) (Tell t) later e h =
       let at = mapped (λ more. posted (inner && is_post t.body) a way inner more leaf ts (record c { kept = more.kept })) (call_state_next sys a.o (moment_of way).entry rest t) later e in
       subst (IsReady sys a) at.2 (ready-posted (inner && is_post t.body) way inner at.0 leaf ts (record c { kept = at.0.kept }) h.2 (can-next way rest at.0 t at.1 h.1))
-  ready-next (AtPost way rest ts leaf c) (Tell t) later e h = absurd (none-some e)
+  ready-next (AtPost way rest ts leaf c) (Tell t) later e h = absurd (none-some _ e)
   ready-next (Releasing x c) (Tell t) later e h =
       let at = mapped (λ (y : ℕ × ℕ). left_over x y.0 y.1 c) (dropped_by x t.body t.known) later e in
       subst (IsReady sys a) at.2 (by at.0.0 at.0.1)
@@ -178,10 +178,10 @@ module _ (begin : ReadsBegin) (reads_next : ReadsNext) (first : OpenBegin) (open
   ready-next (Returning p b d c) (Tell t) later e h =
       let at = granted (comes_back p b d t.body t.known) (Between c) later e in
       subst (IsReady sys a) at.1 h
-  ready-next Asserted (Tell t) later e h = absurd (none-some e)
+  ready-next Asserted (Tell t) later e h = absurd (none-some _ e)
   ready-next (AtPoint ev x ts leaf c) Point later e h =
       subst (IsReady sys a) (some-same e) (ready-settle begin first sys a (Stepping ev x) leaf ts c h.0 h.1)
   ready-next (AtPost way rest ts leaf c) Point later e h =
       subst (IsReady sys a) (some-same e)
       (ready-resume sys a way leaf ts h.1 (settle a way leaf ts) (λ d w. ready-settle begin first sys a way leaf ts d h.1 w) true rest c h.0)
-  ready-next s Point later e h = absurd (none-some e)
+  ready-next s Point later e h = absurd (none-some _ e)

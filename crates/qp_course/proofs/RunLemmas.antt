@@ -2,7 +2,8 @@
 use Rattle.std.proofs.Common.{◌≡◌, ◌≤◌, true, ◌||◌, List, [], ◌∷◌, ◌++◌, length, refl, sym, ◌∙◌, ap, subst, inl, inr, ◌⊎◌, Option, Some, None, append-nil}
 use Rattle.std.specs.Bool.{IsTrue}
 use Rattle.std.specs.Option.{option_and_then}
-use Rattle.std.proofs.lemmas.Bool.{or_left, or_cases, or_right}
+use Rattle.std.proofs.lemmas.Bool.{or_left, or_cases, or_right, false≢true}
+use Rattle.std.proofs.lemmas.Option.{none-some}
 use Rattle.qp_model.specs.declared.systems.System.{System}
 use Rattle.qp_model.specs.Pieces.{Piece, Tell, Point, ends_at_point, begins_at_point}
 use Rattle.qp_model.specs.Able.{chart_able}
@@ -19,7 +20,6 @@ use Rattle.qp_course.proofs.NextLemmas.{goes-next}
 use Rattle.qp_course.proofs.BackLemmas.{next-goes}
 use Rattle.qp_course.proofs.ReadyLemmas.{ready-start, ready-next}
 use Rattle.qp_course.proofs.EndLemmas.{goes-end, end-goes, goes-some}
-use Rattle.qp_course.proofs.NeverLemmas.{false-true, none-some}
 use Rattle.qp_model.proofs.AbleLemmas.{some-same}
 
 pub under : (sys : System) (a : Actor) (s : State) → IsReady sys a s → IsUnderWay s
@@ -38,14 +38,14 @@ pub point-expected : (a : Actor) (s later : State) → point_next a s ≡ Some l
 unfolding point_next
 point-expected a (AtPoint ev e ts leaf c) later h = refl
 point-expected a (AtPost way rest ts leaf c) later h = refl
-point-expected a s later h = absurd (none-some h)
+point-expected a s later h = absurd (none-some _ h)
 
 -- where a point is expected, nothing else may come
 pub expected-point : (sys : System) (a : Actor) (s : State) (ps : List Piece) → expects_point s ≡ true → Goes sys a anywhere s ps → begins_at_point ps ≡ true
 unfolding Goes
 expected-point sys a (AtPoint ev e ts leaf c) ps h (rest, is, k) = ap begins_at_point is
 expected-point sys a (AtPost way rest ts leaf c) ps h (more, is, k) = ap begins_at_point is
-expected-point sys a s ps h k = absurd (false-true h)
+expected-point sys a s ps h k = absurd (false≢true h)
 
 module _ (begin : ReadsBegin) (whole : ReadsWhole) (reads_next : ReadsNext) (first : OpenBegin) (open_next : OpenNext) (open_reads : OpenReads)
     (sys : System) (a : Actor) (able : chart_able sys a.chart ≡ true) where
@@ -88,7 +88,7 @@ module _ (begin : ReadsBegin) (whole : ReadsWhole) (reads_next : ReadsNext) (fir
   stops-here s (Point ∷ back) ready h at =
       let step = goes-next begin whole reads_next sys a anywhere s Point back (under sys a s ready) h in
       or_right (is_end s) (expects_point s) (point-expected a s step.0 step.1)
-  stops-here s (Tell t ∷ back) ready h at = absurd (false-true at)
+  stops-here s (Tell t ∷ back) ready h at = absurd (false≢true at)
 
   pub here-stops : (s : State) → IsReady sys a s → (is_end s || expects_point s) ≡ true → (back : List Piece) × Goes sys a anywhere s back × (begins_at_point back ≡ true)
   here-stops s ready h = by (or_cases (is_end s) (expects_point s) h)

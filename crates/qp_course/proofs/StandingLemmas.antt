@@ -2,6 +2,7 @@
 use Rattle.std.proofs.Common.{◌≡◌, ◌+◌, true, false, ◌&&◌, List, [], ◌∷◌, ◌++◌, refl, sym, ◌∙◌, ap, subst, inl, Option, Some, None, arith}
 use Rattle.std.proofs.lemmas.Bool.Decides.{nat_tests}
 use Rattle.std.specs.List.{count_by}
+use Rattle.std.proofs.lemmas.Option.{none-some}
 use Rattle.qp_chart.specs.declared.checked.Chart.{Chart}
 use Rattle.qp_chart.specs.Agenda.{start_plan}
 use Rattle.qp_model.specs.declared.systems.System.{System}
@@ -35,7 +36,6 @@ use Rattle.qp_course.proofs.DoneLemmas.{open_of, open_in, start-under, told-coun
 use Rattle.qp_course.proofs.FollowLemmas.{records-decided}
 use Rattle.qp_course.proofs.SettleLemmas.{back-settle}
 use Rattle.qp_course.proofs.ToldLemmas.{told-goes}
-use Rattle.qp_course.proofs.NeverLemmas.{none-some}
 use Rattle.qp_model.proofs.AbleLemmas.{some-same}
 
 -- the course ends in this configuration
@@ -57,7 +57,7 @@ rests sys a (Releasing e d) c h = (
 )
 rests sys a (Returning p b k d) c h =
     (Tell (plain (item.Back p 0 b (k + 1))) ∷ [], (0, ([], refl, steps-none sys a (at c) d cc)), refl, refl)
-rests sys a s c h = absurd (none-some h)
+rests sys a s c h = absurd (none-some _ h)
 
 module _ (sys : System) (d : ObjectDef) (f : IsFollowable sys d) (g : List Told) (follow : FollowSomehow sys d g) where
   abbrev a : Actor

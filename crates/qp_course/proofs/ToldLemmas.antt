@@ -2,7 +2,7 @@
 use Rattle.std.proofs.Common.{◌≡◌, ℕ, ◌≤◌, Bool, true, false, ◌||◌, List, [], ◌∷◌, ◌++◌, length, refl, sym, ◌∙◌, ap, subst, inl, inr, ◌⊎◌, Option, Some, None, append-nil, append_assoc}
 use Rattle.std.specs.Bool.{IsTrue}
 use Rattle.std.specs.Option.{option_and_then}
-use Rattle.std.proofs.lemmas.Bool.{or_cases, or_right}
+use Rattle.std.proofs.lemmas.Bool.{or_cases, or_right, false≢true}
 use Rattle.qp_chart.specs.Task.{Task}
 use Rattle.qp_model.specs.declared.systems.System.{System}
 use Rattle.qp_model.specs.declared.bodies.Entry.{Entry}
@@ -23,7 +23,6 @@ use Rattle.qp_course.proofs.ReadyLemmas.{ready-settle, ready-next}
 use Rattle.qp_course.proofs.EndLemmas.{goes-end, end-goes, goes-some}
 use Rattle.qp_course.proofs.PassLemmas.{Shape, settle-shape, through-none, pass-none, pass-point, unpass}
 use Rattle.qp_course.proofs.RunLemmas.{under, point-expected, expected-point, stops-here, here-stops, start-into, start-back, begun, Fronts}
-use Rattle.qp_course.proofs.NeverLemmas.{false-true}
 use Rattle.qp_model.proofs.AbleLemmas.{some-same}
 use Rattle.qp_model.proofs.CutLemmas.{first-same, rest-same}
 
@@ -31,7 +30,7 @@ use Rattle.qp_model.proofs.CutLemmas.{first-same, rest-same}
 end-none : (s : State) → is_end s ≡ true → expects_point s ≡ false
 end-none (Between c) h = refl
 end-none Asserted h = refl
-end-none s h = absurd (false-true h)
+end-none s h = absurd (false≢true h)
 
 -- a piece before others leaves how the list ends
 ends-cons : (p : Piece) (ps : List Piece) (t : Told) (g : List Told) → bare ps ≡ t ∷ g → ends_at_point (p ∷ ps) ≡ ends_at_point ps
@@ -48,7 +47,7 @@ Fact (t ∷ g) ps tail = ends_at_point ps ≡ true → (us : List Piece) × (tai
 -- behind a last record, a list that ends at a point goes on with one
 point-left : (t : Told) (rest : List Piece) → bare rest ≡ [] → ends_at_point (Tell t ∷ rest) ≡ true → (us : List Piece) × (rest ≡ Point ∷ us)
 unfolding bare ends_at_point
-point-left t [] e h = absurd (false-true h)
+point-left t [] e h = absurd (false≢true h)
 point-left t (Point ∷ us) e h = (us, refl)
 point-left t (Tell u ∷ us) e h = absurd (cc)
 

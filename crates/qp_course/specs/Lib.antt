@@ -13,7 +13,6 @@ pub mod Goes
 pub mod Machine
 pub mod Note
 pub mod Passing
-pub mod Plans
 pub mod Reading
 pub mod Ready
 pub mod Runs

@@ -6,7 +6,7 @@ ghost use Rattle.qp_chart.specs.MainState.{exited, entered};
 ghost use Rattle.qp_chart.specs.Task.{exits, entries};
 ghost use Rattle.qp_chart.specs.Drill.{initial, drill};
 ghost use Rattle.qp_chart.specs.Agenda.{crossing, moves, handled, start_plan, step_plan};
-ghost use Rattle.qp_course.specs.Plans.{Adds};
+ghost use Rattle.qp_state_tree.specs.Plans.{Adds};
 ghost use Rattle.qp_course.specs.AsTask.{as_tasks};
 
 use crate::handler::{Handler, handler_of};

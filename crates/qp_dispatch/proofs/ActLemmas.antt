@@ -21,7 +21,7 @@ use Rattle.qp_model.specs.declared.systems.System.{System}
 use Rattle.qp_model.specs.declared.bodies.Entry as model
 use Rattle.qp_model.specs.declared.bodies.Body.{Body}
 use Rattle.qp_model.specs.declared.bodies.Body.TheVariants as item
-use Rattle.qp_model.specs.Told.{Told, ToldItem, plain, for_object}
+use Rattle.qp_model.specs.Told.{Told, plain, for_object}
 use Rattle.qp_model.specs.Calls as call
 use Rattle.qp_model.specs.Calls.{Call, Calls, bits_of, Answer, Granted, Refused, Flushed, AtQueue, AtPool, AtTimer, AtTicks, AtFront, deed_of, ok_after, is_assertion}
 use Rattle.qp_model.specs.Shapes.{Fits, Flushes}
@@ -47,6 +47,7 @@ use Rattle.qp_calls.specs.Entries.{did_of}
 use Rattle.qp_calls.specs.Deferring.{AnswersKept, FlushCut, StandAll, ChangeAlike, kept_in, tokens_in, is_named}
 use Rattle.qp_calls.proofs.CountLemmas.{count-with, stand-same}
 use Rattle.qp_calls.proofs.Growing.{gains-none}
+use Rattle.qp_calls.proofs.NoteLemmas.{last-snoc}
 use Rattle.qp_dispatch.specs.declared.act.Acted.{Acted}
 use Rattle.qp_dispatch.specs.declared.lasting.Lasting.{Lasting}
 use Rattle.qp_dispatch.specs.declared.work.Work.{Work}
@@ -204,12 +205,6 @@ stop-code (item.Armed t n c) answer code is said = let same : answer ≡ AtTimer
 stop-code (item.BadTicks t ticks interval) answer code is said = let same : answer ≡ AtTicks = cc in let d : did.Assert code ≡ did.Assert 4 = rw same at said in let n : code ≡ 4 = cc in rw n (omega arith, refl)
 stop-code (item.NoLifo a f l m) answer code is said = let same : answer ≡ AtFront = cc in let d : did.Assert code ≡ did.Assert 5 = rw same at said in let n : code ≡ 5 = cc in rw n (omega arith, refl)
 stop-code _ answer code is said = absurd (cc)
-
-pub last-snoc : (told : List ToldItem) (t : ToldItem) → last_code (told ++ t ∷ []) ≡ stop_code t.told.body
-unfolding last_code
-last-snoc [] t = refl
-last-snoc (x ∷ []) t = refl
-last-snoc (x ∷ y ∷ told) t = last-snoc (y ∷ told) t
 
 -- the lane ends in the assertion of the call
 pub last-asserted : (sys : System) (o : ℕ) (now : Option model.Entry) (x : Call) (answer : Answer) (code : ℕ) (g : List Told) (v w : LaneView) → Fits sys o now x answer g

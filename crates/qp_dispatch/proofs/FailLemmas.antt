@@ -1,11 +1,10 @@
 -- Pieces that end in an assertion have its record.
-use Rattle.std.proofs.Common.{◌≡◌, ℕ, Bool, true, false, List, [], ◌∷◌, ◌++◌, refl, sym, ◌∙◌, ap, subst, Option, Some, None}
+use Rattle.std.proofs.Common.{◌≡◌, ℕ, Bool, true, false, List, [], ◌∷◌, ◌++◌, sym, ◌∙◌, ap, subst, Option, Some, None}
 use Rattle.std.specs.Prelude.{◌⊎◌}
 use Rattle.std.proofs.Common.{inl, inr}
 use Rattle.std.specs.Bool.{MatchBool}
 use Rattle.qp_chart.specs.Task.{Task, Do, Raise, Restore, Begin, Run, Unhandled, Exit, Enter, Init, Done}
 use Rattle.qp_model.specs.declared.systems.System.{System}
-use Rattle.qp_model.specs.declared.bodies.Entry as model
 use Rattle.qp_model.specs.declared.bodies.Body.TheVariants as item
 use Rattle.qp_model.specs.Told.{Told, plain, raised}
 use Rattle.qp_model.specs.Calls.{Call, Answer, Granted, AtQueue, Deed, Sets, Says, Calls, deed_of, ok_after, is_assertion}
@@ -20,10 +19,6 @@ use Rattle.qp_calls.specs.declared.tokens.Entry.{Entry}
 use Rattle.qp_dispatch.specs.declared.part.Under.{Under}
 use Rattle.qp_dispatch.specs.Parts.{left_by, publishing_of}
 use Rattle.qp_model.specs.Parts.{members}
-
-pub front-none : {A : Type 0} (xs ys : List A) → xs ++ ys ≡ [] → xs ≡ []
-front-none [] ys h = refl
-front-none (x ∷ xs) ys h = absurd (cc)
 
 pub behind-none : {A : Type 0} (xs ys : List A) → xs ++ ys ≡ [] → ys ≡ []
 behind-none [] ys h = h

@@ -1,8 +1,9 @@
 -- What the actions of a sound chart name.
-use Rattle.std.proofs.Common.{◌≡◌, ℕ, zero, suc, ◌+◌, ◌-◌, ◌<◌, ◌≤◌, nat_le, true, false, List, [], ◌∷◌, length, slice_get, refl, sym, ◌∙◌, subst, arith, IsTrue, Option, Some, None}
+use Rattle.std.proofs.Common.{◌≡◌, ℕ, ◌+◌, ◌-◌, ◌≤◌, true, List, length, refl, sym, ◌∙◌, subst, arith, IsTrue, Option, None, Some}
 use Rattle.std.specs.Prelude.{IsSome}
 use Rattle.std.proofs.lemmas.Bool.{lt-ltb, le-leb}
 use Rattle.std.proofs.lemmas.List.{length-map}
+use Rattle.std.proofs.lemmas.Option.{slice_get_within}
 use Rattle.qp_chart.specs.Expr.{Names}
 use Rattle.qp_chart.specs.declared.expression.Bound.{Bound}
 use Rattle.qp_chart.specs.declared.actions.Plain.{Plain}
@@ -10,41 +11,36 @@ use Rattle.qp_chart.specs.declared.actions.Plain.TheVariants as action
 use Rattle.qp_chart.specs.declared.actions.Target.{Target}
 use Rattle.qp_chart.specs.declared.actions.Target.TheVariants as target
 use Rattle.qp_chart.specs.declared.checked.Chart.{Chart}
-use Rattle.qp_model.specs.declared.systems.SignalDef.{SignalDef}
 use Rattle.qp_model.specs.declared.systems.System.{System}
 use Rattle.qp_model.specs.Told.{Event}
 use Rattle.qp_model.specs.Calls.{object_of, values_of}
 use Rattle.qp_model.specs.Parts.{is_static, timer_number}
-use Rattle.qp_model.specs.Sound.{IsSound, IsSoundSignal}
+use Rattle.qp_model.specs.Sound.{IsSound}
 use Rattle.qp_model.specs.SoundChart.{IsReceiver, IsSoundEvent, IsSoundPlain, IsDeclared, IsTimer}
 use Rattle.qp_model.specs.WordLaw.{is_object, is_signal}
+use Rattle.qp_model.proofs.ListLemmas.{every-at}
 use Rattle.qp_calls.specs.declared.tokens.Entry.{Entry}
 use Rattle.qp_calls.specs.LaneView.{LaneView}
 use Rattle.qp_calls.specs.Clauses.{IsEvent, Owns}
-use Rattle.qp_calls.proofs.FirstPool.{at_place}
 use Rattle.qp_dispatch.specs.SoundFor.{HasTimer, IsHome, MayAct}
-use Rattle.qp_model.proofs.ListLemmas.{nothing-left}
+use Rattle.qp_dispatch.specs.declared.part.Under.{Under}
+use Rattle.qp_dispatch.specs.Parts.{IsPublishing}
 
 pub receives : (sys : System) (me : ℕ) (chart : Chart) (to : Target) → IsHome sys me chart → IsReceiver sys to → IsTrue (is_object sys (object_of me to))
 unfolding is_object
 receives sys me chart target.Me home h = home.object
 receives sys me chart (target.Object o) home h = rw h.1 refl
 
-within : {X : Type 0} (xs : List X) (i : ℕ) (x : X) → slice_get xs i ≡ Some x → i < length xs
-within [] i x h = absurd (cc)
-within (y ∷ ys) zero x h = omega arith
-within (y ∷ ys) (suc i) x h = let lt = within ys i x h in omega (arith, lt)
-
 -- a signal has at most eight parameters
 pub params-few : (sys : System) (chart : Chart) (inside : Option ℕ) (sig : ℕ) (pars : List Bound) (reserve : Option ℕ) → IsSound sys → IsSoundEvent sys chart inside sig pars reserve → length pars ≤ 8
 params-few sys chart inside sig pars reserve sound e =
-    let few = at_place (λ d. d.params ≤ 8) sys.signals sound.params (sig - 4) e.signal e.is_signal.1 in
+    let few = every-at (λ d. d.params ≤ 8) sys.signals sound.params (sig - 4) e.signal e.is_signal.1 in
     omega (arith, few, e.count)
 
 -- a signal that is declared
 pub declared : (sys : System) (sig : ℕ) → IsDeclared sys sig → IsTrue (is_signal sys sig)
 declared sys sig d =
-    let lt = within sys.signals (sig - 4) d.0 d.1.1 in
+    let lt = slice_get_within sys.signals (sig - 4) d.0 d.1.1 in
     rw (le-leb 4 sig d.1.0, lt-ltb sig (length sys.signals + 4) (omega (arith, lt, d.1.0))) refl
 
 -- the event of a sound action
@@ -52,11 +48,11 @@ pub sound-event : (sys : System) (chart : Chart) (inside : Option ℕ) (sig : �
     → IsSoundEvent sys chart inside sig pars reserve → ev ≡ record { sig = sig; pars = values_of names pars } → IsEvent sys ev
 unfolding values_of
 sound-event sys chart inside sig pars reserve names ev e is =
-    let lt = within sys.signals (sig - 4) e.signal e.is_signal.1 in
+    let lt = slice_get_within sys.signals (sig - 4) e.signal e.is_signal.1 in
     rw is
     (record {
       from = e.is_signal.0;
-      within = omega (arith, lt, e.is_signal.0);
+      slice_get_within = omega (arith, lt, e.is_signal.0);
       params = rw e.is_signal.1 (length-map pars _ ∙ e.count);
     })
 
@@ -67,23 +63,6 @@ unfolding is_static
 sound-reserve sys chart inside sig pars reserve e h =
     let fixed : e.signal.fixed ≡ true = rw (le-leb 4 sig e.is_signal.0, e.is_signal.1) at h in
     e.reserve_pooled fixed
-
--- a static event has no parameters
-pub static-bare : (sys : System) (ev : Event) → IsSound sys → IsEvent sys ev → is_static sys ev.sig ≡ true → ev.pars ≡ []
-unfolding is_static
-static-bare sys ev sound is fixed = go (slice_get sys.signals (ev.sig - 4)) refl
-  where
-    go : (o : Option SignalDef) → slice_get sys.signals (ev.sig - 4) ≡ o → ev.pars ≡ []
-    go None at =
-        let four : nat_le 4 ev.sig ≡ true = le-leb 4 ev.sig is.from in
-        let h : false ≡ true = rw (four, at) at fixed in
-        absurd (cc)
-    go (Some d) at =
-        let four : nat_le 4 ev.sig ≡ true = le-leb 4 ev.sig is.from in
-        let here : d.fixed ≡ true = rw (four, at) at fixed in
-        let params : length ev.pars ≡ d.params = rw at at is.params in
-        let signal = at_place (IsSoundSignal sys.pools) sys.signals sound.signals (ev.sig - 4) d at in
-        nothing-left ev.pars (params ∙ signal.bare here)
 
 -- the timer at a place of the object's chart
 pub owns-timer : (sys : System) (me t place : ℕ) (v : LaneView) → v.sys ≡ sys → v.by ≡ me → t ≡ timer_number sys.timers me place → HasTimer sys me place → Owns v t
@@ -172,3 +151,7 @@ object-here sys here o is h = rw is h
 
 pub declared-here : (sys here : System) (sig : ℕ) → here ≡ sys → IsTrue (is_signal sys sig) → IsTrue (is_signal here sig)
 declared-here sys here sig is h = rw is h
+
+pub publishing-still : (u : Option Under) (v w : LaneView) → w.sys ≡ v.sys → IsPublishing u v → IsPublishing u w
+publishing-still None v w same h = tt
+publishing-still (Some u) v w same h = rw same h

@@ -30,12 +30,13 @@ use Rattle.qp_calls.proofs.CountLemmas.{stand-front, stand-same, stand-tail}
 use Rattle.qp_calls.proofs.Flushing.{fault-still}
 use Rattle.qp_calls.proofs.Growing.{gains-none, grows-room}
 use Rattle.qp_calls.proofs.Noting.{adds-note, may-note}
+use Rattle.qp_calls.proofs.NoteLemmas.{ceiling-append}
 use Rattle.qp_dispatch.specs.declared.lasting.Lasting.{Lasting}
 use Rattle.qp_dispatch.specs.declared.part.Under.{Under}
 use Rattle.qp_dispatch.specs.Lasts.{config_of, actor_of}
 use Rattle.qp_dispatch.specs.Acting.{ActDone, ActAsserts, ActBegins, ActCut, Keeps, is_publication}
 use Rattle.qp_dispatch.specs.Parts.{Goes, Asserts, CutShort, GoesFurther, StandWith, held_by}
-use Rattle.qp_dispatch.proofs.Quiet.{Quiet, ceiling-append, spills-append}
+use Rattle.qp_dispatch.proofs.Quiet.{Quiet, spills-append}
 use Rattle.qp_dispatch.proofs.ActLemmas.{all-right, calm-quiet, counts-join}
 use Rattle.qp_model.proofs.ListLemmas.{list_all-front}
 use Rattle.qp_model.proofs.RecordLemmas.{body-is, of-is}

@@ -3,7 +3,7 @@ use Rattle.std.proofs.Common.{◌≡◌, ℕ, zero, suc, ◌<◌, Bool, true, fa
 use Rattle.std.specs.Prelude.{pos}
 use Rattle.std.specs.List.{list_all}
 use Rattle.std.specs.Option.{unwrap_or}
-use Rattle.std.proofs.lemmas.Bool.{and_parts, lt-ltb}
+use Rattle.std.proofs.lemmas.Bool.{and_parts}
 use Rattle.std.proofs.lemmas.List.{map-append}
 use Rattle.qp_chart.specs.Expr.{Names}
 use Rattle.qp_chart.specs.declared.expression.Bound.{Bound}
@@ -26,7 +26,6 @@ use Rattle.qp_model.specs.Step.{DoesLeft, tasks_left, publishing_left}
 use Rattle.qp_model.specs.Standing.{Reaches}
 use Rattle.qp_model.proofs.ReachLemmas.{reaches-call, reaches-publish, reaches-post, reaches-published, does_left-asserted, does_left-cut}
 use Rattle.qp_calls.specs.declared.tokens.Entry.{Entry}
-use Rattle.qp_calls.specs.declared.tokens.Entry.TheVariants as token
 use Rattle.qp_calls.specs.declared.publication.Publication.{Publication}
 use Rattle.qp_calls.specs.declared.publication.Begun.{Begun}
 use Rattle.qp_calls.specs.declared.publication.Begun.TheVariants as begun
@@ -42,17 +41,18 @@ use Rattle.qp_calls.specs.Raising.{raised_to}
 use Rattle.qp_calls.specs.Publishing.{AreObjects, Begins, BeginsGoing, GoesOn, GoesOnGoing, GoesOnAssert, EndsGoing}
 use Rattle.qp_calls.specs.Deferring.{ChangeAlike, is_named, kept_in}
 use Rattle.qp_calls.proofs.Announcing.{members-none}
-use Rattle.qp_calls.proofs.CountLemmas.{count-with, count-without, stand-same, stands-in}
+use Rattle.qp_calls.proofs.CountLemmas.{count-with, count-without, stand-same, stands-in, stands-named}
+use Rattle.qp_calls.proofs.NoteLemmas.{last-snoc, ceiling-append}
 use Rattle.qp_dispatch.specs.declared.lasting.Lasting.{Lasting}
 use Rattle.qp_dispatch.specs.declared.part.Under.{Under}
 use Rattle.qp_dispatch.specs.declared.work.Work.{Work}
 use Rattle.qp_dispatch.specs.Lasts.{config_of, actor_of, entry_in, moment_of, names_at}
 use Rattle.qp_dispatch.specs.Acting.{Keeps}
 use Rattle.qp_dispatch.specs.Parts.{Goes, Asserts, IsPublishing, held_by, publishing_of}
-use Rattle.qp_dispatch.proofs.Quiet.{Quiet, ceiling-append, no_block-quiet, one-quiet, quiet-append, quiet-ceiling, quiet-drops, quiet-new, quiet-spillless, spills-append, Spillless, spillless-append}
+use Rattle.qp_dispatch.proofs.Quiet.{Quiet, no_block-quiet, one-quiet, quiet-append, quiet-ceiling, quiet-drops, quiet-new, quiet-spillless, spills-append, Spillless, spillless-append}
 use Rattle.qp_dispatch.proofs.Rising.{mild-rise, one-mild}
 use Rattle.qp_dispatch.proofs.CallLemmas.{stand-risen, value-no, value-yes}
-use Rattle.qp_dispatch.proofs.ActLemmas.{calm-quiet, counts-join, last-asserted, last-snoc, ok-value, stand-change}
+use Rattle.qp_dispatch.proofs.ActLemmas.{calm-quiet, counts-join, last-asserted, ok-value, stand-change}
 use Rattle.qp_dispatch.proofs.PartLemmas.{stand-without}
 use Rattle.qp_model.proofs.ListLemmas.{list_all-front, all-push}
 
@@ -153,10 +153,6 @@ last-spills c ms g v w h grows none =
 
 -- What the object holds.
 
-named-of : (e : Entry) (v : LaneView) → Stands e v → is_named v.sys e ≡ true
-named-of (token.Static sig) v h = h
-named-of (token.Pool k) v h = lt-ltb 0 k.pool h.0
-
 one-more : (es : List Entry) (e : Entry) (v w : LaneView) → w.hands ≡ with_entry (entry_of e) v.hands → ChangeAlike (map entry_of (es ++ [])) (map entry_of (es ++ e ∷ [])) v w
 unfolding times
 one-more es e v w hands t =
@@ -208,7 +204,7 @@ module _ (me : ℕ) (k : Lasting) (work : Work) (sig : ℕ) (pars : List Bound) 
         stand = λ others all.
             stand-change (k.list.entries.items ++ []) (k.list.entries.items ++ p.entry ∷ []) others v w alike
             (all-push (λ e. is_named w.sys e) k.list.entries.items p.entry
-            (rw h.grows.sys (list_all-front (λ e. is_named v.sys e) k.list.entries.items [] (list_all-front (λ e. is_named v.sys e) (k.list.entries.items ++ []) others all.named))) (named-of p.entry w h.stands))
+            (rw h.grows.sys (list_all-front (λ e. is_named v.sys e) k.list.entries.items [] (list_all-front (λ e. is_named v.sys e) (k.list.entries.items ++ []) others all.named))) (stands-named p.entry w h.stands))
             h.grows.sys all;
         publishing = (rw h.left h.objects, sym h.former);
       }

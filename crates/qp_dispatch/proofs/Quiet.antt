@@ -15,6 +15,7 @@ use Rattle.qp_model.specs.Calls.{Call, Answer, Granted, Refused, Flushed, AtQueu
 use Rattle.qp_model.specs.Shapes.{Fits, MakesBlock, MakesNew, again_by, MakesAgain, MakesAgainNow, Posts, PostsFront, PostsNew, PostsNewFront, Forwards, PostsOne, NoBlockFor, Drops, releases_by, Releases, Flushes, Defers, Recalls, Subscribes, Unsubscribes, Arms, Rearms, Disarms}
 use Rattle.qp_calls.specs.LaneView.{ceiling_in}
 use Rattle.qp_calls.specs.Notes.{spills_in}
+use Rattle.qp_calls.proofs.NoteLemmas.{ceiling-append}
 use Rattle.qp_dispatch.specs.CallsDone.{is_single}
 
 -- a record that is no `lock`, `unlock` or `spill`
@@ -170,11 +171,6 @@ quiet-ceiling_after : (c : ℕ) (b : Body) → is_quiet b ≡ true → ceiling_a
 quiet-ceiling_after c (item.Lock x) h = absurd (cc)
 quiet-ceiling_after c (item.Unlock x) h = absurd (cc)
 quiet-ceiling_after c _ h = refl
-
-pub ceiling-append : (c : ℕ) (xs ys : List ToldItem) → ceiling_in c (xs ++ ys) ≡ ceiling_in (ceiling_in c xs) ys
-unfolding ceiling_in
-ceiling-append c [] ys = refl
-ceiling-append c (x ∷ xs) ys = ceiling-append (ceiling_after c x.told.body) xs ys
 
 quiet-all : (c o : ℕ) (g : List Told) → Quiet g → ceiling_in c (map (for_object o) g) ≡ c
 unfolding ceiling_in

@@ -19,17 +19,14 @@ use Rattle.qp_model.specs.declared.systems.System.{System}
 use Rattle.qp_model.specs.Able.{chart_able}
 use Rattle.qp_model.specs.SoundChart.{IsSoundAct, IsSoundChart, IsSoundPlain, IsSoundRow, IsSoundState}
 use Rattle.qp_calls.specs.declared.tokens.Entry.{Entry}
-use Rattle.qp_calls.proofs.FirstPool.{at_place}
 use Rattle.qp_dispatch.specs.SoundFor.{IsHome, MayAct, MayTask}
 use Rattle.qp_dispatch.specs.Resume.{IsReady}
-use Rattle.qp_model.proofs.AbleLemmas.{some-same}
+use Rattle.qp_model.proofs.AbleLemmas.{some-same, handler_is}
 use Rattle.qp_model.proofs.NumberLemmas.{every-append}
+use Rattle.qp_model.proofs.ListLemmas.{every-at}
 
 not-some : {A : Type 0} → IsSome {T = ℕ} None → A
 not-some e = absurd (cc)
-
-handler_is : ℕ → ℕ × Row → Handler
-handler_is s found = record { state = s; place = found.0; row = found.1 }
 
 module _ (sys : System) (me : ℕ) (chart : Chart) (home : IsHome sys me chart) (sound : IsSoundChart sys chart) where
   module _ (hand : Option Entry) where
@@ -59,7 +56,7 @@ module _ (sys : System) (me : ℕ) (chart : Chart) (home : IsHome sys me chart) 
 
     state-sound : (s : ℕ) (x : State) → state_at chart s ≡ Some x → IsSoundState sys chart x
     unfolding state_at
-    state-sound s x is = at_place (IsSoundState sys chart) chart.state sound.states (s - 1) x is
+    state-sound s x is = every-at (IsSoundState sys chart) chart.state sound.states (s - 1) x is
 
     -- the actions of one kind of any state
     part-may : (part : State → List Act) → ((x : State) → IsSoundState sys chart x → AllByRecursion (IsSoundAct sys chart None) (part x)) → (s : ℕ)

@@ -12,7 +12,7 @@ use Rattle.qp_model.specs.declared.systems.System.{System}
 use Rattle.qp_model.specs.declared.record.Rec.{Rec}
 use Rattle.qp_model.specs.declared.bodies.Entry as model
 use Rattle.qp_model.specs.declared.bodies.Body.TheVariants as item
-use Rattle.qp_model.specs.Record.{Item, item_of, body_of}
+use Rattle.qp_model.specs.Record.{item_of}
 use Rattle.qp_model.specs.Told.{Told, Event, plain, for_object}
 use Rattle.qp_model.specs.Shapes.{Drops, releases_by}
 use Rattle.qp_model.specs.Pieces.{Piece, Point, bare, tell}
@@ -24,18 +24,16 @@ use Rattle.qp_model.proofs.Completes.{release, release_drops}
 use Rattle.qp_model.proofs.PublicationLemmas.{tell-append}
 use Rattle.qp_model.proofs.StepLemmas.{advances-reaches, goes_on-done, goes_on-failed}
 use Rattle.qp_calls.specs.declared.tokens.Entry.{Entry}
-use Rattle.qp_calls.specs.declared.answers.RoomFault.{RoomFault}
-use Rattle.qp_calls.specs.declared.answers.RoomFault.TheVariants as fault
 use Rattle.qp_calls.specs.Tokens.{Token, hands_after, hands_by}
-use Rattle.qp_calls.specs.LaneView.{LaneView, Grows, GrowsOf, ceiling_in}
-use Rattle.qp_calls.specs.Notes.{MayNote, MayStop, last_code, spills_in, told_note, told_as}
-use Rattle.qp_calls.specs.Clauses.{IsFault, Stops, entry_of, event_of, params_of}
-use Rattle.qp_calls.proofs.FirstPool.{at_place}
+use Rattle.qp_calls.specs.LaneView.{LaneView, Grows, GrowsOf}
+use Rattle.qp_calls.specs.Notes.{MayNote, MayStop, last_code, spills_in, told_note}
+use Rattle.qp_calls.specs.Clauses.{Stops, entry_of, event_of, params_of}
 use Rattle.qp_calls.specs.Entries.{Released}
 use Rattle.qp_calls.specs.Deferring.{ChangeAlike, StandAll, is_named, kept_in, tokens_in}
 use Rattle.qp_calls.specs.Counting.{times, count_of}
 use Rattle.qp_calls.proofs.CountLemmas.{stand-same}
 use Rattle.qp_calls.proofs.Growing.{grows-then}
+use Rattle.qp_calls.proofs.NoteLemmas.{last-snoc, spill-body, spilled}
 use Rattle.qp_dispatch.specs.declared.lasting.Lasting.{Lasting}
 use Rattle.qp_dispatch.specs.declared.part.Under.{Under}
 use Rattle.qp_dispatch.specs.declared.runs.Left.{Left}
@@ -51,36 +49,19 @@ use Rattle.qp_dispatch.specs.Parts.{held_by, left_by}
 use Rattle.qp_dispatch.specs.SoundFor.{MayTask}
 use Rattle.qp_dispatch.specs.Runs.{CanEnd, MayRun, RunAsserts, RunCut, Runs, Setting, hand_of, tasks_in}
 use Rattle.qp_dispatch.specs.Resume.{BeginsOn, EndsAsserted, Halts, HaltsFull, IsGoing, IsLaneOf, ReleasesEntry, Resumes, ToEnd, ToPoint, entry_here, event_at, event_in, held_in, left_of, step_entry}
-use Rattle.qp_dispatch.proofs.ActLemmas.{calm-quiet, counts-join, last-snoc, stand-change}
+use Rattle.qp_dispatch.proofs.ActLemmas.{calm-quiet, counts-join, stand-change}
 use Rattle.qp_dispatch.proofs.Quiet.{quiet-drops}
 use Rattle.qp_model.proofs.GroupLemmas.{bare-append}
-use Rattle.qp_dispatch.proofs.FailLemmas.{front-none}
 use Rattle.qp_dispatch.proofs.PartLemmas.{stand-in}
 use Rattle.qp_dispatch.proofs.PublishLemmas.{one-less}
 use Rattle.qp_dispatch.proofs.RunLemmas.{able-behind, all-behind, stand-hand, stand-left}
-use Rattle.qp_model.proofs.ListLemmas.{list_all-front}
+use Rattle.qp_model.proofs.ListLemmas.{list_all-front, every-at, nil-front}
 
 -- A lane without room spills.
-
-spill-body : (n : ℕ) (r : Rec) → item_of r ≡ record { of = 0; body = item.Spill n } → body_of r ≡ item.Spill n
-unfolding item_of
-spill-body n r is = ap (λ (i : Item). i.body) is
-
-spill-of : (n : ℕ) (r : Rec) → item_of r ≡ record { of = 0; body = item.Spill n } → r.of ≡ 0
-unfolding item_of
-spill-of n r is = ap (λ (i : Item). i.of) is
 
 pub spill-may : (n : ℕ) (r : Rec) (v : LaneView) → item_of r ≡ record { of = 0; body = item.Spill n } → n ≡ length v.told → 1000000 < n + 8 → spills_in v.told ≡ false → MayNote r v
 unfolding MayNote
 spill-may n r v is here full none = rw (spill-body n r is) (here, omega (arith, full), none)
-
-pub spilled : (n : ℕ) (r : Rec) (v w : LaneView) → item_of r ≡ record { of = 0; body = item.Spill n } → n ≡ length v.told → GrowsOf r.of (told_note r v) v w
-    → GrowsOf 0 (plain (item.Spill (length v.told)) ∷ []) v w
-unfolding told_note
-spilled n r v w is here grown =
-    let body : GrowsOf r.of (plain (item.Spill n) ∷ []) v w = subst (λ b. GrowsOf r.of (told_as (ceiling_in 0 v.told) b ∷ []) v w) (spill-body n r is) grown in
-    let mine : GrowsOf 0 (plain (item.Spill n) ∷ []) v w = subst (λ o. GrowsOf o (plain (item.Spill n) ∷ []) v w) (spill-of n r is) body in
-    subst (λ k. GrowsOf 0 (plain (item.Spill k) ∷ []) v w) here mine
 
 pub spill-stop : (n : ℕ) (v w : LaneView) → GrowsOf 0 (plain (item.Spill n) ∷ []) v w → MayStop 6 w
 spill-stop n v w grown = inr (omega arith, rw grown.told (last-snoc v.told (for_object 0 (plain (item.Spill n)))))
@@ -259,7 +240,7 @@ module _ (home : Setting) (ceiling later : ℕ) (k m : Lasting) (g : Going) (v w
       (moment-is g.work going.hand going.is) b.2 in
       let rel = closed b.1 in
       let same : tell (bare r.ps) ++ (b.0 ++ tell rel.0) ≡ (r.ps ++ b.0) ++ tell rel.0 = ap (λ x. x ++ (b.0 ++ tell rel.0)) (sym (r.plain refl)) ∙ sym (append_assoc r.ps b.0 (tell rel.0)) in
-      (b.0 ++ tell rel.0, at_leaf (left_by g.left.under (tasks_in home g.left) g.leaf).leaf b.1, (r.ps ++ b.0, rel.0, b.1, does, rel.1, same, refl), λ none is. b.3 (unleafed (left_by g.left.under (tasks_in home g.left) g.leaf).leaf b.1 none) (front-none (bare b.0) (bare (tell rel.0)) (sym (bare-append b.0 (tell rel.0)) ∙ is)))
+      (b.0 ++ tell rel.0, at_leaf (left_by g.left.under (tasks_in home g.left) g.leaf).leaf b.1, (r.ps ++ b.0, rel.0, b.1, does, rel.1, same, refl), λ none is. b.3 (unleafed (left_by g.left.under (tasks_in home g.left) g.leaf).leaf b.1 none) (nil-front (bare b.0) (bare (tell rel.0)) (sym (bare-append b.0 (tell rel.0)) ∙ is)))
     where
       closed : (mid : Option Config) → (rel : List Told) × Closes e mid rel
       closed None = ([], refl)
@@ -337,10 +318,6 @@ module _ (home : Setting) (ceiling later : ℕ) (k m : Lasting) (g : Going) (v w
   pub cut-stand : (left : Left) → RunCut true home (moment_of g.work) k g.left.under (tasks_in home g.left) m left.under v w
       → StandAll (held_in m (stage.Within (record { work = g.work; left = left; leaf = g.leaf }))) w
   cut-stand left r = r.stand (hand_of g.work.entry) hand-stands
-
--- a lane that is full, and how long it is
-pub full-is : (v : LaneView) (f : RoomFault) (len : ℕ) → f ≡ fault.LaneFull len → IsFault v f → (len ≡ length v.told) × (1000000 < len + 8)
-full-is v f len is h = subst (λ x. IsFault v x) is h
 
 pub halts-full : (n : ℕ) (r : Rec) (v full w : LaneView) → item_of r ≡ record { of = 0; body = item.Spill n } → n ≡ length v.told → 1000000 < n + 8 → GrowsOf r.of (told_note r v) v full → Stops 6 full w → HaltsFull v w
 halts-full n r v full w is here many grown stops = record { full = full; few = omega (arith, here, many); spills = spilled n r v full is here grown; stops = stops }
@@ -449,7 +426,7 @@ params-most sys sig sound = go (slice_get sys.signals (sig - 4)) refl
   where
     go : (o : Option SignalDef) → slice_get sys.signals (sig - 4) ≡ o → option_map_or (λ (d : SignalDef). d.params) o 0 ≤ 8
     go None at = omega arith
-    go (Some d) at = at_place (λ (x : SignalDef). x.params ≤ 8) sys.signals sound.params (sig - 4) d at
+    go (Some d) at = every-at (λ (x : SignalDef). x.params ≤ 8) sys.signals sound.params (sig - 4) d at
 
 pub take-one : (xs : List ℕ) (j x : ℕ) → slice_get xs j ≡ Some x → take j xs ++ x ∷ [] ≡ take (j + 1) xs
 take-one xs j x at = let next : j + 1 ≡ suc j = omega arith in rw next (by xs j at)

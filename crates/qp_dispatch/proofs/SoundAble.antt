@@ -19,7 +19,8 @@ use Rattle.qp_model.specs.Parts.{first_pool, is_static, sizes_of}
 use Rattle.qp_model.specs.Able.{has_pool, is_able, act_able, state_able, chart_able}
 use Rattle.qp_model.specs.Sound.{IsSound}
 use Rattle.qp_model.specs.SoundChart.{IsSoundAct, IsSoundChart, IsSoundEvent, IsSoundPlain, IsSoundRow, IsSoundState}
-use Rattle.qp_calls.proofs.FirstPool.{at_place, pool_of_sound}
+use Rattle.qp_model.proofs.ListLemmas.{every-at}
+use Rattle.qp_calls.proofs.FirstPool.{pool_of_sound}
 use Rattle.qp_dispatch.specs.SoundFor.{IsHome}
 use Rattle.qp_dispatch.specs.Resume.{IsReady}
 use Rattle.qp_dispatch.proofs.Naming.{sound-event}
@@ -98,5 +99,5 @@ module _ (sys : System) (sound : IsSound sys) (chart : Chart) where
 -- an object with its chart, where the timers of its chart are the system's
 pub sound-ready : (sys : System) (me : ℕ) (chart : Chart) (k : ℕ) → IsHome sys me chart → slice_get sys.charts k ≡ Some chart → IsReady sys me chart
 sound-ready sys me chart k home is =
-    let sound : IsSoundChart sys chart = at_place (IsSoundChart sys) sys.charts home.sound.charts k chart is in
+    let sound : IsSoundChart sys chart = every-at (IsSoundChart sys) sys.charts home.sound.charts k chart is in
     home-ready sys me chart home sound (sound-able sys home.sound chart sound)

@@ -1,20 +1,15 @@
 -- An object may take up an entry that the lane has just taken, and go on with it.
-use Rattle.std.proofs.Common.{◌≡◌, ℕ, ◌≤◌, length}
+use Rattle.std.proofs.Common.{ℕ, ◌≤◌, length}
 use Rattle.qp_calls.specs.declared.tokens.Entry.{Entry}
 use Rattle.qp_calls.specs.LaneView.{LaneView}
-use Rattle.qp_calls.specs.Tokens.{hands_after, hands_by, with_entry}
-use Rattle.qp_calls.specs.Clauses.{TakesIt, entry_of}
+use Rattle.qp_calls.specs.Clauses.{TakesIt}
 use Rattle.qp_calls.specs.Deferring.{StandAll, kept_in}
-use Rattle.qp_calls.proofs.CountLemmas.{stand-more}
+use Rattle.qp_calls.proofs.CountLemmas.{stand-more, taken-hands}
 use Rattle.qp_dispatch.specs.declared.lasting.Lasting.{Lasting}
 use Rattle.qp_dispatch.specs.Resume.{IsTaken}
 use Rattle.qp_dispatch.specs.declared.objects.Object.{Object}
 use Rattle.qp_dispatch.specs.Objects.{BeginsStep, IsObject, MayResume}
 use Rattle.qp_model.specs.declared.systems.System.{System}
-
-taken-hands : (me : ℕ) (e : Entry) (v w : LaneView) → TakesIt me e v w → w.hands ≡ with_entry (entry_of e) v.hands
-unfolding hands_after hands_by
-taken-hands me e v w t = t.adds.grows.hands
 
 -- the deferred entries stood, and stand beside it
 pub taken-is : (k : Lasting) (me : ℕ) (e : Entry) (v w : LaneView) → StandAll k.list.entries.items v → length (kept_in k.list) ≤ k.list.entries.capacity → TakesIt me e v w → IsTaken k e w

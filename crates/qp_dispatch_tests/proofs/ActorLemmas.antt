@@ -1,7 +1,7 @@
 -- An object in its lane, from its start on.
-use Rattle.std.proofs.Common.{◌≡◌, ℕ, ◌≤◌, ◌-◌, ◌==◌, cond, Bool, true, false, List, [], ◌∷◌, map, length, refl, sym, ◌∙◌, ap, subst, Option, Some, None, arith}
+use Rattle.std.proofs.Common.{◌≡◌, ℕ, ◌≤◌, ◌-◌, ◌==◌, cond, Bool, true, false, List, [], ◌∷◌, map, length, refl, sym, ◌∙◌, ap, subst, Some, arith}
 use Rattle.std.specs.Prelude.{IsTrue}
-use Rattle.std.specs.List.{AllByRecursion, find}
+use Rattle.std.specs.List.{find}
 use Rattle.std.proofs.lemmas.Bool.Decides.{nat_tests}
 use Rattle.qp_chart.specs.declared.checked.Chart.{Chart}
 use Rattle.qp_model.specs.declared.systems.System.{System}
@@ -15,41 +15,32 @@ use Rattle.qp_model.specs.Sound.{IsSound, IsSoundObject}
 use Rattle.qp_model.specs.Told.{plain, taken}
 use Rattle.qp_model.specs.WordLaw.{is_object}
 use Rattle.qp_model.proofs.NumberLemmas.{number-owned}
+use Rattle.qp_model.proofs.ObjectLemmas.{found-passes}
 use Rattle.qp_calls.specs.declared.tokens.Entry.{Entry}
 use Rattle.qp_calls.specs.Clauses.{TakesIt, entry_of}
-use Rattle.qp_calls.specs.Counting.{times}
 use Rattle.qp_calls.specs.Deferring.{StandAll}
 use Rattle.qp_calls.specs.LaneView.{GrowsOf, LaneView, Roomier}
 use Rattle.qp_calls.specs.Notes.{told_note}
 use Rattle.qp_calls.specs.Tokens.{hands_after, hands_by}
-use Rattle.qp_calls.proofs.CountLemmas.{stand-same}
+use Rattle.qp_calls.proofs.CountLemmas.{stand-same, none-stand}
 use Rattle.qp_dispatch.specs.declared.objects.Object.{Object}
 use Rattle.qp_dispatch.specs.declared.lasting.Lasting.{Lasting}
-use Rattle.qp_dispatch.specs.declared.part.Under.{Under}
 use Rattle.qp_dispatch.specs.declared.steps.Position.{Position}
 use Rattle.qp_dispatch.specs.declared.steps.Position.TheVariants as standing
 use Rattle.qp_dispatch.specs.declared.steps.Step.{Step}
 use Rattle.qp_dispatch.specs.declared.steps.Step.TheVariants as step
 use Rattle.qp_dispatch.specs.Objects.{BeginsStep, IsNew, IsObject, MayResume, MayStart, ObjectResumes, ObjectStarts, ResumesAs, StartsAs, home_of, works_for}
-use Rattle.qp_dispatch.specs.Parts.{IsPublishing}
 use Rattle.qp_dispatch.specs.Resume.{IsReady, IsUnderWay}
 use Rattle.qp_dispatch.specs.Runs.{Setting}
 use Rattle.qp_dispatch.specs.SoundFor.{IsHome}
 use Rattle.qp_dispatch.proofs.SoundAble.{sound-ready}
 use Rattle.qp_dispatch.proofs.Taking.{taken-is}
+use Rattle.qp_dispatch.proofs.Naming.{publishing-still}
 use Rattle.qp_dispatch_tests.specs.declared.actor.Actor.{Actor}
 use Rattle.qp_dispatch_tests.specs.Trial.{AfterPart, AfterStart, IsBase, IsKnown, IsOnItsWay, IsResting, IsUnstarted}
 use Rattle.qp_dispatch_tests.proofs.LaneLemmas.{base-lane, base-quiet, base-room, lane-base, look-told}
 
 -- An object of a sound system.
-
-found-passes : (P : ObjectDef → Type 0) (o : ℕ) (ds : List ObjectDef) (d : ObjectDef) → AllByRecursion P ds → find (λ x. x.priority == o) ds ≡ Some d → P d
-found-passes P o [] d all h = absurd (cc)
-found-passes P o (x ∷ xs) d all h = by (x.priority == o) (λ k. found-passes P o xs d all.1 k) h
-  where
-    by : (b : Bool) → (find (λ y. y.priority == o) xs ≡ Some d → P d) → cond b (Some x) (find (λ y. y.priority == o) xs) ≡ Some d → P d
-    by true go h = let same : x ≡ d = cc in subst P same all.0
-    by false go h = go h
 
 found-priority : (o : ℕ) (ds : List ObjectDef) (d : ObjectDef) → find (λ x. x.priority == o) ds ≡ Some d → d.priority ≡ o
 found-priority o [] d h = absurd (cc)
@@ -99,10 +90,6 @@ new-unstarted sys a sound is new =
 
 -- Its start.
 
-none-stand : (v : LaneView) → StandAll [] v
-unfolding times
-none-stand v = record { named = refl; counts = λ t. omega arith }
-
 at-home : (sys : System) (a : Actor) (v : LaneView) (k : IsKnown sys a) → IsBase sys a.ceiling v → IsObject sys a.ceiling a.object (works_for a.object.me v)
 at-home sys a v k b = record { chart = k.chart; is = k.is; ready = k.ready; compiled = k.compiled; lane = base-lane sys a.ceiling (home_of sys k.chart a.object) v refl b }
 
@@ -149,10 +136,6 @@ started sys a b v w answer u base me h = by answer h.2 (subst (λ c. StartsAs c 
     by step.Memory is s = tt
 
 -- Its steps.
-
-publishing-still : (u : Option Under) (v w : LaneView) → w.sys ≡ v.sys → IsPublishing u v → IsPublishing u w
-publishing-still None v w same h = tt
-publishing-still (Some u) v w same h = rw same h
 
 -- a step under way, in a lane with the same tokens
 way-still : (place : Setting) (k : Lasting) (s : Position) (v w : LaneView) → w.hands ≡ v.hands → w.sys ≡ v.sys → IsUnderWay place k s v → IsUnderWay place k s w

@@ -2,12 +2,12 @@
 use Rattle.std.proofs.Common.{◌≡◌, ℕ, false, List, [], ◌∷◌, refl, sym, ◌∙◌, ap, subst, None}
 use Rattle.qp_model.specs.declared.systems.System.{System}
 use Rattle.qp_model.specs.declared.record.Rec.{Rec}
-use Rattle.qp_model.specs.declared.bodies.Body.{Body}
 use Rattle.qp_model.specs.declared.bodies.Body.TheVariants.{Look, Rest}
-use Rattle.qp_model.specs.Record.{Item, item_of, body_of}
+use Rattle.qp_model.specs.Record.{item_of}
 use Rattle.qp_model.specs.Calls as call
 use Rattle.qp_model.specs.Sound.{IsSound}
 use Rattle.qp_model.specs.Told.{Told, plain}
+use Rattle.qp_model.proofs.RecordLemmas.{body-is}
 use Rattle.qp_calls.specs.declared.did.Did.{Did}
 use Rattle.qp_calls.specs.Groups.{Answers}
 use Rattle.qp_calls.specs.LaneView.{Grows, GrowsOf, LaneView, Roomier, ceiling_in}
@@ -41,18 +41,14 @@ base-quiet sys c o g v w grows quiet b = record {
   spills = subst (λ t. spills_in t ≡ false) (sym grows.told) (spills-append o v.told g b.spills (quiet-spillless g quiet));
 }
 
-pub says : (o : ℕ) (b : Body) (r : Rec) → item_of r ≡ record { of = o; body = b } → body_of r ≡ b
-unfolding item_of
-says o b r is = ap (λ (i : Item). i.body) is
-
 -- a note of a look, and one of a rest
 pub look-told : (o k floor : ℕ) (r : Rec) (v : LaneView) → item_of r ≡ record { of = o; body = Look k floor } → told_note r v ≡ plain (Look k floor) ∷ []
 unfolding told_note
-look-told o k floor r v is = rw (says o (Look k floor) r is) refl
+look-told o k floor r v is = rw (body-is o (Look k floor) r is) refl
 
 pub rest-told : (o k : ℕ) (r : Rec) (v : LaneView) → item_of r ≡ record { of = o; body = Rest k } → told_note r v ≡ plain (Rest k) ∷ []
 unfolding told_note
-rest-told o k r v is = rw (says o (Rest k) r is) refl
+rest-told o k r v is = rw (body-is o (Rest k) r is) refl
 
 pub base-rest : (sys : System) (c o k : ℕ) (r : Rec) (u v w : LaneView) → item_of r ≡ record { of = o; body = Rest k } → Roomier u v → GrowsOf r.of (told_note r v) v w
     → IsBase sys c u → IsBase sys c w

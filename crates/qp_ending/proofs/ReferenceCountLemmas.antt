@@ -8,15 +8,7 @@ use Rattle.qp_model.specs.End.{same_numbers}
 use Rattle.qp_model.specs.Lists.{without_one}
 use Rattle.qp_word_states.specs.Standing.{places}
 use Rattle.qp_ending.specs.Resting.{Counted}
-use Rattle.qp_word_states.proofs.StandingLemmas.{has-places, places-without, places-other, length-without}
-
-places-le : (k : ℕ) (xs : List ℕ) → places k xs ≤ length xs
-places-le k [] = omega arith
-places-le k (x ∷ xs) = go (x == k) (places-le k xs)
-  where
-    go : (b : Bool) → places k xs ≤ length xs → cond b (suc (places k xs)) (places k xs) ≤ suc (length xs)
-    go true h = omega arith
-    go false h = omega arith
+use Rattle.qp_word_states.proofs.StandingLemmas.{has-places, places-without, places-other, length-without, places-within_length}
 
 -- a count that isn't none has a place
 pub inside-counts : (xs : List ℕ) (k : ℕ) → 0 < get_or xs k 0 → k < length xs
@@ -64,7 +56,7 @@ module _ (names counts : List ℕ) (many : ℕ) (h : Counted names counts many) 
   has-counted k = has-places k names ∙ ap (nat_lt 0) (h.each k)
 
   pub count-le : (k : ℕ) → get_or counts k 0 ≤ many
-  count-le k = omega (arith, places-le k names, h.each k, h.total)
+  count-le k = omega (arith, places-within_length k names, h.each k, h.total)
 
   pub counted-add : (k : ℕ) → k < length counts → (v : ℕ) → v ≡ get_or counts k 0 + 1 → Counted (k ∷ names) (set counts k v) (many + 1)
   counted-add k lt v is = record { total = omega (arith, h.total); each = λ j. each j (k == j) refl }

@@ -6,7 +6,6 @@ use Rattle.std.specs.Option.{unwrap_or}
 use Rattle.std.specs.List.{AllByRecursion, list_all, list_any, count_by}
 use Rattle.std.proofs.lemmas.Bool.{and_from, and_parts, or_right}
 use Rattle.std.proofs.lemmas.Bool.Decides.{nat_tests}
-use Rattle.std.proofs.lemmas.List.Sums.{sum_by-cons}
 use Rattle.qp_model.specs.declared.record.Rec.{Rec}
 use Rattle.qp_model.specs.declared.journals.Journal.{Journal}
 use Rattle.qp_model.specs.declared.stimulus.Stim.{Stim}
@@ -18,7 +17,7 @@ use Rattle.qp_model.specs.History.{all_items, lane_items}
 use Rattle.qp_model.specs.Home.{lane_at, home_of, by_object, home_records}
 use Rattle.qp_model.specs.Kernels.{sim, port, qv}
 use Rattle.qp_model.specs.KernelLane.{Reading, lane_read}
-use Rattle.qp_model.specs.Ends.{is_assert, is_spent, is_end, is_spill, ends_last, asserted, spent, quiet}
+use Rattle.qp_model.specs.Ends.{is_assert, is_end, is_spill, ends_last, asserted, spent, quiet}
 use Rattle.qp_model.specs.End.{end_of, has_room}
 use Rattle.qp_model.specs.Lawful.{Lawful, EndHolds, deferred_of, ObjectHolds, KernelHolds, SourceLanes, facts_of, lanes_before, is_settle, reading_holds, setting_of}
 use Rattle.qp_model.specs.Output.{has_form, has_no_rest, is_end_status, is_lane_in_range, last_kernel}
@@ -26,31 +25,13 @@ use Rattle.qp_model.specs.Parts.{sizes_of}
 use Rattle.qp_model.specs.Sound.{IsSound, IsSoundPool}
 use Rattle.qp_model.proofs.HomeLemmas.{home_records-kernel}
 use Rattle.qp_model.proofs.TakenLemmas.{drop-head, list_all-at}
+use Rattle.qp_model.proofs.LastLemmas.{lane-long}
 use Rattle.qp_forms.specs.Laws.{CanBeWritten, QvHasForm, SimHasForms}
 use Rattle.qp_forms.proofs.CountLemmas.{form_for, is_said_by, is_kept, is_kept_by, kept-more, lane-kept, or-both, said-more}
 use Rattle.qp_forms.proofs.CallLemmas.{AllSaid}
 use Rattle.qp_forms.proofs.ShapeLemmas.{shape-said}
 use Rattle.qp_forms.proofs.SourceLemmas.{says, told-says, source-kept}
 use Rattle.qp_forms.proofs.LaneLemmas.{lane-owned}
-
--- at most one `spill` stands in a lane
-no-spill : (x y z : Bool) → not (x || y || z) ≡ true → z ≡ false
-no-spill true y z h = absurd (cc)
-no-spill false true z h = absurd (cc)
-no-spill false false true h = absurd (cc)
-no-spill false false false h = refl
-
-lane-long : (lane : List Item) → ends_last lane ≡ true → length lane ≤ count_by (λ i. not (is_spill i.body)) lane + 1
-unfolding ends_last
-lane-long [] last = omega arith
-lane-long (i ∷ []) last = omega arith
-lane-long (i ∷ j ∷ is) last =
-    let parts = and_parts (not (is_end i.body)) (ends_last (j ∷ is)) last in
-    let none : is_spill i.body ≡ false = no-spill (is_assert i.body) (is_spent i.body) (is_spill i.body) parts.0 in
-    let rest = lane-long (j ∷ is) parts.1 in
-    let more : count_by (λ i. not (is_spill i.body)) (i ∷ j ∷ is) ≡ 1 + count_by (λ i. not (is_spill i.body)) (j ∷ is) =
-    sum_by-cons (λ i. cond (not (is_spill i.body)) 1 0) i (j ∷ is) ∙ rw none refl in
-    omega (arith, rest, more)
 
 lane-short : (lane : List Item) → ends_last lane ≡ true → has_room lane ≡ true → length lane ≤ 1000001
 unfolding has_room

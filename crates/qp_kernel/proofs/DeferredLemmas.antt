@@ -44,7 +44,7 @@ own-is sys j o other =
     let home : home_of sys j o ≡ 0 = rw other refl in
     ap (λ n. records_of (facts_of sys j) o 0 (lane_items (lane_at j n))) home ∙ records_of-told (facts_of sys j) o 0 (lane_items (lane_at j 0))
 
-no-port : (terms : Terms) (kernel : ℕ) → kernel ≡ kernel_in terms → (kernel == port) ≡ false
+pub no-port : (terms : Terms) (kernel : ℕ) → kernel ≡ kernel_in terms → (kernel == port) ≡ false
 no-port terms kernel is = ap (λ k. k == port) is ∙ by terms.cooperative
   where
     by : (b : Bool) → (kernel_in (record { cooperative = b; budget = terms.budget }) == port) ≡ false

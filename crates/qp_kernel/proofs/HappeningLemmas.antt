@@ -12,7 +12,7 @@ use Rattle.qp_model.specs.declared.systems.System.{System}
 use Rattle.qp_model.specs.declared.systems.ObjectDef.{ObjectDef}
 use Rattle.qp_model.specs.declared.bodies.Body.TheVariants as body
 use Rattle.qp_model.specs.Record.{Item}
-use Rattle.qp_model.specs.Told.{Told, plain, for_object}
+use Rattle.qp_model.specs.Told.{Told, plain}
 use Rattle.qp_model.specs.Kernels.{sim}
 use Rattle.qp_model.specs.Sources.{SourceRuns, AllDone, EndsIn}
 use Rattle.qp_model.specs.OneOrder.{Placed, Turn, stim_of, is_stim, begun, acted_last, all_empty, may_act, left_after, turned, acts_next, enters, leaves}
@@ -20,8 +20,8 @@ use Rattle.qp_calls.specs.LaneView.{Happening}
 use Rattle.qp_orders.specs.RunOrder.{placed}
 use Rattle.qp_orders.specs.Placing.{all_placed, AreBehind, look_item}
 use Rattle.qp_orders.specs.Stimulus.{source_items}
-use Rattle.qp_orders.specs.SourceRun.{untold}
 use Rattle.qp_orders.proofs.OrderLaws.{stimuli_are_their_own}
+use Rattle.qp_orders.proofs.StimulusForm.{items-append}
 use Rattle.qp_kernel.specs.Happenings.{run_order, rises, told_by, lanes_from, begun_by, placed_of}
 use Rattle.qp_model.proofs.NumberLemmas.{count-append}
 
@@ -229,10 +229,6 @@ pub record Grown (n : ℕ) (plan : List (List Stim)) (hs : List Happening) (h : 
   pub old : lanes_from n plan hs ≡ front ++ here ∷ back
   pub new : lanes_from n plan (hs ++ h ∷ []) ≡ front ++ (here ++ source_items h.told) ∷ back
 
-pub items-append : (g h : List Told) → source_items (g ++ h) ≡ source_items g ++ source_items h
-items-append [] h = refl
-items-append (t ∷ ts) h = ap (λ is. untold (for_object 0 t) ∷ is) (items-append ts h)
-
 pub lanes-grow : (n : ℕ) (plan : List (List Stim)) (hs : List Happening) (h : Happening) → n ≤ h.source → h.source < n + length plan → Grown n plan hs h
 unfolding lanes_from
 lanes-grow n [] hs h le lt = absurd (omega (arith, le, lt))
@@ -331,12 +327,3 @@ look-idle lane n floor = record { stim = refl; enters = λ o. refl; leaves = λ 
     and-none : (b : Bool) → (b && false) ≡ false
     and-none true = refl
     and-none false = refl
-
--- the source that acts has begun as many as stand before its stimulus
-pub acts-place : (sys : System) (stimuli : List (List Stim)) (xs : List Placed) (base : Bool) (t : Turn) → acts_next sys stimuli xs base ≡ Some t → t.place ≡ begun xs t.source + 1
-unfolding acts_next
-acts-place sys stimuli xs base t h = go _ h
-  where
-    go : (o : Option (ℕ × List Stim)) → option_map (λ x. turn_at x.0 (begun xs x.0 + 1)) o ≡ Some t → t.place ≡ begun xs t.source + 1
-    go None e = absurd (cc)
-    go (Some x) e = let same : turn_at x.0 (begun xs x.0 + 1) ≡ t = cc in subst (λ (u : Turn). u.place ≡ begun xs u.source + 1) same refl

@@ -50,6 +50,7 @@ use Rattle.qp_kernel.proofs.BareLemmas.{bare-told}
 use Rattle.qp_kernel.proofs.TellLemmas.{untold-lane, pieces-lane, source-lane}
 use Rattle.qp_kernel.proofs.ZeroLemmas.{count-cons}
 use Rattle.qp_model.proofs.NumberLemmas.{count-append}
+use Rattle.qp_model.proofs.ListLemmas.{every-test}
 
 pub all-zip : {A : Type 0} (P Q R : A → Type 0) (xs : List A) → ((x : A) → P x → Q x → R x) → AllByRecursion P xs → AllByRecursion Q xs → AllByRecursion R xs
 all-zip P Q R [] go p q = tt
@@ -58,10 +59,6 @@ all-zip P Q R (x ∷ xs) go p q = (go x p.0 q.0, all-zip P Q R xs go p.1 q.1)
 all-map : {A : Type 0} (P R : A → Type 0) (xs : List A) → ((x : A) → P x → R x) → AllByRecursion P xs → AllByRecursion R xs
 all-map P R [] go p = tt
 all-map P R (x ∷ xs) go p = (go x p.0, all-map P R xs go p.1)
-
-all-tests : {A : Type 0} (p : A → Bool) (xs : List A) → AllByRecursion (λ x. p x ≡ true) xs → list_all p xs ≡ true
-all-tests p [] h = refl
-all-tests p (x ∷ xs) h = rw (h.0, all-tests p xs h.1) refl
 
 -- each object of ascending ones is found by its priority
 abbrev pub IsFound : List ObjectDef → ObjectDef → Type 0
@@ -318,7 +315,7 @@ module _ (sys : System) (stimuli : List (List Stim)) (j : Journal) (run : IsRun 
     rest P go = each P go 1 ls stimuli (ap (drop 1) split) run.sources length-is
 
     tests : (p : List Item → Bool) → p lane0 ≡ true → AllByRecursion (λ l. p (lane_items l) ≡ true) ls → list_all (λ l. p (lane_items l)) j.lanes ≡ true
-    tests p one others = ap (list_all (λ l. p (lane_items l))) split ∙ and_from (p (lane_items l)) (list_all (λ l. p (lane_items l)) ls) (ap (λ x. p (lane_items x)) (sym first-is) ∙ one) (all-tests (λ l. p (lane_items l)) ls others)
+    tests p one others = ap (list_all (λ l. p (lane_items l))) split ∙ and_from (p (lane_items l)) (list_all (λ l. p (lane_items l)) ls) (ap (λ x. p (lane_items x)) (sym first-is) ∙ one) (every-test (λ l. p (lane_items l)) ls others)
 
     takes-rest : (o : ℕ) (ls : List (List Rec)) → 0 < o → AllByRecursion (λ l. list_all (λ i. i.of == 0) (lane_items l) ≡ true) ls → count_by (takes_of o) (all_items ls) ≡ 0
     unfolding all_items
@@ -386,7 +383,7 @@ module _ (sys : System) (stimuli : List (List Stim)) (j : Journal) (run : IsRun 
           (rest (λ is. spills_state 0 is ≡ true) (λ ss is h. ap (spills_state 0) (sym (same-items ss is h)) ∙ h.states));
       room = run.room;
       budgets =
-          all-tests (λ d. nat_le (took_count (all_items j.lanes) d.priority) j.budget) sys.objects
+          every-test (λ d. nat_le (took_count (all_items j.lanes) d.priority) j.budget) sys.objects
           (all-map (IsFound sys.objects) (λ d. nat_le (took_count (all_items j.lanes) d.priority) j.budget ≡ true) sys.objects (λ d f. within d f.1) found);
       queues = quietly (λ e. run.queues e);
       blocks = quietly (λ e. run.blocks e);

@@ -14,6 +14,7 @@ use Rattle.qp_model.specs.Knowing.{told_alone}
 use Rattle.qp_model.specs.Ends.{is_end, may_cut, ends_last}
 use Rattle.qp_model.specs.Sources.{StimFits}
 use Rattle.qp_model.specs.OneOrder.{acts_next, begun, stim_of}
+use Rattle.qp_model.proofs.KnowingLemmas.{told-source}
 use Rattle.qp_calls.specs.LaneView.{LaneView, Gains, Happening}
 use Rattle.qp_orders.specs.RunOrder.{placed, has_stim, RunsInOrder, EndsInOrder}
 use Rattle.qp_orders.specs.Placing.{all_placed, look_item, spill_item, LooksNone}
@@ -21,10 +22,12 @@ use Rattle.qp_orders.specs.SourceRun.{untold, untold_all, SourceGoes, SourceEnds
 use Rattle.qp_orders.specs.Stimulus.{source_items}
 use Rattle.qp_orders.proofs.OrderLaws.{zero_comes_last, free_look_comes_last, stimulus_comes_last, order_ends_in_zero, order_ends_in_stimulus, order_ends_in_full_lane, stimuli_are_their_own, one_look_changes}
 use Rattle.qp_orders.proofs.SourceLanes.{source_lane_goes_on, source_lane_is_whole, source_lane_stops}
+use Rattle.qp_orders.proofs.StimulusForm.{items-append}
+use Rattle.qp_orders.proofs.NumberLemmas.{acts-place}
 use Rattle.qp_kernel.specs.Happenings.{IsInOrder, IsOrderEnded, SourcesMarch, SourcesHalt, begun_by, has_no_stim, lane_told, lanes_from, lanes_of, order_of, rises, told_by}
 use Rattle.qp_kernel.specs.Interrupting.{Acts, Comes, FindsNoRoom, Happens, HappensInPart, HappensToFail, HasNone, IsStopped, is_unset, stimuli_of}
 use Rattle.qp_kernel.specs.Turning.{look_told}
-use Rattle.qp_kernel.proofs.HappeningLemmas.{acts-more, items-append, acts-place, begun-happens, begun-told, lanes-grow, look-idle, order-happens, order-more, rises-happens, rises-more, runs-count, told-happens}
+use Rattle.qp_kernel.proofs.HappeningLemmas.{acts-more, begun-happens, begun-told, lanes-grow, look-idle, order-happens, order-more, rises-happens, rises-more, runs-count, told-happens}
 
 -- happenings stand within the records of their lane
 pub within : (v : LaneView) → rises 0 v.happened (length v.told) ≡ true → rises 0 v.happened (0 + length (untold_all v.told)) ≡ true
@@ -88,10 +91,6 @@ next-taken (suc b) (suc k) (x ∷ xs) s left len is =
     let later = next-taken b k xs s left (omega (arith, len)) is in
     (ap (λ ys. x ∷ ys) later.0, ap (λ ys. x ∷ ys) later.1)
 
-lane-alone : (g : List Told) → told_alone (map (for_object 0) g) ≡ g
-lane-alone [] = refl
-lane-alone (t ∷ ts) = ap (λ us. t ∷ us) (lane-alone ts)
-
 lane-happens : (n : ℕ) (hs : List Happening) (h : Happening) → (h.source == n) ≡ true → lane_told n (hs ++ h ∷ []) ≡ lane_told n hs ++ map (for_object 0) h.told
 lane-happens n hs h is = ap (map (for_object 0)) (told-happens n hs h ∙ rw is refl) ∙ map-append (for_object 0) (told_by n hs) h.told
 
@@ -110,7 +109,7 @@ ready sys v base source place s a of no_stim ss is goes =
     let counts : place ≡ begun (order_of v) source + 1 = acts-place v.sys v.plan (order_of v) base (record { source = source; place = place }) (a.next no_stim) in
     let told : begun (order_of v) source ≡ count_by (λ (t : Told). is_some (stim_of t.body)) (told_by source v.happened) = begun-told source 0 (untold_all v.told) v.happened a.some in
     let runs : count_by (λ (t : Told). is_some (stim_of t.body)) (told_by source v.happened) ≡ length (take (begun_by source v.happened) ss) =
-    ap (count_by (λ (t : Told). is_some (stim_of t.body))) (sym (lane-alone (told_by source v.happened))) ∙ runs-count sys 1 (take (begun_by source v.happened) ss) (told_alone (lane_told source v.happened)) goes.runs in
+    ap (count_by (λ (t : Told). is_some (stim_of t.body))) (sym (told-source (told_by source v.happened))) ∙ runs-count sys 1 (take (begun_by source v.happened) ss) (told_alone (lane_told source v.happened)) goes.runs in
     let len : length (take (begun_by source v.happened) ss) ≡ place - 1 = omega (arith, counts, told, runs) in
     let parts = next-taken (begun_by source v.happened) (place - 1) ss s a.left len (subst (λ xs. drop (place - 1) xs ≡ s ∷ a.left) is a.its) in
     record { counted = omega (arith, counts, told, runs); next = parts.0; all = parts.1 }

@@ -10,7 +10,7 @@ use Rattle.qp_model.specs.Pieces.{Piece, Tell, Point, tell}
 use Rattle.qp_model.specs.KernelLane.{Setting, Reading, Upcoming, Inside, Looking, Chosen, Ended, Resting, Again, Over, Halted, lane_next, lane_on, ceiling_of, role_of}
 use Rattle.qp_model.specs.Points.{is_look, begins_row}
 use Rattle.qp_model.specs.Ends.{is_turn_mark}
-use Rattle.qp_model.proofs.KernelRowLemmas.{own-next, start-next, IsOwnRole, IsWithin}
+use Rattle.qp_model.proofs.KernelRowLemmas.{own-next, start-next, IsOwnRole, IsWithin, no-row}
 use Rattle.qp_orders.specs.SourceRun.{untold}
 use Rattle.qp_kernel.specs.LaneZero.{told_pieces_at, told_pieces, owed_point, row_of}
 
@@ -31,18 +31,6 @@ pieces-then s o k m (x ∷ xs) us h = go (lane_next s k (untold x)) h (λ n e. p
 pub pieces-one : (s : Setting) (o : ℕ) (k : Reading) (t : ToldItem) → told_pieces s o k (t ∷ []) ≡ told_pieces_at o k t
 unfolding told_pieces
 pieces-one s o k t = append-nil (told_pieces_at o k t)
-
--- without a look no row begins
-pub no-row : (o : ℕ) (place : Upcoming) (running : List ℕ) → begins_row o place running false ≡ false
-no-row o Inside [] = refl
-no-row o Inside (p ∷ outer) = refl
-no-row o (Looking p others) running = refl
-no-row o (Chosen p) running = refl
-no-row o (Ended p) running = refl
-no-row o Resting running = refl
-no-row o Again running = refl
-no-row o Over running = refl
-no-row o Halted running = refl
 
 pub not-zero : (o : ℕ) → 0 < o → (0 == o) ≡ false
 not-zero o lt = grind (arith, nat_tests)

@@ -14,6 +14,7 @@ use Rattle.qp_model.specs.Standing.{Within, Leaves}
 use Rattle.qp_model.proofs.AbleLemmas.{start-able}
 use Rattle.qp_model.proofs.StepLemmas.{goes_on-completes, starts-completes}
 use Rattle.qp_model.proofs.CourseLemmas.{follows-whole, follows-course, follows-stopped, follows-point, follows-anywhere, follows-none, course-start}
+use Rattle.qp_model.proofs.ListLemmas.{nil-front}
 use Rattle.qp_kernel.specs.Stages as stage
 use Rattle.qp_kernel.specs.Stages.{Stage, IsReady, ComesTo, may_wait, is_resting}
 use Rattle.qp_kernel.specs.Turning.{IsWithinStep}
@@ -22,10 +23,6 @@ use Rattle.qp_kernel.proofs.StageLemmas.{comes-within}
 -- the point that is owed, or none
 abbrev pub point_if : Bool → List Piece
 point_if b = cond b (Point ∷ []) []
-
-nil-front : {A : Type 0} (xs ys : List A) → xs ++ ys ≡ [] → xs ≡ []
-nil-front [] ys e = refl
-nil-front (x ∷ xs) ys e = absurd (cc)
 
 -- a list that stops may be cut anywhere
 pub stopped-anywhere : (sys : System) (d : ObjectDef) (ps : List Piece) → FollowsTo sys d Stopped ps → FollowsTo sys d Anywhere ps

@@ -23,7 +23,7 @@ use Rattle.qp_model.specs.Course.{actor, first_config, chart_at, Starts, Whole, 
 use Rattle.qp_model.specs.Step.{Remainder, GoesOn}
 use Rattle.qp_model.specs.Acts.{Config}
 use Rattle.qp_model.specs.Lawful.{spill_cuts}
-use Rattle.qp_model.proofs.KernelRowLemmas.{lane_on-then, spent-next, IsOwnRole, IsWithin, seen-entry}
+use Rattle.qp_model.proofs.KernelRowLemmas.{lane_on-then, spent-next, IsOwnRole, IsWithin, seen-entry, no-row}
 use Rattle.qp_kernel.specs.Stages as stage
 use Rattle.qp_kernel.specs.Stages.{Stage, ComesTo, may_wait, is_resting}
 use Rattle.qp_orders.specs.SourceRun.{untold}
@@ -32,10 +32,11 @@ use Rattle.qp_model.specs.ObjectShape.{HasShape}
 use Rattle.qp_kernel.specs.ZeroEnds.{cut_in, may_stand, is_spent_right, own_told, ZeroEnds}
 use Rattle.qp_kernel.specs.Turning.{AreNumbered, AreAble, IsWithinStep}
 use Rattle.qp_orders.proofs.CalmLemmas.{are_calm, calm-parts, calm-no_spill, calm-ends_last, calm-spills_cut, calm-spents_follow, calm-states, calm-all, no_spill-cuts, IsMild, mild-follow, mild-cut, mild-states, mild-all, mild-no_spill}
+use Rattle.qp_orders.proofs.StimLemmas.{any-both}
 use Rattle.qp_kernel.proofs.BareLemmas.{own-unmarked, own-calm, own-append, follows-own, shape-spent}
 use Rattle.qp_kernel.proofs.WaitLemmas.{point_if, stopped-anywhere, follows-resting, follows-waiting, follows-failed, follows-failed_start, follows-cut, follows-cut_start}
-use Rattle.qp_kernel.proofs.ZeroLemmas.{any-append, own-takes, ends-told, told-unmarked, AreDrops, drops-told, done-takes, reads-done}
-use Rattle.qp_kernel.proofs.ToldPieces.{pieces-then, pieces-one, pieces-other, none-owed, not-zero, no-row, pieces-told, AreOwn, AreTold, own-told, told-append, ceiling_through, pieces_for, reads-own, reads-start}
+use Rattle.qp_kernel.proofs.ZeroLemmas.{own-takes, ends-told, told-unmarked, AreDrops, drops-told, done-takes, reads-done}
+use Rattle.qp_kernel.proofs.ToldPieces.{pieces-then, pieces-one, pieces-other, none-owed, not-zero, pieces-told, AreOwn, AreTold, own-told, told-append, ceiling_through, pieces_for, reads-own, reads-start}
 use Rattle.qp_model.proofs.NumberLemmas.{count-append}
 
 one-idle : (place : Upcoming) (idle : ℕ) → HasOneRow place idle → idle ≤ 1
@@ -114,7 +115,7 @@ module _ (sys : System) (kernel budget : ℕ) (told : List ToldItem) (now has : 
       ends-by end ts last are follows
       (λ d chart at is.
       follows-own sys d (cut_in end d.priority (map untold (told ++ ts))) here (unread sys) (told ++ ts)
-      (own-unmarked d.priority (told ++ ts) (rw (map-append untold told ts) (any-append (λ i. is_turn_mark i.body) (map untold told) (map untold ts) old.unmarked unmarked)))
+      (own-unmarked d.priority (told ++ ts) (rw (map-append untold told ts) (any-both (λ i. is_turn_mark i.body) (map untold told) (map untold ts) old.unmarked unmarked)))
       (subst (FollowsTo sys d (cut_in end d.priority (map untold (told ++ ts)))) (sym (pieces-then here d.priority (unread sys) k told ts (old.read has agree))) (follows d chart at is)))
 
   abbrev old_pieces : ℕ → List Piece
@@ -264,7 +265,7 @@ module _ (sys : System) (kernel budget : ℕ) (told : List ToldItem) (now has : 
           let none : spill_cuts o (map untold (told ++ for_object 0 (plain (body.Seen p f l m)) ∷ for_object p (plain body.Spent) ∷ [])) ≡ false =
           no_spill-cuts o (map untold (told ++ for_object 0 (plain (body.Seen p f l m)) ∷ for_object p (plain body.Spent) ∷ []))
           (ap spills_in (map-append untold told (for_object 0 (plain (body.Seen p f l m)) ∷ for_object p (plain body.Spent) ∷ []))
-          ∙ any-append (λ i. is_spill i.body) (map untold told) (record { of = 0; body = body.Seen p f l m } ∷ record { of = p; body = body.Spent } ∷ []) (calm-no_spill (map untold told) old.calm) refl) in
+          ∙ any-both (λ i. is_spill i.body) (map untold told) (record { of = 0; body = body.Seen p f l m } ∷ record { of = p; body = body.Spent } ∷ []) (calm-no_spill (map untold told) old.calm) refl) in
           rw (early, none) refl
 
       shape : (d : ObjectDef) (chart : Chart) → object_at sys d.priority ≡ Some d → chart_at sys d.chart ≡ Some chart → (v : Bool) → (p == d.priority) ≡ v
@@ -325,14 +326,14 @@ module _ (sys : System) (kernel budget : ℕ) (told : List ToldItem) (now has : 
   spill-plain : (p : ℕ) (g : List Told) (n : ℕ) → AreTold g → list_any (λ i. is_turn_mark i.body) (map untold (map (for_object p) g ++ for_object 0 (plain (body.Spill n)) ∷ [])) ≡ false
   spill-plain p g n are =
       ap (list_any (λ i. is_turn_mark i.body)) (map-append untold (map (for_object p) g) (for_object 0 (plain (body.Spill n)) ∷ []))
-      ∙ any-append (λ i. is_turn_mark i.body) (map untold (map (for_object p) g)) (record { of = 0; body = body.Spill n } ∷ []) (told-unmarked p g are) refl
+      ∙ any-both (λ i. is_turn_mark i.body) (map untold (map (for_object p) g)) (record { of = 0; body = body.Spill n } ∷ []) (told-unmarked p g are) refl
 
   -- no `spill` stands behind records without an end and mild ones
   uncut : (p o : ℕ) (g : List Told) → AreOwn g → spill_cuts o (map untold (told ++ (map (for_object p) g ++ []))) ≡ false
   uncut p o g own =
       no_spill-cuts o (map untold (told ++ (map (for_object p) g ++ [])))
       (ap (λ x. spills_in (map untold (told ++ x))) (append-nil (map (for_object p) g)) ∙ ap spills_in (map-append untold told (map (for_object p) g))
-      ∙ any-append (λ i. is_spill i.body) (map untold told) (map untold (map (for_object p) g)) (calm-no_spill (map untold told) old.calm) (mild-no_spill (map untold (map (for_object p) g)) (own-mild p g own)))
+      ∙ any-both (λ i. is_spill i.body) (map untold told) (map untold (map (for_object p) g)) (calm-no_spill (map untold told) old.calm) (mild-no_spill (map untold (map (for_object p) g)) (own-mild p g own)))
 
   failed-last : (end p : ℕ) (g : List Told) (last : Reading) → lane_on here k (map untold (map (for_object p) g)) ≡ Some last → last.idle ≡ k.idle → AreOwn g
       → ends_last (map untold (map (for_object p) g)) ≡ true → may_stand kernel end last (map untold (told ++ (map (for_object p) g ++ []))) ≡ true

@@ -3,7 +3,6 @@ use Rattle.std.proofs.Common.{◌≡◌, ℕ, ◌+◌, ◌<◌, ◌≤◌, ◌==
 use Rattle.std.specs.Prelude.{⊤}
 use Rattle.std.specs.List.{list_any, count_by}
 use Rattle.std.proofs.lemmas.List.{map-append}
-use Rattle.std.proofs.lemmas.List.Folds.{list_any-append}
 use Rattle.std.proofs.lemmas.Bool.Decides.{nat_tests}
 use Rattle.qp_chart.specs.declared.checked.Chart.{Chart}
 use Rattle.qp_model.specs.declared.systems.System.{System}
@@ -26,14 +25,12 @@ use Rattle.qp_model.proofs.KernelRowLemmas.{lane_on-then, look-next, seen-empty,
 use Rattle.qp_kernel.specs.Stages as stage
 use Rattle.qp_kernel.specs.Stages.{Stage, IsReady, ComesTo}
 use Rattle.qp_orders.specs.SourceRun.{untold}
+use Rattle.qp_orders.proofs.StimLemmas.{any-both}
 use Rattle.qp_kernel.specs.LaneZero.{told_pieces, Agree, setting, owed_point, row_of, HasOneRow, LaneZero}
 use Rattle.qp_kernel.specs.Turning.{AreNumbered, AreAble, IsWithinStep, moved, having}
 use Rattle.qp_kernel.proofs.StageLemmas.{comes-took, comes-point, comes-done, comes-started}
 use Rattle.qp_kernel.proofs.ToldPieces.{pieces-then, pieces-one, none-owed, not-zero, pieces-look, pieces-other, pieces-told, AreOwn, AreTold, own-told, told-append, ceiling_through, reads-own, reads-start}
 use Rattle.qp_model.proofs.NumberLemmas.{count-append}
-
-pub any-append : {A : Type 0} (p : A → Bool) (xs ys : List A) → list_any p xs ≡ false → list_any p ys ≡ false → list_any p (xs ++ ys) ≡ false
-any-append p xs ys a b = list_any-append p xs ys ∙ rw (a, b) refl
 
 -- an element that doesn't pass
 pub count-cons : {A : Type 0} (p : A → Bool) (x : A) (xs : List A) → p x ≡ false → count_by p (x ∷ xs) ≡ count_by p xs
@@ -79,8 +76,8 @@ module _ (sys : System) (kernel budget : ℕ) (told : List ToldItem) (now : ℕ 
         let new = counts o in
         rw (map-append untold told ts) (omega (arith, both, before, new));
     budgets = few;
-    calm = rw (map-append untold told ts) (any-append (λ i. is_end i.body) (map untold told) (map untold ts) old.calm calm);
-    unmarked = rw (map-append untold told ts) (any-append (λ i. is_turn_mark i.body) (map untold told) (map untold ts) old.unmarked unmarked);
+    calm = rw (map-append untold told ts) (any-both (λ i. is_end i.body) (map untold told) (map untold ts) old.calm calm);
+    unmarked = rw (map-append untold told ts) (any-both (λ i. is_turn_mark i.body) (map untold told) (map untold ts) old.unmarked unmarked);
     rows = rows;
   }
 
@@ -350,7 +347,7 @@ module _ (sys : System) (kernel budget : ℕ) (told : List ToldItem) (now : ℕ 
       (λ o chart same there is ps h.
       comes-done sys (actor o chart) (first_config o) (entries p) ps (stages p) ev e left c d (g ++ plain body.Done ∷ rel) within (goes o chart same there is) (omega arith) h)
       (λ o. having-same o (entries p) (took_count (map untold (map (for_object p) (g ++ plain body.Done ∷ rel))) o) (done-takes p g rel o own drops) refl)
-      (old.budgets p) (ends-told p (g ++ plain body.Done ∷ rel) (any-append (λ t. is_end t.body) g (plain body.Done ∷ rel) calm (drops-calm rel drops)))
+      (old.budgets p) (ends-told p (g ++ plain body.Done ∷ rel) (any-both (λ t. is_end t.body) g (plain body.Done ∷ rel) calm (drops-calm rel drops)))
       (subst (λ x. HasOneRow x k.idle) at.inside old.rows)
 
   -- The next object starts.
@@ -366,4 +363,4 @@ module _ (sys : System) (kernel budget : ℕ) (told : List ToldItem) (now : ℕ 
       (λ o chart same there is ps h.
       comes-started sys (actor o chart) (first_config o) (entries p) ps c (g ++ plain body.Done ∷ []) (goes o chart same there is) (omega arith) (subst (ComesTo sys (actor o chart) (first_config o) (entries p) ps) unstarted h))
       (λ o. having-same o (entries p) (took_count (map untold (map (for_object p) (g ++ plain body.Done ∷ []))) o) (done-takes p g [] o own tt) refl)
-      (old.budgets p) (ends-told p (g ++ plain body.Done ∷ []) (any-append (λ t. is_end t.body) g (plain body.Done ∷ []) calm refl)) old.rows
+      (old.budgets p) (ends-told p (g ++ plain body.Done ∷ []) (any-both (λ t. is_end t.body) g (plain body.Done ∷ []) calm refl)) old.rows

@@ -2,7 +2,6 @@
 use Rattle.std.proofs.Common.{◌≡◌, ◌∙◌, ℕ, ◌+◌, ◌<◌, ◌==◌, Bool, true, false, not, ◌&&◌, ◌||◌, cond, List, [], ◌∷◌, ◌++◌, length, map, take, drop, get_or, ap, sym, refl, arith}
 use Rattle.std.specs.List.{list_any}
 use Rattle.std.proofs.lemmas.Bool.{and_from, and_parts}
-use Rattle.std.proofs.lemmas.Bool.Decides.{nat_tests}
 use Rattle.std.specs.Ordering.{is_eq}
 use Rattle.std.proofs.lemmas.List.{length-map, take_more, take-append-drop}
 use Rattle.std.proofs.lemmas.List.Folds.{list_any-append}
@@ -10,6 +9,7 @@ use Rattle.qp_model.specs.declared.record.Rec.{Rec}
 use Rattle.qp_model.specs.Record.{item_of}
 use Rattle.qp_model.specs.History.{lane_items}
 use Rattle.qp_model.specs.HomeLane.{all_differ, are_at_home, is_at_home, taken_by}
+use Rattle.qp_model.proofs.NumberLemmas.{eqb-sym}
 use Rattle.qp_lanes.specs.Keys.{key_cmp, same_key}
 use Rattle.qp_lanes.proofs.KeyLemmas.{same-cmp}
 
@@ -35,15 +35,8 @@ module _ (o budget : ℕ) (cuts : Bool) (n : ℕ) (left : List Rec) where
       empty [] h = refl
       empty (r ∷ rest) h = absurd (omega arith)
 
-same-eq : (m n : ℕ) → (m == n) ≡ (n == m)
-same-eq m n = go (m == n) refl
-  where
-    go : (b : Bool) → (m == n) ≡ b → b ≡ (n == m)
-    go true e = let f : (n == m) ≡ true = grind (arith, nat_tests) in sym f
-    go false e = let f : (n == m) ≡ false = grind (arith, nat_tests) in sym f
-
 pub same_key-sym : (x y : ℕ × ℕ × ℕ) → same_key x y ≡ same_key y x
-same_key-sym x y = rw (same-eq x.0 y.0, same-eq x.1 y.1, same-eq x.2 y.2) refl
+same_key-sym x y = rw (eqb-sym x.0 y.0, eqb-sym x.1 y.1, eqb-sym x.2 y.2) refl
 
 -- counts more at the end
 pub differ-more : (xs : List (ℕ × ℕ × ℕ)) (x : ℕ × ℕ × ℕ) → all_differ (xs ++ x ∷ []) ≡ (not (list_any (same_key x) xs) && all_differ xs)

@@ -7,6 +7,7 @@ use Rattle.qp_model.specs.Lists.{without_one}
 use Rattle.qp_model.specs.Machine.{Machine, after_from}
 use Rattle.qp_model.specs.References.{Refs, refs_next}
 use Rattle.qp_word_states.specs.Standing.{places}
+use Rattle.qp_word_states.proofs.StandingLemmas.{places-within_length}
 use Rattle.qp_lanes.specs.WordTotals.{count_in}
 use Rattle.qp_lanes.specs.declared.word_totals.Counts.{Counts}
 use Rattle.qp_known.specs.KnownTables.{IsCounted, value_at, values_from}
@@ -100,14 +101,6 @@ length-dropped k (x ∷ xs) = go (x == k) (length-dropped k xs) (places-within x
         last false e h =
             let i : length (without_one k xs) ≡ length xs - 0 = h ∙ ap (λ b. length xs - cond b 1 0) e in
             omega (arith, i)
-
-pub places-within_length : (k : ℕ) (xs : List ℕ) → places k xs ≤ length xs
-places-within_length k [] = omega arith
-places-within_length k (x ∷ xs) = one (x == k) (places-within_length k xs)
-  where
-    one : (b : Bool) → places k xs ≤ length xs → cond b (suc (places k xs)) (places k xs) ≤ suc (length xs)
-    one true h = omega arith
-    one false h = omega arith
 
 module _ (s : Refs) (counts new : Counts) (total : ℕ) (h : IsCounted s counts total) where
   pub counted-each : (q : ℕ) → count_in counts q ≤ total

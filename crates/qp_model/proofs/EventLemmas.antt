@@ -14,7 +14,7 @@ use Rattle.qp_model.specs.Told.{Event}
 use Rattle.qp_model.specs.History.{hist, all_items}
 use Rattle.qp_model.specs.Machine.{after, allowed_from, is_allowed}
 use Rattle.qp_model.specs.Lives.{Life, life_of, life_next, life_may, edge_of, edges, edges_empty, refs_at, is_empty, HasLives}
-use Rattle.qp_model.specs.Knowing.{given_by, last_given, life_event, event_of}
+use Rattle.qp_model.specs.Knowing.{given_by, last_given, life_event, event_of, event_known}
 use Rattle.qp_model.specs.WordLaw.{Words, is_pool, is_block}
 use Rattle.qp_model.specs.Sites.{blocks_of}
 use Rattle.qp_model.specs.Promises as promise
@@ -281,3 +281,10 @@ module _ (sys : System) (lanes : List (List Rec)) (words : Words sys lanes) (p b
 
 pub event_is_of_its_life : promise.EventIsOfItsLife
 event_is_of_its_life sys lanes words p b is_in r ev = event-is sys lanes words p b r ev is_in
+
+-- what is known of an event tells it
+pub event_known-same : (a b : Option Event) → event_known a ≡ event_known b → a ≡ b
+event_known-same None None h = refl
+event_known-same None (Some y) h = absurd (cc)
+event_known-same (Some x) None h = absurd (cc)
+event_known-same (Some x) (Some y) h = cc

@@ -1,13 +1,17 @@
 -- Histories when a record is added at the end of a lane: the records are xs ++ ys before it, and xs ++ i ∷ ys after it.
-use Rattle.std.proofs.Common.{◌≡◌, ℕ, zero, suc, ◌<◌, ◌≤◌, cond, ◌==◌, nat_lt, nat_le, Bool, true, false, not, ◌&&◌, ◌||◌, List, [], ◌∷◌, ◌++◌, length, refl, ap, arith, length-append}
+use Rattle.std.proofs.Common.{◌≡◌, ℕ, zero, suc, ◌<◌, ◌≤◌, cond, ◌==◌, nat_lt, nat_le, Bool, true, false, not, ◌&&◌, ◌||◌, List, [], ◌∷◌, ◌++◌, length, refl, ap, arith, length-append, ◌+◌, ◌-◌, sym, append_assoc, append-nil, ◌∙◌}
 use borrow.Author.Count.{below_more}
 use Rattle.std.specs.List.{filter}
 use Rattle.std.proofs.lemmas.Bool.{and_from, and_parts}
 use Rattle.std.proofs.lemmas.Bool.Decides.{nat_tests}
+use Rattle.std.proofs.lemmas.List.Elements.{filter-append}
 use Rattle.qp_model.specs.declared.words.Word.{Word}
 use Rattle.qp_model.specs.Record.{Item}
 use Rattle.qp_model.specs.History.{touch, same_word, Touch, Draws, Shows, Neither, drawn_on, drawn_as, drawn_below, total, numbered, hist, is_numbered}
 use Rattle.qp_model.proofs.ListLemmas.{all_below_at, all_below_from, filter-insert_not, length_filter-insert, filter-insert_only, filter-none, list_all-insert}
+use Rattle.qp_model.specs.Places.{in_order, is_next}
+use Rattle.qp_model.proofs.KnowingLemmas.{same_word-is}
+use Rattle.qp_model.specs.declared.words.Word.TheVariants as word
 
 -- the number that a record draws is one
 pub drawn_as-on : (w : Word) (n : ℕ) (t : Touch) → drawn_as w n t ≡ true → drawn_on w t ≡ true
@@ -171,3 +175,39 @@ no-hist w = refl
 pub no-total : (w : Word) → total w [] ≡ 0
 unfolding total
 no-total w = refl
+
+pub same_word-refl : (w : Word) → same_word w w ≡ true
+same_word-refl (word.Pool p) = grind (arith, nat_tests)
+same_word-refl (word.Block p b) = let one : (p == p) ≡ true = grind (arith, nat_tests) in let two : (b == b) ≡ true = grind (arith, nat_tests) in and_from _ _ one two
+same_word-refl (word.Queue a) = grind (arith, nat_tests)
+same_word-refl (word.Signal s) = grind (arith, nat_tests)
+same_word-refl (word.Timer t) = grind (arith, nat_tests)
+
+-- a record's place in an order
+pub in_order-at : (before xs : List Item) (i : Item) (ys : List Item) → in_order before (xs ++ i ∷ ys) ≡ true → is_next (before ++ xs) (touch i) ≡ true
+unfolding in_order
+in_order-at before [] i ys h = rw (append-nil before) (and_parts _ _ h).0
+in_order-at before (x ∷ xs) i ys h = rw (sym (append_assoc before (x ∷ []) xs)) (in_order-at (before ++ x ∷ []) xs i ys (and_parts _ _ h).1)
+
+pub in_order-front : (before xs ys : List Item) → in_order before (xs ++ ys) ≡ true → in_order before xs ≡ true
+unfolding in_order
+in_order-front before [] ys h = refl
+in_order-front before (x ∷ xs) ys h =
+    let parts = and_parts (is_next before (touch x)) _ h in
+    and_from _ _ parts.0 (in_order-front (before ++ x ∷ []) xs ys parts.1)
+
+-- the next record on the word draws its next number
+pub next-draws : (w : Word) (before : List Item) (t : Touch) → drawn_on w t ≡ true → is_next before t ≡ true → drawn_as w (total w before) t ≡ true
+unfolding is_next
+next-draws w before (Draws v mark) on next =
+    let is : v ≡ w = same_word-is v w on in
+    let same : mark ≡ suc (total v before) = grind (arith, nat_tests, next) in
+    let here : mark ≡ suc (total w before) = same ∙ ap (λ u. suc (total u before)) is in
+    let test : (mark == suc (total w before)) ≡ true = grind (arith, nat_tests, here) in
+    and_from _ _ on test
+next-draws w before (Shows v mark) on next = absurd (cc)
+next-draws w before Neither on next = absurd (cc)
+
+pub total-append : (w : Word) (xs ys : List Item) → total w (xs ++ ys) ≡ total w xs + total w ys
+unfolding total
+total-append w xs ys = ap length (filter-append (λ i. drawn_on w (touch i)) xs ys) ∙ length-append (filter (λ i. drawn_on w (touch i)) xs) (filter (λ i. drawn_on w (touch i)) ys)

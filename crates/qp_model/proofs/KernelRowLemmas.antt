@@ -10,7 +10,7 @@ use Rattle.qp_model.specs.Record.{Item}
 use Rattle.qp_model.specs.Knowing.{Facts}
 use Rattle.qp_model.specs.Kernels.{qk}
 use Rattle.qp_model.specs.KernelLane.{Role, Looks, Sees, Takes, Ends, Rests, Holds, Drops, RunsOut, Spills, Acts, role_of, ceiling_of, Setting, floor_in, above, Upcoming, Inside, Looking, Chosen, Ended, Resting, Again, Over, Halted, Reading, base_ended, looking_at, look_next, inside_next, ended_next, place_next, started_next, role_next, lane_next, lane_on}
-use Rattle.qp_model.specs.Points.{pieces_at, pieces_in}
+use Rattle.qp_model.specs.Points.{pieces_at, pieces_in, begins_row}
 
 pub lane_on-append : (s : Setting) (k : Reading) (xs ys : List Item) → lane_on s k (xs ++ ys) ≡ option_and_then (λ m. lane_on s m ys) (lane_on s k xs)
 unfolding lane_on
@@ -180,3 +180,15 @@ release-next s k p i started at of_it role = let self : (i.of == p) ≡ true = g
 pub rest-next : (s : Setting) (k : Reading) → k.unstarted ≡ [] → k.place ≡ Resting → lane_next s k (record { of = 0; body = body.Rest k.looks }) ≡ Some (base_ended s k)
 unfolding lane_next role_of role_next started_next place_next
 rest-next s k started at = let self : (k.looks == k.looks) ≡ true = grind (arith, nat_tests) in rw (started, at, self) refl
+
+-- without a look no row begins
+pub no-row : (o : ℕ) (place : Upcoming) (running : List ℕ) → begins_row o place running false ≡ false
+no-row o Inside [] = refl
+no-row o Inside (p ∷ outer) = refl
+no-row o (Looking p others) running = refl
+no-row o (Chosen p) running = refl
+no-row o (Ended p) running = refl
+no-row o Resting running = refl
+no-row o Again running = refl
+no-row o Over running = refl
+no-row o Halted running = refl

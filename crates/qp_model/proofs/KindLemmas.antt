@@ -7,6 +7,8 @@ use Rattle.qp_model.specs.declared.bodies.Body.TheVariants as body
 use Rattle.qp_model.specs.declared.bodies.Body.TheVariants.{NoEntry, NoBlock, Armed, BadTicks, NoLifo, Malformed}
 use Rattle.qp_model.specs.Record.{entry, never, bare, one, two, three, four, five, six, seven, given, asserted, forms, read_by, body_at}
 use Rattle.qp_model.specs.KindSorts.{kind_in, sort_of, is_malformed, is_of_sort, SortsHold}
+use Rattle.qp_model.specs.Ends.{is_turn_mark}
+use Rattle.qp_model.specs.OutputSummary.{is_took}
 
 -- nothing is said, or what is of the kind
 abbrev Fits : ℕ → Body → Type 0
@@ -286,3 +288,8 @@ sorts_hold kind nums = go (body_at kind nums) (kinds_hold kind nums)
             let same : (kind_in b == kind) ≡ true = rw is at tells in
             let kinds : kind_in b ≡ kind = grind (arith, nat_tests, same) in
             subst (λ k. (is_malformed b || is_of_sort (sort_of k) b) ≡ true) kinds (of-sort b)
+
+-- a mark of a turn is no `took`
+pub mark-is-no-take : (b : Body) → is_turn_mark b ≡ true → is_took b ≡ false
+mark-is-no-take (body.Took f l m e) h = absurd (cc)
+mark-is-no-take _ h = refl

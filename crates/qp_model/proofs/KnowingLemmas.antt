@@ -1,5 +1,5 @@
 -- What is known beside a record stays when a record is added: the records are xs ++ ys before it, and xs ++ i ∷ ys after it.
-use Rattle.std.proofs.Common.{◌≡◌, ℕ, suc, ◌+◌, ◌<◌, ◌≤◌, ◌==◌, nat_le, Bool, true, false, ◌&&◌, cond, List, [], ◌∷◌, ◌++◌, length, take, refl, sym, ◌∙◌, ap, subst, ◌⊎◌, inl, inr, Option, Some, None, arith, length-append, nat_lt}
+use Rattle.std.proofs.Common.{◌≡◌, ℕ, suc, ◌+◌, ◌<◌, ◌≤◌, ◌==◌, nat_le, Bool, true, false, ◌&&◌, cond, List, [], ◌∷◌, ◌++◌, length, take, refl, sym, ◌∙◌, ap, subst, ◌⊎◌, inl, inr, Option, Some, None, arith, length-append, nat_lt, map}
 use Rattle.std.specs.List.{filter}
 use Rattle.std.proofs.lemmas.Bool.{and_from, and_parts}
 use Rattle.std.proofs.lemmas.List.{take-append-le}
@@ -12,7 +12,7 @@ use Rattle.qp_model.specs.declared.bodies.Entry.{Entry}
 use Rattle.qp_model.specs.declared.bodies.Body.{Body}
 use Rattle.qp_model.specs.declared.bodies.Body.TheVariants.{Took, New, Dec, Back, Same}
 use Rattle.qp_model.specs.Record.{Item}
-use Rattle.qp_model.specs.Told.{Event, Free, Left, Member, for_object}
+use Rattle.qp_model.specs.Told.{Event, Free, Left, Member, for_object, Told}
 use Rattle.qp_model.specs.History.{touch, Draws, same_word, drawn_on, drawn_as, total, hist, is_numbered}
 use Rattle.qp_model.specs.Machine.{after}
 use Rattle.qp_model.specs.FreeBlocks.{free_blocks}
@@ -253,3 +253,8 @@ back-fresh block q n c to to_is p b r same lt e = go (c == b) refl
         let above : nat_le to r ≡ false = grind (arith, nat_tests) in
         rw above refl
     go false eq = refl
+
+-- a source's records, told alone
+pub told-source : (g : List Told) → told_alone (map (for_object 0) g) ≡ g
+told-source [] = refl
+told-source (t ∷ ts) = ap (λ x. t ∷ x) (told-source ts)

@@ -1,7 +1,9 @@
 -- Nothing follows an assertion among the records of an object.
-use Rattle.std.proofs.Common.{◌≡◌, ℕ, Bool, true, false, not, ◌&&◌, ◌||◌, List, [], ◌∷◌, ◌++◌, refl, sym, subst, inl, inr, ◌⊎◌, Option, Some, None, append-nil}
+use Rattle.std.proofs.Common.{◌≡◌, ℕ, Bool, true, false, not, ◌&&◌, ◌||◌, List, [], ◌∷◌, ◌++◌, refl, sym, subst, inl, inr, ◌⊎◌, Option, Some, None, append-nil, ◌∙◌, ◌+◌, ◌≤◌, cond, length, arith}
 use Rattle.std.specs.Bool.{MatchBool}
-use Rattle.std.specs.List.{list_all}
+use Rattle.std.specs.List.{list_all, count_by}
+use Rattle.std.proofs.lemmas.Bool.{and_parts}
+use Rattle.std.proofs.lemmas.List.Sums.{sum_by-cons}
 use Rattle.qp_model.specs.declared.systems.System.{System}
 use Rattle.qp_model.specs.declared.systems.ObjectDef.{ObjectDef}
 use Rattle.qp_model.specs.declared.bodies.Entry.{Entry}
@@ -18,6 +20,8 @@ use Rattle.qp_model.specs.Groups.{IsAction, SaysValue, MakesCall, Actions, IsGro
 use Rattle.qp_model.specs.ObjectShape.{StartGroup, BrokenStart, StepHead, is_head, StepGroup, BrokenStep, IsTurn, Dispatches, FindsEmpty, LooksOnly, IsTail, Ends, OutOfBudget, BreaksStep, ObjectGroups, CutGroups, is_assert, nothing_after, asserts_last, asserts_none, HasShape}
 use Rattle.qp_model.proofs.FitsLemmas.{is_calm, is_deferral, Usual, usual, Ending, Answers, any-usual, calm-drops, all-append}
 use Rattle.qp_model.proofs.CutLemmas.{follows-groups}
+use Rattle.qp_model.specs.Record.{Item}
+use Rattle.qp_model.specs.Ends.{ends_last, is_end, is_spent, is_spill}
 
 -- none of the records is an assertion
 abbrev pub Quiet : List Told → Type 0
@@ -232,3 +236,22 @@ module _ (sys : System) (o : ℕ) where
 -- what follows its chart has the shape of an object's records, with the same cut
 pub follows-shape : (sys : System) (d : ObjectDef) (nils : Bool) (cut : Cut) (ps : List Piece) → FollowsTo sys d cut ps → HasShape sys d.priority nils cut (bare ps)
 follows-shape sys d nils cut ps h = shape-groups sys d.priority nils cut (bare ps) (follows-groups sys d nils cut ps h)
+
+-- at most one `spill` stands in a lane
+pub no-spill : (x y z : Bool) → not (x || y || z) ≡ true → z ≡ false
+no-spill true y z h = absurd (cc)
+no-spill false true z h = absurd (cc)
+no-spill false false true h = absurd (cc)
+no-spill false false false h = refl
+
+pub lane-long : (lane : List Item) → ends_last lane ≡ true → length lane ≤ count_by (λ i. not (is_spill i.body)) lane + 1
+unfolding ends_last
+lane-long [] last = omega arith
+lane-long (i ∷ []) last = omega arith
+lane-long (i ∷ j ∷ is) last =
+    let parts = and_parts (not (is_end i.body)) (ends_last (j ∷ is)) last in
+    let none : is_spill i.body ≡ false = no-spill (is_assert i.body) (is_spent i.body) (is_spill i.body) parts.0 in
+    let remaining = lane-long (j ∷ is) parts.1 in
+    let more : count_by (λ i. not (is_spill i.body)) (i ∷ j ∷ is) ≡ 1 + count_by (λ i. not (is_spill i.body)) (j ∷ is) =
+    sum_by-cons (λ i. cond (not (is_spill i.body)) 1 0) i (j ∷ is) ∙ rw none refl in
+    omega (arith, remaining, more)

@@ -46,3 +46,4 @@ pub mod RefusalLemmas
 pub mod CrossingLemmas
 pub mod KindLemmas
 pub mod RecordLemmas
+pub mod ObjectLemmas

@@ -1,5 +1,5 @@
 -- Tests of lists, and an element put into the middle of one.
-use Rattle.std.proofs.Common.{◌≡◌, ◌∙◌, ℕ, zero, suc, ◌<◌, nat_le, Bool, true, false, ◌&&◌, ◌||◌, ◌==◌, subst, cond, List, [], ◌∷◌, ◌++◌, length, refl, ap, Some, None, arith}
+use Rattle.std.proofs.Common.{◌≡◌, ◌∙◌, ℕ, zero, suc, ◌<◌, nat_le, Bool, true, false, ◌&&◌, ◌||◌, ◌==◌, subst, cond, List, [], ◌∷◌, ◌++◌, length, refl, ap, Some, None, arith, ◌-◌, sym, ◌+◌, reverse, nat_lt, ◌≤◌}
 use borrow.Author.Count.{below_more}
 use Rattle.std.specs.declared.option.Option.{Option}
 use Rattle.std.specs.Option.{option_map}
@@ -7,8 +7,10 @@ use Rattle.std.specs.List.{AllByRecursion, filter, list_all, slice_get}
 use Rattle.std.proofs.lemmas.Bool.{and_from, and_parts}
 use Rattle.std.proofs.lemmas.Bool.Decides.{nat_tests}
 use Rattle.std.proofs.lemmas.List.Folds.{list_all-append}
+use Rattle.std.proofs.lemmas.Option.{none-some}
+use Rattle.std.proofs.lemmas.List.{reverse-append}
 use Rattle.qp_chart.specs.StateTree.{has}
-use Rattle.qp_model.specs.Lists.{all_below, never_falls}
+use Rattle.qp_model.specs.Lists.{all_below, never_falls, with_number, without_all, count_up}
 
 -- what holds of each number below n, holds of one
 pub all_below_at : (n : ℕ) (p : ℕ → Bool) → all_below n p ≡ true → (k : ℕ) → k < n → p k ≡ true
@@ -105,3 +107,75 @@ nothing-left (x ∷ xs) h = absurd (omega (arith, h))
 pub mapped : {A B : Type 0} (f : A → B) (o : Option A) (y : B) → option_map f o ≡ Some y → (a : A) × (o ≡ Some a) × (f a ≡ y)
 mapped f None y is = absurd (cc)
 mapped f (Some a) y is = (a, refl, cc)
+
+-- what two facts give of each thing
+pub every-two : {A : Type 0} (P Q R : A → Type 0) → ((x : A) → P x → Q x → R x) → (xs : List A) → AllByRecursion P xs → AllByRecursion Q xs → AllByRecursion R xs
+every-two P Q R step [] h k = tt
+every-two P Q R step (x ∷ xs) h k = (step x h.0 k.0, every-two P Q R step xs h.1 k.1)
+
+-- what holds of each holds of that at a place
+pub every-at : {A : Type 0} (P : A → Type 0) (xs : List A) → AllByRecursion P xs → (i : ℕ) (x : A) → slice_get xs i ≡ Some x → P x
+every-at P [] h i x at = absurd (none-some x at)
+every-at P (y ∷ ys) h zero x at = let same : y ≡ x = cc in rw (sym same) h.0
+every-at P (y ∷ ys) h (suc i) x at = every-at P ys h.1 i x at
+
+-- what holds of each of two lists together
+pub every-parts : {A : Type 0} (P : A → Type 0) (xs ys : List A) → AllByRecursion P (xs ++ ys) → AllByRecursion P xs × AllByRecursion P ys
+every-parts P [] ys h = (tt, h)
+every-parts P (x ∷ xs) ys h = let parts = every-parts P xs ys h.1 in ((h.0, parts.0), parts.1)
+
+-- a test that each passes
+pub every-test : {A : Type 0} (p : A → Bool) (xs : List A) → AllByRecursion (λ x. p x ≡ true) xs → list_all p xs ≡ true
+every-test p [] h = refl
+every-test p (x ∷ xs) h = and_from _ _ h.0 (every-test p xs h.1)
+
+pub every-front : {A : Type 0} (P : A → Type 0) (xs ys : List A) → AllByRecursion P (xs ++ ys) → AllByRecursion P xs
+every-front P [] ys h = tt
+every-front P (x ∷ xs) ys h = (h.0, every-front P xs ys h.1)
+
+pub nil-front : {A : Type 0} (xs ys : List A) → xs ++ ys ≡ [] → xs ≡ []
+nil-front [] ys h = refl
+nil-front (x ∷ xs) ys h = absurd (cc)
+
+-- whether a number is in a list, told of its parts and of the turned list
+pub or-swap : (a b : Bool) → (a || (b || false)) ≡ (b || a)
+or-swap true true = refl
+or-swap true false = refl
+or-swap false true = refl
+or-swap false false = refl
+
+pub has-append : (xs ys : List ℕ) (p : ℕ) → has (xs ++ ys) p ≡ (has xs p || has ys p)
+has-append [] ys p = refl
+has-append (x ∷ xs) ys p = by (x == p) (has-append xs ys p)
+  where
+    by : (b : Bool) → has (xs ++ ys) p ≡ (has xs p || has ys p) → (b || has (xs ++ ys) p) ≡ ((b || has xs p) || has ys p)
+    by true h = refl
+    by false h = h
+
+pub has-reverse : (xs : List ℕ) (p : ℕ) → has (reverse xs) p ≡ has xs p
+has-reverse [] p = refl
+has-reverse (x ∷ xs) p =
+    let turned : reverse (x ∷ xs) ≡ reverse xs ++ x ∷ [] = reverse-append (x ∷ []) xs in
+    rw turned (has-append (reverse xs) (x ∷ []) p) ∙ or-swap (has (reverse xs) p) (x == p) ∙ ap (λ b. (x == p) || b) (has-reverse xs p)
+
+-- a test of all numbers of a list that is changed
+pub all-with : (p : ℕ → Bool) (b : ℕ) (xs : List ℕ) → list_all p xs ≡ true → p b ≡ true → list_all p (with_number b xs) ≡ true
+all-with p b [] h k = and_from _ _ k refl
+all-with p b (x ∷ xs) h k = go (nat_lt b x) (b == x) (all-with p b xs (and_parts _ _ h).1 k)
+  where
+    go : (less same : Bool) → list_all p (with_number b xs) ≡ true → list_all p (cond less (b ∷ x ∷ xs) (cond same (x ∷ xs) (x ∷ with_number b xs))) ≡ true
+    go true same later = and_from _ _ k h
+    go false true later = h
+    go false false later = and_from _ _ (and_parts _ _ h).0 later
+
+pub all-without : (p : ℕ → Bool) (b : ℕ) (xs : List ℕ) → list_all p xs ≡ true → list_all p (without_all b xs) ≡ true
+all-without p b [] h = refl
+all-without p b (x ∷ xs) h = go (x == b) (all-without p b xs (and_parts _ _ h).1)
+  where
+    go : (same : Bool) → list_all p (without_all b xs) ≡ true → list_all p (cond same (without_all b xs) (x ∷ without_all b xs)) ≡ true
+    go true k = k
+    go false k = and_from _ _ (and_parts _ _ h).0 k
+
+pub all-counted : (n k m : ℕ) → k + m ≤ n → list_all (λ x. nat_lt x n) (count_up k m) ≡ true
+all-counted n k zero le = refl
+all-counted n k (suc m) le = let less : nat_lt k n ≡ true = grind (arith, nat_tests, le) in and_from _ _ less (all-counted n (k + 1) m (omega (arith, le)))

@@ -1,5 +1,5 @@
 -- The number of an object's time event names a time event of the system, and the object's own.
-use Rattle.std.proofs.Common.{◌≡◌, ℕ, zero, suc, ◌+◌, ◌-◌, ◌<◌, ◌≤◌, ◌==◌, nat_lt, Bool, true, false, List, [], ◌∷◌, ◌++◌, length, map, get_or, ◌⊎◌, inl, inr, Some, None, refl, sym, ◌∙◌, ap, subst, arith, length-append}
+use Rattle.std.proofs.Common.{◌≡◌, ℕ, zero, suc, ◌+◌, ◌-◌, ◌<◌, ◌≤◌, ◌==◌, nat_lt, Bool, true, false, List, [], ◌∷◌, ◌++◌, length, map, get_or, ◌⊎◌, inl, inr, Some, None, refl, sym, ◌∙◌, ap, subst, arith, length-append, ◌/◌, ◌^◌}
 use Rattle.std.specs.declared.option.Option.{Option}
 use Rattle.std.specs.Option.{option_map, option_map_or}
 use Rattle.std.specs.List.{AllByRecursion, count_by, filter, find, flat_map, slice_get}
@@ -8,6 +8,7 @@ use Rattle.std.proofs.lemmas.List.Elements.{filter-append}
 use Rattle.std.proofs.lemmas.List.Sums.{length-filter}
 use Rattle.std.proofs.lemmas.Bool.Decides.{nat_tests}
 use Rattle.std.proofs.lemmas.Option.{none-some, same_Some, slice_get-map, slice_get_cases, slice_get_within}
+use Rattle.std.proofs.Math.Nat.{pow-succ', mul-div_cancel_left}
 use Rattle.qp_chart.specs.declared.checked.Timer.{Timer}
 use Rattle.qp_chart.specs.declared.checked.Chart.{Chart}
 use Rattle.qp_model.specs.declared.systems.ObjectDef.{ObjectDef}
@@ -163,3 +164,21 @@ number-owned sys sound o (suc place) object chart found its some few = by (slice
           there = rw index there;
           owner = found-is o object sys.objects found;
         }
+
+-- numbers
+pub not-zero : (p : ℕ) → 0 < p → (p == 0) ≡ false
+not-zero p h = grind (arith, nat_tests)
+
+pub one-more : (m n : ℕ) → nat_lt (1 + m) (suc n) ≡ nat_lt m n
+one-more m n = grind (arith, nat_tests)
+
+pub eqb-sym : (m n : ℕ) → (m == n) ≡ (n == m)
+eqb-sym m n = go (m == n) refl
+  where
+    go : (b : Bool) → (m == n) ≡ b → b ≡ (n == m)
+    go true e = let f : (n == m) ≡ true = grind (arith, nat_tests) in sym f
+    go false e = let f : (n == m) ≡ false = grind (arith, nat_tests) in sym f
+
+-- half of a power of two
+pub bit-suc : (k : ℕ) → 2 ^ suc k / 2 ≡ 2 ^ k
+bit-suc k = ap (λ n. n / 2) (pow-succ' 2 k) ∙ mul-div_cancel_left (2 ^ k) (omega arith)

@@ -80,7 +80,7 @@ module _ {A : Type 0} (f : ℕ → A → Option Fault) (xs : List A) where
   passed-all i passed end = passed ∙ at_drop_all (first_in f (i + 1)) xs i end
 
 -- one more of each list
-Corresponds-append : {A B : Type 0} (R : A → B → Type 0) (xs : List A) (ys : List B) (x : A) (y : B) → Corresponds R xs ys → R x y → Corresponds R (xs ++ x ∷ []) (ys ++ y ∷ [])
+pub Corresponds-append : {A B : Type 0} (R : A → B → Type 0) (xs : List A) (ys : List B) (x : A) (y : B) → Corresponds R xs ys → R x y → Corresponds R (xs ++ x ∷ []) (ys ++ y ∷ [])
 unfolding Corresponds
 Corresponds-append R [] [] x y h r = (r, tt)
 Corresponds-append R [] (y' ∷ ys) x y h r = absurd h

@@ -1,7 +1,6 @@
 -- What the records before an entry is taken tell of its event stays, along an order in which one thread makes them.
 use Rattle.std.proofs.Common.{◌≡◌, ◌∙◌, ℕ, ◌<◌, ◌==◌, nat_lt, Bool, true, false, cond, List, [], ◌∷◌, ◌++◌, map, length, Some, None, IsTrue, refl, sym, ap, subst, arith, append-nil, append_assoc, ◌⊎◌, inl, inr}
 use Rattle.std.specs.declared.option.Option.{Option}
-use Rattle.std.proofs.lemmas.Bool.{and_parts}
 use Rattle.std.proofs.lemmas.Bool.Decides.{nat_tests}
 use Rattle.std.proofs.lemmas.List.{map-append}
 use Rattle.std.proofs.lemmas.List.Elements.{filter-append}
@@ -15,13 +14,14 @@ use Rattle.qp_model.specs.declared.bodies.Body.TheVariants.{Took, New, Back}
 use Rattle.qp_model.specs.Record.{Item}
 use Rattle.qp_model.specs.Told.{Event}
 use Rattle.qp_model.specs.History.{touch, touch_of, drawn_as, drawn_on, hist, is_numbered, total}
-use Rattle.qp_model.specs.Knowing.{event_of, event_known, given_by, known_of, last_given, life_event}
-use Rattle.qp_model.specs.Places.{in_order, is_next}
+use Rattle.qp_model.specs.Knowing.{event_of, given_by, known_of, last_given, life_event}
+use Rattle.qp_model.specs.Places.{in_order}
 use Rattle.qp_model.specs.OneOrder.{Placed}
 use Rattle.qp_model.specs.Settled.{Settled}
 use Rattle.qp_model.specs.WordLaw.{is_block, is_object}
-use Rattle.qp_model.proofs.HistoryLemmas.{hist-draws, hist-other, is_numbered-draws, is_numbered-other, length-hist, no-hist}
+use Rattle.qp_model.proofs.HistoryLemmas.{hist-draws, hist-other, is_numbered-draws, is_numbered-other, length-hist, no-hist, in_order-at, in_order-front, next-draws}
 use Rattle.qp_model.proofs.KnowingLemmas.{IsLater, back-fresh, known-stays, new-fresh, settled-stays}
+use Rattle.qp_model.proofs.EventLemmas.{event_known-same}
 use Rattle.qp_orders.specs.RunOrder.{items_of}
 use Rattle.qp_sound.specs.Log.{log_of}
 use Rattle.qp_sound.specs.May.{May}
@@ -30,20 +30,11 @@ use Rattle.qp_sound.specs.WordStates.{refs_in}
 use Rattle.qp_sound.proofs.LaterLemmas.{front-stands}
 use Rattle.qp_sound.proofs.LogTotals.{total-log}
 use Rattle.qp_sound.proofs.Standing.{names-in, refs-count}
-use Rattle.qp_rerun.proofs.Histories.{next-draws, on_word}
-use Rattle.qp_unique.proofs.FrontLemmas.{from-behind, next-at}
+use Rattle.qp_sound.proofs.NewLemmas.{none-numbered}
+use Rattle.qp_rerun.proofs.Histories.{on_word}
+use Rattle.qp_unique.proofs.FrontLemmas.{from-behind}
 
 -- Numbers in an order.
-
-front-ordered : (before xs ys : List Item) → in_order before (xs ++ ys) ≡ true → in_order before xs ≡ true
-unfolding in_order
-front-ordered before [] ys h = refl
-front-ordered before (x ∷ xs) ys h =
-    let parts = and_parts (is_next before (touch x)) (in_order (before ++ x ∷ []) (xs ++ ys)) h in rw (parts.0, front-ordered (before ++ x ∷ []) xs ys parts.1) refl
-
-none-numbered : (w : Word) → is_numbered w [] ≡ true
-unfolding is_numbered total
-none-numbered w = refl
 
 pub ordered-numbered : (w : Word) (xs : List Item) → in_order [] xs ≡ true → is_numbered w xs ≡ true
 ordered-numbered w = from-behind (λ xs. in_order [] xs ≡ true → is_numbered w xs ≡ true) (λ h. none-numbered w) more
@@ -55,11 +46,11 @@ ordered-numbered w = from-behind (λ xs. in_order [] xs ≡ true → is_numbered
         same = append-nil xs
 
         old : is_numbered w (xs ++ []) ≡ true
-        old = ap (is_numbered w) same ∙ before (front-ordered [] xs (i ∷ []) h)
+        old = ap (is_numbered w) same ∙ before (in_order-front [] xs (i ∷ []) h)
 
         by : (b : Bool) → drawn_on w (touch i) ≡ b → is_numbered w (xs ++ i ∷ []) ≡ true
         by true on =
-            let next = next-draws w xs (touch i) on (next-at [] xs i [] h) in
+            let next = next-draws w xs (touch i) on (in_order-at [] xs i [] h) in
             is_numbered-draws w xs i [] old (ap (λ us. drawn_as w (total w us) (touch i)) same ∙ next)
         by false off = is_numbered-other w xs i [] off old
 
@@ -74,14 +65,14 @@ ordered-hist w = from-behind (λ xs. in_order [] xs ≡ true → hist w xs ≡ o
         same = append-nil xs
 
         front : in_order [] xs ≡ true
-        front = front-ordered [] xs (i ∷ []) h
+        front = in_order-front [] xs (i ∷ []) h
 
         split : on_word w (xs ++ i ∷ []) ≡ on_word w xs ++ cond (drawn_on w (touch i)) (i ∷ []) []
         split = filter-append (λ j. drawn_on w (touch j)) xs (i ∷ [])
 
         by : (b : Bool) → drawn_on w (touch i) ≡ b → hist w (xs ++ i ∷ []) ≡ on_word w (xs ++ i ∷ [])
         by true on =
-            let next = next-draws w xs (touch i) on (next-at [] xs i [] h) in
+            let next = next-draws w xs (touch i) on (in_order-at [] xs i [] h) in
             hist-draws w xs i [] (ap (is_numbered w) same ∙ ordered-numbered w xs front) (ap (λ us. drawn_as w (total w us) (touch i)) same ∙ next)
             ∙ ap (λ us. hist w us ++ i ∷ []) same ∙ ap (λ us. us ++ i ∷ []) (before front) ∙ sym (split ∙ ap (λ b. on_word w xs ++ cond b (i ∷ []) []) on)
         by false off =
@@ -104,12 +95,6 @@ event-by sys xs ys e same = by (e.pool == 0) refl
         let both = same (λ z. let yes : (e.pool == 0) ≡ true = grind (arith, nat_tests, z) in cc) in
         ap (λ pool. its pool (hist (word.Block e.pool e.block) xs)) both.0 ∙ ap (λ block. its (hist (word.Pool e.pool) ys) block) both.1
 
-known-same : (a b : Option Event) → event_known a ≡ event_known b → a ≡ b
-known-same None None h = refl
-known-same None (Some y) h = absurd (cc)
-known-same (Some x) None h = absurd (cc)
-known-same (Some x) (Some y) h = cc
-
 -- A sound world that has made the records so far, and may make the next.
 pub record Stood (sys : System) (xs : List Item) (i : Item) : Type 0 where
   pub lanes : List (List Rec)
@@ -120,7 +105,7 @@ pub record Stood (sys : System) (xs : List Item) (i : Item) : Type 0 where
 
 module _ (sys : System) (xs : List Item) (i : Item) (s : Stood sys xs i) (ordered : in_order [] (xs ++ i ∷ []) ≡ true) where
   before : in_order [] xs ≡ true
-  before = front-ordered [] xs (i ∷ []) ordered
+  before = in_order-front [] xs (i ∷ []) ordered
 
   -- a block's history is as long as its word counts
   long : (p b : ℕ) → is_block sys p b ≡ true → (refs_in s.lanes p b).count ≡ length (hist (word.Block p b) xs)
@@ -145,7 +130,7 @@ module _ (sys : System) (xs : List Item) (i : Item) (s : Stood sys xs i) (ordere
       record {
         next = λ w on. (
           ap (is_numbered w) same ∙ ordered-numbered w xs before,
-          ap (λ us. drawn_as w (total w us) (touch i)) same ∙ next-draws w xs (touch i) on (next-at [] xs i [] ordered),
+          ap (λ us. drawn_as w (total w us) (touch i)) same ∙ next-draws w xs (touch i) on (in_order-at [] xs i [] ordered),
         );
         fresh = λ p b r on lt e. fresh i.body s.may p b r on (subst (λ us. r < length (hist (word.Block p b) us)) same lt) e;
       }
@@ -157,7 +142,7 @@ module _ (sys : System) (xs : List Item) (i : Item) (s : Stood sys xs i) (ordere
       let same : xs ++ [] ≡ xs = append-nil xs in
       let old : Settled (xs ++ []) (Took 0 0 0 e) = subst (λ us. Settled us (Took 0 0 0 e)) (sym same) settled in
       let known = known-stays sys xs i [] later 0 0 (Took 0 0 0 e) old in
-      known-same _ _ known ∙ ap (λ us. event_of (record { sys = sys; items = us }) e) same
+      event_known-same _ _ known ∙ ap (λ us. event_of (record { sys = sys; items = us }) e) same
 
   pub settled-on : (e : Entry) → Settled xs (Took 0 0 0 e) → Settled (xs ++ i ∷ []) (Took 0 0 0 e)
   settled-on e settled = settled-stays sys xs i [] later (Took 0 0 0 e) (subst (λ us. Settled us (Took 0 0 0 e)) (sym (append-nil xs)) settled)
@@ -187,7 +172,7 @@ module _ (sys : System) (all : List Placed) (ordered : in_order [] (items_of all
   up-to : (xs : List Placed) (z : Placed) (ys : List Placed) → all ≡ xs ++ z ∷ ys → in_order [] (items_of xs ++ z.item ∷ []) ≡ true
   up-to xs z ys split =
       let whole = ap items_of split ∙ map-append (λ (x : Placed). x.item) xs (z ∷ ys) ∙ sym (append_assoc (items_of xs) (z.item ∷ []) (items_of ys)) in
-      front-ordered [] (items_of xs ++ z.item ∷ []) (items_of ys) (subst (λ us. in_order [] us ≡ true) whole ordered)
+      in_order-front [] (items_of xs ++ z.item ∷ []) (items_of ys) (subst (λ us. in_order [] us ≡ true) whole ordered)
 
   stays : (xs ys : List Placed) (e : Entry) → all ≡ xs ++ ys → Settled (items_of xs) (Took 0 0 0 e)
       → event_of (record { sys = sys; items = items_of all }) e ≡ event_of (record { sys = sys; items = items_of xs }) e

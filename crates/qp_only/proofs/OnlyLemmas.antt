@@ -48,6 +48,7 @@ use Rattle.qp_only.proofs.FollowLemmas.{sound-followable}
 use Rattle.qp_only.proofs.RecordLemmas.{rec_in, lanes-of}
 use Rattle.qp_only.proofs.PlaceLemmas.{here, items-back, place_behind, placed-back, places-serial, places_of, places_of-append}
 use Rattle.qp_only.proofs.EventLemmas.{Stood, event-by, ordered-hist, taken-stays}
+use Rattle.qp_lanes.proofs.ItemLemmas.{items-none}
 
 -- Which lanes an order has.
 
@@ -86,10 +87,6 @@ beyond : (ls : List (List Rec)) (m : ℕ) → length ls ≤ m → get_or ls m []
 beyond [] m few = refl
 beyond (l ∷ ls) zero few = absurd (omega (arith, few))
 beyond (l ∷ ls) (suc m) few = beyond ls m (omega (arith, few))
-
-none-read : lane_items [] ≡ []
-unfolding lane_items
-none-read = refl
 
 -- The two tests of a record's word are the same.
 same-word_test : (sys : System) (w : Word) → has_its_word sys w ≡ has_word sys w
@@ -153,7 +150,7 @@ module _ (sys : System) (stimuli : List (List Stim)) (j : Journal) (sound : IsSo
       by false e =
           let few : length t.others ≤ m = grind (arith, nat_tests) in
           let size : length (source_lanes sys j) ≡ length t.others = ap length t.sources_are ∙ length-map t.others (λ lane. lane_items lane) in
-          order-beyond true (source_lanes sys j) (lane_items (lane_at j 0)) (suc m) (omega (arith, few, size)) ∙ sym (ap lane_items (beyond t.others m few) ∙ none-read)
+          order-beyond true (source_lanes sys j) (lane_items (lane_at j 0)) (suc m) (omega (arith, few, size)) ∙ sym (ap lane_items (beyond t.others m few) ∙ items-none)
 
   abbrev order : List RecordPlace
   order = places_of [] all

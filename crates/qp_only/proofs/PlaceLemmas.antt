@@ -19,11 +19,10 @@ use Rattle.qp_replay.specs.Remaining.{place}
 use Rattle.qp_replay.proofs.OrderLemmas.{irreflexive, taken, taken-all, taken-more, taken-none}
 use Rattle.qp_rerun.specs.Laws.{placed_at, record_at}
 use Rattle.qp_rerun.proofs.Along.{get-lane}
-use Rattle.qp_rerun.proofs.Histories.{total-append}
-use Rattle.qp_unique.proofs.FrontLemmas.{next-at, same_word-refl}
 use Rattle.qp_unique.proofs.SourceSteps.{lane_in-append}
 use Rattle.qp_unique.proofs.Sides.{lane_in}
 use Rattle.qp_model.proofs.LineLemmas.{same_number}
+use Rattle.qp_model.proofs.HistoryLemmas.{same_word-refl, in_order-at, total-append}
 
 -- the place of a record behind these
 abbrev pub place_behind : List Placed → Placed → RecordPlace
@@ -221,7 +220,7 @@ module _ (lanes : List (List Rec)) (all : List Placed) (are : (a : ℕ) → lane
   module _ (numbers : in_order [] (items_of all) ≡ true) where
     number-at : (xs : List Placed) (z : Placed) (ys : List Placed) → all ≡ xs ++ z ∷ ys → is_next (items_of xs) (touch z.item) ≡ true
     number-at xs z ys split =
-        next-at [] (items_of xs) z.item (items_of ys) (subst (λ us. in_order [] us ≡ true) (ap items_of split ∙ map-append (λ (x : Placed). x.item) xs (z ∷ ys)) numbers)
+        in_order-at [] (items_of xs) z.item (items_of ys) (subst (λ us. in_order [] us ≡ true) (ap items_of split ∙ map-append (λ (x : Placed). x.item) xs (z ∷ ys)) numbers)
 
     -- no later record must stand before an earlier one
     touch-later : (xs : List Item) (i : Item) (ys : List Item) (k : Item) → is_next xs (touch i) ≡ true → is_next (xs ++ i ∷ ys) (touch k) ≡ true → touch_first (touch k) (touch i) ≡ true → ⊥

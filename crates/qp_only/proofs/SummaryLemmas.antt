@@ -45,6 +45,7 @@ use Rattle.qp_course.proofs.SettleLemmas.{into-settle}
 use Rattle.qp_only.specs.Laws.{SummariesAreOne}
 use Rattle.qp_only.proofs.FollowLemmas.{sound-followable}
 use Rattle.qp_model.proofs.AbleLemmas.{some-same}
+use Rattle.qp_model.proofs.KindLemmas.{mark-is-no-take}
 
 -- what begins nothing begins nothing further back
 begins-behind : (ps qs : List Piece) → begins_nothing (ps ++ qs) ≡ true → begins_nothing qs ≡ true
@@ -120,10 +121,6 @@ no-done : (b : Body) → is_turn_mark b ≡ true → is_done b ≡ false
 no-done body.Done mark = absurd (cc)
 no-done b mark = refl
 
-no-took : (b : Body) → is_turn_mark b ≡ true → is_took b ≡ false
-no-took (body.Took f l m e) mark = absurd (cc)
-no-took b mark = refl
-
 abbrev one_if : Bool → ℕ
 one_if b = cond b 1 0
 
@@ -143,7 +140,7 @@ module _ (p : Body → Bool) (other : (b : Body) → is_turn_mark b ≡ true →
       by same false mark = first (dispatched ts) ∙ ap (λ n. one_if (p t.body) + n) same
 
 dispatched-done : (ts : List Told) → all_done (dispatched ts) ≡ all_done ts
-dispatched-done ts = λ i. counts is_done no-done ts i == counts is_took no-took ts i + 1
+dispatched-done ts = λ i. counts is_done no-done ts i == counts is_took mark-is-no-take ts i + 1
 
 -- ---- an object
 

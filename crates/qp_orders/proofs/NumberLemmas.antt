@@ -1,19 +1,19 @@
 -- The numbers that records draw and show, in the order in which they were made.
-use Rattle.std.proofs.Common.{◌≡◌, suc, ◌+◌, ◌==◌, true, List, [], ◌∷◌, ◌++◌, map, length, refl, sym, ◌∙◌, ap, subst, arith, append_assoc, append-nil, length-append}
-use Rattle.std.specs.List.{filter}
+use Rattle.std.proofs.Common.{◌≡◌, suc, ◌+◌, ◌==◌, true, List, [], ◌∷◌, ◌++◌, map, refl, sym, ◌∙◌, ap, subst, arith, append_assoc, append-nil, ℕ, Bool, ◌&&◌, Some}
+use Rattle.std.specs.List.{find}
 use Rattle.std.proofs.lemmas.Bool.{and_from, and_parts}
 use Rattle.std.proofs.lemmas.List.{map-append}
 use Rattle.qp_model.specs.declared.record.Rec.{Rec}
 use Rattle.qp_model.specs.declared.words.Word.{Word}
 use Rattle.qp_model.specs.Record.{Item, item_of}
-use Rattle.qp_model.specs.History.{Touch, Draws, Shows, Neither, touch, drawn_on, total, lane_items, all_items}
+use Rattle.qp_model.specs.History.{Touch, Draws, Shows, Neither, touch, total, lane_items, all_items}
 use Rattle.qp_model.specs.Places.{is_next, in_order}
+use Rattle.qp_model.specs.declared.stimulus.Stim.{Stim}
+use Rattle.qp_model.specs.declared.systems.System.{System}
+use Rattle.qp_model.specs.OneOrder.{Placed, Turn, acts_next, begun, left_after, may_act, turned, all_empty, acted_last}
+use Rattle.qp_model.proofs.ListLemmas.{mapped}
+use Rattle.qp_model.proofs.HistoryLemmas.{total-append}
 use Rattle.qp_orders.specs.Laws.{AreNumbered}
-use Rattle.qp_orders.proofs.RunLemmas.{filter-append}
-
-pub total-append : (w : Word) (xs ys : List Item) → total w (xs ++ ys) ≡ total w xs + total w ys
-unfolding total
-total-append w xs ys = ap length (filter-append (λ i. drawn_on w (touch i)) xs ys) ∙ length-append (filter (λ i. drawn_on w (touch i)) xs) (filter (λ i. drawn_on w (touch i)) ys)
 
 -- a lane and one record more
 pub total-lane : (w : Word) (front : List (List Rec)) (lane : List Rec) (back : List (List Rec)) (r : Rec)
@@ -61,3 +61,13 @@ numbered-next all more order i old next grows = record {
       let c = grows w in
       omega (arith, a, b, c);
 }
+
+-- the stimulus that acts is the source's next
+pub acts-place : (sys : System) (stimuli : List (List Stim)) (xs : List Placed) (base : Bool) (t : Turn) → acts_next sys stimuli xs base ≡ Some t → t.place ≡ begun xs t.source + 1
+unfolding acts_next
+acts-place sys stimuli xs base t h =
+    let x = mapped (λ (x : ℕ × List Stim). record { source = x.0; place = begun xs x.0 + 1 })
+    (find (λ x. may_act (base && all_empty sys xs) x.1) (turned (acted_last 0 xs) (left_after xs stimuli))) t h in
+    let place : t.place ≡ begun xs x.0.0 + 1 = ap (λ (z : Turn). z.place) (sym x.2) in
+    let source : t.source ≡ x.0.0 = ap (λ (z : Turn). z.source) (sym x.2) in
+    place ∙ ap (λ j. begun xs j + 1) (sym source)

@@ -4,7 +4,7 @@ use Rattle.std.specs.Prelude.{◌≢◌}
 use Rattle.std.specs.List.{list_all, list_any, filter}
 use Rattle.std.proofs.lemmas.Bool.{or_parts}
 use Rattle.std.proofs.lemmas.List.{map-append, length-map}
-use Rattle.std.proofs.lemmas.List.Elements.{filter_map-append}
+use Rattle.std.proofs.lemmas.List.Elements.{filter_map-append, filter-append}
 use Rattle.std.proofs.lemmas.List.Folds.{list_any-append}
 use Rattle.std.proofs.lemmas.Bool.Decides.{nat_tests}
 use Rattle.qp_model.specs.declared.stimulus.Stim.{Stim}
@@ -23,10 +23,10 @@ use Rattle.qp_orders.specs.Stimulus.{ArePlain, source_items}
 use Rattle.qp_orders.specs.Laws.{stimulus_told, SourceLaneGoesOn, SourceLaneIsWhole, SourceLaneStops}
 use Rattle.qp_orders.proofs.CalmLemmas.{calm-parts, calm-no_spill, calm-ends_last, calm-spills_cut, calm-states, IsMild, mild-cut, mild-states, mild-no_spill}
 use Rattle.qp_orders.proofs.StimLemmas.{any-both}
-use Rattle.qp_orders.proofs.RunLemmas.{filter-append}
 use Rattle.qp_orders.proofs.SourceLemmas.{runs-stimulus, runs-before, runs-asserted, runs-cut}
 use Rattle.qp_orders.proofs.StimulusForm.{stimulus-form, stimulus-items, cut-plain, cut-items}
 use Rattle.qp_model.proofs.FitsLemmas.{all-append}
+use Rattle.qp_model.proofs.KnowingLemmas.{told-source}
 
 untold-append : (ts us : List ToldItem) → untold_all (ts ++ us) ≡ untold_all ts ++ untold_all us
 untold-append ts us = map-append untold ts us
@@ -34,10 +34,6 @@ untold-append ts us = map-append untold ts us
 alone-source : (g : List Told) → list_all (λ i. i.of == 0) (source_items g) ≡ true
 alone-source [] = refl
 alone-source (t ∷ ts) = alone-source ts
-
-told-source : (g : List Told) → told_alone (map (for_object 0) g) ≡ g
-told-source [] = refl
-told-source (t ∷ ts) = ap (λ x. t ∷ x) (told-source ts)
 
 alone-append : (ts : List ToldItem) (g : List Told) → told_alone (ts ++ map (for_object 0) g) ≡ told_alone ts ++ g
 alone-append ts g = map-append (λ t. t.told) ts (map (for_object 0) g) ∙ ap (λ x. told_alone ts ++ x) (told-source g)

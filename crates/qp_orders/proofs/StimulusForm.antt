@@ -163,7 +163,7 @@ assert-parts (body.BadTicks t n i) h = (refl, refl, refl, refl, refl)
 assert-parts (body.NoLifo a f l m) h = (refl, refl, refl, refl, refl)
 assert-parts _ h = absurd (cc)
 
-items-append : (g h : List Told) → source_items (g ++ h) ≡ source_items g ++ source_items h
+pub items-append : (g h : List Told) → source_items (g ++ h) ≡ source_items g ++ source_items h
 items-append g h = ap (map untold) (map-append (for_object 0) g h) ∙ map-append untold (map (for_object 0) g) (map (for_object 0) h)
 
 behind-more : (cuts : Bool) (xs ys : List Item) → AreBehind cuts xs → AreBehind cuts ys → AreBehind cuts (xs ++ ys)

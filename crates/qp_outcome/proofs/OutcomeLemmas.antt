@@ -12,15 +12,9 @@ use Rattle.qp_model.specs.End.{end_of}
 use Rattle.qp_model.specs.History.{all_items, lane_items}
 use Rattle.qp_model.specs.Lawful.{EndHolds, deferred_of}
 use Rattle.qp_model.specs.Record.{Item, item_of}
+use Rattle.qp_model.proofs.NumberLemmas.{one-more}
 use Rattle.qp_outcome.specs.Laws.{OutcomeIsTheEnd}
 use Rattle.qp_outcome.specs.Outcome.{asserted_at, asserts, end_by, is_asserted, is_spent_lane, outcome_of, runs_out, spent_at}
-
-one_more : (m n : ℕ) → nat_lt (1 + m) (suc n) ≡ nat_lt m n
-one_more m n = by (nat_lt m n) refl
-  where
-    by : (b : Bool) → nat_lt m n ≡ b → nat_lt (1 + m) (suc n) ≡ b
-    by true e = grind (arith, nat_tests, e)
-    by false e = grind (arith, nat_tests, e)
 
 any-map : {A B : Type 0} (p : B → Bool) (f : A → B) (xs : List A) → list_any p (map f xs) ≡ list_any (λ x. p (f x)) xs
 any-map p f [] = refl
@@ -44,7 +38,7 @@ prefix-any p (x ∷ xs) = by (p x) (prefix-any p xs)
     by : (b : Bool) → nat_lt (prefix_len (λ x. not (p x)) xs) (length xs) ≡ list_any p xs
         → nat_lt (cond (not b) (1 + prefix_len (λ x. not (p x)) xs) 0) (suc (length xs)) ≡ (b || list_any p xs)
     by true rest = grind (arith, nat_tests)
-    by false rest = one_more (prefix_len (λ x. not (p x)) xs) (length xs) ∙ rest
+    by false rest = one-more (prefix_len (λ x. not (p x)) xs) (length xs) ∙ rest
 
 position-any : {A : Type 0} (p : A → Bool) (xs : List A) → is_some (position p xs) ≡ list_any p xs
 position-any p xs = by (nat_lt (prefix_len (λ x. not (p x)) xs) (length xs)) ∙ prefix-any p xs

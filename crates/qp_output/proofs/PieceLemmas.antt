@@ -14,6 +14,7 @@ use Rattle.qp_run.specs.Conversions.{Held, PrintsOne}
 use Rattle.qp_run.specs.Verdict.{Agrees, AnswersWords, Count, Counts, HasCause, HasRisen, IsCall, IsOutput, Noted, Prints, Stands, Stream, quiet}
 use Rattle.qp_commands.specs.WordTable.{Asked}
 use Rattle.qp_run.proofs.CallLemmas.{call-stands}
+use Rattle.qp_run.proofs.VerdictLemmas.{prefix-whole}
 
 -- at first what was put is what the sink below had got
 pub first-told : (course : Course) (gone : ℕ) (held : List ℕ) (below : Option (List ℕ)) → course ≡ Open → held ≡ [] → told_by course gone held below ≡ below
@@ -73,15 +74,11 @@ none-behind : (old : Option (List ℕ)) (j : ℕ) → appended old (take j []) �
 none-behind None j = refl
 none-behind (Some o) j = ap Some (ap (λ l. o ++ l) (take_all j [] (omega arith)) ∙ append-nil o)
 
--- all bytes are a part of them
-all-part : (old new : Option (List ℕ)) (whole : List ℕ) → new ≡ appended old whole → AppendsPrefix old whole new
-all-part old new whole got = (length whole, omega arith, got ∙ ap (appended old) (sym (take_all (length whole) whole (omega arith))))
-
 -- what was printed is a part of an output
 failed : (IsWhole : Status → List ℕ → Type 0) (old new : Option (List ℕ)) (told : Status) → PrintsOne IsWhole old new told → PrintsOne IsWhole old new WriteFault
-failed IsWhole old new Done (whole, is, got) = inr (Done, whole, is, all-part old new whole got)
-failed IsWhole old new (Asserted code lane) (whole, is, got) = inr (Asserted code lane, whole, is, all-part old new whole got)
-failed IsWhole old new (Spent lane) (whole, is, got) = inr (Spent lane, whole, is, all-part old new whole got)
+failed IsWhole old new Done (whole, is, got) = inr (Done, whole, is, prefix-whole old new whole got)
+failed IsWhole old new (Asserted code lane) (whole, is, got) = inr (Asserted code lane, whole, is, prefix-whole old new whole got)
+failed IsWhole old new (Spent lane) (whole, is, got) = inr (Spent lane, whole, is, prefix-whole old new whole got)
 failed IsWhole old new WriteFault prints = prints
 failed IsWhole old new told prints = inl prints
 

@@ -1,5 +1,5 @@
 -- Queues that are empty, by the counts of their words and by the records.
-use Rattle.std.proofs.Common.{◌≡◌, ℕ, zero, suc, ◌+◌, ◌<◌, ◌≤◌, ◌==◌, Bool, true, false, ◌&&◌, List, [], ◌∷◌, ◌++◌, length, take, drop, get_or, slice_get, refl, sym, ◌∙◌, ap, subst, arith, append_assoc, IsTrue, Some, if◌then◌else◌}
+use Rattle.std.proofs.Common.{◌≡◌, ℕ, ◌+◌, ◌<◌, ◌≤◌, ◌==◌, Bool, true, false, ◌&&◌, List, [], ◌∷◌, ◌++◌, length, take, drop, get_or, slice_get, refl, sym, ◌∙◌, ap, subst, arith, append_assoc, IsTrue, Some, if◌then◌else◌}
 use Rattle.std.specs.List.{count_by, find, list_all}
 use Rattle.std.specs.Option.{is_some}
 use Rattle.std.proofs.lemmas.Bool.{and_parts, eqb-true, ne_eqb, eq-eqb}
@@ -13,6 +13,7 @@ use Rattle.qp_model.specs.Sites.{object_at}
 use Rattle.qp_model.specs.WordLaw.{is_object}
 use Rattle.qp_model.specs.Line.{Line}
 use Rattle.qp_model.proofs.FitsLemmas.{all-append}
+use Rattle.qp_model.proofs.ObjectLemmas.{object-there}
 use Rattle.qp_calls.specs.declared.answers.Counts as counts
 use Rattle.qp_calls.specs.LaneView.{Counts}
 use Rattle.qp_sound.specs.View.{view_of, shown_in}
@@ -50,18 +51,6 @@ full-line w d object is =
 
 -- An object at a place of the list.
 
-there : (to : ℕ) (ds : List ObjectDef) (k : ℕ) (d : ObjectDef) → slice_get ds k ≡ Some d → d.priority ≡ to → is_some (find (λ x. x.priority == to) ds) ≡ true
-there to [] k d at is = absurd (cc)
-there to (x ∷ xs) zero d at is =
-    let same : x ≡ d = cc in
-    let here : (x.priority == to) ≡ true = eq-eqb x.priority to (ap (λ (y : ObjectDef). y.priority) same ∙ is) in
-    rw here refl
-there to (x ∷ xs) (suc k) d at is = go (x.priority == to) (there to xs k d at is)
-  where
-    go : (u : Bool) → is_some (find (λ y. y.priority == to) xs) ≡ true → is_some (if u then Some x else find (λ y. y.priority == to) xs) ≡ true
-    go true h = refl
-    go false h = h
-
 pub record Here (w : PlainWorld) (i : ℕ) (d : ObjectDef) : Type 0 where
   pub object : IsTrue (is_object w.sys.now d.priority)
   pub more : take (i + 1) w.sys.now.objects ≡ take i w.sys.now.objects ++ d ∷ []
@@ -75,7 +64,7 @@ here w ys i d same lt is =
     let whole : ys ≡ take i ys ++ d ∷ drop (i + 1) ys =
     sym (take-append-drop (i + 1) ys) ∙ ap (λ zs. zs ++ drop (i + 1) ys) front ∙ append_assoc (take i ys) (d ∷ []) (drop (i + 1) ys) in
     record {
-      object = there d.priority w.sys.now.objects i d at refl;
+      object = object-there d.priority w.sys.now.objects i d at refl;
       more = subst (λ zs. take (i + 1) zs ≡ take i zs ++ d ∷ []) same front;
       split = subst (λ zs. zs ≡ take i zs ++ d ∷ drop (i + 1) zs) same whole;
     }

@@ -1,27 +1,28 @@
 -- The events in the blocks, and which blocks a pool has.
-use Rattle.std.proofs.Common.{◌≡◌, ℕ, zero, suc, ◌+◌, ◌<◌, ◌≤◌, ◌==◌, nat_lt, nat_le, Bool, true, false, cond, List, [], ◌∷◌, length, get_or, refl, sym, ◌∙◌, ap, subst, arith, IsTrue, Some}
+use Rattle.std.proofs.Common.{◌≡◌, ℕ, zero, suc, ◌<◌, ◌≤◌, ◌==◌, nat_lt, nat_le, Bool, true, List, [], ◌∷◌, length, get_or, sym, ◌∙◌, ap, subst, arith, IsTrue, Some}
 use Rattle.std.specs.List.{list_all}
 use Rattle.std.proofs.lemmas.Bool.{and_from, and_parts}
 use Rattle.std.proofs.lemmas.Bool.Decides.{nat_tests}
+use Rattle.std.proofs.lemmas.Option.{same_Some}
 use Rattle.qp_base.specs.declared.event.Ev.{Ev}
-use Rattle.qp_model.specs.declared.systems.System.{System}
 use Rattle.qp_model.specs.declared.words.Word.TheVariants as word
 use Rattle.qp_model.specs.declared.bodies.Body.{Body}
 use Rattle.qp_model.specs.declared.bodies.Body.TheVariants.{New, Back}
 use Rattle.qp_model.specs.Record.{Item, entry}
 use Rattle.qp_model.specs.Told.{Event}
-use Rattle.qp_model.specs.Lists.{count_up, is_first, with_number, without_all}
+use Rattle.qp_model.specs.Lists.{is_first}
 use Rattle.qp_model.specs.History.{hist, all_items}
 use Rattle.qp_model.specs.Machine.{after, after_from, is_allowed, allowed_from}
 use Rattle.qp_model.specs.FreeBlocks.{Pool, free_blocks, pool_may, pool_next}
 use Rattle.qp_model.specs.Sites.{blocks_of}
 use Rattle.qp_model.specs.WordLaw.{is_pool, is_block}
+use Rattle.qp_model.proofs.ListLemmas.{all-with, all-without, all-counted}
 use Rattle.qp_calls.specs.declared.tokens.Hold.{Hold}
-use Rattle.qp_calls.specs.Clauses.{StandsHold, IsEvent, FitsPool, event_of, params_of}
+use Rattle.qp_calls.specs.Clauses.{StandsHold, IsEvent, FitsPool, event_of}
 use Rattle.qp_sound.specs.Sound.{is_event}
 use Rattle.qp_sound.specs.View.{view_of}
 use Rattle.qp_sound.specs.WordStates.{pool_in}
-use Rattle.qp_sound.proofs.CallEvents.{held-event, event-read}
+use Rattle.qp_sound.proofs.CallEvents.{held-event, event-read, event-to}
 use Rattle.qp_plain.specs.declared.world.PlainWorld.{PlainWorld}
 use Rattle.qp_plain.specs.Book.{lists_of, purses_of}
 use Rattle.qp_plain.specs.Tables.{event_at, place}
@@ -34,9 +35,6 @@ read-at [] k e lt is = absurd (omega (arith, lt))
 read-at (x ∷ xs) zero e lt is = ap (λ y. Some (event_of y)) (sym is)
 read-at (x ∷ xs) (suc k) e lt is = read-at xs k e (omega (arith, lt)) is
 
-some-same : (a b : Event) → Some a ≡ Some b → a ≡ b
-some-same a b h = cc
-
 -- the event of a reference in the hands stands in its block's place
 pub event-here : (w : PlainWorld) (h : Hold) (k : ℕ) (e : Ev) → StandsHold h (world_view w) → k ≡ place h.pool h.block → e ≡ get_or w.cells.items k e
     → ((world_view w).event (entry h.pool h.block h.name) ≡ event_of e) × IsEvent w.sys.now (event_of e)
@@ -46,50 +44,8 @@ event-here w h k e stand at is =
     let read = event-read w.sys.now (lists_of w.book) w.book.order.items w.book.at w.book.here.spare w.by w.book.here.stops.list w.book.here.answered.list (purses_of w.book) h its.0 w.holds.world stand its.1 in
     let there = w.holds.cells_hold.event h.pool h.block block its.0 its.1 in
     let lt : k < length w.cells.items = let t = block-in w.sys.now w.holds.limits h.pool h.block block in omega (arith, t.table, at, w.holds.cells_hold.long) in
-    let same : its.0 ≡ event_of e = some-same its.0 (event_of e) (sym there ∙ ap (event_at w.cells.items) (sym at) ∙ read-at w.cells.items k e lt is) in
+    let same : its.0 ≡ event_of e = same_Some its.0 (event_of e) (sym there ∙ ap (event_at w.cells.items) (sym at) ∙ read-at w.cells.items k e lt is) in
     (read.0 ∙ same, subst (IsEvent w.sys.now) same read.1)
-
--- an event that fits a pool, as a test
-pub event-fits : (sys : System) (ev : Event) → IsEvent sys ev → IsTrue (is_event sys ev)
-event-fits sys ev h =
-    let from : nat_le 4 ev.sig ≡ true = le 4 ev.sig h.from in
-    let within : nat_lt ev.sig (length sys.signals + 4) ≡ true = lt ev.sig (length sys.signals + 4) h.within in
-    let pars : (length ev.pars == params_of sys ev.sig) ≡ true = same (length ev.pars) (params_of sys ev.sig) h.params in
-    rw (from, within, pars) refl
-  where
-    le : (a b : ℕ) → a ≤ b → nat_le a b ≡ true
-    le a b e = grind (arith, nat_tests)
-
-    lt : (a b : ℕ) → a < b → nat_lt a b ≡ true
-    lt a b e = grind (arith, nat_tests)
-
-    same : (a b : ℕ) → a ≡ b → (a == b) ≡ true
-    same a b e = grind (arith, nat_tests)
-
--- The free blocks of a pool are blocks of it.
-all-without : (p : ℕ → Bool) (b : ℕ) (xs : List ℕ) → list_all p xs ≡ true → list_all p (without_all b xs) ≡ true
-all-without p b [] h = refl
-all-without p b (x ∷ xs) h = go (x == b) (and_parts _ _ h).0 (all-without p b xs (and_parts _ _ h).1)
-  where
-    go : (v : Bool) → p x ≡ true → list_all p (without_all b xs) ≡ true → list_all p (cond v (without_all b xs) (x ∷ without_all b xs)) ≡ true
-    go true e later = later
-    go false e later = and_from _ _ e later
-
-all-with : (p : ℕ → Bool) (b : ℕ) (xs : List ℕ) → list_all p xs ≡ true → p b ≡ true → list_all p (with_number b xs) ≡ true
-all-with p b [] h here = and_from _ _ here refl
-all-with p b (x ∷ xs) h here = go (nat_lt b x) (b == x) (all-with p b xs (and_parts _ _ h).1 here)
-  where
-    go : (v u : Bool) → list_all p (with_number b xs) ≡ true → list_all p (cond v (b ∷ x ∷ xs) (cond u (x ∷ xs) (x ∷ with_number b xs))) ≡ true
-    go true u later = and_from _ _ here h
-    go false true later = h
-    go false false later = and_from _ _ (and_parts _ _ h).0 later
-
-all-counted : (n k m : ℕ) → k + m ≤ n → list_all (λ x. nat_lt x n) (count_up k m) ≡ true
-all-counted n k zero le = refl
-all-counted n k (suc m) le = let lt : nat_lt k n ≡ true = below k n (omega (arith, le)) in and_from _ _ lt (all-counted n (k + 1) m (omega (arith, le)))
-  where
-    below : (a b : ℕ) → a < b → nat_lt a b ≡ true
-    below a b e = grind (arith, nat_tests)
 
 free-step : (blocks : ℕ) (s : Pool) (b : Body) → list_all (λ x. nat_lt x blocks) s.free ≡ true → pool_may blocks s b ≡ true → list_all (λ x. nat_lt x blocks) (pool_next s b).free ≡ true
 free-step blocks s (New p n b from sig pars) h may = all-without (λ x. nat_lt x blocks) b s.free h
@@ -126,7 +82,7 @@ unfolding view_of
 pool-fits w p ev h =
     let some : nat_lt 0 p ≡ true = lt 0 p h.some in
     let within : nat_le p (length w.sys.now.pools) ≡ true = le p (length w.sys.now.pools) h.there in
-    (and_from _ _ some within, event-fits w.sys.now ev h.event)
+    (and_from _ _ some within, event-to w.sys.now ev h.event)
   where
     le : (a b : ℕ) → a ≤ b → nat_le a b ≡ true
     le a b e = grind (arith, nat_tests)

@@ -8,12 +8,10 @@ use Rattle.std.proofs.lemmas.List.{length-set, length-replicate}
 use Rattle.std.proofs.lemmas.List.Sums.{sum_by-cons}
 use Rattle.qp_base.specs.declared.event.Ev.{Ev}
 use Rattle.qp_model.specs.declared.record.Rec.{Rec}
-use Rattle.qp_model.specs.declared.words.Word.{Word}
 use Rattle.qp_model.specs.declared.words.Word.TheVariants as word
 use Rattle.qp_model.specs.declared.systems.System.{System}
 use Rattle.qp_model.specs.declared.systems.ObjectDef.{ObjectDef}
 use Rattle.qp_model.specs.declared.systems.PoolDef.{PoolDef}
-use Rattle.qp_model.specs.History.{hist, numbered, total, all_items, lane_items}
 use Rattle.qp_model.specs.Machine.{after, after_from}
 use Rattle.qp_model.specs.Lists.{count_up}
 use Rattle.qp_model.specs.FreeBlocks.{free_blocks}
@@ -30,7 +28,7 @@ use Rattle.qp_plain_words.specs.Sets.{are_members}
 use Rattle.qp_sound.specs.Log.{empty_lanes}
 use Rattle.qp_sound.specs.View.{view_of}
 use Rattle.qp_sound.specs.WordStates.{pool_in, refs_in, line_in, set_in, clock_in, cell_in, cell_after}
-use Rattle.qp_sound.proofs.NewLemmas.{new-sound, new-lane}
+use Rattle.qp_sound.proofs.NewLemmas.{new-sound, new-lane, hist-none}
 use Rattle.qp_sound.proofs.Standing.{block-pool}
 use Rattle.qp_plain.specs.declared.log.Log.{Log}
 use Rattle.qp_plain.specs.declared.book.Book.{Book}
@@ -149,16 +147,6 @@ book-lists n b new = lists-none (logs_of b) new.all ∙ ap empty_lanes (length-s
 pub stop-new : (n : ℕ) (b : Book) → IsNewBook n b → StopIs 0 (logs_of b)
 stop-new n b new = record { few = omega arith; fits = stops-new (logs_of b) new.all; handed = refl }
 
--- Words without an operation.
-no-items : (n : ℕ) → all_items (empty_lanes n) ≡ []
-unfolding all_items lane_items
-no-items zero = refl
-no-items (suc n) = no-items n
-
-no-hist : (w : Word) (n : ℕ) → hist w (all_items (empty_lanes n)) ≡ []
-unfolding hist numbered total
-no-hist w n = ap (hist w) (no-items n)
-
 pools-new : (sys : System) (n : ℕ) → PoolsHold sys (empty_lanes n) (made (first_pool sys) (length sys.pools))
 unfolding pool_in after after_from
 pools-new sys n = record {
@@ -167,15 +155,15 @@ pools-new sys n = record {
       let at = pool-in sys p h in
       let up : suc (p - 1) ≡ p = omega (arith, at.0) in
       get-made (first_pool sys) (length sys.pools) (p - 1) no_pool (omega (arith, at.0, at.1))
-      ∙ ap (λ x. record { count = 0; free = count_up 0 (blocks_of sys x) }) up ∙ sym (ap (after (free_blocks (blocks_of sys p))) (no-hist (word.Pool p) n));
+      ∙ ap (λ x. record { count = 0; free = count_up 0 (blocks_of sys x) }) up ∙ sym (ap (after (free_blocks (blocks_of sys p))) (hist-none (word.Pool p) n));
 }
 
 blocks-new : (sys : System) (n : ℕ) (table : List BlockWord) → table ≡ replicate 480 no_block → BlocksHold sys (empty_lanes n) table
 unfolding refs_in after after_from
 blocks-new sys n table is = record {
   long = ap length is ∙ length-replicate 480 no_block;
-  ops = λ p b h. ap (λ xs. (get_or xs (place p b) no_block).ops) is ∙ ap (λ w. w.ops) (get-copies 480 (place p b) no_block) ∙ sym (ap (λ x. (after references x).count) (no-hist (word.Block p b) n));
-  refs = λ p b h. ap (λ xs. (get_or xs (place p b) no_block).refs) is ∙ ap (λ w. w.refs) (get-copies 480 (place p b) no_block) ∙ sym (ap (λ x. length (after references x).names) (no-hist (word.Block p b) n));
+  ops = λ p b h. ap (λ xs. (get_or xs (place p b) no_block).ops) is ∙ ap (λ w. w.ops) (get-copies 480 (place p b) no_block) ∙ sym (ap (λ x. (after references x).count) (hist-none (word.Block p b) n));
+  refs = λ p b h. ap (λ xs. (get_or xs (place p b) no_block).refs) is ∙ ap (λ w. w.refs) (get-copies 480 (place p b) no_block) ∙ sym (ap (λ x. length (after references x).names) (hist-none (word.Block p b) n));
 }
 
 cells-new : (sys : System) (n : ℕ) (table : List Ev) → length table ≡ 480 → CellsHold sys (empty_lanes n) table
@@ -183,7 +171,7 @@ unfolding cell_in cell_after
 cells-new sys n table long = record {
   long = long;
   event = λ p b h ev is.
-      let none : cell_in (empty_lanes n) p b ≡ None = ap (cell_after b None) (no-hist (word.Pool p) n) in
+      let none : cell_in (empty_lanes n) p b ≡ None = ap (cell_after b None) (hist-none (word.Pool p) n) in
       let wrong : None ≡ Some ev = sym none ∙ is in absurd (cc);
 }
 
@@ -194,7 +182,7 @@ queues-new sys n limits = record {
   queue = λ a h.
       let at = limits.objects a h in
       get-made (first_queue sys) 33 a no_queue (omega (arith, at.1))
-      ∙ sym (ap (λ x. record { line = after (line (ring_of sys a)) x; ring = ring_of sys a }) (no-hist (word.Queue a) n));
+      ∙ sym (ap (λ x. record { line = after (line (ring_of sys a)) x; ring = ring_of sys a }) (hist-none (word.Queue a) n));
 }
 
 signals-new : (sys : System) (n : ℕ) → SignalsHold sys (empty_lanes n) (made (λ k. no_signal) (length sys.signals))
@@ -204,7 +192,7 @@ signals-new sys n = record {
   signal = λ g h.
       let at = signal-in sys g h in
       let is = get-made (λ k. no_signal) (length sys.signals) (g - 4) no_signal (omega (arith, at.0, at.1)) in
-      let set = ap (after subscribers) (no-hist (word.Signal g) n) in
+      let set = ap (after subscribers) (hist-none (word.Signal g) n) in
       record {
         ops = ap (λ w. w.ops) is ∙ sym (ap (λ s. s.count) set);
         set = ap (λ w. w.set) is ∙ sym (ap (λ s. bits_of_set s.members) set);
@@ -218,7 +206,7 @@ timers-new sys n = record {
   long = length-made (λ k. no_clock) (length sys.timers);
   timer = λ t h.
       let at = timer-in sys t h in
-      get-made (λ k. no_clock) (length sys.timers) (t - 1) no_clock (omega (arith, at.0, at.1)) ∙ sym (ap (after time_event) (no-hist (word.Timer t) n));
+      get-made (λ k. no_clock) (length sys.timers) (t - 1) no_clock (omega (arith, at.0, at.1)) ∙ sym (ap (after time_event) (hist-none (word.Timer t) n));
 }
 
 pub blocks-few : (sys : System) → IsSound sys → (p : ℕ) → blocks_of sys p ≤ 32

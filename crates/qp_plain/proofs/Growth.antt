@@ -4,7 +4,7 @@ use Rattle.qp_model.specs.declared.words.Word.{Word}
 use Rattle.qp_model.specs.declared.words.Word.TheVariants as word
 use Rattle.qp_model.specs.declared.bodies.Body.{Body}
 use Rattle.qp_model.specs.Record.{Item, item_of}
-use Rattle.qp_model.specs.History.{Touch, Draws, touch_of, same_word, drawn_on, drawn_as, hist, total, is_numbered, all_items, lane_items}
+use Rattle.qp_model.specs.History.{Touch, Draws, touch_of, drawn_on, drawn_as, hist, total, is_numbered, all_items, lane_items}
 use Rattle.qp_model.specs.Machine.{Machine, after}
 use Rattle.qp_model.specs.FreeBlocks.{free_blocks, pool_next}
 use Rattle.qp_model.specs.References.{references, refs_next}
@@ -13,7 +13,7 @@ use Rattle.qp_model.specs.Subscribers.{subscribers, subscribers_next}
 use Rattle.qp_model.specs.TimeEvents.{time_event, clock_next}
 use Rattle.qp_model.specs.Sites.{ring_of, blocks_of}
 use Rattle.qp_model.specs.WordLaw.{Keeps, Words, is_pool, is_block, is_object, is_signal, is_timer}
-use Rattle.qp_model.proofs.HistoryLemmas.{hist-draws}
+use Rattle.qp_model.proofs.HistoryLemmas.{hist-draws, same_word-refl}
 use Rattle.qp_model.proofs.MachineLemmas.{Counts, after-append}
 use Rattle.qp_model.proofs.LineLemmas.{line-counts, same_number}
 use Rattle.qp_model.proofs.WordLemmas.{all_items-split, all_items-grown, hist-stays}
@@ -25,15 +25,8 @@ use Rattle.qp_sound.proofs.Logs.{lanes-split, lanes-grown}
 use Rattle.qp_sound.proofs.Standing.{count-total}
 use Rattle.qp_sound.proofs.Events.{cell-append}
 
-pub word-self : (w : Word) → same_word w w ≡ true
-word-self (word.Pool p) = same_number p
-word-self (word.Block p b) = rw (same_number p, same_number b) refl
-word-self (word.Queue a) = same_number a
-word-self (word.Signal s) = same_number s
-word-self (word.Timer t) = same_number t
-
 drawn-as : (w : Word) (n : ℕ) (t : Touch) → t ≡ Draws w (suc n) → drawn_as w n t ≡ true
-drawn-as w n t is = rw (is, word-self w, same_number (suc n)) refl
+drawn-as w n t is = rw (is, same_word-refl w, same_number (suc n)) refl
 
 module _ (s : Step) (o : ℕ) (b : Body) (grown : Grown s.lanes s.order s.at s.rec s.more s.longer) (says : item_of s.rec ≡ record { of = o; body = b }) where
   abbrev this : Item

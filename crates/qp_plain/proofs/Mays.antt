@@ -1,5 +1,5 @@
 -- What stands in the hands of a world, and which record may come.
-use Rattle.std.proofs.Common.{◌≡◌, ℕ, ◌+◌, ◌-◌, ◌<◌, ◌≤◌, ◌==◌, nat_lt, nat_le, true, false, List, ◌∷◌, length, refl, subst, arith, IsTrue, Option, Some, None, inl, inr}
+use Rattle.std.proofs.Common.{◌≡◌, ℕ, ◌+◌, ◌-◌, ◌<◌, ◌≤◌, nat_lt, nat_le, true, List, ◌∷◌, length, refl, subst, arith, IsTrue, Option, Some, None, inl, inr}
 use Rattle.std.specs.Option.{unwrap_or}
 use Rattle.std.proofs.lemmas.Bool.{and_from, and_parts}
 use Rattle.std.proofs.lemmas.Bool.Decides.{nat_tests}
@@ -24,14 +24,12 @@ use Rattle.qp_sound.specs.WordStates.{line_in}
 use Rattle.qp_sound.proofs.Times.{all-stands}
 use Rattle.qp_sound.proofs.Standing.{line-in}
 use Rattle.qp_model.specs.declared.record.Rec.{Rec}
+use Rattle.qp_model.proofs.NumberLemmas.{not-zero}
 use Rattle.qp_plain.specs.declared.book.Book.{Book}
 use Rattle.qp_plain.specs.declared.world.PlainWorld.{PlainWorld}
 use Rattle.qp_plain.specs.Book.{lists_of}
 use Rattle.qp_plain.specs.WorldView.{world_view}
 use Rattle.qp_plain.proofs.Calling.{step_at}
-
-not_zero : (p : ℕ) → 0 < p → (p == 0) ≡ false
-not_zero p h = grind (arith, nat_tests)
 
 -- a token that stands is on a block of the system
 pub held-block : (w : PlainWorld) (h : Hold) → StandsHold h (world_view w) → IsTrue (is_block w.sys.now h.pool h.block)
@@ -54,7 +52,7 @@ fresh-stands w f stand = stand.1
 pub owned : (w : PlainWorld) (e : Entry) → Stands e (world_view w) → IsOwned w.sys.now (hands_in w.sys.now (lists_of w.book) w.book.order.items) (entry_of e)
 unfolding entry_of view_of
 owned w (token.Static sig) h = record { good = rw h refl; token = inl refl }
-owned w (token.Pool k) h = let block = held-block w k h in record { good = rw (not_zero k.pool h.0) block; token = inr h.1 }
+owned w (token.Pool k) h = let block = held-block w k h in record { good = rw (not-zero k.pool h.0) block; token = inr h.1 }
 
 -- the entries of a queue, at its counts
 pub record Room (w : PlainWorld) (a f l m : ℕ) : Type 0 where

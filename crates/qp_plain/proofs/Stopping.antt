@@ -1,7 +1,7 @@
 -- The stop word.
 use Rattle.std.proofs.Common.{◌≡◌, ◌≢◌, ℕ, zero, suc, ◌<◌, ◌≤◌, ◌==◌, Bool, true, false, ◌&&◌, ◌||◌, cond, List, [], ◌∷◌, length, map, slice_set, refl, sym, ◌∙◌, ap, subst, arith, inl, inr}
 use Rattle.std.specs.List.{list_all, list_any}
-use Rattle.std.proofs.lemmas.Bool.{and_from, and_parts}
+use Rattle.std.proofs.lemmas.Bool.{and_from, and_parts, or_right}
 use Rattle.std.proofs.lemmas.Bool.Decides.{nat_tests}
 use Rattle.qp_model.specs.declared.bodies.Body.{Body}
 use Rattle.qp_model.specs.declared.bodies.Body.TheVariants as body
@@ -32,14 +32,10 @@ all-put {X} p q (z ∷ zs) zero x y more here h = and_from _ _ here (rest zs (an
     rest (u ∷ us) e = and_from _ _ (more u (and_parts _ _ e).0) (rest us (and_parts _ _ e).1)
 all-put p q (z ∷ zs) (suc k) x y more here h = and_from _ _ (more z (and_parts _ _ h).0) (all-put p q zs k x y more here (and_parts _ _ h).1)
 
-any-true : (b : Bool) → (b || true) ≡ true
-any-true true = refl
-any-true false = refl
-
 any-put : {X : Type 0} (p : X → Bool) (xs : List X) (k : ℕ) (y : X) → k < length xs → p y ≡ true → list_any p (slice_set xs k y) ≡ true
 any-put p [] k y lt here = absurd (omega (arith, lt))
 any-put p (z ∷ zs) zero y lt here = rw here refl
-any-put p (z ∷ zs) (suc k) y lt here = rw (any-put p zs k y (omega (arith, lt)) here) (any-true (p z))
+any-put p (z ∷ zs) (suc k) y lt here = rw (any-put p zs k y (omega (arith, lt)) here) (or_right (p z) true refl)
 
 any-kept : {X : Type 0} (p : X → Bool) (xs : List X) (k : ℕ) (x y : X) → (p x ≡ true → p y ≡ true) → list_any p (slice_set xs k x) ≡ true → list_any p (slice_set xs k y) ≡ true
 any-kept p [] k x y keeps h = h
@@ -47,7 +43,7 @@ any-kept p (z ∷ zs) zero x y keeps h = go (p x) refl h
   where
     go : (b : Bool) → p x ≡ b → (b || list_any p zs) ≡ true → (p y || list_any p zs) ≡ true
     go true e g = rw (keeps e) refl
-    go false e g = rw g (any-true (p y))
+    go false e g = rw g (or_right (p y) true refl)
 any-kept p (z ∷ zs) (suc k) x y keeps h = go (p z) h (any-kept p zs k x y keeps)
   where
     go : (b : Bool) → (b || list_any p (slice_set zs k x)) ≡ true → (list_any p (slice_set zs k x) ≡ true → list_any p (slice_set zs k y) ≡ true) → (b || list_any p (slice_set zs k y)) ≡ true
@@ -105,7 +101,7 @@ stop-later stop code old new h set lt is = record {
     was = subst (λ v. (v || list_any (was_handed stop) (logs_of old)) ≡ true) nz is.handed
 
     keeps : was_handed stop old.here ≡ true → was_handed stop new.here ≡ true
-    keeps e = rw (h.stops, e) (any-true (code == stop))
+    keeps e = rw (h.stops, e) (or_right (code == stop) true refl)
 
     here : fits_stop stop new.here ≡ true
     here = rw (nz, h.answered) (found stop old.here nz (all-at (fits_stop stop) old.others.items old.at old.here lt is.fits))

@@ -1,12 +1,11 @@
 -- What a test may go on with after a call.
-use Rattle.std.proofs.Common.{◌≡◌, ℕ, zero, suc, ◌<◌, ◌&&◌, Bool, true, false, List, [], ◌∷◌, map, Option, Some, None, Ok, Err, refl, sym, ◌∙◌, ap, subst, arith}
+use Rattle.std.proofs.Common.{◌≡◌, ℕ, zero, suc, ◌<◌, ◌&&◌, Bool, true, false, List, [], ◌∷◌, Option, Some, None, Ok, Err, refl, sym, ◌∙◌, subst, arith}
 use Rattle.std.specs.declared.result.Result.{Result}
 use Rattle.qp_model.specs.declared.systems.System.{System}
 use Rattle.qp_model.specs.declared.record.Rec.{Rec}
 use Rattle.qp_model.specs.declared.bodies.Entry as model
-use Rattle.qp_model.specs.declared.bodies.Body.{Body}
 use Rattle.qp_model.specs.declared.bodies.Body.TheVariants.{BadTicks, Done, Say}
-use Rattle.qp_model.specs.Record.{Item, item_of, body_of}
+use Rattle.qp_model.specs.Record.{item_of}
 use Rattle.qp_model.specs.Shapes.{ticks_fit}
 use Rattle.std.specs.List.{list_all}
 use Rattle.std.proofs.lemmas.Bool.{and_parts}
@@ -14,11 +13,12 @@ use Rattle.qp_calls.specs.declared.tokens.Entry.{Entry}
 use Rattle.qp_calls.specs.declared.deferred.Deferred.{Deferred}
 use Rattle.qp_calls.specs.declared.answers.RoomFault.{RoomFault}
 use Rattle.qp_calls.specs.Notes.{MayNote, told_note}
-use Rattle.qp_calls.specs.Deferring.{AnswersKept, DefersCall, FlushesAll, StandAll, is_named, kept_in, tokens_in}
+use Rattle.qp_calls.specs.Deferring.{AnswersKept, DefersCall, FlushesAll, is_named, kept_in, tokens_in}
 use Rattle.qp_calls.proofs.CountLemmas.{count-with, stand-same}
 use Rattle.std.specs.Result.{OnOk, result_ok}
 use Rattle.qp_model.specs.Calls.{Call}
 use Rattle.qp_model.specs.Told.{Told}
+use Rattle.qp_model.proofs.RecordLemmas.{body-is}
 use Rattle.qp_calls.specs.declared.did.Did.{Did}
 use Rattle.qp_calls.specs.declared.answers.Arm as arming
 use Rattle.qp_calls.specs.declared.answers.Arm.TheVariants as armed
@@ -67,21 +67,17 @@ rearmed-steady t n u v w former room s = steady-by v.by _ u v w room s.1.grows r
 
 -- Notes.
 
-pub says : (o : ℕ) (b : Body) (r : Rec) → item_of r ≡ record { of = o; body = b } → body_of r ≡ b
-unfolding item_of
-says o b r is = ap (λ (i : Item). i.body) is
-
 pub may-refuse : (o t : ℕ) (r : Rec) (v : LaneView) → item_of r ≡ record { of = o; body = BadTicks t 0 0 } → 0 < v.spare → MayNote r v
 unfolding MayNote ticks_fit
-may-refuse o t r v is some = rw (says o (BadTicks t 0 0) r is) (refl, some)
+may-refuse o t r v is some = rw (body-is o (BadTicks t 0 0) r is) (refl, some)
 
 pub said-steady : (o x : ℕ) (r : Rec) (u v w : LaneView) → item_of r ≡ record { of = o; body = Say x } → Roomier u v → GrowsOf r.of (told_note r v) v w → Steady u w
 unfolding hands_by told_note
-said-steady o x r u v w is room grows = steady-by r.of _ u v w room grows (rw (says o (Say x) r is) refl)
+said-steady o x r u v w is room grows = steady-by r.of _ u v w room grows (rw (body-is o (Say x) r is) refl)
 
 pub done-steady : (o : ℕ) (r : Rec) (u v w : LaneView) → item_of r ≡ record { of = o; body = Done } → Roomier u v → GrowsOf r.of (told_note r v) v w → Steady u w
 unfolding hands_by told_note
-done-steady o r u v w is room grows = steady-by r.of _ u v w room grows (rw (says o Done r is) refl)
+done-steady o r u v w is room grows = steady-by r.of _ u v w room grows (rw (body-is o Done r is) refl)
 
 -- Going on.
 
@@ -91,15 +87,6 @@ both x y h k = rw (h, k) refl
 pub ok-of : {T E : Type 0} (P : Type 0) (x : T) (r : Result T E) → Some x ≡ result_ok r → OnOk r P → P
 ok-of P x (Ok y) e h = h
 ok-of P x (Err f) e h = absurd (cc)
-
-pub stand-others : (k : Entry) (ks : List Entry) (v : LaneView) → StandAll (k ∷ ks) v → StandAll ks v
-stand-others k ks v all = record {
-  named = (and_parts (is_named v.sys k) (list_all (λ e. is_named v.sys e) ks) all.named).1;
-  counts = λ t.
-      let more = count-with t (entry_of k) (tokens_in (map entry_of ks)) in
-      let few = all.counts t in
-      omega (arith, more, few);
-}
 
 pub steady-goes : (sys : System) (entries : List Entry) (v w : LaneView) → MayGoOn sys entries v → Steady v w → MayGoOn sys entries w
 steady-goes sys entries v w may s = record {

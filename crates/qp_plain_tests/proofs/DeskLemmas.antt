@@ -23,18 +23,17 @@ use Rattle.qp_plain.specs.Book.{lists_of}
 use Rattle.qp_plain.specs.Books.{recs_of}
 use Rattle.qp_plain.specs.NewWorld.{GoesTo, IsNewWorld}
 use Rattle.qp_plain.specs.WorldView.{world_view}
-use Rattle.qp_calls.specs.Tokens.{hands_after, hands_by, with_entry}
-use Rattle.qp_calls.specs.Clauses.{Stands, TakesIt, TakesNone, entry_of, last_nil, same_counts}
+use Rattle.qp_calls.specs.Tokens.{hands_after, hands_by}
+use Rattle.qp_calls.specs.Clauses.{TakesIt, TakesNone, entry_of, last_nil, same_counts}
 use Rattle.qp_calls.specs.LaneView.{NotShown}
 use Rattle.qp_calls.specs.Notes.{told_note}
-use Rattle.qp_calls.specs.Counting.{times}
-use Rattle.qp_calls.specs.Deferring.{StandAll, is_named, tokens_in}
+use Rattle.qp_calls.specs.Deferring.{is_named, tokens_in}
 use Rattle.qp_calls.specs.Groups.{EndsStep}
-use Rattle.qp_calls.proofs.CountLemmas.{count-with, stand-rest}
+use Rattle.qp_calls.proofs.CountLemmas.{count-with, stand-rest, stands-named, taken-hands, stand-tail, none-stand}
 use Rattle.qp_plain_tests.specs.declared.ends.End.{End}
 use Rattle.qp_plain_tests.specs.declared.ends.End.TheVariants as ended
 use Rattle.qp_plain_tests.specs.Desk.{MayGoOn, MayStillGoOn, Steady}
-use Rattle.qp_plain_tests.proofs.DeedLemmas.{both, done-steady, stand-others, steady-goes}
+use Rattle.qp_plain_tests.proofs.DeedLemmas.{both, done-steady, steady-goes}
 
 pub room-steady : (u v : LaneView) → Roomier u v → Steady u v
 room-steady u v room = record { sys = rw room.same refl; serves = λ o. rw room.same refl; hands = rw room.same refl }
@@ -59,7 +58,7 @@ static-goes sys sig es v fixed may = record {
 }
 
 pub others-go : (sys : System) (k : Entry) (es : List Entry) (v : LaneView) → MayGoOn sys (k ∷ es) v → MayGoOn sys es v
-others-go sys k es v may = record { sound = may.sound; its = may.its; serves = may.serves; stand = stand-others k es v may.stand }
+others-go sys k es v may = record { sound = may.sound; its = may.its; serves = may.serves; stand = stand-tail k es v may.stand }
 
 pub others-still : (sys : System) (k : Entry) (es : List Entry) (v : LaneView) (e : End) → MayStillGoOn sys (k ∷ es) v e → MayStillGoOn sys es v e
 others-still sys k es v ended.Whole may = others-go sys k es v may
@@ -82,14 +81,6 @@ released-goes sys k es d v w ends may = record {
 some-pool : (b : ℕ) → 0 < b → nat_lt 0 b ≡ true
 some-pool b h = grind (arith, nat_tests)
 
-named-here : (e : Entry) (v : LaneView) → Stands e v → is_named v.sys e ≡ true
-named-here (token.Static sig) v h = h
-named-here (token.Pool k) v h = some-pool k.pool h.0
-
-taken-hands : (me : ℕ) (e : Entry) (v w : LaneView) → TakesIt me e v w → w.hands ≡ with_entry (entry_of e) v.hands
-unfolding hands_after hands_by
-taken-hands me e v w t = t.adds.grows.hands
-
 -- an entry was taken
 pub taken-goes : (sys : System) (me : ℕ) (e : Entry) (es : List Entry) (v w : LaneView) → TakesIt me e v w → MayGoOn sys es v → MayGoOn sys (e ∷ es) w
 taken-goes sys me e es v w t may = record {
@@ -97,7 +88,7 @@ taken-goes sys me e es v w t may = record {
   its = t.adds.grows.sys ∙ may.its;
   serves = λ o. rw (t.adds.grows.serves o) (may.serves o);
   stand = record {
-    named = both (is_named w.sys e) (list_all (λ x. is_named w.sys x) es) (named-here e w t.stands) (subst (λ s. list_all (λ x. is_named s x) es ≡ true) (sym t.adds.grows.sys) may.stand.named);
+    named = both (is_named w.sys e) (list_all (λ x. is_named w.sys x) es) (stands-named e w t.stands) (subst (λ s. list_all (λ x. is_named s x) es ≡ true) (sym t.adds.grows.sys) may.stand.named);
     counts = λ x.
         let token = count-with x (entry_of e) (tokens_in (map entry_of es)) in
         let hand = count-with x (entry_of e) v.hands in
@@ -128,10 +119,6 @@ serves-view w o = refl
 hands-view : (w : PlainWorld) → (world_view w).hands ≡ hands_in w.sys.now (lists_of w.book) w.book.order.items
 unfolding view_of
 hands-view w = refl
-
-none-stand : (v : LaneView) → StandAll [] v
-unfolding times
-none-stand v = record { named = refl; counts = λ t. omega arith }
 
 -- nothing has happened in a new world, in which each lane serves each object
 pub new-goes : (sys : System) (n : ℕ) (es : List Entry) (world : PlainWorld) → IsSound sys → IsNewWorld sys n world → es ≡ [] → MayGoOn sys es (world_view world)

@@ -6,6 +6,7 @@ use Rattle.qp_model.specs.declared.record.Rec.{Rec}
 use Rattle.qp_model.specs.declared.bodies.Body.TheVariants.{Lock, Unlock}
 use Rattle.qp_model.specs.Record.{item_of}
 use Rattle.qp_model.specs.Told.{Event, ToldItem, for_object, plain}
+use Rattle.qp_model.proofs.RecordLemmas.{body-is}
 use Rattle.qp_calls.specs.declared.did.Did.{Did}
 use Rattle.qp_calls.specs.declared.answers.RoomFault.{RoomFault}
 use Rattle.qp_calls.specs.declared.publication.Begun.{Begun}
@@ -18,7 +19,7 @@ use Rattle.qp_calls.specs.Publishing.{Begins, BeginsGoing}
 use Rattle.qp_calls.specs.Tokens.{hands_by, without_entry}
 use Rattle.qp_calls.proofs.Answering.{without-with}
 use Rattle.qp_plain_tests.specs.Desk.{EndsIt, StaysSteady, Steady, Without}
-use Rattle.qp_plain_tests.proofs.DeedLemmas.{says, steady-by}
+use Rattle.qp_plain_tests.proofs.DeedLemmas.{steady-by}
 
 pub steady-then : (u v w : LaneView) → Steady u v → Steady v w → Steady u w
 steady-then u v w a b = record { sys = b.sys ∙ a.sys; serves = λ o. b.serves o ∙ a.serves o; hands = b.hands ∙ a.hands }
@@ -34,20 +35,20 @@ ceiling-unlocked c n o (x ∷ xs) = ceiling-unlocked _ n o xs
 
 pub locked-steady : (o x : ℕ) (r : Rec) (u v w : LaneView) → item_of r ≡ record { of = o; body = Lock x } → Roomier u v → GrowsOf r.of (told_note r v) v w → Steady u w
 unfolding hands_by told_note
-locked-steady o x r u v w is room grows = steady-by r.of _ u v w room grows (rw (says o (Lock x) r is) refl)
+locked-steady o x r u v w is room grows = steady-by r.of _ u v w room grows (rw (body-is o (Lock x) r is) refl)
 
 pub locked-spare : (o x : ℕ) (r : Rec) (v w : LaneView) → item_of r ≡ record { of = o; body = Lock x } → w.spare ≡ spare_after r v.spare → w.spare ≡ v.spare - 1
 unfolding spare_after
-locked-spare o x r v w is spare = spare ∙ rw (says o (Lock x) r is) refl
+locked-spare o x r v w is spare = spare ∙ rw (body-is o (Lock x) r is) refl
 
 pub unlocked-steady : (o x : ℕ) (r : Rec) (v w : LaneView) → item_of r ≡ record { of = o; body = Unlock x } → GrowsOf r.of (told_note r v) v w → Steady v w
 unfolding hands_by told_note
-unlocked-steady o x r v w is grows = steady-by r.of _ v v w (still v) grows (rw (says o (Unlock x) r is) refl)
+unlocked-steady o x r v w is grows = steady-by r.of _ v v w (still v) grows (rw (body-is o (Unlock x) r is) refl)
 
 pub unlocked-ceiling : (o x : ℕ) (r : Rec) (v w : LaneView) → item_of r ≡ record { of = o; body = Unlock x } → GrowsOf r.of (told_note r v) v w → x ≡ ceiling_in 0 w.told
 unfolding told_note
 unlocked-ceiling o x r v w is grows =
-    let told : w.told ≡ v.told ++ for_object r.of (plain (Unlock x)) ∷ [] = grows.told ∙ rw (says o (Unlock x) r is) refl in
+    let told : w.told ≡ v.told ++ for_object r.of (plain (Unlock x)) ∷ [] = grows.told ∙ rw (body-is o (Unlock x) r is) refl in
     sym (ap (λ ts. ceiling_in 0 ts) told ∙ ceiling-unlocked 0 x r.of v.told)
 
 -- what is known of a publication that goes on

@@ -42,10 +42,7 @@ use Rattle.qp_model.proofs.AbleLemmas.{some-same}
 use Rattle.qp_model.proofs.NumberLemmas.{every-append}
 use Rattle.qp_model.proofs.KernelLaneLemmas.{granted}
 use Rattle.qp_model.proofs.HomeLemmas.{position-front}
-
-all-front : {A : Type 0} (P : A → Type 0) (xs ys : List A) → AllByRecursion P (xs ++ ys) → AllByRecursion P xs
-all-front P [] ys h = tt
-all-front P (x ∷ xs) ys h = (h.0, all-front P xs ys h.1)
+use Rattle.qp_model.proofs.ListLemmas.{every-front}
 
 all-back : {A : Type 0} (P : A → Type 0) (xs ys : List A) → AllByRecursion P (xs ++ ys) → AllByRecursion P ys
 all-back P [] ys h = h
@@ -369,7 +366,7 @@ module _ (sys : System) (stimuli : List (List Stim)) (j : Journal) (sound : IsSo
       where
         go : (ls : List (List Rec)) (n : ℕ) → AllByRecursion KnownItem (all_items ls) → AllByRecursion KnownItem (lane_items (unwrap_or (slice_get ls n) []))
         go [] n h = tt
-        go (l ∷ ls) zero h = all-front KnownItem (lane_items l) (all_items ls) h
+        go (l ∷ ls) zero h = every-front KnownItem (lane_items l) (all_items ls) h
         go (l ∷ ls) (suc n) h = go ls n (all-back KnownItem (lane_items l) (all_items ls) h)
 
     own-fine : (o : ℕ) → IsObject sys o → AllByRecursion (λ t. Fine o t.body) (by_object (facts_of sys j) j o)

@@ -25,7 +25,7 @@ use Rattle.qp_model.specs.declared.bodies.Body.{Body}
 use Rattle.qp_model.specs.declared.bodies.Body.TheVariants as item
 use Rattle.qp_model.specs.Record.{Item}
 use Rattle.qp_model.specs.Told.{Told, Event, OfEvent}
-use Rattle.qp_model.specs.Lists.{count_up, without_all, with_number, is_first}
+use Rattle.qp_model.specs.Lists.{is_first}
 use Rattle.qp_model.specs.History.{Shows, touch, touch_of, drawn_as, drawn_on, drawn_below, all_items, hist, numbered, is_numbered, total}
 use Rattle.qp_model.specs.Machine.{after, after_from, allowed_from, is_allowed, is_shown, shown_by}
 use Rattle.qp_model.specs.FreeBlocks.{Pool, free_blocks, pool_may, pool_next}
@@ -41,7 +41,7 @@ use Rattle.qp_model.specs.WordLaw.{Keeps, Words, is_block, is_object, is_pool, i
 use Rattle.qp_model.specs.Course.{chart_at}
 use Rattle.qp_model.specs.Lawful.{Lawful, facts_of}
 use Rattle.qp_model.proofs.HistoryLemmas.{drawn_as-on}
-use Rattle.qp_model.proofs.ListLemmas.{list_all-has}
+use Rattle.qp_model.proofs.ListLemmas.{list_all-has, every-two, every-parts, every-test, all-with, all-without, all-counted}
 use Rattle.qp_model.proofs.MachineLemmas.{is_allowed-front}
 use Rattle.qp_model.proofs.NumberLemmas.{number-owned, every-append}
 use Rattle.qp_stim.specs.Rules.{StimuliFit}
@@ -130,7 +130,7 @@ chart-ready sys sound d found chart its = sound-ready sys d.priority chart (d.ch
           record { some = n.some; few = let most = sound.few_timers in omega (arith, n.few, most); timer = n.timer; there = n.there; owner = n.owner };
     }
 
-chart-names : (sys : System) → IsSound sys → (d : ObjectDef) → object_at sys d.priority ≡ Some d → (chart : Chart) → chart_at sys d.chart ≡ Some chart → ChartNames sys d.priority chart
+pub chart-names : (sys : System) → IsSound sys → (d : ObjectDef) → object_at sys d.priority ≡ Some d → (chart : Chart) → chart_at sys d.chart ≡ Some chart → ChartNames sys d.priority chart
 chart-names sys sound d found chart its =
     let ready : IsReady sys d.priority chart = chart-ready sys sound d found chart its in
     record {
@@ -140,10 +140,6 @@ chart-names sys sound d found chart its =
 
 -- Lists.
 
-pub all-two : {A : Type 0} (P Q R : A → Type 0) → ((x : A) → P x → Q x → R x) → (xs : List A) → AllByRecursion P xs → AllByRecursion Q xs → AllByRecursion R xs
-all-two P Q R go [] p q = tt
-all-two P Q R go (x ∷ xs) p q = (go x p.0 q.0, all-two P Q R go xs p.1 q.1)
-
 -- what holds of each element, for each of these
 all-each : {A : Type 0} {B : Type 0} (P : B → A → Type 0) (xs : List A) → ((b : B) → AllByRecursion (P b) xs) → AllByRecursion (λ x. (b : B) → P b x) xs
 all-each P [] h = tt
@@ -152,14 +148,6 @@ all-each P (x ∷ xs) h = ((λ b. (h b).0), all-each P xs (λ b. (h b).1))
 pub all-from : {A : Type 0} (p : A → Bool) (xs : List A) → list_all p xs ≡ true → AllByRecursion (λ x. p x ≡ true) xs
 all-from p [] h = tt
 all-from p (x ∷ xs) h = let parts = and_parts (p x) (list_all p xs) h in (parts.0, all-from p xs parts.1)
-
-pub all-test : {A : Type 0} (p : A → Bool) (xs : List A) → AllByRecursion (λ x. p x ≡ true) xs → list_all p xs ≡ true
-all-test p [] h = refl
-all-test p (x ∷ xs) h = and_from _ _ h.0 (all-test p xs h.1)
-
-pub all-parts : {A : Type 0} (P : A → Type 0) (xs ys : List A) → AllByRecursion P (xs ++ ys) → AllByRecursion P xs × AllByRecursion P ys
-all-parts P [] ys h = (tt, h)
-all-parts P (x ∷ xs) ys h = let parts = all-parts P xs ys h.1 in ((h.0, parts.0), parts.1)
 
 -- those that pass
 all-passed : {A : Type 0} (P Q : A → Type 0) (f : A → Bool) → ((x : A) → f x ≡ true → P x → Q x) → (xs : List A) → AllByRecursion P xs → AllByRecursion Q (filter f xs)
@@ -197,7 +185,7 @@ numbered-part : (P : Item → Type 0) (w : Word) (items : List Item) (n m : ℕ)
 unfolding numbered
 numbered-part P w items n zero h less = absurd (omega (arith, less))
 numbered-part P w items n (suc m) h less =
-    let parts = all-parts P (numbered w items m) (filter (λ i. drawn_as w m (touch i)) items) h in
+    let parts = every-parts P (numbered w items m) (filter (λ i. drawn_as w m (touch i)) items) h in
     go (n == m) refl parts.1 (numbered-part P w items n m parts.0)
   where
     go : (b : Bool) → (n == m) ≡ b → AllByRecursion P (filter (λ i. drawn_as w m (touch i)) items) → (n < m → AllByRecursion P (filter (λ i. drawn_as w n (touch i)) items))
@@ -210,27 +198,6 @@ unfolding hist
 hist-has P w items h n within = all-passing P (λ i. drawn_as w n (touch i)) items (numbered-part P w items n (total w items) h within)
 
 -- A pool of the system gives out its own blocks.
-
-all-without : (p : ℕ → Bool) (b : ℕ) (xs : List ℕ) → list_all p xs ≡ true → list_all p (without_all b xs) ≡ true
-all-without p b [] h = refl
-all-without p b (x ∷ xs) h = go (x == b) (all-without p b xs (and_parts _ _ h).1)
-  where
-    go : (same : Bool) → list_all p (without_all b xs) ≡ true → list_all p (cond same (without_all b xs) (x ∷ without_all b xs)) ≡ true
-    go true k = k
-    go false k = and_from _ _ (and_parts _ _ h).0 k
-
-all-with : (p : ℕ → Bool) (b : ℕ) (xs : List ℕ) → list_all p xs ≡ true → p b ≡ true → list_all p (with_number b xs) ≡ true
-all-with p b [] h k = and_from _ _ k refl
-all-with p b (x ∷ xs) h k = go (nat_lt b x) (b == x) (all-with p b xs (and_parts _ _ h).1 k)
-  where
-    go : (less same : Bool) → list_all p (with_number b xs) ≡ true → list_all p (cond less (b ∷ x ∷ xs) (cond same (x ∷ xs) (x ∷ with_number b xs))) ≡ true
-    go true same later = and_from _ _ k h
-    go false true later = h
-    go false false later = and_from _ _ (and_parts _ _ h).0 later
-
-all-counted : (n k m : ℕ) → k + m ≤ n → list_all (λ x. nat_lt x n) (count_up k m) ≡ true
-all-counted n k zero le = refl
-all-counted n k (suc m) le = let less : nat_lt k n ≡ true = grind (arith, nat_tests, le) in and_from _ _ less (all-counted n (k + 1) m (omega (arith, le)))
 
 first-passes : (p : ℕ → Bool) (b : ℕ) (xs : List ℕ) → is_first b xs ≡ true → list_all p xs ≡ true → p b ≡ true
 first-passes p b [] e h = absurd (cc)
@@ -351,7 +318,7 @@ module _ (sys : System) where
     pool-owns : (p : ℕ) → IsTrue (is_pool sys p) → AllByRecursion (OwnBlock p) (all_items lanes)
     unfolding is_numbered is_block
     pool-owns p h =
-        all-two (λ i. drawn_below (word.Pool p) all (touch i) ≡ true) (λ i. (m : ℕ) → m < all → drawn_as (word.Pool p) m (touch i) ≡ true → gives_own (blocks_of sys p) i.body ≡ true) (OwnBlock p)
+        every-two (λ i. drawn_below (word.Pool p) all (touch i) ≡ true) (λ i. (m : ℕ) → m < all → drawn_as (word.Pool p) m (touch i) ≡ true → gives_own (blocks_of sys p) i.body ≡ true) (OwnBlock p)
         (λ i low high n c from sig pars is. own i.of i.body n c from sig pars is low high)
         (all_items lanes) below given_ones
       where
@@ -390,7 +357,7 @@ module _ (sys : System) where
     signal-owns : (sig : ℕ) → IsTrue (is_signal sys sig) → AllByRecursion (OwnSet sig) (all_items lanes)
     unfolding is_shown shown_by
     signal-owns sig h =
-        all-two (λ i. shown_by subscribers (word.Signal sig) history i.body (touch i) ≡ true) (λ i. FirstFine sys i.of i.body) (OwnSet sig) (λ i shows first n set is. own i.of i.body n set is shows) (all_items lanes)
+        every-two (λ i. shown_by subscribers (word.Signal sig) history i.body (touch i) ≡ true) (λ i. FirstFine sys i.of i.body) (OwnSet sig) (λ i shows first n set is. own i.of i.body n set is shows) (all_items lanes)
         (all-from (λ i. shown_by subscribers (word.Signal sig) history i.body (touch i)) (all_items lanes) keeps.shown) fine
       where
         history : List Item
@@ -412,7 +379,7 @@ module _ (sys : System) where
             let says = shown (sig == sig) self there in
             let same : bits_of_set (after subscribers (take n history)).members ≡ set = grind (arith, nat_tests, says) in
             let whole : is_allowed subscribers (take n history ++ drop n history) ≡ true = subst (λ x. is_allowed subscribers x ≡ true) (sym (take-append-drop n history)) keeps.allowed in
-            let parts = all-parts (λ i. FirstFine sys i.of i.body) (take n history) (drop n history)
+            let parts = every-parts (λ i. FirstFine sys i.of i.body) (take n history) (drop n history)
             (subst (AllByRecursion (λ i. FirstFine sys i.of i.body)) (sym (take-append-drop n history)) history_fine) in
             members-own (take n history) set (is_allowed-front subscribers (take n history) (drop n history) whole) parts.0 same
           where
@@ -424,7 +391,7 @@ module _ (sys : System) where
 
     pub sure : AllByRecursion (λ i. SureBody i.body) (all_items lanes)
     sure =
-        all-two (λ i. (p : ℕ) → IsTrue (is_pool sys p) → OwnBlock p i) (λ i. (sig : ℕ) → IsTrue (is_signal sys sig) → OwnSet sig i) (λ i. SureBody i.body)
+        every-two (λ i. (p : ℕ) → IsTrue (is_pool sys p) → OwnBlock p i) (λ i. (sig : ℕ) → IsTrue (is_signal sys sig) → OwnSet sig i) (λ i. SureBody i.body)
         (λ i own told. record { blocks = λ p n c from sig pars is h. own p h n c from sig pars is; subscribed = λ sig n set is h. told sig h n set is })
         (all_items lanes)
         (all-each (λ p i. IsTrue (is_pool sys p) → OwnBlock p i) (all_items lanes) (λ p. all-each (λ h i. OwnBlock p i) (all_items lanes) (λ h. pool-owns p h)))
@@ -472,7 +439,7 @@ module _ (sys : System) where
             subst (λ x. IsTrue (is_block sys x c)) same (known.1.blocks q n c from sig pars is pool)
 
         pairs : AllByRecursion (λ i. FirstFine sys i.of i.body × SureBody i.body) (all_items lanes)
-        pairs = all-two (λ i. FirstFine sys i.of i.body) (λ i. SureBody i.body) (λ i. FirstFine sys i.of i.body × SureBody i.body) (λ i f s. (f, s)) (all_items lanes) fine sure
+        pairs = every-two (λ i. FirstFine sys i.of i.body) (λ i. SureBody i.body) (λ i. FirstFine sys i.of i.body × SureBody i.body) (λ i f s. (f, s)) (all_items lanes) fine sure
 
         found : last_given e.block e.name None (hist (word.Pool e.pool) (all_items lanes)) ≡ Some ev → OfSystem e
         found h =
@@ -582,8 +549,8 @@ named-records sys stimuli j sound fit lawful =
     let first = first-records sys stimuli j sound fit lawful in
     let fine = all-fine sys stimuli j sound fit lawful (λ o. KnowsTold sys j.lanes lawful.words first) (OfSystem sys j.lanes lawful.words first) (λ a. IsTrue (is_object sys a)) (Fine sys j.lanes lawful.words first)
     (rules sys j.lanes lawful.words first) (chart-names sys sound)
-    (all-two (λ i. SureBody sys i.body) (λ i. ⊤) (λ i. (c : ℕ) → KnowsTold sys j.lanes lawful.words first (told (record { sys = sys; items = all_items j.lanes }) i.of c i.body))
+    (every-two (λ i. SureBody sys i.body) (λ i. ⊤) (λ i. (c : ℕ) → KnowsTold sys j.lanes lawful.words first (told (record { sys = sys; items = all_items j.lanes }) i.of c i.body))
     (λ i s t c. told-knows sys j.lanes lawful.words first i.of c i.body s) (all_items j.lanes) (sure sys j.lanes lawful.words first) (units (all_items j.lanes))) in
-    all-test (λ i. is_on (has_word sys) (touch i)) (all_items j.lanes)
-    (all-two (λ i. Fine sys j.lanes lawful.words first i.of i.body) (λ i. ⊤) (λ i. is_on (has_word sys) (touch i) ≡ true) (λ i f t. fine-named sys j.lanes lawful.words first i.of i.body f) (all_items j.lanes) fine
+    every-test (λ i. is_on (has_word sys) (touch i)) (all_items j.lanes)
+    (every-two (λ i. Fine sys j.lanes lawful.words first i.of i.body) (λ i. ⊤) (λ i. is_on (has_word sys) (touch i) ≡ true) (λ i f t. fine-named sys j.lanes lawful.words first i.of i.body f) (all_items j.lanes) fine
     (units (all_items j.lanes)))

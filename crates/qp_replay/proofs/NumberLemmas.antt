@@ -6,20 +6,13 @@ use Rattle.std.proofs.lemmas.Bool.{cases_eq, cases_lt, and_from, and_parts}
 use Rattle.std.proofs.lemmas.Bool.Decides.{nat_tests}
 use Rattle.std.proofs.lemmas.List.Elements.{filter-append}
 use Rattle.qp_model.specs.declared.words.Word.{Word}
-use Rattle.qp_model.specs.declared.words.Word.TheVariants as word
 use Rattle.qp_model.specs.Record.{Item}
 use Rattle.qp_model.specs.History.{Touch, Draws, Shows, Neither, touch, drawn_as, drawn_on, same_word, total}
 use Rattle.qp_model.specs.Places.{is_next, touch_first}
 use Rattle.qp_model.proofs.ListLemmas.{filter-none, all-push}
 use Rattle.qp_model.proofs.KnowingLemmas.{same_word-is}
+use Rattle.qp_model.proofs.HistoryLemmas.{same_word-refl}
 use Rattle.qp_replay.specs.Numbers.{is_next_where, numbers_stand}
-
-pub same_word-refl : (w : Word) → same_word w w ≡ true
-same_word-refl (word.Pool p) = grind (arith, nat_tests)
-same_word-refl (word.Block p b) = let one : (p == p) ≡ true = grind (arith, nat_tests) in let two : (b == b) ≡ true = grind (arith, nat_tests) in and_from _ _ one two
-same_word-refl (word.Queue a) = grind (arith, nat_tests)
-same_word-refl (word.Signal s) = grind (arith, nat_tests)
-same_word-refl (word.Timer t) = grind (arith, nat_tests)
 
 -- where it draws a number of w, its mark is at most c, or above it; where it draws or shows one, it is from 1 on, or from 0 on, to n
 abbrev pub draws_to : Word → ℕ → Touch → Bool

@@ -1,45 +1,25 @@
 -- A lawful journal has few lanes, and each is short.
-use Rattle.std.proofs.Common.{◌≡◌, ◌∙◌, ◌+◌, ◌^◌, ◌≤◌, ◌<◌, ◌==◌, Bool, true, false, not, ◌||◌, cond, List, [], ◌∷◌, ◌++◌, length, refl, arith}
+use Rattle.std.proofs.Common.{◌≡◌, ◌+◌, ◌^◌, ◌≤◌, ◌<◌, ◌==◌, Bool, true, false, not, cond, List, [], ◌∷◌, ◌++◌, length, arith}
 use Rattle.std.specs.List.{AllByRecursion, count_by, list_all}
 use Rattle.std.proofs.lemmas.Bool.{and_parts}
 use Rattle.std.proofs.lemmas.Bool.Decides.{nat_tests}
-use Rattle.std.proofs.lemmas.List.Sums.{sum_by-cons}
 use Rattle.qp_model.specs.declared.record.Rec.{Rec}
 use Rattle.qp_model.specs.declared.stimulus.Stim.{Stim}
 use Rattle.qp_model.specs.declared.systems.System.{System}
 use Rattle.qp_model.specs.declared.journals.Journal.{Journal}
-use Rattle.qp_model.specs.Record.{Item}
 use Rattle.qp_model.specs.History.{lane_items}
 use Rattle.qp_model.specs.Kernels.{port}
-use Rattle.qp_model.specs.Ends.{ends_last, is_assert, is_end, is_spent, is_spill}
+use Rattle.qp_model.specs.Ends.{ends_last, is_spill}
 use Rattle.qp_model.specs.End.{has_room}
 use Rattle.qp_model.specs.Lawful.{EndHolds, Lawful, lanes_before}
 use Rattle.qp_model.specs.Sound.{IsSound}
 use Rattle.qp_replay.specs.Remaining.{IsSmall}
 use Rattle.qp_model.proofs.RecordLemmas.{lane-length}
+use Rattle.qp_model.proofs.LastLemmas.{lane-long}
 
 pub short-more : (ls : List (List Rec)) (l : List Rec) → AllByRecursion (λ l. length l < 2 ^ 32) ls → length l < 2 ^ 32 → AllByRecursion (λ l. length l < 2 ^ 32) (ls ++ l ∷ [])
 short-more [] l all short = (short, tt)
 short-more (x ∷ xs) l all short = (all.0, short-more xs l all.1 short)
-
-no-spill : (x y z : Bool) → not (x || y || z) ≡ true → z ≡ false
-no-spill true y z h = absurd (cc)
-no-spill false true z h = absurd (cc)
-no-spill false false true h = absurd (cc)
-no-spill false false false h = refl
-
--- at most one `spill` stands in a lane
-lane-long : (lane : List Item) → ends_last lane ≡ true → length lane ≤ count_by (λ i. not (is_spill i.body)) lane + 1
-unfolding ends_last
-lane-long [] last = omega arith
-lane-long (i ∷ []) last = omega arith
-lane-long (i ∷ j ∷ is) last =
-    let parts = and_parts (not (is_end i.body)) (ends_last (j ∷ is)) last in
-    let none : is_spill i.body ≡ false = no-spill (is_assert i.body) (is_spent i.body) (is_spill i.body) parts.0 in
-    let remaining = lane-long (j ∷ is) parts.1 in
-    let more : count_by (λ i. not (is_spill i.body)) (i ∷ j ∷ is) ≡ 1 + count_by (λ i. not (is_spill i.body)) (j ∷ is) =
-    sum_by-cons (λ i. cond (not (is_spill i.body)) 1 0) i (j ∷ is) ∙ rw none refl in
-    omega (arith, remaining, more)
 
 lanes-short : (lanes : List (List Rec)) → list_all (λ lane. ends_last (lane_items lane)) lanes ≡ true → list_all (λ lane. has_room (lane_items lane)) lanes ≡ true → AllByRecursion (λ l. length l < 2 ^ 32) lanes
 unfolding has_room

@@ -23,11 +23,10 @@ use Rattle.qp_model.specs.Places.{IsSerial, RecordPlace, is_next, item_at, items
 use Rattle.qp_model.specs.WordLaw.{Keeps, is_block}
 use Rattle.qp_model.specs.Machine.{Machine, after}
 use Rattle.qp_model.specs.References.{references}
-use Rattle.qp_replay.proofs.NumberLemmas.{same_word-refl}
 use Rattle.qp_model.specs.Sound.{IsSound}
 use Rattle.qp_model.specs.Home.{lane_at}
 use Rattle.qp_model.specs.Lawful.{Lawful, facts_of}
-use Rattle.qp_model.proofs.HistoryLemmas.{hist-draws, hist-other, length-hist}
+use Rattle.qp_model.proofs.HistoryLemmas.{hist-draws, hist-other, length-hist, same_word-refl, next-draws}
 use Rattle.qp_model.proofs.KnowingLemmas.{records_of-append, same_word-is}
 use Rattle.qp_stim.specs.Rules.{StimuliFit}
 use Rattle.qp_calls.specs.Counting.{count_of, one, times}
@@ -42,7 +41,6 @@ use Rattle.qp_sound.proofs.WorldLemmas as front_of
 use Rattle.qp_sound.proofs.WorldLemmas.{hands_now, world-more}
 use Rattle.qp_replay.specs.Numbers.{has_word, is_on}
 use Rattle.qp_replay.proofs.NamedRecords.{SureBody, all-from, named-records, sure-records}
-use Rattle.qp_rerun.proofs.Histories.{next-draws}
 use Rattle.qp_model.specs.Ends.{spills_in}
 use Rattle.qp_rerun.proofs.LaneSpills.{SpillLast}
 use Rattle.qp_rerun.proofs.NextMay.{hands-same, LeftAlike, next-may}

@@ -1,24 +1,23 @@
 -- The history of a word is the records on it in the order, where the order is serial.
-use Rattle.std.proofs.Common.{◌≡◌, ◌∙◌, ℕ, zero, suc, ◌+◌, ◌<◌, ◌≤◌, ◌==◌, Bool, true, false, cond, List, [], ◌∷◌, ◌++◌, length, get_or, take, filter, refl, sym, ap, subst, arith, Option, Some, None, length-append}
+use Rattle.std.proofs.Common.{◌≡◌, ◌∙◌, ℕ, zero, suc, ◌+◌, ◌<◌, ◌≤◌, ◌==◌, Bool, true, false, cond, List, [], ◌∷◌, ◌++◌, length, get_or, take, filter, refl, sym, ap, subst, arith, Option, Some, None}
 use Rattle.std.specs.Prelude.{slice_get, IsPermutation}
 use Rattle.std.specs.List.{All, AllByRecursion, cons_option}
 use Rattle.std.proofs.Math.Seq.{take-suc}
-use Rattle.std.proofs.lemmas.Bool.{and_from, and_parts}
+use Rattle.std.proofs.lemmas.Bool.{and_parts}
 use Rattle.std.proofs.lemmas.Bool.Decides.{nat_tests}
 use Rattle.std.proofs.lemmas.List.{take_all}
 use Rattle.std.proofs.lemmas.List.Sorted.{All-permutation}
-use Rattle.std.proofs.lemmas.List.Elements.{filter-append}
 use Rattle.qp_model.specs.declared.record.Rec.{Rec}
 use Rattle.qp_model.specs.declared.words.Word.{Word}
 use Rattle.qp_model.specs.Record.{Item}
-use Rattle.qp_model.specs.History.{Touch, Draws, Shows, Neither, touch, drawn_on, drawn_as, all_items, hist, numbered, is_numbered, total}
+use Rattle.qp_model.specs.History.{touch, drawn_on, drawn_as, all_items, hist, numbered, is_numbered, total}
 use Rattle.qp_model.specs.Places.{RecordPlace, in_order, is_next, item_at, items_at, places}
 use Rattle.qp_model.proofs.ListLemmas.{all_below_at}
-use Rattle.qp_model.proofs.KnowingLemmas.{same_word-is}
 use Rattle.qp_replay.proofs.SerialLemmas.{items-places, same-count}
 use Rattle.qp_replay.proofs.NamedRecords.{all-passing}
 use Rattle.qp_replay.proofs.LaneRecords.{all-filter}
 use Rattle.qp_model.proofs.PromiseLemmas.{one_of}
+use Rattle.qp_model.proofs.HistoryLemmas.{next-draws, total-append}
 
 -- Elements by their places in a list, and by recursion.
 
@@ -70,27 +69,10 @@ module _ (lanes : List (List Rec)) where
 
 -- Numbers in an order.
 
-pub total-append : (w : Word) (xs ys : List Item) → total w (xs ++ ys) ≡ total w xs + total w ys
-unfolding total
-total-append w xs ys =
-    ap length (filter-append (λ i. drawn_on w (touch i)) xs ys) ∙ length-append (filter (λ i. drawn_on w (touch i)) xs) (filter (λ i. drawn_on w (touch i)) ys)
-
 total-one : (w : Word) (i : Item) (b : Bool) → drawn_on w (touch i) ≡ b → total w (i ∷ []) ≡ cond b 1 0
 unfolding total
 total-one w i true is = rw is refl
 total-one w i false is = rw is refl
-
--- the next record on the word draws its next number
-pub next-draws : (w : Word) (before : List Item) (t : Touch) → drawn_on w t ≡ true → is_next before t ≡ true → drawn_as w (total w before) t ≡ true
-unfolding is_next
-next-draws w before (Draws v mark) on next =
-    let is : v ≡ w = same_word-is v w on in
-    let same : mark ≡ suc (total v before) = grind (arith, nat_tests, next) in
-    let here : mark ≡ suc (total w before) = same ∙ ap (λ u. suc (total u before)) is in
-    let test : (mark == suc (total w before)) ≡ true = grind (arith, nat_tests, here) in
-    and_from _ _ on test
-next-draws w before (Shows v mark) on next = absurd (cc)
-next-draws w before Neither on next = absurd (cc)
 
 abbrev pub on_word : Word → List Item → List Item
 on_word w items = filter (λ i. drawn_on w (touch i)) items

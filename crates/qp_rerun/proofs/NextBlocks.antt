@@ -26,13 +26,13 @@ use Rattle.qp_model.specs.Places.{IsSerial, RecordPlace, item_at, items_at}
 use Rattle.qp_model.proofs.ListLemmas.{all_below_at, list_all-has}
 use Rattle.qp_model.proofs.MachineLemmas.{count-after, is_allowed-at, is_allowed-front, is_allowed-rest}
 use Rattle.qp_model.proofs.WordLawLemmas.{references-counts}
+use Rattle.qp_model.proofs.HistoryLemmas.{same_word-refl}
 use Rattle.qp_calls.specs.Counting.{count_of}
 use Rattle.qp_calls.specs.Tokens.{Token, Loose, stands}
 use Rattle.qp_sound.specs.May.{May}
 use Rattle.qp_sound.specs.Sound.{SoundWorld, hands_in, is_event}
 use Rattle.qp_sound.specs.WordStates.{life_in, pool_in, refs_in}
 use Rattle.qp_sound.proofs.Times.{stands-times}
-use Rattle.qp_replay.proofs.NumberLemmas.{same_word-refl}
 use Rattle.qp_rerun.proofs.NextRecords.{history, on_word, pool-drawn, stands-too}
 
 -- The edges of a block's lives ascend.

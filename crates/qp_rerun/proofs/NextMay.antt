@@ -14,13 +14,13 @@ use Rattle.qp_model.specs.WordLaw.{Words, is_block, is_pool}
 use Rattle.qp_model.specs.Places.{IsSerial, RecordPlace, item_at, items_at}
 use Rattle.qp_calls.specs.Counting.{count_of, times}
 use Rattle.qp_calls.specs.Tokens.{Token, Held, Loose, hands_of, stands, take_out, token_of, with_left, without_entry}
-use Rattle.qp_calls.proofs.CountLemmas.{count-with, count-without, is_in}
+use Rattle.qp_calls.proofs.CountLemmas.{count-with, count-without, is_in, count-stands}
 use Rattle.qp_sound.specs.May.{May}
 use Rattle.qp_sound.specs.Sound.{SoundWorld, hands_in}
 use Rattle.qp_sound.proofs.Times.{stands-times, take_out-absent, times-take_out}
 use Rattle.qp_rerun.proofs.NextBlocks.{back-may, new-may}
 use Rattle.qp_rerun.proofs.NextRecords.{arm-may, armed-may, dec-may, disarm-may, fire-may, full-may, idle-may, inc-may, lifo-may, nil-may, no_block-may, no_entry-may, no_lifo-may, on_word, post-may, pub-may, rearm-may, same-may, seen-may, short-may, sub-may, tick-may, took-may, unsub-may}
-use Rattle.qp_rerun.proofs.TokenCalls.{Uses, count-stands}
+use Rattle.qp_rerun.proofs.TokenCalls.{Uses}
 
 pool-of : (sys : System) (p b : ℕ) → IsTrue (is_block sys p b) → IsTrue (is_pool sys p)
 unfolding is_block
@@ -61,9 +61,6 @@ module _ (sys : System) (lanes : List (List Rec)) (order A B : List RecordPlace)
 
 -- What a record does to the hands of the world and to those of its owner is the same.
 
-absent : (t : Token) (hands : List Token) → stands t hands ≡ false → take_out t hands ≡ hands
-absent t hands h = take_out-absent t hands h
-
 more-stands : (t : Token) (L G : List Token) → ((u : Token) → count_of u L ≤ count_of u G) → stands t L ≡ true → stands t G ≡ true
 more-stands t L G few h = let some = stands-times t L h in let less = few t in count-stands t G (omega (arith, some, less))
 
@@ -82,8 +79,8 @@ module _ (sys : System) (o : ℕ) (L G : List Token) (few : (u : Token) → coun
   fresh-same p b t (inr (k, held)) =
       let none : stands (Loose p b false) G ≡ false = alone p b k (more-stands (Held p b k) L G few held) in
       let also : stands (Loose p b false) L ≡ false = nothing (stands (Loose p b false) L) refl none in
-      let first = ap (count_of t) (absent (Loose p b false) G none) in
-      let second = ap (count_of t) (absent (Loose p b false) L also) in
+      let first = ap (count_of t) (take_out-absent (Loose p b false) G none) in
+      let second = ap (count_of t) (take_out-absent (Loose p b false) L also) in
       omega (arith, first, second)
     where
       nothing : (u : Bool) → stands (Loose p b false) L ≡ u → stands (Loose p b false) G ≡ false → u ≡ false

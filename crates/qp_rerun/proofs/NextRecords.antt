@@ -27,16 +27,15 @@ use Rattle.qp_model.proofs.MachineLemmas.{count-after, is_allowed-at}
 use Rattle.qp_model.proofs.WordLawLemmas.{free_blocks-counts, subscribers-counts, time_event-counts}
 use Rattle.qp_calls.specs.Tokens.{Token, Held, Loose, stands, token_of}
 use Rattle.qp_calls.specs.Counting.{count_of}
-use Rattle.qp_calls.proofs.CountLemmas.{is_in}
+use Rattle.qp_calls.proofs.CountLemmas.{is_in, count-stands}
 use Rattle.qp_sound.specs.May.{May, IsOwned, IsQueue}
 use Rattle.qp_sound.specs.Sound.{SoundWorld, is_good}
 use Rattle.qp_sound.specs.WordStates.{clock_in, line_in, pool_in, refs_in, set_in}
 use Rattle.qp_sound.proofs.Times.{stands-times}
-use Rattle.qp_replay.proofs.NumberLemmas.{same_word-refl}
 use Rattle.qp_replay.proofs.SerialLemmas.{all-of}
 use Rattle.qp_rerun.proofs.Histories.{hist-line}
-use Rattle.qp_rerun.proofs.TokenCalls.{count-stands}
 use Rattle.qp_model.proofs.RecordLemmas.{same_entry-is}
+use Rattle.qp_model.proofs.HistoryLemmas.{same_word-refl}
 
 -- the records on a word, among these
 abbrev pub on_word : Word → List Item → List Item

@@ -29,7 +29,7 @@ use Rattle.qp_sound.specs.Log.{empty_lanes, lane_of, log_of, with_record}
 use Rattle.qp_sound.specs.Sound.{SoundWorld, hands_in, sum_below, told_log}
 use Rattle.qp_sound.proofs.EndLemmas.{sum-none}
 use Rattle.qp_sound.proofs.Logs.{log-grows}
-use Rattle.qp_sound.proofs.NewLemmas.{new-sound}
+use Rattle.qp_sound.proofs.NewLemmas.{new-sound, no-items, no-lane}
 use Rattle.qp_rerun.specs.Laws.{GoesOn, OneThreadMakesIt, TicksFit, World, made, made_on, placed_at, record_at, with_next}
 use Rattle.qp_rerun.proofs.Along.{Along, Found, Knows, TookGood, along-next, at-record, get-lane, items-get, local, may-this, owned, rules-known, unspilled, uses-this, world-next}
 use Rattle.qp_rerun.proofs.Fronts.{below, in-lane, stands-there, tally-permutation, tally-same}
@@ -37,9 +37,9 @@ use Rattle.qp_rerun.proofs.Histories.{by-index, from-index}
 use Rattle.qp_rerun.proofs.LaneSpills.{spill-last}
 use Rattle.qp_rerun.proofs.TokenCalls.{Lin, Uses}
 use Rattle.qp_rerun.proofs.TokenLanes.{owners-lin}
-use Rattle.qp_rerun.proofs.TokenNames.{chart-names}
 use Rattle.qp_model.proofs.NumberLemmas.{every-append, every}
 use Rattle.qp_model.proofs.HistoryLemmas.{no-hist}
+use Rattle.qp_replay.proofs.NamedRecords.{chart-names}
 
 -- Places of records.
 
@@ -114,19 +114,9 @@ lanes-same (x ∷ xs) (y ∷ ys) long same =
     let others : xs ≡ ys = lanes-same xs ys (omega (arith, long)) (λ a less. same (suc a) (omega (arith, less))) in
     ap (λ z. z ∷ xs) first ∙ ap (λ zs. y ∷ zs) others
 
-pub no-lane : (n a : ℕ) → lane_of (empty_lanes n) a ≡ []
-no-lane zero a = refl
-no-lane (suc n) zero = refl
-no-lane (suc n) (suc a) = no-lane n a
-
 pub empty-length : (n : ℕ) → length (empty_lanes n) ≡ n
 empty-length zero = refl
 empty-length (suc n) = let more = empty-length n in omega (arith, more)
-
-no-items : (n : ℕ) → all_items (empty_lanes n) ≡ []
-unfolding all_items lane_items
-no-items zero = refl
-no-items (suc n) = no-items n
 
 made_on-append : (lanes : List (List Rec)) (w : World) (xs ys : List RecordPlace) → made_on lanes w (xs ++ ys) ≡ made_on lanes (made_on lanes w xs) ys
 unfolding made_on

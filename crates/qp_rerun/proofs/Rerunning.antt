@@ -28,6 +28,7 @@ use Rattle.qp_calls.specs.Counting.{times}
 use Rattle.qp_sound.specs.Log.{Orders, empty_lanes, lane_of, log_of, with_record}
 use Rattle.qp_sound.specs.May.{May}
 use Rattle.qp_sound.specs.Sound.{hands_in}
+use Rattle.qp_sound.proofs.NewLemmas.{no-lane}
 use Rattle.qp_plain.specs.declared.world.PlainWorld.{PlainWorld}
 use Rattle.qp_plain.specs.Book.{lists_of, logs_of}
 use Rattle.qp_plain.specs.Books.{recs_of}
@@ -37,7 +38,7 @@ use Rattle.qp_replay.specs.declared.marks.At.{At}
 use Rattle.qp_replay.specs.Remaining.{place}
 use Rattle.qp_rerun.specs.Laws.{ComesNext, TicksFit, World, made, made_on, record_at, with_next}
 use Rattle.qp_rerun.specs.Rerun.{GoesNext, IsRerun, world_in}
-use Rattle.qp_rerun.proofs.OneThread.{a_record, empty-length, lanes-same, made-push, no-lane, one-thread, room-before}
+use Rattle.qp_rerun.proofs.OneThread.{a_record, empty-length, lanes-same, made-push, one-thread, room-before}
 
 -- ticks that fit a timer fit its word
 pub fits-timer : (b : Body) → TicksFit b → FitsTimer b

@@ -25,24 +25,15 @@ use Rattle.qp_model.proofs.DeferralLemmas.{kept-append, kept-calm}
 use Rattle.qp_calls.specs.Counting.{one, times, count_of}
 use Rattle.qp_calls.specs.Deferring.{tokens_in}
 use Rattle.qp_calls.specs.Tokens.{Token, Held, Loose, same_token, token_of, take_out, stands, hands_by}
-use Rattle.qp_calls.proofs.CountLemmas.{count_in, count-with, count-without, is_in, tokens-append}
+use Rattle.qp_calls.proofs.CountLemmas.{count_in, count-with, count-without, is_in, tokens-append, count-stands}
 use Rattle.qp_calls.proofs.HandLemmas.{same-self, same-equal}
 use Rattle.qp_sound.specs.Sound.{is_event, is_good}
+use Rattle.qp_sound.proofs.EndLemmas.{none-loose}
 use Rattle.qp_replay.specs.Numbers.{has_word, is_on}
 use Rattle.qp_replay.proofs.CallRecords.{first-there}
 use Rattle.qp_model.proofs.RecordLemmas.{same_entry-is}
 
 -- Counts.
-
--- what occurs stands
-pub count-stands : (t : Token) (hands : List Token) → 0 < count_of t hands → stands t hands ≡ true
-unfolding stands times
-count-stands t [] h = absurd (omega arith)
-count-stands t (y ∷ ys) h = go (same_token t y) h (count-stands t ys)
-  where
-    go : (u : Bool) → 0 < one u + count_of t ys → (0 < count_of t ys → list_any (λ z. same_token t z) ys ≡ true) → (u || list_any (λ z. same_token t z) ys) ≡ true
-    go true k ih = refl
-    go false k ih = ih (omega arith)
 
 -- taking a token out takes out at most that one
 pub count-out : (t x : Token) (hands : List Token) → count_of t hands ≤ count_of t (take_out x hands) + one (same_token t x)
@@ -77,12 +68,6 @@ in-loose p b u e = go (e.pool == 0)
     go : (v : Bool) → cond v 0 (one (same_token (Loose p b u) (token_of e))) ≡ 0
     go true = refl
     go false = refl
-
-kept-loose : (p b : ℕ) (u : Bool) (es : List Entry) → count_of (Loose p b u) (tokens_in es) ≡ 0
-unfolding times
-kept-loose p b u [] = refl
-kept-loose p b u (e ∷ es) =
-    let step = count-with (Loose p b u) e (tokens_in es) in let here = in-loose p b u e in let rest = kept-loose p b u es in omega (arith, step, here, rest)
 
 stands-own : (e : Entry) (F : Token → ℕ) (hands : List Token) → 0 < e.pool → ((t : Token) → count_in t e + F t ≤ count_of t hands) → stands (token_of e) hands ≡ true
 stands-own e F hands some within =
@@ -555,7 +540,7 @@ module _ (sys : System) (o : ℕ) (Knows : Told → Type 0) where
     defers-keeps now room old new Granted g F good all none (head, e, makes, is) kept =
         let G : Bag = λ t. bag_of old t + F t in
         let B : Bag = λ t. count_in t now + G t in
-        let made = again-head now head e G good (λ p b u. let one_of = kept-loose p b u old in let two_of = none p b u in omega (arith, one_of, two_of)) makes in
+        let made = again-head now head e G good (λ p b u. let one_of = none-loose p b u old in let two_of = none p b u in omega (arith, one_of, two_of)) makes in
         let whole : new ≡ old ++ e ∷ [] = deferred room old new head e (subst (λ x. kept_after room old x ≡ Some new) is kept) (calm-again room old now head e makes) in
         record {
           leads = leads-same B (λ t. bag_of new t + (count_in t now + F t)) g _ is
@@ -624,7 +609,7 @@ module _ (sys : System) (o : ℕ) (Knows : Told → Type 0) where
         let B : Bag = λ t. bag_of old t + F t in
         let K : Bag = λ t. count_in t k + R t in
         let same : new ≡ at.others = recall-calm room at.others new k e head one rel makes posts drops at.behind in
-        let made = again-head k head e R both.0 (λ p b u. let one_of = kept-loose p b u at.others in let two_of = none p b u in omega (arith, one_of, two_of)) makes in
+        let made = again-head k head e R both.0 (λ p b u. let one_of = none-loose p b u at.others in let two_of = none p b u in omega (arith, one_of, two_of)) makes in
         record {
           leads = leads-same B (λ t. bag_of new t + F t) g _ is
               (leads-less K B R (λ t. bag_of new t + F t) (plain (item.Recall k) ∷ (one ++ rel)) (λ t. let first = front-counts old at.others k t at.whole in omega (arith, first))
@@ -655,7 +640,7 @@ module _ (sys : System) (o : ℕ) (Knows : Told → Type 0) where
         let R : Bag = λ t. bag_of at.others t + F t in
         let B : Bag = λ t. bag_of old t + F t in
         let K : Bag = λ t. count_in t k + R t in
-        let made = again-head k head e R both.0 (λ p b u. let one_of = kept-loose p b u at.others in let two_of = none p b u in omega (arith, one_of, two_of)) makes in
+        let made = again-head k head e R both.0 (λ p b u. let one_of = none-loose p b u at.others in let two_of = none p b u in omega (arith, one_of, two_of)) makes in
         leads-same B (λ t. 0) g _ is
         (leads-less K B K (λ t. 0) (plain (item.Recall k) ∷ one) (λ t. let first = front-counts old at.others k t at.whole in omega (arith, first)) (λ t. omega arith)
         (leads-append K K K (plain (item.Recall k) ∷ []) one (still K (plain (item.Recall k)) (λ H. refl) (λ H. refl)) (λ j. front-leads_of e one AtFront K K head object made.0 made.1 posts)))
@@ -786,7 +771,7 @@ module _ (sys : System) (o : ℕ) (Knows : Told → Type 0) where
     held now kept = λ t. now_bag now t + bag_of kept t
 
     kept-none : (es : List Entry) → NoLoose (bag_of es)
-    kept-none es p b u = kept-loose p b u es
+    kept-none es p b u = none-loose p b u es
 
     now-none : (now : Option Entry) → NoLoose (now_bag now)
     now-none None p b u = refl

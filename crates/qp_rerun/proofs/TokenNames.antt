@@ -1,8 +1,6 @@
 -- The actions of an object's chart name what the system has, for the tokens of their calls.
-use Rattle.std.proofs.Common.{◌≡◌, ℕ, ◌+◌, ◌==◌, nat_lt, nat_le, true, List, [], ◌∷◌, length, refl, sym, subst, arith, Option, Some, None, IsTrue}
+use Rattle.std.proofs.Common.{◌≡◌, ℕ, List, [], ◌∷◌, refl, sym, subst, Option, IsTrue}
 use Rattle.std.specs.List.{AllByRecursion}
-use Rattle.std.proofs.lemmas.Bool.{and_from}
-use Rattle.std.proofs.lemmas.Bool.Decides.{nat_tests}
 use Rattle.qp_chart.specs.Expr.{Names}
 use Rattle.qp_chart.specs.Task.{Task, Begin, Run, Unhandled, Exit, Enter, Init, Done, Do, Raise, Restore}
 use Rattle.qp_chart.specs.declared.actions.Plain.{Plain}
@@ -10,37 +8,20 @@ use Rattle.qp_chart.specs.declared.actions.Plain.TheVariants as action
 use Rattle.qp_chart.specs.declared.checked.Chart.{Chart}
 use Rattle.qp_chart.specs.declared.expression.Bound.{Bound}
 use Rattle.qp_model.specs.declared.systems.System.{System}
-use Rattle.qp_model.specs.declared.systems.ObjectDef.{ObjectDef}
-use Rattle.qp_model.specs.Told.{Event}
 use Rattle.qp_model.specs.Calls.{deed_of, object_of, values_of}
-use Rattle.qp_model.specs.Sites.{object_at}
-use Rattle.qp_model.specs.Sound.{IsSound}
 use Rattle.qp_model.specs.SoundChart.{IsSoundEvent, IsSoundPlain}
 use Rattle.qp_model.specs.WordLaw.{is_object}
-use Rattle.qp_model.specs.Course.{chart_at}
-use Rattle.qp_calls.specs.Clauses.{IsEvent, params_of}
 use Rattle.qp_calls.specs.declared.tokens.Entry as token
-use Rattle.qp_calls.specs.declared.tokens.Entry.TheVariants as hand
 use Rattle.qp_sound.specs.Sound.{is_event}
+use Rattle.qp_sound.proofs.CallEvents.{event-to}
 use Rattle.qp_dispatch.specs.SoundFor.{MayAct, MayTask}
-use Rattle.qp_dispatch.specs.Resume.{IsReady}
 use Rattle.qp_dispatch.proofs.Naming.{declared, receives, sound-event}
-use Rattle.qp_replay.proofs.NamedRecords.{chart-ready, timer-there}
-use Rattle.qp_rerun.proofs.TokenCourses.{ChartNames, DeedNames, TaskNames}
-
-event-test : (sys : System) (ev : Event) → IsEvent sys ev → IsTrue (is_event sys ev)
-event-test sys ev is =
-    let low = is.from in
-    let high = is.within in
-    let pars = is.params in
-    let four : nat_le 4 ev.sig ≡ true = grind (arith, nat_tests, low) in
-    let few : nat_lt ev.sig (length sys.signals + 4) ≡ true = grind (arith, nat_tests, high) in
-    let same : (length ev.pars == params_of sys ev.sig) ≡ true = grind (arith, nat_tests, pars) in
-    and_from _ _ (and_from _ _ four few) same
+use Rattle.qp_replay.proofs.NamedRecords.{timer-there}
+use Rattle.qp_rerun.proofs.TokenCourses.{DeedNames, TaskNames}
 
 event-of : (sys : System) (chart : Chart) (inside : Option ℕ) (sig : ℕ) (pars : List Bound) (reserve : Option ℕ) (names : Names) → IsSoundEvent sys chart inside sig pars reserve
     → IsTrue (is_event sys (record { sig = sig; pars = values_of names pars }))
-event-of sys chart inside sig pars reserve names e = event-test sys _ (sound-event sys chart inside sig pars reserve names _ e refl)
+event-of sys chart inside sig pars reserve names e = event-to sys _ (sound-event sys chart inside sig pars reserve names _ e refl)
 
 deed-names : (sys : System) (me : ℕ) (at_hand : Option token.Entry) (p : Plain) → MayAct sys me at_hand p → (names : Names) → names.me ≡ me → DeedNames sys me (deed_of names p)
 unfolding deed_of IsSoundPlain
@@ -78,11 +59,3 @@ tasks-name sys me at_hand (t ∷ ts) h = (one t h.0, tasks-name sys me at_hand t
     one Done may = tt
     one (Raise c) may = tt
     one Restore may = tt
-
-pub chart-names : (sys : System) → IsSound sys → (d : ObjectDef) → object_at sys d.priority ≡ Some d → (chart : Chart) → chart_at sys d.chart ≡ Some chart → ChartNames sys d.priority chart
-chart-names sys sound d found chart its =
-    let ready : IsReady sys d.priority chart = chart-ready sys sound d found chart its in
-    record {
-      start = tasks-name sys d.priority None _ ready.start;
-      steps = λ leaf names sig. tasks-name sys d.priority (Some (hand.Static 0)) _ (ready.steps (hand.Static 0) leaf names sig);
-    }

@@ -10,10 +10,6 @@ use Rattle.qp_model.proofs.NumberLemmas.{every-append}
 
 -- ---- each of these is so
 
-pub all-front : {A : Type 0} (P : A → Type 0) (xs ys : List A) → AllByRecursion P (xs ++ ys) → AllByRecursion P xs
-all-front P [] ys h = tt
-all-front P (x ∷ xs) ys h = (h.0, all-front P xs ys h.1)
-
 pub all-at : {A : Type 0} (P : A → Type 0) (xs : List A) (y : A) (ys : List A) → AllByRecursion P (xs ++ y ∷ ys) → P y
 all-at P [] y ys h = h.0
 all-at P (x ∷ xs) y ys h = all-at P xs y ys h.1

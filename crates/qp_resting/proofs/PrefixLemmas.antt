@@ -2,16 +2,16 @@
 use Rattle.std.proofs.Common.{◌≡◌, ◌∙◌, ℕ, zero, suc, ◌+◌, ◌-◌, ◌<◌, ◌≤◌, ◌==◌, nat_le, nat_lt, Bool, true, false, not, ◌&&◌, ◌||◌, cond, List, [], ◌∷◌, ◌++◌, length, take, refl, sym, ap, arith, append_assoc, append-nil, length-append}
 use Rattle.std.specs.List.{AllByRecursion, filter, list_all}
 use Rattle.std.proofs.Math.Seq.{take-append_seam}
-use Rattle.std.proofs.lemmas.Bool.{and_from, and_parts}
+use Rattle.std.proofs.lemmas.Bool.{and_parts}
 use Rattle.std.proofs.lemmas.Bool.Decides.{nat_tests}
+use Rattle.std.proofs.lemmas.List.Elements.{filter-append}
 use Rattle.qp_model.specs.declared.words.Word.{Word}
 use Rattle.qp_model.specs.History.{Draws, Neither, Shows, Touch, drawn_as, drawn_below, drawn_on, hist, is_numbered, numbered, same_word, total, touch}
 use Rattle.qp_model.specs.Places.{in_order, is_next}
 use Rattle.qp_model.specs.Record.{Item}
-use Rattle.qp_model.proofs.KnowingLemmas.{same_word-is}
 use Rattle.qp_model.proofs.ListLemmas.{all_below_at}
-use Rattle.qp_orders.proofs.RunLemmas.{filter-append}
 use Rattle.qp_model.proofs.TakenLemmas.{list_all-at}
+use Rattle.qp_model.proofs.HistoryLemmas.{next-draws}
 
 -- the record stands among these
 pub record Stands (all : List Item) (i : Item) : Type 0 where
@@ -47,27 +47,6 @@ only-filtered p xs i ys is one =
     parts ∙ only-one (filter p xs) (filter p ys) i count
 
 -- ---- the order, record by record
-
-pub in_order-at : (before xs : List Item) (i : Item) (ys : List Item) → in_order before (xs ++ i ∷ ys) ≡ true → is_next (before ++ xs) (touch i) ≡ true
-unfolding in_order
-in_order-at before [] i ys h = rw (append-nil before) (and_parts _ _ h).0
-in_order-at before (x ∷ xs) i ys h = rw (sym (append_assoc before (x ∷ []) xs)) (in_order-at (before ++ x ∷ []) xs i ys (and_parts _ _ h).1)
-
-pub in_order-front : (before xs ys : List Item) → in_order before (xs ++ ys) ≡ true → in_order before xs ≡ true
-unfolding in_order
-in_order-front before [] ys h = refl
-in_order-front before (x ∷ xs) ys h =
-    let parts = and_parts (is_next before (touch x)) _ h in
-    and_from _ _ parts.0 (in_order-front (before ++ x ∷ []) xs ys parts.1)
-
--- what draws the next number of w
-drawn-next : (w : Word) (before : List Item) (t : Touch) → drawn_on w t ≡ true → is_next before t ≡ true → drawn_as w (total w before) t ≡ true
-unfolding is_next
-drawn-next w before (Draws v mark) on next =
-    let same : v ≡ w = same_word-is v w on in
-    and_from _ _ on (rw same at next)
-drawn-next w before (Shows v mark) on next = cc
-drawn-next w before Neither on next = cc
 
 drawn-within : (w : Word) (n most : ℕ) (t : Touch) → drawn_as w n t ≡ true → drawn_below w most t ≡ true → n < most
 drawn-within w n most (Draws v mark) is below = by (same_word v w) (and_parts _ _ is).0 below
@@ -110,7 +89,7 @@ module _ (w : Word) (all : List Item) (numbers : is_numbered w all ≡ true) whe
       by true e =
           let longer : filter draws (before ++ i ∷ []) ≡ filter draws before ++ i ∷ [] = filter-last before i ∙ rw e refl in
           let count : length (filter draws before ++ i ∷ []) ≡ suc (length (filter draws before)) = omega (arith, length-append (filter draws before) (i ∷ [])) in
-          let own = its-only (total w before) i at (drawn-next w before (touch i) e next) in
+          let own = its-only (total w before) i at (next-draws w before (touch i) e next) in
           let total_is : total w (before ++ i ∷ []) ≡ suc (total w before) = ap length longer ∙ count in
           longer ∙ ap (λ xs. xs ++ i ∷ []) so_far ∙ ap (λ xs. numbered w all (total w before) ++ xs) (sym own) ∙ ap (numbered w all) (sym total_is)
       by false e =

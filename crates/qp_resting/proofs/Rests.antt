@@ -1,10 +1,9 @@
 -- Wherever the kernel rests no entry waits: the look before it saw every queue empty, and nothing stands between them that touches a queue.
-use Rattle.std.proofs.Common.{◌≡◌, ◌≢◌, ◌∙◌, ℕ, ◌+◌, ◌<◌, ◌≤◌, ◌==◌, nat_le, nat_lt, Bool, true, false, ◌&&◌, ◌||◌, cond, List, [], ◌∷◌, ◌++◌, length, map, drop, take, reverse, refl, sym, ap, subst, arith, append_assoc, Some}
+use Rattle.std.proofs.Common.{◌≡◌, ◌≢◌, ◌∙◌, ℕ, ◌+◌, ◌<◌, ◌≤◌, ◌==◌, nat_le, nat_lt, Bool, true, false, ◌&&◌, ◌||◌, cond, List, [], ◌∷◌, ◌++◌, length, map, drop, take, refl, sym, ap, subst, arith, append_assoc, Some}
 use Rattle.std.specs.Prelude.{IsTrue, slice_get}
 use Rattle.std.specs.List.{AllByRecursion, filter, find}
 use Rattle.std.specs.Option.{unwrap_or}
 use Rattle.std.proofs.lemmas.Bool.{and_parts}
-use Rattle.std.proofs.lemmas.List.{reverse-append}
 use Rattle.std.proofs.lemmas.Bool.Decides.{nat_tests}
 use Rattle.qp_chart.specs.StateTree.{has}
 use Rattle.qp_model.specs.declared.record.Rec.{Rec}
@@ -29,17 +28,17 @@ use Rattle.qp_model.specs.Record.{Item}
 use Rattle.qp_model.specs.Sites.{object_at, ring_of}
 use Rattle.qp_model.specs.WordLaw.{Keeps, is_object}
 use Rattle.qp_model.proofs.LawLemmas.{kernel_rests_where_all_are_empty}
-use Rattle.qp_model.proofs.HistoryLemmas.{length-hist}
+use Rattle.qp_model.proofs.HistoryLemmas.{length-hist, in_order-at, in_order-front, total-append}
 use Rattle.qp_model.proofs.LineLemmas.{IsLine, line_is, same_number}
 use Rattle.qp_model.proofs.MachineLemmas.{is_allowed-front}
+use Rattle.qp_model.proofs.ListLemmas.{every-front, has-reverse}
 use Rattle.qp_orders.specs.Placing.{all_placed, LooksNone}
 use Rattle.qp_orders.specs.RunOrder.{items_of, placed}
 use Rattle.qp_orders.proofs.MergeLemmas.{stimuli-append, stimuli-none}
-use Rattle.qp_orders.proofs.NumberLemmas.{total-append}
 use Rattle.qp_orders.proofs.StimLemmas.{items-placed}
 use Rattle.qp_resting.specs.Laws.{IsIdleAtRests, RestsWhereNothingWaits, queue_after, records_of}
-use Rattle.qp_resting.proofs.OrderLemmas.{OfRecord, all-at, all-front, parted, spills-source, stimuli-all}
-use Rattle.qp_resting.proofs.PrefixLemmas.{Stands, draws, first-part, first-taken, history-first, in_order-at, in_order-front, stands-all, stands-each}
+use Rattle.qp_resting.proofs.OrderLemmas.{OfRecord, all-at, parted, spills-source, stimuli-all}
+use Rattle.qp_resting.proofs.PrefixLemmas.{Stands, draws, first-part, first-taken, history-first, stands-all, stands-each}
 
 -- ---- the look before a rest
 
@@ -85,26 +84,6 @@ sees-undrawn w (q ∷ qs) [] sees = refl
 sees-undrawn w (q ∷ qs) (i ∷ is) (f, l, m, at, empty, others) = rw at (sees-undrawn w qs is others)
 
 -- ---- each object is above the base
-
-has-append : (xs ys : List ℕ) (p : ℕ) → has (xs ++ ys) p ≡ (has xs p || has ys p)
-has-append [] ys p = refl
-has-append (x ∷ xs) ys p = by (x == p) (has-append xs ys p)
-  where
-    by : (b : Bool) → has (xs ++ ys) p ≡ (has xs p || has ys p) → (b || has (xs ++ ys) p) ≡ ((b || has xs p) || has ys p)
-    by true h = refl
-    by false h = h
-
-or-swap : (a b : Bool) → (a || (b || false)) ≡ (b || a)
-or-swap true true = refl
-or-swap true false = refl
-or-swap false true = refl
-or-swap false false = refl
-
-has-reverse : (xs : List ℕ) (p : ℕ) → has (reverse xs) p ≡ has xs p
-has-reverse [] p = refl
-has-reverse (x ∷ xs) p =
-    let turned : reverse (x ∷ xs) ≡ reverse xs ++ x ∷ [] = reverse-append (x ∷ []) xs in
-    rw turned (has-append (reverse xs) (x ∷ []) p) ∙ or-swap (has (reverse xs) p) (x == p) ∙ ap (λ b. (x == p) || b) (has-reverse xs p)
 
 object-above : (ds : List ObjectDef) (d : ObjectDef) → find (λ e. e.priority == d.priority) ds ≡ Some d → 0 < d.priority
     → has (map (λ e. e.priority) (filter (λ e. nat_lt 0 e.priority) ds)) d.priority ≡ true
@@ -241,7 +220,7 @@ module _ (sys : System) (lanes : List (List Rec)) (cuts : Bool) (sources : List 
 
   each : AllByRecursion (Stands (all_items lanes)) before
   each =
-      let in_front : AllByRecursion (Stands (all_items lanes)) front = all-front (Stands (all_items lanes)) front (rest ∷ back) (rw lane at own) in
+      let in_front : AllByRecursion (Stands (all_items lanes)) front = every-front (Stands (all_items lanes)) front (rest ∷ back) (rw lane at own) in
       items-all (Stands (all_items lanes)) (with_stimuli cuts sources front) (stimuli-all (Stands (all_items lanes)) cuts sources front others in_front)
 
   looked : SeesEmpty d.priority empties

@@ -1,7 +1,6 @@
 -- A journal of three files, judged file by file.
-use Rattle.std.proofs.Common.{◌≡◌, ℕ, ◌<◌, ◌≤◌, ◌⊎◌, true, List, [], ◌∷◌, Option, IfSome, Result, Ok, Err, refl, sym, ap, subst, ◌∙◌, arith, inl, inr}
+use Rattle.std.proofs.Common.{◌≡◌, ℕ, ◌⊎◌, true, List, Option, IfSome, Result, Ok, Err, refl, sym, ap, subst, ◌∙◌, inl, inr}
 use Rattle.std.proofs.lemmas.Option.{IfSome_then}
-use Rattle.std.specs.List.{AllByRecursion}
 use Rattle.qp_alike.proofs.LawLemmas.{stimuli_are_one, verdicts_carry_over}
 use Rattle.qp_word_rules.specs.declared.verdict.Verdict.{Verdict}
 use Rattle.qp_word_rules.specs.declared.verdict.Verdict.TheVariants.{Lawful}
@@ -9,10 +8,10 @@ use Rattle.qp_check.specs.Judged.{IsVerdict, trials}
 use Rattle.qp_check.proofs.JudgedLemmas.{lawful_where_none_fails}
 use Rattle.qp_model.specs.declared.journals.Journal as journal
 use Rattle.qp_model.specs.declared.stimulus.Stim.{Stim}
-use Rattle.qp_model.specs.declared.systems.ObjectDef.{ObjectDef}
 use Rattle.qp_model.specs.declared.systems.System.{System}
 use Rattle.qp_stim.specs.Stimuli.{Fault, stimuli_of}
 use Rattle.qp_model.specs.Sound.{IsSound}
+use Rattle.qp_model.proofs.ObjectLemmas.{priorities-are_bytes}
 use Rattle.qp_system.specs.SystemOf.{IsSystemOf}
 use Rattle.qp_system.proofs.LawLemmas.{systems_have_no_fault}
 use Rattle.qp_text.specs.TextLaw.{IsWritable}
@@ -33,17 +32,13 @@ use Rattle.qp_run.proofs.VerdictLemmas.{IfSome-all, IfSome-both}
 pub text-said : (form : ℕ) (j : journal.Journal) (bytes : List ℕ) → IsWritable form j × (written Journal form j ≡ bytes) → said Journal bytes ≡ Ok (form, j)
 text-said form j bytes of = subst (λ b. said Journal b ≡ Ok (form, j)) of.1 (said-written Journal form j of.0)
 
-below-bytes : (ds : List ObjectDef) → AllByRecursion (λ d. d.priority ≤ 32) ds → AllByRecursion (λ d. d.priority < 256) ds
-below-bytes [] all = tt
-below-bytes (d ∷ ds) all = (omega (arith, all.0), below-bytes ds all.1)
-
 -- a text of a journal that the judge finds lawful
 pub lawful-text : (sys : System) (sources : List (List Stim)) (bytes : List ℕ) (form : ℕ) (j : journal.Journal) → IsSound sys
     → IsWritable form j × (written Journal form j ≡ bytes) → IsVerdict (trials sys sources j) Lawful → IsLawfulText sys sources bytes form j
 lawful-text sys sources bytes form j sound of all = record {
   writable = of.0;
   text = sym of.1;
-  lawful = (lawful_where_none_fails sys sources j (below-bytes sys.objects sound.priorities)).0 all;
+  lawful = (lawful_where_none_fails sys sources j (priorities-are_bytes sys.objects sound.priorities)).0 all;
 }
 
 -- the answer on what the third file says

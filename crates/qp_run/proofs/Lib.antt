@@ -1,5 +1,5 @@
 mod AnswerLaw
-mod VerdictLemmas
+pub mod VerdictLemmas
 mod FormLemmas
 mod EndingLemmas
 mod PrintedLemmas

@@ -230,7 +230,7 @@ answers-stands (Some asked) n told answer other (inr (inl (memory, names))) = rw
 answers-stands (Some asked) n told answer other (inr (inr (failed, rose, _))) = rw failed (λ e. cc)
 
 -- all bytes are a part of them
-prefix-whole : (old new : Option (List ℕ)) (whole : List ℕ) → new ≡ appended old whole → AppendsPrefix old whole new
+pub prefix-whole : (old new : Option (List ℕ)) (whole : List ℕ) → new ≡ appended old whole → AppendsPrefix old whole new
 prefix-whole old new whole got = (length whole, omega arith, got ∙ ap (appended old) (sym (take_all (length whole) whole (omega arith))))
 
 module _ (IsWhole : Status → List ℕ → Type 0) (old new : Option (List ℕ)) where

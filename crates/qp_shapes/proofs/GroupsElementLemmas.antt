@@ -1,5 +1,6 @@
 -- Groups that aren't empty are parts too, and what a break leaves behind them is a last.
 use Rattle.std.proofs.Common.{◌≡◌, ℕ, max, true, ◌⊎◌, inl, inr, List, [], ◌∷◌, ◌++◌, refl, sym, ◌∙◌, ap, subst, append_assoc}
+use Rattle.std.proofs.lemmas.Bool.{false≢true}
 use Rattle.qp_model.specs.declared.bodies.Body.{Body}
 use Rattle.qp_model.specs.declared.bodies.Body.TheVariants as item
 use Rattle.qp_model.specs.Told.{Told, Nothing, Former, plain, raised}
@@ -7,18 +8,17 @@ use Rattle.qp_model.specs.Sequence.{Sequence}
 use Rattle.qp_model.specs.Groups.{is_move}
 use Rattle.qp_shapes.specs.GroupsRead.{ReadsAll, IsElement, Notes, Acts, Locks, RaisesOnly, IsEnd, EndsPlainly, EndsUnder, Breaks, is_close, is_outer}
 use Rattle.qp_shapes.proofs.GroupsReadLemmas.{Parts, Lasts, compare, reads-last, outer-behind, no-close}
-use Rattle.qp_shapes.proofs.NeverLemmas.{false-true}
 
 move-outer : (b : Body) → is_move b ≡ true → is_outer b ≡ true
 move-outer (item.Exit s) h = refl
 move-outer (item.Enter s) h = refl
 move-outer (item.Init s) h = refl
-move-outer b h = absurd (false-true h)
+move-outer b h = absurd (false≢true h)
 
 close-outer : (b : Body) → is_close b ≡ true → is_outer b ≡ true
 close-outer (item.Unlock ceiling) h = refl
 close-outer item.Done h = refl
-close-outer b h = absurd (false-true h)
+close-outer b h = absurd (false≢true h)
 
 move-open : (b : Body) → is_move b ≡ true → is_close b ≡ true → ⊥
 move-open (item.Exit s) h k = cc

@@ -1,8 +1,9 @@
 -- What the first record of a list tells of the group in front, and what stands behind it.
 use Rattle.std.proofs.Common.{◌≡◌, ℕ, ◌==◌, nat_le, max, Bool, true, false, cond, List, [], ◌∷◌, ◌++◌, Some, None, refl, sym, ◌∙◌, ap, subst, append_assoc, arith}
-use Rattle.std.proofs.lemmas.Bool.{eqb-true}
+use Rattle.std.proofs.lemmas.Bool.{eqb-true, false≢true}
 use Rattle.std.proofs.lemmas.Bool.Decides.{nat_tests}
 use Rattle.std.specs.declared.option.Option.{Option}
+use Rattle.std.proofs.lemmas.Option.{none-some}
 use Rattle.qp_model.specs.declared.bodies.Body.{Body}
 use Rattle.qp_model.specs.declared.bodies.Body.TheVariants as item
 use Rattle.qp_model.specs.Told.{Told, Known, Nothing, Former, plain, raised}
@@ -13,7 +14,6 @@ use Rattle.qp_shapes.specs.GroupsFirst.{is_note, former_of, unlock_first, behind
 use Rattle.qp_shapes.proofs.ShapeReleaseLemmas.{when-passed}
 use Rattle.qp_shapes.proofs.GroupsReadLemmas.{Parts, reads-close}
 use Rattle.qp_shapes.proofs.GroupsElementLemmas.{element-parts}
-use Rattle.qp_shapes.proofs.NeverLemmas.{false-true, none-some}
 use Rattle.qp_model.proofs.RecordLemmas.{told-is}
 use Rattle.qp_model.proofs.LineLemmas.{same_number}
 
@@ -52,7 +52,7 @@ note-is t h = by t.known refl h
   where
     by : (known : Known) → t.known ≡ known → is_note t.body known ≡ true → (b : Body) × (is_move b ≡ true) × (t ≡ plain b)
     by Nothing is h = (t.body, h, told-is t t.body Nothing refl is)
-    by known is h = absurd (false-true h)
+    by known is h = absurd (false≢true h)
 
 pub note-leaves : (W : List Told → Type 0) → Parts is_outer W → (t : Told) (ts : List Told) → is_note t.body t.known ≡ true → Leaves (IsElement W) (t ∷ ts) (Some ts)
 note-leaves W laws t ts h =
@@ -76,7 +76,7 @@ former-raised t f h = by t.body t.known refl refl h
 
     by : (body : Body) (known : Known) → t.body ≡ body → t.known ≡ known → former_of body known ≡ Some f → (c : ℕ) × (t ≡ raised (max f c) f)
     by (item.Lock ceiling) (Former former) is_body is_known h = at former ceiling (nat_le former ceiling) refl (told-is t _ _ is_body is_known) h
-    by body known is_body is_known h = absurd (none-some h)
+    by body known is_body is_known h = absurd (none-some _ h)
 
 pub raised-former : (f c : ℕ) → former_of (raised (max f c) f).body (raised (max f c) f).known ≡ Some f
 raised-former f c = let le : nat_le f (max f c) ≡ true = grind (arith, nat_tests) in rw le refl
@@ -91,7 +91,7 @@ unlock-is f (t ∷ ts) rest h = by t.body t.known refl refl h
         let same : c ≡ f = eqb-true c f test.0 in
         let whole : t ≡ plain (item.Unlock c) = told-is t _ _ is_body is_known in
         let behind : ts ≡ rest = test.1 in cc
-    by body known is_body is_known h = absurd (none-some h)
+    by body known is_body is_known h = absurd (none-some _ h)
 
 pub done-is : (told rest : List Told) → behind_done told ≡ Some rest → told ≡ plain item.Done ∷ rest
 done-is [] rest h = absurd (cc)
@@ -99,7 +99,7 @@ done-is (t ∷ ts) rest h = by t.body t.known refl refl h
   where
     by : (body : Body) (known : Known) → t.body ≡ body → t.known ≡ known → done_first body known ts ≡ Some rest → t ∷ ts ≡ plain item.Done ∷ rest
     by item.Done Nothing is_body is_known h = let whole : t ≡ plain item.Done = told-is t _ _ is_body is_known in cc
-    by body known is_body is_known h = absurd (none-some h)
+    by body known is_body is_known h = absurd (none-some _ h)
 
 -- actions under a raised ceiling, and then what restores it
 pub locked-leaves : (W : List Told → Type 0) → Parts is_outer W → (t : Told) (ts rest : List Told) (f : ℕ) → former_of t.body t.known ≡ Some f → ReadsAll W ts rest

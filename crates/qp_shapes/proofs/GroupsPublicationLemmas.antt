@@ -1,6 +1,7 @@
 -- A publication is read to its end in one way, and begins neither a unit nor a single call that asserts.
 use Rattle.std.proofs.Common.{◌≡◌, ℕ, Bool, true, false, List, [], ◌∷◌, ◌++◌, Some, None, refl, sym, ◌∙◌, ap, subst}
 use Rattle.std.specs.declared.option.Option.{Option}
+use Rattle.std.proofs.lemmas.Bool.{false≢true}
 use Rattle.qp_model.specs.declared.systems.System.{System}
 use Rattle.qp_model.specs.declared.bodies.Entry.{Entry}
 use Rattle.qp_model.specs.declared.bodies.Body.{Body}
@@ -16,7 +17,6 @@ use Rattle.qp_shapes.specs.GroupsRead.{is_outer}
 use Rattle.qp_shapes.proofs.ShapeRunLemmas.{end_of}
 use Rattle.qp_shapes.proofs.ShapeStageLemmas.{run-step, given-is, made-is, StartRecord, OfBlock, OfSet, start-is}
 use Rattle.qp_shapes.proofs.GroupsApartLemmas.{shown-apart, given-apart}
-use Rattle.qp_shapes.proofs.NeverLemmas.{false-true}
 
 -- behind the end nothing is read
 end-run : (sys : System) (o : ℕ) (b c : Bool) (g : List Told) → run sys o g (end_of b) ≡ Some (end_of c) → (g ≡ []) × (b ≡ c)
@@ -62,7 +62,7 @@ outer-start sys o (item.Lock ceiling) known h = refl
 outer-start sys o (item.Exit s) known h = refl
 outer-start sys o (item.Enter s) known h = refl
 outer-start sys o (item.Init s) known h = refl
-outer-start sys o body known h = absurd (false-true h)
+outer-start sys o body known h = absurd (false≢true h)
 
 pub run-inner : (sys : System) (o : ℕ) (b : Bool) (t : Told) (ts : List Told) → run sys o (t ∷ ts) stage.Start ≡ Some (end_of b) → is_outer t.body ≡ true → ⊥
 unfolding next

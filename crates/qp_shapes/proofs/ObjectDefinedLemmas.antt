@@ -1,5 +1,6 @@
 -- An object's records as they are read, and as they are defined.
 use Rattle.std.proofs.Common.{◌≡◌, ℕ, Bool, true, false, inl, inr, List, [], ◌∷◌, ◌++◌, Some, None, refl, sym, ◌∙◌, ap, append_assoc}
+use Rattle.std.proofs.lemmas.Bool.{false≢true}
 use Rattle.qp_model.specs.declared.systems.System.{System}
 use Rattle.qp_model.specs.declared.bodies.Body.{Body}
 use Rattle.qp_model.specs.declared.bodies.Body.TheVariants as item
@@ -11,7 +12,6 @@ use Rattle.qp_shapes.specs.ShapeAction.{IsWhole}
 use Rattle.qp_shapes.specs.ObjectRead.{Kinds, Closes, is_look, IsTurnOf, Steps, Finds, IsTailOf, EndsHere, IsSpent, BreaksOffIn, TakesOnly, ReleasesOnly, TurnsOf, IsObjectOf, Starts, BreaksStart}
 use Rattle.qp_shapes.proofs.GroupsSequenceLemmas.{sequence-one, sequence-map}
 use Rattle.qp_shapes.proofs.GroupsActionLemmas.{groups-elements, elements-groups, off-breaks, breaks-off}
-use Rattle.qp_shapes.proofs.NeverLemmas.{false-true}
 
 -- the lists that are whole or stop
 abbrev pub kinds_of : System → ℕ → Bool → Kinds
@@ -33,7 +33,7 @@ of-turn sys o nils g (Finds b look h is) = by b look is
     by : (b : Body) → is_look b ≡ true → g ≡ plain b ∷ [] → IsTurn sys o nils g
     by (item.Nil f l m) look is = FindsEmpty f l m h is
     by (item.Seen p f l m) look is = LooksOnly p f l m h is
-    by b look is = absurd (false-true look)
+    by b look is = absurd (false≢true look)
 
 pub tail-of : (sys : System) (o : ℕ) (cuts : Bool) (g : List Told) → IsTail sys o cuts g → IsTailOf (kinds_of sys o cuts) g
 unfolding BrokenStep

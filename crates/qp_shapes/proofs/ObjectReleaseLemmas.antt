@@ -1,6 +1,6 @@
 -- A list that is a front of the release of an entry.
 use Rattle.std.proofs.Common.{◌≡◌, ℕ, zero, suc, ◌+◌, ◌<◌, ◌==◌, nat_lt, Bool, true, false, ◌&&◌, ◌||◌, ◌⊎◌, inl, inr, List, [], ◌∷◌, ◌++◌, length, Some, None, refl, sym, ◌∙◌, ap, subst, append-nil, arith}
-use Rattle.std.proofs.lemmas.Bool.{and_parts, or_cases, eqb-true}
+use Rattle.std.proofs.lemmas.Bool.{and_parts, or_cases, eqb-true, false≢true}
 use Rattle.std.proofs.lemmas.Bool.Decides.{nat_tests}
 use Rattle.std.specs.declared.option.Option.{Option}
 use Rattle.qp_fits.specs.Decides.{Decides}
@@ -17,7 +17,6 @@ use Rattle.qp_shapes.specs.ObjectFirst.{drop_front, release_front}
 use Rattle.qp_shapes.proofs.ShapeReleaseLemmas.{release-sound, release-leaves}
 use Rattle.qp_shapes.proofs.ObjectTestLemmas.{decides-by}
 use Rattle.qp_shapes.proofs.ObjectCutLemmas.{released}
-use Rattle.qp_shapes.proofs.NeverLemmas.{false-true}
 use Rattle.qp_model.proofs.RecordLemmas.{told-is}
 
 -- no records behind
@@ -96,7 +95,7 @@ front-of e (t ∷ ts) h =
             let tests = and_parts (left == 0) (is_done (behind_back p b d ts)) back in
             returned above d left t_is (eqb-true left 0 tests.0)
             (ap (λ x. behind_back x e.block d ts) (sym e1) ∙ ap (λ x. behind_back p x d ts) (sym e2) ∙ end-is (behind_back p b d ts) tests.1)
-    by body known is_body is_known above h = absurd (false-true h)
+    by body known is_body is_known above h = absurd (false≢true h)
 
 -- each front is one
 of-front : (e : Entry) (told : List Told) → FrontOf (Drops e) told → release_front e told ≡ true

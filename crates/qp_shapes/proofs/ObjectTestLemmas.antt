@@ -1,6 +1,6 @@
 -- What is tested of an object's list.
 use Rattle.std.proofs.Common.{◌≡◌, ℕ, suc, ◌==◌, Bool, true, false, ◌&&◌, ◌⊎◌, inl, inr, List, [], ◌∷◌, ◌++◌, length, IsTrue, Some, None, refl, sym, ◌∙◌, ap, subst, arith}
-use Rattle.std.proofs.lemmas.Bool.{and_parts}
+use Rattle.std.proofs.lemmas.Bool.{and_parts, false≢true}
 use Rattle.std.proofs.lemmas.Bool.Decides.{nat_tests}
 use Rattle.qp_fits.specs.Decides.{Decides}
 use Rattle.qp_model.specs.declared.bodies.Entry.{Entry}
@@ -18,7 +18,6 @@ use Rattle.qp_shapes.proofs.GroupsElementLemmas.{element-parts}
 use Rattle.qp_shapes.proofs.GroupsFirstLemmas.{done-is}
 use Rattle.qp_shapes.proofs.ObjectReadLemmas.{KindLaws, break-open, turns-tail, tail-turns}
 use Rattle.qp_shapes.proofs.ObjectTurnLemmas.{taken-is, step-is, step-told, begin-is}
-use Rattle.qp_shapes.proofs.NeverLemmas.{false-true}
 use Rattle.qp_model.proofs.RecordLemmas.{told-is}
 
 -- a test by what it tells, each way
@@ -152,7 +151,7 @@ spent-is (t ∷ ts) h = inr (by t.body t.known refl refl h)
     by : (body : Body) (known : Known) → t.body ≡ body → t.known ≡ known → spent_first body known ts ≡ true → t ∷ ts ≡ plain item.Spent ∷ []
     by item.Spent Nothing is_body is_known h =
         let whole : t ≡ plain item.Spent = told-is t _ _ is_body is_known in let behind : ts ≡ [] = none ts h in ap (λ u. u ∷ ts) whole ∙ ap (λ us. plain item.Spent ∷ us) behind
-    by body known is_body is_known h = absurd (false-true h)
+    by body known is_body is_known h = absurd (false≢true h)
 
 pub tail-else : (k : Kinds) (told : List Told) (b : Bool) → None ≡ taken_entry told → b ≡ is_spent told → Decides b (IsTailOf k told)
 tail-else k told b none b_is = decides-by (IsTailOf k told) b sound whole

@@ -1,7 +1,8 @@
 -- What the first records of an object's turns tell, and what stands behind these.
 use Rattle.std.proofs.Common.{◌≡◌, ℕ, Bool, true, ◌&&◌, List, [], ◌∷◌, ◌++◌, Some, None, refl, sym, ◌∙◌, ap, subst, append_assoc}
 use Rattle.std.specs.declared.option.Option.{Option}
-use Rattle.std.proofs.lemmas.Bool.{and_parts}
+use Rattle.std.proofs.lemmas.Bool.{and_parts, false≢true}
+use Rattle.std.proofs.lemmas.Option.{none-some}
 use Rattle.qp_model.specs.declared.bodies.Entry.{Entry}
 use Rattle.qp_model.specs.declared.bodies.Body.{Body}
 use Rattle.qp_model.specs.declared.bodies.Body.TheVariants as item
@@ -16,7 +17,7 @@ use Rattle.qp_shapes.proofs.ShapeReleaseLemmas.{when-passed}
 use Rattle.qp_shapes.proofs.GroupsReadLemmas.{Parts, reads-close}
 use Rattle.qp_shapes.proofs.GroupsElementLemmas.{element-parts}
 use Rattle.qp_shapes.proofs.GroupsFirstLemmas.{leaves-at, leaves-sound, leaves-whole, done-is}
-use Rattle.qp_shapes.proofs.NeverLemmas.{false-true, none-some, some-none}
+use Rattle.qp_shapes.proofs.NeverLemmas.{some-none}
 use Rattle.qp_model.proofs.RecordLemmas.{told-is}
 
 pub taken-is : (t : Told) (e : Entry) → taken_first t.body t.known ≡ Some e → (f l m : ℕ) × (known : Known) × (t ≡ takes f l m e known)
@@ -27,14 +28,14 @@ taken-is t e h = by t.body refl h
         let same : d ≡ e = cc in
         let whole : t ≡ takes f l m d t.known = told-is t _ _ is_body refl in
         (f, l, m, t.known, whole ∙ ap (λ x. takes f l m x t.known) same)
-    by body is_body h = absurd (none-some h)
+    by body is_body h = absurd (none-some _ h)
 
 head-tells : (t : Told) → tells_head t.body t.known ≡ true → (b : Body) × (is_head b ≡ true) × (t ≡ plain b)
 head-tells t h = by t.known refl h
   where
     by : (known : Known) → t.known ≡ known → tells_head t.body known ≡ true → (b : Body) × (is_head b ≡ true) × (t ≡ plain b)
     by Nothing is h = (t.body, h, told-is t t.body Nothing refl is)
-    by known is h = absurd (false-true h)
+    by known is h = absurd (false≢true h)
 
 -- the first two records of a step
 pub step-is : (told body : List Told) (e : Entry) → taken_entry told ≡ Some e → behind_head told ≡ Some body → (head : List Told) × StepHead e head × (told ≡ head ++ body)
@@ -104,7 +105,7 @@ look-entry b told rest look is = ap taken_entry is ∙ by b look
     by : (b : Body) → is_look b ≡ true → taken_entry (plain b ∷ rest) ≡ None
     by (item.Nil f l m) look = refl
     by (item.Seen p f l m) look = refl
-    by b look = absurd (false-true look)
+    by b look = absurd (false≢true look)
 
 -- a step in front of a list
 turn-steps : (act : Option Entry → List Told → Type 0) (release : Entry → List Told → Type 0) (nils : Bool) (told g other : List Told) (e : Entry) → taken_entry told ≡ Some e
@@ -155,7 +156,7 @@ look-is nils (t ∷ ts) rest h = by t.known refl h
         let whole : t ≡ plain t.body = told-is t _ _ refl is_known in
         let behind : ts ≡ rest = test.1 in
         (t.body, tests.0, tests.1, ap (λ u. u ∷ ts) whole ∙ ap (λ us. plain t.body ∷ us) behind)
-    by known is_known h = absurd (none-some h)
+    by known is_known h = absurd (none-some _ h)
 
 pub turn-look : (act : Option Entry → List Told → Type 0) (release : Entry → List Told → Type 0) (nils : Bool) (told : List Told) (r : Option (List Told))
     → None ≡ taken_entry told → r ≡ behind_look nils told → Leaves (IsTurnOf act release nils) told r

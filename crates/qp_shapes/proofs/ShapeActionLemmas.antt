@@ -2,6 +2,8 @@
 use Rattle.std.proofs.Common.{◌≡◌, ℕ, nat_lt, Bool, true, false, cond, List, [], ◌∷◌, ◌++◌, length, Some, None, refl, ◌∙◌, ap, subst}
 use Rattle.std.specs.declared.option.Option.{Option}
 use Rattle.std.specs.Option.{option_and_then}
+use Rattle.std.proofs.lemmas.Option.{none-some}
+use Rattle.std.proofs.lemmas.Bool.{false≢true}
 use Rattle.qp_model.specs.declared.systems.System.{System}
 use Rattle.qp_model.specs.declared.bodies.Entry.{Entry}
 use Rattle.qp_model.specs.Record.{entry}
@@ -25,11 +27,10 @@ use Rattle.qp_shapes.proofs.ShapeStageLemmas.{run-step, given-is, made-is, Start
 use Rattle.qp_shapes.proofs.ShapeRunLemmas.{end_of}
 use Rattle.qp_shapes.proofs.ShapePublishLemmas.{answer_of, IsPublication, start-sound}
 use Rattle.qp_shapes.proofs.ShapeReadLemmas.{start-whole}
-use Rattle.qp_shapes.proofs.NeverLemmas.{false-true, none-some}
 
 whole-is : (s : PublishStage) → is_whole s ≡ true → s ≡ stage.Whole
 whole-is stage.Whole h = refl
-whole-is s h = absurd (false-true h)
+whole-is s h = absurd (false≢true h)
 
 -- what is read from a stage on is made whole
 pub stage-sound : (sys : System) (o : ℕ) (told : List Told) (s : PublishStage) (rest : List Told) → behind_stage sys o told s ≡ Some rest → (g : List Told) × (run sys o g s ≡ Some stage.Whole) × (told ≡ g ++ rest)
@@ -55,7 +56,7 @@ stage-sound sys o (t ∷ ts) s rest h = by (is_whole s) refl h (λ x. stage-soun
 
 goes-on : (sys : System) (o : ℕ) (t : Told) (s x : PublishStage) → next sys o s t.body t.known ≡ Some x → is_whole s ≡ false
 unfolding next
-goes-on sys o t stage.Whole x h = absurd (none-some h)
+goes-on sys o t stage.Whole x h = absurd (none-some _ h)
 goes-on sys o t s x h = refl
 
 pub stage-whole : (sys : System) (o : ℕ) (g rest : List Told) (s : PublishStage) → run sys o g s ≡ Some stage.Whole → behind_stage sys o (g ++ rest) s ≡ Some rest

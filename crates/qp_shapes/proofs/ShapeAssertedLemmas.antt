@@ -3,6 +3,7 @@ use Rattle.std.proofs.Common.{◌≡◌, ℕ, ◌==◌, nat_lt, Bool, true, fals
 use Rattle.std.proofs.lemmas.Bool.{and_parts, not-true, or_cases, eqb-true}
 use Rattle.std.proofs.lemmas.Bool.Decides.{nat_tests}
 use Rattle.std.specs.declared.option.Option.{Option}
+use Rattle.std.proofs.lemmas.Option.{none-some}
 use Rattle.qp_model.specs.declared.systems.System.{System}
 use Rattle.qp_model.specs.declared.bodies.Entry.{Entry}
 use Rattle.qp_model.specs.declared.bodies.Body.{Body}
@@ -22,7 +23,6 @@ use Rattle.qp_shapes.specs.ShapeAssertion.{IsAsserted, Asserts, no_entry_first, 
 use Rattle.qp_shapes.proofs.ShapeReleaseLemmas.{leaves}
 use Rattle.qp_shapes.proofs.ShapeSoundLemmas.{passed}
 use Rattle.qp_shapes.proofs.ShapeAssertionLemmas.{assertion-whole, no_entry-asserted, no_lifo-asserted, no_block-asserted, armed-asserted, bad_ticks-asserted, again-asserted}
-use Rattle.qp_shapes.proofs.NeverLemmas.{none-some}
 use Rattle.qp_model.proofs.RecordLemmas.{told-is}
 
 no_entry-sound : (told rest : List Told) → behind_no_entry told ≡ Some rest → (a f l m : ℕ) × (told ≡ plain (item.NoEntry a f l m) ∷ rest)
@@ -31,7 +31,7 @@ no_entry-sound (t ∷ ts) rest h = by t.body t.known refl refl h
   where
     by : (body : Body) (known : Known) → t.body ≡ body → t.known ≡ known → no_entry_first body known ts ≡ Some rest → (a f l m : ℕ) × (t ∷ ts ≡ plain (item.NoEntry a f l m) ∷ rest)
     by (item.NoEntry a f l m) Nothing is_body is_known h = let whole : t ≡ plain (item.NoEntry a f l m) = told-is t _ _ is_body is_known in let behind : ts ≡ rest = cc in (a, f, l, m, cc)
-    by body known is_body is_known h = absurd (none-some h)
+    by body known is_body is_known h = absurd (none-some _ h)
 
 no_lifo-sound : (o : ℕ) (told rest : List Told) → behind_no_lifo o told ≡ Some rest → (f l m : ℕ) × (told ≡ plain (item.NoLifo o f l m) ∷ rest)
 no_lifo-sound o [] rest h = absurd (cc)
@@ -44,7 +44,7 @@ no_lifo-sound o (t ∷ ts) rest h = by t.body t.known refl refl h
         let whole : t ≡ plain (item.NoLifo a f l m) = told-is t _ _ is_body is_known in
         let behind : ts ≡ rest = test.1 in
         (f, l, m, cc)
-    by body known is_body is_known h = absurd (none-some h)
+    by body known is_body is_known h = absurd (none-some _ h)
 
 -- a post or a last-in post of a new event that finds no entry
 cut-asserted : (sys : System) (o : ℕ) (now : Option Entry) (p n b from sig free r : ℕ) (pars : List ℕ) (told rest : List Told)
@@ -72,7 +72,7 @@ cut-asserted sys o now p n b from sig free r pars (t ∷ ts) rest above goes poo
         let whole : t ≡ plain (item.NoLifo a f l m) = told-is t _ _ is_body is_known in
         let behind : ts ≡ rest = test.1 in
         (plain (item.NoLifo o f l m) ∷ [], Asserts (call.Lifo sig pars None) AtFront refl (inr (head, entry p b r, makes, (f, l, m, refl))) refl, cc)
-    by body known is_body is_known h = absurd (none-some h)
+    by body known is_body is_known h = absurd (none-some _ h)
 
 new-asserted : (sys : System) (o : ℕ) (now : Option Entry) (p n b from sig free : ℕ) (pars : List ℕ) (told rest : List Told)
     → nat_lt 0 free ≡ true → goes_to (sizes_of sys) (length pars) p ≡ true → is_static sys sig ≡ false → behind_new_cut o p b told ≡ Some rest
@@ -91,7 +91,7 @@ new-asserted sys o now p n b from sig free pars (t ∷ ts) rest above goes poole
         let asserted = cut-asserted sys o now p n b from sig free r pars ts rest above goes pooled test.1 in
         let behind : ts ≡ asserted.0 ++ rest = asserted.2 in
         (plain (item.Inc p b r) ∷ asserted.0, asserted.1, cc)
-    by body known is_body is_known k = absurd (none-some k)
+    by body known is_body is_known k = absurd (none-some _ k)
 
 -- a recalled entry that finds no place
 recall-asserted : (sys : System) (o : ℕ) (now : Option Entry) (k : Entry) (told rest : List Told) → behind_recall_cut o k told ≡ Some rest
@@ -123,7 +123,7 @@ recall-asserted sys o now k told rest h = by (k.pool == 0) refl h
             (subst (λ x. MakesAgain k (plain (item.Inc k.pool x r) ∷ []) (entry k.pool x r)) (sym e2) (again-pooled k r (pooled k.pool some))) in
             let behind : ts ≡ plain (item.NoLifo o lifo.0 lifo.1 lifo.2) ∷ rest = lifo.3 in
             (plain (item.Inc p b r) ∷ plain (item.NoLifo o lifo.0 lifo.1 lifo.2) ∷ [], asserted (plain (item.Inc p b r) ∷ []) (entry p b r) lifo.0 lifo.1 lifo.2 again, cc)
-        from body known is_body is_known h = absurd (none-some h)
+        from body known is_body is_known h = absurd (none-some _ h)
 
     by : (static : Bool) → (k.pool == 0) ≡ static → cond static (behind_no_lifo o told) (behind_recall_reference o k told) ≡ Some rest
         → (g : List Told) × IsAsserted sys o now (plain (item.Recall k) ∷ g) × (told ≡ g ++ rest)
@@ -155,7 +155,7 @@ plain-sound sys o now t ts rest (item.Inc p b r) is h =
     let post = no_entry-sound ts rest test.1 in
     more-records sys o now t ts rest _ is (plain (item.NoEntry post.0 post.1 post.2 post.3) ∷ [], again-asserted sys o now p b r post.0 post.1 post.2 post.3 test.0, post.4)
 plain-sound sys o now t ts rest (item.Recall k) is h = more-records sys o now t ts rest _ is (recall-asserted sys o now k ts rest h)
-plain-sound sys o now t ts rest body is h = absurd (none-some h)
+plain-sound sys o now t ts rest body is h = absurd (none-some _ h)
 
 given-sound : (sys : System) (o : ℕ) (now : Option Entry) (t : Told) (ts rest : List Told) (free : ℕ) (body : Body) → t ≡ record { body = body; known = Free free } → given_cut sys o free body ts ≡ Some rest
     → (g : List Told) × IsAsserted sys o now g × (t ∷ ts ≡ g ++ rest)
@@ -165,7 +165,7 @@ given-sound sys o now t ts rest free (item.New p n b from sig pars) is h =
     let tests = and_parts (nat_lt 0 free && goes_to (sizes_of sys) (length pars) p) (not (is_static sys sig)) test.0 in
     let more = and_parts (nat_lt 0 free) (goes_to (sizes_of sys) (length pars) p) tests.0 in
     more-records sys o now t ts rest _ is (new-asserted sys o now p n b from sig free pars ts rest more.0 more.1 (not-true (is_static sys sig) tests.1) test.1)
-given-sound sys o now t ts rest free body is h = absurd (none-some h)
+given-sound sys o now t ts rest free body is h = absurd (none-some _ h)
 
 assertion-sound : (sys : System) (o : ℕ) (now : Option Entry) (told rest : List Told) → behind_assertion sys o now told ≡ Some rest → (g : List Told) × IsAsserted sys o now g × (told ≡ g ++ rest)
 assertion-sound sys o now [] rest h = absurd (cc)
@@ -174,7 +174,7 @@ assertion-sound sys o now (t ∷ ts) rest h = by t.known refl h
     by : (known : Known) → t.known ≡ known → assertion_first sys o now t.body known ts ≡ Some rest → (g : List Told) × IsAsserted sys o now g × (t ∷ ts ≡ g ++ rest)
     by Nothing is h = plain-sound sys o now t ts rest t.body (told-is t _ _ refl is) h
     by (Free free) is h = given-sound sys o now t ts rest free t.body (told-is t _ _ refl is) h
-    by known is h = absurd (none-some h)
+    by known is h = absurd (none-some _ h)
 
 -- a call that ends in its assertion is read off
 pub assertion-leaves : (sys : System) (o : ℕ) (now : Option Entry) (told : List Told) → Leaves (IsAsserted sys o now) told (behind_assertion sys o now told)

@@ -1,7 +1,8 @@
 -- Fronts of units, and of calls that end in their assertions, each way.
 use Rattle.std.proofs.Common.{◌≡◌, ℕ, ◌==◌, nat_lt, true, not, ◌&&◌, ◌||◌, List, [], ◌∷◌, ◌++◌, length, Some, refl, inl, inr, ◌⊎◌}
 use Rattle.std.specs.declared.option.Option.{Option}
-use Rattle.std.proofs.lemmas.Bool.{and_parts, or_left, and_from, or_right}
+use Rattle.std.proofs.lemmas.Bool.{and_parts, or_left, and_from, or_right, false≢true}
+use Rattle.std.proofs.lemmas.Option.{none-some}
 use Rattle.qp_model.specs.declared.systems.System.{System}
 use Rattle.qp_model.specs.declared.bodies.Entry.{Entry}
 use Rattle.qp_model.specs.declared.bodies.Body.{Body}
@@ -16,7 +17,6 @@ use Rattle.qp_shapes.specs.ShapeFront.{again_front, new_front, plain_front, give
 use Rattle.qp_shapes.proofs.ShapeSoundLemmas.{passed}
 use Rattle.qp_shapes.proofs.ShapeFrontLemmas.{Front, Leaf, leaf-whole, done-either, lift, release-front-sound, release-front-whole, again-sound, again-whole, new-sound, new-whole}
 use Rattle.qp_shapes.proofs.ShapeRecallLemmas.{recall-sound, recall-whole}
-use Rattle.qp_shapes.proofs.NeverLemmas.{false-true, none-some}
 
 -- a first record that states all
 plain-sound : (sys : System) (o : ℕ) (now : Option Entry) (body : Body) (ts : List Told) → plain_front sys o now body ts ≡ true → Front (plain_first sys o now body) (plain_cut sys o now body) ts
@@ -55,7 +55,7 @@ plain-unit sys o now (item.Post a f l m e) ts back h =
 plain-unit sys o now (item.Full a f l m k) ts back h = leaf-unit sys o now (item.Full a f l m k) ts back (some_static sys || works_on_static now, λ rest. refl) h
 plain-unit sys o now (item.Lifo f l m e) ts back h = leaf-unit sys o now (item.Lifo f l m e) ts back (is_static_entry sys e, λ rest. refl) h
 plain-unit sys o now (item.Defer e) ts back h = leaf-unit sys o now (item.Defer e) ts back (is_static_now now e, λ rest. refl) h
-plain-unit sys o now body ts back h = absurd (none-some h)
+plain-unit sys o now body ts back h = absurd (none-some _ h)
 
 -- or of an assertion
 leaf-cut : (sys : System) (o : ℕ) (now : Option Entry) (body : Body) (ts back : List Told) → Leaf (plain_cut sys o now body) → plain_cut sys o now body (ts ++ back) ≡ Some []
@@ -74,7 +74,7 @@ plain-asserted sys o now (item.NoBlock p n free) ts back h = leaf-cut sys o now 
 plain-asserted sys o now (item.Armed t n counter) ts back h = leaf-cut sys o now (item.Armed t n counter) ts back (true, λ rest. refl) h
 plain-asserted sys o now (item.BadTicks t ticks interval) ts back h =
     leaf-cut sys o now (item.BadTicks t ticks interval) ts back (true, λ rest. refl) h
-plain-asserted sys o now body ts back h = absurd (none-some h)
+plain-asserted sys o now body ts back h = absurd (none-some _ h)
 
 -- a block given out
 given-sound : (sys : System) (o free : ℕ) (body : Body) (ts : List Told) → given_front sys o free body ts ≡ true → Front (given_first sys free body) (given_cut sys o free body) ts
@@ -82,7 +82,7 @@ unfolding given_front given_first given_cut
 given-sound sys o free (item.New p n b from sig pars) ts h =
     let tests = and_parts (nat_lt 0 free && goes_to (sizes_of sys) (length pars) p && not (is_static sys sig)) (new_front sys o p b ts) h in
     lift (nat_lt 0 free && goes_to (sizes_of sys) (length pars) p && not (is_static sys sig)) (behind_new sys p b) (behind_new_cut o p b) ts tests.0 (new-sound sys o p b ts tests.1)
-given-sound sys o free body ts h = absurd (false-true h)
+given-sound sys o free body ts h = absurd (false≢true h)
 
 given-whole : (sys : System) (o free : ℕ) (body : Body) (ts back : List Told) → (given_first sys free body (ts ++ back) ≡ Some []) ⊎ (given_cut sys o free body (ts ++ back) ≡ Some []) → given_front sys o free body ts ≡ true
 unfolding given_front given_first given_cut
@@ -101,11 +101,11 @@ unfolding unit_front_first
 first-sound sys o now body Nothing ts h = plain-sound sys o now body ts h
 first-sound sys o now body (Free free) ts h = given-sound sys o free body ts h
 first-sound sys o now body (Member is) ts h = done-either (unit_first sys o now body (Member is)) (assertion_first sys o now body (Member is)) ts h
-first-sound sys o now body known ts h = absurd (false-true h)
+first-sound sys o now body known ts h = absurd (false≢true h)
 
 member-whole : (body : Body) (ts back : List Told) → member_first body (ts ++ back) ≡ Some [] → is_done (member_first body ts) ≡ true
 member-whole (item.Same sig n) ts back h = leaf-whole (member_first (item.Same sig n)) ts back (true, λ rest. refl) h
-member-whole body ts back h = absurd (none-some h)
+member-whole body ts back h = absurd (none-some _ h)
 
 first-whole : (sys : System) (o : ℕ) (now : Option Entry) (body : Body) (known : Known) (ts back : List Told)
     → (unit_first sys o now body known (ts ++ back) ≡ Some []) ⊎ (assertion_first sys o now body known (ts ++ back) ≡ Some []) → unit_front_first sys o now body known ts ≡ true

@@ -3,6 +3,7 @@ use Rattle.std.proofs.Common.{◌≡◌, ℕ, zero, suc, ◌+◌, ◌==◌, nat_
 use Rattle.std.proofs.lemmas.Bool.{eqb-true}
 use Rattle.std.proofs.lemmas.Bool.Decides.{nat_tests}
 use Rattle.std.specs.declared.option.Option.{Option}
+use Rattle.std.proofs.lemmas.Option.{none-some}
 use Rattle.qp_model.specs.declared.systems.System.{System}
 use Rattle.qp_model.specs.declared.bodies.Entry.{Entry}
 use Rattle.qp_model.specs.declared.bodies.Body.TheVariants as item
@@ -23,7 +24,6 @@ use Rattle.qp_shapes.proofs.ShapeStageLemmas.{run-step, step-run, given-is, made
 use Rattle.qp_shapes.proofs.ShapeRunLemmas.{end_of, is_rising, posting, posts-other}
 use Rattle.qp_shapes.proofs.ShapePublishLemmas.{First, NoMember, Member, first-member}
 use Rattle.qp_shapes.proofs.ShapeReadLemmas.{posted-next, dropped-next, one-cut, no_entry-next}
-use Rattle.qp_shapes.proofs.NeverLemmas.{none-some}
 
 -- some records come to an end from a stage on
 abbrev pub Completes : System → ℕ → PublishStage → Type 0
@@ -146,8 +146,8 @@ next-ends sys o (stage.Referred p r) t x h = post-ends sys o p (entry p.entry.po
 next-ends sys o (stage.Raised e former) t x h = let is = raised-is e former t x h in subst (λ y. Completes sys o y) (sym is.1) (released-ends sys o e)
 next-ends sys o (stage.Posted e) t x h = let is = posted-is e t x h in subst (λ y. Completes sys o y) (sym is.3) (left-ends sys o e.pool e.block is.0 is.1)
 next-ends sys o (stage.Dropped p k d) t x h = let is = dropped-is p k d t x h in subst (λ y. Completes sys o y) (sym is.2) (whole-ends sys o)
-next-ends sys o stage.Whole t x h = absurd (none-some h)
-next-ends sys o stage.Cut t x h = absurd (none-some h)
+next-ends sys o stage.Whole t x h = absurd (none-some _ h)
+next-ends sys o stage.Cut t x h = absurd (none-some _ h)
 
 -- and one behind more of them
 pub run-ends : (sys : System) (o : ℕ) (t : Told) (ts : List Told) (s x : PublishStage) → run sys o (t ∷ ts) s ≡ Some x → Completes sys o x

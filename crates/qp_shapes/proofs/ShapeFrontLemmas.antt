@@ -2,7 +2,8 @@
 use Rattle.std.proofs.Common.{◌≡◌, ℕ, ◌==◌, Bool, true, false, cond, ◌&&◌, ◌||◌, List, [], ◌∷◌, ◌++◌, Some, None, refl, sym, ◌∙◌, ap, subst, inl, inr, ◌⊎◌, append-nil}
 use Rattle.std.specs.declared.option.Option.{Option}
 use Rattle.std.specs.Option.{is_some}
-use Rattle.std.proofs.lemmas.Bool.{and_parts, or_left, and_from, or_cases, or_right}
+use Rattle.std.proofs.lemmas.Bool.{and_parts, or_left, and_from, or_cases, or_right, false≢true}
+use Rattle.std.proofs.lemmas.Option.{none-some}
 use Rattle.qp_model.specs.declared.systems.System.{System}
 use Rattle.qp_model.specs.declared.bodies.Entry.{Entry}
 use Rattle.qp_model.specs.declared.bodies.Body.{Body}
@@ -25,7 +26,6 @@ use Rattle.qp_shapes.proofs.ShapeRunLemmas.{end_of, drops-sound}
 use Rattle.qp_shapes.proofs.ShapeReadLemmas.{drops-whole}
 use Rattle.qp_shapes.proofs.ShapeCompleteLemmas.{released-ends, run-ends, run-on, run-front}
 use Rattle.qp_shapes.proofs.ShapeDecideLemmas.{done-is}
-use Rattle.qp_shapes.proofs.NeverLemmas.{false-true, none-some}
 
 -- with some records behind them, one of two readers reads all
 abbrev pub Front : (List Told → Option (List Told)) → (List Told → Option (List Told)) → List Told → Type 0
@@ -105,13 +105,13 @@ entry-new sys o e (item.Full a f l m k) Nothing ts back h = release-front-whole 
 entry-new sys o e (item.Post a f l m x) Nothing ts back h =
     or_left (is_done (new_first sys e (item.Post a f l m x) Nothing ts)) (is_done (cut_first o (item.Post a f l m x) Nothing ts)) (leaf-whole (new_first sys e (item.Post a f l m x) Nothing) ts back (same_entry x e && had_room sys a f l m, λ rest. refl) h)
 entry-new sys o e (item.Lifo f l m x) Nothing ts back h = or_left (is_done (new_first sys e (item.Lifo f l m x) Nothing ts)) (is_done (cut_first o (item.Lifo f l m x) Nothing ts)) (leaf-whole (new_first sys e (item.Lifo f l m x) Nothing) ts back (same_entry x e, λ rest. refl) h)
-entry-new sys o e body known ts back h = absurd (none-some h)
+entry-new sys o e body known ts back h = absurd (none-some _ h)
 
 entry-cut : (sys : System) (o : ℕ) (e : Entry) (body : Body) (known : Known) (ts back : List Told) → cut_first o body known (ts ++ back) ≡ Some [] → entry_front_first sys o e body known ts ≡ true
 unfolding entry_front_first
 entry-cut sys o e (item.NoEntry a f l m) Nothing ts back h = or_right (is_done (new_first sys e (item.NoEntry a f l m) Nothing ts)) (is_done (cut_first o (item.NoEntry a f l m) Nothing ts)) (leaf-whole (cut_first o (item.NoEntry a f l m) Nothing) ts back (true, λ rest. refl) h)
 entry-cut sys o e (item.NoLifo a f l m) Nothing ts back h = or_right (is_done (new_first sys e (item.NoLifo a f l m) Nothing ts)) (is_done (cut_first o (item.NoLifo a f l m) Nothing ts)) (leaf-whole (cut_first o (item.NoLifo a f l m) Nothing) ts back (a == o, λ rest. refl) h)
-entry-cut sys o e body known ts back h = absurd (none-some h)
+entry-cut sys o e body known ts back h = absurd (none-some _ h)
 
 entry-whole : (sys : System) (o : ℕ) (e : Entry) (told back : List Told) → (behind_entry sys e (told ++ back) ≡ Some []) ⊎ (behind_cut o (told ++ back) ≡ Some []) → entry_front sys o e told ≡ true
 unfolding entry_front
@@ -136,12 +136,12 @@ again-post sys o e (item.Full a f l m k) Nothing ts back h = release-front-whole
 again-post sys o e (item.Post a f l m x) Nothing ts back h =
     or_left (is_done (again_first sys e (item.Post a f l m x) Nothing ts)) (is_done (no_entry_first (item.Post a f l m x) Nothing ts)) (leaf-whole (again_first sys e (item.Post a f l m x) Nothing) ts back (same_entry x e && had_room sys a f l m, λ rest. refl) h)
 again-post sys o e (item.Defer x) Nothing ts back h = or_left (is_done (again_first sys e (item.Defer x) Nothing ts)) (is_done (no_entry_first (item.Defer x) Nothing ts)) (leaf-whole (again_first sys e (item.Defer x) Nothing) ts back (same_entry x e, λ rest. refl) h)
-again-post sys o e body known ts back h = absurd (none-some h)
+again-post sys o e body known ts back h = absurd (none-some _ h)
 
 again-cut : (sys : System) (o : ℕ) (e : Entry) (body : Body) (known : Known) (ts back : List Told) → no_entry_first body known (ts ++ back) ≡ Some [] → again_front_first sys o e body known ts ≡ true
 unfolding again_front_first
 again-cut sys o e (item.NoEntry a f l m) Nothing ts back h = or_right (is_done (again_first sys e (item.NoEntry a f l m) Nothing ts)) (is_done (no_entry_first (item.NoEntry a f l m) Nothing ts)) (leaf-whole (no_entry_first (item.NoEntry a f l m) Nothing) ts back (true, λ rest. refl) h)
-again-cut sys o e body known ts back h = absurd (none-some h)
+again-cut sys o e body known ts back h = absurd (none-some _ h)
 
 pub again-whole : (sys : System) (o : ℕ) (e : Entry) (told back : List Told) → (behind_again sys e (told ++ back) ≡ Some []) ⊎ (behind_no_entry (told ++ back) ≡ Some []) → again_front sys o e told ≡ true
 unfolding again_front
@@ -155,7 +155,7 @@ unfolding new_front_first
 new-first-sound sys o p b (item.Inc q c r) Nothing ts h =
     let tests = and_parts ((q == p) && (c == b)) (entry_front sys o (entry p b r) ts) h in
     lift ((q == p) && (c == b)) (behind_entry sys (entry p b r)) (behind_cut o) ts tests.0 (entry-sound sys o (entry p b r) ts tests.1)
-new-first-sound sys o p b body known ts h = absurd (false-true h)
+new-first-sound sys o p b body known ts h = absurd (false≢true h)
 
 pub new-sound : (sys : System) (o p b : ℕ) (told : List Told) → new_front sys o p b told ≡ true → Front (behind_new sys p b) (behind_new_cut o p b) told
 unfolding new_front
@@ -167,14 +167,14 @@ unfolding new_front_first
 new-post sys o p b (item.Inc q c r) Nothing ts back h =
     let tests = passed ((q == p) && (c == b)) (behind_entry sys (entry p b r) (ts ++ back)) [] h in
     and_from ((q == p) && (c == b)) (entry_front sys o (entry p b r) ts) tests.0 (entry-whole sys o (entry p b r) ts back (inl tests.1))
-new-post sys o p b body known ts back h = absurd (none-some h)
+new-post sys o p b body known ts back h = absurd (none-some _ h)
 
 new-cut : (sys : System) (o p b : ℕ) (body : Body) (known : Known) (ts back : List Told) → new_cut_first o p b body known (ts ++ back) ≡ Some [] → new_front_first sys o p b body known ts ≡ true
 unfolding new_front_first
 new-cut sys o p b (item.Inc q c r) Nothing ts back h =
     let tests = passed ((q == p) && (c == b)) (behind_cut o (ts ++ back)) [] h in
     and_from ((q == p) && (c == b)) (entry_front sys o (entry p b r) ts) tests.0 (entry-whole sys o (entry p b r) ts back (inr tests.1))
-new-cut sys o p b body known ts back h = absurd (none-some h)
+new-cut sys o p b body known ts back h = absurd (none-some _ h)
 
 pub new-whole : (sys : System) (o p b : ℕ) (told back : List Told) → (behind_new sys p b (told ++ back) ≡ Some []) ⊎ (behind_new_cut o p b (told ++ back) ≡ Some []) → new_front sys o p b told ≡ true
 unfolding new_front

@@ -2,6 +2,7 @@
 use Rattle.std.proofs.Common.{◌≡◌, ℕ, zero, suc, ◌==◌, nat_lt, Bool, true, false, ◌&&◌, List, [], ◌∷◌, ◌++◌, length, Some, None, refl, ap, inl, inr, ◌⊎◌, arith}
 use Rattle.std.proofs.lemmas.Bool.Decides.{nat_tests}
 use Rattle.std.specs.declared.option.Option.{Option}
+use Rattle.std.proofs.lemmas.Option.{none-some}
 use Rattle.qp_model.specs.declared.systems.System.{System}
 use Rattle.qp_model.specs.declared.bodies.Entry.{Entry}
 use Rattle.qp_model.specs.declared.bodies.Body.{Body}
@@ -16,7 +17,6 @@ use Rattle.qp_model.specs.Shapes.{Drops, releases_by, MakesNew, MakesBlock, NoBl
 use Rattle.qp_shapes.specs.ShapeUnit.{had_room, is_used, is_static_entry, post_first, behind_post}
 use Rattle.qp_shapes.proofs.ShapeReleaseLemmas.{when-passed, release-sound, release-whole}
 use Rattle.qp_shapes.proofs.ShapePartLemmas.{first-used}
-use Rattle.qp_shapes.proofs.NeverLemmas.{none-some}
 use Rattle.qp_model.proofs.RecordLemmas.{same_entry-is, told-is}
 use Rattle.qp_model.proofs.LineLemmas.{same_entry-refl}
 
@@ -44,7 +44,7 @@ posted-sound sys e (t ∷ ts) rest h = by t.body t.known refl refl h
         let whole : t ≡ plain (item.Full to f l m margin) = told-is t _ _ is_body is_known in
         let behind : ts ≡ rel.0 ++ rest = rel.2 in
         (plain (item.Full to f l m margin) ∷ rel.0, IsRefused to f l m margin rel.0 rel.1 refl, cc)
-    by body known is_body is_known k = absurd (none-some k)
+    by body known is_body is_known k = absurd (none-some _ k)
 
 pub posted-whole : (sys : System) (e : Entry) (g rest : List Told) → Posted sys e g → behind_post sys e (g ++ rest) ≡ Some rest
 posted-whole sys e g rest (IsPosted to f l m room is) = rw (is, same_entry-refl e, room) refl

@@ -1,7 +1,8 @@
 -- Fronts of recalled entries, each way.
 use Rattle.std.proofs.Common.{◌≡◌, ℕ, ◌==◌, Bool, true, false, cond, ◌&&◌, List, [], ◌∷◌, ◌++◌, Some, None, refl, inl, inr, ◌⊎◌}
 use Rattle.std.specs.declared.option.Option.{Option}
-use Rattle.std.proofs.lemmas.Bool.{and_parts, and_from}
+use Rattle.std.proofs.lemmas.Bool.{and_parts, and_from, false≢true}
+use Rattle.std.proofs.lemmas.Option.{none-some}
 use Rattle.qp_model.specs.declared.systems.System.{System}
 use Rattle.qp_model.specs.declared.bodies.Entry.{Entry}
 use Rattle.qp_model.specs.declared.bodies.Body.{Body}
@@ -16,7 +17,6 @@ use Rattle.qp_shapes.specs.ShapeAssertion.{no_lifo_first, behind_no_lifo, recall
 use Rattle.qp_shapes.specs.ShapeFront.{release_front, lifo_front_first, lifo_front, reference_front_first, reference_front, recall_front}
 use Rattle.qp_shapes.proofs.ShapeSoundLemmas.{passed}
 use Rattle.qp_shapes.proofs.ShapeFrontLemmas.{Front, leaf-whole, done-all, lift, release-front-sound, release-front-whole}
-use Rattle.qp_shapes.proofs.NeverLemmas.{false-true, none-some}
 
 through : (test : Bool) (r : Option (List Told)) → test ≡ true → r ≡ Some [] → cond test r None ≡ Some []
 through true r h k = k
@@ -41,12 +41,12 @@ unfolding lifo_front_first
 lifo-post sys o k e (item.Lifo f l m x) Nothing ts back h =
     let tests = passed (same_entry x e) (behind_release k (ts ++ back)) [] h in
     and_from (same_entry x e) (release_front sys o k ts) tests.0 (release-front-whole sys o k ts back tests.1)
-lifo-post sys o k e body known ts back h = absurd (none-some h)
+lifo-post sys o k e body known ts back h = absurd (none-some _ h)
 
 lifo-cut : (sys : System) (o : ℕ) (k e : Entry) (body : Body) (known : Known) (ts back : List Told) → no_lifo_first o body known (ts ++ back) ≡ Some [] → lifo_front_first sys o k e body known ts ≡ true
 unfolding lifo_front_first
 lifo-cut sys o k e (item.NoLifo a f l m) Nothing ts back h = leaf-whole (no_lifo_first o (item.NoLifo a f l m) Nothing) ts back (a == o, λ rest. refl) h
-lifo-cut sys o k e body known ts back h = absurd (none-some h)
+lifo-cut sys o k e body known ts back h = absurd (none-some _ h)
 
 lifo-whole : (sys : System) (o : ℕ) (k e : Entry) (told back : List Told) → (behind_lifo k e (told ++ back) ≡ Some []) ⊎ (behind_no_lifo o (told ++ back) ≡ Some []) → lifo_front sys o k e told ≡ true
 unfolding lifo_front
@@ -61,7 +61,7 @@ unfolding reference_front_first
 reference-first-sound sys o k (item.Inc p b r) Nothing ts h =
     let tests = and_parts ((p == k.pool) && (b == k.block)) (lifo_front sys o k (entry p b r) ts) h in
     lift ((p == k.pool) && (b == k.block)) (behind_lifo k (entry p b r)) (behind_no_lifo o) ts tests.0 (lifo-sound sys o k (entry p b r) ts tests.1)
-reference-first-sound sys o k body known ts h = absurd (false-true h)
+reference-first-sound sys o k body known ts h = absurd (false≢true h)
 
 reference-sound : (sys : System) (o : ℕ) (k : Entry) (told : List Told) → reference_front sys o k told ≡ true → Front (behind_reference k) (behind_recall_reference o k) told
 unfolding reference_front
@@ -73,14 +73,14 @@ unfolding reference_front_first
 reference-post sys o k (item.Inc p b r) Nothing ts back h =
     let tests = passed ((p == k.pool) && (b == k.block)) (behind_lifo k (entry p b r) (ts ++ back)) [] h in
     and_from ((p == k.pool) && (b == k.block)) (lifo_front sys o k (entry p b r) ts) tests.0 (lifo-whole sys o k (entry p b r) ts back (inl tests.1))
-reference-post sys o k body known ts back h = absurd (none-some h)
+reference-post sys o k body known ts back h = absurd (none-some _ h)
 
 reference-cut : (sys : System) (o : ℕ) (k : Entry) (body : Body) (known : Known) (ts back : List Told) → recall_cut_first o k body known (ts ++ back) ≡ Some [] → reference_front_first sys o k body known ts ≡ true
 unfolding reference_front_first
 reference-cut sys o k (item.Inc p b r) Nothing ts back h =
     let tests = passed ((p == k.pool) && (b == k.block)) (behind_no_lifo o (ts ++ back)) [] h in
     and_from ((p == k.pool) && (b == k.block)) (lifo_front sys o k (entry p b r) ts) tests.0 (lifo-whole sys o k (entry p b r) ts back (inr tests.1))
-reference-cut sys o k body known ts back h = absurd (none-some h)
+reference-cut sys o k body known ts back h = absurd (none-some _ h)
 
 reference-whole : (sys : System) (o : ℕ) (k : Entry) (told back : List Told) → (behind_reference k (told ++ back) ≡ Some []) ⊎ (behind_recall_reference o k (told ++ back) ≡ Some []) → reference_front sys o k told ≡ true
 unfolding reference_front

@@ -2,6 +2,7 @@
 use Rattle.std.proofs.Common.{◌≡◌, ℕ, zero, suc, ◌+◌, ◌==◌, Bool, true, false, cond, ◌&&◌, List, [], ◌∷◌, ◌++◌, Some, None, refl, sym, ◌∙◌, ap, inl, inr, arith}
 use Rattle.std.proofs.lemmas.Bool.Decides.{nat_tests}
 use Rattle.std.specs.declared.option.Option.{Option}
+use Rattle.std.proofs.lemmas.Option.{none-some}
 use Rattle.qp_model.specs.declared.bodies.Entry.{Entry}
 use Rattle.qp_model.specs.declared.bodies.Body.{Body}
 use Rattle.qp_model.specs.declared.bodies.Body.TheVariants as item
@@ -9,7 +10,6 @@ use Rattle.qp_model.specs.Told.{Told, Known, Nothing, Left, plain, dropped}
 use Rattle.qp_model.specs.Shapes.{Drops, Releases, releases_by}
 use Rattle.qp_model.proofs.LineLemmas.{same_number}
 use Rattle.qp_shapes.specs.ShapeRelease.{Leaves, when, back_first, behind_back, left_behind, drop_first, behind_drop, behind_release}
-use Rattle.qp_shapes.proofs.NeverLemmas.{none-some}
 use Rattle.qp_model.proofs.RecordLemmas.{told-is}
 
 -- what a reader answers is what stands behind, where it answers that behind each such list, and only there
@@ -46,7 +46,7 @@ back-sound p b d (t ∷ ts) rest h = by t.body t.known refl refl h
         let whole : t ≡ plain (item.Back q n c to) = told-is t _ _ is_body is_known in
         let behind : ts ≡ rest = passed.1 in
         (n, cc)
-    by body known is_body is_known k = absurd (none-some k)
+    by body known is_body is_known k = absurd (none-some _ k)
 
 -- the release of an entry of a pool
 drop-sound : (e : Entry) (told rest : List Told) → behind_drop e told ≡ Some rest → (g : List Told) × Releases e.pool e.block e.name g × (told ≡ g ++ rest)
@@ -74,7 +74,7 @@ drop-sound e (t ∷ ts) rest h = by t.body t.known refl refl h
             let e3 : k ≡ e.name = grind (arith, nat_tests) in
             let whole : t ≡ dropped p b d k (suc left) = told-is t _ _ is_body is_known in
             (dropped e.pool e.block d e.name (suc left) ∷ [], inl (d, left, refl), cc)
-    by body known is_body is_known h = absurd (none-some h)
+    by body known is_body is_known h = absurd (none-some _ h)
 
 drop-whole : (e : Entry) (g rest : List Told) → Releases e.pool e.block e.name g → behind_drop e (g ++ rest) ≡ Some rest
 drop-whole e g rest (inl h) = rw (h.2, same_number e.pool, same_number e.block, same_number e.name) refl

@@ -3,6 +3,7 @@ use Rattle.std.proofs.Common.{◌≡◌, ℕ, zero, suc, ◌==◌, nat_lt, Bool,
 use Rattle.std.proofs.lemmas.Bool.{and_parts, eqb-true}
 use Rattle.std.proofs.lemmas.Bool.Decides.{nat_tests}
 use Rattle.std.specs.declared.option.Option.{Option}
+use Rattle.std.proofs.lemmas.Option.{none-some}
 use Rattle.qp_model.specs.declared.systems.System.{System}
 use Rattle.qp_model.specs.declared.bodies.Entry.{Entry}
 use Rattle.qp_model.specs.declared.bodies.Body.{Body}
@@ -18,7 +19,6 @@ use Rattle.qp_shapes.specs.ShapeUnit.{IsUnit, MakesCall, is_used, goes_to, is_st
 use Rattle.qp_shapes.proofs.ShapeReleaseLemmas.{when-passed, release-sound}
 use Rattle.qp_shapes.proofs.ShapePostLemmas.{Posted, posted-sound, posted-posts, static-entry, entry-static, new-static, new-block, short-no_block, again-static, again-pooled, none-drops, IsRefused}
 use Rattle.qp_shapes.proofs.ShapePartLemmas.{some-static, goes-first, used-first}
-use Rattle.qp_shapes.proofs.NeverLemmas.{none-some}
 use Rattle.qp_model.proofs.RecordLemmas.{same_entry-is, told-is}
 use Rattle.qp_model.proofs.LineLemmas.{same_entry-refl}
 
@@ -183,7 +183,7 @@ block-unit sys o now p n b from sig free pars (t ∷ ts) rest above goes pooled 
         let unit = new-unit sys o now p n b from sig free r pars ts rest above goes pooled test.1 in
         let behind : ts ≡ unit.0 ++ rest = unit.2 in
         (plain (item.Inc p b r) ∷ unit.0, unit.1, cc)
-    by body known is_body is_known k = absurd (none-some k)
+    by body known is_body is_known k = absurd (none-some _ k)
 
 -- a last-in post of a recalled entry, and the release of its deferral
 pub lifo-sound : (k e : Entry) (told rest : List Told) → behind_lifo k e told ≡ Some rest
@@ -200,4 +200,4 @@ lifo-sound k e (t ∷ ts) rest h = by t.body t.known refl refl h
         let rel = release-sound k ts rest test.1 in
         let behind : ts ≡ rel.0 ++ rest = rel.2 in
         (f, l, m, rel.0, rel.1, cc)
-    by body known is_body is_known h = absurd (none-some h)
+    by body known is_body is_known h = absurd (none-some _ h)

@@ -4,6 +4,7 @@ use Rattle.std.proofs.lemmas.Bool.{and_parts, not-true, eqb-true}
 use Rattle.std.proofs.lemmas.Bool.Decides.{nat_tests}
 use Rattle.std.specs.declared.option.Option.{Option}
 use Rattle.std.specs.Option.{option_and_then}
+use Rattle.std.proofs.lemmas.Option.{none-some}
 use Rattle.qp_model.specs.declared.systems.System.{System}
 use Rattle.qp_model.specs.declared.bodies.Entry.{Entry}
 use Rattle.qp_model.specs.declared.bodies.Body.{Body}
@@ -18,13 +19,12 @@ use Rattle.qp_shapes.specs.declared.shape_stage.Posting.{Posting}
 use Rattle.qp_shapes.specs.declared.shape_stage.PublishStage.{PublishStage}
 use Rattle.qp_shapes.specs.declared.shape_stage.PublishStage.TheVariants as stage
 use Rattle.qp_shapes.specs.ShapePublication.{stage_if, released, next_post, published, start_first, given_next, made_next, post_next, reference_next, lock_next, raised_next, left_next, posted_next, dropped_next, next, run}
-use Rattle.qp_shapes.proofs.NeverLemmas.{none-some}
 use Rattle.qp_model.proofs.RecordLemmas.{same_entry-is, told-is}
 
 -- a test that is passed, and the stage behind it
 stage-passed : (test : Bool) (s x : PublishStage) → stage_if test s ≡ Some x → (test ≡ true) × (x ≡ s)
 stage-passed true s x h = (refl, cc)
-stage-passed false s x h = absurd (none-some h)
+stage-passed false s x h = absurd (none-some _ h)
 
 -- the first of more records
 pub run-step : (sys : System) (o : ℕ) (t : Told) (ts : List Told) (s end : PublishStage) → run sys o (t ∷ ts) s ≡ Some end
@@ -52,7 +52,7 @@ given-is p b sig t x h = by t.body t.known refl refl h
         let e2 : c ≡ b = eqb-true c b tests.1 in
         let whole : t ≡ plain (item.Inc q c r) = told-is t _ _ is_body is_known in
         (r, cc, test.1)
-    by body known is_body is_known h = absurd (none-some h)
+    by body known is_body is_known h = absurd (none-some _ h)
 
 pub made-is : (o : ℕ) (e : Entry) (sig : ℕ) (t : Told) (x : PublishStage) → made_next o e sig t.body t.known ≡ Some x → (n set : ℕ) × (t ≡ plain (item.Pub sig n set)) × (x ≡ published o e set)
 unfolding made_next
@@ -64,7 +64,7 @@ made-is o e sig t x h = by t.body t.known refl refl h
         let e1 : s ≡ sig = eqb-true s sig test.0 in
         let whole : t ≡ plain (item.Pub s n set) = told-is t _ _ is_body is_known in
         (n, set, cc, test.1)
-    by body known is_body is_known h = absurd (none-some h)
+    by body known is_body is_known h = absurd (none-some _ h)
 
 pub raised-is : (e : Entry) (former : ℕ) (t : Told) (x : PublishStage) → raised_next e former t.body t.known ≡ Some x → (t ≡ plain (item.Unlock former)) × (x ≡ released e)
 raised-is e former t x h = by t.body t.known refl refl h
@@ -75,7 +75,7 @@ raised-is e former t x h = by t.body t.known refl refl h
         let e1 : c ≡ former = eqb-true c former test.0 in
         let whole : t ≡ plain (item.Unlock c) = told-is t _ _ is_body is_known in
         (cc, test.1)
-    by body known is_body is_known h = absurd (none-some h)
+    by body known is_body is_known h = absurd (none-some _ h)
 
 pub posted-is : (e : Entry) (t : Told) (x : PublishStage) → posted_next e t.body t.known ≡ Some x → (d left : ℕ) × (t ≡ dropped e.pool e.block d e.name left) × (x ≡ left_next e.pool e.block d left)
 posted-is e t x h = by t.body t.known refl refl h
@@ -89,7 +89,7 @@ posted-is e t x h = by t.body t.known refl refl h
         let e3 : k ≡ e.name = grind (arith, nat_tests) in
         let whole : t ≡ dropped p b d k left = told-is t _ _ is_body is_known in
         (d, left, cc, cc)
-    by body known is_body is_known h = absurd (none-some h)
+    by body known is_body is_known h = absurd (none-some _ h)
 
 pub dropped-is : (p b d : ℕ) (t : Told) (x : PublishStage) → dropped_next p b d t.body t.known ≡ Some x → (n : ℕ) × (t ≡ plain (item.Back p n b (d + 1))) × (x ≡ stage.Whole)
 dropped-is p b d t x h = by t.body t.known refl refl h
@@ -102,7 +102,7 @@ dropped-is p b d t x h = by t.body t.known refl refl h
         let e3 : to ≡ d + 1 = grind (arith, nat_tests) in
         let whole : t ≡ plain (item.Back q n c to) = told-is t _ _ is_body is_known in
         (n, cc, test.1)
-    by body known is_body is_known h = absurd (none-some h)
+    by body known is_body is_known h = absurd (none-some _ h)
 
 pub lock-is : (p : Posting) (t : Told) (x : PublishStage) → lock_next p t.body t.known ≡ Some x
     → (former : ℕ) × (t ≡ raised (max former p.to) former) × (x ≡ stage.Posts (record { entry = p.entry; to = p.to; below = p.below; set = p.set; ceiling = ceiling.Rose former }))
@@ -115,7 +115,7 @@ lock-is p t x h = by t.body t.known refl refl h
         let e1 : c ≡ max former p.to = eqb-true c (max former p.to) test.0 in
         let whole : t ≡ raised c former = told-is t _ _ is_body is_known in
         (former, whole ∙ ap (λ y. raised y former) e1, test.1)
-    by body known is_body is_known h = absurd (none-some h)
+    by body known is_body is_known h = absurd (none-some _ h)
 
 pub reference-is : (p : Posting) (t : Told) (x : PublishStage) → reference_next p t.body t.known ≡ Some x → (r : ℕ) × (t ≡ plain (item.Inc p.entry.pool p.entry.block r)) × (x ≡ stage.Referred p r)
 reference-is p t x h = by t.body t.known refl refl h
@@ -129,7 +129,7 @@ reference-is p t x h = by t.body t.known refl refl h
         let e2 : c ≡ p.entry.block = eqb-true c p.entry.block tests.1 in
         let whole : t ≡ plain (item.Inc q c r) = told-is t _ _ is_body is_known in
         (r, cc, test.1)
-    by body known is_body is_known h = absurd (none-some h)
+    by body known is_body is_known h = absurd (none-some _ h)
 
 -- a post, or a queue with no entry left
 pub data PostRecord (sys : System) (p : Posting) (e : Entry) (t : Told) (x : PublishStage) : Type 0 where
@@ -154,7 +154,7 @@ post-is sys p e t x h = by t.body t.known refl refl h
         let e1 : a ≡ p.to = eqb-true a p.to test.0 in
         let whole : t ≡ plain (item.NoEntry a f l m) = told-is t _ _ is_body is_known in
         OfNoEntry f l m (cc) test.1
-    by body known is_body is_known h = absurd (none-some h)
+    by body known is_body is_known h = absurd (none-some _ h)
 
 -- a block for a new event, or the set of a static one
 pub data StartRecord (sys : System) (o : ℕ) (t : Told) (x : PublishStage) : Type 0 where
@@ -175,4 +175,4 @@ start-is sys o t x h = by t.body t.known refl refl h
     by (item.Pub sig n set) Nothing is_body is_known h =
         let test = stage-passed (is_static sys sig) (published o (entry 0 sig 0) set) x h in
         OfSet sig n set (told-is t _ _ is_body is_known) test.0 test.1
-    by body known is_body is_known h = absurd (none-some h)
+    by body known is_body is_known h = absurd (none-some _ h)

@@ -3,6 +3,7 @@ use Rattle.std.proofs.Common.{◌≡◌, ℕ, ◌==◌, nat_lt, Bool, true, fals
 use Rattle.std.proofs.lemmas.Bool.{and_parts, or_cases, eqb-true}
 use Rattle.std.proofs.lemmas.Bool.Decides.{nat_tests}
 use Rattle.std.specs.declared.option.Option.{Option}
+use Rattle.std.proofs.lemmas.Option.{none-some}
 use Rattle.qp_model.specs.declared.systems.System.{System}
 use Rattle.qp_model.specs.declared.bodies.Entry.{Entry}
 use Rattle.qp_model.specs.declared.bodies.Body.{Body}
@@ -20,7 +21,6 @@ use Rattle.qp_shapes.specs.ShapeRelease.{Leaves}
 use Rattle.qp_shapes.proofs.ShapeReleaseLemmas.{leaves}
 use Rattle.qp_shapes.proofs.ShapeSoundLemmas.{passed, static-unit, full-unit, lifo-unit, defer-unit, short-unit, arm-unit, rearm-unit, disarm-unit, idle-unit, again-unit, block-unit, lifo-sound}
 use Rattle.qp_shapes.proofs.ShapeWholeLemmas.{unit-whole}
-use Rattle.qp_shapes.proofs.NeverLemmas.{none-some}
 use Rattle.qp_model.proofs.RecordLemmas.{told-is}
 
 -- a recalled entry
@@ -54,7 +54,7 @@ recall-sound sys o now k told rest h = by (k.pool == 0) refl h
             (subst (λ x. MakesAgain k (plain (item.Inc k.pool x r) ∷ []) (entry k.pool x r)) (sym e2) (again-pooled k r (pooled k.pool some))) in
             let behind : ts ≡ plain (item.Lifo lifo.0 lifo.1 lifo.2 (entry p b r)) ∷ (lifo.3 ++ rest) = lifo.5 in
             (plain (item.Inc p b r) ∷ plain (item.Lifo lifo.0 lifo.1 lifo.2 (entry p b r)) ∷ lifo.3, unit (plain (item.Inc p b r) ∷ []) (entry p b r) lifo.0 lifo.1 lifo.2 lifo.3 again lifo.4, cc)
-        from body known is_body is_known h = absurd (none-some h)
+        from body known is_body is_known h = absurd (none-some _ h)
 
     by : (static : Bool) → (k.pool == 0) ≡ static → cond static (behind_lifo k k told) (behind_reference k told) ≡ Some rest
         → (g : List Told) × IsUnit sys o now (plain (item.Recall k) ∷ g) × (told ≡ g ++ rest)
@@ -103,7 +103,7 @@ plain-sound sys o now t ts rest (item.Defer e) is h = let test = when-passed _ t
 plain-sound sys o now t ts rest (item.Inc p b r) is h = let test = passed _ _ rest h in more-records sys o now t ts rest _ is (again-unit sys o now p b r ts rest test.0 test.1)
 plain-sound sys o now t ts rest (item.Recall k) is h = more-records sys o now t ts rest _ is (recall-sound sys o now k ts rest h)
 plain-sound sys o now t ts rest (item.Flush k) is h = let rel = release-sound k ts rest h in more-records sys o now t ts rest _ is (rel.0, flush-unit sys o now k rel.0 rel.1, rel.2)
-plain-sound sys o now t ts rest body is h = absurd (none-some h)
+plain-sound sys o now t ts rest body is h = absurd (none-some _ h)
 
 -- a block given out
 given-sound : (sys : System) (o : ℕ) (now : Option Entry) (t : Told) (ts rest : List Told) (free : ℕ) (body : Body) → t ≡ record { body = body; known = Free free } → given_first sys free body ts ≡ Some rest
@@ -118,14 +118,14 @@ given-sound sys o now t ts rest free (item.New p n b from sig pars) is h =
     not-true : (b : Bool) → not b ≡ true → b ≡ false
     not-true true h = absurd (cc)
     not-true false h = refl
-given-sound sys o now t ts rest free body is h = absurd (none-some h)
+given-sound sys o now t ts rest free body is h = absurd (none-some _ h)
 
 member-sound : (sys : System) (o : ℕ) (now : Option Entry) (t : Told) (ts rest : List Told) (member : Bool) (body : Body) → t ≡ record { body = body; known = Member member } → member_first body ts ≡ Some rest
     → (g : List Told) × IsUnit sys o now g × (t ∷ ts ≡ g ++ rest)
 unfolding FitsAny Fits Subscribes Unsubscribes
 member-sound sys o now t ts rest true (item.Same sig n) is h = one-record sys o now t ts rest _ is (MakesCall (call.Subscribe sig) Refused refl (n, refl) refl) (cc)
 member-sound sys o now t ts rest false (item.Same sig n) is h = one-record sys o now t ts rest _ is (MakesCall (call.Unsubscribe sig) Refused refl (n, refl) refl) (cc)
-member-sound sys o now t ts rest member body is h = absurd (none-some h)
+member-sound sys o now t ts rest member body is h = absurd (none-some _ h)
 
 unit-sound : (sys : System) (o : ℕ) (now : Option Entry) (told rest : List Told) → behind_unit sys o now told ≡ Some rest → (g : List Told) × IsUnit sys o now g × (told ≡ g ++ rest)
 unit-sound sys o now [] rest h = absurd (cc)
@@ -135,7 +135,7 @@ unit-sound sys o now (t ∷ ts) rest h = by t.known refl h
     by Nothing is h = plain-sound sys o now t ts rest t.body (told-is t _ _ refl is) h
     by (Free free) is h = given-sound sys o now t ts rest free t.body (told-is t _ _ refl is) h
     by (Member member) is h = member-sound sys o now t ts rest member t.body (told-is t _ _ refl is) h
-    by known is h = absurd (none-some h)
+    by known is h = absurd (none-some _ h)
 
 -- a unit is read off
 pub unit-leaves : (sys : System) (o : ℕ) (now : Option Entry) (told : List Told) → Leaves (IsUnit sys o now) told (behind_unit sys o now told)

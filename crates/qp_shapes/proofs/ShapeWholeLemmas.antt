@@ -1,6 +1,6 @@
 -- Each unit is read off the front of a list.
 use Rattle.std.proofs.Common.{◌≡◌, ℕ, ◌==◌, nat_lt, true, false, ◌||◌, List, [], ◌∷◌, ◌++◌, length, Some, None, refl, sym, ◌∙◌, ap, subst, inl, inr, ◌⊎◌, arith, append_assoc, append-nil}
-use Rattle.std.proofs.lemmas.Bool.{or_left, or_right}
+use Rattle.std.proofs.lemmas.Bool.{or_left, or_right, false≢true}
 use Rattle.std.proofs.lemmas.Bool.Decides.{nat_tests}
 use Rattle.std.specs.declared.option.Option.{Option}
 use Rattle.std.specs.Option.{unwrap_or}
@@ -19,7 +19,6 @@ use Rattle.qp_shapes.specs.ShapeUnit.{is_single, IsUnit, SaysValue, MakesCall, F
 use Rattle.qp_shapes.proofs.ShapeReleaseLemmas.{release-whole}
 use Rattle.qp_shapes.proofs.ShapePostLemmas.{Posted, posts-posted, entry-static, new-cases, no-block, again-cases, drops-none, front-is, IsPosted, IsRefused}
 use Rattle.qp_shapes.proofs.ShapePartLemmas.{static-some, first-goes}
-use Rattle.qp_shapes.proofs.NeverLemmas.{false-true}
 
 -- a post of a static entry,
 static-whole : (sys : System) (o : ℕ) (now : Option Entry) (e : Entry) (g rest : List Told) → Posted sys e g → e.pool ≡ 0
@@ -253,10 +252,10 @@ unfolding FitsAny Fits
 call-whole sys o now (call.Post to sig pars margin reserve) answer g rest single h calm = post-whole sys o now to sig pars margin reserve answer g rest h calm
 call-whole sys o now (call.Lifo sig pars reserve) answer g rest single h calm = post_front-whole sys o now sig pars reserve answer g rest h calm
 call-whole sys o now (call.Forward to margin) answer g rest single h calm = forward-whole sys o now to margin answer g rest h calm
-call-whole sys o now (call.Publish sig pars reserve) answer g rest single h calm = absurd (false-true single)
+call-whole sys o now (call.Publish sig pars reserve) answer g rest single h calm = absurd (false≢true single)
 call-whole sys o now call.Defer answer g rest single h calm = defer-whole sys o now answer g rest h calm
 call-whole sys o now call.Recall answer g rest single h calm = recall-whole sys o now answer g rest h calm
-call-whole sys o now call.Flush answer g rest single h calm = absurd (false-true single)
+call-whole sys o now call.Flush answer g rest single h calm = absurd (false≢true single)
 call-whole sys o now (call.Subscribe sig) answer g rest single h calm = subscribe-whole sys o now sig answer g rest h calm
 call-whole sys o now (call.Unsubscribe sig) answer g rest single h calm = unsubscribe-whole sys o now sig answer g rest h calm
 call-whole sys o now (call.Arm t ticks interval) answer g rest single h calm = arm-whole sys o now t ticks interval answer g rest h calm

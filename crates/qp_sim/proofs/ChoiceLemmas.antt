@@ -2,7 +2,7 @@
 use Rattle.std.proofs.Common.{◌≡◌, ℕ, zero, suc, ◌+◌, ◌-◌, ◌<◌, ◌≤◌, ◌==◌, nat_lt, Bool, true, false, ◌&&◌, ◌||◌, List, [], ◌∷◌, ◌++◌, length, take, drop, get_or, refl, sym, ◌∙◌, ap, subst, arith, Option, Some, None, if◌then◌else◌}
 use Rattle.std.specs.List.{count_by, enumerate_from, find, list_all, list_any}
 use Rattle.std.specs.Option.{is_some, option_map}
-use Rattle.std.proofs.lemmas.Bool.{and_parts, or_parts}
+use Rattle.std.proofs.lemmas.Bool.{and_parts, or_parts, and_right}
 use Rattle.std.proofs.lemmas.Bool.Decides.{nat_tests}
 use Rattle.std.proofs.lemmas.List.{get_or_append_left, get_or-append-add, get_or-drop, get_or-map, get_or-take, length-map, take-append-drop}
 use Rattle.std.proofs.lemmas.List.FromFn.{get_or-enumerate_from, length-enumerate_from}
@@ -132,11 +132,6 @@ acted-order last n lane (h ∷ hs) none whole =
     (acted-append last (all_placed 0 (take (h.at - n) lane)) (placed_of h) ∙ acted-whole (acted_last last (all_placed 0 (take (h.at - n) lane))) h parts.0)
     ∙ acted-order h.source h.at (drop (h.at - n) lane) hs halves.1 parts.1
 
--- the stimuli that a source has begun
-and_false : (x : Bool) → (x && false) ≡ false
-and_false true = refl
-and_false false = refl
-
 and_true : (x : Bool) → (x && true) ≡ x
 and_true true = refl
 and_true false = refl
@@ -147,7 +142,7 @@ zero-not k = grind (arith, nat_tests)
 begun-lane : (k : ℕ) (is : List Item) → times (λ x. is_stim x && (x.lane == suc k)) (all_placed 0 is) ≡ 0
 unfolding times
 begun-lane k [] = refl
-begun-lane k (i ∷ is) = rw (zero-not k, and_false (is_some (stim_of i.body))) (omega (arith, begun-lane k is))
+begun-lane k (i ∷ is) = rw (zero-not k, (and_right (is_some (stim_of i.body)) false refl)) (omega (arith, begun-lane k is))
 
 begun-told : (n s : ℕ) (g : List Told) → times (λ x. is_stim x && (x.lane == s)) (all_placed n (source_items g)) ≡ (if n == s then times (λ t. is_some (stim_of t.body)) g else 0)
 unfolding times
@@ -160,7 +155,7 @@ begun-told n s g = go (n == s) refl g
         omega (arith, here, go true e g)
     go false e [] = refl
     go false e (t ∷ g) =
-        let here : one (is_some (stim_of t.body) && (n == s)) ≡ 0 = ap (λ b. one (is_some (stim_of t.body) && b)) e ∙ ap one (and_false (is_some (stim_of t.body))) in
+        let here : one (is_some (stim_of t.body) && (n == s)) ≡ 0 = ap (λ b. one (is_some (stim_of t.body) && b)) e ∙ ap one (and_right (is_some (stim_of t.body)) false refl) in
         omega (arith, here, go false e g)
 
 begun-order : (k n : ℕ) (lane : List Item) (hs : List Happening) → list_all is_whole hs ≡ true → times (λ x. is_stim x && (x.lane == suc k)) (run_order n lane hs) ≡ begun_by (suc k) hs

@@ -34,6 +34,7 @@ use Rattle.qp_sim.specs.Visiting.{Rests, HasStopped, Amounts, Visits}
 use Rattle.qp_sim.proofs.Worlds.{tolds, told-here, told-other, lane-is, own_purse}
 use Rattle.qp_sim.proofs.Beside.{Went, before, behind, lane_there, tolds_first, source-leaves, source-stopped}
 use Rattle.qp_model.proofs.HistoryLemmas.{no-total}
+use Rattle.qp_model.proofs.KnowingLemmas.{told-source}
 
 went-gains : (ts : List ToldItem) (v w : LaneView) → Gains ts v w → KeepsOwn v w → Went ts v w
 went-gains ts v w g own = record {
@@ -67,10 +68,6 @@ went-stops ts v mid w code g e own = record {
 
 coded : (code : ℕ) (mid : LaneView) (w : PlainWorld) → Stops code mid (world_view w) → is_codeless (own_purse w) ≡ false
 coded code mid w e = ap (λ xs. no_code xs && no_code (world_view w).answered) (ap (λ x. x.stops) e)
-
-alone : (g : List Told) → told_alone (map (for_object 0) g) ≡ g
-alone [] = refl
-alone (t ∷ ts) = ap (λ xs. t ∷ xs) (alone ts)
 
 -- Looks draw no number.
 total-off : (x : Word) (i : Item) (is : List Item) → drawn_on x (touch i) ≡ false → total x (i ∷ is) ≡ total x is
@@ -157,7 +154,7 @@ module _ (source former : ℕ) (a b c d e f : PlainWorld) (home : chosen a ≡ 0
     beyond : drop (length (told_by source hs)) (told_alone (lane_told source hs ++ map (for_object 0) g)) ≡ g
     beyond =
         ap (drop (length (told_by source hs)))
-        (map-append (λ t. t.told) (lane_told source hs) (map (for_object 0) g) ∙ ap (λ l. l ++ told_alone (map (for_object 0) g)) (alone (told_by source hs)) ∙ ap (λ l. told_by source hs ++ l) (alone g))
+        (map-append (λ t. t.told) (lane_told source hs) (map (for_object 0) g) ∙ ap (λ l. l ++ told_alone (map (for_object 0) g)) (told-source (told_by source hs)) ∙ ap (λ l. told_by source hs ++ l) (told-source g))
         ∙ drop-append_seam (told_by source hs) g
 
     its : newest hs (world_view d) ≡ record { at = length (world_view a).told; source = source; told = g }

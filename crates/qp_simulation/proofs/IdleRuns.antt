@@ -42,10 +42,9 @@ use Rattle.qp_kernel.specs.Turning.{AreAble, Stands, Terms, kernel_in}
 use Rattle.qp_kernel.specs.Laws.{kept_by}
 use Rattle.qp_kernel.specs.Happenings.{SourcesMarch, begun_by, lane_told, lanes_of, order_of, told_by}
 use Rattle.qp_kernel.proofs.LawfulLemmas.{IsFound, all-found}
-use Rattle.qp_kernel.proofs.DeferredLemmas.{deferred_are_kept}
+use Rattle.qp_kernel.proofs.DeferredLemmas.{deferred_are_kept, no-port}
 use Rattle.qp_kernel.proofs.QuietRuns.{quiet_runs_are_lawful}
 use Rattle.qp_simulation.specs.Left.{IsLeft, IsIdle}
-use Rattle.qp_simulation.proofs.Kernels.{no-port}
 use Rattle.qp_simulation.proofs.LeftLemmas.{zero-told, zero-items, source-told, sources-are}
 use Rattle.qp_simulation.proofs.StoppedRuns.{words-hold, numbers-are, lanes-roomy, count-is}
 use Rattle.qp_simulation.proofs.DoneLemmas.{LeftNone, none-left, take-all}

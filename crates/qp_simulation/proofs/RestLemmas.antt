@@ -23,6 +23,7 @@ use Rattle.qp_dispatch.specs.declared.objects.Turn.TheVariants as turn
 use Rattle.qp_kernel.specs.Turning.{Terms, kernel_in}
 use Rattle.qp_kernel.specs.ZeroEnds.{own_told}
 use Rattle.qp_kernel.proofs.LawfulLemmas.{IsFound, all-found}
+use Rattle.qp_kernel.proofs.DeferredLemmas.{no-port}
 use Rattle.qp_rests.specs.declared.rest.Rest.{Rest}
 use Rattle.qp_rests.specs.Rests.{AreRests, AreRestsIn, IsRestOf}
 use Rattle.qp_turns.specs.declared.objects.Slot.{Slot}
@@ -32,7 +33,6 @@ use Rattle.qp_turns.specs.Turning.{Idled, Stand, TurnsTo}
 use Rattle.qp_turns.proofs.Resting.{rests-still}
 use Rattle.qp_simulation.specs.Left.{IsLeft}
 use Rattle.qp_simulation.specs.Resting.{AreShown, IsShown, RestsAfter}
-use Rattle.qp_simulation.proofs.Kernels.{no-port}
 use Rattle.qp_simulation.proofs.LeftLemmas.{zero-told}
 use Rattle.qp_model.proofs.AbleLemmas.{some-same}
 

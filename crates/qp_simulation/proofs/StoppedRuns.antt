@@ -27,9 +27,10 @@ use Rattle.qp_kernel.specs.Run.{SourcesEnd, IsRun}
 use Rattle.qp_kernel.specs.Happenings.{SourcesHalt, lane_told, lanes_of, order_of}
 use Rattle.qp_kernel.proofs.LawfulLemmas.{lawful}
 use Rattle.qp_simulation.specs.Left.{IsLeft, IsStopped}
-use Rattle.qp_simulation.proofs.Kernels.{no-port, one-order}
+use Rattle.qp_simulation.proofs.Kernels.{one-order}
 use Rattle.qp_simulation.proofs.LeftLemmas.{facts-are, zero-told, zero-items, source-told, sources-are}
 use Rattle.qp_kernel.specs.Turning.{Terms, kernel_in}
+use Rattle.qp_kernel.proofs.DeferredLemmas.{no-port}
 
 module _ (sys : System) (stimuli : List (List Stim)) (lanes : List (List Rec)) (v : LaneView) (left : IsLeft sys stimuli lanes v) (j : Journal) (at : j.lanes ≡ lanes) where
   pub words-hold : Words sys j.lanes

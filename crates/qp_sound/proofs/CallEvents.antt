@@ -1,8 +1,9 @@
 -- Events of entries; a take does what its clause says.
-use Rattle.std.proofs.Common.{◌≡◌, ℕ, zero, suc, ◌+◌, ◌-◌, ◌<◌, ◌≤◌, ◌==◌, nat_lt, nat_le, true, false, ◌&&◌, List, [], ◌∷◌, length, slice_get, refl, sym, ◌∙◌, ap, subst, arith, IsTrue, Option, Some, None}
+use Rattle.std.proofs.Common.{◌≡◌, ℕ, suc, ◌+◌, ◌-◌, ◌<◌, ◌≤◌, ◌==◌, nat_lt, nat_le, true, false, ◌&&◌, List, [], ◌∷◌, length, slice_get, refl, sym, ◌∙◌, ap, subst, arith, IsTrue, Option, Some, None}
 use Rattle.std.specs.Option.{option_map_or}
 use Rattle.std.proofs.lemmas.Bool.{and_from, and_parts}
 use Rattle.std.proofs.lemmas.Bool.Decides.{nat_tests}
+use Rattle.std.proofs.lemmas.Option.{slice_get_within, same_Some}
 use Rattle.qp_chart.specs.StateTree.{has}
 use Rattle.qp_model.specs.declared.record.Rec.{Rec}
 use Rattle.qp_model.specs.declared.words.Word.TheVariants as word
@@ -67,11 +68,6 @@ event-to sys ev h =
     same-true : (x y : ℕ) → x ≡ y → (x == y) ≡ true
     same-true x y k = grind (arith, nat_tests)
 
-there : {X : Type 0} (xs : List X) (i : ℕ) (x : X) → slice_get xs i ≡ Some x → i < length xs
-there [] i x h = absurd (cc)
-there (y ∷ ys) zero x h = omega arith
-there (y ∷ ys) (suc i) x h = let k = there ys i x h in omega (arith, k)
-
 -- static events
 static-good : (sys : System) (sig : ℕ) → params_of sys sig ≡ 0 → is_static sys sig ≡ true → IsTrue (is_event sys (record { sig = sig; pars = [] }))
 unfolding is_static
@@ -82,7 +78,7 @@ static-good sys sig bare h = go (slice_get sys.signals (sig - 4)) refl (and_part
     go (Some d) e k =
         let low : nat_le 4 sig ≡ true = (and_parts _ _ h).0 in
         let from : 4 ≤ sig = grind (arith, nat_tests) in
-        let within = there sys.signals (sig - 4) d e in
+        let within = slice_get_within sys.signals (sig - 4) d e in
         event-to sys (record { sig = sig; pars = [] }) (record { from = from; within = omega (arith, within, from); params = sym bare })
 
 module _ (sys : System) (lanes : List (List Rec)) (order : List ℕ) (world : SoundWorld sys lanes order) where
@@ -124,9 +120,6 @@ pub event-its : (sys : System) (lanes : List (List Rec)) (e : model.Entry) (ev :
 unfolding event_in
 event-its sys lanes e ev is = rw is refl
 
-some-same : (a b : Event) → Some a ≡ Some b → a ≡ b
-some-same a b h = cc
-
 pub held-event : HeldHasEvent
 unfolding view_of
 held-event sys lanes order at spare by stops answered purses h world stand = let e = held-has sys lanes order world h stand.1 in (e.0, e.1)
@@ -135,7 +128,7 @@ pub event-read : EventIsRead
 unfolding view_of
 event-read sys lanes order at spare by stops answered purses h ev world stand cell =
     let e = held-has sys lanes order world h stand.1 in
-    let same : e.0 ≡ ev = some-same e.0 ev (sym e.1 ∙ cell) in
+    let same : e.0 ≡ ev = same_Some e.0 ev (sym e.1 ∙ cell) in
     (event-its sys lanes (entry h.pool h.block h.name) ev (held-same sys lanes order world h stand.1 ∙ cell), subst (IsEvent sys) same (event-from sys e.0 e.2))
 
 -- The front entry is taken.

@@ -1,8 +1,7 @@
 -- The calls on queues do what their clauses say.
-use Rattle.std.proofs.Common.{◌≡◌, ℕ, suc, ◌+◌, ◌-◌, ◌<◌, ◌≤◌, ◌==◌, false, List, [], ◌∷◌, ◌++◌, length, refl, sym, ◌∙◌, ap, arith, inl, inr, Option, Some, None}
+use Rattle.std.proofs.Common.{◌≡◌, ℕ, suc, ◌+◌, ◌-◌, ◌≤◌, false, List, [], ◌∷◌, ◌++◌, length, refl, sym, ◌∙◌, ap, arith, inl, inr, Option, Some, None}
 use Rattle.std.specs.Option.{unwrap_or}
 use Rattle.std.proofs.lemmas.Bool.{lt-ltb}
-use Rattle.std.proofs.lemmas.Bool.Decides.{nat_tests}
 use Rattle.qp_model.specs.declared.record.Rec.{Rec}
 use Rattle.qp_model.specs.declared.words.Word.TheVariants as word
 use Rattle.qp_model.specs.declared.systems.System.{System}
@@ -30,9 +29,7 @@ use Rattle.qp_sound.proofs.Standing.{line-in}
 use Rattle.qp_sound.proofs.NextLemmas.{queue_total}
 use Rattle.qp_sound.proofs.CallParts.{adds, draws-up, line-after, line-same}
 use Rattle.qp_model.proofs.LineLemmas.{same_number}
-
-not_zero : (p : ℕ) → 0 < p → (p == 0) ≡ false
-not_zero p h = grind (arith, nat_tests)
+use Rattle.qp_model.proofs.NumberLemmas.{not-zero}
 
 -- an entry that may be handed in may be posted
 owned : (s : Step) (e : Entry) → SoundWorld s.sys s.lanes s.order → Stands e (before s) → IsOwned s.sys (hands_before s) (entry_of e)
@@ -40,7 +37,7 @@ unfolding entry_of view_of
 owned s (token.Static sig) world h = record { good = rw h refl; token = inl refl }
 owned s (token.Pool k) world h =
     let block = all-stands (names_block s.sys) (Held k.pool k.block k.name) (hands_before s) world.sound.tokens h.1 in
-    record { good = rw (not_zero k.pool h.0) block; token = inr h.1 }
+    record { good = rw (not-zero k.pool h.0) block; token = inr h.1 }
 
 -- the free entries of a queue are those of its counts
 pub room-is : (s : Step) (a f l m : ℕ) → SoundWorld s.sys s.lanes s.order → IsQueue s.sys s.lanes a f l m

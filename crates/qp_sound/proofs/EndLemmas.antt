@@ -145,7 +145,7 @@ names-tokens p b r some (e ∷ es) =
     go false v true eu ev ez later = omega (arith, later)
     go false v false eu ev ez later = rw (swap-eq p e.pool, eu) (omega (arith, later))
 
-none-loose : (p b : ℕ) (u : Bool) (es : List Entry) → count_of (Loose p b u) (tokens_in es) ≡ 0
+pub none-loose : (p b : ℕ) (u : Bool) (es : List Entry) → count_of (Loose p b u) (tokens_in es) ≡ 0
 unfolding times
 none-loose p b u [] = refl
 none-loose p b u (e ∷ es) = count-with (Loose p b u) e (tokens_in es) ∙ go (e.pool == 0) (none-loose p b u es)

@@ -1,7 +1,7 @@
 -- The entries of a queue by the log: as many came as its posts count, and as many went as its takes.
 use Rattle.std.proofs.Common.{◌≡◌, ℕ, zero, suc, ◌+◌, ◌<◌, ◌≤◌, ◌==◌, nat_lt, nat_le, Bool, true, false, ◌&&◌, List, [], ◌∷◌, ◌++◌, length, refl, sym, ◌∙◌, ap, arith, IsTrue}
 use Rattle.std.specs.List.{count_by, filter, list_all}
-use Rattle.std.proofs.lemmas.Bool.{and_from, and_parts}
+use Rattle.std.proofs.lemmas.Bool.{and_from, and_parts, and_right}
 use Rattle.std.proofs.lemmas.Bool.Decides.{nat_tests}
 use Rattle.std.proofs.lemmas.List.Sums.{length-filter}
 use Rattle.qp_model.specs.declared.record.Rec.{Rec}
@@ -139,13 +139,9 @@ enters_on a o (Post to f l m e) h = h
 enters_on a o (Lifo f l m e) h = h
 enters_on a o _ h = absurd (cc)
 
-and_false : (x : Bool) → (x && false) ≡ false
-and_false true = refl
-and_false false = refl
-
 leaves_on : (a o : ℕ) (b : Body) → leaves a (record { of = o; body = b }) ≡ true → drawn_on (word.Queue a) (touch_of o b) ≡ true
 leaves_on a o (Took f l m e) h = (and_parts _ _ h).0
-leaves_on a o _ h = absurd (let no : false ≡ true = sym (and_false (o == a)) ∙ h in cc)
+leaves_on a o _ h = absurd (let no : false ≡ true = sym (and_right (o == a) false refl) ∙ h in cc)
 
 -- what came and went by these operations
 record Moved (a : ℕ) (s t : Line) (is : List Item) : Type 0 where
@@ -163,10 +159,10 @@ moves ring a s (i ∷ is) on may =
     step : (b : Body) → drawn_on (word.Queue a) (touch_of i.of b) ≡ true → line_may ring s b ≡ true → Moved a (line_next s b) (after_from (line ring) (line_next s i.body) is) is
         → Moved a s (after_from (line ring) (line_next s i.body) is) (record { of = i.of; body = b } ∷ is)
     step (Post to f l m e) here right rest =
-        let no : (i.of == a) && false ≡ false = and_false (i.of == a) in
+        let no : (i.of == a) && false ≡ false = and_right (i.of == a) false refl in
         record { came = rw here (omega (arith, rest.came)); went = rw no (omega (arith, rest.went)) }
     step (Lifo f l m e) here right rest =
-        let no : (i.of == a) && false ≡ false = and_false (i.of == a) in
+        let no : (i.of == a) && false ≡ false = and_right (i.of == a) false refl in
         record { came = rw here (omega (arith, rest.came)); went = rw no (omega (arith, rest.went)) }
     step (Took f l m e) here right rest = record { came = omega (arith, rest.came); went = rw here (omega (arith, rest.went)) }
     step _ here right rest = absurd (cc)

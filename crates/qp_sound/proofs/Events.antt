@@ -16,10 +16,11 @@ use Rattle.qp_model.specs.History.{hist}
 use Rattle.qp_model.specs.Machine.{after, is_allowed}
 use Rattle.qp_model.specs.References.{Refs, references, refs_may, refs_next}
 use Rattle.qp_model.specs.Lives.{edge_of, edges, is_empty, refs_at, HasLives, edges_empty}
-use Rattle.qp_model.specs.Knowing.{Facts, given_by, last_given, event_of, event_known, known_of, life_event}
+use Rattle.qp_model.specs.Knowing.{Facts, given_by, last_given, event_of, known_of, life_event}
 use Rattle.qp_model.specs.Settled.{Settled}
 use Rattle.qp_model.proofs.MachineLemmas.{after-keeps}
 use Rattle.qp_model.proofs.KnowingLemmas.{IsLater, known-stays}
+use Rattle.qp_model.proofs.EventLemmas.{event_known-same}
 use Rattle.qp_calls.specs.Counting.{one, times}
 use Rattle.qp_sound.specs.WordStates.{cell_next, cell_after}
 use Rattle.qp_sound.proofs.Times.{times-without_one}
@@ -111,12 +112,6 @@ pub cell-append : (b : ℕ) (e : Option Event) (xs : List Item) (i : Item) → c
 unfolding cell_after
 cell-append b e [] i = refl
 cell-append b e (x ∷ xs) i = cell-append b (cell_next b e x.body) xs i
-
-event_known-same : (a b : Option Event) → event_known a ≡ event_known b → a ≡ b
-event_known-same None None h = refl
-event_known-same None (Some y) h = absurd (cc)
-event_known-same (Some x) None h = absurd (cc)
-event_known-same (Some x) (Some y) h = cc
 
 -- the event of an entry stays, where it is static or its reference was made
 pub event-stays : (sys : System) (xs : List Item) (i : Item) (ys : List Item) → IsLater xs i ys → (e : Entry)

@@ -38,7 +38,7 @@ use Rattle.qp_sound.proofs.EndLemmas.{sum-none}
 use Rattle.qp_model.proofs.ListLemmas.{each-at}
 use Rattle.qp_model.proofs.HistoryLemmas.{no-hist, no-total}
 
-no-items : (n : ℕ) → all_items (empty_lanes n) ≡ []
+pub no-items : (n : ℕ) → all_items (empty_lanes n) ≡ []
 unfolding all_items lane_items
 no-items zero = refl
 no-items (suc n) = no-items n
@@ -48,12 +48,12 @@ unfolding marks_rise lane_items
 no-marks w zero = refl
 no-marks w (suc n) = no-marks w n
 
-no-lane : (n a : ℕ) → lane_of (empty_lanes n) a ≡ []
+pub no-lane : (n a : ℕ) → lane_of (empty_lanes n) a ≡ []
 no-lane zero a = refl
 no-lane (suc n) zero = refl
 no-lane (suc n) (suc a) = no-lane n a
 
-none-numbered : (w : Word) → is_numbered w [] ≡ true
+pub none-numbered : (w : Word) → is_numbered w [] ≡ true
 unfolding is_numbered all_below total
 none-numbered w = refl
 
@@ -65,7 +65,7 @@ none-allowed : {S : Type 0} (m : Machine S) → is_allowed m [] ≡ true
 unfolding is_allowed
 none-allowed m = refl
 
-hist-none : (w : Word) (n : ℕ) → hist w (all_items (empty_lanes n)) ≡ []
+pub hist-none : (w : Word) (n : ℕ) → hist w (all_items (empty_lanes n)) ≡ []
 hist-none w n = ap (hist w) (no-items n) ∙ no-hist w
 
 keeps-none : {S : Type 0} (m : Machine S) (w : Word) (n : ℕ) → Keeps S m w (empty_lanes n)

@@ -6,7 +6,7 @@ use Rattle.std.proofs.lemmas.Bool.Decides.{nat_tests}
 use Rattle.std.proofs.lemmas.List.Sums.{sum_by-cons}
 use Rattle.std.specs.Int.{bit_at}
 use Rattle.std.proofs.lemmas.Nat.Bits.{bit_at-zero, bit_at_cat_low, bit_at_cat_high}
-use Rattle.std.proofs.Math.Nat.{div-add-mod, mul_comm, mul_assoc, pow-succ', mod-lt, mul-div_cancel_left}
+use Rattle.std.proofs.Math.Nat.{div-add-mod, mul_comm, mul_assoc, pow-succ', mod-lt}
 use Rattle.qp_chart.specs.StateTree.{has}
 use Rattle.qp_model.specs.declared.record.Rec.{Rec}
 use Rattle.qp_model.specs.declared.words.Word.TheVariants as word
@@ -26,6 +26,7 @@ use Rattle.qp_calls.specs.Counting.{one}
 use Rattle.qp_sound.specs.WordStates.{set_in}
 use Rattle.qp_sound.specs.Sound.{SoundWorld}
 use Rattle.qp_model.proofs.LifeLemmas.{has-without_same}
+use Rattle.qp_model.proofs.NumberLemmas.{bit-suc}
 
 -- No object is in the set twice.
 abbrev pub are_apart : List ℕ → Bool
@@ -118,9 +119,6 @@ module _ (j n : ℕ) (clear : bit_at n j ≡ 0) where
       go true e v f = let is : j ≡ k = grind (arith, nat_tests) in subst (λ x. bit_at (2 ^ j + n) x ≡ 1) is bit-at
       go false e true f = let lt : j < k = grind (arith, nat_tests) in bit-above k lt
       go false e false f = let lt : k < j = grind (arith, nat_tests) in bit-below k lt
-
-bit-suc : (k : ℕ) → 2 ^ suc k / 2 ≡ 2 ^ k
-bit-suc k = ap (λ n. n / 2) (pow-succ' 2 k) ∙ mul-div_cancel_left (2 ^ k) (omega arith)
 
 -- bit p - 1 of a set tells whether p is in it
 pub bits-has : (ms : List ℕ) → are_apart ms ≡ true → (k : ℕ) → bit_at (bits_of_set ms) k ≡ one (has ms (suc k))

@@ -1,6 +1,7 @@
 -- The lane of a source, by the ends that are found.
 use Rattle.std.proofs.Common.{◌≡◌, ℕ, ◌==◌, Bool, true, false, ◌&&◌, ◌||◌, ◌⊎◌, List, refl, sym, subst, inl, inr}
 use Rattle.std.specs.List.{list_all, filter_map}
+use Rattle.std.proofs.lemmas.Bool.{or_right}
 use Rattle.qp_model.specs.declared.stimulus.Stim.{Stim}
 use Rattle.qp_model.specs.declared.systems.System.{System}
 use Rattle.qp_model.specs.declared.journals.Journal.{Journal}
@@ -32,13 +33,9 @@ allowed stops end spills h = by stops.all_done (may_cut end) stops.before_stimul
     by false true false false false true false e0 e1 e2 e3 e4 e5 e6 h = absurd (cc)
     by false true false false false false spilt e0 e1 e2 e3 e4 e5 e6 h = absurd (cc)
 
-or-true : (b : Bool) → (b || true) ≡ true
-or-true true = refl
-or-true false = refl
-
 is-allowed : (stops : Stops) (end : ℕ) (spills : Bool) (stop : SourceEnd) → flag_of stops stop ≡ true → may_end end spills stop ≡ true → some_may_end stops end spills ≡ true
 is-allowed stops end spills AllDone e h = rw e refl
-is-allowed stops end spills BeforeStimulus e h = rw (e, h) (or-true stops.all_done)
+is-allowed stops end spills BeforeStimulus e h = rw (e, h) (or_right stops.all_done true refl)
 is-allowed stops end spills AfterTry e h = by stops.all_done stops.before_stimulus
   where
     by : (a b : Bool) → (a || (may_cut end && (b || stops.after_try || stops.at_assert || (stops.in_stimulus && spills)))) ≡ true
@@ -69,7 +66,7 @@ unfolding Decides
 flag-runs true P d e = d
 flag-runs false P d e = absurd (cc)
 
-runs-flag : (b : Bool) (P : Type 0) → Decides b P → P → b ≡ true
+pub runs-flag : (b : Bool) (P : Type 0) → Decides b P → P → b ≡ true
 unfolding Decides
 runs-flag true P d p = refl
 runs-flag false P d p = absurd (d p)

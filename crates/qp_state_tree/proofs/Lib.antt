@@ -1,2 +1,3 @@
 -- Lemmas of walks.
 pub mod WalkLemmas
+pub mod PlanLemmas

@@ -14,10 +14,11 @@ use Rattle.qp_model.specs.Told.{Told, plain, for_object}
 use Rattle.qp_model.specs.Calls.{Answer, Granted, Refused, AtQueue, AtPool}
 use Rattle.qp_model.specs.Kernels.{sim, may_try}
 use Rattle.qp_model.specs.Sites.{ring_of}
-use Rattle.qp_model.specs.Shapes.{Fits, MakesBlock, MakesNew, again_by, MakesAgain, NoBlockFor, Posts, PostsNew, PostsOne, PostsToAll, PostsUpTo, Publishes, PublishesFirst, PublishesLast, Drops, releases_by, Releases, raising, restoring}
+use Rattle.qp_model.specs.Shapes.{Fits, MakesBlock, MakesNew, again_by, MakesAgain, NoBlockFor, Posts, PostsNew, PostsOne, PostsToAll, PostsUpTo, Publishes, PublishesFirst, PublishesLast, Drops, releases_by, Releases}
 use Rattle.qp_model.specs.Sources.{CallFits, FiresInVain, SeesEmpty, SeesEntry, Settles, StimFits, Ticks, TicksOne, Tries, priorities}
 use Rattle.qp_model.proofs.FitsLemmas.{all-append}
 use Rattle.qp_calls.specs.LaneView.{LaneView, Grows, Own, own_after, own_of}
+use Rattle.qp_calls.proofs.Sending.{no_restore, no_raise}
 use Rattle.qp_stimulus.specs.Stimulating.{begun}
 
 abbrev pub is_aloof : Body → Bool
@@ -89,25 +90,15 @@ posts_up rings e [] g h = absurd h
 posts_up rings e (a ∷ ms) g (inl h) = posts_one (rings a) e a AtQueue g h
 posts_up rings e (a ∷ ms) g (inr h) = same h.2 (more h.0 h.1 (posts_one (rings a) e a Granted h.0 h.3) (posts_up rings e ms h.1 h.4))
 
-raises : (former : ℕ) (ms : List ℕ) → raising 0 former ms ≡ []
-unfolding raising
-raises former [] = refl
-raises former (a ∷ ms) = refl
-
-restores : (former : ℕ) (ms : List ℕ) → restoring 0 former ms ≡ []
-unfolding restoring
-restores former [] = refl
-restores former (a ∷ ms) = refl
-
 first : (fixed : Bool) (sizes : List ℕ) (sig : ℕ) (pars : List ℕ) (reserve : Option ℕ) (e : Entry) (former : ℕ) (ms : List ℕ) (g : List Told)
     → PublishesFirst fixed sizes 0 sig pars reserve e former ms g → Aloof g
 unfolding PublishesFirst
 first fixed sizes sig pars reserve e former ms g h =
-    same (h.5 ∙ ap (λ x. h.0 ++ (plain (item.Pub sig h.1 h.2) ∷ x)) (raises former ms)) (more h.0 _ (new fixed sizes sig pars reserve h.0 e h.3) refl)
+    same (h.5 ∙ ap (λ x. h.0 ++ (plain (item.Pub sig h.1 h.2) ∷ x)) (no_raise former ms)) (more h.0 _ (new fixed sizes sig pars reserve h.0 e h.3) refl)
 
 last : (e : Entry) (former : ℕ) (ms : List ℕ) (g : List Told) → PublishesLast 0 e former ms g → Aloof g
 unfolding PublishesLast
-last e former ms g h = same (h.2 ∙ ap (λ x. x ++ h.0) (restores former ms)) (drops e h.0 h.1)
+last e former ms g h = same (h.2 ∙ ap (λ x. x ++ h.0) (no_restore former ms)) (drops e h.0 h.1)
 
 publishes : (fixed : Bool) (sizes : List ℕ) (rings : ℕ → ℕ) (sig : ℕ) (pars : List ℕ) (reserve : Option ℕ) (answer : Answer) (g : List Told)
     → Publishes fixed sizes rings 0 sig pars reserve answer g → Aloof g

@@ -1,5 +1,5 @@
 -- What the answers of its calls make of a stimulus.
-use Rattle.std.proofs.Common.{◌≡◌, ℕ, ◌+◌, ◌-◌, ◌<◌, ◌≤◌, ◌==◌, nat_le, Bool, true, false, List, [], ◌∷◌, ◌++◌, map, length, slice_get, refl, sym, ◌∙◌, ap, subst, arith, append_assoc, IsTrue, Option, Some, None, Ok, ◌⊎◌, inl, inr}
+use Rattle.std.proofs.Common.{◌≡◌, ℕ, ◌+◌, ◌-◌, ◌<◌, ◌≤◌, ◌==◌, Bool, true, false, List, [], ◌∷◌, ◌++◌, map, length, refl, sym, ◌∙◌, ap, subst, arith, append_assoc, IsTrue, Option, Some, None, Ok, ◌⊎◌, inl, inr}
 use Rattle.std.specs.Bool.{MatchBool}
 use Rattle.std.proofs.lemmas.Bool.{le-leb}
 use Rattle.std.proofs.lemmas.List.{map-append}
@@ -7,17 +7,15 @@ use Rattle.std.proofs.lemmas.Option.{slice_get_within, slice_get-get_or}
 use Rattle.qp_base.specs.declared.event.Ev.{Ev}
 use Rattle.qp_model.specs.declared.stimulus.Stim.{Stim}
 use Rattle.qp_model.specs.declared.stimulus.Stim.TheVariants as stim
-use Rattle.qp_model.specs.declared.systems.SignalDef.{SignalDef}
 use Rattle.qp_model.specs.declared.systems.System.{System}
 use Rattle.qp_model.specs.declared.systems.TimerDef.{TimerDef}
 use Rattle.qp_model.specs.declared.bodies.Body.{Body}
 use Rattle.qp_model.specs.declared.bodies.Body.TheVariants as item
-use Rattle.qp_model.specs.Told.{Told, Event, plain, for_object}
+use Rattle.qp_model.specs.Told.{Told, plain, for_object}
 use Rattle.qp_model.specs.Calls as call
 use Rattle.qp_model.specs.Calls.{Answer, Call, Granted, Refused, Flushed, AtQueue, AtPool, AtTimer, AtTicks, AtFront, is_assertion}
 use Rattle.qp_model.specs.Parts.{is_static}
 use Rattle.qp_model.specs.Sites.{ring_of}
-use Rattle.qp_model.specs.Sound.{IsSound, IsSoundSignal}
 use Rattle.qp_model.specs.WordLaw.{is_object}
 use Rattle.qp_model.specs.Sources.{CallFits, StimFits, Ticks, TicksOne, FiresInVain, priorities}
 use Rattle.qp_model.proofs.FitsLemmas.{Usual, Ending, Answers as Forms, fits-usual, assertion_of}
@@ -30,14 +28,12 @@ use Rattle.qp_calls.specs.Clauses.{IsEvent, event_of}
 use Rattle.qp_calls.specs.Entries.{did_of}
 use Rattle.qp_calls.specs.Groups.{Answers}
 use Rattle.qp_calls.specs.Ticking.{TicksRate}
-use Rattle.qp_calls.proofs.FirstPool.{at_place}
+use Rattle.qp_calls.proofs.NoteLemmas.{last-snoc}
 use Rattle.qp_stimulus.specs.declared.calling.Called.{Called}
 use Rattle.qp_stimulus.specs.Calling.{Calls, CallsAll, CallsFail, called_of}
 use Rattle.qp_stimulus.proofs.Completing.{ticks-grow}
-use Rattle.qp_stimulus.proofs.Halting.{last-snoc}
 use Rattle.qp_stimulus.specs.Settling.{SeesNone}
 use Rattle.qp_stimulus.proofs.Settled.{is-object, settles}
-use Rattle.qp_model.proofs.ListLemmas.{nothing-left}
 
 -- What a stimulus that keeps to the rules names.
 
@@ -57,23 +53,6 @@ fits-reserve sys ev (Some r) h fixed =
     let is : h.def.fixed ≡ true = rw (le-leb 4 ev.sig h.above_reserved, h.declared) at fixed in
     let not : h.def.fixed ≡ false = h.reserved.1 in
     absurd (cc)
-
--- a static event has no parameters
-pub static-bare : (sys : System) (ev : Event) → IsSound sys → IsEvent sys ev → is_static sys ev.sig ≡ true → ev.pars ≡ []
-unfolding is_static
-static-bare sys ev sound is fixed = go (slice_get sys.signals (ev.sig - 4)) refl
-  where
-    go : (o : Option SignalDef) → slice_get sys.signals (ev.sig - 4) ≡ o → ev.pars ≡ []
-    go None at =
-        let four : nat_le 4 ev.sig ≡ true = le-leb 4 ev.sig is.from in
-        let h : false ≡ true = rw (four, at) at fixed in
-        absurd (cc)
-    go (Some d) at =
-        let four : nat_le 4 ev.sig ≡ true = le-leb 4 ev.sig is.from in
-        let here : d.fixed ≡ true = rw (four, at) at fixed in
-        let params : length ev.pars ≡ d.params = rw at at is.params in
-        let signal = at_place (IsSoundSignal sys.pools) sys.signals sound.signals (ev.sig - 4) d at in
-        nothing-left ev.pars (params ∙ signal.bare here)
 
 -- Values and assertions.
 

@@ -1,8 +1,5 @@
 -- A settle, queue by queue.
-use Rattle.std.proofs.Common.{◌≡◌, ℕ, zero, suc, ◌+◌, ◌<◌, ◌≤◌, ◌==◌, Bool, true, false, List, [], ◌∷◌, ◌++◌, map, length, take, drop, slice_get, get_or, refl, sym, ◌∙◌, ap, subst, arith, append_assoc, IsTrue, Some, inl, inr, if◌then◌else◌}
-use Rattle.std.specs.List.{find}
-use Rattle.std.specs.Option.{is_some}
-use Rattle.std.proofs.lemmas.Bool.{eq-eqb}
+use Rattle.std.proofs.Common.{◌≡◌, ℕ, ◌+◌, ◌<◌, ◌≤◌, List, [], ◌∷◌, ◌++◌, map, length, take, drop, slice_get, get_or, refl, sym, ◌∙◌, ap, subst, arith, append_assoc, IsTrue, Some, inl, inr}
 use Rattle.std.proofs.lemmas.List.{map-append, append-nil, take_all, take_more, take-append-drop}
 use Rattle.std.proofs.lemmas.Option.{slice_get-get_or}
 use Rattle.qp_model.specs.declared.systems.System.{System}
@@ -12,6 +9,7 @@ use Rattle.qp_model.specs.Sites.{object_at}
 use Rattle.qp_model.specs.Told.{Told, plain}
 use Rattle.qp_model.specs.Sources.{SeesEmpty, SeesEntry, Settles, Tries, priorities}
 use Rattle.qp_model.specs.WordLaw.{is_object}
+use Rattle.qp_model.proofs.ObjectLemmas.{object-there}
 use Rattle.qp_calls.specs.declared.answers.Counts as counts
 use Rattle.qp_calls.specs.Tokens.{hands_after, hands_by}
 use Rattle.qp_calls.specs.LaneView.{LaneView, Adds, Grows, GrowsOf, Roomier}
@@ -19,22 +17,9 @@ use Rattle.qp_calls.specs.Clauses.{Sees}
 use Rattle.qp_calls.proofs.Growing.{gains-none, grows-room, grows-then}
 use Rattle.qp_stimulus.specs.Settling.{SeesNone, SeesSome, SettleCut}
 
--- an object of the list is one of the system
-found : (to : ℕ) (ds : List ObjectDef) (k : ℕ) (d : ObjectDef) → slice_get ds k ≡ Some d → d.priority ≡ to → is_some (find (λ x. x.priority == to) ds) ≡ true
-found to [] k d at is = absurd (cc)
-found to (x ∷ xs) zero d at is =
-    let same : x ≡ d = cc in
-    let here : (x.priority == to) ≡ true = eq-eqb x.priority to (ap (λ (y : ObjectDef). y.priority) same ∙ is) in
-    rw here refl
-found to (x ∷ xs) (suc k) d at is = go (x.priority == to) (found to xs k d at is)
-  where
-    go : (u : Bool) → is_some (find (λ y. y.priority == to) xs) ≡ true → is_some (if u then Some x else find (λ y. y.priority == to) xs) ≡ true
-    go true h = refl
-    go false h = h
-
 pub is-object : (sys : System) (k : ℕ) (d : ObjectDef) → slice_get sys.objects k ≡ Some d → IsTrue (is_object sys d.priority)
 unfolding is_object object_at
-is-object sys k d at = found d.priority sys.objects k d at refl
+is-object sys k d at = object-there d.priority sys.objects k d at refl
 
 -- The object at a place of the list.
 pub record At (sys : System) (i : ℕ) (d : ObjectDef) : Type 0 where
@@ -131,7 +116,7 @@ module _ (os : List ℕ) (p : ℕ) (c : counts.Counts) (a v r w : LaneView) (non
     grows = grown;
     fits = subst (λ ps. SeesEntry ps (seen.one ++ one_more)) (sym split) (entry-behind os p others seen.one c.f c.l c.m seen.fits some);
     hands = seen-hands p c v r w room sees ∙ seen.hands;
-    found = record {
+    object-there = record {
       object = p;
       its = object;
       g = plain body.Settle ∷ seen.one;

@@ -1,13 +1,11 @@
 -- How far an object has come, record by record.
-use Rattle.std.proofs.Common.{◌≡◌, ◌∙◌, ℕ, ◌+◌, ◌<◌, ◌≤◌, ◌==◌, Bool, true, false, not, cond, List, [], ◌∷◌, length, drop, get_or, refl, sym, ap, subst, Some, None, arith}
+use Rattle.std.proofs.Common.{◌≡◌, ◌∙◌, ℕ, ◌+◌, ◌<◌, ◌≤◌, ◌==◌, Bool, true, false, not, cond, List, [], ◌∷◌, length, drop, get_or, sym, ap, subst, Some, None, arith}
 use Rattle.std.proofs.lemmas.Bool.Decides.{nat_tests}
 use Rattle.std.proofs.lemmas.List.{drop_all}
 use Rattle.std.proofs.lemmas.List.Sums.{sum_by-cons}
 use Rattle.qp_model.specs.declared.record.Rec.{Rec}
 use Rattle.qp_model.specs.declared.systems.System.{System}
 use Rattle.qp_model.specs.declared.systems.ObjectDef.{ObjectDef}
-use Rattle.qp_model.specs.declared.bodies.Body.{Body}
-use Rattle.qp_model.specs.declared.bodies.Body.TheVariants as body
 use Rattle.qp_model.specs.Ends.{is_turn_mark}
 use Rattle.qp_model.specs.History.{lane_items}
 use Rattle.qp_model.specs.Knowing.{Facts, ceiling_after, records_of, told}
@@ -17,6 +15,7 @@ use Rattle.qp_model.specs.Lawful.{dispatched, facts_of}
 use Rattle.qp_model.specs.OutputSummary.{is_took, taken_in}
 use Rattle.qp_model.specs.Record.{item_of}
 use Rattle.qp_model.specs.Told.{Told}
+use Rattle.qp_model.proofs.KindLemmas.{mark-is-no-take}
 use Rattle.qp_lanes.proofs.ItemLemmas.{items-from, items-none}
 use Rattle.qp_course.specs.Followable.{IsFollowable}
 use Rattle.qp_course.specs.Reading.{LeavesOf, ReadsOn}
@@ -26,10 +25,6 @@ use Rattle.qp_summary.specs.declared.coming.Came.{Came}
 
 abbrev pub one_if : Bool → ℕ
 one_if b = cond b 1 0
-
-mark-is-no-take : (b : Body) → is_turn_mark b ≡ true → is_took b ≡ false
-mark-is-no-take (body.Took f l m e) h = absurd (cc)
-mark-is-no-take _ h = refl
 
 module _ (t : Told) (left : List Told) where
   mark-dispatched : is_turn_mark t.body ≡ true → dispatched (t ∷ left) ≡ dispatched left

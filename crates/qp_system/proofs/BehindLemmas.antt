@@ -9,7 +9,7 @@ use Rattle.std.proofs.lemmas.Bool.Decides.{nat_tests}
 use Rattle.std.proofs.lemmas.Bool.{or_parts}
 use Rattle.std.proofs.lemmas.Option.{none-some}
 use Rattle.qp_names.specs.declared.place.Part.{Part}
-use Rattle.qp_names.specs.Faults.{Fault, fault_if, first_of, first_in}
+use Rattle.qp_names.specs.Faults.{Fault, fault_if, first_in}
 use Rattle.qp_model.specs.declared.systems.PoolDef.{PoolDef}
 use Rattle.qp_model.specs.declared.systems.SignalDef.{SignalDef}
 use Rattle.qp_document.specs.Raw.{Pool, Signal, Chart, Object}
@@ -18,15 +18,11 @@ use Rattle.qp_model.specs.Sound.{SizesAscend}
 use Rattle.qp_document.specs.Views.{pool_view, signal_view}
 use Rattle.qp_system.proofs.PassLemmas.{list_any-map}
 use Rattle.qp_model.proofs.NumberLemmas.{every}
+use Rattle.qp_chart.proofs.ChartTree.{none-both}
 
 none-two : (o later : Option Fault) → option_or o later ≡ None → (o ≡ None) × (later ≡ None)
 none-two None later h = (refl, h)
 none-two (Some f) later h = absurd (none-some f (sym h))
-
--- no fault among some is none of each
-pub none-both : (o : Option Fault) (os : List (Option Fault)) → first_of (o ∷ os) ≡ None → (o ≡ None) × (first_of os ≡ None)
-unfolding first_of
-none-both o os h = none-two o (first_of os) h
 
 -- a test without a fault fails
 pub fault_if-None : (test : Bool) (code : ℕ) (path : List Part) → fault_if test code path ≡ None → test ≡ false

@@ -2,6 +2,7 @@
 use Rattle.std.proofs.Common.{◌≡◌, ℕ, ℤ, pos, List, [], ◌∷◌, map, Some, None, refl, sym, ◌∙◌, ap, subst}
 use Rattle.std.specs.declared.option.Option.{Option}
 use Rattle.std.specs.Option.{option_map}
+use Rattle.std.proofs.lemmas.Option.{same_Some}
 use Rattle.qp_chart.specs.declared.expression.Bound.{Bound}
 use Rattle.qp_chart.specs.declared.actions.Target.{Target}
 use Rattle.qp_chart.specs.declared.actions.Plain as plain
@@ -19,7 +20,6 @@ use Rattle.qp_names.specs.RawNumbers.{variable_names, variable_number, timer_num
 use Rattle.qp_system.specs.Deeds.{receiver_of, deed_of, deeds_of, guard_of}
 use Rattle.qp_document.specs.Views.{chart_view}
 use Rattle.qp_system.proofs.SeenLemmas.{NamesAlike, signal-number, vars, timers}
-use Rattle.qp_system.proofs.PairLemmas.{some-same}
 
 pos-same : (m n : ℕ) → pos m ≡ pos n → m ≡ n
 pos-same m n e = cc
@@ -39,13 +39,13 @@ module _ (n m : Names) (names : NamesAlike n m) (c d : RawChart) (alike : chart_
   other = variable_names d.vars
 
   signal : (q : List ℕ) (s t : ℕ) → signal_number n q ≡ Some s → signal_number m q ≡ Some t → s ≡ t
-  signal q s t h k = some-same s t (sym h ∙ signal-number n m names c d alike q ∙ k)
+  signal q s t h k = same_Some s t (sym h ∙ signal-number n m names c d alike q ∙ k)
 
   timer : (q : List ℕ) (s t : ℕ) → timer_number c q ≡ Some s → timer_number d q ≡ Some t → s ≡ t
-  timer q s t h k = some-same s t (sym h ∙ ap (λ l. number_in 1 l q) (timers n m names c d alike) ∙ k)
+  timer q s t h k = same_Some s t (sym h ∙ ap (λ l. number_in 1 l q) (timers n m names c d alike) ∙ k)
 
   variable : (q : List ℕ) (s t : ℕ) → variable_number c q ≡ Some s → variable_number d q ≡ Some t → s ≡ t
-  variable q s t h k = some-same s t (sym h ∙ ap (λ l. number_in 0 l q) (vars n m names c d alike) ∙ k)
+  variable q s t h k = same_Some s t (sym h ∙ ap (λ l. number_in 0 l q) (vars n m names c d alike) ∙ k)
 
   bound : (i j : ℕ) (e : Term) (a b : Bound) → IsBoundOf c i e a → IsBoundOf d j e b → named own a ≡ named other b
   bound i j e a b h k = h.same ∙ sym k.same
@@ -62,7 +62,7 @@ module _ (n m : Names) (names : NamesAlike n m) (c d : RawChart) (alike : chart_
   receiver : (address : Address) (to at : Target) → IsTargetOf n address to → IsTargetOf m address at → receiver_of to ≡ receiver_of at
   receiver ToMe to at h k = rw (h, k) refl
   receiver (ToObject name) to at (x, found, is) (y, there, its) =
-      let same : x.priority ≡ y.priority = some-same x.priority y.priority (sym (ap (option_map (λ o. o.priority)) found) ∙ names.receivers name ∙ ap (option_map (λ o. o.priority)) there) in
+      let same : x.priority ≡ y.priority = same_Some x.priority y.priority (sym (ap (option_map (λ o. o.priority)) found) ∙ names.receivers name ∙ ap (option_map (λ o. o.priority)) there) in
       rw (is, its) (ap (λ p. Some p) same)
 
   deed-same : (i j : ℕ) (order : Order) (p q : plain.Plain) → IsPlainOf n c i order p → IsPlainOf m d j order q → deed_of own p ≡ deed_of other q
@@ -104,7 +104,7 @@ module _ (n m : Names) (names : NamesAlike n m) (c d : RawChart) (alike : chart_
 
   text-same : (inside among : Option ℕ) (text : List ℕ) (a b : Act) → IsActOfText n c inside text a → IsActOfText m d among text b → deeds_of own a ≡ deeds_of other b
   text-same inside among text a b h k =
-      let same : h.command ≡ k.command = some-same h.command k.command (sym h.read ∙ k.read) in
+      let same : h.command ≡ k.command = same_Some h.command k.command (sym h.read ∙ k.read) in
       act-same (params_in inside) (params_in among) k.command a b (subst (λ x. IsActOf n c (params_in inside) x a) same h.made) k.made
 
   texts-same : (inside among : Option ℕ) (texts : List (List ℕ)) (us vs : List Act) → AreActsOf n c inside texts us → AreActsOf m d among texts vs → map (deeds_of own) us ≡ map (deeds_of other) vs
@@ -127,7 +127,7 @@ module _ (n m : Names) (names : NamesAlike n m) (c d : RawChart) (alike : chart_
   guard-one i j (Some text) None b h k = absurd h
   guard-one i j (Some text) (Some a) None h k = absurd k
   guard-one i j (Some text) (Some a) (Some b) h k =
-      let same : h.term ≡ k.term = some-same h.term k.term (sym h.read ∙ k.read) in
+      let same : h.term ≡ k.term = same_Some h.term k.term (sym h.read ∙ k.read) in
       ap (λ t. Some t) (h.made.same ∙ same ∙ sym k.made.same)
 
   -- the guards of the same text

@@ -2,7 +2,7 @@
 use Rattle.std.proofs.Common.{◌≡◌, ℕ, List, inl, inr, Some, None, Ok, Err, refl, sym, ◌∙◌, ap}
 use Rattle.std.specs.declared.result.Result.{Result}
 use Rattle.std.specs.Str.{IsUtf8}
-use Rattle.std.proofs.lemmas.Option.{none-some}
+use Rattle.std.proofs.lemmas.Option.{none-some, same_Some}
 use Rattle.toml.specs.Parse.{parse_document}
 use Rattle.qp_names.specs.declared.place.Part.{Part}
 use Rattle.qp_names.specs.declared.place.Path.{Path}
@@ -18,13 +18,12 @@ use Rattle.qp_system.specs.SystemLaw.{SystemsAreSound, SystemsHaveNoFault, Refus
 use Rattle.qp_document.specs.Views.{raw_view}
 use Rattle.qp_system.proofs.SeenLemmas.{later-alike}
 use Rattle.qp_system.proofs.SoundLemmas.{system-is_sound}
-use Rattle.qp_system.proofs.PairLemmas.{some-same}
 
 -- bytes are one tree, which is read one way
 pub tree-one : (bytes : List ℕ) (r s : Result Raw Fault) → TreeGives bytes r → TreeGives bytes s → r ≡ s
 unfolding TreeGives
 tree-one bytes r s h k =
-    let same : h.0 ≡ k.0 = some-same h.0 k.0 (sym h.2 ∙ k.2) in
+    let same : h.0 ≡ k.0 = same_Some h.0 k.0 (sym h.2 ∙ k.2) in
     sym h.3 ∙ ap raw_of same ∙ k.3
 
 -- the tables of the same bytes look alike

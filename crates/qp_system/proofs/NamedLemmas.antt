@@ -1,43 +1,20 @@
 -- Charts by their names and numbers.
-use Rattle.std.proofs.Common.{◌≡◌, ℕ, suc, ◌+◌, ◌-◌, ◌<◌, ◌≤◌, Bool, true, false, not, nat_lt, cond, List, [], ◌∷◌, length, map, Some, None, refl, sym, ◌∙◌, ap, arith}
+use Rattle.std.proofs.Common.{◌≡◌, ℕ, suc, ◌+◌, ◌-◌, ◌≤◌, Bool, true, false, not, nat_lt, cond, List, [], ◌∷◌, length, map, Some, None, refl, sym, ◌∙◌, ap, arith}
 use Rattle.std.specs.declared.option.Option.{Option}
 use Rattle.std.specs.Option.{is_none, option_map}
 use Rattle.std.specs.List.{find, position_or_len, slice_get}
 use Rattle.std.specs.Str.{bytes_eq}
 use Rattle.std.proofs.lemmas.Bool.Decides.{nat_tests}
-use Rattle.std.proofs.lemmas.Cmp.{nat_list_eq_equiv}
 use Rattle.std.proofs.lemmas.Option.{none-some}
 use Rattle.qp_names.specs.Numbering.{number_in}
 use Rattle.qp_names.specs.declared.raw.RawChart.{RawChart}
+use Rattle.qp_names.proofs.NumberingLemmas.{number_in-above, bytes_eq-sym}
 use Rattle.qp_system.specs.Between.{chart_named}
 use Rattle.qp_system.specs.SystemOf.{chart_names}
 use Rattle.qp_system.specs.Placed.{chart_place}
 use Rattle.qp_document.specs.Views.{chart_view}
 use Rattle.qp_system.proofs.PlacingLemmas.{find-map}
-
--- a number is no less than the first one
-pub number-above : (k : ℕ) (names : List (List ℕ)) (q : List ℕ) (n : ℕ) → number_in k names q ≡ Some n → k ≤ n
-unfolding number_in
-number-above k [] q n e = absurd (none-some n e)
-number-above k (x ∷ names) q n e = by (λ h. number-above (k + 1) names q n h) (bytes_eq q x) e
-  where
-    by : (number_in (k + 1) names q ≡ Some n → k + 1 ≤ n) → (b : Bool) → cond b (Some k) (number_in (k + 1) names q) ≡ Some n → k ≤ n
-    by later true h = let same : k ≡ n = cc in omega arith
-    by later false h = omega (arith, later h)
-
--- a number is below the first one and the count
-pub number-below : (k : ℕ) (names : List (List ℕ)) (q : List ℕ) (n : ℕ) → number_in k names q ≡ Some n → n < k + length names
-unfolding number_in
-number-below k [] q n e = absurd (none-some n e)
-number-below k (x ∷ names) q n e = by (λ h. number-below (k + 1) names q n h) (bytes_eq q x) e
-  where
-    by : (number_in (k + 1) names q ≡ Some n → n < (k + 1) + length names) → (b : Bool) → cond b (Some k) (number_in (k + 1) names q) ≡ Some n → n < k + length (x ∷ names)
-    by later true h = let same : k ≡ n = cc in omega arith
-    by later false h = omega (arith, later h)
-
--- texts may be compared either way
-bytes_eq-sym : (xs ys : List ℕ) → bytes_eq xs ys ≡ bytes_eq ys xs
-bytes_eq-sym xs ys = nat_list_eq_equiv.symm xs ys
+use Rattle.qp_model.proofs.NumberLemmas.{one-more}
 
 -- the first chart of a name
 abbrev pub first_named : List RawChart → List ℕ → Option RawChart
@@ -65,7 +42,7 @@ number-names k (c ∷ cs) name n h = by (λ e. number-names (k + 1) cs name n e)
         (c, rw start refl, rw found refl)
     by later false test e =
         let rest = later e in
-        let high = number-above (k + 1) (chart_names cs) name n e in
+        let high = number_in-above (k + 1) (chart_names cs) name n e in
         let passed : bytes_eq c.name.bytes name ≡ false = bytes_eq-sym c.name.bytes name ∙ test in
         (rest.0, rw (after high) rest.1, rw passed rest.2)
 
@@ -83,9 +60,6 @@ number-none k (c ∷ cs) name =
 -- the chart of a name, as the file's tables have it
 pub named-view : (charts : List RawChart) (name : List ℕ) → chart_named (map chart_view charts) name ≡ option_map chart_view (first_named charts name)
 named-view charts name = find-map (λ c. bytes_eq c.name name) chart_view charts
-
-one-more : (m n : ℕ) → nat_lt (1 + m) (suc n) ≡ nat_lt m n
-one-more m n = grind (arith, nat_tests)
 
 none-less : (n : ℕ) → nat_lt 0 (suc n) ≡ true
 none-less n = grind (arith, nat_tests)

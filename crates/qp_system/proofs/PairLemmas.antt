@@ -1,13 +1,8 @@
 -- Two lists side by side.
-use Rattle.std.proofs.Common.{◌≡◌, ℕ, zero, suc, List, [], ◌∷◌, length, map, Some, refl, ap, subst}
-use Rattle.std.specs.declared.option.Option.{Option}
+use Rattle.std.proofs.Common.{◌≡◌, ℕ, zero, suc, List, [], ◌∷◌, map, Some, refl, subst}
 use Rattle.std.specs.List.{AllByRecursion, slice_get}
 use Rattle.std.proofs.lemmas.Option.{none-some}
 use Rattle.qp_names.specs.Pairs.{Corresponds}
-
--- what is there is one
-pub some-same : {A : Type 0} (x y : A) → (let o : Option A = Some x in o) ≡ Some y → x ≡ y
-some-same x y h = cc
 
 -- two lists that look alike, each beside its own
 pub pairs-alike : {A B C D : Type 0} (R S : A → B → Type 0) (view : A → C) (told said : B → D) → ((x y : A) (u v : B) → R x u → S y v → view x ≡ view y → told u ≡ said v)
@@ -49,10 +44,3 @@ Corresponds-partner R [] (y ∷ ys) pairs i x at = absurd pairs
 Corresponds-partner R (z ∷ xs) [] pairs i x at = absurd pairs
 Corresponds-partner R (z ∷ xs) (y ∷ ys) pairs zero x at = let same : z ≡ x = cc in (y, refl, subst (λ a. R a y) same pairs.0)
 Corresponds-partner R (z ∷ xs) (y ∷ ys) pairs (suc i) x at = Corresponds-partner R xs ys pairs.1 i x at
-
-pub Corresponds-length : {A B : Type 0} (R : A → B → Type 0) (xs : List A) (ys : List B) → Corresponds R xs ys → length xs ≡ length ys
-unfolding Corresponds
-Corresponds-length R [] [] pairs = refl
-Corresponds-length R [] (y ∷ ys) pairs = absurd pairs
-Corresponds-length R (x ∷ xs) [] pairs = absurd pairs
-Corresponds-length R (x ∷ xs) (y ∷ ys) pairs = ap suc (Corresponds-length R xs ys pairs.1)

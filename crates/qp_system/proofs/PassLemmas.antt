@@ -7,7 +7,6 @@ use Rattle.std.specs.List.{list_any}
 use Rattle.std.proofs.lemmas.List.{drop_more, drop_all, take_more, map-append}
 use Rattle.qp_names.specs.declared.place.Part.{Part}
 use Rattle.qp_names.specs.Faults.{Fault, fault_if, first_of, first_in}
-use Rattle.qp_names.specs.Pairs.{Corresponds}
 use Rattle.std.specs.Prelude.{All}
 use Rattle.qp_names.specs.declared.raw.RawChart.{RawChart}
 use Rattle.qp_names.specs.declared.raw.Names.{Names}
@@ -18,6 +17,7 @@ use Rattle.qp_document.specs.declared.fault.SystemFault.TheVariants.{Memory, Not
 use Rattle.qp_names.specs.declared.place.Part.TheVariants.{Key, Pos}
 use Rattle.qp_names.specs.Keys.{POOL, SIZE}
 use Rattle.qp_names.specs.Codes.{RANGE}
+use Rattle.qp_names.proofs.FaultLemmas.{none-next, none-last}
 use Rattle.qp_model.specs.declared.systems.PoolDef.{PoolDef}
 use Rattle.qp_system.specs.Between.{first_behind, sizes_fault, is_not_above}
 use Rattle.qp_document.specs.Views.{pool_view}
@@ -45,14 +45,6 @@ first-head o os e h = first-here o (first_of os) e h
 pub first-tail : (o : Option Fault) (os : List (Option Fault)) (e : SystemFault) → o ≡ None → IsFirst (first_of os) e → IsFirst (first_of (o ∷ os)) e
 unfolding first_of
 first-tail o os e none h = first-later o (first_of os) e none h
-
-pub none-head : (o : Option Fault) (os : List (Option Fault)) → o ≡ None → first_of os ≡ None → first_of (o ∷ os) ≡ None
-unfolding first_of
-none-head o os none rest = rw none rest
-
-pub none-end : first_of [] ≡ None
-unfolding first_of
-none-end = refl
 
 -- a test that holds gives its fault, and one that fails none
 pub fault_if-holds : (test : Bool) (code : ℕ) (path : List Part) (e : SystemFault) → test ≡ true → e ≡ fault_at code path → IsFirst (fault_if test code path) e
@@ -123,11 +115,11 @@ module _ (xs : List PoolDef) where
 
 -- what is left to pass
 pub passes-tail : {X : Type 0} (o : Option Fault) (os : List (Option Fault)) (r : Result X SystemFault) → o ≡ None → Passes (first_of os) r → Passes (first_of (o ∷ os)) r
-passes-tail o os (Ok x) none h = none-head o os none h
+passes-tail o os (Ok x) none h = none-next o os none h
 passes-tail o os (Err e) none h = first-tail o os e none h
 
 pub passes-last : {X : Type 0} (o : Option Fault) (r : Result X SystemFault) → Passes o r → Passes (first_of (o ∷ [])) r
-passes-last o (Ok x) h = none-head o [] h none-end
+passes-last o (Ok x) h = none-next o [] h none-last
 passes-last o (Err e) h = first-head o [] e h
 
 module _ {X A : Type 0} (f : ℕ → A → Option Fault) (view : X → A) (xs : List X) where
@@ -164,23 +156,6 @@ map-more f xs ys i x inside is so_far =
     let front : take (i + 1) xs ≡ take i xs ++ x ∷ [] = take_more xs i x inside ∙ ap (λ z. take i xs ++ z ∷ []) (sym is) in
     let fronts : map f (take (i + 1) xs) ≡ map f (take i xs) ++ f x ∷ [] = ap (map f) front ∙ map-append f (take i xs) (x ∷ []) in
     rw (fronts, so_far) refl
-
--- one more of each list
-pair-append : {A B : Type 0} (R : A → B → Type 0) (xs : List A) (ys : List B) (x : A) (y : B) → Corresponds R xs ys → R x y → Corresponds R (xs ++ x ∷ []) (ys ++ y ∷ [])
-unfolding Corresponds
-pair-append R [] [] x y h r = (r, tt)
-pair-append R [] (y' ∷ ys) x y h r = absurd h
-pair-append R (x' ∷ xs) [] x y h r = absurd h
-pair-append R (x' ∷ xs) (y' ∷ ys) x y h r = (h.0, pair-append R xs ys x y h.1 r)
-
-pub pair-more : {A B : Type 0} (R : A → B → Type 0) (xs : List A) (ys : List B) (i : ℕ) (x : A) (y : B) → i < length xs → x ≡ get_or xs i x → Corresponds R (take i xs) ys → R x y → Corresponds R (take (i + 1) xs) (ys ++ y ∷ [])
-pair-more R xs ys i x y inside is h r =
-    let item : take (i + 1) xs ≡ take i xs ++ x ∷ [] = take_more xs i x inside ∙ ap (λ z. take i xs ++ z ∷ []) (sym is) in
-    rw item (pair-append R (take i xs) ys x y h r)
-
-pub pair-none : {A B : Type 0} (R : A → B → Type 0) → Corresponds R [] []
-unfolding Corresponds
-pair-none R = tt
 
 -- things seen as they are
 pub map-same : {X : Type 0} (xs : List X) → map (λ x. x) xs ≡ xs

@@ -13,6 +13,7 @@ use Rattle.qp_names.specs.Keys.{CHART, OBJECT, VARS, PRIORITY, THRESHOLD}
 use Rattle.qp_names.specs.Codes.{RANGE, DOUBLE, NO_SUCH_NAME, TOO_MANY}
 use Rattle.qp_names.specs.declared.raw.RawChart.{RawChart}
 use Rattle.qp_names.specs.Faults.{Fault}
+use Rattle.qp_names.proofs.FaultLemmas.{none-next, none-last}
 use Rattle.qp_document.specs.declared.fault.SystemFault.{SystemFault}
 use Rattle.qp_document.specs.declared.raw.RawObject.{RawObject}
 use Rattle.qp_document.specs.Raw.{Chart, Object}
@@ -20,7 +21,7 @@ use Rattle.qp_system.specs.Between.{chart_named, has_vars, timers_of, placing_fa
 use Rattle.qp_system.specs.Passes.{IsFirst}
 use Rattle.qp_document.specs.Refused.{fault_at}
 use Rattle.qp_document.specs.Views.{vars_view, timer_view, chart_view, object_view}
-use Rattle.qp_system.proofs.PassLemmas.{first-head, first-tail, none-head, none-end, fault_if-holds, fault_if-fails, list_any-map}
+use Rattle.qp_system.proofs.PassLemmas.{first-head, first-tail, fault_if-holds, fault_if-fails, list_any-map}
 
 pick : {X A : Type 0} (view : X → A) (b : Bool) (x : X) (l : Option A) (r : Option X) → l ≡ option_map view r
     → cond {A = Option A} b (Some (view x)) l ≡ option_map view (cond {A = Option X} b (Some x) r)
@@ -114,10 +115,10 @@ module _ (charts : List RawChart) (earlier : List RawObject) (k : ℕ) (o : RawO
       pub placed : all_known c o ≡ true → taken ≡ false → o.priority ≤ o.threshold → timers + length c.timer ≤ 64 → faulty ≡ None
       unfolding placing_fault
       placed known once high few =
-          none-head _ _ (fault_if-fails _ _ _ there) (none-head _ _ (fault_if-fails _ _ _ (vars-is ∙ ap not known))
-          (none-head _ _ (fault_if-fails _ _ _ (taken-is ∙ once))
-          (none-head _ _ (fault_if-fails _ _ _ (le-ltb o.threshold o.priority high))
-          (none-head _ _ (fault_if-fails _ _ _ (ap (nat_lt 64) sum-is ∙ le-ltb 64 (timers + length c.timer) few)) none-end))))
+          none-next _ _ (fault_if-fails _ _ _ there) (none-next _ _ (fault_if-fails _ _ _ (vars-is ∙ ap not known))
+          (none-next _ _ (fault_if-fails _ _ _ (taken-is ∙ once))
+          (none-next _ _ (fault_if-fails _ _ _ (le-ltb o.threshold o.priority high))
+          (none-next _ _ (fault_if-fails _ _ _ (ap (nat_lt 64) sum-is ∙ le-ltb 64 (timers + length c.timer) few)) none-last))))
 
 -- one more of a sum
 sum_by-more : {A : Type 0} (f : A → ℕ) (xs : List A) (x : A) → sum_by f (xs ++ x ∷ []) ≡ sum_by f xs + f x

@@ -6,7 +6,7 @@ use Rattle.std.specs.List.{AllByRecursion, find, flat_map, slice_get}
 use Rattle.std.specs.List.Sorted.{IsPermutation}
 use Rattle.std.specs.Str.{bytes_eq}
 use Rattle.std.proofs.lemmas.List.Sorted.{Contains-permutation, IsPermutation-map, IsPermutation-sym}
-use Rattle.std.proofs.lemmas.Option.{slice_get-map}
+use Rattle.std.proofs.lemmas.Option.{slice_get-map, same_Some}
 use Rattle.arrayvec.specs.ArrayString.{ArrayString}
 use Rattle.qp_names.specs.declared.raw.RawTimer.{RawTimer}
 use Rattle.qp_names.specs.declared.raw.RawRow.{RawRow}
@@ -41,7 +41,7 @@ use Rattle.qp_system.proofs.LawLemmas.{raws-alike}
 use Rattle.qp_system.proofs.OnceLemmas.{Rising, rising-one}
 use Rattle.qp_system.proofs.PlacingLemmas.{find-map}
 use Rattle.qp_system.proofs.SeenLemmas.{NamesAlike, names-alike, map-seen, signal-number, state-number, parent-same}
-use Rattle.qp_system.proofs.PairLemmas.{pairs-alike, some-same}
+use Rattle.qp_system.proofs.PairLemmas.{pairs-alike}
 
 -- keys of one name refer to one thing
 refers-same : (f g : List ℕ → Option ℕ) → ((q : List ℕ) → f q ≡ g q) → (x y : Option ArrayString) (p q : Option ℕ) → Refers f x p → Refers g y q → option_map name_view x ≡ option_map name_view y → p ≡ q
@@ -58,7 +58,7 @@ refers-same f g same (Some x) (Some y) (Some p) (Some q) h k e =
 
 module _ (n m : Names) (names : NamesAlike n m) (c d : RawChart) (alike : chart_view c ≡ chart_view d) where
   number : (q r : List ℕ) (s t : ℕ) → q ≡ r → signal_number n q ≡ Some s → signal_number m r ≡ Some t → s ≡ t
-  number q r s t e h k = some-same s t (sym h ∙ signal-number n m names c d alike q ∙ ap (signal_number m) e ∙ k)
+  number q r s t e h k = same_Some s t (sym h ∙ signal-number n m names c d alike q ∙ ap (signal_number m) e ∙ k)
 
   timer-told : (x y : RawTimer) (t u : Timer) → IsTimerOf n x t → IsTimerOf m y u → timer_view x ≡ timer_view y → bare_timer t ≡ bare_timer u
   timer-told x y t u h k e =
@@ -90,7 +90,7 @@ module _ (n m : Names) (names : NamesAlike n m) (c d : RawChart) (alike : chart_
   chart-told s t h k =
       let name : s.name.bytes ≡ t.name.bytes = ap (λ a. a.bytes) h.name ∙ ap (λ v. v.name) alike ∙ sym (ap (λ a. a.bytes) k.name) in
       let bytes : c.init.bytes ≡ d.init.bytes = ap (λ v. v.init) alike in
-      let init : s.init ≡ t.init = some-same s.init t.init (sym h.init ∙ state-number n m names c d alike c.init.bytes ∙ ap (state_number d) bytes ∙ k.init) in
+      let init : s.init ≡ t.init = same_Some s.init t.init (sym h.init ∙ state-number n m names c d alike c.init.bytes ∙ ap (state_number d) bytes ∙ k.init) in
       let own : variable_names s.vars ≡ variable_names c.vars = ap variable_names h.vars in
       let other : variable_names t.vars ≡ variable_names d.vars = ap variable_names k.vars in
       let init_do = acts-same n m names c d alike None None c.init_do d.init_do s.init_do t.init_do h.init_do k.init_do (ap (λ v. v.init_do) alike) in
@@ -146,7 +146,7 @@ module _ (raws tables : List RawChart) (alike : map chart_view raws ≡ map char
   object-told o p d e h k same =
       let name : d.name.bytes ≡ e.name.bytes = ap (λ s. s.bytes) h.name ∙ ap (λ v. v.name) same ∙ sym (ap (λ s. s.bytes) k.name) in
       let named : o.chart.bytes ≡ p.chart.bytes = ap (λ v. v.chart) same in
-      let chart : d.chart ≡ e.chart = some-same d.chart e.chart (sym h.chart ∙ ap (λ l. number_in 1 l o.chart.bytes) chart-names ∙ ap (number_in 1 (chart_names tables)) named ∙ k.chart) in
+      let chart : d.chart ≡ e.chart = same_Some d.chart e.chart (sym h.chart ∙ ap (λ l. number_in 1 l o.chart.bytes) chart-names ∙ ap (number_in 1 (chart_names tables)) named ∙ k.chart) in
       let priority : d.priority ≡ e.priority = h.priority ∙ ap (λ v. v.priority) same ∙ sym k.priority in
       let threshold : d.threshold ≡ e.threshold = h.threshold ∙ ap (λ v. v.threshold) same ∙ sym k.threshold in
       let ring : d.ring ≡ e.ring = h.ring ∙ ap (λ v. v.queue) same ∙ sym k.ring in
@@ -154,7 +154,7 @@ module _ (raws tables : List RawChart) (alike : map chart_view raws ≡ map char
       let own : vars_view o.vars ≡ vars_view p.vars = ap (λ v. v.vars) same in
       let seen : (l : List Table) (i : ℕ) (v : List (List ℕ × ℤ)) → Option (List ℤ) = λ l i v. option_map (λ (t : Table). map (value_seen v) t.vars) (slice_get l (i - 1)) in
       let vars : d.vars ≡ e.vars =
-      some-same d.vars e.vars
+      same_Some d.vars e.vars
       (sym h.vars ∙ first-seen raws d.chart o.vars
       ∙ ap (λ l. seen l d.chart (vars_view o.vars)) alike ∙ ap (λ i. seen (map chart_view tables) i (vars_view o.vars)) chart ∙ ap (λ v. seen (map chart_view tables) e.chart v) own
       ∙ sym (first-seen tables e.chart p.vars) ∙ k.vars) in

@@ -26,10 +26,12 @@ use Rattle.qp_language.specs.Terms.{Term, Address, ToMe, ToObject, Event, Order,
 use Rattle.qp_names.specs.ActionFaults.{is_between, is_static, params_of, params_in, reserve_allowed, event_fits, order_in_range, order_fits, command_in_range, command_fits}
 use Rattle.qp_chart.specs.ActionOf.{IsBoundOf, IsTargetOf, IsEventOf, IsByteOf, IsPlainOf, IsActOf, IsActOfText, IsGuardOf}
 use Rattle.qp_chart.specs.ChartOf.{AreActsOf, IsRowOf, IsStateOf, IsChartOf}
+use Rattle.qp_chart.proofs.LegalLemmas.{Corresponds-length}
 use Rattle.qp_names.specs.RawNumbers.{Refers}
 use Rattle.qp_names.specs.Numbering.{number_in}
 use Rattle.qp_names.specs.Readable.{IsReadableRow, IsReadableState}
 use Rattle.qp_names.specs.RawNumbers.{state_names, timer_names, variable_names, signal_names, object_names, state_number, timer_number, signal_number, signal_named, object_named}
+use Rattle.qp_names.proofs.NumberingLemmas.{number_in-above, number_in-below}
 use Rattle.qp_model.specs.declared.systems.SignalDef.{SignalDef}
 use Rattle.qp_model.specs.declared.systems.System.{System}
 use Rattle.qp_model.specs.Sites.{object_at}
@@ -37,11 +39,11 @@ use Rattle.qp_document.specs.declared.raw.RawObject.{RawObject}
 use Rattle.qp_document.specs.declared.raw.RawSystem.{RawSystem}
 use Rattle.qp_document.specs.Few.{IsFewChart}
 use Rattle.qp_model.specs.SoundChart.{IsSignal, IsDeclared, IsState, IsReceiver, IsTimer, Reaches, IsSoundEvent, IsSoundPlain, IsSoundAct, IsSoundGuard, IsSoundRow, IsSoundState, IsSoundChart}
+use Rattle.qp_model.proofs.ListLemmas.{every-at}
 use Rattle.qp_system.specs.SystemOf.{IsObjectOf, AreObjectsOf}
 use Rattle.qp_system.specs.Within.{signal_name, object_name, names_of}
-use Rattle.qp_system.proofs.NamedLemmas.{number-above, number-below}
-use Rattle.qp_system.proofs.TimerLemmas.{every-at, IsOwned, each-owned}
-use Rattle.qp_system.proofs.PairLemmas.{Corresponds-each, Corresponds-every, Corresponds-length, Corresponds-partner}
+use Rattle.qp_system.proofs.TimerLemmas.{IsOwned, each-owned}
+use Rattle.qp_system.proofs.PairLemmas.{Corresponds-each, Corresponds-every, Corresponds-partner}
 
 -- two tests that pass for all
 all-pass : {A : Type 0} (p q : A → Bool) (xs : List A) → list_all p xs ≡ true → list_all q xs ≡ true → AllByRecursion (λ x. (p x ≡ true) × (q x ≡ true)) xs
@@ -61,11 +63,11 @@ module _ (sys : System) (raw : RawSystem) (signals : sys.signals ≡ raw.signals
   declared q sig h = by (slice_get_cases raw.signals (sig - 4)).1
     where
       low : 4 ≤ sig
-      low = number-above 4 (signal_names names.signals) q sig h
+      low = number_in-above 4 (signal_names names.signals) q sig h
 
       high : sig < 4 + length raw.signals
       high =
-          let below = number-below 4 (signal_names names.signals) q sig h in
+          let below = number_in-below 4 (signal_names names.signals) q sig h in
           let count = length-map raw.signals signal_name in
           let again = length-map (map signal_name raw.signals) (λ (s : _). s.name.bytes) in
           omega (arith, below, count, again)
@@ -129,14 +131,14 @@ module _ (sys : System) (raw : RawSystem) (signals : sys.signals ≡ raw.signals
 
     state-inside : (q : List ℕ) (s : ℕ) → state_number c q ≡ Some s → IsState chart (Some s)
     state-inside q s h =
-        let low = number-above 1 (state_names c.state) q s h in
-        let high = number-below 1 (state_names c.state) q s h in
+        let low = number_in-above 1 (state_names c.state) q s h in
+        let high = number_in-below 1 (state_names c.state) q s h in
         (low, omega (arith, high, states, length-map c.state (λ (s : RawState). s.name.bytes)))
 
     timer-inside : (q : List ℕ) (t : ℕ) → timer_number c q ≡ Some t → IsTimer chart t
     timer-inside q t h =
-        let low = number-above 1 (timer_names c.timer) q t h in
-        let high = number-below 1 (timer_names c.timer) q t h in
+        let low = number_in-above 1 (timer_names c.timer) q t h in
+        let high = number_in-below 1 (timer_names c.timer) q t h in
         (low, omega (arith, high, timers, length-map c.timer (λ (t : _). t.name.bytes)))
 
     state-key : (x : Option ArrayString) (s : Option ℕ) → Refers (state_number c) x s → IsState chart s
@@ -181,7 +183,7 @@ module _ (sys : System) (raw : RawSystem) (signals : sys.signals ≡ raw.signals
     plain-sound : (inside : Option ℕ) (order : Order) (p : plain.Plain) → IsPlainOf names c (params_in inside) order p → order_in_range names order ≡ true → order_fits names inside order ≡ true → IsSoundPlain sys chart inside p
     unfolding IsPlainOf order_in_range order_fits IsSoundPlain
     plain-sound inside (Set var value) p (v, b, is, number, binds) range fits =
-        let below = number-below 0 (variable_names c.vars) var v number in
+        let below = number_in-below 0 (variable_names c.vars) var v number in
         rw is (omega (arith, below, var-count), reaches inside value b binds)
     plain-sound inside (Say value) p (b, is, binds) range fits = rw is (reaches inside value b binds)
     plain-sound inside (Post address e margin reserve) p (to, sig, pars, m, r, is, target, made, mb, rb) range fits =

@@ -9,6 +9,7 @@ use Rattle.std.proofs.lemmas.List.Sums.{sum_by-cons}
 use Rattle.std.proofs.lemmas.List.Elements.{recursion_from_All, All-from_recursion}
 use Rattle.std.proofs.lemmas.List.Sorted.{All-permutation, IsPermutation-map, length_permutation, sum_by-IsPermutation}
 use Rattle.std.proofs.lemmas.Bool.Decides.{nat_tests}
+use Rattle.std.proofs.lemmas.Option.{same_Some}
 use Rattle.qp_names.specs.declared.raw.RawChart.{RawChart}
 use Rattle.qp_names.specs.declared.raw.Names.{Names}
 use Rattle.qp_chart.specs.declared.checked.Chart.{Chart}
@@ -16,7 +17,8 @@ use Rattle.qp_chart.specs.ChartFaults.{chart_fault}
 use Rattle.qp_chart.specs.ChartOf.{IsChartOf, IsTimerOf}
 use Rattle.qp_chart.specs.LegalTree.{IsLegal}
 use Rattle.qp_names.specs.Pairs.{Corresponds}
-use Rattle.qp_chart.proofs.LegalLemmas.{IsLegal-from}
+use Rattle.qp_names.proofs.NumberingLemmas.{number_in-above, number_in-below}
+use Rattle.qp_chart.proofs.LegalLemmas.{IsLegal-from, Corresponds-length}
 use Rattle.qp_model.specs.declared.systems.PoolDef.{PoolDef}
 use Rattle.qp_model.specs.declared.systems.ObjectDef.{ObjectDef}
 use Rattle.qp_model.specs.declared.systems.System.{System}
@@ -34,13 +36,14 @@ use Rattle.qp_document.specs.Views.{pool_view, signal_view, timer_view, chart_vi
 use Rattle.qp_system.specs.Within.{names_of}
 use Rattle.qp_system.proofs.BehindLemmas.{IsPlaced}
 use Rattle.qp_document.proofs.FewLemmas.{raw-is_few, IsInRange, raw-is_in_range}
-use Rattle.qp_system.proofs.NamedLemmas.{number-above, number-below, number-names, named-view}
+use Rattle.qp_system.proofs.NamedLemmas.{number-names, named-view}
 use Rattle.qp_system.proofs.PassedLemmas.{IsPassed, passed-from}
 use Rattle.qp_document.proofs.RangeLemmas.{PoolInRange, SignalInRange, TimerInRange, ObjectInRange}
 use Rattle.qp_system.proofs.SoundChartLemmas.{chart-sound}
-use Rattle.qp_system.proofs.TimerLemmas.{every-two, every-at, every-map, every-flat_map, Fits, timers-fit, IsOwned, each-owned}
-use Rattle.qp_system.proofs.PairLemmas.{Corresponds-every, Corresponds-length, Corresponds-partner, some-same}
+use Rattle.qp_system.proofs.TimerLemmas.{every-map, every-flat_map, Fits, timers-fit, IsOwned, each-owned}
+use Rattle.qp_system.proofs.PairLemmas.{Corresponds-every, Corresponds-partner}
 use Rattle.qp_model.proofs.NumberLemmas.{every}
+use Rattle.qp_model.proofs.ListLemmas.{every-two, every-at}
 
 pub read-few : (bytes : List ℕ) (raw : RawSystem) → TreeGives bytes (Ok (raw_view raw)) → IsFew raw
 unfolding TreeGives
@@ -84,11 +87,11 @@ module _ (names : Names) (raws : List RawChart) (charts : List Chart) (made : Co
   object-sound : (o : RawObject) (d : ObjectDef) → IsObjectOf raws o d → IsGood raws o → IsSoundObject charts d
   object-sound o d r h =
       let c = charts-of o d r in
-      let least = number-above 1 (chart_names raws) o.chart.bytes d.chart r.chart in
-      let most = number-below 1 (chart_names raws) o.chart.bytes d.chart r.chart in
+      let least = number_in-above 1 (chart_names raws) o.chart.bytes d.chart r.chart in
+      let most = number_in-below 1 (chart_names raws) o.chart.bytes d.chart r.chart in
       let count = Corresponds-length (IsChartOf names) raws charts made in
       let low : o.priority ≤ o.threshold = grind (arith, nat_tests, h.0.threshold) in
-      let values : map (first_value o.vars) c.raw.vars ≡ d.vars = some-same _ _ (rw c.is_raw at r.vars) in
+      let values : map (first_value o.vars) c.raw.vars ≡ d.vars = same_Some _ _ (rw c.is_raw at r.vars) in
       record {
         some_priority = rw r.priority h.1.0.0;
         threshold = rw (r.priority, r.threshold) low;

@@ -13,6 +13,7 @@ use Rattle.std.proofs.lemmas.List.Sorted.{All-permutation}
 use Rattle.qp_chart.specs.declared.checked.Chart.{Chart}
 use Rattle.qp_names.specs.declared.raw.RawChart.{RawChart}
 use Rattle.qp_names.specs.Pairs.{Corresponds}
+use Rattle.qp_names.proofs.NumberingLemmas.{number_in-above, number_in-below}
 use Rattle.qp_model.specs.declared.systems.ObjectDef.{ObjectDef}
 use Rattle.qp_model.specs.declared.systems.TimerDef.{TimerDef}
 use Rattle.qp_document.specs.declared.fault.SystemFault.{SystemFault}
@@ -27,7 +28,7 @@ use Rattle.qp_model.specs.Sound.{timer_of, timers_of}
 use Rattle.qp_document.specs.Views.{chart_view, object_view}
 use Rattle.qp_system.proofs.BehindLemmas.{IsPlaced}
 use Rattle.qp_document.proofs.FewLemmas.{IsInRange}
-use Rattle.qp_system.proofs.NamedLemmas.{number-above, number-below, number-none, number-position, named-view}
+use Rattle.qp_system.proofs.NamedLemmas.{number-none, number-position, named-view}
 use Rattle.qp_system.proofs.OrderLemmas.{Ascend-sorted}
 use Rattle.qp_system.proofs.PassedLemmas.{IsPassed, passed-from}
 use Rattle.qp_document.proofs.RangeLemmas.{ObjectInRange}
@@ -71,8 +72,8 @@ all-within raws charts order objects count pairs =
   where
     step : (o : RawObject) (d : ObjectDef) → IsObjectOf raws o d → IsWithin charts d
     step o d made =
-        let low = number-above 1 (chart_names raws) o.chart.bytes d.chart made.chart in
-        let high = number-below 1 (chart_names raws) o.chart.bytes d.chart made.chart in
+        let low = number_in-above 1 (chart_names raws) o.chart.bytes d.chart made.chart in
+        let high = number_in-below 1 (chart_names raws) o.chart.bytes d.chart made.chart in
         (low, omega (arith, high, count, length-map raws (λ (c : RawChart). c.name.bytes)))
 
 -- objects that were sorted and made are those of the file

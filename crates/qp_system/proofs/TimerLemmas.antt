@@ -1,11 +1,11 @@
 -- The time events of a system that was read.
-use Rattle.std.proofs.Common.{◌≡◌, ℕ, zero, suc, ◌-◌, ◌≤◌, ◌==◌, Bool, true, false, List, [], ◌∷◌, ◌++◌, map, Some, None, refl, sym, ap, arith}
+use Rattle.std.proofs.Common.{◌≡◌, ℕ, ◌-◌, ◌≤◌, ◌==◌, Bool, true, false, List, [], ◌∷◌, ◌++◌, map, Some, None, refl, sym, ap, arith}
 use Rattle.std.specs.declared.option.Option.{Option}
 use Rattle.std.specs.Option.{option_map, option_and_then, unwrap_or}
 use Rattle.std.specs.List.{All, AllByRecursion, find, flat_map, slice_get}
 use Rattle.std.proofs.lemmas.Bool.{not-false}
 use Rattle.std.proofs.lemmas.List.Elements.{recursion_from_All}
-use Rattle.std.proofs.lemmas.Option.{none-some, slice_get-map}
+use Rattle.std.proofs.lemmas.Option.{slice_get-map}
 use Rattle.std.proofs.lemmas.Bool.Decides.{nat_tests}
 use Rattle.qp_names.specs.declared.raw.RawTimer.{RawTimer}
 use Rattle.qp_names.specs.declared.raw.RawChart.{RawChart}
@@ -16,28 +16,19 @@ use Rattle.qp_chart.specs.declared.checked.Chart.{Chart}
 use Rattle.qp_names.specs.ActionFaults.{is_static}
 use Rattle.qp_chart.specs.ChartFaults.{chart_fault, frame_fault, timer_fault}
 use Rattle.qp_chart.specs.ChartOf.{IsTimerOf, IsChartOf}
+use Rattle.qp_chart.proofs.ChartTree.{none-both}
 use Rattle.qp_names.specs.RawNumbers.{signal_named, signal_names}
+use Rattle.qp_names.proofs.NumberingLemmas.{number_in-above}
 use Rattle.qp_model.specs.declared.systems.SignalDef.{SignalDef}
 use Rattle.qp_model.specs.declared.systems.ObjectDef.{ObjectDef}
 use Rattle.qp_document.specs.declared.raw.RawObject.{RawObject}
 use Rattle.qp_document.specs.Views.{timer_view}
 use Rattle.qp_system.specs.Within.{signal_name, names_of}
-use Rattle.qp_system.proofs.BehindLemmas.{none-both, fault_if-None, each-in}
-use Rattle.qp_system.proofs.NamedLemmas.{number-above}
+use Rattle.qp_system.proofs.BehindLemmas.{fault_if-None, each-in}
 use Rattle.qp_document.proofs.RangeLemmas.{TimerInRange}
 use Rattle.qp_system.proofs.PairLemmas.{Corresponds-every}
 use Rattle.qp_model.proofs.NumberLemmas.{every-append}
-
--- what two facts give of each thing
-pub every-two : {A : Type 0} (P Q R : A → Type 0) → ((x : A) → P x → Q x → R x) → (xs : List A) → AllByRecursion P xs → AllByRecursion Q xs → AllByRecursion R xs
-every-two P Q R step [] h k = tt
-every-two P Q R step (x ∷ xs) h k = (step x h.0 k.0, every-two P Q R step xs h.1 k.1)
-
--- what holds of each holds of that at a place
-pub every-at : {A : Type 0} (P : A → Type 0) (xs : List A) → AllByRecursion P xs → (i : ℕ) (x : A) → slice_get xs i ≡ Some x → P x
-every-at P [] h i x at = absurd (none-some x at)
-every-at P (y ∷ ys) h zero x at = let same : y ≡ x = cc in rw (sym same) h.0
-every-at P (y ∷ ys) h (suc i) x at = every-at P ys h.1 i x at
+use Rattle.qp_model.proofs.ListLemmas.{every-two}
 
 pub every-map : {A B : Type 0} (P : B → Type 0) (f : A → B) (xs : List A) → AllByRecursion (λ x. P (f x)) xs → AllByRecursion P (map f xs)
 every-map P f [] h = tt
@@ -76,7 +67,7 @@ module _ (signals : List SignalDef) (objects : List RawObject) where
   timer-fits raw t made h =
       let at = static-at raw.signal.bytes t.signal h.0 (ap (option_and_then (λ m. slice_get (map signal_name signals) (m - 4))) (sym made.signal)) in
       record {
-        from_four = number-above 4 (signal_names names.signals) raw.signal.bytes t.signal made.signal;
+        from_four = number_in-above 4 (signal_names names.signals) raw.signal.bytes t.signal made.signal;
         signal = at.0;
         is_signal = at.1;
         static = at.2;

@@ -8,7 +8,7 @@ use Rattle.qp_model.specs.Told.{Told, ToldItem, for_object}
 use Rattle.qp_orders.specs.RunOrder.{has_stim}
 use Rattle.qp_calls.specs.LaneView.{LaneView}
 use Rattle.qp_calls.specs.Notes.{last_code}
-use Rattle.qp_dispatch.proofs.ActLemmas.{last-snoc}
+use Rattle.qp_calls.proofs.NoteLemmas.{last-snoc}
 use Rattle.qp_kernel.specs.Happenings.{lanes_from, lanes_of}
 use Rattle.qp_kernel.specs.Laws.{AllWait}
 use Rattle.qp_kernel.specs.LaneZero.{Agree}

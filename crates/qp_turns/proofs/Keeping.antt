@@ -1,5 +1,5 @@
 -- What all objects keep at rest, in the order of the system.
-use Rattle.std.proofs.Common.{◌≡◌, ℕ, zero, suc, ◌+◌, ◌-◌, ◌<◌, ◌≤◌, ◌==◌, Bool, true, false, cond, List, [], ◌∷◌, ◌++◌, map, refl, sym, ◌∙◌, ap, subst, arith, Option, Some, None, append-nil}
+use Rattle.std.proofs.Common.{◌≡◌, ℕ, zero, suc, ◌+◌, ◌-◌, ◌<◌, ◌≤◌, ◌==◌, Bool, true, false, cond, List, [], ◌∷◌, map, refl, sym, ◌∙◌, ap, subst, arith, Option, Some, None, append-nil}
 use Rattle.std.specs.Prelude.{slice_get}
 use Rattle.std.specs.List.{AllByRecursion, find}
 use Rattle.std.specs.Option.{is_some, option_map}
@@ -13,11 +13,11 @@ use Rattle.qp_model.specs.Sites.{object_at}
 use Rattle.qp_calls.specs.Tokens.{Token}
 use Rattle.qp_calls.specs.Counting.{count_of, times}
 use Rattle.qp_calls.specs.Deferring.{tokens_in}
-use Rattle.qp_calls.proofs.CountLemmas.{count-with}
 use Rattle.qp_model.specs.Sound.{IsSound}
 use Rattle.qp_calls.specs.Clauses.{entry_of}
 use Rattle.qp_calls.specs.LaneView.{LaneView}
 use Rattle.qp_dispatch.specs.Resume.{held_in}
+use Rattle.qp_dispatch.proofs.ActLemmas.{tokens-join}
 use Rattle.qp_kernel.specs.Laws.{kept_by}
 use Rattle.qp_kernel.specs.Stages as stage
 use Rattle.qp_kernel.specs.Stages.{Stage}
@@ -27,16 +27,6 @@ use Rattle.qp_turns.specs.Objects.{AreMade}
 use Rattle.qp_turns.specs.Knowing.{HandsFollow, IsAtRest, IsNamed, KnowsAll, StageIs, kept_count, own_count}
 use Rattle.qp_turns.proofs.Fresh.{kept-none, made-held}
 use Rattle.qp_turns.proofs.SoundObjects.{named}
-
--- the references of two lists of entries together
-tokens-both : (t : Token) (es fs : List model.Entry) → count_of t (tokens_in (es ++ fs)) ≡ count_of t (tokens_in es) + count_of t (tokens_in fs)
-unfolding times
-tokens-both t [] fs = let nil : count_of t [] ≡ 0 = refl in omega (arith, nil)
-tokens-both t (e ∷ es) fs =
-    let whole = count-with t e (tokens_in (es ++ fs)) in
-    let part = count-with t e (tokens_in es) in
-    let later = tokens-both t es fs in
-    omega (arith, whole, part, later)
 
 -- an object stands at each place from n on that the list has, and nowhere else
 abbrev pub Seated : ℕ → List (Option Slot) → List ObjectDef → Type 0
@@ -99,7 +89,7 @@ module _ (keeps : ℕ → Config) (t : Token) where
           let above : AllByRecursion (λ e. n < e.priority) ds = subst (λ m. AllByRecursion (λ e. m < e.priority) ds) here ascend.1 in
           let later = behind (stands-behind n x xs ds above stands.1) (λ k h. seated-here k (seated-behind n x xs (d ∷ ds) seated k h)) in
           let own = stands.0.3 in
-          let both = tokens-both t (keeps d.priority).kept (kept_by keeps ds) in
+          let both = tokens-join t (keeps d.priority).kept (kept_by keeps ds) in
           rw is_slot (omega (arith, later, own, both))
         where
           seated-here : (k : ℕ) → is_some (find (λ e. e.priority == (n + 1) + k) (d ∷ ds)) ≡ true → is_some (find (λ e. e.priority == (n + 1) + k) ds) ≡ true

@@ -5,6 +5,7 @@ use Rattle.std.specs.List.{list_all, list_any}
 use Rattle.std.specs.Option.{is_some}
 use Rattle.std.proofs.lemmas.Bool.Decides.{nat_tests}
 use Rattle.std.proofs.lemmas.List.{map-append}
+use Rattle.std.proofs.lemmas.Bool.{and_right}
 use Rattle.qp_model.specs.declared.systems.System.{System}
 use Rattle.qp_model.specs.declared.systems.ObjectDef.{ObjectDef}
 use Rattle.qp_model.specs.declared.record.Rec.{Rec}
@@ -156,12 +157,8 @@ module _ (acts : Bool) (sys : System) (looks n floor : ℕ) (base : Bool) (v u w
 
 -- A queue that is seen.
 
-and-none : (b : Bool) → (b && false) ≡ false
-and-none true = refl
-and-none false = refl
-
 seen-idle : (p f l m : ℕ) → IsIdleRecord (placed 0 (untold (seen_told p f l m)))
-seen-idle p f l m = record { stim = refl; enters = λ o. refl; leaves = λ o. and-none (0 == o) }
+seen-idle p f l m = record { stim = refl; enters = λ o. refl; leaves = λ o. (and_right (0 == o) false refl) }
 
 -- such a record is no matter of which source acts
 pub none-still : (acts : Bool) (sys : System) (looks : ℕ) (t : ToldItem) (v w : LaneView) → IsIdleRecord (placed 0 (untold t)) → Gains (t ∷ []) v w → InOrder acts sys looks v → (base : Bool) → acts ≡ true → NoneActs base sys v → NoneActs base sys w

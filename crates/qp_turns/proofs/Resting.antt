@@ -1,9 +1,10 @@
 -- Objects at rest: what the course of their records leaves, and that later records of others change nothing of it.
-use Rattle.std.proofs.Common.{◌≡◌, ℕ, ◌<◌, ◌==◌, ◌||◌, Bool, true, false, not, cond, List, [], ◌∷◌, ◌++◌, map, length, reverse, refl, sym, ◌∙◌, ap, subst, inl, inr, Some, arith, append-nil}
+use Rattle.std.proofs.Common.{◌≡◌, ℕ, ◌<◌, ◌==◌, ◌||◌, Bool, true, false, not, cond, List, [], ◌∷◌, ◌++◌, map, length, refl, sym, ◌∙◌, ap, subst, inl, inr, Some, arith, append-nil}
 use Rattle.std.specs.Prelude.{slice_get}
 use Rattle.std.specs.List.{filter}
 use Rattle.std.proofs.lemmas.Bool.Decides.{nat_tests}
-use Rattle.std.proofs.lemmas.List.{reverse-append}
+use Rattle.std.proofs.lemmas.Bool.{or_right}
+use Rattle.std.proofs.lemmas.List.Elements.{filter-append}
 use Rattle.qp_chart.specs.StateTree.{has}
 use Rattle.qp_chart.specs.declared.checked.Chart.{Chart}
 use Rattle.qp_model.specs.declared.bodies.Body.TheVariants as body
@@ -23,7 +24,7 @@ use Rattle.qp_model.specs.Sound.{IsSound}
 use Rattle.qp_model.specs.Standing.{Leaves}
 use Rattle.qp_model.specs.Told.{Told, ToldItem, for_object, plain}
 use Rattle.qp_model.proofs.GroupLemmas.{bare-append}
-use Rattle.qp_orders.proofs.RunLemmas.{filter-append}
+use Rattle.qp_model.proofs.ListLemmas.{has-append, has-reverse}
 use Rattle.qp_calls.specs.LaneView.{LaneView}
 use Rattle.qp_dispatch.specs.Lasts.{config_of}
 use Rattle.qp_kernel.specs.LaneZero.{owed_point, setting, told_pieces}
@@ -46,34 +47,10 @@ use Rattle.qp_turns.proofs.SoundObjects.{numbered}
 
 -- The stack.
 
-has-append : (xs ys : List ℕ) (p : ℕ) → has (xs ++ ys) p ≡ (has xs p || has ys p)
-has-append [] ys p = refl
-has-append (x ∷ xs) ys p = by (x == p) (has-append xs ys p)
-  where
-    by : (b : Bool) → has (xs ++ ys) p ≡ (has xs p || has ys p) → (b || has (xs ++ ys) p) ≡ ((b || has xs p) || has ys p)
-    by true h = refl
-    by false h = h
-
-or-swap : (a b : Bool) → (a || (b || false)) ≡ (b || a)
-or-swap true true = refl
-or-swap true false = refl
-or-swap false true = refl
-or-swap false false = refl
-
-pub has-reverse : (xs : List ℕ) (p : ℕ) → has (reverse xs) p ≡ has xs p
-has-reverse [] p = refl
-has-reverse (x ∷ xs) p =
-    let turned : reverse (x ∷ xs) ≡ reverse xs ++ x ∷ [] = reverse-append (x ∷ []) xs in
-    rw turned (has-append (reverse xs) (x ∷ []) p) ∙ or-swap (has (reverse xs) p) (x == p) ∙ ap (λ b. (x == p) || b) (has-reverse xs p)
-
-or-true : (b : Bool) → (b || true) ≡ true
-or-true true = refl
-or-true false = refl
-
 pub has-last : (front : List ℕ) (p : ℕ) → has (front ++ p ∷ []) p ≡ true
 has-last front p =
     let same : (p == p) ≡ true = grind (arith, nat_tests) in
-    has-append front (p ∷ []) p ∙ ap (λ b. has front p || (b || false)) same ∙ or-true (has front p)
+    has-append front (p ∷ []) p ∙ ap (λ b. has front p || (b || false)) same ∙ or_right (has front p) true refl
 
 -- Records that are none of an object's start and steps.
 

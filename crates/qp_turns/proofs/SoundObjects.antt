@@ -1,5 +1,5 @@
 -- What a sound system says of its objects.
-use Rattle.std.proofs.Common.{◌≡◌, ℕ, ◌-◌, ◌<◌, ◌==◌, cond, Bool, true, false, List, [], ◌∷◌, ◌++◌, append_assoc, refl, sym, ◌∙◌, subst, Some, arith}
+use Rattle.std.proofs.Common.{◌≡◌, ℕ, ◌-◌, ◌<◌, ◌==◌, true, false, List, [], ◌∷◌, ◌++◌, append_assoc, refl, sym, ◌∙◌, Some, arith}
 use Rattle.std.specs.Prelude.{IsTrue}
 use Rattle.std.specs.List.{AllByRecursion, find}
 use Rattle.std.proofs.lemmas.Bool.Decides.{nat_tests}
@@ -12,21 +12,13 @@ use Rattle.qp_model.specs.Sites.{object_at}
 use Rattle.qp_model.specs.Course.{chart_at}
 use Rattle.qp_model.specs.WordLaw.{is_object}
 use Rattle.qp_model.proofs.NumberLemmas.{number-owned}
-use Rattle.qp_calls.proofs.FirstPool.{at_place}
+use Rattle.qp_model.proofs.ObjectLemmas.{found-passes}
+use Rattle.qp_model.proofs.ListLemmas.{every-at}
 use Rattle.qp_dispatch.specs.SoundFor.{IsHome}
 use Rattle.qp_dispatch.specs.Resume.{IsReady}
 use Rattle.qp_dispatch.proofs.SoundAble.{sound-able, sound-ready}
 use Rattle.qp_kernel.specs.Turning.{AreAble, AreNumbered}
 use Rattle.qp_turns.specs.Knowing.{IsNamed}
-
--- what is found has the number asked for, and is one of them
-found-passes : (P : ObjectDef → Type 0) (o : ℕ) (ds : List ObjectDef) (d : ObjectDef) → AllByRecursion P ds → find (λ x. x.priority == o) ds ≡ Some d → P d
-found-passes P o [] d all h = absurd (cc)
-found-passes P o (x ∷ xs) d all h = by (x.priority == o) (λ k. found-passes P o xs d all.1 k) h
-  where
-    by : (b : Bool) → (find (λ y. y.priority == o) xs ≡ Some d → P d) → cond b (Some x) (find (λ y. y.priority == o) xs) ≡ Some d → P d
-    by true go h = let same : x ≡ d = cc in subst P same all.0
-    by false go h = go h
 
 found-self : (front : List ObjectDef) (d : ObjectDef) (ds : List ObjectDef) → AllByRecursion (λ x. x.priority < d.priority) front → find (λ x. x.priority == d.priority) (front ++ d ∷ ds) ≡ Some d
 found-self [] d ds all = let self : (d.priority == d.priority) ≡ true = grind (arith, nat_tests) in rw self refl
@@ -41,7 +33,7 @@ module _ (sys : System) (sound : IsSound sys) where
   numbered d found = let is = sound-object d.priority d found in omega (arith, is.some_priority)
 
   pub able : AreAble sys
-  able d chart found its = sound-able sys sound chart (at_place _ sys.charts sound.charts (d.chart - 1) chart its)
+  able d chart found its = sound-able sys sound chart (every-at _ sys.charts sound.charts (d.chart - 1) chart its)
 
   pub is-object : (d : ObjectDef) → object_at sys d.priority ≡ Some d → IsTrue (is_object sys d.priority)
   unfolding is_object

@@ -24,6 +24,7 @@ use Rattle.qp_calls.specs.LaneView.{Gains, Grows, LaneView, ceiling_in}
 use Rattle.qp_calls.specs.Notes.{last_code}
 use Rattle.qp_compiled.specs.Compiled.{IsCompiled}
 use Rattle.qp_calls.proofs.Growing.{gains-then}
+use Rattle.qp_calls.proofs.NoteLemmas.{last-snoc}
 use Rattle.qp_dispatch.specs.declared.lasting.Lasting.{Lasting}
 use Rattle.qp_dispatch.specs.declared.objects.Object.{Object}
 use Rattle.qp_dispatch.specs.declared.steps.Step.{Step}
@@ -33,7 +34,6 @@ use Rattle.qp_dispatch.specs.Objects.{ObjectStarts, StartsAs, home_of, is_done, 
 use Rattle.qp_dispatch.specs.Resume.{IsReady as ObjectReady, held_in}
 use Rattle.qp_dispatch.specs.Runs.{Setting}
 use Rattle.qp_dispatch.specs.Starting.{StartAsserted, StartDone, StartExhausted, StartSpilled, StartsTo}
-use Rattle.qp_dispatch.proofs.ActLemmas.{last-snoc}
 use Rattle.qp_kernel.specs.Happenings.{IsInOrder, IsOrderEnded, has_no_stim, lanes_of}
 use Rattle.qp_kernel.specs.Laws.{AllWait, OthersWait}
 use Rattle.qp_kernel.specs.Stages as stage

@@ -1,5 +1,5 @@
 -- What is known of objects stays while the lane goes on.
-use Rattle.std.proofs.Common.{◌≡◌, ◌≢◌, ℕ, ◌==◌, cond, Bool, true, false, List, ◌∷◌, ◌++◌, length, refl, sym, ◌∙◌, ap, subst, Option, Some, None, arith}
+use Rattle.std.proofs.Common.{◌≡◌, ◌≢◌, ℕ, ◌==◌, cond, Bool, true, false, List, ◌∷◌, ◌++◌, length, refl, sym, ◌∙◌, ap, subst, Some, arith}
 use Rattle.std.specs.Prelude.{slice_get}
 use Rattle.std.proofs.lemmas.Bool.Decides.{nat_tests}
 use Rattle.qp_chart.specs.StateTree.{has}
@@ -15,11 +15,11 @@ use Rattle.qp_dispatch.specs.declared.objects.Object.{Object}
 use Rattle.qp_dispatch.specs.declared.lasting.Lasting.{Lasting}
 use Rattle.qp_dispatch.specs.declared.steps.Going.{Going}
 use Rattle.qp_dispatch.specs.declared.steps.Position.TheVariants as standing
-use Rattle.qp_dispatch.specs.declared.part.Under.{Under}
 use Rattle.qp_dispatch.specs.Objects.{home_of}
-use Rattle.qp_dispatch.specs.Parts.{IsPublishing, held_by}
+use Rattle.qp_dispatch.specs.Parts.{held_by}
 use Rattle.qp_dispatch.specs.Resume.{IsGoing, IsUnderWay, event_in, held_in, left_of}
 use Rattle.qp_dispatch.specs.Runs.{Setting, hand_of}
+use Rattle.qp_dispatch.proofs.Naming.{publishing-still}
 use Rattle.qp_kernel.specs.Stages as stage
 use Rattle.qp_kernel.specs.Stages.{Stage, is_resting, may_wait}
 use Rattle.qp_kernel.specs.Turning.{KernelState, moved, having}
@@ -64,10 +64,6 @@ others-wait sys s p outer running stack d found other = by (has outer d.priority
         resting-waits (s.stages d.priority) (stack.rests d found none)
 
 -- An object that waits, in a lane that has gone on.
-
-publishing-still : (u : Option Under) (v w : LaneView) → w.sys ≡ v.sys → IsPublishing u v → IsPublishing u w
-publishing-still None v w same h = tt
-publishing-still (Some u) v w same h = rw same h
 
 going-still : (home : Setting) (k : Lasting) (g : Going) (v w : LaneView) → w.sys ≡ v.sys → StandAll (held_in k (standing.Within g)) w → IsGoing home k g v → IsGoing home k g w
 going-still home k g v w same all h = record {

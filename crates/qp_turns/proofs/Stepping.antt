@@ -51,9 +51,9 @@ use Rattle.qp_turns.specs.Turning.{GoesOnward, TurnStopped}
 use Rattle.std.proofs.lemmas.List.{length-map, reverse-append}
 use Rattle.qp_compiled.specs.Compiled.{IsCompiled}
 use Rattle.qp_calls.specs.Deferring.{ChangeAlike}
+use Rattle.qp_calls.proofs.NoteLemmas.{last-snoc}
 use Rattle.qp_dispatch.specs.Resume.{IsReady as ObjectReady}
 use Rattle.qp_dispatch.specs.Resume.{EndsAsserted, EndsSpilled, IsGoing, IsUnderWay, ToEnd, ToPoint, event_in, held_in, left_of, step_entry}
-use Rattle.qp_dispatch.proofs.ActLemmas.{last-snoc}
 use Rattle.qp_kernel.specs.Happenings.{lanes_of}
 use Rattle.qp_kernel.specs.Laws.{AllWait, OthersWait}
 use Rattle.qp_kernel.specs.LaneZero.{owed_point, row_of, setting, told_pieces}

@@ -1,19 +1,18 @@
 -- Which looks have a stimulus, after one happening more.
-use Rattle.std.proofs.Common.{◌≡◌, ℕ, ◌+◌, ◌<◌, ◌≤◌, ◌==◌, cond, Bool, true, false, ◌||◌, List, [], ◌∷◌, ◌++◌, map, length, refl, sym, ◌∙◌, ap, None, arith, append-nil, append_assoc}
+use Rattle.std.proofs.Common.{◌≡◌, ℕ, ◌+◌, ◌<◌, ◌≤◌, ◌==◌, cond, Bool, true, false, ◌||◌, List, [], ◌∷◌, ◌++◌, length, refl, sym, ◌∙◌, ap, None, arith, append-nil, append_assoc}
 use Rattle.std.specs.List.{list_any}
 use Rattle.std.proofs.lemmas.Bool.{or_right}
-use Rattle.std.proofs.lemmas.List.{map-append}
 use Rattle.std.proofs.lemmas.Bool.Decides.{nat_tests}
 use Rattle.qp_model.specs.declared.stimulus.Stim.{Stim}
 use Rattle.qp_model.specs.declared.bodies.Body.{Body}
 use Rattle.qp_model.specs.declared.bodies.Body.TheVariants as body
 use Rattle.qp_model.specs.Record.{Item}
-use Rattle.qp_model.specs.Told.{Told, for_object, plain}
+use Rattle.qp_model.specs.Told.{Told, plain}
 use Rattle.qp_model.specs.OneOrder.{is_stim_at, stim_of}
 use Rattle.qp_orders.specs.Placing.{AreBehind}
 use Rattle.qp_orders.specs.RunOrder.{has_stim}
-use Rattle.qp_orders.specs.SourceRun.{untold}
 use Rattle.qp_orders.specs.Stimulus.{source_items}
+use Rattle.qp_orders.proofs.StimulusForm.{items-append}
 use Rattle.qp_calls.specs.LaneView.{Happening}
 use Rattle.qp_kernel.specs.Happenings.{lanes_from, told_by}
 
@@ -31,9 +30,6 @@ any-append k (x ∷ xs) ys = by (is_stim_at k x.body) (any-append k xs ys)
 or-none : (b c : Bool) → c ≡ false → (b || c) ≡ b
 or-none true c h = refl
 or-none false c h = h
-
-pub items-append : (g h : List Told) → source_items (g ++ h) ≡ source_items g ++ source_items h
-items-append g h = ap (map untold) (map-append (for_object 0) g h) ∙ map-append untold (map (for_object 0) g) (map (for_object 0) h)
 
 told-more : (n : ℕ) (hs : List Happening) (h : Happening) → told_by n (hs ++ h ∷ []) ≡ told_by n hs ++ (cond (h.source == n) h.told [])
 unfolding told_by

@@ -13,10 +13,12 @@ use Rattle.qp_model.specs.Told.{Told, plain}
 use Rattle.qp_orders.specs.RunOrder.{has_stim}
 use Rattle.qp_orders.specs.Placing.{AreBehind}
 use Rattle.qp_orders.proofs.OrderLaws.{stimuli_are_their_own}
+use Rattle.qp_orders.proofs.StimulusForm.{items-append}
 use Rattle.qp_calls.specs.LaneView.{GrowsOf, LaneView, Roomier, ceiling_in}
 use Rattle.qp_calls.specs.Notes.{spills_in, told_as, told_note}
 use Rattle.qp_calls.specs.Tokens.{hands_after, hands_by}
-use Rattle.qp_dispatch.proofs.Quiet.{ceiling-append, spills-append}
+use Rattle.qp_calls.proofs.NoteLemmas.{ceiling-append}
+use Rattle.qp_dispatch.proofs.Quiet.{spills-append}
 use Rattle.qp_kernel.specs.Happenings.{lanes_from, lanes_of}
 use Rattle.qp_kernel.specs.Interrupting.{Happens, HappensToFail, HappensInPart, FindsNoRoom, HasNone, IsLaneKept, IsStopped, is_unset}
 use Rattle.qp_kernel.specs.Turning.{look_told, Terms}
@@ -25,7 +27,7 @@ use Rattle.qp_turns.specs.Turning.{GoesOnward, Looked, Stand, Stood, TurnStopped
 use Rattle.qp_turns.proofs.Places.{follow-none}
 use Rattle.qp_turns.proofs.Halted.{same-lanes}
 use Rattle.qp_turns.proofs.Looking.{GoesFor, look-stops, looked}
-use Rattle.qp_turns.proofs.Stims.{items-append, stim-here, stim-there, stims-more, stims-same}
+use Rattle.qp_turns.proofs.Stims.{stim-here, stim-there, stims-more, stims-same}
 
 -- a note, told
 pub noted : (o : ℕ) (b : Body) (r : Rec) (v w : LaneView) → item_of r ≡ record { of = o; body = b } → GrowsOf r.of (told_note r v) v w → GrowsOf o (told_as (ceiling_in 0 v.told) b ∷ []) v w

@@ -17,7 +17,6 @@ use Rattle.qp_model.specs.Sound.{IsSound}
 use Rattle.qp_model.specs.Step.{whole_step}
 use Rattle.qp_model.specs.Told.{Event, ToldItem, for_object, plain, taken}
 use Rattle.qp_orders.specs.RunOrder.{has_stim}
-use Rattle.qp_calls.specs.Tokens.{hands_after, hands_by, with_entry}
 use Rattle.qp_calls.specs.Clauses.{EventIs, TakesIt, entry_of}
 use Rattle.qp_calls.specs.Counting.{count_of}
 use Rattle.qp_calls.specs.Deferring.{ChangeAlike, StandAll, is_named, tokens_in}
@@ -25,13 +24,14 @@ use Rattle.qp_calls.specs.LaneView.{LaneView, ceiling_in}
 use Rattle.qp_calls.specs.Notes.{spills_in}
 use Rattle.qp_calls.specs.declared.tokens.Entry.{Entry}
 use Rattle.qp_calls.specs.declared.tokens.Entry.TheVariants as token
-use Rattle.qp_calls.proofs.CountLemmas.{count-with, tokens-append}
+use Rattle.qp_calls.proofs.CountLemmas.{count-with, tokens-append, taken-hands}
+use Rattle.qp_calls.proofs.NoteLemmas.{ceiling-append}
 use Rattle.qp_dispatch.specs.declared.lasting.Lasting.{Lasting}
 use Rattle.qp_dispatch.specs.declared.steps.Position.TheVariants as standing
 use Rattle.qp_dispatch.specs.Lasts.{actor_of, config_of}
 use Rattle.qp_dispatch.specs.Objects.{BeginsStep, home_of}
 use Rattle.qp_dispatch.specs.Resume.{IsTaken, event_at, held_in}
-use Rattle.qp_dispatch.proofs.Quiet.{ceiling-append, spills-append}
+use Rattle.qp_dispatch.proofs.Quiet.{spills-append}
 use Rattle.qp_dispatch.proofs.Taking.{taken-is}
 use Rattle.qp_kernel.specs.Happenings.{lanes_of}
 use Rattle.qp_kernel.specs.Stages as stage
@@ -59,11 +59,6 @@ resting-is (stage.Paused ev e left c) h = absurd (cc)
 
 pub self-moved : (stages : ℕ → Stage) (p : ℕ) (s : Stage) → moved stages p s p ≡ s
 self-moved stages p s = let self : (p == p) ≡ true = grind (arith, nat_tests) in rw self refl
-
--- the hands have the entry that was taken, and the object keeps it
-taken-hands : (me : ℕ) (e : Entry) (v w : LaneView) → TakesIt me e v w → w.hands ≡ with_entry (entry_of e) v.hands
-unfolding hands_after hands_by
-taken-hands me e v w t = t.adds.grows.hands
 
 taken-alike : (k : Lasting) (me : ℕ) (e : Entry) (v w : LaneView) → TakesIt me e v w → ChangeAlike (map entry_of (held_in k standing.Between)) (map entry_of (held_in k (standing.Taken e))) v w
 taken-alike k me e v w t x =

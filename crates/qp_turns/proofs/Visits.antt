@@ -17,8 +17,8 @@ use Rattle.qp_calls.specs.LaneView.{GrowsOf, LaneView, Roomier, ceiling_in}
 use Rattle.qp_calls.specs.Clauses.{Sees, Stops, TakesIt}
 use Rattle.qp_calls.specs.Notes.{MayStop, last_code, spills_in, told_note}
 use Rattle.qp_calls.specs.Tokens.{hands_after, hands_by}
-use Rattle.qp_dispatch.proofs.ActLemmas.{last-snoc}
-use Rattle.qp_dispatch.proofs.Quiet.{ceiling-append, spills-append}
+use Rattle.qp_calls.proofs.NoteLemmas.{last-snoc, ceiling-append}
+use Rattle.qp_dispatch.proofs.Quiet.{spills-append}
 use Rattle.qp_dispatch.specs.Objects.{BeginsStep}
 use Rattle.qp_kernel.specs.Happenings.{lanes_of}
 use Rattle.qp_kernel.specs.Turning.{seen_told, Terms}

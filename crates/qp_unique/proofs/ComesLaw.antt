@@ -8,9 +8,9 @@ use Rattle.qp_model.specs.Record.{Item, item_of}
 use Rattle.qp_model.specs.Knowing.{told, event_of}
 use Rattle.qp_model.specs.History.{all_items, lane_items}
 use Rattle.qp_model.specs.Places.{RecordPlace, item_at, items_at}
+use Rattle.qp_model.proofs.ListLemmas.{every-parts}
 use Rattle.qp_unique.specs.Laws.{RecordsComeNext}
 use Rattle.qp_unique.proofs.ComesLemmas.{comes-front, known-front}
-use Rattle.qp_unique.proofs.JournalLemmas.{all-front}
 
 module _ (P : Item → Type 0) where
   in-lane : (lane : List Rec) (at : ℕ) (r : Rec) → slice_get lane at ≡ Some r → AllByRecursion P (lane_items lane) → P (item_of r)
@@ -22,8 +22,8 @@ module _ (P : Item → Type 0) where
   in-lanes : (lanes : List (List Rec)) (n : ℕ) (lane : List Rec) → slice_get lanes n ≡ Some lane → AllByRecursion P (all_items lanes) → AllByRecursion P (lane_items lane)
   unfolding all_items
   in-lanes [] n lane is h = absurd (cc)
-  in-lanes (l ∷ ls) zero lane is h = let same : l ≡ lane = cc in subst (λ y. AllByRecursion P (lane_items y)) same (all-front P (lane_items l) (all_items ls) h).0
-  in-lanes (l ∷ ls) (suc n) lane is h = in-lanes ls n lane is (all-front P (lane_items l) (all_items ls) h).1
+  in-lanes (l ∷ ls) zero lane is h = let same : l ≡ lane = cc in subst (λ y. AllByRecursion P (lane_items y)) same (every-parts P (lane_items l) (all_items ls) h).0
+  in-lanes (l ∷ ls) (suc n) lane is h = in-lanes ls n lane is (every-parts P (lane_items l) (all_items ls) h).1
 
   at-place : (lanes : List (List Rec)) (x : RecordPlace) (i : Item) → item_at lanes x ≡ Some i → AllByRecursion P (all_items lanes) → P i
   unfolding item_at

@@ -31,8 +31,9 @@ use Rattle.qp_model.proofs.WordLawLemmas.{free_blocks-counts, subscribers-counts
 use Rattle.qp_unique.specs.Held.{comes_next, known_then}
 use Rattle.qp_unique.specs.Fronts.{log_of, held_after, names_its, has_word}
 use Rattle.qp_unique.proofs.PoolLemmas.{back-below, given-below}
-use Rattle.qp_unique.proofs.FrontLemmas.{same_word-refl, is-next, hist-next, drawn-below, may-next, says-next, count-next, take-front, take-next}
+use Rattle.qp_unique.proofs.FrontLemmas.{is-next, hist-next, drawn-below, may-next, says-next, count-next, take-front, take-next}
 use Rattle.qp_model.proofs.PromiseLemmas.{pool_has}
+use Rattle.qp_model.proofs.HistoryLemmas.{same_word-refl}
 
 -- a record of o
 abbrev said : ℕ → Body → Item

@@ -7,13 +7,12 @@ use Rattle.std.proofs.lemmas.List.Elements.{filter-append}
 use Rattle.std.proofs.Math.Seq.{take-append_seam}
 use Rattle.std.specs.List.{filter, list_all, AllByRecursion}
 use Rattle.qp_model.specs.declared.words.Word.{Word}
-use Rattle.qp_model.specs.declared.words.Word.TheVariants as word
 use Rattle.qp_model.specs.Record.{Item}
 use Rattle.qp_model.specs.History.{Touch, Draws, Shows, Neither, touch, same_word, drawn_on, drawn_as, drawn_below, total, numbered, is_numbered, hist}
 use Rattle.qp_model.specs.Places.{is_next, in_order}
 use Rattle.qp_model.specs.Machine.{Machine, after, is_allowed, shown_by, is_shown}
 use Rattle.qp_model.proofs.ListLemmas.{all_below_at}
-use Rattle.qp_model.proofs.HistoryLemmas.{length-hist}
+use Rattle.qp_model.proofs.HistoryLemmas.{length-hist, same_word-refl, in_order-at}
 use Rattle.qp_model.proofs.KnowingLemmas.{same_word-is}
 use Rattle.qp_model.proofs.MachineLemmas.{Counts, is_allowed-at, is_allowed-front, count-after}
 use Rattle.qp_unique.specs.Fronts.{log_of}
@@ -76,19 +75,6 @@ draws-is w (Draws v mark) h = (mark, ap (λ x. Draws x mark) (same_word-is v w h
 draws-is w (Shows v mark) h = absurd (cc)
 draws-is w Neither h = absurd (cc)
 
-pub same_word-refl : (w : Word) → same_word w w ≡ true
-same_word-refl (word.Pool p) = grind (arith, nat_tests)
-same_word-refl (word.Block p b) = let one : (p == p) ≡ true = grind (arith, nat_tests) in let two : (b == b) ≡ true = grind (arith, nat_tests) in rw (one, two) refl
-same_word-refl (word.Queue a) = grind (arith, nat_tests)
-same_word-refl (word.Signal s) = grind (arith, nat_tests)
-same_word-refl (word.Timer t) = grind (arith, nat_tests)
-
--- the place of a record in an order
-pub next-at : (before xs : List Item) (i : Item) (ys : List Item) → in_order before (xs ++ i ∷ ys) ≡ true → is_next (before ++ xs) (touch i) ≡ true
-unfolding in_order
-next-at before [] i ys h = rw (append-nil before) ((and_parts _ _ h).0)
-next-at before (x ∷ xs) i ys h = subst (λ zs. is_next zs (touch i) ≡ true) (append_assoc before (x ∷ []) xs) (next-at (before ++ x ∷ []) xs i ys (and_parts _ _ h).1)
-
 -- the history up to a number
 numbered-more : (w : Word) (all : List Item) (k n : ℕ) → k ≤ n → (more : List Item) × (numbered w all n ≡ numbered w all k ++ more)
 unfolding numbered
@@ -115,7 +101,7 @@ module _ (all order : List Item) (inside : (P : Item → Type 0) → AllByRecurs
       at (z ∷ zs) h = at zs h.1
 
   pub is-next : (xs : List Item) (i : Item) (ys : List Item) → order ≡ xs ++ i ∷ ys → is_next xs (touch i) ≡ true
-  is-next xs i ys is = next-at [] xs i ys (subst (λ zs. in_order [] zs ≡ true) is ordered)
+  is-next xs i ys is = in_order-at [] xs i ys (subst (λ zs. in_order [] zs ≡ true) is ordered)
 
   module _ (w : Word) (numbers : is_numbered w all ≡ true) where
     -- the number drawn is that of the operations before

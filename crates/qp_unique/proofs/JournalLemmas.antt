@@ -26,11 +26,7 @@ use Rattle.qp_orders.proofs.RunLemmas.{spills-none}
 use Rattle.qp_unique.specs.Tidy.{run_order}
 use Rattle.qp_unique.proofs.Sides.{in_sim}
 use Rattle.qp_model.proofs.NumberLemmas.{every-append}
-
--- something true of all
-pub all-front : {A : Type 0} (P : A → Type 0) (xs ys : List A) → AllByRecursion P (xs ++ ys) → AllByRecursion P xs × AllByRecursion P ys
-all-front P [] ys h = (tt, h)
-all-front P (x ∷ xs) ys h = let more = all-front P xs ys h.1 in ((h.0, more.0), more.1)
+use Rattle.qp_model.proofs.ListLemmas.{every-parts}
 
 -- the lanes of a run with one thread
 pub lanes-split : (lanes : List (List Rec)) (n : ℕ) → length lanes ≡ 1 + n → (l : List Rec) × (ls : List (List Rec)) × (lanes ≡ l ∷ ls) × (length ls ≡ n)
@@ -55,10 +51,10 @@ each-unspilt (i ∷ is) h = rw h.0 (each-unspilt is h.1)
 pub each-lane : (P : Item → Type 0) (ls : List (List Rec)) → AllByRecursion P (all_items ls) → AllByRecursion (λ l. AllByRecursion P l) (map (λ lane. lane_items lane) ls)
 unfolding all_items
 each-lane P [] h = tt
-each-lane P (l ∷ ls) h = let parts = all-front P (lane_items l) (all_items ls) h in (parts.0, each-lane P ls parts.1)
+each-lane P (l ∷ ls) h = let parts = every-parts P (lane_items l) (all_items ls) h in (parts.0, each-lane P ls parts.1)
 
 pub lane-each : (P : List Item → Type 0) (front : List (List Item)) (l : List Item) (back all : List (List Item)) → all ≡ front ++ l ∷ back → AllByRecursion P all → P l
-lane-each P front l back all is h = (all-front P front (l ∷ back) (subst (AllByRecursion P) is h)).1.0
+lane-each P front l back all is h = (every-parts P front (l ∷ back) (subst (AllByRecursion P) is h)).1.0
 
 module _ (P : Item → Type 0) where
   part-all : (lane k : ℕ) (cuts within : Bool) (is : List Item) → AllByRecursion P is → AllByRecursion P (items_of (part_of_look lane k cuts within is))
@@ -210,11 +206,11 @@ module _ (sys : System) (stimuli : List (List Stim)) (j : Journal) (t : Threaded
   lane0-is = ap lane_items t.zero_is
 
   pub zero-each : (P : Item → Type 0) → AllByRecursion P (all_items j.lanes) → AllByRecursion P (lane_items (lane_at j 0))
-  zero-each P h = subst (AllByRecursion P) (sym lane0-is) (all-front P (lane_items t.first) (all_items t.others) (subst (AllByRecursion P) all-split h)).0
+  zero-each P h = subst (AllByRecursion P) (sym lane0-is) (every-parts P (lane_items t.first) (all_items t.others) (subst (AllByRecursion P) all-split h)).0
 
   pub sources-each : (P : Item → Type 0) → AllByRecursion P (all_items j.lanes) → AllByRecursion (λ l. AllByRecursion P l) (source_lanes sys j)
   sources-each P h =
-      subst (AllByRecursion (λ l. AllByRecursion P l)) (sym t.sources_are) (each-lane P t.others (all-front P (lane_items t.first) (all_items t.others) (subst (AllByRecursion P) all-split h)).1)
+      subst (AllByRecursion (λ l. AllByRecursion P l)) (sym t.sources_are) (each-lane P t.others (every-parts P (lane_items t.first) (all_items t.others) (subst (AllByRecursion P) all-split h)).1)
 
   -- each record of the order is one of the lanes
   pub inside : (P : Item → Type 0) → AllByRecursion P (all_items j.lanes) → AllByRecursion P (items_of (run_order sys j))

@@ -5,7 +5,7 @@ use Rattle.std.proofs.lemmas.Bool.Decides.{nat_tests}
 use Rattle.std.proofs.lemmas.List.{append_assoc}
 use Rattle.std.specs.declared.option.Option.{Option}
 use Rattle.std.specs.Option.{option_map_or}
-use Rattle.std.specs.List.{filter, find, list_all, list_any}
+use Rattle.std.specs.List.{filter, list_all, list_any}
 use Rattle.qp_model.specs.declared.stimulus.Stim.{Stim}
 use Rattle.qp_model.specs.declared.systems.System.{System}
 use Rattle.qp_model.specs.declared.bodies.Body.{Body}
@@ -14,11 +14,12 @@ use Rattle.qp_model.specs.Record.{Item}
 use Rattle.qp_model.specs.Knowing.{Facts, told, records_of, ceiling_over}
 use Rattle.qp_model.specs.Ends.{is_spill, spills_in}
 use Rattle.qp_model.specs.Kernels.{sim}
-use Rattle.qp_model.specs.OneOrder.{Placed, Turn, with_stimuli, parts_of_look, turns_at, acts_next, is_turn, begun, look_of, stim_of, is_stim_at, left_after, may_act, turned, all_empty, acted_last}
+use Rattle.qp_model.specs.OneOrder.{Placed, Turn, with_stimuli, parts_of_look, turns_at, acts_next, is_turn, begun, look_of, stim_of, is_stim_at}
 use Rattle.qp_sources.specs.SourceState.{SourceState, Between, Within, source_next, source_after}
 use Rattle.qp_orders.proofs.MergeLemmas.{stimuli-append}
 use Rattle.qp_orders.specs.RunOrder.{placed, has_stim}
 use Rattle.qp_orders.specs.Placing.{look_item, all_placed, stim_item}
+use Rattle.qp_orders.proofs.NumberLemmas.{acts-place}
 use Rattle.qp_unique.proofs.KernelLemmas.{item-is}
 use Rattle.qp_unique.proofs.LookLemmas.{begins, begun_in, up_to_stim, from_stim, stim-split, stim-first, begun-append, same-front, StimFirst, turnless, one-turn, look-free, look-stimulated, turns-none, turns-one, stim-at}
 use Rattle.qp_unique.proofs.ItemLemmas.{none-at}
@@ -26,7 +27,6 @@ use Rattle.qp_unique.proofs.SourceSteps.{lane_in-append, lane_in-own, lane_in-ot
 use Rattle.qp_model.proofs.KnowingLemmas.{records_of-append}
 use Rattle.qp_unique.proofs.PartLemmas.{no-stim}
 use Rattle.qp_unique.proofs.Sides.{Lined, IsFront, lane_in, lined_order}
-use Rattle.qp_model.proofs.ListLemmas.{mapped}
 
 pub look-body : (b : Body) (l : ℕ × ℕ) → look_of b ≡ Some l → b ≡ body.Look l.0 l.1
 look-body (body.Look n floor) l h = ap (λ o. by o) h
@@ -35,16 +35,6 @@ look-body (body.Look n floor) l h = ap (λ o. by o) h
     by None = body.Look 0 0
     by (Some x) = body.Look x.0 x.1
 look-body b l h = absurd (cc)
-
--- the stimulus that acts is the source's next
-acts-place : (sys : System) (stimuli : List (List Stim)) (xs : List Placed) (base : Bool) (t : Turn) → acts_next sys stimuli xs base ≡ Some t → t.place ≡ begun xs t.source + 1
-unfolding acts_next
-acts-place sys stimuli xs base t h =
-    let x = mapped (λ (x : ℕ × List Stim). record { source = x.0; place = begun xs x.0 + 1 })
-    (find (λ x. may_act (base && all_empty sys xs) x.1) (turned (acted_last 0 xs) (left_after xs stimuli))) t h in
-    let place : t.place ≡ begun xs x.0.0 + 1 = ap (λ (z : Turn). z.place) (sym x.2) in
-    let source : t.source ≡ x.0.0 = ap (λ (z : Turn). z.source) (sym x.2) in
-    place ∙ ap (λ j. begun xs j + 1) (sym source)
 
 -- a front of a lane that ends before the next stimulus, and the one before this stimulus
 fronts-same : (one rest before : List Item) (stim : Item) (behind : List Item) → one ++ rest ≡ before ++ stim ∷ behind → StimFirst rest → begins stim ≡ true → begun_in one ≡ begun_in before

@@ -37,8 +37,8 @@ use Rattle.qp_model.specs.OneOrder.{Placed}
 use Rattle.qp_model.specs.Lawful.{Lawful, ObjectHolds, facts_of, setting_of, cut_of, spill_cuts, reading_holds}
 use Rattle.qp_model.specs.WordLaw.{is_object}
 use Rattle.qp_model.proofs.LineLemmas.{line_is}
+use Rattle.qp_model.proofs.ListLemmas.{every-parts}
 use Rattle.qp_orders.proofs.CalmLemmas.{no_spill-cuts}
-use Rattle.qp_fits.specs.Decides.{Decides}
 use Rattle.qp_course.specs.Machine.{State, run, start_state, is_end as is_end_of_course, expects_point}
 use Rattle.qp_course.specs.Decided.{reads_to, may_end as list_may_end, ends_well}
 use Rattle.qp_course.specs.Followable.{IsFollowable}
@@ -51,14 +51,9 @@ use Rattle.qp_unique.proofs.FrontLemmas.{from-behind, may-next}
 use Rattle.qp_unique.proofs.ComesLemmas.{comes-front, known-front}
 use Rattle.qp_unique.proofs.StackLemmas.{found-in}
 use Rattle.qp_unique.proofs.NilLemmas.{is_nil, Nilless, cut-nilless}
-use Rattle.qp_unique.proofs.JournalLemmas.{all-front, Threaded, zero-each, inside, in-order, each-unspilt}
+use Rattle.qp_unique.proofs.JournalLemmas.{Threaded, zero-each, inside, in-order, each-unspilt}
 use Rattle.qp_unique.proofs.Sides.{MayEnd, in_sim, held_to}
-
--- the answer of a test that holds
-pub holds : (b : Bool) (P : Type 0) → Decides b P → P → b ≡ true
-unfolding Decides
-holds true P d h = refl
-holds false P d h = absurd (d h)
+use Rattle.qp_sources.proofs.LaneLemmas.{runs-flag}
 
 pub filter-none-spill : (is : List Item) → AllByRecursion (λ i. is_spill i.body ≡ false) is → filter (λ i. not (is_spill i.body)) is ≡ is
 filter-none-spill [] h = refl
@@ -181,7 +176,7 @@ module _ (sys : System) (stimuli : List (List Stim)) (j : Journal) (law : Lawful
         let moved : FollowsTo sys d (cut_of sys j p) (pieces_in (facts_of sys j) (in_sim sys has_one) p (unread sys) zero_lane) =
         subst (λ s. FollowsTo sys d (cut_of sys j p) (pieces_in (facts_of sys j) s p (unread sys) zero_lane)) t.setting
         (subst (λ o. FollowsTo sys d (cut_of sys j o) (pieces_in (facts_of sys j) (setting_of sys j) o (unread sys) zero_lane)) own found.0) in
-        let reads = holds _ _ (pieces-decided sys d (followable p d is) (cut_of sys j p) (pieces_in (facts_of sys j) (in_sim sys has_one) p (unread sys) zero_lane)) moved in
+        let reads = runs-flag _ _ (pieces-decided sys d (followable p d is) (cut_of sys j p) (pieces_in (facts_of sys j) (in_sim sys has_one) p (unread sys) zero_lane)) moved in
         by (run sys (actor d (chart_of p d is)) (start_state (actor d (chart_of p d is)) (first_config d)) (pieces_in (facts_of sys j) (in_sim sys has_one) p (unread sys) zero_lane)) refl
         (and_parts _ _ reads).0 (cut-is p)
       where
@@ -245,7 +240,7 @@ module _ (sys : System) (stimuli : List (List Stim)) (j : Journal) (law : Lawful
     unfolding told facts_of
     comes-of xs x ys c is =
         let at = order-items xs x ys is in
-        let named = (all-front (λ i. names_its sys i.of i.body ≡ true) (items_of xs) (x.item ∷ items_of ys) (subst (AllByRecursion (λ i. names_its sys i.of i.body ≡ true)) at named-each)).1.0 in
+        let named = (every-parts (λ i. names_its sys i.of i.body ≡ true) (items_of xs) (x.item ∷ items_of ys) (subst (AllByRecursion (λ i. names_its sys i.of i.body ≡ true)) at named-each)).1.0 in
         let events : Entry → Option Event = λ e. event_of (record { sys = sys; items = items_of xs }) e in
         record {
           may = comes-front sys j.lanes law.words (items_of (run_order sys j)) (inside sys stimuli j t) (in-order sys stimuli j t) (items_of xs) (items_of ys) events c x.item.of x.item.body at named;
@@ -268,5 +263,5 @@ module _ (sys : System) (stimuli : List (List Stim)) (j : Journal) (law : Lawful
             (line_is (ring_of sys a) (log_of (word.Queue a) (items_of xs))
             (allowed-front (all_items j.lanes) (items_of (run_order sys j)) (inside sys stimuli j t) (in-order sys stimuli j t) (word.Queue a) queue.numbers (line (ring_of sys a)) queue.allowed (items_of xs) (items_of ys) whole)).counted
         by a false e =
-            let none = queue-none sys a e (items_of xs) (all-front (λ i. names_its sys i.of i.body ≡ true) (items_of xs) (items_of ys) (subst (AllByRecursion (λ i. names_its sys i.of i.body ≡ true)) whole named-each)).0 in
+            let none = queue-none sys a e (items_of xs) (every-parts (λ i. names_its sys i.of i.body ≡ true) (items_of xs) (items_of ys) (subst (AllByRecursion (λ i. names_its sys i.of i.body ≡ true)) whole named-each)).0 in
             subst (λ zs. length (after (line (ring_of sys a)) zs).entries + (after (line (ring_of sys a)) zs).m ≡ (after (line (ring_of sys a)) zs).f + (after (line (ring_of sys a)) zs).l) (sym none) (empty (ring_of sys a))

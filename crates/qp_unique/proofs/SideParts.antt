@@ -32,6 +32,7 @@ use Rattle.qp_model.proofs.KernelRowLemmas.{lane_on-append}
 use Rattle.qp_sources.specs.SourceState.{SourceState, Between, source_after, source_stops, stops_after}
 use Rattle.qp_sources.proofs.LawLemmas.{call-laws}
 use Rattle.qp_sources.proofs.StopLemmas.{lane-stops}
+use Rattle.qp_sources.proofs.LaneLemmas.{runs-flag}
 use Rattle.qp_orders.specs.RunOrder.{placed, items_of}
 use Rattle.qp_orders.specs.Placing.{look_item}
 use Rattle.qp_unique.specs.Tidy.{run_order}
@@ -40,11 +41,12 @@ use Rattle.qp_unique.proofs.StackLemmas.{found-in}
 use Rattle.qp_unique.proofs.ItemLemmas.{none-at}
 use Rattle.qp_unique.proofs.LoopLemmas.{look-whole}
 use Rattle.qp_unique.proofs.RunLanes.{look-body}
-use Rattle.qp_unique.proofs.JournalLemmas.{all-front, parts-all, Threaded, all-split, lane0-is, sources-each, inside, ends-run, each-unspilt, lane-each}
-use Rattle.qp_unique.proofs.SideLemmas.{holds, filter-none-spill, all-of, kernel-read, unspilt-zero, has_one}
+use Rattle.qp_unique.proofs.JournalLemmas.{parts-all, Threaded, all-split, lane0-is, sources-each, inside, ends-run, each-unspilt, lane-each}
+use Rattle.qp_unique.proofs.SideLemmas.{filter-none-spill, all-of, kernel-read, unspilt-zero, has_one}
 use Rattle.qp_unique.proofs.Sides.{in_sim}
 use Rattle.qp_model.proofs.NumberLemmas.{every-append, count-append}
 use Rattle.qp_model.proofs.TakenLemmas.{list_all-at}
+use Rattle.qp_model.proofs.ListLemmas.{every-parts}
 
 drop-at : (xs : List (List Rec)) (n : ℕ) (r : List Rec) (rs : List (List Rec)) → drop n xs ≡ r ∷ rs → (unwrap_or (slice_get xs n) [] ≡ r) × (drop (n + 1) xs ≡ rs)
 drop-at [] zero r rs h = absurd (cc)
@@ -172,7 +174,7 @@ module _ (sys : System) (stimuli : List (List Stim)) (j : Journal) (law : Lawful
       let whole : source_records (facts_of sys j) l ≡ records_of (facts_of sys j) 0 0 l = ap (records_of (facts_of sys j) 0 0) (filter-none-spill l none) in
       let goes : SourceRuns sys sim 1 (get_or stimuli (length front) []) runs.0 (records_of (facts_of sys j) 0 0 l) =
       subst (λ ts. SourceRuns sys sim 1 (get_or stimuli (length front) []) runs.0 ts) whole (subst (λ k. SourceRuns sys k 1 (get_or stimuli (length front) []) runs.0 (source_records (facts_of sys j) l)) is_sim runs.1) in
-      let stops = holds _ _ (lane-stops call-laws sys sim 1 (get_or stimuli (length front) []) runs.0 (records_of (facts_of sys j) 0 0 l)) goes in
+      let stops = runs-flag _ _ (lane-stops call-laws sys sim 1 (get_or stimuli (length front) []) runs.0 (records_of (facts_of sys j) 0 0 l)) goes in
       let at = by (source_after sys sim (Some (Between 1 (get_or stimuli (length front) []))) (records_of (facts_of sys j) 0 0 l)) refl runs.0 stops in
       (lane.alone, at.0, runs.0, at.1, at.2, λ e. within runs.0 e runs.2 (each-unspilt l none))
     where
@@ -286,7 +288,7 @@ module _ (sys : System) (stimuli : List (List Stim)) (j : Journal) (law : Lawful
   spent-of xs p ys is some =
       let each = inside sys stimuli j t (λ i. is_spent i.body ≡ true → took_count (all_items j.lanes) i.of ≡ j.budget) (spents-each sys j 0 j.lanes law.end.spents) in
       let split : items_of (run_order sys j) ≡ items_of xs ++ record { of = p; body = body.Spent } ∷ items_of ys = ap items_of is ∙ map-append (λ (z : Placed). z.item) xs _ in
-      let took : took_count (all_items j.lanes) p ≡ j.budget = (all-front (λ i. is_spent i.body ≡ true → took_count (all_items j.lanes) i.of ≡ j.budget) (items_of xs) _ (subst (AllByRecursion (λ i. is_spent i.body ≡ true → took_count (all_items j.lanes) i.of ≡ j.budget)) split each)).1.0 refl in
+      let took : took_count (all_items j.lanes) p ≡ j.budget = (every-parts (λ i. is_spent i.body ≡ true → took_count (all_items j.lanes) i.of ≡ j.budget) (items_of xs) _ (subst (AllByRecursion (λ i. is_spent i.body ≡ true → took_count (all_items j.lanes) i.of ≡ j.budget)) split each)).1.0 refl in
       let here = counted-here xs p body.Spent ys is some in
       let none : count_by (λ (z : Placed). takes_of p z.item) ys ≡ 0 = by ys is in
       omega (arith, took, here, none)

@@ -1,5 +1,6 @@
 -- From the records of a rest to what is known behind it.
-use Rattle.std.proofs.Common.{◌≡◌, ℕ, ◌==◌, Bool, true, false, ◌&&◌, List, [], ◌∷◌, ◌++◌, refl, sym, ◌∙◌, ap, subst}
+use Rattle.std.proofs.Common.{◌≡◌, ℕ, ◌==◌, Bool, true, false, List, [], ◌∷◌, ◌++◌, refl, sym, ◌∙◌, ap, subst}
+use Rattle.std.proofs.lemmas.Bool.{and_right}
 use Rattle.qp_model.specs.declared.systems.System.{System}
 use Rattle.qp_model.specs.declared.record.Rec.{Rec}
 use Rattle.qp_model.specs.declared.bodies.Body.TheVariants as body
@@ -13,7 +14,8 @@ use Rattle.qp_calls.specs.LaneView.{GrowsOf, LaneView, Roomier, ceiling_in, mark
 use Rattle.qp_calls.specs.Notes.{spills_in, told_note}
 use Rattle.qp_calls.specs.Tokens.{hands_after, hands_by}
 use Rattle.qp_calls.proofs.Growing.{room-then}
-use Rattle.qp_dispatch.proofs.Quiet.{ceiling-append, spills-append}
+use Rattle.qp_calls.proofs.NoteLemmas.{ceiling-append}
+use Rattle.qp_dispatch.proofs.Quiet.{spills-append}
 use Rattle.qp_kernel.specs.Happenings.{lanes_of}
 use Rattle.qp_kernel.specs.Turning.{Terms, rest_told}
 use Rattle.qp_kernel.proofs.HappeningLemmas.{IsIdleRecord}
@@ -28,12 +30,8 @@ use Rattle.qp_turns.proofs.Turns.{noted}
 use Rattle.qp_vanilla.specs.Resting.{Rested}
 use Rattle.qp_vanilla.proofs.Resting.{goes-again, goes-over}
 
-and-none : (b : Bool) → (b && false) ≡ false
-and-none true = refl
-and-none false = refl
-
 rest-idle : (n : ℕ) → IsIdleRecord (placed 0 (untold (rest_told n)))
-rest-idle n = record { stim = refl; enters = λ o. refl; leaves = λ o. and-none (0 == o) }
+rest-idle n = record { stim = refl; enters = λ o. refl; leaves = λ o. (and_right (0 == o) false refl) }
 
 rest-mark : (q n k : ℕ) → mark_after (word.Queue q) n (rest_told k ∷ []) ≡ n
 unfolding mark_after mark_by

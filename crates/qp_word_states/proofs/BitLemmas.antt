@@ -1,13 +1,11 @@
 -- The bit of an object.
-use Rattle.std.proofs.Common.{◌≡◌, ℕ, zero, suc, ◌+◌, ◌-◌, ◌*◌, ◌/◌, ◌%◌, ◌^◌, ◌<◌, ◌≤◌, ◌==◌, false, List, ◌∷◌, ap, sym, ◌∙◌, arith}
-use Rattle.std.proofs.Math.Nat.{pow-succ', mul-div_cancel_left, mod-eq_of_lt}
+use Rattle.std.proofs.Common.{◌≡◌, ℕ, zero, suc, ◌+◌, ◌-◌, ◌*◌, ◌/◌, ◌%◌, ◌^◌, ◌<◌, ◌≤◌, ◌==◌, false, List, ◌∷◌, sym, ◌∙◌, arith}
+use Rattle.std.proofs.Math.Nat.{mod-eq_of_lt}
 use Rattle.std.proofs.Math.Pow.{pow_mono}
 use Rattle.std.proofs.lemmas.List.Sums.{sum_by-cons}
 use Rattle.std.proofs.lemmas.Bool.Decides.{nat_tests}
 use Rattle.qp_model.specs.Subscribers.{bits_of_set}
-
-bit-suc : (k : ℕ) → 2 ^ suc k / 2 ≡ 2 ^ k
-bit-suc k = ap (λ n. n / 2) (pow-succ' 2 k) ∙ mul-div_cancel_left (2 ^ k) (omega arith)
+use Rattle.qp_model.proofs.NumberLemmas.{bit-suc}
 
 pub bit-shift : (p : ℕ) → 0 < p → p ≤ 64 → 1 * 2 ^ (p - 1) % 18446744073709551616 ≡ 2 ^ p / 2
 bit-shift zero above le = absurd (omega arith)

@@ -130,3 +130,12 @@ module _ (s : Refs) (flags : List Bool) (standing : ℕ) (h : Stands s flags sta
 pub is_empty-standing : (xs : List ℕ) (n : ℕ) → n ≡ length xs → (n == 0) ≡ is_empty xs
 is_empty-standing [] n is = grind (arith, nat_tests)
 is_empty-standing (x ∷ xs) n is = grind (arith, nat_tests)
+
+-- a number stands no oftener than the list is long
+pub places-within_length : (k : ℕ) (xs : List ℕ) → places k xs ≤ length xs
+places-within_length k [] = omega arith
+places-within_length k (x ∷ xs) = one (x == k) (places-within_length k xs)
+  where
+    one : (b : Bool) → places k xs ≤ length xs → cond b (suc (places k xs)) (places k xs) ≤ suc (length xs)
+    one true h = omega arith
+    one false h = omega arith

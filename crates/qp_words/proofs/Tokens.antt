@@ -4,7 +4,7 @@ use mathlib.Core.Option.{some}
 use mathlib.Core.Logic.{dite}
 use native.Mathlib.Decide.{ℕ_discrete}
 use lib.ListN.{get_elem?}
-use Rattle.std.proofs.lemmas.Bool.{and_parts}
+use Rattle.std.proofs.lemmas.Bool.{and_parts, and_right}
 use Rattle.qp_chart.specs.StateTree.{has}
 use Rattle.qp_model.specs.declared.bodies.Entry.{Entry}
 use Rattle.qp_model.specs.declared.systems.System.{System}
@@ -142,13 +142,9 @@ spot-self p b n = rw (eq-eqb p p refl, eq-eqb b b refl) refl
 pub spot-at-self : (p b n m : ℕ) → is_spot_at p b m (spot p b n) ≡ eqb n m
 spot-at-self p b n m = rw (eq-eqb p p refl, eq-eqb b b refl) refl
 
-and-false : (b : Bool) → (b && false) ≡ false
-and-false true = refl
-and-false false = refl
-
 pub pair-else : (p b q c : ℕ) → (q ≢ p) ⊎ (c ≢ b) → (eqb p q && eqb b c) ≡ false
 pair-else p b q c (inl n) = rw (ne_eqb p q (λ e. n (sym e))) refl
-pair-else p b q c (inr n) = rw (ne_eqb b c (λ e. n (sym e)), and-false (eqb p q)) refl
+pair-else p b q c (inr n) = rw (ne_eqb b c (λ e. n (sym e)), (and_right (eqb p q) false refl)) refl
 
 pub spot-else : (p b n q c : ℕ) → (q ≢ p) ⊎ (c ≢ b) → is_spot q c (spot p b n) ≡ false
 spot-else p b n q c ne = pair-else p b q c ne

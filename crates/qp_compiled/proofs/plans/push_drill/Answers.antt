@@ -1,27 +1,27 @@
 use Rattle.std.proofs.Common.{length, ap, ◌∙◌, sym, ◌++◌}
 use Rattle.qp_chart.specs.Drill.{Plan}
 use Rattle.qp_compiled.specs.Codes.{tasks_at}
-use Rattle.qp_compiled.proofs.PlanLemmas.{drill-all, drill-less, drill-top, drill-none, drill-end, drill-done}
+use Rattle.qp_state_tree.proofs.PlanLemmas.{adds-end, plan-more, drill-init, drill-step, drill-top, drill-end}
 use Rattle.qp_compiled.proofs.plans.push_drill.Goals as goal
 
 pub loop-init : goal.loop-init
 loop-init c =
-    let whole = drill-all c.args.chart.now c.state-items.result.now c.args.s c.state-items.ensures in
+    let whole = drill-init c.args.chart.now c.state-items.result.now c.args.s c.state-items.ensures in
     record { tasks = ap (λ (p : Plan). tasks_at c.args.chart.now c.args.codes.now.items ++ p.tasks) whole; leaf = ap (λ (p : Plan). p.leaf) whole }
 
 pub returns-in-None : goal.returns-in-None
 returns-in-None c =
-    drill-end _ _ _ _ c.loop.leaf (drill-top c.args.chart.now _ c.loop.leaf c.in-None.ensures) c.loop.invariant.tasks c.loop.invariant.leaf
+    adds-end _ _ _ _ c.loop.leaf (drill-top c.args.chart.now _ c.loop.leaf c.in-None.ensures) c.loop.invariant.tasks c.loop.invariant.leaf
 
 pub loop-preserved : goal.loop-preserved
 loop-preserved c =
-    let more = drill-less c.args.chart.now (length c.state-items.result.now) c.loop.index c.loop.leaf c.in-Some.t c.loop-test.true c.in-Some.ensures in
+    let more = drill-step c.args.chart.now (length c.state-items.result.now) c.loop.index c.loop.leaf c.in-Some.t c.loop-test.true c.in-Some.ensures in
     record {
-      tasks = drill-done _ _ _ _ _ _ more c.in_ok-push_initial-in-Some.ensures c.loop.invariant.tasks;
+      tasks = plan-more _ _ _ _ _ _ more c.in_ok-push_initial-in-Some.ensures c.loop.invariant.tasks;
       leaf = ap (λ (p : Plan). p.leaf) (sym more) ∙ c.loop.invariant.leaf;
     }
 
 pub returns : goal.returns
 returns c =
-    drill-end _ _ _ _ c.loop.leaf (drill-none c.args.chart.now (length c.state-items.result.now) c.loop.index c.loop.leaf c.loop-test.false)
+    adds-end _ _ _ _ c.loop.leaf (drill-end c.args.chart.now (length c.state-items.result.now) c.loop.index c.loop.leaf c.loop-test.false)
     c.loop.invariant.tasks c.loop.invariant.leaf

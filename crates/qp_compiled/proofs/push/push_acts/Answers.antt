@@ -3,7 +3,8 @@ use Rattle.std.specs.List.{slice_get}
 use Rattle.std.proofs.lemmas.Option.{slice_get_read}
 use Rattle.qp_chart.specs.Task.{tasks_of}
 use Rattle.qp_compiled.specs.Codes.{tasks_at}
-use Rattle.qp_compiled.proofs.PushLemmas.{acts-step, acts-end}
+use Rattle.qp_compiled.proofs.PushLemmas.{acts-end}
+use Rattle.qp_state_tree.proofs.PlanLemmas.{acts-step}
 use Rattle.qp_compiled.proofs.push.push_acts.Goals as goal
 
 pub push_act-requires : goal.push_act-requires

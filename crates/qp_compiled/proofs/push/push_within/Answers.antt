@@ -1,6 +1,7 @@
 use Rattle.std.proofs.Common.{map, refl}
 use Rattle.qp_chart.specs.Task.{Do}
-use Rattle.qp_compiled.proofs.PushLemmas.{within-step, each-end}
+use Rattle.qp_compiled.proofs.PushLemmas.{within-step}
+use Rattle.qp_state_tree.proofs.PlanLemmas.{made-all}
 use Rattle.qp_compiled.proofs.push.push_within.Goals as goal
 
 pub loop-place-preserved : goal.loop-place-preserved
@@ -9,4 +10,4 @@ loop-place-preserved c =
     c.in_ok-push.ensures.items c.loop-place.invariant
 
 pub returns : goal.returns
-returns c = each-end (λ xs. map Do xs) c.args.plains.now c.loop-place.place _ _ refl c.loop-place-test.false c.loop-place.invariant
+returns c = made-all (λ xs. map Do xs) c.args.plains.now c.loop-place.place _ _ refl c.loop-place-test.false c.loop-place.invariant

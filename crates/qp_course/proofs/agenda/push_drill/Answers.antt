@@ -1,7 +1,7 @@
 use Rattle.std.proofs.Common.{length, ap, ◌∙◌, sym, ◌++◌}
 use Rattle.qp_chart.specs.Drill.{Plan}
 use Rattle.qp_course.specs.AsTask.{as_tasks}
-use Rattle.qp_course.proofs.TaskLemmas.{drill-init, drill-step, drill-top, drill-end, adds-end, plan-more}
+use Rattle.qp_state_tree.proofs.PlanLemmas.{adds-end, plan-more, drill-init, drill-step, drill-top, drill-end}
 use Rattle.qp_course.proofs.agenda.push_drill.Goals as goal
 
 pub loop-init : goal.loop-init

@@ -1,11 +1,12 @@
 use Rattle.std.proofs.Common.{ap, sym, ◌∙◌, Some}
-use Rattle.qp_course.proofs.TaskLemmas.{handled-some, handled-none, made-ok}
+use Rattle.std.proofs.lemmas.Result.{IfOk-weaker}
+use Rattle.qp_course.proofs.TaskLemmas.{handled-some, handled-none}
 use Rattle.qp_course.proofs.agenda.push_handled.Goals as goal
 
 pub returns-in_ok-push_acts-in-Some : goal.returns-in_ok-push_acts-in-Some
 returns-in_ok-push_acts-in-Some c =
     let h = c.h.inside in
-    made-ok _ _ c.push_moves.result
+    IfOk-weaker c.push_moves.result _ _
     (λ after k. handled-some c.args.chart.now c.args.leaf (record { state = h.state; place = h.place; row = h.row.now }) c.args.found _ _ _ _ after
     (c.in-Some.is ∙ ap Some (sym c.h.view_is)) c.in_ok-push_task-in-Some.ensures
     (rw c.acts.ensures at c.in_ok-push_acts-in-Some.ensures) k)

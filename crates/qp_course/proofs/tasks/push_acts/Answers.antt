@@ -1,5 +1,6 @@
 use Rattle.qp_chart.specs.Task.{tasks_of}
-use Rattle.qp_course.proofs.TaskLemmas.{acts-step, acts-none, made-all}
+use Rattle.qp_course.proofs.TaskLemmas.{acts-none}
+use Rattle.qp_state_tree.proofs.PlanLemmas.{made-all, acts-step}
 use Rattle.qp_course.proofs.tasks.push_acts.Goals as goal
 
 pub loop-act-preserved : goal.loop-act-preserved

@@ -1,6 +1,7 @@
 use Rattle.std.proofs.Common.{refl, get_or}
 use Rattle.qp_chart.specs.Task.{entries}
-use Rattle.qp_course.proofs.TaskLemmas.{entries-step, entries-none, made-all}
+use Rattle.qp_course.proofs.TaskLemmas.{entries-step, entries-none}
+use Rattle.qp_state_tree.proofs.PlanLemmas.{made-all}
 use Rattle.qp_course.proofs.tasks.push_entries.Goals as goal
 
 pub loop-s-preserved : goal.loop-s-preserved

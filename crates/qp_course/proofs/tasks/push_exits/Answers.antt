@@ -1,6 +1,7 @@
 use Rattle.std.proofs.Common.{refl, get_or}
 use Rattle.qp_chart.specs.Task.{exits}
-use Rattle.qp_course.proofs.TaskLemmas.{exits-step, exits-none, made-all}
+use Rattle.qp_course.proofs.TaskLemmas.{exits-step, exits-none}
+use Rattle.qp_state_tree.proofs.PlanLemmas.{made-all}
 use Rattle.qp_course.proofs.tasks.push_exits.Goals as goal
 
 pub loop-s-preserved : goal.loop-s-preserved

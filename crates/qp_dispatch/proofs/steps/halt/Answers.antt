@@ -1,4 +1,5 @@
-use Rattle.qp_dispatch.proofs.ResumeLemmas.{full-is, halts-full, spill-may, spill-stop, spilled}
+use Rattle.qp_dispatch.proofs.ResumeLemmas.{halts-full, spill-may, spill-stop}
+use Rattle.qp_calls.proofs.NoteLemmas.{spilled, full-is}
 use Rattle.qp_dispatch.proofs.steps.halt.Goals as goal
 
 pub note-requires : goal.note-requires

@@ -1,22 +1,22 @@
 use Rattle.std.proofs.Common.{◌∷◌, sym, subst}
 use Rattle.qp_model.specs.Calls as call
 use Rattle.qp_calls.specs.Deferring.{StandAll}
-use Rattle.qp_calls.proofs.CountLemmas.{stand-front}
+use Rattle.qp_calls.proofs.CountLemmas.{stand-front, stand-tail}
 use Rattle.qp_plain_tests.specs.Desk.{MayGoOn}
-use Rattle.qp_plain_tests.proofs.DeedLemmas.{goes-call, goes-flush, goes-list, goes-steady, stand-others}
+use Rattle.qp_plain_tests.proofs.DeedLemmas.{goes-call, goes-flush, goes-list, goes-steady}
 use Rattle.qp_plain_tests.proofs.deeds.perform.Goals as goal
 
 pub defer-requires-clause-stands : goal.defer-requires-clause-stands
 defer-requires-clause-stands g c = stand-front c.args.now.now _ _ c.requires.stand
 
 pub defer-requires-clause-kept : goal.defer-requires-clause-kept
-defer-requires-clause-kept g c = stand-others c.args.now.now _ _ c.requires.stand
+defer-requires-clause-kept g c = stand-tail c.args.now.now _ _ c.requires.stand
 
 pub recall-requires-clause-kept : goal.recall-requires-clause-kept
-recall-requires-clause-kept g c = subst (λ v. StandAll c.args.list.now.entries.items v) (sym c.owner-o.ensures.stays) (stand-others c.args.now.now _ _ c.requires.stand)
+recall-requires-clause-kept g c = subst (λ v. StandAll c.args.list.now.entries.items v) (sym c.owner-o.ensures.stays) (stand-tail c.args.now.now _ _ c.requires.stand)
 
 pub flush-requires : goal.flush-requires
-flush-requires g c = record { kept = stand-others c.args.now.now _ _ c.requires.stand }
+flush-requires g c = record { kept = stand-tail c.args.now.now _ _ c.requires.stand }
 
 pub forward-requires-clause-stands : goal.forward-requires-clause-stands
 forward-requires-clause-stands g c = stand-front c.args.now.now _ _ c.requires.stand

@@ -3,15 +3,16 @@ use Rattle.std.proofs.lemmas.List.{take_all}
 use Rattle.std.proofs.lemmas.Result.{err_from_is_err_and}
 use Rattle.qp_names.specs.declared.raw.RawChart.{RawChart}
 use Rattle.qp_names.specs.Faults.{first_in}
+use Rattle.qp_names.proofs.FaultLemmas.{Corresponds-more, Corresponds-none}
 use Rattle.qp_chart.specs.ChartOf.{IsChartOf}
 use Rattle.qp_system.specs.Within.{within_chart, charts_fault}
-use Rattle.qp_system.proofs.PassLemmas.{passed-none, passed-one, passed-at, passed-all, pair-none, pair-more, map-same}
+use Rattle.qp_system.proofs.PassLemmas.{passed-none, passed-one, passed-at, passed-all, map-same}
 use Rattle.qp_system.proofs.charts.checked_charts.Goals as goal
 
 pub loop-i-init : goal.loop-i-init
 loop-i-init c = record {
   passed = passed-none (within_chart c.args.names.now) (λ (r : RawChart). r) c.args.charts.now;
-  made = rw c.new-items.ensures.items (pair-none (IsChartOf c.args.names.now));
+  made = rw c.new-items.ensures.items (Corresponds-none (IsChartOf c.args.names.now));
 }
 
 pub returns-in_err-chart-clause-passes : goal.returns-in_err-chart-clause-passes
@@ -27,7 +28,7 @@ loop-i-preserved c = record {
   passed = passed-one (within_chart c.args.names.now) (λ (r : RawChart). r) c.args.charts.now c.loop-i.i c.index-charts-i.result c.loop-i.invariant.passed c.loop-i-test.true
       c.index-charts-i.is c.in_ok-chart.ensures.passes;
   made = rw c.in_ok-push.ensures.items
-      (pair-more (IsChartOf c.args.names.now) c.args.charts.now c.loop-i.items.items c.loop-i.i c.index-charts-i.result _ c.loop-i-test.true c.index-charts-i.is
+      (Corresponds-more (IsChartOf c.args.names.now) c.args.charts.now c.loop-i.items.items c.loop-i.i c.index-charts-i.result _ c.loop-i-test.true c.index-charts-i.is
       c.loop-i.invariant.made c.in_ok-chart.ensures.made);
 }
 

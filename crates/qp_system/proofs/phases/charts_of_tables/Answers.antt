@@ -3,7 +3,8 @@ use Rattle.std.proofs.lemmas.List.{length-map}
 use Rattle.std.proofs.lemmas.Result.{err_from_is_err_and}
 use Rattle.qp_system.specs.Later.{later_of}
 use Rattle.qp_system.specs.Within.{signal_name, object_name, names_of}
-use Rattle.qp_system.proofs.PassLemmas.{first-head, first-tail, none-head, none-end, readable-all}
+use Rattle.qp_system.proofs.PassLemmas.{first-head, first-tail, readable-all}
+use Rattle.qp_names.proofs.FaultLemmas.{none-next, none-last}
 use Rattle.qp_system.proofs.phases.charts_of_tables.Goals as goal
 
 pub checked_charts-requires-clause-readable : goal.checked_charts-requires-clause-readable
@@ -36,7 +37,7 @@ pub returns-clause-passes : goal.returns-clause-passes
 unfolding later_of
 returns-clause-passes c =
     let charts = rw c.in_ok-names.ensures at c.in_ok-checked.ensures.passes in
-    none-head _ _ c.in_ok-tables_pass.ensures (none-head _ _ charts (none-head _ _ c.in_ok-pools_pass.ensures none-end))
+    none-next _ _ c.in_ok-tables_pass.ensures (none-next _ _ charts (none-next _ _ c.in_ok-pools_pass.ensures none-last))
 
 pub returns-clause-made : goal.returns-clause-made
 returns-clause-made c = rw c.in_ok-names.ensures at c.in_ok-checked.ensures.made

@@ -1,12 +1,12 @@
 use Rattle.std.proofs.Common.{◌∙◌, refl}
 use Rattle.std.proofs.lemmas.Result.{err_from_is_err_and}
 use Rattle.qp_chart.specs.ChartOf.{IsChartOf}
+use Rattle.qp_chart.proofs.LegalLemmas.{Corresponds-length}
 use Rattle.qp_system.specs.Within.{names_of}
 use Rattle.qp_system.proofs.PassedLemmas.{passed-from}
 use Rattle.qp_system.proofs.SoundLemmas.{read-few, system-is_sound}
 use Rattle.qp_system.proofs.SystemLemmas.{refuses-system, all-have_charts, all-within, objects-of}
 use Rattle.qp_system.proofs.system.system_of_bytes.Goals as goal
-use Rattle.qp_system.proofs.PairLemmas.{Corresponds-length}
 
 pub returns-in_err-raw-clause-fault : goal.returns-in_err-raw-clause-fault
 returns-in_err-raw-clause-fault c =

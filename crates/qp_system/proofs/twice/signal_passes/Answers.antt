@@ -5,7 +5,8 @@ use Rattle.qp_model.specs.declared.systems.SignalDef.{SignalDef}
 use Rattle.qp_document.specs.Raw.{Signal}
 use Rattle.qp_system.specs.Between.{signal_fault}
 use Rattle.qp_document.specs.Views.{signal_view}
-use Rattle.qp_system.proofs.PassLemmas.{fault_if-holds, fault_if-fails, first-head, first-tail, none-head, none-end, list_any-map}
+use Rattle.qp_system.proofs.PassLemmas.{fault_if-holds, fault_if-fails, first-head, first-tail, list_any-map}
+use Rattle.qp_names.proofs.FaultLemmas.{none-next, none-last}
 use Rattle.qp_system.proofs.twice.signal_passes.Goals as goal
 
 named : (xs : List SignalDef) (name : List ℕ) → list_any (bytes_eq name) (map (λ (t : Signal). t.name) (map signal_view xs)) ≡ list_any (λ (x : SignalDef). bytes_eq name x.name.bytes) xs
@@ -25,5 +26,5 @@ returns-then-has_needless_parameters c =
 pub returns : goal.returns
 unfolding signal_fault
 returns c =
-    none-head _ _ (fault_if-fails _ _ _ (named c.args.earlier.now c.args.signal.now.name.bytes ∙ sym c.if-signal_is_named.ensures))
-    (none-head _ _ (fault_if-fails _ _ _ (sym c.if-has_needless_parameters.ensures)) none-end)
+    none-next _ _ (fault_if-fails _ _ _ (named c.args.earlier.now c.args.signal.now.name.bytes ∙ sym c.if-signal_is_named.ensures))
+    (none-next _ _ (fault_if-fails _ _ _ (sym c.if-has_needless_parameters.ensures)) none-last)

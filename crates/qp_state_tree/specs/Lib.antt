@@ -1,0 +1,2 @@
+-- The definitions of plans.
+pub mod Plans
