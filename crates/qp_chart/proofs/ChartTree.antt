@@ -2,7 +2,7 @@
 use Rattle.std.proofs.Common.{◌≡◌, ℕ, zero, suc, ◌+◌, ◌<◌, ◌≤◌, ◌==◌, Bool, true, false, ◌||◌, ◌⊎◌, inl, inr, eqb, List, [], ◌∷◌, length, get_or, Option, Some, None, refl, sym, ◌∙◌, arith}
 use Rattle.std.specs.Option.{option_or}
 use Rattle.std.specs.List.{list_any, IsDistinct, AllByRecursion}
-use Rattle.std.proofs.lemmas.Bool.{false≢true}
+use Rattle.std.proofs.lemmas.Bool.{false≢true, or_cases}
 use Rattle.std.proofs.lemmas.Bool.Decides.{nat_tests}
 use Rattle.std.proofs.lemmas.Option.{none-some}
 use Rattle.std.proofs.lemmas.Map.Steps.{length-le_from_distinct_below}
@@ -54,10 +54,6 @@ others (y ∷ xs) x h = by (eqb x y) (list_any (eqb x) xs) h (others xs x)
     by true b e later = absurd (false≢true (sym e))
     by false b e later = (refl, later e)
 
-either : (a b : Bool) → (a || b) ≡ true → (a ≡ true) ⊎ (b ≡ true)
-either true b h = inl refl
-either false b h = inr h
-
 -- a number of a state, or none
 abbrev pub IsInside : ℕ → Option ℕ → Type 0
 IsInside n None = Unit {0}
@@ -82,7 +78,7 @@ module _ (parents : List (Option ℕ)) (inside : (s : ℕ) → IsInside (length 
   unfolding path_in
   path-inside zero o r q h = absurd (false≢true h)
   path-inside (suc n) None r q h = absurd (false≢true h)
-  path-inside (suc n) (Some s) r q h = by (either (eqb q s) _ h) (path-inside n (parent_in parents s) (inside s) q)
+  path-inside (suc n) (Some s) r q h = by (or_cases (eqb q s) _ h) (path-inside n (parent_in parents s) (inside s) q)
     where
       by : (eqb q s ≡ true) ⊎ (list_any (eqb q) (path_in parents n (parent_in parents s)) ≡ true) → (list_any (eqb q) (path_in parents n (parent_in parents s)) ≡ true → (1 ≤ q) × (q ≤ length parents)) → (1 ≤ q) × (q ≤ length parents)
       by (inl e) later = let same : q ≡ s = grind (arith, nat_tests) in rw same r
@@ -118,7 +114,7 @@ module _ (parents : List (Option ℕ)) (inside : (s : ℕ) → IsInside (length 
         nowhere (inl e) = absurd (omega (arith, path-inside (suc (length parents)) o r 0 e))
 
         below : (q : ℕ) → list_any (eqb q) (0 ∷ path_in parents (suc (length parents)) o) ≡ true → q < suc (length parents)
-        below q h = by (either (eqb q 0) _ h)
+        below q h = by (or_cases (eqb q 0) _ h)
           where
             by : (eqb q 0 ≡ true) ⊎ (list_any (eqb q) (path_in parents (suc (length parents)) o) ≡ true) → q < suc (length parents)
             by (inl e) = let same : q ≡ 0 = grind (arith, nat_tests) in omega arith

@@ -1,8 +1,8 @@
 -- A chart without a fault has a legal tree.
-use Rattle.std.proofs.Common.{◌≡◌, ℕ, zero, suc, ◌+◌, ◌-◌, ◌<◌, ◌≤◌, Bool, true, false, not, ◌⊎◌, inl, inr, List, [], ◌∷◌, length, map, get_or, Option, Some, None, refl, sym, ◌∙◌, ap, subst, arith}
+use Rattle.std.proofs.Common.{◌≡◌, ℕ, zero, suc, ◌+◌, ◌-◌, ◌<◌, ◌≤◌, Bool, true, false, ◌⊎◌, inl, inr, List, [], ◌∷◌, length, map, get_or, Option, Some, None, refl, sym, ◌∙◌, ap, subst, arith}
 use Rattle.std.specs.Option.{option_flatten, option_and_then}
 use Rattle.std.specs.List.{slice_get}
-use Rattle.std.proofs.lemmas.Bool.{false≢true}
+use Rattle.std.proofs.lemmas.Bool.{not-false}
 use Rattle.std.proofs.lemmas.Bool.Decides.{nat_tests}
 use Rattle.std.proofs.lemmas.Option.{none-some, slice_get_past}
 use Rattle.std.proofs.lemmas.List.{length-map}
@@ -93,10 +93,6 @@ get_or-found : {A : Type 0} (xs : List A) (i : ℕ) (x : A) → slice_get xs i �
 get_or-found [] i x e = absurd (none-some x e)
 get_or-found (y ∷ xs) zero x e = (omega arith, cc)
 get_or-found (y ∷ xs) (suc i) x e = let rest = get_or-found xs i x e in (omega (arith, rest.0), rest.1)
-
-true-not : (b : Bool) → not b ≡ false → b ≡ true
-true-not true e = refl
-true-not false e = absurd (false≢true (sym e))
 
 module _ (names : Names) (raw : RawChart) (chart : Chart) (none : chart_fault names raw ≡ None) (made : IsChartOf names raw chart) where
   parents : List (Option ℕ)
@@ -207,7 +203,7 @@ module _ (names : Names) (raw : RawChart) (chart : Chart) (none : chart_fault na
       by None refers fine = absurd refers
       by (Some name) refers fine =
           let astray : is_astray raw s (state_number raw name.bytes) ≡ false = fault_if-None _ _ _ (none-both _ _ (none-both _ _ fine).1).0 in
-          true-not _ (subst (λ o. is_astray raw s o ≡ false) refers astray)
+          not-false _ (subst (λ o. is_astray raw s o ≡ false) refers astray)
 
 -- what the check promises of the tree
 pub IsLegal-from : (names : Names) (raw : RawChart) (chart : Chart) → chart_fault names raw ≡ None → IsChartOf names raw chart → IsLegal chart

@@ -1,6 +1,6 @@
 -- What is read is in the grammar, and what is in the grammar is read.
 use Rattle.std.proofs.Common.{◌≡◌, ◌≢◌, ◌≤◌, ℕ, zero, suc, Bool, true, false, List, [], ◌∷◌, ◌++◌, length, Option, Some, None, refl, ap, sym, ◌∙◌, arith, cond, subst, ◌==◌, eq-eqb, append_assoc, append-nil, length-append}
-use Rattle.std.proofs.lemmas.Bool.{eqb-true, eqb-false}
+use Rattle.std.proofs.lemmas.Bool.{eqb-true, eqb-false, ne_eqb}
 use Rattle.qp_language.specs.declared.operators.Unary.{Unary}
 use Rattle.qp_language.specs.declared.operators.Unary.TheVariants as unary
 use Rattle.qp_language.specs.declared.operators.Binary.{Binary}
@@ -19,7 +19,7 @@ use Rattle.qp_language.specs.Tokens.{Tok, ◌>>=◌, tokens_of_text}
 use Rattle.qp_language.specs.Tokens as tok
 use Rattle.qp_language.specs.Reading.{Gives, Reader, rank_of, operator_at, step, more_at, level_at, atom_at, prefix_at, after_close, nested_at, operand_at, unary_at, expr_at, all_of, term_of_text}
 use Rattle.qp_language.specs.Grammar.{IsExpr, number, variable, ok, me, parameter, sign, parens, tighter, joined, compared, sign_token, IsExprText}
-use Rattle.qp_language.proofs.ParserLemmas.{ends, not_eqb}
+use Rattle.qp_language.proofs.ParserLemmas.{ends}
 
 -- no operator up to this rank begins the tokens
 abbrev pub Stops : ℕ → List Tok → Type 0
@@ -34,7 +34,7 @@ at_rank op us r h = rw (eq-eqb (rank_of op) r h) refl
 
 off_rank : (op : Binary) (us : List Tok) (r k : ℕ) → rank_of op ≡ suc r → k ≤ r → operator_at k (tok.Op op ∷ us) ≡ None
 unfolding operator_at
-off_rank op us r k h le = let ne : rank_of op ≡ k → ⊥ = λ e. omega (arith, e, h, le) in rw (not_eqb (rank_of op) k ne) refl
+off_rank op us r k h le = let ne : rank_of op ≡ k → ⊥ = λ e. omega (arith, e, h, le) in rw (ne_eqb (rank_of op) k ne) refl
 
 -- read in full where nothing follows that goes on
 abbrev Full : ℕ → ℕ → List Tok → Term → Type 0
@@ -77,7 +77,7 @@ go_on r d op ts us x y e ne going full ne' rest s =
       | suc n ↦ λ enough is. (
         n,
         omega (arith, enough, length-append us rest),
-        ap (level_at (unary_at d) (suc r)) (append_assoc ts (tok.Op op ∷ us) rest) ∙ is ∙ one_step (level_at (unary_at d) r) r n op (us ++ rest) rest x y e (full rest s) ∙ rw (not_eqb (suc r) 3 ne) refl,
+        ap (level_at (unary_at d) (suc r)) (append_assoc ts (tok.Op op ∷ us) rest) ∙ is ∙ one_step (level_at (unary_at d) r) r n op (us ++ rest) rest x y e (full rest s) ∙ rw (ne_eqb (suc r) 3 ne) refl,
       )
     ] g.1 g.2
 
@@ -222,7 +222,7 @@ chain_step : (d r : ℕ) (reader : Reader) → suc r ≢ 3 → Sound r d reader 
 chain_step d r reader ne below n left front mid x rest (op, us) is begins again g =
     let i = bind_ok (reader us) _ _ g in
     let t = below us i.0.0 i.0.1 i.1 in
-    let onwards : more_at reader (suc r) n (term.Two op left i.0.0) i.0.1 ≡ Some (x, rest) = not_chosen (suc r == 3) _ _ _ (not_eqb (suc r) 3 ne) i.2 in
+    let onwards : more_at reader (suc r) n (term.Two op left i.0.0) i.0.1 ≡ Some (x, rest) = not_chosen (suc r == 3) _ _ _ (ne_eqb (suc r) 3 ne) i.2 in
     let b = again (term.Two op left i.0.0) (front ++ tok.Op op ∷ t.front) i.0.1 x rest (joined begins.ranks ne is t.is) onwards in (
       b.0,
       ap (λ m. front ++ m) (begins.splits ∙ ap (λ r. tok.Op op ∷ r) t.splits) ∙ sym (append_assoc front (tok.Op op ∷ t.front) i.0.1) ∙ b.1,

@@ -1,6 +1,7 @@
 -- Operands and operators, as they are read.
 use Rattle.std.proofs.Common.{◌≡◌, ◌<◌, ◌≤◌, ◌-◌, ℕ, zero, suc, Bool, true, false, List, [], ◌∷◌, length, Option, Some, None, Result, refl, ap, sym, ◌∙◌, arith, cond, subst, ◌==◌, eq-eqb, map}
 use Rattle.std.specs.Prelude.{IsErrAnd}
+use Rattle.std.proofs.lemmas.Bool.{ne_eqb}
 use Rattle.std.proofs.lemmas.Result.{err_from_is_err_and}
 use Rattle.qp_language.specs.declared.operators.Binary.{Binary}
 use Rattle.qp_language.specs.declared.trees.ExprFault.{ExprFault}
@@ -39,9 +40,6 @@ pub record MoreFrom (whole : Part Term) (operand : Reader) (rank : ℕ) (left : 
   pub fuel : ℕ
   pub enough : length rest ≤ fuel
   pub is : whole ≡ more_at operand rank fuel left rest
-
-pub not_eqb : (a b : ℕ) → (a ≡ b → ⊥) → (a == b) ≡ false
-not_eqb a b h = grind arith
 
 tested : (b : Bool) (op : Binary) (ts : List Tok) (x : Binary × List Tok) → cond b (Some (op, ts)) None ≡ Some x → ts ≡ x.1
 tested true op ts x h = cc
@@ -85,7 +83,7 @@ module _ (whole : Part Term) (operand : Reader) (rank : ℕ) (left : Term) (rest
   pub more_goes_on : (op : Binary) (us after : List Tok) (right : Term) → operator_at rank rest ≡ Some (op, us) → MoreFrom whole operand rank left rest → operand us ≡ Some (right, after) → length after ≤ length us → (rank ≡ 3 → ⊥) → MoreFrom whole operand rank (term.Two op left right) after
   more_goes_on op us after right h m found shorter other =
       let o = one_more op us h m in
-      record { fuel = o.0; enough = omega (arith, o.1, shorter); is = o.2 ∙ rw found (rw (not_eqb rank 3 other) refl) }
+      record { fuel = o.0; enough = omega (arith, o.1, shorter); is = o.2 ∙ rw found (rw (ne_eqb rank 3 other) refl) }
 
 pub unary_zero : (d : ℕ) (ts : List Tok) → d ≡ 0 → unary_at d ts ≡ atom_at ts
 unfolding unary_at

@@ -1,6 +1,6 @@
 -- Numbers, words and the tokens of a text.
-use Rattle.std.proofs.Common.{◌≡◌, ◌<◌, ◌≤◌, ◌+◌, ◌-◌, ◌*◌, ◌^◌, ℕ, zero, suc, Bool, true, false, List, [], ◌∷◌, ◌++◌, length, take, drop, get_or, Option, Some, None, refl, ap, sym, ◌∙◌, arith, cond, drop-cons, nat_lt, slice_index, ◌||◌, ◌⊎◌, inl, inr, lit<}
-use Rattle.std.proofs.lemmas.Bool.{ltb-true, ltb-false}
+use Rattle.std.proofs.Common.{◌≡◌, ◌<◌, ◌≤◌, ◌+◌, ◌-◌, ◌*◌, ◌^◌, ℕ, zero, suc, Bool, true, false, List, [], ◌∷◌, ◌++◌, length, take, drop, get_or, Option, Some, None, refl, ap, sym, ◌∙◌, arith, cond, drop-cons, nat_lt, slice_index, ◌⊎◌, inl, inr, lit<}
+use Rattle.std.proofs.lemmas.Bool.{ltb-true, ltb-false, or_left}
 use Rattle.std.proofs.lemmas.List.Sums.{prefix_len_passes}
 use Rattle.std.proofs.lemmas.List.{get_or-take, get_or_past, length-take}
 use Rattle.std.specs.List.{prefix_len}
@@ -55,9 +55,6 @@ mark_shorter (b ∷ bs) found h =
       | inr one ↦ rw (before_rest (drop 1 (b ∷ bs)) (mark_of (take 1 (b ∷ bs))) found one) (drops 0 b bs)
     ]
 
-or_true : (a b : Bool) → a ≡ true → (a || b) ≡ true
-or_true a b h = rw h refl
-
 letter_token : ℕ → List ℕ → Option Lexed
 letter_token b bs = let n = prefix_len is_word_byte (b ∷ bs) in before (drop n (b ∷ bs)) (word_token (take n (b ∷ bs)))
 
@@ -71,7 +68,7 @@ digit_shorter b bs found false d h = mark_shorter (b ∷ bs) found h
 
 letter_shorter : (b : ℕ) (bs : List ℕ) (found : Lexed) (is : Bool) → is_letter b ≡ is → cond is (letter_token b bs) (cond (is_ascii_digit b) (digit_token b bs) (mark_at (b ∷ bs))) ≡ Some found → length found.1 < length (b ∷ bs)
 unfolding letter_token
-letter_shorter b bs found true l h = rw (before_rest (drop (prefix_len is_word_byte (b ∷ bs)) (b ∷ bs)) (word_token (take (prefix_len is_word_byte (b ∷ bs)) (b ∷ bs))) found h) (passes_one is_word_byte b bs (or_true (is_letter b) (is_ascii_digit b) l))
+letter_shorter b bs found true l h = rw (before_rest (drop (prefix_len is_word_byte (b ∷ bs)) (b ∷ bs)) (word_token (take (prefix_len is_word_byte (b ∷ bs)) (b ∷ bs))) found h) (passes_one is_word_byte b bs (or_left (is_letter b) (is_ascii_digit b) l))
 letter_shorter b bs found false l h = digit_shorter b bs found (is_ascii_digit b) refl h
 
 -- a token takes at least one byte

@@ -1,7 +1,7 @@
 -- Tests.
-use Rattle.std.proofs.Common.{◌≡◌, ℕ, Bool, true, false, ◌&&◌, List, [], ◌∷◌, map, Option, All, refl, sym, ◌∙◌, ap}
+use Rattle.std.proofs.Common.{◌≡◌, ℕ, Bool, true, ◌&&◌, List, [], ◌∷◌, map, Option, All, sym, ◌∙◌, ap}
 use Rattle.std.specs.List.{list_all}
-use Rattle.std.proofs.lemmas.Bool.{false≢true}
+use Rattle.std.proofs.lemmas.Bool.{and_parts}
 use Rattle.std.proofs.lemmas.List.Elements.{All-nil, All-cons}
 use Rattle.qp_names.specs.declared.raw.RawChart.{RawChart}
 use Rattle.qp_language.specs.declared.trees.Expr.{Expr}
@@ -15,22 +15,13 @@ use Rattle.qp_names.specs.ActionFaults.{term_known, IsSound, order_known, order_
 pub and-both : (a b c : Bool) → a ≡ true → c ≡ b → c ≡ (a && b)
 and-both a b c holds same = same ∙ sym (ap (λ (x : Bool). x && b) holds)
 
--- both tests hold where they hold together
-pub and-left : (a b : Bool) → (a && b) ≡ true → a ≡ true
-and-left true b h = refl
-and-left false b h = h
-
-pub and-right : (a b : Bool) → (a && b) ≡ true → b ≡ true
-and-right true b h = h
-and-right false b h = absurd (false≢true h)
-
 -- expressions without a fault
 pub All-sound : (chart : RawChart) (params : ℕ) (es : List Expr) → list_all (λ e. term_known chart e) (map term_of es) ≡ true → list_all (λ e. reaches params e) (map term_of es) ≡ true
     → All (λ e. IsSound chart params (term_of e)) es
 All-sound chart params [] known reached = All-nil (λ e. IsSound chart params (term_of e))
 All-sound chart params (e ∷ es) known reached =
-    All-cons (λ e. IsSound chart params (term_of e)) e es (record { known = and-left _ _ known; reached = and-left _ _ reached })
-    (All-sound chart params es (and-right _ _ known) (and-right _ _ reached))
+    All-cons (λ e. IsSound chart params (term_of e)) e es (record { known = (and_parts _ _ known).0; reached = (and_parts _ _ reached).0 })
+    (All-sound chart params es (and_parts _ _ known).1 (and_parts _ _ reached).1)
 
 -- plain actions without a fault
 pub All-allowed : (names : Names) (chart : RawChart) (inside : Option ℕ) (plains : List PlainAction)
@@ -39,5 +30,5 @@ pub All-allowed : (names : Names) (chart : RawChart) (inside : Option ℕ) (plai
 All-allowed names chart inside [] known in_range fits = All-nil (λ p. IsAllowed names chart inside (order_of p))
 All-allowed names chart inside (p ∷ ps) known in_range fits =
     All-cons (λ p. IsAllowed names chart inside (order_of p)) p ps
-    (record { known = and-left _ _ known; in_range = and-left _ _ in_range; fits = and-left _ _ fits })
-    (All-allowed names chart inside ps (and-right _ _ known) (and-right _ _ in_range) (and-right _ _ fits))
+    (record { known = (and_parts _ _ known).0; in_range = (and_parts _ _ in_range).0; fits = (and_parts _ _ fits).0 })
+    (All-allowed names chart inside ps (and_parts _ _ known).1 (and_parts _ _ in_range).1 (and_parts _ _ fits).1)
