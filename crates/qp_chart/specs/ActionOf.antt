@@ -70,6 +70,13 @@ IsActOf names chart params (Plain order) a = (p : plain.Plain) × (a ≡ act.Pla
 IsActOf names chart params (Locked number orders) a =
     (ceiling : ℕ) × (acts : List plain.Plain) × (a ≡ act.Locked ceiling acts) × (number ≡ pos ceiling) × Corresponds (IsPlainOf names chart params) orders acts
 
+-- an action that names what is declared, keeps its ranges and fits its place
+pub record IsActOfCommand (names : Names) (chart : RawChart) (inside : Option ℕ) (command : Command) (a : Act) : Type 0 where
+  pub known : command_known names chart command ≡ true
+  pub in_range : command_in_range names command ≡ true
+  pub fits : command_fits names inside command ≡ true
+  pub made : IsActOf names chart (params_in inside) command a
+
 -- the action of a text, which names what is declared, keeps its ranges and fits its place
 pub record IsActOfText (names : Names) (chart : RawChart) (inside : Option ℕ) (text : List ℕ) (a : Act) : Type 0 where
   pub command : Command

@@ -97,6 +97,25 @@ frame_fault names chart =
     ∷ tree_fault (parents_of chart)
     ∷ [])
 
+-- the first fault of a chart's start, and of each state in turn
+unfoldable pub body_fault : Names → RawChart → Option Fault
+body_fault names chart =
+    first_of
+    (undeclared (state_number chart chart.init.bytes) (Key INIT ∷ [])
+    ∷ texts_fault names chart None [] INIT_DO chart.init_do
+    ∷ first_in (state_fault names chart) 1 chart.state
+    ∷ [])
+
+-- the first fault of what a chart declares, its start, and each state in turn
+unfoldable pub parts_fault : Names → RawChart → Option Fault
+parts_fault names chart =
+    first_of
+    (frame_fault names chart
+    ∷ undeclared (state_number chart chart.init.bytes) (Key INIT ∷ [])
+    ∷ texts_fault names chart None [] INIT_DO chart.init_do
+    ∷ first_in (state_fault names chart) 1 chart.state
+    ∷ [])
+
 -- the first fault of a chart: names that stand twice, what it declares, its start, and each state in turn
 unfoldable pub chart_fault : Names → RawChart → Option Fault
 chart_fault names chart =

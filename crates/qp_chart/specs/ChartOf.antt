@@ -44,6 +44,12 @@ pub record IsStateOf (names : Names) (chart : RawChart) (raw : RawState) (state 
   pub init_do : AreActsOf names chart None raw.init_do state.init_do
   pub row : Corresponds (IsRowOf names chart) raw.row state.row
 
+-- a chart's start and its states
+pub record IsBodyOf (names : Names) (raw : RawChart) (start : ℕ) (acts : List Act) (states : List State) : Type 0 where
+  pub init : state_number raw raw.init.bytes ≡ Some start
+  pub init_do : AreActsOf names raw None raw.init_do acts
+  pub state : Corresponds (IsStateOf names raw) raw.state states
+
 -- a chart
 pub record IsChartOf (names : Names) (raw : RawChart) (chart : Chart) : Type 0 where
   pub name : chart.name ≡ raw.name

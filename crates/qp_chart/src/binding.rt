@@ -1,13 +1,13 @@
 //! Resolving the names of an expression.
 
-ghost use Rattle.std.specs.Prelude.{◌≡◌, ◌<◌, ◌≤◌, false, true, length, slice_get, IfOk, IfErr, IfSome, IfNone};
-ghost use Rattle.qp_language.specs.Terms.{term_of};
+ghost use Rattle.std.specs.Prelude.{◌≡◌, ◌<◌, ◌≤◌, ℕ, List, false, true, length, slice_get, IfOk, IfErr, IfSome, IfNone};
+ghost use Rattle.qp_language.specs.Terms.{Word, Term, One, Two, term_of};
 ghost use Rattle.std.specs.List.{list_any, position};
 ghost use Rattle.qp_chart.specs.Binding.{Binds, IsCause};
 ghost use Rattle.qp_names.specs.Known.{is_named, words, has_word, knows};
 
 use crate::expression::Bound;
-use qp_language::{Expr, Name};
+use qp_language::{Binary, Expr, Name, Unary};
 use qp_names::known::is_known;
 use std::alloc::{AllocError, AllocFailed, Global};
 
@@ -83,14 +83,33 @@ fn resolve(alloc: Global, e: &Expr, vars: &[Name], params: u8) -> Result<Bound, 
         }
         Expr::One(op, x) => {
             let inner = resolve(alloc, x, vars, params)?;
-            Ok(Bound::One(*op, Box::new(alloc, inner)?))
+            one(alloc, *op, inner)
         }
         Expr::Two(op, x, y) => {
             let left = resolve(alloc, x, vars, params)?;
             let right = resolve(alloc, y, vars, params)?;
-            Ok(Bound::Two(*op, Box::new(alloc, left)?, Box::new(alloc, right)?))
+            two(alloc, *op, left, right)
         }
     }
+}
+
+// An operator and its operand.
+#[tactic(auto, unfolding(qp_names::specs::Known::knows, qp_names::specs::Known::reaches, crate::specs::Binding::named, crate::specs::Expr::InRange))]
+fn one(alloc: Global, op: Unary, inner: Bound) -> Result<Bound, BindFault>
+    ensures ok { (names : List Word) (params : ℕ) (e : Term) → Binds names params e inner → IfOk result (Binds names params (One op e)) }
+    ensures memory { IfErr result (λ e. e ≡ BindFault.Memory) }
+{
+    Ok(Bound::One(op, Box::new(alloc, inner)?))
+}
+
+// An operator and its operands.
+#[tactic(auto, unfolding(qp_names::specs::Known::knows, qp_names::specs::Known::reaches, crate::specs::Binding::named, crate::specs::Expr::InRange))]
+fn two(alloc: Global, op: Binary, left: Bound, right: Bound) -> Result<Bound, BindFault>
+    ensures ok { (names : List Word) (params : ℕ) (e f : Term) → Binds names params e left → Binds names params f right →
+        IfOk result (Binds names params (Two op e f)) }
+    ensures memory { IfErr result (λ e. e ≡ BindFault.Memory) }
+{
+    Ok(Bound::Two(op, Box::new(alloc, left)?, Box::new(alloc, right)?))
 }
 
 // The first place of a name among the variables.

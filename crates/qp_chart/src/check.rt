@@ -2,13 +2,14 @@
 ghost use Rattle.std.specs.Prelude.{◌≡◌, ◌≤◌, length, map, None, IfOk, IfErr};
 ghost use Rattle.qp_names.specs.Faults.{IsFault, first_in};
 ghost use Rattle.qp_chart.specs.Parents.{parents_of, parent_number};
-ghost use Rattle.qp_chart.specs.ChartFaults.{chart_fault, frame_fault, timer_fault, parent_at};
+ghost use Rattle.qp_chart.specs.ChartFaults.{chart_fault, parts_fault, body_fault, frame_fault, timer_fault, parent_at};
 ghost use Rattle.qp_names.specs.Pairs.{Corresponds};
-ghost use Rattle.qp_chart.specs.ChartOf.{IsTimerOf, IsChartOf};
+ghost use Rattle.qp_chart.specs.ChartOf.{IsTimerOf, IsBodyOf, IsChartOf};
 ghost use Rattle.qp_chart.specs.LegalTree.{IsLegal};
 ghost use Rattle.qp_names.specs.Readable.{IsReadable};
 
-use crate::checked::{Chart, Timer, Timers};
+use crate::actions::Acts;
+use crate::checked::{Chart, States, Timer, Timers};
 use crate::parents::check_tree;
 use crate::state_check::checked_states;
 use crate::statements::checked_acts;
@@ -34,26 +35,53 @@ impl Chart {
             chart: raw,
             tables: tables_of(alloc, raw, names)?,
         };
-        let (timer, parents) = checked_frame(alloc, &scope)?;
-        let init = scope.state(&raw.init, &[], key::INIT)?;
-        let init_do = checked_acts(
-            alloc,
-            &scope,
-            None,
-            &[],
-            key::INIT_DO,
-            raw.init_do.as_slice(),
-        )?;
-        let state = checked_states(alloc, &scope, parents.as_slice(), raw.state.as_slice())?;
-        Ok(Chart {
-            name: raw.name,
-            init,
-            init_do,
-            vars: copied_vars(alloc, raw.vars.as_slice())?,
-            timer,
-            state,
-        })
+        checked_chart(alloc, &scope)
     }
+}
+
+/// A chart in which no name stands twice.
+fn checked_chart(alloc: Global, scope: &Scope<'_>) -> Result<Chart, ChartFault>
+    requires { IsReadable scope.now.names.now scope.now.chart.now }
+    ensures ok { IfOk result (λ chart. (parts_fault scope.now.names.now scope.now.chart.now ≡ None) × IsChartOf scope.now.names.now scope.now.chart.now chart) }
+    ensures fault { IfErr result (IsFault (parts_fault scope.now.names.now scope.now.chart.now)) }
+{
+    let (timer, parents) = checked_frame(alloc, scope)?;
+    let (init, init_do, state) = checked_body(alloc, scope, parents.as_slice())?;
+    let vars = copied_vars(alloc, scope.chart.vars.as_slice())?;
+    Ok(Chart {
+        name: scope.chart.name,
+        init,
+        init_do,
+        vars,
+        timer,
+        state,
+    })
+}
+
+/// The start of a chart, and its states.
+fn checked_body(
+    alloc: Global,
+    scope: &Scope<'_>,
+    parents: &[Option<u8>],
+) -> Result<(u8, Acts, States), ChartFault>
+    requires parents { parents.now ≡ parents_of scope.now.chart.now }
+    requires readable { IsReadable scope.now.names.now scope.now.chart.now }
+    ensures ok { IfOk result (λ body. (body_fault scope.now.names.now scope.now.chart.now ≡ None) ×
+        IsBodyOf scope.now.names.now scope.now.chart.now body.0 body.1 body.2) }
+    ensures fault { IfErr result (IsFault (body_fault scope.now.names.now scope.now.chart.now)) }
+{
+    let raw = scope.chart;
+    let init = scope.state(&raw.init, &[], key::INIT)?;
+    let init_do = checked_acts(
+        alloc,
+        scope,
+        None,
+        &[],
+        key::INIT_DO,
+        raw.init_do.as_slice(),
+    )?;
+    let state = checked_states(alloc, scope, parents, raw.state.as_slice())?;
+    Ok((init, init_do, state))
 }
 
 /// The time events, and the parents of the states, which make a tree.

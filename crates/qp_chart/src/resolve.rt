@@ -2,7 +2,7 @@
 ghost use Rattle.std.specs.Prelude.{◌≡◌, All, Some, None, map, true, IfOk, IfErr};
 ghost use Rattle.std.specs.Option.{is_some};
 ghost use Rattle.qp_names.specs.Pairs.{Corresponds};
-ghost use Rattle.qp_language.specs.Terms.{term_of, event_of, order_of, command_of, address_of};
+ghost use Rattle.qp_language.specs.Terms.{Set, Say, Post, Lifo, Publish, Arm, Rearm, term_of, event_of, order_of, command_of, address_of};
 ghost use Rattle.qp_names.specs.RawNumbers.{signal_number, timer_number, variable_number};
 ghost use Rattle.qp_names.specs.ActionFaults.{IsAllowed, IsSound, command_known, command_in_range, command_fits, event_known, event_fits, receiver_known, is_byte, params_in};
 ghost use Rattle.qp_chart.specs.ActionOf.{IsBoundOf, IsTargetOf, IsEventOf, IsByteOf, IsPlainOf, IsActOf};
@@ -124,6 +124,146 @@ fn event(
     Ok((signal, pars))
 }
 
+/// An assignment.
+#[tactic(auto, unfolding(qp_names::specs::ActionFaults::order_known, qp_names::specs::ActionFaults::order_in_range, qp_names::specs::ActionFaults::order_fits, crate::specs::ActionOf::IsPlainOf))]
+fn resolved_set(
+    alloc: Global,
+    scope: &Scope<'_>,
+    inside: Option<u8>,
+    var: &Name,
+    value: &Expr,
+) -> Result<Plain, ChartFault>
+    requires { IsAllowed scope.now.names.now scope.now.chart.now inside (Set var.now.bytes (term_of value.now)) }
+    ensures ok { IfOk result (IsPlainOf scope.now.names.now scope.now.chart.now (params_in inside) (Set var.now.bytes (term_of value.now))) }
+    ensures memory { IfErr result (IsFault None) }
+{
+    let var = declared_variable(scope, var);
+    let value = bound(alloc, scope, inside.unwrap_or(0), value)?;
+    Ok(Plain::Set { var, value })
+}
+
+/// A value that is said.
+#[tactic(auto, unfolding(qp_names::specs::ActionFaults::order_known, qp_names::specs::ActionFaults::order_in_range, qp_names::specs::ActionFaults::order_fits, crate::specs::ActionOf::IsPlainOf))]
+fn resolved_say(
+    alloc: Global,
+    scope: &Scope<'_>,
+    inside: Option<u8>,
+    value: &Expr,
+) -> Result<Plain, ChartFault>
+    requires { IsAllowed scope.now.names.now scope.now.chart.now inside (Say (term_of value.now)) }
+    ensures ok { IfOk result (IsPlainOf scope.now.names.now scope.now.chart.now (params_in inside) (Say (term_of value.now))) }
+    ensures memory { IfErr result (IsFault None) }
+{
+    let value = bound(alloc, scope, inside.unwrap_or(0), value)?;
+    Ok(Plain::Say(value))
+}
+
+/// An event that is posted.
+#[tactic(auto, unfolding(qp_names::specs::ActionFaults::order_known, qp_names::specs::ActionFaults::order_in_range, qp_names::specs::ActionFaults::order_fits, crate::specs::ActionOf::IsPlainOf))]
+fn resolved_post(
+    alloc: Global,
+    scope: &Scope<'_>,
+    inside: Option<u8>,
+    to: &Receiver,
+    posted: &EventTree,
+    margin: Option<i64>,
+    reserve: Option<i64>,
+) -> Result<Plain, ChartFault>
+    requires { IsAllowed scope.now.names.now scope.now.chart.now inside (Post (address_of to.now) (event_of posted.now) margin reserve) }
+    ensures ok { IfOk result (IsPlainOf scope.now.names.now scope.now.chart.now (params_in inside) (Post (address_of to.now) (event_of posted.now) margin reserve)) }
+    ensures memory { IfErr result (IsFault None) }
+{
+    let to = target(scope, to);
+    let (sig, pars) = event(alloc, scope, inside.unwrap_or(0), posted)?;
+    let margin = byte(margin);
+    let reserve = byte(reserve);
+    Ok(Plain::Post {
+        to,
+        sig,
+        pars,
+        margin,
+        reserve,
+    })
+}
+
+/// An event that is posted to the front.
+#[tactic(auto, unfolding(qp_names::specs::ActionFaults::order_known, qp_names::specs::ActionFaults::order_in_range, qp_names::specs::ActionFaults::order_fits, crate::specs::ActionOf::IsPlainOf))]
+fn resolved_lifo(
+    alloc: Global,
+    scope: &Scope<'_>,
+    inside: Option<u8>,
+    posted: &EventTree,
+    reserve: Option<i64>,
+) -> Result<Plain, ChartFault>
+    requires { IsAllowed scope.now.names.now scope.now.chart.now inside (Lifo (event_of posted.now) reserve) }
+    ensures ok { IfOk result (IsPlainOf scope.now.names.now scope.now.chart.now (params_in inside) (Lifo (event_of posted.now) reserve)) }
+    ensures memory { IfErr result (IsFault None) }
+{
+    let (sig, pars) = event(alloc, scope, inside.unwrap_or(0), posted)?;
+    let reserve = byte(reserve);
+    Ok(Plain::Lifo { sig, pars, reserve })
+}
+
+/// An event that is published.
+#[tactic(auto, unfolding(qp_names::specs::ActionFaults::order_known, qp_names::specs::ActionFaults::order_in_range, qp_names::specs::ActionFaults::order_fits, crate::specs::ActionOf::IsPlainOf))]
+fn resolved_publish(
+    alloc: Global,
+    scope: &Scope<'_>,
+    inside: Option<u8>,
+    posted: &EventTree,
+    reserve: Option<i64>,
+) -> Result<Plain, ChartFault>
+    requires { IsAllowed scope.now.names.now scope.now.chart.now inside (Publish (event_of posted.now) reserve) }
+    ensures ok { IfOk result (IsPlainOf scope.now.names.now scope.now.chart.now (params_in inside) (Publish (event_of posted.now) reserve)) }
+    ensures memory { IfErr result (IsFault None) }
+{
+    let (sig, pars) = event(alloc, scope, inside.unwrap_or(0), posted)?;
+    let reserve = byte(reserve);
+    Ok(Plain::Publish { sig, pars, reserve })
+}
+
+/// A time event that is armed.
+#[tactic(auto, unfolding(qp_names::specs::ActionFaults::order_known, qp_names::specs::ActionFaults::order_in_range, qp_names::specs::ActionFaults::order_fits, crate::specs::ActionOf::IsPlainOf))]
+fn resolved_arm(
+    alloc: Global,
+    scope: &Scope<'_>,
+    inside: Option<u8>,
+    timer: &Name,
+    ticks: &Expr,
+    interval: &Expr,
+) -> Result<Plain, ChartFault>
+    requires { IsAllowed scope.now.names.now scope.now.chart.now inside (Arm timer.now.bytes (term_of ticks.now) (term_of interval.now)) }
+    ensures ok { IfOk result (IsPlainOf scope.now.names.now scope.now.chart.now (params_in inside) (Arm timer.now.bytes (term_of ticks.now) (term_of interval.now))) }
+    ensures memory { IfErr result (IsFault None) }
+{
+    let timer = declared_timer(scope, timer);
+    let ticks = bound(alloc, scope, inside.unwrap_or(0), ticks)?;
+    let interval = bound(alloc, scope, inside.unwrap_or(0), interval)?;
+    Ok(Plain::Arm {
+        timer,
+        ticks,
+        interval,
+    })
+}
+
+/// A time event that is armed again.
+#[tactic(auto, unfolding(qp_names::specs::ActionFaults::order_known, qp_names::specs::ActionFaults::order_in_range, qp_names::specs::ActionFaults::order_fits, crate::specs::ActionOf::IsPlainOf))]
+fn resolved_rearm(
+    alloc: Global,
+    scope: &Scope<'_>,
+    inside: Option<u8>,
+    timer: &Name,
+    ticks: &Expr,
+) -> Result<Plain, ChartFault>
+    requires { IsAllowed scope.now.names.now scope.now.chart.now inside (Rearm timer.now.bytes (term_of ticks.now)) }
+    ensures ok { IfOk result (IsPlainOf scope.now.names.now scope.now.chart.now (params_in inside) (Rearm timer.now.bytes (term_of ticks.now))) }
+    ensures memory { IfErr result (IsFault None) }
+{
+    let timer = declared_timer(scope, timer);
+    let ticks = bound(alloc, scope, inside.unwrap_or(0), ticks)?;
+    Ok(Plain::Rearm { timer, ticks })
+}
+
 /// An action that may stand within `locked`.
 #[tactic(auto, unfolding(qp_language::specs::Terms::order_of, qp_names::specs::ActionFaults::order_known, qp_names::specs::ActionFaults::order_in_range, qp_names::specs::ActionFaults::order_fits, crate::specs::ActionOf::IsPlainOf))]
 fn resolved_plain(
@@ -136,47 +276,24 @@ fn resolved_plain(
     ensures ok { IfOk result (IsPlainOf scope.now.names.now scope.now.chart.now (params_in inside) (order_of plain.now)) }
     ensures memory { IfErr result (IsFault None) }
 {
-    let params = inside.unwrap_or(0);
     match plain {
-        PlainAction::Set { var, value } => Ok(Plain::Set {
-            var: declared_variable(scope, var),
-            value: bound(alloc, scope, params, value)?,
-        }),
-        PlainAction::Say(value) => Ok(Plain::Say(bound(alloc, scope, params, value)?)),
+        PlainAction::Set { var, value } => resolved_set(alloc, scope, inside, var, value),
+        PlainAction::Say(value) => resolved_say(alloc, scope, inside, value),
         PlainAction::Post {
             to,
-            event: posted,
+            event,
             margin,
             reserve,
-        } => {
-            let (sig, pars) = event(alloc, scope, params, posted)?;
-            Ok(Plain::Post {
-                to: target(scope, to),
-                sig,
-                pars,
-                margin: byte(*margin),
-                reserve: byte(*reserve),
-            })
-        }
-        PlainAction::Lifo {
-            event: posted,
-            reserve,
-        } => {
-            let (sig, pars) = event(alloc, scope, params, posted)?;
-            let reserve = byte(*reserve);
-            Ok(Plain::Lifo { sig, pars, reserve })
+        } => resolved_post(alloc, scope, inside, to, event, *margin, *reserve),
+        PlainAction::Lifo { event, reserve } => {
+            resolved_lifo(alloc, scope, inside, event, *reserve)
         }
         PlainAction::Forward { to, margin } => Ok(Plain::Forward {
             to: target(scope, to),
             margin: byte(*margin),
         }),
-        PlainAction::Publish {
-            event: posted,
-            reserve,
-        } => {
-            let (sig, pars) = event(alloc, scope, params, posted)?;
-            let reserve = byte(*reserve);
-            Ok(Plain::Publish { sig, pars, reserve })
+        PlainAction::Publish { event, reserve } => {
+            resolved_publish(alloc, scope, inside, event, *reserve)
         }
         PlainAction::Defer => Ok(Plain::Defer),
         PlainAction::Recall => Ok(Plain::Recall),
@@ -187,15 +304,8 @@ fn resolved_plain(
             timer,
             ticks,
             interval,
-        } => Ok(Plain::Arm {
-            timer: declared_timer(scope, timer),
-            ticks: bound(alloc, scope, params, ticks)?,
-            interval: bound(alloc, scope, params, interval)?,
-        }),
-        PlainAction::Rearm { timer, ticks } => Ok(Plain::Rearm {
-            timer: declared_timer(scope, timer),
-            ticks: bound(alloc, scope, params, ticks)?,
-        }),
+        } => resolved_arm(alloc, scope, inside, timer, ticks, interval),
+        PlainAction::Rearm { timer, ticks } => resolved_rearm(alloc, scope, inside, timer, ticks),
         PlainAction::Disarm { timer } => Ok(Plain::Disarm {
             timer: declared_timer(scope, timer),
         }),

@@ -1,17 +1,18 @@
 //! Actions and guards of a chart, from their texts.
-ghost use Rattle.std.specs.Prelude.{◌≡◌, ◌+◌, ◌≤◌, ◌∷◌, ◌++◌, [], length, None, IfOk, IfErr};
+ghost use Rattle.std.specs.Prelude.{◌≡◌, ◌+◌, ◌≤◌, ◌∷◌, ◌++◌, [], length, Some, None, IfOk, IfErr};
 ghost use Rattle.qp_names.specs.declared.place.Part.TheVariants.{Key};
 ghost use Rattle.qp_names.specs.Keys.{WHEN};
 ghost use Rattle.qp_language.specs.Reading.{term_of_text};
+ghost use Rattle.qp_language.specs.Terms.{command_of};
 ghost use Rattle.qp_names.specs.Pairs.{Corresponds};
 ghost use Rattle.qp_names.specs.Faults.{IsFault};
-ghost use Rattle.qp_names.specs.ActionFaults.{text_fault, texts_fault, when_fault, guard_fault};
-ghost use Rattle.qp_chart.specs.ActionOf.{IsActOfText, IsBoundOfText, IsGuardOf};
+ghost use Rattle.qp_names.specs.ActionFaults.{action_fault, text_fault, texts_fault, when_fault, guard_fault};
+ghost use Rattle.qp_chart.specs.ActionOf.{IsActOfCommand, IsActOfText, IsBoundOfText, IsGuardOf};
 
 use crate::actions::{Act, Acts};
 use crate::expression::Bound;
 use crate::resolve::{bound, resolved};
-use qp_language::{ExprFault, Text, read_action, read_expr};
+use qp_language::{Action, ExprFault, Text, read_action, read_expr};
 use qp_names::fit::{is_fit, is_in_range, is_known, reaches};
 use qp_names::{ChartFault, Part, Scope, code, key};
 use std::alloc::Global;
@@ -54,21 +55,37 @@ fn checked_act(
         IsActOfText scope.now.names.now scope.now.chart.now inside text.now act) }
     ensures fault { IfErr result (IsFault (text_fault scope.now.names.now scope.now.chart.now inside (at.now ++ rest.now) text.now)) }
 {
-    let action = match read_action(alloc, text) {
-        Ok(action) => action,
-        Err(ExprFault::Memory) => return Err(ChartFault::Memory),
-        Err(ExprFault::Bad) => return Err(ChartFault::below(code::BAD_TEXT, at, rest)),
-    };
-    if !is_known(scope, &action) {
+    match read_action(alloc, text) {
+        Ok(action) => act_of(alloc, scope, inside, at, rest, &action),
+        Err(ExprFault::Memory) => Err(ChartFault::Memory),
+        Err(ExprFault::Bad) => Err(ChartFault::below(code::BAD_TEXT, at, rest)),
+    }
+}
+
+/// The checked action of an action at the place that `rest` leads to from the place `at`.
+fn act_of(
+    alloc: Global,
+    scope: &Scope<'_>,
+    inside: Option<u8>,
+    at: &[Part],
+    rest: &[Part],
+    action: &Action,
+) -> Result<Act, ChartFault>
+    requires { length at.now + length rest.now ≤ 8 }
+    ensures ok { IfOk result (λ act. (action_fault scope.now.names.now scope.now.chart.now inside (at.now ++ rest.now) (Some (command_of action.now)) ≡ None) ×
+        IsActOfCommand scope.now.names.now scope.now.chart.now inside (command_of action.now) act) }
+    ensures fault { IfErr result (IsFault (action_fault scope.now.names.now scope.now.chart.now inside (at.now ++ rest.now) (Some (command_of action.now)))) }
+{
+    if !is_known(scope, action) {
         return Err(ChartFault::below(code::NO_SUCH_NAME, at, rest));
     }
-    if !is_in_range(scope, &action) {
+    if !is_in_range(scope, action) {
         return Err(ChartFault::below(code::RANGE, at, rest));
     }
-    if !is_fit(scope, inside, &action) {
+    if !is_fit(scope, inside, action) {
         return Err(ChartFault::below(code::WRONG_ARITY, at, rest));
     }
-    resolved(alloc, scope, inside, &action)
+    resolved(alloc, scope, inside, action)
 }
 
 /// The optional guard of a row at this place, whose signal has so many parameters.

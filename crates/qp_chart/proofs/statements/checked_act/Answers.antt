@@ -1,8 +1,6 @@
-use Rattle.std.proofs.Common.{not, ap, sym}
 use Rattle.std.proofs.lemmas.Result.{IfOk-weaker}
 use Rattle.qp_names.specs.ActionFaults.{text_fault, action_fault}
 use Rattle.qp_language.specs.Terms.{command_of}
-use Rattle.qp_names.proofs.FaultLemmas.{found-first, found-next, none-next, none-last, fault_if-true, fault_if-false}
 use Rattle.qp_chart.proofs.statements.checked_act.Goals as goal
 
 pub returns-in-Err-Bad-clause-fault : goal.returns-in-Err-Bad-clause-fault
@@ -11,35 +9,16 @@ returns-in-Err-Bad-clause-fault c =
     let none = rw c.in-Err-Bad.field-0-is at c.in-Err-Bad.ensures.exact in
     rw none c.below.ensures
 
-pub returns-then-not-is_known-clause-fault : goal.returns-then-not-is_known-clause-fault
-unfolding text_fault action_fault
-returns-then-not-is_known-clause-fault c =
-    rw c.in-Ok.ensures.exact (found-first _ _ _ (fault_if-true _ _ _ _ (ap not c.if-not-is_known.ensures) c.below-then-not-is_known.ensures))
+pub returns-in-Ok-clause-fault : goal.returns-in-Ok-clause-fault
+unfolding text_fault
+returns-in-Ok-clause-fault c = rw c.in-Ok.ensures.exact c.act_of.ensures.fault
 
-pub returns-then-not-is_in_range-clause-fault : goal.returns-then-not-is_in_range-clause-fault
-unfolding text_fault action_fault
-returns-then-not-is_in_range-clause-fault c =
-    rw c.in-Ok.ensures.exact
-    (found-next _ _ _ (fault_if-false _ _ _ (ap not c.if-not-is_known.ensures))
-    (found-first _ _ _ (fault_if-true _ _ _ _ (ap not c.if-not-is_in_range.ensures) c.below-then-not-is_in_range.ensures)))
-
-pub returns-then-not-is_fit-clause-fault : goal.returns-then-not-is_fit-clause-fault
-unfolding text_fault action_fault
-returns-then-not-is_fit-clause-fault c =
-    rw c.in-Ok.ensures.exact
-    (found-next _ _ _ (fault_if-false _ _ _ (ap not c.if-not-is_known.ensures))
-    (found-next _ _ _ (fault_if-false _ _ _ (ap not c.if-not-is_in_range.ensures))
-    (found-first _ _ _ (fault_if-true _ _ _ _ (ap not c.if-not-is_fit.ensures) c.below-then-not-is_fit.ensures))))
-
-pub returns-clause-ok : goal.returns-clause-ok
-unfolding text_fault action_fault
-returns-clause-ok c =
-    IfOk-weaker c.resolved.result _ _
-    (λ a made. (
-      rw c.in-Ok.ensures.exact
-          (none-next _ _ (fault_if-false _ _ _ (ap not c.if-not-is_known.ensures))
-          (none-next _ _ (fault_if-false _ _ _ (ap not c.if-not-is_in_range.ensures))
-          (none-next _ _ (fault_if-false _ _ _ (ap not c.if-not-is_fit.ensures)) none-last))),
-      record { command = command_of c.in-Ok.action; read = c.in-Ok.ensures.exact; known = sym c.if-not-is_known.ensures; in_range = sym c.if-not-is_in_range.ensures; fits = sym c.if-not-is_fit.ensures; made = made },
+pub returns-in-Ok-clause-ok : goal.returns-in-Ok-clause-ok
+unfolding text_fault
+returns-in-Ok-clause-ok c =
+    IfOk-weaker c.act_of.result _ _
+    (λ a h. (
+      rw c.in-Ok.ensures.exact h.0,
+      record { command = command_of c.in-Ok.action; read = c.in-Ok.ensures.exact; known = h.1.known; in_range = h.1.in_range; fits = h.1.fits; made = h.1.made },
     ))
-    c.resolved.ensures.ok
+    c.act_of.ensures.ok

@@ -1,7 +1,6 @@
-use Rattle.std.proofs.Common.{◌∙◌, refl}
-use Rattle.std.proofs.lemmas.Result.{err_from_is_err_and}
-use Rattle.qp_chart.specs.ChartFaults.{chart_fault}
-use Rattle.qp_names.proofs.FaultLemmas.{found-first, found-next, none-next, none-last, undeclared-None}
+use Rattle.std.proofs.lemmas.Result.{err_from_is_err_and, IfOk-weaker, IfErr-weaker}
+use Rattle.qp_chart.specs.ChartFaults.{chart_fault, parts_fault}
+use Rattle.qp_names.proofs.FaultLemmas.{found-first, found-next, none-next}
 use Rattle.qp_chart.proofs.LegalLemmas.{IsLegal-from}
 use Rattle.qp_chart.proofs.checked.Chart.check.Goals as goal
 
@@ -11,62 +10,13 @@ returns-in_err-tables_of-clause-fault c =
     let p = err_from_is_err_and c.from_residual.result c.from_residual.ensures.1 in
     rw (p.1, p.2) (found-first _ _ _ c.in_err-tables_of.ensures.fault)
 
-pub returns-in_err-timer-clause-fault : goal.returns-in_err-timer-clause-fault
-unfolding chart_fault
-returns-in_err-timer-clause-fault c =
-    let p = err_from_is_err_and c.from_residual-in_err-timer.result c.from_residual-in_err-timer.ensures.1 in
-    rw (p.1, p.2) (found-next _ _ _ c.in_ok-tables_of.ensures.ok.0 (found-first _ _ _ c.in_err-timer.ensures.fault))
-
-pub returns-in_err-init-clause-fault : goal.returns-in_err-init-clause-fault
-unfolding chart_fault
-returns-in_err-init-clause-fault c =
-    let p = err_from_is_err_and c.from_residual-in_err-init.result c.from_residual-in_err-init.ensures.1 in
-    rw (p.1, p.2)
-    (found-next _ _ _ c.in_ok-tables_of.ensures.ok.0 (found-next _ _ _ c.in_ok-timer.ensures.ok.0 (found-first _ _ _ c.in_err-init.ensures.fault)))
-
-pub returns-in_err-init_do-clause-fault : goal.returns-in_err-init_do-clause-fault
-unfolding chart_fault
-returns-in_err-init_do-clause-fault c =
-    let p = err_from_is_err_and c.from_residual-in_err-init_do.result c.from_residual-in_err-init_do.ensures.1 in
-    let init_do = rw c.as_slice.ensures at c.in_err-init_do.ensures.fault in
-    rw (p.1, p.2)
-    (found-next _ _ _ c.in_ok-tables_of.ensures.ok.0
-    (found-next _ _ _ c.in_ok-timer.ensures.ok.0
-    (found-next _ _ _ (undeclared-None _ c.in_ok-init.ensures.ok)
-    (found-first _ _ _ init_do))))
-
-pub returns-in_err-state-clause-fault : goal.returns-in_err-state-clause-fault
-unfolding chart_fault
-returns-in_err-state-clause-fault c =
-    let p = err_from_is_err_and c.from_residual-in_err-state.result c.from_residual-in_err-state.ensures.1 in
-    let init_do = rw c.as_slice.ensures at c.in_ok-init_do.ensures.ok in
-    let states = rw c.as_slice-3.ensures at c.in_err-state.ensures.fault in
-    rw (p.1, p.2)
-    (found-next _ _ _ c.in_ok-tables_of.ensures.ok.0
-    (found-next _ _ _ c.in_ok-timer.ensures.ok.0
-    (found-next _ _ _ (undeclared-None _ c.in_ok-init.ensures.ok)
-    (found-next _ _ _ init_do.0
-    (found-first _ _ _ states)))))
+pub returns-clause-fault : goal.returns-clause-fault
+unfolding chart_fault parts_fault
+returns-clause-fault c = IfErr-weaker c.checked_chart.result _ _ (λ e h. found-next _ _ _ c.in_ok-tables_of.ensures.ok.0 h) c.checked_chart.ensures.fault
 
 pub returns-clause-ok : goal.returns-clause-ok
-unfolding chart_fault
-returns-clause-ok c =
-    let init_do = rw c.as_slice.ensures at c.in_ok-init_do.ensures.ok in
-    let states = rw c.as_slice-3.ensures at c.in_ok-state.ensures.ok in (
-      none-next _ _ c.in_ok-tables_of.ensures.ok.0
-          (none-next _ _ c.in_ok-timer.ensures.ok.0
-          (none-next _ _ (undeclared-None _ c.in_ok-init.ensures.ok)
-          (none-next _ _ init_do.0
-          (none-next _ _ states.0 none-last)))),
-      record {
-        name = refl;
-        init = c.in_ok-init.ensures.ok;
-        init_do = rw c.init_do.view_is init_do.1;
-        vars = c.in_ok-copied_vars.ensures ∙ c.as_slice-4.ensures;
-        timer = c.in_ok-timer.ensures.ok.1;
-        state = states.1;
-      },
-    )
+unfolding chart_fault parts_fault
+returns-clause-ok c = IfOk-weaker c.checked_chart.result _ _ (λ chart h. (none-next _ _ c.in_ok-tables_of.ensures.ok.0 h.0, h.1)) c.checked_chart.ensures.ok
 
 pub returns-clause-legal : goal.returns-clause-legal
-returns-clause-legal c = let both = returns-clause-ok c in IsLegal-from c.args.names.now c.args.raw.now _ both.0 both.1
+returns-clause-legal c = IfOk-weaker c.checked_chart.result _ _ (λ chart h. IsLegal-from c.args.names.now c.args.raw.now chart h.0 h.1) (returns-clause-ok c)
