@@ -3,16 +3,16 @@ ghost use Rattle.std.specs.Prelude.{◌≡◌, ◌+◌, ◌≤◌, ◌∷◌, �
 ghost use Rattle.qp_names.specs.declared.place.Part.TheVariants.{Key};
 ghost use Rattle.qp_names.specs.Keys.{WHEN};
 ghost use Rattle.qp_language.specs.Reading.{term_of_text};
-ghost use Rattle.qp_language.specs.Terms.{command_of};
+ghost use Rattle.qp_language.specs.Terms.{term_of, command_of};
 ghost use Rattle.qp_names.specs.Pairs.{Corresponds};
 ghost use Rattle.qp_names.specs.Faults.{IsFault};
 ghost use Rattle.qp_names.specs.ActionFaults.{action_fault, text_fault, texts_fault, when_fault, guard_fault};
-ghost use Rattle.qp_chart.specs.ActionOf.{IsActOfCommand, IsActOfText, IsBoundOfText, IsGuardOf};
+ghost use Rattle.qp_chart.specs.ActionOf.{IsActOfCommand, IsActOfText, IsBoundOf, IsBoundOfText, IsGuardOf};
 
 use crate::actions::{Act, Acts};
 use crate::expression::Bound;
 use crate::resolve::{bound, resolved};
-use qp_language::{Action, ExprFault, Text, read_action, read_expr};
+use qp_language::{Action, Expr, ExprFault, Text, read_action, read_expr};
 use qp_names::fit::{is_fit, is_in_range, is_known, reaches};
 use qp_names::{ChartFault, Part, Scope, code, key};
 use std::alloc::Global;
@@ -121,16 +121,32 @@ fn checked_expr(
     ensures fault { IfErr result (IsFault (guard_fault scope.now.chart.now params (at.now ++ Key WHEN ∷ []) (term_of_text text.now))) }
 {
     let rest = [Part::Key(key::WHEN)];
-    let e = match read_expr(alloc, text) {
-        Ok(e) => e,
-        Err(ExprFault::Memory) => return Err(ChartFault::Memory),
-        Err(ExprFault::Bad) => return Err(ChartFault::below(code::BAD_TEXT, at, &rest)),
-    };
-    if !scope.knows(&e) {
+    match read_expr(alloc, text) {
+        Ok(e) => guard_of(alloc, scope, params, at, &e),
+        Err(ExprFault::Memory) => Err(ChartFault::Memory),
+        Err(ExprFault::Bad) => Err(ChartFault::below(code::BAD_TEXT, at, &rest)),
+    }
+}
+
+/// The guard of this expression.
+fn guard_of(
+    alloc: Global,
+    scope: &Scope<'_>,
+    params: u8,
+    at: &[Part],
+    e: &Expr,
+) -> Result<Bound, ChartFault>
+    requires { length at.now ≤ 6 }
+    ensures ok { IfOk result (λ b. (guard_fault scope.now.chart.now params (at.now ++ Key WHEN ∷ []) (Some (term_of e.now)) ≡ None) ×
+        IsBoundOf scope.now.chart.now params (term_of e.now) b) }
+    ensures fault { IfErr result (IsFault (guard_fault scope.now.chart.now params (at.now ++ Key WHEN ∷ []) (Some (term_of e.now)))) }
+{
+    let rest = [Part::Key(key::WHEN)];
+    if !scope.knows(e) {
         return Err(ChartFault::below(code::NO_SUCH_NAME, at, &rest));
     }
-    if !reaches(&e, params) {
+    if !reaches(e, params) {
         return Err(ChartFault::below(code::WRONG_ARITY, at, &rest));
     }
-    bound(alloc, scope, params, &e)
+    bound(alloc, scope, params, e)
 }

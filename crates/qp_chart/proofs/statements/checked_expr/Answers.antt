@@ -1,8 +1,6 @@
-use Rattle.std.proofs.Common.{not, ap}
 use Rattle.std.proofs.lemmas.Result.{IfOk-weaker}
 use Rattle.qp_names.specs.ActionFaults.{guard_fault}
 use Rattle.qp_language.specs.Terms.{term_of}
-use Rattle.qp_names.proofs.FaultLemmas.{found-first, found-next, none-next, none-last, fault_if-true, fault_if-false}
 use Rattle.qp_chart.proofs.statements.checked_expr.Goals as goal
 
 pub returns-in-Err-Bad-clause-fault : goal.returns-in-Err-Bad-clause-fault
@@ -11,24 +9,11 @@ returns-in-Err-Bad-clause-fault c =
     let none = rw c.in-Err-Bad.field-0-is at c.in-Err-Bad.ensures.exact in
     rw none c.below.ensures
 
-pub returns-then-not-knows-clause-fault : goal.returns-then-not-knows-clause-fault
-unfolding guard_fault
-returns-then-not-knows-clause-fault c =
-    rw c.in-Ok.ensures.exact (found-first _ _ _ (fault_if-true _ _ _ _ (ap not c.if-not-knows.ensures) c.below-then-not-knows.ensures))
+pub returns-in-Ok-clause-fault : goal.returns-in-Ok-clause-fault
+returns-in-Ok-clause-fault c = rw c.in-Ok.ensures.exact c.guard_of.ensures.fault
 
-pub returns-then-not-reaches-clause-fault : goal.returns-then-not-reaches-clause-fault
-unfolding guard_fault
-returns-then-not-reaches-clause-fault c =
-    rw c.in-Ok.ensures.exact
-    (found-next _ _ _ (fault_if-false _ _ _ (ap not c.if-not-knows.ensures))
-    (found-first _ _ _ (fault_if-true _ _ _ _ (ap not c.if-not-reaches.ensures) c.below-then-not-reaches.ensures)))
-
-pub returns-clause-ok : goal.returns-clause-ok
-unfolding guard_fault
-returns-clause-ok c =
-    IfOk-weaker c.bound.result _ _
-    (λ b made. (
-      rw c.in-Ok.ensures.exact (none-next _ _ (fault_if-false _ _ _ (ap not c.if-not-knows.ensures)) (none-next _ _ (fault_if-false _ _ _ (ap not c.if-not-reaches.ensures)) none-last)),
-      record { term = term_of c.in-Ok.e; read = c.in-Ok.ensures.exact; made = made },
-    ))
-    c.bound.ensures.ok
+pub returns-in-Ok-clause-ok : goal.returns-in-Ok-clause-ok
+returns-in-Ok-clause-ok c =
+    IfOk-weaker c.guard_of.result _ _
+    (λ b h. (rw c.in-Ok.ensures.exact h.0, record { term = term_of c.in-Ok.e; read = c.in-Ok.ensures.exact; made = h.1 }))
+    c.guard_of.ensures.ok
