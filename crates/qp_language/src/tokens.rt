@@ -14,7 +14,7 @@ use crate::trees::ExprFault;
 use std::alloc::Global;
 
 /// A reserved word.
-#[derive(Clone, Copy, PartialEq, Eq, Debug)]
+#[derive(Clone, Copy)]
 pub enum Keyword {
     Locked,
     Say,
@@ -35,7 +35,7 @@ pub enum Keyword {
 }
 
 /// A token of a text. `Par(j)` is `pj`; a minus is an operator of two operands here.
-#[derive(Clone, Copy, Debug)]
+#[derive(Clone, Copy)]
 pub enum Token {
     Num(i64),
     Key(Keyword),
