@@ -42,7 +42,8 @@ impl Chart {
 /// A chart in which no name stands twice.
 fn checked_chart(alloc: Global, scope: &Scope<'_>) -> Result<Chart, ChartFault>
     requires { IsReadable scope.now.names.now scope.now.chart.now }
-    ensures ok { IfOk result (λ chart. (parts_fault scope.now.names.now scope.now.chart.now ≡ None) × IsChartOf scope.now.names.now scope.now.chart.now chart) }
+    ensures ok { IfOk result (λ chart. (parts_fault scope.now.names.now scope.now.chart.now ≡ None) ×
+        IsChartOf scope.now.names.now scope.now.chart.now chart) }
     ensures fault { IfErr result (IsFault (parts_fault scope.now.names.now scope.now.chart.now)) }
 {
     let (timer, parents) = checked_frame(alloc, scope)?;

@@ -170,7 +170,8 @@ fn resolved_post(
     reserve: Option<i64>,
 ) -> Result<Plain, ChartFault>
     requires { IsAllowed scope.now.names.now scope.now.chart.now inside (Post (address_of to.now) (event_of posted.now) margin reserve) }
-    ensures ok { IfOk result (IsPlainOf scope.now.names.now scope.now.chart.now (params_in inside) (Post (address_of to.now) (event_of posted.now) margin reserve)) }
+    ensures ok { IfOk result (IsPlainOf scope.now.names.now scope.now.chart.now (params_in inside)
+        (Post (address_of to.now) (event_of posted.now) margin reserve)) }
     ensures memory { IfErr result (IsFault None) }
 {
     let to = target(scope, to);
@@ -233,7 +234,8 @@ fn resolved_arm(
     interval: &Expr,
 ) -> Result<Plain, ChartFault>
     requires { IsAllowed scope.now.names.now scope.now.chart.now inside (Arm timer.now.bytes (term_of ticks.now) (term_of interval.now)) }
-    ensures ok { IfOk result (IsPlainOf scope.now.names.now scope.now.chart.now (params_in inside) (Arm timer.now.bytes (term_of ticks.now) (term_of interval.now))) }
+    ensures ok { IfOk result (IsPlainOf scope.now.names.now scope.now.chart.now (params_in inside)
+        (Arm timer.now.bytes (term_of ticks.now) (term_of interval.now))) }
     ensures memory { IfErr result (IsFault None) }
 {
     let timer = declared_timer(scope, timer);

@@ -72,9 +72,11 @@ fn act_of(
     action: &Action,
 ) -> Result<Act, ChartFault>
     requires { length at.now + length rest.now ≤ 8 }
-    ensures ok { IfOk result (λ act. (action_fault scope.now.names.now scope.now.chart.now inside (at.now ++ rest.now) (Some (command_of action.now)) ≡ None) ×
+    ensures ok { IfOk result (λ act.
+        (action_fault scope.now.names.now scope.now.chart.now inside (at.now ++ rest.now) (Some (command_of action.now)) ≡ None) ×
         IsActOfCommand scope.now.names.now scope.now.chart.now inside (command_of action.now) act) }
-    ensures fault { IfErr result (IsFault (action_fault scope.now.names.now scope.now.chart.now inside (at.now ++ rest.now) (Some (command_of action.now)))) }
+    ensures fault { IfErr result (IsFault
+        (action_fault scope.now.names.now scope.now.chart.now inside (at.now ++ rest.now) (Some (command_of action.now)))) }
 {
     if !is_known(scope, action) {
         return Err(ChartFault::below(code::NO_SUCH_NAME, at, rest));
