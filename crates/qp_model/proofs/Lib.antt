@@ -40,6 +40,7 @@ pub mod SettledLemmas
 pub mod BeginningLemmas
 pub mod KernelRowLemmas
 mod PlaceTests
+mod ReadingLemmas
 pub mod HomeLemmas
 pub mod NumberLemmas
 pub mod RefusalLemmas

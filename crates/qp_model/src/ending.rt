@@ -16,23 +16,20 @@ pub(crate) fn of_end(kind: u8, nums: &[u64]) -> Body
 {
     match kind {
         kinds::ASSERT => of_assert(nums),
-        kinds::SPENT => match nums {
+        kinds::SPENT => match *nums {
             [] => Body::Spent,
             _ => Body::Malformed
         },
-        kinds::SPILL => match nums {
-            [len] => Body::Spill { len: *len },
+        kinds::SPILL => match *nums {
+            [len] => Body::Spill { len },
             _ => Body::Malformed
         },
-        kinds::LOOK => match nums {
-            [k, floor] => Body::Look {
-                k: *k,
-                floor: *floor,
-            },
+        kinds::LOOK => match *nums {
+            [k, floor] => Body::Look { k, floor },
             _ => Body::Malformed
         },
-        _ => match nums {
-            [k] => Body::Rest { k: *k },
+        _ => match *nums {
+            [k] => Body::Rest { k },
             _ => Body::Malformed
         },
     }
@@ -43,34 +40,12 @@ pub(crate) fn of_end(kind: u8, nums: &[u64]) -> Body
 fn of_assert(nums: &[u64]) -> Body
     ensures { result ≡ body_at 42 nums.now }
 {
-    match nums {
-        [1, a, f, l, m] => Body::NoEntry {
-            a: *a,
-            f: *f,
-            l: *l,
-            m: *m,
-        },
-        [2, p, n, free] => Body::NoBlock {
-            p: *p,
-            n: *n,
-            free: *free,
-        },
-        [3, t, n, counter] => Body::Armed {
-            t: *t,
-            n: *n,
-            counter: *counter,
-        },
-        [4, t, ticks, interval] => Body::BadTicks {
-            t: *t,
-            ticks: *ticks,
-            interval: *interval,
-        },
-        [5, a, f, l, m] => Body::NoLifo {
-            a: *a,
-            f: *f,
-            l: *l,
-            m: *m,
-        },
+    match *nums {
+        [1, a, f, l, m] => Body::NoEntry { a, f, l, m },
+        [2, p, n, free] => Body::NoBlock { p, n, free },
+        [3, t, n, counter] => Body::Armed { t, n, counter },
+        [4, t, ticks, interval] => Body::BadTicks { t, ticks, interval },
+        [5, a, f, l, m] => Body::NoLifo { a, f, l, m },
         _ => Body::Malformed,
     }
 }

@@ -36,68 +36,52 @@ fn of_step(kind: u8, nums: &[u64]) -> Body
     ensures { result ≡ body_at kind nums.now }
 {
     match kind {
-        kinds::BEGIN => match nums {
+        kinds::BEGIN => match *nums {
             [] => Body::Begin,
             _ => Body::Malformed
         },
-        kinds::TOOK => match nums {
+        kinds::TOOK => match *nums {
             [f, l, m, pool, block, name] => Body::Took {
-                f: *f,
-                l: *l,
-                m: *m,
-                entry: Entry {
-                    pool: *pool,
-                    block: *block,
-                    name: *name,
-                },
+                f,
+                l,
+                m,
+                entry: Entry { pool, block, name },
             },
             _ => Body::Malformed
         },
-        kinds::NIL => match nums {
-            [f, l, m] => Body::Nil {
-                f: *f,
-                l: *l,
-                m: *m,
-            },
+        kinds::NIL => match *nums {
+            [f, l, m] => Body::Nil { f, l, m },
             _ => Body::Malformed
         },
-        kinds::SEEN => match nums {
-            [p, f, l, m] => Body::Seen {
-                p: *p,
-                f: *f,
-                l: *l,
-                m: *m,
-            },
+        kinds::SEEN => match *nums {
+            [p, f, l, m] => Body::Seen { p, f, l, m },
             _ => Body::Malformed
         },
-        kinds::RUN => match nums {
-            [state, row] => Body::Run {
-                state: *state,
-                row: *row,
-            },
+        kinds::RUN => match *nums {
+            [state, row] => Body::Run { state, row },
             _ => Body::Malformed
         },
-        kinds::NONE => match nums {
+        kinds::NONE => match *nums {
             [] => Body::Unhandled,
             _ => Body::Malformed
         },
-        kinds::EXIT => match nums {
-            [state] => Body::Exit { state: *state },
+        kinds::EXIT => match *nums {
+            [state] => Body::Exit { state },
             _ => Body::Malformed
         },
-        kinds::ENTER => match nums {
-            [state] => Body::Enter { state: *state },
+        kinds::ENTER => match *nums {
+            [state] => Body::Enter { state },
             _ => Body::Malformed
         },
-        kinds::INIT => match nums {
-            [state] => Body::Init { state: *state },
+        kinds::INIT => match *nums {
+            [state] => Body::Init { state },
             _ => Body::Malformed
         },
-        kinds::SAY => match nums {
-            [value] => Body::Say { value: *value },
+        kinds::SAY => match *nums {
+            [value] => Body::Say { value },
             _ => Body::Malformed
         },
-        _ => match nums {
+        _ => match *nums {
             [] => Body::Done,
             _ => Body::Malformed
         },
@@ -114,88 +98,56 @@ fn of_event(kind: u8, nums: &[u64]) -> Body
 {
     match kind {
         kinds::NEW => of_new(nums),
-        kinds::SHORT => match nums {
+        kinds::SHORT => match *nums {
             [p, n, free, reserve] => Body::Short {
-                p: *p,
-                n: *n,
-                free: *free,
-                reserve: *reserve,
+                p,
+                n,
+                free,
+                reserve,
             },
             _ => Body::Malformed
         },
-        kinds::INC => match nums {
-            [p, b, r] => Body::Inc {
-                p: *p,
-                b: *b,
-                r: *r,
-            },
+        kinds::INC => match *nums {
+            [p, b, r] => Body::Inc { p, b, r },
             _ => Body::Malformed
         },
-        kinds::DEC => match nums {
-            [p, b, d, k] => Body::Dec {
-                p: *p,
-                b: *b,
-                d: *d,
-                k: *k,
-            },
+        kinds::DEC => match *nums {
+            [p, b, d, k] => Body::Dec { p, b, d, k },
             _ => Body::Malformed
         },
-        kinds::BACK => match nums {
-            [p, n, b, to] => Body::Back {
-                p: *p,
-                n: *n,
-                b: *b,
-                to: *to,
-            },
+        kinds::BACK => match *nums {
+            [p, n, b, to] => Body::Back { p, n, b, to },
             _ => Body::Malformed
         },
-        kinds::POST => match nums {
+        kinds::POST => match *nums {
             [a, f, l, m, pool, block, name] => Body::Post {
-                a: *a,
-                f: *f,
-                l: *l,
-                m: *m,
-                entry: Entry {
-                    pool: *pool,
-                    block: *block,
-                    name: *name,
-                },
+                a,
+                f,
+                l,
+                m,
+                entry: Entry { pool, block, name },
             },
             _ => Body::Malformed
         },
-        kinds::LIFO => match nums {
+        kinds::LIFO => match *nums {
             [f, l, m, pool, block, name] => Body::Lifo {
-                f: *f,
-                l: *l,
-                m: *m,
-                entry: Entry {
-                    pool: *pool,
-                    block: *block,
-                    name: *name,
-                },
+                f,
+                l,
+                m,
+                entry: Entry { pool, block, name },
             },
             _ => Body::Malformed
         },
-        kinds::FULL => match nums {
-            [a, f, l, m, margin] => Body::Full {
-                a: *a,
-                f: *f,
-                l: *l,
-                m: *m,
-                margin: *margin,
-            },
+        kinds::FULL => match *nums {
+            [a, f, l, m, margin] => Body::Full { a, f, l, m, margin },
             _ => Body::Malformed
         },
-        kinds::PUB => match nums {
-            [sig, n, set] => Body::Pub {
-                sig: *sig,
-                n: *n,
-                set: *set,
-            },
+        kinds::PUB => match *nums {
+            [sig, n, set] => Body::Pub { sig, n, set },
             _ => Body::Malformed
         },
-        _ => match nums {
-            [ceiling] => Body::Lock { ceiling: *ceiling },
+        _ => match *nums {
+            [ceiling] => Body::Lock { ceiling },
             _ => Body::Malformed
         },
     }
@@ -210,111 +162,87 @@ fn of_object(kind: u8, nums: &[u64]) -> Body
     ensures { result ≡ body_at kind nums.now }
 {
     match kind {
-        kinds::UNLOCK => match nums {
-            [ceiling] => Body::Unlock { ceiling: *ceiling },
+        kinds::UNLOCK => match *nums {
+            [ceiling] => Body::Unlock { ceiling },
             _ => Body::Malformed
         },
-        kinds::DEFER => match nums {
+        kinds::DEFER => match *nums {
             [pool, block, name] => Body::Defer {
-                entry: Entry {
-                    pool: *pool,
-                    block: *block,
-                    name: *name,
-                },
+                entry: Entry { pool, block, name },
             },
             _ => Body::Malformed
         },
-        kinds::NODEFER => match nums {
+        kinds::NODEFER => match *nums {
             [] => Body::NoDefer,
             _ => Body::Malformed
         },
-        kinds::RECALL => match nums {
+        kinds::RECALL => match *nums {
             [pool, block, name] => Body::Recall {
-                entry: Entry {
-                    pool: *pool,
-                    block: *block,
-                    name: *name,
-                },
+                entry: Entry { pool, block, name },
             },
             _ => Body::Malformed
         },
-        kinds::NORECALL => match nums {
+        kinds::NORECALL => match *nums {
             [] => Body::NoRecall,
             _ => Body::Malformed
         },
-        kinds::FLUSH => match nums {
+        kinds::FLUSH => match *nums {
             [pool, block, name] => Body::Flush {
-                entry: Entry {
-                    pool: *pool,
-                    block: *block,
-                    name: *name,
-                },
+                entry: Entry { pool, block, name },
             },
             _ => Body::Malformed
         },
-        kinds::SUB => match nums {
-            [sig, n] => Body::Sub { sig: *sig, n: *n },
+        kinds::SUB => match *nums {
+            [sig, n] => Body::Sub { sig, n },
             _ => Body::Malformed
         },
-        kinds::UNSUB => match nums {
-            [sig, n] => Body::Unsub { sig: *sig, n: *n },
+        kinds::UNSUB => match *nums {
+            [sig, n] => Body::Unsub { sig, n },
             _ => Body::Malformed
         },
-        kinds::SAME => match nums {
-            [sig, n] => Body::Same { sig: *sig, n: *n },
+        kinds::SAME => match *nums {
+            [sig, n] => Body::Same { sig, n },
             _ => Body::Malformed
         },
-        kinds::ARM => match nums {
+        kinds::ARM => match *nums {
             [t, n, ticks, interval] => Body::Arm {
-                t: *t,
-                n: *n,
-                ticks: *ticks,
-                interval: *interval,
+                t,
+                n,
+                ticks,
+                interval,
             },
             _ => Body::Malformed
         },
-        kinds::DISARM => match nums {
-            [t, n, former] => Body::Disarm {
-                t: *t,
-                n: *n,
-                former: *former,
-            },
+        kinds::DISARM => match *nums {
+            [t, n, former] => Body::Disarm { t, n, former },
             _ => Body::Malformed
         },
-        kinds::REARM => match nums {
+        kinds::REARM => match *nums {
             [t, n, former, ticks] => Body::Rearm {
-                t: *t,
-                n: *n,
-                former: *former,
-                ticks: *ticks,
+                t,
+                n,
+                former,
+                ticks,
             },
             _ => Body::Malformed
         },
-        kinds::IDLE => match nums {
-            [t, n] => Body::Idle { t: *t, n: *n },
+        kinds::IDLE => match *nums {
+            [t, n] => Body::Idle { t, n },
             _ => Body::Malformed
         },
-        kinds::TICK => match nums {
-            [t, n, counter] => Body::Tick {
-                t: *t,
-                n: *n,
-                counter: *counter,
-            },
+        kinds::TICK => match *nums {
+            [t, n, counter] => Body::Tick { t, n, counter },
             _ => Body::Malformed
         },
-        kinds::FIRE => match nums {
-            [t, n, reload] => Body::Fire {
-                t: *t,
-                n: *n,
-                reload: *reload,
-            },
+        kinds::FIRE => match *nums {
+            [t, n, reload] => Body::Fire { t, n, reload },
             _ => Body::Malformed
         },
-        kinds::STIM => match nums {
-            [i, k] => Body::Stim { i: *i, k: *k },
+        kinds::STIM => match *nums {
+            [i, k] => Body::Stim { i, k },
             _ => Body::Malformed
         },
-        _ => match nums {
+        _ => match *nums {
             [] => Body::Settle,
             _ => Body::Malformed
         },

@@ -40,43 +40,37 @@ impl Touched {
 fn of_body(o: u64, body: &Body) -> Touched
     ensures { as_touch result ≡ touch_of o body.now }
 {
-    match body {
+    match *body {
         Body::Took { f, l, m, .. } | Body::Lifo { f, l, m, .. } => draws(
             Named::Queue { a: o },
-            operations(*f, *l, *m),
+            operations(f, l, m),
         ),
-        Body::Nil { f, l, m } => shows(Named::Queue { a: o }, operations(*f, *l, *m)),
-        Body::Post { a, f, l, m, .. } => draws(Named::Queue { a: *a }, operations(*f, *l, *m)),
+        Body::Nil { f, l, m } => shows(Named::Queue { a: o }, operations(f, l, m)),
+        Body::Post { a, f, l, m, .. } => draws(Named::Queue { a }, operations(f, l, m)),
         Body::Seen { p: a, f, l, m }
         | Body::Full { a, f, l, m, .. }
         | Body::NoEntry { a, f, l, m }
-        | Body::NoLifo { a, f, l, m } => shows(Named::Queue { a: *a }, operations(*f, *l, *m)),
-        Body::New { p, n, .. } | Body::Back { p, n, .. } => draws(Named::Pool { p: *p }, after(*n)),
+        | Body::NoLifo { a, f, l, m } => shows(Named::Queue { a }, operations(f, l, m)),
+        Body::New { p, n, .. } | Body::Back { p, n, .. } => draws(Named::Pool { p }, after(n)),
         Body::Short { p, n, .. } | Body::NoBlock { p, n, .. } => shows(
-            Named::Pool { p: *p },
-            u128::from(*n),
+            Named::Pool { p },
+            u128::from(n),
         ),
         Body::Inc { p, b, r: n } | Body::Dec { p, b, d: n, .. } => draws(
-            Named::Block { p: *p, b: *b },
-            after(*n),
+            Named::Block { p, b },
+            after(n),
         ),
-        Body::Sub { sig, n } | Body::Unsub { sig, n } => draws(
-            Named::Signal { sig: *sig },
-            after(*n),
-        ),
+        Body::Sub { sig, n } | Body::Unsub { sig, n } => draws(Named::Signal { sig }, after(n)),
         Body::Pub { sig, n, .. } | Body::Same { sig, n } => shows(
-            Named::Signal { sig: *sig },
-            u128::from(*n),
+            Named::Signal { sig },
+            u128::from(n),
         ),
         Body::Arm { t, n, .. }
         | Body::Disarm { t, n, .. }
         | Body::Rearm { t, n, .. }
         | Body::Tick { t, n, .. }
-        | Body::Fire { t, n, .. } => draws(Named::Timer { t: *t }, after(*n)),
-        Body::Idle { t, n } | Body::Armed { t, n, .. } => shows(
-            Named::Timer { t: *t },
-            u128::from(*n),
-        ),
+        | Body::Fire { t, n, .. } => draws(Named::Timer { t }, after(n)),
+        Body::Idle { t, n } | Body::Armed { t, n, .. } => shows(Named::Timer { t }, u128::from(n)),
         Body::Begin
         | Body::Run { .. }
         | Body::Unhandled
