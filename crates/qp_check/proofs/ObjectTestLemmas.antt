@@ -19,7 +19,7 @@ use Rattle.qp_model.specs.Pieces.{Piece, bare}
 use Rattle.qp_model.specs.Told.{Told}
 use Rattle.qp_model.proofs.HomeLemmas.{home_records-kernel}
 use Rattle.qp_fits.specs.Decides.{Decides}
-use Rattle.qp_shapes.proofs.GroupsDecideLemmas.{decides-as, fails, holds, decides-no, decides-yes}
+use Rattle.qp_shapes.proofs.GroupsDecideLemmas.{decides-as, denied, decided, decides-no, decides-yes}
 
 module _ (sys : System) (j : Journal) (d : ObjectDef) (cut : Cut) (told : List Told) (cuts : cut ≡ cut_of sys j d.priority) where
   -- the shape that is asked of an object
@@ -53,12 +53,12 @@ module _ (sys : System) (j : Journal) (d : ObjectDef) (cut : Cut) (told : List T
     shaped = rw (there, ← cuts, ← tells) shape
 
     pub shapes-broken : b ≡ false → Decides false (ShapesHold sys j d)
-    shapes-broken fails = decides-no (ShapesHold sys j d) (λ h. fails Shape b shaped fails h.shape)
+    shapes-broken fails = decides-no (ShapesHold sys j d) (λ h. denied Shape b shaped fails h.shape)
 
     pub shapes-home : b ≡ true → (c : Bool) → c ≡ Home → Decides c (ShapesHold sys j d)
     shapes-home is true test =
         let home : (not (j.kernel == port) || Home) ≡ true = rw there (sym test) in
-        decides-yes (ShapesHold sys j d) (record { shape = holds Shape b shaped is; home = home })
+        decides-yes (ShapesHold sys j d) (record { shape = decided Shape b shaped is; home = home })
     shapes-home is false test =
         decides-no (ShapesHold sys j d)
         (λ h. let home : Home ≡ true = rw there at h.home in let bad : false ≡ true = test ∙ home in let absent : ⊥ = cc in absent)

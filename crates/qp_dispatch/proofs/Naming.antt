@@ -52,7 +52,7 @@ sound-event sys chart inside sig pars reserve names ev e is =
     rw is
     (record {
       from = e.is_signal.0;
-      slice_get_within = omega (arith, lt, e.is_signal.0);
+      within = omega (arith, lt, e.is_signal.0);
       params = rw e.is_signal.1 (length-map pars _ ∙ e.count);
     })
 

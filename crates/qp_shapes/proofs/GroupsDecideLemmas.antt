@@ -10,15 +10,15 @@ pub decides-no : (P : Type 0) → (P → ⊥) → Decides false P
 unfolding Decides
 decides-no P h = h
 
-pub holds : (P : Type 0) (b : Bool) → Decides b P → b ≡ true → P
+pub decided : (P : Type 0) (b : Bool) → Decides b P → b ≡ true → P
 unfolding Decides
-holds P true d is = d
-holds P false d is = absurd (cc)
+decided P true d is = d
+decided P false d is = absurd (cc)
 
-pub fails : (P : Type 0) (b : Bool) → Decides b P → b ≡ false → P → ⊥
+pub denied : (P : Type 0) (b : Bool) → Decides b P → b ≡ false → P → ⊥
 unfolding Decides
-fails P true d is = absurd (cc)
-fails P false d is = d
+denied P true d is = absurd (cc)
+denied P false d is = d
 
 -- the same answer to a question that holds just where the other does
 pub decides-as : (P Q : Type 0) (b : Bool) → (P → Q) → (Q → P) → Decides b P → Decides b Q

@@ -116,7 +116,7 @@ module _ (os : List ℕ) (p : ℕ) (c : counts.Counts) (a v r w : LaneView) (non
     grows = grown;
     fits = subst (λ ps. SeesEntry ps (seen.one ++ one_more)) (sym split) (entry-behind os p others seen.one c.f c.l c.m seen.fits some);
     hands = seen-hands p c v r w room sees ∙ seen.hands;
-    object-there = record {
+    found = record {
       object = p;
       its = object;
       g = plain body.Settle ∷ seen.one;

@@ -2,19 +2,19 @@ use Rattle.std.proofs.Common.{◌∙◌, ap, sym}
 use Rattle.qp_model.specs.declared.systems.System.{System}
 use Rattle.qp_model.specs.Lawful.{CourseHolds}
 use Rattle.qp_check.proofs.FindLemmas.{from-broken, from-last, from-next}
-use Rattle.qp_shapes.proofs.GroupsDecideLemmas.{fails, holds}
+use Rattle.qp_shapes.proofs.GroupsDecideLemmas.{denied, decided}
 use Rattle.qp_check.proofs.object_tests.course_broken.Goals as goal
 
 pub returns-then-not-branch : goal.returns-then-not-branch
 returns-then-not-branch c =
     from-broken 7 (CourseHolds c.args.sys.now c.args.j.now) c.deref-d-items.result.now c.loop-i.i c.d-item.result c.loop-i-test.true c.d-item.is c.loop-i.invariant
-    (fails (CourseHolds c.args.sys.now c.args.j.now c.d-item.result) c.in_ok-has_its_course.field-0 c.in_ok-has_its_course.ensures c.if-not-branch.true)
+    (denied (CourseHolds c.args.sys.now c.args.j.now c.d-item.result) c.in_ok-has_its_course.field-0 c.in_ok-has_its_course.ensures c.if-not-branch.true)
     c.at_object.result (sym c.at_object.ensures.number) c.at_object.ensures.place c.args.sys.now.objects (c.deref-d-items.ensures.value ∙ ap (λ (s : System). s.objects) c.sys.view_is)
 
 pub loop-i-preserved : goal.loop-i-preserved
 loop-i-preserved c =
     from-next 7 (CourseHolds c.args.sys.now c.args.j.now) c.deref-d-items.result.now c.loop-i.i c.d-item.result c.loop-i-test.true c.d-item.is c.loop-i.invariant
-    (holds (CourseHolds c.args.sys.now c.args.j.now c.d-item.result) c.in_ok-has_its_course.field-0 c.in_ok-has_its_course.ensures c.if-not-branch.false)
+    (decided (CourseHolds c.args.sys.now c.args.j.now c.d-item.result) c.in_ok-has_its_course.field-0 c.in_ok-has_its_course.ensures c.if-not-branch.false)
 
 pub returns : goal.returns
 returns c =

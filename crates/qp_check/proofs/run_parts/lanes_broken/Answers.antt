@@ -4,7 +4,7 @@ use Rattle.qp_model.specs.Lawful.{lanes_before}
 use Rattle.qp_check.proofs.FindLemmas.{finds-before, finds-behind, finds-fails, found, found-none}
 use Rattle.qp_check.proofs.JudgedLemmas.{hold-both}
 use Rattle.qp_check.proofs.RunPartLemmas.{AreWhole}
-use Rattle.qp_shapes.proofs.GroupsDecideLemmas.{fails, holds}
+use Rattle.qp_shapes.proofs.GroupsDecideLemmas.{denied, decided}
 use Rattle.qp_check.proofs.run_parts.lanes_broken.Goals as goal
 
 pub returns-then-not-lane_zero_stands : goal.returns-then-not-lane_zero_stands
@@ -33,7 +33,7 @@ returns-then-branch c =
     let whole = order_trial c.args.sys.now c.args.stim.now c.args.j.now in (
       sym c.lane_zero_stands.ensures ∙ c.if-not-lane_zero_stands.false,
       hold-both sources (whole ∷ []) (found-none sources c.in_ok-sources.sources c.in_ok-sources.ensures c.in-None.is)
-          (holds (AreWhole c.args.sys.now c.args.stim.now c.args.j.now) c.in_ok-lanes_hold.field-0 c.in_ok-lanes_hold.ensures c.if-branch.true, tt),
+          (decided (AreWhole c.args.sys.now c.args.stim.now c.args.j.now) c.in_ok-lanes_hold.field-0 c.in_ok-lanes_hold.ensures c.if-branch.true, tt),
     )
 
 pub returns : goal.returns
@@ -45,6 +45,6 @@ returns c =
     inr (
       sym c.lane_zero_stands.ensures ∙ c.if-not-lane_zero_stands.false,
       finds-behind sources (whole ∷ []) (Some broken) (found-none sources c.in_ok-sources.sources c.in_ok-sources.ensures c.in-None.is)
-          (finds-fails whole [] (fails (AreWhole c.args.sys.now c.args.stim.now c.args.j.now) c.in_ok-lanes_hold.field-0 c.in_ok-lanes_hold.ensures c.if-branch.false) broken
+          (finds-fails whole [] (denied (AreWhole c.args.sys.now c.args.stim.now c.args.j.now) c.in_ok-lanes_hold.field-0 c.in_ok-lanes_hold.ensures c.if-branch.false) broken
           (sym c.no_sources-2.ensures.0) (sym c.no_sources-2.ensures.1)),
     )

@@ -6,7 +6,7 @@ use Rattle.qp_model.specs.History.{lane_items}
 use Rattle.qp_model.specs.Home.{lane_at}
 use Rattle.qp_model.specs.Lawful.{SpillStands, SpillsStand}
 use Rattle.qp_check.proofs.SourceFindLemmas.{spills-broken, spills-first, spills-last, spills-next}
-use Rattle.qp_shapes.proofs.GroupsDecideLemmas.{fails, holds, decides-no, decides-yes}
+use Rattle.qp_shapes.proofs.GroupsDecideLemmas.{denied, decided, decides-no, decides-yes}
 use Rattle.qp_check.proofs.run_parts.spills_stand.Goals as goal
 
 pub loop-i-init : goal.loop-i-init
@@ -19,7 +19,7 @@ returns-then-not-branch c =
     let lane = c.lane_at.result.now in
     let at : lane ≡ lane_at j (c.loop-i.i + 1) = c.lane_at.ensures in
     let May = MatchBool (spills_in (lane_items lane)) (SpillStands sys j c.args.cuts c.source-item.result (lane_items lane)) ⊤ in
-    let fails : May → ⊥ = fails May c.in_ok-may_spill.field-0 c.in_ok-may_spill.ensures c.if-not-branch.true in
+    let fails : May → ⊥ = denied May c.in_ok-may_spill.field-0 c.in_ok-may_spill.ensures c.if-not-branch.true in
     let same : c.deref-source-items.result.now ≡ c.args.stim.now = c.deref-source-items.ensures.value ∙ c.stim.view_is in
     decides-no (SpillsStand sys j c.args.cuts 1 c.args.stim.now)
     (λ h. spills-broken sys j c.args.cuts c.deref-source-items.result.now c.loop-i.i c.source-item.result c.loop-i-test.true c.source-item.is c.loop-i.invariant (rw (← at) fails) (rw same h))
@@ -31,7 +31,7 @@ loop-i-preserved c =
     let lane = c.lane_at.result.now in
     let at : lane ≡ lane_at j (c.loop-i.i + 1) = c.lane_at.ensures in
     let May = MatchBool (spills_in (lane_items lane)) (SpillStands sys j c.args.cuts c.source-item.result (lane_items lane)) ⊤ in
-    let held : May = holds May c.in_ok-may_spill.field-0 c.in_ok-may_spill.ensures c.if-not-branch.false in
+    let held : May = decided May c.in_ok-may_spill.field-0 c.in_ok-may_spill.ensures c.if-not-branch.false in
     spills-next sys j c.args.cuts c.deref-source-items.result.now c.loop-i.i c.source-item.result c.loop-i-test.true c.source-item.is c.loop-i.invariant (rw (← at) held)
 
 pub returns : goal.returns

@@ -2,7 +2,7 @@ use Rattle.std.proofs.Common.{true, length, refl, sym}
 use Rattle.std.proofs.lemmas.Bool.{eqb-true}
 use Rattle.qp_model.specs.Groups.{IsLast, Stops}
 use Rattle.qp_shapes.specs.ShapeAction.{StopsInside}
-use Rattle.qp_shapes.proofs.GroupsDecideLemmas.{decides-yes, holds, fails}
+use Rattle.qp_shapes.proofs.GroupsDecideLemmas.{decides-yes, decided, denied}
 use Rattle.qp_shapes.proofs.GroupsEndLemmas.{empty-is, inside-last, stops-decided, some-is}
 use Rattle.qp_shapes.proofs.groups_end.stops.Goals as goal
 
@@ -15,11 +15,11 @@ pub returns-then-stops_in_publication : goal.returns-then-stops_in_publication
 returns-then-stops_in_publication c =
     decides-yes (IsLast c.args.scene.now.sys.now c.args.scene.now.o c.args.now true c.args.told.now)
     (inside-last c.args.scene.now.sys.now c.args.scene.now.o c.args.now c.args.told.now
-    (holds (StopsInside c.args.scene.now.sys.now c.args.scene.now.o c.args.now c.args.told.now) c.stops_in_publication.result (c.stops_in_publication.ensures c.args.now) c.if-stops_in_publication.true))
+    (decided (StopsInside c.args.scene.now.sys.now c.args.scene.now.o c.args.now c.args.told.now) c.stops_in_publication.result (c.stops_in_publication.ensures c.args.now) c.if-stops_in_publication.true))
 
 pub returns : goal.returns
 returns c =
     stops-decided c.args.scene.now.sys.now c.args.scene.now.o c.args.now c.args.told.now c.asserts.result
     (some-is c.args.told.now (sym c.if-is_empty.ensures))
-    (fails (StopsInside c.args.scene.now.sys.now c.args.scene.now.o c.args.now c.args.told.now) c.stops_in_publication.result (c.stops_in_publication.ensures c.args.now) c.if-stops_in_publication.false)
+    (denied (StopsInside c.args.scene.now.sys.now c.args.scene.now.o c.args.now c.args.told.now) c.stops_in_publication.result (c.stops_in_publication.ensures c.args.now) c.if-stops_in_publication.false)
     c.asserts.ensures
