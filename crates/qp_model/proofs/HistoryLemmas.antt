@@ -10,7 +10,6 @@ use Rattle.qp_model.specs.Record.{Item}
 use Rattle.qp_model.specs.History.{touch, same_word, Touch, Draws, Shows, Neither, drawn_on, drawn_as, drawn_below, total, numbered, hist, is_numbered}
 use Rattle.qp_model.proofs.ListLemmas.{all_below_at, all_below_from, filter-insert_not, length_filter-insert, filter-insert_only, filter-none, list_all-insert}
 use Rattle.qp_model.specs.Places.{in_order, is_next}
-use Rattle.qp_model.proofs.KnowingLemmas.{same_word-is}
 use Rattle.qp_model.specs.declared.words.Word.TheVariants as word
 
 -- the number that a record draws is one
@@ -195,18 +194,6 @@ in_order-front before [] ys h = refl
 in_order-front before (x ∷ xs) ys h =
     let parts = and_parts (is_next before (touch x)) _ h in
     and_from _ _ parts.0 (in_order-front (before ++ x ∷ []) xs ys parts.1)
-
--- the next record on the word draws its next number
-pub next-draws : (w : Word) (before : List Item) (t : Touch) → drawn_on w t ≡ true → is_next before t ≡ true → drawn_as w (total w before) t ≡ true
-unfolding is_next
-next-draws w before (Draws v mark) on next =
-    let is : v ≡ w = same_word-is v w on in
-    let same : mark ≡ suc (total v before) = grind (arith, nat_tests, next) in
-    let here : mark ≡ suc (total w before) = same ∙ ap (λ u. suc (total u before)) is in
-    let test : (mark == suc (total w before)) ≡ true = grind (arith, nat_tests, here) in
-    and_from _ _ on test
-next-draws w before (Shows v mark) on next = absurd (cc)
-next-draws w before Neither on next = absurd (cc)
 
 pub total-append : (w : Word) (xs ys : List Item) → total w (xs ++ ys) ≡ total w xs + total w ys
 unfolding total

@@ -1,5 +1,5 @@
 -- What is known beside a record stays when a record is added: the records are xs ++ ys before it, and xs ++ i ∷ ys after it.
-use Rattle.std.proofs.Common.{◌≡◌, ℕ, suc, ◌+◌, ◌<◌, ◌≤◌, ◌==◌, nat_le, Bool, true, false, ◌&&◌, cond, List, [], ◌∷◌, ◌++◌, length, take, refl, sym, ◌∙◌, ap, subst, ◌⊎◌, inl, inr, Option, Some, None, arith, length-append, nat_lt, map}
+use Rattle.std.proofs.Common.{◌≡◌, ℕ, suc, ◌+◌, ◌<◌, ◌≤◌, ◌==◌, nat_le, Bool, true, false, ◌&&◌, cond, List, [], ◌∷◌, ◌++◌, length, take, refl, sym, ◌∙◌, ap, subst, ◌⊎◌, inl, inr, Option, Some, None, arith, length-append, nat_lt, map, ◌-◌}
 use Rattle.std.specs.List.{filter}
 use Rattle.std.proofs.lemmas.Bool.{and_from, and_parts}
 use Rattle.std.proofs.lemmas.List.{take-append-le}
@@ -13,7 +13,7 @@ use Rattle.qp_model.specs.declared.bodies.Body.{Body}
 use Rattle.qp_model.specs.declared.bodies.Body.TheVariants.{Took, New, Dec, Back, Same}
 use Rattle.qp_model.specs.Record.{Item}
 use Rattle.qp_model.specs.Told.{Event, Free, Left, Member, for_object, Told}
-use Rattle.qp_model.specs.History.{touch, Draws, same_word, drawn_on, drawn_as, total, hist, is_numbered}
+use Rattle.qp_model.specs.History.{touch, Draws, same_word, drawn_on, drawn_as, total, hist, is_numbered, Touch, Shows, Neither}
 use Rattle.qp_model.specs.Machine.{after}
 use Rattle.qp_model.specs.FreeBlocks.{free_blocks}
 use Rattle.qp_model.specs.References.{references}
@@ -23,6 +23,7 @@ use Rattle.qp_model.specs.Knowing.{Facts, free_before, left_after, set_at, given
 use Rattle.qp_model.specs.Settled.{Settled, AllSettled}
 use Rattle.qp_model.proofs.LineLemmas.{same_number}
 use Rattle.qp_model.proofs.HistoryLemmas.{hist-draws, hist-other}
+use Rattle.qp_model.specs.Places.{is_next}
 
 -- the records of an object in a lane and its continuation
 pub records_of-append : (w : Facts) (o c : ℕ) (xs ys : List Item) → records_of w o c (xs ++ ys) ≡ records_of w o c xs ++ records_of w o (ceiling_over c xs) ys
@@ -258,3 +259,15 @@ back-fresh block q n c to to_is p b r same lt e = go (c == b) refl
 pub told-source : (g : List Told) → told_alone (map (for_object 0) g) ≡ g
 told-source [] = refl
 told-source (t ∷ ts) = ap (λ x. t ∷ x) (told-source ts)
+
+-- the next record on the word draws its next number
+pub next-draws : (w : Word) (before : List Item) (t : Touch) → drawn_on w t ≡ true → is_next before t ≡ true → drawn_as w (total w before) t ≡ true
+unfolding is_next
+next-draws w before (Draws v mark) on next =
+    let is : v ≡ w = same_word-is v w on in
+    let same : mark ≡ suc (total v before) = grind (arith, nat_tests, next) in
+    let here : mark ≡ suc (total w before) = same ∙ ap (λ u. suc (total u before)) is in
+    let test : (mark == suc (total w before)) ≡ true = grind (arith, nat_tests, here) in
+    and_from _ _ on test
+next-draws w before (Shows v mark) on next = absurd (cc)
+next-draws w before Neither on next = absurd (cc)

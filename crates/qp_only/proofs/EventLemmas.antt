@@ -19,8 +19,8 @@ use Rattle.qp_model.specs.Places.{in_order}
 use Rattle.qp_model.specs.OneOrder.{Placed}
 use Rattle.qp_model.specs.Settled.{Settled}
 use Rattle.qp_model.specs.WordLaw.{is_block, is_object}
-use Rattle.qp_model.proofs.HistoryLemmas.{hist-draws, hist-other, is_numbered-draws, is_numbered-other, length-hist, no-hist, in_order-at, in_order-front, next-draws}
-use Rattle.qp_model.proofs.KnowingLemmas.{IsLater, back-fresh, known-stays, new-fresh, settled-stays}
+use Rattle.qp_model.proofs.HistoryLemmas.{hist-draws, hist-other, is_numbered-draws, is_numbered-other, length-hist, no-hist, in_order-at, in_order-front}
+use Rattle.qp_model.proofs.KnowingLemmas.{IsLater, back-fresh, known-stays, new-fresh, settled-stays, next-draws}
 use Rattle.qp_model.proofs.EventLemmas.{event_known-same}
 use Rattle.qp_orders.specs.RunOrder.{items_of}
 use Rattle.qp_sound.specs.Log.{log_of}

@@ -26,8 +26,8 @@ use Rattle.qp_model.specs.References.{references}
 use Rattle.qp_model.specs.Sound.{IsSound}
 use Rattle.qp_model.specs.Home.{lane_at}
 use Rattle.qp_model.specs.Lawful.{Lawful, facts_of}
-use Rattle.qp_model.proofs.HistoryLemmas.{hist-draws, hist-other, length-hist, same_word-refl, next-draws}
-use Rattle.qp_model.proofs.KnowingLemmas.{records_of-append, same_word-is}
+use Rattle.qp_model.proofs.HistoryLemmas.{hist-draws, hist-other, length-hist, same_word-refl}
+use Rattle.qp_model.proofs.KnowingLemmas.{records_of-append, same_word-is, next-draws}
 use Rattle.qp_stim.specs.Rules.{StimuliFit}
 use Rattle.qp_calls.specs.Counting.{count_of, one, times}
 use Rattle.qp_calls.specs.Tokens.{Token, Held, Loose, hands_by, hands_of, stands}

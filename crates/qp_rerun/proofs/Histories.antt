@@ -17,7 +17,8 @@ use Rattle.qp_replay.proofs.SerialLemmas.{items-places, same-count}
 use Rattle.qp_replay.proofs.NamedRecords.{all-passing}
 use Rattle.qp_replay.proofs.LaneRecords.{all-filter}
 use Rattle.qp_model.proofs.PromiseLemmas.{one_of}
-use Rattle.qp_model.proofs.HistoryLemmas.{next-draws, total-append}
+use Rattle.qp_model.proofs.HistoryLemmas.{total-append}
+use Rattle.qp_model.proofs.KnowingLemmas.{next-draws}
 
 -- Elements by their places in a list, and by recursion.
 

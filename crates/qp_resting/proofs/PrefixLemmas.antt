@@ -11,7 +11,7 @@ use Rattle.qp_model.specs.Places.{in_order, is_next}
 use Rattle.qp_model.specs.Record.{Item}
 use Rattle.qp_model.proofs.ListLemmas.{all_below_at}
 use Rattle.qp_model.proofs.TakenLemmas.{list_all-at}
-use Rattle.qp_model.proofs.HistoryLemmas.{next-draws}
+use Rattle.qp_model.proofs.KnowingLemmas.{next-draws}
 
 -- the record stands among these
 pub record Stands (all : List Item) (i : Item) : Type 0 where
