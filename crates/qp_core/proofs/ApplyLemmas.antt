@@ -9,6 +9,7 @@ use Rattle.std.proofs.lemmas.List.Quantifiers.{position-Some}
 use Rattle.std.specs.List.{list_any, list_all, filter, position}
 use Rattle.std.specs.Option.{option_map_or}
 use Rattle.qp_model.specs.declared.systems.System.{System}
+use Rattle.qp_model.proofs.ListLemmas.{take-next}
 use Rattle.qp_base.specs.declared.faults.Memory.{Memory}
 use Rattle.qp_words.specs.declared.Serve.{Serve}
 use Rattle.qp_seats.specs.Words.{Steps}
@@ -241,11 +242,6 @@ pub runs-snoc : (s : CoreState) (steps : List (ℕ × Op)) (t : CoreState) (n : 
 runs-snoc s [] t n o u e may made = (u, subst (λ z. may_apply z n o ≡ true) e may, subst (λ z. Applies z n o u) e made, refl)
 runs-snoc s (x ∷ steps) t n o u e may made = (e.0, e.1, e.2, runs-snoc e.0 steps t n o u e.3 may made)
 
-take-one : {A : Type 0} (xs : List A) (i : ℕ) (x : A) → slice_get xs i ≡ Some x → take i xs ++ x ∷ [] ≡ take (suc i) xs
-take-one [] i x at = absurd (cc)
-take-one (y ∷ xs) zero x at = let same : y ≡ x = cc in ap (λ z. z ∷ []) (sym same)
-take-one (y ∷ xs) (suc i) x at = ap (λ zs. y ∷ zs) (take-one xs i x at)
-
 module _ (sys : System) (lanes : ℕ) (steps : List (ℕ × Op)) (i : ℕ) (step : ℕ × Op) (below : i < length steps) (is : step ≡ get_or steps i step) (s s' : CoreState) (r : Result Bool Memory) (b : Bool) (reached : Reaches sys lanes (take i steps) s) (one : Steps (may_apply s step.0 step.1) (Applies s step.0 step.1 s') (s' ≡ s) r) (r_is : r ≡ Ok b) where
   at-step : slice_get steps i ≡ Some step
   at-step = slice_get_read steps (length steps) i step refl below is
@@ -260,4 +256,4 @@ module _ (sys : System) (lanes : ℕ) (steps : List (ℕ × Op)) (i : ℕ) (step
   reached-more kept e =
       let made : Applies s step.0 step.1 s' = subst (λ q. MatchBool q (Applies s step.0 step.1 s') (s' ≡ s)) e outcome.1 in
       let next : suc i ≡ i + 1 = omega arith in
-      (reached.0, reached.1, subst (λ ys. Runs reached.0 ys s') (take-one steps i step at-step ∙ ap (λ k. take k steps) next) (runs-snoc reached.0 (take i steps) s step.0 step.1 s' reached.2 (sym outcome.0 ∙ e) made), kept reached.3)
+      (reached.0, reached.1, subst (λ ys. Runs reached.0 ys s') (take-next steps i step at-step ∙ ap (λ k. take k steps) next) (runs-snoc reached.0 (take i steps) s step.0 step.1 s' reached.2 (sym outcome.0 ∙ e) made), kept reached.3)

@@ -54,8 +54,8 @@ use Rattle.qp_dispatch.proofs.Quiet.{quiet-drops}
 use Rattle.qp_model.proofs.GroupLemmas.{bare-append}
 use Rattle.qp_dispatch.proofs.PartLemmas.{stand-in}
 use Rattle.qp_dispatch.proofs.PublishLemmas.{one-less}
-use Rattle.qp_dispatch.proofs.RunLemmas.{able-behind, all-behind, stand-hand, stand-left}
-use Rattle.qp_model.proofs.ListLemmas.{list_all-front, every-at, nil-front}
+use Rattle.qp_dispatch.proofs.RunLemmas.{able-behind, stand-hand, stand-left}
+use Rattle.qp_model.proofs.ListLemmas.{list_all-front, every-at, nil-front, every-behind}
 
 -- A lane without room spills.
 
@@ -201,7 +201,7 @@ module _ (home : Setting) (ceiling later : ℕ) (k m : Lasting) (g : Going) (v w
     under_way = record {
       hand = going.hand;
       is = going.is;
-      may = all-behind (MayTask home.sys home.me (Some going.hand)) r.done (tasks_in home left) (subst (λ ts. AllByRecursion (MayTask home.sys home.me (Some going.hand)) ts) r.split going.may);
+      may = every-behind (MayTask home.sys home.me (Some going.hand)) r.done (tasks_in home left) (subst (λ ts. AllByRecursion (MayTask home.sys home.me (Some going.hand)) ts) r.split going.may);
       able = able-behind (task_able home.sys true) r.done (tasks_in home left) (subst (λ ts. list_all (task_able home.sys true) ts ≡ true) r.split going.able);
       publishing = r.publishing;
       stand = r.stand (going.hand ∷ []) going.stand;

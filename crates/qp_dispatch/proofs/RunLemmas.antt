@@ -39,7 +39,7 @@ use Rattle.qp_dispatch.specs.Runs.{MayRun, NothingLeft, PartDoes, RunAsserts, Ru
 use Rattle.qp_dispatch.proofs.ActLemmas.{counts-join}
 use Rattle.qp_dispatch.proofs.FailLemmas.{left-tells, point-behind}
 use Rattle.qp_dispatch.proofs.PartLemmas.{stand-fewer, stand-in}
-use Rattle.qp_model.proofs.ListLemmas.{list_all-front}
+use Rattle.qp_model.proofs.ListLemmas.{list_all-front, every-behind}
 
 -- What a run rests on, at each part.
 
@@ -55,10 +55,6 @@ stand-list k u hand v all = stand-left k.list.entries.items (entries_under u) v 
 
 pub stand-under : (k : Lasting) (u : Option Under) (from : Under) (hand : Option Entry) (v : LaneView) → u ≡ Some from → StandAll (held_by k u ++ hand_of hand) v → StandAll (held_by k (Some from)) v
 stand-under k u from hand v is all = stand-left (held_by k (Some from)) (hand_of hand) v (subst (λ o. StandAll (held_by k o ++ hand_of hand) v) is all)
-
-pub all-behind : {X : Type 0} (P : X → Type 0) (xs ys : List X) → AllByRecursion P (xs ++ ys) → AllByRecursion P ys
-all-behind P [] ys h = h
-all-behind P (x ∷ xs) ys h = all-behind P xs ys h.1
 
 pub able-behind : {X : Type 0} (p : X → Bool) (xs ys : List X) → list_all p (xs ++ ys) ≡ true → list_all p ys ≡ true
 able-behind p [] ys h = h
@@ -111,7 +107,7 @@ may-on stops home at hand ceiling later k u ts m y rest v w may r = record {
   mine = r.grows.by ∙ may.mine;
   some = may.some;
   serves = r.grows.serves home.me ∙ may.serves;
-  may = all-behind (MayTask home.sys home.me hand) r.done rest (subst (λ us. AllByRecursion (MayTask home.sys home.me hand) us) r.split may.may);
+  may = every-behind (MayTask home.sys home.me hand) r.done rest (subst (λ us. AllByRecursion (MayTask home.sys home.me hand) us) r.split may.may);
   publishing = r.publishing;
   stand = r.stand (hand_of hand) may.stand;
   lane = r.lane may.lane;

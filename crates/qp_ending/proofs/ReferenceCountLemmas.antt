@@ -1,7 +1,7 @@
 -- Counts of references under an operation, and references that are compared with others.
 use Rattle.std.proofs.Common.{◌≡◌, ℕ, zero, suc, ◌+◌, ◌-◌, ◌≤◌, ◌<◌, ◌==◌, nat_lt, Bool, true, false, ◌&&◌, ◌||◌, cond, List, [], ◌∷◌, length, get_or, set, refl, ap, sym, ◌∙◌, arith}
 use Rattle.std.specs.List.{list_all}
-use Rattle.std.proofs.lemmas.Bool.{and_from, or_right}
+use Rattle.std.proofs.lemmas.Bool.{and_from, or_right, lt-ltb}
 use Rattle.std.proofs.lemmas.Bool.Decides.{nat_tests}
 use Rattle.qp_chart.specs.StateTree.{has}
 use Rattle.qp_model.specs.End.{same_numbers}
@@ -45,9 +45,6 @@ counted-none counts h = record { total = refl; each = λ k. sym (h k) }
 above-none : (n : ℕ) → nat_lt 0 n ≡ true → 0 < n
 above-none n h = grind (arith, nat_tests)
 
-none-above : (n : ℕ) → 0 < n → nat_lt 0 n ≡ true
-none-above n h = grind (arith, nat_tests)
-
 none-not : (n : ℕ) → n ≡ 0 → nat_lt 0 n ≡ false
 none-not n h = grind (arith, nat_tests)
 
@@ -77,7 +74,7 @@ module _ (names counts : List ℕ) (many : ℕ) (h : Counted names counts many) 
   counted-remove k some v m is less = record { total = omega (arith, h.total, less, length-without k names held); each = λ j. each j (j == k) refl }
     where
       held : has names k ≡ true
-      held = has-counted k ∙ none-above (get_or counts k 0) some
+      held = has-counted k ∙ lt-ltb 0 (get_or counts k 0) some
 
       inside : k < length counts
       inside = inside-counts counts k some
@@ -157,5 +154,5 @@ module _ (names counts : List ℕ) (many : ℕ) (h : Counted names counts many) 
   pub not-marked : (k : ℕ) → 0 < get_or counts k 0 → get_or marks k false ≡ false → false ≡ list_all (λ x. has others x) names
   not-marked k some fails =
       sym (not-all-of (λ x. has others x) names k
-      (has-counted names counts many h k ∙ none-above (get_or counts k 0) some)
+      (has-counted names counts many h k ∙ (lt-ltb 0 (get_or counts k 0) some))
       (sym (marked k (inside-counts counts k some)) ∙ fails))

@@ -32,6 +32,7 @@ use Rattle.qp_kernel.proofs.InnerLemmas.{IsInner, AreInner, inner-append, Form, 
 use Rattle.qp_kernel.proofs.ToldPieces.{AreOwn}
 use Rattle.qp_kernel.proofs.ZeroLemmas.{AreDrops, drop-not_look}
 use Rattle.qp_model.proofs.PublicationLemmas.{tell-append}
+use Rattle.qp_model.proofs.ListLemmas.{nil-front}
 
 inner : (b : Body) → IsOwnRole (role_of b) → is_turn_mark b ≡ false → is_end b ≡ false → is_some (stim_of b) ≡ false → IsInner b
 inner b own mark calm stim = record { own = own; unmarked = mark; calm = calm; unstim = stim }
@@ -165,10 +166,6 @@ front-form (x ∷ g) (f ∷ front) t rel qs e inside =
     by : f ≡ Tell x → IsInner x.body → FrontForm g front t rel → FrontForm (x ∷ g) (f ∷ front) t rel
     by head own (inl i) = inl (own, i)
     by head own (inr k) = inr (k.0, k.1, ap (λ y. x ∷ y) k.2 ∙ ap (λ y. bare (y ∷ front) ++ t ∷ k.0) (sym head), k.3)
-
-nil-left : (xs ys : List Told) → xs ++ ys ≡ [] → xs ≡ []
-nil-left [] ys e = refl
-nil-left (x ∷ xs) ys e = absurd (cc)
 
 -- nothing stands behind a list that is all
 no-more : (ps qs : List Piece) → ps ++ qs ≡ ps → qs ≡ []
@@ -351,7 +348,7 @@ module _ (sys : System) (a : Actor) where
         by front last None closed ends (inl is) inside all (inr k) = let no : None ≡ Some is.1.0 = is.1.1 in absurd (cc)
         by front last (Some f) closed ends (inr is) inside all (inr k) = let no : Some f ≡ None = is.1 in absurd (cc)
         by front last None closed ends (inr is) inside all (inr k) =
-            let short : k.0 ≡ [] = nil-left k.0 k.1 (sym k.3 ∙ closed) in
+            let short : k.0 ≡ [] = nil-front k.0 k.1 (sym k.3 ∙ closed) in
             let same : g ≡ front ++ last ∷ [] = k.2 ∙ ap (λ x. front ++ last ∷ x) short in
             let rest : bare qs ≡ [] = no-told g (bare qs) (all ∙ ap (λ x. front ++ last ∷ x) closed ∙ sym same) in
             absurd (more ends rest)
@@ -445,7 +442,7 @@ module _ (sys : System) (a : Actor) where
           → (AreInner (tell g)) ⊎ ((done more : List Told) × (g ≡ bare (tell (bare front)) ++ last ∷ done) × ([] ≡ done ++ more)) → AreOwn g
       by front last whole (inl i) = inner-own g i
       by front last whole (inr k) =
-          let none : k.0 ≡ [] = nil-left k.0 k.1 (sym k.3) in
+          let none : k.0 ≡ [] = nil-front k.0 k.1 (sym k.3) in
           let same : g ≡ bare front ++ last ∷ [] = k.2 ∙ ap (λ x. x ++ last ∷ k.0) (bare-tell (bare front)) ∙ ap (λ x. bare front ++ last ∷ x) none in
           let pieces : tell g ++ qs ≡ tell g = whole ∙ sym (ap tell same ∙ tell-append (bare front) (last ∷ [])) in
           absurd (some (no-more (tell g) qs pieces))

@@ -13,11 +13,12 @@ use Rattle.qp_model.specs.History.{lane_items}
 use Rattle.qp_model.specs.Ends.{ends_last, spills_in}
 use Rattle.qp_model.specs.Places.{in_order}
 use Rattle.qp_model.specs.OneOrder.{OneThread, Placed, IsOneOrder, is_turn, is_free, last_is_free, look_numbers, looks_right, order, stim_of, stims_placed, turns_at}
+use Rattle.qp_model.proofs.ListLemmas.{list_any-map}
 use Rattle.qp_lane_zero.specs.declared.stimulus_index.Placed as code
 use Rattle.qp_lane_zero.specs.AsPlaced.{as_placed, said_at}
 use Rattle.qp_lane_zero.specs.OrderTurns.{turns_in}
 use Rattle.qp_lane_zero.specs.OneOrder.{last_of, is_unused}
-use Rattle.qp_lanes.proofs.ItemLemmas.{items-all, list_any-map}
+use Rattle.qp_lanes.proofs.ItemLemmas.{items-all}
 
 -- each `stim` stands in a look
 pub placed-is : (sources : List (List Rec)) (numbers : List ℕ) (f : ℕ → Bool) → ((k : ℕ) → f k ≡ has numbers k)

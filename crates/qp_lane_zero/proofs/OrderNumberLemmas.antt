@@ -1,25 +1,13 @@
 -- Numbers in the order of all records, record by record.
-use Rattle.std.proofs.Common.{◌≡◌, ◌∙◌, ℕ, suc, ◌+◌, ◌<◌, ◌≤◌, ◌==◌, Bool, true, false, cond, ◌&&◌, List, [], ◌∷◌, ◌++◌, map, length, take, drop, get_or, ap, sym, refl, arith, length-append, length-take}
-use Rattle.std.specs.List.{filter}
+use Rattle.std.proofs.Common.{◌≡◌, ◌∙◌, ℕ, suc, ◌+◌, ◌<◌, ◌≤◌, ◌==◌, true, false, cond, ◌&&◌, List, [], ◌∷◌, ◌++◌, map, length, take, drop, get_or, ap, sym, refl, arith, length-take}
 use Rattle.std.proofs.lemmas.List.{at_drop_all, length-map}
-use Rattle.std.proofs.lemmas.List.Elements.{filter-append}
 use Rattle.qp_model.specs.declared.words.Word.{Word}
 use Rattle.qp_model.specs.Record.{Item}
 use Rattle.qp_model.specs.History.{Touch, Draws, Shows, Neither, touch, drawn_on, total}
 use Rattle.qp_model.specs.Places.{is_next, in_order}
 use Rattle.qp_lanes.specs.WordTotals.{is_next_at, drawn_at}
 use Rattle.qp_lanes.proofs.ItemLemmas.{map-from, map-up_to}
-use Rattle.qp_model.proofs.HistoryLemmas.{total-length}
-
-total-snoc : (w : Word) (before : List Item) (i : Item) → total w (before ++ i ∷ []) ≡ total w before + cond (drawn_on w (touch i)) 1 0
-unfolding total
-total-snoc w before i =
-    ap length (filter-append (λ x. drawn_on w (touch x)) before (i ∷ [])) ∙ length-append (filter (λ x. drawn_on w (touch x)) before) (filter (λ x. drawn_on w (touch x)) (i ∷ []))
-    ∙ ap (λ n. total w before + n) (go (drawn_on w (touch i)))
-  where
-    go : (b : Bool) → length (cond b (i ∷ []) []) ≡ cond b 1 0
-    go true = refl
-    go false = refl
+use Rattle.qp_model.proofs.HistoryLemmas.{total-length, total-snoc}
 
 is_next-is : (before : List Item) (totals : Word → ℕ) → ((w : Word) → totals w ≡ total w before) → (t : Touch) → is_next_at totals t ≡ is_next before t
 unfolding is_next

@@ -1,5 +1,5 @@
 -- The records of a lane as a loop comes to them.
-use Rattle.std.proofs.Common.{◌≡◌, ◌∙◌, ℕ, ◌+◌, ◌<◌, Bool, cond, ◌||◌, List, [], ◌∷◌, ◌++◌, map, length, take, drop, get_or, ap, sym, refl, append-nil}
+use Rattle.std.proofs.Common.{◌≡◌, ◌∙◌, ℕ, ◌+◌, ◌<◌, Bool, cond, List, [], ◌∷◌, ◌++◌, map, length, take, drop, get_or, ap, sym, refl, append-nil}
 use Rattle.std.specs.List.{count_by, list_any, list_all}
 use Rattle.std.proofs.lemmas.List.Folds.{list_all-map, fold-map}
 use Rattle.std.proofs.lemmas.List.{drop_more, take_more, map-append}
@@ -8,6 +8,7 @@ use Rattle.qp_model.specs.Record.{Item, item_of}
 use Rattle.qp_model.specs.History.{lane_items, all_items}
 use Rattle.qp_model.proofs.WordLemmas.{all_items-append}
 use Rattle.qp_model.proofs.NumberLemmas.{count-append}
+use Rattle.qp_model.proofs.ListLemmas.{list_any-map}
 
 module _ {X Y : Type 0} (f : X → Y) (xs : List X) (i : ℕ) (x : X) (inside : i < length xs) (is : x ≡ get_or xs i x) where
   pub map-from : map f (drop i xs) ≡ f x ∷ map f (drop (i + 1) xs)
@@ -32,10 +33,6 @@ items-none = refl
 -- tests of a lane's records are tests of what they say
 pub count_by-map : {X Y : Type 0} (p : Y → Bool) (f : X → Y) (xs : List X) → count_by p (map f xs) ≡ count_by (λ x. p (f x)) xs
 count_by-map p f xs = fold-map (λ a y. a + cond (p y) 1 0) f 0 xs
-
-pub list_any-map : {X Y : Type 0} (p : Y → Bool) (f : X → Y) (xs : List X) → list_any p (map f xs) ≡ list_any (λ x. p (f x)) xs
-list_any-map p f [] = refl
-list_any-map p f (x ∷ xs) = ap (λ b. p (f x) || b) (list_any-map p f xs)
 
 pub items-count : (p : Item → Bool) (lane : List Rec) → count_by (λ r. p (item_of r)) lane ≡ count_by p (lane_items lane)
 unfolding lane_items

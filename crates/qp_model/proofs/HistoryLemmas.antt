@@ -1,7 +1,7 @@
 -- Histories when a record is added at the end of a lane: the records are xs ++ ys before it, and xs ++ i ∷ ys after it.
 use Rattle.std.proofs.Common.{◌≡◌, ℕ, zero, suc, ◌<◌, ◌≤◌, cond, ◌==◌, nat_lt, nat_le, Bool, true, false, not, ◌&&◌, ◌||◌, List, [], ◌∷◌, ◌++◌, length, refl, ap, arith, length-append, ◌+◌, ◌-◌, sym, append_assoc, append-nil, ◌∙◌}
 use borrow.Author.Count.{below_more}
-use Rattle.std.specs.List.{filter}
+use Rattle.std.specs.List.{filter, list_all}
 use Rattle.std.proofs.lemmas.Bool.{and_from, and_parts}
 use Rattle.std.proofs.lemmas.Bool.Decides.{nat_tests}
 use Rattle.std.proofs.lemmas.List.Elements.{filter-append}
@@ -198,3 +198,23 @@ in_order-front before (x ∷ xs) ys h =
 pub total-append : (w : Word) (xs ys : List Item) → total w (xs ++ ys) ≡ total w xs + total w ys
 unfolding total
 total-append w xs ys = ap length (filter-append (λ i. drawn_on w (touch i)) xs ys) ∙ length-append (filter (λ i. drawn_on w (touch i)) xs) (filter (λ i. drawn_on w (touch i)) ys)
+
+-- what passes one test passes another
+pub filtered-pass : (p q : Item → Bool) (xs : List Item) → ((i : Item) → q i ≡ true → p i ≡ true) → list_all p (filter q xs) ≡ true
+filtered-pass p q [] h = refl
+filtered-pass p q (x ∷ xs) h = go (q x) refl (filtered-pass p q xs h)
+  where
+    go : (b : Bool) → q x ≡ b → list_all p (filter q xs) ≡ true → list_all p (cond b (x ∷ filter q xs) (filter q xs)) ≡ true
+    go true e later = and_from _ _ (h x e) later
+    go false e later = later
+
+-- one record more
+pub total-snoc : (w : Word) (A : List Item) (i : Item) → total w (A ++ i ∷ []) ≡ total w A + cond (drawn_on w (touch i)) 1 0
+unfolding total
+total-snoc w A i =
+    let p : Item → Bool = λ i. drawn_on w (touch i) in
+    ap length (filter-append p A (i ∷ [])) ∙ length-append (filter p A) (filter p (i ∷ [])) ∙ ap (λ k. length (filter p A) + k) (go (drawn_on w (touch i)))
+  where
+    go : (b : Bool) → length (cond b (i ∷ []) []) ≡ cond b 1 0
+    go true = refl
+    go false = refl

@@ -1,10 +1,10 @@
 -- Tests of lists, and an element put into the middle of one.
-use Rattle.std.proofs.Common.{◌≡◌, ◌∙◌, ℕ, zero, suc, ◌<◌, nat_le, Bool, true, false, ◌&&◌, ◌||◌, ◌==◌, subst, cond, List, [], ◌∷◌, ◌++◌, length, refl, ap, Some, None, arith, ◌-◌, sym, ◌+◌, reverse, nat_lt, ◌≤◌}
+use Rattle.std.proofs.Common.{◌≡◌, ◌∙◌, ℕ, zero, suc, ◌<◌, nat_le, Bool, true, false, ◌&&◌, ◌||◌, ◌==◌, subst, cond, List, [], ◌∷◌, ◌++◌, length, refl, ap, Some, None, arith, ◌-◌, sym, ◌+◌, reverse, nat_lt, ◌≤◌, map, take, slice_set}
 use borrow.Author.Count.{below_more}
 use Rattle.std.specs.declared.option.Option.{Option}
 use Rattle.std.specs.Option.{option_map}
-use Rattle.std.specs.List.{AllByRecursion, filter, list_all, slice_get}
-use Rattle.std.proofs.lemmas.Bool.{and_from, and_parts}
+use Rattle.std.specs.List.{AllByRecursion, filter, list_all, slice_get, list_any}
+use Rattle.std.proofs.lemmas.Bool.{and_from, and_parts, or_right}
 use Rattle.std.proofs.lemmas.Bool.Decides.{nat_tests}
 use Rattle.std.proofs.lemmas.List.Folds.{list_all-append}
 use Rattle.std.proofs.lemmas.Option.{none-some}
@@ -179,3 +179,47 @@ all-without p b (x ∷ xs) h = go (x == b) (all-without p b xs (and_parts _ _ h)
 pub all-counted : (n k m : ℕ) → k + m ≤ n → list_all (λ x. nat_lt x n) (count_up k m) ≡ true
 all-counted n k zero le = refl
 all-counted n k (suc m) le = let less : nat_lt k n ≡ true = grind (arith, nat_tests, le) in and_from _ _ less (all-counted n (k + 1) m (omega (arith, le)))
+
+-- a test of the things of a list, seen by a view
+pub list_any-map : {X Y : Type 0} (p : Y → Bool) (f : X → Y) (xs : List X) → list_any p (map f xs) ≡ list_any (λ x. p (f x)) xs
+list_any-map p f [] = refl
+list_any-map p f (x ∷ xs) = ap (λ b. p (f x) || b) (list_any-map p f xs)
+
+-- a test of all of two lists together
+pub list_all-parts : {X : Type 0} (p : X → Bool) (xs ys : List X) → list_all p (xs ++ ys) ≡ true → (list_all p xs ≡ true) × (list_all p ys ≡ true)
+list_all-parts p [] ys h = (refl, h)
+list_all-parts p (x ∷ xs) ys h = let k = list_all-parts p xs ys (and_parts _ _ h).1 in (and_from _ _ (and_parts _ _ h).0 k.0, k.1)
+
+-- one element more
+pub take-next : {A : Type 0} (xs : List A) (n : ℕ) (y : A) → slice_get xs n ≡ Some y → take n xs ++ y ∷ [] ≡ take (suc n) xs
+take-next [] n y at = absurd (cc)
+take-next (x ∷ xs) zero y at = let same : x ≡ y = cc in ap (λ z. z ∷ []) (sym same)
+take-next (x ∷ xs) (suc n) y at = ap (λ zs. x ∷ zs) (take-next xs n y at)
+
+pub some-there : {A : Type 0} (xs : List A) (n : ℕ) → n < length xs → (y : A) × (slice_get xs n ≡ Some y)
+some-there [] n less = absurd (omega (arith, less))
+some-there (x ∷ xs) zero less = (x, refl)
+some-there (x ∷ xs) (suc n) less = some-there xs n (omega (arith, less))
+
+pub slice_set-twice : {X : Type 0} (xs : List X) (i : ℕ) (x y : X) → slice_set (slice_set xs i x) i y ≡ slice_set xs i y
+slice_set-twice [] i x y = refl
+slice_set-twice (z ∷ zs) zero x y = refl
+slice_set-twice (z ∷ zs) (suc i) x y = ap (λ ws. z ∷ ws) (slice_set-twice zs i x y)
+
+-- what holds of each of two lists together holds of the later, and of one between
+pub every-behind : {X : Type 0} (P : X → Type 0) (xs ys : List X) → AllByRecursion P (xs ++ ys) → AllByRecursion P ys
+every-behind P [] ys h = h
+every-behind P (x ∷ xs) ys h = every-behind P xs ys h.1
+
+pub every-there : {A : Type 0} (P : A → Type 0) (xs : List A) (x : A) (ys : List A) → AllByRecursion P (xs ++ x ∷ ys) → P x
+every-there P [] x ys h = h.0
+every-there P (y ∷ xs) x ys h = every-there P xs x ys h.1
+
+pub has-last : (front : List ℕ) (p : ℕ) → has (front ++ p ∷ []) p ≡ true
+has-last front p =
+    let same : (p == p) ≡ true = grind (arith, nat_tests) in
+    has-append front (p ∷ []) p ∙ ap (λ b. has front p || (b || false)) same ∙ or_right (has front p) true refl
+
+pub and-true : (a : Bool) → (a && true) ≡ a
+and-true true = refl
+and-true false = refl

@@ -58,3 +58,8 @@ items-past lane i h = ap (map item_of) (drop_all i lane h)
 pub items-split : (lane : List Rec) (i : ℕ) → lane_items lane ≡ lane_items (take i lane) ++ lane_items (drop i lane)
 unfolding lane_items
 items-split lane i = sym (ap (map item_of) (take-append-drop i lane)) ∙ map-append item_of (take i lane) (drop i lane)
+
+-- a record more
+pub lane_items-more : (rs : List Rec) (r : Rec) → lane_items (rs ++ r ∷ []) ≡ lane_items rs ++ item_of r ∷ []
+unfolding lane_items
+lane_items-more rs r = map-append item_of rs (r ∷ [])

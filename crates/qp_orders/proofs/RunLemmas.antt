@@ -20,6 +20,7 @@ use Rattle.qp_orders.proofs.MergeLemmas.{within_after, part-append, parts-split,
 use Rattle.qp_orders.proofs.TurnLemmas.{turn_by, turns_in, turns-split, turns-none, turns-own, right-other, right-append, right-none, right-looks}
 use Rattle.qp_orders.proofs.StimLemmas.{any-front, any-both, up_to-more, looks-other, numbers-none, numbers-append, items-placed, stims_pass, stims-more, stims-block, stims-mute, stims-none}
 use Rattle.qp_model.proofs.FitsLemmas.{all-append}
+use Rattle.qp_model.proofs.ListLemmas.{has-last}
 
 -- nothing has been recorded yet
 pub order-new : (sys : System) (stimuli : List (List Stim)) (sources : List (List Item)) → AllByRecursion (λ l. l ≡ []) sources → RunsInOrder sys stimuli 0 [] sources []
@@ -128,13 +129,6 @@ last-free r (m ∷ k ∷ ns) n = last-free r (k ∷ ns) n
 
 has-more : (ns ms : List ℕ) (k : ℕ) → has ns k ≡ true → has (ns ++ ms) k ≡ true
 has-more ns ms k h = list_any-append (λ y. y == k) ns ms ∙ rw h refl
-
-has-last : (ns : List ℕ) (k : ℕ) → has (ns ++ k ∷ []) k ≡ true
-has-last ns k = let self : (k == k) ≡ true = grind (arith, nat_tests) in list_any-append (λ y. y == k) ns (k ∷ []) ∙ rw self (or-true (has ns k))
-  where
-    or-true : (b : Bool) → (b || true) ≡ true
-    or-true true = refl
-    or-true false = refl
 
 -- where no `spill` may cut a stimulus, none stands in it
 pub behind-any : (cuts : Bool) (g : List Item) → AreBehind false g → AreBehind cuts g

@@ -4,7 +4,7 @@ use Rattle.std.specs.List.{list_all, list_any, cons_option}
 use Rattle.std.specs.Option.{option_map_or, option_map}
 use Rattle.std.proofs.lemmas.Bool.{and_from, and_parts, or_parts}
 use Rattle.std.proofs.lemmas.List.Elements.{filter_map-append}
-use Rattle.std.proofs.lemmas.List.Folds.{list_any-append, list_all-append}
+use Rattle.std.proofs.lemmas.List.Folds.{list_any-append}
 use Rattle.std.proofs.lemmas.Bool.Decides.{nat_tests}
 use Rattle.qp_model.specs.declared.bodies.Body.{Body}
 use Rattle.qp_model.specs.declared.bodies.Body.TheVariants as body
@@ -14,9 +14,7 @@ use Rattle.qp_orders.specs.RunOrder.{items_of, has_stim, up_to, stims_up_to}
 use Rattle.qp_orders.specs.Placing.{LooksNone, AreBehind, all_placed, stim_item}
 use Rattle.qp_orders.proofs.MergeLemmas.{OtherLook, LooksOther}
 use Rattle.qp_model.proofs.FitsLemmas.{all-append}
-
-pub all-front : {A : Type 0} (p : A → Bool) (xs ys : List A) → list_all p (xs ++ ys) ≡ true → (list_all p xs ≡ true) × (list_all p ys ≡ true)
-all-front p xs ys h = and_parts (list_all p xs) (list_all p ys) (sym (list_all-append p xs ys) ∙ h)
+use Rattle.qp_model.proofs.ListLemmas.{list_all-parts}
 
 pub any-front : {A : Type 0} (p : A → Bool) (xs ys : List A) → list_any p (xs ++ ys) ≡ false → (list_any p xs ≡ false) × (list_any p ys ≡ false)
 any-front p xs ys h = or_parts (list_any p xs) (list_any p ys) (sym (list_any-append p xs ys) ∙ h)
@@ -88,7 +86,7 @@ behind-pass p cuts (i ∷ is) h = rw h.0 (behind-pass p cuts is h.2)
 pub stims-block : (p : ℕ → Bool) (cuts : Bool) (front : List (List Item)) (l : List Item) (back : List (List Item)) (i k : ℕ) (g : List Item) → AreBehind cuts g → p k ≡ true
     → stims_pass p (front ++ l ∷ back) ≡ true → stims_pass p (front ++ (l ++ stim_item i k ∷ g) ∷ back) ≡ true
 stims-block p cuts front l back i k g behind is h =
-    let parts = all-front (λ lane. list_all (stim_passes p) lane) front (l ∷ back) h in
+    let parts = list_all-parts (λ lane. list_all (stim_passes p) lane) front (l ∷ back) h in
     let rest = and_parts (list_all (stim_passes p) l) (stims_pass p back) parts.1 in
     let block : list_all (stim_passes p) (stim_item i k ∷ g) ≡ true = and_from _ _ is (behind-pass p cuts g behind) in
     all-append (λ lane. list_all (stim_passes p) lane) front ((l ++ stim_item i k ∷ g) ∷ back) parts.0 (and_from _ _ (all-append (stim_passes p) l (stim_item i k ∷ g) rest.0 block) rest.1)
@@ -97,7 +95,7 @@ stims-block p cuts front l back i k g behind is h =
 pub stims-mute : (p : ℕ → Bool) (cuts : Bool) (front : List (List Item)) (l : List Item) (back : List (List Item)) (g : List Item) → AreBehind cuts g
     → stims_pass p (front ++ l ∷ back) ≡ true → stims_pass p (front ++ (l ++ g) ∷ back) ≡ true
 stims-mute p cuts front l back g behind h =
-    let parts = all-front (λ lane. list_all (stim_passes p) lane) front (l ∷ back) h in
+    let parts = list_all-parts (λ lane. list_all (stim_passes p) lane) front (l ∷ back) h in
     let rest = and_parts (list_all (stim_passes p) l) (stims_pass p back) parts.1 in
     all-append (λ lane. list_all (stim_passes p) lane) front ((l ++ g) ∷ back) parts.0 (and_from _ _ (all-append (stim_passes p) l g rest.0 (behind-pass p cuts g behind)) rest.1)
 

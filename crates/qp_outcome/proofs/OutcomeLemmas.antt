@@ -1,5 +1,5 @@
 -- The outcome of a lawful journal is its end.
-use Rattle.std.proofs.Common.{◌≡◌, ℕ, suc, ◌+◌, nat_lt, Bool, true, false, not, ◌||◌, cond, List, [], ◌∷◌, length, map, refl, sym, ◌∙◌, ap, ap₂, Some, None, arith}
+use Rattle.std.proofs.Common.{◌≡◌, ℕ, suc, ◌+◌, nat_lt, Bool, true, false, not, ◌||◌, cond, List, [], ◌∷◌, length, refl, sym, ◌∙◌, ap, ap₂, Some, None, arith}
 use Rattle.std.specs.declared.option.Option.{Option}
 use Rattle.std.specs.Option.{is_some}
 use Rattle.std.specs.List.{list_any, position, prefix_len}
@@ -13,12 +13,9 @@ use Rattle.qp_model.specs.History.{all_items, lane_items}
 use Rattle.qp_model.specs.Lawful.{EndHolds, deferred_of}
 use Rattle.qp_model.specs.Record.{Item, item_of}
 use Rattle.qp_model.proofs.NumberLemmas.{one-more}
+use Rattle.qp_model.proofs.ListLemmas.{list_any-map}
 use Rattle.qp_outcome.specs.Laws.{OutcomeIsTheEnd}
 use Rattle.qp_outcome.specs.Outcome.{asserted_at, asserts, end_by, is_asserted, is_spent_lane, outcome_of, runs_out, spent_at}
-
-any-map : {A B : Type 0} (p : B → Bool) (f : A → B) (xs : List A) → list_any p (map f xs) ≡ list_any (λ x. p (f x)) xs
-any-map p f [] = refl
-any-map p f (x ∷ xs) = ap (λ b. p (f x) || b) (any-map p f xs)
 
 -- where one test holds nowhere, another holds where either does
 any-other : {A : Type 0} (f g h : A → Bool) (xs : List A) → list_any f xs ≡ false → list_any (λ x. f x || g x || h x) xs ≡ list_any (λ x. g x || h x) xs
@@ -51,7 +48,7 @@ position-any p xs = by (nat_lt (prefix_len (λ x. not (p x)) xs) (length xs)) �
 items-any : (p : Item → Bool) (lanes : List (List Rec)) → list_any p (all_items lanes) ≡ list_any (λ lane. list_any (λ r. p (item_of r)) lane) lanes
 unfolding all_items lane_items
 items-any p [] = refl
-items-any p (lane ∷ lanes) = list_any-append p (lane_items lane) (all_items lanes) ∙ ap₂ (λ a b. a || b) (any-map p item_of lane) (items-any p lanes)
+items-any p (lane ∷ lanes) = list_any-append p (lane_items lane) (all_items lanes) ∙ ap₂ (λ a b. a || b) (list_any-map p item_of lane) (items-any p lanes)
 
 module _ (j : Journal) where
   abbrev items : List Item

@@ -1,17 +1,13 @@
 -- A book when a record comes to the lane chosen.
-use Rattle.std.proofs.Common.{◌≡◌, ℕ, zero, suc, ◌+◌, ◌<◌, ◌≤◌, List, [], ◌∷◌, ◌++◌, length, map, slice_set, refl, sym, ◌∙◌, ap, arith}
+use Rattle.std.proofs.Common.{◌≡◌, ℕ, ◌+◌, ◌<◌, ◌≤◌, List, [], ◌∷◌, ◌++◌, length, map, slice_set, sym, ◌∙◌, ap, arith}
 use Rattle.std.proofs.lemmas.List.{length-set, length-map, get_or-set_same}
 use Rattle.std.proofs.lemmas.List.Sums.{sum_by-set, get_or-le-sum_by}
 use Rattle.qp_model.specs.declared.record.Rec.{Rec}
+use Rattle.qp_model.proofs.ListLemmas.{slice_set-twice}
 use Rattle.qp_sound.specs.Step.{Grown}
 use Rattle.qp_plain.specs.declared.log.Log.{Log}
 use Rattle.qp_plain.specs.Books.{places_of, recs_of, all_logs, all_places}
 use Rattle.qp_plain.specs.LaneLaws.{lists-are, lane-here}
-
-pub set-twice : {X : Type 0} (xs : List X) (i : ℕ) (a b : X) → slice_set (slice_set xs i a) i b ≡ slice_set xs i b
-set-twice [] i a b = refl
-set-twice (x ∷ xs) zero a b = refl
-set-twice (x ∷ xs) (suc i) a b = ap (λ ys. x ∷ ys) (set-twice xs i a b)
 
 -- what the lane chosen has room for is a part of what all have
 pub places-here : (others : List Log) (at : ℕ) (here : Log) → at < length others → places_of here ≤ all_places (all_logs others at here)
@@ -34,7 +30,7 @@ pub grown-here : (others : List Log) (at : ℕ) (here next : Log) (r : Rec) (ord
 grown-here others at here next r order longer lt is next_order = record {
   within = rw (length-map (slice_set others at here) recs_of, length-set others at here) lt;
   lanes_are =
-      lists-are others at next ∙ ap (slice_set (map recs_of others) at) is ∙ sym (set-twice (map recs_of others) at (recs_of here) (recs_of here ++ r ∷ []))
+      lists-are others at next ∙ ap (slice_set (map recs_of others) at) is ∙ sym (slice_set-twice (map recs_of others) at (recs_of here) (recs_of here ++ r ∷ []))
       ∙ ap (λ xs. slice_set xs at (recs_of here ++ r ∷ [])) (sym (lists-are others at here))
       ∙ ap (λ (l : List Rec). slice_set (map recs_of (all_logs others at here)) at (l ++ r ∷ [])) (sym (lane-here others at here lt));
   order_is = next_order;

@@ -9,6 +9,7 @@ use Rattle.qp_model.specs.FreeBlocks.{Pool}
 use Rattle.qp_model.specs.TimeEvents.{Clock}
 use Rattle.qp_model.specs.Sites.{ring_of}
 use Rattle.qp_model.specs.WordLaw.{is_pool, is_block, is_object, is_signal, is_timer}
+use Rattle.qp_model.proofs.ListLemmas.{slice_set-twice}
 use Rattle.qp_calls.specs.LaneView.{LaneView}
 use Rattle.qp_plain_words.specs.declared.block.BlockWord.{BlockWord}
 use Rattle.qp_plain_words.specs.declared.signal.SignalWord.{SignalWord}
@@ -18,7 +19,6 @@ use Rattle.qp_sound.specs.Sound.{SoundWorld}
 use Rattle.qp_sound.specs.View.{view_of}
 use Rattle.qp_sound.specs.WordStates.{pool_in, refs_in, line_in, set_in, clock_in}
 use Rattle.qp_sound.proofs.CallParts.{world-after}
-use Rattle.qp_sound.proofs.Logs.{set-set}
 use Rattle.qp_plain.specs.declared.log.Log.{Log}
 use Rattle.qp_plain.specs.declared.book.Book.{Book}
 use Rattle.qp_plain.specs.declared.world.PlainWorld.{PlainWorld}
@@ -62,7 +62,7 @@ sound-now w b r o body gains says may = world-after (step_at w b r) o body w.hol
 bare-purses : (b : Book) → purses_of b ≡ slice_set (map purse_of b.others.items) b.at no_purse
 bare-purses b =
     ap (λ xs. slice_set xs b.at no_purse) (map-set purse_of b.others.items b.at b.here)
-    ∙ set-set (map purse_of b.others.items) b.at (purse_of b.here) no_purse
+    ∙ slice_set-twice (map purse_of b.others.items) b.at (purse_of b.here) no_purse
 
 pub purses-same : (old new : Book) → new.others.items ≡ old.others.items → new.at ≡ old.at → purses_of new ≡ purses_of old
 purses-same old new others at =

@@ -3,7 +3,7 @@ use Rattle.std.proofs.Common.{◌≡◌, ◌≢◌, ℕ, suc, ◌+◌, ◌<◌, 
 use Rattle.std.specs.List.{list_all, list_any, count_by}
 use Rattle.std.proofs.lemmas.Bool.{and_from, and_parts}
 use Rattle.std.proofs.lemmas.Bool.Decides.{nat_tests}
-use Rattle.std.proofs.lemmas.List.{map-append, get_or-set_same, get_or-set_other}
+use Rattle.std.proofs.lemmas.List.{get_or-set_same, get_or-set_other}
 use Rattle.std.proofs.lemmas.List.Folds.{list_any-append}
 use Rattle.std.proofs.lemmas.List.Sums.{sum_by-append, sum_by-cons}
 use Rattle.qp_model.specs.declared.record.Rec.{Rec}
@@ -12,6 +12,7 @@ use Rattle.qp_model.specs.declared.bodies.Body.TheVariants as body
 use Rattle.qp_model.specs.Record.{Item, item_of}
 use Rattle.qp_model.specs.Ends.{is_spill, spills_in}
 use Rattle.qp_model.specs.History.{lane_items}
+use Rattle.qp_model.proofs.RecordLemmas.{lane_items-more}
 use Rattle.qp_calls.specs.declared.answers.Counts as counts
 use Rattle.qp_calls.specs.LaneView.{Shown, Counts, NotShown}
 use Rattle.qp_calls.specs.Clauses.{nil_by}
@@ -20,10 +21,6 @@ use Rattle.qp_plain.specs.Lane.{is_nil, is_plain, nil_of, last_nil_in, is_caused
 
 abbrev pub regular : List Item → ℕ
 regular items = count_by (λ i. not (is_spill i.body)) items
-
-pub items-more : (recs : List Rec) (r : Rec) → lane_items (recs ++ r ∷ []) ≡ lane_items recs ++ item_of r ∷ []
-unfolding lane_items
-items-more recs r = map-append item_of recs (r ∷ [])
 
 -- the parts of a plain record
 pub record IsPlain (b : Body) : Type 0 where
@@ -44,13 +41,13 @@ one_more items i = sum_by-append (λ j. cond (not (is_spill j.body)) 1 0) items 
     same x y = omega arith
 
 pub regular-more : (recs : List Rec) (r : Rec) → is_spill (item_of r).body ≡ false → regular (lane_items (recs ++ r ∷ [])) ≡ suc (regular (lane_items recs))
-regular-more recs r h = ap regular (items-more recs r) ∙ one_more (lane_items recs) (item_of r) ∙ rw h (up (regular (lane_items recs)))
+regular-more recs r h = ap regular (lane_items-more recs r) ∙ one_more (lane_items recs) (item_of r) ∙ rw h (up (regular (lane_items recs)))
   where
     up : (x : ℕ) → x + 1 ≡ suc x
     up x = omega arith
 
 pub regular-same : (recs : List Rec) (r : Rec) → is_spill (item_of r).body ≡ true → regular (lane_items (recs ++ r ∷ [])) ≡ regular (lane_items recs)
-regular-same recs r h = ap regular (items-more recs r) ∙ one_more (lane_items recs) (item_of r) ∙ rw h (still (regular (lane_items recs)))
+regular-same recs r h = ap regular (lane_items-more recs r) ∙ one_more (lane_items recs) (item_of r) ∙ rw h (still (regular (lane_items recs)))
   where
     still : (x : ℕ) → x + 0 ≡ x
     still x = omega arith
@@ -61,7 +58,7 @@ spills items = count_by (λ i. is_spill i.body) items
 
 spills-append : (recs : List Rec) (r : Rec) → spills (lane_items (recs ++ r ∷ [])) ≡ spills (lane_items recs) + cond (is_spill (item_of r).body) 1 0
 spills-append recs r =
-    ap spills (items-more recs r) ∙ sum_by-append (λ i. cond (is_spill i.body) 1 0) (lane_items recs) (item_of r ∷ [])
+    ap spills (lane_items-more recs r) ∙ sum_by-append (λ i. cond (is_spill i.body) 1 0) (lane_items recs) (item_of r ∷ [])
     ∙ same (cond (is_spill (item_of r).body) 1 0) (spills (lane_items recs))
   where
     same : (x y : ℕ) → y + (0 + x) ≡ y + x
@@ -122,7 +119,7 @@ nil-other a o x _ h = refl
 
 pub nils-same : (recs : List Rec) (r : Rec) → is_nil (item_of r).body ≡ false → (a : ℕ) → last_nil_in a NotShown (lane_items (recs ++ r ∷ [])) ≡ last_nil_in a NotShown (lane_items recs)
 nils-same recs r h a =
-    ap (last_nil_in a NotShown) (items-more recs r) ∙ nil-append a NotShown (lane_items recs) (item_of r)
+    ap (last_nil_in a NotShown) (lane_items-more recs r) ∙ nil-append a NotShown (lane_items recs) (item_of r)
     ∙ nil-other a (item_of r).of (last_nil_in a NotShown (lane_items recs)) (item_of r).body h
 
 -- a `nil` of the queue of me
@@ -131,7 +128,7 @@ pub nils-now : (recs : List Rec) (r : Rec) (nils : List (Option counts.Counts)) 
     → nil_of (get_or (slice_set nils me (Some c)) a None) ≡ last_nil_in a NotShown (lane_items (recs ++ r ∷ []))
 nils-now recs r nils me c is lt a old =
     go (me == a) refl
-    ∙ sym (ap (last_nil_in a NotShown) (items-more recs r) ∙ nil-append a NotShown (lane_items recs) (item_of r) ∙ ap (λ i. nil_by a (last_nil_in a NotShown (lane_items recs)) i.of i.body) is)
+    ∙ sym (ap (last_nil_in a NotShown) (lane_items-more recs r) ∙ nil-append a NotShown (lane_items recs) (item_of r) ∙ ap (λ i. nil_by a (last_nil_in a NotShown (lane_items recs)) i.of i.body) is)
   where
     go : (b : Bool) → (me == a) ≡ b → nil_of (get_or (slice_set nils me (Some c)) a None) ≡ cond b (Counts c.f c.l c.m) (last_nil_in a NotShown (lane_items recs))
     go true e =
@@ -156,7 +153,7 @@ pub causes-more : (recs : List Rec) (r : Rec) (codes : List ℕ) → list_all (i
 causes-more recs r [] h = refl
 causes-more recs r (c ∷ cs) h =
     let p = and_parts _ _ h in
-    and_from _ _ (ap (λ z. is_caused_in z c) (items-more recs r) ∙ caused-more (lane_items recs) (item_of r) c p.0) (causes-more recs r cs p.1)
+    and_from _ _ (ap (λ z. is_caused_in z c) (lane_items-more recs r) ∙ caused-more (lane_items recs) (item_of r) c p.0) (causes-more recs r cs p.1)
 
 pub spill-not_nil : (b : Body) → is_spill b ≡ true → is_nil b ≡ false
 spill-not_nil (body.Nil f l m) h = absurd (cc)

@@ -1,6 +1,5 @@
 -- What a test may go on with after takes, notes and releases.
-use Rattle.std.proofs.Common.{◌≡◌, ℕ, ◌+◌, ◌<◌, nat_lt, Bool, true, false, List, [], ◌∷◌, map, refl, sym, ◌∙◌, subst, ap, arith}
-use Rattle.std.proofs.lemmas.Bool.Decides.{nat_tests}
+use Rattle.std.proofs.Common.{◌≡◌, ℕ, ◌+◌, Bool, true, false, List, [], ◌∷◌, map, refl, sym, ◌∙◌, subst, ap, arith}
 use Rattle.std.specs.Bool.{MatchBool}
 use Rattle.std.specs.List.{list_all}
 use Rattle.qp_model.specs.declared.systems.System.{System}
@@ -77,9 +76,6 @@ released-goes sys k es d v w ends may = record {
   serves = λ o. rw (ends.released.grows.serves o) (may.serves o);
   stand = stand-rest k es v w may.stand ends.released.hands ends.released.grows.sys;
 }
-
-some-pool : (b : ℕ) → 0 < b → nat_lt 0 b ≡ true
-some-pool b h = grind (arith, nat_tests)
 
 -- an entry was taken
 pub taken-goes : (sys : System) (me : ℕ) (e : Entry) (es : List Entry) (v w : LaneView) → TakesIt me e v w → MayGoOn sys es v → MayGoOn sys (e ∷ es) w

@@ -42,11 +42,7 @@ use Rattle.qp_model.proofs.AbleLemmas.{some-same}
 use Rattle.qp_model.proofs.NumberLemmas.{every-append}
 use Rattle.qp_model.proofs.KernelLaneLemmas.{granted}
 use Rattle.qp_model.proofs.HomeLemmas.{position-front}
-use Rattle.qp_model.proofs.ListLemmas.{every-front}
-
-all-back : {A : Type 0} (P : A → Type 0) (xs ys : List A) → AllByRecursion P (xs ++ ys) → AllByRecursion P ys
-all-back P [] ys h = h
-all-back P (x ∷ xs) ys h = all-back P xs ys h.1
+use Rattle.qp_model.proofs.ListLemmas.{every-front, every-behind}
 
 pub all-filter : {A : Type 0} (P : A → Type 0) (f : A → Bool) (xs : List A) → AllByRecursion P xs → AllByRecursion P (filter f xs)
 all-filter P f [] h = tt
@@ -260,7 +256,7 @@ module _ (s : Setting) where
 -- an object is the only one of its priority
 others-differ : (front : List ObjectDef) (d : ObjectDef) (rest : List ObjectDef) → Ascend (front ++ d ∷ rest) → AllByRecursion (λ x. (x.priority == d.priority) ≡ false) front
 others-differ [] d rest h = tt
-others-differ (x ∷ xs) d rest h = (let less = (all-back (λ y. x.priority < y.priority) xs (d ∷ rest) h.1).0 in grind (arith, nat_tests, less), others-differ xs d rest h.2)
+others-differ (x ∷ xs) d rest h = (let less = (every-behind (λ y. x.priority < y.priority) xs (d ∷ rest) h.1).0 in grind (arith, nat_tests, less), others-differ xs d rest h.2)
 
 -- the home lane of the object behind these, where each has a lane of its own
 pub home-at : (sys : System) (j : Journal) → (j.kernel == port) ≡ true → Ascend sys.objects → (front : List ObjectDef) (d : ObjectDef) (rest : List ObjectDef) → front ++ d ∷ rest ≡ sys.objects
@@ -367,7 +363,7 @@ module _ (sys : System) (stimuli : List (List Stim)) (j : Journal) (sound : IsSo
         go : (ls : List (List Rec)) (n : ℕ) → AllByRecursion KnownItem (all_items ls) → AllByRecursion KnownItem (lane_items (unwrap_or (slice_get ls n) []))
         go [] n h = tt
         go (l ∷ ls) zero h = every-front KnownItem (lane_items l) (all_items ls) h
-        go (l ∷ ls) (suc n) h = go ls n (all-back KnownItem (lane_items l) (all_items ls) h)
+        go (l ∷ ls) (suc n) h = go ls n (every-behind KnownItem (lane_items l) (all_items ls) h)
 
     own-fine : (o : ℕ) → IsObject sys o → AllByRecursion (λ t. Fine o t.body) (by_object (facts_of sys j) j o)
     unfolding is_object object_at by_object facts_of

@@ -11,7 +11,7 @@ use Rattle.qp_model.specs.History.{Touch, Draws, Shows, Neither, touch, drawn_as
 use Rattle.qp_model.specs.Places.{is_next, touch_first}
 use Rattle.qp_model.proofs.ListLemmas.{filter-none, all-push}
 use Rattle.qp_model.proofs.KnowingLemmas.{same_word-is}
-use Rattle.qp_model.proofs.HistoryLemmas.{same_word-refl}
+use Rattle.qp_model.proofs.HistoryLemmas.{same_word-refl, total-snoc}
 use Rattle.qp_replay.specs.Numbers.{is_next_where, numbers_stand}
 
 -- where it draws a number of w, its mark is at most c, or above it; where it draws or shows one, it is from 1 on, or from 0 on, to n
@@ -186,17 +186,6 @@ next-show w all A i B m inv order is = ⊎_elim (λ e. e) (λ ne. ⊎_elim (λ l
         let none = mine c in
         omega (arith, one, former, later, none)
 
--- one record more
-total-more : (w : Word) (A : List Item) (i : Item) → total w (A ++ i ∷ []) ≡ total w A + cond (drawn_on w (touch i)) 1 0
-unfolding total
-total-more w A i =
-    let p : Item → Bool = λ i. drawn_on w (touch i) in
-    ap length (filter-append p A (i ∷ [])) ∙ length-append (filter p A) (filter p (i ∷ [])) ∙ ap (λ k. length (filter p A) + k) (go (drawn_on w (touch i)))
-  where
-    go : (b : Bool) → length (cond b (i ∷ []) []) ≡ cond b 1 0
-    go true = refl
-    go false = refl
-
 list_all-map : {X : Type 0} (p q : X → Bool) (xs : List X) → ((x : X) → p x ≡ true → q x ≡ true) → list_all p xs ≡ true → list_all q xs ≡ true
 list_all-map p q [] each all = refl
 list_all-map p q (x ∷ xs) each all = let parts = and_parts (p x) (list_all p xs) all in and_from _ _ (each x parts.0) (list_all-map p q xs each parts.1)
@@ -251,7 +240,7 @@ inv-draw w all A i B m inv order is =
     let here = same_word-refl w in
     let next : m ≡ suc c = next-draw w all A i B m inv order is in
     let on : drawn_on w (touch i) ≡ true = rw is here in
-    let more : total w (A ++ i ∷ []) ≡ suc c = total-more w A i ∙ ap (λ b. c + cond b 1 0) on ∙ plus c in
+    let more : total w (A ++ i ∷ []) ≡ suc c = total-snoc w A i ∙ ap (λ b. c + cond b 1 0) on ∙ plus c in
     let to : marks_to w all (touch i) ≡ true = (and_parts _ _ inv.within).0 in
     let down : nat_le m all ≡ true = rw (is, here) at to in
     let some : c < all = grind (arith, nat_tests, next, down) in
@@ -281,7 +270,7 @@ inv-draw w all A i B m inv order is =
 inv-other : (w : Word) (all : ℕ) (A : List Item) (i : Item) (B : List Item) → Inv w all A (i ∷ B) → drawn_on w (touch i) ≡ false → Inv w all (A ++ i ∷ []) B
 inv-other w all A i B inv off =
     let c = total w A in
-    let more : total w (A ++ i ∷ []) ≡ c = total-more w A i ∙ ap (λ b. c + cond b 1 0) off ∙ plus c in
+    let more : total w (A ++ i ∷ []) ≡ c = total-snoc w A i ∙ ap (λ b. c + cond b 1 0) off ∙ plus c in
     record {
       once = λ n less. ap (drawn w n) (append_assoc A (i ∷ []) B) ∙ inv.once n less;
       within = (and_parts _ _ inv.within).1;

@@ -47,6 +47,7 @@ use Rattle.qp_rerun.proofs.NextMay.{hands-same, LeftAlike, next-may}
 use Rattle.qp_rerun.proofs.NextRecords.{history, items-push, next, on_word}
 use Rattle.qp_rerun.proofs.TokenCalls.{Lin, Rules, Uses, hands_told, told-append}
 use Rattle.qp_model.proofs.NumberLemmas.{every-append}
+use Rattle.qp_model.proofs.ListLemmas.{take-next}
 
 -- a record taken states a good entry
 abbrev pub TookGood : System → Body → Type 0
@@ -104,11 +105,6 @@ cut-at : {A : Type 0} (xs : List A) (n : ℕ) (y : A) → slice_get xs n ≡ Som
 cut-at [] n y at = absurd (cc)
 cut-at (x ∷ xs) zero y at = let same : x ≡ y = cc in ap (λ z. z ∷ xs) same
 cut-at (x ∷ xs) (suc n) y at = ap (λ zs. x ∷ zs) (cut-at xs n y at)
-
-take-next : {A : Type 0} (xs : List A) (n : ℕ) (y : A) → slice_get xs n ≡ Some y → take n xs ++ y ∷ [] ≡ take (suc n) xs
-take-next [] n y at = absurd (cc)
-take-next (x ∷ xs) zero y at = let same : x ≡ y = cc in ap (λ z. z ∷ []) (sym same)
-take-next (x ∷ xs) (suc n) y at = ap (λ zs. x ∷ zs) (take-next xs n y at)
 
 pub found-item : (lanes : List (List Rec)) (x : RecordPlace) (r : Rec) → Found lanes x r → item_at lanes x ≡ Some (item_of r)
 unfolding item_at

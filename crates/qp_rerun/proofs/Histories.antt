@@ -7,6 +7,7 @@ use Rattle.std.proofs.lemmas.Bool.{and_parts}
 use Rattle.std.proofs.lemmas.Bool.Decides.{nat_tests}
 use Rattle.std.proofs.lemmas.List.{take_all}
 use Rattle.std.proofs.lemmas.List.Sorted.{All-permutation}
+use Rattle.std.proofs.lemmas.Option.{slice_get-get_or}
 use Rattle.qp_model.specs.declared.record.Rec.{Rec}
 use Rattle.qp_model.specs.declared.words.Word.{Word}
 use Rattle.qp_model.specs.Record.{Item}
@@ -107,11 +108,6 @@ one-is P [] n d h less = absurd (omega (arith, less))
 one-is P (x ∷ xs) zero d h less = h.0
 one-is P (x ∷ xs) (suc n) d h less = one-is P xs n d h.1 (omega (arith, less))
 
-get-some : {A : Type 0} (xs : List A) (n : ℕ) (d : A) → n < length xs → slice_get xs n ≡ Some (get_or xs n d)
-get-some [] n d less = absurd (omega (arith, less))
-get-some (x ∷ xs) zero d less = refl
-get-some (x ∷ xs) (suc n) d less = get-some xs n d (omega (arith, less))
-
 module _ (lanes : List (List Rec)) (order : List RecordPlace) (all : IsPermutation (places lanes) order) (ordered : in_order [] (items_at lanes order) ≡ true) (w : Word)
     (numbers : is_numbered w (all_items lanes) ≡ true) where
   line : List Item
@@ -129,7 +125,7 @@ module _ (lanes : List (List Rec)) (order : List RecordPlace) (all : IsPermutati
       all-passing (λ i. i ≡ y) (λ i. drawn_as w n (touch i)) (all_items lanes) (subst (AllByRecursion (λ i. i ≡ y)) (sym only) (refl, tt)) in
       let there = ordered-all lanes (λ i. drawn_as w n (touch i) ≡ true → i ≡ y) order all known in
       let on = all-filter (λ i. drawn_as w n (touch i) ≡ true → i ≡ y) (λ i. drawn_on w (touch i)) (items_at lanes order) there in
-      let draws = nth-draws w [] (items_at lanes order) ordered n (get_or line n d) (get-some line n d less) in
+      let draws = nth-draws w [] (items_at lanes order) ordered n (get_or line n d) (slice_get-get_or line n d less) in
       let same : 0 + n ≡ n = omega arith in
       one-is (λ i. drawn_as w n (touch i) ≡ true → i ≡ y) line n d on less (subst (λ k. drawn_as w k (touch (get_or line n d)) ≡ true) same draws)
 

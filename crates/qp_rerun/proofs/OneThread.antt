@@ -39,6 +39,7 @@ use Rattle.qp_rerun.proofs.TokenCalls.{Lin, Uses}
 use Rattle.qp_rerun.proofs.TokenLanes.{owners-lin}
 use Rattle.qp_model.proofs.NumberLemmas.{every-append, every}
 use Rattle.qp_model.proofs.HistoryLemmas.{no-hist}
+use Rattle.qp_model.proofs.ListLemmas.{some-there, every-there}
 use Rattle.qp_replay.proofs.NamedRecords.{chart-names}
 
 -- Places of records.
@@ -53,10 +54,6 @@ record From (k : ℕ) (ls : List (List Rec)) (x : RecordPlace) : Type 0 where
   is : x.lane ≡ k + m
   lane : m < length ls
   place : x.at < length (lane_of ls m)
-
-there-at : {A : Type 0} (P : A → Type 0) (xs : List A) (x : A) (ys : List A) → AllByRecursion P (xs ++ x ∷ ys) → P x
-there-at P [] x ys h = h.0
-there-at P (y ∷ xs) x ys h = there-at P xs x ys h.1
 
 in-one : (k at n : ℕ) (rs : List Rec) → at + length rs ≡ n → AllByRecursion (λ x. (x.lane ≡ k) × (x.at < n)) (places_in k at rs)
 unfolding places_in
@@ -83,11 +80,6 @@ all-there lanes = every (From 0 lanes) (There lanes) (λ x h. one x h.m h.is h.l
 
 ordered-there : (lanes : List (List Rec)) (order : List RecordPlace) → IsPermutation (places lanes) order → AllByRecursion (There lanes) order
 ordered-there lanes order all = from-index (There lanes) order (All-permutation (There lanes) (places lanes) order all (by-index (There lanes) (places lanes) (all-there lanes)))
-
-get-there : {A : Type 0} (xs : List A) (n : ℕ) → n < length xs → (y : A) × (slice_get xs n ≡ Some y)
-get-there [] n less = absurd (omega (arith, less))
-get-there (x ∷ xs) zero less = (x, refl)
-get-there (x ∷ xs) (suc n) less = get-there xs n (omega (arith, less))
 
 -- the record at a place, both ways
 at-lane : (lanes : List (List Rec)) (x : RecordPlace) → x.lane < length lanes → record_at lanes x ≡ slice_get (lane_of lanes x.lane) x.at
@@ -160,13 +152,13 @@ module _ (sys : System) (stimuli : List (List Stim)) (j : Journal) (order : List
 
   found : (A B : List RecordPlace) (x : RecordPlace) (r : Rec) → order ≡ A ++ x ∷ B → record_at j.lanes x ≡ Some r → Found j.lanes x r
   found A B x r split at =
-      let here = there-at (There j.lanes) A x B (subst (AllByRecursion (There j.lanes)) split there) in
+      let here = every-there (There j.lanes) A x B (subst (AllByRecursion (There j.lanes)) split there) in
       record { within = here.lane; place = here.place; is = sym (at-lane j.lanes x here.lane) ∙ at }
 
   pub a_record : (A B : List RecordPlace) (x : RecordPlace) → order ≡ A ++ x ∷ B → (r : Rec) × (record_at j.lanes x ≡ Some r)
   a_record A B x split =
-      let here = there-at (There j.lanes) A x B (subst (AllByRecursion (There j.lanes)) split there) in
-      let got = get-there (lane_of j.lanes x.lane) x.at here.place in
+      let here = every-there (There j.lanes) A x B (subst (AllByRecursion (There j.lanes)) split there) in
+      let got = some-there (lane_of j.lanes x.lane) x.at here.place in
       (got.0, at-lane j.lanes x here.lane ∙ got.1)
 
   place : (A B : List RecordPlace) (x : RecordPlace) (r : Rec) → order ≡ A ++ x ∷ B → Found j.lanes x r → times (λ y. y.lane == x.lane) A ≡ x.at

@@ -7,7 +7,7 @@ use Rattle.std.proofs.lemmas.Bool.{and_parts}
 use Rattle.std.proofs.lemmas.Bool.Decides.{nat_tests}
 use Rattle.std.proofs.lemmas.List.{append-nil, length-map, length-set, take_all}
 use Rattle.std.proofs.lemmas.List.Sums.{sum_by-cons}
-use Rattle.std.proofs.lemmas.Option.{slice_get-get_or, slice_get_within}
+use Rattle.std.proofs.lemmas.Option.{slice_get-get_or, slice_get_within, same_Some}
 use Rattle.qp_model.specs.declared.record.Rec.{Rec}
 use Rattle.qp_model.specs.declared.stimulus.Stim.{Stim}
 use Rattle.qp_model.specs.declared.systems.System.{System}
@@ -79,16 +79,13 @@ at-place lanes n k r at = go (slice_get lanes n) refl at
     go None e h = absurd (cc)
     go (Some l) e h = (l, e, h)
 
-some-same : {A : Type 0} (x y : A) → Some x ≡ Some y → x ≡ y
-some-same x y h = cc
-
 pub lane-within : (lanes : List (List Rec)) (n k : ℕ) (r : Rec) → record_at lanes (place n k) ≡ Some r → n < length lanes
 lane-within lanes n k r at = let f = at-place lanes n k r at in slice_get_within lanes n f.0 f.1
 
 lane-read : (lanes : List (List Rec)) (n k : ℕ) (r : Rec) → record_at lanes (place n k) ≡ Some r → (lane : List Rec) → lane ≡ get_or lanes n lane → slice_get lane k ≡ Some r
 lane-read lanes n k r at lane is =
     let f = at-place lanes n k r at in
-    let same : f.0 ≡ lane = some-same f.0 lane (sym f.1 ∙ slice_get-get_or lanes n lane (lane-within lanes n k r at) ∙ ap Some (sym is)) in
+    let same : f.0 ≡ lane = same_Some f.0 lane (sym f.1 ∙ slice_get-get_or lanes n lane (lane-within lanes n k r at) ∙ ap Some (sym is)) in
     subst (λ (l : List Rec). slice_get l k ≡ Some r) same f.2
 
 pub place-within : (lanes : List (List Rec)) (n k : ℕ) (r : Rec) → record_at lanes (place n k) ≡ Some r → (lane : List Rec) → lane ≡ get_or lanes n lane → k < length lane
@@ -97,7 +94,7 @@ place-within lanes n k r at lane is = slice_get_within lane k r (lane-read lanes
 pub record-read : (lanes : List (List Rec)) (n k : ℕ) (r : Rec) → record_at lanes (place n k) ≡ Some r → (lane : List Rec) (x : Rec) → lane ≡ get_or lanes n lane → x ≡ get_or lane k x → x ≡ r
 record-read lanes n k r at lane x is here =
     let read = lane-read lanes n k r at lane is in
-    here ∙ some-same (get_or lane k x) r (sym (slice_get-get_or lane k x (slice_get_within lane k r read)) ∙ read)
+    here ∙ same_Some (get_or lane k x) r (sym (slice_get-get_or lane k x (slice_get_within lane k r read)) ∙ read)
 
 -- One step: the lane is chosen, there is a place, and the record is made.
 

@@ -7,12 +7,9 @@ use Rattle.qp_model.specs.OneOrder.{Placed, belongs, look_of, part_of_look, part
 use Rattle.qp_model.specs.Record.{Item}
 use Rattle.qp_orders.specs.RunOrder.{placed}
 use Rattle.qp_model.proofs.NumberLemmas.{every-append}
+use Rattle.qp_model.proofs.ListLemmas.{every-there}
 
 -- ---- each of these is so
-
-pub all-at : {A : Type 0} (P : A → Type 0) (xs : List A) (y : A) (ys : List A) → AllByRecursion P (xs ++ y ∷ ys) → P y
-all-at P [] y ys h = h.0
-all-at P (x ∷ xs) y ys h = all-at P xs y ys h.1
 
 one-or-none : {A : Type 0} (P : A → Type 0) (b : Bool) (x : A) → P x → AllByRecursion P (cond b (x ∷ []) [])
 one-or-none P true x h = (h, tt)
@@ -96,7 +93,7 @@ stands-behind (s ∷ sources) ys (b ∷ before) i behind of is =
 none-there : (sources before : List Placed) (i : Item) (behind : List Placed) → AllByRecursion IsOfSource sources → sources ≡ before ++ placed 0 i ∷ behind → ⊥
 none-there sources before i behind of is =
     let there : AllByRecursion IsOfSource (before ++ placed 0 i ∷ behind) = rw is at of in
-    let wrong : 0 < 0 = all-at IsOfSource before (placed 0 i) behind there in
+    let wrong : 0 < 0 = every-there IsOfSource before (placed 0 i) behind there in
     omega (arith, wrong)
 
 -- where a record of lane 0 stands in the order, lane 0 is parted there

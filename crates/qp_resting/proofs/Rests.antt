@@ -31,13 +31,13 @@ use Rattle.qp_model.proofs.LawLemmas.{kernel_rests_where_all_are_empty}
 use Rattle.qp_model.proofs.HistoryLemmas.{length-hist, in_order-at, in_order-front, total-append}
 use Rattle.qp_model.proofs.LineLemmas.{IsLine, line_is, same_number}
 use Rattle.qp_model.proofs.MachineLemmas.{is_allowed-front}
-use Rattle.qp_model.proofs.ListLemmas.{every-front, has-reverse}
+use Rattle.qp_model.proofs.ListLemmas.{every-front, has-reverse, every-there}
 use Rattle.qp_orders.specs.Placing.{all_placed, LooksNone}
 use Rattle.qp_orders.specs.RunOrder.{items_of, placed}
 use Rattle.qp_orders.proofs.MergeLemmas.{stimuli-append, stimuli-none}
 use Rattle.qp_orders.proofs.StimLemmas.{items-placed}
 use Rattle.qp_resting.specs.Laws.{IsIdleAtRests, RestsWhereNothingWaits, queue_after, records_of}
-use Rattle.qp_resting.proofs.OrderLemmas.{OfRecord, all-at, parted, spills-source, stimuli-all}
+use Rattle.qp_resting.proofs.OrderLemmas.{OfRecord, parted, spills-source, stimuli-all}
 use Rattle.qp_resting.proofs.PrefixLemmas.{Stands, draws, first-part, first-taken, history-first, stands-all, stands-each}
 
 -- ---- the look before a rest
@@ -237,7 +237,7 @@ module _ (sys : System) (lanes : List (List Rec)) (cuts : Bool) (sources : List 
 
   seen-stands : Stands (all_items lanes) its
   seen-stands = let there : AllByRecursion (Stands (all_items lanes)) ((earlier ++ looked.front) ++ its ∷ looked.back) = rw whole at each in
-      all-at (Stands (all_items lanes)) (earlier ++ looked.front) its looked.back there
+      every-there (Stands (all_items lanes)) (earlier ++ looked.front) its looked.back there
 
   mark : total its_queue before ≡ looked.f + looked.l + looked.m
   unfolding is_next

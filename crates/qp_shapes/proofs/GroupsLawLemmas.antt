@@ -9,6 +9,7 @@ use Rattle.qp_model.specs.Calls.{Call, Answer, Granted, Refused, Flushed, AtQueu
 use Rattle.qp_model.specs.Shapes.{Fits, FitsAny, PostsNew, Publishes, NoBlockFor}
 use Rattle.qp_model.specs.Groups.{IsLast, Asserts, Stops, StopsInPublication}
 use Rattle.qp_model.specs.Course.{Cut, Whole, Stopped, Anywhere}
+use Rattle.qp_model.proofs.ListLemmas.{nil-front}
 use Rattle.qp_shapes.specs.declared.shape_stage.PublishStage.TheVariants as stage
 use Rattle.qp_shapes.specs.ShapeUnit as unit
 use Rattle.qp_shapes.specs.ShapeUnit.{behind_unit}
@@ -135,14 +136,10 @@ taken-apart sys o now g h hs (Runs x) (Runs y) is =
 pub cut-apart : (sys : System) (o : ℕ) (now : Option Entry) (g h hs : List Told) → IsCut sys o now g → IsWhole sys o now h → g ≡ h ++ hs → ⊥
 cut-apart sys o now g h hs c w is = taken-apart sys o now g h hs (cut-taken sys o now g c) (whole-taken sys o now h w) is
 
-append-none : (g h : List Told) → g ++ h ≡ [] → g ≡ []
-append-none [] h is = refl
-append-none (t ∷ ts) h is = absurd (cc)
-
 -- behind a whole action at the front of a front nothing stands
 front-behind : (sys : System) (o : ℕ) (now : Option Entry) (f back g rest : List Told) → IsWhole sys o now (f ++ back) ⊎ IsCut sys o now (f ++ back) → IsWhole sys o now g → f ≡ g ++ rest → rest ≡ []
 front-behind sys o now f back g rest (inl w) v is =
-    append-none rest back
+    nil-front rest back
     ((whole-parts sys o now).unique g (rest ++ back) (f ++ back) [] v w (sym (append_assoc g rest back) ∙ ap (λ us. us ++ back) (sym is) ∙ sym (append-nil (f ++ back))))
 front-behind sys o now f back g rest (inr c) v is = absurd (cut-apart sys o now (f ++ back) g (rest ++ back) c v (ap (λ us. us ++ back) is ∙ append_assoc g rest back))
 

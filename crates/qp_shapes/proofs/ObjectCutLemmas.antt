@@ -9,6 +9,7 @@ use Rattle.qp_model.specs.Shapes.{Fits, FitsAny, Drops, releases_by}
 use Rattle.qp_model.specs.Groups.{IsLast, Asserts, Stops, StopsInPublication}
 use Rattle.qp_model.specs.Course.{Cut, Whole, Stopped, Anywhere}
 use Rattle.qp_model.specs.ObjectShape.{CutGroups}
+use Rattle.qp_model.proofs.ListLemmas.{nil-front}
 use Rattle.qp_shapes.specs.ShapeAction.{IsWhole, IsCut}
 use Rattle.qp_shapes.specs.ObjectRead.{IsObjectOf}
 use Rattle.qp_shapes.specs.GroupsLast.{LastOf, kinds}
@@ -17,14 +18,10 @@ use Rattle.qp_shapes.proofs.GroupsFrontLemmas.{AnyFront}
 use Rattle.qp_shapes.proofs.ObjectFrontLemmas.{CutLaws, object-front, object-back}
 use Rattle.qp_shapes.proofs.ObjectDefinedLemmas.{object-of, of-object}
 
-empty-front : (m back : List Told) → [] ≡ m ++ back → m ≡ []
-empty-front [] back is = refl
-empty-front (t ∷ ts) back is = absurd (cc)
-
 -- a last has fronts
 last-front : (sys : System) (o : ℕ) (now : Option Entry) (stops : Bool) (g m back : List Told) → IsLast sys o now stops g → g ≡ m ++ back → AnyFront (IsWhole sys o now) (IsCut sys o now) m
 last-front sys o now stops g m back (Asserts x answer h asserts) is = inr (back, inr (x, answer, subst (FitsAny sys o now x answer) is h, asserts))
-last-front sys o now stops g m back (Stops may none) is = inl (empty-front m back (sym none ∙ is))
+last-front sys o now stops g m back (Stops may none) is = inl (nil-front m back (sym (sym none ∙ is)))
 last-front sys o now stops g m back (StopsInPublication sig pars reserve answer more may h ends) is =
     inr (
       back ++ more,

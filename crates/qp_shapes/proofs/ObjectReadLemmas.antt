@@ -7,6 +7,7 @@ use Rattle.qp_model.specs.declared.bodies.Body.TheVariants as item
 use Rattle.qp_model.specs.Told.{Told, Known, plain}
 use Rattle.qp_model.specs.Sequence.{Sequence}
 use Rattle.qp_model.specs.ObjectShape.{StepHead, is_head, takes}
+use Rattle.qp_model.proofs.ListLemmas.{nil-front}
 use Rattle.qp_shapes.specs.GroupsRead.{ReadsAll, IsElement, Breaks, is_close, is_outer}
 use Rattle.qp_shapes.specs.ObjectRead.{Kinds, Closes, is_look, IsTurnOf, Steps, Finds, FrontOf, IsTailOf, EndsHere, IsSpent, BreaksOffIn, TakesOnly, ReleasesOnly, TurnsOf}
 use Rattle.qp_shapes.proofs.GroupsReadLemmas.{Parts, Lasts, compare, outer-behind, reads-last, no-close}
@@ -114,10 +115,6 @@ turn-parts k nils laws = record { filled = λ t. turn-filled k nils [] [] t refl
         let same = heads-same d e head other (body ++ gs) (more ++ hs) s u (sym left ∙ is ∙ right) in
         bodies-same k laws d e body gs more hs same.0 c b same.1
 
-append-none : (g h : List Told) → g ++ h ≡ [] → g ≡ []
-append-none [] h is = refl
-append-none (t ∷ ts) h is = absurd (cc)
-
 -- behind a turn at the front of a tail is a tail
 pub tail-behind : (k : Kinds) (nils : Bool) → KindLaws k → (last g rest : List Told) → IsTailOf k last → IsTurnOf k.act k.release nils g → last ≡ g ++ rest → IsTailOf k rest
 unfolding Closes FrontOf
@@ -156,7 +153,7 @@ tail-behind k nils laws last g rest (ReleasesOnly e head body any s b e1) (Steps
     let none : rest ++ b.3.0 ≡ [] =
     laws.releases e z.1 (rest ++ b.3.0) (b.1 ++ b.3.0) [] z.3 b.3.1
     (sym (append_assoc z.1 rest b.3.0) ∙ ap (λ us. us ++ b.3.0) (sym front) ∙ sym (append-nil (b.1 ++ b.3.0))) in
-    EndsHere (append-none rest b.3.0 none)
+    EndsHere (nil-front rest b.3.0 none)
 
 -- the tail is what is left, where all turns in front are read
 pub turns-tail : (k : Kinds) (nils : Bool) → KindLaws k → (told rest : List Told) → ReadsAll (IsTurnOf k.act k.release nils) told rest → TurnsOf k nils told → IsTailOf k rest

@@ -6,10 +6,10 @@ use Rattle.std.proofs.lemmas.List.{get_or-set_same, set-get_or}
 use Rattle.qp_model.specs.declared.words.Word.{Word}
 use Rattle.qp_model.specs.declared.bodies.Entry.{Entry}
 use Rattle.qp_model.specs.Told.{Told, ToldItem, for_object}
+use Rattle.qp_model.proofs.ListLemmas.{slice_set-twice}
 use Rattle.qp_calls.specs.Tokens.{token_of, stands}
 use Rattle.qp_calls.specs.LaneView.{LaneView, Purse, placed_by, is_known, handled_in, is_codeless}
 use Rattle.qp_sound.specs.View.{view_of}
-use Rattle.qp_sound.proofs.Logs.{set-set}
 use Rattle.qp_plain.specs.declared.world.PlainWorld.{PlainWorld}
 use Rattle.qp_plain.specs.Book.{lists_of, no_purse, purses_of}
 use Rattle.qp_plain.specs.NewWorld.{GoesTo, chosen, lanes_in}
@@ -98,7 +98,7 @@ whole-tolds : (w : PlainWorld) → tolds w ≡ slice_set (world_view w).aside.to
 whole-tolds w =
     sym (ap (λ xs. slice_set xs (world_view w).lane (world_view w).told) (told-aside w)
     ∙ ap (λ k. slice_set (slice_set (tolds w) (chosen w) []) k (world_view w).told) (lane-is w)
-    ∙ set-set (tolds w) (chosen w) [] (world_view w).told
+    ∙ slice_set-twice (tolds w) (chosen w) [] (world_view w).told
     ∙ ap (slice_set (tolds w) (chosen w)) (told-here w)
     ∙ set-get_or (tolds w) (chosen w) [])
 
@@ -106,7 +106,7 @@ whole-purses : (w : PlainWorld) → purses w ≡ slice_set (world_view w).aside.
 whole-purses w =
     sym (ap (λ xs. slice_set xs (world_view w).lane (own_purse w)) (purses-aside w)
     ∙ ap (λ k. slice_set (slice_set (purses w) (chosen w) no_purse) k (own_purse w)) (lane-is w)
-    ∙ set-set (purses w) (chosen w) no_purse (own_purse w)
+    ∙ slice_set-twice (purses w) (chosen w) no_purse (own_purse w)
     ∙ ap (slice_set (purses w) (chosen w)) (purse-here w)
     ∙ set-get_or (purses w) (chosen w) no_purse)
 

@@ -12,6 +12,7 @@ use Rattle.qp_model.specs.declared.systems.System.{System}
 use Rattle.qp_model.specs.Record.{Item}
 use Rattle.qp_model.specs.Told.{Told, ToldItem}
 use Rattle.qp_model.specs.OneOrder.{Placed, Turn, acted_last, acts_next, all_empty, begun, is_stim, left_after, may_act, stim_of, turned}
+use Rattle.qp_model.proofs.ListLemmas.{and-true}
 use Rattle.qp_calls.specs.Counting.{one, times}
 use Rattle.qp_calls.specs.LaneView.{LaneView, Happening}
 use Rattle.qp_orders.specs.Placing.{all_placed}
@@ -132,10 +133,6 @@ acted-order last n lane (h ∷ hs) none whole =
     (acted-append last (all_placed 0 (take (h.at - n) lane)) (placed_of h) ∙ acted-whole (acted_last last (all_placed 0 (take (h.at - n) lane))) h parts.0)
     ∙ acted-order h.source h.at (drop (h.at - n) lane) hs halves.1 parts.1
 
-and_true : (x : Bool) → (x && true) ≡ x
-and_true true = refl
-and_true false = refl
-
 zero-not : (k : ℕ) → (zero == suc k) ≡ false
 zero-not k = grind (arith, nat_tests)
 
@@ -151,7 +148,7 @@ begun-told n s g = go (n == s) refl g
     go : (u : Bool) → (n == s) ≡ u → (g : List Told) → times (λ x. is_stim x && (x.lane == s)) (all_placed n (source_items g)) ≡ (if u then times (λ t. is_some (stim_of t.body)) g else 0)
     go true e [] = refl
     go true e (t ∷ g) =
-        let here : one (is_some (stim_of t.body) && (n == s)) ≡ one (is_some (stim_of t.body)) = ap (λ b. one (is_some (stim_of t.body) && b)) e ∙ ap one (and_true (is_some (stim_of t.body))) in
+        let here : one (is_some (stim_of t.body) && (n == s)) ≡ one (is_some (stim_of t.body)) = ap (λ b. one (is_some (stim_of t.body) && b)) e ∙ ap one (and-true (is_some (stim_of t.body))) in
         omega (arith, here, go true e g)
     go false e [] = refl
     go false e (t ∷ g) =

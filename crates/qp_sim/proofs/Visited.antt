@@ -1,6 +1,5 @@
 -- What a stimulus in the lane of its source comes to.
-use Rattle.std.proofs.Common.{◌≡◌, ◌≢◌, ◌⊎◌, ℕ, ◌+◌, ◌<◌, Bool, true, false, ◌&&◌, List, [], ◌∷◌, ◌++◌, map, length, drop, get_or, refl, sym, ◌∙◌, ap, subst, arith, inl, inr, IsTrue, length-append}
-use Rattle.std.specs.List.{filter}
+use Rattle.std.proofs.Common.{◌≡◌, ◌≢◌, ◌⊎◌, ℕ, ◌+◌, ◌<◌, false, ◌&&◌, List, [], ◌∷◌, ◌++◌, map, length, drop, get_or, refl, sym, ◌∙◌, ap, subst, arith, inl, inr, IsTrue, length-append}
 use Rattle.std.proofs.lemmas.List.{map-append, length-map}
 use Rattle.std.proofs.Math.Seq.{drop-append_seam}
 use Rattle.qp_model.specs.declared.stimulus.Stim.{Stim}
@@ -33,7 +32,7 @@ use Rattle.qp_sim.specs.Newest.{newest}
 use Rattle.qp_sim.specs.Visiting.{Rests, HasStopped, Amounts, Visits}
 use Rattle.qp_sim.proofs.Worlds.{tolds, told-here, told-other, lane-is, own_purse}
 use Rattle.qp_sim.proofs.Beside.{Went, before, behind, lane_there, tolds_first, source-leaves, source-stopped}
-use Rattle.qp_model.proofs.HistoryLemmas.{no-total}
+use Rattle.qp_model.proofs.HistoryLemmas.{no-total, total-append}
 use Rattle.qp_model.proofs.KnowingLemmas.{told-source}
 
 went-gains : (ts : List ToldItem) (v w : LaneView) → Gains ts v w → KeepsOwn v w → Went ts v w
@@ -73,16 +72,6 @@ coded code mid w e = ap (λ xs. no_code xs && no_code (world_view w).answered) (
 total-off : (x : Word) (i : Item) (is : List Item) → drawn_on x (touch i) ≡ false → total x (i ∷ is) ≡ total x is
 unfolding total
 total-off x i is e = rw e refl
-
-total-both : (x : Word) (is js : List Item) → total x (is ++ js) ≡ total x is + total x js
-unfolding total
-total-both x [] js = omega arith
-total-both x (i ∷ is) js = go (drawn_on x (touch i)) refl (total-both x is js)
-  where
-    go : (u : Bool) → drawn_on x (touch i) ≡ u → length (filter (λ i. drawn_on x (touch i)) (is ++ js)) ≡ length (filter (λ i. drawn_on x (touch i)) is) + length (filter (λ i. drawn_on x (touch i)) js)
-        → length (filter (λ i. drawn_on x (touch i)) (i ∷ (is ++ js))) ≡ length (filter (λ i. drawn_on x (touch i)) (i ∷ is)) + length (filter (λ i. drawn_on x (touch i)) js)
-    go true e h = rw e (omega (arith, h))
-    go false e h = rw e h
 
 placed_items : ℕ → List Told → List Item
 placed_items lane g = items_of (map (placed_by lane) (map (for_object 0) g))
@@ -190,7 +179,7 @@ module _ (source former : ℕ) (a b c d e f : PlainWorld) (home : chosen a ≡ 0
     marks_stay x none =
         let more_items : items_of (world_view d).log ≡ items_of (world_view c).log ++ placed_items (world_view c).lane g =
         ap items_of went.log ∙ map-append (λ p. p.item) (world_view c).log (map (placed_by (world_view c).lane) (map (for_object 0) g)) in
-        let sum = total-both x (items_of (world_view c).log) (placed_items (world_view c).lane g) in
+        let sum = total-append x (items_of (world_view c).log) (placed_items (world_view c).lane g) in
         let all = ap (total x) more_items in
         mark-log d x ∙ omega (arith, sum, all, none) ∙ sym (mark-log c x)
 

@@ -26,8 +26,8 @@ use Rattle.qp_sound.specs.Laws.{EveryBlockStands, QuietEndRests}
 use Rattle.qp_sound.proofs.Times.{has-times, times-without_one}
 use Rattle.qp_sound.proofs.Standing.{free-life, names-in}
 use Rattle.qp_sound.proofs.FreeLemmas.{length-without_one}
-use Rattle.qp_sound.proofs.SoundParts.{swap-eq}
 use Rattle.qp_model.proofs.LineLemmas.{same_number}
+use Rattle.qp_model.proofs.NumberLemmas.{eqb-sym}
 
 -- Where each block stands.
 module _ (sys : System) (lanes : List (List Rec)) (hands : List Token) (sound : Sound sys lanes hands) (p b : ℕ) (h : IsTrue (is_block sys p b)) where
@@ -140,10 +140,10 @@ names-tokens p b r some (e ∷ es) =
         → cond z 0 (one (((p == e.pool) && (b == e.block)) && (r == e.name))) + count_of (Held p b r) (tokens_in es)
         ≡ times (λ x. x == r) (cond (u && v) (e.name ∷ names_on p b es) (names_on p b es))
     go true v true eu ev ez later = let wrong : p ≡ 0 = grind (arith, nat_tests) in absurd (omega (arith, wrong, some))
-    go true true false eu ev ez later = rw (swap-eq p e.pool, swap-eq b e.block, eu, ev, swap-eq r e.name) (omega (arith, later))
-    go true false false eu ev ez later = rw (swap-eq p e.pool, swap-eq b e.block, eu, ev) (omega (arith, later))
+    go true true false eu ev ez later = rw (eqb-sym p e.pool, eqb-sym b e.block, eu, ev, eqb-sym r e.name) (omega (arith, later))
+    go true false false eu ev ez later = rw (eqb-sym p e.pool, eqb-sym b e.block, eu, ev) (omega (arith, later))
     go false v true eu ev ez later = omega (arith, later)
-    go false v false eu ev ez later = rw (swap-eq p e.pool, eu) (omega (arith, later))
+    go false v false eu ev ez later = rw (eqb-sym p e.pool, eu) (omega (arith, later))
 
 pub none-loose : (p b : ℕ) (u : Bool) (es : List Entry) → count_of (Loose p b u) (tokens_in es) ≡ 0
 unfolding times

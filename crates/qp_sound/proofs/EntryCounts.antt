@@ -17,7 +17,7 @@ use Rattle.qp_model.specs.Line.{Line, line, line_may, line_next}
 use Rattle.qp_model.specs.OneOrder.{Placed, enters, leaves}
 use Rattle.qp_model.specs.Sites.{ring_of}
 use Rattle.qp_model.specs.WordLaw.{is_object}
-use Rattle.qp_model.proofs.HistoryLemmas.{drawn_as-on}
+use Rattle.qp_model.proofs.HistoryLemmas.{drawn_as-on, filtered-pass}
 use Rattle.qp_calls.specs.Counting.{one, times}
 use Rattle.qp_sound.specs.Log.{log_of, items_of}
 use Rattle.qp_sound.specs.Sound.{SoundWorld}
@@ -113,14 +113,6 @@ numbered-times p w n (i ∷ is) on below =
     go true h ih few = omega (arith, ih, counted_once w (touch i) n true (on i h) few)
     go false h ih few = omega (arith, ih, not_counted w (touch i) n)
 
-filter_on : (p q : Item → Bool) (is : List Item) → ((i : Item) → q i ≡ true → p i ≡ true) → list_all p (filter q is) ≡ true
-filter_on p q [] h = refl
-filter_on p q (i ∷ is) h = go (q i) refl (filter_on p q is h)
-  where
-    go : (u : Bool) → q i ≡ u → list_all p (filter q is) ≡ true → list_all p (filter q (i ∷ is)) ≡ true
-    go true e rest = rw e (and_from _ _ (h i e) rest)
-    go false e rest = rw e rest
-
 all-both : (p : Item → Bool) (xs ys : List Item) → list_all p xs ≡ true → list_all p ys ≡ true → list_all p (xs ++ ys) ≡ true
 all-both p [] ys h k = k
 all-both p (x ∷ xs) ys h k = let parts = and_parts _ _ h in and_from _ _ parts.0 (all-both p xs ys parts.1 k)
@@ -130,7 +122,7 @@ unfolding numbered
 numbered-on w is zero = refl
 numbered-on w is (suc n) =
     all-both (λ i. drawn_on w (touch i)) (numbered w is n) (filter (λ i. drawn_as w n (touch i)) is) (numbered-on w is n)
-    (filter_on (λ i. drawn_on w (touch i)) (λ i. drawn_as w n (touch i)) is (λ i h. drawn_as-on w n (touch i) h))
+    (filtered-pass (λ i. drawn_on w (touch i)) (λ i. drawn_as w n (touch i)) is (λ i h. drawn_as-on w n (touch i) h))
 
 -- The operations of a queue.
 

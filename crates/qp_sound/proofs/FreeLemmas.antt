@@ -11,7 +11,7 @@ use Rattle.qp_model.specs.Lists.{count_up, without_one, without_all, with_number
 use Rattle.qp_model.specs.Machine.{after, is_allowed}
 use Rattle.qp_model.specs.FreeBlocks.{Pool, free_blocks, pool_may, pool_next}
 use Rattle.qp_model.proofs.MachineLemmas.{after-keeps}
-use Rattle.qp_sound.proofs.SoundSides.{all-without}
+use Rattle.qp_model.proofs.ListLemmas.{all-without}
 
 -- each number is below the later ones
 abbrev pub ascends : List ℕ → Bool

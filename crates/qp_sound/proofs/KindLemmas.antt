@@ -26,6 +26,7 @@ use Rattle.qp_model.proofs.WordLemmas.{Held as HeldWord}
 use Rattle.qp_model.proofs.LineLemmas.{held-seen, held-nil, held-full, held-no_entry, held-no_lifo}
 use Rattle.qp_model.proofs.ReferenceLemmas.{held-short, held-no_block}
 use Rattle.qp_model.proofs.SideLemmas.{held-sub, held-unsub, held-same, held-pub, held-arm, held-disarm, held-rearm, held-tick, held-fire, held-idle, held-armed}
+use Rattle.qp_model.proofs.ListLemmas.{all-without}
 use Rattle.qp_calls.specs.Tokens.{Token, Held, Loose, stands, hands_of, with_left, take_out}
 use Rattle.qp_sound.specs.WordStates.{pool_in, refs_in, line_in, set_in, clock_in}
 use Rattle.qp_sound.specs.Sound.{Sound, facts_in, queues}
@@ -34,7 +35,7 @@ use Rattle.qp_sound.proofs.Standing.{refs-long, set-count, clock-count, held-lin
 use Rattle.qp_sound.proofs.SoundBlocks.{sound-first, sound-again, sound-dec, dec-refs}
 use Rattle.qp_sound.proofs.SoundPools.{sound-new, sound-back}
 use Rattle.qp_sound.proofs.SoundQueues.{sound-post, sound-lifo, sound-took}
-use Rattle.qp_sound.proofs.SoundSides.{sound-silent, sound-pool_shown, sound-queue_shown, sound-signal_shown, sound-timer_shown, sound-timer_drawn, sound-signal_drawn, all-without}
+use Rattle.qp_sound.proofs.SoundSides.{sound-silent, sound-pool_shown, sound-queue_shown, sound-signal_shown, sound-timer_shown, sound-timer_drawn, sound-signal_drawn}
 
 module _ (sys : System) (before : List (List Rec)) (lane : List Rec) (behind : List (List Rec)) (r : Rec)
     (hands : List Token) (old : Sound sys (before ++ lane ∷ behind) hands) (few : (a : ℕ) → IsTrue (is_object sys a) → a < queues) where

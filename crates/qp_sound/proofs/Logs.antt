@@ -7,17 +7,13 @@ use Rattle.qp_model.specs.declared.record.Rec.{Rec}
 use Rattle.qp_model.specs.Record.{item_of}
 use Rattle.qp_model.specs.OneOrder.{Placed}
 use Rattle.qp_model.specs.History.{lane_items}
+use Rattle.qp_model.proofs.ListLemmas.{slice_set-twice}
 use Rattle.qp_calls.specs.Counting.{one, times}
 use Rattle.qp_sound.specs.Log.{lane_of, first_placed, log_of, items_of, Orders, with_record}
 use Rattle.qp_sound.specs.Step.{Grown}
 use Rattle.qp_sound.proofs.Times.{times-append}
 
 -- Places of lists.
-
-pub set-set : {X : Type 0} (xs : List X) (i : ℕ) (x y : X) → slice_set (slice_set xs i x) i y ≡ slice_set xs i y
-set-set [] i x y = refl
-set-set (z ∷ zs) zero x y = refl
-set-set (z ∷ zs) (suc i) x y = ap (λ ws. z ∷ ws) (set-set zs i x y)
 
 set-swap : {X : Type 0} (xs : List X) (i j : ℕ) (x y : X) → i ≢ j → slice_set (slice_set xs i x) j y ≡ slice_set (slice_set xs j y) i x
 set-swap [] i j x y differ = refl
@@ -119,9 +115,9 @@ module _ (lanes : List (List Rec)) (x : ℕ) (order : List ℕ) (orders : Orders
   lanes_here : slice_set (with_record lanes x r) x (drop 1 (whole ++ r ∷ [])) ≡ with_record rest x r
   lanes_here =
       let front : lane_of rest x ≡ drop 1 whole = lane-set_same lanes x (drop 1 whole) there in
-      set-set lanes x (whole ++ r ∷ []) (drop 1 (whole ++ r ∷ []))
+      slice_set-twice lanes x (whole ++ r ∷ []) (drop 1 (whole ++ r ∷ []))
       ∙ ap (slice_set lanes x) (drop_longer whole some)
-      ∙ sym (ap (λ l. slice_set rest x (l ++ r ∷ [])) front ∙ set-set lanes x (drop 1 whole) (drop 1 whole ++ r ∷ []))
+      ∙ sym (ap (λ l. slice_set rest x (l ++ r ∷ [])) front ∙ slice_set-twice lanes x (drop 1 whole) (drop 1 whole ++ r ∷ []))
 
   -- or another one
   lane_elsewhere : x ≢ at → lane_of (with_record lanes at r) x ≡ whole

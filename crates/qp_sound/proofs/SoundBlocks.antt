@@ -30,8 +30,9 @@ use Rattle.qp_sound.proofs.Blocks.{ok-same, ok-inc, ok-dec, refs_of, none}
 use Rattle.qp_sound.proofs.Events.{has-without, cell-last, edges-within, event-life}
 use Rattle.qp_sound.proofs.Staying.{life-stays, cell-stays, refs-stays, queued-stays, entries-stay, subscribed-stay}
 use Rattle.qp_sound.proofs.Standing.{block-pool, refs-count, refs-long, held-refs, held-stands, referred-out, referred-alive}
-use Rattle.qp_sound.proofs.SoundParts.{swap-eq, flipped, each-block, same-block, later-next, event_of-stays, event-kept}
+use Rattle.qp_sound.proofs.SoundParts.{flipped, each-block, same-block, later-next, event_of-stays, event-kept}
 use Rattle.qp_model.proofs.LineLemmas.{same_number}
+use Rattle.qp_model.proofs.NumberLemmas.{eqb-sym}
 
 module _ (sys : System) (before : List (List Rec)) (lane : List Rec) (behind : List (List Rec)) (r : Rec) where
   abbrev old_lanes : List (List Rec)
@@ -79,7 +80,7 @@ module _ (sys : System) (before : List (List Rec)) (lane : List Rec) (behind : L
           counts : (n : ℕ) → one (same_token (Held p b n) (Held p b refs_now)) + count_of (Held p b n) (take_out (Loose p b false) hands) ≡ count_of (Held p b n) hands + one (refs_now == n)
           counts n =
               let u = times-other (Loose p b false) (Held p b n) hands refl in
-              let same : one (same_token (Held p b n) (Held p b refs_now)) ≡ one (refs_now == n) = rw (same_number p, same_number b) (ap one (swap-eq n refs_now)) in
+              let same : one (same_token (Held p b n) (Held p b refs_now)) ≡ one (refs_now == n) = rw (same_number p, same_number b) (ap one (eqb-sym n refs_now)) in
               omega (arith, u, same)
 
       made-there : (q c : ℕ) → IsTrue (is_block sys q c) → ((p == q) && (b == c)) ≡ false → BlockIn sys new_lanes made q c
@@ -213,7 +214,7 @@ module _ (sys : System) (before : List (List Rec)) (lane : List Rec) (behind : L
       dec-held xs n = go xs
         where
           same : one (same_token (Held p b n) (Held p b k)) ≡ one (k == n)
-          same = rw (same_number p, same_number b) (ap one (swap-eq n k))
+          same = rw (same_number p, same_number b) (ap one (eqb-sym n k))
 
           go : (xs : List ℕ) → count_of (Held p b n) (with_left p b (Left (length xs)) (take_out (Held p b k) hands)) + one (k == n) ≡ count_of (Held p b n) hands
           go [] = let t = times-take_out (Held p b k) (Held p b n) hands stand in let e = same in omega (arith, t, e)

@@ -13,6 +13,7 @@ use Rattle.qp_model.specs.Knowing.{event_of, given_by}
 use Rattle.qp_model.specs.WordLaw.{is_block}
 use Rattle.qp_model.proofs.WordLemmas.{all_items-split, all_items-grown}
 use Rattle.qp_model.proofs.KnowingLemmas.{IsLater, later-draws}
+use Rattle.qp_model.proofs.NumberLemmas.{eqb-sym}
 use Rattle.qp_calls.specs.Tokens.{Token, Held, Loose}
 use Rattle.qp_calls.specs.Counting.{count_of}
 use Rattle.qp_sound.specs.WordStates.{life_in, refs_in, cell_in}
@@ -21,11 +22,8 @@ use Rattle.qp_sound.proofs.Blocks.{ok-same}
 use Rattle.qp_sound.proofs.Events.{event-stays}
 use Rattle.qp_sound.proofs.Standing.{names-in, refs-long}
 
-pub swap-eq : (x y : ℕ) → (x == y) ≡ (y == x)
-swap-eq x y = grind (arith, nat_tests)
-
 pub flipped : (p b q c : ℕ) → ((p == q) && (b == c)) ≡ false → ((q == p) && (c == b)) ≡ false
-flipped p b q c other = rw (swap-eq q p, swap-eq c b) other
+flipped p b q c other = rw (eqb-sym q p, eqb-sym c b) other
 
 -- what holds of one block, and of all others, holds of each
 pub each-block : (sys : System) (P : ℕ → ℕ → Type 0) (p b : ℕ) → P p b → ((q c : ℕ) → IsTrue (is_block sys q c) → ((p == q) && (b == c)) ≡ false → P q c)

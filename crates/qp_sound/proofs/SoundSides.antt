@@ -1,14 +1,12 @@
 -- Records that show a word, or are on a signal or a time event, or on no word: a sound world stays sound.
-use Rattle.std.proofs.Common.{◌≡◌, ℕ, suc, ◌==◌, Bool, true, false, List, [], ◌∷◌, ◌++◌, refl, subst, arith, cond, IsTrue, inl, inr}
+use Rattle.std.proofs.Common.{◌≡◌, ℕ, suc, ◌==◌, Bool, true, false, List, [], ◌∷◌, ◌++◌, refl, subst, arith, IsTrue, inl, inr}
 use Rattle.std.specs.List.{list_all}
-use Rattle.std.proofs.lemmas.Bool.{and_from, and_parts}
 use Rattle.std.proofs.lemmas.Bool.Decides.{nat_tests}
 use Rattle.qp_model.specs.declared.record.Rec.{Rec}
 use Rattle.qp_model.specs.declared.words.Word.{Word}
 use Rattle.qp_model.specs.declared.words.Word.TheVariants as word
 use Rattle.qp_model.specs.declared.systems.System.{System}
 use Rattle.qp_model.specs.Record.{Item, item_of}
-use Rattle.qp_model.specs.Lists.{without_all}
 use Rattle.qp_model.specs.History.{Draws, Shows, Neither, touch, hist, total, all_items, lane_items}
 use Rattle.qp_model.specs.FreeBlocks.{Pool, free_blocks}
 use Rattle.qp_model.specs.Line.{Line, line}
@@ -100,12 +98,3 @@ module _ (sys : System) (before : List (List Rec)) (lane : List Rec) (behind : L
           each : (t : ℕ) → IsTrue (is_signal sys t) → (u : Bool) → (s == t) ≡ u → IsTrue (list_all (is_object sys) (set_in new_lanes t).members)
           each t k true e = let at : s ≡ t = grind (arith, nat_tests) in subst (λ x. IsTrue (list_all (is_object sys) (set_in new_lanes x).members)) at members
           each t k false e = rw (set-stays sys before lane behind r i is t (rw (draws, e) refl)) (old.subscribed t k)
-
--- objects without one of them are objects
-pub all-without : (p : ℕ → Bool) (o : ℕ) (xs : List ℕ) → list_all p xs ≡ true → list_all p (without_all o xs) ≡ true
-all-without p o [] h = refl
-all-without p o (x ∷ xs) h = go (x == o) (all-without p o xs (and_parts _ _ h).1)
-  where
-    go : (u : Bool) → list_all p (without_all o xs) ≡ true → list_all p (cond u (without_all o xs) (x ∷ without_all o xs)) ≡ true
-    go true later = later
-    go false later = and_from _ _ (and_parts _ _ h).0 later

@@ -23,7 +23,7 @@ use Rattle.qp_model.specs.Knowing.{Facts, event_of, known_of, told, told_lane, c
 use Rattle.qp_model.specs.Settled.{AllSettled, is_settled, all_settled, Settled}
 use Rattle.qp_model.specs.Sites.{ring_of, blocks_of}
 use Rattle.qp_model.specs.WordLaw.{is_object, is_block, is_pool}
-use Rattle.qp_model.proofs.ListLemmas.{list_all-middle}
+use Rattle.qp_model.proofs.ListLemmas.{list_all-middle, list_all-parts, slice_set-twice}
 use Rattle.qp_model.proofs.MachineLemmas.{after-append}
 use Rattle.qp_model.proofs.HistoryLemmas.{hist-draws}
 use Rattle.qp_model.proofs.WordLemmas.{hist-stays}
@@ -43,7 +43,7 @@ use Rattle.qp_sound.proofs.Staying.{pool-stays, refs-stays, line-stays}
 use Rattle.qp_sound.proofs.Standing.{refs-count}
 use Rattle.qp_sound.proofs.Marks.{Next, total-next, total-rises, total-same}
 use Rattle.qp_sound.proofs.NextLemmas.{next-of, queue_total}
-use Rattle.qp_sound.proofs.Logs.{lane-set_same, log-grows, set-set}
+use Rattle.qp_sound.proofs.Logs.{lane-set_same, log-grows}
 use Rattle.qp_sound.proofs.LaterLemmas.{held-is_made}
 use Rattle.qp_sound.proofs.WorldLemmas as world
 
@@ -84,16 +84,11 @@ any-made items e (j ∷ js) h k = go (handles (token_of e) j.body) refl h (any-m
     go true at g later = handled-made items e j.body at (and_parts _ _ k).0
     go false at g later = later g (and_parts _ _ k).1
 
--- What all lanes hold, each lane holds.
-pub all-front : {X : Type 0} (p : X → Bool) (xs ys : List X) → list_all p (xs ++ ys) ≡ true → (list_all p xs ≡ true) × (list_all p ys ≡ true)
-all-front p [] ys h = (refl, h)
-all-front p (x ∷ xs) ys h = let k = all-front p xs ys (and_parts _ _ h).1 in (and_from _ _ (and_parts _ _ h).0 k.0, k.1)
-
 pub all-lane : (p : Item → Bool) (lanes : List (List Rec)) (k : ℕ) → list_all p (all_items lanes) ≡ true → list_all p (lane_items (lane_of lanes k)) ≡ true
 unfolding all_items lane_items
 all-lane p [] k h = refl
-all-lane p (l ∷ ls) zero h = (all-front p (lane_items l) (all_items ls) h).0
-all-lane p (l ∷ ls) (suc k) h = all-lane p ls k (all-front p (lane_items l) (all_items ls) h).1
+all-lane p (l ∷ ls) zero h = (list_all-parts p (lane_items l) (all_items ls) h).0
+all-lane p (l ∷ ls) (suc k) h = all-lane p ls k (list_all-parts p (lane_items l) (all_items ls) h).1
 
 -- References that the records of lanes handle were made.
 lane-made : (w : Facts) (items : List Item) (e : Entry) (l : List Rec) → handled_in (token_of e) (told_lane w 0 (lane_items l)) ≡ true
@@ -105,21 +100,21 @@ lanes-made : (w : Facts) (items : List Item) (e : Entry) (ls : List (List Rec)) 
 unfolding all_items
 lanes-made w items e [] h all = absurd (cc)
 lanes-made w items e (l ∷ ls) h all =
-    let parts = all-front (λ j. handles_made items j.body) (lane_items l) (all_items ls) all in
+    let parts = list_all-parts (λ j. handles_made items j.body) (lane_items l) (all_items ls) all in
     go (handled_in (token_of e) (told_lane w 0 (lane_items l))) refl h (λ k. lanes-made w items e ls k parts.1)
   where
     go : (u : Bool) → handled_in (token_of e) (told_lane w 0 (lane_items l)) ≡ u → (u || list_any (handled_in (token_of e)) (map (λ l. told_lane w 0 (lane_items l)) ls)) ≡ true
         → (list_any (handled_in (token_of e)) (map (λ l. told_lane w 0 (lane_items l)) ls) ≡ true → is_made items e ≡ true) → is_made items e ≡ true
-    go true is k later = lane-made w items e l is (all-front (λ j. handles_made items j.body) (lane_items l) (all_items ls) all).0
+    go true is k later = lane-made w items e l is (list_all-parts (λ j. handles_made items j.body) (lane_items l) (all_items ls) all).0
     go false is k later = later k
 
 -- one lane may be left out
 items-left : (p : Item → Bool) (ls : List (List Rec)) (at : ℕ) → list_all p (all_items ls) ≡ true → list_all p (all_items (slice_set ls at [])) ≡ true
 unfolding all_items lane_items
 items-left p [] at h = refl
-items-left p (l ∷ ls) zero h = (all-front p (lane_items l) (all_items ls) h).1
+items-left p (l ∷ ls) zero h = (list_all-parts p (lane_items l) (all_items ls) h).1
 items-left p (l ∷ ls) (suc at) h =
-    let parts = all-front p (lane_items l) (all_items ls) h in
+    let parts = list_all-parts p (lane_items l) (all_items ls) h in
     all-both p (lane_items l) (all_items (slice_set ls at [])) parts.0 (items-left p ls at parts.1)
   where
     all-both : {X : Type 0} (p : X → Bool) (xs ys : List X) → list_all p xs ≡ true → list_all p ys ≡ true → list_all p (xs ++ ys) ≡ true
@@ -365,14 +360,14 @@ module _ (sys : System) (lanes : List (List Rec)) (order : List ℕ) (at : ℕ) 
   unfolding all_items
   all-stay [] h = refl
   all-stay (l ∷ ls) h =
-      let parts = all-front (λ j. is_settled (all_items lanes) j.body) (lane_items l) (all_items ls) h in
+      let parts = list_all-parts (λ j. is_settled (all_items lanes) j.body) (lane_items l) (all_items ls) h in
       ap (λ t. t ∷ map (λ l. told_lane (facts_in sys more) 0 (lane_items l)) ls) (told-stays l parts.0)
       ∙ ap (λ ts. told_lane (facts_in sys lanes) 0 (lane_items l) ∷ ts) (all-stay ls parts.1)
 
   pub aside-stays : told_aside sys more at ≡ told_aside sys lanes at
   unfolding all_settled
   aside-stays =
-      ap (map (λ l. told_lane (facts_in sys more) 0 (lane_items l))) (set-set lanes at (lane_of lanes at ++ r ∷ []) [])
+      ap (map (λ l. told_lane (facts_in sys more) 0 (lane_items l))) (slice_set-twice lanes at (lane_of lanes at ++ r ∷ []) [])
       ∙ all-stay (slice_set lanes at []) (items-left (λ j. is_settled (all_items lanes) j.body) lanes at old.settled)
 
   pub log-now : log_of more (order ++ at ∷ []) ≡ log_of lanes order ++ record { lane = at; item = this } ∷ []

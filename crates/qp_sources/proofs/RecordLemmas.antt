@@ -1,5 +1,5 @@
 -- Records at the front of a list, and tests.
-use Rattle.std.proofs.Common.{◌≡◌, Bool, true, false, cond, List, [], ◌∷◌, ◌++◌, Some, None, refl, arith}
+use Rattle.std.proofs.Common.{◌≡◌, Bool, true, false, cond, List, [], ◌∷◌, Some, None, refl, arith}
 use Rattle.std.proofs.lemmas.Bool.Decides.{nat_tests}
 use Rattle.std.specs.declared.option.Option.{Option}
 use Rattle.std.specs.Option.{option_map}
@@ -17,10 +17,6 @@ first-is t s g h e = (cc, cc)
 
 pub none-first : (t : Told) (g : List Told) → t ∷ g ≡ [] → ⊥
 none-first t g e = cc
-
-pub none-joined : (one rest : List Told) → [] ≡ one ++ rest → one ≡ []
-none-joined [] rest e = refl
-none-joined (t ∷ one) rest e = absurd (cc)
 
 -- a test that is passed
 pub passed : {A : Type 0} (test : Bool) (s s' : A) → cond test (Some s) None ≡ Some s' → (test ≡ true) × (s' ≡ s)

@@ -6,9 +6,10 @@ use Rattle.qp_model.specs.declared.bodies.Body.TheVariants as body
 use Rattle.qp_model.specs.Told.{Told, plain}
 use Rattle.qp_model.specs.Kernels.{may_try}
 use Rattle.qp_model.specs.Sources.{SeesEmpty, SeesEntry, Tries, Settles, priorities}
+use Rattle.qp_model.proofs.ListLemmas.{nil-front}
 use Rattle.qp_fits.specs.Decides.{Decides}
 use Rattle.qp_sources.specs.SettleState.{SettleState, Before, Seeing, before_next, settle_next, settle_done, settle_tried, settle_open}
-use Rattle.qp_sources.proofs.RecordLemmas.{first-is, none-first, none-joined, decides}
+use Rattle.qp_sources.proofs.RecordLemmas.{first-is, none-first, decides}
 use Rattle.qp_sources.proofs.SettleLemmas.{SeesOn, AllEmpty, InVain, SettleFits, SawNone, SawSome, SawAt, At, saw-at, before-back, empty-behind, entry-behind, seen-is, before-sound}
 
 -- nothing follows exactly where it is done
@@ -22,12 +23,12 @@ entry-never [] h = h
 entry-never (o ∷ os) h = none-first _ _ (sym h.4)
 
 entry-joined : (os : List ℕ) (one rest : List Told) → [] ≡ one ++ rest → SeesEntry os one → ⊥
-entry-joined os one rest e h = entry-never os (subst (SeesEntry os) (none-joined one rest e) h)
+entry-joined os one rest e h = entry-never os (subst (SeesEntry os) (nil-front one rest (sym e)) h)
 
 settles-never : (sys : System) (kernel : ℕ) → Settles sys kernel [] → ⊥
 unfolding Settles
 settles-never sys kernel h =
-    let none : h.1 ≡ [] = none-joined h.1 _ h.3 in
+    let none : h.1 ≡ [] = nil-front h.1 _ (sym h.3) in
     none-first _ _ (sym (h.3 ∙ ap (λ us. us ++ (plain body.Settle ∷ h.2)) none))
 
 pub settle-end : (sys : System) (kernel : ℕ) (s : SettleState) → Decides (settle_done s) (SettleFits sys kernel s [])

@@ -6,9 +6,10 @@ use Rattle.qp_model.specs.declared.bodies.Body.TheVariants as body
 use Rattle.qp_model.specs.Told.{Told, plain}
 use Rattle.qp_model.specs.Sites.{ring_of}
 use Rattle.qp_model.specs.Sources.{TicksOne, FiresInVain}
+use Rattle.qp_model.proofs.ListLemmas.{nil-front}
 use Rattle.qp_fits.specs.Decides.{Decides}
 use Rattle.qp_sources.specs.TickState.{Due, TickState, Reaching, Fired, Vain, tick_done, tick_asserted, tick_open}
-use Rattle.qp_sources.proofs.RecordLemmas.{none-first, none-joined}
+use Rattle.qp_sources.proofs.RecordLemmas.{none-first}
 use Rattle.qp_sources.proofs.TickLemmas.{TicksDue, timer_of, FiredOn, NoneFree, IsPosted, TickFits}
 
 one-never : (ring t : ℕ) (d : TimerDef) → TicksOne ring t d [] → ⊥
@@ -21,7 +22,7 @@ due-never : (sys : System) (x : Due) (left : List Due) (asserted : Bool) → Tic
 unfolding TicksDue FiresInVain
 due-never sys x left asserted (inl h) = none-first _ _ (sym h.1.5)
 due-never sys x left asserted (inr h) =
-    one-never (ring_of sys x.object) x.t (timer_of x) (subst (TicksOne (ring_of sys x.object) x.t (timer_of x)) (none-joined h.0 h.1 h.2) h.3)
+    one-never (ring_of sys x.object) x.t (timer_of x) (subst (TicksOne (ring_of sys x.object) x.t (timer_of x)) (nil-front h.0 h.1 (sym h.2)) h.3)
 
 fired-never : (sys : System) (object sig : ℕ) (left : List Due) (asserted : Bool) → FiredOn sys object sig left asserted [] → ⊥
 fired-never sys object sig left asserted (NoneFree f l m e h) = none-first _ _ (sym e)

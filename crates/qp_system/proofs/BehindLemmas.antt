@@ -16,8 +16,8 @@ use Rattle.qp_document.specs.Raw.{Pool, Signal, Chart, Object}
 use Rattle.qp_system.specs.Between.{sizes_fault, signal_fault, chart_named, timers_of, placing_fault, first_behind, no_pool_fault, is_without_pool}
 use Rattle.qp_model.specs.Sound.{SizesAscend}
 use Rattle.qp_document.specs.Views.{pool_view, signal_view}
-use Rattle.qp_system.proofs.PassLemmas.{list_any-map}
 use Rattle.qp_model.proofs.NumberLemmas.{every}
+use Rattle.qp_model.proofs.ListLemmas.{list_any-map}
 use Rattle.qp_chart.proofs.ChartTree.{none-both}
 
 none-two : (o later : Option Fault) → option_or o later ≡ None → (o ≡ None) × (later ≡ None)

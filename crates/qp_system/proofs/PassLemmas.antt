@@ -3,7 +3,6 @@ use Rattle.std.proofs.Common.{◌≡◌, ℕ, ◌+◌, ◌<◌, ◌≤◌, Bool,
 use Rattle.std.specs.declared.option.Option.{Option}
 use Rattle.std.specs.declared.result.Result.{Result}
 use Rattle.std.specs.Option.{option_or}
-use Rattle.std.specs.List.{list_any}
 use Rattle.std.proofs.lemmas.List.{drop_more, drop_all, take_more, map-append}
 use Rattle.qp_names.specs.declared.place.Part.{Part}
 use Rattle.qp_names.specs.Faults.{Fault, fault_if, first_of, first_in}
@@ -52,11 +51,6 @@ fault_if-holds test code path e holds h = rw (h, holds) refl
 
 pub fault_if-fails : (test : Bool) (code : ℕ) (path : List Part) → test ≡ false → fault_if test code path ≡ None
 fault_if-fails test code path fails = rw fails refl
-
--- a test of the things of a list, seen by view
-pub list_any-map : {X A : Type 0} (p : A → Bool) (view : X → A) (xs : List X) → list_any p (map view xs) ≡ list_any (λ x. p (view x)) xs
-list_any-map p view [] = refl
-list_any-map p view (x ∷ xs) = rw (list_any-map p view xs) refl
 
 module _ {X A : Type 0} (f : List A → ℕ → A → Option Fault) (view : X → A) (xs : List X) where
   -- what is left from the i-th thing on

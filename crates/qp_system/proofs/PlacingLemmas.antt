@@ -21,7 +21,8 @@ use Rattle.qp_system.specs.Between.{chart_named, has_vars, timers_of, placing_fa
 use Rattle.qp_system.specs.Passes.{IsFirst}
 use Rattle.qp_document.specs.Refused.{fault_at}
 use Rattle.qp_document.specs.Views.{vars_view, timer_view, chart_view, object_view}
-use Rattle.qp_system.proofs.PassLemmas.{first-head, first-tail, fault_if-holds, fault_if-fails, list_any-map}
+use Rattle.qp_system.proofs.PassLemmas.{first-head, first-tail, fault_if-holds, fault_if-fails}
+use Rattle.qp_model.proofs.ListLemmas.{list_any-map}
 
 pick : {X A : Type 0} (view : X → A) (b : Bool) (x : X) (l : Option A) (r : Option X) → l ≡ option_map view r
     → cond {A = Option A} b (Some (view x)) l ≡ option_map view (cond {A = Option X} b (Some x) r)

@@ -28,6 +28,7 @@ use Rattle.qp_names.specs.ActionFaults.{is_static, params_of, order_known, order
 use Rattle.qp_chart.specs.ChartFaults.{timer_fault, parent_at, init_fault, is_astray, is_covered, row_fault, row_at, rows_fault, state_fault, frame_fault, chart_fault, state_place, row_place}
 use Rattle.qp_names.specs.NameFaults.{doubles_fault, undeclared_key}
 use Rattle.qp_model.specs.declared.systems.SignalDef.{SignalDef}
+use Rattle.qp_model.proofs.ListLemmas.{list_any-map}
 use Rattle.qp_document.specs.declared.raw.RawObject.{RawObject}
 use Rattle.qp_document.specs.declared.raw.RawSystem.{RawSystem}
 use Rattle.qp_document.specs.Raw.{Signal, Object}
@@ -35,7 +36,6 @@ use Rattle.qp_system.specs.Between.{between_fault, no_pool_fault}
 use Rattle.qp_system.specs.Later.{later_of, later_fault}
 use Rattle.qp_system.specs.Within.{signal_name, object_name, names_of, in_chart, within_chart, charts_fault}
 use Rattle.qp_document.specs.Views.{name_view, signal_view, timer_view, row_view, state_view, chart_view, object_view, raw_view}
-use Rattle.qp_system.proofs.PassLemmas.{list_any-map}
 
 -- a fault of each thing, where the things look alike
 first_in-alike : {A B : Type 0} (view : A → B) (f g : ℕ → A → Option Fault) → ((k : ℕ) (x y : A) → view x ≡ view y → f k x ≡ g k y)

@@ -15,6 +15,7 @@ use Rattle.qp_tally.specs.Counting.{AreBlocks, AreCounts, AreNone, AreTurns, bac
 use Rattle.qp_tally.specs.declared.turns.Turns.{Turns}
 use Rattle.qp_tally.specs.declared.blocks.Blocks.{Blocks}
 use Rattle.qp_model.proofs.NumberLemmas.{count-append}
+use Rattle.qp_model.proofs.ListLemmas.{and-true}
 
 get-set : (xs : List ℕ) (k v n : ℕ) → slice_get (slice_set xs k v) k ≡ Some n → n ≡ v
 get-set [] k v n h = absurd (cc)
@@ -138,10 +139,6 @@ back-none _ k h = refl
 
 and-is : (a b c : Bool) → b ≡ c → (a && b) ≡ (a && c)
 and-is a b c h = ap (λ x. a && x) h
-
-and-true : (a : Bool) → (a && true) ≡ a
-and-true true = refl
-and-true false = refl
 
 and-false : (a : Bool) → (a && false) ≡ false
 and-false true = refl

@@ -1,5 +1,5 @@
 -- Before the first start, and behind the last.
-use Rattle.std.proofs.Common.{◌≡◌, ℕ, zero, suc, ◌+◌, ◌<◌, ◌==◌, cond, Bool, true, false, ◌||◌, List, [], ◌∷◌, ◌++◌, map, length, refl, sym, ◌∙◌, ap, subst, Option, Some, None, arith}
+use Rattle.std.proofs.Common.{◌≡◌, ℕ, suc, ◌+◌, ◌<◌, ◌==◌, cond, Bool, true, false, ◌||◌, List, [], ◌∷◌, ◌++◌, map, length, refl, sym, ◌∙◌, ap, subst, Option, Some, None, arith}
 use Rattle.std.specs.Prelude.{slice_get}
 use Rattle.std.specs.List.{AllByRecursion, find, list_all}
 use Rattle.qp_chart.specs.StateTree.{has}
@@ -33,6 +33,7 @@ use Rattle.qp_turns.specs.Starting.{HasBegun, HaveBegun, IsFresh, left_from}
 use Rattle.qp_turns.proofs.SoundObjects.{numbered, sound-object}
 use Rattle.qp_kernel.specs.Turning.{Terms}
 use Rattle.qp_model.proofs.AbleLemmas.{some-same}
+use Rattle.qp_model.proofs.ListLemmas.{some-there}
 
 -- The order of a lane that has done nothing.
 
@@ -60,11 +61,6 @@ order-begins sys v new = record {
 }
 
 -- Objects before their start.
-
-at-place : {A : Type 0} (xs : List A) (p : ℕ) → p < length xs → (x : A) × (slice_get xs p ≡ Some x)
-at-place [] p lt = absurd (omega (arith, lt))
-at-place (x ∷ xs) zero lt = (x, refl)
-at-place (x ∷ xs) (suc p) lt = at-place xs p (omega (arith, lt))
 
 has-found : (ds : List ObjectDef) (o : ℕ) (d : ObjectDef) → find (λ x. x.priority == o) ds ≡ Some d → has (map (λ x. x.priority) ds) o ≡ true
 has-found [] o d h = absurd (cc)
@@ -94,7 +90,7 @@ made-object sys xs v d chart sound made found its = by there.0 there.1 (made.eac
     few = let is = sound-object sys sound d.priority d found in omega (arith, is.threshold, is.few_thresholds, made.places)
 
     there : (o : Option Slot) × (slice_get xs.slots.items d.priority ≡ Some o)
-    there = at-place xs.slots.items d.priority few
+    there = some-there xs.slots.items d.priority few
 
     by : (o : Option Slot) → slice_get xs.slots.items d.priority ≡ Some o → IsPlace sys d.priority o → KnowsObject sys d chart xs v stage.Unstarted 0
     by None at none = let wrong : None ≡ Some d = sym none ∙ found in absurd (cc)

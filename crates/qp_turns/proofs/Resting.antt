@@ -1,9 +1,8 @@
 -- Objects at rest: what the course of their records leaves, and that later records of others change nothing of it.
-use Rattle.std.proofs.Common.{◌≡◌, ℕ, ◌<◌, ◌==◌, ◌||◌, Bool, true, false, not, cond, List, [], ◌∷◌, ◌++◌, map, length, refl, sym, ◌∙◌, ap, subst, inl, inr, Some, arith, append-nil}
+use Rattle.std.proofs.Common.{◌≡◌, ℕ, ◌<◌, ◌==◌, Bool, true, false, not, cond, List, [], ◌∷◌, ◌++◌, map, length, refl, sym, ◌∙◌, ap, subst, inl, inr, Some, arith, append-nil}
 use Rattle.std.specs.Prelude.{slice_get}
 use Rattle.std.specs.List.{filter}
 use Rattle.std.proofs.lemmas.Bool.Decides.{nat_tests}
-use Rattle.std.proofs.lemmas.Bool.{or_right}
 use Rattle.std.proofs.lemmas.List.Elements.{filter-append}
 use Rattle.qp_chart.specs.StateTree.{has}
 use Rattle.qp_chart.specs.declared.checked.Chart.{Chart}
@@ -24,7 +23,7 @@ use Rattle.qp_model.specs.Sound.{IsSound}
 use Rattle.qp_model.specs.Standing.{Leaves}
 use Rattle.qp_model.specs.Told.{Told, ToldItem, for_object, plain}
 use Rattle.qp_model.proofs.GroupLemmas.{bare-append}
-use Rattle.qp_model.proofs.ListLemmas.{has-append, has-reverse}
+use Rattle.qp_model.proofs.ListLemmas.{has-reverse}
 use Rattle.qp_calls.specs.LaneView.{LaneView}
 use Rattle.qp_dispatch.specs.Lasts.{config_of}
 use Rattle.qp_kernel.specs.LaneZero.{owed_point, setting, told_pieces}
@@ -46,11 +45,6 @@ use Rattle.qp_turns.proofs.Places.{get-other}
 use Rattle.qp_turns.proofs.SoundObjects.{numbered}
 
 -- The stack.
-
-pub has-last : (front : List ℕ) (p : ℕ) → has (front ++ p ∷ []) p ≡ true
-has-last front p =
-    let same : (p == p) ≡ true = grind (arith, nat_tests) in
-    has-append front (p ∷ []) p ∙ ap (λ b. has front p || (b || false)) same ∙ or_right (has front p) true refl
 
 -- Records that are none of an object's start and steps.
 

@@ -5,7 +5,7 @@ use Rattle.std.specs.BTreeSet.{contains}
 use Rattle.qp_model.specs.declared.words.Word.{Word}
 use Rattle.qp_model.specs.Record.{Item, item_of}
 use Rattle.qp_model.specs.History.{lane_items, touch}
-use Rattle.qp_lanes.proofs.LaneLemmas.{lane_items-more}
+use Rattle.qp_model.proofs.RecordLemmas.{lane_items-more}
 use Rattle.qp_lanes.specs.Keys.{key_cmp, key_of}
 use Rattle.qp_histories.specs.MarkOrder.{last_mark}
 use Rattle.qp_histories.specs.Marks.{rises_from, touched, word_use}

@@ -2,7 +2,7 @@ use Rattle.std.proofs.Common.{◌≡◌, ◌∙◌, ◌+◌, ◌++◌, ◌∷◌
 use Rattle.std.proofs.lemmas.List.{take_more}
 use Rattle.qp_model.specs.Record.{Item, item_of}
 use Rattle.qp_model.specs.History.{lane_items}
-use Rattle.qp_lanes.proofs.LaneLemmas.{lane_items-more}
+use Rattle.qp_model.proofs.RecordLemmas.{lane_items-more}
 use Rattle.qp_lanes.specs.Keys.{key_of}
 use Rattle.qp_histories.specs.Marks.{touched}
 use Rattle.qp_lanes.specs.Rows.{row_at}

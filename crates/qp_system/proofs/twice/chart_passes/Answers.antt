@@ -5,7 +5,8 @@ use Rattle.qp_names.specs.declared.raw.RawChart.{RawChart}
 use Rattle.qp_document.specs.Raw.{Chart}
 use Rattle.qp_system.specs.Between.{chart_fault}
 use Rattle.qp_document.specs.Views.{chart_view}
-use Rattle.qp_system.proofs.PassLemmas.{fault_if-holds, fault_if-fails, list_any-map}
+use Rattle.qp_system.proofs.PassLemmas.{fault_if-holds, fault_if-fails}
+use Rattle.qp_model.proofs.ListLemmas.{list_any-map}
 use Rattle.qp_system.proofs.twice.chart_passes.Goals as goal
 
 named : (xs : List RawChart) (name : List ℕ) → list_any (bytes_eq name) (map (λ (t : Chart). t.name) (map chart_view xs)) ≡ list_any (λ (x : RawChart). bytes_eq name x.name.bytes) xs

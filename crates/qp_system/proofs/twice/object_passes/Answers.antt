@@ -5,7 +5,8 @@ use Rattle.qp_document.specs.declared.raw.RawObject.{RawObject}
 use Rattle.qp_document.specs.Raw.{Object}
 use Rattle.qp_system.specs.Between.{object_fault}
 use Rattle.qp_document.specs.Views.{object_view}
-use Rattle.qp_system.proofs.PassLemmas.{fault_if-holds, fault_if-fails, list_any-map}
+use Rattle.qp_system.proofs.PassLemmas.{fault_if-holds, fault_if-fails}
+use Rattle.qp_model.proofs.ListLemmas.{list_any-map}
 use Rattle.qp_system.proofs.twice.object_passes.Goals as goal
 
 named : (xs : List RawObject) (name : List ℕ) → list_any (bytes_eq name) (map (λ (t : Object). t.name) (map object_view xs)) ≡ list_any (λ (x : RawObject). bytes_eq name x.name.bytes) xs

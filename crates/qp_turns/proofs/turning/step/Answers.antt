@@ -3,11 +3,12 @@ use Rattle.qp_chart.specs.StateTree.{has}
 use Rattle.qp_dispatch.specs.declared.steps.Step.TheVariants as step
 use Rattle.qp_turns.specs.Knowing.{IsRunning, KnowsAt, MayLook}
 use Rattle.qp_turns.specs.Objects.{MayResumeAt, ResumesAt}
-use Rattle.qp_turns.proofs.Resting.{has-last, rests-stepped}
+use Rattle.qp_turns.proofs.Resting.{rests-stepped}
 use Rattle.qp_turns.proofs.Stepping.{after-step, may-resume, order-after}
 use Rattle.qp_turns.proofs.Tops.{popped-is, top-is}
 use Rattle.qp_turns.proofs.turning.step.Goals as goal
 use Rattle.qp_turns.specs.Turning.{terms_of}
+use Rattle.qp_model.proofs.ListLemmas.{has-last}
 
 pub resume-answer-requires : goal.resume-answer-requires
 resume-answer-requires g c =

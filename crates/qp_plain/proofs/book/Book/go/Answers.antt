@@ -2,13 +2,13 @@ use Rattle.std.proofs.Common.{◌≡◌, ℕ, List, get_or, slice_set, sym, ◌�
 use Rattle.std.proofs.lemmas.List.{length-set, set-get_or}
 use Rattle.qp_plain.specs.declared.log.Log.{Log}
 use Rattle.qp_plain.specs.Books.{all_places}
-use Rattle.qp_plain.proofs.BookLemmas.{set-twice}
+use Rattle.qp_model.proofs.ListLemmas.{slice_set-twice}
 use Rattle.qp_plain.proofs.book.Book.go.Goals as goal
 
 -- two swaps leave all lanes as they were
 same-logs : (xs : List Log) (at next : ℕ) (here there then : Log) → there ≡ get_or (slice_set xs at here) next there
     → slice_set (slice_set (slice_set xs at here) next then) next there ≡ slice_set xs at here
-same-logs xs at next here there then is = set-twice (slice_set xs at here) next then there ∙ ap (slice_set (slice_set xs at here) next) is ∙ set-get_or (slice_set xs at here) next there
+same-logs xs at next here there then is = slice_set-twice (slice_set xs at here) next then there ∙ ap (slice_set (slice_set xs at here) next) is ∙ set-get_or (slice_set xs at here) next there
 
 -- what was found at a place stands there
 found : (xs : List Log) (next : ℕ) (new was : Log) → new ≡ was → was ≡ get_or xs next was → new ≡ get_or xs next new
