@@ -21,12 +21,15 @@ use Rattle.qp_model.specs.SoundChart.{IsSoundAct, IsSoundChart, IsSoundPlain, Is
 use Rattle.qp_calls.specs.declared.tokens.Entry.{Entry}
 use Rattle.qp_dispatch.specs.SoundFor.{IsHome, MayAct, MayTask}
 use Rattle.qp_dispatch.specs.Resume.{IsReady}
-use Rattle.qp_model.proofs.AbleLemmas.{some-same, handler_is}
+use Rattle.qp_model.proofs.AbleLemmas.{some-same}
 use Rattle.qp_model.proofs.NumberLemmas.{every-append}
 use Rattle.qp_model.proofs.ListLemmas.{every-at}
 
 not-some : {A : Type 0} → IsSome {T = ℕ} None → A
 not-some e = absurd (cc)
+
+handler_is : ℕ → ℕ × Row → Handler
+handler_is s found = record { state = s; place = found.0; row = found.1 }
 
 module _ (sys : System) (me : ℕ) (chart : Chart) (home : IsHome sys me chart) (sound : IsSoundChart sys chart) where
   module _ (hand : Option Entry) where
