@@ -37,10 +37,10 @@ use Rattle.qp_rerun.proofs.Histories.{by-index, from-index}
 use Rattle.qp_rerun.proofs.LaneSpills.{spill-last}
 use Rattle.qp_rerun.proofs.TokenCalls.{Lin, Uses}
 use Rattle.qp_rerun.proofs.TokenLanes.{owners-lin}
+use Rattle.qp_rerun.proofs.TokenNames.{chart-names}
 use Rattle.qp_model.proofs.NumberLemmas.{every-append, every}
 use Rattle.qp_model.proofs.HistoryLemmas.{no-hist}
 use Rattle.qp_model.proofs.ListLemmas.{some-there, every-there}
-use Rattle.qp_replay.proofs.NamedRecords.{chart-names}
 
 -- Places of records.
 

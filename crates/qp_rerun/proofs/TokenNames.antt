@@ -1,5 +1,5 @@
 -- The actions of an object's chart name what the system has, for the tokens of their calls.
-use Rattle.std.proofs.Common.{◌≡◌, ℕ, List, [], ◌∷◌, refl, sym, subst, Option, IsTrue}
+use Rattle.std.proofs.Common.{◌≡◌, ℕ, List, [], ◌∷◌, refl, sym, subst, Option, Some, None, IsTrue}
 use Rattle.std.specs.List.{AllByRecursion}
 use Rattle.qp_chart.specs.Expr.{Names}
 use Rattle.qp_chart.specs.Task.{Task, Begin, Run, Unhandled, Exit, Enter, Init, Done, Do, Raise, Restore}
@@ -8,16 +8,22 @@ use Rattle.qp_chart.specs.declared.actions.Plain.TheVariants as action
 use Rattle.qp_chart.specs.declared.checked.Chart.{Chart}
 use Rattle.qp_chart.specs.declared.expression.Bound.{Bound}
 use Rattle.qp_model.specs.declared.systems.System.{System}
+use Rattle.qp_model.specs.declared.systems.ObjectDef.{ObjectDef}
 use Rattle.qp_model.specs.Calls.{deed_of, object_of, values_of}
+use Rattle.qp_model.specs.Sites.{object_at}
+use Rattle.qp_model.specs.Sound.{IsSound}
 use Rattle.qp_model.specs.SoundChart.{IsSoundEvent, IsSoundPlain}
 use Rattle.qp_model.specs.WordLaw.{is_object}
+use Rattle.qp_model.specs.Course.{chart_at}
 use Rattle.qp_calls.specs.declared.tokens.Entry as token
+use Rattle.qp_calls.specs.declared.tokens.Entry.TheVariants as hand
 use Rattle.qp_sound.specs.Sound.{is_event}
 use Rattle.qp_sound.proofs.CallEvents.{event-to}
 use Rattle.qp_dispatch.specs.SoundFor.{MayAct, MayTask}
+use Rattle.qp_dispatch.specs.Resume.{IsReady}
 use Rattle.qp_dispatch.proofs.Naming.{declared, receives, sound-event}
-use Rattle.qp_replay.proofs.NamedRecords.{timer-there}
-use Rattle.qp_rerun.proofs.TokenCourses.{DeedNames, TaskNames}
+use Rattle.qp_replay.proofs.NamedRecords.{chart-ready, timer-there}
+use Rattle.qp_rerun.proofs.TokenCourses.{ChartNames, DeedNames, TaskNames}
 
 event-of : (sys : System) (chart : Chart) (inside : Option ℕ) (sig : ℕ) (pars : List Bound) (reserve : Option ℕ) (names : Names) → IsSoundEvent sys chart inside sig pars reserve
     → IsTrue (is_event sys (record { sig = sig; pars = values_of names pars }))
@@ -59,3 +65,11 @@ tasks-name sys me at_hand (t ∷ ts) h = (one t h.0, tasks-name sys me at_hand t
     one Done may = tt
     one (Raise c) may = tt
     one Restore may = tt
+
+pub chart-names : (sys : System) → IsSound sys → (d : ObjectDef) → object_at sys d.priority ≡ Some d → (chart : Chart) → chart_at sys d.chart ≡ Some chart → ChartNames sys d.priority chart
+chart-names sys sound d found chart its =
+    let ready : IsReady sys d.priority chart = chart-ready sys sound d found chart its in
+    record {
+      start = tasks-name sys d.priority None _ ready.start;
+      steps = λ leaf names sig. tasks-name sys d.priority (Some (hand.Static 0)) _ (ready.steps (hand.Static 0) leaf names sig);
+    }
