@@ -1,10 +1,10 @@
 //! Answers of the program to words over files, which a block of a table has line by line.
 
 use crate::asking::{Answer, Files, ask};
-use crate::blocks::{Block, Line};
-use crate::escapes;
-use crate::files::{Table, bytes, print_case};
 use anyhow::Result;
+use qp_tables::blocks::{Block, Line};
+use qp_tables::escapes;
+use qp_tables::files::{Table, bytes, print_case};
 use std::alloc::{AllocError, Global};
 use std::sync::Wait;
 

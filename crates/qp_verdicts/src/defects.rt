@@ -1,11 +1,11 @@
 //! Defects: journals of runs with some lines changed, each with the definition that it breaks first.
 
 use crate::asking::verdict;
-use crate::blocks::Block;
-use crate::changes::{Change, changed};
-use crate::files::{Table, print_case};
-use crate::runs::{Run, Texts};
 use anyhow::Result;
+use qp_tables::blocks::Block;
+use qp_tables::changes::{Change, changed};
+use qp_tables::files::{Table, print_case};
+use qp_tables::runs::{Run, Texts};
 use std::alloc::Global;
 use std::sync::Wait;
 

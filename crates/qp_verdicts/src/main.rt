@@ -7,15 +7,12 @@
 
 mod answers;
 mod asking;
-mod blocks;
-mod changes;
 mod defects;
-mod escapes;
-mod files;
-mod runs;
+mod lawful;
 
 use anyhow::Result;
-use files::Table;
+use qp_tables::files::Table;
+use qp_tables::{blocks, runs};
 use std::sync::Wait;
 
 /// The tables of words over files, with what is answered.
@@ -52,7 +49,7 @@ fn show_verdicts<R: Wait>(rt: &HostRuntime, waits: &R) -> Result<()> {
     let lawful = runs::of_table(alloc, &lawful)?;
     let beside = runs::of_table(alloc, &beside)?;
     for run in &lawful {
-        runs::show(rt, waits, run)?;
+        lawful::show(rt, waits, run)?;
     }
     let defects = Table::read(rt, "defects.txt")?;
     for block in &blocks::of_table(alloc, &defects)? {

@@ -1,10 +1,8 @@
 //! Runs by their names, with the files of their systems, stimuli and journals.
 
-use crate::asking::verdict;
-use crate::files::{Table, print_case, text};
+use crate::files::{Table, text};
 use anyhow::Result;
 use std::alloc::Global;
-use std::sync::Wait;
 
 /// A run, and the names of its files.
 #[derive(Clone, Copy)]
@@ -69,17 +67,4 @@ fn of_line(line: &str) -> Option<Run<'_>> {
         None => Some(run),
         Some(_) => None,
     }
-}
-
-/// Prints what is said of a run, which is lawful.
-pub fn show<R: Wait>(rt: &HostRuntime, waits: &R, run: &Run) -> Result<()> {
-    let texts = run.texts(rt)?;
-    let said = verdict(
-        waits,
-        rt.alloc(),
-        texts.system.as_str(),
-        texts.stimuli.as_str(),
-        texts.journal.as_str(),
-    )?;
-    print_case(rt, run.name, said.as_str(), "lawful")
 }

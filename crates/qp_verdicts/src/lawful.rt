@@ -1,0 +1,20 @@
+//! Lawful runs.
+
+use crate::asking::verdict;
+use anyhow::Result;
+use qp_tables::files::print_case;
+use qp_tables::runs::Run;
+use std::sync::Wait;
+
+/// Prints what is said of a run, which is lawful.
+pub fn show<R: Wait>(rt: &HostRuntime, waits: &R, run: &Run) -> Result<()> {
+    let texts = run.texts(rt)?;
+    let said = verdict(
+        waits,
+        rt.alloc(),
+        texts.system.as_str(),
+        texts.stimuli.as_str(),
+        texts.journal.as_str(),
+    )?;
+    print_case(rt, run.name, said.as_str(), "lawful")
+}
