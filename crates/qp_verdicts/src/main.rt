@@ -5,12 +5,8 @@
 //! read ends the program with its name and line.
 #![tactic(auto)]
 
-mod answers;
-mod asking;
-mod defects;
-mod lawful;
-
 use anyhow::Result;
+use qp_cases::{answers, defects, lawful};
 use qp_tables::files::Table;
 use qp_tables::{blocks, runs};
 use std::sync::Wait;
