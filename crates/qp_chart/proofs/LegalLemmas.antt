@@ -19,7 +19,7 @@ use Rattle.qp_chart.specs.StateTree.{state_at, parent_of, path_of, up, outer, is
 use Rattle.qp_chart.specs.TreeLaws.{PathsThatEndAreTrees}
 use Rattle.qp_chart.specs.Parents.{parent_number, parents_of, parent_in, path_in, up_in, is_looped, is_deep, is_below_in, loop_at, depth_at, tree_fault}
 use Rattle.qp_names.specs.Faults.{first_in}
-use Rattle.qp_chart.specs.ChartFaults.{chart_fault, frame_fault, state_fault, init_fault, is_astray}
+use Rattle.qp_chart.specs.ChartFaults.{chart_fault, parts_fault, body_fault, frame_fault, state_fault, init_fault, is_astray}
 use Rattle.qp_chart.specs.ChartOf.{IsChartOf, IsStateOf}
 use Rattle.qp_names.specs.RawNumbers.{Refers}
 use Rattle.qp_chart.specs.LegalTree.{IsLegal}
@@ -111,16 +111,21 @@ module _ (names : Names) (raw : RawChart) (chart : Chart) (none : chart_fault na
   inside : (s : ℕ) → IsInside (length (parents_of raw)) (parent_in (parents_of raw) s)
   inside s = subst (λ n. IsInside n (parent_in (parents_of raw) s)) (sym count) (flat-inside (length raw.state) (λ (x : RawState). parent_number raw x) (parent-inside raw) raw.state (s - 1))
 
+  parts_none : parts_fault names raw ≡ None
+  unfolding chart_fault
+  parts_none = (none-both _ _ (none-both _ _ none).1).0
+
   tree_none : tree_fault (parents_of raw) ≡ None
-  unfolding chart_fault frame_fault
+  unfolding parts_fault frame_fault
   tree_none =
-      let after_doubles = (none-both _ _ none).1 in
-      let frame = (none-both _ _ after_doubles).0 in
+      let frame = (none-both _ _ parts_none).0 in
       (none-both _ _ (none-both _ _ (none-both _ _ frame).1).1).0
 
   states_none : first_in (state_fault names raw) 1 raw.state ≡ None
-  unfolding chart_fault
-  states_none = (none-both _ _ (none-both _ _ (none-both _ _ (none-both _ _ (none-both _ _ none).1).1).1).1).0
+  unfolding parts_fault body_fault
+  states_none =
+      let body = (none-both _ _ (none-both _ _ parts_none).1).0 in
+      (none-both _ _ (none-both _ _ (none-both _ _ body).1).1).0
 
   unlooped : (s : ℕ) → 1 ≤ s → s ≤ length (parents_of raw) → is_looped (parents_of raw) s ≡ false
   unfolding tree_fault loop_at

@@ -108,21 +108,8 @@ body_fault names chart =
 
 -- the first fault of what a chart declares, its start, and each state in turn
 unfoldable pub parts_fault : Names → RawChart → Option Fault
-parts_fault names chart =
-    first_of
-    (frame_fault names chart
-    ∷ undeclared (state_number chart chart.init.bytes) (Key INIT ∷ [])
-    ∷ texts_fault names chart None [] INIT_DO chart.init_do
-    ∷ first_in (state_fault names chart) 1 chart.state
-    ∷ [])
+parts_fault names chart = first_of (frame_fault names chart ∷ body_fault names chart ∷ [])
 
--- the first fault of a chart: names that stand twice, what it declares, its start, and each state in turn
+-- the first fault of a chart: names that stand twice, and its parts
 unfoldable pub chart_fault : Names → RawChart → Option Fault
-chart_fault names chart =
-    first_of
-    (doubles_fault chart
-    ∷ frame_fault names chart
-    ∷ undeclared (state_number chart chart.init.bytes) (Key INIT ∷ [])
-    ∷ texts_fault names chart None [] INIT_DO chart.init_do
-    ∷ first_in (state_fault names chart) 1 chart.state
-    ∷ [])
+chart_fault names chart = first_of (doubles_fault chart ∷ parts_fault names chart ∷ [])

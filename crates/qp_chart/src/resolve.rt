@@ -1,4 +1,6 @@
 //! Actions with their names resolved.
+#![tactic(auto, unfolding(qp_names::specs::ActionFaults::order_known, qp_names::specs::ActionFaults::order_in_range, qp_names::specs::ActionFaults::order_fits, crate::specs::ActionOf::IsPlainOf))]
+
 ghost use Rattle.std.specs.Prelude.{◌≡◌, All, Some, None, map, true, IfOk, IfErr};
 ghost use Rattle.std.specs.Option.{is_some};
 ghost use Rattle.qp_names.specs.Pairs.{Corresponds};
@@ -125,7 +127,6 @@ fn event(
 }
 
 /// An assignment.
-#[tactic(auto, unfolding(qp_names::specs::ActionFaults::order_known, qp_names::specs::ActionFaults::order_in_range, qp_names::specs::ActionFaults::order_fits, crate::specs::ActionOf::IsPlainOf))]
 fn resolved_set(
     alloc: Global,
     scope: &Scope<'_>,
@@ -143,7 +144,6 @@ fn resolved_set(
 }
 
 /// A value that is said.
-#[tactic(auto, unfolding(qp_names::specs::ActionFaults::order_known, qp_names::specs::ActionFaults::order_in_range, qp_names::specs::ActionFaults::order_fits, crate::specs::ActionOf::IsPlainOf))]
 fn resolved_say(
     alloc: Global,
     scope: &Scope<'_>,
@@ -159,7 +159,6 @@ fn resolved_say(
 }
 
 /// An event that is posted.
-#[tactic(auto, unfolding(qp_names::specs::ActionFaults::order_known, qp_names::specs::ActionFaults::order_in_range, qp_names::specs::ActionFaults::order_fits, crate::specs::ActionOf::IsPlainOf))]
 fn resolved_post(
     alloc: Global,
     scope: &Scope<'_>,
@@ -188,7 +187,6 @@ fn resolved_post(
 }
 
 /// An event that is posted to the front.
-#[tactic(auto, unfolding(qp_names::specs::ActionFaults::order_known, qp_names::specs::ActionFaults::order_in_range, qp_names::specs::ActionFaults::order_fits, crate::specs::ActionOf::IsPlainOf))]
 fn resolved_lifo(
     alloc: Global,
     scope: &Scope<'_>,
@@ -206,7 +204,6 @@ fn resolved_lifo(
 }
 
 /// An event that is published.
-#[tactic(auto, unfolding(qp_names::specs::ActionFaults::order_known, qp_names::specs::ActionFaults::order_in_range, qp_names::specs::ActionFaults::order_fits, crate::specs::ActionOf::IsPlainOf))]
 fn resolved_publish(
     alloc: Global,
     scope: &Scope<'_>,
@@ -224,7 +221,6 @@ fn resolved_publish(
 }
 
 /// A time event that is armed.
-#[tactic(auto, unfolding(qp_names::specs::ActionFaults::order_known, qp_names::specs::ActionFaults::order_in_range, qp_names::specs::ActionFaults::order_fits, crate::specs::ActionOf::IsPlainOf))]
 fn resolved_arm(
     alloc: Global,
     scope: &Scope<'_>,
@@ -249,7 +245,6 @@ fn resolved_arm(
 }
 
 /// A time event that is armed again.
-#[tactic(auto, unfolding(qp_names::specs::ActionFaults::order_known, qp_names::specs::ActionFaults::order_in_range, qp_names::specs::ActionFaults::order_fits, crate::specs::ActionOf::IsPlainOf))]
 fn resolved_rearm(
     alloc: Global,
     scope: &Scope<'_>,

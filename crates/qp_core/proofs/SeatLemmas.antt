@@ -22,13 +22,13 @@ use Rattle.qp_words.specs.declared.View.{View}
 use Rattle.qp_table.specs.Whole.{Unused}
 use Rattle.qp_seats.specs.Keeps.{seen_view}
 use Rattle.qp_seats.specs.Blocks.{ended}
-use Rattle.qp_seats.specs.Looks.{looked}
+use Rattle.qp_seat_steps.specs.Looks.{looked}
 use Rattle.qp_core.specs.Standing.{AreViews, is_own}
 use Rattle.qp_core.specs.State.{stands_as, is_unused, may_pass, in_part, out_part}
-use Rattle.qp_seats.specs.Steps.{Steps_one}
+use Rattle.qp_seat_steps.specs.Steps.{Steps_one}
 use Rattle.qp_seats.specs.declared.seats.Seat.{Seat}
-use Rattle.qp_seats.specs.declared.ops.Op.{Op}
-use Rattle.qp_seats.specs.declared.ops.Op.TheVariants as op
+use Rattle.qp_seat_steps.specs.declared.ops.Op.{Op}
+use Rattle.qp_seat_steps.specs.declared.ops.Op.TheVariants as op
 use Rattle.qp_seats.proofs.ListLemmas.{none-many}
 
 module _ {A : Type 0} where

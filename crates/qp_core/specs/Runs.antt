@@ -14,7 +14,7 @@ use Rattle.qp_seats.specs.declared.seats.Seat.{Seat}
 use Rattle.qp_core.specs.declared.state.CoreState.{CoreState}
 use Rattle.qp_core.specs.declared.runs.CoreFault.{CoreFault}
 use Rattle.qp_core.specs.declared.runs.CoreFault.TheVariants as fault
-use Rattle.qp_seats.specs.declared.ops.Op.{Op}
+use Rattle.qp_seat_steps.specs.declared.ops.Op.{Op}
 
 -- the rule of the event table holds of the state
 abbrev pub HoldsOf : CoreState → Type 0

@@ -17,11 +17,11 @@ use Rattle.qp_base.specs.declared.faults.Memory.{Memory}
 use Rattle.qp_seats.specs.Words.{Steps}
 use Rattle.qp_seats.specs.Keeps.{HasOwn, StepKeeps}
 use Rattle.qp_core.specs.Standing.{has_number}
-use Rattle.qp_seats.specs.Steps.{may_step, Steps_one}
+use Rattle.qp_seat_steps.specs.Steps.{may_step, Steps_one}
 use Rattle.qp_seats.specs.declared.seats.Seat.{Seat}
 use Rattle.qp_core.specs.declared.state.CoreState.{CoreState}
-use Rattle.qp_seats.specs.declared.ops.Op.{Op}
-use Rattle.qp_seats.specs.declared.ops.Op.TheVariants as op
+use Rattle.qp_seat_steps.specs.declared.ops.Op.{Op}
+use Rattle.qp_seat_steps.specs.declared.ops.Op.TheVariants as op
 
 -- the seat with this number, where it stands
 abbrev pub stands_as : ℕ → Seat → Bool

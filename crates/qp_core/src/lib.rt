@@ -5,7 +5,8 @@ mod runs;
 mod splits;
 mod state;
 
+pub use qp_seat_steps::{Op, step};
 pub use qp_seats::words::{WORDS, Words};
-pub use qp_seats::{Items, Op, Seat, SeatGive, SeatLog, step};
+pub use qp_seats::{Items, Seat, SeatGive, SeatLog};
 pub use runs::{CoreFault, apply, run};
 pub use state::CoreState;

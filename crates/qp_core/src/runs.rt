@@ -11,7 +11,7 @@ use crate::splits::{join, split, step_at};
 use crate::state::{CoreState, seat_place};
 use qp_base::Memory;
 use qp_model::System;
-use qp_seats::Op;
+use qp_seat_steps::Op;
 use std::alloc::Global;
 
 /// Why a schedule wasn't run to its end.

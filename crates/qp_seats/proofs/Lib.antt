@@ -1,6 +1,3 @@
 pub mod ListLemmas
 pub mod Standing
 pub mod BlockLemmas
-pub mod QueueLemmas
-pub mod LookLemmas
-pub mod StepLemmas

@@ -3,6 +3,3 @@ pub mod Seats
 pub mod Words
 pub mod Keeps
 pub mod Blocks
-pub mod Queues
-pub mod Looks
-pub mod Steps

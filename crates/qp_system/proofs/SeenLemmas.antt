@@ -25,7 +25,7 @@ use Rattle.qp_names.specs.Numbering.{number_in}
 use Rattle.qp_names.specs.RawNumbers.{state_names, timer_names, variable_names, signal_names, object_names, state_number, signal_number, signal_named, object_named}
 use Rattle.qp_chart.specs.Parents.{parent_number, parents_of}
 use Rattle.qp_names.specs.ActionFaults.{is_static, params_of, order_known, order_in_range, order_fits, command_known, command_in_range, command_fits, action_fault, guard_fault, text_fault, text_at, texts_fault, when_fault}
-use Rattle.qp_chart.specs.ChartFaults.{timer_fault, parent_at, init_fault, is_astray, is_covered, row_fault, row_at, rows_fault, state_fault, frame_fault, chart_fault, state_place, row_place}
+use Rattle.qp_chart.specs.ChartFaults.{timer_fault, parent_at, init_fault, is_astray, is_covered, row_fault, row_at, rows_fault, state_fault, frame_fault, body_fault, parts_fault, chart_fault, state_place, row_place}
 use Rattle.qp_names.specs.NameFaults.{doubles_fault, undeclared_key}
 use Rattle.qp_model.specs.declared.systems.SignalDef.{SignalDef}
 use Rattle.qp_model.proofs.ListLemmas.{list_any-map}
@@ -274,7 +274,7 @@ module _ (n m : Names) (names : NamesAlike n m) (c d : RawChart) (alike : chart_
 
   -- the first faults of charts that look alike
   pub chart-fault : chart_fault n c ≡ chart_fault m d
-  unfolding chart_fault doubles_fault
+  unfolding chart_fault doubles_fault parts_fault body_fault
   chart-fault =
       let init = state-number c.init.bytes ∙ ap (λ q. state_number d q) (ap (λ v. v.init) alike) in
       let texts = texts-fault None [] INIT_DO c.init_do ∙ ap (texts_fault m d None [] INIT_DO) (ap (λ v. v.init_do) alike) in

@@ -15,7 +15,7 @@ use Rattle.qp_names.specs.Faults.{Fault, fault, fault_if, first_of, first_in}
 use Rattle.qp_language.specs.Terms.{Term, Command}
 use Rattle.qp_names.specs.ActionFaults.{action_fault, guard_fault, text_fault, text_at, texts_fault, when_fault}
 use Rattle.qp_chart.specs.Parents.{loop_at, depth_at, tree_fault}
-use Rattle.qp_chart.specs.ChartFaults.{timer_fault, parent_at, init_fault, row_fault, row_at, rows_fault, state_fault, frame_fault, chart_fault, state_place, row_place}
+use Rattle.qp_chart.specs.ChartFaults.{timer_fault, parent_at, init_fault, row_fault, row_at, rows_fault, state_fault, frame_fault, body_fault, parts_fault, chart_fault, state_place, row_place}
 use Rattle.qp_names.specs.NameFaults.{undeclared, undeclared_key, double_at, double_fault, doubles_fault}
 
 -- the path of the fault, if there is one, has at most six parts
@@ -130,14 +130,24 @@ short-doubles : (chart : RawChart) → Short (doubles_fault chart)
 unfolding doubles_fault
 short-doubles chart = short-head _ _ (short-double _ _) (short-head _ _ (short-double _ _) short-end)
 
+short-body : (names : Names) (chart : RawChart) → Short (body_fault names chart)
+unfolding body_fault
+short-body names chart =
+    short-head _ _ (short-undeclared _ _ (omega arith))
+    (short-head _ _ (short-texts names chart None [] _ chart.init_do (λ n. omega arith))
+    (short-head _ _ (short-in (state_fault names chart) 1 chart.state (short-state names chart)) short-end))
+
+short-parts : (names : Names) (chart : RawChart) → Short (parts_fault names chart)
+unfolding parts_fault
+short-parts names chart =
+    short-head _ _ (short-frame names chart)
+    (short-head _ _ (short-body names chart) short-end)
+
 pub short-chart : (names : Names) (chart : RawChart) → Short (chart_fault names chart)
 unfolding chart_fault
 short-chart names chart =
     short-head _ _ (short-doubles chart)
-    (short-head _ _ (short-frame names chart)
-    (short-head _ _ (short-undeclared _ _ (omega arith))
-    (short-head _ _ (short-texts names chart None [] _ chart.init_do (λ n. omega arith))
-    (short-head _ _ (short-in (state_fault names chart) 1 chart.state (short-state names chart)) short-end))))
+    (short-head _ _ (short-parts names chart) short-end)
 
 -- the path of a fault that was found
 pub short-found : (o : Option Fault) (code : ℕ) (path : List Part) → Short o → o ≡ fault code path → length path ≤ 6

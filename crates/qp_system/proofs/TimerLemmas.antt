@@ -14,7 +14,7 @@ use Rattle.qp_names.specs.declared.raw.SigName.{SigName}
 use Rattle.qp_chart.specs.declared.checked.Timer.{Timer}
 use Rattle.qp_chart.specs.declared.checked.Chart.{Chart}
 use Rattle.qp_names.specs.ActionFaults.{is_static}
-use Rattle.qp_chart.specs.ChartFaults.{chart_fault, frame_fault, timer_fault}
+use Rattle.qp_chart.specs.ChartFaults.{chart_fault, parts_fault, frame_fault, timer_fault}
 use Rattle.qp_chart.specs.ChartOf.{IsTimerOf, IsChartOf}
 use Rattle.qp_chart.proofs.ChartTree.{none-both}
 use Rattle.qp_names.specs.RawNumbers.{signal_named, signal_names}
@@ -80,9 +80,10 @@ module _ (signals : List SignalDef) (objects : List RawObject) where
 
   -- the time events of a chart without a fault
   pub timers-fit : (raw : RawChart) (chart : Chart) → IsChartOf names raw chart → (chart_fault names raw ≡ None) × All (λ t. TimerInRange (timer_view t)) raw.timer → AllByRecursion (Fits signals) chart.timer
-  unfolding chart_fault frame_fault
+  unfolding chart_fault parts_fault frame_fault
   timers-fit raw chart made h =
-      let frame = none-both _ _ (none-both _ _ h.0).1 in
+      let parts = (none-both _ _ (none-both _ _ h.0).1).0 in
+      let frame = none-both _ _ parts in
       let timers = none-both _ _ frame.0 in
       let static = each-in (timer_fault names) (λ t. is_static names t.signal.bytes ≡ true) static-timer 1 raw.timer timers.0 in
       let both = every-two (λ t. is_static names t.signal.bytes ≡ true) (λ t. TimerInRange (timer_view t)) (λ t. (is_static names t.signal.bytes ≡ true) × TimerInRange (timer_view t))

@@ -16,7 +16,7 @@ use Rattle.qp_words.specs.After.{reading}
 use Rattle.qp_queues.specs.Laws.{f_in, l_in, m_in}
 use Rattle.qp_seats.specs.Seats.{may_act, may_add, noting}
 use Rattle.qp_seats.specs.Blocks.{number_in, low_in, size_of, is_ref_to}
-use Rattle.qp_seats.specs.Queues.{serves_it}
+use Rattle.qp_seat_steps.specs.Queues.{serves_it}
 use Rattle.qp_seats.specs.declared.seats.Seat.{Seat}
 
 -- a word of the event table that the system has, and what it shows

@@ -3,14 +3,14 @@
 ghost use Rattle.std.specs.Prelude.{◌≡◌};
 ghost use Rattle.qp_seats.specs.Words.{Steps};
 ghost use Rattle.qp_seats.specs.Keeps.{HasOwn, StepKeeps};
-ghost use Rattle.qp_seats.specs.Steps.{may_step, Steps_one};
+ghost use Rattle.qp_seat_steps.specs.Steps.{may_step, Steps_one};
 
-use crate::blocks::{drop_reference, fill, give, make, put_back};
+use qp_seats::blocks::{drop_reference, fill, give, make, put_back};
 use crate::looks::{look, may_peek, may_read};
 use crate::ops::Op;
 use crate::queues::{claim, empty, free, lay, lifo};
-use crate::seats::Seat;
-use crate::words::Words;
+use qp_seats::seats::Seat;
+use qp_seats::words::Words;
 use qp_base::Memory;
 use qp_model::System;
 use std::alloc::Global;

@@ -1,7 +1,7 @@
 use Rattle.std.proofs.Common.{ne_eqb}
 use Rattle.qp_seats.proofs.ListLemmas.{without_position}
 use Rattle.qp_words.specs.Rule.{is_entry}
-use Rattle.qp_seats.proofs.queues.spend.Goals as goal
+use Rattle.qp_seat_steps.proofs.queues.spend.Goals as goal
 
 pub returns-then-e-ne0 : goal.returns-then-e-ne0
 returns-then-e-ne0 c =

@@ -2,7 +2,7 @@
 
 ghost use Rattle.std.specs.Prelude.{◌≡◌};
 ghost use Rattle.qp_queues.specs.Laws.{f_in, l_in, m_in};
-ghost use Rattle.qp_seats.specs.Queues.{entry_for, has_room, count_in, code_in, front_at, before_at, entry_in};
+ghost use Rattle.qp_seat_steps.specs.Queues.{entry_for, has_room, count_in, code_in, front_at, before_at, entry_in};
 
 use qp_model::{Entry, System};
 

@@ -27,7 +27,7 @@ use Rattle.qp_queues.proofs.Cells.{lays, empties}
 use Rattle.qp_queues.proofs.Steps.{claims, frees, lifos}
 use Rattle.qp_seats.specs.Seats.{may_act, may_add}
 use Rattle.qp_seats.specs.Blocks.{added}
-use Rattle.qp_seats.specs.Queues.{bumped, entry_for, in_hand, has_room as has_free, count_in, serves_it, may_claim, with_claim, Claims, older, oldest, code_in, is_claimed, may_lay, Lays, front_at, before_at, entry_in, may_empty, Empties, may_free, Frees, may_lifo, Lifos}
+use Rattle.qp_seat_steps.specs.Queues.{bumped, entry_for, in_hand, has_room as has_free, count_in, serves_it, may_claim, with_claim, Claims, older, oldest, code_in, is_claimed, may_lay, Lays, front_at, before_at, entry_in, may_empty, Empties, may_free, Frees, may_lifo, Lifos}
 use Rattle.qp_seats.specs.Keeps.{seen_view, StepKeeps}
 use Rattle.qp_seats.specs.declared.seats.Seat.{Seat}
 use Rattle.qp_seats.proofs.ListLemmas.{any-many, none-many}

@@ -5,13 +5,13 @@ use Rattle.qp_base.specs.declared.faults.Memory.{Memory}
 use Rattle.qp_model.specs.declared.systems.System.{System}
 use Rattle.qp_seats.specs.Words.{Steps}
 use Rattle.qp_seats.specs.Keeps.{HasOwn, StepKeeps}
-use Rattle.qp_seats.specs.Steps.{may_step, Steps_one}
+use Rattle.qp_seat_steps.specs.Steps.{may_step, Steps_one}
 use Rattle.qp_seats.specs.declared.seats.Seat.{Seat}
-use Rattle.qp_seats.specs.declared.ops.Op.{Op}
-use Rattle.qp_seats.specs.declared.ops.Op.TheVariants as op
+use Rattle.qp_seat_steps.specs.declared.ops.Op.{Op}
+use Rattle.qp_seat_steps.specs.declared.ops.Op.TheVariants as op
 use Rattle.qp_seats.proofs.BlockLemmas.{give-keeps, fill-keeps, make-keeps, drop-keeps, back-keeps}
-use Rattle.qp_seats.proofs.QueueLemmas.{claim-keeps, lay-keeps, empty-keeps, free-keeps, lifo-keeps}
-use Rattle.qp_seats.proofs.LookLemmas.{rest-keeps, look-keeps}
+use Rattle.qp_seat_steps.proofs.QueueLemmas.{claim-keeps, lay-keeps, empty-keeps, free-keeps, lifo-keeps}
+use Rattle.qp_seat_steps.proofs.LookLemmas.{rest-keeps, look-keeps}
 
 step-keeps : (sys : System) (lanes : ℕ) (words : List ℕ) (x : Seat) → (nat_lt x.number lanes ≡ true → 0 < length x.logs) → (words' : List ℕ) (x' : Seat) (step : Op) → may_step sys lanes words x step ≡ true → Steps_one sys words x step words' x' → StepKeeps sys words x words' x'
 step-keeps sys lanes words x own words' x' (op.Give p ev) may made = give-keeps sys lanes words x own words' x' p ev.sig ev.pars.items may made

@@ -1,4 +1,4 @@
-use Rattle.qp_seats.proofs.looks.+ones.Given as goal
+use Rattle.qp_seat_steps.proofs.looks.+ones.Given as goal
 
 abbrev pub decreases-ones : goal.decreases-ones
 decreases-ones l = l.left

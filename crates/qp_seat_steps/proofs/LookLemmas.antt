@@ -24,7 +24,7 @@ use Rattle.qp_queues.specs.Laws.{f_in, l_in, m_in}
 use Rattle.qp_table.proofs.Looks.{looks, looks_from, shows-short, shows-no_block, shows-seen, shows-nil, shows-full, shows-no_entry, shows-no_lifo}
 use Rattle.qp_seats.specs.Seats.{noting}
 use Rattle.qp_seats.specs.Blocks.{number_in, low_in}
-use Rattle.qp_seats.specs.Looks.{is_word, ones, counts_match, entries_in, states_pool, states_queue, states, may_state, may_look, looked}
+use Rattle.qp_seat_steps.specs.Looks.{is_word, ones, counts_match, entries_in, states_pool, states_queue, states, may_state, may_look, looked}
 use Rattle.qp_seats.specs.Keeps.{seen_view, StepKeeps}
 use Rattle.qp_seats.specs.declared.seats.Seat.{Seat}
 use Rattle.qp_seats.proofs.Standing.{has-room}

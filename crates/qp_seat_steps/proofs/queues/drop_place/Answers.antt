@@ -1,6 +1,6 @@
 use Rattle.qp_seats.proofs.ListLemmas.{without_position}
 use Rattle.qp_words.specs.Rule.{is_place}
-use Rattle.qp_seats.proofs.queues.drop_place.Goals as goal
+use Rattle.qp_seat_steps.proofs.queues.drop_place.Goals as goal
 
 pub returns : goal.returns
 returns c =

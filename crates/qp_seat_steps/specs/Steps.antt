@@ -2,11 +2,11 @@
 use Rattle.std.specs.Prelude.{◌≡◌, ℕ, Bool, false, List}
 use Rattle.qp_model.specs.declared.systems.System.{System}
 use Rattle.qp_seats.specs.Blocks.{may_give, Gives, may_fill, Fills, may_make, Makes, may_drop, Drops, may_back, Backs}
-use Rattle.qp_seats.specs.Queues.{may_claim, Claims, may_lay, Lays, may_empty, Empties, may_free, Frees, may_lifo, Lifos}
-use Rattle.qp_seats.specs.Looks.{may_look, looked, may_read, may_peek}
+use Rattle.qp_seat_steps.specs.Queues.{may_claim, Claims, may_lay, Lays, may_empty, Empties, may_free, Frees, may_lifo, Lifos}
+use Rattle.qp_seat_steps.specs.Looks.{may_look, looked, may_read, may_peek}
 use Rattle.qp_seats.specs.declared.seats.Seat.{Seat}
-use Rattle.qp_seats.specs.declared.ops.Op.{Op}
-use Rattle.qp_seats.specs.declared.ops.Op.TheVariants as op
+use Rattle.qp_seat_steps.specs.declared.ops.Op.{Op}
+use Rattle.qp_seat_steps.specs.declared.ops.Op.TheVariants as op
 
 -- the steps of one seat
 abbrev pub may_step : System → ℕ → List ℕ → Seat → Op → Bool
