@@ -8,16 +8,16 @@ ghost use Rattle.qp_queues.specs.Laws.{f_in, l_in, m_in};
 ghost use Rattle.qp_seats.specs.Seats.{may_add, noting};
 ghost use Rattle.qp_seat_steps.specs.Looks.{is_word, ones, counts_match, entries_in, states_pool, states_queue, states, may_look, looked, may_read, may_peek};
 
-use qp_seats::asked::{has_block, has_object, has_pool, size_of};
-use qp_seats::blocks::ONE;
 use crate::entries::{lifos_in, posts_in, takes_in};
-use qp_seats::items::{Items, no_items};
 use crate::queues::serves_it;
-use qp_seats::seats::{Seat, SeatGive, copy_of_give};
-use qp_seats::words::{Words, pool_at, queue_at};
 use arrayvec::ArrayVec;
 use qp_base::Memory;
 use qp_model::{Body, Rec, System, Word};
+use qp_seats::asked::{has_block, has_object, has_pool, size_of};
+use qp_seats::blocks::ONE;
+use qp_seats::items::{Items, no_items};
+use qp_seats::seats::{Seat, SeatGive, copy_of_give};
+use qp_seats::words::{Words, pool_at, queue_at};
 use std::alloc::Global;
 
 /// Whether it is a word of the event table that the system has.

@@ -9,16 +9,16 @@ ghost use Rattle.qp_words.specs.After.{spent};
 ghost use Rattle.qp_seats.specs.Words.{Steps};
 ghost use Rattle.qp_seat_steps.specs.Queues.{counted, bumped, in_hand, serves_it, may_claim, with_claim, Claims, oldest, may_lay, Lays, may_empty, Empties, may_free, without_take, Frees, may_lifo, Lifos};
 
-use qp_seats::asked::{has_block, has_object};
 use crate::entries::{
     LIFO, TAKE, before_at, code_in, count_in, entry_for, entry_in, front_at, has_room, lifos_in,
     posts_in, takes_in,
 };
+use qp_base::Memory;
+use qp_model::{Entry, Rec, System};
+use qp_seats::asked::{has_block, has_object};
 use qp_seats::items::{Items, grown, take_out};
 use qp_seats::seats::Seat;
 use qp_seats::words::{Words, cell_at, queue_at};
-use qp_base::Memory;
-use qp_model::{Entry, Rec, System};
 use qp_words::{CellPlace, Serve};
 use std::alloc::Global;
 

@@ -5,14 +5,14 @@ ghost use Rattle.qp_seats.specs.Words.{Steps};
 ghost use Rattle.qp_seats.specs.Keeps.{HasOwn, StepKeeps};
 ghost use Rattle.qp_seat_steps.specs.Steps.{may_step, Steps_one};
 
-use qp_seats::blocks::{drop_reference, fill, give, make, put_back};
 use crate::looks::{look, may_peek, may_read};
 use crate::ops::Op;
 use crate::queues::{claim, empty, free, lay, lifo};
-use qp_seats::seats::Seat;
-use qp_seats::words::Words;
 use qp_base::Memory;
 use qp_model::System;
+use qp_seats::blocks::{drop_reference, fill, give, make, put_back};
+use qp_seats::seats::Seat;
+use qp_seats::words::Words;
 use std::alloc::Global;
 
 /// The step by its kind.
