@@ -21,7 +21,7 @@ pub use deferral::{defer, flush, recall};
 pub use deferred::Deferred;
 pub use did::Did;
 pub use ops::Ops;
-pub use posts::{end_step, forward, lifo_new, post_new, post_static};
+pub use posts::{end_step, forward, lifo_new, post, post_new, post_static};
 pub use publication::{Begun, Publication};
 pub use publishing::{publish, publish_begin, publish_end, publish_post};
 pub use ticks::tick_rate;

@@ -1,6 +1,6 @@
 //! Posts of one event, and the end of a step.
 
-ghost use Rattle.std.specs.Prelude.{◌≡◌, IsTrue, IsFalse, IfOk, IfErr, Some, None, []};
+ghost use Rattle.std.specs.Prelude.{◌≡◌, IsTrue, IsFalse, IfOk, IfErr, Some, None, [], true};
 ghost use Rattle.qp_model.specs.Calls as call;
 ghost use Rattle.qp_model.specs.Parts.{is_static};
 ghost use Rattle.qp_model.specs.Sound.{IsSound};
@@ -57,6 +57,30 @@ pub fn post_static<O: Ops, L: Ledger>(
 {
     ops.room()?;
     Ok(post_entry(ops, to, Entry::Static(sig), margin, steps))
+}
+
+/// Posts a new event: as `post_static` where its signal is static, and else as `post_new`.
+pub fn post<O: Ops, L: Ledger>(
+    ops: &mut O,
+    sys: &System,
+    to: u8,
+    ev: &Ev,
+    margin: Option<u8>,
+    reserve: Option<u8>,
+    steps: &mut Steps<L>,
+) -> Result<Did, RoomFault>
+    requires of { (O.lane ops.old).sys ≡ sys.now }
+    requires sound { IsSound sys.now }
+    requires object { IsTrue (is_object sys.now to) }
+    requires event { IsEvent sys.now (event_of ev.now) }
+    requires reserve { is_static sys.now ev.now.sig ≡ true → reserve ≡ None }
+    ensures { DoesCall None (call.Post to ev.now.sig ev.now.pars.items margin reserve)
+        (O.lane ops.old) (O.lane ops.new) result }
+{
+    if sys.is_static(u64::from(ev.sig)) {
+        return post_static(ops, to, ev.sig, margin, steps);
+    }
+    post_new(ops, sys, to, ev, margin, reserve, steps)
 }
 
 /// Posts the event of an entry once more, with a reference of its own.

@@ -9,12 +9,12 @@ ghost use Rattle.qp_dispatch.specs.Lasts.{entry_in, names_at};
 ghost use Rattle.qp_dispatch.specs.SoundFor.{MayAct};
 
 use crate::lasting::Lasting;
-use crate::posting::{post, subscribe, unsubscribe};
+use crate::subscribing::{subscribe, unsubscribe};
 use crate::timing::{arm, disarm, rearm};
 use crate::values::{bits, event, receiver, surroundings, timer};
 use crate::work::Work;
 use qp_base::Steps;
-use qp_calls::{Did, Ops, RoomFault, defer, flush, forward, lifo_new, recall};
+use qp_calls::{Did, Ops, RoomFault, defer, flush, forward, lifo_new, post, recall};
 use qp_chart::Plain;
 use qp_model::System;
 use std::sync::ledger::Ledger;

@@ -25,86 +25,14 @@ use Rattle.qp_model.specs.WordLaw.{words_hold}
 use Rattle.qp_model.proofs.WordTestLemmas.{words-from}
 use Rattle.qp_rows.specs.Systems.{go_once, levels, object}
 use Rattle.qp_rows.specs.Journals.{cooperative, cooperative_lanes}
-
-low_body_1 : List Piece
-low_body_1 = Tell (plain (item.Run 1 1)) ∷ Tell (plain (item.Post 4 1 0 0 (entry 0 6 0))) ∷ Point ∷ Tell (raised 3 0) ∷ Tell (plain (item.Post 3 1 0 0 (entry 0 6 0))) ∷ Point ∷ Tell (plain (item.Post 4 2 0 0 (entry 0 6 0))) ∷ Point ∷ Tell (plain (item.Say 1)) ∷ Point ∷ Tell (plain (item.Unlock 0)) ∷ Point ∷ Tell (plain (item.Say 2)) ∷ Point ∷ Tell (plain item.Done) ∷ []
-
-low_step_1 : List Piece
-unfolding low_body_1
-low_step_1 = Tell (taken 1 0 1 (entry 0 4 0) (record { sig = 4; pars = [] })) ∷ (low_body_1 ++ tell ([]))
-
-low_start : List Piece
-low_start = Tell (plain item.Begin) ∷ Tell (plain (item.Enter 1)) ∷ Tell (plain item.Done) ∷ []
-
-low_pieces : List Piece
-unfolding low_start low_step_1
-low_pieces = low_start ++ (low_step_1 ++ [])
-
-low_follows : FollowsThrough (levels 1) (object 1 1 1 1) low_pieces
-unfolding FollowsThrough low_pieces low_start low_step_1 low_body_1
-low_follows = (entry 0 4 0 ∷ [], _, (low_start, low_step_1 ++ [], _, refl, (Tell (plain item.Begin) ∷ Tell (plain (item.Enter 1)) ∷ Tell (plain item.Done) ∷ [], _, (_, refl, (_, refl, (_, refl, (refl, refl)))), refl, refl), (low_step_1, [], _, refl, (1, 0, 1, record { sig = 4; pars = [] }, low_body_1 ++ tell ([]), refl, (low_body_1, [], _, (_, refl, (Granted, plain (item.Post 4 1 0 0 (entry 0 6 0)) ∷ [], [], (inr ([], entry 0 6 0, (refl, refl), (1, 0, 0, refl, refl))), refl, (_, refl, (0, (_, refl, (Granted, plain (item.Post 3 1 0 0 (entry 0 6 0)) ∷ [], [], (inr ([], entry 0 6 0, (refl, refl), (1, 0, 0, refl, refl))), refl, (_, refl, (Granted, plain (item.Post 4 2 0 0 (entry 0 6 0)) ∷ [], [], (inr ([], entry 0 6 0, (refl, refl), (2, 0, 0, refl, refl))), refl, (_, refl, (_, refl, (_, refl, (_, refl, (_, refl, (_, refl, (refl, refl))))))))))))))), refl, refl, refl)), (refl, refl))))
-
-low_shape : HasShape (levels 1) 1 false Whole (plain item.Begin ∷ plain (item.Enter 1) ∷ plain item.Done ∷ taken 1 0 1 (entry 0 4 0) (record { sig = 4; pars = [] }) ∷ plain (item.Run 1 1) ∷ plain (item.Post 4 1 0 0 (entry 0 6 0)) ∷ raised 3 0 ∷ plain (item.Post 3 1 0 0 (entry 0 6 0)) ∷ plain (item.Post 4 2 0 0 (entry 0 6 0)) ∷ plain (item.Say 1) ∷ plain (item.Unlock 0) ∷ plain (item.Say 2) ∷ plain item.Done ∷ [])
-unfolding CutGroups StepGroup BrokenStep Groups Actions FitsAny Fits asserts_last
-low_shape = record { groups = inr (plain item.Begin ∷ plain (item.Enter 1) ∷ plain item.Done ∷ [], taken 1 0 1 (entry 0 4 0) (record { sig = 4; pars = [] }) ∷ plain (item.Run 1 1) ∷ plain (item.Post 4 1 0 0 (entry 0 6 0)) ∷ raised 3 0 ∷ plain (item.Post 3 1 0 0 (entry 0 6 0)) ∷ plain (item.Post 4 2 0 0 (entry 0 6 0)) ∷ plain (item.Say 1) ∷ plain (item.Unlock 0) ∷ plain (item.Say 2) ∷ plain item.Done ∷ [], [], (plain (item.Enter 1) ∷ [], ((plain (item.Enter 1) ∷ []) ∷ [], (IsMove (item.Enter 1) refl refl, tt), refl), refl), ((taken 1 0 1 (entry 0 4 0) (record { sig = 4; pars = [] }) ∷ plain (item.Run 1 1) ∷ plain (item.Post 4 1 0 0 (entry 0 6 0)) ∷ raised 3 0 ∷ plain (item.Post 3 1 0 0 (entry 0 6 0)) ∷ plain (item.Post 4 2 0 0 (entry 0 6 0)) ∷ plain (item.Say 1) ∷ plain (item.Unlock 0) ∷ plain (item.Say 2) ∷ plain item.Done ∷ []) ∷ [], (Dispatches (entry 0 4 0, taken 1 0 1 (entry 0 4 0) (record { sig = 4; pars = [] }) ∷ plain (item.Run 1 1) ∷ [], plain (item.Post 4 1 0 0 (entry 0 6 0)) ∷ raised 3 0 ∷ plain (item.Post 3 1 0 0 (entry 0 6 0)) ∷ plain (item.Post 4 2 0 0 (entry 0 6 0)) ∷ plain (item.Say 1) ∷ plain (item.Unlock 0) ∷ plain (item.Say 2) ∷ [], [], (1, 0, 1, OfEvent (record { sig = 4; pars = [] }), item.Run 1 1, refl, refl), ((plain (item.Post 4 1 0 0 (entry 0 6 0)) ∷ []) ∷ (raised 3 0 ∷ plain (item.Post 3 1 0 0 (entry 0 6 0)) ∷ plain (item.Post 4 2 0 0 (entry 0 6 0)) ∷ plain (item.Say 1) ∷ plain (item.Unlock 0) ∷ []) ∷ (plain (item.Say 2) ∷ []) ∷ [], (IsAct (MakesCall (call.Post 4 6 [] None None) Granted (inr ([], entry 0 6 0, (refl, refl), (1, 0, 0, refl, refl))) refl), (IsLocked 0 3 (plain (item.Post 3 1 0 0 (entry 0 6 0)) ∷ plain (item.Post 4 2 0 0 (entry 0 6 0)) ∷ plain (item.Say 1) ∷ []) ((plain (item.Post 3 1 0 0 (entry 0 6 0)) ∷ []) ∷ (plain (item.Post 4 2 0 0 (entry 0 6 0)) ∷ []) ∷ (plain (item.Say 1) ∷ []) ∷ [], (MakesCall (call.Post 3 6 [] None None) Granted (inr ([], entry 0 6 0, (refl, refl), (1, 0, 0, refl, refl))) refl, (MakesCall (call.Post 4 6 [] None None) Granted (inr ([], entry 0 6 0, (refl, refl), (2, 0, 0, refl, refl))) refl, (SaysValue 1 refl, tt))), refl) refl, (IsAct (SaysValue 2 refl), tt))), refl), refl, refl), tt), refl), Ends refl, refl); last = refl }
-
-middle_body_1 : List Piece
-middle_body_1 = Tell (plain item.Unhandled) ∷ Tell (plain item.Done) ∷ []
-
-middle_step_1 : List Piece
-unfolding middle_body_1
-middle_step_1 = Tell (taken 1 0 1 (entry 0 6 0) (record { sig = 6; pars = [] })) ∷ (middle_body_1 ++ tell ([]))
-
-middle_start : List Piece
-middle_start = Tell (plain item.Begin) ∷ Tell (plain (item.Enter 1)) ∷ Tell (plain item.Done) ∷ []
-
-middle_pieces : List Piece
-unfolding middle_start middle_step_1
-middle_pieces = middle_start ++ (middle_step_1 ++ [])
-
-middle_follows : FollowsThrough (levels 1) (object 2 3 3 1) middle_pieces
-unfolding FollowsThrough middle_pieces middle_start middle_step_1 middle_body_1
-middle_follows = (entry 0 6 0 ∷ [], _, (middle_start, middle_step_1 ++ [], _, refl, (Tell (plain item.Begin) ∷ Tell (plain (item.Enter 1)) ∷ Tell (plain item.Done) ∷ [], _, (_, refl, (_, refl, (_, refl, (refl, refl)))), refl, refl), (middle_step_1, [], _, refl, (1, 0, 1, record { sig = 6; pars = [] }, middle_body_1 ++ tell ([]), refl, (middle_body_1, [], _, (_, refl, (_, refl, (refl, refl))), refl, refl, refl)), (refl, refl))))
-
-middle_shape : HasShape (levels 1) 3 false Whole (plain item.Begin ∷ plain (item.Enter 1) ∷ plain item.Done ∷ taken 1 0 1 (entry 0 6 0) (record { sig = 6; pars = [] }) ∷ plain item.Unhandled ∷ plain item.Done ∷ [])
-unfolding CutGroups StepGroup BrokenStep Groups Actions FitsAny Fits asserts_last
-middle_shape = record { groups = inr (plain item.Begin ∷ plain (item.Enter 1) ∷ plain item.Done ∷ [], taken 1 0 1 (entry 0 6 0) (record { sig = 6; pars = [] }) ∷ plain item.Unhandled ∷ plain item.Done ∷ [], [], (plain (item.Enter 1) ∷ [], ((plain (item.Enter 1) ∷ []) ∷ [], (IsMove (item.Enter 1) refl refl, tt), refl), refl), ((taken 1 0 1 (entry 0 6 0) (record { sig = 6; pars = [] }) ∷ plain item.Unhandled ∷ plain item.Done ∷ []) ∷ [], (Dispatches (entry 0 6 0, taken 1 0 1 (entry 0 6 0) (record { sig = 6; pars = [] }) ∷ plain item.Unhandled ∷ [], [], [], (1, 0, 1, OfEvent (record { sig = 6; pars = [] }), item.Unhandled, refl, refl), ([], tt, refl), refl, refl), tt), refl), Ends refl, refl); last = refl }
-
-high_body_1 : List Piece
-high_body_1 = Tell (plain item.Unhandled) ∷ Tell (plain item.Done) ∷ []
-
-high_step_1 : List Piece
-unfolding high_body_1
-high_step_1 = Tell (taken 2 0 1 (entry 0 6 0) (record { sig = 6; pars = [] })) ∷ (high_body_1 ++ tell ([]))
-
-high_body_2 : List Piece
-high_body_2 = Tell (plain item.Unhandled) ∷ Tell (plain item.Done) ∷ []
-
-high_step_2 : List Piece
-unfolding high_body_2
-high_step_2 = Tell (taken 2 0 2 (entry 0 6 0) (record { sig = 6; pars = [] })) ∷ (high_body_2 ++ tell ([]))
-
-high_start : List Piece
-high_start = Tell (plain item.Begin) ∷ Tell (plain (item.Enter 1)) ∷ Tell (plain item.Done) ∷ []
-
-high_pieces : List Piece
-unfolding high_start high_step_1 high_step_2
-high_pieces = high_start ++ (high_step_1 ++ (high_step_2 ++ []))
-
-high_follows : FollowsThrough (levels 1) (object 3 4 4 1) high_pieces
-unfolding FollowsThrough high_pieces high_start high_step_1 high_step_2 high_body_1 high_body_2
-high_follows = (entry 0 6 0 ∷ entry 0 6 0 ∷ [], _, (high_start, high_step_1 ++ (high_step_2 ++ []), _, refl, (Tell (plain item.Begin) ∷ Tell (plain (item.Enter 1)) ∷ Tell (plain item.Done) ∷ [], _, (_, refl, (_, refl, (_, refl, (refl, refl)))), refl, refl), (high_step_1, high_step_2 ++ [], _, refl, (2, 0, 1, record { sig = 6; pars = [] }, high_body_1 ++ tell ([]), refl, (high_body_1, [], _, (_, refl, (_, refl, (refl, refl))), refl, refl, refl)), (high_step_2, [], _, refl, (2, 0, 2, record { sig = 6; pars = [] }, high_body_2 ++ tell ([]), refl, (high_body_2, [], _, (_, refl, (_, refl, (refl, refl))), refl, refl, refl)), (refl, refl)))))
-
-high_shape : HasShape (levels 1) 4 false Whole (plain item.Begin ∷ plain (item.Enter 1) ∷ plain item.Done ∷ taken 2 0 1 (entry 0 6 0) (record { sig = 6; pars = [] }) ∷ plain item.Unhandled ∷ plain item.Done ∷ taken 2 0 2 (entry 0 6 0) (record { sig = 6; pars = [] }) ∷ plain item.Unhandled ∷ plain item.Done ∷ [])
-unfolding CutGroups StepGroup BrokenStep Groups Actions FitsAny Fits asserts_last
-high_shape = record { groups = inr (plain item.Begin ∷ plain (item.Enter 1) ∷ plain item.Done ∷ [], taken 2 0 1 (entry 0 6 0) (record { sig = 6; pars = [] }) ∷ plain item.Unhandled ∷ plain item.Done ∷ taken 2 0 2 (entry 0 6 0) (record { sig = 6; pars = [] }) ∷ plain item.Unhandled ∷ plain item.Done ∷ [], [], (plain (item.Enter 1) ∷ [], ((plain (item.Enter 1) ∷ []) ∷ [], (IsMove (item.Enter 1) refl refl, tt), refl), refl), ((taken 2 0 1 (entry 0 6 0) (record { sig = 6; pars = [] }) ∷ plain item.Unhandled ∷ plain item.Done ∷ []) ∷ (taken 2 0 2 (entry 0 6 0) (record { sig = 6; pars = [] }) ∷ plain item.Unhandled ∷ plain item.Done ∷ []) ∷ [], (Dispatches (entry 0 6 0, taken 2 0 1 (entry 0 6 0) (record { sig = 6; pars = [] }) ∷ plain item.Unhandled ∷ [], [], [], (2, 0, 1, OfEvent (record { sig = 6; pars = [] }), item.Unhandled, refl, refl), ([], tt, refl), refl, refl), (Dispatches (entry 0 6 0, taken 2 0 2 (entry 0 6 0) (record { sig = 6; pars = [] }) ∷ plain item.Unhandled ∷ [], [], [], (2, 0, 2, OfEvent (record { sig = 6; pars = [] }), item.Unhandled, refl, refl), ([], tt, refl), refl, refl), tt)), refl), Ends refl, refl); last = refl }
+use Rattle.qp_rows.proofs.LevelsObjects.{low_body_1, low_step_1, low_start, low_pieces, low_follows, low_shape, middle_body_1, middle_step_1, middle_start, middle_pieces, middle_follows, middle_shape, high_body_1, high_step_1, high_body_2, high_step_2, high_start, high_pieces, high_follows, high_shape}
 
 pub lawful : Lawful (levels 1) go_once cooperative
 unfolding words_hold CourseHolds SourceLanes SpillsStand OrderHolds EndHolds deferral_holds lane_read setting_of lane_pieces none_twice stims_placed looks_right order in_order last_is_free ends_last spents_hold spills_state has_room took_count lines_empty blocks_rest is_home_lane low_pieces low_start low_step_1 low_body_1 middle_pieces middle_start middle_step_1 middle_body_1 high_pieces high_start high_step_1 high_step_2 high_body_1 high_body_2 home_records own_items spills_cut
 lawful = record {
   words = words-from (levels 1) cooperative_lanes refl;
-  objects = (record { shapes = record { shape = low_shape; home = refl }; deferral = refl; course = (low_pieces, refl, low_follows) }, (record { shapes = record { shape = middle_shape; home = refl }; deferral = refl; course = (middle_pieces, refl, middle_follows) }, (record { shapes = record { shape = high_shape; home = refl }; deferral = refl; course = (high_pieces, refl, high_follows) }, tt)));
-  kernel = record { lane = refl; points = (low_follows, (middle_follows, (high_follows, tt))) };
+  objects = (record { shapes = record { shape = low_shape 1 0; home = refl }; deferral = refl; course = (low_pieces 0, refl, low_follows 1 0) }, (record { shapes = record { shape = middle_shape 1; home = refl }; deferral = refl; course = (middle_pieces, refl, middle_follows 1) }, (record { shapes = record { shape = high_shape 1 2; home = refl }; deferral = refl; course = (high_pieces 2, refl, high_follows 1 2) }, tt)));
+  kernel = record { lane = refl; points = (low_follows 1 0, (middle_follows 1, (high_follows 1 2, tt))) };
   sources = record {
     lanes = (record { alone = refl; spills = refl; tries = refl; stimuli = (AllDone, inr (inr (1, plain (item.Post 1 1 0 0 (entry 0 4 0)) ∷ [], [], refl, refl, (Granted, (inr ([], entry 0 4 0, (refl, refl), (1, 0, 0, refl, refl))), refl), (refl, refl))), refl) }, tt);
     empty = refl;

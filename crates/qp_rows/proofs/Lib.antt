@@ -4,6 +4,7 @@ mod DoneAfterAssertion
 mod WrongFloor
 mod Restless
 mod OtherThreshold
+mod LampObject
 mod Switched
 mod SwitchedToRest
 mod SwitchedInThreads
@@ -15,6 +16,7 @@ mod PassedOutwards
 mod HandledFirst
 mod RefusedPost
 mod Ticked
+mod LevelsObjects
 mod Preempted
 mod HeldByThreshold
 mod Cooperative
@@ -23,5 +25,6 @@ mod OutOfBudget
 mod Deferred
 mod RecalledInVain
 mod InFront
+mod FloodedObjects
 mod Overfull
 mod SwitchedSummary

@@ -25,47 +25,7 @@ use Rattle.qp_model.specs.WordLaw.{words_hold}
 use Rattle.qp_model.proofs.WordTestLemmas.{words-from}
 use Rattle.qp_rows.specs.Systems.{flooded, go_once, object}
 use Rattle.qp_rows.specs.Journals.{overfull, overfull_lanes}
-
-low_body_1 : List Piece
-low_body_1 = Tell (plain (item.Run 1 1)) ∷ Tell (plain (item.Post 4 1 0 0 (entry 0 6 0))) ∷ Point ∷ Tell (raised 3 0) ∷ Tell (plain (item.Post 3 1 0 0 (entry 0 6 0))) ∷ Point ∷ Tell (plain (item.Post 4 2 0 1 (entry 0 6 0))) ∷ Point ∷ Tell (plain (item.Say 1)) ∷ Point ∷ Tell (plain (item.Unlock 0)) ∷ Point ∷ Tell (plain (item.Say 2)) ∷ Point ∷ Tell (plain item.Done) ∷ []
-
-low_step_1 : List Piece
-unfolding low_body_1
-low_step_1 = Tell (taken 1 0 1 (entry 0 4 0) (record { sig = 4; pars = [] })) ∷ (low_body_1 ++ tell ([]))
-
-low_start : List Piece
-low_start = Tell (plain item.Begin) ∷ Tell (plain (item.Enter 1)) ∷ Tell (plain item.Done) ∷ []
-
-low_pieces : List Piece
-unfolding low_start low_step_1
-low_pieces = low_start ++ (low_step_1 ++ [])
-
-low_follows : Follows flooded (object 1 1 1 1) low_pieces
-unfolding Follows low_pieces low_start low_step_1 low_body_1
-low_follows = (entry 0 4 0 ∷ [], _, (low_start, low_step_1 ++ [], _, refl, (Tell (plain item.Begin) ∷ Tell (plain (item.Enter 1)) ∷ Tell (plain item.Done) ∷ [], _, (_, refl, (_, refl, (_, refl, (refl, refl)))), refl, refl), (low_step_1, [], _, refl, (1, 0, 1, record { sig = 4; pars = [] }, low_body_1 ++ tell ([]), refl, (low_body_1, [], _, (_, refl, (Granted, plain (item.Post 4 1 0 0 (entry 0 6 0)) ∷ [], [], (inr ([], entry 0 6 0, (refl, refl), (1, 0, 0, refl, refl))), refl, (_, refl, (0, (_, refl, (Granted, plain (item.Post 3 1 0 0 (entry 0 6 0)) ∷ [], [], (inr ([], entry 0 6 0, (refl, refl), (1, 0, 0, refl, refl))), refl, (_, refl, (Granted, plain (item.Post 4 2 0 1 (entry 0 6 0)) ∷ [], [], (inr ([], entry 0 6 0, (refl, refl), (2, 0, 1, refl, refl))), refl, (_, refl, (_, refl, (_, refl, (_, refl, (_, refl, (_, refl, (refl, refl))))))))))))))), refl, refl, refl)), (refl, refl))))
-
-low_front : List Piece
-unfolding low_start
-low_front = low_start ++ ((Tell (taken 1 0 1 (entry 0 4 0) (record { sig = 4; pars = [] })) ∷ Tell (plain (item.Run 1 1)) ∷ Tell (plain (item.Post 4 1 0 0 (entry 0 6 0))) ∷ Point ∷ []))
-
-low_shape : HasShape flooded 1 false Stopped (plain item.Begin ∷ plain (item.Enter 1) ∷ plain item.Done ∷ taken 1 0 1 (entry 0 4 0) (record { sig = 4; pars = [] }) ∷ plain (item.Run 1 1) ∷ plain (item.Post 4 1 0 0 (entry 0 6 0)) ∷ [])
-unfolding CutGroups StepGroup BrokenStep Groups Actions FitsAny Fits asserts_last
-low_shape = record { groups = inr (inr (plain item.Begin ∷ plain (item.Enter 1) ∷ plain item.Done ∷ [], [], taken 1 0 1 (entry 0 4 0) (record { sig = 4; pars = [] }) ∷ plain (item.Run 1 1) ∷ plain (item.Post 4 1 0 0 (entry 0 6 0)) ∷ [], (plain (item.Enter 1) ∷ [], ((plain (item.Enter 1) ∷ []) ∷ [], (IsMove (item.Enter 1) refl refl, tt), refl), refl), ([], tt, refl), BreaksStep refl (entry 0 4 0, taken 1 0 1 (entry 0 4 0) (record { sig = 4; pars = [] }) ∷ plain (item.Run 1 1) ∷ [], plain (item.Post 4 1 0 0 (entry 0 6 0)) ∷ [], (1, 0, 1, OfEvent (record { sig = 4; pars = [] }), item.Run 1 1, refl, refl), Plainly (plain (item.Post 4 1 0 0 (entry 0 6 0)) ∷ []) ([]) ((plain (item.Post 4 1 0 0 (entry 0 6 0)) ∷ []) ∷ [], (IsAct (MakesCall (call.Post 4 6 [] None None) Granted (inr ([], entry 0 6 0, (refl, refl), (1, 0, 0, refl, refl))) refl), tt), refl) (Stops refl refl) refl, refl), refl)); last = refl }
-
-middle_start : List Piece
-middle_start = Tell (plain item.Begin) ∷ Tell (plain (item.Enter 1)) ∷ Tell (plain item.Done) ∷ []
-
-middle_pieces : List Piece
-unfolding middle_start
-middle_pieces = middle_start ++ ([])
-
-middle_follows : Follows flooded (object 2 3 3 1) middle_pieces
-unfolding Follows middle_pieces middle_start
-middle_follows = ([], _, (middle_start, [], _, refl, (Tell (plain item.Begin) ∷ Tell (plain (item.Enter 1)) ∷ Tell (plain item.Done) ∷ [], _, (_, refl, (_, refl, (_, refl, (refl, refl)))), refl, refl), (refl, refl)))
-
-middle_shape : HasShape flooded 3 false Stopped (plain item.Begin ∷ plain (item.Enter 1) ∷ plain item.Done ∷ [])
-unfolding CutGroups StepGroup BrokenStep Groups Actions FitsAny Fits asserts_last
-middle_shape = record { groups = inr (inr (plain item.Begin ∷ plain (item.Enter 1) ∷ plain item.Done ∷ [], [], [], (plain (item.Enter 1) ∷ [], ((plain (item.Enter 1) ∷ []) ∷ [], (IsMove (item.Enter 1) refl refl, tt), refl), refl), ([], tt, refl), Ends refl, refl)); last = refl }
+use Rattle.qp_rows.proofs.FloodedObjects.{low_body_1, low_step_1, low_start, low_pieces, low_follows, low_front, low_shape, middle_start, middle_pieces, middle_follows, middle_shape}
 
 high_body_1 : List Piece
 high_body_1 = Tell (plain (item.Run 1 1)) ∷ Tell (plain (item.Post 4 2 0 1 (entry 0 6 0))) ∷ Point ∷ Tell (plain (item.Post 4 3 0 1 (entry 0 6 0))) ∷ Point ∷ Tell (plain (item.NoEntry 4 3 0 1)) ∷ []

@@ -24,28 +24,7 @@ use Rattle.qp_model.specs.WordLaw.{words_hold}
 use Rattle.qp_model.proofs.WordTestLemmas.{words-from}
 use Rattle.qp_rows.specs.Systems.{go_once, lamp, object}
 use Rattle.qp_rows.specs.Journals.{switched_to_rest, switched_to_rest_lanes}
-
-lamp_1_body_1 : List Piece
-lamp_1_body_1 = Tell (plain (item.Run 1 1)) ∷ Tell (plain (item.Exit 1)) ∷ Tell (plain (item.Enter 2)) ∷ Tell (plain item.Done) ∷ []
-
-lamp_1_step_1 : List Piece
-unfolding lamp_1_body_1
-lamp_1_step_1 = Tell (taken 1 0 1 (entry 0 4 0) (record { sig = 4; pars = [] })) ∷ (lamp_1_body_1 ++ tell ([]))
-
-lamp_1_start : List Piece
-lamp_1_start = Tell (plain item.Begin) ∷ Tell (plain (item.Enter 1)) ∷ Tell (plain item.Done) ∷ []
-
-lamp_1_pieces : List Piece
-unfolding lamp_1_start lamp_1_step_1
-lamp_1_pieces = lamp_1_start ++ (lamp_1_step_1 ++ [])
-
-lamp_1_follows : FollowsThrough lamp (object 1 1 1 1) lamp_1_pieces
-unfolding FollowsThrough lamp_1_pieces lamp_1_start lamp_1_step_1 lamp_1_body_1
-lamp_1_follows = (entry 0 4 0 ∷ [], _, (lamp_1_start, lamp_1_step_1 ++ [], _, refl, (Tell (plain item.Begin) ∷ Tell (plain (item.Enter 1)) ∷ Tell (plain item.Done) ∷ [], _, (_, refl, (_, refl, (_, refl, (refl, refl)))), refl, refl), (lamp_1_step_1, [], _, refl, (1, 0, 1, record { sig = 4; pars = [] }, lamp_1_body_1 ++ tell ([]), refl, (lamp_1_body_1, [], _, (_, refl, (_, refl, (_, refl, (_, refl, (refl, refl))))), refl, refl, refl)), (refl, refl))))
-
-lamp_1_shape : HasShape lamp 1 false Whole (plain item.Begin ∷ plain (item.Enter 1) ∷ plain item.Done ∷ taken 1 0 1 (entry 0 4 0) (record { sig = 4; pars = [] }) ∷ plain (item.Run 1 1) ∷ plain (item.Exit 1) ∷ plain (item.Enter 2) ∷ plain item.Done ∷ [])
-unfolding CutGroups StepGroup BrokenStep Groups Actions FitsAny Fits asserts_last
-lamp_1_shape = record { groups = inr (plain item.Begin ∷ plain (item.Enter 1) ∷ plain item.Done ∷ [], taken 1 0 1 (entry 0 4 0) (record { sig = 4; pars = [] }) ∷ plain (item.Run 1 1) ∷ plain (item.Exit 1) ∷ plain (item.Enter 2) ∷ plain item.Done ∷ [], [], (plain (item.Enter 1) ∷ [], ((plain (item.Enter 1) ∷ []) ∷ [], (IsMove (item.Enter 1) refl refl, tt), refl), refl), ((taken 1 0 1 (entry 0 4 0) (record { sig = 4; pars = [] }) ∷ plain (item.Run 1 1) ∷ plain (item.Exit 1) ∷ plain (item.Enter 2) ∷ plain item.Done ∷ []) ∷ [], (Dispatches (entry 0 4 0, taken 1 0 1 (entry 0 4 0) (record { sig = 4; pars = [] }) ∷ plain (item.Run 1 1) ∷ [], plain (item.Exit 1) ∷ plain (item.Enter 2) ∷ [], [], (1, 0, 1, OfEvent (record { sig = 4; pars = [] }), item.Run 1 1, refl, refl), ((plain (item.Exit 1) ∷ []) ∷ (plain (item.Enter 2) ∷ []) ∷ [], (IsMove (item.Exit 1) refl refl, (IsMove (item.Enter 2) refl refl, tt)), refl), refl, refl), tt), refl), Ends refl, refl); last = refl }
+use Rattle.qp_rows.proofs.LampObject.{lamp_1_body_1, lamp_1_step_1, lamp_1_start, lamp_1_pieces, lamp_1_follows, lamp_1_shape}
 
 pub lawful : Lawful lamp go_once switched_to_rest
 unfolding words_hold CourseHolds SourceLanes SpillsStand OrderHolds EndHolds deferral_holds lane_read setting_of lane_pieces none_twice stims_placed looks_right order in_order last_is_free ends_last spents_hold spills_state has_room took_count lines_empty blocks_rest is_home_lane lamp_1_pieces lamp_1_start lamp_1_step_1 lamp_1_body_1 home_records own_items spills_cut

@@ -2,7 +2,7 @@ use Rattle.std.proofs.Common.{◌≡◌, [], true, ap, sym, ◌∙◌}
 use Rattle.qp_model.specs.Parts.{is_static}
 use Rattle.qp_calls.specs.Clauses.{event_of}
 use Rattle.qp_calls.proofs.NoteLemmas.{static-bare}
-use Rattle.qp_dispatch.proofs.posting.post.Goals as goal
+use Rattle.qp_calls.proofs.posts.post.Goals as goal
 
 pub returns-then-is_static : goal.returns-then-is_static
 returns-then-is_static g c =
