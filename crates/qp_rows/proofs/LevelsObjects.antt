@@ -1,6 +1,6 @@
 -- The three objects of `levels`: their records with their scheduling points, which follow their courses and have their shape, whatever the
--- threshold t of the lowest, the takes m that its second post finds, and the posts f that the highest finds at its first take.
-use Rattle.std.proofs.Common.{ℕ, refl, ◌++◌, inr, true, false, List, [], ◌∷◌, None}
+-- threshold t of the lowest, the takes m that its second post finds, which leave room, and the posts f that the highest finds at its first take.
+use Rattle.std.proofs.Common.{ℕ, ◌-◌, nat_lt, IsTrue, refl, ◌++◌, inr, true, false, List, [], ◌∷◌, None}
 use Rattle.qp_model.specs.declared.bodies.Body.TheVariants as item
 use Rattle.qp_model.specs.Record.{entry}
 use Rattle.qp_model.specs.Told.{OfEvent, plain, taken, raised}
@@ -40,13 +40,13 @@ unfoldable pub low_pieces : (m : ℕ) → List Piece
 unfolding low_start low_step_1
 low_pieces m = low_start ++ ((low_step_1 m) ++ [])
 
-pub low_follows : (t m : ℕ) → FollowsThrough (levels t) (object 1 1 t 1) (low_pieces m)
+pub low_follows : (t m : ℕ) → IsTrue (nat_lt 0 (2 - (1 - m))) → FollowsThrough (levels t) (object 1 1 t 1) (low_pieces m)
 unfolding FollowsThrough low_pieces low_start low_step_1 low_body_1
-low_follows t m = (entry 0 4 0 ∷ [], _, (low_start, (low_step_1 m) ++ [], _, refl, (Tell (plain item.Begin) ∷ Tell (plain (item.Enter 1)) ∷ Tell (plain item.Done) ∷ [], _, (_, refl, (_, refl, (_, refl, (refl, refl)))), refl, refl), ((low_step_1 m), [], _, refl, (1, 0, 1, record { sig = 4; pars = [] }, (low_body_1 m) ++ tell ([]), refl, ((low_body_1 m), [], _, (_, refl, (Granted, plain (item.Post 4 1 0 0 (entry 0 6 0)) ∷ [], [], (inr ([], entry 0 6 0, (refl, refl), (1, 0, 0, refl, refl))), refl, (_, refl, (0, (_, refl, (Granted, plain (item.Post 3 1 0 0 (entry 0 6 0)) ∷ [], [], (inr ([], entry 0 6 0, (refl, refl), (1, 0, 0, refl, refl))), refl, (_, refl, (Granted, plain (item.Post 4 2 0 m (entry 0 6 0)) ∷ [], [], (inr ([], entry 0 6 0, (refl, refl), (2, 0, m, refl, refl))), refl, (_, refl, (_, refl, (_, refl, (_, refl, (_, refl, (_, refl, (refl, refl))))))))))))))), refl, refl, refl)), (refl, refl))))
+low_follows t m room = (entry 0 4 0 ∷ [], _, (low_start, (low_step_1 m) ++ [], _, refl, (Tell (plain item.Begin) ∷ Tell (plain (item.Enter 1)) ∷ Tell (plain item.Done) ∷ [], _, (_, refl, (_, refl, (_, refl, (refl, refl)))), refl, refl), ((low_step_1 m), [], _, refl, (1, 0, 1, record { sig = 4; pars = [] }, (low_body_1 m) ++ tell ([]), refl, ((low_body_1 m), [], _, (_, refl, (Granted, plain (item.Post 4 1 0 0 (entry 0 6 0)) ∷ [], [], (inr ([], entry 0 6 0, (refl, refl), (1, 0, 0, refl, refl))), refl, (_, refl, (0, (_, refl, (Granted, plain (item.Post 3 1 0 0 (entry 0 6 0)) ∷ [], [], (inr ([], entry 0 6 0, (refl, refl), (1, 0, 0, refl, refl))), refl, (_, refl, (Granted, plain (item.Post 4 2 0 m (entry 0 6 0)) ∷ [], [], (inr ([], entry 0 6 0, (refl, refl), (2, 0, m, refl, room))), refl, (_, refl, (_, refl, (_, refl, (_, refl, (_, refl, (_, refl, (refl, refl))))))))))))))), refl, refl, refl)), (refl, refl))))
 
-pub low_shape : (t m : ℕ) → HasShape (levels t) 1 false Whole (plain item.Begin ∷ plain (item.Enter 1) ∷ plain item.Done ∷ taken 1 0 1 (entry 0 4 0) (record { sig = 4; pars = [] }) ∷ plain (item.Run 1 1) ∷ plain (item.Post 4 1 0 0 (entry 0 6 0)) ∷ raised 3 0 ∷ plain (item.Post 3 1 0 0 (entry 0 6 0)) ∷ plain (item.Post 4 2 0 m (entry 0 6 0)) ∷ plain (item.Say 1) ∷ plain (item.Unlock 0) ∷ plain (item.Say 2) ∷ plain item.Done ∷ [])
+pub low_shape : (t m : ℕ) → IsTrue (nat_lt 0 (2 - (1 - m))) → HasShape (levels t) 1 false Whole (plain item.Begin ∷ plain (item.Enter 1) ∷ plain item.Done ∷ taken 1 0 1 (entry 0 4 0) (record { sig = 4; pars = [] }) ∷ plain (item.Run 1 1) ∷ plain (item.Post 4 1 0 0 (entry 0 6 0)) ∷ raised 3 0 ∷ plain (item.Post 3 1 0 0 (entry 0 6 0)) ∷ plain (item.Post 4 2 0 m (entry 0 6 0)) ∷ plain (item.Say 1) ∷ plain (item.Unlock 0) ∷ plain (item.Say 2) ∷ plain item.Done ∷ [])
 unfolding CutGroups StepGroup BrokenStep Groups Actions FitsAny Fits asserts_last
-low_shape t m = record { groups = inr (plain item.Begin ∷ plain (item.Enter 1) ∷ plain item.Done ∷ [], taken 1 0 1 (entry 0 4 0) (record { sig = 4; pars = [] }) ∷ plain (item.Run 1 1) ∷ plain (item.Post 4 1 0 0 (entry 0 6 0)) ∷ raised 3 0 ∷ plain (item.Post 3 1 0 0 (entry 0 6 0)) ∷ plain (item.Post 4 2 0 m (entry 0 6 0)) ∷ plain (item.Say 1) ∷ plain (item.Unlock 0) ∷ plain (item.Say 2) ∷ plain item.Done ∷ [], [], (plain (item.Enter 1) ∷ [], ((plain (item.Enter 1) ∷ []) ∷ [], (IsMove (item.Enter 1) refl refl, tt), refl), refl), ((taken 1 0 1 (entry 0 4 0) (record { sig = 4; pars = [] }) ∷ plain (item.Run 1 1) ∷ plain (item.Post 4 1 0 0 (entry 0 6 0)) ∷ raised 3 0 ∷ plain (item.Post 3 1 0 0 (entry 0 6 0)) ∷ plain (item.Post 4 2 0 m (entry 0 6 0)) ∷ plain (item.Say 1) ∷ plain (item.Unlock 0) ∷ plain (item.Say 2) ∷ plain item.Done ∷ []) ∷ [], (Dispatches (entry 0 4 0, taken 1 0 1 (entry 0 4 0) (record { sig = 4; pars = [] }) ∷ plain (item.Run 1 1) ∷ [], plain (item.Post 4 1 0 0 (entry 0 6 0)) ∷ raised 3 0 ∷ plain (item.Post 3 1 0 0 (entry 0 6 0)) ∷ plain (item.Post 4 2 0 m (entry 0 6 0)) ∷ plain (item.Say 1) ∷ plain (item.Unlock 0) ∷ plain (item.Say 2) ∷ [], [], (1, 0, 1, OfEvent (record { sig = 4; pars = [] }), item.Run 1 1, refl, refl), ((plain (item.Post 4 1 0 0 (entry 0 6 0)) ∷ []) ∷ (raised 3 0 ∷ plain (item.Post 3 1 0 0 (entry 0 6 0)) ∷ plain (item.Post 4 2 0 m (entry 0 6 0)) ∷ plain (item.Say 1) ∷ plain (item.Unlock 0) ∷ []) ∷ (plain (item.Say 2) ∷ []) ∷ [], (IsAct (MakesCall (call.Post 4 6 [] None None) Granted (inr ([], entry 0 6 0, (refl, refl), (1, 0, 0, refl, refl))) refl), (IsLocked 0 3 (plain (item.Post 3 1 0 0 (entry 0 6 0)) ∷ plain (item.Post 4 2 0 m (entry 0 6 0)) ∷ plain (item.Say 1) ∷ []) ((plain (item.Post 3 1 0 0 (entry 0 6 0)) ∷ []) ∷ (plain (item.Post 4 2 0 m (entry 0 6 0)) ∷ []) ∷ (plain (item.Say 1) ∷ []) ∷ [], (MakesCall (call.Post 3 6 [] None None) Granted (inr ([], entry 0 6 0, (refl, refl), (1, 0, 0, refl, refl))) refl, (MakesCall (call.Post 4 6 [] None None) Granted (inr ([], entry 0 6 0, (refl, refl), (2, 0, m, refl, refl))) refl, (SaysValue 1 refl, tt))), refl) refl, (IsAct (SaysValue 2 refl), tt))), refl), refl, refl), tt), refl), Ends refl, refl); last = refl }
+low_shape t m room = record { groups = inr (plain item.Begin ∷ plain (item.Enter 1) ∷ plain item.Done ∷ [], taken 1 0 1 (entry 0 4 0) (record { sig = 4; pars = [] }) ∷ plain (item.Run 1 1) ∷ plain (item.Post 4 1 0 0 (entry 0 6 0)) ∷ raised 3 0 ∷ plain (item.Post 3 1 0 0 (entry 0 6 0)) ∷ plain (item.Post 4 2 0 m (entry 0 6 0)) ∷ plain (item.Say 1) ∷ plain (item.Unlock 0) ∷ plain (item.Say 2) ∷ plain item.Done ∷ [], [], (plain (item.Enter 1) ∷ [], ((plain (item.Enter 1) ∷ []) ∷ [], (IsMove (item.Enter 1) refl refl, tt), refl), refl), ((taken 1 0 1 (entry 0 4 0) (record { sig = 4; pars = [] }) ∷ plain (item.Run 1 1) ∷ plain (item.Post 4 1 0 0 (entry 0 6 0)) ∷ raised 3 0 ∷ plain (item.Post 3 1 0 0 (entry 0 6 0)) ∷ plain (item.Post 4 2 0 m (entry 0 6 0)) ∷ plain (item.Say 1) ∷ plain (item.Unlock 0) ∷ plain (item.Say 2) ∷ plain item.Done ∷ []) ∷ [], (Dispatches (entry 0 4 0, taken 1 0 1 (entry 0 4 0) (record { sig = 4; pars = [] }) ∷ plain (item.Run 1 1) ∷ [], plain (item.Post 4 1 0 0 (entry 0 6 0)) ∷ raised 3 0 ∷ plain (item.Post 3 1 0 0 (entry 0 6 0)) ∷ plain (item.Post 4 2 0 m (entry 0 6 0)) ∷ plain (item.Say 1) ∷ plain (item.Unlock 0) ∷ plain (item.Say 2) ∷ [], [], (1, 0, 1, OfEvent (record { sig = 4; pars = [] }), item.Run 1 1, refl, refl), ((plain (item.Post 4 1 0 0 (entry 0 6 0)) ∷ []) ∷ (raised 3 0 ∷ plain (item.Post 3 1 0 0 (entry 0 6 0)) ∷ plain (item.Post 4 2 0 m (entry 0 6 0)) ∷ plain (item.Say 1) ∷ plain (item.Unlock 0) ∷ []) ∷ (plain (item.Say 2) ∷ []) ∷ [], (IsAct (MakesCall (call.Post 4 6 [] None None) Granted (inr ([], entry 0 6 0, (refl, refl), (1, 0, 0, refl, refl))) refl), (IsLocked 0 3 (plain (item.Post 3 1 0 0 (entry 0 6 0)) ∷ plain (item.Post 4 2 0 m (entry 0 6 0)) ∷ plain (item.Say 1) ∷ []) ((plain (item.Post 3 1 0 0 (entry 0 6 0)) ∷ []) ∷ (plain (item.Post 4 2 0 m (entry 0 6 0)) ∷ []) ∷ (plain (item.Say 1) ∷ []) ∷ [], (MakesCall (call.Post 3 6 [] None None) Granted (inr ([], entry 0 6 0, (refl, refl), (1, 0, 0, refl, refl))) refl, (MakesCall (call.Post 4 6 [] None None) Granted (inr ([], entry 0 6 0, (refl, refl), (2, 0, m, refl, room))) refl, (SaysValue 1 refl, tt))), refl) refl, (IsAct (SaysValue 2 refl), tt))), refl), refl, refl), tt), refl), Ends refl, refl); last = refl }
 
 unfoldable pub middle_body_1 : List Piece
 middle_body_1 = Tell (plain item.Unhandled) ∷ Tell (plain item.Done) ∷ []

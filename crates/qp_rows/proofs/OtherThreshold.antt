@@ -32,7 +32,7 @@ words = words-from (levels 1) held_by_threshold_lanes refl
 
 objects : AllByRecursion (ObjectHolds (levels 1) held_by_threshold) (levels 1).objects
 unfolding CourseHolds deferral_holds low_pieces low_start low_step_1 low_body_1 middle_pieces middle_start middle_step_1 middle_body_1 high_pieces high_start high_step_1 high_step_2 high_body_1 high_body_2 home_records own_items
-objects = (record { shapes = record { shape = low_shape 1 1; home = refl }; deferral = refl; course = (low_pieces 1, refl, low_follows 1 1) }, (record { shapes = record { shape = middle_shape 1; home = refl }; deferral = refl; course = (middle_pieces, refl, middle_follows 1) }, (record { shapes = record { shape = high_shape 1 1; home = refl }; deferral = refl; course = (high_pieces 1, refl, high_follows 1 1) }, tt)))
+objects = (record { shapes = record { shape = low_shape 1 1 refl; home = refl }; deferral = refl; course = (low_pieces 1, refl, low_follows 1 1 refl) }, (record { shapes = record { shape = middle_shape 1; home = refl }; deferral = refl; course = (middle_pieces, refl, middle_follows 1) }, (record { shapes = record { shape = high_shape 1 1; home = refl }; deferral = refl; course = (high_pieces 1, refl, high_follows 1 1) }, tt)))
 
 no_lane : KernelHolds (levels 1) held_by_threshold → ⊥
 unfolding lane_read setting_of all_items lane_items spills_cut

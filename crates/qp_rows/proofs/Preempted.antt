@@ -31,8 +31,8 @@ pub lawful : Lawful (levels 1) go_once preempted
 unfolding words_hold CourseHolds SourceLanes SpillsStand OrderHolds EndHolds deferral_holds lane_read setting_of lane_pieces none_twice stims_placed looks_right order in_order last_is_free ends_last spents_hold spills_state has_room took_count lines_empty blocks_rest is_home_lane low_pieces low_start low_step_1 low_body_1 middle_pieces middle_start middle_step_1 middle_body_1 high_pieces high_start high_step_1 high_step_2 high_body_1 high_body_2 home_records own_items spills_cut
 lawful = record {
   words = words-from (levels 1) preempted_lanes refl;
-  objects = (record { shapes = record { shape = low_shape 1 1; home = refl }; deferral = refl; course = (low_pieces 1, refl, low_follows 1 1) }, (record { shapes = record { shape = middle_shape 1; home = refl }; deferral = refl; course = (middle_pieces, refl, middle_follows 1) }, (record { shapes = record { shape = high_shape 1 1; home = refl }; deferral = refl; course = (high_pieces 1, refl, high_follows 1 1) }, tt)));
-  kernel = record { lane = refl; points = (low_follows 1 1, (middle_follows 1, (high_follows 1 1, tt))) };
+  objects = (record { shapes = record { shape = low_shape 1 1 refl; home = refl }; deferral = refl; course = (low_pieces 1, refl, low_follows 1 1 refl) }, (record { shapes = record { shape = middle_shape 1; home = refl }; deferral = refl; course = (middle_pieces, refl, middle_follows 1) }, (record { shapes = record { shape = high_shape 1 1; home = refl }; deferral = refl; course = (high_pieces 1, refl, high_follows 1 1) }, tt)));
+  kernel = record { lane = refl; points = (low_follows 1 1 refl, (middle_follows 1, (high_follows 1 1, tt))) };
   sources = record {
     lanes = (record { alone = refl; spills = refl; tries = refl; stimuli = (AllDone, inr (inr (1, plain (item.Post 1 1 0 0 (entry 0 4 0)) ∷ [], [], refl, refl, (Granted, (inr ([], entry 0 4 0, (refl, refl), (1, 0, 0, refl, refl))), refl), (refl, refl))), refl) }, tt);
     empty = refl;

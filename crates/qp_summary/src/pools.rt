@@ -1,6 +1,6 @@
 //! The lines of pools.
 
-ghost use Rattle.std.specs.Prelude.{◌≡◌, ◌++◌, codes, decimal, IfOk, List, string_bytes};
+ghost use Rattle.std.specs.Prelude.{ℕ, ◌≡◌, ◌++◌, codes, decimal, IfOk, List, string_bytes};
 ghost use Rattle.qp_model.specs.History.{all_items};
 ghost use Rattle.qp_model.specs.OutputSummary.{pool_line, pool_lines};
 ghost use Rattle.qp_model.specs.Record.{Item};
@@ -20,7 +20,7 @@ fn line_of(alloc: Global, p: u64, given: usize, back: usize) -> Result<String, A
 
 /// The line of a pool. A count that a `usize` can't hold finds no memory.
 fn pool_line(alloc: Global, blocks: &Blocks, p: u64) -> Result<String, AllocError>
-    ensures { IfOk result (λ line. (items : List Item) → AreBlocks blocks.now items → string_bytes line ≡ pool_line items p) }
+    ensures { IfOk result (λ line. (size : ℕ) (items : List Item) → AreBlocks size blocks.now items → string_bytes line ≡ pool_line items p) }
 {
     match blocks.given(p) {
         Some(given) => match blocks.back(p) {

@@ -5,13 +5,14 @@ use Rattle.std.specs.declared.option.Option.{Option}
 use Rattle.std.specs.Option.{is_some}
 use Rattle.std.specs.List.{count_by}
 use Rattle.std.proofs.lemmas.Bool.Decides.{nat_tests}
+use Rattle.std.proofs.lemmas.List.{length-set}
 use Rattle.std.proofs.lemmas.List.Sums.{sum_by-cons}
 use Rattle.qp_model.specs.declared.bodies.Body.{Body}
 use Rattle.qp_model.specs.declared.bodies.Body.TheVariants as body
 use Rattle.qp_model.specs.KindSorts.{is_malformed, kind_in}
 use Rattle.qp_model.specs.OutputSummary.{is_back_of, is_done, is_new_of, is_took}
 use Rattle.qp_model.specs.Record.{Item}
-use Rattle.qp_tally.specs.Counting.{AreBlocks, AreCounts, AreNone, AreTurns, back_of, counted, done_of, given_by, giver, most, taker, took_of}
+use Rattle.qp_tally.specs.Counting.{AreBlocks, AreCounts, AreNone, AreTurns, IsCountAt, IsTold, back_of, counted, done_of, given_by, giver, most, taker, took_of}
 use Rattle.qp_tally.specs.declared.turns.Turns.{Turns}
 use Rattle.qp_tally.specs.declared.blocks.Blocks.{Blocks}
 use Rattle.qp_model.proofs.NumberLemmas.{count-append}
@@ -49,47 +50,75 @@ more-counts test items x b is =
     let its : one_if (test x) ≡ one_if b = ap one_if is in
     omega (arith, whole, last, its)
 
-module _ (test : ℕ → Item → Bool) (counts : List ℕ) where
-  pub none-counts : AreNone counts → AreCounts test counts []
-  none-counts none k n at less = none k n at
+module _ (size : ℕ) (test : ℕ → Item → Bool) (counts : List ℕ) where
+  pub none-counts : AreNone size counts → AreCounts size test counts []
+  none-counts none = record {
+    many = none.0;
+    each = λ k n at.
+        let zero : n ≡ 0 = none.1 k n at in
+        let empty : count_by (test k) [] ≡ 0 = refl in
+        omega (arith, zero, empty);
+  }
 
-  module _ (items : List Item) (x : Item) (are : AreCounts test counts items) where
+  module _ (items : List Item) (x : Item) (are : AreCounts size test counts items) where
     -- one that isn't counted
-    pub counts-skip : ((k : ℕ) → test k x ≡ false) → AreCounts test counts (items ++ x ∷ [])
-    counts-skip none k n at less =
-        let more : count_by (test k) (items ++ x ∷ []) ≡ count_by (test k) items + 0 = more-counts (test k) items x false (none k) in
-        let old = are k n at less in
-        omega (arith, more, old)
+    pub counts-skip : ((k : ℕ) → test k x ≡ false) → AreCounts size test counts (items ++ x ∷ [])
+    counts-skip none = record {
+      many = are.many;
+      each = λ k n at.
+          let more : count_by (test k) (items ++ x ∷ []) ≡ count_by (test k) items + 0 = more-counts (test k) items x false (none k) in
+          let old = are.each k n at in
+          omega (arith, more, old);
+    }
+
+    counted-length : (number : ℕ) (inside : Bool) → length (cond inside (slice_set counts number (min (get_or counts number 0 + 1) most)) counts) ≡ size
+    counted-length number true = length-set counts number (min (get_or counts number 0 + 1) most) ∙ are.many
+    counted-length number false = are.many
 
     -- one of this number
-    pub counts-more : (number : ℕ) → ((k : ℕ) → test k x ≡ (number == k)) → AreCounts test (counted counts number) (items ++ x ∷ [])
-    counts-more number its k n at less = by (nat_lt number (length counts)) refl (number == k) refl at
+    pub counts-more : (number : ℕ) → ((k : ℕ) → test k x ≡ (number == k)) → AreCounts size test (counted counts number) (items ++ x ∷ [])
+    counts-more number its = record {
+      many = counted-length number (nat_lt number (length counts));
+      each = λ k n at. by k n (nat_lt number (length counts)) refl (number == k) refl at;
+    }
       where
-        by : (inside : Bool) → nat_lt number (length counts) ≡ inside → (same : Bool) → (number == k) ≡ same
-            → slice_get (cond inside (slice_set counts number (min (get_or counts number 0 + 1) most)) counts) k ≡ Some n → n ≡ count_by (test k) (items ++ x ∷ [])
-        by true inside true same at =
+        by : (k n : ℕ) (inside : Bool) → nat_lt number (length counts) ≡ inside → (same : Bool) → (number == k) ≡ same
+            → slice_get (cond inside (slice_set counts number (min (get_or counts number 0 + 1) most)) counts) k ≡ Some n → n ≡ min (count_by (test k) (items ++ x ∷ [])) most
+        by k n true inside true same at =
             let equal : number ≡ k = grind (arith, nat_tests, same) in
             let lt : number < length counts = grind (arith, nat_tests, inside) in
             let value : n ≡ min (get_or counts number 0 + 1) most =
             get-set counts number (min (get_or counts number 0 + 1) most) n (subst (λ q. slice_get (slice_set counts number (min (get_or counts number 0 + 1) most)) q ≡ Some n) (sym equal) at) in
-            let one : n ≡ get_or counts number 0 + 1 = omega (arith, value, less) in
-            let old = are k (get_or counts number 0) (subst (λ q. slice_get counts q ≡ Some (get_or counts number 0)) equal (get-there counts number lt)) (omega (arith, one, less)) in
+            let old = are.each k (get_or counts number 0) (subst (λ q. slice_get counts q ≡ Some (get_or counts number 0)) equal (get-there counts number lt)) in
             let more : count_by (test k) (items ++ x ∷ []) ≡ count_by (test k) items + 1 = more-counts (test k) items x true (its k ∙ same) in
-            omega (arith, one, old, more)
-        by true inside false same at =
+            omega (arith, value, old, more)
+        by k n true inside false same at =
             let other : number ≢ k = λ e. let wrong : true ≡ false = (let yes : (number == k) ≡ true = grind (arith, nat_tests, e) in sym yes ∙ same) in absurd (cc) in
-            let old = are k n (sym (get-other counts number k (min (get_or counts number 0 + 1) most) other) ∙ at) less in
+            let old = are.each k n (sym (get-other counts number k (min (get_or counts number 0 + 1) most) other) ∙ at) in
             let more : count_by (test k) (items ++ x ∷ []) ≡ count_by (test k) items + 0 = more-counts (test k) items x false (its k ∙ same) in
             omega (arith, old, more)
-        by false inside true same at =
+        by k n false inside true same at =
             let equal : number ≡ k = grind (arith, nat_tests, same) in
             let past : length counts ≤ number = grind (arith, nat_tests, inside) in
             let lt = get-inside counts k n at in
             absurd (omega (arith, equal, past, lt))
-        by false inside false same at =
-            let old = are k n at less in
+        by k n false inside false same at =
+            let old = are.each k n at in
             let more : count_by (test k) (items ++ x ∷ []) ≡ count_by (test k) items + 0 = more-counts (test k) items x false (its k ∙ same) in
             omega (arith, old, more)
+
+  -- what is told of a number
+  pub told-of : (items : List Item) → AreCounts size test counts items → (k : ℕ) (o : Option ℕ) → IsCountAt counts k o → IsTold (nat_lt k size) (test k) items o
+  told-of items are k None none = λ counted.
+      let lt : k < size = grind (arith, nat_tests, counted) in
+      let there = get-there counts k (subst (λ n. k < n) (sym are.many) lt) in
+      let high = none (get_or counts k 0) there in
+      let is = are.each k (get_or counts k 0) there in
+      omega (arith, high, is)
+  told-of items are k (Some n) at =
+      let its = are.each k n at.0 in
+      let less = at.1 in
+      record { is = omega (arith, its, less); less = less }
 
 -- What bodies say alone.
 
@@ -149,43 +178,43 @@ module _ (items : List Item) (x : Item) where
   pub took-more : (t u : Turns) → is_took x.body ≡ true → u.taken ≡ counted t.taken x.of → u.done ≡ t.done → AreTurns t items → AreTurns u (items ++ x ∷ [])
   took-more t u is taken done a = record {
     taken =
-        subst (λ c. AreCounts took_of c (items ++ x ∷ [])) (sym taken)
-        (counts-more took_of t.taken items x a.taken x.of (λ k. and-is (x.of == k) (is_took x.body) true is ∙ and-true (x.of == k)));
+        subst (λ c. AreCounts 33 took_of c (items ++ x ∷ [])) (sym taken)
+        (counts-more 33 took_of t.taken items x a.taken x.of (λ k. and-is (x.of == k) (is_took x.body) true is ∙ and-true (x.of == k)));
     done =
-        subst (λ c. AreCounts done_of c (items ++ x ∷ [])) (sym done)
-        (counts-skip done_of t.done items x a.done (λ k. and-is (x.of == k) (is_done x.body) false (took-undone x.body is) ∙ and-false (x.of == k)));
+        subst (λ c. AreCounts 33 done_of c (items ++ x ∷ [])) (sym done)
+        (counts-skip 33 done_of t.done items x a.done (λ k. and-is (x.of == k) (is_done x.body) false (took-undone x.body is) ∙ and-false (x.of == k)));
   }
 
   pub done-more : (t u : Turns) → is_took x.body ≡ false → is_done x.body ≡ true → u.taken ≡ t.taken → u.done ≡ counted t.done x.of → AreTurns t items → AreTurns u (items ++ x ∷ [])
   done-more t u untook is taken done a = record {
     taken =
-        subst (λ c. AreCounts took_of c (items ++ x ∷ [])) (sym taken)
-        (counts-skip took_of t.taken items x a.taken (λ k. and-is (x.of == k) (is_took x.body) false untook ∙ and-false (x.of == k)));
+        subst (λ c. AreCounts 33 took_of c (items ++ x ∷ [])) (sym taken)
+        (counts-skip 33 took_of t.taken items x a.taken (λ k. and-is (x.of == k) (is_took x.body) false untook ∙ and-false (x.of == k)));
     done =
-        subst (λ c. AreCounts done_of c (items ++ x ∷ [])) (sym done)
-        (counts-more done_of t.done items x a.done x.of (λ k. and-is (x.of == k) (is_done x.body) true is ∙ and-true (x.of == k)));
+        subst (λ c. AreCounts 33 done_of c (items ++ x ∷ [])) (sym done)
+        (counts-more 33 done_of t.done items x a.done x.of (λ k. and-is (x.of == k) (is_done x.body) true is ∙ and-true (x.of == k)));
   }
 
   pub turn-skip : (t : Turns) → is_took x.body ≡ false → is_done x.body ≡ false → AreTurns t items → AreTurns t (items ++ x ∷ [])
   turn-skip t untook undone a = record {
-    taken = counts-skip took_of t.taken items x a.taken (λ k. and-is (x.of == k) (is_took x.body) false untook ∙ and-false (x.of == k));
-    done = counts-skip done_of t.done items x a.done (λ k. and-is (x.of == k) (is_done x.body) false undone ∙ and-false (x.of == k));
+    taken = counts-skip 33 took_of t.taken items x a.taken (λ k. and-is (x.of == k) (is_took x.body) false untook ∙ and-false (x.of == k));
+    done = counts-skip 33 done_of t.done items x a.done (λ k. and-is (x.of == k) (is_done x.body) false undone ∙ and-false (x.of == k));
   }
 
-  pub given-more : (b c : Blocks) (p : ℕ) → giver x.body ≡ Some p → c.given ≡ counted b.given p → c.back ≡ b.back → AreBlocks b items → AreBlocks c (items ++ x ∷ [])
-  given-more b c p is given back a = record {
-    given = subst (λ n. AreCounts given_by n (items ++ x ∷ [])) (sym given) (counts-more given_by b.given items x a.given p (λ k. given-is x.body p k is));
-    back = subst (λ n. AreCounts back_of n (items ++ x ∷ [])) (sym back) (counts-skip back_of b.back items x a.back (λ k. given-unback x.body p k is));
+  pub given-more : (size : ℕ) (b c : Blocks) (p : ℕ) → giver x.body ≡ Some p → c.given ≡ counted b.given p → c.back ≡ b.back → AreBlocks size b items → AreBlocks size c (items ++ x ∷ [])
+  given-more size b c p is given back a = record {
+    given = subst (λ n. AreCounts size given_by n (items ++ x ∷ [])) (sym given) (counts-more size given_by b.given items x a.given p (λ k. given-is x.body p k is));
+    back = subst (λ n. AreCounts size back_of n (items ++ x ∷ [])) (sym back) (counts-skip size back_of b.back items x a.back (λ k. given-unback x.body p k is));
   }
 
-  pub back-more : (b c : Blocks) (p : ℕ) → giver x.body ≡ None → taker x.body ≡ Some p → c.given ≡ b.given → c.back ≡ counted b.back p → AreBlocks b items → AreBlocks c (items ++ x ∷ [])
-  back-more b c p ungiven is given back a = record {
-    given = subst (λ n. AreCounts given_by n (items ++ x ∷ [])) (sym given) (counts-skip given_by b.given items x a.given (λ k. given-none x.body k ungiven));
-    back = subst (λ n. AreCounts back_of n (items ++ x ∷ [])) (sym back) (counts-more back_of b.back items x a.back p (λ k. back-is x.body p k is));
+  pub back-more : (size : ℕ) (b c : Blocks) (p : ℕ) → giver x.body ≡ None → taker x.body ≡ Some p → c.given ≡ b.given → c.back ≡ counted b.back p → AreBlocks size b items → AreBlocks size c (items ++ x ∷ [])
+  back-more size b c p ungiven is given back a = record {
+    given = subst (λ n. AreCounts size given_by n (items ++ x ∷ [])) (sym given) (counts-skip size given_by b.given items x a.given (λ k. given-none x.body k ungiven));
+    back = subst (λ n. AreCounts size back_of n (items ++ x ∷ [])) (sym back) (counts-more size back_of b.back items x a.back p (λ k. back-is x.body p k is));
   }
 
-  pub block-skip : (b : Blocks) → giver x.body ≡ None → taker x.body ≡ None → AreBlocks b items → AreBlocks b (items ++ x ∷ [])
-  block-skip b ungiven unback a = record {
-    given = counts-skip given_by b.given items x a.given (λ k. given-none x.body k ungiven);
-    back = counts-skip back_of b.back items x a.back (λ k. back-none x.body k unback);
+  pub block-skip : (size : ℕ) (b : Blocks) → giver x.body ≡ None → taker x.body ≡ None → AreBlocks size b items → AreBlocks size b (items ++ x ∷ [])
+  block-skip size b ungiven unback a = record {
+    given = counts-skip size given_by b.given items x a.given (λ k. given-none x.body k ungiven);
+    back = counts-skip size back_of b.back items x a.back (λ k. back-none x.body k unback);
   }

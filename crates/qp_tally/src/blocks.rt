@@ -1,9 +1,9 @@
 //! How many blocks the pools gave and got back.
 
-ghost use Rattle.std.specs.Prelude.{◌≡◌, ◌++◌, ◌∷◌, [], IfOk, IfSome, List};
+ghost use Rattle.std.specs.Prelude.{ℕ, ◌≡◌, ◌++◌, ◌∷◌, [], nat_lt, IfOk, List};
 ghost use Rattle.qp_model.specs.History.{all_items, lane_items};
 ghost use Rattle.qp_model.specs.Record.{Item, body_of, item_of};
-ghost use Rattle.qp_tally.specs.Counting.{AreBlocks, IsCount, back_of, given_by, giver, taker};
+ghost use Rattle.qp_tally.specs.Counting.{AreBlocks, IsTold, back_of, given_by, giver, taker};
 
 use crate::counts::Counts;
 use qp_model::{Body, Lane, Rec, kinds};
@@ -44,7 +44,7 @@ fn taker(r: &Rec) -> Option<u64>
 
 impl Blocks {
     fn none(alloc: Global, size: usize) -> Result<Self, AllocError>
-        ensures { IfOk result (λ blocks. AreBlocks blocks []) }
+        ensures { IfOk result (λ blocks. AreBlocks size blocks []) }
     {
         Ok(Blocks {
             given: Counts::none(alloc, size)?,
@@ -54,7 +54,7 @@ impl Blocks {
 
     /// Counts a record more.
     fn add(&mut self, r: &Rec)
-        ensures { (items : List Item) → AreBlocks self.old items → AreBlocks self.new (items ++ item_of r.now ∷ []) }
+        ensures { (size : ℕ) (items : List Item) → AreBlocks size self.old items → AreBlocks size self.new (items ++ item_of r.now ∷ []) }
     {
         match giver(r) {
             Some(p) => self.given.add(p as usize),
@@ -67,7 +67,7 @@ impl Blocks {
 
     /// Counts the records of a lane more.
     fn add_lane(&mut self, lane: &[Rec])
-        ensures { (items : List Item) → AreBlocks self.old items → AreBlocks self.new (items ++ lane_items lane.now) }
+        ensures { (size : ℕ) (items : List Item) → AreBlocks size self.old items → AreBlocks size self.new (items ++ lane_items lane.now) }
     {
         for r in lane {
             self.add(r);
@@ -76,7 +76,7 @@ impl Blocks {
 
     /// Those of the records of all lanes, for pools below this number.
     pub fn of(alloc: Global, lanes: &[Lane], size: usize) -> Result<Self, AllocError>
-        ensures { IfOk result (λ blocks. AreBlocks blocks (all_items lanes.now)) }
+        ensures { IfOk result (λ blocks. AreBlocks size blocks (all_items lanes.now)) }
     {
         let mut blocks = Blocks::none(alloc, size)?;
         for lane in lanes {
@@ -85,16 +85,16 @@ impl Blocks {
         Ok(blocks)
     }
 
-    /// How many blocks the pool gave; None for a pool past those that are counted, and where a `usize` can't hold it.
+    /// How many blocks the pool gave; None exactly for a pool past those that are counted, and where a `usize` can't hold one more.
     pub fn given(&self, p: u64) -> Option<usize>
-        ensures { (items : List Item) → AreBlocks self.now items → IfSome result (IsCount (given_by p) items) }
+        ensures { (size : ℕ) (items : List Item) → AreBlocks size self.now items → IsTold (nat_lt p size) (given_by p) items result }
     {
         self.given.at(p as usize)
     }
 
     /// How many came back.
     pub fn back(&self, p: u64) -> Option<usize>
-        ensures { (items : List Item) → AreBlocks self.now items → IfSome result (IsCount (back_of p) items) }
+        ensures { (size : ℕ) (items : List Item) → AreBlocks size self.now items → IsTold (nat_lt p size) (back_of p) items result }
     {
         self.back.at(p as usize)
     }

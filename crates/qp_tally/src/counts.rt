@@ -23,7 +23,7 @@ impl Model for Counts {
 impl Counts {
     /// As many counts, of nothing.
     pub(crate) fn none(alloc: Global, size: usize) -> Result<Self, AllocError>
-        ensures { IfOk result (λ counts. AreNone counts) }
+        ensures { IfOk result (λ counts. AreNone size counts) }
     {
         Ok(Counts {
             items: vec![in alloc; 0; size]?,

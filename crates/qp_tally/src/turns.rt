@@ -1,10 +1,10 @@
 //! How many steps the objects of a lane began and ended.
 
-ghost use Rattle.std.specs.Prelude.{◌≡◌, ◌++◌, ◌∷◌, [], IfOk, IfSome, List};
+ghost use Rattle.std.specs.Prelude.{◌≡◌, ◌++◌, ◌∷◌, [], nat_lt, IfOk, List};
 ghost use Rattle.qp_model.specs.OutputSummary.{is_done, is_took};
 ghost use Rattle.qp_model.specs.History.{lane_items};
 ghost use Rattle.qp_model.specs.Record.{Item, body_of, item_of};
-ghost use Rattle.qp_tally.specs.Counting.{AreTurns, IsCount, done_of, took_of};
+ghost use Rattle.qp_tally.specs.Counting.{AreTurns, IsTold, done_of, took_of};
 
 use crate::counts::Counts;
 use qp_model::{Body, Rec, kinds};
@@ -66,16 +66,16 @@ impl Turns {
         Ok(turns)
     }
 
-    /// How many events the object of this priority took; None for what is no priority, and where a `usize` can't hold it.
+    /// How many events the object of this priority took; None exactly for what is no priority, and where a `usize` can't hold one more.
     pub fn taken(&self, p: u8) -> Option<usize>
-        ensures { (items : List Item) → AreTurns self.now items → IfSome result (IsCount (took_of p) items) }
+        ensures { (items : List Item) → AreTurns self.now items → IsTold (nat_lt p 33) (took_of p) items result }
     {
         self.taken.at(usize::from(p))
     }
 
     /// How often its start or a step of it was done.
     pub fn done(&self, p: u8) -> Option<usize>
-        ensures { (items : List Item) → AreTurns self.now items → IfSome result (IsCount (done_of p) items) }
+        ensures { (items : List Item) → AreTurns self.now items → IsTold (nat_lt p 33) (done_of p) items result }
     {
         self.done.at(usize::from(p))
     }

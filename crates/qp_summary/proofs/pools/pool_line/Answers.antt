@@ -9,7 +9,7 @@ pub returns-in-Some-back : goal.returns-in-Some-back
 returns-in-Some-back c =
     let p = c.args.p in
     IfOk-weaker c.line_of.result _ _
-    (λ line told items are. told
-    ∙ ap (λ n. codes "pool " ++ decimal p ++ codes " given " ++ decimal n ++ codes " back " ++ decimal c.in-Some-back.back ++ codes "\n") (c.in-Some.ensures items are).is
-    ∙ ap (λ n. codes "pool " ++ decimal p ++ codes " given " ++ decimal (count_by (λ i. is_new_of p i.body) items) ++ codes " back " ++ decimal n ++ codes "\n") (c.in-Some-back.ensures items are).is)
+    (λ line told size items are. told
+    ∙ ap (λ n. codes "pool " ++ decimal p ++ codes " given " ++ decimal n ++ codes " back " ++ decimal c.in-Some-back.back ++ codes "\n") (c.in-Some.ensures size items are).is
+    ∙ ap (λ n. codes "pool " ++ decimal p ++ codes " given " ++ decimal (count_by (λ i. is_new_of p i.body) items) ++ codes " back " ++ decimal n ++ codes "\n") (c.in-Some-back.ensures size items are).is)
     c.line_of.ensures

@@ -13,7 +13,7 @@ loop-i-preserved c =
     let up : c.loop-i.i + 1 ≡ 1 + c.loop-i.i = omega arith in
     let inside : c.loop-i.i < length ds = search rules in
     let lanes : c.deref.result.now ≡ c.args.j.now.lanes = search rules in
-    let blocks = subst (λ l. AreBlocks c.in_ok-blocks.blocks (all_items l)) lanes c.in_ok-blocks.ensures in
+    let blocks = subst (λ l. AreBlocks c.saturating_add.result c.in_ok-blocks.blocks (all_items l)) lanes c.in_ok-blocks.ensures in
     c.in_ok-push.ensures ∙ ap (λ ls. ls ++ string_bytes c.in_ok-pool_line.field-0 ∷ []) c.loop-i.invariant
-    ∙ ap (λ l. pool_lines items 1 (take c.loop-i.i ds) ++ l ∷ []) (c.in_ok-pool_line.ensures items blocks ∙ ap (pool_line items) up)
+    ∙ ap (λ l. pool_lines items 1 (take c.loop-i.i ds) ++ l ∷ []) (c.in_ok-pool_line.ensures c.saturating_add.result items blocks ∙ ap (pool_line items) up)
     ∙ sym (pools-next items 1 ds c.loop-i.i inside)

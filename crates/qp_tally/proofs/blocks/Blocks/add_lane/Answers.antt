@@ -7,16 +7,16 @@ use Rattle.qp_tally.specs.Counting.{AreBlocks}
 use Rattle.qp_tally.proofs.blocks.Blocks.add_lane.Goals as goal
 
 pub loop-r-init : goal.loop-r-init
-loop-r-init c = λ items are. subst (AreBlocks c.args.self.now) (sym (ap (λ x. items ++ x) items-none ∙ append-nil items)) are
+loop-r-init c = λ size items are. subst (AreBlocks size c.args.self.now) (sym (ap (λ x. items ++ x) items-none ∙ append-nil items)) are
 
 pub loop-r-preserved : goal.loop-r-preserved
-loop-r-preserved c = λ items are.
+loop-r-preserved c = λ size items are.
     let lane = c.args.lane.now in
     let k = c.loop-r.r-index in
     let front = lane_items (take k lane) in
-    subst (AreBlocks c.add.new.self) (append_assoc items front (item_of c.r-item.result ∷ []) ∙ sym (ap (λ l. items ++ l) (items-up_to lane k c.r-item.result c.loop-r-test.true c.r-item.is)))
-    (c.add.ensures (items ++ front) (c.loop-r.invariant items are))
+    subst (AreBlocks size c.add.new.self) (append_assoc items front (item_of c.r-item.result ∷ []) ∙ sym (ap (λ l. items ++ l) (items-up_to lane k c.r-item.result c.loop-r-test.true c.r-item.is)))
+    (c.add.ensures size (items ++ front) (c.loop-r.invariant size items are))
 
 pub returns : goal.returns
-returns c = λ items are.
-    subst (λ l. AreBlocks c.loop-r.self (items ++ lane_items l)) (take_all c.loop-r.r-index c.args.lane.now c.loop-r-test.false) (c.loop-r.invariant items are)
+returns c = λ size items are.
+    subst (λ l. AreBlocks size c.loop-r.self (items ++ lane_items l)) (take_all c.loop-r.r-index c.args.lane.now c.loop-r-test.false) (c.loop-r.invariant size items are)

@@ -13,5 +13,5 @@ loop-lane-preserved c =
     let lanes = c.args.lanes.now in
     let i = c.loop-lane.lane-index in
     let same = c.deref.ensures.value ∙ c.lane.view_is in
-    subst (AreBlocks c.add_lane.new.self) (ap (λ l. all_items (take i lanes) ++ lane_items l) same ∙ sym (all_items-up_to lanes i c.lane-item.result c.loop-lane-test.true c.lane-item.is))
-    (c.add_lane.ensures (all_items (take i lanes)) c.loop-lane.invariant)
+    subst (AreBlocks c.args.size c.add_lane.new.self) (ap (λ l. all_items (take i lanes) ++ lane_items l) same ∙ sym (all_items-up_to lanes i c.lane-item.result c.loop-lane-test.true c.lane-item.is))
+    (c.add_lane.ensures c.args.size (all_items (take i lanes)) c.loop-lane.invariant)

@@ -4,4 +4,4 @@ use Rattle.qp_tally.specs.Counting.{AreBlocks}
 use Rattle.qp_tally.proofs.blocks.Blocks.of.Given as goal
 
 abbrev pub invariant-loop-lane : goal.invariant-loop-lane
-invariant-loop-lane l = AreBlocks l.blocks (all_items (take l.lane-index l.lanes))
+invariant-loop-lane l = AreBlocks l.size l.blocks (all_items (take l.lane-index l.lanes))
