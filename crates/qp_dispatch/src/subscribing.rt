@@ -1,6 +1,6 @@
 //! Subscriptions.
 
-ghost use Rattle.std.specs.Prelude.{◌≡◌, IsTrue, None};
+ghost use Rattle.std.specs.Prelude.{IsTrue, None};
 ghost use Rattle.qp_model.specs.Calls as call;
 ghost use Rattle.qp_model.specs.WordLaw.{is_object, is_signal};
 ghost use Rattle.qp_calls.specs.Groups.{DoesCall};

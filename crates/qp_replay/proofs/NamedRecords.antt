@@ -130,7 +130,7 @@ chart-ready sys sound d found chart its = sound-ready sys d.priority chart (d.ch
           record { some = n.some; few = let most = sound.few_timers in omega (arith, n.few, most); timer = n.timer; there = n.there; owner = n.owner };
     }
 
-pub chart-names : (sys : System) → IsSound sys → (d : ObjectDef) → object_at sys d.priority ≡ Some d → (chart : Chart) → chart_at sys d.chart ≡ Some chart → ChartNames sys d.priority chart
+chart-names : (sys : System) → IsSound sys → (d : ObjectDef) → object_at sys d.priority ≡ Some d → (chart : Chart) → chart_at sys d.chart ≡ Some chart → ChartNames sys d.priority chart
 chart-names sys sound d found chart its =
     let ready : IsReady sys d.priority chart = chart-ready sys sound d found chart its in
     record {

@@ -1,16 +1,9 @@
 -- No step interrupts another.
-use Rattle.std.proofs.Common.{refl, ◌++◌, inr, true, false, List, [], ◌∷◌, None}
+use Rattle.std.proofs.Common.{refl, inr, true, [], ◌∷◌}
 use Rattle.qp_model.specs.declared.bodies.Body.TheVariants as item
 use Rattle.qp_model.specs.Record.{entry}
-use Rattle.qp_model.specs.Told.{OfEvent, plain, taken, raised}
-use Rattle.qp_model.specs.Calls as call
-use Rattle.qp_model.specs.Calls.{Granted, Refused, AtTimer, AtQueue, AtFront}
-use Rattle.qp_model.specs.Pieces.{Piece, Tell, Point, tell}
-use Rattle.qp_model.specs.Course.{FollowsThrough, Whole}
-use Rattle.qp_model.specs.Groups.{IsMove, IsAct, IsLocked, SaysValue, MakesCall}
-use Rattle.qp_model.specs.ObjectShape.{HasShape, CutGroups, StepGroup, BrokenStep, asserts_last, Dispatches, Ends}
-use Rattle.qp_model.specs.Shapes.{Fits, FitsAny}
-use Rattle.qp_model.specs.Groups.{Actions, Groups}
+use Rattle.qp_model.specs.Told.{plain}
+use Rattle.qp_model.specs.Calls.{Granted}
 use Rattle.qp_model.specs.Sources.{AllDone, none_twice}
 use Rattle.qp_model.specs.KernelLane.{lane_read}
 use Rattle.qp_model.specs.Points.{lane_pieces}
@@ -23,7 +16,7 @@ use Rattle.qp_model.specs.HomeLane.{is_home_lane}
 use Rattle.qp_model.specs.Lawful.{Lawful, setting_of, CourseHolds, SourceLanes, SpillsStand, OrderHolds, deferral_holds, EndHolds}
 use Rattle.qp_model.specs.WordLaw.{words_hold}
 use Rattle.qp_model.proofs.WordTestLemmas.{words-from}
-use Rattle.qp_rows.specs.Systems.{go_once, levels, object}
+use Rattle.qp_rows.specs.Systems.{go_once, levels}
 use Rattle.qp_rows.specs.Journals.{cooperative, cooperative_lanes}
 use Rattle.qp_rows.proofs.LevelsObjects.{low_body_1, low_step_1, low_start, low_pieces, low_follows, low_shape, middle_body_1, middle_step_1, middle_start, middle_pieces, middle_follows, middle_shape, high_body_1, high_step_1, high_body_2, high_step_2, high_start, high_pieces, high_follows, high_shape}
 

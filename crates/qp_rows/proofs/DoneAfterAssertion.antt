@@ -1,14 +1,11 @@
 -- A record behind an assertion.
-use Rattle.std.proofs.Common.{◌≡◌, refl, ◌++◌, inr, true, false, List, [], ◌∷◌, None}
+use Rattle.std.proofs.Common.{◌≡◌, refl, ◌++◌, inr, true, false, List, [], ◌∷◌}
 use Rattle.qp_model.specs.declared.bodies.Body.TheVariants as item
-use Rattle.qp_model.specs.Record.{entry}
-use Rattle.qp_model.specs.Told.{OfEvent, plain, taken, raised}
-use Rattle.qp_model.specs.Calls as call
-use Rattle.qp_model.specs.Calls.{Granted, Refused, AtTimer, AtQueue, AtFront}
-use Rattle.qp_model.specs.Pieces.{Piece, Tell, Point, tell}
+use Rattle.qp_model.specs.Told.{plain}
+use Rattle.qp_model.specs.Pieces.{Piece, Tell}
 use Rattle.qp_model.specs.Course.{Follows, Stopped}
-use Rattle.qp_model.specs.Groups.{IsMove, IsAct, MakesCall, Stops, Plainly}
-use Rattle.qp_model.specs.ObjectShape.{HasShape, CutGroups, StepGroup, BrokenStep, asserts_last, Ends, BreaksStep}
+use Rattle.qp_model.specs.Groups.{IsMove}
+use Rattle.qp_model.specs.ObjectShape.{HasShape, CutGroups, StepGroup, BrokenStep, asserts_last, Ends}
 use Rattle.qp_model.specs.Shapes.{Fits, FitsAny}
 use Rattle.qp_model.specs.Groups.{Actions, Groups}
 use Rattle.qp_model.specs.WordLaw.{words_hold}
@@ -20,7 +17,7 @@ use Rattle.qp_model.specs.WordLaw.{Words}
 use Rattle.qp_model.specs.Home.{by_object, home_records, own_items}
 use Rattle.qp_model.specs.Lawful.{ShapesHold, facts_of, cut_of}
 use Rattle.qp_rows.specs.Broken.{BreaksShapes}
-use Rattle.qp_rows.proofs.FloodedObjects.{low_body_1, low_step_1, low_start, low_pieces, low_follows, low_front, low_shape, middle_start, middle_pieces, middle_follows, middle_shape}
+use Rattle.qp_rows.proofs.FloodedObjects.{low_shape, middle_shape}
 
 high_start : List Piece
 high_start = Tell (plain item.Begin) ∷ Tell (plain (item.Enter 1)) ∷ Tell (plain item.Done) ∷ []

@@ -1,5 +1,5 @@
 -- The two lower objects of a system whose highest posts itself too much: their records follow their courses and have their shape.
-use Rattle.std.proofs.Common.{refl, ◌++◌, inl, inr, true, false, List, [], ◌∷◌, None}
+use Rattle.std.proofs.Common.{refl, ◌++◌, inr, false, List, [], ◌∷◌, None}
 use Rattle.qp_model.specs.declared.bodies.Body.TheVariants as item
 use Rattle.qp_model.specs.Record.{entry}
 use Rattle.qp_model.specs.Told.{OfEvent, plain, taken, raised}
@@ -7,23 +7,11 @@ use Rattle.qp_model.specs.Calls as call
 use Rattle.qp_model.specs.Calls.{Granted, Refused, AtTimer, AtQueue, AtFront}
 use Rattle.qp_model.specs.Pieces.{Piece, Tell, Point, tell}
 use Rattle.qp_model.specs.Course.{Follows, Stopped}
-use Rattle.qp_model.specs.Groups.{IsMove, IsAct, MakesCall, Asserts, Stops, Plainly}
+use Rattle.qp_model.specs.Groups.{IsMove, IsAct, MakesCall, Stops, Plainly}
 use Rattle.qp_model.specs.ObjectShape.{HasShape, CutGroups, StepGroup, BrokenStep, asserts_last, Ends, BreaksStep}
 use Rattle.qp_model.specs.Shapes.{Fits, FitsAny}
 use Rattle.qp_model.specs.Groups.{Actions, Groups}
-use Rattle.qp_model.specs.Sources.{AllDone, none_twice}
-use Rattle.qp_model.specs.KernelLane.{lane_read}
-use Rattle.qp_model.specs.Points.{lane_pieces}
-use Rattle.qp_model.specs.Places.{in_order}
-use Rattle.qp_model.specs.OneOrder.{stims_placed, looks_right, order, last_is_free}
-use Rattle.qp_model.specs.Ends.{ends_last, spills_cut}
-use Rattle.qp_model.specs.End.{spents_hold, spills_state, has_room, took_count, lines_empty, blocks_rest}
-use Rattle.qp_model.specs.Home.{home_records, own_items}
-use Rattle.qp_model.specs.HomeLane.{is_home_lane}
-use Rattle.qp_model.specs.Lawful.{Lawful, setting_of, CourseHolds, SourceLanes, SpillsStand, OrderHolds, deferral_holds, EndHolds}
-use Rattle.qp_model.specs.WordLaw.{words_hold}
-use Rattle.qp_model.proofs.WordTestLemmas.{words-from}
-use Rattle.qp_rows.specs.Systems.{flooded, go_once, object}
+use Rattle.qp_rows.specs.Systems.{flooded, object}
 
 unfoldable pub low_body_1 : List Piece
 low_body_1 = Tell (plain (item.Run 1 1)) ∷ Tell (plain (item.Post 4 1 0 0 (entry 0 6 0))) ∷ Point ∷ Tell (raised 3 0) ∷ Tell (plain (item.Post 3 1 0 0 (entry 0 6 0))) ∷ Point ∷ Tell (plain (item.Post 4 2 0 1 (entry 0 6 0))) ∷ Point ∷ Tell (plain (item.Say 1)) ∷ Point ∷ Tell (plain (item.Unlock 0)) ∷ Point ∷ Tell (plain (item.Say 2)) ∷ Point ∷ Tell (plain item.Done) ∷ []

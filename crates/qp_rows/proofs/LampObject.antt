@@ -1,28 +1,15 @@
 -- The lamp that is switched on once: its records with their scheduling points, which follow its course and have their shape.
-use Rattle.std.proofs.Common.{refl, ◌++◌, inr, true, false, List, [], ◌∷◌}
+use Rattle.std.proofs.Common.{refl, ◌++◌, inr, false, List, [], ◌∷◌}
 use Rattle.qp_model.specs.declared.bodies.Body.TheVariants as item
 use Rattle.qp_model.specs.Record.{entry}
 use Rattle.qp_model.specs.Told.{OfEvent, plain, taken}
-use Rattle.qp_model.specs.Calls.{Granted}
 use Rattle.qp_model.specs.Pieces.{Piece, Tell, tell}
 use Rattle.qp_model.specs.Course.{FollowsThrough, Whole}
 use Rattle.qp_model.specs.Groups.{IsMove}
 use Rattle.qp_model.specs.ObjectShape.{HasShape, CutGroups, StepGroup, BrokenStep, asserts_last, Dispatches, Ends}
 use Rattle.qp_model.specs.Shapes.{Fits, FitsAny}
 use Rattle.qp_model.specs.Groups.{Actions, Groups}
-use Rattle.qp_model.specs.Sources.{AllDone, none_twice}
-use Rattle.qp_model.specs.KernelLane.{lane_read}
-use Rattle.qp_model.specs.Points.{lane_pieces}
-use Rattle.qp_model.specs.Places.{in_order}
-use Rattle.qp_model.specs.OneOrder.{stims_placed, looks_right, order, last_is_free}
-use Rattle.qp_model.specs.Ends.{ends_last, spills_cut}
-use Rattle.qp_model.specs.End.{spents_hold, spills_state, has_room, took_count, lines_empty, blocks_rest}
-use Rattle.qp_model.specs.Home.{home_records, own_items}
-use Rattle.qp_model.specs.HomeLane.{is_home_lane}
-use Rattle.qp_model.specs.Lawful.{Lawful, setting_of, CourseHolds, SourceLanes, SpillsStand, OrderHolds, deferral_holds, EndHolds}
-use Rattle.qp_model.specs.WordLaw.{words_hold}
-use Rattle.qp_model.proofs.WordTestLemmas.{words-from}
-use Rattle.qp_rows.specs.Systems.{go_once, lamp, object}
+use Rattle.qp_rows.specs.Systems.{lamp, object}
 
 unfoldable pub lamp_1_body_1 : List Piece
 lamp_1_body_1 = Tell (plain (item.Run 1 1)) ∷ Tell (plain (item.Exit 1)) ∷ Tell (plain (item.Enter 2)) ∷ Tell (plain item.Done) ∷ []

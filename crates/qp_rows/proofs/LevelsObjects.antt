@@ -1,6 +1,6 @@
 -- The three objects of `levels`: their records with their scheduling points, which follow their courses and have their shape, whatever the
 -- threshold t of the lowest, the takes m that its second post finds, which leave room, and the posts f that the highest finds at its first take.
-use Rattle.std.proofs.Common.{ℕ, ◌-◌, nat_lt, IsTrue, refl, ◌++◌, inr, true, false, List, [], ◌∷◌, None}
+use Rattle.std.proofs.Common.{ℕ, ◌-◌, nat_lt, IsTrue, refl, ◌++◌, inr, false, List, [], ◌∷◌, None}
 use Rattle.qp_model.specs.declared.bodies.Body.TheVariants as item
 use Rattle.qp_model.specs.Record.{entry}
 use Rattle.qp_model.specs.Told.{OfEvent, plain, taken, raised}
@@ -12,19 +12,7 @@ use Rattle.qp_model.specs.Groups.{IsMove, IsAct, IsLocked, SaysValue, MakesCall}
 use Rattle.qp_model.specs.ObjectShape.{HasShape, CutGroups, StepGroup, BrokenStep, asserts_last, Dispatches, Ends}
 use Rattle.qp_model.specs.Shapes.{Fits, FitsAny}
 use Rattle.qp_model.specs.Groups.{Actions, Groups}
-use Rattle.qp_model.specs.Sources.{AllDone, none_twice}
-use Rattle.qp_model.specs.KernelLane.{lane_read}
-use Rattle.qp_model.specs.Points.{lane_pieces}
-use Rattle.qp_model.specs.Places.{in_order}
-use Rattle.qp_model.specs.OneOrder.{stims_placed, looks_right, order, last_is_free}
-use Rattle.qp_model.specs.Ends.{ends_last, spills_cut}
-use Rattle.qp_model.specs.End.{spents_hold, spills_state, has_room, took_count, lines_empty, blocks_rest}
-use Rattle.qp_model.specs.Home.{home_records, own_items}
-use Rattle.qp_model.specs.HomeLane.{is_home_lane}
-use Rattle.qp_model.specs.Lawful.{Lawful, setting_of, CourseHolds, SourceLanes, SpillsStand, OrderHolds, deferral_holds, EndHolds}
-use Rattle.qp_model.specs.WordLaw.{words_hold}
-use Rattle.qp_model.proofs.WordTestLemmas.{words-from}
-use Rattle.qp_rows.specs.Systems.{go_once, levels, object}
+use Rattle.qp_rows.specs.Systems.{levels, object}
 
 unfoldable pub low_body_1 : (m : ℕ) → List Piece
 low_body_1 m = Tell (plain (item.Run 1 1)) ∷ Tell (plain (item.Post 4 1 0 0 (entry 0 6 0))) ∷ Point ∷ Tell (raised 3 0) ∷ Tell (plain (item.Post 3 1 0 0 (entry 0 6 0))) ∷ Point ∷ Tell (plain (item.Post 4 2 0 m (entry 0 6 0))) ∷ Point ∷ Tell (plain (item.Say 1)) ∷ Point ∷ Tell (plain (item.Unlock 0)) ∷ Point ∷ Tell (plain (item.Say 2)) ∷ Point ∷ Tell (plain item.Done) ∷ []

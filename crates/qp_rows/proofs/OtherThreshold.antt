@@ -1,23 +1,12 @@
 -- Looks by the threshold of another system.
-use Rattle.std.proofs.Common.{◌≡◌, refl, ◌++◌, inr, true, false, List, [], ◌∷◌, None}
-use Rattle.qp_model.specs.declared.bodies.Body.TheVariants as item
-use Rattle.qp_model.specs.Record.{entry}
-use Rattle.qp_model.specs.Told.{OfEvent, plain, taken, raised}
-use Rattle.qp_model.specs.Calls as call
-use Rattle.qp_model.specs.Calls.{Granted, Refused, AtTimer, AtQueue, AtFront}
-use Rattle.qp_model.specs.Pieces.{Piece, Tell, Point, tell}
-use Rattle.qp_model.specs.Course.{FollowsThrough, Whole}
-use Rattle.qp_model.specs.Groups.{IsMove, IsAct, IsLocked, SaysValue, MakesCall}
-use Rattle.qp_model.specs.ObjectShape.{HasShape, CutGroups, StepGroup, BrokenStep, asserts_last, Dispatches, Ends}
-use Rattle.qp_model.specs.Shapes.{Fits, FitsAny}
-use Rattle.qp_model.specs.Groups.{Actions, Groups}
+use Rattle.std.proofs.Common.{◌≡◌, refl, true, false}
 use Rattle.qp_model.specs.KernelLane.{lane_read}
 use Rattle.qp_model.specs.Home.{home_records, own_items}
 use Rattle.qp_model.specs.Ends.{spills_cut}
 use Rattle.qp_model.specs.Lawful.{setting_of, CourseHolds, deferral_holds}
 use Rattle.qp_model.specs.WordLaw.{words_hold}
 use Rattle.qp_model.proofs.WordTestLemmas.{words-from}
-use Rattle.qp_rows.specs.Systems.{levels, object}
+use Rattle.qp_rows.specs.Systems.{levels}
 use Rattle.qp_rows.specs.Journals.{held_by_threshold, held_by_threshold_lanes}
 use Rattle.std.specs.List.{AllByRecursion}
 use Rattle.qp_model.specs.History.{all_items, lane_items}

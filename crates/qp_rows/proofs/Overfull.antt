@@ -7,8 +7,8 @@ use Rattle.qp_model.specs.Calls as call
 use Rattle.qp_model.specs.Calls.{Granted, Refused, AtTimer, AtQueue, AtFront}
 use Rattle.qp_model.specs.Pieces.{Piece, Tell, Point, tell}
 use Rattle.qp_model.specs.Course.{Follows, Stopped}
-use Rattle.qp_model.specs.Groups.{IsMove, IsAct, MakesCall, Asserts, Stops, Plainly}
-use Rattle.qp_model.specs.ObjectShape.{HasShape, CutGroups, StepGroup, BrokenStep, asserts_last, Ends, BreaksStep}
+use Rattle.qp_model.specs.Groups.{IsMove, IsAct, MakesCall, Asserts, Plainly}
+use Rattle.qp_model.specs.ObjectShape.{HasShape, CutGroups, StepGroup, BrokenStep, asserts_last, BreaksStep}
 use Rattle.qp_model.specs.Shapes.{Fits, FitsAny}
 use Rattle.qp_model.specs.Groups.{Actions, Groups}
 use Rattle.qp_model.specs.Sources.{AllDone, none_twice}

@@ -1,15 +1,9 @@
 -- A lamp is switched on beside the kernel.
-use Rattle.std.proofs.Common.{refl, ◌++◌, inr, false, List, [], ◌∷◌}
+use Rattle.std.proofs.Common.{refl, inr, [], ◌∷◌}
 use Rattle.qp_model.specs.declared.bodies.Body.TheVariants as item
 use Rattle.qp_model.specs.Record.{entry}
-use Rattle.qp_model.specs.Told.{OfEvent, plain, taken}
+use Rattle.qp_model.specs.Told.{plain}
 use Rattle.qp_model.specs.Calls.{Granted}
-use Rattle.qp_model.specs.Pieces.{Piece, Tell, tell}
-use Rattle.qp_model.specs.Course.{FollowsThrough, Whole}
-use Rattle.qp_model.specs.Groups.{IsMove}
-use Rattle.qp_model.specs.ObjectShape.{HasShape, CutGroups, StepGroup, BrokenStep, asserts_last, Dispatches, Ends}
-use Rattle.qp_model.specs.Shapes.{Fits, FitsAny}
-use Rattle.qp_model.specs.Groups.{Actions, Groups}
 use Rattle.qp_model.specs.Sources.{AllDone, none_twice}
 use Rattle.qp_model.specs.KernelLane.{lane_read}
 use Rattle.qp_model.specs.Points.{lane_pieces}
@@ -22,7 +16,7 @@ use Rattle.qp_model.specs.HomeLane.{is_home_lane}
 use Rattle.qp_model.specs.Lawful.{Lawful, setting_of, CourseHolds, SourceLanes, SpillsStand, OrderHolds, deferral_holds, EndHolds}
 use Rattle.qp_model.specs.WordLaw.{words_hold}
 use Rattle.qp_model.proofs.WordTestLemmas.{words-from}
-use Rattle.qp_rows.specs.Systems.{go_once, lamp, object}
+use Rattle.qp_rows.specs.Systems.{go_once, lamp}
 use Rattle.qp_rows.specs.Journals.{switched_beside_kernel, switched_beside_kernel_lanes}
 use Rattle.qp_rows.proofs.LampObject.{lamp_1_body_1, lamp_1_step_1, lamp_1_start, lamp_1_pieces, lamp_1_follows, lamp_1_shape}
 

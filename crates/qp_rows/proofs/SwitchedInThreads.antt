@@ -1,11 +1,10 @@
 -- A lamp is switched on by its own thread.
-use Rattle.std.proofs.Common.{refl, ◌++◌, inl, inr, lit<, true, List, [], ◌∷◌}
+use Rattle.std.proofs.Common.{refl, inl, inr, lit<, true, [], ◌∷◌}
 use Rattle.qp_model.specs.declared.bodies.Body.TheVariants as item
 use Rattle.qp_model.specs.Record.{entry}
 use Rattle.qp_model.specs.Told.{OfEvent, plain, taken}
 use Rattle.qp_model.specs.Calls.{Granted}
-use Rattle.qp_model.specs.Pieces.{Piece, Tell, tell}
-use Rattle.qp_model.specs.Course.{FollowsThrough, Whole}
+use Rattle.qp_model.specs.Course.{Whole}
 use Rattle.qp_model.specs.Groups.{IsMove}
 use Rattle.qp_model.specs.ObjectShape.{HasShape, CutGroups, StepGroup, BrokenStep, asserts_last, Dispatches, FindsEmpty, Ends}
 use Rattle.qp_model.specs.Shapes.{Fits, FitsAny}
@@ -22,7 +21,7 @@ use Rattle.qp_model.specs.HomeLane.{is_home_lane}
 use Rattle.qp_model.specs.Lawful.{Lawful, setting_of, CourseHolds, SourceLanes, SpillsStand, OrderHolds, deferral_holds, EndHolds}
 use Rattle.qp_model.specs.WordLaw.{words_hold}
 use Rattle.qp_model.proofs.WordTestLemmas.{words-from}
-use Rattle.qp_rows.specs.Systems.{go_and_settle, lamp, object}
+use Rattle.qp_rows.specs.Systems.{go_and_settle, lamp}
 use Rattle.qp_rows.specs.Journals.{switched_in_threads, switched_in_threads_lanes}
 use Rattle.qp_rows.proofs.LampObject.{lamp_1_body_1, lamp_1_step_1, lamp_1_start, lamp_1_pieces, lamp_1_follows}
 

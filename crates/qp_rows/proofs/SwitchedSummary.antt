@@ -1,11 +1,11 @@
 -- The summaries of journals.
-use Rattle.std.proofs.Common.{refl, ◌++◌, true, List, [], ◌∷◌, codes}
+use Rattle.std.proofs.Common.{refl, ◌++◌, List, [], ◌∷◌}
 use Rattle.qp_model.specs.declared.bodies.Body.TheVariants as item
 use Rattle.qp_model.specs.Record.{entry}
 use Rattle.qp_model.specs.Told.{plain, taken}
 use Rattle.qp_model.specs.Pieces.{Piece, Tell, tell}
 use Rattle.qp_model.specs.OutputSummary.{IsSummary, CourseLeaves}
-use Rattle.qp_rows.specs.Summaries.{named_lamp, named_lamp_object, switched_summary}
+use Rattle.qp_rows.specs.Summaries.{named_lamp, switched_summary}
 use Rattle.qp_rows.specs.Journals.{switched}
 
 start : List Piece

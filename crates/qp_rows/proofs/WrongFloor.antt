@@ -1,21 +1,12 @@
 -- A look with a floor that doesn't stand there.
-use Rattle.std.proofs.Common.{◌≡◌, refl, ◌++◌, inr, true, false, List, [], ◌∷◌}
-use Rattle.qp_model.specs.declared.bodies.Body.TheVariants as item
-use Rattle.qp_model.specs.Record.{entry}
-use Rattle.qp_model.specs.Told.{OfEvent, plain, taken}
-use Rattle.qp_model.specs.Pieces.{Piece, Tell, tell}
-use Rattle.qp_model.specs.Course.{FollowsThrough, Whole}
-use Rattle.qp_model.specs.Groups.{IsMove}
-use Rattle.qp_model.specs.ObjectShape.{HasShape, CutGroups, StepGroup, BrokenStep, asserts_last, Dispatches, Ends}
-use Rattle.qp_model.specs.Shapes.{Fits, FitsAny}
-use Rattle.qp_model.specs.Groups.{Actions, Groups}
+use Rattle.std.proofs.Common.{◌≡◌, refl, true, false}
 use Rattle.qp_model.specs.KernelLane.{lane_read}
 use Rattle.qp_model.specs.Home.{home_records, own_items}
 use Rattle.qp_model.specs.Ends.{spills_cut}
 use Rattle.qp_model.specs.Lawful.{setting_of, CourseHolds, deferral_holds}
 use Rattle.qp_model.specs.WordLaw.{words_hold}
 use Rattle.qp_model.proofs.WordTestLemmas.{words-from}
-use Rattle.qp_rows.specs.Systems.{lamp, object}
+use Rattle.qp_rows.specs.Systems.{lamp}
 use Rattle.qp_rows.specs.Journals.{wrong_floor, wrong_floor_lanes}
 use Rattle.std.specs.List.{AllByRecursion}
 use Rattle.qp_model.specs.History.{all_items, lane_items}
