@@ -1,21 +1,18 @@
 -- Pieces that end in an assertion have its record.
 use Rattle.std.proofs.Common.{◌≡◌, ℕ, Bool, true, false, List, [], ◌∷◌, ◌++◌, sym, ◌∙◌, ap, subst, Option, Some, None}
-use Rattle.std.specs.Prelude.{◌⊎◌}
 use Rattle.std.proofs.Common.{inl, inr}
 use Rattle.std.specs.Bool.{MatchBool}
 use Rattle.qp_chart.specs.Task.{Task, Do, Raise, Restore, Begin, Run, Unhandled, Exit, Enter, Init, Done}
 use Rattle.qp_model.specs.declared.systems.System.{System}
 use Rattle.qp_model.specs.declared.bodies.Body.TheVariants as item
-use Rattle.qp_model.specs.Told.{Told, plain, raised}
-use Rattle.qp_model.specs.Calls.{Call, Answer, Granted, AtQueue, Deed, Sets, Says, Calls, deed_of, ok_after, is_assertion}
-use Rattle.qp_model.specs.Sites.{ring_of}
+use Rattle.qp_model.specs.Told.{Told, plain}
+use Rattle.qp_model.specs.Calls.{Call, Deed, Sets, Says, Calls, deed_of, ok_after, is_assertion}
 use Rattle.qp_model.specs.Shapes.{Posts, PostsOne}
 use Rattle.qp_model.specs.Pieces.{Piece, Tell, Point, bare, tell, pieces_of}
 use Rattle.qp_model.specs.Acts.{Config, Actor, Moment, Later, Notes, DoesCall, DoesDeed, DoesTask, Does, names_of}
 use Rattle.qp_model.specs.Step.{Publishing, GoesOnPublishing, DoesLeft, tasks_left, publishing_left}
 use Rattle.qp_model.proofs.FitsLemmas.{Usual, Ending, Answers, fits-usual}
 use Rattle.qp_model.proofs.GroupLemmas.{bare-append, bare-tell, bare-pieces_of}
-use Rattle.qp_calls.specs.declared.tokens.Entry.{Entry}
 use Rattle.qp_dispatch.specs.declared.part.Under.{Under}
 use Rattle.qp_dispatch.specs.Parts.{left_by, publishing_of}
 use Rattle.qp_model.specs.Parts.{members}
