@@ -118,7 +118,10 @@ module _ (size : ℕ) (test : ℕ → Item → Bool) (counts : List ℕ) where
   told-of items are k (Some n) at =
       let its = are.each k n at.0 in
       let less = at.1 in
-      record { is = omega (arith, its, less); less = less }
+      let lt = get-inside counts k n at.0 in
+      let many = are.many in
+      let inside : k < size = omega (arith, lt, many) in
+      (grind (arith, nat_tests, inside), record { is = omega (arith, its, less); less = less })
 
 -- What bodies say alone.
 

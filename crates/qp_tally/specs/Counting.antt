@@ -36,10 +36,10 @@ pub record IsCount (test : Item → Bool) (items : List Item) (n : ℕ) : Type 0
   pub is : n ≡ count_by test items
   pub less : n < most
 
--- the count of items that pass the test; none where it isn't counted, or is the highest or more
+-- the count of items that pass the test, exactly where it is counted and below the highest
 abbrev pub IsTold : Bool → (Item → Bool) → List Item → Option ℕ → Type 0
 IsTold counted test items None = counted ≡ true → most ≤ count_by test items
-IsTold counted test items (Some n) = IsCount test items n
+IsTold counted test items (Some n) = (counted ≡ true) × IsCount test items n
 
 -- the object takes an event, and is done
 abbrev pub took_of : ℕ → Item → Bool

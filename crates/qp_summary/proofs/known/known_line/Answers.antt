@@ -9,7 +9,7 @@ use Rattle.qp_summary.proofs.known.known_line.Goals as goal
 
 pub overflow_add-taken : goal.overflow_add-taken
 overflow_add-taken c =
-    let less = (c.in-Some-taken.ensures (lane_items (lane_at c.args.j.now 0)) c.requires.turns).less in
+    let less = (c.in-Some-taken.ensures (lane_items (lane_at c.args.j.now 0)) c.requires.turns).1.less in
     record { fits = omega (arith, less) }
 
 pub returns-in_ok-line_of-in-Some-2 : goal.returns-in_ok-line_of-in-Some-2
@@ -20,8 +20,8 @@ returns-in_ok-line_of-in-Some-2 c =
     let chart = c.in-Some.chart.now in
     let items = lane_items (lane_at j 0) in
     let its = by_object (facts_of sys j) j d.priority in
-    let took = (c.in-Some-taken.ensures items c.requires.turns).is in
-    let dones = (c.in-Some-done.ensures items c.requires.turns).is in
+    let took = (c.in-Some-taken.ensures items c.requires.turns).1.is in
+    let dones = (c.in-Some-done.ensures items c.requires.turns).1.is in
     let own = sym c.in-Some.ensures in
     let rest = subst (LeavesRest sys d chart its) (sym c.rest_at.ensures) (found-rest sys d chart its c.args.rests.now own c.requires.rests) in
     let state = (rw c.in-Some-2.is at c.in_ok-text-in-Some-done.ensures) sys d its own (its-done sys j c.requires.kernel d.priority c.in-Some-taken.taken c.in-Some-done.done took dones) rest in

@@ -10,6 +10,6 @@ returns-in-Some-back c =
     let p = c.args.p in
     IfOk-weaker c.line_of.result _ _
     (λ line told size items are. told
-    ∙ ap (λ n. codes "pool " ++ decimal p ++ codes " given " ++ decimal n ++ codes " back " ++ decimal c.in-Some-back.back ++ codes "\n") (c.in-Some.ensures size items are).is
-    ∙ ap (λ n. codes "pool " ++ decimal p ++ codes " given " ++ decimal (count_by (λ i. is_new_of p i.body) items) ++ codes " back " ++ decimal n ++ codes "\n") (c.in-Some-back.ensures size items are).is)
+    ∙ ap (λ n. codes "pool " ++ decimal p ++ codes " given " ++ decimal n ++ codes " back " ++ decimal c.in-Some-back.back ++ codes "\n") (c.in-Some.ensures size items are).1.is
+    ∙ ap (λ n. codes "pool " ++ decimal p ++ codes " given " ++ decimal (count_by (λ i. is_new_of p i.body) items) ++ codes " back " ++ decimal n ++ codes "\n") (c.in-Some-back.ensures size items are).1.is)
     c.line_of.ensures
