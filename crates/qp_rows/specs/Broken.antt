@@ -1,10 +1,9 @@
 -- Journals that are lawful up to one definition, and break that one.
-use Rattle.std.specs.Prelude.{◌≡◌, ℕ, suc, ◌+◌, nat_lt, Bool, true, false, ◌&&◌, List, length, IsTrue}
+use Rattle.std.specs.Prelude.{◌≡◌, ℕ, suc, ◌+◌, nat_lt, Bool, true, ◌&&◌, List, length, IsTrue}
 use Rattle.std.specs.List.{list_all, AllByRecursion}
 use Rattle.qp_model.specs.declared.record.Rec.{Rec}
 use Rattle.qp_model.specs.declared.stimulus.Stim.{Stim}
 use Rattle.qp_model.specs.declared.words.Word.TheVariants as word
-use Rattle.qp_model.specs.declared.systems.ObjectDef.{ObjectDef}
 use Rattle.qp_model.specs.declared.systems.System.{System}
 use Rattle.qp_model.specs.declared.journals.Journal.{Journal}
 use Rattle.qp_model.specs.Lists.{all_below}
@@ -15,7 +14,7 @@ use Rattle.qp_model.specs.References.{references}
 use Rattle.qp_model.specs.Lives.{HasLives}
 use Rattle.qp_model.specs.Sites.{blocks_of}
 use Rattle.qp_model.specs.WordLaw.{Words}
-use Rattle.qp_model.specs.Lawful.{Lawful, ObjectHolds, ShapesHold, KernelHolds}
+use Rattle.qp_model.specs.Lawful.{Lawful, ObjectHolds, KernelHolds}
 
 -- a test of each pool, of each block, and of each other word
 abbrev pub each_pool : System → (ℕ → Bool) → Bool
@@ -47,25 +46,12 @@ LivesOf lanes p b = HasLives b (hist (word.Pool p) (all_items lanes)) (hist (wor
 abbrev pub IsUnlawful : System → Journal → Type 0
 IsUnlawful sys j = (stimuli : List (List Stim)) → Lawful sys stimuli j → ⊥
 
--- the numbers of the block's pool are drawn once each, and those of the block aren't
-pub record BreaksNumbers (sys : System) (j : Journal) (p b : ℕ) : Type 0 where
-  pub pool : is_numbered (word.Pool p) (all_items j.lanes) ≡ true
-  pub broken : is_numbered (word.Block p b) (all_items j.lanes) ≡ false
-  pub unlawful : IsUnlawful sys j
-
 -- numbers, free blocks and references are right, and so are the lives of the blocks before this one, but not its own
 pub record BreaksLives (sys : System) (j : Journal) (p b : ℕ) : Type 0 where
   pub numbers : numbers_hold sys j.lanes ≡ true
   pub blocks : blocks_allowed sys j.lanes ≡ true
   pub before : (c : ℕ) → IsTrue (nat_lt c b) → LivesOf j.lanes p c
   pub broken : LivesOf j.lanes p b → ⊥
-  pub unlawful : IsUnlawful sys j
-
--- the words are lawful, and so are the shapes of the objects before this one, but not its own
-pub record BreaksShapes (sys : System) (j : Journal) (others : List ObjectDef) (d : ObjectDef) : Type 0 where
-  pub words : Words sys j.lanes
-  pub before : AllByRecursion (ShapesHold sys j) others
-  pub broken : ShapesHold sys j d → ⊥
   pub unlawful : IsUnlawful sys j
 
 -- the words and the objects are lawful, and the kernel lane isn't

@@ -11,9 +11,6 @@ begin o = line 4 o []
 abbrev pub took : ℕ → ℕ → ℕ → ℕ → ℕ → ℕ → ℕ → Rec
 took o a b c d e f = line 5 o (a ∷ b ∷ c ∷ d ∷ e ∷ f ∷ [])
 
-abbrev pub nil : ℕ → ℕ → ℕ → ℕ → Rec
-nil o a b c = line 6 o (a ∷ b ∷ c ∷ [])
-
 abbrev pub seen : ℕ → ℕ → ℕ → ℕ → ℕ → Rec
 seen o a b c d = line 7 o (a ∷ b ∷ c ∷ d ∷ [])
 
@@ -50,14 +47,8 @@ back o a b c d = line 19 o (a ∷ b ∷ c ∷ d ∷ [])
 abbrev pub post : ℕ → ℕ → ℕ → ℕ → ℕ → ℕ → ℕ → ℕ → Rec
 post o a b c d e f g = line 20 o (a ∷ b ∷ c ∷ d ∷ e ∷ f ∷ g ∷ [])
 
-abbrev pub lifo : ℕ → ℕ → ℕ → ℕ → ℕ → ℕ → ℕ → Rec
-lifo o a b c d e f = line 21 o (a ∷ b ∷ c ∷ d ∷ e ∷ f ∷ [])
-
 abbrev pub full : ℕ → ℕ → ℕ → ℕ → ℕ → ℕ → Rec
 full o a b c d e = line 22 o (a ∷ b ∷ c ∷ d ∷ e ∷ [])
-
-abbrev pub publish : ℕ → ℕ → ℕ → ℕ → Rec
-publish o a b c = line 23 o (a ∷ b ∷ c ∷ [])
 
 abbrev pub lock : ℕ → ℕ → Rec
 lock o a = line 24 o (a ∷ [])
@@ -68,32 +59,11 @@ unlock o a = line 25 o (a ∷ [])
 abbrev pub defer : ℕ → ℕ → ℕ → ℕ → Rec
 defer o a b c = line 26 o (a ∷ b ∷ c ∷ [])
 
-abbrev pub recall : ℕ → ℕ → ℕ → ℕ → Rec
-recall o a b c = line 28 o (a ∷ b ∷ c ∷ [])
-
-abbrev pub sub : ℕ → ℕ → ℕ → Rec
-sub o a b = line 31 o (a ∷ b ∷ [])
-
-abbrev pub arm : ℕ → ℕ → ℕ → ℕ → ℕ → Rec
-arm o a b c d = line 34 o (a ∷ b ∷ c ∷ d ∷ [])
-
-abbrev pub idle : ℕ → ℕ → ℕ → Rec
-idle o a b = line 37 o (a ∷ b ∷ [])
-
-abbrev pub tick : ℕ → ℕ → ℕ → ℕ → Rec
-tick o a b c = line 38 o (a ∷ b ∷ c ∷ [])
-
-abbrev pub fire : ℕ → ℕ → ℕ → ℕ → Rec
-fire o a b c = line 39 o (a ∷ b ∷ c ∷ [])
-
 abbrev pub stim : ℕ → ℕ → ℕ → Rec
 stim o a b = line 40 o (a ∷ b ∷ [])
 
 abbrev pub settle : ℕ → Rec
 settle o = line 41 o []
-
-abbrev pub assert : ℕ → List ℕ → Rec
-assert o nums = line 42 o nums
 
 abbrev pub budget_spent : ℕ → Rec
 budget_spent o = line 43 o []

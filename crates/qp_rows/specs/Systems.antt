@@ -11,7 +11,7 @@ use Rattle.qp_chart.specs.declared.actions.Act.TheVariants as act
 use Rattle.qp_chart.specs.declared.actions.Plain.{Plain}
 use Rattle.qp_chart.specs.declared.actions.Plain.TheVariants as action
 use Rattle.qp_chart.specs.declared.actions.Target.TheVariants as target
-use Rattle.qp_chart.specs.declared.expression.Bound.{Bound, Num, Ok, Par}
+use Rattle.qp_chart.specs.declared.expression.Bound.{Bound, Num, Ok}
 use Rattle.qp_model.specs.declared.systems.SignalDef.{SignalDef}
 use Rattle.qp_model.specs.declared.systems.ObjectDef.{ObjectDef}
 use Rattle.qp_model.specs.declared.systems.TimerDef.{TimerDef}
@@ -74,44 +74,12 @@ one ring chart timers = record {
   timers = timers;
 }
 
--- a contains b contains c; c refuses GO by its guard, and a handles it
-abbrev pub nested : System
-nested = one 1
-    (chart 3 [] []
-    (state None (row 4 None (act.Plain (action.Say (number 7)) ∷ []) None ∷ [])
-    ∷ state (Some 1) []
-    ∷ state (Some 2) (row 4 (Some (number 0)) (act.Plain (action.Say (number 1)) ∷ []) None ∷ [])
-    ∷ []))
-    []
-
--- it has two rows for GO, both of them open
-abbrev pub twofold : System
-twofold = one 1
-    (one_state [] []
-    (row 4 (Some (number 1)) (act.Plain (action.Say (number 1)) ∷ []) None ∷ row 4 None (act.Plain (action.Say (number 2)) ∷ []) None ∷ []))
-    []
-
 abbrev pub post_with_margin : ℕ → Act
 post_with_margin v = act.Plain (action.Post target.Me 5 (number v ∷ []) (Some 1) None)
 
 -- on GO it posts itself two events, each only where an entry more is free
 abbrev pub careful : System
 careful = one 1 (one_state [] [] (row 4 None (post_with_margin 5 ∷ post_with_margin 6 ∷ act.Plain (action.Say Ok) ∷ []) None ∷ [])) []
-
--- on GO it disarms the first of two timers, and arms the second
-abbrev pub timed : System
-timed = one 3
-    (one_state (act.Plain (action.Arm 1 (number 2) (number 0)) ∷ act.Plain (action.Arm 2 (number 2) (number 2)) ∷ [])
-    (record { name = unnamed; signal = 7; rate = 0 } ∷ record { name = unnamed; signal = 8; rate = 0 } ∷ [])
-    (row 4 None (act.Plain (action.Disarm 1) ∷ act.Plain (action.Say Ok) ∷ act.Plain (action.Arm 2 (number 1) (number 0)) ∷ []) None ∷ []))
-    (record { object = 1; sig = 7; rate = 0 } ∷ record { object = 1; sig = 8; rate = 0 } ∷ [])
-
--- on GO it publishes N, to which it subscribes; on N it says the parameter
-abbrev pub publisher : System
-publisher = one 1
-    (one_state (act.Plain (action.Subscribe 5) ∷ []) []
-    (row 4 None (act.Plain (action.Publish 5 (number 4 ∷ []) None) ∷ []) None ∷ row 5 None (act.Plain (action.Say (Par 1)) ∷ []) None ∷ []))
-    []
 
 abbrev pub post_x : ℕ → Plain
 post_x o = action.Post (target.Object o) 6 [] None None
@@ -135,13 +103,6 @@ three_levels threshold top = record {
 abbrev pub levels : ℕ → System
 levels threshold = three_levels threshold (one_state [] [] [])
 
--- on X the highest posts itself X three times
-abbrev pub flooded : System
-flooded =
-    three_levels 1
-    (one_state [] [] (row 6 None
-    (act.Plain (action.Post target.Me 6 [] None None) ∷ act.Plain (action.Post target.Me 6 [] None None) ∷ act.Plain (action.Post target.Me 6 [] None None) ∷ []) None ∷ []))
-
 -- a static event for object 1
 abbrev pub send : ℕ → Stim
 send sig = stim.Post 1 (record { sig = sig; pars = record { items = [] } }) None None
@@ -153,47 +114,5 @@ nothing = []
 abbrev pub go_once : List (List Stim)
 go_once = (send 4 ∷ []) ∷ []
 
-abbrev pub go_and_x : List (List Stim)
-go_and_x = (send 4 ∷ send 6 ∷ []) ∷ []
-
-abbrev pub settle_once : List (List Stim)
-settle_once = (stim.Settle ∷ []) ∷ []
-
-abbrev pub tick_twice : List (List Stim)
-tick_twice = (stim.Tick 0 ∷ stim.Tick 0 ∷ stim.Settle ∷ send 4 ∷ []) ∷ []
-
 abbrev pub go_twice : List (List Stim)
 go_twice = (send 4 ∷ send 4 ∷ []) ∷ []
-
-abbrev pub go_and_settle : List (List Stim)
-go_and_settle = (send 4 ∷ stim.Settle ∷ []) ∷ []
-
--- N with the parameter 1 for object 1
-abbrev pub send_n : Stim
-send_n = stim.Post 1 (record { sig = 5; pars = record { items = 1 ∷ [] } }) None None
-
-abbrev pub n_once : List (List Stim)
-n_once = (send_n ∷ []) ∷ []
-
-abbrev pub n_settle_go : List (List Stim)
-n_settle_go = (send_n ∷ stim.Settle ∷ send 4 ∷ []) ∷ []
-
--- it defers N; on GO it posts itself X and recalls
-abbrev pub deferring : ℕ → System
-deferring ring = record {
-  pools = record { size = 1; blocks = 2 } ∷ [];
-  signals = five_signals;
-  charts =
-      one_state [] []
-      (row 5 None (act.Plain action.Defer ∷ []) None ∷ row 4 None (act.Plain (action.Post target.Me 6 [] None None) ∷ act.Plain action.Recall ∷ []) None ∷ [])
-      ∷ [];
-  objects = record { name = unnamed; chart = 1; priority = 1; threshold = 1; ring = ring; defer = 1; vars = [] } ∷ [];
-  timers = [];
-}
-
--- on GO it posts itself N last-in; on N it says the parameter
-abbrev pub eager : System
-eager = one 1
-    (one_state [] []
-    (row 4 None (act.Plain (action.Lifo 5 (number 3 ∷ []) None) ∷ []) None ∷ row 5 None (act.Plain (action.Say (Par 1)) ∷ []) None ∷ []))
-    []
