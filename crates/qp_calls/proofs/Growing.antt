@@ -52,6 +52,7 @@ known-later ts a b g e h =
 -- one after another
 pub gains-then : (g h : List ToldItem) (a b c : LaneView) → Gains g a b → Gains h b c → Gains (g ++ h) a c
 gains-then g h a b c first second = record {
+  world = second.world ∙ first.world;
   sys = second.sys ∙ first.sys;
   told = second.told ∙ rw first.told (append_assoc a.told g h);
   by = second.by ∙ first.by;
@@ -79,6 +80,7 @@ gains-then g h a b c first second = record {
 pub gains-none : (a : LaneView) → Gains [] a a
 unfolding hands_after mark_after own_after
 gains-none a = record {
+  world = refl;
   sys = refl;
   told = sym (append-nil a.told);
   by = refl;
@@ -104,6 +106,7 @@ unfolding is_known
 gains-spared ts a b c n same g =
     let h : Gains ts (record a { spare = n }) c = subst (λ v. Gains ts v c) same g in
     record {
+      world = h.world;
       sys = h.sys;
       told = h.told;
       by = h.by;

@@ -1,7 +1,7 @@
 -- Notes: a lane that ends, and what it tells.
-use Rattle.std.proofs.Common.{◌≡◌, ◌+◌, List, [], ◌∷◌, ◌++◌, refl, ℕ, ◌-◌, ap, length, subst, ◌<◌, nat_le, true, false, slice_get, ◌∙◌, Option, Some, None}
+use Rattle.std.proofs.Common.{◌≡◌, ◌+◌, List, [], ◌∷◌, ◌++◌, refl, ℕ, ◌-◌, ap, length, subst, ◌<◌, nat_le, true, false, slice_get, ◌∙◌, Option, Some, None, arith, inr}
 use Rattle.std.proofs.lemmas.Bool.{le-leb}
-use Rattle.qp_model.specs.Told.{ToldItem, plain, Event}
+use Rattle.qp_model.specs.Told.{ToldItem, plain, Event, for_object}
 use Rattle.qp_model.specs.declared.record.Rec.{Rec}
 use Rattle.qp_model.specs.Record.{Item, item_of, body_of}
 use Rattle.qp_model.specs.Knowing.{ceiling_after}
@@ -10,7 +10,7 @@ use Rattle.qp_model.specs.declared.systems.System.{System}
 use Rattle.qp_model.specs.Parts.{is_static}
 use Rattle.qp_model.specs.Sound.{IsSound, IsSoundSignal}
 use Rattle.qp_model.proofs.ListLemmas.{nothing-left, every-at}
-use Rattle.qp_calls.specs.Notes.{last_code, stop_code, told_note, told_as}
+use Rattle.qp_calls.specs.Notes.{MayNote, MayStop, last_code, spills_in, stop_code, told_note, told_as}
 use Rattle.qp_calls.specs.LaneView.{LaneView, GrowsOf, ceiling_in}
 use Rattle.qp_calls.specs.declared.answers.RoomFault.{RoomFault}
 use Rattle.qp_calls.specs.Clauses.{IsFault, IsEvent}
@@ -40,6 +40,14 @@ spilled n r v w is here grown =
     let body : GrowsOf r.of (plain (item.Spill n) ∷ []) v w = subst (λ b. GrowsOf r.of (told_as (ceiling_in 0 v.told) b ∷ []) v w) (spill-body n r is) grown in
     let mine : GrowsOf 0 (plain (item.Spill n) ∷ []) v w = subst (λ o. GrowsOf o (plain (item.Spill n) ∷ []) v w) (spill-of n r is) body in
     subst (λ k. GrowsOf 0 (plain (item.Spill k) ∷ []) v w) here mine
+
+-- the `spill` of a full lane may be added, and the lane may stop behind it
+pub spill-may : (n : ℕ) (r : Rec) (v : LaneView) → item_of r ≡ record { of = 0; body = item.Spill n } → n ≡ length v.told → 1000000 < n + 8 → spills_in v.told ≡ false → MayNote r v
+unfolding MayNote
+spill-may n r v is here full none = rw (spill-body n r is) (here, omega (arith, full), none)
+
+pub spill-stop : (n : ℕ) (v w : LaneView) → GrowsOf 0 (plain (item.Spill n) ∷ []) v w → MayStop 6 w
+spill-stop n v w grown = inr (omega arith, rw grown.told (last-snoc v.told (for_object 0 (plain (item.Spill n)))))
 
 -- a lane that is full, and how long it is
 pub full-is : (v : LaneView) (f : RoomFault) (len : ℕ) → f ≡ fault.LaneFull len → IsFault v f → (len ≡ length v.told) × (1000000 < len + 8)

@@ -93,9 +93,9 @@ pub record Draws (w : Word) (x : Shown) (old new : LaneView) : Type 0 where
 
 -- Room.
 
--- the lane has no room for eight more records, or memory was refused
+-- the lane has no room for eight more records, or memory was refused where it has
 abbrev pub IsFault : LaneView → RoomFault → Type 0
-IsFault v fault.Memory = ⊤
+IsFault v fault.Memory = length v.told + 8 ≤ 1000000
 IsFault v (fault.LaneFull len) = (len ≡ length v.told) × (1000000 < len + 8)
 
 -- a lane is full exactly where it has no room for eight more records
@@ -273,7 +273,7 @@ abbrev pub Sees : ℕ → LaneView → LaneView → counts.Counts → Type 0
 Sees p old new c = AddsOf 0 (plain (Seen p c.f c.l c.m) ∷ []) old new × ShowsQueue p c.f c.l c.m new × (c.m ≤ c.f + c.l)
 
 abbrev pub Counted : ℕ → LaneView → LaneView → counts.Counts → Type 0
-Counted p old new c = Looks (word.Queue p) (c.f + c.l + c.m) (Counts c.f c.l c.m) old new × ShowsQueue p c.f c.l c.m new
+Counted p old new c = Looks (word.Queue p) (c.f + c.l + c.m) (Counts c.f c.l c.m) old new × ShowsQueue p c.f c.l c.m new × (c.m ≤ c.f + c.l)
 
 -- Signals.
 

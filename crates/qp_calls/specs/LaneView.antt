@@ -55,6 +55,9 @@ pub record Aside : Type 0 where
   pub purses : List Purse
 
 pub record LaneView : Type 0 where
+  -- The name of the table in which the lane stands: lanes of one world have the same. Each call keeps it, and the number of the lane, so that code over any
+  -- lanes can hand one back to the table that it came from. A world of one thread has no name.
+  pub world : List ℕ
   -- the system for which the lane was made
   pub sys : System
   pub told : List ToldItem
@@ -153,6 +156,7 @@ placed_by lane t = record { lane = lane; item = record { of = t.of; body = t.tol
 
 -- These records come to the end of the lane. All but the spare follows from them.
 pub record Gains (ts : List ToldItem) (old new : LaneView) : Type 0 where
+  pub world : new.world ≡ old.world
   pub sys : new.sys ≡ old.sys
   pub told : new.told ≡ old.told ++ ts
   pub by : new.by ≡ old.by
@@ -197,6 +201,7 @@ Sets o old new = new ≡ record old { by = o }
 
 -- the lane looks at a word and adds no record: its mark of the word may rise
 pub record Looks (w : Word) (n : ℕ) (x : Shown) (old new : LaneView) : Type 0 where
+  pub world : new.world ≡ old.world
   pub sys : new.sys ≡ old.sys
   pub told : new.told ≡ old.told
   pub spare : new.spare ≡ old.spare

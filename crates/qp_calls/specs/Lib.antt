@@ -3,6 +3,7 @@ pub mod Counting
 pub mod LaneView
 pub mod Notes
 pub mod Clauses
+pub mod Halting
 pub mod LaneLaws
 pub mod Entries
 pub mod Groups

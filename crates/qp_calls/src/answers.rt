@@ -5,7 +5,7 @@ use crate::tokens::{Entry, Fresh};
 /// Why a lane has no room for eight more records.
 #[derive(Drop)]
 pub enum RoomFault {
-    /// Memory was refused.
+    /// Memory was refused. The lane isn't full.
     Memory,
     /// The lane has this many records, and a lane has at most 1,000,000 besides a `spill`.
     LaneFull { len: u32 },

@@ -25,7 +25,7 @@ pub trait Ops {
     ghost lane: { Self → LaneView };
 
     /// Makes spare for at least eight records. The place of one `spill` is kept apart from it. A refusal changes
-    /// nothing: want of memory, or a lane with no room for eight more.
+    /// nothing: a lane with no room for eight more, or else want of memory. A full lane never answers want of memory.
     fn room(&mut self) -> Result<(), RoomFault>
         ensures ok { OnOk result (8 ≤ (lane self.new).spare) }
         ensures err { Faults (lane self.old) result }

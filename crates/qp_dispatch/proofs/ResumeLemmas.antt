@@ -57,15 +57,6 @@ use Rattle.qp_dispatch.proofs.PublishLemmas.{one-less}
 use Rattle.qp_dispatch.proofs.RunLemmas.{able-behind, stand-hand, stand-left}
 use Rattle.qp_model.proofs.ListLemmas.{list_all-front, every-at, nil-front, every-behind}
 
--- A lane without room spills.
-
-pub spill-may : (n : ℕ) (r : Rec) (v : LaneView) → item_of r ≡ record { of = 0; body = item.Spill n } → n ≡ length v.told → 1000000 < n + 8 → spills_in v.told ≡ false → MayNote r v
-unfolding MayNote
-spill-may n r v is here full none = rw (spill-body n r is) (here, omega (arith, full), none)
-
-pub spill-stop : (n : ℕ) (v w : LaneView) → GrowsOf 0 (plain (item.Spill n) ∷ []) v w → MayStop 6 w
-spill-stop n v w grown = inr (omega arith, rw grown.told (last-snoc v.told (for_object 0 (plain (item.Spill n)))))
-
 pub assert-stop : (code : ℕ) (w : LaneView) → 0 < code → last_code w.told ≡ code → MayStop code w
 assert-stop code w some last = inr (some, last)
 
@@ -144,7 +135,7 @@ halted home ceiling later k m s y g v w z step.Stopped grows begins all h =
       stand = stopped-stand 6 h.full z (held_in m y) h.stops (spilled-stand (length w.told) w h.full (held_in m y) h.spills all);
     })
 halted home ceiling later k m s y g v w z step.Memory grows begins all h =
-    record { g = g; mid = w; grows = grows; begins = begins; stops = h; stand = stopped-stand 7 w z (held_in m y) h all }
+    record { g = g; mid = w; grows = grows; begins = begins; dry = h; stand = stopped-stand 7 w z (held_in m y) h.stops all }
 
 module _ (home : Setting) (ceiling later : ℕ) (k m : Lasting) (g : Going) (v w : LaneView) (lane : IsLaneOf home ceiling v) (going : IsGoing home k g v) where
   abbrev pub a : Actor
@@ -226,6 +217,8 @@ module _ (home : Setting) (ceiling later : ℕ) (k m : Lasting) (g : Going) (v w
         grows = r.grows;
         goes = subst (λ ps. GoesOn v.sys a ev e (left_by g.left.under (tasks_in home g.left) g.leaf) (config_of k) ps None) (r.plain refl)
             (goes_on-failed v.sys a ev e (left_by g.left.under (tasks_in home g.left) g.leaf) (config_of k) r.ps does);
+        some = r.some;
+        last = r.last;
         stops = stops;
         stand = stopped-stand code w z (held_by m left.under ++ hand_of g.work.entry) stops (r.stand (hand_of g.work.entry) hand-stands);
       }
@@ -319,9 +312,6 @@ module _ (home : Setting) (ceiling later : ℕ) (k m : Lasting) (g : Going) (v w
       → StandAll (held_in m (stage.Within (record { work = g.work; left = left; leaf = g.leaf }))) w
   cut-stand left r = r.stand (hand_of g.work.entry) hand-stands
 
-pub halts-full : (n : ℕ) (r : Rec) (v full w : LaneView) → item_of r ≡ record { of = 0; body = item.Spill n } → n ≡ length v.told → 1000000 < n + 8 → GrowsOf r.of (told_note r v) v full → Stops 6 full w → HaltsFull v w
-halts-full n r v full w is here many grown stops = record { full = full; few = omega (arith, here, many); spills = spilled n r v full is here grown; stops = stops }
-
 pub released-is : (hand : Option Entry) (e : Entry) (v w : LaneView) → hand ≡ Some e → ReleasesEntry hand v w → Released (entry_of e) v w
 released-is hand e v w is h = subst (λ x. ReleasesEntry x v w) is h
 
@@ -396,7 +386,7 @@ resumes-taken home ceiling later k m s z e g v u w answer taken still ev is none
       },
     )
     by step.Stopped (inl h) =
-        inl (record { g = h.g; mid = h.mid; code = h.code; grows = h.grows; goes = goes (tell h.g) None h.goes; stops = h.stops; stand = h.stand })
+        inl (record { g = h.g; mid = h.mid; code = h.code; grows = h.grows; goes = goes (tell h.g) None h.goes; some = h.some; last = h.last; stops = h.stops; stand = h.stand })
     by step.Stopped (inr h) =
         inr
         (record {
@@ -411,7 +401,7 @@ resumes-taken home ceiling later k m s z e g v u w answer taken still ev is none
           stand = h.stand;
         })
     by step.Memory h =
-        record { g = h.g; mid = h.mid; grows = h.grows; begins = (h.begins.0, h.begins.1, goes (tell h.g ++ h.begins.0) h.begins.1 h.begins.2, h.begins.3); stops = h.stops; stand = h.stand }
+        record { g = h.g; mid = h.mid; grows = h.grows; begins = (h.begins.0, h.begins.1, goes (tell h.g ++ h.begins.0) h.begins.1 h.begins.2, h.begins.3); dry = h.dry; stand = h.stand }
 
 -- the agenda that was chosen is that of the whole step
 pub whole-left : (me : ℕ) (chart : Chart) (k : Lasting) (work : Work) (ts : List Task) (leaf : ℕ) (names : Names) (x : Event) → names ≡ names_at me k work → event_of work.ev ≡ x

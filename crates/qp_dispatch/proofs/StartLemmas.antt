@@ -79,6 +79,8 @@ module _ (home : Setting) (ceiling later : ℕ) (k m : Lasting) (work : Work) (t
         code = code;
         grows = r.grows;
         starts = starts-failed v.sys actor (config_of k) r.ps two;
+        some = r.some;
+        last = r.last;
         stops = stops;
         stand = stopped-stand code w z m.list.entries.items stops (left-stand y (r.stand [] (bare-stand k.list.entries.items v stand)));
       }
@@ -113,4 +115,4 @@ start-halted home later k m g v w z step.Stopped grows begins all h =
       stand = stopped-stand 6 h.full z m.list.entries.items h.stops (spilled-stand (length w.told) w h.full m.list.entries.items h.spills all);
     })
 start-halted home later k m g v w z step.Memory grows begins all h =
-    record { g = g; mid = w; grows = grows; begins = begins; stops = h; stand = stopped-stand 7 w z m.list.entries.items h all }
+    record { g = g; mid = w; grows = grows; begins = begins; dry = h; stand = stopped-stand 7 w z m.list.entries.items h.stops all }

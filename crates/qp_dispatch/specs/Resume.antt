@@ -21,7 +21,8 @@ use Rattle.qp_model.specs.Able.{chart_able, task_able}
 use Rattle.qp_calls.specs.declared.tokens.Entry.{Entry}
 use Rattle.qp_calls.specs.declared.tokens.Entry.TheVariants as token
 use Rattle.qp_calls.specs.LaneView.{LaneView, Grows, GrowsOf, ceiling_in}
-use Rattle.qp_calls.specs.Notes.{spills_in}
+use Rattle.qp_calls.specs.Notes.{last_code, spills_in}
+use Rattle.qp_calls.specs.Halting.{HaltsDry, HaltsFull}
 use Rattle.qp_calls.specs.Clauses.{Stops, entry_of, event_of}
 use Rattle.qp_calls.specs.declared.answers.RoomFault.{RoomFault}
 use Rattle.qp_calls.specs.Entries.{Released}
@@ -144,13 +145,15 @@ pub record ToEnd (home : Setting) (ceiling later : ℕ) (k : Lasting) (s : Posit
   pub hands : ChangeAlike (map entry_of (held_in k s)) (map entry_of m.list.entries.items) v w
   pub stand : StandAll m.list.entries.items w
 
--- an assertion ended the step, and the lane stopped with its code
+-- an assertion ended the step, and the lane stopped with its code, which is that of the last record
 pub record EndsAsserted (home : Setting) (k : Lasting) (s : Position) (m : Lasting) (z : Position) (v w : LaneView) : Type 0 where
   pub g : List Told
   pub mid : LaneView
   pub code : ℕ
   pub grows : Grows g v mid
   pub goes : GoesOn v.sys (actor_of home.me home.chart k) (event_in s v) (step_entry s) (left_of home k s v) (config_of k) (tell g) None
+  pub some : 0 < code
+  pub last : last_code mid.told ≡ code
   pub stops : Stops code mid w
   pub stand : StandAll (held_in m z) w
 
@@ -166,13 +169,13 @@ pub record EndsSpilled (home : Setting) (k : Lasting) (s : Position) (m : Lastin
   pub stops : Stops 6 full w
   pub stand : StandAll (held_in m z) w
 
--- memory was refused, and the lane stopped
+-- memory was refused to a lane that isn't full, and it stopped
 pub record EndsExhausted (home : Setting) (k : Lasting) (s : Position) (m : Lasting) (z : Position) (v w : LaneView) : Type 0 where
   pub g : List Told
   pub mid : LaneView
   pub grows : Grows g v mid
   pub begins : BeginsOn v.sys (actor_of home.me home.chart k) (event_in s v) (step_entry s) (left_of home k s v) (config_of k) g
-  pub stops : Stops 7 mid w
+  pub dry : HaltsDry mid w
   pub stand : StandAll (held_in m z) w
 
 abbrev pub Resumes : Setting → ℕ → ℕ → Lasting → Position → Lasting → Position → LaneView → LaneView → Step → Type 0
@@ -181,16 +184,10 @@ Resumes home ceiling later k s m z v w step.Done = (z ≡ stage.Between) × ToEn
 Resumes home ceiling later k s m z v w step.Stopped = EndsAsserted home k s m z v w ⊎ EndsSpilled home k s m z v w
 Resumes home ceiling later k s m z v w step.Memory = EndsExhausted home k s m z v w
 
--- a lane without room spilled, and one without memory did not; either has stopped
-pub record HaltsFull (v w : LaneView) : Type 0 where
-  pub full : LaneView
-  pub few : 999992 < length v.told
-  pub spills : GrowsOf 0 (plain (item.Spill (length v.told)) ∷ []) v full
-  pub stops : Stops 6 full w
-
+-- a full lane told its `spill`, and one without memory did not; either has stopped
 abbrev pub Halts : LaneView → LaneView → Step → Type 0
 Halts v w step.Stopped = HaltsFull v w
-Halts v w step.Memory = Stops 7 v w
+Halts v w step.Memory = HaltsDry v w
 Halts v w _ = ⊥
 
 -- the entry of a step was released

@@ -8,6 +8,8 @@ use Rattle.qp_model.specs.Acts.{Config}
 use Rattle.qp_model.specs.Course.{Starts}
 use Rattle.qp_calls.specs.LaneView.{LaneView, Grows, GrowsOf}
 use Rattle.qp_calls.specs.Clauses.{Stops, entry_of}
+use Rattle.qp_calls.specs.Notes.{last_code}
+use Rattle.qp_calls.specs.Halting.{HaltsDry}
 use Rattle.qp_calls.specs.Deferring.{ChangeAlike, StandAll, kept_in}
 use Rattle.qp_dispatch.specs.declared.lasting.Lasting.{Lasting}
 use Rattle.qp_dispatch.specs.declared.steps.Step.{Step}
@@ -27,13 +29,15 @@ pub record StartDone (home : Setting) (later : ℕ) (k m : Lasting) (v w : LaneV
   pub hands : ChangeAlike (map entry_of k.list.entries.items) (map entry_of m.list.entries.items) v w
   pub stand : StandAll m.list.entries.items w
 
--- an assertion ended it, and the lane stopped with its code
+-- an assertion ended it, and the lane stopped with its code, which is that of the last record
 pub record StartAsserted (home : Setting) (k m : Lasting) (v w : LaneView) : Type 0 where
   pub g : List Told
   pub mid : LaneView
   pub code : ℕ
   pub grows : Grows g v mid
   pub starts : Starts v.sys (actor_of home.me home.chart k) (config_of k) (tell g) None
+  pub some : 0 < code
+  pub last : last_code mid.told ≡ code
   pub stops : Stops code mid w
   pub stand : StandAll m.list.entries.items w
 
@@ -55,13 +59,13 @@ pub record StartSpilled (home : Setting) (k m : Lasting) (v w : LaneView) : Type
   pub stops : Stops 6 full w
   pub stand : StandAll m.list.entries.items w
 
--- memory was refused, and the lane stopped
+-- memory was refused to a lane that isn't full, and it stopped
 pub record StartExhausted (home : Setting) (k m : Lasting) (v w : LaneView) : Type 0 where
   pub g : List Told
   pub mid : LaneView
   pub grows : Grows g v mid
   pub begins : BeginsStart home k g v
-  pub stops : Stops 7 mid w
+  pub dry : HaltsDry mid w
   pub stand : StandAll m.list.entries.items w
 
 -- no start stands at a point

@@ -9,7 +9,7 @@ ghost use Rattle.qp_dispatch.specs.Starting.{StartsTo};
 
 use crate::lasting::Lasting;
 use crate::runs::{Home, Left, Ran, run};
-use crate::steps::{Step, halt};
+use crate::steps::{Step, give_up};
 use crate::work::Work;
 use arrayvec::ArrayVec;
 use qp_base::{Ev, Steps};
@@ -51,6 +51,6 @@ pub(crate) fn start_on<O: Ops, L: Ledger>(
             ops.stop(code);
             Step::Stopped
         }
-        Ran::Cut(fault) => halt(ops, fault),
+        Ran::Cut(fault) => give_up(ops, fault),
     }
 }

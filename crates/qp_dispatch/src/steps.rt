@@ -20,8 +20,8 @@ use crate::values::surroundings;
 use crate::work::Work;
 use arrayvec::ArrayVec;
 use qp_base::{Ev, Steps};
-use qp_calls::{Entry, Hold, Ops, RoomFault, end_step};
-use qp_model::{Rec, System};
+use qp_calls::{Entry, Halted, Hold, Ops, RoomFault, end_step, halt};
+use qp_model::System;
 use std::sync::ledger::Ledger;
 
 /// What became of a start, or of a step that went on.
@@ -132,21 +132,14 @@ fn take_up<O: Ops>(ops: &mut O, home: &Home<'_>, lasting: &Lasting, e: Entry) ->
 }
 
 /// Stops the lane where it has no room, or memory was refused.
-pub(crate) fn halt<O: Ops>(ops: &mut O, fault: RoomFault) -> Step
+pub(crate) fn give_up<O: Ops>(ops: &mut O, fault: RoomFault) -> Step
     requires fault { IsFault (O.lane ops.old) fault }
     requires spills { spills_in (O.lane ops.old).told ≡ false }
     ensures { Halts (O.lane ops.old) (O.lane ops.new) result }
 {
-    match fault {
-        RoomFault::Memory => {
-            ops.stop(7);
-            Step::Memory
-        }
-        RoomFault::LaneFull { len } => {
-            ops.note(Rec::spill(len));
-            ops.stop(6);
-            Step::Stopped
-        }
+    match halt(ops, fault) {
+        Halted::Full => Step::Stopped,
+        Halted::Memory => Step::Memory,
     }
 }
 
@@ -182,7 +175,7 @@ fn go<O: Ops, L: Ledger>(
                 lasting.leaf = leaf;
                 Step::Done
             }
-            Err(fault) => halt(ops, fault),
+            Err(fault) => give_up(ops, fault),
         },
         Ran::Asserted(code) => {
             *stage = Position::Within(Going { work, left, leaf });
@@ -191,7 +184,7 @@ fn go<O: Ops, L: Ledger>(
         }
         Ran::Cut(fault) => {
             *stage = Position::Within(Going { work, left, leaf });
-            halt(ops, fault)
+            give_up(ops, fault)
         }
     }
 }

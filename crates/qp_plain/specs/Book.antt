@@ -1,5 +1,5 @@
 -- What contracts see of a book.
-use Rattle.std.specs.Prelude.{◌≡◌, ℕ, ◌+◌, ◌<◌, List, [], ◌∷◌, map, length, slice_set, ⊤}
+use Rattle.std.specs.Prelude.{◌≡◌, ℕ, ◌+◌, ◌<◌, ◌≤◌, List, [], ◌∷◌, map, length, slice_set, ⊤}
 use Rattle.qp_model.specs.declared.record.Rec.{Rec}
 use Rattle.qp_calls.specs.declared.answers.RoomFault.{RoomFault}
 use Rattle.qp_calls.specs.declared.answers.RoomFault.TheVariants as fault
@@ -43,9 +43,9 @@ pub record Keeps (old new : Book) : Type 0 where
   pub order : new.order.items ≡ old.order.items
   pub stays : Stays old new
 
--- why there is no room
+-- why there is no room: the lane is full, or else memory was refused
 abbrev pub IsRoomFault : Book → RoomFault → Type 0
-IsRoomFault b fault.Memory = ⊤
+IsRoomFault b fault.Memory = length b.here.recs.items + 8 ≤ 1000000
 IsRoomFault b (fault.LaneFull len) = (len ≡ length b.here.recs.items) × (1000000 < len + 8)
 
 -- a code is handed to `stop`, or found by `stopped`

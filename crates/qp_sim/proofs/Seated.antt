@@ -45,6 +45,7 @@ module _ (plan : List (List Stim)) (hs : List Happening) (v w : LaneView) where
   pub gains : (ts : List ToldItem) → Gains ts v w → Gains ts s t
   unfolding is_known
   gains ts g = record {
+    world = g.world;
     sys = g.sys;
     told = g.told;
     by = g.by;
@@ -70,6 +71,7 @@ module _ (plan : List (List Stim)) (hs : List Happening) (v w : LaneView) where
   pub looks : (a : Word) (n : ℕ) (x : Shown) → Looks a n x v w → Looks a n x s t
   unfolding is_known
   looks a n x l = record {
+    world = l.world;
     sys = l.sys;
     told = l.told;
     spare = l.spare;
@@ -187,7 +189,7 @@ module _ (plan : List (List Stim)) (hs : List Happening) (v w : LaneView) where
   sees p c x = (adds _ _ x.0, shows _ _ _ _ x.1, x.2)
 
   pub counted : (p : ℕ) (c : counts.Counts) → Counted p v w c → Counted p s t c
-  counted p c x = (looks _ _ _ x.0, shows _ _ _ _ x.1)
+  counted p c x = (looks _ _ _ x.0, shows _ _ _ _ x.1, x.2)
 
   does : (a : Word) (g : ℕ → Told) → Does a g v w → Does a g s t
   does a g x = (x.0, adds _ _ x.1, x.2)

@@ -27,7 +27,8 @@ use Rattle.qp_plain.specs.WorldView.{world_view}
 use Rattle.qp_kernel.specs.Happenings.{lane_told, told_by}
 use Rattle.qp_stimulus.specs.declared.doing.Stimulated.{Stimulated}
 use Rattle.qp_stimulus.specs.declared.doing.Stimulated.TheVariants as stimulated
-use Rattle.qp_stimulus.specs.Stimulating.{Stimulates, KeepsOwn, Happens, Tries, Asserts, Spills, HaltsFull, Exhausts, begun}
+use Rattle.qp_calls.specs.Halting.{HaltsFull}
+use Rattle.qp_stimulus.specs.Stimulating.{Stimulates, KeepsOwn, Happens, Tries, Asserts, Spills, Exhausts, begun}
 use Rattle.qp_sim.specs.Newest.{newest}
 use Rattle.qp_sim.specs.Visiting.{Rests, HasStopped, Amounts, Visits}
 use Rattle.qp_sim.proofs.Worlds.{tolds, told-here, told-other, lane-is, own_purse}
@@ -221,7 +222,7 @@ module _ (source former : ℕ) (a b c d e f : PlainWorld) (home : chosen a ≡ 0
           fits = h.fits;
           some = h.some;
           states = omega (arith, long, mapped, there);
-          full = h.halts.long;
+          full = h.halts.few;
         })),
       )
 
@@ -231,12 +232,12 @@ module _ (source former : ℕ) (a b c d e f : PlainWorld) (home : chosen a ≡ 0
       let went = went-stops (map (for_object 0) g) (world_view c) h.full (world_view d) 6 h.spills h.stops own in
       let there = ap length (told_there g went) in
       comes g went stimulated.Stopped
-      (seen_stopped g went (coded 6 h.full d h.stops), inr (inr (record { is = ap (λ n. plain (body.Spill n) ∷ []) there; full = subst (λ n. 999992 < n) there h.long })))
+      (seen_stopped g went (coded 6 h.full d h.stops), inr (inr (record { is = ap (λ n. plain (body.Spill n) ∷ []) there; full = subst (λ n. 999992 < n) there h.few })))
 
   exhausted : Exhausts (world_view c) (world_view d) → Comes stimulated.Memory
   exhausted h =
-      let went = went-stops (map (for_object 0) h.g) (world_view c) h.mid (world_view d) 7 (for-none h.g h.mid h.grows) h.stops own in
-      comes h.g went stimulated.Memory (seen_stopped h.g went (coded 7 h.mid d h.stops))
+      let went = went-stops (map (for_object 0) h.g) (world_view c) h.mid (world_view d) 7 (for-none h.g h.mid h.grows) h.dry.stops own in
+      comes h.g went stimulated.Memory (seen_stopped h.g went (coded 7 h.mid d h.dry.stops))
 
   -- a `settle` finds no entry
   never : Tries sys s place look (world_view c) (world_view d) → ⊥

@@ -11,7 +11,7 @@ ghost use Rattle.qp_plain.specs.WorldView.{world_view};
 ghost use Rattle.qp_sim.specs.Visiting.{Rests, Visits};
 
 use crate::happened::Happened;
-use qp_base::Steps;
+use qp_base::{NoGate, Steps};
 use qp_calls::Ops;
 use qp_model::{Stim, System};
 use qp_plain::PlainWorld;
@@ -43,7 +43,7 @@ pub(crate) fn visit<L: Ledger>(
 {
     let home = plain.go(source);
     let former = plain.by(0);
-    let answer = stimulus(plain, sys, s, place, look, steps);
+    let answer = stimulus(plain, sys, s, place, look, steps, 0, &NoGate);
     let now = done.then(plain);
     plain.by(former);
     plain.go(home);

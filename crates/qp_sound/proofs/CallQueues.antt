@@ -220,6 +220,7 @@ module _ (sys : System) (lanes : List (List Rec)) (order : List ℕ) (at spare b
   looks : Looks (word.Queue a) (f + l + m) (Counts f l m) view view
   unfolding view_of shown_in
   looks = record {
+    world = refl;
     sys = refl;
     told = refl;
     spare = refl;
@@ -251,7 +252,11 @@ module _ (sys : System) (lanes : List (List Rec)) (order : List ℕ) (at spare b
 
 pub counts-read : CountsAreRead
 counts-read sys lanes order at spare by stops answered purses p c world q =
-    (looks sys lanes order at spare by stops answered purses world p c.f c.l c.m q, shows_now sys lanes order at spare by stops answered purses world p c.f c.l c.m q)
+    let line = line-in sys lanes world.sound.words p q.object in (
+      looks sys lanes order at spare by stops answered purses world p c.f c.l c.m q,
+      shows_now sys lanes order at spare by stops answered purses world p c.f c.l c.m q,
+      omega (arith, line.counted, q.firsts, q.lasts, q.takes),
+    )
 
 empty-counts : (sys : System) (lanes : List (List Rec)) (order : List ℕ) (me f l m : ℕ) → SoundWorld sys lanes order → IsQueue sys lanes me f l m → (line_in sys lanes me).entries ≡ [] → f + l ≡ m
 empty-counts sys lanes order me f l m world q empty =

@@ -400,6 +400,7 @@ module _ (sys : System) (lanes : List (List Rec)) (order : List ℕ) (at : ℕ) 
     pub view-gains : Gains (told_now ∷ []) old_view new_view
     unfolding view_of mark_after mark_by own_after told hands_after hands_by is_known
     view-gains = record {
+      world = refl;
       sys = refl;
       told = told-more;
       by = refl;

@@ -43,6 +43,7 @@ told_aside sys lanes at = map (λ l. told_lane (facts_in sys lanes) 0 (lane_item
 unfoldable pub view_of : System → List (List Rec) → List ℕ → (at spare by : ℕ) → (stops answered : List ℕ) → List Purse → LaneView
 unfolding told_lane all_items lane_items total shown_in line_in event_in hands_in log_of
 view_of sys lanes order at spare by stops answered purses = record {
+  world = [];
   sys = sys;
   told = told_lane (facts_in sys lanes) 0 (lane_items (lane_of lanes at));
   spare = spare;

@@ -18,7 +18,8 @@ use Rattle.qp_stimulus.specs.declared.calling.Called.TheVariants as called
 use Rattle.qp_stimulus.specs.declared.doing.Stimulated.{Stimulated}
 use Rattle.qp_stimulus.specs.declared.doing.Stimulated.TheVariants as stimulated
 use Rattle.qp_stimulus.specs.Calling.{Calls, CallsCut}
-use Rattle.qp_stimulus.specs.Stimulating.{Asserts, Halts, HaltsFull, Happens, KeepsOwn, Stimulates, Tries, begun}
+use Rattle.qp_calls.specs.Halting.{HaltsFull}
+use Rattle.qp_stimulus.specs.Stimulating.{Asserts, Halts, Happens, KeepsOwn, Stimulates, Tries, begun}
 use Rattle.qp_stimulus.proofs.Aloof.{aloof-begun, aloof-front, entry-aloof, own-same, stimulus-aloof}
 use Rattle.qp_stimulus.proofs.Halting.{cut-spills}
 
@@ -76,7 +77,7 @@ module _ (sys : System) (s : Stim) (place look : ℕ) (v r n : LaneView) (room :
   pub asserts : (x : Called) (code : ℕ) (mid w : LaneView) → x ≡ called.Asserted code → Calls sys s n mid (Ok x) → Stops code mid w → Asserts sys s place look v w
   asserts x code mid w is calls stops =
       let h = came x (called.Asserted code) mid is calls in
-      record { one = h.one; mid = mid; code = code; grows = goes h.one mid h.grows; fits = h.fits; some = h.some; few = h.few; stops = stops }
+      record { one = h.one; mid = mid; code = code; grows = goes h.one mid h.grows; fits = h.fits; some = h.some; few = h.few; last = h.last; stops = stops }
 
   pub cuts : (mid w : LaneView) (e : Stimulated) → CallsCut sys s n mid → Halts mid w e → Stimulates sys s place look v w e
   cuts mid w stimulated.Done cut h = absurd h
@@ -86,7 +87,7 @@ module _ (sys : System) (s : Stim) (place look : ℕ) (v r n : LaneView) (room :
   cuts mid w stimulated.Memory cut h =
       let grows = goes cut.one mid cut.grows in
       let aloof = aloof-front cut.one cut.back (stimulus-aloof sys s cut.asserted (cut.one ++ cut.back) (cut.fits sim)) in
-      record { g = begun place look cut.one; mid = mid; grows = grows; own = λ a. own-same (begun place look cut.one) v mid a grows (aloof-begun place look cut.one aloof); stops = h }
+      record { g = begun place look cut.one; mid = mid; grows = grows; own = λ a. own-same (begun place look cut.one) v mid a grows (aloof-begun place look cut.one aloof); dry = h }
 
   -- no `spill` stands in the lane yet
   pub cut-unspilled : (mid : LaneView) → spills_in v.told ≡ false → CallsCut sys s n mid → spills_in mid.told ≡ false
@@ -114,4 +115,4 @@ keeps-own sys s place look v w stimulated.Stopped (inr (inl h)) a =
     ∙ own-same (begun place look h.one) v h.mid a h.grows
     (aloof-begun place look h.one (aloof-front h.one h.back (stimulus-aloof sys s h.asserted (h.one ++ h.back) (h.fits sim))))
 keeps-own sys s place look v w stimulated.Stopped (inr (inr h)) a = full_own v w a h
-keeps-own sys s place look v w stimulated.Memory h a = let here : w.own a ≡ h.mid.own a = rw h.stops refl in here ∙ h.own a
+keeps-own sys s place look v w stimulated.Memory h a = let here : w.own a ≡ h.mid.own a = rw h.dry.stops refl in here ∙ h.own a

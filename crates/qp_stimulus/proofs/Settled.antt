@@ -132,6 +132,11 @@ module _ (os : List ℕ) (p : ℕ) (c : counts.Counts) (a v r w : LaneView) (non
       reaches = subst (λ g. Grows g a r) (append-nil (plain body.Settle ∷ seen.one))
           (grows-then (plain body.Settle ∷ seen.one) [] a v r seen.grows (grows-room [] v r r room (gains-none r)))
 
+  pub seen-entry : (sys : System) (others : List ℕ) → priorities sys ≡ os ++ p ∷ others → IsTrue (is_object sys p) → c.m < c.f + c.l
+      → (h : SeesSome sys a w) × (h.found.object ≡ p) × (h.found.counts ≡ c)
+  unfolding seen-some
+  seen-entry sys others split object some = (seen-some sys others split object some, refl, refl)
+
 pub object-here : (sys : System) (p : ℕ) (os : List ℕ) (a v r : LaneView) → SeesNone os a v → Roomier v r → a.sys ≡ sys → IsTrue (is_object sys p) → IsTrue (is_object r.sys p)
 object-here sys p os a v r seen room of h = let here : r.sys ≡ v.sys = rw room.same refl in rw (here, seen.grows.sys, of) h
 

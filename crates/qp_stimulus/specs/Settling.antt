@@ -1,5 +1,5 @@
 -- What a `settle` comes to.
-use Rattle.std.specs.Prelude.{◌≡◌, ◌≢◌, ℕ, ◌+◌, ◌<◌, Bool, true, false, List, [], ◌∷◌, ◌++◌, Ok, Err, IsTrue}
+use Rattle.std.specs.Prelude.{◌≡◌, ◌≢◌, ℕ, ◌+◌, ◌<◌, List, [], ◌∷◌, ◌++◌, Ok, Err, IsTrue}
 use Rattle.std.specs.declared.result.Result.{Result}
 use Rattle.qp_model.specs.declared.systems.System.{System}
 use Rattle.qp_model.specs.declared.bodies.Body.TheVariants as body
@@ -8,6 +8,8 @@ use Rattle.qp_model.specs.WordLaw.{is_object}
 use Rattle.qp_model.specs.Sources.{SeesEmpty, SeesEntry, Settles, priorities}
 use Rattle.qp_calls.specs.declared.answers.RoomFault.{RoomFault}
 use Rattle.qp_calls.specs.declared.answers.Counts as counts
+use Rattle.qp_stimulus.specs.declared.settling.Sight.{Sight}
+use Rattle.qp_stimulus.specs.declared.settling.Sight.TheVariants as sight
 use Rattle.qp_calls.specs.LaneView.{LaneView, Grows}
 use Rattle.qp_calls.specs.Clauses.{IsFault, Sees}
 
@@ -45,7 +47,7 @@ pub record SettleCut (sys : System) (old new : LaneView) : Type 0 where
   pub fits : (kernel : ℕ) → Settles sys kernel (g ++ rest)
   pub some : rest ≢ []
 
-abbrev pub SettlesTo : System → LaneView → LaneView → Result Bool RoomFault → Type 0
-SettlesTo sys old new (Ok true) = SeesNone (priorities sys) old new
-SettlesTo sys old new (Ok false) = SeesSome sys old new
+abbrev pub SettlesTo : System → LaneView → LaneView → Result Sight RoomFault → Type 0
+SettlesTo sys old new (Ok sight.Empty) = SeesNone (priorities sys) old new
+SettlesTo sys old new (Ok (sight.Entry object now)) = (h : SeesSome sys old new) × (h.found.object ≡ object) × (h.found.counts ≡ now)
 SettlesTo sys old new (Err fault) = SettleCut sys old new × IsFault new fault

@@ -6,8 +6,10 @@ use Rattle.qp_model.specs.declared.systems.System.{System}
 use Rattle.qp_model.specs.declared.bodies.Body.TheVariants as body
 use Rattle.qp_model.specs.Told.{Told, plain}
 use Rattle.qp_model.specs.Sources.{SeesEntry, StimFits, priorities}
-use Rattle.qp_calls.specs.LaneView.{LaneView, Grows, GrowsOf}
+use Rattle.qp_calls.specs.LaneView.{LaneView, Grows}
 use Rattle.qp_calls.specs.Clauses.{Stops}
+use Rattle.qp_calls.specs.Halting.{HaltsDry, HaltsFull}
+use Rattle.qp_calls.specs.Notes.{last_code}
 use Rattle.qp_stimulus.specs.declared.doing.Stimulated.{Stimulated}
 use Rattle.qp_stimulus.specs.declared.doing.Stimulated.TheVariants as stimulated
 use Rattle.qp_stimulus.specs.Settling.{HasEntry}
@@ -16,16 +18,10 @@ use Rattle.qp_stimulus.specs.Settling.{HasEntry}
 abbrev pub begun : ℕ → ℕ → List Told → List Told
 begun place look one = plain (body.Stim place look) ∷ one
 
--- a lane without room spilled and stopped
-pub record HaltsFull (v w : LaneView) : Type 0 where
-  pub full : LaneView
-  pub spills : GrowsOf 0 (plain (body.Spill (length v.told)) ∷ []) v full
-  pub long : 999992 < length v.told
-  pub stops : Stops 6 full w
-
+-- a full lane told its `spill`, and one without memory did not; either has stopped
 abbrev pub Halts : LaneView → LaneView → Stimulated → Type 0
 Halts v w stimulated.Stopped = HaltsFull v w
-Halts v w stimulated.Memory = Stops 7 v w
+Halts v w stimulated.Memory = HaltsDry v w
 Halts v w _ = ⊥
 
 -- all records came, and the hands are as they were
@@ -44,7 +40,7 @@ pub record Tries (sys : System) (s : Stim) (place look : ℕ) (v w : LaneView) :
   pub hands : w.hands ≡ v.hands
   pub found : HasEntry sys v w
 
--- an assertion ended it, and the lane stopped with its code
+-- an assertion ended it, and the lane stopped with its code, which is that of the last record
 pub record Asserts (sys : System) (s : Stim) (place look : ℕ) (v w : LaneView) : Type 0 where
   pub one : List Told
   pub mid : LaneView
@@ -53,6 +49,7 @@ pub record Asserts (sys : System) (s : Stim) (place look : ℕ) (v w : LaneView)
   pub fits : (kernel : ℕ) → StimFits sys kernel s true one
   pub some : 1 ≤ code
   pub few : code ≤ 5
+  pub last : last_code mid.told ≡ code
   pub stops : Stops code mid w
 
 -- the lane had no room within it, spilled and stopped; with what is missing the stimulus would be whole
@@ -66,13 +63,13 @@ pub record Spills (sys : System) (s : Stim) (place look : ℕ) (v w : LaneView) 
   pub some : back ≢ []
   pub halts : HaltsFull mid w
 
--- memory was refused, and the lane stopped
+-- memory was refused to a lane that isn't full, and it stopped
 pub record Exhausts (v w : LaneView) : Type 0 where
   pub g : List Told
   pub mid : LaneView
   pub grows : Grows g v mid
   pub own : (a : ℕ) → mid.own a ≡ v.own a
-  pub stops : Stops 7 mid w
+  pub dry : HaltsDry mid w
 
 -- the lane knows as many last-in posts and takes of each queue as before
 abbrev pub KeepsOwn : LaneView → LaneView → Type 0

@@ -5,7 +5,7 @@ ghost use Rattle.qp_model.specs.Sound.{IsSound};
 ghost use Rattle.qp_stim.specs.Rules.{StimFits};
 ghost use Rattle.qp_stimulus.specs.Calling.{Calls, called_of};
 
-use crate::settling::settle;
+use crate::settling::{Sight, settle};
 use qp_base::Steps;
 use qp_calls::{Did, Ops, RoomFault, post, publish, tick_rate};
 use qp_model::{Stim, System};
@@ -53,12 +53,9 @@ pub(crate) fn make<O: Ops, L: Ledger>(
         } => Ok(outcome(post(ops, sys, *to, ev, *margin, *reserve, steps)?)),
         Stim::Publish { ev, reserve } => Ok(outcome(publish(ops, sys, ev, *reserve, steps)?)),
         Stim::Tick { rate } => Ok(outcome(tick_rate(ops, sys, *rate, steps)?)),
-        Stim::Settle => {
-            if settle(ops, sys)? {
-                Ok(Called::Whole)
-            } else {
-                Ok(Called::Tried)
-            }
-        }
+        Stim::Settle => match settle(ops, sys)? {
+            Sight::Empty => Ok(Called::Whole),
+            Sight::Entry { .. } => Ok(Called::Tried),
+        },
     }
 }

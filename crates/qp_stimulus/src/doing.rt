@@ -8,8 +8,8 @@ ghost use Rattle.qp_calls.specs.Notes.{spills_in};
 ghost use Rattle.qp_stimulus.specs.Stimulating.{Halts, KeepsOwn, Stimulates};
 
 use crate::calling::{Called, make};
-use qp_base::Steps;
-use qp_calls::{Ops, RoomFault};
+use qp_base::{Gate, Steps};
+use qp_calls::{Halted, Ops, RoomFault, halt};
 use qp_model::{Rec, Stim, System};
 use std::sync::ledger::Ledger;
 
@@ -27,34 +27,29 @@ pub enum Stimulated {
 }
 
 /// Stops the lane where it has no room, or memory was refused.
-fn halt<O: Ops>(ops: &mut O, fault: RoomFault) -> Stimulated
+fn give_up<O: Ops>(ops: &mut O, fault: RoomFault) -> Stimulated
     requires fault { IsFault (O.lane ops.old) fault }
     requires spills { spills_in (O.lane ops.old).told ≡ false }
     ensures { Halts (O.lane ops.old) (O.lane ops.new) result }
 {
-    match fault {
-        RoomFault::Memory => {
-            ops.stop(7);
-            Stimulated::Memory
-        }
-        RoomFault::LaneFull { len } => {
-            ops.note(Rec::spill(len));
-            ops.stop(6);
-            Stimulated::Stopped
-        }
+    match halt(ops, fault) {
+        Halted::Full => Stimulated::Stopped,
+        Halted::Memory => Stimulated::Memory,
     }
 }
 
 /// Does the stimulus at `place` of its source, counted from 1, in the look with the number `look`, which is 0 in a run
-/// with threads. The lane works for no object. A post or a publication that is refused is done; an assertion stops the
-/// lane, and so does a lane without room.
-pub fn stimulus<O: Ops, L: Ledger>(
+/// with threads. The gate is told of it right behind its `stim`, with the number of the source's lane. The lane works for
+/// no object. A post or a publication that is refused is done; an assertion stops the lane, and so does a lane without room.
+pub fn stimulus<O: Ops, L: Ledger, G: Gate>(
     ops: &mut O,
     sys: &System,
     s: &Stim,
     place: u32,
     look: u32,
     steps: &mut Steps<L>,
+    lane: u32,
+    gate: &G,
 ) -> Stimulated
     requires of { (O.lane ops.old).sys ≡ sys.now }
     requires sound { IsSound sys.now }
@@ -65,9 +60,10 @@ pub fn stimulus<O: Ops, L: Ledger>(
     ensures own { KeepsOwn (O.lane ops.old) (O.lane ops.new) }
 {
     if let Err(fault) = ops.room() {
-        return halt(ops, fault);
+        return give_up(ops, fault);
     }
     ops.note(Rec::stim(place, look));
+    gate.at(lane, u64::from(place));
     match make(ops, sys, s, steps) {
         Ok(Called::Whole) => Stimulated::Done,
         Ok(Called::Tried) => Stimulated::Tried,
@@ -75,6 +71,6 @@ pub fn stimulus<O: Ops, L: Ledger>(
             ops.stop(code);
             Stimulated::Stopped
         }
-        Err(fault) => halt(ops, fault),
+        Err(fault) => give_up(ops, fault),
     }
 }

@@ -6,3 +6,4 @@ mod doing;
 mod settling;
 
 pub use doing::{Stimulated, stimulus};
+pub use settling::{Sight, settle};

@@ -3,11 +3,20 @@
 ghost use Rattle.std.specs.Prelude.{◌≡◌};
 ghost use Rattle.qp_stimulus.specs.Settling.{SettlesTo};
 
-use qp_calls::{Ops, RoomFault};
+use qp_calls::{Counts, Ops, RoomFault};
 use qp_model::{Rec, System};
 
-/// Settles: looks at the queues of the objects in turn, up to the first with an entry. True where there is none.
-pub(crate) fn settle<O: Ops>(ops: &mut O, sys: &System) -> Result<bool, RoomFault>
+/// What a settle saw.
+#[derive(Drop)]
+pub enum Sight {
+    /// Each queue was empty.
+    Empty,
+    /// The queue of this object was looked at last, and had an entry.
+    Entry { object: u8, now: Counts },
+}
+
+/// Settles: looks at the queues of the objects in turn, up to the first with an entry.
+pub fn settle<O: Ops>(ops: &mut O, sys: &System) -> Result<Sight, RoomFault>
     requires of { (O.lane ops.old).sys ≡ sys.now }
     requires none { (O.lane ops.old).by ≡ 0 }
     ensures { SettlesTo sys.now (O.lane ops.old) (O.lane ops.new) result }
@@ -18,8 +27,11 @@ pub(crate) fn settle<O: Ops>(ops: &mut O, sys: &System) -> Result<bool, RoomFaul
         ops.room()?;
         let c = ops.seen(d.priority);
         if u64::from(c.m) < u64::from(c.f) + u64::from(c.l) {
-            return Ok(false);
+            return Ok(Sight::Entry {
+                object: d.priority,
+                now: c,
+            });
         }
     }
-    Ok(true)
+    Ok(Sight::Empty)
 }

@@ -90,6 +90,7 @@ spill-last n = refl
 pub gains-set : (o r : ℕ) (ts : List ToldItem) (a b : LaneView) → Gains ts (works_for o a) b → Gains ts (works_for r a) (works_for r b)
 unfolding is_known
 gains-set o r ts a b h = record {
+  world = h.world;
   sys = h.sys;
   told = h.told;
   by = refl;

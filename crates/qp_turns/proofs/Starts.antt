@@ -335,7 +335,7 @@ module _ (sys : System) (sound : IsSound sys) (terms : Terms) (p : ℕ) (others 
 
   -- Memory was refused.
   pub refused-grows : (y : Lasting) (m w : LaneView) → w ≡ works_for v.by m → StartExhausted home x.lasting y V m → GrowsAndStops 7 v w
-  refused-grows y m w w-is e = record { ts = map (for_object p) e.g; mid = works_for v.by e.mid; gains = gains-on e.g e.mid e.grows; stops = w-is ∙ ap (works_for v.by) e.stops }
+  refused-grows y m w w-is e = record { ts = map (for_object p) e.g; mid = works_for v.by e.mid; gains = gains-on e.g e.mid e.grows; stops = w-is ∙ ap (works_for v.by) e.dry.stops }
 
   -- A `spill` ended it.
   module _ (y : Lasting) (m w : LaneView) (w-is : w ≡ works_for v.by m) (b : StartSpilled home x.lasting y V m) where

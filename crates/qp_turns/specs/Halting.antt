@@ -2,8 +2,7 @@
 use Rattle.std.specs.Prelude.{◌≡◌, ℕ, true, ◌≤◌, ◌⊎◌, ◌∷◌, Ok, Err}
 use Rattle.std.specs.declared.result.Result.{Result}
 use Rattle.qp_calls.specs.LaneView.{LaneView, Roomier}
-use Rattle.qp_calls.specs.Clauses.{Stops}
-use Rattle.qp_dispatch.specs.Resume.{HaltsFull}
+use Rattle.qp_calls.specs.Halting.{HaltsDry, HaltsFull}
 use Rattle.qp_kernel.specs.Interrupting.{is_unset}
 use Rattle.qp_turns.specs.declared.halting.Halt.{Halt}
 use Rattle.qp_turns.specs.declared.halting.Halt.TheVariants as halt
@@ -15,7 +14,7 @@ pub record FindsStop (v w : LaneView) : Type 0 where
 
 abbrev pub Halts : LaneView → LaneView → Halt → Type 0
 Halts v w halt.Stopped = FindsStop v w ⊎ HaltsFull v w
-Halts v w halt.Memory = Stops 7 v w
+Halts v w halt.Memory = HaltsDry v w
 
 -- the stop word wasn't set, by no lane of the world, and there is room for eight records
 pub record IsReadied (v w : LaneView) : Type 0 where

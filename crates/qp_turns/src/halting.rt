@@ -5,8 +5,7 @@ ghost use Rattle.qp_calls.specs.Clauses.{IsFault};
 ghost use Rattle.qp_calls.specs.Notes.{spills_in};
 ghost use Rattle.qp_turns.specs.Halting.{Halts, Readies};
 
-use qp_calls::{Ops, RoomFault};
-use qp_model::Rec;
+use qp_calls::{Halted, Ops, RoomFault, halt};
 
 /// Why a turn doesn't go on.
 #[derive(Drop)]
@@ -23,16 +22,9 @@ fn give_up<O: Ops>(ops: &mut O, fault: RoomFault) -> Halt
     requires spills { spills_in (O.lane ops.old).told ≡ false }
     ensures { Halts (O.lane ops.old) (O.lane ops.new) result }
 {
-    match fault {
-        RoomFault::Memory => {
-            ops.stop(7);
-            Halt::Memory
-        }
-        RoomFault::LaneFull { len } => {
-            ops.note(Rec::spill(len));
-            ops.stop(6);
-            Halt::Stopped
-        }
+    match halt(ops, fault) {
+        Halted::Full => Halt::Stopped,
+        Halted::Memory => Halt::Memory,
     }
 }
 

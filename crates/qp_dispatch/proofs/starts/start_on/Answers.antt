@@ -39,7 +39,7 @@ returns-in-Cut g c =
     let work : Work = record { ev = record { sig = 0; pars = c.new-pars.result }; entry = None } in
     let ts = left_in c.args.home.now.chart.now c.args.home.now.compiled.now c.start-leaf.result.0 in
     let r = c.in-Cut.ensures in
-    start-halted (setting_of c.args.home.now) c.run.new.ceiling c.args.lasting.now c.run.new.lasting (bare r.0.ps) (lane c.args.ops.now) (lane c.run.new.ops) (lane c.halt.new.ops) c.halt.result
+    start-halted (setting_of c.args.home.now) c.run.new.ceiling c.args.lasting.now c.run.new.lasting (bare r.0.ps) (lane c.args.ops.now) (lane c.run.new.ops) (lane c.give_up.new.ops) c.give_up.result
     r.0.grows
     (start-begins (setting_of c.args.home.now) c.args.ceiling.now c.run.new.ceiling c.args.lasting.now c.run.new.lasting work ts c.start-leaf.result.1 (lane c.args.ops.now) (lane c.run.new.ops)
     (start-moment work c.new-pars.result.items c.new-pars.ensures refl refl) c.start-leaf.ensures.tasks c.requires.lane c.requires.stand
@@ -47,4 +47,4 @@ returns-in-Cut g c =
     (start-stand (setting_of c.args.home.now) c.args.ceiling.now c.run.new.ceiling c.args.lasting.now c.run.new.lasting work ts c.start-leaf.result.1 (lane c.args.ops.now) (lane c.run.new.ops)
     (start-moment work c.new-pars.result.items c.new-pars.ensures refl refl) c.start-leaf.ensures.tasks c.requires.lane c.requires.stand
     c.run.new.left.under r.0)
-    c.halt.ensures
+    c.give_up.ensures

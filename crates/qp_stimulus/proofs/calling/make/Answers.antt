@@ -5,6 +5,7 @@ use Rattle.qp_model.specs.declared.stimulus.Stim.TheVariants as stim
 use Rattle.qp_model.specs.Calls as call
 use Rattle.qp_stim.specs.Rules.{StimFits}
 use Rattle.qp_stimulus.specs.Settling.{SettlesTo}
+use Rattle.qp_stimulus.specs.declared.settling.Sight.{Sight}
 use Rattle.qp_stimulus.proofs.Called.{answered, answers-here, fits-event, fits-object, fits-reserve, made, post-fits, publish-fits, settled, ticked}
 use Rattle.qp_stimulus.proofs.Completing.{cut-here, post-cut, publish-cut, settle-is_cut, tick-cut}
 use Rattle.qp_stimulus.proofs.calling.make.Goals as goal
@@ -76,13 +77,13 @@ returns-in_ok-tick_rate-in-Tick g c =
     made c.args.sys.now c.args.s.now (stim.Tick c.in-Tick.rate) d c.outcome-in-Tick.result _ _ c.in-Tick.is c.outcome-in-Tick.ensures
     (ticked c.args.sys.now c.in-Tick.rate d _ _ c.requires.of c.requires.none c.in_ok-tick_rate-in-Tick.ensures)
 
-pub returns-then-branch : goal.returns-then-branch
-returns-then-branch g c =
+pub returns-in-Empty : goal.returns-in-Empty
+returns-in-Empty g c =
     settled c.args.sys.now c.args.s.now _ _ c.in-Settle.is
-    (subst (λ (b : Bool). SettlesTo c.args.sys.now (g.O.Ops.lane c.args.ops.now) (g.O.Ops.lane c.settle.new.ops) (Ok b)) c.if-branch.true c.in_ok-settle-in-Settle.ensures)
+    (subst (λ (x : Sight). SettlesTo c.args.sys.now (g.O.Ops.lane c.args.ops.now) (g.O.Ops.lane c.settle.new.ops) (Ok x)) c.in-Empty.is c.in_ok-settle-in-Settle.ensures)
 
-pub returns-else-branch : goal.returns-else-branch
-returns-else-branch g c = (
+pub returns-in-Entry : goal.returns-in-Entry
+returns-in-Entry g c = (
   c.in-Settle.is,
-  subst (λ (b : Bool). SettlesTo c.args.sys.now (g.O.Ops.lane c.args.ops.now) (g.O.Ops.lane c.settle.new.ops) (Ok b)) c.if-branch.false c.in_ok-settle-in-Settle.ensures,
+  (subst (λ (x : Sight). SettlesTo c.args.sys.now (g.O.Ops.lane c.args.ops.now) (g.O.Ops.lane c.settle.new.ops) (Ok x)) c.in-Entry.is c.in_ok-settle-in-Settle.ensures).0,
 )

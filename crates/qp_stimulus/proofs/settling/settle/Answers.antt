@@ -5,7 +5,7 @@ use Rattle.qp_model.specs.declared.systems.System.{System}
 use Rattle.qp_model.specs.declared.bodies.Body.TheVariants.{Settle}
 use Rattle.qp_calls.proofs.Flushing.{fault-still}
 use Rattle.qp_calls.proofs.Noting.{adds-note, may-note}
-use Rattle.qp_stimulus.proofs.Settled.{at, by-none, none-seen, object-here, seen-all, seen-more, seen-some, settle-cut, settle-none}
+use Rattle.qp_stimulus.proofs.Settled.{at, by-none, none-seen, object-here, seen-all, seen-more, seen-entry, settle-cut, settle-none}
 use Rattle.qp_stimulus.proofs.settling.settle.Goals as goal
 
 pub returns-in_err-room : goal.returns-in_err-room
@@ -42,7 +42,7 @@ returns-then-from g c =
     let lane = g.O.Ops.lane in
     let listed = c.deref-d-items.ensures.value ∙ ap (λ (s : System). s.objects) c.sys.view_is in
     let here = at c.args.sys.now c.deref-d-items.result.now c.loop-d.d-index c.d-item.result listed c.loop-d-test.true c.d-item.is in
-    seen-some _ c.d-item.result.priority c.seen-c.result _ (lane c.loop-d.ops) (lane c.room-in-loop-d.new.self) _ c.requires.none c.loop-d.invariant c.in_ok-room-2.ensures.stays c.seen-c.ensures
+    seen-entry _ c.d-item.result.priority c.seen-c.result _ (lane c.loop-d.ops) (lane c.room-in-loop-d.new.self) _ c.requires.none c.loop-d.invariant c.in_ok-room-2.ensures.stays c.seen-c.ensures
     c.args.sys.now _ here.split here.object (omega (arith, c.if-from.true, c.from.ensures, c.from-in-loop-d.ensures, c.from-in-loop-d-2.ensures))
 
 pub loop-d-preserved : goal.loop-d-preserved

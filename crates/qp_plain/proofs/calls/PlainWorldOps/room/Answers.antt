@@ -53,7 +53,7 @@ refused w b (Err f) keeps same =
 
 faults : (w : PlainWorld) (r : Result (Unit {0}) RoomFault) → OnOk r (length w.book.here.recs.items + 8 ≤ 1000000) → IfErr r (IsRoomFault w.book) → Faults (world_view w) r
 faults w (Ok u) free err = let long = told-here w in omega (arith, long, free)
-faults w (Err fault.Memory) free err = tt
+faults w (Err fault.Memory) free err = let long = told-here w in omega (arith, long, err)
 faults w (Err (fault.LaneFull len)) free err = (err.0 ∙ sym (told-here w), err.1)
 
 pub invariant_of-self : goal.invariant_of-self

@@ -1,7 +1,14 @@
-use Rattle.std.proofs.Common.{inr}
-use Rattle.qp_dispatch.proofs.ResumeLemmas.{halts-full, spill-may, spill-stop}
-use Rattle.qp_calls.proofs.NoteLemmas.{spilled, full-is}
-use Rattle.qp_turns.proofs.halting.give_up.Goals as goal
+use Rattle.std.proofs.Common.{◌≡◌, ◌≤◌, ◌+◌, length, arith, subst, inr, []}
+use Rattle.qp_calls.specs.Clauses.{IsFault}
+use Rattle.qp_calls.specs.declared.answers.RoomFault.TheVariants as fault
+use Rattle.qp_calls.proofs.NoteLemmas.{full-is, spill-may, spill-stop, spilled}
+use Rattle.qp_calls.proofs.halting.halt.Goals as goal
+
+pub returns-in-Memory : goal.returns-in-Memory
+returns-in-Memory g c =
+    let lane = g.O.Ops.lane in
+    let room : length (lane c.args.ops.now).told + 8 ≤ 1000000 = subst (λ f. IsFault (lane c.args.ops.now) f) c.in-Memory.is c.requires.fault in
+    record { room = omega (arith, room); stops = c.stop.ensures }
 
 pub note-requires : goal.note-requires
 note-requires g c =
@@ -18,4 +25,9 @@ pub returns-in-LaneFull : goal.returns-in-LaneFull
 returns-in-LaneFull g c =
     let lane = g.O.Ops.lane in
     let full = full-is (lane c.args.ops.now) c.args.fault c.in-LaneFull.len c.in-LaneFull.is c.requires.fault in
-    inr (halts-full c.in-LaneFull.len c.spill.result (lane c.args.ops.now) (lane c.note.new.self) (lane c.stop-in-LaneFull.new.self) c.spill.ensures full.0 full.1 c.note.ensures.grows c.stop-in-LaneFull.ensures)
+    record {
+      full = lane c.note.new.self;
+      few = omega (arith, full.0, full.1);
+      spills = spilled c.in-LaneFull.len c.spill.result (lane c.args.ops.now) (lane c.note.new.self) c.spill.ensures full.0 c.note.ensures.grows;
+      stops = c.stop-in-LaneFull.ensures;
+    }
