@@ -16,7 +16,6 @@ use Rattle.qp_calls.specs.Deferring.{tokens_in, is_named, StandAll}
 use Rattle.qp_calls.proofs.HandLemmas.{same-equal, same-self}
 use Rattle.qp_calls.proofs.Releasing.{with-pool}
 use Rattle.qp_model.proofs.ListLemmas.{all-push}
-use Rattle.qp_model.specs.Told.{taken}
 use Rattle.qp_model.proofs.NumberLemmas.{not-zero}
 
 -- how often an entry is this token

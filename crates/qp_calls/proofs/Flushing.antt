@@ -118,11 +118,12 @@ flushed-all n kept more a w some all =
     }
 
 -- a part of it was, and a whole flush could go on
-pub flush-cut : (n : ℕ) (kept mid more : Deferred) (a v w : LaneView) → FlushesSome n kept mid a v → more ≡ mid → w ≡ v → FlushCut kept more a w
+pub flush-cut : (n : ℕ) (kept mid more : Deferred) (a v w : LaneView) → FlushesSome n kept mid a v → n < length kept.entries.items → more ≡ mid → w ≡ v → FlushCut kept more a w
 unfolding Fits
-flush-cut n kept mid more a v w some list lane =
+flush-cut n kept mid more a v w some few list lane =
     let rest = could_flush (kept_in mid) in
     let here : FlushCut kept mid a v = record {
+      left = omega (arith, some.count, few);
       answer = Flushed (n + length (kept_in mid));
       g = some.g;
       rest = rest.0;

@@ -1,5 +1,5 @@
 -- Deferred lists, and what groups of calls do to them.
-use Rattle.std.specs.Prelude.{◌≡◌, ℕ, ◌+◌, ◌≤◌, nat_lt, Bool, List, [], ◌∷◌, ◌++◌, map, length, IsTrue, IsFalse, Ok, Err, Some, None}
+use Rattle.std.specs.Prelude.{◌≡◌, ℕ, ◌+◌, ◌<◌, ◌≤◌, nat_lt, Bool, List, [], ◌∷◌, ◌++◌, map, length, IsTrue, IsFalse, Ok, Err, Some, None}
 use Rattle.std.specs.declared.option.Option.{Option}
 use Rattle.std.specs.declared.result.Result.{Result}
 use Rattle.std.specs.List.{list_all}
@@ -100,8 +100,9 @@ pub record FlushesSome (n : ℕ) (kept more : Deferred) (old new : LaneView) : T
   pub hands : ChangeAlike (kept_in kept) (kept_in more) old new
   pub stand : StandAll more.entries.items new
 
--- some of the list was flushed, the oldest first, before `room` refused: a front of what a whole flush could add
+-- Some of the list was flushed, the oldest first, before `room` refused, and some is left: a front of what a whole flush could add.
 pub record FlushCut (kept more : Deferred) (old new : LaneView) : Type 0 where
+  pub left : 0 < length more.entries.items
   pub answer : Answer
   pub g : List Told
   pub rest : List Told

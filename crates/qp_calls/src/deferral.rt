@@ -124,7 +124,7 @@ fn flush_one<O: Ops>(ops: &mut O, list: &mut Deferred) -> Result<(), RoomFault>
     Ok(())
 }
 
-/// Drops all deferred entries, the oldest first, and answers how many.
+/// Drops all deferred entries, the oldest first, and answers how many. Where it is refused room, entries are left.
 pub fn flush<O: Ops>(ops: &mut O, list: &mut Deferred) -> Result<Did, RoomFault>
     requires kept { StandAll list.old.entries.items (O.lane ops.old) }
     ensures { FlushesAll list.old list.new (O.lane ops.old) (O.lane ops.new) result }

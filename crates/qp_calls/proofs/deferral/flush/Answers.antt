@@ -17,7 +17,7 @@ pub returns-in_err-flush_one : goal.returns-in_err-flush_one
 returns-in_err-flush_one g c =
     let p = err_from_is_err_and c.from_residual.result c.from_residual.ensures.1 in
     let e = c.in_err-flush_one.ensures in
-    rw (p.1, p.2) (flush-cut c.loop-i._i c.args.list.now c.loop-i.list c.flush_one.new.list _ _ _ c.loop-i.invariant.some e.0 e.1.0, fault-still c.in_err-flush_one.field-0.0 _ _ e.1.0 e.1.1)
+    rw (p.1, p.2) (flush-cut c.loop-i._i c.args.list.now c.loop-i.list c.flush_one.new.list _ _ _ c.loop-i.invariant.some (omega (arith, c.loop-i.invariant.all)) e.0 e.1.0, fault-still c.in_err-flush_one.field-0.0 _ _ e.1.0 e.1.1)
 
 pub returns : goal.returns
 returns g c =
