@@ -1,44 +1,38 @@
 """The words of a call, its three files, and what is said where one of them can't be drawn."""
 
 import sys
-from collections.abc import Callable
-from pathlib import Path
-from typing import TypeVar
 
 from .faults import Fault
-from .journal import read_journal
+from .files import Unread, read_run
 from .page import page_of
-from .stimuli import read_stimuli
-from .system import read_system
+from .story import Story
+from .verdict import Verdict, read_verdict
 
-USAGE = "usage: qpview SYSTEM STIMULI JOURNAL > run.html"
+USAGE = """usage: qpview SYSTEM STIMULI JOURNAL [VERDICT] > run.html
+
+Writes a page that shows a run. VERDICT is what `qp check` says of the journal, as 'broken D12 block 1 1': the page opens at
+the record to look at first. A journal that names what the system doesn't have is drawn only with its verdict."""
 
 #: Statuses: words that aren't a call, a file that can't be drawn, a page that can't be written.
 DONE, BAD_WORDS, BAD_FILE, NOT_WRITTEN = 0, 1, 2, 7
-
-_Value = TypeVar("_Value")
-
-
-class _Undrawn(Exception):
-    """A line for standard error."""
-
 
 def main(words: list[str]) -> int:
     """Writes the page to standard output; answers the status."""
     if words in (["-h"], ["--help"]):
         print(USAGE)
         return DONE
-    if len(words) != 3:
+    if len(words) not in (3, 4):
         print(USAGE, file=sys.stderr)
         return BAD_WORDS
     try:
-        system = _read(words[0], read_system)
-        stimuli = _read(words[1], lambda data: read_stimuli(data, system))
-        journal = _read(words[2], read_journal)
-    except _Undrawn as undrawn:
+        verdict = _verdict(words[3]) if words[3:] else None
+        story = Story(*read_run(words[0], words[1], words[2]))
+        if not verdict:
+            _refuse_foreign(story, words[2])
+    except Unread as undrawn:
         print(f"qpview: {undrawn}", file=sys.stderr)
         return BAD_FILE
-    page = page_of(system, stimuli, journal, (words[0], words[1], words[2]))
+    page = page_of(story, (words[0], words[1], words[2]), verdict)
     try:
         sys.stdout.buffer.write(page.encode())
         sys.stdout.buffer.flush()
@@ -48,12 +42,17 @@ def main(words: list[str]) -> int:
     return DONE
 
 
-def _read(name: str, reader: Callable[[bytes], _Value]) -> _Value:
+def _verdict(text: str) -> Verdict | None:
     try:
-        return reader(Path(name).read_bytes())
-    except FileNotFoundError:
-        raise _Undrawn(f"{name}: absent") from None
-    except (OSError, ValueError) as error:
-        raise _Undrawn(f"{name}: can't be read: {getattr(error, 'strerror', None) or error}") from None
+        return read_verdict(text)
     except Fault as fault:
-        raise _Undrawn(f"{name}: {fault}") from None
+        raise Unread(str(fault)) from None
+
+
+def _refuse_foreign(story: Story, name: str) -> None:
+    """Refuses the journal of another system."""
+    if foreign := story.foreign():
+        raise Unread(
+            f"{name}: line {story.line_of(foreign.index)}: names {foreign.what}, which the system doesn't have; "
+            "is it the journal of another system? With its verdict as a fourth word it is drawn"
+        )

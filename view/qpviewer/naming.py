@@ -11,6 +11,18 @@ class Names:
     def __init__(self, system: System):
         self._signals = {signal.number: signal.name for signal in system.signals.values()}
         self._timers = {event.number: f"{event.owner.name}.{event.timer.name}" for event in system.time_events}
+        self._objects = {entry.priority: entry for entry in system.objects}
+
+    def object(self, priority: int) -> str:
+        entry = self._objects.get(priority)
+        return entry.name if entry else f"object {priority}"
+
+    def state(self, priority: int, number: int) -> str:
+        """A state of an object's chart; a dash for none."""
+        entry = self._objects.get(priority)
+        if entry and 1 <= number <= len(entry.chart.states):
+            return entry.chart.states[number - 1].name
+        return f"state {number}" if number else "-"
 
     def signal(self, number: int) -> str:
         return self._signals.get(number, f"signal {number}")

@@ -7,9 +7,11 @@ from string import Template
 
 from .chart_layout import lay_out
 from .chart_svg import chart_svg
-from .journal import KERNELS, Journal
+from .journal import KERNELS
 from .story import Story
+from .suspects import suspect_of
 from .system_parts import Chart, System
+from .verdict import Verdict, verdict_words
 
 _ASSETS = Path(__file__).resolve().parent / "assets"
 #: The script's parts in order: a part uses those before it while it is read, and all others afterwards.
@@ -27,10 +29,14 @@ _OBJECT_HEADS = (
 _POOL_HEADS = ("Pool", "Block size", "Blocks", "Fewest free", "Given", "Returned")
 
 
-def page_of(system: System, stimuli: list[list[str]], journal: Journal, names: tuple[str, str, str]) -> str:
-    """The page of a run; `names` are those of the system's file, the stimuli's and the journal's."""
-    story = Story(system, stimuli, journal)
+def page_of(story: Story, names: tuple[str, str, str], verdict: Verdict | None = None) -> str:
+    """The page of a run; `names` are those of the system's file, the stimuli's and the journal's. It opens at the record of a
+    verdict, or where the run was stopped."""
+    system, journal = story.system, story.journal
     count = len(story.order.places)
+    stop = story.stop()
+    judged = suspect_of(verdict, system, story.stimuli, journal, story.order) if verdict else None
+    opens_at = next((index for index in (judged, stop) if index is not None), 0)
     facts = [
         f"kernel {KERNELS[journal.kernel]}", f"form {journal.form}", f"budget {journal.budget:,}",
         f"{count:,} record{'' if count == 1 else 's'}", f"{_ENDS[journal.status]} (end {journal.status})",
@@ -39,13 +45,14 @@ def page_of(system: System, stimuli: list[list[str]], journal: Journal, names: t
         title=escape(Path(names[2]).name),
         files=escape(f"{Path(names[0]).name} under {Path(names[1]).name}"),
         facts="".join(f"<li>{escape(fact)}</li>" for fact in facts),
-        notice=_notice(story),
+        stop=_stop(story, stop),
+        notices="".join(f'<p class="notice" role="note">{notice}</p>' for notice in _notices(story, verdict, judged)),
         meaning=escape(story.order.meaning),
         charts="\n".join(_chart(place, chart, system) for place, chart in enumerate(system.charts.values())),
         objects=_table("Objects", _OBJECT_HEADS, story.object_lines()),
         pools=_table("Pools", _POOL_HEADS, story.pool_lines()) if system.pools else "",
         records="\n".join(f"{lane} {record.text}" for lane, record in story.records()),
-        model=json.dumps(story.model(), separators=(",", ":")).replace("<", "\\u003c"),
+        model=json.dumps(story.model(opens_at), separators=(",", ":")).replace("<", "\\u003c"),
         style=_asset("style.css"),
         script="\n".join(_asset(name) for name in _SCRIPTS),
     )
@@ -55,15 +62,35 @@ def _asset(name: str) -> str:
     return (_ASSETS / name).read_text(encoding="utf-8")
 
 
-def _notice(story: Story) -> str:
-    against = story.order.against
-    if not against:
+def _link(index: int) -> str:
+    return f'<a href="#record={index + 1}">record {index + 1:,}</a>'
+
+
+def _stop(story: Story, stop: int | None) -> str:
+    """Who stopped the run and why, with the record."""
+    if stop is None:
         return ""
-    records = "1 record" if len(against) == 1 else f"{len(against):,} records"
-    return (
-        f'<p class="notice" role="note">The numbers of {records} don’t fit the order that is drawn, first at record '
-        f"{against[0] + 1:,}. <code>qp check</code> says whether the journal is lawful.</p>"
-    )
+    who, words = story.in_words(stop)
+    return f'<p class="stop"><b>{escape(who)}</b> {escape(words)}, at {_link(stop)}</p>'
+
+
+def _notices(story: Story, verdict: Verdict | None, judged: int | None) -> list[str]:
+    says = "<code>qp check</code> says whether the journal is lawful."
+    notices = []
+    if verdict:
+        place = f" Look first at {_link(judged)}: {escape(' '.join(story.in_words(judged)))}." if judged is not None else ""
+        notices.append(
+            f"<b>Not lawful.</b> <code>{escape(verdict.text)}</code>: {escape(verdict_words(verdict, story.names))}.{place}"
+        )
+    if foreign := story.foreign():
+        notices.append(
+            f"The system doesn’t have {escape(foreign.what)}, which {_link(foreign.index)} names. "
+            f"Is this the journal of another system? {says}"
+        )
+    if against := story.order.against:
+        records = "1 record" if len(against) == 1 else f"{len(against):,} records"
+        notices.append(f"The numbers of {records} don’t fit the order that is drawn, first at {_link(against[0])}. {says}")
+    return notices
 
 
 def _chart(place: int, chart: Chart, system: System) -> str:

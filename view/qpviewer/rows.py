@@ -8,12 +8,13 @@ from .system_parts import Object, System
 
 @dataclass(frozen=True)
 class LineRow:
-    """A row of the kind `object`, `kernel`, `source` or `lane`."""
+    """A row of the kind `object`, `kernel`, `source` or `lane`; `source` is the number of a source, from 1."""
 
     kind: str
     name: str
     object: Object | None = None
     lane: int | None = None
+    source: int = 0
 
 
 class Rows:
@@ -32,7 +33,8 @@ class Rows:
             self.rows.append(LineRow("lane", "lane 0", lane=0))
         first_source = len(system.objects) + 1 if self._is_port else 1
         for lane in range(first_source, len(journal.lanes)):
-            self.rows.append(LineRow("source", f"source {lane - first_source + 1}", lane=lane))
+            number = lane - first_source + 1
+            self.rows.append(LineRow("source", f"source {number}", lane=lane, source=number))
         self._of_object = {row.object.priority: place for place, row in enumerate(self.rows) if row.object}
         self._of_lane = {row.lane: place for place, row in enumerate(self.rows) if row.lane is not None}
 

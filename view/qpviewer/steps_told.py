@@ -19,8 +19,8 @@ class Step:
 
     `depth` counts the steps that it interrupts. `state` and `handler` are the state whose row was taken and the row's
     number, 0 where nothing was. `exits`, `entries` and `inits` are states in order, `after` is the state that it
-    leaves. `pauses` are the first and last records of the steps that interrupted it. It is `cut` where its `done`
-    doesn't stand.
+    leaves. `pauses` are the first and last records of the steps that interrupted it, `said` the values of its `say`
+    actions. It is `cut` where its `done` doesn't stand.
     """
 
     row: int
@@ -37,6 +37,7 @@ class Step:
     inits: list[int] = field(default_factory=list)
     after: int = 0
     pauses: list[list[int]] = field(default_factory=list)
+    said: list[str] = field(default_factory=list)
     cut: bool = True
 
 
@@ -115,7 +116,7 @@ class StepsTold:
                 self.deferred[priority] -= self.deferred[priority] > 0
                 self._change("undeferred", index, priority, self._words.label_of(*record.numbers[1:3]))
             case "say":
-                self._change("said", index, priority, str(signed(record.numbers[1])))
+                self._say(index, lane, priority, str(signed(record.numbers[1])))
 
     def _change(self, word: str, index: int, *numbers) -> None:
         self._words.changes.append([word, index, *numbers])
@@ -174,6 +175,11 @@ class StepsTold:
             {"exit": step.exits, "enter": step.entries, "init": step.inits}[record.word].append(state)
             step.after = self.states[priority]
 
+    def _say(self, index: int, lane: int, priority: int, value: str) -> None:
+        if step := self._step_of(lane, priority):
+            step.said.append(value)
+        self._change("said", index, priority, value)
+
     def _enter(self, index: int, priority: int, state: int) -> None:
         self.states[priority] = state
         self._change("state", index, priority, state)
@@ -191,10 +197,13 @@ class StepsTold:
             self._change("ceiling", index, ceiling.row, locked[-1].ceiling if locked else 0)
 
     def finish(self, last: int) -> None:
-        """Steps that are cut end in the state they got to; ceilings that nothing lowered stand until the last record."""
+        """Steps that are cut end in the state they got to, interrupted to their last record where another one still runs
+        above them; ceilings that nothing lowered stand until the last record."""
         for stack in self._stacks.values():
             for step in stack:
                 step.after = self.states[step.object]
+            for step in stack[:-1]:
+                step.pauses[-1][1] = step.last
         for locked in self._locked.values():
             for ceiling in locked:
                 ceiling.last = last

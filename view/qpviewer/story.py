@@ -3,10 +3,12 @@
 from dataclasses import fields
 from typing import Any
 
+from .foreign import Foreign, first_foreign
 from .journal import KERNELS, PORT, QK, SIM, Journal, Record
 from .naming import Names
 from .order import order_of
-from .rows import Rows
+from .record_words import RecordWords
+from .rows import LineRow, Rows
 from .steps_told import Ceiling, Step, StepsTold, Stimulus
 from .system_parts import Object, System
 from .words_told import WordsTold
@@ -16,25 +18,64 @@ class Story:
     """What a journal tells, record by record in one order."""
 
     def __init__(self, system: System, stimuli: list[list[str]], journal: Journal):
-        self._system, self._stimuli, self._journal = system, stimuli, journal
+        self.system, self.stimuli, self.journal = system, stimuli, journal
         self.order = order_of(journal, len(system.objects))
         self.rows = Rows(journal, system)
-        self.words = WordsTold(system, Names(system))
+        self.names = Names(system)
+        self._told = RecordWords(self.names)
+        self.words = WordsTold(system, self.names)
         self.steps = StepsTold(system, self.rows, self.words)
         self._row_of: list[int] = []
+        self._events: list[str] = []
         for index, (lane, record) in enumerate(self.records()):
             self._row_of.append(self.rows.row_of(lane, record.numbers[0]))
             self.words.tell(index, lane, record)
             self.steps.tell(index, lane, record)
+            self._events.append(self.words.event_told(record))
         self.steps.finish(max(len(self._row_of) - 1, 0))
 
     def records(self) -> list[tuple[int, Record]]:
         """The records in order, each with its lane."""
-        return [(lane, self._journal.lanes[lane][at]) for lane, at in self.order.places]
+        return [(lane, self.journal.lanes[lane][at]) for lane, at in self.order.places]
 
-    def model(self) -> dict[str, Any]:
-        """The value for the page's script; places of records are those in the order, from 0."""
-        journal = self._journal
+    def line_of(self, index: int) -> int:
+        """The line of the journal's text that has a record, from 1: behind the head stands each lane behind its own."""
+        lane, at = self.order.places[index]
+        return 2 + sum(len(records) + 1 for records in self.journal.lanes[:lane]) + at + 1
+
+    def in_words(self, index: int) -> tuple[str, str]:
+        """Who made a record, as its row is called, and what it says."""
+        lane, at = self.order.places[index]
+        record = self.journal.lanes[lane][at]
+        row = self.rows.rows[self._row_of[index]]
+        return row.name, self._told.words(record, self._events[index] or "an event", self.stimulus_of(row, record))
+
+    def stimulus_of(self, row: LineRow, record: Record) -> str:
+        """The line of the stimulus that a `stim` of this row begins; nothing for another record."""
+        if record.word != "stim":
+            return ""
+        place = record.numbers[1]
+        lines = self.stimuli[row.source - 1] if 1 <= row.source <= len(self.stimuli) else []
+        return lines[place - 1] if 1 <= place <= len(lines) else f"stimulus {place}"
+
+    def stop(self) -> int | None:
+        """The record at which the run was stopped: the `assert` of the lowest lane that has one, or else its `spent` or
+        `spill`."""
+        places = self.order.places
+        for words in (("assert",), ("spent", "spill")):
+            stops = [index for index, word in self.steps.marks if word in words]
+            if stops:
+                return min(stops, key=lambda index: places[index][0])
+        return None
+
+    def foreign(self) -> Foreign | None:
+        """The first record that names what the system doesn't have."""
+        return first_foreign((record for _, record in self.records()), self.system)
+
+    def model(self, opens_at: int = 0) -> dict[str, Any]:
+        """The value for the page's script, which first shows the record at this place; places are those in the order,
+        from 0."""
+        journal = self.journal
         return {
             "kernel": KERNELS[journal.kernel],
             "meaning": self.order.meaning,
@@ -49,20 +90,21 @@ class Story:
             "hasCeilings": journal.kernel in (SIM, QK),
             "arrows": self.words.arrows,
             "marks": self.steps.marks,
+            "opensAt": opens_at,
             "changes": self.words.changes,
             "labels": self.words.labels,
-            "sources": self._stimuli,
-            "objects": [self._object(entry) for entry in reversed(self._system.objects)],
+            "sources": self.stimuli,
+            "objects": [self._object(entry) for entry in reversed(self.system.objects)],
             "pools": [
                 {"size": pool.size, "blocks": pool.blocks, "free": self.words.free[number]}
-                for number, pool in enumerate(self._system.pools, 1)
+                for number, pool in enumerate(self.system.pools, 1)
             ],
-            "signals": {signal.number: signal.name for signal in self._system.signals.values()},
+            "signals": {signal.number: signal.name for signal in self.system.signals.values()},
             "charts": [
                 {"name": chart.name, "states": [state.name for state in chart.states]}
-                for chart in self._system.charts.values()
+                for chart in self.system.charts.values()
             ],
-            "timers": [f"{event.owner.name}.{event.timer.name}" for event in self._system.time_events],
+            "timers": [f"{event.owner.name}.{event.timer.name}" for event in self.system.time_events],
         }
 
     def _row(self, place: int) -> dict[str, Any]:
@@ -70,7 +112,7 @@ class Story:
         return {"kind": row.kind, "name": row.name, "priority": row.object.priority if row.object else 0}
 
     def _object(self, entry: Object) -> dict[str, Any]:
-        charts = list(self._system.charts.values())
+        charts = list(self.system.charts.values())
         return {
             "name": entry.name, "priority": entry.priority, "chart": charts.index(entry.chart),
             "capacity": entry.queue + 1, "lengths": self.words.lengths[entry.priority],
@@ -87,7 +129,7 @@ class Story:
                 f"{self.steps.deferred[entry.priority]} of {entry.defer}",
                 self._state_name(entry),
             ]
-            for entry in reversed(self._system.objects)
+            for entry in reversed(self.system.objects)
         ]
 
     def _state_name(self, entry: Object) -> str:
@@ -101,7 +143,7 @@ class Story:
                 str(number), str(pool.size), str(pool.blocks), str(self.words.fewest[number]),
                 str(self.words.given[number]), str(self.words.returned[number]),
             ]
-            for number, pool in enumerate(self._system.pools, 1)
+            for number, pool in enumerate(self.system.pools, 1)
         ]
 
 

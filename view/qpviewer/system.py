@@ -15,9 +15,10 @@ DEEPEST = 6
 
 
 def read_system(data: bytes) -> System:
-    """The system of a file's bytes. Raises `Fault` with a path of keys where the file is faulty."""
+    """The system of a file's bytes, which may begin with a byte order mark. Raises `Fault` with a path of keys where the
+    file is faulty."""
     try:
-        tree = tomllib.loads(data.decode())
+        tree = tomllib.loads(data.decode("utf-8-sig"))
     except (tomllib.TOMLDecodeError, UnicodeDecodeError) as error:
         raise Fault("", f"isn't TOML: {error}") from None
     except RecursionError:

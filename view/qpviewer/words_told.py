@@ -10,6 +10,9 @@ from .system_parts import System
 #: Kinds of arrows from a post to the take of its entry.
 POST, PUBLICATION, TIME_EVENT, LAST_IN = range(4)
 
+#: Where the entry of a record begins among its numbers.
+ENTRY_AT = {"took": 4, "post": 5, "lifo": 4, "defer": 1, "recall": 1, "flush": 1}
+
 
 class _Queued(NamedTuple):
     """An entry in a queue: where its arrow begins, the record of its post, and the arrow's kind."""
@@ -52,10 +55,21 @@ class WordsTold:
     def left_in(self, priority: int) -> int:
         return len(self._queues[priority])
 
+    def event_of(self, pool: int, block: int) -> str:
+        """The event of an entry as `NAME(1, 2)`, by its first two numbers."""
+        return self._names.event(block) if pool == 0 else self._events.get((pool, block), "?")
+
     def label_of(self, pool: int, block: int) -> int:
-        """The event of an entry, by its first two numbers."""
-        label = self._names.event(block) if pool == 0 else self._events.get((pool, block), "?")
-        return self._labels.setdefault(label, len(self._labels))
+        """The number of an entry's event, by its first two numbers."""
+        return self._labels.setdefault(self.event_of(pool, block), len(self._labels))
+
+    def event_told(self, record: Record) -> str:
+        """The event of the entry that a record has, or of the block that it gets; nothing where it has none. Asked right
+        after the record was taken."""
+        if record.word == "new":
+            return self.event_of(record.numbers[1], record.numbers[3])
+        place = ENTRY_AT.get(record.word)
+        return self.event_of(*record.numbers[place:place + 2]) if place is not None else ""
 
     def tell(self, index: int, lane: int, record: Record) -> None:
         """Takes the next record."""

@@ -1,11 +1,30 @@
 // Which record is chosen, and the search for others.
 
+// The place of the record that an address names, or null.
+function placeOfAddress(hash = location.hash) {
+  const number = Number(/^#record=(\d+)$/.exec(hash)?.[1]);
+  return number ? Math.min(number, count) - 1 : null;
+}
+
+// The address follows the chosen record, once no other one has been chosen for a moment: a browser takes few changes.
+const ADDRESS_DELAY = 200;
+let addressTimer = 0;
+function followByAddress() {
+  clearTimeout(addressTimer);
+  addressTimer = setTimeout(() => {
+    if (placeOfAddress() !== view.selected) history.replaceState(null, "", `#record=${view.selected + 1}`);
+  }, ADDRESS_DELAY);
+}
+
 function select(index, { move = true } = {}) {
   if (!count) return;
   view.selected = Math.max(0, Math.min(index, count - 1));
   byId("number").value = view.selected + 1;
   byId("scrub").value = view.selected;
-  byId("scrub").setAttribute("aria-valuetext", `record ${view.selected + 1}: ${Object.values(inWords(view.selected)).join(" ")}`);
+  const { who, words } = inWords(view.selected);
+  byId("scrub").setAttribute("aria-valuetext", `record ${view.selected + 1}: ${who} ${words}`);
+  byId("now").innerHTML = `<b>${escapeText(who)}</b> ${escapeText(words)}`;
+  followByAddress();
   if (move) reveal(view.selected);
   requestDraw();
   showMoment(view.selected);
@@ -26,24 +45,40 @@ function showSelectedChart() {
   showChart(view.chart, step, view.selected);
 }
 
-function isHit(index, word, row) {
-  return (word === "" || wordAt[index] === word) && (row === "" || model.rowOf[index] === Number(row));
+// What a record can be found by: its line, who it is and what it says, and the block of its entry.
+const searchable = [];
+function searchText(index) {
+  if (searchable[index] === undefined) {
+    const { who, words } = inWords(index);
+    const record = recordAt(index);
+    const at = ENTRY_AT[record.word];
+    const block = at !== undefined && record.numbers[at] ? ` block ${record.numbers[at]}.${record.numbers[at + 1]}` : "";
+    searchable[index] = `${record.text} ${who} ${words}${block}`.toLowerCase();
+  }
+  return searchable[index];
+}
+
+const wanted = () => ({ text: byId("text").value.trim().toLowerCase(), word: byId("kind").value, row: byId("owner").value });
+const isAny = ({ text, word, row }) => text === "" && word === "" && row === "";
+
+function isHit(index, { text, word, row }) {
+  return (word === "" || wordAt[index] === word) && (row === "" || model.rowOf[index] === Number(row))
+    && (text === "" || searchText(index).includes(text));
 }
 
 function search() {
-  const [word, row] = [byId("kind").value, byId("owner").value];
+  const what = wanted();
   view.hits = [];
-  if (word !== "" || row !== "") for (let index = 0; index < count; index += 1) if (isHit(index, word, row)) view.hits.push(index);
+  if (!isAny(what)) for (let index = 0; index < count; index += 1) if (isHit(index, what)) view.hits.push(index);
   setList(byId("only").checked ? view.hits : null);
   if (view.hits.length && !view.hits.includes(view.selected)) goToHit(1);
   else select(view.selected, { move: false });
 }
 
 function showHits() {
-  const chosen = byId("kind").value !== "" || byId("owner").value !== "";
   const place = countBelow(view.hits.length, (k) => view.hits[k], view.selected);
   const at = view.hits[place] === view.selected ? `${grouped(place + 1)} of ` : "";
-  byId("hits").textContent = chosen ? `${at}${grouped(view.hits.length)}` : "";
+  byId("hits").textContent = isAny(wanted()) ? "" : `${at}${grouped(view.hits.length)}`;
 }
 
 function goToHit(direction) {

@@ -20,6 +20,8 @@ function recordAt(index) {
   return { lane: Number(lane), word, numbers: numbers.map(Number), text: lines[index].slice(lane.length + 1) };
 }
 
+// Where the entry of a record begins among its numbers.
+const ENTRY_AT = { took: 4, post: 5, lifo: 4, defer: 1, recall: 1, flush: 1 };
 const wordAt = lines.map((line) => line.split(" ", 2)[1]);
 
 // The event that a record tells of, as a number of `model.labels`, or -1.

@@ -24,7 +24,7 @@ const KEYS = [
   [["0"], "0", "the whole run", fit],
   [["a"], "a", "move the view to the left", () => pan(-0.25)],
   [["d"], "d", "move the view to the right", () => pan(0.25)],
-  [["/"], "/", "search: kind", () => byId("kind").focus()],
+  [["/"], "/", "search: text", () => byId("text").focus()],
   [["n"], "n", "next match", () => goToHit(1)],
   [["N", "Shift+N"], "Shift N", "previous match", () => goToHit(-1)],
   [["t"], "t", "theme: auto, light, dark", nextTheme],
@@ -35,7 +35,7 @@ const KEY_OF = new Map(KEYS.flatMap(([keys, , , act]) => keys.map((key) => [key,
 // Keys that an element has for itself.
 function keepsKey(target, key) {
   if (byId("help").open) return true;
-  if (target.matches("input[type=number], select")) return true;
+  if (target.matches("input[type=number], input[type=search], select")) return true;
   if (target.matches("input[type=range]")) return ["ArrowLeft", "ArrowRight", "Home", "End", "PageUp", "PageDown"].includes(key);
   return target.matches(".table-scroll, .chart-scroll") && ["ArrowLeft", "ArrowRight"].includes(key);
 }

@@ -11,6 +11,11 @@ for (const [id, act] of Object.entries(CLICKS)) byId(id).addEventListener("click
 byId("scrub").addEventListener("input", () => select(Number(byId("scrub").value)));
 byId("number").addEventListener("change", () => select(Number(byId("number").value) - 1));
 for (const id of ["kind", "owner", "only"]) byId(id).addEventListener("change", search);
+byId("text").addEventListener("input", search);
+byId("text").addEventListener("keydown", (event) => {
+  if (event.key === "Enter") goToHit(event.shiftKey ? -1 : 1);
+  else if (event.key === "Escape") byId("text").blur();
+});
 byId("list").addEventListener("scroll", drawList);
 isNarrowPage.addEventListener("change", () => setList(list.shown));
 byId("list").addEventListener("click", (event) => {
@@ -43,5 +48,11 @@ resizeLine();
 if (view.scale < NARROW) setView(0, NARROW_START);
 new ResizeObserver(resizeLine).observe(byId("line-scroll"));
 setList(null);
-select((Number(/^#record=(\d+)$/.exec(location.hash)?.[1]) || 1) - 1);
+select(placeOfAddress() ?? model.opensAt);
+// A link to the record that the address still names changes no address, so a click on it chooses by itself.
+document.addEventListener("click", (event) => {
+  const link = event.target.closest("a[href^='#record=']");
+  if (link) select(placeOfAddress(link.hash));
+});
+addEventListener("hashchange", () => { if (placeOfAddress() !== null) select(placeOfAddress()); });
 if (!count) { showMoment(-1); showSelectedChart(); }

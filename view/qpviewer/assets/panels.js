@@ -89,10 +89,8 @@ function showMoment(index) {
     return;
   }
   const record = recordAt(index);
-  const { who, words } = inWords(index);
   const moment = momentAt(index);
-  byId("moment").innerHTML = `<p class="said"><b>${escapeText(who)}</b> ${escapeText(words)}</p>`
-    + `<p class="record-line"><code>${escapeText(record.text)}</code> `
+  byId("moment").innerHTML = `<p class="record-line"><code>${escapeText(record.text)}</code> `
     + `<span class="soft">lane ${record.lane}, record ${grouped(index + 1)}</span></p>`
     + objectTable(moment, index) + blockTable(moment) + otherFacts(moment);
 }

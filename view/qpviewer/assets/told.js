@@ -3,11 +3,14 @@
 const plural = (number, one) => `${number} ${number === 1 ? one : one.replace(/y$/, "ie") + "s"}`;
 const labelOf = (label) => (label >= 0 ? model.labels[label] : "an event");
 
+// The signed value of a number of 64 bits, which a number of the script can't hold.
+const signed = (token) => BigInt.asIntN(64, BigInt(token));
+
 const ASSERTIONS = {
   1: ([, , queue]) => `asserts: the queue of ${objectName(queue)} is full`,
   2: ([, , pool]) => `asserts: pool ${pool} has no free block`,
   3: ([, , timer]) => `asserts: ${timerName(timer)} is armed already`,
-  4: ([, , timer, ticks, interval]) => `asserts: ${timerName(timer)} can’t have ${ticks} ticks and interval ${interval}`,
+  4: ([, , timer], [ticks, interval]) => `asserts: ${timerName(timer)} can’t have ${ticks} ticks and interval ${interval}`,
   5: () => "asserts: its own queue is full, so nothing goes in front",
 };
 
@@ -60,7 +63,7 @@ const TOLD = {
   tick: ([, timer, , counter]) => `counts ${timerName(timer)} down to ${counter}`,
   fire: ([, timer]) => `lets ${timerName(timer)} fire`,
   settle: () => "settles",
-  assert: (numbers) => ASSERTIONS[numbers[1]](numbers),
+  assert: (numbers, event, text) => ASSERTIONS[numbers[1]](numbers, text.split(" ").slice(4).map(signed)),
   spent: () => "has spent its budget",
   spill: ([, length]) => `stops: the lane is full with ${length} records`,
   look: ([, k, floor]) => `begins look ${k}, with floor ${floor}`,
@@ -74,8 +77,8 @@ function inWords(index) {
   const words = record.word === "stim"
     ? `stimulus ${record.numbers[1]}: ${stimulusWords(row, record.numbers[1])}`
     : record.word === "say"
-      ? `says ${BigInt.asIntN(64, BigInt(record.text.split(" ")[2]))}`
-      : TOLD[record.word](record.numbers, labelOf(labelAt[index]));
+      ? `says ${signed(record.text.split(" ")[2])}`
+      : TOLD[record.word](record.numbers, labelOf(labelAt[index]), record.text);
   return { who: model.rows[row].name, words };
 }
 
@@ -90,6 +93,7 @@ function stepFacts(step) {
   else if (steps.label[step] >= 0) facts.push(["handled by", "no state"]);
   facts.push(["exits", names(steps.exits[step]) || "none"], ["enters", names(steps.entries[step]) || "none"]);
   if (steps.inits[step].length) facts.push(["initial of", names(steps.inits[step])]);
+  if (steps.said[step].length) facts.push(["says", steps.said[step].join(", ")]);
   facts.push([steps.cut[step] ? "cut off in" : "state after", stateName(priority, steps.after[step])]);
   return facts;
 }

@@ -67,8 +67,18 @@ function zoom(factor, x = xOf(columns[view.selected] ?? 0)) {
 const pan = (share) => setView(view.start + (share * view.width) / view.scale, view.scale);
 const fit = () => setView(0, 0);
 
+// Scrolls the rows so that a record's row is among those in sight.
+function revealRow(index) {
+  const [band, panel] = [rowBands[model.rowOf[index]], byId("line-scroll")];
+  if (band.y < panel.scrollTop) panel.scrollTop = band.y;
+  else if (band.y + band.height > panel.scrollTop + panel.clientHeight) {
+    panel.scrollTop = band.y + band.height - panel.clientHeight;
+  }
+}
+
 // Moves the view so that a record is in it.
 function reveal(index) {
+  revealRow(index);
   const shown = view.width / view.scale;
   const column = columns[index];
   if (column < view.start + shown * 0.06 || column + 1 > view.start + shown * 0.94) setView(column - shown / 2, view.scale);
