@@ -7,15 +7,19 @@ use Rattle.qp_model.specs.declared.bodies.Entry.{Entry}
 use Rattle.qp_model.specs.declared.bodies.Body.TheVariants as body
 use Rattle.qp_model.specs.Told.{Told, plain}
 use Rattle.qp_model.specs.Kernels.{sim}
-use Rattle.qp_model.specs.OneOrder.{acts_next}
+use Rattle.qp_model.specs.OneOrder.{Placed, acts_next}
 use Rattle.qp_model.specs.Sources.{StimFits}
 use Rattle.qp_calls.specs.LaneView.{LaneView, is_codeless, is_known, no_code}
 use Rattle.qp_kernel.specs.declared.world.Irq.{Irq}
 use Rattle.qp_kernel.specs.declared.world.Irq.TheVariants as irq
 use Rattle.qp_kernel.specs.Happenings.{order_of, told_by, has_no_stim}
 
--- the lane chosen, its records, the codes that it handed to `stop` and the object set by `by` are as they were; words may have gone on
+-- the lane chosen, its records, the codes that it handed to `stop` and the object set by `by` are as they were; words may have gone on, and
+-- records of another lane may have come behind those of the log
 pub record IsLaneKept (old new : LaneView) : Type 0 where
+  pub world : new.world ≡ old.world
+  pub lane : new.lane ≡ old.lane
+  pub log : (more : List Placed) × (new.log ≡ old.log ++ more)
   pub sys : new.sys ≡ old.sys
   pub told : new.told ≡ old.told
   pub spare : new.spare ≡ old.spare
@@ -117,8 +121,9 @@ pub record IsStopped (look : ℕ) (base : Bool) (old new : LaneView) : Type 0 wh
   pub why : ((new.happened ≡ old.happened) × (is_unset old ≡ false)) ⊎ HappensToFail look base old new ⊎ HappensInPart look base old new ⊎ FindsNoRoom base old new
 
 -- What a look with this count let happen; `acts` tells whether the world has sources that act in looks, and `base` that no step is under way.
+-- Without such sources the answer is `Nothing`.
 abbrev pub Interrupts : Bool → ℕ → Bool → LaneView → LaneView → Irq → Type 0
 Interrupts acts look base old new irq.Happened = (acts ≡ true) × Happens look base old new
 Interrupts acts look base old new irq.Nothing = HasNone acts base old new
-Interrupts acts look base old new irq.Stopped = IsStopped look base old new
-Interrupts acts look base old new irq.Memory = IsLaneKept old new
+Interrupts acts look base old new irq.Stopped = (acts ≡ true) × IsStopped look base old new
+Interrupts acts look base old new irq.Memory = (acts ≡ true) × IsLaneKept old new

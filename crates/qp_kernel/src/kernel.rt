@@ -18,6 +18,7 @@ impl Kernel {
     pub fn new() -> Kernel
         ensures looks { result.looks ≡ 0 }
         ensures stack { result.stack.items ≡ [] }
+        ensures steps { result.steps ≡ 0 }
     {
         Kernel {
             looks: 0,

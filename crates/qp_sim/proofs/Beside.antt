@@ -16,7 +16,7 @@ use Rattle.qp_plain.specs.NewWorld.{GoesTo, chosen, lanes_in}
 use Rattle.qp_plain.specs.WorldView.{world_view}
 use Rattle.qp_kernel.specs.Interrupting.{IsLaneKept}
 use Rattle.qp_sim.specs.Visiting.{Leaves, HasStopped}
-use Rattle.qp_sim.proofs.Worlds.{tolds, purses, told-here, told-aside, lane-is, long, within, long-aside, long-beside, own_purse, purse-here, told-other, purse-other, purses-aside, tolds-stay, purses-stay}
+use Rattle.qp_sim.proofs.Worlds.{tolds, purses, told-here, told-aside, lane-is, no-name, long, within, long-aside, long-beside, own_purse, purse-here, told-other, purse-other, purses-aside, tolds-stay, purses-stay}
 
 -- What two views have alike where another lane is chosen between them.
 pub record Alike (v w : LaneView) : Type 0 where
@@ -229,8 +229,16 @@ module _ (source former : ℕ) (a b c d e f : PlainWorld) (home : chosen a ≡ 0
   told_home =
       told-here f ∙ ap (λ k. get_or (tolds f) k []) back.at ∙ others_told 0 away ∙ ap (λ k. get_or (tolds a) k []) (sym home) ∙ sym (told-here a)
 
+  log_gains : (world_view f).log ≡ (world_view a).log ++ map (placed_by source) ts
+  log_gains =
+      behind.log ∙ went.log ∙ ap (λ l. l ++ map (placed_by (world_view c).lane) ts) before.log
+      ∙ ap (λ k. (world_view a).log ++ map (placed_by k) ts) (lane-is c ∙ lane_there)
+
   lane_kept : IsLaneKept (world_view a) (world_view f)
   lane_kept = record {
+    world = no-name f ∙ sym (no-name a);
+    lane = lane-is f ∙ back.at ∙ sym home ∙ sym (lane-is a);
+    log = (map (placed_by source) ts, log_gains);
     sys = behind.sys ∙ went.sys ∙ before.sys;
     told = told_home;
     spare = ap (λ p. p.spare) purse_home;
@@ -251,11 +259,6 @@ module _ (source former : ℕ) (a b c d e f : PlainWorld) (home : chosen a ≡ 0
     event = λ x known. behind.event x ∙ went.event x (before.known x ∙ known) ∙ before.event x;
     plan = behind.plan ∙ went.plan ∙ before.plan;
   }
-
-  log_gains : (world_view f).log ≡ (world_view a).log ++ map (placed_by source) ts
-  log_gains =
-      behind.log ∙ went.log ∙ ap (λ l. l ++ map (placed_by (world_view c).lane) ts) before.log
-      ∙ ap (λ k. (world_view a).log ++ map (placed_by k) ts) (lane-is c ∙ lane_there)
 
   same_lanes : lanes_in f ≡ lanes_in a
   same_lanes =

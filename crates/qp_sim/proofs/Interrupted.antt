@@ -1,5 +1,5 @@
 -- What a look let happen, as lane 0 sees it.
-use Rattle.std.proofs.Common.{◌≡◌, ℕ, zero, suc, ◌+◌, ◌-◌, ◌<◌, ◌≤◌, ◌==◌, nat_lt, cond, Bool, true, false, ◌⊎◌, ◌&&◌, ◌||◌, List, [], ◌∷◌, ◌++◌, map, length, drop, get_or, slice_set, refl, sym, ◌∙◌, ap, subst, arith, inl, inr, Option, Some, None}
+use Rattle.std.proofs.Common.{◌≡◌, ℕ, zero, suc, ◌+◌, ◌-◌, ◌<◌, ◌≤◌, ◌==◌, nat_lt, cond, Bool, true, false, ◌⊎◌, ◌&&◌, ◌||◌, List, [], ◌∷◌, ◌++◌, map, length, drop, get_or, slice_set, refl, sym, ◌∙◌, ap, subst, arith, inl, inr, Option, Some, None, append-nil}
 use Rattle.std.specs.List.{list_all, list_any}
 use Rattle.std.specs.Option.{option_map, is_some}
 use Rattle.std.proofs.lemmas.Bool.{and_from, and_parts}
@@ -40,6 +40,9 @@ use Rattle.qp_sim.proofs.Worlds.{purses, purse-here}
 pub seated-kept : (plan : List (List Stim)) (hs more : List Happening) (v w : LaneView) → IsLaneKept v w → IsLaneKept (seated plan hs v) (seated plan more w)
 unfolding is_known
 seated-kept plan hs more v w k = record {
+  world = k.world;
+  lane = k.lane;
+  log = k.log;
   sys = k.sys;
   told = k.told;
   spare = k.spare;
@@ -55,6 +58,9 @@ seated-kept plan hs more v w k = record {
 
 pub kept-answered : (v w : LaneView) (codes : List ℕ) → IsLaneKept v w → IsLaneKept v (record w { answered = codes })
 kept-answered v w codes k = record {
+  world = k.world;
+  lane = k.lane;
+  log = k.log;
   sys = k.sys;
   told = k.told;
   spare = k.spare;
@@ -70,6 +76,9 @@ kept-answered v w codes k = record {
 
 pub kept-same : (v : LaneView) → IsLaneKept v v
 kept-same v = record {
+  world = refl;
+  lane = refl;
+  log = ([], sym (append-nil v.log));
   sys = refl;
   told = refl;
   spare = refl;

@@ -50,6 +50,10 @@ module _ (w : PlainWorld) where
   unfolding view_of
   lane-is = refl
 
+  pub no-name : (world_view w).world ≡ []
+  unfolding view_of
+  no-name = refl
+
   pub long : length (tolds w) ≡ lanes_in w
   long =
       length-map (lists_of w.book) (tells w) ∙ length-map (logs_of w.book) recs_of

@@ -56,7 +56,7 @@ returns-then-is_some g c =
     let w = c.args.self.now in
     let some : is_some c.stopped.result ≡ true = cc in
     let found = some-found (world_view w.plain) (world_view c.stopped.new.self) c.stopped.result c.stopped.ensures some in
-    stopped-first w.stim.now w.done.list w.plain c.stopped.new.self found.0 found.1 c.args.look c.args.base
+    (refl, stopped-first w.stim.now w.done.list w.plain c.stopped.new.self found.0 found.1 c.args.look c.args.base)
 
 pub returns-in_default : goal.returns-in_default
 returns-in_default g c =
@@ -122,7 +122,7 @@ returns-in-Memory g c =
     record { s = a.s; left = a.left; its = a.its; g = a.g; leaves = a.leaves; happened = a.happened; amounts = a.amounts; plan = a.plan } in
     let few = place-there here c.args.sys.now made c.args.base c.if-base.rests resting live c.in-Some.j is in
     let before = ap (seated w.stim.now w.done.list) found.0 in
-    subst (λ (x : LaneView). IsLaneKept x (sim_view c.act.new.self)) before (memory-acted here c.args.sys.now made c.args.base c.if-base.rests resting live c.in-Some.j c.args.look c.act.new.self c.act.result few is acted)
+    (refl, subst (λ (x : LaneView). IsLaneKept x (sim_view c.act.new.self)) before (memory-acted here c.args.sys.now made c.args.base c.if-base.rests resting live c.in-Some.j c.args.look c.act.new.self c.act.result few is acted))
 
 pub returns-in-Stopped : goal.returns-in-Stopped
 returns-in-Stopped g c =
@@ -140,9 +140,11 @@ returns-in-Stopped g c =
     let acted : HasActed c.in-Some.j c.args.sys.now c.args.look here c.act.new.self c.act.result =
     record { s = a.s; left = a.left; its = a.its; g = a.g; leaves = a.leaves; happened = a.happened; amounts = a.amounts; plan = a.plan } in
     let few = place-there here c.args.sys.now made c.args.base c.if-base.rests resting live c.in-Some.j is in
-    let before = ap (seated w.stim.now w.done.list) found.0 in
-    subst (λ (x : LaneView). IsStopped c.args.look c.args.base x (seated c.act.new.self.stim.now c.act.new.self.done.list (world_view c.stopped-in-Stopped.new.self))) before
-    (stopped-acted here c.args.sys.now made c.args.base c.if-base.rests resting live c.in-Some.j c.args.look c.act.new.self c.act.result few is acted c.stopped-in-Stopped.new.self c.stopped-in-Stopped.result c.stopped-in-Stopped.ensures (subst (λ (x : Stimulated). Amounts c.args.sys.now a.s (get_or w.begun.items c.in-Some.j 0 + 1) c.args.look (length (told_by (c.in-Some.j + 1) w.done.list)) a.g (world_view c.stopped.new.self) (world_view c.act.new.self.plain) x) c.in-Stopped.is a.amounts))
+    let before = ap (seated w.stim.now w.done.list) found.0 in (
+      refl,
+      subst (λ (x : LaneView). IsStopped c.args.look c.args.base x (seated c.act.new.self.stim.now c.act.new.self.done.list (world_view c.stopped-in-Stopped.new.self))) before
+    (stopped-acted here c.args.sys.now made c.args.base c.if-base.rests resting live c.in-Some.j c.args.look c.act.new.self c.act.result few is acted c.stopped-in-Stopped.new.self c.stopped-in-Stopped.result c.stopped-in-Stopped.ensures (subst (λ (x : Stimulated). Amounts c.args.sys.now a.s (get_or w.begun.items c.in-Some.j 0 + 1) c.args.look (length (told_by (c.in-Some.j + 1) w.done.list)) a.g (world_view c.stopped.new.self) (world_view c.act.new.self.plain) x) c.in-Stopped.is a.amounts)),
+    )
 
 pub invariant_of-self-in-Stopped : goal.invariant_of-self-in-Stopped
 invariant_of-self-in-Stopped g c =
