@@ -156,7 +156,7 @@ module _ (sys : System) (stimuli : List (List Stim)) (lanes : List (List Rec)) (
   pub idle-is_quiet : AreAble sys → j.kernel ≡ kernel_in terms → j.budget ≡ terms.budget → j.end ≡ quiet → IsQuietRun sys stimuli j idle.state
   idle-is_quiet able kernel same end =
       let sources = sources-are sys stimuli lanes v left j at (no-port terms j.kernel kernel) in
-      let rests = quiet-end sys lanes left.order (deferred_of sys j sys.objects) left.world (only kernel) in
+      let rests = quiet-end sys lanes (hands_in sys lanes left.order) (deferred_of sys j sys.objects) left.world.sound (only kernel) in
       record {
         sound = sound;
         able = able;

@@ -20,7 +20,7 @@ use Rattle.qp_calls.specs.Counting.{one, times, count_of}
 use Rattle.qp_calls.specs.Deferring.{tokens_in}
 use Rattle.qp_calls.proofs.CountLemmas.{count-with}
 use Rattle.qp_sound.specs.WordStates.{pool_in, life_in, refs_in, line_in}
-use Rattle.qp_sound.specs.Sound.{Sound, SoundWorld, BlockIn, sum_below, queued, queues, entries_in, is_ref, hands_in}
+use Rattle.qp_sound.specs.Sound.{Sound, BlockIn, sum_below, queued, queues, entries_in, is_ref, hands_in}
 use Rattle.qp_sound.specs.Ending.{BlockStands, IsFree, IsLoose, IsReferred, OnlyDeferred, stands_in}
 use Rattle.qp_sound.specs.Laws.{EveryBlockStands, QuietEndRests}
 use Rattle.qp_sound.proofs.Times.{has-times, times-without_one}
@@ -160,7 +160,7 @@ unfolding sum_below
 sum-none zero f h = refl
 sum-none (suc n) f h = let k = sum-none n f h in let z = h n in omega (arith, k, z)
 
-module _ (sys : System) (lanes : List (List Rec)) (order : List ℕ) (deferred : List Entry) (world : SoundWorld sys lanes order) (only : OnlyDeferred sys lanes (hands_in sys lanes order) deferred) where
+module _ (sys : System) (lanes : List (List Rec)) (hands : List Token) (deferred : List Entry) (sound : Sound sys lanes hands) (only : OnlyDeferred sys lanes hands deferred) where
   none-queued : (t : Token) → queued sys lanes t ≡ 0
   unfolding queued entries_in times
   none-queued t = sum-none queues (λ a. times (is_ref t) (entries_in sys lanes a)) (λ a. go a (is_object sys a) refl)
@@ -175,7 +175,7 @@ module _ (sys : System) (lanes : List (List Rec)) (order : List ℕ) (deferred :
     where
       names : (r : ℕ) → times (λ x. x == r) (refs_in lanes p b).names ≡ times (λ x. x == r) (names_on p b deferred)
       names r =
-          let owned = (world.sound.block p b h).owned r in
+          let owned = (sound.block p b h).owned r in
           let none = none-queued (Held p b r) in
           let held = only.hands_are (Held p b r) in
           let same = names-tokens p b r some deferred in
@@ -224,4 +224,4 @@ lines-none sys lanes empty done (d ∷ left) split =
 
 pub quiet-end : QuietEndRests
 unfolding lines_empty line_in
-quiet-end sys lanes order deferred world only = (lines-none sys lanes only.queues [] sys.objects refl, all-rest sys lanes order deferred world only)
+quiet-end sys lanes hands deferred sound only = (lines-none sys lanes only.queues [] sys.objects refl, all-rest sys lanes hands deferred sound only)

@@ -18,11 +18,11 @@ use Rattle.qp_model.specs.WordLaw.{Words, is_block}
 use Rattle.qp_calls.specs.declared.tokens.Hold.{Hold}
 use Rattle.qp_calls.specs.Clauses.{StandsHold}
 use Rattle.qp_calls.specs.LaneView.{Gains, GrowsOf, IsNew, LaneView, Purse, ceiling_in, is_known, mark_by, own_of}
-use Rattle.qp_calls.specs.Tokens.{hands_by}
+use Rattle.qp_calls.specs.Tokens.{Token, hands_by}
 use Rattle.qp_calls.specs.LaneLaws.{IsWithinLimit, HasCauses}
 use Rattle.qp_calls.specs.Notes.{MayNote, MayStop, told_note, stop_code}
 use Rattle.qp_sound.specs.Log.{Orders, empty_lanes, lane_of, log_of, items_of}
-use Rattle.qp_sound.specs.Sound.{SoundWorld, facts_in, hands_in}
+use Rattle.qp_sound.specs.Sound.{Sound, SoundWorld, facts_in, hands_in}
 use Rattle.qp_sound.specs.Step.{Step, Grown, before, behind, MayCome}
 use Rattle.qp_sound.specs.Ending.{BlockStands, OnlyDeferred}
 use Rattle.qp_sound.specs.View.{view_of}
@@ -155,9 +155,9 @@ EveryBlockStands =
     → IsTrue (is_block sys p b)
     → BlockStands sys lanes (hands_in sys lanes order) p b
 
--- where all queues are empty and the hands are the deferred entries, the run may end
+-- where all queues are empty and the hands are the deferred entries, the run may end, whatever the order of the calls was
 abbrev pub QuietEndRests : Type 0
 QuietEndRests =
-    (sys : System) (lanes : List (List Rec)) (order : List ℕ) (deferred : List Entry) → SoundWorld sys lanes order
-    → OnlyDeferred sys lanes (hands_in sys lanes order) deferred
+    (sys : System) (lanes : List (List Rec)) (hands : List Token) (deferred : List Entry) → Sound sys lanes hands
+    → OnlyDeferred sys lanes hands deferred
     → IsTrue (lines_empty sys (all_items lanes)) × IsTrue (blocks_rest sys (all_items lanes) deferred)
