@@ -1,5 +1,5 @@
 -- What the two kernels of one thread have in common.
-use Rattle.std.proofs.Common.{◌≡◌, ℕ, ◌+◌, ◌==◌, Bool, true, false, ◌||◌, List, [], ◌∷◌, refl, sym, ◌∙◌, ap, subst, inl, inr, arith}
+use Rattle.std.proofs.Common.{◌≡◌, ℕ, ◌+◌, ◌==◌, Bool, true, false, ◌||◌, cond, List, [], ◌∷◌, refl, sym, ◌∙◌, ap, subst, inl, inr, arith}
 use Rattle.std.specs.Prelude.{◌⊎◌}
 use Rattle.std.proofs.lemmas.Bool.Decides.{nat_tests}
 use Rattle.qp_model.specs.declared.stimulus.Stim.{Stim}
@@ -8,6 +8,8 @@ use Rattle.qp_model.specs.declared.systems.System.{System}
 use Rattle.qp_model.specs.Kernels.{sim, qk, port, qv, has_one_order}
 use Rattle.qp_model.specs.Sources.{Settles, StimFits, SourceEnd, EndsIn, SourceRuns}
 use Rattle.qp_model.specs.Told.{Told}
+use Rattle.qp_kernel.specs.Turning.{Terms, kernel_in}
+use Rattle.qp_kernel.specs.ZeroEnds.{most_rows}
 
 one-order_is : (kernel : ℕ) → has_one_order kernel ≡ true → (kernel ≡ sim) ⊎ (kernel ≡ qv)
 one-order_is kernel one = by (kernel == sim) refl
@@ -22,6 +24,22 @@ one-order_no-port kernel one = by (one-order_is kernel one)
     by : (kernel ≡ sim) ⊎ (kernel ≡ qv) → (kernel == port) ≡ false
     by (inl e) = rw e refl
     by (inr e) = rw e refl
+
+-- a run whose sources have no threads is under one of them
+pub one-order : (terms : Terms) → terms.threaded ≡ false → has_one_order (kernel_in terms) ≡ true
+one-order terms single = rw single (by terms.cooperative)
+  where
+    by : (b : Bool) → ((cond b qv sim == sim) || (cond b qv sim == qv)) ≡ true
+    by true = refl
+    by false = refl
+
+-- and at most one row at the base has no step
+pub one-row : (terms : Terms) (idle : ℕ) → terms.threaded ≡ false → most_rows (kernel_in terms) idle ≡ 1
+one-row terms idle single = rw single (by terms.cooperative)
+  where
+    by : (b : Bool) → cond (cond b qv sim == qk) idle 1 ≡ 1
+    by true = refl
+    by false = refl
 
 -- lane 0 is read under them
 pub one-order_kernel : (kernel : ℕ) → has_one_order kernel ≡ true → ((kernel == sim) || (kernel == qk) || (kernel == qv)) ≡ true

@@ -1,5 +1,5 @@
 -- The deferred entries of a run that has ended quietly are those that its objects keep.
-use Rattle.std.proofs.Common.{◌≡◌, ℕ, ◌<◌, ◌==◌, Bool, true, false, List, [], ◌∷◌, ◌++◌, refl, sym, ◌∙◌, ap, subst, Some, append-nil}
+use Rattle.std.proofs.Common.{◌≡◌, ℕ, ◌<◌, ◌==◌, Bool, true, false, cond, List, [], ◌∷◌, ◌++◌, refl, sym, ◌∙◌, ap, subst, Some, append-nil}
 use Rattle.std.specs.List.{AllByRecursion}
 use Rattle.qp_chart.specs.declared.checked.Chart.{Chart}
 use Rattle.qp_model.specs.declared.systems.System.{System}
@@ -8,7 +8,7 @@ use Rattle.qp_model.specs.declared.journals.Journal.{Journal}
 use Rattle.qp_model.specs.declared.bodies.Entry.{Entry}
 use Rattle.qp_model.specs.History.{lane_items}
 use Rattle.qp_model.specs.Knowing.{told_lane, records_of}
-use Rattle.qp_model.specs.Kernels.{port}
+use Rattle.qp_model.specs.Kernels.{sim, qk, port, qv}
 use Rattle.qp_model.specs.KernelLane.{unread}
 use Rattle.qp_model.specs.Home.{lane_at, home_of, by_object}
 use Rattle.qp_model.specs.Pieces.{Piece, bare}
@@ -29,9 +29,9 @@ use Rattle.qp_kernel.specs.Laws.{kept_by, DeferredAreKept}
 use Rattle.qp_kernel.proofs.ToldPieces.{none-owed}
 use Rattle.qp_kernel.proofs.BareLemmas.{bare-told, own-unmarked, dispatched-all}
 use Rattle.qp_kernel.proofs.KeptLemmas.{course-kept}
-use Rattle.qp_kernel.proofs.LawfulLemmas.{IsFound, all-found, all-zip}
+use Rattle.qp_kernel.proofs.ZeroLawful.{IsFound, all-found, all-zip}
 
-resting-kept : (sys : System) (d : ObjectDef) (chart : Chart) (es : List Entry) (ps : List Piece) (s : Stage) (c : Config) → s ≡ stage.Resting c
+pub resting-kept : (sys : System) (d : ObjectDef) (chart : Chart) (es : List Entry) (ps : List Piece) (s : Stage) (c : Config) → s ≡ stage.Resting c
     → ComesTo sys (actor d chart) (first_config d) es ps s → kept_after d.defer [] (bare ps) ≡ Some c.kept
 unfolding ComesTo Leaves
 resting-kept sys d chart es ps s c is h =
@@ -45,11 +45,12 @@ own-is sys j o other =
     ap (λ n. records_of (facts_of sys j) o 0 (lane_items (lane_at j n))) home ∙ records_of-told (facts_of sys j) o 0 (lane_items (lane_at j 0))
 
 pub no-port : (terms : Terms) (kernel : ℕ) → kernel ≡ kernel_in terms → (kernel == port) ≡ false
-no-port terms kernel is = ap (λ k. k == port) is ∙ by terms.cooperative
+no-port terms kernel is = ap (λ k. k == port) is ∙ by terms.threaded terms.cooperative
   where
-    by : (b : Bool) → (kernel_in (record { cooperative = b; budget = terms.budget }) == port) ≡ false
-    by true = refl
-    by false = refl
+    by : (a b : Bool) → (cond a qk (cond b qv sim) == port) ≡ false
+    by true b = refl
+    by false true = refl
+    by false false = refl
 
 -- one object that rests
 object-kept : (sys : System) (terms : Terms) (s : KernelState) (d : ObjectDef) (chart : Chart) (c : Config) → Stands sys terms s → s.owed ≡ 0 → object_at sys d.priority ≡ Some d → 0 < d.priority
@@ -63,7 +64,7 @@ object-kept sys terms s d chart c old none at some is rests =
     let records = bare-told (setting sys (kernel_in terms) s.now) d.priority (unread sys) s.told ∙ dispatched-all (own_told d.priority s.told) (own-unmarked d.priority s.told old.unmarked) in
     ap (kept_after d.defer []) (sym records) ∙ resting-kept sys d chart (s.entries d.priority) pieces (s.stages d.priority) c rests its
 
-kept-all : (sys : System) (j : Journal) (keeps : ℕ → Config) (ds : List ObjectDef) → AllByRecursion (λ d. kept_after d.defer [] (by_object (facts_of sys j) j d.priority) ≡ Some (keeps d.priority).kept) ds
+pub kept-all : (sys : System) (j : Journal) (keeps : ℕ → Config) (ds : List ObjectDef) → AllByRecursion (λ d. kept_after d.defer [] (by_object (facts_of sys j) j d.priority) ≡ Some (keeps d.priority).kept) ds
     → deferred_of sys j ds ≡ kept_by keeps ds
 unfolding deferred_of
 kept-all sys j keeps [] h = refl

@@ -1,15 +1,14 @@
 -- The laws of a kernel's lane.
-use Rattle.std.proofs.Common.{◌≡◌, ℕ, ◌==◌, Bool, true, false, List, [], ◌∷◌, refl, sym, subst}
+use Rattle.std.proofs.Common.{◌≡◌, ℕ, Bool, List, [], ◌∷◌, refl, sym, subst}
 use Rattle.qp_model.specs.declared.systems.System.{System}
 use Rattle.qp_model.specs.declared.bodies.Entry.{Entry}
 use Rattle.qp_kernel.specs.Stages.{Stage}
 use Rattle.qp_model.specs.Told.{ToldItem}
 use Rattle.qp_model.specs.Step.{whole_step}
 use Rattle.qp_model.specs.Course.{actor}
-use Rattle.qp_model.specs.Kernels.{qk}
 use Rattle.qp_model.specs.KernelLane.{Reading, Upcoming, Inside, Looking, Chosen, Ended, Resting, Again, Over, Halted, above}
 use Rattle.qp_model.proofs.KernelRowLemmas.{IsWithin, MayLook}
-use Rattle.qp_kernel.specs.LaneZero.{setting, HasOneRow, LaneZero}
+use Rattle.qp_kernel.specs.LaneZero.{setting, HasOneRow, HasRows, LaneZero}
 use Rattle.qp_kernel.specs.Turning.{KernelState, Stands, Terms, IsInStep, IsLookPlace, kernel_in}
 use Rattle.qp_kernel.specs.Laws.{LaneBegins, LooksAreSettled, ObjectStarts, LookIsAdded, EmptyIsSeen, EntryIsSeen, RestIsAdded, StepBegins, StepPauses, StepEnds, RunEndsQuietly, RunStopsElsewhere, BudgetEnds, AssertionEndsStep, AssertionEndsStart, SpillEndsStep, SpillEndsStart, FullLaneEnds, RunsAreLawful}
 use Rattle.qp_kernel.proofs.ZeroLemmas.{zero-settled, zero-look, zero-seen-empty, zero-seen-entry, zero-rest, zero-took}
@@ -21,24 +20,16 @@ use Rattle.qp_kernel.proofs.LawfulLemmas.{lawful}
 in-step : (k : Reading) (p : ℕ) (outer : List ℕ) → IsInStep k p outer → IsWithin k p outer
 in-step k p outer h = record { started = h.started; running = h.running; inside = h.inside }
 
-may-look : (kernel : ℕ) (place : Upcoming) (running : List ℕ) → IsLookPlace place running → MayLook kernel place running
+may-look : (kernel : ℕ) (place : Upcoming) (running : List ℕ) → IsLookPlace kernel place running → MayLook kernel place running
 may-look kernel Inside [] h = h
 may-look kernel Inside (p ∷ outer) h = h
 may-look kernel (Ended p) running h = h
 may-look kernel Again running h = h
-may-look kernel Over running h = absurd h
+may-look kernel Over running h = h
 may-look kernel (Looking p others) running h = absurd h
 may-look kernel (Chosen p) running h = absurd h
 may-look kernel Resting running h = absurd h
 may-look kernel Halted running h = absurd h
-
--- it has one row at the base
-one-row_kernel : (terms : Terms) → (kernel_in terms == qk) ≡ false
-one-row_kernel terms = by terms.cooperative
-  where
-    by : (b : Bool) → (kernel_in (record { cooperative = b; budget = terms.budget }) == qk) ≡ false
-    by true = refl
-    by false = refl
 
 -- the state without an owed point, and back
 module _ (sys : System) (terms : Terms) (s : KernelState) where
@@ -64,14 +55,16 @@ object_starts sys terms s p d chart others g c numbered is some old none first u
 pub look_is_added : LookIsAdded
 look_is_added sys terms s n floor next numbered old started may owes count level same =
     let look = may-look (kernel_in terms) s.reading.place s.reading.running may in
-    let idle = look-idle (kernel_in terms) s.reading.place s.reading.running s.reading.idle (one-row_kernel terms) look old.rows in
-    let rows : HasOneRow next.place next.idle = subst (λ r. HasOneRow r.place r.idle) (same s.now (λ m few. refl)) (one-row (setting sys (kernel_in terms) s.now) (record (s.reading) { looks = n }) (above sys floor) idle) in
+    let rows : HasRows (kernel_in terms) next.place next.idle = λ single.
+    let idle = look-idle (kernel_in terms) s.reading.place s.reading.running s.reading.idle single look (old.rows single) in
+    subst (λ r. HasOneRow r.place r.idle) (same s.now (λ m few. refl)) (one-row (setting sys (kernel_in terms) s.now) (record (s.reading) { looks = n }) (above sys floor) idle) in
     zero-look sys (kernel_in terms) terms.budget s.told s.now s.upto s.reading s.owed s.stages s.entries old n floor next started look owes count level same rows numbered
 
 pub empty_is_seen : EmptyIsSeen
 empty_is_seen sys terms s p others f l m next numbered old none started at empty same =
-    let idle : s.reading.idle ≡ 0 = subst (λ x. HasOneRow x s.reading.idle) at old.rows in
-    let rows : HasOneRow next.place next.idle = subst (λ r. HasOneRow r.place r.idle) (same s.now (λ m few. refl)) (one-row (setting sys (kernel_in terms) s.now) s.reading others idle) in
+    let rows : HasRows (kernel_in terms) next.place next.idle = λ single.
+    let idle : s.reading.idle ≡ 0 = subst (λ x. HasOneRow x s.reading.idle) at (old.rows single) in
+    subst (λ r. HasOneRow r.place r.idle) (same s.now (λ m few. refl)) (one-row (setting sys (kernel_in terms) s.now) s.reading others idle) in
     let more = zero-seen-empty sys (kernel_in terms) terms.budget s.told s.now s.upto s.reading s.owed s.stages s.entries old p others f l m next started at none empty same rows numbered in
     owe terms s.owed none more
 
@@ -82,8 +75,9 @@ entry_is_seen sys terms s p others f l m numbered old none started at some =
 
 pub rest_is_added : RestIsAdded
 rest_is_added sys terms s n next numbered old none started at count same =
-    let idle : s.reading.idle ≡ 0 = subst (λ x. HasOneRow x s.reading.idle) at old.rows in
-    let rows : HasOneRow next.place next.idle = subst (λ r. HasOneRow r.place r.idle) (same s.now (λ m few. refl)) (one-row_base (setting sys (kernel_in terms) s.now) s.reading idle) in
+    let rows : HasRows (kernel_in terms) next.place next.idle = λ single.
+    let idle : s.reading.idle ≡ 0 = subst (λ x. HasOneRow x s.reading.idle) at (old.rows single) in
+    subst (λ r. HasOneRow r.place r.idle) (same s.now (λ m few. refl)) (one-row_base (setting sys (kernel_in terms) s.now) s.reading idle) in
     let more = zero-rest sys (kernel_in terms) terms.budget s.told s.now s.upto s.reading s.owed s.stages s.entries old n next started at none count same rows numbered in
     owe terms s.owed none more
 

@@ -23,7 +23,7 @@ use Rattle.qp_model.proofs.KernelRowLemmas.{IsWithin}
 use Rattle.qp_kernel.specs.Stages as stage
 use Rattle.qp_kernel.specs.Stages.{Stage, IsReady, closes, may_wait}
 use Rattle.qp_kernel.specs.LaneZero.{told_pieces, Agree, setting, owed_point, LaneZero}
-use Rattle.qp_kernel.specs.ZeroEnds.{ZeroEnds}
+use Rattle.qp_kernel.specs.ZeroEnds.{ZeroEnds, most_rows}
 use Rattle.qp_kernel.specs.Turning.{AreNumbered, AreAble, IsObject, IsWithinStep, moved, having}
 use Rattle.qp_kernel.proofs.StageLemmas.{comes-within}
 use Rattle.qp_kernel.proofs.ToldPieces.{ceiling_through}
@@ -98,7 +98,7 @@ module _ (sys : System) (kernel budget : ℕ) (told : List ToldItem) (now : ℕ 
       (wait : (d : ObjectDef) → object_at sys d.priority ≡ Some d → (p == d.priority) ≡ false → may_wait (stages d.priority) ≡ true) where
     -- `resume` answers Stopped by an assertion.
     pub turn-failed : (outer : List ℕ) (g : List Told) (ev : Event) (e : Entry) (left : Remainder) (c : Config) → IsWithin k p outer → IsWithinStep (stages p) ev e left c
-        → GoesOn sys (actor o chart) ev e left c (tell g) None → ZeroEnds sys kernel budget end (told ++ map (for_object p) g) has
+        → GoesOn sys (actor o chart) ev e left c (tell g) None → ZeroEnds sys kernel budget end (most_rows kernel k.idle) (told ++ map (for_object p) g) has
     turn-failed outer g ev e left c at within goes =
         let form = failed-form sys (actor o chart) ev e left c (left-closes ev e left c within) p g goes in
         zero-failed sys kernel budget told now has upto k 0 stages entries old agree end p outer g ev e left c early refl at form.own form.ends within numbered able
@@ -106,7 +106,7 @@ module _ (sys : System) (kernel budget : ℕ) (told : List ToldItem) (now : ℕ 
 
     -- `start` answers Stopped by an assertion.
     pub turn-failed_start : (others : List ℕ) (g : List Told) → k.unstarted ≡ p ∷ others → stages p ≡ stage.Unstarted
-        → Starts sys (actor o chart) (first_config o) (tell g) None → ZeroEnds sys kernel budget end (told ++ map (for_object p) g) has
+        → Starts sys (actor o chart) (first_config o) (tell g) None → ZeroEnds sys kernel budget end (most_rows kernel k.idle) (told ++ map (for_object p) g) has
     turn-failed_start others g first unstarted starts =
         let form = start-failed sys (actor o chart) p (first_config o) g starts in
         zero-failed_start sys kernel budget told now has upto k 0 stages entries old agree end p others g early refl first form.own form.ends form.asserts unstarted numbered able
@@ -117,7 +117,7 @@ module _ (sys : System) (kernel budget : ℕ) (told : List ToldItem) (now : ℕ 
         → list_any (λ t. is_end t.body) g ≡ false → n ≡ length told + length g → 999992 < n
         → spill_cuts p (map untold (told ++ (map (for_object p) g ++ for_object 0 (plain (body.Spill n)) ∷ []))) ≡ true
         → GoesOn sys (actor o chart) ev e left c (tell g ++ qs) last
-        → ZeroEnds sys kernel budget end (told ++ (map (for_object p) g ++ for_object 0 (plain (body.Spill n)) ∷ [])) has
+        → ZeroEnds sys kernel budget end (most_rows kernel k.idle) (told ++ (map (for_object p) g ++ for_object 0 (plain (body.Spill n)) ∷ [])) has
     turn-spilled outer g n ev e left c qs last at within calm count many cuts goes =
         by (cut-form sys (actor o chart) ev e left c (left-closes ev e left c within) g qs last calm goes)
       where
@@ -125,11 +125,11 @@ module _ (sys : System) (kernel budget : ℕ) (told : List ToldItem) (now : ℕ 
             → (zs : List Piece) × (mid : Option Config) × GoesOn sys (actor f other) ev e left c (tell h ++ zs) mid
         all h on f other same there its = only sys p o f chart other (λ x y. (zs : List Piece) × (mid : Option Config) × GoesOn sys (actor x y) ev e left c (tell h ++ zs) mid) is same there its (qs, last, on)
 
-        by : CutForm g → ZeroEnds sys kernel budget end (told ++ (map (for_object p) g ++ for_object 0 (plain (body.Spill n)) ∷ [])) has
+        by : CutForm g → ZeroEnds sys kernel budget end (most_rows kernel k.idle) (told ++ (map (for_object p) g ++ for_object 0 (plain (body.Spill n)) ∷ [])) has
         by (WithinIt own) =
             zero-spilled sys kernel budget told now has upto k 0 stages entries old agree end n p outer g ev e left c early refl at own calm count many cuts within numbered able (all g goes) wait
         by (BehindIt front rel whole own drops) =
-            subst (λ x. ZeroEnds sys kernel budget end (told ++ (map (for_object p) x ++ for_object 0 (plain (body.Spill n)) ∷ [])) has) (sym whole)
+            subst (λ x. ZeroEnds sys kernel budget end (most_rows kernel k.idle) (told ++ (map (for_object p) x ++ for_object 0 (plain (body.Spill n)) ∷ [])) has) (sym whole)
             (zero-spilled_done sys kernel budget told now has upto k 0 stages entries old agree end n p outer front rel ev e left c early refl at own drops
             (subst (λ x. list_any (λ t. is_end t.body) x ≡ false) whole calm) (subst (λ x. n ≡ length told + length x) whole count) many
             (subst (λ x. spill_cuts p (map untold (told ++ (map (for_object p) x ++ for_object 0 (plain (body.Spill n)) ∷ []))) ≡ true) whole cuts) within numbered able
@@ -140,7 +140,7 @@ module _ (sys : System) (kernel budget : ℕ) (told : List ToldItem) (now : ℕ 
         → list_any (λ t. is_end t.body) g ≡ false → n ≡ length told + length g → 999992 < n
         → spill_cuts p (map untold (told ++ (map (for_object p) g ++ for_object 0 (plain (body.Spill n)) ∷ []))) ≡ true
         → qs ≢ [] → Starts sys (actor o chart) (first_config o) (tell g ++ qs) last
-        → ZeroEnds sys kernel budget end (told ++ (map (for_object p) g ++ for_object 0 (plain (body.Spill n)) ∷ [])) has
+        → ZeroEnds sys kernel budget end (most_rows kernel k.idle) (told ++ (map (for_object p) g ++ for_object 0 (plain (body.Spill n)) ∷ [])) has
     turn-spilled_start others g n qs last first unstarted calm count many cuts left starts =
         zero-spilled_start sys kernel budget told now has upto k 0 stages entries old agree end n p others g early refl first
         (start-cut sys (actor o chart) (first_config o) g qs last left calm starts) calm count many cuts unstarted numbered able

@@ -10,6 +10,7 @@ pub mod BareLemmas
 pub mod ZeroEndLemmas
 pub mod CeilingLemmas
 pub mod TellLemmas
+pub mod ZeroLawful
 pub mod LawfulLemmas
 pub mod AgendaLemmas
 pub mod InnerLemmas

@@ -22,15 +22,16 @@ use Rattle.qp_orders.specs.SourceRun.{untold}
 use Rattle.qp_orders.proofs.CalmLemmas.{calm-no_assert}
 use Rattle.qp_orders.proofs.StimLemmas.{any-both}
 use Rattle.qp_orders.proofs.RunLemmas.{ends-zero}
-use Rattle.qp_orders.proofs.SourceLanes.{source_lane_is_whole}
+use Rattle.qp_orders.proofs.SourceLanes.{source_lane_is_whole, untold-lane}
 use Rattle.qp_kernel.specs.ZeroEnds.{ZeroEnds}
 use Rattle.qp_kernel.specs.Run.{SourcesGo, SourcesEnd, IsRun}
 use Rattle.qp_kernel.specs.QuietRun.{IsQuietRun}
-use Rattle.qp_kernel.specs.Turning.{AreNumbered, KernelState, kernel_in, under}
+use Rattle.qp_kernel.specs.Turning.{AreNumbered, KernelState, kernel_in}
 use Rattle.qp_kernel.specs.Laws.{QuietRunsAreLawful}
-use Rattle.qp_kernel.proofs.TellLemmas.{untold-lane}
+use Rattle.qp_kernel.proofs.AlikeKernels.{one-order, one-row}
 use Rattle.qp_kernel.proofs.ZeroEndLemmas.{zero-quiet}
-use Rattle.qp_kernel.proofs.LawfulLemmas.{IsFound, all-found, lawful}
+use Rattle.qp_kernel.proofs.ZeroLawful.{IsFound, all-found}
+use Rattle.qp_kernel.proofs.LawfulLemmas.{lawful}
 
 none-last : ends_last [] ≡ true
 unfolding ends_last
@@ -83,21 +84,18 @@ module _ (sys : System) (stimuli : List (List Stim)) (j : Journal) (s : KernelSt
   unended : end_of (all_items j.lanes) ≡ 0
   unended = let calm = calm-all j.lanes refl in rw (calm-no_assert (all_items j.lanes) calm, calm) refl
 
-  zero : ZeroEnds sys j.kernel j.budget j.end (told_lane (facts_of sys j) 0 (lane_items (lane_at j 0))) (has_stim (source_lanes sys j))
+  zero : ZeroEnds sys j.kernel j.budget j.end 1 (told_lane (facts_of sys j) 0 (lane_items (lane_at j 0))) (has_stim (source_lanes sys j))
   zero =
       let ends = zero-quiet sys (kernel_in run.terms) run.terms.budget s.told s.now (has_stim (source_lanes sys j)) s.upto s.reading s.owed s.stages s.entries run.stands run.now run.owed run.started run.base run.over
       (numbered sys (all-found sys.objects run.sound.ascend)) run.able run.rest in
-      subst (λ ts. ZeroEnds sys j.kernel j.budget j.end ts (has_stim (source_lanes sys j))) (sym run.told)
-      (subst (λ e. ZeroEnds sys j.kernel j.budget e s.told (has_stim (source_lanes sys j))) (sym run.end)
-      (subst (λ k. ZeroEnds sys k j.budget quiet s.told (has_stim (source_lanes sys j))) (sym run.kernel)
-      (subst (λ n. ZeroEnds sys (kernel_in run.terms) n quiet s.told (has_stim (source_lanes sys j))) (sym run.budget_is) ends)))
+      subst (λ ts. ZeroEnds sys j.kernel j.budget j.end 1 ts (has_stim (source_lanes sys j))) (sym run.told)
+      (subst (λ e. ZeroEnds sys j.kernel j.budget e 1 s.told (has_stim (source_lanes sys j))) (sym run.end)
+      (subst (λ k. ZeroEnds sys k j.budget quiet 1 s.told (has_stim (source_lanes sys j))) (sym run.kernel)
+      (subst (λ n. ZeroEnds sys (kernel_in run.terms) n quiet 1 s.told (has_stim (source_lanes sys j))) (sym run.budget_is)
+      (subst (λ most. ZeroEnds sys (kernel_in run.terms) run.terms.budget quiet most s.told (has_stim (source_lanes sys j))) (one-row run.terms s.reading.idle run.single) ends))))
 
   one : has_one_order j.kernel ≡ true
-  one = ap has_one_order run.kernel ∙ by run.terms.cooperative
-    where
-      by : (b : Bool) → has_one_order (kernel_in (under b run.terms.budget)) ≡ true
-      by true = refl
-      by false = refl
+  one = ap has_one_order run.kernel ∙ one-order run.terms run.single
 
   order : EndsInOrder sys stimuli (lane_items (lane_at j 0)) (source_lanes sys j) false run.log
   order =

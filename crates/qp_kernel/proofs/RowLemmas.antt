@@ -22,7 +22,7 @@ zero-new sys kernel budget now upto numbered = record {
   budgets = λ o. omega arith;
   calm = refl;
   unmarked = refl;
-  rows = refl;
+  rows = λ single. refl;
 }
 
 -- a look that may stand where the kernel isn't `qk` stands in its only row, which isn't over
@@ -73,6 +73,11 @@ looking-again sys has k base came = ap (found_none (setting sys sim has) k) base
 pub looking-over : (sys : System) (has : ℕ → Bool) (k : Reading) → k.running ≡ [] → has k.looks ≡ false
     → looking_at (setting sys sim has) k [] ≡ record k { place = Over; idle = cond k.stepped k.idle (k.idle + 1); stepped = false }
 looking-over sys has k base none = ap (found_none (setting sys sim has) k) base ∙ rw none refl
+
+-- under `qk` it is over whatever comes
+pub looking-over_qk : (sys : System) (has : ℕ → Bool) (k : Reading) → k.running ≡ []
+    → looking_at (setting sys qk has) k [] ≡ record k { place = Over; idle = cond k.stepped k.idle (k.idle + 1); stepped = false }
+looking-over_qk sys has k base = ap (found_none (setting sys qk has) k) base
 
 -- under `qv` the kernel rests at the base, and then the row goes on or is over in the same way
 pub looking-rests : (sys : System) (has : ℕ → Bool) (k : Reading) → k.running ≡ [] → looking_at (setting sys qv has) k [] ≡ record k { place = Resting }

@@ -1,5 +1,5 @@
 -- A finished lane as it is told.
-use Rattle.std.proofs.Common.{◌≡◌, ℕ, ◌==◌, Bool, true, false, not, cond, List, [], ◌∷◌, ◌++◌, map, refl, sym, ◌∙◌, ap, arith, Option, Some, None}
+use Rattle.std.proofs.Common.{◌≡◌, ℕ, ◌==◌, Bool, true, false, not, cond, List, [], ◌∷◌, ◌++◌, refl, sym, ◌∙◌, ap, arith, Option, Some, None}
 use Rattle.std.specs.Option.{unwrap_or, option_and_then}
 use Rattle.std.specs.List.{filter, list_all}
 use Rattle.std.proofs.lemmas.Bool.{and_parts}
@@ -15,14 +15,9 @@ use Rattle.qp_model.specs.KernelLane.{Setting, Reading, lane_next, lane_on}
 use Rattle.qp_model.specs.Points.{is_look, begins_row, pieces_at, pieces_in}
 use Rattle.qp_model.specs.Sources.{source_records}
 use Rattle.qp_model.proofs.KnowingLemmas.{records_of-told}
-use Rattle.qp_orders.specs.SourceRun.{untold, source_told}
+use Rattle.qp_orders.specs.SourceRun.{source_told}
 use Rattle.qp_kernel.specs.LaneZero.{told_pieces_at, told_pieces}
 use Rattle.qp_kernel.proofs.CeilingLemmas.{ceiling-next}
-
-pub untold-lane : (w : Facts) (c : ℕ) (is : List Item) → map untold (told_lane w c is) ≡ is
-unfolding told_lane told
-untold-lane w c [] = refl
-untold-lane w c (i ∷ is) = ap (λ js. i ∷ js) (untold-lane w (ceiling_after c i.body) is)
 
 piece-told : (w : Facts) (o : ℕ) (k : Reading) (i : Item) → pieces_at w o k i ≡ told_pieces_at o k (for_object i.of (told w i.of k.ceiling i.body))
 unfolding pieces_at told_pieces_at told

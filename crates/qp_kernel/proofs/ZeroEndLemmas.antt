@@ -18,6 +18,7 @@ use Rattle.std.specs.Option.{unwrap_or, option_and_then}
 use Rattle.qp_model.specs.Points.{begins_row}
 use Rattle.qp_model.specs.Ends.{is_turn_mark, is_assert, is_spent, is_spill, is_end, may_cut, spills_cut, ends_last, spills_in}
 use Rattle.qp_model.specs.End.{took_count, takes_of, spents_follow, spills_state}
+use Rattle.qp_model.specs.Kernels.{qk}
 use Rattle.qp_model.specs.Sites.{object_at}
 use Rattle.qp_model.specs.Course.{actor, first_config, chart_at, Starts, Whole, Stopped, Anywhere, FollowsTo}
 use Rattle.qp_model.specs.Step.{Remainder, GoesOn}
@@ -27,9 +28,9 @@ use Rattle.qp_model.proofs.KernelRowLemmas.{lane_on-then, spent-next, IsOwnRole,
 use Rattle.qp_kernel.specs.Stages as stage
 use Rattle.qp_kernel.specs.Stages.{Stage, ComesTo, may_wait, is_resting}
 use Rattle.qp_orders.specs.SourceRun.{untold}
-use Rattle.qp_kernel.specs.LaneZero.{told_pieces_at, told_pieces, Agree, setting, owed_point, HasOneRow, LaneZero}
+use Rattle.qp_kernel.specs.LaneZero.{told_pieces_at, told_pieces, Agree, setting, owed_point, HasOneRow, HasRows, LaneZero}
 use Rattle.qp_model.specs.ObjectShape.{HasShape}
-use Rattle.qp_kernel.specs.ZeroEnds.{cut_in, may_stand, is_spent_right, own_told, ZeroEnds}
+use Rattle.qp_kernel.specs.ZeroEnds.{cut_in, may_stand, is_spent_right, own_told, most_rows, ZeroEnds}
 use Rattle.qp_kernel.specs.Turning.{AreNumbered, AreAble, IsWithinStep}
 use Rattle.qp_orders.proofs.CalmLemmas.{are_calm, calm-parts, calm-no_spill, calm-ends_last, calm-spills_cut, calm-spents_follow, calm-states, calm-all, no_spill-cuts, IsMild, mild-follow, mild-cut, mild-states, mild-all, mild-no_spill}
 use Rattle.qp_orders.proofs.StimLemmas.{any-both}
@@ -39,15 +40,40 @@ use Rattle.qp_kernel.proofs.ZeroLemmas.{own-takes, ends-told, told-unmarked, Are
 use Rattle.qp_kernel.proofs.ToldPieces.{pieces-then, pieces-one, pieces-other, none-owed, not-zero, pieces-told, AreOwn, AreTold, own-told, told-append, ceiling_through, pieces_for, reads-own, reads-start}
 use Rattle.qp_model.proofs.NumberLemmas.{count-append}
 
-one-idle : (place : Upcoming) (idle : ℕ) → HasOneRow place idle → idle ≤ 1
-one-idle Over idle h = h
-one-idle Inside idle h = omega (arith, h)
-one-idle (Looking p others) idle h = omega (arith, h)
-one-idle (Chosen p) idle h = omega (arith, h)
-one-idle (Ended p) idle h = omega (arith, h)
-one-idle Resting idle h = omega (arith, h)
-one-idle Again idle h = omega (arith, h)
-one-idle Halted idle h = omega (arith, h)
+row-idle : (place : Upcoming) (idle : ℕ) → HasOneRow place idle → idle ≤ 1
+row-idle Over idle h = h
+row-idle Inside idle h = omega (arith, h)
+row-idle (Looking p others) idle h = omega (arith, h)
+row-idle (Chosen p) idle h = omega (arith, h)
+row-idle (Ended p) idle h = omega (arith, h)
+row-idle Resting idle h = omega (arith, h)
+row-idle Again idle h = omega (arith, h)
+row-idle Halted idle h = omega (arith, h)
+
+few-rows : (kernel : ℕ) (place : Upcoming) (idle : ℕ) → HasRows kernel place idle → idle ≤ most_rows kernel idle
+few-rows kernel place idle h = by (kernel == qk) refl
+  where
+    by : (b : Bool) → (kernel == qk) ≡ b → idle ≤ most_rows kernel idle
+    by true e = rw e (omega arith)
+    by false e = rw e (row-idle place idle (h e))
+
+-- it may have more rows
+pub more-rows : {sys : System} {kernel budget end most more : ℕ} {told : List ToldItem} {has : ℕ → Bool} → most ≤ more
+    → ZeroEnds sys kernel budget end most told has → ZeroEnds sys kernel budget end more told has
+more-rows {sys} {kernel} {budget} {end} {most} {more} le ends = record {
+  last = ends.last;
+  read = ends.read;
+  idle = let few = ends.idle in omega (arith, few, le);
+  spills = ends.spills;
+  stands = ends.stands;
+  follows = ends.follows;
+  shapes = ends.shapes;
+  ends = ends.ends;
+  spents = ends.spents;
+  spent = ends.spent;
+  states = ends.states;
+  budgets = ends.budgets;
+}
 
 owed-is : (owed o : ℕ) → owed_point owed o ≡ point_if (owed == o)
 owed-is owed o = refl
@@ -60,7 +86,7 @@ module _ (sys : System) (kernel budget : ℕ) (told : List ToldItem) (now has : 
   -- what the last records of a lane must be
   pub record AreLast (end : ℕ) (ts : List ToldItem) (last : Reading) : Type 0 where
     pub read : lane_on (setting sys kernel has) k (map untold ts) ≡ Some last
-    pub idle : last.idle ≤ 1
+    pub idle : last.idle ≤ most_rows kernel k.idle
     pub spills : spills_cut end (map untold ts) ≡ true
     pub stands : may_stand kernel end last (map untold (told ++ ts)) ≡ true
     pub ends : ends_last (map untold ts) ≡ true
@@ -75,7 +101,7 @@ module _ (sys : System) (kernel budget : ℕ) (told : List ToldItem) (now has : 
       → FollowsTo sys d (cut_in end d.priority (map untold (told ++ ts))) (told_pieces (setting sys kernel has) d.priority (unread sys) told ++ told_pieces (setting sys kernel has) d.priority k ts))
       → ((d : ObjectDef) (chart : Chart) → object_at sys d.priority ≡ Some d → chart_at sys d.chart ≡ Some chart
       → HasShape sys d.priority false (cut_in end d.priority (map untold (told ++ ts))) (own_told d.priority (told ++ ts)))
-      → ZeroEnds sys kernel budget end (told ++ ts) has
+      → ZeroEnds sys kernel budget end (most_rows kernel k.idle) (told ++ ts) has
   unfolding took_count
   ends-by end ts last are follows shapes = record {
     last = last;
@@ -110,7 +136,7 @@ module _ (sys : System) (kernel budget : ℕ) (told : List ToldItem) (now has : 
   pub ends-with : (end : ℕ) (ts : List ToldItem) (last : Reading) → AreLast end ts last → list_any (λ i. is_turn_mark i.body) (map untold ts) ≡ false
       → ((d : ObjectDef) (chart : Chart) → object_at sys d.priority ≡ Some d → chart_at sys d.chart ≡ Some chart
       → FollowsTo sys d (cut_in end d.priority (map untold (told ++ ts))) (told_pieces (setting sys kernel has) d.priority (unread sys) told ++ told_pieces (setting sys kernel has) d.priority k ts))
-      → ZeroEnds sys kernel budget end (told ++ ts) has
+      → ZeroEnds sys kernel budget end (most_rows kernel k.idle) (told ++ ts) has
   ends-with end ts last are unmarked follows =
       ends-by end ts last are follows
       (λ d chart at is.
@@ -131,14 +157,14 @@ module _ (sys : System) (kernel budget : ℕ) (told : List ToldItem) (now has : 
   -- The run ends quietly: the row at the base is over, and every object rests.
   pub zero-quiet : owed ≡ 0 → k.unstarted ≡ [] → k.running ≡ [] → k.place ≡ Over → AreNumbered sys → AreAble sys
       → ((d : ObjectDef) → object_at sys d.priority ≡ Some d → is_resting (stages d.priority) ≡ true)
-      → ZeroEnds sys kernel budget 0 told has
+      → ZeroEnds sys kernel budget 0 (most_rows kernel k.idle) told has
   unfolding lane_on spills_cut ends_last spents_follow spills_state took_count told_pieces
   zero-quiet none started base over numbered able rest =
-      subst (λ ts. ZeroEnds sys kernel budget 0 ts has) (append-nil told)
+      subst (λ ts. ZeroEnds sys kernel budget 0 (most_rows kernel k.idle) ts has) (append-nil told)
       (ends-with 0 [] k
       (record {
         read = refl;
-        idle = one-idle k.place k.idle old.rows;
+        idle = few-rows kernel k.place k.idle old.rows;
         spills = refl;
         stands = rw (started, base, over) refl;
         ends = refl;
@@ -160,14 +186,14 @@ module _ (sys : System) (kernel budget : ℕ) (told : List ToldItem) (now has : 
   -- The run stops elsewhere, in a look of this lane or between two steps.
   pub zero-waiting : (end : ℕ) → may_cut end ≡ true → k.unstarted ≡ [] → AreNumbered sys → AreAble sys
       → ((d : ObjectDef) → object_at sys d.priority ≡ Some d → may_wait (stages d.priority) ≡ true)
-      → ZeroEnds sys kernel budget end told has
+      → ZeroEnds sys kernel budget end (most_rows kernel k.idle) told has
   unfolding lane_on spills_cut ends_last spents_follow spills_state took_count told_pieces
   zero-waiting end early started numbered able wait =
-      subst (λ ts. ZeroEnds sys kernel budget end ts has) (append-nil told)
+      subst (λ ts. ZeroEnds sys kernel budget end (most_rows kernel k.idle) ts has) (append-nil told)
       (ends-with end [] k
       (record {
         read = refl;
-        idle = one-idle k.place k.idle old.rows;
+        idle = few-rows kernel k.place k.idle old.rows;
         spills = refl;
         stands = rw (early, started) refl;
         ends = refl;
@@ -210,7 +236,7 @@ module _ (sys : System) (kernel budget : ℕ) (told : List ToldItem) (now has : 
   pub zero-spent : (end p : ℕ) (others : List ℕ) (f l m : ℕ) → may_cut end ≡ true → k.unstarted ≡ [] → k.place ≡ Looking p others → m < f + l → length (entries p) ≡ budget → owed ≡ 0 → 0 < p
       → is_resting (stages p) ≡ true → AreNumbered sys → AreAble sys
       → ((d : ObjectDef) → object_at sys d.priority ≡ Some d → may_wait (stages d.priority) ≡ true)
-      → ZeroEnds sys kernel budget end (told ++ for_object 0 (plain (body.Seen p f l m)) ∷ for_object p (plain body.Spent) ∷ []) has
+      → ZeroEnds sys kernel budget end (most_rows kernel k.idle) (told ++ for_object 0 (plain (body.Seen p f l m)) ∷ for_object p (plain body.Spent) ∷ []) has
   unfolding lane_on spills_cut ends_last spents_follow spills_state took_count
   zero-spent end p others f l m early started at some just unowed named rests numbered able wait =
       let found = record k { place = Chosen p } in
@@ -228,7 +254,7 @@ module _ (sys : System) (kernel budget : ℕ) (told : List ToldItem) (now has : 
       ends-by end ts halted
       (record {
         read = rw (one, two) refl;
-        idle = one-idle k.place k.idle old.rows;
+        idle = few-rows kernel k.place k.idle old.rows;
         spills = refl;
         stands = rw (early, started) refl;
         ends = refl;
@@ -345,7 +371,7 @@ module _ (sys : System) (kernel budget : ℕ) (told : List ToldItem) (now has : 
       let mild = own-mild p g own in
       record {
         read = ap (λ x. lane_on here k (map untold x)) same ∙ read;
-        idle = let few = one-idle k.place k.idle old.rows in omega (arith, few, idle);
+        idle = let few = few-rows kernel k.place k.idle old.rows in omega (arith, few, idle);
         spills = ap (λ x. spills_cut end (map untold x)) same ∙ ap (spills_cut end) (sym none) ∙ mild-cut end (map untold (map (for_object p) g)) [] mild refl;
         stands = stands;
         ends = ap (λ x. ends_last (map untold x)) same ∙ ends;
@@ -362,12 +388,12 @@ module _ (sys : System) (kernel budget : ℕ) (told : List ToldItem) (now has : 
       → ends_last (map untold (map (for_object p) g)) ≡ true → IsWithinStep (stages p) ev e left c → AreNumbered sys → AreAble sys
       → ((d : ObjectDef) (chart : Chart) → d.priority ≡ p → object_at sys d.priority ≡ Some d → chart_at sys d.chart ≡ Some chart → GoesOn sys (actor d chart) ev e left c (tell g) None)
       → ((d : ObjectDef) → object_at sys d.priority ≡ Some d → (p == d.priority) ≡ false → may_wait (stages d.priority) ≡ true)
-      → ZeroEnds sys kernel budget end (told ++ map (for_object p) g) has
+      → ZeroEnds sys kernel budget end (most_rows kernel k.idle) (told ++ map (for_object p) g) has
   unfolding told_pieces
   zero-failed end p outer g ev e left c early unowed at own ends within numbered able goes wait =
       let last = record k { ceiling = ceiling_through k.ceiling g } in
       let read : lane_on here k (map untold (map (for_object p) g)) ≡ Some last = reads-own here p outer k g at own in
-      subst (λ x. ZeroEnds sys kernel budget end (told ++ x) has) (append-nil (map (for_object p) g))
+      subst (λ x. ZeroEnds sys kernel budget end (most_rows kernel k.idle) (told ++ x) has) (append-nil (map (for_object p) g))
       (ends-with end (map (for_object p) g ++ []) last (failed-last end p g last read refl own ends (rw (early, at.started) refl)) (own-plain p g own)
       (λ d chart there is.
       beside-own end p g [] last d chart early read (own-told g own) refl there is able unowed (numbered d there) (wait d there)
@@ -380,7 +406,7 @@ module _ (sys : System) (kernel budget : ℕ) (told : List ToldItem) (now has : 
       → ends_last (map untold (map (for_object p) g)) ≡ true → list_any (λ i. is_assert i.body) (map untold (map (for_object p) g)) ≡ true → stages p ≡ stage.Unstarted → AreNumbered sys → AreAble sys
       → ((d : ObjectDef) (chart : Chart) → d.priority ≡ p → object_at sys d.priority ≡ Some d → chart_at sys d.chart ≡ Some chart → Starts sys (actor d chart) (first_config d) (tell g) None)
       → ((d : ObjectDef) → object_at sys d.priority ≡ Some d → (p == d.priority) ≡ false → may_wait (stages d.priority) ≡ true)
-      → ZeroEnds sys kernel budget end (told ++ map (for_object p) g) has
+      → ZeroEnds sys kernel budget end (most_rows kernel k.idle) (told ++ map (for_object p) g) has
   unfolding told_pieces
   zero-failed_start end p others g early unowed first own ends asserts unstarted numbered able goes wait =
       let last = record k { ceiling = ceiling_through k.ceiling g } in
@@ -388,7 +414,7 @@ module _ (sys : System) (kernel budget : ℕ) (told : List ToldItem) (now has : 
       let any : list_any (λ i. is_assert i.body) (map untold (told ++ (map (for_object p) g ++ []))) ≡ true =
       ap (λ x. list_any (λ i. is_assert i.body) (map untold (told ++ x))) (append-nil (map (for_object p) g)) ∙ ap (list_any (λ i. is_assert i.body)) (map-append untold told (map (for_object p) g))
       ∙ list_any-append (λ i. is_assert i.body) (map untold told) (map untold (map (for_object p) g)) ∙ rw (asserts, or-right (list_any (λ i. is_assert i.body) (map untold told))) refl in
-      subst (λ x. ZeroEnds sys kernel budget end (told ++ x) has) (append-nil (map (for_object p) g))
+      subst (λ x. ZeroEnds sys kernel budget end (most_rows kernel k.idle) (told ++ x) has) (append-nil (map (for_object p) g))
       (ends-with end (map (for_object p) g ++ []) last (failed-last end p g last read refl own ends (rw (early, any, or-right (length k.unstarted == 0)) refl)) (own-plain p g own)
       (λ d chart there is.
       beside-own end p g [] last d chart early read (own-told g own) refl there is able unowed (numbered d there) (wait d there)
@@ -424,7 +450,7 @@ module _ (sys : System) (kernel budget : ℕ) (told : List ToldItem) (now has : 
       record {
         read =
             rw parts (lane_on-then here k m front (record { of = 0; body = body.Spill n } ∷ []) read ∙ ap (λ o. option_and_then (λ x. Some x) o) (spill-next m n));
-        idle = let few = one-idle k.place k.idle old.rows in omega (arith, few, idle);
+        idle = let few = few-rows kernel k.place k.idle old.rows in omega (arith, few, idle);
         spills = rw parts (mild-cut end front (record { of = 0; body = body.Spill n } ∷ []) mild early);
         stands = rw early refl;
         ends = rw parts (calm-ends_last front (record { of = 0; body = body.Spill n } ∷ []) quiet refl);
@@ -453,7 +479,7 @@ module _ (sys : System) (kernel budget : ℕ) (told : List ToldItem) (now has : 
       → ((d : ObjectDef) (chart : Chart) → d.priority ≡ p → object_at sys d.priority ≡ Some d → chart_at sys d.chart ≡ Some chart
       → (qs : List Piece) × (last : Option Config) × GoesOn sys (actor d chart) ev e left c (tell g ++ qs) last)
       → ((d : ObjectDef) → object_at sys d.priority ≡ Some d → (p == d.priority) ≡ false → may_wait (stages d.priority) ≡ true)
-      → ZeroEnds sys kernel budget end (told ++ (map (for_object p) g ++ spilled n)) has
+      → ZeroEnds sys kernel budget end (most_rows kernel k.idle) (told ++ (map (for_object p) g ++ spilled n)) has
   spilled-by end n p g m ev e left c early unowed read idle mild taken are calm count many cuts within numbered able goes wait =
       ends-with end (map (for_object p) g ++ spilled n) (record m { unstarted = []; place = Halted }) (spilled-last end n p g m early read idle mild taken calm count many) (spill-plain p g n are)
       (λ d chart there is.
@@ -470,7 +496,7 @@ module _ (sys : System) (kernel budget : ℕ) (told : List ToldItem) (now has : 
       → ((d : ObjectDef) (chart : Chart) → d.priority ≡ p → object_at sys d.priority ≡ Some d → chart_at sys d.chart ≡ Some chart
       → (qs : List Piece) × (last : Option Config) × GoesOn sys (actor d chart) ev e left c (tell g ++ qs) last)
       → ((d : ObjectDef) → object_at sys d.priority ≡ Some d → (p == d.priority) ≡ false → may_wait (stages d.priority) ≡ true)
-      → ZeroEnds sys kernel budget end (told ++ (map (for_object p) g ++ spilled n)) has
+      → ZeroEnds sys kernel budget end (most_rows kernel k.idle) (told ++ (map (for_object p) g ++ spilled n)) has
   zero-spilled end n p outer g ev e left c early unowed at own =
       spilled-by end n p g (record k { ceiling = ceiling_through k.ceiling g }) ev e left c early unowed (reads-own here p outer k g at own) refl (own-mild p g own) (λ o. own-takes p g o own) (own-told g own)
 
@@ -496,7 +522,7 @@ module _ (sys : System) (kernel budget : ℕ) (told : List ToldItem) (now has : 
       → ((d : ObjectDef) (chart : Chart) → d.priority ≡ p → object_at sys d.priority ≡ Some d → chart_at sys d.chart ≡ Some chart
       → (qs : List Piece) × (last : Option Config) × GoesOn sys (actor d chart) ev e left c (tell (g ++ plain body.Done ∷ rel) ++ qs) last)
       → ((d : ObjectDef) → object_at sys d.priority ≡ Some d → (p == d.priority) ≡ false → may_wait (stages d.priority) ≡ true)
-      → ZeroEnds sys kernel budget end (told ++ (map (for_object p) (g ++ plain body.Done ∷ rel) ++ spilled n)) has
+      → ZeroEnds sys kernel budget end (most_rows kernel k.idle) (told ++ (map (for_object p) (g ++ plain body.Done ∷ rel) ++ spilled n)) has
   zero-spilled_done end n p outer g rel ev e left c early unowed at own drops =
       spilled-by end n p (g ++ plain body.Done ∷ rel) (record k { ceiling = ceiling_through k.ceiling g; running = outer; place = Ended p }) ev e left c early unowed
       (reads-done here p outer k g rel at own drops) refl
@@ -512,7 +538,7 @@ module _ (sys : System) (kernel budget : ℕ) (told : List ToldItem) (now has : 
       → ((d : ObjectDef) (chart : Chart) → d.priority ≡ p → object_at sys d.priority ≡ Some d → chart_at sys d.chart ≡ Some chart
       → (qs : List Piece) × (last : Option Config) × Starts sys (actor d chart) (first_config d) (tell g ++ qs) last)
       → ((d : ObjectDef) → object_at sys d.priority ≡ Some d → (p == d.priority) ≡ false → may_wait (stages d.priority) ≡ true)
-      → ZeroEnds sys kernel budget end (told ++ (map (for_object p) g ++ spilled n)) has
+      → ZeroEnds sys kernel budget end (most_rows kernel k.idle) (told ++ (map (for_object p) g ++ spilled n)) has
   zero-spilled_start end n p others g early unowed first own calm count many cuts unstarted numbered able goes wait =
       let mid = record k { ceiling = ceiling_through k.ceiling g } in
       let read : lane_on here k (map untold (map (for_object p) g)) ≡ Some mid = reads-start here p others k g first own in
@@ -528,7 +554,7 @@ module _ (sys : System) (kernel budget : ℕ) (told : List ToldItem) (now has : 
   -- The lane has no room for the kernel's own next records, nor for those of a step's next part or of the next start: nothing came but the `spill`.
   pub zero-full : (end n : ℕ) → may_cut end ≡ true → n ≡ length told → 999992 < n → AreNumbered sys → AreAble sys
       → ((d : ObjectDef) → object_at sys d.priority ≡ Some d → may_wait (stages d.priority) ≡ true)
-      → ZeroEnds sys kernel budget end (told ++ spilled n) has
+      → ZeroEnds sys kernel budget end (most_rows kernel k.idle) (told ++ spilled n) has
   unfolding lane_on took_count
   zero-full end n early count many numbered able wait =
       ends-with end (spilled n) (record k { unstarted = []; place = Halted }) (spilled-last end n 0 [] k early refl refl tt (λ o. refl) refl (omega (arith, count)) many) refl

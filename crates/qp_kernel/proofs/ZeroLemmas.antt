@@ -26,7 +26,7 @@ use Rattle.qp_kernel.specs.Stages as stage
 use Rattle.qp_kernel.specs.Stages.{Stage, IsReady, ComesTo}
 use Rattle.qp_orders.specs.SourceRun.{untold}
 use Rattle.qp_orders.proofs.StimLemmas.{any-both}
-use Rattle.qp_kernel.specs.LaneZero.{told_pieces, Agree, setting, owed_point, row_of, HasOneRow, LaneZero}
+use Rattle.qp_kernel.specs.LaneZero.{told_pieces, Agree, setting, owed_point, row_of, HasRows, LaneZero}
 use Rattle.qp_kernel.specs.Turning.{AreNumbered, AreAble, IsWithinStep, moved, having}
 use Rattle.qp_kernel.proofs.StageLemmas.{comes-took, comes-point, comes-done, comes-started}
 use Rattle.qp_kernel.proofs.ToldPieces.{pieces-then, pieces-one, none-owed, not-zero, pieces-look, pieces-other, pieces-told, AreOwn, AreTold, own-told, told-append, ceiling_through, reads-own, reads-start}
@@ -61,7 +61,7 @@ module _ (sys : System) (kernel budget : ℕ) (told : List ToldItem) (now : ℕ 
       → ComesTo sys (actor d chart) (first_config d) (entries d.priority) (ps ++ owed_point owed d.priority) (stages d.priority)
       → ComesTo sys (actor d chart) (first_config d) (entries2 d.priority) ((ps ++ told_pieces (setting sys kernel has) d.priority k ts) ++ owed_point owed2 d.priority) (stages2 d.priority))
       → ((o : ℕ) → length (entries o) + took_count (map untold ts) o ≡ length (entries2 o)) → ((o : ℕ) → length (entries2 o) ≤ budget)
-      → list_any (λ i. is_end i.body) (map untold ts) ≡ false → list_any (λ i. is_turn_mark i.body) (map untold ts) ≡ false → HasOneRow k2.place k2.idle
+      → list_any (λ i. is_end i.body) (map untold ts) ≡ false → list_any (λ i. is_turn_mark i.body) (map untold ts) ≡ false → HasRows kernel k2.place k2.idle
       → LaneZero sys kernel budget (told ++ ts) now upto k2 owed2 stages2 entries2
   unfolding took_count
   zero-more ts k2 owed2 stages2 entries2 reads comes counts few calm unmarked rows = record {
@@ -84,7 +84,7 @@ module _ (sys : System) (kernel budget : ℕ) (told : List ToldItem) (now : ℕ 
   -- a record that is no piece of any object
   pub zero-beside : (t : ToldItem) (k2 : Reading) → t.of ≡ 0 → is_look t.told.body ≡ false → owed ≡ 0
       → ((has : ℕ → Bool) → Agree upto has now → lane_next (setting sys kernel has) k (untold t) ≡ Some k2)
-      → is_end t.told.body ≡ false → is_turn_mark t.told.body ≡ false → ((o : ℕ) → takes_of o (untold t) ≡ false) → HasOneRow k2.place k2.idle → AreNumbered sys
+      → is_end t.told.body ≡ false → is_turn_mark t.told.body ≡ false → ((o : ℕ) → takes_of o (untold t) ≡ false) → HasRows kernel k2.place k2.idle → AreNumbered sys
       → LaneZero sys kernel budget (told ++ t ∷ []) now upto k2 0 stages entries
   unfolding lane_on took_count
   zero-beside t k2 zero look none reads calm unmarked takes rows numbered =
@@ -100,7 +100,7 @@ module _ (sys : System) (kernel budget : ℕ) (told : List ToldItem) (now : ℕ 
   -- A look: the row of the object that stands at its point begins.
   pub zero-look : (n floor : ℕ) (k2 : Reading) → k.unstarted ≡ [] → MayLook kernel k.place k.running → owed ≡ row_of k.place k.running
       → n ≡ k.looks + 1 → floor ≡ floor_in sys kernel k.running k.ceiling
-      → ((has : ℕ → Bool) → Agree upto has now → looking_at (setting sys kernel has) (record k { looks = n }) (above sys floor) ≡ k2) → HasOneRow k2.place k2.idle
+      → ((has : ℕ → Bool) → Agree upto has now → looking_at (setting sys kernel has) (record k { looks = n }) (above sys floor) ≡ k2) → HasRows kernel k2.place k2.idle
       → AreNumbered sys → LaneZero sys kernel budget (told ++ for_object 0 (plain (body.Look n floor)) ∷ []) now upto k2 0 stages entries
   unfolding lane_on took_count
   zero-look n floor k2 started may owes count level same rows numbered =
@@ -115,7 +115,7 @@ module _ (sys : System) (kernel budget : ℕ) (told : List ToldItem) (now : ℕ 
 
   -- The next object's queue is seen empty.
   pub zero-seen-empty : (p : ℕ) (others : List ℕ) (f l m : ℕ) (k2 : Reading) → k.unstarted ≡ [] → k.place ≡ Looking p others → owed ≡ 0 → f + l ≤ m
-      → ((has : ℕ → Bool) → Agree upto has now → looking_at (setting sys kernel has) k others ≡ k2) → HasOneRow k2.place k2.idle
+      → ((has : ℕ → Bool) → Agree upto has now → looking_at (setting sys kernel has) k others ≡ k2) → HasRows kernel k2.place k2.idle
       → AreNumbered sys → LaneZero sys kernel budget (told ++ for_object 0 (plain (body.Seen p f l m)) ∷ []) now upto k2 0 stages entries
   zero-seen-empty p others f l m k2 started at none empty same rows numbered =
       zero-beside (for_object 0 (plain (body.Seen p f l m))) k2 refl refl none
@@ -128,11 +128,11 @@ module _ (sys : System) (kernel budget : ℕ) (told : List ToldItem) (now : ℕ 
   zero-seen-entry p others f l m started at none some numbered =
       zero-beside (for_object 0 (plain (body.Seen p f l m))) (record k { place = Chosen p }) refl refl none
       (λ has agree. seen-entry (setting sys kernel has) k p others f l m started at some)
-      refl refl (λ o. refl) (subst (λ x. HasOneRow x k.idle) at old.rows) numbered
+      refl refl (λ o. refl) (subst (λ x. HasRows kernel x k.idle) at old.rows) numbered
 
   -- The kernel rests behind a look at the base that has shown no entry.
   pub zero-rest : (n : ℕ) (k2 : Reading) → k.unstarted ≡ [] → k.place ≡ Resting → owed ≡ 0 → n ≡ k.looks
-      → ((has : ℕ → Bool) → Agree upto has now → base_ended (setting sys kernel has) k ≡ k2) → HasOneRow k2.place k2.idle
+      → ((has : ℕ → Bool) → Agree upto has now → base_ended (setting sys kernel has) k ≡ k2) → HasRows kernel k2.place k2.idle
       → AreNumbered sys → LaneZero sys kernel budget (told ++ for_object 0 (plain (body.Rest n)) ∷ []) now upto k2 0 stages entries
   zero-rest n k2 started at none count same rows numbered =
       zero-beside (for_object 0 (plain (body.Rest n))) k2 refl refl none
@@ -249,7 +249,7 @@ module _ (sys : System) (kernel budget : ℕ) (told : List ToldItem) (now : ℕ 
       → ((d : ObjectDef) (chart : Chart) → d.priority ≡ p → object_at sys d.priority ≡ Some d → chart_at sys d.chart ≡ Some chart → (ps : List Piece)
       → ComesTo sys (actor d chart) (first_config d) (entries p) ps (stages p) → ComesTo sys (actor d chart) (first_config d) es (ps ++ (tell g ++ point_if owes)) there)
       → ((o : ℕ) → length (entries o) + took_count (map untold (map (for_object p) g)) o ≡ length (having entries p es o)) → length es ≤ budget
-      → list_any (λ i. is_end i.body) (map untold (map (for_object p) g)) ≡ false → HasOneRow k2.place k2.idle
+      → list_any (λ i. is_end i.body) (map untold (map (for_object p) g)) ≡ false → HasRows kernel k2.place k2.idle
       → LaneZero sys kernel budget (told ++ map (for_object p) g) now upto k2 (owing owes p) (moved stages p there) (having entries p es)
   zero-moves g owes k2 there es reads are comes counts few calm rows =
       zero-more sys kernel budget told now upto k 0 stages entries old (map (for_object p) g) k2 (owing owes p) (moved stages p there) (having entries p es) reads
@@ -307,7 +307,7 @@ module _ (sys : System) (kernel budget : ℕ) (told : List ToldItem) (now : ℕ 
       comes-took sys (actor d chart) (first_config d) (entries p) ps c f l m e ev left (plan d chart same at is) (able d chart at is) (subst (ComesTo sys (actor d chart) (first_config d) (entries p) ps) rests h))
       (λ o. counts o (p == o) refl)
       (let long = length-append (entries p) (e ∷ []) in omega (arith, long, few))
-      refl (subst (λ x. HasOneRow x k.idle) at old.rows)
+      refl (subst (λ x. HasRows kernel x k.idle) at old.rows)
     where
       counts : (o : ℕ) (v : Bool) → (p == o) ≡ v → length (entries o) + (0 + cond (p == o) 1 0) ≡ length (having entries p (entries p ++ e ∷ []) o)
       counts o true is =
@@ -348,7 +348,7 @@ module _ (sys : System) (kernel budget : ℕ) (told : List ToldItem) (now : ℕ 
       comes-done sys (actor o chart) (first_config o) (entries p) ps (stages p) ev e left c d (g ++ plain body.Done ∷ rel) within (goes o chart same there is) (omega arith) h)
       (λ o. having-same o (entries p) (took_count (map untold (map (for_object p) (g ++ plain body.Done ∷ rel))) o) (done-takes p g rel o own drops) refl)
       (old.budgets p) (ends-told p (g ++ plain body.Done ∷ rel) (any-both (λ t. is_end t.body) g (plain body.Done ∷ rel) calm (drops-calm rel drops)))
-      (subst (λ x. HasOneRow x k.idle) at.inside old.rows)
+      (subst (λ x. HasRows kernel x k.idle) at.inside old.rows)
 
   -- The next object starts.
   pub zero-started : (others : List ℕ) (g : List Told) (c : Config) → k.unstarted ≡ p ∷ others → AreOwn g → list_any (λ t. is_end t.body) g ≡ false → stages p ≡ stage.Unstarted

@@ -11,6 +11,7 @@ use Rattle.qp_model.specs.Pieces.{Piece, Tell, Point}
 use Rattle.qp_model.specs.Ends.{is_turn_mark, is_end}
 use Rattle.qp_model.specs.End.{took_count}
 use Rattle.qp_model.specs.Sites.{object_at}
+use Rattle.qp_model.specs.Kernels.{qk}
 use Rattle.qp_model.specs.KernelLane.{Setting, Upcoming, Inside, Over, Reading, lane_next, lane_on, unread}
 use Rattle.qp_model.specs.Points.{is_look, begins_row}
 use Rattle.qp_model.specs.Course.{actor, first_config, chart_at}
@@ -50,6 +51,10 @@ abbrev pub HasOneRow : Upcoming → ℕ → Type 0
 HasOneRow Over idle = idle ≤ 1
 HasOneRow _ idle = idle ≡ 0
 
+-- `qk` has as many as come, each in a turn of its own
+abbrev pub HasRows : ℕ → Upcoming → ℕ → Type 0
+HasRows kernel place idle = (kernel == qk) ≡ false → HasOneRow place idle
+
 -- Lane 0 has these records. Its looks up to `upto` have the stimuli that `now` tells. `owed` is the object whose scheduling point has come
 -- and whose row hasn't begun, or 0; each object has come to its stage, over the entries that it took.
 pub record LaneZero (sys : System) (kernel budget : ℕ) (told : List ToldItem) (now : ℕ → Bool) (upto : ℕ) (k : Reading) (owed : ℕ)
@@ -64,4 +69,4 @@ pub record LaneZero (sys : System) (kernel budget : ℕ) (told : List ToldItem) 
   pub calm : list_any (λ i. is_end i.body) (map untold told) ≡ false
   -- nor a `nil`
   pub unmarked : list_any (λ i. is_turn_mark i.body) (map untold told) ≡ false
-  pub rows : HasOneRow k.place k.idle
+  pub rows : HasRows kernel k.place k.idle

@@ -27,7 +27,7 @@ use Rattle.qp_orders.specs.SourceRun.{untold}
 use Rattle.qp_kernel.specs.Stages as stage
 use Rattle.qp_kernel.specs.Stages.{IsReady, may_wait, is_resting}
 use Rattle.qp_kernel.specs.LaneZero.{Agree, setting, row_of}
-use Rattle.qp_kernel.specs.ZeroEnds.{ZeroEnds}
+use Rattle.qp_kernel.specs.ZeroEnds.{ZeroEnds, most_rows}
 use Rattle.qp_kernel.specs.Run.{IsRun}
 use Rattle.qp_kernel.specs.QuietRun.{IsQuietRun}
 use Rattle.qp_kernel.specs.Turning.{AreNumbered, AreAble, IsObject, KernelState, Stands, Terms, kernel_in, rest_told, IsWithinStep, IsInStep, IsLookPlace, moved, having, look_told, seen_told, spill_told}
@@ -64,7 +64,7 @@ abbrev pub LookIsAdded : Type 0
 LookIsAdded =
     (sys : System) (terms : Terms) (s : KernelState) (n floor : ℕ) (next : Reading) → AreNumbered sys
     → Stands sys terms s → s.reading.unstarted ≡ []
-    → IsLookPlace s.reading.place s.reading.running → s.owed ≡ row_of s.reading.place s.reading.running
+    → IsLookPlace (kernel_in terms) s.reading.place s.reading.running → s.owed ≡ row_of s.reading.place s.reading.running
     → n ≡ s.reading.looks + 1 → floor ≡ floor_in sys (kernel_in terms) s.reading.running s.reading.ceiling
     → ((has : ℕ → Bool) → Agree s.upto has s.now → looking_at (setting sys (kernel_in terms) has) (record (s.reading) { looks = n }) (above sys floor) ≡ next)
     → Stands sys terms (record s { told = s.told ++ look_told n floor ∷ []; reading = next; owed = 0 })
@@ -154,14 +154,14 @@ RunEndsQuietly =
     → Stands sys terms s → Agree s.upto has s.now → s.owed ≡ 0
     → s.reading.unstarted ≡ [] → s.reading.running ≡ [] → s.reading.place ≡ Over
     → ((d : ObjectDef) → object_at sys d.priority ≡ Some d → is_resting (s.stages d.priority) ≡ true)
-    → ZeroEnds sys (kernel_in terms) terms.budget quiet s.told has
+    → ZeroEnds sys (kernel_in terms) terms.budget quiet (most_rows (kernel_in terms) s.reading.idle) s.told has
 
 -- it stops in another lane
 abbrev pub RunStopsElsewhere : Type 0
 RunStopsElsewhere =
     (sys : System) (terms : Terms) (end : ℕ) (s : KernelState) (has : ℕ → Bool) → AreNumbered sys → AreAble sys
     → Stands sys terms s → Agree s.upto has s.now
-    → may_cut end ≡ true → s.reading.unstarted ≡ [] → AllWait sys s → ZeroEnds sys (kernel_in terms) terms.budget end s.told has
+    → may_cut end ≡ true → s.reading.unstarted ≡ [] → AllWait sys s → ZeroEnds sys (kernel_in terms) terms.budget end (most_rows (kernel_in terms) s.reading.idle) s.told has
 
 -- an object whose queue is seen with an entry has taken its budget
 abbrev pub BudgetEnds : Type 0
@@ -171,7 +171,7 @@ BudgetEnds =
     → Agree s.upto has s.now → may_cut end ≡ true → s.owed ≡ 0 → s.reading.unstarted ≡ []
     → s.reading.place ≡ Looking p others → m < f + l → length (s.entries p) ≡ terms.budget → 0 < p
     → is_resting (s.stages p) ≡ true → AllWait sys s
-    → ZeroEnds sys (kernel_in terms) terms.budget end (s.told ++ seen_told p f l m ∷ for_object p (plain body.Spent) ∷ []) has
+    → ZeroEnds sys (kernel_in terms) terms.budget end (most_rows (kernel_in terms) s.reading.idle) (s.told ++ seen_told p f l m ∷ for_object p (plain body.Spent) ∷ []) has
 
 -- a step ends in its assertion
 abbrev pub AssertionEndsStep : Type 0
@@ -182,7 +182,7 @@ AssertionEndsStep =
     → may_cut end ≡ true → s.owed ≡ 0
     → IsInStep s.reading p outer → IsWithinStep (s.stages p) ev e left c
     → GoesOn sys (actor d chart) ev e left c (tell g) None → OthersWait sys s p
-    → ZeroEnds sys (kernel_in terms) terms.budget end (s.told ++ map (for_object p) g) has
+    → ZeroEnds sys (kernel_in terms) terms.budget end (most_rows (kernel_in terms) s.reading.idle) (s.told ++ map (for_object p) g) has
 
 -- a start ends in its assertion
 abbrev pub AssertionEndsStart : Type 0
@@ -192,7 +192,7 @@ AssertionEndsStart =
     → may_cut end ≡ true → s.owed ≡ 0
     → s.reading.unstarted ≡ p ∷ others → s.stages p ≡ stage.Unstarted
     → Starts sys (actor d chart) (first_config d) (tell g) None → OthersWait sys s p
-    → ZeroEnds sys (kernel_in terms) terms.budget end (s.told ++ map (for_object p) g) has
+    → ZeroEnds sys (kernel_in terms) terms.budget end (most_rows (kernel_in terms) s.reading.idle) (s.told ++ map (for_object p) g) has
 
 -- the lane's last record, a `spill`, right behind a record of p, states how many stand before it, and they fill the lane
 pub record SpillFills (s : KernelState) (p : ℕ) (g : List Told) (n : ℕ) : Type 0 where
@@ -209,7 +209,7 @@ SpillEndsStep =
     → may_cut end ≡ true → s.owed ≡ 0
     → IsInStep s.reading p outer → IsWithinStep (s.stages p) ev e left c → list_any (λ t. is_end t.body) g ≡ false
     → GoesOn sys (actor d chart) ev e left c (tell g ++ qs) last → OthersWait sys s p → SpillFills s p g n
-    → ZeroEnds sys (kernel_in terms) terms.budget end (s.told ++ (map (for_object p) g ++ spill_told n ∷ [])) has
+    → ZeroEnds sys (kernel_in terms) terms.budget end (most_rows (kernel_in terms) s.reading.idle) (s.told ++ (map (for_object p) g ++ spill_told n ∷ [])) has
 
 -- a `spill` cuts a start, of which something is left
 abbrev pub SpillEndsStart : Type 0
@@ -220,7 +220,7 @@ SpillEndsStart =
     → may_cut end ≡ true → s.owed ≡ 0 → s.reading.unstarted ≡ p ∷ others → s.stages p ≡ stage.Unstarted
     → list_any (λ t. is_end t.body) g ≡ false → qs ≢ [] → Starts sys (actor d chart) (first_config d) (tell g ++ qs) last
     → OthersWait sys s p → SpillFills s p g n
-    → ZeroEnds sys (kernel_in terms) terms.budget end (s.told ++ (map (for_object p) g ++ spill_told n ∷ [])) has
+    → ZeroEnds sys (kernel_in terms) terms.budget end (most_rows (kernel_in terms) s.reading.idle) (s.told ++ (map (for_object p) g ++ spill_told n ∷ [])) has
 
 -- the lane has no room for what comes next
 abbrev pub FullLaneEnds : Type 0
@@ -228,7 +228,7 @@ FullLaneEnds =
     (sys : System) (terms : Terms) (end : ℕ) (s : KernelState) (has : ℕ → Bool) (n : ℕ) → AreNumbered sys → AreAble sys
     → Stands sys terms s → Agree s.upto has s.now
     → may_cut end ≡ true → n ≡ length s.told → 999992 < n → AllWait sys s
-    → ZeroEnds sys (kernel_in terms) terms.budget end (s.told ++ spill_told n ∷ []) has
+    → ZeroEnds sys (kernel_in terms) terms.budget end (most_rows (kernel_in terms) s.reading.idle) (s.told ++ spill_told n ∷ []) has
 
 -- A run that has ended leaves a lawful journal.
 abbrev pub RunsAreLawful : Type 0

@@ -1,5 +1,5 @@
 -- A run of the kernel that comes to its end by itself.
-use Rattle.std.specs.Prelude.{◌≡◌, ℕ, ◌+◌, true, List, [], length, Some}
+use Rattle.std.specs.Prelude.{◌≡◌, ℕ, ◌+◌, true, false, List, [], length, Some}
 use Rattle.std.specs.List.{list_all}
 use Rattle.qp_model.specs.declared.stimulus.Stim.{Stim}
 use Rattle.qp_model.specs.declared.systems.System.{System}
@@ -28,6 +28,7 @@ pub record IsQuietRun (sys : System) (stimuli : List (List Stim)) (j : Journal) 
   pub sound : IsSound sys
   pub able : AreAble sys
   pub terms : Terms
+  pub single : terms.threaded ≡ false
   pub kernel : j.kernel ≡ kernel_in terms
   pub budget_is : j.budget ≡ terms.budget
   pub words : Words sys j.lanes

@@ -44,7 +44,7 @@ pub record IsRun (sys : System) (stimuli : List (List Stim)) (j : Journal) : Typ
   pub log : List Placed
   pub numbers : in_order [] (items_of log) ≡ true
   -- the kernel's lane, the sources, and the order of both
-  pub zero : ZeroEnds sys j.kernel j.budget j.end (told_lane (facts_of sys j) 0 (lane_items (lane_at j 0))) (has_stim (source_lanes sys j))
+  pub zero : ZeroEnds sys j.kernel j.budget j.end 1 (told_lane (facts_of sys j) 0 (lane_items (lane_at j 0))) (has_stim (source_lanes sys j))
   pub cuts : Bool
   pub sources : SourcesEnd sys j cuts 1 stimuli
   pub order : EndsInOrder sys stimuli (lane_items (lane_at j 0)) (source_lanes sys j) cuts log

@@ -1,5 +1,5 @@
 -- What a kernel knows between two calls, and what goes on from there.
-use Rattle.std.specs.Prelude.{◌≡◌, ℕ, ◌<◌, ◌==◌, ◌⊎◌, Bool, true, List, [], ◌∷◌, if◌then◌else◌, Some, ⊤}
+use Rattle.std.specs.Prelude.{◌≡◌, ℕ, ◌<◌, ◌==◌, ◌⊎◌, Bool, true, false, List, [], ◌∷◌, if◌then◌else◌, Some, ⊤}
 use Rattle.qp_chart.specs.declared.checked.Chart.{Chart}
 use Rattle.qp_model.specs.declared.systems.System.{System}
 use Rattle.qp_model.specs.declared.systems.ObjectDef.{ObjectDef}
@@ -11,23 +11,30 @@ use Rattle.qp_model.specs.Able.{chart_able}
 use Rattle.qp_model.specs.Step.{Remainder}
 use Rattle.qp_model.specs.Sites.{object_at}
 use Rattle.qp_model.specs.Course.{chart_at}
-use Rattle.qp_model.specs.Kernels.{sim, qv}
-use Rattle.qp_model.specs.KernelLane.{Reading, Upcoming, Inside, Ended, Again}
+use Rattle.qp_model.specs.Kernels.{sim, qk, qv}
+use Rattle.qp_model.specs.KernelLane.{Reading, Upcoming, Inside, Ended, Again, Over}
 use Rattle.qp_kernel.specs.Stages as stage
 use Rattle.qp_kernel.specs.Stages.{Stage}
 use Rattle.qp_kernel.specs.LaneZero.{LaneZero}
 
--- what a run goes by: whether its steps never interrupt one another, and how many entries an object may take up
+-- what a run goes by: whether its steps never interrupt one another, whether its sources have threads of their own, and how many entries an
+-- object may take up
 pub record Terms : Type 0 where
   pub cooperative : Bool
+  pub threaded : Bool
   pub budget : ℕ
 
+-- a run of one thread
 abbrev pub under : Bool → ℕ → Terms
-under cooperative budget = record { cooperative = cooperative; budget = budget }
+under cooperative budget = record { cooperative = cooperative; threaded = false; budget = budget }
+
+-- a run under `qk`
+abbrev pub under_qk : ℕ → Terms
+under_qk budget = record { cooperative = false; threaded = true; budget = budget }
 
 -- its kernel
 abbrev pub kernel_in : Terms → ℕ
-kernel_in terms = if terms.cooperative then qv else sim
+kernel_in terms = if terms.threaded then qk else (if terms.cooperative then qv else sim)
 
 -- objects are numbered from 1
 abbrev pub AreNumbered : System → Type 0
@@ -66,13 +73,15 @@ pub record IsInStep (k : Reading) (p : ℕ) (outer : List ℕ) : Type 0 where
   pub running : k.running ≡ p ∷ outer
   pub inside : k.place ≡ Inside
 
--- a look may stand here: at the base, at a scheduling point of the running object, or behind a step of the row
-abbrev pub IsLookPlace : Upcoming → List ℕ → Type 0
-IsLookPlace Inside [] = ⊤
-IsLookPlace Inside (p ∷ outer) = 0 < p
-IsLookPlace (Ended p) running = ⊤
-IsLookPlace Again running = ⊤
-IsLookPlace _ running = ⊥
+-- a look may stand here: at the base, at a scheduling point of the running object, or behind a step of the row; under `qk` behind a row that
+-- is over too
+abbrev pub IsLookPlace : ℕ → Upcoming → List ℕ → Type 0
+IsLookPlace kernel Inside [] = ⊤
+IsLookPlace kernel Inside (p ∷ outer) = 0 < p
+IsLookPlace kernel (Ended p) running = ⊤
+IsLookPlace kernel Again running = ⊤
+IsLookPlace kernel Over running = kernel ≡ qk
+IsLookPlace kernel _ running = ⊥
 
 -- the stages with that of p changed, and the entries with those of p
 abbrev pub moved : (ℕ → Stage) → ℕ → Stage → ℕ → Stage

@@ -11,6 +11,7 @@ use Rattle.qp_model.specs.ObjectShape.{HasShape}
 use Rattle.qp_model.specs.Ends.{is_assert, is_spent, may_cut, spills_cut, ends_last}
 use Rattle.qp_model.specs.End.{took_count, spents_follow, spills_state}
 use Rattle.qp_model.specs.Sites.{object_at}
+use Rattle.qp_model.specs.Kernels.{qk}
 use Rattle.qp_model.specs.KernelLane.{Reading, lane_on, unread, is_whole}
 use Rattle.qp_model.specs.Course.{Cut, Whole, Stopped, Anywhere, FollowsTo, chart_at}
 use Rattle.qp_model.specs.Lawful.{spill_cuts}
@@ -34,12 +35,16 @@ is_spent_right budget lane i = not (is_spent i.body) || (nat_lt 0 i.of && (took_
 abbrev pub own_told : ℕ → List ToldItem → List Told
 own_told o ts = told_alone (filter (λ t. t.of == o) ts)
 
--- Lane 0 of a run that ended so, whose stimuli stand in these looks: it reads to its last place, each object follows its chart as far as
--- its list goes, and the records that end a lane stand where they may.
-pub record ZeroEnds (sys : System) (kernel budget end : ℕ) (told : List ToldItem) (has : ℕ → Bool) : Type 0 where
+-- how many rows at the base have no step, where lane 0 has read so many: under `qk` these, under the kernels of one thread at most one
+abbrev pub most_rows : ℕ → ℕ → ℕ
+most_rows kernel idle = if kernel == qk then idle else 1
+
+-- Lane 0 of a run that ended so, whose stimuli stand in these looks: it reads to its last place, with at most so many rows at the base that
+-- have no step; each object follows its chart as far as its list goes, and the records that end a lane stand where they may.
+pub record ZeroEnds (sys : System) (kernel budget end most : ℕ) (told : List ToldItem) (has : ℕ → Bool) : Type 0 where
   pub last : Reading
   pub read : lane_on (setting sys kernel has) (unread sys) (map untold told) ≡ Some last
-  pub idle : last.idle ≤ 1
+  pub idle : last.idle ≤ most
   pub spills : spills_cut end (map untold told) ≡ true
   pub stands : may_stand kernel end last (map untold told) ≡ true
   pub follows : (d : ObjectDef) (chart : Chart) → object_at sys d.priority ≡ Some d → chart_at sys d.chart ≡ Some chart

@@ -12,7 +12,7 @@ use Rattle.qp_model.specs.declared.systems.System.{System}
 use Rattle.qp_model.specs.declared.bodies.Body.TheVariants as body
 use Rattle.qp_model.specs.Record.{Item}
 use Rattle.qp_model.specs.Told.{Told, ToldItem, plain, for_object}
-use Rattle.qp_model.specs.Knowing.{told_alone}
+use Rattle.qp_model.specs.Knowing.{Facts, told, ceiling_after, told_lane, told_alone}
 use Rattle.qp_model.specs.Kernels.{sim}
 use Rattle.qp_model.specs.Ends.{is_spent, is_spill, is_end, may_cut, spills_in, spills_cut, ends_last}
 use Rattle.qp_model.specs.End.{spills_state}
@@ -28,29 +28,35 @@ use Rattle.qp_orders.proofs.StimulusForm.{stimulus-form, stimulus-items, cut-pla
 use Rattle.qp_model.proofs.FitsLemmas.{all-append}
 use Rattle.qp_model.proofs.KnowingLemmas.{told-source}
 
-untold-append : (ts us : List ToldItem) → untold_all (ts ++ us) ≡ untold_all ts ++ untold_all us
+-- a finished lane as it is told
+pub untold-lane : (w : Facts) (c : ℕ) (is : List Item) → untold_all (told_lane w c is) ≡ is
+unfolding told_lane told
+untold-lane w c [] = refl
+untold-lane w c (i ∷ is) = ap (λ js. i ∷ js) (untold-lane w (ceiling_after c i.body) is)
+
+pub untold-append : (ts us : List ToldItem) → untold_all (ts ++ us) ≡ untold_all ts ++ untold_all us
 untold-append ts us = map-append untold ts us
 
-alone-source : (g : List Told) → list_all (λ i. i.of == 0) (source_items g) ≡ true
+pub alone-source : (g : List Told) → list_all (λ i. i.of == 0) (source_items g) ≡ true
 alone-source [] = refl
 alone-source (t ∷ ts) = alone-source ts
 
-alone-append : (ts : List ToldItem) (g : List Told) → told_alone (ts ++ map (for_object 0) g) ≡ told_alone ts ++ g
+pub alone-append : (ts : List ToldItem) (g : List Told) → told_alone (ts ++ map (for_object 0) g) ≡ told_alone ts ++ g
 alone-append ts g = map-append (λ t. t.told) ts (map (for_object 0) g) ∙ ap (λ x. told_alone ts ++ x) (told-source g)
 
 -- records without a `spill` are all told
-unspilled : (ts : List ToldItem) → spills_in (untold_all ts) ≡ false → source_told ts ≡ told_alone ts
+pub unspilled : (ts : List ToldItem) → spills_in (untold_all ts) ≡ false → source_told ts ≡ told_alone ts
 unspilled [] h = refl
 unspilled (t ∷ ts) h = let parts = or_parts (is_spill t.told.body) (spills_in (untold_all ts)) h in rw parts.0 (ap (λ x. t.told ∷ x) (unspilled ts parts.1))
 
-source_told-append : (ts us : List ToldItem) → source_told (ts ++ us) ≡ source_told ts ++ source_told us
+pub source_told-append : (ts us : List ToldItem) → source_told (ts ++ us) ≡ source_told ts ++ source_told us
 source_told-append ts us = ap told_alone (filter-append (λ t. not (is_spill t.told.body)) ts us) ∙ map-append (λ t. t.told) (filter (λ t. not (is_spill t.told.body)) ts) (filter (λ t. not (is_spill t.told.body)) us)
 
-calm-unspent : (is : List Item) → list_any (λ i. is_end i.body) is ≡ false → list_any (λ i. is_spent i.body) is ≡ false
+pub calm-unspent : (is : List Item) → list_any (λ i. is_end i.body) is ≡ false → list_any (λ i. is_spent i.body) is ≡ false
 calm-unspent [] h = refl
 calm-unspent (i ∷ is) h = let parts = or_parts (is_end i.body) (list_any (λ i. is_end i.body) is) h in rw ((calm-parts i.body parts.0).1, calm-unspent is parts.1) refl
 
-stimulus-plain : (p look : ℕ) (one : List Told) → untold_all (stimulus_told p look one) ≡ record { of = 0; body = body.Stim p look } ∷ source_items one
+pub stimulus-plain : (p look : ℕ) (one : List Told) → untold_all (stimulus_told p look one) ≡ record { of = 0; body = body.Stim p look } ∷ source_items one
 stimulus-plain p look one = refl
 
 pub source_lane_goes_on : SourceLaneGoesOn
@@ -65,7 +71,7 @@ source_lane_goes_on sys done told old s look one fits =
     }
 
 -- nothing ends the lane
-still : (sys : System) (end : ℕ) (cuts : Bool) (done ss : List Stim) (told : List ToldItem) (stop : SourceEnd) → SourceGoes sys sim done told
+pub still : (sys : System) (end : ℕ) (cuts : Bool) (done ss : List Stim) (told : List ToldItem) (stop : SourceEnd) → SourceGoes sys sim done told
     → SourceRuns sys sim 1 ss stop (told_alone told) → may_end end false stop ≡ true → SourceEnds sys sim end cuts ss told
 unfolding spills_cut ends_last spills_state
 still sys end cuts done ss told stop old runs may =
@@ -87,7 +93,7 @@ still sys end cuts done ss told stop old runs may =
 pub source_lane_is_whole : SourceLaneIsWhole
 source_lane_is_whole sys end cuts ss told old = still sys end cuts ss ss told AllDone old old.runs refl
 
-mild-from : (is : List Item) → AreBehind false is → list_any (λ i. is_spent i.body) is ≡ false → IsMild is
+pub mild-from : (is : List Item) → AreBehind false is → list_any (λ i. is_spent i.body) is ≡ false → IsMild is
 mild-from [] h k = tt
 mild-from (i ∷ is) h k =
     let parts = or_parts (is_spent i.body) (list_any (λ i. is_spent i.body) is) k in
@@ -97,23 +103,23 @@ mild-from (i ∷ is) h k =
     not-true true h = absurd (cc)
     not-true false h = refl
 
-plain-mild : (g : List Told) → ArePlain g → IsMild (source_items g)
+pub plain-mild : (g : List Told) → ArePlain g → IsMild (source_items g)
 plain-mild [] h = tt
 plain-mild (t ∷ ts) h = let parts = calm-parts t.body h.0.calm in (parts.1, parts.2, plain-mild ts h.1)
 
-stim-ends : (p look : ℕ) (is : List Item) → ends_last is ≡ true → ends_last (record { of = 0; body = body.Stim p look } ∷ is) ≡ true
+pub stim-ends : (p look : ℕ) (is : List Item) → ends_last is ≡ true → ends_last (record { of = 0; body = body.Stim p look } ∷ is) ≡ true
 unfolding ends_last
 stim-ends p look [] h = refl
 stim-ends p look (i ∷ is) h = h
 
-stated : (n at : ℕ) → n ≡ at → 999992 < n → ((n == at) && nat_lt 999992 at && true) ≡ true
+pub stated : (n at : ℕ) → n ≡ at → 999992 < n → ((n == at) && nat_lt 999992 at && true) ≡ true
 stated n at same many =
     let one : (n == at) ≡ true = grind (arith, nat_tests, same) in
     let two : nat_lt 999992 at ≡ true = grind (arith, nat_tests, many, same) in
     rw (one, two) refl
 
 -- the lane has no room for the next stimulus
-full-lane : (sys : System) (end : ℕ) (done : List Stim) (told : List ToldItem) (s : Stim) (left : List Stim) (n : ℕ) → may_cut end ≡ true → SourceGoes sys sim done told
+pub full-lane : (sys : System) (end : ℕ) (done : List Stim) (told : List ToldItem) (s : Stim) (left : List Stim) (n : ℕ) → may_cut end ≡ true → SourceGoes sys sim done told
     → n ≡ length told → 999992 < n → SourceEnds sys sim end false (done ++ s ∷ left) (told ++ for_object 0 (plain (body.Spill n)) ∷ [])
 unfolding spills_cut ends_last spills_state
 full-lane sys end done told s left n early old count many =
@@ -138,7 +144,7 @@ full-lane sys end done told s left n early old count many =
     }
 
 -- the stimulus ends in its assertion
-asserted-lane : (sys : System) (end : ℕ) (cuts : Bool) (done : List Stim) (told : List ToldItem) (s : Stim) (left : List Stim) (look : ℕ) (one : List Told) → may_cut end ≡ true → SourceGoes sys sim done told
+pub asserted-lane : (sys : System) (end : ℕ) (cuts : Bool) (done : List Stim) (told : List ToldItem) (s : Stim) (left : List Stim) (look : ℕ) (one : List Told) → may_cut end ≡ true → SourceGoes sys sim done told
     → StimFits sys sim s true one → SourceEnds sys sim end cuts (done ++ s ∷ left) (told ++ stimulus_told (1 + length done) look one)
 unfolding spills_cut spills_state
 asserted-lane sys end cuts done told s left look one early old fits =
@@ -166,7 +172,7 @@ asserted-lane sys end cuts done told s left look one early old fits =
     }
 
 -- a `spill` cuts the stimulus
-cut-lane : (sys : System) (end : ℕ) (done : List Stim) (told : List ToldItem) (s : Stim) (left : List Stim) (look n : ℕ) (one back : List Told) (asserted : Bool) → may_cut end ≡ true → SourceGoes sys sim done told
+pub cut-lane : (sys : System) (end : ℕ) (done : List Stim) (told : List ToldItem) (s : Stim) (left : List Stim) (look n : ℕ) (one back : List Told) (asserted : Bool) → may_cut end ≡ true → SourceGoes sys sim done told
     → back ≢ [] → StimFits sys sim s asserted (one ++ back) → n ≡ length told + (1 + length one) → 999992 < n
     → SourceEnds sys sim end true (done ++ s ∷ left) (told ++ (stimulus_told (1 + length done) look one ++ for_object 0 (plain (body.Spill n)) ∷ []))
 unfolding spills_cut spills_state ends_last
