@@ -48,7 +48,7 @@ use Rattle.qp_dispatch.specs.CallsDone.{StandsIn}
 use Rattle.qp_dispatch.specs.Parts.{held_by, left_by}
 use Rattle.qp_dispatch.specs.SoundFor.{MayTask}
 use Rattle.qp_dispatch.specs.Runs.{CanEnd, MayRun, RunAsserts, RunCut, Runs, Setting, hand_of, tasks_in}
-use Rattle.qp_dispatch.specs.Resume.{BeginsOn, EndsAsserted, Halts, HaltsFull, IsGoing, IsLaneOf, ReleasesEntry, Resumes, ToEnd, ToPoint, entry_here, event_at, event_in, held_in, left_of, step_entry}
+use Rattle.qp_dispatch.specs.Resume.{BeginsOn, EndsAsserted, Halts, IsGoing, IsLaneOf, ReleasesEntry, Resumes, ToEnd, ToPoint, entry_here, event_at, event_in, held_in, left_of, step_entry}
 use Rattle.qp_dispatch.proofs.ActLemmas.{calm-quiet, counts-join, stand-change}
 use Rattle.qp_dispatch.proofs.Quiet.{quiet-drops}
 use Rattle.qp_model.proofs.GroupLemmas.{bare-append}
