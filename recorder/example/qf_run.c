@@ -1,0 +1,238 @@
+/* A run: PROGRAM STIMULI TRACE [FAULT]. Objects start one after another; then each has its thread, and so has each source. It
+ * ends where all sources are done and all objects wait, or at an assertion. With QF_JITTER in the environment threads meet more
+ * often. */
+#include <errno.h>
+#include <stdio.h>
+#include <stdlib.h>
+#include <time.h>
+
+#include <sched.h>
+
+#include "qf_pkg.h"
+
+enum { BUFFER = 1 << 20, PIECE = 4096, PATIENCE = 10 /* seconds */ };
+
+QActive *QActive_registry_[QF_MAX_ACTIVE + 1];
+
+static pthread_mutex_t l_section = PTHREAD_MUTEX_INITIALIZER;
+static pthread_cond_t l_moved = PTHREAD_COND_INITIALIZER;
+static bool l_isStopped;
+static bool l_isStarting = true;
+static bool l_hasJitter;
+static QEvt l_statics[QF_MAX_SIG];
+
+#if QP_RECORD
+QPR_STATE();
+__thread uint8_t QF_who;
+#endif
+
+#ifdef QF_FAULTS
+int QF_fault;
+bool QF_everyNth_(int fault, unsigned n) {
+    static unsigned count;
+    return QF_fault == fault && __atomic_add_fetch(&count, 1u, __ATOMIC_RELAXED) % n == 0;
+}
+#endif
+
+/* ---- the critical section ---- */
+
+static void jitter(void) {
+    static __thread uint32_t state;
+    if (state == 0) {
+        struct timespec now;
+        clock_gettime(CLOCK_MONOTONIC, &now);
+        state = ((uint32_t)now.tv_nsec ^ (uint32_t)(uintptr_t)&state) | 1u;
+    }
+    state = state * 1664525u + 1013904223u;
+    if (state >> 24 < 48u) {
+        sched_yield();
+    } else if (state >> 24 < 80u) {
+        struct timespec const pause = { 0, (long)(1000u + (state >> 8) % 60000u) };
+        nanosleep(&pause, NULL);
+    }
+}
+
+void QF_critEntry_(void) { pthread_mutex_lock(&l_section); }
+void QF_critExit_(void) {
+    pthread_mutex_unlock(&l_section);
+    if (l_hasJitter) {
+        jitter();
+    }
+}
+void QF_wait_(pthread_cond_t *more) { pthread_cond_wait(more, &l_section); }
+void QF_wakeWatcher_(void) { pthread_cond_signal(&l_moved); }
+bool QF_isStopped_(void) { return l_isStopped; }
+
+static void stop(void) {
+    l_isStopped = true;
+    for (unsigned p = 1; p <= QF_MAX_ACTIVE; ++p) {
+        if (QActive_registry_[p] != NULL) {
+            pthread_cond_broadcast(&QActive_registry_[p]->more);
+        }
+    }
+    pthread_cond_broadcast(&l_moved);
+}
+
+void QF_onAssert_(void) {
+    stop();
+    QF_CRIT_EXIT();
+    if (l_isStarting) {
+        fputs("an assertion in a start\n", stderr);
+        exit(3);
+    }
+    pthread_exit(NULL);
+}
+
+/* ---- objects ---- */
+
+QEvt const *QF_static(QSignal sig) { return QF_app.signals[sig - Q_USER_SIG].isStatic ? &l_statics[sig] : NULL; }
+
+void BSP_say(int64_t value) {
+    (void)value;
+    QPR_SAY(value);
+}
+
+void QActive_ctor(QActive *me, QStateHandler initial, QStateHandler const *states) {
+    me->super.temp = initial;
+    me->super.state = QHsm_top;
+    me->super.states = states;
+}
+
+void QActive_start(QActive *me, char const *name, uint8_t prio, QEvt const **ring, uint16_t length, QEvt const **deferred,
+                   uint16_t capacity) {
+    me->name = name;
+    me->prio = prio;
+    QEQueue_init(&me->eQueue, ring, length, (uint16_t)(length + 1));
+    QEQueue_init(&me->deferred, deferred, capacity, capacity);
+    pthread_cond_init(&me->more, NULL);
+    QActive_registry_[prio] = me;
+}
+
+static void startObjects(void) {
+    for (unsigned p = 1; p <= QF_MAX_ACTIVE; ++p) {
+        QActive *const a = QActive_registry_[p];
+        if (a != NULL) {
+            QPR_BY(QPR_OBJECT(p));
+            QPR_BEGIN();
+            QHsm_init_(&a->super);
+            QPR_DONE();
+        }
+    }
+    l_isStarting = false;
+}
+
+static void *eventLoop(void *arg) {
+    QActive *const me = arg;
+    QPR_BY(QPR_OBJECT(me->prio));
+    for (QEvt const *e = QActive_get_(me); e != NULL; e = QActive_get_(me)) {
+        QHsm_dispatch_(&me->super, e);
+        QPR_DONE();
+        QF_gc(e);
+        if (FAULT_EVERY(FAULT_FREED_TWICE, 3)) {
+            QF_gc(e);
+        }
+    }
+    return NULL;
+}
+
+static bool isQuiet(void) {
+    for (unsigned p = 1; p <= QF_MAX_ACTIVE; ++p) {
+        QActive const *const a = QActive_registry_[p];
+        if (a != NULL && (a->eQueue.frontEvt != NULL || !a->isWaiting)) {
+            return false;
+        }
+    }
+    return true;
+}
+
+static void waitUntilQuiet(void) {
+    struct timespec until;
+    clock_gettime(CLOCK_REALTIME, &until);
+    until.tv_sec += PATIENCE;
+    QF_CRIT_ENTRY();
+    while (!isQuiet() && !l_isStopped) {
+        if (pthread_cond_timedwait(&l_moved, &l_section, &until) == ETIMEDOUT) {
+            fprintf(stderr, "not quiet after %d s\n", PATIENCE);
+            break;
+        }
+    }
+    stop();
+    QF_CRIT_EXIT();
+}
+
+static void runObjects(void) {
+    for (unsigned p = 1; p <= QF_MAX_ACTIVE; ++p) {
+        QActive *const a = QActive_registry_[p];
+        if (a != NULL) {
+            pthread_create(&a->thread, NULL, eventLoop, a);
+        }
+    }
+    QF_startSources_();
+    QF_joinSources_();
+    waitUntilQuiet();
+    for (unsigned p = 1; p <= QF_MAX_ACTIVE; ++p) {
+        if (QActive_registry_[p] != NULL) {
+            pthread_join(QActive_registry_[p]->thread, NULL);
+        }
+    }
+}
+
+/* ---- the recorder's buffers ---- */
+
+#if QP_RECORD
+static void openBuffers(void) {
+#if QP_RECORD == 1
+    static uint8_t bytes[BUFFER];
+    qpr_open(0, bytes, sizeof bytes);
+#else
+    static uint8_t bytes[QPR_WHOS][BUFFER];
+    for (unsigned who = 1; who < QPR_WHOS; ++who) {
+        qpr_open((uint8_t)who, bytes[who], sizeof bytes[who]);
+    }
+#endif
+}
+
+static int writeTrace(char const *file) {
+    static uint8_t piece[PIECE];
+    FILE *const out = fopen(file, "wb");
+    bool isWritten = out != NULL;
+    for (unsigned who = 0; isWritten && who < QPR_BUFFERS; ++who) {
+        uint32_t n;
+        while (isWritten && (n = qpr_take((uint8_t)who, piece, sizeof piece)) != 0) {
+            isWritten = fwrite(piece, 1, n, out) == n;
+        }
+    }
+    if (out == NULL || fclose(out) != 0 || !isWritten) {
+        fprintf(stderr, "%s: can't be written\n", file);
+        return 7;
+    }
+    return 0;
+}
+#endif
+
+int main(int argc, char **argv) {
+    if (argc < 3) {
+        fprintf(stderr, "usage: %s STIMULI TRACE [FAULT]\n", argv[0]);
+        return 1;
+    }
+#ifdef QF_FAULTS
+    QF_fault = argc > 3 ? atoi(argv[3]) : 0;
+#endif
+    l_hasJitter = getenv("QF_JITTER") != NULL;
+    for (unsigned i = 0; i < QF_app.nSignals; ++i) {
+        l_statics[Q_USER_SIG + i].sig = (QSignal)(Q_USER_SIG + i);
+    }
+    QF_poolInit_();
+    QF_app.start();
+    QF_readSources_(argv[1]);
+#if QP_RECORD
+    openBuffers();
+#endif
+    startObjects();
+    runObjects();
+#if QP_RECORD
+    return writeTrace(argv[2]);
+#else
+    return 0;
+#endif
+}

@@ -1,0 +1,124 @@
+"""The lane of an object: its start and its steps."""
+
+from .lane import Lane
+from .queues import Entry
+from .told import Told
+from .trace import Raw
+
+#: Where a step ends for who looks for its row.
+_ENDS = {"took", "nil", "begin"}
+
+
+class ObjectLane(Lane):
+    """Puts each step's `run` behind its take, looks up its row where the trace has none, and raises the ceiling around a
+    publication where the trace doesn't."""
+
+    def __init__(self, told: Told, who: int):
+        super().__init__(told, who)
+        self._path: list[int] = []
+        self._ceilings: list[int] = []
+        self._posts_left = 0
+        self._nil_shown = -1
+
+    def write_all(self) -> None:
+        raws = self._told.lanes.get(self._who, [])
+        for at, raw in enumerate(raws):
+            self.write(at, raw)
+            if raw.word == "took":
+                self._write_run(raws, at)
+            elif raw.word == "pub":
+                self._raise_ceiling(raws[at + 1:at + 2])
+            elif raw.word == "post" and self._posts_left:
+                self._posts_left -= 1
+                if not self._posts_left:
+                    self.put("unlock", self._object, self._ceilings.pop())
+        self.close()
+
+    def _done(self, at: int, raw: Raw) -> None:
+        self.close()
+        self.put("done", self._object)
+
+    def _took(self, at: int, raw: Raw) -> None:
+        self._due = []
+        super()._took(at, raw)
+
+    def _nil(self, at: int, raw: Raw) -> None:
+        """The same queue, found empty once more, isn't told."""
+        if raw.number != self._nil_shown:
+            self.put("nil", self._object, *self._counts(self._object, raw))
+        self._nil_shown = raw.number
+
+    # States and rows.
+
+    def _enter(self, at: int, raw: Raw) -> None:
+        self._path.append(raw.values[0])
+        self._plain(at, raw)
+
+    def _exit(self, at: int, raw: Raw) -> None:
+        if raw.values[0] in self._path:
+            self._path.remove(raw.values[0])
+        self._plain(at, raw)
+
+    def _no_init(self, at: int, raw: Raw) -> None:
+        """The state that was asked has no initial transition."""
+        self.lines.pop()
+
+    def _run(self, at: int, raw: Raw) -> None:
+        """It stands behind the take."""
+
+    _handled = _run
+
+    def _write_run(self, raws: list[Raw], took: int) -> None:
+        handled = None
+        for raw in raws[took + 1:]:
+            if raw.word in _ENDS:
+                break
+            if raw.word == "run":
+                self.put("run", self._object, *raw.values)
+                return
+            if raw.word == "none":
+                return
+            if raw.word == "handled":
+                handled = raw.values[0]
+        if handled is None and not any(raw.word not in _ENDS for raw in raws[took + 1:took + 2]):
+            return
+        self.put("run", self._object, *self._row(handled))
+
+    def _row(self, handled: int | None) -> tuple[int, int]:
+        """The state that handles the step's event, and the first of its rows for it."""
+        entry = self._step or Entry(0, 0)
+        for state in self._path[::-1] if handled is None else [handled]:
+            if rows := self._rows(state, entry.signal):
+                if len(rows) > 1:
+                    self._told.notes.append(
+                        f"object {self._object}: state {state} has {len(rows)} rows for signal {entry.signal}; QPR_RUN has to "
+                        "say which one is taken, and the first is written"
+                    )
+                return state, rows[0]
+        return handled or (self._path[-1] if self._path else 0), 0
+
+    def _rows(self, state: int, signal: int) -> list[int]:
+        states = self._told.objects[self._object].chart.states
+        if not 0 < state <= len(states):
+            return []
+        return [number for number, row in enumerate(states[state - 1].rows, 1) if row.on.number == signal]
+
+    # Ceilings.
+
+    def _lock(self, at: int, raw: Raw) -> None:
+        self._ceilings.append(raw.values[0])
+        self._plain(at, raw)
+
+    def _unlock(self, at: int, raw: Raw) -> None:
+        if self._ceilings:
+            self._ceilings.pop()
+        self._plain(at, raw)
+
+    def _raise_ceiling(self, following: list[Raw]) -> None:
+        members = self._former.values[1]
+        if not members or following and following[0].word == "lock":
+            return
+        former = self._ceilings[-1] if self._ceilings else 0
+        self.put("lock", self._object, max(former, members.bit_length()))
+        self._ceilings.append(former)
+        self._posts_left = members.bit_count()
