@@ -1,0 +1,3 @@
+pub mod LaneLemmas
+pub mod PortLemmas
+pub mod QkLemmas

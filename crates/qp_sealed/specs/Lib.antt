@@ -1,0 +1,4 @@
+pub mod Lanes
+pub mod PortLanes
+pub mod QkLanes
+pub mod Laws
