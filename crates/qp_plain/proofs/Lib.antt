@@ -6,7 +6,6 @@ pub mod Few
 pub mod FreshLemmas
 pub mod Growth
 pub mod Holding
-pub mod LogLemmas
 pub mod Mays
 pub mod NoteCalls
 pub mod RepeatFacts

@@ -40,13 +40,13 @@ use Rattle.qp_sound.proofs.Standing.{out-not_free}
 use Rattle.qp_sound.proofs.Times.{stands-times}
 use Rattle.qp_plain.specs.declared.world.PlainWorld.{PlainWorld}
 use Rattle.qp_plain.specs.Book.{lists_of}
-use Rattle.qp_plain.specs.Lane.{is_plain, spill_place}
+use Rattle.qp_logs.specs.Lane.{is_plain, spill_place}
 use Rattle.qp_plain.specs.LaneLaws.{lane-here}
 use Rattle.qp_plain.specs.Repeat.{CountsDown, FitsTimer, FitsToken, MayAt, MayRepeat, SetsTo, is_still, lane_in}
 use Rattle.qp_plain.specs.Tables.{SignalIs}
 use Rattle.qp_plain.proofs.Few.{line-few}
 use Rattle.qp_plain.proofs.Holding.{block-in}
-use Rattle.qp_plain.proofs.LogLemmas.{length-kinds, no-spills, regular}
+use Rattle.qp_logs.proofs.LogLemmas.{length-kinds, no-spills, regular}
 use Rattle.qp_plain.proofs.SignalTable as signal_table
 use Rattle.qp_model.proofs.RecordLemmas.{lane-length}
 

@@ -1,16 +1,10 @@
 -- The stop word.
-use Rattle.std.proofs.Common.{◌≡◌, ◌≢◌, ℕ, zero, suc, ◌<◌, ◌≤◌, ◌==◌, Bool, true, false, ◌&&◌, ◌||◌, cond, List, [], ◌∷◌, length, map, slice_set, refl, sym, ◌∙◌, ap, subst, arith, inl, inr}
+use Rattle.std.proofs.Common.{◌≡◌, ◌≢◌, ℕ, zero, suc, ◌<◌, ◌≤◌, ◌==◌, Bool, true, false, ◌&&◌, ◌||◌, cond, List, [], ◌∷◌, length, map, slice_set, refl, sym, ◌∙◌, ap, subst, arith}
 use Rattle.std.specs.List.{list_all, list_any}
 use Rattle.std.proofs.lemmas.Bool.{and_from, and_parts, or_right}
 use Rattle.std.proofs.lemmas.Bool.Decides.{nat_tests}
-use Rattle.qp_model.specs.declared.bodies.Body.{Body}
-use Rattle.qp_model.specs.declared.bodies.Body.TheVariants as body
-use Rattle.qp_model.specs.Told.{ToldItem}
 use Rattle.qp_calls.specs.LaneView.{Purse, no_code, is_codeless}
-use Rattle.qp_calls.specs.Notes.{MayStop, last_code, stop_code}
-use Rattle.qp_plain.specs.declared.world.PlainWorld.{PlainWorld}
-use Rattle.qp_plain.specs.WorldView.{world_view}
-use Rattle.qp_plain.specs.declared.log.Log.{Log}
+use Rattle.qp_logs.specs.declared.log.Log.{Log}
 use Rattle.qp_plain.specs.declared.book.Book.{Book}
 use Rattle.qp_plain.specs.Book.{Hands, Answers, logs_of, purse_of, no_purse, purses_of}
 use Rattle.qp_plain.specs.Books.{all_logs}
@@ -50,7 +44,7 @@ any-kept p (z ∷ zs) (suc k) x y keeps h = go (p z) h (any-kept p zs k x y keep
     go true g later = refl
     go false g later = later g
 
-not-zero : (n : ℕ) → n ≢ 0 → (n == 0) ≡ false
+pub not-zero : (n : ℕ) → n ≢ 0 → (n == 0) ≡ false
 not-zero n h = grind (arith, nat_tests)
 
 hands-logs : (code : ℕ) (old new : Book) → Hands code old new → logs_of new ≡ all_logs old.others.items old.at new.here
@@ -138,27 +132,6 @@ nothing-handed old lt is =
 
 pub all-answered : (stop : ℕ) (old : Book) → stop ≢ 0 → old.at < length old.others.items → StopIs stop (logs_of old) → list_all (λ c. c == stop) old.here.answered.list ≡ true
 all-answered stop old set lt is = found stop old.here (not-zero stop set) (all-at (fits_stop stop) old.others.items old.at old.here lt is.fits)
-
--- a code that may be handed in is 1 to 7
-stop-small : (b : Body) → stop_code b ≤ 6
-stop-small (body.NoEntry a f l m) = omega arith
-stop-small (body.NoBlock p n free) = omega arith
-stop-small (body.Armed t n c) = omega arith
-stop-small (body.BadTicks t n i) = omega arith
-stop-small (body.NoLifo a f l m) = omega arith
-stop-small body.Spent = omega arith
-stop-small (body.Spill n) = omega arith
-stop-small _ = omega arith
-
-last-small : (ts : List ToldItem) → last_code ts ≤ 6
-unfolding last_code
-last-small [] = omega arith
-last-small (t ∷ []) = stop-small t.told.body
-last-small (t ∷ u ∷ ts) = last-small (u ∷ ts)
-
-pub code-within : (w : PlainWorld) (code : ℕ) → MayStop code (world_view w) → (0 < code) × (code ≤ 7)
-code-within w code (inl seven) = (omega (arith, seven), omega (arith, seven))
-code-within w code (inr last) = let le = last-small (world_view w).told in (last.0, omega (arith, le, last.1))
 
 -- none is in the purses where the stop word is 0
 pub purses-codeless : (b : Book) → StopIs 0 (logs_of b) → list_all is_codeless (purses_of b) ≡ true

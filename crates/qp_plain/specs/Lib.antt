@@ -2,7 +2,6 @@ pub mod Book
 pub mod Books
 pub mod Ended
 pub mod Fresh
-pub mod Lane
 pub mod LaneLaws
 pub mod NewWorld
 pub mod Repeat

@@ -10,7 +10,7 @@ use Rattle.qp_plain_words.specs.declared.block.BlockWord.{BlockWord}
 use Rattle.qp_plain_words.specs.declared.signal.SignalWord.{SignalWord}
 use Rattle.qp_plain_words.specs.Queue.{Queue}
 use Rattle.qp_sound.specs.Sound.{SoundWorld}
-use Rattle.qp_plain.specs.declared.log.Log.{Log}
+use Rattle.qp_logs.specs.declared.log.Log.{Log}
 use Rattle.qp_plain.specs.Tables.{PoolsHold, BlocksHold, CellsHold, QueuesHold, SignalsHold, TimersHold, Limits}
 
 pub record WorldHolds (sys : System) (lanes : List (List Rec)) (order : List ℕ) (pools : List Pool) (blocks : List BlockWord) (cells : List Ev)
@@ -34,6 +34,10 @@ fits_stop code g = if code == 0 then no_codes g.stops.list && no_codes g.answere
 
 abbrev pub was_handed : ℕ → Log → Bool
 was_handed code g = list_any (λ c. c == code) g.stops.list
+
+-- the word after a code is handed in: a code once set stays
+abbrev pub word_after : ℕ → ℕ → ℕ
+word_after code word = if word == 0 then code else word
 
 pub record StopIs (code : ℕ) (logs : List Log) : Type 0 where
   pub few : code ≤ 7

@@ -6,18 +6,17 @@ ghost use Rattle.std.specs.Vec.{vec_capacity, vec_len};
 ghost use Rattle.qp_model.specs.Record.{item_of};
 ghost use Rattle.qp_model.specs.declared.bodies.Body.TheVariants.{Nil};
 ghost use Rattle.qp_model.specs.Ends.{is_spill};
-ghost use Rattle.qp_plain.specs.Lane.{is_caused_in, is_plain, last_nil_in};
+ghost use Rattle.qp_logs.specs.Lane.{is_caused_in, is_plain, last_nil_in};
 ghost use Rattle.qp_calls.specs.LaneView.{NotShown};
 ghost use Rattle.qp_calls.specs.Clauses.{same_counts};
 ghost use Rattle.qp_model.specs.History.{lane_items};
 ghost use Rattle.qp_plain.specs.Books.{all_logs, all_places};
 
 use crate::ending::shelve;
-use crate::log::Log;
-use crate::records::tells;
 use crate::tables;
 use qp_base::Memory;
 use qp_calls::{Counts, RoomFault};
+use qp_logs::Log;
 use qp_model::{Lane, Lanes, Rec};
 use std::alloc::Global;
 use std::mem;
@@ -143,7 +142,7 @@ impl Book {
         requires { me < 33 }
         ensures { result ≡ same_counts (last_nil_in me NotShown (lane_items self.now.here.recs.items)) now.f now.l now.m }
     {
-        tells(self.here.nils[usize::from(me)], now)
+        self.here.tells(me, now)
     }
 
     /// So many lanes without a record. Lane 0 is chosen.

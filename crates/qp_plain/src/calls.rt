@@ -11,7 +11,11 @@ use std::sync::Wait;
 use std::sync::ledger::Ledger;
 
 impl<'a> Ops for PlainWorld<'a> {
+    ghost use Rattle.std.specs.Prelude.{◌≡◌};
+    ghost use Rattle.qp_calls.specs.Clauses.{Stops};
+    ghost use Rattle.qp_calls.specs.Notes.{MayStop};
     ghost use Rattle.qp_plain.specs.Book.{purses_of};
+    ghost use Rattle.qp_plain.specs.World.{word_after};
     ghost use Rattle.qp_plain.specs.WorldView.{world_view};
     ghost use Rattle.qp_plain.specs.LaneLaws.{keeps-limit, has-causes};
 
@@ -271,7 +275,12 @@ impl<'a> Ops for PlainWorld<'a> {
         }
     }
 
-    fn stop(&mut self, code: u8) {
+    /// A code once set stays.
+    fn stop(&mut self, code: u8)
+        requires { MayStop code (world_view self.old) }
+        ensures hands { Stops code (world_view self.old) (world_view self.new) }
+        ensures word { self.new.stop ≡ word_after code self.old.stop }
+    {
         self.book.hand(code);
         if self.stop == 0 {
             self.stop = code;

@@ -4,9 +4,9 @@ ghost use Rattle.std.specs.Prelude.{◌≡◌, ◌+◌, ◌++◌, ◌≤◌, [],
 ghost use Rattle.std.specs.Vec.{vec_capacity};
 ghost use Rattle.qp_plain.specs.Books.{recs_of};
 
-use crate::log::Log;
 use crate::world::PlainWorld;
 use qp_base::Memory;
+use qp_logs::Log;
 use qp_model::{Lane, Lanes};
 use std::alloc::Global;
 

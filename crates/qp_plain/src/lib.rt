@@ -4,7 +4,6 @@
 mod book;
 mod calls;
 mod ending;
-mod log;
 mod making;
 mod records;
 mod repeating;

@@ -15,7 +15,8 @@ use std::alloc::Global;
 impl<'a> PlainWorld<'a> {
     ghost use Rattle.qp_plain.specs.NewWorld.{GoesTo, IsNewWorld, chosen, lanes_in};
 
-    /// A world with so many lanes, in which nothing has happened. Lane 0 is chosen.
+    /// A world with so many lanes, in which nothing has happened: the stop word is 0, and no lane has handed in a code. Lane 0 is
+    /// chosen.
     pub fn new(alloc: Global, sys: &'a System, lanes: u32) -> Result<PlainWorld<'a>, Memory>
         requires sound { IsSound sys.now }
         requires some { 0 < lanes }
@@ -48,7 +49,7 @@ impl<'a> PlainWorld<'a> {
         })
     }
 
-    /// Chooses a lane for the calls, and answers the one chosen before.
+    /// Chooses a lane for the calls, and answers the one chosen before. The stop word stays.
     pub fn go(&mut self, lane: u32) -> u32
         requires { lane < lanes_in self.old }
         ensures former { result ≡ chosen self.old }

@@ -3,8 +3,7 @@
 ghost use Rattle.std.specs.Prelude.{◌≡◌, ◌+◌, ◌-◌, ◌*◌, ◌<◌, ◌≤◌, true};
 ghost use Rattle.std.specs.Option.{unwrap_or};
 ghost use Rattle.qp_model.specs.Record.{item_of};
-ghost use Rattle.qp_calls.specs.Clauses.{entry_of, event_of, refusal_of, same_counts, shortage_of};
-ghost use Rattle.qp_plain.specs.Lane.{nil_of};
+ghost use Rattle.qp_calls.specs.Clauses.{entry_of, event_of, refusal_of, shortage_of};
 ghost use Rattle.qp_plain.specs.Repeat.{FitsToken};
 ghost use Rattle.qp_plain.specs.Tables.{place};
 ghost use Rattle.qp_plain_words.specs.Queue.{is_token};
@@ -86,14 +85,4 @@ pub(crate) fn copy_of(ev: &Ev) -> Ev
     let mut pars = ArrayVec::new();
     let _ = pars.try_extend_from_slice(ev.pars.as_slice());
     Ev { sig: ev.sig, pars }
-}
-
-/// Whether a `nil` with these counts was told last.
-pub(crate) fn tells(last: Option<Counts>, now: Counts) -> bool
-    ensures { result ≡ same_counts (nil_of last) now.f now.l now.m }
-{
-    match last {
-        Some(last) => last.f == now.f && last.l == now.l && last.m == now.m,
-        None => false,
-    }
 }

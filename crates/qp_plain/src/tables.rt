@@ -6,9 +6,9 @@ ghost use Rattle.qp_model.specs.Sites.{blocks_of};
 ghost use Rattle.qp_plain.specs.Fresh.{first_pool, first_queue, is_new, made};
 ghost use Rattle.qp_plain.specs.Tables.{no_clock, no_signal};
 
-use crate::log::Log;
 use arrayvec::ArrayVec;
 use qp_base::{Ev, Memory};
+use qp_logs::Log;
 use qp_model::System;
 use qp_plain_words::{PoolWord, QueueWord, SignalWord, TimerWord};
 use std::alloc::Global;

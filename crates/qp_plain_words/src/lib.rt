@@ -10,11 +10,7 @@ mod queue;
 mod signal;
 mod timer;
 
-// The codes of `stop`, in proofs alone.
-mod codes;
-
 pub use block::BlockWord;
-pub use codes::Codes;
 pub use pool::PoolWord;
 pub use queue::QueueWord;
 pub use signal::SignalWord;

@@ -22,12 +22,12 @@ use Rattle.qp_orders.specs.Stimulus.{source_items}
 use Rattle.qp_orders.proofs.OrderLaws.{stimuli_are_their_own}
 use Rattle.qp_kernel.specs.Happenings.{run_order, rises, told_by, lane_told, begun_by}
 use Rattle.qp_kernel.proofs.HappeningLemmas.{one as as_one, count-cons, order-happens, rises-happens, told-happens, begun-happens}
-use Rattle.qp_plain.specs.declared.log.Log.{Log}
+use Rattle.qp_logs.specs.declared.log.Log.{Log}
 use Rattle.qp_plain.specs.declared.world.PlainWorld.{PlainWorld}
 use Rattle.qp_plain.specs.Book.{lists_of, logs_of}
 use Rattle.qp_plain.specs.Books.{recs_of}
 use Rattle.qp_plain.specs.LaneLaws.{told-length}
-use Rattle.qp_plain.proofs.LogLemmas.{length-kinds}
+use Rattle.qp_logs.proofs.LogLemmas.{length-kinds}
 use Rattle.qp_plain.proofs.Holding.{any-default}
 use Rattle.qp_sound.specs.Log.{lane_of}
 use Rattle.qp_sound.specs.Sound.{facts_in}

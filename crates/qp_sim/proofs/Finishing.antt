@@ -11,12 +11,12 @@ use Rattle.qp_model.specs.OneOrder.{enters, leaves}
 use Rattle.qp_calls.specs.Notes.{stop_code}
 use Rattle.qp_sound.specs.View.{view_of}
 use Rattle.qp_sound.proofs.EntryCounts.{entered-counts, left-counts}
-use Rattle.qp_plain.specs.declared.log.Log.{Log}
+use Rattle.qp_logs.specs.declared.log.Log.{Log}
 use Rattle.qp_plain.specs.declared.world.PlainWorld.{PlainWorld}
 use Rattle.qp_plain.specs.Book.{lists_of, logs_of}
 use Rattle.qp_plain.specs.Books.{recs_of}
 use Rattle.qp_plain.specs.Ended.{IsEnded}
-use Rattle.qp_plain.specs.Lane.{is_caused_in}
+use Rattle.qp_logs.specs.Lane.{is_caused_in}
 use Rattle.qp_plain.specs.World.{was_handed, StopIs}
 use Rattle.qp_plain.proofs.Stopping.{nothing-handed, all-answered}
 use Rattle.qp_sim.specs.declared.world.SimWorld.{SimWorld}

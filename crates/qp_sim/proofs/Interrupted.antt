@@ -17,7 +17,7 @@ use Rattle.qp_sound.specs.View.{view_of}
 use Rattle.qp_orders.specs.SourceRun.{untold_all}
 use Rattle.qp_kernel.specs.Happenings.{run_order, order_of, told_by, has_no_stim}
 use Rattle.qp_kernel.specs.Interrupting.{IsLaneKept, Acts, Happens, HappensToFail, HappensInPart, FindsNoRoom, HasNone, IsStopped, is_unset}
-use Rattle.qp_plain.specs.declared.log.Log.{Log}
+use Rattle.qp_logs.specs.declared.log.Log.{Log}
 use Rattle.qp_plain.specs.declared.world.PlainWorld.{PlainWorld}
 use Rattle.qp_plain.specs.Book.{logs_of, purse_of, no_purse}
 use Rattle.qp_plain.specs.NewWorld.{chosen, log_in}

@@ -1,4 +1,4 @@
-use Rattle.std.proofs.Common.{◌≡◌, ◌+◌, ◌≤◌, List, length, refl, sym, ◌∙◌, ap, subst, arith, Ok, Err}
+use Rattle.std.proofs.Common.{◌≡◌, ◌+◌, ◌≤◌, length, refl, sym, ◌∙◌, ap, subst, arith, Ok, Err}
 use Rattle.qp_sound.specs.View.{view_of}
 use Rattle.qp_plain.specs.declared.book.Book.{Book}
 use Rattle.qp_plain.specs.declared.world.PlainWorld.{PlainWorld}
@@ -7,12 +7,9 @@ use Rattle.qp_plain.specs.World.{WorldHolds}
 use Rattle.qp_plain.specs.WorldView.{world_view}
 use Rattle.qp_plain.proofs.Calling.{view_with, stop-stays, purses-same}
 use Rattle.qp_calls.specs.LaneView.{Roomier}
-use Rattle.qp_model.specs.declared.record.Rec.{Rec}
-use Rattle.qp_model.specs.History.{lane_items}
-use Rattle.qp_sound.specs.Log.{lane_of}
-use Rattle.qp_sound.specs.Sound.{facts_in}
 use Rattle.qp_plain.specs.Book.{Keeps, IsRoomFault}
-use Rattle.qp_plain.specs.LaneLaws.{lane-here, told-length}
+use Rattle.qp_logs.specs.LaneLaws.{told-items}
+use Rattle.qp_plain.proofs.NoteCalls.{here-tells}
 use Rattle.qp_calls.specs.declared.answers.RoomFault.{RoomFault}
 use Rattle.qp_calls.specs.declared.answers.RoomFault.TheVariants as fault
 use Rattle.qp_calls.specs.Clauses.{Faults}
@@ -22,10 +19,7 @@ use Rattle.qp_plain.proofs.calls.PlainWorldOps.room.Goals as goal
 use Rattle.qp_model.proofs.RecordLemmas.{lane-length}
 
 told-here : (w : PlainWorld) → length (world_view w).told ≡ length w.book.here.recs.items
-unfolding view_of
-told-here w =
-    told-length (facts_in w.sys.now (lists_of w.book)) 0 (lane_items (lane_of (lists_of w.book) w.book.at))
-    ∙ lane-length (lane_of (lists_of w.book) w.book.at) ∙ ap (λ (l : List Rec). length l) (lane-here w.book.others.items w.book.at w.book.here w.book.within)
+told-here w = told-items w.book.here (world_view w) (here-tells w) ∙ lane-length w.book.here.recs.items
 
 moved : (w : PlainWorld) (b : Book) → Keeps w.book b → WorldHolds w.sys.now (lists_of b) b.order.items w.pools.items w.blocks.items w.cells.items w.queues.items w.signals.items w.timers.items
 moved w b keeps =

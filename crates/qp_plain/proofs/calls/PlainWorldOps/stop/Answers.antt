@@ -1,4 +1,4 @@
-use Rattle.std.proofs.Common.{◌≡◌, ℕ, true, List, ◌∷◌, sym, ◌∙◌, ap, subst}
+use Rattle.std.proofs.Common.{◌≡◌, ℕ, List, ◌∷◌, refl, sym, ◌∙◌, ap, subst}
 use Rattle.qp_sound.specs.View.{view_of}
 use Rattle.qp_plain.specs.declared.book.Book.{Book}
 use Rattle.qp_plain.specs.declared.world.PlainWorld.{PlainWorld}
@@ -8,14 +8,10 @@ use Rattle.qp_plain.specs.WorldView.{world_view}
 use Rattle.qp_plain.proofs.Calling.{view_with, purses-same}
 use Rattle.qp_plain.specs.Book.{Hands, logs_of}
 use Rattle.qp_plain.specs.World.{StopIs}
-use Rattle.qp_plain.proofs.Stopping.{stop-first, stop-later, code-within}
+use Rattle.qp_plain.proofs.NoteCalls.{here-tells}
+use Rattle.qp_plain.proofs.Stopping.{not-zero, stop-first, stop-later}
+use Rattle.qp_logs.proofs.NoteLemmas.{code-within, stop-caused}
 use Rattle.qp_calls.specs.Clauses.{Stops}
-use Rattle.qp_calls.specs.Notes.{MayStop}
-use Rattle.qp_sound.proofs.LawLemmas.{stop-caused}
-use Rattle.qp_model.specs.declared.record.Rec.{Rec}
-use Rattle.qp_model.specs.History.{lane_items}
-use Rattle.qp_plain.specs.Lane.{is_caused_in}
-use Rattle.qp_plain.specs.LaneLaws.{lane-here}
 use Rattle.qp_plain.proofs.calls.PlainWorldOps.stop.Goals as goal
 
 moved : (w : PlainWorld) (b : Book) → lists_of b ≡ lists_of w.book → b.order.items ≡ w.book.order.items
@@ -36,23 +32,18 @@ same-view w b stops answered lists order at spare s a others =
     ∙ ap (λ x. view_of w.sys.now (lists_of w.book) w.book.order.items w.book.at w.book.here.spare w.by stops x (purses_of b)) a
     ∙ ap (λ x. view_of w.sys.now (lists_of w.book) w.book.order.items w.book.at w.book.here.spare w.by stops answered x) (purses-same w.book b others at)
 
-caused : (w : PlainWorld) (code : ℕ) → MayStop code (world_view w) → is_caused_in (lane_items w.book.here.recs.items) code ≡ true
-caused w code may =
-    subst (λ (l : List Rec). is_caused_in (lane_items l) code ≡ true) (lane-here w.book.others.items w.book.at w.book.here w.book.within)
-    (stop-caused w.sys.now (lists_of w.book) w.book.order.items w.book.at w.book.here.spare w.by w.book.here.stops.list w.book.here.answered.list (purses_of w.book) code may)
-
 handed : (w : PlainWorld) (b : Book) (code : ℕ) → Hands code w.book b → Stops code (world_view w) (view_with w b)
 unfolding view_of
 handed w b code h = same-view w b (code ∷ w.book.here.stops.list) w.book.here.answered.list h.lists h.order h.at h.spare h.stops h.answered h.others
 
 pub hand-requires : goal.hand-requires
-hand-requires c = caused c.args.self.now c.args.code c.requires
+hand-requires c = stop-caused c.args.self.now.book.here (world_view c.args.self.now) c.args.code (here-tells c.args.self.now) c.requires
 
 pub invariant_of-self : goal.invariant_of-self
 invariant_of-self c =
     let w = c.args.self.now in
     let h = c.hand.ensures in
-    let within = code-within w c.args.code c.requires in
+    let within = code-within (world_view w) c.args.code c.requires in
     record { holds = moved w c.hand.new.self h.lists h.order; stops = stop-first c.args.code w.book c.hand.new.self h within.0 within.1 w.book.within (subst (λ x. StopIs x (logs_of w.book)) c.if-self-eq0.true w.stops) }
 
 pub invariant_of-self-else-self-eq0 : goal.invariant_of-self-else-self-eq0
@@ -62,7 +53,7 @@ invariant_of-self-else-self-eq0 c =
     record { holds = moved w c.hand.new.self h.lists h.order; stops = stop-later w.stop c.args.code w.book c.hand.new.self h c.if-self-eq0.false w.book.within w.stops }
 
 pub returns-then-self-eq0 : goal.returns-then-self-eq0
-returns-then-self-eq0 c = handed c.args.self.now c.hand.new.self c.args.code c.hand.ensures
+returns-then-self-eq0 c = record { hands = handed c.args.self.now c.hand.new.self c.args.code c.hand.ensures; word = rw c.if-self-eq0.true refl }
 
 pub returns-else-self-eq0 : goal.returns-else-self-eq0
-returns-else-self-eq0 c = handed c.args.self.now c.hand.new.self c.args.code c.hand.ensures
+returns-else-self-eq0 c = record { hands = handed c.args.self.now c.hand.new.self c.args.code c.hand.ensures; word = rw (not-zero c.args.self.now.stop c.if-self-eq0.false) refl }

@@ -1,4 +1,4 @@
-use Rattle.std.proofs.Common.{◌≡◌, ℕ, ◌+◌, ◌<◌, List, get_or, slice_set, sym, ◌∙◌, ap, subst, arith, IsTrue}
+use Rattle.std.proofs.Common.{◌≡◌, ℕ, ◌+◌, ◌<◌, get_or, slice_set, sym, ◌∙◌, ap, subst, arith, IsTrue}
 use Rattle.qp_plain_words.specs.Queue.{Queue}
 use Rattle.qp_sound.specs.View.{view_of}
 use Rattle.qp_model.specs.WordLaw.{is_object}
@@ -11,13 +11,11 @@ use Rattle.qp_plain.proofs.Calling.{stop-stays, queue-at}
 use Rattle.qp_model.specs.declared.bodies.Body.TheVariants.{Took}
 use Rattle.qp_calls.specs.LaneView.{NotShown}
 use Rattle.qp_calls.specs.Clauses.{last_nil, same_counts}
-use Rattle.qp_model.specs.declared.record.Rec.{Rec}
 use Rattle.qp_model.specs.History.{lane_items}
-use Rattle.qp_sound.specs.Log.{lane_of}
-use Rattle.qp_sound.specs.Sound.{facts_in}
 use Rattle.qp_sound.proofs.CallQueues.{take-finds_none}
-use Rattle.qp_plain.specs.Lane.{last_nil_in}
-use Rattle.qp_plain.specs.LaneLaws.{lane-here, told-nil}
+use Rattle.qp_logs.specs.Lane.{last_nil_in}
+use Rattle.qp_logs.specs.LaneLaws.{told-nil}
+use Rattle.qp_plain.proofs.NoteCalls.{here-tells}
 use Rattle.qp_plain.proofs.QueueCalls as queue
 use Rattle.qp_plain.proofs.QueueTable.{there, put, kept, few, mine}
 use Rattle.qp_plain.proofs.calls.PlainWorldOps.take.Goals as goal
@@ -31,10 +29,7 @@ left w b k q x is e h = subst (λ z. WorldHolds w.sys.now (lists_of b) b.order.i
 
 -- what the lane told last of the queue
 nil-is : (w : PlainWorld) (a : ℕ) → last_nil a NotShown (world_view w).told ≡ last_nil_in a NotShown (lane_items w.book.here.recs.items)
-unfolding view_of
-nil-is w a =
-    told-nil a NotShown (facts_in w.sys.now (lists_of w.book)) 0 (lane_items (lane_of (lists_of w.book) w.book.at))
-    ∙ ap (λ (l : List Rec). last_nil_in a NotShown (lane_items l)) (lane-here w.book.others.items w.book.at w.book.here w.book.within)
+nil-is w a = told-nil a NotShown (world_view w).told ∙ ap (last_nil_in a NotShown) (here-tells w).told
 
 within : (w : PlainWorld) (a : ℕ) → IsTrue (is_object w.sys.now a) → a < 33
 within w a h = let few = w.holds.limits.objects a h in omega (arith, few.1)

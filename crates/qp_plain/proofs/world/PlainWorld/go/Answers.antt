@@ -30,5 +30,6 @@ returns-clause-goes c = record {
   log = ap (λ ls. log_of ls c.go.new.self.order.items) (same-lists c.args.self.now.book c.go.new.self c.go.ensures.logs) ∙ ap (log_of (lists_of c.args.self.now.book)) c.go.ensures.order;
   lanes = c.go.ensures.lanes;
   by_is = refl;
+  stop_is = refl;
   at = c.go.ensures.at;
 }

@@ -48,4 +48,6 @@ returns c = record {
   log = no-log c.args.lanes c.in_ok-book.book c.in_ok-book.ensures;
   lanes = c.in_ok-book.ensures.long;
   first = c.in_ok-book.ensures.at;
+  stop_is = refl;
+  silent = (stop-new c.args.lanes c.in_ok-book.book c.in_ok-book.ensures).fits;
 }

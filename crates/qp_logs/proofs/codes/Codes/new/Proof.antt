@@ -20,11 +20,11 @@ use denote.Triple.Entry.{on_entry, alive}
 use denote.Triple.Spec.{Meets, triple_of}
 use denote.Triple.Table.{entered}
 use denote.Triple.Walked.{says, Stays, walk_of, Walks, ends_at, walked, walk_Meets}
-use Rattle.qp_plain_words.specs.contracts.codes.Codes.new.Key.{name as key}
-use Rattle.qp_plain_words.specs.contracts.codes.Codes.new as f
-use Rattle.qp_plain_words.proofs.codes.Codes.new.Statement as stated
-use Rattle.qp_plain_words.proofs.codes.Codes.new.Code as code
-use Rattle.qp_plain_words.specs.contracts.codes.Codes as made
+use Rattle.qp_logs.specs.contracts.codes.Codes.new.Key.{name as key}
+use Rattle.qp_logs.specs.contracts.codes.Codes.new as f
+use Rattle.qp_logs.proofs.codes.Codes.new.Statement as stated
+use Rattle.qp_logs.proofs.codes.Codes.new.Code as code
+use Rattle.qp_logs.specs.contracts.codes.Codes as made
 
 abbrev stayed : Stays (f.ended).signature.params (f.ended).kept
 stayed = tt

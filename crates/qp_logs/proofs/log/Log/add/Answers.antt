@@ -3,9 +3,9 @@ use Rattle.std.specs.List.{list_all}
 use Rattle.qp_model.specs.declared.record.Rec.{Rec}
 use Rattle.qp_model.specs.History.{lane_items}
 use Rattle.qp_calls.specs.LaneView.{NotShown}
-use Rattle.qp_plain.specs.Lane.{is_caused_in, last_nil_in, nil_of, spill_place}
-use Rattle.qp_plain.proofs.LogLemmas.{regular, spills, plain-parts, regular-more, spills-same, nils-same, causes-more}
-use Rattle.qp_plain.proofs.log.Log.add.Goals as goal
+use Rattle.qp_logs.specs.Lane.{is_caused_in, last_nil_in, nil_of, spill_place}
+use Rattle.qp_logs.proofs.LogLemmas.{regular, spills, plain-parts, regular-more, spills-same, nils-same, causes-more}
+use Rattle.qp_logs.proofs.log.Log.add.Goals as goal
 
 pub invariant_of-self : goal.invariant_of-self
 invariant_of-self c =

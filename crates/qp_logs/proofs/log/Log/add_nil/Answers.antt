@@ -5,9 +5,9 @@ use Rattle.qp_model.specs.declared.record.Rec.{Rec}
 use Rattle.qp_model.specs.Ends.{is_spill}
 use Rattle.qp_model.specs.History.{lane_items}
 use Rattle.qp_calls.specs.LaneView.{NotShown}
-use Rattle.qp_plain.specs.Lane.{is_caused_in, last_nil_in, nil_of, spill_place}
-use Rattle.qp_plain.proofs.LogLemmas.{regular, spills, regular-more, spills-same, nils-now, causes-more}
-use Rattle.qp_plain.proofs.log.Log.add_nil.Goals as goal
+use Rattle.qp_logs.specs.Lane.{is_caused_in, last_nil_in, nil_of, spill_place}
+use Rattle.qp_logs.proofs.LogLemmas.{regular, spills, regular-more, spills-same, nils-now, causes-more}
+use Rattle.qp_logs.proofs.log.Log.add_nil.Goals as goal
 
 pub invariant_of-self : goal.invariant_of-self
 invariant_of-self c =

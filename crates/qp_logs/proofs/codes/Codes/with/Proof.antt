@@ -27,11 +27,11 @@ use denote.Triple.Entry.{on_entry, alive, Args}
 use denote.Triple.Spec.{Meets, triple_of}
 use denote.Triple.Table.{entered}
 use denote.Triple.Walked.{says, stay_none_ref, Stays, walk_of, Walks, ends_at, walked, Goes-none_ref, walk_Meets}
-use Rattle.qp_plain_words.specs.contracts.codes.Codes.with.Key.{name as key}
-use Rattle.qp_plain_words.specs.contracts.codes.Codes.with as f
-use Rattle.qp_plain_words.proofs.codes.Codes.with.Statement as stated
-use Rattle.qp_plain_words.proofs.codes.Codes.with.Code as code
-use Rattle.qp_plain_words.specs.contracts.codes.Codes as codes
+use Rattle.qp_logs.specs.contracts.codes.Codes.with.Key.{name as key}
+use Rattle.qp_logs.specs.contracts.codes.Codes.with as f
+use Rattle.qp_logs.proofs.codes.Codes.with.Statement as stated
+use Rattle.qp_logs.proofs.codes.Codes.with.Code as code
+use Rattle.qp_logs.specs.contracts.codes.Codes as codes
 
 abbrev stayed : Stays (f.ended).signature.params (f.ended).kept
 stayed = (stay_none_ref (0 ∷ []) tt (plain (λ _. codes.the_row)) yes, (stay_none_ref (1 ∷ []) tt (plain (λ _. u8)) yes, tt))

@@ -8,12 +8,13 @@ ghost use Rattle.qp_model.specs.declared.bodies.Body.TheVariants.{Nil};
 ghost use Rattle.qp_model.specs.Ends.{is_spill};
 ghost use Rattle.qp_model.specs.History.{lane_items};
 ghost use Rattle.qp_calls.specs.LaneView.{NotShown};
-ghost use Rattle.qp_plain.specs.Lane.{is_caused_in, is_plain, last_nil_in, nil_of, spill_place};
+ghost use Rattle.qp_calls.specs.Clauses.{same_counts};
+ghost use Rattle.qp_logs.specs.Lane.{is_caused_in, is_plain, last_nil_in, nil_of, spill_place};
 
+use crate::codes::Codes;
 use qp_base::Memory;
 use qp_calls::Counts;
 use qp_model::Rec;
-use qp_plain_words::Codes;
 use std::alloc::Global;
 
 /// The records of a lane, its spare, whether a `spill` stands, and the counts that its last `nil` of each queue showed,
@@ -32,6 +33,16 @@ pub struct Log {
     ghost seats: { length nils.items ≡ 33 },
     ghost nils_are: { (a : ℕ) → a < 33 → nil_of (get_or nils.items a None) ≡ last_nil_in a NotShown (lane_items recs.items) },
     ghost causes: { list_all (is_caused_in (lane_items recs.items)) stops.list ≡ true },
+}
+
+/// Whether there are counts, and these.
+fn are(last: Option<Counts>, now: Counts) -> bool
+    ensures { result ≡ same_counts (nil_of last) now.f now.l now.m }
+{
+    match last {
+        Some(last) => last.f == now.f && last.l == now.l && last.m == now.m,
+        None => false,
+    }
 }
 
 impl Log {
@@ -138,6 +149,14 @@ impl Log {
         };
         self.spare = 1;
         Ok(())
+    }
+
+    /// Whether the last `nil` of a queue showed these counts.
+    pub fn tells(&self, me: u8, now: Counts) -> bool
+        requires { me < 33 }
+        ensures { result ≡ same_counts (last_nil_in me NotShown (lane_items self.now.recs.items)) now.f now.l now.m }
+    {
+        are(self.nils[usize::from(me)], now)
     }
 
     /// Notes a code that the lane hands to `stop`, in proofs alone.

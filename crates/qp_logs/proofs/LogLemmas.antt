@@ -17,7 +17,7 @@ use Rattle.qp_calls.specs.declared.answers.Counts as counts
 use Rattle.qp_calls.specs.LaneView.{Shown, Counts, NotShown}
 use Rattle.qp_calls.specs.Clauses.{nil_by}
 use Rattle.qp_calls.specs.Notes.{stop_code}
-use Rattle.qp_plain.specs.Lane.{is_nil, is_plain, nil_of, last_nil_in, is_caused_in}
+use Rattle.qp_logs.specs.Lane.{is_nil, is_plain, nil_of, last_nil_in, is_caused_in}
 
 abbrev pub regular : List Item → ℕ
 regular items = count_by (λ i. not (is_spill i.body)) items

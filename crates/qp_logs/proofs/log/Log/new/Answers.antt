@@ -5,9 +5,9 @@ use Rattle.qp_model.specs.declared.record.Rec.{Rec}
 use Rattle.qp_model.specs.History.{lane_items}
 use Rattle.qp_calls.specs.declared.answers.Counts as counts
 use Rattle.qp_calls.specs.LaneView.{NotShown}
-use Rattle.qp_plain.specs.Lane.{nil_of, last_nil_in, is_caused_in}
-use Rattle.qp_plain.proofs.LogLemmas.{regular, spills}
-use Rattle.qp_plain.proofs.log.Log.new.Goals as goal
+use Rattle.qp_logs.specs.Lane.{nil_of, last_nil_in, is_caused_in}
+use Rattle.qp_logs.proofs.LogLemmas.{regular, spills}
+use Rattle.qp_logs.proofs.log.Log.new.Goals as goal
 
 abbrev no_counts : Option counts.Counts
 no_counts = None

@@ -1,0 +1,8 @@
+//! The log of one lane.
+#![tactic(auto)]
+
+mod codes;
+mod log;
+
+pub use codes::Codes;
+pub use log::Log;
