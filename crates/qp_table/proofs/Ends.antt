@@ -1,6 +1,5 @@
 -- The view that has all lanes knows the whole, and the start.
-use Rattle.std.proofs.Common.{◌≡◌, ℕ, zero, suc, ◌+◌, ◌-◌, ◌<◌, ◌≤◌, ◌≢◌, nat_lt, List, [], ◌∷◌, ◌++◌, Bool, true, false, cond, ◌&&◌, length, replicate, get_or, refl, sym, ap, subst, ◌∙◌, arith, eqb, eq-eqb, ne_eqb, IsTrue, append-nil}
-use Rattle.std.proofs.lemmas.Bool.{and_from, and_parts}
+use Rattle.std.proofs.Common.{◌≡◌, ℕ, zero, suc, ◌+◌, ◌<◌, ◌≤◌, ◌≢◌, nat_lt, List, [], ◌∷◌, Bool, true, false, cond, ◌&&◌, length, replicate, get_or, refl, sym, ap, subst, ◌∙◌, arith, eqb, eq-eqb, ne_eqb, IsTrue}
 use Rattle.std.proofs.lemmas.Bool.Decides.{nat_tests}
 use mathlib.Core.Option.{some, some-injective, some-ne-none}
 use mathlib.Core.Logic.{dite}
@@ -12,24 +11,17 @@ use Rattle.qp_model.specs.declared.systems.System.{System}
 use Rattle.qp_model.specs.declared.words.Word.{Word}
 use Rattle.qp_model.specs.declared.words.Word.TheVariants as word
 use Rattle.qp_model.specs.Lists.{count_up}
-use Rattle.qp_model.specs.History.{hist, numbered, total as total_drawn, all_items, marks_rise}
-use Rattle.qp_model.specs.Machine.{Machine}
-use Rattle.qp_model.specs.Record.{Item}
-use Rattle.qp_model.specs.Knowing.{last_given}
-use Rattle.std.specs.Prelude.{None}
+use Rattle.qp_model.specs.History.{hist, numbered, total as total_drawn, all_items}
 use Rattle.qp_model.specs.FreeBlocks.{free_blocks}
 use Rattle.qp_model.specs.References.{references}
 use Rattle.qp_model.specs.Line.{line}
 use Rattle.qp_model.specs.Lives.{life_of}
-use Rattle.qp_model.specs.Subscribers.{subscribers}
-use Rattle.qp_model.specs.TimeEvents.{time_event}
 use Rattle.qp_model.specs.Sites.{ring_of, blocks_of}
-use Rattle.qp_model.specs.WordLaw.{Keeps, Words, is_pool, is_block, is_object}
+use Rattle.qp_model.specs.WordLaw.{is_pool, is_block, is_object}
 use Rattle.qp_model.proofs.BeginningLemmas.{all_items-empty, held-first, words-first}
-use Rattle.qp_model.proofs.WordLemmas.{all_items-append}
 use Rattle.qp_words.specs.Counting.{Each, total, many, upto}
-use Rattle.qp_words.specs.Now.{Now, content_from, Leaves}
-use Rattle.qp_words.specs.Rule.{cell_at, Fitting, Shows, is_log, is_number, Idle, is_spot, Beside, is_ref, is_serve, Served, Serves, IsKnown, mark_in, Holds}
+use Rattle.qp_words.specs.Now.{content_from}
+use Rattle.qp_words.specs.Rule.{cell_at, Fitting, Shows, is_log, is_number, Idle, is_spot, Beside, is_ref, is_serve, Served, Serves, mark_in, Holds}
 use Rattle.qp_words.specs.After.{newcomer}
 use Rattle.qp_words.specs.declared.Log.{Log}
 use Rattle.qp_words.specs.declared.Serve.{Serve}
@@ -37,75 +29,7 @@ use Rattle.qp_words.specs.declared.Glance.{Glance}
 use Rattle.qp_words.specs.declared.View.{View}
 use Rattle.qp_words.proofs.Counting.{each-map, many-le}
 use Rattle.qp_words.proofs.Views.{total-two, SawFrom}
-use Rattle.qp_table.specs.Whole.{Ordered, recs_of, IsBehind, PastOf, IsWhole, first_now, later_lanes}
-
--- lanes with the same records, one by one
-module _ (xs ys : List (List Rec)) (same : all_items ys ≡ all_items xs) (rise : (w : Word) → marks_rise w xs ≡ true → marks_rise w ys ≡ true) where
-  keeps-alike : {S : Type 0} (m : Machine S) (w : Word) → Keeps S m w xs → Keeps S m w ys
-  keeps-alike m w k = record { numbers = rw same k.numbers; allowed = rw same k.allowed; shown = rw same k.shown; marks = rise w k.marks }
-
-  words-alike : (sys : System) → Words sys xs → Words sys ys
-  words-alike sys law = record {
-    pools = λ p h. keeps-alike (free_blocks (blocks_of sys p)) (word.Pool p) (law.pools p h);
-    blocks = λ p b h. keeps-alike references (word.Block p b) (law.blocks p b h);
-    lives = λ p b h. rw same (law.lives p b h);
-    queues = λ a h. keeps-alike (line (ring_of sys a)) (word.Queue a) (law.queues a h);
-    signals = λ s h. keeps-alike subscribers (word.Signal s) (law.signals s h);
-    timers = λ t h. keeps-alike time_event (word.Timer t) (law.timers t h);
-  }
-
-  leaves-alike : (sys : System) (now : Now) → Leaves sys xs now → Leaves sys ys now
-  leaves-alike sys now l = record {
-    law = words-alike sys l.law;
-    pool = λ p h. rw same (l.pool p h);
-    refs = λ p b h. rw same (l.refs p b h);
-    edge = λ p b h. rw same (l.edge p b h);
-    content = λ p b h. rw same (l.content p b h);
-    line = λ a h. rw same (l.line a h);
-  }
-
-rise-front : (w : Word) (xs ys : List (List Rec)) → marks_rise w (xs ++ ys) ≡ true → marks_rise w xs ≡ true
-unfolding marks_rise
-rise-front w [] ys h = refl
-rise-front w (x ∷ xs) ys h = and_from _ _ (and_parts _ _ h).0 (rise-front w xs ys (and_parts _ _ h).1)
-
--- the lanes behind are empty
-front-leaves : (sys : System) (now : Now) (xs : List (List Rec)) (n : ℕ) → Leaves sys (xs ++ replicate n []) now → Leaves sys xs now
-front-leaves sys now xs n l = leaves-alike (xs ++ replicate n []) xs (sym (all_items-append xs (replicate n []) ∙ ((λ i. all_items xs ++ all_items-empty n i) ∙ append-nil (all_items xs)))) (λ w h. rise-front w xs (replicate n []) h) sys now l
-
-module _ {A : Type 0} where
-  get-back : (xs : List A) (x : A) (i : ℕ) (y : A) → get_elem? (x ∷ xs) (suc i) ≡ some y → get_elem? xs i ≡ some y
-  get-back xs x i y e = e
-
-  get-inside : (xs : List A) (i : ℕ) (x : A) → get_elem? xs i ≡ some x → i < length xs
-  get-inside [] i x e = absurd (some-ne-none x (sym e))
-  get-inside (y ∷ xs) zero x e = omega arith
-  get-inside (y ∷ xs) (suc i) x e = let r = get-inside xs i x e in omega arith
-
-all-empty : (lanes : List (List Rec)) (n : ℕ) → length lanes ≡ n → ((k : ℕ) → k < n → get_elem? lanes k ≡ some []) → lanes ≡ replicate n []
-all-empty [] zero e h = refl
-all-empty [] (suc n) e h = absurd (omega arith)
-all-empty (l ∷ ls) zero e h = absurd (omega arith)
-all-empty (l ∷ ls) (suc n) e h = λ i. some-injective l [] (h 0 (omega arith)) i ∷ all-empty ls n (omega arith) (λ k lt. h (suc k) (omega arith)) i
-
-behind : (l : List Rec) (ls : List (List Rec)) (k : ℕ) (hs : List Log) (m : ℕ) → Ordered m hs → Each (λ (g : Log). get_elem? (l ∷ ls) (g.number - k) ≡ some g.recs) hs → suc k ≤ m → Each (λ (g : Log). get_elem? ls (g.number - suc k) ≡ some g.recs) hs
-behind l ls k [] m o e le = tt
-behind l ls k (h ∷ hs) m o e le = let a = o.0 in let d : h.number - k ≡ suc (h.number - suc k) = omega arith in
-    (subst (λ n. get_elem? (l ∷ ls) n ≡ some h.recs) d e.0, behind l ls k hs (suc m) o.1 e.1 (omega arith))
-
--- the lanes are those of the logs, and n empty ones
-in-order : (gs : List Log) (lanes : List (List Rec)) (k n : ℕ) → Ordered k gs → Each (λ (g : Log). get_elem? lanes (g.number - k) ≡ some g.recs) gs
-    → length lanes ≡ length gs + n → ((j : ℕ) → length gs ≤ j → j < length gs + n → get_elem? lanes j ≡ some []) → lanes ≡ recs_of gs ++ replicate n []
-in-order [] lanes k n o e le rest = all-empty lanes n (omega arith) (λ j lt. rest j (omega arith) (omega arith))
-in-order (g ∷ gs) [] k n o e le rest = absurd (omega arith)
-in-order (g ∷ gs) (l ∷ ls) k n o e le rest =
-    let z : g.number - k ≡ 0 = (let a = o.0 in omega arith) in
-    let here : l ≡ g.recs = some-injective l g.recs (subst (λ n. get_elem? (l ∷ ls) n ≡ some g.recs) z e.0) in
-    (λ i. here i ∷ in-order gs ls (suc k) n o.1 (behind l ls k gs (suc k) o.1 e.1 (omega arith)) (omega arith) (λ j a b. rest (suc j) (omega arith) (omega arith)) i)
-
-same-numbers : (lanes : List (List Rec)) (gs : List Log) → Each (λ (g : Log). get_elem? lanes g.number ≡ some g.recs) gs → Each (λ (g : Log). get_elem? lanes (g.number - 0) ≡ some g.recs) gs
-same-numbers lanes [] e = tt
-same-numbers lanes (g ∷ gs) e = let d : g.number ≡ g.number - 0 = omega arith in (subst (λ n. get_elem? lanes n ≡ some g.recs) d e.0, same-numbers lanes gs e.1)
+use Rattle.qp_table.specs.Whole.{IsBehind, IsWhole, first_now, later_lanes}
 
 no-total : {A : Type 0} (f : A → ℕ) (xs : List A) (i : ℕ) (x : A) → get_elem? xs i ≡ some x → ((j : ℕ) (y : A) → j ≢ i → get_elem? xs j ≡ some y → f y ≡ 0) → total f xs ≡ f x
 no-total f [] i x e h = absurd (some-ne-none x (sym e))
@@ -121,37 +45,33 @@ module _ (sys : System) (words : List ℕ) (views : List View) (holds : Holds sy
   others-idle : (j : ℕ) (z : View) → j ≢ id → get_elem? views j ≡ some z → Idle z
   others-idle j z ne there = holds.idle j z there (let t = total-two (λ (y : View). length y.logs + length y.lane_numbers) views id j v z at_id there (λ e. ne (sym e)) in let r = holds.logs.rights in omega arith)
 
-  -- no other view has a log
+  -- no other view has a log, nor a lane number
   logs-alone : (n : ℕ) → total (λ (z : View). many (is_log n) z.logs) views ≡ many (is_log n) v.logs
   logs-alone n = no-total (λ (z : View). many (is_log n) z.logs) views id v at_id (λ j z ne there. let t = total-two (λ (y : View). length y.logs + length y.lane_numbers) views id j v z at_id there (λ e. ne (sym e)) in let r = holds.logs.rights in let l = many-le (is_log n) z.logs in omega arith)
 
-  ordered-none : (k j : ℕ) (gs : List Log) → Ordered k gs → k + length gs ≤ j → many (is_log j) gs ≡ 0
-  ordered-none k j [] o le = refl
-  ordered-none k j (g ∷ gs) o le = let o0 = o.0 in let r = ordered-none (suc k) j gs o.1 (omega arith) in let z : cond {A = ℕ} (eqb g.number j) 1 0 ≡ 0 = ap (λ (b : Bool). cond {A = ℕ} b 1 0) (ne_eqb g.number j (λ e. absurd (omega arith))) in omega arith
+  numbers-alone : (n : ℕ) → total (λ (z : View). many (is_number n) z.lane_numbers) views ≡ many (is_number n) v.lane_numbers
+  numbers-alone n = no-total (λ (z : View). many (is_number n) z.lane_numbers) views id v at_id (λ j z ne there. let t = total-two (λ (y : View). length y.logs + length y.lane_numbers) views id j v z at_id there (λ e. ne (sym e)) in let r = holds.logs.rights in let l = many-le (is_number n) z.lane_numbers in omega arith)
 
   alone : (f : View → ℕ) → ((z : View) → Idle z → f z ≡ 0) → total f views ≡ f v
   alone f h = no-total f views id v at_id (λ j z ne there. h z (others-idle j z ne there))
-
-  -- all lanes are those of the view's logs, and empty ones
-  in-lanes : Ordered 0 v.logs → holds.lanes ≡ recs_of v.logs ++ replicate (length v.lane_numbers) []
-  in-lanes o = let c = holds.logs.count in in-order v.logs holds.lanes 0 (length v.lane_numbers) o (same-numbers holds.lanes v.logs (holds.logs.own id v at_id)) (omega arith)
-      (λ j a b. holds.logs.later j (omega arith) (let n = logs-alone j in let z = ordered-none 0 j v.logs o (omega arith) in let once = holds.logs.once j (omega arith) in omega arith))
-
-  same-items : Ordered 0 v.logs → all_items (recs_of v.logs) ≡ all_items holds.lanes
-  same-items o = sym (ap all_items (in-lanes o) ∙ (all_items-append (recs_of v.logs) (replicate (length v.lane_numbers) []) ∙ ((λ i. all_items (recs_of v.logs) ++ all_items-empty (length v.lane_numbers) i) ∙ append-nil (all_items (recs_of v.logs)))))
 
   pub whole : IsWhole sys v
   whole = record {
     now = holds.now;
     words = words;
+    was = holds.was;
+    lanes = holds.lanes;
+    count = holds.logs.count;
+    own = holds.logs.own id v at_id;
+    once = λ n few. let l = logs-alone n in let k = numbers-alone n in let o = holds.logs.once n few in omega arith;
+    rest = λ n few mine. holds.logs.later n few (let k = numbers-alone n in omega arith);
+    leaves = holds.leaves;
     shows = holds.shows;
     glances = each-map (SawFrom words holds.was) (IsBehind words) (λ g s. (s.1, λ e. s.2 ∙ (ap (holds.was g.word) e ∙ sym (holds.seen.now g.word s.0)))) v.seen (holds.seen.each id v at_id);
-    event = holds.events.event;
-    contents = λ o. each-map (IsKnown sys holds.lanes holds.now) (IsKnown sys (recs_of v.logs) holds.now) (λ q k. record { static = k.static; block = k.block; made = k.made; given = λ pos. ap (λ (is : List Item). last_given q.entry.block q.entry.name None (hist (word.Pool q.entry.pool) is)) (same-items o) ∙ k.given pos }) v.contents (holds.contents id v at_id);
-    was = holds.was;
     seen = each-map (SawFrom words holds.was) (λ (g : Glance). g.value ≡ holds.was g.word (mark_in g.word g.value)) (λ g s. s.2) v.seen (holds.seen.each id v at_id);
-    past = λ o. subst (λ (is : List Item). PastOf sys is holds.was) (sym (same-items o)) (record { pool = holds.past.pool; refs = holds.past.refs; line = holds.past.line });
-    leaves = λ o. front-leaves sys holds.now (recs_of v.logs) (length v.lane_numbers) (subst (λ l. Leaves sys l holds.now) (in-lanes o) holds.leaves);
+    past = record { pool = holds.past.pool; refs = holds.past.refs; line = holds.past.line };
+    contents = holds.contents id v at_id;
+    event = holds.events.event;
     place = λ p b. let t = holds.tokens.place p b in
         let f = alone (λ z. many (is_spot p b) z.fresh) (λ z i. ap (many (is_spot p b)) i.fresh) in let u = alone (λ z. many (is_spot p b) z.used) (λ z i. ap (many (is_spot p b)) i.used) in omega arith;
     hand = λ p b k l. let t = holds.tokens.hand p b k l in let f = alone (λ z. many (is_ref p b k) z.hands) (λ z i. ap (many (is_ref p b k)) i.hands) in omega arith;

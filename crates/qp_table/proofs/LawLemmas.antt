@@ -1,8 +1,12 @@
 -- The laws of looks and lanes.
 use Rattle.qp_table.specs.Laws.{LooksKeepTheRule, ReadsKeepTheRule, ShownPoolsKeepTheRule, EmptyPoolsKeepTheRule, SeenQueuesKeepTheRule, EmptyQueuesKeepTheRule, FullQueuesKeepTheRule, NoEntryKeepsTheRule, NoLastInKeepsTheRule, HoldersLearnTheEvent, NewViewsKeepTheRule, OnlookersKeepTheRule, GrantsKeepTheRule, HandOversKeepTheRule, JoinsKeepTheRule, StartMeetsTheRule, RecordsAreLawful, WholeIsKnown}
+use Rattle.qp_table.specs.First.{SoundSystemsStart}
+use Rattle.qp_table.specs.TwoTables.{WholeLanesAreLawful}
 use Rattle.qp_table.proofs.Looks.{looks, looks_from, learns, shows-short, shows-no_block, shows-seen, shows-nil, shows-full, shows-no_entry, shows-no_lifo}
 use Rattle.qp_table.proofs.Lanes.{adds-nothing, looks-on, grants, hands-over, joins}
 use Rattle.qp_table.proofs.Ends.{opens, whole}
+use Rattle.qp_table.proofs.Start.{starts}
+use Rattle.qp_table.proofs.Thin.{words-joined}
 
 pub looks_keep_the_rule : LooksKeepTheRule
 looks_keep_the_rule sys words views holds id v at_id w low = looks sys words views holds id v at_id w low
@@ -52,8 +56,14 @@ joins_keep_the_rule sys words views holds id v at_id other w apart there = joins
 pub start_meets_the_rule : StartMeetsTheRule
 start_meets_the_rule sys words xs fitting shows cells serves zeros = opens sys words xs fitting shows cells serves zeros
 
+pub sound_systems_start : SoundSystemsStart
+sound_systems_start sys words sound wide each = starts sys words sound wide each
+
 pub records_are_lawful : RecordsAreLawful
 records_are_lawful sys words views holds = holds.leaves.law
+
+pub whole_lanes_are_lawful : WholeLanesAreLawful
+whole_lanes_are_lawful sys lanes table side thin beside law others = words-joined sys lanes table side thin beside law others
 
 pub whole_is_known : WholeIsKnown
 whole_is_known sys words views holds id v at_id all = whole sys words views holds id v at_id all

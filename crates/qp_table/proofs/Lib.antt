@@ -2,6 +2,7 @@ pub mod Looks
 pub mod Lanes
 pub mod Thin
 pub mod Ends
+pub mod Start
 pub mod Running
 pub mod Trying
 pub mod Taking

@@ -1,2 +1,4 @@
+pub mod TwoTables
 pub mod Whole
+pub mod First
 pub mod Laws

@@ -1,5 +1,7 @@
 -- What the view that has all lanes knows at the end.
-use Rattle.std.specs.Prelude.{◌≡◌, ℕ, suc, ◌+◌, ◌/◌, ◌%◌, ◌<◌, ◌≤◌, eqb, List, [], ◌∷◌, cond, IsTrue, slice_index, length, take}
+use Rattle.std.specs.Prelude.{◌≡◌, ℕ, ◌+◌, ◌/◌, ◌%◌, ◌<◌, ◌≤◌, eqb, List, [], ◌∷◌, cond, IsTrue, slice_index, length, take}
+use mathlib.Core.Option.{some}
+use lib.ListN.{get_elem?}
 use Rattle.qp_model.specs.declared.record.Rec.{Rec}
 use Rattle.qp_model.specs.declared.systems.System.{System}
 use Rattle.qp_model.specs.WordLaw.{is_pool, is_block, is_object}
@@ -13,7 +15,7 @@ use Rattle.qp_model.specs.Line.{line}
 use Rattle.qp_model.specs.Sites.{ring_of, blocks_of}
 use Rattle.qp_words.specs.Counting.{Each, many}
 use Rattle.qp_words.specs.Now.{Now, Leaves}
-use Rattle.qp_words.specs.Rule.{is_spot, is_ref, free_bit, lives, in_lines, on_queue, mark_in, pool_at, block_at, queue_at, pool_value, refs_value, line_value, Was, IsKnown, Shows, HasEvent}
+use Rattle.qp_words.specs.Rule.{is_log, is_number, is_spot, is_ref, free_bit, lives, in_lines, on_queue, mark_in, pool_at, block_at, queue_at, pool_value, refs_value, line_value, Was, IsKnown, Shows, HasEvent}
 use Rattle.qp_model.specs.Lists.{count_up}
 use Rattle.qp_words.specs.declared.Log.{Log}
 use Rattle.qp_words.specs.declared.CellPlace.{CellPlace}
@@ -21,15 +23,6 @@ use Rattle.qp_words.specs.declared.Serve.{Serve}
 use Rattle.qp_words.specs.declared.Glance.{Glance}
 use Rattle.qp_words.specs.declared.View.{View}
 use Rattle.qp_words.specs.After.{rec_of, dropped, glanced}
-
--- the logs are numbered from n on
-abbrev pub Ordered : ℕ → List Log → Type 0
-Ordered n [] = Unit {0}
-Ordered n (g ∷ gs) = (g.number ≡ n) × Ordered (suc n) gs
-
-abbrev pub recs_of : List Log → List (List Rec)
-recs_of [] = []
-recs_of (g ∷ gs) = g.recs ∷ recs_of gs
 
 -- a glance lies behind what the word shows, or is it
 abbrev pub IsBehind : List ℕ → Glance → Type 0
@@ -41,16 +34,23 @@ pub record PastOf (sys : System) (items : List Item) (was : Was) : Type 0 where
   pub refs : (p b k : ℕ) → IsTrue (is_block sys p b) → k < length (hist (word.Block p b) items) → was (block_at p b) k ≡ refs_value (after references (take k (hist (word.Block p b) items)))
   pub line : (a k : ℕ) → IsTrue (is_object sys a) → k < length (hist (word.Queue a) items) → was (queue_at a) k ≡ line_value (after (line (ring_of sys a)) (take k (hist (word.Queue a) items)))
 
+-- The lanes are those of the rule: each log of the view is the lane of its number, each lane number is a log's or was never
+-- handed out, and the lanes of the latter have no records. The logs may stand in any order.
 pub record IsWhole (sys : System) (v : View) : Type 0 where
   pub now : Now
   pub words : List ℕ
+  pub was : Was
+  pub lanes : List (List Rec)
+  pub count : length lanes ≡ 49
+  pub own : Each (λ (g : Log). get_elem? lanes g.number ≡ some g.recs) v.logs
+  pub once : (n : ℕ) → n < 49 → many (is_log n) v.logs + many (is_number n) v.lane_numbers ≡ 1
+  pub rest : (n : ℕ) → n < 49 → 0 < many (is_number n) v.lane_numbers → get_elem? lanes n ≡ some []
+  pub leaves : Leaves sys lanes now
   pub shows : Shows sys words now
   pub glances : Each (IsBehind words) v.seen
-  pub was : Was
   pub seen : Each (λ (g : Glance). g.value ≡ was g.word (mark_in g.word g.value)) v.seen
-  pub past : Ordered 0 v.logs → PastOf sys (all_items (recs_of v.logs)) was
-  pub contents : Ordered 0 v.logs → Each (IsKnown sys (recs_of v.logs) now) v.contents
-  pub leaves : Ordered 0 v.logs → Leaves sys (recs_of v.logs) now
+  pub past : PastOf sys (all_items lanes) was
+  pub contents : Each (IsKnown sys lanes now) v.contents
   pub event : (p b : ℕ) → IsTrue (is_block sys p b) → HasEvent sys (now.content p b)
   pub place : (p b : ℕ) → free_bit now p b + many (is_spot p b) v.fresh + many (is_spot p b) v.used + lives (now.refs p b).names ≡ cond (is_block sys p b) 1 0
   pub hand : (p b k : ℕ) → 0 < p → many (is_ref p b k) v.hands + in_lines now p b k ≡ many (λ r. eqb r k) (now.refs p b).names

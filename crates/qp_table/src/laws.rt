@@ -2,6 +2,8 @@
 //! contract is the law.
 
 ghost use Rattle.qp_table.specs.Laws.{LooksKeepTheRule, ReadsKeepTheRule, ShownPoolsKeepTheRule, EmptyPoolsKeepTheRule, SeenQueuesKeepTheRule, EmptyQueuesKeepTheRule, FullQueuesKeepTheRule, NoEntryKeepsTheRule, NoLastInKeepsTheRule, HoldersLearnTheEvent, NewViewsKeepTheRule, OnlookersKeepTheRule, GrantsKeepTheRule, HandOversKeepTheRule, JoinsKeepTheRule, StartMeetsTheRule, RecordsAreLawful, WholeIsKnown};
+ghost use Rattle.qp_table.specs.First.{SoundSystemsStart};
+ghost use Rattle.qp_table.specs.TwoTables.{WholeLanesAreLawful};
 
 /// Any view looks at a numbered word.
 pub fn looks_keep_the_rule()
@@ -83,9 +85,20 @@ pub fn start_meets_the_rule()
     ensures { StartMeetsTheRule }
 {}
 
+/// Every sound system has such words and such a view: its pools' words with all blocks free, all others 0, and a view with
+/// lane 0 and the services of all objects.
+pub fn sound_systems_start()
+    ensures { SoundSystemsStart }
+{}
+
 /// Between any two steps the records of all lanes meet the law of words.
 pub fn records_are_lawful()
     ensures { RecordsAreLawful }
+{}
+
+/// Whole lanes are lawful where their records on the event table are, and those on the side table.
+pub fn whole_lanes_are_lawful()
+    ensures { WholeLanesAreLawful }
 {}
 
 /// The view that has all lanes knows the whole.

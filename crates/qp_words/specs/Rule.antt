@@ -64,6 +64,7 @@ pub record Fitting (sys : System) : Type 0 where
   pub small : (p : ℕ) → IsTrue (is_pool sys p) → (p < 16) × (blocks_of sys p ≤ 32)
   pub objects : (a : ℕ) → IsTrue (is_object sys a) → (a < 33) × (ring_of sys a < 256)
   pub signals : (sig : ℕ) → IsTrue (is_static sys sig) → sig < 65536
+  pub few_signals : length sys.signals ≤ 200
   pub params : (sig : ℕ) → params_of sys sig ≤ 8
 
 -- the number with these bits
