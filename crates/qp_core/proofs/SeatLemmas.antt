@@ -14,13 +14,12 @@ use Rattle.std.specs.declared.option.Option.{Option}
 use Rattle.qp_words.specs.Counting.{Each}
 use Rattle.qp_words.specs.Rule.{on_queue}
 use Rattle.qp_words.specs.After.{logged, passing, failing}
-use Rattle.qp_words.specs.declared.Glance.{Glance}
 use Rattle.qp_words.specs.declared.Log.{Log}
 use Rattle.qp_words.specs.declared.CellPlace.{CellPlace}
 use Rattle.qp_words.specs.declared.Serve.{Serve}
 use Rattle.qp_words.specs.declared.View.{View}
 use Rattle.qp_table.specs.Whole.{Unused}
-use Rattle.qp_seats.specs.Keeps.{seen_view}
+use Rattle.qp_seats.specs.Seats.{as_view}
 use Rattle.qp_seats.specs.Blocks.{ended}
 use Rattle.qp_seat_steps.specs.Looks.{looked}
 use Rattle.qp_core.specs.Standing.{AreViews, is_own}
@@ -72,25 +71,25 @@ module _ {A : Type 0} where
   at-below (y ∷ xs) (suc i) x e = let l = at-below xs i x e in omega arith
 
 -- Views of seats
-pub at-view : (xs : List Seat) (vs : List View) → AreViews xs vs → (i : ℕ) (x : Seat) → slice_get xs i ≡ Some x → (s : List Glance) × (get_elem? vs i ≡ some (seen_view x s))
+pub at-view : (xs : List Seat) (vs : List View) → AreViews xs vs → (i : ℕ) (x : Seat) → slice_get xs i ≡ Some x → get_elem? vs i ≡ some (as_view x)
 at-view [] [] a i x e = absurd (cc)
 at-view [] (v ∷ vs) a i x e = absurd a
 at-view (y ∷ xs) [] a i x e = absurd a
-at-view (y ∷ xs) (v ∷ vs) a zero x e = let is : y ≡ x = cc in (a.0.0, ap some (a.0.1 ∙ ap (λ (z : Seat). seen_view z a.0.0) is))
+at-view (y ∷ xs) (v ∷ vs) a zero x e = let is : y ≡ x = cc in ap some (a.0 ∙ ap as_view is)
 at-view (y ∷ xs) (v ∷ vs) a (suc i) x e = at-view xs vs a.1 i x e
 
-pub set-view : (xs : List Seat) (vs : List View) → AreViews xs vs → (i : ℕ) (y : Seat) (s : List Glance) → AreViews (set xs i y) (set vs i (seen_view y s))
-set-view [] [] a i y s = tt
-set-view [] (v ∷ vs) a i y s = absurd a
-set-view (x ∷ xs) [] a i y s = absurd a
-set-view (x ∷ xs) (v ∷ vs) a zero y s = ((s, refl), a.1)
-set-view (x ∷ xs) (v ∷ vs) a (suc i) y s = (a.0, set-view xs vs a.1 i y s)
+pub set-view : (xs : List Seat) (vs : List View) → AreViews xs vs → (i : ℕ) (y : Seat) → AreViews (set xs i y) (set vs i (as_view y))
+set-view [] [] a i y = tt
+set-view [] (v ∷ vs) a i y = absurd a
+set-view (x ∷ xs) [] a i y = absurd a
+set-view (x ∷ xs) (v ∷ vs) a zero y = (refl, a.1)
+set-view (x ∷ xs) (v ∷ vs) a (suc i) y = (a.0, set-view xs vs a.1 i y)
 
-pub snoc-view : (xs : List Seat) (vs : List View) → AreViews xs vs → (y : Seat) (s : List Glance) → AreViews (xs ++ y ∷ []) (vs ++ seen_view y s ∷ [])
-snoc-view [] [] a y s = ((s, refl), tt)
-snoc-view [] (v ∷ vs) a y s = absurd a
-snoc-view (x ∷ xs) [] a y s = absurd a
-snoc-view (x ∷ xs) (v ∷ vs) a y s = (a.0, snoc-view xs vs a.1 y s)
+pub snoc-view : (xs : List Seat) (vs : List View) → AreViews xs vs → (y : Seat) → AreViews (xs ++ y ∷ []) (vs ++ as_view y ∷ [])
+snoc-view [] [] a y = (refl, tt)
+snoc-view [] (v ∷ vs) a y = absurd a
+snoc-view (x ∷ xs) [] a y = absurd a
+snoc-view (x ∷ xs) (v ∷ vs) a y = (a.0, snoc-view xs vs a.1 y)
 
 -- Own logs
 pub own-some : (n : ℕ) (gs : List Log) → is_own n gs ≡ true → 0 < length gs
@@ -126,13 +125,13 @@ same-kept x y x' e a b c = record { number = ap (λ (z : Seat). z.number) e ∙ 
 same-logged : (x y x' : Seat) (r : Rec) → x' ≡ y → y.number ≡ x.number → y.stands ≡ x.stands → y.logs ≡ logged r x.logs → Same x x'
 same-logged x y x' r e a b c = record { number = ap (λ (z : Seat). z.number) e ∙ a; stands = ap (λ (z : Seat). z.stands) e ∙ b; own = λ n. ap (λ (z : Seat). is_own n z.logs) e ∙ (ap (is_own n) c ∙ own-logged n r x.logs) }
 
-same-looked : (x x' : Seat) (w : Word) (rec : Option Rec) → x' ≡ looked x w rec → Same x x'
-same-looked x x' w (Some r) e = same-logged x (looked x w (Some r)) x' r e refl refl refl
-same-looked x x' (word.Pool p) None e = same-kept x x x' e refl refl refl
-same-looked x x' (word.Block p b) None e = same-kept x (looked x (word.Block p b) None) x' e refl refl refl
-same-looked x x' (word.Queue a) None e = same-kept x x x' e refl refl refl
-same-looked x x' (word.Signal a) None e = same-kept x x x' e refl refl refl
-same-looked x x' (word.Timer a) None e = same-kept x x x' e refl refl refl
+same-looked : (words : List ℕ) (x x' : Seat) (w : Word) (rec : Option Rec) → x' ≡ looked words x w rec → Same x x'
+same-looked words x x' w (Some r) e = same-logged x (looked words x w (Some r)) x' r e refl refl refl
+same-looked words x x' (word.Pool p) None e = same-kept x (looked words x (word.Pool p) None) x' e refl refl refl
+same-looked words x x' (word.Block p b) None e = same-kept x (looked words x (word.Block p b) None) x' e refl refl refl
+same-looked words x x' (word.Queue a) None e = same-kept x (looked words x (word.Queue a) None) x' e refl refl refl
+same-looked words x x' (word.Signal a) None e = same-kept x (looked words x (word.Signal a) None) x' e refl refl refl
+same-looked words x x' (word.Timer a) None e = same-kept x (looked words x (word.Timer a) None) x' e refl refl refl
 
 same-ended : (more : Bool) (p b : ℕ) (x y x' : Seat) (r : Rec) → x' ≡ ended more p b y → y.number ≡ x.number → y.stands ≡ x.stands → y.logs ≡ logged r x.logs → Same x x'
 same-ended true p b x y x' r e c d f = same-logged x y x' r e c d f
@@ -144,7 +143,7 @@ steps-same sys words x words' x' (op.Fill p b j n) m = same-kept x _ x' m.1 refl
 steps-same sys words x words' x' (op.Make p b) m = same-ended _ p b x _ x' m.0 m.3 refl refl refl
 steps-same sys words x words' x' (op.Drop p b k) m = same-logged x _ x' m.0 m.3 refl refl refl
 steps-same sys words x words' x' (op.Back p b) m = same-logged x _ x' m.0 m.3 refl refl refl
-steps-same sys words x words' x' (op.Look w rec) m = same-looked x x' w rec m.1
+steps-same sys words x words' x' (op.Look w rec) m = same-looked words x x' w rec m.1
 steps-same sys words x words' x' (op.Read p b j) m = same-kept x x x' m.1 refl refl refl
 steps-same sys words x words' x' (op.Peek a) m = same-kept x x x' m.1 refl refl refl
 steps-same sys words x words' x' (op.Split into set) m = absurd m

@@ -16,7 +16,8 @@ use Rattle.qp_words.specs.declared.View.{View}
 use Rattle.qp_words.proofs.Counting.{each-snoc, many-without}
 use Rattle.qp_words.proofs.Tokens.{b2n}
 use Rattle.qp_table.proofs.Lanes.{adds-nothing, looks-on, grants, hands-over, joins, set-last, set-longer}
-use Rattle.qp_seats.specs.Keeps.{seen_view, HasOwn, StepKeeps}
+use Rattle.qp_seats.specs.Seats.{as_view}
+use Rattle.qp_seats.specs.Keeps.{HasOwn, StepKeeps}
 use Rattle.qp_core.specs.Standing.{bank, is_own, Owns, has_number, TableHolds}
 use Rattle.qp_core.specs.State.{stands_as, bare, may_pass, SetsBy, in_part, giving_up, first_logs, split_off, joining}
 use Rattle.qp_seats.specs.declared.seats.Seat.{Seat}
@@ -26,17 +27,17 @@ module _ (sys : System) (lanes : ℕ) (words : List ℕ) (seats : List Seat) (t 
   pub has-own : x.stands ≡ true → HasOwn lanes x
   has-own stands below = own-some x.number x.logs (each-at (Owns lanes) seats i x t.own at stands below)
 
-  at-id : get_elem? t.views i ≡ some (seen_view x (at-view seats t.views t.seats_are i x at).0)
-  at-id = (at-view seats t.views t.seats_are i x at).1
+  at-id : get_elem? t.views i ≡ some (as_view x)
+  at-id = at-view seats t.views t.seats_are i x at
 
   pub step-holds : (words' : List ℕ) (x' : Seat) → StepKeeps sys words x words' x' → Same x x' → TableHolds sys lanes words' (set seats i x')
   step-holds words' x' keeps same =
-      let k = keeps (at-view seats t.views t.seats_are i x at).0 (bank t.lane_numbers ∷ t.views) (suc i) t.holds at-id in
+      let k = keeps (bank t.lane_numbers ∷ t.views) (suc i) t.holds at-id in
       record {
         lane_numbers = t.lane_numbers;
-        views = set t.views i (seen_view x' k.0);
-        holds = k.1;
-        seats_are = set-view seats t.views t.seats_are i x' k.0;
+        views = set t.views i (as_view x');
+        holds = k;
+        seats_are = set-view seats t.views t.seats_are i x';
         own = each-set (Owns lanes) seats i x' t.own
             (λ stands below. same.own x'.number ∙ (ap (λ n. is_own n x.logs) same.number
             ∙ each-at (Owns lanes) seats i x t.own at (sym same.stands ∙ stands) (ap (λ n. nat_lt n lanes) (sym same.number) ∙ below)));
@@ -49,14 +50,14 @@ module _ (sys : System) (lanes : ℕ) (words : List ℕ) (seats : List Seat) (t 
   join-holds j y there apart from number =
       let w = at-view seats t.views t.seats_are j y there in
       let v = at-view seats t.views t.seats_are i x at in
-      let h : Holds sys words (bank t.lane_numbers ∷ set (set t.views i (seen_view (joining x y) (v.0 ++ w.0))) j (seen_view (bare from false) [])) =
-      joins sys words (bank t.lane_numbers ∷ t.views) t.holds (suc i) (seen_view x v.0) v.1 (suc j) (seen_view y w.0) (λ e. apart (omega arith)) w.1 in
-      let swapped = set_comm t.views i j (seen_view (joining x y) (v.0 ++ w.0)) (seen_view (bare from false) []) (λ e. apart (sym e)) in
+      let h : Holds sys words (bank t.lane_numbers ∷ set (set t.views i (as_view (joining x y))) j (as_view (bare from false))) =
+      joins sys words (bank t.lane_numbers ∷ t.views) t.holds (suc i) (as_view x) v (suc j) (as_view y) (λ e. apart (omega arith)) w in
+      let swapped = set_comm t.views i j (as_view (joining x y)) (as_view (bare from false)) (λ e. apart (sym e)) in
       record {
         lane_numbers = t.lane_numbers;
-        views = set (set t.views j (seen_view (bare from false) [])) i (seen_view (joining x y) (v.0 ++ w.0));
+        views = set (set t.views j (as_view (bare from false))) i (as_view (joining x y));
         holds = subst (λ vs. Holds sys words (bank t.lane_numbers ∷ vs)) swapped h;
-        seats_are = set-view (set seats j (bare from false)) (set t.views j (seen_view (bare from false) [])) (set-view seats t.views t.seats_are j (bare from false) []) i (joining x y) (v.0 ++ w.0);
+        seats_are = set-view (set seats j (bare from false)) (set t.views j (as_view (bare from false))) (set-view seats t.views t.seats_are j (bare from false)) i (joining x y);
         own = each-set (Owns lanes) (set seats j (bare from false)) i (joining x y) (each-set (Owns lanes) seats j (bare from false) t.own (λ stands below. absurd (cc)))
             (λ stands below. own-more x.number x.logs y.logs (each-at (Owns lanes) seats i x t.own at stands below));
         later = λ n l gone. t.later n l (sym (any-set (has_number n) seats j y (bare from false) there (ap (λ m. m == n) (sym number)))
@@ -99,34 +100,34 @@ module _ (sys : System) (words : List ℕ) (views : List View) (rest : List ℕ)
 
 module _ (sys : System) (lanes : ℕ) (words : List ℕ) (seats : List Seat) (t : TableHolds sys lanes words seats) (i : ℕ) (x : Seat) (at : slice_get seats i ≡ Some x) (into objects : ℕ) (unknown : list_any (has_number into) seats ≡ false) (unused : list_all (may_pass x.takes objects) x.serves ≡ true) where
   abbrev s : List Glance
-  s = (at-view seats t.views t.seats_are i x at).0
+  s = x.seen.list
 
-  at-x : get_elem? t.views i ≡ some (seen_view x s)
-  at-x = (at-view seats t.views t.seats_are i x at).1
+  at-x : get_elem? t.views i ≡ some (as_view x)
+  at-x = at-view seats t.views t.seats_are i x at
 
   lane : Granted sys words t.views t.lane_numbers s into (first_logs lanes into)
-  lane = granted-lane sys words t.views t.lane_numbers i (seen_view x s) at-x t.holds lanes into (nat_lt into lanes) refl (λ below. let few = t.few in ((let l : nat_lt into lanes ≡ true = below in grind (arith, nat_tests)), t.later into below unknown))
+  lane = granted-lane sys words t.views t.lane_numbers i (as_view x) at-x t.holds lanes into (nat_lt into lanes) refl (λ below. let few = t.few in ((let l : nat_lt into lanes ≡ true = below in grind (arith, nat_tests)), t.later into below unknown))
 
   pub split-holds : TableHolds sys lanes words (set seats i (giving_up objects x) ++ split_off lanes into objects x ∷ [])
   split-holds =
       let n = length t.views in
       let w = Began s (first_logs lanes into) in
       let p = in_part objects in
-      let below = at-below t.views i (seen_view x s) at-x in
-      let longer = at_longer t.views (w ∷ []) i (seen_view x s) at-x in
-      let h = hands-over sys words (bank lane.left ∷ (t.views ++ w ∷ [])) lane.holds (suc i) (seen_view x s) longer (suc n) w (λ e. absurd (omega arith)) (at_last t.views w n refl) p
+      let below = at-below t.views i (as_view x) at-x in
+      let longer = at_longer t.views (w ∷ []) i (as_view x) at-x in
+      let h = hands-over sys words (bank lane.left ∷ (t.views ++ w ∷ [])) lane.holds (suc i) (as_view x) longer (suc n) w (λ e. absurd (omega arith)) (at_last t.views w n refl) p
       (all-unused x.takes objects x.serves unused) in
-      let first : set (t.views ++ w ∷ []) i (handing p (seen_view x s)) ≡ set t.views i (handing p (seen_view x s)) ++ w ∷ [] = set-longer t.views (w ∷ []) i (seen_view x s) (handing p (seen_view x s)) at-x in
-      let size : n ≡ length (set t.views i (handing p (seen_view x s))) = sym (length-set t.views i (handing p (seen_view x s))) in
-      let last : set (set (t.views ++ w ∷ []) i (handing p (seen_view x s))) n (handed p (seen_view x s) w) ≡ set t.views i (handing p (seen_view x s)) ++ handed p (seen_view x s) w ∷ [] =
-      (λ k. set (first k) (size k) (handed p (seen_view x s) w)) ∙ set-last (set t.views i (handing p (seen_view x s))) w (handed p (seen_view x s) w) in
-      let kept : handing p (seen_view x s) ≡ seen_view (giving_up objects x) s = λ k. record (seen_view x s) { serves = failing-is objects x.serves k } in
-      let given : handed p (seen_view x s) w ≡ seen_view (split_off lanes into objects x) s = λ k. record w { serves = passing-is objects x.serves k } in
+      let first : set (t.views ++ w ∷ []) i (handing p (as_view x)) ≡ set t.views i (handing p (as_view x)) ++ w ∷ [] = set-longer t.views (w ∷ []) i (as_view x) (handing p (as_view x)) at-x in
+      let size : n ≡ length (set t.views i (handing p (as_view x))) = sym (length-set t.views i (handing p (as_view x))) in
+      let last : set (set (t.views ++ w ∷ []) i (handing p (as_view x))) n (handed p (as_view x) w) ≡ set t.views i (handing p (as_view x)) ++ handed p (as_view x) w ∷ [] =
+      (λ k. set (first k) (size k) (handed p (as_view x) w)) ∙ set-last (set t.views i (handing p (as_view x))) w (handed p (as_view x) w) in
+      let kept : handing p (as_view x) ≡ as_view (giving_up objects x) = λ k. record (as_view x) { serves = failing-is objects x.serves k } in
+      let given : handed p (as_view x) w ≡ as_view (split_off lanes into objects x) = λ k. record w { serves = passing-is objects x.serves k } in
       record {
         lane_numbers = lane.left;
-        views = set t.views i (seen_view (giving_up objects x) s) ++ seen_view (split_off lanes into objects x) s ∷ [];
+        views = set t.views i (as_view (giving_up objects x)) ++ as_view (split_off lanes into objects x) ∷ [];
         holds = subst (λ vs. Holds sys words (bank lane.left ∷ vs)) (last ∙ (λ k. set t.views i (kept k) ++ given k ∷ [])) h;
-        seats_are = snoc-view (set seats i (giving_up objects x)) (set t.views i (seen_view (giving_up objects x) s)) (set-view seats t.views t.seats_are i (giving_up objects x) s) (split_off lanes into objects x) s;
+        seats_are = snoc-view (set seats i (giving_up objects x)) (set t.views i (as_view (giving_up objects x))) (set-view seats t.views t.seats_are i (giving_up objects x)) (split_off lanes into objects x);
         own = each-snoc (Owns lanes) (set seats i (giving_up objects x)) (split_off lanes into objects x) (each-set (Owns lanes) seats i (giving_up objects x) t.own (each-at (Owns lanes) seats i x t.own at))
             (λ stands below. subst (λ b. is_own into (cond b (record { number = into; recs = [] } ∷ []) []) ≡ true) (sym below) (eq-eqb into into refl));
         later = λ k l gone. let g = any-snoc (has_number k) (set seats i (giving_up objects x)) (split_off lanes into objects x) gone in
@@ -139,7 +140,7 @@ pub sets-by-holds : (sys : System) (lanes : ℕ) (words : List ℕ) (seats : Lis
 sets-by-holds sys lanes words seats n o former seats' h t = go (position (stands_as n) seats) h
   where
     keeps-by : (x : Seat) → StepKeeps sys words x words (record x { by = o })
-    keeps-by x s views id holds at_id = (s, subst (Holds sys words) (sym (set_again views id (seen_view x s) at_id)) holds)
+    keeps-by x views id holds at_id = subst (Holds sys words) (sym (set_again views id (as_view x) at_id)) holds
 
     go : (p : Option ℕ) → MatchOption p ((former ≡ 0) × (seats' ≡ seats)) (λ i. (x : Seat) × (slice_get seats i ≡ Some x) × (former ≡ x.by) × (seats' ≡ set seats i (record x { by = o }))) → TableHolds sys lanes words seats'
     go None e = subst (TableHolds sys lanes words) (sym e.1) t

@@ -1,4 +1,3 @@
 pub mod Standing
-pub mod First
 pub mod State
 pub mod Runs

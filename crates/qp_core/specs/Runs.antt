@@ -8,6 +8,7 @@ use Rattle.qp_words.specs.Rule.{cell_at, is_serve, Shows}
 use Rattle.qp_words.specs.declared.Serve.{Serve}
 use Rattle.qp_queues.specs.Laws.{cells_of}
 use Rattle.qp_table.specs.Whole.{first_now}
+use Rattle.qp_table.specs.First.{IsFresh}
 use Rattle.qp_core.specs.State.{bare, may_apply, Applies}
 use Rattle.qp_core.specs.Standing.{TableHolds}
 use Rattle.qp_seats.specs.declared.seats.Seat.{Seat}
@@ -23,9 +24,6 @@ HoldsOf s = TableHolds s.sys.now s.lanes s.words s.seats
 -- seat 0, which alone stands at first
 abbrev pub first_seat : List Serve → Seat
 first_seat xs = record (bare 0 true) { logs = record { number = 0; recs = [] } ∷ []; serves = xs }
-
-abbrev pub IsFresh : Serve → Type 0
-IsFresh x = (x.lifos ≡ 0) × (x.takes ≡ 0)
 
 -- the first state: all blocks are free, all queues are empty, and seat 0 serves every object
 pub record IsFirst (sys : System) (lanes : ℕ) (s : CoreState) : Type 0 where

@@ -5,18 +5,17 @@ use Rattle.qp_model.specs.declared.systems.System.{System}
 use Rattle.qp_words.specs.Counting.{Each, many}
 use Rattle.qp_words.specs.Rule.{is_number, Holds}
 use Rattle.qp_words.specs.After.{nothing}
-use Rattle.qp_words.specs.declared.Glance.{Glance}
 use Rattle.qp_words.specs.declared.Log.{Log}
 use Rattle.qp_words.specs.declared.View.{View}
-use Rattle.qp_seats.specs.Keeps.{seen_view}
+use Rattle.qp_seats.specs.Seats.{as_view}
 use Rattle.qp_seats.specs.declared.seats.Seat.{Seat}
 
--- the views are those of the seats, each with what words showed it
+-- the views are those of the seats
 abbrev pub AreViews : List Seat → List View → Type 0
 AreViews [] [] = ⊤
 AreViews [] (v ∷ vs) = ⊥
 AreViews (x ∷ xs) [] = ⊥
-AreViews (x ∷ xs) (v ∷ vs) = ((s : List Glance) × (v ≡ seen_view x s)) × AreViews xs vs
+AreViews (x ∷ xs) (v ∷ vs) = (v ≡ as_view x) × AreViews xs vs
 
 -- a view with the lane numbers that no seat has had yet
 abbrev pub bank : List ℕ → View

@@ -37,7 +37,7 @@ standing xs n = seat_in xs (position (stands_as n) xs)
 
 -- a seat that holds nothing
 abbrev pub bare : ℕ → Bool → Seat
-bare n t = record { number = n; stands = t; by = 0; logs = []; fresh = []; used = []; hands = []; gives = []; fills = []; claims = []; takes = []; serves = [] }
+bare n t = record { number = n; stands = t; by = 0; logs = []; fresh = []; used = []; hands = []; gives = []; fills = []; claims = []; takes = []; serves = []; seen = record { list = [] } }
 
 -- Split
 
@@ -70,12 +70,12 @@ out_part set x = not (in_set set x.object)
 abbrev pub giving_up : ℕ → Seat → Seat
 giving_up set x = record x { serves = filter (out_part set) x.serves }
 
--- a seat below `lanes` begins its lane
+-- a seat below `lanes` begins its lane; what is split off has seen what the other has
 abbrev pub first_logs : ℕ → ℕ → List Log
 first_logs lanes n = if nat_lt n lanes then record { number = n; recs = [] } ∷ [] else []
 
 abbrev pub split_off : ℕ → ℕ → ℕ → Seat → Seat
-split_off lanes into set x = record (bare into true) { logs = first_logs lanes into; serves = filter (in_part set) x.serves }
+split_off lanes into set x = record (bare into true) { logs = first_logs lanes into; serves = filter (in_part set) x.serves; seen = x.seen }
 
 -- Join
 
@@ -93,6 +93,7 @@ joining x y = record x {
   claims = x.claims ++ y.claims;
   takes = x.takes ++ y.takes;
   serves = x.serves ++ y.serves;
+  seen = record { list = x.seen.list ++ y.seen.list };
 }
 
 -- seat i, which is x, takes over the seat `from`, which stands no more

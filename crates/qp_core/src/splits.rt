@@ -13,7 +13,7 @@ use qp_base::Memory;
 use qp_model::{Entry, System};
 use qp_seat_steps::{Op, serves_it, step};
 use qp_seats::words::Words;
-use qp_seats::{Items, Seat, SeatGive, SeatLog, copy_of_give, no_items};
+use qp_seats::{Glances, Items, Seat, SeatGive, SeatLog, copy_of_give, no_items};
 use qp_words::{CellPlace, Fill, Serve, Spot};
 use std::alloc::Global;
 use std::mem;
@@ -103,7 +103,7 @@ fn first_logs(alloc: Global, lanes: u32, number: u32) -> Result<Items<SeatLog>, 
     Ok(logs)
 }
 
-/// The seat that is split off.
+/// The seat that is split off, which has seen what the other has.
 fn split_off(alloc: Global, lanes: u32, into: u32, set: u32, seat: &Seat) -> Result<Seat, Memory>
     ensures { IfOk result (λ x. x ≡ split_off lanes into set seat.now) }
 {
@@ -112,6 +112,7 @@ fn split_off(alloc: Global, lanes: u32, into: u32, set: u32, seat: &Seat) -> Res
     let mut part = bare(alloc, into, true);
     part.serves = serves;
     part.logs = logs;
+    part.seen = Glances::joined(&part.seen, &seat.seen);
     Ok(part)
 }
 
@@ -296,6 +297,7 @@ fn take_over(alloc: Global, seat: &mut Seat, other: &mut Seat) -> Result<(), Mem
     seat.claims = queues.claims;
     seat.takes = queues.takes;
     seat.serves = queues.serves;
+    seat.seen = Glances::joined(&seat.seen, &other.seen);
     Ok(())
 }
 

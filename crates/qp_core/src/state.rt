@@ -3,7 +3,7 @@
 ghost use Rattle.std.specs.Prelude.{◌≡◌, ℕ, ◌<◌, ◌≤◌, ◌++◌, [], ◌∷◌, IfOk, OnOk, IsTrue, Some, None, length, slice_get, slice_index, slice_set};
 ghost use Rattle.std.specs.List.{position};
 ghost use Rattle.qp_model.specs.Sound.{IsSound};
-ghost use Rattle.qp_core.specs.First.{first_word, first_serve, first_serves};
+ghost use Rattle.qp_table.specs.First.{first_word, first_serve, first_serves};
 ghost use Rattle.qp_core.specs.State.{stands_as, bare, shown_by, lane_records, records_at, SetsBy};
 ghost use Rattle.qp_core.specs.Runs.{HoldsOf, IsFirst, first_seat};
 
@@ -12,7 +12,7 @@ use qp_base::Memory;
 use qp_model::{Lane, Rec, System, Word};
 use qp_seats::asked::{bit_of, has_object, has_pool};
 use qp_seats::words::{WORDS, Words, block_at, pool_at, queue_at};
-use qp_seats::{Items, Seat, SeatLog, no_items};
+use qp_seats::{Glances, Items, Seat, SeatLog, no_items};
 use qp_words::Serve;
 use std::alloc::Global;
 use std::mem;
@@ -53,6 +53,7 @@ pub fn bare(alloc: Global, number: u32, stands: bool) -> Seat
         claims: no_items(alloc),
         takes: no_items(alloc),
         serves: no_items(alloc),
+        seen: Glances::new(),
     }
 }
 

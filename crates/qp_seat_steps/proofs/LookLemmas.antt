@@ -1,5 +1,5 @@
 -- Looks keep the rule where they are allowed.
-use Rattle.std.proofs.Common.{◌≡◌, ℕ, zero, suc, ◌+◌, ◌-◌, ◌/◌, ◌%◌, ◌^◌, ◌<◌, ◌≤◌, ◌==◌, nat_lt, nat_le, List, [], ◌∷◌, ◌++◌, Bool, true, false, ◌&&◌, length, set, get_or, refl, sym, ap, subst, ◌∙◌, arith, eqb-true, true≢false, Option, Some, None}
+use Rattle.std.proofs.Common.{◌≡◌, ℕ, zero, suc, ◌+◌, ◌-◌, ◌/◌, ◌%◌, ◌^◌, ◌<◌, ◌≤◌, ◌==◌, nat_lt, nat_le, List, [], ◌∷◌, Bool, true, false, ◌&&◌, length, set, get_or, refl, sym, ap, subst, ◌∙◌, arith, eqb-true, true≢false, Option, Some, None}
 use Rattle.std.proofs.lemmas.Bool.{and_parts}
 use Rattle.std.proofs.lemmas.Bool.Decides.{nat_tests}
 use mathlib.Core.Option.{some}
@@ -15,17 +15,16 @@ use Rattle.qp_model.specs.Record.{Item, item_of, body_of}
 use Rattle.qp_model.specs.Sites.{ring_of, blocks_of}
 use Rattle.qp_model.specs.WordLaw.{is_pool, is_object}
 use Rattle.qp_words.specs.Counting.{total}
-use Rattle.qp_words.specs.Rule.{pool_at, block_at, queue_at, bits_value, Holds}
+use Rattle.qp_words.specs.Rule.{pool_at, queue_at, bits_value, Holds}
 use Rattle.qp_words.specs.After.{HasRoom, noted}
-use Rattle.qp_words.specs.declared.Glance.{Glance}
 use Rattle.qp_words.specs.declared.View.{View}
 use Rattle.qp_words.proofs.Bounds.{Ascends, pool-ascends, map-small}
 use Rattle.qp_queues.specs.Laws.{f_in, l_in, m_in}
 use Rattle.qp_table.proofs.Looks.{looks, looks_from, shows-short, shows-no_block, shows-seen, shows-nil, shows-full, shows-no_entry, shows-no_lifo}
-use Rattle.qp_seats.specs.Seats.{noting}
+use Rattle.qp_seats.specs.Seats.{as_view, noting}
 use Rattle.qp_seats.specs.Blocks.{number_in, low_in}
-use Rattle.qp_seat_steps.specs.Looks.{is_word, ones, counts_match, entries_in, states_pool, states_queue, states, may_state, may_look, looked}
-use Rattle.qp_seats.specs.Keeps.{seen_view, StepKeeps}
+use Rattle.qp_seat_steps.specs.Looks.{is_word, ones, counts_match, entries_in, states_pool, states_queue, states, shown, may_state, may_look, looked}
+use Rattle.qp_seats.specs.Keeps.{StepKeeps}
 use Rattle.qp_seats.specs.declared.seats.Seat.{Seat}
 use Rattle.qp_seats.proofs.Standing.{has-room}
 use Rattle.qp_seats.proofs.BlockLemmas.{adds, down, down-ascends, down-bits, down-length}
@@ -65,16 +64,16 @@ three a b c h = let x = and_parts (a && b) c h in let y = and_parts a b x.0 in (
 four : (a b c d : Bool) → (((a && b) && c) && d) ≡ true → (a ≡ true) × (b ≡ true) × (c ≡ true) × (d ≡ true)
 four a b c d h = let x = and_parts ((a && b) && c) d h in let y = three a b c x.0 in (y.0, y.1, y.2, x.1)
 
-module _ (sys : System) (lanes : ℕ) (words : List ℕ) (x : Seat) (own : nat_lt x.number lanes ≡ true → 0 < length x.logs) (s : List Glance) (views : List View) (id : ℕ) (holds : Holds sys words views) (at_id : get_elem? views id ≡ some (seen_view x s)) (r : Rec) (fits : (nat_lt x.number lanes ≡ true) × (nat_lt (total (λ g. length g.recs) x.logs) 1000001 ≡ true)) where
+module _ (sys : System) (lanes : ℕ) (words : List ℕ) (x : Seat) (own : nat_lt x.number lanes ≡ true → 0 < length x.logs) (views : List View) (id : ℕ) (holds : Holds sys words views) (at_id : get_elem? views id ≡ some (as_view x)) (r : Rec) (fits : (nat_lt x.number lanes ≡ true) × (nat_lt (total (λ g. length g.recs) x.logs) 1000001 ≡ true)) where
   abbrev v : View
-  v = seen_view x s
+  v = as_view x
 
-  room : HasRoom (seen_view x s)
-  room = has-room lanes x s own fits
+  room : HasRoom (as_view x)
+  room = has-room lanes x own fits
 
   -- the seat with the record, and what the word showed
   abbrev Shown : ℕ → Type 0
-  Shown w = Holds sys words (set views id (noted (seen_view x s) w (get_or words w 0) r))
+  Shown w = Holds sys words (set views id (noted (as_view x) w (get_or words w 0) r))
 
   pool-shown : (q : ℕ) → is_pool sys q ≡ true → (b : Body) → body_of r ≡ b → states_pool (get_or words (pool_at q) 0) q x.by r.of b ≡ true → Shown (pool_at q)
   pool-shown q pool (Short p n free reserve) is h =
@@ -132,30 +131,30 @@ module _ (sys : System) (lanes : ℕ) (words : List ℕ) (x : Seat) (own : nat_l
 module _ (sys : System) (lanes : ℕ) (words : List ℕ) (x : Seat) (own : nat_lt x.number lanes ≡ true → 0 < length x.logs) where
   -- a step that changes nothing
   pub rest-keeps : StepKeeps sys words x words x
-  rest-keeps s views id holds at_id = (s, subst (Holds sys words) (sym (set_again views id (seen_view x s) at_id)) holds)
+  rest-keeps views id holds at_id = subst (Holds sys words) (sym (set_again views id (as_view x) at_id)) holds
 
-  look-with : (w : Word) (r : Rec) → is_word sys w ≡ true → may_state sys lanes words x w (Some r) ≡ true → StepKeeps sys words x words (noting r x)
-  look-with (word.Pool q) r there h s views id holds at_id =
+  look-with : (w : Word) (r : Rec) → is_word sys w ≡ true → may_state sys lanes words x w (Some r) ≡ true → StepKeeps sys words x words (noting r (shown words w) x)
+  look-with (word.Pool q) r there h views id holds at_id =
       let t = adds lanes x (states sys words (word.Pool q) x.by r) h in
-      (s ++ record { word = pool_at q; value = get_or words (pool_at q) 0 } ∷ [], pool-shown sys lanes words x own s views id holds at_id r t.0 q there (body_of r) refl t.1)
-  look-with (word.Queue q) r there h s views id holds at_id =
+      pool-shown sys lanes words x own views id holds at_id r t.0 q there (body_of r) refl t.1
+  look-with (word.Queue q) r there h views id holds at_id =
       let t = adds lanes x (states sys words (word.Queue q) x.by r) h in
-      (s ++ record { word = queue_at q; value = get_or words (queue_at q) 0 } ∷ [], queue-shown sys lanes words x own s views id holds at_id r t.0 q there (body_of r) refl t.1)
-  look-with (word.Block p b) r there h s views id holds at_id = let t = adds lanes x false h in absurd (true≢false (sym t.1))
-  look-with (word.Signal q) r there h s views id holds at_id = cc
-  look-with (word.Timer q) r there h s views id holds at_id = cc
+      queue-shown sys lanes words x own views id holds at_id r t.0 q there (body_of r) refl t.1
+  look-with (word.Block p b) r there h views id holds at_id = let t = adds lanes x false h in absurd (true≢false (sym t.1))
+  look-with (word.Signal q) r there h views id holds at_id = cc
+  look-with (word.Timer q) r there h views id holds at_id = cc
 
-  look-without : (w : Word) → is_word sys w ≡ true → StepKeeps sys words x words (looked x w None)
-  look-without (word.Pool q) there s views id holds at_id =
-      let z = (holds.fitting.small q there).0 in (s ++ record { word = pool_at q; value = get_or words (pool_at q) 0 } ∷ [], looks sys words views holds id (seen_view x s) at_id (pool_at q) (omega arith))
-  look-without (word.Queue q) there s views id holds at_id =
-      let z = (holds.fitting.objects q there).0 in (s ++ record { word = queue_at q; value = get_or words (queue_at q) 0 } ∷ [], looks sys words views holds id (seen_view x s) at_id (queue_at q) (omega arith))
-  look-without (word.Block p b) there s views id holds at_id =
+  look-without : (w : Word) → is_word sys w ≡ true → StepKeeps sys words x words (looked words x w None)
+  look-without (word.Pool q) there views id holds at_id =
+      let z = (holds.fitting.small q there).0 in looks sys words views holds id (as_view x) at_id (pool_at q) (omega arith)
+  look-without (word.Queue q) there views id holds at_id =
+      let z = (holds.fitting.objects q there).0 in looks sys words views holds id (as_view x) at_id (queue_at q) (omega arith)
+  look-without (word.Block p b) there views id holds at_id =
       let z = holds.fitting.pools p b there in let z1 = z.1 in let z2 = z.2 in
-      (s ++ record { word = block_at p b; value = get_or words (block_at p b) 0 } ∷ [], looks_from sys words views holds id (seen_view x s) at_id p b (omega arith))
-  look-without (word.Signal q) there s views id holds at_id = cc
-  look-without (word.Timer q) there s views id holds at_id = cc
+      looks_from sys words views holds id (as_view x) at_id p b (omega arith)
+  look-without (word.Signal q) there views id holds at_id = cc
+  look-without (word.Timer q) there views id holds at_id = cc
 
-  pub look-keeps : (w : Word) (rec : Option Rec) → may_look sys lanes words x w rec ≡ true → StepKeeps sys words x words (looked x w rec)
+  pub look-keeps : (w : Word) (rec : Option Rec) → may_look sys lanes words x w rec ≡ true → StepKeeps sys words x words (looked words x w rec)
   look-keeps w None h = look-without w (and_parts (is_word sys w) (may_state sys lanes words x w None) h).0
   look-keeps w (Some r) h = let t = and_parts (is_word sys w) (may_state sys lanes words x w (Some r)) h in look-with w r t.0 t.1

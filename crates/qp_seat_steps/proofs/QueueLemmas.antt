@@ -14,7 +14,6 @@ use Rattle.qp_words.specs.Counting.{Each, many}
 use Rattle.qp_words.specs.Now.{Now}
 use Rattle.qp_words.specs.Rule.{queue_at, cell_at, mark_in, is_ref, InLine, Codable, code, entries_of, Run, is_item, is_place, on_queue, is_serve, Served, Holds}
 use Rattle.qp_words.specs.After.{InHand, place, claimed, put_first, laid, emptied, took, bump}
-use Rattle.qp_words.specs.declared.Glance.{Glance}
 use Rattle.qp_words.specs.declared.Log.{Log}
 use Rattle.qp_words.specs.declared.CellPlace.{CellPlace}
 use Rattle.qp_words.specs.declared.Serve.{Serve}
@@ -25,29 +24,29 @@ use Rattle.qp_queues.specs.Laws.{f_in}
 use Rattle.qp_queues.proofs.Lines.{item-is}
 use Rattle.qp_queues.proofs.Cells.{lays, empties}
 use Rattle.qp_queues.proofs.Steps.{claims, frees, lifos}
-use Rattle.qp_seats.specs.Seats.{may_act, may_add}
+use Rattle.qp_seats.specs.Seats.{as_view, may_act, may_add, glance, noting}
 use Rattle.qp_seats.specs.Blocks.{added}
 use Rattle.qp_seat_steps.specs.Queues.{bumped, entry_for, in_hand, has_room as has_free, count_in, serves_it, may_claim, with_claim, Claims, older, oldest, code_in, is_claimed, may_lay, Lays, front_at, before_at, entry_in, may_empty, Empties, may_free, Frees, may_lifo, Lifos}
-use Rattle.qp_seats.specs.Keeps.{seen_view, StepKeeps}
+use Rattle.qp_seats.specs.Keeps.{StepKeeps}
 use Rattle.qp_seats.specs.declared.seats.Seat.{Seat}
 use Rattle.qp_seats.proofs.ListLemmas.{any-many, none-many}
 use Rattle.qp_seats.proofs.Standing.{has-room}
 use Rattle.qp_seats.proofs.BlockLemmas.{adds-two}
 
 -- the entry that a step names is static or in hand
-in-hand-case : (sys : System) (x : Seat) (s : List Glance) (p b k : ℕ) → ((sig : ℕ) → IsTrue (is_static sys sig) → sig < 65536) → (c : Bool) → (p == 0) ≡ c → cond c ((b == 0) && is_static sys k) (is_block sys p b && list_any (is_ref p b k) x.hands) ≡ true
-    → InHand sys (cond c (record { pool = 0; block = k; name = 0 }) (record { pool = p; block = b; name = k })) (seen_view x s)
-in-hand-case sys x s p b k signals true is h = let t = and_parts (b == 0) (is_static sys k) h in record {
+in-hand-case : (sys : System) (x : Seat) (p b k : ℕ) → ((sig : ℕ) → IsTrue (is_static sys sig) → sig < 65536) → (c : Bool) → (p == 0) ≡ c → cond c ((b == 0) && is_static sys k) (is_block sys p b && list_any (is_ref p b k) x.hands) ≡ true
+    → InHand sys (cond c (record { pool = 0; block = k; name = 0 }) (record { pool = p; block = b; name = k })) (as_view x)
+in-hand-case sys x p b k signals true is h = let t = and_parts (b == 0) (is_static sys k) h in record {
   static = λ z. (t.1, signals k t.1, refl);
   pooled = λ pos. absurd (omega arith);
 }
-in-hand-case sys x s p b k signals false is h = let t = and_parts (is_block sys p b) (list_any (is_ref p b k) x.hands) h in record {
+in-hand-case sys x p b k signals false is h = let t = and_parts (is_block sys p b) (list_any (is_ref p b k) x.hands) h in record {
   static = λ z. absurd (true≢false (sym (eq-eqb p 0 z) ∙ is));
   pooled = λ pos. any-many (is_ref p b k) x.hands t.1;
 }
 
-pub in-hand-is : (sys : System) (x : Seat) (s : List Glance) (p b k : ℕ) → ((sig : ℕ) → IsTrue (is_static sys sig) → sig < 65536) → in_hand sys x p b k ≡ true → InHand sys (entry_for p b k) (seen_view x s)
-in-hand-is sys x s p b k signals h = in-hand-case sys x s p b k signals (p == 0) refl h
+pub in-hand-is : (sys : System) (x : Seat) (p b k : ℕ) → ((sig : ℕ) → IsTrue (is_static sys sig) → sig < 65536) → in_hand sys x p b k ≡ true → InHand sys (entry_for p b k) (as_view x)
+in-hand-is sys x p b k signals h = in-hand-case sys x p b k signals (p == 0) refl h
 
 -- an entry that fits a cell has its code, and is read back from it
 small-code : (b : ℕ) → b < 65536 → (b + 9223372036854775808) % 18446744073709551616 ≡ 9223372036854775808 + b
@@ -171,8 +170,8 @@ find-in a (x ∷ xs) t e = go (on_queue a x) refl (find-in a xs t) e
 
 module _ (sys : System) (lanes : ℕ) (words : List ℕ) (x : Seat) (own : nat_lt x.number lanes ≡ true → 0 < length x.logs) (words' : List ℕ) (x' : Seat) where
   -- the step's own lemma gives the rule for equal words and an equal view
-  along : (s' : List Glance) (views : List View) (id : ℕ) (ws : List ℕ) (u : View) → ws ≡ words' → u ≡ seen_view x' s' → Holds sys ws (set views id u) → Holds sys words' (set views id (seen_view x' s'))
-  along s' views id ws u e f h = subst (λ (z : List ℕ × View). Holds sys z.0 (set views id z.1)) (λ i. (e i, f i)) h
+  along : (views : List View) (id : ℕ) (ws : List ℕ) (u : View) → ws ≡ words' → u ≡ as_view x' → Holds sys ws (set views id u) → Holds sys words' (set views id (as_view x'))
+  along views id ws u e f h = subst (λ (z : List ℕ × View). Holds sys z.0 (set views id z.1)) (λ i. (e i, f i)) h
 
   -- a queue's word is small
   word-below : (views : List View) (holds : Holds sys words views) (a : ℕ) → IsTrue (is_object sys a) → get_or words (queue_at a) 0 < 9000000000000000000
@@ -185,32 +184,28 @@ module _ (sys : System) (lanes : ℕ) (words : List ℕ) (x : Seat) (own : nat_l
   free-is a h = grind (arith, nat_tests)
 
   pub claim-keeps : (a p b k : ℕ) → may_claim sys lanes words x a p b k ≡ true → Claims sys words x a p b k words' x' → StepKeeps sys words x words' x'
-  claim-keeps a p b k may made s views id holds at_id =
+  claim-keeps a p b k may made views id holds at_id =
       let c = and_parts ((may_add lanes x && is_object sys a) && in_hand sys x p b k) (has_free sys a (get_or words (queue_at a) 0)) may in
       let t = adds-two lanes x (is_object sys a) (in_hand sys x p b k) c.0 in
-      let v : View = seen_view x s in let room = has-room lanes x s own t.0 in let w : ℕ = get_or words (queue_at a) 0 in
+      let v : View = as_view x in let room = has-room lanes x own t.0 in let w : ℕ = get_or words (queue_at a) 0 in
       let e : Entry = entry_for p b k in
       let below = word-below views holds a t.1 in let m : added w 1 ≡ w + 1 = mod-eq_of_lt (omega arith) in
       let u : View = claimed v a (w + 1) made.0 (f_in w % (ring_of sys a + 1)) e (mark_in (queue_at a) (w + 1)) in
-      let number : mark_in (queue_at a) (w + 1) ≡ count_in (added w 1) = number-is a (w + 1) ∙ ap count_in (sym m) in (
-        u.seen,
-        along u.seen views id (set words (queue_at a) (w + 1)) u (ap (set words (queue_at a)) (sym m) ∙ sym made.2) ((λ i. seen_view (with_claim x made.0 a (f_in w % (ring_of sys a + 1)) e (number i)) u.seen) ∙ (λ i. seen_view (sym made.3 i) u.seen))
-            (claims sys words views holds id v at_id a t.1 room x.by e made.0 made.1 (in-hand-is sys x s p b k holds.fitting.signals t.2) (free-is a c.1)),
-      )
+      let number : mark_in (queue_at a) (w + 1) ≡ count_in (added w 1) = number-is a (w + 1) ∙ ap count_in (sym m) in
+        along views id (set words (queue_at a) (w + 1)) u (ap (set words (queue_at a)) (sym m) ∙ sym made.2) ((λ i. as_view (with_claim x made.0 (glance (queue_at a) (sym m i)) a (f_in w % (ring_of sys a + 1)) e (number i))) ∙ (λ i. as_view (sym made.3 i)))
+            (claims sys words views holds id v at_id a t.1 room x.by e made.0 made.1 (in-hand-is sys x p b k holds.fitting.signals t.2) (free-is a c.1))
 
   pub lay-keeps : (a : ℕ) → may_lay lanes x a ≡ true → Lays words x a words' x' → StepKeeps sys words x words' x'
-  lay-keeps a may made s views id holds at_id =
-      let v : View = seen_view x s in let c : CellPlace = made.0 in
+  lay-keeps a may made views id holds at_id =
+      let v : View = as_view x in let c : CellPlace = made.0 in
       let mine = oldest-in a x.claims c made.1 in
       let object = claim-object sys words views holds id v at_id a c.cell c.entry mine in
       let inside = claim-inside sys words views holds id v at_id a c.cell c.entry mine in
       let ring = (holds.fitting.objects a object).1 in let i0 = inside.0 in
       let cell : c.cell % 256 ≡ c.cell = mod-eq_of_lt (omega arith) in
-      let u : View = laid v a c.cell c.entry in (
-        s,
-        along s views id (set words (cell_at a c.cell) (code c.entry)) u ((λ i. set words (cell_at a (sym cell i)) (sym (code-is sys c.entry inside.1) i)) ∙ sym made.2) (λ i. seen_view (sym made.3 i) s)
-            (lays sys words views holds id v at_id a object c.cell c.entry inside.0 mine),
-      )
+      let u : View = laid v a c.cell c.entry in
+        along views id (set words (cell_at a c.cell) (code c.entry)) u ((λ i. set words (cell_at a (sym cell i)) (sym (code-is sys c.entry inside.1) i)) ∙ sym made.2) (λ i. as_view (sym made.3 i))
+            (lays sys words views holds id v at_id a object c.cell c.entry inside.0 mine)
 
   front-same : (views : List View) (holds : Holds sys words views) (a : ℕ) → IsTrue (is_object sys a) → front_at sys a (get_or words (queue_at a) 0) ≡ ((holds.now.line a).m + (ring_of sys a + 1 - 1) * (holds.now.line a).l) % (ring_of sys a + 1)
   front-same views holds a object = let l = line-shows sys words views holds a object in let r : ring_of sys a ≡ ring_of sys a + 1 - 1 = omega arith in
@@ -222,8 +217,8 @@ module _ (sys : System) (lanes : ℕ) (words : List ℕ) (x : Seat) (own : nat_l
       λ i. (l.2 i + r i * l.1 i + r i) % (ring_of sys a + 1)
 
   pub empty-keeps : (a : ℕ) → may_empty sys lanes words x a ≡ true → Empties sys words x a words' x' → StepKeeps sys words x words' x'
-  empty-keeps a may made s views id holds at_id =
-      let v : View = seen_view x s in
+  empty-keeps a may made views id holds at_id =
+      let v : View = as_view x in
       let j : ℕ = front_at sys a (get_or words (queue_at a) 0) in
       let c = and_parts (((may_act lanes x && is_object sys a) && serves_it x a) && not (list_any (on_queue a) x.takes)) (not (get_or words (cell_at a j) 0 == 0)) may in
       let d = and_parts ((may_act lanes x && is_object sys a) && serves_it x a) (not (list_any (on_queue a) x.takes)) c.0 in
@@ -232,40 +227,34 @@ module _ (sys : System) (lanes : ℕ) (words : List ℕ) (x : Seat) (own : nat_l
       let full : get_or words (cell_at a j) 0 ≢ 0 = (λ z. let n = not-true (get_or words (cell_at a j) 0 == 0) c.1 in true≢false (sym (eq-eqb (get_or words (cell_at a j) 0) 0 z) ∙ n)) in
       let r = empties sys words views holds id v at_id a o.1 (own o.0) j (front-same views holds a o.1) full (any-many (is_serve a) x.serves e.1) (none-many (on_queue a) x.takes (not-true (list_any (on_queue a) x.takes) d.1)) in
       let u : View = emptied v a j r.0 in
-      let read : entry_in (get_or words (cell_at a j) 0) ≡ r.0 = code-read sys r.0 (get_or words (cell_at a j) 0) r.1 r.2 in (
-        s,
-        along s views id (set words (cell_at a j) 0) u (sym made.0) ((λ i. seen_view (record x { takes = x.takes ++ place a j (sym read i) 0 ∷ [] }) s) ∙ (λ i. seen_view (sym made.1 i) s)) r.3,
-      )
+      let read : entry_in (get_or words (cell_at a j) 0) ≡ r.0 = code-read sys r.0 (get_or words (cell_at a j) 0) r.1 r.2 in
+        along views id (set words (cell_at a j) 0) u (sym made.0) ((λ i. as_view (record x { takes = x.takes ++ place a j (sym read i) 0 ∷ [] })) ∙ (λ i. as_view (sym made.1 i))) r.3
 
   pub free-keeps : (a : ℕ) → may_free sys lanes x a ≡ true → Frees words x a words' x' → StepKeeps sys words x words' x'
-  free-keeps a may made s views id holds at_id =
+  free-keeps a may made views id holds at_id =
       let t = adds-two lanes x (is_object sys a) (is_claimed (find (on_queue a) x.takes)) may in
-      let v : View = seen_view x s in let room = has-room lanes x s own t.0 in let w : ℕ = get_or words (queue_at a) 0 in
+      let v : View = as_view x in let room = has-room lanes x own t.0 in let w : ℕ = get_or words (queue_at a) 0 in
       let q : CellPlace = made.1 in let mine = find-in a x.takes q made.2 in
       let home = holds.queues.home id v at_id in
       let serves : 0 < many (is_serve a) x.serves = (let y = home.taking a in let z = mine.1 in omega arith) in
       let below = word-below views holds a t.1 in let m : added w 4398046511104 ≡ w + 4398046511104 = mod-eq_of_lt (omega arith) in
-      let u : View = took v a (w + 4398046511104) made.0 q.cell q.entry in (
-        u.seen,
-        along u.seen views id (set words (queue_at a) (w + 4398046511104)) u (ap (set words (queue_at a)) (sym m) ∙ sym made.4)
-            ((λ i. seen_view (record x { logs = u.logs; takes = u.takes; hands = u.hands; serves = sym (bump-same holds.now x.logs a 0 1 x.serves (omega arith) home.counts) i }) u.seen) ∙ (λ i. seen_view (sym made.5 i) u.seen))
-            (frees sys words views holds id v at_id a t.1 room q.cell q.entry made.0 made.3 mine.0 serves),
-      )
+      let u : View = took v a (w + 4398046511104) made.0 q.cell q.entry in
+        along views id (set words (queue_at a) (w + 4398046511104)) u (ap (set words (queue_at a)) (sym m) ∙ sym made.4)
+            ((λ i. as_view (record (noting made.0 (glance (queue_at a) (sym m i)) x) { takes = u.takes; hands = u.hands; serves = sym (bump-same holds.now x.logs a 0 1 x.serves (omega arith) home.counts) i })) ∙ (λ i. as_view (sym made.5 i)))
+            (frees sys words views holds id v at_id a t.1 room q.cell q.entry made.0 made.3 mine.0 serves)
 
   pub lifo-keeps : (a p b k : ℕ) → may_lifo sys lanes words x a p b k ≡ true → Lifos sys words x a p b k words' x' → StepKeeps sys words x words' x'
-  lifo-keeps a p b k may made s views id holds at_id =
+  lifo-keeps a p b k may made views id holds at_id =
       let f = and_parts ((((may_add lanes x && is_object sys a) && serves_it x a) && not (list_any (on_queue a) x.takes)) && in_hand sys x p b k) (has_free sys a (get_or words (queue_at a) 0)) may in
       let g = and_parts (((may_add lanes x && is_object sys a) && serves_it x a) && not (list_any (on_queue a) x.takes)) (in_hand sys x p b k) f.0 in
       let d = and_parts ((may_add lanes x && is_object sys a) && serves_it x a) (not (list_any (on_queue a) x.takes)) g.0 in
       let t = adds-two lanes x (is_object sys a) (serves_it x a) d.0 in
-      let v : View = seen_view x s in let room = has-room lanes x s own t.0 in let w : ℕ = get_or words (queue_at a) 0 in
+      let v : View = as_view x in let room = has-room lanes x own t.0 in let w : ℕ = get_or words (queue_at a) 0 in
       let e : Entry = entry_for p b k in let home = holds.queues.home id v at_id in
       let below = word-below views holds a t.1 in let m : added w 2097152 ≡ w + 2097152 = mod-eq_of_lt (omega arith) in
       let u : View = put_first v a (w + 2097152) made.0 (before_at sys a w) e (mark_in (queue_at a) (w + 2097152)) in
-      let number : mark_in (queue_at a) (w + 2097152) ≡ count_in (added w 2097152) = number-is a (w + 2097152) ∙ ap count_in (sym m) in (
-        u.seen,
-        along u.seen views id (set words (queue_at a) (w + 2097152)) u (ap (set words (queue_at a)) (sym m) ∙ sym made.2)
-            ((λ i. seen_view (record x { logs = u.logs; hands = u.hands; claims = x.claims ++ place a (before_at sys a w) e (number i) ∷ []; serves = sym (bump-same holds.now x.logs a 1 0 x.serves (omega arith) home.counts) i }) u.seen) ∙ (λ i. seen_view (sym made.3 i) u.seen))
-            (lifos sys words views holds id v at_id a t.1 room (before_at sys a w) e made.0 made.1 (before-same views holds a t.1) (in-hand-is sys x s p b k holds.fitting.signals g.1) (free-is a f.1)
-            (any-many (is_serve a) x.serves t.2) (none-many (on_queue a) x.takes (not-true (list_any (on_queue a) x.takes) d.1))),
-      )
+      let number : mark_in (queue_at a) (w + 2097152) ≡ count_in (added w 2097152) = number-is a (w + 2097152) ∙ ap count_in (sym m) in
+        along views id (set words (queue_at a) (w + 2097152)) u (ap (set words (queue_at a)) (sym m) ∙ sym made.2)
+            ((λ i. as_view (record (noting made.0 (glance (queue_at a) (sym m i)) x) { hands = u.hands; claims = x.claims ++ place a (before_at sys a w) e (number i) ∷ []; serves = sym (bump-same holds.now x.logs a 1 0 x.serves (omega arith) home.counts) i })) ∙ (λ i. as_view (sym made.3 i)))
+            (lifos sys words views holds id v at_id a t.1 room (before_at sys a w) e made.0 made.1 (before-same views holds a t.1) (in-hand-is sys x p b k holds.fitting.signals g.1) (free-is a f.1)
+            (any-many (is_serve a) x.serves t.2) (none-many (on_queue a) x.takes (not-true (list_any (on_queue a) x.takes) d.1)))

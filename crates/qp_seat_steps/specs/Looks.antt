@@ -14,7 +14,8 @@ use Rattle.qp_model.specs.WordLaw.{is_pool, is_block, is_object}
 use Rattle.qp_words.specs.Rule.{pool_at, block_at, queue_at}
 use Rattle.qp_words.specs.After.{reading}
 use Rattle.qp_queues.specs.Laws.{f_in, l_in, m_in}
-use Rattle.qp_seats.specs.Seats.{may_act, may_add, noting}
+use Rattle.qp_words.specs.declared.Glance.{Glance}
+use Rattle.qp_seats.specs.Seats.{may_act, may_add, glance, seeing, noting}
 use Rattle.qp_seats.specs.Blocks.{number_in, low_in, size_of, is_ref_to}
 use Rattle.qp_seat_steps.specs.Queues.{serves_it}
 use Rattle.qp_seats.specs.declared.seats.Seat.{Seat}
@@ -31,6 +32,13 @@ word_in words (word.Pool p) = slice_index words (pool_at p)
 word_in words (word.Block p b) = slice_index words (block_at p b)
 word_in words (word.Queue a) = slice_index words (queue_at a)
 word_in words _ = 0
+
+-- and where it stands
+abbrev pub place_in : Word → ℕ
+place_in (word.Pool p) = pool_at p
+place_in (word.Block p b) = block_at p b
+place_in (word.Queue a) = queue_at a
+place_in _ = 0
 
 -- how many of so many bits are 1
 abbrev pub ones : ℕ → ℕ → ℕ
@@ -73,11 +81,15 @@ may_state sys lanes words x w (Some r) = may_add lanes x && states sys words w x
 abbrev pub may_look : System → ℕ → List ℕ → Seat → Word → Option Rec → Bool
 may_look sys lanes words x w rec = is_word sys w && may_state sys lanes words x w rec
 
+-- what the word shows
+abbrev pub shown : List ℕ → Word → Glance
+shown words w = glance (place_in w) (word_in words w)
+
 -- a look at a block's word reads where the life of a fresh block begins
-abbrev pub looked : Seat → Word → Option Rec → Seat
-looked x w (Some r) = noting r x
-looked x (word.Block p b) None = record x { gives = reading p b x.gives }
-looked x _ None = x
+abbrev pub looked : List ℕ → Seat → Word → Option Rec → Seat
+looked words x w (Some r) = noting r (shown words w) x
+looked words x (word.Block p b) None = record (seeing (shown words (word.Block p b)) x) { gives = reading p b x.gives }
+looked words x w None = seeing (shown words w) x
 
 -- Read and Peek
 

@@ -12,11 +12,12 @@ use Rattle.qp_model.specs.Sites.{ring_of}
 use Rattle.qp_model.specs.WordLaw.{is_block, is_object}
 use Rattle.qp_words.specs.Counting.{without}
 use Rattle.qp_words.specs.Rule.{queue_at, cell_at, is_ref, is_place, is_serve, on_queue}
-use Rattle.qp_words.specs.After.{logged, place, spent, gained}
+use Rattle.qp_words.specs.After.{place, spent, gained}
 use Rattle.qp_words.specs.declared.CellPlace.{CellPlace}
+use Rattle.qp_words.specs.declared.Glance.{Glance}
 use Rattle.qp_words.specs.declared.Serve.{Serve}
 use Rattle.qp_queues.specs.Laws.{f_in, l_in, m_in}
-use Rattle.qp_seats.specs.Seats.{may_act, may_add}
+use Rattle.qp_seats.specs.Seats.{may_act, may_add, glance, noting}
 use Rattle.qp_seats.specs.Blocks.{added}
 use Rattle.qp_seats.specs.declared.seats.Seat.{Seat}
 
@@ -51,14 +52,14 @@ bumped a l m xs = map (counted a l m) xs
 abbrev pub may_claim : System → ℕ → List ℕ → Seat → ℕ → ℕ → ℕ → ℕ → Bool
 may_claim sys lanes words x a p b k = may_add lanes x && is_object sys a && in_hand sys x p b k && has_room sys a (slice_index words (queue_at a))
 
-abbrev pub with_claim : Seat → Rec → ℕ → ℕ → Entry → ℕ → Seat
-with_claim x r a j e n = record x { logs = logged r x.logs; hands = spent e x.hands; claims = x.claims ++ place a j e n ∷ [] }
+abbrev pub with_claim : Seat → Rec → Glance → ℕ → ℕ → Entry → ℕ → Seat
+with_claim x r g a j e n = record (noting r g x) { hands = spent e x.hands; claims = x.claims ++ place a j e n ∷ [] }
 
 abbrev pub Claims : System → List ℕ → Seat → ℕ → ℕ → ℕ → ℕ → List ℕ → Seat → Type 0
 Claims sys words x a p b k words' x' =
     let w = slice_index words (queue_at a) in
     (r : Rec) × (item_of r ≡ record { of = x.by; body = Post a (f_in w + 1) (l_in w) (m_in w) (entry_for p b k) }) × (words' ≡ slice_set words (queue_at a) (added w 1))
-    × (x' ≡ with_claim x r a (f_in w % (ring_of sys a + 1)) (entry_for p b k) (count_in (added w 1)))
+    × (x' ≡ with_claim x r (glance (queue_at a) (added w 1)) a (f_in w % (ring_of sys a + 1)) (entry_for p b k) (count_in (added w 1)))
 
 -- Lay
 
@@ -116,25 +117,25 @@ Empties sys words x a words' x' =
 abbrev pub may_free : System → ℕ → Seat → ℕ → Bool
 may_free sys lanes x a = may_add lanes x && is_object sys a && is_claimed (find (on_queue a) x.takes)
 
-abbrev pub without_take : Seat → Rec → ℕ → ℕ → Entry → Seat
-without_take x r a j e = record x { logs = logged r x.logs; takes = without (is_place a j e) x.takes; hands = gained e x.hands; serves = bumped a 0 1 x.serves }
+abbrev pub without_take : Seat → Rec → Glance → ℕ → ℕ → Entry → Seat
+without_take x r g a j e = record (noting r g x) { takes = without (is_place a j e) x.takes; hands = gained e x.hands; serves = bumped a 0 1 x.serves }
 
 abbrev pub Frees : List ℕ → Seat → ℕ → List ℕ → Seat → Type 0
 Frees words x a words' x' =
     let w = slice_index words (queue_at a) in
     (r : Rec) × (t : CellPlace) × (find (on_queue a) x.takes ≡ Some t) × (item_of r ≡ record { of = a; body = Took (f_in w) (l_in w) (m_in w + 1) t.entry })
-    × (words' ≡ slice_set words (queue_at a) (added w 4398046511104)) × (x' ≡ without_take x r a t.cell t.entry)
+    × (words' ≡ slice_set words (queue_at a) (added w 4398046511104)) × (x' ≡ without_take x r (glance (queue_at a) (added w 4398046511104)) a t.cell t.entry)
 
 -- Lifo
 
 abbrev pub may_lifo : System → ℕ → List ℕ → Seat → ℕ → ℕ → ℕ → ℕ → Bool
 may_lifo sys lanes words x a p b k = may_add lanes x && is_object sys a && serves_it x a && not (list_any (on_queue a) x.takes) && in_hand sys x p b k && has_room sys a (slice_index words (queue_at a))
 
-abbrev pub with_lifo : Seat → Rec → ℕ → ℕ → Entry → ℕ → Seat
-with_lifo x r a j e n = record x { logs = logged r x.logs; hands = spent e x.hands; claims = x.claims ++ place a j e n ∷ []; serves = bumped a 1 0 x.serves }
+abbrev pub with_lifo : Seat → Rec → Glance → ℕ → ℕ → Entry → ℕ → Seat
+with_lifo x r g a j e n = record (noting r g x) { hands = spent e x.hands; claims = x.claims ++ place a j e n ∷ []; serves = bumped a 1 0 x.serves }
 
 abbrev pub Lifos : System → List ℕ → Seat → ℕ → ℕ → ℕ → ℕ → List ℕ → Seat → Type 0
 Lifos sys words x a p b k words' x' =
     let w = slice_index words (queue_at a) in
     (r : Rec) × (item_of r ≡ record { of = a; body = Lifo (f_in w) (l_in w + 1) (m_in w) (entry_for p b k) }) × (words' ≡ slice_set words (queue_at a) (added w 2097152))
-    × (x' ≡ with_lifo x r a (before_at sys a w) (entry_for p b k) (count_in (added w 2097152)))
+    × (x' ≡ with_lifo x r (glance (queue_at a) (added w 2097152)) a (before_at sys a w) (entry_for p b k) (count_in (added w 2097152)))

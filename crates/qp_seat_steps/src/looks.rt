@@ -6,7 +6,7 @@ ghost use Rattle.qp_words.specs.After.{reading};
 ghost use Rattle.qp_seats.specs.Words.{Steps};
 ghost use Rattle.qp_queues.specs.Laws.{f_in, l_in, m_in};
 ghost use Rattle.qp_seats.specs.Seats.{may_add, noting};
-ghost use Rattle.qp_seat_steps.specs.Looks.{is_word, ones, counts_match, entries_in, states_pool, states_queue, states, may_look, looked, may_read, may_peek};
+ghost use Rattle.qp_seat_steps.specs.Looks.{is_word, ones, counts_match, entries_in, states_pool, states_queue, states, shown, may_look, looked, may_read, may_peek};
 
 use crate::entries::{lifos_in, posts_in, takes_in};
 use crate::queues::serves_it;
@@ -17,7 +17,8 @@ use qp_seats::asked::{has_block, has_object, has_pool, size_of};
 use qp_seats::blocks::ONE;
 use qp_seats::items::{Items, no_items};
 use qp_seats::seats::{Seat, SeatGive, copy_of_give};
-use qp_seats::words::{Words, pool_at, queue_at};
+use qp_seats::words::{Words, block_at, glance_at, pool_at, queue_at};
+use qp_words::Glance;
 use std::alloc::Global;
 
 /// Whether it is a word of the event table that the system has.
@@ -158,6 +159,18 @@ fn add_read(out: &mut Items<SeatGive>, gives: &[SeatGive], p: u8, b: u8) -> Resu
     Ok(())
 }
 
+/// What the word shows.
+fn shown(words: &Words, word: Word) -> Glance
+    ensures { result ≡ shown words.now word }
+{
+    match word {
+        Word::Pool(p) => glance_at(pool_at(p), words.get(pool_at(p))),
+        Word::Block(p, b) => glance_at(block_at(p, b), words.get(block_at(p, b))),
+        Word::Queue(a) => glance_at(queue_at(a), words.get(queue_at(a))),
+        Word::Signal(_) | Word::Timer(_) => glance_at(0, 0),
+    }
+}
+
 /// Adds the record, where it is a shown record on the word and states what it shows.
 fn show(
     sys: &System,
@@ -167,19 +180,19 @@ fn show(
     word: Word,
     rec: &Rec,
 ) -> Result<bool, Memory>
-    ensures { Steps (may_add lanes seat.old && states sys.now words.now word seat.old.by rec.now) (seat.new ≡ noting rec.now seat.old)
+    ensures { Steps (may_add lanes seat.old && states sys.now words.now word seat.old.by rec.now) (seat.new ≡ noting rec.now (shown words.now word) seat.old)
         (seat.new ≡ seat.old) result }
 {
     if !(seat.may_add(lanes) && states(sys, words, word, seat.by, rec)) {
         return Ok(false);
     }
-    seat.note(copy_of(rec))?;
+    seat.note(copy_of(rec), shown(words, word))?;
     Ok(true)
 }
 
 /// Reads a word. A look at a block's word reads where the life of a fresh block begins.
-fn read_word(alloc: Global, seat: &mut Seat, word: Word) -> Result<(), Memory>
-    ensures ok { OnOk result (seat.new ≡ looked seat.old word None) }
+fn read_word(alloc: Global, words: &Words, seat: &mut Seat, word: Word) -> Result<(), Memory>
+    ensures ok { OnOk result (seat.new ≡ looked words.now seat.old word None) }
     ensures err { OnErr result (seat.new ≡ seat.old) }
 {
     if let Word::Block(p, b) = word {
@@ -187,6 +200,7 @@ fn read_word(alloc: Global, seat: &mut Seat, word: Word) -> Result<(), Memory>
         add_read(&mut gives, seat.gives.items.as_slice(), p, b)?;
         seat.gives = gives;
     }
+    seat.see(shown(words, word));
     Ok(())
 }
 
@@ -200,14 +214,14 @@ pub fn look(
     word: Word,
     rec: &Option<Rec>,
 ) -> Result<bool, Memory>
-    ensures { Steps (may_look sys.now lanes words.now seat.old word rec.now) (seat.new ≡ looked seat.old word rec.now)
+    ensures { Steps (may_look sys.now lanes words.now seat.old word rec.now) (seat.new ≡ looked words.now seat.old word rec.now)
         (seat.new ≡ seat.old) result }
 {
     if !is_word(sys, word) {
         return Ok(false);
     }
     let Some(rec) = rec else {
-        read_word(alloc, seat, word)?;
+        read_word(alloc, words, seat, word)?;
         return Ok(true);
     };
     show(sys, lanes, words, seat, word, rec)

@@ -18,8 +18,8 @@ use qp_model::{Entry, Rec, System};
 use qp_seats::asked::{has_block, has_object};
 use qp_seats::items::{Items, grown, take_out};
 use qp_seats::seats::Seat;
-use qp_seats::words::{Words, cell_at, queue_at};
-use qp_words::{CellPlace, Serve};
+use qp_seats::words::{Words, cell_at, glance_at, queue_at};
+use qp_words::{CellPlace, Glance, Serve};
 use std::alloc::Global;
 
 /// Whether it is a static signal, or its reference is in hand.
@@ -102,13 +102,20 @@ fn may_claim(
         && has_room(sys, a, words.get(queue_at(a)))
 }
 
-/// The seat has another claim and its entry no more in hand, with the record. Where memory is refused it is as it was.
-fn add_claim(alloc: Global, seat: &mut Seat, place: CellPlace, rec: Rec) -> Result<(), Memory>
-    ensures ok { OnOk result (seat.new ≡ with_claim seat.old rec place.queue place.cell place.entry place.number) }
+/// The seat has another claim and its entry no more in hand, with the record and what the queue's word showed. Where memory is
+/// refused it is as it was.
+fn add_claim(
+    alloc: Global,
+    seat: &mut Seat,
+    place: CellPlace,
+    rec: Rec,
+    glance: Glance,
+) -> Result<(), Memory>
+    ensures ok { OnOk result (seat.new ≡ with_claim seat.old rec glance place.queue place.cell place.entry place.number) }
     ensures err { OnErr result (seat.new ≡ seat.old) }
 {
     let claims = grown(alloc, &seat.claims, Some(place))?;
-    seat.note(rec)?;
+    seat.note(rec, glance)?;
     seat.claims = claims;
     spend(&mut seat.hands, place.entry);
     Ok(())
@@ -145,7 +152,7 @@ pub fn claim(
         number: count_in(drawn),
     };
     let rec = Rec::post(seat.by, a, f + 1, lifos_in(found), takes_in(found), entry);
-    add_claim(alloc, seat, place, rec)?;
+    add_claim(alloc, seat, place, rec, glance_at(word, drawn))?;
     words.set(word, drawn);
     Ok(true)
 }
@@ -278,15 +285,22 @@ fn held(e: Entry) -> Option<Entry>
     if e.pool == 0 { None } else { Some(e) }
 }
 
-/// The seat's take is over: its entry is in hand where it isn't static, with the record. Where memory is refused the seat is as
-/// it was.
-fn end_take(alloc: Global, seat: &mut Seat, a: u8, take: CellPlace, rec: Rec) -> Result<(), Memory>
-    ensures ok { OnOk result (seat.new ≡ without_take seat.old rec a take.cell take.entry) }
+/// The seat's take is over: its entry is in hand where it isn't static, with the record and what the queue's word showed. Where
+/// memory is refused the seat is as it was.
+fn end_take(
+    alloc: Global,
+    seat: &mut Seat,
+    a: u8,
+    take: CellPlace,
+    rec: Rec,
+    glance: Glance,
+) -> Result<(), Memory>
+    ensures ok { OnOk result (seat.new ≡ without_take seat.old rec glance a take.cell take.entry) }
     ensures err { OnErr result (seat.new ≡ seat.old) }
 {
     let hands = grown(alloc, &seat.hands, held(take.entry))?;
     let serves = bumped(alloc, &seat.serves, a, 0, 1)?;
-    seat.note(rec)?;
+    seat.note(rec, glance)?;
     seat.hands = hands;
     seat.serves = serves;
     drop_place(&mut seat.takes, a, take.cell, take.entry);
@@ -321,8 +335,9 @@ pub fn free(
         takes_in(found) + 1,
         take.entry,
     );
-    end_take(alloc, seat, a, take, rec)?;
-    words.set(word, found.wrapping_add(TAKE));
+    let taken = found.wrapping_add(TAKE);
+    end_take(alloc, seat, a, take, rec, glance_at(word, taken))?;
+    words.set(word, taken);
     Ok(true)
 }
 
@@ -354,12 +369,13 @@ fn add_last_in(
     a: u8,
     place: CellPlace,
     rec: Rec,
+    glance: Glance,
 ) -> Result<(), Memory>
-    ensures ok { OnOk result (seat.new ≡ record (with_claim seat.old rec place.queue place.cell place.entry place.number) { serves = bumped a 1 0 seat.old.serves }) }
+    ensures ok { OnOk result (seat.new ≡ record (with_claim seat.old rec glance place.queue place.cell place.entry place.number) { serves = bumped a 1 0 seat.old.serves }) }
     ensures err { OnErr result (seat.new ≡ seat.old) }
 {
     let serves = bumped(alloc, &seat.serves, a, 1, 0)?;
-    add_claim(alloc, seat, place, rec)?;
+    add_claim(alloc, seat, place, rec, glance)?;
     seat.serves = serves;
     Ok(())
 }
@@ -400,7 +416,7 @@ pub fn lifo(
         takes_in(found),
         entry,
     );
-    add_last_in(alloc, seat, a, place, rec)?;
+    add_last_in(alloc, seat, a, place, rec, glance_at(word, drawn))?;
     words.set(word, drawn);
     Ok(true)
 }

@@ -15,7 +15,7 @@ use Rattle.qp_model.specs.Sites.{blocks_of}
 use Rattle.qp_model.specs.WordLaw.{is_pool, is_block}
 use Rattle.qp_words.specs.Counting.{Each, total, many, without}
 use Rattle.qp_words.specs.Rule.{pool_at, block_at, event_at, bits_value, is_ref, is_spot, gives_of, fills_of, params_of, IsContent, Tells, Holds}
-use Rattle.qp_words.specs.After.{logged, spot, ref, dropped, began, doubled, gave, filled, put_back}
+use Rattle.qp_words.specs.After.{spot, ref, dropped, began, doubled, gave, filled, put_back}
 use Rattle.qp_words.specs.declared.Glance.{Glance}
 use Rattle.qp_words.specs.declared.Spot.{Spot}
 use Rattle.qp_words.specs.declared.Give.{Give}
@@ -25,9 +25,9 @@ use Rattle.qp_words.proofs.Tokens.{fresh-alone}
 use Rattle.qp_words.proofs.Bounds.{Ascends, pool-ascends, pool-count, map-small, bits-off}
 use Rattle.qp_blocks.proofs.Steps.{pool-of, begins, doubles, drops, gives, puts_back, block-below, x-count, y-is}
 use Rattle.qp_blocks.proofs.Contents.{fills_in}
-use Rattle.qp_seats.specs.Seats.{may_act, may_add}
+use Rattle.qp_seats.specs.Seats.{as_view, may_act, may_add, glance, noting}
 use Rattle.qp_seats.specs.Blocks.{added, number_in, low_in, lowest, bit_of, size_of, fits, has_left, is_unfinished, may_give, Gives, with_give, asks_for, may_fill, Fills, is_ref_to, is_done, has_ready, may_make, with_ref, Makes, may_drop, without_ref, Drops, may_back, Backs}
-use Rattle.qp_seats.specs.Keeps.{seen_view, StepKeeps}
+use Rattle.qp_seats.specs.Keeps.{StepKeeps}
 use Rattle.qp_seats.specs.declared.seats.Seat.{Seat}
 use Rattle.qp_seats.proofs.ListLemmas.{any-many, none-many}
 use Rattle.qp_seats.proofs.Standing.{has-room}
@@ -136,11 +136,11 @@ some-name p b [] e = cc
 some-name p b (y ∷ ys) e = name-cons p b y ys (is_ref_to p b y) refl (some-name p b ys) e
 
 -- the seat with another reference, and with the first
-with-more : (x : Seat) (r : Rec) (p b k : ℕ) → list_any (is_ref_to p b) x.hands ≡ true → with_ref x r p b k ≡ record x { logs = logged r x.logs; hands = x.hands ++ ref p b k ∷ [] }
-with-more x r p b k here = rw here refl
+with-more : (x : Seat) (r : Rec) (g : Glance) (p b k : ℕ) → list_any (is_ref_to p b) x.hands ≡ true → with_ref x r g p b k ≡ record (noting r g x) { hands = x.hands ++ ref p b k ∷ [] }
+with-more x r g p b k here = rw here refl
 
-with-first : (x : Seat) (r : Rec) (p b k : ℕ) → list_any (is_ref_to p b) x.hands ≡ false → with_ref x r p b k ≡ record x { logs = logged r x.logs; fresh = without (is_spot p b) x.fresh; gives = without (gives_of p b) x.gives; hands = x.hands ++ ref p b k ∷ [] }
-with-first x r p b k here = rw here refl
+with-first : (x : Seat) (r : Rec) (g : Glance) (p b k : ℕ) → list_any (is_ref_to p b) x.hands ≡ false → with_ref x r g p b k ≡ record (noting r g x) { fresh = without (is_spot p b) x.fresh; gives = without (gives_of p b) x.gives; hands = x.hands ++ ref p b k ∷ [] }
+with-first x r g p b k here = rw here refl
 
 either-way : {T : Type 0} (t : Bool) → (t ≡ true → T) → (t ≡ false → T) → T
 either-way true f g = f refl
@@ -148,68 +148,60 @@ either-way false f g = g refl
 
 module _ (sys : System) (lanes : ℕ) (words : List ℕ) (x : Seat) (own : nat_lt x.number lanes ≡ true → 0 < length x.logs) (words' : List ℕ) (x' : Seat) where
   -- the step's own lemma gives the rule for equal words and an equal view
-  along : (s s' : List Glance) (views : List View) (id : ℕ) (ws : List ℕ) (u : View) → ws ≡ words' → u ≡ seen_view x' s' → Holds sys ws (set views id u) → Holds sys words' (set views id (seen_view x' s'))
-  along s s' views id ws u e f h = subst (λ (z : List ℕ × View). Holds sys z.0 (set views id z.1)) (λ i. (e i, f i)) h
+  along : (views : List View) (id : ℕ) (ws : List ℕ) (u : View) → ws ≡ words' → u ≡ as_view x' → Holds sys ws (set views id u) → Holds sys words' (set views id (as_view x'))
+  along views id ws u e f h = subst (λ (z : List ℕ × View). Holds sys z.0 (set views id z.1)) (λ i. (e i, f i)) h
 
   pub drop-keeps : (p b k : ℕ) → may_drop sys lanes x p b k ≡ true → Drops words x p b k words' x' → StepKeeps sys words x words' x'
-  drop-keeps p b k may made s views id holds at_id =
+  drop-keeps p b k may made views id holds at_id =
       let t = adds-two lanes x (is_block sys p b) (list_any (is_ref p b k) x.hands) may in
       let q : (is_block sys p b ≡ true) × (list_any (is_ref p b k) x.hands ≡ true) = (t.1, t.2) in
-      let room = has-room lanes x s own t.0 in
+      let room = has-room lanes x own t.0 in
       let w : ℕ = get_or words (block_at p b) 0 in
       let n : ℕ = get_or words (block_at p b) 0 + 4294967295 in
-      let m : n ≡ added w 4294967295 = sym (mod-eq_of_lt (let l = block-below sys words views holds id (seen_view x s) at_id room x.by p b q.0 in omega arith)) in
-      let u : View = dropped (seen_view x s) (block_at p b) n made.0 p b k in
-      let e : u ≡ seen_view (without_ref x n made.0 p b k) u.seen = (λ i. record u { used = if-list (eqb (n % 4294967296) 0) x.used (spot p b (n / 4294967296)) i }) in (
-        u.seen,
-        along s u.seen views id (set words (block_at p b) n) u (ap (set words (block_at p b)) m ∙ sym made.2) (e ∙ ((λ i. seen_view (without_ref x (m i) made.0 p b k) u.seen) ∙ (λ i. seen_view (sym made.3 i) u.seen)))
-            (drops sys words views holds id (seen_view x s) at_id room x.by p b q.0 k n made.0 made.1 (any-many (is_ref p b k) x.hands q.1) refl),
-      )
+      let m : n ≡ added w 4294967295 = sym (mod-eq_of_lt (let l = block-below sys words views holds id (as_view x) at_id room x.by p b q.0 in omega arith)) in
+      let u : View = dropped (as_view x) (block_at p b) n made.0 p b k in
+      let e : u ≡ as_view (without_ref x n made.0 p b k) = (λ i. record u { used = if-list (eqb (n % 4294967296) 0) x.used (spot p b (n / 4294967296)) i }) in
+        along views id (set words (block_at p b) n) u (ap (set words (block_at p b)) m ∙ sym made.2) (e ∙ ((λ i. as_view (without_ref x (m i) made.0 p b k)) ∙ (λ i. as_view (sym made.3 i))))
+            (drops sys words views holds id (as_view x) at_id room x.by p b q.0 k n made.0 made.1 (any-many (is_ref p b k) x.hands q.1) refl)
 
   pub back-keeps : (p b : ℕ) → may_back sys lanes x p b ≡ true → Backs words x p b words' x' → StepKeeps sys words x words' x'
-  back-keeps p b may made s views id holds at_id =
+  back-keeps p b may made views id holds at_id =
       let t = adds-two lanes x (is_block sys p b) (list_any (is_spot p b) x.used) may in
       let q : (is_block sys p b ≡ true) × (list_any (is_spot p b) x.used ≡ true) = (t.1, t.2) in
-      let room = has-room lanes x s own t.0 in let v : View = seen_view x s in
+      let room = has-room lanes x own t.0 in let v : View = as_view x in
       let w : ℕ = get_or words (pool_at p) 0 in
       let n : ℕ = get_or words (pool_at p) 0 + 4294967296 + 2 ^ b in
       let y = y-is sys words views holds id v at_id room x.by p b q.0 in let y0 = y.0 in let y1 = y.1 in let y2 = y.2 in
       let z = holds.fitting.pools p b q.0 in let z2 = z.2 in let up : 2 ^ b ≤ 2 ^ 31 = pow_mono {j = 31} (omega arith) in
       let bit = bit-is b z2 in let m : n ≡ added w (4294967296 + bit_of b) = (let a : w + (4294967296 + bit_of b) ≡ n = omega arith in sym (mod-eq_of_lt (omega arith) ∙ a)) in
       let c = x-count sys words views holds id v at_id room x.by p b q.0 in
-      let u : View = put_back v (pool_at p) n made.0 p b in (
-        u.seen,
-        along s u.seen views id (set words (pool_at p) n) u (ap (set words (pool_at p)) m ∙ sym made.2) (λ i. seen_view (sym made.3 i) u.seen)
-            (puts_back sys words views holds id v at_id room x.by p b q.0 n made.0 (made.1 ∙ back-to x.by p (number_in w) b (number_in (get_or words (block_at p b) 0)) (holds.now.refs p b).count c) (any-many (is_spot p b) x.used q.1) refl),
-      )
+      let u : View = put_back v (pool_at p) n made.0 p b in
+        along views id (set words (pool_at p) n) u (ap (set words (pool_at p)) m ∙ sym made.2) ((λ i. as_view (record (noting made.0 (glance (pool_at p) (m i)) x) { used = without (is_spot p b) x.used })) ∙ (λ i. as_view (sym made.3 i)))
+            (puts_back sys words views holds id v at_id room x.by p b q.0 n made.0 (made.1 ∙ back-to x.by p (number_in w) b (number_in (get_or words (block_at p b) 0)) (holds.now.refs p b).count c) (any-many (is_spot p b) x.used q.1) refl)
 
   pub make-keeps : (p b : ℕ) → may_make sys lanes x p b ≡ true → Makes words x p b words' x' → StepKeeps sys words x words' x'
-  make-keeps p b may made s views id holds at_id =
+  make-keeps p b may made views id holds at_id =
       let t = adds-two lanes x (is_block sys p b) (list_any (is_ref_to p b) x.hands || has_ready x p b) may in
-      let v : View = seen_view x s in let room = has-room lanes x s own t.0 in let w : ℕ = get_or words (block_at p b) 0 in
+      let v : View = as_view x in let room = has-room lanes x own t.0 in let w : ℕ = get_or words (block_at p b) 0 in
       let m : w + 4294967297 ≡ added w 4294967297 = sym (mod-eq_of_lt (let l = block-below sys words views holds id v at_id room x.by p b t.1 in omega arith)) in
       let ws : set words (block_at p b) (w + 4294967297) ≡ words' = ap (set words (block_at p b)) m ∙ sym made.2 in
-      let more : list_any (is_ref_to p b) x.hands ≡ true → (s' : List Glance) × Holds sys words' (set views id (seen_view x' s')) = (λ here.
-      let k = some-name p b x.hands here in let u : View = doubled v (block_at p b) (w + 4294967297) made.0 p b (number_in w) in (
-        u.seen,
-        along s u.seen views id (set words (block_at p b) (w + 4294967297)) u ws (λ i. seen_view (sym (made.3 ∙ with-more x made.0 p b (number_in w) here) i) u.seen)
-            (doubles sys words views holds id v at_id room x.by p b t.1 k.0 (w + 4294967297) made.0 made.1 k.1 refl),
-      )) in
-      let first : list_any (is_ref_to p b) x.hands ≡ false → (s' : List Glance) × Holds sys words' (set views id (seen_view x' s')) = (λ here.
+      let more : list_any (is_ref_to p b) x.hands ≡ true → Holds sys words' (set views id (as_view x')) = (λ here.
+      let k = some-name p b x.hands here in let u : View = doubled v (block_at p b) (w + 4294967297) made.0 p b (number_in w) in
+        along views id (set words (block_at p b) (w + 4294967297)) u ws ((λ i. as_view (record (noting made.0 (glance (block_at p b) (m i)) x) { hands = u.hands })) ∙ (λ i. as_view (sym (made.3 ∙ with-more x made.0 (glance (block_at p b) (added w 4294967297)) p b (number_in w) here) i)))
+            (doubles sys words views holds id v at_id room x.by p b t.1 k.0 (w + 4294967297) made.0 made.1 k.1 refl)) in
+      let first : list_any (is_ref_to p b) x.hands ≡ false → Holds sys words' (set views id (as_view x')) = (λ here.
       let ready : has_ready x p b ≡ true = (λ i. sym here i || has_ready x p b) ∙ t.2 in
       let r = and_parts (list_any (is_spot p b) x.fresh) (list_any (is_done x.fills p b) x.gives) ready in
-      let u : View = began v (block_at p b) (w + 4294967297) made.0 p b (number_in w) in (
-        u.seen,
-        along s u.seen views id (set words (block_at p b) (w + 4294967297)) u ws (λ i. seen_view (sym (made.3 ∙ with-first x made.0 p b (number_in w) here) i) u.seen)
-            (begins sys words views holds id v at_id room x.by p b t.1 (w + 4294967297) made.0 made.1 (any-many (is_spot p b) x.fresh r.0) (done-none x.fills p b x.gives r.1) refl),
-      )) in
+      let u : View = began v (block_at p b) (w + 4294967297) made.0 p b (number_in w) in
+        along views id (set words (block_at p b) (w + 4294967297)) u ws ((λ i. as_view (record (noting made.0 (glance (block_at p b) (m i)) x) { fresh = u.fresh; gives = u.gives; hands = u.hands })) ∙ (λ i. as_view (sym (made.3 ∙ with-first x made.0 (glance (block_at p b) (added w 4294967297)) p b (number_in w) here) i)))
+            (begins sys words views holds id v at_id room x.by p b t.1 (w + 4294967297) made.0 made.1 (any-many (is_spot p b) x.fresh r.0) (done-none x.fills p b x.gives r.1) refl)) in
       either-way (list_any (is_ref_to p b) x.hands) more first
 
   -- the give that asks for the word
-  asking : (s : List Glance) (views : List View) (id : ℕ) (holds : Holds sys words views) → get_elem? views id ≡ some (seen_view x s) → (p b j n : ℕ) (gs : List Give) → Each (Tells holds.now) gs → list_any (asks_for x.fills p b j n) gs ≡ true
+  asking : (views : List View) (id : ℕ) (holds : Holds sys words views) → get_elem? views id ≡ some (as_view x) → (p b j n : ℕ) (gs : List Give) → Each (Tells holds.now) gs → list_any (asks_for x.fills p b j n) gs ≡ true
       → (event : List ℕ) × (event ≡ holds.now.content p b) × (j < length event) × (n ≡ get_or event j 0) × (0 < many (gives_of p b) gs)
-  asking s views id holds at_id p b j n [] told e = cc
-  asking s views id holds at_id p b j n (g ∷ gs) told e = go (asks_for x.fills p b j n g) refl (asking s views id holds at_id p b j n gs told.1) e
+  asking views id holds at_id p b j n [] told e = cc
+  asking views id holds at_id p b j n (g ∷ gs) told e = go (asks_for x.fills p b j n g) refl (asking views id holds at_id p b j n gs told.1) e
     where
       go : (c : Bool) → asks_for x.fills p b j n g ≡ c
           → (list_any (asks_for x.fills p b j n) gs ≡ true → (event : List ℕ) × (event ≡ holds.now.content p b) × (j < length event) × (n ≡ get_or event j 0) × (0 < many (gives_of p b) gs)) → (c || list_any (asks_for x.fills p b j n) gs) ≡ true
@@ -230,28 +222,26 @@ module _ (sys : System) (lanes : ℕ) (words : List ℕ) (x : Seat) (own : nat_l
       go false here rest h = let r = rest h in let r4 = r.4 in (r.0, r.1, r.2, r.3, omega arith)
 
   pub fill-keeps : (p b j n : ℕ) → may_fill lanes x p b j n ≡ true → Fills words x p b j n words' x' → StepKeeps sys words x words' x'
-  fill-keeps p b j n may made s views id holds at_id =
-      let v : View = seen_view x s in let t = and_parts (may_act lanes x) (list_any (asks_for x.fills p b j n) x.gives) may in
+  fill-keeps p b j n may made views id holds at_id =
+      let v : View = as_view x in let t = and_parts (may_act lanes x) (list_any (asks_for x.fills p b j n) x.gives) may in
       let beside = holds.events.beside id v at_id in
-      let a = asking s views id holds at_id p b j n x.gives beside.told t.1 in
+      let a = asking views id holds at_id p b j n x.gives beside.told t.1 in
       let mine : 0 < many (is_spot p b) x.fresh = (let g = beside.gives p b in let a4 = a.4 in omega arith) in
       let alone = fresh-alone sys views holds.now id v at_id holds.tokens p b mine in
-      let u : View = filled v p b j n in (
-        s,
-        along s s views id (set words (event_at p b j) n) u (sym made.0) (λ i. seen_view (sym made.1 i) s) (fills_in sys words views holds id v at_id p b alone.0 a.0 a.1 mine j a.2 n a.3),
-      )
+      let u : View = filled v p b j n in
+        along views id (set words (event_at p b j) n) u (sym made.0) (λ i. as_view (sym made.1 i)) (fills_in sys words views holds id v at_id p b alone.0 a.0 a.1 mine j a.2 n a.3)
 
   pub give-keeps : (p sig : ℕ) (pars : List ℕ) → may_give sys lanes words x p sig pars ≡ true → Gives words x p sig pars words' x' → StepKeeps sys words x words' x'
   unfolding is_block
-  give-keeps p sig pars may made s views id holds at_id =
-      let v : View = seen_view x s in
+  give-keeps p sig pars may made views id holds at_id =
+      let v : View = as_view x in
       let w : ℕ = get_or words (pool_at p) 0 in
       let free_left : Bool = not (low_in w == 0) in
       let a = and_parts (((may_add lanes x && is_pool sys p) && fits sys p sig pars) && not (list_any (is_unfinished x.fills) x.gives)) free_left may in
       let c = and_parts ((may_add lanes x && is_pool sys p) && fits sys p sig pars) (not (list_any (is_unfinished x.fills) x.gives)) a.0 in
       let d = and_parts (may_add lanes x && is_pool sys p) (fits sys p sig pars) c.0 in
       let t = adds lanes x (is_pool sys p) d.0 in
-      let room = has-room lanes x s own t.0 in
+      let room = has-room lanes x own t.0 in
       let fitting = fits-parts d.1 in
       let small = holds.fitting.small p t.1 in let small0 = small.0 in let small1 = small.1 in
       let ascends = pool-ascends sys holds.lanes holds.now holds.leaves holds.logs.count holds.logs.room p t.1 in
@@ -268,11 +258,9 @@ module _ (sys : System) (lanes : ℕ) (words : List ℕ) (x : Seat) (own : nat_l
       let n : ℕ = added w 4294967296 - bit_of b in
       let m : added w 4294967296 ≡ w + 4294967296 = mod-eq_of_lt (omega arith) in
       let from = x-count sys words views holds id v at_id room x.by p b block in
-      let u : View = gave v (pool_at p) n made.0 p b (holds.now.refs p b).count (sig ∷ pars) in (
-        u.seen,
-        along s u.seen views id (set words (pool_at p) n) u (sym made.2) ((λ i. seen_view (with_give x made.0 p b (sym from i) (sig ∷ pars)) u.seen) ∙ (λ i. seen_view (sym made.3 i) u.seen))
-            (gives sys words views holds id v at_id room x.by p b block n sig pars made.0 (made.1 ∙ new-from x.by p (number_in w) b (number_in (get_or words (block_at p b) 0)) (holds.now.refs p b).count sig pars from) fitting (let l = holds.fitting.params sig in let fp = fitting.params in omega arith) first (omega arith)),
-      )
+      let u : View = gave v (pool_at p) n made.0 p b (holds.now.refs p b).count (sig ∷ pars) in
+        along views id (set words (pool_at p) n) u (sym made.2) ((λ i. as_view (with_give x made.0 (glance (pool_at p) n) p b (sym from i) (sig ∷ pars))) ∙ (λ i. as_view (sym made.3 i)))
+            (gives sys words views holds id v at_id room x.by p b block n sig pars made.0 (made.1 ∙ new-from x.by p (number_in w) b (number_in (get_or words (block_at p b) 0)) (holds.now.refs p b).count sig pars from) fitting (let l = holds.fitting.params sig in let fp = fitting.params in omega arith) first (omega arith))
     where
       not-zero : (n : ℕ) → not (n == 0) ≡ true → 0 < n
       not-zero zero e = cc

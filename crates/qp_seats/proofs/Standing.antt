@@ -3,15 +3,13 @@ use Rattle.std.proofs.Common.{◌≡◌, ℕ, ◌<◌, nat_lt, List, [], ◌∷�
 use Rattle.std.proofs.lemmas.Bool.Decides.{nat_tests}
 use Rattle.qp_words.specs.Counting.{total}
 use Rattle.qp_words.specs.After.{HasRoom}
-use Rattle.qp_words.specs.declared.Glance.{Glance}
 use Rattle.qp_words.specs.declared.Log.{Log}
-use Rattle.qp_seats.specs.Seats.{records_of}
-use Rattle.qp_seats.specs.Keeps.{seen_view}
+use Rattle.qp_seats.specs.Seats.{as_view, records_of}
 use Rattle.qp_seats.specs.declared.seats.Seat.{Seat}
 
-own-first : (x : Seat) (s : List Glance) (gs : List Log) → x.logs ≡ gs → 0 < length gs → total (λ (g : Log). length g.recs) x.logs < 1000001 → HasRoom (seen_view x s)
-own-first x s [] e pos few = absurd (omega arith)
-own-first x s (g ∷ gs) e pos few = record { own = g; others = gs; is = e; room = few }
+own-first : (x : Seat) (gs : List Log) → x.logs ≡ gs → 0 < length gs → total (λ (g : Log). length g.recs) x.logs < 1000001 → HasRoom (as_view x)
+own-first x [] e pos few = absurd (omega arith)
+own-first x (g ∷ gs) e pos few = record { own = g; others = gs; is = e; room = few }
 
-pub has-room : (lanes : ℕ) (x : Seat) (s : List Glance) → (nat_lt x.number lanes ≡ true → 0 < length x.logs) → (nat_lt x.number lanes ≡ true) × (nat_lt (records_of x) 1000001 ≡ true) → HasRoom (seen_view x s)
-has-room lanes x s own fits = let test : nat_lt (records_of x) 1000001 ≡ true = fits.1 in own-first x s x.logs refl (own fits.0) (grind (arith, nat_tests))
+pub has-room : (lanes : ℕ) (x : Seat) → (nat_lt x.number lanes ≡ true → 0 < length x.logs) → (nat_lt x.number lanes ≡ true) × (nat_lt (records_of x) 1000001 ≡ true) → HasRoom (as_view x)
+has-room lanes x own fits = let test : nat_lt (records_of x) 1000001 ≡ true = fits.1 in own-first x x.logs refl (own fits.0) (grind (arith, nat_tests))

@@ -10,10 +10,11 @@ use Rattle.qp_model.specs.Record.{item_of}
 use Rattle.qp_model.specs.WordLaw.{is_pool, is_block}
 use Rattle.qp_words.specs.Counting.{without}
 use Rattle.qp_words.specs.Rule.{pool_at, block_at, event_at, is_ref, is_spot, gives_of, fills_of, is_value, params_of}
-use Rattle.qp_words.specs.After.{logged, spot, ref, begun_give, fills_for}
+use Rattle.qp_words.specs.After.{spot, ref, begun_give, fills_for}
 use Rattle.qp_words.specs.declared.Give.{Give}
 use Rattle.qp_words.specs.declared.Fill.{Fill}
-use Rattle.qp_seats.specs.Seats.{may_act, may_add}
+use Rattle.qp_words.specs.declared.Glance.{Glance}
+use Rattle.qp_seats.specs.Seats.{may_act, may_add, glance, noting}
 use Rattle.qp_seats.specs.declared.seats.Seat.{Seat}
 
 -- an addition to a word
@@ -56,9 +57,8 @@ is_unfinished fills g = not g.read || has_left fills g
 abbrev pub may_give : System → ℕ → List ℕ → Seat → ℕ → ℕ → List ℕ → Bool
 may_give sys lanes words x p sig pars = may_add lanes x && is_pool sys p && fits sys p sig pars && not (list_any (is_unfinished x.fills) x.gives) && not (low_in (slice_index words (pool_at p)) == 0)
 
-abbrev pub with_give : Seat → Rec → ℕ → ℕ → ℕ → List ℕ → Seat
-with_give x r p b from event = record x {
-  logs = logged r x.logs;
+abbrev pub with_give : Seat → Rec → Glance → ℕ → ℕ → ℕ → List ℕ → Seat
+with_give x r g p b from event = record (noting r g x) {
   fresh = x.fresh ++ spot p b from ∷ [];
   gives = x.gives ++ begun_give p b event ∷ [];
   fills = x.fills ++ fills_for p b 0 event;
@@ -69,7 +69,7 @@ Gives words x p sig pars words' x' =
     let w = slice_index words (pool_at p) in
     let b = lowest 32 (low_in w) in
     let from = number_in (slice_index words (block_at p b)) in
-    (r : Rec) × (item_of r ≡ record { of = x.by; body = New p (number_in w) b from sig pars }) × (words' ≡ slice_set words (pool_at p) (added w 4294967296 - bit_of b)) × (x' ≡ with_give x r p b from (sig ∷ pars))
+    (r : Rec) × (item_of r ≡ record { of = x.by; body = New p (number_in w) b from sig pars }) × (words' ≡ slice_set words (pool_at p) (added w 4294967296 - bit_of b)) × (x' ≡ with_give x r (glance (pool_at p) (added w 4294967296 - bit_of b)) p b from (sig ∷ pars))
 
 -- Fill
 
@@ -100,13 +100,13 @@ may_make sys lanes x p b = may_add lanes x && is_block sys p b && (list_any (is_
 abbrev pub ended : Bool → ℕ → ℕ → Seat → Seat
 ended more p b y = if more then y else record y { fresh = without (is_spot p b) y.fresh; gives = without (gives_of p b) y.gives }
 
-abbrev pub with_ref : Seat → Rec → ℕ → ℕ → ℕ → Seat
-with_ref x r p b k = ended (list_any (is_ref_to p b) x.hands) p b (record x { logs = logged r x.logs; hands = x.hands ++ ref p b k ∷ [] })
+abbrev pub with_ref : Seat → Rec → Glance → ℕ → ℕ → ℕ → Seat
+with_ref x r g p b k = ended (list_any (is_ref_to p b) x.hands) p b (record (noting r g x) { hands = x.hands ++ ref p b k ∷ [] })
 
 abbrev pub Makes : List ℕ → Seat → ℕ → ℕ → List ℕ → Seat → Type 0
 Makes words x p b words' x' =
     let w = slice_index words (block_at p b) in
-    (r : Rec) × (item_of r ≡ record { of = x.by; body = Inc p b (number_in w) }) × (words' ≡ slice_set words (block_at p b) (added w 4294967297)) × (x' ≡ with_ref x r p b (number_in w))
+    (r : Rec) × (item_of r ≡ record { of = x.by; body = Inc p b (number_in w) }) × (words' ≡ slice_set words (block_at p b) (added w 4294967297)) × (x' ≡ with_ref x r (glance (block_at p b) (added w 4294967297)) p b (number_in w))
 
 -- Drop
 
@@ -115,8 +115,7 @@ may_drop sys lanes x p b k = may_add lanes x && is_block sys p b && list_any (is
 
 -- the seat after it: where the word counts no reference any more, the block is used
 abbrev pub without_ref : Seat → ℕ → Rec → ℕ → ℕ → ℕ → Seat
-without_ref x n r p b k = record x {
-  logs = logged r x.logs;
+without_ref x n r p b k = record (noting r (glance (block_at p b) n) x) {
   hands = without (is_ref p b k) x.hands;
   used = x.used ++ (if low_in n == 0 then spot p b (number_in n) ∷ [] else []);
 }
@@ -135,4 +134,4 @@ abbrev pub Backs : List ℕ → Seat → ℕ → ℕ → List ℕ → Seat → T
 Backs words x p b words' x' =
     let w = slice_index words (pool_at p) in
     (r : Rec) × (item_of r ≡ record { of = x.by; body = Back p (number_in w) b (number_in (slice_index words (block_at p b))) })
-    × (words' ≡ slice_set words (pool_at p) (added w (4294967296 + bit_of b))) × (x' ≡ record x { logs = logged r x.logs; used = without (is_spot p b) x.used })
+    × (words' ≡ slice_set words (pool_at p) (added w (4294967296 + bit_of b))) × (x' ≡ record (noting r (glance (pool_at p) (added w (4294967296 + bit_of b))) x) { used = without (is_spot p b) x.used })

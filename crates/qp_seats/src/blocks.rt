@@ -2,18 +2,19 @@
 
 ghost use Rattle.std.specs.Prelude.{◌≡◌, ◌+◌, ◌≤◌, ◌==◌, ◌++◌, [], ◌∷◌, if◌then◌else◌, Ok, IfOk, OnOk, OnErr, length};
 ghost use Rattle.std.specs.Option.{option_to_list};
-ghost use Rattle.qp_words.specs.After.{logged, fills_for, spot};
+ghost use Rattle.qp_words.specs.After.{fills_for, spot};
+ghost use Rattle.qp_seats.specs.Seats.{noting};
 ghost use Rattle.qp_seats.specs.Words.{Steps};
 ghost use Rattle.qp_seats.specs.Blocks.{low_in, number_in, may_give, with_give, Gives, may_drop, without_ref, Drops, may_back, Backs, may_fill, Fills, ended, may_make, Makes};
 
 use crate::asked::{bit_of, fits, has_block, has_pool, lowest};
 use crate::items::{Items, grown, take_out};
 use crate::seats::{Seat, SeatGive, drop_give, drop_hand, drop_spot, fill_place};
-use crate::words::{Words, block_at, event_at, pool_at};
+use crate::words::{Words, block_at, event_at, glance_at, pool_at};
 use arrayvec::ArrayVec;
 use qp_base::{Ev, Memory};
 use qp_model::{Entry, Rec, System};
-use qp_words::{Fill, Spot};
+use qp_words::{Fill, Glance, Spot};
 use std::alloc::Global;
 
 /// What one operation adds to the number of a pool's or a block's word.
@@ -63,7 +64,7 @@ fn filled(
     Ok(all)
 }
 
-/// The seat begins a give, with its record. Where memory is refused it is as it was.
+/// The seat begins a give, with its record and what the pool's word showed. Where memory is refused it is as it was.
 fn begin(
     alloc: Global,
     seat: &mut Seat,
@@ -72,8 +73,9 @@ fn begin(
     from: u64,
     ev: &Ev,
     rec: Rec,
+    glance: Glance,
 ) -> Result<(), Memory>
-    ensures ok { OnOk result (seat.new ≡ with_give seat.old rec p b from (ev.now.sig ∷ ev.now.pars.items)) }
+    ensures ok { OnOk result (seat.new ≡ with_give seat.old rec glance p b from (ev.now.sig ∷ ev.now.pars.items)) }
     ensures err { OnErr result (seat.new ≡ seat.old) }
 {
     let spot = Spot {
@@ -89,7 +91,7 @@ fn begin(
     };
     let fresh = grown(alloc, &seat.fresh, Some(spot))?;
     let fills = filled(alloc, &seat.fills, p, b, given.event.as_slice())?;
-    seat.note_give(given, rec)?;
+    seat.note_give(given, rec, glance)?;
     seat.fresh = fresh;
     seat.fills = fills;
     Ok(())
@@ -129,8 +131,9 @@ pub fn give(
     let b = lowest(32, found % ONE);
     let from = words.get(block_at(p, b)) / ONE;
     let rec = Rec::new(seat.by, p, (found / ONE) as u32, b, from, ev);
-    begin(alloc, seat, p, b, from, ev, rec)?;
-    words.set(word, found.wrapping_add(ONE).saturating_sub(bit_of(b)));
+    let left = found.wrapping_add(ONE).saturating_sub(bit_of(b));
+    begin(alloc, seat, p, b, from, ev, rec, glance_at(word, left))?;
+    words.set(word, left);
     Ok(true)
 }
 
@@ -168,13 +171,14 @@ fn end_give(seat: &mut Seat, more: bool, p: u8, b: u8)
     drop_give(&mut seat.gives, p, b);
 }
 
-/// The seat has another reference in hand, with its record. Where memory is refused it is as it was.
-fn hold(alloc: Global, seat: &mut Seat, made: Entry, rec: Rec) -> Result<(), Memory>
-    ensures ok { OnOk result (seat.new ≡ record seat.old { logs = logged rec seat.old.logs; hands = seat.old.hands ++ made ∷ [] }) }
+/// The seat has another reference in hand, with its record and what the block's word showed. Where memory is refused it is as
+/// it was.
+fn hold(alloc: Global, seat: &mut Seat, made: Entry, rec: Rec, glance: Glance) -> Result<(), Memory>
+    ensures ok { OnOk result (seat.new ≡ record (noting rec glance seat.old) { hands = seat.old.hands ++ made ∷ [] }) }
     ensures err { OnErr result (seat.new ≡ seat.old) }
 {
     let hands = grown(alloc, &seat.hands, Some(made))?;
-    seat.note(rec)?;
+    seat.note(rec, glance)?;
     seat.hands = hands;
     Ok(())
 }
@@ -205,9 +209,10 @@ pub fn make(
         name: found / ONE,
     };
     let rec = Rec::inc(seat.by, p, b, found / ONE);
-    hold(alloc, seat, made, rec)?;
+    let held = found.wrapping_add(ONE + 1);
+    hold(alloc, seat, made, rec, glance_at(word, held))?;
     end_give(seat, more, p, b);
-    words.set(word, found.wrapping_add(ONE + 1));
+    words.set(word, held);
     Ok(true)
 }
 
@@ -247,7 +252,7 @@ fn let_go(
     ensures err { OnErr result (seat.new ≡ seat.old) }
 {
     let used = grown(alloc, &seat.used, freed(p, b, left))?;
-    seat.note(rec)?;
+    seat.note(rec, glance_at(block_at(p, b), left))?;
     seat.used = used;
     drop_hand(&mut seat.hands, p, b, name);
     Ok(())
@@ -306,8 +311,10 @@ pub fn put_back(
     let word = pool_at(p);
     let found = words.get(word);
     let to = words.get(block_at(p, b)) / ONE;
-    seat.note(Rec::back(seat.by, p, (found / ONE) as u32, b, to))?;
+    let more = found.wrapping_add(ONE + bit_of(b));
+    let rec = Rec::back(seat.by, p, (found / ONE) as u32, b, to);
+    seat.note(rec, glance_at(word, more))?;
     drop_spot(&mut seat.used, p, b);
-    words.set(word, found.wrapping_add(ONE + bit_of(b)));
+    words.set(word, more);
     Ok(true)
 }

@@ -7,11 +7,12 @@ ghost use Rattle.qp_words.specs.Counting.{total, without};
 ghost use Rattle.qp_words.specs.Rule.{is_ref, is_spot, gives_of, is_value};
 ghost use Rattle.qp_words.specs.declared.Log.{Log};
 
+use crate::glances::Glances;
 use crate::items::{Items, take_out};
 use arrayvec::ArrayVec;
 use qp_base::Memory;
 use qp_model::{Entry, Lane, Rec};
-use qp_words::{CellPlace, Fill, Serve, Spot};
+use qp_words::{CellPlace, Fill, Glance, Serve, Spot};
 use std::marker::Model;
 
 /// The records of one lane.
@@ -46,7 +47,7 @@ impl Model for SeatGive {
     ghost view = { λ g. record { pool = g.pool; block = g.block; event = g.event.items; read = g.read } };
 }
 
-/// A seat: its number, whether it stands, the object for which it adds records, and all that it holds.
+/// A seat: its number, whether it stands, the object for which it adds records, all that it holds, and what words showed it.
 #[derive(Drop)]
 pub struct Seat {
     pub number: u32,
@@ -61,6 +62,7 @@ pub struct Seat {
     pub claims: Items<CellPlace>,
     pub takes: Items<CellPlace>,
     pub serves: Items<Serve>,
+    pub seen: Glances,
 }
 
 /// A copy of the give, with this answer to whether the beginning of the life was read.
@@ -203,7 +205,7 @@ fn is_unfinished(fills: &Items<Fill>, give: &SeatGive) -> bool
 }
 
 impl Seat {
-    ghost use Rattle.qp_seats.specs.Seats.{may_act, may_add, noting};
+    ghost use Rattle.qp_seats.specs.Seats.{may_act, may_add, noting, seeing};
     ghost use Rattle.qp_seats.specs.Blocks.{is_ref_to, has_ready, is_done, asks_for};
 
     /// Whether the seat is one of the lanes' own, and has room for a record.
@@ -213,24 +215,32 @@ impl Seat {
         self.number < lanes && is_below(self.logs.items.as_slice(), 1000001)
     }
 
-    /// Adds a record to the seat's own log.
-    pub fn note(&mut self, rec: Rec) -> Result<(), Memory>
-        ensures ok { OnOk result (self.new ≡ noting rec self.old) }
+    /// Adds what a word showed.
+    pub fn see(&mut self, glance: Glance)
+        ensures { self.new ≡ seeing glance self.old }
+    {
+        self.seen = Glances::with(&self.seen, &glance);
+    }
+
+    /// Adds a record to the seat's own log, and what the word showed.
+    pub fn note(&mut self, rec: Rec, glance: Glance) -> Result<(), Memory>
+        ensures ok { OnOk result (self.new ≡ noting rec glance self.old) }
         ensures err { OnErr result (self.new ≡ self.old) }
     {
         if let Some(log) = self.logs.items.first_mut() {
             log.recs.items.push(rec).map_err(|_| Memory)?;
         }
+        self.see(glance);
         Ok(())
     }
 
-    /// Adds a give, and its record.
-    pub fn note_give(&mut self, give: SeatGive, rec: Rec) -> Result<(), Memory>
-        ensures ok { OnOk result (self.new ≡ record (noting rec self.old) { gives = self.old.gives ++ give ∷ [] }) }
+    /// Adds a give, its record, and what the word showed.
+    pub fn note_give(&mut self, give: SeatGive, rec: Rec, glance: Glance) -> Result<(), Memory>
+        ensures ok { OnOk result (self.new ≡ record (noting rec glance self.old) { gives = self.old.gives ++ give ∷ [] }) }
         ensures err { OnErr result (self.new ≡ self.old) }
     {
         self.gives.items.push(give).map_err(|_| Memory)?;
-        let noted = self.note(rec);
+        let noted = self.note(rec, glance);
         if noted.is_err() {
             let _ = self.gives.items.pop();
         }

@@ -2,7 +2,9 @@
 
 ghost use Rattle.std.specs.Prelude.{◌≡◌, slice_index, slice_set};
 ghost use Rattle.qp_words.specs.Rule.{pool_at, block_at, queue_at, cell_at, event_at};
+ghost use Rattle.qp_seats.specs.Seats.{glance};
 
+use qp_words::Glance;
 use std::marker::Model;
 
 /// How many words the table has.
@@ -73,4 +75,14 @@ pub fn event_at(p: u8, b: u8, j: u8) -> usize
     ensures { result ≡ event_at p b j }
 {
     12936 + 16 * (32 * p as usize + b as usize) + j as usize
+}
+
+/// What the word at this place showed.
+pub fn glance_at(word: usize, value: u64) -> Glance
+    ensures { result ≡ glance word value }
+{
+    Glance {
+        word: word as u64,
+        value,
+    }
 }

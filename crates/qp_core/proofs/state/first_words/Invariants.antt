@@ -1,5 +1,5 @@
 use Rattle.std.proofs.Common.{◌≡◌, ℕ, ◌<◌, length, get_or}
-use Rattle.qp_core.specs.First.{first_word}
+use Rattle.qp_table.specs.First.{first_word}
 use Rattle.qp_core.proofs.state.first_words.Given as goal
 
 abbrev pub invariant-loop-at : goal.invariant-loop-at

@@ -1,5 +1,5 @@
 use Rattle.std.proofs.Common.{◌≡◌, List, [], ◌∷◌, ◌++◌, sym, ap, subst, refl, ◌∙◌}
-use Rattle.qp_core.specs.First.{first_serves}
+use Rattle.qp_table.specs.First.{first_serves}
 use Rattle.qp_core.specs.Runs.{first_seat}
 use Rattle.qp_core.specs.Standing.{TableHolds}
 use Rattle.qp_seats.specs.declared.seats.Seat.{Seat}
