@@ -1,0 +1,4 @@
+pub mod Words
+pub mod Lane
+pub mod Telling
+pub mod Laws
