@@ -42,13 +42,13 @@ class WordPlaces:
                     self._touched[touch.word].append(spot)
                     if touch.draws:
                         self._drawn[touch.word].append(spot)
-        self._tests: dict[int, Callable[[Word], Failure | None]] = {
-            9: self.numbers, 10: self.operations, 11: self.operations, 12: self.lives, 13: self.operations, 14: self.shown,
-            16: self.operations, 18: self.operations,
+        self._tests: dict[str, Callable[[Word], Failure | None]] = {
+            "D9": self.numbers, "D10": self.operations, "D11": self.operations, "D12": self.lives, "D13": self.operations,
+            "D14": self.shown, "D16": self.operations, "D18": self.operations,
         }
 
-    def failure(self, definition: int, word: Word) -> Failure | None:
-        """The first record at which a word fails a definition, by its number."""
+    def failure(self, definition: str, word: Word) -> Failure | None:
+        """The first record at which a word fails a definition, as `D12`."""
         test = self._tests.get(definition)
         return test(word) if test else None
 
