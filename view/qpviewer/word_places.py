@@ -105,7 +105,7 @@ class WordPlaces:
             if touch.number > len(history):
                 why = f"it shows {touch.number} operations of {len(history)}"
             if why:
-                found.append((touch.number, Failure(spot, why, history, law.held())))
+                found.append((touch.number, Failure(spot, why, _with(history, touch.number, spot), law.held())))
         return min(found, key=lambda one: one[0])[1] if found else None
 
     def _falling(self, word: Word) -> Failure | None:
@@ -114,7 +114,8 @@ class WordPlaces:
             mark = touch.number + touch.draws
             if mark < marks[spot.lane]:
                 why = f"its lane knew of {marks[spot.lane]} operations before, and of {mark} here"
-                return Failure(spot, why, self.history(word))
+                history = self.history(word)
+                return Failure(spot, why, history if touch.draws else _with(history, touch.number, spot))
             marks[spot.lane] = mark
         return None
 
@@ -155,6 +156,11 @@ class WordPlaces:
                 why = "it leaves no reference, and the block doesn't come back here"
                 return Failure(operations[max(0, number - 1)], why, _merged(edges, operations))
         return None
+
+
+def _with(history: list[Spot], number: int, spot: Spot) -> list[Spot]:
+    """A history with a record that shows the word behind so many operations."""
+    return [*history[:number], spot, *history[number:]]
 
 
 def _standing(operations: list[Spot]) -> list[list[int]]:
