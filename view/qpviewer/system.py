@@ -4,6 +4,7 @@ Actions and guards are kept as texts. `qp check` says of a faulty file which fau
 """
 
 import tomllib
+from typing import Any
 
 from .faults import Fault
 from .system_parts import Chart, Object, Pool, Row, Signal, State, System, TimeEvent, Timer
@@ -12,20 +13,35 @@ from .toml_table import Table
 #: The number of the first signal of a file; those below it are reserved.
 FIRST_SIGNAL = 4
 DEEPEST = 6
+#: The keys that each table may have.
+KEYS = {
+    "top": {"qp", "pool", "signal", "chart", "object"},
+    "pool": {"size", "blocks"},
+    "signal": {"name", "params", "static"},
+    "chart": {"name", "init", "init_do", "vars", "timer", "state"},
+    "timer": {"name", "signal", "rate"},
+    "state": {"name", "parent", "entry", "exit", "init", "init_do", "row"},
+    "row": {"on", "when", "do", "to"},
+    "object": {"name", "chart", "priority", "threshold", "queue", "defer", "vars"},
+}
 
 
-def read_system(data: bytes) -> System:
-    """The system of a file's bytes, which may begin with a byte order mark. Raises `Fault` with a path of keys where the
-    file is faulty."""
+def read_tree(data: bytes) -> dict[str, Any]:
+    """The TOML of a file's bytes, which may begin with a byte order mark. Raises `Fault` where it is none."""
     try:
-        tree = tomllib.loads(data.decode("utf-8-sig"))
+        return tomllib.loads(data.decode("utf-8-sig"))
     except (tomllib.TOMLDecodeError, UnicodeDecodeError) as error:
         raise Fault("", f"isn't TOML: {error}") from None
     except RecursionError:
         raise Fault("", "isn't TOML that this reader takes: it nests too deep") from None
-    top = Table(tree, "", {"qp", "pool", "signal", "chart", "object"})
+
+
+def read_system(data: bytes) -> System:
+    """The system of a file's bytes. Raises `Fault` with a path of keys where the file is faulty."""
+    tree = read_tree(data)
+    top = Table(tree, "", KEYS["top"])
     top.integer("qp", 1, 1)
-    pools = [_pool(table) for table in top.tables("pool", {"size", "blocks"}, 0, 15)]
+    pools = [_pool(table) for table in top.tables("pool", KEYS["pool"], 0, 15)]
     signals = _signals(top)
     charts = _charts(top, signals)
     objects = _objects(top, charts)
@@ -44,7 +60,7 @@ def _pool(table: Table) -> Pool:
 
 def _signals(top: Table) -> dict[str, Signal]:
     signals: dict[str, Signal] = {}
-    for table in top.tables("signal", {"name", "params", "static"}, 0, 200):
+    for table in top.tables("signal", KEYS["signal"], 0, 200):
         name = table.new_name("name", signals)
         params = table.integer("params", 0, 8, 0)
         signals[name] = Signal(name, FIRST_SIGNAL + len(signals), params, table.boolean("static"))
@@ -53,8 +69,7 @@ def _signals(top: Table) -> dict[str, Signal]:
 
 def _charts(top: Table, signals: dict[str, Signal]) -> dict[str, Chart]:
     charts: dict[str, Chart] = {}
-    keys = {"name", "init", "init_do", "vars", "timer", "state"}
-    for table in top.tables("chart", keys, 1, 32):
+    for table in top.tables("chart", KEYS["chart"], 1, 32):
         name = table.new_name("name", charts)
         charts[name] = _chart(name, table, signals)
     return charts
@@ -62,11 +77,10 @@ def _charts(top: Table, signals: dict[str, Signal]) -> dict[str, Chart]:
 
 def _chart(name: str, table: Table, signals: dict[str, Signal]) -> Chart:
     timers: dict[str, Timer] = {}
-    for timer in table.tables("timer", {"name", "signal", "rate"}, 0, 8):
+    for timer in table.tables("timer", KEYS["timer"], 0, 8):
         key = timer.new_name("name", timers)
         timers[key] = Timer(key, signals[timer.known("signal", signals)], timer.integer("rate", 0, 3))
-    keys = {"name", "parent", "entry", "exit", "init", "init_do", "row"}
-    tables = table.tables("state", keys, 1, 64)
+    tables = table.tables("state", KEYS["state"], 1, 64)
     states: dict[str, State] = {}
     for number, entry in enumerate(tables, 1):
         states[entry.new_name("name", states)] = State(number, entry.name("name"))
@@ -85,7 +99,7 @@ def _fill_state(state: State, table: Table, states: dict[str, State], signals: d
     state.entry, state.exit = table.texts("entry"), table.texts("exit")
     state.init = table.known_or_none("init", states)
     state.init_do = table.texts("init_do")
-    for row in table.tables("row", {"on", "when", "do", "to"}, 0, 32):
+    for row in table.tables("row", KEYS["row"], 0, 32):
         signal = signals[row.known("on", signals)]
         state.rows.append(Row(signal, row.text_or_none("when"), row.texts("do"), row.known_or_none("to", states)))
 
@@ -114,8 +128,7 @@ def _ancestors(state: State) -> list[State]:
 def _objects(top: Table, charts: dict[str, Chart]) -> list[Object]:
     objects: dict[str, Object] = {}
     taken: set[int] = set()
-    keys = {"name", "chart", "priority", "threshold", "queue", "defer", "vars"}
-    for table in top.tables("object", keys, 1, 32):
+    for table in top.tables("object", KEYS["object"], 1, 32):
         name = table.new_name("name", objects)
         chart = charts[table.known("chart", charts)]
         priority = table.integer("priority", 1, 32)

@@ -6,8 +6,8 @@ from typing import Any
 
 from .faults import Fault
 
-_NAME = re.compile(r"[A-Za-z_][A-Za-z0-9_]{0,23}", re.ASCII)
-_RESERVED = {"me", "ok", "margin", "reserve", "say", "post", "lifo", "forward", "publish", "defer", "recall", "flush",
+NAME = re.compile(r"[A-Za-z_][A-Za-z0-9_]{0,23}", re.ASCII)
+RESERVED = {"me", "ok", "margin", "reserve", "say", "post", "lifo", "forward", "publish", "defer", "recall", "flush",
              "subscribe", "unsubscribe", "arm", "rearm", "disarm", "locked", *(f"p{k}" for k in range(1, 9))}
 _NEEDED = object()
 
@@ -71,7 +71,7 @@ class Table:
 
     def name(self, key: str) -> str:
         name = self._value(key, _NEEDED, str, "a name")
-        if not _NAME.fullmatch(name) or name in _RESERVED:
+        if not NAME.fullmatch(name) or name in RESERVED:
             raise self.fault(key, f"{name!r} isn't a name")
         return name
 

@@ -1,0 +1,132 @@
+"""Explains what the program said of a call: the lines below its own line."""
+
+import subprocess
+import sys
+from pathlib import Path
+
+from qpviewer.faults import Fault
+from qpviewer.files import Run, Unread, read_file, read_run
+from qpviewer.journal import read_journal
+from qpviewer.stimuli import read_stimuli
+from qpviewer.system import read_system
+from qpviewer.system_parts import System
+
+from ..program import UNANSWERED, call, is_built
+from .call import Call, read_call
+from .hints import hints
+from .line_faults import explain_frames, explain_journal, explain_stimuli
+from .refusal import Refusal, read_refusal
+from .runs import explain_stop, explain_verdict
+from .system_faults import explain_system
+from .words import explain_words
+
+USAGE = """usage: qp explain COMMAND [OPTION ..] FILE ..
+
+Calls the program with these words, prints its line of standard error, and below it what that line means and where it
+stands in your files. What the call itself prints is dropped. Ends with the status of the call."""
+
+#: A run is made once more for its journal only where it takes no longer than this.
+SECONDS = 30.0
+INDENT = "    "
+
+
+def explanation(words: list[str], note: str, output: bytes | None = None) -> list[str]:
+    """The lines that explain a note; `output` is the journal as text that a run printed, where it is at hand."""
+    refusal = read_refusal(note)
+    if refusal is None:
+        return []
+    made = read_call(words)
+    try:
+        return [line for line in _explain(refusal, made, words, output) if line]
+    except (Fault, Unread, OSError):
+        return []
+
+
+def _explain(refusal: Refusal, made: Call, words: list[str], output: bytes | None) -> list[str]:
+    match refusal.kind:
+        case "fault":
+            return _file_fault(refusal, made)
+        case "absent":
+            return [_absent(refusal.file)]
+        case "too long":
+            return [f"a file has at most 67108864 bytes, this one {refusal.place}"]
+        case "bad words":
+            return [explain_words(words)]
+        case "assertion" | "spent":
+            journal = output if output is not None else _journal(made)
+            return explain_stop(_run(made.files[:2], journal)) if journal else []
+        case "broken":
+            return explain_verdict(refusal.place, read_run(*made.files[:3]))
+        case "memory":
+            return ["memory was refused: give the machine more, or the run fewer stimuli or a lower --budget"]
+        case "read fault":
+            return ["a file could not be read: is it a folder, or may you read it?"]
+        case "write fault":
+            return ["the output could not be written: is the disk full, or was the pipe closed?"]
+    return []
+
+
+def _file_fault(refusal: Refusal, made: Call) -> list[str]:
+    kind = made.kind_of(refusal.file)
+    if refusal.code == 8 and made.command == "migrate":
+        return ["the journal has what form 1 doesn't have: kernel qv, or a `rest`"]
+    data = Path(refusal.file).read_bytes()
+    if kind == "SYSTEM":
+        return explain_system(data, refusal.code, "" if refusal.place == "-" else refusal.place)
+    if kind == "STIMULI":
+        return explain_stimuli(data, refusal.code, int(refusal.place), _system(made.files[0]))
+    if kind == "JOURNAL":
+        return explain_journal(data, refusal.code, int(refusal.place))
+    return explain_frames(data, refusal.code, int(refusal.place))
+
+
+def _system(name: str) -> System | None:
+    try:
+        return read_file(name, read_system)
+    except Unread:
+        return None
+
+
+def _absent(name: str) -> str:
+    path = Path(name)
+    folder = path.parent if path.parent.is_dir() else Path(".")
+    near = [other.name for other in sorted(folder.iterdir()) if other.name.lower() == path.name.lower()][:1]
+    return f"there is no file {name} in {Path.cwd()}" + (f"; did you mean {near[0]}?" if near else "")
+
+
+def _run(files: list[str], journal: bytes) -> Run:
+    system = read_file(files[0], read_system)
+    return Run(system, read_file(files[1], lambda data: read_stimuli(data, system)), read_journal(journal))
+
+
+def _journal(made: Call) -> bytes | None:
+    """The journal of a run that is made once more; none where that takes too long, or where a file can be read only once."""
+    if any(not Path(name).is_file() for name in made.files):
+        return None
+    try:
+        return call(made.to_journal(), SECONDS).output
+    except subprocess.TimeoutExpired:
+        return None
+
+
+def main(words: list[str]) -> int:
+    """Explains a call; with `--note FILE` in front, one that has been made and whose line is in that file."""
+    if words[:1] == ["--note"] and len(words) > 1:
+        lines = explanation(words[2:], Path(words[1]).read_text(errors="replace"))
+        print("".join(f"{INDENT}{line}\n" for line in lines), end="", file=sys.stderr)
+        return 0
+    if not words or words[0] in ("-h", "--help"):
+        print(USAGE)
+        return 0
+    if not is_built():
+        print("qp: not built, and an explanation needs the program: `qp build`", file=sys.stderr)
+        return UNANSWERED
+    answer = call(words, stdin=sys.stdin.fileno())
+    print(answer.note, end="")
+    made = read_call(words)
+    is_journal = made.command == "run" and made.options.get("--out", "journal") == "journal"
+    told = explanation(words, answer.note, answer.output if is_journal and answer.status in (3, 4) else None)
+    if not answer.status:
+        told = ["status 0: nothing is refused", *(hints(system) if made.files and (system := _system(made.files[0])) else [])]
+    print("".join(f"{INDENT}{line}\n" for line in told), end="")
+    return answer.status

@@ -1,0 +1,89 @@
+"""What someone who writes C may have meant by a text that isn't an action, an expression, or a line of stimuli."""
+
+import re
+from collections.abc import Callable
+from typing import NamedTuple
+
+
+class Habit(NamedTuple):
+    """What is looked for, and what to write in its place."""
+
+    pattern: re.Pattern[str]
+    advice: Callable[[re.Match[str]], str]
+
+
+def _of(pattern: str, advice: Callable[[re.Match[str]], str] | str) -> Habit:
+    return Habit(re.compile(pattern), advice if callable(advice) else lambda _: advice)
+
+
+#: Habits in the texts of actions and guards; the first that fits is told.
+_IN_TEXTS = (
+    _of(r"^\s|\s$", "a text has no space at its ends"),
+    _of(r"[\t\n\r]", "only spaces part tokens; this text has a tab or a line end"),
+    _of(r"([A-Za-z_]\w*)\s*(\+\+|--)|(\+\+|--)\s*([A-Za-z_]\w*)",
+        lambda m: f"there is no `{m[2] or m[3]}`: write `{m[1] or m[4]} = {m[1] or m[4]} {(m[2] or m[3])[0]} 1`"),
+    _of(r"([A-Za-z_]\w*)\s*(<<|>>|[+\-*/%&|^])=\s*(.+)", lambda m: (
+        f"there is no `{m[2]}=`: write `{m[1]} = {m[1]} {m[2]} {m[3]}`" if m[2] in "+-*/%" else f"there is no `{m[2]}=`")),
+    _of(r"\b0[xX]([0-9a-fA-F]+)\b", lambda m: f"numbers are decimal: write {int(m[1], 16)} for {m[0]}"),
+    _of(r"\b0[bB]([01]+)\b", lambda m: f"numbers are decimal: write {int(m[1], 2)} for {m[0]}"),
+    _of(r"\b0[0-9]+\b", lambda m: f"a number has no leading zero: write {int(m[0])} for {m[0]}"),
+    _of(r"\b[0-9]+[uUlL]+\b", lambda m: f"a number has no suffix: write {m[0].rstrip('uUlL')}"),
+    _of(r"\b[0-9]+\.[0-9]", "numbers are whole: count in a smaller unit, as tenths"),
+    _of(r"\?", "there is no `?:`: use two rows with guards, or count with a comparison, which is 1 or 0, as `late + (ok == 0)`"),
+    _of(r"\b(and|or|not)\b", lambda m: f"write `{ {'and': '&&', 'or': '||', 'not': '!'}[m[1]] }` for `{m[1]}`"),
+    _of(r"<<|>>", "there are no shifts: multiply or divide by a power of two"),
+    _of(r"(?<!&)&(?!&)|(?<!\|)\|(?!\|)|\^|~", "there are no bit operators: keep each flag in a variable of its own, or use `/` and `%`"),
+    _of(r"//|/\*", "a text has no comment: put it behind the text, with `#`"),
+    _of(r";\s*\]", "no `;` stands before `]`: it stands between actions"),
+    _of(r";", "a text is one action: write each as a text of its own, as [\"a = 1\", \"b = 2\"]"),
+    _of(r"(?:[A-Za-z_]\w*\s*(?:->|\.)\s*)+([A-Za-z_]\w*)",
+        "an event's parameters have no names: they are p1 to p8, in order, and variables stand by their name alone"),
+    _of(r"^(publish|lifo|post \w+) (\w+) ([0-9][0-9, ]*)$",
+        lambda m: f"parameters stand in parentheses: write `{m[1]} {m[2]}({', '.join(re.findall('[0-9]+', m[3]))})`"),
+    _of(r"^(post|publish|lifo|defer|recall|say|arm|disarm|rearm)\s*\(", lambda m: f"`{m[1]}` isn't a function: it stands without parentheses"),
+    _of(r"^(defer|recall|flush) \w+", lambda m: f"`{m[1]}` stands alone: it means the event of the step, or the object's own list"),
+    _of(r"\b(?:true|false)\b", "write 1 for true and 0 for false"),
+    _of(r"^if\b", "a condition is the `when` of a row"),
+    _of(r"[\"']", "there are no texts and no characters, only numbers"),
+)
+#: Habits in guards alone.
+_IN_GUARDS = (
+    _of(r"^else$", "there is no `else`: leave `when` out, since a last row without a guard takes what is left"),
+    _of(r"^[^=!<>]*[^=!<>]=[^=].*$", "`=` assigns, `==` compares"),
+)
+
+#: Habits in lines of stimuli.
+_IN_STIMULI = (
+    _of("\ufeff|\xef\xbb\xbf", "the file begins with a byte order mark: save it as UTF-8 without one"),
+    _of(r"\r$", "the line ends as Windows ends lines, with \\r\\n: save the file with \\n alone"),
+    _of(r"#|//|/\*", "a comment stands on a line of its own, and begins with `#`"),
+    _of(r"\t", "a tab: single spaces part tokens"),
+    _of(r"^ | $", "no space stands at either end of a line"),
+    _of(r"  ", "two spaces: single spaces part tokens"),
+    _of(r"\([^)]* [^)]*\)", "no space stands within parentheses: write (1,2)"),
+    _of(r"\w \(", "no space stands before a parenthesis: write GO(1)"),
+    _of(r"-[0-9]", lambda m: f"numbers have no sign here: write {m[0]} as its 64 bits, {2**64 - int(m[0][1:])}"),
+    _of(r"0[xX]([0-9a-fA-F]+)", lambda m: f"numbers are decimal: write {int(m[1], 16)}"),
+    _of(r"\b0[0-9]+\b", "a number has no leading zero"),
+    _of(r"\(\)", "an event without parameters has no parentheses"),
+    _of(r";$", "no `;` ends a line"),
+    _of(r"^tick$", "a tick names its rate, 0 to 3: write `tick 0`"),
+    _of(r"^post (\w+)$", lambda m: f"a post names its object first: `post OBJECT {m[1]}`; without one, `publish {m[1]}`"),
+    _of(r"^publish (\w+) (\w+)$", lambda m: f"`publish` names no object: `post {m[1]} {m[2]}`"),
+    _of(r"^(Post|POST|Publish|PUBLISH|Tick|TICK|Settle|SETTLE|Source|SOURCE)\b", lambda m: f"write `{m[1].lower()}`"),
+)
+
+
+def habit_in_text(text: str, is_guard: bool) -> str:
+    """What to write in the place of the text of an action or a guard; nothing where no habit is known."""
+    return _advice(text, _IN_TEXTS + (_IN_GUARDS if is_guard else ()))
+
+
+def habit_in_stimuli(line: str) -> str:
+    """What to write in the place of a line of stimuli; nothing where no habit is known."""
+    return _advice(line, _IN_STIMULI)
+
+
+def _advice(text: str, habits: tuple[Habit, ...]) -> str:
+    found = ((habit, habit.pattern.search(text)) for habit in habits)
+    return next((habit.advice(match) for habit, match in found if match), "")

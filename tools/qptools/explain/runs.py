@@ -1,0 +1,67 @@
+"""What ended a run, and what breaks a journal, in words: with the record, its line, and the names of the system."""
+
+from qpviewer.files import Run
+from qpviewer.journal import Record
+from qpviewer.story import Story
+from qpviewer.suspects import suspect_of
+from qpviewer.verdict import read_verdict, verdict_words
+
+_ADVICE = {
+    1: "make its `queue` longer, or give the post a margin, as `margin 0`, which answers 0 there",
+    2: "give the pool more `blocks`, or the event a reserve, as `reserve 0`, which answers 0 there",
+    3: "disarm it first, or use `rearm`",
+    4: "`arm T(n, i)` takes n from 1 to 65535 and i from 0 to 65535",
+    5: "make its `queue` longer: a last-in post has no margin",
+}
+
+
+def _record_line(story: Story, index: int) -> str:
+    who, words = story.in_words(index)
+    record = story.records()[index][1]
+    return f"line {story.line_of(index)} of the journal, `{record.text}`: {who} {words}"
+
+
+def explain_stop(run: Run) -> list[str]:
+    """The lines that explain why a run was stopped."""
+    story = Story(*run)
+    stop = story.stop()
+    if stop is None:
+        return []
+    record = story.records()[stop][1]
+    return [_record_line(story, stop), *_context(story, stop), _advice(run, record)]
+
+
+def _context(story: Story, stop: int) -> list[str]:
+    """The step or the stimulus in which a run was stopped."""
+    for step in reversed(story.steps.steps):
+        if step.first <= stop <= step.last and step.object == story.records()[stop][1].numbers[0]:
+            event = "its start" if step.label < 0 else story.words.labels[step.label]
+            row = f", state {story.names.state(step.object, step.state)}, row {step.handler}" if step.state else ""
+            return [f"in {story.names.object(step.object)}'s step of {event}{row}" if step.label >= 0 else f"in the start of {story.names.object(step.object)}"]
+    for stimulus in reversed(story.steps.stimuli):
+        if stimulus.first <= stop <= stimulus.last:
+            return [_record_line(story, stimulus.first).partition(": ")[2]]
+    return []
+
+
+def _advice(run: Run, record: Record) -> str:
+    if record.word == "assert":
+        return _ADVICE[record.numbers[1]]
+    if record.word == "spent":
+        return f"it took {run.journal.budget} events and has more: an object that always posts to itself never rests, and else raise --budget"
+    return "no lane has room for more records: give the run fewer stimuli, or a lower --budget"
+
+
+def explain_verdict(text: str, run: Run) -> list[str]:
+    """The lines that explain a verdict."""
+    verdict = read_verdict(text)
+    if verdict is None:
+        return []
+    story = Story(*run)
+    told = [verdict_words(verdict, story.names)]
+    index = suspect_of(verdict, run.system, run.stimuli, run.journal, story.order)
+    if index is not None:
+        told.append(f"look first at {_record_line(story, index)}")
+    if foreign := story.foreign():
+        told.append(f"line {story.line_of(foreign.index)} names {foreign.what}, which the system doesn't have: is it the journal of another system?")
+    return told

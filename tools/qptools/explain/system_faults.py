@@ -1,0 +1,278 @@
+"""A fault of a system's file in words: its code, its place, and what stands there."""
+
+import re
+from typing import Any
+
+from qpviewer.faults import Fault
+from qpviewer.system import KEYS, read_tree
+from qpviewer.toml_table import NAME, RESERVED
+
+from .habits import habit_in_text
+from .names import declared, like, names_of, parameters_in, tables, used_in
+from .place import Place, follow
+
+#: What a value must be, by its key.
+_KINDS = {
+    "qp": "the whole number 1", "name": "a text in quotes", "params": "a whole number", "static": "true or false", "vars": "a table of names with whole numbers",
+    "entry": 'a list of texts, as ["recall"]', "exit": 'a list of texts, as ["recall"]', "do": 'a list of texts, as ["say 1"]',
+    "init_do": 'a list of texts, as ["arm T(1, 0)"]', "to": "the name of one state in quotes", "on": "the name of a signal in quotes",
+    "when": "an expression in quotes", "init": "the name of a state in quotes", "parent": "the name of a state in quotes",
+    "chart": "the name of a chart in quotes", "signal": "the name of a signal in quotes",
+}
+_LISTS = {"pool", "timer", "state", "row", "object"}
+#: The range of a number, by its table and key.
+_RANGES = {
+    ("top", "qp"): "must be 1", ("pool", "size"): "must be 0 to 8, larger from pool to pool", ("pool", "blocks"): "must be 1 to 32",
+    ("signal", "params"): "must be 0 to 8", ("timer", "rate"): "must be 0 to 3", ("object", "priority"): "must be 1 to 32",
+    ("object", "threshold"): "must be 1 to 32, and not below the priority", ("object", "queue"): "must be 0 to 255",
+    ("object", "defer"): "must be 0 to 255",
+}
+_LENGTHS = {
+    "pool": "0 to 15 pools", "signal": "0 to 200 signals", "chart": "1 to 32 charts", "object": "1 to 32 objects", "timer": "0 to 8 timers",
+    "state": "1 to 64 states", "row": "0 to 32 rows", "vars": "0 to 16 variables", "do": "0 to 16 actions", "entry": "0 to 16 actions",
+    "exit": "0 to 16 actions", "init_do": "0 to 16 actions",
+}
+
+
+def explain_system(data: bytes, code: int, path: str) -> list[str]:
+    """The lines that explain a fault of a system's file."""
+    try:
+        tree = read_tree(data)
+    except Fault as fault:
+        return _not_toml(data, str(fault))
+    if code == 1:
+        return ["isn't TOML, though Python's reader takes it"]
+    place = follow(tree, path)
+    said = _SAYS[code](tree, place) if code in _SAYS else [f"code {code}"]
+    return [f"{place.words}: {said[0]}", *_shown(place, data), *said[1:]]
+
+
+def _not_toml(data: bytes, fault: str) -> list[str]:
+    """TOML's own words, with the line that it means and what may be wrong there."""
+    told = [fault]
+    if found := re.search(r"at line ([0-9]+), column ([0-9]+)", fault):
+        lines = data.decode(errors="replace").splitlines()
+        at = int(found[1])
+        if at <= len(lines):
+            told.append(f"| {lines[at - 1]}")
+            told.append(_toml_habit(lines[at - 1], lines[at - 2] if at > 1 else ""))
+    return [line for line in told if line]
+
+
+def _toml_habit(line: str, before: str) -> str:
+    if line.lstrip().startswith(("//", "/*")) or "//" in line:
+        return "a comment begins with `#`"
+    if line.count('"') % 2:
+        return "a text ends with the quote that it began with"
+    if before.count("[") > before.count("]") or before.count("{") > before.count("}"):
+        return "a bracket of the line above isn't closed"
+    if line.rstrip().endswith(";"):
+        return "no `;` ends a line"
+    if re.search(r"=\s*[A-Za-z_]\w*\s*$", line) and not re.search(r"=\s*(true|false)\s*$", line):
+        return "names stand in quotes"
+    return ""
+
+
+def _shown(place: Place, data: bytes) -> list[str]:
+    """What stands at the place, with its line where it has one of its own."""
+    value = place.value
+    if isinstance(value, dict):
+        return [f"| keys: {', '.join(value)}"]
+    if value is None or isinstance(value, list) and value and isinstance(value[0], dict):
+        return []
+    text = f'"{value}"' if isinstance(value, str) else str(value).lower() if isinstance(value, bool) else str(value)
+    if isinstance(value, list):
+        text = f"[{', '.join(repr(member) for member in value)}]".replace("'", '"')
+    lines = data.decode("utf-8-sig", errors="replace").splitlines()
+    found = [number for number, line in enumerate(lines, 1) if text in line] if isinstance(value, str) else []
+    return [f"| {text} in line {found[0]}" if len(found) == 1 else f"| {text}"]
+
+
+def _wrong_kind(tree: dict[str, Any], place: Place) -> list[str]:
+    if place.key == "to" and isinstance(place.value, list):
+        return ["a row has one target, not a list", "for a choice write a row for each target, with guards, and one without a guard last"]
+    if place.key in ("entry", "exit", "do", "init_do") and isinstance(place.value, str):
+        return ["actions are a list of texts, not one text", f'write {place.key} = ["{place.value}"]']
+    if odd := _floats(place.value, place.key):
+        return [f"{odd[0]} isn't a whole number", "count in a smaller unit, as tenths"]
+    if place.key in _LISTS and not isinstance(place.value, str):
+        return [f"must be tables, each begun by [[{place.key}]]"]
+    return [f"must be {_KINDS.get(place.key, 'a whole number')}"]
+
+
+def _floats(value: Any, key: str) -> list[str]:
+    """The numbers of a value, or of a table, that aren't whole, each behind its key."""
+    members = value if isinstance(value, dict) else {key: value}
+    return [f"{name} = {member}" for name, member in members.items() if isinstance(member, float)]
+
+
+def _missing(tree: dict[str, Any], place: Place) -> list[str]:
+    if place.key == "init" and place.inner == "state":
+        return ["is missing: `init_do` is what the state's initial transition does, so it needs `init`"]
+    return ["is missing, and has no default"]
+
+
+def _unknown_key(tree: dict[str, Any], place: Place) -> list[str]:
+    known = KEYS.get(place.inner, set())
+    odd = [key for key in place.tables[-1][1] if key not in known]
+    told = [f"{_listed(odd)} {'is no key' if len(odd) == 1 else 'are no keys'} of this table"]
+    for key in odd:
+        owners = sorted(kind for kind, keys in KEYS.items() if key in keys)
+        if near := like(key, sorted(known)):
+            told.append(f"did you mean `{near}`?")
+        elif owners:
+            told.append(
+                f"`{key}` belongs to {' or '.join(owners)}: a key stands in the table whose header is above it, "
+                f"so write it before the first header within"
+            )
+        else:
+            told.append(f"a {place.inner} has the keys {', '.join(sorted(known))}" if known else "")
+    return [line for line in told if line]
+
+
+def _listed(names: list[str]) -> str:
+    return ", ".join(f"`{name}`" for name in names)
+
+
+def _out_of_range(tree: dict[str, Any], place: Place) -> list[str]:
+    value, key, inner = place.value, place.key, place.inner
+    if key == "static":
+        return ["a static signal has no parameters, since its event lies in no pool", "leave `static` or `params` out"]
+    if inner == "timer" and key == "signal":
+        return ["the signal of a timer must be static", "write `static = true` in that signal's table"]
+    if isinstance(value, str):
+        return _bad_name(value, key) if key not in ("do", "entry", "exit", "init_do", "when") else _text_range(value)
+    if isinstance(value, dict):
+        wrong = [name for name in value if not NAME.fullmatch(name) or name in RESERVED]
+        return _bad_name(wrong[0], "name") if wrong else ["a value is out of range: 64 bits, signed"]
+    return [_RANGES.get((inner, key), "is out of range")] + (["use priorities 1 to 32, the highest is the most urgent"] if key == "priority" else [])
+
+
+def _text_range(text: str) -> list[str]:
+    if len(text.encode()) > 200:
+        return [f"a text has at most 200 bytes, this one {len(text.encode())}"]
+    if "reserve" in text:
+        return ["`reserve` is 0 to 255, and only for signals that aren't static"]
+    return ["a number is out of range: `margin` and `reserve` 0 to 255, the ceiling of `locked` 1 to 32"]
+
+
+def _bad_name(name: str, key: str) -> list[str]:
+    if key == "init" and name.startswith(("H", "h")) and not NAME.fullmatch(name):
+        return ["isn't a name", "there is no history: keep the last state in a variable, and choose by guards"]
+    if name in RESERVED:
+        return [f"{name!r} is a word of actions and can't be a name"]
+    if len(name) > 24:
+        return [f"a name has at most 24 letters, this one {len(name)}"]
+    return ["isn't a name: a letter or `_`, then letters, digits and `_`"]
+
+
+def _double(tree: dict[str, Any], place: Place) -> list[str]:
+    if place.key == "priority":
+        return ["another object has this priority", "each object has a priority of its own"]
+    return ["this name stands twice among the things of its kind"]
+
+
+def _undeclared(tree: dict[str, Any], place: Place) -> list[str]:
+    chart = place.table("chart")
+    if place.key in ("do", "entry", "exit", "init_do", "when") and isinstance(place.value, str):
+        if place.value == "else":
+            return ["else isn't declared", habit_in_text(place.value, True)]
+        for used in used_in(place.value):
+            known = declared(tree, chart, used.kind)
+            if used.name not in known:
+                return [f"{used.name} isn't declared", *_meant(used.name, used.kind, known, tree, chart)]
+        return ["a name isn't declared"]
+    kind = {"on": "signal", "signal": "signal", "chart": "chart", "vars": "variable"}.get(place.key, "state")
+    if kind == "variable":
+        known = declared(tree, _chart_of(tree, place.table("object")), kind)
+        odd = [name for name in place.value if name not in known] if isinstance(place.value, dict) else []
+        return [f"{_listed(odd)} isn't a variable of the object's chart"]
+    known = names_of(tree if kind in ("signal", "chart") else chart, kind)
+    return [f"{place.value} isn't declared", *_meant(str(place.value), kind, known, tree, chart)]
+
+
+def _chart_of(tree: dict[str, Any], owner: dict[str, Any]) -> dict[str, Any]:
+    return next((chart for chart in tables(tree, "chart") if chart.get("name") == owner.get("chart")), {})
+
+
+def _meant(name: str, kind: str, known: list[str], tree: dict[str, Any], chart: dict[str, Any]) -> list[str]:
+    if near := like(name, known):
+        return [f"did you mean {near}? Names keep their case"]
+    for other in ("signal", "object", "timer", "variable"):
+        if other != kind and name in declared(tree, chart, other):
+            return [f"{name} is a {other}; here a {kind} must stand"]
+    article = "an" if kind == "object" else "a"
+    return [f"it must be {article} {kind}" + (f": {', '.join(known[:8])}{' ..' if len(known) > 8 else ''}" if known else ", and there is none")]
+
+
+def _no_text(tree: dict[str, Any], place: Place) -> list[str]:
+    text = str(place.value)
+    what = "an expression" if place.key == "when" else "an action"
+    return [f"isn't {what}", habit_in_text(text, place.key == "when") or "docs/FORMATS.md, section 2, has the grammar"]
+
+
+def _parameters(tree: dict[str, Any], place: Place) -> list[str]:
+    text = str(place.value)
+    signals = {str(signal.get("name")): signal.get("params", 0) for signal in tables(tree, "signal")}
+    for used in used_in(text):
+        if used.kind == "signal" and used.name in signals:
+            found = re.search(rf"\b{re.escape(used.name)}\b\s*(\(.*\))?", text)
+            given = _arguments(found[1]) if found and found[1] else 0
+            if given != signals[used.name]:
+                return [f"{used.name} has {_count(signals[used.name])}, and {given} stand{'s' if given == 1 else ''} here",
+                        f"write {used.name}({', '.join(['0'] * int(signals[used.name]))})" if signals[used.name] else f"write {used.name} alone"]
+    row = place.table("row")
+    if not row:
+        return ["p1 to p8, `forward` and `defer` stand for the event of a step, so only a row has them"]
+    most = signals.get(str(row.get("on")), 0)
+    beyond = [f"p{number}" for number in parameters_in(text) if number > int(most)]
+    if beyond:
+        return [f"{beyond[0]} isn't there: {row.get('on')} has {_count(most)}"]
+    return ["an event has another number of parameters than its signal"]
+
+
+def _count(number: Any) -> str:
+    return "1 parameter" if number == 1 else f"{number or 'no'} parameters"
+
+
+def _arguments(text: str) -> int:
+    """How many arguments stand in a text that begins with a parenthesis."""
+    depth = count = 0
+    for letter in text:
+        if letter == "(":
+            depth += 1
+            count = max(count, 1)
+        elif letter == ")":
+            depth -= 1
+            if not depth:
+                break
+        elif letter == "," and depth == 1:
+            count += 1
+    return count
+
+
+def _length(tree: dict[str, Any], place: Place) -> list[str]:
+    if place.key == "object" and not place.value:
+        return ["a system has 1 to 32 objects"]
+    if place.key in _LENGTHS:
+        return [f"may have {_LENGTHS[place.key]}"]
+    return ["there are more than 64 time events in all"]
+
+
+def _no_pool(tree: dict[str, Any], place: Place) -> list[str]:
+    params = place.table("signal").get("params", 0)
+    sizes = [pool.get("size") for pool in tables(tree, "pool")]
+    have = f"the pools have the sizes {', '.join(map(str, sizes))}" if sizes else "there is no pool"
+    return [f"its events need a pool of blocks with room for {_count(params)}, and {have}",
+            f"add [[pool]] with size = {params} and blocks = 4, or write `static = true` where it has no parameters"]
+
+
+_SAYS = {
+    2: _wrong_kind, 3: _missing, 4: _unknown_key, 5: _out_of_range, 6: _double, 7: _undeclared, 8: _no_text, 9: _parameters,
+    10: lambda tree, place: ["the state lies within itself: going up by `parent` comes back to it"],
+    11: lambda tree, place: ["the state lies more than six deep", "a path from the top has at most 6 states"],
+    12: lambda tree, place: [f"{place.value} isn't within this state", "`init` names a state whose `parent` is this one, or one further in"],
+    13: lambda tree, place: ["an earlier row of this state takes this signal without a guard, so this one is never asked",
+                             "put rows with guards first, and the one without last"],
+    14: _length, 15: _no_pool,
+}

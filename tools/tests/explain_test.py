@@ -1,0 +1,252 @@
+"""Refusals in words: the slips, each kind of line, and the words of a call."""
+
+import contextlib
+import os
+import re
+import subprocess
+import tempfile
+import unittest
+from pathlib import Path
+
+from qptools.changes import change_all
+from qptools.explain.command import explanation
+from qptools.explain.hints import hints
+from qptools.explain.refusal import Refusal, read_refusal
+from qptools.explain.words import explain_words
+from qptools.program import TOP, is_built
+from qpviewer.system import read_system
+
+CLOCK = TOP / "examples" / "clock"
+LAMP = TOP / "examples" / "lamp.toml"
+JUDGED = TOP / "crates" / "qp_verdicts" / "data"
+#: Journals by their names in the slips: those that the slips change stand in the program's own tests, or are run.
+NOTHING = "-"
+
+
+def slips() -> list[dict[str, list[str]]]:
+    """The blocks of the slips: each key with its lines."""
+    found = []
+    for block in (TOP / "tools" / "slips.txt").read_text().split("\n\n"):
+        lines = [line.split(": ", 1) for line in block.splitlines() if not line.startswith("#")]
+        keys: dict[str, list[str]] = {}
+        for key, value in lines:
+            keys.setdefault(key, []).append(value)
+        found += [keys] if keys else []
+    return found
+
+
+@contextlib.contextmanager
+def folder_with(files: dict[str, str]):
+    """A folder with these files, in which the test stands meanwhile."""
+    before = Path.cwd()
+    with tempfile.TemporaryDirectory() as folder:
+        for name, text in files.items():
+            Path(folder, name).write_text(text, newline="")
+        os.chdir(folder)
+        try:
+            yield Path(folder)
+        finally:
+            os.chdir(before)
+
+
+def clock_files() -> dict[str, str]:
+    files = {name: (CLOCK / name).read_text() for name in ("clock.toml", "clock.txt")}
+    return files | {"clock-run.txt": "qp 1 0 100000\nlane 0\nend 0\n"}
+
+
+class Slips(unittest.TestCase):
+    """What is said of each slip."""
+
+    def test_each_has_its_explanation(self):
+        self.assertGreaterEqual(len(slips()), 40)
+        for slip in slips():
+            with self.subTest(slip["slip"][0]):
+                says = slip["says"][0]
+                if says == NOTHING or "assertion" in says:
+                    continue
+                files, words = clock_files(), slip["words"][0].split()
+                change_all(files, words, slip["change"][0])
+                with folder_with(files):
+                    self.assertEqual(explanation(words, f"{says}\n"), slip["means"])
+
+    def test_what_is_taken_without_a_word(self):
+        files = clock_files()
+        change_all(files, [], "no `defer = 1`")
+        told = hints(read_system(files["clock.toml"].encode()))
+        self.assertEqual(len(told), 1)
+        self.assertIn("state ringing, row 1 (on SET_ALARM), action 1 has `defer`, and object clock has no `defer = N`", told[0])
+        self.assertEqual(hints(read_system((CLOCK / "clock.toml").read_bytes())), [])
+
+    def test_each_has_a_row_in_trouble(self):
+        page = (TOP / "docs" / "TROUBLE.md").read_text().replace("\\|", "|")
+        for slip in slips():
+            with self.subTest(slip["slip"][0]):
+                says = slip["says"][0]
+                says = "nothing" if says == NOTHING else f"`{says}`"
+                self.assertIn(f"| {slip['change'][0]} | {says} |", page)
+
+    @unittest.skipUnless(is_built(), "the program isn't built")
+    def test_each_is_what_the_program_says(self):
+        for slip in slips():
+            with self.subTest(slip["slip"][0]):
+                files, words = clock_files(), slip["words"][0].split()
+                if "clock-run.txt" in words:
+                    run = subprocess.run([TOP / "qp", "run", CLOCK / "clock.toml", CLOCK / "clock.txt"], capture_output=True, text=True)
+                    files["clock-run.txt"] = run.stdout
+                change_all(files, words, slip["change"][0])
+                with folder_with(files):
+                    ran = subprocess.run([TOP / "qp", "explain", *words], capture_output=True, text=True)
+                    plain = subprocess.run([TOP / "qp", *words], capture_output=True, text=True)
+                    lines = ran.stdout.splitlines()
+                    said = [] if slip["says"] == [NOTHING] else slip["says"]
+                    self.assertEqual(lines, said + [f"    {line}" for line in slip["means"]])
+                    self.assertEqual((ran.returncode, "".join(f"{line}\n" for line in said)), (plain.returncode, plain.stderr))
+
+
+class Lines(unittest.TestCase):
+    """The program's lines, read."""
+
+    def test_kinds(self):
+        table = {
+            "qp: a b.toml: 7 chart.1.init": Refusal("fault", "a b.toml", 7, "chart.1.init"),
+            "qp: a.toml: 4 ": Refusal("fault", "a.toml", 4, ""),
+            "qp: a.toml: 1 -": Refusal("fault", "a.toml", 1, "-"),
+            "qp: lost.toml: absent": Refusal("absent", "lost.toml"),
+            "qp: big.txt: too long 67108865": Refusal("too long", "big.txt", 0, "67108865"),
+            "qp: assertion 2 in lane 0": Refusal("assertion", "", 2, "0"),
+            "qp: spent in lane 3": Refusal("spent", "", 0, "3"),
+            "qp: broken D12 block 1 1": Refusal("broken", "", 0, "broken D12 block 1 1"),
+            "qp: bad words": Refusal("bad words"), "qp: memory": Refusal("memory"),
+        }
+        for line, refusal in table.items():
+            with self.subTest(line):
+                self.assertEqual(read_refusal(f"something before\n{line}\n"), refusal)
+        self.assertIsNone(read_refusal("qp: not built\n"))
+
+    def test_words(self):
+        table = {
+            (): "no command: `qp help` has them",
+            ("rnu", "a", "b"): "no command is called 'rnu'; did you mean `run`?",
+            ("run", "a"): "STIMULI is missing: qp run SYSTEM STIMULI",
+            ("run",): "SYSTEM and STIMULI are missing: qp run SYSTEM STIMULI",
+            ("check", "a", "b", "c", "d"): "'d' is a word too many: qp check SYSTEM STIMULI JOURNAL",
+            ("run", "--trace", "a", "b"): "`run` has no option '--trace'",
+            ("run", "--kernal", "qv", "a", "b"): "`run` has no option '--kernal'; did you mean `--kernel`?",
+            ("run", "--kernel", "qk", "a", "b"): "the kernel qk can't be run yet; journals of it can be judged",
+            ("run", "--kernel", "rtos", "a", "b"): "--kernel is sim or qv, not 'rtos'",
+            ("run", "--kernel", "qv", "--form=1", "a", "b"): "a journal of qv has form 2 alone",
+            ("run", "--budget", "0", "a", "b"): "--budget is a number, 1 to 1000000, not '0'",
+            ("run", "a", "b", "--budget"): "--budget has no value",
+            ("run", "--form", "2", "--form", "2", "a", "b"): "--form stands twice",
+            ("gen", "1001"): "N is a number, 1 to 1000, not '1001'",
+        }
+        for words, said in table.items():
+            with self.subTest(words):
+                self.assertEqual(explain_words(list(words)), said)
+
+    def test_an_absent_file(self):
+        with folder_with({"Lamp.toml": ""}) as folder:
+            told = explanation(["run", "lamp.toml", "go.txt"], "qp: lamp.toml: absent\n")
+            self.assertEqual(told, [f"there is no file lamp.toml in {folder.resolve()}; did you mean Lamp.toml?"])
+
+    def test_faults_of_systems(self):
+        """Each code on a change of the lamp, with words that its explanation has."""
+        table = (
+            ('no `queue = 1`', "3 object.1.queue", "object lamp, queue: is missing, and has no default"),
+            ('`ring = 1` for `queue = 1`', "4 object.1", "`ring` is no key of this table"),
+            ('`colour = 1` behind `qp = 1`', "4 ", "the top of the file: `colour` is no key of this table"),
+            ('`queue = 256` for `queue = 1`', "5 object.1.queue", "object lamp, queue: must be 0 to 255"),
+            ('`name = "off"` for `name = "on"`', "6 chart.1.state.2.name", "this name stands twice"),
+            ('`parent = "on"` behind `name = "on"`', "10 chart.1.state.2.parent", "state on, parent: the state lies within itself"),
+            ('`init = "on"` behind `name = "on"`', "12 chart.1.state.2.init", "on isn't within this state"),
+            ('`[[chart.state.row]]`, `on = "GO"` behind `to = "on"`', "13 chart.1.state.1.row.2", "row 2 (on GO): an earlier row"),
+            ('no `static = true`', "15 signal.1", "signal GO: its events need a pool"),
+            ('`do = ["post you GO"]` for `to = "on"`', "7 chart.1.state.1.row.1.do.1", "action 1: you isn't declared"),
+            ('`do = ["post lamp go"]` for `to = "on"`', "7 chart.1.state.1.row.1.do.1", "go isn't declared"),
+        )
+        for changed, says, words in table:
+            with self.subTest(changed):
+                files = {"lamp.toml": LAMP.read_text()}
+                change_all(files, [], changed)
+                with folder_with(files):
+                    self.assertIn(words, " ".join(explanation(["run", "lamp.toml", "go.txt"], f"qp: lamp.toml: {says}\n")))
+
+    def test_a_journal_as_text_isnt_frames(self):
+        with folder_with({"run.txt": "qp 1 0 100000\nlane 0\nend 0\n"}):
+            self.assertIn("this is a journal as text", " ".join(explanation(["decode", "run.txt"], "qp: run.txt: 4 0\n")))
+
+    def test_verdicts(self):
+        """A broken journal is told with the record and its line."""
+        files = {name: path.read_text() for name, path in (
+            ("lamp.toml", JUDGED / "systems" / "lamp.toml"), ("go.txt", JUDGED / "stimuli" / "go.txt"),
+            ("run.txt", JUDGED / "journals" / "switched.txt"))}
+        files["run.txt"] = re.sub("look 0 2 0", "look 0 2 1", files["run.txt"])
+        with folder_with(files):
+            told = explanation(["check", "lamp.toml", "go.txt", "run.txt"], "qp: broken D19 lane 0\n")
+        line = files["run.txt"].splitlines().index("look 0 2 1") + 1
+        self.assertEqual(told[1], f"look first at line {line} of the journal, `look 0 2 1`: kernel begins look 2, with floor 1")
+
+    def test_stops(self):
+        """A run that was stopped is told by its journal, where that is at hand."""
+        names = (("systems", "crowded.toml"), ("stimuli", "go.txt"), ("journals", "crowded-out.txt"))
+        files = {name: (JUDGED / folder / name).read_text() for folder, name in names}
+        with folder_with(files):
+            told = explanation(["run", "crowded.toml", "go.txt"], "qp: assertion 1 in lane 0\n", files["crowded-out.txt"].encode())
+        self.assertEqual(told[0], "line 12 of the journal, `assert 1 1 1 2 0 1`: lamp asserts: the queue of lamp is full")
+        self.assertIn("in lamp's step of GO", told[1])
+
+
+@unittest.skipUnless(is_built(), "the program isn't built")
+class Launcher(unittest.TestCase):
+    """What the launcher says, beside what the program says."""
+
+    def call(self, *words: str) -> tuple[int, str, str]:
+        ran = subprocess.run([TOP / "qp", *words], capture_output=True, text=True, cwd=TOP / "examples")
+        return ran.returncode, ran.stdout, ran.stderr
+
+    def test_bad_words_are_named_below_the_line(self):
+        self.assertEqual(self.call("run", "lamp.toml"), (1, "", "qp: bad words\n    STIMULI is missing: qp run SYSTEM STIMULI\n"))
+        self.assertEqual(self.call("run", "--kernel=qv", "--form", "1", "lamp.toml", "go.txt")[2].splitlines()[1:],
+                         ["    a journal of qv has form 2 alone"])
+
+    def test_nothing_stands_below_other_lines_in_a_pipe(self):
+        self.assertEqual(self.call("run", "lost.toml", "go.txt"), (2, "", "qp: lost.toml: absent\n"))
+
+    def test_right_words_are_the_programs(self):
+        for words in (("run", "lamp.toml", "go.txt"), ("run", "--out", "summary", "lamp.toml", "go.txt"),
+                      ("run", "--kernel=qv", "--budget", "7", "--", "lamp.toml", "go.txt"), ("gen", "1")):
+            self.assertEqual(self.call(*words)[0::2], (0, ""), words)
+
+    def test_a_terminal_has_the_explanation(self):
+        answer = self.on_terminal(["./qp", "run", "examples/lost.toml", "examples/go.txt"])
+        self.assertIn("qp: examples/lost.toml: absent\r\n    there is no file examples/lost.toml", answer)
+
+    def on_terminal(self, words: list[str]) -> str:
+        master, slave = os.openpty()
+        subprocess.run(words, cwd=TOP, stdin=subprocess.DEVNULL, stdout=subprocess.DEVNULL, stderr=slave)
+        os.close(slave)
+        said = b""
+        with contextlib.suppress(OSError):
+            while piece := os.read(master, 4096):
+                said += piece
+        os.close(master)
+        return said.decode()
+
+
+class Help(unittest.TestCase):
+    """The launcher answers these at once, built or not."""
+
+    def test_help(self):
+        def call(*words: str) -> tuple[int, str, str]:
+            ran = subprocess.run([TOP / "qp", *words], capture_output=True, text=True)
+            return ran.returncode, ran.stdout, ran.stderr
+
+        page = call("help")[1]
+        self.assertEqual({call("--help")[1], call("-h")[1]}, {page})
+        self.assertEqual(call(), (1, "", page))
+        part = call("help", "run")
+        self.assertEqual(part, call("run", "--help"))
+        self.assertEqual(part, call("run", "-h"))
+        self.assertTrue(part[1].startswith("  run SYSTEM STIMULI"))
+        self.assertNotIn("decode", part[1])
+        self.assertEqual(call("help", "frob")[0], 1)
