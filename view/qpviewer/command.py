@@ -5,23 +5,32 @@ import sys
 from .faults import Fault
 from .files import Unread, read_run
 from .page import page_of
+from .run_text import records_text, run_text
 from .story import Story
 from .verdict import Verdict, read_verdict
 
 USAGE = """usage: qpview SYSTEM STIMULI JOURNAL [VERDICT] > run.html
+       qpview --text SYSTEM STIMULI JOURNAL
+       qpview --records SYSTEM STIMULI JOURNAL
 
 Writes a page that shows a run. VERDICT is what `qp check` says of the journal, as 'broken D12 block 1 1': the page opens at
-the record to look at first. A journal that names what the system doesn't have is drawn only with its verdict."""
+the record to look at first. A journal that names what the system doesn't have is drawn only with its verdict. With --text the run is printed as text, a line for each start, step and stimulus; with
+--records a line for each record, whose line number is the record's."""
+#: The options that print a run as text.
+_TEXTS = {"--text": run_text, "--records": records_text}
 
 #: Statuses: words that aren't a call, a file that can't be drawn, a page that can't be written.
 DONE, BAD_WORDS, BAD_FILE, NOT_WRITTEN = 0, 1, 2, 7
 
 def main(words: list[str]) -> int:
-    """Writes the page to standard output; answers the status."""
+    """Writes the page, or the run as text, to standard output; answers the status."""
     if words in (["-h"], ["--help"]):
         print(USAGE)
         return DONE
-    if len(words) not in (3, 4):
+    made_text = _TEXTS.get(words[0]) if words else None
+    if made_text:
+        words = words[1:]
+    if len(words) != 3 and (made_text or len(words) != 4):
         print(USAGE, file=sys.stderr)
         return BAD_WORDS
     try:
@@ -32,9 +41,9 @@ def main(words: list[str]) -> int:
     except Unread as undrawn:
         print(f"qpview: {undrawn}", file=sys.stderr)
         return BAD_FILE
-    page = page_of(story, (words[0], words[1], words[2]), verdict)
+    written = made_text(story) if made_text else page_of(story, (words[0], words[1], words[2]), verdict)
     try:
-        sys.stdout.buffer.write(page.encode())
+        sys.stdout.buffer.write(written.encode())
         sys.stdout.buffer.flush()
     except OSError as error:
         print(f"qpview: the page can't be written: {error.strerror}", file=sys.stderr)
