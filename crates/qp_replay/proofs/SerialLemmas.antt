@@ -1,5 +1,5 @@
 -- The records of an order are those of the lanes, so what is known of the words holds of them.
-use Rattle.std.proofs.Common.{◌≡◌, ◌∙◌, ℕ, suc, ◌+◌, ◌<◌, ◌==◌, nat_lt, nat_le, Bool, true, false, not, ◌&&◌, ◌||◌, cond, Option, Some, None, Result, Ok, Err, IfOk, List, [], ◌∷◌, ◌++◌, length, take, IsTrue, refl, sym, ap, arith}
+use Rattle.std.proofs.Common.{◌≡◌, ◌∙◌, ℕ, suc, ◌+◌, ◌<◌, ◌==◌, nat_lt, nat_le, Bool, true, false, not, ◌&&◌, ◌||◌, cond, Option, Some, None, List, [], ◌∷◌, ◌++◌, length, take, IsTrue, refl, sym, ap, arith}
 use Rattle.std.specs.Prelude.{slice_get, IsPermutation}
 use Rattle.std.specs.List.{filter, list_all, sum_by, cons_option}
 use Rattle.std.proofs.lemmas.Bool.{and_from, and_parts}
@@ -207,7 +207,6 @@ named-serial sys lanes order named is numbers = record {
 }
 
 -- what is answered of any lanes says more where their words keep their law and no record touches another word
-pub serial-also : {E : Type 0} (sys : System) (lanes : List (List Rec)) → Words sys lanes → IsNamed sys lanes → (r : Result Replayed E) → IfOk r (λ a. IsAnswer lanes a) → IfOk r (λ a. IsReplay lanes a)
-serial-also sys lanes words named (Ok (Order order)) h = (h, named-serial sys lanes order named h.0 (numbers-hold sys lanes order words h.0))
-serial-also sys lanes words named (Ok (Cycle cycle)) h = h
-serial-also sys lanes words named (Err e) h = h
+pub serial-also : (sys : System) (lanes : List (List Rec)) → Words sys lanes → IsNamed sys lanes → (a : Replayed) → IsAnswer lanes a → IsReplay lanes a
+serial-also sys lanes words named (Order order) h = (h, named-serial sys lanes order named h.0 (numbers-hold sys lanes order words h.0))
+serial-also sys lanes words named (Cycle cycle) h = h

@@ -1,5 +1,5 @@
 -- A lawful journal has few lanes, and each is short.
-use Rattle.std.proofs.Common.{◌≡◌, ◌+◌, ◌^◌, ◌≤◌, ◌<◌, ◌==◌, Bool, true, false, not, cond, List, [], ◌∷◌, ◌++◌, length, arith}
+use Rattle.std.proofs.Common.{◌≡◌, ◌+◌, ◌^◌, ◌≤◌, ◌<◌, ◌==◌, Bool, true, false, not, cond, ℕ, zero, suc, List, [], ◌∷◌, ◌++◌, length, get_or, sym, subst, arith}
 use Rattle.std.specs.List.{AllByRecursion, count_by, list_all}
 use Rattle.std.proofs.lemmas.Bool.{and_parts}
 use Rattle.std.proofs.lemmas.Bool.Decides.{nat_tests}
@@ -20,6 +20,11 @@ use Rattle.qp_model.proofs.LastLemmas.{lane-long}
 pub short-more : (ls : List (List Rec)) (l : List Rec) → AllByRecursion (λ l. length l < 2 ^ 32) ls → length l < 2 ^ 32 → AllByRecursion (λ l. length l < 2 ^ 32) (ls ++ l ∷ [])
 short-more [] l all short = (short, tt)
 short-more (x ∷ xs) l all short = (all.0, short-more xs l all.1 short)
+
+pub short-at : (ls : List (List Rec)) (k : ℕ) (l : List Rec) → k < length ls → l ≡ get_or ls k l → AllByRecursion (λ x. length x < 2 ^ 32) ls → length l < 2 ^ 32
+short-at [] k l lt is all = absurd (omega (arith, lt))
+short-at (x ∷ xs) zero l lt is all = subst (λ (z : List Rec). length z < 2 ^ 32) (sym is) all.0
+short-at (x ∷ xs) (suc k) l lt is all = short-at xs k l (omega (arith, lt)) is all.1
 
 lanes-short : (lanes : List (List Rec)) → list_all (λ lane. ends_last (lane_items lane)) lanes ≡ true → list_all (λ lane. has_room (lane_items lane)) lanes ≡ true → AllByRecursion (λ l. length l < 2 ^ 32) lanes
 unfolding has_room

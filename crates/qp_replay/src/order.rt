@@ -1,6 +1,6 @@
 //! The order of all records, as far as there is one.
 
-ghost use Rattle.std.specs.Prelude.{IfOk, IsTrue};
+ghost use Rattle.std.specs.Prelude.{◌↔◌, IfOk, IsTrue};
 ghost use Rattle.qp_replay.specs.Replaying.{IsAnswer};
 ghost use Rattle.qp_replay.specs.Remaining.{IsSmall};
 
@@ -13,9 +13,9 @@ use std::alloc::{AllocError, Global};
 /// More lanes than a journal can have, and more records than a lane can.
 const TOO_MANY: usize = 4_294_967_296;
 
-/// Whether places can be told of all records: there are fewer than 2^32 lanes, and of each fewer than 2^32 records.
+/// Whether places can be told of all records: exactly where there are fewer than 2^32 lanes, and of each fewer than 2^32 records.
 pub fn is_small(lanes: &Lanes) -> bool
-    ensures { IsTrue result → IsSmall lanes.now }
+    ensures { IsTrue result ↔ IsSmall lanes.now }
 {
     for lane in &lanes.items {
         if lane.items.len() >= TOO_MANY {

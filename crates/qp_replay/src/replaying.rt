@@ -8,8 +8,9 @@ ghost use Rattle.qp_replay.specs.Replaying.{IsReplay};
 
 use crate::order::ordered;
 use crate::places::Replayed;
+use qp_base::Memory;
 use qp_model::{Journal, Stimuli, System};
-use std::alloc::{AllocError, Global};
+use std::alloc::Global;
 
 /// The one order of all records in which each next one is from the lowest lane whose next record has all that must stand before it,
 /// or a cycle of records, where there is one. The system and its stimuli say of which journals this can be asked, and nothing else.
@@ -18,11 +19,14 @@ pub fn replay(
     _sys: &System,
     _stim: &Stimuli,
     j: &Journal,
-) -> Result<Replayed, AllocError>
+) -> Result<Replayed, Memory>
     requires sound { IsSound _sys.now }
     requires fit { StimuliFit _sys.now _stim.now }
     requires lawful { Lawful _sys.now _stim.now j.now }
     ensures { IfOk result (λ r. IsReplay j.now.lanes r) }
 {
-    ordered(alloc, &j.lanes)
+    let Ok(replayed) = ordered(alloc, &j.lanes) else {
+        return Err(Memory);
+    };
+    Ok(replayed)
 }

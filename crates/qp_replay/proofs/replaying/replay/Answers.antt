@@ -9,4 +9,4 @@ ordered-requires c = small-journal c.args._sys.now c.args._stim.now c.args.j.now
 pub returns : goal.returns
 returns c =
     let named = named-records c.args._sys.now c.args._stim.now c.args.j.now c.requires.sound c.requires.fit c.requires.lawful in
-    serial-also c.args._sys.now c.args.j.now.lanes c.requires.lawful.words named c.ordered.result c.ordered.ensures
+    serial-also c.args._sys.now c.args.j.now.lanes c.requires.lawful.words named c.in-Ok.replayed c.in-Ok.ensures
