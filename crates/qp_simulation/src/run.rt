@@ -23,7 +23,7 @@ use qp_outcome::{Outcome, outcome_of};
 use qp_plain::PlainWorld;
 use qp_rests::Rest;
 use qp_sim::SimWorld;
-use qp_turns::{Objects, kernel_turn};
+use qp_turns::{Bounds, Objects, kernel_turn};
 use qp_vanilla::{Vanilla, vanilla_turn};
 use std::alloc::Global;
 use std::sync::Wait;
@@ -96,7 +96,13 @@ fn run<R: Wait>(
                 end_of_turn(alloc, sys, objects, vanilla.under_way(), turn)
             } else {
                 let mut kernel = Kernel::new();
-                let turn = kernel_turn(rt, world, sys, objects, &mut kernel, budget, &NoGate);
+                let at = Bounds {
+                    sys,
+                    budget,
+                    cooperative: false,
+                    threaded: false,
+                };
+                let turn = kernel_turn(rt, world, &at, objects, &mut kernel, &NoGate);
                 end_of_turn(alloc, sys, objects, kernel.stack.as_slice(), turn)
             }
         }

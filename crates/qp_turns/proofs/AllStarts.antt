@@ -130,6 +130,8 @@ stopped-behind sys u v w ts gains h = record {
   turn = λ terms. let t = h.turn terms in record { zero = t.zero; why = subst (λ a. (0 < last_code w.told) ⊎ (length a < length w.answered)) gains.answered t.why };
   order = h.order;
   code = h.code;
+  some = h.some;
+  last = h.last;
   grows = stops-behind h.code u v w ts gains h.grows;
 }
 

@@ -152,7 +152,7 @@ begun sys xs v sound made fresh = record { knows = knows; order = order-begins s
     }
 
 -- behind the last
-pub all-begun : (sys : System) (terms : Terms) (xs : Objects) (v : LaneView) → KnowsAt (HasBegun sys []) sys terms 0 [] xs v → KnowsAt (MayLook sys) sys terms 0 [] xs v
+pub all-begun : (sys : System) (terms : Terms) (xs : Objects) (v : LaneView) → KnowsAt (HasBegun sys []) sys terms 0 [] xs v → KnowsAt (MayLook sys terms) sys terms 0 [] xs v
 all-begun sys terms xs v k = record {
   knows = k.knows;
   at = record {

@@ -13,13 +13,13 @@ use Rattle.qp_kernel.specs.Happenings.{lanes_from, lanes_of}
 use Rattle.qp_kernel.specs.Laws.{AllWait}
 use Rattle.qp_kernel.specs.LaneZero.{Agree}
 use Rattle.qp_kernel.specs.Turning.{KernelState, Stands, spill_told, Terms, kernel_in}
-use Rattle.qp_kernel.specs.ZeroEnds.{ZeroEnds}
 use Rattle.qp_kernel.proofs.KernelLaws.{full_lane_ends, run_stops_elsewhere}
 use Rattle.qp_turns.specs.declared.halting.Halt.{Halt}
 use Rattle.qp_turns.specs.declared.halting.Halt.TheVariants as halt
 use Rattle.qp_turns.specs.Halting.{Halts}
 use Rattle.qp_turns.specs.Knowing.{last_is}
-use Rattle.qp_turns.specs.Turning.{HaltsTurn}
+use Rattle.qp_turns.specs.Turning.{EndsSo, HaltsTurn}
+use Rattle.qp_turns.proofs.Ends.{ends-so}
 use Rattle.qp_turns.proofs.SoundObjects.{able, numbered}
 
 -- the last record of a lane
@@ -42,16 +42,16 @@ module _ (sys : System) (sound : IsSound sys) (terms : Terms) (s : KernelState) 
   same-now = now ∙ ap has_stim (sym (same-lanes v w plan happened))
 
   -- another lane stopped the run
-  pub stops-elsewhere : w.told ≡ v.told → (end : ℕ) → may_cut end ≡ true → ZeroEnds sys (kernel_in terms) terms.budget end w.told (has_stim (lanes_of w))
+  pub stops-elsewhere : w.told ≡ v.told → (end : ℕ) → may_cut end ≡ true → EndsSo sys terms end w.told (has_stim (lanes_of w))
   stops-elsewhere same end cut =
-      subst (λ ts. ZeroEnds sys (kernel_in terms) terms.budget end ts (has_stim (lanes_of w))) (told ∙ sym same)
-      (run_stops_elsewhere sys terms end s (has_stim (lanes_of w)) (numbered sys sound) (able sys sound) stands (agreed s (has_stim (lanes_of w)) same-now) cut started waits)
+      subst (λ ts. EndsSo sys terms end ts (has_stim (lanes_of w))) (told ∙ sym same)
+      (ends-so sys terms end _ _ _ (run_stops_elsewhere sys terms end s (has_stim (lanes_of w)) (numbered sys sound) (able sys sound) stands (agreed s (has_stim (lanes_of w)) same-now) cut started waits))
 
   -- the lane had no room
-  pub stops-full : 999992 < length v.told → w.told ≡ v.told ++ spill_told (length v.told) ∷ [] → (end : ℕ) → may_cut end ≡ true → ZeroEnds sys (kernel_in terms) terms.budget end w.told (has_stim (lanes_of w))
+  pub stops-full : 999992 < length v.told → w.told ≡ v.told ++ spill_told (length v.told) ∷ [] → (end : ℕ) → may_cut end ≡ true → EndsSo sys terms end w.told (has_stim (lanes_of w))
   stops-full many same end cut =
-      subst (λ ts. ZeroEnds sys (kernel_in terms) terms.budget end ts (has_stim (lanes_of w))) (ap (λ ts. ts ++ spill_told (length v.told) ∷ []) told ∙ sym same)
-      (full_lane_ends sys terms end s (has_stim (lanes_of w)) (length v.told) (numbered sys sound) (able sys sound) stands (agreed s (has_stim (lanes_of w)) same-now) cut (ap length (sym told)) many waits)
+      subst (λ ts. EndsSo sys terms end ts (has_stim (lanes_of w))) (ap (λ ts. ts ++ spill_told (length v.told) ∷ []) told ∙ sym same)
+      (ends-so sys terms end _ _ _ (full_lane_ends sys terms end s (has_stim (lanes_of w)) (length v.told) (numbered sys sound) (able sys sound) stands (agreed s (has_stim (lanes_of w)) same-now) cut (ap length (sym told)) many waits))
 
 -- what `ready` says where the run doesn't go on
 pub halts-turn : (sys : System) (sound : IsSound sys) (terms : Terms) (s : KernelState) (v w : LaneView) (h : Halt) → s.told ≡ v.told → Stands sys terms s → s.now ≡ has_stim (lanes_of v)

@@ -5,6 +5,7 @@ pub mod Staying
 pub mod Fresh
 pub mod Quiet
 pub mod Resting
+pub mod Ends
 pub mod Halted
 pub mod Looking
 pub mod Visiting
@@ -12,6 +13,9 @@ pub mod Stims
 pub mod Turns
 pub mod Ordered
 pub mod Closing
+pub mod Lanes
+pub mod Counting
+pub mod Taking
 pub mod Stepping
 pub mod Starts
 pub mod AllStarts

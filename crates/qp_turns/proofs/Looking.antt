@@ -13,14 +13,15 @@ use Rattle.qp_calls.specs.LaneView.{LaneView, ceiling_in}
 use Rattle.qp_calls.specs.Notes.{spills_in}
 use Rattle.qp_kernel.specs.Happenings.{lanes_of}
 use Rattle.qp_kernel.specs.LaneZero.{setting}
-use Rattle.qp_kernel.specs.ZeroEnds.{ZeroEnds}
 use Rattle.qp_model.specs.Ends.{may_cut}
 use Rattle.qp_kernel.specs.Turning.{KernelState, Stands, look_told, seen_told, Terms, kernel_in}
 use Rattle.qp_kernel.proofs.KernelLaws.{empty_is_seen, look_is_added, looks_are_settled, run_stops_elsewhere}
+use Rattle.qp_turns.specs.Turning.{EndsSo}
 use Rattle.qp_turns.specs.declared.objects.Objects.{Objects}
 use Rattle.qp_turns.specs.Knowing.{Descends, HandsCover, HasStack, IsAbove, IsLane, IsNamed, IsScanning, Knows, KnowsAt, MayLook, is_paused}
 use Rattle.qp_chart.specs.StateTree.{has}
 use Rattle.qp_kernel.specs.Stages.{is_resting}
+use Rattle.qp_turns.proofs.Ends.{ends-so}
 use Rattle.qp_turns.proofs.SoundObjects.{able, named, numbered, sound-object}
 use Rattle.qp_turns.proofs.Rows.{SameButPlace, above-floor, above-more, looking-agrees, looking-same, row-named}
 use Rattle.qp_turns.proofs.Staying.{all-still, all-wait}
@@ -69,7 +70,7 @@ stack-on sys waiting s t unstarted running stages stack = record {
 }
 
 module _ (sys : System) (sound : IsSound sys) (terms : Terms) (looks : ℕ) (stack : List ℕ) (xs : Objects) (v w : LaneView) (n floor : ℕ)
-    (k : Knows sys terms looks stack xs v) (may : MayLook sys k.state) (count : n ≡ looks + 1) (low : floor ≡ floor_in sys (kernel_in terms) (reverse stack) xs.ceiling)
+    (k : Knows sys terms looks stack xs v) (may : MayLook sys terms k.state) (count : n ≡ looks + 1) (low : floor ≡ floor_in sys (kernel_in terms) (reverse stack) xs.ceiling)
     (early : (m : ℕ) → m ≤ looks → has_stim (lanes_of w) m ≡ has_stim (lanes_of v) m) where
   abbrev s : KernelState
   s = k.state
@@ -106,10 +107,10 @@ module _ (sys : System) (sound : IsSound sys) (terms : Terms) (looks : ℕ) (sta
   same = looking-same sys terms now here (above sys floor)
 
   -- the run stops in the look
-  pub look-stops : w.told ≡ v.told ++ look_told n floor ∷ [] → (end : ℕ) → may_cut end ≡ true → ZeroEnds sys (kernel_in terms) terms.budget end w.told (has_stim (lanes_of w))
+  pub look-stops : w.told ≡ v.told ++ look_told n floor ∷ [] → (end : ℕ) → may_cut end ≡ true → EndsSo sys terms end w.told (has_stim (lanes_of w))
   look-stops told end cut =
-      subst (λ ts. ZeroEnds sys (kernel_in terms) terms.budget end ts now) (ap (λ ts. ts ++ look_told n floor ∷ []) k.told ∙ sym told)
-      (run_stops_elsewhere sys terms end after now (numbered sys sound) (able sys sound) stands-after (λ m le. refl) cut (same.unstarted ∙ may.stack.started) (all-wait sys s may.stack))
+      subst (λ ts. EndsSo sys terms end ts now) (ap (λ ts. ts ++ look_told n floor ∷ []) k.told ∙ sym told)
+      (ends-so sys terms end _ _ _ (run_stops_elsewhere sys terms end after now (numbered sys sound) (able sys sound) stands-after (λ m le. refl) cut (same.unstarted ∙ may.stack.started) (all-wait sys s may.stack)))
 
   module _ (goes : GoesFor (look_told n floor ∷ []) v w) (late : (m : ℕ) → n < m → has_stim (lanes_of w) m ≡ false) where
     cover : HandsCover xs w

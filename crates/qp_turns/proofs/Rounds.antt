@@ -8,9 +8,9 @@ use Rattle.std.proofs.lemmas.Bool.Decides.{nat_tests}
 use Rattle.qp_chart.specs.StateTree.{has}
 use Rattle.qp_model.specs.declared.systems.System.{System}
 use Rattle.qp_model.specs.declared.systems.ObjectDef.{ObjectDef}
-use Rattle.qp_model.specs.Kernels.{sim, qv}
+use Rattle.qp_model.specs.Kernels.{sim, qk, qv}
 use Rattle.qp_model.specs.Sound.{IsSound}
-use Rattle.qp_model.specs.KernelLane.{Again, floor_in, looking_at, threshold_of}
+use Rattle.qp_model.specs.KernelLane.{Again, Over, floor_in, looking_at, threshold_of}
 use Rattle.qp_model.specs.Sites.{object_at}
 use Rattle.qp_orders.specs.RunOrder.{has_stim}
 use Rattle.qp_calls.specs.LaneView.{LaneView}
@@ -20,10 +20,10 @@ use Rattle.qp_kernel.specs.LaneZero.{row_of, setting}
 use Rattle.qp_kernel.specs.Stages as stage
 use Rattle.qp_kernel.specs.Stages.{Stage}
 use Rattle.qp_kernel.specs.Turning.{IsLookPlace, KernelState, Terms, kernel_in}
-use Rattle.qp_kernel.proofs.RowLemmas.{looking-again, looking-over, looking-within}
+use Rattle.qp_kernel.proofs.RowLemmas.{looking-again, looking-over, looking-over_qk, looking-within}
 use Rattle.qp_turns.specs.declared.objects.Objects.{Objects}
 use Rattle.qp_turns.specs.Objects.{threshold_in, threshold_there}
-use Rattle.qp_turns.specs.Knowing.{IsNamed, IsRunning, IsScanning, KnowsAt, MayLook, is_busy, is_paused}
+use Rattle.qp_turns.specs.Knowing.{HasStack, IsNamed, IsRunning, IsScanning, KnowsAt, MayLook, is_busy, is_paused}
 use Rattle.qp_turns.specs.Turning.{AreHeld, Entered, GoesOnward, Idled, IsOver, Looked, Passed, Stepped, RunsTop, Stand, Stood, TurnStopped, floor_of, row_below}
 use Rattle.qp_turns.specs.Ordering.{AreSeenEmpty, IdlesInOrder, IsSeenEmpty, LookedInOrder, NoneActs, PassedInOrder}
 use Rattle.qp_turns.proofs.SoundObjects.{numbered}
@@ -50,7 +50,7 @@ stopped-from sys terms xs v ys w u on stop = record { zero = stop.zero; why = by
 
 -- The thresholds of the objects under way.
 
-pub held-of : (sys : System) (terms : Terms) (looks : ℕ) (stack : List ℕ) (xs : Objects) (v : LaneView) → KnowsAt (MayLook sys) sys terms looks stack xs v → AreHeld sys stack xs
+pub held-of : (sys : System) (terms : Terms) (looks : ℕ) (stack : List ℕ) (xs : Objects) (v : LaneView) → KnowsAt (MayLook sys terms) sys terms looks stack xs v → AreHeld sys stack xs
 unfolding threshold_of object_at
 held-of sys terms looks stack xs v k =
     let names : AllByRecursion (IsNamed sys) (reverse stack) = subst (AllByRecursion (IsNamed sys)) k.knows.running k.at.stack.named in
@@ -64,6 +64,9 @@ held-of sys terms looks stack xs v k =
     stack straight
 
 -- At the end of a row.
+
+kernel-is_qk : (terms : Terms) → terms.threaded ≡ true → kernel_in terms ≡ qk
+kernel-is_qk terms threaded = ap (λ b. cond b qk (cond terms.cooperative qv sim)) threaded
 
 module _ (sys : System) (terms : Terms) (looks : ℕ) (stack : List ℕ) (xs : Objects) (v : LaneView) (k : KnowsAt (IsScanning sys terms []) sys terms looks stack xs v) where
   abbrev s : KernelState
@@ -119,21 +122,28 @@ module _ (sys : System) (terms : Terms) (looks : ℕ) (stack : List ℕ) (xs : O
   stim-is came h = ap (λ f. f k.at.here.looks) k.knows.now ∙ ap (has_stim (lanes_of v)) (k.at.counted ∙ k.knows.settled) ∙ h
 
   -- the row at the base, where no `rest` comes
-  plainly : terms.cooperative ≡ false → s.reading ≡ looking_at (setting sys sim s.now) k.at.here []
-  plainly plain = k.at.same ∙ ap (λ n. looking_at (setting sys n s.now) k.at.here []) (ap (λ b. cond b qv sim) plain)
+  plainly : (threaded : Bool) → terms.threaded ≡ threaded → terms.cooperative ≡ false → s.reading ≡ looking_at (setting sys (cond threaded qk sim) s.now) k.at.here []
+  plainly threaded is plain =
+      k.at.same ∙ ap (λ n. looking_at (setting sys n s.now) k.at.here []) (ap (λ b. cond b qk (cond terms.cooperative qv sim)) is ∙ ap (λ b. cond threaded qk (cond b qv sim)) plain)
 
-  -- it goes on
-  pub looks-again : terms.cooperative ≡ false → stack ≡ [] → has_stim (lanes_of v) looks ≡ true → KnowsAt (MayLook sys) sys terms looks stack xs v
-  looks-again plain none came =
-      let at : s.reading.place ≡ Again = ap (λ r. r.place) (plainly plain ∙ looking-again sys s.now k.at.here (base-is none) (stim-is true came)) in
-      record {
-        knows = k.knows;
-        at = record {
-          stack = k.at.stack;
-          place = subst (λ pl. IsLookPlace pl s.reading.running) (sym at) tt;
-          owed = k.at.owed ∙ sym (ap (λ pl. row_of pl s.reading.running) at);
-        };
-      }
+  -- it goes on: under `qk` by another row
+  pub looks-again : terms.cooperative ≡ false → stack ≡ [] → has_stim (lanes_of v) looks ≡ true → KnowsAt (MayLook sys terms) sys terms looks stack xs v
+  looks-again plain none came = record {
+    knows = k.knows;
+    at = record {
+      stack = k.at.stack;
+      place = (by terms.threaded refl).0;
+      owed = k.at.owed ∙ sym (by terms.threaded refl).1;
+    };
+  }
+    where
+      by : (threaded : Bool) → terms.threaded ≡ threaded → IsLookPlace (kernel_in terms) s.reading.place s.reading.running × (row_of s.reading.place s.reading.running ≡ 0)
+      by false is =
+          let at : s.reading.place ≡ Again = ap (λ r. r.place) (plainly false is plain ∙ looking-again sys s.now k.at.here (base-is none) (stim-is true came)) in
+          (subst (λ pl. IsLookPlace (kernel_in terms) pl s.reading.running) (sym at) tt, ap (λ pl. row_of pl s.reading.running) at)
+      by true is =
+          let at : s.reading.place ≡ Over = ap (λ r. r.place) (plainly true is plain ∙ looking-over_qk sys s.now k.at.here (base-is none)) in
+          (subst (λ pl. IsLookPlace (kernel_in terms) pl s.reading.running) (sym at) (kernel-is_qk terms is), ap (λ pl. row_of pl s.reading.running) at)
 
   -- or it is over
   pub is-over : terms.cooperative ≡ false → stack ≡ [] → has_stim (lanes_of v) looks ≡ false → KnowsAt (IsOver sys) sys terms looks stack xs v
@@ -149,9 +159,28 @@ module _ (sys : System) (terms : Terms) (looks : ℕ) (stack : List ℕ) (xs : O
       };
       owed = k.at.owed;
       base = k.knows.running ∙ ap reverse none;
-      over = ap (λ r. r.place) (plainly plain ∙ looking-over sys s.now k.at.here (base-is none) (stim-is false still));
+      over = by terms.threaded refl;
     };
   }
+    where
+      by : (threaded : Bool) → terms.threaded ≡ threaded → s.reading.place ≡ Over
+      by false is = ap (λ r. r.place) (plainly false is plain ∙ looking-over sys s.now k.at.here (base-is none) (stim-is false still))
+      by true is = ap (λ r. r.place) (plainly true is plain ∙ looking-over_qk sys s.now k.at.here (base-is none))
+
+-- behind a row that is over `qk` may look again
+pub may-again : (sys : System) (terms : Terms) (looks : ℕ) (stack : List ℕ) (xs : Objects) (v : LaneView) → KnowsAt (IsOver sys) sys terms looks stack xs v → terms.threaded ≡ true
+    → KnowsAt (MayLook sys terms) sys terms looks stack xs v
+may-again sys terms looks stack xs v k threaded = record {
+  knows = k.knows;
+  at = record {
+    stack = subst (λ ps. HasStack sys ps k.knows.state) (sym k.at.base) k.at.stack;
+    place = subst (λ pl. IsLookPlace (kernel_in terms) pl k.knows.state.reading.running) (sym k.at.over) (kernel-is_qk terms threaded);
+    owed = k.at.owed ∙ sym (ap (λ pl. row_of pl k.knows.state.reading.running) k.at.over);
+  };
+}
+
+pub idled-by : (sys : System) (terms : Terms) (a b : Stand) → Stood (IsOver sys) sys terms b → GoesOnward a.objects a.lane b.objects b.lane → Idled sys terms a b
+idled-by sys terms a b over on = record { knows = over; onward = on; again = may-again sys terms b.looks b.stack b.objects b.lane over }
 
 pub row-none : (sys : System) (floor : ℕ) → row_below sys floor 0 ≡ []
 row-none sys floor = refl
@@ -168,18 +197,17 @@ module _ (sys : System) (terms : Terms) (xs : Objects) (v : LaneView) (a b d : S
   came-is came look pass = ap (λ l. has_stim l d.looks) pass.lanes ∙ ap (has_stim (lanes_of b.lane)) pass.looks ∙ look.happened
 
   pub round-over : terms.cooperative ≡ false → Looked sys terms a b false → Passed [] sys terms b d → None ≡ slice_get d.stack (length d.stack - 1) → Idled sys terms (record a { objects = xs; lane = v }) d
-  round-over plain look pass none = record {
-    knows = is-over sys terms d.looks d.stack d.objects d.lane pass.knows plain (empty-is d.stack none) (came-is false look pass);
-    onward = onward-all false look pass;
-  }
+  round-over plain look pass none =
+      idled-by sys terms (record a { objects = xs; lane = v }) d
+      (is-over sys terms d.looks d.stack d.objects d.lane pass.knows plain (empty-is d.stack none) (came-is false look pass)) (onward-all false look pass)
 
-  pub round-again : terms.cooperative ≡ false → Looked sys terms a b true → Passed [] sys terms b d → None ≡ slice_get d.stack (length d.stack - 1) → Stood (MayLook sys) sys terms d × GoesOnward xs v d.objects d.lane
+  pub round-again : terms.cooperative ≡ false → Looked sys terms a b true → Passed [] sys terms b d → None ≡ slice_get d.stack (length d.stack - 1) → Stood (MayLook sys terms) sys terms d × GoesOnward xs v d.objects d.lane
   round-again plain look pass none = (looks-again sys terms d.looks d.stack d.objects d.lane pass.knows plain (empty-is d.stack none) (came-is true look pass), onward-all true look pass)
 
-  pub round-step : (came : Bool) (z : Stand) → Looked sys terms a b came → Passed [] sys terms b d → Stepped sys terms d z → Stood (MayLook sys) sys terms z × GoesOnward xs v z.objects z.lane
+  pub round-step : (came : Bool) (z : Stand) → Looked sys terms a b came → Passed [] sys terms b d → Stepped sys terms d z → Stood (MayLook sys terms) sys terms z × GoesOnward xs v z.objects z.lane
   round-step came z look pass stepped = (stepped.knows, onward-then xs v d.objects d.lane z.objects z.lane (onward-all came look pass) stepped.onward)
 
-  pub round-found : (came : Bool) (z : Stand) → Looked sys terms a b came → Entered sys terms b d → Stepped sys terms d z → Stood (MayLook sys) sys terms z × GoesOnward xs v z.objects z.lane
+  pub round-found : (came : Bool) (z : Stand) → Looked sys terms a b came → Entered sys terms b d → Stepped sys terms d z → Stood (MayLook sys terms) sys terms z × GoesOnward xs v z.objects z.lane
   round-found came z look enter stepped =
       (stepped.knows, onward-then xs v d.objects d.lane z.objects z.lane (entered-all came look enter) stepped.onward)
 

@@ -47,7 +47,7 @@ use Rattle.qp_dispatch.specs.Lasts.{actor_of, config_of}
 use Rattle.qp_dispatch.specs.Objects.{ObjectResumes, ResumesAs, home_of, works_for}
 use Rattle.qp_dispatch.specs.declared.steps.Step.{Step}
 use Rattle.qp_dispatch.specs.declared.steps.Step.TheVariants as step
-use Rattle.qp_turns.specs.Turning.{GoesOnward, TurnStopped}
+use Rattle.qp_turns.specs.Turning.{EndsSo, GoesOnward, TurnStopped}
 use Rattle.std.proofs.lemmas.List.{length-map, reverse-append}
 use Rattle.qp_compiled.specs.Compiled.{IsCompiled}
 use Rattle.qp_calls.specs.Deferring.{ChangeAlike}
@@ -60,7 +60,6 @@ use Rattle.qp_kernel.specs.LaneZero.{owed_point, row_of, setting, told_pieces}
 use Rattle.qp_kernel.specs.Stages as stage
 use Rattle.qp_kernel.specs.Stages.{IsReady, Stage, closes, is_resting, may_wait}
 use Rattle.qp_kernel.specs.Turning.{IsLookPlace, IsObject, IsWithinStep, KernelState, Stands, having, moved}
-use Rattle.qp_kernel.specs.ZeroEnds.{ZeroEnds}
 use Rattle.qp_kernel.proofs.KernelLaws.{assertion_ends_step, full_lane_ends, spill_ends_step, step_ends, step_pauses}
 use Rattle.qp_kernel.proofs.TurnLemmas.{BehindIt, CutForm, WithinIt, cut-calm, cut-form, done-form, failed-form, inner-calm, inner-own, inner-unstim, point-inner}
 use Rattle.qp_kernel.proofs.OrderGrowth.{in_order-grows}
@@ -70,6 +69,7 @@ use Rattle.qp_orders.specs.Placing.{LooksNone}
 use Rattle.std.specs.Option.{is_some}
 use Rattle.qp_turns.specs.declared.halting.Halt.TheVariants as halt
 use Rattle.qp_turns.specs.Ordering.{InOrder, StopsInOrder}
+use Rattle.qp_turns.proofs.Ends.{ends-so}
 use Rattle.qp_turns.proofs.Quiet.{IsQuiet, calm-items, done-quiet, gains-set, own-lookless, spill-last}
 use Rattle.qp_turns.proofs.Ordered.{ends-in_order, grows-in_order, halts-behind, unstim-items}
 use Rattle.qp_kernel.proofs.StageLemmas.{comes-within}
@@ -343,11 +343,11 @@ module _ (sys : System) (sound : IsSound sys) (terms : Terms) (looks : ℕ) (fro
     asserted-told : w.told ≡ s.told ++ map (for_object p) a.g
     asserted-told = told ∙ ap (λ u. u.told) a.stops ∙ grown a.g a.mid a.grows ∙ ap (λ ts. ts ++ map (for_object p) a.g) (sym k.told)
 
-    pub asserted-ends : (end : ℕ) → may_cut end ≡ true → ZeroEnds sys (kernel_in terms) terms.budget end w.told (has_stim (lanes_of w))
+    pub asserted-ends : (end : ℕ) → may_cut end ≡ true → EndsSo sys terms end w.told (has_stim (lanes_of w))
     asserted-ends end cut =
-        subst (λ ts. ZeroEnds sys (kernel_in terms) terms.budget end ts (has_stim (lanes_of w))) (sym asserted-told)
-        (assertion_ends_step sys terms end s (has_stim (lanes_of w)) p n.object n.chart at.outer a.g (event_in x.stage V) (step_entry x.stage) (left_of home x.lasting x.stage V) (config_of x.lasting)
-        (numbered sys sound) (able sys sound) is-object positive k.stands (agreed s (has_stim (lanes_of w)) (now-of w lanes)) cut at.owed at.step within (goes-as (tell a.g) None a.goes) others)
+        subst (λ ts. EndsSo sys terms end ts (has_stim (lanes_of w))) (sym asserted-told)
+        (ends-so sys terms end _ _ _ (assertion_ends_step sys terms end s (has_stim (lanes_of w)) p n.object n.chart at.outer a.g (event_in x.stage V) (step_entry x.stage) (left_of home x.lasting x.stage V) (config_of x.lasting)
+        (numbered sys sound) (able sys sound) is-object positive k.stands (agreed s (has_stim (lanes_of w)) (now-of w lanes)) cut at.owed at.step within (goes-as (tell a.g) None a.goes) others))
 
     pub asserted-code : 0 < last_code w.told
     asserted-code =
@@ -378,22 +378,23 @@ module _ (sys : System) (sound : IsSound sys) (terms : Terms) (looks : ℕ) (fro
     calm = cut-calm sys (actor n.object n.chart) (event_in x.stage V) (step_entry x.stage) (left_of home x.lasting x.stage V) (config_of x.lasting) closing b.g b.begins.0 b.begins.1 b.begins.3
         (goes-as (tell b.g ++ b.begins.0) b.begins.1 b.begins.2)
 
-    spilled-by : (end : ℕ) → may_cut end ≡ true → last_is p (s.told ++ map (for_object p) b.g) ≡ true → ZeroEnds sys (kernel_in terms) terms.budget end (s.told ++ (map (for_object p) b.g ++ spill_told (length b.mid.told) ∷ [])) (has_stim (lanes_of w))
+    spilled-by : (end : ℕ) → may_cut end ≡ true → last_is p (s.told ++ map (for_object p) b.g) ≡ true → EndsSo sys terms end (s.told ++ (map (for_object p) b.g ++ spill_told (length b.mid.told) ∷ [])) (has_stim (lanes_of w))
     spilled-by end cut last =
-        spill_ends_step sys terms end s (has_stim (lanes_of w)) p n.object n.chart at.outer b.g (length b.mid.told) (event_in x.stage V) (step_entry x.stage) (left_of home x.lasting x.stage V) (config_of x.lasting) b.begins.0 b.begins.1
+        ends-so sys terms end _ _ _
+        (spill_ends_step sys terms end s (has_stim (lanes_of w)) p n.object n.chart at.outer b.g (length b.mid.told) (event_in x.stage V) (step_entry x.stage) (left_of home x.lasting x.stage V) (config_of x.lasting) b.begins.0 b.begins.1
         (numbered sys sound) (able sys sound) is-object positive k.stands (agreed s (has_stim (lanes_of w)) (now-of w lanes)) cut at.owed at.step within calm (goes-as (tell b.g ++ b.begins.0) b.begins.1 b.begins.2) others
         (record {
           count = count;
           full = b.few;
           behind = ap (λ ts. spill_cuts p (map untold ts)) (sym (append_assoc s.told (map (for_object p) b.g) (spill_told (length b.mid.told) ∷ []))) ∙ cuts-behind p (length b.mid.told) (s.told ++ map (for_object p) b.g) ∙ last;
-        })
+        }))
 
     -- nothing was added before it
-    spilled-first : (end : ℕ) → may_cut end ≡ true → b.g ≡ [] → is_paused (s.stages p) ≡ true → ZeroEnds sys (kernel_in terms) terms.budget end (s.told ++ (map (for_object p) b.g ++ spill_told (length b.mid.told) ∷ [])) (has_stim (lanes_of w))
+    spilled-first : (end : ℕ) → may_cut end ≡ true → b.g ≡ [] → is_paused (s.stages p) ≡ true → EndsSo sys terms end (s.told ++ (map (for_object p) b.g ++ spill_told (length b.mid.told) ∷ [])) (has_stim (lanes_of w))
     spilled-first end cut none paused =
-        subst (λ g. ZeroEnds sys (kernel_in terms) terms.budget end (s.told ++ (map (for_object p) g ++ spill_told (length b.mid.told) ∷ [])) (has_stim (lanes_of w))) (sym none)
-        (full_lane_ends sys terms end s (has_stim (lanes_of w)) (length b.mid.told) (numbered sys sound) (able sys sound) k.stands (agreed s (has_stim (lanes_of w)) (now-of w lanes)) cut
-        (count ∙ ap (λ g. length s.told + length g) none ∙ omega arith) b.few all)
+        subst (λ g. EndsSo sys terms end (s.told ++ (map (for_object p) g ++ spill_told (length b.mid.told) ∷ [])) (has_stim (lanes_of w))) (sym none)
+        (ends-so sys terms end _ _ _ (full_lane_ends sys terms end s (has_stim (lanes_of w)) (length b.mid.told) (numbered sys sound) (able sys sound) k.stands (agreed s (has_stim (lanes_of w)) (now-of w lanes)) cut
+        (count ∙ ap (λ g. length s.told + length g) none ∙ omega arith) b.few all))
       where
         all : AllWait sys s
         all d found = by (p == d.priority) refl
@@ -402,13 +403,13 @@ module _ (sys : System) (sound : IsSound sys) (terms : Terms) (looks : ℕ) (fro
             by true is = let equal : p ≡ d.priority = grind (arith, nat_tests) in subst (λ o. may_wait (s.stages o) ≡ true) equal (paused-waits (s.stages p) paused)
             by false is = others d found is
 
-    spilled-at : (end : ℕ) → may_cut end ≡ true → (g : List Told) → b.g ≡ g → (c : Bool) → is_paused (s.stages p) ≡ c → ZeroEnds sys (kernel_in terms) terms.budget end (s.told ++ (map (for_object p) b.g ++ spill_told (length b.mid.told) ∷ [])) (has_stim (lanes_of w))
+    spilled-at : (end : ℕ) → may_cut end ≡ true → (g : List Told) → b.g ≡ g → (c : Bool) → is_paused (s.stages p) ≡ c → EndsSo sys terms end (s.told ++ (map (for_object p) b.g ++ spill_told (length b.mid.told) ∷ [])) (has_stim (lanes_of w))
     spilled-at end cut [] none true paused = spilled-first end cut none paused
     spilled-at end cut [] none false begun = spilled-by end cut (subst (λ g. last_is p (s.told ++ map (for_object p) g) ≡ true) (sym none) (subst (λ ts. last_is p ts ≡ true) (sym (append-nil s.told)) (at.behind begun)))
     spilled-at end cut (t ∷ g) is c paused = spilled-by end cut (subst (λ h. last_is p (s.told ++ map (for_object p) h) ≡ true) (sym is) (last-own p s.told t g))
 
-    pub spilled-ends : (end : ℕ) → may_cut end ≡ true → ZeroEnds sys (kernel_in terms) terms.budget end w.told (has_stim (lanes_of w))
-    spilled-ends end cut = subst (λ ts. ZeroEnds sys (kernel_in terms) terms.budget end ts (has_stim (lanes_of w))) (sym spilled-told) (spilled-at end cut b.g refl (is_paused (s.stages p)) refl)
+    pub spilled-ends : (end : ℕ) → may_cut end ≡ true → EndsSo sys terms end w.told (has_stim (lanes_of w))
+    spilled-ends end cut = subst (λ ts. EndsSo sys terms end ts (has_stim (lanes_of w))) (sym spilled-told) (spilled-at end cut b.g refl (is_paused (s.stages p)) refl)
 
     pub spilled-code : 0 < last_code w.told
     spilled-code =
@@ -524,7 +525,7 @@ module _ (sys : System) (sound : IsSound sys) (terms : Terms) (looks : ℕ) (fro
       popped : at.outer ≡ reverse front
       popped = let all : p ∷ at.outer ≡ p ∷ reverse front = sym at.step.running ∙ k.running ∙ reverse-append front (p ∷ []) in cc
 
-      pub stepped-end : KnowsAt (MayLook sys) sys terms looks front zs w
+      pub stepped-end : KnowsAt (MayLook sys terms) sys terms looks front zs w
       stepped-end = record {
         knows = record {
           state = after;
@@ -644,7 +645,7 @@ module _ (sys : System) (sound : IsSound sys) (terms : Terms) (looks : ℕ) (fro
       stage-point : StageIs sys n.object n.chart later.object w paused
       stage-point = (t.going, t.stands, subst (λ h. IsInTurn h (event_in x.stage V) (step_entry x.stage) due (config_of later.object.lasting) later.object w) (sym home-w) turn-point)
 
-      pub stepped-point : KnowsAt (MayLook sys) sys terms looks (front ++ p ∷ []) zs w
+      pub stepped-point : KnowsAt (MayLook sys terms) sys terms looks (front ++ p ∷ []) zs w
       stepped-point = record {
         knows = record {
           state = waiting;
@@ -669,7 +670,7 @@ module _ (sys : System) (sound : IsSound sys) (terms : Terms) (looks : ℕ) (fro
             rests = λ d found none. rest-of d found none;
             waits = λ o is. wait-of o is;
           };
-          place = subst (λ ps. IsLookPlace s.reading.place ps) (sym at.step.running) (subst (λ pl. IsLookPlace pl (p ∷ at.outer)) (sym at.step.inside) positive);
+          place = subst (λ ps. IsLookPlace (kernel_in terms) s.reading.place ps) (sym at.step.running) (subst (λ pl. IsLookPlace (kernel_in terms) pl (p ∷ at.outer)) (sym at.step.inside) positive);
           owed = sym (ap (λ pl. row_of pl s.reading.running) at.step.inside ∙ ap (row_of Inside) at.step.running);
         };
       }
@@ -696,8 +697,8 @@ module _ (sys : System) (sound : IsSound sys) (terms : Terms) (looks : ℕ) (fro
 
   -- What resuming the object at the top comes to.
   abbrev pub AfterStep : ℕ → Objects → LaneView → Step → Type 0
-  AfterStep level ys w step.Point = KnowsAt (MayLook sys) sys terms looks (front ++ p ∷ []) (record ys { ceiling = level }) w × GoesOnward xs v (record ys { ceiling = level }) w
-  AfterStep level ys w step.Done = KnowsAt (MayLook sys) sys terms looks front (record ys { ceiling = level }) w × GoesOnward xs v (record ys { ceiling = level }) w
+  AfterStep level ys w step.Point = KnowsAt (MayLook sys terms) sys terms looks (front ++ p ∷ []) (record ys { ceiling = level }) w × GoesOnward xs v (record ys { ceiling = level }) w
+  AfterStep level ys w step.Done = KnowsAt (MayLook sys terms) sys terms looks front (record ys { ceiling = level }) w × GoesOnward xs v (record ys { ceiling = level }) w
   AfterStep level ys w step.Stopped = TurnStopped sys terms v w × AddsAlone p v w
   AfterStep level ys w step.Memory = Unit {0}
 

@@ -1,11 +1,11 @@
 -- The top of the stack.
-use Rattle.std.proofs.Common.{◌≡◌, ℕ, ◌-◌, ◌<◌, max, cond, true, false, List, [], ◌∷◌, ◌++◌, length, reverse, refl, sym, ◌∙◌, ap, subst, Option, Some, None, arith, length-append}
+use Rattle.std.proofs.Common.{◌≡◌, ℕ, ◌-◌, ◌<◌, max, cond, Bool, true, false, List, [], ◌∷◌, ◌++◌, length, reverse, refl, sym, ◌∙◌, ap, subst, Option, Some, None, arith, length-append}
 use Rattle.std.specs.Prelude.{IsSome, slice_get}
 use Rattle.std.specs.List.{AllByRecursion}
 use Rattle.std.specs.Option.{option_to_list}
 use Rattle.std.proofs.lemmas.List.{reverse-append}
 use Rattle.qp_model.specs.declared.systems.System.{System}
-use Rattle.qp_model.specs.Kernels.{sim, qv}
+use Rattle.qp_model.specs.Kernels.{sim, qk, qv}
 use Rattle.qp_model.specs.KernelLane.{floor_in, threshold_of}
 use Rattle.qp_kernel.specs.Turning.{Terms, kernel_in}
 use Rattle.qp_turns.specs.declared.objects.Objects.{Objects}
@@ -40,6 +40,16 @@ floor-none sys terms (x ∷ rest) xs h =
     let s = split-last (x ∷ rest) x rest refl in
     let wrong : None ≡ Some s.1 = h ∙ ap (λ l. slice_get l (length l - 1)) s.2 ∙ last-get s.0 s.1 in absurd (cc)
 
+floor-top : (sys : System) (terms : Terms) (p : ℕ) (outer running : List ℕ) (ceiling : ℕ) → terms.cooperative ≡ false → running ≡ p ∷ outer → (threaded : Bool) → terms.threaded ≡ threaded
+    → max (threshold_of sys p) ceiling ≡ floor_in sys (kernel_in terms) running ceiling
+unfolding floor_in
+floor-top sys terms p outer running ceiling plain turned false is =
+    let kernel : kernel_in terms ≡ sim = ap (λ b. cond b qk (cond terms.cooperative qv sim)) is ∙ ap (λ b. cond b qv sim) plain in
+    sym (ap (λ l. floor_in sys sim l ceiling) turned) ∙ sym (ap (λ k. floor_in sys k running ceiling) kernel)
+floor-top sys terms p outer running ceiling plain turned true is =
+    let kernel : kernel_in terms ≡ qk = ap (λ b. cond b qk (cond terms.cooperative qv sim)) is in
+    sym (ap (λ l. floor_in sys qk l ceiling) turned) ∙ sym (ap (λ k. floor_in sys k running ceiling) kernel)
+
 -- the floor within a step of a kernel whose steps interrupt one another
 pub floor-some : (sys : System) (terms : Terms) (stack : List ℕ) (xs : Objects) (p floor : ℕ) → terms.cooperative ≡ false → AreHeld sys stack xs → Some p ≡ slice_get stack (length stack - 1)
     → floor ≡ max (threshold_in xs.slots.items p) xs.ceiling → floor ≡ floor_in sys (kernel_in terms) (reverse stack) xs.ceiling
@@ -50,18 +60,17 @@ floor-some sys terms (x ∷ rest) xs p floor plain held h is =
     let same : p ≡ s.1 = top-is (x ∷ rest) s.0 s.1 p s.2 h in
     let here : threshold_in xs.slots.items s.1 ≡ threshold_of sys s.1 = all-last (λ q. threshold_in xs.slots.items q ≡ threshold_of sys q) s.0 s.1 (subst (λ l. AreHeld sys l xs) s.2 held) in
     let turned : reverse (x ∷ rest) ≡ s.1 ∷ reverse s.0 = ap reverse s.2 ∙ reverse-append s.0 (s.1 ∷ []) in
-    let kernel : kernel_in terms ≡ sim = ap (λ b. cond b qv sim) plain in
-    is ∙ ap (λ q. max (threshold_in xs.slots.items q) xs.ceiling) same ∙ ap (λ t. max t xs.ceiling) here ∙ sym (ap (λ l. floor_in sys sim l xs.ceiling) turned) ∙ sym (ap (λ k. floor_in sys k (reverse (x ∷ rest)) xs.ceiling) kernel)
+    is ∙ ap (λ q. max (threshold_in xs.slots.items q) xs.ceiling) same ∙ ap (λ t. max t xs.ceiling) here ∙ floor-top sys terms s.1 (reverse s.0) (reverse (x ∷ rest)) xs.ceiling plain turned terms.threaded refl
 
 -- and of one whose steps don't
-pub floor-within : (sys : System) (terms : Terms) (stack : List ℕ) (xs : Objects) (p : ℕ) → terms.cooperative ≡ true → Some p ≡ slice_get stack (length stack - 1)
+pub floor-within : (sys : System) (terms : Terms) (stack : List ℕ) (xs : Objects) (p : ℕ) → terms.threaded ≡ false → terms.cooperative ≡ true → Some p ≡ slice_get stack (length stack - 1)
     → 32 ≡ floor_in sys (kernel_in terms) (reverse stack) xs.ceiling
 unfolding floor_in
-floor-within sys terms [] xs p alone h = absurd (cc)
-floor-within sys terms (x ∷ rest) xs p alone h =
+floor-within sys terms [] xs p single alone h = absurd (cc)
+floor-within sys terms (x ∷ rest) xs p single alone h =
     let s = split-last (x ∷ rest) x rest refl in
     let turned : reverse (x ∷ rest) ≡ s.1 ∷ reverse s.0 = ap reverse s.2 ∙ reverse-append s.0 (s.1 ∷ []) in
-    let kernel : kernel_in terms ≡ qv = ap (λ b. cond b qv sim) alone in
+    let kernel : kernel_in terms ≡ qv = ap (λ b. cond b qk (cond terms.cooperative qv sim)) single ∙ ap (λ b. cond b qv sim) alone in
     sym (ap (λ l. floor_in sys qv l xs.ceiling) turned) ∙ sym (ap (λ k. floor_in sys k (reverse (x ∷ rest)) xs.ceiling) kernel)
 
 snoc-inj : (xs ys : List ℕ) (x y : ℕ) → xs ++ x ∷ [] ≡ ys ++ y ∷ [] → xs ≡ ys

@@ -61,7 +61,7 @@ kept-goes n floor v v2 v3 goes kept hands = record {
   spills = rw (kept.told) goes.spills;
 }
 
-module _ (sys : System) (sound : IsSound sys) (terms : Terms) (a : Stand) (k : Stood (MayLook sys) sys terms a) (n floor : ℕ) (count : n ≡ a.looks + 1) (low : floor ≡ floor_of sys terms a)
+module _ (sys : System) (sound : IsSound sys) (terms : Terms) (a : Stand) (k : Stood (MayLook sys terms) sys terms a) (n floor : ℕ) (count : n ≡ a.looks + 1) (low : floor ≡ floor_of sys terms a)
     (v1 v2 v3 : LaneView) (room : Roomier a.lane v1) (grown : GrowsOf 0 (plain (body.Look n floor) ∷ []) v1 v2) where
   goes-two : GoesFor (look_told n floor ∷ []) a.lane v2
   goes-two = look-goes n floor a.lane v1 v2 room grown k.knows.lane.spills

@@ -37,12 +37,13 @@ use Rattle.qp_kernel.specs.Happenings.{lanes_of}
 use Rattle.qp_kernel.specs.Stages as stage
 use Rattle.qp_kernel.specs.Stages.{Stage, is_resting}
 use Rattle.qp_kernel.specs.Turning.{IsObject, KernelState, Stands, having, moved, seen_told, Terms, kernel_in}
-use Rattle.qp_kernel.specs.ZeroEnds.{ZeroEnds}
 use Rattle.qp_kernel.proofs.KernelLaws.{budget_ends, entry_is_seen, step_begins}
+use Rattle.qp_turns.specs.Turning.{EndsSo}
 use Rattle.qp_turns.specs.declared.objects.Objects.{Objects}
 use Rattle.qp_turns.specs.declared.objects.Slot.{Slot}
 use Rattle.qp_turns.specs.Objects.{IsAt, IsPut}
 use Rattle.qp_turns.specs.Knowing.{HandsCover, HandsFollow, IsAtRest, IsInTurn, IsLane, IsNamed, IsObjectOf, IsRunning, IsScanning, Knows, KnowsAt, KnowsObject, StageIs, is_busy, is_paused}
+use Rattle.qp_turns.proofs.Ends.{ends-so}
 use Rattle.qp_turns.proofs.Places.{cover-follows, follow-put, own-stand}
 use Rattle.qp_turns.proofs.SoundObjects.{able, numbered}
 use Rattle.qp_turns.proofs.Rows.{above-not}
@@ -121,13 +122,13 @@ module _ (sys : System) (sound : IsSound sys) (terms : Terms) (looks : ℕ) (sta
 
   -- it has taken its budget
   pub spent-ends : (w : LaneView) → lanes_of w ≡ lanes_of v → terms.budget ≤ its.slot.object.taken → w.told ≡ v.told ++ seen_told p f l m ∷ for_object p (plain body.Spent) ∷ []
-      → (end : ℕ) → may_cut end ≡ true → ZeroEnds sys (kernel_in terms) terms.budget end w.told (has_stim (lanes_of w))
+      → (end : ℕ) → may_cut end ≡ true → EndsSo sys terms end w.told (has_stim (lanes_of w))
   spent-ends w lanes full told end cut =
       let most = k.stands.budgets p in
       let now : s.now ≡ has_stim (lanes_of w) = k.now ∙ ap has_stim (sym lanes) in
-      subst (λ ts. ZeroEnds sys (kernel_in terms) terms.budget end ts (has_stim (lanes_of w))) (ap (λ ts. ts ++ seen_told p f l m ∷ for_object p (plain body.Spent) ∷ []) k.told ∙ sym told)
-      (budget_ends sys terms end s (has_stim (lanes_of w)) p others f l m (numbered sys sound) (able sys sound) k.stands (agreed s (has_stim (lanes_of w)) now) cut at.owed at.stack.started
-      (looks-at sys sound terms looks stack xs v w p others f l m k at lanes) some (omega (arith, most, full, counted)) positive rests (all-wait sys s at.stack))
+      subst (λ ts. EndsSo sys terms end ts (has_stim (lanes_of w))) (ap (λ ts. ts ++ seen_told p f l m ∷ for_object p (plain body.Spent) ∷ []) k.told ∙ sym told)
+      (ends-so sys terms end _ _ _ (budget_ends sys terms end s (has_stim (lanes_of w)) p others f l m (numbered sys sound) (able sys sound) k.stands (agreed s (has_stim (lanes_of w)) now) cut at.owed at.stack.started
+      (looks-at sys sound terms looks stack xs v w p others f l m k at lanes) some (omega (arith, most, full, counted)) positive rests (all-wait sys s at.stack)))
 
   -- the entry is seen
   abbrev pub found : KernelState

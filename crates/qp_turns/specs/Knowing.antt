@@ -185,9 +185,9 @@ pub record HasStack (sys : System) (waiting : List ℕ) (s : KernelState) : Type
   pub waits : (o : ℕ) → has waiting o ≡ true → is_paused (s.stages o) ≡ true
 
 -- a look may stand here
-pub record MayLook (sys : System) (s : KernelState) : Type 0 where
+pub record MayLook (sys : System) (terms : Terms) (s : KernelState) : Type 0 where
   pub stack : HasStack sys s.reading.running s
-  pub place : IsLookPlace s.reading.place s.reading.running
+  pub place : IsLookPlace (kernel_in terms) s.reading.place s.reading.running
   pub owed : s.owed ≡ row_of s.reading.place s.reading.running
 
 -- a look has come to these objects, which are above those under way

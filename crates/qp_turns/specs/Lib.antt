@@ -2,6 +2,8 @@ pub mod Objects
 pub mod Knowing
 pub mod Starting
 pub mod Halting
+pub mod Lanes
+pub mod Counting
 pub mod Turning
 pub mod Ordering
 pub mod AtRest

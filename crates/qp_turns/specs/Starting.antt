@@ -1,5 +1,5 @@
 -- The start of all objects, in ascending priority.
-use Rattle.std.specs.Prelude.{◌≡◌, ℕ, true, false, List, [], map, drop, Some}
+use Rattle.std.specs.Prelude.{◌≡◌, ℕ, ◌<◌, true, false, List, [], map, drop, Some}
 use Rattle.qp_chart.specs.StateTree.{has}
 use Rattle.qp_model.specs.declared.systems.System.{System}
 use Rattle.qp_model.specs.declared.systems.ObjectDef.{ObjectDef}
@@ -9,6 +9,7 @@ use Rattle.qp_model.specs.Sites.{object_at}
 use Rattle.qp_model.specs.Told.{ToldItem}
 use Rattle.qp_calls.specs.Clauses.{Stops}
 use Rattle.qp_calls.specs.LaneView.{Gains, IsNew, LaneView}
+use Rattle.qp_calls.specs.Notes.{last_code}
 use Rattle.qp_dispatch.specs.declared.steps.Step.{Step}
 use Rattle.qp_dispatch.specs.declared.steps.Step.TheVariants as step
 use Rattle.qp_kernel.specs.Happenings.{IsInOrder, IsOrderEnded, has_no_stim}
@@ -57,11 +58,13 @@ pub record GrowsAndStops (code : ℕ) (v w : LaneView) : Type 0 where
   pub gains : Gains ts v mid
   pub stops : Stops code mid w
 
--- a start ended in its assertion, or found no room
+-- a start ended in its assertion, or found no room; the code is that of the last record
 pub record StartStopped (sys : System) (v w : LaneView) : Type 0 where
   pub turn : (terms : Terms) → TurnStopped sys terms v w
   pub order : (end : ℕ) → may_cut end ≡ true → IsOrderEnded sys end w
   pub code : ℕ
+  pub some : 0 < code
+  pub last : last_code w.told ≡ code
   pub grows : GrowsAndStops code v w
 
 -- the first object that has not started starts, and those from this place on are left
@@ -73,7 +76,7 @@ StartsOne sys place xs ys v w step.Memory = GrowsAndStops 7 v w
 
 -- all objects rest, and a kernel that has not looked yet may look
 pub record AllStarted (sys : System) (xs ys : Objects) (v w : LaneView) : Type 0 where
-  pub knows : (terms : Terms) → KnowsAt (MayLook sys) sys terms 0 [] ys w
+  pub knows : (terms : Terms) → KnowsAt (MayLook sys terms) sys terms 0 [] ys w
   pub order : IsInOrder sys 0 w
   pub no_stim : has_no_stim w
   pub grows : GrowsAlong xs v ys w

@@ -2,18 +2,22 @@
 use Rattle.std.specs.Prelude.{◌≡◌, ℕ, ◌+◌, ◌<◌, ◌⊎◌, nat_lt, Bool, true, false, List, [], ◌∷◌, ◌++◌, map, length, reverse, take, Ok, Err}
 use Rattle.std.specs.declared.result.Result.{Result}
 use Rattle.std.specs.List.{AllByRecursion, filter}
+use Rattle.std.specs.Option.{option_map_or}
 use Rattle.qp_model.specs.declared.systems.System.{System}
 use Rattle.qp_model.specs.Ends.{may_cut}
-use Rattle.qp_model.specs.KernelLane.{Over, above, floor_in, threshold_of}
+use Rattle.qp_model.specs.KernelLane.{Over, above, floor_in, lane_read, threshold_of}
+use Rattle.qp_model.specs.Told.{ToldItem}
 use Rattle.qp_orders.specs.RunOrder.{has_stim}
+use Rattle.qp_orders.specs.SourceRun.{untold}
 use Rattle.qp_calls.specs.LaneView.{LaneView}
 use Rattle.qp_calls.specs.Notes.{last_code}
 use Rattle.qp_dispatch.specs.declared.objects.Turn.{Turn}
 use Rattle.qp_dispatch.specs.declared.objects.Turn.TheVariants as turn
 use Rattle.qp_kernel.specs.declared.kernel.Kernel.{Kernel}
 use Rattle.qp_kernel.specs.Happenings.{lanes_of}
-use Rattle.qp_kernel.specs.Turning.{KernelState, Terms, kernel_in, under}
-use Rattle.qp_kernel.specs.ZeroEnds.{ZeroEnds}
+use Rattle.qp_kernel.specs.LaneZero.{setting}
+use Rattle.qp_kernel.specs.Turning.{KernelState, Terms, kernel_in}
+use Rattle.qp_kernel.specs.ZeroEnds.{ZeroEnds, most_rows}
 use Rattle.qp_turns.specs.declared.halting.Halt.{Halt}
 use Rattle.qp_turns.specs.declared.halting.Halt.TheVariants as halt
 use Rattle.qp_turns.specs.declared.objects.Objects.{Objects}
@@ -23,12 +27,20 @@ use Rattle.qp_turns.specs.Knowing.{HandsFollow, HasStack, IsRunning, IsScanning,
 
 -- what a turn goes by
 abbrev pub terms_of : Bounds → Terms
-terms_of at = under at.cooperative at.budget
+terms_of at = record { cooperative = at.cooperative; threaded = at.threaded; budget = at.budget }
+
+-- how many rows at the base of these records have no step
+abbrev pub idle_in : System → Terms → List ToldItem → (ℕ → Bool) → ℕ
+idle_in sys terms told has = option_map_or (λ k. k.idle) (lane_read (setting sys (kernel_in terms) has) (map untold told)) 0
+
+-- Lane 0 may end so. A kernel of one thread has at most one row without a step, and `qk` as many as its lane has.
+abbrev pub EndsSo : System → Terms → ℕ → List ToldItem → (ℕ → Bool) → Type 0
+EndsSo sys terms end told has = ZeroEnds sys (kernel_in terms) terms.budget end (most_rows (kernel_in terms) (idle_in sys terms told has)) told has
 
 -- Lane 0 of a run that has stopped: it may end so, with every end that a stop gives. The lane has just added the record that stopped
 -- it, or it found the stop word set since v.
 pub record TurnStopped (sys : System) (terms : Terms) (v w : LaneView) : Type 0 where
-  pub zero : (end : ℕ) → may_cut end ≡ true → ZeroEnds sys (kernel_in terms) terms.budget end w.told (has_stim (lanes_of w))
+  pub zero : (end : ℕ) → may_cut end ≡ true → EndsSo sys terms end w.told (has_stim (lanes_of w))
   pub why : (0 < last_code w.told) ⊎ (length v.answered < length w.answered)
 
 abbrev pub HaltsTurn : System → Terms → LaneView → LaneView → Halt → Type 0
@@ -106,7 +118,7 @@ VisitsTo others sys terms a b (Err h) = HaltsTurn sys terms a.lane b.lane h
 -- the step at the top of the stack went on to its next scheduling point, or to its end
 pub record Stepped (sys : System) (terms : Terms) (a b : Stand) : Type 0 where
   pub looks : b.looks ≡ a.looks
-  pub knows : Stood (MayLook sys) sys terms b
+  pub knows : Stood (MayLook sys terms) sys terms b
   pub onward : GoesOnward a.objects a.lane b.objects b.lane
 
 abbrev pub StepsTo : System → Terms → Stand → Stand → Result (Unit {0}) Halt → Type 0
@@ -120,8 +132,10 @@ pub record IsOver (sys : System) (s : KernelState) : Type 0 where
   pub base : s.reading.running ≡ []
   pub over : s.reading.place ≡ Over
 
+-- Under `qk` another turn may come.
 pub record Idled (sys : System) (terms : Terms) (a b : Stand) : Type 0 where
   pub knows : Stood (IsOver sys) sys terms b
+  pub again : terms.threaded ≡ true → Stood (MayLook sys terms) sys terms b
   pub onward : GoesOnward a.objects a.lane b.objects b.lane
 
 abbrev pub TurnsTo : System → Terms → Stand → Stand → Turn → Type 0

@@ -2,6 +2,7 @@
 
 ghost use Rattle.std.specs.Prelude.{◌+◌, ◌<◌, length};
 ghost use Rattle.qp_model.specs.Sound.{IsSound};
+ghost use Rattle.qp_turns.specs.Lanes.{LaneStarts};
 ghost use Rattle.qp_turns.specs.Objects.{AreMade};
 ghost use Rattle.qp_turns.specs.Starting.{HaveBegun, IsFresh, StartsAll, StartsOne, left_from};
 
@@ -17,7 +18,8 @@ impl Objects {
         requires sound { IsSound sys.now }
         requires made { AreMade sys.now self.old }
         requires fresh { IsFresh sys.now (O.lane ops.old) }
-        ensures { StartsAll sys.now self.old self.new (O.lane ops.old) (O.lane ops.new) result }
+        ensures goes { StartsAll sys.now self.old self.new (O.lane ops.old) (O.lane ops.new) result }
+        ensures lane { LaneStarts (O.lane ops.old) (O.lane ops.new) result }
     {
         for place in 0..sys.objects.items.len() {
             match self.start_next(place, ops, sys) {

@@ -1,12 +1,14 @@
 //! The kernel's turn: rows of looks, and the steps that they find.
 
-ghost use Rattle.std.specs.Prelude.{◌≡◌, ◌+◌, ◌-◌, ◌<◌, ◌≤◌, [], false, IfErr, length, reverse, slice_get};
+ghost use Rattle.std.specs.Prelude.{◌≡◌, ◌+◌, ◌-◌, ◌<◌, ◌≤◌, [], false, true, IfErr, IfOk, length, reverse, slice_get};
 ghost use Rattle.qp_model.specs.KernelLane.{above, floor_in};
 ghost use Rattle.qp_model.specs.Sound.{IsSound};
 ghost use Rattle.qp_stim.specs.Rules.{StimuliFit};
-ghost use Rattle.qp_kernel.specs.Turning.{kernel_in, under};
+ghost use Rattle.qp_kernel.specs.Turning.{kernel_in};
 ghost use Rattle.qp_turns.specs.AtRest.{HaltsAtRest, StopsAtRest};
+ghost use Rattle.qp_turns.specs.Counting.{AreCounted, Begin, BeginsFound, TurnsCounted};
 ghost use Rattle.qp_turns.specs.Knowing.{IsScanning, MayLook};
+ghost use Rattle.qp_turns.specs.Lanes.{LaneTo, LaneTurns};
 ghost use Rattle.qp_turns.specs.Ordering.{AreSeenEmpty, InOrder, LooksInOrder, RoundsInOrder, StepsInOrder, TurnsInOrder, VisitsInOrder};
 ghost use Rattle.qp_turns.specs.Turning.{AreHeld, EndsTo, LooksTo, RunsTop, StepsTo, Stood, TurnsTo, VisitsTo, floor_of, row_below, stand_of, terms_of};
 
@@ -24,13 +26,15 @@ use std::sync::ledger::{Blank, Ledger};
 /// The floor that no object is above.
 const ABOVE_ALL: u8 = 32;
 
-/// What a turn goes by: the system, how many entries an object may take up in the run, and whether the kernel is the
-/// cooperative one, whose steps never interrupt one another.
+/// What a turn goes by: the system, how many entries an object may take up in the run, whether the kernel is the
+/// cooperative one, whose steps never interrupt one another, and whether the sources have threads of their own, so that
+/// turns come one behind another.
 #[derive(Clone, Copy)]
 pub struct Bounds<'a> {
     pub sys: &'a System,
     pub budget: u32,
     pub cooperative: bool,
+    pub threaded: bool,
 }
 
 /// The object whose step runs, the innermost of those under way.
@@ -43,7 +47,8 @@ pub fn top(kernel: &Kernel) -> Option<u8>
 /// The floor of the next look: 0 at the base. Within a step it is the larger of the running object's threshold and the
 /// ceiling; under the cooperative kernel no object is above it.
 pub fn floor(at: &Bounds<'_>, objects: &Objects, kernel: &Kernel) -> u8
-    requires { AreHeld at.now.sys.now kernel.now.stack.items objects.now }
+    requires held { AreHeld at.now.sys.now kernel.now.stack.items objects.now }
+    requires single { at.now.cooperative ≡ true → at.now.threaded ≡ false }
     ensures { result ≡ floor_in at.now.sys.now (kernel_in (terms_of at.now)) (reverse kernel.now.stack.items) objects.now.ceiling }
 {
     match top(kernel) {
@@ -70,7 +75,7 @@ pub fn look<R: Wait, W: World, L: Ledger>(
 ) -> Result<bool, Halt>
     requires sound { IsSound at.now.sys.now }
     requires fit { StimuliFit at.now.sys.now (W.lane world.old).plan }
-    requires knows { Stood (MayLook at.now.sys.now) at.now.sys.now (terms_of at.now) (stand_of kernel.old objects.now (W.lane world.old)) }
+    requires knows { Stood (MayLook at.now.sys.now (terms_of at.now)) at.now.sys.now (terms_of at.now) (stand_of kernel.old objects.now (W.lane world.old)) }
     requires floor { floor ≡ floor_of at.now.sys.now (terms_of at.now) (stand_of kernel.old objects.now (W.lane world.old)) }
     requires order { InOrder W.acts at.now.sys.now kernel.old.looks (W.lane world.old) }
     ensures goes { LooksTo at.now.sys.now (terms_of at.now) (stand_of kernel.old objects.now (W.lane world.old))
@@ -78,9 +83,12 @@ pub fn look<R: Wait, W: World, L: Ledger>(
     ensures order { LooksInOrder W.acts at.now.sys.now (terms_of at.now) (stand_of kernel.old objects.now (W.lane world.old))
         (stand_of kernel.new objects.now (W.lane world.new)) result }
     ensures rests { IfErr result (HaltsAtRest at.now.sys.now (stand_of kernel.new objects.now (W.lane world.new))) }
+    ensures lane { LaneTo W.acts (W.lane world.old) (W.lane world.new) result }
+    ensures steps { kernel.new.steps ≡ kernel.old.steps }
 {
     ready(world)?;
     if kernel.looks == u32::MAX {
+        world.stop(7);
         return Err(Halt::Memory);
     }
     kernel.looks += 1;
@@ -89,8 +97,20 @@ pub fn look<R: Wait, W: World, L: Ledger>(
         Irq::Happened => Ok(true),
         Irq::Nothing => Ok(false),
         Irq::Stopped => Err(Halt::Stopped),
-        Irq::Memory => Err(Halt::Memory),
+        Irq::Memory => {
+            world.stop(7);
+            Err(Halt::Memory)
+        }
     }
+}
+
+/// The count of steps, once one more has begun. No row of looks begins more than one.
+fn one_more(steps: u64, looks: u32) -> u64
+    requires { steps < looks }
+    ensures { result ≡ steps + 1 }
+{
+    let _ = looks;
+    steps + 1
 }
 
 /// Looks at the queue of the object at this place among the objects, where it is above the floor. Where it shows an
@@ -113,12 +133,15 @@ fn visit<R: Wait, W: World, G: Gate>(
         (stand_of kernel.old objects.old (W.lane world.old)) }
     requires order { InOrder W.acts at.now.sys.now kernel.old.looks (W.lane world.old) }
     requires seen { AreSeenEmpty at.now.sys.now floor (place + 1) (W.lane world.old) }
+    requires turn { kernel.old.steps < kernel.old.looks }
     ensures goes { VisitsTo (row_below at.now.sys.now floor place) at.now.sys.now (terms_of at.now)
         (stand_of kernel.old objects.old (W.lane world.old))
         (stand_of kernel.new objects.new (W.lane world.new)) result }
     ensures order { VisitsInOrder W.acts at.now.sys.now floor place (stand_of kernel.old objects.old (W.lane world.old))
         (stand_of kernel.new objects.new (W.lane world.new)) result }
     ensures rests { IfErr result (HaltsAtRest at.now.sys.now (stand_of kernel.new objects.new (W.lane world.new))) }
+    ensures lane { LaneTo W.acts (W.lane world.old) (W.lane world.new) result }
+    ensures begun { BeginsFound kernel.old kernel.new objects.old objects.new result }
 {
     let sys = at.sys;
     let object = &sys.objects.items[place];
@@ -143,11 +166,12 @@ fn visit<R: Wait, W: World, G: Gate>(
         Take::Taken(e) => {
             objects.begin(p, e);
             kernel.stack.push(p);
-            kernel.steps = kernel.steps.saturating_add(1);
+            kernel.steps = one_more(kernel.steps, kernel.looks);
             gate.at(0, kernel.steps);
             Ok(true)
         }
-        Take::Empty { .. } => Err(Halt::Memory),
+        // (an entry that was just seen is there to be taken)
+        Take::Empty { .. } => unreachable!(),
     }
 }
 
@@ -174,11 +198,14 @@ pub fn scan<R: Wait, W: World, G: Gate>(
     requires knows { Stood (IsScanning at.now.sys.now (terms_of at.now) (above at.now.sys.now floor)) at.now.sys.now (terms_of at.now)
         (stand_of kernel.old objects.old (W.lane world.old)) }
     requires order { InOrder W.acts at.now.sys.now kernel.old.looks (W.lane world.old) }
+    requires turn { kernel.old.steps < kernel.old.looks }
     ensures goes { VisitsTo [] at.now.sys.now (terms_of at.now) (stand_of kernel.old objects.old (W.lane world.old))
         (stand_of kernel.new objects.new (W.lane world.new)) result }
     ensures order { VisitsInOrder W.acts at.now.sys.now floor 0 (stand_of kernel.old objects.old (W.lane world.old))
         (stand_of kernel.new objects.new (W.lane world.new)) result }
     ensures rests { IfErr result (HaltsAtRest at.now.sys.now (stand_of kernel.new objects.new (W.lane world.new))) }
+    ensures lane { LaneTo W.acts (W.lane world.old) (W.lane world.new) result }
+    ensures begun { BeginsFound kernel.old kernel.new objects.old objects.new result }
 {
     let many = count(at.sys);
     for place in (0..many).rev() {
@@ -203,8 +230,11 @@ pub fn step<O: Ops>(
     ensures order { StepsInOrder at.now.sys.now (stand_of kernel.old objects.old (O.lane world.old))
         (stand_of kernel.new objects.new (O.lane world.new)) result }
     ensures rests { IfErr result (HaltsAtRest at.now.sys.now (stand_of kernel.new objects.new (O.lane world.new))) }
+    ensures lane { LaneTo false (O.lane world.old) (O.lane world.new) result }
+    ensures begun { Begin 0 kernel.old kernel.new objects.old objects.new }
 {
     let Some(p) = top(kernel) else {
+        world.stop(7);
         return Err(Halt::Memory);
     };
     let mut ceiling = objects.ceiling;
@@ -238,13 +268,16 @@ fn rounds<R: Wait, W: World, G: Gate, L: Ledger>(
     requires sound { IsSound at.now.sys.now }
     requires few { at.now.budget ≤ 1000000 }
     requires fit { StimuliFit at.now.sys.now (W.lane world.old).plan }
-    requires knows { Stood (MayLook at.now.sys.now) at.now.sys.now (terms_of at.now) (stand_of kernel.old objects.old (W.lane world.old)) }
+    requires knows { Stood (MayLook at.now.sys.now (terms_of at.now)) at.now.sys.now (terms_of at.now) (stand_of kernel.old objects.old (W.lane world.old)) }
     requires order { InOrder W.acts at.now.sys.now kernel.old.looks (W.lane world.old) }
+    requires counted { kernel.old.steps ≤ kernel.old.looks }
     ensures goes { EndsTo at.now.sys.now (terms_of at.now) (stand_of kernel.old objects.old (W.lane world.old))
         (stand_of kernel.new objects.new (W.lane world.new)) result }
     ensures order { RoundsInOrder W.acts at.now.sys.now (stand_of kernel.old objects.old (W.lane world.old))
         (stand_of kernel.new objects.new (W.lane world.new)) result }
     ensures rests { IfErr result (HaltsAtRest at.now.sys.now (stand_of kernel.new objects.new (W.lane world.new))) }
+    ensures lane { LaneTo W.acts (W.lane world.old) (W.lane world.new) result }
+    ensures counted { IfOk result (λ u. AreCounted kernel.old kernel.new objects.old objects.new) }
 {
     let mut steps = Steps::<L>::open(blank);
     for _ in rt.forever() {
@@ -267,35 +300,33 @@ fn rounds<R: Wait, W: World, G: Gate, L: Ledger>(
     unreachable!()
 }
 
-/// One turn of the kernel, from the base to the base: rows of looks, and the steps that they find, as preemption has
-/// them. `Idle` comes where a row at the base has found nothing. An object takes up at most `budget` entries in the
-/// run. The gate is called where a step begins.
+/// One turn of the preemptive kernel, from the base to the base: rows of looks, and the steps that they find. `Idle` comes
+/// where a row at the base has found nothing; where the sources have threads of their own, another turn may come behind it.
+/// An object takes up at most `budget` entries in the run. The gate is called where a step begins.
 pub fn kernel_turn<R: Wait, W: World, G: Gate>(
     rt: &R,
     world: &mut W,
-    sys: &System,
+    at: &Bounds<'_>,
     objects: &mut Objects,
     kernel: &mut Kernel,
-    budget: u32,
     gate: &G,
 ) -> Turn
-    requires sound { IsSound sys.now }
-    requires few { budget ≤ 1000000 }
-    requires fit { StimuliFit sys.now (W.lane world.old).plan }
-    requires knows { Stood (MayLook sys.now) sys.now (under false budget) (stand_of kernel.old objects.old (W.lane world.old)) }
-    requires order { InOrder W.acts sys.now kernel.old.looks (W.lane world.old) }
-    ensures goes { TurnsTo sys.now (under false budget) (stand_of kernel.old objects.old (W.lane world.old))
+    requires plain { at.now.cooperative ≡ false }
+    requires sound { IsSound at.now.sys.now }
+    requires few { at.now.budget ≤ 1000000 }
+    requires fit { StimuliFit at.now.sys.now (W.lane world.old).plan }
+    requires knows { Stood (MayLook at.now.sys.now (terms_of at.now)) at.now.sys.now (terms_of at.now) (stand_of kernel.old objects.old (W.lane world.old)) }
+    requires order { InOrder W.acts at.now.sys.now kernel.old.looks (W.lane world.old) }
+    requires counted { kernel.old.steps ≤ kernel.old.looks }
+    ensures goes { TurnsTo at.now.sys.now (terms_of at.now) (stand_of kernel.old objects.old (W.lane world.old))
         (stand_of kernel.new objects.new (W.lane world.new)) result }
-    ensures order { TurnsInOrder W.acts sys.now (stand_of kernel.old objects.old (W.lane world.old))
+    ensures order { TurnsInOrder W.acts at.now.sys.now (stand_of kernel.old objects.old (W.lane world.old))
         (stand_of kernel.new objects.new (W.lane world.new)) result }
-    ensures rests { StopsAtRest sys.now (stand_of kernel.new objects.new (W.lane world.new)) result }
+    ensures rests { StopsAtRest at.now.sys.now (stand_of kernel.new objects.new (W.lane world.new)) result }
+    ensures lane { LaneTurns W.acts (W.lane world.old) (W.lane world.new) result }
+    ensures counted { TurnsCounted kernel.old kernel.new objects.old objects.new result }
 {
-    let at = Bounds {
-        sys,
-        budget,
-        cooperative: false,
-    };
-    match rounds::<R, W, G, Brand>(rt, world, &at, objects, kernel, gate, Blank::new(1)) {
+    match rounds::<R, W, G, Brand>(rt, world, at, objects, kernel, gate, Blank::new(1)) {
         Ok(()) => Turn::Idle,
         Err(Halt::Stopped) => Turn::Stopped,
         Err(Halt::Memory) => Turn::Memory,

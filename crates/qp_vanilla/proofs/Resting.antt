@@ -1,7 +1,7 @@
 -- The lane of a kernel that has rested: what is known of it goes on.
 use Rattle.std.proofs.Common.{◌≡◌, ℕ, ◌+◌, ◌≤◌, ◌==◌, cond, Bool, true, false, List, [], ◌∷◌, ◌++◌, reverse, refl, sym, ◌∙◌, ap, subst, arith}
 use Rattle.qp_model.specs.declared.systems.System.{System}
-use Rattle.qp_model.specs.Kernels.{sim, qv}
+use Rattle.qp_model.specs.Kernels.{sim, qk, qv}
 use Rattle.qp_model.specs.KernelLane.{Reading, Resting, Again, Over, base_ended, looking_at}
 use Rattle.qp_model.specs.Sound.{IsSound}
 use Rattle.qp_orders.specs.RunOrder.{has_stim}
@@ -20,13 +20,13 @@ use Rattle.qp_turns.proofs.Rows.{SameButPlace, ended-agrees, ended-same}
 use Rattle.qp_turns.proofs.SoundObjects.{numbered}
 use Rattle.qp_turns.proofs.Staying.{all-still, all-wait}
 
-module _ (sys : System) (sound : IsSound sys) (terms : Terms) (cooperative : terms.cooperative ≡ true) (looks : ℕ) (stack : List ℕ) (xs : Objects) (v w : LaneView)
+module _ (sys : System) (sound : IsSound sys) (terms : Terms) (single : terms.threaded ≡ false) (cooperative : terms.cooperative ≡ true) (looks : ℕ) (stack : List ℕ) (xs : Objects) (v w : LaneView)
     (k : KnowsAt (IsScanning sys terms []) sys terms looks stack xs v) (base : stack ≡ []) (lanes : lanes_of w ≡ lanes_of v) (goes : GoesFor (rest_told looks ∷ []) v w) where
   abbrev s : KernelState
   s = k.knows.state
 
   kernel-is : kernel_in terms ≡ qv
-  kernel-is = ap (λ b. cond b qv sim) cooperative
+  kernel-is = ap (λ b. cond b qk (cond terms.cooperative qv sim)) single ∙ ap (λ b. cond b qv sim) cooperative
 
   -- the look has ended so that the kernel rests
   at-rest : s.reading.place ≡ Resting
@@ -82,7 +82,7 @@ module _ (sys : System) (sound : IsSound sys) (terms : Terms) (cooperative : ter
   ended = ap (λ n. base_ended (setting sys n s.now) s.reading) kernel-is
 
   -- the row goes on
-  pub goes-again : has_stim (lanes_of v) looks ≡ true → KnowsAt (MayLook sys) sys terms looks stack xs w
+  pub goes-again : has_stim (lanes_of v) looks ≡ true → KnowsAt (MayLook sys terms) sys terms looks stack xs w
   unfolding known
   goes-again came =
       let at : next.place ≡ Again = ap (λ (r : Reading). r.place) (ended ∙ resting-again sys s.now s.reading (stim true came)) in
@@ -90,7 +90,7 @@ module _ (sys : System) (sound : IsSound sys) (terms : Terms) (cooperative : ter
         knows = known;
         at = record {
           stack = subst (λ ps. HasStack sys ps after) (sym same.running) stack-after;
-          place = subst (λ pl. IsLookPlace pl after.reading.running) (sym at) tt;
+          place = subst (λ pl. IsLookPlace (kernel_in terms) pl after.reading.running) (sym at) tt;
           owed = k.at.owed ∙ sym (ap (λ pl. row_of pl after.reading.running) at);
         };
       }

@@ -50,7 +50,7 @@ rest-goes n v v1 v2 room grown none =
       spills = rw told (spills-append 0 v.told (plain (body.Rest n) ∷ []) none refl);
     }
 
-module _ (sys : System) (sound : IsSound sys) (terms : Terms) (cooperative : terms.cooperative ≡ true) (a : Stand) (base : a.stack ≡ [])
+module _ (sys : System) (sound : IsSound sys) (terms : Terms) (single : terms.threaded ≡ false) (cooperative : terms.cooperative ≡ true) (a : Stand) (base : a.stack ≡ [])
     (k : Stood (IsScanning sys terms []) sys terms a) (r : Rec) (v1 v2 : LaneView) (room : Roomier a.lane v1)
     (is : item_of r ≡ record { of = 0; body = body.Rest a.looks }) (grown : GrowsOf r.of (told_note r v1) v1 v2) where
   note : GrowsOf 0 (plain (body.Rest a.looks) ∷ []) v1 v2
@@ -64,8 +64,8 @@ module _ (sys : System) (sound : IsSound sys) (terms : Terms) (cooperative : ter
 
   pub rested : Rested sys terms a (record a { lane = v2 })
   rested = record {
-    again = goes-again sys sound terms cooperative a.looks a.stack a.objects a.lane v2 k base lanes goes;
-    over = goes-over sys sound terms cooperative a.looks a.stack a.objects a.lane v2 k base lanes goes;
+    again = goes-again sys sound terms single cooperative a.looks a.stack a.objects a.lane v2 k base lanes goes;
+    over = goes-over sys sound terms single cooperative a.looks a.stack a.objects a.lane v2 k base lanes goes;
     onward = record {
       hands = follow-none a.objects a.lane v2 goes.hands;
       answered = grown.answered ∙ ap (λ u. u.answered) room.same;

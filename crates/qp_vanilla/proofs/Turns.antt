@@ -14,7 +14,7 @@ use Rattle.qp_turns.specs.declared.objects.Objects.{Objects}
 use Rattle.qp_turns.specs.Knowing.{IsScanning, KnowsAt, MayLook}
 use Rattle.qp_turns.specs.Ordering.{AreSeenEmpty, IdlesInOrder, LookedInOrder, NoneActs, PassedInOrder}
 use Rattle.qp_turns.specs.Turning.{Entered, GoesOnward, Idled, Looked, Passed, RunsTop, Stand, Stood, floor_of}
-use Rattle.qp_turns.proofs.Rounds.{base-floor, came-is, onward-all, onward-then, round-empties, runs-on}
+use Rattle.qp_turns.proofs.Rounds.{base-floor, came-is, idled-by, onward-all, onward-then, round-empties, runs-on}
 use Rattle.qp_turns.proofs.Tops.{empty-is, floor-within, some-last}
 use Rattle.qp_vanilla.specs.Resting.{Rested}
 
@@ -34,10 +34,10 @@ unfolding above
 above-all sys sound = ap (λ ds. reverse (map (λ d. d.priority) ds)) (none-above sys.charts sys.objects sound.objects)
 
 -- A look within a step starts no object: the step goes on.
-module _ (sys : System) (sound : IsSound sys) (terms : Terms) (cooperative : terms.cooperative ≡ true) (a b : Stand) (came : Bool) (look : Looked sys terms a b came) (p : ℕ)
+module _ (sys : System) (sound : IsSound sys) (terms : Terms) (single : terms.threaded ≡ false) (cooperative : terms.cooperative ≡ true) (a b : Stand) (came : Bool) (look : Looked sys terms a b came) (p : ℕ)
     (top : Some p ≡ slice_get b.stack (length b.stack - 1)) where
   floor-is : floor_of sys terms a ≡ 32
-  floor-is = sym (floor-within sys terms a.stack a.objects p cooperative (top ∙ ap (λ st. slice_get st (length st - 1)) look.stack))
+  floor-is = sym (floor-within sys terms a.stack a.objects p single cooperative (top ∙ ap (λ st. slice_get st (length st - 1)) look.stack))
 
   scanned : Stood (IsScanning sys terms []) sys terms b
   scanned = subst (λ ps. Stood (IsScanning sys terms ps) sys terms b) (ap (above sys) floor-is ∙ above-all sys sound) look.knows
@@ -63,12 +63,12 @@ module _ (sys : System) (terms : Terms) (a b d : Stand) (came : Bool) (look : Lo
     onward-rest = onward-then xs v d.objects d.lane z.objects z.lane (onward-all sys terms xs v a b d on came look pass) rest.onward
 
     -- the row goes on
-    pub rests-again : came ≡ true → Stood (MayLook sys) sys terms z × GoesOnward xs v z.objects z.lane
+    pub rests-again : came ≡ true → Stood (MayLook sys terms) sys terms z × GoesOnward xs v z.objects z.lane
     rests-again did = (rest.again (came-is sys terms xs v a b d on came look pass ∙ did), onward-rest)
 
     -- or the turn is over
     pub rests-over : came ≡ false → Idled sys terms (record a { objects = xs; lane = v }) z
-    rests-over never = record { knows = rest.over (came-is sys terms xs v a b d on came look pass ∙ never); onward = onward-rest }
+    rests-over never = idled-by sys terms (record a { objects = xs; lane = v }) z (rest.over (came-is sys terms xs v a b d on came look pass ∙ never)) onward-rest
 
 pub rests-idle : (acts : Bool) (sys : System) → IsSound sys → (terms : Terms) (a b d z : Stand) (came : Bool) (low : ℕ) → low ≡ floor_of sys terms a → Looked sys terms a b came
     → LookedInOrder acts sys (floor_of sys terms a == 0) b came → came ≡ false → Passed [] sys terms b d

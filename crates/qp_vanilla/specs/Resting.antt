@@ -12,7 +12,7 @@ use Rattle.qp_turns.specs.Turning.{GoesOnward, HaltsTurn, IsOver, Stand, Stood}
 
 -- the row goes on where a stimulus happened in its last look, and else it is over
 pub record Rested (sys : System) (terms : Terms) (a b : Stand) : Type 0 where
-  pub again : has_stim (lanes_of a.lane) a.looks ≡ true → Stood (MayLook sys) sys terms b
+  pub again : has_stim (lanes_of a.lane) a.looks ≡ true → Stood (MayLook sys terms) sys terms b
   pub over : has_stim (lanes_of a.lane) a.looks ≡ false → Stood (IsOver sys) sys terms b
   pub onward : GoesOnward a.objects a.lane b.objects b.lane
 

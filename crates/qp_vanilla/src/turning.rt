@@ -1,11 +1,13 @@
 //! The cooperative kernel's turn.
 
-ghost use Rattle.std.specs.Prelude.{◌≡◌, ◌<◌, ◌≤◌, [], true, IfErr};
+ghost use Rattle.std.specs.Prelude.{◌≡◌, ◌<◌, ◌≤◌, [], false, true, IfErr, IfOk};
 ghost use Rattle.qp_kernel.specs.Turning.{under};
 ghost use Rattle.qp_model.specs.Sound.{IsSound};
 ghost use Rattle.qp_stim.specs.Rules.{StimuliFit};
 ghost use Rattle.qp_turns.specs.AtRest.{HaltsAtRest, StopsAtRest};
+ghost use Rattle.qp_turns.specs.Counting.{AreCounted, TurnsCounted};
 ghost use Rattle.qp_turns.specs.Knowing.{IsScanning, MayLook};
+ghost use Rattle.qp_turns.specs.Lanes.{LaneTo, LaneTurns};
 ghost use Rattle.qp_turns.specs.Ordering.{AreSeenEmpty, InOrder, RoundsInOrder, TurnsInOrder};
 ghost use Rattle.qp_turns.specs.Turning.{EndsTo, Stood, TurnsTo, stand_of, terms_of};
 ghost use Rattle.qp_vanilla.specs.Resting.{RestsInOrder, RestsTo};
@@ -29,6 +31,7 @@ fn rest<W: World>(
 ) -> Result<(), Halt>
     requires sound { IsSound at.now.sys.now }
     requires cooperative { at.now.cooperative ≡ true }
+    requires single { at.now.threaded ≡ false }
     requires base { kernel.now.stack.items ≡ [] }
     requires knows { Stood (IsScanning at.now.sys.now (terms_of at.now) []) at.now.sys.now (terms_of at.now)
         (stand_of kernel.now objects.now (W.lane world.old)) }
@@ -39,6 +42,7 @@ fn rest<W: World>(
     ensures order { RestsInOrder W.acts at.now.sys.now (stand_of kernel.now objects.now (W.lane world.old))
         (stand_of kernel.now objects.now (W.lane world.new)) result }
     ensures rests { IfErr result (HaltsAtRest at.now.sys.now (stand_of kernel.now objects.now (W.lane world.new))) }
+    ensures lane { LaneTo W.acts (W.lane world.old) (W.lane world.new) result }
 {
     let _ = at;
     let _ = objects;
@@ -62,15 +66,19 @@ fn rounds<R: Wait, W: World, G: Gate, L: Ledger>(
     requires some { 0 < blank.parts }
     requires sound { IsSound at.now.sys.now }
     requires cooperative { at.now.cooperative ≡ true }
+    requires single { at.now.threaded ≡ false }
     requires few { at.now.budget ≤ 1000000 }
     requires fit { StimuliFit at.now.sys.now (W.lane world.old).plan }
-    requires knows { Stood (MayLook at.now.sys.now) at.now.sys.now (terms_of at.now) (stand_of kernel.old objects.old (W.lane world.old)) }
+    requires knows { Stood (MayLook at.now.sys.now (terms_of at.now)) at.now.sys.now (terms_of at.now) (stand_of kernel.old objects.old (W.lane world.old)) }
     requires order { InOrder W.acts at.now.sys.now kernel.old.looks (W.lane world.old) }
+    requires counted { kernel.old.steps ≤ kernel.old.looks }
     ensures goes { EndsTo at.now.sys.now (terms_of at.now) (stand_of kernel.old objects.old (W.lane world.old))
         (stand_of kernel.new objects.new (W.lane world.new)) result }
     ensures order { RoundsInOrder W.acts at.now.sys.now (stand_of kernel.old objects.old (W.lane world.old))
         (stand_of kernel.new objects.new (W.lane world.new)) result }
     ensures rests { IfErr result (HaltsAtRest at.now.sys.now (stand_of kernel.new objects.new (W.lane world.new))) }
+    ensures lane { LaneTo W.acts (W.lane world.old) (W.lane world.new) result }
+    ensures counted { IfOk result (λ u. AreCounted kernel.old kernel.new objects.old objects.new) }
 {
     let mut steps = Steps::<L>::open(blank);
     for _ in rt.forever() {
@@ -110,18 +118,22 @@ pub fn vanilla_turn<R: Wait, W: World, G: Gate>(
     requires sound { IsSound sys.now }
     requires few { budget ≤ 1000000 }
     requires fit { StimuliFit sys.now (W.lane world.old).plan }
-    requires knows { Stood (MayLook sys.now) sys.now (under true budget) (stand_of vanilla.old.kernel objects.old (W.lane world.old)) }
+    requires knows { Stood (MayLook sys.now (under true budget)) sys.now (under true budget) (stand_of vanilla.old.kernel objects.old (W.lane world.old)) }
     requires order { InOrder W.acts sys.now vanilla.old.kernel.looks (W.lane world.old) }
+    requires counted { vanilla.old.kernel.steps ≤ vanilla.old.kernel.looks }
     ensures goes { TurnsTo sys.now (under true budget) (stand_of vanilla.old.kernel objects.old (W.lane world.old))
         (stand_of vanilla.new.kernel objects.new (W.lane world.new)) result }
     ensures order { TurnsInOrder W.acts sys.now (stand_of vanilla.old.kernel objects.old (W.lane world.old))
         (stand_of vanilla.new.kernel objects.new (W.lane world.new)) result }
     ensures rests { StopsAtRest sys.now (stand_of vanilla.new.kernel objects.new (W.lane world.new)) result }
+    ensures lane { LaneTurns W.acts (W.lane world.old) (W.lane world.new) result }
+    ensures counted { TurnsCounted vanilla.old.kernel vanilla.new.kernel objects.old objects.new result }
 {
     let at = Bounds {
         sys,
         budget,
         cooperative: true,
+        threaded: false,
     };
     match rounds::<R, W, G, Brand>(
         rt,

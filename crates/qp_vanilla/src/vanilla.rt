@@ -16,6 +16,7 @@ impl Vanilla {
     pub fn new() -> Vanilla
         ensures looks { result.kernel.looks ≡ 0 }
         ensures stack { result.kernel.stack.items ≡ [] }
+        ensures steps { result.kernel.steps ≡ 0 }
     {
         Vanilla {
             kernel: Kernel::new(),

@@ -2,6 +2,9 @@ use Rattle.std.proofs.Common.{◌≡◌, ◌+◌, ◌-◌, ◌∙◌, ap, arith,
 use Rattle.qp_turns.specs.Knowing.{IsScanning}
 use Rattle.qp_turns.specs.Ordering.{AreSeenEmpty, PassedInOrder}
 use Rattle.qp_turns.specs.Turning.{Passed, Stood, row_below, stand_of, terms_of}
+use Rattle.qp_turns.proofs.Counting.{begin-none}
+use Rattle.qp_turns.proofs.Lanes.{goes-none, goes-then, halts-then}
+use Rattle.std.proofs.lemmas.Result.{err_from_is_err_and}
 use Rattle.qp_turns.proofs.Ordered.{seen-none}
 use Rattle.qp_turns.proofs.Rows.{row-whole}
 use Rattle.qp_turns.proofs.Rounds.{onward-none, row-none}
@@ -24,6 +27,8 @@ loop-place-init g c =
         none = λ base acting h. h;
         empty = seen-none sys c.args.floor _ (g.W.Ops.lane c.args.world.now) (omega (arith, c.count-many.ensures));
       };
+      lane = goes-none g.W.World.acts (g.W.Ops.lane c.args.world.now);
+      begun = begin-none c.args.kernel.now c.args.objects.now;
     }
 
 pub visit-requires-clause-knows : goal.visit-requires-clause-knows
@@ -52,4 +57,13 @@ returns g c =
       order =
           subst (λ m. PassedInOrder g.W.World.acts sys c.args.floor m (stand_of c.args.kernel.now c.args.objects.now (lane c.args.world.now)) (stand_of c.loop-place.kernel c.loop-place.objects (lane c.loop-place.world))) none c.loop-place.invariant.order;
       rests = tt;
+      lane = c.loop-place.invariant.lane;
+      begun = c.loop-place.invariant.begun;
     }
+
+pub returns-in_err-visit-clause-lane : goal.returns-in_err-visit-clause-lane
+returns-in_err-visit-clause-lane g c =
+    let lane = g.W.Ops.lane in
+    let p = err_from_is_err_and c.from_residual.result c.from_residual.ensures.1 in
+    rw (p.1, p.2)
+    (halts-then g.W.World.acts (lane c.args.world.now) (lane c.loop-place.world) (lane c.visit.new.world) c.in_err-visit.field-0.0 c.loop-place.invariant.lane c.in_err-visit.ensures.lane)
