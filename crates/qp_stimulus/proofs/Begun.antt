@@ -31,7 +31,7 @@ halts-first sys s place look v m w r same h = go r (subst (λ x. Halts x w r) sa
     go stimulated.Done h = absurd h
     go stimulated.Tried h = absurd h
     go stimulated.Stopped h = inr (inr h)
-    go stimulated.Memory h = record { g = []; mid = v; grows = gains-none v; own = λ a. refl; stops = h }
+    go stimulated.Memory h = record { g = []; mid = v; grows = gains-none v; own = λ a. refl; dry = h }
 
 module _ (sys : System) (s : Stim) (place look : ℕ) (v r n : LaneView) (room : Roomier v r) (note : Adds (plain (body.Stim place look) ∷ []) r n) where
   begins : Grows (plain (body.Stim place look) ∷ []) v n

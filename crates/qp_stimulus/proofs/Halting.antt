@@ -10,9 +10,10 @@ use Rattle.qp_model.specs.Sources.{StimFits}
 use Rattle.qp_model.specs.Told.{Told, for_object}
 use Rattle.qp_calls.specs.LaneView.{LaneView, Grows}
 use Rattle.qp_calls.specs.Notes.{spills_in}
-use Rattle.qp_orders.specs.Stimulus.{ArePlain}
+use Rattle.qp_orders.specs.Stimulus.{ArePlain, StimulusForm}
 use Rattle.qp_orders.proofs.CalmLemmas.{calm-parts}
 use Rattle.qp_orders.proofs.StimulusForm.{cut-plain, stimulus-form}
+use Rattle.qp_stimulus.specs.Stimulating.{Happens, begun}
 
 plain-spills : (o : ℕ) (g : List Told) → ArePlain g → spills_in (map (for_object o) g) ≡ false
 plain-spills o [] h = refl
@@ -23,3 +24,10 @@ pub cut-spills : (sys : System) (s : Stim) (asserted : Bool) (one back : List To
 cut-spills sys s asserted one back v w none grows some fits =
     rw (grows.told, list_any-append (λ t. is_spill t.told.body) v.told (map (for_object v.by) one), none)
     (plain-spills v.by one (cut-plain asserted one back some (stimulus-form sys s asserted (one ++ back) fits)))
+
+-- nor has one in which a stimulus came to its end
+pub happens-unspilled : (sys : System) (s : Stim) (place look : ℕ) (v w : LaneView) → spills_in v.told ≡ false → Happens sys s place look v w → spills_in w.told ≡ false
+unfolding StimulusForm
+happens-unspilled sys s place look v w none h =
+    rw (h.grows.told, list_any-append (λ t. is_spill t.told.body) v.told (map (for_object v.by) (begun place look h.one)), none)
+    (plain-spills v.by h.one (stimulus-form sys s false h.one (h.fits sim)))

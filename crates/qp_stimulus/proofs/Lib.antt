@@ -1,6 +1,6 @@
-mod Halting
+pub mod Halting
 mod Settled
-mod Completing
+pub mod Completing
 mod Called
 mod Aloof
 mod Begun
