@@ -1,6 +1,7 @@
 """Refusals in words: the slips, each kind of line, and the words of a call."""
 
 import contextlib
+import io
 import os
 import re
 import subprocess
@@ -9,7 +10,7 @@ import unittest
 from pathlib import Path
 
 from qptools.changes import change_all
-from qptools.explain.command import explanation
+from qptools.explain.command import explanation, main
 from qptools.explain.hints import hints
 from qptools.explain.refusal import Refusal, read_refusal
 from qptools.explain.words import explain_words
@@ -19,7 +20,7 @@ from qpviewer.system import read_system
 CLOCK = TOP / "examples" / "clock"
 LAMP = TOP / "examples" / "lamp.toml"
 JUDGED = TOP / "crates" / "qp_verdicts" / "data"
-#: Journals by their names in the slips: those that the slips change stand in the program's own tests, or are run.
+#: What stands in the place of the program's line where it says nothing.
 NOTHING = "-"
 
 
@@ -95,12 +96,13 @@ class Slips(unittest.TestCase):
                     files["clock-run.txt"] = run.stdout
                 change_all(files, words, slip["change"][0])
                 with folder_with(files):
-                    ran = subprocess.run([TOP / "qp", "explain", *words], capture_output=True, text=True)
+                    told = io.StringIO()
+                    with contextlib.redirect_stdout(told):
+                        status = main(words)
                     plain = subprocess.run([TOP / "qp", *words], capture_output=True, text=True)
-                    lines = ran.stdout.splitlines()
                     said = [] if slip["says"] == [NOTHING] else slip["says"]
-                    self.assertEqual(lines, said + [f"    {line}" for line in slip["means"]])
-                    self.assertEqual((ran.returncode, "".join(f"{line}\n" for line in said)), (plain.returncode, plain.stderr))
+                    self.assertEqual(told.getvalue().splitlines(), said + [f"    {line}" for line in slip["means"]])
+                    self.assertEqual((status, "".join(f"{line}\n" for line in said)), (plain.returncode, plain.stderr))
 
 
 class Lines(unittest.TestCase):
@@ -208,6 +210,11 @@ class Launcher(unittest.TestCase):
         self.assertEqual(self.call("run", "lamp.toml"), (1, "", "qp: bad words\n    STIMULI is missing: qp run SYSTEM STIMULI\n"))
         self.assertEqual(self.call("run", "--kernel=qv", "--form", "1", "lamp.toml", "go.txt")[2].splitlines()[1:],
                          ["    a journal of qv has form 2 alone"])
+
+    def test_explain_is_a_word_of_the_launcher(self):
+        status, said, noted = self.call("explain", "run", "lost.toml", "go.txt")
+        self.assertEqual((status, noted), (2, ""))
+        self.assertTrue(said.startswith("qp: lost.toml: absent\n    there is no file lost.toml in "))
 
     def test_nothing_stands_below_other_lines_in_a_pipe(self):
         self.assertEqual(self.call("run", "lost.toml", "go.txt"), (2, "", "qp: lost.toml: absent\n"))

@@ -10,6 +10,7 @@ import textwrap
 from collections import defaultdict
 from dataclasses import dataclass, field
 
+from .coverage import Coverage
 from .system_parts import Chart, Row, State
 
 CHAR = 7.3
@@ -25,12 +26,14 @@ WIDEST = 52
 
 @dataclass
 class Text:
-    """A line of text at its baseline; `row` is the number of the state's row that it belongs to, 0 for none."""
+    """A line of text at its baseline; `row` is the number of the state's row that it belongs to, 0 for none, which
+    `is_never` taken."""
 
     x: float
     y: float
     words: str
     row: int = 0
+    is_never: bool = False
 
 
 @dataclass
@@ -49,6 +52,7 @@ class Box:
 
     state: State
     lines: list[tuple[str, int]]
+    never: set[int]
     children: list["Box"]
     who: int
     x: float = 0
@@ -90,12 +94,14 @@ class Picture:
     height: float
 
 
-def lay_out(chart: Chart, who: int) -> Picture:
-    """The picture of a chart, with room beside each state's name for so many letters of who is there."""
+def lay_out(chart: Chart, who: int, coverage: Coverage | None = None) -> Picture:
+    """The picture of a chart, with room beside each state's name for so many letters of who is there, and behind each row
+    how often it was taken."""
     below: dict[State | None, list[State]] = defaultdict(list)
     for state in chart.states:
         below[state.parent].append(state)
-    tops = [_measured(state, below, who) for state in below[None]]
+    times = {(taken.state, taken.number): taken.times for taken in coverage.rows(chart)} if coverage else {}
+    tops = [_measured(state, below, who, times) for state in below[None]]
     initial = Initial(GUTTER / 2, PAD, _initial_lines(chart.init_do))
     top = PAD + max(DOTTED, len(initial.words) * LINE) + GAP / 2
     width = max([box.width for box in tops] + [_width(line.words) for line in initial.words])
@@ -143,13 +149,19 @@ def _initial_lines(actions: list[str]) -> list[Text]:
     return [Text(0, 0, line) for line in _wrapped(f"/ {'; '.join(actions)}")] if actions else []
 
 
-def _measured(state: State, below: dict[State | None, list[State]], who: int) -> Box:
+def _times_words(times: int | None) -> str:
+    return "" if times is None else f" · {times}×" if times else " · never"
+
+
+def _measured(state: State, below: dict[State | None, list[State]], who: int, times: dict[tuple[State, int], int]) -> Box:
     """A state's box with its least size."""
     lines = [(line, 0) for line in _wrapped(f"entry / {'; '.join(state.entry)}") if state.entry]
     lines += [(line, 0) for line in _wrapped(f"exit / {'; '.join(state.exit)}") if state.exit]
     for number, row in enumerate(state.rows, 1):
-        lines += [(line, number) for line in _row_lines(row)]
-    box = Box(state, lines, [_measured(child, below, who) for child in below[state]], who)
+        *first, last = _row_lines(row)
+        lines += [(line, number) for line in [*first, last + _times_words(times.get((state, number)))]]
+    never = {number for number in range(1, len(state.rows) + 1) if times.get((state, number)) == 0}
+    box = Box(state, lines, never, [_measured(child, below, who, times) for child in below[state]], who)
     if state.init:
         box.initial = Initial(0, 0, _initial_lines(state.init_do))
     texts = [line for line, _ in lines] + [" " * (len(state.name) + (who + 2 if who else 0))]
@@ -176,7 +188,7 @@ def _place(box: Box, x: float, y: float, width: float) -> None:
     for words, row in box.lines:
         shown = words.lstrip(" ")
         indent = _width(words) - _width(shown)
-        box.texts.append(Text(x + PAD + indent, y + LINE - 6, shown, row))
+        box.texts.append(Text(x + PAD + indent, y + LINE - 6, shown, row, row in box.never))
         y += LINE
     if box.lines:
         y += PAD / 2

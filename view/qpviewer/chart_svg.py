@@ -31,7 +31,7 @@ def _box(box: Box) -> str:
     x, y, right = _number(box.x), _number(box.y), _number(box.right - PAD)
     number, base = box.state.number, _number(box.y + 16)
     lines = "".join(
-        f'<text class="{"row" if text.row else "does"}" data-row="{text.row}" x="{_number(text.x)}" '
+        f'<text class="{"row never" if text.is_never else "row" if text.row else "does"}" data-row="{text.row}" x="{_number(text.x)}" '
         f'y="{_number(text.y)}">{escape(text.words)}</text>'
         for text in box.texts
     )

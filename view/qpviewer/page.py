@@ -7,10 +7,11 @@ from string import Template
 
 from .chart_layout import lay_out
 from .chart_svg import chart_svg
+from .coverage import Coverage
 from .journal import KERNELS
 from .story import Story
 from .suspects import suspect_of
-from .system_parts import Chart, System
+from .system_parts import Chart
 from .verdict import Verdict, verdict_words
 
 _ASSETS = Path(__file__).resolve().parent / "assets"
@@ -48,7 +49,7 @@ def page_of(story: Story, names: tuple[str, str, str], verdict: Verdict | None =
         stop=_stop(story, stop),
         notices="".join(f'<p class="notice" role="note">{notice}</p>' for notice in _notices(story, verdict, judged)),
         meaning=escape(story.order.meaning),
-        charts="\n".join(_chart(place, chart, system) for place, chart in enumerate(system.charts.values())),
+        charts="\n".join(_chart(place, chart, story) for place, chart in enumerate(system.charts.values())),
         objects=_table("Objects", _OBJECT_HEADS, story.object_lines()),
         pools=_table("Pools", _POOL_HEADS, story.pool_lines()) if system.pools else "",
         records="\n".join(f"{lane} {record.text}" for lane, record in story.records()),
@@ -93,8 +94,10 @@ def _notices(story: Story, verdict: Verdict | None, judged: int | None) -> list[
     return notices
 
 
-def _chart(place: int, chart: Chart, system: System) -> str:
-    users = [entry.name for entry in reversed(system.objects) if entry.chart is chart]
+def _chart(place: int, chart: Chart, story: Story) -> str:
+    users = [entry.name for entry in reversed(story.system.objects) if entry.chart is chart]
+    coverage = Coverage(story.system)
+    coverage.add(story.journal)
     room = min(_WHO, len(", ".join(users)))
     facts = []
     if users:
@@ -105,7 +108,7 @@ def _chart(place: int, chart: Chart, system: System) -> str:
     return (
         f'<section class="chart-box" id="chart-{place}" data-chart="{place}" aria-label="Chart {escape(chart.name)}">'
         f'<h3>{escape(chart.name)}</h3><ul class="facts">{"".join(f"<li>{escape(fact)}</li>" for fact in facts)}</ul>'
-        f'<div class="chart-scroll" tabindex="0">{chart_svg(lay_out(chart, room), chart.name)}</div></section>'
+        f'<div class="chart-scroll" tabindex="0">{chart_svg(lay_out(chart, room, coverage), chart.name)}</div></section>'
     )
 
 

@@ -1,0 +1,1 @@
+"""Tests of charts: cases of a system under stimuli, with what has to come of them under each kernel."""

@@ -1,0 +1,69 @@
+"""What of a run differs from what a case expects, in words."""
+
+from .case_file import Case, Expected
+from .outcome import Outcome
+from .summary import ObjectSummary
+
+
+def differences(case: Case, outcome: Outcome) -> list[str]:
+    """A line for each thing that differs; none where all is as expected."""
+    found = []
+    if outcome.verdict != "lawful":
+        found.append(f"the journal is {outcome.verdict}, expected lawful")
+    if outcome.summary.end != case.end:
+        found.append(f"end is {outcome.summary.end}, expected {case.end}{_stop(outcome)}")
+    if case.summary is not None and outcome.text != case.summary:
+        found += _lines_that_differ(outcome.text, case.summary)
+    found += _refusals(case, outcome)
+    found += _blocks(case, outcome)
+    for name, expected in case.objects.items():
+        owner = next((entry for entry in outcome.story.system.objects if entry.name == name), None)
+        if owner is None:
+            found.append(f"the system has no object {name}")
+        else:
+            found += _object(name, expected, outcome.summary.objects[name], outcome.said(owner.priority))
+    return found
+
+
+def _stop(outcome: Outcome) -> str:
+    stop = outcome.story.stop()
+    return f": {' '.join(outcome.story.in_words(stop))}" if stop is not None else ""
+
+
+def _lines_that_differ(text: str, wanted: str) -> list[str]:
+    pairs = zip(text.splitlines(), wanted.splitlines())
+    found = [f"the summary has `{line}`, expected `{other}`" for line, other in pairs if line != other]
+    return found or ["the summary has another number of lines"]
+
+
+def _refusals(case: Case, outcome: Outcome) -> list[str]:
+    refused = outcome.refused()
+    if case.refused is None or len(refused) == case.refused:
+        return []
+    first = f"; the first: {' '.join(outcome.story.in_words(refused[0]))}" if refused else ""
+    return [f"{len(refused)} calls are refused, expected {case.refused}{first}"]
+
+
+def _blocks(case: Case, outcome: Outcome) -> list[str]:
+    if case.blocks_back is None:
+        return []
+    out = [(number, given - back) for number, (given, back) in enumerate(outcome.summary.pools, 1) if given != back]
+    if case.blocks_back:
+        return [f"pool {number} has {left} out, expected all back" for number, left in out]
+    return [] if out else ["all blocks are back, expected some out"]
+
+
+def _object(name: str, expected: Expected, found: ObjectSummary, said: list[int]) -> list[str]:
+    told = []
+    if expected.state is not None and found.state != expected.state:
+        told.append(f"{name} is in {found.state or 'no state, since its step is cut off'}, expected {expected.state}")
+    if expected.took is not None and found.taken != expected.took:
+        told.append(f"{name} took {found.taken} events, expected {expected.took}")
+    for variable, value in expected.vars.items():
+        if variable not in found.vars:
+            told.append(f"{name} has no variable {variable}" if found.state else f"{name}'s {variable} can't be told, since its step is cut off")
+        elif found.vars[variable] != value:
+            told.append(f"{name}'s {variable} is {found.vars[variable]}, expected {value}")
+    if expected.said is not None and said != expected.said:
+        told.append(f"{name} said {said}, expected {expected.said}")
+    return told

@@ -1,0 +1,92 @@
+"""The orders in which the stimuli of several sources may happen, run one after another, and what comes of them."""
+
+import os
+import tempfile
+from collections.abc import Iterator
+from concurrent.futures import ThreadPoolExecutor
+from dataclasses import dataclass
+from itertools import islice
+from math import comb
+from pathlib import Path
+
+from ..program import call
+
+#: An order: the number of the source of each stimulus, from 1.
+Order = tuple[int, ...]
+
+
+@dataclass(frozen=True)
+class Group:
+    """Orders that come to the same: the outcome, how many they are, and the one with the fewest changes of source."""
+
+    outcome: str
+    count: int
+    order: Order
+
+
+def count_of(lengths: list[int]) -> int:
+    """How many orders there are of so many stimuli of each source."""
+    total, number = 0, 1
+    for length in lengths:
+        total += length
+        number *= comb(total, length)
+    return number
+
+
+def orders(lengths: list[int]) -> Iterator[Order]:
+    """All orders, those with few changes of source first; each source's stimuli keep their order."""
+    for changes in range(sum(lengths)):
+        yield from _with(tuple(lengths), 0, changes)
+
+
+def _with(left: tuple[int, ...], last: int, changes: int) -> Iterator[Order]:
+    """The orders of what is left behind a stimulus of source `last`, 0 for none, with just so many changes."""
+    if not any(left):
+        if not changes:
+            yield ()
+        return
+    if sum(1 for source, number in enumerate(left, 1) if number and source != last) > changes + (not last):
+        return
+    for source, number in enumerate(left, 1):
+        is_change = last not in (0, source)
+        if number and changes >= is_change:
+            rest = left[:source - 1] + (number - 1,) + left[source:]
+            for order in _with(rest, source, changes - is_change):
+                yield (source, *order)
+
+
+def merged(stimuli: list[list[str]], order: Order) -> str:
+    """The stimuli of all sources as one source's, in an order."""
+    places = [iter(lines) for lines in stimuli]
+    return "".join(f"{line}\n" for line in ["source 1", *(next(places[source - 1]) for source in order)])
+
+
+def outcomes(system: Path, stimuli: list[list[str]], words: list[str], most: int) -> list[Group]:
+    """What comes of at most so many orders, the commonest first; `words` are options of `run`."""
+    chosen = list(islice(orders([len(lines) for lines in stimuli]), most))
+    with tempfile.TemporaryDirectory() as folder, ThreadPoolExecutor(os.cpu_count()) as pool:
+        def come(numbered: tuple[int, Order]) -> str:
+            file = Path(folder, str(numbered[0]))
+            file.write_text(merged(stimuli, numbered[1]))
+            ran = call(["run", "--out", "summary", *words, "--", str(system), str(file)])
+            return ran.output.decode() + ran.note
+
+        found: dict[str, list[Order]] = {}
+        for order, outcome in zip(chosen, pool.map(come, enumerate(chosen))):
+            found.setdefault(outcome, []).append(order)
+    groups = [Group(outcome, len(those), those[0]) for outcome, those in found.items()]
+    return sorted(groups, key=lambda group: -group.count)
+
+
+def orders_text(groups: list[Group], stimuli: list[list[str]], total: int) -> str:
+    """The outcomes, each with how many orders lead to it and the one with the fewest changes of source."""
+    ran = sum(group.count for group in groups)
+    lines = [f"{ran} of {total} orders were run, with {len(groups)} outcome{'' if len(groups) == 1 else 's'}"]
+    common = set.intersection(*(set(group.outcome.splitlines()) for group in groups)) if len(groups) > 1 else set()
+    for number, group in enumerate(groups, 1):
+        lines.append(f"outcome {number}, of {group.count} order{'' if group.count == 1 else 's'}:")
+        lines += [f"  {line}" for line in group.outcome.splitlines() if line not in common]
+        lines.append(f"  by the order {' '.join(map(str, group.order))}:")
+        places = [iter(own) for own in stimuli]
+        lines += [f"    source {source}: {next(places[source - 1])}" for source in group.order]
+    return "".join(f"{line}\n" for line in lines)

@@ -1,0 +1,183 @@
+"""Tests of charts: files of cases, what differs, orders, coverage and low water."""
+
+import contextlib
+import io
+import subprocess
+import tempfile
+import unittest
+from pathlib import Path
+
+from qptools.cases.case_file import CaseFault, read_cases
+from qptools.cases.command import main
+from qptools.cases.orders import Group, count_of, merged, orders, orders_text
+from qptools.cases.summary import read_summary
+from qptools.program import TOP, is_built
+from qpviewer.coverage import Coverage
+from qpviewer.journal import read_journal
+from qpviewer.low_water import LowWater
+from qpviewer.stimuli import read_stimuli
+from qpviewer.story import Story
+from qpviewer.system import read_system
+
+EXAMPLES = TOP / "examples"
+JUDGED = TOP / "crates" / "qp_verdicts" / "data"
+CASE = '[[case]]\nname = "a"\nsystem = "lamp.toml"\nstimuli = "go.txt"\n'
+
+
+def answer(*words: str) -> tuple[int, str, str]:
+    told, noted = io.StringIO(), io.StringIO()
+    with contextlib.redirect_stdout(told), contextlib.redirect_stderr(noted):
+        status = main(list(words))
+    return status, told.getvalue(), noted.getvalue()
+
+
+class Files(unittest.TestCase):
+    """Files of cases."""
+
+    def setUp(self):
+        folder = tempfile.TemporaryDirectory()
+        self.addCleanup(folder.cleanup)
+        self.folder = Path(folder.name)
+        for name in ("lamp.toml", "go.txt"):
+            (self.folder / name).write_text((EXAMPLES / name).read_text())
+
+    def write(self, text: str) -> Path:
+        (self.folder / "cases.toml").write_text(text)
+        return self.folder / "cases.toml"
+
+    def test_defaults(self):
+        case = read_cases(self.write(CASE))[0]
+        self.assertEqual((case.kernels, case.budget, case.end, case.refused, case.blocks_back), (("sim", "qv"), 100_000, 0, None, None))
+        self.assertEqual(case.stimuli, self.folder / "go.txt")
+
+    def test_stimuli_as_a_text(self):
+        text = CASE.replace('"go.txt"', '"""\nsource 1\npost lamp GO\n"""')
+        self.assertEqual(read_cases(self.write(text))[0].stimuli, "source 1\npost lamp GO\n")
+
+    def test_faults(self):
+        table = (
+            ("case = 1\n", "has [[case]] tables"), ("[[case]]\n", "case 1: name is missing"), (CASE + "colour = 1\n", "'colour' is no key"),
+            (CASE + 'kernel = "qk"\n', "a kernel is sim or qv"), (CASE + "object.lamp = { colour = 1 }\n", "object lamp: 'colour' is no key"),
+            ("[[case", "cases.toml: "),
+        )
+        for text, words in table:
+            with self.subTest(words), self.assertRaises(CaseFault) as raised:
+                read_cases(self.write(text))
+            self.assertIn(words, str(raised.exception))
+
+    @unittest.skipUnless(is_built(), "the program isn't built")
+    def test_what_differs(self):
+        table = (
+            ("object.lamp = { state = \"on\", took = 1 }\n", []),
+            ("object.lamp = { state = \"off\" }\n", ["lamp is in on, expected off"]),
+            ("object.lamp = { took = 2, said = [1] }\n", ["lamp took 1 events, expected 2", "lamp said [], expected [1]"]),
+            ("object.lamp = { vars = { x = 1 } }\n", ["lamp has no variable x"]),
+            ("object.light = { took = 1 }\n", ["the system has no object light"]),
+            ("end = 3\n", ["end is 0, expected 3"]), ("refused = 1\n", ["0 calls are refused, expected 1"]),
+            ("blocks_back = false\n", ["all blocks are back, expected some out"]),
+        )
+        for text, told in table:
+            with self.subTest(text):
+                self.write(CASE + 'kernel = "sim"\n' + text)
+                status, printed, _ = answer(str(self.folder))
+                self.assertEqual(status, 1 if told else 0)
+                self.assertEqual([line.strip() for line in printed.splitlines()[1:-1]], told)
+
+    @unittest.skipUnless(is_built(), "the program isn't built")
+    def test_a_system_that_is_refused_is_explained(self):
+        (self.folder / "lamp.toml").write_text((EXAMPLES / "lamp.toml").read_text().replace('"GO"\nto', '"go"\nto'))
+        self.write(CASE + 'kernel = "sim"\n')
+        status, printed, _ = answer(str(self.folder))
+        self.assertEqual(status, 1)
+        self.assertIn("row 1 (on go), signal: go isn't declared", printed)
+
+    @unittest.skipUnless(is_built(), "the program isn't built")
+    def test_a_run_that_stops_is_told(self):
+        text = (EXAMPLES / "lamp.toml").read_text().replace('to = "on"', 'do = ["post me GO", "post me GO", "post me GO"]')
+        (self.folder / "lamp.toml").write_text(text)
+        self.write(CASE + 'kernel = "sim"\n')
+        self.assertIn("end is 3, expected 0: lamp asserts: the queue of lamp is full", answer(str(self.folder))[1])
+
+    def test_words(self):
+        self.assertEqual(answer("--help")[0], 0)
+        for words in ((), (str(self.folder),), ("cover",), ("low", "x")):
+            with self.subTest(words):
+                self.assertIn(answer(*words)[0], (2, 125))
+
+
+class Orders(unittest.TestCase):
+    """Orders of stimuli."""
+
+    def test_all_orders_each_once(self):
+        for lengths in ([1], [2, 1], [2, 2], [3, 2, 1], [0, 2]):
+            with self.subTest(lengths):
+                found = list(orders(lengths))
+                self.assertEqual(len(found), count_of(lengths))
+                self.assertEqual(len(set(found)), len(found))
+                for order in found:
+                    self.assertEqual([order.count(source) for source in range(1, len(lengths) + 1)], lengths)
+                changes = [sum(a != b for a, b in zip(order, order[1:])) for order in found]
+                self.assertEqual(changes, sorted(changes))
+
+    def test_merged(self):
+        self.assertEqual(merged([["tick 0", "settle"], ["tick 1"]], (1, 2, 1)), "source 1\ntick 0\ntick 1\nsettle\n")
+
+    def test_text(self):
+        groups = [Group("end 0\nobject a 1 s\n", 2, (1, 2)), Group("end 0\nobject a 2 s\n", 1, (2, 1))]
+        self.assertEqual(orders_text(groups, [["tick 0"], ["settle"]], 3).splitlines(), [
+            "3 of 3 orders were run, with 2 outcomes", "outcome 1, of 2 orders:", "  object a 1 s", "  by the order 1 2:",
+            "    source 1: tick 0", "    source 2: settle", "outcome 2, of 1 order:", "  object a 2 s", "  by the order 2 1:",
+            "    source 2: settle", "    source 1: tick 0",
+        ])
+
+    @unittest.skipUnless(is_built(), "the program isn't built")
+    def test_outcomes(self):
+        status, printed, _ = answer("orders", str(EXAMPLES / "clock" / "clock.toml"), str(EXAMPLES / "clock" / "two.txt"))
+        self.assertEqual(status, 0)
+        self.assertTrue(printed.startswith("3 of 3 orders were run, with 2 outcomes\n"))
+        self.assertTrue(answer("orders", "--most", "2", str(EXAMPLES / "clock" / "clock.toml"), str(EXAMPLES / "clock" / "two.txt"))[1]
+                        .startswith("2 of 3 orders were run"))
+
+
+class Counts(unittest.TestCase):
+    """Coverage and low water, of the judge's journals."""
+
+    def story(self, system: str, stimuli: str, journal: str) -> Story:
+        parts = read_system((JUDGED / "systems" / system).read_bytes())
+        lines = read_stimuli((JUDGED / "stimuli" / stimuli).read_bytes(), parts)
+        return Story(parts, lines, read_journal((JUDGED / "journals" / journal).read_bytes()))
+
+    def test_coverage(self):
+        lamp = self.story("lamp.toml", "go.txt", "switched.txt")
+        coverage = Coverage(lamp.system)
+        self.assertEqual(coverage.text(), "chart lamp: 0 of 1 rows taken\n  never: state off, row 1 (on GO to on)\n")
+        for times in (1, 2):
+            coverage.add(lamp.journal)
+            self.assertEqual([row.times for row in coverage.rows(lamp.system.charts["lamp"])], [times])
+        self.assertEqual(coverage.text(), "chart lamp: 1 of 1 rows taken\n")
+
+    def test_low_water(self):
+        full = self.story("crowded.toml", "go.txt", "crowded-out.txt")
+        low = LowWater(full.system)
+        size = full.system.objects[0].queue + 1
+        self.assertEqual(low.lines()[0], ("queue lamp", size, size))
+        low.add(full)
+        self.assertEqual(low.lines()[0], ("queue lamp", size, 0))
+
+    def test_a_summary(self):
+        found = read_summary("end 3\nobject a 2 s x=-1 y=2\nobject b 1 -\npool 1 given 3 back 0\n")
+        self.assertEqual((found.end, found.objects["a"].vars, found.objects["b"].state, found.pools), (3, {"x": -1, "y": 2}, None, [(3, 0)]))
+
+
+@unittest.skipUnless(is_built(), "the program isn't built")
+class Examples(unittest.TestCase):
+    """The examples are cases."""
+
+    def test_a_page_shows_one(self):
+        page = (TOP / "docs" / "TESTING.md").read_text()
+        shown = page.split("```\n[[case]]")[1].split("```")[0]
+        self.assertIn(shown.strip(), (EXAMPLES / "clock" / "cases.toml").read_text())
+
+    def test_the_program(self):
+        ran = subprocess.run([TOP / "tools" / "qptest", EXAMPLES / "clock"], capture_output=True, text=True)
+        self.assertEqual((ran.returncode, ran.stdout.splitlines()[-1]), (0, "4 passed, 0 failed"))
