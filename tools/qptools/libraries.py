@@ -1,0 +1,127 @@
+"""Builds the libraries below a crate, lowest first and several at once, by `rt lib` in each."""
+
+import os
+import subprocess
+import sys
+import time
+from collections.abc import Callable
+from concurrent.futures import FIRST_COMPLETED, Future, ThreadPoolExecutor, wait
+from pathlib import Path
+
+from .program import TOP
+
+USAGE = """usage: tools/libraries [--jobs N] [CRATE]
+
+Proves and builds the libraries of this repository below a crate (qp_cli), lowest first, N at once; what is built stays. N is one for each
+processor that has 4 gigabytes of memory, if it is left out. From nothing all of them take half an hour or more. Needs the toolchain, with
+its command rt on the path. Ends with 1 where one isn't built, and says which; what it said is in the crate's out/libraries.log."""
+
+#: What one job may take of memory, in gigabytes.
+GIGABYTES = 4
+LOG = "libraries.log"
+
+Below = dict[str, list[str]]
+
+
+def read_crates(text: str) -> Below:
+    """The crates of a crates.txt, each with those of the repository that it names."""
+    named: Below = {}
+    for line in text.splitlines():
+        head, colon, deps = line.partition("#")[0].partition(":")
+        if colon and head.split():
+            named[head.split()[0]] = deps.split()
+    return {name: [dep for dep in deps if dep in named] for name, deps in named.items()}
+
+
+def all_below(name: str, below: Below) -> list[str]:
+    """The libraries below a crate, each behind those below it."""
+    order: list[str] = []
+
+    def put(crate: str) -> None:
+        for dep in below[crate]:
+            if dep not in order:
+                put(dep)
+                order.append(dep)
+
+    put(name)
+    return order
+
+
+def lengths_above(crates: list[str], below: Below, size: Callable[[str], int]) -> dict[str, int]:
+    """How much stands between each crate and the top along the longest way, its own size among it."""
+    length = {crate: size(crate) for crate in crates}
+    for crate in reversed(crates):
+        for dep in below[crate]:
+            length[dep] = max(length[dep], size(dep) + length[crate])
+    return length
+
+
+def jobs_here() -> int:
+    """How many jobs this machine has room for."""
+    memory = os.sysconf("SC_PAGE_SIZE") * os.sysconf("SC_PHYS_PAGES") / 2**30
+    return max(1, min(os.cpu_count() or 1, round(memory / GIGABYTES)))
+
+
+def size_of(name: str) -> int:
+    """The lines of a crate's sources, specifications and proofs."""
+    folder = TOP / "crates" / name
+    files = (file for part in ("src", "specs", "proofs") for file in (folder / part).rglob("*") if file.is_file())
+    return sum(file.read_bytes().count(b"\n") for file in files)
+
+
+def build_one(name: str) -> bool:
+    """Builds a library; its output goes to a file beside it."""
+    folder = TOP / "crates" / name
+    (folder / "out").mkdir(exist_ok=True)
+    with open(folder / "out" / LOG, "wb") as log:
+        return subprocess.run(["rt", "lib", "--jobs", "1"], cwd=folder, stdin=subprocess.DEVNULL, stdout=log, stderr=log).returncode == 0
+
+
+def build_all(name: str, below: Below, jobs: int, size: Callable[[str], int], build: Callable[[str], bool], say: Callable[[str], None]) -> list[str]:
+    """Builds the libraries below a crate; of those that can begin the one with the longest way to the top begins first. Answers
+    those that weren't built; what stands on one of these isn't begun."""
+    left = all_below(name, below)
+    length = lengths_above(left, below, size)
+    total, done, failed = len(left), set[str](), list[str]()
+    running: dict[Future[bool], str] = {}
+    with ThreadPoolExecutor(jobs) as pool:
+        while left or running:
+            ready = [crate for crate in left if done.issuperset(below[crate])]
+            for crate in sorted(ready, key=lambda crate: -length[crate])[:jobs - len(running)]:
+                left.remove(crate)
+                say(f"building {crate}")
+                running[pool.submit(build, crate)] = crate
+            if not running:
+                break
+            for future in wait(running, return_when=FIRST_COMPLETED).done:
+                crate = running.pop(future)
+                if future.result():
+                    done.add(crate)
+                    say(f"built {crate}, {len(done)} of {total}")
+                else:
+                    failed.append(crate)
+                    say(f"{crate} isn't built; its last lines are in crates/{crate}/out/{LOG}")
+    return failed
+
+
+def main(words: list[str]) -> int:
+    """Builds what the words ask for; answers the status."""
+    jobs, name = jobs_here(), "qp_cli"
+    if words in (["-h"], ["--help"]):
+        print(USAGE)
+        return 0
+    if words[:1] == ["--jobs"] and len(words) > 1 and words[1].isdigit() and int(words[1]):
+        jobs, words = int(words[1]), words[2:]
+    below = read_crates((TOP / "crates.txt").read_text())
+    if words:
+        name, *words = words
+    if words or name not in below:
+        print(USAGE, file=sys.stderr)
+        return 1
+    begun = time.monotonic()
+
+    def say(line: str) -> None:
+        minutes, seconds = divmod(round(time.monotonic() - begun), 60)
+        print(f"{minutes:>3}:{seconds:02} {line}", file=sys.stderr, flush=True)
+
+    return 1 if build_all(name, below, jobs, size_of, build_one, say) else 0
