@@ -8,6 +8,8 @@ def explain_words(words: list[str]) -> str:
     """Names the word that isn't in the table, or says what is missing; nothing where none of this is found."""
     if not words:
         return "no command: `qp help` has them"
+    if any("\udc80" <= letter <= "\udcff" for word in words for letter in word):
+        return "a word isn't text in UTF-8"
     command, *rest = words
     if command not in COMMANDS:
         near = like(command, [*COMMANDS, "build", "help", "explain"])
