@@ -1,0 +1,5 @@
+pub mod HomeRecords
+pub mod HomeGrows
+pub mod HomeSteps
+pub mod HomeEnding
+pub mod HomeLaws

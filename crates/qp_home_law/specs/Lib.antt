@@ -1,0 +1,2 @@
+pub mod HomeLanes
+pub mod Laws
