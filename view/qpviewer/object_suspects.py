@@ -131,31 +131,6 @@ def _has_reference(record: Record, before: Record | None) -> bool:
     return pool == 0 or before is not None and before.word == "inc" and before.numbers[1:] == (pool, block, reference)
 
 
-def deferral_suspect(told: Told, verdict: Verdict) -> int | None:
-    """The deferred list: `defer` where there is room, `recall` and `flush` take the oldest."""
-    priority = verdict.numbers[0]
-    if priority not in told.objects:
-        return None
-    room, deferred = told.objects[priority].defer, []
-    for at in told.of_object(priority):
-        entry = at.record.numbers[1:4]
-        match at.record.word:
-            case "defer":
-                if len(deferred) == room:
-                    return at.index
-                deferred.append(entry)
-            case "nodefer":
-                if len(deferred) < room:
-                    return at.index
-            case "recall" | "flush":
-                if not deferred or deferred.pop(0) != entry:
-                    return at.index
-            case "norecall":
-                if deferred:
-                    return at.index
-    return None
-
-
 def course_suspect(told: Told, verdict: Verdict) -> int | None:
     """What each step does to states is what its row says, and the row is one that may take the event."""
     priority = verdict.numbers[0]

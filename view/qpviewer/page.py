@@ -9,8 +9,8 @@ from .chart_layout import lay_out
 from .chart_svg import chart_svg
 from .coverage import Coverage
 from .journal import KERNELS
+from .place import record_of
 from .story import Story
-from .suspects import suspect_of
 from .system_parts import Chart
 from .verdict import Verdict, verdict_words
 
@@ -36,8 +36,8 @@ def page_of(story: Story, names: tuple[str, str, str], verdict: Verdict | None =
     system, journal = story.system, story.journal
     count = len(story.order.places)
     stop = story.stop()
-    judged = suspect_of(verdict, system, story.stimuli, journal, story.order) if verdict else None
-    opens_at = next((index for index in (judged, stop) if index is not None), 0)
+    judged = record_of(verdict, story) if verdict else None
+    opens_at = judged[0] if judged else stop or 0
     facts = [
         f"kernel {KERNELS[journal.kernel]}", f"form {journal.form}", f"budget {journal.budget:,}",
         f"{count:,} record{'' if count == 1 else 's'}", f"{_ENDS[journal.status]} (end {journal.status})",
@@ -75,11 +75,14 @@ def _stop(story: Story, stop: int | None) -> str:
     return f'<p class="stop"><b>{escape(who)}</b> {escape(words)}, at {_link(stop)}</p>'
 
 
-def _notices(story: Story, verdict: Verdict | None, judged: int | None) -> list[str]:
+def _notices(story: Story, verdict: Verdict | None, judged: tuple[int, str] | None) -> list[str]:
     says = "<code>qp check</code> says whether the journal is lawful."
     notices = []
     if verdict:
-        place = f" Look first at {_link(judged)}: {escape(' '.join(story.in_words(judged)))}." if judged is not None else ""
+        place = ""
+        if judged:
+            index, why = judged
+            place = f" Look first at {_link(index)}: {escape(' '.join(story.in_words(index)))}.{f' {escape(why)}.' if why else ''}"
         notices.append(
             f"<b>Not lawful.</b> <code>{escape(verdict.text)}</code>: {escape(verdict_words(verdict, story.names))}.{place}"
         )

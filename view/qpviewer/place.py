@@ -5,7 +5,9 @@ from dataclasses import dataclass
 from .journal import Journal
 from .object_places import deferral_failure, shape_failure
 from .order import order_of
+from .sites import Told
 from .source_places import source_failure
+from .story import Story
 from .suspects import first_suspect
 from .system_parts import System
 from .verdict import MEANINGS, Verdict, read_verdict
@@ -60,6 +62,16 @@ def place_of(system: System, journal: Journal, verdict: str, stimuli: list[list[
         return None
     failure = _failure(system, journal, read, stimuli) or _suspect(system, journal, read, stimuli)
     return Place(read, failure.spot, failure.why, failure.history, failure.held, journal) if failure else None
+
+
+def record_of(verdict: Verdict, story: Story) -> tuple[int, str] | None:
+    """The place in a story's order of the record to look at first for a verdict, and why: the verdict's place, or else the last
+    record of its site; none where the site has none."""
+    place = place_of(story.system, story.journal, verdict.text, story.stimuli)
+    if place:
+        return story.order.places.index((place.spot.lane, place.spot.at)), place.why
+    last = Told(story.system, story.stimuli, story.journal, story.order).last_of(verdict)
+    return (last, "") if last is not None else None
 
 
 def _failure(system: System, journal: Journal, verdict: Verdict, stimuli: list[list[str]] | None) -> Failure | None:

@@ -2,8 +2,8 @@
 
 from qpviewer.files import Run
 from qpviewer.journal import Record
+from qpviewer.place import record_of
 from qpviewer.story import Story
-from qpviewer.suspects import suspect_of
 from qpviewer.verdict import read_verdict, verdict_words
 
 _ADVICE = {
@@ -59,9 +59,9 @@ def explain_verdict(text: str, run: Run) -> list[str]:
         return []
     story = Story(*run)
     told = [verdict_words(verdict, story.names)]
-    index = suspect_of(verdict, run.system, run.stimuli, run.journal, story.order)
-    if index is not None:
-        told.append(f"look first at {_record_line(story, index)}")
+    if place := record_of(verdict, story):
+        index, why = place
+        told += [f"look first at {_record_line(story, index)}", why]
     if foreign := story.foreign():
         told.append(f"line {story.line_of(foreign.index)} names {foreign.what}, which the system doesn't have: is it the journal of another system?")
     return told
