@@ -1,8 +1,8 @@
 -- The lane of a kernel that has rested: what is known of it goes on.
-use Rattle.std.proofs.Common.{◌≡◌, ℕ, ◌+◌, ◌≤◌, ◌==◌, cond, Bool, true, false, List, [], ◌∷◌, ◌++◌, reverse, refl, sym, ◌∙◌, ap, subst, arith}
+use Rattle.std.proofs.Common.{◌≡◌, ℕ, ◌≤◌, cond, Bool, true, false, List, [], ◌∷◌, ◌++◌, reverse, refl, sym, ◌∙◌, ap, subst, arith}
 use Rattle.qp_model.specs.declared.systems.System.{System}
 use Rattle.qp_model.specs.Kernels.{sim, qk, qv}
-use Rattle.qp_model.specs.KernelLane.{Reading, Resting, Again, Over, base_ended, looking_at}
+use Rattle.qp_model.specs.KernelLane.{Reading, Resting, Again, base_ended, looking_at}
 use Rattle.qp_model.specs.Sound.{IsSound}
 use Rattle.qp_orders.specs.RunOrder.{has_stim}
 use Rattle.qp_calls.specs.LaneView.{LaneView}
@@ -15,7 +15,7 @@ use Rattle.qp_turns.specs.declared.objects.Objects.{Objects}
 use Rattle.qp_turns.specs.Knowing.{HandsCover, HasStack, IsScanning, Knows, KnowsAt, MayLook}
 use Rattle.qp_turns.specs.Turning.{IsOver}
 use Rattle.qp_turns.proofs.Looking.{GoesFor, lane-on, stack-on}
-use Rattle.qp_turns.proofs.Rounds.{base-is, stim-is}
+use Rattle.qp_turns.proofs.Rounds.{base-is}
 use Rattle.qp_turns.proofs.Rows.{SameButPlace, ended-agrees, ended-same}
 use Rattle.qp_turns.proofs.SoundObjects.{numbered}
 use Rattle.qp_turns.proofs.Staying.{all-still, all-wait}

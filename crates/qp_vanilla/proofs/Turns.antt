@@ -1,5 +1,5 @@
 -- From one look of the cooperative kernel to the next.
-use Rattle.std.proofs.Common.{◌≡◌, ℕ, ◌-◌, ◌<◌, ◌≤◌, ◌==◌, cond, nat_lt, Bool, true, false, List, [], ◌∷◌, length, map, reverse, refl, sym, ◌∙◌, ap, subst, Some, None, arith}
+use Rattle.std.proofs.Common.{◌≡◌, ℕ, ◌-◌, ◌==◌, nat_lt, Bool, true, false, List, [], ◌∷◌, length, map, reverse, refl, sym, ◌∙◌, ap, subst, Some, None, arith}
 use Rattle.std.specs.Prelude.{slice_get}
 use Rattle.std.specs.List.{AllByRecursion, filter}
 use Rattle.std.proofs.lemmas.Bool.Decides.{nat_tests}
@@ -11,9 +11,9 @@ use Rattle.qp_model.specs.Sound.{IsSound, IsSoundObject}
 use Rattle.qp_calls.specs.LaneView.{LaneView}
 use Rattle.qp_kernel.specs.Turning.{Terms}
 use Rattle.qp_turns.specs.declared.objects.Objects.{Objects}
-use Rattle.qp_turns.specs.Knowing.{IsScanning, KnowsAt, MayLook}
+use Rattle.qp_turns.specs.Knowing.{IsScanning, MayLook}
 use Rattle.qp_turns.specs.Ordering.{AreSeenEmpty, IdlesInOrder, LookedInOrder, NoneActs, PassedInOrder}
-use Rattle.qp_turns.specs.Turning.{Entered, GoesOnward, Idled, Looked, Passed, RunsTop, Stand, Stood, floor_of}
+use Rattle.qp_turns.specs.Turning.{GoesOnward, Idled, Looked, Passed, RunsTop, Stand, Stood, floor_of}
 use Rattle.qp_turns.proofs.Rounds.{base-floor, came-is, idled-by, onward-all, onward-then, round-empties, runs-on}
 use Rattle.qp_turns.proofs.Tops.{empty-is, floor-within, some-last}
 use Rattle.qp_vanilla.specs.Resting.{Rested}

@@ -263,3 +263,10 @@ scan-requires-clause-turn g c =
 
 pub floor-low-requires-clause-single : goal.floor-low-requires-clause-single
 floor-low-requires-clause-single g c = λ alone. c.requires.single
+
+pub returns-in_err-happened-clause-order : goal.returns-in_err-happened-clause-order
+returns-in_err-happened-clause-order g c =
+    let lane = g.W.Ops.lane in
+    let p = err_from_is_err_and c.from_residual.result c.from_residual.ensures.1 in
+    rw (p.1, p.2)
+    (halts-from g.W.World.acts c.args.at.now.sys.now c.args.objects.now (lane c.args.world.now) c.loop.objects (lane c.loop.world) (lane c.look.new.world) c.in_err-happened.field-0.0 c.requires.knows.knows.lane.of c.loop.invariant.knows.knows.lane.of c.loop.invariant.onward c.in_err-happened.ensures.order)
