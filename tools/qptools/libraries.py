@@ -6,7 +6,6 @@ import sys
 import time
 from collections.abc import Callable
 from concurrent.futures import FIRST_COMPLETED, Future, ThreadPoolExecutor, wait
-from pathlib import Path
 
 from .program import TOP
 
@@ -69,21 +68,21 @@ def size_of(name: str) -> int:
     return sum(file.read_bytes().count(b"\n") for file in files)
 
 
-def build_one(name: str) -> bool:
-    """Builds a library; its output goes to a file beside it."""
+def build_one(name: str) -> int:
+    """Builds a library; its output goes to a file beside it. Answers the status, negative where a signal ended it."""
     folder = TOP / "crates" / name
     (folder / "out").mkdir(exist_ok=True)
     with open(folder / "out" / LOG, "wb") as log:
-        return subprocess.run(["rt", "lib", "--jobs", "1"], cwd=folder, stdin=subprocess.DEVNULL, stdout=log, stderr=log).returncode == 0
+        return subprocess.run(["rt", "lib", "--jobs", "1"], cwd=folder, stdin=subprocess.DEVNULL, stdout=log, stderr=log).returncode
 
 
-def build_all(name: str, below: Below, jobs: int, size: Callable[[str], int], build: Callable[[str], bool], say: Callable[[str], None]) -> list[str]:
+def build_all(name: str, below: Below, jobs: int, size: Callable[[str], int], build: Callable[[str], int], say: Callable[[str], None]) -> list[str]:
     """Builds the libraries below a crate; of those that can begin the one with the longest way to the top begins first. Answers
     those that weren't built; what stands on one of these isn't begun."""
     left = all_below(name, below)
     length = lengths_above(left, below, size)
     total, done, failed = len(left), set[str](), list[str]()
-    running: dict[Future[bool], str] = {}
+    running: dict[Future[int], str] = {}
     with ThreadPoolExecutor(jobs) as pool:
         while left or running:
             ready = [crate for crate in left if done.issuperset(below[crate])]
@@ -95,12 +94,12 @@ def build_all(name: str, below: Below, jobs: int, size: Callable[[str], int], bu
                 break
             for future in wait(running, return_when=FIRST_COMPLETED).done:
                 crate = running.pop(future)
-                if future.result():
+                if status := future.result():
+                    failed.append(crate)
+                    say(f"{crate} isn't built, status {status}; what it said is in crates/{crate}/out/{LOG}")
+                else:
                     done.add(crate)
                     say(f"built {crate}, {len(done)} of {total}")
-                else:
-                    failed.append(crate)
-                    say(f"{crate} isn't built; its last lines are in crates/{crate}/out/{LOG}")
     return failed
 
 

@@ -33,7 +33,7 @@ class Libraries(unittest.TestCase):
         begun, built, at_once, most = [], set(), [0], [0]
         lock = threading.Lock()
 
-        def build(name: str) -> bool:
+        def build(name: str) -> int:
             with lock:
                 self.assertTrue(built.issuperset(self.below[name]), f"{name} before those below it")
                 begun.append(name)
@@ -43,7 +43,7 @@ class Libraries(unittest.TestCase):
             with lock:
                 at_once[0] -= 1
                 built.add(name)
-            return name != fails
+            return int(name == fails)
 
         failed = build_all("top", self.below, jobs, lambda name: 2 if name == "c" else 1, build, lambda line: None)
         return begun, failed, most[0]

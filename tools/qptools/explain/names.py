@@ -67,3 +67,13 @@ def like(name: str, others: list[str]) -> str:
     folded = {other.lower(): other for other in others}
     near = get_close_matches(name.lower(), list(folded), 1, 0.6)
     return folded[near[0]] if near and folded[near[0]] != name else ""
+
+
+def listed(names: list[str]) -> str:
+    """Names as a list of words."""
+    return ", ".join(f"`{name}`" for name in names)
+
+
+def count_words(number: Any) -> str:
+    """So many parameters, in words."""
+    return "1 parameter" if number == 1 else f"{number or 'no'} parameters"

@@ -7,9 +7,9 @@ from qpviewer.faults import Fault
 from qpviewer.system import KEYS, read_tree
 from qpviewer.toml_table import NAME, RESERVED
 
-from .habits import habit_in_text
-from .names import declared, like, names_of, parameters_in, tables, used_in
+from .names import count_words, like, listed, tables
 from .place import Place, follow
+from .text_faults import no_text, parameters, undeclared
 
 #: What a value must be, by its key.
 _KINDS = {
@@ -115,7 +115,7 @@ def _missing(tree: dict[str, Any], place: Place) -> list[str]:
 def _unknown_key(tree: dict[str, Any], place: Place) -> list[str]:
     known = KEYS.get(place.inner, set())
     odd = [key for key in place.tables[-1][1] if key not in known]
-    told = [f"{_listed(odd)} {'is no key' if len(odd) == 1 else 'are no keys'} of this table"]
+    told = [f"{listed(odd)} {'is no key' if len(odd) == 1 else 'are no keys'} of this table"]
     for key in odd:
         owners = sorted(kind for kind, keys in KEYS.items() if key in keys)
         if near := like(key, sorted(known)):
@@ -128,10 +128,6 @@ def _unknown_key(tree: dict[str, Any], place: Place) -> list[str]:
         else:
             told.append(f"a {place.inner} has the keys {', '.join(sorted(known))}" if known else "")
     return [line for line in told if line]
-
-
-def _listed(names: list[str]) -> str:
-    return ", ".join(f"`{name}`" for name in names)
 
 
 def _out_of_range(tree: dict[str, Any], place: Place) -> list[str]:
@@ -172,85 +168,6 @@ def _double(tree: dict[str, Any], place: Place) -> list[str]:
     return ["this name stands twice among the things of its kind"]
 
 
-def _undeclared(tree: dict[str, Any], place: Place) -> list[str]:
-    chart = place.table("chart")
-    if place.key in ("do", "entry", "exit", "init_do", "when") and isinstance(place.value, str):
-        if place.value == "else":
-            return ["else isn't declared", habit_in_text(place.value, True)]
-        for used in used_in(place.value):
-            known = declared(tree, chart, used.kind)
-            if used.name not in known:
-                return [f"{used.name} isn't declared", *_meant(used.name, used.kind, known, tree, chart)]
-        return ["a name isn't declared"]
-    kind = {"on": "signal", "signal": "signal", "chart": "chart", "vars": "variable"}.get(place.key, "state")
-    if kind == "variable":
-        known = declared(tree, _chart_of(tree, place.table("object")), kind)
-        odd = [name for name in place.value if name not in known] if isinstance(place.value, dict) else []
-        return [f"{_listed(odd)} isn't a variable of the object's chart"]
-    known = names_of(tree if kind in ("signal", "chart") else chart, kind)
-    return [f"{place.value} isn't declared", *_meant(str(place.value), kind, known, tree, chart)]
-
-
-def _chart_of(tree: dict[str, Any], owner: dict[str, Any]) -> dict[str, Any]:
-    return next((chart for chart in tables(tree, "chart") if chart.get("name") == owner.get("chart")), {})
-
-
-def _meant(name: str, kind: str, known: list[str], tree: dict[str, Any], chart: dict[str, Any]) -> list[str]:
-    if near := like(name, known):
-        return [f"did you mean {near}? Names keep their case"]
-    for other in ("signal", "object", "timer", "variable"):
-        if other != kind and name in declared(tree, chart, other):
-            return [f"{name} is a {other}; here a {kind} must stand"]
-    article = "an" if kind == "object" else "a"
-    return [f"it must be {article} {kind}" + (f": {', '.join(known[:8])}{' ..' if len(known) > 8 else ''}" if known else ", and there is none")]
-
-
-def _no_text(tree: dict[str, Any], place: Place) -> list[str]:
-    text = str(place.value)
-    what = "an expression" if place.key == "when" else "an action"
-    return [f"isn't {what}", habit_in_text(text, place.key == "when") or "docs/FORMATS.md, section 2, has the grammar"]
-
-
-def _parameters(tree: dict[str, Any], place: Place) -> list[str]:
-    text = str(place.value)
-    signals = {str(signal.get("name")): signal.get("params", 0) for signal in tables(tree, "signal")}
-    for used in used_in(text):
-        if used.kind == "signal" and used.name in signals:
-            found = re.search(rf"\b{re.escape(used.name)}\b\s*(\(.*\))?", text)
-            given = _arguments(found[1]) if found and found[1] else 0
-            if given != signals[used.name]:
-                return [f"{used.name} has {_count(signals[used.name])}, and {given} stand{'s' if given == 1 else ''} here",
-                        f"write {used.name}({', '.join(['0'] * int(signals[used.name]))})" if signals[used.name] else f"write {used.name} alone"]
-    row = place.table("row")
-    if not row:
-        return ["p1 to p8, `forward` and `defer` stand for the event of a step, so only a row has them"]
-    most = signals.get(str(row.get("on")), 0)
-    beyond = [f"p{number}" for number in parameters_in(text) if number > int(most)]
-    if beyond:
-        return [f"{beyond[0]} isn't there: {row.get('on')} has {_count(most)}"]
-    return ["an event has another number of parameters than its signal"]
-
-
-def _count(number: Any) -> str:
-    return "1 parameter" if number == 1 else f"{number or 'no'} parameters"
-
-
-def _arguments(text: str) -> int:
-    """How many arguments stand in a text that begins with a parenthesis."""
-    depth = count = 0
-    for letter in text:
-        if letter == "(":
-            depth += 1
-            count = max(count, 1)
-        elif letter == ")":
-            depth -= 1
-            if not depth:
-                break
-        elif letter == "," and depth == 1:
-            count += 1
-    return count
-
-
 def _length(tree: dict[str, Any], place: Place) -> list[str]:
     if place.key == "object" and not place.value:
         return ["a system has 1 to 32 objects"]
@@ -263,12 +180,12 @@ def _no_pool(tree: dict[str, Any], place: Place) -> list[str]:
     params = place.table("signal").get("params", 0)
     sizes = [pool.get("size") for pool in tables(tree, "pool")]
     have = f"the pools have the sizes {', '.join(map(str, sizes))}" if sizes else "there is no pool"
-    return [f"its events need a pool of blocks with room for {_count(params)}, and {have}",
+    return [f"its events need a pool of blocks with room for {count_words(params)}, and {have}",
             f"add [[pool]] with size = {params} and blocks = 4, or write `static = true` where it has no parameters"]
 
 
 _SAYS = {
-    2: _wrong_kind, 3: _missing, 4: _unknown_key, 5: _out_of_range, 6: _double, 7: _undeclared, 8: _no_text, 9: _parameters,
+    2: _wrong_kind, 3: _missing, 4: _unknown_key, 5: _out_of_range, 6: _double, 7: undeclared, 8: no_text, 9: parameters,
     10: lambda tree, place: ["the state lies within itself: going up by `parent` comes back to it"],
     11: lambda tree, place: ["the state lies more than six deep", "a path from the top has at most 6 states"],
     12: lambda tree, place: [f"{place.value} isn't within this state", "`init` names a state whose `parent` is this one, or one further in"],

@@ -1,0 +1,86 @@
+"""Faults of the texts and names within a chart: what isn't declared, isn't an action, or has another number of parameters."""
+
+import re
+from typing import Any
+
+from .habits import habit_in_text
+from .names import count_words, declared, like, listed, names_of, parameters_in, tables, used_in
+from .place import Place
+
+
+def undeclared(tree: dict[str, Any], place: Place) -> list[str]:
+    """Code 7: the name that isn't declared, and what may be meant."""
+    chart = place.table("chart")
+    if place.key in ("do", "entry", "exit", "init_do", "when") and isinstance(place.value, str):
+        if place.value == "else":
+            return ["else isn't declared", habit_in_text(place.value, True)]
+        for used in used_in(place.value):
+            known = declared(tree, chart, used.kind)
+            if used.name not in known:
+                return [f"{used.name} isn't declared", *_meant(used.name, used.kind, known, tree, chart)]
+        return ["a name isn't declared"]
+    kind = {"on": "signal", "signal": "signal", "chart": "chart", "vars": "variable"}.get(place.key, "state")
+    if kind == "variable":
+        known = declared(tree, _chart_of(tree, place.table("object")), kind)
+        odd = [name for name in place.value if name not in known] if isinstance(place.value, dict) else []
+        return [f"{listed(odd)} isn't a variable of the object's chart"]
+    known = names_of(tree if kind in ("signal", "chart") else chart, kind)
+    return [f"{place.value} isn't declared", *_meant(str(place.value), kind, known, tree, chart)]
+
+
+def _chart_of(tree: dict[str, Any], owner: dict[str, Any]) -> dict[str, Any]:
+    return next((chart for chart in tables(tree, "chart") if chart.get("name") == owner.get("chart")), {})
+
+
+def _meant(name: str, kind: str, known: list[str], tree: dict[str, Any], chart: dict[str, Any]) -> list[str]:
+    if near := like(name, known):
+        return [f"did you mean {near}? Names keep their case"]
+    for other in ("signal", "object", "timer", "variable"):
+        if other != kind and name in declared(tree, chart, other):
+            return [f"{name} is a {other}; here a {kind} must stand"]
+    article = "an" if kind == "object" else "a"
+    return [f"it must be {article} {kind}" + (f": {', '.join(known[:8])}{' ..' if len(known) > 8 else ''}" if known else ", and there is none")]
+
+
+def no_text(tree: dict[str, Any], place: Place) -> list[str]:
+    """Code 8: what to write in the place of a text."""
+    text = str(place.value)
+    what = "an expression" if place.key == "when" else "an action"
+    return [f"isn't {what}", habit_in_text(text, place.key == "when") or "docs/FORMATS.md, section 2, has the grammar"]
+
+
+def parameters(tree: dict[str, Any], place: Place) -> list[str]:
+    """Code 9: how many parameters there are and should be."""
+    text = str(place.value)
+    signals = {str(signal.get("name")): signal.get("params", 0) for signal in tables(tree, "signal")}
+    for used in used_in(text):
+        if used.kind == "signal" and used.name in signals:
+            found = re.search(rf"\b{re.escape(used.name)}\b\s*(\(.*\))?", text)
+            given = _arguments(found[1]) if found and found[1] else 0
+            if given != signals[used.name]:
+                return [f"{used.name} has {count_words(signals[used.name])}, and {given} stand{'s' if given == 1 else ''} here",
+                        f"write {used.name}({', '.join(['0'] * int(signals[used.name]))})" if signals[used.name] else f"write {used.name} alone"]
+    row = place.table("row")
+    if not row:
+        return ["p1 to p8, `forward` and `defer` stand for the event of a step, so only a row has them"]
+    most = signals.get(str(row.get("on")), 0)
+    beyond = [f"p{number}" for number in parameters_in(text) if number > int(most)]
+    if beyond:
+        return [f"{beyond[0]} isn't there: {row.get('on')} has {count_words(most)}"]
+    return ["an event has another number of parameters than its signal"]
+
+
+def _arguments(text: str) -> int:
+    """How many arguments stand in a text that begins with a parenthesis."""
+    depth = count = 0
+    for letter in text:
+        if letter == "(":
+            depth += 1
+            count = max(count, 1)
+        elif letter == ")":
+            depth -= 1
+            if not depth:
+                break
+        elif letter == "," and depth == 1:
+            count += 1
+    return count
