@@ -7,7 +7,7 @@ use Rattle.qp_model.specs.declared.words.Word.{Word}
 use Rattle.qp_model.specs.declared.words.Word.TheVariants as word
 use Rattle.qp_model.specs.WordLaw.{is_block, is_object}
 use Rattle.qp_words.specs.Counting.{many}
-use Rattle.qp_words.specs.Rule.{queue_at, mark_in, is_ref, HasEvent, Holds}
+use Rattle.qp_words.specs.Rule.{queue_at, mark_in, is_ref, Holds}
 use Rattle.qp_words.specs.After.{ref, learned}
 use Rattle.qp_words.specs.declared.View.{View}
 use Rattle.qp_words.proofs.Marks.{line-shows, high-mark, own-counts, first-small}
@@ -17,7 +17,8 @@ use Rattle.qp_lane_views.specs.Words.{place_of, is_here, Ahead}
 use Rattle.qp_lane_views.proofs.Facts.{found-ahead}
 use Rattle.qp_lane_views.proofs.Gaining.{glance-saw}
 use Rattle.qp_lane_views.proofs.Own.{served-own}
-use Rattle.qp_lane_steps.specs.Told.{WordTold, HasPlace, QueueTold}
+use Rattle.qp_lane_steps.specs.Told.{WordTold, HasPlace, IsEvent, QueueTold}
+use Rattle.qp_lane_steps.proofs.Reading.{content-some}
 
 -- a later value is ahead too
 pub ahead-later : (sys : System) (w : Word) (v : View) (n x : ℕ) → Ahead sys w v n → mark_in (place_of w) n < mark_in (place_of w) x → Ahead sys w v x
@@ -76,13 +77,14 @@ module _ (sys : System) (words : List ℕ) (views : List View) (holds : Holds sy
 
 -- A lane whose view is u after a step learns the event of a reference that it then has in hand
 pub learns-then : (sys : System) (words : List ℕ) (views : List View) (id : ℕ) (v u : View) → get_elem? views id ≡ some v → Holds sys words (set views id u) → (p b k : ℕ) → 0 < p → 0 < many (is_ref p b k) u.hands
-    → (event : List ℕ) × Holds sys words (set views id (learned u (ref p b k) event)) × HasEvent sys event × HasPlace p b
+    → (event : List ℕ) × Holds sys words (set views id (learned u (ref p b k) event)) × IsEvent sys event × HasPlace p b
 learns-then sys words views id v u at holds p b k pos mine =
     let there : get_elem? (set views id u) id ≡ some u = get-set views id v u at in
     let stands = held-stands sys (set views id u) holds.now id u there holds.tokens p b k pos mine in
-    let block = (standing sys (set views id u) holds.now id u there holds.tokens p b k stands).0 in (
+    let block = (standing sys (set views id u) holds.now id u there holds.tokens p b k stands).0 in
+    let taken = (standing sys (set views id u) holds.now id u there holds.tokens p b k stands).1 in (
       holds.now.content p b,
       subst (Holds sys words) (set-set views id u (learned u (ref p b k) (holds.now.content p b))) (learns sys words (set views id u) holds id u there p b k block mine),
-      holds.events.event p b block,
+      (holds.events.event p b block, content-some sys words (set views id u) holds p b block taken),
       holds.fitting.pools p b block,
     )

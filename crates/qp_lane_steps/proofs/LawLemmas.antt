@@ -1,8 +1,10 @@
 -- The laws of the steps of a lane.
-use Rattle.qp_lane_steps.specs.Laws.{DropsTell, FirstReferencesTell, MoreReferencesTell, BacksTell, BeginningsTell, FillsTell, LooksTell, SeenCountsTell, EmptyQueuesTell, EyesTell, TriesTell, LastEyesTell, LastTriesTell, LaysTell, SwapsTell, FreesTell}
+use Rattle.qp_lane_steps.specs.Laws.{ReadsTell, PoolEyesTell, GivesTell, DropsTell, FirstReferencesTell, MoreReferencesTell, BacksTell, BeginningsTell, FillsTell, LooksTell, SeenCountsTell, EmptyQueuesTell, EyesTell, TriesTell, LastEyesTell, LastTriesTell, LaysTell, SwapsTell, FreesTell}
 use Rattle.qp_lane_steps.proofs.Blocks.{drops-tell, first-tells, more-tells, backs-tell, beginnings-tell, fills-tell}
 use Rattle.qp_lane_steps.proofs.Queues.{looks-tell, seen-tells, nil-tells, lays-tell, swaps-tell, frees-tell}
 use Rattle.qp_lane_steps.proofs.Claims.{eyes-tell, tries-tell, last-eyes-tell, last-tries-tell}
+use Rattle.qp_lane_steps.proofs.Reading.{reads-tell}
+use Rattle.qp_lane_steps.proofs.Pools.{pool-eyes-tell, gives-tell}
 
 pub drops_tell : DropsTell
 drops_tell sys id v own o p b k pos mine words views holds at small = drops-tell sys id v own o p b k pos mine words views holds at small
@@ -51,3 +53,12 @@ swaps_tell sys id v a l m object has_log serves l_is m_is idle words views holds
 
 pub frees_tell : FreesTell
 frees_tell sys id v room a j e object serves mine words views holds at small = frees-tell sys id v room a j e object serves mine words views holds at small
+
+pub reads_tell : ReadsTell
+reads_tell sys id v p b k j pos mine known words views holds at small = reads-tell sys id v p b k j pos mine known words views holds at small
+
+pub pool_eyes_tell : PoolEyesTell
+pool_eyes_tell sys id v own p pool o reserve words views holds at small = pool-eyes-tell sys id v own p pool o reserve words views holds at small
+
+pub gives_tell : GivesTell
+gives_tell sys id v own p pool o reserve b sig pars old new content last lowest new_is words views holds at small = gives-tell sys id v own p pool o reserve b sig pars old new content last lowest new_is words views holds at small

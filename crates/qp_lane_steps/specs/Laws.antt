@@ -1,5 +1,5 @@
 -- Each step of a lane keeps the rule of the event table and tells the lane what it found, whatever the other lanes are.
-use Rattle.std.specs.Prelude.{◌≡◌, ℕ, ◌+◌, ◌%◌, ◌^◌, ◌<◌, eqb, Bool, length, IsTrue}
+use Rattle.std.specs.Prelude.{◌≡◌, List, ℕ, ◌+◌, ◌%◌, ◌^◌, ◌<◌, eqb, Bool, length, IsTrue}
 use Rattle.std.specs.declared.option.Option.{Option}
 use Rattle.std.specs.Option.{unwrap_or}
 use prog.Atomic.{either}
@@ -8,14 +8,15 @@ use Rattle.qp_model.specs.declared.systems.System.{System}
 use Rattle.qp_model.specs.declared.bodies.Entry.{Entry}
 use Rattle.qp_model.specs.declared.words.Word.TheVariants as word
 use Rattle.qp_model.specs.Sites.{ring_of}
-use Rattle.qp_model.specs.WordLaw.{is_object}
+use Rattle.qp_model.specs.WordLaw.{is_pool, is_object}
 use Rattle.qp_words.specs.Counting.{many}
-use Rattle.qp_words.specs.Rule.{pool_at, block_at, event_at, queue_at, cell_at, is_ref, is_spot, is_spot_at, is_value, fills_of, is_place, on_queue, is_serve, is_lifo, is_took, records, code}
-use Rattle.qp_words.specs.After.{HasRoom, InHand, Steps}
+use Rattle.qp_words.specs.Rule.{pool_at, block_at, event_at, queue_at, cell_at, is_ref, is_spot, is_spot_at, is_value, fills_of, is_place, on_queue, is_serve, is_lifo, is_took, records, code, IsContent}
+use Rattle.qp_words.specs.After.{ref, HasRoom, InHand, Steps}
 use Rattle.qp_words.specs.declared.View.{View}
 use Rattle.qp_queues.specs.Laws.{cells_of, front_cell}
 use Rattle.qp_lane_views.specs.Words.{value_seen}
-use Rattle.qp_lane_steps.specs.Told.{DropTold, FirstTold, MoreTold, BackTold, FromTold, FillTold, LookTold, SeenTold, NilTold, free_in, EyeTold, TryTold, LayTold, SwapTold, FreeTold, EyeLastTold, LastTold}
+use Rattle.qp_lane_views.specs.Lane.{has_content}
+use Rattle.qp_lane_steps.specs.Told.{ReadTold, EyePoolTold, IsLowest, GiveTold, DropTold, FirstTold, MoreTold, BackTold, FromTold, FillTold, LookTold, SeenTold, NilTold, free_in, EyeTold, TryTold, LayTold, SwapTold, FreeTold, EyeLastTold, LastTold}
 
 -- Blocks.
 
@@ -36,6 +37,20 @@ BeginningsTell = (sys : System) (id : ℕ) (v : View) (p b m : ℕ) → 0 < many
 
 abbrev pub FillsTell : Type 0
 FillsTell = (sys : System) (id : ℕ) (v : View) (p b j x : ℕ) → 0 < many (is_spot p b) v.fresh → j < 9 → 0 < many (is_value p b j x) v.fills → Steps sys id v (event_at p b j) (λ n. x) (FillTold p b j x v)
+
+-- of a reference in hand whose event was learned
+abbrev pub ReadsTell : Type 0
+ReadsTell = (sys : System) (id : ℕ) (v : View) (p b k j : ℕ) → 0 < p → 0 < many (is_ref p b k) v.hands → IsTrue (has_content v.contents (ref p b k)) → Steps sys id v (event_at p b j) (λ n. n) (ReadTold sys p b k j v)
+
+-- Pools.
+
+abbrev pub PoolEyesTell : Type 0
+PoolEyesTell = (sys : System) (id : ℕ) (v : View) → HasRoom v → (p : ℕ) → IsTrue (is_pool sys p) → (o : ℕ) (reserve : Option ℕ) → Steps sys id v (pool_at p) (λ n. n) (EyePoolTold sys p o reserve v)
+
+-- where the map last seen has a block, the lowest of which is b
+abbrev pub GivesTell : Type 0
+GivesTell = (sys : System) (id : ℕ) (v : View) → HasRoom v → (p : ℕ) → IsTrue (is_pool sys p) → (o : ℕ) (reserve : Option ℕ) (b sig : ℕ) (pars : List ℕ) (old new : ℕ) → IsContent sys sig pars → value_seen sys (word.Pool p) v.seen ≡ old → IsLowest b (old % 4294967296) → new + 2 ^ b ≡ old + 4294967296
+    → Steps sys id v (pool_at p) (λ n. either (eqb n old) new n) (GiveTold sys p o reserve b sig pars v old new)
 
 -- Queues.
 

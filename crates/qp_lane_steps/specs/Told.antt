@@ -1,6 +1,7 @@
 -- What each step of a lane tells it: of its view before, the number found and its view after.
-use Rattle.std.specs.Prelude.{◌≡◌, ◌≢◌, ℕ, ◌+◌, ◌-◌, ◌*◌, ◌/◌, ◌%◌, ◌<◌, ◌≤◌, eqb, leb, ◌&&◌, Bool, List, [], ◌∷◌, cond, Some, None}
+use Rattle.std.specs.Prelude.{◌≡◌, ◌≢◌, ℕ, ◌+◌, ◌-◌, ◌*◌, ◌/◌, ◌%◌, ◌<◌, ◌≤◌, eqb, leb, ◌&&◌, Bool, List, [], ◌∷◌, cond, Some, None, length, slice_index, count_ones}
 use Rattle.std.specs.declared.option.Option.{Option}
+use Rattle.std.specs.Int.{bit_at}
 use Rattle.std.specs.Option.{unwrap_or}
 use Rattle.qp_model.specs.declared.record.Rec.{Rec}
 use Rattle.qp_model.specs.declared.systems.System.{System}
@@ -9,11 +10,12 @@ use Rattle.qp_model.specs.declared.words.Word.{Word}
 use Rattle.qp_model.specs.declared.words.Word.TheVariants as word
 use Rattle.qp_model.specs.Sites.{ring_of}
 use Rattle.qp_words.specs.Counting.{many}
-use Rattle.qp_words.specs.Rule.{pool_at, block_at, queue_at, mark_in, is_spot, Codable, code, HasEvent}
-use Rattle.qp_words.specs.After.{rec_of, ref, glanced, noted, began, doubled, dropped, put_back, read_from, filled, learned, claimed, put_first, laid, emptied, took}
+use Rattle.qp_words.specs.Rule.{pool_at, block_at, queue_at, mark_in, is_spot, Codable, code, HasEvent, IsContent}
+use Rattle.qp_words.specs.After.{rec_of, ref, glanced, noted, began, gave, doubled, dropped, put_back, read_from, filled, learned, claimed, put_first, laid, emptied, took}
 use Rattle.qp_words.specs.declared.View.{View}
 use Rattle.qp_queues.specs.Laws.{f_in, l_in, m_in, cells_of}
 use Rattle.qp_lane_views.specs.Words.{value_seen, Ahead}
+use Rattle.qp_lane_views.specs.Lane.{event_seen}
 use Rattle.qp_lane_views.specs.Telling.{Saw, OwnTold}
 
 -- a word was found to be n, and x was seen of it
@@ -24,6 +26,10 @@ pub record WordTold (sys : System) (w : Word) (v u : View) (n x : ℕ) : Type 0 
 -- a block of a system has such a place
 abbrev pub HasPlace : ℕ → ℕ → Type 0
 HasPlace p b = (0 < p) × (p < 16) × (b < 32)
+
+-- the content of a block that was given out: an event of the system
+abbrev pub IsEvent : System → List ℕ → Type 0
+IsEvent sys event = HasEvent sys event × (0 < length event)
 
 -- Blocks.
 
@@ -38,14 +44,14 @@ abbrev pub FirstTold : System → ℕ → ℕ → ℕ → View → ℕ → View 
 FirstTold sys o p b v n u =
     (event : List ℕ)
     × (u ≡ learned (began v (block_at p b) (n + 4294967297) (rec_of 17 o (p ∷ b ∷ (n / 4294967296) ∷ [])) p b (n / 4294967296)) (ref p b (n / 4294967296)) event)
-    × WordTold sys (word.Block p b) v u n (n + 4294967297) × (n % 4294967296 ≡ 0) × HasEvent sys event × HasPlace p b
+    × WordTold sys (word.Block p b) v u n (n + 4294967297) × (n % 4294967296 ≡ 0) × IsEvent sys event × HasPlace p b
 
 -- another one: the word counted some, no block of this place is fresh or used here, and the lane learns the event
 abbrev pub MoreTold : System → ℕ → ℕ → ℕ → View → ℕ → View → Type 0
 MoreTold sys o p b v n u =
     (event : List ℕ)
     × (u ≡ learned (doubled v (block_at p b) (n + 4294967297) (rec_of 17 o (p ∷ b ∷ (n / 4294967296) ∷ [])) p b (n / 4294967296)) (ref p b (n / 4294967296)) event)
-    × WordTold sys (word.Block p b) v u n (n + 4294967297) × (0 < n % 4294967296) × (many (is_spot p b) v.fresh ≡ 0) × (many (is_spot p b) v.used ≡ 0) × HasEvent sys event × HasPlace p b
+    × WordTold sys (word.Block p b) v u n (n + 4294967297) × (0 < n % 4294967296) × (many (is_spot p b) v.fresh ≡ 0) × (many (is_spot p b) v.used ≡ 0) × IsEvent sys event × HasPlace p b
 
 -- A used block comes back, whose life ended at m operations. The lane has seen no more of them.
 abbrev pub BackTold : System → ℕ → ℕ → ℕ → ℕ → ℕ → View → ℕ → View → Type 0
@@ -129,7 +135,7 @@ freed a j e v n = took v a (n + 4398046511104) (rec_of 5 a ((n % 2097152) ∷ (n
 
 abbrev pub FreeTold : System → ℕ → ℕ → Entry → View → ℕ → View → Type 0
 FreeTold sys a j e v n u =
-    (event : List ℕ) × (u ≡ cond {A = View} (eqb e.pool 0) (freed a j e v n) (learned (freed a j e v n) e event)) × QueueTold sys a v u n (n + 4398046511104) × (0 < e.pool → HasEvent sys event × HasPlace e.pool e.block)
+    (event : List ℕ) × (u ≡ cond {A = View} (eqb e.pool 0) (freed a j e v n) (learned (freed a j e v n) e event)) × QueueTold sys a v u n (n + 4398046511104) × (0 < e.pool → IsEvent sys event × HasPlace e.pool e.block)
 
 -- a look before a last-in post, and a try: the entry is claimed for the cell before the front
 abbrev pub eyed_last : ℕ → ℕ → View → ℕ → View
@@ -148,3 +154,38 @@ abbrev pub LastTold : System → ℕ → Entry → View → ℕ → ℕ → View
 LastTold sys a e v old n u =
     (n ≡ old → (u ≡ put_first_at sys a e v old) × QueueTold sys a v u old (old + 2097152))
     × (n ≢ old → (mark_in (queue_at a) old < mark_in (queue_at a) n) × EyeLastTold sys a v n u)
+
+-- a word of the event of a reference in hand, which the lane has learned: the signal at place 0, then its parameters
+abbrev pub ReadTold : System → ℕ → ℕ → ℕ → ℕ → View → ℕ → View → Type 0
+ReadTold sys p b k j v n u =
+    let e = event_seen v.contents (ref p b k) in
+    (u ≡ v) × IsContent sys e.sig e.pars × (j ≤ length e.pars → n ≡ slice_index (e.sig ∷ e.pars) j)
+
+-- Pools.
+
+-- how many blocks a pool's word has free
+abbrev pub free_of : ℕ → ℕ
+free_of x = count_ones (x % 4294967296)
+
+-- the record of a give that finds at most the reserve free; without a reserve it finds none
+abbrev pub shortage_rec : Option ℕ → ℕ → ℕ → ℕ → Rec
+shortage_rec (Some k) o p x = rec_of 16 o (p ∷ (x / 4294967296) ∷ free_of x ∷ k ∷ [])
+shortage_rec None o p x = rec_of 42 o (2 ∷ p ∷ (x / 4294967296) ∷ 0 ∷ [])
+
+-- a look before a give: with that record where too few are free
+abbrev pub eyed_pool : ℕ → ℕ → Option ℕ → View → ℕ → View
+eyed_pool p o reserve v x = cond (leb (free_of x) (unwrap_or reserve 0)) (noted v (pool_at p) x (shortage_rec reserve o p x)) (glanced v (pool_at p) x)
+
+abbrev pub EyePoolTold : System → ℕ → ℕ → Option ℕ → View → ℕ → View → Type 0
+EyePoolTold sys p o reserve v n u = (u ≡ eyed_pool p o reserve v n) × WordTold sys (word.Pool p) v u n n
+
+-- the block's bit is the lowest of the map
+abbrev pub IsLowest : ℕ → ℕ → Type 0
+IsLowest b m = (bit_at m b ≡ 1) × ((i : ℕ) → i < b → bit_at m i ≡ 0)
+
+-- A try: the lowest free block is given out, whose life begins at `from` operations; or the word shows more operations than it was
+-- seen with.
+abbrev pub GiveTold : System → ℕ → ℕ → Option ℕ → ℕ → ℕ → List ℕ → View → ℕ → ℕ → ℕ → View → Type 0
+GiveTold sys p o reserve b sig pars v old new n u =
+    (n ≡ old → (from : ℕ) × (u ≡ gave v (pool_at p) new (rec_of 15 o (p ∷ (old / 4294967296) ∷ b ∷ from ∷ sig ∷ pars)) p b from (sig ∷ pars)) × WordTold sys (word.Pool p) v u old new × (free_of new + 1 ≡ free_of old) × HasPlace p b)
+    × (n ≢ old → (mark_in (pool_at p) old < mark_in (pool_at p) n) × EyePoolTold sys p o reserve v n u)

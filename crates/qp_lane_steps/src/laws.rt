@@ -1,7 +1,7 @@
 //! One law for each kind of atomic step of a lane. Each function here does nothing: its contract is the law, by which the step keeps
 //! the rule of the event table, whatever the other lanes are, and tells its lane what it found.
 
-ghost use Rattle.qp_lane_steps.specs.Laws.{DropsTell, FirstReferencesTell, MoreReferencesTell, BacksTell, BeginningsTell, FillsTell, LooksTell, SeenCountsTell, EmptyQueuesTell, EyesTell, TriesTell, LastEyesTell, LastTriesTell, LaysTell, SwapsTell, FreesTell};
+ghost use Rattle.qp_lane_steps.specs.Laws.{ReadsTell, PoolEyesTell, GivesTell, DropsTell, FirstReferencesTell, MoreReferencesTell, BacksTell, BeginningsTell, FillsTell, LooksTell, SeenCountsTell, EmptyQueuesTell, EyesTell, TriesTell, LastEyesTell, LastTriesTell, LaysTell, SwapsTell, FreesTell};
 
 /// A reference is dropped.
 pub fn drops_tell()
@@ -81,4 +81,19 @@ pub fn swaps_tell()
 /// The entry of a take is freed.
 pub fn frees_tell()
     ensures { FreesTell }
+{}
+
+/// A word of the event of a reference in hand is read.
+pub fn reads_tell()
+    ensures { ReadsTell }
+{}
+
+/// A pool is looked at for a give, with a record where too few blocks are free.
+pub fn pool_eyes_tell()
+    ensures { PoolEyesTell }
+{}
+
+/// The lowest free block is given out where the word is still as it was last seen; else the word shows more operations.
+pub fn gives_tell()
+    ensures { GivesTell }
 {}
