@@ -4,7 +4,7 @@ use Rattle.std.specs.Prelude.{◌⊎◌, ◌≢◌}
 use Rattle.std.specs.List.{list_all, list_any}
 use Rattle.std.proofs.lemmas.Bool.{and_from}
 use Rattle.std.proofs.lemmas.Bool.Decides.{nat_tests}
-use Rattle.std.proofs.lemmas.List.{length-map}
+use Rattle.std.proofs.lemmas.List.{length-map, map-append}
 use Rattle.qp_chart.specs.declared.checked.Chart.{Chart}
 use Rattle.qp_model.specs.declared.systems.System.{System}
 use Rattle.qp_model.specs.declared.systems.ObjectDef.{ObjectDef}
@@ -29,7 +29,7 @@ use Rattle.qp_model.proofs.SequenceLemmas.{sequence-none, sequence-snoc}
 use Rattle.qp_model.proofs.ShapeLemmas.{StartShape, StepShape, groups-of, starts-shape, step-shape, turn-step}
 use Rattle.qp_model.proofs.StepLemmas.{goes_on-completes}
 use Rattle.qp_orders.specs.SourceRun.{untold, untold_all}
-use Rattle.qp_orders.proofs.CalmLemmas.{calm-all, calm-parts, calm-ends_last, calm-spents_follow, calm-states, mild-all, mild-follow, mild-states}
+use Rattle.qp_orders.proofs.CalmLemmas.{calm-all, calm-parts, calm-ends_last, calm-spents_follow, calm-states, mild-all, mild-follow, mild-states, spill_cuts-last}
 use Rattle.qp_orders.proofs.SourceLanes.{stated, untold-append}
 use Rattle.qp_kernel.specs.Stages as stage
 use Rattle.qp_kernel.specs.Stages.{ComesTo}
@@ -42,7 +42,7 @@ use Rattle.qp_kernel.proofs.ZeroLemmas.{ends-told}
 use Rattle.qp_calls.specs.LaneView.{Own}
 use Rattle.qp_port_law.specs.Homes.{home_told, is_spent_home, HomeEnds}
 use Rattle.qp_home_law.specs.HomeLanes.{nils_in, looks_in, LooksOnce, IsHomeLane, IsPartHome, IsWholeHome}
-use Rattle.qp_home_law.proofs.HomeRecords.{at-home_then, AreInside, of_it, other-zero, own-inside, drops-inside, inside-then, inside-home, inside-takes, inside-nils, inside-looks, inside-dispatched, inside-mild, own-of, home-of, home-append, dispatched-append, nils-append, looks-append, ends-asserts}
+use Rattle.qp_home_law.proofs.HomeRecords.{same-number, at-home_then, AreInside, of_it, other-zero, own-inside, drops-inside, inside-then, inside-home, inside-takes, inside-nils, inside-looks, inside-dispatched, inside-mild, own-of, home-of, home-append, dispatched-append, nils-append, looks-append, ends-asserts}
 use Rattle.qp_home_law.proofs.HomeGrows.{home-at_end, home-new, took-more}
 use Rattle.qp_home_law.proofs.HomeSteps.{course-bare, course-goes, part-groups, part-own, step-bare}
 
@@ -190,6 +190,18 @@ module _ (sys : System) (d : ObjectDef) (budget : ℕ) (own : Own) (looked : Boo
       at-spill k g inside =
           at-home_then d.priority budget true k (untold_all (of_it d.priority g)) (record { of = 0; body = body.Spill n } ∷ []) (inside-home d.priority budget false k g inside) refl
 
+-- a `spill` behind records of the object stands right behind one
+cuts-own : (o n : ℕ) (xs : List Item) (t : Told) (g : List Told) → spill_cuts o (xs ++ (untold_all (of_it o (t ∷ g)) ++ record { of = 0; body = body.Spill n } ∷ [])) ≡ true
+cuts-own o n xs t [] = spill_cuts-last o n xs (record { of = o; body = t.body }) ∙ same-number o
+cuts-own o n xs t (u ∷ g) =
+    subst (λ is. spill_cuts o is ≡ true) (append_assoc xs (record { of = o; body = t.body } ∷ []) (untold_all (of_it o (u ∷ g)) ++ record { of = 0; body = body.Spill n } ∷ []))
+    (cuts-own o n (xs ++ record { of = o; body = t.body } ∷ []) u g)
+
+cuts-behind : (o n : ℕ) (told : List ToldItem) (t : Told) (g : List Told) → spill_cuts o (untold_all (told ++ (of_it o (t ∷ g) ++ spill_told n ∷ []))) ≡ true
+cuts-behind o n told t g =
+    ap (spill_cuts o) (untold-append told (of_it o (t ∷ g) ++ spill_told n ∷ []) ∙ ap (λ x. untold_all told ++ x) (untold-append (of_it o (t ∷ g)) (spill_told n ∷ [])))
+    ∙ cuts-own o n (untold_all told) t g
+
 -- another look, which shows an entry
 looks-another : (looked : Bool) (own : Own) (xs : List (ℕ × ℕ × ℕ)) (f l m : ℕ) → l ≡ own.l → m ≡ own.m → m < f + l → LooksOnce looked own xs → all_differ (xs ++ (f, l, m) ∷ []) ≡ true
 unfolding all_differ
@@ -241,19 +253,23 @@ module _ (sys : System) (d : ObjectDef) (chart : Chart) (some : 0 < d.priority) 
 
   -- Its start is cut by a `spill`.
   pub start-is_cut : (g : List Told) (n : ℕ) (qs : List Piece) (last : Option Config) → qs ≢ [] → list_any (λ t. is_end t.body) g ≡ false → Starts sys (actor d chart) (first_config d) (tell g ++ qs) last
-      → n ≡ length g → 999992 < n → spill_cuts d.priority (untold_all (of_it d.priority g ++ spill_told n ∷ [])) ≡ true → HomeEnds sys d budget end (of_it d.priority g ++ spill_told n ∷ [])
+      → n ≡ length g → 999992 < n → HomeEnds sys d budget end (of_it d.priority g ++ spill_told n ∷ [])
   unfolding StartShape ObjectGroups
-  start-is_cut g n qs last left calm starts count many cuts =
+  start-is_cut g n qs last left calm starts count many =
       let own : Own = record { l = 0; m = 0 } in
       let new = home-new d.priority budget own in
       let inside = own-inside g (start-cut sys (actor d chart) (first_config d) g qs last left calm starts) in
       ends-cut sys d budget own false [] [] new end early (of_it d.priority g ++ spill_told n ∷ [])
-      (last-spilled sys d budget own false [] [] new end early g n some inside calm (omega (arith, count)) many) cuts (bare qs)
+      (last-spilled sys d budget own false [] [] new end early g n some inside calm (omega (arith, count)) many) (cuts g count) (bare qs)
       (subst (ObjectGroups sys d.priority true true) (bare-append (tell g) qs ∙ ap (λ x. x ++ bare qs) (bare-tell g ∙ sym (home-spilled [] g n ∙ home-of d.priority g some)))
       (by last (starts-shape sys (actor d chart) (first_config d) (tell g ++ qs) last starts)))
       (tell g) (bare-tell g ∙ sym (ap dispatched (own-spilled [] g n ∙ own-of d.priority g) ∙ inside-dispatched d.priority g inside))
       (follows-anywhere sys d chart its [] (tell g) qs last (course-start sys (actor d chart) (first_config d) (tell g ++ qs) last starts))
     where
+      cuts : (g : List Told) → n ≡ length g → spill_cuts d.priority (untold_all (of_it d.priority g ++ spill_told n ∷ [])) ≡ true
+      cuts [] count = absurd (omega (arith, count, many))
+      cuts (t ∷ g) count = cuts-behind d.priority n [] t g
+
       by : (last : Option Config) → StartShape sys d.priority last (bare (tell g ++ qs)) → ObjectGroups sys d.priority true true (bare (tell g ++ qs))
       by None broken = inl (refl, broken)
       by (Some c) whole =
@@ -358,10 +374,10 @@ module _ (sys : System) (d : ObjectDef) (chart : Chart) (some : 0 < d.priority) 
 
       -- It is cut by a `spill`.
       pub step-is_cut : (g : List Told) (n : ℕ) (qs : List Piece) (last : Option Config) → list_any (λ t. is_end t.body) g ≡ false → GoesOn sys (actor d chart) ev e left c (tell g ++ qs) last
-          → n ≡ length told + length g → 999992 < n → spill_cuts d.priority (untold_all (told ++ (of_it d.priority g ++ spill_told n ∷ []))) ≡ true
+          → n ≡ length told + length g → 999992 < n
           → HomeEnds sys d budget end (told ++ (of_it d.priority g ++ spill_told n ∷ []))
       unfolding StepShape
-      step-is_cut g n qs last calm goes count many cuts =
+      step-is_cut g n qs last calm goes count many =
           let inside = cut-inside (cut-form sys (actor d chart) ev e left c part.ready.closing g qs last calm goes) in
           let start = part.whole.start in
           let turns = part.whole.turns in
@@ -382,6 +398,16 @@ module _ (sys : System) (d : ObjectDef) (chart : Chart) (some : 0 < d.priority) 
           (course-bare sys d chart some waits told es ev e left c part g ∙ sym (ap dispatched (own-spilled told g n) ∙ part-own sys d chart some waits told es ev e left c part g inside))
           (follows-anywhere sys d chart its es (part.whole.ps ++ (part.step ++ tell g)) qs last course)
         where
+          cuts : spill_cuts d.priority (untold_all (told ++ (of_it d.priority g ++ spill_told n ∷ []))) ≡ true
+          cuts =
+              let records : part.back ++ (of_it d.priority g ++ spill_told n ∷ []) ≡ of_it d.priority (part.took ∷ (part.records ++ g)) ++ spill_told n ∷ [] =
+              ap (λ x. x ++ (of_it d.priority g ++ spill_told n ∷ [])) part.back_is ∙ sym (append_assoc (of_it d.priority (part.took ∷ part.records)) (of_it d.priority g) (spill_told n ∷ []))
+              ∙ ap (λ x. x ++ spill_told n ∷ []) (sym (map-append (for_object d.priority) (part.took ∷ part.records) g)) in
+              ap (λ x. spill_cuts d.priority (untold_all (x ++ (of_it d.priority g ++ spill_told n ∷ [])))) part.told_is
+              ∙ ap (λ x. spill_cuts d.priority (untold_all x)) (append_assoc part.front part.back (of_it d.priority g ++ spill_told n ∷ []))
+              ∙ ap (λ x. spill_cuts d.priority (untold_all (part.front ++ x))) records
+              ∙ cuts-behind d.priority n part.front part.took (part.records ++ g)
+
           cut-inside : CutForm g → AreInside g
           cut-inside (WithinIt own) = own-inside g own
           cut-inside (BehindIt front rel whole own drops) = subst AreInside (sym whole) (inside-then front (plain body.Done ∷ rel) (own-inside front own) (refl, drops-inside rel drops))

@@ -69,7 +69,7 @@ pub home_start_fails : HomeStartFails
 home_start_fails sys d chart budget end g at early starts = start-fails sys d chart at.some at.its at.able budget end early g starts
 
 pub home_start_is_cut : HomeStartIsCut
-home_start_is_cut sys d chart budget end g n qs last at early left calm starts count many cuts = start-is_cut sys d chart at.some at.its at.able budget end early g n qs last left calm starts count many cuts
+home_start_is_cut sys d chart budget end g n qs last at early left calm starts count many = start-is_cut sys d chart at.some at.its at.able budget end early g n qs last left calm starts count many
 
 pub resting_home_ends : RestingHomeEnds
 resting_home_ends sys d chart budget end own looked told es c at early rests = waiting-ends sys d chart at.some at.its at.able budget end early own looked told es rests.0 c rests.1
@@ -89,5 +89,5 @@ home_step_fails sys d chart budget end own looked waits told es ev e left c g at
     step-fails sys d chart at.some at.its at.able budget end early own looked told es busy.0 waits ev e left c busy.1 g goes
 
 pub home_step_is_cut : HomeStepIsCut
-home_step_is_cut sys d chart budget end own looked waits told es ev e left c g n qs last at early busy calm goes count many cuts =
-    step-is_cut sys d chart at.some at.its at.able budget end early own looked told es busy.0 waits ev e left c busy.1 g n qs last calm goes count many cuts
+home_step_is_cut sys d chart budget end own looked waits told es ev e left c g n qs last at early busy calm goes count many =
+    step-is_cut sys d chart at.some at.its at.able budget end early own looked told es busy.0 waits ev e left c busy.1 g n qs last calm goes count many

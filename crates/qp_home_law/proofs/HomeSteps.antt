@@ -22,6 +22,7 @@ use Rattle.qp_model.proofs.SequenceLemmas.{sequence-none, sequence-snoc}
 use Rattle.qp_model.proofs.ShapeLemmas.{StartShape, StepShape, starts-shape, step-shape, turn-step}
 use Rattle.qp_model.proofs.StepLemmas.{goes_on-completes}
 use Rattle.qp_orders.proofs.StimLemmas.{any-both}
+use Rattle.std.proofs.lemmas.List.{map-append}
 use Rattle.qp_kernel.specs.Stages as stage
 use Rattle.qp_kernel.specs.Stages.{ComesTo, IsReady}
 use Rattle.qp_kernel.specs.ZeroEnds.{own_told}
@@ -97,6 +98,9 @@ module _ (sys : System) (d : ObjectDef) (chart : Chart) (some : 0 < d.priority) 
     front = told;
     back = for_object d.priority (taken f l m e ev) ∷ [];
     told_is = refl;
+    took = taken f l m e ev;
+    records = [];
+    back_is = refl;
     others = es;
     es_are = refl;
     first = c;
@@ -168,6 +172,9 @@ module _ (sys : System) (d : ObjectDef) (chart : Chart) (some : 0 < d.priority) 
           front = part.front;
           back = part.back ++ of_it d.priority g;
           told_is = ap (λ x. x ++ of_it d.priority g) part.told_is ∙ append_assoc part.front part.back (of_it d.priority g);
+          took = part.took;
+          records = part.records ++ g;
+          back_is = ap (λ x. x ++ of_it d.priority g) part.back_is ∙ sym (map-append (for_object d.priority) (part.took ∷ part.records) g);
           others = part.others;
           es_are = part.es_are;
           first = part.first;

@@ -1,12 +1,12 @@
 -- The lane of an object that takes in a thread of its own: what is known of it between two steps, and within one.
-use Rattle.std.specs.Prelude.{◌≡◌, ℕ, ◌+◌, ◌≤◌, ◌==◌, nat_le, Bool, true, false, ◌&&◌, List, [], ◌∷◌, ◌++◌, length}
+use Rattle.std.specs.Prelude.{◌≡◌, ℕ, ◌+◌, ◌≤◌, ◌==◌, nat_le, Bool, true, false, ◌&&◌, List, [], ◌∷◌, ◌++◌, length, map}
 use Rattle.std.specs.declared.option.Option.{Option}
 use Rattle.std.specs.List.{list_all, list_any, filter_map}
 use Rattle.qp_chart.specs.declared.checked.Chart.{Chart}
 use Rattle.qp_model.specs.declared.systems.System.{System}
 use Rattle.qp_model.specs.declared.systems.ObjectDef.{ObjectDef}
 use Rattle.qp_model.specs.declared.bodies.Entry.{Entry}
-use Rattle.qp_model.specs.Told.{Told, ToldItem, Event}
+use Rattle.qp_model.specs.Told.{Told, ToldItem, Event, for_object}
 use Rattle.qp_model.specs.Ends.{is_end}
 use Rattle.qp_model.specs.End.{took_count}
 use Rattle.qp_model.specs.HomeLane.{are_at_home, nil_counts, seen_counts, all_differ}
@@ -77,6 +77,10 @@ pub record IsPartHome (sys : System) (d : ObjectDef) (chart : Chart) (waits : Bo
   pub front : List ToldItem
   pub back : List ToldItem
   pub told_is : told ≡ front ++ back
+  -- the object's own records, one at least
+  pub took : Told
+  pub records : List Told
+  pub back_is : back ≡ map (for_object d.priority) (took ∷ records)
   pub others : List Entry
   pub es_are : es ≡ others ++ e ∷ []
   pub first : Config

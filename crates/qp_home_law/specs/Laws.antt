@@ -15,8 +15,6 @@ use Rattle.qp_model.specs.Ends.{is_end, may_cut}
 use Rattle.qp_model.specs.Step.{Remainder, GoesOn, whole_step}
 use Rattle.qp_model.specs.Standing.{Advances}
 use Rattle.qp_model.specs.Course.{actor, first_config, chart_at, Starts}
-use Rattle.qp_model.specs.Lawful.{spill_cuts}
-use Rattle.qp_orders.specs.SourceRun.{untold_all}
 use Rattle.qp_calls.specs.Clauses.{last_nil, same_counts}
 use Rattle.qp_calls.specs.LaneView.{Own, NotShown}
 use Rattle.qp_kernel.specs.Stages.{IsReady}
@@ -101,7 +99,7 @@ abbrev pub HomeStartIsCut : Type 0
 HomeStartIsCut =
     (sys : System) (d : ObjectDef) (chart : Chart) (budget end : ℕ) (g : List Told) (n : ℕ) (qs : List Piece) (last : Option Config) → IsHomeOf sys d chart → may_cut end ≡ true
     → qs ≢ [] → list_any (λ t. is_end t.body) g ≡ false → Starts sys (actor d chart) (first_config d) (tell g ++ qs) last
-    → n ≡ length g → 999992 < n → spill_cuts d.priority (untold_all (map (for_object d.priority) g ++ spill_told n ∷ [])) ≡ true
+    → n ≡ length g → 999992 < n
     → HomeEnds sys d budget end (map (for_object d.priority) g ++ spill_told n ∷ [])
 
 -- it rests, and the run stops elsewhere;
@@ -137,12 +135,12 @@ HomeStepFails =
     → IsHomeOf sys d chart → may_cut end ≡ true → IsBusy sys d chart budget own looked waits told es ev e left c → GoesOn sys (actor d chart) ev e left c (tell g) None
     → HomeEnds sys d budget end (told ++ map (for_object d.priority) g)
 
--- its step is cut by a `spill`, right behind a record of the object.
+-- its step is cut by a `spill`, which stands right behind a record of the object.
 abbrev pub HomeStepIsCut : Type 0
 HomeStepIsCut =
     (sys : System) (d : ObjectDef) (chart : Chart) (budget end : ℕ) (own : Own) (looked waits : Bool) (told : List ToldItem) (es : List Entry) (ev : Event) (e : Entry) (left : Remainder)
     (c : Config) (g : List Told) (n : ℕ) (qs : List Piece) (last : Option Config)
     → IsHomeOf sys d chart → may_cut end ≡ true → IsBusy sys d chart budget own looked waits told es ev e left c
     → list_any (λ t. is_end t.body) g ≡ false → GoesOn sys (actor d chart) ev e left c (tell g ++ qs) last
-    → n ≡ length told + length g → 999992 < n → spill_cuts d.priority (untold_all (told ++ (map (for_object d.priority) g ++ spill_told n ∷ []))) ≡ true
+    → n ≡ length told + length g → 999992 < n
     → HomeEnds sys d budget end (told ++ (map (for_object d.priority) g ++ spill_told n ∷ []))
