@@ -65,11 +65,12 @@ def place_of(system: System, journal: Journal, verdict: str, stimuli: list[list[
 
 
 def record_of(verdict: Verdict, story: Story) -> tuple[int, str] | None:
-    """The place in a story's order of the record to look at first for a verdict, and why: the verdict's place, or else the last
-    record of its site; none where the site has none."""
+    """The place in a story's order of the record to look at first for a verdict, and why, where more can be said than the
+    verdict does: the verdict's place, or else the last record of its site; none where the site has none."""
     place = place_of(story.system, story.journal, verdict.text, story.stimuli)
     if place:
-        return story.order.places.index((place.spot.lane, place.spot.at)), place.why
+        why = "" if place.why == MEANINGS[verdict.definition][1] else place.why
+        return story.order.places.index((place.spot.lane, place.spot.at)), why
     last = Told(story.system, story.stimuli, story.journal, story.order).last_of(verdict)
     return (last, "") if last is not None else None
 

@@ -59,9 +59,10 @@ def explain_verdict(text: str, run: Run) -> list[str]:
         return []
     story = Story(*run)
     told = [verdict_words(verdict, story.names)]
+    if foreign := story.foreign():
+        line = f"line {story.line_of(foreign.index)} of the journal names {foreign.what}, which the system doesn't have"
+        return [*told, f"{line}: is it the journal of another system?"]
     if place := record_of(verdict, story):
         index, why = place
         told += [f"look first at {_record_line(story, index)}", why]
-    if foreign := story.foreign():
-        told.append(f"line {story.line_of(foreign.index)} names {foreign.what}, which the system doesn't have: is it the journal of another system?")
     return told
