@@ -70,13 +70,13 @@ flat-kept keeps (d ∷ ds) vs = ap (λ es. (keeps d.priority).kept ++ es) (flat-
 
 module _ (sys : System) (kernel budget : ℕ) (vs : List LaneView) (j : Journal) (seals : SealsLanes sys kernel budget vs j) where
   -- a lane at its place, as it is told
-  at-place : (front : List LaneView) (v : LaneView) (rest : List LaneView) → vs ≡ front ++ v ∷ rest → told_lane (facts_of sys j) 0 (lane_items (lane_at j (length front))) ≡ v.told
+  pub at-place : (front : List LaneView) (v : LaneView) (rest : List LaneView) → vs ≡ front ++ v ∷ rest → told_lane (facts_of sys j) 0 (lane_items (lane_at j (length front))) ≡ v.told
   at-place front v rest is = seals.told (length front) v (subst (λ us. IsLaneAt us (length front) v) (sym is) (there front v rest))
 
   next-place : (front : List LaneView) (v : LaneView) → length (front ++ v ∷ []) ≡ length front + 1
   next-place front v = length-append front (v ∷ [])
 
-  next-front : (front : List LaneView) (v : LaneView) (rest : List LaneView) → vs ≡ front ++ v ∷ rest → vs ≡ (front ++ v ∷ []) ++ rest
+  pub next-front : (front : List LaneView) (v : LaneView) (rest : List LaneView) → vs ≡ front ++ v ∷ rest → vs ≡ (front ++ v ∷ []) ++ rest
   next-front front v rest is = is ∙ sym (append_assoc front (v ∷ []) rest)
 
   pub homes-end : (front : List LaneView) (ds : List ObjectDef) (homes back : List LaneView) → vs ≡ front ++ (homes ++ back) → HomesAre sys budget j.end ds homes → HomesEnd sys j (length front) ds

@@ -1,3 +1,4 @@
 pub mod LaneLemmas
 pub mod PortLemmas
 pub mod QkLemmas
+pub mod RestLemmas

@@ -1,4 +1,5 @@
 pub mod Lanes
 pub mod PortLanes
 pub mod QkLanes
+pub mod Rests
 pub mod Laws
