@@ -1,5 +1,6 @@
 """The launcher over a program of the test's own: which sources it was built of, and that its lines and status stay as they are."""
 
+import os
 import shutil
 import subprocess
 import tempfile
@@ -38,7 +39,8 @@ class Launcher(unittest.TestCase):
         subprocess.run([self.top / "tools/sources", "--mark"], check=True)
 
     def call(self, *words: str) -> tuple[int, str, str]:
-        ran = subprocess.run([self.top / "qp", *words], capture_output=True, text=True, cwd=self.top)
+        path = f"{self.top}:{os.environ['PATH']}"
+        ran = subprocess.run([self.top / "qp", *words], capture_output=True, text=True, cwd=self.top, env=os.environ | {"PATH": path})
         return ran.returncode, ran.stdout, ran.stderr
 
     def program_line(self) -> str:
@@ -73,6 +75,14 @@ class Launcher(unittest.TestCase):
                 self.build(says, status)
                 self.assertEqual(self.call("run", "lamp.toml", "go.txt"), (status, "output\n", says))
                 self.assertEqual(self.call("walk"), (status, "output\n", says))
+
+    def test_an_unproved_run(self):
+        """A run in the interpreter, which a script stands for here: its words are explained too."""
+        (self.top / "rt").write_text("#!/bin/sh\necho 'qp: bad words' >&2\necho 'run=ended status=1 steps=1' >&2\nexit 1\n")
+        (self.top / "rt").chmod(0o755)
+        status, output, note = self.call("run", "a lamp.toml")
+        self.assertEqual((status, output), (1, ""))
+        self.assertEqual(note.splitlines()[1:], ["qp: bad words", "    STIMULI is missing: qp run SYSTEM STIMULI"])
 
     def test_bad_words(self):
         self.build("qp: bad words\n", 1)
