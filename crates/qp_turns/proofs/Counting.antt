@@ -1,5 +1,5 @@
 -- The entries that all objects have taken up.
-use Rattle.std.proofs.Common.{◌≡◌, ℕ, zero, suc, ◌+◌, ◌<◌, ◌≤◌, List, [], ◌∷◌, refl, sym, ◌∙◌, ap, Option, Some, None, arith}
+use Rattle.std.proofs.Common.{◌≡◌, ℕ, zero, suc, ◌+◌, ◌-◌, ◌<◌, ◌≤◌, List, [], ◌∷◌, length, refl, sym, ◌∙◌, ap, Option, Some, None, arith}
 use Rattle.std.specs.Prelude.{slice_get, slice_set}
 use Rattle.qp_model.specs.declared.systems.System.{System}
 use Rattle.qp_calls.specs.declared.tokens.Entry.{Entry}
@@ -75,3 +75,22 @@ counted-on k l m xs ys zs c begin same =
     let first = c.begin.taken in
     let second = begin.taken in
     record { n = c.n; begin = record { steps = omega (arith, before, more); taken = omega (arith, first, second) }; few = omega (arith, few, more, same) }
+
+-- no step has begun before, where none has begun
+pub still-step : (k l m : Kernel) (xs ys : Objects) → Begin 0 l m xs ys → m.steps ≡ k.steps → l.steps ≡ k.steps
+still-step k l m xs ys begin same = let a = begin.steps in omega (arith, a, same)
+
+pub still-before : (k l look m : Kernel) (xs ys zs : Objects) → look.steps ≡ l.steps → Begin 0 look m ys zs → m.steps ≡ k.steps → l.steps ≡ k.steps
+still-before k l look m xs ys zs steps begin same = let a = begin.steps in omega (arith, a, steps, same)
+
+-- one has begun
+pub never-still : (k l look m z : Kernel) (xs ys zs us : Objects) → AreCounted k l xs ys → look.steps ≡ l.steps → Begin 1 look m ys zs → Begin 0 m z zs us → z.steps ≡ k.steps → ⊥
+never-still k l look m z xs ys zs us c steps one none same =
+    let a = c.begin.steps in
+    let b = one.steps in
+    let d = none.steps in
+    absurd (omega (arith, a, b, d, steps, same))
+
+pub none-top : (p : ℕ) (stack : List ℕ) → stack ≡ [] → Some p ≡ slice_get stack (length stack - 1) → ⊥
+none-top p [] none top = absurd (cc)
+none-top p (x ∷ xs) none top = absurd (cc)

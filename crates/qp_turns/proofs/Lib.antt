@@ -10,12 +10,13 @@ pub mod Halted
 pub mod Looking
 pub mod Visiting
 pub mod Stims
+pub mod Taking
+pub mod Pending
 pub mod Turns
 pub mod Ordered
 pub mod Closing
 pub mod Lanes
 pub mod Counting
-pub mod Taking
 pub mod Stepping
 pub mod Starts
 pub mod AllStarts

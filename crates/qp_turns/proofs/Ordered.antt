@@ -23,7 +23,7 @@ use Rattle.qp_calls.specs.declared.tokens.Entry.{Entry}
 use Rattle.qp_calls.specs.Notes.{told_note}
 use Rattle.qp_calls.proofs.Growing.{room-then}
 use Rattle.qp_calls.specs.declared.answers.Counts as counts
-use Rattle.qp_calls.specs.LaneView.{Gains, GrowsOf, LaneView, Roomier, is_codeless, mark_after, mark_by, no_code}
+use Rattle.qp_calls.specs.LaneView.{Gains, GrowsOf, LaneView, Roomier, is_codeless, mark_after, mark_by, no_code, own_after}
 use Rattle.qp_kernel.specs.Happenings.{IsInOrder, has_no_stim, order_of, run_order}
 use Rattle.qp_kernel.specs.Interrupting.{Happens, HasNone, IsLaneKept, IsStopped, is_unset}
 use Rattle.qp_kernel.specs.Turning.{look_told, seen_told}
@@ -33,8 +33,11 @@ use Rattle.qp_turns.specs.declared.halting.Halt.{Halt}
 use Rattle.qp_turns.specs.declared.halting.Halt.TheVariants as halt
 use Rattle.qp_turns.specs.Halting.{Halts}
 use Rattle.qp_turns.specs.Ordering.{AreSeenEmpty, HaltsInOrder, InOrder, IsSeenEmpty, LookedInOrder, NoneActs, PassedInOrder, StopsInOrder}
+use Rattle.qp_turns.specs.Pending.{PendingStays}
 use Rattle.qp_turns.specs.declared.objects.Objects.{Objects}
 use Rattle.qp_turns.specs.Turning.{GoesOnward, Stand}
+use Rattle.qp_turns.proofs.Pending.{seen-own, seen-stays_pending}
+use Rattle.qp_turns.proofs.Taking.{seen-mark_own}
 use Rattle.qp_turns.proofs.Quiet.{ended-stops, spill-last}
 use Rattle.qp_turns.proofs.Turns.{noted}
 
@@ -176,25 +179,27 @@ unfolding mark_after mark_by
 seen-mark p q n f l m other = rw other refl
 
 -- what was seen of a queue stays where no record is on it
-pub still-empty : (q : ℕ) (ts : List ToldItem) (v w : LaneView) → Gains ts v w → mark_after (word.Queue q) (v.mark (word.Queue q)) ts ≡ v.mark (word.Queue q) → IsSeenEmpty q v → IsSeenEmpty q w
-still-empty q ts v w gains same h = record {
+pub still-empty : (q : ℕ) (ts : List ToldItem) (v w : LaneView) → Gains ts v w → mark_after (word.Queue q) (v.mark (word.Queue q)) ts ≡ v.mark (word.Queue q) → own_after q (v.own q) ts ≡ v.own q → IsSeenEmpty q v → IsSeenEmpty q w
+still-empty q ts v w gains same kept h = record {
   f = h.f;
   l = h.l;
   m = h.m;
   says = gains.shown (word.Queue q) (gains.mark (word.Queue q) ∙ same) ∙ h.says;
   none = h.none;
+  mark = gains.mark (word.Queue q) ∙ same ∙ h.mark;
+  own = ap (λ o. o.m) (gains.own q ∙ kept) ∙ h.own;
 }
 
 seen-stays : (p q f l m : ℕ) (v w : LaneView) → Gains (seen_told p f l m ∷ []) v w → (p == q) ≡ false → IsSeenEmpty q v → IsSeenEmpty q w
-seen-stays p q f l m v w gains other h = still-empty q (seen_told p f l m ∷ []) v w gains (seen-mark p q (v.mark (word.Queue q)) f l m other) h
+seen-stays p q f l m v w gains other h = still-empty q (seen_told p f l m ∷ []) v w gains (seen-mark p q (v.mark (word.Queue q)) f l m other) (seen-own q p f l m (v.own q)) h
 
 -- the objects from the next place on and this one
 pub seen-more : (sys : System) (floor place : ℕ) (o : ObjectDef) (c : counts.Counts) (v u w : LaneView) → slice_get sys.objects place ≡ Some o → Gains (seen_told o.priority c.f c.l c.m ∷ []) v w → Sees o.priority u w c
-    → c.f + c.l ≤ c.m → AreSeenEmpty sys floor (place + 1) v → AreSeenEmpty sys floor place w
-seen-more sys floor place o c v u w at gains sees few h i d from its high = by (o.priority == d.priority) refl
+    → IsTrue (w.serves o.priority) → c.f + c.l ≤ c.m → AreSeenEmpty sys floor (place + 1) v → AreSeenEmpty sys floor place w
+seen-more sys floor place o c v u w at gains sees served few h i d from its high = by (o.priority == d.priority) refl
   where
     here : IsSeenEmpty o.priority w
-    here = let most = sees.2 in record { f = c.f; l = c.l; m = c.m; says = sees.1.says; none = omega (arith, few, most) }
+    here = let most = sees.2 in record { f = c.f; l = c.l; m = c.m; says = sees.1.says; none = omega (arith, few, most); mark = gains.mark (word.Queue o.priority) ∙ seen-mark_own o.priority (v.mark (word.Queue o.priority)) c.f c.l c.m; own = sym (sees.1.own served).1 }
 
     by : (b : Bool) → (o.priority == d.priority) ≡ b → IsSeenEmpty d.priority w
     by true is = let same : o.priority ≡ d.priority = grind (arith, nat_tests) in subst (λ q. IsSeenEmpty q w) same here
@@ -232,7 +237,7 @@ seen-none sys floor place v all i d from its high = absurd (never sys.objects i 
 
 -- the next objects were passed too
 pub passed-then : (acts : Bool) (sys : System) (floor more place : ℕ) (a b d : Stand) → PassedInOrder acts sys floor more a b → PassedInOrder acts sys floor place b d → PassedInOrder acts sys floor place a d
-passed-then acts sys floor more place a b d one two = record { order = two.order; none = λ base acting h. two.none base acting (one.none base acting h); empty = two.empty }
+passed-then acts sys floor more place a b d one two = record { order = two.order; none = λ base acting h. two.none base acting (one.none base acting h); empty = two.empty; stays = λ p h. two.stays p (one.stays p h) }
 
 -- it went onward before
 pub halts-from : (acts : Bool) (sys : System) (xs : Objects) (v : LaneView) (ys : Objects) (u w : LaneView) (h : Halt) → v.sys ≡ sys → u.sys ≡ sys → GoesOnward xs v ys u → HaltsInOrder acts sys u w h → HaltsInOrder acts sys v w h
@@ -252,13 +257,14 @@ module _ (acts : Bool) (sys : System) (looks p : ℕ) (c : counts.Counts) (v v1 
   seen-in_order = grows-in_order acts sys looks (seen_told p c.f c.l c.m ∷ []) v v2 gains-seen (refl, tt) refl refl h
 
   -- it is empty
-  pub passed-in_order : (floor place : ℕ) (o : ObjectDef) (a : Stand) → o.priority ≡ p → slice_get sys.objects place ≡ Some o → c.f + c.l ≤ c.m → a.looks ≡ looks → a.lane ≡ v → AreSeenEmpty sys floor (place + 1) v
+  pub passed-in_order : (floor place : ℕ) (o : ObjectDef) (a : Stand) → o.priority ≡ p → slice_get sys.objects place ≡ Some o → IsTrue (v2.serves o.priority) → c.f + c.l ≤ c.m → a.looks ≡ looks → a.lane ≡ v → AreSeenEmpty sys floor (place + 1) v
       → PassedInOrder acts sys floor place a (record a { lane = v2 })
-  passed-in_order floor place o a is at few count lane seen = record {
+  passed-in_order floor place o a is at served few count lane seen = record {
     order = subst (λ k. InOrder acts sys k v2) (sym count) seen-in_order;
     none = λ base acting none. none-seen acts sys looks p c.f c.l c.m v v2 gains-seen h base acting (subst (NoneActs base sys) lane none);
     empty =
-        seen-more sys floor place o c v v1 v2 at (subst (λ q. Gains (seen_told q c.f c.l c.m ∷ []) v v2) (sym is) gains-seen) (subst (λ q. Sees q v1 v2 c) (sym is) sees) few seen;
+        seen-more sys floor place o c v v1 v2 at (subst (λ q. Gains (seen_told q c.f c.l c.m ∷ []) v v2) (sym is) gains-seen) (subst (λ q. Sees q v1 v2 c) (sym is) sees) served few seen;
+    stays = subst (λ u. PendingStays u v2) (sym lane) (seen-stays_pending p c.f c.l c.m v v2 gains-seen);
   }
 
   -- its object has taken its budget

@@ -12,7 +12,7 @@ use Rattle.qp_calls.specs.LaneView.{AddsOf, LaneView, Looks, NotShown, Own, mark
 use Rattle.qp_kernel.specs.Turning.{seen_told}
 
 -- after a look at a queue, and after a `nil`, its mark is the sum of what they show
-seen-mark_own : (p n f l m : ℕ) → mark_after (word.Queue p) n (seen_told p f l m ∷ []) ≡ f + l + m
+pub seen-mark_own : (p n f l m : ℕ) → mark_after (word.Queue p) n (seen_told p f l m ∷ []) ≡ f + l + m
 unfolding mark_after mark_by
 seen-mark_own p n f l m = let self : (p == p) ≡ true = grind (arith, nat_tests) in rw self refl
 

@@ -24,6 +24,7 @@ use Rattle.qp_kernel.specs.Interrupting.{Happens, HappensToFail, HappensInPart, 
 use Rattle.qp_kernel.specs.Turning.{look_told, Terms}
 use Rattle.qp_turns.specs.Knowing.{IsScanning, KnowsAt, MayLook}
 use Rattle.qp_turns.specs.Turning.{GoesOnward, Looked, Stand, Stood, TurnStopped, floor_of}
+use Rattle.qp_turns.proofs.Pending.{look-stays}
 use Rattle.qp_turns.proofs.Places.{follow-none}
 use Rattle.qp_turns.proofs.Halted.{same-lanes}
 use Rattle.qp_turns.proofs.Looking.{GoesFor, look-stops, looked}
@@ -94,6 +95,7 @@ module _ (sys : System) (sound : IsSound sys) (terms : Terms) (a : Stand) (k : S
         (λ m lt. let other : (n == m) ≡ false = grind (arith, nat_tests) in others m other ∙ ap (λ l. has_stim l m) lanes-two ∙ k.knows.later m (omega (arith, lt, count))));
     onward = onward-of hands answered kept.plan;
     happened = here;
+    stays = look-stays n floor a.lane v1 v2 v3 room grown kept;
   }
 
   lanes-none : IsLaneKept v2 v3 → v3.happened ≡ v2.happened → lanes_of v3 ≡ lanes_of v2

@@ -4,6 +4,7 @@ pub mod Starting
 pub mod Halting
 pub mod Lanes
 pub mod Counting
+pub mod Pending
 pub mod Turning
 pub mod Ordering
 pub mod AtRest

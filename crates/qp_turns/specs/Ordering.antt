@@ -14,6 +14,7 @@ use Rattle.qp_dispatch.specs.declared.objects.Turn.TheVariants as turn
 use Rattle.qp_kernel.specs.Happenings.{IsInOrder, IsOrderEnded, has_no_stim, order_of}
 use Rattle.qp_turns.specs.declared.halting.Halt.{Halt}
 use Rattle.qp_turns.specs.declared.halting.Halt.TheVariants as halt
+use Rattle.qp_turns.specs.Pending.{PendingStays}
 use Rattle.qp_turns.specs.Turning.{Stand, floor_of}
 
 -- The lane itself has no `stim`; where sources act in its looks, all records are in the order of a run with so many looks.
@@ -44,13 +45,15 @@ abbrev pub LooksInOrder : Bool → System → Terms → Stand → Stand → Resu
 LooksInOrder acts sys terms a b (Ok came) = LookedInOrder acts sys (floor_of sys terms a == 0) b came
 LooksInOrder acts sys terms a b (Err h) = HaltsInOrder acts sys a.lane b.lane h
 
--- the queue of p has no entry, as the lane last saw it
+-- the queue of p has no entry, as the lane last saw it, and knows of no operation since
 pub record IsSeenEmpty (p : ℕ) (v : LaneView) : Type 0 where
   pub f : ℕ
   pub l : ℕ
   pub m : ℕ
   pub says : v.shown (word.Queue p) ≡ Counts f l m
   pub none : f + l ≡ m
+  pub mark : v.mark (word.Queue p) ≡ f + l + m
+  pub own : (v.own p).m ≡ m
 
 -- so have those of all objects above the floor from this place on
 abbrev pub AreSeenEmpty : System → ℕ → ℕ → LaneView → Type 0
@@ -61,6 +64,7 @@ pub record PassedInOrder (acts : Bool) (sys : System) (floor place : ℕ) (a b :
   pub order : InOrder acts sys b.looks b.lane
   pub none : (base : Bool) → acts ≡ true → NoneActs base sys a.lane → NoneActs base sys b.lane
   pub empty : AreSeenEmpty sys floor place b.lane
+  pub stays : PendingStays a.lane b.lane
 
 abbrev pub VisitsInOrder : Bool → System → ℕ → ℕ → Stand → Stand → Result Bool Halt → Type 0
 VisitsInOrder acts sys floor place a b (Ok true) = InOrder acts sys b.looks b.lane

@@ -23,6 +23,7 @@ use Rattle.qp_turns.specs.declared.halting.Halt.TheVariants as halt
 use Rattle.qp_turns.specs.declared.objects.Objects.{Objects}
 use Rattle.qp_turns.specs.declared.turning.Bounds.{Bounds}
 use Rattle.qp_turns.specs.Objects.{threshold_in}
+use Rattle.qp_turns.specs.Pending.{PendingStays}
 use Rattle.qp_turns.specs.Knowing.{HandsFollow, HasStack, IsRunning, IsScanning, KnowsAt, MayLook}
 
 -- what a turn goes by
@@ -85,6 +86,7 @@ pub record Looked (sys : System) (terms : Terms) (a b : Stand) (came : Bool) : T
   pub knows : Stood (IsScanning sys terms (above sys (floor_of sys terms a))) sys terms b
   pub onward : GoesOnward a.objects a.lane b.objects b.lane
   pub happened : has_stim (lanes_of b.lane) b.looks ≡ came
+  pub stays : PendingStays a.lane b.lane
 
 abbrev pub LooksTo : System → Terms → Stand → Stand → Result Bool Halt → Type 0
 LooksTo sys terms a b (Ok happened) = Looked sys terms a b happened

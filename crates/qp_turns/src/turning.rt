@@ -10,6 +10,7 @@ ghost use Rattle.qp_turns.specs.Counting.{AreCounted, Begin, BeginsFound, TurnsC
 ghost use Rattle.qp_turns.specs.Knowing.{IsScanning, MayLook};
 ghost use Rattle.qp_turns.specs.Lanes.{LaneTo, LaneTurns};
 ghost use Rattle.qp_turns.specs.Ordering.{AreSeenEmpty, InOrder, LooksInOrder, RoundsInOrder, StepsInOrder, TurnsInOrder, VisitsInOrder};
+ghost use Rattle.qp_turns.specs.Pending.{StepsOver, TurnsOver};
 ghost use Rattle.qp_turns.specs.Turning.{AreHeld, EndsTo, LooksTo, RunsTop, StepsTo, Stood, TurnsTo, VisitsTo, floor_of, row_below, stand_of, terms_of};
 
 use crate::halting::{Halt, ready};
@@ -278,6 +279,7 @@ fn rounds<R: Wait, W: World, G: Gate, L: Ledger>(
     ensures rests { IfErr result (HaltsAtRest at.now.sys.now (stand_of kernel.new objects.new (W.lane world.new))) }
     ensures lane { LaneTo W.acts (W.lane world.old) (W.lane world.new) result }
     ensures counted { IfOk result (λ u. AreCounted kernel.old kernel.new objects.old objects.new) }
+    ensures pending { IfOk result (λ u. StepsOver at.now.sys.now kernel.old kernel.new (W.lane world.old)) }
 {
     let mut steps = Steps::<L>::open(blank);
     for _ in rt.forever() {
@@ -325,6 +327,7 @@ pub fn kernel_turn<R: Wait, W: World, G: Gate>(
     ensures rests { StopsAtRest at.now.sys.now (stand_of kernel.new objects.new (W.lane world.new)) result }
     ensures lane { LaneTurns W.acts (W.lane world.old) (W.lane world.new) result }
     ensures counted { TurnsCounted kernel.old kernel.new objects.old objects.new result }
+    ensures pending { TurnsOver at.now.sys.now kernel.old kernel.new (W.lane world.old) result }
 {
     match rounds::<R, W, G, Brand>(rt, world, at, objects, kernel, gate, Blank::new(1)) {
         Ok(()) => Turn::Idle,

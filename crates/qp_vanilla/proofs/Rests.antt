@@ -10,7 +10,7 @@ use Rattle.qp_model.specs.Sound.{IsSound}
 use Rattle.qp_model.specs.Told.{plain}
 use Rattle.qp_orders.specs.RunOrder.{placed}
 use Rattle.qp_orders.specs.SourceRun.{untold}
-use Rattle.qp_calls.specs.LaneView.{GrowsOf, LaneView, Roomier, ceiling_in, mark_after, mark_by}
+use Rattle.qp_calls.specs.LaneView.{GrowsOf, LaneView, Roomier, ceiling_in, mark_after, mark_by, own_after, Own}
 use Rattle.qp_calls.specs.Notes.{spills_in, told_note}
 use Rattle.qp_calls.specs.Tokens.{hands_after, hands_by}
 use Rattle.qp_calls.proofs.Growing.{room-then}
@@ -25,6 +25,7 @@ use Rattle.qp_turns.specs.Turning.{Stand, Stood}
 use Rattle.qp_turns.proofs.Halted.{same-lanes}
 use Rattle.qp_turns.proofs.Looking.{GoesFor}
 use Rattle.qp_turns.proofs.Ordered.{grows-in_order, none-still, still-empty}
+use Rattle.qp_turns.proofs.Pending.{stays-by}
 use Rattle.qp_turns.proofs.Places.{follow-none}
 use Rattle.qp_turns.proofs.Turns.{noted}
 use Rattle.qp_vanilla.specs.Resting.{Rested}
@@ -36,6 +37,10 @@ rest-idle n = record { stim = refl; enters = λ o. refl; leaves = λ o. (and_rig
 rest-mark : (q n k : ℕ) → mark_after (word.Queue q) n (rest_told k ∷ []) ≡ n
 unfolding mark_after mark_by
 rest-mark q n k = refl
+
+rest-own : (q k : ℕ) (o : Own) → own_after q o (rest_told k ∷ []) ≡ o
+unfolding own_after
+rest-own q k o = refl
 
 rest-goes : (n : ℕ) (v v1 v2 : LaneView) → Roomier v v1 → GrowsOf 0 (plain (body.Rest n) ∷ []) v1 v2 → spills_in v.told ≡ false → GoesFor (rest_told n ∷ []) v v2
 unfolding hands_after hands_by ceiling_in
@@ -79,5 +84,6 @@ module _ (sys : System) (sound : IsSound sys) (terms : Terms) (single : terms.th
       record {
         order = grows-in_order acts sys a.looks (rest_told a.looks ∷ []) a.lane v2 gains (refl, tt) refl refl h;
         none = λ side acting none. none-still acts sys a.looks (rest_told a.looks) a.lane v2 (rest-idle a.looks) gains h side acting none;
-        empty = λ i d from its high. still-empty d.priority (rest_told a.looks ∷ []) a.lane v2 gains (rest-mark d.priority (a.lane.mark (word.Queue d.priority)) a.looks) (seen i d from its high);
+        empty = λ i d from its high. still-empty d.priority (rest_told a.looks ∷ []) a.lane v2 gains (rest-mark d.priority (a.lane.mark (word.Queue d.priority)) a.looks) (rest-own d.priority a.looks (a.lane.own d.priority)) (seen i d from its high);
+        stays = stays-by a.lane v2 (λ p. gains.own p ∙ rest-own p a.looks (a.lane.own p)) (λ p. gains.rise (word.Queue p));
       }

@@ -3,7 +3,9 @@ use Rattle.qp_turns.specs.Counting.{BeginsFound}
 use Rattle.qp_turns.specs.Ordering.{LooksInOrder, VisitsInOrder}
 use Rattle.qp_turns.specs.Turning.{LooksTo, VisitsTo, stand_of, terms_of}
 use Rattle.std.proofs.lemmas.Result.{err_from_is_err_and}
-use Rattle.qp_turns.proofs.Counting.{counted-none, counted-on, counted-then, less-looks}
+use Rattle.qp_turns.proofs.Counting.{counted-none, counted-on, counted-then, less-looks, never-still, none-top, still-before, still-step}
+use Rattle.qp_turns.proofs.Pending.{steps-over}
+use Rattle.qp_turns.proofs.Tops.{empty-is}
 use Rattle.qp_turns.proofs.Lanes.{goes-any, goes-none, goes-then, halts-any, halts-then, looked-scanned}
 use Rattle.qp_turns.proofs.Ordered.{halts-from}
 use Rattle.qp_turns.proofs.Rounds.{entered-all, held-of, onward-all, onward-none, round-again, round-found, round-idle, round-over, round-step, round-top}
@@ -43,6 +45,12 @@ returns-then-not-happened g c =
       rests = tt;
       lane = looked-scanned g.W.World.acts (lane c.args.world.now) (lane c.loop.world) (lane c.look.new.world) (lane c.scan.new.world) c.loop.invariant.lane c.in_ok-happened.ensures.lane c.in_ok-found.ensures.lane;
       counted = counted-then 0 (omega arith) c.args.kernel.now c.loop.kernel c.look.new.kernel c.scan.new.kernel c.args.objects.now c.loop.objects c.scan.new.objects c.loop.invariant.counted c.in_ok-happened.ensures.steps c.in_ok-happened.ensures.goes.counted (subst (λ x. BeginsFound c.look.new.kernel c.scan.new.kernel c.loop.objects c.scan.new.objects (Ok x)) c.if-found.false c.in_ok-found.ensures.begun) pass.looks;
+      pending =
+          steps-over sys c.args.kernel.now c.scan.new.kernel c.args.objects.now c.scan.new.objects (lane c.args.world.now) d.lane (counted-then 0 (omega arith) c.args.kernel.now c.loop.kernel c.look.new.kernel c.scan.new.kernel c.args.objects.now c.loop.objects c.scan.new.objects c.loop.invariant.counted c.in_ok-happened.ensures.steps c.in_ok-happened.ensures.goes.counted (subst (λ x. BeginsFound c.look.new.kernel c.scan.new.kernel c.loop.objects c.scan.new.objects (Ok x)) c.if-found.false c.in_ok-found.ensures.begun) pass.looks)
+          (round-idle g.W.World.acts sys c.requires.sound terms a b d c.floor-low.result c.floor-low.ensures look looked pass seen c.in-None-top.ensures).empties
+          (λ base same.
+          let q = c.loop.invariant.quiet base (still-before c.args.kernel.now c.loop.kernel c.look.new.kernel c.scan.new.kernel c.args.objects.now c.loop.objects c.scan.new.objects c.in_ok-happened.ensures.steps (subst (λ x. BeginsFound c.look.new.kernel c.scan.new.kernel c.loop.objects c.scan.new.objects (Ok x)) c.if-found.false c.in_ok-found.ensures.begun) same) in
+          λ p h. seen.stays p (look.stays p (q.1 p h)));
     }
 
 pub loop-preserved : goal.loop-preserved
@@ -63,6 +71,9 @@ loop-preserved g c =
       order = seen.order;
       lane = looked-scanned g.W.World.acts (lane c.args.world.now) (lane c.loop.world) (lane c.look.new.world) (lane c.scan.new.world) c.loop.invariant.lane c.in_ok-happened.ensures.lane c.in_ok-found.ensures.lane;
       counted = counted-then 0 (omega arith) c.args.kernel.now c.loop.kernel c.look.new.kernel c.scan.new.kernel c.args.objects.now c.loop.objects c.scan.new.objects c.loop.invariant.counted c.in_ok-happened.ensures.steps c.in_ok-happened.ensures.goes.counted (subst (λ x. BeginsFound c.look.new.kernel c.scan.new.kernel c.loop.objects c.scan.new.objects (Ok x)) c.if-found.false c.in_ok-found.ensures.begun) pass.looks;
+      quiet = λ base same.
+          let q = c.loop.invariant.quiet base (still-before c.args.kernel.now c.loop.kernel c.look.new.kernel c.scan.new.kernel c.args.objects.now c.loop.objects c.scan.new.objects c.in_ok-happened.ensures.steps (subst (λ x. BeginsFound c.look.new.kernel c.scan.new.kernel c.loop.objects c.scan.new.objects (Ok x)) c.if-found.false c.in_ok-found.ensures.begun) same) in
+          (empty-is d.stack c.in-None-top.ensures, λ p h. seen.stays p (look.stays p (q.1 p h)));
     }
 
 pub returns-in_err-step-clause-order : goal.returns-in_err-step-clause-order
@@ -115,6 +126,7 @@ loop-preserved-in-Continue-branch-3 g c =
       order = c.in_ok-step.ensures.order g.W.World.acts seen;
       lane = goes-then g.W.World.acts (lane c.args.world.now) (lane c.scan.new.world) (lane c.step.new.world) (looked-scanned g.W.World.acts (lane c.args.world.now) (lane c.loop.world) (lane c.look.new.world) (lane c.scan.new.world) c.loop.invariant.lane c.in_ok-happened.ensures.lane c.in_ok-found.ensures.lane) (goes-any g.W.World.acts (lane c.scan.new.world) (lane c.step.new.world) c.in_ok-step.ensures.lane);
       counted = counted-on c.args.kernel.now c.scan.new.kernel c.step.new.kernel c.args.objects.now c.scan.new.objects c.step.new.objects (counted-then 1 (omega arith) c.args.kernel.now c.loop.kernel c.look.new.kernel c.scan.new.kernel c.args.objects.now c.loop.objects c.scan.new.objects c.loop.invariant.counted c.in_ok-happened.ensures.steps c.in_ok-happened.ensures.goes.counted (subst (λ x. BeginsFound c.look.new.kernel c.scan.new.kernel c.loop.objects c.scan.new.objects (Ok x)) c.if-found.true c.in_ok-found.ensures.begun) enter.looks) c.in_ok-step.ensures.begun c.in_ok-step.ensures.goes.looks;
+      quiet = λ base same. absurd (never-still c.args.kernel.now c.loop.kernel c.look.new.kernel c.scan.new.kernel c.step.new.kernel c.args.objects.now c.loop.objects c.scan.new.objects c.step.new.objects c.loop.invariant.counted c.in_ok-happened.ensures.steps (subst (λ x. BeginsFound c.look.new.kernel c.scan.new.kernel c.loop.objects c.scan.new.objects (Ok x)) c.if-found.true c.in_ok-found.ensures.begun) c.in_ok-step.ensures.begun same);
     }
 
 pub loop-preserved-in-Continue-branch-4 : goal.loop-preserved-in-Continue-branch-4
@@ -135,6 +147,11 @@ loop-preserved-in-Continue-branch-4 g c =
       order = c.in_ok-step-in-Some-top.ensures.order g.W.World.acts seen;
       lane = goes-then g.W.World.acts (lane c.args.world.now) (lane c.scan.new.world) (lane c.step-in-Some-top.new.world) (looked-scanned g.W.World.acts (lane c.args.world.now) (lane c.loop.world) (lane c.look.new.world) (lane c.scan.new.world) c.loop.invariant.lane c.in_ok-happened.ensures.lane c.in_ok-found.ensures.lane) (goes-any g.W.World.acts (lane c.scan.new.world) (lane c.step-in-Some-top.new.world) c.in_ok-step-in-Some-top.ensures.lane);
       counted = counted-on c.args.kernel.now c.scan.new.kernel c.step-in-Some-top.new.kernel c.args.objects.now c.scan.new.objects c.step-in-Some-top.new.objects (counted-then 0 (omega arith) c.args.kernel.now c.loop.kernel c.look.new.kernel c.scan.new.kernel c.args.objects.now c.loop.objects c.scan.new.objects c.loop.invariant.counted c.in_ok-happened.ensures.steps c.in_ok-happened.ensures.goes.counted (subst (λ x. BeginsFound c.look.new.kernel c.scan.new.kernel c.loop.objects c.scan.new.objects (Ok x)) c.if-found.false c.in_ok-found.ensures.begun) pass.looks) c.in_ok-step-in-Some-top.ensures.begun c.in_ok-step-in-Some-top.ensures.goes.looks;
+      quiet = λ base same.
+          let begun = subst (λ x. BeginsFound c.look.new.kernel c.scan.new.kernel c.loop.objects c.scan.new.objects (Ok x)) c.if-found.false c.in_ok-found.ensures.begun in
+          let scanned = still-step c.args.kernel.now c.scan.new.kernel c.step-in-Some-top.new.kernel c.scan.new.objects c.step-in-Some-top.new.objects c.in_ok-step-in-Some-top.ensures.begun same in
+          let q = c.loop.invariant.quiet base (still-before c.args.kernel.now c.loop.kernel c.look.new.kernel c.scan.new.kernel c.args.objects.now c.loop.objects c.scan.new.objects c.in_ok-happened.ensures.steps begun scanned) in
+          absurd (none-top c.in-Some-top.field-0 d.stack (pass.stack ∙ c.in_ok-happened.ensures.goes.stack ∙ q.0) c.in-Some-top.ensures);
     }
 
 pub scan-requires-clause-turn : goal.scan-requires-clause-turn
@@ -177,6 +194,7 @@ loop-init g c = record {
   order = c.requires.order;
   lane = goes-none g.W.World.acts (g.W.Ops.lane c.args.world.now);
   counted = counted-none c.args.kernel.now c.args.objects.now c.requires.counted;
+  quiet = λ base same. (base, λ p h. h);
 }
 
 pub floor-low-requires-clause-single : goal.floor-low-requires-clause-single

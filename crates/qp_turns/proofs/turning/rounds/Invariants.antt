@@ -2,6 +2,8 @@ use Rattle.qp_turns.specs.Knowing.{MayLook}
 use Rattle.qp_turns.specs.Counting.{AreCounted}
 use Rattle.qp_turns.specs.Lanes.{LaneGoes}
 use Rattle.qp_turns.specs.Ordering.{InOrder}
+use Rattle.qp_turns.specs.Pending.{PendingStays}
+use Rattle.std.specs.Prelude.{◌≡◌, []}
 use Rattle.qp_turns.specs.Turning.{GoesOnward, Stood, stand_of, terms_of}
 use Rattle.qp_turns.proofs.turning.rounds.Given as goal
 
@@ -14,4 +16,5 @@ invariant-loop g l =
       order : InOrder g.W.World.acts l.at.sys.now l.kernel.looks (g.W.Ops.lane l.world);
       lane : LaneGoes g.W.World.acts (g.W.Ops.lane l.fn.world) (g.W.Ops.lane l.world);
       counted : AreCounted l.fn.kernel l.kernel l.fn.objects l.objects;
+      quiet : l.fn.kernel.stack.items ≡ [] → l.kernel.steps ≡ l.fn.kernel.steps → (l.kernel.stack.items ≡ []) × PendingStays (g.W.Ops.lane l.fn.world) (g.W.Ops.lane l.world);
     }

@@ -26,6 +26,7 @@ loop-place-init g c =
         order = c.requires.order;
         none = λ base acting h. h;
         empty = seen-none sys c.args.floor _ (g.W.Ops.lane c.args.world.now) (omega (arith, c.count-many.ensures));
+        stays = λ p h. h;
       };
       lane = goes-none g.W.World.acts (g.W.Ops.lane c.args.world.now);
       begun = begin-none c.args.kernel.now c.args.objects.now;

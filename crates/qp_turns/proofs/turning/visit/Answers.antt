@@ -25,7 +25,7 @@ returns-then-p-floor g c =
     let at = slice_get_read sys.objects (length sys.objects) c.args.place o refl c.requires.place (c.index-object.ensures ∙ ap (λ xs. get_or xs c.args.place o) (ap (λ (y : System). y.objects) c.sys.view_is)) in
     record {
       goes = skipped sys c.requires.sound (terms_of c.args.at.now) _ c.args.floor c.args.place o at c.if-p-floor.true c.requires.knows;
-      order = record { order = c.requires.order; none = λ base acting h. h; empty = seen-skip sys c.args.floor c.args.place o (g.W.Ops.lane c.args.world.now) at c.if-p-floor.true c.requires.seen };
+      order = record { order = c.requires.order; none = λ base acting h. h; empty = seen-skip sys c.args.floor c.args.place o (g.W.Ops.lane c.args.world.now) at c.if-p-floor.true c.requires.seen; stays = λ p h. h };
       rests = tt;
       lane = goes-none g.W.World.acts (g.W.Ops.lane c.args.world.now);
       begun = begin-none c.args.kernel.now c.args.objects.now;
@@ -64,9 +64,10 @@ returns-then-from g c =
     let counts = c.seen-now.result in
     let room = c.in_ok-ready.ensures.roomier in
     let none : counts.f + counts.l ≤ counts.m = omega (arith, c.from.ensures, c.from-2.ensures, c.from-3.ensures, c.if-from.true) in
+    let served = c.seen-now.ensures.0.grows.serves o.priority ∙ ap (λ u. u.serves o.priority) room.same ∙ is-served sys c.requires.sound (terms_of c.args.at.now) _ c.args.floor c.args.place o at c.if-p-floor.false c.requires.knows in
     record {
       goes = seen-empty sys c.requires.sound (terms_of c.args.at.now) _ c.args.floor c.args.place o at c.if-p-floor.false c.requires.knows (lane c.ready.new.ops) (lane c.seen-now.new.self) counts room c.seen-now.ensures none;
-      order = passed-in_order g.W.World.acts sys c.args.kernel.now.looks o.priority counts (lane c.args.world.now) (lane c.ready.new.ops) (lane c.seen-now.new.self) room c.seen-now.ensures c.requires.order c.args.floor c.args.place o (stand_of c.args.kernel.now c.args.objects.now (lane c.args.world.now)) refl at none refl refl c.requires.seen;
+      order = passed-in_order g.W.World.acts sys c.args.kernel.now.looks o.priority counts (lane c.args.world.now) (lane c.ready.new.ops) (lane c.seen-now.new.self) room c.seen-now.ensures c.requires.order c.args.floor c.args.place o (stand_of c.args.kernel.now c.args.objects.now (lane c.args.world.now)) refl at served none refl refl c.requires.seen;
       rests = tt;
       lane = seen-lane g.W.World.acts o.priority counts (lane c.args.world.now) (lane c.ready.new.ops) (lane c.seen-now.new.self) room c.seen-now.ensures;
       begun = begin-none c.args.kernel.now c.args.objects.now;
