@@ -14,8 +14,8 @@
  *   notes       stand outside of any, in the code that works for the object. With QPR_ONE a note is wrapped in
  *               QPR_NOTE_ENTRY() and QPR_NOTE_EXIT(), which are to be the critical section's entry and exit.
  *
- * A record is written whole or not at all. One that finds no room is lost and counted, and the numbers of the records that
- * follow show the gap. A record takes at most QPR_LONGEST steps of one byte each, and no loop depends on what was recorded.
+ * A record is written whole or not at all. One for whose longest form there is no room is lost and counted, and the numbers
+ * of the records that follow show the gap. A record writes at most QPR_LONGEST bytes; nothing else loops.
  */
 #ifndef QP_RECORD_H
 #define QP_RECORD_H
@@ -57,7 +57,10 @@ enum {
     QPR_WHOS = 49,      /* 1 to 32 objects, 33 to 48 sources */
     QPR_PARAMS = 8,     /* the most parameters of an event */
     QPR_HEAD = 16,      /* bytes before those of a piece, see qpr_take() */
-    QPR_LONGEST = 6 + 3 * 5 + QPR_PARAMS * 10,
+    QPR_RECORD_HEAD = 3, /* bytes before those of a record's numbers */
+    QPR_NUMBER = 5,     /* the most bytes of a number of 32 bits */
+    QPR_LONG = 10,      /* of one of 64 bits */
+    QPR_LONGEST = QPR_RECORD_HEAD + 3 * QPR_NUMBER + QPR_PARAMS * QPR_LONG,
     QPR_BUFFERS = QP_RECORD == QPR_ONE ? 1 : QPR_WHOS
 };
 
@@ -116,14 +119,9 @@ struct qpr_cursor {
     uint32_t at;
 };
 
-static inline void qpr_byte(struct qpr_cursor *c, uint8_t value) {
-    if (c->at - c->to->read < c->to->size) {
-        c->to->bytes[c->at & (c->to->size - 1u)] = value;
-    }
-    ++c->at;
-}
+static inline void qpr_byte(struct qpr_cursor *c, uint8_t value) { c->to->bytes[c->at++ & (c->to->size - 1u)] = value; }
 
-/* A number in groups of 7 bits, the least significant first. */
+/* A number in groups of 7 bits, the least significant first: at most QPR_NUMBER bytes, or QPR_LONG. */
 static inline void qpr_number(struct qpr_cursor *c, uint32_t value) {
     while (value >= 0x80u) {
         qpr_byte(c, (uint8_t)(value | 0x80u));
@@ -140,37 +138,39 @@ static inline void qpr_long(struct qpr_cursor *c, uint64_t value) {
     qpr_byte(c, (uint8_t)value);
 }
 
-static inline struct qpr_cursor qpr_open_record(uint8_t kind) {
+/* Begins a record behind whose head at most so many bytes stand. Answers 0 where there is no room: the record is lost. */
+static inline int qpr_open_record(struct qpr_cursor *c, uint8_t kind, uint32_t most) {
     uint8_t const who = QPR_WHO();
-    struct qpr_cursor c;
 #if QP_RECORD == QPR_ONE
-    c.to = &qpr.buffers[0];
+    struct qpr_buffer *const to = &qpr.buffers[0];
 #else
-    c.to = &qpr.buffers[who < QPR_WHOS ? who : 0];
+    struct qpr_buffer *const to = &qpr.buffers[who < QPR_WHOS ? who : 0];
 #endif
-    c.at = c.to->written;
-    qpr_byte(&c, c.to->next++);
-    qpr_byte(&c, kind);
+    uint8_t const number = to->next++;
+    if (to->size - (to->written - to->read) < QPR_RECORD_HEAD + most) {
+        ++to->lost;
+        return 0;
+    }
+    c->to = to;
+    c->at = to->written;
+    qpr_byte(c, number);
+    qpr_byte(c, kind);
 #if QP_RECORD == QPR_ONE
-    qpr_byte(&c, who);
+    qpr_byte(c, who);
 #endif
-    return c;
+    return 1;
 }
 
-static inline void qpr_close_record(struct qpr_cursor const *c) {
-    if (c->at - c->to->read <= c->to->size) {
-        c->to->written = c->at;
-    } else {
-        ++c->to->lost;
-    }
-}
+static inline void qpr_close_record(struct qpr_cursor const *c) { c->to->written = c->at; }
 
 static inline void qpr_put(uint8_t kind, unsigned count, uint32_t const *values) {
-    struct qpr_cursor c = qpr_open_record(kind);
-    for (unsigned i = 0; i < count; ++i) {
-        qpr_number(&c, values[i]);
+    struct qpr_cursor c;
+    if (qpr_open_record(&c, kind, (uint32_t)(count * QPR_NUMBER))) {
+        for (unsigned i = 0; i < count; ++i) {
+            qpr_number(&c, values[i]);
+        }
+        qpr_close_record(&c);
     }
-    qpr_close_record(&c);
 }
 
 #define QPR_PUT_(kind, ...) do { \
@@ -259,9 +259,11 @@ static inline void qpr_note(uint8_t kind) { qpr_put(kind, 0u, 0); }
 static inline void qpr_note_1(uint8_t kind, uint32_t a) { qpr_put(kind, 1u, &a); }
 static inline void qpr_note_2(uint8_t kind, uint32_t a, uint32_t b) { QPR_PUT_(kind, a, b); }
 static inline void qpr_say(int64_t value) {
-    struct qpr_cursor c = qpr_open_record(QPR_K_SAY);
-    qpr_long(&c, ((uint64_t)value << 1) ^ (value < 0 ? UINT64_MAX : 0u));
-    qpr_close_record(&c);
+    struct qpr_cursor c;
+    if (qpr_open_record(&c, QPR_K_SAY, QPR_LONG)) {
+        qpr_long(&c, ((uint64_t)value << 1) ^ (value < 0 ? UINT64_MAX : 0u)); /* small numbers of either sign take one byte */
+        qpr_close_record(&c);
+    }
 }
 
 #define QPR_BEGIN()         QPR_NOTE_(qpr_note(QPR_K_BEGIN))            /* the object starts */
@@ -308,14 +310,17 @@ static inline void qpr_new(uint32_t pool, uint32_t block, uint32_t sig) {
     QPR_PUT_(QPR_K_NEW, pool, block, sig QPR_DREW_(qpr_pool(pool)) QPR_SHOWS_(qpr_block(pool, block)));
 }
 static inline void qpr_event(uint32_t pool, uint32_t block, uint32_t n, uint64_t const *params) {
-    struct qpr_cursor c = qpr_open_record(QPR_K_EVENT);
-    qpr_number(&c, pool);
-    qpr_number(&c, block);
-    qpr_number(&c, n < (uint32_t)QPR_PARAMS ? n : (uint32_t)QPR_PARAMS);
-    for (uint32_t i = 0; i < n && i < (uint32_t)QPR_PARAMS; ++i) {
-        qpr_long(&c, params[i]);
+    uint32_t const count = n < (uint32_t)QPR_PARAMS ? n : (uint32_t)QPR_PARAMS;
+    struct qpr_cursor c;
+    if (qpr_open_record(&c, QPR_K_EVENT, 3u * QPR_NUMBER + count * QPR_LONG)) {
+        qpr_number(&c, pool);
+        qpr_number(&c, block);
+        qpr_number(&c, count);
+        for (uint32_t i = 0; i < count; ++i) {
+            qpr_long(&c, params[i]);
+        }
+        qpr_close_record(&c);
     }
-    qpr_close_record(&c);
 }
 static inline void qpr_short(uint32_t pool, uint32_t free, uint32_t reserve) {
     QPR_PUT_(QPR_K_SHORT, pool, free, reserve QPR_SHOWS_(qpr_pool(pool)));
@@ -374,7 +379,7 @@ static inline void qpr_same(uint32_t sig) { QPR_PUT_(QPR_K_SAME, sig QPR_SHOWS_(
 #define QPR_REARM(t, former, ticks) qpr_timer_2(QPR_K_REARM, (t), (former), (ticks))
 #define QPR_TICK(t, counter)        qpr_timer_1(QPR_K_TICK, (t), (counter))           /* a tick lowers the counter to this */
 #define QPR_FIRE(t, reload)         qpr_timer_1(QPR_K_FIRE, (t), (reload))            /* to 0: it is loaded anew, and posts */
-#define QPR_IDLE(t)                 qpr_idle(t)  /* it isn't armed: where it is disarmed; in a tick it may be left out */
+#define QPR_IDLE(t)                 qpr_idle(t)  /* it isn't armed: where it is disarmed, and in a tick, there not with QPR_ONE */
 
 static inline void qpr_timer_1(uint8_t kind, uint32_t t, uint32_t a) { QPR_PUT_(kind, t, a QPR_DREW_(qpr_timer(t))); }
 static inline void qpr_timer_2(uint8_t kind, uint32_t t, uint32_t a, uint32_t b) { QPR_PUT_(kind, t, a, b QPR_DREW_(qpr_timer(t))); }

@@ -10,7 +10,11 @@
 
 #include "qf_pkg.h"
 
-enum { BUFFER = 1 << 20, PIECE = 4096, PATIENCE = 10 /* seconds */ };
+#ifndef QF_RECORD_BYTES
+#define QF_RECORD_BYTES 0x100000 /* of each of the recorder's buffers */
+#endif
+
+enum { PIECE = 4096, PATIENCE = 10 /* seconds */ };
 
 QActive *QActive_registry_[QF_MAX_ACTIVE + 1];
 
@@ -182,10 +186,10 @@ static void runObjects(void) {
 #if QP_RECORD
 static void openBuffers(void) {
 #if QP_RECORD == 1
-    static uint8_t bytes[BUFFER];
+    static uint8_t bytes[QF_RECORD_BYTES];
     qpr_open(0, bytes, sizeof bytes);
 #else
-    static uint8_t bytes[QPR_WHOS][BUFFER];
+    static uint8_t bytes[QPR_WHOS][QF_RECORD_BYTES];
     for (unsigned who = 1; who < QPR_WHOS; ++who) {
         qpr_open((uint8_t)who, bytes[who], sizeof bytes[who]);
     }

@@ -57,9 +57,12 @@ bool QTimeEvt_rearm(QTimeEvt *me, uint32_t nTicks) {
     return wasArmed;
 }
 
-/* Lowers the counter; true: the time event fires. One that isn't armed leaves no record. */
+/* Lowers the counter; true: the time event fires. */
 static bool count(QTimeEvt *me) {
     if (me->ctr == 0) {
+#if QP_RECORD == 2 /* with one buffer the host adds it */
+        QPR_IDLE(me->num);
+#endif
         return false;
     }
     --me->ctr;
@@ -77,6 +80,9 @@ static bool count(QTimeEvt *me) {
 static bool countLate(QTimeEvt *me) {
     static bool isAtZero[QF_MAX_TIMERS + 1];
     if (me->ctr == 0 && !isAtZero[me->num]) {
+#if QP_RECORD == 2
+        QPR_IDLE(me->num);
+#endif
         return false;
     }
     if (me->ctr == 0) {

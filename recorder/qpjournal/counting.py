@@ -31,16 +31,30 @@ def word_of(raw: Raw) -> Word | None:
     return None
 
 
-def counted(order: list[Raw]) -> dict[int, list[Raw]]:
-    """The lanes of an order, with numbers."""
+#: How many operations each time event had where a source's stimulus begins, by who and place; behind the last one, at the end.
+Moments = dict[tuple[int, int], dict[int, int]]
+
+
+def counted(order: list[Raw]) -> tuple[dict[int, list[Raw]], Moments]:
+    """The lanes of an order, with numbers, and the moments of its stimuli."""
     counts: Counter[Word] = Counter()
     lanes: dict[int, list[Raw]] = {}
+    moments: Moments = {}
     for raw in order:
+        lane = lanes.setdefault(raw.who, [])
+        if raw.word in ("stim", "settle"):
+            moments[raw.who, len(lane)] = _timers(counts)
         word = word_of(raw)
         if word is not None:
             raw = raw._replace(number=counts[word])
             if raw.word in ("new", "back"):
                 raw = raw._replace(shown=counts["block", raw.values[0], raw.values[1]])
             counts[word] += raw.word in DRAWN
-        lanes.setdefault(raw.who, []).append(raw)
-    return lanes
+        lane.append(raw)
+    for who, lane in lanes.items():
+        moments[who, len(lane)] = _timers(counts)
+    return lanes, moments
+
+
+def _timers(counts: Counter[Word]) -> dict[int, int]:
+    return {word[1]: count for word, count in counts.items() if word[0] == "timer"}

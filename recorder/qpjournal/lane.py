@@ -1,7 +1,5 @@
 """A lane's records as those of a journal: what objects and sources have in common."""
 
-from collections import defaultdict
-
 from .blocks import Block, Life
 from .queues import Entry, take_out
 from .told import Told
@@ -30,7 +28,6 @@ class Lane:
         self._deferred: list[Entry] = []
         self._step: Entry | None = None
         self._former: Raw | None = None
-        self._marks: dict[int, int] = defaultdict(int)
 
     def put(self, word: str, *numbers: int) -> None:
         self.lines.append(" ".join([word, *map(str, numbers)]))
@@ -158,7 +155,6 @@ class Lane:
 
     def _timer(self, at: int, raw: Raw) -> None:
         timer, *values = raw.values
-        self._marks[timer] = raw.number + (raw.word != "idle")
         self.put(raw.word, self._object, timer, raw.number, *values)
 
     _arm = _disarm = _rearm = _idle = _tick = _fire = _timer

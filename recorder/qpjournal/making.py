@@ -37,7 +37,7 @@ class Made:
 
 def make(system: System, trace: Trace) -> Made:
     """Raises `Fault` where the trace has an object that the system doesn't."""
-    told = Told(system, counted(trace.order) if trace.form == ONE else trace.lanes)
+    told = Told(system, *(counted(trace.order) if trace.form == ONE else (trace.lanes, None)))
     for who in told.lanes:
         if who <= LAST_OBJECT and who not in told.objects:
             raise Fault("", f"the trace has records of {who_is(who)}, which the system doesn't have")

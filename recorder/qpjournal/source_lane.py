@@ -6,7 +6,11 @@ from .trace import LAST_OBJECT, STIM_POST, STIM_PUBLISH, STIM_TICK, Raw
 
 
 class SourceLane(Lane):
-    """Writes each stimulus as a line too, brings a tick's time events into ascending order, and adds those that aren't armed."""
+    """Writes each stimulus as a line too, and brings a tick's time events into ascending order.
+
+    Where there is one order it adds those that aren't armed: that a tick passed over them tells no record. Where there is none,
+    it isn't known when that was, so the framework has to write them.
+    """
 
     def __init__(self, told: Told, who: int):
         super().__init__(told, who)
@@ -19,10 +23,10 @@ class SourceLane(Lane):
         for at, raw in raws[:starts[0]]:
             self.write(at, raw)
         for start, end in zip(starts, starts[1:]):
-            self._stimulus(raws[start][1], raws[start:end])
+            self._stimulus(raws[start][1], raws[start:end], start, end)
         self.close()
 
-    def _stimulus(self, head: Raw, raws: list[tuple[int, Raw]]) -> None:
+    def _stimulus(self, head: Raw, raws: list[tuple[int, Raw]], start: int, end: int) -> None:
         self.close()
         self._due = []
         self.stimuli.append(self._line(head, [raw for _, raw in raws]))
@@ -30,7 +34,7 @@ class SourceLane(Lane):
         if head.word == "settle":
             self.write(*raws[0])
         if head.word == "stim" and head.values[0] == STIM_TICK:
-            self._write_tick(head.values[1], raws[1:])
+            self._write_tick(head.values[1], raws[1:], start, end)
         else:
             for at, raw in raws[1:]:
                 self.write(at, raw)
@@ -60,7 +64,7 @@ class SourceLane(Lane):
 
     # Ticks.
 
-    def _write_tick(self, rate: int, raws: list[tuple[int, Raw]]) -> None:
+    def _write_tick(self, rate: int, raws: list[tuple[int, Raw]], start: int, end: int) -> None:
         groups: list[tuple[int, list[tuple[int, Raw]]]] = []
         for at, raw in raws:
             if raw.word in ("idle", "tick", "fire"):
@@ -69,10 +73,12 @@ class SourceLane(Lane):
                 groups[-1][1].append((at, raw))
             else:
                 self.write(at, raw)
-        groups += [(timer, []) for timer in self._unarmed(rate, groups)]
-        for timer, group in sorted(groups, key=lambda group: group[0]):
-            if not group:
-                group = [(-1, Raw(self._who, "idle", (timer,), self._told.timers.idle_from(timer, self._marks[timer])))]
+        if moments := self._told.moments:
+            before, behind = moments[self._who, start], moments[self._who, end]
+            for timer in self._unarmed(rate, groups):
+                shown = self._told.timers.idle_between(timer, before.get(timer, 0), behind.get(timer, 0))
+                groups.append((timer, [(-1, Raw(self._who, "idle", (timer,), shown))]))
+        for _, group in sorted(groups, key=lambda group: group[0]):
             for at, raw in group:
                 self.write(at, raw)
 

@@ -19,7 +19,7 @@ class Timers:
                     counter = raw.values[_COUNTER[raw.word]] if raw.word in _COUNTER else 0
                     self._counters[raw.values[0]][raw.number + 1] = counter
 
-    def idle_from(self, timer: int, least: int) -> int:
-        """The first number of operations, from `least` on, after which the time event isn't armed; else `least`."""
+    def idle_between(self, timer: int, least: int, most: int) -> int:
+        """The first number of operations in this range after which the time event isn't armed; else `least`."""
         counters = self._counters[timer]
-        return min((number for number, counter in counters.items() if number >= least and counter == 0), default=least)
+        return min((number for number, counter in counters.items() if least <= number <= most and counter == 0), default=least)

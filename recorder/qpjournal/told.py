@@ -3,6 +3,7 @@
 from qpviewer.system_parts import Object, Signal, System
 
 from .blocks import Blocks
+from .counting import Moments
 from .queues import Queues, entries_of
 from .timers import Timers
 from .trace import LAST_OBJECT, Raw
@@ -11,9 +12,11 @@ from .trace import LAST_OBJECT, Raw
 class Told:
     """A system, the numbered lanes of a trace, and their blocks, queues and time events."""
 
-    def __init__(self, system: System, lanes: dict[int, list[Raw]]):
+    def __init__(self, system: System, lanes: dict[int, list[Raw]], moments: Moments | None):
         self.system = system
         self.lanes = lanes
+        #: Where there is one order.
+        self.moments = moments
         self.objects: dict[int, Object] = {entry.priority: entry for entry in system.objects}
         self.signals: dict[int, Signal] = {signal.number: signal for signal in system.signals.values()}
         self.blocks = Blocks(lanes)

@@ -24,12 +24,13 @@ class Unfit(Exception):
 
 @dataclass
 class Group:
-    """The records of one call or note: its word, its record that says most, the event of `new` where one was made, and the
-    answer; `asserted` where an assertion ends it."""
+    """The records of one call or note: its word, its record that says most with its place, the place of its first record, the
+    event of `new` where one was made, and the answer; `asserted` where an assertion ends it."""
 
     word: str
     record: Record
-    at: int
+    last: int
+    at: int = 0
     event: tuple[int, ...] = ()
     is_forward: bool = False
     answer: int = 1

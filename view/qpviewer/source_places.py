@@ -2,10 +2,10 @@
 
 import re
 
-from .journal import PORT, Journal
+from .journal import PORT, Journal, Record
 from .object_places import failure_at
 from .shapes import Group, References, Shapes, Unfit
-from .system_parts import System
+from .system_parts import Object, System
 from .word_places import Failure, Spot
 
 _EVENT = re.compile(r"(?:post ([A-Za-z_0-9]+)|publish) ([A-Za-z_0-9]+)(?:\(([0-9,]+)\))?(?: margin ([0-9]+))?(?: reserve ([0-9]+))?")
@@ -93,12 +93,20 @@ def _compare(system: System, shapes: Shapes, group: Group, line: str) -> None:
     if group.event and group.event != (signal.number, *params):
         raise Unfit(group.at, f"the stimulus is `{line}`, of signal {signal.number}")
     if target and group.word in ("post", "full"):
-        priority = next(owner.priority for owner in system.objects if owner.name == target)
-        if group.record.numbers[1] != priority:
-            raise shapes.refuse(f"the stimulus is `{line}`, to object {priority}")
+        owner = next(owner for owner in system.objects if owner.name == target)
+        if group.record.numbers[1] != owner.priority:
+            raise Unfit(group.last, f"the stimulus is `{line}`, to object {owner.priority}")
+        if group.word == "post" and (room := _room_before(owner, group.record)) <= int(parts[4] or 0):
+            raise Unfit(group.last, f"the stimulus is `{line}`, and {room} entries were free")
     if group.word == "full" and str(group.record.numbers[5]) != parts[4]:
-        raise Unfit(group.at, f"the stimulus is `{line}`")
+        raise Unfit(group.last, f"the stimulus is `{line}`")
     if group.word == "short" and str(group.record.numbers[4]) != parts[5]:
         raise Unfit(group.at, f"the stimulus is `{line}`")
     if group.word == "pub" and group.record.numbers[1] != signal.number:
-        raise Unfit(group.at, f"the stimulus is `{line}`, of signal {signal.number}")
+        raise Unfit(group.last, f"the stimulus is `{line}`, of signal {signal.number}")
+
+
+def _room_before(owner: Object, post: Record) -> int:
+    """How many entries were free before a post."""
+    first_in, last_in, taken = post.numbers[2:5]
+    return owner.queue + 1 - (first_in - 1 + last_in - taken)
