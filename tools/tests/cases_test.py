@@ -98,9 +98,19 @@ class Files(unittest.TestCase):
         self.write(CASE + 'kernel = "sim"\n')
         self.assertIn("end is 3, expected 0: lamp asserts: the queue of lamp is full", answer(str(self.folder))[1])
 
+    @unittest.skipUnless(is_built(), "the program isn't built")
+    def test_counts_of_a_folder(self):
+        self.write(CASE + CASE.replace('"a"', '"b"'))
+        status, printed, _ = answer("--cover", "--low", str(self.folder))
+        self.assertEqual(status, 0)
+        self.assertEqual(printed.splitlines()[4:], [
+            "4 passed, 0 failed", f"{self.folder}/lamp.toml:", "chart lamp: 1 of 1 rows taken",
+            "            size  least free  most used", "queue lamp     2           1          1",
+        ])
+
     def test_words(self):
         self.assertEqual(answer("--help")[0], 0)
-        for words in ((), (str(self.folder),), ("cover",), ("low", "x")):
+        for words in ((), (str(self.folder),), ("cover",), ("low", "x"), ("--cover",), (str(self.folder / "lamp.toml"),)):
             with self.subTest(words):
                 self.assertIn(answer(*words)[0], (2, 125))
 
@@ -180,4 +190,4 @@ class Examples(unittest.TestCase):
 
     def test_the_program(self):
         ran = subprocess.run([TOP / "tools" / "qptest", EXAMPLES / "clock"], capture_output=True, text=True)
-        self.assertEqual((ran.returncode, ran.stdout.splitlines()[-1]), (0, "4 passed, 0 failed"))
+        self.assertEqual((ran.returncode, ran.stdout.splitlines()[-1]), (0, "6 passed, 0 failed"))

@@ -18,7 +18,8 @@ from .compare import differences
 from .orders import count_of, orders_text, outcomes
 from .outcome import NoRun, run_case
 
-USAGE = """usage: qptest FOLDER ..                     runs all cases of the files cases.toml in the folders and below
+USAGE = """usage: qptest [--cover] [--low] FOLDER ..   runs all cases of the files cases.toml in the folders and below; with --cover and --low
+                                            it prints of each system what `cover` and `low` print, over all its runs
        qptest cover SYSTEM JOURNAL ..       prints how many rows of each chart the journals took, and which they didn't
        qptest low SYSTEM JOURNAL ..         prints the least that was free in queues and pools (getQueueMin, getPoolMin)
        qptest orders [--kernel sim|qv] [--most N] SYSTEM STIMULI
@@ -97,24 +98,45 @@ def _orders(words: list[str]) -> int:
     return PASSED
 
 
-def _folders(names: list[str]) -> int:
+def _folders(words: list[str]) -> int:
+    options = {word for word in words if word in ("--cover", "--low")}
+    names = [word for word in words if word not in options]
+    if wrong := next((name for name in names if not Path(name).is_dir()), None):
+        raise _Words(f"{wrong} is no folder")
     files = [file for name in names for file in sorted(Path(name).rglob("cases.toml"))]
     if not files:
-        raise _Words(f"no file cases.toml in {', '.join(names)}")
-    cases = [(file, case) for file in files for case in read_cases(file)]
-    failed = tried = 0
-    for file, case in cases:
-        for kernel in case.kernels:
-            told = _tried(case, kernel)
-            tried += 1
-            failed += bool(told)
-            print(f"{'FAIL' if told else 'pass'}  {file.parent}: {case.name}, {kernel}")
-            print("".join(f"      {line}\n" for line in told), end="")
-    print(f"{tried - failed} passed, {failed} failed")
+        raise _Words(f"no file cases.toml in {', '.join(names) or 'no folder'}")
+    tried = [_tried(file, case, kernel) for file in files for case in read_cases(file) for kernel in case.kernels]
+    failed = sum(not is_passed for is_passed, _, _ in tried)
+    print(f"{len(tried) - failed} passed, {failed} failed")
+    stories: dict[Path, list[Story]] = {}
+    for _, case, story in tried:
+        stories.setdefault(case.system, []).extend([story] if story else [])
+    for system, of in stories.items():
+        _print_counts(system, of, options)
     return FAILED if failed else PASSED
 
 
-def _tried(case: Case, kernel: str) -> list[str]:
-    """What differs in a run of a case."""
+def _tried(file: Path, case: Case, kernel: str) -> tuple[bool, Case, Story | None]:
+    """Runs a case and prints what differs; answers whether nothing does, the case, and the run's story."""
     outcome = run_case(case, kernel)
-    return ["the system or the stimuli are refused:", *outcome.lines] if isinstance(outcome, NoRun) else differences(case, outcome)
+    if isinstance(outcome, NoRun):
+        told, story = ["the system or the stimuli are refused:", *outcome.lines], None
+    else:
+        told, story = differences(case, outcome), outcome.story
+    print(f"{'FAIL' if told else 'pass'}  {file.parent}: {case.name}, {kernel}")
+    print("".join(f"      {line}\n" for line in told), end="")
+    return not told, case, story
+
+
+def _print_counts(system: Path, stories: list[Story], options: set[str]) -> None:
+    """Prints the rows that runs of a system took, and the least that was free in them."""
+    if not options or not stories:
+        return
+    coverage, low = Coverage(stories[0].system), LowWater(stories[0].system)
+    for story in stories:
+        coverage.add(story.journal)
+        low.add(story)
+    print(f"{system}:")
+    print(coverage.text() if "--cover" in options else "", end="")
+    print(low.text() if "--low" in options else "", end="")
