@@ -26,7 +26,7 @@ Calls the program with these words, prints its line of standard error, and below
 stands in your files. What the call itself prints is dropped. Ends with the status of the call."""
 
 #: A run is made once more for its journal only where it takes no longer than this.
-SECONDS = 30.0
+SECONDS = 10.0
 INDENT = "    "
 
 
@@ -121,7 +121,7 @@ def main(words: list[str]) -> int:
     if not is_built():
         print("qp: not built, and an explanation needs the program: `qp build`", file=sys.stderr)
         return UNANSWERED
-    answer = call(words, stdin=sys.stdin.fileno())
+    answer = call(words, stdin=sys.stdin.fileno() if sys.stdin else subprocess.DEVNULL)
     print(answer.note, end="")
     made = read_call(words)
     is_journal = made.command == "run" and made.options.get("--out", "journal") == "journal"
