@@ -41,7 +41,7 @@ use Rattle.qp_kernel.specs.QuietRun.{IsQuietRun}
 use Rattle.qp_kernel.specs.Turning.{AreAble, Stands, Terms, kernel_in}
 use Rattle.qp_kernel.specs.Laws.{kept_by}
 use Rattle.qp_kernel.specs.Happenings.{SourcesMarch, begun_by, lane_told, lanes_of, order_of, told_by}
-use Rattle.qp_kernel.proofs.LawfulLemmas.{IsFound, all-found}
+use Rattle.qp_kernel.proofs.ZeroLawful.{IsFound, all-found}
 use Rattle.qp_kernel.proofs.DeferredLemmas.{deferred_are_kept, no-port}
 use Rattle.qp_kernel.proofs.QuietRuns.{quiet_runs_are_lawful}
 use Rattle.qp_simulation.specs.Left.{IsLeft, IsIdle}
@@ -161,6 +161,7 @@ module _ (sys : System) (stimuli : List (List Stim)) (lanes : List (List Rec)) (
         sound = sound;
         able = able;
         terms = terms;
+        single = idle.single;
         kernel = kernel;
         budget_is = same;
         words = words-hold sys stimuli lanes v left j at;

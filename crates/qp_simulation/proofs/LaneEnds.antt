@@ -17,7 +17,7 @@ use Rattle.qp_sound.specs.Log.{lane_of}
 use Rattle.qp_sound.specs.Sound.{facts_in}
 use Rattle.qp_kernel.specs.Happenings.{SourcesHalt}
 use Rattle.qp_kernel.specs.Turning.{Terms}
-use Rattle.qp_kernel.proofs.TellLemmas.{untold-lane}
+use Rattle.qp_orders.proofs.SourceLanes.{untold-lane}
 use Rattle.qp_simulation.specs.Left.{IsLeft, IsStopped}
 
 module _ (sys : System) (stimuli : List (List Stim)) (lanes : List (List Rec)) (v : LaneView) (left : IsLeft sys stimuli lanes v) where

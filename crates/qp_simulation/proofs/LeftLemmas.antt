@@ -21,7 +21,7 @@ use Rattle.qp_orders.specs.Stimulus.{source_items}
 use Rattle.qp_sound.specs.Log.{lane_of}
 use Rattle.qp_sound.specs.Sound.{facts_in}
 use Rattle.qp_kernel.specs.Happenings.{lanes_from, lanes_of, lane_told, told_by}
-use Rattle.qp_kernel.proofs.TellLemmas.{untold-lane}
+use Rattle.qp_orders.proofs.SourceLanes.{untold-lane}
 use Rattle.qp_simulation.specs.Left.{IsLeft}
 
 module _ (sys : System) (stimuli : List (List Stim)) (lanes : List (List Rec)) (v : LaneView) (left : IsLeft sys stimuli lanes v) (j : Journal) (at : j.lanes ≡ lanes) where

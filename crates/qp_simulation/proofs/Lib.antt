@@ -1,4 +1,3 @@
-pub mod Kernels
 pub mod LeftLemmas
 pub mod StoppedRuns
 pub mod LaneEnds

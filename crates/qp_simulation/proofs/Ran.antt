@@ -19,13 +19,16 @@ use Rattle.qp_dispatch.specs.declared.objects.Turn.{Turn}
 use Rattle.qp_dispatch.specs.declared.objects.Turn.TheVariants as turn
 use Rattle.qp_turns.specs.Ordering.{IdlesInOrder, StopsInOrder, TurnsInOrder}
 use Rattle.qp_turns.specs.Starting.{AllStarted, IsFresh, StartStopped}
-use Rattle.qp_turns.specs.Turning.{Idled, Stand, TurnStopped, TurnsTo}
+use Rattle.qp_turns.specs.Turning.{Idled, Stand, TurnStopped, TurnsTo, idle_in}
 use Rattle.qp_turns.specs.Knowing.{HandsFollow}
 use Rattle.qp_turns.proofs.Keeping.{rests-kept}
 use Rattle.qp_turns.proofs.Places.{follow-then}
 use Rattle.qp_simulation.specs.Left.{IsIdle, IsStopped}
 use Rattle.qp_simulation.specs.Running.{RunsOn, RunsTo}
-use Rattle.qp_kernel.specs.Turning.{Terms}
+use Rattle.qp_kernel.specs.Turning.{Terms, kernel_in}
+use Rattle.qp_kernel.specs.ZeroEnds.{ZeroEnds}
+use Rattle.qp_kernel.proofs.AlikeKernels.{one-row}
+use Rattle.qp_model.specs.Ends.{may_cut}
 
 -- what an object at rest has
 abbrev rest_of : Config → Stage → Config
@@ -42,7 +45,13 @@ resting-is none (stage.Paused ev e left c) h = absurd (cc)
 abbrev nobody : Config
 nobody = record { leaf = 0; vars = []; ok = pos 0; kept = []; former = 0 }
 
-module _ (sys : System) (terms : Terms) (sound : IsSound sys) (xs : Objects) (v : LaneView) (made : AreMade sys xs) (fresh : IsFresh sys v) where
+-- a kernel of one thread has at most one row without a step
+one-row_stop : (sys : System) (terms : Terms) → terms.threaded ≡ false → (v w : LaneView) → TurnStopped sys terms v w
+    → (end : ℕ) → may_cut end ≡ true → ZeroEnds sys (kernel_in terms) terms.budget end 1 w.told (has_stim (lanes_of w))
+one-row_stop sys terms single v w stop end cut =
+    subst (λ most. ZeroEnds sys (kernel_in terms) terms.budget end most w.told (has_stim (lanes_of w))) (one-row terms (idle_in sys terms w.told (has_stim (lanes_of w))) single) (stop.zero end cut)
+
+module _ (sys : System) (terms : Terms) (single : terms.threaded ≡ false) (sound : IsSound sys) (xs : Objects) (v : LaneView) (made : AreMade sys xs) (fresh : IsFresh sys v) where
   module _ (ys : Objects) (u : LaneView) (started : AllStarted sys xs ys v u) (a b : Stand) (from : a.lane ≡ u) (those : a.objects ≡ ys) where
     pub idle-is : Idled sys terms a b → IdlesInOrder true sys b → IsIdle sys terms b.lane
     idle-is idled order =
@@ -55,6 +64,7 @@ module _ (sys : System) (terms : Terms) (sound : IsSound sys) (xs : Objects) (v 
         let next = subst (λ o. HandsFollow o a.lane b.objects b.lane) those idled.onward.hands in
         let follow = follow-then xs v ys u b.objects b.lane first (subst (λ l. HandsFollow ys l b.objects b.lane) from next) in
         record {
+          single = single;
           state = k.state;
           told = k.told;
           stands = k.stands;
@@ -80,7 +90,7 @@ module _ (sys : System) (terms : Terms) (sound : IsSound sys) (xs : Objects) (v 
     }
 
     pub stop-is : (w : LaneView) → TurnStopped sys terms u w → StopsInOrder true sys u w → IsStopped sys terms w
-    stop-is w stop order = record { zero = stop.zero; in_order = order.order refl }
+    stop-is w stop order = record { single = single; zero = one-row_stop sys terms single u w stop; in_order = order.order refl }
 
     pub stop-on : (w : LaneView) → StopsInOrder true sys u w → RunsOn v w
     stop-on w order = record { of = order.of ∙ started.grows.gains.sys; plan = order.plan ∙ started.grows.gains.plan }
@@ -92,7 +102,7 @@ module _ (sys : System) (terms : Terms) (sound : IsSound sys) (xs : Objects) (v 
     turned turn.Memory goes order = tt
 
   pub start-stop_is : (w : LaneView) → StartStopped sys v w → IsStopped sys terms w
-  start-stop_is w stop = record { zero = (stop.turn terms).zero; in_order = stop.order }
+  start-stop_is w stop = record { single = single; zero = one-row_stop sys terms single v w (stop.turn terms); in_order = stop.order }
 
   pub start-stop_on : (w : LaneView) → StartStopped sys v w → RunsOn v w
   start-stop_on w stop = by-stops stop.grows.mid stop.grows.stops stop.grows.gains.sys stop.grows.gains.plan

@@ -22,7 +22,7 @@ use Rattle.qp_dispatch.specs.declared.objects.Turn.{Turn}
 use Rattle.qp_dispatch.specs.declared.objects.Turn.TheVariants as turn
 use Rattle.qp_kernel.specs.Turning.{Terms, kernel_in}
 use Rattle.qp_kernel.specs.ZeroEnds.{own_told}
-use Rattle.qp_kernel.proofs.LawfulLemmas.{IsFound, all-found}
+use Rattle.qp_kernel.proofs.ZeroLawful.{IsFound, all-found}
 use Rattle.qp_kernel.proofs.DeferredLemmas.{no-port}
 use Rattle.qp_rests.specs.declared.rest.Rest.{Rest}
 use Rattle.qp_rests.specs.Rests.{AreRests, AreRestsIn, IsRestOf}

@@ -27,7 +27,7 @@ use Rattle.qp_kernel.specs.Run.{SourcesEnd, IsRun}
 use Rattle.qp_kernel.specs.Happenings.{SourcesHalt, lane_told, lanes_of, order_of}
 use Rattle.qp_kernel.proofs.LawfulLemmas.{lawful}
 use Rattle.qp_simulation.specs.Left.{IsLeft, IsStopped}
-use Rattle.qp_simulation.proofs.Kernels.{one-order}
+use Rattle.qp_kernel.proofs.AlikeKernels.{one-order}
 use Rattle.qp_simulation.proofs.LeftLemmas.{facts-are, zero-told, zero-items, source-told, sources-are}
 use Rattle.qp_kernel.specs.Turning.{Terms, kernel_in}
 use Rattle.qp_kernel.proofs.DeferredLemmas.{no-port}
@@ -62,17 +62,17 @@ module _ (sys : System) (stimuli : List (List Stim)) (lanes : List (List Rec)) (
       let loud : (b : Bool) → j.end ≡ quiet → b ≡ true = λ b e. let wrong : false ≡ true = ap may_cut (sym e) ∙ cut in cc in
       record {
         sound = sound;
-        kernel = ap has_one_order kernel ∙ one-order terms;
+        kernel = ap has_one_order kernel ∙ one-order terms stop.single;
         words = words-hold;
         count = count-is;
         room = lanes-roomy;
         log = order_of v;
         numbers = numbers-are;
         zero =
-            subst (λ ts. ZeroEnds sys j.kernel j.budget j.end ts (has_stim (source_lanes sys j))) (sym (zero-told sys stimuli lanes v left j at))
-            (subst (λ x. ZeroEnds sys j.kernel j.budget j.end v.told (has_stim x)) (sym sources)
-            (subst (λ n. ZeroEnds sys n j.budget j.end v.told (has_stim (lanes_of v))) (sym kernel)
-            (subst (λ b. ZeroEnds sys (kernel_in terms) b j.end v.told (has_stim (lanes_of v))) (sym same) (stop.zero j.end cut))));
+            subst (λ ts. ZeroEnds sys j.kernel j.budget j.end 1 ts (has_stim (source_lanes sys j))) (sym (zero-told sys stimuli lanes v left j at))
+            (subst (λ x. ZeroEnds sys j.kernel j.budget j.end 1 v.told (has_stim x)) (sym sources)
+            (subst (λ n. ZeroEnds sys n j.budget j.end 1 v.told (has_stim (lanes_of v))) (sym kernel)
+            (subst (λ b. ZeroEnds sys (kernel_in terms) b j.end 1 v.told (has_stim (lanes_of v))) (sym same) (stop.zero j.end cut))));
         cuts = order.cuts;
         sources = halted j.end order.cuts 1 stimuli (omega arith) (sym left.count) refl (subst (λ p. SourcesHalt sys j.end order.cuts 1 p v.happened) left.plan order.sources);
         order =

@@ -1,5 +1,5 @@
 -- What the world and the kernel of a run leave when it has ended.
-use Rattle.std.specs.Prelude.{◌≡◌, ℕ, ◌+◌, ◌<◌, ◌≤◌, true, List, [], length, Some, None, IsTrue}
+use Rattle.std.specs.Prelude.{◌≡◌, ℕ, ◌+◌, ◌<◌, ◌≤◌, true, false, List, [], length, Some, None, IsTrue}
 use Rattle.std.specs.List.{list_all, count_by}
 use Rattle.qp_model.specs.declared.record.Rec.{Rec}
 use Rattle.qp_model.specs.declared.stimulus.Stim.{Stim}
@@ -52,6 +52,7 @@ pub record IsLeft (sys : System) (stimuli : List (List Stim)) (lanes : List (Lis
 
 -- The kernel came to the end of its row at the base: nothing is left to be done.
 pub record IsIdle (sys : System) (terms : Terms) (v : LaneView) : Type 0 where
+  pub single : terms.threaded ≡ false
   pub state : KernelState
   pub told : state.told ≡ v.told
   pub stands : Stands sys terms state
@@ -73,5 +74,6 @@ pub record IsIdle (sys : System) (terms : Terms) (v : LaneView) : Type 0 where
 
 -- The run stopped early, however it stated its end.
 pub record IsStopped (sys : System) (terms : Terms) (v : LaneView) : Type 0 where
-  pub zero : (end : ℕ) → may_cut end ≡ true → ZeroEnds sys (kernel_in terms) terms.budget end v.told (has_stim (lanes_of v))
+  pub single : terms.threaded ≡ false
+  pub zero : (end : ℕ) → may_cut end ≡ true → ZeroEnds sys (kernel_in terms) terms.budget end 1 v.told (has_stim (lanes_of v))
   pub in_order : (end : ℕ) → may_cut end ≡ true → IsOrderEnded sys end v

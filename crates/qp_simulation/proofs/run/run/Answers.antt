@@ -27,7 +27,7 @@ returns-then-cooperative g c =
       goes =
           subst (λ t. RunsTo sys (under c.args.cooperative c.args.budget) v w t) (sym end.turn)
           (subst (λ b. RunsTo sys (under b c.args.budget) v w c.vanilla_turn-turn.result) (sym c.if-cooperative.true)
-          (turned sys terms c.requires.sound c.args.objects.now v c.requires.may.made c.requires.may.fresh c.start.new.self (sim_view c.start.new.ops) c.in-Done.ensures.goes
+          (turned sys terms refl c.requires.sound c.args.objects.now v c.requires.may.made c.requires.may.fresh c.start.new.self (sim_view c.start.new.ops) c.in-Done.ensures.goes
           _ _ refl refl c.vanilla_turn-turn.result c.vanilla_turn-turn.ensures.goes c.vanilla_turn-turn.ensures.order));
       rests =
           subst (λ t. RestsAfter sys w.told t c.end_of_turn.result.rests.items) (sym end.turn)
@@ -46,7 +46,7 @@ returns-else-cooperative g c =
       goes =
           subst (λ t. RunsTo sys (under c.args.cooperative c.args.budget) v w t) (sym end.turn)
           (subst (λ b. RunsTo sys (under b c.args.budget) v w c.kernel_turn-turn.result) (sym c.if-cooperative.false)
-          (turned sys terms c.requires.sound c.args.objects.now v c.requires.may.made c.requires.may.fresh c.start.new.self (sim_view c.start.new.ops) c.in-Done.ensures.goes
+          (turned sys terms refl c.requires.sound c.args.objects.now v c.requires.may.made c.requires.may.fresh c.start.new.self (sim_view c.start.new.ops) c.in-Done.ensures.goes
           _ _ refl refl c.kernel_turn-turn.result c.kernel_turn-turn.ensures.goes c.kernel_turn-turn.ensures.order));
       rests =
           subst (λ t. RestsAfter sys w.told t c.end_of_turn-else-cooperative.result.rests.items) (sym end.turn)
@@ -59,8 +59,8 @@ returns-in-Stopped g c =
     let terms = under c.args.cooperative c.args.budget in
     record {
       goes = (
-        start-stop_on c.args.sys.now terms c.requires.sound c.args.objects.now (sim_view c.args.world.now) c.requires.may.made c.requires.may.fresh (sim_view c.start.new.ops) c.in-Stopped.ensures.goes,
-        start-stop_is c.args.sys.now terms c.requires.sound c.args.objects.now (sim_view c.args.world.now) c.requires.may.made c.requires.may.fresh (sim_view c.start.new.ops) c.in-Stopped.ensures.goes,
+        start-stop_on c.args.sys.now terms refl c.requires.sound c.args.objects.now (sim_view c.args.world.now) c.requires.may.made c.requires.may.fresh (sim_view c.start.new.ops) c.in-Stopped.ensures.goes,
+        start-stop_is c.args.sys.now terms refl c.requires.sound c.args.objects.now (sim_view c.args.world.now) c.requires.may.made c.requires.may.fresh (sim_view c.start.new.ops) c.in-Stopped.ensures.goes,
       );
       rests = subst (λ xs. RestsAfter c.args.sys.now (sim_view c.start.new.ops).told turn.Stopped xs) (sym c.new.ensures.items) (no-rests c.args.sys.now (λ o. own_told o (sim_view c.start.new.ops).told));
     }
