@@ -1,8 +1,15 @@
 -- The laws of a home lane.
-use Rattle.std.proofs.Common.{◌≡◌, true, [], ◌∷◌, ◌++◌, refl, ap, subst, arith}
+use Rattle.qp_model.specs.declared.bodies.Body.{Body}
+use Rattle.qp_model.specs.OutputSummary.{CourseLeaves}
+use Rattle.qp_model.specs.Pieces.{bare}
+use Rattle.qp_model.specs.Standing.{Leaves}
+use Rattle.qp_kernel.specs.Stages.{ComesTo}
+use Rattle.qp_calls.specs.LaneView.{own_after, own_of}
+use Rattle.qp_kernel.proofs.BareLemmas.{own-append}
+use Rattle.std.proofs.Common.{Bool, Some, [], ap, append-nil, arith, cond, false, refl, subst, sym, true, ◌++◌, ◌+◌, ◌==◌, ◌∙◌, ◌∷◌, ◌≡◌}
 use Rattle.qp_model.specs.declared.bodies.Body.TheVariants as body
 use Rattle.qp_model.specs.Told.{for_object, plain, taken}
-use Rattle.qp_model.specs.Course.{actor, first_config}
+use Rattle.qp_model.specs.Course.{Course, actor, first_config}
 use Rattle.qp_model.specs.Lawful.{dispatched}
 use Rattle.qp_kernel.specs.ZeroEnds.{own_told}
 use Rattle.qp_port_law.specs.Homes.{home_told}
@@ -10,9 +17,9 @@ use Rattle.qp_model.specs.ObjectShape.{FindsEmpty, LooksOnly}
 use Rattle.qp_kernel.specs.Turning.{seen_told}
 use Rattle.qp_kernel.proofs.TurnLemmas.{done-form, start-form}
 use Rattle.qp_kernel.proofs.ZeroLemmas.{ends-told}
-use Rattle.qp_home_law.specs.Laws.{HomeStarts, NilIsTold, LookIsTold, HomeStepBegins, HomeStepPauses, HomeStepEnds, UnstartedHomeEnds, HomeStartFails, HomeStartIsCut, RestingHomeEnds, FullHomeEnds, SpentHomeEnds, WaitingHomeEnds, HomeStepFails, HomeStepIsCut}
+use Rattle.qp_home_law.specs.Laws.{HasMore, OwnRises, RestingHomeLeaves, HomeStarts, NilIsTold, LookIsTold, HomeStepBegins, HomeStepPauses, HomeStepEnds, UnstartedHomeEnds, HomeStartFails, HomeStartIsCut, RestingHomeEnds, FullHomeEnds, SpentHomeEnds, WaitingHomeEnds, HomeStepFails, HomeStepIsCut}
 use Rattle.qp_home_law.specs.HomeLanes.{IsHomeLane}
-use Rattle.qp_home_law.proofs.HomeRecords.{home-of, own-of, other-zero, same-number}
+use Rattle.qp_home_law.proofs.HomeRecords.{dispatched-append, home-of, own-of, other-zero, same-number}
 use Rattle.qp_home_law.proofs.HomeGrows.{home-inside, home-look, home-new, home-nil, home-took, not-looked}
 use Rattle.qp_home_law.proofs.HomeSteps.{done-calm, done-inside, part-done, part-point, part-took, point-inside, started-calm, started-inside, whole-mark, whole-started}
 use Rattle.qp_home_law.proofs.HomeEnding.{full-ends, spent-ends, start-fails, start-is_cut, step-fails, step-is_cut, step-stops, unstarted-ends, waiting-ends}
@@ -91,3 +98,42 @@ home_step_fails sys d chart budget end own looked waits told es ev e left c g at
 pub home_step_is_cut : HomeStepIsCut
 home_step_is_cut sys d chart budget end own looked waits told es ev e left c g n qs last at early busy calm goes count many =
     step-is_cut sys d chart at.some at.its at.able budget end early own looked told es busy.0 waits ev e left c busy.1 g n qs last calm goes count many
+
+pub own_rises : OwnRises
+unfolding own_after
+own_rises a own [] = record { l = omega arith; m = omega arith }
+own_rises a own (t ∷ ts) =
+    let later = own_rises a (own_of a own t.of t.told.body) ts in
+    let one = by t.told.body in
+    let low = one.l in
+    let high = one.m in
+    let l = later.l in
+    let m = later.m in
+    record { l = omega (arith, low, l); m = omega (arith, high, m) }
+  where
+    took : (b : Bool) → HasMore own (cond b (record { l = own.l; m = own.m + 1 }) own)
+    took true = record { l = omega arith; m = omega arith }
+    took false = record { l = omega arith; m = omega arith }
+
+    posted : (b : Bool) → HasMore own (cond b (record { l = own.l + 1; m = own.m }) own)
+    posted true = record { l = omega arith; m = omega arith }
+    posted false = record { l = omega arith; m = omega arith }
+
+    by : (b : Body) → HasMore own (own_of a own t.of b)
+    by (body.Took f l m e) = took (t.of == a)
+    by (body.Lifo f l m e) = posted (t.of == a)
+    by _ = record { l = omega arith; m = omega arith }
+
+pub resting_home_leaves : RestingHomeLeaves
+unfolding CourseLeaves ComesTo Leaves bare
+resting_home_leaves sys d chart budget own looked told ts es c rests none =
+    let whole = rests.1 in (
+      whole.ps,
+      [],
+      es,
+      whole.bare_is
+          ∙ sym (ap dispatched (own-append d.priority told ts) ∙ dispatched-append (own_told d.priority told) (own_told d.priority ts)
+          ∙ ap (λ x. dispatched (own_told d.priority told) ++ x) none ∙ append-nil (dispatched (own_told d.priority told))),
+      refl,
+      subst (λ ps. Course sys (actor d chart) (first_config d) es ps (Some c)) (sym (append-nil whole.ps)) whole.comes.0,
+    )

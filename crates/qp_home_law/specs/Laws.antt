@@ -15,10 +15,13 @@ use Rattle.qp_model.specs.Ends.{is_end, may_cut}
 use Rattle.qp_model.specs.Step.{Remainder, GoesOn, whole_step}
 use Rattle.qp_model.specs.Standing.{Advances}
 use Rattle.qp_model.specs.Course.{actor, first_config, chart_at, Starts}
+use Rattle.qp_model.specs.Lawful.{dispatched}
+use Rattle.qp_model.specs.OutputSummary.{CourseLeaves}
 use Rattle.qp_calls.specs.Clauses.{last_nil, same_counts}
-use Rattle.qp_calls.specs.LaneView.{Own, NotShown}
+use Rattle.qp_calls.specs.LaneView.{Own, NotShown, own_after}
 use Rattle.qp_kernel.specs.Stages.{IsReady}
 use Rattle.qp_kernel.specs.Turning.{seen_told, spill_told}
+use Rattle.qp_kernel.specs.ZeroEnds.{own_told}
 use Rattle.qp_port_law.specs.Homes.{HomeEnds}
 use Rattle.qp_home_law.specs.HomeLanes.{IsHomeLane, IsPartHome, IsWholeHome}
 
@@ -40,6 +43,10 @@ IsBusy sys d chart budget own looked waits told es ev e left c = IsHomeLane d.pr
 pub record HasMore (own more : Own) : Type 0 where
   pub l : own.l ≤ more.l
   pub m : own.m ≤ more.m
+
+-- so it has behind any records of its own
+abbrev pub OwnRises : Type 0
+OwnRises = (a : ℕ) (own : Own) (ts : List ToldItem) → HasMore own (own_after a own ts)
 
 -- the object's start comes to its `done`
 abbrev pub HomeStarts : Type 0
@@ -83,6 +90,12 @@ HomeStepEnds =
     (c after : Config) (g : List Told)
     → IsHomeOf sys d chart → HasMore own more → GoesOn sys (actor d chart) ev e left c (tell g) (Some after)
     → IsBusy sys d chart budget own false waits told es ev e left c → Rests sys d chart budget more false (told ++ map (for_object d.priority) g) es after
+
+-- an object that rests is where the course of its records leaves it, whatever marks stand behind them
+abbrev pub RestingHomeLeaves : Type 0
+RestingHomeLeaves =
+    (sys : System) (d : ObjectDef) (chart : Chart) (budget : ℕ) (own : Own) (looked : Bool) (told ts : List ToldItem) (es : List Entry) (c : Config) → Rests sys d chart budget own looked told es c
+    → dispatched (own_told d.priority ts) ≡ [] → CourseLeaves sys d chart (own_told d.priority (told ++ ts)) c
 
 -- Where the run stops, the lane ends as it may: the object hasn't started;
 abbrev pub UnstartedHomeEnds : Type 0

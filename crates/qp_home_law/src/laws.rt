@@ -1,6 +1,6 @@
 //! Laws of a home lane, from its first record to its end. Each function here does nothing: its contract is the law.
 
-ghost use Rattle.qp_home_law.specs.Laws.{FullHomeEnds, HomeStartFails, HomeStartIsCut, HomeStarts, HomeStepBegins, HomeStepEnds, HomeStepFails, HomeStepIsCut, HomeStepPauses, LookIsTold, NilIsTold, RestingHomeEnds, SpentHomeEnds, UnstartedHomeEnds, WaitingHomeEnds};
+ghost use Rattle.qp_home_law.specs.Laws.{FullHomeEnds, HomeStartFails, HomeStartIsCut, HomeStarts, HomeStepBegins, HomeStepEnds, HomeStepFails, HomeStepIsCut, HomeStepPauses, LookIsTold, NilIsTold, OwnRises, RestingHomeEnds, RestingHomeLeaves, SpentHomeEnds, UnstartedHomeEnds, WaitingHomeEnds};
 
 /// The object's start comes to its `done`, and its lane has a whole group.
 pub fn home_starts()
@@ -75,4 +75,14 @@ pub fn home_step_fails()
 /// A `spill` cuts a step right behind a record of its object, up to its release.
 pub fn home_step_is_cut()
     ensures { HomeStepIsCut }
+{}
+
+/// The last-in posts and takes of a lane never grow fewer.
+pub fn own_rises()
+    ensures { OwnRises }
+{}
+
+/// An object that rests is where the course of its records leaves it, whatever marks stand behind them.
+pub fn resting_home_leaves()
+    ensures { RestingHomeLeaves }
 {}
