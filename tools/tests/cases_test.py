@@ -149,6 +149,18 @@ class Orders(unittest.TestCase):
                         .startswith("2 of 3 orders were run"))
 
 
+    @unittest.skipUnless(is_built(), "the program isn't built")
+    def test_an_order_ends_where_its_run_does(self):
+        """A run that is stopped is told with the stimuli that happened alone."""
+        with tempfile.TemporaryDirectory() as folder:
+            lamp = (EXAMPLES / "lamp.toml").read_text().replace('to = "on"', 'do = ["post me GO", "post me GO", "post me GO"]')
+            Path(folder, "lamp.toml").write_text(lamp)
+            Path(folder, "two.txt").write_text("source 1\npost lamp GO\nsettle\nsource 2\ntick 0\n")
+            _, printed, _ = answer("orders", f"{folder}/lamp.toml", f"{folder}/two.txt")
+        self.assertIn("3 of 3 orders were run, with 1 outcome\n", printed)
+        self.assertTrue(printed.endswith("  by the order 1:\n    source 1: post lamp GO\n"), printed)
+
+
 class Counts(unittest.TestCase):
     """Coverage and low water, of the judge's journals."""
 

@@ -17,7 +17,8 @@ Order = tuple[int, ...]
 
 @dataclass(frozen=True)
 class Group:
-    """Orders that come to the same: the outcome, how many they are, and the one with the fewest changes of source."""
+    """Orders that come to the same: the outcome, how many they are, and the shortest one, that is the one of which the fewest
+    stimuli happen until the run ends, and among these the one with the fewest changes of source. Only what happens is in it."""
 
     outcome: str
     count: int
@@ -65,21 +66,29 @@ def outcomes(system: Path, stimuli: list[list[str]], words: list[str], most: int
     """What comes of at most so many orders, the commonest first; `words` are options of `run`."""
     chosen = list(islice(orders([len(lines) for lines in stimuli]), most))
     with tempfile.TemporaryDirectory() as folder, ThreadPoolExecutor(os.cpu_count()) as pool:
-        def come(numbered: tuple[int, Order]) -> str:
+        def come(numbered: tuple[int, Order]) -> tuple[str, Order]:
             file = Path(folder, str(numbered[0]))
             file.write_text(merged(stimuli, numbered[1]))
-            ran = call(["run", "--out", "summary", *words, "--", str(system), str(file)])
-            return ran.output.decode() + ran.note
+            return _outcome(["--", str(system), str(file)], words, numbered[1])
 
         found: dict[str, list[Order]] = {}
-        for order, outcome in zip(chosen, pool.map(come, enumerate(chosen))):
-            found.setdefault(outcome, []).append(order)
-    groups = [Group(outcome, len(those), those[0]) for outcome, those in found.items()]
+        for outcome, happened in pool.map(come, enumerate(chosen)):
+            found.setdefault(outcome, []).append(happened)
+    groups = [Group(outcome, len(those), min(those, key=len)) for outcome, those in found.items()]
     return sorted(groups, key=lambda group: -group.count)
 
 
+def _outcome(files: list[str], words: list[str], order: Order) -> tuple[str, Order]:
+    """The outcome of an order, and as much of the order as happens: all of it, unless the run is stopped before."""
+    ran = call(["run", "--out", "summary", *words, *files])
+    if ran.status in (3, 4):
+        journal = call(["run", *words, *files]).output
+        order = order[:journal.count(b"\nstim ")]
+    return ran.output.decode() + ran.note, order
+
+
 def orders_text(groups: list[Group], stimuli: list[list[str]], total: int) -> str:
-    """The outcomes, each with how many orders lead to it and the one with the fewest changes of source."""
+    """The outcomes, each with how many orders lead to it and the shortest one."""
     ran = sum(group.count for group in groups)
     lines = [f"{ran} of {total} orders were run, with {len(groups)} outcome{'' if len(groups) == 1 else 's'}"]
     common = set.intersection(*(set(group.outcome.splitlines()) for group in groups)) if len(groups) > 1 else set()
