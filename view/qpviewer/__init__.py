@@ -16,6 +16,6 @@ journal whose text is in the format, lawful or not.
 | `steps_told` | steps, stimuli, ceilings, states and deferred lists, record by record |
 | `story` | both together, as the value that the page's script draws |
 | `chart_layout`, `chart_svg` | a chart as a picture |
-| `place` with `word_laws` and `word_places`, `shapes`, `object_places`, `source_places` | the record at which a verdict fails, why, and the history around it; `place_command` prints it |
+| `place` with `word_laws` and `word_places`, `shapes`, `object_places`, `course_places` over `actions`, `source_places` | the record at which a verdict fails, why, and the history around it; `place_command` prints it |
 | `page` | the page: its parts, style and script in one file |
 """

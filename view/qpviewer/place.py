@@ -2,6 +2,7 @@
 
 from dataclasses import dataclass
 
+from .course_places import course_failure
 from .journal import Journal
 from .object_places import deferral_failure, shape_failure
 from .order import order_of
@@ -17,7 +18,7 @@ from .word_places import Failure, Spot, WordPlaces
 AROUND = 6
 #: Of these definitions the word's own history is read; of the others the records of an object or a lane.
 _OF_WORDS = {"D9", "D10", "D11", "D12", "D13", "D14", "D16", "D18"}
-_OF_OBJECTS = {"D15": shape_failure, "D17": deferral_failure}
+_OF_OBJECTS = {"D15": shape_failure, "D17": deferral_failure, "D7": course_failure}
 
 
 @dataclass

@@ -74,6 +74,11 @@ class Shapes:
     def is_done(self) -> bool:
         return self.at == len(self._spots)
 
+    @property
+    def ceiling(self) -> int:
+        """The ceiling that is raised now, 0 for none."""
+        return self._ceilings[-1]
+
     def next_word(self) -> str:
         return "" if self.is_done else self._spots[self.at].record.word
 

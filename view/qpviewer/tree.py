@@ -24,7 +24,7 @@ def row_moves(leaf: State, source: State, row: Row) -> list[Move]:
     """The moves of a row of `source` in the leaf; an internal transition has none."""
     if row.to is None:
         return []
-    main = _main_state(source, row.to)
+    main = main_state(source, row.to)
     left, entered = path_of(leaf), path_of(row.to)
     if main:
         left = left[:left.index(main)] if main in left else left
@@ -32,7 +32,8 @@ def row_moves(leaf: State, source: State, row: Row) -> list[Move]:
     return [("exit", state.number) for state in left] + _entries(entered) + _drill(row.to)
 
 
-def _main_state(source: State, target: State) -> State | None:
+def main_state(source: State, target: State) -> State | None:
+    """The innermost state that a transition neither leaves nor enters; none where that is the top."""
     if source is target:
         return source.parent
     around = path_of(target)
