@@ -76,7 +76,9 @@ def build_one(name: str) -> int:
         return subprocess.run(["rt", "lib", "--jobs", "1"], cwd=folder, stdin=subprocess.DEVNULL, stdout=log, stderr=log).returncode
 
 
-def build_all(name: str, below: Below, jobs: int, size: Callable[[str], int], build: Callable[[str], int], say: Callable[[str], None]) -> list[str]:
+def build_all(
+    name: str, below: Below, jobs: int, size: Callable[[str], int], build: Callable[[str], int], say: Callable[[str], None]
+) -> list[str]:
     """Builds the libraries below a crate; of those that can begin the one with the longest way to the top begins first. Answers
     those that weren't built; what stands on one of these isn't begun."""
     left = all_below(name, below)

@@ -14,8 +14,9 @@ USAGE = """usage: qpview SYSTEM STIMULI JOURNAL [VERDICT] > run.html
        qpview --records SYSTEM STIMULI JOURNAL
 
 Writes a page that shows a run. VERDICT is what `qp check` says of the journal, as 'broken D12 block 1 1': the page opens at
-the record to look at first. A journal that names what the system doesn't have is drawn only with its verdict. With --text the run is printed as text, a line for each start, step and stimulus; with
---records a line for each record, whose line number is the record's."""
+the record to look at first. A journal that names what the system doesn't have is drawn only with its verdict. With --text
+the run is printed as text, a line for each start, step and stimulus; with --records a line for each record, whose line
+number is the record's."""
 #: The options that print a run as text.
 _TEXTS = {"--text": run_text, "--records": records_text}
 

@@ -60,8 +60,10 @@ def _object(name: str, expected: Expected, found: ObjectSummary, said: list[int]
     if expected.took is not None and found.taken != expected.took:
         told.append(f"{name} took {found.taken} events, expected {expected.took}")
     for variable, value in expected.vars.items():
-        if variable not in found.vars:
-            told.append(f"{name} has no variable {variable}" if found.state else f"{name}'s {variable} can't be told, since its step is cut off")
+        if found.state is None:
+            told.append(f"{name}'s {variable} can't be told, since its step is cut off")
+        elif variable not in found.vars:
+            told.append(f"{name} has no variable {variable}")
         elif found.vars[variable] != value:
             told.append(f"{name}'s {variable} is {found.vars[variable]}, expected {value}")
     if expected.said is not None and said != expected.said:

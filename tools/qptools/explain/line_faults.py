@@ -97,8 +97,12 @@ def _counts(word: str) -> str:
 
 
 _FRAMES = {
-    1: "0x7D stands before a byte that isn't escaped", 2: "the checksum is another one", 3: "the sequence byte is another one: a frame was lost",
-    4: "a frame is cut short", 5: "no item has this id in this form", 6: "the frame's item isn't allowed here, or the journal has no end",
+    1: "0x7D stands before a byte that isn't escaped",
+    2: "the checksum is another one",
+    3: "the sequence byte is another one: a frame was lost",
+    4: "a frame is cut short",
+    5: "no item has this id in this form",
+    6: "the frame's item isn't allowed here, or the journal has no end",
     7: "a number isn't written in as few bytes as it needs",
 }
 

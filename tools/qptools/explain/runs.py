@@ -3,6 +3,7 @@
 from qpviewer.files import Run
 from qpviewer.journal import Record
 from qpviewer.place import record_of
+from qpviewer.record_words import plural
 from qpviewer.story import Story
 from qpviewer.verdict import read_verdict, verdict_words
 
@@ -33,11 +34,14 @@ def explain_stop(run: Run) -> list[str]:
 
 def _context(story: Story, stop: int) -> list[str]:
     """The step or the stimulus in which a run was stopped."""
+    owner = story.records()[stop][1].numbers[0]
     for step in reversed(story.steps.steps):
-        if step.first <= stop <= step.last and step.object == story.records()[stop][1].numbers[0]:
-            event = "its start" if step.label < 0 else story.words.labels[step.label]
-            row = f", state {story.names.state(step.object, step.state)}, row {step.handler}" if step.state else ""
-            return [f"in {story.names.object(step.object)}'s step of {event}{row}" if step.label >= 0 else f"in the start of {story.names.object(step.object)}"]
+        if step.first <= stop <= step.last and step.object == owner:
+            who = story.names.object(owner)
+            if step.label < 0:
+                return [f"in the start of {who}"]
+            row = f", state {story.names.state(owner, step.state)}, row {step.handler}" if step.state else ""
+            return [f"in {who}'s step of {story.words.labels[step.label]}{row}"]
     for stimulus in reversed(story.steps.stimuli):
         if stimulus.first <= stop <= stimulus.last:
             return [_record_line(story, stimulus.first).partition(": ")[2]]
@@ -48,7 +52,8 @@ def _advice(run: Run, record: Record) -> str:
     if record.word == "assert":
         return _ADVICE[record.numbers[1]]
     if record.word == "spent":
-        return f"it took {run.journal.budget} events and has more: an object that always posts to itself never rests, and else raise --budget"
+        took = plural(run.journal.budget, "event")
+        return f"it took {took} and has more: raise --budget, unless it always posts to itself and so never rests"
     return "no lane has room for more records: give the run fewer stimuli, or a lower --budget"
 
 

@@ -13,24 +13,49 @@ from .text_faults import no_text, parameters, undeclared
 
 #: What a value must be, by its key.
 _KINDS = {
-    "qp": "the whole number 1", "name": "a text in quotes", "params": "a whole number", "static": "true or false", "vars": "a table of names with whole numbers",
-    "entry": 'a list of texts, as ["recall"]', "exit": 'a list of texts, as ["recall"]', "do": 'a list of texts, as ["say 1"]',
-    "init_do": 'a list of texts, as ["arm T(1, 0)"]', "to": "the name of one state in quotes", "on": "the name of a signal in quotes",
-    "when": "an expression in quotes", "init": "the name of a state in quotes", "parent": "the name of a state in quotes",
-    "chart": "the name of a chart in quotes", "signal": "the name of a signal in quotes",
+    "qp": "the whole number 1",
+    "name": "a text in quotes",
+    "params": "a whole number",
+    "static": "true or false",
+    "vars": "a table of names with whole numbers",
+    "entry": 'a list of texts, as ["recall"]',
+    "exit": 'a list of texts, as ["recall"]',
+    "do": 'a list of texts, as ["say 1"]',
+    "init_do": 'a list of texts, as ["arm T(1, 0)"]',
+    "to": "the name of one state in quotes",
+    "on": "the name of a signal in quotes",
+    "when": "an expression in quotes",
+    "init": "the name of a state in quotes",
+    "parent": "the name of a state in quotes",
+    "chart": "the name of a chart in quotes",
+    "signal": "the name of a signal in quotes",
 }
 _LISTS = {"pool", "timer", "state", "row", "object"}
 #: The range of a number, by its table and key.
 _RANGES = {
-    ("top", "qp"): "must be 1", ("pool", "size"): "must be 0 to 8, larger from pool to pool", ("pool", "blocks"): "must be 1 to 32",
-    ("signal", "params"): "must be 0 to 8", ("timer", "rate"): "must be 0 to 3", ("object", "priority"): "must be 1 to 32",
-    ("object", "threshold"): "must be 1 to 32, and not below the priority", ("object", "queue"): "must be 0 to 255",
+    ("top", "qp"): "must be 1",
+    ("pool", "size"): "must be 0 to 8, larger from pool to pool",
+    ("pool", "blocks"): "must be 1 to 32",
+    ("signal", "params"): "must be 0 to 8",
+    ("timer", "rate"): "must be 0 to 3",
+    ("object", "priority"): "must be 1 to 32",
+    ("object", "threshold"): "must be 1 to 32, and not below the priority",
+    ("object", "queue"): "must be 0 to 255",
     ("object", "defer"): "must be 0 to 255",
 }
 _LENGTHS = {
-    "pool": "0 to 15 pools", "signal": "0 to 200 signals", "chart": "1 to 32 charts", "object": "1 to 32 objects", "timer": "0 to 8 timers",
-    "state": "1 to 64 states", "row": "0 to 32 rows", "vars": "0 to 16 variables", "do": "0 to 16 actions", "entry": "0 to 16 actions",
-    "exit": "0 to 16 actions", "init_do": "0 to 16 actions",
+    "pool": "0 to 15 pools",
+    "signal": "0 to 200 signals",
+    "chart": "1 to 32 charts",
+    "object": "1 to 32 objects",
+    "timer": "0 to 8 timers",
+    "state": "1 to 64 states",
+    "row": "0 to 32 rows",
+    "vars": "0 to 16 variables",
+    "do": "0 to 16 actions",
+    "entry": "0 to 16 actions",
+    "exit": "0 to 16 actions",
+    "init_do": "0 to 16 actions",
 }
 
 
@@ -90,7 +115,8 @@ def _shown(place: Place, data: bytes) -> list[str]:
 
 def _wrong_kind(tree: dict[str, Any], place: Place) -> list[str]:
     if place.key == "to" and isinstance(place.value, list):
-        return ["a row has one target, not a list", "for a choice write a row for each target, with guards, and one without a guard last"]
+        return ["a row has one target, not a list",
+                "for a choice write a row for each target, with guards, and one without a guard last"]
     if place.key in ("entry", "exit", "do", "init_do") and isinstance(place.value, str):
         return ["actions are a list of texts, not one text", f'write {place.key} = ["{place.value}"]']
     if odd := _floats(place.value, place.key):
@@ -141,7 +167,8 @@ def _out_of_range(tree: dict[str, Any], place: Place) -> list[str]:
     if isinstance(value, dict):
         wrong = [name for name in value if not NAME.fullmatch(name) or name in RESERVED]
         return _bad_name(wrong[0], "name") if wrong else ["a value is out of range: 64 bits, signed"]
-    return [_RANGES.get((inner, key), "is out of range")] + (["use priorities 1 to 32, the highest is the most urgent"] if key == "priority" else [])
+    advice = ["use priorities 1 to 32, the highest is the most urgent"] if key == "priority" else []
+    return [_RANGES.get((inner, key), "is out of range"), *advice]
 
 
 def _text_range(text: str) -> list[str]:
@@ -188,7 +215,8 @@ _SAYS = {
     2: _wrong_kind, 3: _missing, 4: _unknown_key, 5: _out_of_range, 6: _double, 7: undeclared, 8: no_text, 9: parameters,
     10: lambda tree, place: ["the state lies within itself: going up by `parent` comes back to it"],
     11: lambda tree, place: ["the state lies more than six deep", "a path from the top has at most 6 states"],
-    12: lambda tree, place: [f"{place.value} isn't within this state", "`init` names a state whose `parent` is this one, or one further in"],
+    12: lambda tree, place: [f"{place.value} isn't within this state",
+                             "`init` names a state whose `parent` is this one, or one further in"],
     13: lambda tree, place: ["an earlier row of this state takes this signal without a guard, so this one is never asked",
                              "put rows with guards first, and the one without last"],
     14: _length, 15: _no_pool,

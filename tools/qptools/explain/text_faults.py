@@ -39,7 +39,8 @@ def _meant(name: str, kind: str, known: list[str], tree: dict[str, Any], chart: 
         if other != kind and name in declared(tree, chart, other):
             return [f"{name} is a {other}; here a {kind} must stand"]
     article = "an" if kind == "object" else "a"
-    return [f"it must be {article} {kind}" + (f": {', '.join(known[:8])}{' ..' if len(known) > 8 else ''}" if known else ", and there is none")]
+    those = f": {', '.join(known[:8])}{' ..' if len(known) > 8 else ''}" if known else ", and there is none"
+    return [f"it must be {article} {kind}{those}"]
 
 
 def no_text(tree: dict[str, Any], place: Place) -> list[str]:
@@ -58,8 +59,10 @@ def parameters(tree: dict[str, Any], place: Place) -> list[str]:
             found = re.search(rf"\b{re.escape(used.name)}\b\s*(\(.*\))?", text)
             given = _arguments(found[1]) if found and found[1] else 0
             if given != signals[used.name]:
-                return [f"{used.name} has {count_words(signals[used.name])}, and {given} stand{'s' if given == 1 else ''} here",
-                        f"write {used.name}({', '.join(['0'] * int(signals[used.name]))})" if signals[used.name] else f"write {used.name} alone"]
+                wanted = int(signals[used.name])
+                stand = "stands" if given == 1 else "stand"
+                example = f"{used.name}({', '.join(['0'] * wanted)})" if wanted else f"{used.name} alone"
+                return [f"{used.name} has {count_words(wanted)}, and {given} {stand} here", f"write {example}"]
     row = place.table("row")
     if not row:
         return ["p1 to p8, `forward` and `defer` stand for the event of a step, so only a row has them"]

@@ -52,8 +52,9 @@ def _value_fault(name: str, value: str, known: tuple[str, ...]) -> str:
 
 
 def _count_fault(command: str, files: tuple[str, ...], found: list[str]) -> str:
-    if len(found) < len(files):
-        return f"{' and '.join(files[len(found):])} {'is' if len(files) - len(found) == 1 else 'are'} missing: qp {command} {' '.join(files)}"
+    if lacking := files[len(found):]:
+        verb = "is" if len(lacking) == 1 else "are"
+        return f"{' and '.join(lacking)} {verb} missing: qp {command} {' '.join(files)}"
     if len(found) > len(files):
         return f"{found[len(files)]!r} is a word too many: qp {command} {' '.join(files)}"
     if command == "gen" and not (found[0].isascii() and found[0].isdigit() and found[0][0] != "0" and int(found[0]) <= 1000):
