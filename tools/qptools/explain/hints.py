@@ -4,6 +4,8 @@ from collections.abc import Iterator
 
 from qpviewer.system_parts import Chart, System
 
+from .names import actions_in
+
 
 def hints(system: System) -> list[str]:
     """A line for each row that defers in a chart of an object without `defer = N`."""
@@ -20,5 +22,5 @@ def _defers(chart: Chart) -> Iterator[str]:
     for state in chart.states:
         for number, row in enumerate(state.rows, 1):
             for place, text in enumerate(row.do, 1):
-                if text == "defer":
+                if any(action.word == "defer" for action in actions_in(text)):
                     yield f"chart {chart.name}, state {state.name}, row {number} (on {row.on.name}), action {place}"

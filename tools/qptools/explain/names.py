@@ -4,14 +4,16 @@ import re
 from difflib import get_close_matches
 from typing import Any, NamedTuple
 
-_TOKEN = re.compile(r"[A-Za-z_][A-Za-z0-9_]*|[0-9]+|\S", re.ASCII)
+from qpviewer.actions import Action, Expr, read_action, read_expression
+
 _PARAMETER = re.compile(r"p[1-8]", re.ASCII)
-#: What stands behind a word that begins an action: the kinds of the names that follow it in turn.
-_BEHIND = {
-    "post": ("object", "signal"), "forward": ("object",), "lifo": ("signal",), "publish": ("signal",),
-    "subscribe": ("signal",), "unsubscribe": ("signal",), "arm": ("timer",), "rearm": ("timer",), "disarm": ("timer",),
+#: What kind of thing an action's own name is, by its word.
+_KINDS = {
+    "post": "signal", "lifo": "signal", "publish": "signal", "subscribe": "signal", "unsubscribe": "signal", "arm": "timer",
+    "rearm": "timer", "disarm": "timer", "set": "variable",
 }
-_WORDS = {"say", "defer", "recall", "flush", "locked", "margin", "reserve", "ok", *_BEHIND}
+#: Names that an expression has without a declaration, beside its parameters.
+_GIVEN = {"ok", "me"}
 
 
 class Used(NamedTuple):
@@ -40,26 +42,47 @@ def declared(tree: dict[str, Any], chart: dict[str, Any], kind: str) -> list[str
     return names_of(chart, "timer") if kind == "timer" else names_of(tree, kind)
 
 
-def used_in(text: str) -> list[Used]:
-    """The names that an action or an expression uses, in their order."""
-    found: list[Used] = []
-    kinds: list[str] = []
-    for token in _TOKEN.findall(text):
-        if not (token[0].isalpha() or token[0] == "_"):
-            continue
-        if kinds:
-            kind = kinds.pop(0)
-            found += [Used(kind, token)] if token != "me" else []
-        elif token in _BEHIND:
-            kinds = list(_BEHIND[token])
-        elif token not in _WORDS and token != "me" and not _PARAMETER.fullmatch(token):
-            found.append(Used("variable", token))
-    return found
+class _Asked(dict[str, int]):
+    """Keeps which names an expression asks for, each of which is 0."""
+
+    def __missing__(self, name: str) -> int:
+        return self.setdefault(name, 0)
 
 
-def parameters_in(text: str) -> list[int]:
-    """The numbers of the parameters that a text uses: 2 for `p2`."""
-    return [int(token[1]) for token in _TOKEN.findall(text) if _PARAMETER.fullmatch(token)]
+def actions_in(text: str) -> list[Action]:
+    """The actions of a text: itself, or those within `locked`. Raises `Fault` where it is none."""
+    action = read_action(text)
+    return action.inner or [action]
+
+
+def _asked(values: list[Expr]) -> list[str]:
+    """The names that expressions ask for, in order."""
+    names = _Asked()
+    for value in values:
+        value(names)
+    return list(names)
+
+
+def asked_in(text: str, is_guard: bool) -> list[str]:
+    """The names in the expressions of an action or a guard. Raises `Fault` where the text is none."""
+    values = [read_expression(text)] if is_guard else [value for action in actions_in(text) for value in action.values]
+    return _asked(values)
+
+
+def used_in(text: str, is_guard: bool) -> list[Used]:
+    """The names that an action or a guard uses and that must be declared. Raises `Fault` where the text is none."""
+    found = []
+    if not is_guard:
+        for action in actions_in(text):
+            found += [Used("object", action.target)] if action.target not in ("", "me") else []
+            found += [Used(_KINDS[action.word], action.name)] if action.name else []
+    names = asked_in(text, is_guard)
+    return found + [Used("variable", name) for name in names if name not in _GIVEN and not _PARAMETER.fullmatch(name)]
+
+
+def parameters_in(text: str, is_guard: bool) -> list[int]:
+    """The numbers of the parameters that a text uses: 2 for `p2`. Raises `Fault` where the text is none."""
+    return [int(name[1]) for name in asked_in(text, is_guard) if _PARAMETER.fullmatch(name)]
 
 
 def like(name: str, others: list[str]) -> str:

@@ -1,10 +1,9 @@
 """Faults of the texts and names within a chart: what isn't declared, isn't an action, or has another number of parameters."""
 
-import re
 from typing import Any
 
 from .habits import habit_in_text
-from .names import count_words, declared, like, listed, names_of, parameters_in, tables, used_in
+from .names import actions_in, count_words, declared, like, listed, names_of, parameters_in, tables, used_in
 from .place import Place
 
 
@@ -14,7 +13,7 @@ def undeclared(tree: dict[str, Any], place: Place) -> list[str]:
     if place.key in ("do", "entry", "exit", "init_do", "when") and isinstance(place.value, str):
         if place.value == "else":
             return ["else isn't declared", habit_in_text(place.value, True)]
-        for used in used_in(place.value):
+        for used in used_in(place.value, place.key == "when"):
             known = declared(tree, chart, used.kind)
             if used.name not in known:
                 return [f"{used.name} isn't declared", *_meant(used.name, used.kind, known, tree, chart)]
@@ -53,37 +52,21 @@ def no_text(tree: dict[str, Any], place: Place) -> list[str]:
 def parameters(tree: dict[str, Any], place: Place) -> list[str]:
     """Code 9: how many parameters there are and should be."""
     text = str(place.value)
-    signals = {str(signal.get("name")): signal.get("params", 0) for signal in tables(tree, "signal")}
-    for used in used_in(text):
-        if used.kind == "signal" and used.name in signals:
-            found = re.search(rf"\b{re.escape(used.name)}\b\s*(\(.*\))?", text)
-            given = _arguments(found[1]) if found and found[1] else 0
-            if given != signals[used.name]:
-                wanted = int(signals[used.name])
-                stand = "stands" if given == 1 else "stand"
-                example = f"{used.name}({', '.join(['0'] * wanted)})" if wanted else f"{used.name} alone"
-                return [f"{used.name} has {count_words(wanted)}, and {given} {stand} here", f"write {example}"]
+    signals = {str(signal.get("name")): int(signal.get("params", 0)) for signal in tables(tree, "signal")}
+    is_guard = place.key == "when"
+    for action in [] if is_guard else actions_in(text):
+        if action.word in ("post", "lifo", "publish") and len(action.values) != signals.get(action.name, -1):
+            return _wrong_count(action.name, signals.get(action.name, 0), len(action.values))
     row = place.table("row")
     if not row:
         return ["p1 to p8, `forward` and `defer` stand for the event of a step, so only a row has them"]
     most = signals.get(str(row.get("on")), 0)
-    beyond = [f"p{number}" for number in parameters_in(text) if number > int(most)]
+    beyond = [f"p{number}" for number in parameters_in(text, is_guard) if number > int(most)]
     if beyond:
         return [f"{beyond[0]} isn't there: {row.get('on')} has {count_words(most)}"]
     return ["an event has another number of parameters than its signal"]
 
 
-def _arguments(text: str) -> int:
-    """How many arguments stand in a text that begins with a parenthesis."""
-    depth = count = 0
-    for letter in text:
-        if letter == "(":
-            depth += 1
-            count = max(count, 1)
-        elif letter == ")":
-            depth -= 1
-            if not depth:
-                break
-        elif letter == "," and depth == 1:
-            count += 1
-    return count
+def _wrong_count(signal: str, wanted: int, given: int) -> list[str]:
+    example = f"{signal}({', '.join(['0'] * wanted)})" if wanted else f"{signal} alone"
+    return [f"{signal} has {count_words(wanted)}, and {given} {'stands' if given == 1 else 'stand'} here", f"write {example}"]
