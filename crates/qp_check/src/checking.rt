@@ -8,6 +8,7 @@ ghost use Rattle.qp_check.specs.Judged.{Finds, IsVerdict, end_trials, kernel_tri
 
 use crate::object_tests::objects_broken;
 use crate::run_parts::{end_broken, kernel_broken, lanes_broken};
+use qp_base::Memory;
 use qp_histories::records_by_word::RecordsByWord;
 use qp_known::knowledge::Knowledge;
 use qp_model::{Journal, Stimuli, System};
@@ -92,11 +93,13 @@ pub fn check(
     sys: &System,
     stim: &Stimuli,
     j: &Journal,
-) -> Result<Verdict, AllocError>
+) -> Result<Verdict, Memory>
     requires judgeable { IsJudgeable sys.now }
     requires few { length stim.now ≤ 16 }
     ensures { IfOk result (λ v. IsVerdict (trials sys.now stim.now j.now) v) }
 {
-    let broken = first_broken(alloc, sys, stim, j)?;
-    Ok(verdict_of(broken))
+    match first_broken(alloc, sys, stim, j) {
+        Ok(broken) => Ok(verdict_of(broken)),
+        Err(AllocError) => Err(Memory),
+    }
 }

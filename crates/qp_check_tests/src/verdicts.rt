@@ -28,7 +28,7 @@ fn judged(alloc: Global, sys: &System, j: &Journal) -> Result<Verdict, AllocErro
         reserve: None,
     };
     let stim = stimuli(alloc, publish)?;
-    check(alloc, sys, &stim, j)
+    check(alloc, sys, &stim, j).map_err(|_| AllocError)
 }
 
 fn verdict(alloc: Global, kernel: u8, all: &[Parts], end: u8) -> Result<Verdict, AllocError> {

@@ -2,6 +2,5 @@ use Rattle.qp_check.specs.Judged.{trials}
 use Rattle.qp_check.proofs.CheckLemmas.{said-right}
 use Rattle.qp_check.proofs.checking.check.Goals as goal
 
-pub returns : goal.returns
-returns c =
-    said-right (trials c.args.sys.now c.args.stim.now c.args.j.now) c.in_ok-broken.broken c.verdict_of.result c.verdict_of.ensures c.in_ok-broken.ensures
+pub returns-in-Ok : goal.returns-in-Ok
+returns-in-Ok c = said-right (trials c.args.sys.now c.args.stim.now c.args.j.now) c.in-Ok.broken c.verdict_of.result c.verdict_of.ensures c.in-Ok.ensures
