@@ -1,0 +1,11 @@
+mod Leaving
+mod Going
+mod Turned
+mod Along
+mod Glancing
+mod Waiting
+mod Tries
+mod Opening
+mod Settling
+mod Ending
+mod Nexts
