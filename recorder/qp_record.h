@@ -29,6 +29,9 @@
 #ifndef QP_RECORD
 #define QP_RECORD QPR_OFF
 #endif
+#if QP_RECORD != QPR_OFF && QP_RECORD != QPR_ONE && QP_RECORD != QPR_LANES
+#error "QP_RECORD is 0, 1 or 2"
+#endif
 
 /* Who works: an object by its priority, 1 to 32, or a source of stimuli (an interrupt, a thread) by its number, 1 to 16. */
 #define QPR_OBJECT(prio) ((uint8_t)(prio))
@@ -46,7 +49,11 @@
 #define QPR_WHO() (qpr.who)
 #endif
 
+/* The critical section for notes. A buffer of a thread's own needs none; one buffer for all does. */
 #ifndef QPR_NOTE_ENTRY
+#if QP_RECORD == QPR_ONE
+#error "with one buffer QPR_NOTE_ENTRY() and QPR_NOTE_EXIT() have to be the entry and the exit of the critical section"
+#endif
 #define QPR_NOTE_ENTRY() ((void)0)
 #define QPR_NOTE_EXIT()  ((void)0)
 #endif
@@ -220,11 +227,12 @@ static inline void qpr_four(uint8_t *out, uint32_t value) {
 
 /* Moves what a buffer has into `out`, at most `room` bytes (more than QPR_HEAD), as one piece of a trace: "QPR", the form, who,
  * three zeros, the count of bytes and of records lost so far with the least significant byte first, and the bytes. Answers how
- * many bytes were written, 0 where there is nothing to tell. To be called where no record of this buffer is being written. */
+ * many bytes were written, 0 where there is nothing to tell. To be called where no record of this buffer is being written: in the
+ * critical section, or by the thread whose buffer it is, or behind its end. */
 static inline uint32_t qpr_take(uint8_t who, uint8_t *out, uint32_t room) {
     struct qpr_buffer *b = &qpr.buffers[who < QPR_BUFFERS ? who : 0];
     uint32_t n = b->written - b->read;
-    if (room < (uint32_t)QPR_HEAD || (n == 0u && b->lost == b->told)) {
+    if (room <= (uint32_t)QPR_HEAD || (n == 0u && b->lost == b->told)) {
         return 0u;
     }
     if (n > room - (uint32_t)QPR_HEAD) {

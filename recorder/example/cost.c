@@ -1,7 +1,9 @@
-/* What a record costs: the life of a pooled event, from `new` to `back`, over and over. Prints nanoseconds and bytes. */
+/* What a record costs: the life of a pooled event, from `new` to `back`, over and over. Prints nanoseconds of the processor, and bytes. */
 #include <stdio.h>
 #include <time.h>
 
+#define QPR_NOTE_ENTRY() ((void)0) /* one thread */
+#define QPR_NOTE_EXIT()  ((void)0)
 #include "../qp_record.h"
 
 QPR_STATE();
@@ -10,7 +12,7 @@ enum { ROUNDS = 2000000, RECORDS = 9, BUFFER = 1 << 16 };
 
 static double now(void) {
     struct timespec t;
-    clock_gettime(CLOCK_MONOTONIC, &t);
+    clock_gettime(CLOCK_PROCESS_CPUTIME_ID, &t);
     return (double)t.tv_sec * 1e9 + (double)t.tv_nsec;
 }
 

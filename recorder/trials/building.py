@@ -55,6 +55,16 @@ def build_all(builds: Iterable[Build], folder: Path) -> None:
         list(pool.map(one, builds))
 
 
+def cost(compiler: str, folder: Path, form: int) -> str:
+    """What a record costs, as cost.c prints it; converting or shadowing without a word is an error there too."""
+    out = folder / f"cost-{compiler}-{form}"
+    flags = ["-std=c99", "-D_POSIX_C_SOURCE=200809L", "-O2", "-Wall", "-Wextra", "-pedantic", "-Wconversion", "-Wshadow", "-Werror"]
+    made = subprocess.run([compiler, *flags, f"-DQP_RECORD={form}", EXAMPLE / "cost.c", "-o", out], stderr=subprocess.PIPE, text=True)
+    if made.returncode:
+        raise NotBuilt(f"{compiler}, cost.c, form {form}: {made.stderr}")
+    return subprocess.run([out], stdout=subprocess.PIPE, check=True, text=True).stdout.strip()
+
+
 def has_sanitizer(compiler: str, folder: Path, sanitizer: str) -> bool:
     """Whether the compiler has the sanitizer's library, and the machine runs it."""
     source, out = folder / "empty.c", folder / "empty"

@@ -9,7 +9,7 @@ from qpjournal.window import window
 from qpviewer.system import read_system
 
 from .judging import LAWFUL, judge_made, run
-from .places import RUNS
+from .places import LANES, ONE, RUNS
 
 
 def pieces_of(trace: bytes) -> list[bytes]:
@@ -35,7 +35,11 @@ def stopped(trace: bytes, chance: random.Random) -> bytes:
     return found
 
 
-def try_windows(name: str, program: Path, folder: Path, count: int) -> list[str]:
+#: The least part of what was recorded that windows keep in all: of one order nearly all, of buffers that stop each by itself less.
+LEAST_KEPT = {ONE: 0.5, LANES: 0.05}
+
+
+def try_windows(name: str, form: int, program: Path, folder: Path, count: int) -> list[str]:
     """What is wrong with so many windows of a run that stops anywhere."""
     of = RUNS[name]
     folder.mkdir(exist_ok=True)
@@ -43,11 +47,14 @@ def try_windows(name: str, program: Path, folder: Path, count: int) -> list[str]
     run(program, of.stimuli, trace)
     text = of.system.read_text()
     system = read_system(text.encode())
-    wrong = []
+    wrong: list[str] = []
+    recorded = kept = 0
     for number in range(count):
         chance = random.Random(number)
-        cut = read_trace(stopped(trace.read_bytes(), chance))
-        windowed, made = window(text, system, make(system, cut))
+        found = make(system, read_trace(stopped(trace.read_bytes(), chance)))
+        windowed, made = window(text, system, found)
+        recorded += sum(map(len, found.lanes))
+        kept += sum(map(len, made.lanes))
         file = folder / "system.toml"
         file.write_text(windowed)
         judged = judge_made(read_system(windowed.encode()), file, made, folder)
@@ -55,6 +62,8 @@ def try_windows(name: str, program: Path, folder: Path, count: int) -> list[str]
             wrong.append(f"window {number} of {name}: {judged.verdict}")
         elif not any(note.startswith("added: ") for note in made.notes):
             wrong.append(f"window {number} of {name} doesn't tell what it added")
+    if kept < LEAST_KEPT[form] * recorded:
+        wrong.append(f"windows of {name} keep {kept} of {recorded} records")
     return wrong
 
 
