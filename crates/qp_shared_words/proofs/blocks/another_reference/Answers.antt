@@ -1,0 +1,12 @@
+use Rattle.std.proofs.Common.{◌+◌, ◌%◌, arith, sym, subst}
+use Rattle.qp_words.specs.After.{Steps}
+use Rattle.qp_lane_steps.specs.Told.{MoreTold}
+use Rattle.qp_lane_steps.proofs.LawLemmas.{more_references_tell}
+use Rattle.qp_shared_words.proofs.blocks.another_reference.Goals as goal
+
+pub add-requires-clause-own : goal.add-requires-clause-own
+add-requires-clause-own c = let p = c.requires.place.1 in let b = c.requires.place.2 in let w = c.requires.wide in let at = c.block_at.ensures in (c.requires.own, omega arith)
+
+pub add-requires-clause-keeps : goal.add-requires-clause-keeps
+add-requires-clause-keeps c = subst (λ w. Steps c.args.words.now.shared.key c.args.seat.now.id c.args.seat.now.me.0 w (λ n. (n + 4294967297) % 18446744073709551616) (MoreTold c.args.words.now.shared.key c.args.by c.args.pool c.args.block c.args.seat.now.me.0)) (sym c.block_at.ensures)
+    (more_references_tell c.args.words.now.shared.key c.args.seat.now.id c.args.seat.now.me.0 c.requires.room c.args.by c.args.pool c.args.block c.args.name c.requires.place.0 c.requires.hand)

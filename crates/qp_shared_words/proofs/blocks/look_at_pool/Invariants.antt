@@ -1,0 +1,5 @@
+use Rattle.qp_lane_steps.specs.Told.{EyePoolTold}
+use Rattle.qp_shared_words.proofs.blocks.look_at_pool.Given as goal
+
+abbrev pub ghosts-look : goal.ghosts-look
+ghosts-look a = record { tells = EyePoolTold a.words.now.shared.key a._about.pool a._about.by a._about.margin }

@@ -1,0 +1,16 @@
+use Rattle.std.proofs.Common.{ℕ, arith, sym, subst, ap, ◌∙◌}
+use Rattle.qp_words.specs.Rule.{cell_at}
+use Rattle.qp_words.specs.After.{Steps}
+use Rattle.qp_lane_steps.specs.Told.{SwapTold}
+use Rattle.qp_lane_steps.proofs.LawLemmas.{swaps_tell}
+use Rattle.qp_shared_words.proofs.queues.empty_front.Goals as goal
+
+pub swap-requires-clause-own : goal.swap-requires-clause-own
+swap-requires-clause-own c = let o = c.requires.low.0 in let j = c.requires.low.1 in let w = c.requires.wide in let at = c.cell_at.ensures in (c.requires.own, omega arith)
+
+pub swap-requires-clause-keeps : goal.swap-requires-clause-keeps
+swap-requires-clause-keeps c = subst (λ (z : ℕ × ℕ). Steps c.args.words.now.shared.key c.args.seat.now.id c.args.seat.now.me.0 z.0 (λ n. 0) (SwapTold c.args.words.now.shared.key c.args.object z.1 c.args.seat.now.me.0)) (λ i. ((ap (λ j. cell_at c.args.object j) (sym c.requires.front) ∙ sym c.cell_at.ensures) i, (sym c.requires.front ∙ sym c.from.ensures) i))
+    (swaps_tell c.args.words.now.shared.key c.args.seat.now.id c.args.seat.now.me.0 c.args.object c.args.lifos c.args.takes c.requires.object c.requires.log c.requires.serves c.requires.lifos c.requires.takes c.requires.idle)
+
+pub returns-clause-told : goal.returns-clause-told
+returns-clause-told c = subst (λ j. SwapTold c.args.words.now.shared.key c.args.object j c.args.seat.now.me.0 c.swap.result c.swap.new.seat.me.0) c.from.ensures c.swap.ensures.told

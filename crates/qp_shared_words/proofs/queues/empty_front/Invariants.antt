@@ -1,0 +1,5 @@
+use Rattle.qp_lane_steps.specs.Told.{SwapTold}
+use Rattle.qp_shared_words.proofs.queues.empty_front.Given as goal
+
+abbrev pub ghosts-swap : goal.ghosts-swap
+ghosts-swap a = record { tells = SwapTold a.words.now.shared.key a._about.to a._about.old }

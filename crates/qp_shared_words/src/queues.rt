@@ -1,0 +1,291 @@
+//! The steps on queues and their cells. Each is one atomic operation, under the rule of the event table.
+
+ghost use Rattle.std.specs.Prelude.{◌≡◌, ◌+◌, ◌<◌, length, IsTrue};
+ghost use Rattle.std.specs.List.{list_any};
+ghost use Rattle.std.specs.Option.{unwrap_or};
+ghost use Rattle.qp_model.specs.declared.words.Word.TheVariants as word;
+ghost use Rattle.qp_model.specs.Sites.{ring_of};
+ghost use Rattle.qp_model.specs.WordLaw.{is_object};
+ghost use Rattle.qp_words.specs.Counting.{many};
+ghost use Rattle.qp_words.specs.Rule.{is_place, on_queue, is_serve, is_lifo, is_took, records, code};
+ghost use Rattle.qp_words.specs.After.{HasRoom, InHand};
+ghost use Rattle.qp_queues.specs.Laws.{cells_of, front_cell};
+ghost use Rattle.qp_lane_views.specs.Words.{value_seen};
+ghost use Rattle.qp_lane_steps.specs.Told.{LookTold, SeenTold, EyeTold, free_in, TryTold, EyeLastTold, LastTold, LayTold, SwapTold, FreeTold};
+
+use crate::places::{cell_at, queue_at};
+use crate::steps::{About, Words, add, exchange, look, store, swap};
+use atomic_table::Seat;
+use qp_words::View;
+use std::marker::Brand;
+
+/// What a last-in post adds to a queue's word, and what a take does.
+const LAST_IN: u64 = 1 << 21;
+
+const TAKE: u64 = 1 << 42;
+
+/// Looks at a queue.
+pub fn look_at_queue(words: &Words, seat: &mut Seat<(), View>, object: u8) -> u64
+    requires own { seat.old.table_id ≡ words.now.shared.table_id }
+    requires wide { words.now.shared.table_id.words ≡ 21128 }
+    requires object { IsTrue (is_object words.now.shared.key object) }
+    ensures same { (seat.new.table_id ≡ seat.old.table_id) × (seat.new.id ≡ seat.old.id) }
+    ensures told { LookTold words.now.shared.key object seat.old.me.0 result seat.new.me.0 }
+{
+    let about = About {
+        by: 0,
+        to: object,
+        pool: 0,
+        block: 0,
+        name: 0,
+        old: 0,
+        new: 0,
+        margin: None,
+    };
+    look::<Brand>(words, seat, queue_at(object), about)
+}
+
+/// Looks at a queue, with a record of its counts.
+pub fn see_queue(words: &Words, seat: &mut Seat<(), View>, object: u8) -> u64
+    requires own { seat.old.table_id ≡ words.now.shared.table_id }
+    requires wide { words.now.shared.table_id.words ≡ 21128 }
+    requires object { IsTrue (is_object words.now.shared.key object) }
+    requires room { HasRoom seat.old.me.0 }
+    ensures same { (seat.new.table_id ≡ seat.old.table_id) × (seat.new.id ≡ seat.old.id) }
+    ensures told { SeenTold words.now.shared.key object seat.old.me.0 result seat.new.me.0 }
+{
+    let about = About {
+        by: 0,
+        to: object,
+        pool: 0,
+        block: 0,
+        name: 0,
+        old: 0,
+        new: 0,
+        margin: None,
+    };
+    look::<Brand>(words, seat, queue_at(object), about)
+}
+
+/// Looks at a queue for a post, with a record where at most the margin is free.
+pub fn look_before_post(
+    words: &Words,
+    seat: &mut Seat<(), View>,
+    by: u8,
+    object: u8,
+    margin: Option<u8>,
+) -> u64
+    requires own { seat.old.table_id ≡ words.now.shared.table_id }
+    requires wide { words.now.shared.table_id.words ≡ 21128 }
+    requires object { IsTrue (is_object words.now.shared.key object) }
+    requires room { HasRoom seat.old.me.0 }
+    ensures same { (seat.new.table_id ≡ seat.old.table_id) × (seat.new.id ≡ seat.old.id) }
+    ensures told { EyeTold words.now.shared.key object by margin seat.old.me.0 result seat.new.me.0 }
+{
+    let about = About {
+        by,
+        to: object,
+        pool: 0,
+        block: 0,
+        name: 0,
+        old: 0,
+        new: 0,
+        margin,
+    };
+    look::<Brand>(words, seat, queue_at(object), about)
+}
+
+/// Tries to claim an entry where the queue's word is `old`, as it was last seen, and answers the word that was found.
+pub fn claim(
+    words: &Words,
+    seat: &mut Seat<(), View>,
+    by: u8,
+    object: u8,
+    margin: Option<u8>,
+    pool: u8,
+    block: u8,
+    name: u64,
+    old: u64,
+) -> u64
+    requires own { seat.old.table_id ≡ words.now.shared.table_id }
+    requires wide { words.now.shared.table_id.words ≡ 21128 }
+    requires object { IsTrue (is_object words.now.shared.key object) }
+    requires room { HasRoom seat.old.me.0 }
+    requires hand { InHand words.now.shared.key (record { pool = pool; block = block; name = name }) seat.old.me.0 }
+    requires last { value_seen words.now.shared.key (word.Queue object) seat.old.me.0.seen ≡ old }
+    requires free { unwrap_or margin 0 < free_in (ring_of words.now.shared.key object) old }
+    requires small { old < 9223372036854775808 }
+    ensures same { (seat.new.table_id ≡ seat.old.table_id) × (seat.new.id ≡ seat.old.id) }
+    ensures told { TryTold words.now.shared.key object by margin (record { pool = pool; block = block; name = name }) seat.old.me.0 old result seat.new.me.0 }
+{
+    let about = About {
+        by,
+        to: object,
+        pool,
+        block,
+        name,
+        old,
+        new: 0,
+        margin,
+    };
+    exchange::<Brand>(words, seat, queue_at(object), old, old + 1, about)
+}
+
+/// Looks at a queue for a last-in post, with a record where it is full.
+pub fn look_before_last_in(words: &Words, seat: &mut Seat<(), View>, object: u8) -> u64
+    requires own { seat.old.table_id ≡ words.now.shared.table_id }
+    requires wide { words.now.shared.table_id.words ≡ 21128 }
+    requires object { IsTrue (is_object words.now.shared.key object) }
+    requires room { HasRoom seat.old.me.0 }
+    ensures same { (seat.new.table_id ≡ seat.old.table_id) × (seat.new.id ≡ seat.old.id) }
+    ensures told { EyeLastTold words.now.shared.key object seat.old.me.0 result seat.new.me.0 }
+{
+    let about = About {
+        by: 0,
+        to: object,
+        pool: 0,
+        block: 0,
+        name: 0,
+        old: 0,
+        new: 0,
+        margin: None,
+    };
+    look::<Brand>(words, seat, queue_at(object), about)
+}
+
+/// Tries to claim the cell before the front, by the lane that serves the queue, and answers the word that was found.
+pub fn claim_last_in(
+    words: &Words,
+    seat: &mut Seat<(), View>,
+    object: u8,
+    pool: u8,
+    block: u8,
+    name: u64,
+    old: u64,
+) -> u64
+    requires own { seat.old.table_id ≡ words.now.shared.table_id }
+    requires wide { words.now.shared.table_id.words ≡ 21128 }
+    requires object { IsTrue (is_object words.now.shared.key object) }
+    requires room { HasRoom seat.old.me.0 }
+    requires hand { InHand words.now.shared.key (record { pool = pool; block = block; name = name }) seat.old.me.0 }
+    requires serves { IsTrue (list_any (is_serve object) seat.old.me.0.serves) }
+    requires idle { many (on_queue object) seat.old.me.0.takes ≡ 0 }
+    requires last { value_seen words.now.shared.key (word.Queue object) seat.old.me.0.seen ≡ old }
+    requires free { 0 < free_in (ring_of words.now.shared.key object) old }
+    requires small { old < 9223372036854775808 }
+    ensures same { (seat.new.table_id ≡ seat.old.table_id) × (seat.new.id ≡ seat.old.id) }
+    ensures told { LastTold words.now.shared.key object (record { pool = pool; block = block; name = name }) seat.old.me.0 old result seat.new.me.0 }
+{
+    let about = About {
+        by: 0,
+        to: object,
+        pool,
+        block,
+        name,
+        old,
+        new: 0,
+        margin: None,
+    };
+    exchange::<Brand>(words, seat, queue_at(object), old, old + LAST_IN, about)
+}
+
+/// Writes the cell of a claim: the code of its entry.
+pub fn lay(
+    words: &Words,
+    seat: &mut Seat<(), View>,
+    object: u8,
+    cell: u16,
+    pool: u8,
+    block: u8,
+    name: u64,
+    value: u64,
+)
+    requires own { seat.old.table_id ≡ words.now.shared.table_id }
+    requires wide { words.now.shared.table_id.words ≡ 21128 }
+    requires object { IsTrue (is_object words.now.shared.key object) }
+    requires low { (object < 33) × (cell < 256) }
+    requires inside { cell < cells_of words.now.shared.key object }
+    requires claim { 0 < many (is_place object cell (record { pool = pool; block = block; name = name })) seat.old.me.0.claims }
+    requires value { value ≡ code (record { pool = pool; block = block; name = name }) }
+    ensures same { (seat.new.table_id ≡ seat.old.table_id) × (seat.new.id ≡ seat.old.id) }
+    ensures told { LayTold object cell (record { pool = pool; block = block; name = name }) seat.old.me.0 value seat.new.me.0 }
+{
+    let about = About {
+        by: 0,
+        to: object,
+        pool,
+        block,
+        name,
+        old: u64::from(cell),
+        new: value,
+        margin: None,
+    };
+    store::<Brand>(words, seat, cell_at(object, cell), value, about)
+}
+
+/// Empties the front cell, which the lane that serves the queue knows by its own counts, and answers what was found there.
+pub fn empty_front(
+    words: &Words,
+    seat: &mut Seat<(), View>,
+    object: u8,
+    cell: u16,
+    lifos: u64,
+    takes: u64,
+) -> u64
+    requires own { seat.old.table_id ≡ words.now.shared.table_id }
+    requires wide { words.now.shared.table_id.words ≡ 21128 }
+    requires object { IsTrue (is_object words.now.shared.key object) }
+    requires low { (object < 33) × (cell < 256) }
+    requires front { cell ≡ front_cell words.now.shared.key object lifos takes }
+    requires log { 0 < length seat.old.me.0.logs }
+    requires serves { IsTrue (list_any (is_serve object) seat.old.me.0.serves) }
+    requires lifos { lifos ≡ records (is_lifo object) seat.old.me.0.logs }
+    requires takes { takes ≡ records (is_took object) seat.old.me.0.logs }
+    requires idle { many (on_queue object) seat.old.me.0.takes ≡ 0 }
+    ensures same { (seat.new.table_id ≡ seat.old.table_id) × (seat.new.id ≡ seat.old.id) }
+    ensures told { SwapTold words.now.shared.key object cell seat.old.me.0 result seat.new.me.0 }
+{
+    let about = About {
+        by: 0,
+        to: object,
+        pool: 0,
+        block: 0,
+        name: 0,
+        old: u64::from(cell),
+        new: 0,
+        margin: None,
+    };
+    swap::<Brand>(words, seat, cell_at(object, cell), 0, about)
+}
+
+/// Frees the entry of a take, and answers the queue's word as it was.
+pub fn free_entry(
+    words: &Words,
+    seat: &mut Seat<(), View>,
+    object: u8,
+    cell: u64,
+    pool: u8,
+    block: u8,
+    name: u64,
+) -> u64
+    requires own { seat.old.table_id ≡ words.now.shared.table_id }
+    requires wide { words.now.shared.table_id.words ≡ 21128 }
+    requires object { IsTrue (is_object words.now.shared.key object) }
+    requires room { HasRoom seat.old.me.0 }
+    requires serves { IsTrue (list_any (is_serve object) seat.old.me.0.serves) }
+    requires take { 0 < many (is_place object cell (record { pool = pool; block = block; name = name })) seat.old.me.0.takes }
+    ensures same { (seat.new.table_id ≡ seat.old.table_id) × (seat.new.id ≡ seat.old.id) }
+    ensures told { FreeTold words.now.shared.key object cell (record { pool = pool; block = block; name = name }) seat.old.me.0 result seat.new.me.0 }
+{
+    let about = About {
+        by: 0,
+        to: object,
+        pool,
+        block,
+        name,
+        old: cell,
+        new: 0,
+        margin: None,
+    };
+    add::<Brand>(words, seat, queue_at(object), TAKE, about)
+}

@@ -1,0 +1,137 @@
+//! The table of the words under the rule, and the atomic operations on one of them.
+
+ghost use Rattle.std.specs.Prelude.{◌≡◌, ℕ, ◌+◌, ◌%◌, ◌^◌, ◌<◌, ◌==◌};
+ghost use prog.Atomic.{either};
+ghost use Rattle.qp_words.specs.declared.View.{View};
+ghost use Rattle.qp_words.specs.Rule.{Holds};
+ghost use Rattle.qp_words.specs.After.{Steps, newcomer};
+ghost use Rattle.qp_table.specs.First.{first_serves};
+ghost use Rattle.qp_table.specs.Whole.{later_lanes};
+
+use atomic_table::{Play, Seat, Table, TableRule};
+use qp_model::System;
+use qp_words::View;
+use std::alloc::Global;
+use std::marker::{Brand, PhantomData};
+
+/// The rule of the event table. Its key is the system; the first view has lane 0, all other lane numbers, and every object.
+pub struct Law;
+
+impl TableRule<(), View, System> for Law {
+    ghost holds = { λ sys s. Holds sys s.words s.views };
+
+    ghost first = { λ sys. newcomer later_lanes (first_serves sys 32) };
+}
+
+/// What a step tells: of the view before, the number found and the view after. Its caller picks it.
+pub(crate) trait Tells {
+    ghost tells: { View → ℕ → View → Type 0 };
+}
+
+impl Tells for Brand {
+    ghost tells = { λ v n u. Unit {0} };
+}
+
+pub(crate) struct Tell<T: Tells>(PhantomData<T>);
+
+impl<T: Tells> Play<(), View> for Tell<T> {
+    ghost then = { λ st m n m'. T.tells m.0 n m'.0 };
+}
+
+/// The 21,128 words of one event table, which threads share.
+pub type Words = Table<(), View, System, Law, Global>;
+
+/// What a step is about, for its proof alone: the object for which the lane works, a queue, a block or an entry, and numbers of the step.
+#[derive(Clone, Copy, Drop)]
+pub(crate) struct About {
+    pub by: u8,
+    pub to: u8,
+    pub pool: u8,
+    pub block: u8,
+    pub name: u64,
+    pub old: u64,
+    pub new: u64,
+    pub margin: Option<u8>,
+}
+
+/// Reads a word.
+pub(crate) fn look<T: Tells>(
+    words: &Words,
+    seat: &mut Seat<(), View>,
+    word: usize,
+    _about: About,
+) -> u64
+    requires own { (seat.old.table_id ≡ words.now.shared.table_id) × (word < words.now.shared.table_id.words) }
+    requires keeps { Steps words.now.shared.key seat.old.id seat.old.me.0 word (λ n. n) (T.tells seat.old.me.0) }
+    ensures same { (seat.new.table_id ≡ seat.old.table_id) × (seat.new.id ≡ seat.old.id) }
+    ensures told { T.tells seat.old.me.0 result seat.new.me.0 }
+{
+    words.shared.load::<Tell<T>>(seat, word)
+}
+
+/// Adds to a word.
+pub(crate) fn add<T: Tells>(
+    words: &Words,
+    seat: &mut Seat<(), View>,
+    word: usize,
+    k: u64,
+    _about: About,
+) -> u64
+    requires own { (seat.old.table_id ≡ words.now.shared.table_id) × (word < words.now.shared.table_id.words) }
+    requires keeps { Steps words.now.shared.key seat.old.id seat.old.me.0 word (λ n. (n + k) % 2 ^ 64) (T.tells seat.old.me.0) }
+    ensures same { (seat.new.table_id ≡ seat.old.table_id) × (seat.new.id ≡ seat.old.id) }
+    ensures told { T.tells seat.old.me.0 result seat.new.me.0 }
+{
+    words.shared.fetch_add::<Tell<T>>(seat, word, k)
+}
+
+/// Sets a word to `new` where it is `old`, and answers what was found.
+pub(crate) fn exchange<T: Tells>(
+    words: &Words,
+    seat: &mut Seat<(), View>,
+    word: usize,
+    old: u64,
+    new: u64,
+    _about: About,
+) -> u64
+    requires own { (seat.old.table_id ≡ words.now.shared.table_id) × (word < words.now.shared.table_id.words) }
+    requires keeps { Steps words.now.shared.key seat.old.id seat.old.me.0 word (λ n. either (n == old) new n) (T.tells seat.old.me.0) }
+    ensures same { (seat.new.table_id ≡ seat.old.table_id) × (seat.new.id ≡ seat.old.id) }
+    ensures told { T.tells seat.old.me.0 result seat.new.me.0 }
+{
+    words
+        .shared
+        .compare_exchange::<Tell<T>>(seat, word, old, new)
+}
+
+/// Puts a value into a word, and answers what was found.
+pub(crate) fn swap<T: Tells>(
+    words: &Words,
+    seat: &mut Seat<(), View>,
+    word: usize,
+    new: u64,
+    _about: About,
+) -> u64
+    requires own { (seat.old.table_id ≡ words.now.shared.table_id) × (word < words.now.shared.table_id.words) }
+    requires keeps { Steps words.now.shared.key seat.old.id seat.old.me.0 word (λ n. new) (T.tells seat.old.me.0) }
+    ensures same { (seat.new.table_id ≡ seat.old.table_id) × (seat.new.id ≡ seat.old.id) }
+    ensures told { T.tells seat.old.me.0 result seat.new.me.0 }
+{
+    words.shared.swap::<Tell<T>>(seat, word, new)
+}
+
+/// Writes a word.
+pub(crate) fn store<T: Tells>(
+    words: &Words,
+    seat: &mut Seat<(), View>,
+    word: usize,
+    new: u64,
+    _about: About,
+)
+    requires own { (seat.old.table_id ≡ words.now.shared.table_id) × (word < words.now.shared.table_id.words) }
+    requires keeps { Steps words.now.shared.key seat.old.id seat.old.me.0 word (λ n. new) (λ n. T.tells seat.old.me.0 new) }
+    ensures same { (seat.new.table_id ≡ seat.old.table_id) × (seat.new.id ≡ seat.old.id) }
+    ensures told { T.tells seat.old.me.0 new seat.new.me.0 }
+{
+    words.shared.store::<Tell<T>>(seat, word, new)
+}
