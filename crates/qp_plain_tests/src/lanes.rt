@@ -45,7 +45,15 @@ fn a_lane_has_room_for_a_million_records(rt: HostRuntime) -> Result<(), Fail> {
     Ok(())
 }
 
-/// The first code handed in stays, and each lane finds it.
+/// Notes that an object is at its budget, and hands in the code of it. None where there is no room.
+fn spend<O: Ops>(ops: &mut O) -> Option<()> {
+    ops.room().ok()?;
+    ops.note(Rec::spent(1));
+    ops.stop(6);
+    Some(())
+}
+
+/// The first of two codes stays, and each lane finds it.
 #[test]
 fn the_stop_word_keeps_its_first_code(rt: HostRuntime) -> Result<(), Fail> {
     let sys = system_of(rt.alloc(), Kind::One(1, 1))?;
@@ -54,10 +62,12 @@ fn the_stop_word_keeps_its_first_code(rt: HostRuntime) -> Result<(), Fail> {
     };
     assert!(rt; world.rests());
     let before = world.stopped();
+    assert!(rt; spend(&mut world).is_some());
     world.stop(7);
     let after = world.stopped();
     assert_eq!(rt; world.lanes(), 2);
     assert_eq!(rt; world.go(1), 0);
-    assert_eq!(rt; [before, after, world.stopped()], [None, Some(7), Some(7)]);
+    world.stop(7);
+    assert_eq!(rt; [before, after, world.stopped()], [None, Some(6), Some(6)]);
     Ok(())
 }
