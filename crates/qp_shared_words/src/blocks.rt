@@ -1,12 +1,12 @@
 //! The steps on pools and blocks. Each is one atomic operation, under the rule of the event table.
 
-ghost use Rattle.std.specs.Prelude.{◌≡◌, ◌+◌, ◌<◌, IsTrue};
+ghost use Rattle.std.specs.Prelude.{◌≡◌, ◌+◌, ◌^◌, ◌<◌, ◌≤◌, IsTrue};
 ghost use Rattle.qp_model.specs.WordLaw.{is_pool};
 ghost use Rattle.qp_words.specs.Counting.{many};
 ghost use Rattle.qp_words.specs.Rule.{is_ref, is_spot, is_spot_at, fills_of, is_value};
 ghost use Rattle.qp_words.specs.After.{HasRoom, ref};
 ghost use Rattle.qp_lane_views.specs.Lane.{has_content};
-ghost use Rattle.qp_lane_steps.specs.Told.{HasPlace, DropTold, FirstTold, MoreTold, FromTold, FillTold, ReadTold, EyePoolTold};
+ghost use Rattle.qp_lane_steps.specs.Told.{HasPlace, DropTold, FirstTold, MoreTold, BackTold, FromTold, FillTold, ReadTold, EyePoolTold};
 
 use crate::places::{block_at, event_at, pool_at};
 use crate::steps::{About, Words, add, look, store};
@@ -16,6 +16,15 @@ use std::marker::Brand;
 
 /// What one operation adds to the number of a pool's or a block's word.
 const UNIT: u64 = 1 << 32;
+
+/// The bit of a block in its pool's map.
+fn bit_of(block: u8) -> u64
+    requires { block < 32 }
+    ensures value { result ≡ 2 ^ block }
+    ensures most { result ≤ 2147483648 }
+{
+    1 << block
+}
 
 /// Drops a reference in hand, and answers the block's word as it was.
 pub fn drop_reference(
@@ -99,6 +108,36 @@ pub fn another_reference(
         margin: None,
     };
     add::<Brand>(words, seat, block_at(pool, block), UNIT + 1, about)
+}
+
+/// Puts back a used block, whose life ended at `at` operations, and answers the pool's word as it was.
+pub fn put_back(
+    words: &Words,
+    seat: &mut Seat<(), View>,
+    by: u8,
+    pool: u8,
+    block: u8,
+    at: u64,
+) -> u64
+    requires own { seat.old.table_id ≡ words.now.shared.table_id }
+    requires wide { words.now.shared.table_id.words ≡ 21128 }
+    requires place { HasPlace pool block }
+    requires room { HasRoom seat.old.me.0 }
+    requires used { 0 < many (is_spot_at pool block at) seat.old.me.0.used }
+    ensures same { (seat.new.table_id ≡ seat.old.table_id) × (seat.new.id ≡ seat.old.id) }
+    ensures told { BackTold words.now.shared.key by pool block at (4294967296 + 2 ^ block) seat.old.me.0 result seat.new.me.0 }
+{
+    let about = About {
+        by,
+        to: 0,
+        pool,
+        block,
+        name: at,
+        old: 0,
+        new: 0,
+        margin: None,
+    };
+    add::<Brand>(words, seat, pool_at(pool), UNIT + bit_of(block), about)
 }
 
 /// Reads the word of a fresh block, whose life begins at `at` operations.

@@ -2,8 +2,10 @@
 #![tactic(auto)]
 
 pub mod blocks;
+mod first;
 mod places;
 pub mod queues;
 mod steps;
 
+pub use first::new_words;
 pub use steps::{Law, Words};

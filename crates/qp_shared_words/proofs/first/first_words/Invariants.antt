@@ -1,0 +1,6 @@
+use Rattle.std.proofs.Common.{◌≡◌, ℕ, ◌<◌, length, get_or}
+use Rattle.qp_table.specs.First.{first_word}
+use Rattle.qp_shared_words.proofs.first.first_words.Given as goal
+
+abbrev pub invariant-loop-at : goal.invariant-loop-at
+invariant-loop-at l = (length l.items.items ≡ l.at) × ((k : ℕ) → k < l.at → get_or l.items.items k 0 ≡ first_word l.sys k)
