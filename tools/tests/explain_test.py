@@ -187,6 +187,7 @@ class Lines(unittest.TestCase):
             told = explanation(["check", "lamp.toml", "go.txt", "run.txt"], "qp: broken D19 lane 0\n")
         line = files["run.txt"].splitlines().index("look 0 2 1") + 1
         self.assertEqual(told[1], f"look first at line {line} of the journal, `look 0 2 1`: kernel begins look 2, with floor 1")
+        self.assertEqual(told[-1], "to see it: view/qpview lamp.toml go.txt run.txt 'broken D19 lane 0' > run.html")
 
     def test_stops(self):
         """A run that was stopped is told by its journal, where that is at hand."""

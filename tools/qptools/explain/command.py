@@ -1,5 +1,6 @@
 """Explains what the program said of a call: the lines below its own line."""
 
+import shlex
 import subprocess
 import sys
 from pathlib import Path
@@ -56,7 +57,8 @@ def _explain(refusal: Refusal, made: Call, words: list[str], output: bytes | Non
             journal = output if output is not None else _journal(made)
             return explain_stop(_run(made.files[:2], journal)) if journal else []
         case "broken":
-            return explain_verdict(refusal.place, read_run(*made.files[:3]))
+            told = explain_verdict(refusal.place, read_run(*made.files[:3]))
+            return [*told, f"to see it: view/qpview {shlex.join(made.files[:3])} '{refusal.place}' > run.html"]
         case "memory":
             return ["memory was refused: give the machine more, or the run fewer stimuli or a lower --budget"]
         case "read fault":
