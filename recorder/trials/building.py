@@ -81,11 +81,11 @@ def left_when_off(compiler: str, folder: Path) -> list[str]:
     for file in EXAMPLE.glob("*.[ch]"):
         kept = [line for line in file.read_text().splitlines() if not _OF_RECORDER.match(line)]
         (bare / file.name).write_text("".join(f"{line}\n" for line in kept))
-    found = []
-    for file in sorted(EXAMPLE.glob("*.c")):
-        if file.name != "cost.c" and _assembly(compiler, file) != _assembly(compiler, bare / file.name):
-            found.append(file.name)
-    return found
+    files = sorted(file for file in EXAMPLE.glob("*.c") if file.name != "cost.c")
+    with ThreadPoolExecutor(os.cpu_count()) as pool:
+        as_is = pool.map(lambda file: _assembly(compiler, file), files)
+        without = pool.map(lambda file: _assembly(compiler, bare / file.name), files)
+        return [file.name for file, one, other in zip(files, as_is, without) if one != other]
 
 
 def _assembly(compiler: str, file: Path) -> str:
