@@ -1,6 +1,6 @@
 -- The objects of a sound system can be followed. What their charts ask for is there: a pool for each event, and an entry at hand
 -- where one is forwarded or deferred.
-use Rattle.std.proofs.Common.{◌≡◌, ◌∙◌, ℕ, ◌+◌, ◌-◌, ◌<◌, ◌≤◌, Bool, true, false, ◌||◌, List, [], ◌∷◌, map, length, nat_le, Option, Some, None, cond, refl, arith}
+use Rattle.std.proofs.Common.{◌≡◌, ◌∙◌, ℕ, ◌+◌, ◌-◌, ◌<◌, ◌≤◌, Bool, true, false, List, [], ◌∷◌, map, length, nat_le, Option, Some, None, cond, refl, arith}
 use Rattle.std.specs.Prelude.{is_some}
 use Rattle.std.specs.List.{AllByRecursion, list_all, list_any, position, position_or_len}
 use Rattle.std.proofs.lemmas.Bool.{false≢true, le-leb, lt-ltb, or_right}

@@ -1,11 +1,11 @@
 -- A lawful journal of `sim` without a `spill` is tidy, and so the only one.
-use Rattle.std.proofs.Common.{◌≡◌, ◌∙◌, ℕ, zero, suc, ◌+◌, ◌<◌, ◌≤◌, ◌==◌, nat_le, nat_lt, Bool, true, false, cond, List, [], ◌∷◌, ◌++◌, map, length, get_or, Some, None, refl, sym, ap, subst, arith}
+use Rattle.std.proofs.Common.{◌≡◌, ◌∙◌, ◌⊎◌, inl, inr, append-nil, not, ℕ, zero, suc, ◌+◌, ◌<◌, ◌≤◌, ◌==◌, nat_le, nat_lt, Bool, true, false, cond, List, [], ◌∷◌, ◌++◌, map, length, get_or, Some, None, refl, sym, ap, subst, arith}
 use Rattle.std.proofs.lemmas.Bool.{false≢true, and_from, and_parts, ne_eqb}
 use Rattle.std.proofs.lemmas.Bool.Decides.{nat_tests}
-use Rattle.std.proofs.lemmas.List.{length-map, map-append}
+use Rattle.std.proofs.lemmas.List.{append_assoc, length-map, map-append}
 use Rattle.std.specs.declared.option.Option.{Option}
 use Rattle.std.specs.Option.{option_map_or}
-use Rattle.std.specs.List.{list_all}
+use Rattle.std.specs.List.{filter, list_all, AllByRecursion}
 use Rattle.qp_model.specs.declared.record.Rec.{Rec}
 use Rattle.qp_model.specs.declared.bodies.Body.{Body}
 use Rattle.qp_model.specs.declared.bodies.Body.TheVariants as body
@@ -17,12 +17,15 @@ use Rattle.qp_model.specs.declared.journals.Journal.{Journal}
 use Rattle.qp_model.specs.Record.{Item}
 use Rattle.qp_model.specs.KindSorts.{is_malformed}
 use Rattle.qp_model.specs.Sound.{IsSound}
-use Rattle.qp_model.specs.History.{Touch, Draws, Shows, Neither, touch, all_items, hist, is_numbered, lane_items}
+use Rattle.qp_model.specs.Ends.{is_spill, spills_cut}
+use Rattle.qp_model.specs.History.{Touch, Draws, Shows, Neither, touch, touch_of, all_items, hist, is_numbered, lane_items}
 use Rattle.qp_model.specs.Home.{lane_at}
-use Rattle.qp_model.specs.Lawful.{facts_of, setting_of, source_lanes}
-use Rattle.qp_model.specs.OneOrder.{Placed, with_stimuli, parts_of_look, look_of}
-use Rattle.qp_model.specs.Places.{IsSerial, RecordPlace}
+use Rattle.qp_model.specs.Lawful.{facts_of, source_lanes}
+use Rattle.qp_model.specs.OneOrder.{Placed, with_stimuli, parts_of_look, look_of, spills_from}
+use Rattle.qp_model.specs.Places.{IsSerial, RecordPlace, in_order, is_next}
+use Rattle.qp_model.proofs.NumberLemmas.{every-append}
 use Rattle.qp_orders.specs.RunOrder.{placed, items_of}
+use Rattle.qp_orders.specs.Placing.{all_placed}
 use Rattle.qp_stim.specs.Rules.{StimuliFit}
 use Rattle.qp_sound.specs.May.{May}
 use Rattle.qp_sound.specs.Sound.{hands_in}
@@ -33,17 +36,16 @@ use Rattle.qp_rerun.specs.Laws.{GoesOn, made}
 use Rattle.qp_rerun.proofs.Histories.{hist-line, on_word}
 use Rattle.qp_rerun.proofs.OneThread.{one-thread}
 use Rattle.qp_unique.specs.Fronts.{has_word, names_its, touches_its}
-use Rattle.qp_unique.specs.Tidy.{run_order, IsTidy}
+use Rattle.qp_unique.specs.Tidy.{run_order, unspilt, IsTidy, LacksStimulus}
 use Rattle.qp_unique.proofs.EqualLemmas.{part-elsewhere, zero-is}
-use Rattle.qp_unique.proofs.JournalLemmas.{Threaded, threaded, lane0-is, in-order, turn-at, each-unspilt}
-use Rattle.qp_unique.proofs.RunLanes.{lane-stands}
-use Rattle.qp_unique.proofs.SideParts.{at-place, source-of, placed-of, lane-unspilt}
-use Rattle.qp_unique.proofs.Sides.{Lined, lane_in}
-use Rattle.qp_unique.proofs.SourceSteps.{lane_in-append}
-use Rattle.qp_unique.proofs.UniqueLemmas.{tidy_journals_are_one}
+use Rattle.qp_unique.proofs.JournalLemmas.{Threaded, threaded, kept_sources, kept_zero, lane-each, lane0-is, in-order}
+use Rattle.qp_unique.proofs.SideParts.{lane-stood}
+use Rattle.qp_unique.proofs.Sides.{lane_in}
+use Rattle.qp_unique.proofs.SourceSteps.{lane_in-append, lane_in-other, lane_in-own}
+use Rattle.qp_unique.proofs.UniqueLemmas.{short_journals_are_unspilt, short_journals_leave_no_spill, tidy_journals_are_one}
 use Rattle.qp_forms.proofs.CountLemmas.{is_kept, is_said}
 use Rattle.qp_forms.proofs.FormLemmas.{each-kept}
-use Rattle.qp_only.specs.Laws.{IsSimJournal, SimJournalsAreOne, SimJournalsAreTidy}
+use Rattle.qp_only.specs.Laws.{IsSimJournal, IsUnspilt, ShortJournalsAreUnspilt, SimJournalsAreOne, SimJournalsAreTidy, UnspiltJournalsAreOne}
 use Rattle.qp_only.proofs.FollowLemmas.{sound-followable}
 use Rattle.qp_only.proofs.RecordLemmas.{rec_in, lanes-of}
 use Rattle.qp_only.proofs.PlaceLemmas.{here, items-back, place_behind, placed-back, places-serial, places_of, places_of-append}
@@ -107,42 +109,160 @@ names-all sys (i ∷ is) h = let parts = and_parts _ _ h in and_from _ _ (by (to
     by (Shows w mark) h = sym (same-word_test sys w) ∙ h
     by Neither h = refl
 
+-- ---- the `spill` that a lane ended with
+
+abbrev spills : List Item → List Item
+spills lane = filter (λ i. is_spill i.body) lane
+
+negated : (b : Bool) → not b ≡ true → b ≡ false
+negated true h = absurd (cc)
+negated false h = refl
+
+-- it stands last
+cut-parts : (end : ℕ) (is : List Item) → spills_cut end is ≡ true → unspilt is ++ spills is ≡ is
+unfolding spills_cut
+cut-parts end [] h = refl
+cut-parts end (i ∷ []) h = by (is_spill i.body)
+  where
+    by : (b : Bool) → cond (not b) (i ∷ []) [] ++ cond b (i ∷ []) [] ≡ i ∷ []
+    by true = refl
+    by false = refl
+cut-parts end (i ∷ j ∷ is) h =
+    let parts = and_parts (not (is_spill i.body)) _ h in
+    by (is_spill i.body) (negated (is_spill i.body) parts.0) (cut-parts end (j ∷ is) parts.1)
+  where
+    by : (b : Bool) → b ≡ false → unspilt (j ∷ is) ++ spills (j ∷ is) ≡ j ∷ is
+        → cond (not b) (i ∷ unspilt (j ∷ is)) (unspilt (j ∷ is)) ++ cond b (i ∷ spills (j ∷ is)) (spills (j ∷ is)) ≡ i ∷ j ∷ is
+    by true e later = absurd (cc)
+    by false e later = ap (λ us. i ∷ us) later
+
+-- those of the sources, in their lanes
+spills-below : (lane : ℕ) (ls : List (List Item)) (a : ℕ) → a < lane → lane_in (spills_from lane ls) a ≡ []
+unfolding spills_from
+spills-below lane [] a less = refl
+spills-below lane (l ∷ ls) a less =
+    lane_in-append (all_placed lane (spills l)) (spills_from (lane + 1) ls) a
+    ∙ ap (λ us. us ++ lane_in (spills_from (lane + 1) ls) a) (lane_in-other lane a (spills l) (ne_eqb lane a (λ e. omega (arith, less, e))))
+    ∙ spills-below (lane + 1) ls a (omega (arith, less))
+
+spills-beyond : (lane : ℕ) (ls : List (List Item)) (a : ℕ) → lane + length ls ≤ a → lane_in (spills_from lane ls) a ≡ []
+unfolding spills_from
+spills-beyond lane [] a most = refl
+spills-beyond lane (l ∷ ls) a most =
+    let more : lane + suc (length ls) ≤ a = most in
+    lane_in-append (all_placed lane (spills l)) (spills_from (lane + 1) ls) a
+    ∙ ap (λ us. us ++ lane_in (spills_from (lane + 1) ls) a) (lane_in-other lane a (spills l) (ne_eqb lane a (λ e. omega (arith, more, e))))
+    ∙ spills-beyond (lane + 1) ls a (omega (arith, more))
+
+spills-at : (lane : ℕ) (front : List (List Item)) (l : List Item) (back : List (List Item)) → lane_in (spills_from lane (front ++ l ∷ back)) (lane + length front) ≡ spills l
+unfolding spills_from
+spills-at lane [] l back =
+    let same : lane + 0 ≡ lane = omega arith in
+    ap (λ a. lane_in (spills_from lane (l ∷ back)) a) same
+    ∙ lane_in-append (all_placed lane (spills l)) (spills_from (lane + 1) back) lane
+    ∙ (λ n. lane_in-own lane (spills l) n ++ spills-below (lane + 1) back lane (omega arith) n) ∙ append-nil (spills l)
+spills-at lane (f ∷ front) l back =
+    let next : lane + suc (length front) ≡ (lane + 1) + length front = omega arith in
+    ap (λ a. lane_in (spills_from lane (f ∷ (front ++ l ∷ back))) a) next
+    ∙ lane_in-append (all_placed lane (spills f)) (spills_from (lane + 1) (front ++ l ∷ back)) ((lane + 1) + length front)
+    ∙ ap (λ us. us ++ lane_in (spills_from (lane + 1) (front ++ l ∷ back)) ((lane + 1) + length front))
+    (lane_in-other lane ((lane + 1) + length front) (spills f) (ne_eqb lane ((lane + 1) + length front) (λ e. omega (arith, e))))
+    ∙ spills-at (lane + 1) front l back
+
+spills-each : (is : List Item) → AllByRecursion (λ i. is_spill i.body ≡ true) (spills is)
+spills-each [] = tt
+spills-each (i ∷ is) = by (is_spill i.body) refl (spills-each is)
+  where
+    by : (b : Bool) → is_spill i.body ≡ b → AllByRecursion (λ i. is_spill i.body ≡ true) (spills is) → AllByRecursion (λ i. is_spill i.body ≡ true) (cond b (i ∷ spills is) (spills is))
+    by true e h = (e, h)
+    by false e h = h
+
+back-items : (lane : ℕ) (is : List Item) → items_of (all_placed lane is) ≡ is
+back-items lane [] = refl
+back-items lane (i ∷ is) = ap (λ us. i ∷ us) (back-items lane is)
+
+from-each : (lane : ℕ) (ls : List (List Item)) → AllByRecursion (λ i. is_spill i.body ≡ true) (items_of (spills_from lane ls))
+unfolding spills_from
+from-each lane [] = tt
+from-each lane (l ∷ ls) =
+    subst (AllByRecursion (λ i. is_spill i.body ≡ true)) (sym (map-append (λ (z : Placed). z.item) (all_placed lane (spills l)) (spills_from (lane + 1) ls)))
+    (every-append (λ i. is_spill i.body ≡ true) _ _ (subst (AllByRecursion (λ i. is_spill i.body ≡ true)) (sym (back-items lane (spills l))) (spills-each l)) (from-each (lane + 1) ls))
+
+-- a `spill` has no number
+spills-next : (before ys : List Item) → AllByRecursion (λ i. is_spill i.body ≡ true) ys → in_order before ys ≡ true
+unfolding in_order is_next
+spills-next before [] h = refl
+spills-next before (y ∷ ys) h = and_from _ _ (by y.body h.0) (spills-next (before ++ y ∷ []) ys h.1)
+  where
+    by : (b : Body) → is_spill b ≡ true → is_next before (touch_of y.of b) ≡ true
+    by (body.Spill n) h = refl
+    by b h = absurd (cc)
+
+order-spills : (before xs ys : List Item) → in_order before xs ≡ true → AllByRecursion (λ i. is_spill i.body ≡ true) ys → in_order before (xs ++ ys) ≡ true
+unfolding in_order
+order-spills before [] ys h each = spills-next before ys each
+order-spills before (x ∷ xs) ys h each = let parts = and_parts (is_next before (touch x)) _ h in and_from _ _ parts.0 (order-spills (before ++ x ∷ []) xs ys parts.1 each)
+
 module _ (sys : System) (stimuli : List (List Stim)) (j : Journal) (sound : IsSound sys) (fit : StimuliFit sys stimuli) (its : IsSimJournal sys stimuli j) where
   t : Threaded sys stimuli j
-  t = threaded sys stimuli j its.lawful its.is_sim its.unspilt
+  t = threaded sys stimuli j its.lawful its.is_sim
+
+  -- the order of the run, and then what lanes ended with
+  abbrev last : List Placed
+  last = all_placed 0 (spills (lane_items (lane_at j 0))) ++ spills_from 1 (source_lanes sys j)
 
   abbrev all : List Placed
-  all = run_order sys j
+  all = run_order sys j ++ last
 
-  lined : Lined sys stimuli
-  unfolding run_order setting_of
-  lined = record {
-    w = facts_of sys j;
-    has = (setting_of sys j).has_stimulus;
-    lane0 = lane_items (lane_at j 0);
-    sources = source_lanes sys j;
-    cuts = true;
-    unspilt_sources = λ front l back is. each-unspilt l (lane-unspilt sys stimuli j its.lawful its.is_sim t front l back is);
-    turn = turn-at sys stimuli j t;
-    has_is = λ n. refl;
-    source = source-of sys stimuli j its.lawful its.is_sim t;
-    placed_so = placed-of sys stimuli j its.lawful its.is_sim t;
-  }
+  last-each : AllByRecursion (λ i. is_spill i.body ≡ true) (items_of last)
+  last-each =
+      subst (AllByRecursion (λ i. is_spill i.body ≡ true)) (sym (map-append (λ (z : Placed). z.item) (all_placed 0 (spills (lane_items (lane_at j 0)))) (spills_from 1 (source_lanes sys j))))
+      (every-append (λ i. is_spill i.body ≡ true) _ _ (subst (AllByRecursion (λ i. is_spill i.body ≡ true)) (sym (back-items 0 (spills (lane_items (lane_at j 0))))) (spills-each (lane_items (lane_at j 0))))
+      (from-each 1 (source_lanes sys j)))
 
-  -- each lane stands in the order, all of it
+  numbers : in_order [] (items_of all) ≡ true
+  numbers =
+      subst (λ us. in_order [] us ≡ true) (sym (map-append (λ (z : Placed). z.item) (run_order sys j) last))
+      (order-spills [] (items_of (run_order sys j)) (items_of last) (in-order sys stimuli j t) last-each)
+
+  in-last : (a : ℕ) → (a ≡ 0 → ⊥) → lane_in last a ≡ lane_in (spills_from 1 (source_lanes sys j)) a
+  in-last a some =
+      lane_in-append (all_placed 0 (spills (lane_items (lane_at j 0)))) (spills_from 1 (source_lanes sys j)) a
+      ∙ ap (λ us. us ++ lane_in (spills_from 1 (source_lanes sys j)) a) (lane_in-other 0 a (spills (lane_items (lane_at j 0))) (ne_eqb 0 a (λ e. some (sym e))))
+
+  -- each lane stands in it, all of it
   source-lane : (m : ℕ) → m < length t.others → lane_in all (1 + m) ≡ lane_items (get_or t.others m [])
-  unfolding run_order lined
   source-lane m less =
       let at = split-at t.others m less in
-      let are : source_lanes sys j ≡ map (λ lane. lane_items lane) at.0 ++ lane_items (get_or t.others m []) ∷ map (λ lane. lane_items lane) at.1 =
-      t.sources_are ∙ ap (map (λ lane. lane_items lane)) at.2 ∙ map-append (λ lane. lane_items lane) at.0 (get_or t.others m [] ∷ at.1) in
-      let size : length (map (λ lane. lane_items lane) at.0) ≡ m = length-map at.0 (λ lane. lane_items lane) ∙ at.3 in
-      ap (λ n. lane_in all (1 + n)) (sym size)
-      ∙ sym (lane-stands sys stimuli lined (λ xs i ys is n floor look. at-place sys stimuli j its.lawful its.is_sim t xs i ys is n floor look) (map (λ lane. lane_items lane) at.0) (lane_items (get_or t.others m [])) (map (λ lane. lane_items lane) at.1) are)
+      let raw = lane_items (get_or t.others m []) in
+      let front = map (λ lane. lane_items lane) at.0 in
+      let back = map (λ lane. lane_items lane) at.1 in
+      let are : source_lanes sys j ≡ front ++ raw ∷ back = t.sources_are ∙ ap (map (λ lane. lane_items lane)) at.2 ∙ map-append (λ lane. lane_items lane) at.0 (get_or t.others m [] ∷ at.1) in
+      let size : length front ≡ m = length-map at.0 (λ lane. lane_items lane) ∙ at.3 in
+      let kept : kept_sources sys j ≡ map (λ lane. unspilt lane) front ++ unspilt raw ∷ map (λ lane. unspilt lane) back =
+      ap (map (λ lane. unspilt lane)) are ∙ map-append (λ lane. unspilt lane) front (raw ∷ back) in
+      let kept_size : length (map (λ lane. unspilt lane) front) ≡ m = length-map front (λ lane. unspilt lane) ∙ size in
+      let first : lane_in (run_order sys j) (1 + m) ≡ unspilt raw =
+      ap (λ n. lane_in (run_order sys j) (1 + n)) (sym kept_size)
+      ∙ sym (lane-stood sys stimuli j its.lawful its.is_sim t (map (λ lane. unspilt lane) front) (unspilt raw) (map (λ lane. unspilt lane) back) kept) in
+      let second : lane_in last (1 + m) ≡ spills raw =
+      in-last (1 + m) (λ e. omega (arith, e)) ∙ ap (λ n. lane_in (spills_from 1 (source_lanes sys j)) (1 + n)) (sym size)
+      ∙ ap (λ ls. lane_in (spills_from 1 ls) (1 + length front)) are ∙ spills-at 1 front raw back in
+      lane_in-append (run_order sys j) last (1 + m) ∙ (λ n. first n ++ second n)
+      ∙ cut-parts j.end raw (lane-each (λ l. spills_cut j.end l ≡ true) front raw back (source_lanes sys j) are t.sources_cut)
+
+  zero-lane : lane_in all 0 ≡ lane_items (lane_at j 0)
+  unfolding run_order
+  zero-lane =
+      let zero_raw = lane_items (lane_at j 0) in
+      let second : lane_in last 0 ≡ spills zero_raw =
+      lane_in-append (all_placed 0 (spills zero_raw)) (spills_from 1 (source_lanes sys j)) 0
+      ∙ (λ n. lane_in-own 0 (spills zero_raw) n ++ spills-below 1 (source_lanes sys j) 0 (omega arith) n) ∙ append-nil (spills zero_raw) in
+      lane_in-append (run_order sys j) last 0 ∙ (λ n. zero-is true (kept_sources sys j) (kept_zero j) n ++ second n) ∙ cut-parts j.end zero_raw t.zero_cut
 
   lanes-are : (a : ℕ) → lane_in all a ≡ lane_items (get_or j.lanes a [])
   unfolding run_order
-  lanes-are zero = zero-is true (source_lanes sys j) (lane_items (lane_at j 0)) ∙ lane0-is sys stimuli j t ∙ ap (λ ls. lane_items (get_or ls 0 [])) (sym t.lanes)
+  lanes-are zero = zero-lane ∙ lane0-is sys stimuli j t ∙ ap (λ ls. lane_items (get_or ls 0 [])) (sym t.lanes)
   lanes-are (suc m) = by (nat_lt m (length t.others)) refl ∙ ap (λ ls. lane_items (get_or ls (suc m) [])) (sym t.lanes)
     where
       by : (b : Bool) → nat_lt m (length t.others) ≡ b → lane_in all (suc m) ≡ lane_items (get_or t.others m [])
@@ -150,13 +270,17 @@ module _ (sys : System) (stimuli : List (List Stim)) (j : Journal) (sound : IsSo
       by false e =
           let few : length t.others ≤ m = grind (arith, nat_tests) in
           let size : length (source_lanes sys j) ≡ length t.others = ap length t.sources_are ∙ length-map t.others (λ lane. lane_items lane) in
-          order-beyond true (source_lanes sys j) (lane_items (lane_at j 0)) (suc m) (omega (arith, few, size)) ∙ sym (ap lane_items (beyond t.others m few) ∙ items-none)
+          let kept : length (kept_sources sys j) ≡ length (source_lanes sys j) = length-map (source_lanes sys j) (λ lane. unspilt lane) in
+          let none : lane_in last (suc m) ≡ [] = in-last (suc m) (λ e. omega (arith, e)) ∙ spills-beyond 1 (source_lanes sys j) (suc m) (omega (arith, few, size)) in
+          lane_in-append (run_order sys j) last (suc m)
+          ∙ (λ n. order-beyond true (kept_sources sys j) (kept_zero j) (suc m) (omega (arith, few, size, kept)) n ++ none n)
+          ∙ sym (ap lane_items (beyond t.others m few) ∙ items-none)
 
   abbrev order : List RecordPlace
   order = places_of [] all
 
   serial : IsSerial j.lanes order
-  serial = places-serial j.lanes all lanes-are (in-order sys stimuli j t)
+  serial = places-serial j.lanes all lanes-are numbers
 
   -- at each place of it stands a sound world that may make the next record
   stood : (xs : List Placed) (z : Placed) (ys : List Placed) → all ≡ xs ++ z ∷ ys → Stood sys (items_of xs) z.item
@@ -176,15 +300,15 @@ module _ (sys : System) (stimuli : List (List Stim)) (j : Journal) (sound : IsSo
 
   -- the history of a word is the same in the order
   hist-order : (w : Word) → is_numbered w (all_items j.lanes) ≡ true → hist w (all_items j.lanes) ≡ hist w (items_of all)
-  hist-order w numbers =
-      hist-line j.lanes order serial.all serial.numbers w numbers ∙ ap (on_word w) (items-back j.lanes all lanes-are [] all refl) ∙ sym (ordered-hist w (items_of all) (in-order sys stimuli j t))
+  hist-order w its_numbers =
+      hist-line j.lanes order serial.all serial.numbers w its_numbers ∙ ap (on_word w) (items-back j.lanes all lanes-are [] all refl) ∙ sym (ordered-hist w (items_of all) numbers)
 
   tidy : IsTidy sys j
   unfolding facts_of
   tidy = record {
     named = names-all sys (all_items j.lanes) (named-records sys stimuli j sound fit its.lawful);
     events = λ xs x ys f l m e split is.
-        let at = taken-stays sys all (in-order sys stimuli j t) stood xs x ys f l m e split is in
+        let at = taken-stays sys all numbers stood xs x (ys ++ last) f l m e (ap (λ us. us ++ last) split ∙ append_assoc xs (x ∷ ys) last) is in
         event-by sys (all_items j.lanes) (items_of all) e
         (λ some. (
           hist-order (word.Pool e.pool) (its.lawful.words.pools e.pool (block-pool sys e.pool e.block (at.1 some)).0).numbers,
@@ -216,8 +340,20 @@ module _ (sys : System) (stimuli : List (List Stim)) (sound : IsSound sys) (fit 
       let lanes : i.lanes ≡ j.lanes = sym (recs-back i one) ∙ ap (map (map rec_in)) same ∙ recs-back j two in
       λ n. record { kernel = kernels n; budget = budgets n; lanes = lanes n; end = ends n }
 
-pub all-one : SimJournalsAreOne
-all-one sys stimuli i j sound fit one two budgets =
-    let same = tidy_journals_are_one sys stimuli i j sound (sound-followable sys sound) one.lawful two.lawful one.is_sim two.is_sim budgets one.unspilt two.unspilt
+-- of two in which no lane ended with a `spill`
+pub unspilt-one : UnspiltJournalsAreOne
+unspilt-one sys stimuli i j sound fit one two budgets none_i none_j =
+    let same = tidy_journals_are_one sys stimuli i j sound (sound-followable sys sound) one.lawful two.lawful one.is_sim two.is_sim budgets none_i none_j
     (tidy sys stimuli i sound fit one) (tidy sys stimuli j sound fit two) in
-    one-journal sys stimuli sound fit i j one two budgets same.0 same.1
+    sym (one-journal sys stimuli sound fit i j one two budgets same.0 same.1)
+
+pub short-unspilt : ShortJournalsAreUnspilt
+short-unspilt sys stimuli j its short = short_journals_are_unspilt sys stimuli j its.lawful its.is_sim short
+
+pub all-one : SimJournalsAreOne
+all-one sys stimuli i j sound fit one two budgets short =
+    by (short_journals_leave_no_spill sys stimuli i j sound (sound-followable sys sound) one.lawful two.lawful one.is_sim two.is_sim budgets short (tidy sys stimuli i sound fit one) (tidy sys stimuli j sound fit two))
+  where
+    by : IsUnspilt j ⊎ LacksStimulus sys stimuli j → (j ≡ i) ⊎ LacksStimulus sys stimuli j
+    by (inl none) = inl (unspilt-one sys stimuli i j sound fit one two budgets (short-unspilt sys stimuli i one short) none)
+    by (inr lacks) = inr lacks

@@ -10,13 +10,12 @@ use Rattle.qp_model.specs.declared.systems.System.{System}
 use Rattle.qp_model.specs.declared.systems.ObjectDef.{ObjectDef}
 use Rattle.qp_model.specs.Record.{Item}
 use Rattle.qp_model.specs.Sites.{object_at}
-use Rattle.qp_model.specs.KernelLane.{threshold_of, unread}
+use Rattle.qp_model.specs.KernelLane.{threshold_of}
 use Rattle.qp_model.specs.OneOrder.{with_stimuli, parts_of_look, part_of_look, belongs, look_of}
 use Rattle.qp_orders.specs.RunOrder.{placed}
 use Rattle.qp_unique.proofs.StackLemmas.{IsObject}
 use Rattle.qp_unique.proofs.SourceSteps.{lane_in-append}
-use Rattle.qp_unique.proofs.LoopLemmas.{same-order, agree-first, lane-whole}
-use Rattle.qp_unique.proofs.Sides.{Side, HasEnded, order_of, lane_in}
+use Rattle.qp_unique.proofs.Sides.{Side, order_of, lane_in}
 
 -- the records of a source stand in no other lane
 pub part-elsewhere : (lane j k : ℕ) (cuts within : Bool) (is : List Item) → (lane == j) ≡ false → lane_in (part_of_look lane k cuts within is) j ≡ []
@@ -66,16 +65,15 @@ made-by f n all front (l ∷ ls) is size each =
 module _ (sys : System) (charts : (p : ℕ) (d : ObjectDef) → object_at sys p ≡ Some d → Chart) (stimuli : List (List Stim)) (budget : ℕ)
     (bounded : (p : ℕ) → IsObject sys p → p ≤ threshold_of sys p) (positive : (p : ℕ) → IsObject sys p → p ≡ 0 → ⊥) where
   -- the same lanes
-  pub same-lanes : (a b : Side sys charts stimuli budget) → HasEnded sys charts stimuli budget a → HasEnded sys charts stimuli budget b → a.has 0 ≡ b.has 0 → length a.sources ≡ length b.sources
+  pub same-lanes : (a b : Side sys charts stimuli budget) → order_of sys charts stimuli budget a ≡ order_of sys charts stimuli budget b → length a.sources ≡ length b.sources
+      → ((before : List (List Item)) (l : List Item) (behind : List (List Item)) → a.sources ≡ before ++ l ∷ behind → l ≡ lane_in (order_of sys charts stimuli budget a) (1 + length before))
+      → ((before : List (List Item)) (l : List Item) (behind : List (List Item)) → b.sources ≡ before ++ l ∷ behind → l ≡ lane_in (order_of sys charts stimuli budget b) (1 + length before))
       → (a.lane0 ≡ b.lane0) × (a.sources ≡ b.sources)
-  same-lanes a b ea eb looks size =
-      let same = same-order sys charts stimuli budget bounded positive a b ea eb a.lane0 b.lane0 [] [] (unread sys) (agree-first sys charts stimuli budget bounded positive a b looks) in
+  same-lanes a b same size stands_a stands_b =
       let f : ℕ → List Item = λ m. lane_in (order_of sys charts stimuli budget a) (1 + m) in
-      let one : a.sources ≡ made f 0 (length a.sources) =
-      made-by f 0 a.sources [] a.sources refl refl (λ before l behind is. lane-whole sys charts stimuli budget bounded positive a before l behind is) in
+      let one : a.sources ≡ made f 0 (length a.sources) = made-by f 0 a.sources [] a.sources refl refl stands_a in
       let two : b.sources ≡ made f 0 (length b.sources) =
-      made-by f 0 b.sources [] b.sources refl refl
-      (λ before l behind is. lane-whole sys charts stimuli budget bounded positive b before l behind is ∙ ap (λ zs. lane_in zs (1 + length before)) (sym same)) in (
+      made-by f 0 b.sources [] b.sources refl refl (λ before l behind is. stands_b before l behind is ∙ ap (λ zs. lane_in zs (1 + length before)) (sym same)) in (
         sym (zero-is a.cuts a.sources a.lane0) ∙ ap (λ zs. lane_in zs 0) same ∙ zero-is b.cuts b.sources b.lane0,
         one ∙ ap (made f 0) size ∙ sym two,
       )

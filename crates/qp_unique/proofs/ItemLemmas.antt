@@ -1,5 +1,5 @@
 -- Two runs that have come equally far go on by the same record of lane 0.
-use Rattle.std.proofs.Common.{◌≡◌, ◌∙◌, ℕ, ◌≤◌, ◌==◌, Bool, true, false, ◌||◌, List, [], ◌∷◌, ◌++◌, Some, None, refl, sym, ap, subst, arith}
+use Rattle.std.proofs.Common.{◌≡◌, ◌∙◌, ◌⊎◌, ℕ, ◌≤◌, ◌==◌, Bool, true, false, ◌||◌, List, [], ◌∷◌, ◌++◌, Some, None, refl, sym, ap, subst, arith}
 use Rattle.std.proofs.lemmas.Bool.Decides.{nat_tests}
 use Rattle.std.specs.declared.option.Option.{Option}
 use Rattle.std.specs.Option.{option_and_then, option_map_or, unwrap_or, is_some}
@@ -29,7 +29,7 @@ use Rattle.qp_unique.specs.NextInCourse.{piece_told, PieceComes}
 use Rattle.qp_unique.proofs.CourseLemmas.{course_goes_on_alone}
 use Rattle.qp_unique.proofs.KernelLemmas.{Slot, IsOwned, slot-of}
 use Rattle.qp_unique.proofs.StackLemmas.{IsObject, found-in}
-use Rattle.qp_unique.proofs.Sides.{Side, Along, in_sim, order_of, held_to, MayEnd}
+use Rattle.qp_unique.proofs.Sides.{Side, Along, EndsOwn, in_sim, order_of, held_to, MayEnd}
 
 -- a test that no element passes
 pub none-at : {A : Type 0} (p : A → Bool) (xs : List A) (x : A) (ys : List A) → list_any p (xs ++ x ∷ ys) ≡ false → (p x ≡ false) × (list_any p ys ≡ false)
@@ -126,12 +126,12 @@ module _ (sys : System) (charts : (p : ℕ) (d : ObjectDef) → object_at sys p 
     pub course-here : (p : ℕ) (d : ObjectDef) (is : object_at sys p ≡ Some d)
         → (mid end : State) × (run sys (actor d (charts p d is)) (start_state (actor d (charts p d is)) (first_config d)) (pieces_in a.w rule p (unread sys) front) ≡ Some mid)
         × (run sys (actor d (charts p d is)) mid (pieces_at a.w p k i ++ pieces_in a.w rule p step.0 la) ≡ Some end)
-        × MayEnd (ends_at_point (pieces_in a.w rule p (unread sys) front ++ (pieces_at a.w p k i ++ pieces_in a.w rule p step.0 la))) end
+        × (MayEnd (ends_at_point (pieces_in a.w rule p (unread sys) front ++ (pieces_at a.w p k i ++ pieces_in a.w rule p step.0 la))) end ⊎ EndsOwn p a.lane0)
     course-here p d is =
         let whole = a.course p d is in
         let moved = subst (λ ps. run sys (actor d (charts p d is)) (start_state (actor d (charts p d is)) (first_config d)) ps ≡ Some whole.0) (pieces-here p) whole.1 in
         let split = run-split sys (actor d (charts p d is)) (start_state (actor d (charts p d is)) (first_config d)) whole.0 (pieces_in a.w rule p (unread sys) front) _ moved in
-        (split.0, whole.0, split.1, split.2, subst (λ ps. MayEnd (ends_at_point ps) whole.0) (pieces-here p) whole.2)
+        (split.0, whole.0, split.1, split.2, subst (λ ps. MayEnd (ends_at_point ps) whole.0 ⊎ EndsOwn p a.lane0) (pieces-here p) whole.2)
 
     -- a record of the object whose start or step is under way is none of a turn without a step
     pub own-unmarked : IsObject sys i.of → IsOwned (role_of i.body) → is_turn_mark i.body ≡ false

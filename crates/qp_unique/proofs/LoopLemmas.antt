@@ -1,8 +1,8 @@
--- Two runs have the same order.
-use Rattle.std.proofs.Common.{◌≡◌, ◌∙◌, ℕ, suc, ◌+◌, ◌≤◌, ◌==◌, Bool, true, false, List, [], ◌∷◌, ◌++◌, length, get_or, Some, None, refl, sym, ap, subst, inl, inr, ◌⊎◌, arith, append-nil}
+-- Two runs go on alike, as far as they go.
+use Rattle.std.proofs.Common.{◌≡◌, ◌∙◌, ℕ, zero, suc, ◌+◌, ◌<◌, ◌≤◌, ◌==◌, Bool, true, false, List, [], ◌∷◌, ◌++◌, length, get_or, Some, None, refl, sym, ap, subst, inl, inr, ◌⊎◌, arith, append-nil}
 use Rattle.std.proofs.lemmas.Bool.{and_parts}
 use Rattle.std.proofs.lemmas.Bool.Decides.{nat_tests}
-use Rattle.std.proofs.lemmas.List.{append_assoc}
+use Rattle.std.proofs.lemmas.List.{append_assoc, length-append}
 use Rattle.std.specs.declared.option.Option.{Option}
 use Rattle.std.specs.Option.{option_map_or}
 use Rattle.std.specs.List.{list_any}
@@ -18,7 +18,7 @@ use Rattle.qp_model.specs.Ends.{is_end}
 use Rattle.qp_model.specs.Kernels.{sim}
 use Rattle.qp_model.specs.Sites.{object_at}
 use Rattle.qp_model.specs.KernelLane.{Setting, threshold_of, Reading, Upcoming, Inside, Looking, Chosen, Ended, Resting, Again, Over, Halted, role_of, Looks, Drops, lane_on, is_whole, is_over, unread}
-use Rattle.qp_model.specs.OneOrder.{Placed, Turn, with_stimuli, parts_of_look, acts_next, look_of}
+use Rattle.qp_model.specs.OneOrder.{Placed, Turn, with_stimuli, parts_of_look, acts_next, is_turn, look_of, turns_at}
 use Rattle.qp_model.specs.Points.{pieces_in}
 use Rattle.qp_sources.specs.SourceState.{Between, source_after}
 use Rattle.qp_orders.specs.RunOrder.{placed}
@@ -28,12 +28,13 @@ use Rattle.qp_unique.proofs.LookLemmas.{up_to_stim, from_stim, stim-split, stim-
 use Rattle.qp_unique.proofs.StackLemmas.{IsObject, stacked-first}
 use Rattle.qp_unique.proofs.StepLemmas.{over-none}
 use Rattle.qp_unique.proofs.ItemLemmas.{slot, order-here}
-use Rattle.qp_unique.proofs.PairLemmas.{same-item, swapped}
+use Rattle.qp_unique.proofs.PairLemmas.{same-item}
 use Rattle.qp_unique.proofs.SourceSteps.{alone, alone-at, after-first, record-first}
 use Rattle.qp_unique.proofs.PartLemmas.{Part, same-part, told-on}
 use Rattle.qp_unique.proofs.ExtendLemmas.{extended}
-use Rattle.qp_unique.proofs.RunLanes.{look-body, first-stim, lane-with, lane-own, lane-other, above-zero, Stimulated, unstimulated, stimulated, front-on, lane-whole as whole-lane}
-use Rattle.qp_unique.proofs.Sides.{lined, Side, Along, Agree, IsFront, HasEnded, in_sim, order_of, lane_in}
+use Rattle.qp_unique.proofs.RunLanes.{look-body, first-stim, lane-with, lane-own, lane-other, above-zero, Stimulated, freed, unstimulated, stimulated, front-on}
+use Rattle.qp_unique.specs.Tidy.{spill_free}
+use Rattle.qp_unique.proofs.Sides.{lined, Side, Along, Agree, IsFront, HasEnded, LongFront, LongLane, Lacking, MayPart, in_sim, order_of, lane_in}
 
 -- a look is of no object
 pub look-whole : (s : Setting) (k next : Reading) (i : Item) (n floor : ℕ) → Slot s k next i → i.body ≡ body.Look n floor → i ≡ look_item n floor
@@ -47,20 +48,41 @@ look-whole s k next i n floor (IsTook q f l m x none place item is) e = absurd (
 look-whole s k next i n floor (IsSpent q none place item is) e = absurd (let no : body.Spent ≡ body.Look n floor = sym (ap (λ (y : Item). y.body) item) ∙ e in cc)
 look-whole s k next i n floor (IsRest none place item is) e = item-is i 0 _ (ap (λ (x : Item). x.of) item) e
 
+-- a lane by its place
+pub lane-at : (ls : List (List Item)) (m : ℕ) → m < length ls → (before : List (List Item)) × (l : List Item) × (behind : List (List Item)) × (ls ≡ before ++ l ∷ behind) × (length before ≡ m)
+lane-at [] m less = absurd (omega (arith, less))
+lane-at (l ∷ ls) zero less = ([], l, ls, refl, refl)
+lane-at (l ∷ ls) (suc m) less = let more = lane-at ls m (omega (arith, less)) in (l ∷ more.0, more.1, more.2, ap (λ us. l ∷ us) more.3, ap suc more.4)
+
 module _ (sys : System) (charts : (p : ℕ) (d : ObjectDef) → object_at sys p ≡ Some d → Chart) (stimuli : List (List Stim)) (budget : ℕ)
     (bounded : (p : ℕ) → IsObject sys p → p ≤ threshold_of sys p) (positive : (p : ℕ) → IsObject sys p → p ≡ 0 → ⊥) where
+  -- a source's lane is at least as long as its front
+  front-long : (a : Side sys charts stimuli budget) (xs : List Placed)
+      → ((before : List (List Item)) (l : List Item) (behind : List (List Item)) → a.sources ≡ before ++ l ∷ behind → IsFront xs (1 + length before) l) → LongFront (length a.sources) xs
+      → LongLane sys charts stimuli budget a
+  front-long a xs fronts (m, less, long) =
+      let at = lane-at a.sources m less in
+      let own = fronts at.0 at.1 at.2 at.3 in
+      let size = ap length own.is ∙ length-append (lane_in xs (1 + length at.0)) own.rest in
+      let moved : spill_free < length (lane_in xs (1 + length at.0)) = subst (λ n. spill_free < length (lane_in xs (1 + n))) (sym at.4) long in
+      (at.0, at.1, at.2, at.3, omega (arith, size, moved))
+
   module _ (a b : Side sys charts stimuli budget) (xs : List Placed) (front : List Item) (i : Item) (la lb : List Item) (k : Reading)
-      (g : Agree sys charts stimuli budget a b xs front (i ∷ la) (i ∷ lb) k) where
+      (g : Agree sys charts stimuli budget a b xs front (i ∷ la) (i ∷ lb) k) (size : length a.sources ≡ length b.sources) where
     abbrev Onward : List Placed → Type 0
     Onward ys = (next : Reading) × Agree sys charts stimuli budget a b ys (front ++ i ∷ []) la lb next
 
+    abbrev Goes : Type 0
+    Goes = (ys : List Placed) × Onward ys
+
+    -- both go on alike, or needn't
     abbrev Further : Type 0
-    Further = (ys : List Placed) × Onward ys
+    Further = Goes ⊎ MayPart sys charts stimuli budget a b
 
     -- no stimulus comes with it
     on-plain : ((n floor : ℕ) → i.body ≡ body.Look n floor → a.has n ≡ b.has n)
         → option_map_or (λ (l : ℕ × ℕ). parts_of_look 1 l.0 a.cuts a.sources) (look_of i.body) [] ≡ []
-        → option_map_or (λ (l : ℕ × ℕ). parts_of_look 1 l.0 b.cuts b.sources) (look_of i.body) [] ≡ [] → Further
+        → option_map_or (λ (l : ℕ × ℕ). parts_of_look 1 l.0 b.cuts b.sources) (look_of i.body) [] ≡ [] → Goes
     on-plain new none_a none_b = (
       xs ++ placed 0 i ∷ [],
       extended sys charts stimuli budget bounded positive a b xs front i la lb k g new (xs ++ placed 0 i ∷ [])
@@ -89,20 +111,7 @@ module _ (sys : System) (charts : (p : ℕ) (d : ObjectDef) → object_at sys p 
         let told_done : records_of a.w 0 0 done ≡ records_of b.w 0 0 done =
         told-on sys charts stimuli budget a.w (lane_in xs (1 + m)) st refl ∙ ap (λ ts. ts ++ told a.w 0 (ceiling_over 0 (lane_in xs (1 + m))) (body.Stim place n) ∷ []) (g.told_so (1 + m) (above-zero m))
         ∙ sym (told-on sys charts stimuli budget b.w (lane_in xs (1 + m)) st refl) in
-        let same = same-part sys charts stimuli budget a b m (up_to_stim sa.more) (up_to_stim sb.more) start done parts_a parts_b told_done in
-        let gs = st ∷ up_to_stim sa.more in
-        let ends : st ∷ up_to_stim sb.more ≡ gs = ap (λ us. st ∷ us) (sym same.0) in
-        let ys = xs ++ placed 0 i ∷ all_placed (1 + m) gs in (
-          ys,
-          extended sys charts stimuli budget bounded positive a b xs front i la lb k g (λ n2 fl e. new n2 fl e) ys
-              (ordered a la g.one sa ∙ sym (append_assoc xs (placed 0 i ∷ all_placed (1 + m) gs) _))
-              (ordered b lb g.two sb ∙ ap (λ us. xs ++ placed 0 i ∷ (all_placed (1 + m) us ++ with_stimuli b.cuts b.sources lb)) ends ∙ sym (append_assoc xs (placed 0 i ∷ all_placed (1 + m) gs) _))
-              (λ before l behind is. front-on sys stimuli (lined sys charts stimuli budget a) xs i n m place sa gs refl before l behind is (g.one.fronts before l behind is))
-              (λ before l behind is. front-on sys stimuli (lined sys charts stimuli budget b) xs i n m place sb gs ends before l behind is (g.two.fronts before l behind is))
-              (λ j some. told-at j some gs
-              (subst (λ l. records_of a.w 0 0 l ≡ records_of b.w 0 0 l) (append_assoc (lane_in xs (1 + m)) (st ∷ []) (up_to_stim sa.more))
-              (same.1 ∙ ap (λ us. records_of b.w 0 0 (done ++ us)) (sym same.0)))),
-        )
+        by (same-part sys charts stimuli budget a b m (up_to_stim sa.more) (up_to_stim sb.more) start done parts_a parts_b told_done)
       where
         look_is : look_of i.body ≡ Some (n, floor)
         look_is = ap (λ (x : Item). look_of x.body) look
@@ -149,6 +158,31 @@ module _ (sys : System) (charts : (p : ℕ) (d : ObjectDef) → object_at sys p 
                 (ap (records_of a.w 0 0) (lane-own xs i m gs) ∙ own ∙ ap (records_of b.w 0 0) (sym (lane-own xs i m gs)))
             by false e = ap (records_of a.w 0 0) (lane-other xs i m gs j some e) ∙ g.told_so j some ∙ ap (records_of b.w 0 0) (sym (lane-other xs i m gs j some e))
 
+        behind : up_to_stim sa.more ≡ up_to_stim sb.more
+            → records_of a.w 0 0 ((lane_in xs (1 + m) ++ stim_item place n ∷ []) ++ up_to_stim sa.more) ≡ records_of b.w 0 0 ((lane_in xs (1 + m) ++ stim_item place n ∷ []) ++ up_to_stim sb.more) → Goes
+        behind rests tells =
+            let st = stim_item place n in
+            let done = lane_in xs (1 + m) ++ st ∷ [] in
+            let gs = st ∷ up_to_stim sa.more in
+            let ends : st ∷ up_to_stim sb.more ≡ gs = ap (λ us. st ∷ us) (sym rests) in
+            let ys = xs ++ placed 0 i ∷ all_placed (1 + m) gs in (
+              ys,
+              extended sys charts stimuli budget bounded positive a b xs front i la lb k g (λ n2 fl e. new n2 fl e) ys
+                  (ordered a la g.one sa ∙ sym (append_assoc xs (placed 0 i ∷ all_placed (1 + m) gs) _))
+                  (ordered b lb g.two sb ∙ ap (λ us. xs ++ placed 0 i ∷ (all_placed (1 + m) us ++ with_stimuli b.cuts b.sources lb)) ends ∙ sym (append_assoc xs (placed 0 i ∷ all_placed (1 + m) gs) _))
+                  (λ before l behind is. front-on sys stimuli (lined sys charts stimuli budget a) xs i n m place sa gs refl before l behind is (g.one.fronts before l behind is))
+                  (λ before l behind is. front-on sys stimuli (lined sys charts stimuli budget b) xs i n m place sb gs ends before l behind is (g.two.fronts before l behind is))
+                  (λ j some. told-at j some gs
+                  (subst (λ l. records_of a.w 0 0 l ≡ records_of b.w 0 0 l) (append_assoc (lane_in xs (1 + m)) (st ∷ []) (up_to_stim sa.more))
+                  (tells ∙ ap (λ us. records_of b.w 0 0 (done ++ us)) (sym rests)))),
+            )
+
+        by : ((up_to_stim sa.more ≡ up_to_stim sb.more)
+            × (records_of a.w 0 0 ((lane_in xs (1 + m) ++ stim_item place n ∷ []) ++ up_to_stim sa.more) ≡ records_of b.w 0 0 ((lane_in xs (1 + m) ++ stim_item place n ∷ []) ++ up_to_stim sb.more)))
+            ⊎ (((a.spilt ≡ true) ⊎ (b.spilt ≡ true)) × LongLane sys charts stimuli budget a) → Further
+        by (inr (spilt, long)) = inr (spilt, inl long)
+        by (inl same) = inl (behind same.0 same.1)
+
     looked-at : (c : Side sys charts stimuli budget) (lc : List Item) (h : Along sys charts stimuli budget c xs front (i ∷ lc) k) (n floor : ℕ) → i ≡ look_item n floor
         → order_of sys charts stimuli budget c ≡ xs ++ placed 0 (look_item n floor) ∷ (option_map_or (λ (l : ℕ × ℕ). parts_of_look 1 l.0 c.cuts c.sources) (look_of i.body) [] ++ with_stimuli c.cuts c.sources lc)
     looked-at c lc h n floor is =
@@ -171,29 +205,61 @@ module _ (sys : System) (charts : (p : ℕ) (d : ObjectDef) → object_at sys p 
         let whole : i ≡ look_item n floor = look-whole (in_sim sys a.has) k _ i n floor (slot sys charts stimuli budget bounded positive a xs front i la k g.one) is in
         by whole (acts_next sys stimuli xs (floor == 0)) refl
       where
+        -- where a look lacks its stimulus
+        lacks-in : (c : Side sys charts stimuli budget) (lc : List Item) (h : Along sys charts stimuli budget c xs front (i ∷ lc) k) → i ≡ look_item n floor → (t : Turn) → acts_next sys stimuli xs (floor == 0) ≡ Some t
+            → turns_at 1 n c.sources ≡ [] → (c.spilt ≡ true) × (Lacking sys charts stimuli budget c ⊎ LongFront (length c.sources) xs)
+        lacks-in c lc h whole t acts turns =
+            let free = freed sys stimuli (lined sys charts stimuli budget c) xs n floor _ (looked-at c lc h n floor whole) h.fronts turns in
+            let order : order_of sys charts stimuli budget c ≡ xs ++ placed 0 (look_item n floor) ∷ with_stimuli c.cuts c.sources lc =
+            looked-at c lc h n floor whole ∙ ap (λ ps. xs ++ placed 0 (look_item n floor) ∷ (ps ++ with_stimuli c.cuts c.sources lc)) (partless c n floor is free.0) in
+            let lacks : is_turn (acts_next sys stimuli xs (floor == 0)) (turns_at 1 n c.sources) ≡ false = (λ j. is_turn (acts j) (turns j)) in
+            let late = c.late xs n floor lc order lacks in
+            (late.0, on order lacks late.1)
+          where
+            on : order_of sys charts stimuli budget c ≡ xs ++ placed 0 (look_item n floor) ∷ with_stimuli c.cuts c.sources lc
+                → is_turn (acts_next sys stimuli xs (floor == 0)) (turns_at 1 n c.sources) ≡ false → (c.halts ≡ true) ⊎ LongFront (length c.sources) xs
+                → Lacking sys charts stimuli budget c ⊎ LongFront (length c.sources) xs
+            on order lacks (inl halts) = inl (record { halts = halts; before = xs; number = n; floor = floor; behind = with_stimuli c.cuts c.sources lc; look = order; lacks = lacks })
+            on order lacks (inr long) = inr long
+
+        both : i ≡ look_item n floor → (t : Turn) → acts_next sys stimuli xs (floor == 0) ≡ Some t
+            → ((m : ℕ) × (1 + m ≡ t.source) × Stimulated sys stimuli (lined sys charts stimuli budget a) xs n m t.place) ⊎ (turns_at 1 n a.sources ≡ [])
+            → ((m : ℕ) × (1 + m ≡ t.source) × Stimulated sys stimuli (lined sys charts stimuli budget b) xs n m t.place) ⊎ (turns_at 1 n b.sources ≡ []) → Further
+        both whole t acts (inl one) (inl two) =
+            let same : two.0 ≡ one.0 = omega (arith, one.1, two.1) in
+            on-stimulus n floor one.0 t.place whole one.2 (subst (λ m. Stimulated sys stimuli (lined sys charts stimuli budget b) xs n m t.place) same two.2)
+        both whole t acts (inr turns) other = by_first (lacks-in a la g.one whole t acts turns)
+          where
+            by_first : (a.spilt ≡ true) × (Lacking sys charts stimuli budget a ⊎ LongFront (length a.sources) xs) → Further
+            by_first (spilt, inl lacking) = inr (inl spilt, inr (inl lacking))
+            by_first (spilt, inr long) = inr (inl spilt, inl (front-long a xs g.one.fronts long))
+        both whole t acts (inl one) (inr turns) = by_second (lacks-in b lb g.two whole t acts turns)
+          where
+            by_second : (b.spilt ≡ true) × (Lacking sys charts stimuli budget b ⊎ LongFront (length b.sources) xs) → Further
+            by_second (spilt, inl lacking) = inr (inr spilt, inr (inr lacking))
+            by_second (spilt, inr (m, less, long)) = inr (inr spilt, inl (front-long a xs g.one.fronts (m, omega (arith, size, less), long)))
+
         by : i ≡ look_item n floor → (t : Option Turn) → acts_next sys stimuli xs (floor == 0) ≡ t → Further
         by whole None acts =
             let one = unstimulated sys stimuli (lined sys charts stimuli budget a) xs n floor _ (looked-at a la g.one n floor whole) g.one.fronts acts in
             let two = unstimulated sys stimuli (lined sys charts stimuli budget b) xs n floor _ (looked-at b lb g.two n floor whole) g.two.fronts acts in
-            on-plain (newly n floor is (one.1 ∙ sym two.1)) (partless a n floor is one.0) (partless b n floor is two.0)
+            inl (on-plain (newly n floor is (one.1 ∙ sym two.1)) (partless a n floor is one.0) (partless b n floor is two.0))
         by whole (Some t) acts =
-            let one = stimulated sys stimuli (lined sys charts stimuli budget a) xs n floor _ (looked-at a la g.one n floor whole) g.one.fronts t acts in
-            let two = stimulated sys stimuli (lined sys charts stimuli budget b) xs n floor _ (looked-at b lb g.two n floor whole) g.two.fronts t acts in
-            let same : two.0 ≡ one.0 = omega (arith, one.1, two.1) in
-            on-stimulus n floor one.0 t.place whole one.2 (subst (λ m. Stimulated sys stimuli (lined sys charts stimuli budget b) xs n m t.place) same two.2)
+            both whole t acts (stimulated sys stimuli (lined sys charts stimuli budget a) xs n floor _ (looked-at a la g.one n floor whole) g.one.fronts t acts)
+            (stimulated sys stimuli (lined sys charts stimuli budget b) xs n floor _ (looked-at b lb g.two n floor whole) g.two.fronts t acts)
 
   -- a record of lane 0 and what comes with it
   goes-on : (a b : Side sys charts stimuli budget) (xs : List Placed) (front : List Item) (i : Item) (la lb : List Item) (k : Reading)
-      (g : Agree sys charts stimuli budget a b xs front (i ∷ la) (i ∷ lb) k) → Further a b xs front i la lb k g
-  goes-on a b xs front i la lb k g = by (look_of i.body) refl
+      (g : Agree sys charts stimuli budget a b xs front (i ∷ la) (i ∷ lb) k) (size : length a.sources ≡ length b.sources) → Further a b xs front i la lb k g size
+  goes-on a b xs front i la lb k g size = by (look_of i.body) refl
     where
-      by : (o : Option (ℕ × ℕ)) → look_of i.body ≡ o → Further a b xs front i la lb k g
+      by : (o : Option (ℕ × ℕ)) → look_of i.body ≡ o → Further a b xs front i la lb k g size
       by None e =
-          on-plain a b xs front i la lb k g
+          inl (on-plain a b xs front i la lb k g size
           (λ n floor is. absurd (let no : None ≡ Some (n, floor) = sym e ∙ ap look_of is in cc))
           (ap (λ (o : Option (ℕ × ℕ)). option_map_or (λ (l : ℕ × ℕ). parts_of_look 1 l.0 a.cuts a.sources) o []) e)
-          (ap (λ (o : Option (ℕ × ℕ)). option_map_or (λ (l : ℕ × ℕ). parts_of_look 1 l.0 b.cuts b.sources) o []) e)
-      by (Some l) e = on-look a b xs front i la lb k g l.0 l.1 (look-body i.body l e)
+          (ap (λ (o : Option (ℕ × ℕ)). option_map_or (λ (l : ℕ × ℕ). parts_of_look 1 l.0 b.cuts b.sources) o []) e))
+      by (Some l) e = on-look a b xs front i la lb k g size l.0 l.1 (look-body i.body l e)
 
   -- a run that has ended isn't one that goes on
   ended-here : (a b : Side sys charts stimuli budget) (xs : List Placed) (front : List Item) (ib : Item) (lb : List Item) (k : Reading)
@@ -235,18 +301,27 @@ module _ (sys : System) (charts : (p : ℕ) (d : ObjectDef) → object_at sys p 
           let no : true ≡ false = sym one ∙ two in
           cc
 
-  -- two runs that have come equally far have the same order
-  pub same-order : (a b : Side sys charts stimuli budget) → HasEnded sys charts stimuli budget a → HasEnded sys charts stimuli budget b → (la lb : List Item) (xs : List Placed) (front : List Item) (k : Reading)
-      → Agree sys charts stimuli budget a b xs front la lb k → order_of sys charts stimuli budget a ≡ order_of sys charts stimuli budget b
+  -- the order of the second is a front of that of the first, or they needn't go on alike
+  abbrev GoesOnBehind : (a b : Side sys charts stimuli budget) → Type 0
+  GoesOnBehind a b = ((zs : List Placed) × (order_of sys charts stimuli budget a ≡ order_of sys charts stimuli budget b ++ zs)) ⊎ MayPart sys charts stimuli budget a b
+
+  -- so it is for a run that has ended, and one that has come equally far
+  pub front-order : (a b : Side sys charts stimuli budget) → HasEnded sys charts stimuli budget a → length a.sources ≡ length b.sources → (la lb : List Item) (xs : List Placed) (front : List Item) (k : Reading)
+      → Agree sys charts stimuli budget a b xs front la lb k → GoesOnBehind a b
   unfolding with_stimuli
-  same-order a b ea eb [] [] xs front k g = g.one.order ∙ sym g.two.order
-  same-order a b ea eb [] (ib ∷ lb) xs front k g = absurd (ended-here a b xs front ib lb k ea g)
-  same-order a b ea eb (ia ∷ la) [] xs front k g =
-      absurd (ended-here b a xs front ia la k eb (swapped sys charts stimuli budget bounded positive a b xs front (ia ∷ la) [] k g))
-  same-order a b ea eb (ia ∷ la) (ib ∷ lb) xs front k g =
+  front-order a b ea size [] [] xs front k g = inl ([], g.one.order ∙ sym g.two.order ∙ sym (append-nil (order_of sys charts stimuli budget b)))
+  front-order a b ea size [] (ib ∷ lb) xs front k g = absurd (ended-here a b xs front ib lb k ea g)
+  front-order a b ea size (ia ∷ la) [] xs front k g =
+      inl (with_stimuli a.cuts a.sources (ia ∷ la), g.one.order ∙ ap (λ us. us ++ with_stimuli a.cuts a.sources (ia ∷ la)) (sym (g.two.order ∙ append-nil xs)))
+  front-order a b ea size (ia ∷ la) (ib ∷ lb) xs front k g =
       let same : ib ≡ ia = sym (same-item sys charts stimuli budget bounded positive a b xs front ia ib la lb k g) in
-      let on = goes-on a b xs front ia la lb k (subst (λ x. Agree sys charts stimuli budget a b xs front (ia ∷ la) (x ∷ lb) k) same g) in
-      same-order a b ea eb la lb on.0 (front ++ ia ∷ []) on.1.0 on.1.1
+      let moved = subst (λ x. Agree sys charts stimuli budget a b xs front (ia ∷ la) (x ∷ lb) k) same g in
+      by ia la lb front k xs moved (goes-on a b xs front ia la lb k moved size) (λ ys next agree. front-order a b ea size la lb ys (front ++ ia ∷ []) next agree)
+    where
+      by : (i : Item) (la lb front : List Item) (k : Reading) (xs : List Placed) (g : Agree sys charts stimuli budget a b xs front (i ∷ la) (i ∷ lb) k) → Further a b xs front i la lb k g size
+          → ((ys : List Placed) (next : Reading) → Agree sys charts stimuli budget a b ys (front ++ i ∷ []) la lb next → GoesOnBehind a b) → GoesOnBehind a b
+      by i la lb front k xs g (inl on) later = later on.0 on.1.0 on.1.1
+      by i la lb front k xs g (inr part) later = inr part
 
   -- they have come equally far at first
   pub agree-first : (a b : Side sys charts stimuli budget) → a.has 0 ≡ b.has 0 → Agree sys charts stimuli budget a b [] [] a.lane0 b.lane0 (unread sys)
@@ -279,23 +354,3 @@ module _ (sys : System) (charts : (p : ℕ) (d : ObjectDef) → object_at sys p 
             tail = λ p e. absurd (cc);
             fronts = λ before l behind is. record { rest = l; is = refl; first = none l (c.source before l behind is).0 c before behind is };
           }
-
-  -- one run to its end
-  to-end : (a : Side sys charts stimuli budget) (la : List Item) (xs : List Placed) (front : List Item) (k : Reading)
-      → Agree sys charts stimuli budget a a xs front la la k → (ys : List Placed) × (all : List Item) × (last : Reading) × Agree sys charts stimuli budget a a ys all [] [] last
-  to-end a [] xs front k g = (xs, front, k, g)
-  to-end a (i ∷ la) xs front k g =
-      let on = goes-on a a xs front i la la k g in to-end a la on.0 (front ++ i ∷ []) on.1.0 on.1.1
-
-  -- a lane of a source stands in the order, and all of it
-  module _ (a : Side sys charts stimuli budget) where
-    pub lane-fronts : (before : List (List Item)) (l : List Item) (behind : List (List Item)) → a.sources ≡ before ++ l ∷ behind → IsFront (order_of sys charts stimuli budget a) (1 + length before) l
-    unfolding with_stimuli
-    lane-fronts before l behind is =
-        let end = to-end a a.lane0 [] [] (unread sys) (agree-first a a refl) in
-        let whole : order_of sys charts stimuli budget a ≡ end.0 = end.3.one.order ∙ append-nil end.0 in
-        subst (λ xs. IsFront xs (1 + length before) l) (sym whole) (end.3.one.fronts before l behind is)
-
-    -- each source's lane stands in the order, all of it
-    pub lane-whole : (before : List (List Item)) (l : List Item) (behind : List (List Item)) → a.sources ≡ before ++ l ∷ behind → l ≡ lane_in (order_of sys charts stimuli budget a) (1 + length before)
-    lane-whole before l behind is = whole-lane sys stimuli (lined sys charts stimuli budget a) before l behind is (lane-fronts before l behind is)

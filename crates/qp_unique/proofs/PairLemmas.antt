@@ -3,6 +3,7 @@ use Rattle.std.proofs.Common.{◌≡◌, ◌∙◌, ℕ, ◌+◌, ◌<◌, ◌�
 use Rattle.std.proofs.lemmas.Bool.{ne_eqb}
 use Rattle.std.proofs.lemmas.Bool.Decides.{nat_tests}
 use Rattle.std.specs.declared.option.Option.{Option}
+use Rattle.std.specs.Option.{unwrap_or}
 use Rattle.std.specs.List.{count_by, AllByRecursion}
 use Rattle.qp_chart.specs.declared.checked.Chart.{Chart}
 use Rattle.qp_model.specs.declared.stimulus.Stim.{Stim}
@@ -21,7 +22,7 @@ use Rattle.qp_model.specs.Sites.{object_at}
 use Rattle.qp_model.specs.Line.{Line, counts_are}
 use Rattle.qp_model.specs.Pieces.{Piece, Tell, Point, ends_at_point}
 use Rattle.qp_model.specs.Course.{actor, first_config}
-use Rattle.qp_model.specs.KernelLane.{Drops, Looks, role_of, Setting, threshold_of, floor_in, Upcoming, Inside, Looking, Chosen, Ended, Resting, Again, Over, Halted, Reading, unread}
+use Rattle.qp_model.specs.KernelLane.{Drops, Looks, role_of, Setting, threshold_of, floor_in, Upcoming, Inside, Looking, Chosen, Ended, Resting, Again, Over, Halted, Reading, lane_next, unread}
 use Rattle.qp_model.specs.Points.{pieces_at, pieces_in, begins_row}
 use Rattle.qp_model.specs.OneOrder.{Placed}
 use Rattle.qp_course.specs.Machine.{State, start_state, run, next as piece_next, tell_next}
@@ -34,7 +35,7 @@ use Rattle.qp_unique.proofs.StackLemmas.{IsObject, Below, Descends, PlaceStacked
 use Rattle.qp_unique.proofs.AwayLemmas.{away-pieces, BeginsTook, MustRelease, must-release}
 use Rattle.qp_unique.proofs.StepLemmas.{starts-only, runs-only, ended-only, look-only, seen-only, chosen-only, rest-only, over-none, LookHere}
 use Rattle.qp_unique.proofs.ItemLemmas.{run-first, named, step, unspilt-here, slot, order-here, comes-here, course-here, own-unmarked, told-next}
-use Rattle.qp_unique.proofs.Sides.{Side, Agree, in_sim, order_of, held_to, MayEnd}
+use Rattle.qp_unique.proofs.Sides.{Side, Agree, EndsOwn, in_sim, order_of, held_to, MayEnd}
 use Rattle.qp_model.proofs.AbleLemmas.{some-same}
 
 -- a look behind the release of p leaves p with no step under way
@@ -63,6 +64,49 @@ tell-is e = cc
 abbrev run_of : System → ObjectDef → Chart → List Piece → Option State
 run_of sys d chart ps = run sys (actor d chart) (start_state (actor d chart) (first_config d)) ps
 
+-- nothing goes on by an entry taken where a release is to come
+left-took : (sys : System) (d : ObjectDef) (chart : Chart) (w : Facts) (s : Setting) (one two end : State) (p : ℕ) (some : p ≡ 0 → ⊥) (more : List Piece)
+    → MustRelease sys (actor d chart) one → two ≡ one → run sys (actor d chart) two more ≡ Some end
+    → ((c f l m : ℕ) × (e : Entry) × (rest : List Piece) × (more ≡ Tell (told w p c (body.Took f l m e)) ∷ rest)) → ⊥
+unfolding run told piece_next
+left-took sys d chart w s one two end p some more must same went (c, f, l, m, e, rest, took) =
+    let moved = subst (λ ps. run sys (actor d chart) two ps ≡ Some end) took went in
+    let later = run-first sys (actor d chart) two end (Tell (told w p c (body.Took f l m e))) rest moved in
+    let next : tell_next sys (actor d chart) one (told w p c (body.Took f l m e)) ≡ Some later.0 =
+    subst (λ z. tell_next sys (actor d chart) z (told w p c (body.Took f l m e)) ≡ Some later.0) same later.1 in
+    let no : None ≡ Some later.0 = sym (must.untaken f l m e (known_of w p c (body.Took f l m e))) ∙ next in
+    cc
+
+-- a list that ends with a record of p has a piece of it
+own-last : (w : Facts) (s : Setting) (p : ℕ) (i : Item) → i.of ≡ p → is_turn_mark i.body ≡ false → (us : List Item) (k : Reading) → pieces_in w s p k (us ++ i ∷ []) ≡ [] → ⊥
+unfolding pieces_in pieces_at
+own-last w s p i own unmarked [] k none =
+    let self : (i.of == p) ≡ true = grind (arith, nat_tests) in
+    let first : pieces_at w p k i ≡ Tell (told w p k.ceiling i.body) ∷ [] = rw (self, unmarked) refl in
+    let no : Tell (told w p k.ceiling i.body) ∷ [] ≡ [] = ap (λ ps. ps ++ []) (sym first) ∙ none in
+    cc
+own-last w s p i own unmarked (u ∷ us) k none =
+    own-last w s p i own unmarked us (unwrap_or (lane_next s k u) k) (behind-none (pieces_at w p k u) (pieces_in w s p (unwrap_or (lane_next s k u) k) (us ++ i ∷ [])) none)
+  where
+    behind-none : (ps qs : List Piece) → ps ++ qs ≡ [] → qs ≡ []
+    behind-none [] qs h = h
+    behind-none (p ∷ ps) qs h = absurd (cc)
+
+-- a record of no object isn't the last of p
+ends-behind : (p : ℕ) → (p ≡ 0 → ⊥) → (front : List Item) (ib : Item) (lb : List Item) → ib.of ≡ 0 → (us : List Item) (i : Item) → front ++ ib ∷ lb ≡ us ++ i ∷ [] → i.of ≡ p
+    → (vs : List Item) × (lb ≡ vs ++ i ∷ [])
+ends-behind p some [] ib [] of [] i is own = let same : ib ≡ i = cc in absurd (some (sym own ∙ ap (λ (x : Item). x.of) (sym same) ∙ of))
+ends-behind p some [] ib (l ∷ lb) of [] i is own = absurd (cc)
+ends-behind p some [] ib lb of (u ∷ us) i is own = (us, cc)
+ends-behind p some (f ∷ front) ib lb of [] i is own = absurd (let rest : front ++ ib ∷ lb ≡ [] = cc in none front rest)
+  where
+    none : (xs : List Item) → xs ++ ib ∷ lb ≡ [] → ⊥
+    none [] h = cc
+    none (x ∷ xs) h = cc
+ends-behind p some (f ∷ front) ib lb of (u ∷ us) i is own =
+    let rest : front ++ ib ∷ lb ≡ us ++ i ∷ [] = cc in
+    ends-behind p some front ib lb of us i rest own
+
 -- no list ends where a release is to come, or goes on by an entry taken
 left : (sys : System) (d : ObjectDef) (chart : Chart) (w : Facts) (s : Setting) (one two end : State) (p : ℕ) (some : p ≡ 0 → ⊥) (before more : List Piece)
     → MustRelease sys (actor d chart) one → two ≡ one → run sys (actor d chart) two more ≡ Some end → MayEnd (ends_at_point (before ++ more)) end
@@ -79,13 +123,7 @@ left sys d chart w s one two end p some before more must same went may tail (inl
     by (inl e) = let no : true ≡ false = sym e ∙ must.unended in cc
     by (inr (inl e)) = let no : true ≡ false = sym e ∙ must.unpointed in cc
     by (inr (inr e)) = let no : true ≡ false = sym e ∙ tail in cc
-left sys d chart w s one two end p some before more must same went may tail (inr (c, f, l, m, e, rest, took)) =
-    let moved = subst (λ ps. run sys (actor d chart) two ps ≡ Some end) took went in
-    let later = run-first sys (actor d chart) two end (Tell (told w p c (body.Took f l m e))) rest moved in
-    let next : tell_next sys (actor d chart) one (told w p c (body.Took f l m e)) ≡ Some later.0 =
-    subst (λ z. tell_next sys (actor d chart) z (told w p c (body.Took f l m e)) ≡ Some later.0) same later.1 in
-    let no : None ≡ Some later.0 = sym (must.untaken f l m e (known_of w p c (body.Took f l m e))) ∙ next in
-    cc
+left sys d chart w s one two end p some before more must same went may tail (inr took) = left-took sys d chart w s one two end p some more must same went took
 
 -- a record by another name for it
 order-as : (sys : System) (charts : (p : ℕ) (d : ObjectDef) → object_at sys p ≡ Some d → Chart) (stimuli : List (List Stim)) (budget : ℕ) (c : Side sys charts stimuli budget)
@@ -161,9 +199,18 @@ module _ (sys : System) (charts : (p : ℕ) (d : ObjectDef) → object_at sys p 
         let more = away-pieces b.w (in_sim sys b.has) p (positive p its) refl lb there.0 b.last away
         (unspilt-here sys charts stimuli budget bounded positive b xs front ib lb k g.two).1 there.2 in
         let went = subst (λ ps. run sys (actor d.0 (charts p d.0 d.1)) two.0 (ps ++ pieces_in b.w (in_sim sys b.has) p there.0 lb) ≡ Some two.1) none two.3 in
-        let may = subst (λ ps. MayEnd (ends_at_point (pieces_in b.w (in_sim sys b.has) p (unread sys) front ++ (ps ++ pieces_in b.w (in_sim sys b.has) p there.0 lb))) two.1) none two.4 in
-        left sys d.0 (charts p d.0 d.1) b.w (in_sim sys b.has) one.0 two.0 two.1 p (positive p its) (pieces_in b.w (in_sim sys b.has) p (unread sys) front) (pieces_in b.w (in_sim sys b.has) p there.0 lb)
-        must same went may (g.two.tail p at) more
+        let may = subst (λ ps. MayEnd (ends_at_point (pieces_in b.w (in_sim sys b.has) p (unread sys) front ++ (ps ++ pieces_in b.w (in_sim sys b.has) p there.0 lb))) two.1 ⊎ EndsOwn p b.lane0) none two.4 in
+        by d.0 d.1 must same went more may there.0 refl
+      where
+        by : (d : ObjectDef) (is : object_at sys p ≡ Some d) {one two end : State} → MustRelease sys (actor d (charts p d is)) one → two ≡ one
+            → {more : List Piece} → run sys (actor d (charts p d is)) two more ≡ Some end → BeginsTook b.w (in_sim sys b.has) p (positive p its) more
+            → (MayEnd (ends_at_point (pieces_in b.w (in_sim sys b.has) p (unread sys) front ++ more)) end ⊎ EndsOwn p b.lane0) → (next : Reading) → more ≡ pieces_in b.w (in_sim sys b.has) p next lb → ⊥
+        by d is {one} {two} {end} must same {more} went took (inl may) next are =
+            left sys d (charts p d is) b.w (in_sim sys b.has) one two end p (positive p its) (pieces_in b.w (in_sim sys b.has) p (unread sys) front) more must same went may (g.two.tail p at) took
+        by d is {one} {two} {end} must same {more} went (inr took) (inr last) next are = left-took sys d (charts p d is) b.w (in_sim sys b.has) one two end p (positive p its) more must same went took
+        by d is {one} {two} {end} must same {more} went (inl none) (inr (us, i, split, own, unmarked)) next are =
+            let behind = ends-behind p (positive p its) front ib lb (ap (λ (x : Item). x.of) look) us i (sym g.two.lane ∙ split) own in
+            own-last b.w (in_sim sys b.has) p i own unmarked behind.0 next (ap (pieces_in b.w (in_sim sys b.has) p next) (sym behind.1) ∙ sym are ∙ none)
 
     -- both see the queue of p as it is
     seen-same : (p f l m f2 l2 m2 : ℕ) → ia ≡ record { of = 0; body = body.Seen p f l m } → ib ≡ record { of = 0; body = body.Seen p f2 l2 m2 } → ia ≡ ib

@@ -1,6 +1,6 @@
 -- Two runs that have come equally far go on by the same records of a stimulus.
-use Rattle.std.proofs.Common.{◌≡◌, ◌∙◌, ℕ, ◌+◌, ◌==◌, Bool, true, false, cond, List, [], ◌∷◌, ◌++◌, length, get_or, Some, None, refl, sym, ap, subst, arith, append-nil}
-use Rattle.std.proofs.lemmas.List.{append_assoc}
+use Rattle.std.proofs.Common.{◌≡◌, ◌∙◌, ◌⊎◌, inl, inr, ℕ, ◌+◌, ◌<◌, ◌==◌, Bool, true, false, cond, List, [], ◌∷◌, ◌++◌, length, get_or, Some, None, refl, sym, ap, subst, arith, append-nil}
+use Rattle.std.proofs.lemmas.List.{append_assoc, length-append}
 use Rattle.std.specs.declared.option.Option.{Option}
 use Rattle.std.specs.Option.{is_some}
 use Rattle.std.specs.List.{list_all}
@@ -15,7 +15,7 @@ use Rattle.qp_model.specs.Told.{Told}
 use Rattle.qp_model.specs.Knowing.{Facts, told, records_of, ceiling_over}
 use Rattle.qp_model.specs.Kernels.{sim}
 use Rattle.qp_model.specs.Sites.{object_at}
-use Rattle.qp_model.specs.Sources.{SourceEnd, InStimulus}
+use Rattle.qp_model.specs.Sources.{SourceEnd, AllDone, BeforeStimulus, AfterTry, AtAssert, InStimulus}
 use Rattle.qp_model.specs.OneOrder.{Placed, stim_of}
 use Rattle.qp_model.proofs.KnowingLemmas.{records_of-append}
 use Rattle.qp_sources.specs.Underway.{Underway, underway_next}
@@ -24,12 +24,13 @@ use Rattle.qp_orders.specs.RunOrder.{placed}
 use Rattle.qp_orders.specs.Placing.{all_placed}
 use Rattle.qp_unique.specs.Held.{Comes}
 use Rattle.qp_unique.specs.NextInSource.{underway_told}
+use Rattle.qp_unique.specs.Tidy.{spill_free}
 use Rattle.qp_unique.proofs.KernelLemmas.{item-is}
 use Rattle.qp_unique.proofs.LookLemmas.{begins, begun_in, StimFirst}
 use Rattle.qp_unique.proofs.AwayLemmas.{done-none}
 use Rattle.qp_unique.proofs.StimulusLemmas.{stimulus_goes_on_alone}
 use Rattle.qp_unique.proofs.SourceSteps.{stim-read, other-read, after-split, after-first, alone, alone-at, record-first, stim-some, stops-none}
-use Rattle.qp_unique.proofs.Sides.{Side, order_of, held_to}
+use Rattle.qp_unique.proofs.Sides.{Side, LongLane, order_of, held_to}
 use Rattle.qp_model.proofs.AbleLemmas.{some-same}
 
 pub no-stim : (b : Body) → is_some (stim_of b) ≡ false → stim_of b ≡ None
@@ -95,22 +96,31 @@ module _ (sys : System) (charts : (p : ℕ) (d : ObjectDef) → object_at sys p 
         (at.0, next.0, at.2, next.1, own.0, subst (λ o. Comes sys (held_to sys (ceiling_over 0 done) xs) o (told a.w o (ceiling_over 0 done) y.body)) own.0 comes)
 
     -- where nothing is left, the stimulus goes on by nothing
-    pub part-ends : (h : Part a xs n done []) (u : Underway) (k : ℕ) (left : List Stim) (t : Told) → read_of a n done (Within u k left) → underway_next sys sim u t ≡ None
+    pub part-ends : (h : Part a xs n done []) (u : Underway) (k : ℕ) (left : List Stim) (t : Told) → read_of a n done (Within u k left)
+        → (underway_next sys sim u t ≡ None) ⊎ ((a.spilt ≡ true) × (spill_free < length done))
     unfolding source_after records_of
     part-ends h u k left t read = by h.more h.first (a.source h.before h.lane h.behind h.are) h.is
       where
         by : (more : List Item) → StimFirst more
             → (list_all (λ i. i.of == 0) h.lane ≡ true) × (end : SourceState) × (stop : SourceEnd)
             × (source_after sys sim (Some (Between 1 (get_or stimuli (length h.before) []))) (records_of a.w 0 0 h.lane) ≡ Some end)
-            × (source_stops sim end stop ≡ true) × (stop ≡ InStimulus → ⊥)
-            → h.lane ≡ done ++ ([] ++ more) → underway_next sys sim u t ≡ None
+            × (source_stops sim end stop ≡ true) × (stop ≡ InStimulus → (a.spilt ≡ true) × (spill_free < length h.lane))
+            → h.lane ≡ done ++ ([] ++ more) → (underway_next sys sim u t ≡ None) ⊎ ((a.spilt ≡ true) × (spill_free < length done))
         by [] first (own, end, stop, reads, stops, not) is =
             let whole : h.lane ≡ done = is ∙ append-nil done in
             let one : source_after sys sim (Some (first_of n)) (records_of a.w 0 0 done) ≡ Some end =
             subst (λ l. source_after sys sim (Some (first_of n)) (records_of a.w 0 0 l) ≡ Some end) whole
             (subst (λ m. source_after sys sim (Some (first_of m)) (records_of a.w 0 0 h.lane) ≡ Some end) h.at reads) in
             let same : end ≡ Within u k left = some-same (sym one ∙ read) in
-            stops-none sys u k left stop t (subst (λ s. source_stops sim s stop ≡ true) same stops) not
+            on stop (subst (λ s. source_stops sim s stop ≡ true) same stops) (λ e. let at = not e in (at.0, subst (λ l. spill_free < length l) whole at.1))
+          where
+            on : (stop : SourceEnd) → source_stops sim (Within u k left) stop ≡ true → (stop ≡ InStimulus → (a.spilt ≡ true) × (spill_free < length done))
+                → (underway_next sys sim u t ≡ None) ⊎ ((a.spilt ≡ true) × (spill_free < length done))
+            on InStimulus stops spilt = inr (spilt refl)
+            on AllDone stops spilt = inl (stops-none sys u k left AllDone t stops (λ e. cc))
+            on BeforeStimulus stops spilt = inl (stops-none sys u k left BeforeStimulus t stops (λ e. cc))
+            on AfterTry stops spilt = inl (stops-none sys u k left AfterTry t stops (λ e. cc))
+            on AtAssert stops spilt = inl (stops-none sys u k left AtAssert t stops (λ e. cc))
         by (z ∷ zs) first (own, end, stop, reads, stops, not) is =
             let alone_z = alone-at done z zs (subst alone is own) in
             let one : source_after sys sim (Some (first_of n)) (records_of a.w 0 0 (done ++ z ∷ zs)) ≡ Some end =
@@ -125,7 +135,7 @@ module _ (sys : System) (charts : (p : ℕ) (d : ObjectDef) → object_at sys p 
             let goes : source_next sys sim split.0 (told a.w 0 (ceiling_over 0 done) (body.Stim stim.0 stim.1)) ≡ Some next.0 =
             subst (λ d. source_next sys sim split.0 (told a.w 0 (ceiling_over 0 done) d) ≡ Some next.0) stim.2 next.1 in
             let after = stim-read sys a.w (ceiling_over 0 done) split.0 next.0 stim.0 stim.1 goes in
-            done-none sys sim u t (after.4 u k left same)
+            inl (done-none sys sim u t (after.4 u k left same))
 
     -- one record on
     pub part-on : (y : Item) (rest : List Item) → Part a xs n done (y ∷ rest) → Part a (xs ++ placed (1 + n) y ∷ []) n (done ++ y ∷ []) rest
@@ -149,17 +159,20 @@ module _ (sys : System) (charts : (p : ℕ) (d : ObjectDef) → object_at sys p 
   unfolding records_of
   told-on w done y of = records_of-append w 0 0 done (y ∷ []) ∙ ap (λ ts. records_of w 0 0 done ++ ts) (record-first w (ceiling_over 0 done) y [] of)
 
-  -- one run doesn't end a stimulus where the other goes on
+  -- one run doesn't end a stimulus where the other goes on, but by a `spill`
   only-one-ends : (a b : Side sys charts stimuli budget) (n : ℕ) (z : Item) (rb : List Item) (xs : List Placed) (done : List Item) → Part a xs n done [] → Part b xs n done (z ∷ rb)
-      → records_of a.w 0 0 done ≡ records_of b.w 0 0 done → ⊥
+      → records_of a.w 0 0 done ≡ records_of b.w 0 0 done → (a.spilt ≡ true) × (spill_free < length done)
   only-one-ends a b n z rb xs done ha hb told_so =
       let nb = part-next b xs n done z rb hb in
       let other = other-read sys b.w (ceiling_over 0 done) nb.0 nb.1 z.body (no-stim z.body (no-first z rb hb.plain).0) nb.3 in
       let read : read_of a n done (Within other.0 other.2 other.3) =
       ap (λ ts. source_after sys sim (Some (first_of n)) ts) told_so ∙ nb.2 ∙ ap Some other.4 in
-      let none = part-ends a xs n done ha other.0 other.2 other.3 (told b.w 0 (ceiling_over 0 done) z.body) read in
-      let no : None ≡ Some other.1 = sym none ∙ other.5 in
-      cc
+      by other.0 other.1 other.5 (part-ends a xs n done ha other.0 other.2 other.3 (told b.w 0 (ceiling_over 0 done) z.body) read)
+    where
+      by : (u next : Underway) → underway_next sys sim u (told b.w 0 (ceiling_over 0 done) z.body) ≡ Some next
+          → (underway_next sys sim u (told b.w 0 (ceiling_over 0 done) z.body) ≡ None) ⊎ ((a.spilt ≡ true) × (spill_free < length done)) → (a.spilt ≡ true) × (spill_free < length done)
+      by u next on (inl none) = absurd (let no : None ≡ Some next = sym none ∙ on in cc)
+      by u next on (inr spilt) = spilt
 
   -- both go on by the same record
   same-first : (a b : Side sys charts stimuli budget) (n : ℕ) (y z : Item) (ra rb : List Item) (xs : List Placed) (done : List Item) → Part a xs n done (y ∷ ra) → Part b xs n done (z ∷ rb)
@@ -187,22 +200,39 @@ module _ (sys : System) (charts : (p : ℕ) (d : ObjectDef) → object_at sys p 
       under : {u v : Underway} {j k : ℕ} {ls ms : List Stim} → Within u j ls ≡ Within v k ms → u ≡ v
       under e = cc
 
-  -- the rests are the same
+  -- a stimulus of the first run goes on behind as many records as are free of a `spill`
+  long-part : (a : Side sys charts stimuli budget) (xs : List Placed) (n : ℕ) (done rest : List Item) → Part a xs n done rest → spill_free < length done → LongLane sys charts stimuli budget a
+  long-part a xs n done rest h long =
+      let size = ap length h.is ∙ length-append done (rest ++ h.more) in
+      (h.before, h.lane, h.behind, h.are, omega (arith, long, size))
+
+  -- the rests are the same, but where a lane ended with a `spill`
   pub same-part : (a b : Side sys charts stimuli budget) (n : ℕ) (ra rb : List Item) (xs : List Placed) (done : List Item) → Part a xs n done ra → Part b xs n done rb
       → records_of a.w 0 0 done ≡ records_of b.w 0 0 done
-      → (ra ≡ rb) × (records_of a.w 0 0 (done ++ ra) ≡ records_of b.w 0 0 (done ++ rb))
-  same-part a b n [] [] xs done ha hb told_so = (refl, subst (λ l. records_of a.w 0 0 l ≡ records_of b.w 0 0 l) (sym (append-nil done)) told_so)
-  same-part a b n [] (z ∷ rb) xs done ha hb told_so = absurd (only-one-ends a b n z rb xs done ha hb told_so)
-  same-part a b n (y ∷ ra) [] xs done ha hb told_so = absurd (only-one-ends b a n y ra xs done hb ha (sym told_so))
+      → ((ra ≡ rb) × (records_of a.w 0 0 (done ++ ra) ≡ records_of b.w 0 0 (done ++ rb))) ⊎ (((a.spilt ≡ true) ⊎ (b.spilt ≡ true)) × LongLane sys charts stimuli budget a)
+  same-part a b n [] [] xs done ha hb told_so = inl (refl, subst (λ l. records_of a.w 0 0 l ≡ records_of b.w 0 0 l) (sym (append-nil done)) told_so)
+  same-part a b n [] (z ∷ rb) xs done ha hb told_so =
+      let ends = only-one-ends a b n z rb xs done ha hb told_so in
+      inr (inl ends.0, long-part a xs n done [] ha ends.1)
+  same-part a b n (y ∷ ra) [] xs done ha hb told_so =
+      let ends = only-one-ends b a n y ra xs done hb ha (sym told_so) in
+      inr (inr ends.0, long-part a xs n done (y ∷ ra) ha ends.1)
   same-part a b n (y ∷ ra) (z ∷ rb) xs done ha hb told_so =
       let same = same-first a b n y z ra rb xs done ha hb told_so in
       let hb2 : Part b xs n done (y ∷ rb) = subst (λ x. Part b xs n done (x ∷ rb)) (sym same.0) hb in
-      let more = same-part a b n ra rb (xs ++ placed (1 + n) y ∷ []) (done ++ y ∷ []) (part-on a xs n done y ra ha) (part-on b xs n done y rb hb2)
-      (told-on a.w done y same.1 ∙ ap (λ t. records_of a.w 0 0 done ++ t ∷ []) same.2 ∙ ap (λ ts. ts ++ told b.w 0 (ceiling_over 0 done) y.body ∷ []) told_so ∙ sym (told-on b.w done y same.1)) in
-      let rests : ra ≡ rb = more.0 in
-      let whole : y ∷ ra ≡ z ∷ rb = ap (λ us. y ∷ us) rests ∙ ap (λ x. x ∷ rb) same.0 in (
-        whole,
-        subst (λ l. records_of a.w 0 0 l ≡ records_of b.w 0 0 (done ++ y ∷ rb)) (append_assoc done (y ∷ []) ra)
-            (subst (λ l. records_of a.w 0 0 ((done ++ y ∷ []) ++ ra) ≡ records_of b.w 0 0 l) (append_assoc done (y ∷ []) rb) more.1)
-            ∙ ap (λ x. records_of b.w 0 0 (done ++ x ∷ rb)) same.0,
-      )
+      by same (same-part a b n ra rb (xs ++ placed (1 + n) y ∷ []) (done ++ y ∷ []) (part-on a xs n done y ra ha) (part-on b xs n done y rb hb2)
+      (told-on a.w done y same.1 ∙ ap (λ t. records_of a.w 0 0 done ++ t ∷ []) same.2 ∙ ap (λ ts. ts ++ told b.w 0 (ceiling_over 0 done) y.body ∷ []) told_so ∙ sym (told-on b.w done y same.1)))
+    where
+      by : (y ≡ z) × (y.of ≡ 0) × (told a.w 0 (ceiling_over 0 done) y.body ≡ told b.w 0 (ceiling_over 0 done) y.body)
+          → ((ra ≡ rb) × (records_of a.w 0 0 ((done ++ y ∷ []) ++ ra) ≡ records_of b.w 0 0 ((done ++ y ∷ []) ++ rb))) ⊎ (((a.spilt ≡ true) ⊎ (b.spilt ≡ true)) × LongLane sys charts stimuli budget a)
+          → ((y ∷ ra ≡ z ∷ rb) × (records_of a.w 0 0 (done ++ y ∷ ra) ≡ records_of b.w 0 0 (done ++ z ∷ rb))) ⊎ (((a.spilt ≡ true) ⊎ (b.spilt ≡ true)) × LongLane sys charts stimuli budget a)
+      by same (inr over) = inr over
+      by same (inl more) =
+          let rests : ra ≡ rb = more.0 in
+          let whole : y ∷ ra ≡ z ∷ rb = ap (λ us. y ∷ us) rests ∙ ap (λ x. x ∷ rb) same.0 in
+          inl (
+            whole,
+            subst (λ l. records_of a.w 0 0 l ≡ records_of b.w 0 0 (done ++ y ∷ rb)) (append_assoc done (y ∷ []) ra)
+                (subst (λ l. records_of a.w 0 0 ((done ++ y ∷ []) ++ ra) ≡ records_of b.w 0 0 l) (append_assoc done (y ∷ []) rb) more.1)
+                ∙ ap (λ x. records_of b.w 0 0 (done ++ x ∷ rb)) same.0,
+          )

@@ -1,5 +1,5 @@
 -- The lanes of sources in the order of a run with one thread.
-use Rattle.std.proofs.Common.{◌≡◌, ◌∙◌, ℕ, suc, ◌+◌, ◌==◌, Bool, true, false, ◌&&◌, ◌||◌, cond, List, [], ◌∷◌, ◌++◌, map, length, get_or, Some, None, refl, sym, ap, subst, arith, append-nil}
+use Rattle.std.proofs.Common.{◌≡◌, ◌∙◌, ◌⊎◌, inl, inr, ℕ, suc, ◌+◌, ◌==◌, Bool, true, false, ◌&&◌, ◌||◌, cond, List, [], ◌∷◌, ◌++◌, map, length, get_or, Some, None, refl, sym, ap, subst, arith, append-nil}
 use Rattle.std.proofs.lemmas.Bool.{ne_eqb}
 use Rattle.std.proofs.lemmas.Bool.Decides.{nat_tests}
 use Rattle.std.proofs.lemmas.List.{append_assoc}
@@ -154,16 +154,22 @@ module _ (sys : System) (stimuli : List (List Stim)) where
   module _ (a : Lined sys stimuli) (xs : List Placed) (n : ℕ) (floor : ℕ) (ys : List Placed)
       (order : lined_order sys stimuli a ≡ xs ++ placed 0 (look_item n floor) ∷ ys)
       (fronts : (before : List (List Item)) (l : List Item) (behind : List (List Item)) → a.sources ≡ before ++ l ∷ behind → IsFront xs (1 + length before) l) where
+    -- no source's lane has a stimulus there
+    pub freed : turns_at 1 n a.sources ≡ [] → (parts_of_look 1 n a.cuts a.sources ≡ []) × (a.has n ≡ false)
+    freed turns = (look-free n a.cuts a.sources turns, a.has_is n ∙ turnless 1 n a.sources turns)
+
     -- no source acts
     pub unstimulated : acts_next sys stimuli xs (floor == 0) ≡ None → (parts_of_look 1 n a.cuts a.sources ≡ []) × (a.has n ≡ false)
-    unstimulated none =
-        let turns : turns_at 1 n a.sources ≡ [] = turns-none _ (subst (λ t. is_turn t (turns_at 1 n a.sources) ≡ true) none (a.turn xs n floor ys order)) in
-        (look-free n a.cuts a.sources turns, a.has_is n ∙ turnless 1 n a.sources turns)
+    unstimulated none = freed (by (a.turn xs n floor ys order))
+      where
+        by : (is_turn (acts_next sys stimuli xs (floor == 0)) (turns_at 1 n a.sources) ≡ true) ⊎ (turns_at 1 n a.sources ≡ []) → turns_at 1 n a.sources ≡ []
+        by (inl right) = turns-none _ (subst (λ t. is_turn t (turns_at 1 n a.sources) ≡ true) none right)
+        by (inr free) = free
 
-    -- a source acts
-    pub stimulated : (t : Turn) → acts_next sys stimuli xs (floor == 0) ≡ Some t → (m : ℕ) × (1 + m ≡ t.source) × Stimulated a xs n m t.place
-    stimulated t acts =
-        let turns = turns-one t (turns_at 1 n a.sources) (subst (λ z. is_turn z (turns_at 1 n a.sources) ≡ true) acts (a.turn xs n floor ys order)) in
+    acted : (t : Turn) → acts_next sys stimuli xs (floor == 0) ≡ Some t → is_turn (acts_next sys stimuli xs (floor == 0)) (turns_at 1 n a.sources) ≡ true
+        → (m : ℕ) × (1 + m ≡ t.source) × Stimulated a xs n m t.place
+    acted t acts right =
+        let turns = turns-one t (turns_at 1 n a.sources) (subst (λ z. is_turn z (turns_at 1 n a.sources) ≡ true) acts right) in
         let one = one-turn 1 n a.sources turns.0 turns.1 in
         let it = one.its in
         let m = length one.front in
@@ -207,6 +213,15 @@ module _ (sys : System) (stimuli : List (List Stim)) where
                 ∙ any-lane n one.front one.own one.back (ap (list_any (λ i. is_stim_at n i.body)) it.is ∙ stim-any n it.before it.stim it.behind turns.0.place it.begins_it);
           },
         )
+
+    -- a source acts, or its stimulus is lacking
+    pub stimulated : (t : Turn) → acts_next sys stimuli xs (floor == 0) ≡ Some t → ((m : ℕ) × (1 + m ≡ t.source) × Stimulated a xs n m t.place) ⊎ (turns_at 1 n a.sources ≡ [])
+    stimulated t acts = by (a.turn xs n floor ys order)
+      where
+        by : (is_turn (acts_next sys stimuli xs (floor == 0)) (turns_at 1 n a.sources) ≡ true) ⊎ (turns_at 1 n a.sources ≡ [])
+            → ((m : ℕ) × (1 + m ≡ t.source) × Stimulated a xs n m t.place) ⊎ (turns_at 1 n a.sources ≡ [])
+        by (inl right) = inl (acted t acts right)
+        by (inr free) = inr free
 
   module _ (a : Lined sys stimuli) (xs : List Placed) (i : Item) where
     -- the fronts of the lanes behind a record of lane 0 alone
@@ -271,15 +286,23 @@ module _ (sys : System) (stimuli : List (List Stim)) where
         let some : has_stim a.sources n ≡ true = ap (λ ls. has_stim ls n) is ∙ any-lane n before l behind here in
         by n look.1 xs _ order stim.0 stim.2 here some (acts_next sys stimuli xs (look.1 == 0)) refl
       where
+        right : (n floor : ℕ) (xs ys : List Placed) → lined_order sys stimuli a ≡ xs ++ placed 0 (look_item n floor) ∷ ys → has_stim a.sources n ≡ true
+            → is_turn (acts_next sys stimuli xs (floor == 0)) (turns_at 1 n a.sources) ≡ true
+        right n floor xs ys order some = on (a.turn xs n floor ys order)
+          where
+            on : (is_turn (acts_next sys stimuli xs (floor == 0)) (turns_at 1 n a.sources) ≡ true) ⊎ (turns_at 1 n a.sources ≡ []) → is_turn (acts_next sys stimuli xs (floor == 0)) (turns_at 1 n a.sources) ≡ true
+            on (inl h) = h
+            on (inr free) = absurd (let no : true ≡ false = sym some ∙ turnless 1 n a.sources free in cc)
+
         by : (n floor : ℕ) (xs ys : List Placed) → lined_order sys stimuli a ≡ xs ++ placed 0 (look_item n floor) ∷ (parts_of_look 1 n a.cuts a.sources ++ ys)
             → (p : ℕ) → st.body ≡ body.Stim p n → list_any (λ i. is_stim_at n i.body) l ≡ true → has_stim a.sources n ≡ true
             → (t : Option Turn) → acts_next sys stimuli xs (floor == 0) ≡ t → ⊥
         by n floor xs ys order p stim here some None acts =
-            let turns : turns_at 1 n a.sources ≡ [] = turns-none _ (subst (λ t. is_turn t (turns_at 1 n a.sources) ≡ true) acts (a.turn xs n floor _ order)) in
+            let turns : turns_at 1 n a.sources ≡ [] = turns-none _ (subst (λ t. is_turn t (turns_at 1 n a.sources) ≡ true) acts (right n floor xs _ order some)) in
             let no : true ≡ false = sym some ∙ turnless 1 n a.sources turns in
             cc
         by n floor xs ys order p stim here some (Some t) acts =
-            let turns = turns-one t (turns_at 1 n a.sources) (subst (λ z. is_turn z (turns_at 1 n a.sources) ≡ true) acts (a.turn xs n floor _ order)) in
+            let turns = turns-one t (turns_at 1 n a.sources) (subst (λ z. is_turn z (turns_at 1 n a.sources) ≡ true) acts (right n floor xs _ order some)) in
             let one = one-turn 1 n a.sources turns.0 turns.1 in
             let it = one.its in
             let lanes = only-place (list_any (λ i. is_stim_at n i.body)) before one.front l one.own behind one.back (sym is ∙ one.are) here one.none_front one.none_back in
@@ -357,10 +380,14 @@ module _ (sys : System) (stimuli : List (List Stim)) where
               let free = unstimulated a xs n floor _ (is ∙ ap (λ x. xs ++ placed 0 x ∷ (parts_of_look 1 n a.cuts a.sources ++ with_stimuli a.cuts a.sources la)) whole) fronts acts in
               alone-on on (is ∙ ap with_parts free.0)
           look-on n floor on is whole (Some t) acts =
-              let it = stimulated a xs n floor _ (is ∙ ap (λ x. xs ++ placed 0 x ∷ (parts_of_look 1 n a.cuts a.sources ++ with_stimuli a.cuts a.sources la)) whole) fronts t acts in
-              let gs = stim_item t.place n ∷ up_to_stim it.2.more in
-              on (xs ++ placed 0 i ∷ all_placed (1 + it.0) gs) (is ∙ ap with_parts it.2.parts ∙ sym (append_assoc xs (placed 0 i ∷ all_placed (1 + it.0) gs) _))
-              (λ before l behind at. front-on a xs i n it.0 t.place it.2 gs refl before l behind at (fronts before l behind at))
+              from (stimulated a xs n floor _ (is ∙ ap (λ x. xs ++ placed 0 x ∷ (parts_of_look 1 n a.cuts a.sources ++ with_stimuli a.cuts a.sources la)) whole) fronts t acts)
+            where
+              from : ((m : ℕ) × (1 + m ≡ t.source) × Stimulated a xs n m t.place) ⊎ (turns_at 1 n a.sources ≡ []) → Fronts (lined_order sys stimuli a)
+              from (inl it) =
+                  let gs = stim_item t.place n ∷ up_to_stim it.2.more in
+                  on (xs ++ placed 0 i ∷ all_placed (1 + it.0) gs) (is ∙ ap with_parts it.2.parts ∙ sym (append_assoc xs (placed 0 i ∷ all_placed (1 + it.0) gs) _))
+                  (λ before l behind at. front-on a xs i n it.0 t.place it.2 gs refl before l behind at (fronts before l behind at))
+              from (inr turns) = alone-on on (is ∙ ap with_parts (look-free n a.cuts a.sources turns))
 
           by : (o : Option (ℕ × ℕ)) → look_of i.body ≡ o → Onward → Fronts (lined_order sys stimuli a)
           by None e on = alone-on on (order ∙ ap (λ (o : Option (ℕ × ℕ)). with_parts (option_map_or (λ (l : ℕ × ℕ). parts_of_look 1 l.0 a.cuts a.sources) o [])) e)

@@ -1,12 +1,12 @@
--- The lanes of sources and the budgets of a lawful journal of `sim` without a `spill`.
-use Rattle.std.proofs.Common.{◌≡◌, ◌∙◌, ℕ, zero, suc, ◌+◌, ◌<◌, ◌≤◌, ◌==◌, nat_le, Bool, true, false, not, ◌&&◌, ◌||◌, cond, List, [], ◌∷◌, ◌++◌, map, length, drop, get_or, Some, None, refl, sym, ap, subst, arith}
-use Rattle.std.proofs.lemmas.Bool.{and_parts, ne_eqb}
+-- The lanes of sources and the budgets of a lawful journal of `sim`.
+use Rattle.std.proofs.Common.{◌≡◌, ◌∙◌, ◌⊎◌, inl, inr, append-nil, ℕ, suc, ◌+◌, ◌<◌, ◌≤◌, ◌==◌, nat_le, nat_lt, Bool, true, false, not, ◌&&◌, ◌||◌, cond, List, [], ◌∷◌, ◌++◌, map, length, drop, get_or, Some, None, refl, sym, ap, subst, arith}
+use Rattle.std.proofs.lemmas.Bool.{and_from, and_parts, ne_eqb}
 use Rattle.std.proofs.lemmas.Bool.Decides.{nat_tests}
-use Rattle.std.proofs.lemmas.List.{append_assoc, map-append}
+use Rattle.std.proofs.lemmas.List.{append_assoc, length-append, map-append}
 use Rattle.std.proofs.lemmas.List.Sums.{sum_by-cons}
 use Rattle.std.specs.declared.option.Option.{Option}
-use Rattle.std.specs.Option.{option_map, option_map_or, option_and_then, unwrap_or}
-use Rattle.std.specs.List.{slice_get, cons_option, list_all, count_by, AllByRecursion}
+use Rattle.std.specs.Option.{is_some, option_map, option_map_or, option_and_then}
+use Rattle.std.specs.List.{cons_option, list_all, list_any, count_by, AllByRecursion}
 use Rattle.qp_chart.specs.StateTree.{has}
 use Rattle.qp_model.specs.declared.record.Rec.{Rec}
 use Rattle.qp_model.specs.declared.stimulus.Stim.{Stim}
@@ -18,44 +18,36 @@ use Rattle.qp_model.specs.declared.bodies.Body.{Body}
 use Rattle.qp_model.specs.declared.bodies.Body.TheVariants as body
 use Rattle.qp_model.specs.Record.{Item}
 use Rattle.qp_model.specs.Knowing.{records_of}
-use Rattle.qp_model.specs.Ends.{is_spill, is_end, is_spent, spills_in, may_cut}
-use Rattle.qp_model.specs.End.{takes_of, took_count, spent_right, spents_hold}
+use Rattle.qp_model.specs.Ends.{is_spill, is_end, is_spent, spills_cut, spills_in, may_cut}
+use Rattle.qp_model.specs.End.{spill_states, spills_state, takes_of, took_count, spent_right, spents_hold}
 use Rattle.qp_model.specs.History.{all_items, lane_items}
 use Rattle.qp_model.specs.Home.{lane_at, home_of}
 use Rattle.qp_model.specs.Kernels.{sim}
 use Rattle.qp_model.specs.Sites.{object_at}
 use Rattle.qp_model.specs.KernelLane.{Reading, lane_on, lane_next, unread}
-use Rattle.qp_model.specs.OneOrder.{Placed, with_stimuli, parts_of_look, look_of, stim_of, look_numbers, stims_placed}
+use Rattle.qp_model.specs.OneOrder.{Placed, acts_next, is_stim_at, is_turn, no_look, turns_at, with_stimuli, parts_of_look, look_of, stim_of, look_numbers, stims_placed}
 use Rattle.qp_model.specs.Sources.{SourceEnd, InStimulus, IsSourceLane, SourceRuns, source_records, may_end}
-use Rattle.qp_model.specs.Lawful.{Lawful, EndHolds, SourceLanes, facts_of, source_lanes, lanes_before, one_thread}
+use Rattle.qp_model.specs.Lawful.{Lawful, EndHolds, SourceLanes, facts_of, setting_of, source_lanes, lanes_before, one_thread}
 use Rattle.qp_model.proofs.KernelRowLemmas.{lane_on-append}
 use Rattle.qp_sources.specs.SourceState.{SourceState, Between, source_after, source_stops, stops_after}
 use Rattle.qp_sources.proofs.LawLemmas.{call-laws}
 use Rattle.qp_sources.proofs.StopLemmas.{lane-stops}
 use Rattle.qp_sources.proofs.LaneLemmas.{runs-flag}
-use Rattle.qp_orders.specs.RunOrder.{placed, items_of}
+use Rattle.qp_orders.specs.RunOrder.{placed, items_of, has_stim}
 use Rattle.qp_orders.specs.Placing.{look_item}
-use Rattle.qp_unique.specs.Tidy.{run_order}
+use Rattle.qp_unique.specs.Tidy.{run_order, spill_free, unspilt}
+use Rattle.qp_unique.proofs.SourceSteps.{lane_in-append}
 use Rattle.qp_unique.proofs.KernelLemmas.{Slot, slot-of}
 use Rattle.qp_unique.proofs.StackLemmas.{found-in}
 use Rattle.qp_unique.proofs.ItemLemmas.{none-at}
 use Rattle.qp_unique.proofs.LoopLemmas.{look-whole}
-use Rattle.qp_unique.proofs.RunLanes.{look-body}
-use Rattle.qp_unique.proofs.JournalLemmas.{parts-all, Threaded, all-split, lane0-is, sources-each, inside, ends-run, each-unspilt, lane-each}
-use Rattle.qp_unique.proofs.SideLemmas.{filter-none-spill, all-of, kernel-read, unspilt-zero, has_one}
-use Rattle.qp_unique.proofs.Sides.{in_sim}
+use Rattle.qp_unique.proofs.RunLanes.{lane-stands, look-body}
+use Rattle.qp_unique.proofs.JournalLemmas.{parts-all, Threaded, all-split, lane0-is, inside, ends-run, turn-at, each-unspilt, lane-each, drop-at, has_spilt, kept_sources, kept_zero, lanes-kept, lanes-none}
+use Rattle.qp_unique.proofs.SideLemmas.{all-of, kernel-read, unspilt-zero, has_one}
+use Rattle.qp_unique.proofs.Sides.{Lined, LongFront, in_sim, lane_in}
 use Rattle.qp_model.proofs.NumberLemmas.{every-append, count-append}
 use Rattle.qp_model.proofs.TakenLemmas.{list_all-at}
 use Rattle.qp_model.proofs.ListLemmas.{every-parts}
-
-drop-at : (xs : List (List Rec)) (n : ℕ) (r : List Rec) (rs : List (List Rec)) → drop n xs ≡ r ∷ rs → (unwrap_or (slice_get xs n) [] ≡ r) × (drop (n + 1) xs ≡ rs)
-drop-at [] zero r rs h = absurd (cc)
-drop-at [] (suc n) r rs h = absurd (cc)
-drop-at (x ∷ xs) zero r rs h = let first : x ≡ r = cc in let rest : xs ≡ rs = cc in (first, rest)
-drop-at (x ∷ xs) (suc n) r rs h =
-    let later = drop-at xs n r rs h in
-    let next : suc n + 1 ≡ suc (n + 1) = omega arith in
-    (later.0, ap (λ k. drop k (x ∷ xs)) next ∙ later.1)
 
 each-object : (p : ObjectDef → Bool) (ds : List ObjectDef) → list_all p ds ≡ true → AllByRecursion (λ d. p d ≡ true) ds
 each-object p [] h = tt
@@ -114,6 +106,136 @@ unfolding all_items
 joined-each P [] h = tt
 joined-each P (l ∷ ls) h = every-append P (lane_items l) (all_items ls) h.0 (joined-each P ls h.1)
 
+-- ---- lanes without a `spill`
+
+all-kept : (p : Item → Bool) (is : List Item) → list_all p is ≡ true → list_all p (unspilt is) ≡ true
+all-kept p [] h = refl
+all-kept p (i ∷ is) h = let parts = and_parts (p i) _ h in by (not (is_spill i.body)) parts.0 (all-kept p is parts.1)
+  where
+    by : (b : Bool) → p i ≡ true → list_all p (unspilt is) ≡ true → list_all p (cond b (i ∷ unspilt is) (unspilt is)) ≡ true
+    by true first rest = and_from (p i) _ first rest
+    by false first rest = rest
+
+numbers-kept : (is : List Item) → look_numbers (unspilt is) ≡ look_numbers is
+numbers-kept [] = refl
+numbers-kept (i ∷ is) = by (is_spill i.body) refl (numbers-kept is)
+  where
+    no_look : (b : Body) → is_spill b ≡ true → look_of b ≡ None
+    no_look (body.Look n floor) h = absurd (cc)
+    no_look b h = refl
+
+    by : (b : Bool) → is_spill i.body ≡ b → look_numbers (unspilt is) ≡ look_numbers is
+        → look_numbers (cond (not b) (i ∷ unspilt is) (unspilt is)) ≡ cons_option (option_map (λ l. l.0) (look_of i.body)) (look_numbers is)
+    by false e h = ap (λ us. cons_option (option_map (λ (l : ℕ × ℕ). l.0) (look_of i.body)) us) h
+    by true e h = h ∙ sym (ap (λ (o : Option (ℕ × ℕ)). cons_option (option_map (λ (l : ℕ × ℕ). l.0) o) (look_numbers is)) (no_look i.body e))
+
+count-kept : (p : ℕ) (is : List Item) → count_by (takes_of p) (unspilt is) ≡ count_by (takes_of p) is
+count-kept p [] = refl
+count-kept p (i ∷ is) = by (is_spill i.body) refl (count-kept p is) ∙ sym (sum_by-cons (λ x. cond {A = ℕ} (takes_of p x) 1 0) i is)
+  where
+    untaken : (b : Body) → is_spill b ≡ true → takes_of p (record { of = i.of; body = b }) ≡ false
+    untaken (body.Took f l m e) h = absurd (cc)
+    untaken b h = refl
+
+    by : (b : Bool) → is_spill i.body ≡ b → count_by (takes_of p) (unspilt is) ≡ count_by (takes_of p) is
+        → count_by (takes_of p) (cond (not b) (i ∷ unspilt is) (unspilt is)) ≡ cond {A = ℕ} (takes_of p i) 1 0 + count_by (takes_of p) is
+    by false e h = sum_by-cons (λ x. cond {A = ℕ} (takes_of p x) 1 0) i (unspilt is) ∙ ap (λ n. cond {A = ℕ} (takes_of p i) 1 0 + n) h
+    by true e h =
+        let none : cond {A = ℕ} (takes_of p i) 1 0 ≡ 0 = ap (λ b. cond {A = ℕ} b 1 0) (untaken i.body e) in
+        omega (arith, h, none)
+
+-- a lane and the one that it is without its `spill`
+pub kept-at : (ls front : List (List Item)) (l : List Item) (back : List (List Item)) → map (λ lane. unspilt lane) ls ≡ front ++ l ∷ back
+    → (before : List (List Item)) × (raw : List Item) × (behind : List (List Item)) × (ls ≡ before ++ raw ∷ behind) × (unspilt raw ≡ l) × (length before ≡ length front)
+kept-at [] [] l back is = absurd (cc)
+kept-at [] (f ∷ front) l back is = absurd (cc)
+kept-at (r ∷ ls) [] l back is = let same : unspilt r ≡ l = cc in ([], r, ls, refl, same, refl)
+kept-at (r ∷ ls) (f ∷ front) l back is =
+    let rest : map (λ lane. unspilt lane) ls ≡ front ++ l ∷ back = cc in
+    let more = kept-at ls front l back rest in
+    (r ∷ more.0, more.1, more.2, ap (λ us. r ∷ us) more.3, more.4, ap suc more.5)
+
+-- a lane that ended with a `spill` has more records before it than are free of one
+long-lane : (end n : ℕ) (is : List Item) → spills_cut end is ≡ true → spills_state n is ≡ true → spills_in is ≡ true → spill_free < n + length (unspilt is)
+unfolding spills_cut spills_state spill_free
+long-lane end n [] cut states h = absurd (cc)
+long-lane end n (i ∷ []) cut states h = by i.body refl (or-first (is_spill i.body) h)
+  where
+    or-first : (b : Bool) → (b || false) ≡ true → b ≡ true
+    or-first true h = refl
+    or-first false h = absurd (cc)
+
+    by : (b : Body) → i.body ≡ b → is_spill b ≡ true → 999992 < n + length (unspilt (i ∷ []))
+    by (body.Spill len) e is =
+        let here : spill_states n (body.Spill len) ≡ true = subst (λ b. spill_states n b ≡ true) e (and_parts (spill_states n i.body) _ states).0 in
+        let test : nat_lt 999992 n ≡ true = (and_parts (len == n) _ here).1 in
+        let less : 999992 < n = grind (arith, nat_tests) in
+        omega (arith, less)
+    by b e is = absurd (cc)
+long-lane end n (i ∷ j ∷ is) cut states h =
+    let parts = and_parts (not (is_spill i.body)) _ cut in
+    by (is_spill i.body) refl parts.0 h (λ k. long-lane end (n + 1) (j ∷ is) parts.1 (and_parts (spill_states n i.body) _ states).1 k)
+  where
+    by : (b : Bool) → is_spill i.body ≡ b → not b ≡ true → (b || spills_in (j ∷ is)) ≡ true → (spills_in (j ∷ is) ≡ true → 999992 < n + 1 + length (unspilt (j ∷ is)))
+        → 999992 < n + length (cond (not b) (i ∷ unspilt (j ∷ is)) (unspilt (j ∷ is)))
+    by true e first h later = absurd (cc)
+    by false e first h later = let more = later h in omega (arith, more)
+
+states-each : (lanes : List (List Rec)) → list_all (λ lane. spills_state 0 (lane_items lane)) lanes ≡ true → AllByRecursion (λ l. spills_state 0 l ≡ true) (map (λ lane. lane_items lane) lanes)
+states-each [] h = tt
+states-each (l ∷ ls) h = let parts = and_parts _ _ h in (parts.0, states-each ls parts.1)
+
+-- without looks the order is lane 0 alone
+bare-order : (cuts : Bool) (sources : List (List Item)) (back : List Item) → no_look (with_stimuli cuts sources back) ≡ true → (m : ℕ) → lane_in (with_stimuli cuts sources back) (1 + m) ≡ []
+unfolding with_stimuli
+bare-order cuts sources [] h m = refl
+bare-order cuts sources (i ∷ is) h m =
+    let parts = and_parts (not (is_some (look_of i.body))) _ h in
+    by (look_of i.body) parts.0 parts.1 (λ k. bare-order cuts sources is k m)
+  where
+    by : (o : Option (ℕ × ℕ)) → not (is_some o) ≡ true → no_look (option_map_or (λ (l : ℕ × ℕ). parts_of_look 1 l.0 cuts sources) o [] ++ with_stimuli cuts sources is) ≡ true
+        → (no_look (with_stimuli cuts sources is) ≡ true → lane_in (with_stimuli cuts sources is) (1 + m) ≡ [])
+        → lane_in (placed 0 i ∷ (option_map_or (λ (l : ℕ × ℕ). parts_of_look 1 l.0 cuts sources) o [] ++ with_stimuli cuts sources is)) (1 + m) ≡ []
+    by None none rest later =
+        let other : (0 == 1 + m) ≡ false = ne_eqb 0 (1 + m) (λ e. omega (arith, e)) in
+        rw other (later rest)
+    by (Some l) none rest later = absurd (cc)
+
+-- a `spill` begins no stimulus
+has-kept : (n : ℕ) (ls : List (List Item)) → has_stim ls n ≡ has_stim (map (λ lane. unspilt lane) ls) n
+has-kept n [] = refl
+has-kept n (l ∷ ls) = λ k. own l k || has-kept n ls k
+  where
+    none : (b : Body) → is_spill b ≡ true → is_stim_at n b ≡ false
+    none (body.Stim p m) h = absurd (cc)
+    none b h = refl
+
+    own : (is : List Item) → list_any (λ i. is_stim_at n i.body) is ≡ list_any (λ i. is_stim_at n i.body) (unspilt is)
+    own [] = refl
+    own (i ∷ is) = by (is_spill i.body) refl (own is)
+      where
+        by : (b : Bool) → is_spill i.body ≡ b → list_any (λ i. is_stim_at n i.body) is ≡ list_any (λ i. is_stim_at n i.body) (unspilt is)
+            → (is_stim_at n i.body || list_any (λ i. is_stim_at n i.body) is) ≡ list_any (λ i. is_stim_at n i.body) (cond (not b) (i ∷ unspilt is) (unspilt is))
+        by false e h = ap (λ b. is_stim_at n i.body || b) h
+        by true e h = rw (none i.body e) h
+
+any-at : {A : Type 0} (p : A → Bool) (front : List A) (x : A) (back : List A) → p x ≡ true → list_any p (front ++ x ∷ back) ≡ true
+any-at p [] x back h = rw h refl
+any-at p (y ∷ front) x back h = by (p y) (any-at p front x back h)
+  where
+    by : (b : Bool) → list_any p (front ++ x ∷ back) ≡ true → (b || list_any p (front ++ x ∷ back)) ≡ true
+    by true h = refl
+    by false h = h
+
+pub any-find : {A : Type 0} (p : A → Bool) (xs : List A) → list_any p xs ≡ true → (front : List A) × (x : A) × (back : List A) × (xs ≡ front ++ x ∷ back) × (p x ≡ true)
+any-find p [] h = absurd (cc)
+any-find {A} p (x ∷ xs) h = by (p x) refl h (λ k. any-find p xs k)
+  where
+    by : (b : Bool) → p x ≡ b → (b || list_any p xs) ≡ true → (list_any p xs ≡ true → (front : List A) × (y : A) × (back : List A) × (xs ≡ front ++ y ∷ back) × (p y ≡ true))
+        → (front : List A) × (y : A) × (back : List A) × (x ∷ xs ≡ front ++ y ∷ back) × (p y ≡ true)
+    by true e h later = ([], x, xs, refl, e)
+    by false e h later = let more = later h in (x ∷ more.0, more.1, more.2, ap (λ us. x ∷ us) more.3, more.4)
+
 -- a `spent` shows that the budget is taken
 spents-each : (sys : System) (j : Journal) (n : ℕ) (lanes : List (List Rec)) → spents_hold sys j n lanes ≡ true
     → AllByRecursion (λ i. is_spent i.body ≡ true → took_count (all_items j.lanes) i.of ≡ j.budget) (all_items lanes)
@@ -153,45 +275,75 @@ module _ (sys : System) (stimuli : List (List Stim)) (j : Journal) (law : Lawful
       let rest : map (λ lane. lane_items lane) recs ≡ front ++ l ∷ back = cc in
       source-nth (n + 1) sss recs (drop-at j.lanes n r recs at).1 (omega (arith, fewer)) lanes.1 front l back rest
 
-  pub lane-unspilt : (front : List (List Item)) (l : List Item) (back : List (List Item)) → source_lanes sys j ≡ front ++ l ∷ back → AllByRecursion (λ i. is_spill i.body ≡ false) l
-  lane-unspilt front l back is =
-      lane-each (λ l. AllByRecursion (λ i. is_spill i.body ≡ false) l) front l back (source_lanes sys j) is (sources-each sys stimuli j t (λ i. is_spill i.body ≡ false) t.unspilt)
+  pub lane-unspilt : (front : List (List Item)) (l : List Item) (back : List (List Item)) → kept_sources sys j ≡ front ++ l ∷ back → AllByRecursion (λ i. is_spill i.body ≡ false) l
+  lane-unspilt front l back is = lane-each (λ l. AllByRecursion (λ i. is_spill i.body ≡ false) l) front l back (kept_sources sys j) is (lanes-none (source_lanes sys j))
+
+  -- where it ended with a `spill` it is long
+  pub long-at : (front : List (List Item)) (raw : List Item) (back : List (List Item)) → source_lanes sys j ≡ front ++ raw ∷ back → spills_in raw ≡ true → spill_free < length (unspilt raw)
+  unfolding EndHolds
+  long-at front raw back is spilt =
+      let states : AllByRecursion (λ l. spills_state 0 l ≡ true) (source_lanes sys j) =
+      subst (AllByRecursion (λ l. spills_state 0 l ≡ true)) (sym t.sources_are)
+      (states-each t.others (and_parts _ _ (subst (λ ls. list_all (λ lane. spills_state 0 (lane_items lane)) ls ≡ true) t.lanes law.end.spills)).1) in
+      let long = long-lane j.end 0 raw (lane-each (λ l. spills_cut j.end l ≡ true) front raw back (source_lanes sys j) is t.sources_cut)
+      (lane-each (λ l. spills_state 0 l ≡ true) front raw back (source_lanes sys j) is states) spilt in
+      omega (arith, long)
+
+  pub long-zero : spills_in (lane_items (lane_at j 0)) ≡ true → spill_free < length (kept_zero j)
+  unfolding EndHolds
+  long-zero spilt =
+      let states : spills_state 0 (lane_items t.first) ≡ true = (and_parts _ _ (subst (λ ls. list_all (λ lane. spills_state 0 (lane_items lane)) ls ≡ true) t.lanes law.end.spills)).0 in
+      let long = long-lane j.end 0 (lane_items (lane_at j 0)) t.zero_cut (subst (λ l. spills_state 0 (lane_items l) ≡ true) (sym t.zero_is) states) spilt in
+      omega (arith, long)
 
   its-lane : (front : List (List Item)) (l : List Item) (back : List (List Item)) → source_lanes sys j ≡ front ++ l ∷ back → IsSourceLane (facts_of sys j) j.kernel j.end (get_or stimuli (length front) []) l
   its-lane front l back is =
       let one : lanes_before sys j ≡ 1 = rw is_sim refl in
       source-nth 1 stimuli t.others (ap (drop 1) t.lanes) t.size (subst (λ n. SourceLanes sys j n stimuli) one law.sources.lanes) front l back (sym t.sources_are ∙ is)
 
-  pub source-of : (front : List (List Item)) (l : List Item) (back : List (List Item)) → source_lanes sys j ≡ front ++ l ∷ back
+  pub source-of : (front : List (List Item)) (l : List Item) (back : List (List Item)) → kept_sources sys j ≡ front ++ l ∷ back
       → (list_all (λ i. i.of == 0) l ≡ true) × (end : SourceState) × (stop : SourceEnd)
       × (source_after sys sim (Some (Between 1 (get_or stimuli (length front) []))) (records_of (facts_of sys j) 0 0 l) ≡ Some end)
-      × (source_stops sim end stop ≡ true) × (stop ≡ InStimulus → ⊥)
+      × (source_stops sim end stop ≡ true) × (stop ≡ InStimulus → (has_spilt sys j ≡ true) × (spill_free < length l))
   unfolding source_records facts_of
   source-of front l back is =
-      let lane = its-lane front l back is in
+      let at = kept-at (source_lanes sys j) front l back is in
+      let lane = its-lane at.0 at.1 at.2 at.3 in
       let runs = lane.stimuli in
-      let none = lane-unspilt front l back is in
-      let whole : source_records (facts_of sys j) l ≡ records_of (facts_of sys j) 0 0 l = ap (records_of (facts_of sys j) 0 0) (filter-none-spill l none) in
+      let whole : source_records (facts_of sys j) at.1 ≡ records_of (facts_of sys j) 0 0 l = ap (records_of (facts_of sys j) 0 0) at.4 in
       let goes : SourceRuns sys sim 1 (get_or stimuli (length front) []) runs.0 (records_of (facts_of sys j) 0 0 l) =
-      subst (λ ts. SourceRuns sys sim 1 (get_or stimuli (length front) []) runs.0 ts) whole (subst (λ k. SourceRuns sys k 1 (get_or stimuli (length front) []) runs.0 (source_records (facts_of sys j) l)) is_sim runs.1) in
+      subst (λ n. SourceRuns sys sim 1 (get_or stimuli n []) runs.0 (records_of (facts_of sys j) 0 0 l)) at.5
+      (subst (λ ts. SourceRuns sys sim 1 (get_or stimuli (length at.0) []) runs.0 ts) whole (subst (λ k. SourceRuns sys k 1 (get_or stimuli (length at.0) []) runs.0 (source_records (facts_of sys j) at.1)) is_sim runs.1)) in
       let stops = runs-flag _ _ (lane-stops call-laws sys sim 1 (get_or stimuli (length front) []) runs.0 (records_of (facts_of sys j) 0 0 l)) goes in
-      let at = by (source_after sys sim (Some (Between 1 (get_or stimuli (length front) []))) (records_of (facts_of sys j) 0 0 l)) refl runs.0 stops in
-      (lane.alone, at.0, runs.0, at.1, at.2, λ e. within runs.0 e runs.2 (each-unspilt l none))
+      let end = by (source_after sys sim (Some (Between 1 (get_or stimuli (length front) []))) (records_of (facts_of sys j) 0 0 l)) refl runs.0 stops in (
+        subst (λ x. list_all (λ i. i.of == 0) x ≡ true) at.4 (all-kept (λ i. i.of == 0) at.1 lane.alone),
+        end.0,
+        runs.0,
+        end.1,
+        end.2,
+        λ e. let spilt = within runs.0 (spills_in at.1) e runs.2 in (
+          or-right (spills_in (lane_items (lane_at j 0))) (list_any spills_in (source_lanes sys j))
+              (ap (list_any spills_in) at.3 ∙ any-at spills_in at.0 at.1 at.2 spilt),
+          subst (λ x. spill_free < length x) at.4 (long-at at.0 at.1 at.2 at.3 spilt),
+        ),
+      )
     where
       by : (o : Option SourceState) → source_after sys sim (Some (Between 1 (get_or stimuli (length front) []))) (records_of (facts_of sys j) 0 0 l) ≡ o → (stop : SourceEnd) → stops_after sim o stop ≡ true
           → (end : SourceState) × (source_after sys sim (Some (Between 1 (get_or stimuli (length front) []))) (records_of (facts_of sys j) 0 0 l) ≡ Some end) × (source_stops sim end stop ≡ true)
       by None e stop h = absurd (cc)
       by (Some end) e stop h = (end, e, h)
 
-      within : (stop : SourceEnd) → stop ≡ InStimulus → may_end j.end (spills_in l) stop ≡ true → spills_in l ≡ false → ⊥
-      within stop e may none =
-          let one : (may_cut j.end && spills_in l) ≡ true = subst (λ s. may_end j.end (spills_in l) s ≡ true) e may in
-          let two : spills_in l ≡ true = (and_parts (may_cut j.end) (spills_in l) one).1 in
-          let no : true ≡ false = sym two ∙ none in
-          cc
+      or-right : (a b : Bool) → b ≡ true → (a || b) ≡ true
+      or-right true b h = refl
+      or-right false b h = h
+
+      within : (stop : SourceEnd) (spills : Bool) → stop ≡ InStimulus → may_end j.end spills stop ≡ true → spills ≡ true
+      within stop spills e may =
+          let one : (may_cut j.end && spills) ≡ true = subst (λ s. may_end j.end spills s ≡ true) e may in
+          (and_parts (may_cut j.end) spills one).1
 
   -- a record of lane 0 may come where it stands
-  pub slot-at : (front : List Item) (i : Item) (back : List Item) → lane_items (lane_at j 0) ≡ front ++ i ∷ back → (k next : Reading) × Slot (in_sim sys (has_one sys stimuli j law is_sim t)) k next i
+  pub slot-at : (front : List Item) (i : Item) (back : List Item) → kept_zero j ≡ front ++ i ∷ back → (k next : Reading) × Slot (in_sim sys (has_one sys stimuli j law is_sim t)) k next i
   unfolding lane_on
   slot-at front i back is =
       let read = kernel-read sys stimuli j law is_sim t in
@@ -210,27 +362,30 @@ module _ (sys : System) (stimuli : List (List Stim)) (j : Journal) (law : Lawful
           on None e h = absurd (cc)
           on (Some next) e h = (k, next, slot-of (in_sim sys (has_one sys stimuli j law is_sim t)) refl k next i unspilt e)
 
-  pub at-place : (front : List Item) (i : Item) (back : List Item) → lane_items (lane_at j 0) ≡ front ++ i ∷ back → (n floor : ℕ) → i.body ≡ body.Look n floor → i ≡ look_item n floor
+  pub at-place : (front : List Item) (i : Item) (back : List Item) → kept_zero j ≡ front ++ i ∷ back → (n floor : ℕ) → i.body ≡ body.Look n floor → i ≡ look_item n floor
   at-place front i back is n floor look =
       let at = slot-at front i back is in look-whole (in_sim sys (has_one sys stimuli j law is_sim t)) at.0 at.1 i n floor at.2 look
 
   -- each stimulus stands in a look
-  pub placed-of : (before : List (List Item)) (l : List Item) (behind : List (List Item)) → source_lanes sys j ≡ before ++ l ∷ behind → (xs : List Item) (i : Item) (ys : List Item) → l ≡ xs ++ i ∷ ys
-      → (p n : ℕ) → i.body ≡ body.Stim p n → (front : List Item) × (floor : ℕ) × (back : List Item) × (lane_items (lane_at j 0) ≡ front ++ look_item n floor ∷ back)
+  pub placed-of : (before : List (List Item)) (l : List Item) (behind : List (List Item)) → kept_sources sys j ≡ before ++ l ∷ behind → (xs : List Item) (i : Item) (ys : List Item) → l ≡ xs ++ i ∷ ys
+      → (p n : ℕ) → i.body ≡ body.Stim p n → (front : List Item) × (floor : ℕ) × (back : List Item) × (kept_zero j ≡ front ++ look_item n floor ∷ back)
   unfolding stims_placed one_thread
   placed-of before l behind is xs i ys split p n stim =
       let all = t.ordered.placed in
-      let lane = list_all-at (λ lane. list_all (λ i. option_map_or (λ s. has (look_numbers (lane_items (lane_at j 0))) s.1) (stim_of i.body) true) lane) before l behind (subst (λ ls. list_all (λ lane. list_all (λ i. option_map_or (λ s. has (look_numbers (lane_items (lane_at j 0))) s.1) (stim_of i.body) true) lane) ls ≡ true) is all) in
+      let at = kept-at (source_lanes sys j) before l behind is in
+      let raw = list_all-at (λ lane. list_all (λ i. option_map_or (λ s. has (look_numbers (lane_items (lane_at j 0))) s.1) (stim_of i.body) true) lane) at.0 at.1 at.2 (subst (λ ls. list_all (λ lane. list_all (λ i. option_map_or (λ s. has (look_numbers (lane_items (lane_at j 0))) s.1) (stim_of i.body) true) lane) ls ≡ true) at.3 all) in
+      let lane = subst (λ us. list_all (λ i. option_map_or (λ s. has (look_numbers (lane_items (lane_at j 0))) s.1) (stim_of i.body) true) us ≡ true) at.4
+      (all-kept (λ i. option_map_or (λ s. has (look_numbers (lane_items (lane_at j 0))) s.1) (stim_of i.body) true) at.1 raw) in
       let one = list_all-at (λ i. option_map_or (λ s. has (look_numbers (lane_items (lane_at j 0))) s.1) (stim_of i.body) true) xs i ys (subst (λ us. list_all (λ i. option_map_or (λ s. has (look_numbers (lane_items (lane_at j 0))) s.1) (stim_of i.body) true) us ≡ true) split lane) in
       let two : has (look_numbers (lane_items (lane_at j 0))) n ≡ true =
       subst (λ d. option_map_or (λ s. has (look_numbers (lane_items (lane_at j 0))) s.1) (stim_of d) true ≡ true) stim one in
-      let found = look-found (lane_items (lane_at j 0)) n two in
+      let found = look-found (kept_zero j) n (ap (λ us. has us n) (numbers-kept (lane_items (lane_at j 0))) ∙ two) in
       let whole = at-place found.0 found.1 found.3 found.4 n found.2 (look-body found.1.body (n, found.2) found.5) in
       (found.0, found.2, found.3, found.4 ∙ ap (λ x. found.0 ++ x ∷ found.3) whole)
 
   -- the lanes of sources are of no object
-  its-own : (front : List (List Item)) (l : List Item) (back : List (List Item)) → source_lanes sys j ≡ front ++ l ∷ back → AllByRecursion (λ i. (i.of == 0) ≡ true) l
-  its-own front l back is = all-of (λ i. i.of == 0) l (its-lane front l back is).alone
+  raw-own : (front : List (List Item)) (l : List Item) (back : List (List Item)) → source_lanes sys j ≡ front ++ l ∷ back → AllByRecursion (λ i. (i.of == 0) ≡ true) l
+  raw-own front l back is = all-of (λ i. i.of == 0) l (its-lane front l back is).alone
 
   untaken : (p : ℕ) → (p ≡ 0 → ⊥) → (is : List Item) → AllByRecursion (λ i. (i.of == 0) ≡ true) is → AllByRecursion (λ i. takes_of p i ≡ false) is
   untaken p some [] h = tt
@@ -241,7 +396,7 @@ module _ (sys : System) (stimuli : List (List Stim)) (j : Journal) (law : Lawful
       by b of = refl
 
   sources-untaken : (p : ℕ) → (p ≡ 0 → ⊥) → AllByRecursion (λ l. AllByRecursion (λ i. takes_of p i ≡ false) l) (source_lanes sys j)
-  sources-untaken p some = each-by (λ l. AllByRecursion (λ i. takes_of p i ≡ false) l) (source_lanes sys j) (λ front l back is. untaken p some l (its-own front l back is))
+  sources-untaken p some = each-by (λ l. AllByRecursion (λ i. takes_of p i ≡ false) l) (source_lanes sys j) (λ front l back is. untaken p some l (raw-own front l back is))
 
   -- how many entries an object has taken
   pub count-order : (p : ℕ) → (p ≡ 0 → ⊥) → count_by (takes_of p) (items_of (run_order sys j)) ≡ count_by (takes_of p) (all_items j.lanes)
@@ -252,9 +407,78 @@ module _ (sys : System) (stimuli : List (List Stim)) (j : Journal) (law : Lawful
       let whole : count_by (takes_of p) (all_items j.lanes) ≡ count_by (takes_of p) (lane_items t.first) + count_by (takes_of p) (all_items t.others) =
       ap (count_by (takes_of p)) (all-split sys stimuli j t) ∙ count-append (takes_of p) (lane_items t.first) (all_items t.others) in
       let zero_is : count_by (takes_of p) (lane_items (lane_at j 0)) ≡ count_by (takes_of p) (lane_items t.first) = ap (count_by (takes_of p)) (lane0-is sys stimuli j t) in
-      let merged : count_by (takes_of p) (items_of (with_stimuli true (source_lanes sys j) (lane_items (lane_at j 0)))) ≡ count_by (takes_of p) (lane_items (lane_at j 0)) =
-      count-merged (takes_of p) true (source_lanes sys j) (lane_items (lane_at j 0)) each in
-      omega (arith, others, whole, zero_is, merged)
+      let merged : count_by (takes_of p) (items_of (with_stimuli true (kept_sources sys j) (kept_zero j))) ≡ count_by (takes_of p) (kept_zero j) =
+      count-merged (takes_of p) true (kept_sources sys j) (kept_zero j) (lanes-kept (λ i. takes_of p i ≡ false) (source_lanes sys j) each) in
+      let bare : count_by (takes_of p) (kept_zero j) ≡ count_by (takes_of p) (lane_items (lane_at j 0)) = count-kept p (lane_items (lane_at j 0)) in
+      omega (arith, others, whole, zero_is, merged, bare)
+
+  -- a look has the stimulus that acts in it, or none
+  pub turn-of : (xs : List Placed) (n floor : ℕ) (ys : List Placed) → run_order sys j ≡ xs ++ placed 0 (look_item n floor) ∷ ys
+      → (is_turn (acts_next sys stimuli xs (floor == 0)) (turns_at 1 n (kept_sources sys j)) ≡ true) ⊎ (turns_at 1 n (kept_sources sys j) ≡ [])
+  turn-of xs n floor ys is = by (turn-at sys stimuli j t xs n floor ys is)
+    where
+      by : (is_turn (acts_next sys stimuli xs (floor == 0)) (turns_at 1 n (kept_sources sys j)) ≡ true)
+          ⊎ ((has_spilt sys j ≡ true) × (no_look ys ≡ true) × (turns_at 1 n (kept_sources sys j) ≡ []))
+          → (is_turn (acts_next sys stimuli xs (floor == 0)) (turns_at 1 n (kept_sources sys j)) ≡ true) ⊎ (turns_at 1 n (kept_sources sys j) ≡ [])
+      by (inl right) = inl right
+      by (inr (spilt, last, none)) = inr none
+
+  pub has-of : (n : ℕ) → has_one sys stimuli j law is_sim t n ≡ has_stim (kept_sources sys j) n
+  unfolding setting_of
+  has-of n = has-kept n (source_lanes sys j)
+
+  -- the lanes in the order
+  lined-of : Lined sys stimuli
+  unfolding run_order
+  lined-of = record {
+    w = facts_of sys j;
+    has = has_one sys stimuli j law is_sim t;
+    lane0 = kept_zero j;
+    sources = kept_sources sys j;
+    cuts = true;
+    unspilt_sources = λ front l back is. each-unspilt l (lane-unspilt front l back is);
+    turn = turn-of;
+    has_is = has-of;
+    source = λ front l back is. let s = source-of front l back is in (s.0, s.1, s.2, s.3);
+    placed_so = placed-of;
+  }
+
+  -- each source's lane stands in the order, all of it
+  pub lane-stood : (before : List (List Item)) (l : List Item) (behind : List (List Item)) → kept_sources sys j ≡ before ++ l ∷ behind → l ≡ lane_in (run_order sys j) (1 + length before)
+  unfolding run_order lined-of
+  lane-stood before l behind is = lane-stands sys stimuli lined-of (λ xs i ys is n floor look. at-place xs i ys is n floor look) before l behind is
+
+  -- a look may lack its stimulus only where lane 0 ended with a `spill`, or a source's lane did, which then stands before the look
+  pub late-of : (xs : List Placed) (n floor : ℕ) (back : List Item) → run_order sys j ≡ xs ++ placed 0 (look_item n floor) ∷ with_stimuli true (kept_sources sys j) back
+      → is_turn (acts_next sys stimuli xs (floor == 0)) (turns_at 1 n (kept_sources sys j)) ≡ false
+      → (has_spilt sys j ≡ true) × ((spills_in (lane_items (lane_at j 0)) ≡ true) ⊎ LongFront (length (kept_sources sys j)) xs)
+  late-of xs n floor back is lacks = by (turn-at sys stimuli j t xs n floor (with_stimuli true (kept_sources sys j) back) is)
+    where
+      at-source : no_look (with_stimuli true (kept_sources sys j) back) ≡ true → list_any spills_in (source_lanes sys j) ≡ true → LongFront (length (kept_sources sys j)) xs
+      at-source last some =
+          let lane = any-find spills_in (source_lanes sys j) some in
+          let long = long-at lane.0 lane.1 lane.2 lane.3 lane.4 in
+          let are : kept_sources sys j ≡ map (λ lane. unspilt lane) lane.0 ++ unspilt lane.1 ∷ map (λ lane. unspilt lane) lane.2 =
+          ap (map (λ lane. unspilt lane)) lane.3 ∙ map-append (λ lane. unspilt lane) lane.0 (lane.1 ∷ lane.2) in
+          let m = length (map (λ lane. unspilt lane) lane.0) in
+          let stands = lane-stood (map (λ lane. unspilt lane) lane.0) (unspilt lane.1) (map (λ lane. unspilt lane) lane.2) are in
+          let zero_other : (0 == 1 + m) ≡ false = ne_eqb 0 (1 + m) (λ e. omega (arith, e)) in
+          let none : lane_in (placed 0 (look_item n floor) ∷ with_stimuli true (kept_sources sys j) back) (1 + m) ≡ [] = rw zero_other (bare-order true (kept_sources sys j) back last m) in
+          let split : lane_in (run_order sys j) (1 + m) ≡ lane_in xs (1 + m) =
+          ap (λ zs. lane_in zs (1 + m)) is ∙ lane_in-append xs (placed 0 (look_item n floor) ∷ with_stimuli true (kept_sources sys j) back) (1 + m)
+          ∙ ap (λ zs. lane_in xs (1 + m) ++ zs) none ∙ append-nil (lane_in xs (1 + m)) in
+          let size = ap length are ∙ length-append (map (λ lane. unspilt lane) lane.0) (unspilt lane.1 ∷ map (λ lane. unspilt lane) lane.2) in
+          (m, omega (arith, size), subst (λ l. spill_free < length l) (stands ∙ split) long)
+
+      by : (is_turn (acts_next sys stimuli xs (floor == 0)) (turns_at 1 n (kept_sources sys j)) ≡ true)
+          ⊎ ((has_spilt sys j ≡ true) × (no_look (with_stimuli true (kept_sources sys j) back) ≡ true) × (turns_at 1 n (kept_sources sys j) ≡ []))
+          → (has_spilt sys j ≡ true) × ((spills_in (lane_items (lane_at j 0)) ≡ true) ⊎ LongFront (length (kept_sources sys j)) xs)
+      by (inl right) = absurd (let no : true ≡ false = sym right ∙ lacks in cc)
+      by (inr (spilt, last, none)) = (spilt, on (spills_in (lane_items (lane_at j 0))) refl spilt)
+        where
+          on : (b : Bool) → spills_in (lane_items (lane_at j 0)) ≡ b → (b || list_any spills_in (source_lanes sys j)) ≡ true → (spills_in (lane_items (lane_at j 0)) ≡ true) ⊎ LongFront (length (kept_sources sys j)) xs
+          on true e h = inl e
+          on false e h = inr (at-source last h)
 
   module _ (xs : List Placed) (p : ℕ) (b : Body) (ys : List Placed) (is : run_order sys j ≡ xs ++ placed 0 (record { of = p; body = b }) ∷ ys) (some : p ≡ 0 → ⊥) where
     counted-here : count_by (λ (z : Placed). takes_of p z.item) xs + (cond (takes_of p (record { of = p; body = b })) 1 0 + count_by (λ (z : Placed). takes_of p z.item) ys) ≡ took_count (all_items j.lanes) p

@@ -9,7 +9,7 @@ use Rattle.qp_model.specs.declared.bodies.Entry.{Entry}
 use Rattle.qp_model.specs.declared.bodies.Body.TheVariants as body
 use Rattle.qp_model.specs.Record.{Item}
 use Rattle.qp_model.specs.Knowing.{Facts, told, records_of, event_of}
-use Rattle.qp_model.specs.Ends.{is_end, spills_in}
+use Rattle.qp_model.specs.Ends.{is_end, is_turn_mark, spills_in}
 use Rattle.qp_model.specs.End.{takes_of}
 use Rattle.qp_model.specs.Kernels.{sim}
 use Rattle.qp_model.specs.Sites.{object_at}
@@ -25,6 +25,7 @@ use Rattle.qp_orders.specs.RunOrder.{placed, items_of, has_stim}
 use Rattle.qp_orders.specs.Placing.{look_item}
 use Rattle.qp_unique.specs.Held.{Held, IsCounted, Comes}
 use Rattle.qp_unique.specs.Fronts.{held_after}
+use Rattle.qp_unique.specs.Tidy.{spill_free}
 use Rattle.qp_unique.proofs.LookLemmas.{StimFirst}
 use Rattle.qp_unique.proofs.StackLemmas.{Stacked}
 
@@ -43,6 +44,10 @@ held_to sys ceiling xs = held_after sys (λ e. event_of (facts_to sys xs) e) cei
 -- a state in which a list may end: that of a whole course, or at a point
 abbrev pub MayEnd : Bool → State → Type 0
 MayEnd at_point s = (is_end_of_course s ≡ true) ⊎ (expects_point s ≡ true) ⊎ (at_point ≡ true)
+
+-- o made the last record of lane 0, behind which it was cut anywhere
+abbrev pub EndsOwn : ℕ → List Item → Type 0
+EndsOwn p lane = (xs : List Item) × (i : Item) × (lane ≡ xs ++ i ∷ []) × (i.of ≡ p) × (is_turn_mark i.body ≡ false)
 
 -- the records of a lane
 abbrev pub lane_in : List Placed → ℕ → List Item
@@ -63,14 +68,17 @@ pub record Lined (sys : System) (stimuli : List (List Stim)) : Type 0 where
   pub cuts : Bool
   pub unspilt_sources : (front : List (List Item)) (l : List Item) (back : List (List Item)) → sources ≡ front ++ l ∷ back → spills_in l ≡ false
   pub turn : (xs : List Placed) (n floor : ℕ) (ys : List Placed) → with_stimuli cuts sources lane0 ≡ xs ++ placed 0 (look_item n floor) ∷ ys
-      → is_turn (acts_next sys stimuli xs (floor == 0)) (turns_at 1 n sources) ≡ true
+      → (is_turn (acts_next sys stimuli xs (floor == 0)) (turns_at 1 n sources) ≡ true) ⊎ (turns_at 1 n sources ≡ [])
   pub has_is : (n : ℕ) → has n ≡ has_stim sources n
   pub source : (front : List (List Item)) (l : List Item) (back : List (List Item)) → sources ≡ front ++ l ∷ back
       → (list_all (λ i. i.of == 0) l ≡ true) × (end : SourceState) × (stop : SourceEnd)
       × (source_after sys sim (Some (Between 1 (get_or stimuli (length front) []))) (records_of w 0 0 l) ≡ Some end)
-      × (source_stops sim end stop ≡ true) × (stop ≡ InStimulus → ⊥)
   pub placed_so : (before : List (List Item)) (l : List Item) (behind : List (List Item)) → sources ≡ before ++ l ∷ behind → (xs : List Item) (i : Item) (ys : List Item) → l ≡ xs ++ i ∷ ys
       → (p n : ℕ) → i.body ≡ body.Stim p n → (front : List Item) × (floor : ℕ) × (back : List Item) × (lane0 ≡ front ++ look_item n floor ∷ back)
+
+-- one of the first lanes of sources has more records before a place than are free of a `spill`
+abbrev pub LongFront : ℕ → List Placed → Type 0
+LongFront size xs = (m : ℕ) × (m < size) × (spill_free < length (lane_in xs (1 + m)))
 
 abbrev pub lined_order : (sys : System) (stimuli : List (List Stim)) → Lined sys stimuli → List Placed
 lined_order sys stimuli a = with_stimuli a.cuts a.sources a.lane0
@@ -82,6 +90,9 @@ pub record Side (sys : System) (charts : (p : ℕ) (d : ObjectDef) → object_at
   pub lane0 : List Item
   pub sources : List (List Item)
   pub cuts : Bool
+  -- a lane ended with a `spill`, and lane 0 did
+  pub spilt : Bool
+  pub halts : Bool
   pub last : Reading
   pub read : lane_on (in_sim sys has) (unread sys) lane0 ≡ Some last
   pub unspilt : spills_in lane0 ≡ false
@@ -89,7 +100,7 @@ pub record Side (sys : System) (charts : (p : ℕ) (d : ObjectDef) → object_at
   -- each object follows its chart
   pub course : (p : ℕ) (d : ObjectDef) (is : object_at sys p ≡ Some d)
       → (end : State) × (run sys (actor d (charts p d is)) (start_state (actor d (charts p d is)) (first_config d)) (pieces_in w (in_sim sys has) p (unread sys) lane0) ≡ Some end)
-      × MayEnd (ends_at_point (pieces_in w (in_sim sys has) p (unread sys) lane0)) end
+      × (MayEnd (ends_at_point (pieces_in w (in_sim sys has) p (unread sys) lane0)) end ⊎ EndsOwn p lane0)
   -- no queue is found empty by an object
   pub unmarked : (xs : List Item) (i : Item) (ys : List Item) → lane0 ≡ xs ++ i ∷ ys → (object_at sys i.of ≡ None → ⊥) → (f l m : ℕ) → i.body ≡ body.Nil f l m → ⊥
   -- each record comes next by what the words hold
@@ -97,12 +108,15 @@ pub record Side (sys : System) (charts : (p : ℕ) (d : ObjectDef) → object_at
       → Comes sys (held_to sys c xs) x.item.of (told w x.item.of c x.item.body)
   pub counted : (xs ys : List Placed) (c : ℕ) → with_stimuli cuts sources lane0 ≡ xs ++ ys → IsCounted (held_to sys c xs)
   pub turn : (xs : List Placed) (n floor : ℕ) (ys : List Placed) → with_stimuli cuts sources lane0 ≡ xs ++ placed 0 (look_item n floor) ∷ ys
-      → is_turn (acts_next sys stimuli xs (floor == 0)) (turns_at 1 n sources) ≡ true
+      → (is_turn (acts_next sys stimuli xs (floor == 0)) (turns_at 1 n sources) ≡ true) ⊎ (turns_at 1 n sources ≡ [])
+  -- a look lacks its stimulus only where a `spill` stood in lane 0, or in the lane of a source, all of which stands before the look
+  pub late : (xs : List Placed) (n floor : ℕ) (back : List Item) → with_stimuli cuts sources lane0 ≡ xs ++ placed 0 (look_item n floor) ∷ with_stimuli cuts sources back
+      → is_turn (acts_next sys stimuli xs (floor == 0)) (turns_at 1 n sources) ≡ false → (spilt ≡ true) × ((halts ≡ true) ⊎ LongFront (length sources) xs)
   pub has_is : (n : ℕ) → has n ≡ has_stim sources n
   pub source : (front : List (List Item)) (l : List Item) (back : List (List Item)) → sources ≡ front ++ l ∷ back
       → (list_all (λ i. i.of == 0) l ≡ true) × (end : SourceState) × (stop : SourceEnd)
       × (source_after sys sim (Some (Between 1 (get_or stimuli (length front) []))) (records_of w 0 0 l) ≡ Some end)
-      × (source_stops sim end stop ≡ true) × (stop ≡ InStimulus → ⊥)
+      × (source_stops sim end stop ≡ true) × (stop ≡ InStimulus → (spilt ≡ true) × (spill_free < length l))
   -- nothing follows a record that ends the run
   pub ends : (xs : List Placed) (x : Placed) (ys : List Placed) → with_stimuli cuts sources lane0 ≡ xs ++ x ∷ ys → list_any (λ z. is_end z.item.body) xs ≡ false
   -- an object takes at most its budget, and is stopped there
@@ -124,7 +138,7 @@ module _ (sys : System) (charts : (p : ℕ) (d : ObjectDef) → object_at sys p 
     unspilt_sources = a.unspilt_sources;
     turn = a.turn;
     has_is = a.has_is;
-    source = a.source;
+    source = λ front l back is. let s = a.source front l back is in (s.0, s.1, s.2, s.3);
     placed_so = a.placed_so;
   }
 
@@ -134,6 +148,24 @@ module _ (sys : System) (charts : (p : ℕ) (d : ObjectDef) → object_at sys p 
   -- lane 0 is whole, or a record stands that ends the run
   abbrev pub HasEnded : Side sys charts stimuli budget → Type 0
   HasEnded a = (is_whole sim a.last ≡ true) ⊎ (list_any (λ z. is_end z.item.body) (order_of a) ≡ true)
+
+  -- a source's lane has more records than are free of a `spill`
+  abbrev pub LongLane : Side sys charts stimuli budget → Type 0
+  LongLane a = (before : List (List Item)) × (l : List Item) × (behind : List (List Item)) × (a.sources ≡ before ++ l ∷ behind) × (spill_free < length l)
+
+  -- a look lacks its stimulus, and lane 0 ended with a `spill`
+  pub record Lacking (a : Side sys charts stimuli budget) : Type 0 where
+    pub halts : a.halts ≡ true
+    pub before : List Placed
+    pub number : ℕ
+    pub floor : ℕ
+    pub behind : List Placed
+    pub look : order_of a ≡ before ++ placed 0 (look_item number floor) ∷ behind
+    pub lacks : is_turn (acts_next sys stimuli before (floor == 0)) (turns_at 1 number a.sources) ≡ false
+
+  -- two runs needn't go on alike: a lane of one of them ended with a `spill`, and the first is as long, or a look lacks its stimulus
+  abbrev pub MayPart : (a b : Side sys charts stimuli budget) → Type 0
+  MayPart a b = ((a.spilt ≡ true) ⊎ (b.spilt ≡ true)) × (LongLane a ⊎ (Lacking a ⊎ Lacking b))
 
   -- how far a run has come
   pub record Along (a : Side sys charts stimuli budget) (xs : List Placed) (front back : List Item) (k : Reading) : Type 0 where

@@ -1,5 +1,5 @@
 -- The laws of what comes next.
-use Rattle.std.specs.Prelude.{◌≡◌, ℕ, false, List, [], ◌∷◌, ◌++◌, map, IsTrue, Some}
+use Rattle.std.specs.Prelude.{◌≡◌, ℕ, false, List, [], ◌∷◌, ◌++◌, map, IsTrue, Some, ◌⊎◌}
 use Rattle.std.specs.List.{list_any, AllByRecursion}
 use Rattle.std.specs.declared.option.Option.{Option}
 use Rattle.qp_model.specs.declared.systems.System.{System}
@@ -18,7 +18,7 @@ use Rattle.qp_model.specs.Places.{RecordPlace, items_at, in_order}
 use Rattle.qp_model.specs.WordLaw.{Words}
 use Rattle.qp_unique.specs.Fronts.{held_after, names_its}
 use Rattle.qp_course.specs.Followable.{IsFollowable}
-use Rattle.qp_unique.specs.Tidy.{IsTidy}
+use Rattle.qp_unique.specs.Tidy.{IsTidy, LacksStimulus, is_short}
 use Rattle.qp_model.specs.Told.{Told}
 use Rattle.qp_fits.specs.CallState.{CallStage}
 use Rattle.qp_fits.specs.CallStateNext.{stage_next}
@@ -57,6 +57,14 @@ RecordsComeNext =
     → (xs : List Item) (x : Item) (ys : List Item) → items_at lanes order ≡ xs ++ x ∷ ys → IsTrue (names_its sys x.of x.body) → (ceiling : ℕ)
     → Comes sys (held_after sys (event_of (record { sys = sys; items = all_items lanes })) ceiling xs) x.of
     (told (record { sys = sys; items = all_items lanes }) x.of ceiling x.body)
+
+-- Of two lawful and tidy journals of `sim`, of one system, its stimuli and a budget, where no lane of the first is longer than is free of
+-- a `spill`, the second has none either; or its lane 0 ended with one, and its last look lacks its stimulus.
+abbrev pub ShortJournalsLeaveNoSpill : Type 0
+ShortJournalsLeaveNoSpill =
+    (sys : System) (stimuli : List (List Stim)) (i j : Journal) → IsSound sys → AllByRecursion (IsFollowable sys) sys.objects
+    → Lawful sys stimuli i → Lawful sys stimuli j → i.kernel ≡ sim → j.kernel ≡ sim → i.budget ≡ j.budget → IsTrue (is_short i) → IsTidy sys i → IsTidy sys j
+    → (list_any (λ x. is_spill x.body) (all_items j.lanes) ≡ false) ⊎ LacksStimulus sys stimuli j
 
 -- two lawful journals of `sim` without a `spill`, of one system, its stimuli and a budget, tell the same, where both are tidy
 abbrev pub TidyJournalsAreOne : Type 0

@@ -1,6 +1,6 @@
 //! Laws of what comes next. Each function here does nothing: its contract is the law.
 
-ghost use Rattle.qp_unique.specs.Laws.{CallGoesOnAlone, CourseGoesOnAlone, StimulusGoesOnAlone, RecordsComeNext, TidyJournalsAreOne};
+ghost use Rattle.qp_unique.specs.Laws.{CallGoesOnAlone, CourseGoesOnAlone, StimulusGoesOnAlone, RecordsComeNext, ShortJournalsLeaveNoSpill, TidyJournalsAreOne};
 
 /// A call goes on by one record alone, by what the words hold.
 pub fn calls_go_on_alone()
@@ -20,6 +20,11 @@ pub fn stimuli_go_on_alone()
 /// Each record of a run comes next by what the words hold after the records before it.
 pub fn records_come_next()
     ensures { RecordsComeNext }
+{}
+
+/// Beside a lawful journal of `sim` whose lanes are short no other has a `spill`, but for one whose last look lacks its stimulus.
+pub fn short_journals_leave_no_spill()
+    ensures { ShortJournalsLeaveNoSpill }
 {}
 
 /// A lawful journal of `sim` without a `spill` is the only one for its system, stimuli and budget, among the tidy ones.
