@@ -9,21 +9,21 @@ use Rattle.qp_model.specs.History.{all_items}
 use Rattle.qp_model.specs.Sound.{IsSound}
 use Rattle.qp_stim.specs.Rules.{StimuliFit}
 use Rattle.qp_only.specs.Laws.{IsSimJournal}
-use Rattle.qp_only.proofs.OnlyLemmas.{all-one}
+use Rattle.qp_only.proofs.OnlyLemmas.{unspilt-one}
 use Rattle.qp_simulation.specs.SimRun.{IsSimRun}
 use Rattle.qp_commands.specs.declared.values.Kernel.{Kernel}
 use Rattle.qp_commands.specs.declared.values.Kernel.TheVariants.{Sim, Qv}
 use Rattle.qp_run.specs.Laws.{HasSpill, MayBeTwo}
-use Rattle.qp_run.specs.Printed.{IsOnlyRun, IsRunUnder, IsUnspilt}
+use Rattle.qp_run.specs.Printed.{IsOnlyRun, IsRunUnder}
 
 module _ (sys : System) (sources : List (List Stim)) (budget : ℕ) where
-  sim-journal : (j : Journal) → IsSimRun sys sources budget j → IsUnspilt j → IsSimJournal sys sources j
-  sim-journal j is clean = record { lawful = is.lawful; is_sim = is.kernel; unspilt = clean }
+  sim-journal : (j : Journal) → IsSimRun sys sources budget j → IsSimJournal sys sources j
+  sim-journal j is = record { lawful = is.lawful; is_sim = is.kernel }
 
   only-run : (j : Journal) → IsSound sys → StimuliFit sys sources → IsSimRun sys sources budget j → IsOnlyRun sys sources budget j
   only-run j sound fit is = record {
     run = is;
-    only = λ unspilt other runs clean. all-one sys sources other j sound fit (sim-journal other runs clean) (sim-journal j is unspilt) (runs.budget_is ∙ sym is.budget_is);
+    only = λ unspilt other runs clean. unspilt-one sys sources j other sound fit (sim-journal j is) (sim-journal other runs) (is.budget_is ∙ sym runs.budget_is) unspilt clean;
   }
 
   pub only-runs : {T E : Type 0} (journal : T → Journal) (result : Result T E) → IsSound sys → StimuliFit sys sources
