@@ -1,5 +1,5 @@
 -- What is left of a step at a scheduling point still closes with `done`.
-use Rattle.std.proofs.Common.{◌≡◌, ℕ, ◌+◌, ◌-◌, Bool, true, false, not, ◌&&◌, List, [], ◌∷◌, ◌++◌, refl, sym, subst, inr, Option, Some, None, arith, append_assoc, append-nil}
+use Rattle.std.proofs.Common.{◌≡◌, ℕ, ◌+◌, ◌-◌, true, not, List, [], ◌∷◌, ◌++◌, refl, sym, subst, inr, Option, Some, None, arith, append_assoc, append-nil}
 use Rattle.std.specs.Prelude.{IsTrue, nat_lt, pos}
 use Rattle.std.proofs.lemmas.Bool.{lt-ltb, and_parts}
 use Rattle.qp_chart.specs.Task.{Task}

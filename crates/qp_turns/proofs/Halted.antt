@@ -12,7 +12,7 @@ use Rattle.qp_calls.proofs.NoteLemmas.{last-snoc}
 use Rattle.qp_kernel.specs.Happenings.{lanes_from, lanes_of}
 use Rattle.qp_kernel.specs.Laws.{AllWait}
 use Rattle.qp_kernel.specs.LaneZero.{Agree}
-use Rattle.qp_kernel.specs.Turning.{KernelState, Stands, spill_told, Terms, kernel_in}
+use Rattle.qp_kernel.specs.Turning.{KernelState, Stands, spill_told, Terms}
 use Rattle.qp_kernel.proofs.KernelLaws.{full_lane_ends, run_stops_elsewhere}
 use Rattle.qp_turns.specs.declared.halting.Halt.{Halt}
 use Rattle.qp_turns.specs.declared.halting.Halt.TheVariants as halt

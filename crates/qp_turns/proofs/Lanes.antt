@@ -1,7 +1,5 @@
 -- The kernel's lane through calls and parts of a turn.
-use Rattle.std.proofs.Common.{◌≡◌, ℕ, ◌+◌, ◌<◌, ◌==◌, Bool, true, false, List, [], ◌∷◌, ◌++◌, map, length, refl, sym, ◌∙◌, ap, subst, inl, inr, Option, Some, None, Ok, Err, arith, append_assoc, append-nil}
-use Rattle.std.specs.Prelude.{◌⊎◌}
-use Rattle.std.specs.declared.result.Result.{Result}
+use Rattle.std.proofs.Common.{◌≡◌, ℕ, ◌<◌, Bool, true, false, List, [], ◌∷◌, ◌++◌, map, length, refl, sym, ◌∙◌, ap, subst, inl, inr, Option, Some, None, arith, append_assoc, append-nil}
 use Rattle.qp_chart.specs.declared.checked.Chart.{Chart}
 use Rattle.qp_model.specs.declared.systems.System.{System}
 use Rattle.qp_model.specs.Course.{chart_at}
@@ -16,19 +14,18 @@ use Rattle.qp_calls.specs.LaneView.{Gains, Grows, GrowsOf, LaneView, Roomier, pl
 use Rattle.qp_calls.specs.Notes.{last_code, told_note}
 use Rattle.qp_calls.proofs.Growing.{gains-none, room-gains, room-then}
 use Rattle.qp_calls.proofs.NoteLemmas.{last-snoc}
-use Rattle.qp_dispatch.specs.declared.objects.Object.{Object}
 use Rattle.qp_dispatch.specs.declared.steps.Step.{Step}
 use Rattle.qp_dispatch.specs.declared.steps.Step.TheVariants as step
-use Rattle.qp_dispatch.specs.Objects.{ObjectResumes, ResumesAs, works_for}
+use Rattle.qp_dispatch.specs.Objects.{ResumesAs, works_for}
 use Rattle.qp_kernel.specs.Interrupting.{Happens, HasNone, IsLaneKept, IsStopped}
 use Rattle.qp_kernel.specs.Turning.{seen_told, spill_told}
 use Rattle.qp_turns.specs.declared.halting.Halt.{Halt}
 use Rattle.qp_turns.specs.declared.halting.Halt.TheVariants as halt
 use Rattle.qp_turns.specs.declared.objects.Objects.{Objects}
 use Rattle.qp_turns.specs.Halting.{Halts}
-use Rattle.qp_turns.specs.Lanes.{HandsIn, HandsCode, HasFound, KeepsLane, LaneGoes, LaneHalts, LaneStarts, LaneTo, SameLane}
+use Rattle.qp_turns.specs.Lanes.{HandsIn, KeepsLane, LaneGoes, LaneHalts, LaneStarts}
 use Rattle.qp_turns.specs.Objects.{ResumesAt}
-use Rattle.qp_turns.specs.Starting.{GrowsAndStops, StartStopped, StartsAll}
+use Rattle.qp_turns.specs.Starting.{StartsAll}
 use Rattle.qp_turns.proofs.Turns.{noted}
 
 -- One part behind another.

@@ -1,11 +1,11 @@
 -- Pending queues through looks.
-use Rattle.std.proofs.Common.{◌≡◌, ℕ, zero, suc, ◌+◌, ◌<◌, ◌≤◌, ◌==◌, List, [], ◌∷◌, refl, sym, ◌∙◌, ap, subst, arith, Some}
+use Rattle.std.proofs.Common.{◌≡◌, ℕ, zero, suc, ◌+◌, ◌<◌, ◌≤◌, [], ◌∷◌, refl, ◌∙◌, ap, arith, Some}
 use Rattle.qp_model.specs.declared.bodies.Body.TheVariants as body
 use Rattle.qp_model.specs.declared.systems.System.{System}
 use Rattle.qp_model.specs.declared.systems.ObjectDef.{ObjectDef}
 use Rattle.qp_model.specs.declared.words.Word.TheVariants as word
 use Rattle.qp_model.specs.Sites.{object_at}
-use Rattle.qp_model.specs.Told.{ToldItem, plain}
+use Rattle.qp_model.specs.Told.{plain}
 use Rattle.qp_calls.specs.LaneView.{Gains, GrowsOf, LaneView, Own, Roomier, own_after}
 use Rattle.qp_kernel.specs.declared.kernel.Kernel.{Kernel}
 use Rattle.qp_kernel.specs.Interrupting.{IsLaneKept}

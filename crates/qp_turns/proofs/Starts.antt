@@ -38,7 +38,7 @@ use Rattle.qp_kernel.specs.Happenings.{IsInOrder, IsOrderEnded, has_no_stim, lan
 use Rattle.qp_kernel.specs.Laws.{AllWait, OthersWait}
 use Rattle.qp_kernel.specs.Stages as stage
 use Rattle.qp_kernel.specs.Stages.{is_resting, may_wait}
-use Rattle.qp_kernel.specs.Turning.{IsObject, KernelState, Stands, having, moved, spill_told, Terms, kernel_in}
+use Rattle.qp_kernel.specs.Turning.{IsObject, KernelState, Stands, having, moved, spill_told, Terms}
 use Rattle.qp_kernel.proofs.KernelLaws.{assertion_ends_start, full_lane_ends, object_starts, spill_ends_start}
 use Rattle.qp_kernel.proofs.OrderGrowth.{in_order-grows, order-ends}
 use Rattle.qp_kernel.proofs.TurnLemmas.{FailedForm, start-failed, start-form}

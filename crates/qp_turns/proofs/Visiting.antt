@@ -36,7 +36,7 @@ use Rattle.qp_dispatch.proofs.Taking.{taken-is}
 use Rattle.qp_kernel.specs.Happenings.{lanes_of}
 use Rattle.qp_kernel.specs.Stages as stage
 use Rattle.qp_kernel.specs.Stages.{Stage, is_resting}
-use Rattle.qp_kernel.specs.Turning.{IsObject, KernelState, Stands, having, moved, seen_told, Terms, kernel_in}
+use Rattle.qp_kernel.specs.Turning.{IsObject, KernelState, Stands, having, moved, seen_told, Terms}
 use Rattle.qp_kernel.proofs.KernelLaws.{budget_ends, entry_is_seen, step_begins}
 use Rattle.qp_turns.specs.Turning.{EndsSo}
 use Rattle.qp_turns.specs.declared.objects.Objects.{Objects}

@@ -2,8 +2,6 @@
 -- run stops.
 use Rattle.std.specs.Prelude.{◌≡◌, ℕ, ◌<◌, ◌⊎◌, Bool, false, List, ◌∷◌, ◌++◌, length, Ok, Err}
 use Rattle.std.specs.declared.result.Result.{Result}
-use Rattle.qp_model.specs.OneOrder.{Placed}
-use Rattle.qp_model.specs.Told.{ToldItem}
 use Rattle.qp_calls.specs.LaneView.{Happening, LaneView}
 use Rattle.qp_calls.specs.Notes.{last_code}
 use Rattle.qp_dispatch.specs.declared.objects.Turn.{Turn}

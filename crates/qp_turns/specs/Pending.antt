@@ -1,6 +1,5 @@
 -- Queues with an entry that the lane hasn't taken.
-use Rattle.std.specs.Prelude.{◌≡◌, ℕ, ◌+◌, ◌<◌, [], Some, Ok, Err}
-use Rattle.std.specs.declared.result.Result.{Result}
+use Rattle.std.specs.Prelude.{◌≡◌, ℕ, ◌+◌, ◌<◌, [], Some}
 use Rattle.qp_model.specs.declared.systems.System.{System}
 use Rattle.qp_model.specs.declared.systems.ObjectDef.{ObjectDef}
 use Rattle.qp_model.specs.declared.words.Word.TheVariants as word
@@ -9,7 +8,6 @@ use Rattle.qp_calls.specs.LaneView.{LaneView}
 use Rattle.qp_dispatch.specs.declared.objects.Turn.{Turn}
 use Rattle.qp_dispatch.specs.declared.objects.Turn.TheVariants as turn
 use Rattle.qp_kernel.specs.declared.kernel.Kernel.{Kernel}
-use Rattle.qp_turns.specs.declared.halting.Halt.{Halt}
 
 -- of the operations of the queue that the lane knows of fewer than half are its own takes
 abbrev pub Pending : ℕ → LaneView → Type 0

@@ -3,7 +3,7 @@ use Rattle.qp_turns.specs.Knowing.{IsScanning}
 use Rattle.qp_turns.specs.Ordering.{AreSeenEmpty, PassedInOrder}
 use Rattle.qp_turns.specs.Turning.{Passed, Stood, row_below, stand_of, terms_of}
 use Rattle.qp_turns.proofs.Counting.{begin-none}
-use Rattle.qp_turns.proofs.Lanes.{goes-none, goes-then, halts-then}
+use Rattle.qp_turns.proofs.Lanes.{goes-none, halts-then}
 use Rattle.std.proofs.lemmas.Result.{err_from_is_err_and}
 use Rattle.qp_turns.proofs.Ordered.{seen-none}
 use Rattle.qp_turns.proofs.Rows.{row-whole}
