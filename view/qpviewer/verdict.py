@@ -64,7 +64,8 @@ def read_verdict(text: str) -> Verdict | None:
 def verdict_words(verdict: Verdict, names: Names) -> str:
     """A verdict in words: its definition, its site by name, and what that means."""
     title, meaning = MEANINGS[verdict.definition]
-    return f"{title} of {_site(verdict, names)}: {meaning}"
+    site = "" if verdict.definition == "D19" else f" of {_site(verdict, names)}"
+    return f"{title}{site}: {meaning}"
 
 
 def _site(verdict: Verdict, names: Names) -> str:
