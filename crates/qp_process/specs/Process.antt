@@ -12,7 +12,7 @@ use Rattle.qp_run.specs.declared.status.Status.{Status}
 use Rattle.qp_run.specs.declared.status.Status.TheVariants.{Words, Memory}
 use Rattle.qp_run.specs.Conversions.{Held}
 use Rattle.qp_run.specs.Notes.{number_of}
-use Rattle.qp_run.specs.Verdict.{Counts, IsCall, Noted, Stands, Stream}
+use Rattle.qp_run.specs.Verdict.{Counts, IsCall, IsPutFor, Noted, Stands, Stream}
 use Rattle.qp_commands.specs.WordTable.{command_in}
 
 -- the arguments of a process, as `env::args` gives them
@@ -32,7 +32,7 @@ unread kind = Memory
 pub record IsUnread (error : Error) (n : Counts) (output note : Stream) (answer : Status) : Type 0 where
   pub told : Stands n.notes (unread (error_kind error)) answer
   pub out : output.after ≡ output.before
-  pub notes : Noted None n.notes note.before note.after answer
+  pub notes : Noted None (IsPutFor (unread (error_kind error))) n.notes note.before note.after answer
 
 -- what the process answered
 abbrev pub IsAnswered : Result Args Error → Option Held → Counts → (output note : Stream) → Status → Type 0
@@ -42,3 +42,11 @@ IsAnswered (Err error) held n output note answer = IsUnread error n output note 
 -- it ended with the number of such an answer
 abbrev pub EndsWith : ℕ → (Status → Type 0) → Type 0
 EndsWith code IsAnswer = (answer : Status) × (code ≡ number_of answer) × IsAnswer answer
+
+-- a stream of which nothing is told
+abbrev pub untold : Stream
+untold = record { before = None; after = None }
+
+-- it ended so over the files and streams of the process, which tell nothing but what failed
+abbrev pub EndsUntold : Result Args Error → ℕ → Type 0
+EndsUntold args code = (n : Counts) × EndsWith code (IsAnswered args None n untold untold)

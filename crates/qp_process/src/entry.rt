@@ -5,7 +5,7 @@ ghost use Rattle.std.specs.Process.{exit_status};
 ghost use Rattle.qp_run.specs.Notes.{number_of};
 ghost use Rattle.qp_run.specs.Verdict.{IsCall, count_of, stream_of, writes_of};
 ghost use Rattle.qp_commands.specs.WordTable.{command_in};
-ghost use Rattle.qp_process.specs.Process.{EndsWith, IsAnswered, words_in};
+ghost use Rattle.qp_process.specs.Process.{EndsUntold, EndsWith, IsAnswered, words_in};
 
 use crate::arguments::{texts_of, unread, words_of};
 use qp_base::{DirShelf, NoGate, Shelf, Sink, StdSink};
@@ -16,7 +16,7 @@ use std::env::Args;
 use std::io::IsTerminal;
 use std::process::ExitCode;
 use std::sync::Wait;
-use std::{env, io};
+use std::io;
 
 /// How output goes on.
 #[derive(Clone, Copy, PartialEq, Eq, Debug)]
@@ -34,9 +34,14 @@ pub struct Ended<O: Drop> {
     pub out: O,
 }
 
-/// The program over the arguments, the files and the standard streams of the process. `waits` is its runtime once more, by which a
-/// run may wait.
-pub fn process<R: Wait>(rt: &HostRuntime, waits: &R) -> ExitCode {
+/// The program over these arguments of the process, its files and its standard streams. It ends with the number of an answer to them,
+/// as `program` does. `waits` is its runtime once more, by which a run may wait.
+///
+/// Neither files nor streams tell what they hold or got. So no clause can say that the output went to standard output and the note to
+/// standard error; tests see that.
+pub fn process<R: Wait>(rt: &HostRuntime, waits: &R, args: io::Result<Args>) -> ExitCode
+    ensures { EndsUntold args (exit_status result) }
+{
     let flow = if rt.stdout().is_terminal() {
         Flow::Lines
     } else {
@@ -45,7 +50,7 @@ pub fn process<R: Wait>(rt: &HostRuntime, waits: &R) -> ExitCode {
     let ended = program(
         waits,
         rt.alloc(),
-        env::args(rt),
+        args,
         &mut DirShelf::new(rt),
         StdSink::out(rt),
         &mut StdSink::notes(rt),

@@ -1,5 +1,5 @@
 -- No call over files has two answers.
-use Rattle.std.proofs.Common.{◌≡◌, ℕ, ◌≤◌, List, length, Option, Some, None, Result, Ok, Err, ◌⊎◌, sym, ap, subst, ◌∙◌, arith, inl, inr}
+use Rattle.std.proofs.Common.{◌≡◌, ℕ, ◌≤◌, List, length, Option, Some, None, Result, Ok, Err, ◌⊎◌, refl, sym, ap, subst, ◌∙◌, arith, inl, inr}
 use Rattle.qp_alike.proofs.LawLemmas.{lawful_journals_are_one, stimuli_are_one, verdicts_are_one}
 use Rattle.qp_base.specs.Limits.{file_limit}
 use Rattle.qp_model.specs.declared.stimulus.Stim.{Stim}
@@ -18,14 +18,15 @@ use Rattle.qp_commands.specs.declared.values.Kernel.TheVariants.{Sim, Qv}
 use Rattle.qp_commands.specs.declared.values.Kind.{Kind}
 use Rattle.qp_commands.specs.declared.values.Kind.TheVariants.{Frames, Journal as Text}
 use Rattle.qp_run.specs.Checks.{JudgesFiles, JudgesFound, JudgesSecond, JudgesStimuli, JudgesSystem, JudgesThird, verdict_answer}
-use Rattle.qp_run.specs.Conversions.{AnswersJournal, answer_on, decode_on, migrate_on, said}
+use Rattle.qp_gen.specs.Made.{IsMade}
+use Rattle.qp_run.specs.Conversions.{AnswersJournal, Held, answer_on, decode_on, migrate_on, said}
 use Rattle.qp_run.specs.Endings.{ending_of}
 use Rattle.qp_run.specs.Laws.{EndRuns, MayBeTwo, OneAnswer}
 use Rattle.qp_run.specs.Loads.{EndsAtLoad, IsLoaded}
 use Rattle.qp_model.specs.declared.journals.Journal.{Journal}
 use Rattle.qp_run.specs.Printed.{IsRunUnder, made_budget}
 use Rattle.qp_commands.specs.WordTable.{check, decode, generate, migrate, number_of_form, replay, run}
-use Rattle.qp_run.specs.Verdict.{AnswersFiles, AnswersSources, AnswersStimuli, AnswersSystem, EndsMade, EndsRun, IsAnswer}
+use Rattle.qp_run.specs.Verdict.{AnswersFiles, AnswersSources, AnswersStimuli, AnswersSystem, EndsMade, EndsRun, IsAnswer, IsInput}
 use Rattle.qp_run.specs.Refusals.{RefusesFirst, system_refusal}
 use Rattle.qp_run.proofs.RunLemmas.{journals-either}
 
@@ -47,13 +48,13 @@ pub loaded-one : (held : Option (List ℕ)) (x y : List ℕ) → IsLoaded held x
 loaded-one held x y p q = let first = p.0 in let second = q.0 in cc
 
 -- two answers on runs of one system are one, or may be two
-ends-either : (kernel : Kernel) (budget : ℕ) (sys : System) (sources : List (List Stim)) (a b : Status) → EndsRun sys sources kernel budget a → EndsRun sys sources kernel budget b
-    → (a ≡ b) ⊎ EndRuns kernel budget a b
-ends-either kernel budget sys sources a b (i, is, ends) (j, are, others) = by (journals-either kernel budget sys sources i j is are)
+ends-either : (AreNamed : System → List (List Stim) → Type 0) (kernel : Kernel) (budget : ℕ) (sys : System) (sources : List (List Stim)) → AreNamed sys sources
+    → (a b : Status) → EndsRun sys sources kernel budget a → EndsRun sys sources kernel budget b → (a ≡ b) ⊎ EndRuns AreNamed kernel budget a b
+ends-either AreNamed kernel budget sys sources named a b (i, is, ends) (j, are, others) = by (journals-either kernel budget sys sources i j is are)
   where
-    by : (i ≡ j) ⊎ MayBeTwo kernel i j → (a ≡ b) ⊎ EndRuns kernel budget a b
+    by : (i ≡ j) ⊎ MayBeTwo kernel i j → (a ≡ b) ⊎ EndRuns AreNamed kernel budget a b
     by (inl same) = inl (ends ∙ ap ending_of same ∙ sym others)
-    by (inr two) = inr (record { sys = sys; sources = sources; first = i; second = j; first_run = is; second_run = are; may_be_two = two }, ends, others)
+    by (inr two) = inr (record { sys = sys; sources = sources; named = named; first = i; second = j; first_run = is; second_run = are; may_be_two = two }, ends, others)
 
 -- the answers of two systems of the same bytes
 module _ (bytes : List ℕ) where
@@ -81,7 +82,8 @@ module _ (bytes : List ℕ) where
       → IsRunUnder kernel s sources budget j → IsRunUnder kernel t sources budget j
   under-carries s t p q sources Sim budget j is = record {
     run = sim-carries s t p q sources budget j is.run;
-    only = λ unspilt other runs clean. is.only unspilt other (sim-carries t s q p sources budget other runs) clean;
+    only = λ short other runs. is.only short other (sim-carries t s q p sources budget other runs);
+    only_unspilt = λ unspilt other runs clean. is.only_unspilt unspilt other (sim-carries t s q p sources budget other runs) clean;
   }
   under-carries s t p q sources Qv budget j is =
       let lawful = lawful_journals_are_one bytes s t sources j p q is.run.lawful in
@@ -95,35 +97,43 @@ module _ (bytes : List ℕ) where
   run-carries s t p q sources kernel budget a (j, is, ends) =
       (j, under-carries s t p q sources kernel budget j is, ends)
 
-  module _ (kernel : Kernel) (budget : ℕ) (s t : System) (p : IsSystemOf bytes s) (q : IsSystemOf bytes t) where
-    sources-run : (found : Result (List (List Stim)) Fault) (a b : Status) → AnswersSources s kernel budget found a → AnswersSources t kernel budget found b → (a ≡ b) ⊎ EndRuns kernel budget a b
-    sources-run (Err fault) a b is are = inl (is ∙ sym are)
-    sources-run (Ok sources) a b is are = ends-either kernel budget s sources a b is (run-carries t s q p sources kernel budget b are)
+  module _ (AreNamed : System → List (List Stim) → Type 0) (kernel : Kernel) (budget : ℕ) (s t : System) (p : IsSystemOf bytes s) (q : IsSystemOf bytes t) where
+    sources-run : (found : Result (List (List Stim)) Fault) → ((sources : List (List Stim)) → found ≡ Ok sources → AreNamed s sources) → (a b : Status)
+        → AnswersSources s kernel budget found a → AnswersSources t kernel budget found b → (a ≡ b) ⊎ EndRuns AreNamed kernel budget a b
+    sources-run (Err fault) named a b is are = inl (is ∙ sym are)
+    sources-run (Ok sources) named a b is are = ends-either AreNamed kernel budget s sources (named sources refl) a b is (run-carries t s q p sources kernel budget b are)
 
-    stimuli-run : (held : Option (List ℕ)) (a b : Status) → AnswersStimuli held s kernel budget a → AnswersStimuli held t kernel budget b → (a ≡ b) ⊎ EndRuns kernel budget a b
-    stimuli-run held a b (inl is) (inl are) = inl (ends-one 2 held a b is are)
-    stimuli-run held a b (inl is) (inr (text, loaded, are)) = absurd (loaded-goes_on 2 held text a loaded is)
-    stimuli-run held a b (inr (text, loaded, is)) (inl are) = absurd (loaded-goes_on 2 held text b loaded are)
-    stimuli-run held a b (inr (text, loaded, is)) (inr (other, found, are)) =
-        sources-run (stimuli_of s text) a b is (subst (λ x. AnswersSources t kernel budget x b) same are)
+    stimuli-run : (held : Option (List ℕ)) → ((text : List ℕ) (sources : List (List Stim)) → IsLoaded held text → stimuli_of s text ≡ Ok sources → AreNamed s sources)
+        → (a b : Status) → AnswersStimuli held s kernel budget a → AnswersStimuli held t kernel budget b → (a ≡ b) ⊎ EndRuns AreNamed kernel budget a b
+    stimuli-run held named a b (inl is) (inl are) = inl (ends-one 2 held a b is are)
+    stimuli-run held named a b (inl is) (inr (text, loaded, are)) = absurd (loaded-goes_on 2 held text a loaded is)
+    stimuli-run held named a b (inr (text, loaded, is)) (inl are) = absurd (loaded-goes_on 2 held text b loaded are)
+    stimuli-run held named a b (inr (text, loaded, is)) (inr (other, found, are)) =
+        sources-run (stimuli_of s text) (λ sources says. named text sources loaded says) a b is (subst (λ x. AnswersSources t kernel budget x b) same are)
       where
         same : stimuli_of t other ≡ stimuli_of s text
         same = ap (stimuli_of t) (loaded-one held other text found loaded) ∙ sym (stimuli_are_one bytes s t text p q)
 
-  system-run : (kernel : Kernel) (budget : ℕ) (held : Option (List ℕ)) (a b : Status) → AnswersSystem bytes held kernel budget a → AnswersSystem bytes held kernel budget b → (a ≡ b) ⊎ EndRuns kernel budget a b
-  system-run kernel budget held a b (inl is) (inl are) = inl (refusal-one a b is are)
-  system-run kernel budget held a b (inl is) (inr (sys, read, are)) = absurd (system-goes_on sys a read is)
-  system-run kernel budget held a b (inr (sys, read, is)) (inl are) = absurd (system-goes_on sys b read are)
-  system-run kernel budget held a b (inr (s, p, is)) (inr (t, q, are)) = stimuli-run kernel budget s t p q held a b is are
+  system-run : (AreNamed : System → List (List Stim) → Type 0) (kernel : Kernel) (budget : ℕ) (held : Option (List ℕ))
+      → ((s : System) → IsSystemOf bytes s → (text : List ℕ) (sources : List (List Stim)) → IsLoaded held text → stimuli_of s text ≡ Ok sources → AreNamed s sources)
+      → (a b : Status) → AnswersSystem bytes held kernel budget a → AnswersSystem bytes held kernel budget b → (a ≡ b) ⊎ EndRuns AreNamed kernel budget a b
+  system-run AreNamed kernel budget held named a b (inl is) (inl are) = inl (refusal-one a b is are)
+  system-run AreNamed kernel budget held named a b (inl is) (inr (sys, read, are)) = absurd (system-goes_on sys a read is)
+  system-run AreNamed kernel budget held named a b (inr (sys, read, is)) (inl are) = absurd (system-goes_on sys b read are)
+  system-run AreNamed kernel budget held named a b (inr (s, p, is)) (inr (t, q, are)) = stimuli-run AreNamed kernel budget s t p q held (named s p) a b is are
 
-files-run-one : (system stimuli : Option (List ℕ)) (kernel : Kernel) (budget : ℕ) (a b : Status) → AnswersFiles system stimuli kernel budget a → AnswersFiles system stimuli kernel budget b
-    → (a ≡ b) ⊎ EndRuns kernel budget a b
-unfolding AnswersFiles
-files-run-one system stimuli kernel budget a b (inl is) (inl are) = inl (ends-one 1 system a b is are)
-files-run-one system stimuli kernel budget a b (inl is) (inr (bytes, loaded, are)) = absurd (loaded-goes_on 1 system bytes a loaded is)
-files-run-one system stimuli kernel budget a b (inr (bytes, loaded, is)) (inl are) = absurd (loaded-goes_on 1 system bytes b loaded are)
-files-run-one system stimuli kernel budget a b (inr (bytes, loaded, is)) (inr (other, found, are)) =
-    system-run bytes kernel budget stimuli a b is (subst (λ x. AnswersSystem x stimuli kernel budget b) (loaded-one system other bytes found loaded) are)
+-- two answers on runs of two files are one, or are on two runs of what the files say
+module _ (held : Held) (system stimuli : List ℕ) (kernel : Kernel) (budget : ℕ) where
+  files-run-one : (a b : Status) → AnswersFiles (held system) (held stimuli) kernel budget a → AnswersFiles (held system) (held stimuli) kernel budget b
+      → (a ≡ b) ⊎ EndRuns (IsInput (Some held) system stimuli) kernel budget a b
+  unfolding AnswersFiles
+  files-run-one a b (inl is) (inl are) = inl (ends-one 1 (held system) a b is are)
+  files-run-one a b (inl is) (inr (bytes, loaded, are)) = absurd (loaded-goes_on 1 (held system) bytes a loaded is)
+  files-run-one a b (inr (bytes, loaded, is)) (inl are) = absurd (loaded-goes_on 1 (held system) bytes b loaded are)
+  files-run-one a b (inr (bytes, loaded, is)) (inr (other, found, are)) =
+      system-run bytes (IsInput (Some held) system stimuli) kernel budget (held stimuli)
+      (λ s read text sources has says. record { system = bytes; stimuli = text; system_held = loaded; stimuli_held = has; system_read = read; stimuli_read = says })
+      a b is (subst (λ x. AnswersSystem x (held stimuli) kernel budget b) (loaded-one (held system) other bytes found loaded) are)
 
 -- the answer where two files have a system and its stimuli
 module _ (system stimuli : Option (List ℕ)) (kernel : Kernel) (budget : ℕ) (bytes text : List ℕ) (sys : System) (sources : List (List Stim))
@@ -145,18 +155,19 @@ module _ (system stimuli : Option (List ℕ)) (kernel : Kernel) (budget : ℕ) (
   files-run (inr (found, loaded, is)) = on-system (subst (λ b. AnswersSystem b stimuli kernel budget answer) (loaded-one system found bytes loaded system_held) is)
 
 -- two answers on runs of what the same bytes say are one, or are on two runs that may leave two journals
-runs-one : (bytes text : List ℕ) (s t : System) (xs ys : List (List Stim)) → IsSystemOf bytes s → IsSystemOf bytes t → stimuli_of s text ≡ Ok xs → stimuli_of t text ≡ Ok ys
-    → (kernel : Kernel) (budget : ℕ) (a b : Status) → EndsRun s xs kernel budget a → EndsRun t ys kernel budget b → (a ≡ b) ⊎ EndRuns kernel budget a b
-runs-one bytes text s t xs ys p q says tells kernel budget a b is are =
+runs-one : (AreNamed : System → List (List Stim) → Type 0) (bytes text : List ℕ) (s t : System) (xs ys : List (List Stim)) → AreNamed s xs
+    → IsSystemOf bytes s → IsSystemOf bytes t → stimuli_of s text ≡ Ok xs → stimuli_of t text ≡ Ok ys
+    → (kernel : Kernel) (budget : ℕ) (a b : Status) → EndsRun s xs kernel budget a → EndsRun t ys kernel budget b → (a ≡ b) ⊎ EndRuns AreNamed kernel budget a b
+runs-one AreNamed bytes text s t xs ys named p q says tells kernel budget a b is are =
     let both : Ok ys ≡ Ok xs = sym tells ∙ sym (stimuli_are_one bytes s t text p q) ∙ says in
     let same : ys ≡ xs = cc in
-    ends-either kernel budget s xs a b is (run-carries bytes t s q p xs kernel budget b (subst (λ zs. EndsRun t zs kernel budget b) same are))
+    ends-either AreNamed kernel budget s xs named a b is (run-carries bytes t s q p xs kernel budget b (subst (λ zs. EndsRun t zs kernel budget b) same are))
 
 -- and so are those of what a number makes
-made-one : (n : ℕ) (a b : Status) → EndsMade n a → EndsMade n b → (a ≡ b) ⊎ EndRuns Sim made_budget a b
+made-one : (n : ℕ) (a b : Status) → EndsMade n a → EndsMade n b → (a ≡ b) ⊎ EndRuns (IsMade n) Sim made_budget a b
 unfolding EndsMade
 made-one n a b (s, xs, made, is) (t, ys, makes, are) =
-    runs-one _ _ s t xs ys made.system makes.system made.sources makes.sources Sim made_budget a b is are
+    runs-one (IsMade n) _ _ s t xs ys made made.system makes.system made.sources makes.sources Sim made_budget a b is are
 
 -- a file has one journal, or none
 journal-one : (kind : Kind) (on : Journal → Status) (held : Option (List ℕ)) (a b : Status) → AnswersJournal kind on held a → AnswersJournal kind on held b → a ≡ b
@@ -215,7 +226,7 @@ files-judged-one system stimuli held a b (inr (bytes, loaded, is)) (inr (other, 
 pub one-answer : OneAnswer
 unfolding IsAnswer
 one-answer held None a b p q = inl (p ∙ sym q)
-one-answer held (Some (run w)) a b p q = files-run-one (held w.system) (held w.stimuli) w.kernel w.budget a b p q
+one-answer held (Some (run w)) a b p q = files-run-one held w.system w.stimuli w.kernel w.budget a b p q
 one-answer held (Some (decode frames)) a b p q = inl (journal-one Frames decode_on (held frames) a b p q)
 one-answer held (Some (migrate w)) a b p q = inl (journal-one w.from (migrate_on (number_of_form w.to)) (held w.file) a b p q)
 one-answer held (Some (check w)) a b p q = inl (files-judged-one (held w.system) (held w.stimuli) (held w.journal) a b p q)

@@ -1,8 +1,9 @@
 -- Runs that were printed, with their answers.
-use Rattle.std.proofs.Common.{◌≡◌, ◌∙◌, ℕ, true, List, Option, Ok, Err, refl, sym, ap, subst, ◌⊎◌, inl, inr}
+use Rattle.std.proofs.Common.{◌≡◌, ◌∙◌, ℕ, true, List, IsTrue, Option, Ok, Err, refl, sym, ap, subst, ◌⊎◌, inl, inr}
 use Rattle.qp_model.specs.declared.journals.Journal.{Journal}
 use Rattle.qp_model.specs.declared.stimulus.Stim.{Stim}
 use Rattle.qp_model.specs.declared.systems.System.{System}
+use Rattle.qp_model.specs.Output.{has_form, is_in_range}
 use Rattle.qp_gen.specs.Made.{IsMade}
 use Rattle.qp_summary.specs.declared.summary.SummaryFault.TheVariants as fault
 use Rattle.qp_summary.specs.Written.{Fails, Writes, joined}
@@ -48,12 +49,13 @@ memory-printed P got faults = inl (refl, refl)
 -- ---- what was printed of a run
 
 -- what was printed of a run's journal
-pub journal-printed : (sys : System) (sources : List (List Stim)) (kernel : Kernel) (budget : ℕ) (j : Journal) → IsRunUnder kernel sys sources budget j → (output : Output) (form : ℕ)
-    → (old new : Option (List ℕ)) (faults faults' : ℕ) (answer : Status) → IsPrinted (PrintsOf output form sys j) old new faults faults' answer
+pub journal-printed : (sys : System) (sources : List (List Stim)) (kernel : Kernel) (budget : ℕ) (j : Journal) → IsRunUnder kernel sys sources budget j
+    → (output : Output) (form : ℕ) → IsTrue (has_form form j) → IsTrue (is_in_range form j) → (old new : Option (List ℕ)) (faults faults' : ℕ) (answer : Status) → IsPrinted (PrintsOf output form sys j) old new faults faults' answer
     → IsPrinted (PrintsRun sys sources kernel budget output form) old new faults faults' answer
 unfolding IsPrinted PrintsRun
-journal-printed sys sources kernel budget j is output form old new faults faults' answer (inl none) = inl none
-journal-printed sys sources kernel budget j is output form old new faults faults' answer (inr (told, whole, prints, wrote)) = inr (told, whole, (j, is, prints), wrote)
+journal-printed sys sources kernel budget j is output form shape range old new faults faults' answer (inl none) = inl none
+journal-printed sys sources kernel budget j is output form shape range old new faults faults' answer (inr (told, whole, prints, wrote)) =
+    inr (told, whole, (j, is, shape, range, prints), wrote)
 
 module _ (sys : System) (sources : List (List Stim)) (kernel : Kernel) (budget : ℕ) (output : Output) (form : ℕ) where
   abbrev Prints : Status → List ℕ → Type 0
@@ -62,7 +64,7 @@ module _ (sys : System) (sources : List (List Stim)) (kernel : Kernel) (budget :
   -- its answer is what the records of some journal say
   prints-ends : (told : Status) (whole : List ℕ) → Prints told whole → EndsRun sys sources kernel budget told
   unfolding PrintsRun PrintsOf
-  prints-ends told whole (j, is, (ends, print)) = (j, is, ends)
+  prints-ends told whole (j, is, shape, range, (ends, print)) = (j, is, ends)
 
   module _ (old new : Option (List ℕ)) (faults faults' : ℕ) (answer : Status) where
     wrote-ending : (told : Status) (whole : List ℕ) (ends : EndsRun sys sources kernel budget told) → IsWrittenAs told whole old new faults faults' answer

@@ -19,7 +19,7 @@ use Rattle.qp_commands.specs.declared.values.Kind.TheVariants.{Frames}
 use Rattle.qp_run.specs.Loads.{EndsAtLoad, IsLoaded}
 use Rattle.qp_run.specs.Notes.{line_of, names_file, is_done}
 use Rattle.qp_run.specs.Refusals.{RefusesFirst, RefusesSecond}
-use Rattle.qp_run.specs.Verdict.{Agrees, AgreesCheck, AgreesFiles, AgreesJournal, AgreesRun, AnswersFiles, AnswersSystem, AnswersStimuli, AnswersWords, Count, Counts, FailsToLoad, HasCause, HasRisen, IsAnswer, IsInput, Noted, Stands, AnswersSources, EndsMade, EndsRun, is_failure, quiet}
+use Rattle.qp_run.specs.Verdict.{Agrees, AgreesCheck, AgreesFiles, AgreesJournal, AgreesRun, AnswersFiles, AnswersSystem, AnswersStimuli, AnswersWords, Count, Counts, FailsToLoad, HasCause, HasRisen, IsAnswer, IsInput, IsPutFor, Noted, Stands, AnswersSources, EndsMade, EndsRun, is_failure, quiet}
 use Rattle.qp_commands.specs.WordTable.{Asked, CheckWords, MigrateWords, RunWords, check, decode, generate, migrate, number_of_form, replay, run}
 
 -- a fact of what the shelf holds, where it tells
@@ -155,43 +155,61 @@ pub not-done : (answer : Status) → is_done answer ≡ false → answer ≡ Don
 not-done answer other done = false≢true (sym other ∙ ap is_done done)
 
 -- the line of an answer was put
-noted-line : (asked : Option Asked) (n : Count) (old new : Option (List ℕ)) (answer : Status) → (answer ≡ Done → ⊥) → new ≡ appended old (line_of asked answer) → Noted asked n old new answer
-unfolding Noted
-noted-line asked n old new Done other put = absurd (other refl)
-noted-line asked n old new WriteFault other put = inl put
-noted-line asked n old new Words other put = put
-noted-line asked n old new (Absent file) other put = put
-noted-line asked n old new (TooLong file len) other put = put
-noted-line asked n old new (Refused file code at) other put = put
-noted-line asked n old new (Asserted code lane) other put = put
-noted-line asked n old new (Spent lane) other put = put
-noted-line asked n old new Memory other put = put
-noted-line asked n old new ReadFault other put = put
-noted-line asked n old new (Unlawful definition at) other put = put
+module _ (asked : Option Asked) (WouldBe : Status → Type 0) (n : Count) (old new : Option (List ℕ)) where
+  noted-line : (answer : Status) → (answer ≡ Done → ⊥) → new ≡ appended old (line_of asked answer) → Noted asked WouldBe n old new answer
+  unfolding Noted
+  noted-line Done other put = absurd (other refl)
+  noted-line WriteFault other put = inl put
+  noted-line Words other put = put
+  noted-line (Absent file) other put = put
+  noted-line (TooLong file len) other put = put
+  noted-line (Refused file code at) other put = put
+  noted-line (Asserted code lane) other put = put
+  noted-line (Spent lane) other put = put
+  noted-line Memory other put = put
+  noted-line ReadFault other put = put
+  noted-line (Unlawful definition at) other put = put
 
-noted-fault : (asked : Option Asked) (n : Count) (old new : Option (List ℕ)) (told : Status) → HasRisen n → AppendsPrefix old (line_of asked told) new → Noted asked n old new WriteFault
-unfolding Noted
-noted-fault asked n old new told rose part = inr (rose, (told, part))
+  noted-fault : (put : Status) → WouldBe put → HasRisen n → AppendsPrefix old (line_of asked put) new → Noted asked WouldBe n old new WriteFault
+  unfolding Noted
+  noted-fault put would rose part = inr (rose, (put, would, part))
+
+  -- where each answer that would have been is one of these too
+  pub noted-wider : (Wider : Status → Type 0) → ((put : Status) → WouldBe put → Wider put) → (answer : Status) → Noted asked WouldBe n old new answer → Noted asked Wider n old new answer
+  unfolding Noted
+  noted-wider Wider wider Done noted = noted
+  noted-wider Wider wider WriteFault (inl put) = inl put
+  noted-wider Wider wider WriteFault (inr (rose, (put, would, part))) = inr (rose, (put, wider put would, part))
+  noted-wider Wider wider Words noted = noted
+  noted-wider Wider wider (Absent file) noted = noted
+  noted-wider Wider wider (TooLong file len) noted = noted
+  noted-wider Wider wider (Refused file code at) noted = noted
+  noted-wider Wider wider (Asserted code lane) noted = noted
+  noted-wider Wider wider (Spent lane) noted = noted
+  noted-wider Wider wider Memory noted = noted
+  noted-wider Wider wider ReadFault noted = noted
+  noted-wider Wider wider (Unlawful definition at) noted = noted
 
 pub noted-put : (asked : Option Asked) (n : Count) (old new : Option (List ℕ)) (told answer : Status) (line : List ℕ) → (told ≡ Done → ⊥) → line ≡ line_of asked told
-    → ((answer ≡ told) × (new ≡ appended old line)) ⊎ ((answer ≡ WriteFault) × Rose n.before n.after × AppendsPrefix old line new) → Noted asked n old new answer
-noted-put asked n old new told answer line other is (inl (same, put)) = rw same (noted-line asked n old new told other (put ∙ ap (appended old) is))
-noted-put asked n old new told answer line other is (inr (failed, rose, part)) = subst (λ a. Noted asked n old new a) (sym failed) (noted-fault asked n old new told rose (rw is at part))
+    → ((answer ≡ told) × (new ≡ appended old line)) ⊎ ((answer ≡ WriteFault) × Rose n.before n.after × AppendsPrefix old line new) → Noted asked (IsPutFor told) n old new answer
+noted-put asked n old new told answer line other is (inl (same, put)) = rw same (noted-line asked (IsPutFor told) n old new told other (put ∙ ap (appended old) is))
+noted-put asked n old new told answer line other is (inr (failed, rose, part)) =
+    subst (λ a. Noted asked (IsPutFor told) n old new a) (sym failed) (noted-fault asked (IsPutFor told) n old new told (inl refl) rose (rw is at part))
 
 -- nothing was put
-pub noted-done : (asked : Option Asked) (n : Count) (old : Option (List ℕ)) (answer : Status) → is_done answer ≡ true → Noted asked n old old answer
+pub noted-done : (asked : Option Asked) (WouldBe : Status → Type 0) (n : Count) (old : Option (List ℕ)) (answer : Status) → is_done answer ≡ true → Noted asked WouldBe n old old answer
 unfolding Noted
-noted-done asked n old Done done = refl
-noted-done asked n old Words done = absurd (false≢true done)
-noted-done asked n old (Absent file) done = absurd (false≢true done)
-noted-done asked n old (TooLong file len) done = absurd (false≢true done)
-noted-done asked n old (Refused file code at) done = absurd (false≢true done)
-noted-done asked n old (Asserted code lane) done = absurd (false≢true done)
-noted-done asked n old (Spent lane) done = absurd (false≢true done)
-noted-done asked n old Memory done = absurd (false≢true done)
-noted-done asked n old ReadFault done = absurd (false≢true done)
-noted-done asked n old WriteFault done = absurd (false≢true done)
-noted-done asked n old (Unlawful definition at) done = absurd (false≢true done)
+noted-done asked WouldBe n old Done done = refl
+noted-done asked WouldBe n old Words done = absurd (false≢true done)
+noted-done asked WouldBe n old (Absent file) done = absurd (false≢true done)
+noted-done asked WouldBe n old (TooLong file len) done = absurd (false≢true done)
+noted-done asked WouldBe n old (Refused file code at) done = absurd (false≢true done)
+noted-done asked WouldBe n old (Asserted code lane) done = absurd (false≢true done)
+noted-done asked WouldBe n old (Spent lane) done = absurd (false≢true done)
+noted-done asked WouldBe n old Memory done = absurd (false≢true done)
+noted-done asked WouldBe n old ReadFault done = absurd (false≢true done)
+noted-done asked WouldBe n old WriteFault done = absurd (false≢true done)
+noted-done asked WouldBe n old (Unlawful definition at) done = absurd (false≢true done)
 
 -- an answer as it stands once its line was put
 widened : (n : Counts) (answer : Status) → HasCause (record n { notes = quiet }) answer → HasCause n answer

@@ -1,15 +1,18 @@
 -- What of a run is printed.
-use Rattle.std.specs.Prelude.{◌≡◌, ℕ, false, List, ◌⊎◌, Option}
-use Rattle.std.specs.List.{list_any}
+use Rattle.std.specs.Prelude.{◌≡◌, ℕ, true, List, IsTrue, ◌⊎◌, Option}
 use Rattle.qp_model.specs.declared.journals.Journal.{Journal}
 use Rattle.qp_model.specs.declared.stimulus.Stim.{Stim}
 use Rattle.qp_model.specs.declared.systems.System.{System}
-use Rattle.qp_model.specs.Ends.{is_spill}
-use Rattle.qp_model.specs.History.{all_items}
+use Rattle.qp_model.specs.Ends.{spills_in}
+use Rattle.qp_model.specs.History.{lane_items}
+use Rattle.qp_model.specs.Home.{lane_at}
+use Rattle.qp_model.specs.Output.{has_form, is_in_range}
 use Rattle.qp_model.specs.OutputSummary.{IsSummary}
 use Rattle.qp_summary.specs.Written.{joined}
 use Rattle.qp_simulation.specs.SimRun.{IsQvRun, IsSimRun}
 use Rattle.qp_gen.specs.Made.{IsMade}
+use Rattle.qp_only.specs.Laws.{IsUnspilt}
+use Rattle.qp_unique.specs.Tidy.{is_short}
 use Rattle.qp_run.specs.declared.status.Status.{Status}
 use Rattle.qp_run.specs.declared.status.Status.TheVariants.{Memory}
 use Rattle.qp_commands.specs.declared.values.Kernel.{Kernel}
@@ -19,18 +22,24 @@ use Rattle.qp_commands.specs.declared.values.Output.TheVariants.{Whole, Summary}
 use Rattle.qp_run.specs.Conversions.{IsWrittenAs, written}
 use Rattle.qp_run.specs.Endings.{ending_of}
 
--- no lane of the journal ended with a `spill`
-abbrev pub IsUnspilt : Journal → Type 0
-IsUnspilt j = list_any (λ i. is_spill i.body) (all_items j.lanes) ≡ false
+-- lane 0 of the journal ended with a `spill`
+abbrev pub HaltedFull : Journal → Type 0
+HaltedFull j = spills_in (lane_items (lane_at j 0)) ≡ true
 
--- where no lane ended with a `spill`, this is the only such journal of `sim` for this system, these stimuli and this budget
+-- where no lane has more than 999,992 records, this is the only such journal of `sim` for this system, these stimuli and this budget, but
+-- for one whose lane 0 ended with a `spill`
 abbrev pub IsOnlyJournal : System → List (List Stim) → ℕ → Journal → Type 0
-IsOnlyJournal sys sources budget j = IsUnspilt j → (other : Journal) → IsSimRun sys sources budget other → IsUnspilt other → other ≡ j
+IsOnlyJournal sys sources budget j = IsTrue (is_short j) → (other : Journal) → IsSimRun sys sources budget other → (other ≡ j) ⊎ HaltedFull other
+
+-- and where no lane ended with a `spill`, it is the only one of these, however long its lanes are
+abbrev pub IsOnlyUnspilt : System → List (List Stim) → ℕ → Journal → Type 0
+IsOnlyUnspilt sys sources budget j = IsUnspilt j → (other : Journal) → IsSimRun sys sources budget other → IsUnspilt other → other ≡ j
 
 -- what a run under `sim` leaves
 pub record IsOnlyRun (sys : System) (sources : List (List Stim)) (budget : ℕ) (j : Journal) : Type 0 where
   pub run : IsSimRun sys sources budget j
   pub only : IsOnlyJournal sys sources budget j
+  pub only_unspilt : IsOnlyUnspilt sys sources budget j
 
 -- a journal that a run of this system and these stimuli may leave under this kernel with this budget
 abbrev pub IsRunUnder : Kernel → System → List (List Stim) → ℕ → Journal → Type 0
@@ -46,10 +55,12 @@ IsPrintOf Summary form sys j whole = (lines : List (List ℕ)) × IsSummary sys 
 unfoldable pub PrintsOf : Output → ℕ → System → Journal → Status → List ℕ → Type 0
 PrintsOf output form sys j answer whole = (answer ≡ ending_of j) × IsPrintOf output form sys j whole
 
--- what is printed of a run of this system and these stimuli under this kernel with this budget, and the answer with it
+-- what is printed of a run of this system and these stimuli under this kernel with this budget, and the answer with it; the journal has
+-- the form and is in range, so that its text or frames are of no other
 unfoldable pub PrintsRun : System → List (List Stim) → Kernel → ℕ → Output → ℕ → Status → List ℕ → Type 0
 PrintsRun sys sources kernel budget output form answer whole =
-    (j : Journal) × IsRunUnder kernel sys sources budget j × PrintsOf output form sys j answer whole
+    (j : Journal) × IsRunUnder kernel sys sources budget j × IsTrue (has_form form j) × IsTrue (is_in_range form j)
+    × PrintsOf output form sys j answer whole
 
 -- the budget of what a number makes
 abbrev pub made_budget : ℕ

@@ -150,13 +150,18 @@ HasCause n ReadFault = HasRisen n.reads
 HasCause n WriteFault = HasRisen n.out ⊎ HasRisen n.notes
 HasCause n answer = ⊤
 
--- what the notes got: nothing for `Done`, else the line of the answer; or a part of a line whose put failed
-unfoldable pub Noted : Option Asked → Count → (old new : Option (List ℕ)) → Status → Type 0
+-- the answer whose line is put: the answer so far, or want of memory in the place of one whose line names a file
+abbrev pub IsPutFor : (told put : Status) → Type 0
+IsPutFor told put = (put ≡ told) ⊎ ((put ≡ Memory) × (names_file told ≡ true))
+
+-- what the notes got: nothing for `Done`, else the line of the answer; or, where its put failed, a front of the line of the answer that
+-- would have been
+unfoldable pub Noted : Option Asked → (WouldBe : Status → Type 0) → Count → (old new : Option (List ℕ)) → Status → Type 0
 unfolding line_of
-Noted asked n old new Done = new ≡ old
-Noted asked n old new WriteFault =
-    (new ≡ appended old (line_of asked WriteFault)) ⊎ (HasRisen n × ((told : Status) × AppendsPrefix old (line_of asked told) new))
-Noted asked n old new answer = new ≡ appended old (line_of asked answer)
+Noted asked WouldBe n old new Done = new ≡ old
+Noted asked WouldBe n old new WriteFault =
+    (new ≡ appended old (line_of asked WriteFault)) ⊎ (HasRisen n × ((put : Status) × WouldBe put × AppendsPrefix old (line_of asked put) new))
+Noted asked WouldBe n old new answer = new ≡ appended old (line_of asked answer)
 
 -- words that ask for nothing are answered at once, if memory was found to read them
 abbrev pub AnswersWords : Option Asked → Status → Type 0
@@ -255,6 +260,12 @@ pub record Stream : Type 0 where
 abbrev pub stream_of : {S : Type 0} → (S → Option (List ℕ)) → (old new : S) → Stream
 stream_of written old new = record { before = written old; after = written new }
 
+-- the answer that would have been, had its line been put: it is exact but for failures, and the output got what it says
+pub record WouldAnswer (held : Option Held) (asked : Option Asked) (output : Stream) (answer : Status) : Type 0 where
+  pub told : IfSome held (λ h. Agrees h asked answer)
+  pub words_told : AnswersWords asked answer
+  pub out : Prints held asked output.before output.after answer
+
 -- a call that asks for this, over a shelf that held this: its counts, its output, its note and its answer
 pub record IsCall (held : Option Held) (asked : Option Asked) (n : Counts) (output note : Stream) (answer : Status) : Type 0 where
   -- the answer is exact but for failures, and each failure but want of memory shows in a count
@@ -264,4 +275,4 @@ pub record IsCall (held : Option Held) (asked : Option Asked) (n : Counts) (outp
   -- what a call printed that was carried out is the whole output that was asked for, and each that can be carried out is
   pub out : Prints held asked output.before output.after answer
   pub complete : IsComplete held asked n answer
-  pub notes : Noted asked n.notes note.before note.after answer
+  pub notes : Noted asked (WouldAnswer held asked output) n.notes note.before note.after answer

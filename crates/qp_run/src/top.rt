@@ -3,7 +3,7 @@ ghost use Rattle.std.specs.Prelude.{◌≡◌, ◌≢◌, ◌⊎◌, true, false
 ghost use Rattle.qp_base.specs.Counts.{Rose};
 ghost use Rattle.qp_base.specs.Sink.{AppendsPrefix, appended};
 ghost use Rattle.qp_run.specs.Notes.{names_file};
-ghost use Rattle.qp_run.specs.Verdict.{Agrees, AnswersWords, HasCause, IsCall, IsNamed, Noted, Prints, Stands, count_of, stream_of, writes_of};
+ghost use Rattle.qp_run.specs.Verdict.{Agrees, AnswersWords, HasCause, IsCall, IsNamed, IsPutFor, Noted, Prints, Stands, count_of, stream_of, writes_of};
 ghost use Rattle.qp_commands.specs.WordTable.{Asked, asked_of, command_in, is_in_limits, texts};
 ghost use Rattle.qp_run.specs.declared.status.Status.{Status};
 
@@ -113,7 +113,7 @@ fn put_line<E: Sink>(status: Status, line: &[u8], notes: &mut E) -> Status
 pub fn tell<E: Sink>(status: Status, notes: &mut E) -> Status
     requires { names_file status ≡ false }
     ensures notes { (asked : Option Asked)
-        → Noted asked (count_of E.faults notes.old notes.new) (E.written notes.old) (E.written notes.new) result }
+        → Noted asked (IsPutFor status) (count_of E.faults notes.old notes.new) (E.written notes.old) (E.written notes.new) result }
     ensures answer { Stands (count_of E.faults notes.old notes.new) status result }
 {
     if status.is_done() {
@@ -126,7 +126,7 @@ pub fn tell<E: Sink>(status: Status, notes: &mut E) -> Status
 /// Puts the line about an answer. Only a line that names a file takes memory; it names it by this name.
 pub fn report<E: Sink>(alloc: Global, name: &str, status: Status, notes: &mut E) -> Status
     ensures notes { (asked : Option Asked) → IsNamed asked status name.now
-        → Noted asked (count_of E.faults notes.old notes.new) (E.written notes.old) (E.written notes.new) result }
+        → Noted asked (IsPutFor status) (count_of E.faults notes.old notes.new) (E.written notes.old) (E.written notes.new) result }
     ensures answer { Stands (count_of E.faults notes.old notes.new) status result }
 {
     if !status.names_file() {

@@ -1,5 +1,5 @@
 //! Tests of the top call that are too long for the tables of qp_verdicts, whose program two compilers build: journals of a million records;
-//! and of its output in pieces, to sinks that fail.
+//! and of its output in pieces and of summaries, to sinks that fail.
 //!
 //! They stand beside qp_run and qp_output, over their public calls, so that neither is proved a second time for them.
 #![tactic(auto)]
@@ -10,3 +10,5 @@ mod pieces;
 mod samples;
 #[cfg(test)]
 mod spills;
+#[cfg(test)]
+mod summaries;

@@ -23,7 +23,9 @@ print-requires-clause-lawful g c = (c.args.stimuli.now, run-lawful c.args.system
 pub returns-in-Ok : goal.returns-in-Ok
 returns-in-Ok g c =
     journal-printed c.args.system.now c.args.stimuli.now c.args.kernel c.args.budget c.in-Ok.simulated.journal c.in-Ok.ensures.run
-    c.args.output (number_of_form c.args.form) _ _ _ _ c.print.result c.print.ensures
+    c.args.output (number_of_form c.args.form) (run-form c.args.system.now c.args.stimuli.now c.args.budget c.in-Ok.simulated.journal c.requires.sound c.requires.fit.few c.requires.some c.requires.few
+    c.args.kernel c.in-Ok.ensures.run c.args.form c.requires.form) (run-range c.args.system.now c.args.stimuli.now c.args.budget c.in-Ok.simulated.journal c.requires.sound c.requires.fit.few c.requires.some c.requires.few
+    c.args.kernel c.in-Ok.ensures.run c.args.form c.requires.form) _ _ _ _ c.print.result c.print.ensures
 
 pub returns-in-Err : goal.returns-in-Err
 returns-in-Err g c = memory-printed _ _ _

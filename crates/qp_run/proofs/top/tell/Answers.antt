@@ -3,7 +3,7 @@ use Rattle.qp_run.proofs.VerdictLemmas.{noted-put, noted-done, not-done}
 use Rattle.qp_run.proofs.top.tell.Goals as goal
 
 pub returns-then-is_done-clause-notes : goal.returns-then-is_done-clause-notes
-returns-then-is_done-clause-notes g c = λ asked. noted-done asked _ _ c.args.status (sym c.is_done.ensures ∙ c.if-is_done.true)
+returns-then-is_done-clause-notes g c = λ asked. noted-done asked _ _ _ c.args.status (sym c.is_done.ensures ∙ c.if-is_done.true)
 
 pub returns-clause-notes : goal.returns-clause-notes
 returns-clause-notes g c = λ asked.
