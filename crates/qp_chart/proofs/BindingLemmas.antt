@@ -8,12 +8,12 @@ use Rattle.std.proofs.lemmas.List.Folds.{list_any_at}
 use Rattle.std.proofs.lemmas.Iterator.Adapters.{position_from-zero}
 use Rattle.std.proofs.lemmas.Option.{slice_get-map, slice_get-get_or}
 use Rattle.arrayvec.specs.ArrayString.{ArrayString}
-use Rattle.qp_language.specs.Terms.{Word}
+use Rattle.qp_chart_text.specs.Terms.{Word}
 use Rattle.qp_chart.specs.Binding.{named, Binds}
-use Rattle.qp_names.specs.Known.{is_named, words, has_word, knows, reaches}
+use Rattle.qp_chart_names.specs.Known.{is_named, words, has_word, knows, reaches}
 use Rattle.qp_chart.specs.Expr.{InRange}
-use Rattle.qp_names.proofs.KnownLemmas.{any_named}
-use Rattle.qp_language.specs.Terms.{Var}
+use Rattle.qp_chart_names.proofs.KnownLemmas.{any_named}
+use Rattle.qp_chart_text.specs.Terms.{Var}
 use Rattle.qp_chart.specs.declared.expression.Bound as bound
 use Rattle.std.specs.Option.{unwrap_or}
 

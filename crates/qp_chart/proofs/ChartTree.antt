@@ -6,10 +6,10 @@ use Rattle.std.proofs.lemmas.Bool.{false≢true, or_cases}
 use Rattle.std.proofs.lemmas.Bool.Decides.{nat_tests}
 use Rattle.std.proofs.lemmas.Option.{none-some}
 use Rattle.std.proofs.lemmas.Map.Steps.{length-le_from_distinct_below}
-use Rattle.qp_names.specs.Faults.{Fault, fault_if, first_of, first_in}
+use Rattle.qp_chart_names.specs.Faults.{Fault, fault_if, first_of, first_in}
 use Rattle.qp_chart.specs.StateTree.{has}
 use Rattle.qp_chart.specs.Parents.{parent_in, path_in, is_looped}
-use Rattle.qp_names.proofs.NumberingLemmas.{bool_cases}
+use Rattle.qp_chart_names.proofs.NumberingLemmas.{bool_cases}
 
 -- no fault among several is none of them
 pub none-both : (o : Option Fault) (os : List (Option Fault)) → first_of (o ∷ os) ≡ None → (o ≡ None) × (first_of os ≡ None)

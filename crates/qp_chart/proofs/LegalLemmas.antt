@@ -7,23 +7,23 @@ use Rattle.std.proofs.lemmas.Bool.Decides.{nat_tests}
 use Rattle.std.proofs.lemmas.Option.{none-some, slice_get_past}
 use Rattle.std.proofs.lemmas.List.{length-map}
 use Rattle.arrayvec.specs.ArrayString.{ArrayString}
-use Rattle.qp_names.specs.declared.raw.RawChart.{RawChart}
-use Rattle.qp_names.specs.declared.raw.RawState.{RawState}
-use Rattle.qp_names.specs.declared.raw.Names.{Names}
+use Rattle.qp_chart_names.specs.declared.raw.RawChart.{RawChart}
+use Rattle.qp_chart_names.specs.declared.raw.RawState.{RawState}
+use Rattle.qp_chart_names.specs.declared.raw.Names.{Names}
 use Rattle.qp_chart.specs.declared.checked.State.{State}
 use Rattle.qp_chart.specs.declared.checked.Chart.{Chart}
-use Rattle.qp_names.specs.Numbering.{number_in}
-use Rattle.qp_names.specs.RawNumbers.{state_number, state_names}
-use Rattle.qp_names.specs.Pairs.{Corresponds}
+use Rattle.qp_chart_names.specs.Numbering.{number_in}
+use Rattle.qp_chart_names.specs.RawNumbers.{state_number, state_names}
+use Rattle.qp_chart_names.specs.Pairs.{Corresponds}
 use Rattle.qp_chart.specs.StateTree.{state_at, parent_of, path_of, up, outer, is_below, IsTree}
 use Rattle.qp_chart.specs.TreeLaws.{PathsThatEndAreTrees}
 use Rattle.qp_chart.specs.Parents.{parent_number, parents_of, parent_in, path_in, up_in, is_looped, is_deep, is_below_in, loop_at, depth_at, tree_fault}
-use Rattle.qp_names.specs.Faults.{first_in}
+use Rattle.qp_chart_names.specs.Faults.{first_in}
 use Rattle.qp_chart.specs.ChartFaults.{chart_fault, parts_fault, body_fault, frame_fault, state_fault, init_fault, is_astray}
 use Rattle.qp_chart.specs.ChartOf.{IsChartOf, IsStateOf}
-use Rattle.qp_names.specs.RawNumbers.{Refers}
+use Rattle.qp_chart_names.specs.RawNumbers.{Refers}
 use Rattle.qp_chart.specs.LegalTree.{IsLegal}
-use Rattle.qp_names.proofs.NumberingLemmas.{number_in-above, number_in-below}
+use Rattle.qp_chart_names.proofs.NumberingLemmas.{number_in-above, number_in-below}
 use Rattle.qp_chart.proofs.ParentsLemmas.{path_in-None}
 use Rattle.qp_chart.proofs.TreeLemmas.{paths_that_end_are_trees}
 use Rattle.qp_chart.proofs.ChartTree.{none-both, fault_if-None, first_in-None, IsInside, path-short}

@@ -9,16 +9,16 @@ use Rattle.qp_chart.specs.declared.actions.Plain as plain
 use Rattle.qp_chart.specs.declared.actions.Plain.TheVariants as checked
 use Rattle.qp_chart.specs.declared.actions.Act.{Act}
 use Rattle.qp_chart.specs.declared.actions.Act.TheVariants as act
-use Rattle.qp_names.specs.declared.raw.RawChart.{RawChart}
-use Rattle.qp_names.specs.declared.raw.ObjName.{ObjName}
-use Rattle.qp_names.specs.declared.raw.Names.{Names}
-use Rattle.qp_language.specs.Terms.{Term, Address, ToMe, ToObject, Event, Order, Set, Say, Post, Lifo, Forward, Publish, Defer, Recall, Flush, Subscribe, Unsubscribe, Arm, Rearm, Disarm, Command, Plain, Locked}
-use Rattle.qp_language.specs.Reading.{term_of_text}
-use Rattle.qp_language.specs.ReadingActions.{command_of_text}
-use Rattle.qp_names.specs.ActionFaults.{command_known, command_in_range, command_fits, params_in}
+use Rattle.qp_chart_names.specs.declared.raw.RawChart.{RawChart}
+use Rattle.qp_chart_names.specs.declared.raw.ObjName.{ObjName}
+use Rattle.qp_chart_names.specs.declared.raw.Names.{Names}
+use Rattle.qp_chart_text.specs.Terms.{Term, Address, ToMe, ToObject, Event, Order, Set, Say, Post, Lifo, Forward, Publish, Defer, Recall, Flush, Subscribe, Unsubscribe, Arm, Rearm, Disarm, Command, Plain, Locked}
+use Rattle.qp_chart_text.specs.Reading.{term_of_text}
+use Rattle.qp_chart_text.specs.ReadingActions.{command_of_text}
+use Rattle.qp_chart_names.specs.ActionFaults.{command_known, command_in_range, command_fits, params_in}
 use Rattle.qp_chart.specs.Binding.{Binds}
-use Rattle.qp_names.specs.Pairs.{Corresponds}
-use Rattle.qp_names.specs.RawNumbers.{variable_names, variable_number, timer_number, signal_number, object_named}
+use Rattle.qp_chart_names.specs.Pairs.{Corresponds}
+use Rattle.qp_chart_names.specs.RawNumbers.{variable_names, variable_number, timer_number, signal_number, object_named}
 
 -- the bound expression of an expression that may use so many parameters
 abbrev pub IsBoundOf : RawChart → ℕ → Term → Bound → Type 0

@@ -4,8 +4,8 @@ use Rattle.std.specs.Option.{unwrap_or}
 use Rattle.qp_chart.specs.declared.expression.Bound as bound
 use Rattle.qp_chart.specs.declared.binding.BindFault.{BindFault}
 use Rattle.qp_chart.specs.declared.binding.BindFault.TheVariants as fault
-use Rattle.qp_language.specs.Terms.{Word, Term, Num, Var, Ok, Me, Par, One, Two}
-use Rattle.qp_names.specs.Known.{knows, reaches}
+use Rattle.qp_chart_text.specs.Terms.{Word, Term, Num, Var, Ok, Me, Par, One, Two}
+use Rattle.qp_chart_names.specs.Known.{knows, reaches}
 use Rattle.qp_chart.specs.Expr.{InRange}
 
 -- the bound expression with the variables' names put back

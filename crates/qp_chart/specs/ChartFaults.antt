@@ -5,20 +5,20 @@ use Rattle.std.specs.Option.{is_none}
 use Rattle.std.specs.List.{list_any}
 use Rattle.std.specs.Str.{bytes_eq}
 use Rattle.arrayvec.specs.ArrayString.{ArrayString}
-use Rattle.qp_names.specs.declared.place.Part.{Part}
-use Rattle.qp_names.specs.declared.place.Part.TheVariants.{Key, Pos}
-use Rattle.qp_names.specs.Keys.{STATE, TIMER, SIGNAL, ROW, PARENT, ENTRY, EXIT, INIT, INIT_DO, ON, WHEN, DO, TO}
-use Rattle.qp_names.specs.Codes.{RANGE, INIT_NOT_BELOW, TWO_ROWS}
-use Rattle.qp_names.specs.declared.raw.RawChart.{RawChart}
-use Rattle.qp_names.specs.declared.raw.RawTimer.{RawTimer}
-use Rattle.qp_names.specs.declared.raw.RawState.{RawState}
-use Rattle.qp_names.specs.declared.raw.RawRow.{RawRow}
-use Rattle.qp_names.specs.declared.raw.Names.{Names}
-use Rattle.qp_names.specs.Faults.{Fault, fault_if, first_of, first_in}
-use Rattle.qp_names.specs.NameFaults.{undeclared, undeclared_key, doubles_fault}
-use Rattle.qp_names.specs.RawNumbers.{state_number, signal_number}
+use Rattle.qp_chart_names.specs.declared.place.Part.{Part}
+use Rattle.qp_chart_names.specs.declared.place.Part.TheVariants.{Key, Pos}
+use Rattle.qp_chart_names.specs.Keys.{STATE, TIMER, SIGNAL, ROW, PARENT, ENTRY, EXIT, INIT, INIT_DO, ON, WHEN, DO, TO}
+use Rattle.qp_chart_names.specs.Codes.{RANGE, INIT_NOT_BELOW, TWO_ROWS}
+use Rattle.qp_chart_names.specs.declared.raw.RawChart.{RawChart}
+use Rattle.qp_chart_names.specs.declared.raw.RawTimer.{RawTimer}
+use Rattle.qp_chart_names.specs.declared.raw.RawState.{RawState}
+use Rattle.qp_chart_names.specs.declared.raw.RawRow.{RawRow}
+use Rattle.qp_chart_names.specs.declared.raw.Names.{Names}
+use Rattle.qp_chart_names.specs.Faults.{Fault, fault_if, first_of, first_in}
+use Rattle.qp_chart_names.specs.NameFaults.{undeclared, undeclared_key, doubles_fault}
+use Rattle.qp_chart_names.specs.RawNumbers.{state_number, signal_number}
 use Rattle.qp_chart.specs.Parents.{parents_of, tree_fault, is_below_in}
-use Rattle.qp_names.specs.ActionFaults.{is_static, params_of, texts_fault, when_fault}
+use Rattle.qp_chart_names.specs.ActionFaults.{is_static, params_of, texts_fault, when_fault}
 
 -- the place of a state
 abbrev pub state_place : ℕ → List Part

@@ -1,20 +1,20 @@
 -- The checked chart of a chart as its file has it: each name is resolved to its number.
 use Rattle.std.specs.Prelude.{◌≡◌, ℕ, List, Some, None}
 use Rattle.std.specs.declared.option.Option.{Option}
-use Rattle.qp_names.specs.declared.raw.RawChart.{RawChart}
-use Rattle.qp_names.specs.declared.raw.RawTimer.{RawTimer}
-use Rattle.qp_names.specs.declared.raw.RawState.{RawState}
-use Rattle.qp_names.specs.declared.raw.RawRow.{RawRow}
-use Rattle.qp_names.specs.declared.raw.Names.{Names}
+use Rattle.qp_chart_names.specs.declared.raw.RawChart.{RawChart}
+use Rattle.qp_chart_names.specs.declared.raw.RawTimer.{RawTimer}
+use Rattle.qp_chart_names.specs.declared.raw.RawState.{RawState}
+use Rattle.qp_chart_names.specs.declared.raw.RawRow.{RawRow}
+use Rattle.qp_chart_names.specs.declared.raw.Names.{Names}
 use Rattle.qp_chart.specs.declared.actions.Act.{Act}
 use Rattle.qp_chart.specs.declared.checked.Timer.{Timer}
 use Rattle.qp_chart.specs.declared.checked.Row.{Row}
 use Rattle.qp_chart.specs.declared.checked.State.{State}
 use Rattle.qp_chart.specs.declared.checked.Chart.{Chart}
-use Rattle.qp_names.specs.Pairs.{Corresponds}
-use Rattle.qp_names.specs.RawNumbers.{Refers, state_number, signal_number}
+use Rattle.qp_chart_names.specs.Pairs.{Corresponds}
+use Rattle.qp_chart_names.specs.RawNumbers.{Refers, state_number, signal_number}
 use Rattle.qp_chart.specs.Parents.{parent_number}
-use Rattle.qp_names.specs.ActionFaults.{params_of}
+use Rattle.qp_chart_names.specs.ActionFaults.{params_of}
 use Rattle.qp_chart.specs.ActionOf.{IsActOfText, IsGuardOf}
 
 -- the actions of some texts

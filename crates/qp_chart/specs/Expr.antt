@@ -5,10 +5,10 @@ use Rattle.std.specs.Ordering.{int_eq}
 use Rattle.std.specs.Int.{w64, cast_signed, int_wrapping_add, int_wrapping_sub, int_wrapping_mul, int_wrapping_div, int_wrapping_neg}
 use Rattle.std.specs.Prelude.{int_rem}
 use Rattle.qp_chart.specs.declared.evaluate.Env.{Env}
-use Rattle.qp_language.specs.declared.operators.Unary.{Unary}
-use Rattle.qp_language.specs.declared.operators.Unary.TheVariants as unary
-use Rattle.qp_language.specs.declared.operators.Binary.{Binary}
-use Rattle.qp_language.specs.declared.operators.Binary.TheVariants as binary
+use Rattle.qp_chart_text.specs.declared.operators.Unary.{Unary}
+use Rattle.qp_chart_text.specs.declared.operators.Unary.TheVariants as unary
+use Rattle.qp_chart_text.specs.declared.operators.Binary.{Binary}
+use Rattle.qp_chart_text.specs.declared.operators.Binary.TheVariants as binary
 use Rattle.qp_chart.specs.declared.expression.Bound.{Bound, Num, Var, Ok, Me, Par, One', Two'}
 
 -- what the names of an expression stand for

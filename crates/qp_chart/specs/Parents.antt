@@ -2,14 +2,14 @@
 use Rattle.std.specs.Prelude.{ℕ, zero, suc, ◌-◌, ◌==◌, Bool, ◌&&◌, not, List, [], ◌∷◌, length, map, slice_get, nat_lt, Some, None}
 use Rattle.std.specs.declared.option.Option.{Option}
 use Rattle.std.specs.Option.{option_and_then, option_flatten}
-use Rattle.qp_names.specs.declared.place.Part.TheVariants.{Key, Pos}
-use Rattle.qp_names.specs.Keys.{STATE, PARENT}
-use Rattle.qp_names.specs.Codes.{PARENT_LOOP, TOO_DEEP}
-use Rattle.qp_names.specs.declared.raw.RawChart.{RawChart}
-use Rattle.qp_names.specs.declared.raw.RawState.{RawState}
-use Rattle.qp_names.specs.Faults.{Fault, fault_if, first_of, first_in}
+use Rattle.qp_chart_names.specs.declared.place.Part.TheVariants.{Key, Pos}
+use Rattle.qp_chart_names.specs.Keys.{STATE, PARENT}
+use Rattle.qp_chart_names.specs.Codes.{PARENT_LOOP, TOO_DEEP}
+use Rattle.qp_chart_names.specs.declared.raw.RawChart.{RawChart}
+use Rattle.qp_chart_names.specs.declared.raw.RawState.{RawState}
+use Rattle.qp_chart_names.specs.Faults.{Fault, fault_if, first_of, first_in}
 use Rattle.qp_chart.specs.StateTree.{has}
-use Rattle.qp_names.specs.RawNumbers.{state_number}
+use Rattle.qp_chart_names.specs.RawNumbers.{state_number}
 
 -- the number of the state round this one
 abbrev pub parent_number : RawChart → RawState → Option ℕ

@@ -1,14 +1,14 @@
 //! Resolving the names of an expression.
 
 ghost use Rattle.std.specs.Prelude.{◌≡◌, ◌<◌, ◌≤◌, ℕ, List, false, true, length, slice_get, IfOk, IfErr, IfSome, IfNone};
-ghost use Rattle.qp_language.specs.Terms.{Word, Term, One, Two, term_of};
+ghost use Rattle.qp_chart_text.specs.Terms.{Word, Term, One, Two, term_of};
 ghost use Rattle.std.specs.List.{list_any, position};
 ghost use Rattle.qp_chart.specs.Binding.{Binds, IsCause};
-ghost use Rattle.qp_names.specs.Known.{is_named, words, has_word, knows};
+ghost use Rattle.qp_chart_names.specs.Known.{is_named, words, has_word, knows};
 
 use crate::expression::Bound;
-use qp_language::{Binary, Expr, Name, Unary};
-use qp_names::known::is_known;
+use qp_chart_text::{Binary, Expr, Name, Unary};
+use qp_chart_names::known::is_known;
 use std::alloc::{AllocError, AllocFailed, Global};
 
 /// Why the names of an expression are not resolved.
@@ -60,7 +60,7 @@ pub fn bind(alloc: Global, e: &Expr, vars: &[Name], params: u8) -> Result<Bound,
 }
 
 // The bound expression, or the first fault from the left.
-#[tactic(auto, unfolding(qp_language::specs::Terms::term_of, qp_names::specs::Known::knows, qp_names::specs::Known::reaches, crate::specs::Binding::named, crate::specs::Expr::InRange))]
+#[tactic(auto, unfolding(qp_chart_text::specs::Terms::term_of, qp_chart_names::specs::Known::knows, qp_chart_names::specs::Known::reaches, crate::specs::Binding::named, crate::specs::Expr::InRange))]
 fn resolve(alloc: Global, e: &Expr, vars: &[Name], params: u8) -> Result<Bound, BindFault>
     requires { length vars.now ≤ 16 }
     ensures ok { IfOk result (Binds (words vars.now) params (term_of e.now)) }
@@ -94,7 +94,7 @@ fn resolve(alloc: Global, e: &Expr, vars: &[Name], params: u8) -> Result<Bound, 
 }
 
 // An operator and its operand.
-#[tactic(auto, unfolding(qp_names::specs::Known::knows, qp_names::specs::Known::reaches, crate::specs::Binding::named, crate::specs::Expr::InRange))]
+#[tactic(auto, unfolding(qp_chart_names::specs::Known::knows, qp_chart_names::specs::Known::reaches, crate::specs::Binding::named, crate::specs::Expr::InRange))]
 fn one(alloc: Global, op: Unary, inner: Bound) -> Result<Bound, BindFault>
     ensures ok { (names : List Word) (params : ℕ) (e : Term) → Binds names params e inner → IfOk result (Binds names params (One op e)) }
     ensures memory { IfErr result (λ e. e ≡ BindFault.Memory) }
@@ -103,7 +103,7 @@ fn one(alloc: Global, op: Unary, inner: Bound) -> Result<Bound, BindFault>
 }
 
 // An operator and its operands.
-#[tactic(auto, unfolding(qp_names::specs::Known::knows, qp_names::specs::Known::reaches, crate::specs::Binding::named, crate::specs::Expr::InRange))]
+#[tactic(auto, unfolding(qp_chart_names::specs::Known::knows, qp_chart_names::specs::Known::reaches, crate::specs::Binding::named, crate::specs::Expr::InRange))]
 fn two(alloc: Global, op: Binary, left: Bound, right: Bound) -> Result<Bound, BindFault>
     ensures ok { (names : List Word) (params : ℕ) (e f : Term) → Binds names params e left → Binds names params f right →
         IfOk result (Binds names params (Two op e f)) }

@@ -1,21 +1,21 @@
 //! The check that makes a chart of what a file says.
 ghost use Rattle.std.specs.Prelude.{◌≡◌, ◌≤◌, length, map, None, IfOk, IfErr};
-ghost use Rattle.qp_names.specs.Faults.{IsFault, first_in};
+ghost use Rattle.qp_chart_names.specs.Faults.{IsFault, first_in};
 ghost use Rattle.qp_chart.specs.Parents.{parents_of, parent_number};
 ghost use Rattle.qp_chart.specs.ChartFaults.{chart_fault, parts_fault, body_fault, frame_fault, timer_fault, parent_at};
-ghost use Rattle.qp_names.specs.Pairs.{Corresponds};
+ghost use Rattle.qp_chart_names.specs.Pairs.{Corresponds};
 ghost use Rattle.qp_chart.specs.ChartOf.{IsTimerOf, IsBodyOf, IsChartOf};
 ghost use Rattle.qp_chart.specs.LegalTree.{IsLegal};
-ghost use Rattle.qp_names.specs.Readable.{IsReadable};
+ghost use Rattle.qp_chart_names.specs.Readable.{IsReadable};
 
 use crate::actions::Acts;
 use crate::checked::{Chart, States, Timer, Timers};
 use crate::parents::check_tree;
 use crate::state_check::checked_states;
 use crate::statements::checked_acts;
-use qp_language::Name;
-use qp_names::fit::signal_is_static;
-use qp_names::{
+use qp_chart_text::Name;
+use qp_chart_names::fit::signal_is_static;
+use qp_chart_names::{
     ChartFault, Names, Part, RawChart, RawState, RawTimer, Scope, Vars, code, key, tables_of,
 };
 use std::alloc::{AllocError, Global};

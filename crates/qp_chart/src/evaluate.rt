@@ -6,7 +6,7 @@ ghost use Rattle.std.specs.Int.{w64, cast_signed};
 ghost use Rattle.qp_chart.specs.Expr.{value_of, unary_value, binary_value, names_in, of_truth};
 
 use crate::expression::Bound;
-use qp_language::{Binary, Unary};
+use qp_chart_text::{Binary, Unary};
 
 /// What the names of an expression stand for: the object's variables in ascending name, the parameters of the event,
 /// the object's last answer and its priority.

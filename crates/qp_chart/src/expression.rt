@@ -1,6 +1,6 @@
 //! Expressions whose names are resolved.
 
-use qp_language::{Binary, Unary};
+use qp_chart_text::{Binary, Unary};
 use std::marker::Model;
 
 /// An expression whose names are resolved.

@@ -1,10 +1,10 @@
 //! The parents of the states: that they make a tree, and no deep one.
 ghost use Rattle.std.specs.Prelude.{◌≡◌, ◌≤◌, length, Some, None, IfOk, IfErr};
-ghost use Rattle.qp_names.specs.Faults.{IsFault, first_in};
+ghost use Rattle.qp_chart_names.specs.Faults.{IsFault, first_in};
 ghost use Rattle.qp_chart.specs.StateTree.{has};
 ghost use Rattle.qp_chart.specs.Parents.{parent_in, path_in, up_in, loop_at, depth_at, tree_fault};
 
-use qp_names::{ChartFault, Part, code, key};
+use qp_chart_names::{ChartFault, Part, code, key};
 
 /// The most states on a path.
 pub const DEPTH: usize = 6;

@@ -1,20 +1,20 @@
 //! Actions with their names resolved.
-#![tactic(auto, unfolding(qp_names::specs::ActionFaults::order_known, qp_names::specs::ActionFaults::order_in_range, qp_names::specs::ActionFaults::order_fits, crate::specs::ActionOf::IsPlainOf))]
+#![tactic(auto, unfolding(qp_chart_names::specs::ActionFaults::order_known, qp_chart_names::specs::ActionFaults::order_in_range, qp_chart_names::specs::ActionFaults::order_fits, crate::specs::ActionOf::IsPlainOf))]
 
 ghost use Rattle.std.specs.Prelude.{◌≡◌, All, Some, None, map, true, IfOk, IfErr};
 ghost use Rattle.std.specs.Option.{is_some};
-ghost use Rattle.qp_names.specs.Pairs.{Corresponds};
-ghost use Rattle.qp_language.specs.Terms.{Set, Say, Post, Lifo, Publish, Arm, Rearm, term_of, event_of, order_of, command_of, address_of};
-ghost use Rattle.qp_names.specs.RawNumbers.{signal_number, timer_number, variable_number};
-ghost use Rattle.qp_names.specs.ActionFaults.{IsAllowed, IsSound, command_known, command_in_range, command_fits, event_known, event_fits, receiver_known, is_byte, params_in};
+ghost use Rattle.qp_chart_names.specs.Pairs.{Corresponds};
+ghost use Rattle.qp_chart_text.specs.Terms.{Set, Say, Post, Lifo, Publish, Arm, Rearm, term_of, event_of, order_of, command_of, address_of};
+ghost use Rattle.qp_chart_names.specs.RawNumbers.{signal_number, timer_number, variable_number};
+ghost use Rattle.qp_chart_names.specs.ActionFaults.{IsAllowed, IsSound, command_known, command_in_range, command_fits, event_known, event_fits, receiver_known, is_byte, params_in};
 ghost use Rattle.qp_chart.specs.ActionOf.{IsBoundOf, IsTargetOf, IsEventOf, IsByteOf, IsPlainOf, IsActOf};
-ghost use Rattle.qp_names.specs.Faults.{IsFault};
+ghost use Rattle.qp_chart_names.specs.Faults.{IsFault};
 
 use crate::actions::{Act, Plain, Plains, Target};
 use crate::binding::{BindFault, bind};
 use crate::expression::{Bound, Bounds};
-use qp_language::{Action, EventTree, Expr, Name, PlainAction, Receiver};
-use qp_names::{ChartFault, Scope};
+use qp_chart_text::{Action, EventTree, Expr, Name, PlainAction, Receiver};
+use qp_chart_names::{ChartFault, Scope};
 use std::alloc::Global;
 
 /// An expression whose names are declared.
@@ -262,7 +262,7 @@ fn resolved_rearm(
 }
 
 /// An action that may stand within `locked`.
-#[tactic(auto, unfolding(qp_language::specs::Terms::order_of, qp_names::specs::ActionFaults::order_known, qp_names::specs::ActionFaults::order_in_range, qp_names::specs::ActionFaults::order_fits, crate::specs::ActionOf::IsPlainOf))]
+#[tactic(auto, unfolding(qp_chart_text::specs::Terms::order_of, qp_chart_names::specs::ActionFaults::order_known, qp_chart_names::specs::ActionFaults::order_in_range, qp_chart_names::specs::ActionFaults::order_fits, crate::specs::ActionOf::IsPlainOf))]
 fn resolved_plain(
     alloc: Global,
     scope: &Scope<'_>,
@@ -330,7 +330,7 @@ fn resolved_plains(
 }
 
 /// An action. `inside` is the number of parameters of the row's signal; `None` stands outside a row.
-#[tactic(auto, unfolding(qp_language::specs::Terms::command_of, qp_names::specs::ActionFaults::command_known, qp_names::specs::ActionFaults::command_in_range, qp_names::specs::ActionFaults::command_fits, crate::specs::ActionOf::IsActOf))]
+#[tactic(auto, unfolding(qp_chart_text::specs::Terms::command_of, qp_chart_names::specs::ActionFaults::command_known, qp_chart_names::specs::ActionFaults::command_in_range, qp_chart_names::specs::ActionFaults::command_fits, crate::specs::ActionOf::IsActOf))]
 pub(crate) fn resolved(
     alloc: Global,
     scope: &Scope<'_>,

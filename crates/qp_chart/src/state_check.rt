@@ -1,23 +1,23 @@
 //! The states of a chart with their rows, in the order of the file.
 ghost use Rattle.std.specs.Prelude.{◌≡◌, ◌+◌, ◌≤◌, ◌++◌, length, None, IfOk, IfErr, All};
-ghost use Rattle.qp_names.specs.declared.raw.RawRow.{RawRow};
-ghost use Rattle.qp_names.specs.declared.raw.RawState.{RawState};
+ghost use Rattle.qp_chart_names.specs.declared.raw.RawRow.{RawRow};
+ghost use Rattle.qp_chart_names.specs.declared.raw.RawState.{RawState};
 ghost use Rattle.std.specs.Option.{option_and_then};
-ghost use Rattle.qp_names.specs.Faults.{IsFault, first_in};
+ghost use Rattle.qp_chart_names.specs.Faults.{IsFault, first_in};
 ghost use Rattle.qp_chart.specs.Parents.{parents_of, parent_number, is_below_in};
 ghost use Rattle.qp_chart.specs.ChartFaults.{init_fault, row_fault, rows_fault, state_fault, is_covered, state_place};
-ghost use Rattle.qp_names.specs.Pairs.{Corresponds};
-ghost use Rattle.qp_names.specs.RawNumbers.{state_number};
+ghost use Rattle.qp_chart_names.specs.Pairs.{Corresponds};
+ghost use Rattle.qp_chart_names.specs.RawNumbers.{state_number};
 ghost use Rattle.qp_chart.specs.ChartOf.{IsRowOf, IsStateOf};
-ghost use Rattle.qp_names.specs.RawNumbers.{Refers};
-ghost use Rattle.qp_names.specs.Readable.{IsReadableRow, IsReadableState};
+ghost use Rattle.qp_chart_names.specs.RawNumbers.{Refers};
+ghost use Rattle.qp_chart_names.specs.Readable.{IsReadableRow, IsReadableState};
 
 use crate::checked::{Row, Rows, State, States};
 use crate::parents::stands_above;
 use crate::statements::{checked_acts, checked_guard};
-use qp_language::Name;
-use qp_names::fit::count_of;
-use qp_names::{ChartFault, Part, RawRow, RawState, Scope, code, key};
+use qp_chart_text::Name;
+use qp_chart_names::fit::count_of;
+use qp_chart_names::{ChartFault, Part, RawRow, RawState, Scope, code, key};
 use std::alloc::Global;
 
 /// The states in order.

@@ -1,20 +1,20 @@
 //! Actions and guards of a chart, from their texts.
 ghost use Rattle.std.specs.Prelude.{◌≡◌, ◌+◌, ◌≤◌, ◌∷◌, ◌++◌, [], length, Some, None, IfOk, IfErr};
-ghost use Rattle.qp_names.specs.declared.place.Part.TheVariants.{Key};
-ghost use Rattle.qp_names.specs.Keys.{WHEN};
-ghost use Rattle.qp_language.specs.Reading.{term_of_text};
-ghost use Rattle.qp_language.specs.Terms.{term_of, command_of};
-ghost use Rattle.qp_names.specs.Pairs.{Corresponds};
-ghost use Rattle.qp_names.specs.Faults.{IsFault};
-ghost use Rattle.qp_names.specs.ActionFaults.{action_fault, text_fault, texts_fault, when_fault, guard_fault};
+ghost use Rattle.qp_chart_names.specs.declared.place.Part.TheVariants.{Key};
+ghost use Rattle.qp_chart_names.specs.Keys.{WHEN};
+ghost use Rattle.qp_chart_text.specs.Reading.{term_of_text};
+ghost use Rattle.qp_chart_text.specs.Terms.{term_of, command_of};
+ghost use Rattle.qp_chart_names.specs.Pairs.{Corresponds};
+ghost use Rattle.qp_chart_names.specs.Faults.{IsFault};
+ghost use Rattle.qp_chart_names.specs.ActionFaults.{action_fault, text_fault, texts_fault, when_fault, guard_fault};
 ghost use Rattle.qp_chart.specs.ActionOf.{IsActOfCommand, IsActOfText, IsBoundOf, IsBoundOfText, IsGuardOf};
 
 use crate::actions::{Act, Acts};
 use crate::expression::Bound;
 use crate::resolve::{bound, resolved};
-use qp_language::{Action, Expr, ExprFault, Text, read_action, read_expr};
-use qp_names::fit::{is_fit, is_in_range, is_known, reaches};
-use qp_names::{ChartFault, Part, Scope, code, key};
+use qp_chart_text::{Action, Expr, ExprFault, Text, read_action, read_expr};
+use qp_chart_names::fit::{is_fit, is_in_range, is_known, reaches};
+use qp_chart_names::{ChartFault, Part, Scope, code, key};
 use std::alloc::Global;
 
 /// The actions of the texts in the list at this key. `inside` is the number of parameters of the row's signal; `None` stands outside a row.

@@ -6,14 +6,14 @@ use Rattle.qp_model.specs.declared.systems.System.{System}
 use Rattle.qp_model.specs.declared.journals.Journal.{Journal}
 use Rattle.qp_model.specs.WordLaw.{Words}
 use Rattle.qp_model.proofs.ObjectLemmas.{priorities-are_bytes}
-use Rattle.qp_word_rules.specs.declared.verdict.Broken.{Broken}
-use Rattle.qp_word_rules.specs.declared.verdict.Verdict.{Verdict}
-use Rattle.qp_word_rules.specs.declared.verdict.Verdict.TheVariants as verdict
+use Rattle.qp_check_words.specs.declared.verdict.Broken.{Broken}
+use Rattle.qp_check_words.specs.declared.verdict.Verdict.{Verdict}
+use Rattle.qp_check_words.specs.declared.verdict.Verdict.TheVariants as verdict
 use Rattle.qp_check.specs.Judgeable.{IsJudgeable}
 use Rattle.qp_check.specs.Judged.{Finds, IsVerdict, Trial, word_trials}
-use Rattle.qp_word_rules.specs.WordRules.{first_broken, word_tries}
+use Rattle.qp_check_words.specs.WordRules.{first_broken, word_tries}
 use Rattle.qp_check.proofs.FindLemmas.{finds-tries}
-use Rattle.qp_word_rules.proofs.LawLemmas.{none_fails_where_words_hold}
+use Rattle.qp_check_words.proofs.LawLemmas.{none_fails_where_words_hold}
 
 module _ (sys : System) (j : Journal) (o : Option Broken) (is : o ≡ first_broken (word_tries sys j.lanes)) where
   pub words-found : Finds (word_trials sys j) o

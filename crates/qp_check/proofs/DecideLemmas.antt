@@ -1,6 +1,6 @@
 -- Answers of tests whose questions are types.
 use Rattle.std.proofs.Common.{◌≡◌, Bool, true, false, sym, ◌∙◌, refl, IsTrue, ◌↔◌}
-use Rattle.qp_fits.specs.Decides.{Decides}
+use Rattle.qp_check_calls.specs.Decides.{Decides}
 
 -- a test that is a truth value, and one that says when it is true
 pub decides-test : (b c : Bool) → b ≡ c → Decides b (c ≡ true)

@@ -3,11 +3,11 @@ use Rattle.std.proofs.Common.{◌≡◌, ℕ, ◌+◌, ◌<◌, ◌≤◌, Bool,
 use Rattle.std.specs.declared.option.Option.{Option}
 use Rattle.std.proofs.lemmas.List.{drop_all}
 use Rattle.qp_model.specs.declared.systems.ObjectDef.{ObjectDef}
-use Rattle.qp_word_rules.specs.declared.verdict.Broken.{Broken}
-use Rattle.qp_word_rules.specs.declared.verdict.Site.TheVariants as site
+use Rattle.qp_check_words.specs.declared.verdict.Broken.{Broken}
+use Rattle.qp_check_words.specs.declared.verdict.Site.TheVariants as site
 use Rattle.qp_check.specs.Judged.{Trial, AllHold, Finds, as_trials, at_objects}
-use Rattle.qp_word_rules.specs.WordRules.{Try, first_broken}
-use Rattle.qp_lanes.proofs.WalkLemmas.{rest_at}
+use Rattle.qp_check_words.specs.WordRules.{Try, first_broken}
+use Rattle.qp_check_lanes.proofs.WalkLemmas.{rest_at}
 
 pub finds-holds : (t : Trial) (ts : List Trial) (o : Option Broken) → t.Holds → Finds ts o → Finds (t ∷ ts) o
 finds-holds t ts None here rest = (here, rest)

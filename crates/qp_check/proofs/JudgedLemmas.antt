@@ -8,8 +8,8 @@ use Rattle.qp_model.specs.declared.journals.Journal.{Journal}
 use Rattle.qp_model.specs.Lawful.{Lawful, ObjectHolds, ShapesHold, deferral_holds, CourseHolds, SourceLanes, lanes_before}
 use Rattle.qp_check.specs.Judged.{Trial, AllHold, as_trials, at_objects, source_trials, word_trials, object_trials, kernel_trials, lane_trials, order_trial, end_trials, trials}
 use Rattle.qp_check.specs.Law.{LawfulWhereNoneFails}
-use Rattle.qp_word_rules.specs.WordRules.{Try, first_broken, word_tries}
-use Rattle.qp_word_rules.proofs.LawLemmas.{none_fails_where_words_hold}
+use Rattle.qp_check_words.specs.WordRules.{Try, first_broken, word_tries}
+use Rattle.qp_check_words.proofs.LawLemmas.{none_fails_where_words_hold}
 
 pub hold-parts : (xs ys : List Trial) → AllHold (xs ++ ys) → AllHold xs × AllHold ys
 hold-parts [] ys h = (tt, h)

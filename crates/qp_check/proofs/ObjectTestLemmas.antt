@@ -18,8 +18,8 @@ use Rattle.qp_model.specs.ObjectShape.{HasShape}
 use Rattle.qp_model.specs.Pieces.{Piece, bare}
 use Rattle.qp_model.specs.Told.{Told}
 use Rattle.qp_model.proofs.HomeLemmas.{home_records-kernel}
-use Rattle.qp_fits.specs.Decides.{Decides}
-use Rattle.qp_shapes.proofs.GroupsDecideLemmas.{decides-as, denied, decided, decides-no, decides-yes}
+use Rattle.qp_check_calls.specs.Decides.{Decides}
+use Rattle.qp_check_shapes.proofs.GroupsDecideLemmas.{decides-as, denied, decided, decides-no, decides-yes}
 
 module _ (sys : System) (j : Journal) (d : ObjectDef) (cut : Cut) (told : List Told) (cuts : cut ≡ cut_of sys j d.priority) where
   -- the shape that is asked of an object

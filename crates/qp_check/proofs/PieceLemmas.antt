@@ -15,9 +15,9 @@ use Rattle.qp_model.specs.Pieces.{Piece, Tell, Point}
 use Rattle.qp_model.specs.Points.{begins_row, is_look, pieces_at, pieces_in}
 use Rattle.qp_model.proofs.NumberLemmas.{eqb-sym}
 use Rattle.qp_model.proofs.KernelRowLemmas.{no-row}
-use Rattle.qp_lanes.specs.Options.{allowed}
+use Rattle.qp_check_lanes.specs.Options.{allowed}
 use Rattle.qp_check.specs.ObjectPieces.{is_it, listed, own_piece, point_of, stepping}
-use Rattle.qp_lanes.proofs.ItemLemmas.{items-from, items-none}
+use Rattle.qp_check_lanes.proofs.ItemLemmas.{items-from, items-none}
 
 point-own : (of : ℕ) (place : Upcoming) (running : List ℕ) → is_it of (stepping of place running) ≡ false
 point-own of Inside (p ∷ outer) = go (p == of) refl

@@ -16,11 +16,11 @@ use Rattle.qp_model.specs.Kernels.{port, has_one_order}
 use Rattle.qp_model.specs.Lawful.{KernelHolds, OrderHolds, SpillsStand, cut_of, facts_of, is_settle, lanes_before, one_thread, reading_holds, setting_of, source_lanes}
 use Rattle.qp_model.specs.OneOrder.{IsOneOrder}
 use Rattle.qp_model.specs.Points.{lane_pieces}
-use Rattle.qp_fits.specs.Decides.{Decides}
-use Rattle.qp_lane_zero.specs.OneOrder.{run_of}
+use Rattle.qp_check_calls.specs.Decides.{Decides}
+use Rattle.qp_check_kernel.specs.OneOrder.{run_of}
 use Rattle.qp_check.proofs.DecideLemmas.{decides-where}
 use Rattle.std.specs.Prelude.{count_by}
-use Rattle.qp_shapes.proofs.GroupsDecideLemmas.{decides-as, decides-no, decides-yes}
+use Rattle.qp_check_shapes.proofs.GroupsDecideLemmas.{decides-as, decides-no, decides-yes}
 
 module _ (sys : System) (j : Journal) where
   abbrev Reads : Bool

@@ -13,10 +13,10 @@ use Rattle.qp_model.specs.History.{lane_items}
 use Rattle.qp_model.specs.Home.{lane_at}
 use Rattle.qp_model.specs.Lawful.{SpillStands, SpillsStand, facts_of}
 use Rattle.qp_model.specs.Sources.{IsSourceLane}
-use Rattle.qp_word_rules.specs.declared.verdict.Broken.{Broken}
-use Rattle.qp_word_rules.specs.declared.verdict.Site.TheVariants as site
+use Rattle.qp_check_words.specs.declared.verdict.Broken.{Broken}
+use Rattle.qp_check_words.specs.declared.verdict.Site.TheVariants as site
 use Rattle.qp_check.specs.Judged.{Finds, Trial, source_trials}
-use Rattle.qp_lanes.proofs.WalkLemmas.{rest_at}
+use Rattle.qp_check_lanes.proofs.WalkLemmas.{rest_at}
 use Rattle.qp_check.proofs.FindLemmas.{finds-fails, finds-holds}
 
 module _ (sys : System) (j : Journal) (stimuli : List (List Stim)) (n : ℕ) where

@@ -12,12 +12,12 @@ use Rattle.qp_model.specs.Home.{lane_at}
 use Rattle.qp_model.specs.Kernels.{port, has_one_order}
 use Rattle.qp_model.specs.Sources.{IsSourceLane}
 use Rattle.qp_model.specs.Lawful.{facts_of, lanes_before, ShapesHold, deferral_holds, CourseHolds, KernelHolds, OrderHolds, EndHolds}
-use Rattle.qp_word_rules.specs.declared.verdict.Broken.{Broken}
-use Rattle.qp_word_rules.specs.declared.verdict.Site.{Site}
-use Rattle.qp_word_rules.specs.declared.verdict.Site.TheVariants as site
-use Rattle.qp_word_rules.specs.declared.verdict.Verdict.{Verdict}
-use Rattle.qp_word_rules.specs.declared.verdict.Verdict.TheVariants as verdict
-use Rattle.qp_word_rules.specs.WordRules.{Try, word_tries}
+use Rattle.qp_check_words.specs.declared.verdict.Broken.{Broken}
+use Rattle.qp_check_words.specs.declared.verdict.Site.{Site}
+use Rattle.qp_check_words.specs.declared.verdict.Site.TheVariants as site
+use Rattle.qp_check_words.specs.declared.verdict.Verdict.{Verdict}
+use Rattle.qp_check_words.specs.declared.verdict.Verdict.TheVariants as verdict
+use Rattle.qp_check_words.specs.WordRules.{Try, word_tries}
 
 -- a definition at a site, and that it holds there
 pub record Trial : Type 1 where

@@ -3,17 +3,17 @@
 ghost use Rattle.std.specs.Prelude.{◌≡◌, ◌++◌, ◌≤◌, length, IfOk, MatchOption};
 ghost use Rattle.qp_model.specs.WordLaw.{Words};
 ghost use Rattle.qp_check.specs.Judgeable.{IsJudgeable};
-ghost use Rattle.qp_word_rules.specs.declared.verdict.Verdict.TheVariants as verdict;
+ghost use Rattle.qp_check_words.specs.declared.verdict.Verdict.TheVariants as verdict;
 ghost use Rattle.qp_check.specs.Judged.{Finds, IsVerdict, end_trials, kernel_trials, lane_trials, object_trials, trials};
 
 use crate::object_tests::objects_broken;
 use crate::run_parts::{end_broken, kernel_broken, lanes_broken};
 use qp_base::Memory;
-use qp_histories::records_by_word::RecordsByWord;
-use qp_known::knowledge::Knowledge;
+use qp_check_histories::records_by_word::RecordsByWord;
+use qp_check_knowledge::knowledge::Knowledge;
 use qp_model::{Journal, Stimuli, System};
-use qp_word_rules::judge::words_broken;
-use qp_word_rules::verdict::{Broken, Verdict};
+use qp_check_words::judge::words_broken;
+use qp_check_words::verdict::{Broken, Verdict};
 use std::alloc::{AllocError, Global};
 
 /// The first definition behind those of words that fails.

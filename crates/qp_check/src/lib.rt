@@ -16,4 +16,4 @@ mod checking;
 pub mod laws;
 
 pub use checking::check;
-pub use qp_word_rules::verdict::{Broken, Site, Verdict};
+pub use qp_check_words::verdict::{Broken, Site, Verdict};

@@ -5,26 +5,26 @@ ghost use Rattle.std.specs.List.{AllByRecursion};
 ghost use Rattle.qp_model.specs.Home.{by_object};
 ghost use Rattle.qp_model.specs.Kernels.{port};
 ghost use Rattle.qp_model.specs.Lawful.{CourseHolds, ShapesHold, deferral_holds, dispatched, facts_of};
-ghost use Rattle.qp_fits.specs.Decides.{Decides};
+ghost use Rattle.qp_check_calls.specs.Decides.{Decides};
 ghost use Rattle.qp_check.specs.Judgeable.{IsJudgeable};
 ghost use Rattle.qp_check.specs.Judged.{Finds, at_objects, object_trials};
-ghost use Rattle.qp_course.specs.Followable.{IsFollowable};
-ghost use Rattle.qp_known.specs.Knowledge.{IsKnowledgeOf};
-ghost use Rattle.qp_word_rules.specs.declared.verdict.Site.TheVariants as site;
+ghost use Rattle.qp_check_course.specs.Followable.{IsFollowable};
+ghost use Rattle.qp_check_knowledge.specs.Knowledge.{IsKnowledgeOf};
+ghost use Rattle.qp_check_words.specs.declared.verdict.Site.TheVariants as site;
 
 use crate::parts::{Records, has_shape, home_records, object_records};
-use qp_course::follows;
-use qp_known::knowledge::Knowledge;
-use qp_known::told_cut::cut_of;
-use qp_known::told_home::is_home_lane;
-use qp_known::told_lists::keep_dispatched;
-use qp_lanes::deferral::keeps_deferred;
-use qp_lanes::lane_parts::{home_lane, lane_at};
+use qp_check_course::follows;
+use qp_check_knowledge::knowledge::Knowledge;
+use qp_check_knowledge::told_cut::cut_of;
+use qp_check_knowledge::told_home::is_home_lane;
+use qp_check_knowledge::told_lists::keep_dispatched;
+use qp_check_lanes::deferral::keeps_deferred;
+use qp_check_lanes::lane_parts::{home_lane, lane_at};
 use qp_model::definitions::{COURSE, DEFERRAL, SHAPES};
 use qp_model::ends::may_cut;
 use qp_model::kernels::PORT;
 use qp_model::{Journal, ObjectDef, System};
-use qp_word_rules::verdict::{Broken, Site};
+use qp_check_words::verdict::{Broken, Site};
 use std::alloc::{AllocError, Global};
 
 fn at_object(definition: u8, d: &ObjectDef) -> Broken

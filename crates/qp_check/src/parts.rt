@@ -6,15 +6,15 @@ ghost use Rattle.qp_model.specs.Home.{by_object, home_records};
 ghost use Rattle.qp_model.specs.Lawful.{SpillStands, facts_of};
 ghost use Rattle.qp_model.specs.ObjectShape.{HasShape};
 ghost use Rattle.qp_model.specs.Sources.{IsSourceLane};
-ghost use Rattle.qp_fits.specs.AsPiece.{as_cut};
-ghost use Rattle.qp_fits.specs.Decides.{Decides};
-ghost use Rattle.qp_known.specs.Knowledge.{IsKnowledgeOf};
+ghost use Rattle.qp_check_calls.specs.AsPiece.{as_cut};
+ghost use Rattle.qp_check_calls.specs.Decides.{Decides};
+ghost use Rattle.qp_check_knowledge.specs.Knowledge.{IsKnowledgeOf};
 
-use qp_fits::{Cut, Told};
-use qp_known::knowledge::Knowledge;
-use qp_known::told_lists::{self, source_told};
+use qp_check_calls::{Cut, Told};
+use qp_check_knowledge::knowledge::Knowledge;
+use qp_check_knowledge::told_lists::{self, source_told};
 use qp_model::{Journal, ObjectDef, Rec, Source, System};
-use qp_shapes::Scene;
+use qp_check_shapes::Scene;
 use std::alloc::{AllocError, Global};
 use std::marker::Model;
 
@@ -67,7 +67,7 @@ pub(crate) fn has_shape(sys: &System, o: u8, nils: bool, cut: Cut, told: &[Told]
     ensures { Decides result (HasShape sys.now o nils (as_cut cut) told.now) }
 {
     let scene = Scene::of(sys, o);
-    qp_shapes::has_shape(&scene, nils, cut, told)
+    qp_check_shapes::has_shape(&scene, nils, cut, told)
 }
 
 /// Whether the lane is as the stimuli of its source have it.
@@ -83,7 +83,7 @@ pub(crate) fn is_source_lane(
     ensures { IfOk result (λ b. Decides b (IsSourceLane (facts_of sys.now j.now) j.now.kernel j.now.end source.now (lane_items lane.now))) }
 {
     let told = source_told(alloc, knowledge, lane)?;
-    let is = qp_sources::is_source_lane(alloc, sys, j.kernel, j.end, &source.items, lane, &told)?;
+    let is = qp_check_sources::is_source_lane(alloc, sys, j.kernel, j.end, &source.items, lane, &told)?;
     Ok(is)
 }
 
@@ -101,6 +101,6 @@ pub(crate) fn spill_stands(
     ensures { IfOk result (λ b. Decides b (SpillStands sys.now j.now cuts source.now (lane_items lane.now))) }
 {
     let told = source_told(alloc, knowledge, lane)?;
-    let stands = qp_sources::spill_stands(alloc, sys, j.kernel, cuts, &source.items, &told)?;
+    let stands = qp_check_sources::spill_stands(alloc, sys, j.kernel, cuts, &source.items, &told)?;
     Ok(stands)
 }

@@ -8,17 +8,17 @@ ghost use Rattle.qp_model.specs.KernelLane.{lane_read};
 ghost use Rattle.qp_model.specs.Lawful.{setting_of};
 ghost use Rattle.qp_model.specs.Points.{is_look, lane_pieces, pieces_at};
 ghost use Rattle.qp_model.specs.Record.{item_of};
-ghost use Rattle.qp_fits.specs.AsPiece.{as_piece};
-ghost use Rattle.qp_lane_zero.specs.LaneState.{as_reading, as_setting};
-ghost use Rattle.qp_known.specs.Knowledge.{IsKnown, facts_in};
+ghost use Rattle.qp_check_calls.specs.AsPiece.{as_piece};
+ghost use Rattle.qp_check_kernel.specs.LaneState.{as_reading, as_setting};
+ghost use Rattle.qp_check_knowledge.specs.Knowledge.{IsKnown, facts_in};
 ghost use Rattle.qp_check.specs.ObjectPieces.{own_piece, pieces_of, point_of, stepping};
 
 use crate::pieces_rows::ObjectPieces;
-use qp_fits::{Piece, Told};
-use qp_known::knowledge::Knowledge;
-use qp_known::told_lists::is_turn_mark;
-use qp_lane_zero::lane_state::{Reading, Rules, Upcoming};
-use qp_lanes::lane_parts::lane_at;
+use qp_check_calls::{Piece, Told};
+use qp_check_knowledge::knowledge::Knowledge;
+use qp_check_knowledge::told_lists::is_turn_mark;
+use qp_check_kernel::lane_state::{Reading, Rules, Upcoming};
+use qp_check_lanes::lane_parts::lane_at;
 use qp_model::{Body, Rec};
 use std::alloc::{AllocError, Global};
 

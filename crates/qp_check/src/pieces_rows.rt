@@ -3,10 +3,10 @@
 ghost use Rattle.std.specs.Prelude.{◌≡◌, ◌==◌, ◌++◌, ◌∷◌, [], ℕ, map, if◌then◌else◌, OnOk};
 ghost use Rattle.std.specs.Option.{option_map};
 ghost use Rattle.qp_model.specs.Pieces.{Point};
-ghost use Rattle.qp_fits.specs.AsPiece.{as_piece};
+ghost use Rattle.qp_check_calls.specs.AsPiece.{as_piece};
 ghost use Rattle.qp_check.specs.ObjectPieces.{is_it, listed, pieces_of};
 
-use qp_fits::Piece;
+use qp_check_calls::Piece;
 use std::alloc::{AllocError, Global};
 use std::collections::BTreeMap;
 use std::marker::Model;
@@ -20,7 +20,7 @@ pub struct Pieces {
 impl Model for Pieces {
     ghost use Rattle.std.specs.Prelude.{List, map};
     ghost use Rattle.qp_model.specs.Pieces as pieces;
-    ghost use Rattle.qp_fits.specs.AsPiece.{as_piece};
+    ghost use Rattle.qp_check_calls.specs.AsPiece.{as_piece};
 
     ghost Value = { List pieces.Piece };
 

@@ -4,12 +4,12 @@ use crate::samples::{
     PORT, Part, Parts, QK, QV, Row, SIM, go, journal, lane, nothing, object, records, stimuli,
     two_lanes,
 };
-use qp_ending::journal_end::end_is_right;
-use qp_ending::lane_ends::{spents_are_seen, spills_stand};
-use qp_lane_zero::kernel_lane::is_kernel_lane;
-use qp_lane_zero::one_order::is_one_order;
-use qp_lanes::deferral::kept;
-use qp_lanes::lane_parts::{count_stands, lane_zero_stands};
+use qp_check_end::journal_end::end_is_right;
+use qp_check_end::lane_ends::{spents_are_seen, spills_stand};
+use qp_check_kernel::kernel_lane::is_kernel_lane;
+use qp_check_kernel::one_order::is_one_order;
+use qp_check_lanes::deferral::kept;
+use qp_check_lanes::lane_parts::{count_stands, lane_zero_stands};
 use qp_model::kinds::{
     ASSERT, BEGIN, DEFER, DONE, FLUSH, LIFO, LOCK, LOOK, NODEFER, NONE, NORECALL, POST, RECALL,
     REST, SEEN, SETTLE, SPENT, SPILL, STIM, TOOK,

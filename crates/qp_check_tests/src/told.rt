@@ -1,12 +1,12 @@
 //! What a journal knows beside a record, cuts, home lanes, and words that no system has.
 
 use crate::samples::{Part, Row, SIM, journal, nothing, one_lane, records};
-use qp_fits::Cut;
-use qp_histories::records_by_word::RecordsByWord;
-use qp_known::known_tables::{free_counts, left_counts, member_lists, number_at};
-use qp_known::told_cut::cut_of;
-use qp_known::told_home::is_home_lane;
-use qp_lanes::groups::Group;
+use qp_check_calls::Cut;
+use qp_check_histories::records_by_word::RecordsByWord;
+use qp_check_knowledge::known_tables::{free_counts, left_counts, member_lists, number_at};
+use qp_check_knowledge::told_cut::cut_of;
+use qp_check_knowledge::told_home::is_home_lane;
+use qp_check_lanes::groups::Group;
 use qp_model::kinds::{BACK, DEC, DONE, INC, NEW, NIL, SPILL, SUB};
 use qp_model::{Named, Rec};
 use std::alloc::{AllocError, Global};

@@ -1,20 +1,20 @@
 //! The definitions of words: what keeps each, and ways to break it.
 
 ghost use Rattle.std.specs.Prelude.{◌≡◌, IfOk};
-ghost use Rattle.qp_histories.specs.Numbers.{WordsFit};
+ghost use Rattle.qp_check_histories.specs.Numbers.{WordsFit};
 
 use crate::samples::{Part, Parts, Row, SIM, object, one_lane, signal, two_lanes};
 use qp_check::Site;
-use qp_ending::ending::end_holds;
-use qp_histories::records_by_word::RecordsByWord;
+use qp_check_end::ending::end_holds;
+use qp_check_histories::records_by_word::RecordsByWord;
 use qp_model::kinds::{
     ARM, BACK, DEC, DEFER, FIRE, FULL, INC, NEW, NIL, POST, SEEN, SHORT, SUB, TOOK, UNSUB,
 };
 use qp_model::{
     Charts, Journal, Lanes, ObjectDefs, PoolDef, PoolDefs, SignalDefs, System, TimerDef, TimerDefs,
 };
-use qp_word_rules::judge::words_broken;
-use qp_word_rules::verdict::Broken;
+use qp_check_words::judge::words_broken;
+use qp_check_words::verdict::Broken;
 use std::alloc::{AllocError, Global};
 use std::test::Fail;
 

@@ -11,17 +11,17 @@ use Rattle.std.specs.Option.{option_map_or}
 use Rattle.qp_model.specs.declared.systems.System.{System}
 use Rattle.qp_model.proofs.ListLemmas.{take-next}
 use Rattle.qp_base.specs.declared.faults.Memory.{Memory}
-use Rattle.qp_words.specs.declared.Serve.{Serve}
-use Rattle.qp_seats.specs.Words.{Steps}
-use Rattle.qp_seats.specs.Keeps.{HasOwn, StepKeeps}
+use Rattle.qp_table.specs.declared.view.Serve.{Serve}
+use Rattle.qp_core_seats.specs.Words.{Steps}
+use Rattle.qp_core_seats.specs.Keeps.{HasOwn, StepKeeps}
 use Rattle.qp_core.specs.Standing.{has_number, TableHolds}
 use Rattle.qp_core.specs.State.{stands_as, seat_in, bare, serves_set, may_pass, may_split, out_part, giving_up, split_off, may_join, joining, Joins, StepsSeat, may_change, Changes, may_apply, Applies}
-use Rattle.qp_seat_steps.specs.Steps.{may_step, Steps_one}
+use Rattle.qp_core_steps.specs.Steps.{may_step, Steps_one}
 use Rattle.qp_core.specs.Runs.{HoldsOf, Runs, Reaches, Refuses}
-use Rattle.qp_seats.specs.declared.seats.Seat.{Seat}
+use Rattle.qp_core_seats.specs.declared.seats.Seat.{Seat}
 use Rattle.qp_core.specs.declared.state.CoreState.{CoreState}
-use Rattle.qp_seat_steps.specs.declared.ops.Op.{Op}
-use Rattle.qp_seat_steps.specs.declared.ops.Op.TheVariants as op
+use Rattle.qp_core_steps.specs.declared.ops.Op.{Op}
+use Rattle.qp_core_steps.specs.declared.ops.Op.TheVariants as op
 use Rattle.qp_core.proofs.SeatLemmas.{get-set-else, found, steps-same}
 use Rattle.qp_core.proofs.TableLemmas.{has-own, step-holds, join-holds, split-holds}
 

@@ -9,15 +9,15 @@ use Rattle.std.specs.List.{list_any}
 use Rattle.qp_model.specs.declared.systems.System.{System}
 use Rattle.qp_model.specs.Lists.{count_up}
 use Rattle.qp_model.specs.Sound.{IsSound}
-use Rattle.qp_words.specs.Counting.{many}
-use Rattle.qp_words.specs.Rule.{is_number, Holds}
-use Rattle.qp_words.specs.After.{nothing, newcomer}
-use Rattle.qp_words.specs.declared.Serve.{Serve}
+use Rattle.qp_table.specs.Counting.{many}
+use Rattle.qp_table.specs.Rule.{is_number, Holds}
+use Rattle.qp_table.specs.After.{nothing, newcomer}
+use Rattle.qp_table.specs.declared.view.Serve.{Serve}
 use Rattle.qp_table.specs.Whole.{later_lanes}
 use Rattle.qp_table.specs.First.{first_word, first_serve, first_serves}
 use Rattle.qp_table.proofs.Lanes.{adds-nothing, keeps, swaps}
 use Rattle.qp_table.proofs.Start.{first-shows, first-cells, serves-once, serves-fresh, starts}
-use Rattle.qp_seats.specs.Seats.{as_view}
+use Rattle.qp_core_seats.specs.Seats.{as_view}
 use Rattle.qp_core.specs.Standing.{bank, has_number, TableHolds}
 use Rattle.qp_core.specs.Runs.{IsFirst, first_seat}
 use Rattle.qp_core.specs.declared.state.CoreState.{CoreState}

@@ -11,24 +11,24 @@ use Rattle.qp_model.specs.declared.systems.System.{System}
 use Rattle.qp_model.specs.declared.words.Word.{Word}
 use Rattle.qp_model.specs.declared.words.Word.TheVariants as word
 use Rattle.std.specs.declared.option.Option.{Option}
-use Rattle.qp_words.specs.Counting.{Each}
-use Rattle.qp_words.specs.Rule.{on_queue}
-use Rattle.qp_words.specs.After.{logged, passing, failing}
-use Rattle.qp_words.specs.declared.Log.{Log}
-use Rattle.qp_words.specs.declared.CellPlace.{CellPlace}
-use Rattle.qp_words.specs.declared.Serve.{Serve}
-use Rattle.qp_words.specs.declared.View.{View}
+use Rattle.qp_table.specs.Counting.{Each}
+use Rattle.qp_table.specs.Rule.{on_queue}
+use Rattle.qp_table.specs.After.{logged, passing, failing}
+use Rattle.qp_table.specs.declared.view.Log.{Log}
+use Rattle.qp_table.specs.declared.view.CellPlace.{CellPlace}
+use Rattle.qp_table.specs.declared.view.Serve.{Serve}
+use Rattle.qp_table.specs.declared.view.View.{View}
 use Rattle.qp_table.specs.Whole.{Unused}
-use Rattle.qp_seats.specs.Seats.{as_view}
-use Rattle.qp_seats.specs.Blocks.{ended}
-use Rattle.qp_seat_steps.specs.Looks.{looked}
+use Rattle.qp_core_seats.specs.Seats.{as_view}
+use Rattle.qp_core_seats.specs.Blocks.{ended}
+use Rattle.qp_core_steps.specs.Looks.{looked}
 use Rattle.qp_core.specs.Standing.{AreViews, is_own}
 use Rattle.qp_core.specs.State.{stands_as, is_unused, may_pass, in_part, out_part}
-use Rattle.qp_seat_steps.specs.Steps.{Steps_one}
-use Rattle.qp_seats.specs.declared.seats.Seat.{Seat}
-use Rattle.qp_seat_steps.specs.declared.ops.Op.{Op}
-use Rattle.qp_seat_steps.specs.declared.ops.Op.TheVariants as op
-use Rattle.qp_seats.proofs.ListLemmas.{none-many}
+use Rattle.qp_core_steps.specs.Steps.{Steps_one}
+use Rattle.qp_core_seats.specs.declared.seats.Seat.{Seat}
+use Rattle.qp_core_steps.specs.declared.ops.Op.{Op}
+use Rattle.qp_core_steps.specs.declared.ops.Op.TheVariants as op
+use Rattle.qp_core_seats.proofs.ListLemmas.{none-many}
 
 module _ {A : Type 0} where
   pub each-at : (P : A → Type 0) (xs : List A) (i : ℕ) (x : A) → Each P xs → slice_get xs i ≡ Some x → P x

@@ -7,20 +7,20 @@ use mathlib.Core.Option.{some}
 use lib.ListN.{get_elem?}
 use Rattle.atomic_table.proofs.Lists.{set_again, at_longer, at_last}
 use Rattle.qp_model.specs.declared.systems.System.{System}
-use Rattle.qp_words.specs.Counting.{many, without}
-use Rattle.qp_words.specs.Rule.{is_number, Holds}
-use Rattle.qp_words.specs.After.{nothing, onlooker, granted, handing, handed}
-use Rattle.qp_words.specs.declared.Glance.{Glance}
-use Rattle.qp_words.specs.declared.Log.{Log}
-use Rattle.qp_words.specs.declared.View.{View}
-use Rattle.qp_words.proofs.Counting.{each-snoc, many-without}
-use Rattle.qp_words.proofs.Tokens.{b2n}
+use Rattle.qp_table.specs.Counting.{many, without}
+use Rattle.qp_table.specs.Rule.{is_number, Holds}
+use Rattle.qp_table.specs.After.{nothing, onlooker, granted, handing, handed}
+use Rattle.qp_table.specs.declared.view.Glance.{Glance}
+use Rattle.qp_table.specs.declared.view.Log.{Log}
+use Rattle.qp_table.specs.declared.view.View.{View}
+use Rattle.qp_table.proofs.Counting.{each-snoc, many-without}
+use Rattle.qp_table.proofs.Tokens.{b2n}
 use Rattle.qp_table.proofs.Lanes.{adds-nothing, looks-on, grants, hands-over, joins, set-last, set-longer}
-use Rattle.qp_seats.specs.Seats.{as_view}
-use Rattle.qp_seats.specs.Keeps.{HasOwn, StepKeeps}
+use Rattle.qp_core_seats.specs.Seats.{as_view}
+use Rattle.qp_core_seats.specs.Keeps.{HasOwn, StepKeeps}
 use Rattle.qp_core.specs.Standing.{bank, is_own, Owns, has_number, TableHolds}
 use Rattle.qp_core.specs.State.{stands_as, bare, may_pass, SetsBy, in_part, giving_up, first_logs, split_off, joining}
-use Rattle.qp_seats.specs.declared.seats.Seat.{Seat}
+use Rattle.qp_core_seats.specs.declared.seats.Seat.{Seat}
 use Rattle.qp_core.proofs.SeatLemmas.{each-at, each-set, any-set, any-snoc, get-set-else, at-below, at-view, set-view, snoc-view, own-some, own-more, Same, failing-is, passing-is, all-unused}
 
 module _ (sys : System) (lanes : ℕ) (words : List ℕ) (seats : List Seat) (t : TableHolds sys lanes words seats) (i : ℕ) (x : Seat) (at : slice_get seats i ≡ Some x) where

@@ -3,19 +3,19 @@ use Rattle.std.specs.Prelude.{◌≡◌, ℕ, ◌<◌, true, false, List, [], �
 use Rattle.std.specs.declared.result.Result.{Result}
 use Rattle.qp_model.specs.declared.systems.System.{System}
 use Rattle.qp_model.specs.WordLaw.{is_object}
-use Rattle.qp_words.specs.Counting.{Each, many}
-use Rattle.qp_words.specs.Rule.{cell_at, is_serve, Shows}
-use Rattle.qp_words.specs.declared.Serve.{Serve}
-use Rattle.qp_queues.specs.Laws.{cells_of}
+use Rattle.qp_table.specs.Counting.{Each, many}
+use Rattle.qp_table.specs.Rule.{cell_at, is_serve, Shows}
+use Rattle.qp_table.specs.declared.view.Serve.{Serve}
+use Rattle.qp_table.specs.QueueLaws.{cells_of}
 use Rattle.qp_table.specs.Whole.{first_now}
 use Rattle.qp_table.specs.First.{IsFresh}
 use Rattle.qp_core.specs.State.{bare, may_apply, Applies}
 use Rattle.qp_core.specs.Standing.{TableHolds}
-use Rattle.qp_seats.specs.declared.seats.Seat.{Seat}
+use Rattle.qp_core_seats.specs.declared.seats.Seat.{Seat}
 use Rattle.qp_core.specs.declared.state.CoreState.{CoreState}
 use Rattle.qp_core.specs.declared.runs.CoreFault.{CoreFault}
 use Rattle.qp_core.specs.declared.runs.CoreFault.TheVariants as fault
-use Rattle.qp_seat_steps.specs.declared.ops.Op.{Op}
+use Rattle.qp_core_steps.specs.declared.ops.Op.{Op}
 
 -- the rule of the event table holds of the state
 abbrev pub HoldsOf : CoreState → Type 0

@@ -2,13 +2,13 @@
 use Rattle.std.specs.Prelude.{◌≡◌, ℕ, ◌<◌, ◌≤◌, ◌==◌, nat_lt, Bool, true, false, List, [], ◌∷◌, ⊤}
 use Rattle.std.specs.List.{list_any}
 use Rattle.qp_model.specs.declared.systems.System.{System}
-use Rattle.qp_words.specs.Counting.{Each, many}
-use Rattle.qp_words.specs.Rule.{is_number, Holds}
-use Rattle.qp_words.specs.After.{nothing}
-use Rattle.qp_words.specs.declared.Log.{Log}
-use Rattle.qp_words.specs.declared.View.{View}
-use Rattle.qp_seats.specs.Seats.{as_view}
-use Rattle.qp_seats.specs.declared.seats.Seat.{Seat}
+use Rattle.qp_table.specs.Counting.{Each, many}
+use Rattle.qp_table.specs.Rule.{is_number, Holds}
+use Rattle.qp_table.specs.After.{nothing}
+use Rattle.qp_table.specs.declared.view.Log.{Log}
+use Rattle.qp_table.specs.declared.view.View.{View}
+use Rattle.qp_core_seats.specs.Seats.{as_view}
+use Rattle.qp_core_seats.specs.declared.seats.Seat.{Seat}
 
 -- the views are those of the seats
 abbrev pub AreViews : List Seat → List View → Type 0

@@ -8,20 +8,20 @@ use Rattle.qp_model.specs.declared.record.Rec.{Rec}
 use Rattle.qp_model.specs.declared.systems.System.{System}
 use Rattle.qp_model.specs.declared.words.Word.{Word}
 use Rattle.qp_model.specs.declared.words.Word.TheVariants as word
-use Rattle.qp_words.specs.Rule.{pool_at, block_at, queue_at, is_serve, on_queue}
-use Rattle.qp_words.specs.declared.Log.{Log}
-use Rattle.qp_words.specs.declared.CellPlace.{CellPlace}
-use Rattle.qp_words.specs.declared.Serve.{Serve}
+use Rattle.qp_table.specs.Rule.{pool_at, block_at, queue_at, is_serve, on_queue}
+use Rattle.qp_table.specs.declared.view.Log.{Log}
+use Rattle.qp_table.specs.declared.view.CellPlace.{CellPlace}
+use Rattle.qp_table.specs.declared.view.Serve.{Serve}
 use Rattle.std.specs.declared.result.Result.{Result}
 use Rattle.qp_base.specs.declared.faults.Memory.{Memory}
-use Rattle.qp_seats.specs.Words.{Steps}
-use Rattle.qp_seats.specs.Keeps.{HasOwn, StepKeeps}
+use Rattle.qp_core_seats.specs.Words.{Steps}
+use Rattle.qp_core_seats.specs.Keeps.{HasOwn, StepKeeps}
 use Rattle.qp_core.specs.Standing.{has_number}
-use Rattle.qp_seat_steps.specs.Steps.{may_step, Steps_one}
-use Rattle.qp_seats.specs.declared.seats.Seat.{Seat}
+use Rattle.qp_core_steps.specs.Steps.{may_step, Steps_one}
+use Rattle.qp_core_seats.specs.declared.seats.Seat.{Seat}
 use Rattle.qp_core.specs.declared.state.CoreState.{CoreState}
-use Rattle.qp_seat_steps.specs.declared.ops.Op.{Op}
-use Rattle.qp_seat_steps.specs.declared.ops.Op.TheVariants as op
+use Rattle.qp_core_steps.specs.declared.ops.Op.{Op}
+use Rattle.qp_core_steps.specs.declared.ops.Op.TheVariants as op
 
 -- the seat with this number, where it stands
 abbrev pub stands_as : ℕ → Seat → Bool

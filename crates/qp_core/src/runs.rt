@@ -2,7 +2,7 @@
 
 ghost use Rattle.std.specs.Prelude.{◌≡◌, ◌<◌, ◌≤◌};
 ghost use Rattle.qp_model.specs.Sound.{IsSound};
-ghost use Rattle.qp_seats.specs.Words.{Steps};
+ghost use Rattle.qp_core_seats.specs.Words.{Steps};
 ghost use Rattle.std.specs.List.{position};
 ghost use Rattle.qp_core.specs.State.{stands_as, may_apply, Applies};
 ghost use Rattle.qp_core.specs.Runs.{HoldsOf, EndsAs};
@@ -11,7 +11,7 @@ use crate::splits::{join, split, step_at};
 use crate::state::{CoreState, seat_place};
 use qp_base::Memory;
 use qp_model::System;
-use qp_seat_steps::Op;
+use qp_core_steps::Op;
 use std::alloc::Global;
 
 /// Why a schedule wasn't run to its end.

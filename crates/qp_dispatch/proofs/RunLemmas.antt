@@ -20,7 +20,7 @@ use Rattle.qp_model.proofs.PublicationLemmas.{tell-append}
 use Rattle.qp_model.proofs.ReachLemmas.{reaches-none, reaches-trans, reaches-asserted}
 use Rattle.qp_calls.specs.declared.tokens.Entry.{Entry}
 use Rattle.qp_calls.specs.declared.answers.RoomFault.{RoomFault}
-use Rattle.qp_compiled.specs.AsTask.{first}
+use Rattle.qp_chart_compiled.specs.AsTask.{first}
 use Rattle.qp_calls.specs.LaneView.{LaneView, Grows}
 use Rattle.qp_calls.specs.Clauses.{IsFault}
 use Rattle.qp_calls.specs.Deferring.{StandAll, is_named, kept_in}

@@ -9,7 +9,7 @@ use Rattle.qp_model.specs.Sites.{object_at}
 use Rattle.qp_calls.specs.declared.tokens.Entry.{Entry}
 use Rattle.qp_calls.specs.LaneView.{LaneView}
 use Rattle.qp_calls.specs.Deferring.{StandAll, kept_in}
-use Rattle.qp_compiled.specs.Compiled.{IsCompiled}
+use Rattle.qp_chart_compiled.specs.Compiled.{IsCompiled}
 use Rattle.qp_dispatch.specs.declared.objects.Object.{Object}
 use Rattle.qp_dispatch.specs.declared.lasting.Lasting.{Lasting}
 use Rattle.qp_dispatch.specs.declared.steps.Position.TheVariants as stage

@@ -16,8 +16,8 @@ use Rattle.qp_calls.specs.LaneView.{LaneView, Grows, ceiling_in}
 use Rattle.qp_calls.specs.Notes.{last_code, spills_in}
 use Rattle.qp_calls.specs.Clauses.{IsFault, entry_of}
 use Rattle.qp_calls.specs.Deferring.{ChangeAlike, StandAll, kept_in}
-use Rattle.qp_compiled.specs.declared.compiled.Compiled.{Compiled}
-use Rattle.qp_compiled.specs.Compiled.{left_in}
+use Rattle.qp_chart_compiled.specs.declared.compiled.Compiled.{Compiled}
+use Rattle.qp_chart_compiled.specs.Compiled.{left_in}
 use Rattle.qp_dispatch.specs.declared.lasting.Lasting.{Lasting}
 use Rattle.qp_dispatch.specs.declared.part.Part.{Part}
 use Rattle.qp_dispatch.specs.declared.part.Under.{Under}

@@ -13,7 +13,7 @@ use crate::steps::{Position, Step, step_on};
 use qp_base::{Memory, Steps};
 use qp_calls::{Deferred, Entry, Ops};
 use qp_chart::Chart;
-use qp_compiled::Compiled;
+use qp_chart_compiled::Compiled;
 use qp_model::{ObjectDef, System, Values};
 use std::alloc::{AllocError, Global};
 use std::marker::Brand;

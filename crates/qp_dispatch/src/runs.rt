@@ -12,7 +12,7 @@ use crate::work::Work;
 use qp_base::Steps;
 use qp_calls::{Ops, RoomFault};
 use qp_chart::Chart;
-use qp_compiled::{Agenda, Compiled};
+use qp_chart_compiled::{Agenda, Compiled};
 use qp_model::System;
 use std::sync::ledger::Ledger;
 

@@ -2,7 +2,7 @@
 
 ghost use Rattle.std.specs.Prelude.{◌≤◌, length};
 ghost use Rattle.qp_calls.specs.Deferring.{StandAll, kept_in};
-ghost use Rattle.qp_compiled.specs.Compiled.{IsCompiled};
+ghost use Rattle.qp_chart_compiled.specs.Compiled.{IsCompiled};
 ghost use Rattle.qp_dispatch.specs.Runs.{setting_of};
 ghost use Rattle.qp_dispatch.specs.Resume.{IsLaneOf, IsReady};
 ghost use Rattle.qp_dispatch.specs.Starting.{StartsTo};

@@ -6,7 +6,7 @@ ghost use Rattle.qp_model.specs.Sound.{IsSound};
 ghost use Rattle.qp_calls.specs.Notes.{spills_in};
 ghost use Rattle.qp_calls.specs.Clauses.{IsFault, Stands, event_of, params_of};
 ghost use Rattle.qp_calls.specs.declared.tokens.Entry.TheVariants as token;
-ghost use Rattle.qp_compiled.specs.Compiled.{IsCompiled};
+ghost use Rattle.qp_chart_compiled.specs.Compiled.{IsCompiled};
 ghost use Rattle.qp_dispatch.specs.Lasts.{actor_of, config_of};
 ghost use Rattle.qp_dispatch.specs.Parts.{left_by};
 ghost use Rattle.qp_dispatch.specs.Runs.{setting_of, tasks_in};

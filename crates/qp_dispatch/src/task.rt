@@ -8,7 +8,7 @@ ghost use Rattle.qp_model.specs.Record.{item_of};
 ghost use Rattle.qp_model.specs.StepNotes.{note_of};
 ghost use Rattle.qp_calls.specs.LaneView.{ceiling_in};
 ghost use Rattle.qp_calls.specs.Deferring.{StandAll};
-ghost use Rattle.qp_compiled.specs.AsTask.{as_task};
+ghost use Rattle.qp_chart_compiled.specs.AsTask.{as_task};
 ghost use Rattle.qp_dispatch.specs.CallsDone.{StandsIn};
 ghost use Rattle.qp_dispatch.specs.Lasts.{moment_of};
 ghost use Rattle.qp_dispatch.specs.Parts.{NotesTask, Parts};
@@ -23,7 +23,7 @@ use crate::work::Work;
 use qp_base::Steps;
 use qp_calls::Ops;
 use qp_chart::Plain;
-use qp_compiled::Task;
+use qp_chart_compiled::Task;
 use qp_model::{Rec, System};
 use std::sync::ledger::Ledger;
 

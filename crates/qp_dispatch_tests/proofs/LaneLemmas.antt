@@ -19,7 +19,7 @@ use Rattle.qp_dispatch.specs.Runs.{Setting}
 use Rattle.qp_plain.specs.declared.world.PlainWorld.{PlainWorld}
 use Rattle.qp_plain.specs.NewWorld.{IsNewWorld}
 use Rattle.qp_plain.specs.WorldView.{world_view}
-use Rattle.qp_sound.specs.View.{view_of}
+use Rattle.qp_plain_sound.specs.View.{view_of}
 use Rattle.qp_dispatch_tests.specs.Trial.{IsBase}
 
 pub base-room : (sys : System) (c : ℕ) (u v : LaneView) → Roomier u v → IsBase sys c u → IsBase sys c v

@@ -9,7 +9,7 @@ use Rattle.qp_model.specs.WordLaw.{is_object}
 use Rattle.qp_calls.specs.LaneView.{LaneView, ceiling_in}
 use Rattle.qp_calls.specs.Notes.{spills_in}
 use Rattle.qp_calls.specs.Deferring.{StandAll, kept_in}
-use Rattle.qp_compiled.specs.Compiled.{IsCompiled}
+use Rattle.qp_chart_compiled.specs.Compiled.{IsCompiled}
 use Rattle.qp_dispatch.specs.declared.steps.Position.TheVariants as standing
 use Rattle.qp_dispatch.specs.declared.steps.Step.{Step}
 use Rattle.qp_dispatch.specs.declared.steps.Step.TheVariants as step

@@ -4,7 +4,7 @@ use crate::samples::Line::{
     Back, Dropped, Flush, Given, Posted, Raised, Referred, Restored, Shown,
 };
 use crate::samples::{Line, POOLED_7, entry, no_pars, system, told};
-use qp_fits::{Answer, Call, CallState, Kept};
+use qp_check_calls::{Answer, Call, CallState, Kept};
 use qp_model::Entry;
 use std::alloc::{AllocError, Global};
 use std::test::Fail;

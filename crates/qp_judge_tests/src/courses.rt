@@ -1,12 +1,12 @@
 //! The agendas of a chart of two states, and lists that follow it.
 
 ghost use Rattle.std.specs.Prelude.{◌≡◌, true, length, IsTrue, IfOk};
-ghost use Rattle.qp_names.specs.declared.raw.Names.{Names};
-ghost use Rattle.qp_names.specs.Readable.{IsReadable, IsReadableState};
+ghost use Rattle.qp_chart_names.specs.declared.raw.Names.{Names};
+ghost use Rattle.qp_chart_names.specs.Readable.{IsReadable, IsReadableState};
 ghost use Rattle.qp_model.specs.declared.systems.System.{System};
 ghost use Rattle.qp_model.specs.declared.systems.ObjectDef.{ObjectDef};
 ghost use Rattle.qp_model.specs.Able.{state_able, chart_able};
-ghost use Rattle.qp_course.specs.Followable.{IsFollowable};
+ghost use Rattle.qp_check_course.specs.Followable.{IsFollowable};
 
 use crate::samples::Line::{Begin, Done, Enter, Init, Run, Taken, TakenUnknown, Unhandled};
 use crate::samples::{Line, lamp, name, put_told};
@@ -14,8 +14,8 @@ use qp_chart::{
     Chart, ChartFault, Env, Name, Names, ObjNames, RawChart, RawRows, RawState, RawStates,
     RawTimers, SigNames, State, Texts, Vars,
 };
-use qp_course::{Task, follows, follows_with_points, start_plan, step_plan};
-use qp_fits::{Cut, Known, Piece, Told};
+use qp_check_course::{Task, follows, follows_with_points, start_plan, step_plan};
+use qp_check_calls::{Cut, Known, Piece, Told};
 use qp_model::{Body, Charts, ObjectDefs, PoolDefs, SignalDefs, System, TimerDefs};
 use std::alloc::{AllocError, Global};
 use std::test::Fail;

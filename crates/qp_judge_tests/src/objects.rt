@@ -4,8 +4,8 @@ use crate::samples::Line::{
     BadTicks, Begin, Done, Nil, Raised, Say, Seen, Spent, Taken, TakenUnknown, Unhandled,
 };
 use crate::samples::{Line, all_told, system};
-use qp_fits::Cut;
-use qp_shapes::{Scene, has_shape};
+use qp_check_calls::Cut;
+use qp_check_shapes::{Scene, has_shape};
 use std::alloc::{AllocError, Global};
 use std::test::Fail;
 

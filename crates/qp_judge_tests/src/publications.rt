@@ -4,7 +4,7 @@ use crate::samples::Line::{
     Back, Done, Dropped, Given, NoEntry, Posted, Raised, Recall, Referred, Restored, Shown,
 };
 use crate::samples::{Line, POOLED, STATIC, all_told, system};
-use qp_shapes::{Scene, asserts, behind_action, is_front, stops_in_publication};
+use qp_check_shapes::{Scene, asserts, behind_action, is_front, stops_in_publication};
 use std::alloc::{AllocError, Global};
 use std::test::Fail;
 

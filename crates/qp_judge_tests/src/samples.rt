@@ -3,7 +3,7 @@
 ghost use Rattle.std.specs.Prelude.{◌≡◌};
 
 use arrayvec::{ArrayString, ArrayVec};
-use qp_fits::{Known, Told};
+use qp_check_calls::{Known, Told};
 use qp_model::{
     Body, Charts, Entry, ObjectDef, ObjectDefs, Params, PoolDef, PoolDefs, SignalDef, SignalDefs,
     System, TimerDef, TimerDefs, Values,

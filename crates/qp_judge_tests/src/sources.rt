@@ -1,9 +1,9 @@
 //! The lane of a source: its stimuli, its tries, and where it may stop.
 
 use crate::samples::system;
-use qp_fits::{Known, Told};
+use qp_check_calls::{Known, Told};
 use qp_model::{Rec, Stim};
-use qp_sources::{is_source_lane, may_stop, spill_stands};
+use qp_check_sources::{is_source_lane, may_stop, spill_stands};
 use std::alloc::{AllocError, Global};
 use std::test::Fail;
 

@@ -5,7 +5,7 @@ use crate::samples::Line::{
 };
 use crate::samples::{Line, POOLED, STATIC, all_told, system};
 use qp_model::Entry;
-use qp_shapes::{Scene, behind_assertion, behind_unit};
+use qp_check_shapes::{Scene, behind_assertion, behind_unit};
 use std::alloc::{AllocError, Global};
 use std::test::Fail;
 

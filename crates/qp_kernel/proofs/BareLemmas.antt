@@ -20,7 +20,7 @@ use Rattle.qp_model.specs.ObjectShape.{HasShape, CutGroups, ObjectGroups, Ends, 
 use Rattle.qp_model.specs.Course.{Cut, Whole, Stopped, FollowsTo}
 use Rattle.qp_model.proofs.GroupLemmas.{bare-append}
 use Rattle.qp_model.proofs.LastLemmas.{follows-shape}
-use Rattle.qp_orders.specs.SourceRun.{untold}
+use Rattle.qp_model_order.specs.SourceRun.{untold}
 use Rattle.qp_kernel.specs.LaneZero.{told_pieces_at, told_pieces}
 use Rattle.qp_kernel.specs.ZeroEnds.{own_told}
 

@@ -17,11 +17,11 @@ use Rattle.qp_model.specs.Kernels.{sim}
 use Rattle.qp_model.specs.Sources.{SourceRuns, AllDone, EndsIn}
 use Rattle.qp_model.specs.OneOrder.{Placed, Turn, stim_of, is_stim, begun, acted_last, all_empty, may_act, left_after, turned, acts_next, enters, leaves}
 use Rattle.qp_calls.specs.LaneView.{Happening}
-use Rattle.qp_orders.specs.RunOrder.{placed}
-use Rattle.qp_orders.specs.Placing.{all_placed, AreBehind, look_item}
-use Rattle.qp_orders.specs.Stimulus.{source_items}
-use Rattle.qp_orders.proofs.OrderLaws.{stimuli_are_their_own}
-use Rattle.qp_orders.proofs.StimulusForm.{items-append}
+use Rattle.qp_model_order.specs.RunOrder.{placed}
+use Rattle.qp_model_order.specs.Placing.{all_placed, AreBehind, look_item}
+use Rattle.qp_model_order.specs.Stimulus.{source_items}
+use Rattle.qp_model_order.proofs.OrderLaws.{stimuli_are_their_own}
+use Rattle.qp_model_order.proofs.StimulusForm.{items-append}
 use Rattle.qp_kernel.specs.Happenings.{run_order, rises, told_by, lanes_from, begun_by, placed_of}
 use Rattle.qp_model.proofs.NumberLemmas.{count-append}
 

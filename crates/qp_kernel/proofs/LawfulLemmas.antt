@@ -21,11 +21,11 @@ use Rattle.qp_model.specs.OneOrder.{looks_right, IsOneOrder}
 use Rattle.qp_model.specs.Places.{in_order}
 use Rattle.qp_model.specs.Lawful.{facts_of, lanes_before, KernelHolds, SourceLanes, SpillStands, SpillsStand, one_thread, OrderHolds, SourcesHold, EndHolds, Lawful}
 use Rattle.qp_model.proofs.TakenLemmas.{drop-head}
-use Rattle.qp_orders.specs.RunOrder.{items_of}
-use Rattle.qp_orders.specs.SourceRun.{untold, cut_at, SourceEnds}
+use Rattle.qp_model_order.specs.RunOrder.{items_of}
+use Rattle.qp_model_order.specs.SourceRun.{untold, cut_at, SourceEnds}
 use Rattle.qp_kernel.specs.Run.{SourcesEnd, IsRun}
 use Rattle.qp_kernel.proofs.AlikeKernels.{one-order_kernel, one-order_no-port, runs-alike}
-use Rattle.qp_orders.proofs.SourceLanes.{untold-lane}
+use Rattle.qp_model_order.proofs.SourceLanes.{untold-lane}
 use Rattle.qp_kernel.proofs.TellLemmas.{source-lane}
 use Rattle.qp_kernel.proofs.ZeroLawful.{IsBeside, objects, kernel, end-holds}
 

@@ -16,14 +16,14 @@ use Rattle.qp_model.specs.Sources.{StimFits}
 use Rattle.qp_model.specs.OneOrder.{acts_next, begun, stim_of}
 use Rattle.qp_model.proofs.KnowingLemmas.{told-source}
 use Rattle.qp_calls.specs.LaneView.{LaneView, Gains, Happening}
-use Rattle.qp_orders.specs.RunOrder.{placed, has_stim, RunsInOrder, EndsInOrder}
-use Rattle.qp_orders.specs.Placing.{all_placed, look_item, spill_item, LooksNone}
-use Rattle.qp_orders.specs.SourceRun.{untold, untold_all, SourceGoes, SourceEnds}
-use Rattle.qp_orders.specs.Stimulus.{source_items}
-use Rattle.qp_orders.proofs.OrderLaws.{zero_comes_last, free_look_comes_last, stimulus_comes_last, order_ends_in_zero, order_ends_in_stimulus, order_ends_in_full_lane, stimuli_are_their_own, one_look_changes}
-use Rattle.qp_orders.proofs.SourceLanes.{source_lane_goes_on, source_lane_is_whole, source_lane_stops}
-use Rattle.qp_orders.proofs.StimulusForm.{items-append}
-use Rattle.qp_orders.proofs.NumberLemmas.{acts-place}
+use Rattle.qp_model_order.specs.RunOrder.{placed, has_stim, RunsInOrder, EndsInOrder}
+use Rattle.qp_model_order.specs.Placing.{all_placed, look_item, spill_item, LooksNone}
+use Rattle.qp_model_order.specs.SourceRun.{untold, untold_all, SourceGoes, SourceEnds}
+use Rattle.qp_model_order.specs.Stimulus.{source_items}
+use Rattle.qp_model_order.proofs.OrderLaws.{zero_comes_last, free_look_comes_last, stimulus_comes_last, order_ends_in_zero, order_ends_in_stimulus, order_ends_in_full_lane, stimuli_are_their_own, one_look_changes}
+use Rattle.qp_model_order.proofs.SourceLanes.{source_lane_goes_on, source_lane_is_whole, source_lane_stops}
+use Rattle.qp_model_order.proofs.StimulusForm.{items-append}
+use Rattle.qp_model_order.proofs.NumberLemmas.{acts-place}
 use Rattle.qp_kernel.specs.Happenings.{IsInOrder, IsOrderEnded, SourcesMarch, SourcesHalt, begun_by, has_no_stim, lane_told, lanes_from, lanes_of, order_of, rises, told_by}
 use Rattle.qp_kernel.specs.Interrupting.{Acts, Comes, FindsNoRoom, Happens, HappensInPart, HappensToFail, HasNone, IsStopped, is_unset, stimuli_of}
 use Rattle.qp_kernel.specs.Turning.{look_told}

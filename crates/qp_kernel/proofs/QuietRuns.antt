@@ -17,12 +17,12 @@ use Rattle.qp_model.specs.Ends.{is_end, ends_last, quiet}
 use Rattle.qp_model.specs.End.{end_of}
 use Rattle.qp_model.specs.Lawful.{facts_of, source_lanes}
 use Rattle.qp_model.proofs.TakenLemmas.{drop-head}
-use Rattle.qp_orders.specs.RunOrder.{has_stim, EndsInOrder}
-use Rattle.qp_orders.specs.SourceRun.{untold}
-use Rattle.qp_orders.proofs.CalmLemmas.{calm-no_assert}
-use Rattle.qp_orders.proofs.StimLemmas.{any-both}
-use Rattle.qp_orders.proofs.RunLemmas.{ends-zero}
-use Rattle.qp_orders.proofs.SourceLanes.{source_lane_is_whole, untold-lane}
+use Rattle.qp_model_order.specs.RunOrder.{has_stim, EndsInOrder}
+use Rattle.qp_model_order.specs.SourceRun.{untold}
+use Rattle.qp_model_order.proofs.CalmLemmas.{calm-no_assert}
+use Rattle.qp_model_order.proofs.StimLemmas.{any-both}
+use Rattle.qp_model_order.proofs.RunLemmas.{ends-zero}
+use Rattle.qp_model_order.proofs.SourceLanes.{source_lane_is_whole, untold-lane}
 use Rattle.qp_kernel.specs.ZeroEnds.{ZeroEnds}
 use Rattle.qp_kernel.specs.Run.{SourcesGo, SourcesEnd, IsRun}
 use Rattle.qp_kernel.specs.QuietRun.{IsQuietRun}

@@ -15,7 +15,7 @@ use Rattle.qp_model.specs.KernelLane.{Setting, Reading, lane_next, lane_on}
 use Rattle.qp_model.specs.Points.{is_look, begins_row, pieces_at, pieces_in}
 use Rattle.qp_model.specs.Sources.{source_records}
 use Rattle.qp_model.proofs.KnowingLemmas.{records_of-told}
-use Rattle.qp_orders.specs.SourceRun.{source_told}
+use Rattle.qp_model_order.specs.SourceRun.{source_told}
 use Rattle.qp_kernel.specs.LaneZero.{told_pieces_at, told_pieces}
 use Rattle.qp_kernel.proofs.CeilingLemmas.{ceiling-next}
 

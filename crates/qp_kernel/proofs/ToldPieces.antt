@@ -11,7 +11,7 @@ use Rattle.qp_model.specs.KernelLane.{Setting, Reading, Upcoming, Inside, Lookin
 use Rattle.qp_model.specs.Points.{is_look, begins_row}
 use Rattle.qp_model.specs.Ends.{is_turn_mark}
 use Rattle.qp_model.proofs.KernelRowLemmas.{own-next, start-next, IsOwnRole, IsWithin, no-row}
-use Rattle.qp_orders.specs.SourceRun.{untold}
+use Rattle.qp_model_order.specs.SourceRun.{untold}
 use Rattle.qp_kernel.specs.LaneZero.{told_pieces_at, told_pieces, owed_point, row_of}
 
 -- the pieces of a lane and of more records

@@ -23,9 +23,9 @@ use Rattle.qp_model.specs.Ends.{is_turn_mark, is_end, is_assert, ends_last}
 use Rattle.qp_model.specs.OneOrder.{stim_of}
 use Rattle.qp_model.proofs.GroupLemmas.{bare-append, bare-tell}
 use Rattle.qp_model.proofs.KernelRowLemmas.{IsOwnRole}
-use Rattle.qp_orders.specs.SourceRun.{untold}
+use Rattle.qp_model_order.specs.SourceRun.{untold}
 use Rattle.std.proofs.lemmas.List.{map-append}
-use Rattle.qp_orders.proofs.CalmLemmas.{calm-ends_last}
+use Rattle.qp_model_order.proofs.CalmLemmas.{calm-ends_last}
 use Rattle.qp_kernel.specs.Stages.{closes}
 use Rattle.qp_kernel.proofs.AgendaLemmas.{start-closes}
 use Rattle.qp_kernel.proofs.InnerLemmas.{IsInner, AreInner, inner-append, Form, does-form}

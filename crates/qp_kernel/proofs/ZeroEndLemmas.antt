@@ -27,13 +27,13 @@ use Rattle.qp_model.specs.Lawful.{spill_cuts}
 use Rattle.qp_model.proofs.KernelRowLemmas.{lane_on-then, spent-next, IsOwnRole, IsWithin, seen-entry, no-row}
 use Rattle.qp_kernel.specs.Stages as stage
 use Rattle.qp_kernel.specs.Stages.{Stage, ComesTo, may_wait, is_resting}
-use Rattle.qp_orders.specs.SourceRun.{untold}
+use Rattle.qp_model_order.specs.SourceRun.{untold}
 use Rattle.qp_kernel.specs.LaneZero.{told_pieces_at, told_pieces, Agree, setting, owed_point, HasOneRow, HasRows, LaneZero}
 use Rattle.qp_model.specs.ObjectShape.{HasShape}
 use Rattle.qp_kernel.specs.ZeroEnds.{cut_in, may_stand, is_spent_right, own_told, most_rows, ZeroEnds}
 use Rattle.qp_kernel.specs.Turning.{AreNumbered, AreAble, IsWithinStep}
-use Rattle.qp_orders.proofs.CalmLemmas.{are_calm, calm-parts, calm-no_spill, calm-ends_last, calm-spills_cut, calm-spents_follow, calm-states, calm-all, no_spill-cuts, IsMild, mild-follow, mild-cut, mild-states, mild-all, mild-no_spill}
-use Rattle.qp_orders.proofs.StimLemmas.{any-both}
+use Rattle.qp_model_order.proofs.CalmLemmas.{are_calm, calm-parts, calm-no_spill, calm-ends_last, calm-spills_cut, calm-spents_follow, calm-states, calm-all, no_spill-cuts, IsMild, mild-follow, mild-cut, mild-states, mild-all, mild-no_spill}
+use Rattle.qp_model_order.proofs.StimLemmas.{any-both}
 use Rattle.qp_kernel.proofs.BareLemmas.{own-unmarked, own-calm, own-append, follows-own, shape-spent}
 use Rattle.qp_kernel.proofs.WaitLemmas.{point_if, stopped-anywhere, follows-resting, follows-waiting, follows-failed, follows-failed_start, follows-cut, follows-cut_start}
 use Rattle.qp_kernel.proofs.ZeroLemmas.{own-takes, ends-told, told-unmarked, AreDrops, drops-told, done-takes, reads-done}

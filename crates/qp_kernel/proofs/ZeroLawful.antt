@@ -34,12 +34,12 @@ use Rattle.qp_model.proofs.DeferralLemmas.{follows-deferral, kept-filter}
 use Rattle.qp_model.proofs.FitsLemmas.{is_deferral}
 use Rattle.qp_model.proofs.HomeLemmas.{home_records-kernel}
 use Rattle.qp_model.proofs.KnowingLemmas.{records_of-told}
-use Rattle.qp_orders.specs.RunOrder.{has_stim}
-use Rattle.qp_orders.specs.SourceRun.{untold}
+use Rattle.qp_model_order.specs.RunOrder.{has_stim}
+use Rattle.qp_model_order.specs.SourceRun.{untold}
 use Rattle.qp_kernel.specs.LaneZero.{told_pieces, setting}
 use Rattle.qp_kernel.specs.ZeroEnds.{cut_in, may_stand, is_spent_right, own_told, ZeroEnds}
 use Rattle.qp_kernel.proofs.BareLemmas.{bare-told}
-use Rattle.qp_orders.proofs.SourceLanes.{untold-lane}
+use Rattle.qp_model_order.proofs.SourceLanes.{untold-lane}
 use Rattle.qp_kernel.proofs.TellLemmas.{pieces-lane}
 use Rattle.qp_kernel.proofs.ZeroLemmas.{count-cons}
 use Rattle.qp_model.proofs.NumberLemmas.{count-append}

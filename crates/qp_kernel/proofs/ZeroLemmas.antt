@@ -24,8 +24,8 @@ use Rattle.qp_model.specs.Acts.{Config}
 use Rattle.qp_model.proofs.KernelRowLemmas.{lane_on-then, look-next, seen-empty, seen-entry, rest-next, took-next, done-next, release-next, started-next, MayLook, IsOwnRole, IsWithin}
 use Rattle.qp_kernel.specs.Stages as stage
 use Rattle.qp_kernel.specs.Stages.{Stage, IsReady, ComesTo}
-use Rattle.qp_orders.specs.SourceRun.{untold}
-use Rattle.qp_orders.proofs.StimLemmas.{any-both}
+use Rattle.qp_model_order.specs.SourceRun.{untold}
+use Rattle.qp_model_order.proofs.StimLemmas.{any-both}
 use Rattle.qp_kernel.specs.LaneZero.{told_pieces, Agree, setting, owed_point, row_of, HasRows, LaneZero}
 use Rattle.qp_kernel.specs.Turning.{AreNumbered, AreAble, IsWithinStep, moved, having}
 use Rattle.qp_kernel.proofs.StageLemmas.{comes-took, comes-point, comes-done, comes-started}

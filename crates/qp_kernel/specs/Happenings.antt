@@ -9,10 +9,10 @@ use Rattle.qp_model.specs.Told.{Told, ToldItem, for_object}
 use Rattle.qp_model.specs.Kernels.{sim}
 use Rattle.qp_model.specs.OneOrder.{Placed, stim_of}
 use Rattle.qp_calls.specs.LaneView.{LaneView, Happening}
-use Rattle.qp_orders.specs.RunOrder.{RunsInOrder, EndsInOrder}
-use Rattle.qp_orders.specs.Placing.{all_placed}
-use Rattle.qp_orders.specs.SourceRun.{untold_all, SourceGoes, SourceEnds}
-use Rattle.qp_orders.specs.Stimulus.{source_items}
+use Rattle.qp_model_order.specs.RunOrder.{RunsInOrder, EndsInOrder}
+use Rattle.qp_model_order.specs.Placing.{all_placed}
+use Rattle.qp_model_order.specs.SourceRun.{untold_all, SourceGoes, SourceEnds}
+use Rattle.qp_model_order.specs.Stimulus.{source_items}
 
 -- the records of a happening, in the lane of its source
 abbrev pub placed_of : Happening → List Placed

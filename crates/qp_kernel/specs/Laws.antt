@@ -23,7 +23,7 @@ use Rattle.qp_model.specs.Home.{lane_at}
 use Rattle.qp_model.specs.Knowing.{told_lane}
 use Rattle.qp_model.specs.Sound.{IsSound}
 use Rattle.qp_model.specs.Lawful.{Lawful, facts_of, deferred_of, spill_cuts}
-use Rattle.qp_orders.specs.SourceRun.{untold}
+use Rattle.qp_model_order.specs.SourceRun.{untold}
 use Rattle.qp_kernel.specs.Stages as stage
 use Rattle.qp_kernel.specs.Stages.{IsReady, may_wait, is_resting}
 use Rattle.qp_kernel.specs.LaneZero.{Agree, setting, row_of}

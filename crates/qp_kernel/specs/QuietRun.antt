@@ -17,7 +17,7 @@ use Rattle.qp_model.specs.Sites.{object_at}
 use Rattle.qp_model.specs.Ends.{quiet}
 use Rattle.qp_model.specs.End.{has_room, lines_empty, blocks_rest}
 use Rattle.qp_model.specs.Lawful.{facts_of, source_lanes, deferred_of}
-use Rattle.qp_orders.specs.RunOrder.{items_of, has_stim, RunsInOrder}
+use Rattle.qp_model_order.specs.RunOrder.{items_of, has_stim, RunsInOrder}
 use Rattle.qp_kernel.specs.Stages.{is_resting}
 use Rattle.qp_kernel.specs.LaneZero.{Agree}
 use Rattle.qp_kernel.specs.Run.{SourcesGo}

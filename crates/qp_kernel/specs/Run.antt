@@ -15,8 +15,8 @@ use Rattle.qp_model.specs.OneOrder.{Placed}
 use Rattle.qp_model.specs.Ends.{quiet}
 use Rattle.qp_model.specs.End.{end_of, has_room, lines_empty, blocks_rest}
 use Rattle.qp_model.specs.Lawful.{facts_of, source_lanes, deferred_of}
-use Rattle.qp_orders.specs.RunOrder.{items_of, has_stim, EndsInOrder}
-use Rattle.qp_orders.specs.SourceRun.{SourceGoes, SourceEnds}
+use Rattle.qp_model_order.specs.RunOrder.{items_of, has_stim, EndsInOrder}
+use Rattle.qp_model_order.specs.SourceRun.{SourceGoes, SourceEnds}
 use Rattle.qp_kernel.specs.ZeroEnds.{ZeroEnds}
 
 -- the lanes of the sources, from lane n on; under `qv` a source leaves what it leaves under `sim`

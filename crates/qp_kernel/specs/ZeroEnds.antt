@@ -15,7 +15,7 @@ use Rattle.qp_model.specs.Kernels.{qk}
 use Rattle.qp_model.specs.KernelLane.{Reading, lane_on, unread, is_whole}
 use Rattle.qp_model.specs.Course.{Cut, Whole, Stopped, Anywhere, FollowsTo, chart_at}
 use Rattle.qp_model.specs.Lawful.{spill_cuts}
-use Rattle.qp_orders.specs.SourceRun.{untold}
+use Rattle.qp_model_order.specs.SourceRun.{untold}
 use Rattle.qp_kernel.specs.LaneZero.{told_pieces, setting}
 
 -- how the list of an object may be cut: by a `spill` right behind its record anywhere, else where a lane may stop

@@ -48,3 +48,4 @@ pub mod CrossingLemmas
 pub mod KindLemmas
 pub mod RecordLemmas
 pub mod ObjectLemmas
+pub mod TellingKindLemmas

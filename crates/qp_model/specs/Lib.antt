@@ -56,3 +56,4 @@ pub mod Output
 pub mod OutputText
 pub mod OutputFrames
 pub mod OutputSummary
+pub mod TellingKinds

@@ -12,7 +12,7 @@ use Rattle.qp_chart.specs.declared.actions.Act.TheVariants as act
 use Rattle.qp_chart.specs.declared.checked.Row.{Row}
 use Rattle.qp_chart.specs.declared.checked.State.{State}
 use Rattle.qp_chart.specs.declared.checked.Chart.{Chart}
-use Rattle.qp_names.specs.ActionFaults.{params_in}
+use Rattle.qp_chart_names.specs.ActionFaults.{params_in}
 use Rattle.qp_chart.specs.Expr.{InRange}
 use Rattle.qp_model.specs.declared.systems.SignalDef.{SignalDef}
 use Rattle.qp_model.specs.declared.systems.ObjectDef.{ObjectDef}

@@ -22,6 +22,7 @@ mod systems;
 mod touches;
 pub mod vocabulary;
 mod words;
+mod telling;
 
 pub use bodies::{Body, Entry, Params};
 pub use journals::{Journal, Lane, Lanes};
@@ -33,3 +34,4 @@ pub use systems::{
 };
 pub use touches::{Named, Touched};
 pub use words::Word;
+pub use telling::{ceiling_after, is_assert, is_spent, is_spill, kinds_tell};

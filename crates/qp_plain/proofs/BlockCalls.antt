@@ -19,13 +19,13 @@ use Rattle.qp_calls.specs.declared.answers.Dec.TheVariants as dec
 use Rattle.qp_calls.specs.Tokens.{Held, Loose, stands}
 use Rattle.qp_calls.specs.Clauses.{Gives, Makes, MakesMore, LetsGo, GoesBack, StandsHold, StandsFresh, event_of, shortage_of}
 use Rattle.qp_plain_words.specs.declared.block.BlockWord.{BlockWord}
-use Rattle.qp_sound.specs.May.{May}
-use Rattle.qp_sound.specs.Sound.{hands_in, is_event}
-use Rattle.qp_sound.specs.WordStates.{pool_in, refs_in}
-use Rattle.qp_sound.proofs.CallBlocks.{give-done, give-refused, first-done, inc-done, dec-keeps, dec-last, back-done}
-use Rattle.qp_sound.proofs.FreeLemmas.{length-without_one}
-use Rattle.qp_sound.proofs.Standing.{block-pool, out-not_free}
-use Rattle.qp_sound.proofs.Times.{stands-times}
+use Rattle.qp_plain_sound.specs.May.{May}
+use Rattle.qp_plain_sound.specs.Sound.{hands_in, is_event}
+use Rattle.qp_plain_sound.specs.WordStates.{pool_in, refs_in}
+use Rattle.qp_plain_sound.proofs.CallBlocks.{give-done, give-refused, first-done, inc-done, dec-keeps, dec-last, back-done}
+use Rattle.qp_plain_sound.proofs.FreeLemmas.{length-without_one}
+use Rattle.qp_plain_sound.proofs.Standing.{block-pool, out-not_free}
+use Rattle.qp_plain_sound.proofs.Times.{stands-times}
 use Rattle.qp_plain.specs.declared.book.Book.{Book}
 use Rattle.qp_plain.specs.declared.world.PlainWorld.{PlainWorld}
 use Rattle.qp_plain.specs.Book.{Gains, lists_of}
@@ -35,7 +35,7 @@ use Rattle.qp_plain.specs.WorldView.{world_view}
 use Rattle.qp_plain.proofs.Calling.{step_at, view_with, extends, BlockIs}
 use Rattle.qp_plain.proofs.Mays.{fresh-block, fresh-stands, shortage-may}
 use Rattle.qp_plain.proofs.Turns.{now-seen, quiet, block-moves, pool-moves, cells-give, cells-back}
-use Rattle.qp_sound.proofs.Standing as standing
+use Rattle.qp_plain_sound.proofs.Standing as standing
 
 -- References.
 module _ (w : PlainWorld) (b : Book) (r : Rec) (gains : Gains r w.book b) (p c n : ℕ) (q : BlockWord) (h : IsTrue (is_block w.sys.now p c)) (q_is : BlockIs w p c q) (n_is : n ≡ q.ops) where

@@ -4,8 +4,8 @@ use Rattle.std.proofs.lemmas.List.{length-set, length-map, get_or-set_same}
 use Rattle.std.proofs.lemmas.List.Sums.{sum_by-set, get_or-le-sum_by}
 use Rattle.qp_model.specs.declared.record.Rec.{Rec}
 use Rattle.qp_model.proofs.ListLemmas.{slice_set-twice}
-use Rattle.qp_sound.specs.Step.{Grown}
-use Rattle.qp_logs.specs.declared.log.Log.{Log}
+use Rattle.qp_plain_sound.specs.Step.{Grown}
+use Rattle.qp_calls_log.specs.declared.log.Log.{Log}
 use Rattle.qp_plain.specs.Books.{places_of, recs_of, all_logs, all_places}
 use Rattle.qp_plain.specs.LaneLaws.{lists-are, lane-here}
 

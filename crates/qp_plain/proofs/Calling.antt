@@ -14,12 +14,12 @@ use Rattle.qp_calls.specs.LaneView.{LaneView}
 use Rattle.qp_plain_words.specs.declared.block.BlockWord.{BlockWord}
 use Rattle.qp_plain_words.specs.declared.signal.SignalWord.{SignalWord}
 use Rattle.qp_plain_words.specs.Queue.{Queue}
-use Rattle.qp_sound.specs.Step.{Step, Extends, MayCome, behind}
-use Rattle.qp_sound.specs.Sound.{SoundWorld}
-use Rattle.qp_sound.specs.View.{view_of}
-use Rattle.qp_sound.specs.WordStates.{pool_in, refs_in, line_in, set_in, clock_in}
-use Rattle.qp_sound.proofs.CallParts.{world-after}
-use Rattle.qp_logs.specs.declared.log.Log.{Log}
+use Rattle.qp_plain_sound.specs.Step.{Step, Extends, MayCome, behind}
+use Rattle.qp_plain_sound.specs.Sound.{SoundWorld}
+use Rattle.qp_plain_sound.specs.View.{view_of}
+use Rattle.qp_plain_sound.specs.WordStates.{pool_in, refs_in, line_in, set_in, clock_in}
+use Rattle.qp_plain_sound.proofs.CallParts.{world-after}
+use Rattle.qp_calls_log.specs.declared.log.Log.{Log}
 use Rattle.qp_plain.specs.declared.book.Book.{Book}
 use Rattle.qp_plain.specs.declared.world.PlainWorld.{PlainWorld}
 use Rattle.qp_plain.specs.Book.{Gains, Stays, lists_of, logs_of, purse_of, no_purse, purses_of}

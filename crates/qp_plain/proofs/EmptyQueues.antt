@@ -16,9 +16,9 @@ use Rattle.qp_model.proofs.FitsLemmas.{all-append}
 use Rattle.qp_model.proofs.ObjectLemmas.{object-there}
 use Rattle.qp_calls.specs.declared.answers.Counts as counts
 use Rattle.qp_calls.specs.LaneView.{Counts}
-use Rattle.qp_sound.specs.View.{view_of, shown_in}
-use Rattle.qp_sound.specs.WordStates.{line_in}
-use Rattle.qp_sound.proofs.EntryCounts.{entered-counts, left-counts}
+use Rattle.qp_plain_sound.specs.View.{view_of, shown_in}
+use Rattle.qp_plain_sound.specs.WordStates.{line_in}
+use Rattle.qp_plain_sound.proofs.EntryCounts.{entered-counts, left-counts}
 use Rattle.qp_plain_words.specs.Queue.{Queue}
 use Rattle.qp_plain.specs.declared.world.PlainWorld.{PlainWorld}
 use Rattle.qp_plain.specs.Book.{lists_of}

@@ -19,10 +19,10 @@ use Rattle.qp_model.specs.WordLaw.{is_pool, is_block}
 use Rattle.qp_model.proofs.ListLemmas.{all-with, all-without, all-counted}
 use Rattle.qp_calls.specs.declared.tokens.Hold.{Hold}
 use Rattle.qp_calls.specs.Clauses.{StandsHold, IsEvent, FitsPool, event_of}
-use Rattle.qp_sound.specs.Sound.{is_event}
-use Rattle.qp_sound.specs.View.{view_of}
-use Rattle.qp_sound.specs.WordStates.{pool_in}
-use Rattle.qp_sound.proofs.CallEvents.{held-event, event-read, event-to}
+use Rattle.qp_plain_sound.specs.Sound.{is_event}
+use Rattle.qp_plain_sound.specs.View.{view_of}
+use Rattle.qp_plain_sound.specs.WordStates.{pool_in}
+use Rattle.qp_plain_sound.proofs.CallEvents.{held-event, event-read, event-to}
 use Rattle.qp_plain.specs.declared.world.PlainWorld.{PlainWorld}
 use Rattle.qp_plain.specs.Book.{lists_of, purses_of}
 use Rattle.qp_plain.specs.Tables.{event_at, place}

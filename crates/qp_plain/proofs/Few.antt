@@ -13,13 +13,13 @@ use Rattle.qp_model.specs.declared.bodies.Body.TheVariants.{Inc, Dec}
 use Rattle.qp_model.specs.Lists.{without_one}
 use Rattle.qp_model.specs.Machine.{after, after_from}
 use Rattle.qp_model.specs.References.{Refs, references, refs_next}
-use Rattle.qp_sound.specs.WordStates.{pool_in, refs_in, line_in, set_in, clock_in}
-use Rattle.qp_sound.proofs.Standing.{pool-count, refs-count, line-count, set-count, clock-count}
-use Rattle.qp_logs.specs.declared.log.Log.{Log}
+use Rattle.qp_plain_sound.specs.WordStates.{pool_in, refs_in, line_in, set_in, clock_in}
+use Rattle.qp_plain_sound.proofs.Standing.{pool-count, refs-count, line-count, set-count, clock-count}
+use Rattle.qp_calls_log.specs.declared.log.Log.{Log}
 use Rattle.qp_plain.specs.declared.book.Book.{Book}
 use Rattle.qp_plain.specs.Books.{recs_of}
 use Rattle.qp_plain.specs.Book.{lists_of, logs_of}
-use Rattle.qp_logs.proofs.LogLemmas.{length-kinds}
+use Rattle.qp_calls_log.proofs.LogLemmas.{length-kinds}
 use Rattle.qp_model.proofs.HistoryLemmas.{total-length}
 
 one-lane : (g : Log) → length (lane_items (recs_of g)) ≤ 1000001

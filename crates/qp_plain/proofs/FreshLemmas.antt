@@ -25,12 +25,12 @@ use Rattle.qp_model.specs.WordLaw.{is_object}
 use Rattle.qp_calls.specs.LaneView.{IsNew}
 use Rattle.qp_plain_words.specs.declared.block.BlockWord.{BlockWord}
 use Rattle.qp_plain_words.specs.Sets.{are_members}
-use Rattle.qp_sound.specs.Log.{empty_lanes}
-use Rattle.qp_sound.specs.View.{view_of}
-use Rattle.qp_sound.specs.WordStates.{pool_in, refs_in, line_in, set_in, clock_in, cell_in, cell_after}
-use Rattle.qp_sound.proofs.NewLemmas.{new-sound, new-lane, hist-none}
-use Rattle.qp_sound.proofs.Standing.{block-pool}
-use Rattle.qp_logs.specs.declared.log.Log.{Log}
+use Rattle.qp_plain_sound.specs.Log.{empty_lanes}
+use Rattle.qp_plain_sound.specs.View.{view_of}
+use Rattle.qp_plain_sound.specs.WordStates.{pool_in, refs_in, line_in, set_in, clock_in, cell_in, cell_after}
+use Rattle.qp_plain_sound.proofs.NewLemmas.{new-sound, new-lane, hist-none}
+use Rattle.qp_plain_sound.proofs.Standing.{block-pool}
+use Rattle.qp_calls_log.specs.declared.log.Log.{Log}
 use Rattle.qp_plain.specs.declared.book.Book.{Book}
 use Rattle.qp_plain.specs.Books.{places_of, recs_of, all_places}
 use Rattle.qp_plain.specs.Book.{lists_of, logs_of, purses_of}

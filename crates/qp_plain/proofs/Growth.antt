@@ -18,12 +18,12 @@ use Rattle.qp_model.proofs.MachineLemmas.{Counts, after-append}
 use Rattle.qp_model.proofs.LineLemmas.{line-counts, same_number}
 use Rattle.qp_model.proofs.WordLemmas.{all_items-split, all_items-grown, hist-stays}
 use Rattle.qp_model.proofs.WordLawLemmas.{references-counts, free_blocks-counts, subscribers-counts, time_event-counts}
-use Rattle.qp_sound.specs.Log.{lane_of}
-use Rattle.qp_sound.specs.Step.{Step, Grown}
-use Rattle.qp_sound.specs.WordStates.{pool_in, refs_in, line_in, set_in, clock_in, cell_in, cell_after, cell_next}
-use Rattle.qp_sound.proofs.Logs.{lanes-split, lanes-grown}
-use Rattle.qp_sound.proofs.Standing.{count-total}
-use Rattle.qp_sound.proofs.Events.{cell-append}
+use Rattle.qp_plain_sound.specs.Log.{lane_of}
+use Rattle.qp_plain_sound.specs.Step.{Step, Grown}
+use Rattle.qp_plain_sound.specs.WordStates.{pool_in, refs_in, line_in, set_in, clock_in, cell_in, cell_after, cell_next}
+use Rattle.qp_plain_sound.proofs.Logs.{lanes-split, lanes-grown}
+use Rattle.qp_plain_sound.proofs.Standing.{count-total}
+use Rattle.qp_plain_sound.proofs.Events.{cell-append}
 
 drawn-as : (w : Word) (n : ℕ) (t : Touch) → t ≡ Draws w (suc n) → drawn_as w n t ≡ true
 drawn-as w n t is = rw (is, same_word-refl w, same_number (suc n)) refl

@@ -18,10 +18,10 @@ use Rattle.qp_calls.specs.Clauses.{event_of}
 use Rattle.qp_plain_words.specs.declared.block.BlockWord.{BlockWord}
 use Rattle.qp_plain_words.specs.declared.signal.SignalWord.{SignalWord}
 use Rattle.qp_plain_words.specs.Queue.{Queue}
-use Rattle.qp_sound.specs.Step.{Step, Grown}
-use Rattle.qp_sound.specs.Sound.{SoundWorld}
-use Rattle.qp_sound.specs.WordStates.{pool_in, refs_in, line_in, set_in, clock_in}
-use Rattle.qp_sound.proofs.Standing.{block-pool}
+use Rattle.qp_plain_sound.specs.Step.{Step, Grown}
+use Rattle.qp_plain_sound.specs.Sound.{SoundWorld}
+use Rattle.qp_plain_sound.specs.WordStates.{pool_in, refs_in, line_in, set_in, clock_in}
+use Rattle.qp_plain_sound.proofs.Standing.{block-pool}
 use Rattle.qp_plain.specs.Tables.{PoolsHold, BlocksHold, CellsHold, QueuesHold, SignalsHold, SignalIs, TimersHold, Limits, place, event_at, no_pool, no_block, no_queue, no_signal, no_clock}
 use Rattle.qp_plain.specs.World.{WorldHolds}
 use Rattle.qp_plain.proofs.Growth.{pool-kept, cell-kept, refs-kept, line-kept, set-kept, clock-kept}

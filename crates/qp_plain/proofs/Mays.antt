@@ -12,17 +12,17 @@ use Rattle.qp_calls.specs.declared.tokens.Entry.{Entry}
 use Rattle.qp_calls.specs.declared.tokens.Entry.TheVariants as token
 use Rattle.qp_calls.specs.Tokens.{Held, Loose, stands}
 use Rattle.qp_calls.specs.Clauses.{Owns, Stands, StandsHold, StandsFresh, entry_of, refusal_of, shortage_of}
-use Rattle.qp_sound.specs.May.{May, IsOwned, IsPool, IsQueue}
-use Rattle.qp_sound.specs.Sound.{hands_in, names_block, is_good}
+use Rattle.qp_plain_sound.specs.May.{May, IsOwned, IsPool, IsQueue}
+use Rattle.qp_plain_sound.specs.Sound.{hands_in, names_block, is_good}
 use Rattle.qp_calls.specs.Deferring.{is_named}
 use Rattle.qp_plain_words.specs.Queue.{is_token}
 use Rattle.std.specs.List.{list_all}
 use Rattle.qp_model.specs.declared.bodies.Entry as model
-use Rattle.qp_sound.specs.Step.{MayCome}
-use Rattle.qp_sound.specs.View.{view_of}
-use Rattle.qp_sound.specs.WordStates.{line_in}
-use Rattle.qp_sound.proofs.Times.{all-stands}
-use Rattle.qp_sound.proofs.Standing.{line-in}
+use Rattle.qp_plain_sound.specs.Step.{MayCome}
+use Rattle.qp_plain_sound.specs.View.{view_of}
+use Rattle.qp_plain_sound.specs.WordStates.{line_in}
+use Rattle.qp_plain_sound.proofs.Times.{all-stands}
+use Rattle.qp_plain_sound.proofs.Standing.{line-in}
 use Rattle.qp_model.specs.declared.record.Rec.{Rec}
 use Rattle.qp_model.proofs.NumberLemmas.{not-zero}
 use Rattle.qp_plain.specs.declared.book.Book.{Book}

@@ -5,10 +5,10 @@ use Rattle.qp_model.specs.Record.{item_of, body_of}
 use Rattle.qp_model.specs.History.{drawn_on}
 use Rattle.qp_calls.specs.LaneView.{GrowsOf}
 use Rattle.qp_calls.specs.Notes.{MayNote, told_note}
-use Rattle.qp_sound.specs.Sound.{SoundWorld}
-use Rattle.qp_sound.proofs.LawLemmas.{note-added}
-use Rattle.qp_logs.specs.LaneLaws.{TellsLog}
-use Rattle.qp_logs.proofs.NoteLemmas.{note-off}
+use Rattle.qp_plain_sound.specs.Sound.{SoundWorld}
+use Rattle.qp_plain_sound.proofs.LawLemmas.{note-added}
+use Rattle.qp_calls_log.specs.LaneLaws.{TellsLog}
+use Rattle.qp_calls_log.proofs.NoteLemmas.{note-off}
 use Rattle.qp_plain.specs.declared.book.Book.{Book}
 use Rattle.qp_plain.specs.declared.world.PlainWorld.{PlainWorld}
 use Rattle.qp_plain.specs.Book.{Gains, lists_of, purses_of}

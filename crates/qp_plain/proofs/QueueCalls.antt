@@ -19,11 +19,11 @@ use Rattle.qp_calls.specs.declared.answers.Counts as counts
 use Rattle.qp_calls.specs.LaneView.{NotShown}
 use Rattle.qp_calls.specs.Clauses.{Claims, ClaimsFront, Takes, Sees, Stands, entry_of, refusal_of, last_nil, same_counts}
 use Rattle.qp_plain_words.specs.Queue.{Queue, is_token}
-use Rattle.qp_sound.specs.May.{May, IsQueue}
-use Rattle.qp_sound.specs.Step.{MayCome}
-use Rattle.qp_sound.specs.WordStates.{line_in}
-use Rattle.qp_sound.proofs.CallQueues.{claim-done, claim-refused, lifo-done, lifo-refused, seen-done, take-tells_none}
-use Rattle.qp_sound.proofs.CallEvents.{take-done}
+use Rattle.qp_plain_sound.specs.May.{May, IsQueue}
+use Rattle.qp_plain_sound.specs.Step.{MayCome}
+use Rattle.qp_plain_sound.specs.WordStates.{line_in}
+use Rattle.qp_plain_sound.proofs.CallQueues.{claim-done, claim-refused, lifo-done, lifo-refused, seen-done, take-tells_none}
+use Rattle.qp_plain_sound.proofs.CallEvents.{take-done}
 use Rattle.qp_plain.specs.declared.book.Book.{Book}
 use Rattle.qp_plain.specs.declared.world.PlainWorld.{PlainWorld}
 use Rattle.qp_plain.specs.Book.{Gains, lists_of}

@@ -1,8 +1,8 @@
 -- Queues in their table: where one stands, and the world with it changed or as it was.
 use Rattle.std.proofs.Common.{◌≡◌, ℕ, ◌+◌, ◌<◌, ◌≤◌, length, get_or, slice_set, sym, ap, subst, arith, IsTrue}
 use Rattle.qp_plain_words.specs.Queue.{Queue}
-use Rattle.qp_sound.specs.View.{view_of}
-use Rattle.qp_sound.specs.WordStates.{line_in}
+use Rattle.qp_plain_sound.specs.View.{view_of}
+use Rattle.qp_plain_sound.specs.WordStates.{line_in}
 use Rattle.qp_model.specs.WordLaw.{is_object}
 use Rattle.qp_model.specs.Sites.{ring_of}
 use Rattle.qp_plain.specs.declared.book.Book.{Book}

@@ -33,20 +33,20 @@ use Rattle.qp_plain_words.specs.declared.signal.SignalWord.{SignalWord}
 use Rattle.qp_plain_words.specs.Queue.{Queue}
 use Rattle.qp_plain_words.specs.Ticked.{TicksTo, counted_down}
 use Rattle.qp_plain_words.proofs.SetLemmas.{has-bit}
-use Rattle.qp_sound.specs.May.{May, MayGive, MayMake, MayDrop, MayGiveBack, BeforePost, MayPost, MayTake, IsQueue, IsSignal, IsTimer}
-use Rattle.qp_sound.specs.Sound.{hands_in, is_event, is_good}
-use Rattle.qp_sound.specs.WordStates.{pool_in, line_in, set_in, clock_in}
-use Rattle.qp_sound.proofs.Standing.{out-not_free}
-use Rattle.qp_sound.proofs.Times.{stands-times}
+use Rattle.qp_plain_sound.specs.May.{May, MayGive, MayMake, MayDrop, MayGiveBack, BeforePost, MayPost, MayTake, IsQueue, IsSignal, IsTimer}
+use Rattle.qp_plain_sound.specs.Sound.{hands_in, is_event, is_good}
+use Rattle.qp_plain_sound.specs.WordStates.{pool_in, line_in, set_in, clock_in}
+use Rattle.qp_plain_sound.proofs.Standing.{out-not_free}
+use Rattle.qp_plain_sound.proofs.Times.{stands-times}
 use Rattle.qp_plain.specs.declared.world.PlainWorld.{PlainWorld}
 use Rattle.qp_plain.specs.Book.{lists_of}
-use Rattle.qp_logs.specs.Lane.{is_plain, spill_place}
+use Rattle.qp_calls_log.specs.Lane.{is_plain, spill_place}
 use Rattle.qp_plain.specs.LaneLaws.{lane-here}
 use Rattle.qp_plain.specs.Repeat.{CountsDown, FitsTimer, FitsToken, MayAt, MayRepeat, SetsTo, is_still, lane_in}
 use Rattle.qp_plain.specs.Tables.{SignalIs}
 use Rattle.qp_plain.proofs.Few.{line-few}
 use Rattle.qp_plain.proofs.Holding.{block-in}
-use Rattle.qp_logs.proofs.LogLemmas.{length-kinds, no-spills, regular}
+use Rattle.qp_calls_log.proofs.LogLemmas.{length-kinds, no-spills, regular}
 use Rattle.qp_plain.proofs.SignalTable as signal_table
 use Rattle.qp_model.proofs.RecordLemmas.{lane-length}
 

@@ -9,9 +9,9 @@ use Rattle.qp_model.specs.WordLaw.{is_object, is_signal}
 use Rattle.qp_calls.specs.Clauses.{Subscribing, Unsubscribing, Reads}
 use Rattle.qp_plain_words.specs.declared.signal.SignalWord.{SignalWord}
 use Rattle.qp_plain_words.proofs.SetLemmas.{has-bit, set-put, members-put, set-take}
-use Rattle.qp_sound.specs.May.{May, IsSignal}
-use Rattle.qp_sound.specs.WordStates.{set_in}
-use Rattle.qp_sound.proofs.CallSides.{subscribe-changes, subscribe-keeps, unsubscribe-changes, unsubscribe-keeps, subscribers-read}
+use Rattle.qp_plain_sound.specs.May.{May, IsSignal}
+use Rattle.qp_plain_sound.specs.WordStates.{set_in}
+use Rattle.qp_plain_sound.proofs.CallSides.{subscribe-changes, subscribe-keeps, unsubscribe-changes, unsubscribe-keeps, subscribers-read}
 use Rattle.qp_plain.specs.declared.book.Book.{Book}
 use Rattle.qp_plain.specs.declared.world.PlainWorld.{PlainWorld}
 use Rattle.qp_plain.specs.Book.{Gains, lists_of}

@@ -2,8 +2,8 @@
 use Rattle.std.proofs.Common.{◌≡◌, ℕ, zero, suc, ◌-◌, ◌<◌, ◌==◌, true, false, length, get_or, slice_set, refl, sym, subst, arith, IsTrue}
 use Rattle.std.proofs.lemmas.Bool.Decides.{nat_tests}
 use Rattle.qp_plain_words.specs.declared.signal.SignalWord.{SignalWord}
-use Rattle.qp_sound.specs.View.{view_of}
-use Rattle.qp_sound.specs.WordStates.{set_in}
+use Rattle.qp_plain_sound.specs.View.{view_of}
+use Rattle.qp_plain_sound.specs.WordStates.{set_in}
 use Rattle.qp_model.specs.WordLaw.{is_object, is_signal}
 use Rattle.qp_plain.specs.declared.book.Book.{Book}
 use Rattle.qp_plain.specs.declared.world.PlainWorld.{PlainWorld}

@@ -4,7 +4,7 @@ use Rattle.std.specs.List.{list_all, list_any}
 use Rattle.std.proofs.lemmas.Bool.{and_from, and_parts, or_right}
 use Rattle.std.proofs.lemmas.Bool.Decides.{nat_tests}
 use Rattle.qp_calls.specs.LaneView.{Purse, no_code, is_codeless}
-use Rattle.qp_logs.specs.declared.log.Log.{Log}
+use Rattle.qp_calls_log.specs.declared.log.Log.{Log}
 use Rattle.qp_plain.specs.declared.book.Book.{Book}
 use Rattle.qp_plain.specs.Book.{Hands, Answers, logs_of, purse_of, no_purse, purses_of}
 use Rattle.qp_plain.specs.Books.{all_logs}

@@ -9,9 +9,9 @@ use Rattle.qp_model.specs.WordLaw.{is_timer}
 use Rattle.qp_calls.specs.declared.answers.Arm.TheVariants as armed
 use Rattle.qp_calls.specs.declared.answers.Tick.TheVariants as ticked
 use Rattle.qp_calls.specs.Clauses.{Arms, Disarms, Rearms, TicksOne, Tries, draws_disarmed}
-use Rattle.qp_sound.specs.May.{May, IsTimer}
-use Rattle.qp_sound.specs.WordStates.{clock_in}
-use Rattle.qp_sound.proofs.CallSides.{arm-done, arm-refused, disarm-idle, disarm-done, rearm-done, tick-idle, tick-down, tick-fires}
+use Rattle.qp_plain_sound.specs.May.{May, IsTimer}
+use Rattle.qp_plain_sound.specs.WordStates.{clock_in}
+use Rattle.qp_plain_sound.proofs.CallSides.{arm-done, arm-refused, disarm-idle, disarm-done, rearm-done, tick-idle, tick-down, tick-fires}
 use Rattle.qp_plain.specs.declared.book.Book.{Book}
 use Rattle.qp_plain.specs.declared.world.PlainWorld.{PlainWorld}
 use Rattle.qp_plain.specs.Book.{Gains, lists_of}

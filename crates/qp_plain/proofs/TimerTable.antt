@@ -1,7 +1,7 @@
 -- Time events in their table: where one stands, and the world with it changed or as it was.
 use Rattle.std.proofs.Common.{◌≡◌, ℕ, ◌-◌, ◌<◌, length, get_or, slice_set, sym, ap, subst, arith, IsTrue}
 use Rattle.qp_model.specs.TimeEvents.{Clock}
-use Rattle.qp_sound.specs.WordStates.{clock_in}
+use Rattle.qp_plain_sound.specs.WordStates.{clock_in}
 use Rattle.qp_model.specs.WordLaw.{is_timer}
 use Rattle.qp_plain.specs.declared.book.Book.{Book}
 use Rattle.qp_plain.specs.declared.world.PlainWorld.{PlainWorld}

@@ -23,9 +23,9 @@ use Rattle.qp_calls.specs.Clauses.{Tries, event_of}
 use Rattle.qp_plain_words.specs.declared.block.BlockWord.{BlockWord}
 use Rattle.qp_plain_words.specs.declared.signal.SignalWord.{SignalWord}
 use Rattle.qp_plain_words.specs.Queue.{Queue}
-use Rattle.qp_sound.specs.Step.{MayCome, behind}
-use Rattle.qp_sound.specs.Sound.{SoundWorld}
-use Rattle.qp_sound.specs.WordStates.{pool_in, refs_in, line_in, set_in, clock_in, cell_in, cell_next}
+use Rattle.qp_plain_sound.specs.Step.{MayCome, behind}
+use Rattle.qp_plain_sound.specs.Sound.{SoundWorld}
+use Rattle.qp_plain_sound.specs.WordStates.{pool_in, refs_in, line_in, set_in, clock_in, cell_in, cell_next}
 use Rattle.qp_plain.specs.declared.book.Book.{Book}
 use Rattle.qp_plain.specs.declared.world.PlainWorld.{PlainWorld}
 use Rattle.qp_plain.specs.Book.{Gains, lists_of}

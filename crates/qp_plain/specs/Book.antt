@@ -4,8 +4,8 @@ use Rattle.qp_model.specs.declared.record.Rec.{Rec}
 use Rattle.qp_calls.specs.declared.answers.RoomFault.{RoomFault}
 use Rattle.qp_calls.specs.declared.answers.RoomFault.TheVariants as fault
 use Rattle.qp_calls.specs.LaneView.{Purse}
-use Rattle.qp_sound.specs.Step.{Grown}
-use Rattle.qp_logs.specs.declared.log.Log.{Log}
+use Rattle.qp_plain_sound.specs.Step.{Grown}
+use Rattle.qp_calls_log.specs.declared.log.Log.{Log}
 use Rattle.qp_plain.specs.declared.book.Book.{Book}
 use Rattle.qp_plain.specs.Books.{recs_of, all_logs}
 

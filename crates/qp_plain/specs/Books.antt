@@ -2,8 +2,8 @@
 use Rattle.std.specs.Prelude.{ℕ, ◌+◌, List, slice_set}
 use Rattle.std.specs.List.{sum_by}
 use Rattle.qp_model.specs.declared.record.Rec.{Rec}
-use Rattle.qp_logs.specs.declared.log.Log.{Log}
-use Rattle.qp_logs.specs.Lane.{spill_place}
+use Rattle.qp_calls_log.specs.declared.log.Log.{Log}
+use Rattle.qp_calls_log.specs.Lane.{spill_place}
 
 -- how many records the lane has room for, the `spill` with them
 abbrev pub places_of : Log → ℕ

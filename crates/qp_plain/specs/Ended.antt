@@ -2,9 +2,9 @@
 use Rattle.std.specs.Prelude.{◌≡◌, ℕ, List, IsTrue}
 use Rattle.qp_model.specs.declared.record.Rec.{Rec}
 use Rattle.qp_model.specs.WordLaw.{Words, is_block}
-use Rattle.qp_sound.specs.Log.{Orders}
-use Rattle.qp_sound.specs.Ending.{BlockStands}
-use Rattle.qp_sound.specs.Sound.{hands_in}
+use Rattle.qp_plain_sound.specs.Log.{Orders}
+use Rattle.qp_plain_sound.specs.Ending.{BlockStands}
+use Rattle.qp_plain_sound.specs.Sound.{hands_in}
 use Rattle.qp_plain.specs.declared.world.PlainWorld.{PlainWorld}
 use Rattle.qp_plain.specs.Book.{lists_of, logs_of}
 use Rattle.qp_plain.specs.World.{StopIs, WorldHolds}

@@ -7,7 +7,7 @@ use Rattle.qp_model.specs.FreeBlocks.{Pool}
 use Rattle.qp_model.specs.Lists.{count_up}
 use Rattle.qp_model.specs.Sites.{ring_of, blocks_of}
 use Rattle.qp_plain_words.specs.Queue.{Queue, empty_line}
-use Rattle.qp_logs.specs.declared.log.Log.{Log}
+use Rattle.qp_calls_log.specs.declared.log.Log.{Log}
 use Rattle.qp_plain.specs.declared.book.Book.{Book}
 use Rattle.qp_plain.specs.Book.{logs_of}
 use Rattle.qp_plain.specs.World.{no_codes}

@@ -9,13 +9,13 @@ use Rattle.qp_model.specs.History.{lane_items}
 use Rattle.qp_model.specs.Knowing.{Facts, told, told_lane, ceiling_after}
 use Rattle.qp_calls.specs.LaneView.{LaneView, Purse}
 use Rattle.qp_calls.specs.LaneLaws.{IsWithinLimit, HasCauses}
-use Rattle.qp_sound.specs.Log.{lane_of}
-use Rattle.qp_sound.specs.Sound.{facts_in}
-use Rattle.qp_sound.specs.View.{view_of}
-use Rattle.qp_logs.specs.declared.log.Log.{Log}
+use Rattle.qp_plain_sound.specs.Log.{lane_of}
+use Rattle.qp_plain_sound.specs.Sound.{facts_in}
+use Rattle.qp_plain_sound.specs.View.{view_of}
+use Rattle.qp_calls_log.specs.declared.log.Log.{Log}
 use Rattle.qp_plain.specs.Books.{recs_of, all_logs}
-use Rattle.qp_logs.specs.LaneLaws.{TellsLog, bare}
-use Rattle.qp_logs.specs.LaneLaws as logs
+use Rattle.qp_calls_log.specs.LaneLaws.{TellsLog, bare}
+use Rattle.qp_calls_log.specs.LaneLaws as logs
 
 -- what all lanes hold
 pub lists-are : (others : List Log) (at : ℕ) (here : Log) → map recs_of (all_logs others at here) ≡ slice_set (map recs_of others) at (recs_of here)

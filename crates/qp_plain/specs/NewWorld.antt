@@ -4,8 +4,8 @@ use Rattle.std.specs.List.{list_all}
 use Rattle.qp_model.specs.declared.systems.System.{System}
 use Rattle.qp_model.specs.OneOrder.{Placed}
 use Rattle.qp_calls.specs.LaneView.{IsNew}
-use Rattle.qp_sound.specs.Log.{log_of}
-use Rattle.qp_logs.specs.declared.log.Log.{Log}
+use Rattle.qp_plain_sound.specs.Log.{log_of}
+use Rattle.qp_calls_log.specs.declared.log.Log.{Log}
 use Rattle.qp_plain.specs.declared.world.PlainWorld.{PlainWorld}
 use Rattle.qp_plain.specs.Book.{lists_of, logs_of}
 use Rattle.qp_plain.specs.World.{no_codes}

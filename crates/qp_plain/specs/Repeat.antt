@@ -7,9 +7,9 @@ use Rattle.qp_model.specs.declared.bodies.Body.TheVariants.{Took, Nil, New, Inc,
 use Rattle.qp_model.specs.Record.{item_of}
 use Rattle.qp_model.specs.Ends.{is_spill, spills_in}
 use Rattle.qp_model.specs.History.{lane_items}
-use Rattle.qp_sound.specs.Log.{lane_of}
-use Rattle.qp_sound.specs.May.{May}
-use Rattle.qp_sound.specs.Sound.{hands_in}
+use Rattle.qp_plain_sound.specs.Log.{lane_of}
+use Rattle.qp_plain_sound.specs.May.{May}
+use Rattle.qp_plain_sound.specs.Sound.{hands_in}
 use Rattle.qp_plain.specs.declared.world.PlainWorld.{PlainWorld}
 use Rattle.qp_plain.specs.Book.{Gains, Keeps, lists_of}
 

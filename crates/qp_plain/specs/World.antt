@@ -9,8 +9,8 @@ use Rattle.qp_model.specs.TimeEvents.{Clock}
 use Rattle.qp_plain_words.specs.declared.block.BlockWord.{BlockWord}
 use Rattle.qp_plain_words.specs.declared.signal.SignalWord.{SignalWord}
 use Rattle.qp_plain_words.specs.Queue.{Queue}
-use Rattle.qp_sound.specs.Sound.{SoundWorld}
-use Rattle.qp_logs.specs.declared.log.Log.{Log}
+use Rattle.qp_plain_sound.specs.Sound.{SoundWorld}
+use Rattle.qp_calls_log.specs.declared.log.Log.{Log}
 use Rattle.qp_plain.specs.Tables.{PoolsHold, BlocksHold, CellsHold, QueuesHold, SignalsHold, TimersHold, Limits}
 
 pub record WorldHolds (sys : System) (lanes : List (List Rec)) (order : List ℕ) (pools : List Pool) (blocks : List BlockWord) (cells : List Ev)

@@ -1,6 +1,6 @@
 -- What contracts see of a world.
 use Rattle.qp_calls.specs.LaneView.{LaneView}
-use Rattle.qp_sound.specs.View.{view_of}
+use Rattle.qp_plain_sound.specs.View.{view_of}
 use Rattle.qp_plain.specs.declared.world.PlainWorld.{PlainWorld}
 use Rattle.qp_plain.specs.Book.{lists_of, purses_of}
 

@@ -4,7 +4,7 @@ use crate::records::{copy_of, place, refusal, shortage, stated};
 use crate::world::PlainWorld;
 use qp_base::{Ev, Steps};
 use qp_calls::{Arm, Claim, Counts, Dec, Entry, Fresh, Give, Hold, Ops, RoomFault, Take, Tick};
-use qp_kinds::is_spill;
+use qp_model::is_spill;
 use qp_model::Rec;
 use std::mem;
 use std::sync::Wait;

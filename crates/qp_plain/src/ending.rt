@@ -6,7 +6,7 @@ ghost use Rattle.qp_plain.specs.Books.{recs_of};
 
 use crate::world::PlainWorld;
 use qp_base::Memory;
-use qp_logs::Log;
+use qp_calls_log::Log;
 use qp_model::{Lane, Lanes};
 use std::alloc::Global;
 

@@ -11,7 +11,7 @@ use crate::records::{place, token_of};
 use crate::world::PlainWorld;
 use qp_base::{Ev, Memory};
 use qp_calls::Counts;
-use qp_kinds::is_spill;
+use qp_model::is_spill;
 use qp_model::{Body, Entry, Params, Rec};
 
 impl PlainWorld<'_> {

@@ -8,7 +8,7 @@ ghost use Rattle.qp_plain.specs.Tables.{no_clock, no_signal};
 
 use arrayvec::ArrayVec;
 use qp_base::{Ev, Memory};
-use qp_logs::Log;
+use qp_calls_log::Log;
 use qp_model::System;
 use qp_plain_words::{PoolWord, QueueWord, SignalWord, TimerWord};
 use std::alloc::Global;

@@ -15,8 +15,8 @@ use Rattle.qp_model.specs.declared.words.Word.TheVariants as word
 use Rattle.qp_model.specs.declared.bodies.Body.TheVariants.{Nil}
 use Rattle.qp_model.specs.Sound.{IsSound}
 use Rattle.qp_model.specs.Told.{plain}
-use Rattle.qp_sound.specs.Sound.{hands_in}
-use Rattle.qp_sound.specs.View.{view_of}
+use Rattle.qp_plain_sound.specs.Sound.{hands_in}
+use Rattle.qp_plain_sound.specs.View.{view_of}
 use Rattle.qp_plain.specs.declared.world.PlainWorld.{PlainWorld}
 use Rattle.qp_plain.specs.Book.{lists_of}
 use Rattle.qp_plain.specs.Books.{recs_of}

@@ -15,8 +15,8 @@ use Rattle.qp_model.specs.End.{spills_state}
 use Rattle.qp_model.specs.Sources.{SourceRuns, IsSourceLane, entry_seen, none_twice, may_end}
 use Rattle.qp_model.specs.Lawful.{facts_of, SourceLanes}
 use Rattle.qp_model.proofs.TakenLemmas.{drop-head}
-use Rattle.qp_orders.specs.SourceRun.{untold_all}
-use Rattle.qp_orders.proofs.SourceLanes.{untold-lane}
+use Rattle.qp_model_order.specs.SourceRun.{untold_all}
+use Rattle.qp_model_order.proofs.SourceLanes.{untold-lane}
 use Rattle.qp_kernel.proofs.TellLemmas.{source-lane}
 use Rattle.qp_kernel.proofs.ZeroLawful.{IsBeside}
 use Rattle.qp_port_law.specs.SourcesLeft.{SourceLeaves}

@@ -32,9 +32,9 @@ use Rattle.qp_model.proofs.KnowingLemmas.{records_of-told}
 use Rattle.qp_model.proofs.TakenLemmas.{drop-head}
 use Rattle.qp_model.proofs.NumberLemmas.{count-append}
 use Rattle.qp_model.proofs.ListLemmas.{every-test}
-use Rattle.qp_orders.specs.SourceRun.{untold_all}
+use Rattle.qp_model_order.specs.SourceRun.{untold_all}
 use Rattle.qp_kernel.specs.ZeroEnds.{cut_in, own_told}
-use Rattle.qp_orders.proofs.SourceLanes.{untold-lane}
+use Rattle.qp_model_order.proofs.SourceLanes.{untold-lane}
 use Rattle.qp_kernel.proofs.ZeroLawful.{all-found, mark-other, quietly, unspent-follow, unspent-right, IsFound}
 use Rattle.qp_port_law.specs.Homes.{home_told, is_spent_home, HomeEnds}
 use Rattle.qp_port_law.specs.SourcesLeft.{SourceLeaves}

@@ -12,7 +12,7 @@ use Rattle.qp_model.specs.Home.{lane_at}
 use Rattle.qp_model.specs.Knowing.{told_lane}
 use Rattle.qp_model.specs.Kernels.{port, has_one_order}
 use Rattle.qp_model.specs.Lawful.{facts_of, source_lanes, lanes_before, KernelHolds, SourceLanes, SourcesHold, OrderHolds, EndHolds, Lawful}
-use Rattle.qp_orders.specs.RunOrder.{has_stim}
+use Rattle.qp_model_order.specs.RunOrder.{has_stim}
 use Rattle.qp_kernel.specs.ZeroEnds.{ZeroEnds}
 use Rattle.qp_kernel.proofs.ZeroLawful.{objects, kernel, end-holds}
 use Rattle.qp_port_law.specs.QkRun.{most_idle, IsQkRun}

@@ -13,7 +13,7 @@ use Rattle.qp_model.specs.Sound.{IsSound}
 use Rattle.qp_model.specs.Ends.{quiet}
 use Rattle.qp_model.specs.End.{end_of, has_room, lines_empty, blocks_rest}
 use Rattle.qp_model.specs.Lawful.{facts_of, source_lanes, deferred_of, is_settle}
-use Rattle.qp_orders.specs.RunOrder.{has_stim}
+use Rattle.qp_model_order.specs.RunOrder.{has_stim}
 use Rattle.qp_kernel.specs.ZeroEnds.{ZeroEnds}
 use Rattle.qp_port_law.specs.PortRun.{SourcesLeave}
 

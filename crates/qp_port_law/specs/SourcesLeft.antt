@@ -7,7 +7,7 @@ use Rattle.qp_model.specs.Told.{ToldItem}
 use Rattle.qp_model.specs.Ends.{is_spent, spills_in, spills_cut, ends_last}
 use Rattle.qp_model.specs.End.{spills_state}
 use Rattle.qp_model.specs.Sources.{SourceEnd, SourceRuns, entry_seen, may_end, none_twice}
-use Rattle.qp_orders.specs.SourceRun.{source_told, untold_all}
+use Rattle.qp_model_order.specs.SourceRun.{source_told, untold_all}
 
 -- it has its stimuli in order, as far as it came, no two tries of it end alike, and what ends it stands where it may
 pub record SourceLeaves (sys : System) (kernel end : ℕ) (ss : List Stim) (told : List ToldItem) : Type 0 where

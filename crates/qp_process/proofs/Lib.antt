@@ -1,1 +1,2 @@
 mod ProcessLemmas
+mod PieceLemmas

@@ -9,7 +9,7 @@ ghost use Rattle.qp_process.specs.Process.{EndsUntold, EndsWith, IsAnswered, wor
 
 use crate::arguments::{texts_of, unread, words_of};
 use qp_base::{DirShelf, NoGate, Shelf, Sink, StdSink};
-use qp_output::{Carried, in_pieces};
+use crate::{Carried, in_pieces};
 use qp_run::{Status, qp_main, tell};
 use std::alloc::Global;
 use std::env::Args;

@@ -3,5 +3,7 @@
 
 mod arguments;
 mod entry;
+mod pieces;
 
 pub use entry::{Ended, Flow, process, program};
+pub use pieces::{Carried, in_pieces};

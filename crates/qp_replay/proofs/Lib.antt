@@ -11,3 +11,4 @@ pub mod RemainingLemmas
 pub mod SerialLemmas
 pub mod SizeLemmas
 pub mod SourceRecords
+pub mod ReplayedLemmas

@@ -8,8 +8,8 @@ use Rattle.std.specs.declared.cmp.Ordering.{Ordering}
 use Rattle.std.specs.declared.cmp.Ordering.TheVariants.{Less, Equal, Greater}
 use Rattle.std.proofs.lemmas.Bool.Decides.{nat_tests}
 use Rattle.std.proofs.Math.Bool.{or-false, and-true}
-use Rattle.qp_lanes.specs.Keys.{key_cmp, same_key}
-use Rattle.qp_lanes.proofs.KeyLemmas.{same-cmp, key-is}
+use Rattle.qp_check_lanes.specs.Keys.{key_cmp, same_key}
+use Rattle.qp_check_lanes.proofs.KeyLemmas.{same-cmp, key-is}
 
 pub put-has : (key q mark e : ℕ × ℕ × ℕ) (old : ℕ × ℕ × ℕ → Option (BTreeSet (ℕ × ℕ × ℕ))) (gone new : Option (BTreeSet (ℕ × ℕ × ℕ))) (row more : BTreeSet (ℕ × ℕ × ℕ))
     → new ≡ cond (is_eq (key_cmp key q)) (Some more) gone → gone ≡ cond (is_eq (key_cmp key q)) None (old q)

@@ -48,7 +48,7 @@ use Rattle.qp_stim.specs.Rules.{StimuliFit}
 use Rattle.qp_calls.specs.Counting.{one}
 use Rattle.qp_calls.specs.declared.tokens.Entry as token
 use Rattle.qp_calls.specs.declared.tokens.Entry.TheVariants as hand
-use Rattle.qp_sound.proofs.SetLemmas.{bits-has, set-apart}
+use Rattle.qp_plain_sound.proofs.SetLemmas.{bits-has, set-apart}
 use Rattle.qp_dispatch.specs.SoundFor.{HasTimer, IsHome, MayAct, MayTask}
 use Rattle.qp_dispatch.specs.Resume.{IsReady}
 use Rattle.qp_dispatch.proofs.Naming.{declared, receives}

@@ -11,8 +11,8 @@ use Rattle.qp_model.specs.declared.words.Word.{Word}
 use Rattle.qp_model.specs.Record.{Item, item_of}
 use Rattle.qp_model.specs.History.{Touch, Draws, Shows, Neither, same_word}
 use Rattle.qp_model.specs.Places.{RecordPlace, item_at, must_precede, touch_at, touch_first}
-use Rattle.qp_lanes.specs.Keys.{key_of, same_key}
-use Rattle.qp_lanes.proofs.KeyLemmas.{same-word}
+use Rattle.qp_check_lanes.specs.Keys.{key_of, same_key}
+use Rattle.qp_check_lanes.proofs.KeyLemmas.{same-word}
 use Rattle.qp_replay.specs.Orders.{is_record}
 use Rattle.qp_replay.specs.Marks.{has_mark}
 use Rattle.qp_replay.specs.Remaining.{Blocks, HasNext, IsRemaining, Standing, draws_mark, front, head, place, record_in, shows_mark}

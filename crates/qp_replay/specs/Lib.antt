@@ -4,3 +4,4 @@ pub mod Orders
 pub mod Marks
 pub mod Replaying
 pub mod Remaining
+pub mod Text

@@ -3,7 +3,7 @@ use Rattle.std.specs.Prelude.{ℕ, Bool, false}
 use Rattle.std.specs.Option.{option_map_or}
 use Rattle.std.specs.BTreeMap.{get}
 use Rattle.std.specs.BTreeSet.{contains}
-use Rattle.qp_lanes.specs.Keys.{key_cmp}
+use Rattle.qp_check_lanes.specs.Keys.{key_cmp}
 use Rattle.qp_replay.specs.declared.marks.Marks.{Marks}
 
 abbrev pub has_mark : Marks → ℕ × ℕ × ℕ → ℕ × ℕ × ℕ → Bool

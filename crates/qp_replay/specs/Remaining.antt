@@ -8,7 +8,7 @@ use Rattle.qp_model.specs.declared.words.Word.{Word}
 use Rattle.qp_model.specs.Record.{Item, item_of}
 use Rattle.qp_model.specs.History.{Touch, Draws, Shows, same_word}
 use Rattle.qp_model.specs.Places.{RecordPlace, item_at, touch_at, must_precede}
-use Rattle.qp_lanes.specs.Keys.{key_of}
+use Rattle.qp_check_lanes.specs.Keys.{key_of}
 use Rattle.qp_replay.specs.Orders.{is_record}
 use Rattle.qp_replay.specs.Marks.{has_mark}
 use Rattle.qp_replay.specs.declared.marks.Marks.{Marks}

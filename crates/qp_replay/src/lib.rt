@@ -13,8 +13,10 @@ mod replaying;
 
 // What is true of orders.
 pub mod laws;
+mod writing;
 
 pub use marks::At;
 pub use order::{is_small, ordered};
 pub use places::{Places, Replayed};
 pub use replaying::replay;
+pub use writing::write_replayed;

@@ -2,7 +2,7 @@
 
 ghost use Rattle.std.specs.Prelude.{◌≡◌, ℕ, ◌<◌, ◌≤◌, ◌&&◌, ◌||◌, not, true, false, IfSome, MatchOption, OnOk};
 ghost use Rattle.std.specs.BTreeSet.{contains};
-ghost use Rattle.qp_lanes.specs.Keys.{key_cmp, same_key};
+ghost use Rattle.qp_check_lanes.specs.Keys.{key_cmp, same_key};
 ghost use Rattle.qp_replay.specs.Marks.{has_mark};
 
 use std::alloc::{AllocError, Global};

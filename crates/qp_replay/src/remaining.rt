@@ -7,13 +7,13 @@ ghost use Rattle.qp_model.specs.History.{touch};
 ghost use Rattle.qp_model.specs.Places.{RecordPlace, item_at, touch_at};
 ghost use Rattle.qp_model.specs.Touches.{as_touch};
 ghost use Rattle.qp_model.specs.Record.{item_of};
-ghost use Rattle.qp_lanes.specs.Keys.{key_of};
+ghost use Rattle.qp_check_lanes.specs.Keys.{key_of};
 ghost use Rattle.qp_replay.specs.Marks.{has_mark};
 ghost use Rattle.qp_replay.specs.Orders.{is_record};
 ghost use Rattle.qp_replay.specs.Remaining.{Blocks, HasNext, IsSmall, MayGo, draws_mark, front, head, place, record_in, shows_mark};
 
 use crate::marks::{At, Marks};
-use qp_lanes::keys::key_of;
+use qp_check_lanes::keys::key_of;
 use qp_model::{Lane, Lanes, Rec, Touched};
 use std::alloc::{AllocError, Global};
 use std::marker::Model;

@@ -1,4 +1,4 @@
-use qp_lanes::keys::key_of;
+use qp_check_lanes::keys::key_of;
 use qp_model::{Journal, Named, Rec, Touched};
 use qp_replay::{At, Replayed, is_small, ordered};
 use qp_text::read_journal;

@@ -1,15 +1,15 @@
 -- No call over files has two answers.
 use Rattle.std.proofs.Common.{◌≡◌, ℕ, ◌≤◌, List, length, Option, Some, None, Result, Ok, Err, ◌⊎◌, refl, sym, ap, subst, ◌∙◌, arith, inl, inr}
-use Rattle.qp_alike.proofs.LawLemmas.{lawful_journals_are_one, stimuli_are_one, verdicts_are_one}
+use Rattle.qp_system_alike.proofs.LawLemmas.{lawful_journals_are_one, stimuli_are_one, verdicts_are_one}
 use Rattle.qp_base.specs.Limits.{file_limit}
 use Rattle.qp_model.specs.declared.stimulus.Stim.{Stim}
 use Rattle.qp_model.specs.declared.systems.System.{System}
 use Rattle.qp_model.specs.Kernels.{port}
 use Rattle.qp_model.proofs.LawLemmas.{kernel_rests_where_all_are_empty}
-use Rattle.qp_simulation.specs.SimRun.{IsSimRun}
+use Rattle.qp_kernel_runs.specs.SimRun.{IsSimRun}
 use Rattle.qp_stim.specs.Stimuli.{Fault, stimuli_of}
-use Rattle.qp_document.specs.declared.fault.SystemFault.{SystemFault}
-use Rattle.qp_document.specs.declared.fault.SystemFault.TheVariants.{Memory as NoMemory}
+use Rattle.qp_system_tables.specs.declared.fault.SystemFault.{SystemFault}
+use Rattle.qp_system_tables.specs.declared.fault.SystemFault.TheVariants.{Memory as NoMemory}
 use Rattle.qp_system.specs.SystemOf.{IsSystemOf, RefusesSystem}
 use Rattle.qp_system.proofs.LawLemmas.{systems_have_no_fault, refusals_are_one}
 use Rattle.qp_run.specs.declared.status.Status.{Status}

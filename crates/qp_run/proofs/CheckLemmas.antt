@@ -1,9 +1,9 @@
 -- A journal of three files, judged file by file.
 use Rattle.std.proofs.Common.{◌≡◌, ℕ, ◌⊎◌, true, List, Option, IfSome, Result, Ok, Err, refl, sym, ap, subst, ◌∙◌, inl, inr}
 use Rattle.std.proofs.lemmas.Option.{IfSome_then}
-use Rattle.qp_alike.proofs.LawLemmas.{stimuli_are_one, verdicts_carry_over}
-use Rattle.qp_word_rules.specs.declared.verdict.Verdict.{Verdict}
-use Rattle.qp_word_rules.specs.declared.verdict.Verdict.TheVariants.{Lawful}
+use Rattle.qp_system_alike.proofs.LawLemmas.{stimuli_are_one, verdicts_carry_over}
+use Rattle.qp_check_words.specs.declared.verdict.Verdict.{Verdict}
+use Rattle.qp_check_words.specs.declared.verdict.Verdict.TheVariants.{Lawful}
 use Rattle.qp_check.specs.Judged.{IsVerdict, trials}
 use Rattle.qp_check.proofs.JudgedLemmas.{lawful_where_none_fails}
 use Rattle.qp_model.specs.declared.journals.Journal as journal

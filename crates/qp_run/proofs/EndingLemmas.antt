@@ -5,9 +5,9 @@ use Rattle.qp_model.specs.declared.journals.Journal.{Journal}
 use Rattle.qp_run.specs.declared.status.Status.{Status}
 use Rattle.qp_run.specs.declared.status.Status.TheVariants.{Done, Words, Asserted, Spent, WriteFault}
 use Rattle.qp_run.specs.Conversions.{IsWrittenAs, PrintsOne, WhenDone}
-use Rattle.qp_outcome.specs.declared.journal.Outcome.{Outcome}
-use Rattle.qp_outcome.specs.declared.journal.Outcome.TheVariants as outcome
-use Rattle.qp_outcome.specs.Outcome.{outcome_of}
+use Rattle.qp_kernel_end.specs.declared.journal.Outcome.{Outcome}
+use Rattle.qp_kernel_end.specs.declared.journal.Outcome.TheVariants as outcome
+use Rattle.qp_kernel_end.specs.Outcome.{outcome_of}
 use Rattle.qp_run.specs.Endings.{ending_of, status_of}
 use Rattle.qp_run.specs.Verdict.{Count, Counts, HasCause, quiet}
 

@@ -11,14 +11,14 @@ use Rattle.qp_model.specs.declared.record.Rec.{Rec}
 use Rattle.qp_model.specs.Output.{has_form, has_no_rest, is_in_range, is_lane_in_range, is_record_in_range}
 use Rattle.qp_model.specs.declared.stimulus.Stim as stimulus
 use Rattle.qp_model.specs.declared.systems.System.{System}
-use Rattle.qp_forms.specs.Laws.{CanBeWritten}
-use Rattle.qp_forms.proofs.FormLemmas.{written, written-qv}
+use Rattle.qp_sim_unique.specs.FormLaws.{CanBeWritten}
+use Rattle.qp_sim_unique.proofs.FormLemmas.{written, written-qv}
 use Rattle.qp_model.specs.Sound.{IsSound}
 use Rattle.qp_model.specs.Ends.{ends_last}
 use Rattle.qp_model.specs.History.{lane_items}
 use Rattle.qp_model.specs.Lawful.{EndHolds, Lawful, deferred_of}
 use Rattle.qp_summary.specs.Written.{HasStimuli}
-use Rattle.qp_simulation.specs.SimRun.{IsQvRun, IsSimRun}
+use Rattle.qp_kernel_runs.specs.SimRun.{IsQvRun, IsSimRun}
 use Rattle.qp_run.specs.Printed.{IsRunUnder}
 use Rattle.qp_commands.specs.declared.values.Kernel.{Kernel}
 use Rattle.qp_commands.specs.declared.values.Kernel.TheVariants.{Sim, Qv}

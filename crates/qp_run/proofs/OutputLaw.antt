@@ -1,17 +1,17 @@
 -- No call over files has two outputs, but for those of runs that may leave two journals and those of cycles.
 use Rattle.std.proofs.Common.{◌≡◌, ℕ, List, Some, None, Result, Ok, ◌⊎◌, sym, ap, subst, ◌∙◌, inl, inr}
-use Rattle.qp_alike.proofs.LawLemmas.{stimuli_are_one, summaries_carry_over}
+use Rattle.qp_system_alike.proofs.LawLemmas.{stimuli_are_one, summaries_carry_over}
 use Rattle.qp_model.specs.declared.journals.Journal as journal
 use Rattle.qp_model.specs.declared.stimulus.Stim.{Stim}
 use Rattle.qp_model.specs.declared.systems.System.{System}
 use Rattle.qp_model.specs.OutputText.{text}
 use Rattle.qp_model.specs.Sound.{IsSound}
-use Rattle.qp_only.proofs.LowestLemmas.{one-order}
-use Rattle.qp_only.proofs.SummaryLemmas.{one-summary}
+use Rattle.qp_sim_unique.proofs.LowestLemmas.{one-order}
+use Rattle.qp_sim_unique.proofs.SummaryLemmas.{one-summary}
 use Rattle.qp_replay.specs.Replaying.{IsReplay}
 use Rattle.qp_replay.specs.declared.places.Replayed.{Replayed}
 use Rattle.qp_replay.specs.declared.places.Replayed.TheVariants.{Order, Cycle}
-use Rattle.qp_replayed.specs.Text.{replayed_text}
+use Rattle.qp_replay.specs.Text.{replayed_text}
 use Rattle.qp_stim.specs.Stimuli.{stimuli_of}
 use Rattle.qp_summary.specs.Written.{joined}
 use Rattle.qp_system.specs.SystemOf.{IsSystemOf}

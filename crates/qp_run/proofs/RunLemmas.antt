@@ -8,12 +8,12 @@ use Rattle.qp_model.specs.Ends.{is_spill}
 use Rattle.qp_model.specs.History.{all_items}
 use Rattle.qp_model.specs.Sound.{IsSound}
 use Rattle.qp_stim.specs.Rules.{StimuliFit}
-use Rattle.qp_only.specs.Laws.{IsSimJournal}
-use Rattle.qp_only.proofs.OnlyLemmas.{all-one, unspilt-one}
-use Rattle.qp_simulation.specs.SimRun.{IsSimRun}
+use Rattle.qp_sim_unique.specs.JournalLaws.{IsSimJournal}
+use Rattle.qp_sim_unique.proofs.OnlyLemmas.{all-one, unspilt-one}
+use Rattle.qp_kernel_runs.specs.SimRun.{IsSimRun}
 use Rattle.qp_commands.specs.declared.values.Kernel.{Kernel}
 use Rattle.qp_commands.specs.declared.values.Kernel.TheVariants.{Sim, Qv}
-use Rattle.qp_unique.specs.Tidy.{LacksStimulus, is_short}
+use Rattle.qp_sim_unique.specs.Tidy.{LacksStimulus, is_short}
 use Rattle.qp_run.specs.Laws.{HasSpill, MayBeTwo, MayLeave}
 use Rattle.qp_run.specs.Printed.{HaltedFull, IsOnlyRun, IsRunUnder}
 

@@ -1,7 +1,7 @@
 -- What a call that judges a journal is to answer.
 use Rattle.std.specs.Prelude.{codes, ◌≡◌, ℕ, Bool, true, false, IfSome, List, ◌⊎◌, Option, Result, Ok, Err}
-use Rattle.qp_word_rules.specs.declared.verdict.Verdict.{Verdict}
-use Rattle.qp_word_rules.specs.declared.verdict.Verdict.TheVariants.{Lawful, Broken}
+use Rattle.qp_check_words.specs.declared.verdict.Verdict.{Verdict}
+use Rattle.qp_check_words.specs.declared.verdict.Verdict.TheVariants.{Lawful, Broken}
 use Rattle.qp_check.specs.Judged.{IsVerdict, trials}
 use Rattle.qp_model.specs.declared.journals.Journal as journal
 use Rattle.qp_model.specs.declared.stimulus.Stim.{Stim}

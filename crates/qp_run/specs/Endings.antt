@@ -1,8 +1,8 @@
 -- The answer on a run, by its journal.
 use Rattle.qp_model.specs.declared.journals.Journal.{Journal}
-use Rattle.qp_outcome.specs.declared.journal.Outcome.{Outcome}
-use Rattle.qp_outcome.specs.declared.journal.Outcome.TheVariants as outcome
-use Rattle.qp_outcome.specs.Outcome.{outcome_of}
+use Rattle.qp_kernel_end.specs.declared.journal.Outcome.{Outcome}
+use Rattle.qp_kernel_end.specs.declared.journal.Outcome.TheVariants as outcome
+use Rattle.qp_kernel_end.specs.Outcome.{outcome_of}
 use Rattle.qp_run.specs.declared.status.Status.{Status}
 use Rattle.qp_run.specs.declared.status.Status.TheVariants.{Done, Asserted, Spent}
 

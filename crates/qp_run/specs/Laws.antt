@@ -9,7 +9,7 @@ use Rattle.qp_model.specs.History.{all_items}
 use Rattle.qp_model.specs.Places.{RecordPlace}
 use Rattle.qp_replay.specs.Orders.{IsCycle}
 use Rattle.qp_replay.specs.declared.places.Replayed.TheVariants.{Cycle}
-use Rattle.qp_replayed.specs.Text.{replayed_text}
+use Rattle.qp_replay.specs.Text.{replayed_text}
 use Rattle.qp_run.specs.declared.status.Status.{Status}
 use Rattle.qp_commands.specs.declared.values.Kernel.{Kernel}
 use Rattle.qp_commands.specs.declared.values.Kernel.TheVariants.{Sim, Qv}
@@ -21,7 +21,7 @@ use Rattle.qp_run.specs.Checks.{AreLawful}
 use Rattle.qp_run.specs.Conversions.{Held}
 use Rattle.qp_run.specs.Endings.{ending_of}
 use Rattle.qp_run.specs.Printed.{HaltedFull, IsRunUnder, PrintsOf, made_budget}
-use Rattle.qp_unique.specs.Tidy.{is_short}
+use Rattle.qp_sim_unique.specs.Tidy.{is_short}
 use Rattle.qp_run.specs.Verdict.{IsAnswer, IsInput, IsOutput}
 
 -- a lane of the journal ended with a `spill`

@@ -1,11 +1,11 @@
 -- The number of an answer, and the line about it.
 use Rattle.std.specs.Prelude.{codes, ℕ, decimal, Bool, true, false, List, [], ◌++◌, Option}
-use Rattle.qp_names.specs.Paths.{path_text}
+use Rattle.qp_chart_names.specs.Paths.{path_text}
 use Rattle.qp_run.specs.declared.place.Place as place
 use Rattle.qp_run.specs.declared.place.Place.TheVariants.{Nowhere, Path, Line, Offset}
 use Rattle.qp_commands.specs.WordTable.{Asked, operand_in}
-use Rattle.qp_word_rules.specs.declared.verdict.Site.{Site}
-use Rattle.qp_word_rules.specs.declared.verdict.Site.TheVariants as site
+use Rattle.qp_check_words.specs.declared.verdict.Site.{Site}
+use Rattle.qp_check_words.specs.declared.verdict.Site.TheVariants as site
 use Rattle.qp_run.specs.declared.status.Status.{Status}
 use Rattle.qp_run.specs.declared.status.Status.TheVariants.{Done, Words, Absent, TooLong, Refused, Asserted, Spent, Memory, ReadFault, WriteFault, Unlawful}
 

@@ -9,10 +9,10 @@ use Rattle.qp_model.specs.Home.{lane_at}
 use Rattle.qp_model.specs.Output.{has_form, is_in_range}
 use Rattle.qp_model.specs.OutputSummary.{IsSummary}
 use Rattle.qp_summary.specs.Written.{joined}
-use Rattle.qp_simulation.specs.SimRun.{IsQvRun, IsSimRun}
+use Rattle.qp_kernel_runs.specs.SimRun.{IsQvRun, IsSimRun}
 use Rattle.qp_gen.specs.Made.{IsMade}
-use Rattle.qp_only.specs.Laws.{IsUnspilt}
-use Rattle.qp_unique.specs.Tidy.{is_short}
+use Rattle.qp_sim_unique.specs.JournalLaws.{IsUnspilt}
+use Rattle.qp_sim_unique.specs.Tidy.{is_short}
 use Rattle.qp_run.specs.declared.status.Status.{Status}
 use Rattle.qp_run.specs.declared.status.Status.TheVariants.{Memory}
 use Rattle.qp_commands.specs.declared.values.Kernel.{Kernel}

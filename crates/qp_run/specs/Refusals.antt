@@ -1,12 +1,12 @@
 -- Why files are refused, as answers.
 use Rattle.std.specs.Prelude.{◌≡◌, ◌≢◌, ℕ, List, Result, Ok, Err}
-use Rattle.qp_names.specs.Codes.{NOT_TOML}
+use Rattle.qp_chart_names.specs.Codes.{NOT_TOML}
 use Rattle.qp_model.specs.declared.stimulus.Stim.{Stim}
 use Rattle.qp_stim.specs.declared.fault.StimFault as stim
 use Rattle.qp_stim.specs.declared.fault.StimFault.TheVariants as stim_fault
 use Rattle.qp_stim.specs.Stimuli.{Fault}
-use Rattle.qp_document.specs.declared.fault.SystemFault as system
-use Rattle.qp_document.specs.declared.fault.SystemFault.TheVariants as system_fault
+use Rattle.qp_system_tables.specs.declared.fault.SystemFault as system
+use Rattle.qp_system_tables.specs.declared.fault.SystemFault.TheVariants as system_fault
 use Rattle.qp_system.specs.SystemOf.{RefusesSystem}
 use Rattle.qp_run.specs.declared.place.Place.TheVariants.{Nowhere, Path, Line}
 use Rattle.qp_run.specs.declared.status.Status.{Status}

@@ -5,7 +5,7 @@ use Rattle.qp_model.specs.declared.stimulus.Stim.{Stim}
 use Rattle.qp_model.specs.declared.systems.System.{System}
 use Rattle.qp_replay.specs.Replaying.{IsReplay}
 use Rattle.qp_replay.specs.declared.places.Replayed.{Replayed}
-use Rattle.qp_replayed.specs.Text.{replayed_text}
+use Rattle.qp_replay.specs.Text.{replayed_text}
 use Rattle.qp_commands.specs.WordTable.{CheckWords}
 use Rattle.qp_run.specs.Checks.{AreLawful}
 use Rattle.qp_run.specs.Conversions.{Held}

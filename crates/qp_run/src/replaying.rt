@@ -16,8 +16,8 @@ use crate::checking::{Judged, judge_files};
 use crate::status::Status;
 use qp_base::{Memory, Shelf, Sink};
 use qp_replay::{Replayed, replay};
-use qp_replayed::write_replayed;
-use qp_rerun::rerun;
+use qp_replay::write_replayed;
+use qp_replay_rerun::rerun;
 use std::alloc::Global;
 
 /// Makes the journal's records once more along its order, where it has one. What this shows is proved; it asks for memory alone.

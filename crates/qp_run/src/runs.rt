@@ -1,12 +1,12 @@
 //! Runs, and what of them is printed.
 ghost use Rattle.std.specs.Prelude.{ℕ, ◌≡◌, ◌≢◌, ◌⊎◌, ◌<◌, ◌≤◌, length, true, IfOk, IfErr, IsTrue};
 ghost use Rattle.std.specs.List.{AllByRecursion, list_all};
-ghost use Rattle.qp_course.specs.Followable.{IsFollowable};
+ghost use Rattle.qp_check_course.specs.Followable.{IsFollowable};
 ghost use Rattle.qp_model.specs.Ends.{ends_last};
 ghost use Rattle.qp_model.specs.History.{lane_items};
 ghost use Rattle.qp_model.specs.Output.{has_form, is_in_range};
 ghost use Rattle.qp_model.specs.Sound.{IsSound};
-ghost use Rattle.qp_rests.specs.Rests.{AreRestsIn};
+ghost use Rattle.qp_kernel_end.specs.Rests.{AreRestsIn};
 ghost use Rattle.qp_stim.specs.Rules.{StimuliFit};
 ghost use Rattle.qp_summary.specs.Written.{HasStimuli};
 ghost use Rattle.qp_run.specs.Conversions.{PrintsOne};
@@ -25,8 +25,8 @@ use qp_base::{Memory, Shelf, Sink};
 use qp_commands::{Form, Kernel, Output};
 use qp_gen::generate;
 use qp_model::{Journal, Stimuli, System};
-use qp_outcome::outcome_of;
-use qp_simulation::{Simulated, qv_with_rests, sim_with_rests};
+use qp_kernel_end::outcome_of;
+use qp_kernel_runs::{Simulated, qv_with_rests, sim_with_rests};
 use qp_summary::{SummaryFault, write_summary_at};
 use std::alloc::Global;
 use std::sync::Wait;

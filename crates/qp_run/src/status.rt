@@ -10,7 +10,7 @@ use arrayvec::ArrayString;
 use itoa::Buffer;
 use qp_chart::code;
 use qp_check::Site;
-use qp_outcome::Outcome;
+use qp_kernel_end::Outcome;
 use qp_stim::StimFault;
 use qp_system::SystemFault;
 use std::alloc::{AllocError, Global};

@@ -2,7 +2,7 @@
 
 use crate::samples::{LAMP, shelf, sink};
 use qp_base::{MemShelf, NoGate};
-use qp_output::in_pieces;
+use qp_process::in_pieces;
 use std::alloc::{AllocError, Global};
 use std::process::Abort;
 use std::sync::Wait;

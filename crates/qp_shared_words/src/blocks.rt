@@ -2,16 +2,16 @@
 
 ghost use Rattle.std.specs.Prelude.{◌≡◌, ◌+◌, ◌^◌, ◌<◌, ◌≤◌, IsTrue};
 ghost use Rattle.qp_model.specs.WordLaw.{is_pool};
-ghost use Rattle.qp_words.specs.Counting.{many};
-ghost use Rattle.qp_words.specs.Rule.{is_ref, is_spot, is_spot_at, fills_of, is_value};
-ghost use Rattle.qp_words.specs.After.{HasRoom, ref};
-ghost use Rattle.qp_lane_views.specs.Lane.{has_content};
-ghost use Rattle.qp_lane_steps.specs.Told.{HasPlace, DropTold, FirstTold, MoreTold, BackTold, FromTold, FillTold, ReadTold, EyePoolTold};
+ghost use Rattle.qp_table.specs.Counting.{many};
+ghost use Rattle.qp_table.specs.Rule.{is_ref, is_spot, is_spot_at, fills_of, is_value};
+ghost use Rattle.qp_table.specs.After.{HasRoom, ref};
+ghost use Rattle.qp_shared_views.specs.Lane.{has_content};
+ghost use Rattle.qp_shared_steps.specs.Told.{HasPlace, DropTold, FirstTold, MoreTold, BackTold, FromTold, FillTold, ReadTold, EyePoolTold};
 
 use crate::places::{block_at, event_at, pool_at};
 use crate::steps::{About, Words, add, look, store};
 use atomic_table::Seat;
-use qp_words::View;
+use qp_table::View;
 use std::marker::Brand;
 
 /// What one operation adds to the number of a pool's or a block's word.

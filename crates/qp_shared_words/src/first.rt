@@ -2,7 +2,7 @@
 
 ghost use Rattle.std.specs.Prelude.{◌≡◌, ℕ, ◌<◌, IfOk, length, slice_index};
 ghost use Rattle.qp_model.specs.Sound.{IsSound};
-ghost use Rattle.qp_words.specs.After.{newcomer};
+ghost use Rattle.qp_table.specs.After.{newcomer};
 ghost use Rattle.qp_table.specs.Whole.{later_lanes};
 ghost use Rattle.qp_table.specs.First.{all_free, first_word, first_serves};
 
@@ -10,7 +10,7 @@ use crate::steps::Words;
 use atomic_table::{Seat, Table};
 use qp_base::Memory;
 use qp_model::System;
-use qp_words::View;
+use qp_table::View;
 use std::alloc::Global;
 
 /// The map of so many blocks, all free.

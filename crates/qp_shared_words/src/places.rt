@@ -1,7 +1,7 @@
 //! Where each word stands.
 
 ghost use Rattle.std.specs.Prelude.{◌≡◌};
-ghost use Rattle.qp_words.specs.Rule.{pool_at, block_at, queue_at, cell_at, event_at};
+ghost use Rattle.qp_table.specs.Rule.{pool_at, block_at, queue_at, cell_at, event_at};
 
 /// The word of a pool.
 pub(crate) fn pool_at(pool: u8) -> usize

@@ -6,17 +6,17 @@ ghost use Rattle.std.specs.Option.{unwrap_or};
 ghost use Rattle.qp_model.specs.declared.words.Word.TheVariants as word;
 ghost use Rattle.qp_model.specs.Sites.{ring_of};
 ghost use Rattle.qp_model.specs.WordLaw.{is_object};
-ghost use Rattle.qp_words.specs.Counting.{many};
-ghost use Rattle.qp_words.specs.Rule.{is_place, on_queue, is_serve, is_lifo, is_took, records, code};
-ghost use Rattle.qp_words.specs.After.{HasRoom, InHand};
-ghost use Rattle.qp_queues.specs.Laws.{cells_of, front_cell};
-ghost use Rattle.qp_lane_views.specs.Words.{value_seen};
-ghost use Rattle.qp_lane_steps.specs.Told.{LookTold, SeenTold, EyeTold, free_in, TryTold, EyeLastTold, LastTold, LayTold, SwapTold, FreeTold};
+ghost use Rattle.qp_table.specs.Counting.{many};
+ghost use Rattle.qp_table.specs.Rule.{is_place, on_queue, is_serve, is_lifo, is_took, records, code};
+ghost use Rattle.qp_table.specs.After.{HasRoom, InHand};
+ghost use Rattle.qp_table.specs.QueueLaws.{cells_of, front_cell};
+ghost use Rattle.qp_shared_views.specs.Words.{value_seen};
+ghost use Rattle.qp_shared_steps.specs.Told.{LookTold, SeenTold, EyeTold, free_in, TryTold, EyeLastTold, LastTold, LayTold, SwapTold, FreeTold};
 
 use crate::places::{cell_at, queue_at};
 use crate::steps::{About, Words, add, exchange, look, store, swap};
 use atomic_table::Seat;
-use qp_words::View;
+use qp_table::View;
 use std::marker::Brand;
 
 /// What a last-in post adds to a queue's word, and what a take does.

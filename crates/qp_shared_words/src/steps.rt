@@ -2,15 +2,15 @@
 
 ghost use Rattle.std.specs.Prelude.{◌≡◌, ℕ, ◌+◌, ◌%◌, ◌^◌, ◌<◌, ◌==◌};
 ghost use prog.Atomic.{either};
-ghost use Rattle.qp_words.specs.declared.View.{View};
-ghost use Rattle.qp_words.specs.Rule.{Holds};
-ghost use Rattle.qp_words.specs.After.{Steps, newcomer};
+ghost use Rattle.qp_table.specs.declared.view.View.{View};
+ghost use Rattle.qp_table.specs.Rule.{Holds};
+ghost use Rattle.qp_table.specs.After.{Steps, newcomer};
 ghost use Rattle.qp_table.specs.First.{first_serves};
 ghost use Rattle.qp_table.specs.Whole.{later_lanes};
 
 use atomic_table::{Play, Seat, Table, TableRule};
 use qp_model::System;
-use qp_words::View;
+use qp_table::View;
 use std::alloc::Global;
 use std::marker::{Brand, PhantomData};
 

@@ -16,10 +16,10 @@ use Rattle.qp_model.specs.OutputSummary.{is_took, taken_in}
 use Rattle.qp_model.specs.Record.{item_of}
 use Rattle.qp_model.specs.Told.{Told}
 use Rattle.qp_model.proofs.KindLemmas.{mark-is-no-take}
-use Rattle.qp_lanes.proofs.ItemLemmas.{items-from, items-none}
-use Rattle.qp_course.specs.Followable.{IsFollowable}
-use Rattle.qp_course.specs.Reading.{LeavesOf, ReadsOn}
-use Rattle.qp_course.specs.Standing.{FollowSomehow}
+use Rattle.qp_check_lanes.proofs.ItemLemmas.{items-from, items-none}
+use Rattle.qp_check_course.specs.Followable.{IsFollowable}
+use Rattle.qp_check_course.specs.Reading.{LeavesOf, ReadsOn}
+use Rattle.qp_check_course.specs.Standing.{FollowSomehow}
 use Rattle.qp_summary.specs.Coming.{IsOn}
 use Rattle.qp_summary.specs.declared.coming.Came.{Came}
 

@@ -18,10 +18,10 @@ use Rattle.qp_model.specs.Lawful.{facts_of}
 use Rattle.qp_model.specs.OutputSummary.{CourseLeaves, IsObjectLine, IsStateText, all_done, config_text, is_done, is_took, name_in, taken_in, values_text}
 use Rattle.qp_model.specs.Record.{Item}
 use Rattle.qp_model.specs.Told.{Told}
-use Rattle.qp_rests.specs.declared.rest.Rest.{Rest}
-use Rattle.qp_rests.specs.Rests.{IsRestIn, IsRestOf}
+use Rattle.qp_kernel_end.specs.declared.rest.Rest.{Rest}
+use Rattle.qp_kernel_end.specs.Rests.{IsRestIn, IsRestOf}
 use Rattle.qp_summary.specs.Resting.{LeavesRest}
-use Rattle.qp_tally.specs.Counting.{done_of, took_of}
+use Rattle.qp_summary.specs.Counting.{done_of, took_of}
 
 module _ (sys : System) (d : ObjectDef) (chart : Chart) (own : chart_at sys d.chart ≡ Some chart) (ts : List Told) (text : List ℕ) where
   -- its start or a step is under way

@@ -2,3 +2,4 @@
 pub mod SummaryLemmas
 pub mod ComingLemmas
 pub mod KnownLemmas
+pub mod CountLemmas

@@ -20,10 +20,10 @@ use Rattle.qp_model.specs.Lawful.{Lawful, ObjectHolds, CourseHolds, cut_of, disp
 use Rattle.qp_model.specs.OutputSummary.{is_took, is_done, taken_in, all_done, CourseLeaves, config_text, name_in, values_text, IsStateText, IsObjectLine, AreObjectLines, IsSummary, is_new_of, is_back_of, pool_line, pool_lines}
 use Rattle.qp_model.specs.Record.{Item}
 use Rattle.qp_model.specs.Told.{Told}
-use Rattle.qp_course.specs.Followable.{IsFollowable}
-use Rattle.qp_course.specs.Standing.{FollowSomehow, LeavesAt, StandsAt}
-use Rattle.qp_course.specs.declared.standing.Standing.{Standing}
-use Rattle.qp_histories.specs.Marks.{word_use, touched}
+use Rattle.qp_check_course.specs.Followable.{IsFollowable}
+use Rattle.qp_check_course.specs.Standing.{FollowSomehow, LeavesAt, StandsAt}
+use Rattle.qp_check_course.specs.declared.standing.Standing.{Standing}
+use Rattle.qp_check_histories.specs.Marks.{word_use, touched}
 use Rattle.qp_base.specs.Counts.{Rose}
 use Rattle.qp_base.specs.Sink.{appended, AppendsPrefix}
 use Rattle.qp_summary.specs.declared.summary.SummaryFault.TheVariants as fault

@@ -6,9 +6,9 @@ use Rattle.qp_model.specs.declared.systems.ObjectDef.{ObjectDef}
 use Rattle.qp_model.specs.Lawful.{dispatched}
 use Rattle.qp_model.specs.OutputSummary.{taken_in}
 use Rattle.qp_model.specs.Told.{Told}
-use Rattle.qp_course.specs.Followable.{IsFollowable}
-use Rattle.qp_course.specs.Reading.{CanRead, LeavesOf}
-use Rattle.qp_course.specs.Standing.{FollowSomehow}
+use Rattle.qp_check_course.specs.Followable.{IsFollowable}
+use Rattle.qp_check_course.specs.Reading.{CanRead, LeavesOf}
+use Rattle.qp_check_course.specs.Standing.{FollowSomehow}
 use Rattle.qp_summary.specs.declared.coming.Came.{Came}
 
 -- of all these records of the object, those that are left come next

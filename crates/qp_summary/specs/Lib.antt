@@ -2,3 +2,4 @@
 pub mod Written
 pub mod Coming
 pub mod Resting
+pub mod Counting

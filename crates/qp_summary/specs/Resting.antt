@@ -7,8 +7,8 @@ use Rattle.qp_model.specs.declared.systems.ObjectDef.{ObjectDef}
 use Rattle.qp_model.specs.Acts.{Config}
 use Rattle.qp_model.specs.OutputSummary.{CourseLeaves}
 use Rattle.qp_model.specs.Told.{Told}
-use Rattle.qp_rests.specs.declared.rest.Rest.{Rest}
-use Rattle.qp_rests.specs.Rests.{IsRestIn}
+use Rattle.qp_kernel_end.specs.declared.rest.Rest.{Rest}
+use Rattle.qp_kernel_end.specs.Rests.{IsRestIn}
 
 -- where the rest is known, the course of these records leaves it
 unfoldable pub LeavesRest : System → ObjectDef → Chart → List Told → Option Rest → Type 0

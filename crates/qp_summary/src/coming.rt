@@ -1,6 +1,6 @@
 //! How far an object has come.
 
-use qp_course::Reading;
+use qp_check_course::Reading;
 
 /// How many events an object has taken, and its course, as far as its lane was read.
 #[derive(Drop)]

@@ -10,19 +10,19 @@ ghost use Rattle.qp_model.specs.Kernels.{port};
 ghost use Rattle.qp_model.specs.Lawful.{facts_of};
 ghost use Rattle.qp_model.specs.OutputSummary.{AreObjectLines, IsObjectLine, IsStateText, all_done};
 ghost use Rattle.qp_model.specs.Told.{Told};
-ghost use Rattle.qp_rests.specs.Rests.{AreRestsIn, IsRestOf};
+ghost use Rattle.qp_kernel_end.specs.Rests.{AreRestsIn, IsRestOf};
 ghost use Rattle.qp_summary.specs.Resting.{LeavesRest};
-ghost use Rattle.qp_tally.specs.Counting.{AreTurns};
+ghost use Rattle.qp_summary.specs.Counting.{AreTurns};
 
 use crate::lines::Lines;
 use crate::objects::{line_of, standing_text};
 use qp_chart::Chart;
-use qp_course::chart_at;
-use qp_lanes::lane_parts::lane_at;
+use qp_check_course::chart_at;
+use qp_check_lanes::lane_parts::lane_at;
 use qp_model::kernels::PORT;
 use qp_model::{Journal, ObjectDef, System};
-use qp_rests::{Rest, rest_at};
-use qp_tally::Turns;
+use qp_kernel_end::{Rest, rest_at};
+use crate::Turns;
 use std::alloc::{AllocError, Global};
 
 /// What is told of an object; None where its start and all its steps are done, and nothing is known of where it rests.

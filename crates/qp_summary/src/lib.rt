@@ -7,5 +7,10 @@ mod lines;
 mod objects;
 mod pools;
 mod summary;
+mod blocks;
+mod counts;
+mod turns;
 
 pub use summary::{SummaryFault, write_summary, write_summary_at};
+pub use blocks::Blocks;
+pub use turns::Turns;

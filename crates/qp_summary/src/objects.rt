@@ -2,10 +2,10 @@
 
 ghost use Rattle.std.specs.Prelude.{◌≡◌, ◌<◌, ◌≤◌, ◌+◌, ◌++◌, ◌∷◌, codes, decimal, IfOk, IfSome, List, OnOk, Some, string_bytes};
 ghost use Rattle.std.specs.List.{AllByRecursion};
-ghost use Rattle.qp_course.specs.Followable.{IsFollowable};
-ghost use Rattle.qp_course.specs.Reading.{CanRead};
-ghost use Rattle.qp_course.specs.Standing.{StandsAt};
-ghost use Rattle.qp_known.specs.Knowledge.{IsKnowledgeOf, IsKnown, facts_in};
+ghost use Rattle.qp_check_course.specs.Followable.{IsFollowable};
+ghost use Rattle.qp_check_course.specs.Reading.{CanRead};
+ghost use Rattle.qp_check_course.specs.Standing.{StandsAt};
+ghost use Rattle.qp_check_knowledge.specs.Knowledge.{IsKnowledgeOf, IsKnown, facts_in};
 ghost use Rattle.qp_model.specs.Course.{chart_at};
 ghost use Rattle.qp_model.specs.History.{lane_items};
 ghost use Rattle.qp_model.specs.Knowing.{records_of};
@@ -18,12 +18,12 @@ ghost use Rattle.qp_chart.specs.declared.checked.Chart as chart;
 use crate::coming::Came;
 use crate::lines::Lines;
 use qp_chart::{Chart, Name};
-use qp_course::{Reading, Standing, chart_at};
-use qp_fits::Told;
-use qp_kinds::ceiling_after;
-use qp_known::knowledge::Knowledge;
-use qp_known::told_lists::{is_turn_mark, told_by};
-use qp_lanes::lane_parts::{home_lane, lane_at};
+use qp_check_course::{Reading, Standing, chart_at};
+use qp_check_calls::Told;
+use qp_model::ceiling_after;
+use qp_check_knowledge::knowledge::Knowledge;
+use qp_check_knowledge::told_lists::{is_turn_mark, told_by};
+use qp_check_lanes::lane_parts::{home_lane, lane_at};
 use qp_model::{Body, Journal, ObjectDef, Rec, System};
 use std::alloc::{AllocError, Global};
 

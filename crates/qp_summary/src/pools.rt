@@ -4,11 +4,11 @@ ghost use Rattle.std.specs.Prelude.{ℕ, ◌≡◌, ◌++◌, codes, decimal, If
 ghost use Rattle.qp_model.specs.History.{all_items};
 ghost use Rattle.qp_model.specs.OutputSummary.{pool_line, pool_lines};
 ghost use Rattle.qp_model.specs.Record.{Item};
-ghost use Rattle.qp_tally.specs.Counting.{AreBlocks};
+ghost use Rattle.qp_summary.specs.Counting.{AreBlocks};
 
 use crate::lines::Lines;
 use qp_model::{Journal, System};
-use qp_tally::Blocks;
+use crate::Blocks;
 use std::alloc::{AllocError, Global};
 
 fn line_of(alloc: Global, p: u64, given: usize, back: usize) -> Result<String, AllocError>

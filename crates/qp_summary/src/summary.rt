@@ -2,10 +2,10 @@
 
 ghost use Rattle.std.specs.Prelude.{◌≡◌, ◌++◌, ◌∷◌, [], codes, decimal, IfOk};
 ghost use Rattle.std.specs.List.{AllByRecursion};
-ghost use Rattle.qp_course.specs.Followable.{IsFollowable};
+ghost use Rattle.qp_check_course.specs.Followable.{IsFollowable};
 ghost use Rattle.qp_model.specs.Lawful.{CourseHolds};
 ghost use Rattle.qp_model.specs.OutputSummary.{AreObjectLines, IsSummary};
-ghost use Rattle.qp_rests.specs.Rests.{AreRestsIn};
+ghost use Rattle.qp_kernel_end.specs.Rests.{AreRestsIn};
 ghost use Rattle.qp_summary.specs.Written.{HasStimuli, Writes, joined};
 ghost use Rattle.qp_text.specs.Puts.{Puts};
 
@@ -14,10 +14,10 @@ use crate::lines::Lines;
 use crate::objects::object_lines;
 use crate::pools::pool_lines;
 use qp_base::{Sink, SinkFault};
-use qp_histories::records_by_word::RecordsByWord;
-use qp_known::knowledge::Knowledge;
+use qp_check_histories::records_by_word::RecordsByWord;
+use qp_check_knowledge::knowledge::Knowledge;
 use qp_model::{Journal, System};
-use qp_rests::Rest;
+use qp_kernel_end::Rest;
 use std::alloc::{AllocError, Global};
 use std::marker::Model;
 

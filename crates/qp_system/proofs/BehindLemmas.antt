@@ -8,14 +8,14 @@ use Rattle.std.proofs.lemmas.List.Sums.{sum_by-append, sum_by-cons}
 use Rattle.std.proofs.lemmas.Bool.Decides.{nat_tests}
 use Rattle.std.proofs.lemmas.Bool.{or_parts}
 use Rattle.std.proofs.lemmas.Option.{none-some}
-use Rattle.qp_names.specs.declared.place.Part.{Part}
-use Rattle.qp_names.specs.Faults.{Fault, fault_if, first_in}
+use Rattle.qp_chart_names.specs.declared.place.Part.{Part}
+use Rattle.qp_chart_names.specs.Faults.{Fault, fault_if, first_in}
 use Rattle.qp_model.specs.declared.systems.PoolDef.{PoolDef}
 use Rattle.qp_model.specs.declared.systems.SignalDef.{SignalDef}
-use Rattle.qp_document.specs.Raw.{Pool, Signal, Chart, Object}
+use Rattle.qp_system_tables.specs.Raw.{Pool, Signal, Chart, Object}
 use Rattle.qp_system.specs.Between.{sizes_fault, signal_fault, chart_named, timers_of, placing_fault, first_behind, no_pool_fault, is_without_pool}
 use Rattle.qp_model.specs.Sound.{SizesAscend}
-use Rattle.qp_document.specs.Views.{pool_view, signal_view}
+use Rattle.qp_system_tables.specs.Views.{pool_view, signal_view}
 use Rattle.qp_model.proofs.NumberLemmas.{every}
 use Rattle.qp_model.proofs.ListLemmas.{list_any-map}
 use Rattle.qp_chart.proofs.ChartTree.{none-both}

@@ -7,18 +7,18 @@ use Rattle.qp_chart.specs.declared.expression.Bound.{Bound}
 use Rattle.qp_chart.specs.declared.actions.Target.{Target}
 use Rattle.qp_chart.specs.declared.actions.Plain as plain
 use Rattle.qp_chart.specs.declared.actions.Act.{Act}
-use Rattle.qp_names.specs.declared.raw.RawChart.{RawChart}
-use Rattle.qp_names.specs.declared.raw.Names.{Names}
-use Rattle.qp_language.specs.Terms.{Word, Term, Address, ToMe, ToObject, Order, Set, Say, Post, Lifo, Forward, Publish, Defer, Recall, Flush, Subscribe, Unsubscribe, Arm, Rearm, Disarm, Command, Plain, Locked}
+use Rattle.qp_chart_names.specs.declared.raw.RawChart.{RawChart}
+use Rattle.qp_chart_names.specs.declared.raw.Names.{Names}
+use Rattle.qp_chart_text.specs.Terms.{Word, Term, Address, ToMe, ToObject, Order, Set, Say, Post, Lifo, Forward, Publish, Defer, Recall, Flush, Subscribe, Unsubscribe, Arm, Rearm, Disarm, Command, Plain, Locked}
 use Rattle.qp_chart.specs.ActionOf.{IsBoundOf, IsTargetOf, IsByteOf, IsPlainOf, IsActOf, IsActOfText, IsGuardOf}
-use Rattle.qp_names.specs.ActionFaults.{params_in}
+use Rattle.qp_chart_names.specs.ActionFaults.{params_in}
 use Rattle.qp_chart.specs.Binding.{named}
 use Rattle.qp_chart.specs.ChartOf.{AreActsOf}
-use Rattle.qp_names.specs.Numbering.{number_in}
-use Rattle.qp_names.specs.Pairs.{Corresponds}
-use Rattle.qp_names.specs.RawNumbers.{variable_names, variable_number, timer_number, signal_number}
+use Rattle.qp_chart_names.specs.Numbering.{number_in}
+use Rattle.qp_chart_names.specs.Pairs.{Corresponds}
+use Rattle.qp_chart_names.specs.RawNumbers.{variable_names, variable_number, timer_number, signal_number}
 use Rattle.qp_system.specs.Deeds.{receiver_of, deed_of, deeds_of, guard_of}
-use Rattle.qp_document.specs.Views.{chart_view}
+use Rattle.qp_system_tables.specs.Views.{chart_view}
 use Rattle.qp_system.proofs.SeenLemmas.{NamesAlike, signal-number, vars, timers}
 
 pos-same : (m n : ℕ) → pos m ≡ pos n → m ≡ n

@@ -4,18 +4,18 @@ use Rattle.std.specs.declared.result.Result.{Result}
 use Rattle.std.specs.Str.{IsUtf8}
 use Rattle.std.proofs.lemmas.Option.{none-some, same_Some}
 use Rattle.toml.specs.Parse.{parse_document}
-use Rattle.qp_names.specs.declared.place.Part.{Part}
-use Rattle.qp_names.specs.declared.place.Path.{Path}
-use Rattle.qp_names.specs.Faults.{Fault}
-use Rattle.qp_document.specs.declared.fault.SystemFault.TheVariants.{Memory, NotToml, At}
-use Rattle.qp_document.specs.declared.raw.RawSystem.{RawSystem}
-use Rattle.qp_document.specs.Raw.{Raw}
-use Rattle.qp_document.specs.Tables.{raw_of}
-use Rattle.qp_document.specs.Document.{TreeGives}
+use Rattle.qp_chart_names.specs.declared.place.Part.{Part}
+use Rattle.qp_chart_names.specs.declared.place.Path.{Path}
+use Rattle.qp_chart_names.specs.Faults.{Fault}
+use Rattle.qp_system_tables.specs.declared.fault.SystemFault.TheVariants.{Memory, NotToml, At}
+use Rattle.qp_system_tables.specs.declared.raw.RawSystem.{RawSystem}
+use Rattle.qp_system_tables.specs.Raw.{Raw}
+use Rattle.qp_system_tables.specs.Tables.{raw_of}
+use Rattle.qp_system_tables.specs.Document.{TreeGives}
 use Rattle.qp_system.specs.Later.{later_fault}
 use Rattle.qp_system.specs.SystemOf.{HasFault}
 use Rattle.qp_system.specs.SystemLaw.{SystemsAreSound, SystemsHaveNoFault, RefusalsAreOne}
-use Rattle.qp_document.specs.Views.{raw_view}
+use Rattle.qp_system_tables.specs.Views.{raw_view}
 use Rattle.qp_system.proofs.SeenLemmas.{later-alike}
 use Rattle.qp_system.proofs.SoundLemmas.{system-is_sound}
 

@@ -6,13 +6,13 @@ use Rattle.std.specs.List.{find, position_or_len, slice_get}
 use Rattle.std.specs.Str.{bytes_eq}
 use Rattle.std.proofs.lemmas.Bool.Decides.{nat_tests}
 use Rattle.std.proofs.lemmas.Option.{none-some}
-use Rattle.qp_names.specs.Numbering.{number_in}
-use Rattle.qp_names.specs.declared.raw.RawChart.{RawChart}
-use Rattle.qp_names.proofs.NumberingLemmas.{number_in-above, bytes_eq-sym}
+use Rattle.qp_chart_names.specs.Numbering.{number_in}
+use Rattle.qp_chart_names.specs.declared.raw.RawChart.{RawChart}
+use Rattle.qp_chart_names.proofs.NumberingLemmas.{number_in-above, bytes_eq-sym}
 use Rattle.qp_system.specs.Between.{chart_named}
 use Rattle.qp_system.specs.SystemOf.{chart_names}
 use Rattle.qp_system.specs.Placed.{chart_place}
-use Rattle.qp_document.specs.Views.{chart_view}
+use Rattle.qp_system_tables.specs.Views.{chart_view}
 use Rattle.qp_system.proofs.PlacingLemmas.{find-map}
 use Rattle.qp_model.proofs.NumberLemmas.{one-more}
 

@@ -2,7 +2,7 @@
 use Rattle.std.proofs.Common.{◌≡◌, ℕ, zero, suc, List, [], ◌∷◌, map, Some, refl, subst}
 use Rattle.std.specs.List.{AllByRecursion, slice_get}
 use Rattle.std.proofs.lemmas.Option.{none-some}
-use Rattle.qp_names.specs.Pairs.{Corresponds}
+use Rattle.qp_chart_names.specs.Pairs.{Corresponds}
 
 -- two lists that look alike, each beside its own
 pub pairs-alike : {A B C D : Type 0} (R S : A → B → Type 0) (view : A → C) (told said : B → D) → ((x y : A) (u v : B) → R x u → S y v → view x ≡ view y → told u ≡ said v)

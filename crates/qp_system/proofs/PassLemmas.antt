@@ -4,24 +4,24 @@ use Rattle.std.specs.declared.option.Option.{Option}
 use Rattle.std.specs.declared.result.Result.{Result}
 use Rattle.std.specs.Option.{option_or}
 use Rattle.std.proofs.lemmas.List.{drop_more, drop_all, take_more, map-append}
-use Rattle.qp_names.specs.declared.place.Part.{Part}
-use Rattle.qp_names.specs.Faults.{Fault, fault_if, first_of, first_in}
+use Rattle.qp_chart_names.specs.declared.place.Part.{Part}
+use Rattle.qp_chart_names.specs.Faults.{Fault, fault_if, first_of, first_in}
 use Rattle.std.specs.Prelude.{All}
-use Rattle.qp_names.specs.declared.raw.RawChart.{RawChart}
-use Rattle.qp_names.specs.declared.raw.Names.{Names}
-use Rattle.qp_names.specs.Readable.{IsReadable}
-use Rattle.qp_document.specs.Few.{IsFewChart}
-use Rattle.qp_document.specs.declared.fault.SystemFault.{SystemFault}
-use Rattle.qp_document.specs.declared.fault.SystemFault.TheVariants.{Memory, NotToml, At}
-use Rattle.qp_names.specs.declared.place.Part.TheVariants.{Key, Pos}
-use Rattle.qp_names.specs.Keys.{POOL, SIZE}
-use Rattle.qp_names.specs.Codes.{RANGE}
-use Rattle.qp_names.proofs.FaultLemmas.{none-next, none-last}
+use Rattle.qp_chart_names.specs.declared.raw.RawChart.{RawChart}
+use Rattle.qp_chart_names.specs.declared.raw.Names.{Names}
+use Rattle.qp_chart_names.specs.Readable.{IsReadable}
+use Rattle.qp_system_tables.specs.Few.{IsFewChart}
+use Rattle.qp_system_tables.specs.declared.fault.SystemFault.{SystemFault}
+use Rattle.qp_system_tables.specs.declared.fault.SystemFault.TheVariants.{Memory, NotToml, At}
+use Rattle.qp_chart_names.specs.declared.place.Part.TheVariants.{Key, Pos}
+use Rattle.qp_chart_names.specs.Keys.{POOL, SIZE}
+use Rattle.qp_chart_names.specs.Codes.{RANGE}
+use Rattle.qp_chart_names.proofs.FaultLemmas.{none-next, none-last}
 use Rattle.qp_model.specs.declared.systems.PoolDef.{PoolDef}
 use Rattle.qp_system.specs.Between.{first_behind, sizes_fault, is_not_above}
-use Rattle.qp_document.specs.Views.{pool_view}
+use Rattle.qp_system_tables.specs.Views.{pool_view}
 use Rattle.qp_system.specs.Passes.{IsFirst, Passes}
-use Rattle.qp_document.specs.Refused.{fault_at}
+use Rattle.qp_system_tables.specs.Refused.{fault_at}
 
 -- what is found first is the first fault
 pub first-here : (o later : Option Fault) (e : SystemFault) → IsFirst o e → IsFirst (option_or o later) e

@@ -5,19 +5,19 @@ use Rattle.std.specs.Option.{option_map}
 use Rattle.std.specs.List.{AllByRecursion, IsDistinct, list_any, sum_by}
 use Rattle.std.proofs.lemmas.Bool.Decides.{nat_tests}
 use Rattle.std.proofs.lemmas.Option.{none-some}
-use Rattle.qp_names.specs.declared.raw.RawChart.{RawChart}
-use Rattle.qp_names.specs.declared.raw.Names.{Names}
-use Rattle.qp_names.specs.Faults.{Fault}
+use Rattle.qp_chart_names.specs.declared.raw.RawChart.{RawChart}
+use Rattle.qp_chart_names.specs.declared.raw.Names.{Names}
+use Rattle.qp_chart_names.specs.Faults.{Fault}
 use Rattle.qp_chart.specs.ChartFaults.{chart_fault}
 use Rattle.qp_chart.proofs.ChartTree.{none-both}
-use Rattle.qp_document.specs.declared.raw.RawObject.{RawObject}
-use Rattle.qp_document.specs.declared.raw.RawSystem.{RawSystem}
-use Rattle.qp_document.specs.Raw.{Object}
+use Rattle.qp_system_tables.specs.declared.raw.RawObject.{RawObject}
+use Rattle.qp_system_tables.specs.declared.raw.RawSystem.{RawSystem}
+use Rattle.qp_system_tables.specs.Raw.{Object}
 use Rattle.qp_system.specs.Between.{between_fault, timers_of}
 use Rattle.qp_system.specs.Later.{later_of, later_fault}
 use Rattle.qp_model.specs.Sound.{SizesAscend}
 use Rattle.qp_system.specs.Within.{names_of, in_chart, within_chart, charts_fault}
-use Rattle.qp_document.specs.Views.{signal_view, chart_view, object_view}
+use Rattle.qp_system_tables.specs.Views.{signal_view, chart_view, object_view}
 use Rattle.qp_system.proofs.BehindLemmas.{every-unmap, each-in, signals-bare, IsPlaced, each-placed, priorities-distinct, timers-few, sizes-ascend, signals-pooled}
 use Rattle.qp_system.proofs.OrderLemmas.{priorities}
 use Rattle.qp_model.proofs.NumberLemmas.{every}

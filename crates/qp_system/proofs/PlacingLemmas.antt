@@ -8,19 +8,19 @@ use Rattle.std.proofs.lemmas.Bool.{lt-ltb, le-ltb}
 use Rattle.std.proofs.lemmas.List.{take_more, map-append, length-map}
 use Rattle.std.proofs.lemmas.List.Sums.{sum_by-append}
 use Rattle.arrayvec.specs.ArrayString.{ArrayString}
-use Rattle.qp_names.specs.declared.place.Part.TheVariants.{Key, Pos}
-use Rattle.qp_names.specs.Keys.{CHART, OBJECT, VARS, PRIORITY, THRESHOLD}
-use Rattle.qp_names.specs.Codes.{RANGE, DOUBLE, NO_SUCH_NAME, TOO_MANY}
-use Rattle.qp_names.specs.declared.raw.RawChart.{RawChart}
-use Rattle.qp_names.specs.Faults.{Fault}
-use Rattle.qp_names.proofs.FaultLemmas.{none-next, none-last}
-use Rattle.qp_document.specs.declared.fault.SystemFault.{SystemFault}
-use Rattle.qp_document.specs.declared.raw.RawObject.{RawObject}
-use Rattle.qp_document.specs.Raw.{Chart, Object}
+use Rattle.qp_chart_names.specs.declared.place.Part.TheVariants.{Key, Pos}
+use Rattle.qp_chart_names.specs.Keys.{CHART, OBJECT, VARS, PRIORITY, THRESHOLD}
+use Rattle.qp_chart_names.specs.Codes.{RANGE, DOUBLE, NO_SUCH_NAME, TOO_MANY}
+use Rattle.qp_chart_names.specs.declared.raw.RawChart.{RawChart}
+use Rattle.qp_chart_names.specs.Faults.{Fault}
+use Rattle.qp_chart_names.proofs.FaultLemmas.{none-next, none-last}
+use Rattle.qp_system_tables.specs.declared.fault.SystemFault.{SystemFault}
+use Rattle.qp_system_tables.specs.declared.raw.RawObject.{RawObject}
+use Rattle.qp_system_tables.specs.Raw.{Chart, Object}
 use Rattle.qp_system.specs.Between.{chart_named, has_vars, timers_of, placing_fault}
 use Rattle.qp_system.specs.Passes.{IsFirst}
-use Rattle.qp_document.specs.Refused.{fault_at}
-use Rattle.qp_document.specs.Views.{vars_view, timer_view, chart_view, object_view}
+use Rattle.qp_system_tables.specs.Refused.{fault_at}
+use Rattle.qp_system_tables.specs.Views.{vars_view, timer_view, chart_view, object_view}
 use Rattle.qp_system.proofs.PassLemmas.{first-head, first-tail, fault_if-holds, fault_if-fails}
 use Rattle.qp_model.proofs.ListLemmas.{list_any-map}
 

@@ -8,32 +8,32 @@ use Rattle.std.specs.Str.{bytes_eq}
 use Rattle.std.proofs.lemmas.List.Sorted.{Contains-permutation, IsPermutation-map, IsPermutation-sym}
 use Rattle.std.proofs.lemmas.Option.{slice_get-map, same_Some}
 use Rattle.arrayvec.specs.ArrayString.{ArrayString}
-use Rattle.qp_names.specs.declared.raw.RawTimer.{RawTimer}
-use Rattle.qp_names.specs.declared.raw.RawRow.{RawRow}
-use Rattle.qp_names.specs.declared.raw.RawState.{RawState}
-use Rattle.qp_names.specs.declared.raw.RawChart.{RawChart}
-use Rattle.qp_names.specs.declared.raw.Names.{Names}
+use Rattle.qp_chart_names.specs.declared.raw.RawTimer.{RawTimer}
+use Rattle.qp_chart_names.specs.declared.raw.RawRow.{RawRow}
+use Rattle.qp_chart_names.specs.declared.raw.RawState.{RawState}
+use Rattle.qp_chart_names.specs.declared.raw.RawChart.{RawChart}
+use Rattle.qp_chart_names.specs.declared.raw.Names.{Names}
 use Rattle.qp_chart.specs.declared.checked.Timer.{Timer}
 use Rattle.qp_chart.specs.declared.checked.Row.{Row}
 use Rattle.qp_chart.specs.declared.checked.State.{State}
 use Rattle.qp_chart.specs.declared.checked.Chart.{Chart}
 use Rattle.qp_chart.specs.ChartOf.{IsTimerOf, IsRowOf, IsStateOf, IsChartOf}
-use Rattle.qp_names.specs.RawNumbers.{Refers}
-use Rattle.qp_names.specs.Numbering.{number_in}
-use Rattle.qp_names.specs.Pairs.{Corresponds}
-use Rattle.qp_names.specs.ActionFaults.{params_of}
-use Rattle.qp_names.specs.RawNumbers.{variable_names, signal_number, state_number}
+use Rattle.qp_chart_names.specs.RawNumbers.{Refers}
+use Rattle.qp_chart_names.specs.Numbering.{number_in}
+use Rattle.qp_chart_names.specs.Pairs.{Corresponds}
+use Rattle.qp_chart_names.specs.ActionFaults.{params_of}
+use Rattle.qp_chart_names.specs.RawNumbers.{variable_names, signal_number, state_number}
 use Rattle.qp_model.specs.declared.systems.PoolDef.{PoolDef}
 use Rattle.qp_model.specs.declared.systems.ObjectDef.{ObjectDef}
 use Rattle.qp_model.specs.declared.systems.TimerDef.{TimerDef}
 use Rattle.qp_model.specs.Laws.{Ascend}
-use Rattle.qp_document.specs.declared.raw.RawObject.{RawObject}
-use Rattle.qp_document.specs.Raw.{Pool, Signal, Chart as Table}
+use Rattle.qp_system_tables.specs.declared.raw.RawObject.{RawObject}
+use Rattle.qp_system_tables.specs.Raw.{Pool, Signal, Chart as Table}
 use Rattle.qp_system.specs.Same.{bare_signal, bare_object, bare_timer, row_said, Saying, StateSaid, state_said, ChartSaid, chart_said}
 use Rattle.qp_system.specs.SystemLaw.{SystemsAreOne}
 use Rattle.qp_system.specs.SystemOf.{chart_names, first_value, first_values, IsObjectOf, AreObjectsOf}
 use Rattle.qp_model.specs.Sound.{timer_of, timers_of}
-use Rattle.qp_document.specs.Views.{name_view, vars_view, pool_view, signal_view, timer_view, row_view, state_view, chart_view, object_view, raw_view}
+use Rattle.qp_system_tables.specs.Views.{name_view, vars_view, pool_view, signal_view, timer_view, row_view, state_view, chart_view, object_view, raw_view}
 use Rattle.qp_system.specs.Within.{names_of}
 use Rattle.qp_system.specs.Deeds.{deeds_of}
 use Rattle.qp_system.proofs.DeedLemmas.{acts-same, guard-same}

@@ -7,35 +7,35 @@ use Rattle.std.specs.Str.{bytes_eq}
 use Rattle.std.proofs.lemmas.Option.{slice_get-map}
 use Rattle.std.proofs.lemmas.List.{take-map}
 use Rattle.arrayvec.specs.ArrayString.{ArrayString}
-use Rattle.qp_names.specs.declared.place.Part.{Part}
-use Rattle.qp_names.specs.declared.place.Part.TheVariants.{Key}
-use Rattle.qp_names.specs.Keys.{PARENT, ENTRY, EXIT, INIT_DO, WHEN, DO, TO}
-use Rattle.qp_names.specs.declared.raw.SigName.{SigName}
-use Rattle.qp_names.specs.declared.raw.ObjName.{ObjName}
-use Rattle.qp_names.specs.declared.raw.RawTimer.{RawTimer}
-use Rattle.qp_names.specs.declared.raw.RawRow.{RawRow}
-use Rattle.qp_names.specs.declared.raw.RawState.{RawState}
-use Rattle.qp_names.specs.declared.raw.RawChart.{RawChart}
-use Rattle.qp_names.specs.declared.raw.Names.{Names}
-use Rattle.qp_language.specs.Terms.{Term, ToMe, ToObject, Order, Set, Say, Post, Lifo, Forward, Publish, Defer, Recall, Flush, Subscribe, Unsubscribe, Arm, Rearm, Disarm, Command, Plain, Locked}
-use Rattle.qp_language.specs.Reading.{term_of_text}
-use Rattle.qp_language.specs.ReadingActions.{command_of_text}
-use Rattle.qp_names.specs.Faults.{Fault, first_in}
-use Rattle.qp_names.specs.Numbering.{number_in}
-use Rattle.qp_names.specs.RawNumbers.{state_names, timer_names, variable_names, signal_names, object_names, state_number, signal_number, signal_named, object_named}
+use Rattle.qp_chart_names.specs.declared.place.Part.{Part}
+use Rattle.qp_chart_names.specs.declared.place.Part.TheVariants.{Key}
+use Rattle.qp_chart_names.specs.Keys.{PARENT, ENTRY, EXIT, INIT_DO, WHEN, DO, TO}
+use Rattle.qp_chart_names.specs.declared.raw.SigName.{SigName}
+use Rattle.qp_chart_names.specs.declared.raw.ObjName.{ObjName}
+use Rattle.qp_chart_names.specs.declared.raw.RawTimer.{RawTimer}
+use Rattle.qp_chart_names.specs.declared.raw.RawRow.{RawRow}
+use Rattle.qp_chart_names.specs.declared.raw.RawState.{RawState}
+use Rattle.qp_chart_names.specs.declared.raw.RawChart.{RawChart}
+use Rattle.qp_chart_names.specs.declared.raw.Names.{Names}
+use Rattle.qp_chart_text.specs.Terms.{Term, ToMe, ToObject, Order, Set, Say, Post, Lifo, Forward, Publish, Defer, Recall, Flush, Subscribe, Unsubscribe, Arm, Rearm, Disarm, Command, Plain, Locked}
+use Rattle.qp_chart_text.specs.Reading.{term_of_text}
+use Rattle.qp_chart_text.specs.ReadingActions.{command_of_text}
+use Rattle.qp_chart_names.specs.Faults.{Fault, first_in}
+use Rattle.qp_chart_names.specs.Numbering.{number_in}
+use Rattle.qp_chart_names.specs.RawNumbers.{state_names, timer_names, variable_names, signal_names, object_names, state_number, signal_number, signal_named, object_named}
 use Rattle.qp_chart.specs.Parents.{parent_number, parents_of}
-use Rattle.qp_names.specs.ActionFaults.{is_static, params_of, order_known, order_in_range, order_fits, command_known, command_in_range, command_fits, action_fault, guard_fault, text_fault, text_at, texts_fault, when_fault}
+use Rattle.qp_chart_names.specs.ActionFaults.{is_static, params_of, order_known, order_in_range, order_fits, command_known, command_in_range, command_fits, action_fault, guard_fault, text_fault, text_at, texts_fault, when_fault}
 use Rattle.qp_chart.specs.ChartFaults.{timer_fault, parent_at, init_fault, is_astray, is_covered, row_fault, row_at, rows_fault, state_fault, frame_fault, body_fault, parts_fault, chart_fault, state_place, row_place}
-use Rattle.qp_names.specs.NameFaults.{doubles_fault, undeclared_key}
+use Rattle.qp_chart_names.specs.NameFaults.{doubles_fault, undeclared_key}
 use Rattle.qp_model.specs.declared.systems.SignalDef.{SignalDef}
 use Rattle.qp_model.proofs.ListLemmas.{list_any-map}
-use Rattle.qp_document.specs.declared.raw.RawObject.{RawObject}
-use Rattle.qp_document.specs.declared.raw.RawSystem.{RawSystem}
-use Rattle.qp_document.specs.Raw.{Signal, Object}
+use Rattle.qp_system_tables.specs.declared.raw.RawObject.{RawObject}
+use Rattle.qp_system_tables.specs.declared.raw.RawSystem.{RawSystem}
+use Rattle.qp_system_tables.specs.Raw.{Signal, Object}
 use Rattle.qp_system.specs.Between.{between_fault, no_pool_fault}
 use Rattle.qp_system.specs.Later.{later_of, later_fault}
 use Rattle.qp_system.specs.Within.{signal_name, object_name, names_of, in_chart, within_chart, charts_fault}
-use Rattle.qp_document.specs.Views.{name_view, signal_view, timer_view, row_view, state_view, chart_view, object_view, raw_view}
+use Rattle.qp_system_tables.specs.Views.{name_view, signal_view, timer_view, row_view, state_view, chart_view, object_view, raw_view}
 
 -- a fault of each thing, where the things look alike
 first_in-alike : {A B : Type 0} (view : A → B) (f g : ℕ → A → Option Fault) → ((k : ℕ) (x y : A) → view x ≡ view y → f k x ≡ g k y)

@@ -4,19 +4,19 @@ use Rattle.std.specs.Bool.{⊤}
 use Rattle.std.specs.declared.option.Option.{Option}
 use Rattle.std.specs.Option.{option_or}
 use Rattle.arrayvec.specs.ArrayString.{ArrayString}
-use Rattle.qp_names.specs.declared.place.Part.{Part}
-use Rattle.qp_names.specs.declared.place.Part.TheVariants.{Key, Pos}
-use Rattle.qp_names.specs.declared.raw.Names.{Names}
-use Rattle.qp_names.specs.declared.raw.RawChart.{RawChart}
-use Rattle.qp_names.specs.declared.raw.RawTimer.{RawTimer}
-use Rattle.qp_names.specs.declared.raw.RawState.{RawState}
-use Rattle.qp_names.specs.declared.raw.RawRow.{RawRow}
-use Rattle.qp_names.specs.Faults.{Fault, fault, fault_if, first_of, first_in}
-use Rattle.qp_language.specs.Terms.{Term, Command}
-use Rattle.qp_names.specs.ActionFaults.{action_fault, guard_fault, text_fault, text_at, texts_fault, when_fault}
+use Rattle.qp_chart_names.specs.declared.place.Part.{Part}
+use Rattle.qp_chart_names.specs.declared.place.Part.TheVariants.{Key, Pos}
+use Rattle.qp_chart_names.specs.declared.raw.Names.{Names}
+use Rattle.qp_chart_names.specs.declared.raw.RawChart.{RawChart}
+use Rattle.qp_chart_names.specs.declared.raw.RawTimer.{RawTimer}
+use Rattle.qp_chart_names.specs.declared.raw.RawState.{RawState}
+use Rattle.qp_chart_names.specs.declared.raw.RawRow.{RawRow}
+use Rattle.qp_chart_names.specs.Faults.{Fault, fault, fault_if, first_of, first_in}
+use Rattle.qp_chart_text.specs.Terms.{Term, Command}
+use Rattle.qp_chart_names.specs.ActionFaults.{action_fault, guard_fault, text_fault, text_at, texts_fault, when_fault}
 use Rattle.qp_chart.specs.Parents.{loop_at, depth_at, tree_fault}
 use Rattle.qp_chart.specs.ChartFaults.{timer_fault, parent_at, init_fault, row_fault, row_at, rows_fault, state_fault, frame_fault, body_fault, parts_fault, chart_fault, state_place, row_place}
-use Rattle.qp_names.specs.NameFaults.{undeclared, undeclared_key, double_at, double_fault, doubles_fault}
+use Rattle.qp_chart_names.specs.NameFaults.{undeclared, undeclared_key, double_at, double_fault, doubles_fault}
 
 -- the path of the fault, if there is one, has at most six parts
 abbrev pub Short : Option Fault → Type 0

@@ -14,30 +14,30 @@ use Rattle.qp_chart.specs.declared.expression.Bound.{Bound}
 use Rattle.qp_chart.specs.declared.actions.Target.{Target}
 use Rattle.qp_chart.specs.declared.actions.Plain as plain
 use Rattle.qp_chart.specs.declared.actions.Act.{Act}
-use Rattle.qp_names.specs.declared.raw.RawChart.{RawChart}
-use Rattle.qp_names.specs.declared.raw.RawState.{RawState}
-use Rattle.qp_names.specs.declared.raw.RawRow.{RawRow}
-use Rattle.qp_names.specs.declared.raw.Names.{Names}
-use Rattle.qp_names.specs.declared.raw.ObjName.{ObjName}
+use Rattle.qp_chart_names.specs.declared.raw.RawChart.{RawChart}
+use Rattle.qp_chart_names.specs.declared.raw.RawState.{RawState}
+use Rattle.qp_chart_names.specs.declared.raw.RawRow.{RawRow}
+use Rattle.qp_chart_names.specs.declared.raw.Names.{Names}
+use Rattle.qp_chart_names.specs.declared.raw.ObjName.{ObjName}
 use Rattle.qp_chart.specs.declared.checked.Row.{Row}
 use Rattle.qp_chart.specs.declared.checked.State.{State}
 use Rattle.qp_chart.specs.declared.checked.Chart.{Chart}
-use Rattle.qp_language.specs.Terms.{Term, Address, ToMe, ToObject, Event, Order, Set, Say, Post, Lifo, Forward, Publish, Defer, Recall, Flush, Subscribe, Unsubscribe, Arm, Rearm, Disarm, Command, Plain, Locked}
-use Rattle.qp_names.specs.ActionFaults.{is_between, is_static, params_of, params_in, reserve_allowed, event_fits, order_in_range, order_fits, command_in_range, command_fits}
+use Rattle.qp_chart_text.specs.Terms.{Term, Address, ToMe, ToObject, Event, Order, Set, Say, Post, Lifo, Forward, Publish, Defer, Recall, Flush, Subscribe, Unsubscribe, Arm, Rearm, Disarm, Command, Plain, Locked}
+use Rattle.qp_chart_names.specs.ActionFaults.{is_between, is_static, params_of, params_in, reserve_allowed, event_fits, order_in_range, order_fits, command_in_range, command_fits}
 use Rattle.qp_chart.specs.ActionOf.{IsBoundOf, IsTargetOf, IsEventOf, IsByteOf, IsPlainOf, IsActOf, IsActOfText, IsGuardOf}
 use Rattle.qp_chart.specs.ChartOf.{AreActsOf, IsRowOf, IsStateOf, IsChartOf}
 use Rattle.qp_chart.proofs.LegalLemmas.{Corresponds-length}
-use Rattle.qp_names.specs.RawNumbers.{Refers}
-use Rattle.qp_names.specs.Numbering.{number_in}
-use Rattle.qp_names.specs.Readable.{IsReadableRow, IsReadableState}
-use Rattle.qp_names.specs.RawNumbers.{state_names, timer_names, variable_names, signal_names, object_names, state_number, timer_number, signal_number, signal_named, object_named}
-use Rattle.qp_names.proofs.NumberingLemmas.{number_in-above, number_in-below}
+use Rattle.qp_chart_names.specs.RawNumbers.{Refers}
+use Rattle.qp_chart_names.specs.Numbering.{number_in}
+use Rattle.qp_chart_names.specs.Readable.{IsReadableRow, IsReadableState}
+use Rattle.qp_chart_names.specs.RawNumbers.{state_names, timer_names, variable_names, signal_names, object_names, state_number, timer_number, signal_number, signal_named, object_named}
+use Rattle.qp_chart_names.proofs.NumberingLemmas.{number_in-above, number_in-below}
 use Rattle.qp_model.specs.declared.systems.SignalDef.{SignalDef}
 use Rattle.qp_model.specs.declared.systems.System.{System}
 use Rattle.qp_model.specs.Sites.{object_at}
-use Rattle.qp_document.specs.declared.raw.RawObject.{RawObject}
-use Rattle.qp_document.specs.declared.raw.RawSystem.{RawSystem}
-use Rattle.qp_document.specs.Few.{IsFewChart}
+use Rattle.qp_system_tables.specs.declared.raw.RawObject.{RawObject}
+use Rattle.qp_system_tables.specs.declared.raw.RawSystem.{RawSystem}
+use Rattle.qp_system_tables.specs.Few.{IsFewChart}
 use Rattle.qp_model.specs.SoundChart.{IsSignal, IsDeclared, IsState, IsReceiver, IsTimer, Reaches, IsSoundEvent, IsSoundPlain, IsSoundAct, IsSoundGuard, IsSoundRow, IsSoundState, IsSoundChart}
 use Rattle.qp_model.proofs.ListLemmas.{every-at}
 use Rattle.qp_system.specs.SystemOf.{IsObjectOf, AreObjectsOf}

@@ -10,35 +10,35 @@ use Rattle.std.proofs.lemmas.List.Elements.{recursion_from_All, All-from_recursi
 use Rattle.std.proofs.lemmas.List.Sorted.{All-permutation, IsPermutation-map, length_permutation, sum_by-IsPermutation}
 use Rattle.std.proofs.lemmas.Bool.Decides.{nat_tests}
 use Rattle.std.proofs.lemmas.Option.{same_Some}
-use Rattle.qp_names.specs.declared.raw.RawChart.{RawChart}
-use Rattle.qp_names.specs.declared.raw.Names.{Names}
+use Rattle.qp_chart_names.specs.declared.raw.RawChart.{RawChart}
+use Rattle.qp_chart_names.specs.declared.raw.Names.{Names}
 use Rattle.qp_chart.specs.declared.checked.Chart.{Chart}
 use Rattle.qp_chart.specs.ChartFaults.{chart_fault}
 use Rattle.qp_chart.specs.ChartOf.{IsChartOf, IsTimerOf}
 use Rattle.qp_chart.specs.LegalTree.{IsLegal}
-use Rattle.qp_names.specs.Pairs.{Corresponds}
-use Rattle.qp_names.proofs.NumberingLemmas.{number_in-above, number_in-below}
+use Rattle.qp_chart_names.specs.Pairs.{Corresponds}
+use Rattle.qp_chart_names.proofs.NumberingLemmas.{number_in-above, number_in-below}
 use Rattle.qp_chart.proofs.LegalLemmas.{IsLegal-from, Corresponds-length}
 use Rattle.qp_model.specs.declared.systems.PoolDef.{PoolDef}
 use Rattle.qp_model.specs.declared.systems.ObjectDef.{ObjectDef}
 use Rattle.qp_model.specs.declared.systems.System.{System}
 use Rattle.qp_model.specs.Sites.{object_at}
-use Rattle.qp_document.specs.declared.raw.RawObject.{RawObject}
-use Rattle.qp_document.specs.declared.raw.RawSystem.{RawSystem}
+use Rattle.qp_system_tables.specs.declared.raw.RawObject.{RawObject}
+use Rattle.qp_system_tables.specs.declared.raw.RawSystem.{RawSystem}
 use Rattle.qp_system.specs.Between.{timers_of as count_of}
-use Rattle.qp_document.specs.Document.{TreeGives}
-use Rattle.qp_document.specs.Few.{IsFewChart, IsFew}
+use Rattle.qp_system_tables.specs.Document.{TreeGives}
+use Rattle.qp_system_tables.specs.Few.{IsFewChart, IsFew}
 use Rattle.qp_model.specs.SoundChart.{IsSoundChart}
 use Rattle.qp_model.specs.Sound.{IsSoundPool, IsSoundSignal, IsSoundObject, IsSoundTimer, IsSound}
 use Rattle.qp_system.specs.SystemOf.{chart_names, first_value, IsObjectOf, IsSystemOf}
 use Rattle.qp_model.specs.Sound.{timer_of, timers_of}
-use Rattle.qp_document.specs.Views.{pool_view, signal_view, timer_view, chart_view, object_view, raw_view}
+use Rattle.qp_system_tables.specs.Views.{pool_view, signal_view, timer_view, chart_view, object_view, raw_view}
 use Rattle.qp_system.specs.Within.{names_of}
 use Rattle.qp_system.proofs.BehindLemmas.{IsPlaced}
-use Rattle.qp_document.proofs.FewLemmas.{raw-is_few, IsInRange, raw-is_in_range}
+use Rattle.qp_system_tables.proofs.FewLemmas.{raw-is_few, IsInRange, raw-is_in_range}
 use Rattle.qp_system.proofs.NamedLemmas.{number-names, named-view}
 use Rattle.qp_system.proofs.PassedLemmas.{IsPassed, passed-from}
-use Rattle.qp_document.proofs.RangeLemmas.{PoolInRange, SignalInRange, TimerInRange, ObjectInRange}
+use Rattle.qp_system_tables.proofs.RangeLemmas.{PoolInRange, SignalInRange, TimerInRange, ObjectInRange}
 use Rattle.qp_system.proofs.SoundChartLemmas.{chart-sound}
 use Rattle.qp_system.proofs.TimerLemmas.{every-map, every-flat_map, Fits, timers-fit, IsOwned, each-owned}
 use Rattle.qp_system.proofs.PairLemmas.{Corresponds-every, Corresponds-partner}

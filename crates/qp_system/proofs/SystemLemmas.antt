@@ -11,27 +11,27 @@ use Rattle.std.proofs.lemmas.Option.{slice_get_read}
 use Rattle.std.proofs.lemmas.List.Elements.{recursion_from_All, All-from_recursion}
 use Rattle.std.proofs.lemmas.List.Sorted.{All-permutation}
 use Rattle.qp_chart.specs.declared.checked.Chart.{Chart}
-use Rattle.qp_names.specs.declared.raw.RawChart.{RawChart}
-use Rattle.qp_names.specs.Pairs.{Corresponds}
-use Rattle.qp_names.proofs.NumberingLemmas.{number_in-above, number_in-below}
+use Rattle.qp_chart_names.specs.declared.raw.RawChart.{RawChart}
+use Rattle.qp_chart_names.specs.Pairs.{Corresponds}
+use Rattle.qp_chart_names.proofs.NumberingLemmas.{number_in-above, number_in-below}
 use Rattle.qp_model.specs.declared.systems.ObjectDef.{ObjectDef}
 use Rattle.qp_model.specs.declared.systems.TimerDef.{TimerDef}
-use Rattle.qp_document.specs.declared.fault.SystemFault.{SystemFault}
-use Rattle.qp_document.specs.declared.fault.SystemFault.TheVariants.{Memory, NotToml, At}
-use Rattle.qp_document.specs.declared.raw.RawObject.{RawObject}
-use Rattle.qp_document.specs.declared.raw.RawSystem.{RawSystem}
+use Rattle.qp_system_tables.specs.declared.fault.SystemFault.{SystemFault}
+use Rattle.qp_system_tables.specs.declared.fault.SystemFault.TheVariants.{Memory, NotToml, At}
+use Rattle.qp_system_tables.specs.declared.raw.RawObject.{RawObject}
+use Rattle.qp_system_tables.specs.declared.raw.RawSystem.{RawSystem}
 use Rattle.qp_system.specs.Checked.{HasLater, IsChecked}
-use Rattle.qp_document.specs.Document.{RefusesBytes}
+use Rattle.qp_system_tables.specs.Document.{RefusesBytes}
 use Rattle.qp_system.specs.Placed.{chart_place, HasChart, IsWithin}
 use Rattle.qp_system.specs.SystemOf.{chart_names, first_value, first_values, IsObjectOf, AreObjectsOf, HasFault, RefusesSystem}
 use Rattle.qp_model.specs.Sound.{timer_of, timers_of}
-use Rattle.qp_document.specs.Views.{chart_view, object_view}
+use Rattle.qp_system_tables.specs.Views.{chart_view, object_view}
 use Rattle.qp_system.proofs.BehindLemmas.{IsPlaced}
-use Rattle.qp_document.proofs.FewLemmas.{IsInRange}
+use Rattle.qp_system_tables.proofs.FewLemmas.{IsInRange}
 use Rattle.qp_system.proofs.NamedLemmas.{number-none, number-position, named-view}
 use Rattle.qp_system.proofs.OrderLemmas.{Ascend-sorted}
 use Rattle.qp_system.proofs.PassedLemmas.{IsPassed, passed-from}
-use Rattle.qp_document.proofs.RangeLemmas.{ObjectInRange}
+use Rattle.qp_system_tables.proofs.RangeLemmas.{ObjectInRange}
 use Rattle.qp_system.proofs.SoundLemmas.{read-in_range}
 use Rattle.qp_system.proofs.PairLemmas.{Corresponds-each}
 use Rattle.qp_model.proofs.NumberLemmas.{every}

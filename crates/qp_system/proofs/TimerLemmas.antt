@@ -7,25 +7,25 @@ use Rattle.std.proofs.lemmas.Bool.{not-false}
 use Rattle.std.proofs.lemmas.List.Elements.{recursion_from_All}
 use Rattle.std.proofs.lemmas.Option.{slice_get-map}
 use Rattle.std.proofs.lemmas.Bool.Decides.{nat_tests}
-use Rattle.qp_names.specs.declared.raw.RawTimer.{RawTimer}
-use Rattle.qp_names.specs.declared.raw.RawChart.{RawChart}
-use Rattle.qp_names.specs.declared.raw.Names.{Names}
-use Rattle.qp_names.specs.declared.raw.SigName.{SigName}
+use Rattle.qp_chart_names.specs.declared.raw.RawTimer.{RawTimer}
+use Rattle.qp_chart_names.specs.declared.raw.RawChart.{RawChart}
+use Rattle.qp_chart_names.specs.declared.raw.Names.{Names}
+use Rattle.qp_chart_names.specs.declared.raw.SigName.{SigName}
 use Rattle.qp_chart.specs.declared.checked.Timer.{Timer}
 use Rattle.qp_chart.specs.declared.checked.Chart.{Chart}
-use Rattle.qp_names.specs.ActionFaults.{is_static}
+use Rattle.qp_chart_names.specs.ActionFaults.{is_static}
 use Rattle.qp_chart.specs.ChartFaults.{chart_fault, parts_fault, frame_fault, timer_fault}
 use Rattle.qp_chart.specs.ChartOf.{IsTimerOf, IsChartOf}
 use Rattle.qp_chart.proofs.ChartTree.{none-both}
-use Rattle.qp_names.specs.RawNumbers.{signal_named, signal_names}
-use Rattle.qp_names.proofs.NumberingLemmas.{number_in-above}
+use Rattle.qp_chart_names.specs.RawNumbers.{signal_named, signal_names}
+use Rattle.qp_chart_names.proofs.NumberingLemmas.{number_in-above}
 use Rattle.qp_model.specs.declared.systems.SignalDef.{SignalDef}
 use Rattle.qp_model.specs.declared.systems.ObjectDef.{ObjectDef}
-use Rattle.qp_document.specs.declared.raw.RawObject.{RawObject}
-use Rattle.qp_document.specs.Views.{timer_view}
+use Rattle.qp_system_tables.specs.declared.raw.RawObject.{RawObject}
+use Rattle.qp_system_tables.specs.Views.{timer_view}
 use Rattle.qp_system.specs.Within.{signal_name, names_of}
 use Rattle.qp_system.proofs.BehindLemmas.{fault_if-None, each-in}
-use Rattle.qp_document.proofs.RangeLemmas.{TimerInRange}
+use Rattle.qp_system_tables.proofs.RangeLemmas.{TimerInRange}
 use Rattle.qp_system.proofs.PairLemmas.{Corresponds-every}
 use Rattle.qp_model.proofs.NumberLemmas.{every-append}
 use Rattle.qp_model.proofs.ListLemmas.{every-two}

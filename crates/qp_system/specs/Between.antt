@@ -4,11 +4,11 @@ use Rattle.std.specs.declared.option.Option.{Option}
 use Rattle.std.specs.List.{list_all, list_any, find, sum_by}
 use Rattle.std.specs.Option.{option_map_or, option_or, is_none}
 use Rattle.std.specs.Str.{bytes_eq}
-use Rattle.qp_names.specs.declared.place.Part.TheVariants.{Key, Pos}
-use Rattle.qp_names.specs.Keys.{POOL, SIGNAL, CHART, OBJECT, SIZE, NAME, STATIC, VARS, PRIORITY, THRESHOLD}
-use Rattle.qp_names.specs.Codes.{RANGE, DOUBLE, NO_SUCH_NAME, TOO_MANY, NO_POOL}
-use Rattle.qp_names.specs.Faults.{Fault, fault_if, first_of, first_in}
-use Rattle.qp_document.specs.Raw.{Pool, Signal, Chart, Object, Raw}
+use Rattle.qp_chart_names.specs.declared.place.Part.TheVariants.{Key, Pos}
+use Rattle.qp_chart_names.specs.Keys.{POOL, SIGNAL, CHART, OBJECT, SIZE, NAME, STATIC, VARS, PRIORITY, THRESHOLD}
+use Rattle.qp_chart_names.specs.Codes.{RANGE, DOUBLE, NO_SUCH_NAME, TOO_MANY, NO_POOL}
+use Rattle.qp_chart_names.specs.Faults.{Fault, fault_if, first_of, first_in}
+use Rattle.qp_system_tables.specs.Raw.{Pool, Signal, Chart, Object, Raw}
 
 -- the size isn't above the one before it
 abbrev pub is_not_above : Option ℕ → ℕ → Bool

@@ -1,14 +1,14 @@
 -- What the bytes of a system file give, up to its checked charts.
 use Rattle.std.specs.Prelude.{◌≡◌, List, ℕ, None, Ok}
 use Rattle.qp_chart.specs.ChartOf.{IsChartOf}
-use Rattle.qp_names.specs.Pairs.{Corresponds}
+use Rattle.qp_chart_names.specs.Pairs.{Corresponds}
 use Rattle.qp_chart.specs.declared.checked.Chart.{Chart}
-use Rattle.qp_document.specs.declared.fault.SystemFault.{SystemFault}
-use Rattle.qp_document.specs.declared.raw.RawSystem.{RawSystem}
-use Rattle.qp_document.specs.Document.{TreeGives}
+use Rattle.qp_system_tables.specs.declared.fault.SystemFault.{SystemFault}
+use Rattle.qp_system_tables.specs.declared.raw.RawSystem.{RawSystem}
+use Rattle.qp_system_tables.specs.Document.{TreeGives}
 use Rattle.qp_system.specs.Later.{later_fault}
 use Rattle.qp_system.specs.Passes.{IsFirst}
-use Rattle.qp_document.specs.Views.{raw_view}
+use Rattle.qp_system_tables.specs.Views.{raw_view}
 use Rattle.qp_system.specs.Within.{names_of}
 
 -- the tables of the bytes have none by themselves, and this is the first fault of the whole

@@ -10,7 +10,7 @@ use Rattle.qp_chart.specs.declared.actions.Plain.TheVariants as variant
 use Rattle.qp_chart.specs.declared.actions.Act.{Act}
 use Rattle.qp_chart.specs.declared.actions.Act.TheVariants as act
 use Rattle.qp_chart.specs.Binding.{named}
-use Rattle.qp_language.specs.Terms.{Word, Term}
+use Rattle.qp_chart_text.specs.Terms.{Word, Term}
 
 -- a plain action, its expressions with the names of their variables; no receiver is the object itself
 pub data Deed : Type 0 where

@@ -1,16 +1,16 @@
 -- The first fault of a system whose tables have none by themselves.
 use Rattle.std.specs.Prelude.{List, [], ◌∷◌, map}
 use Rattle.std.specs.declared.option.Option.{Option}
-use Rattle.qp_names.specs.declared.raw.RawChart.{RawChart}
-use Rattle.qp_names.specs.Faults.{Fault, first_of}
+use Rattle.qp_chart_names.specs.declared.raw.RawChart.{RawChart}
+use Rattle.qp_chart_names.specs.Faults.{Fault, first_of}
 use Rattle.qp_model.specs.declared.systems.PoolDef.{PoolDef}
 use Rattle.qp_model.specs.declared.systems.SignalDef.{SignalDef}
-use Rattle.qp_document.specs.declared.raw.RawObject.{RawObject}
-use Rattle.qp_document.specs.declared.raw.RawSystem.{RawSystem}
+use Rattle.qp_system_tables.specs.declared.raw.RawObject.{RawObject}
+use Rattle.qp_system_tables.specs.declared.raw.RawSystem.{RawSystem}
 use Rattle.qp_system.specs.Between.{between_fault, no_pool_fault}
-use Rattle.qp_document.specs.Few.{whole}
+use Rattle.qp_system_tables.specs.Few.{whole}
 use Rattle.qp_system.specs.Within.{names_of, charts_fault}
-use Rattle.qp_document.specs.Views.{pool_view, signal_view}
+use Rattle.qp_system_tables.specs.Views.{pool_view, signal_view}
 
 -- the first fault between these tables, within the charts, and of a signal without a pool
 unfoldable pub later_of : List PoolDef → List SignalDef → List RawChart → List RawObject → Option Fault

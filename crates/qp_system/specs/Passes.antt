@@ -2,9 +2,9 @@
 use Rattle.std.specs.Prelude.{◌≡◌, None, Ok, Err, ⊤}
 use Rattle.std.specs.declared.option.Option.{Option}
 use Rattle.std.specs.declared.result.Result.{Result}
-use Rattle.qp_names.specs.Faults.{Fault, fault}
-use Rattle.qp_document.specs.declared.fault.SystemFault.{SystemFault}
-use Rattle.qp_document.specs.declared.fault.SystemFault.TheVariants.{Memory, NotToml, At}
+use Rattle.qp_chart_names.specs.Faults.{Fault, fault}
+use Rattle.qp_system_tables.specs.declared.fault.SystemFault.{SystemFault}
+use Rattle.qp_system_tables.specs.declared.fault.SystemFault.TheVariants.{Memory, NotToml, At}
 
 -- what is refused is the first fault, unless memory ran out
 abbrev pub IsFirst : Option Fault → SystemFault → Type 0

@@ -6,13 +6,13 @@ use Rattle.qp_chart.specs.declared.checked.Timer.{Timer}
 use Rattle.qp_chart.specs.declared.checked.Row.{Row}
 use Rattle.qp_chart.specs.declared.checked.State.{State}
 use Rattle.qp_chart.specs.declared.checked.Chart.{Chart}
-use Rattle.qp_names.specs.RawNumbers.{variable_names}
-use Rattle.qp_language.specs.Terms.{Word, Term}
+use Rattle.qp_chart_names.specs.RawNumbers.{variable_names}
+use Rattle.qp_chart_text.specs.Terms.{Word, Term}
 use Rattle.qp_model.specs.declared.systems.SignalDef.{SignalDef}
 use Rattle.qp_model.specs.declared.systems.ObjectDef.{ObjectDef}
 use Rattle.qp_model.specs.declared.systems.System.{System}
 use Rattle.qp_system.specs.Deeds.{Deed, deeds_of, guard_of}
-use Rattle.qp_document.specs.Views.{vars_view}
+use Rattle.qp_system_tables.specs.Views.{vars_view}
 
 -- a name without the bytes of its unused room
 abbrev pub bare_name : ArrayString → ArrayString

@@ -1,8 +1,8 @@
 -- Laws of reading system files.
 use Rattle.std.specs.Prelude.{◌≡◌, ℕ, List, ◌⊎◌}
 use Rattle.qp_model.specs.declared.systems.System.{System}
-use Rattle.qp_document.specs.declared.fault.SystemFault.{SystemFault}
-use Rattle.qp_document.specs.declared.fault.SystemFault.TheVariants.{Memory}
+use Rattle.qp_system_tables.specs.declared.fault.SystemFault.{SystemFault}
+use Rattle.qp_system_tables.specs.declared.fault.SystemFault.TheVariants.{Memory}
 use Rattle.qp_system.specs.Same.{SayTheSame}
 use Rattle.qp_model.specs.Sound.{IsSound}
 use Rattle.qp_system.specs.SystemOf.{IsSystemOf, RefusesSystem}

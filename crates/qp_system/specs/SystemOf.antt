@@ -7,22 +7,22 @@ use Rattle.std.specs.Option.{option_map, option_map_or}
 use Rattle.std.specs.Str.{IsUtf8, bytes_eq}
 use Rattle.toml.specs.Parse.{parse_document}
 use Rattle.arrayvec.specs.ArrayString.{ArrayString}
-use Rattle.qp_names.specs.declared.raw.RawChart.{RawChart}
+use Rattle.qp_chart_names.specs.declared.raw.RawChart.{RawChart}
 use Rattle.qp_chart.specs.ChartOf.{IsChartOf}
-use Rattle.qp_names.specs.Faults.{Fault}
-use Rattle.qp_names.specs.Numbering.{number_in}
-use Rattle.qp_names.specs.Pairs.{Corresponds}
+use Rattle.qp_chart_names.specs.Faults.{Fault}
+use Rattle.qp_chart_names.specs.Numbering.{number_in}
+use Rattle.qp_chart_names.specs.Pairs.{Corresponds}
 use Rattle.qp_model.specs.declared.systems.ObjectDef.{ObjectDef}
 use Rattle.qp_model.specs.declared.systems.System.{System}
 use Rattle.qp_model.specs.Laws.{Ascend}
 use Rattle.qp_model.specs.Sound.{timers_of}
-use Rattle.qp_document.specs.declared.fault.SystemFault.{SystemFault}
-use Rattle.qp_document.specs.declared.fault.SystemFault.TheVariants.{Memory, NotToml, At}
-use Rattle.qp_document.specs.declared.raw.RawObject.{RawObject}
-use Rattle.qp_document.specs.declared.raw.RawSystem.{RawSystem}
-use Rattle.qp_document.specs.Document.{TreeGives}
+use Rattle.qp_system_tables.specs.declared.fault.SystemFault.{SystemFault}
+use Rattle.qp_system_tables.specs.declared.fault.SystemFault.TheVariants.{Memory, NotToml, At}
+use Rattle.qp_system_tables.specs.declared.raw.RawObject.{RawObject}
+use Rattle.qp_system_tables.specs.declared.raw.RawSystem.{RawSystem}
+use Rattle.qp_system_tables.specs.Document.{TreeGives}
 use Rattle.qp_system.specs.Later.{later_fault}
-use Rattle.qp_document.specs.Views.{raw_view}
+use Rattle.qp_system_tables.specs.Views.{raw_view}
 use Rattle.qp_system.specs.Within.{names_of}
 
 -- the names of these charts

@@ -2,16 +2,16 @@
 use Rattle.std.specs.Prelude.{ℕ, List, ◌∷◌, map}
 use Rattle.std.specs.declared.option.Option.{Option}
 use Rattle.std.specs.Option.{option_map}
-use Rattle.qp_names.specs.declared.place.Part.TheVariants.{Key, Pos}
-use Rattle.qp_names.specs.Keys.{CHART}
-use Rattle.qp_names.specs.declared.raw.Names.{Names}
-use Rattle.qp_names.specs.declared.raw.SigName.{SigName}
-use Rattle.qp_names.specs.declared.raw.ObjName.{ObjName}
-use Rattle.qp_names.specs.declared.raw.RawChart.{RawChart}
-use Rattle.qp_names.specs.Faults.{Fault, first_in}
+use Rattle.qp_chart_names.specs.declared.place.Part.TheVariants.{Key, Pos}
+use Rattle.qp_chart_names.specs.Keys.{CHART}
+use Rattle.qp_chart_names.specs.declared.raw.Names.{Names}
+use Rattle.qp_chart_names.specs.declared.raw.SigName.{SigName}
+use Rattle.qp_chart_names.specs.declared.raw.ObjName.{ObjName}
+use Rattle.qp_chart_names.specs.declared.raw.RawChart.{RawChart}
+use Rattle.qp_chart_names.specs.Faults.{Fault, first_in}
 use Rattle.qp_chart.specs.ChartFaults.{chart_fault}
 use Rattle.qp_model.specs.declared.systems.SignalDef.{SignalDef}
-use Rattle.qp_document.specs.declared.raw.RawObject.{RawObject}
+use Rattle.qp_system_tables.specs.declared.raw.RawObject.{RawObject}
 
 abbrev pub signal_name : SignalDef → SigName
 signal_name s = record { name = s.name; params = s.params; fixed = s.fixed }

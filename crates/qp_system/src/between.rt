@@ -3,14 +3,14 @@
 ghost use Rattle.std.specs.Prelude.{◌≡◌, ◌≤◌, ◌&&◌, not, nat_le, length, map};
 ghost use Rattle.std.specs.List.{list_any};
 ghost use Rattle.qp_system.specs.Between.{between_fault, no_pool_fault};
-ghost use Rattle.qp_document.specs.Few.{whole};
+ghost use Rattle.qp_system_tables.specs.Few.{whole};
 ghost use Rattle.qp_system.specs.Passes.{Passes};
-ghost use Rattle.qp_document.specs.Views.{pool_view, signal_view};
+ghost use Rattle.qp_system_tables.specs.Views.{pool_view, signal_view};
 
 use crate::placing::objects_placed;
 use crate::twice::{charts_pass, objects_pass, signals_pass, sizes_ascend};
 use qp_chart::{Part, Path, RawChart, code, key};
-use qp_document::{RawObject, SystemFault};
+use qp_system_tables::{RawObject, SystemFault};
 use qp_model::{PoolDef, SignalDef};
 
 /// Refuses tables with a fault between them.

@@ -2,15 +2,15 @@
 
 ghost use Rattle.std.specs.Prelude.{◌≡◌, ◌≤◌, length, map, All, IfOk};
 ghost use Rattle.qp_chart.specs.ChartOf.{IsChartOf};
-ghost use Rattle.qp_names.specs.Pairs.{Corresponds};
-ghost use Rattle.qp_names.specs.Readable.{IsReadable};
+ghost use Rattle.qp_chart_names.specs.Pairs.{Corresponds};
+ghost use Rattle.qp_chart_names.specs.Readable.{IsReadable};
 ghost use Rattle.qp_system.specs.Passes.{Passes};
 ghost use Rattle.qp_system.specs.Within.{signal_name, object_name, names_of, within_chart, charts_fault};
 
 use qp_chart::{
     Chart, ChartFault, Names, ObjName, ObjNames, Part, Path, RawChart, SigName, SigNames, key,
 };
-use qp_document::{RawObject, SystemFault};
+use qp_system_tables::{RawObject, SystemFault};
 use qp_model::{Charts, SignalDef};
 use std::alloc::{AllocError, Global};
 

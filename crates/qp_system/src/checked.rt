@@ -2,10 +2,10 @@
 
 ghost use Rattle.std.specs.Prelude.{◌⊎◌, IfOk, IfErr};
 ghost use Rattle.qp_system.specs.Checked.{HasLater, IsChecked};
-ghost use Rattle.qp_document.specs.Document.{RefusesBytes};
+ghost use Rattle.qp_system_tables.specs.Document.{RefusesBytes};
 
 use crate::phases::charts_of;
-use qp_document::{RawSystem, SystemFault, raw_of_bytes};
+use qp_system_tables::{RawSystem, SystemFault, raw_of_bytes};
 use qp_model::Charts;
 use std::alloc::Global;
 

@@ -5,13 +5,13 @@ ghost use Rattle.std.specs.Prelude.{◌≡◌, ◌≤◌, ◌++◌, length, map,
 ghost use Rattle.std.specs.Str.{bytes_eq};
 ghost use Rattle.std.specs.List.{All, find, flat_map};
 ghost use Rattle.std.specs.List.Sorted.{IsPermutation, IsNonDecreasingBy};
-ghost use Rattle.qp_names.specs.Pairs.{Corresponds};
+ghost use Rattle.qp_chart_names.specs.Pairs.{Corresponds};
 ghost use Rattle.qp_system.specs.SystemOf.{first_value, IsObjectOf};
 ghost use Rattle.qp_model.specs.Sound.{timer_of, timers_of};
 ghost use Rattle.qp_system.specs.Placed.{chart_place, HasChart, IsWithin};
 
 use qp_chart::{Chart, Name, RawChart, Timer};
-use qp_document::{RawObject, RawObjects};
+use qp_system_tables::{RawObject, RawObjects};
 use qp_model::{ObjectDef, ObjectDefs, TimerDef, TimerDefs, Values};
 use std::alloc::{AllocError, Global};
 

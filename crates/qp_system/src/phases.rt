@@ -2,8 +2,8 @@
 
 ghost use Rattle.std.specs.Prelude.{◌≤◌, length, All, IfOk};
 ghost use Rattle.qp_chart.specs.ChartOf.{IsChartOf};
-ghost use Rattle.qp_names.specs.Pairs.{Corresponds};
-ghost use Rattle.qp_document.specs.Few.{IsFewChart, IsFew};
+ghost use Rattle.qp_chart_names.specs.Pairs.{Corresponds};
+ghost use Rattle.qp_system_tables.specs.Few.{IsFewChart, IsFew};
 ghost use Rattle.qp_system.specs.Later.{later_of, later_fault};
 ghost use Rattle.qp_system.specs.Passes.{Passes};
 ghost use Rattle.qp_system.specs.Within.{names_of};
@@ -11,7 +11,7 @@ ghost use Rattle.qp_system.specs.Within.{names_of};
 use crate::between::{pools_pass, tables_pass};
 use crate::charts::{checked_charts, outer_names};
 use qp_chart::RawChart;
-use qp_document::{RawObject, RawSystem, SystemFault};
+use qp_system_tables::{RawObject, RawSystem, SystemFault};
 use qp_model::{Charts, PoolDef, SignalDef};
 use std::alloc::Global;
 

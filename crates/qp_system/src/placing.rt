@@ -6,11 +6,11 @@ ghost use Rattle.std.specs.Option.{option_copied};
 ghost use Rattle.std.specs.Str.{bytes_eq};
 ghost use Rattle.qp_system.specs.Between.{timers_of, placing_fault, first_behind};
 ghost use Rattle.qp_system.specs.Passes.{Passes};
-ghost use Rattle.qp_document.specs.Views.{chart_view, object_view};
+ghost use Rattle.qp_system_tables.specs.Views.{chart_view, object_view};
 
 use crate::twice::member_fault;
 use qp_chart::{Name, Part, Path, RawChart, code, key};
-use qp_document::{RawObject, SystemFault};
+use qp_system_tables::{RawObject, SystemFault};
 
 /// How many time events all objects may have.
 const MOST_TIMERS: usize = 64;

@@ -3,14 +3,14 @@
 ghost use Rattle.std.specs.Prelude.{◌≡◌, ◌≤◌, ◌==◌, ◌&&◌, ◌∷◌, [], None, not, length, map};
 ghost use Rattle.std.specs.List.{list_any};
 ghost use Rattle.std.specs.Str.{bytes_eq};
-ghost use Rattle.qp_names.specs.declared.place.Part.TheVariants.{Key, Pos};
+ghost use Rattle.qp_chart_names.specs.declared.place.Part.TheVariants.{Key, Pos};
 ghost use Rattle.qp_system.specs.Between.{is_not_above, sizes_fault, first_behind, signal_fault, chart_fault, object_fault};
 ghost use Rattle.qp_system.specs.Passes.{Passes};
-ghost use Rattle.qp_document.specs.Refused.{fault_at};
-ghost use Rattle.qp_document.specs.Views.{pool_view, signal_view, chart_view, object_view};
+ghost use Rattle.qp_system_tables.specs.Refused.{fault_at};
+ghost use Rattle.qp_system_tables.specs.Views.{pool_view, signal_view, chart_view, object_view};
 
 use qp_chart::{Name, Part, Path, RawChart, code, key};
-use qp_document::{RawObject, SystemFault};
+use qp_system_tables::{RawObject, SystemFault};
 use qp_model::{PoolDef, SignalDef};
 
 /// A fault at a key of a member of a list of the file.

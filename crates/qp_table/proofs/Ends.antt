@@ -19,16 +19,16 @@ use Rattle.qp_model.specs.Lives.{life_of}
 use Rattle.qp_model.specs.Sites.{ring_of, blocks_of}
 use Rattle.qp_model.specs.WordLaw.{is_pool, is_block, is_object}
 use Rattle.qp_model.proofs.BeginningLemmas.{all_items-empty, held-first, words-first}
-use Rattle.qp_words.specs.Counting.{Each, total, many, upto}
-use Rattle.qp_words.specs.Now.{content_from}
-use Rattle.qp_words.specs.Rule.{cell_at, Fitting, Shows, is_log, is_number, Idle, is_spot, Beside, is_ref, is_serve, Served, Serves, mark_in, Holds}
-use Rattle.qp_words.specs.After.{newcomer}
-use Rattle.qp_words.specs.declared.Log.{Log}
-use Rattle.qp_words.specs.declared.Serve.{Serve}
-use Rattle.qp_words.specs.declared.Glance.{Glance}
-use Rattle.qp_words.specs.declared.View.{View}
-use Rattle.qp_words.proofs.Counting.{each-map, many-le}
-use Rattle.qp_words.proofs.Views.{total-two, SawFrom}
+use Rattle.qp_table.specs.Counting.{Each, total, many, upto}
+use Rattle.qp_table.specs.Now.{content_from}
+use Rattle.qp_table.specs.Rule.{cell_at, Fitting, Shows, is_log, is_number, Idle, is_spot, Beside, is_ref, is_serve, Served, Serves, mark_in, Holds}
+use Rattle.qp_table.specs.After.{newcomer}
+use Rattle.qp_table.specs.declared.view.Log.{Log}
+use Rattle.qp_table.specs.declared.view.Serve.{Serve}
+use Rattle.qp_table.specs.declared.view.Glance.{Glance}
+use Rattle.qp_table.specs.declared.view.View.{View}
+use Rattle.qp_table.proofs.Counting.{each-map, many-le}
+use Rattle.qp_table.proofs.Views.{total-two, SawFrom}
 use Rattle.qp_table.specs.Whole.{IsBehind, IsWhole, first_now, later_lanes}
 
 no-total : {A : Type 0} (f : A → ℕ) (xs : List A) (i : ℕ) (x : A) → get_elem? xs i ≡ some x → ((j : ℕ) (y : A) → j ≢ i → get_elem? xs j ≡ some y → f y ≡ 0) → total f xs ≡ f x

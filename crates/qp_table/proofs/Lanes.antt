@@ -9,20 +9,20 @@ use Rattle.qp_model.specs.declared.record.Rec.{Rec}
 use Rattle.qp_model.specs.declared.bodies.Entry.{Entry}
 use Rattle.qp_model.specs.declared.systems.System.{System}
 use Rattle.qp_model.specs.WordLaw.{is_object}
-use Rattle.qp_words.specs.Counting.{Each, total, many, without}
-use Rattle.qp_words.specs.Now.{Now}
-use Rattle.qp_words.specs.Rule.{Was, is_log, is_number, Logs, Idle, AllIdle, is_spot, is_spot_at, is_ref, is_fill, is_value, fills_of, gives_of, Tells, Beside, is_place, on_queue, is_serve, is_lifo, is_took, records, Served, Serves, IsKnown, AllKnown, Holds}
+use Rattle.qp_table.specs.Counting.{Each, total, many, without}
+use Rattle.qp_table.specs.Now.{Now}
+use Rattle.qp_table.specs.Rule.{Was, is_log, is_number, Logs, Idle, AllIdle, is_spot, is_spot_at, is_ref, is_fill, is_value, fills_of, gives_of, Tells, Beside, is_place, on_queue, is_serve, is_lifo, is_took, records, Served, Serves, IsKnown, AllKnown, Holds}
 use Rattle.qp_table.specs.Whole.{Unused}
-use Rattle.qp_words.specs.After.{passing, failing, nothing, onlooker, granting, granted, handing, handed, joined}
-use Rattle.qp_words.specs.declared.Log.{Log}
-use Rattle.qp_words.specs.declared.Spot.{Spot}
-use Rattle.qp_words.specs.declared.Fill.{Fill}
-use Rattle.qp_words.specs.declared.CellPlace.{CellPlace}
-use Rattle.qp_words.specs.declared.Serve.{Serve}
-use Rattle.qp_words.specs.declared.View.{View}
-use Rattle.qp_words.proofs.Counting.{each-snoc, each-map, total-set, total-at, total-snoc, total-append, many-without, cond-le}
-use Rattle.qp_words.proofs.Tokens.{b2n}
-use Rattle.qp_words.proofs.Views.{total-two, SawFrom}
+use Rattle.qp_table.specs.After.{passing, failing, nothing, onlooker, granting, granted, handing, handed, joined}
+use Rattle.qp_table.specs.declared.view.Log.{Log}
+use Rattle.qp_table.specs.declared.view.Spot.{Spot}
+use Rattle.qp_table.specs.declared.view.Fill.{Fill}
+use Rattle.qp_table.specs.declared.view.CellPlace.{CellPlace}
+use Rattle.qp_table.specs.declared.view.Serve.{Serve}
+use Rattle.qp_table.specs.declared.view.View.{View}
+use Rattle.qp_table.proofs.Counting.{each-snoc, each-map, total-set, total-at, total-snoc, total-append, many-without, cond-le}
+use Rattle.qp_table.proofs.Tokens.{b2n}
+use Rattle.qp_table.proofs.Views.{total-two, SawFrom}
 
 each-append : {A : Type 0} (P : A → Type 0) (xs ys : List A) → Each P xs → Each P ys → Each P (xs ++ ys)
 each-append P [] ys p q = q

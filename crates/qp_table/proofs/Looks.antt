@@ -17,23 +17,23 @@ use Rattle.qp_model.specs.FreeBlocks.{Pool, free_blocks}
 use Rattle.qp_model.specs.Lives.{life_of}
 use Rattle.qp_chart.specs.StateTree.{has}
 use Rattle.qp_model.proofs.LifeLemmas.{free-out}
-use Rattle.qp_words.proofs.Bounds.{refs-named}
-use Rattle.qp_words.proofs.Counting.{each-snoc}
-use Rattle.qp_blocks.proofs.Steps.{pool-of}
-use Rattle.qp_words.specs.Counting.{Each, total, many}
-use Rattle.qp_words.specs.Now.{Now, Leaves}
-use Rattle.qp_words.specs.Rule.{pool_at, block_at, queue_at, lifo_on, took_on, gives_of, is_ref, Tells, Tokens, event_in, IsKnown, Holds}
-use Rattle.qp_words.specs.After.{rec_of, ref, learned, glanced, noted, reading, read_by, read_from, HasRoom}
-use Rattle.qp_words.specs.declared.Log.{Log}
-use Rattle.qp_words.specs.declared.Give.{Give}
-use Rattle.qp_words.specs.declared.View.{View}
-use Rattle.qp_words.proofs.Records.{short-leaves, no_block-leaves, seen-leaves, nil-leaves, full-leaves, no_entry-leaves, no_lifo-leaves}
-use Rattle.qp_words.proofs.Views.{quiet-same, quiet-noted, seen-looked, seen-kept}
-use Rattle.qp_words.proofs.Tokens.{tokens-set, begun-kept, worn-kept, held-stands, standing, above-at}
-use Rattle.qp_words.proofs.Kept.{events-kept, events-same, queues-kept}
-use Rattle.qp_words.proofs.Step.{Lane, lane, leaves-here, shown-step, plain-step}
-use Rattle.qp_words.proofs.Marks.{line-shows}
-use Rattle.qp_words.proofs.Growth.{grows-none, tracks-first}
+use Rattle.qp_table.proofs.Bounds.{refs-named}
+use Rattle.qp_table.proofs.Counting.{each-snoc}
+use Rattle.qp_table.proofs.Steps.{pool-of}
+use Rattle.qp_table.specs.Counting.{Each, total, many}
+use Rattle.qp_table.specs.Now.{Now, Leaves}
+use Rattle.qp_table.specs.Rule.{pool_at, block_at, queue_at, lifo_on, took_on, gives_of, is_ref, Tells, Tokens, event_in, IsKnown, Holds}
+use Rattle.qp_table.specs.After.{rec_of, ref, learned, glanced, noted, reading, read_by, read_from, HasRoom}
+use Rattle.qp_table.specs.declared.view.Log.{Log}
+use Rattle.qp_table.specs.declared.view.Give.{Give}
+use Rattle.qp_table.specs.declared.view.View.{View}
+use Rattle.qp_table.proofs.Records.{short-leaves, no_block-leaves, seen-leaves, nil-leaves, full-leaves, no_entry-leaves, no_lifo-leaves}
+use Rattle.qp_table.proofs.Views.{quiet-same, quiet-noted, seen-looked, seen-kept}
+use Rattle.qp_table.proofs.Tokens.{tokens-set, begun-kept, worn-kept, held-stands, standing, above-at}
+use Rattle.qp_table.proofs.Kept.{events-kept, events-same, queues-kept}
+use Rattle.qp_table.proofs.Step.{Lane, lane, leaves-here, shown-step, plain-step}
+use Rattle.qp_table.proofs.Marks.{line-shows}
+use Rattle.qp_table.proofs.Growth.{grows-none, tracks-first}
 
 pub short-says : (o p n free reserve : ℕ) → item_of (rec_of 16 o (p ∷ n ∷ free ∷ reserve ∷ [])) ≡ record { of = o; body = Short p n free reserve }
 unfolding item_of body_of body_at

@@ -2,15 +2,15 @@
 use Rattle.std.proofs.Common.{◌≡◌, ℕ, ◌+◌, ◌*◌, ◌/◌, ◌%◌, ◌^◌, ◌<◌, ◌≤◌, List, [], ◌∷◌, Bool, cond, length, set, get_or, refl, sym, ap, subst, arith, mod-eq_of_lt, lt-ltb}
 use lib.Seq.{set-get_or}
 use Rattle.qp_model.specs.declared.systems.System.{System}
-use Rattle.qp_words.specs.Counting.{Each, many}
-use Rattle.qp_words.specs.Rule.{pool_at, block_at, mark_in, fills_of, is_spot, is_ref, Holds}
-use Rattle.qp_words.specs.After.{rec_of, began, doubled, dropped, put_back, glanced, Steps, HasRoom}
-use Rattle.qp_words.specs.declared.Glance.{Glance}
-use Rattle.qp_words.specs.declared.View.{View}
-use Rattle.qp_words.proofs.Counting.{each-map}
-use Rattle.qp_words.proofs.Views.{SawFrom}
-use Rattle.qp_words.proofs.Tokens.{fresh-alone, used-alone, standing, held-stands}
-use Rattle.qp_blocks.proofs.Steps.{inc-says, dec-says, back-says, begins, doubles, drops, puts_back, block-below, x-is, y-is, dec-counts}
+use Rattle.qp_table.specs.Counting.{Each, many}
+use Rattle.qp_table.specs.Rule.{pool_at, block_at, mark_in, fills_of, is_spot, is_ref, Holds}
+use Rattle.qp_table.specs.After.{rec_of, began, doubled, dropped, put_back, glanced, Steps, HasRoom}
+use Rattle.qp_table.specs.declared.view.Glance.{Glance}
+use Rattle.qp_table.specs.declared.view.View.{View}
+use Rattle.qp_table.proofs.Counting.{each-map}
+use Rattle.qp_table.proofs.Views.{SawFrom}
+use Rattle.qp_table.proofs.Tokens.{fresh-alone, used-alone, standing, held-stands}
+use Rattle.qp_table.proofs.Steps.{inc-says, dec-says, back-says, begins, doubles, drops, puts_back, block-below, x-is, y-is, dec-counts}
 use Rattle.qp_table.specs.Whole.{SeenBelow, Dropped, TellsAll}
 use Rattle.qp_table.proofs.Looks.{looks}
 use Rattle.qp_table.proofs.Ends.{whole}

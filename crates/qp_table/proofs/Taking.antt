@@ -10,14 +10,14 @@ use Rattle.qp_model.specs.declared.bodies.Entry.{Entry}
 use Rattle.qp_model.specs.declared.systems.System.{System}
 use Rattle.qp_model.specs.Sites.{ring_of}
 use Rattle.qp_model.specs.WordLaw.{is_object}
-use Rattle.qp_words.specs.Counting.{Each, many}
-use Rattle.qp_words.specs.Rule.{queue_at, cell_at, Served, Codable, code, is_place, on_queue, is_serve, Holds}
-use Rattle.qp_words.specs.After.{rec_of, emptied, took, HasRoom, Steps}
-use Rattle.qp_words.specs.declared.Serve.{Serve}
-use Rattle.qp_words.specs.declared.View.{View}
-use Rattle.qp_queues.proofs.Steps.{took-says, frees}
-use Rattle.qp_words.proofs.Marks.{line-shows, own-counts}
-use Rattle.qp_queues.proofs.Cells.{empties}
+use Rattle.qp_table.specs.Counting.{Each, many}
+use Rattle.qp_table.specs.Rule.{queue_at, cell_at, Served, Codable, code, is_place, on_queue, is_serve, Holds}
+use Rattle.qp_table.specs.After.{rec_of, emptied, took, HasRoom, Steps}
+use Rattle.qp_table.specs.declared.view.Serve.{Serve}
+use Rattle.qp_table.specs.declared.view.View.{View}
+use Rattle.qp_table.proofs.QueueSteps.{took-says, frees}
+use Rattle.qp_table.proofs.Marks.{line-shows, own-counts}
+use Rattle.qp_table.proofs.Cells.{empties}
 
 -- the lane's own counts of a queue that it serves
 pub record Serving (a : ℕ) (x : Serve) (v : View) : Type 0 where

@@ -10,13 +10,13 @@ use Rattle.qp_model.specs.declared.bodies.Entry.{Entry}
 use Rattle.qp_model.specs.declared.systems.System.{System}
 use Rattle.qp_model.specs.Sites.{ring_of}
 use Rattle.qp_model.specs.WordLaw.{is_object}
-use Rattle.qp_words.specs.Counting.{Each}
-use Rattle.qp_words.specs.Rule.{queue_at, mark_in, Holds}
-use Rattle.qp_words.specs.After.{rec_of, glanced, noted, claimed, InHand, HasRoom, Steps}
-use Rattle.qp_words.specs.declared.Glance.{Glance}
-use Rattle.qp_words.specs.declared.View.{View}
-use Rattle.qp_words.proofs.Views.{SawFrom}
-use Rattle.qp_queues.proofs.Steps.{post-says, claims}
+use Rattle.qp_table.specs.Counting.{Each}
+use Rattle.qp_table.specs.Rule.{queue_at, mark_in, Holds}
+use Rattle.qp_table.specs.After.{rec_of, glanced, noted, claimed, InHand, HasRoom, Steps}
+use Rattle.qp_table.specs.declared.view.Glance.{Glance}
+use Rattle.qp_table.specs.declared.view.View.{View}
+use Rattle.qp_table.proofs.Views.{SawFrom}
+use Rattle.qp_table.proofs.QueueSteps.{post-says, claims}
 use Rattle.qp_table.proofs.Looks.{looks, full-says, shows-full}
 
 -- the free entries at these counts

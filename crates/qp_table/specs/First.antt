@@ -4,9 +4,9 @@ use Rattle.qp_model.specs.declared.systems.System.{System}
 use Rattle.qp_model.specs.Sites.{blocks_of}
 use Rattle.qp_model.specs.Sound.{IsSound}
 use Rattle.qp_model.specs.WordLaw.{is_pool, is_object}
-use Rattle.qp_words.specs.Rule.{Holds}
-use Rattle.qp_words.specs.After.{newcomer}
-use Rattle.qp_words.specs.declared.Serve.{Serve}
+use Rattle.qp_table.specs.Rule.{Holds}
+use Rattle.qp_table.specs.After.{newcomer}
+use Rattle.qp_table.specs.declared.view.Serve.{Serve}
 use Rattle.qp_table.specs.Whole.{later_lanes}
 
 -- the map of n blocks, all free

@@ -7,12 +7,12 @@ use Rattle.qp_model.specs.declared.bodies.Body.TheVariants.{Short, NoBlock, Nil,
 use Rattle.qp_model.specs.declared.systems.System.{System}
 use Rattle.qp_model.specs.Record.{item_of}
 use Rattle.qp_model.specs.WordLaw.{Words, is_pool, is_block, is_object}
-use Rattle.qp_words.specs.Counting.{Each, many}
-use Rattle.qp_words.specs.Rule.{pool_at, block_at, queue_at, cell_at, Fitting, Shows, Idle, is_number, is_ref, is_serve, Holds}
-use Rattle.qp_words.specs.After.{FromAnyState, HasRoom, ref, glanced, noted, read_from, learned, nothing, onlooker, granting, granted, passing, handing, handed, joined, newcomer}
-use Rattle.qp_words.specs.declared.Serve.{Serve}
-use Rattle.qp_words.specs.declared.View.{View}
-use Rattle.qp_queues.specs.Laws.{f_in, l_in, m_in, queue_word, cells_of}
+use Rattle.qp_table.specs.Counting.{Each, many}
+use Rattle.qp_table.specs.Rule.{pool_at, block_at, queue_at, cell_at, Fitting, Shows, Idle, is_number, is_ref, is_serve, Holds}
+use Rattle.qp_table.specs.After.{FromAnyState, HasRoom, ref, glanced, noted, read_from, learned, nothing, onlooker, granting, granted, passing, handing, handed, joined, newcomer}
+use Rattle.qp_table.specs.declared.view.Serve.{Serve}
+use Rattle.qp_table.specs.declared.view.View.{View}
+use Rattle.qp_table.specs.QueueLaws.{f_in, l_in, m_in, queue_word, cells_of}
 use Rattle.qp_table.specs.Whole.{IsWhole, Unused, first_now, later_lanes}
 
 -- any view may look at a numbered word

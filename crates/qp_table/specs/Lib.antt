@@ -2,3 +2,10 @@ pub mod TwoTables
 pub mod Whole
 pub mod First
 pub mod Laws
+pub mod Counting
+pub mod Now
+pub mod Rule
+pub mod After
+pub mod WordLaws
+pub mod BlockLaws
+pub mod QueueLaws

@@ -13,16 +13,16 @@ use Rattle.qp_model.specs.FreeBlocks.{free_blocks}
 use Rattle.qp_model.specs.References.{references}
 use Rattle.qp_model.specs.Line.{line}
 use Rattle.qp_model.specs.Sites.{ring_of, blocks_of}
-use Rattle.qp_words.specs.Counting.{Each, many}
-use Rattle.qp_words.specs.Now.{Now, Leaves}
-use Rattle.qp_words.specs.Rule.{is_log, is_number, is_spot, is_ref, free_bit, lives, in_lines, on_queue, mark_in, pool_at, block_at, queue_at, pool_value, refs_value, line_value, Was, IsKnown, Shows, HasEvent}
+use Rattle.qp_table.specs.Counting.{Each, many}
+use Rattle.qp_table.specs.Now.{Now, Leaves}
+use Rattle.qp_table.specs.Rule.{is_log, is_number, is_spot, is_ref, free_bit, lives, in_lines, on_queue, mark_in, pool_at, block_at, queue_at, pool_value, refs_value, line_value, Was, IsKnown, Shows, HasEvent}
 use Rattle.qp_model.specs.Lists.{count_up}
-use Rattle.qp_words.specs.declared.Log.{Log}
-use Rattle.qp_words.specs.declared.CellPlace.{CellPlace}
-use Rattle.qp_words.specs.declared.Serve.{Serve}
-use Rattle.qp_words.specs.declared.Glance.{Glance}
-use Rattle.qp_words.specs.declared.View.{View}
-use Rattle.qp_words.specs.After.{rec_of, dropped, glanced}
+use Rattle.qp_table.specs.declared.view.Log.{Log}
+use Rattle.qp_table.specs.declared.view.CellPlace.{CellPlace}
+use Rattle.qp_table.specs.declared.view.Serve.{Serve}
+use Rattle.qp_table.specs.declared.view.Glance.{Glance}
+use Rattle.qp_table.specs.declared.view.View.{View}
+use Rattle.qp_table.specs.After.{rec_of, dropped, glanced}
 
 -- a glance lies behind what the word shows, or is it
 abbrev pub IsBehind : List ℕ → Glance → Type 0

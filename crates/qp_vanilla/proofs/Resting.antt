@@ -4,21 +4,21 @@ use Rattle.qp_model.specs.declared.systems.System.{System}
 use Rattle.qp_model.specs.Kernels.{sim, qk, qv}
 use Rattle.qp_model.specs.KernelLane.{Reading, Resting, Again, base_ended, looking_at}
 use Rattle.qp_model.specs.Sound.{IsSound}
-use Rattle.qp_orders.specs.RunOrder.{has_stim}
+use Rattle.qp_model_order.specs.RunOrder.{has_stim}
 use Rattle.qp_calls.specs.LaneView.{LaneView}
 use Rattle.qp_kernel.specs.Happenings.{lanes_of}
 use Rattle.qp_kernel.specs.LaneZero.{row_of, setting}
 use Rattle.qp_kernel.specs.Turning.{IsLookPlace, KernelState, Stands, Terms, kernel_in, rest_told}
 use Rattle.qp_kernel.proofs.KernelLaws.{rest_is_added}
 use Rattle.qp_kernel.proofs.RowLemmas.{looking-rests, resting-again, resting-over}
-use Rattle.qp_turns.specs.declared.objects.Objects.{Objects}
-use Rattle.qp_turns.specs.Knowing.{HandsCover, HasStack, IsScanning, Knows, KnowsAt, MayLook}
-use Rattle.qp_turns.specs.Turning.{IsOver}
-use Rattle.qp_turns.proofs.Looking.{GoesFor, lane-on, stack-on}
-use Rattle.qp_turns.proofs.Rounds.{base-is}
-use Rattle.qp_turns.proofs.Rows.{SameButPlace, ended-agrees, ended-same}
-use Rattle.qp_turns.proofs.SoundObjects.{numbered}
-use Rattle.qp_turns.proofs.Staying.{all-still, all-wait}
+use Rattle.qp_kernel_turns.specs.declared.objects.Objects.{Objects}
+use Rattle.qp_kernel_turns.specs.Knowing.{HandsCover, HasStack, IsScanning, Knows, KnowsAt, MayLook}
+use Rattle.qp_kernel_turns.specs.Turning.{IsOver}
+use Rattle.qp_kernel_turns.proofs.Looking.{GoesFor, lane-on, stack-on}
+use Rattle.qp_kernel_turns.proofs.Rounds.{base-is}
+use Rattle.qp_kernel_turns.proofs.Rows.{SameButPlace, ended-agrees, ended-same}
+use Rattle.qp_kernel_turns.proofs.SoundObjects.{numbered}
+use Rattle.qp_kernel_turns.proofs.Staying.{all-still, all-wait}
 
 module _ (sys : System) (sound : IsSound sys) (terms : Terms) (single : terms.threaded ≡ false) (cooperative : terms.cooperative ≡ true) (looks : ℕ) (stack : List ℕ) (xs : Objects) (v w : LaneView)
     (k : KnowsAt (IsScanning sys terms []) sys terms looks stack xs v) (base : stack ≡ []) (lanes : lanes_of w ≡ lanes_of v) (goes : GoesFor (rest_told looks ∷ []) v w) where

@@ -8,8 +8,8 @@ use Rattle.qp_model.specs.declared.words.Word.TheVariants as word
 use Rattle.qp_model.specs.Record.{item_of}
 use Rattle.qp_model.specs.Sound.{IsSound}
 use Rattle.qp_model.specs.Told.{plain}
-use Rattle.qp_orders.specs.RunOrder.{placed}
-use Rattle.qp_orders.specs.SourceRun.{untold}
+use Rattle.qp_model_order.specs.RunOrder.{placed}
+use Rattle.qp_model_order.specs.SourceRun.{untold}
 use Rattle.qp_calls.specs.LaneView.{GrowsOf, LaneView, Roomier, ceiling_in, mark_after, mark_by, own_after, Own}
 use Rattle.qp_calls.specs.Notes.{spills_in, told_note}
 use Rattle.qp_calls.specs.Tokens.{hands_after, hands_by}
@@ -19,15 +19,15 @@ use Rattle.qp_dispatch.proofs.Quiet.{spills-append}
 use Rattle.qp_kernel.specs.Happenings.{lanes_of}
 use Rattle.qp_kernel.specs.Turning.{Terms, rest_told}
 use Rattle.qp_kernel.proofs.HappeningLemmas.{IsIdleRecord}
-use Rattle.qp_turns.specs.Knowing.{IsScanning}
-use Rattle.qp_turns.specs.Ordering.{AreSeenEmpty, InOrder, PassedInOrder}
-use Rattle.qp_turns.specs.Turning.{Stand, Stood}
-use Rattle.qp_turns.proofs.Halted.{same-lanes}
-use Rattle.qp_turns.proofs.Looking.{GoesFor}
-use Rattle.qp_turns.proofs.Ordered.{grows-in_order, none-still, still-empty}
-use Rattle.qp_turns.proofs.Pending.{stays-by}
-use Rattle.qp_turns.proofs.Places.{follow-none}
-use Rattle.qp_turns.proofs.Turns.{noted}
+use Rattle.qp_kernel_turns.specs.Knowing.{IsScanning}
+use Rattle.qp_kernel_turns.specs.Ordering.{AreSeenEmpty, InOrder, PassedInOrder}
+use Rattle.qp_kernel_turns.specs.Turning.{Stand, Stood}
+use Rattle.qp_kernel_turns.proofs.Halted.{same-lanes}
+use Rattle.qp_kernel_turns.proofs.Looking.{GoesFor}
+use Rattle.qp_kernel_turns.proofs.Ordered.{grows-in_order, none-still, still-empty}
+use Rattle.qp_kernel_turns.proofs.Pending.{stays-by}
+use Rattle.qp_kernel_turns.proofs.Places.{follow-none}
+use Rattle.qp_kernel_turns.proofs.Turns.{noted}
 use Rattle.qp_vanilla.specs.Resting.{Rested}
 use Rattle.qp_vanilla.proofs.Resting.{goes-again, goes-over}
 

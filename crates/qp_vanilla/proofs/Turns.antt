@@ -10,12 +10,12 @@ use Rattle.qp_model.specs.KernelLane.{above}
 use Rattle.qp_model.specs.Sound.{IsSound, IsSoundObject}
 use Rattle.qp_calls.specs.LaneView.{LaneView}
 use Rattle.qp_kernel.specs.Turning.{Terms}
-use Rattle.qp_turns.specs.declared.objects.Objects.{Objects}
-use Rattle.qp_turns.specs.Knowing.{IsScanning, MayLook}
-use Rattle.qp_turns.specs.Ordering.{AreSeenEmpty, IdlesInOrder, LookedInOrder, NoneActs, PassedInOrder}
-use Rattle.qp_turns.specs.Turning.{GoesOnward, Idled, Looked, Passed, RunsTop, Stand, Stood, floor_of}
-use Rattle.qp_turns.proofs.Rounds.{base-floor, came-is, idled-by, onward-all, onward-then, round-empties, runs-on}
-use Rattle.qp_turns.proofs.Tops.{empty-is, floor-within, some-last}
+use Rattle.qp_kernel_turns.specs.declared.objects.Objects.{Objects}
+use Rattle.qp_kernel_turns.specs.Knowing.{IsScanning, MayLook}
+use Rattle.qp_kernel_turns.specs.Ordering.{AreSeenEmpty, IdlesInOrder, LookedInOrder, NoneActs, PassedInOrder}
+use Rattle.qp_kernel_turns.specs.Turning.{GoesOnward, Idled, Looked, Passed, RunsTop, Stand, Stood, floor_of}
+use Rattle.qp_kernel_turns.proofs.Rounds.{base-floor, came-is, idled-by, onward-all, onward-then, round-empties, runs-on}
+use Rattle.qp_kernel_turns.proofs.Tops.{empty-is, floor-within, some-last}
 use Rattle.qp_vanilla.specs.Resting.{Rested}
 
 pub onward-look : (sys : System) (terms : Terms) (xs : Objects) (v : LaneView) (a b : Stand) → GoesOnward xs v a.objects a.lane → (came : Bool) → Looked sys terms a b came → GoesOnward xs v b.objects b.lane

@@ -2,13 +2,13 @@
 use Rattle.std.specs.Prelude.{◌≡◌, Bool, true, false, Ok, Err}
 use Rattle.std.specs.declared.result.Result.{Result}
 use Rattle.qp_model.specs.declared.systems.System.{System}
-use Rattle.qp_orders.specs.RunOrder.{has_stim}
+use Rattle.qp_model_order.specs.RunOrder.{has_stim}
 use Rattle.qp_kernel.specs.Happenings.{lanes_of}
 use Rattle.qp_kernel.specs.Turning.{Terms}
-use Rattle.qp_turns.specs.declared.halting.Halt.{Halt}
-use Rattle.qp_turns.specs.Knowing.{MayLook}
-use Rattle.qp_turns.specs.Ordering.{HaltsInOrder, PassedInOrder}
-use Rattle.qp_turns.specs.Turning.{GoesOnward, HaltsTurn, IsOver, Stand, Stood}
+use Rattle.qp_kernel_turns.specs.declared.halting.Halt.{Halt}
+use Rattle.qp_kernel_turns.specs.Knowing.{MayLook}
+use Rattle.qp_kernel_turns.specs.Ordering.{HaltsInOrder, PassedInOrder}
+use Rattle.qp_kernel_turns.specs.Turning.{GoesOnward, HaltsTurn, IsOver, Stand, Stood}
 
 -- the row goes on where a stimulus happened in its last look, and else it is over
 pub record Rested (sys : System) (terms : Terms) (a b : Stand) : Type 0 where

@@ -4,12 +4,12 @@ ghost use Rattle.std.specs.Prelude.{◌≡◌, ◌<◌, ◌≤◌, [], false, tr
 ghost use Rattle.qp_kernel.specs.Turning.{under};
 ghost use Rattle.qp_model.specs.Sound.{IsSound};
 ghost use Rattle.qp_stim.specs.Rules.{StimuliFit};
-ghost use Rattle.qp_turns.specs.AtRest.{HaltsAtRest, StopsAtRest};
-ghost use Rattle.qp_turns.specs.Counting.{AreCounted, TurnsCounted};
-ghost use Rattle.qp_turns.specs.Knowing.{IsScanning, MayLook};
-ghost use Rattle.qp_turns.specs.Lanes.{LaneTo, LaneTurns};
-ghost use Rattle.qp_turns.specs.Ordering.{AreSeenEmpty, InOrder, RoundsInOrder, TurnsInOrder};
-ghost use Rattle.qp_turns.specs.Turning.{EndsTo, Stood, TurnsTo, stand_of, terms_of};
+ghost use Rattle.qp_kernel_turns.specs.AtRest.{HaltsAtRest, StopsAtRest};
+ghost use Rattle.qp_kernel_turns.specs.Counting.{AreCounted, TurnsCounted};
+ghost use Rattle.qp_kernel_turns.specs.Knowing.{IsScanning, MayLook};
+ghost use Rattle.qp_kernel_turns.specs.Lanes.{LaneTo, LaneTurns};
+ghost use Rattle.qp_kernel_turns.specs.Ordering.{AreSeenEmpty, InOrder, RoundsInOrder, TurnsInOrder};
+ghost use Rattle.qp_kernel_turns.specs.Turning.{EndsTo, Stood, TurnsTo, stand_of, terms_of};
 ghost use Rattle.qp_vanilla.specs.Resting.{RestsInOrder, RestsTo};
 
 use crate::vanilla::Vanilla;
@@ -17,7 +17,7 @@ use qp_base::{Gate, Steps};
 use qp_dispatch::Turn;
 use qp_kernel::{Kernel, World};
 use qp_model::{Rec, System};
-use qp_turns::{Bounds, Halt, Objects, floor, look, ready, scan, step, top};
+use qp_kernel_turns::{Bounds, Halt, Objects, floor, look, ready, scan, step, top};
 use std::marker::Brand;
 use std::sync::Wait;
 use std::sync::ledger::{Blank, Ledger};

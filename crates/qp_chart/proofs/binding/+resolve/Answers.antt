@@ -1,9 +1,9 @@
 use Rattle.std.proofs.Common.{◌∙◌, sym, ap, subst}
-use Rattle.qp_language.specs.declared.trees.Expr.{Expr}
+use Rattle.qp_chart_text.specs.declared.trees.Expr.{Expr}
 use Rattle.qp_chart.specs.declared.expression.Bound as bound
-use Rattle.qp_language.specs.Terms.{term_of}
+use Rattle.qp_chart_text.specs.Terms.{term_of}
 use Rattle.qp_chart.specs.Binding.{Binds}
-use Rattle.qp_names.specs.Known.{words, knows}
+use Rattle.qp_chart_names.specs.Known.{words, knows}
 use Rattle.qp_chart.proofs.BindingLemmas.{binds_place, no_place}
 use Rattle.qp_chart.proofs.binding.+resolve.Goals as goal
 

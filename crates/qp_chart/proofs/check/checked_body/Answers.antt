@@ -1,6 +1,6 @@
 use Rattle.std.proofs.lemmas.Result.{err_from_is_err_and}
 use Rattle.qp_chart.specs.ChartFaults.{body_fault}
-use Rattle.qp_names.proofs.FaultLemmas.{found-first, found-next, none-next, none-last, undeclared-None}
+use Rattle.qp_chart_names.proofs.FaultLemmas.{found-first, found-next, none-next, none-last, undeclared-None}
 use Rattle.qp_chart.proofs.check.checked_body.Goals as goal
 
 pub returns-in_err-init-clause-fault : goal.returns-in_err-init-clause-fault

@@ -1,11 +1,11 @@
 use Rattle.std.proofs.Common.{sym, ◌∙◌}
 use Rattle.std.proofs.lemmas.List.{take_all}
 use Rattle.std.proofs.lemmas.Result.{err_from_is_err_and}
-use Rattle.qp_names.specs.declared.raw.RawState.{RawState}
+use Rattle.qp_chart_names.specs.declared.raw.RawState.{RawState}
 use Rattle.qp_chart.specs.ChartFaults.{parent_at}
 use Rattle.qp_chart.specs.Parents.{parent_number}
-use Rattle.qp_names.specs.RawNumbers.{state_number}
-use Rattle.qp_names.proofs.FaultLemmas.{passed-none, passed-one, passed-all, found-at, undeclared_key-None, Refers-is, map-more}
+use Rattle.qp_chart_names.specs.RawNumbers.{state_number}
+use Rattle.qp_chart_names.proofs.FaultLemmas.{passed-none, passed-one, passed-all, found-at, undeclared_key-None, Refers-is, map-more}
 use Rattle.qp_chart.proofs.check.checked_parents.Goals as goal
 
 pub loop-i-init : goal.loop-i-init

@@ -1,8 +1,8 @@
 use Rattle.std.proofs.Common.{◌≡◌, take, map}
-use Rattle.qp_names.specs.declared.raw.RawState.{RawState}
+use Rattle.qp_chart_names.specs.declared.raw.RawState.{RawState}
 use Rattle.qp_chart.specs.ChartFaults.{parent_at}
 use Rattle.qp_chart.specs.Parents.{parent_number}
-use Rattle.qp_names.proofs.FaultLemmas.{Passed}
+use Rattle.qp_chart_names.proofs.FaultLemmas.{Passed}
 use Rattle.qp_chart.proofs.check.checked_parents.Given as goal
 
 abbrev pub invariant-loop-i : goal.invariant-loop-i

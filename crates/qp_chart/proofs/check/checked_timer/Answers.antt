@@ -1,7 +1,7 @@
 use Rattle.std.proofs.Common.{not, ap, refl}
 use Rattle.std.proofs.lemmas.Result.{err_from_is_err_and}
 use Rattle.qp_chart.specs.ChartFaults.{timer_fault}
-use Rattle.qp_names.proofs.FaultLemmas.{found-first, found-next, none-next, none-last, undeclared-None, fault_if-true, fault_if-false}
+use Rattle.qp_chart_names.proofs.FaultLemmas.{found-first, found-next, none-next, none-last, undeclared-None, fault_if-true, fault_if-false}
 use Rattle.qp_chart.proofs.check.checked_timer.Goals as goal
 
 pub returns-in_err-signal-clause-fault : goal.returns-in_err-signal-clause-fault

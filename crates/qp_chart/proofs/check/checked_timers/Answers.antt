@@ -2,7 +2,7 @@ use Rattle.std.proofs.lemmas.List.{take_all}
 use Rattle.std.proofs.lemmas.Result.{err_from_is_err_and}
 use Rattle.qp_chart.specs.ChartFaults.{timer_fault}
 use Rattle.qp_chart.specs.ChartOf.{IsTimerOf}
-use Rattle.qp_names.proofs.FaultLemmas.{passed-none, passed-one, passed-all, found-at, Corresponds-none, Corresponds-more}
+use Rattle.qp_chart_names.proofs.FaultLemmas.{passed-none, passed-one, passed-all, found-at, Corresponds-none, Corresponds-more}
 use Rattle.qp_chart.proofs.check.checked_timers.Goals as goal
 
 pub loop-i-init : goal.loop-i-init

@@ -1,8 +1,8 @@
 use Rattle.std.proofs.Common.{take}
 use Rattle.qp_chart.specs.ChartFaults.{timer_fault}
-use Rattle.qp_names.specs.Pairs.{Corresponds}
+use Rattle.qp_chart_names.specs.Pairs.{Corresponds}
 use Rattle.qp_chart.specs.ChartOf.{IsTimerOf}
-use Rattle.qp_names.proofs.FaultLemmas.{Passed}
+use Rattle.qp_chart_names.proofs.FaultLemmas.{Passed}
 use Rattle.qp_chart.proofs.check.checked_timers.Given as goal
 
 abbrev pub invariant-loop-i : goal.invariant-loop-i

@@ -2,7 +2,7 @@ use Rattle.std.proofs.Common.{◌≡◌, ◌+◌, ◌<◌, false, Some, None, le
 use Rattle.std.proofs.lemmas.Bool.Decides.{nat_tests}
 use Rattle.qp_chart.specs.Parents.{depth_at, is_deep, up_in}
 use Rattle.qp_chart.proofs.ParentsLemmas.{get_or-itself}
-use Rattle.qp_names.proofs.FaultLemmas.{passed-one, passed-all, found-at, fault_if-true, fault_if-false}
+use Rattle.qp_chart_names.proofs.FaultLemmas.{passed-one, passed-all, found-at, fault_if-true, fault_if-false}
 use Rattle.qp_chart.proofs.parents.check_depth.Goals as goal
 
 pub returns-then-depth-gt-DEPTH-clause-fault : goal.returns-then-depth-gt-DEPTH-clause-fault

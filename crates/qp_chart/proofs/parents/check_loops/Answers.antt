@@ -1,7 +1,7 @@
 use Rattle.std.proofs.Common.{◌≡◌, ◌+◌, true, false, None, get_or, sym, ◌∙◌}
 use Rattle.qp_chart.specs.Parents.{loop_at, is_looped}
 use Rattle.qp_chart.proofs.ParentsLemmas.{get_or-itself}
-use Rattle.qp_names.proofs.FaultLemmas.{passed-one, passed-all, found-at, fault_if-true, fault_if-false}
+use Rattle.qp_chart_names.proofs.FaultLemmas.{passed-one, passed-all, found-at, fault_if-true, fault_if-false}
 use Rattle.qp_chart.proofs.parents.check_loops.Goals as goal
 
 pub returns-then-stands_above-clause-fault : goal.returns-then-stands_above-clause-fault

@@ -1,5 +1,5 @@
 use Rattle.qp_chart.specs.Parents.{loop_at}
-use Rattle.qp_names.proofs.FaultLemmas.{Passed}
+use Rattle.qp_chart_names.proofs.FaultLemmas.{Passed}
 use Rattle.qp_chart.proofs.parents.check_loops.Given as goal
 
 abbrev pub invariant-loop-i : goal.invariant-loop-i

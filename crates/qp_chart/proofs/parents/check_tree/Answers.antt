@@ -1,6 +1,6 @@
 use Rattle.std.proofs.lemmas.Result.{err_from_is_err_and, IfOk-weaker}
 use Rattle.qp_chart.specs.Parents.{tree_fault}
-use Rattle.qp_names.proofs.FaultLemmas.{found-first, found-next, none-next, none-last, IfErr-weaker}
+use Rattle.qp_chart_names.proofs.FaultLemmas.{found-first, found-next, none-next, none-last, IfErr-weaker}
 use Rattle.qp_chart.proofs.parents.check_tree.Goals as goal
 
 pub returns-in_err-check_loops-clause-fault : goal.returns-in_err-check_loops-clause-fault

@@ -1,6 +1,6 @@
-use Rattle.qp_language.specs.Terms.{term_of}
+use Rattle.qp_chart_text.specs.Terms.{term_of}
 use Rattle.qp_chart.specs.ActionOf.{IsBoundOf}
-use Rattle.qp_names.proofs.FaultLemmas.{Corresponds-none, Corresponds-map}
+use Rattle.qp_chart_names.proofs.FaultLemmas.{Corresponds-none, Corresponds-map}
 use Rattle.qp_chart.proofs.resolve.bounds.Goals as goal
 
 pub loop-e-init : goal.loop-e-init

@@ -1,6 +1,6 @@
 use Rattle.std.proofs.Common.{map, take}
-use Rattle.qp_language.specs.Terms.{term_of}
-use Rattle.qp_names.specs.Pairs.{Corresponds}
+use Rattle.qp_chart_text.specs.Terms.{term_of}
+use Rattle.qp_chart_names.specs.Pairs.{Corresponds}
 use Rattle.qp_chart.specs.ActionOf.{IsBoundOf}
 use Rattle.qp_chart.proofs.resolve.bounds.Given as goal
 

@@ -1,6 +1,6 @@
-use Rattle.qp_language.specs.Terms.{event_of}
+use Rattle.qp_chart_text.specs.Terms.{event_of}
 use Rattle.std.proofs.lemmas.Bool.{and_parts}
-use Rattle.qp_names.proofs.TestLemmas.{All-sound}
+use Rattle.qp_chart_names.proofs.TestLemmas.{All-sound}
 use Rattle.qp_chart.proofs.resolve.event.Goals as goal
 
 pub declared_signal-signal-requires : goal.declared_signal-signal-requires

@@ -1,7 +1,7 @@
-use Rattle.qp_language.specs.Terms.{command_of}
-use Rattle.qp_names.specs.ActionFaults.{command_known, command_in_range, command_fits}
+use Rattle.qp_chart_text.specs.Terms.{command_of}
+use Rattle.qp_chart_names.specs.ActionFaults.{command_known, command_in_range, command_fits}
 use Rattle.std.proofs.lemmas.Bool.{and_parts}
-use Rattle.qp_names.proofs.TestLemmas.{All-allowed}
+use Rattle.qp_chart_names.proofs.TestLemmas.{All-allowed}
 use Rattle.qp_chart.proofs.resolve.resolved.Goals as goal
 
 pub resolved_plains-requires : goal.resolved_plains-requires

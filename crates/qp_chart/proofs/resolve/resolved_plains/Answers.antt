@@ -1,7 +1,7 @@
-use Rattle.qp_language.specs.Terms.{order_of}
-use Rattle.qp_names.specs.ActionFaults.{params_in}
+use Rattle.qp_chart_text.specs.Terms.{order_of}
+use Rattle.qp_chart_names.specs.ActionFaults.{params_in}
 use Rattle.qp_chart.specs.ActionOf.{IsPlainOf}
-use Rattle.qp_names.proofs.FaultLemmas.{Corresponds-none, Corresponds-map}
+use Rattle.qp_chart_names.proofs.FaultLemmas.{Corresponds-none, Corresponds-map}
 use Rattle.qp_chart.proofs.resolve.resolved_plains.Goals as goal
 
 pub loop-plain-init : goal.loop-plain-init

@@ -1,7 +1,7 @@
 use Rattle.std.proofs.Common.{map, take}
-use Rattle.qp_language.specs.Terms.{order_of}
-use Rattle.qp_names.specs.Pairs.{Corresponds}
-use Rattle.qp_names.specs.ActionFaults.{params_in}
+use Rattle.qp_chart_text.specs.Terms.{order_of}
+use Rattle.qp_chart_names.specs.Pairs.{Corresponds}
+use Rattle.qp_chart_names.specs.ActionFaults.{params_in}
 use Rattle.qp_chart.specs.ActionOf.{IsPlainOf}
 use Rattle.qp_chart.proofs.resolve.resolved_plains.Given as goal
 

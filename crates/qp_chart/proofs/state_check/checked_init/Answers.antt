@@ -2,8 +2,8 @@ use Rattle.std.proofs.Common.{◌≡◌, true, false, sym, refl}
 use Rattle.std.proofs.lemmas.Result.{err_from_is_err_and}
 use Rattle.qp_chart.specs.ChartFaults.{init_fault, is_astray}
 use Rattle.qp_chart.specs.Parents.{is_below_in, parents_of}
-use Rattle.qp_names.specs.RawNumbers.{state_number}
-use Rattle.qp_names.proofs.FaultLemmas.{found-first, found-next, none-next, none-last, undeclared-None, fault_if-true, fault_if-false}
+use Rattle.qp_chart_names.specs.RawNumbers.{state_number}
+use Rattle.qp_chart_names.proofs.FaultLemmas.{found-first, found-next, none-next, none-last, undeclared-None, fault_if-true, fault_if-false}
 use Rattle.qp_chart.proofs.state_check.checked_init.Goals as goal
 
 pub returns-in_default-clause-ok : goal.returns-in_default-clause-ok

@@ -1,7 +1,7 @@
 use Rattle.std.proofs.Common.{append-nil}
 use Rattle.std.proofs.lemmas.Result.{err_from_is_err_and}
 use Rattle.qp_chart.specs.ChartFaults.{row_fault}
-use Rattle.qp_names.proofs.FaultLemmas.{found-first, found-next, none-next, none-last, undeclared-None, undeclared_key-None, fault_if-false, fault_if-true}
+use Rattle.qp_chart_names.proofs.FaultLemmas.{found-first, found-next, none-next, none-last, undeclared-None, undeclared_key-None, fault_if-false, fault_if-true}
 use Rattle.qp_chart.proofs.state_check.checked_row.Goals as goal
 
 pub returns-in_err-on-clause-fault : goal.returns-in_err-on-clause-fault

@@ -1,12 +1,12 @@
 use Rattle.std.proofs.Common.{◌≡◌, ◌+◌, ◌-◌, List, ℕ, take, ap, ◌∙◌, arith}
 use Rattle.std.proofs.lemmas.List.{take_all}
 use Rattle.std.proofs.lemmas.Result.{err_from_is_err_and}
-use Rattle.qp_names.specs.declared.raw.RawRow.{RawRow}
-use Rattle.qp_names.specs.declared.raw.RawChart.{RawChart}
-use Rattle.qp_names.specs.declared.raw.Names.{Names}
+use Rattle.qp_chart_names.specs.declared.raw.RawRow.{RawRow}
+use Rattle.qp_chart_names.specs.declared.raw.RawChart.{RawChart}
+use Rattle.qp_chart_names.specs.declared.raw.Names.{Names}
 use Rattle.qp_chart.specs.ChartFaults.{row_fault, row_at, rows_fault, row_place}
 use Rattle.qp_chart.specs.ChartOf.{IsRowOf}
-use Rattle.qp_names.proofs.FaultLemmas.{passed-none, passed-one, passed-all, found-at, Corresponds-none, Corresponds-more}
+use Rattle.qp_chart_names.proofs.FaultLemmas.{passed-none, passed-one, passed-all, found-at, Corresponds-none, Corresponds-more}
 use Rattle.qp_chart.proofs.state_check.checked_rows.Goals as goal
 
 row_at-is : (names : Names) (chart : RawChart) (k : ℕ) (rows : List RawRow) (i : ℕ) (row : RawRow) → row_at names chart k rows (i + 1) row ≡ row_fault names chart (row_place k (i + 1)) (take i rows) row

@@ -1,7 +1,7 @@
 use Rattle.std.proofs.Common.{refl}
 use Rattle.std.proofs.lemmas.Result.{err_from_is_err_and}
 use Rattle.qp_chart.specs.ChartFaults.{state_fault}
-use Rattle.qp_names.proofs.FaultLemmas.{found-first, found-next, none-next, none-last}
+use Rattle.qp_chart_names.proofs.FaultLemmas.{found-first, found-next, none-next, none-last}
 use Rattle.qp_chart.proofs.state_check.checked_state.Goals as goal
 
 pub returns-in_err-entry-clause-fault : goal.returns-in_err-entry-clause-fault

@@ -1,8 +1,8 @@
 use Rattle.std.proofs.Common.{take}
 use Rattle.qp_chart.specs.ChartFaults.{state_fault}
-use Rattle.qp_names.specs.Pairs.{Corresponds}
+use Rattle.qp_chart_names.specs.Pairs.{Corresponds}
 use Rattle.qp_chart.specs.ChartOf.{IsStateOf}
-use Rattle.qp_names.proofs.FaultLemmas.{Passed}
+use Rattle.qp_chart_names.proofs.FaultLemmas.{Passed}
 use Rattle.qp_chart.proofs.state_check.checked_states.Given as goal
 
 abbrev pub invariant-loop-i : goal.invariant-loop-i

@@ -1,7 +1,7 @@
 use Rattle.std.proofs.Common.{not, ap, sym}
 use Rattle.std.proofs.lemmas.Result.{IfOk-weaker}
-use Rattle.qp_names.specs.ActionFaults.{action_fault}
-use Rattle.qp_names.proofs.FaultLemmas.{found-first, found-next, none-next, none-last, fault_if-true, fault_if-false}
+use Rattle.qp_chart_names.specs.ActionFaults.{action_fault}
+use Rattle.qp_chart_names.proofs.FaultLemmas.{found-first, found-next, none-next, none-last, fault_if-true, fault_if-false}
 use Rattle.qp_chart.proofs.statements.act_of.Goals as goal
 
 pub returns-then-not-is_known-clause-fault : goal.returns-then-not-is_known-clause-fault

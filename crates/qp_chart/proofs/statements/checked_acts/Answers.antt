@@ -1,8 +1,8 @@
 use Rattle.std.proofs.lemmas.List.{take_all}
 use Rattle.std.proofs.lemmas.Result.{err_from_is_err_and}
-use Rattle.qp_names.specs.ActionFaults.{text_at, texts_fault}
+use Rattle.qp_chart_names.specs.ActionFaults.{text_at, texts_fault}
 use Rattle.qp_chart.specs.ActionOf.{IsActOfText}
-use Rattle.qp_names.proofs.FaultLemmas.{passed-none, passed-one, passed-all, found-at, Corresponds-none, Corresponds-more}
+use Rattle.qp_chart_names.proofs.FaultLemmas.{passed-none, passed-one, passed-all, found-at, Corresponds-none, Corresponds-more}
 use Rattle.qp_chart.proofs.statements.checked_acts.Goals as goal
 
 pub loop-i-init : goal.loop-i-init

@@ -1,8 +1,8 @@
 use Rattle.std.proofs.Common.{take}
-use Rattle.qp_names.specs.ActionFaults.{text_at}
-use Rattle.qp_names.specs.Pairs.{Corresponds}
+use Rattle.qp_chart_names.specs.ActionFaults.{text_at}
+use Rattle.qp_chart_names.specs.Pairs.{Corresponds}
 use Rattle.qp_chart.specs.ActionOf.{IsActOfText}
-use Rattle.qp_names.proofs.FaultLemmas.{Passed}
+use Rattle.qp_chart_names.proofs.FaultLemmas.{Passed}
 use Rattle.qp_chart.proofs.statements.checked_acts.Given as goal
 
 abbrev pub invariant-loop-i : goal.invariant-loop-i

@@ -1,6 +1,6 @@
 use Rattle.std.proofs.lemmas.Result.{IfOk-weaker}
-use Rattle.qp_names.specs.ActionFaults.{guard_fault}
-use Rattle.qp_language.specs.Terms.{term_of}
+use Rattle.qp_chart_names.specs.ActionFaults.{guard_fault}
+use Rattle.qp_chart_text.specs.Terms.{term_of}
 use Rattle.qp_chart.proofs.statements.checked_expr.Goals as goal
 
 pub returns-in-Err-Bad-clause-fault : goal.returns-in-Err-Bad-clause-fault

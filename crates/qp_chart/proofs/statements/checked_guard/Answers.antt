@@ -1,6 +1,6 @@
 use Rattle.std.proofs.Common.{refl}
 use Rattle.std.proofs.lemmas.Result.{err_from_is_err_and}
-use Rattle.qp_names.specs.ActionFaults.{when_fault}
+use Rattle.qp_chart_names.specs.ActionFaults.{when_fault}
 use Rattle.qp_chart.proofs.statements.checked_guard.Goals as goal
 
 pub returns-in_err-checked_expr-in-Some-clause-fault : goal.returns-in_err-checked_expr-in-Some-clause-fault

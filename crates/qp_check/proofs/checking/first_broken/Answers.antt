@@ -1,6 +1,6 @@
 use Rattle.std.proofs.Common.{◌∙◌, ◌++◌, ap}
 use Rattle.qp_check.specs.Judged.{end_trials, kernel_trials, lane_trials, object_trials, trials, word_trials}
-use Rattle.qp_word_rules.specs.WordRules.{first_broken, word_tries}
+use Rattle.qp_check_words.specs.WordRules.{first_broken, word_tries}
 use Rattle.qp_check.proofs.CheckLemmas.{words-found, words-keep}
 use Rattle.qp_check.proofs.FindLemmas.{finds-before, finds-behind, found, found-none}
 use Rattle.qp_check.proofs.checking.first_broken.Goals as goal

@@ -2,7 +2,7 @@ use Rattle.std.proofs.Common.{◌∙◌, ◌++◌, ◌∷◌, [], ap, sym, map, 
 use Rattle.qp_model.specs.declared.systems.ObjectDef.{ObjectDef}
 use Rattle.qp_model.specs.Home.{by_object}
 use Rattle.qp_model.specs.Lawful.{facts_of}
-use Rattle.qp_lanes.proofs.WalkLemmas.{front_grows}
+use Rattle.qp_check_lanes.proofs.WalkLemmas.{front_grows}
 use Rattle.qp_check.proofs.object_tests.all_records.Goals as goal
 
 pub loop-d-preserved : goal.loop-d-preserved

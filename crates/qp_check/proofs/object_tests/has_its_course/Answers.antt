@@ -1,5 +1,5 @@
 use Rattle.std.proofs.Common.{◌∙◌}
-use Rattle.qp_fits.specs.AsPiece.{as_cut}
+use Rattle.qp_check_calls.specs.AsPiece.{as_cut}
 use Rattle.qp_check.proofs.ObjectTestLemmas.{course-is}
 use Rattle.qp_check.proofs.object_tests.has_its_course.Goals as goal
 

@@ -3,7 +3,7 @@ use Rattle.qp_model.specs.Ends.{may_cut}
 use Rattle.qp_model.specs.History.{lane_items}
 use Rattle.qp_model.specs.Home.{lane_at}
 use Rattle.qp_model.specs.HomeLane.{is_home_lane}
-use Rattle.qp_fits.specs.AsPiece.{as_cut}
+use Rattle.qp_check_calls.specs.AsPiece.{as_cut}
 use Rattle.qp_check.proofs.ObjectTestLemmas.{shapes-broken, shapes-home}
 use Rattle.qp_check.proofs.object_tests.has_its_home.Goals as goal
 

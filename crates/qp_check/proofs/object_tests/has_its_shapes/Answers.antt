@@ -1,5 +1,5 @@
 use Rattle.std.proofs.Common.{◌∙◌}
-use Rattle.qp_fits.specs.AsPiece.{as_cut}
+use Rattle.qp_check_calls.specs.AsPiece.{as_cut}
 use Rattle.qp_check.proofs.ObjectTestLemmas.{shapes-alone}
 use Rattle.qp_check.proofs.object_tests.has_its_shapes.Goals as goal
 

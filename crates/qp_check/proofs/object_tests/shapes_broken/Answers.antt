@@ -2,7 +2,7 @@ use Rattle.std.proofs.Common.{◌∙◌, ap, sym}
 use Rattle.qp_model.specs.declared.systems.System.{System}
 use Rattle.qp_model.specs.Lawful.{ShapesHold}
 use Rattle.qp_check.proofs.FindLemmas.{from-broken, from-last, from-next}
-use Rattle.qp_shapes.proofs.GroupsDecideLemmas.{denied, decided}
+use Rattle.qp_check_shapes.proofs.GroupsDecideLemmas.{denied, decided}
 use Rattle.qp_check.proofs.object_tests.shapes_broken.Goals as goal
 
 pub returns-then-not-branch : goal.returns-then-not-branch

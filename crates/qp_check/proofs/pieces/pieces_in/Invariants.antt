@@ -2,8 +2,8 @@ use Rattle.std.proofs.Common.{◌≡◌, ◌≤◌, ◌++◌, ℕ, IsSome, drop}
 use Rattle.qp_model.specs.History.{lane_items}
 use Rattle.qp_model.specs.KernelLane.{lane_on}
 use Rattle.qp_model.specs.Points.{lane_pieces, pieces_in}
-use Rattle.qp_lane_zero.specs.LaneState.{as_reading, as_setting}
-use Rattle.qp_known.specs.Knowledge.{facts_in}
+use Rattle.qp_check_kernel.specs.LaneState.{as_reading, as_setting}
+use Rattle.qp_check_knowledge.specs.Knowledge.{facts_in}
 use Rattle.qp_check.specs.ObjectPieces.{pieces_of}
 use Rattle.qp_check.proofs.pieces.pieces_in.Given as goal
 

@@ -1,8 +1,8 @@
 use Rattle.std.proofs.Common.{◌∙◌, ◌++◌, ◌∷◌, [], ◌==◌, cond, ap, sym, append_assoc}
 use Rattle.qp_model.specs.Record.{item_of}
 use Rattle.qp_model.specs.Pieces.{Point}
-use Rattle.qp_lane_zero.specs.LaneState.{as_reading}
-use Rattle.qp_known.specs.Knowledge.{facts_in}
+use Rattle.qp_check_kernel.specs.LaneState.{as_reading}
+use Rattle.qp_check_knowledge.specs.Knowledge.{facts_in}
 use Rattle.qp_check.specs.ObjectPieces.{is_it, listed, own_piece, pieces_of, point_of}
 use Rattle.qp_check.proofs.PieceLemmas.{pieces-are}
 use Rattle.qp_check.proofs.pieces.put_record.Goals as goal

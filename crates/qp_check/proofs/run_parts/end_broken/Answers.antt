@@ -1,7 +1,7 @@
 use Rattle.std.proofs.Common.{refl, inl}
 use Rattle.qp_model.specs.Lawful.{EndHolds}
 use Rattle.qp_check.specs.Judged.{end_trials}
-use Rattle.qp_shapes.proofs.GroupsDecideLemmas.{denied, decided}
+use Rattle.qp_check_shapes.proofs.GroupsDecideLemmas.{denied, decided}
 use Rattle.qp_check.proofs.run_parts.end_broken.Goals as goal
 
 pub returns-then-branch : goal.returns-then-branch

@@ -3,7 +3,7 @@ use Rattle.qp_model.specs.History.{lane_items}
 use Rattle.qp_model.specs.Home.{lane_at}
 use Rattle.qp_model.specs.Lawful.{cut_of, facts_of, setting_of}
 use Rattle.qp_model.specs.Points.{lane_pieces}
-use Rattle.qp_fits.specs.AsPiece.{as_cut, as_piece}
+use Rattle.qp_check_calls.specs.AsPiece.{as_cut, as_piece}
 use Rattle.qp_check.proofs.run_parts.has_its_points.Goals as goal
 
 pub returns : goal.returns

@@ -1,7 +1,7 @@
 use Rattle.qp_model.specs.Lawful.{SpillsStand, one_thread}
 use Rattle.qp_model.specs.OneOrder.{IsOneOrder}
 use Rattle.qp_check.proofs.RunPartLemmas.{both-as, both-not, ordered-as}
-use Rattle.qp_shapes.proofs.GroupsDecideLemmas.{denied, decided}
+use Rattle.qp_check_shapes.proofs.GroupsDecideLemmas.{denied, decided}
 use Rattle.qp_check.proofs.run_parts.has_order.Goals as goal
 
 pub returns-then-not-branch : goal.returns-then-not-branch

@@ -3,7 +3,7 @@ use Rattle.qp_model.specs.Kernels.{port}
 use Rattle.qp_model.specs.Lawful.{KernelHolds}
 use Rattle.qp_check.specs.Judged.{kernel_trials}
 use Rattle.qp_check.proofs.RunPartLemmas.{asked, asked-fails, asked-not, no-port, other-kernel}
-use Rattle.qp_shapes.proofs.GroupsDecideLemmas.{denied, decided}
+use Rattle.qp_check_shapes.proofs.GroupsDecideLemmas.{denied, decided}
 use Rattle.qp_check.proofs.run_parts.kernel_broken.Goals as goal
 
 pub returns-then-j-eq-PORT : goal.returns-then-j-eq-PORT

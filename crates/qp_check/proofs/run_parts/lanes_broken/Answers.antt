@@ -4,7 +4,7 @@ use Rattle.qp_model.specs.Lawful.{lanes_before}
 use Rattle.qp_check.proofs.FindLemmas.{finds-before, finds-behind, finds-fails, found, found-none}
 use Rattle.qp_check.proofs.JudgedLemmas.{hold-both}
 use Rattle.qp_check.proofs.RunPartLemmas.{AreWhole}
-use Rattle.qp_shapes.proofs.GroupsDecideLemmas.{denied, decided}
+use Rattle.qp_check_shapes.proofs.GroupsDecideLemmas.{denied, decided}
 use Rattle.qp_check.proofs.run_parts.lanes_broken.Goals as goal
 
 pub returns-then-not-lane_zero_stands : goal.returns-then-not-lane_zero_stands

@@ -2,7 +2,7 @@ use Rattle.std.proofs.Common.{true}
 use Rattle.qp_check.proofs.RunPartLemmas.{order-behind, order-found}
 use Rattle.qp_model.specs.Lawful.{SpillsStand, one_thread}
 use Rattle.qp_model.specs.OneOrder.{IsOneOrder}
-use Rattle.qp_shapes.proofs.GroupsDecideLemmas.{denied, decided}
+use Rattle.qp_check_shapes.proofs.GroupsDecideLemmas.{denied, decided}
 use Rattle.qp_check.proofs.run_parts.order_holds.Goals as goal
 
 pub returns-then-branch : goal.returns-then-branch

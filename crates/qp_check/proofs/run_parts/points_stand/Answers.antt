@@ -8,7 +8,7 @@ use Rattle.qp_model.specs.Home.{lane_at}
 use Rattle.qp_model.specs.Lawful.{cut_of, facts_of, setting_of}
 use Rattle.qp_model.specs.Points.{lane_pieces}
 use Rattle.qp_check.proofs.SourceFindLemmas.{all-broken, all-first, all-last, all-next}
-use Rattle.qp_shapes.proofs.GroupsDecideLemmas.{denied, decided, decides-no, decides-yes}
+use Rattle.qp_check_shapes.proofs.GroupsDecideLemmas.{denied, decided, decides-no, decides-yes}
 use Rattle.qp_check.proofs.run_parts.points_stand.Goals as goal
 
 pub loop-d-init : goal.loop-d-init

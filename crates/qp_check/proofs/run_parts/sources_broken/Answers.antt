@@ -2,10 +2,10 @@ use Rattle.std.proofs.Common.{◌≡◌, ◌∙◌, ◌+◌, refl}
 use Rattle.qp_model.specs.History.{lane_items}
 use Rattle.qp_model.specs.Home.{lane_at}
 use Rattle.qp_model.specs.Lawful.{facts_of, lanes_before}
-use Rattle.qp_word_rules.specs.declared.verdict.Site.TheVariants as site
+use Rattle.qp_check_words.specs.declared.verdict.Site.TheVariants as site
 use Rattle.qp_model.specs.Sources.{IsSourceLane}
 use Rattle.qp_check.proofs.SourceFindLemmas.{sources-broken, sources-first, sources-last, sources-next}
-use Rattle.qp_shapes.proofs.GroupsDecideLemmas.{denied, decided}
+use Rattle.qp_check_shapes.proofs.GroupsDecideLemmas.{denied, decided}
 use Rattle.qp_check.proofs.run_parts.sources_broken.Goals as goal
 
 pub loop-i-init : goal.loop-i-init

@@ -6,7 +6,7 @@ use Rattle.qp_model.specs.History.{lane_items}
 use Rattle.qp_model.specs.Home.{lane_at}
 use Rattle.qp_model.specs.Lawful.{SpillStands, SpillsStand}
 use Rattle.qp_check.proofs.SourceFindLemmas.{spills-broken, spills-first, spills-last, spills-next}
-use Rattle.qp_shapes.proofs.GroupsDecideLemmas.{denied, decided, decides-no, decides-yes}
+use Rattle.qp_check_shapes.proofs.GroupsDecideLemmas.{denied, decided, decides-no, decides-yes}
 use Rattle.qp_check.proofs.run_parts.spills_stand.Goals as goal
 
 pub loop-i-init : goal.loop-i-init

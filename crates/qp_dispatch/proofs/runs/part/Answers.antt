@@ -1,5 +1,5 @@
 use Rattle.std.proofs.Common.{sym, ◌∙◌}
-use Rattle.qp_compiled.specs.AsTask.{as_task}
+use Rattle.qp_chart_compiled.specs.AsTask.{as_task}
 use Rattle.qp_dispatch.specs.Parts.{held_by}
 use Rattle.qp_dispatch.specs.Runs.{setting_of, tasks_in}
 use Rattle.qp_dispatch.proofs.RunLemmas.{part-task, part-under, stand-hand, stand-list, stand-under}

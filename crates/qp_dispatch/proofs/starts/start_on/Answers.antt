@@ -1,7 +1,7 @@
 use Rattle.std.proofs.Common.{None, inl, refl}
 use Rattle.qp_model.specs.Pieces.{bare}
 use Rattle.qp_model.proofs.AbleLemmas.{start-able}
-use Rattle.qp_compiled.specs.Compiled.{left_in}
+use Rattle.qp_chart_compiled.specs.Compiled.{left_in}
 use Rattle.qp_dispatch.specs.declared.work.Work.{Work}
 use Rattle.qp_dispatch.specs.Runs.{setting_of}
 use Rattle.qp_dispatch.proofs.StartLemmas.{start-asserted, start-begins, start-done, start-halted, start-moment, start-stand}

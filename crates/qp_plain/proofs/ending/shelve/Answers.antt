@@ -3,7 +3,7 @@ use Rattle.std.specs.Vec.{vec_capacity}
 use Rattle.std.specs.Vec.Iter.{into_iter_items}
 use Rattle.std.proofs.lemmas.List.{map-append, length-map}
 use Rattle.qp_model.specs.declared.record.Rec.{Rec}
-use Rattle.qp_logs.specs.declared.log.Log.{Log}
+use Rattle.qp_calls_log.specs.declared.log.Log.{Log}
 use Rattle.qp_plain.specs.Books.{recs_of}
 use Rattle.qp_plain.proofs.ending.shelve.Goals as goal
 use Rattle.qp_model.proofs.ListLemmas.{nothing-left}

@@ -1,6 +1,6 @@
 use Rattle.std.proofs.Common.{◌∷◌, [], List, length, ◌∙◌, ap, arith, length-append}
 use Rattle.std.specs.List.{list_all}
-use Rattle.qp_logs.specs.declared.log.Log.{Log}
+use Rattle.qp_calls_log.specs.declared.log.Log.{Log}
 use Rattle.qp_plain.specs.Fresh.{is_new}
 use Rattle.qp_plain.proofs.FreshLemmas.{all-more, is-new}
 use Rattle.qp_plain.proofs.tables.lanes.Goals as goal

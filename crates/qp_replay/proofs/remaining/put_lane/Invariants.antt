@@ -1,7 +1,7 @@
 use Rattle.std.proofs.Common.{◌≡◌, ℕ, ◌==◌, ◌&&◌, ◌||◌, take}
 use Rattle.qp_model.specs.declared.words.Word.{Word}
 use Rattle.qp_model.specs.Places.{touch_at}
-use Rattle.qp_lanes.specs.Keys.{key_of}
+use Rattle.qp_check_lanes.specs.Keys.{key_of}
 use Rattle.qp_replay.specs.Marks.{has_mark}
 use Rattle.qp_replay.specs.Remaining.{draws_mark, record_in, shows_mark}
 use Rattle.qp_replay.proofs.remaining.put_lane.Given as goal

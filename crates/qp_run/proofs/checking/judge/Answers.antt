@@ -1,6 +1,6 @@
 use Rattle.std.proofs.Common.{subst, inr}
 use Rattle.qp_check.specs.Judged.{IsVerdict, trials}
-use Rattle.qp_word_rules.specs.declared.verdict.Verdict.TheVariants.{Lawful, Broken}
+use Rattle.qp_check_words.specs.declared.verdict.Verdict.TheVariants.{Lawful, Broken}
 use Rattle.qp_run.proofs.AbleLemmas.{sound-judgeable}
 use Rattle.qp_run.proofs.CheckLemmas.{found-judged, lawful-text, text-said}
 use Rattle.qp_run.proofs.checking.judge.Goals as goal

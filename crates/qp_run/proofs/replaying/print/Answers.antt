@@ -1,6 +1,6 @@
 use Rattle.std.proofs.Common.{inl, inr, refl}
 use Rattle.qp_run.specs.declared.status.Status.TheVariants.{Done, WriteFault}
-use Rattle.qp_replayed.proofs.ReplayedLemmas.{replay-stands}
+use Rattle.qp_replay.proofs.ReplayedLemmas.{replay-stands}
 use Rattle.qp_run.proofs.PrintedLemmas.{memory-printed}
 use Rattle.qp_run.proofs.ReplayLemmas.{replay-written}
 use Rattle.qp_run.proofs.replaying.print.Goals as goal

@@ -1,4 +1,4 @@
-use Rattle.qp_lane_steps.specs.Told.{EyePoolTold}
+use Rattle.qp_shared_steps.specs.Told.{EyePoolTold}
 use Rattle.qp_shared_words.proofs.blocks.look_at_pool.Given as goal
 
 abbrev pub ghosts-look : goal.ghosts-look

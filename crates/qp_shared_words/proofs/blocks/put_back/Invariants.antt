@@ -1,4 +1,4 @@
-use Rattle.qp_lane_steps.specs.Told.{BackTold}
+use Rattle.qp_shared_steps.specs.Told.{BackTold}
 use Rattle.qp_shared_words.proofs.blocks.put_back.Given as goal
 
 abbrev pub ghosts-add : goal.ghosts-add

@@ -1,4 +1,4 @@
-use Rattle.qp_lane_steps.specs.Told.{FromTold}
+use Rattle.qp_shared_steps.specs.Told.{FromTold}
 use Rattle.qp_shared_words.proofs.blocks.read_beginning.Given as goal
 
 abbrev pub ghosts-look : goal.ghosts-look

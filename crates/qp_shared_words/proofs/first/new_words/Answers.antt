@@ -1,6 +1,6 @@
 use Rattle.std.proofs.Common.{[], ◌∷◌, sym, subst}
-use Rattle.qp_words.specs.Rule.{Holds}
-use Rattle.qp_words.specs.After.{newcomer}
+use Rattle.qp_table.specs.Rule.{Holds}
+use Rattle.qp_table.specs.After.{newcomer}
 use Rattle.qp_table.specs.Whole.{later_lanes}
 use Rattle.qp_table.specs.First.{first_serves}
 use Rattle.qp_table.proofs.LawLemmas.{sound_systems_start}

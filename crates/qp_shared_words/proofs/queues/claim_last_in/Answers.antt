@@ -1,8 +1,8 @@
 use Rattle.std.proofs.Common.{◌+◌, arith, sym, subst, eqb}
 use prog.Atomic.{either}
-use Rattle.qp_words.specs.After.{Steps}
-use Rattle.qp_lane_steps.specs.Told.{LastTold}
-use Rattle.qp_lane_steps.proofs.LawLemmas.{last_tries_tell}
+use Rattle.qp_table.specs.After.{Steps}
+use Rattle.qp_shared_steps.specs.Told.{LastTold}
+use Rattle.qp_shared_steps.proofs.LawLemmas.{last_tries_tell}
 use Rattle.qp_shared_words.proofs.queues.claim_last_in.Goals as goal
 
 pub exchange-requires-clause-own : goal.exchange-requires-clause-own

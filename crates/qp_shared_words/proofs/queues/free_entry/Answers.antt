@@ -1,7 +1,7 @@
 use Rattle.std.proofs.Common.{◌+◌, ◌%◌, arith, sym, subst}
-use Rattle.qp_words.specs.After.{Steps}
-use Rattle.qp_lane_steps.specs.Told.{FreeTold}
-use Rattle.qp_lane_steps.proofs.LawLemmas.{frees_tell}
+use Rattle.qp_table.specs.After.{Steps}
+use Rattle.qp_shared_steps.specs.Told.{FreeTold}
+use Rattle.qp_shared_steps.proofs.LawLemmas.{frees_tell}
 use Rattle.qp_shared_words.proofs.queues.free_entry.Goals as goal
 
 pub add-requires-clause-own : goal.add-requires-clause-own

@@ -1,4 +1,4 @@
-use Rattle.qp_lane_steps.specs.Told.{FreeTold}
+use Rattle.qp_shared_steps.specs.Told.{FreeTold}
 use Rattle.qp_shared_words.proofs.queues.free_entry.Given as goal
 
 abbrev pub ghosts-add : goal.ghosts-add

@@ -8,7 +8,7 @@ use Rattle.qp_model.specs.Knowing.{records_of}
 use Rattle.qp_model.specs.Lawful.{dispatched, facts_of}
 use Rattle.qp_model.specs.OutputSummary.{IsStateText, taken_in}
 use Rattle.qp_model.specs.Told.{Told}
-use Rattle.qp_known.specs.Knowledge.{facts_in}
+use Rattle.qp_check_knowledge.specs.Knowledge.{facts_in}
 use Rattle.qp_summary.specs.Coming.{HasCome}
 use Rattle.qp_summary.specs.declared.coming.Came.{Came}
 use Rattle.qp_summary.proofs.ComingLemmas.{records-home}

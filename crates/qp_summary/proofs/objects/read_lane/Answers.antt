@@ -4,7 +4,7 @@ use Rattle.qp_model.specs.History.{lane_items}
 use Rattle.qp_model.specs.Knowing.{ceiling_after, records_of}
 use Rattle.qp_model.specs.Record.{item_of}
 use Rattle.qp_model.specs.Told.{Told}
-use Rattle.qp_known.specs.Knowledge.{facts_in}
+use Rattle.qp_check_knowledge.specs.Knowledge.{facts_in}
 use Rattle.qp_summary.specs.Coming.{ComesTo, IsOn}
 use Rattle.qp_summary.specs.declared.coming.Came.{Came}
 use Rattle.qp_summary.proofs.ComingLemmas.{records-mine, records-other, records-end}

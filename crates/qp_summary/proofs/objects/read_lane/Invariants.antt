@@ -1,7 +1,7 @@
 use Rattle.std.proofs.Common.{◌≤◌, drop}
 use Rattle.qp_model.specs.History.{lane_items}
 use Rattle.qp_model.specs.Knowing.{records_of}
-use Rattle.qp_known.specs.Knowledge.{facts_in}
+use Rattle.qp_check_knowledge.specs.Knowledge.{facts_in}
 use Rattle.qp_summary.specs.Coming.{IsOn}
 use Rattle.qp_summary.proofs.objects.read_lane.Given as goal
 

@@ -2,8 +2,8 @@ use Rattle.std.proofs.Common.{subst, refl, Option}
 use Rattle.std.proofs.lemmas.Result.{IfOk-weaker}
 use Rattle.std.specs.Prelude.{string_bytes}
 use Rattle.qp_model.specs.Lawful.{dispatched}
-use Rattle.qp_course.specs.Standing.{StandsAt}
-use Rattle.qp_course.specs.declared.standing.Standing.{Standing}
+use Rattle.qp_check_course.specs.Standing.{StandsAt}
+use Rattle.qp_check_course.specs.declared.standing.Standing.{Standing}
 use Rattle.qp_summary.proofs.SummaryLemmas.{stands-text, away-text}
 use Rattle.qp_summary.proofs.objects.state_text.Goals as goal
 

@@ -2,8 +2,8 @@ use Rattle.std.proofs.Common.{◌≡◌, ◌+◌, ◌∙◌, sym, ap, subst, ari
 use Rattle.qp_model.specs.Ends.{is_turn_mark}
 use Rattle.qp_model.specs.OutputSummary.{is_took}
 use Rattle.qp_model.specs.Told.{Told}
-use Rattle.qp_course.specs.Reading.{ReadsOn}
-use Rattle.qp_course.specs.declared.reading.Reading.{Reading}
+use Rattle.qp_check_course.specs.Reading.{ReadsOn}
+use Rattle.qp_check_course.specs.declared.reading.Reading.{Reading}
 use Rattle.qp_summary.proofs.ComingLemmas.{on-mark, on-step, on-none, one_if}
 use Rattle.qp_summary.proofs.objects.told_next.Goals as goal
 use Rattle.qp_summary.proofs.objects.told_next.Goals.{then-is_took, else-is_took}

@@ -2,7 +2,7 @@ use Rattle.std.proofs.Common.{◌≡◌, ◌+◌, ◌<◌, ◌∙◌, ◌++◌, 
 use Rattle.std.specs.Prelude.{string_bytes}
 use Rattle.qp_model.specs.History.{all_items}
 use Rattle.qp_model.specs.OutputSummary.{pool_line, pool_lines}
-use Rattle.qp_tally.specs.Counting.{AreBlocks}
+use Rattle.qp_summary.specs.Counting.{AreBlocks}
 use Rattle.qp_summary.proofs.SummaryLemmas.{pools-next}
 use Rattle.qp_summary.proofs.pools.pool_lines.Goals as goal
 

@@ -1,18 +1,18 @@
 use Rattle.std.proofs.Common.{◌≡◌, ◌∙◌, ◌+◌, ◌&&◌, not, nat_le, sym, ap, refl, map, ◌∷◌, [], List, ℕ}
 use Rattle.std.specs.declared.option.Option.{Option}
 use Rattle.std.specs.List.{list_any}
-use Rattle.qp_names.specs.declared.place.Part.{Part}
-use Rattle.qp_names.specs.declared.place.Part.TheVariants.{Key, Pos}
-use Rattle.qp_names.specs.Keys.{SIGNAL}
-use Rattle.qp_names.specs.Codes.{NO_POOL}
-use Rattle.qp_names.specs.Faults.{Fault, fault, fault_if}
+use Rattle.qp_chart_names.specs.declared.place.Part.{Part}
+use Rattle.qp_chart_names.specs.declared.place.Part.TheVariants.{Key, Pos}
+use Rattle.qp_chart_names.specs.Keys.{SIGNAL}
+use Rattle.qp_chart_names.specs.Codes.{NO_POOL}
+use Rattle.qp_chart_names.specs.Faults.{Fault, fault, fault_if}
 use Rattle.qp_model.specs.declared.systems.PoolDef.{PoolDef}
 use Rattle.qp_model.specs.declared.systems.SignalDef.{SignalDef}
 use Rattle.qp_model.proofs.ListLemmas.{list_any-map}
-use Rattle.qp_document.specs.Raw.{Pool, Signal}
-use Rattle.qp_document.specs.Refused.{fault_at}
+use Rattle.qp_system_tables.specs.Raw.{Pool, Signal}
+use Rattle.qp_system_tables.specs.Refused.{fault_at}
 use Rattle.qp_system.specs.Between.{is_without_pool, no_pool_fault}
-use Rattle.qp_document.specs.Views.{pool_view, signal_view}
+use Rattle.qp_system_tables.specs.Views.{pool_view, signal_view}
 use Rattle.qp_system.proofs.PassLemmas.{passed-none, passed-one, passed-at, passed-all, fault_if-holds, fault_if-fails}
 use Rattle.qp_system.proofs.between.pools_pass.Goals as goal
 

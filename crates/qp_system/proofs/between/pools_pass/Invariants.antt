@@ -1,10 +1,10 @@
 use Rattle.std.proofs.Common.{map, ◌∷◌, []}
-use Rattle.qp_names.specs.declared.place.Part.TheVariants.{Key, Pos}
-use Rattle.qp_names.specs.Keys.{SIGNAL}
-use Rattle.qp_names.specs.Codes.{NO_POOL}
-use Rattle.qp_names.specs.Faults.{fault_if}
+use Rattle.qp_chart_names.specs.declared.place.Part.TheVariants.{Key, Pos}
+use Rattle.qp_chart_names.specs.Keys.{SIGNAL}
+use Rattle.qp_chart_names.specs.Codes.{NO_POOL}
+use Rattle.qp_chart_names.specs.Faults.{fault_if}
 use Rattle.qp_system.specs.Between.{is_without_pool}
-use Rattle.qp_document.specs.Views.{pool_view, signal_view}
+use Rattle.qp_system_tables.specs.Views.{pool_view, signal_view}
 use Rattle.qp_system.proofs.PassLemmas.{Passed}
 use Rattle.qp_system.proofs.between.pools_pass.Given as goal
 

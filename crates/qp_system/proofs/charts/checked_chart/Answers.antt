@@ -1,7 +1,7 @@
 use Rattle.std.proofs.Common.{◌≡◌, ◌∙◌, List, sym, ap, arith}
 use Rattle.std.specs.Option.{option_map}
-use Rattle.qp_names.specs.declared.place.Part.{Part}
-use Rattle.qp_names.specs.Faults.{fault}
+use Rattle.qp_chart_names.specs.declared.place.Part.{Part}
+use Rattle.qp_chart_names.specs.Faults.{fault}
 use Rattle.qp_chart.specs.ChartFaults.{chart_fault}
 use Rattle.qp_system.specs.Within.{in_chart, within_chart}
 use Rattle.qp_system.proofs.ShortLemmas.{short-chart, short-found}

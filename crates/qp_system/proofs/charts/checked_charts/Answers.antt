@@ -1,9 +1,9 @@
 use Rattle.std.proofs.Common.{◌∙◌, sym, ap}
 use Rattle.std.proofs.lemmas.List.{take_all}
 use Rattle.std.proofs.lemmas.Result.{err_from_is_err_and}
-use Rattle.qp_names.specs.declared.raw.RawChart.{RawChart}
-use Rattle.qp_names.specs.Faults.{first_in}
-use Rattle.qp_names.proofs.FaultLemmas.{Corresponds-more, Corresponds-none}
+use Rattle.qp_chart_names.specs.declared.raw.RawChart.{RawChart}
+use Rattle.qp_chart_names.specs.Faults.{first_in}
+use Rattle.qp_chart_names.proofs.FaultLemmas.{Corresponds-more, Corresponds-none}
 use Rattle.qp_chart.specs.ChartOf.{IsChartOf}
 use Rattle.qp_system.specs.Within.{within_chart, charts_fault}
 use Rattle.qp_system.proofs.PassLemmas.{passed-none, passed-one, passed-at, passed-all, map-same}

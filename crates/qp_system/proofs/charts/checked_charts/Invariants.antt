@@ -1,6 +1,6 @@
 use Rattle.std.proofs.Common.{take}
 use Rattle.qp_chart.specs.ChartOf.{IsChartOf}
-use Rattle.qp_names.specs.Pairs.{Corresponds}
+use Rattle.qp_chart_names.specs.Pairs.{Corresponds}
 use Rattle.qp_system.specs.Within.{within_chart}
 use Rattle.qp_system.proofs.PassLemmas.{Passed}
 use Rattle.qp_system.proofs.charts.checked_charts.Given as goal

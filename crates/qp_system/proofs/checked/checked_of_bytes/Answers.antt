@@ -1,11 +1,11 @@
 use Rattle.std.proofs.Common.{ℕ, List, Ok, inl, inr}
 use Rattle.std.proofs.lemmas.Result.{err_from_is_err_and}
-use Rattle.qp_document.specs.declared.raw.RawSystem.{RawSystem}
+use Rattle.qp_system_tables.specs.declared.raw.RawSystem.{RawSystem}
 use Rattle.qp_system.specs.Checked.{HasLater}
-use Rattle.qp_document.specs.Document.{TreeGives}
-use Rattle.qp_document.specs.Few.{IsFew}
-use Rattle.qp_document.specs.Views.{raw_view}
-use Rattle.qp_document.proofs.FewLemmas.{raw-is_few}
+use Rattle.qp_system_tables.specs.Document.{TreeGives}
+use Rattle.qp_system_tables.specs.Few.{IsFew}
+use Rattle.qp_system_tables.specs.Views.{raw_view}
+use Rattle.qp_system_tables.proofs.FewLemmas.{raw-is_few}
 use Rattle.qp_system.proofs.checked.checked_of_bytes.Goals as goal
 
 read-is_few : (bytes : List ℕ) (raw : RawSystem) → TreeGives bytes (Ok (raw_view raw)) → IsFew raw

@@ -1,5 +1,5 @@
 use Rattle.qp_system.specs.SystemOf.{IsObjectOf}
-use Rattle.qp_names.proofs.FaultLemmas.{Corresponds-more, Corresponds-none}
+use Rattle.qp_chart_names.proofs.FaultLemmas.{Corresponds-more, Corresponds-none}
 use Rattle.qp_system.proofs.defs.object_defs.Goals as goal
 
 pub loop-raw-init : goal.loop-raw-init

@@ -1,5 +1,5 @@
 use Rattle.std.proofs.Common.{take}
-use Rattle.qp_names.specs.Pairs.{Corresponds}
+use Rattle.qp_chart_names.specs.Pairs.{Corresponds}
 use Rattle.qp_system.specs.SystemOf.{IsObjectOf}
 use Rattle.qp_system.proofs.defs.object_defs.Given as goal
 

@@ -4,7 +4,7 @@ use Rattle.std.proofs.lemmas.Result.{err_from_is_err_and}
 use Rattle.qp_system.specs.Later.{later_of}
 use Rattle.qp_system.specs.Within.{signal_name, object_name, names_of}
 use Rattle.qp_system.proofs.PassLemmas.{first-head, first-tail, readable-all}
-use Rattle.qp_names.proofs.FaultLemmas.{none-next, none-last}
+use Rattle.qp_chart_names.proofs.FaultLemmas.{none-next, none-last}
 use Rattle.qp_system.proofs.phases.charts_of_tables.Goals as goal
 
 pub checked_charts-requires-clause-readable : goal.checked_charts-requires-clause-readable

@@ -1,9 +1,9 @@
 use Rattle.std.proofs.Common.{◌≡◌, ◌∙◌, ◌+◌, sym, ap, refl, length, true, false, ◌∷◌, [], List}
 use Rattle.std.specs.Option.{option_copied}
-use Rattle.qp_names.specs.declared.place.Part.{Part}
-use Rattle.qp_names.specs.declared.place.Part.TheVariants.{Key, Pos}
-use Rattle.qp_names.specs.Faults.{fault}
-use Rattle.qp_document.specs.Refused.{fault_at}
+use Rattle.qp_chart_names.specs.declared.place.Part.{Part}
+use Rattle.qp_chart_names.specs.declared.place.Part.TheVariants.{Key, Pos}
+use Rattle.qp_chart_names.specs.Faults.{fault}
+use Rattle.qp_system_tables.specs.Refused.{fault_at}
 use Rattle.qp_system.proofs.PlacingLemmas.{all_known, no_chart, bad_vars, bad_priority, bad_threshold, bad_count, placed, timers-is}
 use Rattle.qp_system.proofs.placing.object_placed.Goals as goal
 

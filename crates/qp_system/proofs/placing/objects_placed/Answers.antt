@@ -1,7 +1,7 @@
 use Rattle.std.proofs.Common.{◌∙◌, refl, map, arith}
 use Rattle.std.proofs.lemmas.Result.{err_from_is_err_and}
 use Rattle.qp_system.specs.Between.{placing_fault, timers_of}
-use Rattle.qp_document.specs.Views.{chart_view, object_view}
+use Rattle.qp_system_tables.specs.Views.{chart_view, object_view}
 use Rattle.qp_system.proofs.PassLemmas.{clear-none, clear-one, clear-all, first-at}
 use Rattle.qp_system.proofs.PlacingLemmas.{sum-more}
 use Rattle.qp_system.proofs.placing.objects_placed.Goals as goal

@@ -1,7 +1,7 @@
 use Rattle.std.proofs.Common.{◌≡◌, ◌≤◌, map, take}
 use Rattle.std.specs.List.{sum_by}
 use Rattle.qp_system.specs.Between.{placing_fault, timers_of}
-use Rattle.qp_document.specs.Views.{chart_view, object_view}
+use Rattle.qp_system_tables.specs.Views.{chart_view, object_view}
 use Rattle.qp_system.proofs.PassLemmas.{Clear}
 use Rattle.qp_system.proofs.placing.objects_placed.Given as goal
 

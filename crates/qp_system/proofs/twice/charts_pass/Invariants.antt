@@ -1,5 +1,5 @@
 use Rattle.qp_system.specs.Between.{chart_fault}
-use Rattle.qp_document.specs.Views.{chart_view}
+use Rattle.qp_system_tables.specs.Views.{chart_view}
 use Rattle.qp_system.proofs.PassLemmas.{Clear}
 use Rattle.qp_system.proofs.twice.charts_pass.Given as goal
 

@@ -1,10 +1,10 @@
 use Rattle.std.proofs.Common.{◌≡◌, ◌∙◌, sym, ℕ, List, map}
 use Rattle.std.specs.List.{list_any}
 use Rattle.std.specs.Str.{bytes_eq}
-use Rattle.qp_document.specs.declared.raw.RawObject.{RawObject}
-use Rattle.qp_document.specs.Raw.{Object}
+use Rattle.qp_system_tables.specs.declared.raw.RawObject.{RawObject}
+use Rattle.qp_system_tables.specs.Raw.{Object}
 use Rattle.qp_system.specs.Between.{object_fault}
-use Rattle.qp_document.specs.Views.{object_view}
+use Rattle.qp_system_tables.specs.Views.{object_view}
 use Rattle.qp_system.proofs.PassLemmas.{fault_if-holds, fault_if-fails}
 use Rattle.qp_model.proofs.ListLemmas.{list_any-map}
 use Rattle.qp_system.proofs.twice.object_passes.Goals as goal

@@ -1,5 +1,5 @@
 use Rattle.qp_system.specs.Between.{object_fault}
-use Rattle.qp_document.specs.Views.{object_view}
+use Rattle.qp_system_tables.specs.Views.{object_view}
 use Rattle.qp_system.proofs.PassLemmas.{Clear}
 use Rattle.qp_system.proofs.twice.objects_pass.Given as goal
 

@@ -3,11 +3,11 @@ use Rattle.std.specs.List.{list_any}
 use Rattle.std.specs.Str.{bytes_eq}
 use Rattle.qp_model.specs.declared.systems.SignalDef.{SignalDef}
 use Rattle.qp_model.proofs.ListLemmas.{list_any-map}
-use Rattle.qp_document.specs.Raw.{Signal}
+use Rattle.qp_system_tables.specs.Raw.{Signal}
 use Rattle.qp_system.specs.Between.{signal_fault}
-use Rattle.qp_document.specs.Views.{signal_view}
+use Rattle.qp_system_tables.specs.Views.{signal_view}
 use Rattle.qp_system.proofs.PassLemmas.{fault_if-holds, fault_if-fails, first-head, first-tail}
-use Rattle.qp_names.proofs.FaultLemmas.{none-next, none-last}
+use Rattle.qp_chart_names.proofs.FaultLemmas.{none-next, none-last}
 use Rattle.qp_system.proofs.twice.signal_passes.Goals as goal
 
 named : (xs : List SignalDef) (name : List ℕ) → list_any (bytes_eq name) (map (λ (t : Signal). t.name) (map signal_view xs)) ≡ list_any (λ (x : SignalDef). bytes_eq name x.name.bytes) xs

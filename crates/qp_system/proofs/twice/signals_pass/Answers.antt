@@ -1,6 +1,6 @@
 use Rattle.std.proofs.lemmas.Result.{err_from_is_err_and}
 use Rattle.qp_system.specs.Between.{signal_fault}
-use Rattle.qp_document.specs.Views.{signal_view}
+use Rattle.qp_system_tables.specs.Views.{signal_view}
 use Rattle.qp_system.proofs.PassLemmas.{clear-none, clear-one, clear-all, first-at}
 use Rattle.qp_system.proofs.twice.signals_pass.Goals as goal
 

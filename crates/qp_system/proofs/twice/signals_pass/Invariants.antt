@@ -1,5 +1,5 @@
 use Rattle.qp_system.specs.Between.{signal_fault}
-use Rattle.qp_document.specs.Views.{signal_view}
+use Rattle.qp_system_tables.specs.Views.{signal_view}
 use Rattle.qp_system.proofs.PassLemmas.{Clear}
 use Rattle.qp_system.proofs.twice.signals_pass.Given as goal
 

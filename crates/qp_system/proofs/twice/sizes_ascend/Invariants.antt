@@ -1,6 +1,6 @@
 use Rattle.std.proofs.Common.{◌≡◌, ◌+◌, None, map, drop}
 use Rattle.qp_system.specs.Between.{sizes_fault}
-use Rattle.qp_document.specs.Views.{pool_view}
+use Rattle.qp_system_tables.specs.Views.{pool_view}
 use Rattle.qp_system.proofs.twice.sizes_ascend.Given as goal
 
 abbrev pub invariant-loop-i : goal.invariant-loop-i

@@ -4,13 +4,13 @@ use Rattle.qp_model.specs.declared.bodies.Body.TheVariants as body
 use Rattle.qp_calls.proofs.Growing.{room-then}
 use Rattle.qp_calls.proofs.Noting.{may-note}
 use Rattle.qp_kernel.specs.Turning.{rest_told}
-use Rattle.qp_turns.specs.Turning.{stand_of, terms_of}
-use Rattle.qp_turns.proofs.Halted.{halts-turn}
-use Rattle.qp_turns.proofs.Lanes.{gains-goes, halts-lane}
-use Rattle.qp_turns.proofs.Ordered.{halts-in_order}
-use Rattle.qp_turns.proofs.Resting.{rests-halted}
-use Rattle.qp_turns.proofs.Staying.{all-wait}
-use Rattle.qp_turns.proofs.Turns.{noted}
+use Rattle.qp_kernel_turns.specs.Turning.{stand_of, terms_of}
+use Rattle.qp_kernel_turns.proofs.Halted.{halts-turn}
+use Rattle.qp_kernel_turns.proofs.Lanes.{gains-goes, halts-lane}
+use Rattle.qp_kernel_turns.proofs.Ordered.{halts-in_order}
+use Rattle.qp_kernel_turns.proofs.Resting.{rests-halted}
+use Rattle.qp_kernel_turns.proofs.Staying.{all-wait}
+use Rattle.qp_kernel_turns.proofs.Turns.{noted}
 use Rattle.qp_vanilla.proofs.Rests.{rested, rested-in_order}
 use Rattle.qp_vanilla.proofs.turning.rest.Goals as goal
 

@@ -1,12 +1,12 @@
 use Rattle.std.proofs.Common.{[], Ok, arith, subst}
-use Rattle.qp_turns.specs.Counting.{BeginsFound}
+use Rattle.qp_kernel_turns.specs.Counting.{BeginsFound}
 use Rattle.std.proofs.lemmas.Result.{err_from_is_err_and}
-use Rattle.qp_turns.specs.Ordering.{VisitsInOrder}
-use Rattle.qp_turns.specs.Turning.{VisitsTo, stand_of, terms_of}
-use Rattle.qp_turns.proofs.Counting.{counted-none, counted-on, counted-then, less-looks}
-use Rattle.qp_turns.proofs.Lanes.{goes-any, goes-none, goes-then, halts-any, halts-then, looked-scanned}
-use Rattle.qp_turns.proofs.Ordered.{halts-from}
-use Rattle.qp_turns.proofs.Rounds.{entered-all, held-of, onward-all, onward-none, onward-then, round-found}
+use Rattle.qp_kernel_turns.specs.Ordering.{VisitsInOrder}
+use Rattle.qp_kernel_turns.specs.Turning.{VisitsTo, stand_of, terms_of}
+use Rattle.qp_kernel_turns.proofs.Counting.{counted-none, counted-on, counted-then, less-looks}
+use Rattle.qp_kernel_turns.proofs.Lanes.{goes-any, goes-none, goes-then, halts-any, halts-then, looked-scanned}
+use Rattle.qp_kernel_turns.proofs.Ordered.{halts-from}
+use Rattle.qp_kernel_turns.proofs.Rounds.{entered-all, held-of, onward-all, onward-none, onward-then, round-found}
 use Rattle.qp_vanilla.proofs.Turns.{all-empty, at-base, goes-within, onward-look, rests-again, rests-idle, rests-over}
 use Rattle.qp_vanilla.proofs.turning.rounds.Goals as goal
 

@@ -1,8 +1,8 @@
-use Rattle.qp_turns.specs.Knowing.{MayLook}
-use Rattle.qp_turns.specs.Counting.{AreCounted}
-use Rattle.qp_turns.specs.Lanes.{LaneGoes}
-use Rattle.qp_turns.specs.Ordering.{InOrder}
-use Rattle.qp_turns.specs.Turning.{GoesOnward, Stood, stand_of, terms_of}
+use Rattle.qp_kernel_turns.specs.Knowing.{MayLook}
+use Rattle.qp_kernel_turns.specs.Counting.{AreCounted}
+use Rattle.qp_kernel_turns.specs.Lanes.{LaneGoes}
+use Rattle.qp_kernel_turns.specs.Ordering.{InOrder}
+use Rattle.qp_kernel_turns.specs.Turning.{GoesOnward, Stood, stand_of, terms_of}
 use Rattle.qp_vanilla.proofs.turning.rounds.Given as goal
 
 -- a look may stand

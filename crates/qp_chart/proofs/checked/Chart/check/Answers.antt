@@ -1,6 +1,6 @@
 use Rattle.std.proofs.lemmas.Result.{err_from_is_err_and, IfOk-weaker, IfErr-weaker}
 use Rattle.qp_chart.specs.ChartFaults.{chart_fault}
-use Rattle.qp_names.proofs.FaultLemmas.{found-first, found-next, none-next, none-last}
+use Rattle.qp_chart_names.proofs.FaultLemmas.{found-first, found-next, none-next, none-last}
 use Rattle.qp_chart.proofs.LegalLemmas.{IsLegal-from}
 use Rattle.qp_chart.proofs.checked.Chart.check.Goals as goal
 

@@ -1,5 +1,5 @@
 use Rattle.std.proofs.Common.{refl, ap, arith}
-use Rattle.qp_logs.specs.Lane.{spill_place}
+use Rattle.qp_calls_log.specs.Lane.{spill_place}
 use Rattle.qp_plain.proofs.BookLemmas.{places-here, places-change, grown-here}
 use Rattle.qp_plain.proofs.book.Book.add_spill.Goals as goal
 

@@ -1,6 +1,6 @@
 use Rattle.std.proofs.Common.{◌≡◌, ℕ, List, get_or, slice_set, sym, ◌∙◌, ap, arith}
 use Rattle.std.proofs.lemmas.List.{length-set, set-get_or}
-use Rattle.qp_logs.specs.declared.log.Log.{Log}
+use Rattle.qp_calls_log.specs.declared.log.Log.{Log}
 use Rattle.qp_plain.specs.Books.{all_places}
 use Rattle.qp_model.proofs.ListLemmas.{slice_set-twice}
 use Rattle.qp_plain.proofs.book.Book.go.Goals as goal

@@ -1,5 +1,5 @@
 use Rattle.std.proofs.Common.{refl, ap, arith}
-use Rattle.qp_logs.specs.Lane.{spill_place}
+use Rattle.qp_calls_log.specs.Lane.{spill_place}
 use Rattle.qp_plain.proofs.BookLemmas.{places-change, lists-same}
 use Rattle.qp_plain.proofs.book.Book.hand.Goals as goal
 

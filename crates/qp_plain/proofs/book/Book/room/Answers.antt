@@ -1,8 +1,8 @@
 use Rattle.std.proofs.Common.{refl, ap, arith}
 use Rattle.qp_model.specs.History.{lane_items}
-use Rattle.qp_logs.specs.Lane.{spill_place}
+use Rattle.qp_calls_log.specs.Lane.{spill_place}
 use Rattle.qp_plain.proofs.BookLemmas.{places-change, lists-same}
-use Rattle.qp_logs.proofs.LogLemmas.{length-kinds}
+use Rattle.qp_calls_log.proofs.LogLemmas.{length-kinds}
 use Rattle.qp_plain.proofs.book.Book.room.Goals as goal
 use Rattle.qp_model.proofs.RecordLemmas.{lane-length}
 

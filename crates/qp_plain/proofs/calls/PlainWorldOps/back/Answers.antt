@@ -1,6 +1,6 @@
 use Rattle.std.proofs.Common.{◌≡◌, ℕ, ◌+◌, ◌-◌, ◌<◌, length, slice_set, sym, ◌∙◌, ap, subst, arith, IsTrue}
 use Rattle.qp_model.specs.FreeBlocks.{Pool}
-use Rattle.qp_sound.specs.View.{view_of}
+use Rattle.qp_plain_sound.specs.View.{view_of}
 use Rattle.qp_model.specs.WordLaw.{is_pool}
 use Rattle.qp_plain.specs.declared.book.Book.{Book}
 use Rattle.qp_plain.specs.declared.world.PlainWorld.{PlainWorld}
@@ -14,7 +14,7 @@ use Rattle.qp_plain.proofs.Mays.{fresh-block}
 use Rattle.qp_model.specs.declared.bodies.Body.TheVariants.{Back}
 use Rattle.qp_chart.specs.StateTree.{has}
 use Rattle.qp_model.specs.Lists.{with_number}
-use Rattle.qp_sound.proofs.Standing.{block-pool}
+use Rattle.qp_plain_sound.proofs.Standing.{block-pool}
 use Rattle.qp_plain.proofs.BlockCalls as block
 use Rattle.qp_plain.proofs.calls.PlainWorldOps.back.Goals as goal
 

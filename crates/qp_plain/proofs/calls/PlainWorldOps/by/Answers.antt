@@ -1,5 +1,5 @@
 use Rattle.std.proofs.Common.{ap}
-use Rattle.qp_sound.specs.View.{view_of}
+use Rattle.qp_plain_sound.specs.View.{view_of}
 use Rattle.qp_plain.specs.Book.{lists_of, purses_of}
 use Rattle.qp_plain.proofs.calls.PlainWorldOps.by.Goals as goal
 

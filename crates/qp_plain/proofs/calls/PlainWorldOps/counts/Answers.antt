@@ -1,7 +1,7 @@
 use Rattle.std.proofs.Common.{◌∙◌, ap, arith}
 use Rattle.qp_plain.specs.Book.{lists_of, purses_of}
 use Rattle.qp_plain.proofs.Calling.{queue-at}
-use Rattle.qp_sound.proofs.CallQueues.{counts-read}
+use Rattle.qp_plain_sound.proofs.CallQueues.{counts-read}
 use Rattle.qp_plain.proofs.QueueTable.{mine, there}
 use Rattle.qp_plain.proofs.calls.PlainWorldOps.counts.Goals as goal
 

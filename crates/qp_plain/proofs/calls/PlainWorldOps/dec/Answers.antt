@@ -1,6 +1,6 @@
 use Rattle.std.proofs.Common.{◌≡◌, ℕ, ◌<◌, true, sym, ◌∙◌, ap, subst, arith, IsTrue}
 use Rattle.qp_plain_words.specs.declared.block.BlockWord.{BlockWord}
-use Rattle.qp_sound.specs.View.{view_of}
+use Rattle.qp_plain_sound.specs.View.{view_of}
 use Rattle.qp_model.specs.WordLaw.{is_block}
 use Rattle.qp_plain.specs.declared.world.PlainWorld.{PlainWorld}
 use Rattle.qp_plain.specs.Book.{lists_of}
@@ -14,7 +14,7 @@ use Rattle.qp_calls.specs.Clauses.{LetsGo}
 use Rattle.qp_calls.specs.declared.answers.Dec.TheVariants as dec
 use Rattle.qp_calls.specs.declared.tokens.Fresh.{Fresh}
 use Rattle.qp_calls.specs.Tokens.{Held, stands}
-use Rattle.qp_sound.specs.Sound.{hands_in}
+use Rattle.qp_plain_sound.specs.Sound.{hands_in}
 use Rattle.qp_plain.proofs.BlockCalls.{refs-some}
 use Rattle.qp_plain.proofs.BlockCalls as block
 use Rattle.qp_plain.proofs.BlockTable.{put, small}

@@ -1,5 +1,5 @@
 use Rattle.std.proofs.Common.{refl, sym, ◌∙◌, ap, subst, arith}
-use Rattle.qp_sound.specs.View.{view_of}
+use Rattle.qp_plain_sound.specs.View.{view_of}
 use Rattle.qp_plain.specs.Tables.{place}
 use Rattle.qp_plain.specs.WorldView.{world_view}
 use Rattle.qp_plain.proofs.Calling.{view_with, stop-stays, block-at}

@@ -1,8 +1,8 @@
 use Rattle.std.proofs.Common.{◌≡◌, ◌≢◌, ℕ, ◌+◌, ◌-◌, ◌≤◌, length, refl, ◌∙◌, ap, arith, IsTrue}
 use Rattle.qp_model.specs.declared.words.Word.TheVariants as word
 use Rattle.qp_plain_words.specs.Queue.{Queue}
-use Rattle.qp_sound.specs.View.{view_of}
-use Rattle.qp_sound.specs.WordStates.{line_in}
+use Rattle.qp_plain_sound.specs.View.{view_of}
+use Rattle.qp_plain_sound.specs.WordStates.{line_in}
 use Rattle.qp_model.specs.WordLaw.{is_object}
 use Rattle.qp_model.specs.Sites.{ring_of}
 use Rattle.qp_plain.specs.declared.world.PlainWorld.{PlainWorld}

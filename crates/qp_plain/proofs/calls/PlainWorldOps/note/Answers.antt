@@ -1,10 +1,10 @@
 use Rattle.std.proofs.Common.{◌≡◌, Bool, true, false, sym, ◌∙◌}
-use Rattle.qp_sound.specs.View.{view_of}
+use Rattle.qp_plain_sound.specs.View.{view_of}
 use Rattle.qp_plain.proofs.Calling.{stop-stays}
 use Rattle.qp_model.specs.Record.{item_of, body_of}
 use Rattle.qp_model.specs.declared.record.Rec.{Rec}
 use Rattle.qp_model.specs.Ends.{is_spill}
-use Rattle.qp_logs.proofs.NoteLemmas.{first-spill, other-note, spare-kept, spare-less}
+use Rattle.qp_calls_log.proofs.NoteLemmas.{first-spill, other-note, spare-kept, spare-less}
 use Rattle.qp_plain.specs.WorldView.{world_view}
 use Rattle.qp_plain.proofs.NoteCalls.{here-tells, note-holds, note-grows}
 use Rattle.qp_plain.proofs.calls.PlainWorldOps.note.Goals as goal

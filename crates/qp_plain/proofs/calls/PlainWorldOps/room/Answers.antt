@@ -1,5 +1,5 @@
 use Rattle.std.proofs.Common.{◌≡◌, ◌+◌, ◌≤◌, length, refl, sym, ◌∙◌, ap, subst, arith, Ok, Err}
-use Rattle.qp_sound.specs.View.{view_of}
+use Rattle.qp_plain_sound.specs.View.{view_of}
 use Rattle.qp_plain.specs.declared.book.Book.{Book}
 use Rattle.qp_plain.specs.declared.world.PlainWorld.{PlainWorld}
 use Rattle.qp_plain.specs.Book.{lists_of, purses_of}
@@ -8,7 +8,7 @@ use Rattle.qp_plain.specs.WorldView.{world_view}
 use Rattle.qp_plain.proofs.Calling.{view_with, stop-stays, purses-same}
 use Rattle.qp_calls.specs.LaneView.{Roomier}
 use Rattle.qp_plain.specs.Book.{Keeps, IsRoomFault}
-use Rattle.qp_logs.specs.LaneLaws.{told-items}
+use Rattle.qp_calls_log.specs.LaneLaws.{told-items}
 use Rattle.qp_plain.proofs.NoteCalls.{here-tells}
 use Rattle.qp_calls.specs.declared.answers.RoomFault.{RoomFault}
 use Rattle.qp_calls.specs.declared.answers.RoomFault.TheVariants as fault

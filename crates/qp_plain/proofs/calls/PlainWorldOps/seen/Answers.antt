@@ -1,5 +1,5 @@
 use Rattle.std.proofs.Common.{refl, arith}
-use Rattle.qp_sound.specs.View.{view_of}
+use Rattle.qp_plain_sound.specs.View.{view_of}
 use Rattle.qp_plain.proofs.Calling.{stop-stays, queue-at}
 use Rattle.qp_plain.proofs.QueueCalls as queue
 use Rattle.qp_plain.proofs.QueueTable.{mine, there}

@@ -1,5 +1,5 @@
 use Rattle.std.proofs.Common.{◌≡◌, ℕ, List, ◌∷◌, refl, sym, ◌∙◌, ap, subst}
-use Rattle.qp_sound.specs.View.{view_of}
+use Rattle.qp_plain_sound.specs.View.{view_of}
 use Rattle.qp_plain.specs.declared.book.Book.{Book}
 use Rattle.qp_plain.specs.declared.world.PlainWorld.{PlainWorld}
 use Rattle.qp_plain.specs.Book.{lists_of, purses_of}
@@ -10,7 +10,7 @@ use Rattle.qp_plain.specs.Book.{Hands, logs_of}
 use Rattle.qp_plain.specs.World.{StopIs}
 use Rattle.qp_plain.proofs.NoteCalls.{here-tells}
 use Rattle.qp_plain.proofs.Stopping.{not-zero, stop-first, stop-later}
-use Rattle.qp_logs.proofs.NoteLemmas.{code-within, stop-caused}
+use Rattle.qp_calls_log.proofs.NoteLemmas.{code-within, stop-caused}
 use Rattle.qp_calls.specs.Clauses.{Stops}
 use Rattle.qp_plain.proofs.calls.PlainWorldOps.stop.Goals as goal
 

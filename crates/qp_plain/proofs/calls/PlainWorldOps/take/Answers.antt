@@ -1,6 +1,6 @@
 use Rattle.std.proofs.Common.{◌≡◌, ℕ, ◌+◌, ◌<◌, get_or, slice_set, sym, ◌∙◌, ap, subst, arith, IsTrue}
 use Rattle.qp_plain_words.specs.Queue.{Queue}
-use Rattle.qp_sound.specs.View.{view_of}
+use Rattle.qp_plain_sound.specs.View.{view_of}
 use Rattle.qp_model.specs.WordLaw.{is_object}
 use Rattle.qp_plain.specs.declared.book.Book.{Book}
 use Rattle.qp_plain.specs.declared.world.PlainWorld.{PlainWorld}
@@ -12,9 +12,9 @@ use Rattle.qp_model.specs.declared.bodies.Body.TheVariants.{Took}
 use Rattle.qp_calls.specs.LaneView.{NotShown}
 use Rattle.qp_calls.specs.Clauses.{last_nil, same_counts}
 use Rattle.qp_model.specs.History.{lane_items}
-use Rattle.qp_sound.proofs.CallQueues.{take-finds_none}
-use Rattle.qp_logs.specs.Lane.{last_nil_in}
-use Rattle.qp_logs.specs.LaneLaws.{told-nil}
+use Rattle.qp_plain_sound.proofs.CallQueues.{take-finds_none}
+use Rattle.qp_calls_log.specs.Lane.{last_nil_in}
+use Rattle.qp_calls_log.specs.LaneLaws.{told-nil}
 use Rattle.qp_plain.proofs.NoteCalls.{here-tells}
 use Rattle.qp_plain.proofs.QueueCalls as queue
 use Rattle.qp_plain.proofs.QueueTable.{there, put, kept, few, mine}

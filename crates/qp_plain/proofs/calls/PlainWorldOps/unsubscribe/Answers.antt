@@ -1,5 +1,5 @@
 use Rattle.std.proofs.Common.{true, false, refl, sym, ◌∙◌, arith}
-use Rattle.qp_sound.specs.View.{view_of}
+use Rattle.qp_plain_sound.specs.View.{view_of}
 use Rattle.qp_plain.proofs.Calling.{stop-stays, signal-at}
 use Rattle.qp_plain.proofs.SignalCalls as signal
 use Rattle.qp_plain.proofs.SignalTable.{there, put, kept, few, mine, named}

@@ -1,5 +1,5 @@
 use Rattle.std.proofs.Common.{refl, ◌∙◌, ap, subst, arith}
-use Rattle.qp_logs.specs.Lane.{is_plain}
+use Rattle.qp_calls_log.specs.Lane.{is_plain}
 use Rattle.qp_plain.specs.Repeat.{FitsTimer}
 use Rattle.qp_plain.proofs.Calling.{stop-stays, timer-at}
 use Rattle.qp_plain.proofs.Holding.{timer-in}

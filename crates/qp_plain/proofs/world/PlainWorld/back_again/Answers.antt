@@ -1,7 +1,7 @@
 use Rattle.std.proofs.Common.{refl, ◌∙◌, ap, arith}
 use Rattle.qp_chart.specs.StateTree.{has}
-use Rattle.qp_sound.proofs.Standing.{block-pool}
-use Rattle.qp_logs.specs.Lane.{is_plain}
+use Rattle.qp_plain_sound.proofs.Standing.{block-pool}
+use Rattle.qp_calls_log.specs.Lane.{is_plain}
 use Rattle.qp_plain.proofs.Calling.{stop-stays, pool-at}
 use Rattle.qp_plain.proofs.Few.{pool-few}
 use Rattle.qp_plain.proofs.Holding.{pool-in, block-in}

@@ -1,5 +1,5 @@
 use Rattle.std.proofs.Common.{refl, ap}
-use Rattle.qp_logs.specs.Lane.{is_plain}
+use Rattle.qp_calls_log.specs.Lane.{is_plain}
 use Rattle.qp_plain.proofs.BlockCalls.{refs-some}
 use Rattle.qp_plain.proofs.BlockTable.{small}
 use Rattle.qp_plain.proofs.Calling.{stop-stays, block-at}

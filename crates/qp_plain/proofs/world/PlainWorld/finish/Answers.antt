@@ -1,6 +1,6 @@
 use Rattle.std.proofs.Common.{◌≡◌, List, sym, subst}
 use Rattle.qp_model.specs.declared.record.Rec.{Rec}
-use Rattle.qp_sound.proofs.EndLemmas.{every-block}
+use Rattle.qp_plain_sound.proofs.EndLemmas.{every-block}
 use Rattle.qp_plain.specs.declared.world.PlainWorld.{PlainWorld}
 use Rattle.qp_plain.specs.Book.{lists_of}
 use Rattle.qp_plain.specs.Ended.{IsEnded}

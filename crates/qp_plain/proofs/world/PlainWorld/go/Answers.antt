@@ -1,5 +1,5 @@
 use Rattle.std.proofs.Common.{◌≡◌, map, refl, sym, ◌∙◌, ap, subst}
-use Rattle.qp_sound.specs.Log.{log_of}
+use Rattle.qp_plain_sound.specs.Log.{log_of}
 use Rattle.qp_plain.specs.declared.book.Book.{Book}
 use Rattle.qp_plain.specs.declared.world.PlainWorld.{PlainWorld}
 use Rattle.qp_plain.specs.Books.{recs_of}

@@ -1,5 +1,5 @@
 use Rattle.std.proofs.Common.{refl, ap}
-use Rattle.qp_logs.specs.Lane.{is_plain}
+use Rattle.qp_calls_log.specs.Lane.{is_plain}
 use Rattle.qp_plain.proofs.BlockTable.{small, small-refs}
 use Rattle.qp_plain.proofs.Calling.{stop-stays, block-at}
 use Rattle.qp_plain.proofs.Holding.{block-in}

@@ -1,6 +1,6 @@
 use Rattle.std.proofs.Common.{refl, ap, arith}
 use Rattle.qp_model.specs.Record.{item_of}
-use Rattle.qp_logs.specs.Lane.{is_plain}
+use Rattle.qp_calls_log.specs.Lane.{is_plain}
 use Rattle.qp_plain.proofs.Calling.{stop-stays, queue-at}
 use Rattle.qp_plain.proofs.QueueTable.{there, few}
 use Rattle.qp_plain.proofs.RepeatFacts.{lifo-may, entry-fits, room-now}

@@ -7,7 +7,7 @@ use Rattle.qp_model.specs.Sound.{IsSound}
 use Rattle.qp_plain_words.specs.declared.block.BlockWord.{BlockWord}
 use Rattle.qp_plain_words.specs.declared.signal.SignalWord.{SignalWord}
 use Rattle.qp_plain_words.specs.Queue.{Queue}
-use Rattle.qp_sound.specs.Log.{log_of}
+use Rattle.qp_plain_sound.specs.Log.{log_of}
 use Rattle.qp_plain.specs.declared.book.Book.{Book}
 use Rattle.qp_plain.specs.Book.{lists_of}
 use Rattle.qp_plain.specs.Fresh.{made, first_pool, first_queue, IsNewBook}

@@ -1,5 +1,5 @@
 use Rattle.std.proofs.Common.{refl, ap, arith}
-use Rattle.qp_logs.specs.Lane.{is_plain}
+use Rattle.qp_calls_log.specs.Lane.{is_plain}
 use Rattle.qp_plain.proofs.Calling.{stop-stays, queue-at}
 use Rattle.qp_plain.proofs.QueueTable.{there, few}
 use Rattle.qp_plain.proofs.RepeatFacts.{post-may, entry-fits, room-now}

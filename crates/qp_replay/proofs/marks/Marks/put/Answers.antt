@@ -2,7 +2,7 @@ use Rattle.std.proofs.Common.{◌≡◌, false, ap, sym, ◌∙◌}
 use Rattle.std.specs.Option.{option_map_or}
 use Rattle.std.specs.BTreeMap.{get}
 use Rattle.std.specs.BTreeSet.{contains}
-use Rattle.qp_lanes.specs.Keys.{key_cmp}
+use Rattle.qp_check_lanes.specs.Keys.{key_cmp}
 use Rattle.qp_replay.proofs.MarkLemmas.{put-has, none-has}
 use Rattle.qp_replay.proofs.marks.Marks.put.Goals as goal
 use Rattle.qp_replay.proofs.marks.Marks.put.Goals.{in-Some, in-None}

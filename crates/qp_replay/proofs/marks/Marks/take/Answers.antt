@@ -2,7 +2,7 @@ use Rattle.std.proofs.Common.{false, sym, ap, ◌∙◌}
 use Rattle.std.specs.Option.{is_some, option_map_or}
 use Rattle.std.specs.BTreeMap.{get}
 use Rattle.std.specs.BTreeSet.{contains}
-use Rattle.qp_lanes.specs.Keys.{key_cmp}
+use Rattle.qp_check_lanes.specs.Keys.{key_cmp}
 use Rattle.qp_replay.proofs.MarkLemmas.{take-has, take-none}
 use Rattle.qp_replay.proofs.marks.Marks.take.Goals as goal
 

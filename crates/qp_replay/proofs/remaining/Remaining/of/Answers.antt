@@ -2,7 +2,7 @@ use Rattle.std.proofs.Common.{◌≡◌, ◌∙◌, ◌+◌, ◌++◌, ◌∷◌
 use Rattle.std.proofs.lemmas.List.{take_all, take_more}
 use Rattle.qp_model.specs.Record.{Item}
 use Rattle.qp_model.specs.Places.{item_at, touch_at}
-use Rattle.qp_lanes.specs.Keys.{key_of}
+use Rattle.qp_check_lanes.specs.Keys.{key_of}
 use Rattle.qp_replay.specs.Marks.{has_mark}
 use Rattle.qp_replay.specs.Remaining.{draws_mark, place, record_in, shows_mark}
 use Rattle.qp_replay.proofs.RemainingLemmas.{lane-next, length-fronts, one-front-more, no-lane, none-passed}

@@ -1,7 +1,7 @@
 use Rattle.std.proofs.Common.{◌≡◌, ℕ, take, replicate}
 use Rattle.qp_model.specs.declared.words.Word.{Word}
 use Rattle.qp_model.specs.Places.{item_at, touch_at}
-use Rattle.qp_lanes.specs.Keys.{key_of}
+use Rattle.qp_check_lanes.specs.Keys.{key_of}
 use Rattle.qp_replay.specs.Marks.{has_mark}
 use Rattle.qp_replay.specs.Remaining.{draws_mark, place, shows_mark}
 use Rattle.qp_replay.proofs.remaining.Remaining.of.Given as goal

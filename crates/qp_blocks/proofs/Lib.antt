@@ -1,4 +1,0 @@
-pub mod Sums
-pub mod Contents
-pub mod Steps
-pub mod LawLemmas

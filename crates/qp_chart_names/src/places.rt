@@ -1,0 +1,41 @@
+//! Tables from names to numbers.
+
+use qp_chart_text::Name;
+use std::alloc::{AllocError, Global};
+use std::collections::BTreeMap;
+
+/// Numbers by name. The first number that a name is given stays.
+#[derive(Drop)]
+pub struct Places {
+    map: BTreeMap<Name, u16>,
+}
+
+impl Places {
+    ghost use Rattle.std.specs.Prelude.{◌≡◌, ℕ, List, None, IfOk};
+    ghost use Rattle.qp_chart_names.specs.Numbering.{number_at, Adds};
+
+    pub fn new(alloc: Global) -> Places
+        ensures { (name : List ℕ) → number_at result name ≡ None }
+    {
+        Places {
+            map: BTreeMap::new(alloc),
+        }
+    }
+
+    pub fn get(&self, name: &Name) -> Option<u16>
+        ensures { result ≡ number_at self.now name.now.bytes }
+    {
+        self.map.get(name).copied()
+    }
+
+    /// Gives the name this number, and tells whether the name was new. A known name keeps its number.
+    pub fn add(&mut self, name: &Name, number: u16) -> Result<bool, AllocError>
+        ensures { IfOk result (λ added. Adds self.old self.new name.now.bytes number added) }
+    {
+        if self.map.contains_key(name) {
+            return Ok(false);
+        }
+        self.map.insert(*name, number)?;
+        Ok(true)
+    }
+}

@@ -1,0 +1,11 @@
+-- Records in rows, by keys.
+use Rattle.std.specs.Prelude.{ℕ, List, []}
+use Rattle.std.specs.Option.{unwrap_or}
+use Rattle.std.specs.BTreeMap.{get}
+use Rattle.qp_model.specs.Record.{Item}
+use Rattle.qp_check_lanes.specs.Keys.{key_cmp}
+use Rattle.qp_check_lanes.specs.declared.rows.Rows.{Rows}
+
+-- the records of a key
+abbrev pub row_at : Rows → ℕ × ℕ × ℕ → List Item
+row_at x k = unwrap_or (get key_cmp x.rows k) []

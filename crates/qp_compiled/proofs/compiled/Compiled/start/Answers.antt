@@ -1,6 +1,0 @@
-use Rattle.qp_compiled.specs.Compiled.{left_in}
-use Rattle.qp_compiled.proofs.compiled.Compiled.start.Goals as goal
-
-pub returns-clause-tasks : goal.returns-clause-tasks
-unfolding left_in
-returns-clause-tasks c = c.requires.start.tasks

@@ -1,0 +1,4 @@
+pub mod Outcome
+pub mod LastRecords
+pub mod Laws
+pub mod Rests

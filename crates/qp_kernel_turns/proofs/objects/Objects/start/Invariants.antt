@@ -1,0 +1,10 @@
+use Rattle.qp_kernel_turns.specs.Starting.{GrowsAlong, HaveBegun, left_from}
+use Rattle.qp_kernel_turns.proofs.objects.Objects.start.Given as goal
+
+-- the objects before this place rest, and the others have not started
+abbrev pub invariant-loop-place : goal.invariant-loop-place
+invariant-loop-place g l =
+    record {
+      begun : HaveBegun l.sys (left_from l.sys l.place) l.self (g.O.Ops.lane l.ops);
+      along : GrowsAlong l.initial.self (g.O.Ops.lane l.initial.ops) l.self (g.O.Ops.lane l.ops);
+    }

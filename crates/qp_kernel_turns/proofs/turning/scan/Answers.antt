@@ -1,0 +1,70 @@
+use Rattle.std.proofs.Common.{◌≡◌, ◌+◌, ◌-◌, ◌∙◌, ap, arith, refl, subst, sym}
+use Rattle.qp_kernel_turns.specs.Knowing.{IsScanning}
+use Rattle.qp_kernel_turns.specs.Ordering.{AreSeenEmpty, PassedInOrder}
+use Rattle.qp_kernel_turns.specs.Turning.{Passed, Stood, row_below, stand_of, terms_of}
+use Rattle.qp_kernel_turns.proofs.Counting.{begin-none}
+use Rattle.qp_kernel_turns.proofs.Lanes.{goes-none, halts-then}
+use Rattle.std.proofs.lemmas.Result.{err_from_is_err_and}
+use Rattle.qp_kernel_turns.proofs.Ordered.{seen-none}
+use Rattle.qp_kernel_turns.proofs.Rows.{row-whole}
+use Rattle.qp_kernel_turns.proofs.Rounds.{onward-none, row-none}
+use Rattle.qp_kernel_turns.proofs.turning.scan.Goals as goal
+
+pub loop-place-init : goal.loop-place-init
+loop-place-init g c =
+    let sys = c.args.at.now.sys.now in
+    let all = ap (row_below sys c.args.floor) c.count-many.ensures ∙ row-whole sys c.args.floor in
+    record {
+      passed = record {
+        looks = refl;
+        stack = refl;
+        knows = subst (λ ps. Stood (IsScanning sys (terms_of c.args.at.now) ps) sys (terms_of c.args.at.now) (stand_of c.args.kernel.now c.args.objects.now (g.W.Ops.lane c.args.world.now))) (sym all) c.requires.knows;
+        onward = onward-none c.args.objects.now (g.W.Ops.lane c.args.world.now);
+        lanes = refl;
+      };
+      order = record {
+        order = c.requires.order;
+        none = λ base acting h. h;
+        empty = seen-none sys c.args.floor _ (g.W.Ops.lane c.args.world.now) (omega (arith, c.count-many.ensures));
+        stays = λ p h. h;
+      };
+      lane = goes-none g.W.World.acts (g.W.Ops.lane c.args.world.now);
+      begun = begin-none c.args.kernel.now c.args.objects.now;
+    }
+
+pub visit-requires-clause-knows : goal.visit-requires-clause-knows
+visit-requires-clause-knows g c =
+    let sys = c.args.at.now.sys.now in
+    λ lifetimes outlive.
+    let same : c.loop-place.place ≡ c.loop-place.place - 1 + 1 = omega (arith, c.loop-place-test.true) in
+    subst (λ m. Stood (IsScanning sys (terms_of c.args.at.now) (row_below sys c.args.floor m)) sys (terms_of c.args.at.now) (stand_of c.loop-place.kernel c.loop-place.objects (g.W.Ops.lane c.loop-place.world))) same c.loop-place.invariant.passed.knows
+
+pub visit-requires-clause-seen : goal.visit-requires-clause-seen
+visit-requires-clause-seen g c =
+    let sys = c.args.at.now.sys.now in
+    λ lifetimes outlive.
+    let same : c.loop-place.place ≡ c.loop-place.place - 1 + 1 = omega (arith, c.loop-place-test.true) in
+    subst (λ m. AreSeenEmpty sys c.args.floor m (g.W.Ops.lane c.loop-place.world)) same c.loop-place.invariant.order.empty
+
+pub returns : goal.returns
+returns g c =
+    let sys = c.args.at.now.sys.now in
+    let lane = g.W.Ops.lane in
+    let none : c.loop-place.place ≡ 0 = omega arith in
+    let all = ap (row_below sys c.args.floor) none ∙ row-none sys c.args.floor in
+    record {
+      goes =
+          subst (λ ps. Passed ps sys (terms_of c.args.at.now) (stand_of c.args.kernel.now c.args.objects.now (lane c.args.world.now)) (stand_of c.loop-place.kernel c.loop-place.objects (lane c.loop-place.world))) all c.loop-place.invariant.passed;
+      order =
+          subst (λ m. PassedInOrder g.W.World.acts sys c.args.floor m (stand_of c.args.kernel.now c.args.objects.now (lane c.args.world.now)) (stand_of c.loop-place.kernel c.loop-place.objects (lane c.loop-place.world))) none c.loop-place.invariant.order;
+      rests = tt;
+      lane = c.loop-place.invariant.lane;
+      begun = c.loop-place.invariant.begun;
+    }
+
+pub returns-in_err-visit-clause-lane : goal.returns-in_err-visit-clause-lane
+returns-in_err-visit-clause-lane g c =
+    let lane = g.W.Ops.lane in
+    let p = err_from_is_err_and c.from_residual.result c.from_residual.ensures.1 in
+    rw (p.1, p.2)
+    (halts-then g.W.World.acts (lane c.args.world.now) (lane c.loop-place.world) (lane c.visit.new.world) c.in_err-visit.field-0.0 c.loop-place.invariant.lane c.in_err-visit.ensures.lane)

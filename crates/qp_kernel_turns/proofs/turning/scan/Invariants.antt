@@ -1,0 +1,15 @@
+use Rattle.qp_kernel_turns.specs.Counting.{Begin}
+use Rattle.qp_kernel_turns.specs.Lanes.{LaneGoes}
+use Rattle.qp_kernel_turns.specs.Ordering.{PassedInOrder}
+use Rattle.qp_kernel_turns.specs.Turning.{Passed, row_below, stand_of, terms_of}
+use Rattle.qp_kernel_turns.proofs.turning.scan.Given as goal
+
+-- the objects visited so far had empty queues
+abbrev pub invariant-loop-place : goal.invariant-loop-place
+invariant-loop-place g l =
+    record {
+      passed : Passed (row_below l.at.sys.now l.floor l.place) l.at.sys.now (terms_of l.at) (stand_of l.fn.kernel l.fn.objects (g.W.Ops.lane l.fn.world)) (stand_of l.kernel l.objects (g.W.Ops.lane l.world));
+      order : PassedInOrder g.W.World.acts l.at.sys.now l.floor l.place (stand_of l.fn.kernel l.fn.objects (g.W.Ops.lane l.fn.world)) (stand_of l.kernel l.objects (g.W.Ops.lane l.world));
+      lane : LaneGoes g.W.World.acts (g.W.Ops.lane l.fn.world) (g.W.Ops.lane l.world);
+      begun : Begin 0 l.fn.kernel l.kernel l.fn.objects l.objects;
+    }

@@ -1,2 +1,0 @@
--- Lemmas of kinds.
-pub mod KindLemmas

@@ -1,2 +1,0 @@
--- The kinds of what records say.
-pub mod Kinds

@@ -1,5 +1,0 @@
-use Rattle.qp_known.specs.Knowledge.{IsKnowledgeOf}
-use Rattle.qp_known.proofs.knowledge.Knowledge.learn_lane.Given as goal
-
-abbrev pub invariant-loop-r : goal.invariant-loop-r
-invariant-loop-r l = IsKnowledgeOf l.self l.initial.self.sys.now l.initial.self.journal.now

@@ -1,5 +1,0 @@
-use Rattle.qp_lane_orders.proofs.LawLemmas.{lanes_stand_in_any_order as law}
-use Rattle.qp_lane_orders.proofs.laws.lanes_stand_in_any_order.Goals as goal
-
-pub returns : goal.returns
-returns c = law

@@ -1,7 +1,0 @@
-use Rattle.std.proofs.Common.{◌≡◌, map, take}
-use Rattle.qp_lane_zero.specs.AsPlaced.{as_placed}
-use Rattle.qp_lane_zero.specs.OrderTurns.{turns_in, found_of, as_found}
-use Rattle.qp_lane_zero.proofs.order_turns.InLook.among.Given as goal
-
-abbrev pub invariant-loop-x : goal.invariant-loop-x
-invariant-loop-x l = as_found l.found ≡ found_of (turns_in (map as_placed (take l.x-index l.part)))

@@ -1,6 +1,0 @@
-use Rattle.std.proofs.Common.{◌≡◌, ◌++◌, map, take}
-use Rattle.qp_lane_zero.specs.AsPlaced.{as_placed}
-use Rattle.qp_lane_zero.proofs.stimulus_index.Order.put_all.Given as goal
-
-abbrev pub invariant-loop-x : goal.invariant-loop-x
-invariant-loop-x l = l.self ≡ l.initial.self ++ map as_placed (take l.x-index l.x-items)

@@ -1,6 +1,0 @@
-use Rattle.std.proofs.Common.{◌≡◌}
-use Rattle.qp_lanes.specs.Groups.{empty_groups}
-use Rattle.qp_lanes.proofs.groups.Groups.empty.Given as goal
-
-abbrev pub invariant-loop : goal.invariant-loop
-invariant-loop l = l.items.items ≡ empty_groups l.counter

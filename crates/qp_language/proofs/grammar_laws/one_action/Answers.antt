@@ -1,7 +1,0 @@
-use Rattle.std.proofs.Common.{◌∙◌, sym}
-use Rattle.qp_language.proofs.GrammarLemmas.{some_of}
-use Rattle.qp_language.proofs.ActionText.{action_complete}
-use Rattle.qp_language.proofs.grammar_laws.one_action.Goals as goal
-
-pub returns : goal.returns
-returns c text x y a b = some_of x y (sym (action_complete text x a) ∙ action_complete text y b)

@@ -1,8 +1,0 @@
-use Rattle.std.proofs.Common.{◌∙◌, sym, ap, arith}
-use Rattle.qp_language.specs.Tokens.{number_in}
-use Rattle.qp_language.proofs.TokenLemmas.{large}
-use Rattle.qp_language.proofs.tokens.number.Goals as goal
-
-pub returns-in-None : goal.returns-in-None
-returns-in-None c =
-    sym (ap number_in c.loop-d.invariant ∙ large c.loop-d.value c.loop-d.d-index c.args.digits.now (omega arith) c.in-None.ensures.large)

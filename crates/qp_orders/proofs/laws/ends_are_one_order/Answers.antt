@@ -1,5 +1,0 @@
-use Rattle.qp_orders.proofs.OrderLaws.{ends_are_one_order as law}
-use Rattle.qp_orders.proofs.laws.ends_are_one_order.Goals as goal
-
-pub returns : goal.returns
-returns c = law

@@ -1,5 +1,0 @@
-use Rattle.qp_orders.proofs.OrderLaws.{free_look_comes_last as law}
-use Rattle.qp_orders.proofs.laws.free_looks_come_last.Goals as goal
-
-pub returns : goal.returns
-returns c = law

@@ -1,5 +1,0 @@
-use Rattle.qp_orders.proofs.OrderLaws.{zero_comes_last as law}
-use Rattle.qp_orders.proofs.laws.lane_zero_comes_last.Goals as goal
-
-pub returns : goal.returns
-returns c = law

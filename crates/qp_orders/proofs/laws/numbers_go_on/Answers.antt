@@ -1,5 +1,0 @@
-use Rattle.qp_orders.proofs.OrderLaws.{numbers_go_on as law}
-use Rattle.qp_orders.proofs.laws.numbers_go_on.Goals as goal
-
-pub returns : goal.returns
-returns c = law

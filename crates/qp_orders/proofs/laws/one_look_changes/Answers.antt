@@ -1,5 +1,0 @@
-use Rattle.qp_orders.proofs.OrderLaws.{one_look_changes as law}
-use Rattle.qp_orders.proofs.laws.one_look_changes.Goals as goal
-
-pub returns : goal.returns
-returns c = law

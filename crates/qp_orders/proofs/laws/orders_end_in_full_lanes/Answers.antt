@@ -1,5 +1,0 @@
-use Rattle.qp_orders.proofs.OrderLaws.{order_ends_in_full_lane as law}
-use Rattle.qp_orders.proofs.laws.orders_end_in_full_lanes.Goals as goal
-
-pub returns : goal.returns
-returns c = law

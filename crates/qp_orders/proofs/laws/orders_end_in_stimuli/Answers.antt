@@ -1,5 +1,0 @@
-use Rattle.qp_orders.proofs.OrderLaws.{order_ends_in_stimulus as law}
-use Rattle.qp_orders.proofs.laws.orders_end_in_stimuli.Goals as goal
-
-pub returns : goal.returns
-returns c = law

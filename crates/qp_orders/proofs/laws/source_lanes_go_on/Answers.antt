@@ -1,5 +1,0 @@
-use Rattle.qp_orders.proofs.SourceLanes.{source_lane_goes_on as law}
-use Rattle.qp_orders.proofs.laws.source_lanes_go_on.Goals as goal
-
-pub returns : goal.returns
-returns c = law

@@ -1,5 +1,0 @@
-pub mod RunOrder
-pub mod Placing
-pub mod SourceRun
-pub mod Stimulus
-pub mod Laws

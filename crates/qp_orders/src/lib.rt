@@ -1,4 +1,0 @@
-//! The order of a run with one thread, and the lanes of its sources.
-#![tactic(auto)]
-
-pub mod laws;

@@ -1,8 +1,0 @@
-//! How a run came to its end, as the records of its journal say.
-#![tactic(auto)]
-
-mod journal;
-pub mod laws;
-mod records;
-
-pub use journal::{Outcome, outcome_of};

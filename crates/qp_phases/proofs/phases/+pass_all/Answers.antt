@@ -1,9 +1,0 @@
-use Rattle.qp_phases.proofs.Keeping.{together-first}
-use Rattle.qp_phases.proofs.phases.+pass_all.Goals as goal
-
-pub pass_all-requires-clause-together : goal.pass_all-requires-clause-together
-pass_all-requires-clause-together g t c κs within =
-    let laws = (g.met.T.Lane g.world.𝓛 g.world.𝓜 g.world.𝓡 ((λ s x. x), (λ x. x), (λ x. x), λ x. x)) in
-    let parts = c.in-Some.ensures.cases in
-    let all = rw parts.0 at c.requires.together in
-    together-first g.T.Lane.view (g.T.Lane.view c.args.first.now) (g.T.Lane.view c.pass_one.new.first) (laws.same_table _ _ c.pass_one.ensures.first.same) c.in-Some.rest.now all.1

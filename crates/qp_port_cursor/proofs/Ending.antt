@@ -1,0 +1,108 @@
+-- How passing a `settle` ends.
+use Rattle.std.proofs.Common.{◌≡◌, ℕ, ◌+◌, ◌-◌, true, false, List, [], ◌∷◌, refl, sym, subst, arith}
+use Rattle.std.specs.List.{AllByRecursion}
+use Rattle.qp_model.specs.declared.systems.System.{System}
+use Rattle.qp_model.specs.Sources.{priorities}
+use Rattle.qp_calls.specs.declared.answers.Counts as counts
+use Rattle.qp_calls.specs.LaneView.{LaneView, Roomier}
+use Rattle.qp_calls.specs.Halting.{HaltsDry, HaltsFull}
+use Rattle.qp_calls.specs.Notes.{spills_in}
+use Rattle.qp_calls_stimulus.specs.Settling.{SeesNone, SeesSome, SettleCut}
+use Rattle.qp_port_cursor.specs.declared.cursor.Cursor.{Cursor}
+use Rattle.qp_port_cursor.specs.At.{IsCursorAt, IsSourceAt, done, mine}
+use Rattle.qp_port_cursor.specs.Turning.{SourceStarves, SourceStops}
+use Rattle.qp_port_cursor.specs.Passing.{FindsEntry, Glances, GoesAlong, HasPassed, IsClear, Opens, ShowsEntry}
+use Rattle.qp_port_cursor.proofs.Going.{unspilled-told}
+use Rattle.qp_port_cursor.proofs.Along.{IsBehind, along-gains, along-glances, along-room, along-then, behind-along, behind-gains, behind-then}
+use Rattle.qp_port_cursor.proofs.Settling.{cut-calm, cut-leaves, settled-at, shows-now, tried-at}
+use Rattle.qp_port_cursor.proofs.Waiting.{full-stops, starves-behind, stops-behind}
+
+pub glances-room : (v w : LaneView) → Roomier v w → Glances v w
+glances-room v w room = record {
+  told = rw room.same refl;
+  by = rw room.same refl;
+  rise = λ x. rw room.same (omega arith);
+  shown = λ x e. rw room.same refl;
+  hands = rw room.same refl;
+  stops = rw room.same refl;
+  answered = rw room.same refl;
+  keeps = rw room.same (record { sys = refl; lane = refl; world = refl; plan = refl; happened = refl; serves = λ o. refl });
+}
+
+clear-room : (v w : LaneView) → Roomier v w → (p : ℕ) → IsClear v p → IsClear w p
+clear-room v w room p k = record { f = k.f; l = k.l; m = k.m; mark = rw room.same k.mark; shown = rw room.same k.shown; empty = k.empty }
+
+all-clear : (v w : LaneView) → ((p : ℕ) → IsClear v p → IsClear w p) → (os : List ℕ) → AllByRecursion (IsClear v) os → AllByRecursion (IsClear w) os
+all-clear v w still [] h = tt
+all-clear v w still (o ∷ os) h = (still o h.0, all-clear v w still os h.1)
+
+-- It is under way: looks that added nothing, room, and perhaps the `stim`.
+module _ (sys : System) (x y : Cursor) (v0 v1 v2 w : LaneView) (at : IsCursorAt sys x v0) (glances : Glances v0 v1) (clear : AllByRecursion (IsClear v1) (priorities sys)) (room : Roomier v1 v2) (opens : Opens sys x y v2 w) where
+  so_far : GoesAlong v0 w
+  so_far = along-then v0 v1 w (along-glances v0 v1 glances) (along-then v1 v2 w (along-room v1 v2 room) opens.along)
+
+  still_clear : AllByRecursion (IsClear w) (priorities sys)
+  still_clear = all-clear v1 w (λ p k. opens.clear p (clear-room v1 v2 room p k)) (priorities sys) clear
+
+  pub passes-yes : (u : LaneView) → SeesNone (priorities sys) w u → HasPassed sys x (record y { settling = false }) v0 u
+  passes-yes u seen =
+      subst (λ (z : Cursor). HasPassed sys x (record z { settling = false }) v0 u) (sym opens.cursor)
+      (record {
+        stays = record {
+          at = record {
+            fits = at.fits;
+            some = at.some;
+            there = at.there;
+            begun = λ e. absurd (cc);
+            at = settled-at sys (mine x) (done x) w opens.here u seen;
+          };
+          stim = refl;
+          source = refl;
+          lane = refl;
+          along = along-then v0 w u so_far (along-gains _ w u seen.grows seen.hands);
+        };
+        calm = refl;
+        one = refl;
+      })
+
+  same-count : done x + 1 - 1 ≡ done x
+  same-count = omega arith
+
+  pub passes-found : (u : LaneView) (p : ℕ) (c : counts.Counts) → (h : SeesSome sys w u) × (h.found.object ≡ p) × (h.found.counts ≡ c) → FindsEntry sys p c x y v0 u
+  passes-found u p c h =
+      subst (λ (z : Cursor). FindsEntry sys p c x z v0 u) (sym opens.cursor)
+      (record {
+        stays = record {
+          at = record {
+            fits = at.fits;
+            some = at.some;
+            there = at.there;
+            begun = λ e. omega arith;
+            at = subst (λ n. IsSourceAt sys (mine x) n true u) (sym same-count) (tried-at sys (mine x) (done x) w opens.here u h.0 still_clear);
+          };
+          stim = refl;
+          source = refl;
+          lane = refl;
+          along = along-then v0 w u so_far (along-gains _ w u h.0.grows h.0.hands);
+        };
+        same = same-count;
+        shows =
+            subst (λ q. ShowsEntry sys q c u) h.1
+            (subst (λ d. ShowsEntry sys h.0.found.object d u) h.2 (shows-now sys (mine x) (done x) w opens.here u h.0 still_clear));
+      })
+
+  module _ (u : LaneView) (cut : SettleCut sys w u) where
+    behind : IsBehind v0 u
+    behind = behind-then v0 w u (behind-along v0 w so_far) (behind-gains _ w u cut.grows)
+
+    pub cut-unspilled : spills_in u.told ≡ false
+    cut-unspilled = unspilled-told u.told (cut-calm sys (mine x) (done x) w opens.here u u cut)
+
+    pub cut-stops : (z : LaneView) → HaltsFull u z → SourceStops sys x y v0 z
+    cut-stops z full =
+        let stops = stops-behind sys x v0 u z behind
+        (full-stops sys x u z (λ kernel end may early. cut-leaves sys (mine x) (done x) w opens.here u z cut kernel end may early full) full) in
+        record { leaves = stops.leaves; why = stops.why; ts = stops.ts; told = stops.told; keeps = stops.keeps }
+
+    pub cut-starves : (z : LaneView) → HaltsDry u z → SourceStarves v0 z
+    cut-starves z dry = starves-behind v0 u z behind dry

@@ -1,0 +1,80 @@
+use Rattle.std.proofs.Common.{◌≡◌, ◌+◌, ◌-◌, ◌<◌, List, [], length, get_or, refl, ◌∙◌, ap, subst, arith}
+use Rattle.qp_model.specs.declared.stimulus.Stim.{Stim}
+use Rattle.qp_calls.specs.LaneView.{LaneView}
+use Rattle.qp_calls.specs.Notes.{spills_in}
+use Rattle.qp_calls_stimulus.specs.declared.doing.Stimulated.TheVariants as stimulated
+use Rattle.qp_calls_stimulus.specs.Stimulating.{Stimulates}
+use Rattle.qp_port_cursor.specs.At.{mine}
+use Rattle.qp_port_cursor.proofs.Turned.{any-default, few-begun, finds-stop, goes-on, never, stops-here, unspilled}
+use Rattle.qp_port_cursor.proofs.turning.do_next.Goals as goal
+
+pub returns-in-Some : goal.returns-in-Some
+returns-in-Some g c =
+    let x = c.args.source.now in
+    let knows = c.requires.knows in
+    let xs = c.index-mine.result.now in
+    let some = knows.some in
+    let there = knows.there in
+    let list : xs ≡ mine x = any-default x.stim.now (x.source - 1) xs xs [] (omega (arith, some, there)) (cc) in
+    let s = c.index-s.result.now in
+    let is : s ≡ get_or (mine x) x.begun s = subst (λ (l : List Stim). s ≡ get_or l x.begun s) list (cc) in
+    let long : length c.mine.inside.items.items ≡ length xs = ap (λ (l : List Stim). length l) c.mine.view_is in
+    let lt : x.begun < length (mine x) = subst (λ (l : List Stim). x.begun < length l) list (omega (arith, c.if-at-len.false, c.len.ensures, long)) in
+    finds-stop c.args.sys.now x _ knows c.if-source.false s lt is c.in-Some.field-0 _ c.in-Some.ensures.0
+
+pub overflow_add-place : goal.overflow_add-place
+overflow_add-place g c =
+    let few = few-begun c.args.sys.now c.args.source.now _ c.requires.knows c.if-source.false (g.met.O.Ops.within c.args.ops.now) in
+    record { fits = omega (arith, few) }
+
+pub stimulus-answer-requires-clause-spills : goal.stimulus-answer-requires-clause-spills
+stimulus-answer-requires-clause-spills g c κs within =
+    ap (λ (u : LaneView). spills_in u.told) c.in_default-stopped.ensures.0 ∙ unspilled c.args.sys.now c.args.source.now _ c.requires.knows c.if-source.false
+
+pub returns-in-Done : goal.returns-in-Done
+returns-in-Done g c =
+    let lane = g.O.Ops.lane in
+    let x = c.args.source.now in
+    let knows = c.requires.knows in
+    let xs = c.index-mine.result.now in
+    let some = knows.some in
+    let there = knows.there in
+    let list : xs ≡ mine x = any-default x.stim.now (x.source - 1) xs xs [] (omega (arith, some, there)) (cc) in
+    let s = c.index-s.result.now in
+    let is : s ≡ get_or (mine x) x.begun s = subst (λ (l : List Stim). s ≡ get_or l x.begun s) list (cc) in
+    let long : length c.mine.inside.items.items ≡ length xs = ap (λ (l : List Stim). length l) c.mine.view_is in
+    let lt : x.begun < length (mine x) = subst (λ (l : List Stim). x.begun < length l) list (omega (arith, c.if-at-len.false, c.len.ensures, long)) in
+    goes-on c.args.sys.now x _ knows c.if-source.false s lt is (x.begun + 1) refl _
+    (subst (λ (u : LaneView). Stimulates c.args.sys.now s (x.begun + 1) 0 u (lane c.stimulus-answer.new.ops) stimulated.Done) c.in_default-stopped.ensures.0 c.in-Done.ensures.stimulates)
+
+pub returns-in-Tried : goal.returns-in-Tried
+returns-in-Tried g c =
+    let lane = g.O.Ops.lane in
+    let x = c.args.source.now in
+    let knows = c.requires.knows in
+    let xs = c.index-mine.result.now in
+    let some = knows.some in
+    let there = knows.there in
+    let list : xs ≡ mine x = any-default x.stim.now (x.source - 1) xs xs [] (omega (arith, some, there)) (cc) in
+    let s = c.index-s.result.now in
+    let is : s ≡ get_or (mine x) x.begun s = subst (λ (l : List Stim). s ≡ get_or l x.begun s) list (cc) in
+    let long : length c.mine.inside.items.items ≡ length xs = ap (λ (l : List Stim). length l) c.mine.view_is in
+    let lt : x.begun < length (mine x) = subst (λ (l : List Stim). x.begun < length l) list (omega (arith, c.if-at-len.false, c.len.ensures, long)) in
+    absurd (never c.args.sys.now x _ knows c.if-source.false s lt is (x.begun + 1) refl _ c.in_default.not-Settle
+    (subst (λ (u : LaneView). Stimulates c.args.sys.now s (x.begun + 1) 0 u (lane c.stimulus-answer.new.ops) stimulated.Tried) c.in_default-stopped.ensures.0 c.in-Tried.ensures.stimulates))
+
+pub returns-in-Stopped : goal.returns-in-Stopped
+returns-in-Stopped g c =
+    let lane = g.O.Ops.lane in
+    let x = c.args.source.now in
+    let knows = c.requires.knows in
+    let xs = c.index-mine.result.now in
+    let some = knows.some in
+    let there = knows.there in
+    let list : xs ≡ mine x = any-default x.stim.now (x.source - 1) xs xs [] (omega (arith, some, there)) (cc) in
+    let s = c.index-s.result.now in
+    let is : s ≡ get_or (mine x) x.begun s = subst (λ (l : List Stim). s ≡ get_or l x.begun s) list (cc) in
+    let long : length c.mine.inside.items.items ≡ length xs = ap (λ (l : List Stim). length l) c.mine.view_is in
+    let lt : x.begun < length (mine x) = subst (λ (l : List Stim). x.begun < length l) list (omega (arith, c.if-at-len.false, c.len.ensures, long)) in
+    stops-here c.args.sys.now x _ knows c.if-source.false s lt is (x.begun + 1) refl _
+    (subst (λ (u : LaneView). Stimulates c.args.sys.now s (x.begun + 1) 0 u (lane c.stimulus-answer.new.ops) stimulated.Stopped) c.in_default-stopped.ensures.0 c.in-Stopped.ensures.stimulates)

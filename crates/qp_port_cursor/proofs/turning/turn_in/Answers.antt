@@ -1,0 +1,29 @@
+use Rattle.std.proofs.Common.{◌≡◌, ℕ, ◌+◌, ◌-◌, List, [], length, refl, ◌∙◌, ap, arith}
+use Rattle.qp_model.specs.declared.stimulus.Stim.{Stim}
+use Rattle.qp_port_cursor.specs.At.{mine}
+use Rattle.qp_port_cursor.proofs.Turned.{any-default, goes-none, goes-then, turn-ends, turns-then}
+use Rattle.qp_port_cursor.proofs.turning.turn_in.Goals as goal
+
+pub loop-k-init : goal.loop-k-init
+loop-k-init g c = record { goes = goes-none c.args.sys.now c.args.source.now _ c.requires.knows; at = refl }
+
+pub returns-in-Some : goal.returns-in-Some
+returns-in-Some g c = turns-then c.args.sys.now c.args.source.now c.loop-k.source c.do_next.new.source _ (g.O.Ops.lane c.loop-k.ops) _ c.in-Some.turn c.loop-k.invariant.goes c.in-Some.ensures
+
+pub loop-k-preserved : goal.loop-k-preserved
+loop-k-preserved g c = record {
+  goes = goes-then c.args.sys.now c.args.source.now c.loop-k.source c.do_next.new.source _ (g.O.Ops.lane c.loop-k.ops) _ c.loop-k.invariant.goes c.in_default.ensures.goes;
+  at = c.in_default.ensures.one ∙ ap (λ (n : ℕ). n + 1) c.loop-k.invariant.at;
+}
+
+pub returns : goal.returns
+returns g c =
+    let x = c.args.source.now in
+    let knows = c.requires.knows in
+    let xs = c.index-mine.result.now in
+    let some = knows.some in
+    let there = knows.there in
+    let list : xs ≡ mine x = any-default x.stim.now (x.source - 1) xs xs [] (omega (arith, some, there)) (cc) in
+    let long : length c.mine.inside.items.items ≡ length xs = ap (λ (l : List Stim). length l) c.mine.view_is in
+    let same : length xs ≡ length (mine x) = ap (λ (l : List Stim). length l) list in
+    turn-ends c.args.sys.now x c.loop-k.source _ _ c.loop-k._k c.len-count.result c.loop-k.invariant.goes c.loop-k.invariant.at (omega (arith, c.len-count.ensures, long, same)) (omega (arith, c.loop-k-test.false))

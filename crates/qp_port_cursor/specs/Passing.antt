@@ -1,0 +1,116 @@
+-- What passing a `settle` comes to.
+use Rattle.std.specs.Prelude.{◌≡◌, ℕ, ◌+◌, ◌<◌, ◌≤◌, ◌==◌, true, false, List, [], ◌∷◌, ◌++◌, map, take, drop, IsTrue, Some, None}
+use Rattle.std.specs.declared.option.Option.{Option}
+use Rattle.std.specs.List.{AllByRecursion, list_all, list_any}
+use Rattle.qp_model.specs.declared.stimulus.Stim.{Stim}
+use Rattle.qp_model.specs.declared.stimulus.Stim.TheVariants as stim
+use Rattle.qp_model.specs.declared.systems.System.{System}
+use Rattle.qp_model.specs.declared.words.Word.{Word}
+use Rattle.qp_model.specs.declared.words.Word.TheVariants as word
+use Rattle.qp_model.specs.declared.bodies.Body.TheVariants as body
+use Rattle.qp_model.specs.Sources.{AllDone, SourceRuns, Tries, none_twice, priorities}
+use Rattle.qp_model.specs.Told.{Told, ToldItem, for_object, plain}
+use Rattle.qp_model.specs.Knowing.{told_alone}
+use Rattle.qp_model.specs.Kernels.{may_try}
+use Rattle.qp_model.specs.Ends.{is_end}
+use Rattle.qp_model.specs.WordLaw.{is_object}
+use Rattle.qp_calls.specs.declared.answers.Counts as counts
+use Rattle.qp_calls.specs.LaneView.{LaneView, Counts}
+use Rattle.qp_model_order.specs.SourceRun.{untold_all}
+use Rattle.qp_kernel_turns.specs.Lanes.{SameLane}
+use Rattle.qp_port_cursor.specs.declared.cursor.Cursor.{Cursor}
+use Rattle.qp_port_cursor.specs.declared.passing.Passed.{Passed}
+use Rattle.qp_port_cursor.specs.declared.passing.Passed.TheVariants as passed
+use Rattle.qp_port_cursor.specs.At.{IsCursorAt, IsKnownTry, done, mine, tries_in}
+use Rattle.qp_port_cursor.specs.Turning.{SourceStarves, SourceStops}
+
+-- looks that add nothing
+pub record Glances (v w : LaneView) : Type 0 where
+  pub told : w.told ≡ v.told
+  pub by : w.by ≡ v.by
+  pub rise : (x : Word) → v.mark x ≤ w.mark x
+  pub shown : (x : Word) → w.mark x ≡ v.mark x → w.shown x ≡ v.shown x
+  pub hands : w.hands ≡ v.hands
+  pub stops : w.stops ≡ v.stops
+  pub answered : w.answered ≡ v.answered
+  pub keeps : SameLane v w
+
+-- the lane has seen the queue of p empty
+pub record IsClear (v : LaneView) (p : ℕ) : Type 0 where
+  pub f : ℕ
+  pub l : ℕ
+  pub m : ℕ
+  pub mark : v.mark (word.Queue p) ≡ f + l + m
+  pub shown : v.shown (word.Queue p) ≡ Counts f l m
+  pub empty : f + l ≤ m
+
+-- the queue of p showed an entry at these counts
+pub record ShowsEntry (sys : System) (p : ℕ) (c : counts.Counts) (w : LaneView) : Type 0 where
+  pub its : IsTrue (is_object sys p)
+  pub some : c.m < c.f + c.l
+  pub mark : w.mark (word.Queue p) ≡ c.f + c.l + c.m
+  pub shown : w.shown (word.Queue p) ≡ Counts c.f c.l c.m
+
+abbrev pub Glimpses : System → LaneView → LaneView → Option (ℕ × counts.Counts) → Type 0
+Glimpses sys v w None = Glances v w × AllByRecursion (IsClear w) (priorities sys)
+Glimpses sys v w (Some (p, c)) = Glances v w × ShowsEntry sys p c w
+
+-- Records came; the hands are as they were, and no code was handed in or found.
+pub record GoesAlong (v w : LaneView) : Type 0 where
+  pub ts : List ToldItem
+  pub told : w.told ≡ v.told ++ ts
+  pub hands : w.hands ≡ v.hands
+  pub stops : w.stops ≡ v.stops
+  pub answered : w.answered ≡ v.answered
+  pub keeps : SameLane v w
+
+-- A source's lane within a `settle`: whole stimuli, the `stim` of the `settle`, and so many tries of it.
+pub record IsOpen (sys : System) (ss : List Stim) (n : ℕ) (v : LaneView) : Type 0 where
+  pub of : v.sys ≡ sys
+  pub none : v.by ≡ 0
+  pub front : List ToldItem
+  pub tries : List Told
+  pub told : v.told ≡ front ++ map (for_object 0) (plain (body.Stim (n + 1) 0) ∷ tries)
+  pub rest : List Stim
+  pub next : drop n ss ≡ stim.Settle ∷ rest
+  pub count : ℕ
+  pub fits : Tries (priorities sys) count tries
+  pub runs : (kernel : ℕ) → may_try kernel ≡ true → SourceRuns sys kernel 1 (take n ss) AllDone (told_alone front)
+  pub alone : list_all (λ i. i.of == 0) (untold_all v.told) ≡ true
+  pub calm : list_any (λ i. is_end i.body) (untold_all v.told) ≡ false
+  pub differ : none_twice (tries_in v.told) ≡ true
+  pub known : AllByRecursion (IsKnownTry v) (tries_in v.told)
+  pub hands : v.hands ≡ []
+
+-- the `settle` is under way, and what was seen empty is still known so
+pub record Opens (sys : System) (x y : Cursor) (v w : LaneView) : Type 0 where
+  pub cursor : y ≡ record x { begun = done x + 1; settling = true }
+  pub here : IsOpen sys (mine x) (done x) w
+  pub along : GoesAlong v w
+  pub clear : (p : ℕ) → IsClear v p → IsClear w p
+
+-- what a call leaves as it was, whether the `settle` was passed or not
+pub record StaysAt (sys : System) (x y : Cursor) (v w : LaneView) : Type 0 where
+  pub at : IsCursorAt sys y w
+  pub stim : y.stim ≡ x.stim
+  pub source : y.source ≡ x.source
+  pub lane : y.lane ≡ x.lane
+  pub along : GoesAlong v w
+
+-- the `settle` is done
+pub record HasPassed (sys : System) (x y : Cursor) (v w : LaneView) : Type 0 where
+  pub stays : StaysAt sys x y v w
+  pub calm : y.settling ≡ false
+  pub one : done y ≡ done x + 1
+
+-- the queue of p showed an entry at these counts, and they are what the lane knows of it
+pub record FindsEntry (sys : System) (p : ℕ) (c : counts.Counts) (x y : Cursor) (v w : LaneView) : Type 0 where
+  pub stays : StaysAt sys x y v w
+  pub same : done y ≡ done x
+  pub shows : ShowsEntry sys p c w
+
+abbrev pub Passes : System → Cursor → Cursor → LaneView → LaneView → Passed → Type 0
+Passes sys x y v w passed.Yes = HasPassed sys x y v w
+Passes sys x y v w (passed.Found p now) = FindsEntry sys p now x y v w
+Passes sys x y v w passed.Stopped = SourceStops sys x y v w
+Passes sys x y v w passed.Memory = SourceStarves v w

@@ -1,0 +1,88 @@
+-- Lanes that stay the same lanes.
+use Rattle.std.proofs.Common.{◌≡◌, ℕ, ◌≤◌, Bool, true, false, List, [], ◌∷◌, refl, sym, ◌∙◌, ap, subst, arith, IsTrue, Some}
+use Rattle.std.proofs.lemmas.Bool.Decides.{nat_tests}
+use Rattle.qp_calls.specs.Clauses.{Stopped}
+use Rattle.std.specs.List.{AllByRecursion}
+use Rattle.qp_model.specs.WordLaw.{is_object}
+use Rattle.qp_model.specs.declared.words.Word.TheVariants as word
+use Rattle.qp_calls.specs.LaneView.{LaneView}
+use Rattle.qp_port_phases.specs.Lanes.{AreObjects, AreOneTable, AreTogether, IsTogether, KeepEach, SameEach}
+use Rattle.qp_port_phases.specs.Quiet.{AllBelow, HasFound}
+use Rattle.qp_port_workers.specs.Turns.{AreReady, TurnEach}
+
+module _ {T : Type 0} (Ready : T → Type 0) (Same : T → T → Type 0) (waits remains : T → Bool) where
+  pub keep-ready : (xs ys : List T) → KeepEach Ready Same waits remains xs ys → AreReady Ready ys
+  keep-ready [] [] h = tt
+  keep-ready (x ∷ xs) (y ∷ ys) h = (h.0.ready, keep-ready xs ys h.1)
+  keep-ready [] (y ∷ ys) h = absurd h
+  keep-ready (x ∷ xs) [] h = absurd h
+
+  pub keep-same : (xs ys : List T) → KeepEach Ready Same waits remains xs ys → SameEach Same xs ys
+  keep-same [] [] h = tt
+  keep-same (x ∷ xs) (y ∷ ys) h = (h.0.same, keep-same xs ys h.1)
+  keep-same [] (y ∷ ys) h = absurd h
+  keep-same (x ∷ xs) [] h = absurd h
+
+module _ {T : Type 0} (Same : T → T → Type 0) where
+  pub same-each : ((a : T) → Same a a) → (xs : List T) → SameEach Same xs xs
+  same-each itself [] = tt
+  same-each itself (x ∷ xs) = (itself x, same-each itself xs)
+
+  pub same-then : ((a b c : T) → Same a b → Same b c → Same a c) → (xs ys zs : List T) → SameEach Same xs ys → SameEach Same ys zs → SameEach Same xs zs
+  same-then still [] [] [] h k = tt
+  same-then still (x ∷ xs) (y ∷ ys) (z ∷ zs) h k = (still x y z h.0 k.0, same-then still xs ys zs h.1 k.1)
+  same-then still [] [] (z ∷ zs) h k = absurd k
+  same-then still [] (y ∷ ys) zs h k = absurd h
+  same-then still (x ∷ xs) [] zs h k = absurd h
+  same-then still (x ∷ xs) (y ∷ ys) [] h k = absurd k
+
+module _ {T : Type 0} (Ready : T → Type 0) (Same Turned : T → T → Type 0) where
+  pub went-ready : ((a b : T) → Turned a b → Ready b × Same a b) → (xs ys : List T) → TurnEach Turned xs ys → AreReady Ready ys
+  went-ready went [] [] h = tt
+  went-ready went (x ∷ xs) (y ∷ ys) h = ((went x y h.0).0, went-ready went xs ys h.1)
+  went-ready went [] (y ∷ ys) h = absurd h
+  went-ready went (x ∷ xs) [] h = absurd h
+
+  pub went-same : ((a b : T) → Turned a b → Ready b × Same a b) → (xs ys : List T) → TurnEach Turned xs ys → SameEach Same xs ys
+  went-same went [] [] h = tt
+  went-same went (x ∷ xs) (y ∷ ys) h = ((went x y h.0).1, went-same went xs ys h.1)
+  went-same went [] (y ∷ ys) h = absurd h
+  went-same went (x ∷ xs) [] h = absurd h
+
+pub objects-still : (v w : LaneView) (ps : List ℕ) → IsTogether v w → AreObjects v ps → AreObjects w ps
+objects-still v w ps moved h = subst (λ s. AllByRecursion (λ p. IsTrue (is_object s p)) ps) (sym moved.sys) h
+
+module _ {T : Type 0} (view : T → LaneView) where
+  pub below-rises : (v w : LaneView) → ((p : ℕ) → v.mark (word.Queue p) ≤ w.mark (word.Queue p)) → (xs : List T) → AllBelow view v xs → AllBelow view w xs
+  below-rises v w up [] h = tt
+  below-rises v w up (x ∷ xs) h = ((λ p. let a = h.0 p in let b = up p in omega (arith, a, b)), below-rises v w up xs h.1)
+
+  -- the first lane went on, and so did the others
+  pub together-first : (v w : LaneView) → IsTogether v w → (xs : List T) → AreTogether view v xs → AreTogether view w xs
+  together-first v w moved [] h = tt
+  together-first v w moved (x ∷ xs) h = (record { world = h.0.world ∙ sym moved.world; sys = h.0.sys ∙ sym moved.sys }, together-first v w moved xs h.1)
+
+  module _ (Same : T → T → Type 0) (table : (a b : T) → Same a b → IsTogether (view a) (view b)) where
+    pub together-others : (v : LaneView) (xs ys : List T) → SameEach Same xs ys → AreTogether view v xs → AreTogether view v ys
+    together-others v [] [] same h = tt
+    together-others v (x ∷ xs) (y ∷ ys) same h =
+        let moved = table x y same.0 in
+        (record { world = moved.world ∙ h.0.world; sys = moved.sys ∙ h.0.sys }, together-others v xs ys same.1 h.1)
+    together-others v [] (y ∷ ys) same h = absurd same
+    together-others v (x ∷ xs) [] same h = absurd same
+
+    pub table-still : (objects : List ℕ) (xs ys : List T) → SameEach Same xs ys → AreOneTable view objects xs → AreOneTable view objects ys
+    table-still objects [] [] same h = tt
+    table-still objects (x ∷ xs) (y ∷ ys) same h = (
+      together-first (view x) (view y) (table x y same.0) ys (together-others (view x) xs ys same.1 h.0),
+      objects-still (view x) (view y) objects (table x y same.0) h.1,
+    )
+    table-still objects [] (y ∷ ys) same h = absurd same
+    table-still objects (x ∷ xs) [] same h = absurd same
+
+-- a code was found in the stop word
+pub found-seven : (v w : LaneView) (code : ℕ) → Stopped v w (Some code) → code ≡ 7 → HasFound true w
+found-seven v w code h is = record { code = code; others = v.answered; answered = ap (λ x. x.answered) h.0; some = h.1; seven = rw is refl }
+
+pub found-other : (v w : LaneView) (code : ℕ) → Stopped v w (Some code) → (code ≡ 7 → ⊥) → HasFound false w
+found-other v w code h other = record { code = code; others = v.answered; answered = ap (λ x. x.answered) h.0; some = h.1; seven = grind (arith, nat_tests, other) }

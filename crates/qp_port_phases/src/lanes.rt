@@ -1,0 +1,88 @@
+//! What the starting thread asks of lanes between phases.
+
+ghost use Rattle.std.specs.Prelude.{ℕ, ◌≡◌, Bool, IsTrue, true};
+ghost use Rattle.qp_model.specs.WordLaw.{is_object};
+ghost use Rattle.qp_calls.specs.LaneView.{LaneView};
+ghost use Rattle.qp_calls.specs.Clauses.{Counted, Stopped};
+ghost use Rattle.qp_port_phases.specs.Lanes.{IsTogether, Kept, Met};
+
+use qp_calls::Counts;
+use qp_port_workers::Worker;
+
+/// What became of a `settle`.
+#[derive(Drop)]
+pub enum Passed {
+    /// It is done.
+    Yes,
+    /// The queue of object `p` showed an entry at these counts.
+    Found { p: u8, now: Counts },
+    /// The lane has just stopped the run, or the stop word was found set.
+    Stopped,
+    /// Memory was refused.
+    Memory,
+}
+
+/// The lane of a worker, between phases.
+///
+/// A worker that has ended is a lane like another: it is met and looked at, and its turns do nothing.
+pub trait Lane: Worker {
+    /// What the lane has seen.
+    ghost view: { Self → LaneView };
+
+    /// Whether it stands at a `settle`.
+    ghost waits: { Self → Bool };
+
+    /// Whether it has a stimulus left.
+    ghost remains: { Self → Bool };
+
+    /// The same lane, of the same object or source.
+    ghost same: { Self → Self → Type 0 };
+
+    /// This lane sees what the other has seen, which is of the same table.
+    fn meet(&mut self, other: &mut Self)
+        requires ready { Self.ready self.old }
+        requires other_ready { Self.ready other.old }
+        requires table { IsTogether (view self.old) (view other.old) }
+        ensures meets { Met (view self.old) (view other.old) (view self.new) }
+        ensures other { view other.new ≡ view other.old }
+        ensures kept { Kept Self.ready same waits remains self.old self.new }
+        ensures other_kept { Kept Self.ready same waits remains other.old other.new };
+
+    /// Whether it stands at a `settle`.
+    fn at_settle(&self) -> bool
+        ensures { result ≡ waits self.now };
+
+    /// Whether it has a stimulus left.
+    fn left(&self) -> bool
+        ensures { result ≡ remains self.now };
+
+    /// Passes the `settle`, or tries to.
+    fn pass_settle(&mut self) -> Passed
+        requires ready { Self.ready self.old }
+        requires waits { waits self.old ≡ true }
+        ensures ready { Self.ready self.new }
+        ensures same { same self.old self.new };
+
+    /// Looks at a queue, and adds nothing.
+    fn counts(&mut self, p: u8) -> Counts
+        requires ready { Self.ready self.old }
+        requires object { IsTrue (is_object (view self.old).sys p) }
+        ensures counted { Counted p (view self.old) (view self.new) result }
+        ensures kept { Kept Self.ready same waits remains self.old self.new };
+
+    /// The code in the stop word. None exactly where it is 0.
+    fn stopped(&mut self) -> Option<u8>
+        requires ready { Self.ready self.old }
+        ensures stopped { Stopped (view self.old) (view self.new) result }
+        ensures kept { Kept Self.ready same waits remains self.old self.new };
+
+    ghost same_itself: { (a : Self) → same a a };
+
+    ghost same_still: { (a b c : Self) → same a b → same b c → same a c };
+
+    /// It stays in its table.
+    ghost same_table: { (a b : Self) → same a b → IsTogether (view a) (view b) };
+
+    /// A turn leaves a lane that may take another, and the same.
+    ghost went: { (a b : Self) → Self.Worker.turned a b → Self.Worker.ready b × same a b };
+}

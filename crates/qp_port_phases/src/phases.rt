@@ -1,0 +1,179 @@
+//! The phases of a run.
+
+ghost use Rattle.std.specs.Prelude.{ℕ, ◌≡◌, ◌<◌, ◌≤◌, IsTrue, length, true, false, Some};
+ghost use Rattle.qp_model.specs.WordLaw.{is_object};
+ghost use Rattle.std.specs.List.{list_any};
+ghost use Rattle.qp_port_phases.specs.declared.phases.Ended.TheVariants as ended;
+ghost use Rattle.qp_model.specs.declared.words.Word.TheVariants as word;
+ghost use Rattle.qp_port_phases.specs.Lanes.{AreObjects, AreOneTable, AreTogether, IsTogether, KeepEach, Kept, SameEach};
+ghost use Rattle.qp_port_phases.specs.Quiet.{AllBelow, AreEmpty, FirstFound, HasEnded, HasFound, IsEmpty, IsQuiet};
+ghost use Rattle.qp_port_workers.specs.Turns.{AreReady};
+
+use crate::lanes::Lane;
+use qp_port_workers::run_lanes;
+use std::sync::Wait;
+use std::thread::Threads;
+
+/// How the phases ended.
+#[derive(Clone, Copy)]
+pub enum Ended {
+    /// Each queue was seen empty, and no stimulus is left.
+    Idle,
+    /// The stop word was found set.
+    Stopped,
+    /// It was found set for want of memory.
+    Memory,
+}
+
+/// The first lane meets all others.
+fn meet_all<T: Lane>(first: &mut T, others: &mut [T])
+    requires first_ready { T.ready first.old }
+    requires others_ready { AreReady T.ready others.old }
+    requires together { AreTogether T.view (T.view first.old) others.old }
+    ensures first { Kept T.ready T.same T.waits T.remains first.old first.new }
+    ensures rises { (w : ℕ) → (T.view first.old).mark (word.Queue w) ≤ (T.view first.new).mark (word.Queue w) }
+    ensures others { KeepEach T.ready T.same T.waits T.remains others.old others.new }
+    ensures met { AllBelow T.view (T.view first.new) others.new }
+{
+    let Some((one, rest)) = others.split_first_mut() else {
+        return;
+    };
+    first.meet(one);
+    meet_all(first, rest);
+}
+
+/// Whether a queue is seen empty by the lane.
+fn is_empty<T: Lane>(lane: &mut T, p: u8) -> bool
+    requires ready { T.ready lane.old }
+    requires object { IsTrue (is_object (T.view lane.old).sys p) }
+    ensures kept { Kept T.ready T.same T.waits T.remains lane.old lane.new }
+    ensures rises { (w : ℕ) → (T.view lane.old).mark (word.Queue w) ≤ (T.view lane.new).mark (word.Queue w) }
+    ensures empty { result ≡ true → IsEmpty (T.view lane.new) p }
+    ensures others { result ≡ true → (q : ℕ) → IsEmpty (T.view lane.old) q → IsEmpty (T.view lane.new) q }
+{
+    let c = lane.counts(p);
+    u64::from(c.f) + u64::from(c.l) == u64::from(c.m)
+}
+
+/// Whether all these queues are seen empty by the lane; others that were stay so.
+fn are_empty<T: Lane>(lane: &mut T, objects: &[u8]) -> bool
+    requires ready { T.ready lane.old }
+    requires objects { AreObjects (T.view lane.old) objects.now }
+    ensures kept { Kept T.ready T.same T.waits T.remains lane.old lane.new }
+    ensures rises { (w : ℕ) → (T.view lane.old).mark (word.Queue w) ≤ (T.view lane.new).mark (word.Queue w) }
+    ensures empty { result ≡ true → AreEmpty objects.now (T.view lane.new) }
+    ensures others { result ≡ true → (q : ℕ) → IsEmpty (T.view lane.old) q → IsEmpty (T.view lane.new) q }
+{
+    let Some((one, rest)) = objects.split_first() else {
+        return true;
+    };
+    is_empty(lane, *one) && are_empty(lane, rest)
+}
+
+/// Whether a lane has a stimulus left.
+fn any_left<T: Lane>(lanes: &[T]) -> bool
+    ensures { result ≡ list_any T.remains lanes.now }
+{
+    lanes.iter().any(|lane| lane.left())
+}
+
+/// Each lane that stands at a `settle` sees what the first has seen, and then passes it, or tries to.
+fn pass_all<T: Lane>(first: &mut T, others: &mut [T])
+    requires first_ready { T.ready first.old }
+    requires others_ready { AreReady T.ready others.old }
+    requires together { AreTogether T.view (T.view first.old) others.old }
+    ensures first { Kept T.ready T.same T.waits T.remains first.old first.new }
+    ensures ready { AreReady T.ready others.new }
+    ensures others { SameEach T.same others.old others.new }
+{
+    let Some((one, rest)) = others.split_first_mut() else {
+        return;
+    };
+    pass_one(first, one);
+    pass_all(first, rest);
+}
+
+/// The same for one lane.
+fn pass_one<T: Lane>(first: &mut T, lane: &mut T)
+    requires first_ready { T.ready first.old }
+    requires ready { T.ready lane.old }
+    requires together { IsTogether (T.view first.old) (T.view lane.old) }
+    ensures first { Kept T.ready T.same T.waits T.remains first.old first.new }
+    ensures ready { T.ready lane.new }
+    ensures same { T.same lane.old lane.new }
+{
+    if lane.at_settle() {
+        lane.meet(first);
+        let _ = lane.pass_settle();
+    }
+}
+
+/// Looks at the run between phases: whether it has ended, and how.
+fn look<T: Lane>(first: &mut T, others: &mut [T], objects: &[u8]) -> Option<Ended>
+    requires first_ready { T.ready first.old }
+    requires others_ready { AreReady T.ready others.old }
+    requires together { AreTogether T.view (T.view first.old) others.old }
+    requires objects { AreObjects (T.view first.old) objects.now }
+    ensures first { Kept T.ready T.same T.waits T.remains first.old first.new }
+    ensures others { KeepEach T.ready T.same T.waits T.remains others.old others.new }
+    ensures idle { result ≡ Some ended.Idle → IsQuiet T.view T.remains objects.now first.new others.new }
+    ensures stopped { result ≡ Some ended.Stopped → HasFound false (T.view first.new) }
+    ensures memory { result ≡ Some ended.Memory → HasFound true (T.view first.new) }
+{
+    meet_all(first, others);
+    match first.stopped() {
+        Some(7) => return Some(Ended::Memory),
+        Some(_) => return Some(Ended::Stopped),
+        None => {}
+    }
+    if are_empty(first, objects) && !any_left(others) {
+        return Some(Ended::Idle);
+    }
+    None
+}
+
+/// Runs the phases: between them the first lane meets all others and looks at the queues, and each lane at a `settle` passes
+/// it or tries to; in them all lanes take a turn, beside one another.
+pub fn run_phases<R: Threads + Wait + Sync, T: Lane>(
+    rt: &R,
+    objects: &[u8],
+    workers: &mut [T],
+) -> Ended
+    requires ready { AreReady T.ready workers.old }
+    requires table { AreOneTable T.view objects.now workers.old }
+    ensures ready { AreReady T.ready workers.new }
+    ensures same { SameEach T.same workers.old workers.new }
+    ensures idle { result ≡ ended.Idle → HasEnded T.view T.remains objects.now workers.new }
+    ensures stopped { result ≡ ended.Stopped → FirstFound T.view false workers.new }
+    ensures memory { result ≡ ended.Memory → FirstFound T.view true workers.new }
+{
+    for _ in rt.forever() {
+        if let Some(how) = between(objects, workers) {
+            return how;
+        }
+        run_lanes(rt, workers);
+    }
+    unreachable!()
+}
+
+/// Between two phases: whether the run has ended, and how.
+fn between<T: Lane>(objects: &[u8], workers: &mut [T]) -> Option<Ended>
+    requires ready { AreReady T.ready workers.old }
+    requires table { AreOneTable T.view objects.now workers.old }
+    ensures ready { AreReady T.ready workers.new }
+    ensures same { SameEach T.same workers.old workers.new }
+    ensures idle { result ≡ Some ended.Idle → HasEnded T.view T.remains objects.now workers.new }
+    ensures stopped { result ≡ Some ended.Stopped → FirstFound T.view false workers.new }
+    ensures memory { result ≡ Some ended.Memory → FirstFound T.view true workers.new }
+{
+    let Some((first, others)) = workers.split_first_mut() else {
+        return None;
+    };
+    match look(first, others, objects) {
+        None => {
+            pass_all(first, others);
+            None
+        }
+        how => how,
+    }
+}

@@ -1,5 +1,0 @@
-use Rattle.qp_queues.proofs.LawLemmas.{frees_keep_the_rule as law}
-use Rattle.qp_queues.proofs.laws.frees_keep_the_rule.Goals as goal
-
-pub returns : goal.returns
-returns c = law

@@ -1,3 +1,0 @@
-mod OrderLemmas
-mod PrefixLemmas
-mod Rests

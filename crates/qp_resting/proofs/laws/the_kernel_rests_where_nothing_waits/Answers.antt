@@ -1,5 +1,0 @@
-use Rattle.qp_resting.proofs.Rests.{rests-idle}
-use Rattle.qp_resting.proofs.laws.the_kernel_rests_where_nothing_waits.Goals as goal
-
-pub returns : goal.returns
-returns c = rests-idle

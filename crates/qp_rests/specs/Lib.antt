@@ -1,2 +1,0 @@
--- Definitions of objects at rest.
-pub mod Rests

@@ -1,5 +1,0 @@
-use Rattle.qp_rows.proofs.Switched.{lawful}
-use Rattle.qp_rows.proofs.lawful.a_lamp_is_switched_on.Goals as goal
-
-pub returns : goal.returns
-returns c = lawful

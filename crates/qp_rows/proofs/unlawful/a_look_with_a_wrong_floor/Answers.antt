@@ -1,5 +1,0 @@
-use Rattle.qp_rows.proofs.WrongFloor.{broken}
-use Rattle.qp_rows.proofs.unlawful.a_look_with_a_wrong_floor.Goals as goal
-
-pub returns : goal.returns
-returns c = broken

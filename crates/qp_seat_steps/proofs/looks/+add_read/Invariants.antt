@@ -1,5 +1,0 @@
-use Rattle.std.proofs.Common.{length}
-use Rattle.qp_seat_steps.proofs.looks.+add_read.Given as goal
-
-abbrev pub decreases-add_read : goal.decreases-add_read
-decreases-add_read l = length l.gives.now

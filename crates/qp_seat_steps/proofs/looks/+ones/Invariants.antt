@@ -1,4 +1,0 @@
-use Rattle.qp_seat_steps.proofs.looks.+ones.Given as goal
-
-abbrev pub decreases-ones : goal.decreases-ones
-decreases-ones l = l.left

@@ -1,5 +1,0 @@
-use Rattle.std.proofs.Common.{length}
-use Rattle.qp_seat_steps.proofs.queues.+oldest.Given as goal
-
-abbrev pub decreases-oldest : goal.decreases-oldest
-decreases-oldest l = length l.places.now

@@ -1,5 +1,0 @@
-use Rattle.qp_shapes.proofs.ObjectReleaseLemmas.{release-decided}
-use Rattle.qp_shapes.proofs.object_shape.is_release_front.Goals as goal
-
-pub returns : goal.returns
-returns c = release-decided c.args.e c.args.told.now c.release_front.result c.release_front.ensures

@@ -1,5 +1,0 @@
-use Rattle.std.proofs.Common.{length}
-use Rattle.qp_shapes.proofs.shape_publication.+run.Given as goal
-
-abbrev pub decreases-run : goal.decreases-run
-decreases-run l = length l.told.now

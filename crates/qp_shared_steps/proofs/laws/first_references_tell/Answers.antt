@@ -1,0 +1,5 @@
+use Rattle.qp_shared_steps.proofs.LawLemmas.{first_references_tell as law}
+use Rattle.qp_shared_steps.proofs.laws.first_references_tell.Goals as goal
+
+pub returns : goal.returns
+returns c = law

@@ -1,0 +1,5 @@
+use Rattle.qp_sim_unique.proofs.OnlyLemmas.{each-tidy}
+use Rattle.qp_sim_unique.proofs.journal_laws.sim_journals_are_tidy.Goals as goal
+
+pub returns : goal.returns
+returns c = each-tidy

@@ -1,5 +1,0 @@
-use Rattle.qp_simulation.specs.Resting.{AreShown}
-use Rattle.qp_simulation.proofs.rests.rests.Given as goal
-
-abbrev pub invariant-loop-d : goal.invariant-loop-d
-invariant-loop-d l = AreShown l.objects l.under_way l.rests.items

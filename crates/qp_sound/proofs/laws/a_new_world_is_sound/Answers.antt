@@ -1,5 +1,0 @@
-use Rattle.qp_sound.proofs.NewLemmas.{new-sound, new-lane}
-use Rattle.qp_sound.proofs.laws.a_new_world_is_sound.Goals as goal
-
-pub returns : goal.returns
-returns c = record { sound = new-sound; new = new-lane }

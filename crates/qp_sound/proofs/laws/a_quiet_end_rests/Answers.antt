@@ -1,5 +1,0 @@
-use Rattle.qp_sound.proofs.EndLemmas.{quiet-end}
-use Rattle.qp_sound.proofs.laws.a_quiet_end_rests.Goals as goal
-
-pub returns : goal.returns
-returns c = quiet-end

@@ -1,5 +1,0 @@
-use Rattle.qp_sound.proofs.LawLemmas.{stays-sound}
-use Rattle.qp_sound.proofs.laws.a_world_stays_sound.Goals as goal
-
-pub returns : goal.returns
-returns c = stays-sound

@@ -1,5 +1,0 @@
-use Rattle.qp_sound.proofs.EndLemmas.{every-block}
-use Rattle.qp_sound.proofs.laws.every_block_stands.Goals as goal
-
-pub returns : goal.returns
-returns c = every-block

@@ -1,0 +1,10 @@
+use Rattle.std.proofs.Common.{◌≡◌, ◌++◌, map, drop}
+use Rattle.std.specs.Option.{option_map}
+use Rattle.toml.specs.Data.{as_table}
+use Rattle.toml.specs.View.{items_view, table_view}
+use Rattle.qp_system_tables.specs.Values.{all_of_kind}
+use Rattle.qp_system_tables.proofs.lists.all_tables.Given as goal
+
+abbrev pub invariant-loop-item : goal.invariant-loop-item
+invariant-loop-item l =
+    option_map (λ rest. map (λ t. table_view t.now) l.tables.items ++ rest) (all_of_kind as_table (items_view (drop l.item-index l.items))) ≡ all_of_kind as_table (items_view l.items)

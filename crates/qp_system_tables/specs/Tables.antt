@@ -1,0 +1,110 @@
+-- The tables of a system file: a system whose names aren't looked up, or the first fault of a tree that any table has by itself.
+use Rattle.std.specs.Prelude.{ℕ, Bool, true, false, List, [], ◌∷◌, ◌++◌, if◌then◌else◌, Some, None, Ok}
+use Rattle.std.specs.declared.option.Option.{Option}
+use Rattle.std.specs.declared.result.Result.{Result}
+use Rattle.std.specs.Option.{option_map_or}
+use Rattle.toml.specs.Data.{Data, Items, no_items, item, Members, as_array}
+use Rattle.qp_chart_names.specs.declared.place.Part.{Part}
+use Rattle.qp_chart_names.specs.declared.place.Part.TheVariants.{Key}
+use Rattle.qp_chart_names.specs.Keys.{QP, POOL, SIGNAL, CHART, OBJECT, SIZE, BLOCKS, NAME, PARAMS, STATIC, INIT, INIT_DO, VARS, TIMER, STATE, RATE, PARENT, ENTRY, EXIT, ROW, ON, WHEN, DO, TO, PRIORITY, QUEUE, DEFER, THRESHOLD}
+use Rattle.qp_chart_names.specs.Codes.{MISSING}
+use Rattle.qp_chart_names.specs.Faults.{Fault}
+use Rattle.qp_system_tables.specs.Raw.{Pool, Signal, Timer, Row, State, Chart, Object, Raw}
+use Rattle.qp_system_tables.specs.Tree.{◌>>=◌, refuse, at_key, knows, needed, defaulted, optional, each}
+use Rattle.qp_system_tables.specs.Values.{number_of, name_of, text_of, flag_of, texts_of, vars_of, tables_of}
+
+-- a list of tables, each of which is read in turn right after the list itself
+abbrev pub read_tables : {A : Type 0} → (List Part → Members → Result A Fault) → List Part → Result (List Members) Fault → Result (List A) Fault
+read_tables read place tables = tables >>= λ ts. each read place 1 ts
+
+unfoldable pub pool_at : List Part → Members → Result Pool Fault
+pool_at at table = do
+  _ ← knows (SIZE ∷ BLOCKS ∷ []) at table
+  size ← needed (number_of 0 8) SIZE at table
+  blocks ← needed (number_of 1 32) BLOCKS at table
+  Ok (record { size = size; blocks = blocks })
+
+unfoldable pub signal_at : List Part → Members → Result Signal Fault
+signal_at at table = do
+  _ ← knows (NAME ∷ PARAMS ∷ STATIC ∷ []) at table
+  name ← needed name_of NAME at table
+  params ← defaulted 0 (number_of 0 8) PARAMS at table
+  fixed ← defaulted false flag_of STATIC at table
+  Ok (record { name = name; params = params; fixed = fixed })
+
+unfoldable pub timer_at : List Part → Members → Result Timer Fault
+timer_at at table = do
+  _ ← knows (NAME ∷ SIGNAL ∷ RATE ∷ []) at table
+  name ← needed name_of NAME at table
+  signal ← needed name_of SIGNAL at table
+  rate ← needed (number_of 0 3) RATE at table
+  Ok (record { name = name; signal = signal; rate = rate })
+
+unfoldable pub row_at : List Part → Members → Result Row Fault
+row_at at table = do
+  _ ← knows (ON ∷ WHEN ∷ DO ∷ TO ∷ []) at table
+  on ← needed name_of ON at table
+  when ← optional text_of WHEN at table
+  acts ← defaulted [] texts_of DO at table
+  to ← optional name_of TO at table
+  Ok (record { on = on; when = when; acts = acts; to = to })
+
+abbrev pub is_filled : Items → Bool
+is_filled no_items = false
+is_filled (item value more) = true
+
+-- a list that isn't empty
+abbrev pub has_items : Option Data → Bool
+has_items None = false
+has_items (Some value) = option_map_or is_filled (as_array value) false
+
+-- `init` of a state, which may not be missing beside an `init_do` that isn't empty
+abbrev pub initial : List Part → Option Data → Option Data → Result (Option (List ℕ)) Fault
+initial place (Some value) acts = name_of place value >>= λ name. Ok (Some name)
+initial place None acts = if has_items acts then refuse MISSING place else Ok None
+
+unfoldable pub state_at : List Part → Members → Result State Fault
+state_at at table = do
+  _ ← knows (NAME ∷ PARENT ∷ ENTRY ∷ EXIT ∷ INIT ∷ INIT_DO ∷ ROW ∷ []) at table
+  name ← needed name_of NAME at table
+  parent ← optional name_of PARENT at table
+  entry ← defaulted [] texts_of ENTRY at table
+  exit ← defaulted [] texts_of EXIT at table
+  init ← initial (at ++ Key INIT ∷ []) (at_key INIT table) (at_key INIT_DO table)
+  init_do ← defaulted [] texts_of INIT_DO at table
+  rows ← read_tables row_at (at ++ Key ROW ∷ []) (defaulted [] (tables_of 0 32) ROW at table)
+  Ok (record { name = name; parent = parent; entry = entry; exit = exit; init = init; init_do = init_do; rows = rows })
+
+unfoldable pub chart_at : List Part → Members → Result Chart Fault
+chart_at at table = do
+  _ ← knows (NAME ∷ INIT ∷ INIT_DO ∷ VARS ∷ TIMER ∷ STATE ∷ []) at table
+  name ← needed name_of NAME at table
+  init ← needed name_of INIT at table
+  init_do ← defaulted [] texts_of INIT_DO at table
+  vars ← defaulted [] (vars_of (Some 16)) VARS at table
+  timers ← read_tables timer_at (at ++ Key TIMER ∷ []) (defaulted [] (tables_of 0 8) TIMER at table)
+  states ← read_tables state_at (at ++ Key STATE ∷ []) (needed (tables_of 1 64) STATE at table)
+  Ok (record { name = name; init = init; init_do = init_do; vars = vars; timers = timers; states = states })
+
+unfoldable pub object_at : List Part → Members → Result Object Fault
+object_at at table = do
+  _ ← knows (NAME ∷ CHART ∷ PRIORITY ∷ THRESHOLD ∷ QUEUE ∷ DEFER ∷ VARS ∷ []) at table
+  name ← needed name_of NAME at table
+  chart ← needed name_of CHART at table
+  priority ← needed (number_of 1 32) PRIORITY at table
+  threshold ← defaulted priority (number_of 1 32) THRESHOLD at table
+  queue ← needed (number_of 0 255) QUEUE at table
+  defer ← defaulted 0 (number_of 0 255) DEFER at table
+  vars ← defaulted [] (vars_of None) VARS at table
+  Ok (record { name = name; chart = chart; priority = priority; threshold = threshold; queue = queue; defer = defer; vars = vars })
+
+-- the whole tree, in the order of the keys
+unfoldable pub raw_of : Members → Result Raw Fault
+raw_of table = do
+  _ ← knows (QP ∷ POOL ∷ SIGNAL ∷ CHART ∷ OBJECT ∷ []) [] table
+  version ← needed (number_of 1 1) QP [] table
+  pools ← read_tables pool_at (Key POOL ∷ []) (defaulted [] (tables_of 0 15) POOL [] table)
+  signals ← read_tables signal_at (Key SIGNAL ∷ []) (defaulted [] (tables_of 0 200) SIGNAL [] table)
+  charts ← read_tables chart_at (Key CHART ∷ []) (needed (tables_of 1 32) CHART [] table)
+  objects ← read_tables object_at (Key OBJECT ∷ []) (needed (tables_of 1 32) OBJECT [] table)
+  Ok (record { pools = pools; signals = signals; charts = charts; objects = objects })

@@ -1,0 +1,52 @@
+//! Time events and rows.
+
+ghost use Rattle.qp_system_tables.specs.Raw.{Timer, Row};
+ghost use Rattle.qp_system_tables.specs.Tables.{timer_at, row_at};
+ghost use Rattle.qp_system_tables.specs.Views.{timer_view, row_view};
+
+use crate::entries::Entry;
+use crate::fault::SystemFault;
+use crate::numbers::{Range, needed_number};
+use crate::section::Section;
+use crate::texts::{needed_name, optional_name, optional_text, texts_or_none};
+use qp_chart::{RawRow, RawTimer, key};
+use std::alloc::Global;
+
+impl Entry for RawTimer {
+    ghost Seen = { Timer };
+
+    ghost seen = { timer_view };
+
+    ghost reading = { timer_at };
+
+    ghost depth = { 6 };
+
+    #[tactic(auto, unfolding(crate::specs::Tables::timer_at))]
+    fn read(_alloc: Global, section: Section) -> Result<RawTimer, SystemFault> {
+        section.knows(&[key::NAME, key::SIGNAL, key::RATE])?;
+        let name = needed_name(section, key::NAME)?;
+        let signal = needed_name(section, key::SIGNAL)?;
+        let rate = needed_number(section, key::RATE, Range { least: 0, most: 3 })?;
+        Ok(RawTimer { name, signal, rate })
+    }
+}
+
+impl Entry for RawRow {
+    ghost Seen = { Row };
+
+    ghost seen = { row_view };
+
+    ghost reading = { row_at };
+
+    ghost depth = { 6 };
+
+    #[tactic(auto, unfolding(crate::specs::Tables::row_at))]
+    fn read(alloc: Global, section: Section) -> Result<RawRow, SystemFault> {
+        section.knows(&[key::ON, key::WHEN, key::DO, key::TO])?;
+        let on = needed_name(section, key::ON)?;
+        let when = optional_text(alloc, section, key::WHEN)?;
+        let acts = texts_or_none(alloc, section, key::DO)?;
+        let to = optional_name(section, key::TO)?;
+        Ok(RawRow { on, when, acts, to })
+    }
+}

@@ -1,0 +1,124 @@
+//! States and charts.
+
+ghost use Rattle.std.specs.Prelude.{◌≡◌, ◌∷◌, ◌++◌, [], Some};
+ghost use Rattle.std.specs.Option.{option_map};
+ghost use Rattle.toml.specs.View.{table_view, view};
+ghost use Rattle.qp_chart_names.specs.declared.place.Part.TheVariants.{Key};
+ghost use Rattle.qp_chart_names.specs.Keys as key;
+ghost use Rattle.qp_system_tables.specs.Raw.{State, Chart};
+ghost use Rattle.qp_system_tables.specs.Refused.{Gives};
+ghost use Rattle.qp_system_tables.specs.Tree.{at_key};
+ghost use Rattle.qp_system_tables.specs.Tables.{initial, has_items, state_at, chart_at};
+ghost use Rattle.qp_system_tables.specs.Views.{state_view, chart_view};
+
+use crate::entries::{Entry, entries_or_none, needed_entries};
+use crate::fault::SystemFault;
+use crate::lists::Count;
+use crate::section::Section;
+use crate::texts::{name, needed_name, optional_name, texts_or_none};
+use crate::vars::vars_or_none;
+use qp_chart::{Name, RawChart, RawRows, RawState, RawStates, RawTimers, code, key};
+use std::alloc::Global;
+use toml::Value;
+
+/// Whether a value is a list that isn't empty.
+fn is_filled_list(value: Option<&Value>) -> bool
+    ensures { result ≡ has_items (option_map (λ v. view v.now) value.entry) }
+{
+    let Some(value) = value else {
+        return false;
+    };
+    match value.as_array() {
+        None => false,
+        Some(items) => !items.as_slice().is_empty(),
+    }
+}
+
+/// The initial state of a state, which has to stand where the state has initial actions.
+fn initial_name(section: Section) -> Result<Option<Name>, SystemFault>
+    ensures { Gives (option_map (λ name. name.bytes)) result (initial (section.entry.at.now ++ Key key.INIT ∷ [])
+        (at_key key.INIT (table_view section.entry.table.now)) (at_key key.INIT_DO (table_view section.entry.table.now))) }
+{
+    let place = section.place(key::INIT);
+    match section.value(key::INIT) {
+        Some(value) => Ok(Some(name(place, value)?)),
+        None if is_filled_list(section.value(key::INIT_DO)) => Err(place.refuse(code::MISSING)),
+        None => Ok(None),
+    }
+}
+
+impl Entry for RawState {
+    ghost Seen = { State };
+
+    ghost seen = { state_view };
+
+    ghost reading = { state_at };
+
+    ghost depth = { 4 };
+
+    #[tactic(auto, unfolding(crate::specs::Tables::state_at))]
+    fn read(alloc: Global, section: Section) -> Result<RawState, SystemFault> {
+        section.knows(&[
+            key::NAME,
+            key::PARENT,
+            key::ENTRY,
+            key::EXIT,
+            key::INIT,
+            key::INIT_DO,
+            key::ROW,
+        ])?;
+        let name = needed_name(section, key::NAME)?;
+        let parent = optional_name(section, key::PARENT)?;
+        let entry = texts_or_none(alloc, section, key::ENTRY)?;
+        let exit = texts_or_none(alloc, section, key::EXIT)?;
+        let init = initial_name(section)?;
+        let init_do = texts_or_none(alloc, section, key::INIT_DO)?;
+        let rows = entries_or_none(alloc, section, key::ROW, 32)?;
+        Ok(RawState {
+            name,
+            parent,
+            entry,
+            exit,
+            init,
+            init_do,
+            row: RawRows { items: rows },
+        })
+    }
+}
+
+impl Entry for RawChart {
+    ghost Seen = { Chart };
+
+    ghost seen = { chart_view };
+
+    ghost reading = { chart_at };
+
+    ghost depth = { 2 };
+
+    #[tactic(auto, unfolding(crate::specs::Tables::chart_at))]
+    fn read(alloc: Global, section: Section) -> Result<RawChart, SystemFault> {
+        section.knows(&[
+            key::NAME,
+            key::INIT,
+            key::INIT_DO,
+            key::VARS,
+            key::TIMER,
+            key::STATE,
+        ])?;
+        let name = needed_name(section, key::NAME)?;
+        let init = needed_name(section, key::INIT)?;
+        let init_do = texts_or_none(alloc, section, key::INIT_DO)?;
+        let vars = vars_or_none(alloc, section, key::VARS, Some(16))?;
+        let timers = entries_or_none(alloc, section, key::TIMER, 8)?;
+        let count = Count { least: 1, most: 64 };
+        let states = needed_entries(alloc, section, key::STATE, count)?;
+        Ok(RawChart {
+            name,
+            init,
+            init_do,
+            vars,
+            timer: RawTimers { items: timers },
+            state: RawStates { items: states },
+        })
+    }
+}

@@ -1,0 +1,5 @@
+use Rattle.qp_table.proofs.BlockLawLemmas.{first_references_keep_the_rule as law}
+use Rattle.qp_table.proofs.block_laws.first_references_keep_the_rule.Goals as goal
+
+pub returns : goal.returns
+returns c = law

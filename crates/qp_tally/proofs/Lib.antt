@@ -1,2 +1,0 @@
--- Lemmas of counts.
-pub mod CountLemmas

@@ -1,2 +1,0 @@
--- Definitions of counts.
-pub mod Counting

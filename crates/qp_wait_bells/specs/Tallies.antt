@@ -1,0 +1,28 @@
+-- The rule of the count.
+use Rattle.std.specs.Prelude.{◌≡◌, ℕ, ◌+◌, ◌*◌, ◌^◌, List, [], ◌∷◌, length, slice_index}
+use Rattle.qp_wait_bells.specs.declared.tally.Tally.{Tally}
+
+-- f of each, added up
+abbrev pub total : {V : Type 0} → (V → ℕ) → List V → ℕ
+total f [] = 0
+total f (v ∷ vs) = f v + total f vs
+
+-- a seat without a step
+abbrev pub no_tally : Tally
+no_tally = record { added = 0; taken = 0 }
+
+abbrev pub with_added : ℕ → Tally → Tally
+with_added n v = record v { added = v.added + n }
+
+abbrev pub with_taken : Tally → Tally
+with_taken v = record v { taken = v.taken + 1 }
+
+abbrev pub sum_of : Tally → Tally → Tally
+sum_of v w = record { added = v.added + w.added; taken = v.taken + w.taken }
+
+-- The word is all that was added less all that was taken off, modulo 2^64.
+pub record IsTallied (words : List ℕ) (views : List Tally) : Type 0 where
+  pub one : length words ≡ 1
+  pub over : ℕ
+  pub under : ℕ
+  pub is : slice_index words 0 + total (λ v. v.taken) views + over * 2 ^ 64 ≡ total (λ v. v.added) views + under * 2 ^ 64

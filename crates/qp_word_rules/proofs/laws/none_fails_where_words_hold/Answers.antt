@@ -1,5 +1,0 @@
-use Rattle.qp_word_rules.proofs.LawLemmas.{none_fails_where_words_hold as law}
-use Rattle.qp_word_rules.proofs.laws.none_fails_where_words_hold.Goals as goal
-
-pub returns : goal.returns
-returns c = law

@@ -1,9 +1,0 @@
-//! What the definitions of words mean. The function here does nothing: its contract is the law.
-
-ghost use Rattle.qp_word_rules.specs.WordsLaw.{NoneFailsWhereWordsHold};
-
-/// No definition of words fails at any site exactly where the words of the system keep their law, as lawful
-/// journals have it.
-pub fn none_fails_where_words_hold()
-    ensures { NoneFailsWhereWordsHold }
-{}

@@ -1,5 +1,0 @@
-pub mod Counting
-pub mod Now
-pub mod Rule
-pub mod After
-pub mod Laws
