@@ -2,10 +2,10 @@
 
 use crate::trial::{Trial, run};
 use qp_base::Gate;
+use qp_calls_stimulus::Stimulated;
 use qp_model::Rec;
 use qp_model::vocabulary::word_text;
 use qp_stim::stimuli_of_bytes;
-use qp_calls_stimulus::Stimulated;
 use qp_system::system_of_bytes;
 use std::alloc::{AllocError, Global};
 

@@ -8,9 +8,9 @@ ghost use Rattle.qp_calls_stimulus_tests.specs.Trial.{IsBase};
 
 use qp_base::{Gate, Steps};
 use qp_calls::Ops;
+use qp_calls_stimulus::{Stimulated, stimulus};
 use qp_model::{Lanes, Rec, Stim, System};
 use qp_plain::PlainWorld;
-use qp_calls_stimulus::{Stimulated, stimulus};
 use std::alloc::Global;
 use std::marker::Brand;
 use std::sync::ledger::{Blank, Ledger};

@@ -7,8 +7,8 @@ ghost use Rattle.qp_chart.specs.Binding.{Binds, IsCause};
 ghost use Rattle.qp_chart_names.specs.Known.{is_named, words, has_word, knows};
 
 use crate::expression::Bound;
-use qp_chart_text::{Binary, Expr, Name, Unary};
 use qp_chart_names::known::is_known;
+use qp_chart_text::{Binary, Expr, Name, Unary};
 use std::alloc::{AllocError, AllocFailed, Global};
 
 /// Why the names of an expression are not resolved.

@@ -13,11 +13,11 @@ use crate::checked::{Chart, States, Timer, Timers};
 use crate::parents::check_tree;
 use crate::state_check::checked_states;
 use crate::statements::checked_acts;
-use qp_chart_text::Name;
 use qp_chart_names::fit::signal_is_static;
 use qp_chart_names::{
     ChartFault, Names, Part, RawChart, RawState, RawTimer, Scope, Vars, code, key, tables_of,
 };
+use qp_chart_text::Name;
 use std::alloc::{AllocError, Global};
 
 impl Chart {

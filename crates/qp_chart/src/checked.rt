@@ -4,8 +4,8 @@ ghost use Rattle.std.specs.Option.{option_copied};
 
 use crate::actions::{Act, Acts};
 use crate::expression::Bound;
-use qp_chart_text::Name;
 use qp_chart_names::Vars;
+use qp_chart_text::Name;
 use std::marker::Model;
 
 /// A row of a state: on which signal, under which guard, what is done, and to which state.

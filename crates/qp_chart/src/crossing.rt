@@ -2,8 +2,8 @@
 
 use crate::checked::Chart;
 use crate::expression::Bound;
-use qp_chart_text::Expr;
 use qp_chart_names::{Names, Path, RawChart};
+use qp_chart_text::Expr;
 
 fn crosses<T: Send + Sync>() {}
 

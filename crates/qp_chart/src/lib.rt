@@ -19,11 +19,11 @@ pub use binding::{BindFault, bind};
 pub use checked::{Chart, Row, Rows, State, States, Timer, Timers};
 pub use evaluate::{Env, eval};
 pub use expression::{Bound, Bounds};
-pub use qp_chart_text::{
-    Action, Binary, EventTree, Expr, ExprFault, Exprs, Name, PlainAction, PlainActions, Receiver,
-    Text, Texts, Unary, one_action, one_expression, read_action, read_expr,
-};
 pub use qp_chart_names::{
     ChartFault, Names, ObjName, ObjNames, Part, Path, RawChart, RawRow, RawRows, RawState,
     RawStates, RawTimer, RawTimers, SigName, SigNames, Vars, code, key,
+};
+pub use qp_chart_text::{
+    Action, Binary, EventTree, Expr, ExprFault, Exprs, Name, PlainAction, PlainActions, Receiver,
+    Text, Texts, Unary, one_action, one_expression, read_action, read_expr,
 };

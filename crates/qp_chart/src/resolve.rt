@@ -13,8 +13,8 @@ ghost use Rattle.qp_chart_names.specs.Faults.{IsFault};
 use crate::actions::{Act, Plain, Plains, Target};
 use crate::binding::{BindFault, bind};
 use crate::expression::{Bound, Bounds};
-use qp_chart_text::{Action, EventTree, Expr, Name, PlainAction, Receiver};
 use qp_chart_names::{ChartFault, Scope};
+use qp_chart_text::{Action, EventTree, Expr, Name, PlainAction, Receiver};
 use std::alloc::Global;
 
 /// An expression whose names are declared.

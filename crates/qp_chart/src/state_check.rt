@@ -15,9 +15,9 @@ ghost use Rattle.qp_chart_names.specs.Readable.{IsReadableRow, IsReadableState};
 use crate::checked::{Row, Rows, State, States};
 use crate::parents::stands_above;
 use crate::statements::{checked_acts, checked_guard};
-use qp_chart_text::Name;
 use qp_chart_names::fit::count_of;
 use qp_chart_names::{ChartFault, Part, RawRow, RawState, Scope, code, key};
+use qp_chart_text::Name;
 use std::alloc::Global;
 
 /// The states in order.

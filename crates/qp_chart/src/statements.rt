@@ -12,9 +12,9 @@ ghost use Rattle.qp_chart.specs.ActionOf.{IsActOfCommand, IsActOfText, IsBoundOf
 use crate::actions::{Act, Acts};
 use crate::expression::Bound;
 use crate::resolve::{bound, resolved};
-use qp_chart_text::{Action, Expr, ExprFault, Text, read_action, read_expr};
 use qp_chart_names::fit::{is_fit, is_in_range, is_known, reaches};
 use qp_chart_names::{ChartFault, Part, Scope, code, key};
+use qp_chart_text::{Action, Expr, ExprFault, Text, read_action, read_expr};
 use std::alloc::Global;
 
 /// The actions of the texts in the list at this key. `inside` is the number of parameters of the row's signal; `None` stands outside a row.

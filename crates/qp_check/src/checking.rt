@@ -11,9 +11,9 @@ use crate::run_parts::{end_broken, kernel_broken, lanes_broken};
 use qp_base::Memory;
 use qp_check_histories::records_by_word::RecordsByWord;
 use qp_check_knowledge::knowledge::Knowledge;
-use qp_model::{Journal, Stimuli, System};
 use qp_check_words::judge::words_broken;
 use qp_check_words::verdict::{Broken, Verdict};
+use qp_model::{Journal, Stimuli, System};
 use std::alloc::{AllocError, Global};
 
 /// The first definition behind those of words that fails.
@@ -88,12 +88,7 @@ fn verdict_of(first: Option<Broken>) -> Verdict
 
 /// Whether a journal is lawful for a system and its stimuli, or the first of the definitions of a lawful journal that fails, and its
 /// first site: those of words, then of objects, of the kernel's lane, of the sources and of the end.
-pub fn check(
-    alloc: Global,
-    sys: &System,
-    stim: &Stimuli,
-    j: &Journal,
-) -> Result<Verdict, Memory>
+pub fn check(alloc: Global, sys: &System, stim: &Stimuli, j: &Journal) -> Result<Verdict, Memory>
     requires judgeable { IsJudgeable sys.now }
     requires few { length stim.now ≤ 16 }
     ensures { IfOk result (λ v. IsVerdict (trials sys.now stim.now j.now) v) }

@@ -20,11 +20,11 @@ use qp_check_knowledge::told_home::is_home_lane;
 use qp_check_knowledge::told_lists::keep_dispatched;
 use qp_check_lanes::deferral::keeps_deferred;
 use qp_check_lanes::lane_parts::{home_lane, lane_at};
+use qp_check_words::verdict::{Broken, Site};
 use qp_model::definitions::{COURSE, DEFERRAL, SHAPES};
 use qp_model::ends::may_cut;
 use qp_model::kernels::PORT;
 use qp_model::{Journal, ObjectDef, System};
-use qp_check_words::verdict::{Broken, Site};
 use std::alloc::{AllocError, Global};
 
 fn at_object(definition: u8, d: &ObjectDef) -> Broken

@@ -13,8 +13,8 @@ ghost use Rattle.qp_check_knowledge.specs.Knowledge.{IsKnowledgeOf};
 use qp_check_calls::{Cut, Told};
 use qp_check_knowledge::knowledge::Knowledge;
 use qp_check_knowledge::told_lists::{self, source_told};
-use qp_model::{Journal, ObjectDef, Rec, Source, System};
 use qp_check_shapes::Scene;
+use qp_model::{Journal, ObjectDef, Rec, Source, System};
 use std::alloc::{AllocError, Global};
 use std::marker::Model;
 
@@ -83,7 +83,15 @@ pub(crate) fn is_source_lane(
     ensures { IfOk result (λ b. Decides b (IsSourceLane (facts_of sys.now j.now) j.now.kernel j.now.end source.now (lane_items lane.now))) }
 {
     let told = source_told(alloc, knowledge, lane)?;
-    let is = qp_check_sources::is_source_lane(alloc, sys, j.kernel, j.end, &source.items, lane, &told)?;
+    let is = qp_check_sources::is_source_lane(
+        alloc,
+        sys,
+        j.kernel,
+        j.end,
+        &source.items,
+        lane,
+        &told,
+    )?;
     Ok(is)
 }
 

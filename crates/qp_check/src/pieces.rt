@@ -15,9 +15,9 @@ ghost use Rattle.qp_check.specs.ObjectPieces.{own_piece, pieces_of, point_of, st
 
 use crate::pieces_rows::ObjectPieces;
 use qp_check_calls::{Piece, Told};
+use qp_check_kernel::lane_state::{Reading, Rules, Upcoming};
 use qp_check_knowledge::knowledge::Knowledge;
 use qp_check_knowledge::told_lists::is_turn_mark;
-use qp_check_kernel::lane_state::{Reading, Rules, Upcoming};
 use qp_check_lanes::lane_parts::lane_at;
 use qp_model::{Body, Rec};
 use std::alloc::{AllocError, Global};

@@ -11,8 +11,8 @@ ghost use Rattle.qp_model.specs.References.{Refs, references, refs_next};
 ghost use Rattle.qp_check_end.specs.Resting.{Counted, makes_below};
 
 use qp_check_lanes::groups::Group;
-use qp_model::{Body, Rec};
 use qp_check_word_states::lives::marked;
+use qp_model::{Body, Rec};
 use std::alloc::{AllocError, Global};
 
 /// How often each reference stands, and how many stand in all.

@@ -19,10 +19,10 @@ use qp_check_histories::histories::draw_count;
 use qp_check_histories::records_by_word::RecordsByWord;
 use qp_check_lanes::deferred_entries::deferred;
 use qp_check_lanes::keys::named;
-use qp_model::{Entry, Journal, Named, System, Word};
 use qp_check_word_states::pools::FreeBlocks;
 use qp_check_word_states::queues::Queue;
 use qp_check_word_states::word_state;
+use qp_model::{Entry, Journal, Named, System, Word};
 use std::alloc::{AllocError, Global};
 
 /// Whether the queue of an object is empty in the end.

@@ -15,10 +15,10 @@ use crate::lane_state::{Reading, Rules, Upcoming};
 use crate::stimulated::stimulated;
 use qp_check_lanes::lane_parts::{asserts, lane_at, source_lanes};
 use qp_check_lanes::record_tests;
+use qp_check_sources::spills_cut;
 use qp_model::ends::may_cut;
 use qp_model::kernels::{QK, QV, SIM};
 use qp_model::{Journal, Rec, System};
-use qp_check_sources::spills_cut;
 use std::alloc::{AllocError, Global};
 
 /// How far lane 0 has been read after these records; `None` where one of them can't stand in its place.

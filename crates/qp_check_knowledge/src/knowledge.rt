@@ -14,9 +14,9 @@ use crate::known_words::{
 use arrayvec::ArrayVec;
 use qp_check_calls::Known;
 use qp_check_histories::records_by_word::RecordsByWord;
-use qp_model::{Body, Entry, Journal, Lane, Named, Params, Rec, System, Touched, kinds};
 use qp_check_word_states::numbers::has;
 use qp_check_word_states::signals::Subscribed;
+use qp_model::{Body, Entry, Journal, Lane, Named, Params, Rec, System, Touched, kinds};
 use std::alloc::{AllocError, Global};
 use std::collections::BTreeMap;
 

@@ -7,10 +7,10 @@ ghost use Rattle.qp_check_lanes.specs.WordTotals.{count_in};
 
 use qp_check_lanes::groups::Group;
 use qp_check_lanes::word_totals::Counts;
-use qp_model::Body;
 use qp_check_word_states::pools::FreeBlocks;
 use qp_check_word_states::signals::{Members, Subscribed};
 use qp_check_word_states::word_state::WordState;
+use qp_model::Body;
 use std::alloc::{AllocError, Global};
 
 /// The number at a place, or the last one.

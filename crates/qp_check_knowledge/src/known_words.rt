@@ -15,8 +15,8 @@ use crate::known_tables::{free_counts, left_counts, member_lists};
 use qp_check_histories::records_by_word::RecordsByWord;
 use qp_check_lanes::given_blocks::GivenBlocks;
 use qp_check_lanes::groups::Group;
-use qp_model::{Named, System};
 use qp_check_word_states::signals::Subscribed;
+use qp_model::{Named, System};
 use std::alloc::{AllocError, Global};
 use std::marker::Model;
 

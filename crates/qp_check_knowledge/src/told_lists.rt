@@ -13,10 +13,9 @@ ghost use Rattle.qp_check_knowledge.specs.Looks.{counted};
 
 use crate::knowledge::Knowledge;
 use qp_check_calls::Told;
-use qp_model::ceiling_after;
 use qp_check_lanes::lane_parts::{home_lane, lane_at};
 use qp_model::kernels::PORT;
-use qp_model::{Body, Rec};
+use qp_model::{Body, Rec, ceiling_after};
 use std::alloc::{AllocError, Global};
 
 /// Whether a record is a look at the queue of `o`.

@@ -7,14 +7,14 @@ use crate::samples::{Part, Parts, Row, SIM, object, one_lane, signal, two_lanes}
 use qp_check::Site;
 use qp_check_end::ending::end_holds;
 use qp_check_histories::records_by_word::RecordsByWord;
+use qp_check_words::judge::words_broken;
+use qp_check_words::verdict::Broken;
 use qp_model::kinds::{
     ARM, BACK, DEC, DEFER, FIRE, FULL, INC, NEW, NIL, POST, SEEN, SHORT, SUB, TOOK, UNSUB,
 };
 use qp_model::{
     Charts, Journal, Lanes, ObjectDefs, PoolDef, PoolDefs, SignalDefs, System, TimerDef, TimerDefs,
 };
-use qp_check_words::judge::words_broken;
-use qp_check_words::verdict::Broken;
 use std::alloc::{AllocError, Global};
 use std::test::Fail;
 

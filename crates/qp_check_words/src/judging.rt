@@ -14,7 +14,6 @@ ghost use Rattle.qp_check_words.specs.Judging.{lives_of, shown_at};
 use qp_check_histories::marks::{Mark, ShownNumber, mark_of};
 use qp_check_lanes::given_blocks::GivenBlocks;
 use qp_check_lanes::groups::{Group, grouped};
-use qp_model::{Rec, System, Word};
 use qp_check_word_states::lives;
 use qp_check_word_states::pools::FreeBlocks;
 use qp_check_word_states::queues::Queue;
@@ -22,6 +21,7 @@ use qp_check_word_states::references::empties;
 use qp_check_word_states::signals::Members;
 use qp_check_word_states::timers::TimeEvent;
 use qp_check_word_states::word_state::{self, WordState};
+use qp_model::{Rec, System, Word};
 use std::alloc::{AllocError, Global};
 
 /// Whether each operation of the word is allowed in its turn.

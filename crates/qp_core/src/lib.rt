@@ -5,8 +5,8 @@ mod runs;
 mod splits;
 mod state;
 
-pub use qp_core_steps::{Op, step};
 pub use qp_core_seats::words::{WORDS, Words};
 pub use qp_core_seats::{Glances, Items, Seat, SeatGive, SeatLog};
+pub use qp_core_steps::{Op, step};
 pub use runs::{CoreFault, apply, run};
 pub use state::CoreState;

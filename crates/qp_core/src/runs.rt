@@ -10,8 +10,8 @@ ghost use Rattle.qp_core.specs.Runs.{HoldsOf, EndsAs};
 use crate::splits::{join, split, step_at};
 use crate::state::{CoreState, seat_place};
 use qp_base::Memory;
-use qp_model::System;
 use qp_core_steps::Op;
+use qp_model::System;
 use std::alloc::Global;
 
 /// Why a schedule wasn't run to its end.

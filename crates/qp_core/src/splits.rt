@@ -10,10 +10,10 @@ ghost use Rattle.qp_core_seats.specs.declared.seats.Seat.{Seat as ASeat};
 
 use crate::state::{bare, empty_log, seat_place};
 use qp_base::Memory;
-use qp_model::{Entry, System};
-use qp_core_steps::{Op, serves_it, step};
 use qp_core_seats::words::Words;
 use qp_core_seats::{Glances, Items, Seat, SeatGive, SeatLog, copy_of_give, no_items};
+use qp_core_steps::{Op, serves_it, step};
+use qp_model::{Entry, System};
 use qp_table::{CellPlace, Fill, Serve, Spot};
 use std::alloc::Global;
 use std::mem;

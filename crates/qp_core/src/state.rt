@@ -9,10 +9,10 @@ ghost use Rattle.qp_core.specs.Runs.{HoldsOf, IsFirst, first_seat};
 
 use crate::splits::add_seat;
 use qp_base::Memory;
-use qp_model::{Lane, Rec, System, Word};
 use qp_core_seats::asked::{bit_of, has_object, has_pool};
 use qp_core_seats::words::{WORDS, Words, block_at, pool_at, queue_at};
 use qp_core_seats::{Glances, Items, Seat, SeatLog, no_items};
+use qp_model::{Lane, Rec, System, Word};
 use qp_table::Serve;
 use std::alloc::Global;
 use std::mem;

@@ -161,8 +161,8 @@ module _ (sys : System) (lanes : ℕ) (words : List ℕ) (x : Seat) (own : nat_l
       let m : n ≡ added w 4294967295 = sym (mod-eq_of_lt (let l = block-below sys words views holds id (as_view x) at_id room x.by p b q.0 in omega arith)) in
       let u : View = dropped (as_view x) (block_at p b) n made.0 p b k in
       let e : u ≡ as_view (without_ref x n made.0 p b k) = (λ i. record u { used = if-list (eqb (n % 4294967296) 0) x.used (spot p b (n / 4294967296)) i }) in
-        along views id (set words (block_at p b) n) u (ap (set words (block_at p b)) m ∙ sym made.2) (e ∙ ((λ i. as_view (without_ref x (m i) made.0 p b k)) ∙ (λ i. as_view (sym made.3 i))))
-            (drops sys words views holds id (as_view x) at_id room x.by p b q.0 k n made.0 made.1 (any-many (is_ref p b k) x.hands q.1) refl)
+      along views id (set words (block_at p b) n) u (ap (set words (block_at p b)) m ∙ sym made.2) (e ∙ ((λ i. as_view (without_ref x (m i) made.0 p b k)) ∙ (λ i. as_view (sym made.3 i))))
+      (drops sys words views holds id (as_view x) at_id room x.by p b q.0 k n made.0 made.1 (any-many (is_ref p b k) x.hands q.1) refl)
 
   pub back-keeps : (p b : ℕ) → may_back sys lanes x p b ≡ true → Backs words x p b words' x' → StepKeeps sys words x words' x'
   back-keeps p b may made views id holds at_id =
@@ -176,8 +176,8 @@ module _ (sys : System) (lanes : ℕ) (words : List ℕ) (x : Seat) (own : nat_l
       let bit = bit-is b z2 in let m : n ≡ added w (4294967296 + bit_of b) = (let a : w + (4294967296 + bit_of b) ≡ n = omega arith in sym (mod-eq_of_lt (omega arith) ∙ a)) in
       let c = x-count sys words views holds id v at_id room x.by p b q.0 in
       let u : View = put_back v (pool_at p) n made.0 p b in
-        along views id (set words (pool_at p) n) u (ap (set words (pool_at p)) m ∙ sym made.2) ((λ i. as_view (record (noting made.0 (glance (pool_at p) (m i)) x) { used = without (is_spot p b) x.used })) ∙ (λ i. as_view (sym made.3 i)))
-            (puts_back sys words views holds id v at_id room x.by p b q.0 n made.0 (made.1 ∙ back-to x.by p (number_in w) b (number_in (get_or words (block_at p b) 0)) (holds.now.refs p b).count c) (any-many (is_spot p b) x.used q.1) refl)
+      along views id (set words (pool_at p) n) u (ap (set words (pool_at p)) m ∙ sym made.2) ((λ i. as_view (record (noting made.0 (glance (pool_at p) (m i)) x) { used = without (is_spot p b) x.used })) ∙ (λ i. as_view (sym made.3 i)))
+      (puts_back sys words views holds id v at_id room x.by p b q.0 n made.0 (made.1 ∙ back-to x.by p (number_in w) b (number_in (get_or words (block_at p b) 0)) (holds.now.refs p b).count c) (any-many (is_spot p b) x.used q.1) refl)
 
   pub make-keeps : (p b : ℕ) → may_make sys lanes x p b ≡ true → Makes words x p b words' x' → StepKeeps sys words x words' x'
   make-keeps p b may made views id holds at_id =
@@ -187,14 +187,14 @@ module _ (sys : System) (lanes : ℕ) (words : List ℕ) (x : Seat) (own : nat_l
       let ws : set words (block_at p b) (w + 4294967297) ≡ words' = ap (set words (block_at p b)) m ∙ sym made.2 in
       let more : list_any (is_ref_to p b) x.hands ≡ true → Holds sys words' (set views id (as_view x')) = (λ here.
       let k = some-name p b x.hands here in let u : View = doubled v (block_at p b) (w + 4294967297) made.0 p b (number_in w) in
-        along views id (set words (block_at p b) (w + 4294967297)) u ws ((λ i. as_view (record (noting made.0 (glance (block_at p b) (m i)) x) { hands = u.hands })) ∙ (λ i. as_view (sym (made.3 ∙ with-more x made.0 (glance (block_at p b) (added w 4294967297)) p b (number_in w) here) i)))
-            (doubles sys words views holds id v at_id room x.by p b t.1 k.0 (w + 4294967297) made.0 made.1 k.1 refl)) in
+      along views id (set words (block_at p b) (w + 4294967297)) u ws ((λ i. as_view (record (noting made.0 (glance (block_at p b) (m i)) x) { hands = u.hands })) ∙ (λ i. as_view (sym (made.3 ∙ with-more x made.0 (glance (block_at p b) (added w 4294967297)) p b (number_in w) here) i)))
+      (doubles sys words views holds id v at_id room x.by p b t.1 k.0 (w + 4294967297) made.0 made.1 k.1 refl)) in
       let first : list_any (is_ref_to p b) x.hands ≡ false → Holds sys words' (set views id (as_view x')) = (λ here.
       let ready : has_ready x p b ≡ true = (λ i. sym here i || has_ready x p b) ∙ t.2 in
       let r = and_parts (list_any (is_spot p b) x.fresh) (list_any (is_done x.fills p b) x.gives) ready in
       let u : View = began v (block_at p b) (w + 4294967297) made.0 p b (number_in w) in
-        along views id (set words (block_at p b) (w + 4294967297)) u ws ((λ i. as_view (record (noting made.0 (glance (block_at p b) (m i)) x) { fresh = u.fresh; gives = u.gives; hands = u.hands })) ∙ (λ i. as_view (sym (made.3 ∙ with-first x made.0 (glance (block_at p b) (added w 4294967297)) p b (number_in w) here) i)))
-            (begins sys words views holds id v at_id room x.by p b t.1 (w + 4294967297) made.0 made.1 (any-many (is_spot p b) x.fresh r.0) (done-none x.fills p b x.gives r.1) refl)) in
+      along views id (set words (block_at p b) (w + 4294967297)) u ws ((λ i. as_view (record (noting made.0 (glance (block_at p b) (m i)) x) { fresh = u.fresh; gives = u.gives; hands = u.hands })) ∙ (λ i. as_view (sym (made.3 ∙ with-first x made.0 (glance (block_at p b) (added w 4294967297)) p b (number_in w) here) i)))
+      (begins sys words views holds id v at_id room x.by p b t.1 (w + 4294967297) made.0 made.1 (any-many (is_spot p b) x.fresh r.0) (done-none x.fills p b x.gives r.1) refl)) in
       either-way (list_any (is_ref_to p b) x.hands) more first
 
   -- the give that asks for the word
@@ -229,7 +229,7 @@ module _ (sys : System) (lanes : ℕ) (words : List ℕ) (x : Seat) (own : nat_l
       let mine : 0 < many (is_spot p b) x.fresh = (let g = beside.gives p b in let a4 = a.4 in omega arith) in
       let alone = fresh-alone sys views holds.now id v at_id holds.tokens p b mine in
       let u : View = filled v p b j n in
-        along views id (set words (event_at p b j) n) u (sym made.0) (λ i. as_view (sym made.1 i)) (fills_in sys words views holds id v at_id p b alone.0 a.0 a.1 mine j a.2 n a.3)
+      along views id (set words (event_at p b j) n) u (sym made.0) (λ i. as_view (sym made.1 i)) (fills_in sys words views holds id v at_id p b alone.0 a.0 a.1 mine j a.2 n a.3)
 
   pub give-keeps : (p sig : ℕ) (pars : List ℕ) → may_give sys lanes words x p sig pars ≡ true → Gives words x p sig pars words' x' → StepKeeps sys words x words' x'
   unfolding is_block
@@ -259,8 +259,8 @@ module _ (sys : System) (lanes : ℕ) (words : List ℕ) (x : Seat) (own : nat_l
       let m : added w 4294967296 ≡ w + 4294967296 = mod-eq_of_lt (omega arith) in
       let from = x-count sys words views holds id v at_id room x.by p b block in
       let u : View = gave v (pool_at p) n made.0 p b (holds.now.refs p b).count (sig ∷ pars) in
-        along views id (set words (pool_at p) n) u (sym made.2) ((λ i. as_view (with_give x made.0 (glance (pool_at p) n) p b (sym from i) (sig ∷ pars))) ∙ (λ i. as_view (sym made.3 i)))
-            (gives sys words views holds id v at_id room x.by p b block n sig pars made.0 (made.1 ∙ new-from x.by p (number_in w) b (number_in (get_or words (block_at p b) 0)) (holds.now.refs p b).count sig pars from) fitting (let l = holds.fitting.params sig in let fp = fitting.params in omega arith) first (omega arith))
+      along views id (set words (pool_at p) n) u (sym made.2) ((λ i. as_view (with_give x made.0 (glance (pool_at p) n) p b (sym from i) (sig ∷ pars))) ∙ (λ i. as_view (sym made.3 i)))
+      (gives sys words views holds id v at_id room x.by p b block n sig pars made.0 (made.1 ∙ new-from x.by p (number_in w) b (number_in (get_or words (block_at p b) 0)) (holds.now.refs p b).count sig pars from) fitting (let l = holds.fitting.params sig in let fp = fitting.params in omega arith) first (omega arith))
     where
       not-zero : (n : ℕ) → not (n == 0) ≡ true → 0 < n
       not-zero zero e = cc

@@ -192,8 +192,8 @@ module _ (sys : System) (lanes : ℕ) (words : List ℕ) (x : Seat) (own : nat_l
       let below = word-below views holds a t.1 in let m : added w 1 ≡ w + 1 = mod-eq_of_lt (omega arith) in
       let u : View = claimed v a (w + 1) made.0 (f_in w % (ring_of sys a + 1)) e (mark_in (queue_at a) (w + 1)) in
       let number : mark_in (queue_at a) (w + 1) ≡ count_in (added w 1) = number-is a (w + 1) ∙ ap count_in (sym m) in
-        along views id (set words (queue_at a) (w + 1)) u (ap (set words (queue_at a)) (sym m) ∙ sym made.2) ((λ i. as_view (with_claim x made.0 (glance (queue_at a) (sym m i)) a (f_in w % (ring_of sys a + 1)) e (number i))) ∙ (λ i. as_view (sym made.3 i)))
-            (claims sys words views holds id v at_id a t.1 room x.by e made.0 made.1 (in-hand-is sys x p b k holds.fitting.signals t.2) (free-is a c.1))
+      along views id (set words (queue_at a) (w + 1)) u (ap (set words (queue_at a)) (sym m) ∙ sym made.2) ((λ i. as_view (with_claim x made.0 (glance (queue_at a) (sym m i)) a (f_in w % (ring_of sys a + 1)) e (number i))) ∙ (λ i. as_view (sym made.3 i)))
+      (claims sys words views holds id v at_id a t.1 room x.by e made.0 made.1 (in-hand-is sys x p b k holds.fitting.signals t.2) (free-is a c.1))
 
   pub lay-keeps : (a : ℕ) → may_lay lanes x a ≡ true → Lays words x a words' x' → StepKeeps sys words x words' x'
   lay-keeps a may made views id holds at_id =
@@ -204,8 +204,8 @@ module _ (sys : System) (lanes : ℕ) (words : List ℕ) (x : Seat) (own : nat_l
       let ring = (holds.fitting.objects a object).1 in let i0 = inside.0 in
       let cell : c.cell % 256 ≡ c.cell = mod-eq_of_lt (omega arith) in
       let u : View = laid v a c.cell c.entry in
-        along views id (set words (cell_at a c.cell) (code c.entry)) u ((λ i. set words (cell_at a (sym cell i)) (sym (code-is sys c.entry inside.1) i)) ∙ sym made.2) (λ i. as_view (sym made.3 i))
-            (lays sys words views holds id v at_id a object c.cell c.entry inside.0 mine)
+      along views id (set words (cell_at a c.cell) (code c.entry)) u ((λ i. set words (cell_at a (sym cell i)) (sym (code-is sys c.entry inside.1) i)) ∙ sym made.2) (λ i. as_view (sym made.3 i))
+      (lays sys words views holds id v at_id a object c.cell c.entry inside.0 mine)
 
   front-same : (views : List View) (holds : Holds sys words views) (a : ℕ) → IsTrue (is_object sys a) → front_at sys a (get_or words (queue_at a) 0) ≡ ((holds.now.line a).m + (ring_of sys a + 1 - 1) * (holds.now.line a).l) % (ring_of sys a + 1)
   front-same views holds a object = let l = line-shows sys words views holds a object in let r : ring_of sys a ≡ ring_of sys a + 1 - 1 = omega arith in
@@ -228,7 +228,7 @@ module _ (sys : System) (lanes : ℕ) (words : List ℕ) (x : Seat) (own : nat_l
       let r = empties sys words views holds id v at_id a o.1 (own o.0) j (front-same views holds a o.1) full (any-many (is_serve a) x.serves e.1) (none-many (on_queue a) x.takes (not-true (list_any (on_queue a) x.takes) d.1)) in
       let u : View = emptied v a j r.0 in
       let read : entry_in (get_or words (cell_at a j) 0) ≡ r.0 = code-read sys r.0 (get_or words (cell_at a j) 0) r.1 r.2 in
-        along views id (set words (cell_at a j) 0) u (sym made.0) ((λ i. as_view (record x { takes = x.takes ++ place a j (sym read i) 0 ∷ [] })) ∙ (λ i. as_view (sym made.1 i))) r.3
+      along views id (set words (cell_at a j) 0) u (sym made.0) ((λ i. as_view (record x { takes = x.takes ++ place a j (sym read i) 0 ∷ [] })) ∙ (λ i. as_view (sym made.1 i))) r.3
 
   pub free-keeps : (a : ℕ) → may_free sys lanes x a ≡ true → Frees words x a words' x' → StepKeeps sys words x words' x'
   free-keeps a may made views id holds at_id =
@@ -239,9 +239,9 @@ module _ (sys : System) (lanes : ℕ) (words : List ℕ) (x : Seat) (own : nat_l
       let serves : 0 < many (is_serve a) x.serves = (let y = home.taking a in let z = mine.1 in omega arith) in
       let below = word-below views holds a t.1 in let m : added w 4398046511104 ≡ w + 4398046511104 = mod-eq_of_lt (omega arith) in
       let u : View = took v a (w + 4398046511104) made.0 q.cell q.entry in
-        along views id (set words (queue_at a) (w + 4398046511104)) u (ap (set words (queue_at a)) (sym m) ∙ sym made.4)
-            ((λ i. as_view (record (noting made.0 (glance (queue_at a) (sym m i)) x) { takes = u.takes; hands = u.hands; serves = sym (bump-same holds.now x.logs a 0 1 x.serves (omega arith) home.counts) i })) ∙ (λ i. as_view (sym made.5 i)))
-            (frees sys words views holds id v at_id a t.1 room q.cell q.entry made.0 made.3 mine.0 serves)
+      along views id (set words (queue_at a) (w + 4398046511104)) u (ap (set words (queue_at a)) (sym m) ∙ sym made.4)
+      ((λ i. as_view (record (noting made.0 (glance (queue_at a) (sym m i)) x) { takes = u.takes; hands = u.hands; serves = sym (bump-same holds.now x.logs a 0 1 x.serves (omega arith) home.counts) i })) ∙ (λ i. as_view (sym made.5 i)))
+      (frees sys words views holds id v at_id a t.1 room q.cell q.entry made.0 made.3 mine.0 serves)
 
   pub lifo-keeps : (a p b k : ℕ) → may_lifo sys lanes words x a p b k ≡ true → Lifos sys words x a p b k words' x' → StepKeeps sys words x words' x'
   lifo-keeps a p b k may made views id holds at_id =
@@ -254,7 +254,7 @@ module _ (sys : System) (lanes : ℕ) (words : List ℕ) (x : Seat) (own : nat_l
       let below = word-below views holds a t.1 in let m : added w 2097152 ≡ w + 2097152 = mod-eq_of_lt (omega arith) in
       let u : View = put_first v a (w + 2097152) made.0 (before_at sys a w) e (mark_in (queue_at a) (w + 2097152)) in
       let number : mark_in (queue_at a) (w + 2097152) ≡ count_in (added w 2097152) = number-is a (w + 2097152) ∙ ap count_in (sym m) in
-        along views id (set words (queue_at a) (w + 2097152)) u (ap (set words (queue_at a)) (sym m) ∙ sym made.2)
-            ((λ i. as_view (record (noting made.0 (glance (queue_at a) (sym m i)) x) { hands = u.hands; claims = x.claims ++ place a (before_at sys a w) e (number i) ∷ []; serves = sym (bump-same holds.now x.logs a 1 0 x.serves (omega arith) home.counts) i })) ∙ (λ i. as_view (sym made.3 i)))
-            (lifos sys words views holds id v at_id a t.1 room (before_at sys a w) e made.0 made.1 (before-same views holds a t.1) (in-hand-is sys x p b k holds.fitting.signals g.1) (free-is a f.1)
-            (any-many (is_serve a) x.serves t.2) (none-many (on_queue a) x.takes (not-true (list_any (on_queue a) x.takes) d.1)))
+      along views id (set words (queue_at a) (w + 2097152)) u (ap (set words (queue_at a)) (sym m) ∙ sym made.2)
+      ((λ i. as_view (record (noting made.0 (glance (queue_at a) (sym m i)) x) { hands = u.hands; claims = x.claims ++ place a (before_at sys a w) e (number i) ∷ []; serves = sym (bump-same holds.now x.logs a 1 0 x.serves (omega arith) home.counts) i })) ∙ (λ i. as_view (sym made.3 i)))
+      (lifos sys words views holds id v at_id a t.1 room (before_at sys a w) e made.0 made.1 (before-same views holds a t.1) (in-hand-is sys x p b k holds.fitting.signals g.1) (free-is a f.1)
+      (any-many (is_serve a) x.serves t.2) (none-many (on_queue a) x.takes (not-true (list_any (on_queue a) x.takes) d.1)))

@@ -12,12 +12,12 @@ use crate::entries::{lifos_in, posts_in, takes_in};
 use crate::queues::serves_it;
 use arrayvec::ArrayVec;
 use qp_base::Memory;
-use qp_model::{Body, Rec, System, Word};
 use qp_core_seats::asked::{has_block, has_object, has_pool, size_of};
 use qp_core_seats::blocks::ONE;
 use qp_core_seats::items::{Items, no_items};
 use qp_core_seats::seats::{Seat, SeatGive, copy_of_give};
 use qp_core_seats::words::{Words, block_at, glance_at, pool_at, queue_at};
+use qp_model::{Body, Rec, System, Word};
 use qp_table::Glance;
 use std::alloc::Global;
 

@@ -14,11 +14,11 @@ use crate::entries::{
     posts_in, takes_in,
 };
 use qp_base::Memory;
-use qp_model::{Entry, Rec, System};
 use qp_core_seats::asked::{has_block, has_object};
 use qp_core_seats::items::{Items, grown, take_out};
 use qp_core_seats::seats::Seat;
 use qp_core_seats::words::{Words, cell_at, glance_at, queue_at};
+use qp_model::{Entry, Rec, System};
 use qp_table::{CellPlace, Glance, Serve};
 use std::alloc::Global;
 

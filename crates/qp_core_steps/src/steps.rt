@@ -9,10 +9,10 @@ use crate::looks::{look, may_peek, may_read};
 use crate::ops::Op;
 use crate::queues::{claim, empty, free, lay, lifo};
 use qp_base::Memory;
-use qp_model::System;
 use qp_core_seats::blocks::{drop_reference, fill, give, make, put_back};
 use qp_core_seats::seats::Seat;
 use qp_core_seats::words::Words;
+use qp_model::System;
 use std::alloc::Global;
 
 /// The step by its kind.

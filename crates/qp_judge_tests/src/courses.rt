@@ -14,8 +14,8 @@ use qp_chart::{
     Chart, ChartFault, Env, Name, Names, ObjNames, RawChart, RawRows, RawState, RawStates,
     RawTimers, SigNames, State, Texts, Vars,
 };
-use qp_check_course::{Task, follows, follows_with_points, start_plan, step_plan};
 use qp_check_calls::{Cut, Known, Piece, Told};
+use qp_check_course::{Task, follows, follows_with_points, start_plan, step_plan};
 use qp_model::{Body, Charts, ObjectDefs, PoolDefs, SignalDefs, System, TimerDefs};
 use std::alloc::{AllocError, Global};
 use std::test::Fail;

@@ -2,8 +2,8 @@
 
 use crate::samples::system;
 use qp_check_calls::{Known, Told};
-use qp_model::{Rec, Stim};
 use qp_check_sources::{is_source_lane, may_stop, spill_stands};
+use qp_model::{Rec, Stim};
 use std::alloc::{AllocError, Global};
 use std::test::Fail;
 

@@ -4,8 +4,8 @@ use crate::samples::Line::{
     Back, Done, Dropped, Flush, Full, Given, Lifo, NoDefer, NoEntry, Posted, Recall, Referred,
 };
 use crate::samples::{Line, POOLED, STATIC, all_told, system};
-use qp_model::Entry;
 use qp_check_shapes::{Scene, behind_assertion, behind_unit};
+use qp_model::Entry;
 use std::alloc::{AllocError, Global};
 use std::test::Fail;
 

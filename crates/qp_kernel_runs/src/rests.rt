@@ -4,9 +4,9 @@ ghost use Rattle.std.specs.Prelude.{◌≡◌, IfOk, IfSome};
 ghost use Rattle.qp_chart.specs.StateTree.{has};
 ghost use Rattle.qp_kernel_runs.specs.Resting.{AreShown, IsShown};
 
-use qp_model::System;
 use qp_kernel_end::Rest;
 use qp_kernel_turns::Objects;
+use qp_model::System;
 use std::alloc::{AllocError, Global};
 
 /// Whether the step of this object is under way.

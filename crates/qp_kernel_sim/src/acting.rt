@@ -11,8 +11,8 @@ ghost use Rattle.qp_kernel_sim.specs.Acting.{is_halt};
 use crate::visiting::visit;
 use crate::world::SimWorld;
 use qp_base::Steps;
-use qp_model::System;
 use qp_calls_stimulus::Stimulated;
+use qp_model::System;
 use std::sync::ledger::Ledger;
 
 /// Whether the run goes on no more.

@@ -3,9 +3,9 @@
 use crate::world::SimWorld;
 use qp_base::Steps;
 use qp_calls::Ops;
+use qp_calls_stimulus::Stimulated;
 use qp_kernel::{Irq, World};
 use qp_model::System;
-use qp_calls_stimulus::Stimulated;
 use std::sync::Wait;
 use std::sync::ledger::Ledger;
 

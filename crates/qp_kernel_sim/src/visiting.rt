@@ -13,9 +13,9 @@ ghost use Rattle.qp_kernel_sim.specs.Visiting.{Rests, Visits};
 use crate::happened::Happened;
 use qp_base::{NoGate, Steps};
 use qp_calls::Ops;
+use qp_calls_stimulus::{Stimulated, stimulus};
 use qp_model::{Stim, System};
 use qp_plain::PlainWorld;
-use qp_calls_stimulus::{Stimulated, stimulus};
 use std::sync::ledger::Ledger;
 
 /// Does the stimulus at `place` of a source, in the look with the number `look`, and comes back to lane 0. A `settle`

@@ -11,10 +11,10 @@ use qp_base::{Gate, Memory};
 use qp_calls::Ops;
 use qp_dispatch::{Step, Turn};
 use qp_kernel::Kernel;
-use qp_model::{Lanes, Stimuli, System};
-use qp_plain::PlainWorld;
 use qp_kernel_sim::SimWorld;
 use qp_kernel_turns::{Bounds, Objects, kernel_turn};
+use qp_model::{Lanes, Stimuli, System};
+use qp_plain::PlainWorld;
 use std::alloc::Global;
 use std::sync::Wait;
 

@@ -19,10 +19,10 @@ mod reading;
 mod record;
 mod stimulus;
 mod systems;
+mod telling;
 mod touches;
 pub mod vocabulary;
 mod words;
-mod telling;
 
 pub use bodies::{Body, Entry, Params};
 pub use journals::{Journal, Lane, Lanes};
@@ -32,6 +32,6 @@ pub use systems::{
     Charts, ObjectDef, ObjectDefs, PoolDef, PoolDefs, SignalDef, SignalDefs, System, TimerDef,
     TimerDefs, Values,
 };
+pub use telling::{ceiling_after, is_assert, is_spent, is_spill, kinds_tell};
 pub use touches::{Named, Touched};
 pub use words::Word;
-pub use telling::{ceiling_after, is_assert, is_spent, is_spill, kinds_tell};

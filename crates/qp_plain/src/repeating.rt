@@ -11,8 +11,7 @@ use crate::records::{place, token_of};
 use crate::world::PlainWorld;
 use qp_base::{Ev, Memory};
 use qp_calls::Counts;
-use qp_model::is_spill;
-use qp_model::{Body, Entry, Params, Rec};
+use qp_model::{Body, Entry, Params, Rec, is_spill};
 
 impl PlainWorld<'_> {
     /// Makes a place for the record in the lane chosen, where there is none.

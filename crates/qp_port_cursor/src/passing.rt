@@ -7,9 +7,9 @@ ghost use Rattle.qp_port_cursor.specs.Passing.{Glimpses, Opens, Passes};
 
 use crate::cursor::Cursor;
 use qp_calls::{Counts, Halted, Ops, halt};
-use qp_model::{Rec, System};
 use qp_calls_stimulus::{Sight, settle};
 use qp_kernel_turns::{Halt, ready};
+use qp_model::{Rec, System};
 
 /// What became of a `settle`.
 #[derive(Drop)]

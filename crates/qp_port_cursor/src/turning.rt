@@ -8,9 +8,9 @@ ghost use Rattle.qp_port_cursor.specs.Turning.{DoesNext, SourceTurns};
 use crate::cursor::Cursor;
 use qp_base::{Gate, Steps};
 use qp_calls::Ops;
+use qp_calls_stimulus::{Stimulated, stimulus};
 use qp_dispatch::Turn;
 use qp_model::{Stim, System};
-use qp_calls_stimulus::{Stimulated, stimulus};
 use std::marker::Brand;
 use std::sync::ledger::{Blank, Ledger};
 

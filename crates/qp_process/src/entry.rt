@@ -8,15 +8,15 @@ ghost use Rattle.qp_commands.specs.WordTable.{command_in};
 ghost use Rattle.qp_process.specs.Process.{EndsUntold, EndsWith, IsAnswered, words_in};
 
 use crate::arguments::{texts_of, unread, words_of};
-use qp_base::{DirShelf, NoGate, Shelf, Sink, StdSink};
 use crate::{Carried, in_pieces};
+use qp_base::{DirShelf, NoGate, Shelf, Sink, StdSink};
 use qp_run::{Status, qp_main, tell};
 use std::alloc::Global;
 use std::env::Args;
+use std::io;
 use std::io::IsTerminal;
 use std::process::ExitCode;
 use std::sync::Wait;
-use std::io;
 
 /// How output goes on.
 #[derive(Clone, Copy, PartialEq, Eq, Debug)]

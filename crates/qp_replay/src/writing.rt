@@ -8,11 +8,11 @@ ghost use Rattle.qp_replay.specs.Remaining.{place};
 ghost use Rattle.qp_replay.specs.Text.{AreRecords, head_line, place_line, places_text, replayed_text};
 ghost use Rattle.qp_text.specs.Puts.{Puts};
 
+use crate::{At, Places, Replayed};
 use arrayvec::ArrayString;
 use itoa::Buffer;
 use qp_base::{Sink, SinkFault};
 use qp_model::{Journal, Lanes};
-use crate::{At, Places, Replayed};
 use qp_text::Line;
 
 /// Room for a word, a number and a newline.

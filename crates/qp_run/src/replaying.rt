@@ -15,8 +15,7 @@ ghost use Rattle.qp_run.specs.declared.status.Status.{Status};
 use crate::checking::{Judged, judge_files};
 use crate::status::Status;
 use qp_base::{Memory, Shelf, Sink};
-use qp_replay::{Replayed, replay};
-use qp_replay::write_replayed;
+use qp_replay::{Replayed, replay, write_replayed};
 use qp_replay_rerun::rerun;
 use std::alloc::Global;
 

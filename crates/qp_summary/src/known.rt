@@ -14,15 +14,15 @@ ghost use Rattle.qp_kernel_end.specs.Rests.{AreRestsIn, IsRestOf};
 ghost use Rattle.qp_summary.specs.Resting.{LeavesRest};
 ghost use Rattle.qp_summary.specs.Counting.{AreTurns};
 
+use crate::Turns;
 use crate::lines::Lines;
 use crate::objects::{line_of, standing_text};
 use qp_chart::Chart;
 use qp_check_course::chart_at;
 use qp_check_lanes::lane_parts::lane_at;
+use qp_kernel_end::{Rest, rest_at};
 use qp_model::kernels::PORT;
 use qp_model::{Journal, ObjectDef, System};
-use qp_kernel_end::{Rest, rest_at};
-use crate::Turns;
 use std::alloc::{AllocError, Global};
 
 /// What is told of an object; None where its start and all its steps are done, and nothing is known of where it rests.

@@ -18,13 +18,12 @@ ghost use Rattle.qp_chart.specs.declared.checked.Chart as chart;
 use crate::coming::Came;
 use crate::lines::Lines;
 use qp_chart::{Chart, Name};
-use qp_check_course::{Reading, Standing, chart_at};
 use qp_check_calls::Told;
-use qp_model::ceiling_after;
+use qp_check_course::{Reading, Standing, chart_at};
 use qp_check_knowledge::knowledge::Knowledge;
 use qp_check_knowledge::told_lists::{is_turn_mark, told_by};
 use qp_check_lanes::lane_parts::{home_lane, lane_at};
-use qp_model::{Body, Journal, ObjectDef, Rec, System};
+use qp_model::{Body, Journal, ObjectDef, Rec, System, ceiling_after};
 use std::alloc::{AllocError, Global};
 
 /// Appends each variable with its value, after a space.

@@ -6,9 +6,9 @@ ghost use Rattle.qp_model.specs.OutputSummary.{pool_line, pool_lines};
 ghost use Rattle.qp_model.specs.Record.{Item};
 ghost use Rattle.qp_summary.specs.Counting.{AreBlocks};
 
+use crate::Blocks;
 use crate::lines::Lines;
 use qp_model::{Journal, System};
-use crate::Blocks;
 use std::alloc::{AllocError, Global};
 
 fn line_of(alloc: Global, p: u64, given: usize, back: usize) -> Result<String, AllocError>

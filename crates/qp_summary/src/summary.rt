@@ -16,8 +16,8 @@ use crate::pools::pool_lines;
 use qp_base::{Sink, SinkFault};
 use qp_check_histories::records_by_word::RecordsByWord;
 use qp_check_knowledge::knowledge::Knowledge;
-use qp_model::{Journal, System};
 use qp_kernel_end::Rest;
+use qp_model::{Journal, System};
 use std::alloc::{AllocError, Global};
 use std::marker::Model;
 

@@ -10,8 +10,8 @@ ghost use Rattle.qp_system_tables.specs.Views.{pool_view, signal_view};
 use crate::placing::objects_placed;
 use crate::twice::{charts_pass, objects_pass, signals_pass, sizes_ascend};
 use qp_chart::{Part, Path, RawChart, code, key};
-use qp_system_tables::{RawObject, SystemFault};
 use qp_model::{PoolDef, SignalDef};
+use qp_system_tables::{RawObject, SystemFault};
 
 /// Refuses tables with a fault between them.
 pub fn tables_pass(

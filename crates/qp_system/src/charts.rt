@@ -10,8 +10,8 @@ ghost use Rattle.qp_system.specs.Within.{signal_name, object_name, names_of, wit
 use qp_chart::{
     Chart, ChartFault, Names, ObjName, ObjNames, Part, Path, RawChart, SigName, SigNames, key,
 };
-use qp_system_tables::{RawObject, SystemFault};
 use qp_model::{Charts, SignalDef};
+use qp_system_tables::{RawObject, SystemFault};
 use std::alloc::{AllocError, Global};
 
 fn signal_names(alloc: Global, signals: &[SignalDef]) -> Result<SigNames, AllocError>

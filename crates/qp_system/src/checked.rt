@@ -5,8 +5,8 @@ ghost use Rattle.qp_system.specs.Checked.{HasLater, IsChecked};
 ghost use Rattle.qp_system_tables.specs.Document.{RefusesBytes};
 
 use crate::phases::charts_of;
-use qp_system_tables::{RawSystem, SystemFault, raw_of_bytes};
 use qp_model::Charts;
+use qp_system_tables::{RawSystem, SystemFault, raw_of_bytes};
 use std::alloc::Global;
 
 /// Reads a system file that has no fault: its tables, and its charts with their names looked up.

@@ -11,8 +11,8 @@ ghost use Rattle.qp_model.specs.Sound.{timer_of, timers_of};
 ghost use Rattle.qp_system.specs.Placed.{chart_place, HasChart, IsWithin};
 
 use qp_chart::{Chart, Name, RawChart, Timer};
-use qp_system_tables::{RawObject, RawObjects};
 use qp_model::{ObjectDef, ObjectDefs, TimerDef, TimerDefs, Values};
+use qp_system_tables::{RawObject, RawObjects};
 use std::alloc::{AllocError, Global};
 
 /// The objects in ascending priority.

@@ -12,5 +12,7 @@ mod system;
 mod twice;
 
 pub use checked::checked_of_bytes;
-pub use qp_system_tables::{RawCharts, RawObject, RawObjects, RawSystem, SystemFault, raw_of_bytes};
+pub use qp_system_tables::{
+    RawCharts, RawObject, RawObjects, RawSystem, SystemFault, raw_of_bytes,
+};
 pub use system::system_of_bytes;

@@ -11,8 +11,8 @@ ghost use Rattle.qp_system.specs.Within.{names_of};
 use crate::between::{pools_pass, tables_pass};
 use crate::charts::{checked_charts, outer_names};
 use qp_chart::RawChart;
-use qp_system_tables::{RawObject, RawSystem, SystemFault};
 use qp_model::{Charts, PoolDef, SignalDef};
+use qp_system_tables::{RawObject, RawSystem, SystemFault};
 use std::alloc::Global;
 
 /// The checked charts of these tables.

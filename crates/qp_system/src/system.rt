@@ -6,8 +6,8 @@ ghost use Rattle.qp_system.specs.SystemOf.{IsSystemOf, RefusesSystem};
 
 use crate::checked::checked_of_bytes;
 use crate::defs::{by_priority, object_defs, timer_defs};
-use qp_system_tables::SystemFault;
 use qp_model::System;
+use qp_system_tables::SystemFault;
 use std::alloc::Global;
 
 /// Reads a system file.

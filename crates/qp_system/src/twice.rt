@@ -10,8 +10,8 @@ ghost use Rattle.qp_system_tables.specs.Refused.{fault_at};
 ghost use Rattle.qp_system_tables.specs.Views.{pool_view, signal_view, chart_view, object_view};
 
 use qp_chart::{Name, Part, Path, RawChart, code, key};
-use qp_system_tables::{RawObject, SystemFault};
 use qp_model::{PoolDef, SignalDef};
+use qp_system_tables::{RawObject, SystemFault};
 
 /// A fault at a key of a member of a list of the file.
 pub fn member_fault(code: u8, list: u8, place: u16, key: u8) -> SystemFault

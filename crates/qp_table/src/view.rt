@@ -1,6 +1,5 @@
 //! What a lane of the event table knows, and the rule of the table over all lanes.
 
-
 use qp_model::{Entry, Rec};
 use std::collections::LinkedList;
 

@@ -143,7 +143,7 @@ returns-in-Stopped g c =
     let before = ap (seated w.stim.now w.done.list) found.0 in (
       refl,
       subst (λ (x : LaneView). IsStopped c.args.look c.args.base x (seated c.act.new.self.stim.now c.act.new.self.done.list (world_view c.stopped-in-Stopped.new.self))) before
-    (stopped-acted here c.args.sys.now made c.args.base c.if-base.rests resting live c.in-Some.j c.args.look c.act.new.self c.act.result few is acted c.stopped-in-Stopped.new.self c.stopped-in-Stopped.result c.stopped-in-Stopped.ensures (subst (λ (x : Stimulated). Amounts c.args.sys.now a.s (get_or w.begun.items c.in-Some.j 0 + 1) c.args.look (length (told_by (c.in-Some.j + 1) w.done.list)) a.g (world_view c.stopped.new.self) (world_view c.act.new.self.plain) x) c.in-Stopped.is a.amounts)),
+          (stopped-acted here c.args.sys.now made c.args.base c.if-base.rests resting live c.in-Some.j c.args.look c.act.new.self c.act.result few is acted c.stopped-in-Stopped.new.self c.stopped-in-Stopped.result c.stopped-in-Stopped.ensures (subst (λ (x : Stimulated). Amounts c.args.sys.now a.s (get_or w.begun.items c.in-Some.j 0 + 1) c.args.look (length (told_by (c.in-Some.j + 1) w.done.list)) a.g (world_view c.stopped.new.self) (world_view c.act.new.self.plain) x) c.in-Stopped.is a.amounts)),
     )
 
 pub invariant_of-self-in-Stopped : goal.invariant_of-self-in-Stopped
