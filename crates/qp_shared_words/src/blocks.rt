@@ -1,18 +1,22 @@
 //! The steps on pools and blocks. Each is one atomic operation, under the rule of the event table.
 
-ghost use Rattle.std.specs.Prelude.{◌≡◌, ◌+◌, ◌^◌, ◌<◌, ◌≤◌, IsTrue};
+ghost use Rattle.std.specs.Prelude.{◌≡◌, ℕ, ◌+◌, ◌-◌, ◌%◌, ◌^◌, ◌<◌, ◌≤◌, IsTrue};
+ghost use Rattle.qp_model.specs.declared.words.Word.TheVariants as word;
 ghost use Rattle.qp_model.specs.WordLaw.{is_pool};
 ghost use Rattle.qp_table.specs.Counting.{many};
-ghost use Rattle.qp_table.specs.Rule.{is_ref, is_spot, is_spot_at, fills_of, is_value};
+ghost use Rattle.qp_table.specs.Rule.{is_ref, is_spot, is_spot_at, fills_of, is_value, IsContent};
 ghost use Rattle.qp_table.specs.After.{HasRoom, ref};
+ghost use Rattle.qp_shared_views.specs.Words.{value_seen};
 ghost use Rattle.qp_shared_views.specs.Lane.{has_content};
-ghost use Rattle.qp_shared_steps.specs.Told.{HasPlace, DropTold, FirstTold, MoreTold, BackTold, FromTold, FillTold, ReadTold, EyePoolTold};
+ghost use Rattle.qp_shared_steps.specs.Told.{HasPlace, DropTold, FirstTold, MoreTold, BackTold, FromTold, FillTold, ReadTold, EyePoolTold, IsLowest, GiveTold};
 
 use crate::places::{block_at, event_at, pool_at};
-use crate::steps::{About, Words, add, look, store};
+use crate::steps::{About, Words, add, exchange_for, look, store};
 use atomic_table::Seat;
+use qp_base::{Ev, Steps};
 use qp_table::View;
 use std::marker::Brand;
+use std::sync::ledger::Ledger;
 
 /// What one operation adds to the number of a pool's or a block's word.
 const UNIT: u64 = 1 << 32;
@@ -48,6 +52,7 @@ pub fn drop_reference(
         to: 0,
         pool,
         block,
+        low: 0,
         name,
         old: 0,
         new: 0,
@@ -72,6 +77,7 @@ pub fn first_reference(words: &Words, seat: &mut Seat<(), View>, by: u8, pool: u
         to: 0,
         pool,
         block,
+        low: 0,
         name: 0,
         old: 0,
         new: 0,
@@ -102,6 +108,7 @@ pub fn another_reference(
         to: 0,
         pool,
         block,
+        low: 0,
         name,
         old: 0,
         new: 0,
@@ -132,6 +139,7 @@ pub fn put_back(
         to: 0,
         pool,
         block,
+        low: 0,
         name: at,
         old: 0,
         new: 0,
@@ -140,21 +148,22 @@ pub fn put_back(
     add::<Brand>(words, seat, pool_at(pool), UNIT + bit_of(block), about)
 }
 
-/// Reads the word of a fresh block, whose life begins at `at` operations.
-pub fn read_beginning(words: &Words, seat: &mut Seat<(), View>, pool: u8, block: u8, at: u64) -> u64
+/// Reads the word of a fresh block. Its number of operations is where the block's life begins.
+pub fn read_beginning(words: &Words, seat: &mut Seat<(), View>, pool: u8, block: u8) -> u64
     requires own { seat.old.table_id ≡ words.now.shared.table_id }
     requires wide { words.now.shared.table_id.words ≡ 21128 }
     requires place { HasPlace pool block }
-    requires fresh { 0 < many (is_spot_at pool block at) seat.old.me.0.fresh }
+    requires fresh { 0 < many (is_spot pool block) seat.old.me.0.fresh }
     ensures same { (seat.new.table_id ≡ seat.old.table_id) × (seat.new.id ≡ seat.old.id) }
-    ensures told { FromTold words.now.shared.key pool block at seat.old.me.0 result seat.new.me.0 }
+    ensures told { (at : ℕ) → 0 < many (is_spot_at pool block at) seat.old.me.0.fresh → FromTold words.now.shared.key pool block at seat.old.me.0 result seat.new.me.0 }
 {
     let about = About {
         by: 0,
         to: 0,
         pool,
         block,
-        name: at,
+        low: 0,
+        name: 0,
         old: 0,
         new: 0,
         margin: None,
@@ -178,6 +187,7 @@ pub fn fill(words: &Words, seat: &mut Seat<(), View>, pool: u8, block: u8, place
         to: place,
         pool,
         block,
+        low: 0,
         name: 0,
         old: 0,
         new: value,
@@ -209,6 +219,7 @@ pub fn read_event(
         to: place,
         pool,
         block,
+        low: 0,
         name,
         old: 0,
         new: 0,
@@ -232,16 +243,67 @@ pub fn look_at_pool(
     requires room { HasRoom seat.old.me.0 }
     ensures same { (seat.new.table_id ≡ seat.old.table_id) × (seat.new.id ≡ seat.old.id) }
     ensures told { EyePoolTold words.now.shared.key pool by reserve seat.old.me.0 result seat.new.me.0 }
+    ensures few { result < 9223372036854775808 }
 {
     let about = About {
         by,
         to: 0,
         pool,
         block: 0,
+        low: 0,
         name: 0,
         old: 0,
         new: 0,
         margin: reserve,
     };
     look::<Brand>(words, seat, pool_at(pool), about)
+}
+
+/// Tries to give out the pool's lowest free block where the pool's word is `old`, as it was last seen, and answers the word that was found.
+/// The try is counted.
+pub fn try_give<L: Ledger>(
+    words: &Words,
+    seat: &mut Seat<(), View>,
+    by: u8,
+    pool: u8,
+    reserve: Option<u8>,
+    block: u8,
+    ev: &Ev,
+    old: u64,
+    steps: &mut Steps<L>,
+) -> u64
+    requires own { seat.old.table_id ≡ words.now.shared.table_id }
+    requires wide { words.now.shared.table_id.words ≡ 21128 }
+    requires small { (pool < 16) × (block < 32) × (old < 9223372036854775808) }
+    requires pool { IsTrue (is_pool words.now.shared.key pool) }
+    requires room { HasRoom seat.old.me.0 }
+    requires content { IsContent words.now.shared.key ev.now.sig ev.now.pars.items }
+    requires last { value_seen words.now.shared.key (word.Pool pool) seat.old.me.0.seen ≡ old }
+    requires lowest { IsLowest block (old % 4294967296) }
+    ensures same { (seat.new.table_id ≡ seat.old.table_id) × (seat.new.id ≡ seat.old.id) }
+    ensures counted { steps.new ≡ steps.old + 1 }
+    ensures told { GiveTold words.now.shared.key pool by reserve block ev.now.sig ev.now.pars.items seat.old.me.0 old (old + 4294967296 - 2 ^ block) result seat.new.me.0 }
+    ensures few { result < 9223372036854775808 }
+{
+    steps.step();
+    let about = About {
+        by,
+        to: 0,
+        pool,
+        block,
+        low: 0,
+        name: 0,
+        old,
+        new: 0,
+        margin: reserve,
+    };
+    exchange_for::<Brand>(
+        words,
+        seat,
+        pool_at(pool),
+        old,
+        old + UNIT - bit_of(block),
+        about,
+        ev,
+    )
 }

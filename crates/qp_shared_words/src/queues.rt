@@ -1,6 +1,6 @@
 //! The steps on queues and their cells. Each is one atomic operation, under the rule of the event table.
 
-ghost use Rattle.std.specs.Prelude.{◌≡◌, ◌+◌, ◌<◌, length, IsTrue};
+ghost use Rattle.std.specs.Prelude.{◌≡◌, ◌+◌, ◌/◌, ◌<◌, ◌≤◌, length, IsTrue};
 ghost use Rattle.std.specs.List.{list_any};
 ghost use Rattle.std.specs.Option.{unwrap_or};
 ghost use Rattle.qp_model.specs.declared.words.Word.TheVariants as word;
@@ -11,13 +11,17 @@ ghost use Rattle.qp_table.specs.Rule.{is_place, on_queue, is_serve, is_lifo, is_
 ghost use Rattle.qp_table.specs.After.{HasRoom, InHand};
 ghost use Rattle.qp_table.specs.QueueLaws.{cells_of, front_cell};
 ghost use Rattle.qp_shared_views.specs.Words.{value_seen};
-ghost use Rattle.qp_shared_steps.specs.Told.{LookTold, SeenTold, EyeTold, free_in, TryTold, EyeLastTold, LastTold, LayTold, SwapTold, FreeTold};
+ghost use Rattle.qp_shared_words.specs.Nils.{is_new};
+ghost use Rattle.qp_shared_steps.specs.Told.{LookTold, SeenTold, NilTold, EyeTold, free_in, TryTold, EyeLastTold, LastTold, LayTold, SwapTold, FreeTold};
 
 use crate::places::{cell_at, queue_at};
-use crate::steps::{About, Words, add, exchange, look, store, swap};
+use crate::steps::{About, Words, add, exchange, look, look_again, store, swap};
 use atomic_table::Seat;
+use qp_base::Steps;
+use qp_calls::Counts;
 use qp_table::View;
 use std::marker::Brand;
+use std::sync::ledger::Ledger;
 
 /// What a last-in post adds to a queue's word, and what a take does.
 const LAST_IN: u64 = 1 << 21;
@@ -37,6 +41,7 @@ pub fn look_at_queue(words: &Words, seat: &mut Seat<(), View>, object: u8) -> u6
         to: object,
         pool: 0,
         block: 0,
+        low: 0,
         name: 0,
         old: 0,
         new: 0,
@@ -59,12 +64,41 @@ pub fn see_queue(words: &Words, seat: &mut Seat<(), View>, object: u8) -> u64
         to: object,
         pool: 0,
         block: 0,
+        low: 0,
         name: 0,
         old: 0,
         new: 0,
         margin: None,
     };
     look::<Brand>(words, seat, queue_at(object), about)
+}
+
+/// Looks at a queue for a take, with a record where it is empty, unless the last such record has these counts.
+pub fn look_before_take(
+    words: &Words,
+    seat: &mut Seat<(), View>,
+    object: u8,
+    last: Option<Counts>,
+) -> u64
+    requires own { seat.old.table_id ≡ words.now.shared.table_id }
+    requires wide { words.now.shared.table_id.words ≡ 21128 }
+    requires object { IsTrue (is_object words.now.shared.key object) }
+    requires room { HasRoom seat.old.me.0 }
+    ensures same { (seat.new.table_id ≡ seat.old.table_id) × (seat.new.id ≡ seat.old.id) }
+    ensures told { NilTold words.now.shared.key (is_new last) object seat.old.me.0 result seat.new.me.0 }
+{
+    let about = About {
+        by: 0,
+        to: object,
+        pool: 0,
+        block: 0,
+        low: 0,
+        name: 0,
+        old: 0,
+        new: 0,
+        margin: None,
+    };
+    look_again::<Brand>(words, seat, queue_at(object), about, last)
 }
 
 /// Looks at a queue for a post, with a record where at most the margin is free.
@@ -87,6 +121,7 @@ pub fn look_before_post(
         to: object,
         pool: 0,
         block: 0,
+        low: 0,
         name: 0,
         old: 0,
         new: 0,
@@ -96,16 +131,18 @@ pub fn look_before_post(
 }
 
 /// Tries to claim an entry where the queue's word is `old`, as it was last seen, and answers the word that was found.
-pub fn claim(
+/// The try is counted.
+pub fn claim<L: Ledger>(
     words: &Words,
     seat: &mut Seat<(), View>,
     by: u8,
     object: u8,
     margin: Option<u8>,
     pool: u8,
-    block: u8,
+    block: u16,
     name: u64,
     old: u64,
+    steps: &mut Steps<L>,
 ) -> u64
     requires own { seat.old.table_id ≡ words.now.shared.table_id }
     requires wide { words.now.shared.table_id.words ≡ 21128 }
@@ -114,15 +151,18 @@ pub fn claim(
     requires hand { InHand words.now.shared.key (record { pool = pool; block = block; name = name }) seat.old.me.0 }
     requires last { value_seen words.now.shared.key (word.Queue object) seat.old.me.0.seen ≡ old }
     requires free { unwrap_or margin 0 < free_in (ring_of words.now.shared.key object) old }
-    requires small { old < 9223372036854775808 }
+    requires small { old / 4398046511104 ≤ 3000000 }
     ensures same { (seat.new.table_id ≡ seat.old.table_id) × (seat.new.id ≡ seat.old.id) }
+    ensures counted { steps.new ≡ steps.old + 1 }
     ensures told { TryTold words.now.shared.key object by margin (record { pool = pool; block = block; name = name }) seat.old.me.0 old result seat.new.me.0 }
 {
+    steps.step();
     let about = About {
         by,
         to: object,
         pool,
-        block,
+        block: 0,
+        low: block,
         name,
         old,
         new: 0,
@@ -145,6 +185,7 @@ pub fn look_before_last_in(words: &Words, seat: &mut Seat<(), View>, object: u8)
         to: object,
         pool: 0,
         block: 0,
+        low: 0,
         name: 0,
         old: 0,
         new: 0,
@@ -154,14 +195,16 @@ pub fn look_before_last_in(words: &Words, seat: &mut Seat<(), View>, object: u8)
 }
 
 /// Tries to claim the cell before the front, by the lane that serves the queue, and answers the word that was found.
-pub fn claim_last_in(
+/// The try is counted.
+pub fn claim_last_in<L: Ledger>(
     words: &Words,
     seat: &mut Seat<(), View>,
     object: u8,
     pool: u8,
-    block: u8,
+    block: u16,
     name: u64,
     old: u64,
+    steps: &mut Steps<L>,
 ) -> u64
     requires own { seat.old.table_id ≡ words.now.shared.table_id }
     requires wide { words.now.shared.table_id.words ≡ 21128 }
@@ -172,15 +215,18 @@ pub fn claim_last_in(
     requires idle { many (on_queue object) seat.old.me.0.takes ≡ 0 }
     requires last { value_seen words.now.shared.key (word.Queue object) seat.old.me.0.seen ≡ old }
     requires free { 0 < free_in (ring_of words.now.shared.key object) old }
-    requires small { old < 9223372036854775808 }
+    requires small { old / 4398046511104 ≤ 3000000 }
     ensures same { (seat.new.table_id ≡ seat.old.table_id) × (seat.new.id ≡ seat.old.id) }
+    ensures counted { steps.new ≡ steps.old + 1 }
     ensures told { LastTold words.now.shared.key object (record { pool = pool; block = block; name = name }) seat.old.me.0 old result seat.new.me.0 }
 {
+    steps.step();
     let about = About {
         by: 0,
         to: object,
         pool,
-        block,
+        block: 0,
+        low: block,
         name,
         old,
         new: 0,
@@ -196,7 +242,7 @@ pub fn lay(
     object: u8,
     cell: u16,
     pool: u8,
-    block: u8,
+    block: u16,
     name: u64,
     value: u64,
 )
@@ -214,13 +260,36 @@ pub fn lay(
         by: 0,
         to: object,
         pool,
-        block,
+        block: 0,
+        low: block,
         name,
         old: u64::from(cell),
         new: value,
         margin: None,
     };
     store::<Brand>(words, seat, cell_at(object, cell), value, about)
+}
+
+/// Looks at a cell, which tells the lane nothing.
+pub fn look_at_cell(words: &Words, seat: &mut Seat<(), View>, object: u8, cell: u16) -> u64
+    requires own { seat.old.table_id ≡ words.now.shared.table_id }
+    requires wide { words.now.shared.table_id.words ≡ 21128 }
+    requires low { (object < 33) × (cell < 256) }
+    ensures same { (seat.new.table_id ≡ seat.old.table_id) × (seat.new.id ≡ seat.old.id) }
+    ensures still { seat.new.me.0 ≡ seat.old.me.0 }
+{
+    let about = About {
+        by: 0,
+        to: object,
+        pool: 0,
+        block: 0,
+        low: 0,
+        name: 0,
+        old: 0,
+        new: 0,
+        margin: None,
+    };
+    look::<Brand>(words, seat, cell_at(object, cell), about)
 }
 
 /// Empties the front cell, which the lane that serves the queue knows by its own counts, and answers what was found there.
@@ -250,6 +319,7 @@ pub fn empty_front(
         to: object,
         pool: 0,
         block: 0,
+        low: 0,
         name: 0,
         old: u64::from(cell),
         new: 0,
@@ -265,7 +335,7 @@ pub fn free_entry(
     object: u8,
     cell: u64,
     pool: u8,
-    block: u8,
+    block: u16,
     name: u64,
 ) -> u64
     requires own { seat.old.table_id ≡ words.now.shared.table_id }
@@ -281,7 +351,8 @@ pub fn free_entry(
         by: 0,
         to: object,
         pool,
-        block,
+        block: 0,
+        low: block,
         name,
         old: cell,
         new: 0,

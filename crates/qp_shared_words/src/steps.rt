@@ -9,6 +9,8 @@ ghost use Rattle.qp_table.specs.First.{first_serves};
 ghost use Rattle.qp_table.specs.Whole.{later_lanes};
 
 use atomic_table::{Play, Seat, Table, TableRule};
+use qp_base::Ev;
+use qp_calls::Counts;
 use qp_model::System;
 use qp_table::View;
 use std::alloc::Global;
@@ -41,13 +43,14 @@ impl<T: Tells> Play<(), View> for Tell<T> {
 /// The 21,128 words of one event table, which threads share.
 pub type Words = Table<(), View, System, Law, Global>;
 
-/// What a step is about, for its proof alone: the object for which the lane works, a queue, a block or an entry, and numbers of the step.
+/// What a step is about, for its proof alone: the object for which the lane works, a queue, a block or an entry, and numbers of the step. `low` is an entry's block or, of a static one, its signal.
 #[derive(Clone, Copy, Drop)]
 pub(crate) struct About {
     pub by: u8,
     pub to: u8,
     pub pool: u8,
     pub block: u8,
+    pub low: u16,
     pub name: u64,
     pub old: u64,
     pub new: u64,
@@ -60,6 +63,22 @@ pub(crate) fn look<T: Tells>(
     seat: &mut Seat<(), View>,
     word: usize,
     _about: About,
+) -> u64
+    requires own { (seat.old.table_id ≡ words.now.shared.table_id) × (word < words.now.shared.table_id.words) }
+    requires keeps { Steps words.now.shared.key seat.old.id seat.old.me.0 word (λ n. n) (T.tells seat.old.me.0) }
+    ensures same { (seat.new.table_id ≡ seat.old.table_id) × (seat.new.id ≡ seat.old.id) }
+    ensures told { T.tells seat.old.me.0 result seat.new.me.0 }
+{
+    words.shared.load::<Tell<T>>(seat, word)
+}
+
+/// Reads a word, by what the lane found there before.
+pub(crate) fn look_again<T: Tells>(
+    words: &Words,
+    seat: &mut Seat<(), View>,
+    word: usize,
+    _about: About,
+    _last: Option<Counts>,
 ) -> u64
     requires own { (seat.old.table_id ≡ words.now.shared.table_id) × (word < words.now.shared.table_id.words) }
     requires keeps { Steps words.now.shared.key seat.old.id seat.old.me.0 word (λ n. n) (T.tells seat.old.me.0) }
@@ -93,6 +112,26 @@ pub(crate) fn exchange<T: Tells>(
     old: u64,
     new: u64,
     _about: About,
+) -> u64
+    requires own { (seat.old.table_id ≡ words.now.shared.table_id) × (word < words.now.shared.table_id.words) }
+    requires keeps { Steps words.now.shared.key seat.old.id seat.old.me.0 word (λ n. either (n == old) new n) (T.tells seat.old.me.0) }
+    ensures same { (seat.new.table_id ≡ seat.old.table_id) × (seat.new.id ≡ seat.old.id) }
+    ensures told { T.tells seat.old.me.0 result seat.new.me.0 }
+{
+    words
+        .shared
+        .compare_exchange::<Tell<T>>(seat, word, old, new)
+}
+
+/// Sets a word to `new` where it is `old`, for an event, and answers what was found.
+pub(crate) fn exchange_for<T: Tells>(
+    words: &Words,
+    seat: &mut Seat<(), View>,
+    word: usize,
+    old: u64,
+    new: u64,
+    _about: About,
+    _ev: &Ev,
 ) -> u64
     requires own { (seat.old.table_id ≡ words.now.shared.table_id) × (word < words.now.shared.table_id.words) }
     requires keeps { Steps words.now.shared.key seat.old.id seat.old.me.0 word (λ n. either (n == old) new n) (T.tells seat.old.me.0) }

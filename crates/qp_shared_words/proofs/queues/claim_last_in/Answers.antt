@@ -6,8 +6,8 @@ use Rattle.qp_shared_steps.proofs.LawLemmas.{last_tries_tell}
 use Rattle.qp_shared_words.proofs.queues.claim_last_in.Goals as goal
 
 pub exchange-requires-clause-own : goal.exchange-requires-clause-own
-exchange-requires-clause-own c = let w = c.requires.wide in let at = c.queue_at.ensures in (c.requires.own, omega arith)
+exchange-requires-clause-own g c = let w = c.requires.wide in let at = c.queue_at.ensures in (c.requires.own, omega arith)
 
 pub exchange-requires-clause-keeps : goal.exchange-requires-clause-keeps
-exchange-requires-clause-keeps c = subst (λ w. Steps c.args.words.now.shared.key c.args.seat.now.id c.args.seat.now.me.0 w (λ n. either (eqb n c.args.old) (c.args.old + 2097152) n) (LastTold c.args.words.now.shared.key c.args.object (record { pool = c.args.pool; block = c.args.block; name = c.args.name }) c.args.seat.now.me.0 c.args.old)) (sym c.queue_at.ensures)
+exchange-requires-clause-keeps g c = subst (λ w. Steps c.args.words.now.shared.key c.args.seat.now.id c.args.seat.now.me.0 w (λ n. either (eqb n c.args.old) (c.args.old + 2097152) n) (LastTold c.args.words.now.shared.key c.args.object (record { pool = c.args.pool; block = c.args.block; name = c.args.name }) c.args.seat.now.me.0 c.args.old)) (sym c.queue_at.ensures)
     (last_tries_tell c.args.words.now.shared.key c.args.seat.now.id c.args.seat.now.me.0 c.requires.room c.args.object c.requires.object (record { pool = c.args.pool; block = c.args.block; name = c.args.name }) c.args.old c.requires.hand c.requires.serves c.requires.idle c.requires.last c.requires.free)

@@ -1,0 +1,41 @@
+use Rattle.std.proofs.Common.{arith, false}
+use Rattle.std.proofs.lemmas.Result.{err_from_is_err_and}
+use Rattle.qp_kernel_turns.proofs.Lanes.{halts-lane}
+use Rattle.qp_port_home.proofs.Beginning.{begun}
+use Rattle.qp_port_home.proofs.Resting.{halts, object-room, resting-room, takes-none}
+use Rattle.qp_port_home.proofs.turning.next.Goals as goal
+
+pub returns-in_err-ready-clause-goes : goal.returns-in_err-ready-clause-goes
+returns-in_err-ready-clause-goes g c =
+    let p = err_from_is_err_and c.from_residual.result c.from_residual.ensures.1 in
+    rw (p.1, p.2) (halts c.args.sys.now c.requires.sound c.args.budget c.args.home.now (g.O.Ops.lane c.args.ops.now) c.requires.knows (g.O.Ops.lane c.ready.new.ops) c.in_err-ready.field-0.0 c.in_err-ready.ensures)
+
+pub returns-in_err-ready-clause-lane : goal.returns-in_err-ready-clause-lane
+returns-in_err-ready-clause-lane g c =
+    let p = err_from_is_err_and c.from_residual.result c.from_residual.ensures.1 in
+    rw (p.1, p.2) (halts-lane false (g.O.Ops.lane c.args.ops.now) (g.O.Ops.lane c.ready.new.ops) c.in_err-ready.field-0.0 c.in_err-ready.ensures)
+
+pub look_only-requires-clause-knows : goal.look_only-requires-clause-knows
+look_only-requires-clause-knows g c =
+    resting-room c.args.sys.now c.requires.sound c.args.budget c.args.home.now (g.O.Ops.lane c.args.ops.now) c.requires.knows (g.O.Ops.lane c.ready.new.ops) c.in_ok-ready.ensures.roomier
+
+pub take-requires-clause-object : goal.take-requires-clause-object
+take-requires-clause-object g c =
+    let h = c.requires.knows in
+    object-room c.args.sys.now h.d h.chart c.args.home.now (g.O.Ops.lane c.args.ops.now) (g.O.Ops.lane c.ready.new.ops) h.at c.in_ok-ready.ensures.roomier
+
+pub returns-in-Taken-clause-goes : goal.returns-in-Taken-clause-goes
+returns-in-Taken-clause-goes g c =
+    let lane = g.O.Ops.lane in
+    let sys = c.args.sys.now in
+    let x = c.args.home.now in
+    let h = resting-room sys c.requires.sound c.args.budget x (lane c.args.ops.now) c.requires.knows (lane c.ready.new.ops) c.in_ok-ready.ensures.roomier in
+    begun sys c.requires.sound c.args.budget x (lane c.ready.new.ops) (lane c.take.new.self) c.in-Taken.e c.begin.new.self h (omega (arith, c.if-taken-budget.false, c.taken.ensures)) c.in-Taken.ensures c.begin.ensures
+
+pub returns-in-Empty-clause-goes : goal.returns-in-Empty-clause-goes
+returns-in-Empty-clause-goes g c =
+    let lane = g.O.Ops.lane in
+    let sys = c.args.sys.now in
+    let x = c.args.home.now in
+    let h = resting-room sys c.requires.sound c.args.budget x (lane c.args.ops.now) c.requires.knows (lane c.ready.new.ops) c.in_ok-ready.ensures.roomier in
+    takes-none sys c.requires.sound c.args.budget x (lane c.ready.new.ops) h (lane c.take.new.self) c.in-Empty.f c.in-Empty.l c.in-Empty.m c.in-Empty.ensures

@@ -1,0 +1,90 @@
+-- One step on a word behind another.
+use Rattle.std.proofs.Common.{◌≡◌, ℕ, ◌+◌, ◌-◌, ◌/◌, ◌<◌, ◌≤◌, sym, ap, subst, ◌∙◌, arith}
+use Rattle.std.specs.declared.option.Option.{Option}
+use Rattle.std.specs.Option.{unwrap_or}
+use Rattle.qp_model.specs.declared.systems.System.{System}
+use Rattle.qp_model.specs.declared.bodies.Entry.{Entry}
+use Rattle.qp_model.specs.declared.words.Word.{Word}
+use Rattle.qp_model.specs.declared.words.Word.TheVariants as word
+use Rattle.qp_model.specs.Sites.{ring_of}
+use Rattle.qp_table.specs.Rule.{queue_at, mark_in}
+use Rattle.qp_table.specs.After.{HasRoom, InHand}
+use Rattle.qp_table.specs.declared.view.View.{View}
+use Rattle.qp_shared_views.specs.Words.{place_of, value_seen, Ahead}
+use Rattle.qp_shared_views.specs.Telling.{Saw, OwnTold}
+use Rattle.qp_shared_views.proofs.Gaining.{saw-then}
+use Rattle.qp_shared_steps.specs.Told.{QueueTold, free_in}
+use Rattle.qp_shared_loops.specs.Ends.{seeing}
+
+-- Only what was seen has changed, and of a queue's word x was seen last
+pub record Seen (sys : System) (a : ℕ) (v u : View) (x : ℕ) : Type 0 where
+  pub is : u ≡ seeing u.seen v
+  pub told : QueueTold sys a v u x x
+
+module _ (v u : View) (is : u ≡ seeing u.seen v) where
+  pub keeps-room : HasRoom v → HasRoom u
+  keeps-room r = subst HasRoom (sym is) (record { own = r.own; others = r.others; is = r.is; room = r.room })
+
+  pub keeps-hand : (sys : System) (e : Entry) → InHand sys e v → InHand sys e u
+  keeps-hand sys e h = subst (InHand sys e) (sym is) (record { static = h.static; pooled = h.pooled })
+
+  own-before : (a l m : ℕ) → OwnTold a l m u → OwnTold a l m v
+  own-before a l m h = subst (OwnTold a l m) is h
+
+-- what is found behind something seen is ahead of what was seen before
+pub ahead-then : (sys : System) (w : Word) (v z : View) (y n : ℕ) → Saw sys w v z y → Ahead sys w z n → Ahead sys w v n
+ahead-then sys w v z y n a b =
+    let le : mark_in (place_of w) y ≤ mark_in (place_of w) n = subst (λ k. mark_in (place_of w) k ≤ mark_in (place_of w) n) a.value b.le in
+    let le' = a.le in record {
+      le = omega arith;
+      same = λ e. let s : mark_in (place_of w) (value_seen sys w v.seen) ≡ mark_in (place_of w) y = omega arith in
+          a.same s ∙ (sym a.value ∙ b.same (ap (mark_in (place_of w)) (a.value ∙ sym (a.same s)) ∙ e));
+    }
+
+pub queue-then : (sys : System) (a : ℕ) (v z u : View) (y n x : ℕ) → Seen sys a v z y → QueueTold sys a z u n x → QueueTold sys a v u n x
+queue-then sys a v z u y n x seen told = record {
+  found = ahead-then sys (word.Queue a) v z y n seen.told.saw told.found;
+  saw = saw-then sys (word.Queue a) v z u y x seen.told.saw told.saw;
+  mark = told.mark;
+  small = told.small;
+  takes = told.takes;
+  own = own-before v z seen.is a _ _ told.own;
+}
+
+-- of what was seen last
+module _ (sys : System) (a : ℕ) (v u : View) (x : ℕ) (seen : Seen sys a v u x) where
+  pub last-is : value_seen sys (word.Queue a) u.seen ≡ x
+  last-is = seen.told.saw.value
+
+  pub risen : mark_in (queue_at a) (value_seen sys (word.Queue a) v.seen) ≤ mark_in (queue_at a) x
+  risen = seen.told.saw.le
+
+  pub few-takes : x / 4398046511104 ≤ 3000000
+  few-takes = let s = seen.told.small in let t = seen.told.takes in omega arith
+
+  pub mark-below : mark_in (queue_at a) x < 8000000
+  mark-below = subst (λ k. k < 8000000) (sym seen.told.mark) (let s = seen.told.small in let t = seen.told.takes in omega arith)
+
+-- more entries are free than the margin, or too few, by the numbers of a function
+module _ (sys : System) (a ring least : ℕ) (margin : Option ℕ) (f x : ℕ) (ring_is : ring ≡ ring_of sys a) (least_is : least ≡ unwrap_or margin 0) (f_is : f ≡ free_in ring x) where
+  pub enough-free : least < f → unwrap_or margin 0 < free_in (ring_of sys a) x
+  enough-free lt = subst (λ (z : ℕ × ℕ). z.0 < z.1) (λ i. (least_is i, (f_is ∙ ap (λ r. free_in r x) ring_is) i)) lt
+
+  pub few-free : f ≤ least → free_in (ring_of sys a) x ≤ unwrap_or margin 0
+  few-free le = subst (λ (z : ℕ × ℕ). z.1 ≤ z.0) (λ i. (least_is i, (f_is ∙ ap (λ r. free_in r x) ring_is) i)) le
+
+-- counts of tries
+pub no-tries : (s a b : ℕ) → a ≤ b → s + a ≤ s + b
+no-tries s a b le = omega arith
+
+pub one-try : (s s1 s2 m m1 m2 : ℕ) → s2 ≡ s1 + 1 → s1 + m ≤ s + m1 → m1 < m2 → s2 + m ≤ s + m2
+one-try s s1 s2 m m1 m2 e le lt = omega arith
+
+pub last-try : (s s1 s2 m m1 : ℕ) → s2 ≡ s1 + 1 → s1 + m ≤ s + m1 → s2 + m ≤ s + 1 + m1
+last-try s s1 s2 m m1 e le = omega arith
+
+pub some-tries : (s s1 m m1 : ℕ) → s1 + m ≤ s + m1 → s1 + m ≤ s + 1 + m1
+some-tries s s1 m m1 le = omega arith
+
+pub less-left : (n m1 m2 : ℕ) → m1 < n → m1 < m2 → n - m2 < n - m1
+less-left n m1 m2 lt more = omega arith

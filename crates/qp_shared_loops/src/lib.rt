@@ -1,0 +1,5 @@
+//! The loops of a lane on the words of the event table that threads share.
+#![tactic(auto)]
+
+pub mod last_in;
+pub mod posts;

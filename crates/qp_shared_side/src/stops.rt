@@ -1,0 +1,55 @@
+//! The steps on the stop word. Each is one atomic operation, under the rule of the side table.
+
+ghost use Rattle.std.specs.Prelude.{◌≡◌, ◌<◌, ◌≤◌, ◌∷◌, length};
+ghost use Rattle.qp_side_words.specs.Told.{FoundTold};
+
+use crate::steps::{About, Words, exchange, look};
+use atomic_table::Seat;
+use qp_side_words::SideView;
+use std::marker::Brand;
+
+/// The stop word.
+const STOP: usize = 4488;
+
+/// Hands in a code: the word takes it where it is 0.
+pub fn hand_in(words: &Words, seat: &mut Seat<(), SideView>, code: u8)
+    requires own { seat.old.table_id ≡ words.now.shared.table_id }
+    requires wide { words.now.shared.table_id.words ≡ 4489 }
+    requires log { 0 < length seat.old.me.0.view.logs }
+    requires some { 0 < code }
+    requires most { code ≤ 7 }
+    ensures same { (seat.new.table_id ≡ seat.old.table_id) × (seat.new.id ≡ seat.old.id) × (seat.new.me.1 ≡ seat.old.me.1) }
+    ensures told { seat.new.me.0 ≡ record seat.old.me.0 { stops = code ∷ seat.old.me.0.stops } }
+{
+    let about = About {
+        by: code,
+        to: 0,
+        timer: 0,
+        bit: 0,
+        ticks: 0,
+        interval: 0,
+        old: 0,
+        new: 0,
+    };
+    exchange::<Brand>(words, seat, STOP, 0, code as u64, about);
+}
+
+/// Reads the stop word.
+pub fn find(words: &Words, seat: &mut Seat<(), SideView>) -> u64
+    requires own { seat.old.table_id ≡ words.now.shared.table_id }
+    requires wide { words.now.shared.table_id.words ≡ 4489 }
+    ensures same { (seat.new.table_id ≡ seat.old.table_id) × (seat.new.id ≡ seat.old.id) × (seat.new.me.1 ≡ seat.old.me.1) }
+    ensures told { FoundTold seat.old.me.0 result seat.new.me.0 }
+{
+    let about = About {
+        by: 0,
+        to: 0,
+        timer: 0,
+        bit: 0,
+        ticks: 0,
+        interval: 0,
+        old: 0,
+        new: 0,
+    };
+    look::<Brand>(words, seat, STOP, about)
+}

@@ -1,0 +1,17 @@
+//! The rule of the side table, of signals, time events and the stop word, and what each atomic step on it tells.
+#![tactic(auto)]
+
+pub mod laws;
+
+use qp_table::View;
+use std::collections::LinkedList;
+
+/// What a seat on the side table knows. It stands in proofs alone: no value of it is made.
+pub struct SideView {
+    /// Its records, its numbers, the objects that it serves and what it saw. The other parts are empty.
+    pub view: View,
+    /// The codes that it handed in.
+    pub stops: LinkedList<u64>,
+    /// The codes that it found.
+    pub answered: LinkedList<u64>,
+}
