@@ -53,7 +53,7 @@ FAULTS = [
     Seeded("OTHER_CHART", "philosophers", {"D7"}, {"exit", "enter"}),
     Seeded("RELEASED_EARLY", "telemetry", {"D10", "D11", "D12"}, {"back", "dec"}),
     Seeded("RECORDED_OUTSIDE", "philosophers", {"D11", "D13"}, {"took", "dec"}),
-    Seeded("NO_SECTION", "workshop", {"D9", "D10", "D11", "D13", "D14"}, {"took", "post", "back", "dec", "new", "nil", "seen", "full"}),
+    Seeded("NO_SECTION", "workshop", {"D9", "D10", "D11", "D13", "D14", "D15"}, {"took", "post", "back", "dec", "new", "nil", "seen", "full", "run"}),
 ]
 
 
