@@ -13,8 +13,10 @@ from qpviewer.place import place_of
 from .judging import LAWFUL, Judged, NotRun, judge, run
 from .places import EXAMPLE, RUNS
 
-#: After so many lawful runs a fault isn't found.
+#: After so many runs a fault isn't found.
 MOST_RUNS = 400
+#: So many runs may show a fault of threads by another rule or record first.
+MOST_OTHERS = 4
 
 
 class Seeded(NamedTuple):
@@ -63,18 +65,23 @@ def number_of(fault: str) -> int:
 
 
 def find(fault: Seeded, program: Path, folder: Path) -> Found | str:
-    """Runs until the fault is found; else why it isn't."""
+    """Runs until the fault is found, by one of its rules and records; else why it isn't."""
     folder.mkdir(exist_ok=True)
     trace = folder / "trace"
+    others: list[str] = []
     for count in range(1, MOST_RUNS + 1):
         try:
             run(program, RUNS[fault.run].stimuli, trace, number_of(fault.name))
         except NotRun:
             continue # such a fault may bring the framework to a stand, too; the next run tells more
         judged = judge(RUNS[fault.run], trace, folder)
-        if judged.verdict != LAWFUL:
-            return _place(fault, judged, count)
-    return f"{MOST_RUNS} runs are lawful"
+        if judged.verdict == LAWFUL:
+            continue
+        found = _place(fault, judged, count)
+        if isinstance(found, Found) or len(others) == MOST_OTHERS:
+            return found
+        others.append(found)
+    return others[-1] if others else f"{MOST_RUNS} runs are lawful"
 
 
 def _place(fault: Seeded, judged: Judged, count: int) -> Found | str:
