@@ -15,8 +15,8 @@ from .places import EXAMPLE, RUNS
 
 #: After so many runs a fault isn't found.
 MOST_RUNS = 400
-#: So many runs may show a fault of threads by another rule or record first.
-MOST_OTHERS = 4
+#: So many runs may show a fault of threads otherwise first, as where it brings the framework to a stand within a step; each is printed.
+MOST_OTHERS = 40
 
 
 class Seeded(NamedTuple):
@@ -55,7 +55,7 @@ FAULTS = [
     Seeded("OTHER_CHART", "philosophers", {"D7"}, {"exit", "enter"}),
     Seeded("RELEASED_EARLY", "telemetry", {"D10", "D11", "D12"}, {"back", "dec"}),
     Seeded("RECORDED_OUTSIDE", "philosophers", {"D11", "D13"}, {"took", "dec"}),
-    Seeded("NO_SECTION", "workshop", {"D9", "D10", "D11", "D13", "D14", "D15"}, {"took", "post", "back", "dec", "new", "nil", "seen", "full", "run"}),
+    Seeded("NO_SECTION", "workshop", {"D9", "D10", "D11", "D13", "D14"}, {"took", "post", "back", "dec", "new", "nil", "seen", "full"}),
 ]
 
 
@@ -81,6 +81,7 @@ def find(fault: Seeded, program: Path, folder: Path) -> Found | str:
         if isinstance(found, Found) or len(others) == MOST_OTHERS:
             return found
         others.append(found)
+        print(f"{fault.name}: run {count} shows it otherwise, so it is sought further: {found}", flush=True)
     return others[-1] if others else f"{MOST_RUNS} runs are lawful"
 
 
