@@ -8,6 +8,7 @@ import re
 from pathlib import Path
 from typing import NamedTuple
 
+from qpviewer.faults import Fault
 from qpviewer.place import place_of
 
 from .judging import LAWFUL, Judged, NotRun, judge, run
@@ -74,15 +75,23 @@ def find(fault: Seeded, program: Path, folder: Path) -> Found | str:
             run(program, RUNS[fault.run].stimuli, trace, number_of(fault.name))
         except NotRun:
             continue # such a fault may bring the framework to a stand, too; the next run tells more
-        judged = judge(RUNS[fault.run], trace, folder)
-        if judged.verdict == LAWFUL:
+        found = _told(fault, trace, folder, count)
+        if found is None:
             continue
-        found = _place(fault, judged, count)
         if isinstance(found, Found) or len(others) == MOST_OTHERS:
             return found
         others.append(found)
         print(f"{fault.name}: run {count} shows it otherwise, so it is sought further: {found}", flush=True)
     return others[-1] if others else f"{MOST_RUNS} runs are lawful"
+
+
+def _told(fault: Seeded, trace: Path, folder: Path, count: int) -> Found | str | None:
+    """How a run shows the fault, or shows it otherwise; nothing where the run is lawful."""
+    try:
+        judged = judge(RUNS[fault.run], trace, folder)
+    except Fault as told: # where two threads write into one buffer, its bytes are torn
+        return f"no trace: {': '.join(filter(None, map(str, told.args)))}"
+    return None if judged.verdict == LAWFUL else _place(fault, judged, count)
 
 
 def _place(fault: Seeded, judged: Judged, count: int) -> Found | str:
