@@ -8,9 +8,10 @@ ghost use Rattle.qp_calls.specs.Notes.{spills_in};
 ghost use Rattle.qp_calls_stimulus.specs.Stimulating.{Halts, KeepsOwn, Stimulates};
 
 use crate::calling::{Called, make};
-use qp_base::{Gate, Steps};
+use qp_base::Steps;
 use qp_calls::{Halted, Ops, RoomFault, halt};
 use qp_model::{Rec, Stim, System};
+use qp_tells::Tells;
 use std::sync::ledger::Ledger;
 
 /// What became of a stimulus.
@@ -41,7 +42,7 @@ fn give_up<O: Ops>(ops: &mut O, fault: RoomFault) -> Stimulated
 /// Does the stimulus at `place` of its source, counted from 1, in the look with the number `look`, which is 0 in a run
 /// with threads. The gate is told of it right behind its `stim`, with the number of the source's lane. The lane works for
 /// no object. A post or a publication that is refused is done; an assertion stops the lane, and so does a lane without room.
-pub fn stimulus<O: Ops, L: Ledger, G: Gate>(
+pub fn stimulus<O: Ops, L: Ledger, G: Tells>(
     ops: &mut O,
     sys: &System,
     s: &Stim,
@@ -63,7 +64,7 @@ pub fn stimulus<O: Ops, L: Ledger, G: Gate>(
         return give_up(ops, fault);
     }
     ops.note(Rec::stim(place, look));
-    gate.at(lane, u64::from(place));
+    gate.tells(lane, u64::from(place));
     match make(ops, sys, s, steps) {
         Ok(Called::Whole) => Stimulated::Done,
         Ok(Called::Tried) => Stimulated::Tried,

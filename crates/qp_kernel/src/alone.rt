@@ -10,8 +10,9 @@ use std::sync::Wait;
 use std::sync::ledger::Ledger;
 
 /// A lane whose sources are threads of their own: its looks let nothing happen, and its calls are those of the lane.
+#[derive(Drop)]
 pub struct Alone<O: Ops> {
-    lane: O,
+    pub(crate) lane: O,
 }
 
 impl<O: Ops> Alone<O> {

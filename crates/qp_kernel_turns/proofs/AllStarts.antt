@@ -22,7 +22,7 @@ use Rattle.qp_kernel_turns.specs.Starting.{AllStarted, GrowsAlong, GrowsAndStops
 use Rattle.qp_kernel_turns.proofs.Places.{follow-none, follow-then}
 use Rattle.qp_kernel_turns.proofs.SoundObjects.{named}
 use Rattle.qp_kernel_turns.proofs.Fresh.{all-begun}
-use Rattle.qp_kernel_turns.proofs.Starts.{done-grows, done-knows, done-order, done-unstim, may-start, opened, refused-grows, stopped-start, stopped-turn, threshold-is}
+use Rattle.qp_kernel_turns.proofs.Starts.{done-grows, done-knows, done-order, done-unstim, may-start, opened, refused-grows, stopped-rows, stopped-start, stopped-turn, threshold-is}
 use Rattle.qp_kernel.specs.Turning.{Terms, under}
 use Rattle.qp_model.proofs.AbleLemmas.{some-same}
 
@@ -103,6 +103,7 @@ module _ (sys : System) (sound : IsSound sys) (place : ℕ) (d : ObjectDef) (at 
   starts-next level ys w step.Stopped r =
       stopped-start sys sound any d.priority others xs v next.holds apart-next (here.knows any) level ys w r b.order
       (λ terms. stopped-turn sys sound terms d.priority others xs v next.holds apart-next (here.knows terms) level ys w r)
+      (λ terms. stopped-rows sys sound terms d.priority others xs v next.holds apart-next (here.knows terms) level ys w r)
   starts-next level ys w step.Memory r =
       let o = opened sys sound any d.priority others xs v next.holds apart-next (here.knows any) level ys w step.Memory r in
       refused-grows sys sound any d.priority others xs v next.holds apart-next (here.knows any) r.later.object.lasting o.0 w o.2 o.1.1
@@ -128,6 +129,7 @@ stops-behind code u v w ts gains h = record { ts = ts ++ h.ts; mid = h.mid; gain
 pub stopped-behind : (sys : System) (u v w : LaneView) (ts : List ToldItem) → Gains ts u v → StartStopped sys v w → StartStopped sys u w
 stopped-behind sys u v w ts gains h = record {
   turn = λ terms. let t = h.turn terms in record { zero = t.zero; why = subst (λ a. (0 < last_code w.told) ⊎ (length a < length w.answered)) gains.answered t.why };
+  none = h.none;
   order = h.order;
   code = h.code;
   some = h.some;
@@ -154,7 +156,7 @@ pub all-started : (sys : System) (place : ℕ) (xs : Objects) (u : LaneView) (ys
 all-started sys place xs u ys v le b along =
     let none : left_from sys place ≡ [] = ap (map (λ d. d.priority)) (drop-whole sys.objects place le) in
     let h : HaveBegun sys [] ys v = subst (λ ps. HaveBegun sys ps ys v) none b in
-    record { knows = λ terms. all-begun sys terms ys v (h.knows terms); order = h.order; no_stim = h.no_stim; grows = along }
+    record { knows = λ terms. all-begun sys terms ys v (h.knows terms); base = h.knows; order = h.order; no_stim = h.no_stim; grows = along }
 
 pub along-none : (xs : Objects) (v : LaneView) → GrowsAlong xs v xs v
 along-none xs v = record { ts = []; gains = gains-none v; hands = follow-none xs v v refl }

@@ -94,3 +94,10 @@ never-still k l look m z xs ys zs us c steps one none same =
 pub none-top : (p : ℕ) (stack : List ℕ) → stack ≡ [] → Some p ≡ slice_get stack (length stack - 1) → ⊥
 none-top p [] none top = absurd (cc)
 none-top p (x ∷ xs) none top = absurd (cc)
+
+-- none has begun
+pub steps-none : (l m : Kernel) (xs ys : Objects) → Begin 0 l m xs ys → m.steps ≡ l.steps
+steps-none l m xs ys begin = let a = begin.steps in omega (arith, a)
+
+pub steps-same : (l look m : Kernel) (xs ys : Objects) → look.steps ≡ l.steps → Begin 0 look m xs ys → m.steps ≡ l.steps
+steps-same l look m xs ys steps begin = let a = begin.steps in omega (arith, a, steps)

@@ -148,6 +148,7 @@ begun sys xs v sound made fresh = record { knows = knows; order = order-begins s
         owed = refl;
         base = refl;
         place = refl;
+        idle = refl;
       };
     }
 

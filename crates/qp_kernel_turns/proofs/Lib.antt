@@ -1,6 +1,7 @@
 pub mod Places
 pub mod SoundObjects
 pub mod Rows
+pub mod BaseRows
 pub mod Staying
 pub mod Fresh
 pub mod Quiet
@@ -23,4 +24,5 @@ pub mod AllStarts
 pub mod Tops
 pub mod Visits
 pub mod Rounds
+pub mod RoundRows
 pub mod Keeping

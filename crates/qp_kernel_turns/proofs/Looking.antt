@@ -13,15 +13,17 @@ use Rattle.qp_calls.specs.LaneView.{LaneView, ceiling_in}
 use Rattle.qp_calls.specs.Notes.{spills_in}
 use Rattle.qp_kernel.specs.Happenings.{lanes_of}
 use Rattle.qp_kernel.specs.LaneZero.{setting}
-use Rattle.qp_model.specs.Ends.{may_cut}
+use Rattle.qp_model.specs.Ends.{asserted, may_cut}
 use Rattle.qp_kernel.specs.Turning.{KernelState, Stands, look_told, seen_told, Terms, kernel_in}
 use Rattle.qp_kernel.proofs.KernelLaws.{empty_is_seen, look_is_added, looks_are_settled, run_stops_elsewhere}
-use Rattle.qp_kernel_turns.specs.Turning.{EndsSo}
+use Rattle.qp_kernel_turns.specs.BaseRows.{InRow, reading_in}
+use Rattle.qp_kernel_turns.specs.TurnRows.{bare_row, idle_rows}
+use Rattle.qp_kernel_turns.proofs.BaseRows.{idle-is, look-adds, reading-is}
 use Rattle.qp_kernel_turns.specs.declared.objects.Objects.{Objects}
 use Rattle.qp_kernel_turns.specs.Knowing.{Descends, HandsCover, HasStack, IsAbove, IsLane, IsNamed, IsScanning, Knows, KnowsAt, MayLook, is_paused}
 use Rattle.qp_chart.specs.StateTree.{has}
 use Rattle.qp_kernel.specs.Stages.{is_resting}
-use Rattle.qp_kernel_turns.proofs.Ends.{ends-so}
+use Rattle.qp_kernel_turns.proofs.Ends.{EndsFew, ends-few}
 use Rattle.qp_kernel_turns.proofs.SoundObjects.{able, named, numbered, sound-object}
 use Rattle.qp_kernel_turns.proofs.Rows.{SameButPlace, above-floor, above-more, looking-agrees, looking-same, row-named}
 use Rattle.qp_kernel_turns.proofs.Staying.{all-still, all-wait}
@@ -107,10 +109,19 @@ module _ (sys : System) (sound : IsSound sys) (terms : Terms) (looks : ℕ) (sta
   same = looking-same sys terms now here (above sys floor)
 
   -- the run stops in the look
-  pub look-stops : w.told ≡ v.told ++ look_told n floor ∷ [] → (end : ℕ) → may_cut end ≡ true → EndsSo sys terms end w.told (has_stim (lanes_of w))
+  pub look-stops : w.told ≡ v.told ++ look_told n floor ∷ [] → (end : ℕ) → may_cut end ≡ true → EndsFew sys terms end next.idle w.told (has_stim (lanes_of w))
   look-stops told end cut =
-      subst (λ ts. EndsSo sys terms end ts now) (ap (λ ts. ts ++ look_told n floor ∷ []) k.told ∙ sym told)
-      (ends-so sys terms end _ _ _ (run_stops_elsewhere sys terms end after now (numbered sys sound) (able sys sound) stands-after (λ m le. refl) cut (same.unstarted ∙ may.stack.started) (all-wait sys s may.stack)))
+      subst (λ ts. EndsFew sys terms end next.idle ts now) (ap (λ ts. ts ++ look_told n floor ∷ []) k.told ∙ sym told)
+      (run_stops_elsewhere sys terms end after now (numbered sys sound) (able sys sound) stands-after (λ m le. refl) cut (same.unstarted ∙ may.stack.started) (all-wait sys s may.stack))
+
+  -- in a row that is no longer than it was
+  pub look-few : w.told ≡ v.told ++ look_told n floor ∷ [] → terms.threaded ≡ true → idle_rows sys terms w ≤ idle_rows sys terms v + bare_row sys
+  unfolding floor_in
+  look-few told threaded =
+      let few = ends-few sys terms asserted next.idle w.told now (look-stops told asserted refl) threaded in
+      let most = look-adds sys sound (setting sys (kernel_in terms) now) here floor (λ base. low-here ∙ ap (λ ps. floor_in sys (kernel_in terms) ps s.reading.ceiling) base) in
+      let own = idle-is sys terms v s k.stands k.told k.now in
+      omega (arith, few, most, own)
 
   module _ (goes : GoesFor (look_told n floor ∷ []) v w) (late : (m : ℕ) → n < m → has_stim (lanes_of w) m ≡ false) where
     cover : HandsCover xs w
@@ -122,12 +133,25 @@ module _ (sys : System) (sound : IsSound sys) (terms : Terms) (looks : ℕ) (sta
         (above-floor sys floor (above sys floor) s.reading.running (row-named sys floor (named sys sound))
         (λ p lt. under-floor sys sound terms s.reading.running s.reading.ceiling may.stack.named may.stack.descends p (subst (λ x. x < p) low-here lt)))
 
+    told-after : after.told ≡ w.told
+    told-after = ap (λ ts. ts ++ look_told n floor ∷ []) k.told ∙ sym goes.told
+
+    -- the row goes on
+    pub looked-row : InRow sys terms (above sys floor) v w
+    looked-row =
+        let was = reading-is sys terms s v k.stands k.told k.now in
+        record {
+          here = here;
+          row = record { stepped = ap (λ r. r.stepped) (sym was); idle = ap (λ r. r.idle) (sym was) };
+          same = reading-is sys terms after w stands-after told-after refl;
+        }
+
     -- a look is added, and its stimulus is known
     pub looked : KnowsAt (IsScanning sys terms (above sys floor)) sys terms n stack xs w
     looked = record {
       knows = record {
         state = after;
-        told = ap (λ ts. ts ++ look_told n floor ∷ []) k.told ∙ sym goes.told;
+        told = told-after;
         stands = stands-after;
         counted = same.looks;
         ceiling = same.ceiling ∙ k.ceiling;
@@ -174,20 +198,40 @@ module _ (sys : System) (sound : IsSound sys) (terms : Terms) (looks : ℕ) (sta
     few : k.state.reading.looks ≤ k.state.upto
     few = let a = k.counted in let b = k.settled in omega (arith, a, b)
 
+    told-one : after-one.told ≡ w.told
+    told-one = ap (λ ts. ts ++ seen_told p f l m ∷ []) k.told ∙ sym goes.told
+
+    now-one : k.state.now ≡ has_stim (lanes_of w)
+    now-one = k.now ∙ ap has_stim (sym lanes)
+
+    stands-one : Stands sys terms after-one
+    stands-one = empty_is_seen sys terms k.state p others f l m next-one (numbered sys sound) k.stands at.owed at.stack.started looks-at empty
+        (λ has agree. looking-agrees sys terms k.state.upto k.state.now has k.state.reading others few agree)
+
+    -- the row goes on
+    pub passed-row : (u : LaneView) → InRow sys terms (p ∷ others) u v → InRow sys terms others u w
+    passed-row u r = record {
+      here = reading_in sys terms v;
+      row = record { stepped = ap (λ x. x.stepped) r.same ∙ r.row.stepped; idle = ap (λ x. x.idle) r.same ∙ r.row.idle };
+      same =
+          reading-is sys terms after-one w stands-one told-one now-one
+          ∙ ap (λ x. looking_at (setting sys (kernel_in terms) k.state.now) x others) (sym (reading-is sys terms k.state v k.stands k.told k.now))
+          ∙ ap (λ x. looking_at (setting sys (kernel_in terms) x) (reading_in sys terms v) others) now-one;
+    }
+
     -- its queue is empty
     pub passed : KnowsAt (IsScanning sys terms others) sys terms looks stack xs w
     passed = record {
       knows = record {
         state = after-one;
-        told = ap (λ ts. ts ++ seen_told p f l m ∷ []) k.told ∙ sym goes.told;
-        stands = empty_is_seen sys terms k.state p others f l m next-one (numbered sys sound) k.stands at.owed at.stack.started looks-at empty
-            (λ has agree. looking-agrees sys terms k.state.upto k.state.now has k.state.reading others few agree);
+        told = told-one;
+        stands = stands-one;
         counted = same-one.looks ∙ k.counted;
         ceiling = same-one.ceiling ∙ k.ceiling;
         lane = lane-on sys xs.ceiling (seen_told p f l m ∷ []) v w k.lane goes;
         running = same-one.running ∙ k.running;
         settled = k.settled;
-        now = k.now ∙ ap has_stim (sym lanes);
+        now = now-one;
         later = λ n lt. ap (λ x. has_stim x n) lanes ∙ k.later n lt;
         objects = all-still sys xs v w k.state.stages k.state.entries goes.of k.lane.of cover-one (all-wait sys k.state at.stack) k.objects;
         hands = cover-one;

@@ -9,7 +9,7 @@ use Rattle.qp_model.specs.declared.systems.System.{System}
 use Rattle.qp_model.specs.declared.systems.ObjectDef.{ObjectDef}
 use Rattle.qp_model.specs.Acts.{Config}
 use Rattle.qp_model.specs.Course.{Starts, actor, chart_at, first_config}
-use Rattle.qp_model.specs.Ends.{may_cut}
+use Rattle.qp_model.specs.Ends.{asserted, may_cut}
 use Rattle.qp_model.specs.Lawful.{spill_cuts}
 use Rattle.qp_model.specs.Pieces.{Piece, Tell, tell}
 use Rattle.qp_model.specs.Sites.{object_at}
@@ -47,8 +47,8 @@ use Rattle.qp_kernel_turns.specs.declared.objects.Slot.{Slot}
 use Rattle.qp_kernel_turns.specs.Objects.{IsAt, MayStartAt, Puts, StartsAt}
 use Rattle.qp_kernel_turns.specs.Knowing.{HandsCover, HandsFollow, HasNotStarted, IsNamed, IsObjectOf, KnowsAt, KnowsObject, StageIs, last_is}
 use Rattle.qp_kernel_turns.specs.Starting.{GrowsAlong, GrowsAndStops, HasBegun, StartStopped}
-use Rattle.qp_kernel_turns.specs.Turning.{EndsSo, TurnStopped}
-use Rattle.qp_kernel_turns.proofs.Ends.{ends-so}
+use Rattle.qp_kernel_turns.specs.Turning.{TurnStopped, idle_in}
+use Rattle.qp_kernel_turns.proofs.Ends.{EndsFew, ends-few, ends-so}
 use Rattle.qp_kernel_turns.proofs.Places.{cover-follows, follow-put}
 use Rattle.qp_kernel_turns.proofs.SoundObjects.{able, numbered, ready}
 use Rattle.qp_kernel_turns.proofs.Staying.{all-put, resting-waits}
@@ -282,6 +282,7 @@ module _ (sys : System) (sound : IsSound sys) (terms : Terms) (p : ℕ) (others 
         owed = k.at.owed;
         base = k.at.base;
         place = k.at.place;
+        idle = k.at.idle;
       };
     }
 
@@ -315,11 +316,11 @@ module _ (sys : System) (sound : IsSound sys) (terms : Terms) (p : ℕ) (others 
     lanes-asserted : lanes_of w ≡ lanes_of v
     lanes-asserted = lanes-on a.g a.mid w a.grows (ap (λ u. u.plan) asserted-stops) (ap (λ u. u.happened) asserted-stops)
 
-    pub asserted-ends : (end : ℕ) → may_cut end ≡ true → EndsSo sys terms end w.told (has_stim (lanes_of w))
+    pub asserted-ends : (end : ℕ) → may_cut end ≡ true → EndsFew sys terms end s.reading.idle w.told (has_stim (lanes_of w))
     asserted-ends end cut =
-        subst (λ ts. EndsSo sys terms end ts (has_stim (lanes_of w))) (sym asserted-told)
-        (ends-so sys terms end _ _ _ (assertion_ends_start sys terms end s (has_stim (lanes_of w)) p n.object n.chart others a.g (numbered sys sound) (able sys sound) is-object positive k.knows.stands
-        (agreed s (has_stim (lanes_of w)) (now-of w lanes-asserted)) cut k.at.owed k.at.unstarted unstarted starts-none waits-apart))
+        subst (λ ts. EndsFew sys terms end s.reading.idle ts (has_stim (lanes_of w))) (sym asserted-told)
+        (assertion_ends_start sys terms end s (has_stim (lanes_of w)) p n.object n.chart others a.g (numbered sys sound) (able sys sound) is-object positive k.knows.stands
+        (agreed s (has_stim (lanes_of w)) (now-of w lanes-asserted)) cut k.at.owed k.at.unstarted unstarted starts-none waits-apart)
 
     form : FailedForm p a.g
     form = start-failed sys (actor n.object n.chart) p (first_config n.object) a.g starts-none
@@ -371,10 +372,10 @@ module _ (sys : System) (sound : IsSound sys) (terms : Terms) (p : ℕ) (others 
 
     -- in the middle of the start, behind its first records
     spilled-within : (end : ℕ) → may_cut end ≡ true → (t : Told) (g : List Told) → b.g ≡ t ∷ g → (u : Told) (more : List Told) → b.begins.0 ≡ u ∷ more
-        → EndsSo sys terms end ((s.told ++ map (for_object p) b.g) ++ spill_told many ∷ []) (has_stim (lanes_of w))
+        → EndsFew sys terms end s.reading.idle ((s.told ++ map (for_object p) b.g) ++ spill_told many ∷ []) (has_stim (lanes_of w))
     spilled-within end cut t g is u more left =
-        subst (λ ts. EndsSo sys terms end ts (has_stim (lanes_of w))) (sym (append_assoc s.told (map (for_object p) b.g) (spill_told many ∷ [])))
-        (ends-so sys terms end _ _ _ (spill_ends_start sys terms end s (has_stim (lanes_of w)) p n.object n.chart others b.g many (tell b.begins.0) b.begins.1 (numbered sys sound) (able sys sound) is-object positive k.knows.stands
+        subst (λ ts. EndsFew sys terms end s.reading.idle ts (has_stim (lanes_of w))) (sym (append_assoc s.told (map (for_object p) b.g) (spill_told many ∷ [])))
+        (spill_ends_start sys terms end s (has_stim (lanes_of w)) p n.object n.chart others b.g many (tell b.begins.0) b.begins.1 (numbered sys sound) (able sys sound) is-object positive k.knows.stands
         (agreed s (has_stim (lanes_of w)) (now-of w lanes-spilled)) cut k.at.owed k.at.unstarted unstarted quiet.calm (λ none. let wrong : tell (u ∷ more) ≡ [] = sym (ap tell left) ∙ none in cc)
         (subst (λ ps. Starts sys (actor n.object n.chart) (first_config n.object) ps b.begins.1) (map-append Tell b.g b.begins.0) starts-begun) waits-apart
         (record {
@@ -382,18 +383,18 @@ module _ (sys : System) (sound : IsSound sys) (terms : Terms) (p : ℕ) (others 
           full = b.few;
           behind = ap (λ ts. spill_cuts p (map untold ts)) (sym (append_assoc s.told (map (for_object p) b.g) (spill_told many ∷ []))) ∙ cuts-behind p many (s.told ++ map (for_object p) b.g)
               ∙ subst (λ h. last_is p (s.told ++ map (for_object p) h) ≡ true) (sym is) (last-own p s.told t g);
-        })))
+        }))
 
     -- before its first record
-    spilled-first : (end : ℕ) → may_cut end ≡ true → b.g ≡ [] → EndsSo sys terms end ((s.told ++ map (for_object p) b.g) ++ spill_told many ∷ []) (has_stim (lanes_of w))
+    spilled-first : (end : ℕ) → may_cut end ≡ true → b.g ≡ [] → EndsFew sys terms end s.reading.idle ((s.told ++ map (for_object p) b.g) ++ spill_told many ∷ []) (has_stim (lanes_of w))
     spilled-first end cut none =
         let same : s.told ++ map (for_object p) b.g ≡ s.told = ap (λ g. s.told ++ map (for_object p) g) none ∙ append-nil s.told in
-        subst (λ ts. EndsSo sys terms end (ts ++ spill_told many ∷ []) (has_stim (lanes_of w))) (sym same)
-        (ends-so sys terms end _ _ _ (full_lane_ends sys terms end s (has_stim (lanes_of w)) many (numbered sys sound) (able sys sound) k.knows.stands (agreed s (has_stim (lanes_of w)) (now-of w lanes-spilled)) cut
-        (count ∙ ap length same) b.few waits-all))
+        subst (λ ts. EndsFew sys terms end s.reading.idle (ts ++ spill_told many ∷ []) (has_stim (lanes_of w))) (sym same)
+        (full_lane_ends sys terms end s (has_stim (lanes_of w)) many (numbered sys sound) (able sys sound) k.knows.stands (agreed s (has_stim (lanes_of w)) (now-of w lanes-spilled)) cut
+        (count ∙ ap length same) b.few waits-all)
 
     -- behind its last record
-    spilled-last : (end : ℕ) → may_cut end ≡ true → b.begins.0 ≡ [] → (last : Option Config) → b.begins.1 ≡ last → EndsSo sys terms end ((s.told ++ map (for_object p) b.g) ++ spill_told many ∷ []) (has_stim (lanes_of w))
+    spilled-last : (end : ℕ) → may_cut end ≡ true → b.begins.0 ≡ [] → (last : Option Config) → b.begins.1 ≡ last → EndsFew sys terms end s.reading.idle ((s.told ++ map (for_object p) b.g) ++ spill_told many ∷ []) (has_stim (lanes_of w))
     spilled-last end cut none None last = absurd (b.begins.3 last none)
     spilled-last end cut none (Some c) last =
         let whole : b.g ++ b.begins.0 ≡ b.g = ap (λ h. b.g ++ h) none ∙ append-nil b.g in
@@ -401,12 +402,12 @@ module _ (sys : System) (sound : IsSound sys) (terms : Terms) (p : ℕ) (others 
         subst (λ h. Starts sys (actor n.object n.chart) (first_config n.object) (tell h) (Some c)) whole
         (subst (λ e. Starts sys (actor n.object n.chart) (first_config n.object) (tell (b.g ++ b.begins.0)) e) last starts-begun) in
         let done = stands-behind b.g c starts in
-        ends-so sys terms end _ _ _ (full_lane_ends sys terms end (behind b.g c done.0) (has_stim (lanes_of w)) many (numbered sys sound) (able sys sound) done.1 (agreed s (has_stim (lanes_of w)) (now-of w lanes-spilled)) cut count b.few (waits-behind b.g c done.0))
+        full_lane_ends sys terms end (behind b.g c done.0) (has_stim (lanes_of w)) many (numbered sys sound) (able sys sound) done.1 (agreed s (has_stim (lanes_of w)) (now-of w lanes-spilled)) cut count b.few (waits-behind b.g c done.0)
 
-    pub spilled-ends : (end : ℕ) → may_cut end ≡ true → EndsSo sys terms end w.told (has_stim (lanes_of w))
-    spilled-ends end cut = subst (λ ts. EndsSo sys terms end ts (has_stim (lanes_of w))) (sym spilled-told) (by b.begins.0 refl b.g refl)
+    pub spilled-ends : (end : ℕ) → may_cut end ≡ true → EndsFew sys terms end s.reading.idle w.told (has_stim (lanes_of w))
+    spilled-ends end cut = subst (λ ts. EndsFew sys terms end s.reading.idle ts (has_stim (lanes_of w))) (sym spilled-told) (by b.begins.0 refl b.g refl)
       where
-        by : (more : List Told) → b.begins.0 ≡ more → (g : List Told) → b.g ≡ g → EndsSo sys terms end ((s.told ++ map (for_object p) b.g) ++ spill_told many ∷ []) (has_stim (lanes_of w))
+        by : (more : List Told) → b.begins.0 ≡ more → (g : List Told) → b.g ≡ g → EndsFew sys terms end s.reading.idle ((s.told ++ map (for_object p) b.g) ++ spill_told many ∷ []) (has_stim (lanes_of w))
         by [] none g is = spilled-last end cut none b.begins.1 refl
         by (u ∷ more) left [] none = spilled-first end cut none
         by (u ∷ more) left (t ∷ g) is = spilled-within end cut t g is u more left
@@ -447,12 +448,20 @@ module _ (sys : System) (sound : IsSound sys) (terms : Terms) (p : ℕ) (others 
   stopped-turn level ys w r = let o = opened level ys w step.Stopped r in by o.0 o.2 o.1.1
     where
       by : (m : LaneView) → w ≡ works_for v.by m → (StartAsserted home x.lasting r.later.object.lasting V m) ⊎ (StartSpilled home x.lasting r.later.object.lasting V m) → TurnStopped sys terms v w
-      by m w-is (inl a) = record { zero = asserted-ends r.later.object.lasting m w w-is a; why = inl (asserted-code r.later.object.lasting m w w-is a) }
-      by m w-is (inr b) = record { zero = spilled-ends r.later.object.lasting m w w-is b; why = inl (spilled-code r.later.object.lasting m w w-is b) }
+      by m w-is (inl a) = record { zero = λ end cut. ends-so sys terms end _ _ _ (asserted-ends r.later.object.lasting m w w-is a end cut); why = inl (asserted-code r.later.object.lasting m w w-is a) }
+      by m w-is (inr b) = record { zero = λ end cut. ends-so sys terms end _ _ _ (spilled-ends r.later.object.lasting m w w-is b end cut); why = inl (spilled-code r.later.object.lasting m w w-is b) }
 
-  pub stopped-start : (level : ℕ) (ys : Objects) (w : LaneView) → StartsAt sys level p xs ys v w step.Stopped → IsInOrder sys 0 v → ((most : Terms) → TurnStopped sys most v w) → StartStopped sys v w
-  stopped-start level ys w r order turn = let o = opened level ys w step.Stopped r in by o.0 o.2 o.1.1
+  -- no row of looks has come
+  pub stopped-rows : (level : ℕ) (ys : Objects) (w : LaneView) → StartsAt sys level p xs ys v w step.Stopped → terms.threaded ≡ true → idle_in sys terms w.told (has_stim (lanes_of w)) ≤ 0
+  stopped-rows level ys w r threaded = let o = opened level ys w step.Stopped r in by o.0 o.2 o.1.1
+    where
+      by : (m : LaneView) → w ≡ works_for v.by m → (StartAsserted home x.lasting r.later.object.lasting V m) ⊎ (StartSpilled home x.lasting r.later.object.lasting V m) → idle_in sys terms w.told (has_stim (lanes_of w)) ≤ 0
+      by m w-is (inl a) = let few = ends-few sys terms asserted _ _ _ (asserted-ends r.later.object.lasting m w w-is a asserted refl) threaded in let none = k.at.idle in omega (arith, few, none)
+      by m w-is (inr b) = let few = ends-few sys terms asserted _ _ _ (spilled-ends r.later.object.lasting m w w-is b asserted refl) threaded in let none = k.at.idle in omega (arith, few, none)
+
+  pub stopped-start : (level : ℕ) (ys : Objects) (w : LaneView) → StartsAt sys level p xs ys v w step.Stopped → IsInOrder sys 0 v → ((most : Terms) → TurnStopped sys most v w) → ((most : Terms) → most.threaded ≡ true → idle_in sys most w.told (has_stim (lanes_of w)) ≤ 0) → StartStopped sys v w
+  stopped-start level ys w r order turn none = let o = opened level ys w step.Stopped r in by o.0 o.2 o.1.1
     where
       by : (m : LaneView) → w ≡ works_for v.by m → (StartAsserted home x.lasting r.later.object.lasting V m) ⊎ (StartSpilled home x.lasting r.later.object.lasting V m) → StartStopped sys v w
-      by m w-is (inl a) = record { turn = turn; order = asserted-order r.later.object.lasting m w w-is a order; code = a.code; some = a.some; last = ap (λ u. last_code u.told) (w-is ∙ ap (works_for v.by) a.stops) ∙ a.last; grows = asserted-grows r.later.object.lasting m w w-is a }
-      by m w-is (inr b) = record { turn = turn; order = spilled-order r.later.object.lasting m w w-is b order; code = 6; some = omega arith; last = spilled-last_code r.later.object.lasting m w w-is b; grows = spilled-grows r.later.object.lasting m w w-is b }
+      by m w-is (inl a) = record { turn = turn; none = none; order = asserted-order r.later.object.lasting m w w-is a order; code = a.code; some = a.some; last = ap (λ u. last_code u.told) (w-is ∙ ap (works_for v.by) a.stops) ∙ a.last; grows = asserted-grows r.later.object.lasting m w w-is a }
+      by m w-is (inr b) = record { turn = turn; none = none; order = spilled-order r.later.object.lasting m w w-is b order; code = 6; some = omega arith; last = spilled-last_code r.later.object.lasting m w w-is b; grows = spilled-grows r.later.object.lasting m w w-is b }

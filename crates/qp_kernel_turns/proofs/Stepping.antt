@@ -12,7 +12,7 @@ use Rattle.qp_model.specs.declared.bodies.Entry as model
 use Rattle.qp_model.specs.declared.bodies.Body.TheVariants as body
 use Rattle.qp_model.specs.Acts.{Config}
 use Rattle.qp_model.specs.Course.{actor, chart_at, first_config}
-use Rattle.qp_model.specs.Ends.{ends_last, is_assert, is_end, may_cut}
+use Rattle.qp_model.specs.Ends.{asserted, ends_last, is_assert, is_end, may_cut}
 use Rattle.qp_model.specs.KernelLane.{Ended, Inside, Reading, Setting as Sitting, lane_next, lane_on, unread}
 use Rattle.qp_model.specs.Lawful.{spill_cuts}
 use Rattle.qp_model.specs.Pieces.{Piece, Point, tell}
@@ -47,7 +47,9 @@ use Rattle.qp_dispatch.specs.Lasts.{actor_of, config_of}
 use Rattle.qp_dispatch.specs.Objects.{ObjectResumes, ResumesAs, home_of, works_for}
 use Rattle.qp_dispatch.specs.declared.steps.Step.{Step}
 use Rattle.qp_dispatch.specs.declared.steps.Step.TheVariants as step
-use Rattle.qp_kernel_turns.specs.Turning.{EndsSo, GoesOnward, TurnStopped}
+use Rattle.qp_kernel_turns.specs.BaseRows.{SameRow, reading_in}
+use Rattle.qp_kernel_turns.specs.TurnRows.{RowStops, bare_row, idle_rows}
+use Rattle.qp_kernel_turns.specs.Turning.{GoesOnward, TurnStopped}
 use Rattle.std.proofs.lemmas.List.{length-map, reverse-append}
 use Rattle.qp_chart_compiled.specs.Compiled.{IsCompiled}
 use Rattle.qp_calls.specs.Deferring.{ChangeAlike}
@@ -69,7 +71,8 @@ use Rattle.qp_model_order.specs.Placing.{LooksNone}
 use Rattle.std.specs.Option.{is_some}
 use Rattle.qp_kernel_turns.specs.declared.halting.Halt.TheVariants as halt
 use Rattle.qp_kernel_turns.specs.Ordering.{InOrder, StopsInOrder}
-use Rattle.qp_kernel_turns.proofs.Ends.{ends-so}
+use Rattle.qp_kernel_turns.proofs.BaseRows.{idle-is, reading-is}
+use Rattle.qp_kernel_turns.proofs.Ends.{EndsFew, ends-few, ends-so}
 use Rattle.qp_kernel_turns.proofs.Quiet.{IsQuiet, calm-items, done-quiet, gains-set, own-lookless, spill-last}
 use Rattle.qp_kernel_turns.proofs.Ordered.{ends-in_order, grows-in_order, halts-behind, unstim-items}
 use Rattle.qp_kernel.proofs.StageLemmas.{comes-within}
@@ -338,16 +341,30 @@ module _ (sys : System) (sound : IsSound sys) (terms : Terms) (looks : ℕ) (fro
   others : OthersWait sys s p
   others = others-wait sys s p at.outer at.step.running at.stack
 
+  -- The row of looks at the base.
+
+  was : reading_in sys terms v ≡ s.reading
+  was = reading-is sys terms s v k.stands k.told k.now
+
+  row-as : (t : KernelState) (w : LaneView) → Stands sys terms t → t.told ≡ w.told → t.now ≡ has_stim (lanes_of w) → t.reading.stepped ≡ s.reading.stepped → t.reading.idle ≡ s.reading.idle
+      → SameRow (reading_in sys terms v) (reading_in sys terms w)
+  row-as t w stands told now stepped idle =
+      let is = reading-is sys terms t w stands told now in
+      record { stepped = ap (λ r. r.stepped) is ∙ stepped ∙ ap (λ r. r.stepped) (sym was); idle = ap (λ r. r.idle) is ∙ idle ∙ ap (λ r. r.idle) (sym was) }
+
+  stops-few : (w : LaneView) → idle_rows sys terms w ≤ s.reading.idle → idle_rows sys terms w ≤ idle_rows sys terms v + bare_row sys
+  stops-few w few = let own = idle-is sys terms v s k.stands k.told k.now in omega (arith, few, own)
+
   -- An assertion.
   module _ (y : Lasting) (z : Position) (mid w : LaneView) (told : w.told ≡ mid.told) (lanes : lanes_of w ≡ lanes_of v) (a : EndsAsserted home x.lasting x.stage y z V mid) where
     asserted-told : w.told ≡ s.told ++ map (for_object p) a.g
     asserted-told = told ∙ ap (λ u. u.told) a.stops ∙ grown a.g a.mid a.grows ∙ ap (λ ts. ts ++ map (for_object p) a.g) (sym k.told)
 
-    pub asserted-ends : (end : ℕ) → may_cut end ≡ true → EndsSo sys terms end w.told (has_stim (lanes_of w))
+    pub asserted-ends : (end : ℕ) → may_cut end ≡ true → EndsFew sys terms end s.reading.idle w.told (has_stim (lanes_of w))
     asserted-ends end cut =
-        subst (λ ts. EndsSo sys terms end ts (has_stim (lanes_of w))) (sym asserted-told)
-        (ends-so sys terms end _ _ _ (assertion_ends_step sys terms end s (has_stim (lanes_of w)) p n.object n.chart at.outer a.g (event_in x.stage V) (step_entry x.stage) (left_of home x.lasting x.stage V) (config_of x.lasting)
-        (numbered sys sound) (able sys sound) is-object positive k.stands (agreed s (has_stim (lanes_of w)) (now-of w lanes)) cut at.owed at.step within (goes-as (tell a.g) None a.goes) others))
+        subst (λ ts. EndsFew sys terms end s.reading.idle ts (has_stim (lanes_of w))) (sym asserted-told)
+        (assertion_ends_step sys terms end s (has_stim (lanes_of w)) p n.object n.chart at.outer a.g (event_in x.stage V) (step_entry x.stage) (left_of home x.lasting x.stage V) (config_of x.lasting)
+        (numbered sys sound) (able sys sound) is-object positive k.stands (agreed s (has_stim (lanes_of w)) (now-of w lanes)) cut at.owed at.step within (goes-as (tell a.g) None a.goes) others)
 
     pub asserted-code : 0 < last_code w.told
     asserted-code =
@@ -378,23 +395,22 @@ module _ (sys : System) (sound : IsSound sys) (terms : Terms) (looks : ℕ) (fro
     calm = cut-calm sys (actor n.object n.chart) (event_in x.stage V) (step_entry x.stage) (left_of home x.lasting x.stage V) (config_of x.lasting) closing b.g b.begins.0 b.begins.1 b.begins.3
         (goes-as (tell b.g ++ b.begins.0) b.begins.1 b.begins.2)
 
-    spilled-by : (end : ℕ) → may_cut end ≡ true → last_is p (s.told ++ map (for_object p) b.g) ≡ true → EndsSo sys terms end (s.told ++ (map (for_object p) b.g ++ spill_told (length b.mid.told) ∷ [])) (has_stim (lanes_of w))
+    spilled-by : (end : ℕ) → may_cut end ≡ true → last_is p (s.told ++ map (for_object p) b.g) ≡ true → EndsFew sys terms end s.reading.idle (s.told ++ (map (for_object p) b.g ++ spill_told (length b.mid.told) ∷ [])) (has_stim (lanes_of w))
     spilled-by end cut last =
-        ends-so sys terms end _ _ _
-        (spill_ends_step sys terms end s (has_stim (lanes_of w)) p n.object n.chart at.outer b.g (length b.mid.told) (event_in x.stage V) (step_entry x.stage) (left_of home x.lasting x.stage V) (config_of x.lasting) b.begins.0 b.begins.1
+        spill_ends_step sys terms end s (has_stim (lanes_of w)) p n.object n.chart at.outer b.g (length b.mid.told) (event_in x.stage V) (step_entry x.stage) (left_of home x.lasting x.stage V) (config_of x.lasting) b.begins.0 b.begins.1
         (numbered sys sound) (able sys sound) is-object positive k.stands (agreed s (has_stim (lanes_of w)) (now-of w lanes)) cut at.owed at.step within calm (goes-as (tell b.g ++ b.begins.0) b.begins.1 b.begins.2) others
         (record {
           count = count;
           full = b.few;
           behind = ap (λ ts. spill_cuts p (map untold ts)) (sym (append_assoc s.told (map (for_object p) b.g) (spill_told (length b.mid.told) ∷ []))) ∙ cuts-behind p (length b.mid.told) (s.told ++ map (for_object p) b.g) ∙ last;
-        }))
+        })
 
     -- nothing was added before it
-    spilled-first : (end : ℕ) → may_cut end ≡ true → b.g ≡ [] → is_paused (s.stages p) ≡ true → EndsSo sys terms end (s.told ++ (map (for_object p) b.g ++ spill_told (length b.mid.told) ∷ [])) (has_stim (lanes_of w))
+    spilled-first : (end : ℕ) → may_cut end ≡ true → b.g ≡ [] → is_paused (s.stages p) ≡ true → EndsFew sys terms end s.reading.idle (s.told ++ (map (for_object p) b.g ++ spill_told (length b.mid.told) ∷ [])) (has_stim (lanes_of w))
     spilled-first end cut none paused =
-        subst (λ g. EndsSo sys terms end (s.told ++ (map (for_object p) g ++ spill_told (length b.mid.told) ∷ [])) (has_stim (lanes_of w))) (sym none)
-        (ends-so sys terms end _ _ _ (full_lane_ends sys terms end s (has_stim (lanes_of w)) (length b.mid.told) (numbered sys sound) (able sys sound) k.stands (agreed s (has_stim (lanes_of w)) (now-of w lanes)) cut
-        (count ∙ ap (λ g. length s.told + length g) none ∙ omega arith) b.few all))
+        subst (λ g. EndsFew sys terms end s.reading.idle (s.told ++ (map (for_object p) g ++ spill_told (length b.mid.told) ∷ [])) (has_stim (lanes_of w))) (sym none)
+        (full_lane_ends sys terms end s (has_stim (lanes_of w)) (length b.mid.told) (numbered sys sound) (able sys sound) k.stands (agreed s (has_stim (lanes_of w)) (now-of w lanes)) cut
+        (count ∙ ap (λ g. length s.told + length g) none ∙ omega arith) b.few all)
       where
         all : AllWait sys s
         all d found = by (p == d.priority) refl
@@ -403,13 +419,13 @@ module _ (sys : System) (sound : IsSound sys) (terms : Terms) (looks : ℕ) (fro
             by true is = let equal : p ≡ d.priority = grind (arith, nat_tests) in subst (λ o. may_wait (s.stages o) ≡ true) equal (paused-waits (s.stages p) paused)
             by false is = others d found is
 
-    spilled-at : (end : ℕ) → may_cut end ≡ true → (g : List Told) → b.g ≡ g → (c : Bool) → is_paused (s.stages p) ≡ c → EndsSo sys terms end (s.told ++ (map (for_object p) b.g ++ spill_told (length b.mid.told) ∷ [])) (has_stim (lanes_of w))
+    spilled-at : (end : ℕ) → may_cut end ≡ true → (g : List Told) → b.g ≡ g → (c : Bool) → is_paused (s.stages p) ≡ c → EndsFew sys terms end s.reading.idle (s.told ++ (map (for_object p) b.g ++ spill_told (length b.mid.told) ∷ [])) (has_stim (lanes_of w))
     spilled-at end cut [] none true paused = spilled-first end cut none paused
     spilled-at end cut [] none false begun = spilled-by end cut (subst (λ g. last_is p (s.told ++ map (for_object p) g) ≡ true) (sym none) (subst (λ ts. last_is p ts ≡ true) (sym (append-nil s.told)) (at.behind begun)))
     spilled-at end cut (t ∷ g) is c paused = spilled-by end cut (subst (λ h. last_is p (s.told ++ map (for_object p) h) ≡ true) (sym is) (last-own p s.told t g))
 
-    pub spilled-ends : (end : ℕ) → may_cut end ≡ true → EndsSo sys terms end w.told (has_stim (lanes_of w))
-    spilled-ends end cut = subst (λ ts. EndsSo sys terms end ts (has_stim (lanes_of w))) (sym spilled-told) (spilled-at end cut b.g refl (is_paused (s.stages p)) refl)
+    pub spilled-ends : (end : ℕ) → may_cut end ≡ true → EndsFew sys terms end s.reading.idle w.told (has_stim (lanes_of w))
+    spilled-ends end cut = subst (λ ts. EndsFew sys terms end s.reading.idle ts (has_stim (lanes_of w))) (sym spilled-told) (spilled-at end cut b.g refl (is_paused (s.stages p)) refl)
 
     pub spilled-code : 0 < last_code w.told
     spilled-code =
@@ -562,6 +578,10 @@ module _ (sys : System) (sound : IsSound sys) (terms : Terms) (looks : ℕ) (fro
               by true is = refl
               by false is = at.stack.rests d found (ap (λ ps. has ps d.priority) at.step.running ∙ rw is none)
 
+      -- the row at the base stays
+      pub row-end : SameRow (reading_in sys terms v) (reading_in sys terms w)
+      row-end = row-as after w ends.1 (told-w t.g t.grows) (now-of w (lanes-w t.g t.grows)) refl refl
+
       pub onward-end : w.answered ≡ v.answered
       onward-end = ap (λ u. u.answered) w-is ∙ t.grows.answered
 
@@ -689,6 +709,10 @@ module _ (sys : System) (sound : IsSound sys) (terms : Terms) (looks : ℕ) (fro
               by true h = refl
               by false h = at.stack.waits o h
 
+      -- the row at the base stays
+      pub row-point : SameRow (reading_in sys terms v) (reading_in sys terms w)
+      row-point = row-as waiting w pauses.1 (told-w t.g t.grows) (now-of w (lanes-w t.g t.grows)) refl refl
+
       pub onward-point : w.answered ≡ v.answered
       onward-point = ap (λ u. u.answered) w-is ∙ t.grows.answered
 
@@ -697,9 +721,9 @@ module _ (sys : System) (sound : IsSound sys) (terms : Terms) (looks : ℕ) (fro
 
   -- What resuming the object at the top comes to.
   abbrev pub AfterStep : ℕ → Objects → LaneView → Step → Type 0
-  AfterStep level ys w step.Point = KnowsAt (MayLook sys terms) sys terms looks (front ++ p ∷ []) (record ys { ceiling = level }) w × GoesOnward xs v (record ys { ceiling = level }) w
-  AfterStep level ys w step.Done = KnowsAt (MayLook sys terms) sys terms looks front (record ys { ceiling = level }) w × GoesOnward xs v (record ys { ceiling = level }) w
-  AfterStep level ys w step.Stopped = TurnStopped sys terms v w × AddsAlone p v w
+  AfterStep level ys w step.Point = KnowsAt (MayLook sys terms) sys terms looks (front ++ p ∷ []) (record ys { ceiling = level }) w × GoesOnward xs v (record ys { ceiling = level }) w × SameRow (reading_in sys terms v) (reading_in sys terms w)
+  AfterStep level ys w step.Done = KnowsAt (MayLook sys terms) sys terms looks front (record ys { ceiling = level }) w × GoesOnward xs v (record ys { ceiling = level }) w × SameRow (reading_in sys terms v) (reading_in sys terms w)
+  AfterStep level ys w step.Stopped = TurnStopped sys terms v w × AddsAlone p v w × RowStops sys terms v w halt.Stopped
   AfterStep level ys w step.Memory = Unit {0}
 
   pub after-step : (level : ℕ) (ys : Objects) (w : LaneView) (answer : Step) → ResumesAt sys xs.ceiling level p xs ys v w answer → AfterStep level ys w answer
@@ -717,26 +741,28 @@ module _ (sys : System) (sound : IsSound sys) (terms : Terms) (looks : ℕ) (fro
       by : (answer : Step) (mid : LaneView) → ResumesAs (Some n.chart) sys xs.ceiling level x r.later.object V mid answer → w ≡ works_for v.by mid → AfterStep level ys w answer
       by step.Point mid h is =
           let o : GoesOnward xs v (record ys { ceiling = level }) w = record { hands = follows-point level r.later mid w (record ys { ceiling = level }) is r.put.slots refl threshold h.0 h.1; answered = onward-point level r.later mid w (record ys { ceiling = level }) is r.put.slots refl threshold h.0 h.1; plan = plan-point level r.later mid w (record ys { ceiling = level }) is r.put.slots refl threshold h.0 h.1 } in
-          (stepped-point level r.later mid w (record ys { ceiling = level }) is r.put.slots refl threshold h.0 h.1, o)
+          (stepped-point level r.later mid w (record ys { ceiling = level }) is r.put.slots refl threshold h.0 h.1, o, row-point level r.later mid w (record ys { ceiling = level }) is r.put.slots refl threshold h.0 h.1)
       by step.Done mid h is =
           let o : GoesOnward xs v (record ys { ceiling = level }) w = record { hands = follows-end level r.later mid w (record ys { ceiling = level }) is r.put.slots refl threshold h.0 h.1.1 h.1.0; answered = onward-end level r.later mid w (record ys { ceiling = level }) is r.put.slots refl threshold h.0 h.1.1 h.1.0; plan = plan-end level r.later mid w (record ys { ceiling = level }) is r.put.slots refl threshold h.0 h.1.1 h.1.0 } in
-          (stepped-end level r.later mid w (record ys { ceiling = level }) is r.put.slots refl threshold h.0 h.1.1 h.1.0, o)
+          (stepped-end level r.later mid w (record ys { ceiling = level }) is r.put.slots refl threshold h.0 h.1.1 h.1.0, o, row-end level r.later mid w (record ys { ceiling = level }) is r.put.slots refl threshold h.0 h.1.1 h.1.0)
       by step.Stopped mid (same, inl a) is =
           let lanes : lanes_of w ≡ lanes_of v = same-lanes v w (ap (λ u. u.plan) is ∙ ap (λ u. u.plan) a.stops ∙ a.grows.plan) (ap (λ u. u.happened) is ∙ ap (λ u. u.happened) a.stops ∙ a.grows.happened) in (
             record {
-              zero = asserted-ends r.later.object.lasting r.later.object.stage mid w (ap (λ u. u.told) is) lanes a;
+              zero = λ end cut. ends-so sys terms end _ _ _ (asserted-ends r.later.object.lasting r.later.object.stage mid w (ap (λ u. u.told) is) lanes a end cut);
               why = inl (asserted-code r.later.object.lasting r.later.object.stage mid w (ap (λ u. u.told) is) lanes a);
             },
             asserted-alone r.later.object.lasting r.later.object.stage mid w (ap (λ u. u.told) is) lanes a,
+            λ threaded. stops-few w (ends-few sys terms asserted _ _ _ (asserted-ends r.later.object.lasting r.later.object.stage mid w (ap (λ u. u.told) is) lanes a asserted refl) threaded),
           )
       by step.Stopped mid (same, inr b) is =
           let lanes : lanes_of w ≡ lanes_of v =
           same-lanes v w (ap (λ u. u.plan) is ∙ ap (λ u. u.plan) b.stops ∙ b.spills.plan ∙ b.grows.plan) (ap (λ u. u.happened) is ∙ ap (λ u. u.happened) b.stops ∙ b.spills.happened ∙ b.grows.happened) in (
             record {
-              zero = spilled-ends r.later.object.lasting r.later.object.stage mid w (ap (λ u. u.told) is) lanes b;
+              zero = λ end cut. ends-so sys terms end _ _ _ (spilled-ends r.later.object.lasting r.later.object.stage mid w (ap (λ u. u.told) is) lanes b end cut);
               why = inl (spilled-code r.later.object.lasting r.later.object.stage mid w (ap (λ u. u.told) is) lanes b);
             },
             spilled-alone r.later.object.lasting r.later.object.stage mid w (ap (λ u. u.told) is) lanes b,
+            λ threaded. stops-few w (ends-few sys terms asserted _ _ _ (spilled-ends r.later.object.lasting r.later.object.stage mid w (ap (λ u. u.told) is) lanes b asserted refl) threaded),
           )
       by step.Memory mid h is = tt
 

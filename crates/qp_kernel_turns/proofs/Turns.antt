@@ -23,11 +23,15 @@ use Rattle.qp_kernel.specs.Happenings.{lanes_from, lanes_of}
 use Rattle.qp_kernel.specs.Interrupting.{Happens, HappensToFail, HappensInPart, FindsNoRoom, HasNone, IsLaneKept, IsStopped, is_unset}
 use Rattle.qp_kernel.specs.Turning.{look_told, Terms}
 use Rattle.qp_kernel_turns.specs.Knowing.{IsScanning, KnowsAt, MayLook}
+use Rattle.qp_kernel_turns.specs.declared.halting.Halt.TheVariants as halt
+use Rattle.qp_kernel_turns.specs.BaseRows.{InRow}
+use Rattle.qp_kernel_turns.specs.TurnRows.{RowStops}
 use Rattle.qp_kernel_turns.specs.Turning.{GoesOnward, Looked, Stand, Stood, TurnStopped, floor_of}
 use Rattle.qp_kernel_turns.proofs.Pending.{look-stays}
 use Rattle.qp_kernel_turns.proofs.Places.{follow-none}
 use Rattle.qp_kernel_turns.proofs.Halted.{same-lanes}
-use Rattle.qp_kernel_turns.proofs.Looking.{GoesFor, look-stops, looked}
+use Rattle.qp_kernel_turns.proofs.Ends.{ends-so}
+use Rattle.qp_kernel_turns.proofs.Looking.{GoesFor, look-few, look-stops, looked, looked-row}
 use Rattle.qp_kernel_turns.proofs.Stims.{stim-here, stim-there, stims-more, stims-same}
 
 -- a note, told
@@ -96,6 +100,11 @@ module _ (sys : System) (sound : IsSound sys) (terms : Terms) (a : Stand) (k : S
     onward = onward-of hands answered kept.plan;
     happened = here;
     stays = look-stays n floor a.lane v1 v2 v3 room grown kept;
+    row = subst (λ f. InRow sys terms (above sys f) a.lane v3) low
+        (looked-row sys sound terms a.looks a.stack a.objects a.lane v3 n floor k.knows k.at count low
+        (λ m le. let other : (n == m) ≡ false = let lt : m < n = omega (arith, le, count) in grind (arith, nat_tests) in others m other ∙ ap (λ l. has_stim l m) lanes-two)
+        (kept-goes n floor a.lane v2 v3 goes-two kept hands)
+        (λ m lt. let other : (n == m) ≡ false = grind (arith, nat_tests) in others m other ∙ ap (λ l. has_stim l m) lanes-two ∙ k.knows.later m (omega (arith, lt, count))));
   }
 
   lanes-none : IsLaneKept v2 v3 → v3.happened ≡ v2.happened → lanes_of v3 ≡ lanes_of v2
@@ -125,14 +134,20 @@ module _ (sys : System) (sound : IsSound sys) (terms : Terms) (a : Stand) (k : S
   -- the run stops in the look
   stopped-by : IsLaneKept v2 v3 → ((m : ℕ) → (n == m) ≡ false → has_stim (lanes_of v3) m ≡ has_stim (lanes_of v2) m) → length a.lane.answered < length v3.answered → TurnStopped sys terms a.lane v3
   stopped-by kept others found = record {
-    zero = look-stops sys sound terms a.looks a.stack a.objects a.lane v3 n floor k.knows k.at count low
+    zero = λ end cut. ends-so sys terms end _ _ _ (look-stops sys sound terms a.looks a.stack a.objects a.lane v3 n floor k.knows k.at count low
         (λ m le. let other : (n == m) ≡ false = let lt : m < n = omega (arith, le, count) in grind (arith, nat_tests) in others m other ∙ ap (λ l. has_stim l m) lanes-two)
-        (kept.told ∙ goes-two.told);
+        (kept.told ∙ goes-two.told) end cut);
     why = inr found;
   }
 
-  pub looked-stopped : (base : Bool) → IsStopped n base v2 v3 → TurnStopped sys terms a.lane v3
-  looked-stopped base h = stopped-by h.kept (by h.why) (rw (h.answered, grown.answered, ap (λ u. u.answered) room.same) (omega arith))
+  stopped-row : IsLaneKept v2 v3 → ((m : ℕ) → (n == m) ≡ false → has_stim (lanes_of v3) m ≡ has_stim (lanes_of v2) m) → RowStops sys terms a.lane v3 halt.Stopped
+  stopped-row kept others threaded =
+      look-few sys sound terms a.looks a.stack a.objects a.lane v3 n floor k.knows k.at count low
+      (λ m le. let other : (n == m) ≡ false = let lt : m < n = omega (arith, le, count) in grind (arith, nat_tests) in others m other ∙ ap (λ l. has_stim l m) lanes-two)
+      (kept.told ∙ goes-two.told) threaded
+
+  others-stopped : (base : Bool) → IsStopped n base v2 v3 → (m : ℕ) → (n == m) ≡ false → has_stim (lanes_of v3) m ≡ has_stim (lanes_of v2) m
+  others-stopped base h = by h.why
     where
       by : ((v3.happened ≡ v2.happened) × (is_unset v2 ≡ false)) ⊎ HappensToFail n base v2 v3 ⊎ HappensInPart n base v2 v3 ⊎ FindsNoRoom base v2 v3 → (m : ℕ) → (n == m) ≡ false → has_stim (lanes_of v3) m ≡ has_stim (lanes_of v2) m
       by (inl still) m other = ap (λ l. has_stim l m) (lanes-none h.kept still.0)
@@ -147,3 +162,9 @@ module _ (sys : System) (sound : IsSound sys) (terms : Terms) (a : Stand) (k : S
       by (inr (inr (inr f))) m other =
           ap (λ l. has_stim l m) (lanes-come f.source (plain (body.Spill f.size) ∷ []) h.kept f.comes)
           ∙ stims-same m 1 v2.plan v2.happened (record { at = length v2.told; source = f.source; told = plain (body.Spill f.size) ∷ [] }) refl
+
+  pub looked-stopped : (base : Bool) → IsStopped n base v2 v3 → TurnStopped sys terms a.lane v3
+  looked-stopped base h = stopped-by h.kept (others-stopped base h) (rw (h.answered, grown.answered, ap (λ u. u.answered) room.same) (omega arith))
+
+  pub row-stopped : (base : Bool) → IsStopped n base v2 v3 → RowStops sys terms a.lane v3 halt.Stopped
+  row-stopped base h = stopped-row h.kept (others-stopped base h)

@@ -38,12 +38,13 @@ use Rattle.qp_kernel.specs.Stages as stage
 use Rattle.qp_kernel.specs.Stages.{Stage, is_resting}
 use Rattle.qp_kernel.specs.Turning.{IsObject, KernelState, Stands, having, moved, seen_told, Terms}
 use Rattle.qp_kernel.proofs.KernelLaws.{budget_ends, entry_is_seen, step_begins}
-use Rattle.qp_kernel_turns.specs.Turning.{EndsSo}
+use Rattle.qp_kernel_turns.specs.BaseRows.{HasStep, InRow, SameRow, reading_in}
 use Rattle.qp_kernel_turns.specs.declared.objects.Objects.{Objects}
 use Rattle.qp_kernel_turns.specs.declared.objects.Slot.{Slot}
 use Rattle.qp_kernel_turns.specs.Objects.{IsAt, IsPut}
 use Rattle.qp_kernel_turns.specs.Knowing.{HandsCover, HandsFollow, IsAtRest, IsInTurn, IsLane, IsNamed, IsObjectOf, IsRunning, IsScanning, Knows, KnowsAt, KnowsObject, StageIs, is_busy, is_paused}
-use Rattle.qp_kernel_turns.proofs.Ends.{ends-so}
+use Rattle.qp_kernel_turns.proofs.BaseRows.{reading-is}
+use Rattle.qp_kernel_turns.proofs.Ends.{EndsFew}
 use Rattle.qp_kernel_turns.proofs.Places.{cover-follows, follow-put, own-stand}
 use Rattle.qp_kernel_turns.proofs.SoundObjects.{able, numbered}
 use Rattle.qp_kernel_turns.proofs.Rows.{above-not}
@@ -122,13 +123,19 @@ module _ (sys : System) (sound : IsSound sys) (terms : Terms) (looks : ℕ) (sta
 
   -- it has taken its budget
   pub spent-ends : (w : LaneView) → lanes_of w ≡ lanes_of v → terms.budget ≤ its.slot.object.taken → w.told ≡ v.told ++ seen_told p f l m ∷ for_object p (plain body.Spent) ∷ []
-      → (end : ℕ) → may_cut end ≡ true → EndsSo sys terms end w.told (has_stim (lanes_of w))
+      → (end : ℕ) → may_cut end ≡ true → EndsFew sys terms end s.reading.idle w.told (has_stim (lanes_of w))
   spent-ends w lanes full told end cut =
       let most = k.stands.budgets p in
       let now : s.now ≡ has_stim (lanes_of w) = k.now ∙ ap has_stim (sym lanes) in
-      subst (λ ts. EndsSo sys terms end ts (has_stim (lanes_of w))) (ap (λ ts. ts ++ seen_told p f l m ∷ for_object p (plain body.Spent) ∷ []) k.told ∙ sym told)
-      (ends-so sys terms end _ _ _ (budget_ends sys terms end s (has_stim (lanes_of w)) p others f l m (numbered sys sound) (able sys sound) k.stands (agreed s (has_stim (lanes_of w)) now) cut at.owed at.stack.started
-      (looks-at sys sound terms looks stack xs v w p others f l m k at lanes) some (omega (arith, most, full, counted)) positive rests (all-wait sys s at.stack)))
+      subst (λ ts. EndsFew sys terms end s.reading.idle ts (has_stim (lanes_of w))) (ap (λ ts. ts ++ seen_told p f l m ∷ for_object p (plain body.Spent) ∷ []) k.told ∙ sym told)
+      (budget_ends sys terms end s (has_stim (lanes_of w)) p others f l m (numbered sys sound) (able sys sound) k.stands (agreed s (has_stim (lanes_of w)) now) cut at.owed at.stack.started
+      (looks-at sys sound terms looks stack xs v w p others f l m k at lanes) some (omega (arith, most, full, counted)) positive rests (all-wait sys s at.stack))
+
+  -- the row has gone on to it
+  pub row-was : (u : LaneView) → InRow sys terms (p ∷ others) u v → SameRow (reading_in sys terms u) s.reading
+  row-was u r =
+      let was = reading-is sys terms s v k.stands k.told k.now in
+      record { stepped = ap (λ x. x.stepped) (sym was ∙ r.same) ∙ r.row.stepped; idle = ap (λ x. x.idle) (sym was ∙ r.same) ∙ r.row.idle }
 
   -- the entry is seen
   abbrev pub found : KernelState
@@ -240,20 +247,36 @@ module _ (sys : System) (sound : IsSound sys) (terms : Terms) (looks : ℕ) (sta
         no-spill : spills_in z.told ≡ false
         no-spill = rw takes.adds.grows.told (took-spills w.told takes.f takes.l takes.m (entry_of e) ev p lane-w.spills)
 
+    lanes-z : lanes_of z ≡ lanes_of v
+    lanes-z = same-lanes w z takes.adds.grows.plan takes.adds.grows.happened ∙ lanes-w
+
+    told-after : after.told ≡ z.told
+    told-after =
+        ap (λ ts. (ts ++ seen_told p f l m ∷ []) ++ for_object p (taken takes.f takes.l takes.m (entry_of e) ev) ∷ []) k.told
+        ∙ ap (λ ts. ts ++ for_object p (taken takes.f takes.l takes.m (entry_of e) ev) ∷ []) (sym seen) ∙ sym takes.adds.grows.told
+
+    now-after : s.now ≡ has_stim (lanes_of z)
+    now-after = k.now ∙ ap has_stim (sym lanes-z)
+
+    -- and the row has a step
+    pub entered-row : (u : LaneView) → InRow sys terms (p ∷ others) u v → HasStep (reading_in sys terms u) (reading_in sys terms z)
+    entered-row u r =
+        let is = reading-is sys terms after z after-stands told-after now-after in
+        record { stepped = ap (λ x. x.stepped) is; idle = ap (λ x. x.idle) is ∙ (row-was u r).idle }
+
     -- its step is under way
     pub entered : KnowsAt (IsRunning sys p) sys terms looks (stack ++ p ∷ []) ys z
     entered = record {
       knows = record {
         state = after;
-        told = ap (λ ts. (ts ++ seen_told p f l m ∷ []) ++ for_object p (taken takes.f takes.l takes.m (entry_of e) ev) ∷ []) k.told
-            ∙ ap (λ ts. ts ++ for_object p (taken takes.f takes.l takes.m (entry_of e) ev) ∷ []) (sym seen) ∙ sym takes.adds.grows.told;
+        told = told-after;
         stands = after-stands;
         counted = k.counted;
         ceiling = k.ceiling ∙ sym put.ceiling;
         lane = lane-z;
         running = ap (λ ps. p ∷ ps) k.running ∙ sym (reverse-append stack (p ∷ []));
         settled = k.settled;
-        now = k.now ∙ ap has_stim (sym lanes-z);
+        now = now-after;
         later = λ i lt. ap (λ x. has_stim x i) lanes-z ∙ k.later i lt;
         objects = all-put sys xs ys v z s.stages s.entries p n.object n.chart its.slot later begun taken-up n.is n.found n.its (takes.adds.grows.sys ∙ same-sys) k.lane.of cover at-place put.slots
             (λ d found other. all-wait sys s at.stack d found) object-later k.objects;
@@ -275,9 +298,6 @@ module _ (sys : System) (sound : IsSound sys) (terms : Terms) (looks : ℕ) (sta
       };
     }
       where
-        lanes-z : lanes_of z ≡ lanes_of v
-        lanes-z = same-lanes w z takes.adds.grows.plan takes.adds.grows.happened ∙ lanes-w
-
         rest-of : (d : ObjectDef) → object_at sys d.priority ≡ Some d → ((p == d.priority) || has s.reading.running d.priority) ≡ false → is_resting (moved s.stages p begun d.priority) ≡ true
         rest-of d found none = by (p == d.priority) none
           where

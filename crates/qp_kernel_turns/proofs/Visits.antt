@@ -8,6 +8,7 @@ use Rattle.qp_model.specs.declared.systems.ObjectDef.{ObjectDef}
 use Rattle.qp_model.specs.declared.record.Rec.{Rec}
 use Rattle.qp_model.specs.declared.bodies.Body.TheVariants as body
 use Rattle.qp_model.specs.Record.{item_of}
+use Rattle.qp_model.specs.Ends.{asserted}
 use Rattle.qp_model.specs.Sound.{IsSound}
 use Rattle.qp_model.specs.Told.{for_object, plain}
 use Rattle.qp_model.specs.WordLaw.{is_object}
@@ -26,14 +27,21 @@ use Rattle.qp_kernel_turns.specs.declared.objects.Objects.{Objects}
 use Rattle.qp_kernel_turns.specs.Objects.{BeginsAt, MayBeginAt, taken_in, taken_there}
 use Rattle.qp_kernel_turns.specs.Knowing.{Descends, IsAbove, IsLane, IsNamed, IsRunning, IsScanning, KnowsAt}
 use Rattle.qp_model_order.specs.RunOrder.{has_stim}
+use Rattle.qp_kernel_turns.specs.declared.halting.Halt.{Halt}
+use Rattle.qp_kernel_turns.specs.declared.halting.Halt.TheVariants as halt
+use Rattle.qp_kernel_turns.specs.BaseRows.{HasStep, InRow, reading_in}
+use Rattle.qp_kernel_turns.specs.Halting.{Halts}
+use Rattle.qp_kernel_turns.specs.TurnRows.{FewRows, RowStops, bare_row, idle_rows}
 use Rattle.qp_kernel_turns.specs.Turning.{Entered, Passed, Stand, Stood, TurnStopped, row_below}
 use Rattle.qp_kernel_turns.proofs.Places.{follow-none}
 use Rattle.qp_kernel_turns.proofs.SoundObjects.{is-object, numbered, sound-object}
 use Rattle.qp_kernel_turns.proofs.Rows.{row-next, row-skip}
+use Rattle.qp_kernel_turns.proofs.BaseRows.{few-more, idle-reads, reading-is}
 use Rattle.qp_kernel_turns.proofs.Staying.{all-wait}
-use Rattle.qp_kernel_turns.proofs.Halted.{same-lanes, stops-elsewhere}
-use Rattle.qp_kernel_turns.proofs.Looking.{GoesFor, passed}
-use Rattle.qp_kernel_turns.proofs.Visiting.{at-place, at-rest, entered, follows, found, found-stands, spent-ends}
+use Rattle.qp_kernel_turns.proofs.Ends.{ends-few, ends-so}
+use Rattle.qp_kernel_turns.proofs.Halted.{halts-few, same-lanes, stops-elsewhere}
+use Rattle.qp_kernel_turns.proofs.Looking.{GoesFor, passed, passed-row}
+use Rattle.qp_kernel_turns.proofs.Visiting.{at-place, at-rest, entered, entered-row, follows, found, found-stands, spent-ends}
 use Rattle.qp_kernel_turns.proofs.Turns.{noted}
 use Rattle.qp_model.proofs.AbleLemmas.{some-same}
 
@@ -70,6 +78,9 @@ module _ (sys : System) (sound : IsSound sys) (terms : Terms) (a : Stand) (floor
     lanes = refl;
   }
 
+  pub skipped-row : o.priority ≤ floor → (u : LaneView) → InRow sys terms (row_below sys floor (place + 1)) u a.lane → InRow sys terms (row_below sys floor place) u a.lane
+  skipped-row low u r = subst (λ ps. InRow sys terms ps u a.lane) (row-skip sys floor place o at low) r
+
   module _ (high : floor < o.priority) (known : Stood (IsScanning sys terms (row_below sys floor (place + 1))) sys terms a) where
     pub here : Stood (IsScanning sys terms (o.priority ∷ row_below sys floor place)) sys terms a
     here = subst (λ ps. Stood (IsScanning sys terms ps) sys terms a) (row-next sys floor place o at high) known
@@ -90,12 +101,31 @@ module _ (sys : System) (sound : IsSound sys) (terms : Terms) (a : Stand) (floor
         let same : length s.reading.running ≡ length a.stack = ap length here.knows.running ∙ length-reverse a.stack in
         omega (arith, deep, same, is.threshold, is.few_thresholds, n.is)
 
+    row-here : (u : LaneView) → InRow sys terms (row_below sys floor (place + 1)) u a.lane → InRow sys terms (o.priority ∷ row_below sys floor place) u a.lane
+    row-here u r = subst (λ ps. InRow sys terms ps u a.lane) (row-next sys floor place o at high) r
+
+    -- a stop within the row
+    row-stops : (u w : LaneView) (h : Halt) → InRow sys terms (row_below sys floor (place + 1)) u a.lane → FewRows sys terms here.knows.state.reading.idle w h → RowStops sys terms u w h
+    row-stops u w h r few =
+        let was = reading-is sys terms here.knows.state a.lane here.knows.stands here.knows.told here.knows.now in
+        let own = ap (λ x. x.idle) (sym was ∙ (row-here u r).same) ∙ (row-here u r).row.idle in
+        let its = idle-reads sys terms u in
+        few-more sys terms here.knows.state.reading.idle (idle_rows sys terms u + bare_row sys) w h (omega (arith, own, its)) few
+
+    pub halted-row : (u w : LaneView) (h : Halt) → InRow sys terms (row_below sys floor (place + 1)) u a.lane → Halts a.lane w h → RowStops sys terms u w h
+    halted-row u w h r halts =
+        row-stops u w h r (halts-few sys sound terms here.knows.state a.lane w h here.knows.told here.knows.stands here.knows.now here.at.stack.started (all-wait sys here.knows.state here.at.stack) halts)
+
     module _ (v1 v2 : LaneView) (c : Counts) (room : Roomier a.lane v1) (sees : Sees o.priority v1 v2 c) where
       goes : GoesFor (seen_told o.priority c.f c.l c.m ∷ []) a.lane v2
       goes = seen-goes o.priority c a.lane v1 v2 room sees here.knows.lane.spills
 
       lanes : lanes_of v2 ≡ lanes_of a.lane
       lanes = same-lanes a.lane v2 (sees.0.grows.plan ∙ ap (λ u. u.plan) room.same) (sees.0.grows.happened ∙ ap (λ u. u.happened) room.same)
+
+      pub empty-row : c.f + c.l ≤ c.m → (u : LaneView) → InRow sys terms (row_below sys floor (place + 1)) u a.lane → InRow sys terms (row_below sys floor place) u v2
+      empty-row empty u r =
+          passed-row sys sound terms a.looks a.stack a.objects a.lane v2 o.priority (row_below sys floor place) c.f c.l c.m here.knows here.at lanes goes empty u (row-here u r)
 
       pub seen-empty : c.f + c.l ≤ c.m → Passed (row_below sys floor place) sys terms a (record a { lane = v2 })
       seen-empty empty = record {
@@ -145,9 +175,18 @@ module _ (sys : System) (sound : IsSound sys) (terms : Terms) (a : Stand) (floor
             let told = spent-told r v3 v4 note grown stops in
             let still : lanes_of v4 ≡ lanes_of a.lane = same-lanes v2 v4 (ap (λ u. u.plan) stops ∙ spent.plan) (ap (λ u. u.happened) stops ∙ spent.happened) ∙ lanes in
             record {
-              zero = spent-ends sys sound terms a.looks a.stack a.objects a.lane o.priority (row_below sys floor place) c.f c.l c.m here.knows here.at some v4 still (omega (arith, same, full)) told;
+              zero = λ end cut. ends-so sys terms end _ _ _ (spent-ends sys sound terms a.looks a.stack a.objects a.lane o.priority (row_below sys floor place) c.f c.l c.m here.knows here.at some v4 still (omega (arith, same, full)) told end cut);
               why = inl (rw (ap (λ u. u.told) stops, spent.told, last-snoc v2.told (for_object o.priority (plain body.Spent))) (omega arith));
             }
+
+        pub spent-row : (count : ℕ) (r : Rec) (v3 v4 : LaneView) → count ≡ taken_in a.objects.slots.items o.priority → terms.budget ≤ count → item_of r ≡ record { of = o.priority; body = body.Spent }
+            → GrowsOf r.of (told_note r v2) v2 v3 → Stops 6 v3 v4 → (u : LaneView) → InRow sys terms (row_below sys floor (place + 1)) u a.lane → RowStops sys terms u v4 halt.Stopped
+        spent-row count r v3 v4 is full note grown stops u row =
+            let spent : GrowsOf o.priority (plain body.Spent ∷ []) v2 v3 = noted o.priority body.Spent r v2 v3 note grown in
+            let same = its-count count is in
+            let still : lanes_of v4 ≡ lanes_of a.lane = same-lanes v2 v4 (ap (λ u. u.plan) stops ∙ spent.plan) (ap (λ u. u.happened) stops ∙ spent.happened) ∙ lanes in
+            row-stops u v4 halt.Stopped row (λ threaded. ends-few sys terms asserted _ _ _
+            (spent-ends sys sound terms a.looks a.stack a.objects a.lane o.priority (row_below sys floor place) c.f c.l c.m here.knows here.at some v4 still (omega (arith, same, full)) (spent-told r v3 v4 note grown stops) asserted refl) threaded)
 
         pub may-stop : (r : Rec) (v3 : LaneView) → item_of r ≡ record { of = o.priority; body = body.Spent } → GrowsOf r.of (told_note r v2) v2 v3 → MayStop 6 v3
         may-stop r v3 note grown =
@@ -159,12 +198,21 @@ module _ (sys : System) (sound : IsSound sys) (terms : Terms) (a : Stand) (floor
         stop-found code v3 is =
             let k = here.knows in
             record {
-              zero = stops-elsewhere sys sound terms (found sys sound terms a.looks a.stack a.objects a.lane o.priority (row_below sys floor place) c.f c.l c.m k here.at some) v2 v3
+              zero = λ end cut. ends-so sys terms end _ _ _ (stops-elsewhere sys sound terms (found sys sound terms a.looks a.stack a.objects a.lane o.priority (row_below sys floor place) c.f c.l c.m k here.at some) v2 v3
                   (ap (λ ts. ts ++ seen_told o.priority c.f c.l c.m ∷ []) k.told ∙ sym goes.told)
                   (found-stands sys sound terms a.looks a.stack a.objects a.lane o.priority (row_below sys floor place) c.f c.l c.m k here.at some)
-                  (k.now ∙ ap has_stim (sym lanes)) here.at.stack.started (all-wait sys k.state here.at.stack) (ap (λ u. u.plan) is) (ap (λ u. u.happened) is) (ap (λ u. u.told) is);
+                  (k.now ∙ ap has_stim (sym lanes)) here.at.stack.started (all-wait sys k.state here.at.stack) (ap (λ u. u.plan) is) (ap (λ u. u.happened) is) (ap (λ u. u.told) is) end cut);
               why = inr (rw (is, sees.0.grows.answered, ap (λ u. u.answered) room.same) (omega arith));
             }
+
+        pub found-row : (code : ℕ) (v3 : LaneView) → v3 ≡ record v2 { answered = code ∷ v2.answered } → (u : LaneView) → InRow sys terms (row_below sys floor (place + 1)) u a.lane → RowStops sys terms u v3 halt.Stopped
+        found-row code v3 is u row =
+            let k = here.knows in
+            row-stops u v3 halt.Stopped row (λ threaded. ends-few sys terms asserted _ _ _
+            (stops-elsewhere sys sound terms (found sys sound terms a.looks a.stack a.objects a.lane o.priority (row_below sys floor place) c.f c.l c.m k here.at some) v2 v3
+            (ap (λ ts. ts ++ seen_told o.priority c.f c.l c.m ∷ []) k.told ∙ sym goes.told)
+            (found-stands sys sound terms a.looks a.stack a.objects a.lane o.priority (row_below sys floor place) c.f c.l c.m k here.at some)
+            (k.now ∙ ap has_stim (sym lanes)) here.at.stack.started (all-wait sys k.state here.at.stack) (ap (λ u. u.plan) is) (ap (λ u. u.happened) is) (ap (λ u. u.told) is) asserted refl) threaded)
 
         -- its step begins
         pub step-enters : (count : ℕ) (v3 v4 : LaneView) (e : Entry) (ys : Objects) (stack : List ℕ) → count ≡ taken_in a.objects.slots.items o.priority → count < terms.budget → v3 ≡ v2 → TakesIt o.priority e v3 v4
@@ -200,3 +248,23 @@ module _ (sys : System) (sound : IsSound sys) (terms : Terms) (a : Stand) (floor
                 plan = took.adds.grows.plan ∙ sees.0.grows.plan ∙ ap (λ u. u.plan) room.same;
               };
             }
+
+        pub enters-row : (count : ℕ) (v3 v4 : LaneView) (e : Entry) (ys : Objects) → count ≡ taken_in a.objects.slots.items o.priority → count < terms.budget → v3 ≡ v2 → TakesIt o.priority e v3 v4
+            → BeginsAt o.priority e a.objects ys → (u : LaneView) → InRow sys terms (row_below sys floor (place + 1)) u a.lane → HasStep (reading_in sys terms u) (reading_in sys terms v4)
+        enters-row count v3 v4 e ys is few still takes begins u row =
+            let k = here.knows in
+            let its = (k.objects here.at.above.0.0.object here.at.above.0.0.chart here.at.above.0.0.found here.at.above.0.0.its).slot in
+            let there = at-place sys sound terms a.looks a.stack a.objects a.lane o.priority (row_below sys floor place) c.f c.l c.m k here.at some in
+            let same-slot : begins.slot ≡ its = some-same (some-same (sym begins.there ∙ there)) in
+            let count-is = its-count count is in
+            let took : TakesIt o.priority e v2 v4 = subst (λ u. TakesIt o.priority e u v4) still takes in
+            let lane : IsLane sys a.objects.ceiling v2 = record {
+              of = goes.of ∙ k.lane.of;
+              told = k.lane.told ∙ sym goes.ceiling;
+              spills = goes.spills;
+              serves = λ d found. goes.serves d.priority ∙ k.lane.serves d found;
+            } in
+            let begun : BeginsStep e its.object begins.later.object = subst (λ sl. BeginsStep e sl.object begins.later.object) same-slot begins.begins in
+            let threshold : begins.later.threshold ≡ its.threshold = begins.threshold ∙ ap (λ sl. sl.threshold) same-slot in
+            let lower : its.object.taken < terms.budget = omega (arith, count-is, few) in
+            entered-row sys sound terms a.looks a.stack a.objects a.lane o.priority (row_below sys floor place) c.f c.l c.m k here.at some v2 v4 e ys begins.later goes.told goes.hands goes.of lanes lane took lower begins.put threshold begun u (row-here u row)

@@ -5,6 +5,8 @@ pub mod Halting
 pub mod Lanes
 pub mod Counting
 pub mod Pending
+pub mod BaseRows
 pub mod Turning
+pub mod TurnRows
 pub mod Ordering
 pub mod AtRest

@@ -1,5 +1,5 @@
 -- The start of all objects, in ascending priority.
-use Rattle.std.specs.Prelude.{◌≡◌, ℕ, ◌<◌, true, false, List, [], map, drop, Some}
+use Rattle.std.specs.Prelude.{◌≡◌, ℕ, ◌<◌, ◌≤◌, true, false, List, [], map, drop, Some}
 use Rattle.qp_chart.specs.StateTree.{has}
 use Rattle.qp_model.specs.declared.systems.System.{System}
 use Rattle.qp_model.specs.declared.systems.ObjectDef.{ObjectDef}
@@ -12,13 +12,14 @@ use Rattle.qp_calls.specs.LaneView.{Gains, IsNew, LaneView}
 use Rattle.qp_calls.specs.Notes.{last_code}
 use Rattle.qp_dispatch.specs.declared.steps.Step.{Step}
 use Rattle.qp_dispatch.specs.declared.steps.Step.TheVariants as step
-use Rattle.qp_kernel.specs.Happenings.{IsInOrder, IsOrderEnded, has_no_stim}
+use Rattle.qp_model_order.specs.RunOrder.{has_stim}
+use Rattle.qp_kernel.specs.Happenings.{IsInOrder, IsOrderEnded, has_no_stim, lanes_of}
 use Rattle.qp_kernel.specs.Stages as stage
 use Rattle.qp_kernel.specs.Stages.{is_resting}
 use Rattle.qp_kernel.specs.Turning.{KernelState, Terms}
 use Rattle.qp_kernel_turns.specs.declared.objects.Objects.{Objects}
 use Rattle.qp_kernel_turns.specs.Knowing.{HandsFollow, KnowsAt, MayLook}
-use Rattle.qp_kernel_turns.specs.Turning.{TurnStopped}
+use Rattle.qp_kernel_turns.specs.Turning.{TurnStopped, idle_in}
 
 -- a lane of the system that has done nothing yet, and serves all objects
 pub record IsFresh (sys : System) (v : LaneView) : Type 0 where
@@ -34,6 +35,7 @@ pub record HasBegun (sys : System) (left : List ℕ) (s : KernelState) : Type 0 
   pub owed : s.owed ≡ 0
   pub base : s.reading.running ≡ []
   pub place : s.reading.place ≡ Inside
+  pub idle : s.reading.idle ≡ 0
 
 -- the same of the objects and their lane, whatever an object may take up
 pub record HaveBegun (sys : System) (left : List ℕ) (xs : Objects) (v : LaneView) : Type 0 where
@@ -58,9 +60,10 @@ pub record GrowsAndStops (code : ℕ) (v w : LaneView) : Type 0 where
   pub gains : Gains ts v mid
   pub stops : Stops code mid w
 
--- a start ended in its assertion, or found no room; the code is that of the last record
+-- a start ended in its assertion, or found no room; the code is that of the last record, and no row of looks has come
 pub record StartStopped (sys : System) (v w : LaneView) : Type 0 where
   pub turn : (terms : Terms) → TurnStopped sys terms v w
+  pub none : (terms : Terms) → terms.threaded ≡ true → idle_in sys terms w.told (has_stim (lanes_of w)) ≤ 0
   pub order : (end : ℕ) → may_cut end ≡ true → IsOrderEnded sys end w
   pub code : ℕ
   pub some : 0 < code
@@ -77,6 +80,7 @@ StartsOne sys place xs ys v w step.Memory = GrowsAndStops 7 v w
 -- all objects rest, and a kernel that has not looked yet may look
 pub record AllStarted (sys : System) (xs ys : Objects) (v w : LaneView) : Type 0 where
   pub knows : (terms : Terms) → KnowsAt (MayLook sys terms) sys terms 0 [] ys w
+  pub base : (terms : Terms) → KnowsAt (HasBegun sys []) sys terms 0 [] ys w
   pub order : IsInOrder sys 0 w
   pub no_stim : has_no_stim w
   pub grows : GrowsAlong xs v ys w

@@ -24,6 +24,7 @@ use Rattle.qp_kernel_turns.specs.declared.objects.Objects.{Objects}
 use Rattle.qp_kernel_turns.specs.declared.turning.Bounds.{Bounds}
 use Rattle.qp_kernel_turns.specs.Objects.{threshold_in}
 use Rattle.qp_kernel_turns.specs.Pending.{PendingStays}
+use Rattle.qp_kernel_turns.specs.BaseRows.{InRow, SameRow, reading_in}
 use Rattle.qp_kernel_turns.specs.Knowing.{HandsFollow, HasStack, IsRunning, IsScanning, KnowsAt, MayLook}
 
 -- what a turn goes by
@@ -87,6 +88,7 @@ pub record Looked (sys : System) (terms : Terms) (a b : Stand) (came : Bool) : T
   pub onward : GoesOnward a.objects a.lane b.objects b.lane
   pub happened : has_stim (lanes_of b.lane) b.looks ≡ came
   pub stays : PendingStays a.lane b.lane
+  pub row : InRow sys terms (above sys (floor_of sys terms a)) a.lane b.lane
 
 abbrev pub LooksTo : System → Terms → Stand → Stand → Result Bool Halt → Type 0
 LooksTo sys terms a b (Ok happened) = Looked sys terms a b happened
@@ -122,6 +124,7 @@ pub record Stepped (sys : System) (terms : Terms) (a b : Stand) : Type 0 where
   pub looks : b.looks ≡ a.looks
   pub knows : Stood (MayLook sys terms) sys terms b
   pub onward : GoesOnward a.objects a.lane b.objects b.lane
+  pub row : SameRow (reading_in sys terms a.lane) (reading_in sys terms b.lane)
 
 abbrev pub StepsTo : System → Terms → Stand → Stand → Result (Unit {0}) Halt → Type 0
 StepsTo sys terms a b (Ok u) = Stepped sys terms a b

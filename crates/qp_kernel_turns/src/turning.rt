@@ -11,15 +11,17 @@ ghost use Rattle.qp_kernel_turns.specs.Knowing.{IsScanning, MayLook};
 ghost use Rattle.qp_kernel_turns.specs.Lanes.{LaneTo, LaneTurns};
 ghost use Rattle.qp_kernel_turns.specs.Ordering.{AreSeenEmpty, InOrder, LooksInOrder, RoundsInOrder, StepsInOrder, TurnsInOrder, VisitsInOrder};
 ghost use Rattle.qp_kernel_turns.specs.Pending.{StepsOver, TurnsOver};
+ghost use Rattle.qp_kernel_turns.specs.TurnRows.{LooksRow, RoundsRows, StepsRow, TurnsRows, VisitsRow};
 ghost use Rattle.qp_kernel_turns.specs.Turning.{AreHeld, EndsTo, LooksTo, RunsTop, StepsTo, Stood, TurnsTo, VisitsTo, floor_of, row_below, stand_of, terms_of};
 
 use crate::halting::{Halt, ready};
 use crate::objects::Objects;
-use qp_base::{Gate, Steps};
+use qp_base::Steps;
 use qp_calls::{Ops, Take};
 use qp_dispatch::{Step, Turn};
 use qp_kernel::{Irq, Kernel, World};
 use qp_model::{Rec, System};
+use qp_tells::Tells;
 use std::marker::Brand;
 use std::sync::Wait;
 use std::sync::ledger::{Blank, Ledger};
@@ -86,6 +88,7 @@ pub fn look<R: Wait, W: World, L: Ledger>(
     ensures rests { IfErr result (HaltsAtRest at.now.sys.now (stand_of kernel.new objects.now (W.lane world.new))) }
     ensures lane { LaneTo W.acts (W.lane world.old) (W.lane world.new) result }
     ensures steps { kernel.new.steps ≡ kernel.old.steps }
+    ensures rows { LooksRow W.acts at.now.sys.now (terms_of at.now) (W.lane world.old) (W.lane world.new) result }
 {
     ready(world)?;
     if kernel.looks == u32::MAX {
@@ -116,7 +119,7 @@ fn one_more(steps: u64, looks: u32) -> u64
 
 /// Looks at the queue of the object at this place among the objects, where it is above the floor. Where it shows an
 /// entry, the object's step begins.
-fn visit<R: Wait, W: World, G: Gate>(
+fn visit<R: Wait, W: World, G: Tells>(
     rt: &R,
     world: &mut W,
     at: &Bounds<'_>,
@@ -143,6 +146,9 @@ fn visit<R: Wait, W: World, G: Gate>(
     ensures rests { IfErr result (HaltsAtRest at.now.sys.now (stand_of kernel.new objects.new (W.lane world.new))) }
     ensures lane { LaneTo W.acts (W.lane world.old) (W.lane world.new) result }
     ensures begun { BeginsFound kernel.old kernel.new objects.old objects.new result }
+    ensures rows { VisitsRow at.now.sys.now (terms_of at.now) (row_below at.now.sys.now floor (place + 1)) (row_below at.now.sys.now floor place)
+        (W.lane world.old)
+        (W.lane world.new) result }
 {
     let sys = at.sys;
     let object = &sys.objects.items[place];
@@ -168,7 +174,7 @@ fn visit<R: Wait, W: World, G: Gate>(
             objects.begin(p, e);
             kernel.stack.push(p);
             kernel.steps = one_more(kernel.steps, kernel.looks);
-            gate.at(0, kernel.steps);
+            gate.tells(0, kernel.steps);
             Ok(true)
         }
         // (an entry that was just seen is there to be taken)
@@ -185,7 +191,7 @@ fn count(sys: &System) -> usize
 
 /// Looks at the objects above the floor in descending priority, up to the first with an entry, whose step begins. The
 /// answer tells whether there is one.
-pub fn scan<R: Wait, W: World, G: Gate>(
+pub fn scan<R: Wait, W: World, G: Tells>(
     rt: &R,
     world: &mut W,
     at: &Bounds<'_>,
@@ -207,6 +213,7 @@ pub fn scan<R: Wait, W: World, G: Gate>(
     ensures rests { IfErr result (HaltsAtRest at.now.sys.now (stand_of kernel.new objects.new (W.lane world.new))) }
     ensures lane { LaneTo W.acts (W.lane world.old) (W.lane world.new) result }
     ensures begun { BeginsFound kernel.old kernel.new objects.old objects.new result }
+    ensures rows { VisitsRow at.now.sys.now (terms_of at.now) (above at.now.sys.now floor) [] (W.lane world.old) (W.lane world.new) result }
 {
     let many = count(at.sys);
     for place in (0..many).rev() {
@@ -233,6 +240,7 @@ pub fn step<O: Ops>(
     ensures rests { IfErr result (HaltsAtRest at.now.sys.now (stand_of kernel.new objects.new (O.lane world.new))) }
     ensures lane { LaneTo false (O.lane world.old) (O.lane world.new) result }
     ensures begun { Begin 0 kernel.old kernel.new objects.old objects.new }
+    ensures rows { StepsRow at.now.sys.now (terms_of at.now) (O.lane world.old) (O.lane world.new) result }
 {
     let Some(p) = top(kernel) else {
         world.stop(7);
@@ -253,7 +261,7 @@ pub fn step<O: Ops>(
 }
 
 /// Goes on until the row of looks at the base is over.
-fn rounds<R: Wait, W: World, G: Gate, L: Ledger>(
+fn rounds<R: Wait, W: World, G: Tells, L: Ledger>(
     rt: &R,
     world: &mut W,
     at: &Bounds<'_>,
@@ -280,6 +288,7 @@ fn rounds<R: Wait, W: World, G: Gate, L: Ledger>(
     ensures lane { LaneTo W.acts (W.lane world.old) (W.lane world.new) result }
     ensures counted { IfOk result (λ u. AreCounted kernel.old kernel.new objects.old objects.new) }
     ensures pending { IfOk result (λ u. StepsOver at.now.sys.now kernel.old kernel.new (W.lane world.old)) }
+    ensures rows { RoundsRows W.acts at.now.sys.now (terms_of at.now) kernel.old (W.lane world.old) (W.lane world.new) result }
 {
     let mut steps = Steps::<L>::open(blank);
     for _ in rt.forever() {
@@ -305,7 +314,7 @@ fn rounds<R: Wait, W: World, G: Gate, L: Ledger>(
 /// One turn of the preemptive kernel, from the base to the base: rows of looks, and the steps that they find. `Idle` comes
 /// where a row at the base has found nothing; where the sources have threads of their own, another turn may come behind it.
 /// An object takes up at most `budget` entries in the run. The gate is called where a step begins.
-pub fn kernel_turn<R: Wait, W: World, G: Gate>(
+pub fn kernel_turn<R: Wait, W: World, G: Tells>(
     rt: &R,
     world: &mut W,
     at: &Bounds<'_>,
@@ -328,6 +337,7 @@ pub fn kernel_turn<R: Wait, W: World, G: Gate>(
     ensures lane { LaneTurns W.acts (W.lane world.old) (W.lane world.new) result }
     ensures counted { TurnsCounted kernel.old kernel.new objects.old objects.new result }
     ensures pending { TurnsOver at.now.sys.now kernel.old kernel.new (W.lane world.old) result }
+    ensures rows { TurnsRows W.acts at.now.sys.now (terms_of at.now) kernel.old (W.lane world.old) (W.lane world.new) result }
 {
     match rounds::<R, W, G, Brand>(rt, world, at, objects, kernel, gate, Blank::new(1)) {
         Ok(()) => Turn::Idle,

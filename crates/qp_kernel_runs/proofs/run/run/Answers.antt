@@ -11,7 +11,7 @@ use Rattle.qp_kernel_runs.proofs.Ran.{start-stop_is, start-stop_on, turned}
 use Rattle.qp_kernel_runs.proofs.run.run.Goals as goal
 
 pub kernel_turn-turn-requires-clause-order : goal.kernel_turn-turn-requires-clause-order
-kernel_turn-turn-requires-clause-order g c κs within = record {
+kernel_turn-turn-requires-clause-order g c = record {
   order = λ e. subst (λ k. IsInOrder c.args.sys.now k (sim_view c.start.new.ops)) (sym c.new-kernel.ensures.looks) c.in-Done.ensures.goes.order;
   no_stim = c.in-Done.ensures.goes.no_stim;
 }

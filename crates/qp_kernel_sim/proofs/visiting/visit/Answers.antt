@@ -6,11 +6,11 @@ use Rattle.qp_kernel_sim.proofs.Visited.{visited}
 use Rattle.qp_kernel_sim.proofs.visiting.visit.Goals as goal
 
 pub stimulus-answer-requires-clause-of : goal.stimulus-answer-requires-clause-of
-stimulus-answer-requires-clause-of g c κs within =
+stimulus-answer-requires-clause-of g c =
     there-sys c.args.source c.args.plain.now c.go-home.new.self c.by-former.new.self c.go-home.ensures.goes c.by-former.ensures.set ∙ c.requires.made_for
 
 pub stimulus-answer-requires-clause-spills : goal.stimulus-answer-requires-clause-spills
-stimulus-answer-requires-clause-spills g c κs within =
+stimulus-answer-requires-clause-spills g c =
     ap spills_in (there-told c.args.source c.args.plain.now c.go-home.new.self c.by-former.new.self c.requires.home c.requires.some c.go-home.ensures.goes c.by-former.ensures.set)
     ∙ c.requires.spills
 

@@ -5,13 +5,15 @@ use Rattle.qp_calls.proofs.Growing.{room-then}
 use Rattle.qp_calls.proofs.Noting.{may-note}
 use Rattle.qp_kernel.specs.Turning.{look_told}
 use Rattle.qp_kernel_turns.specs.Ordering.{LookedInOrder}
+use Rattle.qp_kernel_turns.specs.TurnRows.{bare_row, idle_rows}
 use Rattle.qp_kernel_turns.specs.Turning.{stand_of, terms_of}
-use Rattle.qp_kernel_turns.proofs.Halted.{halts-turn}
+use Rattle.qp_kernel_turns.proofs.BaseRows.{few-more, idle-is}
+use Rattle.qp_kernel_turns.proofs.Halted.{halts-few, halts-turn}
 use Rattle.qp_kernel_turns.proofs.Lanes.{gains-goes, goes-then, halts-lane, happened-goes, memory-halts, nothing-goes, stopped-halts}
 use Rattle.qp_kernel_turns.proofs.Ordered.{halts-in_order, none-in_order, some-in_order, stopped-in_order, unset-still}
 use Rattle.qp_kernel_turns.proofs.Resting.{rests-halted, rests-noted}
 use Rattle.qp_kernel_turns.proofs.Staying.{all-wait}
-use Rattle.qp_kernel_turns.proofs.Turns.{looked-none, looked-some, looked-stopped, noted}
+use Rattle.qp_kernel_turns.proofs.Turns.{looked-none, looked-some, looked-stopped, noted, row-stopped}
 use Rattle.std.proofs.lemmas.Result.{err_from_is_err_and}
 use Rattle.qp_kernel_turns.proofs.turning.look.Goals as goal
 
@@ -29,6 +31,10 @@ returns-in_err-ready g c =
       rests = rests-halted sys c.requires.sound (terms_of c.args.at.now) c.args.kernel.now.looks c.args.kernel.now.stack.items c.args.objects.now (lane c.args.world.now) k.knows _ k.at.stack (lane c.ready.new.ops) c.in_err-ready.field-0.0 c.in_err-ready.ensures;
       lane = halts-lane g.W.World.acts (lane c.args.world.now) (lane c.ready.new.ops) c.in_err-ready.field-0.0 c.in_err-ready.ensures;
       steps = refl;
+      rows = few-more sys (terms_of c.args.at.now) k.knows.state.reading.idle (idle_rows sys (terms_of c.args.at.now) (lane c.args.world.now) + bare_row sys) (lane c.ready.new.ops) c.in_err-ready.field-0.0
+          (let own = idle-is sys (terms_of c.args.at.now) (lane c.args.world.now) k.knows.state k.knows.stands k.knows.told k.knows.now in omega (arith, own))
+          (halts-few sys c.requires.sound (terms_of c.args.at.now) k.knows.state (lane c.args.world.now) (lane c.ready.new.ops) c.in_err-ready.field-0.0 k.knows.told k.knows.stands k.knows.now k.at.stack.started (all-wait sys k.knows.state k.at.stack)
+          c.in_err-ready.ensures);
     })
 
 pub note-requires : goal.note-requires
@@ -54,6 +60,7 @@ returns-in-Happened g c =
       rests = tt;
       lane = goes-then g.W.World.acts (lane c.args.world.now) v2 v3 (gains-goes g.W.World.acts (look_told n c.args.floor ∷ []) (lane c.args.world.now) v2 gains) (happened-goes g.W.World.acts _ n v2 v3 c.in-Happened.ensures.0 c.in-Happened.ensures.1);
       steps = refl;
+      rows = λ came. c.in-Happened.ensures.0;
     }
 
 pub returns-in-Nothing : goal.returns-in-Nothing
@@ -74,6 +81,7 @@ returns-in-Nothing g c =
       rests = tt;
       lane = goes-then g.W.World.acts (lane c.args.world.now) v2 v3 (gains-goes g.W.World.acts (look_told n c.args.floor ∷ []) (lane c.args.world.now) v2 gains) (nothing-goes g.W.World.acts _ v2 v3 c.in-Nothing.ensures);
       steps = refl;
+      rows = λ came. absurd (cc);
     }
 
 pub returns-in-Stopped : goal.returns-in-Stopped
@@ -94,6 +102,7 @@ returns-in-Stopped g c =
       rests = rests-noted sys c.requires.sound (terms_of c.args.at.now) c.args.kernel.now.looks c.args.kernel.now.stack.items c.args.objects.now (lane c.args.world.now) c.requires.knows.knows _ c.requires.knows.at.stack n v3 (plain (body.Look n c.args.floor)) (c.in-Stopped.ensures.1.kept.told ∙ gains.told);
       lane = stopped-halts g.W.World.acts _ n (lane c.args.world.now) v2 v3 c.in-Stopped.ensures.0 (gains-goes g.W.World.acts (look_told n c.args.floor ∷ []) (lane c.args.world.now) v2 gains) c.in-Stopped.ensures.1;
       steps = refl;
+      rows = row-stopped sys c.requires.sound (terms_of c.args.at.now) _ c.requires.knows n c.args.floor refl c.requires.floor v1 v2 v3 c.in_ok-ready.ensures.roomier note _ c.in-Stopped.ensures.1;
     }
 
 pub returns-in-Memory : goal.returns-in-Memory
@@ -110,4 +119,5 @@ returns-in-Memory g c =
       rests = tt;
       lane = memory-halts g.W.World.acts (lane c.args.world.now) v2 (lane c.interrupt.new.self) (lane c.stop-in-Memory.new.self) c.in-Memory.ensures.0 (gains-goes g.W.World.acts (look_told n c.args.floor ∷ []) (lane c.args.world.now) v2 gains) c.in-Memory.ensures.1 c.stop-in-Memory.ensures;
       steps = refl;
+      rows = tt;
     }

@@ -1,14 +1,18 @@
-use Rattle.std.proofs.Common.{◌≡◌, ◌∙◌, [], Ok, arith, false, subst, sym, true}
+use Rattle.std.proofs.Common.{◌≡◌, ◌∙◌, [], Ok, arith, false, refl, subst, sym, true}
+use Rattle.qp_model.specs.KernelLane.{above}
+use Rattle.qp_kernel_turns.specs.BaseRows.{InRow}
 use Rattle.qp_kernel_turns.specs.Counting.{BeginsFound}
+use Rattle.qp_kernel_turns.specs.TurnRows.{VisitsRow}
 use Rattle.qp_kernel_turns.specs.Ordering.{LooksInOrder, VisitsInOrder}
 use Rattle.qp_kernel_turns.specs.Turning.{LooksTo, VisitsTo, stand_of, terms_of}
 use Rattle.std.proofs.lemmas.Result.{err_from_is_err_and}
-use Rattle.qp_kernel_turns.proofs.Counting.{counted-none, counted-on, counted-then, less-looks, never-still, none-top, still-before, still-step}
+use Rattle.qp_kernel_turns.proofs.Counting.{counted-none, counted-on, counted-then, less-looks, never-still, none-top, steps-none, steps-same, still-before, still-step}
 use Rattle.qp_kernel_turns.proofs.Pending.{steps-over}
 use Rattle.qp_kernel_turns.proofs.Tops.{empty-is}
 use Rattle.qp_kernel_turns.proofs.Lanes.{goes-any, goes-none, goes-then, halts-any, halts-then, looked-scanned}
 use Rattle.qp_kernel_turns.proofs.Ordered.{halts-from}
-use Rattle.qp_kernel_turns.proofs.Rounds.{entered-all, held-of, onward-all, onward-none, round-again, round-found, round-idle, round-over, round-step, round-top}
+use Rattle.qp_kernel_turns.proofs.RoundRows.{row-again, row-begins, row-found, row-over, row-steps, stops-from, within-idle}
+use Rattle.qp_kernel_turns.proofs.Rounds.{came-is, entered-all, held-of, onward-all, onward-none, round-again, round-found, round-idle, round-over, round-step, round-top}
 use Rattle.qp_kernel_turns.proofs.turning.rounds.Goals as goal
 
 pub floor-low-requires-clause-held : goal.floor-low-requires-clause-held
@@ -39,18 +43,20 @@ returns-then-not-happened g c =
     let over = round-over sys terms c.args.objects.now (lane c.args.world.now) a b d c.loop.invariant.onward c.requires.plain look pass c.in-None-top.ensures in
     let seen = subst (λ x. VisitsInOrder g.W.World.acts sys c.floor-low.result 0 b d (Ok x)) c.if-found.false c.in_ok-found.ensures.order in
     let looked = subst (λ x. LooksInOrder g.W.World.acts sys terms a b (Ok x)) c.if-not-happened.true c.in_ok-happened.ensures.order in
+    let steps-end =
+    steps-over sys c.args.kernel.now c.scan.new.kernel c.args.objects.now c.scan.new.objects (lane c.args.world.now) d.lane (counted-then 0 (omega arith) c.args.kernel.now c.loop.kernel c.look.new.kernel c.scan.new.kernel c.args.objects.now c.loop.objects c.scan.new.objects c.loop.invariant.counted c.in_ok-happened.ensures.steps c.in_ok-happened.ensures.goes.counted (subst (λ x. BeginsFound c.look.new.kernel c.scan.new.kernel c.loop.objects c.scan.new.objects (Ok x)) c.if-found.false c.in_ok-found.ensures.begun) pass.looks)
+    (round-idle g.W.World.acts sys c.requires.sound terms a b d c.floor-low.result c.floor-low.ensures look looked pass seen c.in-None-top.ensures).empties
+    (λ base same.
+    let q = c.loop.invariant.quiet base (still-before c.args.kernel.now c.loop.kernel c.look.new.kernel c.scan.new.kernel c.args.objects.now c.loop.objects c.scan.new.objects c.in_ok-happened.ensures.steps (subst (λ x. BeginsFound c.look.new.kernel c.scan.new.kernel c.loop.objects c.scan.new.objects (Ok x)) c.if-found.false c.in_ok-found.ensures.begun) same) in
+    λ p h. seen.stays p (look.stays p (q.1 p h))) in
     record {
       goes = record { knows = over.knows; onward = over.onward; again = over.again };
       order = round-idle g.W.World.acts sys c.requires.sound terms a b d c.floor-low.result c.floor-low.ensures look looked pass seen c.in-None-top.ensures;
       rests = tt;
       lane = looked-scanned g.W.World.acts (lane c.args.world.now) (lane c.loop.world) (lane c.look.new.world) (lane c.scan.new.world) c.loop.invariant.lane c.in_ok-happened.ensures.lane c.in_ok-found.ensures.lane;
       counted = counted-then 0 (omega arith) c.args.kernel.now c.loop.kernel c.look.new.kernel c.scan.new.kernel c.args.objects.now c.loop.objects c.scan.new.objects c.loop.invariant.counted c.in_ok-happened.ensures.steps c.in_ok-happened.ensures.goes.counted (subst (λ x. BeginsFound c.look.new.kernel c.scan.new.kernel c.loop.objects c.scan.new.objects (Ok x)) c.if-found.false c.in_ok-found.ensures.begun) pass.looks;
-      pending =
-          steps-over sys c.args.kernel.now c.scan.new.kernel c.args.objects.now c.scan.new.objects (lane c.args.world.now) d.lane (counted-then 0 (omega arith) c.args.kernel.now c.loop.kernel c.look.new.kernel c.scan.new.kernel c.args.objects.now c.loop.objects c.scan.new.objects c.loop.invariant.counted c.in_ok-happened.ensures.steps c.in_ok-happened.ensures.goes.counted (subst (λ x. BeginsFound c.look.new.kernel c.scan.new.kernel c.loop.objects c.scan.new.objects (Ok x)) c.if-found.false c.in_ok-found.ensures.begun) pass.looks)
-          (round-idle g.W.World.acts sys c.requires.sound terms a b d c.floor-low.result c.floor-low.ensures look looked pass seen c.in-None-top.ensures).empties
-          (λ base same.
-          let q = c.loop.invariant.quiet base (still-before c.args.kernel.now c.loop.kernel c.look.new.kernel c.scan.new.kernel c.args.objects.now c.loop.objects c.scan.new.objects c.in_ok-happened.ensures.steps (subst (λ x. BeginsFound c.look.new.kernel c.scan.new.kernel c.loop.objects c.scan.new.objects (Ok x)) c.if-found.false c.in_ok-found.ensures.begun) same) in
-          λ p h. seen.stays p (look.stays p (q.1 p h)));
+      pending = steps-end;
+      rows = λ apart. row-over sys terms c.args.kernel.now c.loop.kernel (lane c.args.world.now) a.lane (c.loop.invariant.rows apart) c.scan.new.kernel d (subst (λ x. VisitsRow sys terms (above sys c.floor-low.result) [] b.lane d.lane (Ok x)) c.if-found.false c.in_ok-found.ensures.rows a.lane (subst (λ f. InRow sys terms (above sys f) a.lane b.lane) (sym c.floor-low.ensures) c.in_ok-happened.ensures.goes.row)) (steps-same c.loop.kernel c.look.new.kernel c.scan.new.kernel c.loop.objects c.scan.new.objects c.in_ok-happened.ensures.steps (subst (λ x. BeginsFound c.look.new.kernel c.scan.new.kernel c.loop.objects c.scan.new.objects (Ok x)) c.if-found.false c.in_ok-found.ensures.begun)) pass.knows steps-end;
     }
 
 pub loop-preserved : goal.loop-preserved
@@ -71,6 +77,9 @@ loop-preserved g c =
       order = seen.order;
       lane = looked-scanned g.W.World.acts (lane c.args.world.now) (lane c.loop.world) (lane c.look.new.world) (lane c.scan.new.world) c.loop.invariant.lane c.in_ok-happened.ensures.lane c.in_ok-found.ensures.lane;
       counted = counted-then 0 (omega arith) c.args.kernel.now c.loop.kernel c.look.new.kernel c.scan.new.kernel c.args.objects.now c.loop.objects c.scan.new.objects c.loop.invariant.counted c.in_ok-happened.ensures.steps c.in_ok-happened.ensures.goes.counted (subst (λ x. BeginsFound c.look.new.kernel c.scan.new.kernel c.loop.objects c.scan.new.objects (Ok x)) c.if-found.false c.in_ok-found.ensures.begun) pass.looks;
+      rows = λ apart.
+          row-again sys terms c.args.kernel.now c.loop.kernel (lane c.args.world.now) a.lane (c.loop.invariant.rows apart) c.scan.new.kernel d (subst (λ x. VisitsRow sys terms (above sys c.floor-low.result) [] b.lane d.lane (Ok x)) c.if-found.false c.in_ok-found.ensures.rows a.lane (subst (λ f. InRow sys terms (above sys f) a.lane b.lane) (sym c.floor-low.ensures) c.in_ok-happened.ensures.goes.row)) (steps-same c.loop.kernel c.look.new.kernel c.scan.new.kernel c.loop.objects c.scan.new.objects c.in_ok-happened.ensures.steps (subst (λ x. BeginsFound c.look.new.kernel c.scan.new.kernel c.loop.objects c.scan.new.objects (Ok x)) c.if-found.false c.in_ok-found.ensures.begun)) pass.knows g.W.World.acts apart (c.in_ok-happened.ensures.rows c.if-not-happened.false) c.requires.plain
+          (came-is sys terms c.args.objects.now (lane c.args.world.now) a b d c.loop.invariant.onward true look pass);
       quiet = λ base same.
           let q = c.loop.invariant.quiet base (still-before c.args.kernel.now c.loop.kernel c.look.new.kernel c.scan.new.kernel c.args.objects.now c.loop.objects c.scan.new.objects c.in_ok-happened.ensures.steps (subst (λ x. BeginsFound c.look.new.kernel c.scan.new.kernel c.loop.objects c.scan.new.objects (Ok x)) c.if-found.false c.in_ok-found.ensures.begun) same) in
           (empty-is d.stack c.in-None-top.ensures, λ p h. seen.stays p (look.stays p (q.1 p h)));
@@ -126,6 +135,7 @@ loop-preserved-in-Continue-branch-3 g c =
       order = c.in_ok-step.ensures.order g.W.World.acts seen;
       lane = goes-then g.W.World.acts (lane c.args.world.now) (lane c.scan.new.world) (lane c.step.new.world) (looked-scanned g.W.World.acts (lane c.args.world.now) (lane c.loop.world) (lane c.look.new.world) (lane c.scan.new.world) c.loop.invariant.lane c.in_ok-happened.ensures.lane c.in_ok-found.ensures.lane) (goes-any g.W.World.acts (lane c.scan.new.world) (lane c.step.new.world) c.in_ok-step.ensures.lane);
       counted = counted-on c.args.kernel.now c.scan.new.kernel c.step.new.kernel c.args.objects.now c.scan.new.objects c.step.new.objects (counted-then 1 (omega arith) c.args.kernel.now c.loop.kernel c.look.new.kernel c.scan.new.kernel c.args.objects.now c.loop.objects c.scan.new.objects c.loop.invariant.counted c.in_ok-happened.ensures.steps c.in_ok-happened.ensures.goes.counted (subst (λ x. BeginsFound c.look.new.kernel c.scan.new.kernel c.loop.objects c.scan.new.objects (Ok x)) c.if-found.true c.in_ok-found.ensures.begun) enter.looks) c.in_ok-step.ensures.begun c.in_ok-step.ensures.goes.looks;
+      rows = λ apart. row-found sys terms c.args.kernel.now c.loop.kernel (lane c.args.world.now) a.lane (c.loop.invariant.rows apart) c.step.new.kernel d.lane z.lane (subst (λ x. VisitsRow sys terms (above sys c.floor-low.result) [] b.lane d.lane (Ok x)) c.if-found.true c.in_ok-found.ensures.rows a.lane (subst (λ f. InRow sys terms (above sys f) a.lane b.lane) (sym c.floor-low.ensures) c.in_ok-happened.ensures.goes.row)) c.in_ok-step.ensures.goes.row;
       quiet = λ base same. absurd (never-still c.args.kernel.now c.loop.kernel c.look.new.kernel c.scan.new.kernel c.step.new.kernel c.args.objects.now c.loop.objects c.scan.new.objects c.step.new.objects c.loop.invariant.counted c.in_ok-happened.ensures.steps (subst (λ x. BeginsFound c.look.new.kernel c.scan.new.kernel c.loop.objects c.scan.new.objects (Ok x)) c.if-found.true c.in_ok-found.ensures.begun) c.in_ok-step.ensures.begun same);
     }
 
@@ -147,6 +157,9 @@ loop-preserved-in-Continue-branch-4 g c =
       order = c.in_ok-step-in-Some-top.ensures.order g.W.World.acts seen;
       lane = goes-then g.W.World.acts (lane c.args.world.now) (lane c.scan.new.world) (lane c.step-in-Some-top.new.world) (looked-scanned g.W.World.acts (lane c.args.world.now) (lane c.loop.world) (lane c.look.new.world) (lane c.scan.new.world) c.loop.invariant.lane c.in_ok-happened.ensures.lane c.in_ok-found.ensures.lane) (goes-any g.W.World.acts (lane c.scan.new.world) (lane c.step-in-Some-top.new.world) c.in_ok-step-in-Some-top.ensures.lane);
       counted = counted-on c.args.kernel.now c.scan.new.kernel c.step-in-Some-top.new.kernel c.args.objects.now c.scan.new.objects c.step-in-Some-top.new.objects (counted-then 0 (omega arith) c.args.kernel.now c.loop.kernel c.look.new.kernel c.scan.new.kernel c.args.objects.now c.loop.objects c.scan.new.objects c.loop.invariant.counted c.in_ok-happened.ensures.steps c.in_ok-happened.ensures.goes.counted (subst (λ x. BeginsFound c.look.new.kernel c.scan.new.kernel c.loop.objects c.scan.new.objects (Ok x)) c.if-found.false c.in_ok-found.ensures.begun) pass.looks) c.in_ok-step-in-Some-top.ensures.begun c.in_ok-step-in-Some-top.ensures.goes.looks;
+      rows = λ apart.
+          row-steps sys terms c.args.kernel.now c.loop.kernel (lane c.args.world.now) a.lane (c.loop.invariant.rows apart) c.scan.new.kernel d (subst (λ x. VisitsRow sys terms (above sys c.floor-low.result) [] b.lane d.lane (Ok x)) c.if-found.false c.in_ok-found.ensures.rows a.lane (subst (λ f. InRow sys terms (above sys f) a.lane b.lane) (sym c.floor-low.ensures) c.in_ok-happened.ensures.goes.row)) (steps-same c.loop.kernel c.look.new.kernel c.scan.new.kernel c.loop.objects c.scan.new.objects c.in_ok-happened.ensures.steps (subst (λ x. BeginsFound c.look.new.kernel c.scan.new.kernel c.loop.objects c.scan.new.objects (Ok x)) c.if-found.false c.in_ok-found.ensures.begun)) pass.knows c.in-Some-top.field-0 c.step-in-Some-top.new.kernel z.lane c.in-Some-top.ensures
+          (steps-none c.scan.new.kernel c.step-in-Some-top.new.kernel c.scan.new.objects c.step-in-Some-top.new.objects c.in_ok-step-in-Some-top.ensures.begun) c.in_ok-step-in-Some-top.ensures.goes.row;
       quiet = λ base same.
           let begun = subst (λ x. BeginsFound c.look.new.kernel c.scan.new.kernel c.loop.objects c.scan.new.objects (Ok x)) c.if-found.false c.in_ok-found.ensures.begun in
           let scanned = still-step c.args.kernel.now c.scan.new.kernel c.step-in-Some-top.new.kernel c.scan.new.objects c.step-in-Some-top.new.objects c.in_ok-step-in-Some-top.ensures.begun same in
@@ -156,7 +169,6 @@ loop-preserved-in-Continue-branch-4 g c =
 
 pub scan-requires-clause-turn : goal.scan-requires-clause-turn
 scan-requires-clause-turn g c =
-    λ lifetimes outlive.
     less-looks c.args.kernel.now c.loop.kernel c.look.new.kernel c.args.objects.now c.loop.objects c.loop.invariant.counted c.in_ok-happened.ensures.steps c.in_ok-happened.ensures.goes.counted
 
 pub returns-in_err-happened-clause-lane : goal.returns-in_err-happened-clause-lane
@@ -194,8 +206,57 @@ loop-init g c = record {
   order = c.requires.order;
   lane = goes-none g.W.World.acts (g.W.Ops.lane c.args.world.now);
   counted = counted-none c.args.kernel.now c.args.objects.now c.requires.counted;
+  rows = λ apart. row-begins c.args.at.now.sys.now (terms_of c.args.at.now) c.args.kernel.now (g.W.Ops.lane c.args.world.now);
   quiet = λ base same. (base, λ p h. h);
 }
 
 pub floor-low-requires-clause-single : goal.floor-low-requires-clause-single
 floor-low-requires-clause-single g c = λ alone. let wrong : true ≡ false = sym alone ∙ c.requires.plain in absurd (cc)
+
+pub returns-in_err-happened-clause-rows : goal.returns-in_err-happened-clause-rows
+returns-in_err-happened-clause-rows g c =
+    let sys = c.args.at.now.sys.now in
+    let terms = (terms_of c.args.at.now) in
+    let lane = g.W.Ops.lane in
+    let p = err_from_is_err_and c.from_residual.result c.from_residual.ensures.1 in
+    rw (p.1, p.2)
+    (λ apart. stops-from sys terms c.args.kernel.now c.loop.kernel (lane c.args.world.now) (lane c.loop.world) (c.loop.invariant.rows apart) (lane c.loop.world) (lane c.look.new.world) c.in_err-happened.field-0.0 refl c.in_err-happened.ensures.rows)
+
+pub returns-in_err-found-clause-rows : goal.returns-in_err-found-clause-rows
+returns-in_err-found-clause-rows g c =
+    let sys = c.args.at.now.sys.now in
+    let terms = (terms_of c.args.at.now) in
+    let lane = g.W.Ops.lane in
+    let a = stand_of c.loop.kernel c.loop.objects (lane c.loop.world) in
+    let b = stand_of c.look.new.kernel c.loop.objects (lane c.look.new.world) in
+    let p = err_from_is_err_and c.from_residual-in_err-found.result c.from_residual-in_err-found.ensures.1 in
+    rw (p.1, p.2)
+    (λ apart. stops-from sys terms c.args.kernel.now c.loop.kernel (lane c.args.world.now) a.lane (c.loop.invariant.rows apart) a.lane (lane c.scan.new.world) c.in_err-found.field-0.0 refl
+    (c.in_err-found.ensures.rows a.lane (subst (λ f. InRow sys terms (above sys f) a.lane b.lane) (sym c.floor-low.ensures) c.in_ok-happened.ensures.goes.row)))
+
+pub returns-in_err-step-clause-rows : goal.returns-in_err-step-clause-rows
+returns-in_err-step-clause-rows g c =
+    let sys = c.args.at.now.sys.now in
+    let terms = (terms_of c.args.at.now) in
+    let lane = g.W.Ops.lane in
+    let a = stand_of c.loop.kernel c.loop.objects (lane c.loop.world) in
+    let b = stand_of c.look.new.kernel c.loop.objects (lane c.look.new.world) in
+    let d = stand_of c.scan.new.kernel c.scan.new.objects (lane c.scan.new.world) in
+    let p = err_from_is_err_and c.from_residual-in_err-step.result c.from_residual-in_err-step.ensures.1 in
+    rw (p.1, p.2)
+    (λ apart. stops-from sys terms c.args.kernel.now c.loop.kernel (lane c.args.world.now) a.lane (c.loop.invariant.rows apart) d.lane (lane c.step.new.world) c.in_err-step.field-0.0
+    (subst (λ x. VisitsRow sys terms (above sys c.floor-low.result) [] b.lane d.lane (Ok x)) c.if-found.true c.in_ok-found.ensures.rows a.lane (subst (λ f. InRow sys terms (above sys f) a.lane b.lane) (sym c.floor-low.ensures) c.in_ok-happened.ensures.goes.row)).idle c.in_err-step.ensures.rows)
+
+pub returns-in_err-step-in-Some-top-clause-rows : goal.returns-in_err-step-in-Some-top-clause-rows
+returns-in_err-step-in-Some-top-clause-rows g c =
+    let sys = c.args.at.now.sys.now in
+    let terms = (terms_of c.args.at.now) in
+    let lane = g.W.Ops.lane in
+    let a = stand_of c.loop.kernel c.loop.objects (lane c.loop.world) in
+    let b = stand_of c.look.new.kernel c.loop.objects (lane c.look.new.world) in
+    let d = stand_of c.scan.new.kernel c.scan.new.objects (lane c.scan.new.world) in
+    let pass = subst (λ x. VisitsTo [] sys terms b d (Ok x)) c.if-found.false c.in_ok-found.ensures.goes in
+    let p = err_from_is_err_and c.from_residual-in_err-step-in-Some-top.result c.from_residual-in_err-step-in-Some-top.ensures.1 in
+    rw (p.1, p.2)
+    (λ apart. stops-from sys terms c.args.kernel.now c.loop.kernel (lane c.args.world.now) a.lane (c.loop.invariant.rows apart) d.lane (lane c.step-in-Some-top.new.world) c.in_err-step-in-Some-top.field-0.0
+    (within-idle sys terms c.args.kernel.now c.loop.kernel (lane c.args.world.now) a.lane (c.loop.invariant.rows apart) c.scan.new.kernel d (subst (λ x. VisitsRow sys terms (above sys c.floor-low.result) [] b.lane d.lane (Ok x)) c.if-found.false c.in_ok-found.ensures.rows a.lane (subst (λ f. InRow sys terms (above sys f) a.lane b.lane) (sym c.floor-low.ensures) c.in_ok-happened.ensures.goes.row)) (steps-same c.loop.kernel c.look.new.kernel c.scan.new.kernel c.loop.objects c.scan.new.objects c.in_ok-happened.ensures.steps (subst (λ x. BeginsFound c.look.new.kernel c.scan.new.kernel c.loop.objects c.scan.new.objects (Ok x)) c.if-found.false c.in_ok-found.ensures.begun)) pass.knows c.in-Some-top.field-0 c.in-Some-top.ensures) c.in_err-step-in-Some-top.ensures.rows)

@@ -1,4 +1,5 @@
 use Rattle.std.proofs.Common.{◌≡◌, ◌+◌, ◌-◌, ◌∙◌, ap, arith, refl, subst, sym}
+use Rattle.qp_kernel_turns.specs.BaseRows.{InRow}
 use Rattle.qp_kernel_turns.specs.Knowing.{IsScanning}
 use Rattle.qp_kernel_turns.specs.Ordering.{AreSeenEmpty, PassedInOrder}
 use Rattle.qp_kernel_turns.specs.Turning.{Passed, Stood, row_below, stand_of, terms_of}
@@ -30,19 +31,18 @@ loop-place-init g c =
       };
       lane = goes-none g.W.World.acts (g.W.Ops.lane c.args.world.now);
       begun = begin-none c.args.kernel.now c.args.objects.now;
+      rows = λ u row. subst (λ ps. InRow sys (terms_of c.args.at.now) ps u (g.W.Ops.lane c.args.world.now)) (sym all) row;
     }
 
 pub visit-requires-clause-knows : goal.visit-requires-clause-knows
 visit-requires-clause-knows g c =
     let sys = c.args.at.now.sys.now in
-    λ lifetimes outlive.
     let same : c.loop-place.place ≡ c.loop-place.place - 1 + 1 = omega (arith, c.loop-place-test.true) in
     subst (λ m. Stood (IsScanning sys (terms_of c.args.at.now) (row_below sys c.args.floor m)) sys (terms_of c.args.at.now) (stand_of c.loop-place.kernel c.loop-place.objects (g.W.Ops.lane c.loop-place.world))) same c.loop-place.invariant.passed.knows
 
 pub visit-requires-clause-seen : goal.visit-requires-clause-seen
 visit-requires-clause-seen g c =
     let sys = c.args.at.now.sys.now in
-    λ lifetimes outlive.
     let same : c.loop-place.place ≡ c.loop-place.place - 1 + 1 = omega (arith, c.loop-place-test.true) in
     subst (λ m. AreSeenEmpty sys c.args.floor m (g.W.Ops.lane c.loop-place.world)) same c.loop-place.invariant.order.empty
 
@@ -60,6 +60,7 @@ returns g c =
       rests = tt;
       lane = c.loop-place.invariant.lane;
       begun = c.loop-place.invariant.begun;
+      rows = λ u row. subst (λ ps. InRow sys (terms_of c.args.at.now) ps u (lane c.loop-place.world)) all (c.loop-place.invariant.rows u row);
     }
 
 pub returns-in_err-visit-clause-lane : goal.returns-in_err-visit-clause-lane
@@ -68,3 +69,20 @@ returns-in_err-visit-clause-lane g c =
     let p = err_from_is_err_and c.from_residual.result c.from_residual.ensures.1 in
     rw (p.1, p.2)
     (halts-then g.W.World.acts (lane c.args.world.now) (lane c.loop-place.world) (lane c.visit.new.world) c.in_err-visit.field-0.0 c.loop-place.invariant.lane c.in_err-visit.ensures.lane)
+
+pub returns-in_err-visit-clause-rows : goal.returns-in_err-visit-clause-rows
+returns-in_err-visit-clause-rows g c =
+    let sys = c.args.at.now.sys.now in
+    let lane = g.W.Ops.lane in
+    let p = err_from_is_err_and c.from_residual.result c.from_residual.ensures.1 in
+    let same : c.loop-place.place ≡ c.loop-place.place - 1 + 1 = omega (arith, c.loop-place-test.true) in
+    rw (p.1, p.2)
+    (λ u row. c.in_err-visit.ensures.rows u (subst (λ m. InRow sys (terms_of c.args.at.now) (row_below sys c.args.floor m) u (lane c.loop-place.world)) same (c.loop-place.invariant.rows u row)))
+
+pub returns-then-branch-clause-rows : goal.returns-then-branch-clause-rows
+returns-then-branch-clause-rows g c =
+    let sys = c.args.at.now.sys.now in
+    let lane = g.W.Ops.lane in
+    let same : c.loop-place.place ≡ c.loop-place.place - 1 + 1 = omega (arith, c.loop-place-test.true) in
+    let rows = rw c.if-branch.true at c.in_ok-visit.ensures.rows in
+    λ u row. rows u (subst (λ m. InRow sys (terms_of c.args.at.now) (row_below sys c.args.floor m) u (lane c.loop-place.world)) same (c.loop-place.invariant.rows u row))

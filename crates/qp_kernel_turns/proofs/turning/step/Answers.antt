@@ -37,12 +37,14 @@ returns-in-Point g c =
         looks = refl;
         knows = subst (λ l. KnowsAt (MayLook sys (terms_of c.args.at.now)) sys (terms_of c.args.at.now) c.args.kernel.now.looks l (record (c.resume-answer.new.self) { ceiling = c.resume-answer.new.ceiling }) w) (sym r.top) a.0;
         onward = a.1;
+        row = a.2;
       };
       order = λ acts h. order-after sys c.requires.sound (terms_of c.args.at.now) c.args.kernel.now.looks r.outer r.p c.args.objects.now v k.knows k.at acts h c.resume-answer.new.ceiling c.resume-answer.new.self w step.Point
           (subst (λ p. ResumesAt sys c.args.objects.now.ceiling c.resume-answer.new.ceiling p c.args.objects.now c.resume-answer.new.self v w step.Point) same c.in-Point.ensures);
       rests = tt;
       lane = resumed-lane sys c.args.objects.now.ceiling c.resume-answer.new.ceiling c.in-Some.p c.args.objects.now c.resume-answer.new.self v w step.Point c.in-Point.ensures;
       begun = record { steps = omega arith; taken = taken-resumes sys c.args.objects.now.ceiling c.resume-answer.new.ceiling c.in-Some.p c.args.objects.now c.resume-answer.new.self v w step.Point c.in-Point.ensures };
+      rows = tt;
     }
 
 pub returns-in-Done : goal.returns-in-Done
@@ -61,12 +63,14 @@ returns-in-Done g c =
         looks = refl;
         knows = subst (λ l. KnowsAt (MayLook sys (terms_of c.args.at.now)) sys (terms_of c.args.at.now) c.args.kernel.now.looks l (record (c.resume-answer.new.self) { ceiling = c.resume-answer.new.ceiling }) w) (sym (popped-is c.args.kernel.now.stack.items r.outer c.pop.new.self.items r.p c.pop.result r.top c.pop.ensures.items c.pop.ensures.variant.1)) a.0;
         onward = a.1;
+        row = a.2;
       };
       order = λ acts h. order-after sys c.requires.sound (terms_of c.args.at.now) c.args.kernel.now.looks r.outer r.p c.args.objects.now v k.knows k.at acts h c.resume-answer.new.ceiling c.resume-answer.new.self w step.Done
           (subst (λ p. ResumesAt sys c.args.objects.now.ceiling c.resume-answer.new.ceiling p c.args.objects.now c.resume-answer.new.self v w step.Done) same c.in-Done.ensures);
       rests = tt;
       lane = resumed-lane sys c.args.objects.now.ceiling c.resume-answer.new.ceiling c.in-Some.p c.args.objects.now c.resume-answer.new.self v w step.Done c.in-Done.ensures;
       begun = record { steps = omega arith; taken = taken-resumes sys c.args.objects.now.ceiling c.resume-answer.new.ceiling c.in-Some.p c.args.objects.now c.resume-answer.new.self v w step.Done c.in-Done.ensures };
+      rows = tt;
     }
 
 pub returns-in-Stopped : goal.returns-in-Stopped
@@ -88,6 +92,7 @@ returns-in-Stopped g c =
           a.1.records (subst (λ l. has l r.p ≡ true) (sym r.top) (has-last r.outer r.p)) put.put.slots a.1.told a.1.apart;
       lane = resumed-lane sys c.args.objects.now.ceiling c.resume-answer.new.ceiling c.in-Some.p c.args.objects.now c.resume-answer.new.self v w step.Stopped c.in-Stopped.ensures;
       begun = record { steps = omega arith; taken = taken-resumes sys c.args.objects.now.ceiling c.resume-answer.new.ceiling c.in-Some.p c.args.objects.now c.resume-answer.new.self v w step.Stopped c.in-Stopped.ensures };
+      rows = a.2;
     }
 
 pub returns-in-Memory : goal.returns-in-Memory
@@ -102,6 +107,7 @@ returns-in-Memory g c =
       rests = tt;
       lane = resumed-lane sys c.args.objects.now.ceiling c.resume-answer.new.ceiling c.in-Some.p c.args.objects.now c.resume-answer.new.self v w step.Memory c.in-Memory.ensures;
       begun = record { steps = omega arith; taken = taken-resumes sys c.args.objects.now.ceiling c.resume-answer.new.ceiling c.in-Some.p c.args.objects.now c.resume-answer.new.self v w step.Memory c.in-Memory.ensures };
+      rows = tt;
     }
 
 pub returns-in_default : goal.returns-in_default
@@ -114,4 +120,5 @@ returns-in_default g c =
       rests = tt;
       lane = stops-memory false v v (lane c.stop.new.self) (goes-none false v) c.stop.ensures;
       begun = begin-none c.args.kernel.now c.args.objects.now;
+      rows = tt;
     }

@@ -258,7 +258,6 @@ loop-init g c = record {
 
 pub scan-requires-clause-turn : goal.scan-requires-clause-turn
 scan-requires-clause-turn g c =
-    λ lifetimes outlive.
     less-looks c.args.kernel.now c.loop.kernel c.look.new.kernel c.args.objects.now c.loop.objects c.loop.invariant.counted c.in_ok-happened.ensures.steps c.in_ok-happened.ensures.goes.counted
 
 pub floor-low-requires-clause-single : goal.floor-low-requires-clause-single
