@@ -154,6 +154,9 @@ module _ (sys : System) (words : List ℕ) (views : List SideView) (holds : Side
         pub more : mark_in (signal_at s) n < mark_in (signal_at s) (n + k)
         more = let l = low in let a = low-mark (signal_at s) n l in let b = low-mark (signal_at s) (n + k) l in let e = holds.shows.sets s signal in let f = new-value in let x = known.small in let y = members.small in omega arith
 
+        pub one-more : (n + k) / 4294967296 ≡ n / 4294967296 + 1
+        one-more = let e = holds.shows.sets s signal in let f = new-value in let x = known.small in let y = members.small in omega arith
+
         pub not-over : (n + k) % 18446744073709551616 ≡ n + k
         not-over = let c = count-few in let f = new-value in let y = members.small in mod-eq_of_lt (omega arith)
 
@@ -174,7 +177,7 @@ module _ (sys : System) (words : List ℕ) (views : List SideView) (holds : Side
           go false = refl
 
       comes : has q.members o ≡ false → let k = 4294967296 + bit_value o in SideHolds sys (set words (signal_at s) ((n + k) % 18446744073709551616)) (set views id (side_noted v (signal_at s) (n + k) (rec_of 31 o (s ∷ (n / 4294967296) ∷ []))))
-          × ((u : SideView) → u.view.seen ≡ v.view.seen ++ record { word = signal_at s; value = n + k } ∷ [] → SideSaw (signal_at s) v u n (n + k)) × (mark_in (signal_at s) n < mark_in (signal_at s) (n + k))
+          × ((u : SideView) → u.view.seen ≡ v.view.seen ++ record { word = signal_at s; value = n + k } ∷ [] → SideSaw (signal_at s) v u n (n + k)) × ((n + k) / 4294967296 ≡ n / 4294967296 + 1)
       comes out =
           let k : ℕ = 4294967296 + bit_value o in
           let r = rec_of 31 o (s ∷ (n / 4294967296) ∷ []) in let i : Item = record { of = o; body = Sub s (n / 4294967296) } in let is : item_of r ≡ i = sub-says o s (n / 4294967296) in
@@ -195,7 +198,7 @@ module _ (sys : System) (words : List ℕ) (views : List SideView) (holds : Side
                 (shows-next next (n + k) (new-value next k r i is refl members adds) members)
                 (λ p y h. changed true next (has-put o q.members) p y) (λ p none y c. unchanged true p none y c)),
             saw-more next k r i is refl members adds,
-            more next k r i is refl members adds,
+            one-more next k r i is refl members adds,
           )
         where
           zero-of : (z : ℕ) → z < 2 → eqb z 1 ≡ false → z ≡ 0
@@ -205,7 +208,7 @@ module _ (sys : System) (words : List ℕ) (views : List SideView) (holds : Side
           small-rest x = omega arith
 
       goes : has q.members o ≡ true → let k = 4294967296 - bit_value o in SideHolds sys (set words (signal_at s) ((n + k) % 18446744073709551616)) (set views id (side_noted v (signal_at s) (n + k) (rec_of 32 o (s ∷ (n / 4294967296) ∷ []))))
-          × ((u : SideView) → u.view.seen ≡ v.view.seen ++ record { word = signal_at s; value = n + k } ∷ [] → SideSaw (signal_at s) v u n (n + k)) × (mark_in (signal_at s) n < mark_in (signal_at s) (n + k))
+          × ((u : SideView) → u.view.seen ≡ v.view.seen ++ record { word = signal_at s; value = n + k } ∷ [] → SideSaw (signal_at s) v u n (n + k)) × ((n + k) / 4294967296 ≡ n / 4294967296 + 1)
       goes is_in =
           let k : ℕ = 4294967296 - bit_value o in
           let r = rec_of 32 o (s ∷ (n / 4294967296) ∷ []) in let i : Item = record { of = o; body = Unsub s (n / 4294967296) } in let is : item_of r ≡ i = unsub-says o s (n / 4294967296) in
@@ -222,7 +225,7 @@ module _ (sys : System) (words : List ℕ) (views : List SideView) (holds : Side
                 (shows-next next (n + k) (new-value next k r i is refl members adds) members)
                 (λ p y h. changed false next (has-taken o q.members) p y) (λ p none y c. unchanged false p none y c)),
             saw-more next k r i is refl members adds,
-            more next k r i is refl members adds,
+            one-more next k r i is refl members adds,
           )
 
 pub eye-signals : EyeSignalsTell

@@ -55,16 +55,16 @@ eyed_signal bit o s v x = cond (eqb (bit_in o x) bit) (side_noted v (signal_at s
 abbrev pub EyeSignalTold : ℕ → ℕ → ℕ → SideView → ℕ → SideView → Type 0
 EyeSignalTold bit o s v n u = (u ≡ eyed_signal bit o s v n) × SideSaw (signal_at s) v u n n × (member_in o s v.view.logs ≡ eqb (bit_in o n) 1)
 
--- object o comes, and goes
+-- object o comes, and goes: the word has one operation more
 abbrev pub SubTold : ℕ → ℕ → SideView → ℕ → SideView → Type 0
 SubTold o s v n u =
     (u ≡ side_noted v (signal_at s) (n + (4294967296 + bit_value o)) (rec_of 31 o (s ∷ (n / 4294967296) ∷ [])))
-    × SideSaw (signal_at s) v u n (n + (4294967296 + bit_value o)) × (mark_in (signal_at s) n < mark_in (signal_at s) (n + (4294967296 + bit_value o)))
+    × SideSaw (signal_at s) v u n (n + (4294967296 + bit_value o)) × ((n + (4294967296 + bit_value o)) / 4294967296 ≡ n / 4294967296 + 1)
 
 abbrev pub UnsubTold : ℕ → ℕ → SideView → ℕ → SideView → Type 0
 UnsubTold o s v n u =
     (u ≡ side_noted v (signal_at s) (n + (4294967296 - bit_value o)) (rec_of 32 o (s ∷ (n / 4294967296) ∷ [])))
-    × SideSaw (signal_at s) v u n (n + (4294967296 - bit_value o)) × (mark_in (signal_at s) n < mark_in (signal_at s) (n + (4294967296 - bit_value o)))
+    × SideSaw (signal_at s) v u n (n + (4294967296 - bit_value o)) × ((n + (4294967296 - bit_value o)) / 4294967296 ≡ n / 4294967296 + 1)
 
 -- the set is looked at, with the record `pub`
 abbrev pub PubTold : System → ℕ → ℕ → SideView → ℕ → SideView → Type 0

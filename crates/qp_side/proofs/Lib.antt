@@ -1,0 +1,7 @@
+pub mod Following
+pub mod Marks
+pub mod Calling
+pub mod Serving
+pub mod Permuting
+pub mod EndLemmas
+pub mod Finishing

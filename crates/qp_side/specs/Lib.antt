@@ -1,0 +1,4 @@
+pub mod Seat
+pub mod Tries
+pub mod Calls
+pub mod Ending
