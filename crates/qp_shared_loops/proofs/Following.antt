@@ -1,5 +1,6 @@
 -- One step on a word behind another.
-use Rattle.std.proofs.Common.{◌≡◌, ℕ, ◌+◌, ◌-◌, ◌/◌, ◌<◌, ◌≤◌, sym, ap, subst, ◌∙◌, arith}
+use Rattle.std.proofs.Common.{◌≡◌, ◌≢◌, ℕ, ◌+◌, ◌-◌, ◌/◌, ◌%◌, ◌<◌, ◌≤◌, List, [], ◌∷◌, ◌++◌, append_assoc, sym, ap, subst, ◌∙◌, arith}
+use Rattle.std.proofs.lemmas.List.{append-nil}
 use Rattle.std.specs.declared.option.Option.{Option}
 use Rattle.std.specs.Option.{unwrap_or}
 use Rattle.qp_model.specs.declared.systems.System.{System}
@@ -9,16 +10,28 @@ use Rattle.qp_model.specs.declared.words.Word.TheVariants as word
 use Rattle.qp_model.specs.Sites.{ring_of}
 use Rattle.qp_table.specs.Rule.{queue_at, mark_in}
 use Rattle.qp_table.specs.After.{HasRoom, InHand}
+use Rattle.qp_table.specs.declared.view.Glance.{Glance}
 use Rattle.qp_table.specs.declared.view.View.{View}
+use Rattle.qp_table.proofs.Marks.{high-mark}
 use Rattle.qp_shared_views.specs.Words.{place_of, value_seen, Ahead}
 use Rattle.qp_shared_views.specs.Telling.{Saw, OwnTold}
 use Rattle.qp_shared_views.proofs.Gaining.{saw-then}
 use Rattle.qp_shared_steps.specs.Told.{QueueTold, free_in}
-use Rattle.qp_shared_loops.specs.Ends.{seeing}
+use Rattle.qp_shared_loops.specs.Ends.{SeesMore, seeing}
+
+pub sees-none : (xs : List Glance) → SeesMore xs xs
+sees-none xs = ([], sym (append-nil xs))
+
+pub sees-then : (xs ys zs : List Glance) → SeesMore xs ys → SeesMore ys zs → SeesMore xs zs
+sees-then xs ys zs a b = (a.0 ++ b.0, b.1 ∙ (ap (λ (l : List Glance). l ++ b.0) a.1 ∙ append_assoc xs a.0 b.0))
+
+pub sees-one : (v u : View) (g : Glance) → u ≡ seeing (v.seen ++ g ∷ []) v → SeesMore v.seen u.seen
+sees-one v u g is = (g ∷ [], ap (λ (z : View). z.seen) is)
 
 -- Only what was seen has changed, and of a queue's word x was seen last
 pub record Seen (sys : System) (a : ℕ) (v u : View) (x : ℕ) : Type 0 where
   pub is : u ≡ seeing u.seen v
+  pub more : SeesMore v.seen u.seen
   pub told : QueueTold sys a v u x x
 
 module _ (v u : View) (is : u ≡ seeing u.seen v) where
@@ -50,6 +63,22 @@ queue-then sys a v z u y n x seen told = record {
   takes = told.takes;
   own = own-before v z seen.is a _ _ told.own;
 }
+
+-- a word that is another than it was last seen has had more operations
+pub more-there : (sys : System) (w : Word) (z u : View) (x n : ℕ) → value_seen sys w z.seen ≡ x → Saw sys w z u n → x ≢ n → mark_in (place_of w) x < mark_in (place_of w) n
+more-there sys w z u x n last saw other =
+    let le : mark_in (place_of w) x ≤ mark_in (place_of w) n = subst (λ k. mark_in (place_of w) k ≤ mark_in (place_of w) n) last saw.le in
+    let ne : mark_in (place_of w) x ≢ mark_in (place_of w) n = λ e. other (sym last ∙ saw.same (ap (mark_in (place_of w)) last ∙ e)) in
+    omega arith
+
+-- so a count of a queue's word that is raised by one stays within its bits
+pub first-fits : (a x : ℕ) → mark_in (queue_at a) x < mark_in (queue_at a) (x + 1) → x % 2097152 + 1 < 2097152
+first-fits a x more =
+    let h = high-mark (queue_at a) x (omega arith) in let h' = high-mark (queue_at a) (x + 1) (omega arith) in omega arith
+
+pub last-fits : (a x : ℕ) → mark_in (queue_at a) x < mark_in (queue_at a) (x + 2097152) → x / 2097152 % 2097152 + 1 < 2097152
+last-fits a x more =
+    let h = high-mark (queue_at a) x (omega arith) in let h' = high-mark (queue_at a) (x + 2097152) (omega arith) in omega arith
 
 -- of what was seen last
 module _ (sys : System) (a : ℕ) (v u : View) (x : ℕ) (seen : Seen sys a v u x) where

@@ -1,5 +1,9 @@
 //! The loops of a lane on the words of the event table that threads share.
 #![tactic(auto)]
 
+pub mod cells;
+pub mod gives;
 pub mod last_in;
+mod operations;
 pub mod posts;
+pub mod takes;

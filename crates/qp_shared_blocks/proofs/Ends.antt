@@ -1,0 +1,69 @@
+-- Another reference, and the steps by which a used block comes back.
+use Rattle.std.proofs.Common.{◌≡◌, ℕ, ◌+◌, ◌*◌, ◌/◌, ◌%◌, ◌^◌, ◌<◌, ◌≤◌, ◌==◌, List, [], ◌∷◌, Bool, true, false, cond, length, get_or, nat_lt, pow_mono, refl, sym, ap, subst, ◌∙◌, arith}
+use Rattle.std.proofs.lemmas.Bool.Decides.{nat_tests}
+use Rattle.std.proofs.lemmas.Nat.{pow_pos}
+use Rattle.qp_model.specs.declared.systems.System.{System}
+use Rattle.qp_model.specs.Lists.{with_number}
+use Rattle.qp_model.specs.Sites.{blocks_of}
+use Rattle.qp_table.specs.Counting.{many}
+use Rattle.qp_table.specs.Rule.{pool_at, block_at, lives, is_ref, is_spot, is_spot_at, bits_value, Holds}
+use Rattle.qp_table.specs.After.{HasRoom, Steps}
+use Rattle.qp_table.specs.declared.view.View.{View}
+use Rattle.qp_table.proofs.Bounds.{Ascends, pool-ascends, map-small, bits-on}
+use Rattle.qp_table.proofs.Counting.{total-at}
+use Rattle.qp_table.proofs.Steps.{pool-of, x-is}
+use Rattle.qp_table.proofs.Tokens.{at-le, at-some, held-stands, standing, used-alone}
+use Rattle.qp_shared_steps.specs.Told.{BackTold}
+use Rattle.qp_shared_steps.proofs.LawLemmas.{backs_tell, more_references_tell}
+use Rattle.qp_shared_words.proofs.Still.{still}
+use Rattle.qp_shared_blocks.specs.Ends.{AnotherTold, EndTold, ReturnTold}
+
+none-named : (xs : List ℕ) → lives xs ≡ 0 → length xs ≡ 0
+none-named [] e = refl
+none-named (x ∷ xs) e = absurd (omega arith)
+
+pub ends-tell : (sys : System) (id : ℕ) (v : View) (p b : ℕ) → 0 < many (is_spot p b) v.used → Steps sys id v (block_at p b) (λ n. n) (EndTold p b v)
+ends-tell sys id v p b mine words views holds at small =
+    let z = still sys id v (block_at p b) words views holds at small in
+    let a = at-some p b v.used mine in
+    let alone = used-alone sys views holds.now id v at holds.tokens p b mine in
+    let t = total-at (λ (y : View). many (is_spot_at p b a.0) y.used) views id v at in
+    let one = a.1 in
+    let worn = holds.tokens.worn p b a.0 (omega arith) in
+    let none : length (holds.now.refs p b).names ≡ 0 = none-named (holds.now.refs p b).names alone.2 in
+    let shows = holds.shows.blocks p b alone.0 in
+    let w1 = worn.1 in
+    let is : get_or words (block_at p b) 0 / 4294967296 ≡ a.0 = omega arith in
+    (z.0, z.1, (z.2, subst (λ n. 0 < many (is_spot_at p b n) v.used) (sym is) a.1))
+
+with-ascends : (b lo n : ℕ) (xs : List ℕ) → lo ≤ b → b < n → Ascends lo n xs → Ascends lo n (with_number b xs)
+with-ascends b lo n [] l h a = (l, h, omega arith)
+with-ascends b lo n (x ∷ xs) l h a = go (λ gt. with-ascends b (x + 1) n xs gt h a.2) (nat_lt b x) (b == x) refl refl
+  where
+    go : (x + 1 ≤ b → Ascends (x + 1) n (with_number b xs)) → (s t : Bool) → nat_lt b x ≡ s → (b == x) ≡ t → Ascends lo n (cond s (b ∷ x ∷ xs) (cond t (x ∷ xs) (x ∷ with_number b xs)))
+    go rest true t e f = let lt : b < x = grind (arith, nat_tests) in (l, h, (omega arith, a.1, a.2))
+    go rest false true e f = a
+    go rest false false e f = let gt : x + 1 ≤ b = grind (arith, nat_tests) in (a.0, a.1, rest gt)
+
+pub returns-tell : (sys : System) (id : ℕ) (v : View) → HasRoom v → (o p b m : ℕ) → b < 32 → 0 < many (is_spot_at p b m) v.used → Steps sys id v (pool_at p) (λ n. (n + (4294967296 + 2 ^ b)) % 18446744073709551616) (ReturnTold sys o p b m v)
+returns-tell sys id v own o p b m low mine words views holds at small =
+    let few : 2 ^ b ≤ 2 ^ 31 = pow_mono {j = 31} (omega arith) in
+    let z = backs_tell sys id v own o p b m (4294967296 + 2 ^ b) refl (omega arith) mine words views holds at small in
+    let a = at-le p b m v.used in
+    let alone = used-alone sys views holds.now id v at holds.tokens p b (omega arith) in
+    let pool = pool-of sys p b alone.0 in
+    let free = (holds.now.pool p).free in
+    let asc = with-ascends b 0 (blocks_of sys p) free (omega arith) pool.1 (pool-ascends sys holds.lanes holds.now holds.leaves holds.logs.count holds.logs.room p pool.0) in
+    let less = map-small (blocks_of sys p) (with_number b free) (holds.fitting.small p pool.0).1 asc in
+    let on = bits-on b 0 (blocks_of sys p) free alone.1 in
+    let shows = holds.shows.pools p pool.0 in
+    let pos = pow_pos b in
+    (z.0, z.1, (z.2, omega arith))
+
+pub another-tells : (sys : System) (id : ℕ) (v : View) → HasRoom v → (o p b k : ℕ) → 0 < p → 0 < many (is_ref p b k) v.hands → Steps sys id v (block_at p b) (λ n. (n + 4294967297) % 18446744073709551616) (AnotherTold sys o p b v)
+another-tells sys id v own o p b k pos mine words views holds at small =
+    let z = more_references_tell sys id v own o p b k pos mine words views holds at small in
+    let there = held-stands sys views holds.now id v at holds.tokens p b k pos mine in
+    let alone = standing sys views holds.now id v at holds.tokens p b k there in
+    let x = x-is sys words views holds id v at own o p b alone.0 in let x0 = x.0 in let x1 = x.1 in let x2 = x.2 in
+    (z.0, z.1, (z.2, omega arith))

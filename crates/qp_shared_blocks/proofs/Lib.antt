@@ -1,0 +1,9 @@
+pub mod Ends
+pub mod Lanes
+pub mod Parts
+pub mod Notes
+pub mod Reading
+pub mod Dropping
+pub mod Making
+pub mod Backs
+pub mod Gives

@@ -1,0 +1,5 @@
+use Rattle.qp_shared_lane.proofs.LawLemmas.{logs_keep_the_lane as law}
+use Rattle.qp_shared_lane.proofs.laws.logs_keep_the_lane.Goals as goal
+
+pub returns : goal.returns
+returns c = law

@@ -1,0 +1,4 @@
+pub mod Holds
+pub mod Lane
+pub mod More
+pub mod Laws

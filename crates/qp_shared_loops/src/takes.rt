@@ -1,0 +1,168 @@
+//! Takes: the front entry of a queue is taken by the lane that serves it, which waits for its cell to be laid.
+
+ghost use Rattle.std.specs.Prelude.{◌≡◌, ℕ, ◌+◌, ◌*◌, ◌%◌, ◌<◌, length, IsTrue};
+ghost use Rattle.std.specs.List.{list_any};
+ghost use Rattle.qp_model.specs.Record.{entry};
+ghost use Rattle.qp_model.specs.Sites.{ring_of};
+ghost use Rattle.qp_model.specs.WordLaw.{is_object};
+ghost use Rattle.qp_calls.specs.Clauses.{entry_of};
+ghost use Rattle.qp_table.specs.Counting.{many};
+ghost use Rattle.qp_table.specs.Rule.{is_place, on_queue, is_serve, is_lifo, is_took, records};
+ghost use Rattle.qp_table.specs.After.{HasRoom};
+ghost use Rattle.qp_table.specs.QueueLaws.{front_cell};
+ghost use Rattle.qp_shared_steps.specs.Told.{FreeTold};
+ghost use Rattle.qp_shared_words.specs.Nils.{is_new};
+ghost use Rattle.qp_shared_loops.specs.Coded.{entry_in};
+ghost use Rattle.qp_shared_loops.specs.Ends.{Empties, IsNamed, KnowsEvent, TakeEnds};
+
+use crate::operations::add;
+use atomic_table::Seat;
+use qp_calls::{Counts, Entry, Hold};
+use qp_shared_words::Words;
+use qp_shared_words::queues::{empty_front, look_at_cell, look_before_take};
+use qp_table::View;
+use std::marker::Brand;
+use std::sync::Wait;
+
+/// The entry of which a cell has the code.
+fn entry_in(code: u64) -> Entry
+    ensures value { entry_of result ≡ entry_in code }
+    ensures named { IsNamed result }
+{
+    let pool = (code / 9007199254740992 % 16) as u8;
+    if pool == 0 {
+        Entry::Static((code % 65536) as u16)
+    } else {
+        Entry::Pool(Hold::of(
+            pool,
+            (code / 281474976710656 % 32) as u8,
+            code % 281474976710656,
+        ))
+    }
+}
+
+/// An entry's pool, block and reference, as records state them: a static one has pool 0 and its signal as its block.
+pub fn parts(e: &Entry) -> (u8, u16, u64)
+    ensures { entry_of e.now ≡ entry result.0 result.1 result.2 }
+{
+    match e {
+        Entry::Static(sig) => (0, *sig, 0),
+        Entry::Pool(hold) => (hold.pool(), u16::from(hold.block()), hold.name()),
+    }
+}
+
+/// The cell of the front entry of a queue, by its last-in posts and takes.
+fn front(ring: u8, lifos: u64, takes: u64) -> u16
+    requires lifos { lifos < 2097152 }
+    requires takes { takes < 4194304 }
+    ensures value { result ≡ (takes + ring * lifos) % (ring + 1) }
+    ensures within { result < 256 }
+{
+    let ring = u64::from(ring);
+    ((takes + ring * lifos) % (ring + 1)) as u16
+}
+
+/// Waits until the front cell is laid, and empties it. The lane only reads while it waits.
+fn empty_when_laid<R: Wait>(
+    rt: &R,
+    words: &Words,
+    seat: &mut Seat<(), View>,
+    object: u8,
+    cell: u16,
+    lifos: u64,
+    takes: u64,
+) -> Entry
+    requires own { seat.old.table_id ≡ words.now.shared.table_id }
+    requires wide { words.now.shared.table_id.words ≡ 21128 }
+    requires object { IsTrue (is_object words.now.shared.key object) }
+    requires low { (object < 33) × (cell < 256) }
+    requires front { cell ≡ front_cell words.now.shared.key object lifos takes }
+    requires log { 0 < length seat.old.me.0.logs }
+    requires serves { IsTrue (list_any (is_serve object) seat.old.me.0.serves) }
+    requires lifos { lifos ≡ records (is_lifo object) seat.old.me.0.logs }
+    requires takes { takes ≡ records (is_took object) seat.old.me.0.logs }
+    requires idle { many (on_queue object) seat.old.me.0.takes ≡ 0 }
+    ensures same { (seat.new.table_id ≡ seat.old.table_id) × (seat.new.id ≡ seat.old.id) }
+    ensures emptied { Empties words.now.shared.key object cell result seat.old.me.0 seat.new.me.0 }
+{
+    for _ in rt.forever() {
+        if look_at_cell(words, seat, object, cell) != 0 {
+            let code = empty_front(words, seat, object, cell, lifos, takes);
+            if code != 0 {
+                return entry_in(code);
+            }
+        }
+    }
+    unreachable!()
+}
+
+/// Frees the entry of a take, and answers the queue's word as it was. The lane then knows the event of a reference.
+fn free_entry(
+    words: &Words,
+    seat: &mut Seat<(), View>,
+    object: u8,
+    cell: u64,
+    pool: u8,
+    block: u16,
+    name: u64,
+) -> u64
+    requires own { seat.old.table_id ≡ words.now.shared.table_id }
+    requires wide { words.now.shared.table_id.words ≡ 21128 }
+    requires object { IsTrue (is_object words.now.shared.key object) }
+    requires room { HasRoom seat.old.me.0 }
+    requires serves { IsTrue (list_any (is_serve object) seat.old.me.0.serves) }
+    requires take { 0 < many (is_place object cell (record { pool = pool; block = block; name = name })) seat.old.me.0.takes }
+    ensures same { (seat.new.table_id ≡ seat.old.table_id) × (seat.new.id ≡ seat.old.id) }
+    ensures told { FreeTold words.now.shared.key object cell (record { pool = pool; block = block; name = name }) seat.old.me.0 result seat.new.me.0 }
+    ensures event { KnowsEvent words.now.shared.key (record { pool = pool; block = block; name = name }) seat.new.me.0 }
+{
+    let word = 4224 + 8 * usize::from(object);
+    add::<Brand>(
+        words,
+        seat,
+        word,
+        4398046511104,
+        object,
+        cell,
+        pool,
+        block,
+        name,
+    )
+}
+
+/// Takes the front entry of a queue, by the lane that serves it. It looks; where the queue isn't empty, it reads the front cell until
+/// that is laid, empties it and frees the entry. Answers the queue's word as it was when the entry was freed or none was there,
+/// and the entry. `ring` is the queue's, and `last` the counts that the lane last told of the empty queue.
+///
+/// It waits only for a poster that has claimed the front entry and not yet laid it.
+pub fn take_entry<R: Wait>(
+    rt: &R,
+    words: &Words,
+    seat: &mut Seat<(), View>,
+    object: u8,
+    ring: u8,
+    last: Option<Counts>,
+) -> (u64, Option<Entry>)
+    requires own { seat.old.table_id ≡ words.now.shared.table_id }
+    requires wide { words.now.shared.table_id.words ≡ 21128 }
+    requires object { IsTrue (is_object words.now.shared.key object) }
+    requires low { object < 33 }
+    requires ring { ring ≡ ring_of words.now.shared.key object }
+    requires room { HasRoom seat.old.me.0 }
+    requires serves { IsTrue (list_any (is_serve object) seat.old.me.0.serves) }
+    requires idle { many (on_queue object) seat.old.me.0.takes ≡ 0 }
+    ensures same { (seat.new.table_id ≡ seat.old.table_id) × (seat.new.id ≡ seat.old.id) }
+    ensures ends { TakeEnds words.now.shared.key (is_new last) object seat.old.me.0 result.0 result.1 seat.new.me.0 }
+{
+    let found = look_before_take(words, seat, object, last);
+    let lifos = found / 2097152 % 2097152;
+    let takes = found / 4398046511104;
+    if found % 2097152 + lifos == takes {
+        return (found, None);
+    }
+    let cell = front(ring, lifos, takes);
+    let entry = empty_when_laid(rt, words, seat, object, cell, lifos, takes);
+    let (pool, block, name) = parts(&entry);
+    let now = free_entry(words, seat, object, u64::from(cell), pool, block, name);
+    (now, Some(entry))
+}

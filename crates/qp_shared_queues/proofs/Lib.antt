@@ -1,0 +1,11 @@
+pub mod Views
+pub mod Lane
+pub mod Noting
+pub mod Posting
+pub mod Entries
+pub mod Looking
+pub mod Claiming
+pub mod LastIn
+pub mod Taking
+pub mod Taken
+pub mod Nils

@@ -1,0 +1,51 @@
+//! Takes of the front entry.
+
+ghost use Rattle.std.specs.Prelude.{◌≡◌, ◌<◌, IsTrue};
+ghost use Rattle.qp_model.specs.WordLaw.{is_object};
+ghost use Rattle.qp_calls.specs.Clauses.{Takes};
+ghost use Rattle.qp_shared_lane.specs.Lane.{state_view};
+
+use crate::counting::counts_in;
+use crate::posts::stated;
+use qp_calls::Take;
+use qp_model::Rec;
+use qp_shared_lane::{LaneState, put, put_nil};
+use qp_shared_loops::takes::{parts, take_entry};
+use std::sync::Wait;
+
+/// Takes the front entry. It waits only for a poster that has claimed the front entry and not yet laid it.
+pub fn take<R: Wait>(lane: &mut LaneState<'_>, rt: &R, me: u8) -> Take
+    requires room { 0 < (state_view lane.old).spare }
+    requires object { IsTrue (is_object (state_view lane.old).sys me) }
+    requires serves { IsTrue ((state_view lane.old).serves me) }
+    ensures { Takes me (state_view lane.old) (state_view lane.new) result }
+{
+    let ring = lane.sys.ring_of(u64::from(me));
+    let last = lane.log.nils[usize::from(me)];
+    let (found, taken) = take_entry(rt, lane.words, &mut lane.seat, me, ring, last);
+    let now = counts_in(found);
+    match taken {
+        Some(e) => {
+            let (pool, block, name) = parts(&e);
+            let rec = Rec::took(me, now.f, now.l, now.m + 1, stated(pool, block, name));
+            put(&mut lane.log, &mut lane.numbers, rec, 0);
+            Take::Taken(e)
+        }
+        None => {
+            if lane.log.tells(me, now) {
+                return Take::Empty {
+                    f: now.f,
+                    l: now.l,
+                    m: now.m,
+                };
+            }
+            let rec = Rec::nil(me, now.f, now.l, now.m);
+            put_nil(&mut lane.log, &mut lane.numbers, rec, me, now);
+            Take::Empty {
+                f: now.f,
+                l: now.l,
+                m: now.m,
+            }
+        }
+    }
+}
