@@ -1,0 +1,8 @@
+pub mod Ends
+pub mod First
+pub mod Serving
+pub mod Roots
+pub mod Meetings
+pub mod Handing
+pub mod Taken
+pub mod CrossingLemmas

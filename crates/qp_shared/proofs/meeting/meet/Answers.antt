@@ -1,0 +1,43 @@
+use Rattle.std.proofs.Common.{◌≡◌, ◌∙◌, ap, sym, subst}
+use Rattle.qp_table.specs.After.{joined, onlooker}
+use Rattle.qp_table.specs.declared.view.View.{View}
+use Rattle.qp_calls_meet.specs.Meeting.{Met}
+use Rattle.qp_shared_lane.specs.Holds.{LaneHolds, told_by}
+use Rattle.qp_shared_lane.specs.Lane.{standing, lane_with, world_in, state_view}
+use Rattle.qp_shared_lane.specs.declared.lane.LaneState.{LaneState}
+use Rattle.qp_shared_seats.specs.Seats.{IsOnePast}
+use Rattle.qp_shared_views.specs.Lane.{lane_of}
+use Rattle.qp_shared.proofs.Meetings.{met, joined-onlooker, same-table, lane-meets, lane-keeps}
+use Rattle.qp_shared.proofs.meeting.meet.Goals as goal
+
+pub join_seats-requires-clause-other : goal.join_seats-requires-clause-other
+join_seats-requires-clause-other c = (c.look_on-seen.ensures.table.0 ∙ (c.args.other.now.own ∙ same-table c.args.lane.now c.args.other.now c.requires.world), c.look_on-seen.ensures.table.1)
+
+-- the view after
+view-is : (v w a b u : View) → a ≡ onlooker w → b ≡ joined v a → u ≡ b → u ≡ met v w
+view-is v w a b u is both stays = stays ∙ (both ∙ (ap (joined v) is ∙ joined-onlooker v w))
+
+pub invariant_of-lane : goal.invariant_of-lane
+unfolding lane_of
+invariant_of-lane c =
+    let l : LaneState = c.args.lane.now in let o : LaneState = c.args.other.now in
+    let u = view-is l.seat.me.0 o.seat.me.0 c.look_on-seen.result.me.0 c.join_seats.new.seat.me.0 c.know_past.new.seat.me.0 c.look_on-seen.ensures.seat c.join_seats.ensures.both c.know_past.ensures.told.0 in
+    let past : IsOnePast l.words.now.shared.key (met l.seat.me.0 o.seat.me.0) = subst (IsOnePast l.words.now.shared.key) (sym c.know_past.ensures.told.0 ∙ u) c.know_past.ensures.told.1 in record {
+      own = c.know_past.ensures.same.0 ∙ (c.join_seats.ensures.same.0 ∙ l.own);
+      wide = l.wide;
+      key = l.key;
+      side_key = l.side_key;
+      holds = subst (λ z. LaneHolds l.sys.now l.count l.ceiling l.log l.numbers.list z l.side.seat.me.0) (sym u)
+          (lane-keeps (world_in l) l.sys.now l.by l.count l.ceiling l.log l.numbers.list l.seat.me.0 o.seat.me.0 l.side.seat.me.0 (standing (world_in o) o.sys.now o.by o.log o.seat.me.0 o.side.seat.me.0) (told_by o.log o.numbers.list o.seat.me.0) o.log.spare
+          c.requires.sys (subst (λ k. IsOnePast k (met l.seat.me.0 o.seat.me.0)) l.key past) l.holds);
+    }
+
+pub returns-clause-meets : goal.returns-clause-meets
+unfolding lane_of
+returns-clause-meets c =
+    let l : LaneState = c.args.lane.now in let o : LaneState = c.args.other.now in
+    let u = view-is l.seat.me.0 o.seat.me.0 c.look_on-seen.result.me.0 c.join_seats.new.seat.me.0 c.know_past.new.seat.me.0 c.look_on-seen.ensures.seat c.join_seats.ensures.both c.know_past.ensures.told.0 in
+    let past : IsOnePast l.words.now.shared.key (met l.seat.me.0 o.seat.me.0) = subst (IsOnePast l.words.now.shared.key) (sym c.know_past.ensures.told.0 ∙ u) c.know_past.ensures.told.1 in
+    subst (λ z. Met (state_view l) (state_view o) (lane_with (world_in l) l.sys.now l.by l.log l.numbers.list z l.side.seat.me.0)) (sym u)
+    (lane-meets (world_in l) l.sys.now l.by l.count l.ceiling l.log l.numbers.list l.seat.me.0 o.seat.me.0 l.side.seat.me.0 (standing (world_in o) o.sys.now o.by o.log o.seat.me.0 o.side.seat.me.0) (told_by o.log o.numbers.list o.seat.me.0) o.log.spare
+    c.requires.sys (subst (λ k. IsOnePast k (met l.seat.me.0 o.seat.me.0)) l.key past))

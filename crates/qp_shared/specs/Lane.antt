@@ -1,0 +1,12 @@
+-- What contracts see of a lane.
+use Rattle.std.specs.Prelude.{List}
+use Rattle.qp_model.specs.declared.record.Rec.{Rec}
+use Rattle.qp_calls.specs.LaneView.{LaneView}
+use Rattle.qp_shared_lane.specs.Lane.{state_view}
+use Rattle.qp_shared.specs.declared.lane.SharedLane.{SharedLane}
+
+abbrev pub lane_view : SharedLane → LaneView
+lane_view l = state_view l.state
+
+abbrev pub records_of : SharedLane → List Rec
+records_of l = l.state.log.recs.items

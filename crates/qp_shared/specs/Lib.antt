@@ -1,0 +1,4 @@
+pub mod Lane
+pub mod Starting
+pub mod Ending
+pub mod LaneLaws

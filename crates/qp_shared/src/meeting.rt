@@ -1,0 +1,26 @@
+//! A lane meets another one.
+
+ghost use Rattle.std.specs.Prelude.{◌≡◌};
+ghost use Rattle.qp_shared_lane.specs.Lane.{state_view};
+ghost use Rattle.qp_calls_meet.specs.Meeting.{IsTogether, Met};
+
+use crate::lane::SharedLane;
+use qp_calls_meet::Meets;
+use qp_shared_lane::LaneState;
+use qp_shared_seats::table;
+
+fn meet(lane: &mut LaneState<'_>, other: &mut LaneState<'_>)
+    requires { IsTogether (state_view lane.old) (state_view other.old) }
+    ensures meets { Met (state_view lane.old) (state_view other.old) (state_view lane.new) }
+    ensures other { state_view other.new ≡ state_view other.old }
+{
+    let seen = table::look_on(other.words, &mut other.seat);
+    table::join_seats(lane.words, &mut lane.seat, seen);
+    table::know_past(lane.words, &mut lane.seat);
+}
+
+impl Meets for SharedLane<'_> {
+    fn meet(&mut self, other: &mut Self) {
+        meet(&mut self.state, &mut other.state);
+    }
+}

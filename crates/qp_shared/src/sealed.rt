@@ -1,0 +1,107 @@
+//! A journal of all lanes of a table.
+
+ghost use Rattle.std.specs.Prelude.{◌≡◌, ◌≤◌, [], map, length, IfOk};
+ghost use Rattle.std.specs.Vec.{vec_capacity};
+ghost use Rattle.qp_port_quiet.specs.Sealed.{SealsLanes};
+ghost use Rattle.qp_shared.specs.Lane.{lane_view, records_of};
+ghost use Rattle.qp_shared.specs.Ending.{AreAll};
+
+use crate::ending::{end_of, gather};
+use crate::lane::SharedLane;
+use crate::shared::Shared;
+use qp_base::Memory;
+use qp_calls_log::Log;
+use qp_model::{Journal, Lane, Lanes};
+use qp_shared_lane::{LaneState, SideSeat};
+use qp_shared_seats::table;
+
+/// A journal into which all lanes of one table were sealed. Only `Shared::finish` makes one, and it can't be copied.
+#[derive(Drop)]
+pub struct Sealed {
+    journal: Journal,
+}
+
+impl Sealed {
+    /// The journal.
+    pub fn journal(&self) -> &Journal
+        ensures { result.now ≡ self.now.journal }
+    {
+        &self.journal
+    }
+}
+
+impl Shared<'_> {
+    /// The lanes that the root became, all of them and in any order, end: their records are sealed into a journal, one lane after
+    /// another. After a refusal the lanes are gone.
+    pub fn finish(
+        &self,
+        lanes: Vec<SharedLane<'_>>,
+        kernel: u8,
+        budget: u32,
+    ) -> Result<Sealed, Memory>
+        requires all { AreAll self.now (map lane_view lanes.items) }
+        ensures records { IfOk result (λ s. s.journal.lanes ≡ map records_of lanes.entry.items) }
+        ensures seals { IfOk result (λ s. SealsLanes self.now.sys.now kernel budget (map lane_view lanes.entry.items) s.journal) }
+    {
+        let Ok(room) = Vec::with_capacity(self.alloc, lanes.len()) else {
+            return Err(Memory);
+        };
+        Ok(self.seal(lanes, room, kernel, budget))
+    }
+
+    fn seal(&self, lanes: Vec<SharedLane<'_>>, room: Vec<Lane>, kernel: u8, budget: u32) -> Sealed
+        requires all { AreAll self.now (map lane_view lanes.items) }
+        requires empty { room.items ≡ [] }
+        requires room { length lanes.items ≤ vec_capacity room }
+        ensures records { result.journal.lanes ≡ map records_of lanes.entry.items }
+        ensures seals { SealsLanes self.now.sys.now kernel budget (map lane_view lanes.entry.items) result.journal }
+    {
+        let mut others = lanes;
+        let mut records = room;
+        let SharedLane { state } = others.remove(0);
+        let LaneState {
+            sys: _,
+            words: _,
+            mut seat,
+            side,
+            by: _,
+            count: _,
+            ceiling: _,
+            log,
+            numbers: _,
+        } = state;
+        let SideSeat {
+            words: _,
+            seat: mut beside,
+        } = side;
+        let Log {
+            recs,
+            spare: _,
+            spilled: _,
+            nils: _,
+            stops: _,
+            answered: _,
+        } = log;
+        records.push_reserved(Lane { items: recs });
+        let records = gather(
+            &self.words,
+            &self.side,
+            &mut seat,
+            &mut beside,
+            others,
+            records,
+        );
+        table::know_end(&self.words, &mut seat);
+        qp_shared_side::seats::know_whole(&self.side, &mut beside);
+        let lanes = Lanes { items: records };
+        let end = end_of(&lanes);
+        Sealed {
+            journal: Journal {
+                kernel,
+                budget,
+                lanes,
+                end,
+            },
+        }
+    }
+}

@@ -1,0 +1,14 @@
+pub mod Ordering
+pub mod Histories
+pub mod Sounding
+pub mod Sides
+pub mod Contents
+pub mod Maps
+pub mod Pasts
+pub mod Marks
+pub mod Changes
+pub mod Members
+pub mod Telling
+pub mod Events
+pub mod Parts
+pub mod Sealing

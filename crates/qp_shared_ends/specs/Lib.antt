@@ -1,0 +1,4 @@
+pub mod Lanes
+pub mod End
+pub mod Joining
+pub mod Laws
