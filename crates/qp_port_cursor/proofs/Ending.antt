@@ -1,6 +1,13 @@
 -- How passing a `settle` ends.
-use Rattle.std.proofs.Common.{◌≡◌, ℕ, ◌+◌, ◌-◌, true, false, List, [], ◌∷◌, refl, sym, subst, arith}
-use Rattle.std.specs.List.{AllByRecursion}
+use Rattle.std.proofs.Common.{◌≡◌, ℕ, ◌+◌, ◌-◌, ◌≤◌, true, false, List, [], ◌∷◌, ◌++◌, length, map, refl, sym, ◌∙◌, ap, subst, arith}
+use Rattle.std.specs.List.{AllByRecursion, count_by, filter}
+use Rattle.std.proofs.lemmas.List.{map-append}
+use Rattle.std.proofs.lemmas.List.Sums.{length-filter}
+use Rattle.qp_model.specs.declared.bodies.Body.TheVariants as body
+use Rattle.qp_model.specs.Lawful.{is_settle}
+use Rattle.qp_model.specs.Told.{Told, ToldItem, for_object, plain}
+use Rattle.qp_model.proofs.NumberLemmas.{count-append}
+use Rattle.qp_model_order.specs.SourceRun.{untold, untold_all}
 use Rattle.qp_model.specs.declared.systems.System.{System}
 use Rattle.qp_model.specs.Sources.{priorities}
 use Rattle.qp_calls.specs.declared.answers.Counts as counts
@@ -11,7 +18,7 @@ use Rattle.qp_calls_stimulus.specs.Settling.{SeesNone, SeesSome, SettleCut}
 use Rattle.qp_port_cursor.specs.declared.cursor.Cursor.{Cursor}
 use Rattle.qp_port_cursor.specs.At.{IsCursorAt, IsSourceAt, done, mine}
 use Rattle.qp_port_cursor.specs.Turning.{SourceStarves, SourceStops}
-use Rattle.qp_port_cursor.specs.Passing.{FindsEntry, Glances, GoesAlong, HasPassed, IsClear, Opens, ShowsEntry}
+use Rattle.qp_port_cursor.specs.Passing.{FindsEntry, Glances, GoesAlong, HasPassed, IsClear, Opens, ShowsEntry, settles_of}
 use Rattle.qp_port_cursor.proofs.Going.{unspilled-told}
 use Rattle.qp_port_cursor.proofs.Along.{IsBehind, along-gains, along-glances, along-room, along-then, behind-along, behind-gains, behind-then}
 use Rattle.qp_port_cursor.proofs.Settling.{cut-calm, cut-leaves, settled-at, shows-now, tried-at}
@@ -35,6 +42,16 @@ clear-room v w room p k = record { f = k.f; l = k.l; m = k.m; mark = rw room.sam
 all-clear : (v w : LaneView) → ((p : ℕ) → IsClear v p → IsClear w p) → (os : List ℕ) → AllByRecursion (IsClear v) os → AllByRecursion (IsClear w) os
 all-clear v w still [] h = tt
 all-clear v w still (o ∷ os) h = (still o h.0, all-clear v w still os h.1)
+
+-- `settle` records of a lane that goes on
+settles-more : (xs ys : List ToldItem) → settles_of (xs ++ ys) ≡ settles_of xs + settles_of ys
+settles-more xs ys = ap (count_by (λ i. is_settle i.body)) (map-append untold xs ys) ∙ count-append (λ i. is_settle i.body) (untold_all xs) (untold_all ys)
+
+settles-some : (o : ℕ) (one : List Told) → 1 ≤ settles_of (map (for_object o) (plain body.Settle ∷ one))
+settles-some o one =
+    let count = length-filter (λ i. is_settle i.body) (untold_all (map (for_object o) (plain body.Settle ∷ one))) in
+    let some : 1 ≤ length (filter (λ i. is_settle i.body) (untold_all (map (for_object o) (plain body.Settle ∷ one)))) = omega arith in
+    omega (arith, count, some)
 
 -- It is under way: looks that added nothing, room, and perhaps the `stim`.
 module _ (sys : System) (x y : Cursor) (v0 v1 v2 w : LaneView) (at : IsCursorAt sys x v0) (glances : Glances v0 v1) (clear : AllByRecursion (IsClear v1) (priorities sys)) (room : Roomier v1 v2) (opens : Opens sys x y v2 w) where
@@ -63,6 +80,13 @@ module _ (sys : System) (x y : Cursor) (v0 v1 v2 w : LaneView) (at : IsCursorAt 
         };
         calm = refl;
         one = refl;
+        settled =
+            let before = settles-more v0.told so_far.ts in
+            let told = ap settles_of so_far.told in
+            let last = settles-more w.told (map (for_object w.by) (plain body.Settle ∷ seen.one)) in
+            let now = ap settles_of seen.grows.told in
+            let some = settles-some w.by seen.one in
+            omega (arith, before, told, last, now, some);
       })
 
   same-count : done x + 1 - 1 ≡ done x

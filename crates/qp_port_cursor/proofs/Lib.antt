@@ -9,3 +9,4 @@ mod Opening
 mod Settling
 mod Ending
 mod Nexts
+pub mod Standing

@@ -63,7 +63,7 @@ found-here sys x v w p c at g shows = record {
 
 -- The run may stop at a `settle`: behind a try, or before it.
 module _ (sys : System) (ss : List Stim) (n : ℕ) (v : LaneView) where
-  runs-tried : (kernel : ℕ) → may_try kernel ≡ true → IsSourceAt sys ss n true v → SourceRuns sys kernel 1 ss AfterTry (told_alone v.told)
+  pub runs-tried : (kernel : ℕ) → may_try kernel ≡ true → IsSourceAt sys ss n true v → SourceRuns sys kernel 1 ss AfterTry (told_alone v.told)
   unfolding SourceRuns EndsIn
   runs-tried kernel may at =
       let t = at.under_way in

@@ -1,7 +1,7 @@
 -- What passing a `settle` comes to.
 use Rattle.std.specs.Prelude.{◌≡◌, ℕ, ◌+◌, ◌<◌, ◌≤◌, ◌==◌, true, false, List, [], ◌∷◌, ◌++◌, map, take, drop, IsTrue, Some, None}
 use Rattle.std.specs.declared.option.Option.{Option}
-use Rattle.std.specs.List.{AllByRecursion, list_all, list_any}
+use Rattle.std.specs.List.{AllByRecursion, count_by, list_all, list_any}
 use Rattle.qp_model.specs.declared.stimulus.Stim.{Stim}
 use Rattle.qp_model.specs.declared.stimulus.Stim.TheVariants as stim
 use Rattle.qp_model.specs.declared.systems.System.{System}
@@ -13,6 +13,7 @@ use Rattle.qp_model.specs.Told.{Told, ToldItem, for_object, plain}
 use Rattle.qp_model.specs.Knowing.{told_alone}
 use Rattle.qp_model.specs.Kernels.{may_try}
 use Rattle.qp_model.specs.Ends.{is_end}
+use Rattle.qp_model.specs.Lawful.{is_settle}
 use Rattle.qp_model.specs.WordLaw.{is_object}
 use Rattle.qp_calls.specs.declared.answers.Counts as counts
 use Rattle.qp_calls.specs.LaneView.{LaneView, Counts}
@@ -97,11 +98,16 @@ pub record StaysAt (sys : System) (x y : Cursor) (v w : LaneView) : Type 0 where
   pub lane : y.lane ≡ x.lane
   pub along : GoesAlong v w
 
--- the `settle` is done
+-- how many `settle` records a lane has
+abbrev pub settles_of : List ToldItem → ℕ
+settles_of told = count_by (λ i. is_settle i.body) (untold_all told)
+
+-- the `settle` is done, with at least one record of it
 pub record HasPassed (sys : System) (x y : Cursor) (v w : LaneView) : Type 0 where
   pub stays : StaysAt sys x y v w
   pub calm : y.settling ≡ false
   pub one : done y ≡ done x + 1
+  pub settled : settles_of v.told + 1 ≤ settles_of w.told
 
 -- the queue of p showed an entry at these counts, and they are what the lane knows of it
 pub record FindsEntry (sys : System) (p : ℕ) (c : counts.Counts) (x y : Cursor) (v w : LaneView) : Type 0 where

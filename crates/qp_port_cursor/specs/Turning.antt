@@ -13,6 +13,10 @@ use Rattle.qp_port_cursor.specs.declared.cursor.Cursor.{Cursor}
 use Rattle.qp_kernel_turns.specs.Lanes.{HandsCode, HasFound, SameLane}
 use Rattle.qp_port_cursor.specs.At.{IsCursorAt, mine, at_settle_in, left_in}
 
+-- the same source of the same stimuli, in the same lane
+abbrev pub IsSameSource : Cursor → Cursor → Type 0
+IsSameSource x y = (y.stim ≡ x.stim) × (y.source ≡ x.source) × (y.lane ≡ x.lane)
+
 -- stimuli of the source were done from the cursor on; the hands are as they were, and no code was handed in or found
 pub record CursorGoes (sys : System) (x y : Cursor) (v w : LaneView) : Type 0 where
   pub at : IsCursorAt sys y w

@@ -4,6 +4,7 @@ ghost use Rattle.std.specs.Prelude.{◌≡◌, ◌<◌, true};
 ghost use Rattle.qp_model.specs.Sound.{IsSound};
 ghost use Rattle.qp_port_cursor.specs.At.{IsCursorAt, at_settle_in};
 ghost use Rattle.qp_port_cursor.specs.Passing.{Glimpses, Opens, Passes};
+ghost use Rattle.qp_port_cursor.specs.Turning.{IsSameSource};
 
 use crate::cursor::Cursor;
 use qp_calls::{Counts, Halted, Ops, halt};
@@ -61,7 +62,8 @@ pub fn pass_settle<O: Ops>(ops: &mut O, sys: &System, source: &mut Cursor<'_>) -
     requires sound { IsSound sys.now }
     requires knows { IsCursorAt sys.now source.old (O.lane ops.old) }
     requires stands { at_settle_in source.old ≡ true }
-    ensures { Passes sys.now source.old source.new (O.lane ops.old) (O.lane ops.new) result }
+    ensures passes { Passes sys.now source.old source.new (O.lane ops.old) (O.lane ops.new) result }
+    ensures same { IsSameSource source.old source.new }
 {
     if let Some((p, now)) = look(ops, sys) {
         return Passed::Found { p, now };

@@ -3,19 +3,20 @@
 ghost use Rattle.std.specs.Prelude.{◌≡◌, ◌<◌};
 ghost use Rattle.qp_model.specs.Sound.{IsSound};
 ghost use Rattle.qp_port_cursor.specs.At.{IsCursorAt};
-ghost use Rattle.qp_port_cursor.specs.Turning.{DoesNext, SourceTurns};
+ghost use Rattle.qp_port_cursor.specs.Turning.{DoesNext, IsSameSource, SourceTurns};
 
 use crate::cursor::Cursor;
-use qp_base::{Gate, Steps};
+use qp_base::Steps;
 use qp_calls::Ops;
 use qp_calls_stimulus::{Stimulated, stimulus};
 use qp_dispatch::Turn;
 use qp_model::{Stim, System};
+use qp_tells::Tells;
 use std::marker::Brand;
 use std::sync::ledger::{Blank, Ledger};
 
 /// Does the next stimulus; where the turn ends, how.
-fn do_next<O: Ops, G: Gate, L: Ledger>(
+fn do_next<O: Ops, G: Tells, L: Ledger>(
     ops: &mut O,
     sys: &System,
     source: &mut Cursor<'_>,
@@ -24,7 +25,8 @@ fn do_next<O: Ops, G: Gate, L: Ledger>(
 ) -> Option<Turn>
     requires sound { IsSound sys.now }
     requires knows { IsCursorAt sys.now source.old (O.lane ops.old) }
-    ensures { DoesNext sys.now source.old source.new (O.lane ops.old) (O.lane ops.new) result }
+    ensures does { DoesNext sys.now source.old source.new (O.lane ops.old) (O.lane ops.new) result }
+    ensures same { IsSameSource source.old source.new }
 {
     if source.settling {
         return Some(Turn::Idle);
@@ -54,7 +56,7 @@ fn do_next<O: Ops, G: Gate, L: Ledger>(
 }
 
 /// Does the stimuli, and counts tries in a ledger of its own.
-fn turn_in<O: Ops, G: Gate, L: Ledger>(
+fn turn_in<O: Ops, G: Tells, L: Ledger>(
     ops: &mut O,
     sys: &System,
     source: &mut Cursor<'_>,
@@ -66,7 +68,8 @@ fn turn_in<O: Ops, G: Gate, L: Ledger>(
     requires some { 0 < blank.parts }
     requires sound { IsSound sys.now }
     requires knows { IsCursorAt sys.now source.old (O.lane ops.old) }
-    ensures { SourceTurns sys.now source.old source.new (O.lane ops.old) (O.lane ops.new) result }
+    ensures turns { SourceTurns sys.now source.old source.new (O.lane ops.old) (O.lane ops.new) result }
+    ensures same { IsSameSource source.old source.new }
 {
     let mut steps = Steps::<L>::open(blank);
     let first = source.begun as usize;
@@ -83,7 +86,7 @@ fn turn_in<O: Ops, G: Gate, L: Ledger>(
 
 /// The turn of a source: its stimuli from the cursor on, up to the next `settle`. `Idle` where the next is a `settle` or none is
 /// left. It calls the gate behind each `stim`.
-pub fn source_turn<O: Ops, G: Gate>(
+pub fn source_turn<O: Ops, G: Tells>(
     ops: &mut O,
     sys: &System,
     source: &mut Cursor<'_>,
@@ -91,7 +94,8 @@ pub fn source_turn<O: Ops, G: Gate>(
 ) -> Turn
     requires sound { IsSound sys.now }
     requires knows { IsCursorAt sys.now source.old (O.lane ops.old) }
-    ensures { SourceTurns sys.now source.old source.new (O.lane ops.old) (O.lane ops.new) result }
+    ensures turns { SourceTurns sys.now source.old source.new (O.lane ops.old) (O.lane ops.new) result }
+    ensures same { IsSameSource source.old source.new }
 {
     turn_in::<O, G, Brand>(ops, sys, source, gate, Blank::new(1))
 }

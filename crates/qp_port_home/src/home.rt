@@ -52,6 +52,13 @@ impl Home {
         self.object.start(ops, sys, &mut self.ceiling)
     }
 
+    /// Its priority.
+    pub fn priority(&self) -> u8
+        ensures { result ≡ self.now.me }
+    {
+        self.me
+    }
+
     /// The object.
     pub fn object(&self) -> &Object
         ensures { result.now ≡ self.now.object }

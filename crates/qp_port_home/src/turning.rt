@@ -7,11 +7,11 @@ ghost use Rattle.qp_port_home.specs.At.{IsBusyHome, IsHome};
 ghost use Rattle.qp_port_home.specs.Turning.{HomeTurns, LooksTo, NextTo, StepsTo};
 
 use crate::home::Home;
-use qp_base::Gate;
 use qp_calls::{Ops, Take};
 use qp_dispatch::{Step, Turn};
 use qp_kernel_turns::{Halt, ready};
 use qp_model::{Rec, System};
+use qp_tells::Tells;
 use std::sync::Wait;
 
 /// The object has taken its budget: its queue is looked at in the place of a take. It stands empty, or ends the lane.
@@ -42,7 +42,7 @@ fn look_only<O: Ops>(ops: &mut O, sys: &System, home: &mut Home, budget: u32) ->
 }
 
 /// Takes the next entry, and begins its step. False where the queue is empty.
-fn next<R: Wait, O: Ops, G: Gate>(
+fn next<R: Wait, O: Ops, G: Tells>(
     rt: &R,
     ops: &mut O,
     sys: &System,
@@ -67,7 +67,7 @@ fn next<R: Wait, O: Ops, G: Gate>(
         Take::Taken(e) => {
             home.object.begin(e);
             home.busy = true;
-            gate.at(lane, u64::from(home.object.taken()));
+            gate.tells(lane, u64::from(home.object.taken()));
             Ok(true)
         }
         Take::Empty { .. } => Ok(false),
@@ -108,7 +108,7 @@ fn finish<R: Wait, O: Ops>(
 }
 
 /// Goes on until the queue is found empty.
-fn rounds<R: Wait, O: Ops, G: Gate>(
+fn rounds<R: Wait, O: Ops, G: Tells>(
     rt: &R,
     ops: &mut O,
     sys: &System,
@@ -136,7 +136,7 @@ fn rounds<R: Wait, O: Ops, G: Gate>(
 /// The turn of an object: it takes entries and dispatches each to its end, until its queue is found empty. An object takes up at
 /// most `budget` entries in the run. Where a step begins, the gate is called with the lane's number and the count of entries that
 /// the object has taken up.
-pub fn object_turn<R: Wait, O: Ops, G: Gate>(
+pub fn object_turn<R: Wait, O: Ops, G: Tells>(
     rt: &R,
     ops: &mut O,
     sys: &System,

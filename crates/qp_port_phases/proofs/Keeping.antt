@@ -6,18 +6,20 @@ use Rattle.std.specs.List.{AllByRecursion}
 use Rattle.qp_model.specs.WordLaw.{is_object}
 use Rattle.qp_model.specs.declared.words.Word.TheVariants as word
 use Rattle.qp_calls.specs.LaneView.{LaneView}
-use Rattle.qp_port_phases.specs.Lanes.{AreObjects, AreOneTable, AreTogether, IsTogether, KeepEach, SameEach}
+use Rattle.qp_calls_meet.specs.Meeting.{IsTogether}
+use Rattle.qp_port_phases.specs.Lanes.{AreObjects, AreOneTable, AreTogether, KeepEach, SameEach}
+use Rattle.qp_port_phases.specs.Rows.{Numbers}
 use Rattle.qp_port_phases.specs.Quiet.{AllBelow, HasFound}
 use Rattle.qp_port_workers.specs.Turns.{AreReady, TurnEach}
 
-module _ {T : Type 0} (Ready : T → Type 0) (Same : T → T → Type 0) (waits remains : T → Bool) where
-  pub keep-ready : (xs ys : List T) → KeepEach Ready Same waits remains xs ys → AreReady Ready ys
+module _ {T : Type 0} (Ready : T → Type 0) (Same : T → T → Type 0) (waits remains : T → Bool) (numbers : T → Numbers) where
+  pub keep-ready : (xs ys : List T) → KeepEach Ready Same waits remains numbers xs ys → AreReady Ready ys
   keep-ready [] [] h = tt
   keep-ready (x ∷ xs) (y ∷ ys) h = (h.0.ready, keep-ready xs ys h.1)
   keep-ready [] (y ∷ ys) h = absurd h
   keep-ready (x ∷ xs) [] h = absurd h
 
-  pub keep-same : (xs ys : List T) → KeepEach Ready Same waits remains xs ys → SameEach Same xs ys
+  pub keep-same : (xs ys : List T) → KeepEach Ready Same waits remains numbers xs ys → SameEach Same xs ys
   keep-same [] [] h = tt
   keep-same (x ∷ xs) (y ∷ ys) h = (h.0.same, keep-same xs ys h.1)
   keep-same [] (y ∷ ys) h = absurd h

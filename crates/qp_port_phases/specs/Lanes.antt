@@ -1,14 +1,10 @@
 -- What meetings and looks leave of a lane, and rows of lanes.
-use Rattle.std.specs.Prelude.{◌≡◌, ℕ, ◌≤◌, Bool, List, [], ◌∷◌, ⊤, IsTrue}
+use Rattle.std.specs.Prelude.{◌≡◌, ℕ, Bool, List, [], ◌∷◌, ⊤, IsTrue}
 use Rattle.std.specs.List.{AllByRecursion}
 use Rattle.qp_model.specs.WordLaw.{is_object}
-use Rattle.qp_model.specs.declared.words.Word.TheVariants as word
 use Rattle.qp_calls.specs.LaneView.{LaneView}
-
--- of the same table, and of the same system
-pub record IsTogether (v w : LaneView) : Type 0 where
-  pub world : w.world ≡ v.world
-  pub sys : w.sys ≡ v.sys
+use Rattle.qp_calls_meet.specs.Meeting.{IsTogether}
+use Rattle.qp_port_phases.specs.Rows.{Numbers}
 
 -- each lane of a row is of the table of the first, and these are objects of its system
 abbrev pub AreTogether : {T : Type 0} → (T → LaneView) → LaneView → List T → Type 0
@@ -22,25 +18,19 @@ abbrev pub AreOneTable : {T : Type 0} → (T → LaneView) → List ℕ → List
 AreOneTable view objects [] = ⊤
 AreOneTable view objects (first ∷ others) = AreTogether view (view first) others × AreObjects (view first) objects
 
--- a lane met another: it knows of as many operations of each queue, and of what the one of the two saw that has seen more
-pub record Met (old other new : LaneView) : Type 0 where
-  pub rise : (p : ℕ) → old.mark (word.Queue p) ≤ new.mark (word.Queue p)
-  pub most : (p : ℕ) → other.mark (word.Queue p) ≤ new.mark (word.Queue p)
-  pub own : (p : ℕ) → new.mark (word.Queue p) ≡ old.mark (word.Queue p) → new.shown (word.Queue p) ≡ old.shown (word.Queue p)
-  pub its : (p : ℕ) → new.mark (word.Queue p) ≡ other.mark (word.Queue p) → new.shown (word.Queue p) ≡ other.shown (word.Queue p)
-
 -- the same worker, which may still take a turn, and stands where it stood
-pub record Kept {T : Type 0} (Ready : T → Type 0) (Same : T → T → Type 0) (waits remains : T → Bool) (a b : T) : Type 0 where
+pub record Kept {T : Type 0} (Ready : T → Type 0) (Same : T → T → Type 0) (waits remains : T → Bool) (numbers : T → Numbers) (a b : T) : Type 0 where
   pub ready : Ready b
   pub same : Same a b
   pub waits_still : waits b ≡ waits a
   pub remains_still : remains b ≡ remains a
+  pub numbers_still : numbers b ≡ numbers a
 
-abbrev pub KeepEach : {T : Type 0} → (T → Type 0) → (T → T → Type 0) → (T → Bool) → (T → Bool) → List T → List T → Type 0
-KeepEach Ready Same waits remains [] [] = ⊤
-KeepEach Ready Same waits remains (x ∷ xs) (y ∷ ys) = Kept Ready Same waits remains x y × KeepEach Ready Same waits remains xs ys
-KeepEach Ready Same waits remains [] (y ∷ ys) = ⊥
-KeepEach Ready Same waits remains (x ∷ xs) [] = ⊥
+abbrev pub KeepEach : {T : Type 0} → (T → Type 0) → (T → T → Type 0) → (T → Bool) → (T → Bool) → (T → Numbers) → List T → List T → Type 0
+KeepEach Ready Same waits remains numbers [] [] = ⊤
+KeepEach Ready Same waits remains numbers (x ∷ xs) (y ∷ ys) = Kept Ready Same waits remains numbers x y × KeepEach Ready Same waits remains numbers xs ys
+KeepEach Ready Same waits remains numbers [] (y ∷ ys) = ⊥
+KeepEach Ready Same waits remains numbers (x ∷ xs) [] = ⊥
 
 abbrev pub SameEach : {T : Type 0} → (T → T → Type 0) → List T → List T → Type 0
 SameEach Same [] [] = ⊤

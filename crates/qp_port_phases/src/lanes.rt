@@ -4,7 +4,9 @@ ghost use Rattle.std.specs.Prelude.{ℕ, ◌≡◌, Bool, IsTrue, true};
 ghost use Rattle.qp_model.specs.WordLaw.{is_object};
 ghost use Rattle.qp_calls.specs.LaneView.{LaneView};
 ghost use Rattle.qp_calls.specs.Clauses.{Counted, Stopped};
-ghost use Rattle.qp_port_phases.specs.Lanes.{IsTogether, Kept, Met};
+ghost use Rattle.qp_calls_meet.specs.Meeting.{IsTogether, Met};
+ghost use Rattle.qp_port_phases.specs.Lanes.{Kept};
+ghost use Rattle.qp_port_phases.specs.Rows.{CountsOn, Numbers, PassCounts};
 
 use qp_calls::Counts;
 use qp_port_workers::Worker;
@@ -35,6 +37,9 @@ pub trait Lane: Worker {
     /// Whether it has a stimulus left.
     ghost remains: { Self → Bool };
 
+    /// Its rows of looks without a step, the `settle`s that it has passed, and whether memory was refused to it.
+    ghost numbers: { Self → Numbers };
+
     /// The same lane, of the same object or source.
     ghost same: { Self → Self → Type 0 };
 
@@ -45,8 +50,8 @@ pub trait Lane: Worker {
         requires table { IsTogether (view self.old) (view other.old) }
         ensures meets { Met (view self.old) (view other.old) (view self.new) }
         ensures other { view other.new ≡ view other.old }
-        ensures kept { Kept Self.ready same waits remains self.old self.new }
-        ensures other_kept { Kept Self.ready same waits remains other.old other.new };
+        ensures kept { Kept Self.ready same waits remains numbers self.old self.new }
+        ensures other_kept { Kept Self.ready same waits remains numbers other.old other.new };
 
     /// Whether it stands at a `settle`.
     fn at_settle(&self) -> bool
@@ -61,20 +66,21 @@ pub trait Lane: Worker {
         requires ready { Self.ready self.old }
         requires waits { waits self.old ≡ true }
         ensures ready { Self.ready self.new }
-        ensures same { same self.old self.new };
+        ensures same { same self.old self.new }
+        ensures numbers { PassCounts (numbers self.old) (numbers self.new) result };
 
     /// Looks at a queue, and adds nothing.
     fn counts(&mut self, p: u8) -> Counts
         requires ready { Self.ready self.old }
         requires object { IsTrue (is_object (view self.old).sys p) }
         ensures counted { Counted p (view self.old) (view self.new) result }
-        ensures kept { Kept Self.ready same waits remains self.old self.new };
+        ensures kept { Kept Self.ready same waits remains numbers self.old self.new };
 
     /// The code in the stop word. None exactly where it is 0.
     fn stopped(&mut self) -> Option<u8>
         requires ready { Self.ready self.old }
         ensures stopped { Stopped (view self.old) (view self.new) result }
-        ensures kept { Kept Self.ready same waits remains self.old self.new };
+        ensures kept { Kept Self.ready same waits remains numbers self.old self.new };
 
     ghost same_itself: { (a : Self) → same a a };
 
@@ -85,4 +91,7 @@ pub trait Lane: Worker {
 
     /// A turn leaves a lane that may take another, and the same.
     ghost went: { (a b : Self) → Self.Worker.turned a b → Self.Worker.ready b × same a b };
+
+    /// It comes to the end of one row of looks without a step at most, and of none where the lane has just seen an entry.
+    ghost went_on: { (a b : Self) → Self.Worker.turned a b → CountsOn (view a) (numbers a) (numbers b) };
 }

@@ -1,15 +1,18 @@
 //! The phases of a run.
 
-ghost use Rattle.std.specs.Prelude.{ℕ, ◌≡◌, ◌<◌, ◌≤◌, IsTrue, length, true, false, Some};
+ghost use Rattle.std.specs.Prelude.{ℕ, ◌≡◌, ◌<◌, ◌≤◌, ◌∷◌, ◌||◌, IsTrue, length, not, true, false, Some};
 ghost use Rattle.qp_model.specs.WordLaw.{is_object};
 ghost use Rattle.std.specs.List.{list_any};
 ghost use Rattle.qp_port_phases.specs.declared.phases.Ended.TheVariants as ended;
+ghost use Rattle.qp_port_phases.specs.declared.phases.Next.TheVariants as next;
 ghost use Rattle.qp_model.specs.declared.words.Word.TheVariants as word;
-ghost use Rattle.qp_port_phases.specs.Lanes.{AreObjects, AreOneTable, AreTogether, IsTogether, KeepEach, Kept, SameEach};
+ghost use Rattle.qp_calls_meet.specs.Meeting.{IsTogether};
+ghost use Rattle.qp_port_phases.specs.Lanes.{AreObjects, AreOneTable, AreTogether, KeepEach, Kept, SameEach};
 ghost use Rattle.qp_port_phases.specs.Quiet.{AllBelow, AreEmpty, FirstFound, HasEnded, HasFound, IsEmpty, IsQuiet};
+ghost use Rattle.qp_port_phases.specs.Rows.{CountsBy, HasCause, HasFewRows, SeesEntry, TriesCount, one_where};
 ghost use Rattle.qp_port_workers.specs.Turns.{AreReady};
 
-use crate::lanes::Lane;
+use crate::lanes::{Lane, Passed};
 use qp_port_workers::run_lanes;
 use std::sync::Wait;
 use std::thread::Threads;
@@ -25,14 +28,24 @@ pub enum Ended {
     Memory,
 }
 
+/// What comes next between two phases.
+enum Next {
+    /// The run is over.
+    Over(Ended),
+    /// A phase.
+    Phase,
+    /// There is no cause for one: the lanes are looked at again.
+    Again,
+}
+
 /// The first lane meets all others.
 fn meet_all<T: Lane>(first: &mut T, others: &mut [T])
     requires first_ready { T.ready first.old }
     requires others_ready { AreReady T.ready others.old }
     requires together { AreTogether T.view (T.view first.old) others.old }
-    ensures first { Kept T.ready T.same T.waits T.remains first.old first.new }
+    ensures first { Kept T.ready T.same T.waits T.remains T.numbers first.old first.new }
     ensures rises { (w : ℕ) → (T.view first.old).mark (word.Queue w) ≤ (T.view first.new).mark (word.Queue w) }
-    ensures others { KeepEach T.ready T.same T.waits T.remains others.old others.new }
+    ensures others { KeepEach T.ready T.same T.waits T.remains T.numbers others.old others.new }
     ensures met { AllBelow T.view (T.view first.new) others.new }
 {
     let Some((one, rest)) = others.split_first_mut() else {
@@ -46,22 +59,24 @@ fn meet_all<T: Lane>(first: &mut T, others: &mut [T])
 fn is_empty<T: Lane>(lane: &mut T, p: u8) -> bool
     requires ready { T.ready lane.old }
     requires object { IsTrue (is_object (T.view lane.old).sys p) }
-    ensures kept { Kept T.ready T.same T.waits T.remains lane.old lane.new }
+    ensures kept { Kept T.ready T.same T.waits T.remains T.numbers lane.old lane.new }
     ensures rises { (w : ℕ) → (T.view lane.old).mark (word.Queue w) ≤ (T.view lane.new).mark (word.Queue w) }
     ensures empty { result ≡ true → IsEmpty (T.view lane.new) p }
+    ensures entry { result ≡ false → SeesEntry (T.view lane.new) p }
     ensures others { result ≡ true → (q : ℕ) → IsEmpty (T.view lane.old) q → IsEmpty (T.view lane.new) q }
 {
     let c = lane.counts(p);
     u64::from(c.f) + u64::from(c.l) == u64::from(c.m)
 }
 
-/// Whether all these queues are seen empty by the lane; others that were stay so.
+/// Whether all these queues are seen empty by the lane; others that were stay so. It ends at the first that isn't.
 fn are_empty<T: Lane>(lane: &mut T, objects: &[u8]) -> bool
     requires ready { T.ready lane.old }
     requires objects { AreObjects (T.view lane.old) objects.now }
-    ensures kept { Kept T.ready T.same T.waits T.remains lane.old lane.new }
+    ensures kept { Kept T.ready T.same T.waits T.remains T.numbers lane.old lane.new }
     ensures rises { (w : ℕ) → (T.view lane.old).mark (word.Queue w) ≤ (T.view lane.new).mark (word.Queue w) }
     ensures empty { result ≡ true → AreEmpty objects.now (T.view lane.new) }
+    ensures entry { result ≡ false → (p : ℕ) × IsTrue (is_object (T.view lane.new).sys p) × SeesEntry (T.view lane.new) p }
     ensures others { result ≡ true → (q : ℕ) → IsEmpty (T.view lane.old) q → IsEmpty (T.view lane.new) q }
 {
     let Some((one, rest)) = objects.split_first() else {
@@ -77,34 +92,56 @@ fn any_left<T: Lane>(lanes: &[T]) -> bool
     lanes.iter().any(|lane| lane.left())
 }
 
-/// Each lane that stands at a `settle` sees what the first has seen, and then passes it, or tries to.
-fn pass_all<T: Lane>(first: &mut T, others: &mut [T])
+/// Whether one of the two holds.
+fn is_either(one: bool, other: bool) -> bool
+    ensures { result ≡ (one || other) }
+{
+    one || other
+}
+
+/// Whether there is cause for a phase: a `settle` was passed, no phase has begun, or a queue has an entry.
+fn is_caused(passed: bool, begun: bool, empty: bool) -> bool
+    ensures { result ≡ (passed || not begun || not empty) }
+{
+    passed || !begun || !empty
+}
+
+/// Each lane that stands at a `settle` sees what the first has seen, and then passes it, or tries to. The answer tells
+/// whether one passed it.
+fn pass_all<T: Lane>(first: &mut T, others: &mut [T]) -> bool
     requires first_ready { T.ready first.old }
     requires others_ready { AreReady T.ready others.old }
     requires together { AreTogether T.view (T.view first.old) others.old }
-    ensures first { Kept T.ready T.same T.waits T.remains first.old first.new }
+    ensures first { Kept T.ready T.same T.waits T.remains T.numbers first.old first.new }
     ensures ready { AreReady T.ready others.new }
     ensures others { SameEach T.same others.old others.new }
+    ensures settles { TriesCount T.numbers result others.old others.new }
 {
     let Some((one, rest)) = others.split_first_mut() else {
-        return;
+        return false;
     };
-    pass_one(first, one);
-    pass_all(first, rest);
+    let passed = pass_one(first, one);
+    let more = pass_all(first, rest);
+    is_either(passed, more)
 }
 
 /// The same for one lane.
-fn pass_one<T: Lane>(first: &mut T, lane: &mut T)
+fn pass_one<T: Lane>(first: &mut T, lane: &mut T) -> bool
     requires first_ready { T.ready first.old }
     requires ready { T.ready lane.old }
     requires together { IsTogether (T.view first.old) (T.view lane.old) }
-    ensures first { Kept T.ready T.same T.waits T.remains first.old first.new }
+    ensures first { Kept T.ready T.same T.waits T.remains T.numbers first.old first.new }
     ensures ready { T.ready lane.new }
     ensures same { T.same lane.old lane.new }
+    ensures settles { CountsBy (one_where result) (T.numbers lane.old) (T.numbers lane.new) }
 {
-    if lane.at_settle() {
-        lane.meet(first);
-        let _ = lane.pass_settle();
+    if !lane.at_settle() {
+        return false;
+    }
+    lane.meet(first);
+    match lane.pass_settle() {
+        Passed::Yes => true,
+        _ => false,
     }
 }
 
@@ -114,8 +151,8 @@ fn look<T: Lane>(first: &mut T, others: &mut [T], objects: &[u8]) -> Option<Ende
     requires others_ready { AreReady T.ready others.old }
     requires together { AreTogether T.view (T.view first.old) others.old }
     requires objects { AreObjects (T.view first.old) objects.now }
-    ensures first { Kept T.ready T.same T.waits T.remains first.old first.new }
-    ensures others { KeepEach T.ready T.same T.waits T.remains others.old others.new }
+    ensures first { Kept T.ready T.same T.waits T.remains T.numbers first.old first.new }
+    ensures others { KeepEach T.ready T.same T.waits T.remains T.numbers others.old others.new }
     ensures idle { result ≡ Some ended.Idle → IsQuiet T.view T.remains objects.now first.new others.new }
     ensures stopped { result ≡ Some ended.Stopped → HasFound false (T.view first.new) }
     ensures memory { result ≡ Some ended.Memory → HasFound true (T.view first.new) }
@@ -133,7 +170,8 @@ fn look<T: Lane>(first: &mut T, others: &mut [T], objects: &[u8]) -> Option<Ende
 }
 
 /// Runs the phases: between them the first lane meets all others and looks at the queues, and each lane at a `settle` passes
-/// it or tries to; in them all lanes take a turn, beside one another.
+/// it or tries to; in them all lanes take a turn, beside one another. But for the first, a phase has a cause: a `settle` was
+/// passed, or the first lane sees an entry.
 pub fn run_phases<R: Threads + Wait + Sync, T: Lane>(
     rt: &R,
     objects: &[u8],
@@ -141,39 +179,73 @@ pub fn run_phases<R: Threads + Wait + Sync, T: Lane>(
 ) -> Ended
     requires ready { AreReady T.ready workers.old }
     requires table { AreOneTable T.view objects.now workers.old }
+    requires begins { HasFewRows T.numbers 0 workers.old }
     ensures ready { AreReady T.ready workers.new }
     ensures same { SameEach T.same workers.old workers.new }
+    ensures rows { HasFewRows T.numbers 1 workers.new }
     ensures idle { result ≡ ended.Idle → HasEnded T.view T.remains objects.now workers.new }
     ensures stopped { result ≡ ended.Stopped → FirstFound T.view false workers.new }
     ensures memory { result ≡ ended.Memory → FirstFound T.view true workers.new }
 {
+    let mut begun = false;
     for _ in rt.forever() {
-        if let Some(how) = between(objects, workers) {
-            return how;
+        match between(objects, workers, begun) {
+            Next::Over(how) => return how,
+            Next::Phase => {
+                run_lanes(rt, workers);
+                begun = true;
+            }
+            Next::Again => {}
         }
-        run_lanes(rt, workers);
     }
     unreachable!()
 }
 
-/// Between two phases: whether the run has ended, and how.
-fn between<T: Lane>(objects: &[u8], workers: &mut [T]) -> Option<Ended>
+/// Lanes at a `settle` pass it or try to, and the first meets all and looks once more. The answer tells whether there is cause
+/// for a phase.
+fn prepare<T: Lane>(first: &mut T, others: &mut [T], objects: &[u8], begun: bool) -> bool
+    requires first_ready { T.ready first.old }
+    requires others_ready { AreReady T.ready others.old }
+    requires together { AreTogether T.view (T.view first.old) others.old }
+    requires objects { AreObjects (T.view first.old) objects.now }
+    requires few { HasFewRows T.numbers (one_where begun) (first.old ∷ others.old) }
+    ensures first { Kept T.ready T.same T.waits T.remains T.numbers first.old first.new }
+    ensures ready { AreReady T.ready others.new }
+    ensures others { SameEach T.same others.old others.new }
+    ensures few { HasFewRows T.numbers (one_where begun) (first.new ∷ others.new) }
+    ensures cause { result ≡ true → HasCause T.numbers T.view objects.now (first.new ∷ others.new) }
+{
+    let passed = pass_all(first, others);
+    meet_all(first, others);
+    let empty = are_empty(first, objects);
+    is_caused(passed, begun, empty)
+}
+
+/// Between two phases: whether the run has ended, and how, or whether there is cause for a phase. `begun` tells that there
+/// has been one.
+fn between<T: Lane>(objects: &[u8], workers: &mut [T], begun: bool) -> Next
     requires ready { AreReady T.ready workers.old }
     requires table { AreOneTable T.view objects.now workers.old }
+    requires few { HasFewRows T.numbers (one_where begun) workers.old }
     ensures ready { AreReady T.ready workers.new }
     ensures same { SameEach T.same workers.old workers.new }
-    ensures idle { result ≡ Some ended.Idle → HasEnded T.view T.remains objects.now workers.new }
-    ensures stopped { result ≡ Some ended.Stopped → FirstFound T.view false workers.new }
-    ensures memory { result ≡ Some ended.Memory → FirstFound T.view true workers.new }
+    ensures few { HasFewRows T.numbers (one_where begun) workers.new }
+    ensures cause { result ≡ next.Phase → HasCause T.numbers T.view objects.now workers.new }
+    ensures idle { result ≡ next.Over ended.Idle → HasEnded T.view T.remains objects.now workers.new }
+    ensures stopped { result ≡ next.Over ended.Stopped → FirstFound T.view false workers.new }
+    ensures memory { result ≡ next.Over ended.Memory → FirstFound T.view true workers.new }
 {
     let Some((first, others)) = workers.split_first_mut() else {
-        return None;
+        return Next::Again;
     };
     match look(first, others, objects) {
+        Some(how) => Next::Over(how),
         None => {
-            pass_all(first, others);
-            None
+            if prepare(first, others, objects, begun) {
+                Next::Phase
+            } else {
+                Next::Again
+            }
         }
-        how => how,
     }
 }

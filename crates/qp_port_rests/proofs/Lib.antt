@@ -1,1 +1,2 @@
+pub mod Based
 pub mod Turned

@@ -2,7 +2,7 @@
 
 ghost use Rattle.qp_port_rests.specs.Laws.{TurnedKernelsEnd, TurnedKernelsRest};
 
-/// Where a turn has come to its end, and the kernel's lane was the last to look at every queue and saw it empty, nothing
+/// Where starts and turns have come to the base, and the kernel's lane was the last to look at every queue and saw it empty, nothing
 /// is left undone in its lane.
 pub fn turned_kernels_rest()
     ensures { TurnedKernelsRest }

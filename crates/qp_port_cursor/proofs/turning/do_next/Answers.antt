@@ -8,8 +8,8 @@ use Rattle.qp_port_cursor.specs.At.{mine}
 use Rattle.qp_port_cursor.proofs.Turned.{any-default, few-begun, finds-stop, goes-on, never, stops-here, unspilled}
 use Rattle.qp_port_cursor.proofs.turning.do_next.Goals as goal
 
-pub returns-in-Some : goal.returns-in-Some
-returns-in-Some g c =
+pub returns-in-Some-clause-does : goal.returns-in-Some-clause-does
+returns-in-Some-clause-does g c =
     let x = c.args.source.now in
     let knows = c.requires.knows in
     let xs = c.index-mine.result.now in
@@ -28,11 +28,11 @@ overflow_add-place g c =
     record { fits = omega (arith, few) }
 
 pub stimulus-answer-requires-clause-spills : goal.stimulus-answer-requires-clause-spills
-stimulus-answer-requires-clause-spills g c κs within =
+stimulus-answer-requires-clause-spills g c =
     ap (λ (u : LaneView). spills_in u.told) c.in_default-stopped.ensures.0 ∙ unspilled c.args.sys.now c.args.source.now _ c.requires.knows c.if-source.false
 
-pub returns-in-Done : goal.returns-in-Done
-returns-in-Done g c =
+pub returns-in-Done-clause-does : goal.returns-in-Done-clause-does
+returns-in-Done-clause-does g c =
     let lane = g.O.Ops.lane in
     let x = c.args.source.now in
     let knows = c.requires.knows in
@@ -47,8 +47,8 @@ returns-in-Done g c =
     goes-on c.args.sys.now x _ knows c.if-source.false s lt is (x.begun + 1) refl _
     (subst (λ (u : LaneView). Stimulates c.args.sys.now s (x.begun + 1) 0 u (lane c.stimulus-answer.new.ops) stimulated.Done) c.in_default-stopped.ensures.0 c.in-Done.ensures.stimulates)
 
-pub returns-in-Tried : goal.returns-in-Tried
-returns-in-Tried g c =
+pub returns-in-Tried-clause-does : goal.returns-in-Tried-clause-does
+returns-in-Tried-clause-does g c =
     let lane = g.O.Ops.lane in
     let x = c.args.source.now in
     let knows = c.requires.knows in
@@ -63,8 +63,8 @@ returns-in-Tried g c =
     absurd (never c.args.sys.now x _ knows c.if-source.false s lt is (x.begun + 1) refl _ c.in_default.not-Settle
     (subst (λ (u : LaneView). Stimulates c.args.sys.now s (x.begun + 1) 0 u (lane c.stimulus-answer.new.ops) stimulated.Tried) c.in_default-stopped.ensures.0 c.in-Tried.ensures.stimulates))
 
-pub returns-in-Stopped : goal.returns-in-Stopped
-returns-in-Stopped g c =
+pub returns-in-Stopped-clause-does : goal.returns-in-Stopped-clause-does
+returns-in-Stopped-clause-does g c =
     let lane = g.O.Ops.lane in
     let x = c.args.source.now in
     let knows = c.requires.knows in

@@ -7,17 +7,17 @@ use Rattle.qp_port_cursor.proofs.turning.turn_in.Goals as goal
 pub loop-k-init : goal.loop-k-init
 loop-k-init g c = record { goes = goes-none c.args.sys.now c.args.source.now _ c.requires.knows; at = refl }
 
-pub returns-in-Some : goal.returns-in-Some
-returns-in-Some g c = turns-then c.args.sys.now c.args.source.now c.loop-k.source c.do_next.new.source _ (g.O.Ops.lane c.loop-k.ops) _ c.in-Some.turn c.loop-k.invariant.goes c.in-Some.ensures
+pub returns-in-Some-clause-turns : goal.returns-in-Some-clause-turns
+returns-in-Some-clause-turns g c = turns-then c.args.sys.now c.args.source.now c.loop-k.source c.do_next.new.source _ (g.O.Ops.lane c.loop-k.ops) _ c.in-Some.turn c.loop-k.invariant.goes c.in-Some.ensures.does
 
 pub loop-k-preserved : goal.loop-k-preserved
 loop-k-preserved g c = record {
-  goes = goes-then c.args.sys.now c.args.source.now c.loop-k.source c.do_next.new.source _ (g.O.Ops.lane c.loop-k.ops) _ c.loop-k.invariant.goes c.in_default.ensures.goes;
-  at = c.in_default.ensures.one ∙ ap (λ (n : ℕ). n + 1) c.loop-k.invariant.at;
+  goes = goes-then c.args.sys.now c.args.source.now c.loop-k.source c.do_next.new.source _ (g.O.Ops.lane c.loop-k.ops) _ c.loop-k.invariant.goes c.in_default.ensures.does.goes;
+  at = c.in_default.ensures.does.one ∙ ap (λ (n : ℕ). n + 1) c.loop-k.invariant.at;
 }
 
-pub returns : goal.returns
-returns g c =
+pub returns-clause-turns : goal.returns-clause-turns
+returns-clause-turns g c =
     let x = c.args.source.now in
     let knows = c.requires.knows in
     let xs = c.index-mine.result.now in

@@ -1,37 +1,68 @@
-use Rattle.qp_port_phases.proofs.Keeping.{keep-ready, keep-same, same-then, together-first, together-others}
+use Rattle.qp_port_phases.proofs.Counting.{keep-few}
+use Rattle.qp_port_phases.proofs.Keeping.{keep-ready, keep-same, objects-still, same-then, together-first, together-others}
 use Rattle.qp_port_phases.proofs.phases.between.Goals as goal
 
-pub pass_all-requires-clause-others_ready : goal.pass_all-requires-clause-others_ready
-pass_all-requires-clause-others_ready g c κs within = keep-ready g.T.Worker.ready g.T.Lane.same g.T.Lane.waits g.T.Lane.remains _ _ c.look.ensures.others
+pub prepare-requires-clause-others_ready : goal.prepare-requires-clause-others_ready
+prepare-requires-clause-others_ready g c κs within = keep-ready g.T.Worker.ready g.T.Lane.same g.T.Lane.waits g.T.Lane.remains g.T.Lane.numbers _ _ c.look.ensures.others
 
-pub pass_all-requires-clause-together : goal.pass_all-requires-clause-together
-pass_all-requires-clause-together g c κs within =
+pub prepare-requires-clause-together : goal.prepare-requires-clause-together
+prepare-requires-clause-together g c κs within =
     let laws = (g.met.T.Lane g.world.𝓛 g.world.𝓜 g.world.𝓡 ((λ s x. x), (λ x. x), (λ x. x), λ x. x)) in
     let view = g.T.Lane.view in
     let parts = c.in-Some.ensures.cases in
     let all = rw parts.0 at c.requires.table in
-    let kept = keep-same g.T.Worker.ready g.T.Lane.same g.T.Lane.waits g.T.Lane.remains _ _ c.look.ensures.others in
+    let kept = keep-same g.T.Worker.ready g.T.Lane.same g.T.Lane.waits g.T.Lane.remains g.T.Lane.numbers _ _ c.look.ensures.others in
     together-first view (view c.in-Some.first.now) (view c.look.new.first) (laws.same_table _ _ c.look.ensures.first.same) c.look.new.others
     (together-others view g.T.Lane.same laws.same_table (view c.in-Some.first.now) _ _ kept all.0)
 
-pub returns-in-None-clause-same : goal.returns-in-None-clause-same
-returns-in-None-clause-same g c =
+pub prepare-requires-clause-objects : goal.prepare-requires-clause-objects
+prepare-requires-clause-objects g c κs within =
+    let laws = (g.met.T.Lane g.world.𝓛 g.world.𝓜 g.world.𝓡 ((λ s x. x), (λ x. x), (λ x. x), λ x. x)) in
+    let parts = c.in-Some.ensures.cases in
+    let all = rw parts.0 at c.requires.table in
+    objects-still (g.T.Lane.view c.in-Some.first.now) (g.T.Lane.view c.look.new.first) c.args.objects.now (laws.same_table _ _ c.look.ensures.first.same) all.1
+
+pub prepare-requires-clause-few : goal.prepare-requires-clause-few
+prepare-requires-clause-few g c κs within =
+    let parts = c.in-Some.ensures.cases in
+    let few = rw parts.0 at c.requires.few in
+    keep-few g.T.Lane.numbers g.T.Worker.ready g.T.Lane.same g.T.Lane.waits g.T.Lane.remains _ c.in-Some.first.now c.look.new.first c.in-Some.others.now c.look.new.others c.look.ensures.first.numbers_still c.look.ensures.others few
+
+pub returns-in-Some-look-clause-ready : goal.returns-in-Some-look-clause-ready
+returns-in-Some-look-clause-ready g c =
+    let kept = c.look.ensures in
+    (kept.first.ready, keep-ready g.T.Worker.ready g.T.Lane.same g.T.Lane.waits g.T.Lane.remains g.T.Lane.numbers _ _ kept.others)
+
+pub returns-in-Some-look-clause-same : goal.returns-in-Some-look-clause-same
+returns-in-Some-look-clause-same g c =
+    let parts = c.in-Some.ensures.cases in
+    let kept = c.look.ensures in
+    rw parts.0 (kept.first.same, keep-same g.T.Worker.ready g.T.Lane.same g.T.Lane.waits g.T.Lane.remains g.T.Lane.numbers _ _ kept.others)
+
+pub returns-in-Some-look-clause-few : goal.returns-in-Some-look-clause-few
+returns-in-Some-look-clause-few g c =
+    let parts = c.in-Some.ensures.cases in
+    let few = rw parts.0 at c.requires.few in
+    keep-few g.T.Lane.numbers g.T.Worker.ready g.T.Lane.same g.T.Lane.waits g.T.Lane.remains _ c.in-Some.first.now c.look.new.first c.in-Some.others.now c.look.new.others c.look.ensures.first.numbers_still c.look.ensures.others few
+
+pub returns-then-prepare-clause-same : goal.returns-then-prepare-clause-same
+returns-then-prepare-clause-same g c =
     let laws = (g.met.T.Lane g.world.𝓛 g.world.𝓜 g.world.𝓡 ((λ s x. x), (λ x. x), (λ x. x), λ x. x)) in
     let parts = c.in-Some.ensures.cases in
     let kept = c.look.ensures in
-    let passed = c.pass_all.ensures in
+    let went = c.prepare.ensures in
     rw parts.0 (
-      laws.same_still _ _ _ kept.first.same passed.first.same,
-      same-then g.T.Lane.same laws.same_still _ _ _ (keep-same g.T.Worker.ready g.T.Lane.same g.T.Lane.waits g.T.Lane.remains _ _ kept.others) passed.others,
+      laws.same_still _ _ _ kept.first.same went.first.same,
+      same-then g.T.Lane.same laws.same_still _ _ _ (keep-same g.T.Worker.ready g.T.Lane.same g.T.Lane.waits g.T.Lane.remains g.T.Lane.numbers _ _ kept.others) went.others,
     )
 
-pub returns-in_default-look-clause-ready : goal.returns-in_default-look-clause-ready
-returns-in_default-look-clause-ready g c =
-    let kept = c.look.ensures in
-    (kept.first.ready, keep-ready g.T.Worker.ready g.T.Lane.same g.T.Lane.waits g.T.Lane.remains _ _ kept.others)
-
-pub returns-in_default-look-clause-same : goal.returns-in_default-look-clause-same
-returns-in_default-look-clause-same g c =
+pub returns-else-prepare-clause-same : goal.returns-else-prepare-clause-same
+returns-else-prepare-clause-same g c =
+    let laws = (g.met.T.Lane g.world.𝓛 g.world.𝓜 g.world.𝓡 ((λ s x. x), (λ x. x), (λ x. x), λ x. x)) in
     let parts = c.in-Some.ensures.cases in
     let kept = c.look.ensures in
-    rw parts.0 (kept.first.same, keep-same g.T.Worker.ready g.T.Lane.same g.T.Lane.waits g.T.Lane.remains _ _ kept.others)
+    let went = c.prepare.ensures in
+    rw parts.0 (
+      laws.same_still _ _ _ kept.first.same went.first.same,
+      same-then g.T.Lane.same laws.same_still _ _ _ (keep-same g.T.Worker.ready g.T.Lane.same g.T.Lane.waits g.T.Lane.remains g.T.Lane.numbers _ _ kept.others) went.others,
+    )

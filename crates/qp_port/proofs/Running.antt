@@ -1,0 +1,106 @@
+-- From workers before their start to the lanes that their run leaves.
+use Rattle.std.proofs.Common.{◌≡◌, ℕ, ◌≤◌, Bool, true, false, List, [], ◌∷◌, map, refl, sym, ◌∙◌, ap, subst, Ok, Err}
+use Rattle.std.specs.List.{list_all, list_any, AllByRecursion}
+use Rattle.std.specs.declared.result.Result.{Result}
+use Rattle.std.specs.Result.{IfOk, OnOk}
+use Rattle.qp_model.specs.declared.stimulus.Stim.{Stim}
+use Rattle.qp_model.specs.declared.systems.System.{System}
+use Rattle.qp_model.specs.declared.systems.ObjectDef.{ObjectDef}
+use Rattle.qp_model.specs.Sound.{IsSound}
+use Rattle.qp_model.specs.Sources.{priorities}
+use Rattle.qp_model.specs.WordLaw.{is_object}
+use Rattle.qp_stim.specs.Rules.{StimuliFit}
+use Rattle.qp_calls.specs.LaneView.{LaneView}
+use Rattle.qp_dispatch.specs.declared.objects.Turn.{Turn}
+use Rattle.qp_kernel_end.specs.declared.rest.Rest.{Rest}
+use Rattle.qp_kernel_turns.specs.Knowing.{IsNamed}
+use Rattle.qp_kernel_turns.proofs.SoundObjects.{is-object, named}
+use Rattle.qp_port_workers.specs.Turns.{AreReady}
+use Rattle.qp_port_phases.specs.declared.phases.Ended.{Ended}
+use Rattle.qp_port_phases.specs.declared.phases.Ended.TheVariants as ended
+use Rattle.qp_port_phases.specs.Lanes.{AreObjects, AreOneTable, SameEach}
+use Rattle.qp_port_phases.specs.Quiet.{HasEnded}
+use Rattle.qp_port.specs.declared.job.Job.{Job}
+use Rattle.qp_port.specs.Ends.{HasRun}
+use Rattle.qp_port.specs.Jobs.{JobRests, JobStops, is_idle, is_left_in, is_short}
+use Rattle.qp_port.specs.Resting.{AreShown}
+use Rattle.qp_port.specs.Rows.{AreSameLanes, IsRow}
+use Rattle.qp_port.specs.Workers.{IsSameWorker, MayEnd, MayTurn}
+use Rattle.qp_port.proofs.Beginning.{AreReadyAll}
+use Rattle.qp_port.proofs.Ending.{has-run}
+use Rattle.qp_port.proofs.Rows.{ends-stop, lanes-still, ready-all, ready-both, ready-map, ready-none, ready-same, row-still, turns-rest}
+
+-- the objects of the system are those that lanes look at
+objects-from : (sys : System) → IsSound sys → (v : LaneView) → v.sys ≡ sys → (ds : List ObjectDef) → AllByRecursion (λ d. IsNamed sys d.priority) ds → AreObjects v (map (λ d. d.priority) ds)
+objects-from sys sound v of [] h = tt
+objects-from sys sound v of (d ∷ ds) h = (
+  subst (λ u. is_object u d.priority ≡ true) (sym of) (subst (λ p. is_object sys p ≡ true) h.0.is (is-object sys sound h.0.object h.0.found)),
+  objects-from sys sound v of ds h.1,
+)
+
+module _ (sys : System) (stimuli : List (List Stim)) (budget : ℕ) (sound : IsSound sys) (fit : StimuliFit sys stimuli) (few : budget ≤ 1000000)
+    {T : Type 0} (s : T → System) (b : T → ℕ) (t : T → Turn) (work : T → Job) (view : T → LaneView) (xs : List T) (all : AreReadyAll sys stimuli budget sound fit few s b t work view xs) where
+  pub one-table : (objects : List ℕ) → objects ≡ priorities sys → AreOneTable view objects xs
+  one-table objects are = rw all.are (all.together_are, subst (AreObjects (view all.first)) (sym are) (objects-from sys sound (view all.first) all.of sys.objects (named sys sound)))
+
+  abbrev Same : T → T → Type 0
+  Same x y = IsSameWorker (s x) (s y) (b x) (b y) (work x) (work y) (view x) (view y)
+
+  module _ (ys : List T) (same : SameEach Same xs ys) where
+    pub same-lanes : AreSameLanes (map view xs) (map view ys)
+    same-lanes = lanes-still view Same (λ x y h. h.lane) xs ys same
+
+    row : IsRow work sys.objects stimuli ys
+    row = row-still work Same (λ x y h. h.job) sys.objects stimuli xs ys same all.row
+
+    terms : AreReady (λ w. (s w ≡ sys) × (b w ≡ budget)) ys
+    terms = ready-same Same (λ w. (s w ≡ sys) × (b w ≡ budget)) (λ x y h k. (h.sys ∙ k.0, h.budget ∙ k.1)) xs ys same all.terms
+
+    stops : AreReady (λ w. MayEnd (s w) (b w) (t w) (work w) (view w)) ys → list_any (λ w. is_short (t w)) ys ≡ false → AreReady (λ w. JobStops sys budget (work w) (view w)) ys
+    stops ends long =
+        ready-map (λ w. (MayEnd (s w) (b w) (t w) (work w) (view w) × (is_short (t w) ≡ false)) × ((s w ≡ sys) × (b w ≡ budget))) (λ w. JobStops sys budget (work w) (view w))
+        (λ w h. subst (λ n. JobStops sys n (work w) (view w)) h.1.1 (subst (λ u. JobStops u (b w) (work w) (view w)) h.1.0 (ends-stop (s w) (b w) (t w) (work w) (view w) h.0.1 h.0.0)))
+        ys
+        (ready-both (λ w. MayEnd (s w) (b w) (t w) (work w) (view w) × (is_short (t w) ≡ false)) (λ w. (s w ≡ sys) × (b w ≡ budget)) ys
+        (ready-both (λ w. MayEnd (s w) (b w) (t w) (work w) (view w)) (λ w. is_short (t w) ≡ false) ys ends (ready-none (λ w. is_short (t w)) ys long)) terms)
+
+    rests-all : AreReady (λ w. MayTurn (s w) (b w) (t w) (work w) (view w)) ys → list_all (λ w. is_idle (t w)) ys ≡ true → AreReady (λ w. JobRests sys budget (work w) (view w)) ys
+    rests-all ready idle =
+        ready-map (λ w. (MayTurn (s w) (b w) (t w) (work w) (view w) × (is_idle (t w) ≡ true)) × ((s w ≡ sys) × (b w ≡ budget))) (λ w. JobRests sys budget (work w) (view w))
+        (λ w h. subst (λ n. JobRests sys n (work w) (view w)) h.1.1 (subst (λ u. JobRests u (b w) (work w) (view w)) h.1.0 (turns-rest (s w) (b w) (t w) (work w) (view w) h.0.1 h.0.0)))
+        ys
+        (ready-both (λ w. MayTurn (s w) (b w) (t w) (work w) (view w) × (is_idle (t w) ≡ true)) (λ w. (s w ≡ sys) × (b w ≡ budget)) ys
+        (ready-both (λ w. MayTurn (s w) (b w) (t w) (work w) (view w)) (λ w. is_idle (t w) ≡ true) ys ready (ready-all (λ w. is_idle (t w)) ys idle)) terms)
+
+    pub ran : (how : Ended) (done : Bool) (rests : List Rest) (objects : List ℕ) → objects ≡ priorities sys → AreReady (λ w. MayEnd (s w) (b w) (t w) (work w) (view w)) ys
+        → (how ≡ ended.Idle → AreReady (λ w. MayTurn (s w) (b w) (t w) (work w) (view w)) ys) → (how ≡ ended.Idle → HasEnded view (λ w. is_left_in (work w)) objects ys)
+        → AreShown work ys rests → list_any (λ w. is_short (t w)) ys ≡ false → (done ≡ true → (how ≡ ended.Idle) × (list_all (λ w. is_idle (t w)) ys ≡ true)) → HasRun sys stimuli budget done rests (map view ys)
+    ran how done rests objects are ends ready idle shown long quiet =
+        has-run work view sys budget sound stimuli done rests ys row (stops ends long)
+        (λ is. (rests-all (ready (quiet is).0) (quiet is).1, subst (λ os. HasEnded view (λ w. is_left_in (work w)) os ys) are (idle (quiet is).0))) shown
+
+-- The same of a run that answers what it left.
+
+map-both : {T L : Type 0} (lane : T → L) (see : L → LaneView) (ws : List T) → map see (map lane ws) ≡ map (λ w. see (lane w)) ws
+map-both lane see [] = refl
+map-both lane see (w ∷ ws) = ap (λ vs. see (lane w) ∷ vs) (map-both lane see ws)
+
+module _ (sys : System) (stimuli : List (List Stim)) (budget : ℕ) (sound : IsSound sys) (fit : StimuliFit sys stimuli) (few : budget ≤ 1000000)
+    {T L : Type 0} (s : T → System) (b : T → ℕ) (t : T → Turn) (work : T → Job) (lane : T → L) (see : L → LaneView) (xs : List T)
+    (all : AreReadyAll sys stimuli budget sound fit few s b t work (λ w. see (lane w)) xs) (ys : List T)
+    (same : SameEach (λ x y. IsSameWorker (s x) (s y) (b x) (b y) (work x) (work y) (see (lane x)) (see (lane y))) xs ys) where
+  pub lanes-left : {R E : Type 0} (lanes : List L) → lanes ≡ map lane xs → (result : Result R E) (of : R → List L) → IfOk result (λ run. of run ≡ map lane ys) → IfOk result (λ run. AreSameLanes (map see lanes) (map see (of run)))
+  lanes-left lanes are (Err e) of h = tt
+  lanes-left lanes are (Ok run) of h =
+      subst (λ us. AreSameLanes us (map see (of run))) (sym (ap (map see) are ∙ map-both lane see xs))
+      (subst (AreSameLanes (map (λ w. see (lane w)) xs)) (sym (ap (map see) h ∙ map-both lane see ys))
+      (same-lanes sys stimuli budget sound fit few s b t work (λ w. see (lane w)) xs all ys same))
+
+  pub run-left : {R E : Type 0} (result : Result R E) (of : R → List L) (rests_in : R → List Rest) (done_in : R → Bool) → IfOk result (λ run. of run ≡ map lane ys) → (how : Ended) (objects : List ℕ) → objects ≡ priorities sys
+      → AreReady (λ w. MayEnd (s w) (b w) (t w) (work w) (see (lane w))) ys → (how ≡ ended.Idle → AreReady (λ w. MayTurn (s w) (b w) (t w) (work w) (see (lane w))) ys)
+      → (how ≡ ended.Idle → HasEnded (λ w. see (lane w)) (λ w. is_left_in (work w)) objects ys) → IfOk result (λ run. AreShown work ys (rests_in run)) → OnOk result (list_any (λ w. is_short (t w)) ys ≡ false)
+      → IfOk result (λ run. done_in run ≡ true → (how ≡ ended.Idle) × (list_all (λ w. is_idle (t w)) ys ≡ true)) → IfOk result (λ run. HasRun sys stimuli budget (done_in run) (rests_in run) (map see (of run)))
+  run-left (Err e) of rests_in done_in h how objects are ends ready idle shown long quiet = tt
+  run-left (Ok run) of rests_in done_in h how objects are ends ready idle shown long quiet =
+      subst (HasRun sys stimuli budget (done_in run) (rests_in run)) (sym (ap (map see) h ∙ map-both lane see ys))
+      (ran sys stimuli budget sound fit few s b t work (λ w. see (lane w)) xs all ys same how (done_in run) (rests_in run) objects are ends ready idle shown long quiet)

@@ -1,0 +1,148 @@
+-- Where what runs in a lane stands, by what its calls say.
+use Rattle.std.proofs.Common.{◌≡◌, ℕ, ◌+◌, ◌-◌, ◌<◌, ◌≤◌, ◌==◌, Bool, true, false, cond, List, [], ◌∷◌, get_or, refl, sym, ◌∙◌, ap, subst, arith, Option, Some, None, inl, inr}
+use Rattle.std.specs.Prelude.{◌⊎◌}
+use Rattle.std.specs.List.{find}
+use Rattle.std.proofs.lemmas.Bool.Decides.{nat_tests}
+use Rattle.qp_chart.specs.declared.checked.Chart.{Chart}
+use Rattle.qp_model.specs.declared.stimulus.Stim.{Stim}
+use Rattle.qp_model.specs.declared.systems.System.{System}
+use Rattle.qp_model.specs.declared.systems.ObjectDef.{ObjectDef}
+use Rattle.qp_model.specs.Course.{chart_at}
+use Rattle.qp_model.specs.Ends.{may_cut}
+use Rattle.qp_model.specs.Sites.{object_at}
+use Rattle.qp_model.specs.Sound.{IsSound}
+use Rattle.qp_calls.specs.LaneView.{LaneView}
+use Rattle.qp_dispatch.specs.declared.objects.Turn.{Turn}
+use Rattle.qp_dispatch.specs.declared.objects.Turn.TheVariants as turn
+use Rattle.qp_kernel_turns.specs.Lanes.{KeepsLane, LaneStarts, LaneTurns, SameLane}
+use Rattle.qp_kernel_turns.proofs.SoundObjects.{sound-object}
+use Rattle.qp_dispatch.specs.declared.steps.Step.{Step}
+use Rattle.qp_dispatch.specs.declared.steps.Step.TheVariants as step
+use Rattle.qp_port_law.specs.Homes.{HomeEnds}
+use Rattle.qp_port_law.specs.SourcesLeft.{SourceLeaves}
+use Rattle.qp_port_home_law.proofs.HomeLaws.{unstarted_home_ends}
+use Rattle.qp_port_home.specs.declared.home.Home.{Home}
+use Rattle.qp_port_home.specs.Turning.{HomeStarts, HomeStops, HomeTurns}
+use Rattle.qp_port_home.proofs.Resting.{home-of, stops-found}
+use Rattle.qp_port_cursor.specs.declared.cursor.Cursor.{Cursor}
+use Rattle.qp_port_cursor.specs.declared.passing.Passed.{Passed}
+use Rattle.qp_port_cursor.specs.declared.passing.Passed.TheVariants as passed
+use Rattle.qp_port_cursor.specs.At.{mine}
+use Rattle.qp_port_cursor.specs.Turning.{IsSameSource, SourceTurns}
+use Rattle.qp_port_cursor.specs.Passing.{Passes}
+use Rattle.qp_port_cursor.proofs.Standing.{may-stop}
+use Rattle.qp_port.specs.declared.job.Job.{Job}
+use Rattle.qp_port.specs.declared.job.Job.TheVariants as job
+use Rattle.qp_port.specs.Jobs.{JobBegins, JobEnds, JobPasses, JobRests, JobStands, JobStops, is_idle}
+use Rattle.qp_port.specs.Workers.{MayBegin, MayEnd, MayTurn}
+
+found-priority : (o : ℕ) (ds : List ObjectDef) (d : ObjectDef) → find (λ x. x.priority == o) ds ≡ Some d → d.priority ≡ o
+found-priority o [] d h = absurd (cc)
+found-priority o (x ∷ xs) d h = by (found-priority o xs d) (x.priority == o) refl h
+  where
+    by : (find (λ y. y.priority == o) xs ≡ Some d → d.priority ≡ o) → (b : Bool) → (x.priority == o) ≡ b → cond b (Some x) (find (λ y. y.priority == o) xs) ≡ Some d → d.priority ≡ o
+    by go true test h =
+        let same : x ≡ d = cc in
+        let is : x.priority ≡ o = grind (arith, nat_tests, test) in
+        subst (λ y. y.priority ≡ o) same is
+    by go false test h = go h
+
+pub priority-is : (sys : System) (o : ℕ) (d : ObjectDef) → object_at sys o ≡ Some d → d.priority ≡ o
+unfolding object_at
+priority-is sys o d found = found-priority o sys.objects d found
+
+-- A lane stays the same one.
+
+keeps-same : (v w : LaneView) → KeepsLane false v w → SameLane v w
+keeps-same v w k = record { sys = k.same.sys; lane = k.same.lane; world = k.same.world; plan = k.same.plan; happened = k.still refl; serves = k.same.serves }
+
+pub turns-same : (v w : LaneView) (t : Turn) → LaneTurns false v w t → SameLane v w
+turns-same v w turn.Idle h = keeps-same v w h.keeps
+turns-same v w turn.Stopped h = keeps-same v w h.keeps
+turns-same v w turn.Memory h = keeps-same v w h.keeps
+
+pub starts-same : (v w : LaneView) (s : Step) → LaneStarts v w s → SameLane v w
+starts-same v w step.Point h = absurd h
+starts-same v w step.Done h = keeps-same v w h.keeps
+starts-same v w step.Stopped h = keeps-same v w h.keeps
+starts-same v w step.Memory h = keeps-same v w h.keeps
+
+-- Objects.
+
+pub home-turned : (sys : System) (budget me : ℕ) (y : Home) (w : LaneView) (t : Turn) → HomeTurns sys budget me y w t → y.me ≡ me → JobStands sys budget t (job.Home y) w
+home-turned sys budget me y w turn.Idle h same = h.home
+home-turned sys budget me y w turn.Stopped h same = subst (λ o. HomeStops sys budget o y w) (sym same) h
+home-turned sys budget me y w turn.Memory h same = tt
+
+pub home-stopped : (sys : System) (budget me : ℕ) (y : Home) (w : LaneView) → ((n : ℕ) → HomeStops sys n me y w) → y.me ≡ me → HomeStops sys budget y.me y w
+home-stopped sys budget me y w h same = subst (λ o. HomeStops sys budget o y w) (sym same) (h budget)
+
+-- Sources.
+
+mine-same : (x y : Cursor) → IsSameSource x y → mine y ≡ mine x
+mine-same x y same = ap (λ (p : List (List Stim)). get_or p (y.source - 1) []) (ap (λ s. s.now) same.0) ∙ ap (λ k. get_or x.stim.now (k - 1) []) same.1
+
+pub source-same : (x y : Cursor) → IsSameSource x y → mine y ≡ mine x
+source-same x y same = mine-same x y same
+
+pub source-turned : (sys : System) (budget : ℕ) (x y : Cursor) (v w : LaneView) (t : Turn) → SourceTurns sys x y v w t → IsSameSource x y → JobStands sys budget t (job.Source y) w
+source-turned sys budget x y v w turn.Idle h same = h.goes.at
+source-turned sys budget x y v w turn.Stopped h same = λ kernel end may early. subst (λ ss. SourceLeaves sys kernel end ss w.told) (sym (mine-same x y same)) (h.leaves kernel end may early)
+source-turned sys budget x y v w turn.Memory h same = tt
+
+pub source-lane : (sys : System) (x y : Cursor) (v w : LaneView) (t : Turn) → SourceTurns sys x y v w t → SameLane v w
+source-lane sys x y v w turn.Idle h = h.goes.keeps
+source-lane sys x y v w turn.Stopped h = h.keeps
+source-lane sys x y v w turn.Memory h = h.keeps
+
+pub source-passed : (sys : System) (budget : ℕ) (x y : Cursor) (v w : LaneView) (p : Passed) → Passes sys x y v w p → IsSameSource x y → JobPasses sys budget p (job.Source y) w
+source-passed sys budget x y v w passed.Yes h same = h.stays.at
+source-passed sys budget x y v w (passed.Found p now) h same = h.stays.at
+source-passed sys budget x y v w passed.Stopped h same = λ kernel end may early. subst (λ ss. SourceLeaves sys kernel end ss w.told) (sym (mine-same x y same)) (h.leaves kernel end may early)
+source-passed sys budget x y v w passed.Memory h same = tt
+
+pub passed-lane : (sys : System) (x y : Cursor) (v w : LaneView) (p : Passed) → Passes sys x y v w p → SameLane v w
+passed-lane sys x y v w passed.Yes h = h.stays.along.keeps
+passed-lane sys x y v w (passed.Found p now) h = h.stays.along.keeps
+passed-lane sys x y v w passed.Stopped h = h.keeps
+passed-lane sys x y v w passed.Memory h = h.keeps
+
+-- The lane may end where its job rests, and where it hasn't begun.
+
+module _ (sys : System) (sound : IsSound sys) (budget : ℕ) (v : LaneView) where
+  pub rests-stop : (x : Job) → JobRests sys budget x v → JobStops sys budget x v
+  rests-stop job.Nothing h = h
+  rests-stop (job.Home x) h = stops-found sys sound budget x v h v refl
+  rests-stop (job.Source x) h = λ kernel end may early. may-stop sys x v kernel end h may early
+
+  pub begins-stop : (x : Job) → JobBegins sys x v → JobStops sys budget x v
+  begins-stop job.Nothing h = h
+  begins-stop (job.Home x) h = record {
+    ends = λ d found end early.
+        let its = sound-object sys sound x.me d found in
+        let here : object_at sys d.priority ≡ Some d = ap (object_at sys) (priority-is sys x.me d found) ∙ found in
+        subst (HomeEnds sys d budget end) (sym h.1.told) (unstarted_home_ends sys d its.its budget end (home-of sys sound d its.its here its.is_its) early);
+    rests = λ d chart found is started calm. absurd (let wrong : true ≡ false = sym started ∙ h.0.object.made.unstarted in cc);
+  }
+  begins-stop (job.Source x) h = λ kernel end may early. may-stop sys x v kernel end h may early
+
+  stands-end : (t : Turn) (x : Job) → JobStands sys budget t x v → JobEnds sys budget t x v
+  stands-end turn.Idle x h = rests-stop x h
+  stands-end turn.Stopped x h = h
+  stands-end turn.Memory x h = tt
+
+pub turn-end : (sys : System) (budget : ℕ) (t : Turn) (x : Job) (v : LaneView) → MayTurn sys budget t x v → MayEnd sys budget t x v
+turn-end sys budget t x v h = record { sound = h.sound; ends = stands-end sys h.sound budget v t x h.stands }
+
+pub begin-end : (sys : System) (budget : ℕ) (t : Turn) (x : Job) (v : LaneView) → MayBegin sys budget t x v → MayEnd sys budget t x v
+begin-end sys budget t x v h = record { sound = h.sound; ends = subst (λ (u : Turn). JobEnds sys budget u x v) (sym h.idle) (begins-stop sys h.sound budget v x h.begins) }
+
+-- a worker that rests takes its turn, one that has ended stays as it is
+pub idle-rests : (sys : System) (budget : ℕ) (t : Turn) (x : Job) (v : LaneView) → is_idle t ≡ true → JobStands sys budget t x v → JobRests sys budget x v
+idle-rests sys budget turn.Idle x v idle h = h
+idle-rests sys budget turn.Stopped x v idle h = absurd (cc)
+idle-rests sys budget turn.Memory x v idle h = absurd (cc)
+
+pub end-either : (sys : System) (budget : ℕ) (t : Turn) (x : Job) (v : LaneView) → MayTurn sys budget t x v ⊎ MayBegin sys budget t x v → MayEnd sys budget t x v
+end-either sys budget t x v (inl h) = turn-end sys budget t x v h
+end-either sys budget t x v (inr h) = begin-end sys budget t x v h

@@ -1,0 +1,7 @@
+use Rattle.qp_port.proofs.Standing.{source-turned}
+use Rattle.qp_port.proofs.job.run_job.Goals as goal
+
+pub returns-in-Source-clause-stands : goal.returns-in-Source-clause-stands
+returns-in-Source-clause-stands g c =
+    let lane = g.O.Ops.lane in
+    source-turned c.args.sys.now c.args.budget c.in-Source.source c.source_turn.new.source (lane c.args.ops.now) (lane c.source_turn.new.ops) c.source_turn.result c.source_turn.ensures.turns c.source_turn.ensures.same

@@ -1,0 +1,20 @@
+-- The law of a run that was sealed.
+use Rattle.std.specs.Prelude.{◌≡◌, ℕ, Bool, true, List}
+use Rattle.qp_model.specs.declared.stimulus.Stim.{Stim}
+use Rattle.qp_model.specs.declared.systems.System.{System}
+use Rattle.qp_model.specs.declared.journals.Journal.{Journal}
+use Rattle.qp_model.specs.Ends.{quiet}
+use Rattle.qp_model.specs.Kernels.{port}
+use Rattle.qp_model.specs.Sound.{IsSound}
+use Rattle.qp_calls.specs.LaneView.{LaneView}
+use Rattle.qp_kernel_end.specs.declared.rest.Rest.{Rest}
+use Rattle.qp_kernel_end.specs.Rests.{AreRestsIn}
+use Rattle.qp_port_quiet.specs.Sealed.{SealsLanes}
+use Rattle.qp_port.specs.Ends.{HasRun, IsThreadRun}
+
+-- Its lanes, sealed into a journal, leave a lawful one, in which its objects rest where it says; a journal of a quiet end only where nothing was left.
+abbrev pub SealedRunsAreLawful : Type 0
+SealedRunsAreLawful =
+    (sys : System) (stimuli : List (List Stim)) (budget : ℕ) (done : Bool) (rests : List Rest) (vs : List LaneView) (j : Journal) → IsSound sys
+    → HasRun sys stimuli budget done rests vs → SealsLanes sys port budget vs j → (j.end ≡ quiet → done ≡ true)
+    → IsThreadRun port sys stimuli budget j × AreRestsIn sys j rests

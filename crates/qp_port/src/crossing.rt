@@ -1,0 +1,10 @@
+//! Which values may go to another thread.
+
+use crate::job::Job;
+
+fn goes<T: Send>() {}
+
+/// What runs in a lane may go to another thread, with the entries that an object keeps.
+pub fn jobs_cross_threads() {
+    goes::<Job<'_>>();
+}

@@ -1,0 +1,133 @@
+//! What runs in a lane: its start, its turn, and how it passes a `settle`.
+
+ghost use Rattle.std.specs.Prelude.{◌≡◌, ◌≤◌, true};
+ghost use Rattle.qp_model.specs.Sound.{IsSound};
+ghost use Rattle.qp_kernel_turns.specs.Lanes.{SameLane};
+ghost use Rattle.qp_port.specs.declared.job.Job.TheVariants as job;
+ghost use Rattle.qp_port.specs.Jobs.{IsSameJob, JobBegins, JobIdles, JobPasses, JobRests, JobStands, is_idle, is_left_in, is_short, stands_at_settle};
+
+use qp_calls::Ops;
+use qp_dispatch::{Step, Turn};
+use qp_model::System;
+use qp_port_cursor::{Cursor, Passed, pass_settle, source_turn};
+use qp_port_home::{Home, object_turn};
+use qp_tells::Tells;
+use std::sync::Wait;
+
+/// What runs in a lane.
+#[derive(Drop)]
+pub enum Job<'a> {
+    /// Nothing: the lane of the starting thread.
+    Nothing,
+    /// An object.
+    Home(Home),
+    /// A source of stimuli.
+    Source(Cursor<'a>),
+}
+
+/// Whether a turn with this answer may be followed by another.
+pub(crate) fn is_idle(turn: &Turn) -> bool
+    ensures { result ≡ is_idle turn.now }
+{
+    matches!(turn, Turn::Idle)
+}
+
+/// Whether it ended for want of memory.
+pub(crate) fn is_short(turn: &Turn) -> bool
+    ensures { result ≡ is_short turn.now }
+{
+    matches!(turn, Turn::Memory)
+}
+
+/// Starts an object, the first that happens in its lane.
+fn start_home<O: Ops>(ops: &mut O, sys: &System, home: &mut Home, budget: u32) -> Turn
+    requires sound { IsSound sys.now }
+    requires begins { JobBegins sys.now (job.Home home.old) (O.lane ops.old) }
+    ensures stands { JobStands sys.now budget result (job.Home home.new) (O.lane ops.new) }
+    ensures same { home.new.me ≡ home.old.me }
+    ensures lane { SameLane (O.lane ops.old) (O.lane ops.new) }
+{
+    let _ = budget;
+    match home.start(ops, sys) {
+        Step::Done => Turn::Idle,
+        Step::Stopped => Turn::Stopped,
+        Step::Point | Step::Memory => Turn::Memory,
+    }
+}
+
+/// Starts what runs in the lane, if that has a start.
+pub(crate) fn start_job<O: Ops>(ops: &mut O, sys: &System, job: &mut Job<'_>, budget: u32) -> Turn
+    requires sound { IsSound sys.now }
+    requires begins { JobBegins sys.now job.old (O.lane ops.old) }
+    ensures stands { JobStands sys.now budget result job.new (O.lane ops.new) }
+    ensures same { IsSameJob job.old job.new }
+    ensures lane { SameLane (O.lane ops.old) (O.lane ops.new) }
+{
+    match job {
+        Job::Home(home) => start_home(ops, sys, home, budget),
+        Job::Nothing | Job::Source(_) => Turn::Idle,
+    }
+}
+
+/// The turn of what runs in the lane with this number.
+pub(crate) fn run_job<R: Wait, O: Ops, G: Tells>(
+    rt: &R,
+    ops: &mut O,
+    sys: &System,
+    job: &mut Job<'_>,
+    number: u32,
+    budget: u32,
+    gate: &G,
+) -> Turn
+    requires sound { IsSound sys.now }
+    requires few { budget ≤ 1000000 }
+    requires rests { JobRests sys.now budget job.old (O.lane ops.old) }
+    ensures stands { JobStands sys.now budget result job.new (O.lane ops.new) }
+    ensures same { IsSameJob job.old job.new }
+    ensures lane { SameLane (O.lane ops.old) (O.lane ops.new) }
+    ensures idles { is_idle result ≡ true → JobIdles job.new (O.lane ops.new) }
+{
+    match job {
+        Job::Nothing => Turn::Idle,
+        Job::Home(home) => object_turn(rt, ops, sys, home, number, budget, gate),
+        Job::Source(source) => source_turn(ops, sys, source, gate),
+    }
+}
+
+/// Passes the `settle` at which a source stands, or tries to.
+pub(crate) fn pass_job<O: Ops>(ops: &mut O, sys: &System, job: &mut Job<'_>, budget: u32) -> Passed
+    requires sound { IsSound sys.now }
+    requires rests { JobRests sys.now budget job.old (O.lane ops.old) }
+    requires stands { stands_at_settle job.old ≡ true }
+    ensures passes { JobPasses sys.now budget result job.new (O.lane ops.new) }
+    ensures same { IsSameJob job.old job.new }
+    ensures lane { SameLane (O.lane ops.old) (O.lane ops.new) }
+{
+    let _ = budget;
+    match job {
+        Job::Source(source) => pass_settle(ops, sys, source),
+        Job::Nothing | Job::Home(_) => unreachable!(),
+    }
+}
+
+impl Job<'_> {
+    /// Whether it is a source that stands at a `settle`.
+    pub fn stands_at_settle(&self) -> bool
+        ensures { result ≡ stands_at_settle self.now }
+    {
+        match self {
+            Job::Source(source) => source.at_settle(),
+            Job::Nothing | Job::Home(_) => false,
+        }
+    }
+
+    /// Whether it is a source that has a stimulus left.
+    pub fn is_left(&self) -> bool
+        ensures { result ≡ is_left_in self.now }
+    {
+        match self {
+            Job::Source(source) => source.left(),
+            Job::Nothing | Job::Home(_) => false,
+        }
+    }
+}

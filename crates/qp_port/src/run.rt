@@ -1,0 +1,139 @@
+//! The run over given lanes: starts, phases, and what is left.
+
+ghost use Rattle.std.specs.Prelude.{◌≡◌, ◌≤◌, IfOk, OnOk, map, true, false};
+ghost use Rattle.std.specs.List.{list_all, list_any};
+ghost use Rattle.qp_model.specs.Sound.{IsSound};
+ghost use Rattle.qp_model.specs.Sources.{priorities};
+ghost use Rattle.qp_stim.specs.Rules.{StimuliFit};
+ghost use Rattle.qp_port_phases.specs.declared.phases.Ended.TheVariants as ended;
+ghost use Rattle.qp_port.specs.Ends.{HasRun};
+ghost use Rattle.qp_port.specs.Jobs.{is_idle, is_short};
+ghost use Rattle.qp_port.specs.Resting.{AreShown};
+ghost use Rattle.qp_port.specs.Rows.{AreNewLanes, AreSameLanes};
+
+use crate::making::{Terms, new_workers};
+use crate::rests::rests;
+use crate::starting::{Over, run_workers};
+use crate::worker::PortWorker;
+use qp_base::{Gate, Memory};
+use qp_calls_meet::Meets;
+use qp_kernel_end::Rest;
+use qp_model::{Stimuli, System};
+use qp_port_phases::Ended;
+use std::alloc::{AllocError, Global};
+use std::sync::Wait;
+use std::thread::Threads;
+
+/// What a run leaves: its lanes, in their order, where its objects rest, and whether nothing was left to be done.
+#[derive(Drop)]
+pub struct PortRun<O> {
+    pub lanes: Vec<O>,
+    /// An object whose start or step was under way is not among them.
+    pub rests: Vec<Rest>,
+    pub done: bool,
+}
+
+/// Whether all workers rest.
+fn all_idle<O: Meets, G: Gate>(workers: &[PortWorker<'_, O, G>]) -> bool
+    ensures { result ≡ list_all (λ w. is_idle w.turn) workers.now }
+{
+    workers.iter().all(|worker| worker.is_idle())
+}
+
+/// Whether one ended for want of memory.
+fn any_short<O: Meets, G: Gate>(workers: &[PortWorker<'_, O, G>]) -> bool
+    ensures { result ≡ list_any (λ w. is_short w.turn) workers.now }
+{
+    workers.iter().any(|worker| worker.is_short())
+}
+
+/// The lanes of these workers.
+fn lanes_of<O: Meets + Drop, G: Gate>(
+    alloc: Global,
+    workers: Vec<PortWorker<'_, O, G>>,
+) -> Result<Vec<O>, Memory>
+    ensures { IfOk result (λ lanes. lanes.items ≡ map (λ w. w.lane) workers.entry.items) }
+{
+    let mut lanes = Vec::new(alloc);
+    for worker in workers {
+        let PortWorker {
+            lane,
+            job: _,
+            turn: _,
+            number: _,
+            sys: _,
+            budget: _,
+            gate: _,
+        } = worker;
+        let Ok(()) = lanes.push(lane) else {
+            return Err(Memory);
+        };
+    }
+    Ok(lanes)
+}
+
+/// The priorities of the objects.
+fn objects_of(alloc: Global, sys: &System) -> Result<Vec<u8>, AllocError>
+    ensures { IfOk result (λ objects. objects.items ≡ priorities sys.now) }
+{
+    sys.objects.items.iter().map(|d| d.priority).collect(alloc)
+}
+
+/// What is left of workers whose run is over. For want of memory a lane may have been cut anywhere.
+fn left_of<O: Meets + Drop, G: Gate>(
+    alloc: Global,
+    over: Over<PortWorker<'_, O, G>>,
+) -> Result<PortRun<O>, Memory>
+    ensures lanes { IfOk result (λ run. run.lanes.items ≡ map (λ w. w.lane) over.entry.workers.items) }
+    ensures rests { IfOk result (λ run. AreShown (λ w. w.job) over.entry.workers.items run.rests.items) }
+    ensures short { OnOk result (list_any (λ w. is_short w.turn) over.entry.workers.items ≡ false) }
+    ensures idle { IfOk result (λ run. run.done ≡ true → (over.entry.how ≡ ended.Idle) × (list_all (λ w. is_idle w.turn) over.entry.workers.items ≡ true)) }
+{
+    let Over { workers, how } = over;
+    let is_over = match how {
+        Ended::Idle => true,
+        Ended::Stopped => false,
+        Ended::Memory => return Err(Memory),
+    };
+    if any_short(&workers) {
+        return Err(Memory);
+    }
+    let done = is_over && all_idle(&workers);
+    let Ok(rests) = rests(alloc, &workers) else {
+        return Err(Memory);
+    };
+    let lanes = lanes_of(alloc, workers)?;
+    Ok(PortRun { lanes, rests, done })
+}
+
+/// Runs the system on its stimuli over these lanes, which are new: the first stays empty, each object has one, by ascending priority,
+/// and so has each source. No object takes more events than the budget. Want of memory alone leaves nothing.
+pub fn run_lanes_of_port<R: Threads + Wait + Sync, O: Meets + Send + Drop, G: Gate>(
+    rt: &R,
+    alloc: Global,
+    sys: &System,
+    stim: &Stimuli,
+    budget: u32,
+    gate: &G,
+    lanes: Vec<O>,
+) -> Result<PortRun<O>, Memory>
+    requires sound { IsSound sys.now }
+    requires fit { StimuliFit sys.now stim.now }
+    requires few { budget ≤ 1000000 }
+    requires lanes { AreNewLanes sys.now stim.now (map O.lane lanes.items) }
+    ensures lanes { IfOk result (λ run. AreSameLanes (map O.lane lanes.items) (map O.lane run.lanes.items)) }
+    ensures run { IfOk result (λ run. HasRun sys.now stim.now budget run.done run.rests.items (map O.lane run.lanes.items)) }
+{
+    let Ok(objects) = objects_of(alloc, sys) else {
+        return Err(Memory);
+    };
+    let at = Terms {
+        sys,
+        stim,
+        budget,
+        gate,
+    };
+    let workers = new_workers(alloc, &at, lanes)?;
+    let over = run_workers(rt, objects.as_slice(), workers);
+    left_of(alloc, over)
+}

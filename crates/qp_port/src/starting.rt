@@ -1,0 +1,80 @@
+//! Starts, one after another, and then the phases.
+
+ghost use Rattle.std.specs.Prelude.{◌≡◌, ◌⊎◌, ℕ, true};
+ghost use Rattle.qp_port_phases.specs.declared.phases.Ended.TheVariants as ended;
+ghost use Rattle.qp_port_phases.specs.Lanes.{AreOneTable, SameEach};
+ghost use Rattle.qp_port_phases.specs.Quiet.{HasEnded};
+ghost use Rattle.qp_port_workers.specs.Turns.{AreReady};
+
+use qp_port_phases::{Ended, Lane, run_phases};
+use std::sync::Wait;
+use std::thread::Threads;
+
+/// The lane of a worker that has a start.
+pub trait Starts: Lane {
+    /// It hasn't started.
+    ghost fresh: { Self → Type 0 };
+
+    /// Starts. Whether the start came to its end; if it didn't, the worker has ended.
+    fn start(&mut self) -> bool
+        requires { fresh self.old }
+        ensures ready { Self.Worker.ready self.new }
+        ensures same { Self.Lane.same self.old self.new };
+
+    /// It looks at no queue twice without a step.
+    ghost rows_none: { (a : Self) → (Self.Lane.numbers a).rows ≡ 0 };
+}
+
+/// Workers whose run is over, and how.
+pub(crate) struct Over<T> {
+    pub(crate) workers: Vec<T>,
+    pub(crate) how: Ended,
+}
+
+/// Starts these, in their order, up to the first whose start doesn't come to its end. Whether all did.
+fn start_all<T: Starts>(workers: &mut [T]) -> bool
+    requires { AreReady T.fresh workers.old }
+    ensures each { AreReady (λ w. T.ready w ⊎ T.fresh w) workers.new }
+    ensures same { SameEach T.same workers.old workers.new }
+    ensures all { result ≡ true → AreReady T.ready workers.new }
+{
+    let Some((one, rest)) = workers.split_first_mut() else {
+        return true;
+    };
+    if !one.start() {
+        return false;
+    }
+    start_all(rest)
+}
+
+/// Starts all of them, and runs the phases where all starts came to their end.
+fn run_all<R: Threads + Wait + Sync, T: Starts>(rt: &R, objects: &[u8], workers: &mut [T]) -> Ended
+    requires fresh { AreReady T.fresh workers.old }
+    requires table { AreOneTable T.view objects.now workers.old }
+    ensures each { AreReady (λ w. T.ready w ⊎ T.fresh w) workers.new }
+    ensures same { SameEach T.same workers.old workers.new }
+    ensures ready { result ≡ ended.Idle → AreReady T.ready workers.new }
+    ensures idle { result ≡ ended.Idle → HasEnded T.view T.remains objects.now workers.new }
+{
+    if !start_all(workers) {
+        return Ended::Stopped;
+    }
+    run_phases(rt, objects, workers)
+}
+
+/// The same of workers that are handed in and come back, in their order.
+pub(crate) fn run_workers<R: Threads + Wait + Sync, T: Starts>(
+    rt: &R,
+    objects: &[u8],
+    mut workers: Vec<T>,
+) -> Over<T>
+    requires fresh { AreReady T.fresh workers.items }
+    requires table { AreOneTable T.view objects.now workers.items }
+    ensures each { AreReady (λ w. T.ready w ⊎ T.fresh w) result.workers.items }
+    ensures same { SameEach T.same workers.items result.workers.items }
+    ensures ready { result.how ≡ ended.Idle → AreReady T.ready result.workers.items }
+    ensures idle { result.how ≡ ended.Idle → HasEnded T.view T.remains objects.now result.workers.items }
+{
+    let how = run_all(rt, objects, workers.as_mut_slice());
+    Over { workers, how }
+}

@@ -1,0 +1,165 @@
+//! A lane with what runs in it.
+
+ghost use Rattle.std.specs.Prelude.{◌≡◌, refl, true};
+ghost use Rattle.qp_port.specs.Jobs.{JobIdles, is_idle, is_left_in, is_short, stands_at_settle, turn_by};
+ghost use Rattle.qp_port.specs.Numbers.{counts-none, uncounted};
+ghost use Rattle.qp_port.specs.Workers.{IsSameWorker, MayBegin, MayTurn, same-itself, same-still, same-table};
+
+use crate::job::{Job, is_idle, is_short, pass_job, run_job, start_job};
+use crate::starting::Starts;
+use qp_calls::Counts;
+use qp_calls_meet::Meets;
+use qp_dispatch::Turn;
+use qp_model::System;
+use qp_port_cursor as cursor;
+use qp_port_phases::{Lane, Passed};
+use qp_port_workers::Worker;
+use qp_tells::Tells;
+use std::sync::Wait;
+
+/// A lane with its number, what runs in it, and the answer of its last turn. One whose turn has stopped takes no more: it is a lane
+/// like another, and its turns do nothing.
+#[derive(Drop)]
+pub struct PortWorker<'a, O: Meets, G: Tells> {
+    pub(crate) lane: O,
+    pub(crate) job: Job<'a>,
+    pub(crate) turn: Turn,
+    pub(crate) number: u32,
+    pub(crate) sys: &'a System,
+    pub(crate) budget: u32,
+    pub(crate) gate: &'a G,
+}
+
+impl<O: Meets, G: Tells> PortWorker<'_, O, G> {
+    /// Whether its last turn, or its start, came to its end.
+    pub(crate) fn is_idle(&self) -> bool
+        ensures { result ≡ is_idle self.now.turn }
+    {
+        is_idle(&self.turn)
+    }
+
+    /// Whether it ended for want of memory.
+    pub(crate) fn is_short(&self) -> bool
+        ensures { result ≡ is_short self.now.turn }
+    {
+        is_short(&self.turn)
+    }
+
+    /// Takes its turn, where it rests.
+    fn run<R: Wait>(&mut self, rt: &R)
+        requires ready { MayTurn self.old.sys.now self.old.budget self.old.turn self.old.job (O.lane self.old.lane) }
+        requires idle { is_idle self.old.turn ≡ true }
+        ensures ready { MayTurn self.new.sys.now self.new.budget self.new.turn self.new.job (O.lane self.new.lane) }
+        ensures same { IsSameWorker self.old.sys.now self.new.sys.now self.old.budget self.new.budget self.old.job self.new.job (O.lane self.old.lane) (O.lane self.new.lane) }
+        ensures idles { is_idle self.new.turn ≡ true → JobIdles self.new.job (O.lane self.new.lane) }
+    {
+        self.turn = run_job(
+            rt,
+            &mut self.lane,
+            self.sys,
+            &mut self.job,
+            self.number,
+            self.budget,
+            self.gate,
+        );
+    }
+}
+
+/// What a `settle` leaves of a worker: the answer of its turn.
+fn turn_by(passed: &cursor::Passed) -> Turn
+    ensures { result ≡ turn_by passed.now }
+{
+    match passed {
+        cursor::Passed::Yes | cursor::Passed::Found { .. } => Turn::Idle,
+        cursor::Passed::Stopped => Turn::Stopped,
+        cursor::Passed::Memory => Turn::Memory,
+    }
+}
+
+/// The same answer, as the phases have it.
+fn passed_by(passed: cursor::Passed) -> Passed {
+    match passed {
+        cursor::Passed::Yes => Passed::Yes,
+        cursor::Passed::Found { p, now } => Passed::Found { p, now },
+        cursor::Passed::Stopped => Passed::Stopped,
+        cursor::Passed::Memory => Passed::Memory,
+    }
+}
+
+impl<O: Meets + Send, G: Tells + Sync> Worker for PortWorker<'_, O, G> {
+    ghost ready = { λ w. MayTurn w.sys.now w.budget w.turn w.job (O.lane w.lane) };
+
+    ghost turned = { λ a b. MayTurn b.sys.now b.budget b.turn b.job (O.lane b.lane) × IsSameWorker a.sys.now b.sys.now a.budget b.budget a.job b.job (O.lane a.lane) (O.lane b.lane)
+        × (is_idle a.turn ≡ true → is_idle b.turn ≡ true → JobIdles b.job (O.lane b.lane)) };
+
+    fn turn<R: Wait>(&mut self, rt: &R) {
+        if is_idle(&self.turn) {
+            self.run(rt);
+        }
+    }
+}
+
+impl<O: Meets + Send, G: Tells + Sync> Lane for PortWorker<'_, O, G> {
+    ghost view = { λ w. O.lane w.lane };
+
+    ghost waits = { λ w. stands_at_settle w.job };
+
+    ghost remains = { λ w. is_left_in w.job };
+
+    ghost numbers = { λ w. uncounted };
+
+    ghost same = { λ a b. IsSameWorker a.sys.now b.sys.now a.budget b.budget a.job b.job (O.lane a.lane) (O.lane b.lane) };
+
+    fn meet(&mut self, other: &mut Self) {
+        self.lane.meet(&mut other.lane);
+    }
+
+    fn at_settle(&self) -> bool {
+        self.job.stands_at_settle()
+    }
+
+    fn left(&self) -> bool {
+        self.job.is_left()
+    }
+
+    fn pass_settle(&mut self) -> Passed {
+        if is_idle(&self.turn) {
+            let passed = pass_job(&mut self.lane, self.sys, &mut self.job, self.budget);
+            self.turn = turn_by(&passed);
+            return passed_by(passed);
+        }
+        if is_short(&self.turn) {
+            return Passed::Memory;
+        }
+        Passed::Stopped
+    }
+
+    fn counts(&mut self, p: u8) -> Counts {
+        self.lane.counts(p)
+    }
+
+    fn stopped(&mut self) -> Option<u8> {
+        self.lane.stopped()
+    }
+
+    ghost same_itself = { λ a. same-itself a.sys.now a.budget a.job (O.lane a.lane) };
+
+    ghost same_still = { λ a b c h k. same-still a.sys.now b.sys.now c.sys.now a.budget b.budget c.budget a.job b.job c.job (O.lane a.lane) (O.lane b.lane) (O.lane c.lane) h k };
+
+    ghost same_table = { λ a b h. same-table a.sys.now b.sys.now a.budget b.budget a.job b.job (O.lane a.lane) (O.lane b.lane) h };
+
+    ghost went = { λ a b h. (h.0, h.1) };
+
+    ghost went_on = { λ a b h. counts-none (O.lane a.lane) };
+}
+
+impl<O: Meets + Send, G: Tells + Sync> Starts for PortWorker<'_, O, G> {
+    ghost fresh = { λ w. MayBegin w.sys.now w.budget w.turn w.job (O.lane w.lane) };
+
+    fn start(&mut self) -> bool {
+        self.turn = start_job(&mut self.lane, self.sys, &mut self.job, self.budget);
+        is_idle(&self.turn)
+    }
+
+    ghost rows_none = { λ w. refl };
+}

@@ -1,0 +1,11 @@
+mod Seeing
+mod Turning
+mod Passing
+mod Ending
+mod Sealing
+mod Beginning
+mod Coming
+mod Resting
+mod Rows
+mod Running
+mod CrossingLemmas

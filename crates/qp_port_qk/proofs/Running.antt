@@ -1,0 +1,265 @@
+-- From workers before their start to the lanes that their run leaves.
+use Rattle.std.proofs.Common.{◌≡◌, ℕ, zero, suc, ◌+◌, ◌≤◌, ◌==◌, Bool, true, false, List, [], ◌∷◌, ◌++◌, map, length, take, refl, sym, ◌∙◌, ap, subst, inl, arith, Option, Some, None, Result, Ok, Err}
+use Rattle.std.specs.Prelude.{IsTrue, IfOk, OnOk}
+use Rattle.std.specs.List.{AllByRecursion, find, list_all, list_any}
+use Rattle.std.specs.Option.{is_some}
+use Rattle.qp_model.specs.declared.stimulus.Stim.{Stim}
+use Rattle.qp_model.specs.declared.systems.System.{System}
+use Rattle.qp_model.specs.declared.systems.ObjectDef.{ObjectDef}
+use Rattle.qp_model.specs.declared.words.Word.TheVariants as word
+use Rattle.qp_model.specs.Ends.{may_cut, quiet}
+use Rattle.qp_model.specs.Kernels.{qk}
+use Rattle.qp_model.specs.Sites.{object_at}
+use Rattle.qp_model.specs.Sound.{IsSound}
+use Rattle.qp_model.specs.Sources.{priorities}
+use Rattle.qp_model.specs.WordLaw.{is_object}
+use Rattle.qp_model.proofs.AbleLemmas.{some-same}
+use Rattle.qp_model.proofs.ObjectLemmas.{found-passes}
+use Rattle.qp_model_order.specs.RunOrder.{has_stim}
+use Rattle.qp_stim.specs.Rules.{StimuliFit}
+use Rattle.qp_calls.specs.LaneView.{LaneView}
+use Rattle.qp_dispatch.specs.declared.objects.Turn.{Turn}
+use Rattle.qp_kernel.specs.Happenings.{lanes_of}
+use Rattle.qp_kernel.specs.Turning.{under_qk}
+use Rattle.qp_kernel.specs.ZeroEnds.{own_told}
+use Rattle.qp_kernel_end.specs.declared.rest.Rest.{Rest}
+use Rattle.qp_kernel_end.specs.Rests.{AreRests}
+use Rattle.qp_kernel_turns.specs.Knowing.{IsNamed}
+use Rattle.qp_kernel_turns.specs.Turning.{EndsSo, stand_of}
+use Rattle.qp_kernel_turns.specs.TurnRows.{idle_rows}
+use Rattle.qp_kernel_turns.proofs.RoundRows.{object-there}
+use Rattle.qp_kernel_turns.proofs.SoundObjects.{is-object, named}
+use Rattle.qp_port_workers.specs.Turns.{AreReady}
+use Rattle.qp_port_phases.specs.declared.phases.Ended.{Ended}
+use Rattle.qp_port_phases.specs.declared.phases.Ended.TheVariants as ended
+use Rattle.qp_port_phases.specs.Lanes.{AreObjects, AreOneTable, SameEach}
+use Rattle.qp_port_phases.specs.Quiet.{AllBelow, AreEmpty, HasEnded, IsEmpty, IsQuiet}
+use Rattle.qp_port_phases.specs.Rows.{HasFewRows}
+use Rattle.qp_port_law.specs.SourcesLeft.{SourceLeaves}
+use Rattle.qp_port_quiet.specs.Laws.{IsLastLook}
+use Rattle.qp_port_quiet.specs.Sealed.{IsLaneAt}
+use Rattle.qp_port_rests.proofs.Turned.{turned_kernels_end, turned_kernels_rest}
+use Rattle.qp_port_sealed.specs.Lanes.{HaveNone, SourcesAre, settles_in}
+use Rattle.qp_port_sealed.specs.QkLanes.{QkRests}
+use Rattle.qp_port_cursor.proofs.Standing.{done-end}
+use Rattle.qp_port_qk.specs.declared.job.Job.{Job}
+use Rattle.qp_port_qk.specs.declared.job.Job.TheVariants as job
+use Rattle.qp_port_qk.specs.Ends.{HasRun, MayEndQuietly, MayEndSo}
+use Rattle.qp_port_qk.specs.Jobs.{JobMayEnd, JobRests, JobStands, JobStops, is_idle, is_left_in, is_short}
+use Rattle.qp_port_qk.specs.KernelRests.{KernelEnds, KernelRests}
+use Rattle.qp_port_qk.specs.Numbers.{job_rows, numbers_of}
+use Rattle.qp_port_qk.specs.Resting.{AreLeft, AreShownBy, AreShownFirst}
+use Rattle.qp_port_qk.specs.Rows.{AreSameLanes, AreSources, IsKernel, IsRow, IsSourceOf}
+use Rattle.qp_port_qk.specs.Workers.{IsSameWorker, MayEnd, MayTurn}
+use Rattle.qp_port_qk.proofs.Beginning.{AreReadyAll}
+use Rattle.qp_port_qk.proofs.Ending.{has-turned}
+use Rattle.qp_port_qk.proofs.Resting.{based-rest, no-rests, shown-rests}
+use Rattle.qp_port_qk.proofs.Rows.{ends-so, lanes-still, lost-none, ready-all, ready-both, ready-map, ready-none, ready-same, row-still, settles-are, turns-rest}
+use Rattle.qp_dispatch.specs.declared.objects.Turn.TheVariants as turn
+
+-- the objects of the system are those that lanes look at
+objects-from : (sys : System) → IsSound sys → (v : LaneView) → v.sys ≡ sys → (ds : List ObjectDef) → AllByRecursion (λ d. IsNamed sys d.priority) ds → AreObjects v (map (λ d. d.priority) ds)
+objects-from sys sound v of [] h = tt
+objects-from sys sound v of (d ∷ ds) h = (
+  subst (λ u. is_object u d.priority ≡ true) (sym of) (subst (λ p. is_object sys p ≡ true) h.0.is (is-object sys sound h.0.object h.0.found)),
+  objects-from sys sound v of ds h.1,
+)
+
+-- One worker.
+
+first-ends : (sys : System) (budget : ℕ) (x : Job) (v : LaneView) → IsKernel x → JobMayEnd sys budget x v → KernelEnds sys budget v
+first-ends sys budget (job.Kernel xs k) v is h = h
+first-ends sys budget (job.Source x) v is h = absurd is
+
+source-early : (sys : System) (budget end : ℕ) (ss : List Stim) (v : LaneView) → may_cut end ≡ true → (x : Job) → IsSourceOf ss x → JobMayEnd sys budget x v → SourceLeaves sys qk end ss v.told
+source-early sys budget end ss v early (job.Source x) is h = subst (λ xs. SourceLeaves sys qk end xs v.told) is (h qk end refl early)
+source-early sys budget end ss v early (job.Kernel xs k) is h = absurd is
+
+source-quiet : (sys : System) (budget : ℕ) (ss : List Stim) (v : LaneView) (x : Job) → IsSourceOf ss x → is_left_in x ≡ false → JobRests sys budget x v → SourceLeaves sys qk quiet ss v.told × (v.hands ≡ [])
+source-quiet sys budget ss v (job.Source x) is none h = (subst (λ xs. SourceLeaves sys qk quiet xs v.told) is (done-end sys x v qk quiet h refl none), h.at.hands)
+source-quiet sys budget ss v (job.Kernel xs k) is none h = absurd is
+
+first-rows : (sys : System) (budget : ℕ) (x : Job) (v : LaneView) → IsKernel x → job_rows sys budget x v ≡ idle_rows sys (under_qk budget) v
+first-rows sys budget (job.Kernel xs k) v is = refl
+first-rows sys budget (job.Source x) v is = absurd is
+
+first-quiet : (sys : System) (budget : ℕ) → IsSound sys → (x : Job) (v : LaneView) (sources : List LaneView) → IsKernel x → JobRests sys budget x v → ((a : ℕ) → IsTrue (is_object sys a) → IsLastLook (v ∷ sources) a v) → HaveNone sources
+    → EndsSo sys (under_qk budget) quiet v.told (has_stim (lanes_of v)) × QkRests sys budget v sources
+first-quiet sys budget sound (job.Kernel xs k) v sources is h looks none = (
+  turned_kernels_end sys budget h.first h.start (stand_of k xs v) quiet (has-turned sys budget sound xs k v h) (inl refl),
+  turned_kernels_rest sys budget h.first h.start (stand_of k xs v) sources (has-turned sys budget sound xs k v h) looks none,
+)
+first-quiet sys budget sound (job.Source x) v sources is h looks none = absurd is
+
+first-told : (acts : Bool) (sys : System) (budget : ℕ) (t : Turn) (x : Job) (v : LaneView) (rests : List Rest) → IsSound sys → is_short t ≡ false → JobStands sys budget t x v → AreShownBy x rests → AreRests sys (λ o. own_told o v.told) rests
+first-told acts sys budget t (job.Source x) v rests sound long h shown = subst (AreRests sys (λ o. own_told o v.told)) (sym shown) (no-rests sys (λ o. own_told o v.told))
+first-told acts sys budget turn.Idle (job.Kernel xs k) v rests sound long h shown = shown-rests sys sound (stand_of k xs v) (based-rest sys budget sound xs k v h) rests shown
+first-told acts sys budget turn.Stopped (job.Kernel xs k) v rests sound long h shown = shown-rests sys sound (stand_of k xs v) h.others rests shown
+first-told acts sys budget turn.Memory (job.Kernel xs k) v rests sound long h shown = absurd (cc)
+
+-- The last look.
+
+module _ {T : Type 0} (view : T → LaneView) where
+  below-at : (v : LaneView) (ws : List T) → AllBelow view v ws → (a n : ℕ) (u : LaneView) → IsLaneAt (map view ws) n u → u.mark (word.Queue a) ≤ v.mark (word.Queue a)
+  below-at v [] h a zero u at = absurd (cc)
+  below-at v [] h a (suc n) u at = absurd (cc)
+  below-at v (w ∷ ws) h a zero u at = let same : view w ≡ u = some-same at in subst (λ (x : LaneView). x.mark (word.Queue a) ≤ v.mark (word.Queue a)) same (h.0 a)
+  below-at v (w ∷ ws) h a (suc n) u at = below-at v ws h.1 a n u at
+
+  below-all : (w : T) (ws : List T) → AllBelow view (view w) ws → (a n : ℕ) (u : LaneView) → IsLaneAt (view w ∷ map view ws) n u → u.mark (word.Queue a) ≤ (view w).mark (word.Queue a)
+  below-all w ws h a zero u at = let same : view w ≡ u = some-same at in subst (λ (x : LaneView). x.mark (word.Queue a) ≤ (view w).mark (word.Queue a)) same (omega arith)
+  below-all w ws h a (suc n) u at = below-at (view w) ws h a n u at
+
+  empty-of : (v : LaneView) (ds : List ObjectDef) → AreEmpty (map (λ d. d.priority) ds) v → AllByRecursion (λ d. IsEmpty v d.priority) ds
+  empty-of v [] h = tt
+  empty-of v (d ∷ ds) h = (h.0, empty-of v ds h.1)
+
+  empty-at : (sys : System) (v : LaneView) (a : ℕ) → AreEmpty (priorities sys) v → IsTrue (is_object sys a) → IsEmpty v a
+  unfolding object_at
+  empty-at sys v a h its =
+      let o = object-there sys a its in
+      subst (IsEmpty v) o.2 (found-passes (λ d. IsEmpty v d.priority) o.0.priority sys.objects o.0 (empty-of v sys.objects h) o.1)
+
+  pub last-look : (sys : System) (w : T) (ws : List T) → AllBelow view (view w) ws → AreEmpty (priorities sys) (view w) → (a : ℕ) → IsTrue (is_object sys a) → IsLastLook (view w ∷ map view ws) a (view w)
+  last-look sys w ws below empty a its =
+      let e = empty-at sys (view w) a empty its in
+      let none = e.empty in
+      record { below = λ n u at. below-all w ws below a n u at; f = e.f; l = e.l; m = e.m; says = e.shown; none = omega (arith, none) }
+
+module _ {T : Type 0} (work : T → Job) (view : T → LaneView) (sys : System) (budget : ℕ) where
+  sources-early : (end : ℕ) → may_cut end ≡ true → (more : List (List Stim)) (ws : List T) → AreSources work more ws → AreReady (λ w. JobMayEnd sys budget (work w) (view w)) ws → SourcesAre sys qk end more (map view ws)
+  sources-early end early [] [] row h = tt
+  sources-early end early (ss ∷ more) (w ∷ ws) row h = (source-early sys budget end ss (view w) early (work w) row.0 h.0, sources-early end early more ws row.1 h.1)
+  sources-early end early [] (w ∷ ws) row h = absurd row
+  sources-early end early (ss ∷ more) [] row h = absurd row
+
+  sources-quiet : (more : List (List Stim)) (ws : List T) → AreSources work more ws → AreReady (λ w. JobRests sys budget (work w) (view w)) ws → AreReady (λ w. is_left_in (work w) ≡ false) ws
+      → SourcesAre sys qk quiet more (map view ws) × HaveNone (map view ws)
+  sources-quiet [] [] row h none = (tt, tt)
+  sources-quiet (ss ∷ more) (w ∷ ws) row h none =
+      let here = source-quiet sys budget ss (view w) (work w) row.0 none.0 h.0 in
+      let behind = sources-quiet more ws row.1 h.1 none.1 in
+      ((here.0, behind.0), (here.1, behind.1))
+  sources-quiet [] (w ∷ ws) row h none = absurd row
+  sources-quiet (ss ∷ more) [] row h none = absurd row
+
+  pub ends-all : (sound : IsSound sys) (stimuli : List (List Stim)) (done : Bool) (rests : List Rest) (w : T) (ws : List T) → IsRow work stimuli (w ∷ ws) → AreReady (λ w. JobMayEnd sys budget (work w) (view w)) (w ∷ ws)
+      → (done ≡ true → AreReady (λ w. JobRests sys budget (work w) (view w)) (w ∷ ws) × HasEnded view (λ w. is_left_in (work w)) (priorities sys) (w ∷ ws))
+      → job_rows sys budget (work w) (view w) ≤ settles_in (map view (w ∷ ws)) + 1 → AreRests sys (λ o. own_told o (view w).told) rests → HasRun sys stimuli budget done rests (map view (w ∷ ws))
+  ends-all sound stimuli done rests w ws row h quietly few told = record {
+    first = view w;
+    sources = map view ws;
+    are = refl;
+    early = λ end early. record { zero = first-ends sys budget (work w) (view w) row.0 h.0 end early; leave = sources-early end early stimuli ws row.1 h.1 };
+    quietly = λ is.
+        let all = quietly is in
+        let none = sources-quiet stimuli ws row.1 all.0.1 (ready-none (λ w. is_left_in (work w)) ws all.1.none) in
+        let first = first-quiet sys budget sound (work w) (view w) (map view ws) row.0 all.0.0 (last-look view sys w ws all.1.below all.1.empty) none.1 in
+        record { ends = record { zero = first.0; leave = none.0 }; rests = first.1 };
+    rows = subst (λ n. n ≤ settles_in (map view (w ∷ ws)) + 1) (first-rows sys budget (work w) (view w) row.0) few;
+    told = told;
+  }
+
+module _ (acts : Bool) (alone : acts ≡ false) (sys : System) (stimuli : List (List Stim)) (budget : ℕ) (sound : IsSound sys) (fit : StimuliFit sys stimuli) (few : budget ≤ 1000000)
+    {T : Type 0} (s : T → System) (b : T → ℕ) (t : T → Turn) (work : T → Job) (view : T → LaneView) (xs : List T) (all : AreReadyAll acts alone sys stimuli budget sound fit few s b t work view xs) where
+  pub one-table : (objects : List ℕ) → objects ≡ priorities sys → AreOneTable view objects xs
+  one-table objects are = rw all.are (all.together_are, subst (AreObjects (view all.first)) (sym are) (objects-from sys sound (view all.first) all.of sys.objects (named sys sound)))
+
+  abbrev Same : T → T → Type 0
+  Same x y = IsSameWorker (s x) (s y) (b x) (b y) (work x) (work y) (view x) (view y)
+
+  module _ (ys : List T) (same : SameEach Same xs ys) where
+    pub same-lanes : AreSameLanes (map view xs) (map view ys)
+    same-lanes = lanes-still view Same (λ x y h. h.lane) xs ys same
+
+    row : IsRow work stimuli ys
+    row = row-still work Same (λ x y h. h.job) stimuli xs ys same all.row
+
+    terms : AreReady (λ w. (s w ≡ sys) × (b w ≡ budget)) ys
+    terms = ready-same Same (λ w. (s w ≡ sys) × (b w ≡ budget)) (λ x y h k. (h.sys ∙ k.0, h.budget ∙ k.1)) xs ys same all.terms
+
+    ends-may : AreReady (λ w. MayEnd (s w) (b w) (t w) (work w) (view w)) ys → list_any (λ w. is_short (t w)) ys ≡ false → AreReady (λ w. JobMayEnd sys budget (work w) (view w)) ys
+    ends-may ends long =
+        ready-map (λ w. (MayEnd (s w) (b w) (t w) (work w) (view w) × (is_short (t w) ≡ false)) × ((s w ≡ sys) × (b w ≡ budget))) (λ w. JobMayEnd sys budget (work w) (view w))
+        (λ w h. subst (λ n. JobMayEnd sys n (work w) (view w)) h.1.1 (subst (λ u. JobMayEnd u (b w) (work w) (view w)) h.1.0 (ends-so (s w) (b w) (t w) (work w) (view w) h.0.1 h.0.0)))
+        ys
+        (ready-both (λ w. MayEnd (s w) (b w) (t w) (work w) (view w) × (is_short (t w) ≡ false)) (λ w. (s w ≡ sys) × (b w ≡ budget)) ys
+        (ready-both (λ w. MayEnd (s w) (b w) (t w) (work w) (view w)) (λ w. is_short (t w) ≡ false) ys ends (ready-none (λ w. is_short (t w)) ys long)) terms)
+
+    rests-all : AreReady (λ w. MayTurn acts (s w) (b w) (t w) (work w) (view w)) ys → list_all (λ w. is_idle (t w)) ys ≡ true → AreReady (λ w. JobRests sys budget (work w) (view w)) ys
+    rests-all ready idle =
+        ready-map (λ w. (MayTurn acts (s w) (b w) (t w) (work w) (view w) × (is_idle (t w) ≡ true)) × ((s w ≡ sys) × (b w ≡ budget))) (λ w. JobRests sys budget (work w) (view w))
+        (λ w h. subst (λ n. JobRests sys n (work w) (view w)) h.1.1 (subst (λ u. JobRests u (b w) (work w) (view w)) h.1.0 (turns-rest acts (s w) (b w) (t w) (work w) (view w) h.0.1 h.0.0)))
+        ys
+        (ready-both (λ w. MayTurn acts (s w) (b w) (t w) (work w) (view w) × (is_idle (t w) ≡ true)) (λ w. (s w ≡ sys) × (b w ≡ budget)) ys
+        (ready-both (λ w. MayTurn acts (s w) (b w) (t w) (work w) (view w)) (λ w. is_idle (t w) ≡ true) ys ready (ready-all (λ w. is_idle (t w)) ys idle)) terms)
+
+    pub ran : (how : Option Ended) (done : Bool) (rests : List Rest) (objects : List ℕ) → objects ≡ priorities sys → AreReady (λ w. MayEnd (s w) (b w) (t w) (work w) (view w)) ys
+        → ((e : Ended) → how ≡ Some e → AreReady (λ w. MayTurn acts (s w) (b w) (t w) (work w) (view w)) ys) → HasFewRows (λ w. numbers_of (s w) (b w) (t w) (work w) (view w)) 1 ys
+        → (how ≡ Some ended.Idle → HasEnded view (λ w. is_left_in (work w)) objects ys)
+        → AreLeft work how ys rests → list_any (λ w. is_short (t w)) ys ≡ false → (done ≡ true → (how ≡ Some ended.Idle) × (list_all (λ w. is_idle (t w)) ys ≡ true)) → HasRun sys stimuli budget done rests (map view ys)
+    ran how done rests objects are ends ready rows idle shown long quietly = by ys refl
+      where
+        told-by : (h : Option Ended) → how ≡ h → (w : T) (ws : List T) → ys ≡ w ∷ ws → is_short (t w) ≡ false → s w ≡ sys → AreRests sys (λ o. own_told o (view w).told) rests
+        told-by None is w ws at free of = subst (AreRests sys (λ o. own_told o (view w).told)) (sym (subst (λ h. AreLeft work h ys rests) is shown)) (no-rests sys (λ o. own_told o (view w).told))
+        told-by (Some e) is w ws at free of =
+            let turns = subst (AreReady (λ w. MayTurn acts (s w) (b w) (t w) (work w) (view w))) at (ready e is) in
+            let mine : AreShownFirst work (w ∷ ws) rests = subst (λ us. AreShownFirst work us rests) at (subst (λ h. AreLeft work h ys rests) is shown) in
+            first-told acts sys (b w) (t w) (work w) (view w) rests sound free (subst (λ u. JobStands u (b w) (t w) (work w) (view w)) of turns.0.stands) mine
+
+        by : (zs : List T) → ys ≡ zs → HasRun sys stimuli budget done rests (map view ys)
+        by [] at = absurd (subst (IsRow work stimuli) at row)
+        by (w ∷ ws) at =
+            let long-here = ready-none (λ w. is_short (t w)) (w ∷ ws) (subst (λ us. list_any (λ w. is_short (t w)) us ≡ false) at long) in
+            let here = subst (AreReady (λ w. (s w ≡ sys) × (b w ≡ budget))) at terms in
+            let count = (subst (HasFewRows (λ w. numbers_of (s w) (b w) (t w) (work w) (view w)) 1) at rows) (lost-none s b t work view (w ∷ ws) (subst (λ us. list_any (λ w. is_short (t w)) us ≡ false) at long)) in
+            let settles = settles-are s b t work view (w ∷ ws) in
+            let mine : job_rows sys budget (work w) (view w) ≤ settles_in (map view (w ∷ ws)) + 1 =
+            subst (λ n. job_rows sys n (work w) (view w) ≤ settles_in (map view (w ∷ ws)) + 1) here.0.1
+            (subst (λ u. job_rows u (b w) (work w) (view w) ≤ settles_in (map view (w ∷ ws)) + 1) here.0.0
+            (subst (λ n. job_rows (s w) (b w) (work w) (view w) ≤ n + 1) settles count)) in
+            subst (λ us. HasRun sys stimuli budget done rests (map view us)) (sym at)
+            (ends-all work view sys budget sound stimuli done rests w ws (subst (IsRow work stimuli) at row)
+            (subst (AreReady (λ w. JobMayEnd sys budget (work w) (view w))) at (ends-may ends long))
+            (λ is. (
+              subst (AreReady (λ w. JobRests sys budget (work w) (view w))) at (rests-all (ready ended.Idle (quietly is).0) (quietly is).1),
+              subst (HasEnded view (λ w. is_left_in (work w)) (priorities sys)) at (subst (λ os. HasEnded view (λ w. is_left_in (work w)) os ys) are (idle (quietly is).0)),
+            ))
+            mine (told-by how refl w ws at long-here.0 here.0.0))
+
+-- The lanes themselves, as they are given and left.
+
+pub ok-map : {A E : Type 0} (P Q : A → Type 0) → ((a : A) → P a → Q a) → (r : Result A E) → IfOk r P → IfOk r Q
+ok-map P Q f (Ok a) h = f a h
+ok-map P Q f (Err e) h = tt
+
+pub ok-all : {A E : Type 0} (C : Type 0) (P Q R S : A → Type 0) → ((a : A) → P a → Q a → C → R a → S a) → (r : Result A E) → IfOk r P → IfOk r Q → OnOk r C → IfOk r R → IfOk r S
+ok-all C P Q R S f (Ok a) h k m n = f a h k m n
+ok-all C P Q R S f (Err e) h k m n = tt
+
+seen-both : {T L : Type 0} (lane : T → L) (see : L → LaneView) (ws : List T) → map see (map lane ws) ≡ map (λ w. see (lane w)) ws
+seen-both lane see [] = refl
+seen-both lane see (w ∷ ws) = ap (λ vs. see (lane w) ∷ vs) (seen-both lane see ws)
+
+pub lanes-left : {T L : Type 0} (lane : T → L) (see : L → LaneView) (ls ms : List L) (xs ys : List T) → ls ≡ map lane xs → ms ≡ map lane ys → AreSameLanes (map (λ w. see (lane w)) xs) (map (λ w. see (lane w)) ys) → AreSameLanes (map see ls) (map see ms)
+lanes-left lane see ls ms xs ys given left same =
+    subst (λ vs. AreSameLanes vs (map see ms)) (sym (ap (map see) given ∙ seen-both lane see xs)) (subst (AreSameLanes (map (λ w. see (lane w)) xs)) (sym (ap (map see) left ∙ seen-both lane see ys)) same)
+
+pub run-left : {T L : Type 0} (lane : T → L) (see : L → LaneView) (sys : System) (stimuli : List (List Stim)) (budget : ℕ) (done : Bool) (rests : List Rest) (ms : List L) (ys : List T) → ms ≡ map lane ys
+    → HasRun sys stimuli budget done rests (map (λ w. see (lane w)) ys) → HasRun sys stimuli budget done rests (map see ms)
+run-left lane see sys stimuli budget done rests ms ys left run = subst (HasRun sys stimuli budget done rests) (sym (ap (map see) left ∙ seen-both lane see ys)) run
+
+-- A vector has all of what was written through it.
+
+pub taken-whole : {A : Type 0} (n : ℕ) (xs ys : List A) → n ≡ length xs → take n (xs ++ ys) ≡ xs
+taken-whole zero [] [] h = refl
+taken-whole zero [] (y ∷ ys) h = refl
+taken-whole zero (x ∷ xs) ys h = absurd (omega (arith, h))
+taken-whole (suc n) [] ys h = absurd (omega (arith, h))
+taken-whole (suc n) (x ∷ xs) ys h = ap (λ zs. x ∷ zs) (taken-whole n xs ys (omega (arith, h)))
+
+pub each-long : {T : Type 0} (Same : T → T → Type 0) (xs ys : List T) → SameEach Same xs ys → length ys ≡ length xs
+each-long Same [] [] h = refl
+each-long Same (x ∷ xs) (y ∷ ys) h = ap suc (each-long Same xs ys h.1)
+each-long Same [] (y ∷ ys) h = absurd h
+each-long Same (x ∷ xs) [] h = absurd h

@@ -1,0 +1,25 @@
+use Rattle.std.proofs.Common.{inl, inr}
+use Rattle.qp_port_phases.proofs.Keeping.{same-each}
+use Rattle.qp_port_qk.proofs.Rows.{ready-map, rows-none}
+use Rattle.qp_port_qk.proofs.starting.start_first.Goals as goal
+
+pub returns-clause-each : goal.returns-clause-each
+returns-clause-each g c =
+    let parts = c.in-Some.ensures.cases in
+    let all = rw parts.0 at c.requires in
+    (inr c.start.ensures.ended, ready-map g.T.Worker.ready _ (λ w h. inl h) _ all.1)
+
+pub returns-clause-same : goal.returns-clause-same
+returns-clause-same g c =
+    let laws = (g.met.T.Lane g.world.𝓛 g.world.𝓜 g.world.𝓡 ((λ s x. x), (λ x. x), (λ x. x), λ x. x)) in
+    let parts = c.in-Some.ensures.cases in
+    rw parts.0 (c.start.ensures.same, same-each g.T.Lane.same laws.same_itself _)
+
+pub returns-clause-ready : goal.returns-clause-ready
+returns-clause-ready g c =
+    let parts = c.in-Some.ensures.cases in
+    let all = rw parts.0 at c.requires in
+    λ said. (c.start.ensures.ready said, all.1)
+
+pub returns-clause-rows : goal.returns-clause-rows
+returns-clause-rows g c = λ more. rows-none g.T.Lane.numbers more c.start.new.self _ c.start.ensures.none

@@ -1,0 +1,93 @@
+-- What runs in a lane, and where it stands there.
+use Rattle.std.specs.Prelude.{◌≡◌, ℕ, Bool, true, false, ⊤}
+use Rattle.qp_model.specs.declared.systems.System.{System}
+use Rattle.qp_model.specs.Kernels.{may_try}
+use Rattle.qp_model.specs.Ends.{may_cut}
+use Rattle.qp_calls.specs.LaneView.{LaneView}
+use Rattle.qp_dispatch.specs.declared.objects.Turn.{Turn}
+use Rattle.qp_dispatch.specs.declared.objects.Turn.TheVariants as turn
+use Rattle.qp_kernel.specs.declared.kernel.Kernel.{Kernel}
+use Rattle.qp_kernel_turns.specs.declared.objects.Objects.{Objects}
+use Rattle.qp_port_law.specs.SourcesLeft.{SourceLeaves}
+use Rattle.qp_port_cursor.specs.At.{IsCursorAt, at_settle_in, left_in, mine}
+use Rattle.qp_port_cursor.specs.declared.passing.Passed.{Passed}
+use Rattle.qp_port_cursor.specs.declared.passing.Passed.TheVariants as passed
+use Rattle.qp_port_qk.specs.declared.job.Job.{Job}
+use Rattle.qp_port_qk.specs.declared.job.Job.TheVariants as job
+use Rattle.qp_port_qk.specs.KernelRests.{KernelBegins, KernelEnds, KernelRests, KernelStops}
+
+abbrev pub is_idle : Turn → Bool
+is_idle turn.Idle = true
+is_idle turn.Stopped = false
+is_idle turn.Memory = false
+
+abbrev pub is_short : Turn → Bool
+is_short turn.Idle = false
+is_short turn.Stopped = false
+is_short turn.Memory = true
+
+-- a source that stands at a `settle`
+abbrev pub stands_at_settle : Job → Bool
+stands_at_settle (job.Kernel xs k) = false
+stands_at_settle (job.Source x) = at_settle_in x
+
+-- a source that has a stimulus left
+abbrev pub is_left_in : Job → Bool
+is_left_in (job.Kernel xs k) = false
+is_left_in (job.Source x) = left_in x
+
+-- the kernel, or a source of the same stimuli
+abbrev pub IsSameJob : Job → Job → Type 0
+IsSameJob (job.Kernel xs k) (job.Kernel ys l) = ⊤
+IsSameJob (job.Source x) (job.Source y) = mine y ≡ mine x
+IsSameJob _ _ = ⊥
+
+-- between two turns
+abbrev pub JobRests : System → ℕ → Job → LaneView → Type 0
+JobRests sys budget (job.Kernel xs k) v = KernelRests sys budget xs k v
+JobRests sys budget (job.Source x) v = IsCursorAt sys x v
+
+-- where the run stops early, the lane may end so
+abbrev pub JobStops : System → ℕ → Job → LaneView → Type 0
+JobStops sys budget (job.Kernel xs k) v = KernelStops sys budget xs k v
+JobStops sys budget (job.Source x) v = (kernel end : ℕ) → may_try kernel ≡ true → may_cut end ≡ true → SourceLeaves sys kernel end (mine x) v.told
+
+-- behind a turn with this answer
+abbrev pub JobStands : System → ℕ → Turn → Job → LaneView → Type 0
+JobStands sys budget turn.Idle x v = JobRests sys budget x v
+JobStands sys budget turn.Stopped x v = JobStops sys budget x v
+JobStands sys budget turn.Memory x v = Unit {0}
+
+abbrev pub KernelStands : System → ℕ → Turn → Objects → Kernel → LaneView → Type 0
+KernelStands sys budget turn.Idle xs k v = KernelRests sys budget xs k v
+KernelStands sys budget turn.Stopped xs k v = KernelStops sys budget xs k v
+KernelStands sys budget turn.Memory xs k v = Unit {0}
+
+-- the answer of a turn that ended so
+abbrev pub turn_by : Passed → Turn
+turn_by passed.Yes = turn.Idle
+turn_by (passed.Found p now) = turn.Idle
+turn_by passed.Stopped = turn.Stopped
+turn_by passed.Memory = turn.Memory
+
+-- before the start
+abbrev pub JobBegins : System → Job → LaneView → Type 0
+JobBegins sys (job.Kernel xs k) v = KernelBegins sys xs k v
+JobBegins sys (job.Source x) v = IsCursorAt sys x v
+
+-- where the run stopped early, the lane may end so; nothing is known of objects whose start broke off
+abbrev pub JobMayEnd : System → ℕ → Job → LaneView → Type 0
+JobMayEnd sys budget (job.Kernel xs k) v = KernelEnds sys budget v
+JobMayEnd sys budget (job.Source x) v = (kernel end : ℕ) → may_try kernel ≡ true → may_cut end ≡ true → SourceLeaves sys kernel end (mine x) v.told
+
+-- where the run has ended, want of memory apart
+abbrev pub JobEnds : System → ℕ → Turn → Job → LaneView → Type 0
+JobEnds sys budget turn.Idle x v = JobMayEnd sys budget x v
+JobEnds sys budget turn.Stopped x v = JobMayEnd sys budget x v
+JobEnds sys budget turn.Memory x v = Unit {0}
+
+-- behind the start
+abbrev pub JobStarts : System → ℕ → Turn → Job → LaneView → Type 0
+JobStarts sys budget turn.Idle x v = JobRests sys budget x v
+JobStarts sys budget turn.Stopped x v = JobMayEnd sys budget x v
+JobStarts sys budget turn.Memory x v = Unit {0}

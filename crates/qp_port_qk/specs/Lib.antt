@@ -1,0 +1,9 @@
+pub mod KernelRests
+pub mod Jobs
+pub mod Numbers
+pub mod Workers
+pub mod Rows
+pub mod Making
+pub mod Resting
+pub mod Ends
+pub mod Laws

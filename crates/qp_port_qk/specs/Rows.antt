@@ -1,0 +1,56 @@
+-- Rows of lanes and workers: the kernel's, then one for each source.
+use Rattle.std.specs.Prelude.{◌≡◌, ℕ, true, List, [], ◌∷◌, ⊤, Some}
+use Rattle.qp_model.specs.declared.stimulus.Stim.{Stim}
+use Rattle.qp_model.specs.declared.systems.System.{System}
+use Rattle.qp_model.specs.declared.systems.ObjectDef.{ObjectDef}
+use Rattle.qp_model.specs.Sites.{object_at}
+use Rattle.qp_calls.specs.LaneView.{IsNew, LaneView}
+use Rattle.qp_kernel_turns.specs.Lanes.{SameLane}
+use Rattle.qp_port_cursor.specs.At.{mine}
+use Rattle.qp_port_qk.specs.declared.job.Job.{Job}
+use Rattle.qp_port_qk.specs.declared.job.Job.TheVariants as job
+
+-- a new lane for this system, in the table of this name
+pub record IsNewOf (sys : System) (world : List ℕ) (v : LaneView) : Type 0 where
+  pub new : IsNew v
+  pub of : v.sys ≡ sys
+  pub world_is : v.world ≡ world
+
+abbrev pub AreNew : System → List ℕ → List (List Stim) → List LaneView → Type 0
+AreNew sys world [] [] = ⊤
+AreNew sys world (ss ∷ more) (v ∷ vs) = IsNewOf sys world v × AreNew sys world more vs
+AreNew sys world [] (v ∷ vs) = ⊥
+AreNew sys world (ss ∷ more) [] = ⊥
+
+-- All lanes of a table, before their run. The first serves all objects, and no stimuli stand in its plan.
+abbrev pub AreNewLanes : System → List (List Stim) → List LaneView → Type 0
+AreNewLanes sys stimuli [] = ⊥
+AreNewLanes sys stimuli (v ∷ vs) =
+    IsNewOf sys v.world v × ((d : ObjectDef) → object_at sys d.priority ≡ Some d → v.serves d.priority ≡ true) × (v.plan ≡ []) × AreNew sys v.world stimuli vs
+
+-- each is the same lane as before
+abbrev pub AreSameLanes : List LaneView → List LaneView → Type 0
+AreSameLanes [] [] = ⊤
+AreSameLanes (v ∷ vs) (w ∷ ws) = SameLane v w × AreSameLanes vs ws
+AreSameLanes [] (w ∷ ws) = ⊥
+AreSameLanes (v ∷ vs) [] = ⊥
+
+abbrev pub IsKernel : Job → Type 0
+IsKernel (job.Kernel xs k) = ⊤
+IsKernel (job.Source x) = ⊥
+
+abbrev pub IsSourceOf : List Stim → Job → Type 0
+IsSourceOf ss (job.Source x) = mine x ≡ ss
+IsSourceOf ss (job.Kernel xs k) = ⊥
+
+-- a worker for each of these sources
+abbrev pub AreSources : {T : Type 0} → (T → Job) → List (List Stim) → List T → Type 0
+AreSources work [] [] = ⊤
+AreSources work (ss ∷ more) (w ∷ ws) = IsSourceOf ss (work w) × AreSources work more ws
+AreSources work [] (w ∷ ws) = ⊥
+AreSources work (ss ∷ more) [] = ⊥
+
+-- the first has the kernel
+abbrev pub IsRow : {T : Type 0} → (T → Job) → List (List Stim) → List T → Type 0
+IsRow work more [] = ⊥
+IsRow work more (w ∷ ws) = IsKernel (work w) × AreSources work more ws

@@ -1,0 +1,172 @@
+//! What runs in a lane: its turn, and how it passes a `settle`.
+
+ghost use Rattle.std.specs.Prelude.{◌≡◌, ◌≤◌, true, false};
+ghost use Rattle.qp_dispatch.specs.declared.objects.Turn.TheVariants as turn;
+ghost use Rattle.qp_port_qk.specs.declared.job.Job.TheVariants as job;
+ghost use Rattle.qp_model.specs.Sound.{IsSound};
+ghost use Rattle.qp_kernel_turns.specs.Lanes.{SameLane};
+ghost use Rattle.qp_port_phases.specs.Rows.{CountsOn};
+ghost use Rattle.qp_port_qk.specs.Jobs.{IsSameJob, JobBegins, JobRests, JobStands, JobStarts, KernelStands, is_idle, is_left_in, is_short, stands_at_settle, turn_by};
+ghost use Rattle.qp_port_qk.specs.KernelRests.{KernelBegins, KernelRests};
+ghost use Rattle.qp_port_qk.specs.Numbers.{JobPassCounts, job_rows, numbers_of};
+
+use qp_calls::Ops;
+use qp_dispatch::{Step, Turn};
+use qp_kernel::{Kernel, World};
+use qp_kernel_turns::{Bounds, Objects, kernel_turn};
+use qp_model::System;
+use qp_port_cursor::{Cursor, Passed, pass_settle, source_turn};
+use qp_tells::Tells;
+use std::sync::Wait;
+
+/// What runs in a lane.
+#[derive(Drop)]
+pub enum Job<'a> {
+    /// The kernel with all objects: lane 0.
+    Kernel(Objects, Kernel),
+    /// A source of stimuli.
+    Source(Cursor<'a>),
+}
+
+/// Whether a turn with this answer may be followed by another.
+pub(crate) fn is_idle(turn: &Turn) -> bool
+    ensures { result ≡ is_idle turn.now }
+{
+    matches!(turn, Turn::Idle)
+}
+
+/// Whether it ended for want of memory.
+pub(crate) fn is_short(turn: &Turn) -> bool
+    ensures { result ≡ is_short turn.now }
+{
+    matches!(turn, Turn::Memory)
+}
+
+/// Starts all objects, in a lane in which nothing has happened.
+fn start_kernel<O: Ops>(
+    ops: &mut O,
+    sys: &System,
+    objects: &mut Objects,
+    kernel: &Kernel,
+    budget: u32,
+) -> Turn
+    requires sound { IsSound sys.now }
+    requires begins { KernelBegins sys.now objects.old kernel.now (O.lane ops.old) }
+    ensures starts { JobStarts sys.now budget result (job.Kernel objects.new kernel.now) (O.lane ops.new) }
+    ensures lane { SameLane (O.lane ops.old) (O.lane ops.new) }
+    ensures none { is_short result ≡ false → job_rows sys.now budget (job.Kernel objects.new kernel.now) (O.lane ops.new) ≡ 0 }
+{
+    let _ = budget;
+    let _ = kernel;
+    match objects.start(ops, sys) {
+        Step::Done => Turn::Idle,
+        Step::Stopped => Turn::Stopped,
+        Step::Point | Step::Memory => Turn::Memory,
+    }
+}
+
+/// Starts what runs in the lane, if that has a start.
+pub(crate) fn start_job<O: Ops>(ops: &mut O, sys: &System, job: &mut Job<'_>, budget: u32) -> Turn
+    requires sound { IsSound sys.now }
+    requires begins { JobBegins sys.now job.old (O.lane ops.old) }
+    ensures starts { JobStarts sys.now budget result job.new (O.lane ops.new) }
+    ensures same { IsSameJob job.old job.new }
+    ensures lane { SameLane (O.lane ops.old) (O.lane ops.new) }
+    ensures none { is_short result ≡ false → job_rows sys.now budget job.new (O.lane ops.new) ≡ 0 }
+{
+    match job {
+        Job::Kernel(objects, kernel) => start_kernel(ops, sys, objects, kernel, budget),
+        Job::Source(_) => Turn::Idle,
+    }
+}
+
+/// A turn of the kernel, in a world in whose looks nothing happens.
+fn run_kernel<R: Wait, W: World, G: Tells>(
+    rt: &R,
+    world: &mut W,
+    sys: &System,
+    objects: &mut Objects,
+    kernel: &mut Kernel,
+    budget: u32,
+    gate: &G,
+) -> Turn
+    requires sound { IsSound sys.now }
+    requires few { budget ≤ 1000000 }
+    requires alone { W.acts ≡ false }
+    requires rests { KernelRests sys.now budget objects.old kernel.old (W.lane world.old) }
+    ensures stands { KernelStands sys.now budget result objects.new kernel.new (W.lane world.new) }
+    ensures lane { SameLane (W.lane world.old) (W.lane world.new) }
+    ensures counts { CountsOn (W.lane world.old) (numbers_of sys.now budget turn.Idle (job.Kernel objects.old kernel.old) (W.lane world.old))
+        (numbers_of sys.now budget result (job.Kernel objects.new kernel.new) (W.lane world.new)) }
+{
+    let at = Bounds {
+        sys,
+        budget,
+        cooperative: false,
+        threaded: true,
+    };
+    kernel_turn(rt, world, &at, objects, kernel, gate)
+}
+
+/// A turn of what runs in the lane.
+pub(crate) fn run_job<R: Wait, W: World, G: Tells>(
+    rt: &R,
+    world: &mut W,
+    sys: &System,
+    job: &mut Job<'_>,
+    budget: u32,
+    gate: &G,
+) -> Turn
+    requires sound { IsSound sys.now }
+    requires few { budget ≤ 1000000 }
+    requires alone { W.acts ≡ false }
+    requires rests { JobRests sys.now budget job.old (W.lane world.old) }
+    ensures stands { JobStands sys.now budget result job.new (W.lane world.new) }
+    ensures same { IsSameJob job.old job.new }
+    ensures lane { SameLane (W.lane world.old) (W.lane world.new) }
+    ensures counts { CountsOn (W.lane world.old) (numbers_of sys.now budget turn.Idle job.old (W.lane world.old)) (numbers_of sys.now budget result job.new (W.lane world.new)) }
+{
+    match job {
+        Job::Kernel(objects, kernel) => run_kernel(rt, world, sys, objects, kernel, budget, gate),
+        Job::Source(source) => source_turn(world, sys, source, gate),
+    }
+}
+
+/// Passes the `settle` at which a source stands, or tries to.
+pub(crate) fn pass_job<O: Ops>(ops: &mut O, sys: &System, job: &mut Job<'_>, budget: u32) -> Passed
+    requires sound { IsSound sys.now }
+    requires rests { JobRests sys.now budget job.old (O.lane ops.old) }
+    requires stands { stands_at_settle job.old ≡ true }
+    ensures stands { JobStands sys.now budget (turn_by result) job.new (O.lane ops.new) }
+    ensures same { IsSameJob job.old job.new }
+    ensures lane { SameLane (O.lane ops.old) (O.lane ops.new) }
+    ensures counts { JobPassCounts (numbers_of sys.now budget turn.Idle job.old (O.lane ops.old)) (numbers_of sys.now budget (turn_by result) job.new (O.lane ops.new)) result }
+{
+    let _ = budget;
+    match job {
+        Job::Source(source) => pass_settle(ops, sys, source),
+        Job::Kernel(_, _) => unreachable!(),
+    }
+}
+
+impl Job<'_> {
+    /// Whether it is a source that stands at a `settle`.
+    pub fn stands_at_settle(&self) -> bool
+        ensures { result ≡ stands_at_settle self.now }
+    {
+        match self {
+            Job::Source(source) => source.at_settle(),
+            Job::Kernel(_, _) => false,
+        }
+    }
+
+    /// Whether it is a source that has a stimulus left.
+    pub fn is_left(&self) -> bool
+        ensures { result ≡ is_left_in self.now }
+    {
+        match self {
+            Job::Source(source) => source.left(),
+            Job::Kernel(_, _) => false,
+        }
+    }
+}

@@ -1,0 +1,8 @@
+//! Laws of runs that have ended. Each function here does nothing: its contract is the law.
+
+ghost use Rattle.qp_port_qk.specs.Laws.{SealedQkRunsAreLawful};
+
+/// The lanes of a run, sealed into a journal, leave a lawful one.
+pub fn sealed_qk_runs_are_lawful()
+    ensures { SealedQkRunsAreLawful }
+{}

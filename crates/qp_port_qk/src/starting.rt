@@ -1,0 +1,66 @@
+//! The start of the first of several workers, and then the phases.
+
+ghost use Rattle.std.specs.Prelude.{◌≡◌, ◌⊎◌, ℕ, Some, true, false};
+ghost use Rattle.qp_port_phases.specs.declared.phases.Ended.{Ended};
+ghost use Rattle.qp_port_phases.specs.declared.phases.Ended.TheVariants as ended;
+ghost use Rattle.qp_port_phases.specs.Lanes.{AreOneTable, SameEach};
+ghost use Rattle.qp_port_phases.specs.Quiet.{HasEnded};
+ghost use Rattle.qp_port_phases.specs.Rows.{HasFewRows};
+ghost use Rattle.qp_port_workers.specs.Turns.{AreReady};
+ghost use Rattle.qp_port_qk.specs.Workers.{FirstBegins};
+
+use qp_port_phases::{Ended, Lane, run_phases};
+use std::sync::Wait;
+use std::thread::Threads;
+
+/// The lane of a worker that has a start.
+pub trait Starts: Lane {
+    /// It hasn't started.
+    ghost begins: { Self → Type 0 };
+
+    /// It takes no more turns.
+    ghost ended: { Self → Type 0 };
+
+    /// Starts. Whether the start came to its end.
+    fn start(&mut self) -> bool
+        requires { begins self.old }
+        ensures ended { ended self.new }
+        ensures ready { result ≡ true → Self.Worker.ready self.new }
+        ensures same { Self.Lane.same self.old self.new }
+        ensures none { (Self.Lane.numbers self.new).lost ≡ false → (Self.Lane.numbers self.new).rows ≡ 0 };
+}
+
+/// Starts the first of these. Whether its start came to its end.
+fn start_first<T: Starts>(workers: &mut [T]) -> bool
+    requires { FirstBegins T.begins T.ready workers.old }
+    ensures each { AreReady (λ w. T.ready w ⊎ T.ended w) workers.new }
+    ensures same { SameEach T.same workers.old workers.new }
+    ensures ready { result ≡ true → AreReady T.ready workers.new }
+    ensures rows { (more : ℕ) → HasFewRows T.numbers more workers.new }
+{
+    let Some((first, _others)) = workers.split_first_mut() else {
+        return false;
+    };
+    first.start()
+}
+
+/// Starts the first of these, and runs the phases where its start came to its end; None where it did not.
+pub(crate) fn start_and_run<R: Threads + Wait + Sync, T: Starts>(
+    rt: &R,
+    objects: &[u8],
+    workers: &mut [T],
+) -> Option<Ended>
+    requires begins { FirstBegins T.begins T.ready workers.old }
+    requires table { AreOneTable T.view objects.now workers.old }
+    ensures each { AreReady (λ w. T.ready w ⊎ T.ended w) workers.new }
+    ensures same { SameEach T.same workers.old workers.new }
+    ensures ready { (how : Ended) → result ≡ Some how → AreReady T.ready workers.new }
+    ensures rows { HasFewRows T.numbers 1 workers.new }
+    ensures idle { result ≡ Some ended.Idle → HasEnded T.view T.remains objects.now workers.new }
+{
+    if start_first(workers) {
+        Some(run_phases(rt, objects, workers))
+    } else {
+        None
+    }
+}

@@ -1,0 +1,168 @@
+//! A lane with what runs in it.
+
+ghost use Rattle.std.specs.Prelude.{◌≡◌, false, true};
+ghost use Rattle.qp_port_phases.specs.Rows.{CountsOn};
+ghost use Rattle.qp_port_qk.specs.Jobs.{is_idle, is_left_in, is_short, stands_at_settle, turn_by};
+ghost use Rattle.qp_port_qk.specs.Numbers.{IsSamePassed, numbers_of};
+ghost use Rattle.qp_port_qk.specs.Workers.{IsSameWorker, MayBegin, MayEnd, MayTurn, same-itself, same-still, same-table};
+
+use crate::job::{Job, is_idle, is_short, pass_job, run_job, start_job};
+use crate::starting::Starts;
+use qp_calls::Counts;
+use qp_calls_meet::Meets;
+use qp_dispatch::Turn;
+use qp_kernel::World;
+use qp_model::System;
+use qp_port_cursor as cursor;
+use qp_port_phases::{Lane, Passed};
+use qp_port_workers::Worker;
+use qp_tells::Tells;
+use std::sync::Wait;
+
+/// A lane, what runs in it, and the answer of its last turn. One whose turn has stopped takes no more: it is a lane like another,
+/// and its turns do nothing. In the looks of its world nothing happens.
+#[derive(Drop)]
+pub struct QkWorker<'a, W: World + Meets, G: Tells> {
+    pub(crate) lane: W,
+    pub(crate) job: Job<'a>,
+    pub(crate) turn: Turn,
+    pub(crate) sys: &'a System,
+    pub(crate) budget: u32,
+    pub(crate) gate: &'a G,
+}
+
+impl<W: World + Meets, G: Tells> QkWorker<'_, W, G> {
+    /// Whether its last turn, or its start, came to its end.
+    pub(crate) fn is_idle(&self) -> bool
+        ensures { result ≡ is_idle self.now.turn }
+    {
+        is_idle(&self.turn)
+    }
+
+    /// Whether it ended for want of memory.
+    pub(crate) fn is_short(&self) -> bool
+        ensures { result ≡ is_short self.now.turn }
+    {
+        is_short(&self.turn)
+    }
+
+    /// Takes its turn, where it rests.
+    fn run<R: Wait>(&mut self, rt: &R)
+        requires ready { MayTurn W.acts self.old.sys.now self.old.budget self.old.turn self.old.job (W.lane self.old.lane) }
+        requires idle { is_idle self.old.turn ≡ true }
+        ensures ready { MayTurn W.acts self.new.sys.now self.new.budget self.new.turn self.new.job (W.lane self.new.lane) }
+        ensures same { IsSameWorker self.old.sys.now self.new.sys.now self.old.budget self.new.budget self.old.job self.new.job (W.lane self.old.lane) (W.lane self.new.lane) }
+        ensures counts { CountsOn (W.lane self.old.lane) (numbers_of self.old.sys.now self.old.budget self.old.turn self.old.job (W.lane self.old.lane))
+            (numbers_of self.new.sys.now self.new.budget self.new.turn self.new.job (W.lane self.new.lane)) }
+    {
+        self.turn = run_job(
+            rt,
+            &mut self.lane,
+            self.sys,
+            &mut self.job,
+            self.budget,
+            self.gate,
+        );
+    }
+}
+
+/// What a `settle` leaves of a worker: the answer of its turn.
+fn turn_by(passed: &cursor::Passed) -> Turn
+    ensures { result ≡ turn_by passed.now }
+{
+    match passed {
+        cursor::Passed::Yes | cursor::Passed::Found { .. } => Turn::Idle,
+        cursor::Passed::Stopped => Turn::Stopped,
+        cursor::Passed::Memory => Turn::Memory,
+    }
+}
+
+/// The same answer, as the phases have it.
+fn passed_by(passed: cursor::Passed) -> Passed
+    ensures { IsSamePassed passed result }
+{
+    match passed {
+        cursor::Passed::Yes => Passed::Yes,
+        cursor::Passed::Found { p, now } => Passed::Found { p, now },
+        cursor::Passed::Stopped => Passed::Stopped,
+        cursor::Passed::Memory => Passed::Memory,
+    }
+}
+
+impl<W: World + Meets + Send, G: Tells + Sync> Worker for QkWorker<'_, W, G> {
+    ghost ready = { λ w. MayTurn W.acts w.sys.now w.budget w.turn w.job (W.lane w.lane) };
+
+    ghost turned = { λ a b. MayTurn W.acts b.sys.now b.budget b.turn b.job (W.lane b.lane) × IsSameWorker a.sys.now b.sys.now a.budget b.budget a.job b.job (W.lane a.lane) (W.lane b.lane)
+        × CountsOn (W.lane a.lane) (numbers_of a.sys.now a.budget a.turn a.job (W.lane a.lane)) (numbers_of b.sys.now b.budget b.turn b.job (W.lane b.lane)) };
+
+    fn turn<R: Wait>(&mut self, rt: &R) {
+        if is_idle(&self.turn) {
+            self.run(rt);
+        }
+    }
+}
+
+impl<W: World + Meets + Send, G: Tells + Sync> Lane for QkWorker<'_, W, G> {
+    ghost view = { λ w. W.lane w.lane };
+
+    ghost waits = { λ w. stands_at_settle w.job };
+
+    ghost remains = { λ w. is_left_in w.job };
+
+    ghost numbers = { λ w. numbers_of w.sys.now w.budget w.turn w.job (W.lane w.lane) };
+
+    ghost same = { λ a b. IsSameWorker a.sys.now b.sys.now a.budget b.budget a.job b.job (W.lane a.lane) (W.lane b.lane) };
+
+    fn meet(&mut self, other: &mut Self) {
+        self.lane.meet(&mut other.lane);
+    }
+
+    fn at_settle(&self) -> bool {
+        self.job.stands_at_settle()
+    }
+
+    fn left(&self) -> bool {
+        self.job.is_left()
+    }
+
+    fn pass_settle(&mut self) -> Passed {
+        if is_idle(&self.turn) {
+            let passed = pass_job(&mut self.lane, self.sys, &mut self.job, self.budget);
+            self.turn = turn_by(&passed);
+            return passed_by(passed);
+        }
+        if is_short(&self.turn) {
+            return Passed::Memory;
+        }
+        Passed::Stopped
+    }
+
+    fn counts(&mut self, p: u8) -> Counts {
+        self.lane.counts(p)
+    }
+
+    fn stopped(&mut self) -> Option<u8> {
+        self.lane.stopped()
+    }
+
+    ghost same_itself = { λ a. same-itself a.sys.now a.budget a.job (W.lane a.lane) };
+
+    ghost same_still = { λ a b c h k. same-still a.sys.now b.sys.now c.sys.now a.budget b.budget c.budget a.job b.job c.job (W.lane a.lane) (W.lane b.lane) (W.lane c.lane) h k };
+
+    ghost same_table = { λ a b h. same-table a.sys.now b.sys.now a.budget b.budget a.job b.job (W.lane a.lane) (W.lane b.lane) h };
+
+    ghost went = { λ a b h. (h.0, h.1) };
+
+    ghost went_on = { λ a b h. h.2 };
+}
+
+impl<W: World + Meets + Send, G: Tells + Sync> Starts for QkWorker<'_, W, G> {
+    ghost begins = { λ w. MayBegin W.acts w.sys.now w.budget w.turn w.job (W.lane w.lane) };
+
+    ghost ended = { λ w. MayEnd w.sys.now w.budget w.turn w.job (W.lane w.lane) };
+
+    fn start(&mut self) -> bool {
+        self.turn = start_job(&mut self.lane, self.sys, &mut self.job, self.budget);
+        is_idle(&self.turn)
+    }
+}

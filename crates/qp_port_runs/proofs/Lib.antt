@@ -1,0 +1,5 @@
+pub mod Lanes
+mod PortLanes
+mod PortSealing
+pub mod QkSealing
+pub mod Worlds

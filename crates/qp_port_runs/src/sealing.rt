@@ -1,0 +1,42 @@
+//! A run that was sealed.
+
+ghost use Rattle.std.specs.Prelude.{◌≡◌, IfOk, map, true};
+ghost use Rattle.qp_model.specs.Ends.{quiet};
+ghost use Rattle.qp_port_quiet.specs.Sealed.{SealsLanes};
+ghost use Rattle.qp_shared.specs.Ending.{AreAll};
+ghost use Rattle.qp_shared.specs.Lane.{lane_view};
+
+use qp_base::Memory;
+use qp_kernel_end::Rest;
+use qp_model::ends::QUIET;
+use qp_shared::{Sealed, Shared, SharedLane};
+
+/// What a run with threads leaves: its journal, sealed, and where its objects rest.
+#[derive(Drop)]
+pub struct Threaded {
+    pub sealed: Sealed,
+    /// An object whose step was under way is not among them, and none where a start broke off.
+    pub rests: Vec<Rest>,
+}
+
+/// Seals the lanes of a run, which tells whether nothing was left to be done. Where something was, no journal of a quiet end is
+/// given: then a lane stopped for want of memory.
+pub(crate) fn seal(
+    shared: &Shared<'_>,
+    lanes: Vec<SharedLane<'_>>,
+    rests: Vec<Rest>,
+    done: bool,
+    kernel: u8,
+    budget: u32,
+) -> Result<Threaded, Memory>
+    requires all { AreAll shared.now (map lane_view lanes.items) }
+    ensures seals { IfOk result (λ run. SealsLanes shared.now.sys.now kernel budget (map lane_view lanes.entry.items) run.sealed.journal) }
+    ensures quiet { IfOk result (λ run. run.sealed.journal.end ≡ quiet → done ≡ true) }
+    ensures rests { IfOk result (λ run. run.rests.items ≡ rests.items) }
+{
+    let sealed = shared.finish(lanes, kernel, budget)?;
+    if sealed.journal().end == QUIET && !done {
+        return Err(Memory);
+    }
+    Ok(Threaded { sealed, rests })
+}
