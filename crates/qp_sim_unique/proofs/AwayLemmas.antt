@@ -1,6 +1,6 @@
 -- An object without a step under way goes on by an entry that it takes; and a list that is whole goes on by nothing.
-use Rattle.std.proofs.Common.{◌≡◌, ◌∙◌, ℕ, zero, suc, ◌+◌, ◌==◌, nat_lt, Bool, true, false, not, ◌&&◌, ◌||◌, cond, List, [], ◌∷◌, ◌++◌, length, Some, None, refl, sym, ap, subst, inl, inr, ◌⊎◌, arith}
-use Rattle.std.proofs.lemmas.Bool.{ne_eqb}
+use Rattle.std.proofs.Common.{◌≡◌, ◌∙◌, ℕ, zero, suc, ◌+◌, ◌==◌, nat_lt, Bool, true, false, not, ◌&&◌, cond, List, [], ◌∷◌, ◌++◌, length, Some, None, refl, sym, ap, subst, inl, inr, ◌⊎◌, arith}
+use Rattle.std.proofs.lemmas.Bool.{ne_eqb, or_parts}
 use Rattle.std.proofs.lemmas.Bool.Decides.{nat_tests}
 use Rattle.std.specs.declared.option.Option.{Option}
 use Rattle.std.specs.Option.{option_map, option_map_or, option_and_then, unwrap_or}
@@ -18,10 +18,10 @@ use Rattle.qp_model.specs.Ends.{is_spill, spills_in}
 use Rattle.qp_model.specs.Kernels.{sim, qk}
 use Rattle.qp_model.specs.Parts.{is_static}
 use Rattle.qp_model.specs.Pieces.{Piece, Tell}
-use Rattle.qp_model.specs.KernelLane.{Drops, role_of, Setting, Upcoming, Inside, Looking, Chosen, Ended, Resting, Again, Over, Halted, Reading, looking_at, lane_next, lane_on}
+use Rattle.qp_model.specs.KernelLane.{Drops, role_of, Setting, Upcoming, Inside, Chosen, Ended, Again, Over, Reading, looking_at, lane_next, lane_on}
 use Rattle.qp_model.specs.Acts.{Actor}
 use Rattle.qp_model.specs.Points.{pieces_at, pieces_in, is_look, begins_row}
-use Rattle.qp_check_calls.specs.CallState.{Goal, ToQueue, ToFront, ToDeferred, ToSet, CallStage, Begins, Refers, Puts, Raises, Restores, Drops as Dropping, Returns, Flushes, Whole, CallState}
+use Rattle.qp_check_calls.specs.CallState.{Goal, ToQueue, ToFront, ToDeferred, ToSet, CallStage, Begins, Puts, Flushes, Whole, CallState}
 use Rattle.qp_check_calls.specs.CallStateNext.{put_next, queue_next, set_next, new_next, block_next, event_next, now_next, defer_next, recall_next, flush_next, arm_next, rearm_next, begin_next, stage_next, stage_answer, list_after, call_state_next}
 use Rattle.qp_check_sources.specs.TickState.{Reaching, Fired, Vain, tick_next}
 use Rattle.qp_check_sources.specs.SettleState.{Before, Seeing, settle_next}
@@ -46,13 +46,7 @@ module _ (w : Facts) (s : Setting) (p : ℕ) (some : p ≡ 0 → ⊥) where
       by Inside [] h looks = refl
       by Inside (q ∷ outer) h true = ne_eqb q p h.0
       by Inside (q ∷ outer) h false = refl
-      by (Looking q others) os h looks = refl
-      by (Chosen q) os h looks = refl
-      by (Ended q) os h looks = refl
-      by Resting os h looks = refl
-      by Again os h looks = refl
-      by Over os h looks = refl
-      by Halted os h looks = refl
+      by _ os h looks = refl
 
   other-none : (k : Reading) (i : Item) → Away p k → (i.of ≡ p → ⊥) → pieces_at w p k i ≡ []
   unfolding pieces_at
@@ -114,17 +108,13 @@ module _ (w : Facts) (s : Setting) (p : ℕ) (some : p ≡ 0 → ⊥) where
   unfolding pieces_in lane_on
   away-pieces is_sim [] k last away unspilt read = inl refl
   away-pieces is_sim (i ∷ is) k last away unspilt read =
-      by (lane_next s k i) refl read (λ next on. away-pieces is_sim is next last on (or-parts (is_spill i.body) (spills_in is) unspilt).1)
+      by (lane_next s k i) refl read (λ next on. away-pieces is_sim is next last on (or_parts (is_spill i.body) (spills_in is) unspilt).1)
     where
-      or-parts : (a b : Bool) → (a || b) ≡ false → (a ≡ false) × (b ≡ false)
-      or-parts true b h = absurd (cc)
-      or-parts false b h = (refl, h)
-
       by : (r : Option Reading) → lane_next s k i ≡ r → option_and_then (λ n. lane_on s n is) r ≡ Some last
           → ((next : Reading) → Away p next → lane_on s next is ≡ Some last → BeginsTook (pieces_in w s p next is))
           → BeginsTook (pieces_at w p k i ++ pieces_in w s p (unwrap_or r k) is)
       by None e read later = absurd (cc)
-      by (Some next) e read later = on (away-next k next i away (slot-of s is_sim k next i (or-parts (is_spill i.body) (spills_in is) unspilt).0 e))
+      by (Some next) e read later = on (away-next k next i away (slot-of s is_sim k next i (or_parts (is_spill i.body) (spills_in is) unspilt).0 e))
         where
           on : Goes k next i → BeginsTook (pieces_at w p k i ++ pieces_in w s p next is)
           on (inl (none, on_away)) = rw none (later next on_away read)
@@ -229,14 +219,7 @@ whole-none sys o now rest t some = by rest.stage refl
   where
     by : (stage : CallStage) → rest.stage ≡ stage → option_map {T = CallStage} {U = CallState} (λ s. record { stage = s; kept = list_after rest.kept t.body }) (stage_next sys o now rest.kept stage t.body t.known) ≡ None
     by (Whole answer) e = refl
-    by (Begins room x) e = absurd (some (rw e refl))
-    by (Refers p b goal) e = absurd (some (rw e refl))
-    by (Puts goal x) e = absurd (some (rw e refl))
-    by (Raises own a others) e = absurd (some (rw e refl))
-    by (Restores own former) e = absurd (some (rw e refl))
-    by (Dropping x behind) e = absurd (some (rw e refl))
-    by (Returns p b d behind) e = absurd (some (rw e refl))
-    by (Flushes total) e = absurd (some (rw e refl))
+    by _ e = absurd (some (rw e refl))
 
 pub done-none : (sys : System) (kernel : ℕ) (u : Underway) (t : Told) → underway_done u ≡ true → underway_next sys kernel u t ≡ None
 unfolding underway_next tick_next settle_next

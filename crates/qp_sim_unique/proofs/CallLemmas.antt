@@ -1,6 +1,5 @@
 -- By what the words hold, a call goes on by one record alone.
 use Rattle.std.proofs.Common.{◌≡◌, ℕ, zero, suc, ◌+◌, ◌-◌, ◌≤◌, ◌==◌, nat_lt, max, Bool, true, false, not, ◌&&◌, ◌||◌, List, [], ◌∷◌, length, Some, None, is_none, refl, sym, subst, ap, arith}
-use Rattle.std.proofs.lemmas.Bool.{and_parts}
 use Rattle.std.proofs.lemmas.Bool.Decides.{nat_tests}
 use Rattle.std.specs.declared.option.Option.{Option}
 use Rattle.std.specs.Option.{unwrap_or, option_map}
@@ -28,6 +27,7 @@ use Rattle.qp_check_calls.proofs.StageLemmas.{only-passed}
 use Rattle.qp_sim_unique.specs.Held.{Held, IsCounted, Comes, comes_next, known_then}
 use Rattle.qp_sim_unique.specs.NextInCall.{first_of_list, post_told, lifo_told, put_told, refer_told, drop_told, return_told, block_told, new_told, again_told, now_told, defer_told, recall_told, subscribe_told, unsubscribe_told, arm_told, rearm_told, disarm_told, begin_told, flush_told, stage_told}
 use Rattle.qp_sim_unique.specs.Laws.{CallGoesOnAlone}
+use Rattle.qp_check_calls.proofs.NewLemmas.{same_list-is, is_of-is}
 
 -- a record, as it is told
 abbrev tells : Body → Known → Told
@@ -180,20 +180,6 @@ module _ (sys : System) (h : Held) where
   least n [] h = absurd (cc)
   least n (x ∷ xs) h = grind (arith, nat_tests)
 
-  same-list-is : (xs ys : List ℕ) → same_list xs ys ≡ true → xs ≡ ys
-  same-list-is [] [] h = refl
-  same-list-is (x ∷ xs) (y ∷ ys) h =
-      let both = and_parts (x == y) (same_list xs ys) h in
-      let e1 : x ≡ y = grind (arith, nat_tests) in
-      let e2 : xs ≡ ys = same-list-is xs ys both.1 in
-      cc
-  same-list-is [] (y ∷ ys) h = absurd (cc)
-  same-list-is (x ∷ xs) [] h = absurd (cc)
-
-  is-of-is : (x : Option ℕ) (n : ℕ) → is_of x n ≡ true → x ≡ Some n
-  is-of-is None n h = absurd (cc)
-  is-of-is (Some k) n h = let e1 : k ≡ n = grind (arith, nat_tests) in cc
-
   none-is : (x : Option ℕ) → is_none x ≡ true → x ≡ None
   none-is None h = refl
   none-is (Some k) h = absurd (cc)
@@ -249,7 +235,7 @@ module _ (sys : System) (h : Held) where
           let found : is_of pool p ≡ true = grind (arith, nat_tests) in
           let e1 : s ≡ sig = grind (arith, nat_tests) in
           let same : same_list ps pars ≡ true = grind (arith, nat_tests) in
-          let e2 : ps ≡ pars = same-list-is ps pars same in
+          let e2 : ps ≡ pars = same_list-is ps pars same in
           let e3 : free ≡ length (h.pools p).free = cc in
           let some : nat_lt (unwrap_or reserve 0) (length (h.pools p).free) ≡ true = subst (λ x. nat_lt (unwrap_or reserve 0) x ≡ true) e3 (grind (arith, nat_tests)) in
           block-by p pool sig pars reserve _ found (rw (e3, sym e1, sym e2) (block-given o p n b from s ps reserve comes some))
@@ -269,7 +255,7 @@ module _ (sys : System) (h : Held) where
       by pool test =
           let found : is_of pool p ≡ true = grind (arith, nat_tests) in
           let some : is_of reserve r ≡ true = grind (arith, nat_tests) in
-          let e1 : reserve ≡ Some r = is-of-is reserve r some in
+          let e1 : reserve ≡ Some r = is_of-is reserve r some in
           block-by p pool sig pars reserve _ found (rw e1 (block-short o p n free r sig pars comes))
   block-alone o sizes sig pars reserve goal body k next is comes known = absurd (cc)
 

@@ -22,13 +22,6 @@ is_said_by rests _ = true
 abbrev pub is_said : Body → Bool
 is_said b = is_said_by false b
 
-pub said-more : (rests : Bool) (b : Body) → is_said b ≡ true → is_said_by rests b ≡ true
-said-more false b h = h
-said-more true (body.Rest k) h = absurd (cc)
-said-more true body.Malformed h = absurd (cc)
-said-more true (body.New p n b from sig pars) h = h
-said-more true _ h = refl
-
 -- the form that knows it
 abbrev pub form_for : Bool → ℕ
 form_for rests = cond rests 2 1
@@ -49,60 +42,32 @@ module _ (rests : Bool) where
   bare-length x (a ∷ nums) h = absurd (cc)
 
   one-length : (x : ℕ → Body) (nums : List ℕ) → is_said_by rests (one x nums) ≡ true → length nums ≡ 1
-  one-length x [] h = absurd (cc)
   one-length x (a ∷ []) h = refl
-  one-length x (a ∷ b ∷ nums) h = absurd (cc)
+  one-length x _ h = absurd (cc)
 
   two-length : (x : ℕ → ℕ → Body) (nums : List ℕ) → is_said_by rests (two x nums) ≡ true → length nums ≡ 2
-  two-length x [] h = absurd (cc)
-  two-length x (a ∷ []) h = absurd (cc)
   two-length x (a ∷ b ∷ []) h = refl
-  two-length x (a ∷ b ∷ c ∷ nums) h = absurd (cc)
+  two-length x _ h = absurd (cc)
 
   three-length : (x : ℕ → ℕ → ℕ → Body) (nums : List ℕ) → is_said_by rests (three x nums) ≡ true → length nums ≡ 3
-  three-length x [] h = absurd (cc)
-  three-length x (a ∷ []) h = absurd (cc)
-  three-length x (a ∷ b ∷ []) h = absurd (cc)
   three-length x (a ∷ b ∷ c ∷ []) h = refl
-  three-length x (a ∷ b ∷ c ∷ d ∷ nums) h = absurd (cc)
+  three-length x _ h = absurd (cc)
 
   four-length : (x : ℕ → ℕ → ℕ → ℕ → Body) (nums : List ℕ) → is_said_by rests (four x nums) ≡ true → length nums ≡ 4
-  four-length x [] h = absurd (cc)
-  four-length x (a ∷ []) h = absurd (cc)
-  four-length x (a ∷ b ∷ []) h = absurd (cc)
-  four-length x (a ∷ b ∷ c ∷ []) h = absurd (cc)
   four-length x (a ∷ b ∷ c ∷ d ∷ []) h = refl
-  four-length x (a ∷ b ∷ c ∷ d ∷ e ∷ nums) h = absurd (cc)
+  four-length x _ h = absurd (cc)
 
   five-length : (x : ℕ → ℕ → ℕ → ℕ → ℕ → Body) (nums : List ℕ) → is_said_by rests (five x nums) ≡ true → length nums ≡ 5
-  five-length x [] h = absurd (cc)
-  five-length x (a ∷ []) h = absurd (cc)
-  five-length x (a ∷ b ∷ []) h = absurd (cc)
-  five-length x (a ∷ b ∷ c ∷ []) h = absurd (cc)
-  five-length x (a ∷ b ∷ c ∷ d ∷ []) h = absurd (cc)
   five-length x (a ∷ b ∷ c ∷ d ∷ e ∷ []) h = refl
-  five-length x (a ∷ b ∷ c ∷ d ∷ e ∷ f ∷ nums) h = absurd (cc)
+  five-length x _ h = absurd (cc)
 
   six-length : (x : ℕ → ℕ → ℕ → ℕ → ℕ → ℕ → Body) (nums : List ℕ) → is_said_by rests (six x nums) ≡ true → length nums ≡ 6
-  six-length x [] h = absurd (cc)
-  six-length x (a ∷ []) h = absurd (cc)
-  six-length x (a ∷ b ∷ []) h = absurd (cc)
-  six-length x (a ∷ b ∷ c ∷ []) h = absurd (cc)
-  six-length x (a ∷ b ∷ c ∷ d ∷ []) h = absurd (cc)
-  six-length x (a ∷ b ∷ c ∷ d ∷ e ∷ []) h = absurd (cc)
   six-length x (a ∷ b ∷ c ∷ d ∷ e ∷ f ∷ []) h = refl
-  six-length x (a ∷ b ∷ c ∷ d ∷ e ∷ f ∷ g ∷ nums) h = absurd (cc)
+  six-length x _ h = absurd (cc)
 
   seven-length : (x : ℕ → ℕ → ℕ → ℕ → ℕ → ℕ → ℕ → Body) (nums : List ℕ) → is_said_by rests (seven x nums) ≡ true → length nums ≡ 7
-  seven-length x [] h = absurd (cc)
-  seven-length x (a ∷ []) h = absurd (cc)
-  seven-length x (a ∷ b ∷ []) h = absurd (cc)
-  seven-length x (a ∷ b ∷ c ∷ []) h = absurd (cc)
-  seven-length x (a ∷ b ∷ c ∷ d ∷ []) h = absurd (cc)
-  seven-length x (a ∷ b ∷ c ∷ d ∷ e ∷ []) h = absurd (cc)
-  seven-length x (a ∷ b ∷ c ∷ d ∷ e ∷ f ∷ []) h = absurd (cc)
   seven-length x (a ∷ b ∷ c ∷ d ∷ e ∷ f ∷ g ∷ []) h = refl
-  seven-length x (a ∷ b ∷ c ∷ d ∷ e ∷ f ∷ g ∷ i ∷ nums) h = absurd (cc)
+  seven-length x _ h = absurd (cc)
 
   -- a record of this kind with these numbers is in range
   IsCounted : ℕ → (List ℕ → Body) → Type 0
@@ -138,24 +103,16 @@ module _ (rests : Bool) where
   -- a new event: five numbers and at most eight parameters
   given-counted : IsCounted 15 given
   unfolding IsCounted
-  given-counted o [] h = absurd (cc)
-  given-counted o (p ∷ []) h = absurd (cc)
-  given-counted o (p ∷ n ∷ []) h = absurd (cc)
-  given-counted o (p ∷ n ∷ b ∷ []) h = absurd (cc)
-  given-counted o (p ∷ n ∷ b ∷ from ∷ []) h = absurd (cc)
   given-counted o (p ∷ n ∷ b ∷ from ∷ sig ∷ pars) h =
       let few : length pars ≤ 8 = grind (arith, nat_tests, h) in
       let least : nat_le 6 (suc (suc (suc (suc (suc (suc (length pars))))))) ≡ true = grind (arith, nat_tests) in
       let most : nat_le (suc (suc (suc (suc (suc (suc (length pars))))))) 14 ≡ true = grind (arith, nat_tests, few) in
       (and_from _ _ (known-kind rests 15 refl) (and_from _ _ least most), or_right rests true refl)
+  given-counted o _ h = absurd (cc)
 
   -- an assertion: as many numbers as its code has
   asserted-counted : IsCounted 42 asserted
   unfolding IsCounted
-  asserted-counted o [] h = absurd (cc)
-  asserted-counted o (code ∷ []) h = absurd (cc)
-  asserted-counted o (code ∷ a ∷ []) h = absurd (cc)
-  asserted-counted o (code ∷ a ∷ b ∷ []) h = absurd (cc)
   asserted-counted o (code ∷ a ∷ b ∷ c ∷ []) h = (and_from _ _ (known-kind rests 42 refl) (by (code == 1) (code == 5) (code == 2) (code == 3) (code == 4) h), or_right rests true refl)
     where
       by : (x y u v w : Bool) → is_said_by rests (cond u (body.NoBlock a b c) (cond v (body.Armed a b c) (cond w (body.BadTicks a b c) body.Malformed))) ≡ true
@@ -180,13 +137,12 @@ module _ (rests : Bool) where
       by true y u v w h = refl
       by false true u v w h = refl
       by false false u v w h = absurd (cc)
-  asserted-counted o (code ∷ a ∷ b ∷ c ∷ d ∷ e ∷ nums) h = absurd (cc)
+  asserted-counted o _ h = absurd (cc)
 
   rest-counted : IsCounted 46 (one body.Rest)
   unfolding IsCounted
-  rest-counted o [] h = absurd (cc)
   rest-counted o (k ∷ []) h = rw h (refl, refl)
-  rest-counted o (k ∷ a ∷ nums) h = absurd (cc)
+  rest-counted o _ h = absurd (cc)
 
   not-any : (nums : List ℕ) → is_said_by rests (never nums) ≡ false
   not-any nums = refl
@@ -208,151 +164,59 @@ module _ (rests : Bool) where
       let next : (k + 1) + i ≡ k + suc i = omega arith in
       subst (λ n. IsCounted n form) next (counted-at (k + 1) table i form all.1 is)
 
+  then : {A B : Type 0} → A → B → A × B
+  then a b = (a, b)
+
   forms-counted : AllCounted 0 forms
   unfolding AllCounted takes
-  forms-counted = (
-    uncounted 0 never not-any,
-    (
-      uncounted 1 never not-any,
-      (
-        uncounted 2 never not-any,
-        (
-          uncounted 3 never not-any,
-          (
-            counted 4 0 (bare body.Begin) (bare-length body.Begin) refl,
-            (
-              counted 5 6 (six (λ f l m p b r. body.Took f l m (entry p b r))) (six-length (λ f l m p b r. body.Took f l m (entry p b r))) refl,
-              (
-                counted 6 3 (three body.Nil) (three-length body.Nil) refl,
-                (
-                  counted 7 4 (four body.Seen) (four-length body.Seen) refl,
-                  (
-                    counted 8 2 (two body.Run) (two-length body.Run) refl,
-                    (
-                      counted 9 0 (bare body.Unhandled) (bare-length body.Unhandled) refl,
-                      (
-                        counted 10 1 (one body.Exit) (one-length body.Exit) refl,
-                        (
-                          counted 11 1 (one body.Enter) (one-length body.Enter) refl,
-                          (
-                            counted 12 1 (one body.Init) (one-length body.Init) refl,
-                            (
-                              counted 13 1 (one body.Say) (one-length body.Say) refl,
-                              (
-                                counted 14 0 (bare body.Done) (bare-length body.Done) refl,
-                                (
-                                  given-counted,
-                                  (
-                                    counted 16 4 (four body.Short) (four-length body.Short) refl,
-                                    (
-                                      counted 17 3 (three body.Inc) (three-length body.Inc) refl,
-                                      (
-                                        counted 18 4 (four body.Dec) (four-length body.Dec) refl,
-                                        (
-                                          counted 19 4 (four body.Back) (four-length body.Back) refl,
-                                          (
-                                            counted 20 7 (seven (λ a f l m p b r. body.Post a f l m (entry p b r))) (seven-length (λ a f l m p b r. body.Post a f l m (entry p b r))) refl,
-                                            (
-                                              counted 21 6 (six (λ f l m p b r. body.Lifo f l m (entry p b r))) (six-length (λ f l m p b r. body.Lifo f l m (entry p b r))) refl,
-                                              (
-                                                counted 22 5 (five body.Full) (five-length body.Full) refl,
-                                                (
-                                                  counted 23 3 (three body.Pub) (three-length body.Pub) refl,
-                                                  (
-                                                    counted 24 1 (one body.Lock) (one-length body.Lock) refl,
-                                                    (
-                                                      counted 25 1 (one body.Unlock) (one-length body.Unlock) refl,
-                                                      (
-                                                        counted 26 3 (three (λ p b r. body.Defer (entry p b r))) (three-length (λ p b r. body.Defer (entry p b r))) refl,
-                                                        (
-                                                          counted 27 0 (bare body.NoDefer) (bare-length body.NoDefer) refl,
-                                                          (
-                                                            counted 28 3 (three (λ p b r. body.Recall (entry p b r))) (three-length (λ p b r. body.Recall (entry p b r))) refl,
-                                                            (
-                                                              counted 29 0 (bare body.NoRecall) (bare-length body.NoRecall) refl,
-                                                              (
-                                                                counted 30 3 (three (λ p b r. body.Flush (entry p b r))) (three-length (λ p b r. body.Flush (entry p b r))) refl,
-                                                                (
-                                                                  counted 31 2 (two body.Sub) (two-length body.Sub) refl,
-                                                                  (
-                                                                    counted 32 2 (two body.Unsub) (two-length body.Unsub) refl,
-                                                                    (
-                                                                      counted 33 2 (two body.Same) (two-length body.Same) refl,
-                                                                      (
-                                                                        counted 34 4 (four body.Arm) (four-length body.Arm) refl,
-                                                                        (
-                                                                          counted 35 3 (three body.Disarm) (three-length body.Disarm) refl,
-                                                                          (
-                                                                            counted 36 4 (four body.Rearm) (four-length body.Rearm) refl,
-                                                                            (
-                                                                              counted 37 2 (two body.Idle) (two-length body.Idle) refl,
-                                                                              (
-                                                                                counted 38 3 (three body.Tick) (three-length body.Tick) refl,
-                                                                                (
-                                                                                  counted 39 3 (three body.Fire) (three-length body.Fire) refl,
-                                                                                  (
-                                                                                    counted 40 2 (two body.Stim) (two-length body.Stim) refl,
-                                                                                    (
-                                                                                      counted 41 0 (bare body.Settle) (bare-length body.Settle) refl,
-                                                                                      (
-                                                                                        asserted-counted,
-                                                                                        (
-                                                                                          counted 43 0 (bare body.Spent) (bare-length body.Spent) refl,
-                                                                                          (
-                                                                                            counted 44 1 (one body.Spill) (one-length body.Spill) refl,
-                                                                                            (
-                                                                                              counted 45 2 (two body.Look) (two-length body.Look) refl,
-                                                                                              (
-                                                                                                rest-counted,
-                                                                                                (
-                                                                                                    tt),
-                                                                                              ),
-                                                                                            ),
-                                                                                          ),
-                                                                                        ),
-                                                                                      ),
-                                                                                    ),
-                                                                                  ),
-                                                                                ),
-                                                                              ),
-                                                                            ),
-                                                                          ),
-                                                                        ),
-                                                                      ),
-                                                                    ),
-                                                                  ),
-                                                                ),
-                                                              ),
-                                                            ),
-                                                          ),
-                                                        ),
-                                                      ),
-                                                    ),
-                                                  ),
-                                                ),
-                                              ),
-                                            ),
-                                          ),
-                                        ),
-                                      ),
-                                    ),
-                                  ),
-                                ),
-                              ),
-                            ),
-                          ),
-                        ),
-                      ),
-                    ),
-                  ),
-                ),
-              ),
-            ),
-          ),
-        ),
-      ),
-    ),
-  )
+  forms-counted =
+      then (uncounted 0 never not-any)
+      (then (uncounted 1 never not-any)
+      (then (uncounted 2 never not-any)
+      (then (uncounted 3 never not-any)
+      (then (counted 4 0 (bare body.Begin) (bare-length body.Begin) refl)
+      (then (counted 5 6 (six (λ f l m p b r. body.Took f l m (entry p b r))) (six-length (λ f l m p b r. body.Took f l m (entry p b r))) refl)
+      (then (counted 6 3 (three body.Nil) (three-length body.Nil) refl)
+      (then (counted 7 4 (four body.Seen) (four-length body.Seen) refl)
+      (then (counted 8 2 (two body.Run) (two-length body.Run) refl)
+      (then (counted 9 0 (bare body.Unhandled) (bare-length body.Unhandled) refl)
+      (then (counted 10 1 (one body.Exit) (one-length body.Exit) refl)
+      (then (counted 11 1 (one body.Enter) (one-length body.Enter) refl)
+      (then (counted 12 1 (one body.Init) (one-length body.Init) refl)
+      (then (counted 13 1 (one body.Say) (one-length body.Say) refl)
+      (then (counted 14 0 (bare body.Done) (bare-length body.Done) refl)
+      (then given-counted
+      (then (counted 16 4 (four body.Short) (four-length body.Short) refl)
+      (then (counted 17 3 (three body.Inc) (three-length body.Inc) refl)
+      (then (counted 18 4 (four body.Dec) (four-length body.Dec) refl)
+      (then (counted 19 4 (four body.Back) (four-length body.Back) refl)
+      (then (counted 20 7 (seven (λ a f l m p b r. body.Post a f l m (entry p b r))) (seven-length (λ a f l m p b r. body.Post a f l m (entry p b r))) refl)
+      (then (counted 21 6 (six (λ f l m p b r. body.Lifo f l m (entry p b r))) (six-length (λ f l m p b r. body.Lifo f l m (entry p b r))) refl)
+      (then (counted 22 5 (five body.Full) (five-length body.Full) refl)
+      (then (counted 23 3 (three body.Pub) (three-length body.Pub) refl)
+      (then (counted 24 1 (one body.Lock) (one-length body.Lock) refl)
+      (then (counted 25 1 (one body.Unlock) (one-length body.Unlock) refl)
+      (then (counted 26 3 (three (λ p b r. body.Defer (entry p b r))) (three-length (λ p b r. body.Defer (entry p b r))) refl)
+      (then (counted 27 0 (bare body.NoDefer) (bare-length body.NoDefer) refl)
+      (then (counted 28 3 (three (λ p b r. body.Recall (entry p b r))) (three-length (λ p b r. body.Recall (entry p b r))) refl)
+      (then (counted 29 0 (bare body.NoRecall) (bare-length body.NoRecall) refl)
+      (then (counted 30 3 (three (λ p b r. body.Flush (entry p b r))) (three-length (λ p b r. body.Flush (entry p b r))) refl)
+      (then (counted 31 2 (two body.Sub) (two-length body.Sub) refl)
+      (then (counted 32 2 (two body.Unsub) (two-length body.Unsub) refl)
+      (then (counted 33 2 (two body.Same) (two-length body.Same) refl)
+      (then (counted 34 4 (four body.Arm) (four-length body.Arm) refl)
+      (then (counted 35 3 (three body.Disarm) (three-length body.Disarm) refl)
+      (then (counted 36 4 (four body.Rearm) (four-length body.Rearm) refl)
+      (then (counted 37 2 (two body.Idle) (two-length body.Idle) refl)
+      (then (counted 38 3 (three body.Tick) (three-length body.Tick) refl)
+      (then (counted 39 3 (three body.Fire) (three-length body.Fire) refl)
+      (then (counted 40 2 (two body.Stim) (two-length body.Stim) refl)
+      (then (counted 41 0 (bare body.Settle) (bare-length body.Settle) refl)
+      (then asserted-counted
+      (then (counted 43 0 (bare body.Spent) (bare-length body.Spent) refl)
+      (then (counted 44 1 (one body.Spill) (one-length body.Spill) refl)
+      (then (counted 45 2 (two body.Look) (two-length body.Look) refl)
+      (then rest-counted tt))))))))))))))))))))))))))))))))))))))))))))))
 
   -- what a record says, by the form of its kind
   abbrev said : Option (List ℕ → Body) → List ℕ → Body
@@ -376,13 +240,6 @@ is_kept_by rests i = nat_le i.of 32 && is_said_by rests i.body
 
 abbrev pub is_kept : Item → Bool
 is_kept i = is_kept_by false i
-
-pub kept-more : (rests : Bool) (is : List Item) → list_all is_kept is ≡ true → list_all (is_kept_by rests) is ≡ true
-kept-more rests [] h = refl
-kept-more rests (i ∷ is) h =
-    let parts = and_parts (is_kept i) _ h in
-    let here = and_parts (nat_le i.of 32) (is_said i.body) parts.0 in
-    and_from _ _ (and_from _ _ here.0 (said-more rests i.body here.1)) (kept-more rests is parts.1)
 
 records-kept : (rests : Bool) (rs : List Rec) → list_all (is_kept_by rests) (map item_of rs) ≡ true
     → (list_all (is_record_in_range (form_for rests)) rs ≡ true) × ((rests || list_all (λ r. not (r.kind == REST)) rs) ≡ true)

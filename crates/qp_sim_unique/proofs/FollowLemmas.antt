@@ -78,15 +78,7 @@ module _ (sys target : System) (pooled : (sig : ℕ) (signal : SignalDef) → Is
   plain-able chart inside (action.Publish sig pars reserve) is = event-able chart inside sig pars reserve is
   plain-able chart inside (action.Forward to margin) is = is.1
   plain-able chart inside action.Defer is = is
-  plain-able chart inside (action.Set var value) is = refl
-  plain-able chart inside (action.Say value) is = refl
-  plain-able chart inside action.Recall is = refl
-  plain-able chart inside action.Flush is = refl
-  plain-able chart inside (action.Subscribe sig) is = refl
-  plain-able chart inside (action.Unsubscribe sig) is = refl
-  plain-able chart inside (action.Arm timer ticks interval) is = refl
-  plain-able chart inside (action.Rearm timer ticks) is = refl
-  plain-able chart inside (action.Disarm timer) is = refl
+  plain-able chart inside _ is = refl
 
   act-able : (chart : Chart) (inside : Option ℕ) (a : Act) → IsSoundAct sys chart inside a → act_able target (is_some inside) a ≡ true
   unfolding act_able

@@ -1,14 +1,14 @@
 -- A lawful journal of `sim`: its lanes, and its order without a `spill`.
 use Rattle.std.proofs.Common.{◌≡◌, ◌∙◌, ◌⊎◌, inl, inr, ℕ, zero, suc, ◌+◌, ◌==◌, Bool, true, false, not, ◌&&◌, ◌||◌, cond, List, [], ◌∷◌, ◌++◌, map, length, drop, Some, None, refl, sym, ap, subst, arith, append-nil}
 use Rattle.std.specs.Prelude.{⊤}
-use Rattle.std.proofs.lemmas.Bool.{and_from, and_parts}
+use Rattle.std.proofs.lemmas.Bool.{and_parts}
 use Rattle.std.proofs.lemmas.Bool.Decides.{nat_tests}
 use Rattle.std.proofs.lemmas.List.{append_assoc, map-append}
 use Rattle.std.specs.declared.option.Option.{Option}
 use Rattle.std.proofs.lemmas.List.Elements.{filter-append}
 use Rattle.std.specs.Option.{option_map_or, unwrap_or, is_some}
 use Rattle.std.specs.Bool.{MatchBool}
-use Rattle.std.specs.List.{slice_get, cons_option, filter, filter_map, list_all, list_any, AllByRecursion}
+use Rattle.std.specs.List.{slice_get, cons_option, filter, filter_map, list_any, AllByRecursion}
 use Rattle.qp_model.specs.declared.record.Rec.{Rec}
 use Rattle.qp_model.specs.declared.stimulus.Stim.{Stim}
 use Rattle.qp_model.specs.declared.systems.System.{System}
@@ -31,7 +31,8 @@ use Rattle.qp_sim_unique.proofs.LookLemmas.{lane_turn, turn_if, turns-none}
 use Rattle.qp_sim_unique.proofs.Sides.{in_sim}
 use Rattle.qp_model.proofs.HistoryLemmas.{in_order-front}
 use Rattle.qp_model.proofs.NumberLemmas.{every-append}
-use Rattle.qp_model.proofs.ListLemmas.{every-parts}
+use Rattle.qp_model.proofs.ListLemmas.{every-parts, list_all-front}
+use Rattle.qp_model.proofs.LastLemmas.{no-spill}
 
 -- the lanes of a run with one thread
 pub lanes-split : (lanes : List (List Rec)) (n : ℕ) → length lanes ≡ 1 + n → (l : List Rec) × (ls : List (List Rec)) × (lanes ≡ l ∷ ls) × (length ls ≡ n)
@@ -178,7 +179,7 @@ kept-front end is h = by (cut-shape end is h)
     by (inl same) = ([], same ∙ sym (append-nil (unspilt is)))
     by (inr (s, is_one, split)) = (s ∷ [], split)
 
-spill-no_look : (b : Body) → is_spill b ≡ true → look_of b ≡ None
+pub spill-no_look : (b : Body) → is_spill b ≡ true → look_of b ≡ None
 spill-no_look (body.Look n floor) h = absurd (cc)
 spill-no_look b h = refl
 
@@ -292,14 +293,8 @@ ends-kept (z ∷ []) h = by (is_spill z.item.body)
     by false = refl
 ends-kept (z ∷ w ∷ zs) h =
     let parts = and_parts (not (is_end z.item.body)) _ h in
-    by (is_spill z.item.body) (calm (is_assert z.item.body) (is_spent z.item.body) (is_spill z.item.body) parts.0) (ends-kept (w ∷ zs) parts.1)
+    by (is_spill z.item.body) (no-spill (is_assert z.item.body) (is_spent z.item.body) (is_spill z.item.body) parts.0) (ends-kept (w ∷ zs) parts.1)
   where
-    calm : (x y z : Bool) → not (x || y || z) ≡ true → z ≡ false
-    calm true y z h = absurd (cc)
-    calm false true z h = absurd (cc)
-    calm false false true h = absurd (cc)
-    calm false false false h = refl
-
     by : (b : Bool) → b ≡ false → w ∷ zs ≡ kept (w ∷ zs) ++ filter (λ (z : Placed). is_spill z.item.body) (w ∷ zs)
         → z ∷ w ∷ zs ≡ cond (not b) (z ∷ kept (w ∷ zs)) (kept (w ∷ zs)) ++ cond b (z ∷ filter (λ (z : Placed). is_spill z.item.body) (w ∷ zs)) (filter (λ (z : Placed). is_spill z.item.body) (w ∷ zs))
     by true e later = absurd (cc)
@@ -321,10 +316,6 @@ pub turns-kept : (lane n : ℕ) (ls : List (List Item)) → turns_at lane n (map
 unfolding turns_at
 turns-kept lane n [] = refl
 turns-kept lane n (l ∷ ls) = λ k. turns-of lane n l k ++ turns-kept (lane + 1) n ls k
-
-pub all-front : {A : Type 0} (p : A → Bool) (xs ys : List A) → list_all p (xs ++ ys) ≡ true → list_all p xs ≡ true
-all-front p [] ys h = refl
-all-front p (x ∷ xs) ys h = let parts = and_parts (p x) _ h in and_from (p x) _ parts.0 (all-front p xs ys parts.1)
 
 pub drop-at : (xs : List (List Rec)) (n : ℕ) (r : List Rec) (rs : List (List Rec)) → drop n xs ≡ r ∷ rs → (unwrap_or (slice_get xs n) [] ≡ r) × (drop (n + 1) xs ≡ rs)
 drop-at [] zero r rs h = absurd (cc)
@@ -480,7 +471,7 @@ module _ (sys : System) (stimuli : List (List Stim)) (j : Journal) (t : Threaded
           ⊎ ((has_spilt sys j ≡ true) × (no_look ys ≡ true) × (turns_at 1 n (kept_sources sys j) ≡ []))
       by true c d e right spilt last free h = inl (ap (λ ts. is_turn (acts_next sys stimuli xs (floor == 0)) ts) (turns-kept 1 n (source_lanes sys j)) ∙ right)
       by false true true true right spilt last free h =
-          inr (spilt, all-front (λ (x : Placed). not (is_some (look_of x.item.body))) ys last_spill last, turns-kept 1 n (source_lanes sys j) ∙ turns-none _ free)
+          inr (spilt, list_all-front (λ (x : Placed). not (is_some (look_of x.item.body))) ys last_spill last, turns-kept 1 n (source_lanes sys j) ∙ turns-none _ free)
       by false false d e right spilt last free h = absurd (cc)
       by false true false e right spilt last free h = absurd (cc)
       by false true true false right spilt last free h = absurd (cc)

@@ -168,15 +168,7 @@ module _ (s : Setting) (is_sim : s.kernel ≡ sim) (k next : Reading) (i : Item)
           let test : (i.of == p) ≡ true = ok.0 in
           let e1 : i.of ≡ p = grind (arith, nat_tests) in
           Releases p none at e1 is ok.1
-      by (Looks n floor) is h = look-slot (Looks n floor) is none may h
-      by (Sees q f l m) is h = look-slot (Sees q f l m) is none may h
-      by Takes is h = look-slot Takes is none may h
-      by Ends is h = look-slot Ends is none may h
-      by (Rests n) is h = look-slot (Rests n) is none may h
-      by (Holds c) is h = look-slot (Holds c) is none may h
-      by RunsOut is h = look-slot RunsOut is none may h
-      by Spills is h = look-slot Spills is none may h
-      by Acts is h = look-slot Acts is none may h
+      by other is h = look-slot other is none may h
 
   rest-slot : (r : Role) → role_of i.body ≡ r → k.unstarted ≡ [] → k.place ≡ Resting → rest_next s k i.of r ≡ Some next → Slot s k next i
   rest-slot (Rests n) is none at h =
@@ -233,15 +225,7 @@ module _ (s : Setting) (is_sim : s.kernel ≡ sim) (k next : Reading) (i : Item)
     where
       by : (r : Role) → role_of i.body ≡ r → role_next s k i.of r ≡ Some next → Slot s k next i
       by Spills is h = absurd (let no : true ≡ false = sym (spills-is i.body is) ∙ unspilt in cc)
-      by (Looks n floor) is h = started-slot (Looks n floor) is h
-      by (Sees q f l m) is h = started-slot (Sees q f l m) is h
-      by Takes is h = started-slot Takes is h
-      by Ends is h = started-slot Ends is h
-      by (Rests n) is h = started-slot (Rests n) is h
-      by (Holds c) is h = started-slot (Holds c) is h
-      by Drops is h = started-slot Drops is h
-      by RunsOut is h = started-slot RunsOut is h
-      by Acts is h = started-slot Acts is h
+      by other is h = started-slot other is h
 
 -- whether looks have stimuli is read only of the look that is under way
 module _ (sys : System) (kernel : ℕ) (f g : ℕ → Bool) (k : Reading) where
@@ -271,15 +255,7 @@ module _ (sys : System) (kernel : ℕ) (f g : ℕ → Bool) (k : Reading) where
   ended-same : (p o : ℕ) (r : Role) → ((n floor : ℕ) → r ≡ Looks n floor → f n ≡ g n) → ended_next first k p o r ≡ ended_next second k p o r
   unfolding ended_next
   ended-same p o Drops new = refl
-  ended-same p o (Looks n floor) new = look-same o (Looks n floor) new
-  ended-same p o (Sees q a b c) new = look-same o (Sees q a b c) new
-  ended-same p o Takes new = look-same o Takes new
-  ended-same p o Ends new = look-same o Ends new
-  ended-same p o (Rests n) new = look-same o (Rests n) new
-  ended-same p o (Holds c) new = look-same o (Holds c) new
-  ended-same p o RunsOut new = look-same o RunsOut new
-  ended-same p o Spills new = look-same o Spills new
-  ended-same p o Acts new = look-same o Acts new
+  ended-same p o other new = look-same o other new
 
   rest-same : (o : ℕ) (r : Role) → f k.looks ≡ g k.looks → rest_next first k o r ≡ rest_next second k o r
   rest-same o (Rests n) same = rw same refl
@@ -316,12 +292,4 @@ module _ (sys : System) (kernel : ℕ) (f g : ℕ → Bool) (k : Reading) where
 
       by : (r : Role) → role_of i.body ≡ r → role_next first k i.of r ≡ role_next second k i.of r
       by Spills is = refl
-      by (Looks n floor) is = started-same i.of (Looks n floor) same (look _ is) k.unstarted
-      by (Sees q a b c) is = started-same i.of (Sees q a b c) same (look _ is) k.unstarted
-      by Takes is = started-same i.of Takes same (look _ is) k.unstarted
-      by Ends is = started-same i.of Ends same (look _ is) k.unstarted
-      by (Rests n) is = started-same i.of (Rests n) same (look _ is) k.unstarted
-      by (Holds c) is = started-same i.of (Holds c) same (look _ is) k.unstarted
-      by Drops is = started-same i.of Drops same (look _ is) k.unstarted
-      by RunsOut is = started-same i.of RunsOut same (look _ is) k.unstarted
-      by Acts is = started-same i.of Acts same (look _ is) k.unstarted
+      by other is = started-same i.of other same (look _ is) k.unstarted

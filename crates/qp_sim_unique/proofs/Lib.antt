@@ -25,10 +25,6 @@ pub mod SideParts
 pub mod UniqueLemmas
 pub mod ComesLaw
 pub mod CountLemmas
-pub mod FormCallLemmas
-pub mod ShapeLemmas
-pub mod SourceLemmas
-pub mod LaneLemmas
 pub mod FormLemmas
 pub mod PlaceLemmas
 pub mod EventLemmas

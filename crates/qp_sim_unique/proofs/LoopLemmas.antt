@@ -17,7 +17,7 @@ use Rattle.qp_model.specs.Knowing.{told, records_of, ceiling_over}
 use Rattle.qp_model.specs.Ends.{is_end}
 use Rattle.qp_model.specs.Kernels.{sim}
 use Rattle.qp_model.specs.Sites.{object_at}
-use Rattle.qp_model.specs.KernelLane.{Setting, threshold_of, Reading, Upcoming, Inside, Looking, Chosen, Ended, Resting, Again, Over, Halted, role_of, Looks, Drops, lane_on, is_whole, is_over, unread}
+use Rattle.qp_model.specs.KernelLane.{Setting, threshold_of, Reading, Upcoming, Over, role_of, Looks, Drops, lane_on, is_whole, is_over, unread}
 use Rattle.qp_model.specs.OneOrder.{Placed, Turn, with_stimuli, parts_of_look, acts_next, is_turn, look_of, turns_at}
 use Rattle.qp_model.specs.Points.{pieces_in}
 use Rattle.qp_check_sources.specs.SourceState.{Between, source_after}
@@ -275,13 +275,7 @@ module _ (sys : System) (charts : (p : ℕ) (d : ObjectDef) → object_at sys p 
 
       over : (place : Upcoming) → is_over sim place ≡ true → place ≡ Over
       over Over h = refl
-      over Inside h = absurd (cc)
-      over (Looking p others) h = absurd (cc)
-      over (Chosen p) h = absurd (cc)
-      over (Ended p) h = absurd (cc)
-      over Resting h = absurd (cc)
-      over Again h = absurd (cc)
-      over Halted h = absurd (cc)
+      over _ h = absurd (cc)
 
       none : (us : List ℕ) → (length us == 0) ≡ true → us ≡ []
       none [] h = refl

@@ -44,6 +44,7 @@ use Rattle.qp_sim_unique.proofs.Sides.{lane_in}
 use Rattle.qp_sim_unique.proofs.SourceSteps.{lane_in-append, lane_in-other, lane_in-own}
 use Rattle.qp_sim_unique.proofs.UniqueLemmas.{short_journals_are_unspilt, short_journals_leave_no_spill, tidy_journals_are_one}
 use Rattle.qp_sim_unique.proofs.CountLemmas.{is_kept, is_said}
+use Rattle.qp_model.specs.Kernels.{sim}
 use Rattle.qp_sim_unique.proofs.FormLemmas.{each-kept}
 use Rattle.qp_sim_unique.specs.JournalLaws.{IsSimJournal, IsUnspilt, ShortJournalsAreUnspilt, SimJournalsAreOne, SimJournalsAreTidy, UnspiltJournalsAreOne}
 use Rattle.qp_sim_unique.proofs.FollowLemmas.{sound-followable}
@@ -51,6 +52,7 @@ use Rattle.qp_sim_unique.proofs.RecordLemmas.{rec_in, lanes-of}
 use Rattle.qp_sim_unique.proofs.PlaceLemmas.{here, items-back, place_behind, placed-back, places-serial, places_of, places_of-append}
 use Rattle.qp_sim_unique.proofs.EventLemmas.{Stood, event-by, ordered-hist, taken-stays}
 use Rattle.qp_check_lanes.proofs.ItemLemmas.{items-none}
+use Rattle.qp_model_order.proofs.StimLemmas.{items-placed}
 
 -- Which lanes an order has.
 
@@ -177,16 +179,12 @@ spills-each (i ∷ is) = by (is_spill i.body) refl (spills-each is)
     by true e h = (e, h)
     by false e h = h
 
-back-items : (lane : ℕ) (is : List Item) → items_of (all_placed lane is) ≡ is
-back-items lane [] = refl
-back-items lane (i ∷ is) = ap (λ us. i ∷ us) (back-items lane is)
-
 from-each : (lane : ℕ) (ls : List (List Item)) → AllByRecursion (λ i. is_spill i.body ≡ true) (items_of (spills_from lane ls))
 unfolding spills_from
 from-each lane [] = tt
 from-each lane (l ∷ ls) =
     subst (AllByRecursion (λ i. is_spill i.body ≡ true)) (sym (map-append (λ (z : Placed). z.item) (all_placed lane (spills l)) (spills_from (lane + 1) ls)))
-    (every-append (λ i. is_spill i.body ≡ true) _ _ (subst (AllByRecursion (λ i. is_spill i.body ≡ true)) (sym (back-items lane (spills l))) (spills-each l)) (from-each (lane + 1) ls))
+    (every-append (λ i. is_spill i.body ≡ true) _ _ (subst (AllByRecursion (λ i. is_spill i.body ≡ true)) (sym (items-placed lane (spills l))) (spills-each l)) (from-each (lane + 1) ls))
 
 -- a `spill` has no number
 spills-next : (before ys : List Item) → AllByRecursion (λ i. is_spill i.body ≡ true) ys → in_order before ys ≡ true
@@ -217,7 +215,7 @@ module _ (sys : System) (stimuli : List (List Stim)) (j : Journal) (sound : IsSo
   last-each : AllByRecursion (λ i. is_spill i.body ≡ true) (items_of last)
   last-each =
       subst (AllByRecursion (λ i. is_spill i.body ≡ true)) (sym (map-append (λ (z : Placed). z.item) (all_placed 0 (spills (lane_items (lane_at j 0)))) (spills_from 1 (source_lanes sys j))))
-      (every-append (λ i. is_spill i.body ≡ true) _ _ (subst (AllByRecursion (λ i. is_spill i.body ≡ true)) (sym (back-items 0 (spills (lane_items (lane_at j 0))))) (spills-each (lane_items (lane_at j 0))))
+      (every-append (λ i. is_spill i.body ≡ true) _ _ (subst (AllByRecursion (λ i. is_spill i.body ≡ true)) (sym (items-placed 0 (spills (lane_items (lane_at j 0))))) (spills-each (lane_items (lane_at j 0))))
       (from-each 1 (source_lanes sys j)))
 
   numbers : in_order [] (items_of all) ≡ true
@@ -331,7 +329,7 @@ said-kept i kept = by i.body (and_parts (nat_le i.of 32) _ kept).1
 -- so the records of a journal of `sim` are told by what they say
 module _ (sys : System) (stimuli : List (List Stim)) (sound : IsSound sys) (fit : StimuliFit sys stimuli) where
   recs-back : (j : Journal) → IsSimJournal sys stimuli j → map (map rec_in) (map (λ lane. lane_items lane) j.lanes) ≡ j.lanes
-  recs-back j its = lanes-of is_kept said-kept j.lanes (each-kept sys stimuli j sound fit.few false its.is_sim its.lawful)
+  recs-back j its = lanes-of is_kept said-kept j.lanes (each-kept sys stimuli j sound fit.few false sim its.is_sim refl its.lawful refl)
 
   one-journal : (i j : Journal) → IsSimJournal sys stimuli i → IsSimJournal sys stimuli j → i.budget ≡ j.budget
       → map (λ lane. lane_items lane) i.lanes ≡ map (λ lane. lane_items lane) j.lanes → i.end ≡ j.end → i ≡ j

@@ -1,22 +1,19 @@
 -- Two runs that have come equally far go on by the same records of a stimulus.
 use Rattle.std.proofs.Common.{◌≡◌, ◌∙◌, ◌⊎◌, inl, inr, ℕ, ◌+◌, ◌<◌, ◌==◌, Bool, true, false, cond, List, [], ◌∷◌, ◌++◌, length, get_or, Some, None, refl, sym, ap, subst, arith, append-nil}
 use Rattle.std.proofs.lemmas.List.{append_assoc, length-append}
-use Rattle.std.specs.declared.option.Option.{Option}
-use Rattle.std.specs.Option.{is_some}
 use Rattle.std.specs.List.{list_all}
 use Rattle.qp_chart.specs.declared.checked.Chart.{Chart}
 use Rattle.qp_model.specs.declared.stimulus.Stim.{Stim}
 use Rattle.qp_model.specs.declared.systems.System.{System}
 use Rattle.qp_model.specs.declared.systems.ObjectDef.{ObjectDef}
-use Rattle.qp_model.specs.declared.bodies.Body.{Body}
 use Rattle.qp_model.specs.declared.bodies.Body.TheVariants as body
 use Rattle.qp_model.specs.Record.{Item}
 use Rattle.qp_model.specs.Told.{Told}
 use Rattle.qp_model.specs.Knowing.{Facts, told, records_of, ceiling_over}
 use Rattle.qp_model.specs.Kernels.{sim}
 use Rattle.qp_model.specs.Sites.{object_at}
-use Rattle.qp_model.specs.Sources.{SourceEnd, AllDone, BeforeStimulus, AfterTry, AtAssert, InStimulus}
-use Rattle.qp_model.specs.OneOrder.{Placed, stim_of}
+use Rattle.qp_model.specs.Sources.{SourceEnd, InStimulus}
+use Rattle.qp_model.specs.OneOrder.{Placed}
 use Rattle.qp_model.proofs.KnowingLemmas.{records_of-append}
 use Rattle.qp_check_sources.specs.Underway.{Underway, underway_next}
 use Rattle.qp_check_sources.specs.SourceState.{SourceState, Between, Within, source_next, source_after, source_stops}
@@ -29,16 +26,9 @@ use Rattle.qp_sim_unique.proofs.KernelLemmas.{item-is}
 use Rattle.qp_sim_unique.proofs.LookLemmas.{begins, begun_in, StimFirst}
 use Rattle.qp_sim_unique.proofs.AwayLemmas.{done-none}
 use Rattle.qp_sim_unique.proofs.StimulusLemmas.{stimulus_goes_on_alone}
-use Rattle.qp_sim_unique.proofs.SourceSteps.{stim-read, other-read, after-split, after-first, alone, alone-at, record-first, stim-some, stops-none}
+use Rattle.qp_sim_unique.proofs.SourceSteps.{stim-read, other-read, after-split, after-first, alone, alone-at, record-first, stim-some, stops-none, no-stim}
 use Rattle.qp_sim_unique.proofs.Sides.{Side, LongLane, order_of, held_to}
 use Rattle.qp_model.proofs.AbleLemmas.{some-same}
-
-pub no-stim : (b : Body) → is_some (stim_of b) ≡ false → stim_of b ≡ None
-no-stim b h = by (stim_of b) refl h
-  where
-    by : (o : Option (ℕ × ℕ)) → stim_of b ≡ o → is_some o ≡ false → stim_of b ≡ None
-    by None e h = e
-    by (Some s) e h = absurd (cc)
 
 no-first : (i : Item) (is : List Item) → begun_in (i ∷ is) ≡ 0 → (begins i ≡ false) × (begun_in is ≡ 0)
 no-first i is h = by (begins i) refl h
@@ -117,10 +107,7 @@ module _ (sys : System) (charts : (p : ℕ) (d : ObjectDef) → object_at sys p 
             on : (stop : SourceEnd) → source_stops sim (Within u k left) stop ≡ true → (stop ≡ InStimulus → (a.spilt ≡ true) × (spill_free < length done))
                 → (underway_next sys sim u t ≡ None) ⊎ ((a.spilt ≡ true) × (spill_free < length done))
             on InStimulus stops spilt = inr (spilt refl)
-            on AllDone stops spilt = inl (stops-none sys u k left AllDone t stops (λ e. cc))
-            on BeforeStimulus stops spilt = inl (stops-none sys u k left BeforeStimulus t stops (λ e. cc))
-            on AfterTry stops spilt = inl (stops-none sys u k left AfterTry t stops (λ e. cc))
-            on AtAssert stops spilt = inl (stops-none sys u k left AtAssert t stops (λ e. cc))
+            on other stops spilt = inl (stops-none sys u k left other t stops (λ e. cc))
         by (z ∷ zs) first (own, end, stop, reads, stops, not) is =
             let alone_z = alone-at done z zs (subst alone is own) in
             let one : source_after sys sim (Some (first_of n)) (records_of a.w 0 0 (done ++ z ∷ zs)) ≡ Some end =

@@ -23,6 +23,7 @@ use Rattle.qp_sim_unique.proofs.SourceSteps.{lane_in-append}
 use Rattle.qp_sim_unique.proofs.Sides.{lane_in}
 use Rattle.qp_model.proofs.LineLemmas.{same_number}
 use Rattle.qp_model.proofs.HistoryLemmas.{same_word-refl, in_order-at, total-append}
+use Rattle.qp_model.proofs.RecordLemmas.{lane-length}
 
 -- the place of a record behind these
 abbrev pub place_behind : List Placed → Placed → RecordPlace
@@ -186,11 +187,6 @@ module _ (lanes : List (List Rec)) (all : List Placed) (are : (a : ℕ) → lane
       subst (Taken all) (append_assoc done (place_behind xs z ∷ []) (places_of (xs ++ z ∷ []) zs))
       (taken-on (xs ++ z ∷ []) (done ++ place_behind xs z ∷ []) zs (split ∙ sym (append_assoc xs (z ∷ []) zs)) (taken-next xs done z zs split t))
 
-  read : (l : List Rec) → length (lane_items l) ≡ length l
-  unfolding lane_items
-  read [] = refl
-  read (r ∷ l) = ap suc (read l)
-
   pub places-all : IsPermutation (places lanes) (places_of [] all)
   unfolding places
   places-all =
@@ -209,7 +205,7 @@ module _ (lanes : List (List Rec)) (all : List Placed) (are : (a : ℕ) → lane
           by true e =
               let less : a < length lanes = grind (arith, nat_tests) in
               let at = t.counts a less in
-              let same : length (lane_in all a) ≡ length (get_or lanes a []) = ap length (are a) ∙ read (get_or lanes a []) in
+              let same : length (lane_in all a) ≡ length (get_or lanes a []) = ap length (are a) ∙ lane-length (get_or lanes a []) in
               omega (arith, at, same)
           by false e =
               let most : length lanes ≤ a = grind (arith, nat_tests) in

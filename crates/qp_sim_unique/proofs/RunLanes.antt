@@ -23,9 +23,8 @@ use Rattle.qp_model_order.proofs.NumberLemmas.{acts-place}
 use Rattle.qp_sim_unique.proofs.KernelLemmas.{item-is}
 use Rattle.qp_sim_unique.proofs.LookLemmas.{begins, begun_in, up_to_stim, from_stim, stim-split, stim-first, begun-append, same-front, StimFirst, turnless, one-turn, look-free, look-stimulated, turns-none, turns-one, stim-at}
 use Rattle.qp_sim_unique.proofs.ItemLemmas.{none-at}
-use Rattle.qp_sim_unique.proofs.SourceSteps.{lane_in-append, lane_in-own, lane_in-other, begun-is, place_of, place-after, stim-read, other-read, stim-some, stim-is, alone, alone-at, after-split, after-first, record-first}
+use Rattle.qp_sim_unique.proofs.SourceSteps.{lane_in-append, lane_in-own, lane_in-other, begun-is, place_of, place-after, stim-read, other-read, stim-some, stim-is, alone, alone-at, after-split, after-first, record-first, no-stim}
 use Rattle.qp_model.proofs.KnowingLemmas.{records_of-append}
-use Rattle.qp_sim_unique.proofs.PartLemmas.{no-stim}
 use Rattle.qp_sim_unique.proofs.Sides.{Lined, IsFront, lane_in, lined_order}
 
 pub look-body : (b : Body) (l : ℕ × ℕ) → look_of b ≡ Some l → b ≡ body.Look l.0 l.1

@@ -32,9 +32,9 @@ use Rattle.qp_model.specs.Sites.{object_at, ring_of}
 use Rattle.qp_model.specs.Course.{Cut, Whole, Stopped, Anywhere, FollowsTo, actor, first_config}
 use Rattle.qp_model.specs.Pieces.{ends_at_point}
 use Rattle.qp_model.specs.ObjectShape.{CutGroups}
-use Rattle.qp_model.specs.KernelLane.{Setting, Upcoming, Inside, Looking, Chosen, Ended, Resting, Again, Over, Halted, Reading, lane_read, lane_on, lane_next, role_next, role_of, unread, is_whole}
-use Rattle.qp_model.proofs.KernelRowLemmas.{lane_on-append, lane_on-then, pieces_in-then}
-use Rattle.qp_model.specs.Points.{lane_pieces, pieces_at, pieces_in, begins_row}
+use Rattle.qp_model.specs.KernelLane.{Setting, Halted, Reading, lane_read, lane_on, lane_next, role_next, role_of, unread, is_whole}
+use Rattle.qp_model.proofs.KernelRowLemmas.{lane_on-append, lane_on-then, pieces_in-then, no-row}
+use Rattle.qp_model.specs.Points.{lane_pieces, pieces_at, pieces_in}
 use Rattle.qp_model.specs.OneOrder.{Placed}
 use Rattle.qp_model.specs.Lawful.{Lawful, ObjectHolds, EndHolds, facts_of, setting_of, cut_of, spill_cuts, reading_holds}
 use Rattle.qp_model.specs.WordLaw.{is_object}
@@ -55,10 +55,6 @@ use Rattle.qp_sim_unique.proofs.NilLemmas.{is_nil, Nilless, cut-nilless}
 use Rattle.qp_sim_unique.proofs.JournalLemmas.{Threaded, kept_zero, inside, in-order, each-unspilt, cut-shape, kept-front, kept-none}
 use Rattle.qp_sim_unique.proofs.Sides.{EndsOwn, MayEnd, in_sim, held_to}
 use Rattle.qp_check_sources.proofs.LaneLemmas.{runs-flag}
-
-pub filter-none-spill : (is : List Item) → AllByRecursion (λ i. is_spill i.body ≡ false) is → filter (λ i. not (is_spill i.body)) is ≡ is
-filter-none-spill [] h = refl
-filter-none-spill (i ∷ is) h = rw h.0 (ap (λ js. i ∷ js) (filter-none-spill is h.1))
 
 pub all-of : (p : Item → Bool) (xs : List Item) → list_all p xs ≡ true → AllByRecursion (λ i. p i ≡ true) xs
 all-of p [] h = tt
@@ -127,18 +123,6 @@ empty ring = refl
 negated : (b : Bool) → not b ≡ true → b ≡ false
 negated true h = absurd (cc)
 negated false h = refl
-
--- a row of looks begins with a look
-no-row : (p : ℕ) (place : Upcoming) (os : List ℕ) → begins_row p place os false ≡ false
-no-row p Inside [] = refl
-no-row p Inside (q ∷ outer) = refl
-no-row p (Looking q others) os = refl
-no-row p (Chosen q) os = refl
-no-row p (Ended q) os = refl
-no-row p Resting os = refl
-no-row p Again os = refl
-no-row p Over os = refl
-no-row p Halted os = refl
 
 -- a `spill` that lane 0 reads is of no object
 spill-none : (w : Facts) (s : Setting) (p : ℕ) → (p ≡ 0 → ⊥) → (k : Reading) (i : Item) → is_spill i.body ≡ true → (last : Reading) → lane_on s k (i ∷ []) ≡ Some last → pieces_at w p k i ≡ []

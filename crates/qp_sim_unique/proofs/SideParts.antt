@@ -42,7 +42,7 @@ use Rattle.qp_sim_unique.proofs.StackLemmas.{found-in}
 use Rattle.qp_sim_unique.proofs.ItemLemmas.{none-at}
 use Rattle.qp_sim_unique.proofs.LoopLemmas.{look-whole}
 use Rattle.qp_sim_unique.proofs.RunLanes.{lane-stands, look-body}
-use Rattle.qp_sim_unique.proofs.JournalLemmas.{parts-all, Threaded, all-split, lane0-is, inside, ends-run, turn-at, each-unspilt, lane-each, drop-at, has_spilt, kept_sources, kept_zero, lanes-kept, lanes-none}
+use Rattle.qp_sim_unique.proofs.JournalLemmas.{parts-all, Threaded, all-split, lane0-is, inside, ends-run, turn-at, each-unspilt, lane-each, drop-at, has_spilt, kept_sources, kept_zero, lanes-kept, lanes-none, spill-no_look}
 use Rattle.qp_sim_unique.proofs.SideLemmas.{all-of, kernel-read, unspilt-zero, has_one}
 use Rattle.qp_sim_unique.proofs.Sides.{Lined, LongFront, in_sim, lane_in}
 use Rattle.qp_model.proofs.NumberLemmas.{every-append, count-append}
@@ -120,14 +120,10 @@ numbers-kept : (is : List Item) → look_numbers (unspilt is) ≡ look_numbers i
 numbers-kept [] = refl
 numbers-kept (i ∷ is) = by (is_spill i.body) refl (numbers-kept is)
   where
-    no_look : (b : Body) → is_spill b ≡ true → look_of b ≡ None
-    no_look (body.Look n floor) h = absurd (cc)
-    no_look b h = refl
-
     by : (b : Bool) → is_spill i.body ≡ b → look_numbers (unspilt is) ≡ look_numbers is
         → look_numbers (cond (not b) (i ∷ unspilt is) (unspilt is)) ≡ cons_option (option_map (λ l. l.0) (look_of i.body)) (look_numbers is)
     by false e h = ap (λ us. cons_option (option_map (λ (l : ℕ × ℕ). l.0) (look_of i.body)) us) h
-    by true e h = h ∙ sym (ap (λ (o : Option (ℕ × ℕ)). cons_option (option_map (λ (l : ℕ × ℕ). l.0) o) (look_numbers is)) (no_look i.body e))
+    by true e h = h ∙ sym (ap (λ (o : Option (ℕ × ℕ)). cons_option (option_map (λ (l : ℕ × ℕ). l.0) o) (look_numbers is)) (spill-no_look i.body e))
 
 count-kept : (p : ℕ) (is : List Item) → count_by (takes_of p) (unspilt is) ≡ count_by (takes_of p) is
 count-kept p [] = refl

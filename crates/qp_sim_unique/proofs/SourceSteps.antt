@@ -165,8 +165,8 @@ pub record-first : (w : Facts) (c : ℕ) (i : Item) (is : List Item) → i.of �
 unfolding records_of
 record-first w c i is of = let test : (i.of == 0) ≡ true = rw of refl in rw test refl
 
-stim-none : (b : Body) → is_some (stim_of b) ≡ false → stim_of b ≡ None
-stim-none b h = by (stim_of b) refl h
+pub no-stim : (b : Body) → is_some (stim_of b) ≡ false → stim_of b ≡ None
+no-stim b h = by (stim_of b) refl h
   where
     by : (o : Option (ℕ × ℕ)) → stim_of b ≡ o → is_some o ≡ false → stim_of b ≡ None
     by None e h = e
@@ -207,7 +207,7 @@ place-after sys w c r mid (i ∷ is) own e =
         let place : place_of next ≡ place_of r + 1 = ap place_of read.3 in
         omega (arith, rest, place)
     by false first next goes rest =
-        let read = other-read sys w c r next i.body (stim-none i.body first) goes in
+        let read = other-read sys w c r next i.body (no-stim i.body first) goes in
         let one : place_of r ≡ read.2 = ap place_of read.4 in
         let two : place_of next ≡ read.2 = ap place_of read.6 in
         omega (arith, rest, one, two)

@@ -1,17 +1,16 @@
 -- The steps under way in lane 0: each is of an object above those that it interrupts. So an object whose step is done has no other.
-use Rattle.std.proofs.Common.{◌≡◌, ◌∙◌, ℕ, ◌+◌, ◌<◌, ◌≤◌, ◌==◌, nat_lt, max, Bool, true, false, not, ◌&&◌, cond, List, [], ◌∷◌, ◌++◌, map, reverse, Some, refl, sym, ap, subst, inl, inr, ◌⊎◌, arith}
+use Rattle.std.proofs.Common.{◌≡◌, ◌∙◌, ℕ, ◌+◌, ◌<◌, ◌≤◌, ◌==◌, nat_lt, max, Bool, true, false, not, ◌&&◌, cond, List, [], ◌∷◌, map, Some, refl, sym, ap, subst, inl, inr, ◌⊎◌, arith}
 use Rattle.std.proofs.lemmas.Bool.Decides.{nat_tests}
-use Rattle.std.proofs.lemmas.List.{reverse-append}
-use Rattle.std.specs.Option.{is_some}
 use Rattle.std.specs.List.{filter, find, AllByRecursion}
 use Rattle.qp_model.specs.declared.systems.System.{System}
 use Rattle.qp_model.specs.declared.systems.ObjectDef.{ObjectDef}
 use Rattle.qp_model.specs.Record.{Item}
 use Rattle.qp_model.specs.Kernels.{sim, qk, qv}
-use Rattle.qp_model.specs.Sites.{object_at}
 use Rattle.qp_model.specs.WordLaw.{is_object}
 use Rattle.qp_model.specs.KernelLane.{role_of, Setting, threshold_of, floor_in, above, Upcoming, Inside, Looking, Chosen, Ended, Resting, Again, Over, Halted, Reading, base_ended, found_none, looking_at, unread}
 use Rattle.qp_sim_unique.proofs.KernelLemmas.{Slot, Starts, Runs, Releases, IsLook, IsSeen, IsTook, IsSpent, IsRest, IsDone, GoesOn, IsOwned}
+use Rattle.qp_replay.proofs.SourceRecords.{own-objects}
+use Rattle.qp_model.proofs.KernelLaneLemmas.{AllByRecursion-reverse}
 
 -- what is found is of the list, and passes
 pub found-in : (test : ObjectDef → Bool) (ds : List ObjectDef) (d : ObjectDef) → find test ds ≡ Some d → (P : ObjectDef → Type 0) → AllByRecursion P ds → P d × (test d ≡ true)
@@ -27,55 +26,21 @@ module _ (sys : System) where
   abbrev pub IsObject : ℕ → Type 0
   IsObject p = is_object sys p ≡ true
 
-  finds : (p : ℕ) (ds : List ObjectDef) (d : ObjectDef) → (d.priority == p) ≡ true → is_some (find (λ x. x.priority == p) (d ∷ ds)) ≡ true
-  finds p ds d h = rw h refl
-
-  finds-more : (p : ℕ) (x : ObjectDef) (ds : List ObjectDef) → is_some (find (λ x. x.priority == p) ds) ≡ true → is_some (find (λ x. x.priority == p) (x ∷ ds)) ≡ true
-  finds-more p x ds h = by (x.priority == p)
-    where
-      by : (b : Bool) → is_some (cond b (Some x) (find (λ x. x.priority == p) ds)) ≡ true
-      by true = refl
-      by false = h
-
-  -- each object's priority names one
-  pub AreNamed : (test : ObjectDef → Bool) (P : ℕ → Type 0) → ((d : ObjectDef) → test d ≡ true → is_some (find (λ x. x.priority == d.priority) sys.objects) ≡ true → P d.priority)
-      → (front ds : List ObjectDef) → ((p : ℕ) → is_some (find (λ x. x.priority == p) ds) ≡ true → is_some (find (λ x. x.priority == p) sys.objects) ≡ true)
-      → AllByRecursion P (map (λ d. d.priority) (filter test ds))
-  AreNamed test P each front [] sub = tt
-  AreNamed test P each front (d ∷ ds) sub =
-      let self : (d.priority == d.priority) ≡ true = grind (arith, nat_tests) in
-      by (test d) refl (sub d.priority (finds d.priority ds d self)) (AreNamed test P each front ds (λ p h. sub p (finds-more p d ds h)))
-    where
-      by : (b : Bool) → test d ≡ b → is_some (find (λ x. x.priority == d.priority) sys.objects) ≡ true → AllByRecursion P (map (λ d. d.priority) (filter test ds))
-          → AllByRecursion P (map (λ d. d.priority) (cond b (d ∷ filter test ds) (filter test ds)))
-      by true e here rest = (each d e here, rest)
-      by false e here rest = rest
-
-  all-append : (P : ℕ → Type 0) (xs ys : List ℕ) → AllByRecursion P xs → AllByRecursion P ys → AllByRecursion P (xs ++ ys)
-  all-append P [] ys h k = k
-  all-append P (x ∷ xs) ys h k = (h.0, all-append P xs ys h.1 k)
-
-  all-reverse : (P : ℕ → Type 0) (xs : List ℕ) → AllByRecursion P xs → AllByRecursion P (reverse xs)
-  all-reverse P [] h = tt
-  all-reverse P (x ∷ xs) h =
-      let e : reverse (x ∷ xs) ≡ reverse xs ++ x ∷ [] = reverse-append (x ∷ []) xs in
-      rw e (all-append P (reverse xs) (x ∷ []) (all-reverse P xs h.1) (h.0, tt))
+  pub all-named : AllByRecursion IsObject (map (λ d. d.priority) sys.objects)
+  all-named = own-objects sys
 
   pub above-named : (floor : ℕ) → AllByRecursion (λ p. IsObject p × (floor < p)) (above sys floor)
-  unfolding above is_object object_at
-  above-named floor =
-      all-reverse (λ p. IsObject p × (floor < p)) _
-      (AreNamed (λ d. nat_lt floor d.priority) (λ p. IsObject p × (floor < p)) (λ d test is. (is, let less : floor < d.priority = grind (arith, nat_tests) in less)) [] sys.objects (λ p h. h))
-
-  filter-all : (ds : List ObjectDef) → filter (λ (d : ObjectDef). true) ds ≡ ds
-  filter-all [] = refl
-  filter-all (d ∷ ds) = ap (λ xs. d ∷ xs) (filter-all ds)
-
-  pub all-named : AllByRecursion IsObject (map (λ d. d.priority) sys.objects)
-  unfolding is_object object_at
-  all-named =
-      subst (λ ds. AllByRecursion IsObject (map (λ (d : ObjectDef). d.priority) ds)) (filter-all sys.objects)
-      (AreNamed (λ d. true) IsObject (λ d test is. is) [] sys.objects (λ p h. h))
+  unfolding above
+  above-named floor = AllByRecursion-reverse (λ p. IsObject p × (floor < p)) _ (kept sys.objects all-named)
+    where
+      kept : (ds : List ObjectDef) → AllByRecursion IsObject (map (λ d. d.priority) ds) → AllByRecursion (λ p. IsObject p × (floor < p)) (map (λ d. d.priority) (filter (λ d. nat_lt floor d.priority) ds))
+      kept [] h = tt
+      kept (d ∷ ds) h = by (nat_lt floor d.priority) refl (kept ds h.1)
+        where
+          by : (b : Bool) → nat_lt floor d.priority ≡ b → AllByRecursion (λ p. IsObject p × (floor < p)) (map (λ d. d.priority) (filter (λ d. nat_lt floor d.priority) ds))
+              → AllByRecursion (λ p. IsObject p × (floor < p)) (map (λ d. d.priority) (cond b (d ∷ filter (λ d. nat_lt floor d.priority) ds) (filter (λ d. nat_lt floor d.priority) ds)))
+          by true e rest = ((h.0, let less : floor < d.priority = grind (arith, nat_tests, e) in less), rest)
+          by false e rest = rest
 
   -- each of the objects is below this one
   abbrev pub Below : List ℕ → ℕ → Type 0

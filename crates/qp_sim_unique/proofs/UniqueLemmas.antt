@@ -1,7 +1,7 @@
 -- A lawful journal of `sim` without a `spill` is the only one.
 use Rattle.std.proofs.Common.{◌≡◌, ◌∙◌, append-nil, not, nat_le, ℕ, suc, ◌+◌, ◌<◌, ◌≤◌, ◌==◌, Bool, true, false, ◌||◌, cond, List, [], ◌∷◌, ◌++◌, map, length, Some, None, refl, sym, ap, subst, inl, inr, ◌⊎◌, arith}
 use Rattle.std.proofs.lemmas.Bool.Decides.{nat_tests}
-use Rattle.std.proofs.lemmas.Bool.{and_parts}
+use Rattle.std.proofs.lemmas.Bool.{and_parts, or_parts}
 use Rattle.std.proofs.lemmas.List.{length-append, length-map, map-append}
 use Rattle.std.specs.declared.option.Option.{Option}
 use Rattle.std.specs.Option.{option_map_or, is_some}
@@ -42,6 +42,7 @@ use Rattle.qp_sim_unique.proofs.SideLemmas.{kernel-read, raw-read, unspilt-zero,
 use Rattle.qp_sim_unique.proofs.SideParts.{slot-at, source-of, placed-of, within-of, spent-of, lane-unspilt, lane-stood, late-of, turn-of, has-of, long-at, long-zero, any-find, each-by, joined-each, kept-at}
 use Rattle.qp_sim_unique.proofs.Sides.{Side, HasEnded, Lacking, MayPart, in_sim, order_of, lane_in}
 use Rattle.qp_model.proofs.NumberLemmas.{every-append}
+use Rattle.qp_model.proofs.RecordLemmas.{lane-length}
 
 -- tests of elements
 none-each : {A : Type 0} (p : A → Bool) (xs : List A) → list_any p xs ≡ false → AllByRecursion (λ x. p x ≡ false) xs
@@ -81,14 +82,10 @@ cut-end items end stated cut none =
     let no : may_cut 0 ≡ true = subst (λ n. may_cut n ≡ true) e2 cut in
     cc
 
-or-none : (a b : Bool) → (a || b) ≡ false → (a ≡ false) × (b ≡ false)
-or-none true b h = absurd (cc)
-or-none false b h = (refl, h)
-
 -- a lane without a `spill` is as it is without one
 kept-same : (is : List Item) → spills_in is ≡ false → unspilt is ≡ is
 kept-same [] h = refl
-kept-same (i ∷ is) h = let parts = or-none (is_spill i.body) _ h in by (is_spill i.body) parts.0 (kept-same is parts.1)
+kept-same (i ∷ is) h = let parts = or_parts (is_spill i.body) _ h in by (is_spill i.body) parts.0 (kept-same is parts.1)
   where
     by : (b : Bool) → b ≡ false → unspilt is ≡ is → cond (not b) (i ∷ unspilt is) (unspilt is) ≡ i ∷ is
     by true e h = absurd (cc)
@@ -96,7 +93,7 @@ kept-same (i ∷ is) h = let parts = or-none (is_spill i.body) _ h in by (is_spi
 
 kept-all : (ls : List (List Item)) → list_any spills_in ls ≡ false → map (λ lane. unspilt lane) ls ≡ ls
 kept-all [] h = refl
-kept-all (l ∷ ls) h = let parts = or-none (spills_in l) _ h in λ n. kept-same l parts.0 n ∷ kept-all ls parts.1 n
+kept-all (l ∷ ls) h = let parts = or_parts (spills_in l) _ h in λ n. kept-same l parts.0 n ∷ kept-all ls parts.1 n
 
 kept-few : (is : List Item) → length (unspilt is) ≤ length is
 kept-few [] = omega arith
@@ -106,18 +103,13 @@ kept-few (i ∷ is) = by (not (is_spill i.body)) (kept-few is)
     by true h = omega (arith, h)
     by false h = omega (arith, h)
 
-items-size : (l : List Rec) → length (lane_items l) ≡ length l
-unfolding lane_items
-items-size [] = refl
-items-size (r ∷ l) = ap suc (items-size l)
-
 -- the lanes of a short journal
 short-each : (lanes : List (List Rec)) → list_all (λ lane. nat_le (length lane) spill_free) lanes ≡ true → AllByRecursion (λ l. length l ≤ spill_free) (map (λ lane. lane_items lane) lanes)
 short-each [] h = tt
 short-each (l ∷ ls) h =
     let parts = and_parts (nat_le (length l) spill_free) _ h in
     let few : length l ≤ spill_free = let test : nat_le (length l) spill_free ≡ true = parts.0 in grind (arith, nat_tests) in
-    (rw (items-size l) few, short-each ls parts.1)
+    (rw (lane-length l) few, short-each ls parts.1)
 
 -- a front and what it is a front of are the same where it goes both ways
 fronts-one : (xs ys zs us : List Placed) → xs ≡ ys ++ zs → ys ≡ xs ++ us → xs ≡ ys
@@ -198,10 +190,10 @@ module _ (sys : System) (stimuli : List (List Stim)) (sound : IsSound sys) (foll
     -- where no lane ended with a `spill`
     module _ (clean : has_spilt sys j ≡ false) where
       zero-clean : lane_items (lane_at j 0) ≡ kept_zero j
-      zero-clean = sym (kept-same (lane_items (lane_at j 0)) (or-none (spills_in (lane_items (lane_at j 0))) _ clean).0)
+      zero-clean = sym (kept-same (lane_items (lane_at j 0)) (or_parts (spills_in (lane_items (lane_at j 0))) _ clean).0)
 
       sources-clean : source_lanes sys j ≡ kept_sources sys j
-      sources-clean = sym (kept-all (source_lanes sys j) (or-none (spills_in (lane_items (lane_at j 0))) _ clean).1)
+      sources-clean = sym (kept-all (source_lanes sys j) (or_parts (spills_in (lane_items (lane_at j 0))) _ clean).1)
 
       -- each record of the lanes has what those of the order have
       all-by : (P : Item → Type 0) → AllByRecursion P (kept_zero j) → AllByRecursion (λ l. AllByRecursion P l) (kept_sources sys j) → AllByRecursion P (all_items j.lanes)
@@ -412,7 +404,7 @@ module _ (sys : System) (stimuli : List (List Stim)) (i j : Journal) (sound : Is
 -- without a lane that ended with a `spill` none stands among the records
 clean-items : (sys : System) (stimuli : List (List Stim)) (j : Journal) (tj : Threaded sys stimuli j) → has_spilt sys j ≡ false → list_any (λ x. is_spill x.body) (all_items j.lanes) ≡ false
 clean-items sys stimuli j tj none =
-    let parts = or-none (spills_in (lane_items (lane_at j 0))) _ none in
+    let parts = or_parts (spills_in (lane_items (lane_at j 0))) _ none in
     each-none (λ x. is_spill x.body) (all_items j.lanes)
     (subst (AllByRecursion (λ x. is_spill x.body ≡ false)) (sym (all-split sys stimuli j tj))
     (every-append (λ x. is_spill x.body ≡ false) (lane_items tj.first) (all_items tj.others)
@@ -421,7 +413,7 @@ clean-items sys stimuli j tj none =
   where
     lanes : (ls : List (List Item)) → list_any spills_in ls ≡ false → AllByRecursion (λ l. AllByRecursion (λ x. is_spill x.body ≡ false) l) ls
     lanes [] h = tt
-    lanes (l ∷ ls) h = let both = or-none (spills_in l) _ h in (unspilt-each l both.0, lanes ls both.1)
+    lanes (l ∷ ls) h = let both = or_parts (spills_in l) _ h in (unspilt-each l both.0, lanes ls both.1)
 
 -- a short journal has no `spill`
 pub short_journals_are_unspilt : (sys : System) (stimuli : List (List Stim)) (j : Journal) → Lawful sys stimuli j → j.kernel ≡ sim → is_short j ≡ true → list_any (λ x. is_spill x.body) (all_items j.lanes) ≡ false

@@ -3,7 +3,7 @@ use Rattle.std.specs.Prelude.{◌≡◌, ℕ, ◌<◌, ◌≤◌, true, List, le
 use Rattle.qp_model.specs.declared.journals.Journal.{Journal}
 use Rattle.qp_model.specs.declared.stimulus.Stim.{Stim}
 use Rattle.qp_model.specs.declared.systems.System.{System}
-use Rattle.qp_model.specs.Kernels.{sim, qv}
+use Rattle.qp_model.specs.Kernels.{sim, qk, qv}
 use Rattle.qp_model.specs.Lawful.{Lawful}
 use Rattle.qp_model.specs.Output.{has_form, is_in_range}
 use Rattle.qp_model.specs.Sound.{IsSound}
@@ -17,6 +17,12 @@ pub record CanBeWritten (form : ℕ) (j : Journal) : Type 0 where
 abbrev pub SimHasForms : Type 0
 SimHasForms =
     (sys : System) (stimuli : List (List Stim)) (j : Journal) → IsSound sys → length stimuli ≤ 16 → j.kernel ≡ sim → 0 < j.budget → j.budget ≤ 1000000 → Lawful sys stimuli j
+    → CanBeWritten 1 j
+
+-- and so can one of `qk`
+abbrev pub QkHasForms : Type 0
+QkHasForms =
+    (sys : System) (stimuli : List (List Stim)) (j : Journal) → IsSound sys → length stimuli ≤ 16 → j.kernel ≡ qk → 0 < j.budget → j.budget ≤ 1000000 → Lawful sys stimuli j
     → CanBeWritten 1 j
 
 -- and one of `qv` in form 2
