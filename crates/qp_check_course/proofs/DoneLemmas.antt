@@ -22,7 +22,7 @@ use Rattle.qp_model.specs.OutputSummary.{is_took, is_done}
 use Rattle.qp_model.proofs.BlockLemmas.{Block, Exits, Enters, Inits, Acts, Locks, spread, Blocks, step-blocks, start-blocks}
 use Rattle.qp_check_calls.specs.CallState.{CallStage, Whole, CallState}
 use Rattle.qp_check_calls.specs.CallStateNext.{call_state_begin, call_state_next, stage_answer}
-use Rattle.qp_check_course.specs.Note.{Note, Begin, Run, Unhandled, Exit, Enter, Init, Done, Say, Unlock, body_of, tells, raised_from, taken_by, dropped_by, comes_back}
+use Rattle.qp_check_course.specs.Note.{Note, Run, Unhandled, Done, body_of, tells, raised_from, taken_by, dropped_by, comes_back}
 use Rattle.qp_check_course.specs.Goes.{Way, Starting, Stepping, moment_of}
 use Rattle.qp_check_course.specs.Machine.{State, Between, Telling, Raising, AtPoint, InCall, AtPost, Releasing, Returning, Asserted, has_inner, done, answered, resumed, resume, deed_state, task_state, closed, closing, settle, noted, posted, step_state, start_state, left_over, tell_next}
 use Rattle.qp_check_course.specs.Passing.{through, settle_past, pass_actions, pass, run_told}
@@ -121,14 +121,7 @@ settle-under a way leaf [] c h = absurd (cc)
 settle-under a way leaf (task.Do p ∷ ts) c h =
     deed-under a way leaf ts (λ d. settle a way leaf ts d) h (λ d. settle-under a way leaf ts d h) (deed_of (names_of a c (moment_of way).event) p) c
 settle-under a way leaf (task.Done ∷ ts) c h = (last-ends ts h, refl)
-settle-under a way leaf (task.Raise ceiling ∷ ts) c h = (h, refl)
-settle-under a way leaf (task.Restore ∷ ts) c h = (h, refl)
-settle-under a way leaf (task.Begin ∷ ts) c h = (h, refl)
-settle-under a way leaf (task.Run s k ∷ ts) c h = (h, refl)
-settle-under a way leaf (task.Unhandled ∷ ts) c h = (h, refl)
-settle-under a way leaf (task.Exit s ∷ ts) c h = (h, refl)
-settle-under a way leaf (task.Enter s ∷ ts) c h = (h, refl)
-settle-under a way leaf (task.Init s ∷ ts) c h = (h, refl)
+settle-under a way leaf _ c h = (h, refl)
 
 pub start-under : (a : Actor) (c : Config) → IsUnder (start_state a c)
 unfolding start_state
@@ -177,14 +170,7 @@ Keeps s later = WillEnd later × (open_in later ≡ open_in s)
 actions-keep : (a : Actor) (s : State) → WillEnd s → Keeps s (pass_actions a s)
 unfolding pass_actions
 actions-keep a (AtPoint ev e ts leaf c) h = past-under a ev e leaf ts c h
-actions-keep a (Between c) h = (h, refl)
-actions-keep a (Telling way n ends ts leaf c) h = (h, refl)
-actions-keep a (Raising way ceiling ts leaf c) h = (h, refl)
-actions-keep a (InCall way inner rest ts leaf c) h = (h, refl)
-actions-keep a (AtPost way rest ts leaf c) h = (h, refl)
-actions-keep a (Releasing e c) h = (h, refl)
-actions-keep a (Returning p b d c) h = (h, refl)
-actions-keep a Asserted h = (h, refl)
+actions-keep a _ h = (h, refl)
 
 pass-keeps : (a : Actor) (s : State) → WillEnd s → Keeps s (pass a s)
 unfolding pass
@@ -192,14 +178,7 @@ pass-keeps a (AtPost way rest ts leaf c) h =
     let under = resume-under a way leaf ts (settle a way leaf ts) h (λ d. settle-under a way leaf ts d h) true rest c in
     let on = actions-keep a (resume way true rest leaf ts (settle a way leaf ts) c) under.0 in
     (on.0, on.1 ∙ under.1)
-pass-keeps a (AtPoint ev e ts leaf c) h = actions-keep a (AtPoint ev e ts leaf c) h
-pass-keeps a (Between c) h = actions-keep a (Between c) h
-pass-keeps a (Telling way n ends ts leaf c) h = actions-keep a (Telling way n ends ts leaf c) h
-pass-keeps a (Raising way ceiling ts leaf c) h = actions-keep a (Raising way ceiling ts leaf c) h
-pass-keeps a (InCall way inner rest ts leaf c) h = actions-keep a (InCall way inner rest ts leaf c) h
-pass-keeps a (Releasing e c) h = actions-keep a (Releasing e c) h
-pass-keeps a (Returning p b d c) h = actions-keep a (Returning p b d c) h
-pass-keeps a Asserted h = actions-keep a Asserted h
+pass-keeps a other h = actions-keep a other h
 
 abbrev pub one_if : Bool → ℕ
 one_if b = cond b 1 0
@@ -236,25 +215,11 @@ is_final n = false
 
 note-plain : (n : Note) → is_final n ≡ false → IsPlain (body_of n)
 note-plain Done h = absurd (cc)
-note-plain Begin h = record { done = refl; took = refl }
-note-plain (Run s k) h = record { done = refl; took = refl }
-note-plain Unhandled h = record { done = refl; took = refl }
-note-plain (Exit s) h = record { done = refl; took = refl }
-note-plain (Enter s) h = record { done = refl; took = refl }
-note-plain (Init s) h = record { done = refl; took = refl }
-note-plain (Say v) h = record { done = refl; took = refl }
-note-plain (Unlock c) h = record { done = refl; took = refl }
+note-plain _ h = record { done = refl; took = refl }
 
 note-left : (n : Note) (ends : Bool) (ts : List Task) → is_final n ≡ false → note_ends n ends ts ≡ true → ends_once ts ≡ true
 note-left Done ends ts h k = absurd (cc)
-note-left Begin ends ts h k = k
-note-left (Run s j) ends ts h k = k
-note-left Unhandled ends ts h k = k
-note-left (Exit s) ends ts h k = k
-note-left (Enter s) ends ts h k = k
-note-left (Init s) ends ts h k = k
-note-left (Say v) ends ts h k = k
-note-left (Unlock c) ends ts h k = k
+note-left _ ends ts h k = k
 
 -- the end of a start or of a step
 closed-rests : (p : ℕ) (e : Entry) (c : Config) → WillEnd (closed p e c) × (open_in (closed p e c) ≡ 0)

@@ -25,14 +25,4 @@ unfolding is_able
 makes-few at_hand (action.Post to sig pars margin reserve) h = eight sig (length pars) h
 makes-few at_hand (action.Lifo sig pars reserve) h = eight sig (length pars) h
 makes-few at_hand (action.Publish sig pars reserve) h = eight sig (length pars) h
-makes-few at_hand (action.Forward to margin) h = tt
-makes-few at_hand action.Defer h = tt
-makes-few at_hand (action.Set var value) h = tt
-makes-few at_hand (action.Say value) h = tt
-makes-few at_hand action.Recall h = tt
-makes-few at_hand action.Flush h = tt
-makes-few at_hand (action.Subscribe sig) h = tt
-makes-few at_hand (action.Unsubscribe sig) h = tt
-makes-few at_hand (action.Arm timer ticks interval) h = tt
-makes-few at_hand (action.Rearm timer ticks) h = tt
-makes-few at_hand (action.Disarm timer) h = tt
+makes-few at_hand _ h = tt

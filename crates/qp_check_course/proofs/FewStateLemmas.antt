@@ -53,15 +53,7 @@ module _ (a : Actor) (way : Way) (leaf : ℕ) (ts : List Task) (few : AreFew way
   few-task : (t : Task) (c : Config) → FewLeft (task_state a way leaf ts go c t)
   unfolding task_state
   few-task (task.Do p) c = few-deed (deed_of (names_of a c (moment_of way).event) p) c
-  few-task (task.Raise ceiling) c = few
-  few-task task.Restore c = few
-  few-task task.Begin c = few
-  few-task (task.Run s k) c = few
-  few-task task.Unhandled c = few
-  few-task (task.Exit s) c = few
-  few-task (task.Enter s) c = few
-  few-task (task.Init s) c = few
-  few-task task.Done c = few
+  few-task _ c = few
 
 pub few-settle : (a : Actor) (way : Way) (leaf : ℕ) (ts : List Task) (c : Config) → AreFew way ts → FewLeft (settle a way leaf ts c)
 unfolding settle

@@ -17,7 +17,7 @@ use Rattle.qp_check_calls.specs.declared.pieces.Piece.{Piece}
 use Rattle.qp_check_calls.specs.declared.pieces.Piece.TheVariants as piece
 use Rattle.qp_check_calls.specs.AsPiece.{as_piece}
 use Rattle.qp_check_course.specs.Goes.{Way, Starting, Stepping}
-use Rattle.qp_check_course.specs.Machine.{State, Between, Telling, Raising, AtPoint, InCall, AtPost, Releasing, Returning, Asserted, answered, resumed, resume, closed, settle, tell_next, point_next, next, run, expects_point}
+use Rattle.qp_check_course.specs.Machine.{State, AtPoint, AtPost, answered, resumed, resume, closed, settle, tell_next, point_next, next, run, expects_point}
 use Rattle.qp_check_course.specs.Passing.{pass, run_told}
 use Rattle.qp_check_course.specs.Runs.{IsAble, CanRun, is_point}
 use Rattle.qp_check_course.proofs.PassLemmas.{Shape, pass-none, resume-shape, settle-shape, start-none}
@@ -33,13 +33,7 @@ points_left s = 0
 none-left : (s : State) → expects_point s ≡ false → points_left s ≡ 0
 none-left (AtPoint ev e ts leaf c) h = absurd (cc)
 none-left (AtPost way rest ts leaf c) h = absurd (cc)
-none-left (Between c) h = refl
-none-left (Telling way n ends ts leaf c) h = refl
-none-left (Raising way ceiling ts leaf c) h = refl
-none-left (InCall way inner rest ts leaf c) h = refl
-none-left (Releasing e c) h = refl
-none-left (Returning p b d c) h = refl
-none-left Asserted h = refl
+none-left _ h = refl
 
 shaped : (ev : Event) (e : Entry) (leaf : ℕ) (ts : List Task) (s : State) → Shape ev e leaf ts s → points_left s ≤ suc (length ts)
 shaped ev e leaf ts s (inl (c, is)) = let same : points_left s ≡ suc (length ts) = ap points_left is in omega (arith, same)
@@ -82,13 +76,7 @@ module _ (a : Actor) where
   unfolding point_next
   unexpected (AtPoint ev e ts leaf c) h = absurd (cc)
   unexpected (AtPost way rest ts leaf c) h = absurd (cc)
-  unexpected (Between c) h = refl
-  unexpected (Telling way n ends ts leaf c) h = refl
-  unexpected (Raising way ceiling ts leaf c) h = refl
-  unexpected (InCall way inner rest ts leaf c) h = refl
-  unexpected (Releasing e c) h = refl
-  unexpected (Returning p b d c) h = refl
-  unexpected Asserted h = refl
+  unexpected _ h = refl
 
   -- where none may come, all are passed
   pub pass-stays : (s same whole : State) → same ≡ s → point_next a s ≡ None → pass a s ≡ whole → same ≡ whole

@@ -14,7 +14,7 @@ use Rattle.qp_check_calls.specs.CallState.{CallStage, Whole, CallState}
 use Rattle.qp_check_calls.specs.CallStateNext.{call_state_begin, stage_answer}
 use Rattle.qp_check_calls.specs.CallStateLaws.{ReadsBegin, ReadsWhole, ReadsNext}
 use Rattle.qp_check_course.specs.Goes.{Aim, Way, Starting, Stepping, moment_of}
-use Rattle.qp_check_course.specs.Machine.{State, Between, Telling, Raising, AtPoint, InCall, AtPost, Releasing, Returning, Asserted, Goes, has_inner, answered, resumed, resume, deed_state, task_state, closed, closing, settle, point_next, next, expects_point}
+use Rattle.qp_check_course.specs.Machine.{State, AtPoint, InCall, AtPost, Asserted, Goes, has_inner, answered, resumed, resume, deed_state, task_state, closed, closing, settle, point_next, next, expects_point}
 use Rattle.qp_check_course.specs.Passing.{through, settle_past, pass_actions, pass}
 use Rattle.qp_check_course.proofs.BackLemmas.{next-goes}
 use Rattle.qp_model.proofs.AbleLemmas.{some-same}
@@ -24,13 +24,7 @@ pub pass-none : (a : Actor) (s : State) → expects_point s ≡ false → pass a
 unfolding pass pass_actions
 pass-none a (AtPoint ev e ts leaf c) h = absurd (cc)
 pass-none a (AtPost way rest ts leaf c) h = absurd (cc)
-pass-none a (Between c) h = refl
-pass-none a (Telling way n ends ts leaf c) h = refl
-pass-none a (Raising way ceiling ts leaf c) h = refl
-pass-none a (InCall way inner rest ts leaf c) h = refl
-pass-none a (Releasing e c) h = refl
-pass-none a (Returning p b d c) h = refl
-pass-none a Asserted h = refl
+pass-none a _ h = refl
 
 -- a state is the point of an action before these tasks, or expects no point
 abbrev pub Shape : (ev : Event) (e : Entry) → ℕ → List Task → State → Type 0
@@ -57,15 +51,7 @@ module _ (a : Actor) (ev : Event) (e : Entry) (leaf : ℕ) (ts : List Task) (go 
   task-shape : (t : Task) (c : Config) → Shape ev e leaf ts (task_state a (Stepping ev e) leaf ts go c t)
   unfolding task_state
   task-shape (task.Do p) c = deed-shape (deed_of (names_of a c ev) p) c
-  task-shape (task.Raise ceiling) c = inr refl
-  task-shape task.Restore c = inr refl
-  task-shape task.Begin c = inr refl
-  task-shape (task.Run s k) c = inr refl
-  task-shape task.Unhandled c = inr refl
-  task-shape (task.Exit s) c = inr refl
-  task-shape (task.Enter s) c = inr refl
-  task-shape (task.Init s) c = inr refl
-  task-shape task.Done c = inr refl
+  task-shape _ c = inr refl
 
 at_point : (a : Actor) (ev : Event) (e : Entry) (ts : List Task) (leaf : ℕ) (d : Config) → pass a (AtPoint ev e ts leaf d) ≡ pass_actions a (AtPoint ev e ts leaf d)
 unfolding pass
@@ -79,13 +65,7 @@ module _ (a : Actor) where
   pub through-none : (s : State) (go : Config → State) → expects_point s ≡ false → through s go ≡ s
   through-none (AtPoint ev e ts leaf c) go h = absurd (cc)
   through-none (AtPost way rest ts leaf c) go h = absurd (cc)
-  through-none (Between c) go h = refl
-  through-none (Telling way n ends ts leaf c) go h = refl
-  through-none (Raising way ceiling ts leaf c) go h = refl
-  through-none (InCall way inner rest ts leaf c) go h = refl
-  through-none (Releasing e c) go h = refl
-  through-none (Returning p b d c) go h = refl
-  through-none Asserted go h = refl
+  through-none _ go h = refl
 
   -- the end of a step expects no point
   closed-none : (p : ℕ) (e : Entry) (c : Config) → expects_point (closed p e c) ≡ false
@@ -106,13 +86,7 @@ module _ (a : Actor) where
   unfolding pass_actions
   actions-none (AtPoint ev e ts leaf c) h = absurd (cc)
   actions-none (AtPost way rest ts leaf c) h = absurd (cc)
-  actions-none (Between c) h = refl
-  actions-none (Telling way n ends ts leaf c) h = refl
-  actions-none (Raising way ceiling ts leaf c) h = refl
-  actions-none (InCall way inner rest ts leaf c) h = refl
-  actions-none (Releasing e c) h = refl
-  actions-none (Returning p b d c) h = refl
-  actions-none Asserted h = refl
+  actions-none _ h = refl
 
   -- a start expects no point
   pub start-none : (leaf : ℕ) (ts : List Task) (c : Config) → expects_point (settle a Starting leaf ts c) ≡ false
@@ -135,15 +109,7 @@ module _ (a : Actor) where
 
       by_task : ((d : Config) → expects_point (settle a Starting leaf ts d) ≡ false) → (t : Task) → expects_point (task_state a Starting leaf ts (λ d. settle a Starting leaf ts d) c t) ≡ false
       by_task none (task.Do p) = by_deed none (deed_of (names_of a c (moment_of Starting).event) p)
-      by_task none (task.Raise ceiling) = refl
-      by_task none task.Restore = refl
-      by_task none task.Begin = refl
-      by_task none (task.Run s k) = refl
-      by_task none task.Unhandled = refl
-      by_task none (task.Exit s) = refl
-      by_task none (task.Enter s) = refl
-      by_task none (task.Init s) = refl
-      by_task none task.Done = refl
+      by_task none _ = refl
 
   -- behind a post of a publication an action's point is expected, or none
   resume-plain : (way : Way) (inner : Bool) (rest : CallState) (ts : List Task) (leaf : ℕ) (c : Config)

@@ -46,13 +46,7 @@ deed-able sys now names (action.Lifo sig pars reserve) h = rw length-map h
 deed-able sys now names (action.Forward to margin) h = h
 deed-able sys now names (action.Publish sig pars reserve) h = rw length-map h
 deed-able sys now names action.Defer h = h
-deed-able sys now names action.Recall h = refl
-deed-able sys now names action.Flush h = refl
-deed-able sys now names (action.Subscribe sig) h = refl
-deed-able sys now names (action.Unsubscribe sig) h = refl
-deed-able sys now names (action.Arm timer ticks interval) h = refl
-deed-able sys now names (action.Rearm timer ticks) h = refl
-deed-able sys now names (action.Disarm timer) h = refl
+deed-able sys now names _ h = refl
 
 module _ (sys : System) (a : Actor) (way : Way) (leaf : ℕ) (ts : List Task) (able : AreAble sys way ts) (go : Config → State)
     (ready : (d : Config) → IsWithin a d → IsReady sys a (go d)) where
@@ -97,15 +91,7 @@ module _ (sys : System) (a : Actor) (way : Way) (leaf : ℕ) (ts : List Task) (a
   unfolding task_state task_able
   ready-task begin first (task.Do p) c asked within =
       ready-deed begin first (deed_of (names_of a c (moment_of way).event) p) c (deed-able sys (moment_of way).entry (names_of a c (moment_of way).event) p asked) within
-  ready-task begin first (task.Raise ceiling) c asked within = (able, within)
-  ready-task begin first task.Restore c asked within = (able, within)
-  ready-task begin first task.Begin c asked within = (able, within)
-  ready-task begin first (task.Run s k) c asked within = (able, within)
-  ready-task begin first task.Unhandled c asked within = (able, within)
-  ready-task begin first (task.Exit s) c asked within = (able, within)
-  ready-task begin first (task.Enter s) c asked within = (able, within)
-  ready-task begin first (task.Init s) c asked within = (able, within)
-  ready-task begin first task.Done c asked within = (able, within)
+  ready-task begin first _ c asked within = (able, within)
 
 pub ready-settle : ReadsBegin → OpenBegin → (sys : System) (a : Actor) (way : Way) (leaf : ℕ) (ts : List Task) (c : Config) → AreAble sys way ts → IsWithin a c
     → IsReady sys a (settle a way leaf ts c)

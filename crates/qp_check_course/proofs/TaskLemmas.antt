@@ -1,15 +1,14 @@
 -- Tasks that are added one after another.
-use Rattle.std.proofs.Common.{◌≡◌, ℕ, ◌+◌, ◌-◌, ◌<◌, List, [], ◌∷◌, ◌++◌, length, get_or, map, drop, refl, sym, ◌∙◌, ap, subst, Option, Some, None, append_assoc}
+use Rattle.std.proofs.Common.{◌≡◌, ℕ, ◌+◌, ◌-◌, ◌<◌, List, [], ◌∷◌, ◌++◌, length, get_or, drop, refl, sym, ◌∙◌, ap, subst, Option, Some, None, append_assoc}
 use Rattle.std.proofs.lemmas.List.{map-append}
 use Rattle.qp_chart.specs.Task as task
 use Rattle.qp_chart.specs.declared.checked.Chart.{Chart}
-use Rattle.qp_chart.specs.declared.actions.Plain.{Plain}
 use Rattle.qp_chart.specs.Expr.{Names}
 use Rattle.qp_chart.specs.Handler.{Handler, handler}
 use Rattle.qp_chart.specs.MainState.{entered}
 use Rattle.qp_chart.specs.Agenda.{moves, handled, start_plan, step_plan}
 use Rattle.qp_chart.specs.StateTree.{state_at}
-use Rattle.qp_chart.specs.Task.{Do, Enter, Exit, tasks_of, acts_at, exits, entries}
+use Rattle.qp_chart.specs.Task.{Enter, Exit, tasks_of, acts_at, exits, entries}
 use Rattle.qp_chart.specs.Drill.{Plan, before, drill}
 use Rattle.qp_check_course.specs.declared.tasks.Task.{Task}
 use Rattle.qp_check_course.specs.AsTask.{as_task, as_tasks}
@@ -19,10 +18,6 @@ use Rattle.qp_chart_tree.proofs.PlanLemmas.{made-step, adds-more}
 -- a task is pushed
 pub pushed : (xs ys : List Task) (t : Task) → ys ≡ xs ++ t ∷ [] → as_tasks ys ≡ as_tasks xs ++ as_task t ∷ []
 pushed xs ys t e = ap as_tasks e ∙ map-append as_task xs (t ∷ [])
-
-pub plains-step : (xs : List Plain) (i : ℕ) (x d : Plain) (done new whole : List task.Task) → i < length xs → x ≡ get_or xs i d → new ≡ done ++ Do x ∷ []
-    → done ++ map Do (drop i xs) ≡ whole → new ++ map Do (drop (i + 1) xs) ≡ whole
-plains-step = made-step (λ xs. map Do xs) (λ x. Do x ∷ []) (λ x xs. refl)
 
 pub acts-none : tasks_of [] ≡ []
 unfolding tasks_of

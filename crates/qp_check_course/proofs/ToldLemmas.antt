@@ -69,14 +69,7 @@ module _ (begin : ReadsBegin) (whole : ReadsWhole) (reads_next : ReadsNext) (fir
   ready-actions : (s : State) → IsReady sys a s → IsReady sys a (pass_actions a s)
   unfolding pass_actions
   ready-actions (AtPoint ev e ts leaf c) ready = ready-past ev e leaf ts c ready.0 ready.1
-  ready-actions (Between c) ready = ready
-  ready-actions (Telling way n ends ts leaf c) ready = ready
-  ready-actions (Raising way ceiling ts leaf c) ready = ready
-  ready-actions (InCall way inner rest ts leaf c) ready = ready
-  ready-actions (AtPost way rest ts leaf c) ready = ready
-  ready-actions (Releasing e c) ready = ready
-  ready-actions (Returning p b d c) ready = ready
-  ready-actions Asserted ready = ready
+  ready-actions _ ready = ready
 
   ready-pass : (s : State) → IsReady sys a s → IsReady sys a (pass a s)
   unfolding pass next point_next

@@ -5,7 +5,7 @@ use Rattle.qp_model.specs.declared.bodies.Entry.{Entry}
 use Rattle.qp_model.specs.declared.bodies.Body.{Body}
 use Rattle.qp_model.specs.declared.bodies.Body.TheVariants as item
 use Rattle.qp_model.specs.Told as told
-use Rattle.qp_model.specs.Told.{Told, Event, Known}
+use Rattle.qp_model.specs.Told.{Event, Known}
 
 pub data Note : Type 0 where
   Begin : Note

@@ -11,7 +11,6 @@ use Rattle.qp_model.specs.Shapes.{Fits, FitsAny, PostsNew, Publishes, NoBlockFor
 use Rattle.qp_model.specs.Sequence.{Sequence}
 use Rattle.qp_model.specs.Groups.{IsAction, SaysValue, MakesCall, Actions, IsGroup, IsMove, IsAct, IsLocked, Groups, IsLast, BreaksOff, Plainly, UnderCeiling}
 use Rattle.qp_check_shapes.specs.ShapeUnit as unit
-use Rattle.qp_check_shapes.specs.ShapeUnit.{IsUnit}
 use Rattle.qp_check_shapes.specs.ShapeAction.{IsWhole, OfUnit, OfPublication, IsCut}
 use Rattle.qp_check_shapes.specs.GroupsRead.{IsElement, Notes, Acts, Locks, RaisesOnly, IsEnd, EndsPlainly, EndsUnder, Breaks}
 use Rattle.qp_check_shapes.proofs.GroupsSequenceLemmas.{sequence-none, sequence-one, sequence-more, sequence-map}
@@ -32,11 +31,7 @@ publish-whole sys o now sig pars reserve Granted g h calm = OfPublication sig pa
 publish-whole sys o now sig pars reserve Refused g h calm = OfUnit (unit.MakesCall (call.Post 0 sig pars None reserve) Refused refl (inl h) refl)
 publish-whole sys o now sig pars None (Flushed n) g h calm = absurd h
 publish-whole sys o now sig pars (Some r) (Flushed n) g h calm = absurd h
-publish-whole sys o now sig pars reserve AtQueue g h calm = absurd (cc)
-publish-whole sys o now sig pars reserve AtPool g h calm = absurd (cc)
-publish-whole sys o now sig pars reserve AtTimer g h calm = absurd (cc)
-publish-whole sys o now sig pars reserve AtTicks g h calm = absurd (cc)
-publish-whole sys o now sig pars reserve AtFront g h calm = absurd (cc)
+publish-whole sys o now sig pars reserve _ g h calm = absurd (cc)
 
 -- a publication is whole, or it is cut
 pub publish-either : (sys : System) (o : ℕ) (now : Option Entry) (sig : ℕ) (pars : List ℕ) (reserve : Option ℕ) (answer : Answer) (g : List Told)
@@ -71,11 +66,7 @@ action-wholes sys o now g (MakesCall x answer h calm) = by x answer h calm
     by call.Flush AtTimer h calm = absurd h
     by call.Flush AtTicks h calm = absurd h
     by call.Flush AtFront h calm = absurd h
-    by (call.Subscribe sig) answer h calm = one (call.Subscribe sig) answer refl h calm
-    by (call.Unsubscribe sig) answer h calm = one (call.Unsubscribe sig) answer refl h calm
-    by (call.Arm t ticks interval) answer h calm = one (call.Arm t ticks interval) answer refl h calm
-    by (call.Rearm t ticks) answer h calm = one (call.Rearm t ticks) answer refl h calm
-    by (call.Disarm t) answer h calm = one (call.Disarm t) answer refl h calm
+    by other answer h calm = one other answer refl h calm
 
 pub whole-action : (sys : System) (o : ℕ) (now : Option Entry) (g : List Told) → IsWhole sys o now g → IsAction sys o now g
 unfolding FitsAny Fits

@@ -20,10 +20,6 @@ either-none : (b : Bool) (r : Option (List Told)) → r ≡ None → cond b r No
 either-none true r h = h
 either-none false r h = refl
 
-both-none : (b : Bool) (r s : Option (List Told)) → r ≡ None → s ≡ None → cond b r s ≡ None
-both-none true r s h k = h
-both-none false r s h k = k
-
 -- where a post finds no entry, none is read
 no_entry-again : (sys : System) (e : Entry) (ts r : List Told) → behind_no_entry ts ≡ Some r → behind_again sys e ts ≡ None
 no_entry-again sys e [] r h = refl

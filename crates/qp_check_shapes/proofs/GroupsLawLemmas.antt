@@ -14,7 +14,7 @@ use Rattle.qp_check_shapes.specs.declared.shape_stage.PublishStage.TheVariants a
 use Rattle.qp_check_shapes.specs.ShapeUnit as unit
 use Rattle.qp_check_shapes.specs.ShapeUnit.{behind_unit}
 use Rattle.qp_check_shapes.specs.ShapeAssertion as asserted
-use Rattle.qp_check_shapes.specs.ShapeAssertion.{IsAsserted, behind_assertion}
+use Rattle.qp_check_shapes.specs.ShapeAssertion.{behind_assertion}
 use Rattle.qp_check_shapes.specs.ShapePublication.{run}
 use Rattle.qp_check_shapes.specs.ShapeAction.{IsWhole, OfUnit, OfPublication, IsCut, IsFront}
 use Rattle.qp_check_shapes.specs.GroupsRead.{is_outer}
@@ -70,11 +70,7 @@ cut-taken sys o now g c = by c.0 c.1 c.2 c.3
     by call.Flush AtTimer h a = absurd h
     by call.Flush AtTicks h a = absurd h
     by call.Flush AtFront h a = absurd h
-    by (call.Subscribe sig) answer h a = one (call.Subscribe sig) answer refl h a
-    by (call.Unsubscribe sig) answer h a = one (call.Unsubscribe sig) answer refl h a
-    by (call.Arm t ticks interval) answer h a = one (call.Arm t ticks interval) answer refl h a
-    by (call.Rearm t ticks) answer h a = one (call.Rearm t ticks) answer refl h a
-    by (call.Disarm t) answer h a = one (call.Disarm t) answer refl h a
+    by other answer h a = one other answer refl h a
 
 unit-inner : (sys : System) (o : ℕ) (now : Option Entry) (b : Bool) (t : Told) (ts : List Told) → Taken (behind_unit sys o now) sys o b (t ∷ ts) → is_outer t.body ≡ true → ⊥
 unit-inner sys o now b t ts (Runs r) out = run-inner sys o b t ts r out

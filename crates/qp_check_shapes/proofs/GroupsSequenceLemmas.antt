@@ -7,11 +7,6 @@ pub sequence-none : (P : List Told → Type 0) → Sequence P []
 unfolding Sequence
 sequence-none P = ([], tt, refl)
 
--- the joined parts, whatever they are
-pub sequence-of : (P : List Told → Type 0) (ps : List (List Told)) → EachPart P ps → Sequence P (joined ps)
-unfolding Sequence
-sequence-of P ps e = (ps, e, refl)
-
 pub sequence-more : (P : List Told → Type 0) (g gs : List Told) → P g → Sequence P gs → Sequence P (g ++ gs)
 unfolding Sequence
 sequence-more P g gs p s = (g ∷ s.0, (p, s.1), ap (λ us. g ++ us) s.2)

@@ -5,7 +5,7 @@ use Rattle.qp_model.specs.declared.systems.System.{System}
 use Rattle.qp_model.specs.declared.bodies.Entry.{Entry}
 use Rattle.qp_model.specs.Told.{Told, dropped}
 use Rattle.qp_model.specs.Calls as call
-use Rattle.qp_model.specs.Shapes.{Fits, FitsAny, Drops, releases_by}
+use Rattle.qp_model.specs.Shapes.{FitsAny, Drops, releases_by}
 use Rattle.qp_model.specs.Groups.{IsLast, Asserts, Stops, StopsInPublication}
 use Rattle.qp_model.specs.Course.{Cut, Whole, Stopped, Anywhere}
 use Rattle.qp_model.specs.ObjectShape.{CutGroups}

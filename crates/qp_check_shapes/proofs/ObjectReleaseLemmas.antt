@@ -1,6 +1,6 @@
 -- A list that is a front of the release of an entry.
-use Rattle.std.proofs.Common.{◌≡◌, ℕ, zero, suc, ◌+◌, ◌<◌, ◌==◌, nat_lt, Bool, true, false, ◌&&◌, ◌||◌, ◌⊎◌, inl, inr, List, [], ◌∷◌, ◌++◌, length, Some, None, refl, sym, ◌∙◌, ap, subst, append-nil, arith}
-use Rattle.std.proofs.lemmas.Bool.{and_parts, or_cases, eqb-true, false≢true}
+use Rattle.std.proofs.Common.{◌≡◌, ℕ, zero, suc, ◌+◌, ◌<◌, ◌==◌, nat_lt, Bool, true, false, ◌&&◌, ◌||◌, ◌⊎◌, inl, inr, List, [], ◌∷◌, ◌++◌, length, Some, refl, sym, ◌∙◌, ap, subst, append-nil, arith}
+use Rattle.std.proofs.lemmas.Bool.{and_parts, or_cases, eqb-true, false≢true, or_right}
 use Rattle.std.proofs.lemmas.Bool.Decides.{nat_tests}
 use Rattle.std.specs.declared.option.Option.{Option}
 use Rattle.qp_check_calls.specs.Decides.{Decides}
@@ -15,22 +15,10 @@ use Rattle.qp_check_shapes.specs.ObjectRead.{FrontOf}
 use Rattle.qp_check_shapes.specs.ShapePublication.{is_done}
 use Rattle.qp_check_shapes.specs.ObjectFirst.{drop_front, release_front}
 use Rattle.qp_check_shapes.proofs.ShapeReleaseLemmas.{release-sound, release-leaves}
-use Rattle.qp_check_shapes.proofs.ObjectTestLemmas.{decides-by}
+use Rattle.qp_check_shapes.proofs.ObjectTestLemmas.{decides-by, empty-rest}
 use Rattle.qp_check_shapes.proofs.ObjectCutLemmas.{released}
 use Rattle.qp_model.proofs.RecordLemmas.{told-is}
-
--- no records behind
-empty-rest : (ts : List Told) → (length ts == 0) ≡ true → ts ≡ []
-empty-rest [] h = refl
-empty-rest (t ∷ ts) h = absurd (more (length ts) h)
-  where
-    more : (n : ℕ) → (suc n == 0) ≡ true → ⊥
-    more n h = let e : suc n ≡ 0 = grind (arith, nat_tests) in omega arith
-
-end-is : (r : Option (List Told)) → is_done r ≡ true → r ≡ Some []
-end-is None h = absurd (cc)
-end-is (Some []) h = refl
-end-is (Some (t ∷ ts)) h = absurd (cc)
+use Rattle.qp_check_shapes.proofs.ShapeDecideLemmas.{done-is}
 
 -- a release of an entry of a pool
 pooled : (e : Entry) (g : List Told) → nat_lt 0 e.pool ≡ true → Releases e.pool e.block e.name g → Drops e g
@@ -94,7 +82,7 @@ front-of e (t ∷ ts) h =
         ends d left p b t_is e1 e2 (inr back) =
             let tests = and_parts (left == 0) (is_done (behind_back p b d ts)) back in
             returned above d left t_is (eqb-true left 0 tests.0)
-            (ap (λ x. behind_back x e.block d ts) (sym e1) ∙ ap (λ x. behind_back p x d ts) (sym e2) ∙ end-is (behind_back p b d ts) tests.1)
+            (ap (λ x. behind_back x e.block d ts) (sym e1) ∙ ap (λ x. behind_back p x d ts) (sym e2) ∙ done-is (behind_back p b d ts) tests.1)
     by body known is_body is_known above h = absurd (false≢true h)
 
 -- each front is one
@@ -108,10 +96,6 @@ of-front e told f = by e.pool refl told f.0 f.1
     drops : (p : ℕ) → e.pool ≡ suc p → (d left : ℕ) (ts : List Told) → ((length ts == 0) || (left == 0) && is_done (behind_back e.pool e.block d ts)) ≡ true
         → release_front e (dropped e.pool e.block d e.name left ∷ ts) ≡ true
     drops p is d left ts h = let some : nat_lt 0 e.pool ≡ true = ap (nat_lt 0) is ∙ above p in rw (some, same_number e.pool, same_number e.block, same_number e.name) h
-
-    or-last : (a b : Bool) → b ≡ true → (a || b) ≡ true
-    or-last true b h = refl
-    or-last false b h = h
 
     one : (p : ℕ) → e.pool ≡ suc p → (told back : List Told) (d left : ℕ) → told ++ back ≡ dropped e.pool e.block d e.name (suc left) ∷ [] → release_front e told ≡ true
     one p is [] back d left k = refl
@@ -132,7 +116,7 @@ of-front e told f = by e.pool refl told f.0 f.1
         rw (same_number e.pool, same_number e.block, same_number (d + 1)) refl in
         ap (λ x. release_front e (x ∷ u ∷ [])) first ∙ ap (λ x. release_front e (dropped e.pool e.block d e.name 0 ∷ x ∷ [])) second
         ∙ drops p is d 0 (plain (item.Back e.pool n e.block (d + 1)) ∷ [])
-        (or-last (length (plain (item.Back e.pool n e.block (d + 1)) ∷ []) == 0) (is_done (behind_back e.pool e.block d (plain (item.Back e.pool n e.block (d + 1)) ∷ []))) reads)
+        (or_right (length (plain (item.Back e.pool n e.block (d + 1)) ∷ []) == 0) (is_done (behind_back e.pool e.block d (plain (item.Back e.pool n e.block (d + 1)) ∷ []))) reads)
     two p is (t ∷ u ∷ v ∷ vs) back d n k = absurd (cc)
 
     by : (p : ℕ) → e.pool ≡ p → (told back : List Told) → releases_by p e (told ++ back) → release_front e told ≡ true

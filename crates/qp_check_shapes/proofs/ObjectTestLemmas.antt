@@ -137,20 +137,21 @@ tail-takes k told e b taken_is none b_is = decides-by (IsTailOf k told) b sound 
     whole (BreaksOffIn d head more on h c is) = let same = step-told-in told head more e d taken_is h is in let both : None ≡ Some more = none ∙ same.1 in absurd (cc)
     whole (ReleasesOnly d head more any h c is) = let same = step-told-in told head more e d taken_is h is in let both : None ≡ Some more = none ∙ same.1 in absurd (cc)
 
+-- no records behind
+pub empty-rest : (ts : List Told) → (length ts == 0) ≡ true → ts ≡ []
+empty-rest [] h = refl
+empty-rest (t ∷ ts) h = absurd (more (length ts) h)
+  where
+    more : (n : ℕ) → (suc n == 0) ≡ true → ⊥
+    more n h = let e : suc n ≡ 0 = grind (arith, nat_tests) in omega arith
+
 spent-is : (told : List Told) → is_spent told ≡ true → (told ≡ []) ⊎ (told ≡ plain item.Spent ∷ [])
 spent-is [] h = inl refl
 spent-is (t ∷ ts) h = inr (by t.body t.known refl refl h)
   where
-    none : (ts : List Told) → (length ts == 0) ≡ true → ts ≡ []
-    none [] h = refl
-    none (u ∷ us) h = absurd (more (length us) h)
-      where
-        more : (n : ℕ) → (suc n == 0) ≡ true → ⊥
-        more n h = let e : suc n ≡ 0 = grind (arith, nat_tests) in omega arith
-
     by : (body : Body) (known : Known) → t.body ≡ body → t.known ≡ known → spent_first body known ts ≡ true → t ∷ ts ≡ plain item.Spent ∷ []
     by item.Spent Nothing is_body is_known h =
-        let whole : t ≡ plain item.Spent = told-is t _ _ is_body is_known in let behind : ts ≡ [] = none ts h in ap (λ u. u ∷ ts) whole ∙ ap (λ us. plain item.Spent ∷ us) behind
+        let whole : t ≡ plain item.Spent = told-is t _ _ is_body is_known in let behind : ts ≡ [] = empty-rest ts h in ap (λ u. u ∷ ts) whole ∙ ap (λ us. plain item.Spent ∷ us) behind
     by body known is_body is_known h = absurd (false≢true h)
 
 pub tail-else : (k : Kinds) (told : List Told) (b : Bool) → None ≡ taken_entry told → b ≡ is_spent told → Decides b (IsTailOf k told)

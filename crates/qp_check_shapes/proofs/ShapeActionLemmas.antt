@@ -9,7 +9,6 @@ use Rattle.qp_model.specs.declared.bodies.Entry.{Entry}
 use Rattle.qp_model.specs.Record.{entry}
 use Rattle.qp_model.specs.Told.{Told, given}
 use Rattle.qp_model.specs.Calls as call
-use Rattle.qp_model.specs.Calls.{Call, Answer, Granted, Refused, Flushed, AtQueue, AtPool, AtTimer, AtTicks, AtFront, is_assertion}
 use Rattle.qp_model.specs.Parts.{is_static, sizes_of}
 use Rattle.qp_model.specs.Sites.{ring_of}
 use Rattle.qp_model.specs.Shapes.{Fits, FitsAny, Publishes}

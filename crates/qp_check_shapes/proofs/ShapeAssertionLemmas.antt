@@ -28,27 +28,15 @@ post-cut ring to margin head e Granted g h cut = absurd (cc)
 post-cut ring to None head e AtQueue g h cut = h
 post-cut ring to margin head e Refused g h cut = absurd (cc)
 post-cut ring to margin head e (Flushed n) g h cut = absurd (cc)
-post-cut ring to (Some k) head e AtQueue g h cut = absurd h
-post-cut ring to None head e AtPool g h cut = absurd h
-post-cut ring to None head e AtTimer g h cut = absurd h
-post-cut ring to None head e AtTicks g h cut = absurd h
-post-cut ring to None head e AtFront g h cut = absurd h
-post-cut ring to (Some k) head e AtPool g h cut = absurd h
-post-cut ring to (Some k) head e AtTimer g h cut = absurd h
-post-cut ring to (Some k) head e AtTicks g h cut = absurd h
-post-cut ring to (Some k) head e AtFront g h cut = absurd h
+post-cut ring to (Some k) head e _ g h cut = absurd h
+post-cut ring to None head e _ g h cut = absurd h
 
 front-cut : (o : ℕ) (head : List Told) (e : Entry) (answer : Answer) (g : List Told)
     → PostsFront o head e answer g → is_assertion answer ≡ true → (f l m : ℕ) × (g ≡ head ++ (plain (item.NoLifo o f l m) ∷ []))
 unfolding PostsFront
 front-cut o head e AtFront g h cut = h
 front-cut o head e Granted g h cut = absurd (cc)
-front-cut o head e Refused g h cut = absurd h
-front-cut o head e (Flushed n) g h cut = absurd h
-front-cut o head e AtQueue g h cut = absurd h
-front-cut o head e AtPool g h cut = absurd h
-front-cut o head e AtTimer g h cut = absurd h
-front-cut o head e AtTicks g h cut = absurd h
+front-cut o head e _ g h cut = absurd h
 
 -- no block for a new event
 block-cut : (fixed : Bool) (sizes : List ℕ) (pars : List ℕ) (reserve : Option ℕ) (answer : Answer) (g : List Told)
@@ -56,20 +44,8 @@ block-cut : (fixed : Bool) (sizes : List ℕ) (pars : List ℕ) (reserve : Optio
 unfolding NoBlockFor
 block-cut fixed sizes pars None AtPool g h cut = (h.0, h.1, h.2, h.5, first-used sizes (length pars) h.0 h.4)
 block-cut fixed sizes pars (Some r) Refused g h cut = absurd (cc)
-block-cut fixed sizes pars None Granted g h cut = absurd h
-block-cut fixed sizes pars None Refused g h cut = absurd h
-block-cut fixed sizes pars None (Flushed k) g h cut = absurd h
-block-cut fixed sizes pars None AtQueue g h cut = absurd h
-block-cut fixed sizes pars None AtTimer g h cut = absurd h
-block-cut fixed sizes pars None AtTicks g h cut = absurd h
-block-cut fixed sizes pars None AtFront g h cut = absurd h
-block-cut fixed sizes pars (Some r) Granted g h cut = absurd h
-block-cut fixed sizes pars (Some r) (Flushed k) g h cut = absurd h
-block-cut fixed sizes pars (Some r) AtPool g h cut = absurd h
-block-cut fixed sizes pars (Some r) AtQueue g h cut = absurd h
-block-cut fixed sizes pars (Some r) AtTimer g h cut = absurd h
-block-cut fixed sizes pars (Some r) AtTicks g h cut = absurd h
-block-cut fixed sizes pars (Some r) AtFront g h cut = absurd h
+block-cut fixed sizes pars None _ g h cut = absurd h
+block-cut fixed sizes pars (Some r) _ g h cut = absurd h
 
 -- a block given out, and what is behind its first reference
 given-whole : (sys : System) (o : ℕ) (now : Option Entry) (sig : ℕ) (pars : List ℕ) (reserve : Option ℕ) (head : List Told) (e : Entry) (tail rest : List Told)
@@ -150,11 +126,7 @@ recall-whole sys o now AtFront g rest h cut =
         rw (is.1.1, some, same_number h.0.pool, same_number h.0.block, same_number o) refl
 recall-whole sys o now Granted g rest h cut = absurd (cc)
 recall-whole sys o now Refused g rest h cut = absurd (cc)
-recall-whole sys o now (Flushed n) g rest h cut = absurd h
-recall-whole sys o now AtQueue g rest h cut = absurd h
-recall-whole sys o now AtPool g rest h cut = absurd h
-recall-whole sys o now AtTimer g rest h cut = absurd h
-recall-whole sys o now AtTicks g rest h cut = absurd h
+recall-whole sys o now _ g rest h cut = absurd h
 
 arm-whole : (sys : System) (o : ℕ) (now : Option Entry) (t ticks interval : ℕ) (answer : Answer) (g rest : List Told)
     → Arms t ticks interval answer g → is_assertion answer ≡ true → behind_assertion sys o now (g ++ rest) ≡ Some rest
@@ -162,11 +134,7 @@ unfolding Arms plain_cut
 arm-whole sys o now t ticks interval AtTimer g rest h cut = rw h.2 refl
 arm-whole sys o now t ticks interval AtTicks g rest h cut = rw h refl
 arm-whole sys o now t ticks interval Granted g rest h cut = absurd (cc)
-arm-whole sys o now t ticks interval Refused g rest h cut = absurd h
-arm-whole sys o now t ticks interval (Flushed n) g rest h cut = absurd h
-arm-whole sys o now t ticks interval AtQueue g rest h cut = absurd h
-arm-whole sys o now t ticks interval AtPool g rest h cut = absurd h
-arm-whole sys o now t ticks interval AtFront g rest h cut = absurd h
+arm-whole sys o now t ticks interval _ g rest h cut = absurd h
 
 rearm-whole : (sys : System) (o : ℕ) (now : Option Entry) (t ticks : ℕ) (answer : Answer) (g rest : List Told)
     → Rearms t ticks answer g → is_assertion answer ≡ true → behind_assertion sys o now (g ++ rest) ≡ Some rest
@@ -174,56 +142,32 @@ unfolding Rearms plain_cut
 rearm-whole sys o now t ticks AtTicks g rest h cut = rw h refl
 rearm-whole sys o now t ticks Granted g rest h cut = absurd (cc)
 rearm-whole sys o now t ticks Refused g rest h cut = absurd (cc)
-rearm-whole sys o now t ticks (Flushed n) g rest h cut = absurd h
-rearm-whole sys o now t ticks AtQueue g rest h cut = absurd h
-rearm-whole sys o now t ticks AtPool g rest h cut = absurd h
-rearm-whole sys o now t ticks AtTimer g rest h cut = absurd h
-rearm-whole sys o now t ticks AtFront g rest h cut = absurd h
+rearm-whole sys o now t ticks _ g rest h cut = absurd h
 
 -- the other calls have no assertion
 subscribe-none : (sig : ℕ) (answer : Answer) (g : List Told) → Subscribes sig answer g → is_assertion answer ≡ true → ⊥
 unfolding Subscribes
 subscribe-none sig Granted g h cut = cc
 subscribe-none sig Refused g h cut = cc
-subscribe-none sig (Flushed n) g h cut = h
-subscribe-none sig AtQueue g h cut = h
-subscribe-none sig AtPool g h cut = h
-subscribe-none sig AtTimer g h cut = h
-subscribe-none sig AtTicks g h cut = h
-subscribe-none sig AtFront g h cut = h
+subscribe-none sig _ g h cut = h
 
 unsubscribe-none : (sig : ℕ) (answer : Answer) (g : List Told) → Unsubscribes sig answer g → is_assertion answer ≡ true → ⊥
 unfolding Unsubscribes
 unsubscribe-none sig Granted g h cut = cc
 unsubscribe-none sig Refused g h cut = cc
-unsubscribe-none sig (Flushed n) g h cut = h
-unsubscribe-none sig AtQueue g h cut = h
-unsubscribe-none sig AtPool g h cut = h
-unsubscribe-none sig AtTimer g h cut = h
-unsubscribe-none sig AtTicks g h cut = h
-unsubscribe-none sig AtFront g h cut = h
+unsubscribe-none sig _ g h cut = h
 
 disarm-none : (t : ℕ) (answer : Answer) (g : List Told) → Disarms t answer g → is_assertion answer ≡ true → ⊥
 unfolding Disarms
 disarm-none t Granted g h cut = cc
 disarm-none t Refused g h cut = cc
-disarm-none t (Flushed n) g h cut = h
-disarm-none t AtQueue g h cut = h
-disarm-none t AtPool g h cut = h
-disarm-none t AtTimer g h cut = h
-disarm-none t AtTicks g h cut = h
-disarm-none t AtFront g h cut = h
+disarm-none t _ g h cut = h
 
 defer-none : (now : Option Entry) (answer : Answer) (g : List Told) → Defers now answer g → is_assertion answer ≡ true → ⊥
 unfolding Defers
 defer-none now Granted g h cut = cc
 defer-none now Refused g h cut = cc
-defer-none now (Flushed n) g h cut = h
-defer-none now AtQueue g h cut = h
-defer-none now AtPool g h cut = h
-defer-none now AtTimer g h cut = h
-defer-none now AtTicks g h cut = h
-defer-none now AtFront g h cut = h
+defer-none now _ g h cut = h
 
 pub assertion-whole : (sys : System) (o : ℕ) (now : Option Entry) (g rest : List Told) → IsAsserted sys o now g → behind_assertion sys o now (g ++ rest) ≡ Some rest
 unfolding FitsAny Fits

@@ -9,7 +9,7 @@ use Rattle.qp_model.specs.declared.bodies.Entry.{Entry}
 use Rattle.qp_model.specs.declared.bodies.Body.TheVariants as item
 use Rattle.qp_model.specs.Told.{Told, plain}
 use Rattle.qp_model.specs.Calls as call
-use Rattle.qp_model.specs.Calls.{Call, Answer, Granted, Refused, Flushed, AtQueue, AtPool, AtTimer, AtTicks, AtFront, is_assertion}
+use Rattle.qp_model.specs.Calls.{Call, Answer, Granted, Refused, Flushed, AtQueue, AtPool, is_assertion}
 use Rattle.qp_model.specs.Parts.{sizes_of}
 use Rattle.qp_model.specs.Shapes.{Fits, FitsAny, NoBlockFor, Publishes}
 use Rattle.qp_model.specs.Groups.{is_post, ends_in_post}
@@ -82,23 +82,13 @@ publish-cut sys o now sig pars (Some r) AtPool g h cut = absurd h
 publish-cut sys o now sig pars reserve Granted g h cut = absurd (cc)
 publish-cut sys o now sig pars reserve Refused g h cut = absurd (cc)
 publish-cut sys o now sig pars reserve (Flushed n) g h cut = absurd (cc)
-publish-cut sys o now sig pars None AtTimer g h cut = absurd h
-publish-cut sys o now sig pars None AtTicks g h cut = absurd h
-publish-cut sys o now sig pars None AtFront g h cut = absurd h
-publish-cut sys o now sig pars (Some r) AtTimer g h cut = absurd h
-publish-cut sys o now sig pars (Some r) AtTicks g h cut = absurd h
-publish-cut sys o now sig pars (Some r) AtFront g h cut = absurd h
+publish-cut sys o now sig pars None _ g h cut = absurd h
+publish-cut sys o now sig pars (Some r) _ g h cut = absurd h
 
 flush-uncut : (sys : System) (o : ℕ) (now : Option Entry) (answer : Answer) (g : List Told) → FitsAny sys o now call.Flush answer g → is_assertion answer ≡ true → ⊥
 unfolding FitsAny Fits
 flush-uncut sys o now (Flushed n) g h cut = cc
-flush-uncut sys o now Granted g h cut = h
-flush-uncut sys o now Refused g h cut = h
-flush-uncut sys o now AtQueue g h cut = h
-flush-uncut sys o now AtPool g h cut = h
-flush-uncut sys o now AtTimer g h cut = h
-flush-uncut sys o now AtTicks g h cut = h
-flush-uncut sys o now AtFront g h cut = h
+flush-uncut sys o now _ g h cut = h
 
 -- a call that asserts is read as one of the two
 pub cut-read : (sys : System) (o : ℕ) (now : Option Entry) (g : List Told) → IsCut sys o now g → (run sys o g stage.Start ≡ Some stage.Cut) ⊎ IsAsserted sys o now g
@@ -164,14 +154,8 @@ stops-run sys o now told back sig pars None AtPool fits ends = absurd (lone-fron
 stops-run sys o now told back sig pars (Some r) AtPool fits ends = absurd fits
 stops-run sys o now told back sig pars None Refused fits ends = absurd fits
 stops-run sys o now told back sig pars (Some r) Refused fits ends = absurd (lone-front told back (plain (item.Short fits.0 fits.1 fits.2 r)) fits.5 refl ends)
-stops-run sys o now told back sig pars None (Flushed n) fits ends = absurd fits
-stops-run sys o now told back sig pars (Some r) (Flushed n) fits ends = absurd fits
-stops-run sys o now told back sig pars None AtTimer fits ends = absurd fits
-stops-run sys o now told back sig pars None AtTicks fits ends = absurd fits
-stops-run sys o now told back sig pars None AtFront fits ends = absurd fits
-stops-run sys o now told back sig pars (Some r) AtTimer fits ends = absurd fits
-stops-run sys o now told back sig pars (Some r) AtTicks fits ends = absurd fits
-stops-run sys o now told back sig pars (Some r) AtFront fits ends = absurd fits
+stops-run sys o now told back sig pars None _ fits ends = absurd fits
+stops-run sys o now told back sig pars (Some r) _ fits ends = absurd fits
 
 stops-whole : (sys : System) (o : ℕ) (now : Option Entry) (told : List Told) → StopsInside sys o now told → (ends_in_post told && is_some (run sys o told stage.Start)) ≡ true
 stops-whole sys o now told h =

@@ -10,15 +10,14 @@ use Rattle.qp_model.specs.declared.bodies.Body.TheVariants as item
 use Rattle.qp_model.specs.Record.{entry}
 use Rattle.qp_model.specs.Line.{same_entry}
 use Rattle.qp_model.specs.Told.{Told, Known, Nothing, plain}
-use Rattle.qp_model.specs.Calls.{Answer, Granted, Refused, Flushed, AtQueue, AtPool, AtTimer, AtTicks, AtFront, is_assertion}
+use Rattle.qp_model.specs.Calls.{Answer, Granted, Refused, Flushed, AtPool, AtFront, is_assertion}
 use Rattle.qp_model.specs.Parts.{is_static, first_pool}
 use Rattle.qp_model.specs.Sites.{ring_of}
 use Rattle.qp_model.specs.Shapes.{Drops, releases_by, MakesNew, MakesBlock, NoBlockFor, MakesAgain, again_by, Posts, PostsFront}
 use Rattle.qp_check_shapes.specs.ShapeUnit.{had_room, is_used, is_static_entry, post_first, behind_post}
-use Rattle.qp_check_shapes.proofs.ShapeReleaseLemmas.{when-passed, release-sound, release-whole}
+use Rattle.qp_check_shapes.proofs.ShapeReleaseLemmas.{when-passed, release-sound}
 use Rattle.qp_check_shapes.proofs.ShapePartLemmas.{first-used}
 use Rattle.qp_model.proofs.RecordLemmas.{same_entry-is, told-is}
-use Rattle.qp_model.proofs.LineLemmas.{same_entry-refl}
 
 -- what a post leaves behind the records that made its entry, where it doesn't end in an assertion
 pub data Posted (sys : System) (e : Entry) (g : List Told) : Type 0 where
@@ -46,10 +45,6 @@ posted-sound sys e (t ∷ ts) rest h = by t.body t.known refl refl h
         (plain (item.Full to f l m margin) ∷ rel.0, IsRefused to f l m margin rel.0 rel.1 refl, cc)
     by body known is_body is_known k = absurd (none-some _ k)
 
-pub posted-whole : (sys : System) (e : Entry) (g rest : List Told) → Posted sys e g → behind_post sys e (g ++ rest) ≡ Some rest
-posted-whole sys e g rest (IsPosted to f l m room is) = rw (is, same_entry-refl e, room) refl
-posted-whole sys e g rest (IsRefused to f l m margin rel drops is) = rw is (release-whole e rel rest drops)
-
 -- posts are these, behind their heads
 pub posts-posted : (sys : System) (to : ℕ) (margin : Option ℕ) (head : List Told) (e : Entry) (answer : Answer) (g : List Told)
     → Posts (ring_of sys to) to margin head e answer g → is_assertion answer ≡ false → (core : List Told) × Posted sys e core × (g ≡ head ++ core)
@@ -66,11 +61,7 @@ posts-posted sys to margin head e (Flushed n) g h calm = absurd (none margin h)
     none : (margin : Option ℕ) → Posts (ring_of sys to) to margin head e (Flushed n) g → ⊥
     none None h = h
     none (Some k) h = h
-posts-posted sys to margin head e AtQueue g h calm = absurd (cc)
-posts-posted sys to margin head e AtPool g h calm = absurd (cc)
-posts-posted sys to margin head e AtTimer g h calm = absurd (cc)
-posts-posted sys to margin head e AtTicks g h calm = absurd (cc)
-posts-posted sys to margin head e AtFront g h calm = absurd (cc)
+posts-posted sys to margin head e _ g h calm = absurd (cc)
 
 pub posted-posts : (sys : System) (e : Entry) (head core : List Told) → Posted sys e core
     → (to : ℕ) × (margin : Option ℕ) × (answer : Answer) × Posts (ring_of sys to) to margin head e answer (head ++ core) × (is_assertion answer ≡ false)
@@ -120,20 +111,8 @@ pub no-block : (fixed : Bool) (sizes : List ℕ) (pars : List ℕ) (reserve : Op
 unfolding NoBlockFor
 no-block fixed sizes pars None AtPool g h calm = absurd (cc)
 no-block fixed sizes pars (Some r) Refused g h calm = (h.0, h.1, h.2, r, h.5, first-used sizes (length pars) h.0 h.4)
-no-block fixed sizes pars None Granted g h calm = absurd h
-no-block fixed sizes pars None Refused g h calm = absurd h
-no-block fixed sizes pars None (Flushed k) g h calm = absurd h
-no-block fixed sizes pars None AtQueue g h calm = absurd h
-no-block fixed sizes pars None AtTimer g h calm = absurd h
-no-block fixed sizes pars None AtTicks g h calm = absurd h
-no-block fixed sizes pars None AtFront g h calm = absurd h
-no-block fixed sizes pars (Some r) Granted g h calm = absurd h
-no-block fixed sizes pars (Some r) (Flushed k) g h calm = absurd h
-no-block fixed sizes pars (Some r) AtPool g h calm = absurd h
-no-block fixed sizes pars (Some r) AtQueue g h calm = absurd h
-no-block fixed sizes pars (Some r) AtTimer g h calm = absurd h
-no-block fixed sizes pars (Some r) AtTicks g h calm = absurd h
-no-block fixed sizes pars (Some r) AtFront g h calm = absurd h
+no-block fixed sizes pars None _ g h calm = absurd h
+no-block fixed sizes pars (Some r) _ g h calm = absurd h
 
 pub short-no_block : (sizes pars : List ℕ) (p n free r : ℕ) → first_pool sizes (length pars) ≡ Some p → NoBlockFor false sizes pars (Some r) Refused (plain (item.Short p n free r) ∷ [])
 unfolding NoBlockFor
@@ -189,9 +168,4 @@ pub front-is : (o : ℕ) (head : List Told) (e : Entry) (answer : Answer) (g : L
 unfolding PostsFront
 front-is o head e Granted g h calm = h
 front-is o head e AtFront g h calm = absurd (cc)
-front-is o head e Refused g h calm = absurd h
-front-is o head e (Flushed n) g h calm = absurd h
-front-is o head e AtQueue g h calm = absurd h
-front-is o head e AtPool g h calm = absurd h
-front-is o head e AtTimer g h calm = absurd h
-front-is o head e AtTicks g h calm = absurd h
+front-is o head e _ g h calm = absurd h

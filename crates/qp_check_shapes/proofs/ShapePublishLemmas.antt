@@ -48,7 +48,7 @@ as-published sys o e c ms b former g rest g_is end (Finishes posts rel is all dr
     PublishesAll former posts (restored c ++ rel) is all (rel, drops, ap (λ us. us ++ rel) (sym end)) (g_is ∙ ap (λ us. raising o former ms ++ us) rest_is)
 as-published sys o e c ms b former g rest g_is end (Cuts is upto) = PublishesUpTo former rest is upto g_is
 
-source-raises : (former : ℕ) (ms : List ℕ) → (raising zero former ms ≡ []) × (restoring zero former ms ≡ [])
+pub source-raises : (former : ℕ) (ms : List ℕ) → (raising zero former ms ≡ []) × (restoring zero former ms ≡ [])
 unfolding raising restoring
 source-raises former [] = (refl, refl)
 source-raises former (a ∷ others) = (refl, refl)

@@ -24,7 +24,7 @@ use Rattle.qp_check_shapes.proofs.ShapePostLemmas.{new-cases, again-cases}
 use Rattle.qp_check_shapes.proofs.ShapePartLemmas.{first-goes}
 use Rattle.qp_check_shapes.proofs.ShapeStageLemmas.{step-run}
 use Rattle.qp_check_shapes.proofs.ShapeRunLemmas.{end_of, restored, is_rising, posting, Finish, Finishes, Cuts, posts-other}
-use Rattle.qp_check_shapes.proofs.ShapePublishLemmas.{First, NoMember, Member, first-member, Published, PublishesAll, PublishesUpTo, answer_of}
+use Rattle.qp_check_shapes.proofs.ShapePublishLemmas.{First, NoMember, Member, first-member, Published, PublishesAll, PublishesUpTo, answer_of, source-raises}
 
 -- the operation that drops the publication's own reference
 pub posted-next : (e : Entry) (d left : ℕ) → posted_next e (item.Dec e.pool e.block d e.name) (Left left) ≡ Some (left_next e.pool e.block d left)
@@ -148,11 +148,6 @@ finish-of : (sys : System) (o : ℕ) (e : Entry) (c : Ceiling) (former : ℕ) (m
     → b ≡ true → PostsToAll (ring_of sys) e ms posts → PublishesLast o e former ms last → Finish sys e c ms b (posts ++ last)
 unfolding PublishesLast
 finish-of sys o e c former ms b posts last end is all ends = Finishes posts ends.0 is all ends.1 (ap (λ us. posts ++ us) (ends.2 ∙ ap (λ us. us ++ ends.0) end))
-
-source-raises : (former : ℕ) (ms : List ℕ) → (raising zero former ms ≡ []) × (restoring zero former ms ≡ [])
-unfolding raising restoring
-source-raises former [] = (refl, refl)
-source-raises former (a ∷ others) = (refl, refl)
 
 -- at an object's publication the ceiling rises first
 risen-whole : (sys : System) (o : ℕ) (e : Entry) (set k former : ℕ) (b : Bool) (rest : List Told) → Finish sys e (ceiling.Rose former) (suc k ∷ members_below k set) b rest

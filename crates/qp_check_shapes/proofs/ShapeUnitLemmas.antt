@@ -1,6 +1,6 @@
 -- Units are read off the front of a list, each way.
 use Rattle.std.proofs.Common.{◌≡◌, ℕ, ◌==◌, nat_lt, Bool, true, false, not, cond, ◌&&◌, List, [], ◌∷◌, ◌++◌, length, Some, refl, sym, ap, subst, arith, append-nil}
-use Rattle.std.proofs.lemmas.Bool.{and_parts, or_cases, eqb-true}
+use Rattle.std.proofs.lemmas.Bool.{and_parts, or_cases, eqb-true, not-true}
 use Rattle.std.proofs.lemmas.Bool.Decides.{nat_tests}
 use Rattle.std.specs.declared.option.Option.{Option}
 use Rattle.std.proofs.lemmas.Option.{none-some}
@@ -114,10 +114,6 @@ given-sound sys o now t ts rest free (item.New p n b from sig pars) is h =
     let tests = and_parts (nat_lt 0 free && goes_to (sizes_of sys) (length pars) p) (not (is_static sys sig)) test.0 in
     let more = and_parts (nat_lt 0 free) (goes_to (sizes_of sys) (length pars) p) tests.0 in
     more-records sys o now t ts rest _ is (block-unit sys o now p n b from sig free pars ts rest more.0 more.1 (not-true (is_static sys sig) tests.1) test.1)
-  where
-    not-true : (b : Bool) → not b ≡ true → b ≡ false
-    not-true true h = absurd (cc)
-    not-true false h = refl
 given-sound sys o now t ts rest free body is h = absurd (none-some _ h)
 
 member-sound : (sys : System) (o : ℕ) (now : Option Entry) (t : Told) (ts rest : List Told) (member : Bool) (body : Body) → t ≡ record { body = body; known = Member member } → member_first body ts ≡ Some rest

@@ -131,12 +131,7 @@ defer-whole sys o (Some k) Granted g rest h calm =
         (reference-whole sys o k is.1.0 (plain (item.Defer h.1) ∷ rest) rest is.0
         (subst (λ x. behind_again sys x (plain (item.Defer h.1) ∷ rest) ≡ Some rest) is.1.2 (rw (same_entry-refl h.1) refl)))
 defer-whole sys o now Refused g rest h calm = rw h refl
-defer-whole sys o now (Flushed n) g rest h calm = absurd h
-defer-whole sys o now AtQueue g rest h calm = absurd h
-defer-whole sys o now AtPool g rest h calm = absurd h
-defer-whole sys o now AtTimer g rest h calm = absurd h
-defer-whole sys o now AtTicks g rest h calm = absurd h
-defer-whole sys o now AtFront g rest h calm = absurd h
+defer-whole sys o now _ g rest h calm = absurd h
 
 -- the oldest deferred entry is recalled
 lifo-whole : (k e : Entry) (rel rest : List Told) (f l m : ℕ) → Drops k rel → behind_lifo k e (plain (item.Lifo f l m e) ∷ (rel ++ rest)) ≡ Some rest
@@ -190,24 +185,14 @@ subscribe-whole : (sys : System) (o : ℕ) (now : Option Entry) (sig : ℕ) (ans
 unfolding Subscribes plain_first
 subscribe-whole sys o now sig Granted g rest h calm = rw h.1 refl
 subscribe-whole sys o now sig Refused g rest h calm = rw h.1 refl
-subscribe-whole sys o now sig (Flushed n) g rest h calm = absurd h
-subscribe-whole sys o now sig AtQueue g rest h calm = absurd h
-subscribe-whole sys o now sig AtPool g rest h calm = absurd h
-subscribe-whole sys o now sig AtTimer g rest h calm = absurd h
-subscribe-whole sys o now sig AtTicks g rest h calm = absurd h
-subscribe-whole sys o now sig AtFront g rest h calm = absurd h
+subscribe-whole sys o now sig _ g rest h calm = absurd h
 
 unsubscribe-whole : (sys : System) (o : ℕ) (now : Option Entry) (sig : ℕ) (answer : Answer) (g rest : List Told)
     → Unsubscribes sig answer g → is_assertion answer ≡ false → behind_unit sys o now (g ++ rest) ≡ Some rest
 unfolding Unsubscribes plain_first
 unsubscribe-whole sys o now sig Granted g rest h calm = rw h.1 refl
 unsubscribe-whole sys o now sig Refused g rest h calm = rw h.1 refl
-unsubscribe-whole sys o now sig (Flushed n) g rest h calm = absurd h
-unsubscribe-whole sys o now sig AtQueue g rest h calm = absurd h
-unsubscribe-whole sys o now sig AtPool g rest h calm = absurd h
-unsubscribe-whole sys o now sig AtTimer g rest h calm = absurd h
-unsubscribe-whole sys o now sig AtTicks g rest h calm = absurd h
-unsubscribe-whole sys o now sig AtFront g rest h calm = absurd h
+unsubscribe-whole sys o now sig _ g rest h calm = absurd h
 
 -- timers
 arm-whole : (sys : System) (o : ℕ) (now : Option Entry) (t ticks interval : ℕ) (answer : Answer) (g rest : List Told)
@@ -216,11 +201,7 @@ unfolding Arms plain_first
 arm-whole sys o now t ticks interval Granted g rest h calm = rw h.1 refl
 arm-whole sys o now t ticks interval AtTimer g rest h calm = absurd (cc)
 arm-whole sys o now t ticks interval AtTicks g rest h calm = absurd (cc)
-arm-whole sys o now t ticks interval Refused g rest h calm = absurd h
-arm-whole sys o now t ticks interval (Flushed n) g rest h calm = absurd h
-arm-whole sys o now t ticks interval AtQueue g rest h calm = absurd h
-arm-whole sys o now t ticks interval AtPool g rest h calm = absurd h
-arm-whole sys o now t ticks interval AtFront g rest h calm = absurd h
+arm-whole sys o now t ticks interval _ g rest h calm = absurd h
 
 rearm-whole : (sys : System) (o : ℕ) (now : Option Entry) (t ticks : ℕ) (answer : Answer) (g rest : List Told)
     → Rearms t ticks answer g → is_assertion answer ≡ false → behind_unit sys o now (g ++ rest) ≡ Some rest
@@ -228,23 +209,14 @@ unfolding Rearms plain_first
 rearm-whole sys o now t ticks Granted g rest h calm = rw h.2 refl
 rearm-whole sys o now t ticks Refused g rest h calm = rw h.1 refl
 rearm-whole sys o now t ticks AtTicks g rest h calm = absurd (cc)
-rearm-whole sys o now t ticks (Flushed n) g rest h calm = absurd h
-rearm-whole sys o now t ticks AtQueue g rest h calm = absurd h
-rearm-whole sys o now t ticks AtPool g rest h calm = absurd h
-rearm-whole sys o now t ticks AtTimer g rest h calm = absurd h
-rearm-whole sys o now t ticks AtFront g rest h calm = absurd h
+rearm-whole sys o now t ticks _ g rest h calm = absurd h
 
 disarm-whole : (sys : System) (o : ℕ) (now : Option Entry) (t : ℕ) (answer : Answer) (g rest : List Told)
     → Disarms t answer g → is_assertion answer ≡ false → behind_unit sys o now (g ++ rest) ≡ Some rest
 unfolding Disarms plain_first
 disarm-whole sys o now t Granted g rest h calm = rw h.2 refl
 disarm-whole sys o now t Refused g rest h calm = rw h.1 refl
-disarm-whole sys o now t (Flushed n) g rest h calm = absurd h
-disarm-whole sys o now t AtQueue g rest h calm = absurd h
-disarm-whole sys o now t AtPool g rest h calm = absurd h
-disarm-whole sys o now t AtTimer g rest h calm = absurd h
-disarm-whole sys o now t AtTicks g rest h calm = absurd h
-disarm-whole sys o now t AtFront g rest h calm = absurd h
+disarm-whole sys o now t _ g rest h calm = absurd h
 
 call-whole : (sys : System) (o : ℕ) (now : Option Entry) (x : Call) (answer : Answer) (g rest : List Told)
     → is_single x ≡ true → FitsAny sys o now x answer g → is_assertion answer ≡ false → behind_unit sys o now (g ++ rest) ≡ Some rest

@@ -1,5 +1,5 @@
 -- A walk from record to record, each of which must stand before the one that was met before it.
-use Rattle.std.proofs.Common.{◌≡◌, ◌≢◌, ◌∙◌, ℕ, zero, suc, ◌<◌, nat_lt, Bool, true, false, ◌&&◌, List, [], ◌∷◌, ◌++◌, length, get_or, set, take, replicate, Contains, IsTrue, ⊎_elim, refl, sym, ap, subst, arith, get_or-set_other, length-append, length-set}
+use Rattle.std.proofs.Common.{◌≡◌, ◌≢◌, ◌∙◌, ℕ, zero, suc, ◌<◌, nat_lt, Bool, true, false, ◌&&◌, List, [], ◌∷◌, ◌++◌, length, get_or, set, take, Contains, IsTrue, ⊎_elim, refl, sym, ap, subst, arith, get_or-set_other, length-append, length-set}
 use Rattle.std.specs.List.{AllByRecursion}
 use Rattle.std.proofs.Math.Seq.{take-suc}
 use Rattle.std.proofs.lemmas.Bool.{cases_eq, and_from, and_parts}
@@ -31,22 +31,6 @@ pub record Walked (st : Standing) (met : List Bool) (walk : List RecordPlace) (l
   pub seen : (k : ℕ) → get_or met k false ≡ true → Contains walk (head st k)
   pub chain : IsTrue (chained st.lanes (head st lane ∷ walk))
   pub stand : AllByRecursion (λ x. IsTrue (is_record st.lanes x)) walk
-
-pub none-met : (size k : ℕ) → get_or (replicate size false) k false ≡ false
-none-met zero k = refl
-none-met (suc size) zero = refl
-none-met (suc size) (suc k) = none-met size k
-
-pub length-met : (size : ℕ) → length (replicate size false) ≡ size
-length-met zero = refl
-length-met (suc size) = ap suc (length-met size)
-
-pub one-more : (n : ℕ) (bs cs : List Bool) → bs ≡ replicate n false → cs ≡ bs ++ false ∷ [] → cs ≡ replicate (suc n) false
-one-more n bs cs was is = is ∙ ap (λ (l : List Bool). l ++ false ∷ []) was ∙ go n
-  where
-    go : (n : ℕ) → replicate n false ++ false ∷ [] ≡ replicate (suc n) false
-    go zero = refl
-    go (suc n) = ap (λ l. false ∷ l) (go n)
 
 pub unmet-less : (met : List Bool) (lane : ℕ) → lane < length met → get_or met lane false ≡ false → unmet (set met lane true) < unmet met
 unfolding unmet
@@ -105,10 +89,6 @@ chain-front : (lanes : List (List Rec)) (x : RecordPlace) (xs : List RecordPlace
 chain-front lanes x xs zero h = refl
 chain-front lanes x [] (suc n) h = refl
 chain-front lanes x (y ∷ ys) (suc n) h = let parts = and_parts (must_precede lanes x y) (chained lanes (y ∷ ys)) h in and_from _ _ parts.0 (chain-front lanes y ys n parts.1)
-
-chain-remaining : (lanes : List (List Rec)) (x : RecordPlace) (xs : List RecordPlace) → IsTrue (chained lanes (x ∷ xs)) → IsTrue (chained lanes xs)
-chain-remaining lanes x [] h = refl
-chain-remaining lanes x (y ∷ ys) h = (and_parts (must_precede lanes x y) (chained lanes (y ∷ ys)) h).1
 
 -- a chain that ends with h closes where h must stand before this one
 closes-from : (lanes : List (List Rec)) (c h : RecordPlace) (xs : List RecordPlace) → IsTrue (chained lanes (xs ++ h ∷ [])) → IsTrue (must_precede lanes h c) → IsTrue (closes lanes c (xs ++ h ∷ []))

@@ -7,6 +7,7 @@ pub mod MarkLemmas
 pub mod NamedRecords
 pub mod NumberLemmas
 pub mod OrderLemmas
+pub mod OwnerRecords
 pub mod RemainingLemmas
 pub mod SerialLemmas
 pub mod SizeLemmas

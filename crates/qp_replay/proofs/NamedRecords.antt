@@ -13,8 +13,10 @@ use Rattle.qp_chart.specs.Task.{Task, Begin, Run, Unhandled, Exit, Enter, Init, 
 use Rattle.qp_chart.specs.declared.actions.Plain.{Plain}
 use Rattle.qp_chart.specs.declared.actions.Plain.TheVariants as action
 use Rattle.qp_chart.specs.declared.checked.Chart.{Chart}
+use Rattle.qp_chart.specs.declared.expression.Bound.{Bound}
 use Rattle.qp_model.specs.declared.record.Rec.{Rec}
 use Rattle.qp_model.specs.declared.stimulus.Stim.{Stim}
+use Rattle.qp_model.specs.declared.stimulus.Stim.TheVariants as stim
 use Rattle.qp_model.specs.declared.words.Word.{Word}
 use Rattle.qp_model.specs.declared.words.Word.TheVariants as word
 use Rattle.qp_model.specs.declared.systems.System.{System}
@@ -26,17 +28,16 @@ use Rattle.qp_model.specs.declared.bodies.Body.TheVariants as item
 use Rattle.qp_model.specs.Record.{Item}
 use Rattle.qp_model.specs.Told.{Told, Event, OfEvent}
 use Rattle.qp_model.specs.Lists.{is_first}
-use Rattle.qp_model.specs.History.{Shows, touch, touch_of, drawn_as, drawn_on, drawn_below, all_items, hist, numbered, is_numbered, total}
+use Rattle.qp_model.specs.History.{Touch, Draws, Shows, Neither, touch, touch_of, drawn_as, drawn_on, drawn_below, all_items, hist, numbered, is_numbered, total}
 use Rattle.qp_model.specs.Machine.{after, after_from, allowed_from, is_allowed, is_shown, shown_by}
 use Rattle.qp_model.specs.FreeBlocks.{Pool, free_blocks, pool_may, pool_next}
 use Rattle.qp_model.specs.Subscribers.{Subscribers, subscribers, subscribers_next, bits_of_set}
-use Rattle.qp_model.specs.Line.{same_entry}
 use Rattle.qp_model.specs.Knowing.{event_known, event_of, given_by, known_of, last_given, life_event, told}
-use Rattle.qp_model.specs.Calls.{deed_of, object_of}
+use Rattle.qp_model.specs.Calls.{deed_of, object_of, values_of}
 use Rattle.qp_model.specs.Parts.{members, members_below, timer_number}
 use Rattle.qp_model.specs.Sites.{blocks_of, object_at}
 use Rattle.qp_model.specs.Sound.{IsSound, IsSoundObject}
-use Rattle.qp_model.specs.SoundChart.{IsSoundPlain}
+use Rattle.qp_model.specs.SoundChart.{IsSoundEvent, IsSoundPlain}
 use Rattle.qp_model.specs.WordLaw.{Keeps, Words, is_block, is_object, is_pool, is_signal, is_timer}
 use Rattle.qp_model.specs.Course.{chart_at}
 use Rattle.qp_model.specs.Lawful.{Lawful, facts_of}
@@ -44,24 +45,56 @@ use Rattle.qp_model.proofs.HistoryLemmas.{drawn_as-on}
 use Rattle.qp_model.proofs.ListLemmas.{list_all-has, every-two, every-parts, every-test, all-with, all-without, all-counted}
 use Rattle.qp_model.proofs.MachineLemmas.{is_allowed-front}
 use Rattle.qp_model.proofs.NumberLemmas.{number-owned, every-append}
+use Rattle.qp_stim.specs.Rules as rule
 use Rattle.qp_stim.specs.Rules.{StimuliFit}
 use Rattle.qp_calls.specs.Counting.{one}
 use Rattle.qp_calls.specs.declared.tokens.Entry as token
 use Rattle.qp_calls.specs.declared.tokens.Entry.TheVariants as hand
+use Rattle.qp_calls.specs.Tokens.{Token}
+use Rattle.qp_plain_sound.specs.Sound.{is_event}
+use Rattle.qp_plain_sound.proofs.CallEvents.{event-to}
 use Rattle.qp_plain_sound.proofs.SetLemmas.{bits-has, set-apart}
 use Rattle.qp_dispatch.specs.SoundFor.{HasTimer, IsHome, MayAct, MayTask}
 use Rattle.qp_dispatch.specs.Resume.{IsReady}
-use Rattle.qp_dispatch.proofs.Naming.{declared, receives}
+use Rattle.qp_dispatch.proofs.Naming.{declared, receives, sound-event}
 use Rattle.qp_dispatch.proofs.SoundAble.{sound-ready}
 use Rattle.qp_replay.specs.Laws.{LawfulRecordsAreNamed}
 use Rattle.qp_replay.specs.Numbers.{has_word, is_on}
-use Rattle.qp_replay.proofs.CallRecords.{Rules, first-there, is_special}
+use Rattle.qp_replay.proofs.CallRecords.{Claims, Has, HasTouched, Named, Rules, Uses, first-there}
 use Rattle.qp_replay.proofs.CourseRecords.{ChartNames, DeedNames, TaskNames}
-use Rattle.qp_replay.proofs.LaneRecords.{all-fine, found-one}
+use Rattle.qp_replay.proofs.LaneRecords.{found-one}
+use Rattle.qp_replay.proofs.OwnerRecords.{all-fine}
+use Rattle.qp_replay.proofs.SourceRecords.{StimNames, any-object, event-signal, fits-event}
+
+-- What the system has.
+abbrev pub system_names : System → Named
+system_names sys = record {
+  Object = λ a. IsTrue (is_object sys a);
+  Signal = λ sig. IsTrue (is_signal sys sig);
+  Timer = λ t. IsTrue (is_timer sys t);
+  Event = λ sig pars. IsTrue (is_event sys (record { sig = sig; pars = pars }));
+}
+
+-- stimuli that fit the system name what it has
+stim-names : (sys : System) (s : Stim) → rule.StimFits sys s → StimNames (system_names sys) s
+stim-names sys (stim.Post to ev margin reserve) fit = (any-object sys to fit.object, fits-event sys ev reserve fit.event)
+stim-names sys (stim.Publish ev reserve) fit = (event-signal sys ev reserve fit, fits-event sys ev reserve fit)
+stim-names sys _ fit = tt
+
+pub stimuli-names : (sys : System) (stimuli : List (List Stim)) → StimuliFit sys stimuli → AllByRecursion (AllByRecursion (StimNames (system_names sys))) stimuli
+stimuli-names sys stimuli fit = each stimuli fit.stimuli
+  where
+    source : (ss : List Stim) → AllByRecursion (rule.StimFits sys) ss → AllByRecursion (StimNames (system_names sys)) ss
+    source [] h = tt
+    source (s ∷ ss) h = (stim-names sys s h.0, source ss h.1)
+
+    each : (sources : List (List Stim)) → AllByRecursion (AllByRecursion (rule.StimFits sys)) sources → AllByRecursion (AllByRecursion (StimNames (system_names sys))) sources
+    each [] h = tt
+    each (ss ∷ more) h = (source ss h.0, each more h.1)
 
 -- The actions of an object's chart name what the system has.
 
-pub timer-there : (sys : System) (me place : ℕ) → HasTimer sys me place → IsTrue (is_timer sys (timer_number sys.timers me place))
+timer-there : (sys : System) (me place : ℕ) → HasTimer sys me place → IsTrue (is_timer sys (timer_number sys.timers me place))
 timer-there sys me place h =
     let low = h.some in
     let within = slice_get_within sys.timers (timer_number sys.timers me place - 1) h.timer h.there in
@@ -69,15 +102,22 @@ timer-there sys me place h =
     let few : nat_le (timer_number sys.timers me place) (length sys.timers) ≡ true = grind (arith, nat_tests, low, within) in
     and_from _ _ some few
 
-deed-names : (sys : System) (me : ℕ) (at_hand : Option token.Entry) (p : Plain) → MayAct sys me at_hand p → (names : Names) → names.me ≡ me → DeedNames sys me (deed_of names p)
+event-of : (sys : System) (chart : Chart) (inside : Option ℕ) (sig : ℕ) (pars : List Bound) (reserve : Option ℕ) (names : Names) → IsSoundEvent sys chart inside sig pars reserve
+    → IsTrue (is_event sys (record { sig = sig; pars = values_of names pars }))
+event-of sys chart inside sig pars reserve names e = event-to sys _ (sound-event sys chart inside sig pars reserve names _ e refl)
+
+deed-names : (sys : System) (me : ℕ) (at_hand : Option token.Entry) (p : Plain) → MayAct sys me at_hand p → (names : Names) → names.me ≡ me → DeedNames (system_names sys) sys me (deed_of names p)
 unfolding deed_of IsSoundPlain
 deed-names sys me at_hand (action.Set var value) may names is = tt
 deed-names sys me at_hand (action.Say value) may names is = tt
-deed-names sys me at_hand (action.Post to sig pars margin reserve) may names is =
-    subst (λ o. IsTrue (is_object sys (object_of o to))) (sym is) (receives sys me may.chart to may.home may.plain.0)
-deed-names sys me at_hand (action.Lifo sig pars reserve) may names is = may.home.object
+deed-names sys me at_hand (action.Post to sig pars margin reserve) may names is = (
+  subst (λ o. IsTrue (is_object sys (object_of o to))) (sym is) (receives sys me may.chart to may.home may.plain.0),
+  event-of sys may.chart may.inside sig pars reserve names may.plain.1,
+)
+deed-names sys me at_hand (action.Lifo sig pars reserve) may names is = (may.home.object, event-of sys may.chart may.inside sig pars reserve names may.plain)
 deed-names sys me at_hand (action.Forward to margin) may names is = subst (λ o. IsTrue (is_object sys (object_of o to))) (sym is) (receives sys me may.chart to may.home may.plain.0)
-deed-names sys me at_hand (action.Publish sig pars reserve) may names is = declared sys sig (may.plain.signal, may.plain.is_signal)
+deed-names sys me at_hand (action.Publish sig pars reserve) may names is =
+    (declared sys sig (may.plain.signal, may.plain.is_signal), event-of sys may.chart may.inside sig pars reserve names may.plain)
 deed-names sys me at_hand action.Defer may names is = tt
 deed-names sys me at_hand action.Recall may names is = may.home.object
 deed-names sys me at_hand action.Flush may names is = tt
@@ -87,11 +127,11 @@ deed-names sys me at_hand (action.Arm t ticks interval) may names is = timer-the
 deed-names sys me at_hand (action.Rearm t ticks) may names is = timer-there sys me t (may.home.timers t may.plain.0.0 may.plain.0.1)
 deed-names sys me at_hand (action.Disarm t) may names is = timer-there sys me t (may.home.timers t may.plain.0 may.plain.1)
 
-tasks-name : (sys : System) (me : ℕ) (at_hand : Option token.Entry) (ts : List Task) → AllByRecursion (MayTask sys me at_hand) ts → AllByRecursion (TaskNames sys me) ts
+tasks-name : (sys : System) (me : ℕ) (at_hand : Option token.Entry) (ts : List Task) → AllByRecursion (MayTask sys me at_hand) ts → AllByRecursion (TaskNames (system_names sys) sys me) ts
 tasks-name sys me at_hand [] h = tt
 tasks-name sys me at_hand (t ∷ ts) h = (one t h.0, tasks-name sys me at_hand ts h.1)
   where
-    one : (t : Task) → MayTask sys me at_hand t → TaskNames sys me t
+    one : (t : Task) → MayTask sys me at_hand t → TaskNames (system_names sys) sys me t
     one (Do p) may = deed-names sys me at_hand p may
     one Begin may = tt
     one (Run s k) may = tt
@@ -104,7 +144,7 @@ tasks-name sys me at_hand (t ∷ ts) h = (one t h.0, tasks-name sys me at_hand t
     one Restore may = tt
 
 -- and they may be done
-pub chart-ready : (sys : System) → IsSound sys → (d : ObjectDef) → object_at sys d.priority ≡ Some d → (chart : Chart) → chart_at sys d.chart ≡ Some chart → IsReady sys d.priority chart
+chart-ready : (sys : System) → IsSound sys → (d : ObjectDef) → object_at sys d.priority ≡ Some d → (chart : Chart) → chart_at sys d.chart ≡ Some chart → IsReady sys d.priority chart
 unfolding is_object object_at
 chart-ready sys sound d found chart its = sound-ready sys d.priority chart (d.chart - 1) home its
   where
@@ -130,7 +170,7 @@ chart-ready sys sound d found chart its = sound-ready sys d.priority chart (d.ch
           record { some = n.some; few = let most = sound.few_timers in omega (arith, n.few, most); timer = n.timer; there = n.there; owner = n.owner };
     }
 
-chart-names : (sys : System) → IsSound sys → (d : ObjectDef) → object_at sys d.priority ≡ Some d → (chart : Chart) → chart_at sys d.chart ≡ Some chart → ChartNames sys d.priority chart
+pub chart-names : (sys : System) → IsSound sys → (d : ObjectDef) → object_at sys d.priority ≡ Some d → (chart : Chart) → chart_at sys d.chart ≡ Some chart → ChartNames (system_names sys) sys d.priority chart
 chart-names sys sound d found chart its =
     let ready : IsReady sys d.priority chart = chart-ready sys sound d found chart its in
     record {
@@ -235,35 +275,42 @@ FirstFine sys o (item.New p n b from sig pars) = IsTrue (is_pool sys p)
 FirstFine sys o (item.Sub sig n) = IsTrue (is_object sys o)
 FirstFine sys o _ = ⊤
 
-all-unit : (xs : List ℕ) → AllByRecursion (λ a. ⊤) xs
+pub all-unit : (xs : List ℕ) → AllByRecursion (λ a. ⊤) xs
 all-unit [] = tt
 all-unit (x ∷ xs) = (tt, all-unit xs)
 
-first-rules : (sys : System) (o : ℕ) → Rules sys o (λ t. ⊤) (λ e. ⊤) (λ a. ⊤) (FirstFine sys o)
-first-rules sys o = record {
-  touches = touches;
-  static = λ sig. tt;
-  made = λ p n b from sig free r pars first known. tt;
-  again = λ e r some good. tt;
-  same = λ x k is good. tt;
-  takes = λ f l m e ev known. tt;
-  deferred = λ e fine. tt;
-  inc = λ e r some good. tt;
-  dec = λ e d k some good. tt;
-  back = λ e n to some good. tt;
-  defer = λ e good. tt;
-  object = λ a is. tt;
-  subscribed = λ sig n set signal known. all-unit (members set);
-  post = λ a f l m e member. tt;
-  full = λ a f l m margin member. tt;
-  no_entry = λ a f l m member. tt;
-  sub = λ sig n signal object. object;
+-- nothing more is claimed, and nothing known
+abbrev bare : System → Claims
+bare sys = record {
+  names = system_names sys;
+  Pool = λ p. ⊤;
+  Block = λ p b. ⊤;
+  Good = λ e. ⊤;
+  New = λ p sig pars. IsTrue (is_pool sys p);
+  Member = λ a. ⊤;
+  Rests = ⊤;
+  Knows = λ t. ⊤;
 }
-  where
-    touches : (b : Body) → is_special b ≡ false → IsTrue (is_on (has_word sys) (touch_of o b)) → FirstFine sys o b
-    touches (item.New p n b from sig pars) special h = h
-    touches (item.Sub sig n) special h = absurd (cc)
-    touches b special h = tt
+
+first-rules : (sys : System) → Rules sys (bare sys)
+first-rules sys = record {
+  object = λ a is. is;
+  timer = λ t is. is;
+  pool = λ p is. tt;
+  new = λ p sig pars first event. first-there sys (length pars) p first;
+  made = λ p n b from sig free pars pool known. tt;
+  good = λ p b r block. tt;
+  block = λ e some good. tt;
+  static = λ sig is. tt;
+  takes = λ f l m e ev known. tt;
+  member = λ a is. tt;
+  subscribed = λ sig n set signal known. all-unit (members set);
+}
+
+first-fine : (sys : System) (o : ℕ) (H : List Token) (b : Body) → Uses o (bare sys) H b → FirstFine sys o b
+first-fine sys o H (item.New p n b from sig pars) uses = uses
+first-fine sys o H (item.Sub sig n) uses = uses.1
+first-fine sys o H b uses = tt
 
 -- The subscribers of a signal are objects where each that subscribed was one.
 
@@ -476,14 +523,6 @@ module _ (sys : System) where
           known-event (event_of (record { sys = sys; items = all_items lanes }) e) ev (subst (λ x. known_of (record { sys = sys; items = all_items lanes }) o c x ≡ OfEvent ev) is known);
     }
 
-    abbrev Fine : ℕ → Body → Type 0
-    Fine o (item.Defer e) = OfSystem e
-    Fine o b = IsTrue (is_on (has_word sys) (touch_of o b))
-
-    fine-named : (o : ℕ) (b : Body) → Fine o b → is_on (has_word sys) (touch_of o b) ≡ true
-    fine-named o (item.Defer e) h = refl
-    fine-named o b h = h
-
     block-there : (e : Entry) → 0 < e.pool → OfSystem e → IsTrue (is_block sys e.pool e.block)
     block-there e some (inl none) = absurd (omega (arith, some, none))
     block-there e some (inr block) = block
@@ -492,52 +531,70 @@ module _ (sys : System) where
     unfolding is_block
     pool-there p b h = (and_parts (is_pool sys p) (nat_lt b (blocks_of sys p)) h).0
 
-    same-good : (x k : Entry) → same_entry x k ≡ true → OfSystem x → OfSystem k
-    same-good x k is good =
-        let front = and_parts ((x.pool == k.pool) && (x.block == k.block)) (x.name == k.name) is in
-        let tests = and_parts (x.pool == k.pool) (x.block == k.block) front.0 in
-        let first : (x.pool == k.pool) ≡ true = tests.0 in
-        let second : (x.block == k.block) ≡ true = tests.1 in
-        let pool : x.pool ≡ k.pool = grind (arith, nat_tests, first) in
-        let block : x.block ≡ k.block = grind (arith, nat_tests, second) in
-        elim good [ inl none ↦ inl (sym pool ∙ none) | inr h ↦ inr (subst (λ p. IsTrue (is_block sys p k.block)) pool (subst (λ b. IsTrue (is_block sys x.pool b)) block h)) ]
-
-    rules : (o : ℕ) → Rules sys o KnowsTold OfSystem (λ a. IsTrue (is_object sys a)) (Fine o)
-    rules o = record {
-      touches = touches;
-      static = λ sig. inl refl;
-      made = λ p n b from sig free r pars first known. inr (known.sure_of.blocks p n b from sig pars refl (first-there sys (length pars) p first));
-      again = λ e r some good. elim good [ inl none ↦ inl none | inr block ↦ inr block ];
-      same = same-good;
-      takes = λ f l m e ev known. event-good e ev (known.event f l m e ev refl refl);
-      deferred = λ e fine. fine;
-      inc = λ e r some good. block-there e some good;
-      dec = λ e d k some good. block-there e some good;
-      back = λ e n to some good. pool-there e.pool e.block (block-there e some good);
-      defer = λ e good. good;
-      object = λ a is. is;
-      subscribed = λ sig n set signal known. known.sure_of.subscribed sig n set refl signal;
-      post = λ a f l m e member. member;
-      full = λ a f l m margin member. member;
-      no_entry = λ a f l m member. member;
-      sub = λ sig n signal object. signal;
+    -- blocks and members are the system's
+    abbrev known_named : Claims
+    known_named = record {
+      names = system_names sys;
+      Pool = λ p. IsTrue (is_pool sys p);
+      Block = λ p b. IsTrue (is_block sys p b);
+      Good = OfSystem;
+      New = λ p sig pars. IsTrue (is_pool sys p);
+      Member = λ a. IsTrue (is_object sys a);
+      Rests = ⊤;
+      Knows = KnowsTold;
     }
+
+    rules : Rules sys known_named
+    rules = record {
+      object = λ a is. is;
+      timer = λ t is. is;
+      pool = λ p is. is;
+      new = λ p sig pars first event. first-there sys (length pars) p first;
+      made = λ p n b from sig free pars pool known. known.sure_of.blocks p n b from sig pars refl pool;
+      good = λ p b r block. inr block;
+      block = λ e some good. block-there e some good;
+      static = λ sig is. inl refl;
+      takes = λ f l m e ev known. event-good e ev (known.event f l m e ev refl refl);
+      member = λ a is. is;
+      subscribed = λ sig n set signal known. known.sure_of.subscribed sig n set refl signal;
+    }
+
+    uses-named : (o : ℕ) (H : List Token) (b : Body) → Uses o known_named H b → is_on (has_word sys) (touch_of o b) ≡ true
+    uses-named o H (item.New p n b from sig pars) uses = uses
+    uses-named o H item.Malformed uses = absurd uses
+    uses-named o H (item.Rest k) uses = refl
+    uses-named o H (item.Inc p b r) uses = uses.0
+    uses-named o H (item.Dec p b d k) uses = uses.0
+    uses-named o H (item.Back p n b to) uses = pool-there p b uses.0
+    uses-named o H (item.Post a f l m e) uses = uses.0
+    uses-named o H (item.Lifo f l m e) uses = uses.0
+    uses-named o H (item.Sub sig n) uses = uses.0
+    uses-named o H (item.Arm t n ticks interval) uses = uses.0
+    uses-named o H (item.Rearm t n former ticks) uses = uses.0
+    uses-named o H b uses = touched (touch_of o b) uses
       where
-        touches : (b : Body) → is_special b ≡ false → IsTrue (is_on (has_word sys) (touch_of o b)) → Fine o b
-        touches (item.Defer e) special h = absurd (cc)
-        touches b special h = h
+        has : (w : Word) → Has known_named w → has_word sys w ≡ true
+        has (word.Pool p) h = h
+        has (word.Block p b) h = h
+        has (word.Queue a) h = h
+        has (word.Signal sig) h = h
+        has (word.Timer t) h = h
+
+        touched : (t : Touch) → HasTouched known_named t → is_on (has_word sys) t ≡ true
+        touched (Draws w mark) h = has w h
+        touched (Shows w mark) h = has w h
+        touched Neither h = refl
 
 units : (is : List Item) → AllByRecursion (λ i. ⊤) is
 units [] = tt
 units (i ∷ is) = (tt, units is)
 
+pub none-known : (is : List Item) → AllByRecursion (λ i. (c : ℕ) → ⊤) is
+none-known [] = tt
+none-known (i ∷ is) = ((λ c. tt), none-known is)
+
 first-records : (sys : System) (stimuli : List (List Stim)) (j : Journal) → IsSound sys → StimuliFit sys stimuli → Lawful sys stimuli j → AllByRecursion (λ i. FirstFine sys i.of i.body) (all_items j.lanes)
-first-records sys stimuli j sound fit lawful =
-    all-fine sys stimuli j sound fit lawful (λ o t. ⊤) (λ e. ⊤) (λ a. ⊤) (FirstFine sys) (first-rules sys) (chart-names sys sound) (nothing (all_items j.lanes))
-  where
-    nothing : (is : List Item) → AllByRecursion (λ i. (c : ℕ) → ⊤) is
-    nothing [] = tt
-    nothing (i ∷ is) = ((λ c. tt), nothing is)
+first-records sys stimuli j sound fit lawful = all-fine sys stimuli j (bare sys) (first-rules sys) (λ qv. tt) sound (stimuli-names sys stimuli fit) lawful (chart-names sys sound) (FirstFine sys) (first-fine sys) (none-known (all_items j.lanes))
 
 -- of each record of a lawful journal: its block is one of the pool's, and the members that it shows are objects
 pub sure-records : (sys : System) (stimuli : List (List Stim)) (j : Journal) → IsSound sys → StimuliFit sys stimuli → Lawful sys stimuli j → AllByRecursion (λ i. SureBody sys i.body) (all_items j.lanes)
@@ -547,10 +604,8 @@ pub named-records : LawfulRecordsAreNamed
 unfolding facts_of
 named-records sys stimuli j sound fit lawful =
     let first = first-records sys stimuli j sound fit lawful in
-    let fine = all-fine sys stimuli j sound fit lawful (λ o. KnowsTold sys j.lanes lawful.words first) (OfSystem sys j.lanes lawful.words first) (λ a. IsTrue (is_object sys a)) (Fine sys j.lanes lawful.words first)
-    (rules sys j.lanes lawful.words first) (chart-names sys sound)
-    (every-two (λ i. SureBody sys i.body) (λ i. ⊤) (λ i. (c : ℕ) → KnowsTold sys j.lanes lawful.words first (told (record { sys = sys; items = all_items j.lanes }) i.of c i.body))
-    (λ i s t c. told-knows sys j.lanes lawful.words first i.of c i.body s) (all_items j.lanes) (sure sys j.lanes lawful.words first) (units (all_items j.lanes))) in
     every-test (λ i. is_on (has_word sys) (touch i)) (all_items j.lanes)
-    (every-two (λ i. Fine sys j.lanes lawful.words first i.of i.body) (λ i. ⊤) (λ i. is_on (has_word sys) (touch i) ≡ true) (λ i f t. fine-named sys j.lanes lawful.words first i.of i.body f) (all_items j.lanes) fine
-    (units (all_items j.lanes)))
+    (all-fine sys stimuli j (known_named sys j.lanes lawful.words first) (rules sys j.lanes lawful.words first) (λ qv. tt) sound (stimuli-names sys stimuli fit) lawful (chart-names sys sound) (λ o b. is_on (has_word sys) (touch_of o b) ≡ true)
+    (uses-named sys j.lanes lawful.words first)
+    (every-two (λ i. SureBody sys i.body) (λ i. ⊤) (λ i. (c : ℕ) → KnowsTold sys j.lanes lawful.words first (told (record { sys = sys; items = all_items j.lanes }) i.of c i.body))
+    (λ i s t c. told-knows sys j.lanes lawful.words first i.of c i.body s) (all_items j.lanes) (sure sys j.lanes lawful.words first) (units (all_items j.lanes))))

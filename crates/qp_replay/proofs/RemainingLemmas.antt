@@ -3,7 +3,7 @@ use Rattle.std.proofs.Common.{◌≡◌, ◌≢◌, ◌∙◌, ℕ, zero, suc, �
 use Rattle.std.specs.Prelude.{IsTrue, is_some, slice_get}
 use Rattle.std.specs.List.{AllByRecursion}
 use Rattle.std.specs.Option.{option_and_then}
-use Rattle.std.proofs.lemmas.Bool.{and_from, and_parts}
+use Rattle.std.proofs.lemmas.Bool.{and_parts, or_right}
 use Rattle.std.proofs.lemmas.Bool.Decides.{nat_tests}
 use Rattle.std.proofs.Math.Bool.{or-false, and-true, and-false}
 use Rattle.qp_model.specs.declared.record.Rec.{Rec}
@@ -11,8 +11,7 @@ use Rattle.qp_model.specs.declared.words.Word.{Word}
 use Rattle.qp_model.specs.Record.{Item, item_of}
 use Rattle.qp_model.specs.History.{Touch, Draws, Shows, Neither, same_word}
 use Rattle.qp_model.specs.Places.{RecordPlace, item_at, must_precede, touch_at, touch_first}
-use Rattle.qp_check_lanes.specs.Keys.{key_of, same_key}
-use Rattle.qp_check_lanes.proofs.KeyLemmas.{same-word}
+use Rattle.qp_check_lanes.specs.Keys.{key_of}
 use Rattle.qp_replay.specs.Orders.{is_record}
 use Rattle.qp_replay.specs.Marks.{has_mark}
 use Rattle.qp_replay.specs.Remaining.{Blocks, HasNext, IsRemaining, Standing, draws_mark, front, head, place, record_in, shows_mark}
@@ -101,15 +100,6 @@ lane-of lanes n k h =
     go (l ∷ ls) zero less = omega arith
     go (l ∷ ls) (suc n) less = let remaining : n < length ls = go ls n less in omega (arith, remaining)
 
--- the mark that is put or taken, as the marks of one word say it
-pub mark-is : (v w : Word) (x l p m n k : ℕ) → (same_key (key_of v) (key_of w) && same_key (x, l, p) (m, n, k)) ≡ ((same_word v w && (x == m)) && ((l == n) && (p == k)))
-mark-is v w x l p m n k = ap (λ b. b && same_key (x, l, p) (m, n, k)) (same-word v w) ∙ go (same_word v w) (x == m) (l == n) (p == k)
-  where
-    go : (a b c d : Bool) → (a && ((b && c) && d)) ≡ ((a && b) && (c && d))
-    go false b c d = refl
-    go true false c d = refl
-    go true true c d = refl
-
 -- what draws a number with a mark, and what shows one
 pub draws-touch : (w : Word) (m : ℕ) (t : Touch) → draws_mark w m t ≡ true → (v : Word) × (t ≡ Draws v m) × (same_word v w ≡ true)
 draws-touch w m (Draws v n) h =
@@ -133,12 +123,8 @@ blocks : (st : Standing) (n : ℕ) (x : RecordPlace) (t : Touch) → front st x.
 unfolding is_record must_precede
 blocks st n x t behind is stands first = record {
   waits = record { stands = stands; behind = behind };
-  first = rw is (or-true _ _ first);
+  first = rw is (or_right _ _ first);
 }
-  where
-    or-true : (a b : Bool) → b ≡ true → (a || b) ≡ true
-    or-true true b h = refl
-    or-true false b h = h
 
 -- a record that draws a number or shows its word is there
 drawn-there : (o : Option Item) (v : Word) (m : ℕ) → touch_at o ≡ Draws v m → is_some o ≡ true

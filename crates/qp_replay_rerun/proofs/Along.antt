@@ -1,5 +1,5 @@
 -- A world along a serial order of a lawful journal: its records are those of a front of the order, and its hands are its owners' together.
-use Rattle.std.proofs.Common.{◌≡◌, ◌≢◌, ◌∙◌, ℕ, zero, suc, ◌+◌, ◌<◌, ◌≤◌, ◌==◌, Bool, true, false, cond, List, [], ◌∷◌, ◌++◌, length, drop, take, refl, sym, ap, subst, arith, ◌⊎◌, inl, inr, Some, IsTrue, length-append, length-set}
+use Rattle.std.proofs.Common.{◌≡◌, ◌≢◌, ◌∙◌, ℕ, zero, suc, ◌+◌, ◌<◌, ◌≤◌, ◌==◌, Bool, true, false, cond, List, [], ◌∷◌, ◌++◌, length, drop, take, refl, sym, ap, subst, arith, ◌⊎◌, inl, inr, Some, length-append, length-set}
 use Rattle.std.specs.Prelude.{⊤, slice_get}
 use Rattle.std.specs.List.{AllByRecursion, list_all}
 use Rattle.std.specs.Option.{option_and_then, unwrap_or}
@@ -43,28 +43,11 @@ use Rattle.qp_replay.specs.Numbers.{has_word, is_on}
 use Rattle.qp_replay.proofs.NamedRecords.{SureBody, all-from, named-records, sure-records}
 use Rattle.qp_model.specs.Ends.{spills_in}
 use Rattle.qp_replay_rerun.proofs.LaneSpills.{SpillLast}
-use Rattle.qp_replay_rerun.proofs.NextMay.{hands-same, LeftAlike, next-may}
+use Rattle.qp_replay_rerun.proofs.NextMay.{Knows, TookGood, claims, hands-same, LeftAlike, next-may}
 use Rattle.qp_replay_rerun.proofs.NextRecords.{history, items-push, next, on_word}
-use Rattle.qp_replay_rerun.proofs.TokenCalls.{Lin, Rules, Uses, hands_told, told-append}
+use Rattle.qp_replay.proofs.CallRecords.{Claims, Lin, Uses, hands_told, told-append}
 use Rattle.qp_model.proofs.NumberLemmas.{every-append}
 use Rattle.qp_model.proofs.ListLemmas.{take-next}
-
--- a record taken states a good entry
-abbrev pub TookGood : System → Body → Type 0
-TookGood sys (item.Took f l m e) = IsTrue (is_good sys e)
-TookGood sys b = ⊤
-
--- what is known of an earlier record
-pub record Knows (sys : System) (t : Told) : Type 0 where
-  pub sure : SureBody sys t.body
-  pub took : TookGood sys t.body
-
-pub rules-known : (sys : System) (o : ℕ) → Rules sys o (Knows sys)
-rules-known sys o = record {
-  made = λ p n b from sig free pars pool known. known.sure.blocks p n b from sig pars refl pool;
-  takes = λ f l m e ev known. known.took;
-  subscribed = λ sig n set signal known. known.sure.subscribed sig n set refl signal;
-}
 
 -- the records of an owner in a lane, and what they leave in its hands
 unfoldable pub local : System → Journal → List (List Rec) → ℕ → ℕ → List Token
@@ -145,9 +128,9 @@ lane-append [] ys = refl
 lane-append (x ∷ xs) ys = ap (λ is. item_of x ∷ is) (lane-append xs ys)
 
 -- the record at a place of an owner's list uses what those before have left
-lin-at : (sys : System) (o : ℕ) (K : Told → Type 0) (H : List Token) (g : List Told) (t : Told) (h : List Told) → Lin sys o K H (g ++ t ∷ h) → AllByRecursion K g → Uses sys o (hands_told H g) t.body
-lin-at sys o K H [] t h l k = l.0
-lin-at sys o K H (u ∷ g) t h l k = lin-at sys o K (hands_by H u) g t h (l.1 k.0) k.1
+lin-at : (sys : System) (o : ℕ) (P : Claims) (H : List Token) (g : List Told) (t : Told) (h : List Told) → Lin sys o P H (g ++ t ∷ h) → AllByRecursion P.Knows g → Uses o P (hands_told H g) t.body
+lin-at sys o P H [] t h l k = l.0
+lin-at sys o P H (u ∷ g) t h l k = lin-at sys o P (hands_by H u) g t h (l.1 k.0) k.1
 
 -- what is known of an owner's records, by what is known of the lane's
 known-records : (sys : System) (w : Facts) (o c : ℕ) (is : List Item) → AllByRecursion (λ i. SureBody sys i.body) is → AllByRecursion (λ i. TookGood sys i.body) is → AllByRecursion (Knows sys) (records_of w o c is)
@@ -194,7 +177,7 @@ take-one (x ∷ xs) y ys (suc n) is = ap (λ zs. x ∷ zs) (take-one xs y ys n (
 
 -- The next record.
 module _ (sys : System) (stimuli : List (List Stim)) (j : Journal) (sound : IsSound sys) (fit : StimuliFit sys stimuli) (lawful : Lawful sys stimuli j)
-    (owners : (a o : ℕ) → Lin sys o (Knows sys) [] (records_of (facts_of sys j) o 0 (lane_items (lane_at j a)))) (order A B : List RecordPlace) (x : RecordPlace) (r : Rec) (serial : IsSerial j.lanes order)
+    (owners : (a o : ℕ) → Lin sys o (claims sys) [] (records_of (facts_of sys j) o 0 (lane_items (lane_at j a)))) (order A B : List RecordPlace) (x : RecordPlace) (r : Rec) (serial : IsSerial j.lanes order)
     (split : order ≡ A ++ x ∷ B) (found : Found j.lanes x r) (place : times (λ y. y.lane == x.lane) A ≡ x.at) (W : List (List Rec)) (O : List ℕ) (world : SoundWorld sys W O) (objects : ℕ)
     (along : Along sys j objects A W O) (bound : (item_of r).of < objects) where
   abbrev a : ℕ
@@ -252,9 +235,9 @@ module _ (sys : System) (stimuli : List (List Stim)) (j : Journal) (sound : IsSo
       known-records sys (facts_of sys j) o 0 (lane_items front)
       (subst (λ l. AllByRecursion (λ k. SureBody sys k.body) (lane_items l)) (sym front-is) (items-take (λ k. SureBody sys k.body) (lane_of j.lanes a) x.at sure)) (along.took a)
 
-  pub uses-this : Uses sys o (local sys j W a o) i.body
+  pub uses-this : Uses o (claims sys) (local sys j W a o) i.body
   unfolding local told
-  uses-this = lin-at sys o (Knows sys) [] before this (records_of (facts_of sys j) o (ceiling_after ceiling i.body) rest) (subst (Lin sys o (Knows sys) []) own-list (owners a o)) known-before
+  uses-this = lin-at sys o (claims sys) [] before this (records_of (facts_of sys j) o (ceiling_after ceiling i.body) rest) (subst (Lin sys o (claims sys) []) own-list (owners a o)) known-before
 
   pub few-there : (t : Token) → count_of t (local sys j W a o) ≤ count_of t (hands_in sys W O)
   few-there t = let part = owned-part sys j W (length j.lanes) objects a o t found.within bound in let all = along.sums t in omega (arith, part, all)
@@ -425,7 +408,7 @@ module _ (sys : System) (stimuli : List (List Stim)) (j : Journal) (sound : IsSo
           same ∙ sym (ap length (along.hists (word.Block p b)))
 
       block : is_block sys p b ≡ true
-      block = (subst (Uses sys o (local sys j W a o)) is uses-this).0
+      block = (subst (Uses o (claims sys) (local sys j W a o)) is uses-this).0
 
       law : take (d + 1) (hist (word.Block p b) (all_items j.lanes)) ≡ hist (word.Block p b) (all_items W) ++ i ∷ []
       law =
@@ -456,7 +439,7 @@ module _ (sys : System) (stimuli : List (List Stim)) (j : Journal) (sound : IsSo
       ∙ ap (λ is. hands_told [] (records_of (facts_of sys j) o 0 is)) (lane-append front (r ∷ []))
       ∙ ap (hands_told []) (records_of-append (facts_of sys j) o 0 (lane_items front) (i ∷ []))
       ∙ ap (λ u. hands_told [] (before ++ cond u (this ∷ []) [])) self
-      ∙ told-append sys o (Knows sys) [] before (this ∷ [])
+      ∙ told-append sys o (claims sys) [] before (this ∷ [])
     where
       self : (o == o) ≡ true
       self = grind (arith, nat_tests)

@@ -7,8 +7,3 @@ pub mod NextMay
 pub mod NextRecords
 pub mod OneThread
 pub mod Rerunning
-pub mod TokenCalls
-pub mod TokenCourses
-pub mod TokenLanes
-pub mod TokenNames
-pub mod TokenSources

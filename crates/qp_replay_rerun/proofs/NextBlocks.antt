@@ -1,7 +1,7 @@
 -- The next record of a serial order, where it gives out a block or gives one back: its life begins and ends where it says.
 use Rattle.std.proofs.Common.{◌≡◌, ◌∙◌, ℕ, zero, suc, ◌<◌, ◌≤◌, ◌==◌, nat_lt, nat_le, Bool, true, false, not, ◌&&◌, ◌||◌, cond, List, [], ◌∷◌, ◌++◌, length, take, refl, sym, ap, subst, arith, Option, Some, None, IsTrue}
 use Rattle.std.specs.List.{AllByRecursion, cons_option}
-use Rattle.std.proofs.lemmas.Bool.{not-true, and_parts, eqb-true, ltb-true, leb-true}
+use Rattle.std.proofs.lemmas.Bool.{not-true, and_parts, eqb-true, ltb-true, leb-true, or_right}
 use Rattle.std.proofs.lemmas.Bool.Decides.{nat_tests}
 use Rattle.std.proofs.lemmas.List.{take_all}
 use Rattle.std.proofs.lemmas.List.Elements.{filter_map-append}
@@ -94,9 +94,6 @@ has-all P (x ∷ xs) n all h = go (x == n) refl h (λ k. has-all P xs n all.1 k)
     go true e h more = subst P (eqb-true x n e) all.0
     go false e h more = more h
 
-empty-is : (xs : List ℕ) → xs ≡ [] → is_empty xs ≡ true
-empty-is xs e = ap is_empty e
-
 take-front : {A : Type 0} (xs ys : List A) (n : ℕ) → n ≤ length xs → take n (xs ++ ys) ≡ take n xs
 take-front xs ys zero le = refl
 take-front [] ys (suc n) le = absurd (omega (arith, le))
@@ -174,16 +171,12 @@ module _ (b : ℕ) (pool more block rest : List Item) (i : Item) (law : HasLives
     has-edge : (m : ℕ) → has (edges b (pool ++ i ∷ more)) m ≡ (has (edges b pool) m || has (to ∷ edges b more) m)
     has-edge m = ap (λ xs. has xs m) edges-split ∙ list_any-append (λ y. y == m) (edges b pool) (to ∷ edges b more)
 
-    or-right : (u v : Bool) → v ≡ true → (u || v) ≡ true
-    or-right true v h = refl
-    or-right false v h = h
-
     -- its end is within the block's history, and no reference stands there
     at-end : (to ≤ length (block ++ rest)) × (is_empty (refs_at to (block ++ rest)) ≡ true)
     unfolding edges_empty
     at-end =
         let self : (to == to) ≡ true = grind (arith, nat_tests) in
-        let there : has (edges b (pool ++ i ∷ more)) to ≡ true = has-edge to ∙ or-right (has (edges b pool) to) (has (to ∷ edges b more) to) (ap (λ u. u || has (edges b more) to) self) in
+        let there : has (edges b (pool ++ i ∷ more)) to ≡ true = has-edge to ∙ or_right (has (edges b pool) to) (has (to ∷ edges b more) to) (ap (λ u. u || has (edges b more) to) self) in
         let test = list_all-has (λ m. nat_le m (length (block ++ rest)) && is_empty (refs_at m (block ++ rest))) (edges b (pool ++ i ∷ more)) to law.empty there in
         let parts = and_parts (nat_le to (length (block ++ rest))) (is_empty (refs_at to (block ++ rest))) test in
         (leb-true to (length (block ++ rest)) parts.0, parts.1)

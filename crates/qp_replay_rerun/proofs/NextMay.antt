@@ -1,35 +1,100 @@
 -- The next record of a serial order of a lawful journal may come next in the world of the records before it.
-use Rattle.std.proofs.Common.{◌≡◌, ◌∙◌, ℕ, zero, suc, ◌+◌, ◌≤◌, ◌==◌, Bool, true, false, ◌||◌, List, ◌∷◌, ◌++◌, refl, sym, ap, subst, arith, ◌⊎◌, inl, inr, Some, IsTrue}
-use Rattle.std.proofs.lemmas.Bool.{and_parts}
+use Rattle.std.proofs.Common.{length, cond, ◌≡◌, ◌∙◌, ℕ, zero, suc, ◌+◌, ◌<◌, ◌≤◌, ◌==◌, nat_lt, nat_le, Bool, true, false, ◌&&◌, ◌||◌, List, ◌∷◌, ◌++◌, refl, sym, ap, subst, arith, ◌⊎◌, inl, inr, Some, IsTrue}
+use Rattle.std.specs.Prelude.{⊤}
+use Rattle.std.proofs.lemmas.Bool.{and_from, and_parts}
+use Rattle.std.proofs.lemmas.Bool.Decides.{nat_tests}
 use Rattle.qp_model.specs.declared.record.Rec.{Rec}
 use Rattle.qp_model.specs.declared.words.Word.{Word}
 use Rattle.qp_model.specs.declared.systems.System.{System}
 use Rattle.qp_model.specs.declared.bodies.Entry.{Entry}
 use Rattle.qp_model.specs.declared.bodies.Body.{Body}
 use Rattle.qp_model.specs.declared.bodies.Body.TheVariants as item
-use Rattle.qp_model.specs.Record.{Item}
-use Rattle.qp_model.specs.Told.{Known, Left}
+use Rattle.qp_model.specs.Record.{Item, entry}
+use Rattle.qp_model.specs.Told.{Told, Known, Left}
 use Rattle.qp_model.specs.History.{all_items, hist}
-use Rattle.qp_model.specs.WordLaw.{Words, is_block, is_pool}
+use Rattle.qp_model.specs.Parts.{is_static}
+use Rattle.qp_model.specs.WordLaw.{Words, is_block, is_object, is_pool}
 use Rattle.qp_model.specs.Places.{IsSerial, RecordPlace, item_at, items_at}
 use Rattle.qp_calls.specs.Counting.{count_of, times}
 use Rattle.qp_calls.specs.Tokens.{Token, Held, Loose, hands_of, stands, take_out, token_of, with_left, without_entry}
 use Rattle.qp_calls.proofs.CountLemmas.{count-with, count-without, is_in, count-stands}
 use Rattle.qp_plain_sound.specs.May.{May}
-use Rattle.qp_plain_sound.specs.Sound.{SoundWorld, hands_in}
+use Rattle.qp_plain_sound.specs.Sound.{SoundWorld, hands_in, is_event, is_good}
 use Rattle.qp_plain_sound.proofs.Times.{stands-times, take_out-absent, times-take_out}
 use Rattle.qp_replay_rerun.proofs.NextBlocks.{back-may, new-may}
 use Rattle.qp_replay_rerun.proofs.NextRecords.{arm-may, armed-may, dec-may, disarm-may, fire-may, full-may, idle-may, inc-may, lifo-may, nil-may, no_block-may, no_entry-may, no_lifo-may, on_word, post-may, pub-may, rearm-may, same-may, seen-may, short-may, sub-may, tick-may, took-may, unsub-may}
-use Rattle.qp_replay_rerun.proofs.TokenCalls.{Uses}
+use Rattle.qp_replay.proofs.CallRecords.{Claims, Rules, Uses, first-there}
+use Rattle.qp_replay.proofs.NamedRecords.{SureBody, system_names}
 
 pool-of : (sys : System) (p b : ℕ) → IsTrue (is_block sys p b) → IsTrue (is_pool sys p)
 unfolding is_block
 pool-of sys p b h = (and_parts (is_pool sys p) _ h).0
 
+-- a record taken states a good entry
+abbrev pub TookGood : System → Body → Type 0
+TookGood sys (item.Took f l m e) = IsTrue (is_good sys e)
+TookGood sys b = ⊤
+
+-- what is known of an earlier record
+pub record Knows (sys : System) (t : Told) : Type 0 where
+  pub sure : SureBody sys t.body
+  pub took : TookGood sys t.body
+
+-- what is claimed: blocks and members are the system's, and entries are good
+abbrev pub claims : System → Claims
+claims sys = record {
+  names = system_names sys;
+  Pool = λ p. IsTrue (is_pool sys p);
+  Block = λ p b. IsTrue (is_block sys p b);
+  Good = λ e. IsTrue (is_good sys e);
+  New = λ p sig pars. IsTrue (is_pool sys p) × IsTrue (is_event sys (record { sig = sig; pars = pars }));
+  Member = λ a. IsTrue (is_object sys a);
+  Rests = ⊤;
+  Knows = Knows sys;
+}
+
+-- a good entry of a block is of a block of the system
+good-block : (sys : System) (e : Entry) → 0 < e.pool → is_good sys e ≡ true → is_block sys e.pool e.block ≡ true
+good-block sys e some good = go (e.pool == 0) refl good
+  where
+    go : (u : Bool) → (e.pool == 0) ≡ u → cond u (is_static sys e.block && (e.name == 0)) (is_block sys e.pool e.block) ≡ true → is_block sys e.pool e.block ≡ true
+    go true is h = let none : e.pool ≡ 0 = grind (arith, nat_tests, is) in absurd (omega (arith, some, none))
+    go false is h = h
+
+block-good : (sys : System) (p b r : ℕ) → is_block sys p b ≡ true → is_good sys (entry p b r) ≡ true
+unfolding is_block
+block-good sys p b r h = go (p == 0) refl
+  where
+    go : (u : Bool) → (p == 0) ≡ u → cond u (is_static sys b && (r == 0)) (is_block sys p b) ≡ true
+    go true is =
+        let some : nat_lt 0 p ≡ true = (and_parts (nat_lt 0 p) (nat_le p (length sys.pools)) (and_parts (is_pool sys p) _ h).0).0 in
+        let none : p ≡ 0 = grind (arith, nat_tests, is) in
+        let more : 0 < p = grind (arith, nat_tests, some) in
+        absurd (omega (arith, more, none))
+    go false is = h
+
+static-good : (sys : System) (sig : ℕ) → is_static sys sig ≡ true → is_good sys (entry 0 sig 0) ≡ true
+static-good sys sig h = and_from _ _ h refl
+
+pub rules-known : (sys : System) → Rules sys (claims sys)
+rules-known sys = record {
+  object = λ a is. is;
+  timer = λ t is. is;
+  pool = λ p is. is;
+  new = λ p sig pars first event. (first-there sys (length pars) p first, event);
+  made = λ p n b from sig free pars pool known. known.sure.blocks p n b from sig pars refl pool;
+  good = block-good sys;
+  block = good-block sys;
+  static = static-good sys;
+  takes = λ f l m e ev known. known.took;
+  member = λ a is. is;
+  subscribed = λ sig n set signal known. known.sure.subscribed sig n set refl signal;
+}
+
 module _ (sys : System) (lanes : List (List Rec)) (order A B : List RecordPlace) (x : RecordPlace) (i : Item) (serial : IsSerial lanes order) (split : order ≡ A ++ x ∷ B)
     (at : item_at lanes x ≡ Some i) (words : Words sys lanes) (W : List (List Rec)) (O : List ℕ) (hists : (w : Word) → hist w (all_items W) ≡ on_word w (items_at lanes A)) (world : SoundWorld sys W O)
     (H : List Token) (few : (t : Token) → count_of t H ≤ count_of t (hands_in sys W O)) (o : ℕ) where
-  pub next-may : (b : Body) → i ≡ record { of = o; body = b } → Uses sys o H b → ((p n c from sig : ℕ) (pars : List ℕ) → b ≡ item.New p n c from sig pars → IsTrue (is_pool sys p) → IsTrue (is_block sys p c))
+  pub next-may : (b : Body) → i ≡ record { of = o; body = b } → Uses o (claims sys) H b → ((p n c from sig : ℕ) (pars : List ℕ) → b ≡ item.New p n c from sig pars → IsTrue (is_pool sys p) → IsTrue (is_block sys p c))
       → May sys W (hands_in sys W O) o b
   unfolding May
   next-may (item.Took f l m e) is uses own = took-may sys lanes order A B x i serial split at words W O hists world (hands_in sys W O) H few o f l m e is uses
@@ -114,7 +179,7 @@ module _ (sys : System) (o : ℕ) (L G : List Token) (few : (u : Token) → coun
   LeftAlike (item.Dec p b d k) j h = (n : ℕ) × (j ≡ Left n) × (h ≡ Left n)
   LeftAlike b j h = Unit {0}
 
-  pub hands-same : (b : Body) (j h : Known) (t : Token) → LeftAlike b j h → Uses sys o L b → count_of t (hands_of G b j) + count_of t L ≡ count_of t G + count_of t (hands_of L b h)
+  pub hands-same : (b : Body) (j h : Known) (t : Token) → LeftAlike b j h → Uses o (claims sys) L b → count_of t (hands_of G b j) + count_of t L ≡ count_of t G + count_of t (hands_of L b h)
   unfolding times
   hands-same (item.Took f l m e) j h t alike uses = let first = count-with t e G in let second = count-with t e L in omega (arith, first, second)
   hands-same (item.New p n b from sig pars) j h t alike uses = omega arith

@@ -31,13 +31,14 @@ use Rattle.qp_plain_sound.proofs.EndLemmas.{sum-none}
 use Rattle.qp_plain_sound.proofs.Logs.{log-grows}
 use Rattle.qp_plain_sound.proofs.NewLemmas.{new-sound, no-items, no-lane}
 use Rattle.qp_replay_rerun.specs.Laws.{GoesOn, OneThreadMakesIt, TicksFit, World, made, made_on, placed_at, record_at, with_next}
-use Rattle.qp_replay_rerun.proofs.Along.{Along, Found, Knows, TookGood, along-next, at-record, get-lane, items-get, local, may-this, owned, rules-known, unspilled, uses-this, world-next}
+use Rattle.qp_replay_rerun.proofs.NextMay.{TookGood, claims, rules-known}
+use Rattle.qp_replay_rerun.proofs.Along.{Along, Found, along-next, at-record, get-lane, items-get, local, may-this, owned, unspilled, uses-this, world-next}
 use Rattle.qp_replay_rerun.proofs.Fronts.{below, in-lane, stands-there, tally-permutation, tally-same}
 use Rattle.qp_replay_rerun.proofs.Histories.{by-index, from-index}
 use Rattle.qp_replay_rerun.proofs.LaneSpills.{spill-last}
-use Rattle.qp_replay_rerun.proofs.TokenCalls.{Lin, Uses}
-use Rattle.qp_replay_rerun.proofs.TokenLanes.{owners-lin}
-use Rattle.qp_replay_rerun.proofs.TokenNames.{chart-names}
+use Rattle.qp_replay.proofs.CallRecords.{Lin, Uses}
+use Rattle.qp_replay.proofs.OwnerRecords.{owners-lin}
+use Rattle.qp_replay.proofs.NamedRecords.{chart-names, stimuli-names}
 use Rattle.qp_model.proofs.NumberLemmas.{every-append, every}
 use Rattle.qp_model.proofs.HistoryLemmas.{no-hist}
 use Rattle.qp_model.proofs.ListLemmas.{some-there, every-there}
@@ -129,8 +130,8 @@ placed-push lanes A x r at =
 
 module _ (sys : System) (stimuli : List (List Stim)) (j : Journal) (order : List RecordPlace) (sound : IsSound sys) (fit : StimuliFit sys stimuli) (lawful : Lawful sys stimuli j)
     (serial : IsSerial j.lanes order) where
-  owners : (a o : ℕ) → Lin sys o (Knows sys) [] (records_of (facts_of sys j) o 0 (lane_items (lane_at j a)))
-  owners a o = owners-lin sys stimuli j sound fit lawful (λ p. Knows sys) (rules-known sys) (chart-names sys sound) a o
+  owners : (a o : ℕ) → Lin sys o (claims sys) [] (records_of (facts_of sys j) o 0 (lane_items (lane_at j a)))
+  owners a o = owners-lin sys stimuli j (claims sys) (rules-known sys) (λ is. tt) sound (stimuli-names sys stimuli fit) lawful (chart-names sys sound) a o
 
   objects : ℕ
   objects = top (all_items j.lanes)
@@ -242,7 +243,7 @@ module _ (sys : System) (stimuli : List (List Stim)) (j : Journal) (order : List
       all-at p (l ∷ ls) zero h less = (and_parts _ _ h).0
       all-at p (l ∷ ls) (suc a) h less = all-at p ls a (and_parts _ _ h).1 (omega (arith, less))
 
-  ticks-of : (o : ℕ) (H : List Token) (b : Body) → Uses sys o H b → TicksFit b
+  ticks-of : (o : ℕ) (H : List Token) (b : Body) → Uses o (claims sys) H b → TicksFit b
   ticks-of o H (item.Arm t n ticks interval) h = h.1
   ticks-of o H (item.Rearm t n former ticks) h = h.1
   ticks-of o H b h = tt

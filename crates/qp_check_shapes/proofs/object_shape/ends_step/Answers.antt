@@ -1,4 +1,4 @@
-use Rattle.std.proofs.Common.{◌≡◌, false, not, sym}
+use Rattle.std.proofs.Common.{sym}
 use Rattle.qp_check_calls.specs.AsPiece.{as_cut}
 use Rattle.qp_check_shapes.specs.GroupsLast.{kinds}
 use Rattle.qp_check_shapes.proofs.ObjectTestLemmas.{end-breaks-off, end-releases, end-not, end-uncut}
