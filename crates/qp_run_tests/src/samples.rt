@@ -13,6 +13,47 @@ chart = [{ name = 'lamp', init = 'off', state = [
 object = [{ name = 'lamp', chart = 'lamp', priority = 1, queue = 1 }]
 ";
 
+/// Five philosophers and their table, which the file has first.
+pub const TABLE: &str = "qp = 1
+pool = [{ size = 1, blocks = 8 }, { size = 3, blocks = 8 }]
+signal = [
+  { name = 'TIMEOUT', static = true },
+  { name = 'EAT', params = 1 },
+  { name = 'HUNGRY', params = 3 },
+  { name = 'DONE', params = 3 },
+]
+object = [
+  { name = 'table', chart = 'table', priority = 6, queue = 7, defer = 5 },
+  { name = 'ann', chart = 'phil', priority = 1, queue = 7, vars = { l = 1, r = 2 } },
+  { name = 'bob', chart = 'phil', priority = 2, queue = 7, vars = { l = 2, r = 4 } },
+  { name = 'cat', chart = 'phil', priority = 3, queue = 7, vars = { l = 4, r = 8 } },
+  { name = 'dan', chart = 'phil', priority = 4, queue = 7, vars = { l = 8, r = 16 } },
+  { name = 'eve', chart = 'phil', priority = 5, queue = 7, vars = { l = 16, r = 1 } },
+]
+[[chart]]
+name = 'phil'
+init = 'thinking'
+init_do = ['subscribe EAT']
+vars = { r = 0, l = 0 }
+timer = [{ name = 'T', signal = 'TIMEOUT', rate = 0 }]
+state = [
+  { name = 'thinking', entry = ['arm T(1, 0)'], row = [{ on = 'TIMEOUT', to = 'hungry' }] },
+  { name = 'hungry', entry = ['post table HUNGRY(me, l, r)'], row = [{ on = 'EAT', when = 'p1 == me', to = 'eating' }] },
+  { name = 'eating', entry = ['arm T(1, 0)'], exit = ['post table DONE(me, l, r)'], row = [{ on = 'TIMEOUT', to = 'thinking' }] },
+]
+[[chart]]
+name = 'table'
+init = 'serving'
+vars = { used = 0 }
+[[chart.state]]
+name = 'serving'
+row = [
+  { on = 'HUNGRY', when = 'used / p2 % 2 == 0 && used / p3 % 2 == 0', do = ['used = used + p2 + p3', 'publish EAT(p1)'] },
+  { on = 'HUNGRY', do = ['defer'] },
+  { on = 'DONE', do = ['used = used - p2 - p3', 'recall', 'recall', 'recall'] },
+]
+";
+
 /// A shelf with files of these names and texts.
 pub fn shelf(alloc: Global, files: &[(&str, &str)]) -> Result<MemShelf, AllocError> {
     let mut held = Vec::new(alloc);
@@ -21,6 +62,23 @@ pub fn shelf(alloc: Global, files: &[(&str, &str)]) -> Result<MemShelf, AllocErr
         held.push((ArrayString::from(name).unwrap_or_default(), bytes))?;
     }
     Ok(MemShelf::new(held, Vec::new(alloc)))
+}
+
+/// A shelf with files of these names and texts and one of bytes, called `frames`, of which the loads of these numbers fail.
+pub fn shelf_of(
+    alloc: Global,
+    files: &[(&str, &str)],
+    frames: &[u8],
+    failing: &[u64],
+) -> Result<MemShelf, AllocError> {
+    let frames = Vec::from_slice(alloc, frames)?;
+    let mut held = Vec::new(alloc);
+    held.push((ArrayString::from("frames").unwrap_or_default(), frames))?;
+    for (name, text) in files {
+        let bytes = Vec::from_slice(alloc, text.as_bytes())?;
+        held.push((ArrayString::from(name).unwrap_or_default(), bytes))?;
+    }
+    Ok(MemShelf::new(held, Vec::from_slice(alloc, failing)?))
 }
 
 /// A sink with so much room, in which the puts of these numbers keep so many bytes and fail.
