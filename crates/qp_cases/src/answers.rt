@@ -7,6 +7,7 @@ use qp_tables::escapes;
 use qp_tables::files::{Table, bytes, print_case};
 use std::alloc::{AllocError, Global};
 use std::sync::Wait;
+use std::thread::Threads;
 
 /// The keys whose lines make the bytes of a file, or of the output. `KEY file` has the bytes of a file of `data/`, and `KEY 1000` its
 /// line a thousand times.
@@ -33,7 +34,12 @@ struct Case<'a> {
 }
 
 /// Prints what is answered in the case of a block, once for each text `for`.
-pub fn show<R: Wait>(rt: &HostRuntime, waits: &R, table: &Table, block: &Block) -> Result<()> {
+pub fn show<R: Threads + Wait + Sync>(
+    rt: &HostRuntime,
+    waits: &R,
+    table: &Table,
+    block: &Block,
+) -> Result<()> {
     let name = block.value(table, "case")?;
     let mut has_texts = false;
     for line in &block.lines {
@@ -64,7 +70,7 @@ pub fn show<R: Wait>(rt: &HostRuntime, waits: &R, table: &Table, block: &Block) 
 
 impl Case<'_> {
     /// Prints what is answered under this name.
-    fn show<R: Wait>(&self, waits: &R, name: &str) -> Result<()> {
+    fn show<R: Threads + Wait + Sync>(&self, waits: &R, name: &str) -> Result<()> {
         self.block.has_only(self.table, &OTHERS, &CONTENTS)?;
         let alloc = self.rt.alloc();
         let words = self.block.optional(self.table, "words")?;

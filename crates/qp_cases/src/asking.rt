@@ -6,6 +6,7 @@ use qp_run::qp_main;
 use std::alloc::{AllocError, Global};
 use std::str::from_utf8;
 use std::sync::Wait;
+use std::thread::Threads;
 
 /// The files that a call finds, by their names, the load that fails, and the put of the output that fails at once.
 #[derive(Drop)]
@@ -60,7 +61,7 @@ impl Answer {
 }
 
 /// Calls the program with these words over these files.
-pub fn ask<R: Wait>(
+pub fn ask<R: Threads + Wait + Sync>(
     waits: &R,
     alloc: Global,
     words: &[&str],
@@ -78,7 +79,7 @@ pub fn ask<R: Wait>(
     let mut out = MemSink::new(alloc, 1 << 20, puts).map_err(|_| AllocError)?;
     let mut note = MemSink::new(alloc, 1 << 10, Vec::new(alloc)).map_err(|_| AllocError)?;
     let status = qp_main(
-        waits, alloc, words, &mut shelf, &mut out, &mut note, &NoGate,
+        waits, alloc, words, &mut shelf, &mut out, &mut note, &NoGate, &mut None,
     );
     Ok(Answer {
         status: status.number(),
@@ -89,7 +90,7 @@ pub fn ask<R: Wait>(
 
 /// What the program says of a journal beside its system and its stimuli: `lawful`, the definition that it breaks first with its
 /// place, or a file's fault. What else it answers is told as it is.
-pub fn verdict<R: Wait>(
+pub fn verdict<R: Threads + Wait + Sync>(
     waits: &R,
     alloc: Global,
     system: &str,

@@ -8,6 +8,7 @@ use qp_tables::files::{Table, print_case};
 use qp_tables::runs::{Run, Texts};
 use std::alloc::Global;
 use std::sync::Wait;
+use std::thread::Threads;
 
 /// The keys that each defect has once.
 const KEYS: [&str; 4] = ["defect", "run", "verdict", "why"];
@@ -36,7 +37,7 @@ fn texts_of(rt: &HostRuntime, runs: &[Run], name: &str) -> Result<Option<Texts>>
 }
 
 /// Prints what is said of a defect of a lawful run, or of one beside other files.
-pub fn show<R: Wait>(
+pub fn show<R: Threads + Wait + Sync>(
     rt: &HostRuntime,
     waits: &R,
     table: &Table,

@@ -13,7 +13,7 @@ use Rattle.clap.specs.declared.builder.value_parser.ValueParser.TheVariants as v
 use Rattle.clap.specs.declared.parser.matches.ValueSource.TheVariants.{CommandLine}
 use Rattle.clap.proofs.OnLiterals.{clap_on_literals}
 use Rattle.qp_commands.specs.declared.values.Kernel.{Kernel}
-use Rattle.qp_commands.specs.declared.values.Kernel.TheVariants.{Sim, Qv}
+use Rattle.qp_commands.specs.declared.values.Kernel.TheVariants.{Sim, Qk, Port, Qv}
 use Rattle.qp_commands.specs.declared.values.Form.{Form}
 use Rattle.qp_commands.specs.declared.values.Form.TheVariants.{One, Two}
 use Rattle.qp_commands.specs.declared.values.Output.{Output}
@@ -174,6 +174,8 @@ out_held k o = pending (given (codes "kernel") k ∷ []) (codes "out") o
 kernel_stands : (kernel : Kernel) → walk run_rules [] nothing_held (codes "--kernel" ∷ word_of_kernel kernel ∷ []) ≡ standing (kernel_held (word_of_kernel kernel)) 1
 unfolding run_app clap_on_literals
 kernel_stands Sim = refl
+kernel_stands Qk = refl
+kernel_stands Port = refl
 kernel_stands Qv = refl
 
 out_stands : (k : Text) (out : Output) → fold (walked run_rules []) (standing (kernel_held k) 1) (codes "--out" ∷ word_of_output out ∷ [])
@@ -192,6 +194,8 @@ form_stands k o Two = refl
 kernel_faultless : (kernel : Kernel) → walk_fault (built run_app).top [] (walk_from nothing_held) (codes "--kernel" ∷ word_of_kernel kernel ∷ []) ≡ []
 unfolding run_app clap_on_literals
 kernel_faultless Sim = refl
+kernel_faultless Qk = refl
+kernel_faultless Port = refl
 kernel_faultless Qv = refl
 
 out_faultless : (k : Text) (out : Output) → walk_fault (built run_app).top [] (standing (kernel_held k) 1) (codes "--out" ∷ word_of_output out ∷ []) ≡ []
@@ -236,6 +240,8 @@ module _ (kernel : Kernel) (out : Output) (form : Form) where
 kernel_in-word : (k : Kernel) → kernel_in (Some (word_of_kernel k)) ≡ Some k
 unfolding kernel_in
 kernel_in-word Sim = refl
+kernel_in-word Qk = refl
+kernel_in-word Port = refl
 kernel_in-word Qv = refl
 
 output_in-word : (o : Output) → output_in (Some (word_of_output o)) ≡ Some o

@@ -3,7 +3,7 @@ use Rattle.std.specs.Prelude.{codes, decimal, ℕ, ◌≡◌, ◌≢◌, ◌≤�
 use Rattle.std.specs.List.{list_all}
 use Rattle.clap.specs.Words.{Text}
 use Rattle.qp_commands.specs.declared.values.Kernel.{Kernel}
-use Rattle.qp_commands.specs.declared.values.Kernel.TheVariants.{Sim, Qv}
+use Rattle.qp_commands.specs.declared.values.Kernel.TheVariants.{Sim, Qk, Port, Qv}
 use Rattle.qp_commands.specs.declared.values.Kind.{Kind}
 use Rattle.qp_commands.specs.declared.values.Kind.TheVariants.{Frames, Journal}
 use Rattle.qp_commands.specs.declared.values.Output.{Output}
@@ -56,6 +56,8 @@ OtherWords = (command_in [] ≡ None)
 
 abbrev pub word_of_kernel : Kernel → Text
 word_of_kernel Sim = codes "sim"
+word_of_kernel Qk = codes "qk"
+word_of_kernel Port = codes "port"
 word_of_kernel Qv = codes "qv"
 
 abbrev pub word_of_kind : Kind → Text
@@ -108,7 +110,7 @@ refused_calls = (codes "run" ∷ codes "a" ∷ [])
     ∷ (codes "run" ∷ codes "--help" ∷ [])
     ∷ (codes "run" ∷ codes "-h" ∷ codes "a" ∷ codes "b" ∷ [])
     ∷ (codes "run" ∷ codes "--version" ∷ [])
-    ∷ (codes "run" ∷ codes "--kernel" ∷ codes "qk" ∷ codes "a" ∷ codes "b" ∷ [])
+    ∷ (codes "run" ∷ codes "--kernel" ∷ codes "qp" ∷ codes "a" ∷ codes "b" ∷ [])
     ∷ (codes "run" ∷ codes "--kernel" ∷ codes "qv" ∷ codes "--form" ∷ codes "1" ∷ codes "a" ∷ codes "b" ∷ [])
     ∷ run_with_budget (codes "0")
     ∷ run_with_budget (codes "1000001")

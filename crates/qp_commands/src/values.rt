@@ -9,6 +9,10 @@ use crate::numbers::number;
 pub enum Kernel {
     /// The preemptive kernel in one thread.
     Sim,
+    /// The preemptive kernel in a thread, and each source in one of its own.
+    Qk,
+    /// Each object and each source in a thread of its own.
+    Port,
     /// The cooperative kernel: one step at a time.
     Qv,
 }
@@ -57,6 +61,8 @@ pub(crate) fn kernel_of(value: Option<&str>) -> Option<Kernel>
 {
     match value {
         None | Some("sim") => Some(Kernel::Sim),
+        Some("qk") => Some(Kernel::Qk),
+        Some("port") => Some(Kernel::Port),
         Some("qv") => Some(Kernel::Qv),
         Some(_) => None,
     }
@@ -140,7 +146,7 @@ pub(crate) fn form_under(kernel: Kernel, value: Option<&str>) -> Option<Form>
     ensures { result ≡ form_under kernel (option_map (λ word. word.now) value.entry) }
 {
     match kernel {
-        Kernel::Sim => form_of(value, Form::One),
+        Kernel::Sim | Kernel::Qk | Kernel::Port => form_of(value, Form::One),
         Kernel::Qv => match form_of(value, Form::Two) {
             Some(Form::Two) => Some(Form::Two),
             _ => None,

@@ -17,6 +17,7 @@ use std::io;
 use std::io::IsTerminal;
 use std::process::ExitCode;
 use std::sync::Wait;
+use std::thread::Threads;
 
 /// How output goes on.
 #[derive(Clone, Copy, PartialEq, Eq, Debug)]
@@ -39,7 +40,11 @@ pub struct Ended<O: Drop> {
 ///
 /// Neither files nor streams tell what they hold or got. So no clause can say that the output went to standard output and the note to
 /// standard error; tests see that.
-pub fn process<R: Wait>(rt: &HostRuntime, waits: &R, args: io::Result<Args>) -> ExitCode
+pub fn process<R: Threads + Wait + Sync>(
+    rt: &HostRuntime,
+    waits: &R,
+    args: io::Result<Args>,
+) -> ExitCode
     ensures { EndsUntold args (exit_status result) }
 {
     let flow = if rt.stdout().is_terminal() {
@@ -61,7 +66,7 @@ pub fn process<R: Wait>(rt: &HostRuntime, waits: &R, args: io::Result<Args>) -> 
 
 /// The program over these arguments, of which the first is its name. It ends with the number of its answer; where the arguments
 /// can't be had, that is why.
-pub fn program<R: Wait, F: Shelf, O: Sink + Drop, E: Sink>(
+pub fn program<R: Threads + Wait + Sync, F: Shelf, O: Sink + Drop, E: Sink>(
     rt: &R,
     alloc: Global,
     args: io::Result<Args>,
@@ -91,7 +96,7 @@ fn exit_code(status: &Status) -> ExitCode
 }
 
 /// The answer to these arguments.
-fn answer<R: Wait, F: Shelf, O: Sink + Drop, E: Sink>(
+fn answer<R: Threads + Wait + Sync, F: Shelf, O: Sink + Drop, E: Sink>(
     rt: &R,
     alloc: Global,
     args: io::Result<Args>,
@@ -116,7 +121,7 @@ fn answer<R: Wait, F: Shelf, O: Sink + Drop, E: Sink>(
 }
 
 /// Calls the program with the words among these arguments.
-fn call<R: Wait, F: Shelf, O: Sink + Drop, E: Sink>(
+fn call<R: Threads + Wait + Sync, F: Shelf, O: Sink + Drop, E: Sink>(
     rt: &R,
     alloc: Global,
     args: Args,
@@ -141,9 +146,9 @@ fn call<R: Wait, F: Shelf, O: Sink + Drop, E: Sink>(
     };
     let words = texts.as_slice();
     match flow {
-        Flow::Pieces => in_pieces(rt, alloc, words, files, out, notes, &NoGate),
+        Flow::Pieces => in_pieces(rt, alloc, words, files, out, notes, &NoGate, &mut None),
         Flow::Lines => {
-            let status = qp_main(rt, alloc, words, files, &mut out, notes, &NoGate);
+            let status = qp_main(rt, alloc, words, files, &mut out, notes, &NoGate, &mut None);
             Carried { status, out }
         }
     }

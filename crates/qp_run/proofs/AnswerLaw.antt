@@ -4,9 +4,10 @@ use Rattle.qp_system_alike.proofs.LawLemmas.{lawful_journals_are_one, stimuli_ar
 use Rattle.qp_base.specs.Limits.{file_limit}
 use Rattle.qp_model.specs.declared.stimulus.Stim.{Stim}
 use Rattle.qp_model.specs.declared.systems.System.{System}
-use Rattle.qp_model.specs.Kernels.{port}
+use Rattle.qp_model.specs.Kernels.{port, qk}
+use Rattle.qp_port.specs.Ends.{IsThreadRun}
 use Rattle.qp_model.proofs.LawLemmas.{kernel_rests_where_all_are_empty}
-use Rattle.qp_kernel_runs.specs.SimRun.{IsSimRun}
+use Rattle.qp_kernel_runs.specs.SimRun.{IsQvRun, IsSimRun}
 use Rattle.qp_stim.specs.Stimuli.{Fault, stimuli_of}
 use Rattle.qp_system_tables.specs.declared.fault.SystemFault.{SystemFault}
 use Rattle.qp_system_tables.specs.declared.fault.SystemFault.TheVariants.{Memory as NoMemory}
@@ -14,7 +15,7 @@ use Rattle.qp_system.specs.SystemOf.{IsSystemOf, RefusesSystem}
 use Rattle.qp_system.proofs.LawLemmas.{systems_have_no_fault, refusals_are_one}
 use Rattle.qp_run.specs.declared.status.Status.{Status}
 use Rattle.qp_commands.specs.declared.values.Kernel.{Kernel}
-use Rattle.qp_commands.specs.declared.values.Kernel.TheVariants.{Sim, Qv}
+use Rattle.qp_commands.specs.declared.values.Kernel.TheVariants.{Sim, Qk, Port, Qv}
 use Rattle.qp_commands.specs.declared.values.Kind.{Kind}
 use Rattle.qp_commands.specs.declared.values.Kind.TheVariants.{Frames, Journal as Text}
 use Rattle.qp_run.specs.Checks.{JudgesFiles, JudgesFound, JudgesSecond, JudgesStimuli, JudgesSystem, JudgesThird, verdict_answer}
@@ -78,6 +79,20 @@ module _ (bytes : List ℕ) where
   sim-carries s t p q sources budget j is =
       record { kernel = is.kernel; budget_is = is.budget_is; lawful = lawful_journals_are_one bytes s t sources j p q is.lawful }
 
+  thread-carries : (s t : System) → IsSystemOf bytes s → IsSystemOf bytes t → (sources : List (List Stim)) (kernel budget : ℕ) (j : Journal)
+      → IsThreadRun kernel s sources budget j → IsThreadRun kernel t sources budget j
+  thread-carries s t p q sources kernel budget j is =
+      record { kernel_is = is.kernel_is; budget_is = is.budget_is; lawful = lawful_journals_are_one bytes s t sources j p q is.lawful }
+
+  qv-carries : (s t : System) → IsSystemOf bytes s → IsSystemOf bytes t → (sources : List (List Stim)) (budget : ℕ) (j : Journal) → IsQvRun s sources budget j → IsQvRun t sources budget j
+  qv-carries s t p q sources budget j is =
+      let lawful = lawful_journals_are_one bytes s t sources j p q is.run.lawful in
+      record {
+        run = record { kernel = is.run.kernel; budget_is = is.run.budget_is; lawful = lawful };
+        steps = is.steps;
+        rests = kernel_rests_where_all_are_empty t sources j lawful (λ e. let wrong : 3 ≡ port = sym is.run.kernel ∙ e in cc);
+      }
+
   pub under-carries : (s t : System) → IsSystemOf bytes s → IsSystemOf bytes t → (sources : List (List Stim)) (kernel : Kernel) (budget : ℕ) (j : Journal)
       → IsRunUnder kernel s sources budget j → IsRunUnder kernel t sources budget j
   under-carries s t p q sources Sim budget j is = record {
@@ -85,13 +100,13 @@ module _ (bytes : List ℕ) where
     only = λ short other runs. is.only short other (sim-carries t s q p sources budget other runs);
     only_unspilt = λ unspilt other runs clean. is.only_unspilt unspilt other (sim-carries t s q p sources budget other runs) clean;
   }
-  under-carries s t p q sources Qv budget j is =
-      let lawful = lawful_journals_are_one bytes s t sources j p q is.run.lawful in
-      record {
-        run = record { kernel = is.run.kernel; budget_is = is.run.budget_is; lawful = lawful };
-        steps = is.steps;
-        rests = kernel_rests_where_all_are_empty t sources j lawful (λ e. let wrong : 3 ≡ port = sym is.run.kernel ∙ e in cc);
-      }
+  under-carries s t p q sources Qk budget j is = thread-carries s t p q sources qk budget j is
+  under-carries s t p q sources Port budget j is = thread-carries s t p q sources port budget j is
+  under-carries s t p q sources Qv budget j is = record {
+    run = qv-carries s t p q sources budget j is.run;
+    only = λ short other runs. is.only short other (qv-carries t s q p sources budget other runs);
+    only_unspilt = λ unspilt other runs clean. is.only_unspilt unspilt other (qv-carries t s q p sources budget other runs) clean;
+  }
 
   run-carries : (s t : System) → IsSystemOf bytes s → IsSystemOf bytes t → (sources : List (List Stim)) (kernel : Kernel) (budget : ℕ) (a : Status) → EndsRun s sources kernel budget a → EndsRun t sources kernel budget a
   run-carries s t p q sources kernel budget a (j, is, ends) =

@@ -4,7 +4,7 @@ use Rattle.std.specs.Prelude.{◌==◌, not, nat_le}
 use Rattle.std.specs.List.{list_all}
 use Rattle.std.proofs.lemmas.Bool.{false≢true, and_from, and_parts}
 use Rattle.std.proofs.lemmas.Bool.Decides.{nat_tests}
-use Rattle.qp_model.specs.Kernels.{qv}
+use Rattle.qp_model.specs.Kernels.{port, qk, qv}
 use Rattle.qp_model.specs.declared.journals.Journal.{Journal}
 use Rattle.qp_model.specs.Kinds.{LOOK, REST}
 use Rattle.qp_model.specs.declared.record.Rec.{Rec}
@@ -12,7 +12,9 @@ use Rattle.qp_model.specs.Output.{has_form, has_no_rest, is_in_range, is_lane_in
 use Rattle.qp_model.specs.declared.stimulus.Stim as stimulus
 use Rattle.qp_model.specs.declared.systems.System.{System}
 use Rattle.qp_sim_unique.specs.FormLaws.{CanBeWritten}
-use Rattle.qp_sim_unique.proofs.FormLemmas.{written, written-qv}
+use Rattle.qp_sim_unique.proofs.FormLemmas.{written, written-qk, written-qv}
+use Rattle.qp_port_forms.proofs.PortForms.{written-port}
+use Rattle.qp_port.specs.Ends.{IsThreadRun}
 use Rattle.qp_model.specs.Sound.{IsSound}
 use Rattle.qp_model.specs.Ends.{ends_last}
 use Rattle.qp_model.specs.History.{lane_items}
@@ -21,7 +23,7 @@ use Rattle.qp_summary.specs.Written.{HasStimuli}
 use Rattle.qp_kernel_runs.specs.SimRun.{IsQvRun, IsSimRun}
 use Rattle.qp_run.specs.Printed.{IsRunUnder}
 use Rattle.qp_commands.specs.declared.values.Kernel.{Kernel}
-use Rattle.qp_commands.specs.declared.values.Kernel.TheVariants.{Sim, Qv}
+use Rattle.qp_commands.specs.declared.values.Kernel.TheVariants.{Sim, Qk, Port, Qv}
 use Rattle.qp_commands.specs.declared.values.Form.{Form}
 use Rattle.qp_commands.specs.declared.values.Form.TheVariants.{One, Two}
 use Rattle.qp_commands.specs.WordTable.{is_form_of, number_of_form}
@@ -109,7 +111,9 @@ range-moves form Two j within has =
 pub run-lawful : (sys : System) (sources : List (List stimulus.Stim)) (kernel : Kernel) (budget : ℕ) (j : Journal) → IsRunUnder kernel sys sources budget j
     → Lawful sys sources j
 run-lawful sys sources Sim budget j is = is.run.lawful
-run-lawful sys sources Qv budget j is = is.run.lawful
+run-lawful sys sources Qk budget j is = is.lawful
+run-lawful sys sources Port budget j is = is.lawful
+run-lawful sys sources Qv budget j is = is.run.run.lawful
 
 -- it has each form of its kernel, and is in range for it
 module _ (sys : System) (sources : List (List stimulus.Stim)) (budget : ℕ) (j : Journal) (sound : IsSound sys) (few : length sources ≤ 16)
@@ -120,17 +124,29 @@ module _ (sys : System) (sources : List (List stimulus.Stim)) (budget : ℕ) (j 
   qv-written : IsQvRun sys sources budget j → CanBeWritten 2 j
   qv-written is = written-qv sys sources j sound few is.run.kernel (rw is.run.budget_is some) (rw is.run.budget_is most) is.run.lawful
 
+  qk-written : IsThreadRun qk sys sources budget j → CanBeWritten 1 j
+  qk-written is = written-qk sys sources j sound few is.kernel_is (rw is.budget_is some) (rw is.budget_is most) is.lawful
+
+  port-written : IsThreadRun port sys sources budget j → CanBeWritten 1 j
+  port-written is = written-port sys sources j sound few is.kernel_is (rw is.budget_is some) (rw is.budget_is most) is.lawful
+
   pub run-form : (kernel : Kernel) → IsRunUnder kernel sys sources budget j → (to : Form) → is_form_of kernel to ≡ true
       → has_form (number_of_form to) j ≡ true
   run-form Sim is One fits = (sim-written is.run).has
   run-form Sim is Two fits = refl
+  run-form Qk is One fits = (qk-written is).has
+  run-form Qk is Two fits = refl
+  run-form Port is One fits = (port-written is).has
+  run-form Port is Two fits = refl
   run-form Qv is One fits = absurd (false≢true fits)
   run-form Qv is Two fits = refl
 
   pub run-range : (kernel : Kernel) → IsRunUnder kernel sys sources budget j → (to : Form) → is_form_of kernel to ≡ true
       → is_in_range (number_of_form to) j ≡ true
   run-range Sim is to fits = range-moves 1 to j (sim-written is.run).range (run-form Sim is to fits)
-  run-range Qv is to fits = range-moves 2 to j (qv-written is).range (run-form Qv is to fits)
+  run-range Qk is to fits = range-moves 1 to j (qk-written is).range (run-form Qk is to fits)
+  run-range Port is to fits = range-moves 1 to j (port-written is).range (run-form Port is to fits)
+  run-range Qv is to fits = range-moves 2 to j (qv-written is.run).range (run-form Qv is to fits)
 
 -- it has few lanes
 pub lanes-few : (form : ℕ) (j : Journal) → is_in_range form j ≡ true → length j.lanes ≤ 49

@@ -9,5 +9,6 @@ mod ReplayLemmas
 mod CompleteLemmas
 mod AbleLemmas
 mod RunLemmas
+pub mod SealLemmas
 pub mod CallLemmas
 mod OutputLaw

@@ -12,7 +12,7 @@ use Rattle.qp_replay.specs.declared.places.Replayed.TheVariants.{Cycle}
 use Rattle.qp_replay.specs.Text.{replayed_text}
 use Rattle.qp_run.specs.declared.status.Status.{Status}
 use Rattle.qp_commands.specs.declared.values.Kernel.{Kernel}
-use Rattle.qp_commands.specs.declared.values.Kernel.TheVariants.{Sim, Qv}
+use Rattle.qp_commands.specs.declared.values.Kernel.TheVariants.{Sim, Qk, Port, Qv}
 use Rattle.qp_commands.specs.declared.values.Output.{Output}
 use Rattle.qp_commands.specs.declared.values.Output.TheVariants.{Summary}
 use Rattle.qp_commands.specs.WordTable.{Asked, CheckWords, generate, number_of_form, replay, run}
@@ -32,11 +32,17 @@ HasSpill j = list_any (λ i. is_spill i.body) (all_items j.lanes) ≡ true
 abbrev pub MayLeave : (i j : journal.Journal) → Type 0
 MayLeave i j = IsFalse (is_short i) ⊎ HaltedFull j
 
--- where runs under this kernel may leave two journals: under `sim` only where a lane of one of them ended with a `spill`, and each has
--- a lane of more than 999,992 records unless lane 0 of the other ended with a `spill`
+-- where runs with one thread may leave two journals: only where a lane of one of them ended with a `spill`, and each has a lane of more
+-- than 999,992 records unless lane 0 of the other ended with a `spill`
+abbrev pub HaveSpilt : (i j : journal.Journal) → Type 0
+HaveSpilt i j = (HasSpill i ⊎ HasSpill j) × (MayLeave i j × MayLeave j i)
+
+-- where runs under this kernel may leave two journals
 abbrev pub MayBeTwo : Kernel → (i j : journal.Journal) → Type 0
-MayBeTwo Sim i j = (HasSpill i ⊎ HasSpill j) × (MayLeave i j × MayLeave j i)
-MayBeTwo Qv i j = ⊤
+MayBeTwo Sim i j = HaveSpilt i j
+MayBeTwo Qk i j = ⊤
+MayBeTwo Port i j = ⊤
+MayBeTwo Qv i j = HaveSpilt i j
 
 -- two runs of one system and its stimuli, which are named so, under one kernel with one budget, that may leave two journals
 pub record TwoRuns (AreNamed : System → List (List Stim) → Type 0) (kernel : Kernel) (budget : ℕ) : Type 0 where
@@ -60,7 +66,7 @@ MayDiffer held (Some (generate n)) a b = EndRuns (IsMade n) Sim made_budget a b
 MayDiffer held _ a b = ⊥
 
 -- No call over files has two answers, but for a call that runs. There the words and files leave one refusal, or else one system with its
--- stimuli; a number makes one such system. Two answers are what the records of two lawful journals of these say: under `qv`, or where a
+-- stimuli; a number makes one such system. Two answers are what the records of two lawful journals of these say: with threads, or where a
 -- lane of one of them ended with a `spill` (`MayBeTwo`).
 abbrev pub OneAnswer : Type 0
 OneAnswer = (held : Held) (asked : Option Asked) (a b : Status) → IsAnswer held asked a → IsAnswer held asked b → (a ≡ b) ⊎ MayDiffer held asked a b

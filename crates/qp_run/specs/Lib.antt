@@ -7,4 +7,5 @@ pub mod Checks
 pub mod Replays
 pub mod Printed
 pub mod Verdict
+pub mod Sealed
 pub mod Laws

@@ -10,13 +10,15 @@ use Rattle.qp_model.specs.Output.{has_form, is_in_range}
 use Rattle.qp_model.specs.OutputSummary.{IsSummary}
 use Rattle.qp_summary.specs.Written.{joined}
 use Rattle.qp_kernel_runs.specs.SimRun.{IsQvRun, IsSimRun}
+use Rattle.qp_model.specs.Kernels.{port, qk}
+use Rattle.qp_port.specs.Ends.{IsThreadRun}
 use Rattle.qp_gen.specs.Made.{IsMade}
 use Rattle.qp_sim_unique.specs.JournalLaws.{IsUnspilt}
 use Rattle.qp_sim_unique.specs.Tidy.{is_short}
 use Rattle.qp_run.specs.declared.status.Status.{Status}
 use Rattle.qp_run.specs.declared.status.Status.TheVariants.{Memory}
 use Rattle.qp_commands.specs.declared.values.Kernel.{Kernel}
-use Rattle.qp_commands.specs.declared.values.Kernel.TheVariants.{Sim, Qv}
+use Rattle.qp_commands.specs.declared.values.Kernel.TheVariants.{Sim, Qk, Port, Qv}
 use Rattle.qp_commands.specs.declared.values.Output.{Output}
 use Rattle.qp_commands.specs.declared.values.Output.TheVariants.{Whole, Summary}
 use Rattle.qp_run.specs.Conversions.{IsWrittenAs, written}
@@ -26,25 +28,26 @@ use Rattle.qp_run.specs.Endings.{ending_of}
 abbrev pub HaltedFull : Journal → Type 0
 HaltedFull j = spills_in (lane_items (lane_at j 0)) ≡ true
 
--- where no lane has more than 999,992 records, this is the only such journal of `sim` for this system, these stimuli and this budget, but
--- for one whose lane 0 ended with a `spill`
-abbrev pub IsOnlyJournal : System → List (List Stim) → ℕ → Journal → Type 0
-IsOnlyJournal sys sources budget j = IsTrue (is_short j) → (other : Journal) → IsSimRun sys sources budget other → (other ≡ j) ⊎ HaltedFull other
+-- where no lane has more than 999,992 records, this is the only such journal, but for one whose lane 0 ended with a `spill`
+abbrev pub IsOnlyJournal : (Journal → Type 0) → Journal → Type 0
+IsOnlyJournal IsRun j = IsTrue (is_short j) → (other : Journal) → IsRun other → (other ≡ j) ⊎ HaltedFull other
 
 -- and where no lane ended with a `spill`, it is the only one of these, however long its lanes are
-abbrev pub IsOnlyUnspilt : System → List (List Stim) → ℕ → Journal → Type 0
-IsOnlyUnspilt sys sources budget j = IsUnspilt j → (other : Journal) → IsSimRun sys sources budget other → IsUnspilt other → other ≡ j
+abbrev pub IsOnlyUnspilt : (Journal → Type 0) → Journal → Type 0
+IsOnlyUnspilt IsRun j = IsUnspilt j → (other : Journal) → IsRun other → IsUnspilt other → other ≡ j
 
--- what a run under `sim` leaves
-pub record IsOnlyRun (sys : System) (sources : List (List Stim)) (budget : ℕ) (j : Journal) : Type 0 where
-  pub run : IsSimRun sys sources budget j
-  pub only : IsOnlyJournal sys sources budget j
-  pub only_unspilt : IsOnlyUnspilt sys sources budget j
+-- what a run with one thread leaves
+pub record IsOnlyRun (IsRun : Journal → Type 0) (j : Journal) : Type 0 where
+  pub run : IsRun j
+  pub only : IsOnlyJournal IsRun j
+  pub only_unspilt : IsOnlyUnspilt IsRun j
 
 -- a journal that a run of this system and these stimuli may leave under this kernel with this budget
 abbrev pub IsRunUnder : Kernel → System → List (List Stim) → ℕ → Journal → Type 0
-IsRunUnder Sim sys sources budget j = IsOnlyRun sys sources budget j
-IsRunUnder Qv sys sources budget j = IsQvRun sys sources budget j
+IsRunUnder Sim sys sources budget j = IsOnlyRun (λ other. IsSimRun sys sources budget other) j
+IsRunUnder Qk sys sources budget j = IsThreadRun qk sys sources budget j
+IsRunUnder Port sys sources budget j = IsThreadRun port sys sources budget j
+IsRunUnder Qv sys sources budget j = IsOnlyRun (λ other. IsQvRun sys sources budget other) j
 
 -- what is printed of a journal: the whole of it in this form, or the lines of its summary one after another
 unfoldable pub IsPrintOf : Output → ℕ → System → Journal → List ℕ → Type 0

@@ -6,6 +6,7 @@ mod conversions;
 pub mod laws;
 mod loading;
 mod place;
+mod ran;
 mod reading;
 mod replaying;
 mod runs;
@@ -13,5 +14,6 @@ mod status;
 mod top;
 
 pub use place::Place;
+pub use ran::kept_seal;
 pub use status::Status;
 pub use top::{Answered, answer, qp_main, report, tell};

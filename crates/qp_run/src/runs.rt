@@ -1,5 +1,5 @@
 //! Runs, and what of them is printed.
-ghost use Rattle.std.specs.Prelude.{ℕ, ◌≡◌, ◌≢◌, ◌⊎◌, ◌<◌, ◌≤◌, length, true, IfOk, IfErr, IsTrue};
+ghost use Rattle.std.specs.Prelude.{ℕ, ◌≡◌, ◌≢◌, ◌⊎◌, ◌<◌, ◌≤◌, length, true, IfOk, IfErr, IsTrue, None, Some, if◌then◌else◌, option_map};
 ghost use Rattle.std.specs.List.{AllByRecursion, list_all};
 ghost use Rattle.qp_check_course.specs.Followable.{IsFollowable};
 ghost use Rattle.qp_model.specs.Ends.{ends_last};
@@ -11,25 +11,30 @@ ghost use Rattle.qp_stim.specs.Rules.{StimuliFit};
 ghost use Rattle.qp_summary.specs.Written.{HasStimuli};
 ghost use Rattle.qp_run.specs.Conversions.{PrintsOne};
 ghost use Rattle.qp_run.specs.Endings.{ending_of};
-ghost use Rattle.qp_run.specs.Printed.{IsPrinted, IsRunUnder, PrintsMade, PrintsOf, PrintsRun};
+ghost use Rattle.qp_run.specs.Printed.{IsPrinted, IsRunUnder, PrintsMade, PrintsOf, PrintsRun, made_budget};
+ghost use Rattle.qp_run.specs.Sealed.{IsSealed, IsSealedRun, SealsOne, journal_of, rests_of, sealed_in};
 ghost use Rattle.qp_run.specs.Verdict.{AgreesRun, Count, EndsMade, HasCause, IsInput, IsRun, count_of, is_failure, is_refusal, quiet, reads_of, writes_of};
-ghost use Rattle.qp_commands.specs.WordTable.{is_form_of, number_of_form};
+ghost use Rattle.qp_commands.specs.WordTable.{has_threads, is_form_of, number_of_form};
 ghost use Rattle.qp_run.specs.declared.status.Status.{Status};
+ghost use Rattle.qp_commands.specs.declared.values.Kernel.TheVariants.{Sim, Qv};
 ghost use Rattle.qp_commands.specs.declared.values.Output.TheVariants.{Summary};
 
 use crate::conversions::write;
 use crate::loading::load;
+use crate::ran::{Finished, Ran};
 use crate::reading::{stimuli_in, system_in};
 use crate::status::Status;
-use qp_base::{Memory, Shelf, Sink};
+use qp_base::{Gate, Memory, Shelf, Sink};
 use qp_commands::{Form, Kernel, Output};
 use qp_gen::generate;
-use qp_kernel_end::outcome_of;
+use qp_kernel_end::{Rest, outcome_of};
 use qp_kernel_runs::{Simulated, qv_with_rests, sim_with_rests};
 use qp_model::{Journal, Stimuli, System};
+use qp_port_runs::{run_port, run_qk};
 use qp_summary::{SummaryFault, write_summary_at};
 use std::alloc::Global;
 use std::sync::Wait;
+use std::thread::Threads;
 
 /// The answer on a run with this journal.
 #[tactic(auto, unfolding(crate::specs::Endings::ending_of))]
@@ -45,18 +50,19 @@ fn ending_of(journal: &Journal) -> Status
 fn summarize<O: Sink>(
     alloc: Global,
     system: &System,
-    run: &Simulated,
+    journal: &Journal,
+    rests: &[Rest],
     told: Status,
     out: &mut O,
 ) -> Status
     requires followable { AllByRecursion (IsFollowable system.now) system.now.objects }
-    requires lawful { HasStimuli system.now run.now.journal }
-    requires rests { AreRestsIn system.now run.now.journal run.now.rests.items }
-    requires told { told ≡ ending_of run.now.journal }
-    ensures { (form : ℕ) → IsPrinted (PrintsOf Summary form system.now run.now.journal)
+    requires lawful { HasStimuli system.now journal.now }
+    requires rests { AreRestsIn system.now journal.now rests.now }
+    requires told { told ≡ ending_of journal.now }
+    ensures { (form : ℕ) → IsPrinted (PrintsOf Summary form system.now journal.now)
         (O.written out.old) (O.written out.new) (O.faults out.old) (O.faults out.new) result }
 {
-    match write_summary_at(alloc, system, &run.journal, &run.rests, out) {
+    match write_summary_at(alloc, system, journal, rests, out) {
         Ok(()) => told,
         Err(SummaryFault::Memory) => Status::Memory,
         Err(SummaryFault::Failed) => Status::WriteFault,
@@ -67,31 +73,31 @@ fn summarize<O: Sink>(
 fn print<O: Sink>(
     alloc: Global,
     system: &System,
-    run: &Simulated,
+    journal: &Journal,
+    rests: &[Rest],
     output: Output,
     form: Form,
     out: &mut O,
 ) -> Status
-    requires form { IsTrue (has_form (number_of_form form) run.now.journal) }
-    requires range { IsTrue (is_in_range (number_of_form form) run.now.journal) }
+    requires form { IsTrue (has_form (number_of_form form) journal.now) }
+    requires range { IsTrue (is_in_range (number_of_form form) journal.now) }
     requires followable { AllByRecursion (IsFollowable system.now) system.now.objects }
-    requires lawful { HasStimuli system.now run.now.journal }
-    requires rests { AreRestsIn system.now run.now.journal run.now.rests.items }
-    ensures { IsPrinted (PrintsOf output (number_of_form form) system.now run.now.journal)
+    requires lawful { HasStimuli system.now journal.now }
+    requires rests { AreRestsIn system.now journal.now rests.now }
+    ensures { IsPrinted (PrintsOf output (number_of_form form) system.now journal.now)
         (O.written out.old) (O.written out.new) (O.faults out.old) (O.faults out.new) result }
 {
-    let told = ending_of(&run.journal);
+    let told = ending_of(journal);
     match output {
-        Output::Whole(kind) => write(&run.journal, kind, form.number(), told, out),
-        Output::Summary => summarize(alloc, system, run, told, out),
+        Output::Whole(kind) => write(journal, kind, form.number(), told, out),
+        Output::Summary => summarize(alloc, system, journal, rests, told, out),
     }
 }
 
-/// Runs a system on its stimuli under this kernel.
-fn run_under<R: Wait>(
+/// Runs a system on its stimuli under `sim`: its journal is the only one of its kind.
+fn run_alone<R: Wait>(
     rt: &R,
     alloc: Global,
-    kernel: Kernel,
     system: &System,
     stimuli: &Stimuli,
     budget: u32,
@@ -100,17 +106,58 @@ fn run_under<R: Wait>(
     requires fit { StimuliFit system.now stimuli.now }
     requires some { 0 < budget }
     requires few { budget ≤ 1000000 }
-    ensures run { IfOk result (λ run. IsRunUnder kernel system.now stimuli.now budget run.journal) }
+    ensures run { IfOk result (λ run. IsRunUnder Sim system.now stimuli.now budget run.journal) }
     ensures rests { IfOk result (λ run. AreRestsIn system.now run.journal run.rests.items) }
 {
+    sim_with_rests(rt, alloc, system, stimuli, budget)
+}
+
+/// The same under `qv`.
+fn run_in_turn<R: Wait>(
+    rt: &R,
+    alloc: Global,
+    system: &System,
+    stimuli: &Stimuli,
+    budget: u32,
+) -> Result<Simulated, Memory>
+    requires sound { IsSound system.now }
+    requires fit { StimuliFit system.now stimuli.now }
+    requires some { 0 < budget }
+    requires few { budget ≤ 1000000 }
+    ensures run { IfOk result (λ run. IsRunUnder Qv system.now stimuli.now budget run.journal) }
+    ensures rests { IfOk result (λ run. AreRestsIn system.now run.journal run.rests.items) }
+{
+    qv_with_rests(rt, alloc, system, stimuli, budget)
+}
+
+/// Runs a system on its stimuli under this kernel. One with threads hands the gate to its lanes.
+fn run_under<R: Threads + Wait + Sync, G: Gate>(
+    rt: &R,
+    alloc: Global,
+    kernel: Kernel,
+    system: &System,
+    stimuli: &Stimuli,
+    budget: u32,
+    gate: &G,
+) -> Result<Ran, Memory>
+    requires sound { IsSound system.now }
+    requires fit { StimuliFit system.now stimuli.now }
+    requires some { 0 < budget }
+    requires few { budget ≤ 1000000 }
+    ensures run { IfOk result (λ ran. IsRunUnder kernel system.now stimuli.now budget (journal_of ran)) }
+    ensures rests { IfOk result (λ ran. AreRestsIn system.now (journal_of ran) (rests_of ran)) }
+    ensures seal { IfOk result (λ ran. sealed_in ran ≡ if has_threads kernel then Some (journal_of ran) else None) }
+{
     match kernel {
-        Kernel::Sim => sim_with_rests(rt, alloc, system, stimuli, budget),
-        Kernel::Qv => qv_with_rests(rt, alloc, system, stimuli, budget),
+        Kernel::Sim => run_alone(rt, alloc, system, stimuli, budget).map(Ran::Alone),
+        Kernel::Qk => run_qk(rt, alloc, system, stimuli, budget, gate).map(Ran::Threaded),
+        Kernel::Port => run_port(rt, alloc, system, stimuli, budget, gate).map(Ran::Threaded),
+        Kernel::Qv => run_in_turn(rt, alloc, system, stimuli, budget).map(Ran::Alone),
     }
 }
 
 /// Runs a system on its stimuli, and prints what is asked for.
-fn run_and_print<R: Wait, O: Sink>(
+fn run_and_print<R: Threads + Wait + Sync, O: Sink, G: Gate>(
     rt: &R,
     alloc: Global,
     kernel: Kernel,
@@ -120,18 +167,28 @@ fn run_and_print<R: Wait, O: Sink>(
     output: Output,
     form: Form,
     out: &mut O,
-) -> Status
+    gate: &G,
+) -> Finished
     requires sound { IsSound system.now }
     requires fit { StimuliFit system.now stimuli.now }
     requires some { 0 < budget }
     requires few { budget ≤ 1000000 }
     requires form { is_form_of kernel form ≡ true }
-    ensures { IsPrinted (PrintsRun system.now stimuli.now kernel budget output (number_of_form form))
-        (O.written out.old) (O.written out.new) (O.faults out.old) (O.faults out.new) result }
+    ensures out { IsPrinted (PrintsRun system.now stimuli.now kernel budget output (number_of_form form))
+        (O.written out.old) (O.written out.new) (O.faults out.old) (O.faults out.new) result.status }
+    ensures seal { SealsOne (has_threads kernel) result.status
+        (IsSealedRun system.now stimuli.now kernel budget output (number_of_form form) (O.written out.old) (O.written out.new) result.status)
+        (option_map (λ s. s.journal) result.seal) }
 {
-    match run_under(rt, alloc, kernel, system, stimuli, budget) {
-        Ok(simulated) => print(alloc, system, &simulated, output, form, out),
-        Err(_) => Status::Memory,
+    match run_under(rt, alloc, kernel, system, stimuli, budget, gate) {
+        Ok(ran) => {
+            let status = print(alloc, system, ran.journal(), ran.rests(), output, form, out);
+            ran.finished(status)
+        }
+        Err(_) => Finished {
+            status: Status::Memory,
+            seal: None,
+        },
     }
 }
 
@@ -167,7 +224,7 @@ fn prepare<F: Shelf>(
 }
 
 /// Runs two files, and prints what is asked for.
-pub fn run_files<R: Wait, F: Shelf, O: Sink>(
+pub fn run_files<R: Threads + Wait + Sync, F: Shelf, O: Sink, G: Gate>(
     rt: &R,
     alloc: Global,
     files: &mut F,
@@ -178,15 +235,19 @@ pub fn run_files<R: Wait, F: Shelf, O: Sink>(
     output: Output,
     form: Form,
     out: &mut O,
-) -> Status
+    gate: &G,
+) -> Finished
     requires some { 0 < budget }
     requires few { budget ≤ 1000000 }
     requires form { is_form_of kernel form ≡ true }
-    ensures told { AgreesRun (F.holds files.old) system.now stimuli.now kernel budget result }
-    ensures about { result ≢ Status.Words }
-    ensures cause { HasCause (writes_of F.faults F.misses O.faults files.old files.new out.old out.new) result }
+    ensures told { AgreesRun (F.holds files.old) system.now stimuli.now kernel budget result.status }
+    ensures about { result.status ≢ Status.Words }
+    ensures cause { HasCause (writes_of F.faults F.misses O.faults files.old files.new out.old out.new) result.status }
     ensures out { PrintsOne (IsRun (F.holds files.old) system.now stimuli.now kernel budget output (number_of_form form))
-        (O.written out.old) (O.written out.new) result }
+        (O.written out.old) (O.written out.new) result.status }
+    ensures seal { SealsOne (has_threads kernel) result.status
+        (IsSealed (F.holds files.old) system.now stimuli.now kernel budget output (number_of_form form) (O.written out.old) (O.written out.new) result.status)
+        (option_map (λ s. s.journal) result.seal) }
     ensures holds { F.holds files.new ≡ F.holds files.old }
 {
     match prepare(alloc, files, system, stimuli) {
@@ -200,13 +261,41 @@ pub fn run_files<R: Wait, F: Shelf, O: Sink>(
             output,
             form,
             out,
+            gate,
         ),
-        Err(status) => status,
+        Err(status) => Finished { status, seal: None },
     }
 }
 
 /// The budget of a run of what a number makes.
 const MADE_BUDGET: u32 = 100_000;
+
+/// Runs a system on its stimuli under `sim` with this budget, and prints the summary.
+fn run_and_summarize<R: Wait, O: Sink>(
+    rt: &R,
+    alloc: Global,
+    system: &System,
+    stimuli: &Stimuli,
+    out: &mut O,
+) -> Status
+    requires sound { IsSound system.now }
+    requires fit { StimuliFit system.now stimuli.now }
+    ensures { IsPrinted (PrintsRun system.now stimuli.now Sim made_budget Summary 1)
+        (O.written out.old) (O.written out.new) (O.faults out.old) (O.faults out.new) result }
+{
+    match run_alone(rt, alloc, system, stimuli, MADE_BUDGET) {
+        Ok(ran) => print(
+            alloc,
+            system,
+            &ran.journal,
+            ran.rests.as_slice(),
+            Output::Summary,
+            Form::One,
+            out,
+        ),
+        Err(_) => Status::Memory,
+    }
+}
 
 /// Runs the system and the stimuli that a number makes under `sim`, and prints the summary.
 pub fn run_made<R: Wait, O: Sink>(rt: &R, alloc: Global, number: u32, out: &mut O) -> Status
@@ -219,17 +308,7 @@ pub fn run_made<R: Wait, O: Sink>(rt: &R, alloc: Global, number: u32, out: &mut 
     ensures out { PrintsOne (PrintsMade number) (O.written out.old) (O.written out.new) result }
 {
     match generate(alloc, number) {
-        Ok((system, stimuli)) => run_and_print(
-            rt,
-            alloc,
-            Kernel::Sim,
-            &system,
-            &stimuli,
-            MADE_BUDGET,
-            Output::Summary,
-            Form::One,
-            out,
-        ),
+        Ok((system, stimuli)) => run_and_summarize(rt, alloc, &system, &stimuli, out),
         Err(_) => Status::Memory,
     }
 }

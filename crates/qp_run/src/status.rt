@@ -3,6 +3,7 @@ ghost use Rattle.std.specs.Prelude.{codes, ◌≡◌, ◌++◌, ◌≤◌, Optio
 ghost use Rattle.qp_run.specs.Endings.{status_of};
 ghost use Rattle.qp_run.specs.Notes.{number_of, line_of, named_line, names_file, file_of, is_done, place_text, site_text};
 ghost use Rattle.qp_run.specs.Refusals.{system_refusal, stimuli_refusal};
+ghost use Rattle.qp_run.specs.Sealed.{is_run_ended};
 ghost use Rattle.qp_commands.specs.WordTable.{Asked, operand_in};
 
 use crate::place::Place;
@@ -54,6 +55,16 @@ impl Status {
             Outcome::Quiet => Status::Done,
             Outcome::Asserted { code, lane } => Status::Asserted { code, lane },
             Outcome::Spent { lane } => Status::Spent { lane },
+        }
+    }
+
+    /// Whether it is that of a run that came to its end by itself, whatever the end.
+    pub fn is_run_ended(&self) -> bool
+        ensures { result ≡ is_run_ended self.now }
+    {
+        match self {
+            Status::Done | Status::Asserted { .. } | Status::Spent { .. } => true,
+            _ => false,
         }
     }
 

@@ -1,35 +1,42 @@
 //! The top call.
-ghost use Rattle.std.specs.Prelude.{◌≡◌, ◌≢◌, ◌⊎◌, true, false, Option, Some, IfSome};
+ghost use Rattle.std.specs.Prelude.{◌≡◌, ◌≢◌, ◌⊎◌, true, false, Option, Some, IfSome, option_map};
 ghost use Rattle.qp_base.specs.Counts.{Rose};
 ghost use Rattle.qp_base.specs.Sink.{AppendsPrefix, appended};
 ghost use Rattle.qp_run.specs.Notes.{names_file};
+ghost use Rattle.qp_run.specs.Sealed.{Seals};
 ghost use Rattle.qp_run.specs.Verdict.{Agrees, AnswersWords, HasCause, IsCall, IsNamed, IsPutFor, Noted, Prints, Stands, count_of, stream_of, writes_of};
 ghost use Rattle.qp_commands.specs.WordTable.{Asked, asked_of, command_in, is_in_limits, texts};
 ghost use Rattle.qp_run.specs.declared.status.Status.{Status};
 
 use crate::checking::check_files;
 use crate::conversions::{decode, migrate};
+use crate::ran::{Finished, kept_seal};
 use crate::replaying::replay_files;
 use crate::runs::{run_files, run_made};
 use crate::status::Status;
 use qp_base::{Gate, Shelf, Sink};
 use qp_commands::{Command, command_of};
+use qp_shared::Sealed;
 use std::alloc::{AllocError, Global};
 use std::sync::Wait;
+use std::thread::Threads;
 
 /// Does what a call asks for. No line is put yet.
-fn carry_out<R: Wait, F: Shelf, O: Sink>(
+fn carry_out<R: Threads + Wait + Sync, F: Shelf, O: Sink, G: Gate>(
     rt: &R,
     alloc: Global,
     command: &Command<'_>,
     files: &mut F,
     out: &mut O,
-) -> Status
-    requires { is_in_limits (asked_of command.now) ≡ true }
-    ensures told { IfSome (F.holds files.old) (λ held. Agrees held (Some (asked_of command.now)) result) }
-    ensures about { result ≢ Status.Words }
-    ensures cause { HasCause (writes_of F.faults F.misses O.faults files.old files.new out.old out.new) result }
-    ensures out { Prints (F.holds files.old) (Some (asked_of command.now)) (O.written out.old) (O.written out.new) result }
+    gate: &G,
+) -> Finished
+    requires limits { is_in_limits (asked_of command.now) ≡ true }
+    ensures told { IfSome (F.holds files.old) (λ held. Agrees held (Some (asked_of command.now)) result.status) }
+    ensures about { result.status ≢ Status.Words }
+    ensures cause { HasCause (writes_of F.faults F.misses O.faults files.old files.new out.old out.new) result.status }
+    ensures out { Prints (F.holds files.old) (Some (asked_of command.now)) (O.written out.old) (O.written out.new) result.status }
+    ensures seal { Seals (F.holds files.old) (Some (asked_of command.now)) (stream_of O.written out.old out.new) result.status
+        (option_map (λ s. s.journal) result.seal) }
     ensures holds { F.holds files.new ≡ F.holds files.old }
 {
     match command {
@@ -41,58 +48,81 @@ fn carry_out<R: Wait, F: Shelf, O: Sink>(
             system,
             stimuli,
         } => run_files(
-            rt, alloc, files, system, stimuli, *kernel, *budget, *output, *form, out,
+            rt, alloc, files, system, stimuli, *kernel, *budget, *output, *form, out, gate,
         ),
-        Command::Decode { frames } => decode(alloc, files, frames, out),
-        Command::Migrate { from, to, file } => migrate(alloc, files, *from, *to, file, out),
+        Command::Decode { frames } => Finished {
+            status: decode(alloc, files, frames, out),
+            seal: None,
+        },
+        Command::Migrate { from, to, file } => Finished {
+            status: migrate(alloc, files, *from, *to, file, out),
+            seal: None,
+        },
         Command::Check {
             system,
             stimuli,
             journal,
-        } => check_files(alloc, files, system, stimuli, journal, out),
+        } => Finished {
+            status: check_files(alloc, files, system, stimuli, journal, out),
+            seal: None,
+        },
         Command::Replay {
             system,
             stimuli,
             journal,
-        } => replay_files(alloc, files, system, stimuli, journal, out),
-        Command::Generate { number } => run_made(rt, alloc, *number, out),
+        } => Finished {
+            status: replay_files(alloc, files, system, stimuli, journal, out),
+            seal: None,
+        },
+        Command::Generate { number } => Finished {
+            status: run_made(rt, alloc, *number, out),
+            seal: None,
+        },
     }
 }
 
-/// How a call was answered, and the word of the file that the answer is about.
+/// How a call was answered, the word of the file that the answer is about, and the sealed journal of a run with threads that ended by
+/// itself.
+#[derive(Drop)]
 pub struct Answered<'w> {
     pub status: Status,
     pub name: &'w str,
+    pub seal: Option<Sealed>,
 }
 
 /// Reads the words of a call and does what they ask for. No line is put yet.
-pub fn answer<'w, R: Wait, F: Shelf, O: Sink>(
+pub fn answer<'w, R: Threads + Wait + Sync, F: Shelf, O: Sink, G: Gate>(
     rt: &R,
     alloc: Global,
     words: &'w [&'w str],
     files: &mut F,
     out: &mut O,
+    gate: &G,
 ) -> Answered<'w>
     ensures told { IfSome (F.holds files.old) (λ held. Agrees held (command_in (texts words.entry.now)) result.status) }
     ensures words_told { AnswersWords (command_in (texts words.entry.now)) result.status }
     ensures name { IsNamed (command_in (texts words.entry.now)) result.status result.name.now }
     ensures cause { HasCause (writes_of F.faults F.misses O.faults files.old files.new out.old out.new) result.status }
     ensures out { Prints (F.holds files.old) (command_in (texts words.entry.now)) (O.written out.old) (O.written out.new) result.status }
+    ensures seal { Seals (F.holds files.old) (command_in (texts words.entry.now)) (stream_of O.written out.old out.new) result.status
+        (option_map (λ s. s.journal) result.seal) }
     ensures holds { F.holds files.new ≡ F.holds files.old }
 {
     match command_of(alloc, words) {
         Ok(Some(command)) => {
-            let status = carry_out(rt, alloc, &command, files, out);
+            let Finished { status, seal } = carry_out(rt, alloc, &command, files, out, gate);
             let name = command.operand(status.file());
-            Answered { status, name }
+            Answered { status, name, seal }
         }
         Ok(None) => Answered {
             status: Status::Words,
             name: "",
+            seal: None,
         },
         Err(AllocError) => Answered {
             status: Status::Memory,
             name: "",
+            seal: None,
         },
     }
 }
@@ -140,15 +170,18 @@ pub fn report<E: Sink>(alloc: Global, name: &str, status: Status, notes: &mut E)
 
 /// The program: reads its words, does what they ask for, and writes the output and a note.
 ///
-/// A run may wait through `rt`; `_gate` is what runs with threads hand to their lanes.
-pub fn qp_main<R: Wait, F: Shelf, O: Sink, E: Sink, G: Gate>(
+/// A run with threads joins them and waits through `rt`; each hands `gate` the steps of its objects and the stimuli of its sources.
+/// Where it ended by itself, whatever its end, and all was written, `seal` holds its journal, the very one that was printed or summed
+/// up; after any other call it holds none.
+pub fn qp_main<R: Threads + Wait + Sync, F: Shelf, O: Sink, E: Sink, G: Gate>(
     rt: &R,
     alloc: Global,
     words: &[&str],
     files: &mut F,
     out: &mut O,
     notes: &mut E,
-    _gate: &G,
+    gate: &G,
+    seal: &mut Option<Sealed>,
 ) -> Status
     // The headline, with what the words ask for by their table: what was answered, printed and noted.
     ensures call { IsCall (F.holds files.old) (command_in (texts words.now))
@@ -156,8 +189,17 @@ pub fn qp_main<R: Wait, F: Shelf, O: Sink, E: Sink, G: Gate>(
           notes = count_of E.faults notes.old notes.new;
         })
         (stream_of O.written out.old out.new) (stream_of E.written notes.old notes.new) result }
+    // A run with threads leaves the journal that it printed or summed up.
+    ensures seal { Seals (F.holds files.old) (command_in (texts words.now)) (stream_of O.written out.old out.new) result
+        (option_map (λ s. s.journal) seal.new) }
     ensures holds { F.holds files.new ≡ F.holds files.old }
 {
-    let Answered { status, name } = answer(rt, alloc, words, files, out);
-    report(alloc, name, status, notes)
+    let Answered {
+        status,
+        name,
+        seal: sealed,
+    } = answer(rt, alloc, words, files, out, gate);
+    let status = report(alloc, name, status, notes);
+    *seal = kept_seal(&status, sealed);
+    status
 }

@@ -9,6 +9,7 @@ use std::process::Abort;
 use std::str::from_utf8;
 use std::sync::Wait;
 use std::test::Fail;
+use std::thread::Threads;
 
 /// A call: its words, the byte that ends each of its puts where they go line by line, and how many files it loads.
 type Call = (&'static [&'static str], u8, u64);
@@ -30,7 +31,7 @@ struct World<'t> {
 }
 
 /// Calls with these words over these files, to these sinks, of which some puts fail.
-fn call<R: Wait>(
+fn call<R: Threads + Wait + Sync>(
     waits: &R,
     alloc: Global,
     words: &[&str],
@@ -40,7 +41,9 @@ fn call<R: Wait>(
     mut note: MemSink,
 ) -> Ended {
     if flow == Flow::Pieces {
-        let carried = in_pieces(waits, alloc, words, &mut files, out, &mut note, &NoGate);
+        let carried = in_pieces(
+            waits, alloc, words, &mut files, out, &mut note, &NoGate, &mut None,
+        );
         return Ended {
             answer: carried.status.number(),
             out: carried.out,
@@ -48,7 +51,7 @@ fn call<R: Wait>(
         };
     }
     let status = qp_main(
-        waits, alloc, words, &mut files, &mut out, &mut note, &NoGate,
+        waits, alloc, words, &mut files, &mut out, &mut note, &NoGate, &mut None,
     );
     let answer = status.number();
     Ended { answer, out, note }
@@ -70,7 +73,7 @@ const NOTHING: Failing<'static> = Failing {
 
 impl World<'_> {
     /// What a call comes to.
-    fn ask<R: Wait>(
+    fn ask<R: Threads + Wait + Sync>(
         &self,
         waits: &R,
         alloc: Global,
@@ -84,7 +87,7 @@ impl World<'_> {
     }
 
     /// Whether a call has this answer, output and note.
-    fn is_so<R: Wait>(
+    fn is_so<R: Threads + Wait + Sync>(
         &self,
         waits: &R,
         alloc: Global,
@@ -102,7 +105,7 @@ impl World<'_> {
     }
 
     /// Whether the put of this number, which begins at this place of the whole output, leaves what it has kept: no byte, or one.
-    fn keeps<R: Wait>(
+    fn keeps<R: Threads + Wait + Sync>(
         &self,
         waits: &R,
         alloc: Global,
@@ -127,7 +130,7 @@ impl World<'_> {
     }
 
     /// How many puts of a call were tried, each of which failed in turn and left what it should; None where one left something else.
-    fn puts<R: Wait>(
+    fn puts<R: Threads + Wait + Sync>(
         &self,
         waits: &R,
         alloc: Global,
@@ -150,7 +153,7 @@ impl World<'_> {
     }
 
     /// Whether a call has as many puts as it is to have, and each that fails leaves what it should.
-    fn puts_fail<R: Wait>(
+    fn puts_fail<R: Threads + Wait + Sync>(
         &self,
         waits: &R,
         alloc: Global,
@@ -173,7 +176,7 @@ impl World<'_> {
     }
 
     /// Whether each load of a call that fails is told, puts nothing, and is a failed write where its note can't be put.
-    fn loads_fail<R: Wait>(
+    fn loads_fail<R: Threads + Wait + Sync>(
         &self,
         waits: &R,
         alloc: Global,
@@ -202,7 +205,7 @@ impl World<'_> {
 
 impl World<'_> {
     /// Whether a call has this answer and note, and is a failed write with the same output where the note's put fails.
-    fn note_fails<R: Wait>(
+    fn note_fails<R: Threads + Wait + Sync>(
         &self,
         waits: &R,
         alloc: Global,
@@ -245,7 +248,11 @@ const FILES: [(&str, &str); 4] = [
 ];
 
 /// Asserts it of each call, whose output goes on so.
-fn expect<R: Abort + Wait>(rt: &R, alloc: Global, world: &World<'_>) -> Result<(), AllocError> {
+fn expect<R: Abort + Threads + Wait + Sync>(
+    rt: &R,
+    alloc: Global,
+    world: &World<'_>,
+) -> Result<(), AllocError> {
     for (i, call) in CALLS.iter().enumerate() {
         let is_right = world.puts_fail(rt, alloc, call)? && world.loads_fail(rt, alloc, call)?;
         assert!(rt; is_right, "call {i}");

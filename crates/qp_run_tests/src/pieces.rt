@@ -7,6 +7,7 @@ use std::alloc::{AllocError, Global};
 use std::process::Abort;
 use std::sync::Wait;
 use std::test::Fail;
+use std::thread::Threads;
 
 /// The room for the output, its puts that fail and those of the note, each with how many bytes it keeps; and what the call comes to: the
 /// number of its answer, how many bytes of its output have gone on, and its note.
@@ -28,7 +29,7 @@ struct Call<'t> {
 }
 
 /// Whether the call comes to what the case says.
-fn is_so<R: Wait>(
+fn is_so<R: Threads + Wait + Sync>(
     waits: &R,
     alloc: Global,
     call: &Call<'_>,
@@ -38,7 +39,9 @@ fn is_so<R: Wait>(
     let (room, failing, failing_notes, answer, len, note) = *case;
     let out = sink(alloc, room, failing)?;
     let mut notes = sink(alloc, 1000, failing_notes)?;
-    let carried = in_pieces(waits, alloc, call.words, files, out, &mut notes, &NoGate);
+    let carried = in_pieces(
+        waits, alloc, call.words, files, out, &mut notes, &NoGate, &mut None,
+    );
     let is_told = carried.status.number() == answer && notes.bytes() == note.as_bytes();
     Ok(is_told && is_front(carried.out.bytes(), call.whole, len))
 }
@@ -49,7 +52,7 @@ fn is_front(out: &[u8], whole: &str, len: usize) -> bool {
 }
 
 /// Asserts that the call comes to what each case says.
-fn expect<R: Abort + Wait>(
+fn expect<R: Abort + Threads + Wait + Sync>(
     rt: &R,
     alloc: Global,
     call: &Call<'_>,
@@ -69,7 +72,7 @@ fn journal(alloc: Global, records: usize) -> Result<String, AllocError> {
 }
 
 /// The same of what `migrate --to 1` makes of a journal in form 1, which is the journal again.
-fn expect_again<R: Abort + Wait>(
+fn expect_again<R: Abort + Threads + Wait + Sync>(
     rt: &R,
     alloc: Global,
     records: usize,

@@ -10,6 +10,7 @@ use qp_run::qp_main;
 use std::alloc::{AllocError, Global};
 use std::sync::Wait;
 use std::test::Fail;
+use std::thread::Threads;
 
 /// So many events are posted.
 const EVENTS: u64 = 199_998;
@@ -78,7 +79,7 @@ fn files(alloc: Global, last: &str) -> Result<MemShelf, AllocError> {
 }
 
 /// Whether `check` prints and notes this of these files.
-fn is_told<R: Wait>(
+fn is_told<R: Threads + Wait + Sync>(
     waits: &R,
     alloc: Global,
     files: &mut MemShelf,
@@ -88,7 +89,9 @@ fn is_told<R: Wait>(
     let words = ["check", "system", "stimuli", "journal"];
     let mut out = sink(alloc, 1000, &[])?;
     let mut notes = sink(alloc, 1000, &[])?;
-    qp_main(waits, alloc, &words, files, &mut out, &mut notes, &NoGate);
+    qp_main(
+        waits, alloc, &words, files, &mut out, &mut notes, &NoGate, &mut None,
+    );
     Ok(out.bytes() == said.as_bytes() && notes.bytes() == note.as_bytes())
 }
 

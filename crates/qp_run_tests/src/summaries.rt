@@ -6,6 +6,7 @@ use qp_run::qp_main;
 use std::alloc::{AllocError, Global};
 use std::sync::Wait;
 use std::test::Fail;
+use std::thread::Threads;
 
 const WORDS: [&str; 5] = ["run", "--out", "summary", "system", "stimuli"];
 
@@ -13,7 +14,7 @@ const WORDS: [&str; 5] = ["run", "--out", "summary", "system", "stimuli"];
 const SUMMARY: &str = "end 0\nobject lamp 1 on\npool 1 given 0 back 0\n";
 
 /// Whether the call has this answer and output where the put of this number fails.
-fn comes_to<R: Wait>(
+fn comes_to<R: Threads + Wait + Sync>(
     waits: &R,
     alloc: Global,
     files: &mut MemShelf,
@@ -23,7 +24,9 @@ fn comes_to<R: Wait>(
 ) -> Result<bool, AllocError> {
     let mut out = sink(alloc, 1000, &[(put, 0)])?;
     let mut notes = sink(alloc, 1000, &[])?;
-    let status = qp_main(waits, alloc, &WORDS, files, &mut out, &mut notes, &NoGate);
+    let status = qp_main(
+        waits, alloc, &WORDS, files, &mut out, &mut notes, &NoGate, &mut None,
+    );
     Ok(status.number() == answer && out.bytes() == output)
 }
 

@@ -15,7 +15,7 @@ use Rattle.qp_model.specs.Calls as call
 use Rattle.qp_model.specs.Calls.{Call, is_assertion}
 use Rattle.qp_model.specs.Knowing.{Facts, told}
 use Rattle.qp_model.specs.Ends.{is_spill, spills_in}
-use Rattle.qp_model.specs.Kernels.{sim, qk}
+use Rattle.qp_model.specs.Kernels.{qk, has_one_order, may_try}
 use Rattle.qp_model.specs.Parts.{is_static}
 use Rattle.qp_model.specs.Pieces.{Piece, Tell}
 use Rattle.qp_model.specs.KernelLane.{Drops, role_of, Setting, Upcoming, Inside, Chosen, Ended, Again, Over, Reading, looking_at, lane_next, lane_on}
@@ -29,7 +29,7 @@ use Rattle.qp_check_sources.specs.Underway.{Underway, Calling, Ticking, Settling
 use Rattle.qp_check_course.specs.Note.{Note, tells, note_of, taken_by, raised_from, dropped_by, comes_back}
 use Rattle.qp_check_course.specs.Goes.{moment_of}
 use Rattle.qp_check_course.specs.Machine.{State, Between, Telling, Raising, AtPoint, InCall, AtPost, Releasing, Returning, Asserted, tell_next, is_end, expects_point}
-use Rattle.qp_sim_unique.proofs.KernelLemmas.{Slot, Starts, Runs, Releases, IsLook, IsSeen, IsTook, IsSpent, IsRest, Went, IsDone, GoesOn, slot-of}
+use Rattle.qp_sim_unique.proofs.KernelLemmas.{Slot, Starts, Runs, Releases, IsLook, IsSeen, IsTook, IsSpent, IsRest, Went, IsDone, GoesOn, no-threads, slot-of}
 use Rattle.qp_sim_unique.proofs.StackLemmas.{NotOf, PlaceAway, Away, away-looked}
 use Rattle.qp_model.proofs.KernelLaneLemmas.{granted}
 use Rattle.qp_model.proofs.ListLemmas.{mapped}
@@ -104,17 +104,17 @@ module _ (w : Facts) (s : Setting) (p : ℕ) (some : p ≡ 0 → ⊥) where
       by true = record { started = none; running = away.running; place = tt }
       by false = record { started = none; running = away.running; place = tt }
 
-  pub away-pieces : s.kernel ≡ sim → (is : List Item) (k last : Reading) → Away p k → spills_in is ≡ false → lane_on s k is ≡ Some last → BeginsTook (pieces_in w s p k is)
+  pub away-pieces : has_one_order s.kernel ≡ true → (is : List Item) (k last : Reading) → Away p k → spills_in is ≡ false → lane_on s k is ≡ Some last → BeginsTook (pieces_in w s p k is)
   unfolding pieces_in lane_on
-  away-pieces is_sim [] k last away unspilt read = inl refl
-  away-pieces is_sim (i ∷ is) k last away unspilt read =
-      by (lane_next s k i) refl read (λ next on. away-pieces is_sim is next last on (or_parts (is_spill i.body) (spills_in is) unspilt).1)
+  away-pieces one [] k last away unspilt read = inl refl
+  away-pieces one (i ∷ is) k last away unspilt read =
+      by (lane_next s k i) refl read (λ next on. away-pieces one is next last on (or_parts (is_spill i.body) (spills_in is) unspilt).1)
     where
       by : (r : Option Reading) → lane_next s k i ≡ r → option_and_then (λ n. lane_on s n is) r ≡ Some last
           → ((next : Reading) → Away p next → lane_on s next is ≡ Some last → BeginsTook (pieces_in w s p next is))
           → BeginsTook (pieces_at w p k i ++ pieces_in w s p (unwrap_or r k) is)
       by None e read later = absurd (cc)
-      by (Some next) e read later = on (away-next k next i away (slot-of s is_sim k next i (or_parts (is_spill i.body) (spills_in is) unspilt).0 e))
+      by (Some next) e read later = on (away-next k next i away (slot-of s one k next i (or_parts (is_spill i.body) (spills_in is) unspilt).0 e))
         where
           on : Goes k next i → BeginsTook (pieces_at w p k i ++ pieces_in w s p next is)
           on (inl (none, on_away)) = rw none (later next on_away read)
@@ -212,7 +212,7 @@ must-release sys a (Releasing e c) later t role h = record { unended = refl; unp
 must-release sys a (Returning p b d c) later t role h = record { unended = refl; unpointed = refl; untaken = λ f l m x k. refl }
 must-release sys a Asserted later t role h = absurd (cc)
 
--- a stimulus that is done, or ended in its assertion, goes on by nothing; and in `sim` none tries in vain
+-- a stimulus that is done, or ended in its assertion, goes on by nothing; and with one thread none tries in vain
 whole-none : (sys : System) (o : ℕ) (now : Option Entry) (rest : CallState) (t : Told) → ((stage_answer rest.stage ≡ None) → ⊥) → call_state_next sys o now rest t ≡ None
 unfolding call_state_next stage_next
 whole-none sys o now rest t some = by rest.stage refl
@@ -240,9 +240,12 @@ asserted-none sys kernel (Ticking (Fired object sig left)) t h = absurd (cc)
 asserted-none sys kernel (Ticking Vain) t h = refl
 asserted-none sys kernel (Settling rest) t h = absurd (cc)
 
-pub untried : (u : Underway) → underway_tried sim u ≡ true → ⊥
-untried (Calling rest) h = cc
-untried (Ticking rest) h = cc
-untried (Settling (Before true)) h = cc
-untried (Settling (Before false)) h = cc
-untried (Settling (Seeing left)) h = cc
+one-tries : (kernel : ℕ) → has_one_order kernel ≡ true → may_try kernel ≡ false
+one-tries kernel one = let none = no-threads kernel one in rw (none.0, none.1) refl
+
+pub untried : (kernel : ℕ) → has_one_order kernel ≡ true → (u : Underway) → underway_tried kernel u ≡ true → ⊥
+untried kernel one (Calling rest) h = cc
+untried kernel one (Ticking rest) h = cc
+untried kernel one (Settling (Before true)) h = let no : may_try kernel ≡ false = one-tries kernel one in cc
+untried kernel one (Settling (Before false)) h = cc
+untried kernel one (Settling (Seeing left)) h = cc

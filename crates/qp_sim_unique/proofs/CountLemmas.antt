@@ -19,9 +19,6 @@ is_said_by rests (body.Rest k) = rests
 is_said_by rests (body.New p n b from sig pars) = nat_le (length pars) 8
 is_said_by rests _ = true
 
-abbrev pub is_said : Body → Bool
-is_said b = is_said_by false b
-
 -- the form that knows it
 abbrev pub form_for : Bool → ℕ
 form_for rests = cond rests 2 1
@@ -237,9 +234,6 @@ module _ (rests : Bool) where
 -- an item of an object that says so
 abbrev pub is_kept_by : Bool → Item → Bool
 is_kept_by rests i = nat_le i.of 32 && is_said_by rests i.body
-
-abbrev pub is_kept : Item → Bool
-is_kept i = is_kept_by false i
 
 records-kept : (rests : Bool) (rs : List Rec) → list_all (is_kept_by rests) (map item_of rs) ≡ true
     → (list_all (is_record_in_range (form_for rests)) rs ≡ true) × ((rests || list_all (λ r. not (r.kind == REST)) rs) ≡ true)

@@ -1,5 +1,5 @@
 -- Two runs with the same order have the same lanes.
-use Rattle.std.proofs.Common.{◌≡◌, ◌∙◌, ℕ, zero, suc, ◌+◌, ◌≤◌, ◌==◌, Bool, true, false, cond, List, [], ◌∷◌, ◌++◌, length, Some, None, refl, sym, ap, arith, length-append}
+use Rattle.std.proofs.Common.{◌≡◌, ◌∙◌, ℕ, zero, suc, ◌+◌, ◌==◌, Bool, true, false, cond, List, [], ◌∷◌, ◌++◌, length, Some, None, refl, sym, ap, arith, length-append}
 use Rattle.std.proofs.lemmas.Bool.{ne_eqb}
 use Rattle.std.proofs.lemmas.List.{append_assoc}
 use Rattle.std.specs.declared.option.Option.{Option}
@@ -10,12 +10,11 @@ use Rattle.qp_model.specs.declared.systems.System.{System}
 use Rattle.qp_model.specs.declared.systems.ObjectDef.{ObjectDef}
 use Rattle.qp_model.specs.Record.{Item}
 use Rattle.qp_model.specs.Sites.{object_at}
-use Rattle.qp_model.specs.KernelLane.{threshold_of}
 use Rattle.qp_model.specs.OneOrder.{with_stimuli, parts_of_look, part_of_look, belongs, look_of}
 use Rattle.qp_model_order.specs.RunOrder.{placed}
-use Rattle.qp_sim_unique.proofs.StackLemmas.{IsObject}
+use Rattle.qp_sim_unique.proofs.StackLemmas.{IsBounded, IsObject}
 use Rattle.qp_sim_unique.proofs.SourceSteps.{lane_in-append}
-use Rattle.qp_sim_unique.proofs.Sides.{Side, order_of, lane_in}
+use Rattle.qp_sim_unique.proofs.Sides.{Mode, Side, order_of, lane_in}
 
 -- the records of a source stand in no other lane
 pub part-elsewhere : (lane j k : ℕ) (cuts within : Bool) (is : List Item) → (lane == j) ≡ false → lane_in (part_of_look lane k cuts within is) j ≡ []
@@ -62,15 +61,15 @@ made-by f n all front (l ∷ ls) is size each =
     let rest : ls ≡ made f (n + 1) (length ls) = made-by f (n + 1) all (front ++ l ∷ []) ls (is ∙ sym (append_assoc front (l ∷ []) ls)) longer each in
     ap (λ x. x ∷ ls) here ∙ ap (λ us. f n ∷ us) rest
 
-module _ (sys : System) (charts : (p : ℕ) (d : ObjectDef) → object_at sys p ≡ Some d → Chart) (stimuli : List (List Stim)) (budget : ℕ)
-    (bounded : (p : ℕ) → IsObject sys p → p ≤ threshold_of sys p) (positive : (p : ℕ) → IsObject sys p → p ≡ 0 → ⊥) where
+module _ (sys : System) (charts : (p : ℕ) (d : ObjectDef) → object_at sys p ≡ Some d → Chart) (stimuli : List (List Stim)) (mode : Mode)
+    (bounded : IsBounded sys) (positive : (p : ℕ) → IsObject sys p → p ≡ 0 → ⊥) where
   -- the same lanes
-  pub same-lanes : (a b : Side sys charts stimuli budget) → order_of sys charts stimuli budget a ≡ order_of sys charts stimuli budget b → length a.sources ≡ length b.sources
-      → ((before : List (List Item)) (l : List Item) (behind : List (List Item)) → a.sources ≡ before ++ l ∷ behind → l ≡ lane_in (order_of sys charts stimuli budget a) (1 + length before))
-      → ((before : List (List Item)) (l : List Item) (behind : List (List Item)) → b.sources ≡ before ++ l ∷ behind → l ≡ lane_in (order_of sys charts stimuli budget b) (1 + length before))
+  pub same-lanes : (a b : Side sys charts stimuli mode) → order_of sys charts stimuli mode a ≡ order_of sys charts stimuli mode b → length a.sources ≡ length b.sources
+      → ((before : List (List Item)) (l : List Item) (behind : List (List Item)) → a.sources ≡ before ++ l ∷ behind → l ≡ lane_in (order_of sys charts stimuli mode a) (1 + length before))
+      → ((before : List (List Item)) (l : List Item) (behind : List (List Item)) → b.sources ≡ before ++ l ∷ behind → l ≡ lane_in (order_of sys charts stimuli mode b) (1 + length before))
       → (a.lane0 ≡ b.lane0) × (a.sources ≡ b.sources)
   same-lanes a b same size stands_a stands_b =
-      let f : ℕ → List Item = λ m. lane_in (order_of sys charts stimuli budget a) (1 + m) in
+      let f : ℕ → List Item = λ m. lane_in (order_of sys charts stimuli mode a) (1 + m) in
       let one : a.sources ≡ made f 0 (length a.sources) = made-by f 0 a.sources [] a.sources refl refl stands_a in
       let two : b.sources ≡ made f 0 (length b.sources) =
       made-by f 0 b.sources [] b.sources refl refl (λ before l behind is. stands_b before l behind is ∙ ap (λ zs. lane_in zs (1 + length before)) (sym same)) in (

@@ -1,5 +1,5 @@
 -- Two runs that have come equally far go on by the same record of lane 0.
-use Rattle.std.proofs.Common.{◌≡◌, ◌∙◌, ◌⊎◌, ℕ, ◌≤◌, ◌==◌, Bool, true, false, ◌||◌, List, [], ◌∷◌, ◌++◌, Some, None, refl, sym, ap, subst, arith}
+use Rattle.std.proofs.Common.{◌≡◌, ◌∙◌, ◌⊎◌, ℕ, ◌==◌, Bool, true, false, ◌||◌, List, [], ◌∷◌, ◌++◌, Some, None, refl, sym, ap, subst, arith}
 use Rattle.std.proofs.lemmas.Bool.Decides.{nat_tests}
 use Rattle.std.specs.declared.option.Option.{Option}
 use Rattle.std.specs.Option.{option_and_then, option_map_or, unwrap_or, is_some}
@@ -18,7 +18,7 @@ use Rattle.qp_model.specs.WordLaw.{is_object}
 use Rattle.qp_model.specs.Pieces.{Piece, Tell, ends_at_point}
 use Rattle.qp_model.specs.Acts.{Actor}
 use Rattle.qp_model.specs.Course.{actor, first_config}
-use Rattle.qp_model.specs.KernelLane.{role_of, Setting, threshold_of, Reading, lane_next, lane_on, unread}
+use Rattle.qp_model.specs.KernelLane.{role_of, Setting, Reading, lane_next, lane_on, unread}
 use Rattle.qp_model.specs.Points.{pieces_at, pieces_in}
 use Rattle.qp_model.specs.OneOrder.{Placed, with_stimuli, parts_of_look, look_of}
 use Rattle.qp_model.proofs.KernelRowLemmas.{lane_on-then, pieces_in-then}
@@ -28,8 +28,8 @@ use Rattle.qp_sim_unique.specs.Held.{Comes}
 use Rattle.qp_sim_unique.specs.NextInCourse.{piece_told, PieceComes}
 use Rattle.qp_sim_unique.proofs.CourseLemmas.{course_goes_on_alone}
 use Rattle.qp_sim_unique.proofs.KernelLemmas.{Slot, IsOwned, slot-of}
-use Rattle.qp_sim_unique.proofs.StackLemmas.{IsObject, found-in}
-use Rattle.qp_sim_unique.proofs.Sides.{Side, Along, EndsOwn, in_sim, order_of, held_to, MayEnd}
+use Rattle.qp_sim_unique.proofs.StackLemmas.{IsBounded, IsObject, found-in}
+use Rattle.qp_sim_unique.proofs.Sides.{Mode, Side, Along, EndsOwn, in_kernel, order_of, held_to, MayEnd}
 
 -- a test that no element passes
 pub none-at : {A : Type 0} (p : A → Bool) (xs : List A) (x : A) (ys : List A) → list_any p (xs ++ x ∷ ys) ≡ false → (p x ≡ false) × (list_any p ys ≡ false)
@@ -65,8 +65,8 @@ run-first sys a s end p qs h = by (piece_next sys a s p) refl h
     by None e h = absurd (cc)
     by (Some later) e h = (later, e)
 
-module _ (sys : System) (charts : (p : ℕ) (d : ObjectDef) → object_at sys p ≡ Some d → Chart) (stimuli : List (List Stim)) (budget : ℕ)
-    (bounded : (p : ℕ) → IsObject sys p → p ≤ threshold_of sys p) (positive : (p : ℕ) → IsObject sys p → p ≡ 0 → ⊥) where
+module _ (sys : System) (charts : (p : ℕ) (d : ObjectDef) → object_at sys p ≡ Some d → Chart) (stimuli : List (List Stim)) (mode : Mode)
+    (bounded : IsBounded sys) (positive : (p : ℕ) → IsObject sys p → p ≡ 0 → ⊥) where
   -- an object with this priority
   pub named : (p : ℕ) → IsObject sys p → (d : ObjectDef) × (object_at sys p ≡ Some d) × (d.priority ≡ p)
   unfolding is_object object_at
@@ -84,10 +84,10 @@ module _ (sys : System) (charts : (p : ℕ) (d : ObjectDef) → object_at sys p 
           (d, e, same)
 
   -- one run, at a record of lane 0
-  module _ (a : Side sys charts stimuli budget) (xs : List Placed) (front : List Item) (i : Item) (la : List Item) (k : Reading)
-      (h : Along sys charts stimuli budget a xs front (i ∷ la) k) where
+  module _ (a : Side sys charts stimuli mode) (xs : List Placed) (front : List Item) (i : Item) (la : List Item) (k : Reading)
+      (h : Along sys charts stimuli mode a xs front (i ∷ la) k) where
     abbrev pub rule : Setting
-    rule = in_sim sys a.has
+    rule = in_kernel mode.kernel sys a.has
 
     after-read : lane_on rule k (i ∷ la) ≡ Some a.last
     after-read = sym (lane_on-then rule (unread sys) k front (i ∷ la) h.read) ∙ ap (lane_on rule (unread sys)) (sym h.lane) ∙ a.read
@@ -105,9 +105,9 @@ module _ (sys : System) (charts : (p : ℕ) (d : ObjectDef) → object_at sys p 
     unspilt-here = none-at (λ j. is_spill j.body) front i la (subst (λ l. spills_in l ≡ false) h.lane a.unspilt)
 
     pub slot : Slot rule k step.0 i
-    slot = slot-of rule refl k step.0 i unspilt-here.0 step.1
+    slot = slot-of rule mode.one k step.0 i unspilt-here.0 step.1
 
-    pub order-here : order_of sys charts stimuli budget a
+    pub order-here : order_of sys charts stimuli mode a
         ≡ xs ++ placed 0 i ∷ (option_map_or (λ l. parts_of_look 1 l.0 a.cuts a.sources) (look_of i.body) [] ++ with_stimuli a.cuts a.sources la)
     unfolding with_stimuli
     order-here = h.order

@@ -1,4 +1,4 @@
--- A lawful journal of `sim`: its lanes, and its order without a `spill`.
+-- A lawful journal of a run with one thread: its lanes, and its order without a `spill`.
 use Rattle.std.proofs.Common.{◌≡◌, ◌∙◌, ◌⊎◌, inl, inr, ℕ, zero, suc, ◌+◌, ◌==◌, Bool, true, false, not, ◌&&◌, ◌||◌, cond, List, [], ◌∷◌, ◌++◌, map, length, drop, Some, None, refl, sym, ap, subst, arith, append-nil}
 use Rattle.std.specs.Prelude.{⊤}
 use Rattle.std.proofs.lemmas.Bool.{and_parts}
@@ -20,15 +20,15 @@ use Rattle.qp_model.specs.KernelLane.{Reading}
 use Rattle.qp_model.specs.Ends.{is_assert, is_spent, is_spill, is_end, spills_in, spills_cut, ends_last}
 use Rattle.qp_model.specs.History.{all_items, lane_items}
 use Rattle.qp_model.specs.Home.{lane_at}
-use Rattle.qp_model.specs.Kernels.{sim, port, has_one_order}
+use Rattle.qp_model.specs.Kernels.{port, has_one_order}
 use Rattle.qp_model.specs.Places.{in_order}
 use Rattle.qp_model.specs.OneOrder.{Placed, OneThread, IsOneOrder, with_stimuli, parts_of_look, part_of_look, belongs, look_of, stim_of, order, spills_from, looks_right, look_right, turns_at, acts_next, is_turn, no_look, is_free}
-use Rattle.qp_model.specs.Lawful.{Lawful, KernelHolds, OrderHolds, SourceLanes, reading_holds, setting_of, source_lanes, lanes_before, one_thread}
+use Rattle.qp_model.specs.Lawful.{Lawful, KernelHolds, OrderHolds, SourceLanes, reading_holds, source_lanes, lanes_before, one_thread}
 use Rattle.qp_model_order.specs.RunOrder.{placed, items_of}
 use Rattle.qp_model_order.specs.Placing.{look_item}
 use Rattle.qp_sim_unique.specs.Tidy.{run_order, unspilt}
 use Rattle.qp_sim_unique.proofs.LookLemmas.{lane_turn, turn_if, turns-none}
-use Rattle.qp_sim_unique.proofs.Sides.{in_sim}
+use Rattle.qp_sim_unique.proofs.Sides.{HasKernel, no-port}
 use Rattle.qp_model.proofs.HistoryLemmas.{in_order-front}
 use Rattle.qp_model.proofs.NumberLemmas.{every-append}
 use Rattle.qp_model.proofs.ListLemmas.{every-parts, list_all-front}
@@ -344,7 +344,7 @@ zero-cut : (j : Journal) (lane : List Item) (settles : ℕ) (o : Option Reading)
 zero-cut j lane settles None h = absurd (cc)
 zero-cut j lane settles (Some k) h = (and_parts _ _ (and_parts _ _ h).0).1
 
--- What a lawful journal of `sim` is.
+-- What a lawful journal of a run with one thread is.
 pub record Threaded (sys : System) (stimuli : List (List Stim)) (j : Journal) : Type 0 where
   pub first : List Rec
   pub others : List (List Rec)
@@ -355,7 +355,6 @@ pub record Threaded (sys : System) (stimuli : List (List Stim)) (j : Journal) : 
   pub zero_cut : spills_cut j.end (lane_items (lane_at j 0)) ≡ true
   pub sources_cut : AllByRecursion (λ l. spills_cut j.end l ≡ true) (source_lanes sys j)
   pub kernel : KernelHolds sys j
-  pub setting : setting_of sys j ≡ in_sim sys (setting_of sys j).has_stimulus
   pub cuts : Bool
   pub ordered : IsOneOrder (one_thread sys stimuli j cuts)
 
@@ -370,16 +369,16 @@ kept_sources sys j = map (λ lane. unspilt lane) (source_lanes sys j)
 abbrev pub has_spilt : System → Journal → Bool
 has_spilt sys j = spills_in (lane_items (lane_at j 0)) || list_any spills_in (source_lanes sys j)
 
-module _ (sys : System) (stimuli : List (List Stim)) (j : Journal) (law : Lawful sys stimuli j) (is_sim : j.kernel ≡ sim) where
+module _ (sys : System) (stimuli : List (List Stim)) (j : Journal) (law : Lawful sys stimuli j) {kernel : ℕ} (single : HasKernel kernel j) where
   pub threaded : Threaded sys stimuli j
-  unfolding source_lanes setting_of
+  unfolding source_lanes
   threaded =
-      let before : lanes_before sys j ≡ 1 = rw is_sim refl in
+      let no_port : (j.kernel == port) ≡ false = no-port single in
+      let before : lanes_before sys j ≡ 1 = rw no_port refl in
       let count : (length j.lanes == lanes_before sys j + length stimuli) ≡ true = law.sources.count in
       let size : length j.lanes ≡ 1 + length stimuli = subst (λ n. length j.lanes ≡ n + length stimuli) before (grind (arith, nat_tests)) in
       let split = lanes-split j.lanes (length stimuli) size in
-      let no_port : (j.kernel == port) ≡ false = rw is_sim refl in
-      let one : has_one_order j.kernel ≡ true = rw is_sim refl in
+      let one : has_one_order j.kernel ≡ true = ap has_one_order single.is ∙ single.one in
       let held = subst (λ b. MatchBool b (OrderHolds sys stimuli j) ⊤) one law.sources.order in
       let opened = held-open sys stimuli j held in
       let kernel : KernelHolds sys j = subst (λ b. MatchBool b ⊤ (KernelHolds sys j)) no_port law.kernel in
@@ -396,7 +395,6 @@ module _ (sys : System) (stimuli : List (List Stim)) (j : Journal) (law : Lawful
         sources_cut = subst (AllByRecursion (λ l. spills_cut j.end l ≡ true)) (sym are)
             (sources-cut sys j 1 stimuli split.1 (ap (drop 1) split.2) split.3 (subst (λ n. SourceLanes sys j n stimuli) before law.sources.lanes));
         kernel = kernel;
-        setting = ap (λ k. record { sys = sys; kernel = k; has_stimulus = (setting_of sys j).has_stimulus }) is_sim;
         cuts = opened.0;
         ordered = opened.1;
       }

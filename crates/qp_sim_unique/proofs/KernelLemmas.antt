@@ -1,5 +1,5 @@
--- Which record of lane 0 comes next in `sim`: its object and its kind are settled by how far the lane has been read.
-use Rattle.std.proofs.Common.{◌≡◌, ◌∙◌, ℕ, ◌+◌, ◌==◌, nat_lt, Bool, true, false, ◌&&◌, cond, List, [], ◌∷◌, if◌then◌else◌, Some, None, refl, sym, ap, subst, inl, inr, ◌⊎◌, arith}
+-- Which record of lane 0 comes next in a run with one thread: its object and its kind are settled by how far the lane has been read.
+use Rattle.std.proofs.Common.{◌≡◌, ◌∙◌, ℕ, ◌+◌, ◌==◌, nat_lt, Bool, true, false, ◌&&◌, ◌||◌, cond, List, [], ◌∷◌, if◌then◌else◌, Some, None, refl, sym, ap, subst, inl, inr, ◌⊎◌, arith}
 use Rattle.std.proofs.lemmas.Bool.Decides.{nat_tests}
 use Rattle.std.specs.declared.option.Option.{Option}
 use Rattle.qp_model.specs.declared.systems.System.{System}
@@ -8,7 +8,7 @@ use Rattle.qp_model.specs.declared.bodies.Body.{Body}
 use Rattle.qp_model.specs.declared.bodies.Body.TheVariants as body
 use Rattle.qp_model.specs.Record.{Item}
 use Rattle.qp_model.specs.Ends.{is_spill}
-use Rattle.qp_model.specs.Kernels.{sim, qk}
+use Rattle.qp_model.specs.Kernels.{sim, qk, port, qv, has_one_order}
 use Rattle.qp_model.specs.KernelLane.{Role, Looks, Sees, Takes, Ends, Rests, Holds, Drops, RunsOut, Spills, Acts, role_of, Setting, floor_in, above, Upcoming, Inside, Looking, Chosen, Ended, Resting, Again, Over, Halted, Reading, base_ended, found_none, looking_at, look_next, seen_next, own_next, inside_next, found_next, ended_next, rest_next, place_next, start_next, started_next, role_next, lane_next}
 use Rattle.qp_model_order.specs.Placing.{look_item}
 use Rattle.qp_model.proofs.KernelLaneLemmas.{granted, Looks-is, Sees-is}
@@ -114,7 +114,16 @@ start-went k next others Acts h =
     (tt, ap (λ (x : Reading). x.running) (sym e), ap (λ (x : Reading). x.place) (sym e), inr (ap (λ (x : Reading). x.unstarted) (sym e)), ap (λ (x : Reading). x.looks) (sym e))
 start-went k next others r h = absurd (cc)
 
-module _ (s : Setting) (is_sim : s.kernel ≡ sim) (k next : Reading) (i : Item) where
+-- a kernel with one thread is none of the others
+pub no-threads : (kernel : ℕ) → has_one_order kernel ≡ true → ((kernel == qk) ≡ false) × ((kernel == port) ≡ false)
+no-threads kernel one = by (kernel == sim) refl (kernel == qv) refl one
+  where
+    by : (b : Bool) → (kernel == sim) ≡ b → (c : Bool) → (kernel == qv) ≡ c → (b || c) ≡ true → ((kernel == qk) ≡ false) × ((kernel == port) ≡ false)
+    by true e c f h = let is : kernel ≡ sim = grind (arith, nat_tests) in rw is (refl, refl)
+    by false e true f h = let is : kernel ≡ qv = grind (arith, nat_tests) in rw is (refl, refl)
+    by false e false f h = absurd (cc)
+
+module _ (s : Setting) (one : has_one_order s.kernel ≡ true) (k next : Reading) (i : Item) where
   look-slot : (r : Role) → role_of i.body ≡ r → k.unstarted ≡ [] → MayLook k.place → look_next s k i.of r ≡ Some next → Slot s k next i
   unfolding look_next
   look-slot (Looks n floor) is none may h =
@@ -203,7 +212,7 @@ module _ (s : Setting) (is_sim : s.kernel ≡ sim) (k next : Reading) (i : Item)
   place-slot r is none Resting at h = rest-slot r is none at h
   place-slot r is none Again at h = look-slot r is none (rw at tt) h
   place-slot r is none Over at h =
-      let two : cond (sim == qk) (look_next s k i.of r) None ≡ Some next = subst (λ x. cond (x == qk) (look_next s k i.of r) None ≡ Some next) is_sim h in absurd (cc)
+      let none : None ≡ Some next = subst (λ b. cond b (look_next s k i.of r) None ≡ Some next) (no-threads s.kernel one).0 h in absurd (cc)
   place-slot r is none Halted at h = absurd (cc)
 
   started-slot : (r : Role) → role_of i.body ≡ r → started_next s k i.of r k.unstarted ≡ Some next → Slot s k next i

@@ -1,4 +1,4 @@
--- A lawful journal of `sim` without a `spill` is tidy, and so the only one.
+-- A lawful journal of a run with one thread without a `spill` is tidy, and so the only one of its kernel.
 use Rattle.std.proofs.Common.{◌≡◌, ◌∙◌, ◌⊎◌, inl, inr, append-nil, not, ℕ, zero, suc, ◌+◌, ◌<◌, ◌≤◌, ◌==◌, nat_le, nat_lt, Bool, true, false, cond, List, [], ◌∷◌, ◌++◌, map, length, get_or, Some, None, refl, sym, ap, subst, arith}
 use Rattle.std.proofs.lemmas.Bool.{false≢true, and_from, and_parts, ne_eqb}
 use Rattle.std.proofs.lemmas.Bool.Decides.{nat_tests}
@@ -40,13 +40,14 @@ use Rattle.qp_sim_unique.specs.Tidy.{run_order, unspilt, IsTidy, LacksStimulus}
 use Rattle.qp_sim_unique.proofs.EqualLemmas.{part-elsewhere, zero-is}
 use Rattle.qp_sim_unique.proofs.JournalLemmas.{Threaded, threaded, kept_sources, kept_zero, lane-each, lane0-is, in-order}
 use Rattle.qp_sim_unique.proofs.SideParts.{lane-stood}
-use Rattle.qp_sim_unique.proofs.Sides.{lane_in}
+use Rattle.qp_sim_unique.proofs.Sides.{HasKernel, lane_in}
+use Rattle.qp_sim_unique.proofs.KernelLemmas.{no-threads}
 use Rattle.qp_sim_unique.proofs.SourceSteps.{lane_in-append, lane_in-other, lane_in-own}
 use Rattle.qp_sim_unique.proofs.UniqueLemmas.{short_journals_are_unspilt, short_journals_leave_no_spill, tidy_journals_are_one}
-use Rattle.qp_sim_unique.proofs.CountLemmas.{is_kept, is_said}
-use Rattle.qp_model.specs.Kernels.{sim}
+use Rattle.qp_sim_unique.proofs.CountLemmas.{is_kept_by, is_said_by}
+use Rattle.qp_model.specs.Kernels.{qv}
 use Rattle.qp_sim_unique.proofs.FormLemmas.{each-kept}
-use Rattle.qp_sim_unique.specs.JournalLaws.{IsSimJournal, IsUnspilt, ShortJournalsAreUnspilt, SimJournalsAreOne, SimJournalsAreTidy, UnspiltJournalsAreOne}
+use Rattle.qp_sim_unique.specs.JournalLaws.{IsOneThreadJournal, IsUnspilt, ShortJournalsAreUnspilt, OneThreadJournalsAreOne, OneThreadJournalsAreTidy, UnspiltJournalsAreOne}
 use Rattle.qp_sim_unique.proofs.FollowLemmas.{sound-followable}
 use Rattle.qp_sim_unique.proofs.RecordLemmas.{rec_in, lanes-of}
 use Rattle.qp_sim_unique.proofs.PlaceLemmas.{here, items-back, place_behind, placed-back, places-serial, places_of, places_of-append}
@@ -201,9 +202,12 @@ unfolding in_order
 order-spills before [] ys h each = spills-next before ys each
 order-spills before (x ∷ xs) ys h each = let parts = and_parts (is_next before (touch x)) _ h in and_from _ _ parts.0 (order-spills (before ++ x ∷ []) xs ys parts.1 each)
 
-module _ (sys : System) (stimuli : List (List Stim)) (j : Journal) (sound : IsSound sys) (fit : StimuliFit sys stimuli) (its : IsSimJournal sys stimuli j) where
+module _ (sys : System) (stimuli : List (List Stim)) (j : Journal) (sound : IsSound sys) (fit : StimuliFit sys stimuli) (its : IsOneThreadJournal sys stimuli j) where
+  single : HasKernel j.kernel j
+  single = record { is = refl; one = its.one_thread }
+
   t : Threaded sys stimuli j
-  t = threaded sys stimuli j its.lawful its.is_sim
+  t = threaded sys stimuli j its.lawful single
 
   -- the order of the run, and then what lanes ended with
   abbrev last : List Placed
@@ -242,7 +246,7 @@ module _ (sys : System) (stimuli : List (List Stim)) (j : Journal) (sound : IsSo
       let kept_size : length (map (λ lane. unspilt lane) front) ≡ m = length-map front (λ lane. unspilt lane) ∙ size in
       let first : lane_in (run_order sys j) (1 + m) ≡ unspilt raw =
       ap (λ n. lane_in (run_order sys j) (1 + n)) (sym kept_size)
-      ∙ sym (lane-stood sys stimuli j its.lawful its.is_sim t (map (λ lane. unspilt lane) front) (unspilt raw) (map (λ lane. unspilt lane) back) kept) in
+      ∙ sym (lane-stood sys stimuli j its.lawful single t (map (λ lane. unspilt lane) front) (unspilt raw) (map (λ lane. unspilt lane) back) kept) in
       let second : lane_in last (1 + m) ≡ spills raw =
       in-last (1 + m) (λ e. omega (arith, e)) ∙ ap (λ n. lane_in (spills_from 1 (source_lanes sys j)) (1 + n)) (sym size)
       ∙ ap (λ ls. lane_in (spills_from 1 ls) (1 + length front)) are ∙ spills-at 1 front raw back in
@@ -315,43 +319,45 @@ module _ (sys : System) (stimuli : List (List Stim)) (j : Journal) (sound : IsSo
         ∙ at.0;
   }
 
-pub each-tidy : SimJournalsAreTidy
+pub each-tidy : OneThreadJournalsAreTidy
 each-tidy sys stimuli j sound fit its = tidy sys stimuli j sound fit its
 
 -- what a record says that is kept is something
-said-kept : (i : Item) → is_kept i ≡ true → is_malformed i.body ≡ false
-said-kept i kept = by i.body (and_parts (nat_le i.of 32) _ kept).1
+said-kept : (rests : Bool) (i : Item) → is_kept_by rests i ≡ true → is_malformed i.body ≡ false
+said-kept rests i kept = by i.body (and_parts (nat_le i.of 32) _ kept).1
   where
-    by : (b : Body) → is_said b ≡ true → is_malformed b ≡ false
+    by : (b : Body) → is_said_by rests b ≡ true → is_malformed b ≡ false
     by body.Malformed said = absurd (false≢true said)
     by _ said = refl
 
--- so the records of a journal of `sim` are told by what they say
+-- so the records of such a journal are told by what they say
 module _ (sys : System) (stimuli : List (List Stim)) (sound : IsSound sys) (fit : StimuliFit sys stimuli) where
-  recs-back : (j : Journal) → IsSimJournal sys stimuli j → map (map rec_in) (map (λ lane. lane_items lane) j.lanes) ≡ j.lanes
-  recs-back j its = lanes-of is_kept said-kept j.lanes (each-kept sys stimuli j sound fit.few false sim its.is_sim refl its.lawful refl)
+  recs-back : (j : Journal) → IsOneThreadJournal sys stimuli j → map (map rec_in) (map (λ lane. lane_items lane) j.lanes) ≡ j.lanes
+  recs-back j its =
+      lanes-of (is_kept_by (j.kernel == qv)) (said-kept (j.kernel == qv)) j.lanes
+      (each-kept sys stimuli j sound fit.few (j.kernel == qv) j.kernel refl (no-threads j.kernel its.one_thread).1 its.lawful refl)
 
-  one-journal : (i j : Journal) → IsSimJournal sys stimuli i → IsSimJournal sys stimuli j → i.budget ≡ j.budget
+  one-journal : (i j : Journal) → IsOneThreadJournal sys stimuli i → IsOneThreadJournal sys stimuli j → j.kernel ≡ i.kernel → i.budget ≡ j.budget
       → map (λ lane. lane_items lane) i.lanes ≡ map (λ lane. lane_items lane) j.lanes → i.end ≡ j.end → i ≡ j
-  one-journal i j one two budgets same ends =
-      let kernels : i.kernel ≡ j.kernel = one.is_sim ∙ sym two.is_sim in
+  one-journal i j one two same_kernel budgets same ends =
+      let kernels : i.kernel ≡ j.kernel = sym same_kernel in
       let lanes : i.lanes ≡ j.lanes = sym (recs-back i one) ∙ ap (map (map rec_in)) same ∙ recs-back j two in
       λ n. record { kernel = kernels n; budget = budgets n; lanes = lanes n; end = ends n }
 
 -- of two in which no lane ended with a `spill`
 pub unspilt-one : UnspiltJournalsAreOne
-unspilt-one sys stimuli i j sound fit one two budgets none_i none_j =
-    let same = tidy_journals_are_one sys stimuli i j sound (sound-followable sys sound) one.lawful two.lawful one.is_sim two.is_sim budgets none_i none_j
+unspilt-one sys stimuli i j sound fit one two kernels budgets none_i none_j =
+    let same = tidy_journals_are_one sys stimuli i j sound (sound-followable sys sound) one.lawful two.lawful one.one_thread kernels budgets none_i none_j
     (tidy sys stimuli i sound fit one) (tidy sys stimuli j sound fit two) in
-    sym (one-journal sys stimuli sound fit i j one two budgets same.0 same.1)
+    sym (one-journal sys stimuli sound fit i j one two kernels budgets same.0 same.1)
 
 pub short-unspilt : ShortJournalsAreUnspilt
-short-unspilt sys stimuli j its short = short_journals_are_unspilt sys stimuli j its.lawful its.is_sim short
+short-unspilt sys stimuli j its short = short_journals_are_unspilt sys stimuli j its.lawful its.one_thread short
 
-pub all-one : SimJournalsAreOne
-all-one sys stimuli i j sound fit one two budgets short =
-    by (short_journals_leave_no_spill sys stimuli i j sound (sound-followable sys sound) one.lawful two.lawful one.is_sim two.is_sim budgets short (tidy sys stimuli i sound fit one) (tidy sys stimuli j sound fit two))
+pub all-one : OneThreadJournalsAreOne
+all-one sys stimuli i j sound fit one two kernels budgets short =
+    by (short_journals_leave_no_spill sys stimuli i j sound (sound-followable sys sound) one.lawful two.lawful one.one_thread kernels budgets short (tidy sys stimuli i sound fit one) (tidy sys stimuli j sound fit two))
   where
     by : IsUnspilt j ⊎ LacksStimulus sys stimuli j → (j ≡ i) ⊎ LacksStimulus sys stimuli j
-    by (inl none) = inl (unspilt-one sys stimuli i j sound fit one two budgets (short-unspilt sys stimuli i one short) none)
+    by (inl none) = inl (unspilt-one sys stimuli i j sound fit one two kernels budgets (short-unspilt sys stimuli i one short) none)
     by (inr lacks) = inr lacks

@@ -13,7 +13,6 @@ use Rattle.qp_model.specs.declared.bodies.Body.TheVariants as body
 use Rattle.qp_model.specs.Record.{Item}
 use Rattle.qp_model.specs.Knowing.{Facts, told, records_of, ceiling_over}
 use Rattle.qp_model.specs.Ends.{is_spill, spills_in}
-use Rattle.qp_model.specs.Kernels.{sim}
 use Rattle.qp_model.specs.OneOrder.{Placed, Turn, with_stimuli, parts_of_look, turns_at, acts_next, is_turn, begun, look_of, stim_of, is_stim_at}
 use Rattle.qp_check_sources.specs.SourceState.{SourceState, Between, Within, source_next, source_after}
 use Rattle.qp_model_order.proofs.MergeLemmas.{stimuli-append}
@@ -107,12 +106,12 @@ any-lane n (x ∷ front) l back h = by (list_any (λ i. is_stim_at n i.body) x) 
     by false h = h
 
 -- the first record of a source is a `stim`
-pub first-stim : (sys : System) (w : Facts) (i : Item) (next : SourceState) (ss : List Stim) → source_next sys sim (Between 1 ss) (told w 0 0 i.body) ≡ Some next → begins i ≡ true
-first-stim sys w i next ss h = by (begins i) refl
+pub first-stim : (sys : System) (kernel : ℕ) (w : Facts) (i : Item) (next : SourceState) (ss : List Stim) → source_next sys kernel (Between 1 ss) (told w 0 0 i.body) ≡ Some next → begins i ≡ true
+first-stim sys kernel w i next ss h = by (begins i) refl
   where
     by : (b : Bool) → begins i ≡ b → begins i ≡ true
     by true e = e
-    by false e = absurd (let other = other-read sys w 0 (Between 1 ss) next i.body (no-stim i.body e) h in let no : Between 1 ss ≡ Within other.0 other.2 other.3 = other.4 in cc)
+    by false e = absurd (let other = other-read sys kernel w 0 (Between 1 ss) next i.body (no-stim i.body e) h in let no : Between 1 ss ≡ Within other.0 other.2 other.3 = other.4 in cc)
 
 -- the records of a lane, behind a record of lane 0 and some of one source
 pub lane-with : (xs : List Placed) (i : Item) (m : ℕ) (gs : List Item) (j : ℕ) → (j ≡ 0 → ⊥) → lane_in (xs ++ placed 0 i ∷ all_placed (1 + m) gs) j ≡ lane_in xs j ++ lane_in (all_placed (1 + m) gs) j
@@ -175,17 +174,17 @@ module _ (sys : System) (stimuli : List (List Stim)) where
         let source : 1 + m ≡ t.source = sym it.source ∙ turns.2 in
         let own = a.source one.front one.own one.back one.are in
         let alone_own = alone-at it.before it.stim it.behind (subst alone it.is own.0) in
-        let read : source_after sys sim (Some (Between 1 (get_or stimuli m []))) (records_of a.w 0 0 (it.before ++ it.stim ∷ it.behind)) ≡ Some own.1 =
-        subst (λ l. source_after sys sim (Some (Between 1 (get_or stimuli m []))) (records_of a.w 0 0 l) ≡ Some own.1) it.is own.3 in
-        let split = after-split sys (Between 1 (get_or stimuli m [])) own.1 (records_of a.w 0 0 it.before) (records_of a.w 0 (ceiling_over 0 it.before) (it.stim ∷ it.behind))
-        (subst (λ ts. source_after sys sim (Some (Between 1 (get_or stimuli m []))) ts ≡ Some own.1) (records_of-append a.w 0 0 it.before (it.stim ∷ it.behind)) read) in
-        let next = after-first sys split.0 own.1 (told a.w 0 (ceiling_over 0 it.before) it.stim.body) _
-        (subst (λ ts. source_after sys sim (Some split.0) ts ≡ Some own.1) (record-first a.w (ceiling_over 0 it.before) it.stim it.behind alone_own.0) split.2) in
+        let read : source_after sys a.kernel (Some (Between 1 (get_or stimuli m []))) (records_of a.w 0 0 (it.before ++ it.stim ∷ it.behind)) ≡ Some own.1 =
+        subst (λ l. source_after sys a.kernel (Some (Between 1 (get_or stimuli m []))) (records_of a.w 0 0 l) ≡ Some own.1) it.is own.3 in
+        let split = after-split sys a.kernel (Between 1 (get_or stimuli m [])) own.1 (records_of a.w 0 0 it.before) (records_of a.w 0 (ceiling_over 0 it.before) (it.stim ∷ it.behind))
+        (subst (λ ts. source_after sys a.kernel (Some (Between 1 (get_or stimuli m []))) ts ≡ Some own.1) (records_of-append a.w 0 0 it.before (it.stim ∷ it.behind)) read) in
+        let next = after-first sys a.kernel split.0 own.1 (told a.w 0 (ceiling_over 0 it.before) it.stim.body) _
+        (subst (λ ts. source_after sys a.kernel (Some split.0) ts ≡ Some own.1) (record-first a.w (ceiling_over 0 it.before) it.stim it.behind alone_own.0) split.2) in
         let stim_body : it.stim.body ≡ body.Stim turns.0.place n = stim-is it.stim.body turns.0.place n it.begins_it in
-        let reads = stim-read sys a.w (ceiling_over 0 it.before) split.0 next.0 turns.0.place n
-        (subst (λ d. source_next sys sim split.0 (told a.w 0 (ceiling_over 0 it.before) d) ≡ Some next.0) stim_body next.1) in
+        let reads = stim-read sys a.kernel a.w (ceiling_over 0 it.before) split.0 next.0 turns.0.place n
+        (subst (λ d. source_next sys a.kernel split.0 (told a.w 0 (ceiling_over 0 it.before) d) ≡ Some next.0) stim_body next.1) in
         let placed_at : place_of split.0 ≡ 1 + begun_in it.before =
-        place-after sys a.w 0 (Between 1 (get_or stimuli m [])) split.0 it.before (alone-front it.before (it.stim ∷ it.behind) (subst alone it.is own.0)) split.1 in
+        place-after sys a.kernel a.w 0 (Between 1 (get_or stimuli m [])) split.0 it.before (alone-front it.before (it.stim ∷ it.behind) (subst alone it.is own.0)) split.1 in
         let front = fronts one.front one.own one.back one.are in
         let first : begins it.stim ≡ true = rw it.begins_it refl in
         let so_many : t.place ≡ begun xs t.source + 1 = acts-place sys stimuli xs (floor == 0) t acts in
@@ -258,15 +257,15 @@ module _ (sys : System) (stimuli : List (List Stim)) where
         let source = a.source before l behind is in
         let start = Between 1 (get_or stimuli (length before) []) in
         let own = alone-at front st more (subst alone split source.0) in
-        let read : source_after sys sim (Some start) (records_of a.w 0 0 (front ++ st ∷ more)) ≡ Some source.1 =
-        subst (λ x. source_after sys sim (Some start) (records_of a.w 0 0 x) ≡ Some source.1) split source.3 in
-        let two = after-split sys start source.1 (records_of a.w 0 0 front) (records_of a.w 0 (ceiling_over 0 front) (st ∷ more))
-        (subst (λ ts. source_after sys sim (Some start) ts ≡ Some source.1) (records_of-append a.w 0 0 front (st ∷ more)) read) in
-        let next = after-first sys two.0 source.1 (told a.w 0 (ceiling_over 0 front) st.body) _
-        (subst (λ ts. source_after sys sim (Some two.0) ts ≡ Some source.1) (record-first a.w (ceiling_over 0 front) st more own.0) two.2) in
-        let reads = stim-read sys a.w (ceiling_over 0 front) two.0 next.0 p n
-        (subst (λ d. source_next sys sim two.0 (told a.w 0 (ceiling_over 0 front) d) ≡ Some next.0) stim next.1) in
-        let place : place_of two.0 ≡ 1 + begun_in front = place-after sys a.w 0 start two.0 front (alone-front front (st ∷ more) (subst alone split source.0)) two.1 in
+        let read : source_after sys a.kernel (Some start) (records_of a.w 0 0 (front ++ st ∷ more)) ≡ Some source.1 =
+        subst (λ x. source_after sys a.kernel (Some start) (records_of a.w 0 0 x) ≡ Some source.1) split source.3 in
+        let two = after-split sys a.kernel start source.1 (records_of a.w 0 0 front) (records_of a.w 0 (ceiling_over 0 front) (st ∷ more))
+        (subst (λ ts. source_after sys a.kernel (Some start) ts ≡ Some source.1) (records_of-append a.w 0 0 front (st ∷ more)) read) in
+        let next = after-first sys a.kernel two.0 source.1 (told a.w 0 (ceiling_over 0 front) st.body) _
+        (subst (λ ts. source_after sys a.kernel (Some two.0) ts ≡ Some source.1) (record-first a.w (ceiling_over 0 front) st more own.0) two.2) in
+        let reads = stim-read sys a.kernel a.w (ceiling_over 0 front) two.0 next.0 p n
+        (subst (λ d. source_next sys a.kernel two.0 (told a.w 0 (ceiling_over 0 front) d) ≡ Some next.0) stim next.1) in
+        let place : place_of two.0 ≡ 1 + begun_in front = place-after sys a.kernel a.w 0 start two.0 front (alone-front front (st ∷ more) (subst alone split source.0)) two.1 in
         reads.0 ∙ place
 
     -- no stimulus is left over
@@ -351,9 +350,9 @@ module _ (sys : System) (stimuli : List (List Stim)) where
         by (i ∷ l) is own =
             let source = a.source before (i ∷ l) behind is in
             let at = alone-at [] i l own in
-            let next = after-first sys (Between 1 (get_or stimuli (length before) [])) source.1 (told a.w 0 0 i.body) _
-            (subst (λ ts. source_after sys sim (Some (Between 1 (get_or stimuli (length before) []))) ts ≡ Some source.1) (record-first a.w 0 i l at.0) source.3) in
-            first-stim sys a.w i next.0 (get_or stimuli (length before) []) next.1
+            let next = after-first sys a.kernel (Between 1 (get_or stimuli (length before) [])) source.1 (told a.w 0 0 i.body) _
+            (subst (λ ts. source_after sys a.kernel (Some (Between 1 (get_or stimuli (length before) []))) ts ≡ Some source.1) (record-first a.w 0 i l at.0) source.3) in
+            first-stim sys a.kernel a.w i next.0 (get_or stimuli (length before) []) next.1
 
     -- in an order in which each look is of no object
     module _ (looks : (xs : List Item) (i : Item) (ys : List Item) → a.lane0 ≡ xs ++ i ∷ ys → (n floor : ℕ) → i.body ≡ body.Look n floor → i ≡ look_item n floor) where

@@ -1,4 +1,4 @@
--- What is known of a lawful, tidy journal of `sim`.
+-- What is known of a lawful, tidy journal of a run with one thread.
 use Rattle.std.proofs.Common.{◌≡◌, ◌∙◌, ℕ, ◌+◌, ◌==◌, Bool, true, false, not, ◌||◌, cond, List, [], ◌∷◌, ◌++◌, length, Some, None, refl, sym, ap, subst, inl, inr, ◌⊎◌, arith, append-nil}
 use Rattle.std.proofs.lemmas.Bool.{and_parts, ne_eqb}
 use Rattle.std.proofs.lemmas.Bool.Decides.{nat_tests}
@@ -26,7 +26,7 @@ use Rattle.qp_model.specs.Machine.{Machine, after, after_from, is_allowed, allow
 use Rattle.qp_model.specs.Line.{line}
 use Rattle.qp_model.proofs.MachineLemmas.{is_allowed-append}
 use Rattle.qp_model.specs.Home.{lane_at, home_of, own_items, home_records}
-use Rattle.qp_model.specs.Kernels.{sim, port}
+use Rattle.qp_model.specs.Kernels.{port}
 use Rattle.qp_model.specs.Places.{in_order}
 use Rattle.qp_model.specs.Sites.{object_at, ring_of}
 use Rattle.qp_model.specs.Course.{Cut, Whole, Stopped, Anywhere, FollowsTo, actor, first_config}
@@ -53,7 +53,7 @@ use Rattle.qp_sim_unique.proofs.ComesLemmas.{comes-front, known-front}
 use Rattle.qp_sim_unique.proofs.StackLemmas.{found-in}
 use Rattle.qp_sim_unique.proofs.NilLemmas.{is_nil, Nilless, cut-nilless}
 use Rattle.qp_sim_unique.proofs.JournalLemmas.{Threaded, kept_zero, inside, in-order, each-unspilt, cut-shape, kept-front, kept-none}
-use Rattle.qp_sim_unique.proofs.Sides.{EndsOwn, MayEnd, in_sim, held_to}
+use Rattle.qp_sim_unique.proofs.Sides.{EndsOwn, MayEnd, HasKernel, in_kernel, no-port, held_to}
 use Rattle.qp_check_sources.proofs.LaneLemmas.{runs-flag}
 
 pub all-of : (p : Item → Bool) (xs : List Item) → list_all p xs ≡ true → AllByRecursion (λ i. p i ≡ true) xs
@@ -171,9 +171,13 @@ raw-ends sys stimuli j law t =
     let all = subst (λ ls. list_all (λ lane. ends_last (lane_items lane)) ls ≡ true) t.lanes law.end.last in
     ap (λ lane. ends_last (lane_items lane)) t.zero_is ∙ (and_parts (ends_last (lane_items t.first)) _ all).0
 
-module _ (sys : System) (stimuli : List (List Stim)) (j : Journal) (law : Lawful sys stimuli j) (is_sim : j.kernel ≡ sim) (t : Threaded sys stimuli j) where
+module _ (sys : System) (stimuli : List (List Stim)) (j : Journal) (law : Lawful sys stimuli j) {kernel : ℕ} (single : HasKernel kernel j) (t : Threaded sys stimuli j) where
   abbrev pub has_one : ℕ → Bool
   has_one = (setting_of sys j).has_stimulus
+
+  setting-is : setting_of sys j ≡ in_kernel kernel sys has_one
+  unfolding setting_of
+  setting-is = ap (λ k. record { sys = sys; kernel = k; has_stimulus = (setting_of sys j).has_stimulus }) single.is
 
   abbrev pub raw_lane : List Item
   raw_lane = lane_items (lane_at j 0)
@@ -182,28 +186,28 @@ module _ (sys : System) (stimuli : List (List Stim)) (j : Journal) (law : Lawful
   zero_lane = kept_zero j
 
   -- lane 0 has been read
-  pub raw-read : (last : Reading) × (lane_on (in_sim sys has_one) (unread sys) raw_lane ≡ Some last) × ((may_cut j.end ≡ true) ⊎ (is_whole sim last ≡ true))
+  pub raw-read : (last : Reading) × (lane_on (in_kernel kernel sys has_one) (unread sys) raw_lane ≡ Some last) × ((may_cut j.end ≡ true) ⊎ (is_whole kernel last ≡ true))
   unfolding lane_read
-  raw-read = by _ (lane_read (setting_of sys j) raw_lane) (ap (λ s. lane_on s (unread s.sys) raw_lane) t.setting) t.kernel.lane
+  raw-read = by _ (lane_read (setting_of sys j) raw_lane) (ap (λ s. lane_on s (unread s.sys) raw_lane) setting-is) t.kernel.lane
     where
-      by : (settles : ℕ) (o : Option Reading) → o ≡ lane_on (in_sim sys has_one) (unread sys) raw_lane → reading_holds j raw_lane settles o ≡ true
-          → (last : Reading) × (lane_on (in_sim sys has_one) (unread sys) raw_lane ≡ Some last) × ((may_cut j.end ≡ true) ⊎ (is_whole sim last ≡ true))
+      by : (settles : ℕ) (o : Option Reading) → o ≡ lane_on (in_kernel kernel sys has_one) (unread sys) raw_lane → reading_holds j raw_lane settles o ≡ true
+          → (last : Reading) × (lane_on (in_kernel kernel sys has_one) (unread sys) raw_lane ≡ Some last) × ((may_cut j.end ≡ true) ⊎ (is_whole kernel last ≡ true))
       by settles None e h = absurd (cc)
       by settles (Some k) e h = (k, sym e, on (may_cut j.end) refl (and_parts _ _ h).1)
         where
-          on : (b : Bool) → may_cut j.end ≡ b → cond b ((length k.unstarted == 0) || list_any (λ i. is_assert i.body) raw_lane) (is_whole j.kernel k) ≡ true → (may_cut j.end ≡ true) ⊎ (is_whole sim k ≡ true)
+          on : (b : Bool) → may_cut j.end ≡ b → cond b ((length k.unstarted == 0) || list_any (λ i. is_assert i.body) raw_lane) (is_whole j.kernel k) ≡ true → (may_cut j.end ≡ true) ⊎ (is_whole kernel k ≡ true)
           on true e h = inl e
-          on false e h = inr (subst (λ n. is_whole n k ≡ true) is_sim h)
+          on false e h = inr (subst (λ n. is_whole n k ≡ true) single.is h)
 
   -- and so it has without its `spill`
-  pub kernel-read : (last : Reading) × (lane_on (in_sim sys has_one) (unread sys) zero_lane ≡ Some last)
+  pub kernel-read : (last : Reading) × (lane_on (in_kernel kernel sys has_one) (unread sys) zero_lane ≡ Some last)
   kernel-read =
       let front = kept-front j.end raw_lane t.zero_cut in
-      by front.0 (lane_on (in_sim sys has_one) (unread sys) zero_lane) refl
-      (sym (lane_on-append (in_sim sys has_one) (unread sys) zero_lane front.0) ∙ ap (lane_on (in_sim sys has_one) (unread sys)) (sym front.1) ∙ raw-read.1)
+      by front.0 (lane_on (in_kernel kernel sys has_one) (unread sys) zero_lane) refl
+      (sym (lane_on-append (in_kernel kernel sys has_one) (unread sys) zero_lane front.0) ∙ ap (lane_on (in_kernel kernel sys has_one) (unread sys)) (sym front.1) ∙ raw-read.1)
     where
-      by : (rest : List Item) (o : Option Reading) → lane_on (in_sim sys has_one) (unread sys) zero_lane ≡ o → option_and_then (λ m. lane_on (in_sim sys has_one) m rest) o ≡ Some raw-read.0
-          → (last : Reading) × (lane_on (in_sim sys has_one) (unread sys) zero_lane ≡ Some last)
+      by : (rest : List Item) (o : Option Reading) → lane_on (in_kernel kernel sys has_one) (unread sys) zero_lane ≡ o → option_and_then (λ m. lane_on (in_kernel kernel sys has_one) m rest) o ≡ Some raw-read.0
+          → (last : Reading) × (lane_on (in_kernel kernel sys has_one) (unread sys) zero_lane ≡ Some last)
       by rest None e h = absurd (cc)
       by rest (Some last) e h = (last, e)
 
@@ -214,7 +218,7 @@ module _ (sys : System) (stimuli : List (List Stim)) (j : Journal) (law : Lawful
   cut-is : (o : ℕ) → (cut_of sys j o ≡ Whole) ⊎ ((cut_of sys j o ≡ Stopped) ⊎ (spill_cuts o raw_lane ≡ true))
   unfolding cut_of home_of
   cut-is o =
-      let no_port : (j.kernel == port) ≡ false = rw is_sim refl in
+      let no_port : (j.kernel == port) ≡ false = no-port single in
       let home : home_of sys j o ≡ 0 = rw no_port refl in
       by (may_cut j.end) (spill_cuts o (lane_items (lane_at j (home_of sys j o)))) (ap (λ n. spill_cuts o (lane_items (lane_at j n))) home)
     where
@@ -225,20 +229,20 @@ module _ (sys : System) (stimuli : List (List Stim)) (j : Journal) (law : Lawful
       by false c e = inl refl
 
   -- a `spill` is no piece of an object
-  pieces-same : (p : ℕ) → (p ≡ 0 → ⊥) → (w : Facts) → pieces_in w (in_sim sys has_one) p (unread sys) raw_lane ≡ pieces_in w (in_sim sys has_one) p (unread sys) zero_lane
+  pieces-same : (p : ℕ) → (p ≡ 0 → ⊥) → (w : Facts) → pieces_in w (in_kernel kernel sys has_one) p (unread sys) raw_lane ≡ pieces_in w (in_kernel kernel sys has_one) p (unread sys) zero_lane
   unfolding pieces_in lane_on
   pieces-same p some w = by (cut-shape j.end raw_lane t.zero_cut)
     where
       by : (raw_lane ≡ zero_lane) ⊎ ((s : Item) × (is_spill s.body ≡ true) × (raw_lane ≡ zero_lane ++ s ∷ []))
-          → pieces_in w (in_sim sys has_one) p (unread sys) raw_lane ≡ pieces_in w (in_sim sys has_one) p (unread sys) zero_lane
-      by (inl same) = ap (pieces_in w (in_sim sys has_one) p (unread sys)) same
+          → pieces_in w (in_kernel kernel sys has_one) p (unread sys) raw_lane ≡ pieces_in w (in_kernel kernel sys has_one) p (unread sys) zero_lane
+      by (inl same) = ap (pieces_in w (in_kernel kernel sys has_one) p (unread sys)) same
       by (inr (s, is_one, split)) =
           let k = kernel-read.0 in
-          let read : lane_on (in_sim sys has_one) k (s ∷ []) ≡ Some raw-read.0 =
-          sym (lane_on-then (in_sim sys has_one) (unread sys) k zero_lane (s ∷ []) kernel-read.1) ∙ ap (lane_on (in_sim sys has_one) (unread sys)) (sym split) ∙ raw-read.1 in
-          let none : pieces_at w p k s ≡ [] = spill-none w (in_sim sys has_one) p some k s is_one raw-read.0 read in
-          ap (pieces_in w (in_sim sys has_one) p (unread sys)) split ∙ pieces_in-then w (in_sim sys has_one) p (unread sys) k zero_lane (s ∷ []) kernel-read.1
-          ∙ ap (λ ps. pieces_in w (in_sim sys has_one) p (unread sys) zero_lane ++ (ps ++ [])) none ∙ append-nil _
+          let read : lane_on (in_kernel kernel sys has_one) k (s ∷ []) ≡ Some raw-read.0 =
+          sym (lane_on-then (in_kernel kernel sys has_one) (unread sys) k zero_lane (s ∷ []) kernel-read.1) ∙ ap (lane_on (in_kernel kernel sys has_one) (unread sys)) (sym split) ∙ raw-read.1 in
+          let none : pieces_at w p k s ≡ [] = spill-none w (in_kernel kernel sys has_one) p some k s is_one raw-read.0 read in
+          ap (pieces_in w (in_kernel kernel sys has_one) p (unread sys)) split ∙ pieces_in-then w (in_kernel kernel sys has_one) p (unread sys) k zero_lane (s ∷ []) kernel-read.1
+          ∙ ap (λ ps. pieces_in w (in_kernel kernel sys has_one) p (unread sys) zero_lane ++ (ps ++ [])) none ∙ append-nil _
 
   -- no queue is found empty by an object
   pub unmarked-of : (xs : List Item) (i : Item) (ys : List Item) → zero_lane ≡ xs ++ i ∷ ys → (object_at sys i.of ≡ None → ⊥) → (f l m : ℕ) → i.body ≡ body.Nil f l m → ⊥
@@ -252,7 +256,7 @@ module _ (sys : System) (stimuli : List (List Stim)) (j : Journal) (law : Lawful
       whole = (kept-front j.end raw_lane t.zero_cut).1 ∙ ap (λ us. us ++ rest) split ∙ append_assoc xs (i ∷ ys) rest
 
       no_port : (j.kernel == port) ≡ false
-      no_port = rw is_sim refl
+      no_port = no-port single
 
       nil-in : (w : Facts) (c : ℕ) (xs : List Item) → Nilless (records_of w i.of c (xs ++ i ∷ (ys ++ rest))) → ⊥
       nil-in w c xs h = nil-among w i.of f l m i (ys ++ rest) refl nil c xs h
@@ -278,20 +282,20 @@ module _ (sys : System) (stimuli : List (List Stim)) (j : Journal) (law : Lawful
     chart_of p d is = (followable p d is).its
 
     pub course-of : (p : ℕ) (d : ObjectDef) (is : object_at sys p ≡ Some d)
-        → (end : State) × (run sys (actor d (chart_of p d is)) (start_state (actor d (chart_of p d is)) (first_config d)) (pieces_in (facts_of sys j) (in_sim sys has_one) p (unread sys) zero_lane) ≡ Some end)
-        × (MayEnd (ends_at_point (pieces_in (facts_of sys j) (in_sim sys has_one) p (unread sys) zero_lane)) end ⊎ EndsOwn p zero_lane)
+        → (end : State) × (run sys (actor d (chart_of p d is)) (start_state (actor d (chart_of p d is)) (first_config d)) (pieces_in (facts_of sys j) (in_kernel kernel sys has_one) p (unread sys) zero_lane) ≡ Some end)
+        × (MayEnd (ends_at_point (pieces_in (facts_of sys j) (in_kernel kernel sys has_one) p (unread sys) zero_lane)) end ⊎ EndsOwn p zero_lane)
     unfolding object_at lane_pieces facts_of reads_to
     course-of p d is =
         let found = found-in (λ x. x.priority == p) sys.objects d is
         (λ d. FollowsTo sys d (cut_of sys j d.priority) (lane_pieces (facts_of sys j) (setting_of sys j) d.priority raw_lane)) t.kernel.points in
         let test : (d.priority == p) ≡ true = found.1 in
         let own : d.priority ≡ p = grind (arith, nat_tests) in
-        let moved : FollowsTo sys d (cut_of sys j p) (pieces_in (facts_of sys j) (in_sim sys has_one) p (unread sys) zero_lane) =
+        let moved : FollowsTo sys d (cut_of sys j p) (pieces_in (facts_of sys j) (in_kernel kernel sys has_one) p (unread sys) zero_lane) =
         subst (FollowsTo sys d (cut_of sys j p)) (pieces-same p (positive p d is) (facts_of sys j))
-        (subst (λ s. FollowsTo sys d (cut_of sys j p) (pieces_in (facts_of sys j) s p (unread sys) raw_lane)) t.setting
+        (subst (λ s. FollowsTo sys d (cut_of sys j p) (pieces_in (facts_of sys j) s p (unread sys) raw_lane)) setting-is
         (subst (λ o. FollowsTo sys d (cut_of sys j o) (pieces_in (facts_of sys j) (setting_of sys j) o (unread sys) raw_lane)) own found.0)) in
-        let reads = runs-flag _ _ (pieces-decided sys d (followable p d is) (cut_of sys j p) (pieces_in (facts_of sys j) (in_sim sys has_one) p (unread sys) zero_lane)) moved in
-        by (run sys (actor d (chart_of p d is)) (start_state (actor d (chart_of p d is)) (first_config d)) (pieces_in (facts_of sys j) (in_sim sys has_one) p (unread sys) zero_lane)) refl
+        let reads = runs-flag _ _ (pieces-decided sys d (followable p d is) (cut_of sys j p) (pieces_in (facts_of sys j) (in_kernel kernel sys has_one) p (unread sys) zero_lane)) moved in
+        by (run sys (actor d (chart_of p d is)) (start_state (actor d (chart_of p d is)) (first_config d)) (pieces_in (facts_of sys j) (in_kernel kernel sys has_one) p (unread sys) zero_lane)) refl
         (and_parts _ _ reads).0 (cut-is p)
       where
         either : (b c : Bool) (s : State) (at : Bool) → (at || (is_end_of_course s || expects_point s)) ≡ true → MayEnd at s
@@ -317,11 +321,11 @@ module _ (sys : System) (stimuli : List (List Stim)) (j : Journal) (law : Lawful
             unmarked us i split own (inr (inr spent)) unended = absurd (let no : is_end body.Spent ≡ false = subst (λ b. is_end b ≡ false) spent unended in cc)
 
         by : (o : Option State)
-            → run sys (actor d (chart_of p d is)) (start_state (actor d (chart_of p d is)) (first_config d)) (pieces_in (facts_of sys j) (in_sim sys has_one) p (unread sys) zero_lane) ≡ o
-            → ends_well (cut_of sys j p) (ends_at_point (pieces_in (facts_of sys j) (in_sim sys has_one) p (unread sys) zero_lane)) o ≡ true
+            → run sys (actor d (chart_of p d is)) (start_state (actor d (chart_of p d is)) (first_config d)) (pieces_in (facts_of sys j) (in_kernel kernel sys has_one) p (unread sys) zero_lane) ≡ o
+            → ends_well (cut_of sys j p) (ends_at_point (pieces_in (facts_of sys j) (in_kernel kernel sys has_one) p (unread sys) zero_lane)) o ≡ true
             → (cut_of sys j p ≡ Whole) ⊎ ((cut_of sys j p ≡ Stopped) ⊎ (spill_cuts p raw_lane ≡ true))
-            → (end : State) × (run sys (actor d (chart_of p d is)) (start_state (actor d (chart_of p d is)) (first_config d)) (pieces_in (facts_of sys j) (in_sim sys has_one) p (unread sys) zero_lane) ≡ Some end)
-            × (MayEnd (ends_at_point (pieces_in (facts_of sys j) (in_sim sys has_one) p (unread sys) zero_lane)) end ⊎ EndsOwn p zero_lane)
+            → (end : State) × (run sys (actor d (chart_of p d is)) (start_state (actor d (chart_of p d is)) (first_config d)) (pieces_in (facts_of sys j) (in_kernel kernel sys has_one) p (unread sys) zero_lane) ≡ Some end)
+            × (MayEnd (ends_at_point (pieces_in (facts_of sys j) (in_kernel kernel sys has_one) p (unread sys) zero_lane)) end ⊎ EndsOwn p zero_lane)
         by None e h cut = absurd (cc)
         by (Some s) e h cut = (s, e, may (cut_of sys j p) s _ cut h)
 

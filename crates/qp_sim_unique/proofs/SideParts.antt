@@ -1,4 +1,4 @@
--- The lanes of sources and the budgets of a lawful journal of `sim`.
+-- The lanes of sources and the budgets of a lawful journal of a run with one thread.
 use Rattle.std.proofs.Common.{◌≡◌, ◌∙◌, ◌⊎◌, inl, inr, append-nil, ℕ, suc, ◌+◌, ◌<◌, ◌≤◌, ◌==◌, nat_le, nat_lt, Bool, true, false, not, ◌&&◌, ◌||◌, cond, List, [], ◌∷◌, ◌++◌, map, length, drop, get_or, Some, None, refl, sym, ap, subst, arith}
 use Rattle.std.proofs.lemmas.Bool.{and_from, and_parts, ne_eqb}
 use Rattle.std.proofs.lemmas.Bool.Decides.{nat_tests}
@@ -22,11 +22,11 @@ use Rattle.qp_model.specs.Ends.{is_spill, is_end, is_spent, spills_cut, spills_i
 use Rattle.qp_model.specs.End.{spill_states, spills_state, takes_of, took_count, spent_right, spents_hold}
 use Rattle.qp_model.specs.History.{all_items, lane_items}
 use Rattle.qp_model.specs.Home.{lane_at, home_of}
-use Rattle.qp_model.specs.Kernels.{sim}
 use Rattle.qp_model.specs.Sites.{object_at}
 use Rattle.qp_model.specs.KernelLane.{Reading, lane_on, lane_next, unread}
 use Rattle.qp_model.specs.OneOrder.{Placed, acts_next, is_stim_at, is_turn, no_look, turns_at, with_stimuli, parts_of_look, look_of, stim_of, look_numbers, stims_placed}
 use Rattle.qp_model.specs.Sources.{SourceEnd, InStimulus, IsSourceLane, SourceRuns, source_records, may_end}
+use Rattle.qp_model.specs.Kernels.{port}
 use Rattle.qp_model.specs.Lawful.{Lawful, EndHolds, SourceLanes, facts_of, setting_of, source_lanes, lanes_before, one_thread}
 use Rattle.qp_model.proofs.KernelRowLemmas.{lane_on-append}
 use Rattle.qp_check_sources.specs.SourceState.{SourceState, Between, source_after, source_stops, stops_after}
@@ -44,7 +44,7 @@ use Rattle.qp_sim_unique.proofs.LoopLemmas.{look-whole}
 use Rattle.qp_sim_unique.proofs.RunLanes.{lane-stands, look-body}
 use Rattle.qp_sim_unique.proofs.JournalLemmas.{parts-all, Threaded, all-split, lane0-is, inside, ends-run, turn-at, each-unspilt, lane-each, drop-at, has_spilt, kept_sources, kept_zero, lanes-kept, lanes-none, spill-no_look}
 use Rattle.qp_sim_unique.proofs.SideLemmas.{all-of, kernel-read, unspilt-zero, has_one}
-use Rattle.qp_sim_unique.proofs.Sides.{Lined, LongFront, in_sim, lane_in}
+use Rattle.qp_sim_unique.proofs.Sides.{Lined, LongFront, HasKernel, in_kernel, no-port, lane_in}
 use Rattle.qp_model.proofs.NumberLemmas.{every-append, count-append}
 use Rattle.qp_model.proofs.TakenLemmas.{list_all-at}
 use Rattle.qp_model.proofs.ListLemmas.{every-parts}
@@ -252,7 +252,7 @@ spents-each sys j n (l ∷ ls) h =
     each [] h = tt
     each (i ∷ is) h = let parts = and_parts _ _ h in (λ spent. right i parts.0 spent, each is parts.1)
 
-module _ (sys : System) (stimuli : List (List Stim)) (j : Journal) (law : Lawful sys stimuli j) (is_sim : j.kernel ≡ sim) (t : Threaded sys stimuli j) where
+module _ (sys : System) (stimuli : List (List Stim)) (j : Journal) (law : Lawful sys stimuli j) {kernel : ℕ} (single : HasKernel kernel j) (t : Threaded sys stimuli j) where
   -- the lane of a source by its place
   source-nth : (n : ℕ) (sss : List (List Stim)) (recs : List (List Rec)) → drop n j.lanes ≡ recs → length recs ≡ length sss → SourceLanes sys j n sss
       → (front : List (List Item)) (l : List Item) (back : List (List Item)) → map (λ lane. lane_items lane) recs ≡ front ++ l ∷ back
@@ -294,24 +294,25 @@ module _ (sys : System) (stimuli : List (List Stim)) (j : Journal) (law : Lawful
 
   its-lane : (front : List (List Item)) (l : List Item) (back : List (List Item)) → source_lanes sys j ≡ front ++ l ∷ back → IsSourceLane (facts_of sys j) j.kernel j.end (get_or stimuli (length front) []) l
   its-lane front l back is =
-      let one : lanes_before sys j ≡ 1 = rw is_sim refl in
+      let no_port : (j.kernel == port) ≡ false = no-port single in
+      let one : lanes_before sys j ≡ 1 = rw no_port refl in
       source-nth 1 stimuli t.others (ap (drop 1) t.lanes) t.size (subst (λ n. SourceLanes sys j n stimuli) one law.sources.lanes) front l back (sym t.sources_are ∙ is)
 
   pub source-of : (front : List (List Item)) (l : List Item) (back : List (List Item)) → kept_sources sys j ≡ front ++ l ∷ back
       → (list_all (λ i. i.of == 0) l ≡ true) × (end : SourceState) × (stop : SourceEnd)
-      × (source_after sys sim (Some (Between 1 (get_or stimuli (length front) []))) (records_of (facts_of sys j) 0 0 l) ≡ Some end)
-      × (source_stops sim end stop ≡ true) × (stop ≡ InStimulus → (has_spilt sys j ≡ true) × (spill_free < length l))
+      × (source_after sys kernel (Some (Between 1 (get_or stimuli (length front) []))) (records_of (facts_of sys j) 0 0 l) ≡ Some end)
+      × (source_stops kernel end stop ≡ true) × (stop ≡ InStimulus → (has_spilt sys j ≡ true) × (spill_free < length l))
   unfolding source_records facts_of
   source-of front l back is =
       let at = kept-at (source_lanes sys j) front l back is in
       let lane = its-lane at.0 at.1 at.2 at.3 in
       let runs = lane.stimuli in
       let whole : source_records (facts_of sys j) at.1 ≡ records_of (facts_of sys j) 0 0 l = ap (records_of (facts_of sys j) 0 0) at.4 in
-      let goes : SourceRuns sys sim 1 (get_or stimuli (length front) []) runs.0 (records_of (facts_of sys j) 0 0 l) =
-      subst (λ n. SourceRuns sys sim 1 (get_or stimuli n []) runs.0 (records_of (facts_of sys j) 0 0 l)) at.5
-      (subst (λ ts. SourceRuns sys sim 1 (get_or stimuli (length at.0) []) runs.0 ts) whole (subst (λ k. SourceRuns sys k 1 (get_or stimuli (length at.0) []) runs.0 (source_records (facts_of sys j) at.1)) is_sim runs.1)) in
-      let stops = runs-flag _ _ (lane-stops call-laws sys sim 1 (get_or stimuli (length front) []) runs.0 (records_of (facts_of sys j) 0 0 l)) goes in
-      let end = by (source_after sys sim (Some (Between 1 (get_or stimuli (length front) []))) (records_of (facts_of sys j) 0 0 l)) refl runs.0 stops in (
+      let goes : SourceRuns sys kernel 1 (get_or stimuli (length front) []) runs.0 (records_of (facts_of sys j) 0 0 l) =
+      subst (λ n. SourceRuns sys kernel 1 (get_or stimuli n []) runs.0 (records_of (facts_of sys j) 0 0 l)) at.5
+      (subst (λ ts. SourceRuns sys kernel 1 (get_or stimuli (length at.0) []) runs.0 ts) whole (subst (λ k. SourceRuns sys k 1 (get_or stimuli (length at.0) []) runs.0 (source_records (facts_of sys j) at.1)) single.is runs.1)) in
+      let stops = runs-flag _ _ (lane-stops call-laws sys kernel 1 (get_or stimuli (length front) []) runs.0 (records_of (facts_of sys j) 0 0 l)) goes in
+      let end = by (source_after sys kernel (Some (Between 1 (get_or stimuli (length front) []))) (records_of (facts_of sys j) 0 0 l)) refl runs.0 stops in (
         subst (λ x. list_all (λ i. i.of == 0) x ≡ true) at.4 (all-kept (λ i. i.of == 0) at.1 lane.alone),
         end.0,
         runs.0,
@@ -324,8 +325,8 @@ module _ (sys : System) (stimuli : List (List Stim)) (j : Journal) (law : Lawful
         ),
       )
     where
-      by : (o : Option SourceState) → source_after sys sim (Some (Between 1 (get_or stimuli (length front) []))) (records_of (facts_of sys j) 0 0 l) ≡ o → (stop : SourceEnd) → stops_after sim o stop ≡ true
-          → (end : SourceState) × (source_after sys sim (Some (Between 1 (get_or stimuli (length front) []))) (records_of (facts_of sys j) 0 0 l) ≡ Some end) × (source_stops sim end stop ≡ true)
+      by : (o : Option SourceState) → source_after sys kernel (Some (Between 1 (get_or stimuli (length front) []))) (records_of (facts_of sys j) 0 0 l) ≡ o → (stop : SourceEnd) → stops_after kernel o stop ≡ true
+          → (end : SourceState) × (source_after sys kernel (Some (Between 1 (get_or stimuli (length front) []))) (records_of (facts_of sys j) 0 0 l) ≡ Some end) × (source_stops kernel end stop ≡ true)
       by None e stop h = absurd (cc)
       by (Some end) e stop h = (end, e, h)
 
@@ -339,28 +340,28 @@ module _ (sys : System) (stimuli : List (List Stim)) (j : Journal) (law : Lawful
           (and_parts (may_cut j.end) spills one).1
 
   -- a record of lane 0 may come where it stands
-  pub slot-at : (front : List Item) (i : Item) (back : List Item) → kept_zero j ≡ front ++ i ∷ back → (k next : Reading) × Slot (in_sim sys (has_one sys stimuli j law is_sim t)) k next i
+  pub slot-at : (front : List Item) (i : Item) (back : List Item) → kept_zero j ≡ front ++ i ∷ back → (k next : Reading) × Slot (in_kernel kernel sys (has_one sys stimuli j law single t)) k next i
   unfolding lane_on
   slot-at front i back is =
-      let read = kernel-read sys stimuli j law is_sim t in
-      let whole : lane_on (in_sim sys (has_one sys stimuli j law is_sim t)) (unread sys) (front ++ i ∷ back) ≡ Some read.0 =
-      subst (λ l. lane_on (in_sim sys (has_one sys stimuli j law is_sim t)) (unread sys) l ≡ Some read.0) is read.1 in
-      let unspilt = (none-at (λ x. is_spill x.body) front i back (subst (λ l. spills_in l ≡ false) is (unspilt-zero sys stimuli j law is_sim t))).0 in
-      by unspilt (lane_on (in_sim sys (has_one sys stimuli j law is_sim t)) (unread sys) front) read.0 (sym (lane_on-append (in_sim sys (has_one sys stimuli j law is_sim t)) (unread sys) front (i ∷ back)) ∙ whole)
+      let read = kernel-read sys stimuli j law single t in
+      let whole : lane_on (in_kernel kernel sys (has_one sys stimuli j law single t)) (unread sys) (front ++ i ∷ back) ≡ Some read.0 =
+      subst (λ l. lane_on (in_kernel kernel sys (has_one sys stimuli j law single t)) (unread sys) l ≡ Some read.0) is read.1 in
+      let unspilt = (none-at (λ x. is_spill x.body) front i back (subst (λ l. spills_in l ≡ false) is (unspilt-zero sys stimuli j law single t))).0 in
+      by unspilt (lane_on (in_kernel kernel sys (has_one sys stimuli j law single t)) (unread sys) front) read.0 (sym (lane_on-append (in_kernel kernel sys (has_one sys stimuli j law single t)) (unread sys) front (i ∷ back)) ∙ whole)
     where
-      by : is_spill i.body ≡ false → (o : Option Reading) (last : Reading) → option_and_then (λ m. lane_on (in_sim sys (has_one sys stimuli j law is_sim t)) m (i ∷ back)) o ≡ Some last
-          → (k next : Reading) × Slot (in_sim sys (has_one sys stimuli j law is_sim t)) k next i
+      by : is_spill i.body ≡ false → (o : Option Reading) (last : Reading) → option_and_then (λ m. lane_on (in_kernel kernel sys (has_one sys stimuli j law single t)) m (i ∷ back)) o ≡ Some last
+          → (k next : Reading) × Slot (in_kernel kernel sys (has_one sys stimuli j law single t)) k next i
       by unspilt None last h = absurd (cc)
-      by unspilt (Some k) last h = on (lane_next (in_sim sys (has_one sys stimuli j law is_sim t)) k i) refl h
+      by unspilt (Some k) last h = on (lane_next (in_kernel kernel sys (has_one sys stimuli j law single t)) k i) refl h
         where
-          on : (r : Option Reading) → lane_next (in_sim sys (has_one sys stimuli j law is_sim t)) k i ≡ r → option_and_then (λ m. lane_on (in_sim sys (has_one sys stimuli j law is_sim t)) m back) r ≡ Some last
-              → (k next : Reading) × Slot (in_sim sys (has_one sys stimuli j law is_sim t)) k next i
+          on : (r : Option Reading) → lane_next (in_kernel kernel sys (has_one sys stimuli j law single t)) k i ≡ r → option_and_then (λ m. lane_on (in_kernel kernel sys (has_one sys stimuli j law single t)) m back) r ≡ Some last
+              → (k next : Reading) × Slot (in_kernel kernel sys (has_one sys stimuli j law single t)) k next i
           on None e h = absurd (cc)
-          on (Some next) e h = (k, next, slot-of (in_sim sys (has_one sys stimuli j law is_sim t)) refl k next i unspilt e)
+          on (Some next) e h = (k, next, slot-of (in_kernel kernel sys (has_one sys stimuli j law single t)) single.one k next i unspilt e)
 
   pub at-place : (front : List Item) (i : Item) (back : List Item) → kept_zero j ≡ front ++ i ∷ back → (n floor : ℕ) → i.body ≡ body.Look n floor → i ≡ look_item n floor
   at-place front i back is n floor look =
-      let at = slot-at front i back is in look-whole (in_sim sys (has_one sys stimuli j law is_sim t)) at.0 at.1 i n floor at.2 look
+      let at = slot-at front i back is in look-whole (in_kernel kernel sys (has_one sys stimuli j law single t)) at.0 at.1 i n floor at.2 look
 
   -- each stimulus stands in a look
   pub placed-of : (before : List (List Item)) (l : List Item) (behind : List (List Item)) → kept_sources sys j ≡ before ++ l ∷ behind → (xs : List Item) (i : Item) (ys : List Item) → l ≡ xs ++ i ∷ ys
@@ -419,7 +420,7 @@ module _ (sys : System) (stimuli : List (List Stim)) (j : Journal) (law : Lawful
       by (inl right) = inl right
       by (inr (spilt, last, none)) = inr none
 
-  pub has-of : (n : ℕ) → has_one sys stimuli j law is_sim t n ≡ has_stim (kept_sources sys j) n
+  pub has-of : (n : ℕ) → has_one sys stimuli j law single t n ≡ has_stim (kept_sources sys j) n
   unfolding setting_of
   has-of n = has-kept n (source_lanes sys j)
 
@@ -427,8 +428,9 @@ module _ (sys : System) (stimuli : List (List Stim)) (j : Journal) (law : Lawful
   lined-of : Lined sys stimuli
   unfolding run_order
   lined-of = record {
+    kernel = kernel;
     w = facts_of sys j;
-    has = has_one sys stimuli j law is_sim t;
+    has = has_one sys stimuli j law single t;
     lane0 = kept_zero j;
     sources = kept_sources sys j;
     cuts = true;

@@ -5,7 +5,7 @@ use Rattle.std.specs.List.{filter, find, AllByRecursion}
 use Rattle.qp_model.specs.declared.systems.System.{System}
 use Rattle.qp_model.specs.declared.systems.ObjectDef.{ObjectDef}
 use Rattle.qp_model.specs.Record.{Item}
-use Rattle.qp_model.specs.Kernels.{sim, qk, qv}
+use Rattle.qp_model.specs.Kernels.{qk, qv}
 use Rattle.qp_model.specs.WordLaw.{is_object}
 use Rattle.qp_model.specs.KernelLane.{role_of, Setting, threshold_of, floor_in, above, Upcoming, Inside, Looking, Chosen, Ended, Resting, Again, Over, Halted, Reading, base_ended, found_none, looking_at, unread}
 use Rattle.qp_sim_unique.proofs.KernelLemmas.{Slot, Starts, Runs, Releases, IsLook, IsSeen, IsTook, IsSpent, IsRest, IsDone, GoesOn, IsOwned}
@@ -79,22 +79,34 @@ module _ (sys : System) where
   below-less [] p q less h = tt
   below-less (o ∷ os) p q less h = (let first : o < p = h.0 in omega (arith, first, less), below-less os p q less h.1)
 
+  -- an object's priority is at most its threshold, and that at most 32
+  abbrev pub IsBounded : Type 0
+  IsBounded = (p : ℕ) → IsObject p → (p ≤ threshold_of sys p) × (threshold_of sys p ≤ 32)
+
 -- the thresholds of a sound system
-module _ (s : Setting) (is_sim : s.kernel ≡ sim) (bounded : (p : ℕ) → IsObject s.sys p → p ≤ threshold_of s.sys p) where
-  higher : (ceiling : ℕ) (os : List ℕ) (q : ℕ) → Descends s.sys os → floor_in s.sys s.kernel os ceiling < q → Below s.sys os q
+module _ (s : Setting) (bounded : IsBounded s.sys) where
+  -- above the floor within a step stands an object above the one that runs; in the cooperative kernel none does
+  higher : (ceiling : ℕ) (os : List ℕ) (q : ℕ) → Descends s.sys os → IsObject s.sys q → floor_in s.sys s.kernel os ceiling < q → Below s.sys os q
   unfolding floor_in
-  higher ceiling [] q descends less = tt
-  higher ceiling (o ∷ outer) q descends less =
-      let two : cond (sim == qv) 32 (max (threshold_of s.sys o) ceiling) < q = subst (λ x. cond (x == qv) 32 (max (threshold_of s.sys o) ceiling) < q) is_sim less in
-      let le : o ≤ threshold_of s.sys o = bounded o descends.0 in
-      let three : max (threshold_of s.sys o) ceiling < q = two in
-      let first : o < q = omega (arith, three, le) in
-      (first, below-less s.sys outer o q first descends.1)
+  higher ceiling [] q descends its less = tt
+  higher ceiling (o ∷ outer) q descends its less = by (s.kernel == qv) less
+    where
+      by : (b : Bool) → cond b 32 (max (threshold_of s.sys o) ceiling) < q → Below s.sys (o ∷ outer) q
+      by true less =
+          let over : 32 < q = less in
+          let most : q ≤ threshold_of s.sys q = (bounded q its).0 in
+          let least : threshold_of s.sys q ≤ 32 = (bounded q its).1 in
+          absurd (omega (arith, over, most, least))
+      by false less =
+          let over : max (threshold_of s.sys o) ceiling < q = less in
+          let le : o ≤ threshold_of s.sys o = (bounded o descends.0).0 in
+          let first : o < q = omega (arith, over, le) in
+          (first, below-less s.sys outer o q first descends.1)
 
   all-higher : (ceiling : ℕ) (os : List ℕ) → Descends s.sys os → (ps : List ℕ) → AllByRecursion (λ q. IsObject s.sys q × (floor_in s.sys s.kernel os ceiling < q)) ps
       → AllByRecursion (λ q. IsObject s.sys q × Below s.sys os q) ps
   all-higher ceiling os descends [] h = tt
-  all-higher ceiling os descends (p ∷ ps) h = ((h.0.0, higher ceiling os p descends h.0.1), all-higher ceiling os descends ps h.1)
+  all-higher ceiling os descends (p ∷ ps) h = ((h.0.0, higher ceiling os p descends h.0.0 h.0.1), all-higher ceiling os descends ps h.1)
 
   -- what is above the floor is above what runs
   above-running : (k : Reading) → Descends s.sys k.running

@@ -3,7 +3,7 @@ use Rattle.std.proofs.Common.{◌≡◌, ◌∙◌, ℕ, ◌+◌, ◌==◌, nat_
 use Rattle.qp_model.specs.declared.bodies.Entry.{Entry}
 use Rattle.qp_model.specs.declared.bodies.Body.TheVariants as body
 use Rattle.qp_model.specs.Record.{Item}
-use Rattle.qp_model.specs.Kernels.{sim, qk, qv}
+use Rattle.qp_model.specs.Kernels.{qk, qv}
 use Rattle.qp_model.specs.KernelLane.{Drops, role_of, Setting, floor_in, Upcoming, Inside, Looking, Chosen, Ended, Resting, Again, Over, Halted, Reading, base_ended, found_none, looking_at}
 use Rattle.qp_check_course.specs.Machine.{run}
 use Rattle.qp_model_order.specs.Placing.{look_item}
@@ -30,7 +30,7 @@ kept s k [] = by k.running
     by (o ∷ outer) = refl
 
 -- what may come where the lane has been read so far, by the place
-module _ (s : Setting) (is_sim : s.kernel ≡ sim) (k next : Reading) (i : Item) where
+module _ (s : Setting) (k next : Reading) (i : Item) where
   abbrev pub LookHere : Type 0
   LookHere = i ≡ look_item (k.looks + 1) (floor_in s.sys s.kernel k.running k.ceiling)
 

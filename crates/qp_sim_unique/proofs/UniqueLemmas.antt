@@ -1,4 +1,4 @@
--- A lawful journal of `sim` without a `spill` is the only one.
+-- A lawful journal of a run with one thread without a `spill` is the only one of its kernel.
 use Rattle.std.proofs.Common.{◌≡◌, ◌∙◌, append-nil, not, nat_le, ℕ, suc, ◌+◌, ◌<◌, ◌≤◌, ◌==◌, Bool, true, false, ◌||◌, cond, List, [], ◌∷◌, ◌++◌, map, length, Some, None, refl, sym, ap, subst, inl, inr, ◌⊎◌, arith}
 use Rattle.std.proofs.lemmas.Bool.Decides.{nat_tests}
 use Rattle.std.proofs.lemmas.Bool.{and_parts, or_parts}
@@ -20,7 +20,7 @@ use Rattle.qp_model.specs.Ends.{is_spill, is_end, is_assert, is_spent, spills_in
 use Rattle.qp_model.specs.End.{end_of, takes_of}
 use Rattle.qp_model.specs.History.{all_items, lane_items}
 use Rattle.qp_model.specs.Home.{lane_at}
-use Rattle.qp_model.specs.Kernels.{sim}
+use Rattle.qp_model.specs.Kernels.{has_one_order}
 use Rattle.qp_model.specs.Sites.{object_at}
 use Rattle.qp_model.specs.WordLaw.{is_object}
 use Rattle.qp_model.specs.KernelLane.{Setting, Reading, floor_in, role_of, threshold_of, lane_on, unread, is_whole}
@@ -32,7 +32,7 @@ use Rattle.qp_model_order.specs.Placing.{look_item}
 use Rattle.qp_sim_unique.proofs.KernelLemmas.{Slot, Starts, Runs, Releases, IsLook, IsSeen, IsTook, IsSpent, IsRest}
 use Rattle.qp_sim_unique.specs.Tidy.{run_order, unspilt, is_short, spill_free, IsTidy, LacksStimulus}
 use Rattle.qp_sim_unique.specs.Laws.{ShortJournalsLeaveNoSpill, TidyJournalsAreOne}
-use Rattle.qp_sim_unique.proofs.StackLemmas.{found-in, IsObject}
+use Rattle.qp_sim_unique.proofs.StackLemmas.{IsBounded, found-in, IsObject}
 use Rattle.qp_sim_unique.proofs.LoopLemmas.{agree-first, front-order, lane-at}
 use Rattle.qp_sim_unique.proofs.SourceSteps.{lane_in-append}
 use Rattle.qp_model.proofs.AbleLemmas.{some-same}
@@ -40,7 +40,7 @@ use Rattle.qp_sim_unique.proofs.EqualLemmas.{same-lanes, zero-is}
 use Rattle.qp_sim_unique.proofs.JournalLemmas.{Threaded, threaded, all-split, lane0-is, raw-zero, raw-sources, ends-run, each-unspilt, unspilt-each, lane-each, has_spilt, kept_sources, kept_zero, turns-kept}
 use Rattle.qp_sim_unique.proofs.SideLemmas.{kernel-read, raw-read, unspilt-zero, course-of, unmarked-of, comes-of, counted-of}
 use Rattle.qp_sim_unique.proofs.SideParts.{slot-at, source-of, placed-of, within-of, spent-of, lane-unspilt, lane-stood, late-of, turn-of, has-of, long-at, long-zero, any-find, each-by, joined-each, kept-at}
-use Rattle.qp_sim_unique.proofs.Sides.{Side, HasEnded, Lacking, MayPart, in_sim, order_of, lane_in}
+use Rattle.qp_sim_unique.proofs.Sides.{Mode, HasKernel, Side, HasEnded, Lacking, MayPart, in_kernel, order_of, lane_in}
 use Rattle.qp_model.proofs.NumberLemmas.{every-append}
 use Rattle.qp_model.proofs.RecordLemmas.{lane-length}
 
@@ -120,17 +120,18 @@ fronts-one xs ys (z ∷ zs) us one two =
     absurd (omega (arith, first, second))
 
 module _ (sys : System) (stimuli : List (List Stim)) (sound : IsSound sys) (followable : AllByRecursion (IsFollowable sys) sys.objects) where
-  bounded : (p : ℕ) → IsObject sys p → p ≤ threshold_of sys p
+  bounded : IsBounded sys
   unfolding is_object object_at threshold_of
   bounded p h = by (find (λ d. d.priority == p) sys.objects) refl h
     where
-      by : (o : Option ObjectDef) → find (λ d. d.priority == p) sys.objects ≡ o → is_some o ≡ true → p ≤ option_map_or (λ d. d.threshold) (find (λ d. d.priority == p) sys.objects) 0
+      by : (o : Option ObjectDef) → find (λ d. d.priority == p) sys.objects ≡ o → is_some o ≡ true
+          → (p ≤ option_map_or (λ d. d.threshold) (find (λ d. d.priority == p) sys.objects) 0) × (option_map_or (λ d. d.threshold) (find (λ d. d.priority == p) sys.objects) 0 ≤ 32)
       by None e h = absurd (cc)
       by (Some d) e h =
           let at = found-in (λ x. x.priority == p) sys.objects d e (IsSoundObject sys.charts) sound.objects in
           let own : d.priority ≡ p = let test : (d.priority == p) ≡ true = at.1 in grind (arith, nat_tests) in
           let le : d.priority ≤ d.threshold = at.0.threshold in
-          rw e (omega (arith, own, le))
+          rw e (omega (arith, own, le), at.0.few_thresholds)
 
   positive : (p : ℕ) → IsObject sys p → p ≡ 0 → ⊥
   unfolding is_object object_at
@@ -155,11 +156,11 @@ module _ (sys : System) (stimuli : List (List Stim)) (sound : IsSound sys) (foll
   unfolding is_object
   object-there p d is = rw is refl
 
-  module _ (j : Journal) (budget : ℕ) (law : Lawful sys stimuli j) (is_sim : j.kernel ≡ sim) (its_budget : j.budget ≡ budget) (tidy : IsTidy sys j) where
+  module _ (j : Journal) (mode : Mode) (law : Lawful sys stimuli j) (single : HasKernel mode.kernel j) (its_budget : j.budget ≡ mode.budget) (tidy : IsTidy sys j) where
     t : Threaded sys stimuli j
-    t = threaded sys stimuli j law is_sim
+    t = threaded sys stimuli j law single
 
-    abbrev side : Side sys charts stimuli budget
+    abbrev side : Side sys charts stimuli mode
     unfolding run_order setting_of
     side = record {
       w = facts_of sys j;
@@ -169,22 +170,22 @@ module _ (sys : System) (stimuli : List (List Stim)) (sound : IsSound sys) (foll
       cuts = true;
       spilt = has_spilt sys j;
       halts = spills_in (lane_items (lane_at j 0));
-      last = (kernel-read sys stimuli j law is_sim t).0;
-      read = (kernel-read sys stimuli j law is_sim t).1;
-      unspilt = unspilt-zero sys stimuli j law is_sim t;
-      unspilt_sources = λ front l back is. each-unspilt l (lane-unspilt sys stimuli j law is_sim t front l back is);
-      course = λ p d is. course-of sys stimuli j law is_sim t follow (λ q e at. positive q (object-there q e at)) p d is;
-      unmarked = unmarked-of sys stimuli j law is_sim t;
-      comes = comes-of sys stimuli j law is_sim t tidy;
-      counted = counted-of sys stimuli j law is_sim t tidy;
-      turn = turn-of sys stimuli j law is_sim t;
-      late = late-of sys stimuli j law is_sim t;
-      has_is = has-of sys stimuli j law is_sim t;
-      source = source-of sys stimuli j law is_sim t;
+      last = (kernel-read sys stimuli j law single t).0;
+      read = (kernel-read sys stimuli j law single t).1;
+      unspilt = unspilt-zero sys stimuli j law single t;
+      unspilt_sources = λ front l back is. each-unspilt l (lane-unspilt sys stimuli j law single t front l back is);
+      course = λ p d is. course-of sys stimuli j law single t follow (λ q e at. positive q (object-there q e at)) p d is;
+      unmarked = unmarked-of sys stimuli j law single t;
+      comes = comes-of sys stimuli j law single t tidy;
+      counted = counted-of sys stimuli j law single t tidy;
+      turn = turn-of sys stimuli j law single t;
+      late = late-of sys stimuli j law single t;
+      has_is = has-of sys stimuli j law single t;
+      source = source-of sys stimuli j law single t;
       ends = ends-run sys stimuli j t;
-      placed_so = placed-of sys stimuli j law is_sim t;
-      within = λ xs p f l m e ys is some there. subst (λ b. count_by (λ (z : Placed). takes_of p z.item) xs < b) its_budget (within-of sys stimuli j law is_sim t xs p f l m e ys is some there);
-      spent = λ xs p ys is some. spent-of sys stimuli j law is_sim t xs p ys is some ∙ its_budget;
+      placed_so = placed-of sys stimuli j law single t;
+      within = λ xs p f l m e ys is some there. subst (λ b. count_by (λ (z : Placed). takes_of p z.item) xs < b) its_budget (within-of sys stimuli j law single t xs p f l m e ys is some there);
+      spent = λ xs p ys is some. spent-of sys stimuli j law single t xs p ys is some ∙ its_budget;
     }
 
     -- where no lane ended with a `spill`
@@ -203,26 +204,26 @@ module _ (sys : System) (stimuli : List (List Stim)) (sound : IsSound sys) (foll
           subst (AllByRecursion P) (sym (all-split sys stimuli j t))
           (every-append P (lane_items t.first) (all_items t.others) (subst (AllByRecursion P) (sym zero-clean ∙ lane0-is sys stimuli j t) zero_has) others)
 
-      ended : HasEnded sys charts stimuli budget side
+      ended : HasEnded sys charts stimuli mode side
       unfolding EndHolds side run_order
-      ended = by (raw-read sys stimuli j law is_sim t).2 (list_any (λ (z : Placed). is_end z.item.body) (order_of sys charts stimuli budget side)) refl
+      ended = by (raw-read sys stimuli j law single t).2 (list_any (λ (z : Placed). is_end z.item.body) (order_of sys charts stimuli mode side)) refl
         where
-          last-same : (raw-read sys stimuli j law is_sim t).0 ≡ (kernel-read sys stimuli j law is_sim t).0
+          last-same : (raw-read sys stimuli j law single t).0 ≡ (kernel-read sys stimuli j law single t).0
           last-same =
-              some-same (sym (raw-read sys stimuli j law is_sim t).1 ∙ ap (lane_on (in_sim sys (setting_of sys j).has_stimulus) (unread sys)) zero-clean ∙ (kernel-read sys stimuli j law is_sim t).1)
+              some-same (sym (raw-read sys stimuli j law single t).1 ∙ ap (lane_on (in_kernel mode.kernel sys (setting_of sys j).has_stimulus) (unread sys)) zero-clean ∙ (kernel-read sys stimuli j law single t).1)
 
-          by : (may_cut j.end ≡ true) ⊎ (is_whole sim (raw-read sys stimuli j law is_sim t).0 ≡ true) → (b : Bool) → list_any (λ (z : Placed). is_end z.item.body) (order_of sys charts stimuli budget side) ≡ b
-              → HasEnded sys charts stimuli budget side
-          by (inr whole) b e = inl (subst (λ (k : Reading). is_whole sim k ≡ true) last-same whole)
+          by : (may_cut j.end ≡ true) ⊎ (is_whole mode.kernel (raw-read sys stimuli j law single t).0 ≡ true) → (b : Bool) → list_any (λ (z : Placed). is_end z.item.body) (order_of sys charts stimuli mode side) ≡ b
+              → HasEnded sys charts stimuli mode side
+          by (inr whole) b e = inl (subst (λ (k : Reading). is_whole mode.kernel k ≡ true) last-same whole)
           by (inl cut) true e = inr e
           by (inl cut) false e =
-              let none = none-each (λ (z : Placed). is_end z.item.body) (order_of sys charts stimuli budget side) e in
+              let none = none-each (λ (z : Placed). is_end z.item.body) (order_of sys charts stimuli mode side) e in
               let zero_none : AllByRecursion (λ i. is_end i.body ≡ false) (kept_zero j) =
-              subst (AllByRecursion (λ i. is_end i.body ≡ false)) (zero-is true (kept_sources sys j) (kept_zero j)) (lane-none (λ i. is_end i.body) (order_of sys charts stimuli budget side) 0 none) in
+              subst (AllByRecursion (λ i. is_end i.body ≡ false)) (zero-is true (kept_sources sys j) (kept_zero j)) (lane-none (λ i. is_end i.body) (order_of sys charts stimuli mode side) 0 none) in
               let sources_none : AllByRecursion (λ l. AllByRecursion (λ i. is_end i.body ≡ false) l) (kept_sources sys j) =
               each-by (λ l. AllByRecursion (λ i. is_end i.body ≡ false) l) (kept_sources sys j)
-              (λ front l back is. subst (AllByRecursion (λ i. is_end i.body ≡ false)) (sym (lane-stood sys stimuli j law is_sim t front l back is))
-              (lane-none (λ i. is_end i.body) (order_of sys charts stimuli budget side) (1 + length front) none)) in
+              (λ front l back is. subst (AllByRecursion (λ i. is_end i.body ≡ false)) (sym (lane-stood sys stimuli j law single t front l back is))
+              (lane-none (λ i. is_end i.body) (order_of sys charts stimuli mode side) (1 + length front) none)) in
               absurd (cut-end (all_items j.lanes) j.end law.end.stated cut (each-none (λ i. is_end i.body) (all_items j.lanes) (all-by (λ i. is_end i.body ≡ false) zero_none sources_none)))
 
 stim-zero : (b : Body) → is_stim_at 0 b ≡ true → (p : ℕ) × (b ≡ body.Stim p 0)
@@ -265,11 +266,11 @@ module _ (sys : System) (stimuli : List (List Stim)) (j : Journal) (t : Threaded
   sized : length (kept_sources sys j) ≡ length stimuli
   sized = length-map (source_lanes sys j) (λ lane. unspilt lane) ∙ ap length t.sources_are ∙ length-map t.others (λ lane. lane_items lane) ∙ t.size
 
-  module _ (law : Lawful sys stimuli j) (is_sim : j.kernel ≡ sim) where
+  module _ (law : Lawful sys stimuli j) {kernel : ℕ} (single : HasKernel kernel j) where
     -- no stimulus stands in a look 0, since there is none
     unlooked : (setting_of sys j).has_stimulus 0 ≡ false
     unfolding setting_of
-    unlooked = has-of sys stimuli j law is_sim t 0 ∙ by (has_stim (kept_sources sys j) 0) refl
+    unlooked = has-of sys stimuli j law single t 0 ∙ by (has_stim (kept_sources sys j) 0) refl
       where
         by : (b : Bool) → has_stim (kept_sources sys j) 0 ≡ b → has_stim (kept_sources sys j) 0 ≡ false
         by false e = e
@@ -277,9 +278,9 @@ module _ (sys : System) (stimuli : List (List Stim)) (j : Journal) (t : Threaded
             let lane = any-find (λ lane. list_any (λ i. is_stim_at 0 i.body) lane) (kept_sources sys j) e in
             let one = any-find (λ (i : Item). is_stim_at 0 i.body) lane.1 lane.4 in
             let stim = stim-zero one.1.body one.4 in
-            let look = placed-of sys stimuli j law is_sim t lane.0 lane.1 lane.2 lane.3 one.0 one.1 one.2 one.3 stim.0 0 stim.1 in
-            let at = slot-at sys stimuli j law is_sim t look.0 (look_item 0 look.1) look.2 look.3 in
-            absurd (look-number (in_sim sys (setting_of sys j).has_stimulus) at.0 at.1 look.1 at.2)
+            let look = placed-of sys stimuli j law single t lane.0 lane.1 lane.2 lane.3 one.0 one.1 one.2 one.3 stim.0 0 stim.1 in
+            let at = slot-at sys stimuli j law single t look.0 (look_item 0 look.1) look.2 look.3 in
+            absurd (look-number (in_kernel kernel sys (setting_of sys j).has_stimulus) at.0 at.1 look.1 at.2)
 
     -- without a `spill` among the records no lane ended with one, and the other way round
     clean-of : list_any (λ x. is_spill x.body) (all_items j.lanes) ≡ false → has_spilt sys j ≡ false
@@ -317,52 +318,52 @@ module _ (sys : System) (stimuli : List (List Stim)) (j : Journal) (t : Threaded
       short-clean = by (spills_in (lane_items (lane_at j 0))) refl (list_any spills_in (source_lanes sys j)) refl
         where
           by : (b : Bool) → spills_in (lane_items (lane_at j 0)) ≡ b → (c : Bool) → list_any spills_in (source_lanes sys j) ≡ c → has_spilt sys j ≡ false
-          by true e c f = absurd (short-zero (long-zero sys stimuli j law is_sim t e))
+          by true e c f = absurd (short-zero (long-zero sys stimuli j law single t e))
           by false e true f =
               let lane = any-find spills_in (source_lanes sys j) f in
               let are = ap (map (λ lane. unspilt lane)) lane.3 ∙ map-append (λ lane. unspilt lane) lane.0 (lane.1 ∷ lane.2) in
-              absurd (short-source (map (λ lane. unspilt lane) lane.0) (unspilt lane.1) (map (λ lane. unspilt lane) lane.2) are (long-at sys stimuli j law is_sim t lane.0 lane.1 lane.2 lane.3 lane.4))
+              absurd (short-source (map (λ lane. unspilt lane) lane.0) (unspilt lane.1) (map (λ lane. unspilt lane) lane.2) are (long-at sys stimuli j law single t lane.0 lane.1 lane.2 lane.3 lane.4))
           by false e false f = rw (e, f) refl
 
--- two lawful and tidy journals of one system, its stimuli and a budget
+-- two lawful and tidy journals of one system, its stimuli, one kernel and a budget
 module _ (sys : System) (stimuli : List (List Stim)) (i j : Journal) (sound : IsSound sys) (followable : AllByRecursion (IsFollowable sys) sys.objects)
-    (law_i : Lawful sys stimuli i) (law_j : Lawful sys stimuli j) (sim_i : i.kernel ≡ sim) (sim_j : j.kernel ≡ sim) (budget : ℕ) (budget_i : i.budget ≡ budget) (budget_j : j.budget ≡ budget)
+    (law_i : Lawful sys stimuli i) (law_j : Lawful sys stimuli j) (mode : Mode) (single_i : HasKernel mode.kernel i) (single_j : HasKernel mode.kernel j) (budget_i : i.budget ≡ mode.budget) (budget_j : j.budget ≡ mode.budget)
     (tidy_i : IsTidy sys i) (tidy_j : IsTidy sys j) where
-  abbrev side_i : Side sys (charts sys stimuli sound followable) stimuli budget
-  side_i = side sys stimuli sound followable i budget law_i sim_i budget_i tidy_i
+  abbrev side_i : Side sys (charts sys stimuli sound followable) stimuli mode
+  side_i = side sys stimuli sound followable i mode law_i single_i budget_i tidy_i
 
-  abbrev side_j : Side sys (charts sys stimuli sound followable) stimuli budget
-  side_j = side sys stimuli sound followable j budget law_j sim_j budget_j tidy_j
+  abbrev side_j : Side sys (charts sys stimuli sound followable) stimuli mode
+  side_j = side sys stimuli sound followable j mode law_j single_j budget_j tidy_j
 
   abbrev thread_i : Threaded sys stimuli i
-  thread_i = t sys stimuli sound followable i budget law_i sim_i budget_i tidy_i
+  thread_i = t sys stimuli sound followable i mode law_i single_i budget_i tidy_i
 
   abbrev thread_j : Threaded sys stimuli j
-  thread_j = t sys stimuli sound followable j budget law_j sim_j budget_j tidy_j
+  thread_j = t sys stimuli sound followable j mode law_j single_j budget_j tidy_j
 
   sizes : length (kept_sources sys i) ≡ length (kept_sources sys j)
   sizes = sized sys stimuli i thread_i ∙ sym (sized sys stimuli j thread_j)
 
   -- the second goes on behind the first, or they needn't go on alike
   goes-behind : has_spilt sys i ≡ false
-      → ((zs : List Placed) × (run_order sys i ≡ run_order sys j ++ zs)) ⊎ MayPart sys (charts sys stimuli sound followable) stimuli budget side_i side_j
+      → ((zs : List Placed) × (run_order sys i ≡ run_order sys j ++ zs)) ⊎ MayPart sys (charts sys stimuli sound followable) stimuli mode side_i side_j
   unfolding side run_order
   goes-behind clean =
-      front-order sys (charts sys stimuli sound followable) stimuli budget (bounded sys stimuli sound followable) (positive sys stimuli sound followable) side_i side_j
-      (ended sys stimuli sound followable i budget law_i sim_i budget_i tidy_i clean) sizes (kept_zero i) (kept_zero j) [] [] (unread sys)
-      (agree-first sys (charts sys stimuli sound followable) stimuli budget (bounded sys stimuli sound followable) (positive sys stimuli sound followable) side_i side_j
-      (unlooked sys stimuli i thread_i law_i sim_i ∙ sym (unlooked sys stimuli j thread_j law_j sim_j)))
+      front-order sys (charts sys stimuli sound followable) stimuli mode (bounded sys stimuli sound followable) (positive sys stimuli sound followable) side_i side_j
+      (ended sys stimuli sound followable i mode law_i single_i budget_i tidy_i clean) sizes (kept_zero i) (kept_zero j) [] [] (unread sys)
+      (agree-first sys (charts sys stimuli sound followable) stimuli mode (bounded sys stimuli sound followable) (positive sys stimuli sound followable) side_i side_j
+      (unlooked sys stimuli i thread_i law_i single_i ∙ sym (unlooked sys stimuli j thread_j law_j single_j)))
 
   -- the same lanes, where neither has a `spill`
   lanes-one : has_spilt sys i ≡ false → has_spilt sys j ≡ false → run_order sys i ≡ run_order sys j → map (λ lane. lane_items lane) i.lanes ≡ map (λ lane. lane_items lane) j.lanes
   unfolding side run_order
   lanes-one clean_i clean_j same =
-      let both = same-lanes sys (charts sys stimuli sound followable) stimuli budget (bounded sys stimuli sound followable) (positive sys stimuli sound followable) side_i side_j same sizes
-      (λ before l behind is. lane-stood sys stimuli i law_i sim_i thread_i before l behind is) (λ before l behind is. lane-stood sys stimuli j law_j sim_j thread_j before l behind is) in
+      let both = same-lanes sys (charts sys stimuli sound followable) stimuli mode (bounded sys stimuli sound followable) (positive sys stimuli sound followable) side_i side_j same sizes
+      (λ before l behind is. lane-stood sys stimuli i law_i single_i thread_i before l behind is) (λ before l behind is. lane-stood sys stimuli j law_j single_j thread_j before l behind is) in
       let zeros : lane_items (lane_at i 0) ≡ lane_items (lane_at j 0) =
-      zero-clean sys stimuli sound followable i budget law_i sim_i budget_i tidy_i clean_i ∙ both.0 ∙ sym (zero-clean sys stimuli sound followable j budget law_j sim_j budget_j tidy_j clean_j) in
+      zero-clean sys stimuli sound followable i mode law_i single_i budget_i tidy_i clean_i ∙ both.0 ∙ sym (zero-clean sys stimuli sound followable j mode law_j single_j budget_j tidy_j clean_j) in
       let sources : source_lanes sys i ≡ source_lanes sys j =
-      sources-clean sys stimuli sound followable i budget law_i sim_i budget_i tidy_i clean_i ∙ both.1 ∙ sym (sources-clean sys stimuli sound followable j budget law_j sim_j budget_j tidy_j clean_j) in
+      sources-clean sys stimuli sound followable i mode law_i single_i budget_i tidy_i clean_i ∙ both.1 ∙ sym (sources-clean sys stimuli sound followable j mode law_j single_j budget_j tidy_j clean_j) in
       lanes-are sys stimuli i thread_i ∙ (λ n. zeros n ∷ sources n) ∙ sym (lanes-are sys stimuli j thread_j)
 
   -- a lane of the second that ended with a `spill` is a front of one of the first
@@ -378,24 +379,24 @@ module _ (sys : System) (stimuli : List (List Stim)) (i j : Journal) (sound : Is
 
       at-zero : spills_in (lane_items (lane_at j 0)) ≡ true → ⊥
       at-zero e =
-          let long = long-zero sys stimuli j law_j sim_j thread_j e in
+          let long = long-zero sys stimuli j law_j single_j thread_j e in
           let size = ap length (sym (zeros i) ∙ behind 0 ∙ ap (λ us. us ++ lane_in zs 0) (zeros j)) ∙ length-append (kept_zero j) (lane_in zs 0) in
-          short-zero sys stimuli i thread_i law_i sim_i short (omega (arith, long, size))
+          short-zero sys stimuli i thread_i law_i single_i short (omega (arith, long, size))
 
       at-source : list_any spills_in (source_lanes sys j) ≡ true → ⊥
       at-source some =
           let lane = any-find spills_in (source_lanes sys j) some in
-          let long = long-at sys stimuli j law_j sim_j thread_j lane.0 lane.1 lane.2 lane.3 lane.4 in
+          let long = long-at sys stimuli j law_j single_j thread_j lane.0 lane.1 lane.2 lane.3 lane.4 in
           let front = map (λ lane. unspilt lane) lane.0 in
           let are : kept_sources sys j ≡ front ++ unspilt lane.1 ∷ map (λ lane. unspilt lane) lane.2 = ap (map (λ lane. unspilt lane)) lane.3 ∙ map-append (λ lane. unspilt lane) lane.0 (lane.1 ∷ lane.2) in
-          let stands = lane-stood sys stimuli j law_j sim_j thread_j front (unspilt lane.1) (map (λ lane. unspilt lane) lane.2) are in
+          let stands = lane-stood sys stimuli j law_j single_j thread_j front (unspilt lane.1) (map (λ lane. unspilt lane) lane.2) are in
           let count = ap length are ∙ length-append front (unspilt lane.1 ∷ map (λ lane. unspilt lane) lane.2) in
           let same = sizes in
           let own = lane-at (kept_sources sys i) (length front) (omega (arith, count, same)) in
           let its : own.1 ≡ lane_in (run_order sys i) (1 + length front) =
-          lane-stood sys stimuli i law_i sim_i thread_i own.0 own.1 own.2 own.3 ∙ ap (λ n. lane_in (run_order sys i) (1 + n)) own.4 in
+          lane-stood sys stimuli i law_i single_i thread_i own.0 own.1 own.2 own.3 ∙ ap (λ n. lane_in (run_order sys i) (1 + n)) own.4 in
           let size = ap length (its ∙ behind (1 + length front) ∙ ap (λ us. us ++ lane_in zs (1 + length front)) (sym stands)) ∙ length-append (unspilt lane.1) (lane_in zs (1 + length front)) in
-          short-source sys stimuli i thread_i law_i sim_i short own.0 own.1 own.2 own.3 (omega (arith, long, size))
+          short-source sys stimuli i thread_i law_i single_i short own.0 own.1 own.2 own.3 (omega (arith, long, size))
 
       by : (b : Bool) → spills_in (lane_items (lane_at j 0)) ≡ b → (b || list_any spills_in (source_lanes sys j)) ≡ true → ⊥
       by true e h = at-zero e
@@ -415,32 +416,42 @@ clean-items sys stimuli j tj none =
     lanes [] h = tt
     lanes (l ∷ ls) h = let both = or_parts (spills_in l) _ h in (unspilt-each l both.0, lanes ls both.1)
 
+-- a journal of its own kernel, and one of the same
+own-kernel : (j : Journal) → has_one_order j.kernel ≡ true → HasKernel j.kernel j
+own-kernel j single = record { is = refl; one = single }
+
+same-kernel : (i j : Journal) → has_one_order i.kernel ≡ true → j.kernel ≡ i.kernel → HasKernel i.kernel j
+same-kernel i j single kernels = record { is = kernels; one = single }
+
+abbrev mode_of : (j : Journal) → has_one_order j.kernel ≡ true → Mode
+mode_of j single = record { kernel = j.kernel; one = single; budget = j.budget }
+
 -- a short journal has no `spill`
-pub short_journals_are_unspilt : (sys : System) (stimuli : List (List Stim)) (j : Journal) → Lawful sys stimuli j → j.kernel ≡ sim → is_short j ≡ true → list_any (λ x. is_spill x.body) (all_items j.lanes) ≡ false
-short_journals_are_unspilt sys stimuli j law is_sim short =
-    let tj = threaded sys stimuli j law is_sim in
-    clean-items sys stimuli j tj (short-clean sys stimuli j tj law is_sim short)
+pub short_journals_are_unspilt : (sys : System) (stimuli : List (List Stim)) (j : Journal) → Lawful sys stimuli j → has_one_order j.kernel ≡ true → is_short j ≡ true → list_any (λ x. is_spill x.body) (all_items j.lanes) ≡ false
+short_journals_are_unspilt sys stimuli j law one short =
+    let tj = threaded sys stimuli j law (own-kernel j one) in
+    clean-items sys stimuli j tj (short-clean sys stimuli j tj law (own-kernel j one) short)
 
 pub short_journals_leave_no_spill : ShortJournalsLeaveNoSpill
 unfolding side
-short_journals_leave_no_spill sys stimuli i j sound followable law_i law_j sim_i sim_j budgets short tidy_i tidy_j =
-    let ti = threaded sys stimuli i law_i sim_i in
-    let tj = threaded sys stimuli j law_j sim_j in
-    by tj (goes-behind sys stimuli i j sound followable law_i law_j sim_i sim_j i.budget refl (sym budgets) tidy_i tidy_j (short-clean sys stimuli i ti law_i sim_i short)) (has_spilt sys j) refl
+short_journals_leave_no_spill sys stimuli i j sound followable law_i law_j single kernels budgets short tidy_i tidy_j =
+    let ti = threaded sys stimuli i law_i (own-kernel i single) in
+    let tj = threaded sys stimuli j law_j (same-kernel i j single kernels) in
+    by tj (goes-behind sys stimuli i j sound followable law_i law_j (mode_of i single) (own-kernel i single) (same-kernel i j single kernels) refl (sym budgets) tidy_i tidy_j (short-clean sys stimuli i ti law_i (own-kernel i single) short)) (has_spilt sys j) refl
   where
     by : (tj : Threaded sys stimuli j)
         → ((zs : List Placed) × (run_order sys i ≡ run_order sys j ++ zs))
-        ⊎ MayPart sys (charts sys stimuli sound followable) stimuli i.budget (side sys stimuli sound followable i i.budget law_i sim_i refl tidy_i) (side sys stimuli sound followable j i.budget law_j sim_j (sym budgets) tidy_j)
+        ⊎ MayPart sys (charts sys stimuli sound followable) stimuli (mode_of i single) (side sys stimuli sound followable i (mode_of i single) law_i (own-kernel i single) refl tidy_i) (side sys stimuli sound followable j (mode_of i single) law_j (same-kernel i j single kernels) (sym budgets) tidy_j)
         → (b : Bool) → has_spilt sys j ≡ b → (list_any (λ x. is_spill x.body) (all_items j.lanes) ≡ false) ⊎ LacksStimulus sys stimuli j
     by tj (inl (zs, is)) false e = inl (clean-items sys stimuli j tj e)
-    by tj (inl (zs, is)) true e = absurd (spilt-long sys stimuli i j sound followable law_i law_j sim_i sim_j i.budget refl (sym budgets) tidy_i tidy_j zs is short e)
+    by tj (inl (zs, is)) true e = absurd (spilt-long sys stimuli i j sound followable law_i law_j (mode_of i single) (own-kernel i single) (same-kernel i j single kernels) refl (sym budgets) tidy_i tidy_j zs is short e)
     by tj (inr (spilt, inl (before, l, behind, are, long))) b e =
-        absurd (short-source sys stimuli i (threaded sys stimuli i law_i sim_i) law_i sim_i short before l behind are long)
+        absurd (short-source sys stimuli i (threaded sys stimuli i law_i (own-kernel i single)) law_i (own-kernel i single) short before l behind are long)
     by tj (inr (spilt, inr (inl lacking))) b e =
-        absurd (short-zero sys stimuli i (threaded sys stimuli i law_i sim_i) law_i sim_i short (long-zero sys stimuli i law_i sim_i (threaded sys stimuli i law_i sim_i) lacking.halts))
+        absurd (short-zero sys stimuli i (threaded sys stimuli i law_i (own-kernel i single)) law_i (own-kernel i single) short (long-zero sys stimuli i law_i (own-kernel i single) (threaded sys stimuli i law_i (own-kernel i single)) lacking.halts))
     by tj (inr (spilt, inr (inr lacking))) b e = inr (lacks-of lacking)
       where
-        lacks-of : Lacking sys (charts sys stimuli sound followable) stimuli i.budget (side sys stimuli sound followable j i.budget law_j sim_j (sym budgets) tidy_j) → LacksStimulus sys stimuli j
+        lacks-of : Lacking sys (charts sys stimuli sound followable) stimuli (mode_of i single) (side sys stimuli sound followable j (mode_of i single) law_j (same-kernel i j single kernels) (sym budgets) tidy_j) → LacksStimulus sys stimuli j
         lacks-of lacking = record {
           spilt = lacking.halts;
           before = lacking.before;
@@ -453,15 +464,15 @@ short_journals_leave_no_spill sys stimuli i j sound followable law_i law_j sim_i
 
 pub tidy_journals_are_one : TidyJournalsAreOne
 unfolding EndHolds side
-tidy_journals_are_one sys stimuli i j sound followable law_i law_j sim_i sim_j budgets unspilt_i unspilt_j tidy_i tidy_j =
-    let ti = threaded sys stimuli i law_i sim_i in
-    let tj = threaded sys stimuli j law_j sim_j in
-    let clean_i = clean-of sys stimuli i ti law_i sim_i unspilt_i in
-    let clean_j = clean-of sys stimuli j tj law_j sim_j unspilt_j in
-    let one = alike clean_i clean_j (goes-behind sys stimuli i j sound followable law_i law_j sim_i sim_j i.budget refl (sym budgets) tidy_i tidy_j clean_i) in
-    let two = alike clean_j clean_i (goes-behind sys stimuli j i sound followable law_j law_i sim_j sim_i i.budget (sym budgets) refl tidy_j tidy_i clean_j) in
+tidy_journals_are_one sys stimuli i j sound followable law_i law_j single kernels budgets unspilt_i unspilt_j tidy_i tidy_j =
+    let ti = threaded sys stimuli i law_i (own-kernel i single) in
+    let tj = threaded sys stimuli j law_j (same-kernel i j single kernels) in
+    let clean_i = clean-of sys stimuli i ti law_i (own-kernel i single) unspilt_i in
+    let clean_j = clean-of sys stimuli j tj law_j (same-kernel i j single kernels) unspilt_j in
+    let one = alike clean_i clean_j (goes-behind sys stimuli i j sound followable law_i law_j (mode_of i single) (own-kernel i single) (same-kernel i j single kernels) refl (sym budgets) tidy_i tidy_j clean_i) in
+    let two = alike clean_j clean_i (goes-behind sys stimuli j i sound followable law_j law_i (mode_of i single) (same-kernel i j single kernels) (own-kernel i single) (sym budgets) refl tidy_j tidy_i clean_j) in
     let same : run_order sys i ≡ run_order sys j = fronts-one (run_order sys i) (run_order sys j) one.0 two.0 one.1 two.1 in
-    let lanes = lanes-one sys stimuli i j sound followable law_i law_j sim_i sim_j i.budget refl (sym budgets) tidy_i tidy_j clean_i clean_j same in
+    let lanes = lanes-one sys stimuli i j sound followable law_i law_j (mode_of i single) (own-kernel i single) (same-kernel i j single kernels) refl (sym budgets) tidy_i tidy_j clean_i clean_j same in
     let items : all_items i.lanes ≡ all_items j.lanes = joined i.lanes ∙ ap joined_items lanes ∙ sym (joined j.lanes) in
     let one_end : (i.end == end_of (all_items i.lanes)) ≡ true = law_i.end.stated in
     let two_end : (j.end == end_of (all_items j.lanes)) ≡ true = law_j.end.stated in
@@ -469,8 +480,8 @@ tidy_journals_are_one sys stimuli i j sound followable law_i law_j sim_i sim_j b
     let four : j.end ≡ end_of (all_items j.lanes) = grind (arith, nat_tests) in
     (lanes, three ∙ ap end_of items ∙ sym four)
   where
-    alike : {budget : ℕ} {P : Type 0} {a b : Side sys (charts sys stimuli sound followable) stimuli budget} → a.spilt ≡ false → b.spilt ≡ false
-        → P ⊎ MayPart sys (charts sys stimuli sound followable) stimuli budget a b → P
+    alike : {mode : Mode} {P : Type 0} {a b : Side sys (charts sys stimuli sound followable) stimuli mode} → a.spilt ≡ false → b.spilt ≡ false
+        → P ⊎ MayPart sys (charts sys stimuli sound followable) stimuli mode a b → P
     alike none_a none_b (inl goes) = goes
     alike none_a none_b (inr (inl spilt, part)) = absurd (let no : true ≡ false = sym spilt ∙ none_a in cc)
     alike none_a none_b (inr (inr spilt, part)) = absurd (let no : true ≡ false = sym spilt ∙ none_b in cc)

@@ -1,5 +1,5 @@
 -- The laws of what comes next.
-use Rattle.std.specs.Prelude.{◌≡◌, ℕ, false, List, [], ◌∷◌, ◌++◌, map, IsTrue, Some, ◌⊎◌}
+use Rattle.std.specs.Prelude.{◌≡◌, ℕ, true, false, List, [], ◌∷◌, ◌++◌, map, IsTrue, Some, ◌⊎◌}
 use Rattle.std.specs.List.{list_any, AllByRecursion}
 use Rattle.std.specs.declared.option.Option.{Option}
 use Rattle.qp_model.specs.declared.systems.System.{System}
@@ -10,7 +10,7 @@ use Rattle.qp_model.specs.declared.bodies.Entry.{Entry}
 use Rattle.qp_model.specs.Sound.{IsSound}
 use Rattle.qp_model.specs.Ends.{is_spill}
 use Rattle.qp_model.specs.History.{all_items, lane_items}
-use Rattle.qp_model.specs.Kernels.{sim}
+use Rattle.qp_model.specs.Kernels.{has_one_order}
 use Rattle.qp_model.specs.Lawful.{Lawful}
 use Rattle.qp_model.specs.Record.{Item}
 use Rattle.qp_model.specs.Knowing.{told, event_of}
@@ -58,18 +58,18 @@ RecordsComeNext =
     → Comes sys (held_after sys (event_of (record { sys = sys; items = all_items lanes })) ceiling xs) x.of
     (told (record { sys = sys; items = all_items lanes }) x.of ceiling x.body)
 
--- Of two lawful and tidy journals of `sim`, of one system, its stimuli and a budget, where no lane of the first is longer than is free of
--- a `spill`, the second has none either; or its lane 0 ended with one, and its last look lacks its stimulus.
+-- Of two lawful and tidy journals of runs with one thread, of one kernel, one system, its stimuli and a budget, where no lane of the first
+-- is longer than is free of a `spill`, the second has none either; or its lane 0 ended with one, and its last look lacks its stimulus.
 abbrev pub ShortJournalsLeaveNoSpill : Type 0
 ShortJournalsLeaveNoSpill =
     (sys : System) (stimuli : List (List Stim)) (i j : Journal) → IsSound sys → AllByRecursion (IsFollowable sys) sys.objects
-    → Lawful sys stimuli i → Lawful sys stimuli j → i.kernel ≡ sim → j.kernel ≡ sim → i.budget ≡ j.budget → IsTrue (is_short i) → IsTidy sys i → IsTidy sys j
+    → Lawful sys stimuli i → Lawful sys stimuli j → has_one_order i.kernel ≡ true → j.kernel ≡ i.kernel → i.budget ≡ j.budget → IsTrue (is_short i) → IsTidy sys i → IsTidy sys j
     → (list_any (λ x. is_spill x.body) (all_items j.lanes) ≡ false) ⊎ LacksStimulus sys stimuli j
 
--- two lawful journals of `sim` without a `spill`, of one system, its stimuli and a budget, tell the same, where both are tidy
+-- two such journals without a `spill`, both tidy, tell the same
 abbrev pub TidyJournalsAreOne : Type 0
 TidyJournalsAreOne =
     (sys : System) (stimuli : List (List Stim)) (i j : Journal) → IsSound sys → AllByRecursion (IsFollowable sys) sys.objects
-    → Lawful sys stimuli i → Lawful sys stimuli j → i.kernel ≡ sim → j.kernel ≡ sim → i.budget ≡ j.budget
+    → Lawful sys stimuli i → Lawful sys stimuli j → has_one_order i.kernel ≡ true → j.kernel ≡ i.kernel → i.budget ≡ j.budget
     → list_any (λ x. is_spill x.body) (all_items i.lanes) ≡ false → list_any (λ x. is_spill x.body) (all_items j.lanes) ≡ false → IsTidy sys i → IsTidy sys j
     → (map (λ lane. lane_items lane) i.lanes ≡ map (λ lane. lane_items lane) j.lanes) × (i.end ≡ j.end)

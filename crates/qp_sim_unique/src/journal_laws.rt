@@ -1,16 +1,16 @@
 //! What there is only one of.
 
-ghost use Rattle.qp_sim_unique.specs.JournalLaws.{SimJournalsAreTidy, SimJournalsAreOne, UnspiltJournalsAreOne, ShortJournalsAreUnspilt, SummariesAreOne, OrdersAreOne};
+ghost use Rattle.qp_sim_unique.specs.JournalLaws.{OneThreadJournalsAreTidy, OneThreadJournalsAreOne, UnspiltJournalsAreOne, ShortJournalsAreUnspilt, SummariesAreOne, OrdersAreOne};
 
-/// A lawful journal of `sim` is tidy, where the stimuli fit the sound system.
-pub fn sim_journals_are_tidy()
-    ensures { SimJournalsAreTidy }
+/// A lawful journal of a run with one thread is tidy, where the stimuli fit the sound system.
+pub fn one_thread_journals_are_tidy()
+    ensures { OneThreadJournalsAreTidy }
 {}
 
-/// So one whose lanes are short is the only one for the system, its stimuli and a budget, but for one whose lane 0 ended with a `spill`
-/// behind a last look that lacks its stimulus.
-pub fn sim_journals_are_one()
-    ensures { SimJournalsAreOne }
+/// So one whose lanes are short is the only one of its kernel for the system, its stimuli and a budget, but for one whose lane 0 ended
+/// with a `spill` behind a last look that lacks its stimulus.
+pub fn one_thread_journals_are_one()
+    ensures { OneThreadJournalsAreOne }
 {}
 
 /// Of those in which no lane ended with a `spill` there is one.

@@ -22,12 +22,14 @@ pub fn records_come_next()
     ensures { RecordsComeNext }
 {}
 
-/// Beside a lawful journal of `sim` whose lanes are short no other has a `spill`, but for one whose last look lacks its stimulus.
+/// Beside a lawful journal of a run with one thread whose lanes are short no other of its kernel has a `spill`, but for one whose last
+/// look lacks its stimulus.
 pub fn short_journals_leave_no_spill()
     ensures { ShortJournalsLeaveNoSpill }
 {}
 
-/// A lawful journal of `sim` without a `spill` is the only one for its system, stimuli and budget, among the tidy ones.
+/// A lawful journal of a run with one thread without a `spill` is the only one for its kernel, system, stimuli and budget, among the
+/// tidy ones.
 pub fn tidy_journals_are_one()
     ensures { TidyJournalsAreOne }
 {}

@@ -10,12 +10,14 @@ use qp_cases::{answers, defects, lawful};
 use qp_tables::files::Table;
 use qp_tables::{blocks, runs};
 use std::sync::Wait;
+use std::thread::Threads;
 
 /// The tables of words over files, with what is answered.
-const ANSWERS: [&str; 11] = [
+const ANSWERS: [&str; 12] = [
     "words.txt",
     "runs.txt",
     "summaries.txt",
+    "threads.txt",
     "checks.txt",
     "replays.txt",
     "orders.txt",
@@ -38,7 +40,7 @@ fn main(rt: HostRuntime) -> Result<()> {
 }
 
 /// Prints what is said of the lawful runs and of their defects.
-fn show_verdicts<R: Wait>(rt: &HostRuntime, waits: &R) -> Result<()> {
+fn show_verdicts<R: Threads + Wait + Sync>(rt: &HostRuntime, waits: &R) -> Result<()> {
     let alloc = rt.alloc();
     let lawful = Table::read(rt, "lawful.txt")?;
     let beside = Table::read(rt, "beside.txt")?;

@@ -1,9 +1,10 @@
-use Rattle.std.proofs.Common.{◌+◌, ◌∙◌, ap, subst, sym}
+use Rattle.std.proofs.Common.{◌+◌, ◌∙◌, ap, refl, subst, sym}
 use Rattle.qp_base.specs.Counts.{Rose}
 use Rattle.qp_base.specs.Gathering.{IsBegun, told}
 use Rattle.qp_run.specs.Verdict.{Count, Stream}
 use Rattle.qp_commands.specs.WordTable.{command_in, texts}
 use Rattle.qp_run.proofs.CallLemmas.{memory-call}
+use Rattle.qp_run.proofs.SealLemmas.{failed-seals, whole-seals}
 use Rattle.qp_process.proofs.PieceLemmas.{first-told, part-call, whole-call}
 use Rattle.qp_process.proofs.pieces.gathered.Goals as goal
 
@@ -54,3 +55,25 @@ returns-in-Err-flush-clause-call g c =
     (subst (λ w. IsBegun (written below) w) c.flush.ensures.told b.begun)
     (subst (λ n. Rose n (g.O.Sink.faults below)) (sym c.requires.first_faults) (b.rose c.in-Err-flush.ensures.err))
     c.answer-status.ensures.out c.tell-status-in-Err-flush.ensures.answer (c.tell-status-in-Err-flush.ensures.notes asked)
+
+pub returns-in-Err-clause-seal : goal.returns-in-Err-clause-seal
+returns-in-Err-clause-seal g c = failed-seals _ _ _ _ _ _ refl c.tell-status.ensures.answer
+
+pub returns-in-Ok-flush-clause-seal : goal.returns-in-Ok-flush-clause-seal
+returns-in-Ok-flush-clause-seal g c =
+    let asked = command_in (texts c.args.words.texts.now) in
+    let written = g.O.Sink.written in
+    let first = g.B.Beginning.first_length in
+    let p = c.in-Ok.pieces in
+    let q = c.answer-status.new.out in
+    let put : Stream = record {
+      before = told p.course (first + p.gone) p.held.items (written p.inner);
+      after = told q.course (first + q.gone) q.held.items (written q.inner);
+    } in
+    rw c.kept_seal.ensures (whole-seals (g.F.Shelf.holds c.args.files.now) asked _ put _ c.answer-status.result.status c.report-status.result _
+    (first-told p.course (first + p.gone) p.held.items (written p.inner) c.in-Ok.ensures.going c.in-Ok.ensures.held ∙ ap written c.in-Ok.ensures.inner)
+    (ap written c.into_inner-out.ensures.inner ∙ c.in-Ok-flush.ensures.ok)
+    c.report-status.ensures.answer c.answer-status.ensures.seal)
+
+pub returns-in-Err-flush-clause-seal : goal.returns-in-Err-flush-clause-seal
+returns-in-Err-flush-clause-seal g c = failed-seals _ _ _ _ _ _ refl c.tell-status-in-Err-flush.ensures.answer

@@ -4,14 +4,14 @@ use Rattle.qp_run.proofs.PrintedLemmas.{whole-printed}
 use Rattle.qp_run.proofs.runs.print.Goals as goal
 
 pub ending_of-told-requires-clause-few : goal.ending_of-told-requires-clause-few
-ending_of-told-requires-clause-few g c = lanes-few (number_of_form c.args.form) c.args.run.now.journal c.requires.range
+ending_of-told-requires-clause-few g c = lanes-few (number_of_form c.args.form) c.args.journal.now c.requires.range
 
 pub ending_of-told-requires-clause-last : goal.ending_of-told-requires-clause-last
-ending_of-told-requires-clause-last g c = lanes-end c.args.system.now c.args.run.now.journal c.requires.lawful
+ending_of-told-requires-clause-last g c = lanes-end c.args.system.now c.args.journal.now c.requires.lawful
 
 pub returns-in-Whole : goal.returns-in-Whole
 returns-in-Whole g c =
-    rw c.in-Whole.is (whole-printed c.args.system.now c.args.run.now.journal c.ending_of-told.result c.ending_of-told.ensures _ _ _ _ c.in-Whole.kind (number_of_form c.args.form) c.write.result
+    rw c.in-Whole.is (whole-printed c.args.system.now c.args.journal.now c.ending_of-told.result c.ending_of-told.ensures _ _ _ _ c.in-Whole.kind (number_of_form c.args.form) c.write.result
     (rw c.number.ensures at c.write.ensures))
 
 pub returns-in-Summary : goal.returns-in-Summary

@@ -1,3 +1,4 @@
+use Rattle.std.proofs.Common.{refl}
 use Rattle.std.proofs.lemmas.Bool.{and_parts}
 use Rattle.qp_commands.proofs.LimitLemmas.{limit-few, limit-some}
 use Rattle.qp_run.proofs.VerdictLemmas.{agrees-check, agrees-decode, agrees-generate, agrees-migrate, agrees-replay, agrees-run}
@@ -16,13 +17,13 @@ pub returns-in-Check-clause-told : goal.returns-in-Check-clause-told
 returns-in-Check-clause-told g c = rw c.in-Check.is (agrees-check _ _ _ c.check_files.ensures.told)
 
 pub run_files-requires-clause-some : goal.run_files-requires-clause-some
-run_files-requires-clause-some g c = limit-some 1000000 _ (and_parts _ _ (rw c.in-Run.is at c.requires)).0
+run_files-requires-clause-some g c κs within = limit-some 1000000 _ (and_parts _ _ (rw c.in-Run.is at c.requires.limits)).0
 
 pub run_files-requires-clause-few : goal.run_files-requires-clause-few
-run_files-requires-clause-few g c = limit-few 1000000 _ (and_parts _ _ (rw c.in-Run.is at c.requires)).0
+run_files-requires-clause-few g c κs within = limit-few 1000000 _ (and_parts _ _ (rw c.in-Run.is at c.requires.limits)).0
 
 pub run_files-requires-clause-form : goal.run_files-requires-clause-form
-run_files-requires-clause-form g c = (and_parts _ _ (rw c.in-Run.is at c.requires)).1
+run_files-requires-clause-form g c κs within = (and_parts _ _ (rw c.in-Run.is at c.requires.limits)).1
 
 pub returns-in-Run-clause-out : goal.returns-in-Run-clause-out
 returns-in-Run-clause-out g c = rw c.in-Run.is c.run_files.ensures.out
@@ -43,10 +44,10 @@ pub returns-in-Replay-clause-out : goal.returns-in-Replay-clause-out
 returns-in-Replay-clause-out g c = rw c.in-Replay.is c.replay_files.ensures.out
 
 pub run_made-requires-clause-some : goal.run_made-requires-clause-some
-run_made-requires-clause-some g c = limit-some 1000 _ (rw c.in-Generate.is at c.requires)
+run_made-requires-clause-some g c = limit-some 1000 _ (rw c.in-Generate.is at c.requires.limits)
 
 pub run_made-requires-clause-few : goal.run_made-requires-clause-few
-run_made-requires-clause-few g c = limit-few 1000 _ (rw c.in-Generate.is at c.requires)
+run_made-requires-clause-few g c = limit-few 1000 _ (rw c.in-Generate.is at c.requires.limits)
 
 pub returns-in-Generate-clause-told : goal.returns-in-Generate-clause-told
 returns-in-Generate-clause-told g c = rw c.in-Generate.is (agrees-generate _ _ _ c.run_made.ensures.told)
@@ -56,3 +57,21 @@ returns-in-Generate-clause-cause g c = c.run_made.ensures.cause _ _
 
 pub returns-in-Generate-clause-out : goal.returns-in-Generate-clause-out
 returns-in-Generate-clause-out g c = rw c.in-Generate.is c.run_made.ensures.out
+
+pub returns-in-Run-clause-seal : goal.returns-in-Run-clause-seal
+returns-in-Run-clause-seal g c = rw c.in-Run.is c.run_files.ensures.seal
+
+pub returns-in-Decode-clause-seal : goal.returns-in-Decode-clause-seal
+returns-in-Decode-clause-seal g c = rw c.in-Decode.is refl
+
+pub returns-in-Migrate-clause-seal : goal.returns-in-Migrate-clause-seal
+returns-in-Migrate-clause-seal g c = rw c.in-Migrate.is refl
+
+pub returns-in-Check-clause-seal : goal.returns-in-Check-clause-seal
+returns-in-Check-clause-seal g c = rw c.in-Check.is refl
+
+pub returns-in-Replay-clause-seal : goal.returns-in-Replay-clause-seal
+returns-in-Replay-clause-seal g c = rw c.in-Replay.is refl
+
+pub returns-in-Generate-clause-seal : goal.returns-in-Generate-clause-seal
+returns-in-Generate-clause-seal g c = rw c.in-Generate.is refl
