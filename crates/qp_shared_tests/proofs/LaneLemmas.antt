@@ -1,0 +1,60 @@
+-- Lanes as their table gave them out, and players behind their turns.
+use Rattle.std.proofs.Common.{◌≡◌, ℕ, suc, ◌+◌, Bool, true, List, [], ◌∷◌, ◌++◌, length, take, drop, slice_get, refl, ◌∙◌, ap, subst, arith, Some, length-append}
+use Rattle.qp_base.specs.declared.event.Ev.{Ev}
+use Rattle.qp_model.specs.declared.systems.System.{System}
+use Rattle.qp_model.specs.WordLaw.{is_object}
+use Rattle.qp_calls.specs.LaneView.{LaneView}
+use Rattle.qp_port_workers.specs.Turns.{TurnEach}
+use Rattle.qp_shared.specs.declared.shared.Shared.{Shared}
+use Rattle.qp_shared.specs.Starting.{AreFirst, serves_one}
+use Rattle.qp_shared_tests.specs.Lanes.{IsLaneOf, IsPlayer, IsSame, MayPlay}
+
+-- What a lane is at first.
+
+pub lane-of : (s : Shared) (n i : ℕ) (serves : ℕ → ℕ → Bool) (vs : List LaneView) (v w : LaneView) → AreFirst s n serves vs → slice_get vs i ≡ Some v → IsSame v w → IsLaneOf s n i w
+lane-of s n i serves vs v w h at same =
+    let first = h.each i v at in
+    record { world = same.world ∙ first.world_is; sys = same.sys ∙ first.sys_is; number = same.number ∙ first.number_is }
+
+-- lane i of a port takes from the queue of object `me`
+pub first-plays : (s : Shared) (sys : System) (ev : Ev) (i me to : ℕ) (vs : List LaneView) (v : LaneView) → s.sys.now ≡ sys → AreFirst s 3 (serves_one s.sys.now) vs → slice_get vs i ≡ Some v
+    → serves_one sys i me ≡ true → is_object sys me ≡ true → is_object sys to ≡ true → MayPlay sys ev → IsPlayer sys ev me to v
+first-plays s sys ev i me to vs v its h at serves mine other may =
+    let first = h.each i v at in
+    record {
+      sound = may.sound;
+      of = first.sys_is ∙ its;
+      mine = mine;
+      other = other;
+      serves = h.serve i v at me ∙ (ap (λ t. serves_one t i me) its ∙ serves);
+      fixed = may.fixed;
+      event = may.event;
+      pooled = may.pooled;
+    }
+
+-- Two that took their turns.
+
+turns-long : {T : Type 0} (P : T → T → Type 0) (xs ys : List T) → TurnEach P xs ys → length ys ≡ length xs
+turns-long P [] [] h = refl
+turns-long P (x ∷ xs) (y ∷ ys) h = ap suc (turns-long P xs ys h.1)
+turns-long P [] (y ∷ ys) h = absurd h
+turns-long P (x ∷ xs) [] h = absurd h
+
+pub both-turned : {T : Type 0} (P : T → T → Type 0) (a b c d : T) (xs ys zs : List T) → TurnEach P (a ∷ b ∷ []) xs → xs ≡ ys ++ d ∷ [] → ys ≡ zs ++ c ∷ [] → P a c × P b d
+both-turned P a b c d xs ys [] h x y = let both = subst (TurnEach P (a ∷ b ∷ [])) (x ∙ ap (λ l. l ++ d ∷ []) y) h in (both.0, both.1.0)
+both-turned P a b c d xs ys (z ∷ zs) h x y =
+    let n = turns-long P (a ∷ b ∷ []) xs h in
+    let long = ap length x in
+    let more = ap length y in
+    let i = length-append ys (d ∷ []) in
+    let j = length-append (z ∷ zs) (c ∷ []) in
+    absurd (omega (arith, n, long, more, i, j))
+
+-- the same of a list that was lent
+pub both-lent : {T : Type 0} (P : T → T → Type 0) (a b c d : T) (n : ℕ) (items ws ys zs : List T) → items ≡ a ∷ b ∷ [] → n ≡ 2 → TurnEach P (a ∷ b ∷ []) ws
+    → take n (ws ++ drop (length ws) items) ≡ ys ++ d ∷ [] → ys ≡ zs ++ c ∷ [] → P a c × P b d
+both-lent P a b c d n items (p ∷ q ∷ []) ys zs is two h x y =
+    both-turned P a b c d (p ∷ q ∷ []) ys zs h (subst (λ k. take k ((p ∷ q ∷ []) ++ drop 2 (a ∷ b ∷ [])) ≡ ys ++ d ∷ []) two (subst (λ l. take n ((p ∷ q ∷ []) ++ drop 2 l) ≡ ys ++ d ∷ []) is x)) y
+both-lent P a b c d n items [] ys zs is two h x y = absurd h
+both-lent P a b c d n items (p ∷ []) ys zs is two h x y = absurd h.1
+both-lent P a b c d n items (p ∷ q ∷ r ∷ ws) ys zs is two h x y = absurd h.1.1

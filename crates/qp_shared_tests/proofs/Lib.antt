@@ -1,0 +1,5 @@
+pub mod PoolLemmas
+pub mod SameLanes
+pub mod LaneLemmas
+pub mod KernelLemmas
+pub mod JudgeLemmas
