@@ -1,0 +1,3 @@
+pub mod Counting
+pub mod Quiet
+pub mod CordLemmas

@@ -1,0 +1,5 @@
+pub mod Records
+pub mod Cords
+pub mod Rung
+pub mod Lane
+pub mod LaneLaws
