@@ -7,11 +7,12 @@ import tempfile
 import unittest
 from pathlib import Path
 
-from qptools.cases.case_file import CaseFault, read_cases
+from qptools.cases.case_file import THREADED, CaseFault, read_cases
 from qptools.cases.command import main
-from qptools.cases.orders import Group, count_of, merged, orders, orders_text
+from qptools.cases.orders import Group, count_of, merged, orders, orders_text, runs_text
+from qptools.cases.outcome import replay_fault
 from qptools.cases.summary import read_summary
-from qptools.program import TOP, is_built
+from qptools.program import TOP, Answer, is_built
 from qpviewer.coverage import Coverage
 from qpviewer.journal import read_journal
 from qpviewer.low_water import LowWater
@@ -57,7 +58,7 @@ class Files(unittest.TestCase):
     def test_faults(self):
         table = (
             ("case = 1\n", "has [[case]] tables"), ("[[case]]\n", "case 1: name is missing"), (CASE + "colour = 1\n", "'colour' is no key"),
-            (CASE + 'kernel = "qk"\n', "a kernel is sim or qv"), (CASE + "object.lamp = { colour = 1 }\n", "object lamp: 'colour' is no key"),
+            (CASE + 'kernel = "rtos"\n', "a kernel is sim, qv, qk or port"), (CASE + "object.lamp = { colour = 1 }\n", "object lamp: 'colour' is no key"),
             ("[[case", "cases.toml: "),
         )
         for text, words in table:
@@ -81,7 +82,8 @@ class Files(unittest.TestCase):
                 self.write(CASE + 'kernel = "sim"\n' + text)
                 status, printed, _ = answer(str(self.folder))
                 self.assertEqual(status, 1 if told else 0)
-                self.assertEqual([line.strip() for line in printed.splitlines()[1:-1]], told)
+                self.assertEqual([line.strip() for line in printed.splitlines()[1:-4]], told)
+                self.assertEqual([line[:4] for line in printed.splitlines()[-4:-1]], ["pass"] * 3, "the others are judged alone")
 
     @unittest.skipUnless(is_built(), "the program isn't built")
     def test_a_system_that_is_refused_is_explained(self):
@@ -103,8 +105,8 @@ class Files(unittest.TestCase):
         self.write(CASE + CASE.replace('"a"', '"b"'))
         status, printed, _ = answer("--cover", "--low", str(self.folder))
         self.assertEqual(status, 0)
-        self.assertEqual(printed.splitlines()[4:], [
-            "4 passed, 0 failed", f"{self.folder}/lamp.toml:", "chart lamp: 1 of 1 rows taken",
+        self.assertEqual(printed.splitlines()[8:], [
+            "8 passed, 0 failed", f"{self.folder}/lamp.toml:", "chart lamp: 1 of 1 rows taken",
             "            size  least free  most used", "queue lamp     2           1          1",
         ])
 
@@ -161,6 +163,45 @@ class Orders(unittest.TestCase):
         self.assertTrue(printed.endswith("  by the order 1:\n    source 1: post lamp GO\n"), printed)
 
 
+class Threads(unittest.TestCase):
+    """Runs with threads, of which two may differ."""
+
+    def test_text(self):
+        found = [("end 0\nobject a 1 s\n", 2), ("end 0\nobject a 2 s\n", 1)]
+        self.assertEqual(runs_text(found, "qk").splitlines(), [
+            "3 runs under qk, with 2 outcomes", "outcome 1, of 2 runs:", "  object a 1 s", "outcome 2, of 1 run:", "  object a 2 s",
+        ])
+        self.assertEqual(runs_text(found[:1], "port").splitlines(), [
+            "2 runs under port, with 1 outcome", "outcome 1, of 2 runs:", "  end 0", "  object a 1 s",
+        ])
+
+    def test_orders_and_cycles(self):
+        """An order has all records; only where threads made them may there be a cycle."""
+        table = (
+            (b"order 1\n0 begin 1\n", 1, "sim", True), (b"order 1\n0 begin 1\n", 2, "sim", False), (b"order 2\n0 begin 1\n", 2, "sim", False),
+            (b"cycle 1\n0 begin 1\n", 2, "port", True), (b"cycle 1\n0 begin 1\n", 2, "qv", False), (b"cycle 0\n", 2, "qk", False),
+            (b"", 0, "qk", False),
+        )
+        for output, records, kernel, is_right in table:
+            with self.subTest(output, records=records, kernel=kernel):
+                self.assertEqual(replay_fault(Answer(output, "", 0), records, kernel) == "", is_right)
+        self.assertEqual(replay_fault(Answer(b"", "qp: memory\n", 5), 1, "qk"), "qp: memory")
+
+    @unittest.skipUnless(is_built(), "the program isn't built")
+    def test_outcomes(self):
+        """Two sources that don't wait for each other may come to either end; one source and one object come to one."""
+        clock = [str(EXAMPLES / "clock" / name) for name in ("clock.toml", "two.txt")]
+        for kernel in THREADED:
+            with self.subTest(kernel):
+                status, printed, _ = answer("orders", "--kernel", kernel, "--most", "20", *clock)
+                self.assertEqual(status, 0)
+                self.assertRegex(printed, rf"^20 runs under {kernel}, with [12] outcomes?\n")
+        lamp = [str(EXAMPLES / name) for name in ("lamp.toml", "go.txt")]
+        self.assertEqual(answer("orders", "--kernel", "port", "--most", "3", *lamp)[1].splitlines(), [
+            "3 runs under port, with 1 outcome", "outcome 1, of 3 runs:", "  end 0", "  object lamp 1 on",
+        ])
+
+
 class Counts(unittest.TestCase):
     """Coverage and low water, of the judge's journals."""
 
@@ -202,4 +243,4 @@ class Examples(unittest.TestCase):
 
     def test_the_program(self):
         ran = subprocess.run([TOP / "tools" / "qptest", EXAMPLES / "clock"], capture_output=True, text=True)
-        self.assertEqual((ran.returncode, ran.stdout.splitlines()[-1]), (0, "6 passed, 0 failed"))
+        self.assertEqual((ran.returncode, ran.stdout.splitlines()[-1]), (0, "12 passed, 0 failed"))

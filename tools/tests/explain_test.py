@@ -7,14 +7,17 @@ import re
 import subprocess
 import tempfile
 import unittest
+import unittest.mock
 from pathlib import Path
 
 from qptools.changes import change_all
 from qptools.explain.command import explanation, main
 from qptools.explain.hints import hints
 from qptools.explain.refusal import Refusal, read_refusal
+from qptools.explain.runs import explain_long_stop, explain_stop
 from qptools.explain.words import explain_words
-from qptools.program import TOP, is_built
+from qptools.program import TOP, Answer, is_built
+from qpviewer.files import read_run
 from qpviewer.system import read_system
 
 CLOCK = TOP / "examples" / "clock"
@@ -134,8 +137,8 @@ class Lines(unittest.TestCase):
             ("check", "a", "b", "c", "d"): "'d' is a word too many: qp check SYSTEM STIMULI JOURNAL",
             ("run", "--trace", "a", "b"): "`run` has no option '--trace'",
             ("run", "--kernal", "qv", "a", "b"): "`run` has no option '--kernal'; did you mean `--kernel`?",
-            ("run", "--kernel", "qk", "a", "b"): "the kernel qk can't be run yet; journals of it can be judged",
-            ("run", "--kernel", "rtos", "a", "b"): "--kernel is sim or qv, not 'rtos'",
+            ("run", "--kernel", "rtos", "a", "b"): "--kernel is sim, qv, qk or port, not 'rtos'",
+            ("run", "--kernel", "port", "--form", "3", "a", "b"): "--form is 1 or 2, not '3'",
             ("run", "--kernel", "qv", "--form=1", "a", "b"): "a journal of qv has form 2 alone",
             ("run", "--budget", "0", "a", "b"): "--budget is a number, 1 to 1000000, not '0'",
             ("run", "a", "b", "--budget"): "--budget has no value",
@@ -198,6 +201,47 @@ class Lines(unittest.TestCase):
         self.assertEqual(told[0], "line 12 of the journal, `assert 1 1 1 2 0 1`: lamp asserts: the queue of lamp is full")
         self.assertIn("in lamp's step of GO", told[1])
 
+    def test_stops_of_long_journals(self):
+        """Where only the last record of each lane is looked at, the same record is told, and the same advice."""
+        for line in (JUDGED / "lawful.txt").read_text().splitlines()[1:]:
+            name, *files = line.split("\t")
+            system, stimuli, journal = (JUDGED / folder / file for folder, file in zip(("systems", "stimuli", "journals"), files))
+            whole = explain_stop(read_run(str(system), str(stimuli), str(journal)))
+            with self.subTest(name):
+                self.assertEqual(explain_long_stop(read_system(system.read_bytes()), journal.read_bytes()), whole[:1] + whole[1:][-1:])
+
+    def test_what_is_too_long_to_explain(self):
+        """A large file isn't read, and what is read of hostile ones is told in a few lines."""
+        many = "qp = 1\n" + "".join(f"k{k} = 1\n" for k in range(20_000))
+        wide = f"qp = 1\n{'x' * 500_000} = 1\n"
+        with folder_with({"many.toml": many, "wide.toml": wide, "long.toml": many * 8, "go.txt": ""}):
+            told = explanation(["run", "many.toml", "go.txt"], "qp: many.toml: 4 \n")
+            self.assertEqual(told[0], "the top of the file: `k0`, `k1`, `k2` and 19997 more are no keys of this table")
+            self.assertLessEqual(max(map(len, told)), 300)
+            self.assertLess(len(told), 8)
+            self.assertEqual(explanation(["run", "long.toml", "go.txt"], "qp: long.toml: 1 -\n"),
+                             [f"long.toml has {len(many) * 8} bytes; what is longer than 1048576 isn't explained"])
+            self.assertLess(sum(map(len, explanation(["run", "wide.toml", "go.txt"], "qp: wide.toml: 4 \n"))), 2000)
+
+    def test_a_pipe_isnt_read_again(self):
+        with folder_with({}) as folder:
+            os.mkfifo(folder / "pipe")
+            self.assertEqual(explanation(["run", "pipe", "go.txt"], "qp: pipe: 1 -\n"),
+                             ["pipe isn't a file on a disk, so it isn't read again"])
+
+    def test_stops_with_threads(self):
+        """A run that has to be made once more is another one, which may end otherwise."""
+        names = (("systems", "crowded.toml"), ("stimuli", "go.txt"), ("journals", "crowded-out.txt"))
+        files = {name: (JUDGED / folder / name).read_text() for folder, name in names}
+        words, note = ["run", "--kernel", "qk", "--out", "summary", "crowded.toml", "go.txt"], "qp: assertion 1 in lane 0\n"
+        journal = files["crowded-out.txt"].encode()
+        with folder_with(files):
+            for other, said in ((note, "one more that ended so has this:"), ("qp: spent in lane 0\n", "one more ended otherwise")):
+                with self.subTest(other), unittest.mock.patch("qptools.explain.command.call", return_value=Answer(journal, other, 3)):
+                    told = explanation(words, note)
+                    self.assertIn(said, told[0])
+                    self.assertEqual(len(told) > 1, other == note)
+
 
 @unittest.skipUnless(is_built(), "the program isn't built")
 class Launcher(unittest.TestCase):
@@ -222,7 +266,8 @@ class Launcher(unittest.TestCase):
 
     def test_right_words_are_the_programs(self):
         for words in (("run", "lamp.toml", "go.txt"), ("run", "--out", "summary", "lamp.toml", "go.txt"),
-                      ("run", "--kernel=qv", "--budget", "7", "--", "lamp.toml", "go.txt"), ("gen", "1")):
+                      ("run", "--kernel=qv", "--budget", "7", "--", "lamp.toml", "go.txt"), ("run", "--kernel", "qk", "lamp.toml", "go.txt"),
+                      ("run", "--kernel=port", "--form=2", "lamp.toml", "go.txt"), ("gen", "1")):
             self.assertEqual(self.call(*words)[0::2], (0, ""), words)
 
     def test_a_terminal_has_the_explanation(self):

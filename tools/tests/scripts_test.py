@@ -10,9 +10,9 @@ from qptools.program import TOP
 
 #: Scripts of this repository that a user calls; those that need the built program.
 SCRIPTS = ("examples/test", "view/test", "view/qpview", "view/browser/check", "tools/test", "tools/qptest", "tools/qpexplain", "tools/libraries",
-           "tools/sources", "bench/documents", "bench/gate", "bench/verdicts")
-OF_THE_PROGRAM = ("bench/check", "bench/edges", "bench/hostile", "bench/journals", "bench/memory", "bench/readers", "bench/replay", "bench/sim",
-                  "bench/steps", "examples/test")
+           "tools/sources", "bench/gate", "bench/verdicts", "bench/edits/try", "recorder/test")
+OF_THE_PROGRAM = ("bench/check", "bench/documents", "bench/edges", "bench/hostile", "bench/journals", "bench/memory", "bench/mutants",
+                  "bench/readers", "bench/replay", "bench/runs", "bench/sim", "bench/steps", "bench/sum", "examples/test")
 SECONDS = 20
 
 

@@ -13,6 +13,7 @@ records that don't fit are told.
 """
 
 from collections import Counter, defaultdict, deque
+from collections.abc import Iterable
 from dataclasses import dataclass, field
 
 from .journal import PORT, QK, QV, SIM, Journal, Record
@@ -145,7 +146,7 @@ class _Alignment:
         touch = touch_of(self._lanes[lane][at])
         return ([touch] if touch else []) + self._starts.get((lane, at), [])
 
-    def _run(self, lanes) -> None:
+    def _run(self, lanes: Iterable[int]) -> None:
         todo = deque(lanes)
         while todo:
             lane = todo.popleft()

@@ -5,7 +5,7 @@ own line. What is refused and what stops a run stands in capitals.
 """
 
 from collections.abc import Callable
-from dataclasses import dataclass, field
+from dataclasses import dataclass, field, replace
 
 from .journal import KERNELS, Record
 from .naming import signed
@@ -22,7 +22,7 @@ INDENT = "  "
 @dataclass
 class _Line:
     """A line under way: how many steps it interrupts, its head, what happened in it, and the pools that it touched. A step
-    that isn't done at the end is cut off."""
+    that isn't done at the end is cut off. It is moved where another line stands for it further down."""
 
     depth: int
     head: str
@@ -30,6 +30,7 @@ class _Line:
     free: dict[int, int] = field(default_factory=dict)
     is_step: bool = False
     is_done: bool = False
+    is_moved: bool = False
 
     def text(self) -> str:
         pools = [f"pool {pool} has {free} free" for pool, free in self.free.items()]
@@ -48,7 +49,8 @@ def records_text(story: Story) -> str:
 
 
 def run_text(story: Story) -> str:
-    """A line for each start, step and stimulus, in order of their first records, between the run's head and its end."""
+    """A line for each start, step and stimulus, between the run's head and its end. They are in order of their first records, but a
+    `settle` stands where it saw the queues empty, which with threads is later."""
     return _RunText(story).text()
 
 
@@ -66,7 +68,7 @@ class _RunText:
     def text(self) -> str:
         for index, (lane, record) in enumerate(self._story.records()):
             self._tell(index, lane, record)
-        return "".join(f"{line}\n" for line in [self._head(), *(line.text() for line in self._lines), *self._end()])
+        return "".join(f"{line}\n" for line in [self._head(), *(line.text() for line in self._lines if not line.is_moved), *self._end()])
 
     def _head(self) -> str:
         journal = self._story.journal
@@ -92,10 +94,18 @@ class _RunText:
             line.parts.append(self._words(index, record))
         if line is None:
             return
+        if record.word == "seen" and line is not self._lines[-1]:
+            line = self._open[key] = self._moved(line)
         if index in self._free:
             pool, free = self._free[index]
             line.free[pool] = free
         line.is_done = line.is_done or record.word == "done"
+
+    def _moved(self, line: _Line) -> _Line:
+        """The same line behind all others so far."""
+        self._lines.append(replace(line))
+        line.is_moved = True
+        return self._lines[-1]
 
     def _begun(self, index: int, record: Record) -> _Line:
         who, words = self._story.in_words(index)

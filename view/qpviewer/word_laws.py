@@ -4,6 +4,8 @@ A law is asked record by record, and answers in words what is wrong, or nothing.
 looks for the place of a verdict. Whether a journal is lawful says `qp check` alone.
 """
 
+from collections.abc import Iterable
+
 from .journal import Record
 
 Entry = tuple[int, ...]
@@ -194,7 +196,7 @@ class TimeEvent(Law):
         return f"counter: {self._counter}, interval: {self._interval}"
 
 
-def _list(values) -> str:
+def _list(values: Iterable[object]) -> str:
     return ", ".join(map(str, values)) or "none"
 
 

@@ -13,9 +13,9 @@ from qpviewer.story import Story
 from qpviewer.system import read_system
 
 from ..program import is_built
-from .case_file import KERNELS, Case, CaseFault, read_cases
+from .case_file import KERNELS, THREADED, Case, CaseFault, read_cases
 from .compare import differences
-from .orders import count_of, orders_text, outcomes
+from .orders import count_of, orders_text, outcomes, run_outcomes, runs_text
 from .outcome import NoRun, run_case
 
 USAGE = """usage: qptest [--cover] [--low] FOLDER ..   runs all cases of the files cases.toml in the folders and below; with --cover and --low
@@ -24,13 +24,16 @@ USAGE = """usage: qptest [--cover] [--low] FOLDER ..   runs all cases of the fil
        qptest low SYSTEM JOURNAL ..         prints the least that was free in queues and pools (getQueueMin, getPoolMin)
        qptest orders [--kernel sim|qv] [--most N] SYSTEM STIMULI
                                             runs the orders of the sources' stimuli, at most N (1000), and prints their outcomes
+       qptest orders --kernel qk|port [--most N] SYSTEM STIMULI
+                                            runs the stimuli N times (100), in whatever order the threads make, and prints the outcomes
 
-A case takes some hundredths of a second. All but `cover` and `low` need the built program: ./qp build. docs/TESTING.md says how a
-case is written. Ends with 0 where all is as expected, 1 where a case fails, 2 where a file or a word is wrong, 125 where the
-program isn't built."""
+A case runs under each kernel, and each journal is judged and replayed; what else is expected is asked under the kernels that the
+case names, sim and qv if it names none. That takes some hundredths of a second a kernel. All but `cover` and `low` need the built
+program: ./qp build. docs/TESTING.md says how a case is written. Ends with 0 where all is as expected, 1 where a case fails, 2 where
+a file or a word is wrong, 125 where the program isn't built."""
 
 PASSED, FAILED, WRONG, NOT_BUILT = 0, 1, 2, 125
-MOST = 1000
+MOST, MOST_THREADED = 1000, 100
 
 
 class _Words(Exception):
@@ -81,7 +84,7 @@ def _low(system_name: str, names: list[str]) -> int:
 
 
 def _orders(words: list[str]) -> int:
-    options, files = {"--kernel": "sim", "--most": str(MOST)}, list(words)
+    options, files = {"--kernel": "sim", "--most": ""}, list(words)
     while len(files) > 1 and files[0].startswith("--"):
         name, value, *files = files
         if name not in options:
@@ -89,11 +92,16 @@ def _orders(words: list[str]) -> int:
         options[name] = value
     if len(files) != 2:
         raise _Words("a system and stimuli are needed")
-    if options["--kernel"] not in KERNELS or not options["--most"].isdigit():
-        raise _Words(f"--kernel is {' or '.join(KERNELS)}, and --most a number")
+    kernel = options["--kernel"]
+    most = options["--most"] or str(MOST_THREADED if kernel in THREADED else MOST)
+    if kernel not in KERNELS or not most.isdigit():
+        raise _Words(f"--kernel is {', '.join(KERNELS[:-1])} or {KERNELS[-1]}, and --most a number")
     system = read_file(files[0], read_system)
     stimuli = read_file(files[1], lambda data: read_stimuli(data, system))
-    groups = outcomes(Path(files[0]), stimuli, ["--kernel", options["--kernel"]], int(options["--most"]))
+    if kernel in THREADED:
+        print(runs_text(run_outcomes([*files], kernel, int(most)), kernel), end="")
+        return PASSED
+    groups = outcomes(Path(files[0]), stimuli, ["--kernel", kernel], int(most))
     print(orders_text(groups, stimuli, count_of([len(lines) for lines in stimuli])), end="")
     return PASSED
 
@@ -106,7 +114,7 @@ def _folders(words: list[str]) -> int:
     files = [file for name in names for file in sorted(Path(name).rglob("cases.toml"))]
     if not files:
         raise _Words(f"no file cases.toml in {', '.join(names) or 'no folder'}")
-    tried = [_tried(file, case, kernel) for file in files for case in read_cases(file) for kernel in case.kernels]
+    tried = [_tried(file, case, kernel) for file in files for case in read_cases(file) for kernel in KERNELS]
     failed = sum(not is_passed for is_passed, _, _ in tried)
     print(f"{len(tried) - failed} passed, {failed} failed")
     stories: dict[Path, list[Story]] = {}
@@ -123,8 +131,8 @@ def _tried(file: Path, case: Case, kernel: str) -> tuple[bool, Case, Story | Non
     if isinstance(outcome, NoRun):
         told, story = ["the system or the stimuli are refused:", *outcome.lines], None
     else:
-        told, story = differences(case, outcome), outcome.story
-    print(f"{'FAIL' if told else 'pass'}  {file.parent}: {case.name}, {kernel}")
+        told, story = differences(case, outcome, kernel), outcome.story
+    print(f"{'FAIL' if told else 'pass'}  {file.parent}: {case.name}, {kernel}{'' if kernel in case.kernels else ', judged alone'}")
     print("".join(f"      {line}\n" for line in told), end="")
     return not told, case, story
 

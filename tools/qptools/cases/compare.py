@@ -5,13 +5,18 @@ from .outcome import Outcome
 from .summary import ObjectSummary
 
 
-def differences(case: Case, outcome: Outcome) -> list[str]:
-    """A line for each thing that differs; none where all is as expected."""
+def differences(case: Case, outcome: Outcome, kernel: str) -> list[str]:
+    """A line for each thing that differs; none where all is as expected. Under a kernel that the case doesn't name, all that is expected
+    is a lawful journal and an order, or a cycle, of its records."""
     found = []
     if outcome.verdict != "lawful":
         found.append(f"the journal is {outcome.verdict}, expected lawful")
-    if outcome.summary.end != case.end:
-        found.append(f"end is {outcome.summary.end}, expected {case.end}{_stop(outcome)}")
+    elif outcome.replayed:
+        found.append(f"replayed: {outcome.replayed}")
+    if kernel not in case.kernels:
+        return found
+    for end in sorted({outcome.summary.end, outcome.story.journal.status} - {case.end}):
+        found.append(f"end is {end}, expected {case.end}{_stop(outcome)}")
     if case.summary is not None and outcome.text != case.summary:
         found += _lines_that_differ(outcome.text, case.summary)
     found += _refusals(case, outcome)

@@ -1,7 +1,9 @@
-"""The orders in which the stimuli of several sources may happen, run one after another, and what comes of them."""
+"""The orders in which the stimuli of several sources may happen, run one after another, and what comes of them; and what comes of runs
+with threads, which take an order of their own each."""
 
 import os
 import tempfile
+from collections import Counter
 from collections.abc import Iterator
 from concurrent.futures import ThreadPoolExecutor
 from dataclasses import dataclass
@@ -90,12 +92,39 @@ def _outcome(files: list[str], words: list[str], order: Order) -> tuple[str, Ord
 def orders_text(groups: list[Group], stimuli: list[list[str]], total: int) -> str:
     """The outcomes, each with how many orders lead to it and the shortest one."""
     ran = sum(group.count for group in groups)
-    lines = [f"{ran} of {total} orders were run, with {len(groups)} outcome{'' if len(groups) == 1 else 's'}"]
-    common = set.intersection(*(set(group.outcome.splitlines()) for group in groups)) if len(groups) > 1 else set()
-    for number, group in enumerate(groups, 1):
-        lines.append(f"outcome {number}, of {group.count} order{'' if group.count == 1 else 's'}:")
-        lines += [f"  {line}" for line in group.outcome.splitlines() if line not in common]
+    lines = [f"{ran} of {total} orders were run, with {_plural(len(groups), 'outcome')}"]
+    for number, (group, told) in enumerate(zip(groups, _what_differs([group.outcome for group in groups])), 1):
+        lines += [f"outcome {number}, of {_plural(group.count, 'order')}:", *told]
         lines.append(f"  by the order {' '.join(map(str, group.order))}:")
         places = [iter(own) for own in stimuli]
         lines += [f"    source {source}: {next(places[source - 1])}" for source in group.order]
     return "".join(f"{line}\n" for line in lines)
+
+
+def run_outcomes(files: list[str], kernel: str, count: int) -> list[tuple[str, int]]:
+    """What comes of so many runs with threads, the commonest first, each with how many runs came to it."""
+    def come(_: int) -> str:
+        ran = call(["run", "--out", "summary", "--kernel", kernel, "--", *files])
+        return ran.output.decode() + ran.note
+
+    with ThreadPoolExecutor(os.cpu_count()) as pool:
+        return Counter(pool.map(come, range(count))).most_common()
+
+
+def runs_text(found: list[tuple[str, int]], kernel: str) -> str:
+    """The outcomes of runs with threads, each with how many runs came to it."""
+    ran = sum(count for _, count in found)
+    lines = [f"{_plural(ran, 'run')} under {kernel}, with {_plural(len(found), 'outcome')}"]
+    for number, ((_, count), told) in enumerate(zip(found, _what_differs([outcome for outcome, _ in found])), 1):
+        lines += [f"outcome {number}, of {_plural(count, 'run')}:", *told]
+    return "".join(f"{line}\n" for line in lines)
+
+
+def _what_differs(outcomes: list[str]) -> list[list[str]]:
+    """Of each outcome the lines that not all others have too."""
+    common = set.intersection(*(set(outcome.splitlines()) for outcome in outcomes)) if len(outcomes) > 1 else set()
+    return [[f"  {line}" for line in outcome.splitlines() if line not in common] for outcome in outcomes]
+
+
+def _plural(count: int, thing: str) -> str:
+    return f"{count} {thing}{'' if count == 1 else 's'}"

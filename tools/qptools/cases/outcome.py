@@ -1,4 +1,4 @@
-"""Runs a case under a kernel, and has the journal judged."""
+"""Runs a case under a kernel, and has the journal judged and replayed."""
 
 import tempfile
 from dataclasses import dataclass
@@ -10,7 +10,7 @@ from qpviewer.story import Story
 
 from ..explain.command import explanation
 from ..program import Answer, call
-from .case_file import Case
+from .case_file import THREADED, Case
 from .summary import Summary, read_summary
 
 #: Records of calls that were refused.
@@ -19,12 +19,14 @@ _REFUSED = {"full", "short", "nodefer"}
 
 @dataclass(frozen=True)
 class Outcome:
-    """What came of a run: its summary as text and read, its story, and what the judge said."""
+    """What came of a run: its summary as text and read, its story, what the judge said, and what is wrong with the order or the cycle of
+    its records, if anything is. Under a kernel with threads the summary is that of a second run."""
 
     text: str
     summary: Summary
     story: Story
     verdict: str
+    replayed: str
 
     def said(self, priority: int) -> list[int]:
         """The values that an object said, in order."""
@@ -54,9 +56,25 @@ def run_case(case: Case, kernel: str) -> Outcome | NoRun:
         if ran.status not in (0, 3, 4):
             return NoRun([ran.note.strip(), *explanation(words, ran.note)])
         journal.write_bytes(ran.output)
-        judged = call(["check", str(case.system), str(stimuli), str(journal)])
-        text = call([words[0], "--out", "summary", *words[1:]]).output.decode()
-        return Outcome(text, read_summary(text), Story(*read_run(str(case.system), str(stimuli), str(journal))), _verdict(judged))
+        files = [str(case.system), str(stimuli), str(journal)]
+        judged, replayed = call(["check", *files]), call(["replay", *files])
+        summed = call([words[0], "--out", "summary", *words[1:]])
+        if summed.status not in (0, 3, 4):
+            return NoRun([summed.note.strip(), *explanation(words, summed.note)])
+        text, story = summed.output.decode(), Story(*read_run(*files))
+        return Outcome(text, read_summary(text), story, _verdict(judged), replay_fault(replayed, len(story.records()), kernel))
+
+
+def replay_fault(replayed: Answer, records: int, kernel: str) -> str:
+    """What is wrong with the order or the cycle that was printed of a journal's records; nothing where it is as it has to be: all records,
+    or, where threads made them, some that go in a circle."""
+    head, *lines = replayed.output.decode().splitlines() or [""]
+    kind, _, count = head.partition(" ")
+    if replayed.status or count != str(len(lines)):
+        return replayed.note.strip() or f"no order of records: {head!r}"
+    if kind == "order":
+        return "" if len(lines) == records else f"an order of {len(lines)} records, and the journal has {records}"
+    return "" if kind == "cycle" and lines and kernel in THREADED else f"a {kind} of {len(lines)} records"
 
 
 def _verdict(judged: Answer) -> str:

@@ -2,10 +2,13 @@
 
 from typing import NamedTuple
 
+#: The kernels in which a run has threads, so that two runs of the same words may differ.
+THREADED = ("qk", "port")
+
 #: Each command with its files and its options; each option has a value.
 COMMANDS: dict[str, tuple[tuple[str, ...], dict[str, tuple[str, ...]]]] = {
     "run": (("SYSTEM", "STIMULI"), {
-        "--kernel": ("sim", "qv"), "--budget": (), "--out": ("journal", "frames", "summary"), "--form": ("1", "2"),
+        "--kernel": ("sim", "qv", *THREADED), "--budget": (), "--out": ("journal", "frames", "summary"), "--form": ("1", "2"),
     }),
     "check": (("SYSTEM", "STIMULI", "JOURNAL"), {}),
     "replay": (("SYSTEM", "STIMULI", "JOURNAL"), {}),
@@ -27,6 +30,10 @@ class Call(NamedTuple):
         kinds = COMMANDS.get(self.command, ((), {}))[0]
         kind = next((kind for kind, file in zip(kinds, self.files) if file == name), "")
         return "FRAMES" if kind == "JOURNAL" and self.options.get("--from") == "frames" else kind
+
+    def is_threaded(self) -> bool:
+        """Whether a run has threads, so that it may go otherwise when it is made once more."""
+        return self.options.get("--kernel") in THREADED
 
     def to_journal(self) -> list[str]:
         """The words of the same run with its journal as text for output, in the form that its kernel has."""

@@ -12,12 +12,12 @@ from qpviewer.stimuli import read_stimuli
 from qpviewer.system import read_system
 from qpviewer.system_parts import System
 
-from ..program import UNANSWERED, call, is_built
+from ..program import UNANSWERED, Answer, call, is_built
 from .call import Call, read_call
 from .hints import hints
 from .line_faults import explain_frames, explain_journal, explain_stimuli
 from .refusal import Refusal, read_refusal
-from .runs import explain_stop, explain_verdict
+from .runs import explain_long_stop, explain_stop, explain_verdict
 from .system_faults import explain_system
 from .words import explain_words
 
@@ -28,7 +28,16 @@ stands in your files. What the call itself prints is dropped. Ends with the stat
 
 #: A run is made once more for its journal only where it takes no longer than this.
 SECONDS = 10.0
+#: Files that are longer aren't read for an explanation, and a run's journal that is longer is not told as a whole: that takes seconds.
+LONGEST = 1 << 20
+#: Lines are cut at this width, but for the words of a call, which are there to be called.
+WIDTH = 300
+CALL = "to see it: "
 INDENT = "    "
+
+#: What stands before the explanation of a run with threads that was made once more, and in its place where that one ended otherwise.
+_ANOTHER = "with threads each run is another; one more that ended so has this:"
+_OTHERWISE = "with threads each run is another, and one more ended otherwise: write the journal to a file, and look at it with view/qpview"
 
 
 def explanation(words: list[str], note: str, output: bytes | None = None) -> list[str]:
@@ -38,9 +47,29 @@ def explanation(words: list[str], note: str, output: bytes | None = None) -> lis
         return []
     made = read_call(words)
     try:
-        return [line for line in _explain(refusal, made, words, output) if line]
+        return [_cut(line) for line in _explain(refusal, made, words, output) if line]
+    except _Unreadable as unreadable:
+        return [str(unreadable)]
     except (Fault, Unread, OSError):
         return []
+
+
+class _Unreadable(Exception):
+    """Why a file isn't read for an explanation."""
+
+
+def _cut(line: str) -> str:
+    return f"{line[:WIDTH - 3]}..." if len(line) > WIDTH and not line.startswith(CALL) else line
+
+
+def _need_short(names: list[str]) -> None:
+    """Raises `_Unreadable` for a file that can be read only once, as a pipe, or that is too long."""
+    for name in names:
+        path = Path(name)
+        if path.exists() and not path.is_file():
+            raise _Unreadable(f"{name} isn't a file on a disk, so it isn't read again")
+        if path.is_file() and path.stat().st_size > LONGEST:
+            raise _Unreadable(f"{name} has {path.stat().st_size} bytes; what is longer than {LONGEST} isn't explained")
 
 
 def _explain(refusal: Refusal, made: Call, words: list[str], output: bytes | None) -> list[str]:
@@ -54,11 +83,15 @@ def _explain(refusal: Refusal, made: Call, words: list[str], output: bytes | Non
         case "bad words":
             return [explain_words(words)]
         case "assertion" | "spent":
-            journal = output if output is not None else _journal(made)
-            return explain_stop(_run(made.files[:2], journal)) if journal else []
+            if output is not None:
+                return _stop(made.files[:2], output)
+            again = _once_more(made)
+            if made.is_threaded() and (again is None or read_refusal(again.note) != refusal):
+                return [_OTHERWISE]
+            told = _stop(made.files[:2], again.output) if again else []
+            return [_ANOTHER, *told] if made.is_threaded() else told
         case "broken":
-            told = explain_verdict(refusal.place, read_run(*made.files[:3]))
-            return [*told, f"to see it: view/qpview {shlex.join(made.files[:3])} '{refusal.place}' > run.html"]
+            return _verdict(refusal.place, made.files[:3])
         case "memory":
             return ["memory was refused: give the machine more, or the run fewer stimuli or a lower --budget"]
         case "read fault":
@@ -72,6 +105,7 @@ def _file_fault(refusal: Refusal, made: Call) -> list[str]:
     kind = made.kind_of(refusal.file)
     if refusal.code == 8 and made.command == "migrate":
         return ["the journal has what form 1 doesn't have: kernel qv, or a `rest`"]
+    _need_short([refusal.file, *(made.files[:1] if kind == "STIMULI" else [])])
     data = Path(refusal.file).read_bytes()
     if kind == "SYSTEM":
         return explain_system(data, refusal.code, "" if refusal.place == "-" else refusal.place)
@@ -101,14 +135,41 @@ def _run(files: list[str], journal: bytes) -> Run:
     return Run(system, read_file(files[1], lambda data: read_stimuli(data, system)), read_journal(journal))
 
 
-def _journal(made: Call) -> bytes | None:
-    """The journal of a run that is made once more; none where that takes too long, or where a file can be read only once."""
+def _verdict(verdict: str, files: list[str]) -> list[str]:
+    words = f"{shlex.join(files)} '{verdict}'"
+    try:
+        _need_short(files)
+    except _Unreadable as unreadable:
+        return [str(unreadable), f"{CALL}view/qpplace {words}"]
+    return [*explain_verdict(verdict, read_run(*files)), f"{CALL}view/qpview {words} > run.html"]
+
+
+def _stop(files: list[str], journal: bytes) -> list[str]:
+    """Why a run of these two files was stopped, which its journal says."""
+    _need_short(files)
+    if len(journal) > LONGEST:
+        return explain_long_stop(read_file(files[0], read_system), journal)
+    return explain_stop(_run(files, journal))
+
+
+def _once_more(made: Call) -> Answer | None:
+    """The answer of a run that is made once more for its journal; none where that takes too long, or where a file can be read only
+    once."""
     if any(not Path(name).is_file() for name in made.files):
         return None
     try:
-        return call(made.to_journal(), SECONDS).output
+        return call(made.to_journal(), SECONDS)
     except subprocess.TimeoutExpired:
         return None
+
+
+def _hints(made: Call) -> list[str]:
+    """What a system that is taken may have got wrong all the same."""
+    try:
+        _need_short(made.files[:1])
+    except _Unreadable:
+        return []
+    return hints(system) if made.files and (system := _system(made.files[0])) else []
 
 
 def main(words: list[str]) -> int:
@@ -129,6 +190,6 @@ def main(words: list[str]) -> int:
     is_journal = made.command == "run" and made.options.get("--out", "journal") == "journal"
     told = explanation(words, answer.note, answer.output if is_journal and answer.status in (3, 4) else None)
     if not answer.status:
-        told = ["status 0: nothing is refused", *(hints(system) if made.files and (system := _system(made.files[0])) else [])]
+        told = ["status 0: nothing is refused", *_hints(made)]
     print("".join(f"{INDENT}{line}\n" for line in told), end="")
     return answer.status

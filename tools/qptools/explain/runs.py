@@ -1,10 +1,12 @@
 """What ended a run, and what breaks a journal, in words: with the record, its line, and the names of the system."""
 
 from qpviewer.files import Run
-from qpviewer.journal import Record
+from qpviewer.journal import PORT, Record
+from qpviewer.naming import Names
 from qpviewer.place import record_of
-from qpviewer.record_words import plural
+from qpviewer.record_words import RecordWords, plural
 from qpviewer.story import Story
+from qpviewer.system_parts import System
 from qpviewer.verdict import read_verdict, verdict_words
 
 _ADVICE = {
@@ -29,7 +31,40 @@ def explain_stop(run: Run) -> list[str]:
     if stop is None:
         return []
     record = story.records()[stop][1]
-    return [_record_line(story, stop), *_context(story, stop), _advice(run, record)]
+    return [_record_line(story, stop), *_context(story, stop), _advice(run.journal.budget, record)]
+
+
+def explain_long_stop(system: System, journal: bytes) -> list[str]:
+    """The same for a long journal, as the program prints it, of which only the last record of each lane is looked at."""
+    _, _, kernel, budget = journal[:journal.index(b"\n")].decode().split(" ")
+    names = Names(system)
+    for words in (("assert",), ("spent", "spill")):
+        for lane, line, text in _last_records(journal):
+            word, *tokens = text.split(" ")
+            if word in words:
+                record = Record(word, tuple(map(int, tokens)), text)
+                who = names.object(record.numbers[0]) if record.numbers[0] else _owner(lane, int(kernel), system)
+                told = f"line {line} of the journal, `{text}`: {who} {RecordWords(names).stop(record)}"
+                return [told, _advice(int(budget), record)]
+    return []
+
+
+def _last_records(journal: bytes) -> list[tuple[int, int, str]]:
+    """The number of each lane that has records, with the line and the text of its last one."""
+    found, lane, before = [], -1, b"lane"
+    for line, text in enumerate(journal.split(b"\n")):
+        if text.startswith((b"lane ", b"end ")):
+            if lane >= 0 and not before.startswith(b"lane"):
+                found.append((lane, line, before.decode()))
+            lane += 1
+        before = text
+    return found
+
+
+def _owner(lane: int, kernel: int, system: System) -> str:
+    """Who works in a lane for no object: the kernel, or a source."""
+    source = lane - len(system.objects) if kernel == PORT else lane
+    return f"source {source}" if source > 0 else "kernel"
 
 
 def _context(story: Story, stop: int) -> list[str]:
@@ -48,11 +83,11 @@ def _context(story: Story, stop: int) -> list[str]:
     return []
 
 
-def _advice(run: Run, record: Record) -> str:
+def _advice(budget: int, record: Record) -> str:
     if record.word == "assert":
         return _ADVICE[record.numbers[1]]
     if record.word == "spent":
-        took = plural(run.journal.budget, "event")
+        took = plural(budget, "event")
         return f"it took {took} and has more: raise --budget, unless it always posts to itself and so never rests"
     return "no lane has room for more records: give the run fewer stimuli, or a lower --budget"
 

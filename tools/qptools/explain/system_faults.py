@@ -30,6 +30,8 @@ _KINDS = {
     "chart": "the name of a chart in quotes",
     "signal": "the name of a signal in quotes",
 }
+#: So many keys are told that their table doesn't have.
+_SHOWN = 3
 _LISTS = {"pool", "timer", "state", "row", "object"}
 #: The range of a number, by its table and key.
 _RANGES = {
@@ -141,8 +143,9 @@ def _missing(tree: dict[str, Any], place: Place) -> list[str]:
 def _unknown_key(tree: dict[str, Any], place: Place) -> list[str]:
     known = KEYS.get(place.inner, set())
     odd = [key for key in place.tables[-1][1] if key not in known]
-    told = [f"{listed(odd)} {'is no key' if len(odd) == 1 else 'are no keys'} of this table"]
-    for key in odd:
+    more = f" and {len(odd) - _SHOWN} more" if len(odd) > _SHOWN else ""
+    told = [f"{listed(odd[:_SHOWN])}{more} {'is no key' if len(odd) == 1 else 'are no keys'} of this table"]
+    for key in odd[:_SHOWN]:
         owners = sorted(kind for kind, keys in KEYS.items() if key in keys)
         if near := like(key, sorted(known)):
             told.append(f"did you mean `{near}`?")
@@ -153,7 +156,7 @@ def _unknown_key(tree: dict[str, Any], place: Place) -> list[str]:
             )
         else:
             told.append(f"a {place.inner} has the keys {', '.join(sorted(known))}" if known else "")
-    return [line for line in told if line]
+    return [line for line in dict.fromkeys(told) if line]
 
 
 def _out_of_range(tree: dict[str, Any], place: Place) -> list[str]:

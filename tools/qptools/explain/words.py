@@ -42,10 +42,8 @@ def explain_words(words: list[str]) -> str:
 
 
 def _value_fault(name: str, value: str, known: tuple[str, ...]) -> str:
-    if name == "--kernel" and value in ("qk", "port"):
-        return f"the kernel {value} can't be run yet; journals of it can be judged"
     if known and value not in known:
-        return f"{name} is {' or '.join(known)}, not {value!r}"
+        return f"{name} is {', '.join(known[:-1])} or {known[-1]}, not {value!r}"
     if not known and not (value.isascii() and value.isdigit() and value[0] != "0" and int(value) <= 1_000_000):
         return f"{name} is a number, 1 to 1000000, not {value!r}"
     return ""
