@@ -1,5 +1,7 @@
 -- From workers before their start to the lanes that their run leaves.
-use Rattle.std.proofs.Common.{◌≡◌, ℕ, ◌≤◌, Bool, true, false, List, [], ◌∷◌, map, refl, sym, ◌∙◌, ap, subst, Ok, Err}
+use Rattle.std.proofs.Common.{◌≡◌, ℕ, ◌≤◌, Bool, true, false, ◌&&◌, List, [], ◌∷◌, map, length, refl, sym, ◌∙◌, ap, subst, inl, inr, arith, Ok, Err}
+use Rattle.std.specs.Prelude.{◌⊎◌}
+use Rattle.std.proofs.lemmas.Bool.{or_parts}
 use Rattle.std.specs.List.{list_all, list_any, AllByRecursion}
 use Rattle.std.specs.declared.result.Result.{Result}
 use Rattle.std.specs.Result.{IfOk, OnOk}
@@ -12,6 +14,7 @@ use Rattle.qp_model.specs.WordLaw.{is_object}
 use Rattle.qp_stim.specs.Rules.{StimuliFit}
 use Rattle.qp_calls.specs.LaneView.{LaneView}
 use Rattle.qp_dispatch.specs.declared.objects.Turn.{Turn}
+use Rattle.qp_dispatch.specs.declared.objects.Turn.TheVariants as turn
 use Rattle.qp_kernel_end.specs.declared.rest.Rest.{Rest}
 use Rattle.qp_kernel_turns.specs.Knowing.{IsNamed}
 use Rattle.qp_kernel_turns.proofs.SoundObjects.{is-object, named}
@@ -19,13 +22,14 @@ use Rattle.qp_port_workers.specs.Turns.{AreReady}
 use Rattle.qp_port_phases.specs.declared.phases.Ended.{Ended}
 use Rattle.qp_port_phases.specs.declared.phases.Ended.TheVariants as ended
 use Rattle.qp_port_phases.specs.Lanes.{AreObjects, AreOneTable, SameEach}
-use Rattle.qp_port_phases.specs.Quiet.{HasEnded}
+use Rattle.qp_port_phases.specs.Quiet.{FirstFound, HasEnded}
+use Rattle.qp_port_phases.specs.Stopping.{AnyStopped, HasStopped}
 use Rattle.qp_port.specs.declared.job.Job.{Job}
 use Rattle.qp_port.specs.Ends.{HasRun}
 use Rattle.qp_port.specs.Jobs.{JobRests, JobStops, is_idle, is_left_in, is_short}
 use Rattle.qp_port.specs.Resting.{AreShown}
 use Rattle.qp_port.specs.Rows.{AreSameLanes, IsRow}
-use Rattle.qp_port.specs.Workers.{IsSameWorker, MayEnd, MayTurn}
+use Rattle.qp_port.specs.Workers.{IsSameWorker, MayBegin, MayEnd, MayTurn}
 use Rattle.qp_port.proofs.Beginning.{AreReadyAll}
 use Rattle.qp_port.proofs.Ending.{has-run}
 use Rattle.qp_port.proofs.Rows.{ends-stop, lanes-still, ready-all, ready-both, ready-map, ready-none, ready-same, row-still, turns-rest}
@@ -79,6 +83,41 @@ module _ (sys : System) (stimuli : List (List Stim)) (budget : ℕ) (sound : IsS
         has-run work view sys budget sound stimuli done rests ys row (stops ends long)
         (λ is. (rests-all (ready (quiet is).0) (quiet is).1, subst (λ os. HasEnded view (λ w. is_left_in (work w)) os ys) are (idle (quiet is).0))) shown
 
+-- Why something is left to be done.
+
+halted-one : (sys : System) (budget : ℕ) (t : Turn) (x : Job) (v : LaneView) → is_idle t ≡ false → is_short t ≡ false → MayTurn sys budget t x v ⊎ MayBegin sys budget t x v → HasStopped v
+halted-one sys budget turn.Idle x v none long h = absurd (cc)
+halted-one sys budget turn.Stopped x v none long (inl h) = h.stands.1
+halted-one sys budget turn.Stopped x v none long (inr h) = let wrong : turn.Stopped ≡ turn.Idle = h.idle in absurd (cc)
+halted-one sys budget turn.Memory x v none long h = absurd (cc)
+
+module _ {T : Type 0} (s : T → System) (b : T → ℕ) (t : T → Turn) (work : T → Job) (view : T → LaneView) where
+  any-halted : (ws : List T) → list_all (λ w. is_idle (t w)) ws ≡ false → list_any (λ w. is_short (t w)) ws ≡ false
+      → AreReady (λ w. MayTurn (s w) (b w) (t w) (work w) (view w) ⊎ MayBegin (s w) (b w) (t w) (work w) (view w)) ws → AnyStopped (map view ws)
+  any-halted [] none long h = absurd (cc)
+  any-halted (w ∷ ws) none long h =
+      let parts = or_parts (is_short (t w)) (list_any (λ u. is_short (t u)) ws) long in
+      by (is_idle (t w)) refl none (λ later. any-halted ws later parts.1 h.1) (λ here. halted-one (s w) (b w) (t w) (work w) (view w) here parts.0 h.0)
+    where
+      by : (i : Bool) → is_idle (t w) ≡ i → (i && list_all (λ u. is_idle (t u)) ws) ≡ false → (list_all (λ u. is_idle (t u)) ws ≡ false → AnyStopped (map view ws)) → (is_idle (t w) ≡ false → HasStopped (view w)) → AnyStopped (map view (w ∷ ws))
+      by true e none more here = inr (more none)
+      by false e none more here = inl (here e)
+
+  first-halted : (memory : Bool) (xs ys : List T) → FirstFound view memory xs ys → AnyStopped (map view ys)
+  first-halted memory (x ∷ xs) (y ∷ ys) h = let long = ap length h.answered in inl (inr (omega (arith, long)))
+  first-halted memory [] ys h = absurd h
+  first-halted memory (x ∷ xs) [] h = absurd h
+
+  pub cause : (xs ys : List T) (how : Ended) → (how ≡ ended.Stopped → (list_all (λ w. is_idle (t w)) ys ≡ false) ⊎ FirstFound view false xs ys)
+      → AreReady (λ w. MayTurn (s w) (b w) (t w) (work w) (view w) ⊎ MayBegin (s w) (b w) (t w) (work w) (view w)) ys → list_any (λ w. is_short (t w)) ys ≡ false
+      → (how ≡ ended.Stopped) ⊎ (list_all (λ w. is_idle (t w)) ys ≡ false) → AnyStopped (map view ys)
+  cause xs ys how stopped each long (inr none) = any-halted ys none long each
+  cause xs ys how stopped each long (inl is) = by (stopped is)
+    where
+      by : (list_all (λ w. is_idle (t w)) ys ≡ false) ⊎ FirstFound view false xs ys → AnyStopped (map view ys)
+      by (inl none) = any-halted ys none long each
+      by (inr found) = first-halted false xs ys found
+
 -- The same of a run that answers what it left.
 
 map-both : {T L : Type 0} (lane : T → L) (see : L → LaneView) (ws : List T) → map see (map lane ws) ≡ map (λ w. see (lane w)) ws
@@ -104,3 +143,12 @@ module _ (sys : System) (stimuli : List (List Stim)) (budget : ℕ) (sound : IsS
   run-left (Ok run) of rests_in done_in h how objects are ends ready idle shown long quiet =
       subst (HasRun sys stimuli budget (done_in run) (rests_in run)) (sym (ap (map see) h ∙ map-both lane see ys))
       (ran sys stimuli budget sound fit few s b t work (λ w. see (lane w)) xs all ys same how (done_in run) (rests_in run) objects are ends ready idle shown long quiet)
+
+  pub cause-left : {R E : Type 0} (result : Result R E) (of : R → List L) (done_in : R → Bool) → IfOk result (λ run. of run ≡ map lane ys) → (how : Ended)
+      → (how ≡ ended.Stopped → (list_all (λ w. is_idle (t w)) ys ≡ false) ⊎ FirstFound (λ w. see (lane w)) false xs ys)
+      → AreReady (λ w. MayTurn (s w) (b w) (t w) (work w) (see (lane w)) ⊎ MayBegin (s w) (b w) (t w) (work w) (see (lane w))) ys → OnOk result (list_any (λ w. is_short (t w)) ys ≡ false)
+      → IfOk result (λ run. done_in run ≡ false → (how ≡ ended.Stopped) ⊎ (list_all (λ w. is_idle (t w)) ys ≡ false)) → IfOk result (λ run. done_in run ≡ false → AnyStopped (map see (of run)))
+  cause-left (Err e) of done_in h how stopped each long left = tt
+  cause-left (Ok run) of done_in h how stopped each long left = λ not_done.
+      subst AnyStopped (sym (ap (map see) h ∙ map-both lane see ys))
+      (cause s b t work (λ w. see (lane w)) xs ys how stopped each long (left not_done))

@@ -1,26 +1,21 @@
 -- A run that was sealed left a lawful journal.
-use Rattle.std.proofs.Common.{◌≡◌, ℕ, ◌+◌, ◌==◌, Bool, true, false, ◌||◌, cond, List, [], ◌∷◌, ◌++◌, refl, sym, ◌∙◌, ap, subst, inl, inr, arith}
+use Rattle.std.proofs.Common.{◌≡◌, ◌+◌, ◌==◌, Bool, true, false, cond, List, ◌∷◌, ◌++◌, refl, sym, ◌∙◌, ap, subst, inl, inr, arith}
 use Rattle.std.specs.Prelude.{◌⊎◌}
 use Rattle.std.specs.List.{list_any}
 use Rattle.std.proofs.lemmas.Bool.Decides.{nat_tests}
-use Rattle.qp_model.specs.declared.stimulus.Stim.{Stim}
-use Rattle.qp_model.specs.declared.systems.System.{System}
 use Rattle.qp_model.specs.declared.journals.Journal.{Journal}
 use Rattle.qp_model.specs.Record.{Item}
 use Rattle.qp_model.specs.Ends.{is_assert, is_end, may_cut, quiet}
 use Rattle.qp_model.specs.End.{end_of}
 use Rattle.qp_model.specs.History.{all_items}
 use Rattle.qp_model.specs.Kernels.{port}
-use Rattle.qp_model.specs.Sound.{IsSound}
-use Rattle.qp_calls.specs.LaneView.{LaneView}
-use Rattle.qp_kernel_end.specs.declared.rest.Rest.{Rest}
 use Rattle.qp_kernel_end.specs.Rests.{AreRestsIn}
 use Rattle.qp_port_quiet.specs.Sealed.{SealsLanes}
 use Rattle.qp_port_sealed.specs.Lanes.{HomesAre, SourcesAre}
 use Rattle.qp_port_sealed.specs.PortLanes.{ArePortLanes}
 use Rattle.qp_port_sealed.proofs.PortLemmas.{sealed-port}
 use Rattle.qp_port_sealed.proofs.RestLemmas.{port-rests}
-use Rattle.qp_port.specs.Ends.{HasRun, IsThreadRun}
+use Rattle.qp_port_sealed.specs.ThreadRun.{IsThreadRun}
 use Rattle.qp_port.specs.Laws.{SealedRunsAreLawful}
 
 -- a run ended quietly, or stopped early

@@ -25,15 +25,18 @@ use Rattle.qp_port_home.specs.declared.home.Home.{Home}
 use Rattle.qp_port_home.specs.Turning.{HomeStarts, HomeStops, HomeTurns}
 use Rattle.qp_port_home.proofs.Resting.{home-of, stops-found}
 use Rattle.qp_port_cursor.specs.declared.cursor.Cursor.{Cursor}
-use Rattle.qp_port_cursor.specs.declared.passing.Passed.{Passed}
-use Rattle.qp_port_cursor.specs.declared.passing.Passed.TheVariants as passed
-use Rattle.qp_port_cursor.specs.At.{mine}
+use Rattle.qp_port_phases.specs.declared.lanes.Passed.{Passed}
+use Rattle.qp_port_phases.specs.declared.lanes.Passed.TheVariants as passed
+use Rattle.qp_port_phases.specs.Passing.{PassesTo}
+use Rattle.qp_port_phases.specs.Stopping.{HasStarved, HasStopped, Hears}
+use Rattle.qp_port_cursor.proofs.Hearing.{hears-itself, lane-hears, passes-hands, passes-hear, passes-to, starts-hear, turns-hear, why-starved, why-stopped}
+use Rattle.qp_port_cursor.specs.At.{IsCursorAt, mine}
 use Rattle.qp_port_cursor.specs.Turning.{IsSameSource, SourceTurns}
 use Rattle.qp_port_cursor.specs.Passing.{Passes}
 use Rattle.qp_port_cursor.proofs.Standing.{may-stop}
 use Rattle.qp_port.specs.declared.job.Job.{Job}
 use Rattle.qp_port.specs.declared.job.Job.TheVariants as job
-use Rattle.qp_port.specs.Jobs.{JobBegins, JobEnds, JobPasses, JobRests, JobStands, JobStops, is_idle}
+use Rattle.qp_port.specs.Jobs.{JobBegins, JobEnds, JobPasses, JobRests, JobStands, JobStops, JobTurns, TurnsFrom, is_idle, is_short}
 use Rattle.qp_port.specs.Workers.{MayBegin, MayEnd, MayTurn}
 
 found-priority : (o : ℕ) (ds : List ObjectDef) (d : ObjectDef) → find (λ x. x.priority == o) ds ≡ Some d → d.priority ≡ o
@@ -69,13 +72,24 @@ starts-same v w step.Memory h = keeps-same v w h.keeps
 
 -- Objects.
 
-pub home-turned : (sys : System) (budget me : ℕ) (y : Home) (w : LaneView) (t : Turn) → HomeTurns sys budget me y w t → y.me ≡ me → JobStands sys budget t (job.Home y) w
-home-turned sys budget me y w turn.Idle h same = h.home
-home-turned sys budget me y w turn.Stopped h same = subst (λ o. HomeStops sys budget o y w) (sym same) h
-home-turned sys budget me y w turn.Memory h same = tt
+pub home-turned : (sys : System) (budget me : ℕ) (y : Home) (v w : LaneView) (t : Turn) → HomeTurns sys budget me y w t → LaneTurns false v w t → y.me ≡ me → JobStands sys budget t (job.Home y) w
+home-turned sys budget me y v w turn.Idle h lane same = h.home
+home-turned sys budget me y v w turn.Stopped h lane same = (subst (λ o. HomeStops sys budget o y w) (sym same) h, why-stopped v w lane.handed)
+home-turned sys budget me y v w turn.Memory h lane same = why-starved v w lane.handed
 
 pub home-stopped : (sys : System) (budget me : ℕ) (y : Home) (w : LaneView) → ((n : ℕ) → HomeStops sys n me y w) → y.me ≡ me → HomeStops sys budget y.me y w
 home-stopped sys budget me y w h same = subst (λ o. HomeStops sys budget o y w) (sym same) (h budget)
+
+-- Why a start stopped.
+
+pub started-hears : (v w : LaneView) (s : Step) → LaneStarts v w s → Hears v w
+started-hears v w s h = starts-hear v w s h
+
+pub started-stopped : (v w : LaneView) → LaneStarts v w step.Stopped → HasStopped w
+started-stopped v w h = why-stopped v w h.handed
+
+pub started-starved : (v w : LaneView) → LaneStarts v w step.Memory → HasStarved w
+started-starved v w h = why-starved v w h.handed
 
 -- Sources.
 
@@ -87,8 +101,11 @@ source-same x y same = mine-same x y same
 
 pub source-turned : (sys : System) (budget : ℕ) (x y : Cursor) (v w : LaneView) (t : Turn) → SourceTurns sys x y v w t → IsSameSource x y → JobStands sys budget t (job.Source y) w
 source-turned sys budget x y v w turn.Idle h same = h.goes.at
-source-turned sys budget x y v w turn.Stopped h same = λ kernel end may early. subst (λ ss. SourceLeaves sys kernel end ss w.told) (sym (mine-same x y same)) (h.leaves kernel end may early)
-source-turned sys budget x y v w turn.Memory h same = tt
+source-turned sys budget x y v w turn.Stopped h same = (
+  (λ kernel end may early. subst (λ ss. SourceLeaves sys kernel end ss w.told) (sym (mine-same x y same)) (h.leaves kernel end may early)),
+  why-stopped v w h.why,
+)
+source-turned sys budget x y v w turn.Memory h same = why-starved v w h.stops
 
 pub source-lane : (sys : System) (x y : Cursor) (v w : LaneView) (t : Turn) → SourceTurns sys x y v w t → SameLane v w
 source-lane sys x y v w turn.Idle h = h.goes.keeps
@@ -98,14 +115,62 @@ source-lane sys x y v w turn.Memory h = h.keeps
 pub source-passed : (sys : System) (budget : ℕ) (x y : Cursor) (v w : LaneView) (p : Passed) → Passes sys x y v w p → IsSameSource x y → JobPasses sys budget p (job.Source y) w
 source-passed sys budget x y v w passed.Yes h same = h.stays.at
 source-passed sys budget x y v w (passed.Found p now) h same = h.stays.at
-source-passed sys budget x y v w passed.Stopped h same = λ kernel end may early. subst (λ ss. SourceLeaves sys kernel end ss w.told) (sym (mine-same x y same)) (h.leaves kernel end may early)
-source-passed sys budget x y v w passed.Memory h same = tt
+source-passed sys budget x y v w passed.Stopped h same = (
+  (λ kernel end may early. subst (λ ss. SourceLeaves sys kernel end ss w.told) (sym (mine-same x y same)) (h.stops.leaves kernel end may early)),
+  why-stopped v w h.stops.why,
+)
+source-passed sys budget x y v w passed.Memory h same = why-starved v w h.starves.stops
 
 pub passed-lane : (sys : System) (x y : Cursor) (v w : LaneView) (p : Passed) → Passes sys x y v w p → SameLane v w
 passed-lane sys x y v w passed.Yes h = h.stays.along.keeps
 passed-lane sys x y v w (passed.Found p now) h = h.stays.along.keeps
-passed-lane sys x y v w passed.Stopped h = h.keeps
-passed-lane sys x y v w passed.Memory h = h.keeps
+passed-lane sys x y v w passed.Stopped h = h.stops.keeps
+passed-lane sys x y v w passed.Memory h = h.starves.keeps
+
+-- What a turn leaves, whatever runs in the lane.
+
+pub job-hears : (sys : System) (budget : ℕ) (x y : Job) (v w : LaneView) (t : Turn) → JobTurns sys budget x y v w t → Hears v w
+job-hears sys budget job.Nothing job.Nothing v w t h = subst (Hears v) (sym h.1) (hears-itself v)
+job-hears sys budget (job.Home x) (job.Home y) v w t h = lane-hears false v w t h.1
+job-hears sys budget (job.Source x) (job.Source y) v w t h = turns-hear sys x y v w t h
+job-hears sys budget job.Nothing (job.Home y) v w t h = absurd h
+job-hears sys budget job.Nothing (job.Source y) v w t h = absurd h
+job-hears sys budget (job.Home x) job.Nothing v w t h = absurd h
+job-hears sys budget (job.Home x) (job.Source y) v w t h = absurd h
+job-hears sys budget (job.Source x) job.Nothing v w t h = absurd h
+job-hears sys budget (job.Source x) (job.Home y) v w t h = absurd h
+
+pub turns-from : (sys : System) (budget : ℕ) (s : Turn) (x : Job) (v : LaneView) (t : Turn) (y : Job) (w : LaneView) → is_idle s ≡ true → JobTurns sys budget x y v w t → TurnsFrom sys budget s x v t y w
+turns-from sys budget turn.Idle x v t y w idle h = h
+turns-from sys budget turn.Stopped x v t y w idle h = absurd (cc)
+turns-from sys budget turn.Memory x v t y w idle h = absurd (cc)
+
+pub turns-none : (sys : System) (budget : ℕ) (t : Turn) (x : Job) (v : LaneView) → is_idle t ≡ false → TurnsFrom sys budget t x v t x v
+turns-none sys budget turn.Idle x v idle = absurd (cc)
+turns-none sys budget turn.Stopped x v idle = (refl, refl, refl)
+turns-none sys budget turn.Memory x v idle = (refl, refl, refl)
+
+-- What passing a `settle`, or a try, leaves.
+
+pub source-passed_hears : (sys : System) (x y : Cursor) (v w : LaneView) (p : Passed) → Passes sys x y v w p → Hears v w
+source-passed_hears sys x y v w p h = passes-hear sys x y v w p h
+
+pub source-passed_to : (sys : System) (x y : Cursor) (v w : LaneView) (p : Passed) → IsCursorAt sys x v → Passes sys x y v w p → PassesTo v w p
+source-passed_to sys x y v w p at h = passes-to sys x y v w p at.at.of h
+
+pub source-passed_hands : (sys : System) (x y : Cursor) (v w : LaneView) (p : Passed) → Passes sys x y v w p → w.hands ≡ v.hands
+source-passed_hands sys x y v w p h = passes-hands sys x y v w p h
+
+-- one that has stopped before does nothing
+pub stopped-passes : (sys : System) (budget : ℕ) (t : Turn) (x : Job) (v : LaneView) → is_idle t ≡ false → is_short t ≡ false → MayTurn sys budget t x v → PassesTo v v passed.Stopped
+stopped-passes sys budget turn.Idle x v none long h = absurd (cc)
+stopped-passes sys budget turn.Stopped x v none long h = inr (refl, h.stands.1)
+stopped-passes sys budget turn.Memory x v none long h = absurd (cc)
+
+pub starved-passes : (sys : System) (budget : ℕ) (t : Turn) (x : Job) (v : LaneView) → is_short t ≡ true → MayTurn sys budget t x v → PassesTo v v passed.Memory
+starved-passes sys budget turn.Idle x v short h = absurd (cc)
+starved-passes sys budget turn.Stopped x v short h = absurd (cc)
+starved-passes sys budget turn.Memory x v short h = inr (refl, h.stands)
 
 -- The lane may end where its job rests, and where it hasn't begun.
 
@@ -128,7 +193,7 @@ module _ (sys : System) (sound : IsSound sys) (budget : ℕ) (v : LaneView) wher
 
   stands-end : (t : Turn) (x : Job) → JobStands sys budget t x v → JobEnds sys budget t x v
   stands-end turn.Idle x h = rests-stop x h
-  stands-end turn.Stopped x h = h
+  stands-end turn.Stopped x h = h.0
   stands-end turn.Memory x h = tt
 
 pub turn-end : (sys : System) (budget : ℕ) (t : Turn) (x : Job) (v : LaneView) → MayTurn sys budget t x v → MayEnd sys budget t x v

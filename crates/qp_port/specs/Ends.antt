@@ -2,10 +2,8 @@
 use Rattle.std.specs.Prelude.{◌≡◌, ℕ, Bool, true, List, [], ◌∷◌, ◌++◌}
 use Rattle.qp_model.specs.declared.stimulus.Stim.{Stim}
 use Rattle.qp_model.specs.declared.systems.System.{System}
-use Rattle.qp_model.specs.declared.journals.Journal.{Journal}
 use Rattle.qp_model.specs.Ends.{may_cut, quiet}
 use Rattle.qp_model.specs.Kernels.{port}
-use Rattle.qp_model.specs.Lawful.{Lawful}
 use Rattle.qp_calls.specs.LaneView.{LaneView}
 use Rattle.qp_kernel_end.specs.declared.rest.Rest.{Rest}
 use Rattle.qp_port_sealed.specs.Lanes.{HomesAre, SourcesAre}
@@ -33,9 +31,3 @@ pub record HasRun (sys : System) (stimuli : List (List Stim)) (budget : ℕ) (do
   pub early : MayEndEarly sys stimuli budget homes sources
   pub quietly : done ≡ true → MayEndQuietly sys stimuli budget first homes sources
   pub told : AreTold sys rests sys.objects homes
-
--- a lawful journal of the system and the stimuli, with this kernel and this budget, of a run with threads
-pub record IsThreadRun (kernel : ℕ) (sys : System) (stimuli : List (List Stim)) (budget : ℕ) (j : Journal) : Type 0 where
-  pub kernel_is : j.kernel ≡ kernel
-  pub budget_is : j.budget ≡ budget
-  pub lawful : Lawful sys stimuli j

@@ -1,18 +1,20 @@
 -- What runs in a lane, and where it stands there.
-use Rattle.std.specs.Prelude.{◌≡◌, ℕ, Bool, true, false, not, ◌||◌, [], ⊤}
+use Rattle.std.specs.Prelude.{◌≡◌, ℕ, Bool, true, false, [], ⊤}
 use Rattle.qp_model.specs.declared.systems.System.{System}
 use Rattle.qp_model.specs.Kernels.{may_try}
 use Rattle.qp_model.specs.Ends.{may_cut}
 use Rattle.qp_calls.specs.LaneView.{LaneView}
 use Rattle.qp_dispatch.specs.declared.objects.Turn.{Turn}
 use Rattle.qp_dispatch.specs.declared.objects.Turn.TheVariants as turn
-use Rattle.qp_kernel_turns.specs.Ordering.{IsSeenEmpty}
+use Rattle.qp_kernel_turns.specs.Lanes.{LaneTurns}
 use Rattle.qp_port_law.specs.SourcesLeft.{SourceLeaves}
 use Rattle.qp_port_home.specs.At.{HasEmptyLane, IsHome, IsMade}
-use Rattle.qp_port_home.specs.Turning.{HomeStops}
+use Rattle.qp_port_phases.specs.declared.lanes.Passed.{Passed}
+use Rattle.qp_port_phases.specs.declared.lanes.Passed.TheVariants as passed
+use Rattle.qp_port_phases.specs.Stopping.{HasStarved, HasStopped}
+use Rattle.qp_port_home.specs.Turning.{HomeStops, HomeTurns}
 use Rattle.qp_port_cursor.specs.At.{IsCursorAt, at_settle_in, left_in, mine}
-use Rattle.qp_port_cursor.specs.declared.passing.Passed.{Passed}
-use Rattle.qp_port_cursor.specs.declared.passing.Passed.TheVariants as passed
+use Rattle.qp_port_cursor.specs.Turning.{SourceTurns}
 use Rattle.qp_port.specs.declared.job.Job.{Job}
 use Rattle.qp_port.specs.declared.job.Job.TheVariants as job
 
@@ -62,23 +64,30 @@ JobRests sys budget job.Nothing v = IsEmptyLane v
 JobRests sys budget (job.Home x) v = IsHome sys budget x v
 JobRests sys budget (job.Source x) v = IsCursorAt sys x v
 
--- where a turn came to its end: the queue of the object was found empty, and the next stimulus of a source is a `settle`, or none is left
-abbrev pub JobIdles : Job → LaneView → Type 0
-JobIdles job.Nothing v = ⊤
-JobIdles (job.Home x) v = IsSeenEmpty x.me v
-JobIdles (job.Source x) v = (at_settle_in x || not (left_in x)) ≡ true
-
 -- where the run stops early, the lane may end so
 abbrev pub JobStops : System → ℕ → Job → LaneView → Type 0
 JobStops sys budget job.Nothing v = IsEmptyLane v
 JobStops sys budget (job.Home x) v = HomeStops sys budget x.me x v
 JobStops sys budget (job.Source x) v = (kernel end : ℕ) → may_try kernel ≡ true → may_cut end ≡ true → SourceLeaves sys kernel end (mine x) v.told
 
--- behind a turn with this answer
+-- behind a turn with this answer; where it isn't the end of the turn, the lane tells why
 abbrev pub JobStands : System → ℕ → Turn → Job → LaneView → Type 0
 JobStands sys budget turn.Idle x v = JobRests sys budget x v
-JobStands sys budget turn.Stopped x v = JobStops sys budget x v
-JobStands sys budget turn.Memory x v = Unit {0}
+JobStands sys budget turn.Stopped x v = JobStops sys budget x v × HasStopped v
+JobStands sys budget turn.Memory x v = HasStarved v
+
+-- what a turn of it with this answer leaves of it and of its lane: that of an object, or of a source
+abbrev pub JobTurns : System → ℕ → Job → Job → LaneView → LaneView → Turn → Type 0
+JobTurns sys budget job.Nothing job.Nothing v w t = (t ≡ turn.Idle) × (w ≡ v)
+JobTurns sys budget (job.Home x) (job.Home y) v w t = HomeTurns sys budget x.me y w t × LaneTurns false v w t
+JobTurns sys budget (job.Source x) (job.Source y) v w t = SourceTurns sys x y v w t
+JobTurns sys budget _ _ v w t = ⊥
+
+-- A worker's turn: that of what runs in its lane. Where an earlier one has stopped, it does nothing, and leaves that answer.
+abbrev pub TurnsFrom : System → ℕ → Turn → Job → LaneView → Turn → Job → LaneView → Type 0
+TurnsFrom sys budget turn.Idle x v t y w = JobTurns sys budget x y v w t
+TurnsFrom sys budget turn.Stopped x v t y w = (t ≡ turn.Stopped) × (y ≡ x) × (w ≡ v)
+TurnsFrom sys budget turn.Memory x v t y w = (t ≡ turn.Memory) × (y ≡ x) × (w ≡ v)
 
 -- the answer of a turn that ended so
 abbrev pub turn_by : Passed → Turn

@@ -1,10 +1,12 @@
 //! What runs in a lane: its start, its turn, and how it passes a `settle`.
 
 ghost use Rattle.std.specs.Prelude.{◌≡◌, ◌≤◌, true};
+ghost use Rattle.qp_port_phases.specs.Passing.{PassesTo};
+ghost use Rattle.qp_port_phases.specs.Stopping.{Hears};
 ghost use Rattle.qp_model.specs.Sound.{IsSound};
 ghost use Rattle.qp_kernel_turns.specs.Lanes.{SameLane};
 ghost use Rattle.qp_port.specs.declared.job.Job.TheVariants as job;
-ghost use Rattle.qp_port.specs.Jobs.{IsSameJob, JobBegins, JobIdles, JobPasses, JobRests, JobStands, is_idle, is_left_in, is_short, stands_at_settle};
+ghost use Rattle.qp_port.specs.Jobs.{IsSameJob, JobBegins, JobPasses, JobRests, JobStands, JobTurns, is_idle, is_left_in, is_short, stands_at_settle};
 
 use qp_calls::Ops;
 use qp_dispatch::{Step, Turn};
@@ -46,12 +48,14 @@ fn start_home<O: Ops>(ops: &mut O, sys: &System, home: &mut Home, budget: u32) -
     ensures stands { JobStands sys.now budget result (job.Home home.new) (O.lane ops.new) }
     ensures same { home.new.me ≡ home.old.me }
     ensures lane { SameLane (O.lane ops.old) (O.lane ops.new) }
+    ensures hears { Hears (O.lane ops.old) (O.lane ops.new) }
 {
     let _ = budget;
     match home.start(ops, sys) {
         Step::Done => Turn::Idle,
         Step::Stopped => Turn::Stopped,
-        Step::Point | Step::Memory => Turn::Memory,
+        Step::Memory => Turn::Memory,
+        Step::Point => unreachable!(),
     }
 }
 
@@ -62,6 +66,7 @@ pub(crate) fn start_job<O: Ops>(ops: &mut O, sys: &System, job: &mut Job<'_>, bu
     ensures stands { JobStands sys.now budget result job.new (O.lane ops.new) }
     ensures same { IsSameJob job.old job.new }
     ensures lane { SameLane (O.lane ops.old) (O.lane ops.new) }
+    ensures hears { Hears (O.lane ops.old) (O.lane ops.new) }
 {
     match job {
         Job::Home(home) => start_home(ops, sys, home, budget),
@@ -85,7 +90,8 @@ pub(crate) fn run_job<R: Wait, O: Ops, G: Tells>(
     ensures stands { JobStands sys.now budget result job.new (O.lane ops.new) }
     ensures same { IsSameJob job.old job.new }
     ensures lane { SameLane (O.lane ops.old) (O.lane ops.new) }
-    ensures idles { is_idle result ≡ true → JobIdles job.new (O.lane ops.new) }
+    ensures hears { Hears (O.lane ops.old) (O.lane ops.new) }
+    ensures turns { JobTurns sys.now budget job.old job.new (O.lane ops.old) (O.lane ops.new) result }
 {
     match job {
         Job::Nothing => Turn::Idle,
@@ -100,8 +106,11 @@ pub(crate) fn pass_job<O: Ops>(ops: &mut O, sys: &System, job: &mut Job<'_>, bud
     requires rests { JobRests sys.now budget job.old (O.lane ops.old) }
     requires stands { stands_at_settle job.old ≡ true }
     ensures passes { JobPasses sys.now budget result job.new (O.lane ops.new) }
+    ensures tries { PassesTo (O.lane ops.old) (O.lane ops.new) result }
+    ensures hands { (O.lane ops.new).hands ≡ (O.lane ops.old).hands }
     ensures same { IsSameJob job.old job.new }
     ensures lane { SameLane (O.lane ops.old) (O.lane ops.new) }
+    ensures hears { Hears (O.lane ops.old) (O.lane ops.new) }
 {
     let _ = budget;
     match job {

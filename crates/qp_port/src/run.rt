@@ -1,11 +1,12 @@
 //! The run over given lanes: starts, phases, and what is left.
 
-ghost use Rattle.std.specs.Prelude.{◌≡◌, ◌≤◌, IfOk, OnOk, map, true, false};
+ghost use Rattle.std.specs.Prelude.{◌≡◌, ◌≤◌, ◌⊎◌, IfOk, OnOk, map, true, false};
 ghost use Rattle.std.specs.List.{list_all, list_any};
 ghost use Rattle.qp_model.specs.Sound.{IsSound};
 ghost use Rattle.qp_model.specs.Sources.{priorities};
 ghost use Rattle.qp_stim.specs.Rules.{StimuliFit};
 ghost use Rattle.qp_port_phases.specs.declared.phases.Ended.TheVariants as ended;
+ghost use Rattle.qp_port_phases.specs.Stopping.{AnyStopped};
 ghost use Rattle.qp_port.specs.Ends.{HasRun};
 ghost use Rattle.qp_port.specs.Jobs.{is_idle, is_short};
 ghost use Rattle.qp_port.specs.Resting.{AreShown};
@@ -88,6 +89,7 @@ fn left_of<O: Meets + Drop, G: Gate>(
     ensures rests { IfOk result (λ run. AreShown (λ w. w.job) over.entry.workers.items run.rests.items) }
     ensures short { OnOk result (list_any (λ w. is_short w.turn) over.entry.workers.items ≡ false) }
     ensures idle { IfOk result (λ run. run.done ≡ true → (over.entry.how ≡ ended.Idle) × (list_all (λ w. is_idle w.turn) over.entry.workers.items ≡ true)) }
+    ensures cause { IfOk result (λ run. run.done ≡ false → (over.entry.how ≡ ended.Stopped) ⊎ (list_all (λ w. is_idle w.turn) over.entry.workers.items ≡ false)) }
 {
     let Over { workers, how } = over;
     let is_over = match how {
@@ -107,7 +109,8 @@ fn left_of<O: Meets + Drop, G: Gate>(
 }
 
 /// Runs the system on its stimuli over these lanes, which are new: the first stays empty, each object has one, by ascending priority,
-/// and so has each source. No object takes more events than the budget. Want of memory alone leaves nothing.
+/// and so has each source. No object takes more events than the budget. Want of memory alone leaves nothing. Something is left to be done
+/// only where a lane has stopped.
 pub fn run_lanes_of_port<R: Threads + Wait + Sync, O: Meets + Send + Drop, G: Gate>(
     rt: &R,
     alloc: Global,
@@ -123,6 +126,7 @@ pub fn run_lanes_of_port<R: Threads + Wait + Sync, O: Meets + Send + Drop, G: Ga
     requires lanes { AreNewLanes sys.now stim.now (map O.lane lanes.items) }
     ensures lanes { IfOk result (λ run. AreSameLanes (map O.lane lanes.items) (map O.lane run.lanes.items)) }
     ensures run { IfOk result (λ run. HasRun sys.now stim.now budget run.done run.rests.items (map O.lane run.lanes.items)) }
+    ensures cause { IfOk result (λ run. run.done ≡ false → AnyStopped (map O.lane run.lanes.items)) }
 {
     let Ok(objects) = objects_of(alloc, sys) else {
         return Err(Memory);

@@ -1,9 +1,10 @@
 //! Starts, one after another, and then the phases.
 
-ghost use Rattle.std.specs.Prelude.{◌≡◌, ◌⊎◌, ℕ, true};
+ghost use Rattle.std.specs.Prelude.{◌≡◌, ◌⊎◌, ℕ, Bool, true, false};
+ghost use Rattle.std.specs.List.{list_all};
 ghost use Rattle.qp_port_phases.specs.declared.phases.Ended.TheVariants as ended;
 ghost use Rattle.qp_port_phases.specs.Lanes.{AreOneTable, SameEach};
-ghost use Rattle.qp_port_phases.specs.Quiet.{HasEnded};
+ghost use Rattle.qp_port_phases.specs.Quiet.{FirstFound, HasEnded};
 ghost use Rattle.qp_port_workers.specs.Turns.{AreReady};
 
 use qp_port_phases::{Ended, Lane, run_phases};
@@ -15,11 +16,15 @@ pub trait Starts: Lane {
     /// It hasn't started.
     ghost fresh: { Self → Type 0 };
 
+    /// Whether its last turn, or its start, came to its end.
+    ghost rests: { Self → Bool };
+
     /// Starts. Whether the start came to its end; if it didn't, the worker has ended.
     fn start(&mut self) -> bool
         requires { fresh self.old }
         ensures ready { Self.Worker.ready self.new }
-        ensures same { Self.Lane.same self.old self.new };
+        ensures same { Self.Lane.same self.old self.new }
+        ensures rests { rests self.new ≡ result };
 
     /// It looks at no queue twice without a step.
     ghost rows_none: { (a : Self) → (Self.Lane.numbers a).rows ≡ 0 };
@@ -37,6 +42,7 @@ fn start_all<T: Starts>(workers: &mut [T]) -> bool
     ensures each { AreReady (λ w. T.ready w ⊎ T.fresh w) workers.new }
     ensures same { SameEach T.same workers.old workers.new }
     ensures all { result ≡ true → AreReady T.ready workers.new }
+    ensures some { result ≡ false → list_all T.rests workers.new ≡ false }
 {
     let Some((one, rest)) = workers.split_first_mut() else {
         return true;
@@ -55,6 +61,8 @@ fn run_all<R: Threads + Wait + Sync, T: Starts>(rt: &R, objects: &[u8], workers:
     ensures same { SameEach T.same workers.old workers.new }
     ensures ready { result ≡ ended.Idle → AreReady T.ready workers.new }
     ensures idle { result ≡ ended.Idle → HasEnded T.view T.remains objects.now workers.new }
+    ensures stopped { result ≡ ended.Stopped → (list_all T.rests workers.new ≡ false) ⊎ FirstFound T.view false workers.old workers.new }
+    ensures memory { result ≡ ended.Memory → FirstFound T.view true workers.old workers.new }
 {
     if !start_all(workers) {
         return Ended::Stopped;
@@ -74,6 +82,8 @@ pub(crate) fn run_workers<R: Threads + Wait + Sync, T: Starts>(
     ensures same { SameEach T.same workers.items result.workers.items }
     ensures ready { result.how ≡ ended.Idle → AreReady T.ready result.workers.items }
     ensures idle { result.how ≡ ended.Idle → HasEnded T.view T.remains objects.now result.workers.items }
+    ensures stopped { result.how ≡ ended.Stopped → (list_all T.rests result.workers.items ≡ false) ⊎ FirstFound T.view false workers.items result.workers.items }
+    ensures memory { result.how ≡ ended.Memory → FirstFound T.view true workers.items result.workers.items }
 {
     let how = run_all(rt, objects, workers.as_mut_slice());
     Over { workers, how }

@@ -1,7 +1,7 @@
 //! A lane with what runs in it.
 
 ghost use Rattle.std.specs.Prelude.{◌≡◌, refl, true};
-ghost use Rattle.qp_port.specs.Jobs.{JobIdles, is_idle, is_left_in, is_short, stands_at_settle, turn_by};
+ghost use Rattle.qp_port.specs.Jobs.{JobTurns, TurnsFrom, is_idle, is_left_in, is_short, stands_at_settle, turn_by};
 ghost use Rattle.qp_port.specs.Numbers.{counts-none, uncounted};
 ghost use Rattle.qp_port.specs.Workers.{IsSameWorker, MayBegin, MayTurn, same-itself, same-still, same-table};
 
@@ -11,7 +11,6 @@ use qp_calls::Counts;
 use qp_calls_meet::Meets;
 use qp_dispatch::Turn;
 use qp_model::System;
-use qp_port_cursor as cursor;
 use qp_port_phases::{Lane, Passed};
 use qp_port_workers::Worker;
 use qp_tells::Tells;
@@ -51,7 +50,7 @@ impl<O: Meets, G: Tells> PortWorker<'_, O, G> {
         requires idle { is_idle self.old.turn ≡ true }
         ensures ready { MayTurn self.new.sys.now self.new.budget self.new.turn self.new.job (O.lane self.new.lane) }
         ensures same { IsSameWorker self.old.sys.now self.new.sys.now self.old.budget self.new.budget self.old.job self.new.job (O.lane self.old.lane) (O.lane self.new.lane) }
-        ensures idles { is_idle self.new.turn ≡ true → JobIdles self.new.job (O.lane self.new.lane) }
+        ensures turns { JobTurns self.old.sys.now self.old.budget self.old.job self.new.job (O.lane self.old.lane) (O.lane self.new.lane) self.new.turn }
     {
         self.turn = run_job(
             rt,
@@ -66,23 +65,13 @@ impl<O: Meets, G: Tells> PortWorker<'_, O, G> {
 }
 
 /// What a `settle` leaves of a worker: the answer of its turn.
-fn turn_by(passed: &cursor::Passed) -> Turn
+fn turn_by(passed: &Passed) -> Turn
     ensures { result ≡ turn_by passed.now }
 {
     match passed {
-        cursor::Passed::Yes | cursor::Passed::Found { .. } => Turn::Idle,
-        cursor::Passed::Stopped => Turn::Stopped,
-        cursor::Passed::Memory => Turn::Memory,
-    }
-}
-
-/// The same answer, as the phases have it.
-fn passed_by(passed: cursor::Passed) -> Passed {
-    match passed {
-        cursor::Passed::Yes => Passed::Yes,
-        cursor::Passed::Found { p, now } => Passed::Found { p, now },
-        cursor::Passed::Stopped => Passed::Stopped,
-        cursor::Passed::Memory => Passed::Memory,
+        Passed::Yes | Passed::Found { .. } => Turn::Idle,
+        Passed::Stopped => Turn::Stopped,
+        Passed::Memory => Turn::Memory,
     }
 }
 
@@ -90,7 +79,7 @@ impl<O: Meets + Send, G: Tells + Sync> Worker for PortWorker<'_, O, G> {
     ghost ready = { λ w. MayTurn w.sys.now w.budget w.turn w.job (O.lane w.lane) };
 
     ghost turned = { λ a b. MayTurn b.sys.now b.budget b.turn b.job (O.lane b.lane) × IsSameWorker a.sys.now b.sys.now a.budget b.budget a.job b.job (O.lane a.lane) (O.lane b.lane)
-        × (is_idle a.turn ≡ true → is_idle b.turn ≡ true → JobIdles b.job (O.lane b.lane)) };
+        × TurnsFrom a.sys.now a.budget a.turn a.job (O.lane a.lane) b.turn b.job (O.lane b.lane) };
 
     fn turn<R: Wait>(&mut self, rt: &R) {
         if is_idle(&self.turn) {
@@ -126,7 +115,7 @@ impl<O: Meets + Send, G: Tells + Sync> Lane for PortWorker<'_, O, G> {
         if is_idle(&self.turn) {
             let passed = pass_job(&mut self.lane, self.sys, &mut self.job, self.budget);
             self.turn = turn_by(&passed);
-            return passed_by(passed);
+            return passed;
         }
         if is_short(&self.turn) {
             return Passed::Memory;
@@ -148,12 +137,16 @@ impl<O: Meets + Send, G: Tells + Sync> Lane for PortWorker<'_, O, G> {
 
     ghost same_table = { λ a b h. same-table a.sys.now b.sys.now a.budget b.budget a.job b.job (O.lane a.lane) (O.lane b.lane) h };
 
+    ghost same_hears = { λ a b h. h.hears };
+
     ghost went = { λ a b h. (h.0, h.1) };
 
     ghost went_on = { λ a b h. counts-none (O.lane a.lane) };
 }
 
 impl<O: Meets + Send, G: Tells + Sync> Starts for PortWorker<'_, O, G> {
+    ghost rests = { λ w. is_idle w.turn };
+
     ghost fresh = { λ w. MayBegin w.sys.now w.budget w.turn w.job (O.lane w.lane) };
 
     fn start(&mut self) -> bool {

@@ -33,29 +33,6 @@ along-room v w room = record {
 pub along-gains : (ts : List ToldItem) (v w : LaneView) → Gains ts v w → w.hands ≡ v.hands → GoesAlong v w
 along-gains ts v w g hands = record { ts = ts; told = g.told; hands = hands; stops = g.stops; answered = g.answered; keeps = same-gains ts v w g }
 
--- records came, and no code was handed in or found
-pub record IsBehind (v w : LaneView) : Type 0 where
-  pub ts : List ToldItem
-  pub told : w.told ≡ v.told ++ ts
-  pub stops : w.stops ≡ v.stops
-  pub answered : w.answered ≡ v.answered
-  pub keeps : SameLane v w
-
-pub behind-along : (v w : LaneView) → GoesAlong v w → IsBehind v w
-behind-along v w a = record { ts = a.ts; told = a.told; stops = a.stops; answered = a.answered; keeps = a.keeps }
-
-pub behind-gains : (ts : List ToldItem) (v w : LaneView) → Gains ts v w → IsBehind v w
-behind-gains ts v w g = record { ts = ts; told = g.told; stops = g.stops; answered = g.answered; keeps = same-gains ts v w g }
-
-pub behind-then : (u v w : LaneView) → IsBehind u v → IsBehind v w → IsBehind u w
-behind-then u v w a b = record {
-  ts = a.ts ++ b.ts;
-  told = b.told ∙ ap (λ ts. ts ++ b.ts) a.told ∙ append_assoc u.told a.ts b.ts;
-  stops = b.stops ∙ a.stops;
-  answered = b.answered ∙ a.answered;
-  keeps = same-then u v w a.keeps b.keeps;
-}
-
 pub along-then : (u v w : LaneView) → GoesAlong u v → GoesAlong v w → GoesAlong u w
 along-then u v w a b = record {
   ts = a.ts ++ b.ts;

@@ -1,5 +1,5 @@
 -- How passing a `settle` ends.
-use Rattle.std.proofs.Common.{◌≡◌, ℕ, ◌+◌, ◌-◌, ◌≤◌, true, false, List, [], ◌∷◌, ◌++◌, length, map, refl, sym, ◌∙◌, ap, subst, arith}
+use Rattle.std.proofs.Common.{◌≡◌, ℕ, ◌+◌, ◌-◌, ◌≤◌, true, false, List, [], ◌∷◌, ◌++◌, length, map, refl, sym, ◌∙◌, ap, subst, inr, arith, append_assoc}
 use Rattle.std.specs.List.{AllByRecursion, count_by, filter}
 use Rattle.std.proofs.lemmas.List.{map-append}
 use Rattle.std.proofs.lemmas.List.Sums.{length-filter}
@@ -9,20 +9,20 @@ use Rattle.qp_model.specs.Told.{Told, ToldItem, for_object, plain}
 use Rattle.qp_model.proofs.NumberLemmas.{count-append}
 use Rattle.qp_model_order.specs.SourceRun.{untold, untold_all}
 use Rattle.qp_model.specs.declared.systems.System.{System}
-use Rattle.qp_model.specs.Sources.{priorities}
+use Rattle.qp_model.specs.Sources.{SeesEmpty, SeesEntry, priorities}
 use Rattle.qp_calls.specs.declared.answers.Counts as counts
-use Rattle.qp_calls.specs.LaneView.{LaneView, Roomier}
+use Rattle.qp_calls.specs.LaneView.{Grows, GrowsOf, LaneView, Roomier}
 use Rattle.qp_calls.specs.Halting.{HaltsDry, HaltsFull}
 use Rattle.qp_calls.specs.Notes.{spills_in}
 use Rattle.qp_calls_stimulus.specs.Settling.{SeesNone, SeesSome, SettleCut}
 use Rattle.qp_port_cursor.specs.declared.cursor.Cursor.{Cursor}
 use Rattle.qp_port_cursor.specs.At.{IsCursorAt, IsSourceAt, done, mine}
-use Rattle.qp_port_cursor.specs.Turning.{SourceStarves, SourceStops}
-use Rattle.qp_port_cursor.specs.Passing.{FindsEntry, Glances, GoesAlong, HasPassed, IsClear, Opens, ShowsEntry, settles_of}
+use Rattle.qp_port_phases.specs.Passing.{AddsLook}
+use Rattle.qp_port_cursor.specs.Passing.{FindsEntry, Glances, GoesAlong, HasPassed, IsClear, Opens, SeesAllEmpty, ShowsEntry, StarvesThere, StopsThere, opening_of, settles_of}
 use Rattle.qp_port_cursor.proofs.Going.{unspilled-told}
-use Rattle.qp_port_cursor.proofs.Along.{IsBehind, along-gains, along-glances, along-room, along-then, behind-along, behind-gains, behind-then}
-use Rattle.qp_port_cursor.proofs.Settling.{cut-calm, cut-leaves, settled-at, shows-now, tried-at}
-use Rattle.qp_port_cursor.proofs.Waiting.{full-stops, starves-behind, stops-behind}
+use Rattle.qp_port_cursor.proofs.Along.{along-gains, along-glances, along-room, along-then}
+use Rattle.qp_port_cursor.proofs.Settling.{cut-calm, cut-hands, cut-leaves, settled-at, shows-now, tried-at}
+use Rattle.qp_port_cursor.proofs.Waiting.{full-stops, full-there, starves-there, stops-behind}
 
 pub glances-room : (v w : LaneView) → Roomier v w → Glances v w
 glances-room v w room = record {
@@ -61,6 +61,22 @@ module _ (sys : System) (x y : Cursor) (v0 v1 v2 w : LaneView) (at : IsCursorAt 
   still_clear : AllByRecursion (IsClear w) (priorities sys)
   still_clear = all-clear v1 w (λ p k. opens.clear p (clear-room v1 v2 room p k)) (priorities sys) clear
 
+  first : SeesAllEmpty sys v0
+  first = record { then = v1; glances = glances; clear = clear }
+
+  adds : (Fits : List Told → Type 0) (one : List Told) (u : LaneView) → Grows (plain body.Settle ∷ one) w u → Fits one → AddsLook Fits (opening_of x) v0 u
+  adds Fits one u grows fits =
+      let its : GrowsOf 0 (plain body.Settle ∷ one) w u = subst (λ o. GrowsOf o (plain body.Settle ∷ one) w u) opens.here.none grows in
+      let former : v2.told ≡ v0.told = ap (λ r. r.told) room.same ∙ glances.told in
+      record {
+        one = one;
+        told =
+            its.told ∙ ap (λ ts. ts ++ map (for_object 0) (plain body.Settle ∷ one)) (opens.opened ∙ ap (λ ts. ts ++ map (for_object 0) (opening_of x)) former)
+            ∙ append_assoc v0.told (map (for_object 0) (opening_of x)) (map (for_object 0) (plain body.Settle ∷ one))
+            ∙ ap (λ ts. v0.told ++ ts) (sym (map-append (for_object 0) (opening_of x) (plain body.Settle ∷ one)));
+        fits = fits;
+      }
+
   pub passes-yes : (u : LaneView) → SeesNone (priorities sys) w u → HasPassed sys x (record y { settling = false }) v0 u
   passes-yes u seen =
       subst (λ (z : Cursor). HasPassed sys x (record z { settling = false }) v0 u) (sym opens.cursor)
@@ -80,6 +96,8 @@ module _ (sys : System) (x y : Cursor) (v0 v1 v2 w : LaneView) (at : IsCursorAt 
         };
         calm = refl;
         one = refl;
+        first = first;
+        adds = adds (SeesEmpty (priorities sys)) seen.one u seen.grows seen.fits;
         settled =
             let before = settles-more v0.told so_far.ts in
             let told = ap settles_of so_far.told in
@@ -110,23 +128,28 @@ module _ (sys : System) (x y : Cursor) (v0 v1 v2 w : LaneView) (at : IsCursorAt 
           along = along-then v0 w u so_far (along-gains _ w u h.0.grows h.0.hands);
         };
         same = same-count;
+        stands = refl;
         shows =
             subst (λ q. ShowsEntry sys q c u) h.1
             (subst (λ d. ShowsEntry sys h.0.found.object d u) h.2 (shows-now sys (mine x) (done x) w opens.here u h.0 still_clear));
+        told = inr (record { first = first; adds = adds (SeesEntry (priorities sys)) h.0.one u h.0.grows h.0.fits; under_way = refl });
       })
 
   module _ (u : LaneView) (cut : SettleCut sys w u) where
-    behind : IsBehind v0 u
-    behind = behind-then v0 w u (behind-along v0 w so_far) (behind-gains _ w u cut.grows)
+    behind : GoesAlong v0 u
+    behind = along-then v0 w u so_far (along-gains _ w u cut.grows (cut-hands sys (mine x) (done x) w opens.here u u cut))
+
+    same : done y ≡ done x
+    same = ap done opens.cursor ∙ same-count
 
     pub cut-unspilled : spills_in u.told ≡ false
     cut-unspilled = unspilled-told u.told (cut-calm sys (mine x) (done x) w opens.here u u cut)
 
-    pub cut-stops : (z : LaneView) → HaltsFull u z → SourceStops sys x y v0 z
+    pub cut-stops : (z : LaneView) → HaltsFull u z → StopsThere sys x y v0 z
     cut-stops z full =
         let stops = stops-behind sys x v0 u z behind
         (full-stops sys x u z (λ kernel end may early. cut-leaves sys (mine x) (done x) w opens.here u z cut kernel end may early full) full) in
-        record { leaves = stops.leaves; why = stops.why; ts = stops.ts; told = stops.told; keeps = stops.keeps }
+        full-there sys x y v0 u z behind full same (record { leaves = stops.leaves; why = stops.why; ts = stops.ts; told = stops.told; keeps = stops.keeps })
 
-    pub cut-starves : (z : LaneView) → HaltsDry u z → SourceStarves v0 z
-    cut-starves z dry = starves-behind v0 u z behind dry
+    pub cut-starves : (z : LaneView) → HaltsDry u z → StarvesThere x y v0 z
+    cut-starves z dry = starves-there x y v0 u z behind dry same

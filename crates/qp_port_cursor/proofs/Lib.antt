@@ -10,3 +10,5 @@ mod Settling
 mod Ending
 mod Nexts
 pub mod Standing
+pub mod Seeing
+pub mod Hearing

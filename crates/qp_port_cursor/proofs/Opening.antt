@@ -1,5 +1,5 @@
 -- A `settle` is under way.
-use Rattle.std.proofs.Common.{◌≡◌, ℕ, suc, ◌+◌, ◌-◌, ◌==◌, true, false, ◌||◌, List, [], ◌∷◌, ◌++◌, map, drop, cond, refl, sym, ◌∙◌, ap, subst, arith}
+use Rattle.std.proofs.Common.{◌≡◌, ℕ, suc, ◌+◌, ◌-◌, ◌==◌, true, false, ◌||◌, List, [], ◌∷◌, ◌++◌, map, drop, cond, refl, sym, ◌∙◌, ap, subst, arith, append-nil}
 use Rattle.std.specs.List.{list_all, list_any, AllByRecursion}
 use Rattle.qp_model.specs.declared.words.Word.TheVariants as word
 use Rattle.qp_model.specs.declared.bodies.Body.TheVariants as body
@@ -14,7 +14,7 @@ use Rattle.qp_model_order.specs.SourceRun.{untold_all}
 use Rattle.qp_model_order.proofs.StimLemmas.{any-both}
 use Rattle.qp_port_cursor.specs.declared.cursor.Cursor.{Cursor}
 use Rattle.qp_port_cursor.specs.At.{IsCursorAt, IsKnownTry, IsSourceAt, at_settle_in, begins_settle, done, mine, tries_in}
-use Rattle.qp_port_cursor.specs.Passing.{IsOpen, Opens}
+use Rattle.qp_port_cursor.specs.Passing.{IsOpen, Opens, opening_of}
 use Rattle.qp_port_cursor.proofs.Leaving.{tries-quiet, untold-append}
 use Rattle.qp_port_cursor.proofs.Going.{done-at, known-later}
 use Rattle.qp_port_cursor.proofs.Waiting.{begins-is}
@@ -35,11 +35,15 @@ module _ (sys : System) (x : Cursor) (v : LaneView) (at : IsCursorAt sys x v) (s
       let is : done x ≡ x.begun - 1 = ap (λ b. cond b (x.begun - 1) x.begun) settling in
       omega (arith, some, is)
 
+  whole_told : v.told ≡ v.told ++ map (for_object 0) (opening_of x)
+  whole_told = sym (append-nil v.told) ∙ ap (λ b. v.told ++ map (for_object 0) (cond b [] (plain (body.Stim (done x + 1) 0) ∷ []))) (sym settling)
+
   pub opens-still : Opens sys x x v v
   opens-still =
       let t = whole.under_way in
       record {
         cursor = ap (λ n. record x { begun = n }) next_place ∙ ap (λ b. record x { begun = done x + 1; settling = b }) settling;
+        opened = whole_told;
         here = record {
           of = whole.of;
           none = whole.none;
@@ -108,6 +112,7 @@ module _ (sys : System) (x : Cursor) (v w : LaneView) (at : IsCursorAt sys x v) 
   pub opens-new : Opens sys x (record x { begun = x.begun + 1; settling = true }) v w
   opens-new = record {
     cursor = ap (λ n. record x { begun = n + 1; settling = true }) (sym counted);
+    opened = grown.told ∙ ap (λ n. v.told ++ map (for_object 0) (plain (body.Stim (n + 1) 0) ∷ [])) (sym counted) ∙ ap (λ b. v.told ++ map (for_object 0) (cond b [] (plain (body.Stim (done x + 1) 0) ∷ []))) (sym calm);
     here = subst (λ n. IsOpen sys (mine x) n w) (sym counted) open_here;
     along = along-gains (map (for_object 0) (plain (body.Stim (x.begun + 1) 0) ∷ [])) v w grown same_hands;
     clear = λ p k. record { f = k.f; l = k.l; m = k.m; mark = same_mark p ∙ k.mark; shown = grown.shown (word.Queue p) (same_mark p) ∙ k.shown; empty = k.empty };

@@ -1,5 +1,5 @@
 -- What comes of the `settle`.
-use Rattle.std.proofs.Common.{◌≡◌, ℕ, zero, suc, ◌+◌, ◌<◌, ◌≤◌, ◌==◌, nat_lt, Bool, true, false, not, List, [], ◌∷◌, ◌++◌, map, length, take, drop, refl, sym, ◌∙◌, ap, subst, arith, append_assoc, append-nil}
+use Rattle.std.proofs.Common.{◌≡◌, ℕ, zero, suc, ◌+◌, ◌<◌, ◌≤◌, ◌==◌, nat_lt, Bool, true, false, not, List, [], ◌∷◌, ◌++◌, map, length, take, drop, refl, sym, ◌∙◌, ap, subst, inl, inr, arith, append_assoc, append-nil}
 use Rattle.std.specs.List.{list_all, list_any, AllByRecursion}
 use Rattle.std.proofs.lemmas.List.{map-append, length-take-le, take-append-drop}
 use Rattle.std.proofs.lemmas.Bool.Decides.{nat_tests}
@@ -12,12 +12,13 @@ use Rattle.qp_model.specs.Told.{Told, ToldItem, plain, for_object}
 use Rattle.qp_model.specs.Knowing.{told_alone}
 use Rattle.qp_model.specs.Kernels.{sim, may_try}
 use Rattle.qp_model.specs.Ends.{is_end, may_cut}
-use Rattle.qp_model.specs.Sources.{AllDone, InStimulus, Settles, SourceRuns, StimFits, none_twice, priorities, same_list}
+use Rattle.qp_model.specs.Sources.{AllDone, InStimulus, SeesEmpty, Settles, SourceRuns, StimFits, Tries, none_twice, priorities, same_list}
 use Rattle.qp_model.proofs.FitsLemmas.{all-append}
 use Rattle.qp_model.proofs.HistoryLemmas.{same_word-refl}
 use Rattle.qp_calls.specs.declared.answers.Counts as counts
 use Rattle.qp_calls.specs.LaneView.{Counts, Grows, GrowsOf, LaneView, mark_after, mark_by}
 use Rattle.qp_calls.specs.Halting.{HaltsFull}
+use Rattle.qp_calls.specs.Tokens.{Token, hands_after, hands_by}
 use Rattle.qp_model_order.specs.SourceRun.{untold_all}
 use Rattle.qp_model_order.specs.Stimulus.{ArePlain, source_items}
 use Rattle.qp_model_order.proofs.SourceLemmas.{runs-cut, runs-stimulus}
@@ -29,6 +30,28 @@ use Rattle.qp_port_cursor.specs.Passing.{IsClear, IsOpen, ShowsEntry}
 use Rattle.qp_port_cursor.proofs.Leaving.{Calm, alone-append, alone-source, full-lane, no-look, tries-append, tries-quiet, untold-append}
 use Rattle.qp_port_cursor.proofs.Going.{known-later}
 use Rattle.qp_port_cursor.proofs.Tries.{EndsTry, cut-is-plain, entry-ends, pick, plain-calm, plain-seen, same-is, settle-alone, settle-plain, settles-behind, tries-more, twice-snoc}
+
+-- Looks leave the hands as they were.
+
+hands-seen : (os : List ℕ) (one front rest : List Told) → SeesEmpty os one → one ≡ front ++ rest → (hs : List Token) → hands_after hs (map (for_object 0) front) ≡ hs
+unfolding SeesEmpty hands_after hands_by
+hands-seen os one [] rest h is hs = refl
+hands-seen [] one (t ∷ front) rest h is hs = absurd (cc)
+hands-seen (o ∷ os) one (t ∷ front) rest h is hs =
+    let head : t ≡ plain (body.Seen o h.0 h.1 h.2) = let e = h.4 in cc in
+    let tail : h.3 ≡ front ++ rest = let e = h.4 in cc in
+    rw head (hands-seen os h.3 front rest h.6 tail hs)
+
+hands-settle : (sys : System) (front rest : List Told) → Settles sys sim (front ++ rest) → (hs : List Token) → hands_after hs (map (for_object 0) front) ≡ hs
+unfolding Settles Tries hands_after hands_by
+hands-settle sys [] rest h hs = refl
+hands-settle sys (t ∷ front) rest (n, tries, last, is, fits, inl may, sees) hs = let wrong : false ≡ true = may in absurd (cc)
+hands-settle sys (t ∷ front) rest (n, tries, last, is, fits, inr none, sees) hs =
+    let empty : tries ≡ [] = subst (λ k. Tries (priorities sys) k tries) none fits in
+    let all : t ∷ (front ++ rest) ≡ plain body.Settle ∷ last = is ∙ ap (λ a. a ++ plain body.Settle ∷ last) empty in
+    let head : t ≡ plain body.Settle = cc in
+    let tail : last ≡ front ++ rest = cc in
+    rw head (hands-seen (priorities sys) last front rest sees tail hs)
 
 -- A stimulus that is next is there.
 
@@ -147,6 +170,9 @@ module _ (sys : System) (ss : List Stim) (n : ℕ) (w : LaneView) (o : IsOpen sy
   module _ (u z : LaneView) (cut : SettleCut sys w u) where
     cut_plain : ArePlain cut.g
     cut_plain = cut-is-plain sys cut.g cut.rest cut.some (cut.fits sim)
+
+    pub cut-hands : u.hands ≡ w.hands
+    cut-hands = (its cut.g u cut.grows).hands ∙ hands-settle sys cut.g cut.rest (cut.fits sim) w.hands
 
     pub cut-calm : list_any (λ i. is_end i.body) (untold_all u.told) ≡ false
     cut-calm = calm_with cut.g u cut.grows (plain-calm cut.g cut_plain)

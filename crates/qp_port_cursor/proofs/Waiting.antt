@@ -15,6 +15,7 @@ use Rattle.qp_model.specs.Sources.{SourceEnd, SourceRuns, AfterTry, BeforeStimul
 use Rattle.qp_calls.specs.declared.answers.Counts as counts
 use Rattle.qp_calls.specs.LaneView.{LaneView}
 use Rattle.qp_calls.specs.Notes.{last_code}
+use Rattle.qp_calls.specs.Tokens.{hands_after, hands_by}
 use Rattle.qp_calls.specs.Halting.{HaltsDry, HaltsFull}
 use Rattle.qp_kernel_turns.specs.Lanes.{HandsCode, HasFound}
 use Rattle.qp_model_order.specs.SourceRun.{untold_all}
@@ -26,11 +27,11 @@ use Rattle.qp_kernel_turns.specs.Halting.{FindsStop, Halts}
 use Rattle.qp_port_cursor.specs.declared.cursor.Cursor.{Cursor}
 use Rattle.qp_port_cursor.specs.At.{IsKnownTry, IsSourceAt, IsCursorAt, tries_in, mine, done, at_settle_in, begins_settle}
 use Rattle.qp_port_cursor.specs.Turning.{SourceStarves, SourceStops}
-use Rattle.qp_port_cursor.specs.Passing.{FindsEntry, Glances, ShowsEntry}
+use Rattle.qp_port_cursor.specs.Passing.{FindsEntry, Glances, GoesAlong, ShowsEntry, StarvesThere, StopsThere}
 use Rattle.qp_port_cursor.proofs.Leaving.{Calm, still, full-lane, alone-append, no-look}
 use Rattle.qp_port_cursor.proofs.Going.{known-later, done-at, same-gains, same-stops}
 use Rattle.qp_port_cursor.proofs.Turned.{handed, same-then, spill-code}
-use Rattle.qp_port_cursor.proofs.Along.{IsBehind, along-glances, behind-along}
+use Rattle.qp_port_cursor.proofs.Along.{along-glances}
 
 -- looks that add nothing keep what is known of the lane
 pub source-glanced : (sys : System) (ss : List Stim) (n : ℕ) (b : Bool) (v w : LaneView) → IsSourceAt sys ss n b v → Glances v w → IsSourceAt sys ss n b w
@@ -54,11 +55,13 @@ pub cursor-glanced : (sys : System) (x : Cursor) (v w : LaneView) → IsCursorAt
 cursor-glanced sys x v w at g = record { fits = at.fits; some = at.some; there = at.there; begun = at.begun; at = source-glanced sys (mine x) (done x) x.settling v w at.at g }
 
 -- a look found an entry
-pub found-here : (sys : System) (x : Cursor) (v w : LaneView) (p : ℕ) (c : counts.Counts) → IsCursorAt sys x v → Glances v w → ShowsEntry sys p c w → FindsEntry sys p c x x v w
-found-here sys x v w p c at g shows = record {
+pub found-here : (sys : System) (x : Cursor) (v w : LaneView) (p : ℕ) (c : counts.Counts) → IsCursorAt sys x v → at_settle_in x ≡ true → Glances v w → ShowsEntry sys p c w → FindsEntry sys p c x x v w
+found-here sys x v w p c at stands g shows = record {
   stays = record { at = cursor-glanced sys x v w at g; stim = refl; source = refl; lane = refl; along = along-glances v w g };
   same = refl;
+  stands = stands;
   shows = shows;
+  told = inl (g.told, refl);
 }
 
 -- The run may stop at a `settle`: behind a try, or before it.
@@ -133,7 +136,7 @@ may-stop-at sys x v at stands = by x.settling refl
         }
 
 -- it stops behind what it was
-pub stops-behind : (sys : System) (x : Cursor) (u v w : LaneView) → IsBehind u v → SourceStops sys x x v w → SourceStops sys x x u w
+pub stops-behind : (sys : System) (x : Cursor) (u v w : LaneView) → GoesAlong u v → SourceStops sys x x v w → SourceStops sys x x u w
 stops-behind sys x u v w a h = record {
   leaves = h.leaves;
   why = by h.why;
@@ -146,7 +149,7 @@ stops-behind sys x u v w a h = record {
     by (inl k) = inl (record { some = k.some; stops = k.stops ∙ ap (λ cs. last_code w.told ∷ cs) a.stops })
     by (inr k) = inr (record { found = subst (λ xs. length xs < length w.answered) a.answered k.found; stops = k.stops ∙ a.stops })
 
-pub starves-behind : (u v w : LaneView) → IsBehind u v → HaltsDry v w → SourceStarves u w
+pub starves-behind : (u v w : LaneView) → GoesAlong u v → HaltsDry v w → SourceStarves u w
 starves-behind u v w a h = record {
   ts = a.ts;
   told = ap (λ x. x.told) h.stops ∙ a.told;
@@ -166,22 +169,44 @@ full-stops sys x u w leaves f =
       keeps = same-stops 6 u f.full w (same-gains _ u f.full f.spills) f.stops;
     }
 
+-- what a halt leaves of the hands
+full-hands : (v w : LaneView) → HaltsFull v w → w.hands ≡ v.hands
+unfolding hands_after hands_by
+full-hands v w f = ap (λ y. y.hands) f.stops ∙ f.spills.hands
+
+pub full-there : (sys : System) (x y : Cursor) (u v w : LaneView) → GoesAlong u v → HaltsFull v w → done y ≡ done x → SourceStops sys x y u w → StopsThere sys x y u w
+full-there sys x y u v w a f same stops = record { stops = stops; hands = full-hands v w f ∙ a.hands; same = same }
+
+pub starves-there : (x y : Cursor) (u v w : LaneView) → GoesAlong u v → HaltsDry v w → done y ≡ done x → StarvesThere x y u w
+starves-there x y u v w a h same = record { starves = starves-behind u v w a h; hands = ap (λ z. z.hands) h.stops ∙ a.hands; same = same }
+
 -- `ready` has stopped the turn
-pub halts-stop : (sys : System) (x : Cursor) (v u w : LaneView) (h : Halt) → IsCursorAt sys x v → at_settle_in x ≡ true → Glances v u → h ≡ halt.Stopped → Halts u w h → SourceStops sys x x v w
-halts-stop sys x v u w h at stands g is halts = stops-behind sys x v u w (behind-along v u (along-glances v u g)) (by (subst (Halts u w) is halts))
+pub halts-stop : (sys : System) (x : Cursor) (v u w : LaneView) (h : Halt) → IsCursorAt sys x v → at_settle_in x ≡ true → Glances v u → h ≡ halt.Stopped → Halts u w h → StopsThere sys x x v w
+halts-stop sys x v u w h at stands g is halts = by (subst (Halts u w) is halts)
   where
+    so_far : GoesAlong v u
+    so_far = along-glances v u g
+
     here : MayStopAt sys (mine x) u
     here = may-stop-at sys x u (cursor-glanced sys x v u at g) stands
 
-    by : FindsStop u w ⊎ HaltsFull u w → SourceStops sys x x u w
+    by : FindsStop u w ⊎ HaltsFull u w → StopsThere sys x x v w
     by (inl f) = record {
-      leaves = λ kernel end may early. stops-still sys (mine x) (done x) u here.stop here.may_stop here.calm here.runs w kernel end may early (ap (λ y. y.told) f.answered);
-      why = inr (record { found = rw f.answered (omega arith); stops = ap (λ y. y.stops) f.answered });
-      ts = [];
-      told = ap (λ y. y.told) f.answered ∙ sym (append-nil u.told);
-      keeps = rw f.answered (record { sys = refl; lane = refl; world = refl; plan = refl; happened = refl; serves = λ o. refl });
+      stops = stops-behind sys x v u w so_far
+          (record {
+            leaves = λ kernel end may early. stops-still sys (mine x) (done x) u here.stop here.may_stop here.calm here.runs w kernel end may early (ap (λ y. y.told) f.answered);
+            why = inr (record { found = rw f.answered (omega arith); stops = ap (λ y. y.stops) f.answered });
+            ts = [];
+            told = ap (λ y. y.told) f.answered ∙ sym (append-nil u.told);
+            keeps = rw f.answered (record { sys = refl; lane = refl; world = refl; plan = refl; happened = refl; serves = λ o. refl });
+          });
+      hands = ap (λ y. y.hands) f.answered ∙ so_far.hands;
+      same = refl;
     }
-    by (inr f) = full-stops sys x u w (λ kernel end may early. stops-full sys (mine x) (done x) u here.stop here.may_stop here.calm here.runs w kernel end may early f) f
+    by (inr f) =
+        full-there sys x x v u w so_far f refl
+        (stops-behind sys x v u w so_far
+        (full-stops sys x u w (λ kernel end may early. stops-full sys (mine x) (done x) u here.stop here.may_stop here.calm here.runs w kernel end may early f) f))
 
-pub halts-starve : (v u w : LaneView) (h : Halt) → Glances v u → h ≡ halt.Memory → Halts u w h → SourceStarves v w
-halts-starve v u w h g is halts = starves-behind v u w (behind-along v u (along-glances v u g)) (subst (Halts u w) is halts)
+pub halts-starve : (x : Cursor) (v u w : LaneView) (h : Halt) → Glances v u → h ≡ halt.Memory → Halts u w h → StarvesThere x x v w
+halts-starve x v u w h g is halts = starves-there x x v u w (along-glances v u g) (subst (Halts u w) is halts) refl

@@ -1,5 +1,5 @@
 -- What passing a `settle` comes to.
-use Rattle.std.specs.Prelude.{◌≡◌, ℕ, ◌+◌, ◌<◌, ◌≤◌, ◌==◌, true, false, List, [], ◌∷◌, ◌++◌, map, take, drop, IsTrue, Some, None}
+use Rattle.std.specs.Prelude.{◌≡◌, ℕ, ◌+◌, ◌<◌, ◌≤◌, ◌==◌, ◌⊎◌, true, false, List, [], ◌∷◌, ◌++◌, map, take, drop, cond, IsTrue, Some, None}
 use Rattle.std.specs.declared.option.Option.{Option}
 use Rattle.std.specs.List.{AllByRecursion, count_by, list_all, list_any}
 use Rattle.qp_model.specs.declared.stimulus.Stim.{Stim}
@@ -8,7 +8,7 @@ use Rattle.qp_model.specs.declared.systems.System.{System}
 use Rattle.qp_model.specs.declared.words.Word.{Word}
 use Rattle.qp_model.specs.declared.words.Word.TheVariants as word
 use Rattle.qp_model.specs.declared.bodies.Body.TheVariants as body
-use Rattle.qp_model.specs.Sources.{AllDone, SourceRuns, Tries, none_twice, priorities}
+use Rattle.qp_model.specs.Sources.{AllDone, SeesEmpty, SeesEntry, SourceRuns, Tries, none_twice, priorities}
 use Rattle.qp_model.specs.Told.{Told, ToldItem, for_object, plain}
 use Rattle.qp_model.specs.Knowing.{told_alone}
 use Rattle.qp_model.specs.Kernels.{may_try}
@@ -20,9 +20,10 @@ use Rattle.qp_calls.specs.LaneView.{LaneView, Counts}
 use Rattle.qp_model_order.specs.SourceRun.{untold_all}
 use Rattle.qp_kernel_turns.specs.Lanes.{SameLane}
 use Rattle.qp_port_cursor.specs.declared.cursor.Cursor.{Cursor}
-use Rattle.qp_port_cursor.specs.declared.passing.Passed.{Passed}
-use Rattle.qp_port_cursor.specs.declared.passing.Passed.TheVariants as passed
-use Rattle.qp_port_cursor.specs.At.{IsCursorAt, IsKnownTry, done, mine, tries_in}
+use Rattle.qp_port_phases.specs.declared.lanes.Passed.{Passed}
+use Rattle.qp_port_phases.specs.declared.lanes.Passed.TheVariants as passed
+use Rattle.qp_port_phases.specs.Passing.{AddsLook}
+use Rattle.qp_port_cursor.specs.At.{IsCursorAt, IsKnownTry, at_settle_in, done, mine, tries_in}
 use Rattle.qp_port_cursor.specs.Turning.{SourceStarves, SourceStops}
 
 -- looks that add nothing
@@ -83,9 +84,14 @@ pub record IsOpen (sys : System) (ss : List Stim) (n : ℕ) (v : LaneView) : Typ
   pub known : AllByRecursion (IsKnownTry v) (tries_in v.told)
   pub hands : v.hands ≡ []
 
+-- the `stim` of the `settle`, where it isn't under way
+abbrev pub opening_of : Cursor → List Told
+opening_of x = cond x.settling [] (plain (body.Stim (done x + 1) 0) ∷ [])
+
 -- the `settle` is under way, and what was seen empty is still known so
 pub record Opens (sys : System) (x y : Cursor) (v w : LaneView) : Type 0 where
   pub cursor : y ≡ record x { begun = done x + 1; settling = true }
+  pub opened : w.told ≡ v.told ++ map (for_object 0) (opening_of x)
   pub here : IsOpen sys (mine x) (done x) w
   pub along : GoesAlong v w
   pub clear : (p : ℕ) → IsClear v p → IsClear w p
@@ -102,21 +108,49 @@ pub record StaysAt (sys : System) (x y : Cursor) (v w : LaneView) : Type 0 where
 abbrev pub settles_of : List ToldItem → ℕ
 settles_of told = count_by (λ i. is_settle i.body) (untold_all told)
 
--- the `settle` is done, with at least one record of it
+-- each queue was seen empty by looks that added nothing
+pub record SeesAllEmpty (sys : System) (v : LaneView) : Type 0 where
+  pub then : LaneView
+  pub glances : Glances v then
+  pub clear : AllByRecursion (IsClear then) (priorities sys)
+
+-- The `settle` is done: looks that add nothing showed each queue empty, and so did those that the lane tells of.
 pub record HasPassed (sys : System) (x y : Cursor) (v w : LaneView) : Type 0 where
   pub stays : StaysAt sys x y v w
   pub calm : y.settling ≡ false
   pub one : done y ≡ done x + 1
+  pub first : SeesAllEmpty sys v
+  pub adds : AddsLook (SeesEmpty (priorities sys)) (opening_of x) v w
   pub settled : settles_of v.told + 1 ≤ settles_of w.told
 
--- the queue of p showed an entry at these counts, and they are what the lane knows of it
+-- looks that add nothing showed each queue empty, and one try ended at an entry
+pub record TriedOnce (sys : System) (x y : Cursor) (v w : LaneView) : Type 0 where
+  pub first : SeesAllEmpty sys v
+  pub adds : AddsLook (SeesEntry (priorities sys)) (opening_of x) v w
+  pub under_way : y.settling ≡ true
+
+-- The queue of p showed an entry at these counts, and they are what the lane knows of it. A look that added nothing showed it, or one try.
 pub record FindsEntry (sys : System) (p : ℕ) (c : counts.Counts) (x y : Cursor) (v w : LaneView) : Type 0 where
   pub stays : StaysAt sys x y v w
   pub same : done y ≡ done x
+  pub stands : at_settle_in y ≡ true
   pub shows : ShowsEntry sys p c w
+  pub told : ((w.told ≡ v.told) × (y ≡ x)) ⊎ TriedOnce sys x y v w
+
+-- it stopped as a turn does, with the hands as they were, and the `settle` isn't done
+pub record StopsThere (sys : System) (x y : Cursor) (v w : LaneView) : Type 0 where
+  pub stops : SourceStops sys x y v w
+  pub hands : w.hands ≡ v.hands
+  pub same : done y ≡ done x
+
+-- so it did for want of memory
+pub record StarvesThere (x y : Cursor) (v w : LaneView) : Type 0 where
+  pub starves : SourceStarves v w
+  pub hands : w.hands ≡ v.hands
+  pub same : done y ≡ done x
 
 abbrev pub Passes : System → Cursor → Cursor → LaneView → LaneView → Passed → Type 0
 Passes sys x y v w passed.Yes = HasPassed sys x y v w
 Passes sys x y v w (passed.Found p now) = FindsEntry sys p now x y v w
-Passes sys x y v w passed.Stopped = SourceStops sys x y v w
-Passes sys x y v w passed.Memory = SourceStarves v w
+Passes sys x y v w passed.Stopped = StopsThere sys x y v w
+Passes sys x y v w passed.Memory = StarvesThere x y v w

@@ -11,19 +11,7 @@ use qp_calls::{Counts, Halted, Ops, halt};
 use qp_calls_stimulus::{Sight, settle};
 use qp_kernel_turns::{Halt, ready};
 use qp_model::{Rec, System};
-
-/// What became of a `settle`.
-#[derive(Drop)]
-pub enum Passed {
-    /// It is done.
-    Yes,
-    /// The queue of object `p` showed an entry at these counts.
-    Found { p: u8, now: Counts },
-    /// The lane has just stopped the run, or the stop word was found set.
-    Stopped,
-    /// Memory was refused.
-    Memory,
-}
+use qp_port_phases::Passed;
 
 /// Looks at the queues of the objects in turn, and adds nothing: the first with an entry.
 fn look<O: Ops>(ops: &mut O, sys: &System) -> Option<(u8, Counts)>
@@ -57,7 +45,7 @@ fn open<O: Ops>(ops: &mut O, sys: &System, source: &mut Cursor<'_>)
 }
 
 /// Passes the `settle` at which the source stands, where each queue is empty, and shows so to the lane of the source too. The first
-/// look adds nothing; so no two tries of a lane end alike.
+/// look adds nothing, and where it shows an entry nothing is added; so no two tries of a lane end alike.
 pub fn pass_settle<O: Ops>(ops: &mut O, sys: &System, source: &mut Cursor<'_>) -> Passed
     requires sound { IsSound sys.now }
     requires knows { IsCursorAt sys.now source.old (O.lane ops.old) }

@@ -1,15 +1,16 @@
 -- Lanes that stay the same lanes.
-use Rattle.std.proofs.Common.{◌≡◌, ℕ, ◌≤◌, Bool, true, false, List, [], ◌∷◌, refl, sym, ◌∙◌, ap, subst, arith, IsTrue, Some}
+use Rattle.std.proofs.Common.{◌≡◌, ◌⊎◌, ℕ, ◌<◌, ◌≤◌, Bool, true, false, List, [], ◌∷◌, length, refl, sym, ◌∙◌, ap, subst, inl, inr, arith, IsTrue, Some, None}
 use Rattle.std.proofs.lemmas.Bool.Decides.{nat_tests}
 use Rattle.qp_calls.specs.Clauses.{Stopped}
-use Rattle.std.specs.List.{AllByRecursion}
+use Rattle.std.specs.List.{AllByRecursion, list_all}
 use Rattle.qp_model.specs.WordLaw.{is_object}
 use Rattle.qp_model.specs.declared.words.Word.TheVariants as word
-use Rattle.qp_calls.specs.LaneView.{LaneView}
+use Rattle.qp_calls.specs.LaneView.{LaneView, is_codeless}
 use Rattle.qp_calls_meet.specs.Meeting.{IsTogether}
 use Rattle.qp_port_phases.specs.Lanes.{AreObjects, AreOneTable, AreTogether, KeepEach, SameEach}
 use Rattle.qp_port_phases.specs.Rows.{Numbers}
-use Rattle.qp_port_phases.specs.Quiet.{AllBelow, HasFound}
+use Rattle.qp_port_phases.specs.Quiet.{AllBelow, FirstFound, HasFound, IsCodeOf}
+use Rattle.qp_port_phases.specs.Stopping.{Hears, SameCodes}
 use Rattle.qp_port_workers.specs.Turns.{AreReady, TurnEach}
 
 module _ {T : Type 0} (Ready : T → Type 0) (Same : T → T → Type 0) (waits remains : T → Bool) (numbers : T → Numbers) where
@@ -82,9 +83,45 @@ module _ {T : Type 0} (view : T → LaneView) where
     table-still objects [] (y ∷ ys) same h = absurd same
     table-still objects (x ∷ xs) [] same h = absurd same
 
--- a code was found in the stop word
-pub found-seven : (v w : LaneView) (code : ℕ) → Stopped v w (Some code) → code ≡ 7 → HasFound true w
-found-seven v w code h is = record { code = code; others = v.answered; answered = ap (λ x. x.answered) h.0; some = h.1; seven = rw is refl }
+-- what was heard of before is heard of still
+pub found-since : (memory : Bool) (u v w : LaneView) → Hears u v → HasFound memory v w → HasFound memory u w
+found-since memory u v w before h =
+    let a = before.handed in
+    let b = h.handed in
+    record { code = h.code; others = h.others; answered = h.answered; which = h.which; handed = omega (arith, a, b); now = by before.found h.now }
+  where
+    by : (length u.answered ≤ length v.answered) ⊎ (length u.stops < length v.stops) → (length v.answered ≤ length h.others) ⊎ (length v.stops < length w.stops) → (length u.answered ≤ length h.others) ⊎ (length u.stops < length w.stops)
+    by (inl k) (inl m) = inl (omega (arith, k, m))
+    by (inr k) (inl m) = let b = h.handed in inr (omega (arith, k, b))
+    by k (inr m) = let a = before.handed in inr (omega (arith, a, m))
 
-pub found-other : (v w : LaneView) (code : ℕ) → Stopped v w (Some code) → (code ≡ 7 → ⊥) → HasFound false w
-found-other v w code h other = record { code = code; others = v.answered; answered = ap (λ x. x.answered) h.0; some = h.1; seven = grind (arith, nat_tests, other) }
+pub first-since : {T : Type 0} (view : T → LaneView) (Same : T → T → Type 0) → ((a b : T) → Same a b → Hears (view a) (view b)) → (memory : Bool) (xs ys zs : List T) → SameEach Same xs ys → FirstFound view memory ys zs
+    → FirstFound view memory xs zs
+first-since view Same hears memory (x ∷ xs) (y ∷ ys) (z ∷ zs) same h = found-since memory (view x) (view y) (view z) (hears x y same.0) h
+first-since view Same hears memory [] (y ∷ ys) zs same h = absurd same
+first-since view Same hears memory xs [] zs same h = absurd h
+first-since view Same hears memory (x ∷ xs) (y ∷ ys) [] same h = absurd h
+
+-- a code was found in the stop word
+found : (memory : Bool) (u v w : LaneView) (code : ℕ) → SameCodes u v → Stopped v w (Some code) → IsCodeOf memory code → HasFound memory u w
+found memory u v w code same h which =
+    let handed : w.stops ≡ u.stops = ap (λ x. x.stops) h.0 ∙ same.0 in
+    let long = ap length handed in
+    let heard = ap length same.1 in
+    record { code = code; others = v.answered; answered = ap (λ x. x.answered) h.0; which = which; handed = omega (arith, long); now = inl (omega (arith, heard)) }
+
+pub found-seven : (u v w : LaneView) (code : ℕ) → SameCodes u v → Stopped v w (Some code) → code ≡ 7 → HasFound true u w
+found-seven u v w code same h is = found true u v w code same h is
+
+pub found-other : (u v w : LaneView) (code : ℕ) → SameCodes u v → Stopped v w (Some code) → (code ≡ 7 → ⊥) → HasFound false u w
+found-other u v w code same h other = let some = h.1 in let few = h.2 in found false u v w code same h (some, grind (arith, nat_tests, other, some, few))
+
+-- none was found, and the looks behind that are no words with it
+pub unstopped-still : (u v w : LaneView) → Stopped u v None → SameCodes v w → Stopped w w None
+unstopped-still u v w h same =
+    let is : v ≡ u = h.0 in (
+      refl,
+      same.0 ∙ ap (λ x. x.stops) is ∙ h.1,
+      same.1 ∙ ap (λ x. x.answered) is ∙ h.2,
+      subst (λ a. IsTrue (list_all is_codeless a.purses)) (sym (same.2 ∙ ap (λ x. x.aside) is)) h.3,
+    )

@@ -1,3 +1,5 @@
+pub mod Stopping
+pub mod Passing
 pub mod Rows
 pub mod Lanes
 pub mod Quiet

@@ -1,8 +1,9 @@
 -- When the phases of a run are over.
-use Rattle.std.specs.Prelude.{◌≡◌, ℕ, ◌+◌, ◌<◌, ◌≤◌, ◌==◌, Bool, false, List, [], ◌∷◌, ⊤}
+use Rattle.std.specs.Prelude.{◌≡◌, ◌⊎◌, ℕ, ◌+◌, ◌<◌, ◌≤◌, Bool, true, false, List, [], ◌∷◌, length, ⊤, None}
 use Rattle.std.specs.List.{AllByRecursion, list_any}
 use Rattle.qp_model.specs.declared.words.Word.TheVariants as word
 use Rattle.qp_calls.specs.LaneView.{LaneView, Counts}
+use Rattle.qp_calls.specs.Clauses.{Stopped}
 
 -- each knows of at most as many operations of each queue as v
 abbrev pub AllBelow : {T : Type 0} → (T → LaneView) → LaneView → List T → Type 0
@@ -20,24 +21,31 @@ pub record IsEmpty (v : LaneView) (p : ℕ) : Type 0 where
 abbrev pub AreEmpty : List ℕ → LaneView → Type 0
 AreEmpty ps v = AllByRecursion (IsEmpty v) ps
 
--- the first lane knows of as many operations as each other, saw all queues empty, and no lane has a stimulus left
+-- the first lane knows of as many operations as each other, saw all queues empty and the stop word at 0, and no lane has a stimulus left
 pub record IsQuiet {T : Type 0} (view : T → LaneView) (remains : T → Bool) (objects : List ℕ) (first : T) (others : List T) : Type 0 where
   pub below : AllBelow view (view first) others
   pub empty : AreEmpty objects (view first)
   pub none : list_any remains others ≡ false
+  pub unstopped : Stopped (view first) (view first) None
 
 abbrev pub HasEnded : {T : Type 0} → (T → LaneView) → (T → Bool) → List ℕ → List T → Type 0
 HasEnded view remains objects [] = ⊥
 HasEnded view remains objects (first ∷ others) = IsQuiet view remains objects first others
 
--- the lane has just found a code in the stop word, and whether it is that of want of memory
-pub record HasFound (memory : Bool) (v : LaneView) : Type 0 where
+-- 7 tells of want of memory
+abbrev pub IsCodeOf : Bool → ℕ → Type 0
+IsCodeOf true code = code ≡ 7
+IsCodeOf false code = (0 < code) × (code ≤ 6)
+
+-- The lane has just found a code in the stop word, in this call: it found more codes than before, or has handed in one since.
+pub record HasFound (memory : Bool) (v w : LaneView) : Type 0 where
   pub code : ℕ
   pub others : List ℕ
-  pub answered : v.answered ≡ code ∷ others
-  pub some : 0 < code
-  pub seven : (code == 7) ≡ memory
+  pub answered : w.answered ≡ code ∷ others
+  pub which : IsCodeOf memory code
+  pub handed : length v.stops ≤ length w.stops
+  pub now : (length v.answered ≤ length others) ⊎ (length v.stops < length w.stops)
 
-abbrev pub FirstFound : {T : Type 0} → (T → LaneView) → Bool → List T → Type 0
-FirstFound view memory [] = ⊥
-FirstFound view memory (first ∷ others) = HasFound memory (view first)
+abbrev pub FirstFound : {T : Type 0} → (T → LaneView) → Bool → List T → List T → Type 0
+FirstFound view memory (x ∷ xs) (y ∷ ys) = HasFound memory (view x) (view y)
+FirstFound view memory _ _ = ⊥

@@ -6,7 +6,9 @@ ghost use Rattle.qp_calls.specs.LaneView.{LaneView};
 ghost use Rattle.qp_calls.specs.Clauses.{Counted, Stopped};
 ghost use Rattle.qp_calls_meet.specs.Meeting.{IsTogether, Met};
 ghost use Rattle.qp_port_phases.specs.Lanes.{Kept};
+ghost use Rattle.qp_port_phases.specs.Passing.{PassesTo};
 ghost use Rattle.qp_port_phases.specs.Rows.{CountsOn, Numbers, PassCounts};
+ghost use Rattle.qp_port_phases.specs.Stopping.{Hears};
 
 use qp_calls::Counts;
 use qp_port_workers::Worker;
@@ -61,12 +63,15 @@ pub trait Lane: Worker {
     fn left(&self) -> bool
         ensures { result ≡ remains self.now };
 
-    /// Passes the `settle`, or tries to.
+    /// Passes the `settle`, or tries to. `Yes` exactly where it is done, `Found` exactly where a look of this call showed that queue at these
+    /// counts.
     fn pass_settle(&mut self) -> Passed
         requires ready { Self.ready self.old }
         requires waits { waits self.old ≡ true }
         ensures ready { Self.ready self.new }
         ensures same { same self.old self.new }
+        ensures passes { PassesTo (view self.old) (view self.new) result }
+        ensures hands { (view self.new).hands ≡ (view self.old).hands }
         ensures numbers { PassCounts (numbers self.old) (numbers self.new) result };
 
     /// Looks at a queue, and adds nothing.
@@ -88,6 +93,9 @@ pub trait Lane: Worker {
 
     /// It stays in its table.
     ghost same_table: { (a b : Self) → same a b → IsTogether (view a) (view b) };
+
+    /// It forgets no code that it heard of.
+    ghost same_hears: { (a b : Self) → same a b → Hears (view a) (view b) };
 
     /// A turn leaves a lane that may take another, and the same.
     ghost went: { (a b : Self) → Self.Worker.turned a b → Self.Worker.ready b × same a b };

@@ -9,6 +9,7 @@ ghost use Rattle.qp_model.specs.declared.words.Word.TheVariants as word;
 ghost use Rattle.qp_calls_meet.specs.Meeting.{IsTogether};
 ghost use Rattle.qp_port_phases.specs.Lanes.{AreObjects, AreOneTable, AreTogether, KeepEach, Kept, SameEach};
 ghost use Rattle.qp_port_phases.specs.Quiet.{AllBelow, AreEmpty, FirstFound, HasEnded, HasFound, IsEmpty, IsQuiet};
+ghost use Rattle.qp_port_phases.specs.Stopping.{SameCodes};
 ghost use Rattle.qp_port_phases.specs.Rows.{CountsBy, HasCause, HasFewRows, SeesEntry, TriesCount, one_where};
 ghost use Rattle.qp_port_workers.specs.Turns.{AreReady};
 
@@ -20,11 +21,11 @@ use std::thread::Threads;
 /// How the phases ended.
 #[derive(Clone, Copy)]
 pub enum Ended {
-    /// Each queue was seen empty, and no stimulus is left.
+    /// Each queue was seen empty, no stimulus is left, and the stop word was 0.
     Idle,
-    /// The stop word was found set.
+    /// A code from 1 to 6 was found in the stop word.
     Stopped,
-    /// It was found set for want of memory.
+    /// 7 was found there: want of memory.
     Memory,
 }
 
@@ -45,6 +46,7 @@ fn meet_all<T: Lane>(first: &mut T, others: &mut [T])
     requires together { AreTogether T.view (T.view first.old) others.old }
     ensures first { Kept T.ready T.same T.waits T.remains T.numbers first.old first.new }
     ensures rises { (w : ℕ) → (T.view first.old).mark (word.Queue w) ≤ (T.view first.new).mark (word.Queue w) }
+    ensures codes { SameCodes (T.view first.old) (T.view first.new) }
     ensures others { KeepEach T.ready T.same T.waits T.remains T.numbers others.old others.new }
     ensures met { AllBelow T.view (T.view first.new) others.new }
 {
@@ -61,6 +63,7 @@ fn is_empty<T: Lane>(lane: &mut T, p: u8) -> bool
     requires object { IsTrue (is_object (T.view lane.old).sys p) }
     ensures kept { Kept T.ready T.same T.waits T.remains T.numbers lane.old lane.new }
     ensures rises { (w : ℕ) → (T.view lane.old).mark (word.Queue w) ≤ (T.view lane.new).mark (word.Queue w) }
+    ensures codes { SameCodes (T.view lane.old) (T.view lane.new) }
     ensures empty { result ≡ true → IsEmpty (T.view lane.new) p }
     ensures entry { result ≡ false → SeesEntry (T.view lane.new) p }
     ensures others { result ≡ true → (q : ℕ) → IsEmpty (T.view lane.old) q → IsEmpty (T.view lane.new) q }
@@ -75,6 +78,7 @@ fn are_empty<T: Lane>(lane: &mut T, objects: &[u8]) -> bool
     requires objects { AreObjects (T.view lane.old) objects.now }
     ensures kept { Kept T.ready T.same T.waits T.remains T.numbers lane.old lane.new }
     ensures rises { (w : ℕ) → (T.view lane.old).mark (word.Queue w) ≤ (T.view lane.new).mark (word.Queue w) }
+    ensures codes { SameCodes (T.view lane.old) (T.view lane.new) }
     ensures empty { result ≡ true → AreEmpty objects.now (T.view lane.new) }
     ensures entry { result ≡ false → (p : ℕ) × IsTrue (is_object (T.view lane.new).sys p) × SeesEntry (T.view lane.new) p }
     ensures others { result ≡ true → (q : ℕ) → IsEmpty (T.view lane.old) q → IsEmpty (T.view lane.new) q }
@@ -154,8 +158,8 @@ fn look<T: Lane>(first: &mut T, others: &mut [T], objects: &[u8]) -> Option<Ende
     ensures first { Kept T.ready T.same T.waits T.remains T.numbers first.old first.new }
     ensures others { KeepEach T.ready T.same T.waits T.remains T.numbers others.old others.new }
     ensures idle { result ≡ Some ended.Idle → IsQuiet T.view T.remains objects.now first.new others.new }
-    ensures stopped { result ≡ Some ended.Stopped → HasFound false (T.view first.new) }
-    ensures memory { result ≡ Some ended.Memory → HasFound true (T.view first.new) }
+    ensures stopped { result ≡ Some ended.Stopped → HasFound false (T.view first.old) (T.view first.new) }
+    ensures memory { result ≡ Some ended.Memory → HasFound true (T.view first.old) (T.view first.new) }
 {
     meet_all(first, others);
     match first.stopped() {
@@ -184,8 +188,8 @@ pub fn run_phases<R: Threads + Wait + Sync, T: Lane>(
     ensures same { SameEach T.same workers.old workers.new }
     ensures rows { HasFewRows T.numbers 1 workers.new }
     ensures idle { result ≡ ended.Idle → HasEnded T.view T.remains objects.now workers.new }
-    ensures stopped { result ≡ ended.Stopped → FirstFound T.view false workers.new }
-    ensures memory { result ≡ ended.Memory → FirstFound T.view true workers.new }
+    ensures stopped { result ≡ ended.Stopped → FirstFound T.view false workers.old workers.new }
+    ensures memory { result ≡ ended.Memory → FirstFound T.view true workers.old workers.new }
 {
     let mut begun = false;
     for _ in rt.forever() {
@@ -232,8 +236,8 @@ fn between<T: Lane>(objects: &[u8], workers: &mut [T], begun: bool) -> Next
     ensures few { HasFewRows T.numbers (one_where begun) workers.new }
     ensures cause { result ≡ next.Phase → HasCause T.numbers T.view objects.now workers.new }
     ensures idle { result ≡ next.Over ended.Idle → HasEnded T.view T.remains objects.now workers.new }
-    ensures stopped { result ≡ next.Over ended.Stopped → FirstFound T.view false workers.new }
-    ensures memory { result ≡ next.Over ended.Memory → FirstFound T.view true workers.new }
+    ensures stopped { result ≡ next.Over ended.Stopped → FirstFound T.view false workers.old workers.new }
+    ensures memory { result ≡ next.Over ended.Memory → FirstFound T.view true workers.old workers.new }
 {
     let Some((first, others)) = workers.split_first_mut() else {
         return Next::Again;

@@ -21,6 +21,8 @@ use Rattle.qp_kernel_turns.specs.TurnRows.{idle_rows}
 use Rattle.qp_kernel_turns.proofs.BaseRows.{idle-is}
 use Rattle.qp_port_rests.specs.Laws.{HasTurned, IsAtBase}
 use Rattle.qp_port_rests.proofs.Turned.{turned_kernels_end}
+use Rattle.qp_port_phases.specs.Stopping.{HasStarved, Hears}
+use Rattle.qp_port_cursor.proofs.Hearing.{starts-hear, why-starved}
 use Rattle.qp_port_cursor.proofs.Standing.{may-stop}
 use Rattle.qp_port_qk.specs.declared.job.Job.{Job}
 use Rattle.qp_port_qk.specs.declared.job.Job.TheVariants as job
@@ -47,8 +49,8 @@ turns-end acts sys budget t x v h = record { sound = h.sound; ends = by t h.stan
   where
     by : (t : Turn) → JobStands sys budget t x v → JobEnds sys budget t x v
     by turn.Idle k = rests-end sys budget h.sound x v k
-    by turn.Stopped k = stops-end sys budget x v k
-    by turn.Memory k = tt
+    by turn.Stopped k = (stops-end sys budget x v k.0, k.1)
+    by turn.Memory k = k
 
 -- one that may take turns, or has ended
 pub either-end : (acts : Bool) (sys : System) (budget : ℕ) (t : Turn) (x : Job) (v : LaneView) → MayTurn acts sys budget t x v ⊎ MayEnd sys budget t x v → MayEnd sys budget t x v
@@ -58,7 +60,7 @@ either-end acts sys budget t x v (inr h) = h
 pub starts-end : (sys : System) (budget : ℕ) (sound : IsSound sys) (t : Turn) (x : Job) (v : LaneView) → JobStarts sys budget t x v → JobEnds sys budget t x v
 starts-end sys budget sound turn.Idle x v h = rests-end sys budget sound x v h
 starts-end sys budget sound turn.Stopped x v h = h
-starts-end sys budget sound turn.Memory x v h = tt
+starts-end sys budget sound turn.Memory x v h = h
 
 pub starts-stand : (sys : System) (budget : ℕ) (t : Turn) (x : Job) (v : LaneView) → is_idle t ≡ true → JobStarts sys budget t x v → JobStands sys budget t x v
 starts-stand sys budget turn.Idle x v idle h = h
@@ -113,6 +115,12 @@ starts-same v w step.Point h = absurd h
 starts-same v w step.Done h = keeps-same v w h.keeps
 starts-same v w step.Stopped h = keeps-same v w h.keeps
 starts-same v w step.Memory h = keeps-same v w h.keeps
+
+pub started-hears : (v w : LaneView) (s : Step) → LaneStarts v w s → Hears v w
+started-hears v w s h = starts-hear v w s h
+
+pub started-starved : (v w : LaneView) → LaneStarts v w step.Memory → HasStarved w
+started-starved v w h = why-starved v w h.handed
 
 pub stopped-ends : (sys : System) (budget : ℕ) (v w : LaneView) → StartStopped sys v w → KernelEnds sys budget w
 stopped-ends sys budget v w h end early = (h.turn (under_qk budget)).zero end early

@@ -1,6 +1,5 @@
 mod Seeing
 mod Turning
-mod Passing
 mod Ending
 mod Sealing
 mod Beginning

@@ -81,7 +81,7 @@ ends-so sys budget t x v long h = by t long h.ends
   where
     by : (t : Turn) → is_short t ≡ false → JobEnds sys budget t x v → JobMayEnd sys budget x v
     by turn.Idle long h = h
-    by turn.Stopped long h = h
+    by turn.Stopped long h = h.0
     by turn.Memory long h = absurd (cc)
 
 pub turns-rest : (acts : Bool) (sys : System) (budget : ℕ) (t : Turn) (x : Job) (v : LaneView) → is_idle t ≡ true → MayTurn acts sys budget t x v → JobRests sys budget x v

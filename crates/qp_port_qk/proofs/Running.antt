@@ -1,6 +1,7 @@
 -- From workers before their start to the lanes that their run leaves.
-use Rattle.std.proofs.Common.{◌≡◌, ℕ, zero, suc, ◌+◌, ◌≤◌, ◌==◌, Bool, true, false, List, [], ◌∷◌, ◌++◌, map, length, take, refl, sym, ◌∙◌, ap, subst, inl, arith, Option, Some, None, Result, Ok, Err}
-use Rattle.std.specs.Prelude.{IsTrue, IfOk, OnOk}
+use Rattle.std.proofs.Common.{◌≡◌, ℕ, zero, suc, ◌+◌, ◌≤◌, ◌==◌, Bool, true, false, ◌&&◌, List, [], ◌∷◌, ◌++◌, map, length, take, refl, sym, ◌∙◌, ap, subst, inl, inr, arith, Option, Some, None, Result, Ok, Err}
+use Rattle.std.specs.Prelude.{◌⊎◌, IsTrue, IfOk, OnOk}
+use Rattle.std.proofs.lemmas.Bool.{or_parts}
 use Rattle.std.specs.List.{AllByRecursion, find, list_all, list_any}
 use Rattle.std.specs.Option.{is_some}
 use Rattle.qp_model.specs.declared.stimulus.Stim.{Stim}
@@ -33,7 +34,8 @@ use Rattle.qp_port_workers.specs.Turns.{AreReady}
 use Rattle.qp_port_phases.specs.declared.phases.Ended.{Ended}
 use Rattle.qp_port_phases.specs.declared.phases.Ended.TheVariants as ended
 use Rattle.qp_port_phases.specs.Lanes.{AreObjects, AreOneTable, SameEach}
-use Rattle.qp_port_phases.specs.Quiet.{AllBelow, AreEmpty, HasEnded, IsEmpty, IsQuiet}
+use Rattle.qp_port_phases.specs.Quiet.{AllBelow, AreEmpty, FirstFound, HasEnded, IsEmpty, IsQuiet}
+use Rattle.qp_port_phases.specs.Stopping.{AnyStopped, HasStopped}
 use Rattle.qp_port_phases.specs.Rows.{HasFewRows}
 use Rattle.qp_port_law.specs.SourcesLeft.{SourceLeaves}
 use Rattle.qp_port_quiet.specs.Laws.{IsLastLook}
@@ -44,7 +46,7 @@ use Rattle.qp_port_sealed.specs.QkLanes.{QkRests}
 use Rattle.qp_port_cursor.proofs.Standing.{done-end}
 use Rattle.qp_port_qk.specs.declared.job.Job.{Job}
 use Rattle.qp_port_qk.specs.declared.job.Job.TheVariants as job
-use Rattle.qp_port_qk.specs.Ends.{HasRun, MayEndQuietly, MayEndSo}
+use Rattle.qp_port_qk.specs.Ends.{HasRun, MayEndQuietly, MayEndSo, is_over}
 use Rattle.qp_port_qk.specs.Jobs.{JobMayEnd, JobRests, JobStands, JobStops, is_idle, is_left_in, is_short}
 use Rattle.qp_port_qk.specs.KernelRests.{KernelEnds, KernelRests}
 use Rattle.qp_port_qk.specs.Numbers.{job_rows, numbers_of}
@@ -94,7 +96,7 @@ first-quiet sys budget sound (job.Source x) v sources is h looks none = absurd i
 first-told : (acts : Bool) (sys : System) (budget : ℕ) (t : Turn) (x : Job) (v : LaneView) (rests : List Rest) → IsSound sys → is_short t ≡ false → JobStands sys budget t x v → AreShownBy x rests → AreRests sys (λ o. own_told o v.told) rests
 first-told acts sys budget t (job.Source x) v rests sound long h shown = subst (AreRests sys (λ o. own_told o v.told)) (sym shown) (no-rests sys (λ o. own_told o v.told))
 first-told acts sys budget turn.Idle (job.Kernel xs k) v rests sound long h shown = shown-rests sys sound (stand_of k xs v) (based-rest sys budget sound xs k v h) rests shown
-first-told acts sys budget turn.Stopped (job.Kernel xs k) v rests sound long h shown = shown-rests sys sound (stand_of k xs v) h.others rests shown
+first-told acts sys budget turn.Stopped (job.Kernel xs k) v rests sound long h shown = shown-rests sys sound (stand_of k xs v) h.0.others rests shown
 first-told acts sys budget turn.Memory (job.Kernel xs k) v rests sound long h shown = absurd (cc)
 
 -- The last look.
@@ -227,6 +229,40 @@ module _ (acts : Bool) (alone : acts ≡ false) (sys : System) (stimuli : List (
             ))
             mine (told-by how refl w ws at long-here.0 here.0.0))
 
+-- Why something is left to be done.
+
+halted-one : (acts : Bool) (sys : System) (budget : ℕ) (t : Turn) (x : Job) (v : LaneView) → is_idle t ≡ false → is_short t ≡ false → MayTurn acts sys budget t x v ⊎ MayEnd sys budget t x v → HasStopped v
+halted-one acts sys budget turn.Idle x v none long h = absurd (cc)
+halted-one acts sys budget turn.Stopped x v none long (inl h) = h.stands.1
+halted-one acts sys budget turn.Stopped x v none long (inr h) = h.ends.1
+halted-one acts sys budget turn.Memory x v none long h = absurd (cc)
+
+module _ {T : Type 0} (acts : Bool) (s : T → System) (b : T → ℕ) (t : T → Turn) (work : T → Job) (view : T → LaneView) where
+  any-halted : (ws : List T) → list_all (λ w. is_idle (t w)) ws ≡ false → list_any (λ w. is_short (t w)) ws ≡ false
+      → AreReady (λ w. MayTurn acts (s w) (b w) (t w) (work w) (view w) ⊎ MayEnd (s w) (b w) (t w) (work w) (view w)) ws → AnyStopped (map view ws)
+  any-halted [] none long h = absurd (cc)
+  any-halted (w ∷ ws) none long h =
+      let parts = or_parts (is_short (t w)) (list_any (λ u. is_short (t u)) ws) long in
+      by (is_idle (t w)) refl none (λ later. any-halted ws later parts.1 h.1) (λ here. halted-one acts (s w) (b w) (t w) (work w) (view w) here parts.0 h.0)
+    where
+      by : (i : Bool) → is_idle (t w) ≡ i → (i && list_all (λ u. is_idle (t u)) ws) ≡ false → (list_all (λ u. is_idle (t u)) ws ≡ false → AnyStopped (map view ws)) → (is_idle (t w) ≡ false → HasStopped (view w)) → AnyStopped (map view (w ∷ ws))
+      by true e none more here = inr (more none)
+      by false e none more here = inl (here e)
+
+  first-halted : (memory : Bool) (xs ys : List T) → FirstFound view memory xs ys → AnyStopped (map view ys)
+  first-halted memory (x ∷ xs) (y ∷ ys) h = let long = ap length h.answered in inl (inr (omega (arith, long)))
+  first-halted memory [] ys h = absurd h
+  first-halted memory (x ∷ xs) [] h = absurd h
+
+  pub cause : (xs ys : List T) (how : Option Ended) → (how ≡ None → list_all (λ w. is_idle (t w)) ys ≡ false) → (how ≡ Some ended.Stopped → FirstFound view false xs ys) → (how ≡ Some ended.Memory → FirstFound view true xs ys)
+      → AreReady (λ w. MayTurn acts (s w) (b w) (t w) (work w) (view w) ⊎ MayEnd (s w) (b w) (t w) (work w) (view w)) ys → list_any (λ w. is_short (t w)) ys ≡ false
+      → (is_over how ≡ false) ⊎ (list_all (λ w. is_idle (t w)) ys ≡ false) → AnyStopped (map view ys)
+  cause xs ys how none stopped memory each long (inr left) = any-halted ys left long each
+  cause xs ys None none stopped memory each long (inl left) = any-halted ys (none refl) long each
+  cause xs ys (Some ended.Idle) none stopped memory each long (inl left) = absurd (cc)
+  cause xs ys (Some ended.Stopped) none stopped memory each long (inl left) = first-halted false xs ys (stopped refl)
+  cause xs ys (Some ended.Memory) none stopped memory each long (inl left) = first-halted true xs ys (memory refl)
+
 -- The lanes themselves, as they are given and left.
 
 pub ok-map : {A E : Type 0} (P Q : A → Type 0) → ((a : A) → P a → Q a) → (r : Result A E) → IfOk r P → IfOk r Q
@@ -244,6 +280,9 @@ seen-both lane see (w ∷ ws) = ap (λ vs. see (lane w) ∷ vs) (seen-both lane 
 pub lanes-left : {T L : Type 0} (lane : T → L) (see : L → LaneView) (ls ms : List L) (xs ys : List T) → ls ≡ map lane xs → ms ≡ map lane ys → AreSameLanes (map (λ w. see (lane w)) xs) (map (λ w. see (lane w)) ys) → AreSameLanes (map see ls) (map see ms)
 lanes-left lane see ls ms xs ys given left same =
     subst (λ vs. AreSameLanes vs (map see ms)) (sym (ap (map see) given ∙ seen-both lane see xs)) (subst (AreSameLanes (map (λ w. see (lane w)) xs)) (sym (ap (map see) left ∙ seen-both lane see ys)) same)
+
+pub cause-left : {T L : Type 0} (lane : T → L) (see : L → LaneView) (ms : List L) (ys : List T) → ms ≡ map lane ys → AnyStopped (map (λ w. see (lane w)) ys) → AnyStopped (map see ms)
+cause-left lane see ms ys left some = subst AnyStopped (sym (ap (map see) left ∙ seen-both lane see ys)) some
 
 pub run-left : {T L : Type 0} (lane : T → L) (see : L → LaneView) (sys : System) (stimuli : List (List Stim)) (budget : ℕ) (done : Bool) (rests : List Rest) (ms : List L) (ys : List T) → ms ≡ map lane ys
     → HasRun sys stimuli budget done rests (map (λ w. see (lane w)) ys) → HasRun sys stimuli budget done rests (map see ms)

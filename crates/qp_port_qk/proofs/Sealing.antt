@@ -1,22 +1,17 @@
 -- A run that was sealed left a lawful journal.
-use Rattle.std.proofs.Common.{◌≡◌, ℕ, ◌+◌, ◌≤◌, ◌==◌, Bool, true, false, ◌||◌, cond, List, [], ◌∷◌, refl, sym, ◌∙◌, ap, subst, inl, inr, arith}
+use Rattle.std.proofs.Common.{◌≡◌, ◌+◌, ◌≤◌, ◌==◌, Bool, true, false, cond, List, ◌∷◌, refl, sym, ◌∙◌, ap, subst, inl, inr, arith}
 use Rattle.std.specs.Prelude.{◌⊎◌}
 use Rattle.std.specs.List.{list_any}
 use Rattle.std.proofs.lemmas.Bool.Decides.{nat_tests}
-use Rattle.qp_model.specs.declared.stimulus.Stim.{Stim}
-use Rattle.qp_model.specs.declared.systems.System.{System}
 use Rattle.qp_model.specs.declared.journals.Journal.{Journal}
 use Rattle.qp_model.specs.Record.{Item}
 use Rattle.qp_model.specs.Ends.{is_assert, is_end, may_cut, quiet}
 use Rattle.qp_model.specs.End.{end_of}
 use Rattle.qp_model.specs.History.{all_items}
 use Rattle.qp_model.specs.Kernels.{qk}
-use Rattle.qp_model.specs.Sound.{IsSound}
 use Rattle.qp_model_order.specs.RunOrder.{has_stim}
-use Rattle.qp_calls.specs.LaneView.{LaneView}
 use Rattle.qp_kernel.specs.Happenings.{lanes_of}
 use Rattle.qp_kernel.specs.Turning.{under_qk}
-use Rattle.qp_kernel_end.specs.declared.rest.Rest.{Rest}
 use Rattle.qp_kernel_end.specs.Rests.{AreRestsIn}
 use Rattle.qp_kernel_turns.specs.Turning.{EndsSo}
 use Rattle.qp_kernel_turns.specs.TurnRows.{idle_rows}
@@ -25,7 +20,7 @@ use Rattle.qp_port_sealed.specs.Lanes.{SourcesAre, settles_in}
 use Rattle.qp_port_sealed.specs.QkLanes.{AreQkLanes}
 use Rattle.qp_port_sealed.proofs.QkLemmas.{sealed-qk}
 use Rattle.qp_port_sealed.proofs.RestLemmas.{qk-rests}
-use Rattle.qp_port_qk.specs.Ends.{HasRun, IsThreadRun, MayEndSo}
+use Rattle.qp_port_sealed.specs.ThreadRun.{IsThreadRun}
 use Rattle.qp_port_qk.specs.Laws.{SealedQkRunsAreLawful}
 
 -- a run ended quietly, or stopped early

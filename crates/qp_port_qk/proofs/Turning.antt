@@ -1,5 +1,5 @@
 -- What a turn leaves of a lane, and of what is counted.
-use Rattle.std.proofs.Common.{◌≡◌, ℕ, ◌+◌, ◌-◌, ◌<◌, ◌≤◌, ◌==◌, Bool, true, false, cond, List, [], ◌∷◌, ◌++◌, map, length, reverse, get_or, refl, sym, ◌∙◌, ap, subst, arith}
+use Rattle.std.proofs.Common.{◌≡◌, ℕ, ◌+◌, ◌-◌, ◌<◌, ◌≤◌, ◌==◌, Bool, true, false, cond, List, [], ◌∷◌, ◌++◌, map, length, reverse, get_or, refl, sym, ◌∙◌, ap, subst, inr, arith}
 use Rattle.std.specs.Prelude.{IsTrue}
 use Rattle.std.specs.List.{count_by}
 use Rattle.std.proofs.lemmas.Bool.Decides.{nat_tests}
@@ -34,19 +34,24 @@ use Rattle.qp_kernel_turns.specs.Turning.{Stood, TurnsTo, stand_of}
 use Rattle.qp_kernel_turns.specs.TurnRows.{TurnsRows, bare_row, idle_rows}
 use Rattle.qp_kernel_turns.proofs.Places.{follow-then}
 use Rattle.qp_kernel_turns.proofs.RoundRows.{object-there}
-use Rattle.qp_port_phases.specs.Rows.{CountsBy, CountsOn, Numbers, SeesEntry}
+use Rattle.qp_port_phases.specs.Rows.{CountsBy, CountsOn, Numbers, PassCounts, SeesEntry}
 use Rattle.qp_port_law.specs.SourcesLeft.{SourceLeaves}
 use Rattle.qp_port_rests.specs.Laws.{IsAtBase}
 use Rattle.qp_port_cursor.specs.declared.cursor.Cursor.{Cursor}
-use Rattle.qp_port_cursor.specs.declared.passing.Passed.{Passed}
-use Rattle.qp_port_cursor.specs.declared.passing.Passed.TheVariants as passed
-use Rattle.qp_port_cursor.specs.At.{mine}
+use Rattle.qp_port_phases.specs.declared.lanes.Passed.{Passed}
+use Rattle.qp_port_phases.specs.declared.lanes.Passed.TheVariants as passed
+use Rattle.qp_port_phases.specs.Passing.{PassesTo}
+use Rattle.qp_port_phases.specs.Stopping.{Hears}
+use Rattle.qp_port_cursor.proofs.Hearing.{lane-hears, passes-hands, passes-hear, passes-to, turns-hear, why-starved, why-stopped}
+use Rattle.qp_port_cursor.specs.At.{IsCursorAt, mine}
 use Rattle.qp_port_cursor.specs.Passing.{Passes, settles_of}
 use Rattle.qp_port_cursor.specs.Turning.{IsSameSource, SourceTurns}
+use Rattle.qp_port_qk.specs.declared.job.Job.{Job}
 use Rattle.qp_port_qk.specs.declared.job.Job.TheVariants as job
-use Rattle.qp_port_qk.specs.Jobs.{JobStands, KernelStands, turn_by}
+use Rattle.qp_port_qk.specs.Jobs.{JobStands, JobTurns, KernelStands, TurnsFrom, is_idle, is_short, turn_by}
 use Rattle.qp_port_qk.specs.KernelRests.{KernelRests}
-use Rattle.qp_port_qk.specs.Numbers.{JobPassCounts, numbers_of}
+use Rattle.qp_port_qk.specs.Numbers.{numbers_of}
+use Rattle.qp_port_qk.specs.Workers.{MayTurn}
 
 -- At the base a look may stand.
 
@@ -86,8 +91,8 @@ order-alone acts sys budget xs k v alone h = record { order = λ acting. let wro
 -- What a turn of the kernel leaves.
 
 pub kernel-turned : (acts : Bool) (sys : System) (budget : ℕ) (xs ys : Objects) (k l : Kernel) (v w : LaneView) (t : Turn) → KernelRests sys budget xs k v
-    → TurnsTo sys (under_qk budget) (stand_of k xs v) (stand_of l ys w) t → TurnsInOrder acts sys (stand_of k xs v) (stand_of l ys w) t → StopsAtRest sys (stand_of l ys w) t → TurnsCounted k l xs ys t → KernelStands sys budget t ys l w
-kernel-turned acts sys budget xs ys k l v w turn.Idle h goes order rests counted = record {
+    → TurnsTo sys (under_qk budget) (stand_of k xs v) (stand_of l ys w) t → TurnsInOrder acts sys (stand_of k xs v) (stand_of l ys w) t → StopsAtRest sys (stand_of l ys w) t → TurnsCounted k l xs ys t → LaneTurns acts v w t → KernelStands sys budget t ys l w
+kernel-turned acts sys budget xs ys k l v w turn.Idle h goes order rests counted lane = record {
   first = h.first;
   start = h.start;
   made = h.made;
@@ -98,8 +103,8 @@ kernel-turned acts sys budget xs ys k l v w turn.Idle h goes order rests counted
   counted = counted.few;
   plan = goes.onward.plan ∙ h.plan;
 }
-kernel-turned acts sys budget xs ys k l v w turn.Stopped h goes order rests counted = record { ends = goes.zero; others = rests }
-kernel-turned acts sys budget xs ys k l v w turn.Memory h goes order rests counted = tt
+kernel-turned acts sys budget xs ys k l v w turn.Stopped h goes order rests counted lane = (record { ends = goes.zero; others = rests }, why-stopped v w lane.handed)
+kernel-turned acts sys budget xs ys k l v w turn.Memory h goes order rests counted lane = why-starved v w lane.handed
 
 keeps-same : (acts : Bool) (v w : LaneView) → acts ≡ false → KeepsLane acts v w → SameLane v w
 keeps-same acts v w alone k = record { sys = k.same.sys; lane = k.same.lane; world = k.same.world; plan = k.same.plan; happened = k.still alone; serves = k.same.serves }
@@ -195,8 +200,11 @@ source-same x y same = mine-same x y same
 
 pub source-turned : (sys : System) (budget : ℕ) (x y : Cursor) (v w : LaneView) (t : Turn) → SourceTurns sys x y v w t → IsSameSource x y → JobStands sys budget t (job.Source y) w
 source-turned sys budget x y v w turn.Idle h same = h.goes.at
-source-turned sys budget x y v w turn.Stopped h same = λ kernel end may early. subst (λ ss. SourceLeaves sys kernel end ss w.told) (sym (mine-same x y same)) (h.leaves kernel end may early)
-source-turned sys budget x y v w turn.Memory h same = tt
+source-turned sys budget x y v w turn.Stopped h same = (
+  (λ kernel end may early. subst (λ ss. SourceLeaves sys kernel end ss w.told) (sym (mine-same x y same)) (h.leaves kernel end may early)),
+  why-stopped v w h.why,
+)
+source-turned sys budget x y v w turn.Memory h same = why-starved v w h.stops
 
 pub source-lane : (sys : System) (x y : Cursor) (v w : LaneView) (t : Turn) → SourceTurns sys x y v w t → SameLane v w
 source-lane sys x y v w turn.Idle h = h.goes.keeps
@@ -218,20 +226,63 @@ source-counts sys budget x y v w turn.Memory h = record {
 pub source-passed : (sys : System) (budget : ℕ) (x y : Cursor) (v w : LaneView) (p : Passed) → Passes sys x y v w p → IsSameSource x y → JobStands sys budget (turn_by p) (job.Source y) w
 source-passed sys budget x y v w passed.Yes h same = h.stays.at
 source-passed sys budget x y v w (passed.Found p now) h same = h.stays.at
-source-passed sys budget x y v w passed.Stopped h same = λ kernel end may early. subst (λ ss. SourceLeaves sys kernel end ss w.told) (sym (mine-same x y same)) (h.leaves kernel end may early)
-source-passed sys budget x y v w passed.Memory h same = tt
+source-passed sys budget x y v w passed.Stopped h same = (
+  (λ kernel end may early. subst (λ ss. SourceLeaves sys kernel end ss w.told) (sym (mine-same x y same)) (h.stops.leaves kernel end may early)),
+  why-stopped v w h.stops.why,
+)
+source-passed sys budget x y v w passed.Memory h same = why-starved v w h.starves.stops
 
 pub passed-lane : (sys : System) (x y : Cursor) (v w : LaneView) (p : Passed) → Passes sys x y v w p → SameLane v w
 passed-lane sys x y v w passed.Yes h = h.stays.along.keeps
 passed-lane sys x y v w (passed.Found p now) h = h.stays.along.keeps
-passed-lane sys x y v w passed.Stopped h = h.keeps
-passed-lane sys x y v w passed.Memory h = h.keeps
+passed-lane sys x y v w passed.Stopped h = h.stops.keeps
+passed-lane sys x y v w passed.Memory h = h.starves.keeps
 
 pub passed-counts : (sys : System) (budget : ℕ) (x y : Cursor) (v w : LaneView) (p : Passed) → Passes sys x y v w p
-    → JobPassCounts (numbers_of sys budget turn.Idle (job.Source x) v) (numbers_of sys budget (turn_by p) (job.Source y) w) p
+    → PassCounts (numbers_of sys budget turn.Idle (job.Source x) v) (numbers_of sys budget (turn_by p) (job.Source y) w) p
 passed-counts sys budget x y v w passed.Yes h = record { lost = λ none. refl; settles = λ none. h.settled; rows = λ none. omega arith }
 passed-counts sys budget x y v w (passed.Found p now) h =
     record { lost = λ none. refl; settles = λ none. let more = settles-grow v.told h.stays.along.ts w.told h.stays.along.told in omega (arith, more); rows = λ none. omega arith }
 passed-counts sys budget x y v w passed.Stopped h =
-    record { lost = λ none. refl; settles = λ none. let more = settles-grow v.told h.ts w.told h.told in omega (arith, more); rows = λ none. omega arith }
+    record { lost = λ none. refl; settles = λ none. let more = settles-grow v.told h.stops.ts w.told h.stops.told in omega (arith, more); rows = λ none. omega arith }
 passed-counts sys budget x y v w passed.Memory h = record { lost = λ none. absurd (cc); settles = λ none. absurd (cc); rows = λ none. absurd (cc) }
+
+-- What a turn leaves, whatever runs in the lane.
+
+pub job-hears : (acts : Bool) (sys : System) (budget : ℕ) (x y : Job) (v w : LaneView) (t : Turn) → JobTurns acts sys budget x y v w t → Hears v w
+job-hears acts sys budget (job.Kernel xs k) (job.Kernel ys l) v w t h = lane-hears acts v w t h.lane
+job-hears acts sys budget (job.Source x) (job.Source y) v w t h = turns-hear sys x y v w t h
+job-hears acts sys budget (job.Kernel xs k) (job.Source y) v w t h = absurd h
+job-hears acts sys budget (job.Source x) (job.Kernel ys l) v w t h = absurd h
+
+pub turns-from : (acts : Bool) (sys : System) (budget : ℕ) (s : Turn) (x : Job) (v : LaneView) (t : Turn) (y : Job) (w : LaneView) → is_idle s ≡ true → JobTurns acts sys budget x y v w t → TurnsFrom acts sys budget s x v t y w
+turns-from acts sys budget turn.Idle x v t y w idle h = h
+turns-from acts sys budget turn.Stopped x v t y w idle h = absurd (cc)
+turns-from acts sys budget turn.Memory x v t y w idle h = absurd (cc)
+
+pub turns-none : (acts : Bool) (sys : System) (budget : ℕ) (t : Turn) (x : Job) (v : LaneView) → is_idle t ≡ false → TurnsFrom acts sys budget t x v t x v
+turns-none acts sys budget turn.Idle x v idle = absurd (cc)
+turns-none acts sys budget turn.Stopped x v idle = (refl, refl, refl)
+turns-none acts sys budget turn.Memory x v idle = (refl, refl, refl)
+
+-- What passing a `settle`, or a try, leaves.
+
+pub source-passed_hears : (sys : System) (x y : Cursor) (v w : LaneView) (p : Passed) → Passes sys x y v w p → Hears v w
+source-passed_hears sys x y v w p h = passes-hear sys x y v w p h
+
+pub source-passed_to : (sys : System) (x y : Cursor) (v w : LaneView) (p : Passed) → IsCursorAt sys x v → Passes sys x y v w p → PassesTo v w p
+source-passed_to sys x y v w p at h = passes-to sys x y v w p at.at.of h
+
+pub source-passed_hands : (sys : System) (x y : Cursor) (v w : LaneView) (p : Passed) → Passes sys x y v w p → w.hands ≡ v.hands
+source-passed_hands sys x y v w p h = passes-hands sys x y v w p h
+
+-- one that has stopped before does nothing
+pub stopped-passes : (acts : Bool) (sys : System) (budget : ℕ) (t : Turn) (x : Job) (v : LaneView) → is_idle t ≡ false → is_short t ≡ false → MayTurn acts sys budget t x v → PassesTo v v passed.Stopped
+stopped-passes acts sys budget turn.Idle x v none long h = absurd (cc)
+stopped-passes acts sys budget turn.Stopped x v none long h = inr (refl, h.stands.1)
+stopped-passes acts sys budget turn.Memory x v none long h = absurd (cc)
+
+pub starved-passes : (acts : Bool) (sys : System) (budget : ℕ) (t : Turn) (x : Job) (v : LaneView) → is_short t ≡ true → MayTurn acts sys budget t x v → PassesTo v v passed.Memory
+starved-passes acts sys budget turn.Idle x v short h = absurd (cc)
+starved-passes acts sys budget turn.Stopped x v short h = absurd (cc)
+starved-passes acts sys budget turn.Memory x v short h = inr (refl, h.stands)

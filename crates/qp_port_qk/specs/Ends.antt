@@ -1,11 +1,10 @@
 -- The lanes of a run that has ended.
-use Rattle.std.specs.Prelude.{◌≡◌, ℕ, ◌+◌, ◌≤◌, Bool, true, List, ◌∷◌}
+use Rattle.std.specs.Prelude.{◌≡◌, ℕ, ◌+◌, ◌≤◌, Bool, true, false, List, ◌∷◌, None, Some}
+use Rattle.std.specs.declared.option.Option.{Option}
 use Rattle.qp_model.specs.declared.stimulus.Stim.{Stim}
 use Rattle.qp_model.specs.declared.systems.System.{System}
-use Rattle.qp_model.specs.declared.journals.Journal.{Journal}
 use Rattle.qp_model.specs.Ends.{may_cut, quiet}
 use Rattle.qp_model.specs.Kernels.{qk}
-use Rattle.qp_model.specs.Lawful.{Lawful}
 use Rattle.qp_model_order.specs.RunOrder.{has_stim}
 use Rattle.qp_calls.specs.LaneView.{LaneView}
 use Rattle.qp_kernel.specs.Happenings.{lanes_of}
@@ -15,8 +14,17 @@ use Rattle.qp_kernel_end.specs.declared.rest.Rest.{Rest}
 use Rattle.qp_kernel_end.specs.Rests.{AreRests}
 use Rattle.qp_kernel_turns.specs.Turning.{EndsSo}
 use Rattle.qp_kernel_turns.specs.TurnRows.{idle_rows}
+use Rattle.qp_port_phases.specs.declared.phases.Ended.{Ended}
+use Rattle.qp_port_phases.specs.declared.phases.Ended.TheVariants as ended
 use Rattle.qp_port_sealed.specs.Lanes.{SourcesAre, settles_in}
 use Rattle.qp_port_sealed.specs.QkLanes.{QkRests}
+
+-- all starts came to their end, and the phases ended idle
+abbrev pub is_over : Option Ended → Bool
+is_over None = false
+is_over (Some ended.Idle) = true
+is_over (Some ended.Stopped) = false
+is_over (Some ended.Memory) = false
 
 -- the lanes may end so
 pub record MayEndSo (sys : System) (stimuli : List (List Stim)) (budget end : ℕ) (first : LaneView) (sources : List LaneView) : Type 0 where
@@ -38,9 +46,3 @@ pub record HasRun (sys : System) (stimuli : List (List Stim)) (budget : ℕ) (do
   pub quietly : done ≡ true → MayEndQuietly sys stimuli budget first sources
   pub rows : idle_rows sys (under_qk budget) first ≤ settles_in vs + 1
   pub told : AreRests sys (λ o. own_told o first.told) rests
-
--- a lawful journal of the system and the stimuli, with this kernel and this budget, of a run with threads
-pub record IsThreadRun (kernel : ℕ) (sys : System) (stimuli : List (List Stim)) (budget : ℕ) (j : Journal) : Type 0 where
-  pub kernel_is : j.kernel ≡ kernel
-  pub budget_is : j.budget ≡ budget
-  pub lawful : Lawful sys stimuli j

@@ -7,11 +7,17 @@ use Rattle.qp_calls.specs.LaneView.{LaneView}
 use Rattle.qp_dispatch.specs.declared.objects.Turn.{Turn}
 use Rattle.qp_dispatch.specs.declared.objects.Turn.TheVariants as turn
 use Rattle.qp_kernel.specs.declared.kernel.Kernel.{Kernel}
+use Rattle.qp_kernel.specs.Turning.{under_qk}
 use Rattle.qp_kernel_turns.specs.declared.objects.Objects.{Objects}
+use Rattle.qp_kernel_turns.specs.Lanes.{LaneTurns}
+use Rattle.qp_kernel_turns.specs.Ordering.{TurnsInOrder}
+use Rattle.qp_kernel_turns.specs.Turning.{TurnsTo, stand_of}
+use Rattle.qp_port_phases.specs.declared.lanes.Passed.{Passed}
+use Rattle.qp_port_phases.specs.declared.lanes.Passed.TheVariants as passed
+use Rattle.qp_port_phases.specs.Stopping.{HasStarved, HasStopped}
 use Rattle.qp_port_law.specs.SourcesLeft.{SourceLeaves}
 use Rattle.qp_port_cursor.specs.At.{IsCursorAt, at_settle_in, left_in, mine}
-use Rattle.qp_port_cursor.specs.declared.passing.Passed.{Passed}
-use Rattle.qp_port_cursor.specs.declared.passing.Passed.TheVariants as passed
+use Rattle.qp_port_cursor.specs.Turning.{SourceTurns}
 use Rattle.qp_port_qk.specs.declared.job.Job.{Job}
 use Rattle.qp_port_qk.specs.declared.job.Job.TheVariants as job
 use Rattle.qp_port_qk.specs.KernelRests.{KernelBegins, KernelEnds, KernelRests, KernelStops}
@@ -52,16 +58,34 @@ abbrev pub JobStops : System → ℕ → Job → LaneView → Type 0
 JobStops sys budget (job.Kernel xs k) v = KernelStops sys budget xs k v
 JobStops sys budget (job.Source x) v = (kernel end : ℕ) → may_try kernel ≡ true → may_cut end ≡ true → SourceLeaves sys kernel end (mine x) v.told
 
--- behind a turn with this answer
+-- behind a turn with this answer; where it isn't the end of the turn, the lane tells why
 abbrev pub JobStands : System → ℕ → Turn → Job → LaneView → Type 0
 JobStands sys budget turn.Idle x v = JobRests sys budget x v
-JobStands sys budget turn.Stopped x v = JobStops sys budget x v
-JobStands sys budget turn.Memory x v = Unit {0}
+JobStands sys budget turn.Stopped x v = JobStops sys budget x v × HasStopped v
+JobStands sys budget turn.Memory x v = HasStarved v
 
 abbrev pub KernelStands : System → ℕ → Turn → Objects → Kernel → LaneView → Type 0
 KernelStands sys budget turn.Idle xs k v = KernelRests sys budget xs k v
-KernelStands sys budget turn.Stopped xs k v = KernelStops sys budget xs k v
-KernelStands sys budget turn.Memory xs k v = Unit {0}
+KernelStands sys budget turn.Stopped xs k v = KernelStops sys budget xs k v × HasStopped v
+KernelStands sys budget turn.Memory xs k v = HasStarved v
+
+-- what a turn of the kernel with this answer leaves of its objects and of its lane
+pub record KernelTurns (acts : Bool) (sys : System) (budget : ℕ) (xs : Objects) (k : Kernel) (v : LaneView) (ys : Objects) (l : Kernel) (w : LaneView) (t : Turn) : Type 0 where
+  pub goes : TurnsTo sys (under_qk budget) (stand_of k xs v) (stand_of l ys w) t
+  pub order : TurnsInOrder acts sys (stand_of k xs v) (stand_of l ys w) t
+  pub lane : LaneTurns acts v w t
+
+-- the same of what runs in a lane
+abbrev pub JobTurns : Bool → System → ℕ → Job → Job → LaneView → LaneView → Turn → Type 0
+JobTurns acts sys budget (job.Kernel xs k) (job.Kernel ys l) v w t = KernelTurns acts sys budget xs k v ys l w t
+JobTurns acts sys budget (job.Source x) (job.Source y) v w t = SourceTurns sys x y v w t
+JobTurns acts sys budget _ _ v w t = ⊥
+
+-- A worker's turn: that of what runs in its lane. Where an earlier one has stopped, it does nothing, and leaves that answer.
+abbrev pub TurnsFrom : Bool → System → ℕ → Turn → Job → LaneView → Turn → Job → LaneView → Type 0
+TurnsFrom acts sys budget turn.Idle x v t y w = JobTurns acts sys budget x y v w t
+TurnsFrom acts sys budget turn.Stopped x v t y w = (t ≡ turn.Stopped) × (y ≡ x) × (w ≡ v)
+TurnsFrom acts sys budget turn.Memory x v t y w = (t ≡ turn.Memory) × (y ≡ x) × (w ≡ v)
 
 -- the answer of a turn that ended so
 abbrev pub turn_by : Passed → Turn
@@ -80,14 +104,14 @@ abbrev pub JobMayEnd : System → ℕ → Job → LaneView → Type 0
 JobMayEnd sys budget (job.Kernel xs k) v = KernelEnds sys budget v
 JobMayEnd sys budget (job.Source x) v = (kernel end : ℕ) → may_try kernel ≡ true → may_cut end ≡ true → SourceLeaves sys kernel end (mine x) v.told
 
--- where the run has ended, want of memory apart
+-- where the run has ended, and why it did for one that doesn't rest
 abbrev pub JobEnds : System → ℕ → Turn → Job → LaneView → Type 0
 JobEnds sys budget turn.Idle x v = JobMayEnd sys budget x v
-JobEnds sys budget turn.Stopped x v = JobMayEnd sys budget x v
-JobEnds sys budget turn.Memory x v = Unit {0}
+JobEnds sys budget turn.Stopped x v = JobMayEnd sys budget x v × HasStopped v
+JobEnds sys budget turn.Memory x v = HasStarved v
 
 -- behind the start
 abbrev pub JobStarts : System → ℕ → Turn → Job → LaneView → Type 0
 JobStarts sys budget turn.Idle x v = JobRests sys budget x v
-JobStarts sys budget turn.Stopped x v = JobMayEnd sys budget x v
-JobStarts sys budget turn.Memory x v = Unit {0}
+JobStarts sys budget turn.Stopped x v = JobMayEnd sys budget x v × HasStopped v
+JobStarts sys budget turn.Memory x v = HasStarved v

@@ -10,7 +10,8 @@ use Rattle.qp_calls.specs.LaneView.{LaneView}
 use Rattle.qp_kernel_end.specs.declared.rest.Rest.{Rest}
 use Rattle.qp_kernel_end.specs.Rests.{AreRestsIn}
 use Rattle.qp_port_quiet.specs.Sealed.{SealsLanes}
-use Rattle.qp_port_qk.specs.Ends.{HasRun, IsThreadRun}
+use Rattle.qp_port_qk.specs.Ends.{HasRun}
+use Rattle.qp_port_sealed.specs.ThreadRun.{IsThreadRun}
 
 -- Its lanes, sealed into a journal, leave a lawful one, in which its objects rest where it says; a journal of a quiet end only where nothing was left.
 abbrev pub SealedQkRunsAreLawful : Type 0

@@ -8,6 +8,8 @@ use Rattle.qp_calls_meet.specs.Meeting.{IsTogether}
 use Rattle.qp_dispatch.specs.declared.objects.Turn.{Turn}
 use Rattle.qp_kernel_turns.specs.Lanes.{SameLane}
 use Rattle.qp_port_workers.specs.Turns.{AreReady}
+use Rattle.qp_port_phases.specs.Stopping.{Hears}
+use Rattle.qp_port_cursor.proofs.Hearing.{hears-itself, hears-then}
 use Rattle.qp_port_qk.specs.declared.job.Job.{Job}
 use Rattle.qp_port_qk.specs.declared.job.Job.TheVariants as job
 use Rattle.qp_dispatch.specs.declared.objects.Turn.TheVariants as turn
@@ -34,12 +36,13 @@ pub record MayEnd (sys : System) (budget : ℕ) (t : Turn) (x : Job) (v : LaneVi
   pub sound : IsSound sys
   pub ends : JobEnds sys budget t x v
 
--- the same worker, with the same lane
+-- the same worker, with the same lane, which forgets no code that it heard of
 pub record IsSameWorker (s t : System) (b c : ℕ) (i j : Job) (v w : LaneView) : Type 0 where
   pub sys : t ≡ s
   pub budget : c ≡ b
   pub job : IsSameJob i j
   pub lane : SameLane v w
+  pub hears : Hears v w
 
 same-job : (x : Job) → IsSameJob x x
 same-job (job.Kernel xs k) = tt
@@ -59,6 +62,7 @@ same-itself s b x v = record {
   budget = refl;
   job = same-job x;
   lane = record { sys = refl; lane = refl; world = refl; plan = refl; happened = refl; serves = λ o. refl };
+  hears = hears-itself v;
 }
 
 pub same-still : (s t u : System) (b c d : ℕ) (x y z : Job) (v w m : LaneView) → IsSameWorker s t b c x y v w → IsSameWorker t u c d y z w m → IsSameWorker s u b d x z v m
@@ -74,6 +78,7 @@ same-still s t u b c d x y z v w m h k = record {
     happened = k.lane.happened ∙ h.lane.happened;
     serves = λ o. k.lane.serves o ∙ h.lane.serves o;
   };
+  hears = hears-then v w m h.hears k.hears;
 }
 
 pub same-table : (s t : System) (b c : ℕ) (x y : Job) (v w : LaneView) → IsSameWorker s t b c x y v w → IsTogether v w

@@ -5,10 +5,12 @@ ghost use Rattle.qp_dispatch.specs.declared.objects.Turn.TheVariants as turn;
 ghost use Rattle.qp_port_qk.specs.declared.job.Job.TheVariants as job;
 ghost use Rattle.qp_model.specs.Sound.{IsSound};
 ghost use Rattle.qp_kernel_turns.specs.Lanes.{SameLane};
-ghost use Rattle.qp_port_phases.specs.Rows.{CountsOn};
-ghost use Rattle.qp_port_qk.specs.Jobs.{IsSameJob, JobBegins, JobRests, JobStands, JobStarts, KernelStands, is_idle, is_left_in, is_short, stands_at_settle, turn_by};
+ghost use Rattle.qp_port_phases.specs.Passing.{PassesTo};
+ghost use Rattle.qp_port_phases.specs.Rows.{CountsOn, PassCounts};
+ghost use Rattle.qp_port_phases.specs.Stopping.{Hears};
+ghost use Rattle.qp_port_qk.specs.Jobs.{IsSameJob, JobBegins, JobRests, JobStands, JobStarts, JobTurns, KernelStands, KernelTurns, is_idle, is_left_in, is_short, stands_at_settle, turn_by};
 ghost use Rattle.qp_port_qk.specs.KernelRests.{KernelBegins, KernelRests};
-ghost use Rattle.qp_port_qk.specs.Numbers.{JobPassCounts, job_rows, numbers_of};
+ghost use Rattle.qp_port_qk.specs.Numbers.{job_rows, numbers_of};
 
 use qp_calls::Ops;
 use qp_dispatch::{Step, Turn};
@@ -54,6 +56,7 @@ fn start_kernel<O: Ops>(
     requires begins { KernelBegins sys.now objects.old kernel.now (O.lane ops.old) }
     ensures starts { JobStarts sys.now budget result (job.Kernel objects.new kernel.now) (O.lane ops.new) }
     ensures lane { SameLane (O.lane ops.old) (O.lane ops.new) }
+    ensures hears { Hears (O.lane ops.old) (O.lane ops.new) }
     ensures none { is_short result ≡ false → job_rows sys.now budget (job.Kernel objects.new kernel.now) (O.lane ops.new) ≡ 0 }
 {
     let _ = budget;
@@ -61,7 +64,8 @@ fn start_kernel<O: Ops>(
     match objects.start(ops, sys) {
         Step::Done => Turn::Idle,
         Step::Stopped => Turn::Stopped,
-        Step::Point | Step::Memory => Turn::Memory,
+        Step::Memory => Turn::Memory,
+        Step::Point => unreachable!(),
     }
 }
 
@@ -72,6 +76,7 @@ pub(crate) fn start_job<O: Ops>(ops: &mut O, sys: &System, job: &mut Job<'_>, bu
     ensures starts { JobStarts sys.now budget result job.new (O.lane ops.new) }
     ensures same { IsSameJob job.old job.new }
     ensures lane { SameLane (O.lane ops.old) (O.lane ops.new) }
+    ensures hears { Hears (O.lane ops.old) (O.lane ops.new) }
     ensures none { is_short result ≡ false → job_rows sys.now budget job.new (O.lane ops.new) ≡ 0 }
 {
     match job {
@@ -95,7 +100,9 @@ fn run_kernel<R: Wait, W: World, G: Tells>(
     requires alone { W.acts ≡ false }
     requires rests { KernelRests sys.now budget objects.old kernel.old (W.lane world.old) }
     ensures stands { KernelStands sys.now budget result objects.new kernel.new (W.lane world.new) }
+    ensures turns { KernelTurns W.acts sys.now budget objects.old kernel.old (W.lane world.old) objects.new kernel.new (W.lane world.new) result }
     ensures lane { SameLane (W.lane world.old) (W.lane world.new) }
+    ensures hears { Hears (W.lane world.old) (W.lane world.new) }
     ensures counts { CountsOn (W.lane world.old) (numbers_of sys.now budget turn.Idle (job.Kernel objects.old kernel.old) (W.lane world.old))
         (numbers_of sys.now budget result (job.Kernel objects.new kernel.new) (W.lane world.new)) }
 {
@@ -122,8 +129,10 @@ pub(crate) fn run_job<R: Wait, W: World, G: Tells>(
     requires alone { W.acts ≡ false }
     requires rests { JobRests sys.now budget job.old (W.lane world.old) }
     ensures stands { JobStands sys.now budget result job.new (W.lane world.new) }
+    ensures turns { JobTurns W.acts sys.now budget job.old job.new (W.lane world.old) (W.lane world.new) result }
     ensures same { IsSameJob job.old job.new }
     ensures lane { SameLane (W.lane world.old) (W.lane world.new) }
+    ensures hears { Hears (W.lane world.old) (W.lane world.new) }
     ensures counts { CountsOn (W.lane world.old) (numbers_of sys.now budget turn.Idle job.old (W.lane world.old)) (numbers_of sys.now budget result job.new (W.lane world.new)) }
 {
     match job {
@@ -140,7 +149,10 @@ pub(crate) fn pass_job<O: Ops>(ops: &mut O, sys: &System, job: &mut Job<'_>, bud
     ensures stands { JobStands sys.now budget (turn_by result) job.new (O.lane ops.new) }
     ensures same { IsSameJob job.old job.new }
     ensures lane { SameLane (O.lane ops.old) (O.lane ops.new) }
-    ensures counts { JobPassCounts (numbers_of sys.now budget turn.Idle job.old (O.lane ops.old)) (numbers_of sys.now budget (turn_by result) job.new (O.lane ops.new)) result }
+    ensures hears { Hears (O.lane ops.old) (O.lane ops.new) }
+    ensures tries { PassesTo (O.lane ops.old) (O.lane ops.new) result }
+    ensures hands { (O.lane ops.new).hands ≡ (O.lane ops.old).hands }
+    ensures counts { PassCounts (numbers_of sys.now budget turn.Idle job.old (O.lane ops.old)) (numbers_of sys.now budget (turn_by result) job.new (O.lane ops.new)) result }
 {
     let _ = budget;
     match job {

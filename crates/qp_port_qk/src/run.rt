@@ -1,12 +1,13 @@
 //! The run over given lanes: the start of all objects, phases, and what is left.
 
-ghost use Rattle.std.specs.Prelude.{◌≡◌, ◌≤◌, IfOk, OnOk, Some, map, true, false};
+ghost use Rattle.std.specs.Prelude.{◌≡◌, ◌≤◌, ◌⊎◌, IfOk, OnOk, Some, map, true, false};
 ghost use Rattle.std.specs.List.{list_all, list_any};
 ghost use Rattle.qp_model.specs.Sound.{IsSound};
 ghost use Rattle.qp_model.specs.Sources.{priorities};
 ghost use Rattle.qp_stim.specs.Rules.{StimuliFit};
 ghost use Rattle.qp_port_phases.specs.declared.phases.Ended.TheVariants as ended;
-ghost use Rattle.qp_port_qk.specs.Ends.{HasRun};
+ghost use Rattle.qp_port_phases.specs.Stopping.{AnyStopped};
+ghost use Rattle.qp_port_qk.specs.Ends.{HasRun, is_over};
 ghost use Rattle.qp_port_qk.specs.Jobs.{is_idle, is_short};
 ghost use Rattle.qp_port_qk.specs.Resting.{AreLeft, AreShownFirst};
 ghost use Rattle.qp_port_qk.specs.Rows.{AreNewLanes, AreSameLanes};
@@ -104,6 +105,7 @@ fn left_of<W: World + Meets + Drop, G: Gate>(
     ensures rests { IfOk result (λ run. AreLeft (λ w. w.job) how workers.entry.items run.rests.items) }
     ensures short { OnOk result (list_any (λ w. is_short w.turn) workers.entry.items ≡ false) }
     ensures idle { IfOk result (λ run. run.done ≡ true → (how ≡ Some ended.Idle) × (list_all (λ w. is_idle w.turn) workers.entry.items ≡ true)) }
+    ensures cause { IfOk result (λ run. run.done ≡ false → (is_over how ≡ false) ⊎ (list_all (λ w. is_idle w.turn) workers.entry.items ≡ false)) }
 {
     if any_short(&workers) {
         return Err(Memory);
@@ -135,7 +137,7 @@ fn rests_left<W: World + Meets, G: Gate>(
 
 /// Runs the system on its stimuli over these lanes, which are new, in a world in whose looks nothing happens: the first serves all
 /// objects, and each source has one of the others. No object takes more events than the budget. Want of memory alone leaves
-/// nothing.
+/// nothing. Something is left to be done only where a lane has stopped.
 pub fn run_lanes_of_qk<R: Threads + Wait + Sync, W: World + Meets + Send + Drop, G: Gate>(
     rt: &R,
     alloc: Global,
@@ -152,6 +154,7 @@ pub fn run_lanes_of_qk<R: Threads + Wait + Sync, W: World + Meets + Send + Drop,
     requires lanes { AreNewLanes sys.now stim.now (map W.lane lanes.items) }
     ensures lanes { IfOk result (λ run. AreSameLanes (map W.lane lanes.items) (map W.lane run.lanes.items)) }
     ensures run { IfOk result (λ run. HasRun sys.now stim.now budget run.done run.rests.items (map W.lane run.lanes.items)) }
+    ensures cause { IfOk result (λ run. run.done ≡ false → AnyStopped (map W.lane run.lanes.items)) }
 {
     let Ok(objects) = objects_of(alloc, sys) else {
         return Err(Memory);

@@ -1,10 +1,11 @@
 //! The start of the first of several workers, and then the phases.
 
-ghost use Rattle.std.specs.Prelude.{◌≡◌, ◌⊎◌, ℕ, Some, true, false};
+ghost use Rattle.std.specs.Prelude.{◌≡◌, ◌⊎◌, ℕ, Bool, None, Some, true, false};
+ghost use Rattle.std.specs.List.{list_all};
 ghost use Rattle.qp_port_phases.specs.declared.phases.Ended.{Ended};
 ghost use Rattle.qp_port_phases.specs.declared.phases.Ended.TheVariants as ended;
 ghost use Rattle.qp_port_phases.specs.Lanes.{AreOneTable, SameEach};
-ghost use Rattle.qp_port_phases.specs.Quiet.{HasEnded};
+ghost use Rattle.qp_port_phases.specs.Quiet.{FirstFound, HasEnded};
 ghost use Rattle.qp_port_phases.specs.Rows.{HasFewRows};
 ghost use Rattle.qp_port_workers.specs.Turns.{AreReady};
 ghost use Rattle.qp_port_qk.specs.Workers.{FirstBegins};
@@ -21,12 +22,16 @@ pub trait Starts: Lane {
     /// It takes no more turns.
     ghost ended: { Self → Type 0 };
 
+    /// Whether its last turn, or its start, came to its end.
+    ghost rests: { Self → Bool };
+
     /// Starts. Whether the start came to its end.
     fn start(&mut self) -> bool
         requires { begins self.old }
         ensures ended { ended self.new }
         ensures ready { result ≡ true → Self.Worker.ready self.new }
         ensures same { Self.Lane.same self.old self.new }
+        ensures rests { rests self.new ≡ result }
         ensures none { (Self.Lane.numbers self.new).lost ≡ false → (Self.Lane.numbers self.new).rows ≡ 0 };
 }
 
@@ -37,6 +42,7 @@ fn start_first<T: Starts>(workers: &mut [T]) -> bool
     ensures same { SameEach T.same workers.old workers.new }
     ensures ready { result ≡ true → AreReady T.ready workers.new }
     ensures rows { (more : ℕ) → HasFewRows T.numbers more workers.new }
+    ensures some { result ≡ false → list_all T.rests workers.new ≡ false }
 {
     let Some((first, _others)) = workers.split_first_mut() else {
         return false;
@@ -57,6 +63,9 @@ pub(crate) fn start_and_run<R: Threads + Wait + Sync, T: Starts>(
     ensures ready { (how : Ended) → result ≡ Some how → AreReady T.ready workers.new }
     ensures rows { HasFewRows T.numbers 1 workers.new }
     ensures idle { result ≡ Some ended.Idle → HasEnded T.view T.remains objects.now workers.new }
+    ensures none { result ≡ None → list_all T.rests workers.new ≡ false }
+    ensures stopped { result ≡ Some ended.Stopped → FirstFound T.view false workers.old workers.new }
+    ensures memory { result ≡ Some ended.Memory → FirstFound T.view true workers.old workers.new }
 {
     if start_first(workers) {
         Some(run_phases(rt, objects, workers))

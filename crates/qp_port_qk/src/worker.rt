@@ -2,8 +2,8 @@
 
 ghost use Rattle.std.specs.Prelude.{◌≡◌, false, true};
 ghost use Rattle.qp_port_phases.specs.Rows.{CountsOn};
-ghost use Rattle.qp_port_qk.specs.Jobs.{is_idle, is_left_in, is_short, stands_at_settle, turn_by};
-ghost use Rattle.qp_port_qk.specs.Numbers.{IsSamePassed, numbers_of};
+ghost use Rattle.qp_port_qk.specs.Jobs.{JobTurns, TurnsFrom, is_idle, is_left_in, is_short, stands_at_settle, turn_by};
+ghost use Rattle.qp_port_qk.specs.Numbers.{numbers_of};
 ghost use Rattle.qp_port_qk.specs.Workers.{IsSameWorker, MayBegin, MayEnd, MayTurn, same-itself, same-still, same-table};
 
 use crate::job::{Job, is_idle, is_short, pass_job, run_job, start_job};
@@ -13,7 +13,6 @@ use qp_calls_meet::Meets;
 use qp_dispatch::Turn;
 use qp_kernel::World;
 use qp_model::System;
-use qp_port_cursor as cursor;
 use qp_port_phases::{Lane, Passed};
 use qp_port_workers::Worker;
 use qp_tells::Tells;
@@ -52,6 +51,7 @@ impl<W: World + Meets, G: Tells> QkWorker<'_, W, G> {
         requires idle { is_idle self.old.turn ≡ true }
         ensures ready { MayTurn W.acts self.new.sys.now self.new.budget self.new.turn self.new.job (W.lane self.new.lane) }
         ensures same { IsSameWorker self.old.sys.now self.new.sys.now self.old.budget self.new.budget self.old.job self.new.job (W.lane self.old.lane) (W.lane self.new.lane) }
+        ensures turns { JobTurns W.acts self.old.sys.now self.old.budget self.old.job self.new.job (W.lane self.old.lane) (W.lane self.new.lane) self.new.turn }
         ensures counts { CountsOn (W.lane self.old.lane) (numbers_of self.old.sys.now self.old.budget self.old.turn self.old.job (W.lane self.old.lane))
             (numbers_of self.new.sys.now self.new.budget self.new.turn self.new.job (W.lane self.new.lane)) }
     {
@@ -67,25 +67,13 @@ impl<W: World + Meets, G: Tells> QkWorker<'_, W, G> {
 }
 
 /// What a `settle` leaves of a worker: the answer of its turn.
-fn turn_by(passed: &cursor::Passed) -> Turn
+fn turn_by(passed: &Passed) -> Turn
     ensures { result ≡ turn_by passed.now }
 {
     match passed {
-        cursor::Passed::Yes | cursor::Passed::Found { .. } => Turn::Idle,
-        cursor::Passed::Stopped => Turn::Stopped,
-        cursor::Passed::Memory => Turn::Memory,
-    }
-}
-
-/// The same answer, as the phases have it.
-fn passed_by(passed: cursor::Passed) -> Passed
-    ensures { IsSamePassed passed result }
-{
-    match passed {
-        cursor::Passed::Yes => Passed::Yes,
-        cursor::Passed::Found { p, now } => Passed::Found { p, now },
-        cursor::Passed::Stopped => Passed::Stopped,
-        cursor::Passed::Memory => Passed::Memory,
+        Passed::Yes | Passed::Found { .. } => Turn::Idle,
+        Passed::Stopped => Turn::Stopped,
+        Passed::Memory => Turn::Memory,
     }
 }
 
@@ -93,7 +81,8 @@ impl<W: World + Meets + Send, G: Tells + Sync> Worker for QkWorker<'_, W, G> {
     ghost ready = { λ w. MayTurn W.acts w.sys.now w.budget w.turn w.job (W.lane w.lane) };
 
     ghost turned = { λ a b. MayTurn W.acts b.sys.now b.budget b.turn b.job (W.lane b.lane) × IsSameWorker a.sys.now b.sys.now a.budget b.budget a.job b.job (W.lane a.lane) (W.lane b.lane)
-        × CountsOn (W.lane a.lane) (numbers_of a.sys.now a.budget a.turn a.job (W.lane a.lane)) (numbers_of b.sys.now b.budget b.turn b.job (W.lane b.lane)) };
+        × CountsOn (W.lane a.lane) (numbers_of a.sys.now a.budget a.turn a.job (W.lane a.lane)) (numbers_of b.sys.now b.budget b.turn b.job (W.lane b.lane))
+        × TurnsFrom W.acts a.sys.now a.budget a.turn a.job (W.lane a.lane) b.turn b.job (W.lane b.lane) };
 
     fn turn<R: Wait>(&mut self, rt: &R) {
         if is_idle(&self.turn) {
@@ -129,7 +118,7 @@ impl<W: World + Meets + Send, G: Tells + Sync> Lane for QkWorker<'_, W, G> {
         if is_idle(&self.turn) {
             let passed = pass_job(&mut self.lane, self.sys, &mut self.job, self.budget);
             self.turn = turn_by(&passed);
-            return passed_by(passed);
+            return passed;
         }
         if is_short(&self.turn) {
             return Passed::Memory;
@@ -151,12 +140,16 @@ impl<W: World + Meets + Send, G: Tells + Sync> Lane for QkWorker<'_, W, G> {
 
     ghost same_table = { λ a b h. same-table a.sys.now b.sys.now a.budget b.budget a.job b.job (W.lane a.lane) (W.lane b.lane) h };
 
+    ghost same_hears = { λ a b h. h.hears };
+
     ghost went = { λ a b h. (h.0, h.1) };
 
     ghost went_on = { λ a b h. h.2 };
 }
 
 impl<W: World + Meets + Send, G: Tells + Sync> Starts for QkWorker<'_, W, G> {
+    ghost rests = { λ w. is_idle w.turn };
+
     ghost begins = { λ w. MayBegin W.acts w.sys.now w.budget w.turn w.job (W.lane w.lane) };
 
     ghost ended = { λ w. MayEnd w.sys.now w.budget w.turn w.job (W.lane w.lane) };

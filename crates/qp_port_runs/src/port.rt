@@ -5,7 +5,7 @@ ghost use Rattle.qp_model.specs.Kernels.{port};
 ghost use Rattle.qp_model.specs.Sound.{IsSound};
 ghost use Rattle.qp_stim.specs.Rules.{StimuliFit};
 ghost use Rattle.qp_kernel_end.specs.Rests.{AreRestsIn};
-ghost use Rattle.qp_port.specs.Ends.{IsThreadRun};
+ghost use Rattle.qp_port_sealed.specs.ThreadRun.{IsThreadRun};
 
 use crate::sealing::{Threaded, seal};
 use qp_base::{Gate, Memory};

@@ -3,3 +3,4 @@ pub mod PortLanes
 pub mod QkLanes
 pub mod Rests
 pub mod Laws
+pub mod ThreadRun

@@ -5,7 +5,7 @@ use Rattle.qp_base.specs.Limits.{file_limit}
 use Rattle.qp_model.specs.declared.stimulus.Stim.{Stim}
 use Rattle.qp_model.specs.declared.systems.System.{System}
 use Rattle.qp_model.specs.Kernels.{port, qk}
-use Rattle.qp_port.specs.Ends.{IsThreadRun}
+use Rattle.qp_port_sealed.specs.ThreadRun.{IsThreadRun}
 use Rattle.qp_model.proofs.LawLemmas.{kernel_rests_where_all_are_empty}
 use Rattle.qp_kernel_runs.specs.SimRun.{IsQvRun, IsSimRun}
 use Rattle.qp_stim.specs.Stimuli.{Fault, stimuli_of}

@@ -14,7 +14,7 @@ use Rattle.qp_model.specs.declared.systems.System.{System}
 use Rattle.qp_sim_unique.specs.FormLaws.{CanBeWritten}
 use Rattle.qp_sim_unique.proofs.FormLemmas.{written, written-qk, written-qv}
 use Rattle.qp_port_forms.proofs.PortForms.{written-port}
-use Rattle.qp_port.specs.Ends.{IsThreadRun}
+use Rattle.qp_port_sealed.specs.ThreadRun.{IsThreadRun}
 use Rattle.qp_model.specs.Sound.{IsSound}
 use Rattle.qp_model.specs.Ends.{ends_last}
 use Rattle.qp_model.specs.History.{lane_items}

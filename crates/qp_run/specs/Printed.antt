@@ -11,7 +11,7 @@ use Rattle.qp_model.specs.OutputSummary.{IsSummary}
 use Rattle.qp_summary.specs.Written.{joined}
 use Rattle.qp_kernel_runs.specs.SimRun.{IsQvRun, IsSimRun}
 use Rattle.qp_model.specs.Kernels.{port, qk}
-use Rattle.qp_port.specs.Ends.{IsThreadRun}
+use Rattle.qp_port_sealed.specs.ThreadRun.{IsThreadRun}
 use Rattle.qp_gen.specs.Made.{IsMade}
 use Rattle.qp_sim_unique.specs.JournalLaws.{IsUnspilt}
 use Rattle.qp_sim_unique.specs.Tidy.{is_short}

@@ -94,7 +94,7 @@ fn print<O: Sink>(
     }
 }
 
-/// Runs a system on its stimuli under `sim`: its journal is the only one of its kind.
+/// Runs a system on its stimuli under `sim`.
 fn run_alone<R: Wait>(
     rt: &R,
     alloc: Global,

@@ -54,9 +54,6 @@ same-system l o e = e
 max-left : (a b : ℕ) → a ≤ max a b
 max-left a b = omega arith
 
-max-right : (a b : ℕ) → b ≤ max a b
-max-right a b = omega arith
-
 on-too : (w : Word) → is_met w ≡ true → is_on_table w ≡ true
 on-too (word.Pool p) h = refl
 on-too (word.Block p b) h = refl
@@ -75,11 +72,19 @@ module _ (world : List ℕ) (sys : System) (by count ceiling : ℕ) (g : Log) (n
   unfolding number_of
   meets-as = both
 
+  beside-is : (x : Word) → is_met x ≡ false → (lane_with world sys by g numbers (met v w) s).mark x ≡ (lane_with world sys by g numbers v s).mark x
+  unfolding lane_of
+  beside-is (word.Pool p) off = absurd (cc)
+  beside-is (word.Block p b) off = absurd (cc)
+  beside-is (word.Queue a) off = absurd (cc)
+  beside-is (word.Signal k) off = refl
+  beside-is (word.Timer k) off = refl
+
   pub lane-meets : Met (lane_with world sys by g numbers v s) (lane_of other theirs more w) (lane_with world sys by g numbers (met v w) s)
   lane-meets = let m = meets-as in record {
     same = m.same;
-    rise = λ x on. let k = m.mark x (on-too x on) in let l = max-left ((lane_with world sys by g numbers v s).mark x) ((lane_of other theirs more w).mark x) in omega arith;
-    most = λ x on. let k = m.mark x (on-too x on) in let l = max-right ((lane_with world sys by g numbers v s).mark x) ((lane_of other theirs more w).mark x) in omega arith;
+    mark = λ x on. m.mark x (on-too x on);
+    beside = beside-is;
     own = m.mine;
     its = λ x on. m.theirs x (on-too x on);
   }

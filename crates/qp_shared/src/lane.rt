@@ -14,11 +14,12 @@ pub struct SharedLane<'a> {
 }
 
 impl SharedLane<'_> {
-    ghost use Rattle.qp_shared.specs.Lane.{lane_view};
+    ghost use Rattle.qp_shared.specs.Lane.{lane_view, records_of};
 
     /// The records of the lane so far.
     pub fn records(&self) -> &[Rec]
-        ensures { lane_items result.now ≡ untold_all (lane_view self.now).told }
+        ensures items { lane_items result.now ≡ untold_all (lane_view self.now).told }
+        ensures records { result.now ≡ records_of self.now }
     {
         self.state.log.recs.as_slice()
     }

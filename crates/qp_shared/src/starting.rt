@@ -1,6 +1,6 @@
 //! The root becomes lanes.
 
-ghost use Rattle.std.specs.Prelude.{◌≡◌, ℕ, ◌+◌, ◌<◌, ◌≤◌, [], map, length, IfOk};
+ghost use Rattle.std.specs.Prelude.{◌≡◌, ◌+◌, ◌<◌, ◌≤◌, [], map, length, IfOk};
 ghost use Rattle.std.specs.List.{list_any};
 ghost use Rattle.std.specs.Vec.{vec_capacity};
 ghost use Rattle.qp_model.specs.Sound.{IsSound};
@@ -9,7 +9,7 @@ ghost use Rattle.qp_table.specs.Rule.{is_serve};
 ghost use Rattle.qp_table.specs.After.{passing, failing};
 ghost use Rattle.qp_shared_side.specs.Seats.{in_set};
 ghost use Rattle.qp_shared.specs.Lane.{lane_view};
-ghost use Rattle.qp_shared.specs.Starting.{AreFirst, AreFirstViews, AreGiven, FirstLane, HasLeft, IsBareLog, IsGiven, IsRootAt, IsRootOf, StartsAs, objects_for, rest_of, serves_all, serves_one, world_name};
+ghost use Rattle.qp_shared.specs.Starting.{AreFirst, AreFirstViews, AreGiven, FirstLane, HasLeft, IsBareLog, IsGiven, IsRootAt, IsRootOf, objects_for, rest_of, serves_all, serves_one};
 
 use crate::lane::SharedLane;
 use crate::shared::{Root, Shared};

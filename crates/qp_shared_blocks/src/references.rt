@@ -1,6 +1,6 @@
 //! References: the first one to a block, another one, and one that is dropped.
 
-ghost use Rattle.std.specs.Prelude.{◌≡◌, ◌<◌, IsFalse};
+ghost use Rattle.std.specs.Prelude.{◌<◌, IsFalse};
 ghost use Rattle.qp_calls.specs.Clauses.{LetsGo, Makes, MakesMore, StandsFresh, StandsHold};
 ghost use Rattle.qp_shared_lane.specs.Lane.{state_view};
 

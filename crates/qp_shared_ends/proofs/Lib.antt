@@ -10,5 +10,6 @@ pub mod Changes
 pub mod Members
 pub mod Telling
 pub mod Events
+pub mod Knowing
 pub mod Parts
 pub mod Sealing

@@ -17,12 +17,12 @@ use Rattle.qp_model.specs.Record.{Item}
 use Rattle.qp_model.specs.Told.{ToldItem}
 use Rattle.qp_model.specs.History.{touch, marks, total as total_of, lane_items, all_items}
 use Rattle.qp_model.specs.Home.{lane_at}
-use Rattle.qp_model.specs.Knowing.{free_before, left_after, told_lane}
+use Rattle.qp_model.specs.Knowing.{event_of, free_before, left_after, told_lane}
 use Rattle.qp_model.specs.End.{end_of, has_room}
 use Rattle.qp_model.specs.Lawful.{facts_of}
 use Rattle.qp_model.specs.WordLaw.{Words, is_object}
 use Rattle.qp_model_order.specs.SourceRun.{untold_all}
-use Rattle.qp_calls.specs.LaneView.{LaneView}
+use Rattle.qp_calls.specs.LaneView.{LaneView, is_known}
 use Rattle.qp_calls.specs.Tokens.{Token, Held, Loose, same_token, hands_after}
 use Rattle.qp_plain_sound.specs.Sound.{Sound, facts_in}
 use Rattle.qp_plain_sound.specs.View.{shown_in}
@@ -60,6 +60,7 @@ use Rattle.qp_shared_ends.proofs.Marks.{mark-known, mark-says}
 use Rattle.qp_shared_ends.proofs.Changes.{is_change}
 use Rattle.qp_shared_ends.proofs.Members.{same_at, bare, bare_all, behind-same, reaches-same, none-other, member-there}
 use Rattle.qp_shared_ends.proofs.Events.{event-read}
+use Rattle.qp_shared_ends.proofs.Knowing.{known-read}
 use Rattle.qp_shared_ends.proofs.Telling.{bare-tell, Truths, recs-told}
 use Rattle.qp_shared_ends.proofs.Parts.{flat, joined-part, both-part, flat-map, each-flat, many-flat, Cut, cut, mapped, map-at, map-parts, any-many, many-none, all-zero}
 
@@ -291,11 +292,20 @@ module _ (sys : System) (first : LaneState) (others : List LaneState) (of : Each
         (subst (λ is. list_all (λ m. nat_le m (mark_seen sys (table_of l).seen x)) (marks x is) ≡ true)
         (sym (untold-bare (told-of sys l) ∙ bare-tell (event_seen (table_of l).contents) (recs_in l) l.numbers.list h.beside)) (h.behind x (on-too x on))))
 
+    event-known : (e : Entry) → IsTrue (is_known (state_view l) e) → event_of (facts_in sys js) e ≡ Some ((state_view l).event e)
+    unfolding lane_of
+    event-known e is = event-read sys v end js thin (table_of l).contents known e (known-read l e is)
+
+    code-is : (code : ℕ) → has (state_view l).answered code ≡ true → IsCode code
+    unfolding lane_of
+    code-is code there =
+        let mine_codes = each-flat IsCode (λ l. (side_of l).answered) ls n l at (subst (Each IsCode) (side-part (λ x. x.answered) (λ x y. refl)) side.codes) in
+        code-each IsCode code (side_of l).answered mine_codes (subst (λ xs. has xs code ≡ true) h.answered there)
+
     code-handed : (code : ℕ) → has (state_view l).answered code ≡ true → (m : ℕ) × (u : LaneView) × IsLaneAt (map state_view ls) m u × (has u.stops code ≡ true)
     unfolding lane_of
     code-handed code there =
-        let mine_codes = each-flat IsCode (λ l. (side_of l).answered) ls n l at (subst (Each IsCode) (side-part (λ x. x.answered) (λ x y. refl)) side.codes) in
-        let one = code-each IsCode code (side_of l).answered mine_codes (subst (λ xs. has xs code ≡ true) h.answered there) in
+        let one = code-is code there in
         let some_ = some-place (eqb code) (λ l. (side_of l).stops) ls (subst (λ xs. 0 < many (eqb code) xs) (side-part (λ x. x.stops) (λ x y. refl)) one.1) in
         let hu = holds-of sys some_.1 (each-at sys (λ (l : LaneState). l.sys.now ≡ sys) ls some_.0 some_.1 some_.2 of) in
         (some_.0, state_view some_.1, map-at state_view ls some_.0 some_.1 some_.2, subst (λ xs. has xs code ≡ true) (sym hu.stops) (code-there code (side_of some_.1).stops some_.3))
@@ -323,7 +333,12 @@ module _ (sys : System) (first : LaneState) (others : List LaneState) (of : Each
     says = λ n u x at on. let z = mapped state_view ls n u at in subst (λ (w : LaneView). w.mark x ≡ total_of x (all_items j.lanes) → w.shown x ≡ shown_in sys j.lanes x) z.2
         (subst (λ y. (state_view z.0).mark x ≡ total_of x (all_items y) → (state_view z.0).shown x ≡ shown_in sys y x) (sym e) (seen-says n z.0 z.1 x on));
     behind = λ n u x at on. let z = mapped state_view ls n u at in subst (λ (w : LaneView). is_behind x (w.mark x) w.told ≡ true) z.2 (marks-behind n z.0 z.1 x on);
+    events = λ n u x at is. let z = mapped state_view ls n u at in
+        subst (λ (w : LaneView). event_of (facts_of sys j) x ≡ Some (w.event x)) z.2
+        ((λ i. event_of (record { sys = sys; items = all_items (e i) }) x) ∙ event-known n z.0 z.1 x (subst (λ (w : LaneView). IsTrue (is_known w x)) (sym z.2) is));
     handed = λ n code u at there. let z = mapped state_view ls n u at in code-handed n z.0 z.1 code (subst (λ (w : LaneView). has w.answered code ≡ true) (sym z.2) there);
+    one_code = λ n m code other u w at beside there and. let z = mapped state_view ls n u at in let y = mapped state_view ls m w beside in
+        (code-is n z.0 z.1 code (subst (λ (x : LaneView). has x.answered code ≡ true) (sym z.2) there)).0 ∙ sym (code-is m y.0 y.1 other (subst (λ (x : LaneView). has x.answered other ≡ true) (sym y.2) and)).0;
   }
 
 pub lanes_are_sealed : LanesAreSealed

@@ -1,6 +1,6 @@
 //! Takes: the front entry of a queue is taken by the lane that serves it, which waits for its cell to be laid.
 
-ghost use Rattle.std.specs.Prelude.{◌≡◌, ℕ, ◌+◌, ◌*◌, ◌%◌, ◌<◌, length, IsTrue};
+ghost use Rattle.std.specs.Prelude.{◌≡◌, ◌+◌, ◌*◌, ◌%◌, ◌<◌, length, IsTrue};
 ghost use Rattle.std.specs.List.{list_any};
 ghost use Rattle.qp_model.specs.Record.{entry};
 ghost use Rattle.qp_model.specs.Sites.{ring_of};

@@ -1,6 +1,6 @@
 //! Looks at queues.
 
-ghost use Rattle.std.specs.Prelude.{◌≡◌, ◌<◌, IsTrue};
+ghost use Rattle.std.specs.Prelude.{◌<◌, IsTrue};
 ghost use Rattle.qp_model.specs.WordLaw.{is_object};
 ghost use Rattle.qp_calls.specs.Clauses.{Counted, Sees};
 ghost use Rattle.qp_shared_lane.specs.Lane.{state_view};

@@ -1,6 +1,6 @@
 //! Takes of the front entry.
 
-ghost use Rattle.std.specs.Prelude.{◌≡◌, ◌<◌, IsTrue};
+ghost use Rattle.std.specs.Prelude.{◌<◌, IsTrue};
 ghost use Rattle.qp_model.specs.WordLaw.{is_object};
 ghost use Rattle.qp_calls.specs.Clauses.{Takes};
 ghost use Rattle.qp_shared_lane.specs.Lane.{state_view};

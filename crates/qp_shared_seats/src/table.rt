@@ -1,6 +1,6 @@
 //! Seats on the words of the event table.
 
-ghost use Rattle.std.specs.Prelude.{◌≡◌, ◌≢◌, ℕ, ◌+◌, ◌<◌, [], length};
+ghost use Rattle.std.specs.Prelude.{◌≡◌, ℕ, ◌+◌, ◌<◌, [], length};
 ghost use Rattle.qp_table.specs.Counting.{many};
 ghost use Rattle.qp_table.specs.Rule.{is_number};
 ghost use Rattle.qp_table.specs.After.{Steps, nothing, onlooker, joined};

@@ -18,7 +18,7 @@ use qp_calls_meet::Meets;
 use qp_model::System;
 use qp_model::kernels::PORT;
 use qp_shared::{Shared, SharedLane};
-use std::alloc::{AllocError, Global};
+use std::alloc::Global;
 use std::marker::Brand;
 use std::sync::ledger::{Blank, Ledger};
 use std::test::Fail;

@@ -1,6 +1,6 @@
 //! Lanes of tables, made and sealed.
 
-ghost use Rattle.std.specs.Prelude.{◌≡◌, [], ◌∷◌, length, IfSome};
+ghost use Rattle.std.specs.Prelude.{◌≡◌, [], ◌∷◌, IfSome};
 ghost use Rattle.qp_shared.specs.Lane.{lane_view};
 ghost use Rattle.qp_shared.specs.Starting.{AreFirst, IsRootOf, serves_all, serves_one};
 ghost use Rattle.qp_shared_tests.specs.Lanes.{IsLaneOf};

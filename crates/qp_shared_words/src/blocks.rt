@@ -8,7 +8,7 @@ ghost use Rattle.qp_table.specs.Rule.{is_ref, is_spot, is_spot_at, fills_of, is_
 ghost use Rattle.qp_table.specs.After.{HasRoom, ref};
 ghost use Rattle.qp_shared_views.specs.Words.{value_seen};
 ghost use Rattle.qp_shared_views.specs.Lane.{has_content};
-ghost use Rattle.qp_shared_steps.specs.Told.{HasPlace, DropTold, FirstTold, MoreTold, BackTold, FromTold, FillTold, ReadTold, EyePoolTold, IsLowest, GiveTold};
+ghost use Rattle.qp_shared_steps.specs.Told.{HasPlace, DropTold, FirstTold, FromTold, FillTold, ReadTold, EyePoolTold, IsLowest, GiveTold};
 
 use crate::places::{block_at, event_at, pool_at};
 use crate::steps::{About, Words, add, exchange_for, look, store};
@@ -84,68 +84,6 @@ pub fn first_reference(words: &Words, seat: &mut Seat<(), View>, by: u8, pool: u
         margin: None,
     };
     add::<Brand>(words, seat, block_at(pool, block), UNIT + 1, about)
-}
-
-/// Makes a reference beside the one in hand, and answers the block's word as it was.
-pub fn another_reference(
-    words: &Words,
-    seat: &mut Seat<(), View>,
-    by: u8,
-    pool: u8,
-    block: u8,
-    name: u64,
-) -> u64
-    requires own { seat.old.table_id ≡ words.now.shared.table_id }
-    requires wide { words.now.shared.table_id.words ≡ 21128 }
-    requires place { HasPlace pool block }
-    requires room { HasRoom seat.old.me.0 }
-    requires hand { 0 < many (is_ref pool block name) seat.old.me.0.hands }
-    ensures same { (seat.new.table_id ≡ seat.old.table_id) × (seat.new.id ≡ seat.old.id) }
-    ensures told { MoreTold words.now.shared.key by pool block seat.old.me.0 result seat.new.me.0 }
-{
-    let about = About {
-        by,
-        to: 0,
-        pool,
-        block,
-        low: 0,
-        name,
-        old: 0,
-        new: 0,
-        margin: None,
-    };
-    add::<Brand>(words, seat, block_at(pool, block), UNIT + 1, about)
-}
-
-/// Puts back a used block, whose life ended at `at` operations, and answers the pool's word as it was.
-pub fn put_back(
-    words: &Words,
-    seat: &mut Seat<(), View>,
-    by: u8,
-    pool: u8,
-    block: u8,
-    at: u64,
-) -> u64
-    requires own { seat.old.table_id ≡ words.now.shared.table_id }
-    requires wide { words.now.shared.table_id.words ≡ 21128 }
-    requires place { HasPlace pool block }
-    requires room { HasRoom seat.old.me.0 }
-    requires used { 0 < many (is_spot_at pool block at) seat.old.me.0.used }
-    ensures same { (seat.new.table_id ≡ seat.old.table_id) × (seat.new.id ≡ seat.old.id) }
-    ensures told { BackTold words.now.shared.key by pool block at (4294967296 + 2 ^ block) seat.old.me.0 result seat.new.me.0 }
-{
-    let about = About {
-        by,
-        to: 0,
-        pool,
-        block,
-        low: 0,
-        name: at,
-        old: 0,
-        new: 0,
-        margin: None,
-    };
-    add::<Brand>(words, seat, pool_at(pool), UNIT + bit_of(block), about)
 }
 
 /// Reads the word of a fresh block. Its number of operations is where the block's life begins.

@@ -12,21 +12,16 @@ ghost use Rattle.qp_table.specs.After.{HasRoom, InHand};
 ghost use Rattle.qp_table.specs.QueueLaws.{cells_of, front_cell};
 ghost use Rattle.qp_shared_views.specs.Words.{value_seen};
 ghost use Rattle.qp_shared_words.specs.Nils.{is_new};
-ghost use Rattle.qp_shared_steps.specs.Told.{LookTold, SeenTold, NilTold, EyeTold, free_in, TryTold, EyeLastTold, LastTold, LayTold, SwapTold, FreeTold};
+ghost use Rattle.qp_shared_steps.specs.Told.{LookTold, SeenTold, NilTold, EyeTold, free_in, TryTold, LayTold, SwapTold};
 
 use crate::places::{cell_at, queue_at};
-use crate::steps::{About, Words, add, exchange, look, look_again, store, swap};
+use crate::steps::{About, Words, exchange, look, look_again, store, swap};
 use atomic_table::Seat;
 use qp_base::Steps;
 use qp_calls::Counts;
 use qp_table::View;
 use std::marker::Brand;
 use std::sync::ledger::Ledger;
-
-/// What a last-in post adds to a queue's word, and what a take does.
-const LAST_IN: u64 = 1 << 21;
-
-const TAKE: u64 = 1 << 42;
 
 /// Looks at a queue.
 pub fn look_at_queue(words: &Words, seat: &mut Seat<(), View>, object: u8) -> u64
@@ -171,70 +166,6 @@ pub fn claim<L: Ledger>(
     exchange::<Brand>(words, seat, queue_at(object), old, old + 1, about)
 }
 
-/// Looks at a queue for a last-in post, with a record where it is full.
-pub fn look_before_last_in(words: &Words, seat: &mut Seat<(), View>, object: u8) -> u64
-    requires own { seat.old.table_id ≡ words.now.shared.table_id }
-    requires wide { words.now.shared.table_id.words ≡ 21128 }
-    requires object { IsTrue (is_object words.now.shared.key object) }
-    requires room { HasRoom seat.old.me.0 }
-    ensures same { (seat.new.table_id ≡ seat.old.table_id) × (seat.new.id ≡ seat.old.id) }
-    ensures told { EyeLastTold words.now.shared.key object seat.old.me.0 result seat.new.me.0 }
-{
-    let about = About {
-        by: 0,
-        to: object,
-        pool: 0,
-        block: 0,
-        low: 0,
-        name: 0,
-        old: 0,
-        new: 0,
-        margin: None,
-    };
-    look::<Brand>(words, seat, queue_at(object), about)
-}
-
-/// Tries to claim the cell before the front, by the lane that serves the queue, and answers the word that was found.
-/// The try is counted.
-pub fn claim_last_in<L: Ledger>(
-    words: &Words,
-    seat: &mut Seat<(), View>,
-    object: u8,
-    pool: u8,
-    block: u16,
-    name: u64,
-    old: u64,
-    steps: &mut Steps<L>,
-) -> u64
-    requires own { seat.old.table_id ≡ words.now.shared.table_id }
-    requires wide { words.now.shared.table_id.words ≡ 21128 }
-    requires object { IsTrue (is_object words.now.shared.key object) }
-    requires room { HasRoom seat.old.me.0 }
-    requires hand { InHand words.now.shared.key (record { pool = pool; block = block; name = name }) seat.old.me.0 }
-    requires serves { IsTrue (list_any (is_serve object) seat.old.me.0.serves) }
-    requires idle { many (on_queue object) seat.old.me.0.takes ≡ 0 }
-    requires last { value_seen words.now.shared.key (word.Queue object) seat.old.me.0.seen ≡ old }
-    requires free { 0 < free_in (ring_of words.now.shared.key object) old }
-    requires small { old / 4398046511104 ≤ 3000000 }
-    ensures same { (seat.new.table_id ≡ seat.old.table_id) × (seat.new.id ≡ seat.old.id) }
-    ensures counted { steps.new ≡ steps.old + 1 }
-    ensures told { LastTold words.now.shared.key object (record { pool = pool; block = block; name = name }) seat.old.me.0 old result seat.new.me.0 }
-{
-    steps.step();
-    let about = About {
-        by: 0,
-        to: object,
-        pool,
-        block: 0,
-        low: block,
-        name,
-        old,
-        new: 0,
-        margin: None,
-    };
-    exchange::<Brand>(words, seat, queue_at(object), old, old + LAST_IN, about)
-}
-
 /// Writes the cell of a claim: the code of its entry.
 pub fn lay(
     words: &Words,
@@ -326,37 +257,4 @@ pub fn empty_front(
         margin: None,
     };
     swap::<Brand>(words, seat, cell_at(object, cell), 0, about)
-}
-
-/// Frees the entry of a take, and answers the queue's word as it was.
-pub fn free_entry(
-    words: &Words,
-    seat: &mut Seat<(), View>,
-    object: u8,
-    cell: u64,
-    pool: u8,
-    block: u16,
-    name: u64,
-) -> u64
-    requires own { seat.old.table_id ≡ words.now.shared.table_id }
-    requires wide { words.now.shared.table_id.words ≡ 21128 }
-    requires object { IsTrue (is_object words.now.shared.key object) }
-    requires room { HasRoom seat.old.me.0 }
-    requires serves { IsTrue (list_any (is_serve object) seat.old.me.0.serves) }
-    requires take { 0 < many (is_place object cell (record { pool = pool; block = block; name = name })) seat.old.me.0.takes }
-    ensures same { (seat.new.table_id ≡ seat.old.table_id) × (seat.new.id ≡ seat.old.id) }
-    ensures told { FreeTold words.now.shared.key object cell (record { pool = pool; block = block; name = name }) seat.old.me.0 result seat.new.me.0 }
-{
-    let about = About {
-        by: 0,
-        to: object,
-        pool,
-        block: 0,
-        low: block,
-        name,
-        old: cell,
-        new: 0,
-        margin: None,
-    };
-    add::<Brand>(words, seat, queue_at(object), TAKE, about)
 }

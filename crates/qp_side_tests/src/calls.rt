@@ -111,7 +111,8 @@ pub(crate) fn first_seat<'a>(
     requires its { side.now.words.shared.key ≡ sys.now }
     requires root { (root.old.seat.table_id ≡ side.now.words.shared.table_id) × (root.old.given ≡ 0) }
     requires all { (o : ℕ) → serves_object root.old.seat.me.0 o ≡ is_object sys.now o }
-    ensures root { (root.new.seat.table_id ≡ root.old.seat.table_id) × (root.new.given ≤ 1) }
+    ensures root { root.new.seat.table_id ≡ root.old.seat.table_id }
+    ensures given { IfSome result (λ s. root.new.given ≡ 1) }
     ensures its { IfSome result (λ s. (s.words.now.shared.key ≡ sys.now) × (s.seat.table_id ≡ side.now.words.shared.table_id)) }
     ensures serves { IfSome result (λ s. IsTrue (serves_object s.seat.me.0 1)) }
     ensures none { IfSome result (λ s. length (recs_of s.seat.me.0) ≡ 0) }

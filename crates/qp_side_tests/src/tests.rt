@@ -5,6 +5,7 @@ ghost use Rattle.qp_model.specs.Sound.{IsSound};
 ghost use Rattle.qp_side.specs.Seat.{StaysAs, recs_of, serves_object};
 
 use crate::calls::{Call, first_seat, make};
+use crate::ends::stop_and_end;
 use qp_base::Steps;
 use qp_model::{Rec, System, kinds};
 use qp_side::{Side, SideSeat};
@@ -217,5 +218,15 @@ fn each_other_call_answers_its_record(rt: HostRuntime) -> Result<(), Fail> {
     let alloc = rt.alloc();
     let sys = one(alloc)?;
     assert_eq!(rt; see(alloc, &sys, OTHERS), Some(OTHERS.len()));
+    Ok(())
+}
+
+#[test]
+fn the_stop_word_keeps_its_first_code_up_to_the_end_of_all_seats(
+    rt: HostRuntime,
+) -> Result<(), Fail> {
+    let alloc = rt.alloc();
+    let sys = one(alloc)?;
+    assert_eq!(rt; stop_and_end(alloc, &sys), Some((None, Some(6), Some(6))));
     Ok(())
 }

@@ -5,7 +5,7 @@ use Rattle.qp_port.proofs.CrossingLemmas.{worker-send}
 use Rattle.qp_port.proofs.Rows.{ready-map}
 use Rattle.qp_port.proofs.Beginning.{all-begin, lanes-long}
 use Rattle.qp_port.proofs.Standing.{end-either}
-use Rattle.qp_port.proofs.Running.{lanes-left, one-table, run-left}
+use Rattle.qp_port.proofs.Running.{cause-left, lanes-left, one-table, run-left}
 use Rattle.qp_port.proofs.run.run_lanes_of_port.Goals as goal
 
 pub new_workers-requires-clause-many : goal.new_workers-requires-clause-many
@@ -55,3 +55,13 @@ returns-clause-run g c =
     c.run_workers-over.result.workers.items c.run_workers-over.ensures.same c.left_of.result (λ run. run.lanes.items) (λ run. run.rests.items) (λ run. run.done) c.left_of.ensures.lanes c.run_workers-over.result.how c.as_slice.result.now (c.as_slice.ensures.value ∙ c.in-Ok.ensures)
     (ready-map _ _ (λ w h. end-either w.sys.now w.budget w.turn w.job (lane w.lane) h) c.run_workers-over.result.workers.items c.run_workers-over.ensures.each)
     c.run_workers-over.ensures.ready c.run_workers-over.ensures.idle c.left_of.ensures.rests c.left_of.ensures.short c.left_of.ensures.idle
+
+pub returns-clause-cause : goal.returns-clause-cause
+returns-clause-cause g c =
+    let lane = g.O.Ops.lane in
+    let begun =
+    all-begin c.args.sys.now c.args.stim.now c.args.budget c.requires.sound c.requires.fit c.requires.few (λ w. w.sys.now) (λ w. w.budget) (λ w. w.turn) (λ w. w.job) (λ w. w.lane) lane c.args.lanes.items c.in_ok-workers.workers.items
+    c.in_ok-workers.ensures c.requires.lanes in
+    cause-left c.args.sys.now c.args.stim.now c.args.budget c.requires.sound c.requires.fit c.requires.few (λ w. w.sys.now) (λ w. w.budget) (λ w. w.turn) (λ w. w.job) (λ w. w.lane) lane c.in_ok-workers.workers.items begun
+    c.run_workers-over.result.workers.items c.run_workers-over.ensures.same c.left_of.result (λ run. run.lanes.items) (λ run. run.done) c.left_of.ensures.lanes c.run_workers-over.result.how
+    c.run_workers-over.ensures.stopped c.run_workers-over.ensures.each c.left_of.ensures.short c.left_of.ensures.cause

@@ -1,3 +1,5 @@
+use Rattle.std.proofs.Common.{true, false, inr}
+use Rattle.qp_port_phases.proofs.Keeping.{first-since}
 use Rattle.qp_port.proofs.Rows.{few-rows, ready-left, same-then, table-still}
 use Rattle.qp_port.proofs.starting.run_all.Goals as goal
 
@@ -18,3 +20,13 @@ pub returns-clause-same : goal.returns-clause-same
 returns-clause-same g c =
     let laws = (g.met.T.Lane g.world.𝓛 g.world.𝓜 g.world.𝓡 ((λ s x. x), (λ x. x), (λ x. x), λ x. x)) in
     same-then g.T.Lane.same laws.same_still _ _ _ c.start_all.ensures.same c.run_phases.ensures.same
+
+pub returns-clause-stopped : goal.returns-clause-stopped
+returns-clause-stopped g c said =
+    let laws = (g.met.T.Lane g.world.𝓛 g.world.𝓜 g.world.𝓡 ((λ s x. x), (λ x. x), (λ x. x), λ x. x)) in
+    inr (first-since g.T.Lane.view g.T.Lane.same laws.same_hears false _ _ _ c.start_all.ensures.same (c.run_phases.ensures.stopped said))
+
+pub returns-clause-memory : goal.returns-clause-memory
+returns-clause-memory g c said =
+    let laws = (g.met.T.Lane g.world.𝓛 g.world.𝓜 g.world.𝓡 ((λ s x. x), (λ x. x), (λ x. x), λ x. x)) in
+    first-since g.T.Lane.view g.T.Lane.same laws.same_hears true _ _ _ c.start_all.ensures.same (c.run_phases.ensures.memory said)

@@ -8,7 +8,7 @@ use Rattle.qp_port_cursor.proofs.Waiting.{found-here, halts-starve, halts-stop}
 use Rattle.qp_port_cursor.proofs.passing.pass_settle.Goals as goal
 
 pub returns-in-Some-clause-passes : goal.returns-in-Some-clause-passes
-returns-in-Some-clause-passes g c = found-here c.args.sys.now c.args.source.now _ (g.O.Ops.lane c.look.new.ops) c.in-Some.p c.in-Some.now c.requires.knows c.in-Some.ensures.0 c.in-Some.ensures.1
+returns-in-Some-clause-passes g c = found-here c.args.sys.now c.args.source.now _ (g.O.Ops.lane c.look.new.ops) c.in-Some.p c.in-Some.now c.requires.knows c.requires.stands c.in-Some.ensures.0 c.in-Some.ensures.1
 
 pub ready-requires : goal.ready-requires
 ready-requires g c = ap spills_in c.in_default.ensures.0.told ∙ unspilled-told (g.O.Ops.lane c.args.ops.now).told c.requires.knows.at.calm
@@ -18,7 +18,7 @@ returns-in-Err-Stopped-clause-passes g c =
     halts-stop c.args.sys.now c.args.source.now _ (g.O.Ops.lane c.look.new.ops) _ c.in-Err-Stopped.field-0 c.requires.knows c.requires.stands c.in_default.ensures.0 c.in-Err-Stopped.field-0-is c.in-Err-Stopped.ensures
 
 pub returns-in-Err-Memory-clause-passes : goal.returns-in-Err-Memory-clause-passes
-returns-in-Err-Memory-clause-passes g c = halts-starve _ (g.O.Ops.lane c.look.new.ops) _ c.in-Err-Memory.field-0 c.in_default.ensures.0 c.in-Err-Memory.field-0-is c.in-Err-Memory.ensures
+returns-in-Err-Memory-clause-passes g c = halts-starve c.args.source.now _ (g.O.Ops.lane c.look.new.ops) _ c.in-Err-Memory.field-0 c.in_default.ensures.0 c.in-Err-Memory.field-0-is c.in-Err-Memory.ensures
 
 pub halt-requires-clause-spills : goal.halt-requires-clause-spills
 halt-requires-clause-spills g c =

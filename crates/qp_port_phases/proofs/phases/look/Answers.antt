@@ -1,6 +1,6 @@
 use Rattle.std.proofs.Common.{◌∙◌, sym}
 use Rattle.qp_port_phases.specs.Quiet.{AllBelow}
-use Rattle.qp_port_phases.proofs.Keeping.{below-rises, found-other, found-seven, objects-still}
+use Rattle.qp_port_phases.proofs.Keeping.{below-rises, found-other, found-seven, objects-still, unstopped-still}
 use Rattle.qp_port_phases.proofs.phases.look.Goals as goal
 
 pub are_empty-requires-clause-objects : goal.are_empty-requires-clause-objects
@@ -17,10 +17,11 @@ returns-then-not-any_left-clause-idle g c said =
       below = below-rises view (view c.stopped.new.self) (view c.are_empty.new.lane) c.are_empty.ensures.rises c.meet_all.new.others met;
       empty = c.are_empty.ensures.empty c.if-are_empty.true;
       none = sym c.any_left.ensures ∙ c.if-not-any_left.true;
+      unstopped = unstopped-still _ _ _ c.in-None.ensures.stopped c.are_empty.ensures.codes;
     }
 
 pub returns-in-Some-eq7-clause-memory : goal.returns-in-Some-eq7-clause-memory
-returns-in-Some-eq7-clause-memory g c said = found-seven _ _ c.in-Some-eq7.field-0 c.in-Some-eq7.ensures.stopped c.in-Some-eq7.field-0-test
+returns-in-Some-eq7-clause-memory g c said = found-seven _ _ _ c.in-Some-eq7.field-0 c.meet_all.ensures.codes c.in-Some-eq7.ensures.stopped c.in-Some-eq7.field-0-test
 
 pub returns-in-Some-clause-stopped : goal.returns-in-Some-clause-stopped
-returns-in-Some-clause-stopped g c said = found-other _ _ c.in-Some.field-0 c.in-Some.ensures.stopped c.in-Some.field-0-test.1
+returns-in-Some-clause-stopped g c said = found-other _ _ _ c.in-Some.field-0 c.meet_all.ensures.codes c.in-Some.ensures.stopped c.in-Some.field-0-test.1

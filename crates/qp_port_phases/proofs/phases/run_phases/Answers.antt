@@ -1,5 +1,7 @@
+use Rattle.std.proofs.Common.{true, false, ◌∙◌, ap}
+use Rattle.qp_port_phases.specs.declared.phases.Next.TheVariants as next
 use Rattle.qp_port_phases.proofs.Counting.{few-more, went-few}
-use Rattle.qp_port_phases.proofs.Keeping.{same-each, same-then, table-still, went-ready, went-same}
+use Rattle.qp_port_phases.proofs.Keeping.{first-since, same-each, same-then, table-still, went-ready, went-same}
 use Rattle.qp_port_phases.proofs.phases.run_phases.Goals as goal
 
 pub loop-init : goal.loop-init
@@ -35,3 +37,13 @@ loop-preserved-in-Phase g c =
       table-still g.T.Lane.view g.T.Lane.same laws.same_table c.args.objects.now _ _ went table,
       went-few g.T.Lane.numbers g.T.Lane.view g.T.Worker.turned laws.went_on c.args.objects.now _ _ turned (c.between.ensures.cause c.in-Phase.is),
     )
+
+pub returns-in-Over-clause-stopped : goal.returns-in-Over-clause-stopped
+returns-in-Over-clause-stopped g c said =
+    let laws = (g.met.T.Lane g.world.𝓛 g.world.𝓜 g.world.𝓡 ((λ s x. x), (λ x. x), (λ x. x), λ x. x)) in
+    first-since g.T.Lane.view g.T.Lane.same laws.same_hears false _ _ _ c.loop.invariant.3 (c.between.ensures.stopped (c.in-Over.is ∙ ap next.Over said))
+
+pub returns-in-Over-clause-memory : goal.returns-in-Over-clause-memory
+returns-in-Over-clause-memory g c said =
+    let laws = (g.met.T.Lane g.world.𝓛 g.world.𝓜 g.world.𝓡 ((λ s x. x), (λ x. x), (λ x. x), λ x. x)) in
+    first-since g.T.Lane.view g.T.Lane.same laws.same_hears true _ _ _ c.loop.invariant.3 (c.between.ensures.memory (c.in-Over.is ∙ ap next.Over said))

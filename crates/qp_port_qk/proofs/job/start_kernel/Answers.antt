@@ -1,4 +1,5 @@
 use Rattle.qp_dispatch.specs.declared.steps.Step.TheVariants as step
+use Rattle.qp_port_cursor.proofs.Hearing.{why-stopped}
 use Rattle.qp_port_qk.proofs.Ending.{kernel-started, started-none, starts-same, stopped-ends, stopped-none}
 use Rattle.qp_port_qk.proofs.job.start_kernel.Goals as goal
 
@@ -12,7 +13,10 @@ pub returns-in-Done-clause-none : goal.returns-in-Done-clause-none
 returns-in-Done-clause-none g c = λ free. started-none c.args.sys.now c.args.budget c.args.objects.now c.start.new.self (g.O.Ops.lane c.args.ops.now) (g.O.Ops.lane c.start.new.ops) c.in-Done.ensures.goes
 
 pub returns-in-Stopped-clause-starts : goal.returns-in-Stopped-clause-starts
-returns-in-Stopped-clause-starts g c = stopped-ends c.args.sys.now c.args.budget (g.O.Ops.lane c.args.ops.now) (g.O.Ops.lane c.start.new.ops) c.in-Stopped.ensures.goes
+returns-in-Stopped-clause-starts g c =
+    let v = g.O.Ops.lane c.args.ops.now in
+    let w = g.O.Ops.lane c.start.new.ops in
+    (stopped-ends c.args.sys.now c.args.budget v w c.in-Stopped.ensures.goes, why-stopped v w c.in-Stopped.ensures.lane.handed)
 
 pub returns-in-Stopped-clause-none : goal.returns-in-Stopped-clause-none
 returns-in-Stopped-clause-none g c = λ free. stopped-none c.args.sys.now c.args.budget (g.O.Ops.lane c.args.ops.now) (g.O.Ops.lane c.start.new.ops) c.in-Stopped.ensures.goes

@@ -9,14 +9,15 @@ use Rattle.qp_port_qk.specs.Resting.{AreLeft}
 use Rattle.std.specs.List.{list_any}
 use Rattle.std.proofs.lemmas.List.{length-map}
 use Rattle.qp_port_phases.specs.Lanes.{AreOneTable, SameEach}
-use Rattle.qp_port_qk.specs.Ends.{HasRun}
+use Rattle.qp_port_phases.specs.Stopping.{AnyStopped}
+use Rattle.qp_port_qk.specs.Ends.{HasRun, is_over}
 use Rattle.qp_port_qk.specs.Jobs.{is_short}
 use Rattle.qp_port_qk.specs.Rows.{AreSameLanes}
 use Rattle.qp_port_qk.specs.Workers.{FirstBegins, IsSameWorker, MayBegin, MayEnd, MayTurn}
 use Rattle.qp_port_qk.proofs.Ending.{either-end}
 use Rattle.qp_port_qk.proofs.Rows.{ready-map}
 use Rattle.qp_port_qk.proofs.Beginning.{all-begin, new-many}
-use Rattle.qp_port_qk.proofs.Running.{each-long, lanes-left, ok-all, ok-map, one-table, ran, run-left, same-lanes, taken-whole}
+use Rattle.qp_port_qk.proofs.Running.{cause, cause-left, each-long, lanes-left, ok-all, ok-map, one-table, ran, run-left, same-lanes, taken-whole}
 use Rattle.qp_port_qk.proofs.run.run_lanes_of_qk.Goals as goal
 
 pub new_workers-requires-clause-many : goal.new_workers-requires-clause-many
@@ -82,3 +83,19 @@ returns-clause-run g c =
     (subst (λ us. IfOk c.left_of.result (λ run. AreLeft (λ w. w.job) c.start_and_run-how.result us run.rests.items)) whole c.left_of.ensures.rests)
     (subst (λ us. OnOk c.left_of.result (list_any (λ w. is_short w.turn) us ≡ false)) whole c.left_of.ensures.short)
     (subst (λ us. IfOk c.left_of.result (λ run. run.done ≡ true → (c.start_and_run-how.result ≡ Some ended.Idle) × (list_all (λ w. is_idle w.turn) us ≡ true))) whole c.left_of.ensures.idle)
+
+pub returns-clause-cause : goal.returns-clause-cause
+returns-clause-cause g c =
+    let ys = c.start_and_run-how.new.workers in
+    let went = c.start_and_run-how.ensures in
+    let a = c.as_mut_slice.ensures.len in
+    let b = each-long (λ a b. IsSameWorker a.sys.now b.sys.now a.budget b.budget a.job b.job (g.W.Ops.lane a.lane) (g.W.Ops.lane b.lane)) c.as_mut_slice.result.now ys c.start_and_run-how.ensures.same in
+    let whole = taken-whole c.in_ok-workers.workers.len ys _ (omega (arith, a, b)) in
+    ok-all (list_any (λ w. is_short w.turn) ys ≡ false) (λ run. run.lanes.items ≡ map (λ w. w.lane) ys) (λ run. run.lanes.items ≡ map (λ w. w.lane) ys)
+    (λ run. run.done ≡ false → (is_over c.start_and_run-how.result ≡ false) ⊎ (list_all (λ w. is_idle w.turn) ys ≡ false)) (λ run. run.done ≡ false → AnyStopped (map g.W.Ops.lane run.lanes.items))
+    (λ run lanes again short left. λ not_done. cause-left (λ w. w.lane) g.W.Ops.lane run.lanes.items ys lanes
+    (cause g.W.World.acts (λ w. w.sys.now) (λ w. w.budget) (λ w. w.turn) (λ w. w.job) (λ w. g.W.Ops.lane w.lane) c.as_mut_slice.result.now ys c.start_and_run-how.result went.none went.stopped went.memory went.each short (left not_done)))
+    c.left_of.result (subst (λ us. IfOk c.left_of.result (λ run. run.lanes.items ≡ map (λ w. w.lane) us)) whole c.left_of.ensures.lanes)
+    (subst (λ us. IfOk c.left_of.result (λ run. run.lanes.items ≡ map (λ w. w.lane) us)) whole c.left_of.ensures.lanes)
+    (subst (λ us. OnOk c.left_of.result (list_any (λ w. is_short w.turn) us ≡ false)) whole c.left_of.ensures.short)
+    (subst (λ us. IfOk c.left_of.result (λ run. run.done ≡ false → (is_over c.start_and_run-how.result ≡ false) ⊎ (list_all (λ w. is_idle w.turn) us ≡ false))) whole c.left_of.ensures.cause)

@@ -1,5 +1,6 @@
-use Rattle.std.proofs.Common.{inl}
-use Rattle.qp_port_phases.proofs.Keeping.{same-then, table-still}
+use Rattle.std.proofs.Common.{inl, true, false}
+use Rattle.qp_model.proofs.AbleLemmas.{some-same}
+use Rattle.qp_port_phases.proofs.Keeping.{first-since, same-then, table-still}
 use Rattle.qp_port_qk.proofs.Rows.{ready-map}
 use Rattle.qp_port_qk.proofs.starting.start_and_run.Goals as goal
 
@@ -21,3 +22,13 @@ run_phases-requires-clause-begins g c κs within = c.start_first.ensures.rows 0
 
 pub returns-else-start_first-clause-rows : goal.returns-else-start_first-clause-rows
 returns-else-start_first-clause-rows g c = c.start_first.ensures.rows 1
+
+pub returns-then-start_first-clause-stopped : goal.returns-then-start_first-clause-stopped
+returns-then-start_first-clause-stopped g c said =
+    let laws = (g.met.T.Lane g.world.𝓛 g.world.𝓜 g.world.𝓡 ((λ s x. x), (λ x. x), (λ x. x), λ x. x)) in
+    first-since g.T.Lane.view g.T.Lane.same laws.same_hears false c.args.workers.now c.start_first.new.workers c.run_phases.new.workers c.if-start_first.ensures.same (c.run_phases.ensures.stopped (some-same said))
+
+pub returns-then-start_first-clause-memory : goal.returns-then-start_first-clause-memory
+returns-then-start_first-clause-memory g c said =
+    let laws = (g.met.T.Lane g.world.𝓛 g.world.𝓜 g.world.𝓡 ((λ s x. x), (λ x. x), (λ x. x), λ x. x)) in
+    first-since g.T.Lane.view g.T.Lane.same laws.same_hears true c.args.workers.now c.start_first.new.workers c.run_phases.new.workers c.if-start_first.ensures.same (c.run_phases.ensures.memory (some-same said))

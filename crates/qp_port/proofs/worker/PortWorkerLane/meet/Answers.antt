@@ -1,5 +1,6 @@
 use Rattle.std.proofs.Common.{refl}
-use Rattle.qp_port.proofs.Staying.{may-turn_still, same-worker, seen-met}
+use Rattle.qp_port_cursor.proofs.Seeing.{seen-met}
+use Rattle.qp_port.proofs.Staying.{may-turn_still, same-worker}
 use Rattle.qp_port.proofs.worker.PortWorkerLane.meet.Goals as goal
 
 pub returns-clause-kept : goal.returns-clause-kept
@@ -11,7 +12,7 @@ returns-clause-kept g c =
     let more = seen-met v (lane c.args.other.now.lane) w c.meet.ensures.meets in
     record {
       ready = may-turn_still x.sys.now x.budget x.turn x.job v w more c.requires.ready;
-      same = same-worker x.sys.now x.budget x.job v w more.same;
+      same = same-worker x.sys.now x.budget x.job v w more;
       waits_still = refl;
       remains_still = refl;
       numbers_still = refl;

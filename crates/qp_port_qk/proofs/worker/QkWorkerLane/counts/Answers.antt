@@ -1,5 +1,6 @@
 use Rattle.std.proofs.Common.{refl}
-use Rattle.qp_port_qk.proofs.Seeing.{may-turn_still, numbers-still, same-worker, seen-counted}
+use Rattle.qp_port_cursor.proofs.Seeing.{seen-counted}
+use Rattle.qp_port_qk.proofs.Seeing.{may-turn_still, numbers-still, same-worker}
 use Rattle.qp_port_qk.proofs.worker.QkWorkerLane.counts.Goals as goal
 
 pub returns-clause-kept : goal.returns-clause-kept
@@ -10,7 +11,7 @@ returns-clause-kept g c =
     let more = seen-counted c.args.p v w c.counts.result c.counts.ensures in
     record {
       ready = may-turn_still v w more g.W.World.acts x.sys.now x.budget x.turn x.job c.requires.ready;
-      same = same-worker x.sys.now x.budget x.job v w more.same;
+      same = same-worker x.sys.now x.budget x.job v w more;
       waits_still = refl;
       remains_still = refl;
       numbers_still = numbers-still v w more x.sys.now x.budget x.turn x.job;

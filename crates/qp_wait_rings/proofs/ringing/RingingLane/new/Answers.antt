@@ -10,7 +10,7 @@ pub invariant_of-result-clause-rung : goal.invariant_of-result-clause-rung
 invariant_of-result-clause-rung c =
     let records = c.records-from.result.now in
     let told = (lane_view c.args.lane).told in
-    let here : length records ≡ length told = sym (lane-length records) ∙ ap length c.records-from.ensures ∙ length-map told untold in
+    let here : length records ≡ length told = sym (lane-length records) ∙ ap length c.records-from.ensures.items ∙ length-map told untold in
     rung-begun (length records) c.args.cords.items (lane_view c.args.lane) here c.requires.loose
 
 pub returns : goal.returns
@@ -21,5 +21,5 @@ returns c =
       lane = refl;
       opened = refl;
       refused = refl;
-      from = sym (lane-length records) ∙ ap length c.records-from.ensures ∙ length-map told untold;
+      from = sym (lane-length records) ∙ ap length c.records-from.ensures.items ∙ length-map told untold;
     }

@@ -1,5 +1,0 @@
-use Rattle.qp_shared_steps.specs.Told.{LastTold}
-use Rattle.qp_shared_words.proofs.queues.claim_last_in.Given as goal
-
-abbrev pub ghosts-exchange : goal.ghosts-exchange
-ghosts-exchange g a = record { tells = λ v n u. LastTold a.words.now.shared.key a._about.to (record { pool = a._about.pool; block = a._about.low; name = a._about.name }) v a._about.old n u }
