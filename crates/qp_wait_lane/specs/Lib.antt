@@ -1,0 +1,5 @@
+pub mod Parked
+pub mod Ropes
+pub mod Rooted
+pub mod Lane
+pub mod LaneLaws

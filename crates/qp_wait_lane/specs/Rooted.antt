@@ -1,0 +1,23 @@
+-- The bells of a system, and their root.
+use Rattle.std.specs.Prelude.{◌≡◌, true, List, map}
+use Rattle.qp_model.specs.declared.systems.System.{System}
+use Rattle.qp_model.specs.Sources.{priorities}
+use Rattle.qp_wait_rings.specs.declared.cord.Cord.{Cord}
+use Rattle.qp_wait_rings.specs.Cords.{are_unpulled}
+use Rattle.qp_wait_lane.specs.declared.bells.Bells.{Bells}
+use Rattle.qp_wait_lane.specs.declared.bells.BellRoot.{BellRoot}
+use Rattle.qp_wait_lane.specs.Ropes.{AreRopes}
+
+-- they wake the objects of the system
+abbrev pub AreBellsOf : System → Bells → Type 0
+AreBellsOf sys b = map (λ w. w.object) b.wakers.items ≡ priorities sys
+
+-- the root of these bells
+pub record IsRootOf (b : Bells) (r : BellRoot) : Type 0 where
+  pub seat : r.seat.table_id ≡ b.count.shared.table_id
+  pub ropes : AreRopes b.wakers.items r.ropes.items
+
+-- cords to these bells, by which no note was given
+pub record AreLooseFor (b : Bells) (cords : List Cord) : Type 0 where
+  pub objects : map (λ c. c.object) cords ≡ map (λ w. w.object) b.wakers.items
+  pub none : are_unpulled cords ≡ true
