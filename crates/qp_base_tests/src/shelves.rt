@@ -35,43 +35,54 @@ fn two_files(alloc: Global) -> Result<MemShelf, AllocError> {
     Ok(MemShelf::new(files, Vec::from_slice(alloc, &[1])?))
 }
 
+/// What the loads of a shelf in memory answer, one after another. The first pair of a name counts, and load 1 fails.
+const LOADS: [(&str, Result<&[u8], ShelfFault>); 4] = [
+    ("a", Ok(b"first")),
+    ("a", Err(ShelfFault::Failed)),
+    ("c", Err(ShelfFault::Absent)),
+    ("b", Ok(b"")),
+];
+
+/// The first load that answers something else.
+fn first_wrong(alloc: Global, shelf: &mut MemShelf) -> Option<usize> {
+    for (i, (name, want)) in LOADS.iter().enumerate() {
+        if !answer(shelf, alloc, name, *want) {
+            return Some(i);
+        }
+    }
+    None
+}
+
 #[test]
-fn a_shelf_in_memory_loads_what_it_holds(rt: HostRuntime) -> Result<(), Fail> {
-    let alloc = rt.alloc();
-    let mut shelf = two_files(alloc)?;
-    assert!(rt;
-        answer(&mut shelf, alloc, "a", Ok(b"first")),
-        "the first pair of a name counts"
-    );
-    assert!(rt;
-        answer(&mut shelf, alloc, "a", Err(ShelfFault::Failed)),
-        "load 1 fails"
-    );
-    assert!(rt; answer(&mut shelf, alloc, "c", Err(ShelfFault::Absent)));
-    assert!(rt; answer(&mut shelf, alloc, "b", Ok(b"")));
-    Ok(())
+fn a_shelf_in_memory_loads_what_it_holds(rt: HostRuntime) {
+    let Ok(mut shelf) = two_files(rt.alloc()) else {
+        assert!(rt; false, "no memory");
+        return;
+    };
+    let wrong = first_wrong(rt.alloc(), &mut shelf);
+    assert!(rt; wrong.is_none(), "load {wrong:?}");
 }
 
 /// How a file of so many bytes in memory is loaded: its length, or the fault.
-fn loaded(alloc: Global, len: usize) -> Result<Result<usize, ShelfFault>, AllocError> {
-    let bytes = vec![in alloc; 0u8; len]?;
+fn loaded(alloc: Global, len: usize) -> Option<Result<usize, ShelfFault>> {
+    let bytes = vec![in alloc; 0u8; len].ok()?;
     let mut files = Vec::new(alloc);
-    files.push((ArrayString::from("long").unwrap_or_default(), bytes))?;
+    files
+        .push((ArrayString::from("long").unwrap_or_default(), bytes))
+        .ok()?;
     let mut shelf = MemShelf::new(files, Vec::new(alloc));
-    Ok(match shelf.load(alloc, "long") {
+    Some(match shelf.load(alloc, "long") {
         Ok(file) => Ok(file.len()),
         Err(fault) => Err(fault),
     })
 }
 
 #[test]
-fn a_file_beyond_the_limit_is_too_long(rt: HostRuntime) -> Result<(), Fail> {
-    let alloc = rt.alloc();
+fn a_file_beyond_the_limit_is_too_long(rt: HostRuntime) {
     assert!(rt; FILE_LIMIT == 67108864);
-    assert!(rt; loaded(alloc, 67108864)? == Ok(67108864));
+    assert!(rt; loaded(rt.alloc(), 67108864) == Some(Ok(67108864)));
     let too_long = ShelfFault::TooLong { len: 67108865 };
-    assert!(rt; loaded(alloc, 67108865)? == Err(too_long));
-    Ok(())
+    assert!(rt; loaded(rt.alloc(), 67108865) == Some(Err(too_long)));
 }
 
 /// A path of this process alone, in the folder for files of no lasting use.
@@ -93,30 +104,24 @@ fn is_loaded(rt: &HostRuntime, path: &str) -> Result<bool, Fail> {
     Ok(was_absent && is_loaded)
 }
 
-#[test]
-fn a_shelf_on_disk_takes_a_path_as_it_is(rt: HostRuntime) -> Result<(), Fail> {
-    for (before, behind) in [("qp_base_", ".txt"), ("qp base ", ""), ("qp_base_", " ")] {
-        let path = path(&rt, before, behind)?;
-        assert!(rt; is_loaded(&rt, path.as_str())?, "{before}{behind}");
-    }
-    Ok(())
+/// Whether a file of this name, in the folder for files of no lasting use, is loaded.
+fn is_loaded_from(rt: &HostRuntime, before: &str, behind: &str) -> Result<bool, Fail> {
+    let path = path(rt, before, behind)?;
+    is_loaded(rt, path.as_str())
 }
 
-#[test]
-fn a_shelf_on_disk_takes_a_long_path(rt: HostRuntime) -> Result<(), Fail> {
+/// Whether a path of more than 300 bytes is taken.
+fn takes_a_long_path(rt: &HostRuntime) -> Result<bool, Fail> {
     let padding = "./".repeat(rt.alloc(), 150)?;
-    let path = path(&rt, padding.as_str(), "_long")?;
-    assert!(rt; path.len() > 300 && is_loaded(&rt, path.as_str())?);
-    Ok(())
+    is_loaded_from(rt, padding.as_str(), "_long")
 }
 
-#[test]
-fn a_folder_is_no_file(rt: HostRuntime) -> Result<(), Fail> {
-    let folder = env::temp_dir(&rt)?;
-    let mut shelf = DirShelf::new(&rt);
+/// Whether a folder is no file.
+fn refuses_a_folder(rt: &HostRuntime) -> Result<bool, Fail> {
+    let folder = env::temp_dir(rt)?;
+    let mut shelf = DirShelf::new(rt);
     let folder = folder.to_str().unwrap_or("");
-    assert!(rt; answer(&mut shelf, rt.alloc(), folder, Err(ShelfFault::Failed)));
-    Ok(())
+    Ok(answer(&mut shelf, rt.alloc(), folder, Err(ShelfFault::Failed)))
 }
 
 /// Whether the length of a file on disk of so many bytes is told, which are too many.
@@ -128,12 +133,22 @@ fn is_told(rt: &HostRuntime, path: &str, len: u64) -> Result<bool, Fail> {
     Ok(answer(&mut shelf, rt.alloc(), path, Err(too_long)))
 }
 
+/// Whether the length of a long file is told.
+fn tells_lengths(rt: &HostRuntime) -> Result<bool, Fail> {
+    let path = path(rt, "qp_base_", "_limit")?;
+    let are_told = is_told(rt, path.as_str(), 67108865)? && is_told(rt, path.as_str(), 67109000)?;
+    fs::remove_file(rt, path.as_str())?;
+    Ok(are_told)
+}
+
+/// A shelf on disk takes a path as it is.
 #[test]
-fn a_shelf_on_disk_tells_the_length_of_a_long_file(rt: HostRuntime) -> Result<(), Fail> {
-    let path = path(&rt, "qp_base_", "_limit")?;
-    for len in [67108865, 67109000] {
-        assert!(rt; is_told(&rt, path.as_str(), len)?);
+fn a_shelf_on_disk_takes_paths(rt: HostRuntime) -> Result<(), Fail> {
+    for (before, behind) in &[("qp_base_", ".txt"), ("qp base ", ""), ("qp_base_", " ")] {
+        assert!(rt; is_loaded_from(&rt, before, behind)?, "{before}{behind}");
     }
-    fs::remove_file(&rt, path.as_str())?;
+    assert!(rt; takes_a_long_path(&rt)?);
+    assert!(rt; refuses_a_folder(&rt)?);
+    assert!(rt; tells_lengths(&rt)?);
     Ok(())
 }

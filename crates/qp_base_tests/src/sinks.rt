@@ -5,7 +5,6 @@ ghost use Rattle.std.specs.Prelude.{◌≡◌, length, IfOk};
 use qp_base::{Gathered, MemSink, Sink, SinkFault, StdSink};
 use std::alloc::{AllocError, Global};
 use std::marker::Brand;
-use std::test::Fail;
 
 /// A sink in memory with so much room, in which the puts of these numbers keep so many bytes and fail.
 fn in_memory(alloc: Global, room: u64, failing: &[(u64, u64)]) -> Result<MemSink, AllocError>
@@ -27,13 +26,17 @@ fn is_left(alloc: Global, kept: u64, want: &[u8]) -> Result<bool, AllocError> {
     Ok(fails_once && sink.bytes() == want)
 }
 
+/// How many bytes put 1 keeps, and what is left.
+const LEFT: [(u64, &[u8]); 3] = [(0, b"abefgh"), (1, b"abcefg"), (9, b"abcdef")];
+
 #[test]
-fn a_sink_in_memory_keeps_what_its_faults_leave(rt: HostRuntime) -> Result<(), Fail> {
-    let cases: [(u64, &[u8]); 3] = [(0, b"abefgh"), (1, b"abcefg"), (9, b"abcdef")];
-    for (kept, want) in cases {
-        assert!(rt; is_left(rt.alloc(), kept, want)?, "keeping {kept}");
+fn a_sink_in_memory_keeps_what_its_faults_leave(rt: HostRuntime) {
+    for (kept, want) in &LEFT {
+        assert!(rt;
+            is_left(rt.alloc(), *kept, want) == Ok(true),
+            "keeping {kept}"
+        );
     }
-    Ok(())
 }
 
 /// A sink that gathers over one in memory.
@@ -82,16 +85,27 @@ fn all_bytes(alloc: Global) -> Result<Vec<u8>, AllocError> {
     Ok(bytes)
 }
 
-#[test]
-fn a_sink_that_gathers_hands_on_all_bytes_in_order(rt: HostRuntime) -> Result<(), Fail> {
-    let alloc = rt.alloc();
+/// Whether all bytes are handed on in order, and nothing is left behind a flush.
+fn hands_on(alloc: Global, sink: &mut OverMemory, want: &[u8]) -> Result<bool, AllocError> {
+    if !are_put(alloc, sink)? {
+        return Ok(false);
+    }
+    if sink.flush().is_err() || sink.inner().bytes() != want {
+        return Ok(false);
+    }
+    Ok(sink.flush().is_ok() && sink.inner().bytes() == want)
+}
+
+/// The same of a new sink.
+fn gathers(alloc: Global) -> Result<bool, AllocError> {
     let want = all_bytes(alloc)?;
     let mut sink = gathered(alloc, &[])?;
-    assert!(rt; are_put(alloc, &mut sink)?);
-    assert!(rt; sink.flush().is_ok() && sink.inner().bytes() == want.as_slice());
-    assert!(rt; sink.flush().is_ok(), "nothing is left");
-    assert!(rt; sink.into_inner().bytes() == want.as_slice());
-    Ok(())
+    Ok(hands_on(alloc, &mut sink, &want)? && sink.into_inner().bytes() == want.as_slice())
+}
+
+#[test]
+fn a_sink_that_gathers_hands_on_all_bytes_in_order(rt: HostRuntime) {
+    assert!(rt; gathers(rt.alloc()) == Ok(true));
 }
 
 /// Whether all puts work.
@@ -113,19 +127,24 @@ fn fails_on(sink: &mut OverMemory) -> bool {
     true
 }
 
+/// Whether the put of this number keeps so many bytes and fails, with so many gone on then, and the fault is remembered.
+fn remembers(alloc: Global, number: u64, kept: u64, below: usize) -> Result<bool, AllocError> {
+    let mut sink = gathered(alloc, &[(number, kept)])?;
+    let is_right = put_all(alloc, &mut sink)? == (number == 3) && fails_on(&mut sink);
+    Ok(is_right && sink.inner().bytes().len() == below)
+}
+
+/// A fault of what is gathered, twice, of a long put, and of what a flush hands on.
+const FAULTS: [(u64, u64, usize); 4] = [(0, 5, 5), (1, 6, 40006), (2, 7, 80007), (3, 8, 150001)];
+
 #[test]
-fn a_sink_that_gathers_remembers_a_fault(rt: HostRuntime) -> Result<(), Fail> {
-    let alloc = rt.alloc();
-    // The put of this number keeps so many bytes and fails: of what is gathered, of a long put, of what a flush hands on.
-    for (number, kept, below) in [(0, 5, 5), (1, 6, 40006), (2, 7, 80007), (3, 8, 150001)] {
-        let mut sink = gathered(alloc, &[(number, kept)])?;
-        let is_right = put_all(alloc, &mut sink)? == (number == 3) && fails_on(&mut sink);
+fn a_sink_that_gathers_remembers_a_fault(rt: HostRuntime) {
+    for (number, kept, below) in &FAULTS {
         assert!(rt;
-            is_right && sink.inner().bytes().len() == below,
+            remembers(rt.alloc(), *number, *kept, *below) == Ok(true),
             "fault {number}"
         );
     }
-    Ok(())
 }
 
 #[test]

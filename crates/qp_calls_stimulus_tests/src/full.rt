@@ -31,9 +31,9 @@ const CASES: [(&str, u32, &str); 5] = [
 
 #[test]
 fn a_full_lane_spills(rt: HostRuntime) -> Result<(), Fail> {
-    for (stimuli, count, wanted) in CASES {
-        let text = trial_of(rt.alloc(), stimuli, count, &NoGate)?;
-        if text.as_str() != wanted {
+    for (stimuli, count, wanted) in &CASES {
+        let text = trial_of(rt.alloc(), stimuli, *count, &NoGate)?;
+        if text.as_str() != *wanted {
             return Err(Fail::new(format_args!("{stimuli} behind {count}: {text}")));
         }
     }

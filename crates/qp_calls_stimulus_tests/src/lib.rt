@@ -9,4 +9,5 @@ mod full;
 mod gates;
 #[cfg(test)]
 mod shown;
+#[cfg(test)]
 mod trial;

@@ -1,7 +1,6 @@
 //! Actions of starts and of transitions over six levels.
 
-use crate::samples::{NOWHERE, Step, chart_of, compiled, starts_so, steps_so};
-use std::test::Fail;
+use crate::samples::{Step, Trial};
 
 /// Two chains of six states, each with an entry and an exit action.
 const CHAINS: &str = "qp = 1
@@ -30,41 +29,37 @@ state = [
 const START: &str =
     "begin, say 1, lock 2, say 3, say 4, unlock, say 5, enter 1, say 11, init 1, say 91, enter 2, say 12, enter 3, say 13, init 3, lock 1, say 92, unlock, enter 4, say 14, enter 5, say 15, enter 6, say 16, say 116, done";
 
-const STEPS: [Step<'static>; 3] = [
+const STEPS: &[Step] = &[
     // A transition over six levels, and one back with its initial transitions.
-    Step {
-        from: 6,
-        signal: 5,
-        tasks: "run 6 1, lock 3, say 6, unlock, exit 6, say 26, exit 5, say 25, exit 4, say 24, exit 3, say 23, exit 2, say 22, exit 1, say 21, enter 7, say 31, enter 8, say 32, enter 9, say 33, enter 10, say 34, enter 11, say 35, enter 12, say 36, done",
-        leaf: 12,
-    },
-    Step {
-        from: 12,
-        signal: 4,
-        tasks: "run 7 1, say 2, exit 12, say 46, exit 11, say 45, exit 10, say 44, exit 9, say 43, exit 8, say 42, exit 7, say 41, enter 1, say 11, init 1, say 91, enter 2, say 12, enter 3, say 13, init 3, lock 1, say 92, unlock, enter 4, say 14, enter 5, say 15, enter 6, say 16, say 116, done",
-        leaf: 6,
-    },
+    (
+        6,
+        5,
+        &[],
+        0,
+        "run 6 1, lock 3, say 6, unlock, exit 6, say 26, exit 5, say 25, exit 4, say 24, exit 3, say 23, exit 2, say 22, exit 1, say 21, enter 7, say 31, enter 8, say 32, enter 9, say 33, enter 10, say 34, enter 11, say 35, enter 12, say 36, done",
+        12,
+    ),
+    (
+        12,
+        4,
+        &[],
+        0,
+        "run 7 1, say 2, exit 12, say 46, exit 11, say 45, exit 10, say 44, exit 9, say 43, exit 8, say 42, exit 7, say 41, enter 1, say 11, init 1, say 91, enter 2, say 12, enter 3, say 13, init 3, lock 1, say 92, unlock, enter 4, say 14, enter 5, say 15, enter 6, say 16, say 116, done",
+        6,
+    ),
     // A row without a target leaves the leaf, at whatever state it stands.
-    Step {
-        from: 6,
-        signal: 6,
-        tasks: "run 5 1, say 7, lock 9, say 8, unlock, done",
-        leaf: 6,
-    },
+    (
+        6,
+        6,
+        &[],
+        0,
+        "run 5 1, say 7, lock 9, say 8, unlock, done",
+        6,
+    ),
 ];
 
-#[test]
-fn starts_and_steps_have_their_actions(rt: HostRuntime) -> Result<(), Fail> {
-    let alloc = rt.alloc();
-    let chart = chart_of(alloc, CHAINS)?;
-    let compiled = compiled(alloc, &chart)?;
-    assert!(rt; starts_so(alloc, &chart, &compiled, START, 6)?);
-    for step in &STEPS {
-        assert!(rt;
-            steps_so(alloc, &chart, &compiled, &NOWHERE, step)?,
-            "{}",
-            step.tasks
-        );
-    }
-    Ok(())
-}
+pub(crate) const CHAIN: Trial = Trial {
+    file: CHAINS,
+    start: (START, 6),
+    steps: STEPS,
+};

@@ -10,4 +10,6 @@ mod guards;
 #[cfg(test)]
 mod samples;
 #[cfg(test)]
+mod tests;
+#[cfg(test)]
 mod transitions;

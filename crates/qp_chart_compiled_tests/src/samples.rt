@@ -1,30 +1,17 @@
 //! Charts of files, and their agendas as texts.
 
-ghost use Rattle.std.specs.Prelude.{IfOk};
 ghost use Rattle.qp_chart_compiled.specs.Compiled.{IsCompiled};
 
 use qp_chart::{Bound, Chart, Env, Plain};
 use qp_chart_compiled::{Agenda, Compiled, Task};
 use qp_system::system_of_bytes;
 use std::alloc::{AllocError, Global};
-use std::test::Fail;
-
-/// What names stand for where no guard looks at them.
-pub(crate) const NOWHERE: Env<'static> = Env {
-    vars: &[],
-    pars: &[],
-    ok: 0,
-    me: 1,
-};
 
 /// The one chart of a file.
-pub(crate) fn chart_of(alloc: Global, text: &str) -> Result<Chart, Fail> {
-    let sys = system_of_bytes(alloc, text.as_bytes())?;
+fn chart_of(alloc: Global, text: &str) -> Option<Chart> {
+    let sys = system_of_bytes(alloc, text.as_bytes()).ok()?;
     let mut charts = sys.charts.items;
-    match charts.pop() {
-        Some(chart) => Ok(chart),
-        None => Err(Fail::from("one chart")),
-    }
+    charts.pop()
 }
 
 /// A plain action: a `say` with its number.
@@ -51,7 +38,7 @@ fn shown(alloc: Global, task: Task<'_>) -> Result<String, AllocError> {
 }
 
 /// The tasks that are left, with commas between them. It drops one after another, and looks beyond the last one.
-pub(crate) fn tasks_of(
+fn tasks_of(
     alloc: Global,
     compiled: &Compiled,
     chart: &Chart,
@@ -71,51 +58,75 @@ pub(crate) fn tasks_of(
     Ok(text)
 }
 
-/// The compiled form of a chart.
-pub(crate) fn compiled(alloc: Global, chart: &Chart) -> Result<Compiled, AllocError>
-    ensures { IfOk result (λ c. IsCompiled chart.now c) }
-{
-    match Compiled::new(chart, alloc) {
-        Ok(compiled) => Ok(compiled),
-        Err(_) => Err(AllocError),
+/// A step from a leaf by a signal, with the variables and the last answer; what it does, and the leaf after it.
+pub(crate) type Step = (u8, u16, &'static [i64], i64, &'static str, u8);
+
+/// The chart of a file; what its start does, with the leaf after it; and steps.
+pub(crate) struct Trial {
+    pub(crate) file: &'static str,
+    pub(crate) start: (&'static str, u8),
+    pub(crate) steps: &'static [Step],
+}
+
+/// Whether an agenda has these tasks, and its leaf is this one.
+fn is_so(
+    alloc: Global,
+    chart: &Chart,
+    compiled: &Compiled,
+    found: (Agenda, u8),
+    tasks: &str,
+    leaf: u8,
+) -> bool {
+    let (agenda, at) = found;
+    match tasks_of(alloc, compiled, chart, agenda) {
+        Ok(text) => at == leaf && text.as_str() == tasks,
+        Err(_) => false,
     }
 }
 
-/// Whether a start does these tasks and ends in this leaf.
-pub(crate) fn starts_so(
+fn is_step(alloc: Global, chart: &Chart, compiled: &Compiled, step: &Step) -> bool
+    requires { IsCompiled chart.now compiled.now }
+{
+    let (from, signal, vars, ok, tasks, leaf) = step;
+    let env = Env {
+        vars,
+        pars: &[],
+        ok: *ok,
+        me: 1,
+    };
+    let found = compiled.step(chart, *from, &env, *signal);
+    is_so(alloc, chart, compiled, found, tasks, *leaf)
+}
+
+/// The tasks of the start, or of the first step, that isn't as the trial has it.
+fn wrong_in(
     alloc: Global,
     chart: &Chart,
     compiled: &Compiled,
-    tasks: &str,
-    leaf: u8,
-) -> Result<bool, AllocError>
+    trial: &Trial,
+) -> Option<&'static str>
     requires { IsCompiled chart.now compiled.now }
 {
-    let (agenda, found) = compiled.start(chart);
-    let text = tasks_of(alloc, compiled, chart, agenda)?;
-    Ok(found == leaf && text.as_str() == tasks)
+    let (tasks, leaf) = trial.start;
+    let found = compiled.start(chart);
+    if !is_so(alloc, chart, compiled, found, tasks, leaf) {
+        return Some(tasks);
+    }
+    for step in trial.steps {
+        if !is_step(alloc, chart, compiled, step) {
+            return Some(step.4);
+        }
+    }
+    None
 }
 
-/// A step from a leaf by a signal, what it does, and the leaf after it.
-#[derive(Clone, Copy)]
-pub(crate) struct Step<'a> {
-    pub(crate) from: u8,
-    pub(crate) signal: u16,
-    pub(crate) tasks: &'a str,
-    pub(crate) leaf: u8,
-}
-
-/// Whether a step does its tasks and ends in its leaf.
-pub(crate) fn steps_so(
-    alloc: Global,
-    chart: &Chart,
-    compiled: &Compiled,
-    env: &Env<'_>,
-    step: &Step<'_>,
-) -> Result<bool, AllocError>
-    requires { IsCompiled chart.now compiled.now }
-{
-    let (agenda, found) = compiled.step(chart, step.from, env, step.signal);
-    let text = tasks_of(alloc, compiled, chart, agenda)?;
-    Ok(found == step.leaf && text.as_str() == step.tasks)
+/// The same of the trial's own chart.
+pub(crate) fn wrong(alloc: Global, trial: &Trial) -> Option<&'static str> {
+    let Some(chart) = chart_of(alloc, trial.file) else {
+        return Some("no chart");
+    };
+    match Compiled::new(&chart, alloc) {
+        Ok(compiled) => wrong_in(alloc, &chart, &compiled, trial),
+        Err(_) => Some("no memory"),
+    }
 }

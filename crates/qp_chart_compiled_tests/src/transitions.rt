@@ -1,7 +1,6 @@
 //! Transitions in every direction of a tree of nine states.
 
-use crate::samples::{NOWHERE, Step, chart_of, compiled, starts_so, steps_so};
-use std::test::Fail;
+use crate::samples::{Step, Trial};
 
 /// a contains b contains c contains d contains e contains f; a contains g contains h; k stands at the top; b's initial target is e.
 const TREE: &str = "qp = 1
@@ -27,98 +26,90 @@ state = [
 ]
 ";
 
-/// The signal, what a step from f does, and the leaf after it.
-const STEPS: [(u16, &str, u8); 10] = [
-    (4, "run 6 1, exit 6, enter 6, done", 6),
+/// Steps from f in each direction; and leaves and signals that no row on the path is for: signals beyond all of the chart, and states that the
+/// chart hasn't got.
+const STEPS: &[Step] = &[
+    (6, 4, &[], 0, "run 6 1, exit 6, enter 6, done", 6),
     (
+        6,
         5,
+        &[],
+        0,
         "run 3 1, exit 6, exit 5, exit 4, exit 3, enter 3, done",
         3,
     ),
-    (6, "run 3 2, exit 6, exit 5, exit 4, enter 4, done", 4),
     (
+        6,
+        6,
+        &[],
+        0,
+        "run 3 2, exit 6, exit 5, exit 4, enter 4, done",
+        4,
+    ),
+    (
+        6,
         7,
+        &[],
+        0,
         "run 3 3, exit 6, exit 5, exit 4, enter 4, enter 5, enter 6, done",
         6,
     ),
-    (8, "run 6 2, exit 6, done", 5),
+    (6, 8, &[], 0, "run 6 2, exit 6, done", 5),
     (
+        6,
         9,
+        &[],
+        0,
         "run 5 1, exit 6, exit 5, exit 4, exit 3, init 2, enter 3, enter 4, enter 5, done",
         5,
     ),
     (
+        6,
         10,
+        &[],
+        0,
         "run 2 1, exit 6, exit 5, exit 4, exit 3, exit 2, enter 7, done",
         7,
     ),
     (
+        6,
         11,
+        &[],
+        0,
         "run 4 1, exit 6, exit 5, exit 4, exit 3, exit 2, enter 7, enter 8, done",
         8,
     ),
     (
+        6,
         12,
+        &[],
+        0,
         "run 6 3, exit 6, exit 5, exit 4, exit 3, exit 2, exit 1, enter 9, done",
         9,
     ),
     (
+        6,
         13,
+        &[],
+        0,
         "run 1 1, exit 6, exit 5, exit 4, exit 3, exit 2, exit 1, enter 1, done",
         1,
     ),
+    (9, 4, &[], 0, "none, done", 9),
+    (7, 10, &[], 0, "none, done", 7),
+    (6, 0, &[], 0, "none, done", 6),
+    (6, 14, &[], 0, "none, done", 6),
+    (6, 18, &[], 0, "none, done", 6),
+    (6, 65535, &[], 0, "none, done", 6),
+    (10, 4, &[], 0, "none, done", 10),
+    (255, 4, &[], 0, "none, done", 255),
 ];
 
-/// Leaves and signals that no row on the path is for: signals beyond all of the chart, and states that the chart hasn't got.
-const UNHANDLED: [(u8, u16); 8] = [
-    (9, 4),
-    (7, 10),
-    (6, 0),
-    (6, 14),
-    (6, 18),
-    (6, 65535),
-    (10, 4),
-    (255, 4),
-];
-
-#[test]
-fn starts_and_steps_exit_and_enter(rt: HostRuntime) -> Result<(), Fail> {
-    let alloc = rt.alloc();
-    let chart = chart_of(alloc, TREE)?;
-    let compiled = compiled(alloc, &chart)?;
-    let start = "begin, enter 1, enter 2, enter 3, enter 4, enter 5, enter 6, done";
-    assert!(rt; starts_so(alloc, &chart, &compiled, start, 6)?);
-    for (signal, tasks, leaf) in &STEPS {
-        let step = Step {
-            from: 6,
-            signal: *signal,
-            tasks,
-            leaf: *leaf,
-        };
-        assert!(rt;
-            steps_so(alloc, &chart, &compiled, &NOWHERE, &step)?,
-            "{tasks}"
-        );
-    }
-    Ok(())
-}
-
-#[test]
-fn what_no_row_is_for_is_unhandled(rt: HostRuntime) -> Result<(), Fail> {
-    let alloc = rt.alloc();
-    let chart = chart_of(alloc, TREE)?;
-    let compiled = compiled(alloc, &chart)?;
-    for (from, signal) in &UNHANDLED {
-        let step = Step {
-            from: *from,
-            signal: *signal,
-            tasks: "none, done",
-            leaf: *from,
-        };
-        assert!(rt;
-            steps_so(alloc, &chart, &compiled, &NOWHERE, &step)?,
-            "{signal}"
-        );
-    }
-    Ok(())
-}
+pub(crate) const DIRECTIONS: Trial = Trial {
+    file: TREE,
+    start: (
+        "begin, enter 1, enter 2, enter 3, enter 4, enter 5, enter 6, done",
+        6,
+    ),
+    steps: STEPS,
+};

@@ -1,4 +1,4 @@
-//! Tests of the judge and its parts: of words, of lanes and of the end, of what a journal knows beside its records, and of verdicts.
+//! Tests of the judge and its parts: of lanes and of the end, of what a journal knows beside its records, and of verdicts.
 #![tactic(auto)]
 
 #[cfg(test)]
@@ -9,5 +9,3 @@ mod samples;
 mod told;
 #[cfg(test)]
 mod verdicts;
-#[cfg(test)]
-mod words;

@@ -1,31 +1,26 @@
 //! Lane 0 with its orders and settles, ends and budgets, and deferred entries.
 
+ghost use Rattle.std.specs.Prelude.{◌≡◌, IfOk};
+ghost use Rattle.qp_check_histories.specs.Numbers.{WordsFit};
+
 use crate::samples::{
-    PORT, Part, Parts, QK, QV, Row, SIM, go, journal, lane, nothing, object, records, stimuli,
-    two_lanes,
+    PORT, Part, Parts, QK, QV, Row, SIM, go, journal, lane, nothing, object, one_lane, records,
+    stimuli, two_lanes,
 };
+use qp_check_end::ending::end_holds;
 use qp_check_end::journal_end::end_is_right;
 use qp_check_end::lane_ends::{spents_are_seen, spills_stand};
+use qp_check_histories::records_by_word::RecordsByWord;
 use qp_check_kernel::kernel_lane::is_kernel_lane;
 use qp_check_kernel::one_order::is_one_order;
 use qp_check_lanes::deferral::kept;
 use qp_check_lanes::lane_parts::{count_stands, lane_zero_stands};
 use qp_model::kinds::{
-    ASSERT, BEGIN, DEFER, DONE, FLUSH, LIFO, LOCK, LOOK, NODEFER, NONE, NORECALL, POST, RECALL,
-    REST, SEEN, SETTLE, SPENT, SPILL, STIM, TOOK,
+    ASSERT, BEGIN, DEFER, DONE, FLUSH, INC, LIFO, LOCK, LOOK, NEW, NODEFER, NONE, NORECALL, POST,
+    RECALL, REST, SEEN, SETTLE, SPENT, SPILL, STIM, TOOK,
 };
-use qp_model::{Lane, Rec, Stim, Stimuli, System};
+use qp_model::{Journal, Lane, PoolDef, Rec, Stim, Stimuli, System};
 use std::alloc::{AllocError, Global};
-use std::test::Fail;
-
-/// Objects of these priorities.
-fn system(alloc: Global, priorities: &[u8]) -> Result<System, AllocError> {
-    let mut sys = nothing(alloc);
-    for priority in priorities {
-        sys.objects.items.push(object(alloc, "", *priority, 3))?;
-    }
-    Ok(sys)
-}
 
 /// Object 1 starts, takes its event in look 1, and runs.
 const STEP: Part = &[
@@ -81,64 +76,246 @@ const SEES_3: Part = &[(SEEN, 0, &[3, 0, 0, 0])];
 /// An assertion cuts the run.
 const NO_ENTRY: Part = &[(ASSERT, 1, &[1, 1, 4, 0, 0])];
 
-/// A run of a table: what it is, the objects, the kernel, the end, the parts of lane 0, the lane of a source, and whether that stands.
-type Case = (&'static str, &'static [u8], u8, u8, Parts, Part, bool);
+/// A settle in look 1, which sees an empty queue.
+const SETTLE_IN_1: Part = &[
+    (STIM, 0, &[1, 1]),
+    (SETTLE, 0, &[]),
+    (SEEN, 0, &[1, 0, 0, 0]),
+];
 
-const KERNEL_LANES: [Case; 11] = [
+/// The event of signal 4 is deferred.
+const DEFERRED: Row = (DEFER, 1, &[0, 4, 0]);
+
+/// Block 0 is given out, and a reference to it is made.
+const REFERRED: Part = &[(NEW, 1, &[1, 0, 0, 0, 5]), (INC, 1, &[1, 0, 0])];
+
+/// What is asked of records and lanes.
+enum Case {
+    /// Objects, a kernel, an end, the parts of lane 0 and the lane of a source: whether lane 0 is one of that kernel.
+    Kernel(&'static [u8], u8, u8, Parts, Part),
+    /// Whether a source settles or posts, lane 0 and the lane of the source: whether they have one order.
+    Order(bool, Parts, Part),
+    /// The end of a run in `sim`, lane 0 and the lane of a source: whether the end is as the records say.
+    End(u8, Parts, Part),
+    /// Records of a lane: whether a quiet end holds after them.
+    QuietEnd(Part),
+    /// A lane: whether each `spent` stands behind a look at an entry of its object.
+    Spents(Part),
+    /// A lane: whether each `spill` is of a lane that has no room.
+    Spills(Part),
+    /// Records of object 1, and a number: whether a deferred list with room for one has so many entries after them.
+    Deferred(Part, usize),
+    /// Records of object 1: whether they may stand in any deferred list with room for one.
+    Defers(Part),
+    /// A kernel: whether two lanes are as many as those of object 1 and a source.
+    TwoLanes(u8),
+    /// A kernel: whether lane 0 may have records.
+    LaneZero(u8),
+}
+
+/// What each case is, and what is answered.
+const CASES: &[(&str, Case, bool)] = &[
     // The lane of a run with one post, and with a wrong floor.
-    ("sim", &[1], SIM, 0, ONE_STEP, POST_IN_1, true),
+    ("sim", Case::Kernel(&[1], SIM, 0, ONE_STEP, POST_IN_1), true),
     (
         "sim, floor 1",
-        &[1],
-        SIM,
-        0,
-        &[STEP, LOOK_2_AT_1],
-        POST_IN_1,
+        Case::Kernel(&[1], SIM, 0, &[STEP, LOOK_2_AT_1], POST_IN_1),
         false,
     ),
-    ("qk", &[1], QK, 0, ONE_STEP, POST_IN_1, true),
-    ("qv", &[1], QV, 0, ONE_STEP, POST_IN_1, false),
-    ("port", &[1], PORT, 0, ONE_STEP, POST_IN_1, false),
+    ("qk", Case::Kernel(&[1], QK, 0, ONE_STEP, POST_IN_1), true),
+    ("qv", Case::Kernel(&[1], QV, 0, ONE_STEP, POST_IN_1), false),
+    (
+        "port",
+        Case::Kernel(&[1], PORT, 0, ONE_STEP, POST_IN_1),
+        false,
+    ),
     // A look at an empty queue: only the cooperative kernel rests.
-    ("sim looks", &[1], SIM, 0, &[IDLE], &[], true),
-    ("sim rests", &[1], SIM, 0, &[IDLE, RESTS], &[], false),
-    ("qv looks", &[1], QV, 0, &[IDLE], &[], false),
-    ("qv rests", &[1], QV, 0, &[IDLE, RESTS], &[], true),
+    ("sim looks", Case::Kernel(&[1], SIM, 0, &[IDLE], &[]), true),
+    (
+        "sim rests",
+        Case::Kernel(&[1], SIM, 0, &[IDLE, RESTS], &[]),
+        false,
+    ),
+    ("qv looks", Case::Kernel(&[1], QV, 0, &[IDLE], &[]), false),
+    (
+        "qv rests",
+        Case::Kernel(&[1], QV, 0, &[IDLE, RESTS], &[]),
+        true,
+    ),
     // An object starts only above the ceiling, so none at the ceiling is looked at.
     (
         "object 3 isn't seen",
-        &[1, 3],
-        SIM,
-        3,
-        &[LOCKED, NO_ENTRY],
-        &[],
+        Case::Kernel(&[1, 3], SIM, 3, &[LOCKED, NO_ENTRY], &[]),
         true,
     ),
     (
         "object 3 is seen",
-        &[1, 3],
-        SIM,
-        3,
-        &[LOCKED, SEES_3, NO_ENTRY],
-        &[],
+        Case::Kernel(&[1, 3], SIM, 3, &[LOCKED, SEES_3, NO_ENTRY], &[]),
         false,
     ),
+    // A post happens in its look.
+    (
+        "a post in its look",
+        Case::Order(false, ONE_STEP, POST_IN_1),
+        true,
+    ),
+    (
+        "in the look behind",
+        Case::Order(false, ONE_STEP, POST_IN_2),
+        false,
+    ),
+    ("left out", Case::Order(false, ONE_STEP, &[]), false),
+    // A `settle` happens where all queues are empty, and not in a look in which an entry waits.
+    (
+        "empty",
+        Case::Order(
+            true,
+            &[&[(LOOK, 0, &[1, 0]), (SEEN, 0, &[1, 0, 0, 0])]],
+            SETTLE_IN_1,
+        ),
+        true,
+    ),
+    (
+        "an entry waits",
+        Case::Order(
+            true,
+            &[&[(LIFO, 1, &[0, 1, 0, 0, 4, 0]), (LOOK, 0, &[1, 0])]],
+            SETTLE_IN_1,
+        ),
+        false,
+    ),
+    // The end is as the records say.
+    ("quiet", Case::End(0, ONE_STEP, POST_IN_1), true),
+    ("quiet, end 3", Case::End(3, ONE_STEP, POST_IN_1), false),
+    (
+        "asserted",
+        Case::End(3, &[STEP, LOOK_2, NO_ENTRY], POST_IN_1),
+        true,
+    ),
+    (
+        "asserted, end 0",
+        Case::End(0, &[STEP, LOOK_2, NO_ENTRY], POST_IN_1),
+        false,
+    ),
+    (
+        "asserted, end 4",
+        Case::End(4, &[STEP, LOOK_2, NO_ENTRY], POST_IN_1),
+        false,
+    ),
+    (
+        "two takes, which are more than a budget of 1",
+        Case::End(
+            0,
+            &[&[
+                (TOOK, 1, &[2, 0, 1, 0, 4, 0]),
+                (TOOK, 1, &[2, 0, 2, 0, 4, 0]),
+            ]],
+            &[],
+        ),
+        false,
+    ),
+    // At a quiet end no entry waits, and each block that is given out has a deferred entry.
+    (
+        "a block has a deferred entry",
+        Case::QuietEnd(&[
+            (NEW, 1, &[1, 0, 0, 0, 5]),
+            (INC, 1, &[1, 0, 0]),
+            (DEFER, 1, &[1, 0, 0]),
+        ]),
+        true,
+    ),
+    ("a block has none", Case::QuietEnd(REFERRED), false),
+    (
+        "an entry waits in a queue",
+        Case::QuietEnd(&[(POST, 1, &[1, 1, 0, 0, 0, 4, 0])]),
+        false,
+    ),
+    // A `spent` and a `spill` of a lane.
+    (
+        "own, spent",
+        Case::Spents(&[(SEEN, 0, &[1, 4, 0, 3]), (SPENT, 1, &[])]),
+        true,
+    ),
+    (
+        "own, spill",
+        Case::Spills(&[(SEEN, 0, &[1, 4, 0, 3]), (SPENT, 1, &[])]),
+        true,
+    ),
+    (
+        "other, spent",
+        Case::Spents(&[(SEEN, 0, &[3, 4, 0, 3]), (SPENT, 1, &[])]),
+        false,
+    ),
+    (
+        "other, spill",
+        Case::Spills(&[(SEEN, 0, &[3, 4, 0, 3]), (SPENT, 1, &[])]),
+        true,
+    ),
+    (
+        "empty, spent",
+        Case::Spents(&[(SEEN, 0, &[1, 4, 0, 4]), (SPENT, 1, &[])]),
+        false,
+    ),
+    (
+        "empty, spill",
+        Case::Spills(&[(SEEN, 0, &[1, 4, 0, 4]), (SPENT, 1, &[])]),
+        true,
+    ),
+    (
+        "room, spent",
+        Case::Spents(&[(SETTLE, 0, &[]), (SPILL, 0, &[1])]),
+        true,
+    ),
+    (
+        "room, spill",
+        Case::Spills(&[(SETTLE, 0, &[]), (SPILL, 0, &[1])]),
+        false,
+    ),
+    // Deferred entries.
+    (
+        "full",
+        Case::Deferred(&[DEFERRED, (NODEFER, 1, &[]), (RECALL, 2, &[1, 0, 2])], 1),
+        true,
+    ),
+    (
+        "recalled",
+        Case::Deferred(&[DEFERRED, (RECALL, 1, &[0, 4, 0]), (NORECALL, 1, &[])], 0),
+        true,
+    ),
+    ("twice", Case::Defers(&[DEFERRED, DEFERRED]), false),
+    (
+        "another",
+        Case::Defers(&[DEFERRED, (FLUSH, 1, &[1, 0, 2])]),
+        false,
+    ),
+    ("room", Case::Defers(&[(NODEFER, 1, &[])]), false),
+    // In `port` each object has a lane of its own, and lane 0 has no record.
+    ("lanes in sim", Case::TwoLanes(SIM), true),
+    ("lane 0 in sim", Case::LaneZero(SIM), true),
+    ("lanes in port", Case::TwoLanes(PORT), false),
+    ("lane 0 in port", Case::LaneZero(PORT), false),
 ];
 
-fn is_lane_of_kernel(alloc: Global, case: &Case) -> Result<bool, AllocError> {
-    let (_, priorities, kernel, end, lane0, source, _) = case;
-    let sys = system(alloc, priorities)?;
-    let j = journal(*kernel, *end, two_lanes(alloc, lane0, source)?);
-    is_kernel_lane(alloc, &sys, &j)
+/// Objects of these priorities.
+fn system(alloc: Global, priorities: &[u8]) -> Result<System, AllocError> {
+    let mut sys = nothing(alloc);
+    for priority in priorities {
+        sys.objects.items.push(object(alloc, "", *priority, 3))?;
+    }
+    Ok(sys)
 }
 
-#[test]
-fn lanes_of_kernels(rt: HostRuntime) -> Result<(), Fail> {
-    for case in &KERNEL_LANES {
-        let (what, .., stands) = case;
-        assert!(rt; is_lane_of_kernel(rt.alloc(), case)? == *stands, "{what}");
-    }
-    Ok(())
+fn is_lane_of_kernel(
+    alloc: Global,
+    priorities: &[u8],
+    kernel: u8,
+    end: u8,
+    lane0: Parts,
+    source: Part,
+) -> Result<bool, AllocError> {
+    let sys = system(alloc, priorities)?;
+    let j = journal(kernel, end, two_lanes(alloc, lane0, source)?);
+    is_kernel_lane(alloc, &sys, &j)
 }
 
 /// One post to object 1, or a settle.
@@ -154,35 +331,6 @@ fn one_stimulus(alloc: Global, settles: bool) -> Result<Stimuli, AllocError> {
     };
     stimuli(alloc, post)
 }
-
-/// A settle in look 1, which sees an empty queue.
-const SETTLE_IN_1: Part = &[
-    (STIM, 0, &[1, 1]),
-    (SETTLE, 0, &[]),
-    (SEEN, 0, &[1, 0, 0, 0]),
-];
-
-/// What a run is, whether its source settles or posts, lane 0 and the lane of the source, and whether they have one order.
-const ORDERS: [(&str, bool, Parts, Part, bool); 5] = [
-    ("a post in its look", false, ONE_STEP, POST_IN_1, true),
-    ("in the look behind", false, ONE_STEP, POST_IN_2, false),
-    ("left out", false, ONE_STEP, &[], false),
-    // A `settle` happens where all queues are empty, and not in a look in which an entry waits.
-    (
-        "empty",
-        true,
-        &[&[(LOOK, 0, &[1, 0]), (SEEN, 0, &[1, 0, 0, 0])]],
-        SETTLE_IN_1,
-        true,
-    ),
-    (
-        "an entry waits",
-        true,
-        &[&[(LIFO, 1, &[0, 1, 0, 0, 4, 0]), (LOOK, 0, &[1, 0])]],
-        SETTLE_IN_1,
-        false,
-    ),
-];
 
 fn has_one_order(
     alloc: Global,
@@ -202,149 +350,81 @@ fn is_order(alloc: Global, settles: bool, lane0: Parts, source: Part) -> Result<
     has_one_order(alloc, settles, &lane0, source)
 }
 
-#[test]
-fn orders(rt: HostRuntime) -> Result<(), Fail> {
-    for (what, settles, lane0, source, stands) in &ORDERS {
-        assert!(rt;
-            is_order(rt.alloc(), *settles, lane0, source)? == *stands,
-            "{what}"
-        );
-    }
-    Ok(())
-}
-
-/// What a run in `sim` is, its end, lane 0 and the lane of a source, and whether the end is as the records say.
-const ENDS: [(&str, u8, Parts, Part, bool); 6] = [
-    ("quiet", 0, ONE_STEP, POST_IN_1, true),
-    ("quiet, end 3", 3, ONE_STEP, POST_IN_1, false),
-    ("asserted", 3, &[STEP, LOOK_2, NO_ENTRY], POST_IN_1, true),
-    (
-        "asserted, end 0",
-        0,
-        &[STEP, LOOK_2, NO_ENTRY],
-        POST_IN_1,
-        false,
-    ),
-    (
-        "asserted, end 4",
-        4,
-        &[STEP, LOOK_2, NO_ENTRY],
-        POST_IN_1,
-        false,
-    ),
-    (
-        "two takes, which are more than a budget of 1",
-        0,
-        &[&[
-            (TOOK, 1, &[2, 0, 1, 0, 4, 0]),
-            (TOOK, 1, &[2, 0, 2, 0, 4, 0]),
-        ]],
-        &[],
-        false,
-    ),
-];
-
 fn ends(alloc: Global, end: u8, lane0: Parts, source: Part) -> Result<bool, AllocError> {
     let sys = system(alloc, &[1])?;
     let j = journal(SIM, end, two_lanes(alloc, lane0, source)?);
     Ok(end_is_right(&sys, &j))
 }
 
-#[test]
-fn ends_of_runs(rt: HostRuntime) -> Result<(), Fail> {
-    for (what, end, lane0, source, stands) in &ENDS {
-        assert!(rt; ends(rt.alloc(), *end, lane0, source)? == *stands, "{what}");
-    }
-    Ok(())
+/// A pool of two blocks, and an object with a ring of 1.
+fn with_pool(alloc: Global) -> Result<System, AllocError>
+    ensures { IfOk result (λ s. WordsFit s) }
+{
+    let mut sys = nothing(alloc);
+    sys.pools.items.push(PoolDef { size: 1, blocks: 2 })?;
+    sys.objects.items.push(object(alloc, "lamp", 1, 1))?;
+    Ok(sys)
 }
 
-/// A lane, whether each `spent` stands behind a look at an entry of its object, and whether each `spill` is of a lane that has no room.
-const LANE_ENDS: [(&str, &[Row], bool, bool); 4] = [
-    (
-        "own",
-        &[(SEEN, 0, &[1, 4, 0, 3]), (SPENT, 1, &[])],
-        true,
-        true,
-    ),
-    (
-        "other",
-        &[(SEEN, 0, &[3, 4, 0, 3]), (SPENT, 1, &[])],
-        false,
-        true,
-    ),
-    (
-        "empty",
-        &[(SEEN, 0, &[1, 4, 0, 4]), (SPENT, 1, &[])],
-        false,
-        true,
-    ),
-    ("room", &[(SETTLE, 0, &[]), (SPILL, 0, &[1])], true, false),
-];
+fn end_stands(alloc: Global, sys: &System, j: &Journal) -> Result<bool, AllocError>
+    requires { WordsFit sys.now }
+{
+    let records = RecordsByWord::of(alloc, &j.lanes)?;
+    end_holds(alloc, sys, j, &records)
+}
 
-/// Whether a lane's `spent` and its `spill` stand.
-fn lane_end(alloc: Global, rows: &[Row]) -> Result<(bool, bool), AllocError> {
+fn ends_quietly(alloc: Global, rows: Part) -> Result<bool, AllocError> {
+    let j = Journal {
+        kernel: SIM,
+        budget: 9,
+        lanes: one_lane(alloc, rows)?,
+        end: 0,
+    };
+    let sys = with_pool(alloc)?;
+    end_stands(alloc, &sys, &j)
+}
+
+/// How many entries a deferred list with room for one has after records of object 1, if each may stand.
+fn left(alloc: Global, rows: Part) -> Result<Option<usize>, AllocError> {
     let records = records(alloc, rows)?;
-    Ok((spents_are_seen(&records), spills_stand(&records)))
-}
-
-#[test]
-fn ends_of_lanes(rt: HostRuntime) -> Result<(), Fail> {
-    for (what, rows, spents, spills) in &LANE_ENDS {
-        assert!(rt; lane_end(rt.alloc(), rows)? == (*spents, *spills), "{what}");
+    match kept(alloc, 1, 1, &records)? {
+        Some(list) => Ok(Some(list.items.len())),
+        None => Ok(None),
     }
-    Ok(())
 }
 
-/// The event of signal 4 is deferred.
-const DEFERRED: Row = (DEFER, 1, &[0, 4, 0]);
-
-/// Records of object 1, and how many entries a deferred list with room for one has after them, if each may stand.
-const DEFERRALS: [(&str, &[Row], Option<usize>); 5] = [
-    (
-        "full",
-        &[DEFERRED, (NODEFER, 1, &[]), (RECALL, 2, &[1, 0, 2])],
-        Some(1),
-    ),
-    (
-        "recalled",
-        &[DEFERRED, (RECALL, 1, &[0, 4, 0]), (NORECALL, 1, &[])],
-        Some(0),
-    ),
-    ("twice", &[DEFERRED, DEFERRED], None),
-    ("another", &[DEFERRED, (FLUSH, 1, &[1, 0, 2])], None),
-    ("room", &[(NODEFER, 1, &[])], None),
-];
-
-fn left(alloc: Global, rows: &[Row]) -> Result<Option<usize>, AllocError> {
-    let records = records(alloc, rows)?;
-    Ok(kept(alloc, 1, 1, &records)?.map(|list| list.items.len()))
+/// A journal of two lanes of this kernel.
+fn of_two_lanes(alloc: Global, kernel: u8) -> Result<Journal, AllocError> {
+    Ok(journal(kernel, 0, two_lanes(alloc, ONE_STEP, POST_IN_1)?))
 }
 
-#[test]
-fn deferred(rt: HostRuntime) -> Result<(), Fail> {
-    for (what, rows, want) in &DEFERRALS {
-        assert!(rt; left(rt.alloc(), rows)? == *want, "{what}");
-    }
-    Ok(())
-}
-
-/// Kernels, whether two lanes are as many as those of object 1 and a source, and whether lane 0 may have records.
-const LANES: [(u8, bool, bool); 2] = [(SIM, true, true), (PORT, false, false)];
-
-fn lanes_stand(alloc: Global, kernel: u8) -> Result<(bool, bool), AllocError> {
-    let j = journal(kernel, 0, two_lanes(alloc, ONE_STEP, POST_IN_1)?);
+fn are_two(alloc: Global, kernel: u8) -> Result<bool, AllocError> {
+    let j = of_two_lanes(alloc, kernel)?;
     let sys = system(alloc, &[1])?;
     let stim = one_stimulus(alloc, false)?;
-    Ok((count_stands(&sys, &stim, &j), lane_zero_stands(&j)))
+    Ok(count_stands(&sys, &stim, &j))
+}
+
+fn answer(alloc: Global, case: &Case) -> Result<bool, AllocError> {
+    match case {
+        Case::Kernel(priorities, kernel, end, lane0, source) => {
+            is_lane_of_kernel(alloc, priorities, *kernel, *end, lane0, source)
+        }
+        Case::Order(settles, lane0, source) => is_order(alloc, *settles, lane0, source),
+        Case::End(end, lane0, source) => ends(alloc, *end, lane0, source),
+        Case::QuietEnd(rows) => ends_quietly(alloc, rows),
+        Case::Spents(rows) => Ok(spents_are_seen(&records(alloc, rows)?)),
+        Case::Spills(rows) => Ok(spills_stand(&records(alloc, rows)?)),
+        Case::Deferred(rows, count) => Ok(left(alloc, rows)? == Some(*count)),
+        Case::Defers(rows) => Ok(left(alloc, rows)?.is_some()),
+        Case::TwoLanes(kernel) => are_two(alloc, *kernel),
+        Case::LaneZero(kernel) => Ok(lane_zero_stands(&of_two_lanes(alloc, *kernel)?)),
+    }
 }
 
 #[test]
-fn lanes(rt: HostRuntime) -> Result<(), Fail> {
-    for (kernel, count, lane0) in &LANES {
-        assert!(rt;
-            lanes_stand(rt.alloc(), *kernel)? == (*count, *lane0),
-            "kernel {kernel}"
-        );
+fn runs(rt: HostRuntime) {
+    for (what, case, want) in CASES {
+        assert!(rt; answer(rt.alloc(), case) == Ok(*want), "{what}");
     }
-    Ok(())
 }

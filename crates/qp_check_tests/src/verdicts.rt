@@ -8,7 +8,6 @@ use qp_check::{Site, Verdict, check};
 use qp_model::kinds::{END, LANE, LOOK, PUB, QP, REST, STIM};
 use qp_model::{Journal, Stim, System};
 use std::alloc::{AllocError, Global};
-use std::test::Fail;
 
 /// A static signal, 4, and no object.
 fn system(alloc: Global) -> Result<System, AllocError>
@@ -28,7 +27,10 @@ fn judged(alloc: Global, sys: &System, j: &Journal) -> Result<Verdict, AllocErro
         reserve: None,
     };
     let stim = stimuli(alloc, publish)?;
-    check(alloc, sys, &stim, j).map_err(|_| AllocError)
+    match check(alloc, sys, &stim, j) {
+        Ok(verdict) => Ok(verdict),
+        Err(_) => Err(AllocError),
+    }
 }
 
 fn verdict(alloc: Global, kernel: u8, all: &[Parts], end: u8) -> Result<Verdict, AllocError> {
@@ -177,12 +179,11 @@ const JOURNALS: [Case; 21] = [
 ];
 
 #[test]
-fn journals(rt: HostRuntime) -> Result<(), Fail> {
+fn journals(rt: HostRuntime) {
     for (i, (kernel, lanes, end, want)) in JOURNALS.iter().enumerate() {
         assert!(rt;
-            verdict(rt.alloc(), *kernel, lanes, *end)? == *want,
+            verdict(rt.alloc(), *kernel, lanes, *end) == Ok(*want),
             "case {i}"
         );
     }
-    Ok(())
 }

@@ -1,24 +1,23 @@
 //! Tests.
 
-ghost use Rattle.std.specs.Prelude.{IfOk};
+ghost use Rattle.std.specs.Prelude.{IfSome};
 ghost use Rattle.qp_model.specs.Sound.{IsSound};
 
 use arrayvec::ArrayVec;
-use qp_base::{Ev, Memory};
+use qp_base::Ev;
 use qp_core::{CoreFault, CoreState, Op, apply, run};
 use qp_model::{Rec, System, Word};
-use qp_system::{SystemFault, system_of_bytes};
+use qp_system::system_of_bytes;
 use std::alloc::{AllocError, Global};
-use std::test::Fail;
 
 /// One object with a queue of one entry and the front, and a pool of two blocks of size 1. GO is signal 4, N is 5, X is 6.
 const ONE: &str =
     "qp = 1\n[[pool]]\nsize = 1\nblocks = 2\n[[signal]]\nname = \"GO\"\nstatic = true\n[[signal]]\nname = \"N\"\nparams = 1\n[[signal]]\nname = \"X\"\nstatic = true\n[[chart]]\nname = \"c\"\ninit = \"s\"\n[[chart.state]]\nname = \"s\"\n[[object]]\nname = \"lamp\"\nchart = \"c\"\npriority = 1\nqueue = 1\n";
 
-fn one(alloc: Global) -> Result<System, SystemFault>
-    ensures { IfOk result (λ sys. IsSound sys) }
+fn one(alloc: Global) -> Option<System>
+    ensures { IfSome result (λ sys. IsSound sys) }
 {
-    system_of_bytes(alloc, ONE.as_bytes())
+    system_of_bytes(alloc, ONE.as_bytes()).ok()
 }
 
 /// A step of these tests, on pool 1, its block 0 and object 1 where it names no other.
@@ -172,6 +171,64 @@ const SCHEDULES: &[Schedule] = &[
     },
 ];
 
+/// A run on so many lanes; steps that aren't allowed behind it, and steps that are; and then the values of words, and how many records
+/// seats have.
+struct Case {
+    what: &'static str,
+    lanes: u32,
+    run: &'static [(u32, Step)],
+    refused: &'static [(&'static str, u32, Step)],
+    taken: &'static [(u32, Step)],
+    words: &'static [(Word, u64)],
+    records: &'static [(u32, usize)],
+}
+
+const CASES: &[Case] = &[
+    Case {
+        what: "the life of a block",
+        lanes: 1,
+        run: &[],
+        refused: &[],
+        taken: LIFE,
+        words: &[
+            (Word::Pool(1), 8589934595),
+            (Word::Block(1, 0), 8589934592),
+            (Word::Queue(1), 4398046511105),
+        ],
+        records: &[(0, 6)],
+    },
+    Case {
+        what: "two posts and a take of three seats",
+        lanes: 3,
+        run: THREE_SEATS,
+        refused: &[],
+        taken: &[],
+        words: &[(Word::Queue(1), 4398046511106)],
+        records: &[(0, 1), (1, 1), (2, 1)],
+    },
+    Case {
+        what: "the seats are joined",
+        lanes: 3,
+        run: THREE_SEATS,
+        refused: &[],
+        taken: JOINED,
+        words: &[(Word::Queue(1), 8796093022210)],
+        records: &[(0, 2), (1, 0)],
+    },
+    Case {
+        what: "each step that isn't allowed",
+        lanes: 2,
+        run: BEGUN,
+        refused: REFUSED,
+        taken: &[(9, Step::Look(Word::Pool(1)))],
+        words: &[(Word::Pool(1), 4294967298)],
+        records: &[(0, 1)],
+    },
+];
+
+/// Seats, the objects for which they are to add records, and the former ones.
+const OWNERS: &[(u32, u8, u8)] = &[(0, 1, 0), (0, 0, 1), (5, 1, 0)];
+
 /// An event of N.
 fn n(par: u64) -> Ev {
     let mut pars = ArrayVec::new();
@@ -231,95 +288,141 @@ fn ops_of(alloc: Global, steps: &[(u32, Step)]) -> Result<Vec<(u32, Op)>, AllocE
     Ok(ops)
 }
 
-/// Whether the seat took the step.
-fn is_taken(
+/// Whether a seat takes a step; None where memory is refused.
+fn is_taken(alloc: Global, state: &mut CoreState<'_>, seat: u32, step: Step) -> Option<bool> {
+    apply(alloc, state, seat, &op_of(step)).ok()
+}
+
+/// The first of these steps that is taken, by why it isn't to be.
+fn first_taken(
     alloc: Global,
     state: &mut CoreState<'_>,
-    seat: u32,
-    step: Step,
-) -> Result<bool, Memory> {
-    apply(alloc, state, seat, &op_of(step))
+    steps: &[(&'static str, u32, Step)],
+) -> Option<&'static str> {
+    for (why, seat, step) in steps {
+        if is_taken(alloc, state, *seat, *step) != Some(false) {
+            return Some(why);
+        }
+    }
+    None
+}
+
+/// Whether each of these steps is taken.
+fn are_taken(alloc: Global, state: &mut CoreState<'_>, steps: &[(u32, Step)]) -> bool {
+    for (seat, step) in steps {
+        if is_taken(alloc, state, *seat, *step) != Some(true) {
+            return false;
+        }
+    }
+    true
+}
+
+/// Whether words have these values.
+fn are_words(state: &CoreState<'_>, words: &[(Word, u64)]) -> bool {
+    for (word, value) in words {
+        if state.word(*word) != *value {
+            return false;
+        }
+    }
+    true
+}
+
+/// Whether seats have so many records.
+fn are_counts(state: &CoreState<'_>, records: &[(u32, usize)]) -> bool {
+    for (seat, count) in records {
+        if state.records(*seat).len() != *count {
+            return false;
+        }
+    }
+    true
+}
+
+/// What isn't as a case has it behind its run.
+fn wrong_behind(alloc: Global, state: &mut CoreState<'_>, case: &Case) -> Option<&'static str> {
+    if let Some(why) = first_taken(alloc, state, case.refused) {
+        return Some(why);
+    }
+    if !are_taken(alloc, state, case.taken) {
+        return Some("a step isn't taken");
+    }
+    if !are_words(state, case.words) {
+        return Some("another word");
+    }
+    if !are_counts(state, case.records) {
+        return Some("another count of records");
+    }
+    None
+}
+
+/// What isn't as a case has it.
+fn wrong(alloc: Global, sys: &System, case: &Case) -> Option<&'static str>
+    requires { IsSound sys.now }
+{
+    if case.lanes == 0 || case.lanes > 49 {
+        return Some("another count of lanes");
+    }
+    let Ok(ops) = ops_of(alloc, case.run) else {
+        return Some("no memory for the steps");
+    };
+    match run(alloc, sys, case.lanes, &ops) {
+        Ok(mut state) => wrong_behind(alloc, &mut state, case),
+        Err(_) => Some("a step of the run isn't taken"),
+    }
 }
 
 #[test]
-fn the_life_of_a_block_leaves_these_words(rt: HostRuntime) -> Result<(), Fail> {
-    let alloc = rt.alloc();
-    let sys = one(alloc)?;
-    let mut state = CoreState::new(alloc, &sys, 1)?;
-    for (seat, step) in LIFE {
-        assert!(rt; is_taken(alloc, &mut state, *seat, *step) == Ok(true));
+fn runs_leave_these_words_and_records(rt: HostRuntime) {
+    let Some(sys) = one(rt.alloc()) else {
+        assert!(rt; false, "no system");
+        return;
+    };
+    for case in CASES {
+        let wrong = wrong(rt.alloc(), &sys, case);
+        assert!(rt; wrong.is_none(), "{}: {wrong:?}", case.what);
     }
-    for (word, left) in &[
-        (Word::Pool(1), 8589934595),
-        (Word::Block(1, 0), 8589934592),
-        (Word::Queue(1), 4398046511105),
-    ] {
-        assert!(rt; state.word(*word) == *left, "{word:?}");
+}
+
+/// Whether a run on one lane ends so.
+fn ends_so(alloc: Global, sys: &System, schedule: &Schedule) -> bool
+    requires { IsSound sys.now }
+{
+    match ops_of(alloc, schedule.steps) {
+        Ok(ops) => run(alloc, sys, 1, &ops).err() == schedule.refused,
+        Err(_) => false,
     }
-    assert!(rt; state.records(0).len() == 6);
-    Ok(())
 }
 
 #[test]
-fn a_run_names_its_first_step_that_is_not_allowed(rt: HostRuntime) -> Result<(), Fail> {
-    let alloc = rt.alloc();
-    let sys = one(alloc)?;
-    for case in SCHEDULES {
-        let steps = ops_of(alloc, case.steps)?;
-        let refused = run(alloc, &sys, 1, &steps).err();
-        assert!(rt; refused == case.refused, "{}", case.what);
+fn a_run_names_its_first_step_that_is_not_allowed(rt: HostRuntime) {
+    let Some(sys) = one(rt.alloc()) else {
+        assert!(rt; false, "no system");
+        return;
+    };
+    for schedule in SCHEDULES {
+        assert!(rt; ends_so(rt.alloc(), &sys, schedule), "{}", schedule.what);
     }
-    Ok(())
+}
+
+/// Whether the objects of seats are set, on a lane of its own.
+fn are_set(alloc: Global, sys: &System, owners: &[(u32, u8, u8)]) -> bool
+    requires { IsSound sys.now }
+{
+    let Ok(mut state) = CoreState::new(alloc, sys, 1) else {
+        return false;
+    };
+    for (seat, object, former) in owners {
+        if state.set_by(*seat, *object) != *former {
+            return false;
+        }
+    }
+    true
 }
 
 #[test]
-fn two_posts_and_a_take_of_three_seats(rt: HostRuntime) -> Result<(), Fail> {
-    let alloc = rt.alloc();
-    let sys = one(alloc)?;
-    let steps = ops_of(alloc, THREE_SEATS)?;
-    let mut state = run(alloc, &sys, 3, &steps)?;
-    assert!(rt; state.word(Word::Queue(1)) == 4398046511106);
-    for seat in 0..3u32 {
-        assert!(rt; state.records(seat).len() == 1, "seat {seat}");
-    }
-    for (seat, step) in JOINED {
-        assert!(rt; is_taken(alloc, &mut state, *seat, *step) == Ok(true));
-    }
-    assert!(rt; state.word(Word::Queue(1)) == 8796093022210);
-    for (seat, count) in &[(0u32, 2), (1, 0)] {
-        assert!(rt; state.records(*seat).len() == *count, "seat {seat}");
-    }
-    Ok(())
-}
-
-#[test]
-fn an_object_for_records_is_set(rt: HostRuntime) -> Result<(), Fail> {
-    let alloc = rt.alloc();
-    let sys = one(alloc)?;
-    let mut state = CoreState::new(alloc, &sys, 1)?;
-    for (seat, object, former) in &[(0u32, 1u8, 0u8), (0, 0, 1), (5, 1, 0)] {
-        assert!(rt;
-            state.set_by(*seat, *object) == *former,
-            "seat {seat}, object {object}"
-        );
-    }
-    Ok(())
-}
-
-#[test]
-fn each_step_is_refused_where_it_is_not_allowed(rt: HostRuntime) -> Result<(), Fail> {
-    let alloc = rt.alloc();
-    let sys = one(alloc)?;
-    let steps = ops_of(alloc, BEGUN)?;
-    let mut state = run(alloc, &sys, 2, &steps)?;
-    for (why, seat, step) in REFUSED {
-        assert!(rt;
-            is_taken(alloc, &mut state, *seat, *step) == Ok(false),
-            "{why}"
-        );
-    }
-    assert!(rt; is_taken(alloc, &mut state, 9, Step::Look(Word::Pool(1))) == Ok(true));
-    assert!(rt; state.word(Word::Pool(1)) == 4294967298);
-    assert!(rt; state.records(0).len() == 1);
-    Ok(())
+fn an_object_for_records_is_set(rt: HostRuntime) {
+    let Some(sys) = one(rt.alloc()) else {
+        assert!(rt; false, "no system");
+        return;
+    };
+    assert!(rt; are_set(rt.alloc(), &sys, OWNERS));
 }

@@ -1,11 +1,10 @@
 //! What actions answer, and what expressions see of it.
 
-use crate::bench::{Case, PLAIN, see_all};
+use crate::bench::{Case, PLAIN};
 use crate::systems::{ONE_BLOCK, SIGNALS, TWO_BLOCKS};
 use crate::trial::Plan;
-use std::test::Fail;
 
-const CASES: [Case<'static>; 4] = [
+pub(crate) const CASES: &[Case<'static>] = &[
     // `ok` is 0 at first. Calls set it, `say` and assignments leave it, and it stays from step to step.
     Case {
         name: "the last answer goes through steps",
@@ -115,8 +114,3 @@ state = [{ name = 's', row = [
         report: "empty leaf 1 taken 4 vars 2",
     },
 ];
-
-#[test]
-fn actions_answer(rt: HostRuntime) -> Result<(), Fail> {
-    see_all(&rt, rt.alloc(), &CASES)
-}

@@ -1,9 +1,8 @@
 //! Lanes that are nearly full.
 
-use crate::bench::{Case, PLAIN, see_all};
+use crate::bench::{Case, PLAIN};
 use crate::systems::{ONE_BLOCK, SIGNALS};
 use crate::trial::Plan;
-use std::test::Fail;
 
 const SYSTEM: [&str; 3] = [
     ONE_BLOCK,
@@ -23,7 +22,7 @@ const GO: Plan<'static> = Plan {
 };
 
 /// A part that finds more than 999,992 records isn't begun.
-const CASES: [Case<'static>; 5] = [
+pub(crate) const CASES: &[Case<'static>] = &[
     Case {
         name: "behind 999,992 notes",
         system: &SYSTEM,
@@ -83,8 +82,3 @@ const CASES: [Case<'static>; 5] = [
         report: "stopped 6 leaf 1 taken 1",
     },
 ];
-
-#[test]
-fn a_full_lane_spills(rt: HostRuntime) -> Result<(), Fail> {
-    see_all(&rt, rt.alloc(), &CASES)
-}

@@ -1,11 +1,10 @@
 //! Guards, and which state is asked first.
 
-use crate::bench::{Case, PLAIN, see_all};
+use crate::bench::{Case, PLAIN};
 use crate::systems::{ONE_BLOCK, SIGNALS, TWO_BLOCKS};
 use crate::trial::Plan;
-use std::test::Fail;
 
-const CASES: [Case<'static>; 2] = [
+pub(crate) const CASES: &[Case<'static>] = &[
     // The leaf's guard is 0, so that its outermost state handles; what no state has a row for is ignored.
     Case {
         name: "an event goes up to the state that handles it",
@@ -67,8 +66,3 @@ state = [
         report: "empty leaf 2 taken 4 vars 3",
     },
 ];
-
-#[test]
-fn guards_choose_the_row(rt: HostRuntime) -> Result<(), Fail> {
-    see_all(&rt, rt.alloc(), &CASES)
-}

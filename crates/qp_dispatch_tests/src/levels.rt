@@ -1,8 +1,7 @@
 //! Transitions: in every direction of a tree of nine states, and over six levels with actions at each.
 
-use crate::bench::{Case, PLAIN, see, see_all, see_points};
+use crate::bench::{Case, PLAIN};
 use crate::trial::Plan;
-use std::test::Fail;
 
 /// a contains b contains c contains d contains e contains f; a contains g contains h; k stands at the top; b's initial target is e.
 const TREE: &str = "qp = 1
@@ -32,7 +31,7 @@ state = [
 const IN_F: &str =
     "begin 1, enter 1 1, enter 1 2, enter 1 3, enter 1 4, enter 1 5, enter 1 6, done 1";
 
-const STEPS: [Case<'static>; 10] = [
+pub(crate) const STEPS: &[Case<'static>] = &[
     Case {
         name: "FF",
         system: &[TREE],
@@ -175,11 +174,6 @@ const STEPS: [Case<'static>; 10] = [
     },
 ];
 
-#[test]
-fn each_direction_exits_and_enters(rt: HostRuntime) -> Result<(), Fail> {
-    see_all(&rt, rt.alloc(), &STEPS)
-}
-
 /// Two chains of six states, each with an entry and an exit action.
 const CHAINS: &str = "qp = 1
 signal = [{ name = 'BACK', static = true }, { name = 'OVER', static = true }]
@@ -242,7 +236,7 @@ const RECORDS: [&str; 33] = [
 ];
 
 /// The two steps whole.
-const THERE_AND_BACK: Case<'static> = Case {
+pub(crate) const THERE_AND_BACK: Case<'static> = Case {
     name: "two steps",
     system: &[CHAINS],
     plan: Plan {
@@ -252,12 +246,3 @@ const THERE_AND_BACK: Case<'static> = Case {
     records: &RECORDS,
     report: "empty leaf 6 taken 2",
 };
-
-/// The two steps whole, and ended at each of their scheduling points. The leaf is the former one until its step is done.
-#[test]
-fn transitions_over_six_levels_end_at_any_point(rt: HostRuntime) -> Result<(), Fail> {
-    let alloc = rt.alloc();
-    see_points(&rt, alloc, &THERE_AND_BACK, 1, 14, "left leaf 6 taken 1")?;
-    see_points(&rt, alloc, &THERE_AND_BACK, 15, 31, "left leaf 12 taken 2")?;
-    see(&rt, alloc, &THERE_AND_BACK)
-}

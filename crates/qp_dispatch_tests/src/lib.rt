@@ -4,7 +4,7 @@
 //! texts.
 #![tactic(auto)]
 
-// These two stand outside of tests too: the definitions of specs/ name the types, and proofs/ holds proofs of their methods.
+// Named by the definitions of specs/, which stand outside of tests too.
 mod actor;
 #[cfg(test)]
 mod answers;
@@ -26,4 +26,7 @@ mod refusals;
 mod shown;
 #[cfg(test)]
 mod systems;
+#[cfg(test)]
+mod tests;
+#[cfg(test)]
 mod trial;

@@ -1,11 +1,12 @@
 //! `locked` in each kind of list.
 
-use crate::bench::{Case, PLAIN, see};
+use crate::bench::{Case, PLAIN};
 use crate::systems::{SIGNALS, TWO_BLOCKS};
 use crate::trial::Plan;
-use std::test::Fail;
 
-const RAISED: Case<'static> = Case {
+/// In the initial actions of the chart and of a state, in entry and exit actions, and in a row, there around a publication. The
+/// ceiling is the larger of the two, and the former one comes back.
+pub(crate) const RAISED: Case<'static> = Case {
     name: "each list may raise the ceiling",
     system: &[
         TWO_BLOCKS,
@@ -28,10 +29,3 @@ state = [
     ],
     report: "empty leaf 3 taken 3",
 };
-
-/// In the initial actions of the chart and of a state, in entry and exit actions, and in a row, there around a publication. The
-/// ceiling is the larger of the two, and the former one comes back.
-#[test]
-fn each_list_may_raise_the_ceiling(rt: HostRuntime) -> Result<(), Fail> {
-    see(&rt, rt.alloc(), &RAISED)
-}

@@ -1,8 +1,7 @@
 //! Publications of a handler, part by part.
 
-use crate::bench::{Case, PLAIN, see, see_all, see_points};
+use crate::bench::{Case, PLAIN};
 use crate::trial::Plan;
-use std::test::Fail;
 
 /// Objects 1, 2 and 3 subscribe to N; object 2 publishes it. Objects 1 and 3 have room for one entry, object 2 for two.
 const THREE: &str = "qp = 1
@@ -47,7 +46,7 @@ const RECORDS: [&str; 8] = [
     "done 2, took 2 3 0 2 0 6 0, none 2, done 2, took 2 3 0 3 1 0 2, none 2, done 2, dec 2 1 0 5 2, nil 2 3 0 3",
 ];
 
-const WHOLE: Case<'static> = Case {
+pub(crate) const WHOLE: Case<'static> = Case {
     name: "a publication",
     system: &[THREE],
     plan: Plan {
@@ -58,14 +57,8 @@ const WHOLE: Case<'static> = Case {
     report: "empty leaf 1 taken 3",
 };
 
-#[test]
-fn a_publication_goes_on_from_each_of_its_points(rt: HostRuntime) -> Result<(), Fail> {
-    see_points(&rt, rt.alloc(), &WHOLE, 1, 6, "left leaf 1 taken 1")?;
-    see(&rt, rt.alloc(), &WHOLE)
-}
-
 /// A queue is full by a post before the starts.
-const CUTS: [Case<'static>; 3] = [
+pub(crate) const CUTS: &[Case<'static>] = &[
     Case {
         name: "object 3 has a full queue",
         system: &[THREE],
@@ -112,8 +105,3 @@ const CUTS: [Case<'static>; 3] = [
         report: "stopped 1 leaf 1 taken 1",
     },
 ];
-
-#[test]
-fn a_publication_is_cut_at_each_of_its_posts(rt: HostRuntime) -> Result<(), Fail> {
-    see_all(&rt, rt.alloc(), &CUTS)
-}

@@ -3,6 +3,8 @@
 use crate::bench::{Case, PLAIN, see};
 use crate::systems::pair;
 use crate::trial::Plan;
+use std::alloc::Global;
+use std::sync::Wait;
 use std::test::Fail;
 
 /// The queue of object 2 is full before object 1 starts.
@@ -71,8 +73,8 @@ const REFUSED: [(&str, &str); 14] = [
     ),
 ];
 
-#[test]
-fn each_action_that_is_refused_answers_0(rt: HostRuntime) -> Result<(), Fail> {
+/// Sees each action that is refused.
+pub(crate) fn see_refused<R: Wait>(rt: &R, alloc: Global) -> Result<(), Fail> {
     for (acts, records) in &REFUSED {
         let case = Case {
             name: acts,
@@ -85,7 +87,7 @@ fn each_action_that_is_refused_answers_0(rt: HostRuntime) -> Result<(), Fail> {
             ],
             report: "empty leaf 1 taken 1",
         };
-        see(&rt, rt.alloc(), &case)?;
+        see(rt, alloc, &case)?;
     }
     Ok(())
 }
@@ -199,9 +201,8 @@ const ASSERTED: [(&str, &str, &str); 21] = [
     ),
 ];
 
-/// Nothing follows an assertion. The leaf stays, and the stop word has its code.
-#[test]
-fn each_action_ends_in_its_assertion(rt: HostRuntime) -> Result<(), Fail> {
+/// Sees each action that ends in its assertion, which nothing follows. The leaf stays, and the stop word has its code.
+pub(crate) fn see_asserted<R: Wait>(rt: &R, alloc: Global) -> Result<(), Fail> {
     for (acts, report, records) in &ASSERTED {
         let case = Case {
             name: acts,
@@ -213,14 +214,13 @@ fn each_action_ends_in_its_assertion(rt: HostRuntime) -> Result<(), Fail> {
             ],
             report,
         };
-        see(&rt, rt.alloc(), &case)?;
+        see(rt, alloc, &case)?;
     }
     Ok(())
 }
 
 /// An object whose start has ended in an assertion has no leaf.
-#[test]
-fn a_start_ends_in_an_assertion(rt: HostRuntime) -> Result<(), Fail> {
+pub(crate) fn see_start<R: Wait>(rt: &R, alloc: Global) -> Result<(), Fail> {
     let case = Case {
         name: "a start",
         system: &pair("'say 1', 'locked 3 [say 2; post peer X]', 'say 3'", ""),
@@ -230,5 +230,5 @@ fn a_start_ends_in_an_assertion(rt: HostRuntime) -> Result<(), Fail> {
         ],
         report: "stopped 1 taken 0",
     };
-    see(&rt, rt.alloc(), &case)
+    see(rt, alloc, &case)
 }

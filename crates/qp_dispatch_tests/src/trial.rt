@@ -90,150 +90,160 @@ fn post<O: Ops, L: Ledger>(
     }
 }
 
-impl Actor {
-    /// The object of this priority before its start, in a lane with this ceiling.
-    fn new(alloc: Global, sys: &System, me: u8, ceiling: u8) -> Option<Actor>
-        requires { IsSound sys.now }
-        ensures { IfSome result (λ a. IsUnstarted sys.now a × (a.ceiling ≡ ceiling)) }
-    {
-        if !has_object(sys, me) {
-            return None;
-        }
-        match Object::new(alloc, sys, me) {
-            Ok(object) => Some(Actor {
-                me,
-                object,
-                ceiling,
-                points: 0,
-            }),
-            Err(_) => None,
-        }
+/// The object of this priority before its start, in a lane with this ceiling.
+fn new_actor(alloc: Global, sys: &System, me: u8, ceiling: u8) -> Option<Actor>
+    requires { IsSound sys.now }
+    ensures { IfSome result (λ a. IsUnstarted sys.now a × (a.ceiling ≡ ceiling)) }
+{
+    if !has_object(sys, me) {
+        return None;
     }
-
-    /// The whole start.
-    fn start<O: Ops>(&mut self, ops: &mut O, sys: &System) -> Step
-        requires new { IsUnstarted sys.now self.old }
-        requires base { IsBase sys.now self.old.ceiling (O.lane ops.old) }
-        ensures { AfterStart sys.now self.new (O.lane ops.new) result }
-    {
-        self.object.start(ops, sys, &mut self.ceiling)
+    match Object::new(alloc, sys, me) {
+        Ok(object) => Some(Actor {
+            me,
+            object,
+            ceiling,
+            points: 0,
+        }),
+        Err(_) => None,
     }
+}
 
-    /// Takes an entry, and takes it up.
-    fn take<O: Ops, R: Wait>(&mut self, rt: &R, ops: &mut O, sys: &System) -> Option<End>
-        requires { IsResting sys.now self.old (O.lane ops.old) }
-        ensures { AfterTake sys.now self.new (O.lane ops.new) result }
-    {
-        let _ = sys;
-        let Ok(()) = ops.room() else {
-            return Some(End::Refused);
-        };
-        if self.object.taken() >= 1000 {
-            return Some(End::Refused);
-        }
-        match ops.take(rt, self.me) {
-            Take::Empty { .. } => Some(End::Empty),
-            Take::Taken(e) => {
-                self.object.begin(e);
-                None
-            }
+/// The whole start of an object.
+fn start<O: Ops>(actor: &mut Actor, ops: &mut O, sys: &System) -> Step
+    requires new { IsUnstarted sys.now actor.old }
+    requires base { IsBase sys.now actor.old.ceiling (O.lane ops.old) }
+    ensures { AfterStart sys.now actor.new (O.lane ops.new) result }
+{
+    actor.object.start(ops, sys, &mut actor.ceiling)
+}
+
+/// Takes an entry, and takes it up.
+fn take_up<O: Ops, R: Wait>(actor: &mut Actor, rt: &R, ops: &mut O, sys: &System) -> Option<End>
+    requires { IsResting sys.now actor.old (O.lane ops.old) }
+    ensures { AfterTake sys.now actor.new (O.lane ops.new) result }
+{
+    let _ = sys;
+    let Ok(()) = ops.room() else {
+        return Some(End::Refused);
+    };
+    if actor.object.taken() >= 1000 {
+        return Some(End::Refused);
+    }
+    match ops.take(rt, actor.me) {
+        Take::Empty { .. } => Some(End::Empty),
+        Take::Taken(e) => {
+            actor.object.begin(e);
+            None
         }
     }
+}
 
-    /// Goes on with its step.
-    fn resume<O: Ops>(&mut self, ops: &mut O, sys: &System) -> Step
-        requires { IsOnItsWay sys.now self.old (O.lane ops.old) }
-        ensures { AfterPart sys.now self.new (O.lane ops.new) result }
-    {
-        self.object.resume(ops, sys, &mut self.ceiling)
+/// Goes on with a step.
+fn resume<O: Ops>(actor: &mut Actor, ops: &mut O, sys: &System) -> Step
+    requires { IsOnItsWay sys.now actor.old (O.lane ops.old) }
+    ensures { AfterPart sys.now actor.new (O.lane ops.new) result }
+{
+    actor.object.resume(ops, sys, &mut actor.ceiling)
+}
+
+/// Marks a scheduling point with a look that has its number, and the ceiling as its floor.
+fn mark<O: Ops>(actor: &mut Actor, ops: &mut O, sys: &System) -> Option<()>
+    requires { IsOnItsWay sys.now actor.old (O.lane ops.old) }
+    ensures { IfSome result (λ _. IsOnItsWay sys.now actor.new (O.lane ops.new)) }
+{
+    let _ = sys;
+    let Ok(()) = ops.room() else {
+        return None;
+    };
+    actor.points = actor.points.saturating_add(1);
+    ops.note(Rec::look(actor.points, actor.ceiling));
+    Some(())
+}
+
+/// A step from its entry to its end, or to the scheduling point at which the object is ended.
+fn one_step<O: Ops, R: Wait>(
+    actor: &mut Actor,
+    rt: &R,
+    ops: &mut O,
+    sys: &System,
+    until: u32,
+) -> Option<End>
+    requires { IsResting sys.now actor.old (O.lane ops.old) }
+    ensures { AfterStep sys.now actor.new (O.lane ops.new) result }
+{
+    if let Some(end) = take_up(actor, rt, ops, sys) {
+        return Some(end);
     }
-
-    /// Marks a scheduling point with a look that has its number, and the ceiling as its floor.
-    fn mark<O: Ops>(&mut self, ops: &mut O, sys: &System) -> Option<()>
-        requires { IsOnItsWay sys.now self.old (O.lane ops.old) }
-        ensures { IfSome result (λ _. IsOnItsWay sys.now self.new (O.lane ops.new)) }
-    {
-        let _ = sys;
-        let Ok(()) = ops.room() else {
-            return None;
-        };
-        self.points = self.points.saturating_add(1);
-        ops.note(Rec::look(self.points, self.ceiling));
-        Some(())
-    }
-
-    /// A step from its entry to its end, or to the scheduling point at which the object is ended.
-    fn step<O: Ops, R: Wait>(
-        &mut self,
-        rt: &R,
-        ops: &mut O,
-        sys: &System,
-        until: u32,
-    ) -> Option<End>
-        requires { IsResting sys.now self.old (O.lane ops.old) }
-        ensures { AfterStep sys.now self.new (O.lane ops.new) result }
-    {
-        if let Some(end) = self.take(rt, ops, sys) {
-            return Some(end);
-        }
-        for _i in 0..1000u32 {
-            match self.resume(ops, sys) {
-                Step::Done => return None,
-                Step::Stopped => return Some(End::Stopped),
-                Step::Memory => return Some(End::Memory),
-                Step::Point => {
-                    let Some(()) = self.mark(ops, sys) else {
-                        return Some(End::Refused);
-                    };
-                    if self.points == until {
-                        return Some(End::Left);
-                    }
+    for _i in 0..1000u32 {
+        match resume(actor, ops, sys) {
+            Step::Done => return None,
+            Step::Stopped => return Some(End::Stopped),
+            Step::Memory => return Some(End::Memory),
+            Step::Point => {
+                let Some(()) = mark(actor, ops, sys) else {
+                    return Some(End::Refused);
+                };
+                if actor.points == until {
+                    return Some(End::Left);
                 }
             }
         }
-        Some(End::Refused)
     }
+    Some(End::Refused)
+}
 
-    /// Steps until the queue is empty.
-    fn steps<O: Ops, R: Wait>(&mut self, rt: &R, ops: &mut O, sys: &System, until: u32) -> End
-        requires { IsResting sys.now self.old (O.lane ops.old) }
-    {
-        for _i in 0..1000u32 {
-            if let Some(end) = self.step(rt, ops, sys, until) {
-                return end;
-            }
-        }
-        End::Refused
-    }
-
-    /// Starts, and then steps until its queue is empty, its lane stops, or it is ended.
-    fn play<O: Ops, R: Wait>(&mut self, rt: &R, ops: &mut O, sys: &System, until: u32) -> End
-        requires new { IsUnstarted sys.now self.old }
-        requires base { IsBase sys.now self.old.ceiling (O.lane ops.old) }
-    {
-        match self.start(ops, sys) {
-            Step::Done => self.steps(rt, ops, sys, until),
-            Step::Stopped => End::Stopped,
-            Step::Memory => End::Memory,
-            Step::Point => End::Refused,
+/// Steps until the queue is empty.
+fn all_steps<O: Ops, R: Wait>(
+    actor: &mut Actor,
+    rt: &R,
+    ops: &mut O,
+    sys: &System,
+    until: u32,
+) -> End
+    requires { IsResting sys.now actor.old (O.lane ops.old) }
+{
+    for _i in 0..1000u32 {
+        if let Some(end) = one_step(actor, rt, ops, sys, until) {
+            return end;
         }
     }
+    End::Refused
+}
 
-    /// Ends the object, and tells what it showed.
-    fn report<O: Ops>(self, ops: &mut O, end: End) -> Report {
-        let stopped = ops.stopped();
-        let mut vars = ArrayVec::new();
-        let _ = vars.try_extend_from_slice(self.object.vars());
-        let report = Report {
-            end,
-            stopped,
-            leaf: self.object.leaf(),
-            taken: self.object.taken(),
-            vars,
-        };
-        self.object.end(ops);
-        report
+/// Starts an object, and then lets it step until its queue is empty, its lane stops, or it is ended.
+fn start_and_steps<O: Ops, R: Wait>(
+    actor: &mut Actor,
+    rt: &R,
+    ops: &mut O,
+    sys: &System,
+    until: u32,
+) -> End
+    requires new { IsUnstarted sys.now actor.old }
+    requires base { IsBase sys.now actor.old.ceiling (O.lane ops.old) }
+{
+    match start(actor, ops, sys) {
+        Step::Done => all_steps(actor, rt, ops, sys, until),
+        Step::Stopped => End::Stopped,
+        Step::Memory => End::Memory,
+        Step::Point => End::Refused,
     }
+}
+
+/// Ends an object, and tells what it showed.
+fn report_of<O: Ops>(actor: Actor, ops: &mut O, end: End) -> Report {
+    let stopped = ops.stopped();
+    let mut vars = ArrayVec::new();
+    let _ = vars.try_extend_from_slice(actor.object.vars());
+    let report = Report {
+        end,
+        stopped,
+        leaf: actor.object.leaf(),
+        taken: actor.object.taken(),
+        vars,
+    };
+    actor.object.end(ops);
+    report
 }
 
 /// Starts an object that does nothing else, and answers the ceiling after it.
@@ -241,8 +251,8 @@ fn start_other<O: Ops>(alloc: Global, ops: &mut O, sys: &System, p: u8, ceiling:
     requires { IsBase sys.now ceiling (O.lane ops.old) }
     ensures { IfSome result (λ c. IsBase sys.now c (O.lane ops.new)) }
 {
-    let mut other = Actor::new(alloc, sys, p, ceiling)?;
-    match other.start(ops, sys) {
+    let mut other = new_actor(alloc, sys, p, ceiling)?;
+    match start(&mut other, ops, sys) {
         Step::Done => {
             let ceiling = other.ceiling;
             other.object.end(ops);
@@ -330,9 +340,9 @@ fn play<O: Ops, L: Ledger, R: Wait>(
     requires base { IsBase sys.now 0 (O.lane ops.old) }
 {
     let ceiling = begin::<O, L>(alloc, ops, sys, plan, blank)?;
-    let mut actor = Actor::new(alloc, sys, plan.me, ceiling)?;
-    let end = actor.play(rt, ops, sys, plan.until);
-    Some(actor.report(ops, end))
+    let mut actor = new_actor(alloc, sys, plan.me, ceiling)?;
+    let end = start_and_steps(&mut actor, rt, ops, sys, plan.until);
+    Some(report_of(actor, ops, end))
 }
 
 /// Tries a plan in a new world with one lane.

@@ -8,9 +8,11 @@ use std::alloc::{AllocError, Global};
 use std::test::Fail;
 
 /// The system of a file whose chart ends so.
-fn system(alloc: Global, rest: &str) -> Result<System, Fail> {
-    let text = format!(in alloc; "{CHART}{rest}")?;
-    Ok(system_of_bytes(alloc, text.as_bytes())?)
+fn system(alloc: Global, rest: &str) -> Option<System> {
+    let Ok(text) = [CHART, rest].concat(alloc) else {
+        return None;
+    };
+    system_of_bytes(alloc, text.as_bytes()).ok()
 }
 
 /// Whether a row goes from GO to the first state without a guard, with one action.
@@ -47,22 +49,9 @@ fn chart_is_right(chart: &Chart) -> bool {
         && state_is_right(&chart.state()[0])
 }
 
-fn is_small(charts: &[Chart]) -> bool {
-    match charts {
-        [chart] => chart_is_right(chart),
-        _ => false,
-    }
-}
-
-/// Names become numbers: states from 1, signals from 4.
-#[test]
-fn a_chart_is_read(rt: HostRuntime) -> Result<(), Fail> {
-    let rest =
-        "init = 's'\ntimer = [{ name = 'T', signal = 'TICK', rate = 0 }]\nstate = [{ name = 's', row = [{ on = 'GO', do = ['x = 1'], to = 's' }] }]";
-    let sys = system(rt.alloc(), rest)?;
-    assert!(rt; is_small(sys.charts.items.as_slice()));
-    Ok(())
-}
+/// A chart of one state.
+const SMALL: &str =
+    "init = 's'\ntimer = [{ name = 'T', signal = 'TICK', rate = 0 }]\nstate = [{ name = 's', row = [{ on = 'GO', do = ['x = 1'], to = 's' }] }]";
 
 const PARENTS: [Option<u8>; 9] = [
     None,
@@ -76,33 +65,26 @@ const PARENTS: [Option<u8>; 9] = [
     None,
 ];
 
+/// Whether states have the tree's parents.
+fn have_parents(states: &[State]) -> bool {
+    for (state, parent) in states.iter().zip(&PARENTS) {
+        if state.parent() != *parent {
+            return false;
+        }
+    }
+    states.len() == 9
+}
+
 /// Whether a chart has the tree's parents, and its one initial target.
 fn tree_is_right(chart: &Chart) -> bool {
-    let parents = chart
-        .state()
-        .iter()
-        .zip(&PARENTS)
-        .all(|(state, parent)| state.parent() == *parent);
-    chart.init() == 6
-        && chart.state().len() == 9
-        && parents
-        && chart.state()[0].init().is_none()
-        && chart.state()[1].init() == Some(5)
-}
-
-fn is_tree(charts: &[Chart]) -> bool {
-    match charts {
-        [chart] => tree_is_right(chart),
+    let states = chart.state();
+    if chart.init() != 6 || !have_parents(states) {
+        return false;
+    }
+    match states {
+        [a, b, ..] => a.init().is_none() && b.init() == Some(5),
         _ => false,
     }
-}
-
-/// The tree of the worked transitions.
-#[test]
-fn a_tree_is_read(rt: HostRuntime) -> Result<(), Fail> {
-    let sys = system(rt.alloc(), TREE)?;
-    assert!(rt; is_tree(sys.charts.items.as_slice()));
-    Ok(())
 }
 
 /// Rows of 16 actions each.
@@ -129,20 +111,49 @@ fn largest(alloc: Global) -> Result<String, AllocError> {
     Ok(text)
 }
 
-fn is_largest(charts: &[Chart]) -> bool {
-    match charts {
-        [chart] => {
-            chart.state().len() == 64 && chart.state().iter().all(|state| state.row().len() == 32)
+fn largest_is_right(chart: &Chart) -> bool {
+    for state in chart.state() {
+        if state.row().len() != 32 {
+            return false;
         }
+    }
+    chart.state().len() == 64
+}
+
+/// A chart of the tests.
+#[derive(Clone, Copy)]
+enum Which {
+    Small,
+    Tree,
+    Largest,
+}
+
+fn is_right(which: Which, charts: &[Chart]) -> bool {
+    match charts {
+        [chart] => match which {
+            Which::Small => chart_is_right(chart),
+            Which::Tree => tree_is_right(chart),
+            Which::Largest => largest_is_right(chart),
+        },
         _ => false,
     }
 }
 
-/// Memory is there for the largest chart.
+/// Whether a file whose chart ends so has this chart alone.
+fn is_read(alloc: Global, which: Which, rest: &str) -> bool {
+    match system(alloc, rest) {
+        Some(sys) => is_right(which, sys.charts.items.as_slice()),
+        None => false,
+    }
+}
+
+/// Names become numbers: states from 1, signals from 4. The tree is the one of the worked transitions, and memory is there for the largest
+/// chart.
 #[test]
-fn the_largest_chart_is_read(rt: HostRuntime) -> Result<(), Fail> {
-    let rest = largest(rt.alloc())?;
-    let sys = system(rt.alloc(), rest.as_str())?;
-    assert!(rt; is_largest(sys.charts.items.as_slice()));
+fn charts(rt: HostRuntime) -> Result<(), Fail> {
+    let largest = largest(rt.alloc())?;
+    assert!(rt; is_read(rt.alloc(), Which::Small, SMALL));
+    assert!(rt; is_read(rt.alloc(), Which::Tree, TREE));
+    assert!(rt; is_read(rt.alloc(), Which::Largest, largest.as_str()));
     Ok(())
 }

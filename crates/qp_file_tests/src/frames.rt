@@ -7,7 +7,6 @@ use qp_base::MemSink;
 use qp_frames::{Decoder, FrameFault, write_frames};
 use qp_text::{Found, read_journal, write_journal};
 use std::alloc::{AllocError, Global};
-use std::test::Fail;
 
 /// A run without stimuli.
 const QUIET_TEXT_1: &[u8] =
@@ -96,7 +95,10 @@ fn has_text(alloc: Global, answer: Result<Found, FrameFault>, text: &[u8]) -> bo
     requires range { IfOk answer (λ found. IsTrue (is_in_range found.form found.journal)) }
 {
     match answer {
-        Ok(found) => text_of(alloc, &found).is_some_and(|sink| sink.bytes() == text),
+        Ok(found) => match text_of(alloc, &found) {
+            Some(sink) => sink.bytes() == text,
+            None => false,
+        },
         Err(_) => false,
     }
 }
@@ -129,45 +131,41 @@ fn is_written(alloc: Global, text: &[u8], frames: &[u8]) -> Result<bool, AllocEr
     Ok(is_whole && sink.bytes() == frames)
 }
 
+/// Whether the journal of the text is decoded from the frames, however they are cut in two, and byte by byte.
+fn is_decoded(alloc: Global, text: &[u8], frames: &[u8]) -> bool {
+    for cut in 0..=frames.len() {
+        if !has_text(alloc, decoded_in_two(alloc, frames, cut), text) {
+            return false;
+        }
+    }
+    has_text(alloc, decoded_by_bytes(alloc, frames), text)
+}
+
+/// Whether each stream that is cut off before its end is refused: within a frame by the frame's place, and behind one for the end.
+fn are_refused(alloc: Global, frames: &[u8]) -> bool {
+    let mut start = 0;
+    for (end, b) in frames.iter().enumerate() {
+        let (code, got) = if end == start { (6, 5) } else { (4, 0) };
+        let answer = decoded_in_two(alloc, &frames[..end], 0);
+        if !has_fault(answer, start as u64, code, 0, got) {
+            return false;
+        }
+        if *b == 0x7E {
+            start = end + 1;
+        }
+    }
+    true
+}
+
 #[test]
-fn frames_have_the_bytes_of_their_form(rt: HostRuntime) -> Result<(), Fail> {
+fn frames_have_the_bytes_of_their_form_and_are_decoded(rt: HostRuntime) {
     for (i, (text, frames)) in JOURNALS.iter().enumerate() {
-        assert!(rt; is_written(rt.alloc(), text, frames)?, "journal {i}");
-    }
-    Ok(())
-}
-
-#[test]
-fn a_stream_is_decoded_however_it_is_cut(rt: HostRuntime) {
-    for (text, frames) in &JOURNALS {
-        for cut in 0..=frames.len() {
-            assert!(rt;
-                has_text(rt.alloc(), decoded_in_two(rt.alloc(), frames, cut), text),
-                "cut at {cut}"
-            );
-        }
         assert!(rt;
-            has_text(rt.alloc(), decoded_by_bytes(rt.alloc(), frames), text),
-            "byte by byte"
+            is_written(rt.alloc(), text, frames) == Ok(true),
+            "journal {i}"
         );
-    }
-}
-
-#[test]
-fn a_stream_that_is_cut_off_is_refused(rt: HostRuntime) {
-    for (_, frames) in &JOURNALS {
-        let mut start = 0;
-        for (end, b) in frames.iter().enumerate() {
-            let (code, got) = if end == start { (6, 5) } else { (4, 0) };
-            let answer = decoded_in_two(rt.alloc(), &frames[..end], 0);
-            assert!(rt;
-                has_fault(answer, start as u64, code, 0, got),
-                "cut off at {end}"
-            );
-            if *b == 0x7E {
-                start = end + 1;
-            }
-        }
+        assert!(rt; is_decoded(rt.alloc(), text, frames), "journal {i}");
+        assert!(rt; are_refused(rt.alloc(), frames), "journal {i}");
     }
 }
 

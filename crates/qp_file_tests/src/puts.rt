@@ -7,7 +7,6 @@ use qp_base::MemSink;
 use qp_frames::write_frames;
 use qp_text::{Found, TextFault, read_journal, write_journal};
 use std::alloc::{AllocError, Global};
-use std::test::Fail;
 
 /// A start that says 126, the end byte of a frame, and a lane of a source.
 const TEXT_1: &[u8] =
@@ -39,9 +38,17 @@ fn journal(alloc: Global, text: &[u8]) -> Result<Found, TextFault>
     read_journal(alloc, text)
 }
 
-/// Whether the text is whole, and is this, where the put of this number fails.
-fn has_put_text(
+/// A journal goes on as text or as frames.
+#[derive(Clone, Copy)]
+enum Form {
+    Text,
+    Frames,
+}
+
+/// Whether the journal is written whole, and so, where the put of this number fails.
+fn has_put(
     alloc: Global,
+    form: Form,
     found: &Found,
     put: u64,
     is_whole: bool,
@@ -51,70 +58,58 @@ fn has_put_text(
     requires range { IsTrue (is_in_range found.now.form found.now.journal) }
 {
     let mut sink = failing(alloc, put)?;
-    let is_ok = write_journal(&found.journal, found.form, &mut sink).is_ok();
+    let is_ok = match form {
+        Form::Text => write_journal(&found.journal, found.form, &mut sink).is_ok(),
+        Form::Frames => write_frames(&found.journal, found.form, &mut sink).is_ok(),
+    };
     Ok(is_ok == is_whole && sink.bytes() == front)
 }
 
-/// The same of frames.
-fn has_put_frames(
+/// Whether each piece of the whole, which ends with this byte, is one put: each put is tried as the one that fails, and behind them none
+/// comes.
+fn are_puts(
     alloc: Global,
+    form: Form,
     found: &Found,
-    put: u64,
-    is_whole: bool,
-    front: &[u8],
+    whole: &[u8],
+    ends: u8,
 ) -> Result<bool, AllocError>
     requires form { IsTrue (has_form found.now.form found.now.journal) }
     requires range { IsTrue (is_in_range found.now.form found.now.journal) }
 {
-    let mut sink = failing(alloc, put)?;
-    let is_ok = write_frames(&found.journal, found.form, &mut sink).is_ok();
-    Ok(is_ok == is_whole && sink.bytes() == front)
+    let (mut puts, mut end) = (0u64, 0usize);
+    for piece in whole.split_inclusive(|byte| *byte == ends) {
+        let front = whole.get(..end).unwrap_or(&[]);
+        if !has_put(alloc, form, found, puts, false, front)? {
+            return Ok(false);
+        }
+        end = end.saturating_add(piece.len());
+        puts = puts.saturating_add(1);
+    }
+    has_put(alloc, form, found, puts, true, whole)
+}
+
+/// The same of the journal of a text.
+fn has_puts(
+    alloc: Global,
+    form: Form,
+    text: &[u8],
+    whole: &[u8],
+    ends: u8,
+) -> Result<bool, AllocError> {
+    match journal(alloc, text) {
+        Ok(found) => are_puts(alloc, form, &found, whole, ends),
+        Err(_) => Ok(false),
+    }
 }
 
 /// Texts and their frames.
 const JOURNALS: [(&[u8], &[u8]); 2] = [(TEXT_1, FRAMES_1), (TEXT_2, FRAMES_2)];
 
-/// Each put of a line is tried as the one that fails; behind them none comes.
 #[test]
-fn each_line_is_one_put(rt: HostRuntime) -> Result<(), Fail> {
-    let alloc = rt.alloc();
-    for (text, _) in &JOURNALS {
-        let Ok(found) = journal(alloc, text) else {
-            return Err(Fail::new("the text is a journal's"));
-        };
-        let (mut puts, mut end) = (0u64, 0usize);
-        for line in text.split_inclusive(|byte| *byte == b'\n') {
-            let front = text.get(..end).unwrap_or(&[]);
-            assert!(rt;
-                has_put_text(alloc, &found, puts, false, front)?,
-                "before line {puts}"
-            );
-            end = end.saturating_add(line.len());
-            puts = puts.saturating_add(1);
-        }
-        assert!(rt; has_put_text(alloc, &found, puts, true, text)?);
-    }
-    Ok(())
-}
-
-#[test]
-fn each_frame_is_one_put(rt: HostRuntime) -> Result<(), Fail> {
-    let alloc = rt.alloc();
+fn each_line_and_each_frame_is_one_put(rt: HostRuntime) {
     for (text, frames) in &JOURNALS {
-        let Ok(found) = journal(alloc, text) else {
-            return Err(Fail::new("the text is a journal's"));
-        };
-        let (mut puts, mut end) = (0u64, 0usize);
-        for frame in frames.split_inclusive(|byte| *byte == 0x7E) {
-            let front = frames.get(..end).unwrap_or(&[]);
-            assert!(rt;
-                has_put_frames(alloc, &found, puts, false, front)?,
-                "before frame {puts}"
-            );
-            end = end.saturating_add(frame.len());
-            puts = puts.saturating_add(1);
-        }
-        assert!(rt; has_put_frames(alloc, &found, puts, true, frames)?);
+        assert!(rt; has_puts(rt.alloc(), Form::Text, text, text, b'\n') == Ok(true));
+        assert!(rt; has_puts(rt.alloc(), Form::Frames, text, frames, 0x7E) == Ok(true));
     }
-    Ok(())
 }

@@ -4,7 +4,6 @@ use crate::samples::{GEN, LAMP, PAIR, PRIO, SIGNALS, SUM, TABLE, THREE};
 use qp_model::{ObjectDef, System, TimerDef};
 use qp_system::system_of_bytes;
 use std::alloc::{AllocError, Global};
-use std::process::Abort;
 use std::test::Fail;
 
 fn put_object(text: &mut String, alloc: Global, object: &ObjectDef) -> Result<(), AllocError> {
@@ -42,26 +41,13 @@ fn outline(alloc: Global, sys: &System) -> Result<String, AllocError> {
     Ok(text)
 }
 
-/// What a file made of these two texts says, or why it is refused.
-fn said(alloc: Global, front: &str, rest: &str) -> Result<String, AllocError> {
-    let text = format!(in alloc; "{front}{rest}")?;
+/// What a file of these parts says, or why it is refused.
+fn said(alloc: Global, parts: &[&str]) -> Result<String, AllocError> {
+    let text = parts.concat(alloc)?;
     match system_of_bytes(alloc, text.as_bytes()) {
         Ok(sys) => outline(alloc, &sys),
         Err(fault) => format!(in alloc; "{fault}"),
     }
-}
-
-/// Asserts what a file made of these two texts says.
-fn expect(
-    rt: &impl Abort,
-    alloc: Global,
-    front: &str,
-    rest: &str,
-    want: &str,
-) -> Result<(), AllocError> {
-    let found = said(alloc, front, rest)?;
-    assert!(rt; found.as_str() == want, "{found} of {front}{rest}");
-    Ok(())
 }
 
 /// Time events of two charts, whose objects stand in descending priority; one of two first values is replaced.
@@ -78,160 +64,180 @@ object = [
 ]
 pool = [{ size = 1, blocks = 1 }, { size = 8, blocks = 32 }]";
 
-const FILES: [(&str, &str, &str); 7] = [
-    (LAMP, "", "0 1 1\nlamp 1 1 1 1 0 []"),
-    (PAIR, "", "0 1 2\na 1 1 1 1 0 []\nb 2 2 2 1 0 []"),
-    (SUM, "", "1 1 1\nsum 1 1 1 31 0 [0]"),
-    (GEN, "", "1 1 2\nsum 1 1 1 15 0 [0]\nrelay 2 2 2 15 0 []"),
+const ONE_BLOCK: &str = "pool = [{ size = 1, blocks = 1 }]\n";
+
+const TWO_BLOCKS: &str = "pool = [{ size = 1, blocks = 2 }]\n";
+
+/// One object `lamp`, whose queue and deferred events follow.
+const OBJECT: &str = "object = [{ name = 'lamp', chart = 'c', priority = 1, ";
+
+/// The end of its line, and its chart, whose other keys follow.
+const CHART: &str = " }]\n[[chart]]\nname = 'c'\n";
+
+/// The object of priority 1, whose other keys follow.
+const LOW: &str = "object = [\n{ name = 'low', chart = 'c', priority = 1, queue = 1";
+
+const OTHERS: &str =
+    " },\n{ name = 'three', chart = 'q', priority = 3, queue = 1 },\n{ name = 'top', chart = 'q', priority = 4, queue = 1 },\n]\n";
+
+/// The parts of a file, and what it says.
+const FILES: &[(&[&str], &str)] = &[
+    (&[LAMP], "0 1 1\nlamp 1 1 1 1 0 []"),
+    (&[PAIR], "0 1 2\na 1 1 1 1 0 []\nb 2 2 2 1 0 []"),
+    (&[SUM], "1 1 1\nsum 1 1 1 31 0 [0]"),
+    (&[GEN], "1 1 2\nsum 1 1 1 15 0 [0]\nrelay 2 2 2 15 0 []"),
     (
-        SIGNALS,
-        THREE,
+        &[SIGNALS, THREE],
         "1 5 2\no1 1 1 1 1 0 []\no2 1 2 2 1 0 []\no3 2 3 3 1 0 [0]",
     ),
     // Objects in ascending priority wherever they stand, variables in ascending name, and time events by object.
     (
-        TABLE,
-        "",
+        &[TABLE],
         "2 4 2\nann 1 1 1 7 0 [1, 2]\nbob 1 2 2 7 0 [2, 4]\ncat 1 3 3 7 0 [4, 8]\ndan 1 4 4 7 0 [8, 16]\neve 1 5 5 7 0 [16, 1]\ntable 2 6 6 7 5 [0]\n1 4 0\n2 4 0\n3 4 0\n4 4 0\n5 4 0",
     ),
     (
-        SIGNALS,
-        TIMES,
+        &[SIGNALS, TIMES],
         "2 5 2\na 1 2 2 1 0 [3, 5]\nb 2 7 9 255 0 []\nc 1 32 32 0 255 [3, -7]\n2 8 3\n2 7 1\n7 4 2\n32 8 3\n32 7 1",
     ),
-];
-
-/// Each file with a name.
-#[test]
-fn named_files(rt: HostRuntime) -> Result<(), Fail> {
-    for (front, rest, want) in &FILES {
-        expect(&rt, rt.alloc(), front, rest, want)?;
-    }
-    Ok(())
-}
-
-/// A system of one object `lamp` and one chart `c` with the initial state `s`, whose other keys follow.
-fn one(alloc: Global, queue: u8, defer: u8, blocks: u8, chart: &str) -> Result<String, AllocError> {
-    format!(in alloc;
-        "{SIGNALS}pool = [{{ size = 1, blocks = {blocks} }}]\nobject = [{{ name = 'lamp', chart = 'c', priority = 1, queue = {queue}, defer = {defer} }}]\n[[chart]]\nname = 'c'\n{chart}\n"
-    )
-}
-
-/// The systems of one object, by their queue, deferred events, blocks and chart.
-const ONES: [(u8, u8, u8, &str, &str); 11] = [
+    // Systems of one object, by its queue and its deferred events.
     (
-        1,
-        0,
-        2,
-        "init = 's'\nstate = [{ name = 's' }]",
+        &[
+            SIGNALS,
+            TWO_BLOCKS,
+            OBJECT,
+            "queue = 1, defer = 0",
+            CHART,
+            "init = 's'\nstate = [{ name = 's' }]",
+        ],
         "1 5 1\nlamp 1 1 1 1 0 []",
     ),
     (
-        0,
-        0,
-        2,
-        "init = 's'\nstate = [{ name = 's', row = [{ on = 'GO', do = ['post me X', 'post me X'] }] }]",
+        &[
+            SIGNALS,
+            TWO_BLOCKS,
+            OBJECT,
+            "queue = 0, defer = 0",
+            CHART,
+            "init = 's'\nstate = [{ name = 's', row = [{ on = 'GO', do = ['post me X', 'post me X'] }] }]",
+        ],
         "1 5 1\nlamp 1 1 1 0 0 []",
     ),
     (
-        1,
-        0,
-        2,
-        "init = 's'\nstate = [{ name = 's', row = [{ on = 'GO', do = ['post me N(5) margin 1', 'post me N(6) margin 1', 'say ok'] }] }]",
+        &[
+            SIGNALS,
+            TWO_BLOCKS,
+            OBJECT,
+            "queue = 1, defer = 0",
+            CHART,
+            "init = 's'\nstate = [{ name = 's', row = [{ on = 'GO', do = ['post me N(5) margin 1', 'post me N(6) margin 1', 'say ok'] }] }]",
+        ],
         "1 5 1\nlamp 1 1 1 1 0 []",
     ),
     (
-        3,
-        0,
-        1,
-        "init = 's'\nstate = [{ name = 's', row = [{ on = 'GO', do = ['post me N(1)', 'post me N(2) reserve 0', 'say ok'] }] }]",
+        &[
+            SIGNALS,
+            ONE_BLOCK,
+            OBJECT,
+            "queue = 3, defer = 0",
+            CHART,
+            "init = 's'\nstate = [{ name = 's', row = [{ on = 'GO', do = ['post me N(1)', 'post me N(2) reserve 0', 'say ok'] }] }]",
+        ],
         "1 5 1\nlamp 1 1 1 3 0 []",
     ),
     (
-        3,
-        2,
-        2,
-        "init = 's'\nvars = { n = 0 }\nstate = [{ name = 's', row = [{ on = 'N', when = 'n < 2', do = ['defer', 'n = n + 1'] }, { on = 'GO', do = ['recall', 'flush', 'say ok'] }] }]",
+        &[
+            SIGNALS,
+            TWO_BLOCKS,
+            OBJECT,
+            "queue = 3, defer = 2",
+            CHART,
+            "init = 's'\nvars = { n = 0 }\nstate = [{ name = 's', row = [{ on = 'N', when = 'n < 2', do = ['defer', 'n = n + 1'] }, { on = 'GO', do = ['recall', 'flush', 'say ok'] }] }]",
+        ],
         "1 5 1\nlamp 1 1 1 3 2 [0]",
     ),
     (
-        1,
-        0,
-        2,
-        "init = 's'\nstate = [{ name = 's', row = [{ on = 'GO', do = ['lifo N(3)'] }, { on = 'N', do = ['say p1'] }] }]",
+        &[
+            SIGNALS,
+            TWO_BLOCKS,
+            OBJECT,
+            "queue = 1, defer = 0",
+            CHART,
+            "init = 's'\nstate = [{ name = 's', row = [{ on = 'GO', do = ['lifo N(3)'] }, { on = 'N', do = ['say p1'] }] }]",
+        ],
         "1 5 1\nlamp 1 1 1 1 0 []",
     ),
     (
-        1,
-        0,
-        2,
-        "init = 's'\ninit_do = ['subscribe N']\nstate = [{ name = 's', row = [{ on = 'GO', do = ['publish N(4)'] }, { on = 'N', do = ['say p1'] }] }]",
+        &[
+            SIGNALS,
+            TWO_BLOCKS,
+            OBJECT,
+            "queue = 1, defer = 0",
+            CHART,
+            "init = 's'\ninit_do = ['subscribe N']\nstate = [{ name = 's', row = [{ on = 'GO', do = ['publish N(4)'] }, { on = 'N', do = ['say p1'] }] }]",
+        ],
         "1 5 1\nlamp 1 1 1 1 0 []",
     ),
     (
-        1,
-        0,
-        2,
-        "init = 's'\nstate = [{ name = 's', row = [{ on = 'GO', do = ['say -4'] }] }]",
+        &[
+            SIGNALS,
+            TWO_BLOCKS,
+            OBJECT,
+            "queue = 1, defer = 0",
+            CHART,
+            "init = 's'\nstate = [{ name = 's', row = [{ on = 'GO', do = ['say -4'] }] }]",
+        ],
         "1 5 1\nlamp 1 1 1 1 0 []",
     ),
     // Nested states, and time events.
     (
-        3,
-        0,
-        2,
-        "init = 'c'\nstate = [{ name = 'a', row = [{ on = 'GO', do = ['say 7'] }] }, { name = 'b', parent = 'a' }, { name = 'c', parent = 'b', row = [{ on = 'GO', when = '0', do = ['say 1'] }] }]",
+        &[
+            SIGNALS,
+            TWO_BLOCKS,
+            OBJECT,
+            "queue = 3, defer = 0",
+            CHART,
+            "init = 'c'\nstate = [{ name = 'a', row = [{ on = 'GO', do = ['say 7'] }] }, { name = 'b', parent = 'a' }, { name = 'c', parent = 'b', row = [{ on = 'GO', when = '0', do = ['say 1'] }] }]",
+        ],
         "1 5 1\nlamp 1 1 1 3 0 []",
     ),
     (
-        3,
-        0,
-        2,
-        "init = 'f'\nstate = [{ name = 'a' }, { name = 'b', parent = 'a', init = 'e' }, { name = 'c', parent = 'b' }, { name = 'd', parent = 'c' }, { name = 'e', parent = 'd' }, { name = 'f', parent = 'e' }, { name = 'g', parent = 'a' }, { name = 'h', parent = 'g' }, { name = 'k' }]",
+        &[
+            SIGNALS,
+            TWO_BLOCKS,
+            OBJECT,
+            "queue = 3, defer = 0",
+            CHART,
+            "init = 'f'\nstate = [{ name = 'a' }, { name = 'b', parent = 'a', init = 'e' }, { name = 'c', parent = 'b' }, { name = 'd', parent = 'c' }, { name = 'e', parent = 'd' }, { name = 'f', parent = 'e' }, { name = 'g', parent = 'a' }, { name = 'h', parent = 'g' }, { name = 'k' }]",
+        ],
         "1 5 1\nlamp 1 1 1 3 0 []",
     ),
     (
-        3,
-        0,
-        2,
-        "init = 's'\ninit_do = ['arm A(2, 0)', 'arm B(2, 2)']\ntimer = [{ name = 'A', signal = 'TA', rate = 0 }, { name = 'B', signal = 'TB', rate = 0 }]\nstate = [{ name = 's', row = [{ on = 'GO', do = ['disarm A', 'say ok', 'arm B(1, 0)'] }] }]",
+        &[
+            SIGNALS,
+            TWO_BLOCKS,
+            OBJECT,
+            "queue = 3, defer = 0",
+            CHART,
+            "init = 's'\ninit_do = ['arm A(2, 0)', 'arm B(2, 2)']\ntimer = [{ name = 'A', signal = 'TA', rate = 0 }, { name = 'B', signal = 'TB', rate = 0 }]\nstate = [{ name = 's', row = [{ on = 'GO', do = ['disarm A', 'say ok', 'arm B(1, 0)'] }] }]",
+        ],
         "1 5 1\nlamp 1 1 1 3 0 []\n1 7 0\n1 8 0",
     ),
-];
-
-#[test]
-fn one_object(rt: HostRuntime) -> Result<(), Fail> {
-    for (queue, defer, blocks, chart, want) in &ONES {
-        let text = one(rt.alloc(), *queue, *defer, *blocks, chart)?;
-        expect(&rt, rt.alloc(), &text, "", want)?;
-    }
-    Ok(())
-}
-
-/// Three objects of the priorities 1, 3 and 4, by the keys that `low` has besides.
-fn prio(alloc: Global, low: &str) -> Result<String, AllocError> {
-    format!(in alloc;
-        "{SIGNALS}{PRIO}object = [\n{{ name = 'low', chart = 'c', priority = 1, queue = 1{low} }},\n{{ name = 'three', chart = 'q', priority = 3, queue = 1 }},\n{{ name = 'top', chart = 'q', priority = 4, queue = 1 }},\n]\n"
-    )
-}
-
-const PRIOS: [(&str, &str); 2] = [
+    // Three objects of the priorities 1, 3 and 4. A threshold is the priority where the file has none.
     (
-        "",
+        &[SIGNALS, PRIO, LOW, OTHERS],
         "1 5 2\nlow 1 1 1 1 0 []\nthree 2 3 3 1 0 []\ntop 2 4 4 1 0 []",
     ),
     (
-        ", threshold = 3",
+        &[SIGNALS, PRIO, LOW, ", threshold = 3", OTHERS],
         "1 5 2\nlow 1 1 3 1 0 []\nthree 2 3 3 1 0 []\ntop 2 4 4 1 0 []",
     ),
 ];
 
-/// A threshold is the priority where the file has none.
 #[test]
-fn thresholds(rt: HostRuntime) -> Result<(), Fail> {
-    for (low, want) in &PRIOS {
-        let text = prio(rt.alloc(), low)?;
-        expect(&rt, rt.alloc(), &text, "", want)?;
+fn systems(rt: HostRuntime) -> Result<(), Fail> {
+    for (parts, want) in FILES {
+        let found = said(rt.alloc(), parts)?;
+        assert!(rt; found.as_str() == *want, "{found} of {parts:?}");
     }
     Ok(())
 }

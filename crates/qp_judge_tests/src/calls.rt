@@ -7,7 +7,6 @@ use crate::samples::{Line, POOLED_7, entry, no_pars, system, told};
 use qp_check_calls::{Answer, Call, CallState, Kept};
 use qp_model::Entry;
 use std::alloc::{AllocError, Global};
-use std::test::Fail;
 
 /// What object 1 leaves behind these records, and nothing where one of them doesn't fit.
 fn behind(
@@ -25,13 +24,6 @@ fn behind(
         }
     }
     Ok(Some(rest))
-}
-
-fn answer(alloc: Global, call: Call, lines: &[Line]) -> Result<Option<Answer>, AllocError> {
-    Ok(match behind(alloc, Kept::none(alloc), call, lines)? {
-        Some(rest) => rest.answer(),
-        None => None,
-    })
 }
 
 fn post() -> Call {
@@ -64,26 +56,6 @@ const POSTED_4: Entry = Entry {
     name: 4,
 };
 
-/// A post draws a block, refers to it and posts that reference.
-const POSTS: [(&[Line], bool); 3] = [
-    (&[Given, Referred(7), Posted(1, POOLED_7)], true),
-    (&[Given, Referred(7), Posted(1, OTHER)], false),
-    (&[Given, Referred(7)], false),
-];
-
-#[test]
-fn posts(rt: HostRuntime) -> Result<(), Fail> {
-    for (i, (lines, is_granted)) in POSTS.iter().enumerate() {
-        let want = if *is_granted {
-            Some(Answer::Granted)
-        } else {
-            None
-        };
-        assert!(rt; answer(rt.alloc(), post(), lines)? == want, "case {i}");
-    }
-    Ok(())
-}
-
 /// A publication to the lamp: its own reference, the set, the ceiling, the post with a reference, and all back.
 const PUBLICATION: [Line; 8] = [
     Given,
@@ -96,24 +68,48 @@ const PUBLICATION: [Line; 8] = [
     Dropped(3, 1),
 ];
 
-#[test]
-fn publications(rt: HostRuntime) -> Result<(), Fail> {
-    let answer = answer(rt.alloc(), publish(), &PUBLICATION)?;
-    assert!(rt; answer == Some(Answer::Granted));
-    Ok(())
+/// Whether the call is a publication or a post, its records, and whether they grant it. A post draws a block, refers to it and posts that
+/// reference.
+const CALLS: &[(bool, &[Line], bool)] = &[
+    (false, &[Given, Referred(7), Posted(1, POOLED_7)], true),
+    (false, &[Given, Referred(7), Posted(1, OTHER)], false),
+    (false, &[Given, Referred(7)], false),
+    (true, &PUBLICATION, true),
+];
+
+/// What the call answers by its records.
+fn answer(alloc: Global, publishes: bool, lines: &[Line]) -> Option<Answer> {
+    let call = if publishes { publish() } else { post() };
+    match behind(alloc, Kept::none(alloc), call, lines) {
+        Ok(Some(rest)) => rest.answer(),
+        _ => None,
+    }
 }
 
-/// A flush takes the entry that is kept; its block comes back.
 #[test]
-fn flushes(rt: HostRuntime) -> Result<(), Fail> {
-    let alloc = rt.alloc();
+fn calls(rt: HostRuntime) {
+    for (i, (publishes, lines, is_granted)) in CALLS.iter().enumerate() {
+        let answer = answer(rt.alloc(), *publishes, lines);
+        assert!(rt; answer == is_granted.then_some(Answer::Granted), "case {i}");
+    }
+}
+
+/// Whether a flush takes the entry that is kept; its block comes back.
+fn flushes(alloc: Global) -> bool {
     let mut kept = Kept::none(alloc);
-    kept.items.push_back(entry(1, 0, 7))?;
+    if kept.items.push_back(entry(1, 0, 7)).is_err() {
+        return false;
+    }
     let lines = [Flush(POOLED_7), Dropped(7, 0), Back(2)];
-    let Some(rest) = behind(alloc, kept, Call::Flush, &lines)? else {
-        return Err(Fail::from("the records fit"));
-    };
-    assert!(rt; rest.answer() == Some(Answer::Flushed { n: 1 }));
-    assert!(rt; rest.into_kept().len() == 0);
-    Ok(())
+    match behind(alloc, kept, Call::Flush, &lines) {
+        Ok(Some(rest)) => {
+            rest.answer() == Some(Answer::Flushed { n: 1 }) && rest.into_kept().len() == 0
+        }
+        _ => false,
+    }
+}
+
+#[test]
+fn a_flush_takes_what_is_kept(rt: HostRuntime) {
+    assert!(rt; flushes(rt.alloc()));
 }

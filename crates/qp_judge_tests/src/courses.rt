@@ -1,6 +1,6 @@
 //! The agendas of a chart of two states, and lists that follow it.
 
-ghost use Rattle.std.specs.Prelude.{◌≡◌, true, length, IsTrue, IfOk};
+ghost use Rattle.std.specs.Prelude.{◌≡◌, true, length, IsTrue, IfOk, IfSome};
 ghost use Rattle.qp_chart_names.specs.declared.raw.Names.{Names};
 ghost use Rattle.qp_chart_names.specs.Readable.{IsReadable, IsReadableState};
 ghost use Rattle.qp_model.specs.declared.systems.System.{System};
@@ -18,7 +18,6 @@ use qp_check_calls::{Cut, Known, Piece, Told};
 use qp_check_course::{Task, follows, follows_with_points, start_plan, step_plan};
 use qp_model::{Body, Charts, ObjectDefs, PoolDefs, SignalDefs, System, TimerDefs};
 use std::alloc::{AllocError, Global};
-use std::test::Fail;
 
 fn texts(alloc: Global) -> Texts
     ensures { length result ≡ 0 }
@@ -107,30 +106,40 @@ fn is_start(tasks: &[Task]) -> bool {
     }
 }
 
-#[test]
-fn a_start_enters_down_to_the_leaf(rt: HostRuntime) -> Result<(), Fail> {
-    let chart = chart(rt.alloc())?;
-    let plan = start_plan(rt.alloc(), &chart)?;
-    assert!(rt; plan.leaf == 2 && is_start(plan.tasks.as_slice()));
-    Ok(())
+/// Whether a start enters down to the leaf.
+fn starts(alloc: Global, chart: &Chart) -> bool {
+    match start_plan(alloc, chart) {
+        Ok(plan) => plan.leaf == 2 && is_start(plan.tasks.as_slice()),
+        Err(_) => false,
+    }
 }
 
 fn is_unhandled(tasks: &[Task]) -> bool {
     matches!(tasks, [Task::Unhandled, Task::Done])
 }
 
-#[test]
-fn an_event_without_a_row_is_unhandled(rt: HostRuntime) -> Result<(), Fail> {
-    let chart = chart(rt.alloc())?;
+/// Whether an event without a row is unhandled.
+fn passes_over(alloc: Global, chart: &Chart) -> bool {
     let env = Env {
         vars: &[],
         pars: &[],
         ok: 0,
         me: 1,
     };
-    let plan = step_plan(rt.alloc(), &chart, 2, &env, 4)?;
-    assert!(rt; plan.leaf == 2 && is_unhandled(plan.tasks.as_slice()));
-    Ok(())
+    match step_plan(alloc, chart, 2, &env, 4) {
+        Ok(plan) => plan.leaf == 2 && is_unhandled(plan.tasks.as_slice()),
+        Err(_) => false,
+    }
+}
+
+#[test]
+fn plans(rt: HostRuntime) {
+    let Ok(chart) = chart(rt.alloc()) else {
+        assert!(rt; false, "no chart");
+        return;
+    };
+    assert!(rt; starts(rt.alloc(), &chart));
+    assert!(rt; passes_over(rt.alloc(), &chart));
 }
 
 fn has_no_action(s: &State) -> bool
@@ -185,14 +194,19 @@ fn system_of(alloc: Global, chart: Chart) -> Result<System, AllocError>
 }
 
 /// A system of the chart of two states alone.
-fn system(alloc: Global) -> Result<System, Fail>
-    ensures { IfOk result (λ sys. (d : ObjectDef) → d.chart ≡ 1 → IsFollowable sys d) }
+fn system(alloc: Global) -> Option<System>
+    ensures { IfSome result (λ sys. (d : ObjectDef) → d.chart ≡ 1 → IsFollowable sys d) }
 {
-    let chart = chart(alloc)?;
+    let Ok(chart) = chart(alloc) else {
+        return None;
+    };
     if !is_idle(&chart) {
-        return Err(Fail::from("the chart has no action"));
+        return None;
     }
-    Ok(system_of(alloc, chart)?)
+    match system_of(alloc, chart) {
+        Ok(sys) => Some(sys),
+        Err(_) => None,
+    }
 }
 
 /// A start, and a step over an event that has no row.
@@ -242,18 +256,6 @@ const LISTS: [(Cut, usize, &[Line], bool); 15] = [
     (Cut::Anywhere, 7, &[Unhandled], false),
 ];
 
-#[test]
-fn a_start_and_a_step_follow_their_chart(rt: HostRuntime) -> Result<(), Fail> {
-    let sys = system(rt.alloc())?;
-    for (i, (cut, front, behind, want)) in LISTS.iter().enumerate() {
-        assert!(rt;
-            do_follow(rt.alloc(), &sys, *cut, *front, behind)? == *want,
-            "list {i}"
-        );
-    }
-    Ok(())
-}
-
 const BEGUN: Piece = Piece::Tell(Told {
     body: Body::Begin,
     known: Known::Nothing,
@@ -273,11 +275,20 @@ fn do_follow_with_points(alloc: Global, sys: &System, records: &[Piece]) -> Resu
     follows_with_points(alloc, sys, &lamp(alloc), Cut::Anywhere, records)
 }
 
+/// A start and a step follow their chart, and a start has no point.
 #[test]
-fn a_start_has_no_point(rt: HostRuntime) -> Result<(), Fail> {
-    let sys = system(rt.alloc())?;
-    for (records, want) in &POINTS {
-        assert!(rt; do_follow_with_points(rt.alloc(), &sys, records)? == *want);
+fn courses(rt: HostRuntime) {
+    let Some(sys) = system(rt.alloc()) else {
+        assert!(rt; false, "no system");
+        return;
+    };
+    for (i, (cut, front, behind, want)) in LISTS.iter().enumerate() {
+        assert!(rt;
+            do_follow(rt.alloc(), &sys, *cut, *front, behind) == Ok(*want),
+            "list {i}"
+        );
     }
-    Ok(())
+    for (records, want) in &POINTS {
+        assert!(rt; do_follow_with_points(rt.alloc(), &sys, records) == Ok(*want));
+    }
 }

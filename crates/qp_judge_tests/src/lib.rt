@@ -8,14 +8,10 @@ mod calls;
 #[cfg(test)]
 mod courses;
 #[cfg(test)]
-mod objects;
-#[cfg(test)]
-mod publications;
+mod lists;
 #[cfg(test)]
 mod records;
 #[cfg(test)]
 mod samples;
 #[cfg(test)]
 mod sources;
-#[cfg(test)]
-mod units;

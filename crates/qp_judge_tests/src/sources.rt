@@ -5,7 +5,6 @@ use qp_check_calls::{Known, Told};
 use qp_check_sources::{is_source_lane, may_stop, spill_stands};
 use qp_model::{Rec, Stim};
 use std::alloc::{AllocError, Global};
-use std::test::Fail;
 
 /// A tick, and then a settle.
 const STIMULI: [Stim; 2] = [Stim::Tick { rate: 0 }, Stim::Settle];
@@ -28,27 +27,6 @@ fn is_lane(alloc: Global, kernel: u8, lane: &[Rec]) -> Result<bool, AllocError> 
     is_source_lane(alloc, &sys, kernel, 0, &STIMULI, lane, told.as_slice())
 }
 
-/// A settle is tried in vain where a run has threads, and no two tries look alike.
-#[test]
-fn tries(rt: HostRuntime) -> Result<(), Fail> {
-    let lane = [
-        Rec::stim(1, 0),
-        Rec::idle(0, 1, 0),
-        Rec::stim(2, 0),
-        Rec::settle(),
-        Rec::seen(1, 1, 0, 0),
-        Rec::settle(),
-        Rec::seen(1, 1, 0, 1),
-    ];
-    for (kernel, want) in &[(1, true), (0, false)] {
-        assert!(rt;
-            is_lane(rt.alloc(), *kernel, &lane)? == *want,
-            "kernel {kernel}"
-        );
-    }
-    Ok(())
-}
-
 /// Whether the lane may stop behind these records, within a stimulus.
 fn stops_within(alloc: Global, lane: &[Rec]) -> Result<bool, AllocError> {
     let sys = system(alloc)?;
@@ -64,13 +42,32 @@ fn may_spill(alloc: Global, cuts: bool, lane: &[Rec]) -> Result<bool, AllocError
     spill_stands(alloc, &sys, 1, cuts, &STIMULI, told.as_slice())
 }
 
+/// A settle is tried in vain where a run has threads, and no two tries look alike.
+#[test]
+fn tries(rt: HostRuntime) {
+    let lane = [
+        Rec::stim(1, 0),
+        Rec::idle(0, 1, 0),
+        Rec::stim(2, 0),
+        Rec::settle(),
+        Rec::seen(1, 1, 0, 0),
+        Rec::settle(),
+        Rec::seen(1, 1, 0, 1),
+    ];
+    for (kernel, want) in &[(1, true), (0, false)] {
+        assert!(rt;
+            is_lane(rt.alloc(), *kernel, &lane) == Ok(*want),
+            "kernel {kernel}"
+        );
+    }
+}
+
 /// A timer that fired has yet to post.
 #[test]
-fn cuts(rt: HostRuntime) -> Result<(), Fail> {
+fn cuts(rt: HostRuntime) {
     let lane = [Rec::stim(1, 0), Rec::fire(1, 0, 0)];
-    assert!(rt; stops_within(rt.alloc(), &lane)?);
-    for cuts in [true, false] {
-        assert!(rt; may_spill(rt.alloc(), cuts, &lane)? == cuts);
+    assert!(rt; stops_within(rt.alloc(), &lane) == Ok(true));
+    for cuts in &[true, false] {
+        assert!(rt; may_spill(rt.alloc(), *cuts, &lane) == Ok(*cuts));
     }
-    Ok(())
 }

@@ -2,6 +2,7 @@
 
 use crate::reading::{is_word, played};
 use qp_base::Gate;
+use qp_model::Lanes;
 use std::sync::atomic::{AtomicU64, Ordering};
 use std::test::Fail;
 
@@ -41,26 +42,29 @@ impl Gate for Tally {
     }
 }
 
-/// Each `took` of lane 0 is told once, the first with 1 and each other with one more.
-#[test]
-fn a_gate_sees_each_took_once(rt: HostRuntime) -> Result<(), Fail> {
-    let alloc = rt.alloc();
-    let gate = Tally {
-        calls: AtomicU64::new(0),
-        strange: AtomicU64::new(0),
-    };
-    let left = played(&rt, alloc, PAIR, TWO, &gate)?;
+/// How many records of lane 0 have the word `took`.
+fn took(lanes: &Lanes) -> u64 {
     let mut took = 0u64;
-    if let Some(lane) = left.lanes.items.first() {
+    if let Some(lane) = lanes.items.first() {
         for rec in &lane.items {
             if is_word(rec, "took") {
                 took = took.saturating_add(1);
             }
         }
     }
-    assert_eq!(rt; took, 4);
-    assert_eq!(rt; left.steps, 4);
-    assert_eq!(rt; gate.calls.load(Ordering::SeqCst), 4);
-    assert_eq!(rt; gate.strange.load(Ordering::SeqCst), 0);
+    took
+}
+
+/// Each `took` of lane 0 is told once, the first with 1 and each other with one more.
+#[test]
+fn a_gate_sees_each_took_once(rt: HostRuntime) -> Result<(), Fail> {
+    let gate = Tally {
+        calls: AtomicU64::new(0),
+        strange: AtomicU64::new(0),
+    };
+    let left = played(&rt, rt.alloc(), PAIR, TWO, &gate)?;
+    assert!(rt; took(&left.lanes) == 4 && left.steps == 4);
+    assert!(rt; gate.calls.load(Ordering::SeqCst) == 4);
+    assert!(rt; gate.strange.load(Ordering::SeqCst) == 0);
     Ok(())
 }

@@ -8,6 +8,7 @@
 mod filled;
 #[cfg(test)]
 mod gated;
+#[cfg(test)]
 mod playing;
 #[cfg(test)]
 mod reading;

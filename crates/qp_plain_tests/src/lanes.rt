@@ -1,10 +1,13 @@
 //! Lanes that are nearly full, and the stop word.
 
+ghost use Rattle.qp_model.specs.Sound.{IsSound};
+
 use crate::acts::Kind;
 use crate::bench::system_of;
 use qp_calls::{Ops, RoomFault};
-use qp_model::Rec;
+use qp_model::{Rec, System};
 use qp_plain::PlainWorld;
+use std::alloc::Global;
 use std::test::Fail;
 
 /// Adds so many notes. None where there is no room.
@@ -31,18 +34,19 @@ const FILLS: [(u32, bool, Option<u32>); 3] = [
     (1, false, Some(999_993)),
 ];
 
-/// A lane has room for eight more records up to 999,992, and none from 999,993 on.
-#[test]
-fn a_lane_has_room_for_a_million_records(rt: HostRuntime) -> Result<(), Fail> {
-    let sys = system_of(rt.alloc(), Kind::One(1, 1))?;
-    let Ok(mut world) = PlainWorld::new(rt.alloc(), &sys, 1) else {
-        return Err(Fail::from("memory"));
+/// Whether a lane has room for eight more records up to 999,992, and none from 999,993 on.
+fn has_room_for_a_million(alloc: Global, sys: &System) -> bool
+    requires { IsSound sys.now }
+{
+    let Ok(mut world) = PlainWorld::new(alloc, sys, 1) else {
+        return false;
     };
     for (count, fit, full) in &FILLS {
-        let found = (fill(&mut world, *count).is_some(), full_at(&mut world));
-        assert_eq!(rt; found, (*fit, *full), "{count} notes more");
+        if fill(&mut world, *count).is_some() != *fit || full_at(&mut world) != *full {
+            return false;
+        }
     }
-    Ok(())
+    true
 }
 
 /// Notes that an object is at its budget, and hands in the code of it. None where there is no room.
@@ -53,21 +57,34 @@ fn spend<O: Ops>(ops: &mut O) -> Option<()> {
     Some(())
 }
 
-/// The first of two codes stays, and each lane finds it.
+/// Whether the first of two codes stays, and each lane finds it.
+fn keeps_the_first_code(world: &mut PlainWorld<'_>) -> bool {
+    if !world.rests() || world.stopped().is_some() || spend(world).is_none() {
+        return false;
+    }
+    world.stop(7);
+    let is_found = world.stopped() == Some(6);
+    if world.lanes() != 2 || world.go(1) != 0 {
+        return false;
+    }
+    world.stop(7);
+    is_found && world.stopped() == Some(6)
+}
+
+/// The same in a new world of two lanes.
+fn stops_once(alloc: Global, sys: &System) -> bool
+    requires { IsSound sys.now }
+{
+    match PlainWorld::new(alloc, sys, 2) {
+        Ok(mut world) => keeps_the_first_code(&mut world),
+        Err(_) => false,
+    }
+}
+
 #[test]
-fn the_stop_word_keeps_its_first_code(rt: HostRuntime) -> Result<(), Fail> {
+fn lanes_fill_and_stop(rt: HostRuntime) -> Result<(), Fail> {
     let sys = system_of(rt.alloc(), Kind::One(1, 1))?;
-    let Ok(mut world) = PlainWorld::new(rt.alloc(), &sys, 2) else {
-        return Err(Fail::from("memory"));
-    };
-    assert!(rt; world.rests());
-    let before = world.stopped();
-    assert!(rt; spend(&mut world).is_some());
-    world.stop(7);
-    let after = world.stopped();
-    assert_eq!(rt; world.lanes(), 2);
-    assert_eq!(rt; world.go(1), 0);
-    world.stop(7);
-    assert_eq!(rt; [before, after, world.stopped()], [None, Some(6), Some(6)]);
+    assert!(rt; has_room_for_a_million(rt.alloc(), &sys));
+    assert!(rt; stops_once(rt.alloc(), &sys));
     Ok(())
 }

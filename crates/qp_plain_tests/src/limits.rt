@@ -1,7 +1,7 @@
 //! Limits of queues, pools and lists, from both sides.
 
 use crate::acts::{Kind, N, Run, X, X_POST};
-use crate::bench::{see, see_all};
+use crate::bench::see;
 use crate::deeds::Deed;
 use crate::desk::Act;
 use std::alloc::{AllocError, Global};
@@ -29,7 +29,7 @@ const SUBSCRIBED: Act<'static> = Act::Owner(1, &[Deed::Subscribe(N)], "sub 1 5 0
 /// Leaves a queue of two with one free entry.
 const FILLED: Act<'static> = Act::Source(&[X_POST], "post 0 1 1 0 0 0 6 0");
 
-const RUNS: [Run<'static>; 17] = [
+pub(crate) const LIMITS: [Run<'static>; 17] = [
     // A ring of two has three entries. A post is granted exactly where more entries are free than its margin.
     Run {
         name: "four posts at margin 0",
@@ -285,11 +285,6 @@ const RUNS: [Run<'static>; 17] = [
     },
 ];
 
-#[test]
-fn groups_of_calls_end_at_their_limits(rt: HostRuntime) -> Result<(), Fail> {
-    see_all(&rt, rt.alloc(), &RUNS)
-}
-
 /// 256 deferrals of a static event in a list with so much room.
 fn deferred(alloc: Global, room: u8) -> Result<String, AllocError> {
     let granted = "defer 1 0 4 0, ".repeat(alloc, usize::from(room))?;
@@ -303,8 +298,9 @@ fn flushed(alloc: Global, room: u8) -> Result<String, AllocError> {
     format!(in alloc; "{dropped}say 1 {room}, norecall 1, say 1 0")
 }
 
-/// A static event is deferred until a list with so much room is full; then all entries are flushed, and none is recalled.
-fn defers(rt: &impl Wait, alloc: Global, room: u8) -> Result<(), Fail> {
+/// A static event is deferred until a list with so much room is full; then all entries are flushed, and none is recalled. A list without
+/// room defers none.
+pub(crate) fn defers(rt: &impl Wait, alloc: Global, room: u8) -> Result<(), Fail> {
     let (deferred, flushed) = (deferred(alloc, room)?, flushed(alloc, room)?);
     let run = Run {
         name: "a list of deferred entries",
@@ -320,13 +316,4 @@ fn defers(rt: &impl Wait, alloc: Global, room: u8) -> Result<(), Fail> {
         ],
     };
     see(rt, alloc, &run)
-}
-
-/// A list without room defers none.
-#[test]
-fn a_list_defers_as_many_as_it_has_room_for(rt: HostRuntime) -> Result<(), Fail> {
-    for room in [0, 1, 255] {
-        defers(&rt, rt.alloc(), room)?;
-    }
-    Ok(())
 }

@@ -4,6 +4,7 @@ use crate::acts::{GO_POST, Kind, N, Run, X, X_POST};
 use crate::bench::see_all;
 use crate::deeds::Deed;
 use crate::desk::Act;
+use crate::limits::{LIMITS, defers};
 use std::test::Fail;
 
 const N_POST: Deed = Deed::Post(1, N, &[1], None, None);
@@ -379,7 +380,13 @@ const RUNS: [Run<'static>; 16] = [
     },
 ];
 
+/// Worked examples, runs up to limits, and lists of deferred entries.
 #[test]
 fn groups_of_calls_leave_their_records(rt: HostRuntime) -> Result<(), Fail> {
-    see_all(&rt, rt.alloc(), &RUNS)
+    see_all(&rt, rt.alloc(), &RUNS)?;
+    see_all(&rt, rt.alloc(), &LIMITS)?;
+    for room in &[0, 1, 255] {
+        defers(&rt, rt.alloc(), *room)?;
+    }
+    Ok(())
 }

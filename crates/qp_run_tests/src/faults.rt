@@ -1,9 +1,7 @@
 //! Calls of which something fails: each put of their output in turn, each load, and the put of the note; line by line and in pieces.
 
-use crate::samples::{LAMP, TABLE, shelf_of, sink};
-use qp_base::{MemShelf, MemSink, NoGate};
-use qp_process::{Flow, in_pieces};
-use qp_run::qp_main;
+use crate::samples::{Ended, LAMP, TABLE, ask, shelf};
+use qp_process::Flow;
 use std::alloc::{AllocError, Global};
 use std::process::Abort;
 use std::str::from_utf8;
@@ -14,47 +12,12 @@ use std::thread::Threads;
 /// A call: its words, the byte that ends each of its puts where they go line by line, and how many files it loads.
 type Call = (&'static [&'static str], u8, u64);
 
-/// What a call came to: the number of its answer, its output and its note.
-#[derive(Drop)]
-struct Ended {
-    answer: u8,
-    out: MemSink,
-    note: MemSink,
-}
-
 /// The files of a call, and how its output goes on.
 #[derive(Clone, Copy)]
 struct World<'t> {
     files: &'t [(&'t str, &'t str)],
     frames: &'t [u8],
     flow: Flow,
-}
-
-/// Calls with these words over these files, to these sinks, of which some puts fail.
-fn call<R: Threads + Wait + Sync>(
-    waits: &R,
-    alloc: Global,
-    words: &[&str],
-    mut files: MemShelf,
-    flow: Flow,
-    mut out: MemSink,
-    mut note: MemSink,
-) -> Ended {
-    if flow == Flow::Pieces {
-        let carried = in_pieces(
-            waits, alloc, words, &mut files, out, &mut note, &NoGate, &mut None,
-        );
-        return Ended {
-            answer: carried.status.number(),
-            out: carried.out,
-            note,
-        };
-    }
-    let status = qp_main(
-        waits, alloc, words, &mut files, &mut out, &mut note, &NoGate, &mut None,
-    );
-    let answer = status.number();
-    Ended { answer, out, note }
 }
 
 /// What is to fail: loads by their numbers, and puts of the output and of the note, each with how many bytes it keeps.
@@ -80,10 +43,17 @@ impl World<'_> {
         words: &[&str],
         failing: Failing<'_>,
     ) -> Result<Ended, AllocError> {
-        let files = shelf_of(alloc, self.files, self.frames, failing.loads)?;
-        let out = sink(alloc, 1 << 16, failing.puts)?;
-        let note = sink(alloc, 1000, failing.notes)?;
-        Ok(call(waits, alloc, words, files, self.flow, out, note))
+        let mut files = shelf(alloc, self.files, self.frames, failing.loads)?;
+        ask(
+            waits,
+            alloc,
+            words,
+            &mut files,
+            self.flow,
+            1 << 16,
+            failing.puts,
+            failing.notes,
+        )
     }
 
     /// Whether a call has this answer, output and note.
@@ -95,13 +65,9 @@ impl World<'_> {
         failing: Failing<'_>,
         want: (u8, &[u8], &str),
     ) -> Result<bool, AllocError> {
-        let ended = self.ask(waits, alloc, words, failing)?;
         let (answer, out, note) = want;
-        Ok(
-            ended.answer == answer
-                && ended.out.bytes() == out
-                && ended.note.bytes() == note.as_bytes(),
-        )
+        let ended = self.ask(waits, alloc, words, failing)?;
+        Ok(ended.is(answer, out, note))
     }
 
     /// Whether the put of this number, which begins at this place of the whole output, leaves what it has kept: no byte, or one.
@@ -226,13 +192,15 @@ impl World<'_> {
     }
 }
 
-/// Each command and kernel: a lamp that is switched on, and five philosophers, whose journal is given as text and as frames.
-const CALLS: [Call; 10] = [
+/// Each command and kernel: a lamp that is switched on, with a pool or without, and five philosophers, whose journal is given as text and as
+/// frames.
+const CALLS: [Call; 11] = [
     (&["run", "lamp", "go"], b'\n', 2),
     (&["run", "--kernel", "qv", "lamp", "go"], b'\n', 2),
     (&["gen", "1"], b'\n', 0),
     (&["run", "--out", "frames", "table", "two"], 0x7E, 2),
     (&["run", "--out", "summary", "table", "two"], b'\n', 2),
+    (&["run", "--out", "summary", "pooled", "go"], b'\n', 2),
     (&["decode", "frames"], b'\n', 1),
     (&["migrate", "journal"], b'\n', 1),
     (&["migrate", "--from", "frames", "frames"], 0x7E, 1),
@@ -240,8 +208,19 @@ const CALLS: [Call; 10] = [
     (&["replay", "table", "two", "journal"], b'\n', 3),
 ];
 
-const FILES: [(&str, &str); 4] = [
+/// The lamp with a pool.
+const POOLED: &str = "qp = 1
+pool = [{ size = 1, blocks = 2 }]
+signal = [{ name = 'GO', static = true }]
+chart = [{ name = 'lamp', init = 'off', state = [
+  { name = 'off', row = [{ on = 'GO', to = 'on' }] }, { name = 'on' },
+] }]
+object = [{ name = 'lamp', chart = 'lamp', priority = 1, queue = 1 }]
+";
+
+const FILES: [(&str, &str); 5] = [
     ("lamp", LAMP),
+    ("pooled", POOLED),
     ("go", "source 1\npost lamp GO\n"),
     ("table", TABLE),
     ("two", "source 1\ntick 0\nsettle\ntick 0\n"),
@@ -271,9 +250,9 @@ fn each_put_and_each_load_fails_in_turn(rt: HostRuntime) -> Result<(), Fail> {
     let journal = world.ask(&rt, alloc, &["run", "table", "two"], NOTHING)?;
     let frames = ["run", "--out", "frames", "table", "two"];
     let frames = world.ask(&rt, alloc, &frames, NOTHING)?;
-    let [lamp, go, table, two] = FILES;
+    let [lamp, pooled, go, table, two] = FILES;
     let journal = ("journal", from_utf8(journal.out.bytes()).unwrap_or(""));
-    let files = [lamp, go, table, two, journal];
+    let files = [lamp, pooled, go, table, two, journal];
     for flow in [Flow::Lines, Flow::Pieces] {
         let world = World {
             files: &files,

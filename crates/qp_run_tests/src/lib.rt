@@ -1,5 +1,5 @@
 //! Tests of the top call that are too long for the tables of qp_verdicts, whose program two compilers build: journals of a million records;
-//! and of its output in pieces and of summaries, to sinks that fail.
+//! and of its output, line by line and in pieces, to sinks that fail.
 //!
 //! They stand beside qp_run and qp_process, over their public calls, so that neither is proved a second time for them.
 #![tactic(auto)]
@@ -12,5 +12,3 @@ mod pieces;
 mod samples;
 #[cfg(test)]
 mod spills;
-#[cfg(test)]
-mod summaries;

@@ -1,8 +1,8 @@
 //! Calls whose output goes on in pieces, to sinks that take all of it and to sinks that fail.
 
-use crate::samples::{LAMP, shelf, sink};
-use qp_base::{MemShelf, NoGate};
-use qp_process::in_pieces;
+use crate::samples::{LAMP, ask, shelf};
+use qp_base::MemShelf;
+use qp_process::Flow;
 use std::alloc::{AllocError, Global};
 use std::process::Abort;
 use std::sync::Wait;
@@ -36,19 +36,19 @@ fn is_so<R: Threads + Wait + Sync>(
     files: &mut MemShelf,
     case: &Case,
 ) -> Result<bool, AllocError> {
-    let (room, failing, failing_notes, answer, len, note) = *case;
-    let out = sink(alloc, room, failing)?;
-    let mut notes = sink(alloc, 1000, failing_notes)?;
-    let carried = in_pieces(
-        waits, alloc, call.words, files, out, &mut notes, &NoGate, &mut None,
-    );
-    let is_told = carried.status.number() == answer && notes.bytes() == note.as_bytes();
-    Ok(is_told && is_front(carried.out.bytes(), call.whole, len))
-}
-
-/// Whether the output is the first so many bytes of this.
-fn is_front(out: &[u8], whole: &str, len: usize) -> bool {
-    out.len() == len && whole.as_bytes().starts_with(out)
+    let (room, puts, notes, answer, len, note) = *case;
+    let ended = ask(
+        waits,
+        alloc,
+        call.words,
+        files,
+        Flow::Pieces,
+        room,
+        puts,
+        notes,
+    )?;
+    let front = call.whole.as_bytes().get(..len).unwrap_or(&[]);
+    Ok(front.len() == len && ended.is(answer, front, note))
 }
 
 /// Asserts that the call comes to what each case says.
@@ -58,7 +58,7 @@ fn expect<R: Abort + Threads + Wait + Sync>(
     call: &Call<'_>,
     cases: &[Case],
 ) -> Result<(), AllocError> {
-    let mut files = shelf(alloc, call.files)?;
+    let mut files = shelf(alloc, call.files, &[], &[])?;
     for (i, case) in cases.iter().enumerate() {
         assert!(rt; is_so(rt, alloc, call, &mut files, case)?, "case {i}");
     }
@@ -89,8 +89,9 @@ fn expect_again<R: Abort + Threads + Wait + Sync>(
 
 const FAULT: &str = "qp: write fault\n";
 
-/// 160,027 bytes go on as 65,533, 65,536 and 28,958: a full device, a pipe that closes, a fault at each piece, and no fourth piece.
-const LONG: [Case; 7] = [
+/// 160,027 bytes go on as 65,533, 65,536 and 28,958.
+const LONG: [Case; 11] = [
+    // A full device, a pipe that closes, a fault at each piece, and no fourth piece.
     (200000, &[(0, 0)], &[], 7, 0, FAULT),
     (200000, &[(0, 100)], &[], 7, 100, FAULT),
     (200000, &[(1, 5)], &[], 7, 65538, FAULT),
@@ -98,39 +99,19 @@ const LONG: [Case; 7] = [
     (200000, &[(2, 7)], &[], 7, 131076, FAULT),
     (200000, &[(2, 28958)], &[], 7, 160027, FAULT),
     (200000, &[(3, 0)], &[], 0, 160027, ""),
-];
-
-#[test]
-fn a_long_output_goes_on_in_three_pieces(rt: HostRuntime) -> Result<(), Fail> {
-    expect_again(&rt, rt.alloc(), 20000, &LONG)?;
-    Ok(())
-}
-
-/// Rooms for a part of the output, and just enough.
-const FULL: [Case; 4] = [
+    // Rooms for a part of the output, and just enough.
     (0, &[], &[], 7, 0, FAULT),
     (70000, &[], &[], 7, 70000, FAULT),
     (160026, &[], &[], 7, 160026, FAULT),
     (160027, &[], &[], 0, 160027, ""),
 ];
 
-#[test]
-fn a_device_that_fills_up_keeps_the_first_part(rt: HostRuntime) -> Result<(), Fail> {
-    expect_again(&rt, rt.alloc(), 20000, &FULL)?;
-    Ok(())
-}
-
+/// An output of 51 bytes goes on at the end.
 const SHORT: [Case; 3] = [
     (1000, &[(1, 0)], &[], 0, 51, ""),
     (1000, &[(0, 50)], &[], 7, 50, FAULT),
     (1000, &[(0, 0)], &[], 7, 0, FAULT),
 ];
-
-#[test]
-fn a_short_output_goes_on_at_the_end(rt: HostRuntime) -> Result<(), Fail> {
-    expect_again(&rt, rt.alloc(), 3, &SHORT)?;
-    Ok(())
-}
 
 /// A run of the lamp that spends its budget, which is one event, and has two.
 const SPENDING: Call<'static> = Call {
@@ -170,28 +151,21 @@ const SPENT: [Case; 3] = [
     (1000, &[], &[(0, 3)], 7, 233, "qp:"),
 ];
 
-#[test]
-fn the_output_goes_first_and_the_note_then(rt: HostRuntime) -> Result<(), Fail> {
-    expect(&rt, rt.alloc(), &SPENDING, &SPENT)?;
-    Ok(())
-}
-
+/// A refusal puts nothing but its line.
 const REFUSED: Call<'static> = Call {
     words: &["decode", "x.qs"],
     files: &[],
     whole: "",
 };
 
+const REFUSALS: [Case; 1] = [(0, &[(0, 0)], &[], 2, 0, "qp: x.qs: absent\n")];
+
 #[test]
-fn a_refusal_puts_nothing_but_its_line(rt: HostRuntime) -> Result<(), Fail> {
-    let cases = [(
-        0,
-        [(0, 0)].as_slice(),
-        [].as_slice(),
-        2,
-        0,
-        "qp: x.qs: absent\n",
-    )];
-    expect(&rt, rt.alloc(), &REFUSED, &cases)?;
+fn outputs_go_on_in_pieces(rt: HostRuntime) -> Result<(), Fail> {
+    let alloc = rt.alloc();
+    expect_again(&rt, alloc, 20000, &LONG)?;
+    expect_again(&rt, alloc, 3, &SHORT)?;
+    expect(&rt, alloc, &SPENDING, &SPENT)?;
+    expect(&rt, alloc, &REFUSED, &REFUSALS)?;
     Ok(())
 }

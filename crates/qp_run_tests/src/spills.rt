@@ -4,12 +4,11 @@
 //! before it, and each other step 5, since a lamp that is on doesn't handle the event. So 999,990 records stand before the last look, and
 //! the last step takes 3 up to its take.
 
-use crate::samples::{LAMP, shelf, sink};
-use qp_base::{MemShelf, NoGate};
-use qp_run::qp_main;
+use crate::samples::{LAMP, ask, shelf};
+use qp_base::MemShelf;
+use qp_process::Flow;
 use std::alloc::{AllocError, Global};
 use std::sync::Wait;
-use std::test::Fail;
 use std::thread::Threads;
 
 /// So many events are posted.
@@ -75,40 +74,47 @@ fn files(alloc: Global, last: &str) -> Result<MemShelf, AllocError> {
         ("stimuli", stimuli.as_str()),
         ("journal", journal.as_str()),
     ];
-    shelf(alloc, &files)
+    shelf(alloc, &files, &[], &[])
 }
 
-/// Whether `check` prints and notes this of these files.
+/// What stands behind the last take, the number of the answer, what is printed, and the note.
+const ENDS: [(&str, u8, &str, &str); 3] = [
+    ("spill 0 999993\n", 0, "lawful\n", ""),
+    ("none 1\ndone 1\nspill 0 999995\n", 0, "lawful\n", ""),
+    ("spill 0 999995\n", 8, "", "qp: broken D21 whole\n"),
+];
+
+/// Whether `check` comes to this where the journal ends so.
 fn is_told<R: Threads + Wait + Sync>(
     waits: &R,
     alloc: Global,
-    files: &mut MemShelf,
+    last: &str,
+    answer: u8,
     said: &str,
     note: &str,
 ) -> Result<bool, AllocError> {
     let words = ["check", "system", "stimuli", "journal"];
-    let mut out = sink(alloc, 1000, &[])?;
-    let mut notes = sink(alloc, 1000, &[])?;
-    qp_main(
-        waits, alloc, &words, files, &mut out, &mut notes, &NoGate, &mut None,
-    );
-    Ok(out.bytes() == said.as_bytes() && notes.bytes() == note.as_bytes())
+    let mut files = files(alloc, last)?;
+    let ended = ask(
+        waits,
+        alloc,
+        &words,
+        &mut files,
+        Flow::Lines,
+        1000,
+        &[],
+        &[],
+    )?;
+    Ok(ended.is(answer, said.as_bytes(), note))
 }
-
-/// What stands behind the last take, what is printed, and the note.
-const ENDS: [(&str, &str, &str); 3] = [
-    ("spill 0 999993\n", "lawful\n", ""),
-    ("none 1\ndone 1\nspill 0 999995\n", "lawful\n", ""),
-    ("spill 0 999995\n", "", "qp: broken D21 whole\n"),
-];
 
 /// A `spill` cuts a step behind its take, or stands behind a whole step; it states the records before it.
 #[test]
-fn a_spill_cuts_a_step_or_stands_behind_it(rt: HostRuntime) -> Result<(), Fail> {
-    let alloc = rt.alloc();
-    for (last, said, note) in &ENDS {
-        let mut files = files(alloc, last)?;
-        assert!(rt; is_told(&rt, alloc, &mut files, said, note)?, "{last}");
+fn a_spill_cuts_a_step_or_stands_behind_it(rt: HostRuntime) {
+    for (last, answer, said, note) in &ENDS {
+        assert!(rt;
+            is_told(&rt, rt.alloc(), last, *answer, said, note) == Ok(true),
+            "{last}"
+        );
     }
-    Ok(())
 }
