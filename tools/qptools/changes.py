@@ -25,10 +25,10 @@ def change(files: dict[str, str], words: list[str], part: str) -> None:
     if old in words:
         words[words.index(old) + 1:words.index(old) + 1] = [word for text in new for word in text.split()]
         return
-    name = next((name for name, text in files.items() if text.count(old) == 1), None)
-    if name is None:
+    found, kind = [name for name, text in files.items() if text.count(old) == 1], re.search(r"\b(no|for|behind) `[^`]*`", part)
+    if not found or not kind:
         raise LookupError(f"no file has `{old}` once")
-    text = {"no": "", "for": "\n".join(new), "behind": "\n".join([old, *new])}[re.search(r"\b(no|for|behind) `[^`]*`", part)[1]]
+    name, text = found[0], {"no": "", "for": "\n".join(new), "behind": "\n".join([old, *new])}[kind[1]]
     files[name] = files[name].replace(old if text else f"{old}\n", text)
 
 

@@ -35,7 +35,7 @@ def answer(*words: str) -> tuple[int, str, str]:
 class Files(unittest.TestCase):
     """Files of cases."""
 
-    def setUp(self):
+    def setUp(self) -> None:
         folder = tempfile.TemporaryDirectory()
         self.addCleanup(folder.cleanup)
         self.folder = Path(folder.name)
@@ -46,16 +46,16 @@ class Files(unittest.TestCase):
         (self.folder / "cases.toml").write_text(text)
         return self.folder / "cases.toml"
 
-    def test_defaults(self):
+    def test_defaults(self) -> None:
         case = read_cases(self.write(CASE))[0]
         self.assertEqual((case.kernels, case.budget, case.end, case.refused, case.blocks_back), (("sim", "qv"), 100_000, 0, None, None))
         self.assertEqual(case.stimuli, self.folder / "go.txt")
 
-    def test_stimuli_as_a_text(self):
+    def test_stimuli_as_a_text(self) -> None:
         text = CASE.replace('"go.txt"', '"""\nsource 1\npost lamp GO\n"""')
         self.assertEqual(read_cases(self.write(text))[0].stimuli, "source 1\npost lamp GO\n")
 
-    def test_faults(self):
+    def test_faults(self) -> None:
         table = (
             ("case = 1\n", "has [[case]] tables"), ("[[case]]\n", "case 1: name is missing"), (CASE + "colour = 1\n", "'colour' is no key"),
             (CASE + 'kernel = "rtos"\n', "a kernel is sim, qv, qk or port"), (CASE + "object.lamp = { colour = 1 }\n", "object lamp: 'colour' is no key"),
@@ -67,7 +67,7 @@ class Files(unittest.TestCase):
             self.assertIn(words, str(raised.exception))
 
     @unittest.skipUnless(is_built(), "the program isn't built")
-    def test_what_differs(self):
+    def test_what_differs(self) -> None:
         table = (
             ("object.lamp = { state = \"on\", took = 1 }\n", []),
             ("object.lamp = { state = \"off\" }\n", ["lamp is in on, expected off"]),
@@ -86,7 +86,7 @@ class Files(unittest.TestCase):
                 self.assertEqual([line[:4] for line in printed.splitlines()[-4:-1]], ["pass"] * 3, "the others are judged alone")
 
     @unittest.skipUnless(is_built(), "the program isn't built")
-    def test_a_system_that_is_refused_is_explained(self):
+    def test_a_system_that_is_refused_is_explained(self) -> None:
         (self.folder / "lamp.toml").write_text((EXAMPLES / "lamp.toml").read_text().replace('"GO"\nto', '"go"\nto'))
         self.write(CASE + 'kernel = "sim"\n')
         status, printed, _ = answer(str(self.folder))
@@ -94,14 +94,14 @@ class Files(unittest.TestCase):
         self.assertIn("row 1 (on go), signal: go isn't declared", printed)
 
     @unittest.skipUnless(is_built(), "the program isn't built")
-    def test_a_run_that_stops_is_told(self):
+    def test_a_run_that_stops_is_told(self) -> None:
         text = (EXAMPLES / "lamp.toml").read_text().replace('to = "on"', 'do = ["post me GO", "post me GO", "post me GO"]')
         (self.folder / "lamp.toml").write_text(text)
         self.write(CASE + 'kernel = "sim"\n')
         self.assertIn("end is 3, expected 0: lamp asserts: the queue of lamp is full", answer(str(self.folder))[1])
 
     @unittest.skipUnless(is_built(), "the program isn't built")
-    def test_counts_of_a_folder(self):
+    def test_counts_of_a_folder(self) -> None:
         self.write(CASE + CASE.replace('"a"', '"b"'))
         status, printed, _ = answer("--cover", "--low", str(self.folder))
         self.assertEqual(status, 0)
@@ -110,7 +110,7 @@ class Files(unittest.TestCase):
             "            size  least free  most used", "queue lamp     2           1          1",
         ])
 
-    def test_words(self):
+    def test_words(self) -> None:
         self.assertEqual(answer("--help")[0], 0)
         for words in ((), (str(self.folder),), ("cover",), ("low", "x"), ("--cover",), (str(self.folder / "lamp.toml"),)):
             with self.subTest(words):
@@ -120,7 +120,7 @@ class Files(unittest.TestCase):
 class Orders(unittest.TestCase):
     """Orders of stimuli."""
 
-    def test_all_orders_each_once(self):
+    def test_all_orders_each_once(self) -> None:
         for lengths in ([1], [2, 1], [2, 2], [3, 2, 1], [0, 2]):
             with self.subTest(lengths):
                 found = list(orders(lengths))
@@ -131,10 +131,10 @@ class Orders(unittest.TestCase):
                 changes = [sum(a != b for a, b in zip(order, order[1:])) for order in found]
                 self.assertEqual(changes, sorted(changes))
 
-    def test_merged(self):
+    def test_merged(self) -> None:
         self.assertEqual(merged([["tick 0", "settle"], ["tick 1"]], (1, 2, 1)), "source 1\ntick 0\ntick 1\nsettle\n")
 
-    def test_text(self):
+    def test_text(self) -> None:
         groups = [Group("end 0\nobject a 1 s\n", 2, (1, 2)), Group("end 0\nobject a 2 s\n", 1, (2, 1))]
         self.assertEqual(orders_text(groups, [["tick 0"], ["settle"]], 3).splitlines(), [
             "3 of 3 orders were run, with 2 outcomes", "outcome 1, of 2 orders:", "  object a 1 s", "  by the order 1 2:",
@@ -143,7 +143,7 @@ class Orders(unittest.TestCase):
         ])
 
     @unittest.skipUnless(is_built(), "the program isn't built")
-    def test_outcomes(self):
+    def test_outcomes(self) -> None:
         status, printed, _ = answer("orders", str(EXAMPLES / "clock" / "clock.toml"), str(EXAMPLES / "clock" / "two.txt"))
         self.assertEqual(status, 0)
         self.assertTrue(printed.startswith("3 of 3 orders were run, with 2 outcomes\n"))
@@ -152,7 +152,7 @@ class Orders(unittest.TestCase):
 
 
     @unittest.skipUnless(is_built(), "the program isn't built")
-    def test_an_order_ends_where_its_run_does(self):
+    def test_an_order_ends_where_its_run_does(self) -> None:
         """A run that is stopped is told with the stimuli that happened alone."""
         with tempfile.TemporaryDirectory() as folder:
             lamp = (EXAMPLES / "lamp.toml").read_text().replace('to = "on"', 'do = ["post me GO", "post me GO", "post me GO"]')
@@ -166,7 +166,7 @@ class Orders(unittest.TestCase):
 class Threads(unittest.TestCase):
     """Runs with threads, of which two may differ."""
 
-    def test_text(self):
+    def test_text(self) -> None:
         found = [("end 0\nobject a 1 s\n", 2), ("end 0\nobject a 2 s\n", 1)]
         self.assertEqual(runs_text(found, "qk").splitlines(), [
             "3 runs under qk, with 2 outcomes", "outcome 1, of 2 runs:", "  object a 1 s", "outcome 2, of 1 run:", "  object a 2 s",
@@ -175,7 +175,7 @@ class Threads(unittest.TestCase):
             "2 runs under port, with 1 outcome", "outcome 1, of 2 runs:", "  end 0", "  object a 1 s",
         ])
 
-    def test_orders_and_cycles(self):
+    def test_orders_and_cycles(self) -> None:
         """An order has all records; only where threads made them may there be a cycle."""
         table = (
             (b"order 1\n0 begin 1\n", 1, "sim", True), (b"order 1\n0 begin 1\n", 2, "sim", False), (b"order 2\n0 begin 1\n", 2, "sim", False),
@@ -188,7 +188,7 @@ class Threads(unittest.TestCase):
         self.assertEqual(replay_fault(Answer(b"", "qp: memory\n", 5), 1, "qk"), "qp: memory")
 
     @unittest.skipUnless(is_built(), "the program isn't built")
-    def test_outcomes(self):
+    def test_outcomes(self) -> None:
         """Two sources that don't wait for each other may come to either end; one source and one object come to one."""
         clock = [str(EXAMPLES / "clock" / name) for name in ("clock.toml", "two.txt")]
         for kernel in THREADED:
@@ -210,7 +210,7 @@ class Counts(unittest.TestCase):
         lines = read_stimuli((JUDGED / "stimuli" / stimuli).read_bytes(), parts)
         return Story(parts, lines, read_journal((JUDGED / "journals" / journal).read_bytes()))
 
-    def test_coverage(self):
+    def test_coverage(self) -> None:
         lamp = self.story("lamp.toml", "go.txt", "switched.txt")
         coverage = Coverage(lamp.system)
         self.assertEqual(coverage.text(), "chart lamp: 0 of 1 rows taken\n  never: state off, row 1 (on GO to on)\n")
@@ -219,7 +219,7 @@ class Counts(unittest.TestCase):
             self.assertEqual([row.times for row in coverage.rows(lamp.system.charts["lamp"])], [times])
         self.assertEqual(coverage.text(), "chart lamp: 1 of 1 rows taken\n")
 
-    def test_low_water(self):
+    def test_low_water(self) -> None:
         full = self.story("crowded.toml", "go.txt", "crowded-out.txt")
         low = LowWater(full.system)
         size = full.system.objects[0].queue + 1
@@ -227,7 +227,7 @@ class Counts(unittest.TestCase):
         low.add(full)
         self.assertEqual(low.lines()[0], ("queue lamp", size, 0))
 
-    def test_a_summary(self):
+    def test_a_summary(self) -> None:
         found = read_summary("end 3\nobject a 2 s x=-1 y=2\nobject b 1 -\npool 1 given 3 back 0\n")
         self.assertEqual((found.end, found.objects["a"].vars, found.objects["b"].state, found.pools), (3, {"x": -1, "y": 2}, None, [(3, 0)]))
 
@@ -236,11 +236,11 @@ class Counts(unittest.TestCase):
 class Examples(unittest.TestCase):
     """The examples are cases."""
 
-    def test_a_page_shows_one(self):
+    def test_a_page_shows_one(self) -> None:
         page = (TOP / "docs" / "TESTING.md").read_text()
         shown = page.split("```\n[[case]]")[1].split("```")[0]
         self.assertIn(shown.strip(), (EXAMPLES / "clock" / "cases.toml").read_text())
 
-    def test_the_program(self):
+    def test_the_program(self) -> None:
         ran = subprocess.run([TOP / "tools" / "qptest", EXAMPLES / "clock"], capture_output=True, text=True)
         self.assertEqual((ran.returncode, ran.stdout.splitlines()[-1]), (0, "12 passed, 0 failed"))

@@ -8,6 +8,7 @@ import subprocess
 import tempfile
 import unittest
 import unittest.mock
+from collections.abc import Iterator
 from pathlib import Path
 
 from qptools.changes import change_all
@@ -40,7 +41,7 @@ def slips() -> list[dict[str, list[str]]]:
 
 
 @contextlib.contextmanager
-def folder_with(files: dict[str, str]):
+def folder_with(files: dict[str, str]) -> Iterator[Path]:
     """A folder with these files, in which the test stands meanwhile."""
     before = Path.cwd()
     with tempfile.TemporaryDirectory() as folder:
@@ -61,7 +62,7 @@ def clock_files() -> dict[str, str]:
 class Slips(unittest.TestCase):
     """What is said of each slip."""
 
-    def test_each_has_its_explanation(self):
+    def test_each_has_its_explanation(self) -> None:
         self.assertGreaterEqual(len(slips()), 40)
         for slip in slips():
             with self.subTest(slip["slip"][0]):
@@ -73,7 +74,7 @@ class Slips(unittest.TestCase):
                 with folder_with(files):
                     self.assertEqual(explanation(words, f"{says}\n"), slip["means"])
 
-    def test_what_is_taken_without_a_word(self):
+    def test_what_is_taken_without_a_word(self) -> None:
         files = clock_files()
         change_all(files, [], "no `defer = 1`")
         told = hints(read_system(files["clock.toml"].encode()))
@@ -81,7 +82,7 @@ class Slips(unittest.TestCase):
         self.assertIn("state ringing, row 1 (on SET_ALARM), action 1 has `defer`, and object clock has no `defer = N`", told[0])
         self.assertEqual(hints(read_system((CLOCK / "clock.toml").read_bytes())), [])
 
-    def test_each_has_a_row_in_trouble(self):
+    def test_each_has_a_row_in_trouble(self) -> None:
         page = (TOP / "docs" / "TROUBLE.md").read_text().replace("\\|", "|")
         for slip in slips():
             with self.subTest(slip["slip"][0]):
@@ -90,7 +91,7 @@ class Slips(unittest.TestCase):
                 self.assertIn(f"| {slip['change'][0]} | {says} |", page)
 
     @unittest.skipUnless(is_built(), "the program isn't built")
-    def test_each_is_what_the_program_says(self):
+    def test_each_is_what_the_program_says(self) -> None:
         for slip in slips():
             with self.subTest(slip["slip"][0]):
                 files, words = clock_files(), slip["words"][0].split()
@@ -111,7 +112,7 @@ class Slips(unittest.TestCase):
 class Lines(unittest.TestCase):
     """The program's lines, read."""
 
-    def test_kinds(self):
+    def test_kinds(self) -> None:
         table = {
             "qp: a b.toml: 7 chart.1.init": Refusal("fault", "a b.toml", 7, "chart.1.init"),
             "qp: a.toml: 4 ": Refusal("fault", "a.toml", 4, ""),
@@ -128,7 +129,7 @@ class Lines(unittest.TestCase):
                 self.assertEqual(read_refusal(f"something before\n{line}\n"), refusal)
         self.assertIsNone(read_refusal("qp: not built\n"))
 
-    def test_words(self):
+    def test_words(self) -> None:
         table = {
             (): "no command: `qp help` has them",
             ("rnu", "a", "b"): "no command is called 'rnu'; did you mean `run`?",
@@ -149,12 +150,12 @@ class Lines(unittest.TestCase):
             with self.subTest(words):
                 self.assertEqual(explain_words(list(words)), said)
 
-    def test_an_absent_file(self):
+    def test_an_absent_file(self) -> None:
         with folder_with({"Lamp.toml": ""}) as folder:
             told = explanation(["run", "lamp.toml", "go.txt"], "qp: lamp.toml: absent\n")
             self.assertEqual(told, [f"there is no file lamp.toml in {folder.resolve()}; did you mean Lamp.toml?"])
 
-    def test_faults_of_systems(self):
+    def test_faults_of_systems(self) -> None:
         """Each code on a change of the lamp, with words that its explanation has."""
         table = (
             ('no `queue = 1`', "3 object.1.queue", "object lamp, queue: is missing, and has no default"),
@@ -176,11 +177,11 @@ class Lines(unittest.TestCase):
                 with folder_with(files):
                     self.assertIn(words, " ".join(explanation(["run", "lamp.toml", "go.txt"], f"qp: lamp.toml: {says}\n")))
 
-    def test_a_journal_as_text_isnt_frames(self):
+    def test_a_journal_as_text_isnt_frames(self) -> None:
         with folder_with({"run.txt": "qp 1 0 100000\nlane 0\nend 0\n"}):
             self.assertIn("this is a journal as text", " ".join(explanation(["decode", "run.txt"], "qp: run.txt: 4 0\n")))
 
-    def test_verdicts(self):
+    def test_verdicts(self) -> None:
         """A broken journal is told with the record and its line."""
         files = {name: path.read_text() for name, path in (
             ("lamp.toml", JUDGED / "systems" / "lamp.toml"), ("go.txt", JUDGED / "stimuli" / "go.txt"),
@@ -192,7 +193,7 @@ class Lines(unittest.TestCase):
         self.assertEqual(told[1], f"look first at line {line} of the journal, `look 0 2 1`: kernel begins look 2, with floor 1")
         self.assertEqual(told[-1], "to see it: view/qpview lamp.toml go.txt run.txt 'broken D19 lane 0' > run.html")
 
-    def test_stops(self):
+    def test_stops(self) -> None:
         """A run that was stopped is told by its journal, where that is at hand."""
         names = (("systems", "crowded.toml"), ("stimuli", "go.txt"), ("journals", "crowded-out.txt"))
         files = {name: (JUDGED / folder / name).read_text() for folder, name in names}
@@ -201,7 +202,7 @@ class Lines(unittest.TestCase):
         self.assertEqual(told[0], "line 12 of the journal, `assert 1 1 1 2 0 1`: lamp asserts: the queue of lamp is full")
         self.assertIn("in lamp's step of GO", told[1])
 
-    def test_stops_of_long_journals(self):
+    def test_stops_of_long_journals(self) -> None:
         """Where only the last record of each lane is looked at, the same record is told, and the same advice."""
         for line in (JUDGED / "lawful.txt").read_text().splitlines()[1:]:
             name, *files = line.split("\t")
@@ -210,7 +211,7 @@ class Lines(unittest.TestCase):
             with self.subTest(name):
                 self.assertEqual(explain_long_stop(read_system(system.read_bytes()), journal.read_bytes()), whole[:1] + whole[1:][-1:])
 
-    def test_what_is_too_long_to_explain(self):
+    def test_what_is_too_long_to_explain(self) -> None:
         """A large file isn't read, and what is read of hostile ones is told in a few lines."""
         many = "qp = 1\n" + "".join(f"k{k} = 1\n" for k in range(20_000))
         wide = f"qp = 1\n{'x' * 500_000} = 1\n"
@@ -223,13 +224,13 @@ class Lines(unittest.TestCase):
                              [f"long.toml has {len(many) * 8} bytes; what is longer than 1048576 isn't explained"])
             self.assertLess(sum(map(len, explanation(["run", "wide.toml", "go.txt"], "qp: wide.toml: 4 \n"))), 2000)
 
-    def test_a_pipe_isnt_read_again(self):
+    def test_a_pipe_isnt_read_again(self) -> None:
         with folder_with({}) as folder:
             os.mkfifo(folder / "pipe")
             self.assertEqual(explanation(["run", "pipe", "go.txt"], "qp: pipe: 1 -\n"),
                              ["pipe isn't a file on a disk, so it isn't read again"])
 
-    def test_stops_with_threads(self):
+    def test_stops_with_threads(self) -> None:
         """A run that has to be made once more is another one, which may end otherwise."""
         names = (("systems", "crowded.toml"), ("stimuli", "go.txt"), ("journals", "crowded-out.txt"))
         files = {name: (JUDGED / folder / name).read_text() for folder, name in names}
@@ -251,26 +252,26 @@ class Launcher(unittest.TestCase):
         ran = subprocess.run([TOP / "qp", *words], capture_output=True, text=True, cwd=TOP / "examples")
         return ran.returncode, ran.stdout, ran.stderr
 
-    def test_bad_words_are_named_below_the_line(self):
+    def test_bad_words_are_named_below_the_line(self) -> None:
         self.assertEqual(self.call("run", "lamp.toml"), (1, "", "qp: bad words\n    STIMULI is missing: qp run SYSTEM STIMULI\n"))
         self.assertEqual(self.call("run", "--kernel=qv", "--form", "1", "lamp.toml", "go.txt")[2].splitlines()[1:],
                          ["    a journal of qv has form 2 alone"])
 
-    def test_explain_is_a_word_of_the_launcher(self):
+    def test_explain_is_a_word_of_the_launcher(self) -> None:
         status, said, noted = self.call("explain", "run", "lost.toml", "go.txt")
         self.assertEqual((status, noted), (2, ""))
         self.assertTrue(said.startswith("qp: lost.toml: absent\n    there is no file lost.toml in "))
 
-    def test_nothing_stands_below_other_lines_in_a_pipe(self):
+    def test_nothing_stands_below_other_lines_in_a_pipe(self) -> None:
         self.assertEqual(self.call("run", "lost.toml", "go.txt"), (2, "", "qp: lost.toml: absent\n"))
 
-    def test_right_words_are_the_programs(self):
+    def test_right_words_are_the_programs(self) -> None:
         for words in (("run", "lamp.toml", "go.txt"), ("run", "--out", "summary", "lamp.toml", "go.txt"),
                       ("run", "--kernel=qv", "--budget", "7", "--", "lamp.toml", "go.txt"), ("run", "--kernel", "qk", "lamp.toml", "go.txt"),
                       ("run", "--kernel=port", "--form=2", "lamp.toml", "go.txt"), ("gen", "1")):
             self.assertEqual(self.call(*words)[0::2], (0, ""), words)
 
-    def test_a_terminal_has_the_explanation(self):
+    def test_a_terminal_has_the_explanation(self) -> None:
         answer = self.on_terminal(["./qp", "run", "examples/lost.toml", "examples/go.txt"])
         self.assertIn("qp: examples/lost.toml: absent\r\n    there is no file examples/lost.toml", answer)
 
@@ -289,7 +290,7 @@ class Launcher(unittest.TestCase):
 class Help(unittest.TestCase):
     """The launcher answers these at once, built or not."""
 
-    def test_help(self):
+    def test_help(self) -> None:
         def call(*words: str) -> tuple[int, str, str]:
             ran = subprocess.run([TOP / "qp", *words], capture_output=True, text=True)
             return ran.returncode, ran.stdout, ran.stderr

@@ -14,7 +14,7 @@ from qptools.program import TOP
 class Launcher(unittest.TestCase):
     """A folder with the launcher, the tools, and a program that does as its first word says."""
 
-    def setUp(self):
+    def setUp(self) -> None:
         folder = tempfile.TemporaryDirectory()
         self.addCleanup(folder.cleanup)
         self.top = Path(folder.name)
@@ -46,7 +46,7 @@ class Launcher(unittest.TestCase):
     def program_line(self) -> str:
         return self.call("--version")[1].splitlines()[2]
 
-    def test_version(self):
+    def test_version(self) -> None:
         self.assertEqual(self.program_line(), "program: not built, so calls run unproved")
         self.build()
         self.assertEqual(self.program_line(), "program: built, and nobody knows of which sources")
@@ -59,7 +59,7 @@ class Launcher(unittest.TestCase):
         self.build()
         self.assertEqual(self.program_line(), "program: built, and nobody knows of which sources")
 
-    def test_the_id_is_that_of_names_and_contents(self):
+    def test_the_id_is_that_of_names_and_contents(self) -> None:
         def id_now() -> str:
             return subprocess.run([self.top / "tools/sources"], capture_output=True, text=True, check=True).stdout
 
@@ -69,22 +69,25 @@ class Launcher(unittest.TestCase):
         (self.top / "crates/qp_cli/README.md").rename(self.top / "crates/qp_cli/NOTES.md")
         self.assertNotEqual(id_now(), before)
 
-    def test_lines_and_status_are_the_programs(self):
+    def test_lines_and_status_are_the_programs(self) -> None:
         for says, status in (("", 0), ("qp: spent in lane 0\n", 4), ("qp: memory\n", 5), ("no line", 6), ("qp: write fault\n", 7)):
             with self.subTest(says, status=status):
                 self.build(says, status)
                 self.assertEqual(self.call("run", "lamp.toml", "go.txt"), (status, "output\n", says))
                 self.assertEqual(self.call("walk"), (status, "output\n", says))
 
-    def test_an_unproved_run(self):
+    def test_an_unproved_run(self) -> None:
         """A run in the interpreter, which a script stands for here: its words are explained too."""
         (self.top / "rt").write_text("#!/bin/sh\necho 'qp: bad words' >&2\necho 'run=ended status=1 steps=1' >&2\nexit 1\n")
         (self.top / "rt").chmod(0o755)
         status, output, note = self.call("run", "a lamp.toml")
         self.assertEqual((status, output), (1, ""))
-        self.assertEqual(note.splitlines()[1:], ["qp: bad words", "    STIMULI is missing: qp run SYSTEM STIMULI"])
+        missing = "    STIMULI is missing: qp run SYSTEM STIMULI"
+        self.assertEqual(note.splitlines()[1:], [missing, "qp: bad words", missing], "before the minutes that it takes, and behind them")
+        for right in (("gen", "1"), ("run", "lamp.toml", "go.txt"), ("check", "a", "b", "c")):
+            self.assertEqual(self.call(*right)[2].splitlines()[1:2], ["qp: bad words"], right)
 
-    def test_bad_words(self):
+    def test_bad_words(self) -> None:
         self.build("qp: bad words\n", 1)
         self.assertEqual(self.call("walk"), (1, "output\n", "qp: bad words\n    no command is called 'walk'; `qp help` has them\n"))
         for right in (("--budget", "1"), ("--kernel", "qk"), ("--kernel=port", "--form", "1"), ("--kernel=qv", "--form=2")):

@@ -13,19 +13,19 @@ CRATES = "a:\nb: a clap\nc: a\nd: b c   # a comment\ntop: d\nbeside: a\n\n# noth
 class Libraries(unittest.TestCase):
     """Libraries of a small repository, and of this one."""
 
-    def setUp(self):
+    def setUp(self) -> None:
         self.below = read_crates(CRATES)
 
-    def test_crates(self):
+    def test_crates(self) -> None:
         self.assertEqual(self.below, {"a": [], "b": ["a"], "c": ["a"], "d": ["b", "c"], "top": ["d"], "beside": ["a"]})
 
-    def test_lowest_first_and_no_others(self):
+    def test_lowest_first_and_no_others(self) -> None:
         self.assertEqual(all_below("top", self.below), ["a", "b", "c", "d"])
         order = all_below("qp_cli", read_crates((TOP / "crates.txt").read_text()))
         self.assertEqual(len(order), len(set(order)))
         self.assertIn("qp_run", order)
 
-    def test_ways_to_the_top(self):
+    def test_ways_to_the_top(self) -> None:
         sizes = {"a": 1, "b": 5, "c": 2, "d": 1}
         self.assertEqual(lengths_above(["a", "b", "c", "d"], self.below, sizes.__getitem__), {"a": 7, "b": 6, "c": 3, "d": 1})
 
@@ -48,11 +48,11 @@ class Libraries(unittest.TestCase):
         failed = build_all("top", self.below, jobs, lambda name: 2 if name == "c" else 1, build, lambda line: None)
         return begun, failed, most[0]
 
-    def test_several_at_once(self):
+    def test_several_at_once(self) -> None:
         self.assertEqual(self.run_all(1), (["a", "c", "b", "d"], [], 1))
         begun, failed, most = self.run_all(4)
         self.assertEqual((begun[0], set(begun[1:3]), begun[3], failed, most), ("a", {"b", "c"}, "d", [], 2))
 
-    def test_what_stands_on_one_that_failed_isnt_begun(self):
+    def test_what_stands_on_one_that_failed_isnt_begun(self) -> None:
         begun, failed, _ = self.run_all(2, "b")
         self.assertEqual((set(begun), failed), ({"a", "b", "c"}, ["b"]))

@@ -67,11 +67,11 @@ class Tables(unittest.TestCase):
                     tried += 1
         return tried
 
-    def test_systems(self):
+    def test_systems(self) -> None:
         self.assertGreater(self.try_all("system-faults", "system"), 35)
 
-    def test_stimuli(self):
+    def test_stimuli(self) -> None:
         self.assertGreater(self.try_all("stimulus-faults", "stimuli"), 15)
 
-    def test_journals(self):
+    def test_journals(self) -> None:
         self.assertGreater(self.try_all("journal-faults", "journal"), 10)

@@ -43,7 +43,8 @@ def _foreign(record: Record, system: System, objects: dict[int, Object]) -> str 
     if word in _TIMERS and not 1 <= numbers[1] <= len(system.time_events):
         return f"time event {numbers[1]}"
     if word in ENTRY_AT:
-        return _foreign_entry(*numbers[ENTRY_AT[word]:ENTRY_AT[word] + 2], system)
+        at = ENTRY_AT[word]
+        return _foreign_entry(numbers[at], numbers[at + 1], system)
     if word in _BLOCK_AT:
         pool, block = _BLOCK_AT[word]
         return _foreign_block(numbers[pool], numbers[block], system)

@@ -79,7 +79,7 @@ def read_journal(data: bytes) -> Journal:
             raise _fault(place, refused.code) from None
     if rest:
         raise _fault(len(lines) + 1, 1)
-    if reader.status is None:
+    if reader.status is None or reader.kernel is None:
         raise _fault(len(lines) + 1, 5)
     return Journal(reader.form, reader.kernel, reader.budget, reader.lanes, reader.status)
 

@@ -57,7 +57,7 @@ class _Shape:
         self._last_use = _uses(told)
         self._inside = False
         self._before: Record | None = None
-        self._shown: set[tuple[int, ...]] = set()
+        self._shown: set[tuple[str, tuple[int, ...]]] = set()
         self._ceilings = [0]
 
     def takes(self, at: At, behind: Record | None) -> bool:
@@ -105,7 +105,7 @@ class _Shape:
         return not self._is_quiet
 
     def _may_look(self, record: Record) -> bool:
-        shown = (record.word, *record.numbers)
+        shown = record.word, record.numbers
         is_new = shown not in self._shown
         self._shown.add(shown)
         return is_new and (record.word == "nil" or self._takes == self._budget)

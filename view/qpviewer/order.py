@@ -197,7 +197,8 @@ def _starts(journal: Journal, objects: int) -> dict[Place, list[Touch]]:
         if done is not None:
             touch(0, done, objects - 1, True)
             for earlier in range(objects - 1):
-                touch(0, _place_of_done(lanes[0], earlier + 1), earlier, True)
+                if (before := _place_of_done(lanes[0], earlier + 1)) is not None:
+                    touch(0, before, earlier, True)
     for lane in range(first_source, len(lanes)):
         touch(lane, 0, objects, False)
     return found

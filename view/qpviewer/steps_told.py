@@ -118,7 +118,7 @@ class StepsTold:
             case "say":
                 self._say(index, lane, priority, str(signed(record.numbers[1])))
 
-    def _change(self, word: str, index: int, *numbers) -> None:
+    def _change(self, word: str, index: int, *numbers: int | str) -> None:
         self._words.changes.append([word, index, *numbers])
 
     def _extend(self, index: int, lane: int, record: Record) -> None:

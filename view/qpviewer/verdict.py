@@ -69,19 +69,18 @@ def verdict_words(verdict: Verdict, names: Names) -> str:
 
 
 def _site(verdict: Verdict, names: Names) -> str:
-    match verdict.kind, *verdict.numbers:
-        case "block", pool, block:
-            return f"block {block} of pool {pool}"
-        case "queue", priority:
-            return f"the queue of {names.object(priority)}"
-        case "object", priority:
-            return names.object(priority)
-        case "signal", number:
+    if verdict.kind == "whole":
+        return "the whole journal"
+    number = verdict.numbers[0]
+    match verdict.kind:
+        case "block":
+            return f"block {verdict.numbers[1]} of pool {number}"
+        case "queue":
+            return f"the queue of {names.object(number)}"
+        case "object":
+            return names.object(number)
+        case "signal":
             return names.signal(number)
-        case "timer", number:
+        case "timer":
             return f"time event {names.timer(number)}"
-        case "whole",:
-            return "the whole journal"
-        case kind, number:
-            return f"{kind} {number}"
-    raise AssertionError(verdict)
+    return f"{verdict.kind} {number}"

@@ -173,10 +173,15 @@ def _hints(made: Call) -> list[str]:
 
 
 def main(words: list[str]) -> int:
-    """Explains a call; with `--note FILE` in front, one that has been made and whose line is in that file."""
+    """Explains a call; with `--note FILE` in front, one that has been made and whose line is in that file; with `--words` in front,
+    says what is wrong with the words of one that is still to be made."""
     if words[:1] == ["--note"] and len(words) > 1:
         lines = explanation(words[2:], Path(words[1]).read_text(errors="replace"))
         print("".join(f"{INDENT}{line}\n" for line in lines), end="", file=sys.stderr)
+        return 0
+    if words[:1] == ["--words"]:
+        if fault := explain_words(words[1:]):
+            print(f"{INDENT}{_cut(fault)}", file=sys.stderr)
         return 0
     if not words or words[0] in ("-h", "--help"):
         print(USAGE)

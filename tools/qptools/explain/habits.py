@@ -13,7 +13,10 @@ class Habit(NamedTuple):
 
 
 def _of(pattern: str, advice: Callable[[re.Match[str]], str] | str) -> Habit:
-    return Habit(re.compile(pattern), advice if callable(advice) else lambda _: advice)
+    if isinstance(advice, str):
+        text = advice
+        return Habit(re.compile(pattern), lambda _: text)
+    return Habit(re.compile(pattern), advice)
 
 
 #: Habits in the texts of actions and guards; the first that fits is told.
