@@ -6,6 +6,7 @@ import os
 import re
 import subprocess
 import tempfile
+import time
 import unittest
 import unittest.mock
 from collections.abc import Iterator
@@ -13,6 +14,7 @@ from pathlib import Path
 
 from qptools.changes import change_all
 from qptools.explain.command import explanation, main
+from qptools.explain.habits import habit_in_stimuli, habit_in_text
 from qptools.explain.hints import hints
 from qptools.explain.refusal import Refusal, read_refusal
 from qptools.explain.runs import explain_long_stop, explain_stop
@@ -223,6 +225,50 @@ class Lines(unittest.TestCase):
             self.assertEqual(explanation(["run", "long.toml", "go.txt"], "qp: long.toml: 1 -\n"),
                              [f"long.toml has {len(many) * 8} bytes; what is longer than 1048576 isn't explained"])
             self.assertLess(sum(map(len, explanation(["run", "wide.toml", "go.txt"], "qp: wide.toml: 4 \n"))), 2000)
+
+    def test_long_texts_are_explained_in_no_time(self) -> None:
+        """The patterns of habits take more than linear time, so of a long text its ends alone are looked at."""
+        for letters in ("x", "1", "x.", "(", "1+1-"):
+            for text in (letters * 200_000, f"{letters * 200_000};"):
+                begun = time.monotonic()
+                habit_in_text(text, False), habit_in_text(text, True), habit_in_stimuli(text)
+                self.assertLess(time.monotonic() - begun, 2, letters)
+        self.assertEqual(habit_in_stimuli(f"{'x' * 200_000};"), "no `;` ends a line")
+
+    def test_a_text_that_is_too_long_isnt_read(self) -> None:
+        """One with 200,000 places would be read deeper than Python reads."""
+        for code, text in ((7, f"say x{'+1' * 200_000}"), (8, "x" * 400_000), (9, f"say p1{'+1' * 200_000}")):
+            files = {"lamp.toml": LAMP.read_text().replace('to = "on"', f'do = ["{text}"]'), "go.txt": ""}
+            with self.subTest(code), folder_with(files):
+                told = explanation(["run", "lamp.toml", "go.txt"], f"qp: lamp.toml: {code} chart.1.state.1.row.1.do.1\n")
+                self.assertTrue(told[0].startswith("chart lamp, state off, row 1 (on GO), action 1: "))
+                self.assertEqual(told[-1], f"a text has at most 200 bytes, this one {len(text)}")
+
+    def test_calls_of_qp_and_near_words(self) -> None:
+        """What a text that isn't an action, or a line that isn't a stimulus, may have been meant as."""
+        texts = {
+            "QACTIVE_POST(AO_Table, Q_NEW(TableEvt, DONE_SIG), me);": "QP's `QACTIVE_POST` is `post OBJECT EVENT` here",
+            "QTimeEvt_armX(&me->timeEvt, 5, 0)": "QP's `QTimeEvt_armX` is `arm TIMER(TICKS, INTERVAL)` here",
+            "return Q_TRAN(&setting)": "`Q_TRAN` is no action: a transition is the `to` of a row, and without `to` the row stays in its state",
+            "pots me GO": "did you mean `post`?", "POST me GO": "did you mean `post`?", "alarm == 5": "`==` compares, `=` assigns",
+            "alarm := 5": "`=` assigns: write `alarm = 5`", "post me, GO": "no comma stands behind the object: write `post me ..`",
+            "arm CLOCK 1 0": "numbers of ticks stand in parentheses: write `arm CLOCK(1, 0)`", "disarm T()": "`disarm` takes a name alone: write `disarm T`",
+            "publish GO()": "no empty parentheses: write `GO`", "now = abs(now)": "there are no functions, such as `abs`: only variables, parameters and numbers",
+            "unlock": "a ceiling is raised for its own actions alone: write `locked 3 [a = 1; b = 2]`",
+        }
+        for text, said in texts.items():
+            with self.subTest(text):
+                self.assertEqual(habit_in_text(text, False), said)
+        lines = {
+            "QACTIVE_POST(clock, GO)": "QP's `QACTIVE_POST` is `post OBJECT EVENT` here", "ticks 0": "did you mean `tick`?",
+            "settle 1": "`settle` stands alone: it waits until each queue is empty", "arm T(1,0)": "`arm` is an action of a chart and no stimulus",
+            "post clock, GO": "no comma stands between tokens, but for those within parentheses",
+            "wait 5": "time passes by `tick RATE`; `settle` waits until each queue is empty",
+            "post clock GO(1.5)": "numbers are whole: count in a smaller unit, as tenths", "frobnicate": "",
+        }
+        for line, said in lines.items():
+            with self.subTest(line):
+                self.assertEqual(habit_in_stimuli(line), said)
 
     def test_a_pipe_isnt_read_again(self) -> None:
         with folder_with({}) as folder:

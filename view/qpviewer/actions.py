@@ -4,6 +4,7 @@ It is a second reading of them, for who looks for the place of a verdict; a text
 """
 
 import re
+from collections import deque
 from collections.abc import Callable, Mapping
 from dataclasses import dataclass, field
 
@@ -57,9 +58,9 @@ class _Reader:
 
     def __init__(self, text: str):
         self._text = text
-        self._tokens: list[str] = []
-        at = 0
-        while at < len(text.rstrip(" ")):
+        self._tokens: deque[str] = deque()
+        at, end = 0, len(text.rstrip(" "))
+        while at < end:
             token = _TOKEN.match(text, at)
             if not token:
                 raise Fault("", f"{text!r} isn't an action or an expression")
@@ -73,12 +74,12 @@ class _Reader:
         token = self._next()
         if not token or wanted and token not in wanted:
             raise Fault("", f"{self._text!r} isn't an action or an expression")
-        return self._tokens.pop(0)
+        return self._tokens.popleft()
 
     def _takes(self, token: str) -> bool:
         if self._next() != token:
             return False
-        self._tokens.pop(0)
+        self._tokens.popleft()
         return True
 
     def end(self) -> None:

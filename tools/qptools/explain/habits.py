@@ -4,6 +4,11 @@ import re
 from collections.abc import Callable
 from typing import NamedTuple
 
+from .names import like
+
+#: The words that actions begin with, but for an assignment.
+ACTIONS = ("say", "post", "lifo", "forward", "publish", "defer", "recall", "flush", "subscribe", "unsubscribe", "arm", "rearm", "disarm", "locked")
+
 
 class Habit(NamedTuple):
     """What is looked for, and what to write in its place."""
@@ -19,8 +24,34 @@ def _of(pattern: str, advice: Callable[[re.Match[str]], str] | str) -> Habit:
     return Habit(re.compile(pattern), advice)
 
 
+#: Calls of QP's, and what an action or a row has in their place.
+_OF_QP = {
+    "QACTIVE_POST": "post OBJECT EVENT", "QACTIVE_POST_X": "post OBJECT EVENT margin N", "QACTIVE_POST_LIFO": "lifo EVENT",
+    "QACTIVE_PUBLISH": "publish EVENT", "QF_PUBLISH": "publish EVENT", "QActive_defer": "defer", "QActive_recall": "recall",
+    "QActive_flushDeferred": "flush", "QActive_subscribe": "subscribe SIGNAL", "QActive_unsubscribe": "unsubscribe SIGNAL",
+    "QTimeEvt_armX": "arm TIMER(TICKS, INTERVAL)", "QTimeEvt_disarm": "disarm TIMER", "QTimeEvt_rearm": "rearm TIMER(TICKS)",
+    "Q_NEW": "post OBJECT EVENT(PARAMETERS)", "Q_NEW_X": "post OBJECT EVENT(PARAMETERS) reserve N", "QF_TICK_X": "tick RATE",
+}
+#: How much of a text's begin and of its end is looked at; an action has at most 200 letters.
+_ENDS = 200
+_STIMULI = ("post", "publish", "tick", "settle")
+
+
+def _of_qp(match: re.Match[str]) -> str:
+    return f"QP's `{match[1]}` is `{_OF_QP[match[1]]}` here"
+
+
+def _of_a_row(match: re.Match[str]) -> str:
+    return f"`{match[1]}` is no action: a transition is the `to` of a row, and without `to` the row stays in its state"
+
+
+_CALL_OF_QP = _of(rf"\b({'|'.join(sorted(_OF_QP, key=len, reverse=True))})\b", _of_qp)
+
 #: Habits in the texts of actions and guards; the first that fits is told.
 _IN_TEXTS = (
+    _CALL_OF_QP,
+    _of(r"\b(Q_TRAN|Q_HANDLED|Q_UNHANDLED|Q_SUPER)\b", _of_a_row),
+    _of(r"^(goto|tran|transition|return)\b", _of_a_row),
     _of(r"^\s|\s$", "a text has no space at its ends"),
     _of(r"[\t\n\r]", "only spaces part tokens; this text has a tab or a line end"),
     _of(r"([A-Za-z_]\w*)\s*(\+\+|--)|(\+\+|--)\s*([A-Za-z_]\w*)",
@@ -43,12 +74,25 @@ _IN_TEXTS = (
         "an event's parameters have no names: they are p1 to p8, in order, and variables stand by their name alone"),
     _of(r"^(publish|lifo|post \w+) (\w+) ([0-9][0-9, ]*)$",
         lambda m: f"parameters stand in parentheses: write `{m[1]} {m[2]}({', '.join(re.findall('[0-9]+', m[3]))})`"),
-    _of(r"^(post|publish|lifo|defer|recall|say|arm|disarm|rearm)\s*\(", lambda m: f"`{m[1]}` isn't a function: it stands without parentheses"),
+    _of(r"^(post|publish|lifo|forward|defer|recall|flush|say|arm|disarm|rearm|subscribe|unsubscribe|locked)\s*\(",
+        lambda m: f"`{m[1]}` isn't a function: it stands without parentheses"),
+    _of(r"^(arm|rearm) (\w+) ([0-9][0-9, ]*)$",
+        lambda m: f"numbers of ticks stand in parentheses: write `{m[1]} {m[2]}({', '.join(re.findall('[0-9]+', m[3]))})`"),
+    _of(r"^(post|forward) (\w+),", lambda m: f"no comma stands behind the object: write `{m[1]} {m[2]} ..`"),
+    _of(r"^(disarm|subscribe|unsubscribe) (\w+)\s*\(", lambda m: f"`{m[1]}` takes a name alone: write `{m[1]} {m[2]}`"),
+    _of(r"(\w+)\s*\(\s*\)$", lambda m: f"no empty parentheses: write `{m[1]}`"),
+    _of(r"^(lock|unlock)\b|^locked \w+ [^\[]", "a ceiling is raised for its own actions alone: write `locked 3 [a = 1; b = 2]`"),
+    _of(r"(\w+)\s*:=\s*(.+)", lambda m: f"`=` assigns: write `{m[1]} = {m[2]}`"),
+    _of(r"\*\*", "there is no power: multiply"),
+    _of(r"(?:[-=+*/%(<>!|,]|^say)\s*([A-Za-z_]\w*)\s*\(", lambda m: f"there are no functions, such as `{m[1]}`: only variables, parameters and numbers"),
+    _of(r"^\{", "actions have no braces: each is a text of its own in the list"),
     _of(r"^(defer|recall|flush) \w+", lambda m: f"`{m[1]}` stands alone: it means the event of the step, or the object's own list"),
     _of(r"\b(?:true|false)\b", "write 1 for true and 0 for false"),
     _of(r"^if\b", "a condition is the `when` of a row"),
     _of(r"[\"']", "there are no texts and no characters, only numbers"),
 )
+#: Habits in actions alone.
+_IN_ACTIONS = (_of(r"^\w+\s*==", "`==` compares, `=` assigns"),)
 #: Habits in guards alone.
 _IN_GUARDS = (
     _of(r"^else$", "there is no `else`: leave `when` out, since a last row without a guard takes what is left"),
@@ -57,6 +101,9 @@ _IN_GUARDS = (
 
 #: Habits in lines of stimuli.
 _IN_STIMULI = (
+    _CALL_OF_QP,
+    _of(r"^(arm|disarm|rearm|say|defer|recall|flush|lifo|forward|subscribe|unsubscribe|locked)\b",
+        lambda m: f"`{m[1]}` is an action of a chart and no stimulus"),
     _of("\ufeff|\xef\xbb\xbf", "the file begins with a byte order mark: save it as UTF-8 without one"),
     _of(r"\r$", "the line ends as Windows ends lines, with \\r\\n: save the file with \\n alone"),
     _of(r"#|//|/\*", "a comment stands on a line of its own, and begins with `#`"),
@@ -65,11 +112,16 @@ _IN_STIMULI = (
     _of(r"  ", "two spaces: single spaces part tokens"),
     _of(r"\([^)]* [^)]*\)", "no space stands within parentheses: write (1,2)"),
     _of(r"\w \(", "no space stands before a parenthesis: write GO(1)"),
+    _of(r"^[^(]*,", "no comma stands between tokens, but for those within parentheses"),
+    _of(r"\([^)]*[0-9]\.[0-9]", "numbers are whole: count in a smaller unit, as tenths"),
+    _of(r"\+[0-9]", "numbers have no sign here"),
     _of(r"-[0-9]", lambda m: f"numbers have no sign here: write {m[0]} as its 64 bits, {2**64 - int(m[0][1:])}"),
     _of(r"0[xX]([0-9a-fA-F]+)", lambda m: f"numbers are decimal: write {int(m[1], 16)}"),
     _of(r"\b0[0-9]+\b", "a number has no leading zero"),
     _of(r"\(\)", "an event without parameters has no parentheses"),
     _of(r";$", "no `;` ends a line"),
+    _of(r"^settle .", "`settle` stands alone: it waits until each queue is empty"),
+    _of(r"^(wait|sleep|delay)\b", "time passes by `tick RATE`; `settle` waits until each queue is empty"),
     _of(r"^tick$", "a tick names its rate, 0 to 3: write `tick 0`"),
     _of(r"^post (\w+)$", lambda m: f"a post names its object first: `post OBJECT {m[1]}`; without one, `publish {m[1]}`"),
     _of(r"^publish (\w+) (\w+)$", lambda m: f"`publish` names no object: `post {m[1]} {m[2]}`"),
@@ -79,14 +131,22 @@ _IN_STIMULI = (
 
 def habit_in_text(text: str, is_guard: bool) -> str:
     """What to write in the place of the text of an action or a guard; nothing where no habit is known."""
-    return _advice(text, _IN_TEXTS + (_IN_GUARDS if is_guard else ()))
+    return _advice(text, _IN_TEXTS + (_IN_GUARDS if is_guard else _IN_ACTIONS)) or ("" if is_guard else _near(text, ACTIONS))
 
 
 def habit_in_stimuli(line: str) -> str:
     """What to write in the place of a line of stimuli; nothing where no habit is known."""
-    return _advice(line, _IN_STIMULI)
+    return _advice(line, _IN_STIMULI) or _near(line, _STIMULI)
+
+
+def _near(text: str, words: tuple[str, ...]) -> str:
+    """The word that the first one of a text may be meant as."""
+    near = like(re.split(r"\W", text[:_ENDS], maxsplit=1)[0], list(words))
+    return f"did you mean `{near}`?" if near else ""
 
 
 def _advice(text: str, habits: tuple[Habit, ...]) -> str:
-    found = ((habit, habit.pattern.search(text)) for habit in habits)
+    # what is searched is short: the patterns take more than linear time
+    seen = text if len(text) <= 2 * _ENDS else text[:_ENDS] + text[-_ENDS:]
+    found = ((habit, habit.pattern.search(seen)) for habit in habits)
     return next((habit.advice(match) for habit, match in found if match), "")

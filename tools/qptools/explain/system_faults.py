@@ -155,7 +155,7 @@ def _unknown_key(tree: dict[str, Any], place: Place) -> list[str]:
                 f"so write it before the first header within"
             )
         else:
-            told.append(f"a {place.inner} has the keys {', '.join(sorted(known))}" if known else "")
+            told.append(f"{'an' if place.inner == 'object' else 'a'} {place.inner} has the keys {', '.join(sorted(known))}" if known else "")
     return [line for line in dict.fromkeys(told) if line]
 
 

@@ -7,12 +7,24 @@ from .names import actions_in, count_words, declared, like, listed, names_of, pa
 from .place import Place
 
 
+#: A text has at most so many bytes; longer ones aren't read, since their expressions may be deeper than Python reads.
+_LONGEST = 200
+
+
+def _too_long(text: str) -> list[str]:
+    """Says that a text is too long; nothing where it isn't."""
+    size = len(text.encode(errors="replace"))
+    return [f"a text has at most {_LONGEST} bytes, this one {size}"] if size > _LONGEST else []
+
+
 def undeclared(tree: dict[str, Any], place: Place) -> list[str]:
     """Code 7: the name that isn't declared, and what may be meant."""
     chart = place.table("chart")
     if place.key in ("do", "entry", "exit", "init_do", "when") and isinstance(place.value, str):
         if place.value == "else":
             return ["else isn't declared", habit_in_text(place.value, True)]
+        if long := _too_long(place.value):
+            return ["a name isn't declared", *long]
         for used in used_in(place.value, place.key == "when"):
             known = declared(tree, chart, used.kind)
             if used.name not in known:
@@ -46,7 +58,7 @@ def no_text(tree: dict[str, Any], place: Place) -> list[str]:
     """Code 8: what to write in the place of a text."""
     text = str(place.value)
     what = "an expression" if place.key == "when" else "an action"
-    return [f"isn't {what}", habit_in_text(text, place.key == "when") or "docs/FORMATS.md, section 2, has the grammar"]
+    return [f"isn't {what}", habit_in_text(text, place.key == "when") or "docs/FORMATS.md, section 2, has the grammar", *_too_long(text)]
 
 
 def parameters(tree: dict[str, Any], place: Place) -> list[str]:
@@ -54,6 +66,8 @@ def parameters(tree: dict[str, Any], place: Place) -> list[str]:
     text = str(place.value)
     signals = {str(signal.get("name")): int(signal.get("params", 0)) for signal in tables(tree, "signal")}
     is_guard = place.key == "when"
+    if long := _too_long(text):
+        return ["the text needs another number of parameters than there is", *long]
     for action in [] if is_guard else actions_in(text):
         if action.word in ("post", "lifo", "publish") and len(action.values) != signals.get(action.name, -1):
             return _wrong_count(action.name, signals.get(action.name, 0), len(action.values))
