@@ -163,6 +163,8 @@ class Lines(unittest.TestCase):
             ('no `queue = 1`', "3 object.1.queue", "object lamp, queue: is missing, and has no default"),
             ('`ring = 1` for `queue = 1`', "4 object.1", "`ring` is no key of this table"),
             ('`colour = 1` behind `qp = 1`', "4 ", "the top of the file: `colour` is no key of this table"),
+            ('`colour = 1` behind `qp = 1`', "4 ", "the top of the file has the keys chart, object, pool, qp, signal"),
+            ('`wheel = 1` for `queue = 1`', "4 object.1", "an object has the keys chart, defer, name, priority"),
             ('`queue = 256` for `queue = 1`', "5 object.1.queue", "object lamp, queue: must be 0 to 255"),
             ('`name = "off"` for `name = "on"`', "6 chart.1.state.2.name", "this name stands twice"),
             ('`parent = "on"` behind `name = "on"`', "10 chart.1.state.2.parent", "state on, parent: the state lies within itself"),
@@ -234,6 +236,19 @@ class Lines(unittest.TestCase):
                 habit_in_text(text, False), habit_in_text(text, True), habit_in_stimuli(text)
                 self.assertLess(time.monotonic() - begun, 2, letters)
         self.assertEqual(habit_in_stimuli(f"{'x' * 200_000};"), "no `;` ends a line")
+
+    def test_what_python_reads_and_the_program_doesnt(self) -> None:
+        """Numbers beyond 64 bits, and what lies too deep; and a number that Python doesn't read either."""
+        table = {
+            "x = 9223372036854775808": "x is beyond 64 bits with a sign",
+            f"x = {'[' * 90}{']' * 90}": "lists, tables and names of a dotted key stand at most 80 deep",
+            f"x{'.x' * 90} = 1": "lists, tables and names of a dotted key stand at most 80 deep",
+            f"x = {'[' * 5000}{']' * 5000}": "isn't TOML that this reader takes: it nests too deep",
+            f"x = {'9' * 5000}": "isn't TOML that this reader takes: a number is too long",
+        }
+        for line, said in table.items():
+            with self.subTest(said), folder_with({"long.toml": f"qp = 1\n{line}\n", "go.txt": ""}):
+                self.assertEqual(explanation(["run", "long.toml", "go.txt"], "qp: long.toml: 1 -\n")[-1], said)
 
     def test_a_text_that_is_too_long_isnt_read(self) -> None:
         """One with 200,000 places would be read deeper than Python reads."""

@@ -34,6 +34,9 @@ def read_tree(data: bytes) -> dict[str, Any]:
         raise Fault("", f"isn't TOML: {error}") from None
     except RecursionError:
         raise Fault("", "isn't TOML that this reader takes: it nests too deep") from None
+    except ValueError:
+        # Python reads no number of more than some thousand digits
+        raise Fault("", "isn't TOML that this reader takes: a number is too long") from None
 
 
 def read_system(data: bytes) -> System:

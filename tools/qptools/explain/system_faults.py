@@ -32,6 +32,8 @@ _KINDS = {
 }
 #: So many keys are told that their table doesn't have.
 _SHOWN = 3
+#: How deep the program's reader of TOML goes.
+_DEEPEST = 80
 _LISTS = {"pool", "timer", "state", "row", "object"}
 #: The range of a number, by its table and key.
 _RANGES = {
@@ -68,10 +70,26 @@ def explain_system(data: bytes, code: int, path: str) -> list[str]:
     except Fault as fault:
         return _not_toml(data, str(fault))
     if code == 1:
-        return ["isn't TOML, though Python's reader takes it"]
+        return ["isn't TOML, though Python's reader takes it", *_beyond(tree)]
     place = follow(tree, path)
     said = _SAYS[code](tree, place) if code in _SAYS else [f"code {code}"]
     return [f"{place.words}: {said[0]}", *_shown(place, data), *said[1:]]
+
+
+def _beyond(tree: dict[str, Any]) -> list[str]:
+    """What Python's reader takes and the program's doesn't: a whole number beyond 64 bits, or what lies too deep."""
+    left: list[tuple[str, Any, int]] = [("", tree, 0)]
+    while left:
+        key, value, depth = left.pop()
+        if depth > _DEEPEST:
+            return [f"lists, tables and names of a dotted key stand at most {_DEEPEST} deep"]
+        if isinstance(value, int) and not -2**63 <= value < 2**63:
+            return [f"{key} is beyond 64 bits with a sign"]
+        if isinstance(value, dict):
+            left += [(name, member, depth + 1) for name, member in value.items()]
+        elif isinstance(value, list):
+            left += [(key, member, depth + 1) for member in value]
+    return []
 
 
 def _not_toml(data: bytes, fault: str) -> list[str]:
@@ -155,7 +173,8 @@ def _unknown_key(tree: dict[str, Any], place: Place) -> list[str]:
                 f"so write it before the first header within"
             )
         else:
-            told.append(f"{'an' if place.inner == 'object' else 'a'} {place.inner} has the keys {', '.join(sorted(known))}" if known else "")
+            owner = {"top": "the top of the file", "object": "an object"}.get(place.inner, f"a {place.inner}")
+            told.append(f"{owner} has the keys {', '.join(sorted(known))}" if known else "")
     return [line for line in dict.fromkeys(told) if line]
 
 
