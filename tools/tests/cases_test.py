@@ -59,7 +59,15 @@ class Files(unittest.TestCase):
         table = (
             ("case = 1\n", "has [[case]] tables"), ("[[case]]\n", "case 1: name is missing"), (CASE + "colour = 1\n", "'colour' is no key"),
             (CASE + 'kernel = "rtos"\n', "a kernel is sim, qv, qk or port"), (CASE + "object.lamp = { colour = 1 }\n", "object lamp: 'colour' is no key"),
-            ("[[case", "cases.toml: "),
+            ("[[case", "cases.toml: "), ("case = [1]\n", "has [[case]] tables"),
+            (CASE.replace('"go.txt"', "7"), "stimuli must be a text"), (CASE + "kernel = 5\n", "kernel must be a kernel, or a list"),
+            (CASE + "kernel = []\n", "kernel must be a kernel, or a list"), (CASE + "end = 1\n", "end must be 0, 3 or 4"),
+            (CASE + "budget = 0\n", "budget must be a number, 1 to 1000000"), (CASE + 'refused = "0"\n', "refused must be a number"),
+            (CASE + "blocks_back = 1\n", "blocks_back must be true or false"), (CASE + "object.lamp = 5\n", "object must be tables"),
+            (CASE + 'object.lamp = { vars = { x = "1" } }\n', "object lamp: vars must be a table of whole numbers"),
+            (CASE + "object.lamp = { said = 1 }\n", "object lamp: said must be a list of whole numbers"),
+            (CASE + "object.lamp = { took = -1 }\n", "object lamp: took must be a number"),
+            (CASE + 'summary = "lost.txt"\n', "summary: [Errno 2] No such file"),
         )
         for text, words in table:
             with self.subTest(words), self.assertRaises(CaseFault) as raised:

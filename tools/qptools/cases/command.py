@@ -94,7 +94,7 @@ def _orders(words: list[str]) -> int:
         raise _Words("a system and stimuli are needed")
     kernel = options["--kernel"]
     most = options["--most"] or str(MOST_THREADED if kernel in THREADED else MOST)
-    if kernel not in KERNELS or not most.isdigit():
+    if kernel not in KERNELS or not (most.isascii() and most.isdigit()):
         raise _Words(f"--kernel is {', '.join(KERNELS[:-1])} or {KERNELS[-1]}, and --most a number")
     system = read_file(files[0], read_system)
     stimuli = read_file(files[1], lambda data: read_stimuli(data, system))
