@@ -193,14 +193,24 @@ impl World<'_> {
 }
 
 /// Each command and kernel: a lamp that is switched on, with a pool or without, and five philosophers, whose journal is given as text and as
-/// frames.
-const CALLS: [Call; 11] = [
+/// frames. Of a run with threads it is the summary, which is the same each time.
+const CALLS: [Call; 13] = [
     (&["run", "lamp", "go"], b'\n', 2),
     (&["run", "--kernel", "qv", "lamp", "go"], b'\n', 2),
     (&["gen", "1"], b'\n', 0),
     (&["run", "--out", "frames", "table", "two"], 0x7E, 2),
     (&["run", "--out", "summary", "table", "two"], b'\n', 2),
     (&["run", "--out", "summary", "pooled", "go"], b'\n', 2),
+    (
+        &["run", "--kernel", "qk", "--out", "summary", "lamp", "go"],
+        b'\n',
+        2,
+    ),
+    (
+        &["run", "--kernel", "port", "--out", "summary", "lamp", "go"],
+        b'\n',
+        2,
+    ),
     (&["decode", "frames"], b'\n', 1),
     (&["migrate", "journal"], b'\n', 1),
     (&["migrate", "--from", "frames", "frames"], 0x7E, 1),
