@@ -2,7 +2,6 @@
 use Rattle.std.proofs.Common.{◌≡◌, ◌++◌, List, [], refl, sym, ◌∙◌, ap, append_assoc, append-nil}
 use Rattle.qp_model.specs.Told.{ToldItem}
 use Rattle.qp_calls.specs.LaneView.{Gains, LaneView, Roomier}
-use Rattle.qp_kernel_turns.specs.Lanes.{SameLane}
 use Rattle.qp_port_cursor.specs.Passing.{Glances, GoesAlong}
 use Rattle.qp_port_cursor.proofs.Going.{same-gains}
 use Rattle.qp_port_cursor.proofs.Turned.{same-then}

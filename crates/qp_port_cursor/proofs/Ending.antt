@@ -1,5 +1,5 @@
 -- How passing a `settle` ends.
-use Rattle.std.proofs.Common.{◌≡◌, ℕ, ◌+◌, ◌-◌, ◌≤◌, true, false, List, [], ◌∷◌, ◌++◌, length, map, refl, sym, ◌∙◌, ap, subst, inr, arith, append_assoc}
+use Rattle.std.proofs.Common.{◌≡◌, ℕ, ◌+◌, ◌-◌, ◌≤◌, Bool, true, false, List, [], ◌∷◌, ◌++◌, length, map, cond, refl, sym, ◌∙◌, ap, subst, inr, arith, append_assoc}
 use Rattle.std.specs.List.{AllByRecursion, count_by, filter}
 use Rattle.std.proofs.lemmas.List.{map-append}
 use Rattle.std.proofs.lemmas.List.Sums.{length-filter}
@@ -16,11 +16,14 @@ use Rattle.qp_calls.specs.Halting.{HaltsDry, HaltsFull}
 use Rattle.qp_calls.specs.Notes.{spills_in}
 use Rattle.qp_calls_stimulus.specs.Settling.{SeesNone, SeesSome, SettleCut}
 use Rattle.qp_port_cursor.specs.declared.cursor.Cursor.{Cursor}
-use Rattle.qp_port_cursor.specs.At.{IsCursorAt, IsSourceAt, done, mine}
+use Rattle.qp_model.specs.Kernels.{sim}
+use Rattle.qp_port_cursor.specs.At.{IsCursorAt, IsSourceAt, done, mine, tries_in}
 use Rattle.qp_port_phases.specs.Passing.{AddsLook}
-use Rattle.qp_port_cursor.specs.Passing.{FindsEntry, Glances, GoesAlong, HasPassed, IsClear, Opens, SeesAllEmpty, ShowsEntry, StarvesThere, StopsThere, opening_of, settles_of}
+use Rattle.qp_port_cursor.specs.Passing.{FindsEntry, FindsNone, Glances, GoesAlong, HasPassed, IsClear, Opens, SeesAllEmpty, ShowsEntry, StarvesThere, StopsThere, opening_of, settles_of}
 use Rattle.qp_port_cursor.proofs.Going.{unspilled-told}
 use Rattle.qp_port_cursor.proofs.Along.{along-gains, along-glances, along-room, along-then}
+use Rattle.qp_port_cursor.proofs.Finding.{finds-cut}
+use Rattle.qp_port_cursor.proofs.Tries.{cut-is-plain, plain-seen}
 use Rattle.qp_port_cursor.proofs.Settling.{cut-calm, cut-hands, cut-leaves, settled-at, shows-now, tried-at}
 use Rattle.qp_port_cursor.proofs.Waiting.{full-stops, full-there, starves-there, stops-behind}
 
@@ -142,6 +145,19 @@ module _ (sys : System) (x y : Cursor) (v0 v1 v2 w : LaneView) (at : IsCursorAt 
     same : done y ≡ done x
     same = ap done opens.cursor ∙ same-count
 
+    opening_none : tries_in (map (for_object 0) (opening_of x)) ≡ []
+    opening_none = by x.settling
+      where
+        by : (b : Bool) → tries_in (map (for_object 0) (cond b [] (plain (body.Stim (done x + 1) 0) ∷ []))) ≡ []
+        by true = refl
+        by false = refl
+
+    finds : FindsNone sys v0 u
+    finds =
+        let former : v2.told ≡ v0.told = ap (λ r. r.told) room.same ∙ glances.told in
+        finds-cut sys v0 w u (opening_of x) cut.g cut.rest (opens.opened ∙ ap (λ ts. ts ++ map (for_object 0) (opening_of x)) former) opening_none
+        (plain-seen cut.g (cut-is-plain sys cut.g cut.rest cut.some (cut.fits sim))) (cut.fits sim) (subst (λ o. GrowsOf o cut.g w u) opens.here.none cut.grows) still_clear
+
     pub cut-unspilled : spills_in u.told ≡ false
     cut-unspilled = unspilled-told u.told (cut-calm sys (mine x) (done x) w opens.here u u cut)
 
@@ -149,7 +165,7 @@ module _ (sys : System) (x y : Cursor) (v0 v1 v2 w : LaneView) (at : IsCursorAt 
     cut-stops z full =
         let stops = stops-behind sys x v0 u z behind
         (full-stops sys x u z (λ kernel end may early. cut-leaves sys (mine x) (done x) w opens.here u z cut kernel end may early full) full) in
-        full-there sys x y v0 u z behind full same (record { leaves = stops.leaves; why = stops.why; ts = stops.ts; told = stops.told; keeps = stops.keeps })
+        full-there sys x y v0 u z behind finds full same (record { leaves = stops.leaves; why = stops.why; ts = stops.ts; told = stops.told; keeps = stops.keeps })
 
-    pub cut-starves : (z : LaneView) → HaltsDry u z → StarvesThere x y v0 z
-    cut-starves z dry = starves-there x y v0 u z behind dry same
+    pub cut-starves : (z : LaneView) → HaltsDry u z → StarvesThere sys x y v0 z
+    cut-starves z dry = starves-there sys x y v0 u z behind finds dry same

@@ -1,12 +1,11 @@
 -- What the phases ask of lanes: codes that are handed in and found, and what a try leaves.
-use Rattle.std.proofs.Common.{◌≡◌, ◌⊎◌, ℕ, ◌+◌, ◌<◌, ◌≤◌, Bool, true, false, List, [], ◌∷◌, cond, length, refl, sym, ◌∙◌, ap, subst, inl, inr, arith}
+use Rattle.std.proofs.Common.{◌≡◌, ◌⊎◌, ℕ, ◌+◌, ◌<◌, ◌≤◌, Bool, true, false, [], ◌∷◌, cond, length, refl, sym, ◌∙◌, ap, subst, inl, inr, arith}
 use Rattle.std.specs.Prelude.{IsTrue}
 use Rattle.qp_model.specs.declared.bodies.Body.TheVariants as body
 use Rattle.qp_model.specs.declared.systems.System.{System}
 use Rattle.qp_model.specs.Sources.{SeesEmpty, SeesEntry, priorities}
 use Rattle.qp_model.specs.Told.{plain}
 use Rattle.qp_model.specs.WordLaw.{is_object}
-use Rattle.qp_calls.specs.declared.answers.Counts as counts
 use Rattle.qp_calls.specs.LaneView.{LaneView}
 use Rattle.qp_calls.specs.Notes.{last_code}
 use Rattle.qp_dispatch.specs.declared.objects.Turn.{Turn}
@@ -17,7 +16,7 @@ use Rattle.qp_kernel_turns.specs.Lanes.{HandsCode, HasFound, LaneStarts, LaneTur
 use Rattle.qp_port_phases.specs.declared.lanes.Passed.{Passed}
 use Rattle.qp_port_phases.specs.declared.lanes.Passed.TheVariants as passed
 use Rattle.qp_port_phases.specs.Passing.{AddsLook, IsOpening, PassesTo, TriesOnce}
-use Rattle.qp_port_phases.specs.Stopping.{HandedLast, HasStarved, HasStopped, Hears, StopsNow}
+use Rattle.qp_port_phases.specs.Stopping.{HasStarved, HasStopped, Hears, StopsNow}
 use Rattle.qp_port_cursor.specs.declared.cursor.Cursor.{Cursor}
 use Rattle.qp_port_cursor.specs.At.{done}
 use Rattle.qp_port_cursor.specs.Passing.{Passes, TriedOnce, opening_of}

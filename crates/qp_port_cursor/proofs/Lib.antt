@@ -3,6 +3,7 @@ mod Going
 mod Turned
 mod Along
 mod Glancing
+mod Finding
 mod Waiting
 mod Tries
 mod Opening

@@ -1,5 +1,6 @@
 -- The cursor of a source through a turn.
-use Rattle.std.proofs.Common.{◌≡◌, ℕ, zero, suc, ◌+◌, ◌-◌, ◌<◌, ◌≤◌, Bool, true, false, not, ◌||◌, ◌⊎◌, List, [], ◌∷◌, ◌++◌, map, length, get_or, cond, refl, sym, ◌∙◌, ap, subst, inl, inr, arith, append_assoc, append-nil, None}
+use Rattle.std.proofs.Common.{◌≡◌, ℕ, zero, suc, ◌+◌, ◌-◌, ◌<◌, ◌≤◌, Bool, true, false, not, ◌||◌, ◌⊎◌, List, [], ◌∷◌, ◌++◌, map, length, get_or, nat_lt, drop, cond, refl, sym, ◌∙◌, ap, subst, inl, inr, arith, append_assoc, append-nil, None}
+use Rattle.std.proofs.lemmas.Bool.Decides.{nat_tests}
 use Rattle.std.proofs.lemmas.List.{drop_all, drop_more}
 use Rattle.qp_model.specs.declared.stimulus.Stim.{Stim}
 use Rattle.qp_model.specs.declared.stimulus.Stim.TheVariants as stim
@@ -19,8 +20,8 @@ use Rattle.qp_calls.specs.Halting.{HaltsFull}
 use Rattle.qp_kernel_turns.specs.Lanes.{HandsCode, HasFound, SameLane}
 use Rattle.qp_calls_stimulus.specs.Stimulating.{Stimulates, Asserts, Spills, Happens, begun}
 use Rattle.qp_port_cursor.specs.declared.cursor.Cursor.{Cursor}
-use Rattle.qp_port_cursor.specs.At.{IsCursorAt, IsSourceAt, at_settle_in, left_in, mine}
-use Rattle.qp_port_cursor.specs.Turning.{CursorGoes, SourceIdles, SourceStarves, SourceStops, SourceTurns, DoesNext}
+use Rattle.qp_port_cursor.specs.At.{IsCursorAt, IsSourceAt, at_settle_in, begins_settle, left_in, mine}
+use Rattle.qp_port_cursor.specs.Turning.{BreaksOff, CursorGoes, DoesNoSettle, EndsIn, SourceIdles, SourceStarves, SourceStops, SourceTurns, UnlessIdle, DoesNext}
 use Rattle.qp_port_cursor.proofs.Going.{same-gains, same-stops, went, failed, spilled, full, elsewhere, few-done, unspilled-told}
 
 same-none : (v : LaneView) → SameLane v v
@@ -28,6 +29,17 @@ same-none v = record { sys = refl; lane = refl; world = refl; plan = refl; happe
 
 pub same-then : (u v w : LaneView) → SameLane u v → SameLane v w → SameLane u w
 same-then u v w a b = record { sys = b.sys ∙ a.sys; lane = b.lane ∙ a.lane; world = b.world ∙ a.world; plan = b.plan ∙ a.plan; happened = b.happened ∙ a.happened; serves = λ o. b.serves o ∙ a.serves o }
+
+-- the stimuli of the same source
+same-stimuli : (x y : Cursor) → y.stim ≡ x.stim → y.source ≡ x.source → mine y ≡ mine x
+same-stimuli x y stim source = ap (λ (p : List (List Stim)). get_or p (y.source - 1) []) (ap (λ s. s.now) stim) ∙ ap (λ k. get_or x.stim.now (k - 1) []) source
+
+bare-then : (x y z : Cursor) → mine y ≡ mine x → DoesNoSettle x y → DoesNoSettle y z → DoesNoSettle x z
+bare-then x y z same a b k low high = by (nat_lt k y.begun) refl
+  where
+    by : (c : Bool) → nat_lt k y.begun ≡ c → begins_settle (drop k (mine x)) ≡ false
+    by true e = a k low (grind (arith, nat_tests, e))
+    by false e = subst (λ (ss : List Stim). begins_settle (drop k ss) ≡ false) same (b k (grind (arith, nat_tests, e)) high)
 
 pub goes-none : (sys : System) (x : Cursor) (v : LaneView) → IsCursorAt sys x v → CursorGoes sys x x v v
 goes-none sys x v at = record {
@@ -37,6 +49,7 @@ goes-none sys x v at = record {
   lane = refl;
   settling = refl;
   further = omega arith;
+  bare = λ k low high. absurd (omega (arith, low, high));
   ts = [];
   told = sym (append-nil v.told);
   hands = refl;
@@ -56,6 +69,7 @@ goes-then sys x y z u v w a b =
       lane = b.lane ∙ a.lane;
       settling = b.settling ∙ a.settling;
       further = omega (arith, one, two);
+      bare = bare-then x y z (same-stimuli x y a.stim a.source) a.bare b.bare;
       ts = a.ts ++ b.ts;
       told = b.told ∙ ap (λ ts. ts ++ b.ts) a.told ∙ append_assoc u.told a.ts b.ts;
       hands = b.hands ∙ a.hands;
@@ -67,7 +81,7 @@ goes-then sys x y z u v w a b =
 pub turns-then : (sys : System) (x y z : Cursor) (u v w : LaneView) (t : Turn) → CursorGoes sys x y u v → SourceTurns sys y z v w t → SourceTurns sys x z u w t
 turns-then sys x y z u v w turn.Idle a h = record { goes = goes-then sys x y z u v w a h.goes; rests = h.rests }
 turns-then sys x y z u v w turn.Stopped a h = record {
-  leaves = λ kernel end try early. subst (λ ss. SourceLeaves sys kernel end ss w.told) (ap (λ (p : List (List Stim)). get_or p (y.source - 1) []) (ap (λ s. s.now) a.stim) ∙ ap (λ k. get_or x.stim.now (k - 1) []) a.source) (h.leaves kernel end try early);
+  leaves = λ kernel end try early. subst (λ ss. SourceLeaves sys kernel end ss w.told) (same-stimuli x y a.stim a.source) (h.leaves kernel end try early);
   why = by h.why;
   ts = a.ts ++ h.ts;
   told = h.told ∙ ap (λ ts. ts ++ h.ts) a.told ∙ append_assoc u.told a.ts h.ts;
@@ -84,6 +98,11 @@ turns-then sys x y z u v w turn.Memory a h = record {
   keeps = same-then u v w a.keeps h.keeps;
 }
 
+pub breaks-then : (sys : System) (x y z : Cursor) (u v w : LaneView) (t : Turn) → CursorGoes sys x y u v → UnlessIdle sys y z v w t → UnlessIdle sys x z u w t
+breaks-then sys x y z u v w turn.Idle a h = tt
+breaks-then sys x y z u v w turn.Stopped a h = record { before = h.before; goes = goes-then sys x y z u v h.before a h.goes; stands = h.stands; s = h.s; next = h.next; ends = h.ends }
+breaks-then sys x y z u v w turn.Memory a h = record { before = h.before; goes = goes-then sys x y z u v h.before a h.goes; stands = h.stands; s = h.s; next = h.next; ends = h.ends }
+
 -- Where the cursor rests.
 module _ (sys : System) (x : Cursor) (v : LaneView) (at : IsCursorAt sys x v) where
   pub idles : (at_settle_in x || not (left_in x)) ≡ true → SourceIdles sys x x v v
@@ -97,6 +116,13 @@ rests-done x e le = rw (e, drop_all x.begun (mine x) le) refl
 
 pub rests-settle : (x : Cursor) (s : Stim) → x.settling ≡ false → x.begun < length (mine x) → s ≡ get_or (mine x) x.begun s → s ≡ stim.Settle → (at_settle_in x || not (left_in x)) ≡ true
 rests-settle x s e lt is here = rw (e, drop_more (mine x) x.begun s lt, sym is, here) refl
+
+-- where it doesn't: before a stimulus that is no `settle`
+no-settle : (s : Stim) (ss : List Stim) → (s ≡ stim.Settle → ⊥) → begins_settle (s ∷ ss) ≡ false
+no-settle stim.Settle ss other = absurd (other refl)
+no-settle (stim.Post to ev margin reserve) ss other = refl
+no-settle (stim.Publish ev reserve) ss other = refl
+no-settle (stim.Tick rate) ss other = refl
 
 pub any-default : {A : Type 0} (xs : List A) (i : ℕ) (a b c : A) → i < length xs → a ≡ get_or xs i b → a ≡ get_or xs i c
 any-default [] i a b c lt e = absurd (omega (arith, lt))
@@ -128,6 +154,24 @@ module _ (sys : System) (x : Cursor) (v : LaneView) (at : IsCursorAt sys x v) (c
   unspilled = unspilled-told v.told here.calm
 
   module _ (s : Stim) (lt : x.begun < length (mine x)) (is : s ≡ get_or (mine x) x.begun s) where
+    next-is : drop x.begun (mine x) ≡ s ∷ drop (x.begun + 1) (mine x)
+    next-is = drop_more (mine x) x.begun s lt ∙ ap (λ y. y ∷ drop (x.begun + 1) (mine x)) (sym is)
+
+    is-bare : (s ≡ stim.Settle → ⊥) → begins_settle (drop x.begun (mine x)) ≡ false
+    is-bare other = ap begins_settle next-is ∙ no-settle s (drop (x.begun + 1) (mine x)) other
+
+    -- the turn ends here
+    pub breaks-here : (t : Turn) (w : LaneView) → (s ≡ stim.Settle → ⊥) → EndsIn sys s (x.begun + 1) v w t → UnlessIdle sys x x v w t
+    breaks-here t w other ends = by t ends
+      where
+        its-end : (u : Turn) → EndsIn sys s (x.begun + 1) v w u → BreaksOff sys x x v w u
+        its-end u k = record { before = v; goes = goes-none sys x v at; stands = rw (calm, next-is, no-settle s (drop (x.begun + 1) (mine x)) other) refl; s = s; next = next-is; ends = k }
+
+        by : (u : Turn) → EndsIn sys s (x.begun + 1) v w u → UnlessIdle sys x x v w u
+        by turn.Idle k = absurd k
+        by turn.Stopped k = its-end turn.Stopped k
+        by turn.Memory k = its-end turn.Memory k
+
     pub finds-stop : (code : ℕ) (w : LaneView) → w ≡ record v { answered = code ∷ v.answered } → SourceStops sys x x v w
     finds-stop code w e = record {
       leaves = λ kernel end try early. elsewhere sys (mine x) x.begun v w here s s lt is kernel end try early (ap (λ u. u.told) e);
@@ -138,11 +182,8 @@ module _ (sys : System) (x : Cursor) (v : LaneView) (at : IsCursorAt sys x v) (c
     }
 
     module _ (place : ℕ) (next : place ≡ x.begun + 1) (w : LaneView) where
-      moved : Cursor
-      moved = record x { begun = place }
-
-      pub goes-on : Happens sys s place 0 v w → DoesNext sys x (record x { begun = place }) v w None
-      goes-on h =
+      pub goes-on : (s ≡ stim.Settle → ⊥) → Happens sys s place 0 v w → DoesNext sys x (record x { begun = place }) v w None
+      goes-on other h =
           let h2 = subst (λ p. Happens sys s p 0 v w) next h in
           let gone = went sys (mine x) x.begun v w here s s lt is h2 in
           let g : GrowsOf 0 (begun place 0 h.one) v w = subst (λ o. GrowsOf o (begun place 0 h.one) v w) here.none h.grows in
@@ -160,6 +201,7 @@ module _ (sys : System) (x : Cursor) (v : LaneView) (at : IsCursorAt sys x v) (c
               lane = refl;
               settling = refl;
               further = omega (arith, next);
+              bare = λ k low high. subst (λ i. begins_settle (drop i (mine x)) ≡ false) (omega (arith, low, high, next)) (is-bare other);
               ts = map (for_object 0) (begun place 0 h.one);
               told = g.told;
               hands = h.hands;
@@ -170,7 +212,7 @@ module _ (sys : System) (x : Cursor) (v : LaneView) (at : IsCursorAt sys x v) (c
             one = next;
           }
 
-      pub stops-asserted : Asserts sys s place 0 v w → SourceStops sys x (record x { begun = place }) v w
+      pub stops-asserted : Asserts sys s place 0 v w → SourceStops sys x x v w
       stops-asserted h =
           let h2 = subst (λ p. Asserts sys s p 0 v w) next h in
           let g : GrowsOf 0 (begun place 0 h.one) v h.mid = subst (λ o. GrowsOf o (begun place 0 h.one) v h.mid) here.none h.grows in
@@ -182,7 +224,7 @@ module _ (sys : System) (x : Cursor) (v : LaneView) (at : IsCursorAt sys x v) (c
             keeps = same-stops h.code v h.mid w (same-gains _ v h.mid g) h.stops;
           }
 
-      pub stops-spilled : Spills sys s place 0 v w → SourceStops sys x (record x { begun = place }) v w
+      pub stops-spilled : Spills sys s place 0 v w → SourceStops sys x x v w
       stops-spilled h =
           let h2 = subst (λ p. Spills sys s p 0 v w) next h in
           let g : GrowsOf 0 (begun place 0 h.one) v h.mid = subst (λ o. GrowsOf o (begun place 0 h.one) v h.mid) here.none h.grows in
@@ -195,7 +237,7 @@ module _ (sys : System) (x : Cursor) (v : LaneView) (at : IsCursorAt sys x v) (c
             keeps = same-stops 6 v h.halts.full w (same-then v h.mid h.halts.full (same-gains _ v h.mid g) (same-gains _ h.mid h.halts.full h.halts.spills)) h.halts.stops;
           }
 
-      pub stops-full : HaltsFull v w → SourceStops sys x (record x { begun = place }) v w
+      pub stops-full : HaltsFull v w → SourceStops sys x x v w
       stops-full h =
           let told : w.told ≡ v.told ++ for_object 0 (plain (body.Spill (length v.told))) ∷ [] = ap (λ u. u.told) h.stops ∙ h.spills.told in
           record {
@@ -206,7 +248,7 @@ module _ (sys : System) (x : Cursor) (v : LaneView) (at : IsCursorAt sys x v) (c
             keeps = same-stops 6 v h.full w (same-gains _ v h.full h.spills) h.stops;
           }
 
-      pub stops-here : Stimulates sys s place 0 v w stimulated.Stopped → SourceStops sys x (record x { begun = place }) v w
+      pub stops-here : Stimulates sys s place 0 v w stimulated.Stopped → SourceStops sys x x v w
       stops-here (inl h) = stops-asserted h
       stops-here (inr (inl h)) = stops-spilled h
       stops-here (inr (inr h)) = stops-full h

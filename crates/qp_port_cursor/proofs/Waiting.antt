@@ -11,7 +11,7 @@ use Rattle.qp_model.specs.Told.{ToldItem, plain, for_object}
 use Rattle.qp_model.specs.Knowing.{told_alone}
 use Rattle.qp_model.specs.Kernels.{may_try}
 use Rattle.qp_model.specs.Ends.{is_end, may_cut}
-use Rattle.qp_model.specs.Sources.{SourceEnd, SourceRuns, AfterTry, BeforeStimulus, EndsIn, none_twice, may_end}
+use Rattle.qp_model.specs.Sources.{SourceEnd, SourceRuns, AfterTry, BeforeStimulus, EndsIn, none_twice, may_end, priorities}
 use Rattle.qp_calls.specs.declared.answers.Counts as counts
 use Rattle.qp_calls.specs.LaneView.{LaneView}
 use Rattle.qp_calls.specs.Notes.{last_code}
@@ -27,11 +27,12 @@ use Rattle.qp_kernel_turns.specs.Halting.{FindsStop, Halts}
 use Rattle.qp_port_cursor.specs.declared.cursor.Cursor.{Cursor}
 use Rattle.qp_port_cursor.specs.At.{IsKnownTry, IsSourceAt, IsCursorAt, tries_in, mine, done, at_settle_in, begins_settle}
 use Rattle.qp_port_cursor.specs.Turning.{SourceStarves, SourceStops}
-use Rattle.qp_port_cursor.specs.Passing.{FindsEntry, Glances, GoesAlong, ShowsEntry, StarvesThere, StopsThere}
+use Rattle.qp_port_cursor.specs.Passing.{FindsEntry, FindsNone, Glances, GoesAlong, IsClear, ShowsEntry, StarvesThere, StopsThere}
 use Rattle.qp_port_cursor.proofs.Leaving.{Calm, still, full-lane, alone-append, no-look}
 use Rattle.qp_port_cursor.proofs.Going.{known-later, done-at, same-gains, same-stops}
 use Rattle.qp_port_cursor.proofs.Turned.{handed, same-then, spill-code}
 use Rattle.qp_port_cursor.proofs.Along.{along-glances}
+use Rattle.qp_port_cursor.proofs.Finding.{finds-dry, finds-full, finds-glanced, finds-stopped}
 
 -- looks that add nothing keep what is known of the lane
 pub source-glanced : (sys : System) (ss : List Stim) (n : ℕ) (b : Bool) (v w : LaneView) → IsSourceAt sys ss n b v → Glances v w → IsSourceAt sys ss n b w
@@ -174,18 +175,22 @@ full-hands : (v w : LaneView) → HaltsFull v w → w.hands ≡ v.hands
 unfolding hands_after hands_by
 full-hands v w f = ap (λ y. y.hands) f.stops ∙ f.spills.hands
 
-pub full-there : (sys : System) (x y : Cursor) (u v w : LaneView) → GoesAlong u v → HaltsFull v w → done y ≡ done x → SourceStops sys x y u w → StopsThere sys x y u w
-full-there sys x y u v w a f same stops = record { stops = stops; hands = full-hands v w f ∙ a.hands; same = same }
+pub full-there : (sys : System) (x y : Cursor) (u v w : LaneView) → GoesAlong u v → FindsNone sys u v → HaltsFull v w → done y ≡ done x → SourceStops sys x y u w → StopsThere sys x y u w
+full-there sys x y u v w a none f same stops = record { stops = stops; hands = full-hands v w f ∙ a.hands; same = same; finds = finds-full sys u v w none f }
 
-pub starves-there : (x y : Cursor) (u v w : LaneView) → GoesAlong u v → HaltsDry v w → done y ≡ done x → StarvesThere x y u w
-starves-there x y u v w a h same = record { starves = starves-behind u v w a h; hands = ap (λ z. z.hands) h.stops ∙ a.hands; same = same }
+pub starves-there : (sys : System) (x y : Cursor) (u v w : LaneView) → GoesAlong u v → FindsNone sys u v → HaltsDry v w → done y ≡ done x → StarvesThere sys x y u w
+starves-there sys x y u v w a none h same = record { starves = starves-behind u v w a h; hands = ap (λ z. z.hands) h.stops ∙ a.hands; same = same; finds = finds-dry sys u v w none h }
 
 -- `ready` has stopped the turn
-pub halts-stop : (sys : System) (x : Cursor) (v u w : LaneView) (h : Halt) → IsCursorAt sys x v → at_settle_in x ≡ true → Glances v u → h ≡ halt.Stopped → Halts u w h → StopsThere sys x x v w
-halts-stop sys x v u w h at stands g is halts = by (subst (Halts u w) is halts)
+pub halts-stop : (sys : System) (x : Cursor) (v u w : LaneView) (h : Halt) → IsCursorAt sys x v → at_settle_in x ≡ true → Glances v u → AllByRecursion (IsClear u) (priorities sys) → h ≡ halt.Stopped → Halts u w h
+    → StopsThere sys x x v w
+halts-stop sys x v u w h at stands g clear is halts = by (subst (Halts u w) is halts)
   where
     so_far : GoesAlong v u
     so_far = along-glances v u g
+
+    none : FindsNone sys v u
+    none = finds-glanced sys v u g clear
 
     here : MayStopAt sys (mine x) u
     here = may-stop-at sys x u (cursor-glanced sys x v u at g) stands
@@ -202,11 +207,12 @@ halts-stop sys x v u w h at stands g is halts = by (subst (Halts u w) is halts)
           });
       hands = ap (λ y. y.hands) f.answered ∙ so_far.hands;
       same = refl;
+      finds = finds-stopped sys v u w none f;
     }
     by (inr f) =
-        full-there sys x x v u w so_far f refl
+        full-there sys x x v u w so_far none f refl
         (stops-behind sys x v u w so_far
         (full-stops sys x u w (λ kernel end may early. stops-full sys (mine x) (done x) u here.stop here.may_stop here.calm here.runs w kernel end may early f) f))
 
-pub halts-starve : (x : Cursor) (v u w : LaneView) (h : Halt) → Glances v u → h ≡ halt.Memory → Halts u w h → StarvesThere x x v w
-halts-starve x v u w h g is halts = starves-there x x v u w (along-glances v u g) (subst (Halts u w) is halts) refl
+pub halts-starve : (sys : System) (x : Cursor) (v u w : LaneView) (h : Halt) → Glances v u → AllByRecursion (IsClear u) (priorities sys) → h ≡ halt.Memory → Halts u w h → StarvesThere sys x x v w
+halts-starve sys x v u w h g clear is halts = starves-there sys x x v u w (along-glances v u g) (finds-glanced sys v u g clear) (subst (Halts u w) is halts) refl

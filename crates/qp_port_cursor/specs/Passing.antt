@@ -1,5 +1,5 @@
 -- What passing a `settle` comes to.
-use Rattle.std.specs.Prelude.{◌≡◌, ℕ, ◌+◌, ◌<◌, ◌≤◌, ◌==◌, ◌⊎◌, true, false, List, [], ◌∷◌, ◌++◌, map, take, drop, cond, IsTrue, Some, None}
+use Rattle.std.specs.Prelude.{◌≡◌, ℕ, ◌+◌, ◌<◌, ◌≤◌, ◌==◌, ◌&&◌, ◌⊎◌, Bool, true, false, List, [], ◌∷◌, ◌++◌, map, take, drop, cond, IsTrue, Some, None}
 use Rattle.std.specs.declared.option.Option.{Option}
 use Rattle.std.specs.List.{AllByRecursion, count_by, list_all, list_any}
 use Rattle.qp_model.specs.declared.stimulus.Stim.{Stim}
@@ -7,6 +7,7 @@ use Rattle.qp_model.specs.declared.stimulus.Stim.TheVariants as stim
 use Rattle.qp_model.specs.declared.systems.System.{System}
 use Rattle.qp_model.specs.declared.words.Word.{Word}
 use Rattle.qp_model.specs.declared.words.Word.TheVariants as word
+use Rattle.qp_model.specs.declared.bodies.Body.{Body}
 use Rattle.qp_model.specs.declared.bodies.Body.TheVariants as body
 use Rattle.qp_model.specs.Sources.{AllDone, SeesEmpty, SeesEntry, SourceRuns, Tries, none_twice, priorities}
 use Rattle.qp_model.specs.Told.{Told, ToldItem, for_object, plain}
@@ -137,20 +138,38 @@ pub record FindsEntry (sys : System) (p : ℕ) (c : counts.Counts) (x y : Cursor
   pub shows : ShowsEntry sys p c w
   pub told : ((w.told ≡ v.told) × (y ≡ x)) ⊎ TriedOnce sys x y v w
 
--- it stopped as a turn does, with the hands as they were, and the `settle` isn't done
+-- this record shows the queue of p empty
+abbrev pub shows_empty : ℕ → Body → Bool
+shows_empty p (body.Seen q f l m) = (q == p) && (f + l == m)
+shows_empty p _ = false
+
+-- the queue of p was seen empty: the lane knows so, or one of these records tells so
+abbrev pub IsSeenClear : LaneView → List ToldItem → ℕ → Type 0
+IsSeenClear w ts p = IsClear w p ⊎ (list_any (λ i. shows_empty p i.body) (untold_all ts) ≡ true)
+
+-- No look of the call showed an entry: no record that came tells of one, and each queue was seen empty.
+pub record FindsNone (sys : System) (v w : LaneView) : Type 0 where
+  pub ts : List ToldItem
+  pub told : w.told ≡ v.told ++ ts
+  pub none : tries_in ts ≡ []
+  pub clear : AllByRecursion (IsSeenClear w ts) (priorities sys)
+
+-- It stopped as a turn does, with the hands as they were, and the `settle` isn't done. No look showed an entry.
 pub record StopsThere (sys : System) (x y : Cursor) (v w : LaneView) : Type 0 where
   pub stops : SourceStops sys x y v w
   pub hands : w.hands ≡ v.hands
   pub same : done y ≡ done x
+  pub finds : FindsNone sys v w
 
 -- so it did for want of memory
-pub record StarvesThere (x y : Cursor) (v w : LaneView) : Type 0 where
+pub record StarvesThere (sys : System) (x y : Cursor) (v w : LaneView) : Type 0 where
   pub starves : SourceStarves v w
   pub hands : w.hands ≡ v.hands
   pub same : done y ≡ done x
+  pub finds : FindsNone sys v w
 
 abbrev pub Passes : System → Cursor → Cursor → LaneView → LaneView → Passed → Type 0
 Passes sys x y v w passed.Yes = HasPassed sys x y v w
 Passes sys x y v w (passed.Found p now) = FindsEntry sys p now x y v w
 Passes sys x y v w passed.Stopped = StopsThere sys x y v w
-Passes sys x y v w passed.Memory = StarvesThere x y v w
+Passes sys x y v w passed.Memory = StarvesThere sys x y v w

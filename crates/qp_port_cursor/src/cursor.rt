@@ -7,7 +7,7 @@ ghost use Rattle.qp_port_cursor.specs.At.{at_settle_in, begins_settle, left_in, 
 use qp_model::{Stim, Stimuli};
 
 /// A source of the stimuli, by its number from 1, in the lane with this number: how many of its stimuli have begun, and whether
-/// the last of them is a `settle` that isn't done.
+/// the last of them is a `settle` that isn't done. One at which a turn stopped isn't counted.
 #[derive(Drop)]
 pub struct Cursor<'a> {
     pub(crate) stim: &'a Stimuli,

@@ -3,7 +3,7 @@
 ghost use Rattle.std.specs.Prelude.{◌≡◌, ◌<◌};
 ghost use Rattle.qp_model.specs.Sound.{IsSound};
 ghost use Rattle.qp_port_cursor.specs.At.{IsCursorAt};
-ghost use Rattle.qp_port_cursor.specs.Turning.{DoesNext, IsSameSource, SourceTurns};
+ghost use Rattle.qp_port_cursor.specs.Turning.{DoesNext, IsSameSource, NextBreaks, SourceTurns, UnlessIdle};
 
 use crate::cursor::Cursor;
 use qp_base::Steps;
@@ -15,7 +15,7 @@ use qp_tells::Tells;
 use std::marker::Brand;
 use std::sync::ledger::{Blank, Ledger};
 
-/// Does the next stimulus; where the turn ends, how.
+/// Does the next stimulus; where the turn ends, how. A stimulus that doesn't come to its end doesn't move the cursor.
 fn do_next<O: Ops, G: Tells, L: Ledger>(
     ops: &mut O,
     sys: &System,
@@ -26,6 +26,7 @@ fn do_next<O: Ops, G: Tells, L: Ledger>(
     requires sound { IsSound sys.now }
     requires knows { IsCursorAt sys.now source.old (O.lane ops.old) }
     ensures does { DoesNext sys.now source.old source.new (O.lane ops.old) (O.lane ops.new) result }
+    ensures breaks { NextBreaks sys.now source.old source.new (O.lane ops.old) (O.lane ops.new) result }
     ensures same { IsSameSource source.old source.new }
 {
     if source.settling {
@@ -46,9 +47,11 @@ fn do_next<O: Ops, G: Tells, L: Ledger>(
     }
     let place = source.begun + 1;
     let answer = stimulus(ops, sys, s, place, 0, steps, source.lane, gate);
-    source.begun = place;
     match answer {
-        Stimulated::Done => None,
+        Stimulated::Done => {
+            source.begun = place;
+            None
+        }
         Stimulated::Tried => Some(Turn::Stopped),
         Stimulated::Stopped => Some(Turn::Stopped),
         Stimulated::Memory => Some(Turn::Memory),
@@ -69,6 +72,7 @@ fn turn_in<O: Ops, G: Tells, L: Ledger>(
     requires sound { IsSound sys.now }
     requires knows { IsCursorAt sys.now source.old (O.lane ops.old) }
     ensures turns { SourceTurns sys.now source.old source.new (O.lane ops.old) (O.lane ops.new) result }
+    ensures breaks { UnlessIdle sys.now source.old source.new (O.lane ops.old) (O.lane ops.new) result }
     ensures same { IsSameSource source.old source.new }
 {
     let mut steps = Steps::<L>::open(blank);
@@ -95,6 +99,7 @@ pub fn source_turn<O: Ops, G: Tells>(
     requires sound { IsSound sys.now }
     requires knows { IsCursorAt sys.now source.old (O.lane ops.old) }
     ensures turns { SourceTurns sys.now source.old source.new (O.lane ops.old) (O.lane ops.new) result }
+    ensures breaks { UnlessIdle sys.now source.old source.new (O.lane ops.old) (O.lane ops.new) result }
     ensures same { IsSameSource source.old source.new }
 {
     turn_in::<O, G, Brand>(ops, sys, source, gate, Blank::new(1))

@@ -1,4 +1,5 @@
 pub mod Lanes
+pub mod Never
 pub mod Resting
 pub mod Stepping
 pub mod Beginning

@@ -1,5 +1,5 @@
 -- An object at rest: its queue is found empty, or its lane ends.
-use Rattle.std.proofs.Common.{◌≡◌, ℕ, ◌+◌, ◌<◌, ◌≤◌, ◌==◌, Bool, true, false, ◌&&◌, List, [], ◌∷◌, ◌++◌, length, refl, sym, ◌∙◌, ap, subst, inl, inr, Some, arith, append-nil, append_assoc, cond, IsTrue}
+use Rattle.std.proofs.Common.{◌≡◌, ℕ, ◌+◌, ◌<◌, ◌≤◌, ◌==◌, nat_le, Bool, true, false, ◌&&◌, List, [], ◌∷◌, ◌++◌, length, refl, sym, ◌∙◌, ap, subst, inl, inr, Some, arith, append-nil, append_assoc, cond, IsTrue}
 use Rattle.std.specs.Bool.{MatchBool}
 use Rattle.std.proofs.lemmas.Bool.{and_parts}
 use Rattle.std.proofs.lemmas.Bool.Decides.{nat_tests}
@@ -42,7 +42,9 @@ use Rattle.qp_port_home_law.proofs.HomeRecords.{last-append}
 use Rattle.qp_port_home_law.proofs.HomeLaws.{full_home_ends, look_is_told, nil_is_told, own_rises, resting_home_ends, resting_home_leaves, spent_home_ends}
 use Rattle.qp_port_home.specs.declared.home.Home.{Home}
 use Rattle.qp_port_home.specs.At.{IsHome, IsIn}
-use Rattle.qp_port_home.specs.Turning.{HomeHalts, HomeIdles, HomeStops}
+use Rattle.qp_port_home.proofs.Lanes.{counts-goes}
+use Rattle.qp_kernel_turns.proofs.Lanes.{goes-none}
+use Rattle.qp_port_home.specs.Turning.{HomeHalts, HomeIdles, HomeStops, IsToLook, KnowsEntry, StaysEmpty}
 
 pub home-of : (sys : System) (sound : IsSound sys) (d : ObjectDef) (chart : Chart) → object_at sys d.priority ≡ Some d → chart_at sys d.chart ≡ Some chart → IsHomeOf sys d chart
 home-of sys sound d chart found its = record { some = numbered sys sound d found; its = its; able = able sys sound d chart found its }
@@ -284,15 +286,43 @@ module _ (sys : System) (sound : IsSound sys) (budget : ℕ) (x : Home) (v : Lan
       (pass-both h.d.priority (seen_told h.d.priority c.f c.l c.m ∷ []) (for_object h.d.priority (plain body.Spent) ∷ []) (pass-kernel h.d.priority (plain (body.Seen h.d.priority c.f c.l c.m)) its.some) (pass-spent h.d.priority h.d.priority))
       (λ end early. spent_home_ends sys h.d h.chart budget end (v.own h.d.priority) x.looked v.told h.es h.c c.f c.l c.m its early h.records (is-l w1 c sees) (is-m w1 c sees) some (is-full full))
 
-  -- the look by `counts` behind an empty one shows no less than a `seen` behind it
-  pub never-twice : (w1 w2 : LaneView) (c d : counts.Counts) → Counted x.me v w1 c → Sees x.me w1 w2 d → c.m < c.f + c.l → d.f + d.l ≤ d.m → ⊥
-  never-twice w1 w2 c d counted sees some none =
-      let one = counted.1.own (counted.0.serves x.me ∙ my-serves) in
-      let two = sees.1.own (sees.0.grows.serves x.me ∙ counted.0.serves x.me ∙ my-serves) in
-      let own : w2.own x.me ≡ w1.own x.me = sees.0.grows.own x.me ∙ seen-own x.me x.me d.f d.l d.m (w1.own x.me) in
-      let l-is : d.l ≡ c.l = two.0 ∙ ap (λ o. o.l) own ∙ sym one.0 in
-      let m-is : d.m ≡ c.m = two.1 ∙ ap (λ o. o.m) own ∙ sym one.1 in
-      let before = counted.0.here in
-      let after : w2.mark (word.Queue x.me) ≡ d.f + d.l + d.m = sees.0.grows.mark (word.Queue x.me) ∙ seen-mark_own x.me (w1.mark (word.Queue x.me)) d.f d.l d.m in
-      let up = sees.0.grows.rise (word.Queue x.me) in
-      absurd (omega (arith, some, none, l-is, m-is, before, after, up))
+  -- a look that adds nothing showed an entry
+  pub counts-entry : (w : LaneView) (c : counts.Counts) → Counted x.me v w c → c.m < c.f + c.l → KnowsEntry x.me w
+  counts-entry w c looks some =
+      let own = looks.1.own (looks.0.serves x.me ∙ my-serves) in
+      let l-is = own.0 in
+      let m-is = own.1 in
+      let here = looks.0.here in
+      record { f = c.f; mark = omega (arith, here, l-is, m-is); some = omega (arith, some, l-is, m-is) }
+
+  -- nothing is known of the queue
+  pub to-look : x.looked ≡ false → IsToLook sys budget x v v
+  to-look unseen = record { home = h; goes = goes-none false v; told = refl; spare = refl; entry = λ seen. absurd (let wrong : true ≡ false = sym seen ∙ unseen in cc) }
+
+  -- it was found empty, and is so still, or isn't
+  pub stays : (w : LaneView) (c : counts.Counts) → Counted x.me v w c → x.looked ≡ true → (b : Bool) → nat_le (c.f + c.l) c.m ≡ b → StaysEmpty sys budget x v w b
+  stays w c looks seen true e = (counts-idles w c looks seen (grind (arith, nat_tests, e)), counts-goes x.me v w c looks)
+  stays w c looks seen false e = record {
+    home = counts-home w c looks;
+    goes = counts-goes x.me v w c looks;
+    told = looks.0.told;
+    spare = looks.0.spare;
+    entry = λ on. counts-entry w c looks (grind (arith, nat_tests, e));
+  }
+
+  -- a `seen` shows no less than what the lane knew
+  pub unlooked : (w : LaneView) (d : counts.Counts) → (x.looked ≡ true → KnowsEntry x.me v) → Sees x.me v w d → d.f + d.l ≤ d.m → x.looked ≡ false
+  unlooked w d knows sees none = by x.looked refl
+    where
+      by : (b : Bool) → x.looked ≡ b → x.looked ≡ false
+      by false e = e
+      by true e =
+          let k = knows e in
+          let shown = sees.1.own (sees.0.grows.serves x.me ∙ my-serves) in
+          let l-is : d.l ≡ (v.own x.me).l = shown.0 ∙ ap (λ o. o.l) (own-seen w d sees) in
+          let m-is : d.m ≡ (v.own x.me).m = shown.1 ∙ ap (λ o. o.m) (own-seen w d sees) in
+          let before = k.mark in
+          let some = k.some in
+          let after : w.mark (word.Queue x.me) ≡ d.f + d.l + d.m = sees.0.grows.mark (word.Queue x.me) ∙ seen-mark_own x.me (v.mark (word.Queue x.me)) d.f d.l d.m in
+          let up = sees.0.grows.rise (word.Queue x.me) in
+          absurd (omega (arith, some, none, l-is, m-is, before, after, up))

@@ -14,7 +14,8 @@ use Rattle.qp_model.specs.Sites.{object_at}
 use Rattle.qp_model.specs.Sound.{IsSound}
 use Rattle.qp_model.specs.Standing.{Advances}
 use Rattle.qp_model.specs.Step.{GoesOn, Remainder, moment, publishing_left, tasks_left}
-use Rattle.qp_model.specs.Told.{Event, Told, ToldItem, for_object}
+use Rattle.qp_model.specs.declared.bodies.Body.TheVariants as body
+use Rattle.qp_model.specs.Told.{Event, Told, ToldItem, for_object, plain}
 use Rattle.qp_model.proofs.AbleLemmas.{some-same}
 use Rattle.qp_calls.specs.declared.tokens.Entry.TheVariants as token
 use Rattle.qp_calls.specs.Clauses.{entry_of}
@@ -34,22 +35,25 @@ use Rattle.qp_dispatch.specs.declared.steps.Step.TheVariants as step
 use Rattle.qp_dispatch.specs.Lasts.{actor_of, config_of}
 use Rattle.qp_dispatch.specs.Objects.{MayResume, ObjectResumes, ResumesAs, home_of, works_for}
 use Rattle.qp_dispatch.specs.Parts.{held_by, left_by as left_by_under}
-use Rattle.qp_dispatch.specs.Resume.{EndsAsserted, EndsSpilled, IsGoing, IsUnderWay, ToEnd, ToPoint, event_in, held_in, left_of, step_entry}
+use Rattle.qp_dispatch.specs.Resume.{BeginsOn, EndsAsserted, EndsSpilled, IsGoing, IsUnderWay, ToEnd, ToPoint, event_in, held_in, left_of, step_entry}
 use Rattle.qp_dispatch.specs.Resume.{IsReady as ObjectReady}
 use Rattle.qp_dispatch.specs.Runs.{Setting, hand_of, tasks_in}
 use Rattle.qp_kernel.specs.Stages.{IsReady, closes}
 use Rattle.qp_kernel.specs.Turning.{spill_told}
-use Rattle.qp_kernel.proofs.TurnLemmas.{cut-calm}
+use Rattle.qp_kernel.proofs.TurnLemmas.{BehindIt, CutForm, WithinIt, cut-calm, cut-form, done-form, failed-form}
 use Rattle.qp_port_law.specs.Homes.{HomeEnds}
 use Rattle.qp_kernel_turns.specs.Knowing.{IsInTurn, own_count}
 use Rattle.qp_kernel_turns.proofs.Closing.{closes-left}
 use Rattle.qp_kernel_turns.proofs.SoundObjects.{ready}
 use Rattle.qp_kernel_turns.proofs.Stepping.{under-way-by}
 use Rattle.qp_port_home_law.specs.Laws.{HasMore, IsBusy, IsHomeOf, Rests}
+use Rattle.qp_port_home_law.proofs.HomeRecords.{AreInside, drops-inside, inside-then, own-inside}
+use Rattle.qp_port_home_law.proofs.HomeSteps.{done-inside, point-inside}
 use Rattle.qp_port_home_law.proofs.HomeLaws.{home_step_ends, home_step_fails, home_step_is_cut, home_step_pauses, waiting_home_ends}
 use Rattle.qp_port_home.specs.declared.home.Home.{Home}
 use Rattle.qp_port_home.specs.At.{IsBusyHome, IsHome, IsIn}
-use Rattle.qp_port_home.specs.Turning.{HomeStops}
+use Rattle.qp_port_home.specs.Turning.{HomeStops, NeverEmpty}
+use Rattle.qp_port_home.proofs.Never.{never-inside, never-same, never-spilled, never-then}
 use Rattle.qp_port_home.proofs.Resting.{home-of, more-own}
 use Rattle.std.proofs.lemmas.List.{length-map}
 use Rattle.std.proofs.Common.{length-append}
@@ -302,6 +306,41 @@ module _ (sys : System) (sound : IsSound sys) (budget : ℕ) (waits : Bool) (x :
     where
       goes : GoesOn sys (actor h.d h.chart) h.ev h.e h.left h.c (tell b.g ++ b.begins.0) b.begins.1
       goes = as-known (λ s a ev e left c. GoesOn s a ev e left c (tell b.g ++ b.begins.0) b.begins.1) b.begins.2
+
+  -- No look stands among the records of a step.
+
+  cut-inside : (g : List Told) → BeginsOn V.sys (actor_of x.object.me h.chart k) (event_in st V) (step_entry st) (left_of home k st V) (config_of k) g → AreInside g
+  cut-inside g begins =
+      let closed = h.records.1.ready.closing in
+      let goes = as-known (λ s a ev e left c. GoesOn s a ev e left c (tell g ++ begins.0) begins.1) begins.2 in
+      by (cut-form sys (actor h.d h.chart) h.ev h.e h.left h.c closed g begins.0 begins.1 (cut-calm sys (actor h.d h.chart) h.ev h.e h.left h.c closed g begins.0 begins.1 begins.3 goes) goes)
+    where
+      by : CutForm g → AreInside g
+      by (WithinIt own) = own-inside g own
+      by (BehindIt front rel whole own drops) = subst AreInside (sym whole) (inside-then front (plain body.Done ∷ rel) (own-inside front own) (refl, drops-inside rel drops))
+
+  pub never-step : (level : ℕ) (y : Object) (w : LaneView) (answer : Step) → ObjectResumes sys x.ceiling level x.object y v w answer → NeverEmpty v w
+  never-step level y w answer r = by answer r.0 (subst (λ c. ResumesAs c sys x.ceiling level x.object y V r.0 answer) has-chart r.1) r.2
+    where
+      by : (answer : Step) (mid : LaneView) → ResumesAs (Some h.chart) sys x.ceiling level x.object y V mid answer → w ≡ works_for v.by mid → NeverEmpty v w
+      by step.Point mid (same, t) is =
+          never-inside o t.g v w (ap (λ u. u.told) is ∙ grown t.g mid t.grows)
+          (point-inside sys h.d h.chart its.some waits v.told h.es h.ev h.e h.left h.c h.records.1 (due level y mid w is same t) (config_of y.lasting) t.g
+          (as-known (λ s a ev e left c. Advances s a ev e left c (tell t.g ++ Point ∷ []) (due level y mid w is same t) (config_of y.lasting)) t.advances) (ready-due level y mid w is same t)).0
+      by step.Done mid (same, t) is =
+          never-inside o t.1.g v w (ap (λ u. u.told) is ∙ grown t.1.g mid t.1.grows)
+          (done-inside t.1.g
+          (done-form sys (actor h.d h.chart) h.ev h.e h.left h.c h.records.1.ready.closing t.1.g (config_of y.lasting)
+          (as-known (λ s a ev e left c. GoesOn s a ev e left c (tell t.1.g) (Some (config_of y.lasting))) t.1.goes)))
+      by step.Stopped mid (same, inl a) is =
+          never-inside o a.g v w (ap (λ u. u.told) is ∙ ap (λ u. u.told) a.stops ∙ grown a.g a.mid a.grows)
+          (own-inside a.g
+          (failed-form sys (actor h.d h.chart) h.ev h.e h.left h.c h.records.1.ready.closing o a.g (as-known (λ s a1 ev e left c. GoesOn s a1 ev e left c (tell a.g) None) a.goes)).own)
+      by step.Stopped mid (same, inr b) is =
+          never-then v b.mid w (never-inside o b.g v b.mid (grown b.g b.mid b.grows) (cut-inside b.g b.begins))
+          (never-spilled (length b.mid.told) b.mid w (ap (λ u. u.told) is ∙ ap (λ u. u.told) b.stops ∙ b.spills.told))
+      by step.Memory mid (same, t) is =
+          never-then v t.mid w (never-inside o t.g v t.mid (grown t.g t.mid t.grows) (cut-inside t.g t.begins)) (never-same t.mid w (ap (λ u. u.told) is ∙ ap (λ u. u.told) t.dry.stops))
 
   -- what going on comes to
   abbrev pub AfterStep : ℕ → Object → LaneView → Step → Type 0

@@ -1,6 +1,7 @@
 -- What the start and the turn of an object come to.
-use Rattle.std.specs.Prelude.{◌≡◌, ℕ, true, false, Bool, Some, Ok, Err}
+use Rattle.std.specs.Prelude.{◌≡◌, ℕ, ◌+◌, ◌<◌, nat_lt, true, false, Bool, List, [], ◌++◌, Some, Ok, Err}
 use Rattle.std.specs.declared.result.Result.{Result}
+use Rattle.std.specs.List.{list_all}
 use Rattle.qp_chart.specs.declared.checked.Chart.{Chart}
 use Rattle.qp_model.specs.declared.systems.System.{System}
 use Rattle.qp_model.specs.declared.systems.ObjectDef.{ObjectDef}
@@ -8,6 +9,8 @@ use Rattle.qp_model.specs.Ends.{may_cut}
 use Rattle.qp_model.specs.Course.{chart_at}
 use Rattle.qp_model.specs.OutputSummary.{CourseLeaves}
 use Rattle.qp_model.specs.Sites.{object_at}
+use Rattle.qp_model.specs.Told.{ToldItem}
+use Rattle.qp_model.specs.declared.words.Word.TheVariants as word
 use Rattle.qp_calls.specs.Clauses.{last_nil}
 use Rattle.qp_calls.specs.LaneView.{Counts, LaneView, NotShown}
 use Rattle.qp_dispatch.specs.declared.objects.Turn.{Turn}
@@ -18,8 +21,10 @@ use Rattle.qp_dispatch.specs.Lasts.{config_of}
 use Rattle.qp_kernel.specs.ZeroEnds.{own_told}
 use Rattle.qp_kernel_turns.specs.declared.halting.Halt.{Halt}
 use Rattle.qp_kernel_turns.specs.declared.halting.Halt.TheVariants as halt
+use Rattle.qp_kernel_turns.specs.Lanes.{LaneGoes}
 use Rattle.qp_kernel_turns.specs.Ordering.{IsSeenEmpty}
 use Rattle.qp_port_law.specs.Homes.{HomeEnds}
+use Rattle.qp_port_home_law.specs.HomeLanes.{looks_in, nils_in}
 use Rattle.qp_port_home.specs.declared.home.Home.{Home}
 use Rattle.qp_port_home.specs.At.{IsBusyHome, IsHome}
 
@@ -68,3 +73,49 @@ NextTo sys budget me y w (Err h) = HomeHalts sys budget me y w h
 abbrev pub StepsTo : System → ℕ → ℕ → Home → LaneView → Result (Unit {0}) Halt → Type 0
 StepsTo sys budget me y w (Ok u) = IsHome sys budget y w
 StepsTo sys budget me y w (Err h) = HomeHalts sys budget me y w h
+
+-- a look that showed an entry
+abbrev pub is_entry : ℕ × ℕ × ℕ → Bool
+is_entry x = nat_lt x.2 (x.0 + x.1)
+
+-- No look of which the lane has told since found the queue empty: no `nil` came, and each look in the place of a take showed an entry.
+pub record NeverEmpty (v w : LaneView) : Type 0 where
+  pub ts : List ToldItem
+  pub told : w.told ≡ v.told ++ ts
+  pub nils : nils_in ts ≡ []
+  pub looks : list_all is_entry (looks_in ts) ≡ true
+
+-- so it is where the turn didn't find the queue empty, or nothing says so yet
+abbrev pub UnlessIdle : LaneView → LaneView → Turn → Type 0
+UnlessIdle v w turn.Idle = Unit {0}
+UnlessIdle v w turn.Stopped = NeverEmpty v w
+UnlessIdle v w turn.Memory = NeverEmpty v w
+
+abbrev pub UnlessFound : LaneView → LaneView → Result (Unit {0}) Halt → Type 0
+UnlessFound v w (Ok u) = Unit {0}
+UnlessFound v w (Err h) = NeverEmpty v w
+
+abbrev pub UnlessOver : LaneView → LaneView → Result Bool Halt → Type 0
+UnlessOver v w (Ok true) = NeverEmpty v w
+UnlessOver v w (Ok false) = Unit {0}
+UnlessOver v w (Err h) = NeverEmpty v w
+
+-- the lane has seen an entry in the queue of its object
+pub record KnowsEntry (me : ℕ) (v : LaneView) : Type 0 where
+  pub f : ℕ
+  pub mark : v.mark (word.Queue me) ≡ f + (v.own me).l + (v.own me).m
+  pub some : (v.own me).m < f + (v.own me).l
+
+-- An object at its budget whose queue isn't known to be empty. It rests as before, with no record more; where its queue was found empty earlier, an
+-- entry has come.
+pub record IsToLook (sys : System) (budget : ℕ) (x : Home) (v w : LaneView) : Type 0 where
+  pub home : IsHome sys budget x w
+  pub goes : LaneGoes false v w
+  pub told : w.told ≡ v.told
+  pub spare : w.spare ≡ v.spare
+  pub entry : x.looked ≡ true → KnowsEntry x.me w
+
+-- its queue was found empty, and is so still
+abbrev pub StaysEmpty : System → ℕ → Home → LaneView → LaneView → Bool → Type 0
+StaysEmpty sys budget x v w true = HomeIdles sys budget x w × LaneGoes false v w
+StaysEmpty sys budget x v w false = IsToLook sys budget x v w

@@ -72,11 +72,4 @@ impl Home {
     {
         self.object.leaf().is_some() && !self.busy
     }
-
-    /// Leaves the entries that it keeps, without a record.
-    pub fn end<O: Ops>(self, ops: &mut O)
-        ensures { O.lane ops.new ≡ O.lane ops.old }
-    {
-        self.object.end(ops);
-    }
 }

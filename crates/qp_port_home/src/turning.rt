@@ -4,7 +4,7 @@ ghost use Rattle.std.specs.Prelude.{◌≡◌, ◌≤◌, false};
 ghost use Rattle.qp_model.specs.Sound.{IsSound};
 ghost use Rattle.qp_kernel_turns.specs.Lanes.{LaneTo, LaneTurns};
 ghost use Rattle.qp_port_home.specs.At.{IsBusyHome, IsHome};
-ghost use Rattle.qp_port_home.specs.Turning.{HomeTurns, LooksTo, NextTo, StepsTo};
+ghost use Rattle.qp_port_home.specs.Turning.{HomeTurns, LooksTo, NeverEmpty, NextTo, StaysEmpty, StepsTo, UnlessFound, UnlessIdle, UnlessOver};
 
 use crate::home::Home;
 use qp_calls::{Ops, Take};
@@ -14,6 +14,21 @@ use qp_model::{Rec, System};
 use qp_tells::Tells;
 use std::sync::Wait;
 
+/// Whether the queue was found empty in the place of a take, and is so still. This look adds no record.
+fn stays_empty<O: Ops>(ops: &mut O, sys: &System, home: &Home, budget: u32) -> bool
+    requires sound { IsSound sys.now }
+    requires knows { IsHome sys.now budget home.now (O.lane ops.old) }
+    ensures { StaysEmpty sys.now budget home.now (O.lane ops.old) (O.lane ops.new) result }
+{
+    let _ = sys;
+    let _ = budget;
+    if !home.looked {
+        return false;
+    }
+    let now = ops.counts(home.me);
+    u64::from(now.f) + u64::from(now.l) <= u64::from(now.m)
+}
+
 /// The object has taken its budget: its queue is looked at in the place of a take. It stands empty, or ends the lane.
 fn look_only<O: Ops>(ops: &mut O, sys: &System, home: &mut Home, budget: u32) -> Result<(), Halt>
     requires sound { IsSound sys.now }
@@ -21,16 +36,14 @@ fn look_only<O: Ops>(ops: &mut O, sys: &System, home: &mut Home, budget: u32) ->
     requires full { budget ≤ home.old.object.taken }
     requires room { 8 ≤ (O.lane ops.old).spare }
     ensures goes { LooksTo sys.now budget home.old.me home.new (O.lane ops.new) result }
+    ensures never { UnlessFound (O.lane ops.old) (O.lane ops.new) result }
     ensures lane { LaneTo false (O.lane ops.old) (O.lane ops.new) result }
     ensures same { home.new.me ≡ home.old.me }
 {
-    let _ = sys;
-    let _ = budget;
-    let me = home.me;
-    let now = ops.counts(me);
-    if home.looked && u64::from(now.f) + u64::from(now.l) <= u64::from(now.m) {
+    if stays_empty(ops, sys, home, budget) {
         return Ok(());
     }
+    let me = home.me;
     let now = ops.seen(me);
     if u64::from(now.f) + u64::from(now.l) <= u64::from(now.m) {
         home.looked = true;
@@ -55,6 +68,7 @@ fn next<R: Wait, O: Ops, G: Tells>(
     requires few { budget ≤ 1000000 }
     requires knows { IsHome sys.now budget home.old (O.lane ops.old) }
     ensures goes { NextTo sys.now budget home.old.me home.new (O.lane ops.new) result }
+    ensures never { UnlessOver (O.lane ops.old) (O.lane ops.new) result }
     ensures lane { LaneTo false (O.lane ops.old) (O.lane ops.new) result }
     ensures same { home.new.me ≡ home.old.me }
 {
@@ -85,6 +99,7 @@ fn finish<R: Wait, O: Ops>(
     requires sound { IsSound sys.now }
     requires knows { IsBusyHome sys.now budget false home.old (O.lane ops.old) }
     ensures goes { StepsTo sys.now budget home.old.me home.new (O.lane ops.new) result }
+    ensures never { NeverEmpty (O.lane ops.old) (O.lane ops.new) }
     ensures lane { LaneTo false (O.lane ops.old) (O.lane ops.new) result }
     ensures same { home.new.me ≡ home.old.me }
 {
@@ -121,6 +136,7 @@ fn rounds<R: Wait, O: Ops, G: Tells>(
     requires few { budget ≤ 1000000 }
     requires knows { IsHome sys.now budget home.old (O.lane ops.old) }
     ensures goes { LooksTo sys.now budget home.old.me home.new (O.lane ops.new) result }
+    ensures never { UnlessFound (O.lane ops.old) (O.lane ops.new) result }
     ensures lane { LaneTo false (O.lane ops.old) (O.lane ops.new) result }
     ensures same { home.new.me ≡ home.old.me }
 {
@@ -149,6 +165,7 @@ pub fn object_turn<R: Wait, O: Ops, G: Tells>(
     requires few { budget ≤ 1000000 }
     requires knows { IsHome sys.now budget home.old (O.lane ops.old) }
     ensures goes { HomeTurns sys.now budget home.old.me home.new (O.lane ops.new) result }
+    ensures never { UnlessIdle (O.lane ops.old) (O.lane ops.new) result }
     ensures lane { LaneTurns false (O.lane ops.old) (O.lane ops.new) result }
     ensures same { home.new.me ≡ home.old.me }
 {

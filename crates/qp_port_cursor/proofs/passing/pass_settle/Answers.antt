@@ -15,10 +15,10 @@ ready-requires g c = ap spills_in c.in_default.ensures.0.told ∙ unspilled-told
 
 pub returns-in-Err-Stopped-clause-passes : goal.returns-in-Err-Stopped-clause-passes
 returns-in-Err-Stopped-clause-passes g c =
-    halts-stop c.args.sys.now c.args.source.now _ (g.O.Ops.lane c.look.new.ops) _ c.in-Err-Stopped.field-0 c.requires.knows c.requires.stands c.in_default.ensures.0 c.in-Err-Stopped.field-0-is c.in-Err-Stopped.ensures
+    halts-stop c.args.sys.now c.args.source.now _ (g.O.Ops.lane c.look.new.ops) _ c.in-Err-Stopped.field-0 c.requires.knows c.requires.stands c.in_default.ensures.0 c.in_default.ensures.1 c.in-Err-Stopped.field-0-is c.in-Err-Stopped.ensures
 
 pub returns-in-Err-Memory-clause-passes : goal.returns-in-Err-Memory-clause-passes
-returns-in-Err-Memory-clause-passes g c = halts-starve c.args.source.now _ (g.O.Ops.lane c.look.new.ops) _ c.in-Err-Memory.field-0 c.in_default.ensures.0 c.in-Err-Memory.field-0-is c.in-Err-Memory.ensures
+returns-in-Err-Memory-clause-passes g c = halts-starve c.args.sys.now c.args.source.now _ (g.O.Ops.lane c.look.new.ops) _ c.in-Err-Memory.field-0 c.in_default.ensures.0 c.in_default.ensures.1 c.in-Err-Memory.field-0-is c.in-Err-Memory.ensures
 
 pub halt-requires-clause-spills : goal.halt-requires-clause-spills
 halt-requires-clause-spills g c =

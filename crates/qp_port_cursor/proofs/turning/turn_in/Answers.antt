@@ -1,7 +1,7 @@
 use Rattle.std.proofs.Common.{◌≡◌, ℕ, ◌+◌, ◌-◌, List, [], length, refl, ◌∙◌, ap, arith}
 use Rattle.qp_model.specs.declared.stimulus.Stim.{Stim}
 use Rattle.qp_port_cursor.specs.At.{mine}
-use Rattle.qp_port_cursor.proofs.Turned.{any-default, goes-none, goes-then, turn-ends, turns-then}
+use Rattle.qp_port_cursor.proofs.Turned.{any-default, breaks-then, goes-none, goes-then, turn-ends, turns-then}
 use Rattle.qp_port_cursor.proofs.turning.turn_in.Goals as goal
 
 pub loop-k-init : goal.loop-k-init
@@ -9,6 +9,9 @@ loop-k-init g c = record { goes = goes-none c.args.sys.now c.args.source.now _ c
 
 pub returns-in-Some-clause-turns : goal.returns-in-Some-clause-turns
 returns-in-Some-clause-turns g c = turns-then c.args.sys.now c.args.source.now c.loop-k.source c.do_next.new.source _ (g.O.Ops.lane c.loop-k.ops) _ c.in-Some.turn c.loop-k.invariant.goes c.in-Some.ensures.does
+
+pub returns-in-Some-clause-breaks : goal.returns-in-Some-clause-breaks
+returns-in-Some-clause-breaks g c = breaks-then c.args.sys.now c.args.source.now c.loop-k.source c.do_next.new.source _ (g.O.Ops.lane c.loop-k.ops) _ c.in-Some.turn c.loop-k.invariant.goes c.in-Some.ensures.breaks
 
 pub loop-k-preserved : goal.loop-k-preserved
 loop-k-preserved g c = record {

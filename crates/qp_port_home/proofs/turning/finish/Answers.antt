@@ -1,16 +1,17 @@
-use Rattle.std.proofs.Common.{false, refl, subst, sym, true}
+use Rattle.std.proofs.Common.{ap, false, refl, subst, sym, true}
 use Rattle.qp_dispatch.specs.declared.steps.Step.TheVariants as step
 use Rattle.qp_kernel_turns.specs.declared.halting.Halt.TheVariants as halt
 use Rattle.qp_kernel_turns.specs.Lanes.{LaneGoes}
 use Rattle.qp_kernel_turns.proofs.Lanes.{finds-stop, goes-none, goes-then, halts-then}
 use Rattle.qp_port_home.specs.At.{IsBusyHome}
-use Rattle.qp_port_home.specs.Turning.{HomeStops}
+use Rattle.qp_port_home.specs.Turning.{HomeStops, NeverEmpty}
 use Rattle.qp_port_home.proofs.Lanes.{resumed}
-use Rattle.qp_port_home.proofs.Stepping.{after-step, may-resume, stops-waiting}
+use Rattle.qp_port_home.proofs.Never.{never-same, never-then}
+use Rattle.qp_port_home.proofs.Stepping.{after-step, may-resume, never-step, stops-waiting}
 use Rattle.qp_port_home.proofs.turning.finish.Goals as goal
 
 pub loop-init : goal.loop-init
-loop-init g c = record { waits = false; busy = c.requires.knows; lane = goes-none false (g.O.Ops.lane c.args.ops.now); same = refl }
+loop-init g c = record { waits = false; busy = c.requires.knows; lane = goes-none false (g.O.Ops.lane c.args.ops.now); never = never-same _ _ refl; same = refl }
 
 pub resume-requires : goal.resume-requires
 resume-requires g c = may-resume c.args.sys.now c.requires.sound c.args.budget c.loop.invariant.waits c.loop.home (g.O.Ops.lane c.loop.ops) c.loop.invariant.busy
@@ -27,6 +28,8 @@ returns-in-Some-stopped g c =
     record {
       goes = subst (λ me. HomeStops sys c.args.budget me (record x { object = c.resume.new.self; ceiling = c.resume.new.ceiling }) (lane c.stopped.new.self)) c.loop.invariant.same
           (stops-waiting sys c.requires.sound c.args.budget (record x { object = c.resume.new.self; ceiling = c.resume.new.ceiling }) w (lane c.stopped.new.self) c.in-Some-stopped.field-0 after c.in-Some-stopped.ensures.0);
+      never = never-then (lane c.args.ops.now) w (lane c.stopped.new.self) (never-then (lane c.args.ops.now) v w c.loop.invariant.never (never-step sys c.requires.sound c.args.budget c.loop.invariant.waits x v c.loop.invariant.busy c.resume.new.ceiling c.resume.new.self w step.Point c.in-Point.ensures))
+          (never-same w (lane c.stopped.new.self) (ap (λ u. u.told) c.in-Some-stopped.ensures.0));
       lane = finds-stop false c.in-Some-stopped.field-0 (lane c.args.ops.now) w (lane c.stopped.new.self) goes c.in-Some-stopped.ensures.0;
       same = c.loop.invariant.same;
     }
@@ -45,6 +48,7 @@ loop-preserved g c =
       waits = true;
       busy = subst (IsBusyHome sys c.args.budget true (record x { object = c.resume.new.self; ceiling = c.resume.new.ceiling })) still after;
       lane = subst (LaneGoes false (lane c.args.ops.now)) still goes;
+      never = subst (NeverEmpty (lane c.args.ops.now)) still (never-then (lane c.args.ops.now) v w c.loop.invariant.never (never-step sys c.requires.sound c.args.budget c.loop.invariant.waits x v c.loop.invariant.busy c.resume.new.ceiling c.resume.new.self w step.Point c.in-Point.ensures));
       same = c.loop.invariant.same;
     }
 
@@ -57,6 +61,7 @@ returns-in-Done g c =
     let w = lane c.resume.new.ops in
     record {
       goes = after-step sys c.requires.sound c.args.budget c.loop.invariant.waits x v c.loop.invariant.busy c.resume.new.ceiling c.resume.new.self w step.Done c.in-Done.ensures;
+      never = never-then (lane c.args.ops.now) v w c.loop.invariant.never (never-step sys c.requires.sound c.args.budget c.loop.invariant.waits x v c.loop.invariant.busy c.resume.new.ceiling c.resume.new.self w step.Done c.in-Done.ensures);
       lane = goes-then false (lane c.args.ops.now) v w c.loop.invariant.lane (resumed sys x.ceiling c.resume.new.ceiling x.object c.resume.new.self v w step.Done c.in-Done.ensures);
       same = c.loop.invariant.same;
     }
@@ -71,6 +76,7 @@ returns-in-Stopped g c =
     record {
       goes = subst (λ me. HomeStops sys c.args.budget me (record x { object = c.resume.new.self; ceiling = c.resume.new.ceiling }) w) c.loop.invariant.same
           (after-step sys c.requires.sound c.args.budget c.loop.invariant.waits x v c.loop.invariant.busy c.resume.new.ceiling c.resume.new.self w step.Stopped c.in-Stopped.ensures);
+      never = never-then (lane c.args.ops.now) v w c.loop.invariant.never (never-step sys c.requires.sound c.args.budget c.loop.invariant.waits x v c.loop.invariant.busy c.resume.new.ceiling c.resume.new.self w step.Stopped c.in-Stopped.ensures);
       lane = halts-then false (lane c.args.ops.now) v w halt.Stopped c.loop.invariant.lane (resumed sys x.ceiling c.resume.new.ceiling x.object c.resume.new.self v w step.Stopped c.in-Stopped.ensures);
       same = c.loop.invariant.same;
     }
@@ -83,6 +89,7 @@ returns-in-Memory g c =
     let w = lane c.resume.new.ops in
     record {
       goes = tt;
+      never = never-then (lane c.args.ops.now) v w c.loop.invariant.never (never-step c.args.sys.now c.requires.sound c.args.budget c.loop.invariant.waits x v c.loop.invariant.busy c.resume.new.ceiling c.resume.new.self w step.Memory c.in-Memory.ensures);
       lane = halts-then false (lane c.args.ops.now) v w halt.Memory c.loop.invariant.lane (resumed c.args.sys.now x.ceiling c.resume.new.ceiling x.object c.resume.new.self v w step.Memory c.in-Memory.ensures);
       same = c.loop.invariant.same;
     }

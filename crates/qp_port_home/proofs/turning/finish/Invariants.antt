@@ -1,6 +1,7 @@
 use Rattle.std.proofs.Common.{Bool, ◌≡◌, false}
 use Rattle.qp_kernel_turns.specs.Lanes.{LaneGoes}
 use Rattle.qp_port_home.specs.At.{IsBusyHome}
+use Rattle.qp_port_home.specs.Turning.{NeverEmpty}
 use Rattle.qp_port_home.proofs.turning.finish.Given as goal
 
 -- the step is under way
@@ -10,5 +11,6 @@ invariant-loop g l =
       waits : Bool;
       busy : IsBusyHome l.fn.sys l.fn.budget waits l.home (g.O.Ops.lane l.ops);
       lane : LaneGoes false (g.O.Ops.lane l.fn.ops) (g.O.Ops.lane l.ops);
+      never : NeverEmpty (g.O.Ops.lane l.fn.ops) (g.O.Ops.lane l.ops);
       same : l.home.me ≡ l.fn.home.me;
     }

@@ -3,6 +3,7 @@ use Rattle.std.proofs.lemmas.Result.{err_from_is_err_and}
 use Rattle.qp_kernel_turns.proofs.Lanes.{halts-lane}
 use Rattle.qp_port_home.proofs.Beginning.{begun}
 use Rattle.qp_port_home.proofs.Resting.{halts, object-room, resting-room, takes-none}
+use Rattle.qp_port_home.proofs.Never.{never-halts, never-room, never-then, never-took}
 use Rattle.qp_port_home.proofs.turning.next.Goals as goal
 
 pub returns-in_err-ready-clause-goes : goal.returns-in_err-ready-clause-goes
@@ -39,3 +40,20 @@ returns-in-Empty-clause-goes g c =
     let x = c.args.home.now in
     let h = resting-room sys c.requires.sound c.args.budget x (lane c.args.ops.now) c.requires.knows (lane c.ready.new.ops) c.in_ok-ready.ensures.roomier in
     takes-none sys c.requires.sound c.args.budget x (lane c.ready.new.ops) h (lane c.take.new.self) c.in-Empty.f c.in-Empty.l c.in-Empty.m c.in-Empty.ensures
+
+pub returns-in_err-ready-clause-never : goal.returns-in_err-ready-clause-never
+returns-in_err-ready-clause-never g c =
+    let p = err_from_is_err_and c.from_residual.result c.from_residual.ensures.1 in
+    rw p.1 (never-halts (g.O.Ops.lane c.args.ops.now) (g.O.Ops.lane c.ready.new.ops) c.in_err-ready.field-0.0 c.in_err-ready.ensures)
+
+pub returns-in_err-look_only-clause-never : goal.returns-in_err-look_only-clause-never
+returns-in_err-look_only-clause-never g c =
+    let lane = g.O.Ops.lane in
+    let p = err_from_is_err_and c.from_residual-in_err-look_only.result c.from_residual-in_err-look_only.ensures.1 in
+    rw p.1 (never-then (lane c.args.ops.now) (lane c.ready.new.ops) (lane c.look_only.new.ops) (never-room (lane c.args.ops.now) (lane c.ready.new.ops) c.in_ok-ready.ensures.roomier) c.in_err-look_only.ensures.never)
+
+pub returns-in-Taken-clause-never : goal.returns-in-Taken-clause-never
+returns-in-Taken-clause-never g c =
+    let lane = g.O.Ops.lane in
+    never-then (lane c.args.ops.now) (lane c.ready.new.ops) (lane c.take.new.self) (never-room (lane c.args.ops.now) (lane c.ready.new.ops) c.in_ok-ready.ensures.roomier)
+    (never-took c.args.home.now.me c.in-Taken.e (lane c.ready.new.ops) (lane c.take.new.self) c.in-Taken.ensures)

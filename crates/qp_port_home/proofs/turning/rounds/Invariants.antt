@@ -1,6 +1,7 @@
 use Rattle.std.proofs.Common.{◌≡◌, false}
 use Rattle.qp_kernel_turns.specs.Lanes.{LaneGoes}
 use Rattle.qp_port_home.specs.At.{IsHome}
+use Rattle.qp_port_home.specs.Turning.{NeverEmpty}
 use Rattle.qp_port_home.proofs.turning.rounds.Given as goal
 
 -- the object rests
@@ -9,5 +10,6 @@ invariant-loop g l =
     record {
       home : IsHome l.fn.sys l.fn.budget l.home (g.O.Ops.lane l.ops);
       lane : LaneGoes false (g.O.Ops.lane l.fn.ops) (g.O.Ops.lane l.ops);
+      never : NeverEmpty (g.O.Ops.lane l.fn.ops) (g.O.Ops.lane l.ops);
       same : l.home.me ≡ l.fn.home.me;
     }
