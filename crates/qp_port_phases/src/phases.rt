@@ -13,6 +13,7 @@ ghost use Rattle.qp_port_phases.specs.Stopping.{SameCodes};
 ghost use Rattle.qp_port_phases.specs.Rows.{CountsBy, HasCause, HasFewRows, SeesEntry, TriesCount, one_where};
 ghost use Rattle.qp_port_workers.specs.Turns.{AreReady};
 
+use crate::hook::PhaseHook;
 use crate::lanes::{Lane, Passed};
 use qp_port_workers::run_lanes;
 use std::sync::Wait;
@@ -175,11 +176,12 @@ fn look<T: Lane>(first: &mut T, others: &mut [T], objects: &[u8]) -> Option<Ende
 
 /// Runs the phases: between them the first lane meets all others and looks at the queues, and each lane at a `settle` passes
 /// it or tries to; in them all lanes take a turn, beside one another. But for the first, a phase has a cause: a `settle` was
-/// passed, or the first lane sees an entry.
-pub fn run_phases<R: Threads + Wait + Sync, T: Lane>(
+/// passed, or the first lane sees an entry. The hook is called where one begins.
+pub fn run_phases<R: Threads + Wait + Sync, T: Lane, H: PhaseHook>(
     rt: &R,
     objects: &[u8],
     workers: &mut [T],
+    hook: &mut H,
 ) -> Ended
     requires ready { AreReady T.ready workers.old }
     requires table { AreOneTable T.view objects.now workers.old }
@@ -196,6 +198,7 @@ pub fn run_phases<R: Threads + Wait + Sync, T: Lane>(
         match between(objects, workers, begun) {
             Next::Over(how) => return how,
             Next::Phase => {
+                hook.on_phase();
                 run_lanes(rt, workers);
                 begun = true;
             }
