@@ -54,8 +54,8 @@ job-send κ =
     let b = cursor-send κ in
     search (crosses, sendable) depth 60 fits 100000
 
-pub worker-send : (κ : NamedLft) (O G : RattleType) → IsSend O → IsSync G → IsSend (worker.the_row κ O G)
-worker-send κ O G o g =
+pub worker-send : (κ : NamedLft) (O G T : RattleType) → IsSend O → IsSync G → IsSync T → IsSend (worker.the_row κ O G T)
+worker-send κ O G T o g u =
     let s = system-sync in
     let t = turn-send in
     let j = job-send κ in

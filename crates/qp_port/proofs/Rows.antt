@@ -18,7 +18,8 @@ use Rattle.qp_port_workers.specs.Turns.{AreReady}
 use Rattle.qp_port_cursor.specs.At.{mine}
 use Rattle.qp_port.specs.declared.job.Job.{Job}
 use Rattle.qp_port.specs.declared.job.Job.TheVariants as job
-use Rattle.qp_port.specs.Jobs.{IsSameJob, JobEnds, JobRests, JobStands, JobStops, is_idle, is_short}
+use Rattle.qp_port_cursor.specs.Answers.{is_idle, is_short}
+use Rattle.qp_port.specs.Jobs.{IsSameJob, JobEnds, JobRests, JobStands, JobStops}
 use Rattle.qp_port.specs.Rows.{AreSameLanes, AreWorkers, IsHomeOf, IsNothing, IsRow, IsSourceOf}
 use Rattle.qp_port.specs.Workers.{IsSameWorker, MayEnd, MayTurn}
 

@@ -26,7 +26,8 @@ use Rattle.qp_port_phases.specs.Quiet.{FirstFound, HasEnded}
 use Rattle.qp_port_phases.specs.Stopping.{AnyStopped, HasStopped}
 use Rattle.qp_port.specs.declared.job.Job.{Job}
 use Rattle.qp_port.specs.Ends.{HasRun}
-use Rattle.qp_port.specs.Jobs.{JobRests, JobStops, is_idle, is_left_in, is_short}
+use Rattle.qp_port_cursor.specs.Answers.{is_idle, is_short}
+use Rattle.qp_port.specs.Jobs.{JobRests, JobStops, is_left_in}
 use Rattle.qp_port.specs.Resting.{AreShown}
 use Rattle.qp_port.specs.Rows.{AreSameLanes, IsRow}
 use Rattle.qp_port.specs.Workers.{IsSameWorker, MayBegin, MayEnd, MayTurn}

@@ -36,7 +36,8 @@ use Rattle.qp_port_cursor.specs.Passing.{Passes}
 use Rattle.qp_port_cursor.proofs.Standing.{may-stop}
 use Rattle.qp_port.specs.declared.job.Job.{Job}
 use Rattle.qp_port.specs.declared.job.Job.TheVariants as job
-use Rattle.qp_port.specs.Jobs.{JobBegins, JobEnds, JobPasses, JobRests, JobStands, JobStops, JobTurns, TurnsFrom, is_idle, is_short}
+use Rattle.qp_port_cursor.specs.Answers.{is_idle, is_short}
+use Rattle.qp_port.specs.Jobs.{JobBegins, JobEnds, JobPasses, JobRests, JobStands, JobStops, JobTurns, TurnsFrom}
 use Rattle.qp_port.specs.Workers.{MayBegin, MayEnd, MayTurn}
 
 found-priority : (o : ℕ) (ds : List ObjectDef) (d : ObjectDef) → find (λ x. x.priority == o) ds ≡ Some d → d.priority ≡ o

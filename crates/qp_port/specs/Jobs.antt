@@ -10,23 +10,13 @@ use Rattle.qp_kernel_turns.specs.Lanes.{LaneTurns}
 use Rattle.qp_port_law.specs.SourcesLeft.{SourceLeaves}
 use Rattle.qp_port_home.specs.At.{HasEmptyLane, IsHome, IsMade}
 use Rattle.qp_port_phases.specs.declared.lanes.Passed.{Passed}
-use Rattle.qp_port_phases.specs.declared.lanes.Passed.TheVariants as passed
 use Rattle.qp_port_phases.specs.Stopping.{HasStarved, HasStopped}
 use Rattle.qp_port_home.specs.Turning.{HomeStops, HomeTurns}
+use Rattle.qp_port_cursor.specs.Answers.{turn_by}
 use Rattle.qp_port_cursor.specs.At.{IsCursorAt, at_settle_in, left_in, mine}
 use Rattle.qp_port_cursor.specs.Turning.{SourceTurns}
 use Rattle.qp_port.specs.declared.job.Job.{Job}
 use Rattle.qp_port.specs.declared.job.Job.TheVariants as job
-
-abbrev pub is_idle : Turn → Bool
-is_idle turn.Idle = true
-is_idle turn.Stopped = false
-is_idle turn.Memory = false
-
-abbrev pub is_short : Turn → Bool
-is_short turn.Idle = false
-is_short turn.Stopped = false
-is_short turn.Memory = true
 
 -- a source that stands at a `settle`
 abbrev pub stands_at_settle : Job → Bool
@@ -88,13 +78,6 @@ abbrev pub TurnsFrom : System → ℕ → Turn → Job → LaneView → Turn →
 TurnsFrom sys budget turn.Idle x v t y w = JobTurns sys budget x y v w t
 TurnsFrom sys budget turn.Stopped x v t y w = (t ≡ turn.Stopped) × (y ≡ x) × (w ≡ v)
 TurnsFrom sys budget turn.Memory x v t y w = (t ≡ turn.Memory) × (y ≡ x) × (w ≡ v)
-
--- the answer of a turn that ended so
-abbrev pub turn_by : Passed → Turn
-turn_by passed.Yes = turn.Idle
-turn_by (passed.Found p now) = turn.Idle
-turn_by passed.Stopped = turn.Stopped
-turn_by passed.Memory = turn.Memory
 
 -- behind a `settle` that was passed, or tried
 abbrev pub JobPasses : System → ℕ → Passed → Job → LaneView → Type 0

@@ -6,13 +6,14 @@ ghost use Rattle.qp_port_phases.specs.Stopping.{Hears};
 ghost use Rattle.qp_model.specs.Sound.{IsSound};
 ghost use Rattle.qp_kernel_turns.specs.Lanes.{SameLane};
 ghost use Rattle.qp_port.specs.declared.job.Job.TheVariants as job;
-ghost use Rattle.qp_port.specs.Jobs.{IsSameJob, JobBegins, JobPasses, JobRests, JobStands, JobTurns, is_idle, is_left_in, is_short, stands_at_settle};
+ghost use Rattle.qp_port.specs.Jobs.{IsSameJob, JobBegins, JobPasses, JobRests, JobStands, JobTurns, is_left_in, stands_at_settle};
 
+use crate::turns::Turns;
 use qp_calls::Ops;
 use qp_dispatch::{Step, Turn};
 use qp_model::System;
 use qp_port_cursor::{Cursor, Passed, pass_settle, source_turn};
-use qp_port_home::{Home, object_turn};
+use qp_port_home::Home;
 use qp_tells::Tells;
 use std::sync::Wait;
 
@@ -25,20 +26,6 @@ pub enum Job<'a> {
     Home(Home),
     /// A source of stimuli.
     Source(Cursor<'a>),
-}
-
-/// Whether a turn with this answer may be followed by another.
-pub(crate) fn is_idle(turn: &Turn) -> bool
-    ensures { result ≡ is_idle turn.now }
-{
-    matches!(turn, Turn::Idle)
-}
-
-/// Whether it ended for want of memory.
-pub(crate) fn is_short(turn: &Turn) -> bool
-    ensures { result ≡ is_short turn.now }
-{
-    matches!(turn, Turn::Memory)
 }
 
 /// Starts an object, the first that happens in its lane.
@@ -75,7 +62,7 @@ pub(crate) fn start_job<O: Ops>(ops: &mut O, sys: &System, job: &mut Job<'_>, bu
 }
 
 /// The turn of what runs in the lane with this number.
-pub(crate) fn run_job<R: Wait, O: Ops, G: Tells>(
+pub(crate) fn run_job<R: Wait, O: Ops, G: Tells, T: Turns<O>>(
     rt: &R,
     ops: &mut O,
     sys: &System,
@@ -83,6 +70,7 @@ pub(crate) fn run_job<R: Wait, O: Ops, G: Tells>(
     number: u32,
     budget: u32,
     gate: &G,
+    turns: &T,
 ) -> Turn
     requires sound { IsSound sys.now }
     requires few { budget ≤ 1000000 }
@@ -95,8 +83,18 @@ pub(crate) fn run_job<R: Wait, O: Ops, G: Tells>(
 {
     match job {
         Job::Nothing => Turn::Idle,
-        Job::Home(home) => object_turn(rt, ops, sys, home, number, budget, gate),
+        Job::Home(home) => turns.object(rt, ops, sys, home, number, budget, gate),
         Job::Source(source) => source_turn(ops, sys, source, gate),
+    }
+}
+
+/// What the lane does behind a turn with this answer, where a source runs in it.
+pub(crate) fn end_turn<O: Ops, T: Turns<O>>(turns: &T, ops: &mut O, job: &Job<'_>, turn: &Turn)
+    ensures { O.lane ops.new ≡ O.lane ops.old }
+{
+    match job {
+        Job::Source(_) => turns.source_over(ops, turn),
+        Job::Nothing | Job::Home(_) => {}
     }
 }
 

@@ -8,10 +8,13 @@ mod making;
 mod rests;
 mod run;
 mod starting;
+mod turns;
 mod worker;
 
 pub use crossing::jobs_cross_threads;
 pub use job::Job;
-pub use run::{PortRun, run_lanes_of_port};
+pub use making::Terms;
+pub use run::{PortRun, run_lanes_of, run_lanes_of_port};
 pub use starting::Starts;
+pub use turns::{PortTurns, Turns};
 pub use worker::PortWorker;

@@ -4,6 +4,7 @@ ghost use Rattle.std.specs.Prelude.{◌≡◌, ◌+◌, ◌<◌, ◌≤◌, IfOk
 ghost use Rattle.qp_port.specs.Making.{AddsAll, AddsOne, AreAllMade, HomesMade, IsFresh, IsThis, MadesHome, MadesNothing, MadesSource, SourcesMade};
 
 use crate::job::Job;
+use crate::turns::Turns;
 use crate::worker::PortWorker;
 use qp_base::Memory;
 use qp_calls_meet::Meets;
@@ -14,21 +15,23 @@ use qp_port_home::Home;
 use qp_tells::Tells;
 use std::alloc::Global;
 
-/// What all workers of a run share: the system, its stimuli, the budget of an object, and what is told of its steps.
+/// What all workers of a run share: the system, its stimuli, the budget of an object, what is told of its steps, and how objects
+/// take their turns.
 #[derive(Clone, Copy)]
-pub(crate) struct Terms<'a, G: Tells> {
-    pub(crate) sys: &'a System,
-    pub(crate) stim: &'a Stimuli,
-    pub(crate) budget: u32,
-    pub(crate) gate: &'a G,
+pub struct Terms<'a, G: Tells, T> {
+    pub sys: &'a System,
+    pub stim: &'a Stimuli,
+    pub budget: u32,
+    pub gate: &'a G,
+    pub turns: &'a T,
 }
 
 /// Adds a worker that is to do this, with the first of the lanes.
-fn add<'a, O: Meets + Drop, G: Tells>(
-    at: &Terms<'a, G>,
+fn add<'a, O: Meets + Drop, G: Tells, T: Turns<O>>(
+    at: &Terms<'a, G, T>,
     job: Job<'a>,
     lanes: &mut Vec<O>,
-    workers: &mut Vec<PortWorker<'a, O, G>>,
+    workers: &mut Vec<PortWorker<'a, O, G, T>>,
 ) -> Result<(), Memory>
     requires { 0 < length lanes.old.items }
     ensures { OnOk result (AddsOne (λ w. w.lane) (λ w. IsFresh at.now.sys.now at.now.budget w.sys.now w.budget w.turn × IsThis job.entry w.job) lanes.old.items workers.old.items lanes.new.items workers.new.items) }
@@ -44,6 +47,7 @@ fn add<'a, O: Meets + Drop, G: Tells>(
         sys: at.sys,
         budget: at.budget,
         gate: at.gate,
+        turns: at.turns,
     };
     let Ok(()) = workers.push(worker) else {
         return Err(Memory);
@@ -52,12 +56,12 @@ fn add<'a, O: Meets + Drop, G: Tells>(
 }
 
 /// Adds one for each of these objects.
-fn add_homes<'a, O: Meets + Drop, G: Tells>(
+fn add_homes<'a, O: Meets + Drop, G: Tells, T: Turns<O>>(
     alloc: Global,
-    at: &Terms<'a, G>,
+    at: &Terms<'a, G, T>,
     objects: &[ObjectDef],
     lanes: &mut Vec<O>,
-    workers: &mut Vec<PortWorker<'a, O, G>>,
+    workers: &mut Vec<PortWorker<'a, O, G, T>>,
 ) -> Result<(), Memory>
     requires { length objects.now ≤ length lanes.old.items }
     ensures { OnOk result (AddsAll (λ w. w.lane) (HomesMade (λ d w. MadesHome at.now.sys.now at.now.budget d w.sys.now w.budget w.turn w.job) objects.now) lanes.old.items workers.old.items lanes.new.items workers.new.items) }
@@ -71,12 +75,12 @@ fn add_homes<'a, O: Meets + Drop, G: Tells>(
 }
 
 /// Adds one for each of these sources, of which the first has this number.
-fn add_sources<'a, O: Meets + Drop, G: Tells>(
-    at: &Terms<'a, G>,
+fn add_sources<'a, O: Meets + Drop, G: Tells, T: Turns<O>>(
+    at: &Terms<'a, G, T>,
     source: u32,
     sources: &[Source],
     lanes: &mut Vec<O>,
-    workers: &mut Vec<PortWorker<'a, O, G>>,
+    workers: &mut Vec<PortWorker<'a, O, G, T>>,
 ) -> Result<(), Memory>
     requires enough { length sources.now ≤ length lanes.old.items }
     requires few { source + length sources.now ≤ 50 }
@@ -94,11 +98,11 @@ fn add_sources<'a, O: Meets + Drop, G: Tells>(
 }
 
 /// A worker for each of these lanes: the first has nothing to do, then come the objects, by ascending priority, and the sources.
-pub(crate) fn new_workers<'a, O: Meets + Drop, G: Tells>(
+pub(crate) fn new_workers<'a, O: Meets + Drop, G: Tells, T: Turns<O>>(
     alloc: Global,
-    at: &Terms<'a, G>,
+    at: &Terms<'a, G, T>,
     lanes: Vec<O>,
-) -> Result<Vec<PortWorker<'a, O, G>>, Memory>
+) -> Result<Vec<PortWorker<'a, O, G, T>>, Memory>
     requires many { length lanes.items ≡ 1 + length at.now.sys.now.objects + length at.now.stim.now }
     requires few { length at.now.stim.now ≤ 16 }
     ensures { IfOk result (λ ws. AreAllMade (λ w. w.lane) (λ w. MadesNothing at.now.sys.now at.now.budget w.sys.now w.budget w.turn w.job)

@@ -5,6 +5,7 @@ ghost use Rattle.qp_port.specs.declared.job.Job.TheVariants as job;
 ghost use Rattle.qp_port.specs.Resting.{AreShown, IsShownBy};
 
 use crate::job::Job;
+use crate::turns::Turns;
 use crate::worker::PortWorker;
 use qp_calls_meet::Meets;
 use qp_kernel_end::Rest;
@@ -50,9 +51,9 @@ fn rest_of(alloc: Global, job: &Job<'_>) -> Result<Option<Rest>, AllocError>
 }
 
 /// Where the objects of these workers rest, those that do.
-pub(crate) fn rests<O: Meets, G: Tells>(
+pub(crate) fn rests<O: Meets, G: Tells, T: Turns<O>>(
     alloc: Global,
-    workers: &[PortWorker<'_, O, G>],
+    workers: &[PortWorker<'_, O, G, T>],
 ) -> Result<Vec<Rest>, AllocError>
     ensures { IfOk result (λ rests. AreShown (λ w. w.job) workers.now rests.items) }
 {

@@ -3,25 +3,25 @@
 ghost use Rattle.std.specs.Prelude.{◌≡◌, ◌≤◌, ◌⊎◌, IfOk, OnOk, map, true, false};
 ghost use Rattle.std.specs.List.{list_all, list_any};
 ghost use Rattle.qp_model.specs.Sound.{IsSound};
-ghost use Rattle.qp_model.specs.Sources.{priorities};
 ghost use Rattle.qp_stim.specs.Rules.{StimuliFit};
 ghost use Rattle.qp_port_phases.specs.declared.phases.Ended.TheVariants as ended;
 ghost use Rattle.qp_port_phases.specs.Stopping.{AnyStopped};
 ghost use Rattle.qp_port.specs.Ends.{HasRun};
-ghost use Rattle.qp_port.specs.Jobs.{is_idle, is_short};
+ghost use Rattle.qp_port_cursor.specs.Answers.{is_idle, is_short};
 ghost use Rattle.qp_port.specs.Resting.{AreShown};
 ghost use Rattle.qp_port.specs.Rows.{AreNewLanes, AreSameLanes};
 
 use crate::making::{Terms, new_workers};
 use crate::rests::rests;
 use crate::starting::{Over, run_workers};
+use crate::turns::{PortTurns, Turns};
 use crate::worker::PortWorker;
 use qp_base::{Gate, Memory};
 use qp_calls_meet::Meets;
 use qp_kernel_end::Rest;
 use qp_model::{Stimuli, System};
-use qp_port_phases::Ended;
-use std::alloc::{AllocError, Global};
+use qp_port_phases::{Ended, NoHook, PhaseHook, objects_of};
+use std::alloc::Global;
 use std::sync::Wait;
 use std::thread::Threads;
 
@@ -35,23 +35,23 @@ pub struct PortRun<O> {
 }
 
 /// Whether all workers rest.
-fn all_idle<O: Meets, G: Gate>(workers: &[PortWorker<'_, O, G>]) -> bool
+fn all_idle<O: Meets, G: Gate, T: Turns<O>>(workers: &[PortWorker<'_, O, G, T>]) -> bool
     ensures { result ≡ list_all (λ w. is_idle w.turn) workers.now }
 {
     workers.iter().all(|worker| worker.is_idle())
 }
 
 /// Whether one ended for want of memory.
-fn any_short<O: Meets, G: Gate>(workers: &[PortWorker<'_, O, G>]) -> bool
+fn any_short<O: Meets, G: Gate, T: Turns<O>>(workers: &[PortWorker<'_, O, G, T>]) -> bool
     ensures { result ≡ list_any (λ w. is_short w.turn) workers.now }
 {
     workers.iter().any(|worker| worker.is_short())
 }
 
 /// The lanes of these workers.
-fn lanes_of<O: Meets + Drop, G: Gate>(
+fn lanes_of<O: Meets + Drop, G: Gate, T: Turns<O>>(
     alloc: Global,
-    workers: Vec<PortWorker<'_, O, G>>,
+    workers: Vec<PortWorker<'_, O, G, T>>,
 ) -> Result<Vec<O>, Memory>
     ensures { IfOk result (λ lanes. lanes.items ≡ map (λ w. w.lane) workers.entry.items) }
 {
@@ -65,6 +65,7 @@ fn lanes_of<O: Meets + Drop, G: Gate>(
             sys: _,
             budget: _,
             gate: _,
+            turns: _,
         } = worker;
         let Ok(()) = lanes.push(lane) else {
             return Err(Memory);
@@ -73,17 +74,10 @@ fn lanes_of<O: Meets + Drop, G: Gate>(
     Ok(lanes)
 }
 
-/// The priorities of the objects.
-fn objects_of(alloc: Global, sys: &System) -> Result<Vec<u8>, AllocError>
-    ensures { IfOk result (λ objects. objects.items ≡ priorities sys.now) }
-{
-    sys.objects.items.iter().map(|d| d.priority).collect(alloc)
-}
-
 /// What is left of workers whose run is over. For want of memory a lane may have been cut anywhere.
-fn left_of<O: Meets + Drop, G: Gate>(
+fn left_of<O: Meets + Drop, G: Gate, T: Turns<O>>(
     alloc: Global,
-    over: Over<PortWorker<'_, O, G>>,
+    over: Over<PortWorker<'_, O, G, T>>,
 ) -> Result<PortRun<O>, Memory>
     ensures lanes { IfOk result (λ run. run.lanes.items ≡ map (λ w. w.lane) over.entry.workers.items) }
     ensures rests { IfOk result (λ run. AreShown (λ w. w.job) over.entry.workers.items run.rests.items) }
@@ -109,8 +103,38 @@ fn left_of<O: Meets + Drop, G: Gate>(
 }
 
 /// Runs the system on its stimuli over these lanes, which are new: the first stays empty, each object has one, by ascending priority,
-/// and so has each source. No object takes more events than the budget. Want of memory alone leaves nothing. Something is left to be done
-/// only where a lane has stopped.
+/// and so has each source. Objects take their turns as the terms say, and no object takes more events than the budget. The hook is
+/// called where a phase begins. Want of memory alone leaves nothing. Something is left to be done only where a lane has stopped.
+pub fn run_lanes_of<
+    R: Threads + Wait + Sync,
+    O: Meets + Send + Drop,
+    G: Gate,
+    T: Turns<O> + Sync,
+    H: PhaseHook,
+>(
+    rt: &R,
+    alloc: Global,
+    at: &Terms<'_, G, T>,
+    hook: &mut H,
+    lanes: Vec<O>,
+) -> Result<PortRun<O>, Memory>
+    requires sound { IsSound at.now.sys.now }
+    requires fit { StimuliFit at.now.sys.now at.now.stim.now }
+    requires few { at.now.budget ≤ 1000000 }
+    requires lanes { AreNewLanes at.now.sys.now at.now.stim.now (map O.lane lanes.items) }
+    ensures lanes { IfOk result (λ run. AreSameLanes (map O.lane lanes.items) (map O.lane run.lanes.items)) }
+    ensures run { IfOk result (λ run. HasRun at.now.sys.now at.now.stim.now at.now.budget run.done run.rests.items (map O.lane run.lanes.items)) }
+    ensures cause { IfOk result (λ run. run.done ≡ false → AnyStopped (map O.lane run.lanes.items)) }
+{
+    let Ok(objects) = objects_of(alloc, at.sys) else {
+        return Err(Memory);
+    };
+    let workers = new_workers(alloc, at, lanes)?;
+    let over = run_workers(rt, objects.as_slice(), workers, hook);
+    left_of(alloc, over)
+}
+
+/// The same with turns of the port, which end where the queue is found empty.
 pub fn run_lanes_of_port<R: Threads + Wait + Sync, O: Meets + Send + Drop, G: Gate>(
     rt: &R,
     alloc: Global,
@@ -128,16 +152,12 @@ pub fn run_lanes_of_port<R: Threads + Wait + Sync, O: Meets + Send + Drop, G: Ga
     ensures run { IfOk result (λ run. HasRun sys.now stim.now budget run.done run.rests.items (map O.lane run.lanes.items)) }
     ensures cause { IfOk result (λ run. run.done ≡ false → AnyStopped (map O.lane run.lanes.items)) }
 {
-    let Ok(objects) = objects_of(alloc, sys) else {
-        return Err(Memory);
-    };
     let at = Terms {
         sys,
         stim,
         budget,
         gate,
+        turns: &PortTurns,
     };
-    let workers = new_workers(alloc, &at, lanes)?;
-    let over = run_workers(rt, objects.as_slice(), workers);
-    left_of(alloc, over)
+    run_lanes_of(rt, alloc, &at, &mut NoHook, lanes)
 }

@@ -7,7 +7,7 @@ ghost use Rattle.qp_port_phases.specs.Lanes.{AreOneTable, SameEach};
 ghost use Rattle.qp_port_phases.specs.Quiet.{FirstFound, HasEnded};
 ghost use Rattle.qp_port_workers.specs.Turns.{AreReady};
 
-use qp_port_phases::{Ended, Lane, run_phases};
+use qp_port_phases::{Ended, Lane, PhaseHook, run_phases};
 use std::sync::Wait;
 use std::thread::Threads;
 
@@ -54,7 +54,12 @@ fn start_all<T: Starts>(workers: &mut [T]) -> bool
 }
 
 /// Starts all of them, and runs the phases where all starts came to their end.
-fn run_all<R: Threads + Wait + Sync, T: Starts>(rt: &R, objects: &[u8], workers: &mut [T]) -> Ended
+fn run_all<R: Threads + Wait + Sync, T: Starts, H: PhaseHook>(
+    rt: &R,
+    objects: &[u8],
+    workers: &mut [T],
+    hook: &mut H,
+) -> Ended
     requires fresh { AreReady T.fresh workers.old }
     requires table { AreOneTable T.view objects.now workers.old }
     ensures each { AreReady (λ w. T.ready w ⊎ T.fresh w) workers.new }
@@ -67,14 +72,15 @@ fn run_all<R: Threads + Wait + Sync, T: Starts>(rt: &R, objects: &[u8], workers:
     if !start_all(workers) {
         return Ended::Stopped;
     }
-    run_phases(rt, objects, workers)
+    run_phases(rt, objects, workers, hook)
 }
 
 /// The same of workers that are handed in and come back, in their order.
-pub(crate) fn run_workers<R: Threads + Wait + Sync, T: Starts>(
+pub(crate) fn run_workers<R: Threads + Wait + Sync, T: Starts, H: PhaseHook>(
     rt: &R,
     objects: &[u8],
     mut workers: Vec<T>,
+    hook: &mut H,
 ) -> Over<T>
     requires fresh { AreReady T.fresh workers.items }
     requires table { AreOneTable T.view objects.now workers.items }
@@ -85,6 +91,6 @@ pub(crate) fn run_workers<R: Threads + Wait + Sync, T: Starts>(
     ensures stopped { result.how ≡ ended.Stopped → (list_all T.rests result.workers.items ≡ false) ⊎ FirstFound T.view false workers.items result.workers.items }
     ensures memory { result.how ≡ ended.Memory → FirstFound T.view true workers.items result.workers.items }
 {
-    let how = run_all(rt, objects, workers.as_mut_slice());
+    let how = run_all(rt, objects, workers.as_mut_slice(), hook);
     Over { workers, how }
 }

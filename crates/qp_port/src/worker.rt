@@ -1,16 +1,19 @@
 //! A lane with what runs in it.
 
 ghost use Rattle.std.specs.Prelude.{◌≡◌, refl, true};
-ghost use Rattle.qp_port.specs.Jobs.{JobTurns, TurnsFrom, is_idle, is_left_in, is_short, stands_at_settle, turn_by};
+ghost use Rattle.qp_port_cursor.specs.Answers.{is_idle, is_short};
+ghost use Rattle.qp_port.specs.Jobs.{JobTurns, TurnsFrom, is_left_in, stands_at_settle};
 ghost use Rattle.qp_port.specs.Numbers.{counts-none, uncounted};
 ghost use Rattle.qp_port.specs.Workers.{IsSameWorker, MayBegin, MayTurn, same-itself, same-still, same-table};
 
-use crate::job::{Job, is_idle, is_short, pass_job, run_job, start_job};
+use crate::job::{Job, end_turn, pass_job, run_job, start_job};
 use crate::starting::Starts;
+use crate::turns::Turns;
 use qp_calls::Counts;
 use qp_calls_meet::Meets;
 use qp_dispatch::Turn;
 use qp_model::System;
+use qp_port_cursor::{is_idle, is_short, turn_by};
 use qp_port_phases::{Lane, Passed};
 use qp_port_workers::Worker;
 use qp_tells::Tells;
@@ -19,7 +22,7 @@ use std::sync::Wait;
 /// A lane with its number, what runs in it, and the answer of its last turn. One whose turn has stopped takes no more: it is a lane
 /// like another, and its turns do nothing.
 #[derive(Drop)]
-pub struct PortWorker<'a, O: Meets, G: Tells> {
+pub struct PortWorker<'a, O: Meets, G: Tells, T: Turns<O>> {
     pub(crate) lane: O,
     pub(crate) job: Job<'a>,
     pub(crate) turn: Turn,
@@ -27,9 +30,10 @@ pub struct PortWorker<'a, O: Meets, G: Tells> {
     pub(crate) sys: &'a System,
     pub(crate) budget: u32,
     pub(crate) gate: &'a G,
+    pub(crate) turns: &'a T,
 }
 
-impl<O: Meets, G: Tells> PortWorker<'_, O, G> {
+impl<O: Meets, G: Tells, T: Turns<O>> PortWorker<'_, O, G, T> {
     /// Whether its last turn, or its start, came to its end.
     pub(crate) fn is_idle(&self) -> bool
         ensures { result ≡ is_idle self.now.turn }
@@ -60,35 +64,36 @@ impl<O: Meets, G: Tells> PortWorker<'_, O, G> {
             self.number,
             self.budget,
             self.gate,
+            self.turns,
         );
     }
-}
 
-/// What a `settle` leaves of a worker: the answer of its turn.
-fn turn_by(passed: &Passed) -> Turn
-    ensures { result ≡ turn_by passed.now }
-{
-    match passed {
-        Passed::Yes | Passed::Found { .. } => Turn::Idle,
-        Passed::Stopped => Turn::Stopped,
-        Passed::Memory => Turn::Memory,
-    }
-}
-
-impl<O: Meets + Send, G: Tells + Sync> Worker for PortWorker<'_, O, G> {
-    ghost ready = { λ w. MayTurn w.sys.now w.budget w.turn w.job (O.lane w.lane) };
-
-    ghost turned = { λ a b. MayTurn b.sys.now b.budget b.turn b.job (O.lane b.lane) × IsSameWorker a.sys.now b.sys.now a.budget b.budget a.job b.job (O.lane a.lane) (O.lane b.lane)
-        × TurnsFrom a.sys.now a.budget a.turn a.job (O.lane a.lane) b.turn b.job (O.lane b.lane) };
-
-    fn turn<R: Wait>(&mut self, rt: &R) {
+    /// Takes its turn, where it rests; else it does nothing.
+    fn take_turn<R: Wait>(&mut self, rt: &R)
+        requires ready { MayTurn self.old.sys.now self.old.budget self.old.turn self.old.job (O.lane self.old.lane) }
+        ensures ready { MayTurn self.new.sys.now self.new.budget self.new.turn self.new.job (O.lane self.new.lane) }
+        ensures same { IsSameWorker self.old.sys.now self.new.sys.now self.old.budget self.new.budget self.old.job self.new.job (O.lane self.old.lane) (O.lane self.new.lane) }
+        ensures turns { TurnsFrom self.old.sys.now self.old.budget self.old.turn self.old.job (O.lane self.old.lane) self.new.turn self.new.job (O.lane self.new.lane) }
+    {
         if is_idle(&self.turn) {
             self.run(rt);
         }
     }
 }
 
-impl<O: Meets + Send, G: Tells + Sync> Lane for PortWorker<'_, O, G> {
+impl<O: Meets + Send, G: Tells + Sync, T: Turns<O> + Sync> Worker for PortWorker<'_, O, G, T> {
+    ghost ready = { λ w. MayTurn w.sys.now w.budget w.turn w.job (O.lane w.lane) };
+
+    ghost turned = { λ a b. MayTurn b.sys.now b.budget b.turn b.job (O.lane b.lane) × IsSameWorker a.sys.now b.sys.now a.budget b.budget a.job b.job (O.lane a.lane) (O.lane b.lane)
+        × TurnsFrom a.sys.now a.budget a.turn a.job (O.lane a.lane) b.turn b.job (O.lane b.lane) };
+
+    fn turn<R: Wait>(&mut self, rt: &R) {
+        self.take_turn(rt);
+        end_turn(self.turns, &mut self.lane, &self.job, &self.turn);
+    }
+}
+
+impl<O: Meets + Send, G: Tells + Sync, T: Turns<O> + Sync> Lane for PortWorker<'_, O, G, T> {
     ghost view = { λ w. O.lane w.lane };
 
     ghost waits = { λ w. stands_at_settle w.job };
@@ -144,7 +149,7 @@ impl<O: Meets + Send, G: Tells + Sync> Lane for PortWorker<'_, O, G> {
     ghost went_on = { λ a b h. counts-none (O.lane a.lane) };
 }
 
-impl<O: Meets + Send, G: Tells + Sync> Starts for PortWorker<'_, O, G> {
+impl<O: Meets + Send, G: Tells + Sync, T: Turns<O> + Sync> Starts for PortWorker<'_, O, G, T> {
     ghost rests = { λ w. is_idle w.turn };
 
     ghost fresh = { λ w. MayBegin w.sys.now w.budget w.turn w.job (O.lane w.lane) };

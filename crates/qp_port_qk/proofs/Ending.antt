@@ -26,7 +26,8 @@ use Rattle.qp_port_cursor.proofs.Hearing.{starts-hear, why-starved}
 use Rattle.qp_port_cursor.proofs.Standing.{may-stop}
 use Rattle.qp_port_qk.specs.declared.job.Job.{Job}
 use Rattle.qp_port_qk.specs.declared.job.Job.TheVariants as job
-use Rattle.qp_port_qk.specs.Jobs.{JobEnds, JobMayEnd, JobRests, JobStands, JobStarts, JobStops, is_idle}
+use Rattle.qp_port_cursor.specs.Answers.{is_idle}
+use Rattle.qp_port_qk.specs.Jobs.{JobEnds, JobMayEnd, JobRests, JobStands, JobStarts, JobStops}
 use Rattle.qp_port_qk.specs.KernelRests.{KernelBegins, KernelEnds, KernelRests}
 use Rattle.qp_port_qk.specs.Workers.{MayEnd, MayTurn}
 

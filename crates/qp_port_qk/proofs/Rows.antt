@@ -15,7 +15,8 @@ use Rattle.qp_port_sealed.specs.Lanes.{settles_in}
 use Rattle.qp_port_cursor.specs.Passing.{settles_of}
 use Rattle.qp_port_qk.specs.declared.job.Job.{Job}
 use Rattle.qp_port_qk.specs.declared.job.Job.TheVariants as job
-use Rattle.qp_port_qk.specs.Jobs.{IsSameJob, JobEnds, JobMayEnd, JobRests, JobStands, is_idle, is_short}
+use Rattle.qp_port_cursor.specs.Answers.{is_idle, is_short}
+use Rattle.qp_port_qk.specs.Jobs.{IsSameJob, JobEnds, JobMayEnd, JobRests, JobStands}
 use Rattle.qp_port_qk.specs.Numbers.{job_rows, numbers_of}
 use Rattle.qp_port_qk.specs.Rows.{AreSameLanes, AreSources, IsKernel, IsRow, IsSourceOf}
 use Rattle.qp_port_qk.specs.Workers.{MayEnd, MayTurn}

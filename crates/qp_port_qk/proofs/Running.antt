@@ -47,7 +47,8 @@ use Rattle.qp_port_cursor.proofs.Standing.{done-end}
 use Rattle.qp_port_qk.specs.declared.job.Job.{Job}
 use Rattle.qp_port_qk.specs.declared.job.Job.TheVariants as job
 use Rattle.qp_port_qk.specs.Ends.{HasRun, MayEndQuietly, MayEndSo, is_over}
-use Rattle.qp_port_qk.specs.Jobs.{JobMayEnd, JobRests, JobStands, JobStops, is_idle, is_left_in, is_short}
+use Rattle.qp_port_cursor.specs.Answers.{is_idle, is_short}
+use Rattle.qp_port_qk.specs.Jobs.{JobMayEnd, JobRests, JobStands, JobStops, is_left_in}
 use Rattle.qp_port_qk.specs.KernelRests.{KernelEnds, KernelRests}
 use Rattle.qp_port_qk.specs.Numbers.{job_rows, numbers_of}
 use Rattle.qp_port_qk.specs.Resting.{AreLeft, AreShownBy, AreShownFirst}

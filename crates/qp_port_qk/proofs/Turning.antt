@@ -48,7 +48,8 @@ use Rattle.qp_port_cursor.specs.Passing.{Passes, settles_of}
 use Rattle.qp_port_cursor.specs.Turning.{IsSameSource, SourceTurns}
 use Rattle.qp_port_qk.specs.declared.job.Job.{Job}
 use Rattle.qp_port_qk.specs.declared.job.Job.TheVariants as job
-use Rattle.qp_port_qk.specs.Jobs.{JobStands, JobTurns, KernelStands, TurnsFrom, is_idle, is_short, turn_by}
+use Rattle.qp_port_cursor.specs.Answers.{is_idle, is_short, turn_by}
+use Rattle.qp_port_qk.specs.Jobs.{JobStands, JobTurns, KernelStands, TurnsFrom}
 use Rattle.qp_port_qk.specs.KernelRests.{KernelRests}
 use Rattle.qp_port_qk.specs.Numbers.{numbers_of}
 use Rattle.qp_port_qk.specs.Workers.{MayTurn}

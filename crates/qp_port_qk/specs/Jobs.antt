@@ -12,8 +12,6 @@ use Rattle.qp_kernel_turns.specs.declared.objects.Objects.{Objects}
 use Rattle.qp_kernel_turns.specs.Lanes.{LaneTurns}
 use Rattle.qp_kernel_turns.specs.Ordering.{TurnsInOrder}
 use Rattle.qp_kernel_turns.specs.Turning.{TurnsTo, stand_of}
-use Rattle.qp_port_phases.specs.declared.lanes.Passed.{Passed}
-use Rattle.qp_port_phases.specs.declared.lanes.Passed.TheVariants as passed
 use Rattle.qp_port_phases.specs.Stopping.{HasStarved, HasStopped}
 use Rattle.qp_port_law.specs.SourcesLeft.{SourceLeaves}
 use Rattle.qp_port_cursor.specs.At.{IsCursorAt, at_settle_in, left_in, mine}
@@ -21,16 +19,6 @@ use Rattle.qp_port_cursor.specs.Turning.{SourceTurns}
 use Rattle.qp_port_qk.specs.declared.job.Job.{Job}
 use Rattle.qp_port_qk.specs.declared.job.Job.TheVariants as job
 use Rattle.qp_port_qk.specs.KernelRests.{KernelBegins, KernelEnds, KernelRests, KernelStops}
-
-abbrev pub is_idle : Turn → Bool
-is_idle turn.Idle = true
-is_idle turn.Stopped = false
-is_idle turn.Memory = false
-
-abbrev pub is_short : Turn → Bool
-is_short turn.Idle = false
-is_short turn.Stopped = false
-is_short turn.Memory = true
 
 -- a source that stands at a `settle`
 abbrev pub stands_at_settle : Job → Bool
@@ -86,13 +74,6 @@ abbrev pub TurnsFrom : Bool → System → ℕ → Turn → Job → LaneView →
 TurnsFrom acts sys budget turn.Idle x v t y w = JobTurns acts sys budget x y v w t
 TurnsFrom acts sys budget turn.Stopped x v t y w = (t ≡ turn.Stopped) × (y ≡ x) × (w ≡ v)
 TurnsFrom acts sys budget turn.Memory x v t y w = (t ≡ turn.Memory) × (y ≡ x) × (w ≡ v)
-
--- the answer of a turn that ended so
-abbrev pub turn_by : Passed → Turn
-turn_by passed.Yes = turn.Idle
-turn_by (passed.Found p now) = turn.Idle
-turn_by passed.Stopped = turn.Stopped
-turn_by passed.Memory = turn.Memory
 
 -- before the start
 abbrev pub JobBegins : System → Job → LaneView → Type 0

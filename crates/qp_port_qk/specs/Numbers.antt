@@ -9,7 +9,7 @@ use Rattle.qp_port_cursor.specs.Passing.{settles_of}
 use Rattle.qp_port_phases.specs.Rows.{Numbers}
 use Rattle.qp_port_qk.specs.declared.job.Job.{Job}
 use Rattle.qp_port_qk.specs.declared.job.Job.TheVariants as job
-use Rattle.qp_port_qk.specs.Jobs.{is_short}
+use Rattle.qp_port_cursor.specs.Answers.{is_short}
 
 -- the rows at the base without a step in the kernel's lane; a source has none
 abbrev pub job_rows : System → ℕ → Job → LaneView → ℕ

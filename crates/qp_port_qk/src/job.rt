@@ -8,7 +8,8 @@ ghost use Rattle.qp_kernel_turns.specs.Lanes.{SameLane};
 ghost use Rattle.qp_port_phases.specs.Passing.{PassesTo};
 ghost use Rattle.qp_port_phases.specs.Rows.{CountsOn, PassCounts};
 ghost use Rattle.qp_port_phases.specs.Stopping.{Hears};
-ghost use Rattle.qp_port_qk.specs.Jobs.{IsSameJob, JobBegins, JobRests, JobStands, JobStarts, JobTurns, KernelStands, KernelTurns, is_idle, is_left_in, is_short, stands_at_settle, turn_by};
+ghost use Rattle.qp_port_cursor.specs.Answers.{is_short, turn_by};
+ghost use Rattle.qp_port_qk.specs.Jobs.{IsSameJob, JobBegins, JobRests, JobStands, JobStarts, JobTurns, KernelStands, KernelTurns, is_left_in, stands_at_settle};
 ghost use Rattle.qp_port_qk.specs.KernelRests.{KernelBegins, KernelRests};
 ghost use Rattle.qp_port_qk.specs.Numbers.{job_rows, numbers_of};
 
@@ -28,20 +29,6 @@ pub enum Job<'a> {
     Kernel(Objects, Kernel),
     /// A source of stimuli.
     Source(Cursor<'a>),
-}
-
-/// Whether a turn with this answer may be followed by another.
-pub(crate) fn is_idle(turn: &Turn) -> bool
-    ensures { result ≡ is_idle turn.now }
-{
-    matches!(turn, Turn::Idle)
-}
-
-/// Whether it ended for want of memory.
-pub(crate) fn is_short(turn: &Turn) -> bool
-    ensures { result ≡ is_short turn.now }
-{
-    matches!(turn, Turn::Memory)
 }
 
 /// Starts all objects, in a lane in which nothing has happened.

@@ -3,12 +3,11 @@
 ghost use Rattle.std.specs.Prelude.{◌≡◌, ◌≤◌, ◌⊎◌, IfOk, OnOk, Some, map, true, false};
 ghost use Rattle.std.specs.List.{list_all, list_any};
 ghost use Rattle.qp_model.specs.Sound.{IsSound};
-ghost use Rattle.qp_model.specs.Sources.{priorities};
 ghost use Rattle.qp_stim.specs.Rules.{StimuliFit};
 ghost use Rattle.qp_port_phases.specs.declared.phases.Ended.TheVariants as ended;
 ghost use Rattle.qp_port_phases.specs.Stopping.{AnyStopped};
 ghost use Rattle.qp_port_qk.specs.Ends.{HasRun, is_over};
-ghost use Rattle.qp_port_qk.specs.Jobs.{is_idle, is_short};
+ghost use Rattle.qp_port_cursor.specs.Answers.{is_idle, is_short};
 ghost use Rattle.qp_port_qk.specs.Resting.{AreLeft, AreShownFirst};
 ghost use Rattle.qp_port_qk.specs.Rows.{AreNewLanes, AreSameLanes};
 
@@ -21,7 +20,7 @@ use qp_calls_meet::Meets;
 use qp_kernel::World;
 use qp_kernel_end::Rest;
 use qp_model::{Stimuli, System};
-use qp_port_phases::Ended;
+use qp_port_phases::{Ended, objects_of};
 use std::alloc::{AllocError, Global};
 use std::sync::Wait;
 use std::thread::Threads;
@@ -71,13 +70,6 @@ fn lanes_of<W: World + Meets + Drop, G: Gate>(
         };
     }
     Ok(lanes)
-}
-
-/// The priorities of the objects.
-fn objects_of(alloc: Global, sys: &System) -> Result<Vec<u8>, AllocError>
-    ensures { IfOk result (λ objects. objects.items ≡ priorities sys.now) }
-{
-    sys.objects.items.iter().map(|d| d.priority).collect(alloc)
 }
 
 /// Where the objects of the first worker rest.

@@ -10,7 +10,7 @@ ghost use Rattle.qp_port_phases.specs.Rows.{HasFewRows};
 ghost use Rattle.qp_port_workers.specs.Turns.{AreReady};
 ghost use Rattle.qp_port_qk.specs.Workers.{FirstBegins};
 
-use qp_port_phases::{Ended, Lane, run_phases};
+use qp_port_phases::{Ended, Lane, NoHook, run_phases};
 use std::sync::Wait;
 use std::thread::Threads;
 
@@ -68,7 +68,7 @@ pub(crate) fn start_and_run<R: Threads + Wait + Sync, T: Starts>(
     ensures memory { result ≡ Some ended.Memory → FirstFound T.view true workers.old workers.new }
 {
     if start_first(workers) {
-        Some(run_phases(rt, objects, workers))
+        Some(run_phases(rt, objects, workers, &mut NoHook))
     } else {
         None
     }

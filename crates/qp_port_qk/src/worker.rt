@@ -2,17 +2,19 @@
 
 ghost use Rattle.std.specs.Prelude.{◌≡◌, false, true};
 ghost use Rattle.qp_port_phases.specs.Rows.{CountsOn};
-ghost use Rattle.qp_port_qk.specs.Jobs.{JobTurns, TurnsFrom, is_idle, is_left_in, is_short, stands_at_settle, turn_by};
+ghost use Rattle.qp_port_cursor.specs.Answers.{is_idle, is_short};
+ghost use Rattle.qp_port_qk.specs.Jobs.{JobTurns, TurnsFrom, is_left_in, stands_at_settle};
 ghost use Rattle.qp_port_qk.specs.Numbers.{numbers_of};
 ghost use Rattle.qp_port_qk.specs.Workers.{IsSameWorker, MayBegin, MayEnd, MayTurn, same-itself, same-still, same-table};
 
-use crate::job::{Job, is_idle, is_short, pass_job, run_job, start_job};
+use crate::job::{Job, pass_job, run_job, start_job};
 use crate::starting::Starts;
 use qp_calls::Counts;
 use qp_calls_meet::Meets;
 use qp_dispatch::Turn;
 use qp_kernel::World;
 use qp_model::System;
+use qp_port_cursor::{is_idle, is_short, turn_by};
 use qp_port_phases::{Lane, Passed};
 use qp_port_workers::Worker;
 use qp_tells::Tells;
@@ -63,17 +65,6 @@ impl<W: World + Meets, G: Tells> QkWorker<'_, W, G> {
             self.budget,
             self.gate,
         );
-    }
-}
-
-/// What a `settle` leaves of a worker: the answer of its turn.
-fn turn_by(passed: &Passed) -> Turn
-    ensures { result ≡ turn_by passed.now }
-{
-    match passed {
-        Passed::Yes | Passed::Found { .. } => Turn::Idle,
-        Passed::Stopped => Turn::Stopped,
-        Passed::Memory => Turn::Memory,
     }
 }
 

@@ -15,6 +15,7 @@ returns g c =
         sys = c.args.at.now.sys;
         budget = c.args.at.now.budget;
         gate = c.args.at.now.gate;
+        turns = c.args.at.now.turns;
       };
       made = (record { sys_is = refl; budget_is = refl; idle = refl }, refl);
       now_are = c.in-Ok-push.ensures.items;

@@ -4,14 +4,13 @@ use Rattle.std.proofs.Common.{◌≡◌, ◌⊎◌, ap, arith, length, map, sym,
 use Rattle.std.specs.Prelude.{IfOk, OnOk}
 use Rattle.std.specs.List.{list_all}
 use Rattle.qp_port_phases.specs.declared.phases.Ended.TheVariants as ended
-use Rattle.qp_port_qk.specs.Jobs.{is_idle}
+use Rattle.qp_port_cursor.specs.Answers.{is_idle, is_short}
 use Rattle.qp_port_qk.specs.Resting.{AreLeft}
 use Rattle.std.specs.List.{list_any}
 use Rattle.std.proofs.lemmas.List.{length-map}
 use Rattle.qp_port_phases.specs.Lanes.{AreOneTable, SameEach}
 use Rattle.qp_port_phases.specs.Stopping.{AnyStopped}
 use Rattle.qp_port_qk.specs.Ends.{HasRun, is_over}
-use Rattle.qp_port_qk.specs.Jobs.{is_short}
 use Rattle.qp_port_qk.specs.Rows.{AreSameLanes}
 use Rattle.qp_port_qk.specs.Workers.{FirstBegins, IsSameWorker, MayBegin, MayEnd, MayTurn}
 use Rattle.qp_port_qk.proofs.Ending.{either-end}

@@ -1,0 +1,64 @@
+//! How objects take their turns over lanes of a kind.
+
+ghost use Rattle.std.specs.Prelude.{◌≡◌, ◌≤◌, false};
+ghost use Rattle.qp_model.specs.Sound.{IsSound};
+ghost use Rattle.qp_kernel_turns.specs.Lanes.{LaneTurns};
+ghost use Rattle.qp_port_home.specs.At.{IsHome};
+ghost use Rattle.qp_port_home.specs.Turning.{HomeTurns};
+
+use qp_calls::Ops;
+use qp_dispatch::Turn;
+use qp_model::System;
+use qp_port_home::{Home, object_turn};
+use qp_tells::Tells;
+use std::sync::Wait;
+
+/// How an object takes its turn over lanes of this kind, and what the lane of a source does behind one.
+pub trait Turns<O: Ops> {
+    /// The turn of an object, with the conditions and clauses of `object_turn`.
+    fn object<R: Wait, G: Tells>(
+        &self,
+        rt: &R,
+        ops: &mut O,
+        sys: &System,
+        home: &mut Home,
+        lane: u32,
+        budget: u32,
+        gate: &G,
+    ) -> Turn
+        requires sound { IsSound sys.now }
+        requires few { budget ≤ 1000000 }
+        requires knows { IsHome sys.now budget home.old (O.lane ops.old) }
+        ensures goes { HomeTurns sys.now budget home.old.me home.new (O.lane ops.new) result }
+        ensures lane { LaneTurns false (O.lane ops.old) (O.lane ops.new) result }
+        ensures same { home.new.me ≡ home.old.me };
+
+    /// A source has taken part in a phase, and this is its turn's answer, or that of the turn in which it had stopped before. The
+    /// lane stands as it stood.
+    fn source_over(&self, ops: &mut O, turn: &Turn)
+        ensures { O.lane ops.new ≡ O.lane ops.old };
+}
+
+/// Turns of the port: an object's ends where its queue is found empty, and nothing comes behind a source's.
+#[derive(Clone, Copy)]
+pub struct PortTurns;
+
+impl<O: Ops> Turns<O> for PortTurns {
+    fn object<R: Wait, G: Tells>(
+        &self,
+        rt: &R,
+        ops: &mut O,
+        sys: &System,
+        home: &mut Home,
+        lane: u32,
+        budget: u32,
+        gate: &G,
+    ) -> Turn {
+        object_turn(rt, ops, sys, home, lane, budget, gate)
+    }
+
+    fn source_over(&self, ops: &mut O, turn: &Turn) {
+        let _ = ops;
+        let _ = turn;
+    }
+}

@@ -1,0 +1,23 @@
+-- Answers of turns.
+use Rattle.std.specs.Prelude.{Bool, true, false}
+use Rattle.qp_dispatch.specs.declared.objects.Turn.{Turn}
+use Rattle.qp_dispatch.specs.declared.objects.Turn.TheVariants as turn
+use Rattle.qp_port_phases.specs.declared.lanes.Passed.{Passed}
+use Rattle.qp_port_phases.specs.declared.lanes.Passed.TheVariants as passed
+
+abbrev pub is_idle : Turn → Bool
+is_idle turn.Idle = true
+is_idle turn.Stopped = false
+is_idle turn.Memory = false
+
+abbrev pub is_short : Turn → Bool
+is_short turn.Idle = false
+is_short turn.Stopped = false
+is_short turn.Memory = true
+
+-- the answer of a turn that ended so
+abbrev pub turn_by : Passed → Turn
+turn_by passed.Yes = turn.Idle
+turn_by (passed.Found p now) = turn.Idle
+turn_by passed.Stopped = turn.Stopped
+turn_by passed.Memory = turn.Memory
