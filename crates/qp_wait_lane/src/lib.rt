@@ -3,6 +3,7 @@
 
 mod bells;
 mod closings;
+mod crossing;
 mod farewells;
 mod hanging;
 mod lane;
@@ -12,6 +13,7 @@ mod perch;
 
 pub use bells::{BellFault, BellRoot, Bells};
 pub use closings::Closings;
+pub use crossing::bell_lanes_cross_threads;
 pub use farewells::Farewells;
 pub use hanging::{Rope, Waking};
 pub use lane::BellLane;
