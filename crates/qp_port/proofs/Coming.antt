@@ -1,6 +1,8 @@
 -- Workers that come one after another.
-use Rattle.std.proofs.Common.{◌≡◌, ℕ, zero, suc, ◌+◌, ◌<◌, ◌≤◌, List, [], ◌∷◌, ◌++◌, map, length, refl, sym, ◌∙◌, ap, subst, arith, append_assoc, append-nil, slice_index_or, length-append}
+use Rattle.std.proofs.Common.{◌≡◌, ℕ, zero, suc, ◌+◌, ◌<◌, ◌≤◌, List, [], ◌∷◌, ◌++◌, map, length, refl, sym, ◌∙◌, ap, subst, arith, append_assoc, append-nil, slice_index_or, length-append, Ok, Err}
 use Rattle.std.specs.List.{remove}
+use Rattle.std.specs.declared.result.Result.{Result}
+use Rattle.std.specs.Result.{OnOk}
 use Rattle.std.proofs.lemmas.List.{length-map}
 use Rattle.qp_model.specs.declared.stimulus.Stim.{Stim}
 use Rattle.qp_model.specs.declared.systems.System.{System}
@@ -18,6 +20,19 @@ use Rattle.qp_port.specs.Rows.{IsNothing}
 pub first-taken : {A : Type 0} → (xs : List A) (r : A) → 0 < length xs → r ≡ slice_index_or xs 0 r → xs ≡ r ∷ remove xs 0
 first-taken [] r some is = absurd (omega (arith, some))
 first-taken (x ∷ xs) r some is = ap (λ y. y ∷ xs) (sym is)
+
+-- where there is none, none came
+pub no-homes : {T : Type 0} (Made : ObjectDef → T → Type 0) (ds : List ObjectDef) → length ds ≡ 0 → HomesMade Made ds []
+no-homes Made [] h = tt
+no-homes Made (d ∷ ds) h = absurd (omega (arith, h))
+
+pub no-sources : {T : Type 0} (Made : ℕ → T → Type 0) (k : ℕ) (more : List (List Stim)) → length more ≡ 0 → SourcesMade Made k more []
+no-sources Made k [] h = tt
+no-sources Made k (ss ∷ more) h = absurd (omega (arith, h))
+
+pub on-ok : {A E : Type 0} (P Q : Type 0) (r : Result A E) → (P → Q) → OnOk r P → OnOk r Q
+on-ok P Q (Ok x) f h = f h
+on-ok P Q (Err e) f h = tt
 
 module _ {T L : Type 0} (lane : T → L) where
   pub adds-none : (Made : List T → Type 0) → Made [] → (ls : List L) (ws : List T) → AddsAll lane Made ls ws ls ws
