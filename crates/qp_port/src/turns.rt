@@ -15,7 +15,7 @@ use std::sync::Wait;
 
 /// How an object takes its turn over lanes of this kind, and what the lane of a source does behind one.
 pub trait Turns<O: Ops> {
-    /// The turn of an object, with the conditions and clauses of `object_turn`.
+    /// The turn of an object, with the conditions of `object_turn` and all of its clauses but `never`, which turns that wait lack.
     fn object<R: Wait, G: Tells>(
         &self,
         rt: &R,

@@ -301,7 +301,7 @@ module _ (sys : System) (sound : IsSound sys) (budget : ℕ) (x : Home) (v : Lan
 
   -- it was found empty, and is so still, or isn't
   pub stays : (w : LaneView) (c : counts.Counts) → Counted x.me v w c → x.looked ≡ true → (b : Bool) → nat_le (c.f + c.l) c.m ≡ b → StaysEmpty sys budget x v w b
-  stays w c looks seen true e = (counts-idles w c looks seen (grind (arith, nat_tests, e)), counts-goes x.me v w c looks)
+  stays w c looks seen true e = (counts-idles w c looks seen (grind (arith, nat_tests, e)), counts-goes x.me v w c looks, looks.0.told)
   stays w c looks seen false e = record {
     home = counts-home w c looks;
     goes = counts-goes x.me v w c looks;

@@ -52,9 +52,11 @@ use Rattle.qp_port_home_law.proofs.HomeSteps.{done-inside, point-inside}
 use Rattle.qp_port_home_law.proofs.HomeLaws.{home_step_ends, home_step_fails, home_step_is_cut, home_step_pauses, waiting_home_ends}
 use Rattle.qp_port_home.specs.declared.home.Home.{Home}
 use Rattle.qp_port_home.specs.At.{IsBusyHome, IsHome, IsIn}
+use Rattle.qp_port_home.specs.Takes.{AddsNoTake}
 use Rattle.qp_port_home.specs.Turning.{HomeStops, NeverEmpty}
 use Rattle.qp_port_home.proofs.Never.{never-inside, never-same, never-spilled, never-then}
 use Rattle.qp_port_home.proofs.Resting.{home-of, more-own}
+use Rattle.qp_port_home.proofs.Takes.{inside-none, no-take-then}
 use Rattle.std.proofs.lemmas.List.{length-map}
 use Rattle.std.proofs.Common.{length-append}
 
@@ -358,3 +360,30 @@ module _ (sys : System) (sound : IsSound sys) (budget : ℕ) (waits : Bool) (x :
       by step.Stopped mid (same, inl a) is = asserts y level mid w is a
       by step.Stopped mid (same, inr b) is = spills y level mid w is b
       by step.Memory mid (same, t) is = tt
+
+  -- No record of a take comes.
+
+  inside-takes : (g : List Told) (mid : LaneView) (new : List ToldItem) → new ≡ mid.told → Grows g V mid → AreInside g → AddsNoTake v.told new
+  inside-takes g mid new same grows inside = record { ts = map (for_object o) g; told = same ∙ grown g mid grows; none = inside-none o g inside }
+
+  pub step-takes : (level : ℕ) (y : Object) (w : LaneView) (answer : Step) → ObjectResumes sys x.ceiling level x.object y v w answer → AddsNoTake v.told w.told
+  step-takes level y w answer r = by answer r.0 (subst (λ c. ResumesAs c sys x.ceiling level x.object y V r.0 answer) has-chart r.1) r.2
+    where
+      by : (answer : Step) (mid : LaneView) → ResumesAs (Some h.chart) sys x.ceiling level x.object y V mid answer → w ≡ works_for v.by mid → AddsNoTake v.told w.told
+      by step.Point mid (same, t) is =
+          inside-takes t.g mid w.told (ap (λ u. u.told) is) t.grows
+          (point-inside sys h.d h.chart its.some waits v.told h.es h.ev h.e h.left h.c h.records.1 (due level y mid w is same t) (config_of y.lasting) t.g
+          (as-known (λ s a ev e left c. Advances s a ev e left c (tell t.g ++ Point ∷ []) (due level y mid w is same t) (config_of y.lasting)) t.advances) (ready-due level y mid w is same t)).0
+      by step.Done mid (same, t) is =
+          inside-takes t.1.g mid w.told (ap (λ u. u.told) is) t.1.grows
+          (done-inside t.1.g
+          (done-form sys (actor h.d h.chart) h.ev h.e h.left h.c h.records.1.ready.closing t.1.g (config_of y.lasting)
+          (as-known (λ s a ev e left c. GoesOn s a ev e left c (tell t.1.g) (Some (config_of y.lasting))) t.1.goes)))
+      by step.Stopped mid (same, inl a) is =
+          inside-takes a.g a.mid w.told (ap (λ u. u.told) is ∙ ap (λ u. u.told) a.stops) a.grows
+          (own-inside a.g
+          (failed-form sys (actor h.d h.chart) h.ev h.e h.left h.c h.records.1.ready.closing o a.g (as-known (λ s a1 ev e left c. GoesOn s a1 ev e left c (tell a.g) None) a.goes)).own)
+      by step.Stopped mid (same, inr b) is =
+          no-take-then v.told b.mid.told w.told (inside-takes b.g b.mid b.mid.told refl b.grows (cut-inside b.g b.begins))
+          (record { ts = spill_told (length b.mid.told) ∷ []; told = ap (λ u. u.told) is ∙ ap (λ u. u.told) b.stops ∙ b.spills.told; none = refl })
+      by step.Memory mid (same, t) is = inside-takes t.g t.mid w.told (ap (λ u. u.told) is ∙ ap (λ u. u.told) t.dry.stops) t.grows (cut-inside t.g t.begins)

@@ -115,7 +115,7 @@ pub record IsToLook (sys : System) (budget : ℕ) (x : Home) (v w : LaneView) : 
   pub spare : w.spare ≡ v.spare
   pub entry : x.looked ≡ true → KnowsEntry x.me w
 
--- its queue was found empty, and is so still
+-- its queue was found empty, and is so still; no record says so
 abbrev pub StaysEmpty : System → ℕ → Home → LaneView → LaneView → Bool → Type 0
-StaysEmpty sys budget x v w true = HomeIdles sys budget x w × LaneGoes false v w
+StaysEmpty sys budget x v w true = HomeIdles sys budget x w × LaneGoes false v w × (w.told ≡ v.told)
 StaysEmpty sys budget x v w false = IsToLook sys budget x v w

@@ -7,4 +7,4 @@ mod turning;
 
 pub use crossing::homes_cross_threads;
 pub use home::Home;
-pub use turning::object_turn;
+pub use turning::{begin_step, finish_step, object_turn};

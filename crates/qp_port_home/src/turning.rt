@@ -4,6 +4,7 @@ ghost use Rattle.std.specs.Prelude.{◌≡◌, ◌≤◌, false};
 ghost use Rattle.qp_model.specs.Sound.{IsSound};
 ghost use Rattle.qp_kernel_turns.specs.Lanes.{LaneTo, LaneTurns};
 ghost use Rattle.qp_port_home.specs.At.{IsBusyHome, IsHome};
+ghost use Rattle.qp_port_home.specs.Takes.{BeginTakes, FinishTakes, LookTakes};
 ghost use Rattle.qp_port_home.specs.Turning.{HomeTurns, LooksTo, NeverEmpty, NextTo, StaysEmpty, StepsTo, UnlessFound, UnlessIdle, UnlessOver};
 
 use crate::home::Home;
@@ -39,6 +40,7 @@ fn look_only<O: Ops>(ops: &mut O, sys: &System, home: &mut Home, budget: u32) ->
     ensures never { UnlessFound (O.lane ops.old) (O.lane ops.new) result }
     ensures lane { LaneTo false (O.lane ops.old) (O.lane ops.new) result }
     ensures same { home.new.me ≡ home.old.me }
+    ensures takes { LookTakes home.old home.new (O.lane ops.old).told (O.lane ops.new).told result }
 {
     if stays_empty(ops, sys, home, budget) {
         return Ok(());
@@ -54,8 +56,10 @@ fn look_only<O: Ops>(ops: &mut O, sys: &System, home: &mut Home, budget: u32) ->
     Err(Halt::Stopped)
 }
 
-/// Takes the next entry, and begins its step. False where the queue is empty.
-fn next<R: Wait, O: Ops, G: Tells>(
+/// Takes the next entry, and begins its step. False where the queue was found empty. An object that has taken up `budget` entries looks
+/// at its queue in the place of a take. Where a step begins, the gate is called with the lane's number and the count of entries that the
+/// object has taken up.
+pub fn begin_step<R: Wait, O: Ops, G: Tells>(
     rt: &R,
     ops: &mut O,
     sys: &System,
@@ -71,6 +75,7 @@ fn next<R: Wait, O: Ops, G: Tells>(
     ensures never { UnlessOver (O.lane ops.old) (O.lane ops.new) result }
     ensures lane { LaneTo false (O.lane ops.old) (O.lane ops.new) result }
     ensures same { home.new.me ≡ home.old.me }
+    ensures takes { BeginTakes home.old home.new (O.lane ops.old).told (O.lane ops.new).told result }
 {
     ready(ops)?;
     if home.object.taken() >= budget {
@@ -89,7 +94,7 @@ fn next<R: Wait, O: Ops, G: Tells>(
 }
 
 /// Goes on with the step under way, to its end. Where the stop word is set at a scheduling point, it stops there.
-fn finish<R: Wait, O: Ops>(
+pub fn finish_step<R: Wait, O: Ops>(
     rt: &R,
     ops: &mut O,
     sys: &System,
@@ -102,6 +107,7 @@ fn finish<R: Wait, O: Ops>(
     ensures never { NeverEmpty (O.lane ops.old) (O.lane ops.new) }
     ensures lane { LaneTo false (O.lane ops.old) (O.lane ops.new) result }
     ensures same { home.new.me ≡ home.old.me }
+    ensures takes { FinishTakes home.old home.new (O.lane ops.old).told (O.lane ops.new).told result }
 {
     let _ = budget;
     for _ in rt.forever() {
@@ -141,10 +147,10 @@ fn rounds<R: Wait, O: Ops, G: Tells>(
     ensures same { home.new.me ≡ home.old.me }
 {
     for _ in rt.forever() {
-        if !next(rt, ops, sys, home, lane, budget, gate)? {
+        if !begin_step(rt, ops, sys, home, lane, budget, gate)? {
             return Ok(());
         }
-        finish(rt, ops, sys, home, budget)?;
+        finish_step(rt, ops, sys, home, budget)?;
     }
     unreachable!()
 }

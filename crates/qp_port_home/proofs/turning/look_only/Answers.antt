@@ -1,9 +1,10 @@
-use Rattle.std.proofs.Common.{◌∙◌, ◌+◌, ◌≤◌, ap, refl, subst, arith, inr, false}
+use Rattle.std.proofs.Common.{◌∙◌, ◌+◌, ◌≤◌, ◌++◌, ◌∷◌, [], ap, append_assoc, refl, subst, arith, inl, inr, false}
 use Rattle.qp_model.specs.declared.bodies.Body.TheVariants as body
 use Rattle.qp_model.specs.Told.{for_object, plain}
 use Rattle.qp_calls.specs.Notes.{last_code}
 use Rattle.qp_calls.proofs.Noting.{may-note}
 use Rattle.qp_calls.proofs.NoteLemmas.{last-snoc}
+use Rattle.qp_kernel.specs.Turning.{seen_told}
 use Rattle.qp_kernel_turns.proofs.Lanes.{gains-goes, goes-then, stops-code}
 use Rattle.qp_kernel_turns.proofs.Turns.{noted}
 use Rattle.qp_port_home.specs.Turning.{StaysEmpty}
@@ -80,3 +81,42 @@ returns-clause-lane g c =
     (goes-then false (lane c.stays_empty.new.ops) (lane c.seen-now.new.self) (lane c.note.new.self) (gains-goes false _ (lane c.stays_empty.new.ops) (lane c.seen-now.new.self) c.seen-now.ensures.0.grows)
     (gains-goes false _ (lane c.seen-now.new.self) (lane c.note.new.self) spent)))
     (omega arith) (ap last_code spent.told ∙ last-snoc (lane c.seen-now.new.self).told (for_object c.args.home.now.me (plain body.Spent))) c.stop.ensures
+
+pub returns-then-stays_empty-clause-takes : goal.returns-then-stays_empty-clause-takes
+returns-then-stays_empty-clause-takes g c =
+    let lane = g.O.Ops.lane in
+    let stays = subst (StaysEmpty c.args.sys.now c.args.budget c.args.home.now (lane c.args.ops.now) (lane c.stays_empty.new.ops)) c.if-stays_empty.true c.stays_empty.ensures in
+    let empty = stays.0.empty in
+    record { f = empty.f; l = empty.l; m = empty.m; empty = empty.none; told = inl stays.2 }
+
+pub returns-then-from-clause-takes : goal.returns-then-from-clause-takes
+returns-then-from-clause-takes g c =
+    let lane = g.O.Ops.lane in
+    let r = c.seen-now.result in
+    let most = c.seen-now.ensures.2 in
+    let look = subst (StaysEmpty c.args.sys.now c.args.budget c.args.home.now (lane c.args.ops.now) (lane c.stays_empty.new.ops)) c.if-stays_empty.false c.stays_empty.ensures in
+    record {
+      f = r.f;
+      l = r.l;
+      m = r.m;
+      empty = omega (arith, most, c.if-from.true, c.from.ensures, c.from-2.ensures, c.from-3.ensures);
+      told = inr (inr (c.seen-now.ensures.0.grows.told ∙ ap (λ ts. ts ++ seen_told c.args.home.now.me r.f r.l r.m ∷ []) look.told));
+    }
+
+pub returns-clause-takes : goal.returns-clause-takes
+returns-clause-takes g c =
+    let lane = g.O.Ops.lane in
+    let r = c.seen-now.result in
+    let me = c.args.home.now.me in
+    let look = subst (StaysEmpty c.args.sys.now c.args.budget c.args.home.now (lane c.args.ops.now) (lane c.stays_empty.new.ops)) c.if-stays_empty.false c.stays_empty.ensures in
+    let spent = noted me body.Spent c.spent.result (lane c.seen-now.new.self) (lane c.note.new.self) c.spent.ensures c.note.ensures.grows in
+    let told = (lane c.args.ops.now).told in (
+      record {
+        ts = seen_told me r.f r.l r.m ∷ for_object me (plain body.Spent) ∷ [];
+        told =
+            ap (λ u. u.told) c.stop.ensures ∙ spent.told ∙ ap (λ ts. ts ++ for_object me (plain body.Spent) ∷ []) (c.seen-now.ensures.0.grows.told ∙ ap (λ ts. ts ++ seen_told me r.f r.l r.m ∷ []) look.told)
+            ∙ append_assoc told (seen_told me r.f r.l r.m ∷ []) (for_object me (plain body.Spent) ∷ []);
+        none = refl;
+      },
+      refl,
+    )

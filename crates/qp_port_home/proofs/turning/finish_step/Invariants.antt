@@ -1,8 +1,9 @@
 use Rattle.std.proofs.Common.{Bool, ◌≡◌, false}
 use Rattle.qp_kernel_turns.specs.Lanes.{LaneGoes}
 use Rattle.qp_port_home.specs.At.{IsBusyHome}
+use Rattle.qp_port_home.specs.Takes.{AddsNoTake}
 use Rattle.qp_port_home.specs.Turning.{NeverEmpty}
-use Rattle.qp_port_home.proofs.turning.finish.Given as goal
+use Rattle.qp_port_home.proofs.turning.finish_step.Given as goal
 
 -- the step is under way
 abbrev pub invariant-loop : goal.invariant-loop
@@ -13,4 +14,6 @@ invariant-loop g l =
       lane : LaneGoes false (g.O.Ops.lane l.fn.ops) (g.O.Ops.lane l.ops);
       never : NeverEmpty (g.O.Ops.lane l.fn.ops) (g.O.Ops.lane l.ops);
       same : l.home.me ≡ l.fn.home.me;
+      takes : AddsNoTake (g.O.Ops.lane l.fn.ops).told (g.O.Ops.lane l.ops).told;
+      under_way : l.home.busy ≡ l.fn.home.busy;
     }
