@@ -12,7 +12,7 @@ from .program import TOP
 USAGE = """usage: tools/libraries [--jobs N] [CRATE]
 
 Proves and builds the libraries of this repository below a crate (qp_cli), lowest first, N at once; what is built stays. N is one for each
-processor that has 4 gigabytes of memory, if it is left out. From nothing all of them take half an hour or more. Needs the toolchain, with
+processor that has 4 gigabytes of memory, if it is left out. Where fewer than N can begin, each gets several jobs. From nothing all of them take half an hour or more. Needs the toolchain, with
 its command rt on the path. Ends with 1 where one isn't built, and says which; what it said is in the crate's out/libraries.log."""
 
 #: What one job may take of memory, in gigabytes.
@@ -68,16 +68,25 @@ def size_of(name: str) -> int:
     return sum(file.read_bytes().count(b"\n") for file in files)
 
 
-def build_one(name: str) -> int:
-    """Builds a library; its output goes to a file beside it. Answers the status, negative where a signal ended it."""
+def shares(begin: int, running: int, jobs: int) -> list[int]:
+    """How many jobs each crate gets of those that begin now, the one with the longest way to the top first, beside those that run. Where
+    there are fewer crates than jobs all that stands above waits for them, so the first gets all jobs, and the processors are shared."""
+    crates = begin + running
+    if not begin or crates >= jobs:
+        return [1] * begin
+    return [jobs] + [-(-jobs // crates)] * (begin - 1)
+
+
+def build_one(name: str, jobs: int) -> int:
+    """Builds a library with so many jobs; its output goes to a file beside it. Answers the status, negative where a signal ended it."""
     folder = TOP / "crates" / name
     (folder / "out").mkdir(exist_ok=True)
     with open(folder / "out" / LOG, "wb") as log:
-        return subprocess.run(["rt", "lib", "--jobs", "1"], cwd=folder, stdin=subprocess.DEVNULL, stdout=log, stderr=log).returncode
+        return subprocess.run(["rt", "lib", "--jobs", str(jobs)], cwd=folder, stdin=subprocess.DEVNULL, stdout=log, stderr=log).returncode
 
 
 def build_all(
-    name: str, below: Below, jobs: int, size: Callable[[str], int], build: Callable[[str], int], say: Callable[[str], None]
+    name: str, below: Below, jobs: int, size: Callable[[str], int], build: Callable[[str, int], int], say: Callable[[str], None]
 ) -> list[str]:
     """Builds the libraries below a crate; of those that can begin the one with the longest way to the top begins first. Answers
     those that weren't built; what stands on one of these isn't begun."""
@@ -88,10 +97,11 @@ def build_all(
     with ThreadPoolExecutor(jobs) as pool:
         while left or running:
             ready = [crate for crate in left if done.issuperset(below[crate])]
-            for crate in sorted(ready, key=lambda crate: -length[crate])[:jobs - len(running)]:
+            begin = sorted(ready, key=lambda crate: -length[crate])[:jobs - len(running)]
+            for crate, share in zip(begin, shares(len(begin), len(running), jobs)):
                 left.remove(crate)
                 say(f"building {crate}")
-                running[pool.submit(build, crate)] = crate
+                running[pool.submit(build, crate, share)] = crate
             if not running:
                 break
             for future in wait(running, return_when=FIRST_COMPLETED).done:

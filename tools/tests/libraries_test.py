@@ -4,7 +4,7 @@ import threading
 import time
 import unittest
 
-from qptools.libraries import all_below, build_all, lengths_above, read_crates
+from qptools.libraries import all_below, build_all, lengths_above, read_crates, shares
 from qptools.program import TOP
 
 CRATES = "a:\nb: a clap\nc: a\nd: b c   # a comment\ntop: d\nbeside: a\n\n# nothing\n"
@@ -33,7 +33,8 @@ class Libraries(unittest.TestCase):
         begun, built, at_once, most = [], set(), [0], [0]
         lock = threading.Lock()
 
-        def build(name: str) -> int:
+        def build(name: str, share: int) -> int:
+            self.assertIn(share, range(1, jobs + 1))
             with lock:
                 self.assertTrue(built.issuperset(self.below[name]), f"{name} before those below it")
                 begun.append(name)
@@ -47,6 +48,14 @@ class Libraries(unittest.TestCase):
 
         failed = build_all("top", self.below, jobs, lambda name: 2 if name == "c" else 1, build, lambda line: None)
         return begun, failed, most[0]
+
+    def test_crates_without_company_get_several_jobs(self) -> None:
+        self.assertEqual(shares(1, 0, 4), [4])
+        self.assertEqual(shares(3, 0, 4), [4, 2, 2])
+        self.assertEqual(shares(1, 2, 4), [4])
+        self.assertEqual(shares(2, 2, 4), [1, 1])
+        self.assertEqual(shares(0, 1, 4), [])
+        self.assertEqual(shares(1, 0, 1), [1])
 
     def test_several_at_once(self) -> None:
         self.assertEqual(self.run_all(1), (["a", "c", "b", "d"], [], 1))
