@@ -1,11 +1,20 @@
-"""Builds the libraries below a crate, lowest first and several at once, by `rt lib` in each."""
+"""Builds the libraries below a crate, lowest first and several at once, by `rt lib` in each.
+
+A run of the toolchain locks its crate and all those below it, so two runs in one checkout wait for each other. Each job so works in a
+copy of the sources, and the checkout takes over what was built there, as the toolchain has it for several checkouts on one machine."""
 
 import os
+import queue
+import shutil
 import subprocess
 import sys
+import tempfile
+import threading
 import time
-from collections.abc import Callable
+from collections.abc import Callable, Iterable, Iterator
 from concurrent.futures import FIRST_COMPLETED, Future, ThreadPoolExecutor, wait
+from contextlib import contextmanager
+from pathlib import Path
 
 from .program import TOP
 
@@ -18,6 +27,8 @@ its command rt on the path. Ends with 1 where one isn't built, and says which; w
 #: What one job may take of memory, in gigabytes.
 GIGABYTES = 4
 LOG = "libraries.log"
+#: What a build of a crate reads.
+PARTS = ("src", "specs", "proofs")
 
 Below = dict[str, list[str]]
 
@@ -64,7 +75,7 @@ def jobs_here() -> int:
 def size_of(name: str) -> int:
     """The lines of a crate's sources, specifications and proofs."""
     folder = TOP / "crates" / name
-    files = (file for part in ("src", "specs", "proofs") for file in (folder / part).rglob("*") if file.is_file())
+    files = (file for part in PARTS for file in (folder / part).rglob("*") if file.is_file())
     return sum(file.read_bytes().count(b"\n") for file in files)
 
 
@@ -77,12 +88,52 @@ def shares(begin: int, running: int, jobs: int) -> list[int]:
     return [jobs] + [-(-jobs // crates)] * (begin - 1)
 
 
-def build_one(name: str, jobs: int) -> int:
-    """Builds a library with so many jobs; its output goes to a file beside it. Answers the status, negative where a signal ended it."""
-    folder = TOP / "crates" / name
-    (folder / "out").mkdir(exist_ok=True)
-    with open(folder / "out" / LOG, "wb") as log:
-        return subprocess.run(["rt", "lib", "--jobs", str(jobs)], cwd=folder, stdin=subprocess.DEVNULL, stdout=log, stderr=log).returncode
+def copied(crates: Iterable[str], to: Path) -> Path:
+    """Copies what builds of these crates read, which are all that crates.txt names."""
+    for file in ("crates.txt", "HANDLES"):
+        shutil.copy(TOP / file, to / file)
+    for crate in crates:
+        for part in PARTS:
+            if (TOP / "crates" / crate / part).is_dir():
+                shutil.copytree(TOP / "crates" / crate / part, to / "crates" / crate / part)
+    return to
+
+
+class Builders:
+    """Builds libraries in copies of the sources, one for each that is built at the same time."""
+
+    def __init__(self, copies: list[Path]) -> None:
+        self.free: queue.SimpleQueue[Path] = queue.SimpleQueue()
+        for copy in copies:
+            self.free.put(copy)
+        self.taking = threading.Lock()
+
+    def build(self, name: str, jobs: int) -> int:
+        """Builds a library with so many jobs, and has the checkout take it over; the output goes to a file beside it. Answers the status,
+        negative where a signal ended it."""
+        here, copy = TOP / "crates" / name, self.free.get()
+        (here / "out").mkdir(exist_ok=True)
+        with open(here / "out" / LOG, "wb") as log:
+
+            def lib(folder: Path) -> int:
+                words = ["rt", "lib", "--jobs", str(jobs)]
+                return subprocess.run(words, cwd=folder, stdin=subprocess.DEVNULL, stdout=log, stderr=log).returncode
+
+            status = lib(copy / "crates" / name)
+            self.free.put(copy)
+            with self.taking:
+                return status or lib(here)
+
+
+@contextmanager
+def builders(crates: Iterable[str], jobs: int) -> Iterator[Builders]:
+    """Builders of these crates, whose copies are gone behind it."""
+    with tempfile.TemporaryDirectory(prefix="qp-build-") as folder:
+        copies = [Path(folder) / str(number) for number in range(jobs)]
+        for copy in copies:
+            copy.mkdir()
+            copied(crates, copy)
+        yield Builders(copies)
 
 
 def build_all(
@@ -135,4 +186,5 @@ def main(words: list[str]) -> int:
         minutes, seconds = divmod(round(time.monotonic() - begun), 60)
         print(f"{minutes:>3}:{seconds:02} {line}", file=sys.stderr, flush=True)
 
-    return 1 if build_all(name, below, jobs, size_of, build_one, say) else 0
+    with builders(below, jobs) as at:
+        return 1 if build_all(name, below, jobs, size_of, at.build, say) else 0
