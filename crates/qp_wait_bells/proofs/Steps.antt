@@ -4,7 +4,7 @@ use mathlib.Core.Option.{some}
 use lib.ListN.{get_elem?}
 use Rattle.qp_wait_bells.specs.declared.tally.Tally.{Tally}
 use Rattle.qp_wait_bells.specs.declared.parking.Notes.{Notes}
-use Rattle.qp_wait_bells.specs.Tallies.{IsTallied, no_tally, sum_of, total, with_added, with_taken}
+use Rattle.qp_wait_bells.specs.Tallies.{IsTallied, no_tally, sum_of, total, with_added, with_look, with_taken}
 use Rattle.qp_wait_bells.specs.Parks.{HasNoted, with_note, with_park}
 use Rattle.qp_wait_bells.proofs.Totals.{total-set, total-last}
 
@@ -33,11 +33,11 @@ module _ (words : List ℕ) (views : List Tally) (id : ℕ) (v : Tally) (at : ge
       }
 
   -- one was taken off
-  pub takes : IsTallied words views → IsTallied (slice_set words 0 ((slice_index words 0 + (2 ^ 64 - 1)) % 2 ^ 64)) (slice_set views id (with_taken v))
+  pub takes : IsTallied words views → IsTallied (slice_set words 0 ((slice_index words 0 + (2 ^ 64 - 1)) % 2 ^ 64)) (slice_set views id (with_taken (slice_index words 0) v))
   takes h =
       let there = word-there words ((slice_index words 0 + (2 ^ 64 - 1)) % 2 ^ 64) h.one in
-      let added = total-set (λ (u : Tally). u.added) views id v (with_taken v) at in
-      let taken = total-set (λ (u : Tally). u.taken) views id v (with_taken v) at in
+      let added = total-set (λ (u : Tally). u.added) views id v (with_taken (slice_index words 0) v) at in
+      let taken = total-set (λ (u : Tally). u.taken) views id v (with_taken (slice_index words 0) v) at in
       let is = h.is in
       record {
         one = still-one words ((slice_index words 0 + (2 ^ 64 - 1)) % 2 ^ 64) h.one;
@@ -47,22 +47,22 @@ module _ (words : List ℕ) (views : List Tally) (id : ℕ) (v : Tally) (at : ge
       }
 
   -- it was looked at
-  pub looks : IsTallied words views → IsTallied (slice_set words 0 (slice_index words 0)) (slice_set views id v)
+  pub looks : IsTallied words views → IsTallied (slice_set words 0 (slice_index words 0)) (slice_set views id (with_look (slice_index words 0) v))
   looks h =
       let there = word-there words (slice_index words 0) h.one in
-      let added = total-set (λ (u : Tally). u.added) views id v v at in
-      let taken = total-set (λ (u : Tally). u.taken) views id v v at in
+      let added = total-set (λ (u : Tally). u.added) views id v (with_look (slice_index words 0) v) at in
+      let taken = total-set (λ (u : Tally). u.taken) views id v (with_look (slice_index words 0) v) at in
       let is = h.is in
       record { one = still-one words (slice_index words 0) h.one; over = h.over; under = h.under; is = omega (arith, there, added, taken, is) }
 
 -- a seat with nothing in it was split off
 pub parts : (words : List ℕ) (views : List Tally) (id : ℕ) (v : Tally) → get_elem? views id ≡ some v → IsTallied words views
-    → IsTallied words (slice_set views id v ++ record { added = 0; taken = 0 } ∷ [])
+    → IsTallied words (slice_set views id v ++ record { added = 0; taken = 0; empty_looks = 0; last_takes = 0 } ∷ [])
 parts words views id v at h =
     let added = total-set (λ (u : Tally). u.added) views id v v at in
     let taken = total-set (λ (u : Tally). u.taken) views id v v at in
-    let more = total-last (λ (u : Tally). u.added) (slice_set views id v) (record { added = 0; taken = 0 }) in
-    let fewer = total-last (λ (u : Tally). u.taken) (slice_set views id v) (record { added = 0; taken = 0 }) in
+    let more = total-last (λ (u : Tally). u.added) (slice_set views id v) (record { added = 0; taken = 0; empty_looks = 0; last_takes = 0 }) in
+    let fewer = total-last (λ (u : Tally). u.taken) (slice_set views id v) (record { added = 0; taken = 0; empty_looks = 0; last_takes = 0 }) in
     let is = h.is in
     record { one = h.one; over = h.over; under = h.under; is = omega (arith, added, taken, more, fewer, is) }
 

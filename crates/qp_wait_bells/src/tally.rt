@@ -1,15 +1,18 @@
 //! The count of what keeps the threads awake: sources that aren't at their end, and entries whose step isn't finished.
 
 ghost use Rattle.std.specs.Prelude.{◌≡◌, ◌<◌, [], IfOk};
-ghost use Rattle.qp_wait_bells.specs.Tallies.{IsTallied, no_tally, with_added, with_taken, sum_of};
+ghost use Rattle.qp_wait_bells.specs.Tallies.{IsTallied, no_tally, with_added, with_look, with_taken, sum_of};
 
 use atomic_table::{Join, Play, Seat, Split, Table, TableRule};
 use std::alloc::{AllocError, Global};
 
-/// What a seat has added to the count and taken off. No value of it is made.
+/// What a seat has added to the count and taken off, how many of its looks found nothing there, and how often it took the last one off.
+/// No value of it is made.
 pub struct Tally {
     pub added: u64,
     pub taken: u64,
+    pub empty_looks: u64,
+    pub last_takes: u64,
 }
 
 /// The count is all that was added, less all that was taken off.
@@ -33,13 +36,13 @@ impl Play<(), Tally> for Adds {
 struct Takes;
 
 impl Play<(), Tally> for Takes {
-    ghost then = { λ st m n m'. m'.0 ≡ with_taken m.0 };
+    ghost then = { λ st m n m'. m'.0 ≡ with_taken n m.0 };
 }
 
 struct Finds;
 
 impl Play<(), Tally> for Finds {
-    ghost then = { λ st m n m'. m'.0 ≡ m.0 };
+    ghost then = { λ st m n m'. m'.0 ≡ with_look n m.0 };
 }
 
 /// A lane's seat is split off with nothing in it.
@@ -81,16 +84,16 @@ pub fn add(tallies: &Tallies, seat: &mut Seat<(), Tally>, n: u64)
 pub fn take_one(tallies: &Tallies, seat: &mut Seat<(), Tally>) -> u64
     requires own { (seat.old.table_id ≡ tallies.now.shared.table_id) × (0 < tallies.now.shared.table_id.words) }
     ensures same { (seat.new.table_id ≡ seat.old.table_id) × (seat.new.id ≡ seat.old.id) }
-    ensures taken { seat.new.me.0 ≡ with_taken seat.old.me.0 }
+    ensures taken { seat.new.me.0 ≡ with_taken result seat.old.me.0 }
 {
     tallies.shared.fetch_sub::<Takes>(seat, 0, 1)
 }
 
-/// Looks at the count.
+/// Looks at the count, and answers what is there.
 pub fn find(tallies: &Tallies, seat: &mut Seat<(), Tally>) -> u64
     requires own { (seat.old.table_id ≡ tallies.now.shared.table_id) × (0 < tallies.now.shared.table_id.words) }
     ensures same { (seat.new.table_id ≡ seat.old.table_id) × (seat.new.id ≡ seat.old.id) }
-    ensures found { seat.new.me.0 ≡ seat.old.me.0 }
+    ensures found { seat.new.me.0 ≡ with_look result seat.old.me.0 }
 {
     tallies.shared.load::<Finds>(seat, 0)
 }

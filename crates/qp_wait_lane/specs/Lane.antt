@@ -1,8 +1,9 @@
 -- What contracts see of a lane of the waiting port.
-use Rattle.std.specs.Prelude.{◌≡◌, ℕ, ◌+◌, ◌≤◌, ◌%◌, ◌^◌, ◌==◌, List, [], ◌∷◌, length, if◌then◌else◌, Some, None}
+use Rattle.std.specs.Prelude.{◌≡◌, ℕ, ◌+◌, ◌≤◌, ◌%◌, ◌^◌, ◌==◌, Bool, List, [], ◌∷◌, length, if◌then◌else◌, Some, None}
 use Rattle.std.specs.declared.option.Option.{Option}
 use Rattle.crossbeam_utils.specs.Token.{parker_view}
 use Rattle.qp_calls.specs.LaneView.{LaneView}
+use Rattle.qp_wait_bells.specs.Tallies.{one_where}
 use Rattle.qp_wait_rings.specs.declared.cord.Cord.{Cord}
 use Rattle.qp_wait_rings.specs.Lane.{ringing_view}
 use Rattle.qp_wait_lane.specs.declared.lane.BellLane.{BellLane}
@@ -30,18 +31,22 @@ given_in a (c ∷ cs) = if c.object == a then (parker_view c.pass).given else gi
 abbrev pub notes_to : ℕ → BellLane → ℕ
 notes_to a l = given_in a l.ringing.cords.items + given_in a l.farewells.cords.items
 
--- so often at most, modulo 2^64
-pub record CallsAtMost (most was is : ℕ) : Type 0 where
-  pub n : ℕ
-  pub few : n ≤ most
-  pub are : is % 2 ^ 64 ≡ (was + n) % 2 ^ 64
+-- how many of its looks at the count found nothing there
+abbrev pub empty_looks : BellLane → ℕ
+empty_looks l = l.closings.seat.me.0.empty_looks
 
--- one was taken off, and one farewell was said at most
+-- how often it took the last one off the count, but for claims that were refused
+abbrev pub last_takes : BellLane → ℕ
+last_takes l = l.closings.seat.me.0.last_takes
+
+-- one was taken off, and a farewell was said exactly where it was the last
 pub record IsAway (old new : BellLane) : Type 0 where
   pub ringing : new.ringing ≡ old.ringing
   pub perch : new.perch ≡ old.perch
   pub ended : new.closings.ended ≡ (old.closings.ended + 1) % 2 ^ 64
-  pub said : CallsAtMost 1 old.farewells.said new.farewells.said
+  pub looks : empty_looks new ≡ empty_looks old
+  pub last : last_takes new ≤ last_takes old + 1
+  pub said : (new.farewells.said + last_takes old) % 2 ^ 64 ≡ (old.farewells.said + last_takes new) % 2 ^ 64
 
 -- every parker was noted once
 pub record SaysOne (old new : BellLane) : Type 0 where
@@ -50,19 +55,23 @@ pub record SaysOne (old new : BellLane) : Type 0 where
   pub perch : new.perch ≡ old.perch
   pub said : new.farewells.said ≡ (old.farewells.said + 1) % 2 ^ 64
 
--- one was taken off
-pub record ClosesOne (old new : BellLane) : Type 0 where
+-- one was taken off; `last` tells whether it was the last
+pub record ClosesOne (last : Bool) (old new : BellLane) : Type 0 where
   pub ringing : new.ringing ≡ old.ringing
   pub farewells : new.farewells ≡ old.farewells
   pub perch : new.perch ≡ old.perch
   pub ended : new.closings.ended ≡ (old.closings.ended + 1) % 2 ^ 64
+  pub looks : empty_looks new ≡ empty_looks old
+  pub lasts : last_takes new ≡ last_takes old + one_where last
 
--- the count was looked at
-pub record LooksAtCount (old new : BellLane) : Type 0 where
+-- the count was looked at; `empty` tells whether nothing was there
+pub record LooksAtCount (empty : Bool) (old new : BellLane) : Type 0 where
   pub ringing : new.ringing ≡ old.ringing
   pub farewells : new.farewells ≡ old.farewells
   pub perch : new.perch ≡ old.perch
   pub ended : new.closings.ended ≡ old.closings.ended
+  pub looks : empty_looks new ≡ empty_looks old + one_where empty
+  pub lasts : last_takes new ≡ last_takes old
 
 -- all but its list of parks is as it was
 pub record KeepsPerch (old new : BellLane) : Type 0 where

@@ -102,14 +102,14 @@ impl<'a> BellLane<'a> {
 
     /// A step is finished: one is taken off the count. Whether that leaves nothing there.
     pub fn close(&mut self) -> bool
-        ensures { ClosesOne self.old self.new }
+        ensures { ClosesOne result self.old self.new }
     {
         self.closings.take_off()
     }
 
     /// Whether nothing is on the count.
     pub fn is_over(&mut self) -> bool
-        ensures { LooksAtCount self.old self.new }
+        ensures { LooksAtCount result self.old self.new }
     {
         self.closings.is_zero()
     }

@@ -37,7 +37,8 @@ pub record RingsOne (a : ℕ) (old new : List Cord) : Type 0 where
 pub record TakesOff (old new : List Cord) (refused more : ℕ) (was is : Tally) : Type 0 where
   pub cords : new ≡ old
   pub refused_is : more ≡ refused + 1
-  pub taken : is ≡ with_taken was
+  pub found : ℕ
+  pub taken : is ≡ with_taken found was
 
 -- nothing was taken off
 pub record RingsFor (a : ℕ) (old new : List Cord) (refused more : ℕ) (was is : Tally) : Type 0 where

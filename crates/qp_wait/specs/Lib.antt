@@ -1,0 +1,4 @@
+pub mod Looking
+pub mod Pausing
+pub mod Steps
+pub mod Waiting

@@ -1,0 +1,9 @@
+//! The turn of an object in the waiting port: it parks where its queue is found empty, and goes on when it is noted.
+#![tactic(auto)]
+
+mod looking;
+mod pausing;
+mod steps;
+mod turning;
+
+pub use turning::wait_turn;
