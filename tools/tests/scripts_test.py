@@ -15,7 +15,7 @@ from qptools.program import TOP
 SCRIPTS = ("examples/test", "view/test", "view/qpview", "view/browser/check", "tools/test", "tools/qptest", "tools/qpexplain", "tools/libraries",
            "tools/sources", "bench/gate", "bench/verdicts", "bench/edits/try", "recorder/test")
 OF_THE_PROGRAM = ("bench/check", "bench/documents", "bench/edges", "bench/hostile", "bench/journals", "bench/memory", "bench/mutants",
-                  "bench/readers", "bench/replay", "bench/runs", "bench/sim", "bench/steps", "bench/sum", "examples/test")
+                  "bench/readers", "bench/replay", "bench/runs", "bench/sim", "bench/steps", "bench/sum", "bench/threads", "examples/test")
 SECONDS = 20
 
 
@@ -29,6 +29,10 @@ class Scripts(unittest.TestCase):
                 self.assertEqual((ran.returncode, ran.stderr), (0, ""))
                 self.assertRegex(ran.stdout, r"(?i)usage|`")
                 self.assertLess(len(ran.stdout.splitlines()), 40)
+                if script.startswith("bench/") or script == "examples/test":
+                    words = " ".join(ran.stdout.split())
+                    self.assertRegex(words, r"\btakes? .*\b(second|minute|hour)s?\b", "how long it takes")
+                    self.assertRegex(words, r"\bneeds?\b|must be built", "what it needs")
 
     def test_no_script_builds(self) -> None:
         for script in OF_THE_PROGRAM:
@@ -55,6 +59,16 @@ class Scripts(unittest.TestCase):
                 with self.subTest(words[0]):
                     ran = subprocess.run([Path(folder, words[0]), *words[1:]], capture_output=True, text=True, timeout=SECONDS)
                     self.assertEqual((ran.returncode, ran.stderr.splitlines()[-1]), (125, "the program isn't built: ./qp build"))
+
+
+class LineEnds(unittest.TestCase):
+    """Stimuli and journals with Windows line ends are refused, so a checkout has none."""
+
+    @unittest.skipUnless(shutil.which("git") and (TOP / ".git").exists(), "this is no checkout")
+    def test_a_checkout_has_line_feeds_alone(self) -> None:
+        files = ["qp", "examples/lamp.toml", "examples/go.txt", "examples/philosophers/two-ticks.txt", "tools/slips.txt"]
+        ran = subprocess.run(["git", "check-attr", "eol", "--", *files], cwd=TOP, capture_output=True, text=True, check=True)
+        self.assertEqual(ran.stdout.splitlines(), [f"{file}: eol: lf" for file in files])
 
 
 class Hints(unittest.TestCase):
