@@ -21,8 +21,9 @@ from .program import TOP
 USAGE = """usage: tools/libraries [--jobs N] [CRATE]
 
 Proves and builds the libraries of this repository below a crate (qp_cli), lowest first, N at once; what is built stays. N is one for each
-processor that has 4 gigabytes of memory, if it is left out. Where fewer than N can begin, each gets several jobs. From nothing all of them take half an hour or more. Needs the toolchain, with
-its command rt on the path. Ends with 1 where one isn't built, and says which; what it said is in the crate's out/libraries.log."""
+processor that has 4 gigabytes of memory, if it is left out. Where fewer than N can begin, each gets several jobs. From nothing all of them
+take less than an hour on four processors. Needs the toolchain, with its command rt on the path. Ends with 1 where one isn't built, and says
+which; what it said is in the crate's out/libraries.log."""
 
 #: What one job may take of memory, in gigabytes.
 GIGABYTES = 4

@@ -79,7 +79,7 @@ class Files(unittest.TestCase):
         table = (
             ("object.lamp = { state = \"on\", took = 1 }\n", []),
             ("object.lamp = { state = \"off\" }\n", ["lamp is in on, expected off"]),
-            ("object.lamp = { took = 2, said = [1] }\n", ["lamp took 1 events, expected 2", "lamp said [], expected [1]"]),
+            ("object.lamp = { took = 2, said = [1] }\n", ["lamp took 1 event, expected 2", "lamp said [], expected [1]"]),
             ("object.lamp = { vars = { x = 1 } }\n", ["lamp has no variable x"]),
             ("object.light = { took = 1 }\n", ["the system has no object light"]),
             ("end = 3\n", ["end is 0, expected 3"]), ("refused = 1\n", ["0 calls are refused, expected 1"]),
@@ -114,9 +114,17 @@ class Files(unittest.TestCase):
         status, printed, _ = answer("--cover", "--low", str(self.folder))
         self.assertEqual(status, 0)
         self.assertEqual(printed.splitlines()[8:], [
-            "8 passed, 0 failed", f"{self.folder}/lamp.toml:", "chart lamp: 1 of 1 rows taken",
+            "8 passed, 0 failed", f"{self.folder}/lamp.toml:", "chart lamp: 1 of 1 row taken",
             "            size  least free  most used", "queue lamp     2           1          1",
         ])
+
+    def test_journals_of_another_system(self) -> None:
+        """Aren't counted."""
+        journal = str(JUDGED / "journals" / "walked.txt")
+        for word in ("cover", "low"):
+            status, printed, noted = answer(word, str(self.folder / "lamp.toml"), journal)
+            self.assertEqual((status, printed), (2, ""))
+            self.assertIn("walked.txt: names state 3 of lamp, which the system doesn't have; is it the journal of another system?", noted)
 
     def test_words(self) -> None:
         self.assertEqual(answer("--help")[0], 0)
@@ -158,6 +166,16 @@ class Orders(unittest.TestCase):
         self.assertTrue(answer("orders", "--most", "2", str(EXAMPLES / "clock" / "clock.toml"), str(EXAMPLES / "clock" / "two.txt"))[1]
                         .startswith("2 of 3 orders were run"))
 
+    @unittest.skipUnless(is_built(), "the program isn't built")
+    def test_words(self) -> None:
+        """Options stand before the files or behind them."""
+        clock = [str(EXAMPLES / "clock" / name) for name in ("clock.toml", "two.txt")]
+        self.assertTrue(answer("orders", *clock, "--most=2", "--kernel", "qv")[1].startswith("2 of 3 orders were run"))
+        for words, told in ((("--much", "2"), "--much is no option: --kernel, --most"), (("--most",), "--most has no value"),
+                            (("--most", "few"), "--most a number"), (("third",), "a system and stimuli are needed")):
+            status, _, noted = answer("orders", *clock, *words)
+            self.assertEqual(status, 2)
+            self.assertIn(told, noted)
 
     @unittest.skipUnless(is_built(), "the program isn't built")
     def test_an_order_ends_where_its_run_does(self) -> None:
@@ -221,11 +239,11 @@ class Counts(unittest.TestCase):
     def test_coverage(self) -> None:
         lamp = self.story("lamp.toml", "go.txt", "switched.txt")
         coverage = Coverage(lamp.system)
-        self.assertEqual(coverage.text(), "chart lamp: 0 of 1 rows taken\n  never: state off, row 1 (on GO to on)\n")
+        self.assertEqual(coverage.text(), "chart lamp: 0 of 1 row taken\n  never: state off, row 1 (on GO to on)\n")
         for times in (1, 2):
             coverage.add(lamp.journal)
             self.assertEqual([row.times for row in coverage.rows(lamp.system.charts["lamp"])], [times])
-        self.assertEqual(coverage.text(), "chart lamp: 1 of 1 rows taken\n")
+        self.assertEqual(coverage.text(), "chart lamp: 1 of 1 row taken\n")
 
     def test_low_water(self) -> None:
         full = self.story("crowded.toml", "go.txt", "crowded-out.txt")

@@ -18,6 +18,7 @@ from qptools.explain.habits import habit_in_stimuli, habit_in_text
 from qptools.explain.hints import hints
 from qptools.explain.refusal import Refusal, read_refusal
 from qptools.explain.runs import explain_long_stop, explain_stop
+from qptools.explain.toml_faults import toml_habit
 from qptools.explain.words import explain_words
 from qptools.program import TOP, Answer, is_built
 from qpviewer.files import read_run
@@ -135,6 +136,11 @@ class Lines(unittest.TestCase):
         table = {
             (): "no command: `qp help` has them",
             ("rnu", "a", "b"): "no command is called 'rnu'; did you mean `run`?",
+            ("build", "now"): "`build` is answered by the launcher: it takes no words",
+            ("--help", "run"): "`--help` is answered by the launcher: it stands alone or behind a command: qp run --help",
+            ("help", "run", "gen"): "`help` is answered by the launcher: it takes one command at most: qp help run",
+            ("version",): "no command is called 'version'; did you mean `--version`?",
+            ("-v",): "no command is called '-v'; did you mean `--version`?",
             ("run", "a"): "STIMULI is missing: qp run SYSTEM STIMULI",
             ("run",): "SYSTEM and STIMULI are missing: qp run SYSTEM STIMULI",
             ("check", "a", "b", "c", "d"): "'d' is a word too many: qp check SYSTEM STIMULI JOURNAL",
@@ -164,6 +170,7 @@ class Lines(unittest.TestCase):
             ('`ring = 1` for `queue = 1`', "4 object.1", "`ring` is no key of this table"),
             ('`colour = 1` behind `qp = 1`', "4 ", "the top of the file: `colour` is no key of this table"),
             ('`colour = 1` behind `qp = 1`', "4 ", "the top of the file has the keys chart, object, pool, qp, signal"),
+            ('`[[state]]\nname = "on"` for `[[chart.state]]\nname = "on"`', "4 ", "as a header it is [[chart.state]]"),
             ('`wheel = 1` for `queue = 1`', "4 object.1", "an object has the keys chart, defer, name, priority"),
             ('`queue = 256` for `queue = 1`', "5 object.1.queue", "object lamp, queue: must be 0 to 255"),
             ('`name = "off"` for `name = "on"`', "6 chart.1.state.2.name", "this name stands twice"),
@@ -173,6 +180,9 @@ class Lines(unittest.TestCase):
             ('no `static = true`', "15 signal.1", "signal GO: its events need a pool"),
             ('`do = ["post you GO"]` for `to = "on"`', "7 chart.1.state.1.row.1.do.1", "action 1: you isn't declared"),
             ('`do = ["post lamp go"]` for `to = "on"`', "7 chart.1.state.1.row.1.do.1", "go isn't declared"),
+            ('`on = "Q_EXIT_SIG"\nto` for `on = "GO"\nto`', "7 chart.1.state.1.row.1.on", "on exit stands in its `exit`"),
+            ('`on = "INIT"\nto` for `on = "GO"\nto`', "7 chart.1.state.1.row.1.on", "initial transition is its `init`"),
+            ('`parent = "QHsm_top"` behind `name = "on"`', "7 chart.1.state.2.parent", "a state at the top has no `parent`"),
         )
         for changed, says, words in table:
             with self.subTest(changed):
@@ -180,6 +190,41 @@ class Lines(unittest.TestCase):
                 change_all(files, [], changed)
                 with folder_with(files):
                     self.assertIn(words, " ".join(explanation(["run", "lamp.toml", "go.txt"], f"qp: lamp.toml: {says}\n")))
+
+    def test_lines_that_arent_toml(self) -> None:
+        """What may be wrong in a line, beside the line above it."""
+        table = (
+            ('row = [{ on = BTN_MODE, to = "h12" }]', "", "names and texts stand in quotes"),
+            ("entry = [recall]", "", "names and texts stand in quotes"),
+            ('{ on = "A", when = p1 > 0, to = "b" },', "row = [", "names and texts stand in quotes"),
+            ("init = off", "", "names and texts stand in quotes"),
+            ("queue: 5", "", "`=` stands between a key and its value, and no `:`"),
+            ('{ on: "A" }', "", "`=` stands between a key and its value, and no `:`"),
+            ("queue == 5", "", "one `=` stands between a key and its value"), ("queue := 5", "", "one `=` stands between a key and its value"),
+            ("static = TRUE", "", "write `true`"),
+            ("queue = 5;", "", "no `;` ends a line"), ("queue = 5,", "", "no comma ends a line, but within a list"),
+            ('{ on = "A", do = ["defer" "say 1"] },', "row = [", "a comma is missing between two texts"),
+            ('{ on = "A" to = "b" },', "row = [", "a comma is missing between two keys"),
+            ('{ on = "A" },', '{ on = "B" }', "a comma is missing behind the line above"),
+            ("queue = 5 // five", "", "a comment begins with `#`"), ('name = "a', "", "a text ends with the quote that it began with"),
+            ("[[chart.state]]", 'row = [{ on = "A" }', "a bracket of the line above isn't closed"),
+            ("x = 1", "y = [1", "a bracket of the line above isn't closed"),
+            ("x = 0x1G", "", ""), ('x = "a" # it\'s "quoted', "", ""),
+        )
+        for line, before, said in table:
+            with self.subTest(line):
+                self.assertEqual(toml_habit(line, before), said)
+
+    def test_what_stands_twice(self) -> None:
+        table = {
+            "queue = 2\n": "a key stands twice in its table", "[x]\n[x]\n": "tables of a list have double brackets, as [[object]]",
+            "x = { a = 1, a = 2 }\n": "a key stands twice in its table",
+        }
+        for more, said in table.items():
+            with self.subTest(more), folder_with({"lamp.toml": LAMP.read_text() + more}):
+                told = explanation(["run", "lamp.toml", "go.txt"], "qp: lamp.toml: 1 -\n")
+                self.assertIn("isn't TOML: ", told[0])
+                self.assertIn(said, told[-1])
 
     def test_a_journal_as_text_isnt_frames(self) -> None:
         with folder_with({"run.txt": "qp 1 0 100000\nlane 0\nend 0\n"}):
@@ -270,16 +315,33 @@ class Lines(unittest.TestCase):
             "arm CLOCK 1 0": "numbers of ticks stand in parentheses: write `arm CLOCK(1, 0)`", "disarm T()": "`disarm` takes a name alone: write `disarm T`",
             "publish GO()": "no empty parentheses: write `GO`", "now = abs(now)": "there are no functions, such as `abs`: only variables, parameters and numbers",
             "unlock": "a ceiling is raised for its own actions alone: write `locked 3 [a = 1; b = 2]`",
+            "lock(3)": "a ceiling is raised for its own actions alone: write `locked 3 [a = 1; b = 2]`",
+            "POST(me, GO)": "`post` isn't a function: it stands without parentheses", "now = now + 1;": "no `;` ends a text",
+            "QTIMEEVT_TICK_X(0U, &l_clock);": "QP's `QTIMEEVT_TICK_X` is `tick RATE` here",
+            "Q_TRAN(&setting)": "`Q_TRAN` is no action: a transition is the `to` of a row, and without `to` the row stays in its state",
+            "now = (uint8_t)now + 1": "there are no casts: each value is a whole number of 64 bits",
+            "int x = 5": "no variable is declared here: it stands in `vars` of the chart, with its first value",
+            "if (now > 5) rung = 1": "a condition is the `when` of a row", "switch (now)": "there is no `switch`: write a row for each case, with guards",
+            "while (now < 5)": "there is no `while`: an object posts an event to itself, or a timer has an interval",
         }
         for text, said in texts.items():
             with self.subTest(text):
                 self.assertEqual(habit_in_text(text, False), said)
+        called = ("no function is called, such as `BSP_buzz`: `say 1` writes a number into the journal, "
+                  "and what another object does is posted to it")
+        for text in ("BSP_buzz()", "BSP_buzz(now, 3);", "BSP_buzz (p1)"):
+            self.assertEqual(habit_in_text(text, False), called)
+        for text in ("BSP_isOn()", "now > 3 && BSP_isOn()", "BSP_isOn(now)", "!BSP_isOn()"):
+            self.assertEqual(habit_in_text(text, True), "there are no functions, such as `BSP_isOn`: only variables, parameters and numbers")
         lines = {
             "QACTIVE_POST(clock, GO)": "QP's `QACTIVE_POST` is `post OBJECT EVENT` here", "ticks 0": "did you mean `tick`?",
             "settle 1": "`settle` stands alone: it waits until each queue is empty", "arm T(1,0)": "`arm` is an action of a chart and no stimulus",
             "post clock, GO": "no comma stands between tokens, but for those within parentheses",
             "wait 5": "time passes by `tick RATE`; `settle` waits until each queue is empty",
             "post clock GO(1.5)": "numbers are whole: count in a smaller unit, as tenths", "frobnicate": "",
+            "tick 0 5": "a line is one stimulus: write the `tick` as often as it happens",
+            "post clock GO x3": "a line is one stimulus: write the `post` as often as it happens",
+            "source 1:": "a source begins with `source N` alone, where N is 1 for the first one, 2 for the next",
         }
         for line, said in lines.items():
             with self.subTest(line):

@@ -31,6 +31,10 @@ def main(words: list[str]) -> int:
     made_text = _TEXTS.get(words[0]) if words else None
     if made_text:
         words = words[1:]
+    if odd := next((word for word in words if word.startswith("--")), None):
+        where = "stands before the files" if odd in _TEXTS else f"is no option; {' and '.join(_TEXTS)} are"
+        print(f"qpview: {odd} {where}", file=sys.stderr)
+        return BAD_WORDS
     if len(words) != 3 and (made_text or len(words) != 4):
         print(USAGE, file=sys.stderr)
         return BAD_WORDS

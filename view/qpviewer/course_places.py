@@ -5,12 +5,12 @@ from typing import NamedTuple
 
 from .actions import Action, Names, read_action, read_expression, wrapped
 from .faults import Fault
-from .journal import Journal, Record
+from .journal import Journal
 from .object_places import failure_at, records_of
 from .shapes import Entry, Group, References, Shapes, Unfit
 from .system_parts import Object, Row, State, System
 from .tree import main_state, path_of
-from .word_places import Failure, Spot
+from .word_places import Failure
 
 _BITS = 2**64
 

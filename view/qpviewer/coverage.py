@@ -5,6 +5,7 @@ from collections.abc import Iterator
 from typing import NamedTuple
 
 from .journal import Journal
+from .record_words import plural
 from .system_parts import Chart, Row, State, System
 
 
@@ -48,7 +49,7 @@ class Coverage:
         for chart in self._system.charts.values():
             rows = list(self.rows(chart))
             never = [row for row in rows if not row.times]
-            lines.append(f"chart {chart.name}: {len(rows) - len(never)} of {len(rows)} rows taken")
+            lines.append(f"chart {chart.name}: {len(rows) - len(never)} of {plural(len(rows), 'row')} taken")
             for taken in never:
                 guard = f" when {taken.row.when}" if taken.row.when else ""
                 target = f" to {taken.row.to.name}" if taken.row.to else ""

@@ -17,6 +17,11 @@ class Names:
         entry = self._objects.get(priority)
         return entry.name if entry else f"object {priority}"
 
+    def can_defer(self, priority: int) -> bool:
+        """Whether an object has a deferred list with room for an entry."""
+        entry = self._objects.get(priority)
+        return entry is None or entry.defer > 0
+
     def state(self, priority: int, number: int) -> str:
         """A state of an object's chart; a dash for none."""
         entry = self._objects.get(priority)

@@ -62,8 +62,7 @@ _OF_EVENT = {
 }
 _FIXED = {
     "begin": "starts", "nil": "finds its queue empty", "none": "no state handles it", "done": "is done",
-    "nodefer": "can't defer: its deferred list is full", "norecall": "has nothing to recall", "settle": "settles",
-    "spent": "has spent its budget",
+    "norecall": "has nothing to recall", "settle": "settles", "spent": "has spent its budget",
 }
 #: Words that need names or numbers, each of the records' numbers and the event.
 _WORDS: dict[str, Callable[[RecordWords, tuple[int, ...], str], str]] = {
@@ -80,8 +79,9 @@ _WORDS: dict[str, Callable[[RecordWords, tuple[int, ...], str], str]] = {
     "inc": lambda told, n, _: f"makes reference {n[3]} of block {n[1]}.{n[2]}",
     "dec": lambda told, n, _: f"drops reference {n[4]} of block {n[1]}.{n[2]}",
     "back": lambda told, n, _: f"gives block {n[1]}.{n[3]} back",
+    "nodefer": lambda told, n, _: f"can't defer: {'its deferred list is full' if told.names.can_defer(n[0]) else 'it has no deferred list'}",
     "post": lambda told, n, event: f"posts {event} to {told.names.object(n[1])}",
-    "full": lambda told, n, _: f"is refused by the queue of {told.names.object(n[1])}, margin {n[5]}",
+    "full": lambda told, n, event: f"posts {event}, which is refused by the queue of {told.names.object(n[1])}, margin {n[5]}",
     "lock": lambda told, n, _: f"raises the ceiling to {n[1]}",
     "unlock": lambda told, n, _: f"puts the ceiling back to {n[1]}",
     "sub": lambda told, n, _: f"subscribes to {told.names.signal(n[1])}",

@@ -31,7 +31,7 @@ class Story:
             self._row_of.append(self.rows.row_of(lane, record.numbers[0]))
             self.words.tell(index, lane, record)
             self.steps.tell(index, lane, record)
-            self._events.append(self.words.event_told(record))
+            self._events.append(self.words.event_told(lane, record))
         self.steps.finish(max(len(self._row_of) - 1, 0))
 
     def records(self) -> list[tuple[int, Record]]:
@@ -115,7 +115,7 @@ class Story:
         charts = list(self.system.charts.values())
         return {
             "name": entry.name, "priority": entry.priority, "chart": charts.index(entry.chart),
-            "capacity": entry.queue + 1, "lengths": self.words.lengths[entry.priority],
+            "capacity": entry.queue + 1, "canDefer": entry.defer > 0, "lengths": self.words.lengths[entry.priority],
         }
 
     def object_lines(self) -> list[list[str]]:

@@ -36,6 +36,7 @@ class WordsTold:
         self._events: dict[tuple[int, int], str] = {}
         self._publications: dict[tuple[int, int], tuple[int, set[int]]] = {}
         self._fired: set[int] = set()
+        self._held: dict[int, tuple[int, int]] = {}
         self._labels: dict[str, int] = {}
         self.changes: list[list] = []
         self.arrows: list[list[int]] = []
@@ -63,11 +64,13 @@ class WordsTold:
         """The number of an entry's event, by its first two numbers."""
         return self._labels.setdefault(self.event_of(pool, block), len(self._labels))
 
-    def event_told(self, record: Record) -> str:
-        """The event of the entry that a record has, or of the block that it gets; nothing where it has none. Asked right
-        after the record was taken."""
+    def event_told(self, lane: int, record: Record) -> str:
+        """The event of the entry that a record has, of the block that it gets, or of the reference that was made for a post that
+        is refused; nothing where it has none. Asked right after the record was taken."""
         if record.word == "new":
             return self.event_of(record.numbers[1], record.numbers[3])
+        if record.word == "full" and lane in self._held:
+            return self.event_of(*self._held[lane])
         place = ENTRY_AT.get(record.word)
         return self.event_of(*record.numbers[place:place + 2]) if place is not None else ""
 
@@ -75,6 +78,8 @@ class WordsTold:
         """Takes the next record."""
         was_fired = lane in self._fired
         self._fired.discard(lane)
+        if record.word != "full":
+            self._held.pop(lane, None)
         match record.word:
             case "post":
                 self._post(index, lane, record.numbers, TIME_EVENT if was_fired else POST)
@@ -89,7 +94,10 @@ class WordsTold:
             case "back":
                 self._back(index, record.numbers)
             case "inc":
+                self._held[lane] = record.numbers[1:3]
                 self.changes.append(["made", index, *record.numbers[1:4]])
+            case "full" if lane in self._held:
+                self.changes.append(["refused", index, record.numbers[0], self.label_of(*self._held[lane])])
             case "dec":
                 _, pool, block, _, dropped = record.numbers
                 self.changes.append(["dropped", index, pool, block, dropped])

@@ -6,11 +6,13 @@ from pathlib import Path
 
 from qpviewer.coverage import Coverage
 from qpviewer.files import Unread, read_file
+from qpviewer.foreign import first_foreign
 from qpviewer.journal import Journal, read_journal
 from qpviewer.low_water import LowWater
 from qpviewer.stimuli import read_stimuli
 from qpviewer.story import Story
 from qpviewer.system import read_system
+from qpviewer.system_parts import System
 
 from ..program import is_built
 from .case_file import KERNELS, THREADED, Case, CaseFault, read_cases
@@ -62,13 +64,19 @@ def main(words: list[str]) -> int:
         return WRONG
 
 
-def _journals(names: list[str]) -> Iterator[Journal]:
-    return (read_file(name, read_journal) for name in names)
+def _journals(system: System, names: list[str]) -> Iterator[Journal]:
+    """The journals of files. Raises `Unread` for one of another system."""
+    for name in names:
+        journal = read_file(name, read_journal)
+        if foreign := first_foreign((record for lane in journal.lanes for record in lane), system):
+            raise Unread(f"{name}: names {foreign.what}, which the system doesn't have; is it the journal of another system?")
+        yield journal
 
 
 def _cover(system_name: str, names: list[str]) -> int:
-    coverage = Coverage(read_file(system_name, read_system))
-    for journal in _journals(names):
+    system = read_file(system_name, read_system)
+    coverage = Coverage(system)
+    for journal in _journals(system, names):
         coverage.add(journal)
     print(coverage.text(), end="")
     return PASSED
@@ -77,19 +85,25 @@ def _cover(system_name: str, names: list[str]) -> int:
 def _low(system_name: str, names: list[str]) -> int:
     system = read_file(system_name, read_system)
     low = LowWater(system)
-    for journal in _journals(names):
+    for journal in _journals(system, names):
         low.add(Story(system, [], journal))
     print(low.text(), end="")
     return PASSED
 
 
 def _orders(words: list[str]) -> int:
-    options, files = {"--kernel": "sim", "--most": ""}, list(words)
-    while len(files) > 1 and files[0].startswith("--"):
-        name, value, *files = files
+    options, files, rest = {"--kernel": "sim", "--most": ""}, list[str](), list(words)
+    while rest:
+        word = rest.pop(0)
+        if not word.startswith("--"):
+            files.append(word)
+            continue
+        name, equals, value = word.partition("=")
         if name not in options:
             raise _Words(f"{name} is no option: {', '.join(options)}")
-        options[name] = value
+        if not equals and not rest:
+            raise _Words(f"{name} has no value")
+        options[name] = value if equals else rest.pop(0)
     if len(files) != 2:
         raise _Words("a system and stimuli are needed")
     kernel = options["--kernel"]

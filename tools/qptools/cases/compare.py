@@ -1,5 +1,7 @@
 """What of a run differs from what a case expects, in words."""
 
+from qpviewer.record_words import plural
+
 from .case_file import Case, Expected
 from .outcome import Outcome
 from .summary import ObjectSummary
@@ -46,7 +48,8 @@ def _refusals(case: Case, outcome: Outcome) -> list[str]:
     if case.refused is None or len(refused) == case.refused:
         return []
     first = f"; the first: {' '.join(outcome.story.in_words(refused[0]))}" if refused else ""
-    return [f"{len(refused)} calls are refused, expected {case.refused}{first}"]
+    verb = "is" if len(refused) == 1 else "are"
+    return [f"{plural(len(refused), 'call')} {verb} refused, expected {case.refused}{first}"]
 
 
 def _blocks(case: Case, outcome: Outcome) -> list[str]:
@@ -63,7 +66,7 @@ def _object(name: str, expected: Expected, found: ObjectSummary, said: list[int]
     if expected.state is not None and found.state != expected.state:
         told.append(f"{name} is in {found.state or 'no state, since its step is cut off'}, expected {expected.state}")
     if expected.took is not None and found.taken != expected.took:
-        told.append(f"{name} took {found.taken} events, expected {expected.took}")
+        told.append(f"{name} took {plural(found.taken, 'event')}, expected {expected.took}")
     for variable, value in expected.vars.items():
         if found.state is None:
             told.append(f"{name}'s {variable} can't be told, since its step is cut off")

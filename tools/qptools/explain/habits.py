@@ -31,10 +31,15 @@ _OF_QP = {
     "QActive_flushDeferred": "flush", "QActive_subscribe": "subscribe SIGNAL", "QActive_unsubscribe": "unsubscribe SIGNAL",
     "QTimeEvt_armX": "arm TIMER(TICKS, INTERVAL)", "QTimeEvt_disarm": "disarm TIMER", "QTimeEvt_rearm": "rearm TIMER(TICKS)",
     "Q_NEW": "post OBJECT EVENT(PARAMETERS)", "Q_NEW_X": "post OBJECT EVENT(PARAMETERS) reserve N", "QF_TICK_X": "tick RATE",
+    "QTIMEEVT_TICK_X": "tick RATE",
 }
 #: How much of a text's begin and of its end is looked at; an action has at most 200 letters.
 _ENDS = 200
 _STIMULI = ("post", "publish", "tick", "settle")
+#: Words before a parenthesis that have an advice of their own, beside actions and calls of QP's.
+_NO_FUNCTIONS = ("if", "for", "while", "switch", "lock", "unlock", "goto", "tran", "transition", "Q_TRAN", "Q_TRAN_HIST", "Q_HANDLED", "Q_SUPER")
+#: The types of C that a cast or a declaration begins with.
+_TYPES = "static|const|unsigned|signed|int|u?int[0-9]+_t|short|long|char|bool|float|double"
 
 
 def _of_qp(match: re.Match[str]) -> str:
@@ -45,13 +50,25 @@ def _of_a_row(match: re.Match[str]) -> str:
     return f"`{match[1]}` is no action: a transition is the `to` of a row, and without `to` the row stays in its state"
 
 
+def _a_function(match: re.Match[str]) -> str:
+    return f"no function is called, such as `{match[1]}`: `say 1` writes a number into the journal, and what another object does is posted to it"
+
+
+def _no_function(match: re.Match[str]) -> str:
+    return f"there are no functions, such as `{match[1]}`: only variables, parameters and numbers"
+
+
 _CALL_OF_QP = _of(rf"\b({'|'.join(sorted(_OF_QP, key=len, reverse=True))})\b", _of_qp)
 
 #: Habits in the texts of actions and guards; the first that fits is told.
 _IN_TEXTS = (
     _CALL_OF_QP,
-    _of(r"\b(Q_TRAN|Q_HANDLED|Q_UNHANDLED|Q_SUPER)\b", _of_a_row),
-    _of(r"^(goto|tran|transition|return)\b", _of_a_row),
+    _of(r"\b(Q_TRAN|Q_TRAN_HIST|Q_HANDLED|Q_UNHANDLED|Q_SUPER)\b", _of_a_row),
+    _of(r"^(goto|tran|transition|return|break)\b", _of_a_row),
+    _of(rf"\((?:{_TYPES})(?: \w+)*\)", "there are no casts: each value is a whole number of 64 bits"),
+    _of(rf"^(?:{_TYPES}) \w+", "no variable is declared here: it stands in `vars` of the chart, with its first value"),
+    _of(r"^(for|while|do)\b", lambda m: f"there is no `{m[1]}`: an object posts an event to itself, or a timer has an interval"),
+    _of(r"^switch\b", "there is no `switch`: write a row for each case, with guards"),
     _of(r"^\s|\s$", "a text has no space at its ends"),
     _of(r"[\t\n\r]", "only spaces part tokens; this text has a tab or a line end"),
     _of(r"([A-Za-z_]\w*)\s*(\+\+|--)|(\+\+|--)\s*([A-Za-z_]\w*)",
@@ -69,33 +86,35 @@ _IN_TEXTS = (
     _of(r"(?<!&)&(?!&)|(?<!\|)\|(?!\|)|\^|~", "there are no bit operators: keep each flag in a variable of its own, or use `/` and `%`"),
     _of(r"//|/\*", "a text has no comment: put it behind the text, with `#`"),
     _of(r";\s*\]", "no `;` stands before `]`: it stands between actions"),
+    _of(r";$", "no `;` ends a text"),
     _of(r";", "a text is one action: write each as a text of its own, as [\"a = 1\", \"b = 2\"]"),
     _of(r"(?:[A-Za-z_]\w*\s*(?:->|\.)\s*)+([A-Za-z_]\w*)",
         "an event's parameters have no names: they are p1 to p8, in order, and variables stand by their name alone"),
     _of(r"^(publish|lifo|post \w+) (\w+) ([0-9][0-9, ]*)$",
         lambda m: f"parameters stand in parentheses: write `{m[1]} {m[2]}({', '.join(re.findall('[0-9]+', m[3]))})`"),
-    _of(r"^(post|publish|lifo|forward|defer|recall|flush|say|arm|disarm|rearm|subscribe|unsubscribe|locked)\s*\(",
-        lambda m: f"`{m[1]}` isn't a function: it stands without parentheses"),
+    _of(rf"^((?i:{'|'.join(ACTIONS)}))\s*\(", lambda m: f"`{m[1].lower()}` isn't a function: it stands without parentheses"),
     _of(r"^(arm|rearm) (\w+) ([0-9][0-9, ]*)$",
         lambda m: f"numbers of ticks stand in parentheses: write `{m[1]} {m[2]}({', '.join(re.findall('[0-9]+', m[3]))})`"),
     _of(r"^(post|forward) (\w+),", lambda m: f"no comma stands behind the object: write `{m[1]} {m[2]} ..`"),
     _of(r"^(disarm|subscribe|unsubscribe) (\w+)\s*\(", lambda m: f"`{m[1]}` takes a name alone: write `{m[1]} {m[2]}`"),
-    _of(r"(\w+)\s*\(\s*\)$", lambda m: f"no empty parentheses: write `{m[1]}`"),
+    _of(r"^(?:post \w+|lifo|publish|subscribe|unsubscribe) (\w+)\s*\(\s*\)", lambda m: f"no empty parentheses: write `{m[1]}`"),
     _of(r"^(lock|unlock)\b|^locked \w+ [^\[]", "a ceiling is raised for its own actions alone: write `locked 3 [a = 1; b = 2]`"),
     _of(r"(\w+)\s*:=\s*(.+)", lambda m: f"`=` assigns: write `{m[1]} = {m[2]}`"),
     _of(r"\*\*", "there is no power: multiply"),
-    _of(r"(?:[-=+*/%(<>!|,]|^say)\s*([A-Za-z_]\w*)\s*\(", lambda m: f"there are no functions, such as `{m[1]}`: only variables, parameters and numbers"),
+    _of(r"(?:[-=+*/%(<>!|&,]|^say)\s*([A-Za-z_]\w*)\s*\(", _no_function),
     _of(r"^\{", "actions have no braces: each is a text of its own in the list"),
     _of(r"^(defer|recall|flush) \w+", lambda m: f"`{m[1]}` stands alone: it means the event of the step, or the object's own list"),
     _of(r"\b(?:true|false)\b", "write 1 for true and 0 for false"),
     _of(r"^if\b", "a condition is the `when` of a row"),
     _of(r"[\"']", "there are no texts and no characters, only numbers"),
 )
-#: Habits in actions alone.
+#: Habits in actions alone; those that are looked for before all others come first.
+_FIRST_IN_ACTIONS = (_of(rf"^(?!(?i:{'|'.join((*ACTIONS, *_NO_FUNCTIONS, *_OF_QP))})\b)([A-Za-z_]\w*)\s*\(", _a_function),)
 _IN_ACTIONS = (_of(r"^\w+\s*==", "`==` compares, `=` assigns"),)
 #: Habits in guards alone.
 _IN_GUARDS = (
     _of(r"^else$", "there is no `else`: leave `when` out, since a last row without a guard takes what is left"),
+    _of(r"^([A-Za-z_]\w*)\s*\(", _no_function),
     _of(r"^[^=!<>]*[^=!<>]=[^=].*$", "`=` assigns, `==` compares"),
 )
 
@@ -123,6 +142,9 @@ _IN_STIMULI = (
     _of(r"^settle .", "`settle` stands alone: it waits until each queue is empty"),
     _of(r"^(wait|sleep|delay)\b", "time passes by `tick RATE`; `settle` waits until each queue is empty"),
     _of(r"^tick$", "a tick names its rate, 0 to 3: write `tick 0`"),
+    _of(r"^(tick|settle|post|publish)\b.* (?:x ?[0-9]+|[0-9]+ times)$|^(tick) [0-9]+ [0-9]+$",
+        lambda m: f"a line is one stimulus: write the `{m[1] or m[2]}` as often as it happens"),
+    _of(r"^source\b", "a source begins with `source N` alone, where N is 1 for the first one, 2 for the next"),
     _of(r"^post (\w+)$", lambda m: f"a post names its object first: `post OBJECT {m[1]}`; without one, `publish {m[1]}`"),
     _of(r"^publish (\w+) (\w+)$", lambda m: f"`publish` names no object: `post {m[1]} {m[2]}`"),
     _of(r"^(Post|POST|Publish|PUBLISH|Tick|TICK|Settle|SETTLE|Source|SOURCE)\b", lambda m: f"write `{m[1].lower()}`"),
@@ -131,7 +153,9 @@ _IN_STIMULI = (
 
 def habit_in_text(text: str, is_guard: bool) -> str:
     """What to write in the place of the text of an action or a guard; nothing where no habit is known."""
-    return _advice(text, _IN_TEXTS + (_IN_GUARDS if is_guard else _IN_ACTIONS)) or ("" if is_guard else _near(text, ACTIONS))
+    if is_guard:
+        return _advice(text, _IN_TEXTS + _IN_GUARDS)
+    return _advice(text, _FIRST_IN_ACTIONS + _IN_TEXTS + _IN_ACTIONS) or _near(text, ACTIONS)
 
 
 def habit_in_stimuli(line: str) -> str:

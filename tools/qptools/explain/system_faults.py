@@ -1,6 +1,5 @@
 """A fault of a system's file in words: its code, its place, and what stands there."""
 
-import re
 from typing import Any
 
 from qpviewer.faults import Fault
@@ -10,6 +9,7 @@ from qpviewer.toml_table import NAME, RESERVED
 from .names import count_words, like, listed, tables
 from .place import Place, follow
 from .text_faults import no_text, parameters, undeclared
+from .toml_faults import not_toml
 
 #: What a value must be, by its key.
 _KINDS = {
@@ -35,6 +35,8 @@ _SHOWN = 3
 #: How deep the program's reader of TOML goes.
 _DEEPEST = 80
 _LISTS = {"pool", "timer", "state", "row", "object"}
+#: The headers of tables that stand within others.
+_HEADERS = {"timer": "chart.timer", "state": "chart.state", "row": "chart.state.row"}
 #: The range of a number, by its table and key.
 _RANGES = {
     ("top", "qp"): "must be 1",
@@ -68,7 +70,7 @@ def explain_system(data: bytes, code: int, path: str) -> list[str]:
     try:
         tree = read_tree(data)
     except Fault as fault:
-        return _not_toml(data, str(fault))
+        return not_toml(data, str(fault))
     if code == 1:
         return ["isn't TOML, though Python's reader takes it", *_beyond(tree)]
     place = follow(tree, path)
@@ -90,32 +92,6 @@ def _beyond(tree: dict[str, Any]) -> list[str]:
         elif isinstance(value, list):
             left += [(key, member, depth + 1) for member in value]
     return []
-
-
-def _not_toml(data: bytes, fault: str) -> list[str]:
-    """TOML's own words, with the line that it means and what may be wrong there."""
-    told = [fault]
-    if found := re.search(r"at line ([0-9]+), column ([0-9]+)", fault):
-        lines = data.decode(errors="replace").splitlines()
-        at = int(found[1])
-        if at <= len(lines):
-            told.append(f"| {lines[at - 1]}")
-            told.append(_toml_habit(lines[at - 1], lines[at - 2] if at > 1 else ""))
-    return [line for line in told if line]
-
-
-def _toml_habit(line: str, before: str) -> str:
-    if line.lstrip().startswith(("//", "/*")) or "//" in line:
-        return "a comment begins with `#`"
-    if line.count('"') % 2:
-        return "a text ends with the quote that it began with"
-    if before.count("[") > before.count("]") or before.count("{") > before.count("}"):
-        return "a bracket of the line above isn't closed"
-    if line.rstrip().endswith(";"):
-        return "no `;` ends a line"
-    if re.search(r"=\s*[A-Za-z_]\w*\s*$", line) and not re.search(r"=\s*(true|false)\s*$", line):
-        return "names stand in quotes"
-    return ""
 
 
 def _shown(place: Place, data: bytes) -> list[str]:
@@ -158,6 +134,11 @@ def _missing(tree: dict[str, Any], place: Place) -> list[str]:
     return ["is missing, and has no default"]
 
 
+def _as_header(key: str) -> str:
+    """How a list of tables is headed; nothing for another key."""
+    return f"; as a header it is [[{_HEADERS[key]}]]" if key in _HEADERS else ""
+
+
 def _unknown_key(tree: dict[str, Any], place: Place) -> list[str]:
     known = KEYS.get(place.inner, set())
     odd = [key for key in place.tables[-1][1] if key not in known]
@@ -170,7 +151,7 @@ def _unknown_key(tree: dict[str, Any], place: Place) -> list[str]:
         elif owners:
             told.append(
                 f"`{key}` belongs to {' or '.join(owners)}: a key stands in the table whose header is above it, "
-                f"so write it before the first header within"
+                f"so write it before the first header within{_as_header(key)}"
             )
         else:
             owner = {"top": "the top of the file", "object": "an object"}.get(place.inner, f"a {place.inner}")

@@ -1,5 +1,6 @@
 """Faults of the texts and names within a chart: what isn't declared, isn't an action, or has another number of parameters."""
 
+import re
 from typing import Any
 
 from .habits import habit_in_text
@@ -9,6 +10,20 @@ from .place import Place
 
 #: A text has at most so many bytes; longer ones aren't read, since their expressions may be deeper than Python reads.
 _LONGEST = 200
+
+
+#: Names of QP's that stand for no signal and no state here, and what has their place.
+_OF_QP = {
+    "signal": {"ENTRY": "what a state does on entry stands in its `entry`", "EXIT": "what a state does on exit stands in its `exit`",
+               "INIT": "a state's initial transition is its `init`, with its actions in `init_do`"},
+    "state": {"TOP": "a state at the top has no `parent`"},
+}
+
+
+def _of_qp(name: str, kind: str) -> str:
+    """What stands here for `Q_ENTRY_SIG`, `QHsm_top` and their like; nothing for another name."""
+    inner = re.fullmatch(r"(?:Q_|QHsm_|QMsm_)?(\w+?)(?:_SIG)?", name)
+    return _OF_QP.get(kind, {}).get(inner[1].upper(), "") if inner else ""
 
 
 def _too_long(text: str) -> list[str]:
@@ -44,6 +59,8 @@ def _chart_of(tree: dict[str, Any], owner: dict[str, Any]) -> dict[str, Any]:
 
 
 def _meant(name: str, kind: str, known: list[str], tree: dict[str, Any], chart: dict[str, Any]) -> list[str]:
+    if instead := _of_qp(name, kind):
+        return [instead]
     if near := like(name, known):
         return [f"did you mean {near}? Names keep their case"]
     for other in ("signal", "object", "timer", "variable"):

@@ -3,6 +3,14 @@
 from .call import COMMANDS
 from .names import like
 
+#: Words that the launcher answers by itself, and how they stand.
+_OF_LAUNCHER = {
+    "build": "it takes no words", "--version": "it takes no words", "help": "it takes one command at most: qp help run",
+    "--help": "it stands alone or behind a command: qp run --help", "-h": "it stands alone or behind a command: qp run -h",
+}
+#: Words of other programs that have another name here.
+_OTHERWISE = {"-v": "--version", "-V": "--version", "-?": "--help"}
+
 
 def explain_words(words: list[str]) -> str:
     """Names the word that isn't in the table, or says what is missing; nothing where none of this is found."""
@@ -11,8 +19,10 @@ def explain_words(words: list[str]) -> str:
     if any("\udc80" <= letter <= "\udcff" for word in words for letter in word):
         return "a word isn't text in UTF-8"
     command, *rest = words
+    if command in _OF_LAUNCHER:
+        return f"`{command}` is answered by the launcher: {_OF_LAUNCHER[command]}"
     if command not in COMMANDS:
-        near = like(command, [*COMMANDS, "build", "help", "explain"])
+        near = _OTHERWISE.get(command) or like(command, [*COMMANDS, "build", "help", "explain", "--version"])
         return f"no command is called {command!r}" + (f"; did you mean `{near}`?" if near else "; `qp help` has them")
     files, options = COMMANDS[command]
     found: list[str] = []

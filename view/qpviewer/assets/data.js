@@ -27,7 +27,7 @@ const wordAt = lines.map((line) => line.split(" ", 2)[1]);
 // The event that a record tells of, as a number of `model.labels`, or -1.
 const labelAt = new Int32Array(count).fill(-1);
 for (const [word, index, , ...rest] of model.changes) {
-  if (word === "queued" || word === "front" || word === "deferred" || word === "undeferred") labelAt[index] = rest[0];
+  if (word === "queued" || word === "front" || word === "deferred" || word === "undeferred" || word === "refused") labelAt[index] = rest[0];
   else if (word === "given") labelAt[index] = rest[1];
 }
 steps.first.forEach((first, step) => { labelAt[first] = steps.label[step]; });
@@ -144,6 +144,7 @@ const CHANGES = {
   dropped: (moment, pool, block, reference) => moment.block(pool, block).references.delete(reference),
   counter: (moment, timer, value) => moment.counters.set(timer, value),
   ceiling: (moment, row, value) => moment.ceilings.set(row, value),
+  refused: () => {},
   joined: (moment, signal, priority) => moment.subscribers.set(`${signal} ${priority}`, { signal, priority }),
   left: (moment, signal, priority) => moment.subscribers.delete(`${signal} ${priority}`),
 };
