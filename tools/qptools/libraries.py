@@ -126,10 +126,17 @@ class Builders:
                 return status or lib(here)
 
 
+def room() -> Path:
+    """Where copies stand: in the folder for temporary files, or beside the checkout where that is another file system, since what is built
+    takes gigabytes, and is linked within one."""
+    temporary = Path(tempfile.gettempdir())
+    return temporary if temporary.stat().st_dev == TOP.stat().st_dev else TOP.parent
+
+
 @contextmanager
 def builders(crates: Iterable[str], jobs: int) -> Iterator[Builders]:
     """Builders of these crates, whose copies are gone behind it."""
-    with tempfile.TemporaryDirectory(prefix="qp-build-") as folder:
+    with tempfile.TemporaryDirectory(prefix="qp-build-", dir=room()) as folder:
         copies = [Path(folder) / str(number) for number in range(jobs)]
         for copy in copies:
             copy.mkdir()
