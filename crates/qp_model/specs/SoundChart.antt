@@ -2,6 +2,7 @@
 use Rattle.std.specs.Prelude.{◌≡◌, ℕ, ◌-◌, ◌<◌, ◌≤◌, true, List, length, slice_get, Some, None, IsSome}
 use Rattle.std.specs.declared.option.Option.{Option}
 use Rattle.std.specs.List.{AllByRecursion}
+use Rattle.std.specs.Option.{unwrap_or}
 use Rattle.qp_chart.specs.declared.expression.Bound.{Bound}
 use Rattle.qp_chart.specs.declared.actions.Target.{Target}
 use Rattle.qp_chart.specs.declared.actions.Target.TheVariants as target
@@ -12,7 +13,6 @@ use Rattle.qp_chart.specs.declared.actions.Act.TheVariants as act
 use Rattle.qp_chart.specs.declared.checked.Row.{Row}
 use Rattle.qp_chart.specs.declared.checked.State.{State}
 use Rattle.qp_chart.specs.declared.checked.Chart.{Chart}
-use Rattle.qp_chart_names.specs.ActionFaults.{params_in}
 use Rattle.qp_chart.specs.Expr.{InRange}
 use Rattle.qp_model.specs.declared.systems.SignalDef.{SignalDef}
 use Rattle.qp_model.specs.declared.systems.ObjectDef.{ObjectDef}
@@ -43,7 +43,7 @@ IsTimer chart t = (1 ≤ t) × (t ≤ length chart.timer)
 
 -- the expression names variables of the chart, and parameters of the row's signal; there are none outside a row
 abbrev pub Reaches : Chart → Option ℕ → Bound → Type 0
-Reaches chart inside b = InRange (length chart.vars) (params_in inside) b
+Reaches chart inside b = InRange (length chart.vars) (unwrap_or inside 0) b
 
 -- an event has as many parameters as its signal, and a reserve only where that has blocks
 pub record IsSoundEvent (sys : System) (chart : Chart) (inside : Option ℕ) (sig : ℕ) (pars : List Bound) (reserve : Option ℕ) : Type 0 where

@@ -8,4 +8,5 @@ mod sealing;
 
 pub use port::run_port;
 pub use qk::run_qk;
+pub use qp_shared::Sealed;
 pub use sealing::Threaded;

@@ -7,3 +7,4 @@ mod pieces;
 
 pub use entry::{Ended, Flow, process, program};
 pub use pieces::{Carried, in_pieces};
+pub use qp_run::qp_main;

@@ -6,8 +6,7 @@ ghost use Rattle.qp_run.specs.Verdict.{IsCall, count_of, stream_of, writes_of};
 ghost use Rattle.qp_commands.specs.WordTable.{command_in, texts};
 
 use qp_base::{Beginning, Gate, Gathered, Shelf, Sink};
-use qp_run::{Answered, Status, answer, kept_seal, report, tell};
-use qp_shared::Sealed;
+use qp_run::{Answered, Sealed, Status, answer, kept_seal, report, tell};
 use std::alloc::Global;
 use std::marker::Brand;
 use std::sync::Wait;

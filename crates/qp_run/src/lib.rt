@@ -17,7 +17,7 @@ pub use place::Place;
 pub use qp_gen::generate;
 pub use qp_kernel_runs::{run_qv, run_sim};
 pub use qp_kernel_turns::{Objects, kernel_turn};
-pub use qp_port_runs::{Threaded, run_port, run_qk};
+pub use qp_port_runs::{Sealed, Threaded, run_port, run_qk};
 pub use qp_replay_rerun::rerun;
 pub use qp_summary::{SummaryFault, write_summary};
 pub use ran::kept_seal;

@@ -2,8 +2,7 @@
 
 use arrayvec::ArrayString;
 use qp_base::{MemShelf, MemSink, NoGate};
-use qp_process::{Flow, in_pieces};
-use qp_run::qp_main;
+use qp_process::{Flow, in_pieces, qp_main};
 use std::alloc::{AllocError, Global};
 use std::sync::Wait;
 use std::thread::Threads;
