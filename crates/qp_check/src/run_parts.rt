@@ -26,11 +26,11 @@ use qp_check_course::follows_with_points;
 use qp_check_end::ending::end_holds;
 use qp_check_histories::records_by_word::RecordsByWord;
 use qp_check_kernel::kernel_lane::is_kernel_lane;
-use qp_check_kernel::one_order::{is_one_order, spills_in};
+use qp_check_kernel::one_order::is_one_order;
 use qp_check_knowledge::knowledge::Knowledge;
 use qp_check_knowledge::told_cut::cut_of;
 use qp_check_lanes::lane_parts::{
-    count_stands, lane_at, lane_zero_stands, lanes_before, source_lanes,
+    count_stands, lane_at, lane_zero_stands, lanes_before, source_lanes, spills_in,
 };
 use qp_check_words::verdict::{Broken, Site};
 use qp_model::definitions::{END, KERNEL_LANE, SOURCES};

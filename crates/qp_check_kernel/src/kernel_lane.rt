@@ -13,9 +13,8 @@ ghost use Rattle.qp_check_kernel.specs.LaneState.{as_place, as_reading, as_setti
 
 use crate::lane_state::{Reading, Rules, Upcoming};
 use crate::stimulated::stimulated;
-use qp_check_lanes::lane_parts::{asserts, lane_at, source_lanes};
+use qp_check_lanes::lane_parts::{asserts, lane_at, source_lanes, spills_cut};
 use qp_check_lanes::record_tests;
-use qp_check_sources::spills_cut;
 use qp_model::ends::may_cut;
 use qp_model::kernels::{QK, QV, SIM};
 use qp_model::{Journal, Rec, System};

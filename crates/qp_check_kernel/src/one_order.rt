@@ -17,6 +17,7 @@ use crate::order_looks::{last_look_is_free, looks, stims_stand};
 use crate::order_tests::{nothing_follows, numbers_stand};
 use crate::order_turns::Run;
 use crate::stimulus_index::{Index, Order, Placed};
+use qp_check_lanes::lane_parts::spills_in;
 use qp_check_lanes::record_tests::is_spill;
 use qp_model::{Body, Lane, Rec, Stimuli, System};
 use std::alloc::{AllocError, Global};
@@ -95,12 +96,6 @@ fn ordered<'a>(
     let mut order = with_parts(alloc, lane0, index)?;
     put_rest(&mut order, cuts, sources)?;
     Ok(order)
-}
-
-pub fn spills_in(lane: &[Rec]) -> bool
-    ensures { result ≡ spilt (lane_items lane.now) }
-{
-    lane.iter().any(|r| is_spill(r))
 }
 
 fn some_spills(sources: &[Lane]) -> bool

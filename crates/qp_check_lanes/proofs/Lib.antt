@@ -5,4 +5,5 @@ pub mod ItemLemmas
 pub mod KeyLemmas
 pub mod LaneLemmas
 pub mod ShortListLemmas
+pub mod SpillLemmas
 pub mod WalkLemmas

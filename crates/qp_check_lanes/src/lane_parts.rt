@@ -2,13 +2,14 @@
 
 ghost use Rattle.std.specs.Prelude.{◌≡◌, ◌+◌, ◌==◌, ◌<◌, ◌≤◌, ◌^◌, ◌||◌, not, drop, length, IfSome};
 ghost use Rattle.std.specs.List.{list_any, position};
-ghost use Rattle.qp_model.specs.Ends.{is_assert};
+ghost use Rattle.qp_model.specs.Ends.{is_assert, spills_cut, spills_in};
 ghost use Rattle.qp_model.specs.History.{lane_items};
 ghost use Rattle.qp_model.specs.Home.{lane_at as lane_of, home_of};
 ghost use Rattle.qp_model.specs.Kernels.{port};
 ghost use Rattle.qp_model.specs.Lawful.{lanes_before as before};
 
-use crate::record_tests;
+use crate::record_tests::{is_assert, is_spill};
+use qp_model::ends::may_cut;
 use qp_model::kernels::PORT;
 use qp_model::{Journal, Lane, ObjectDef, Rec, Stimuli, System};
 
@@ -82,5 +83,22 @@ pub fn lane_zero_stands(j: &Journal) -> bool
 pub fn asserts(lane: &[Rec]) -> bool
     ensures { result ≡ list_any (λ i. is_assert i.body) (lane_items lane.now) }
 {
-    lane.iter().any(|r| record_tests::is_assert(r))
+    lane.iter().any(|r| is_assert(r))
+}
+
+/// Whether a `spill` stands in the lane.
+pub fn spills_in(lane: &[Rec]) -> bool
+    ensures { result ≡ spills_in (lane_items lane.now) }
+{
+    lane.iter().any(|r| is_spill(r))
+}
+
+/// Whether a `spill` stands in the lane only as its last record, and only where the run ended so that lists may be cut.
+pub fn spills_cut(end: u8, lane: &[Rec]) -> bool
+    ensures { result ≡ spills_cut end (lane_items lane.now) }
+{
+    match lane.split_last() {
+        Some((last, before)) => !spills_in(before) && (!is_spill(last) || may_cut(end)),
+        None => true,
+    }
 }

@@ -10,10 +10,11 @@ ghost use Rattle.qp_model.specs.Lawful.{SpillStands, facts_of};
 ghost use Rattle.qp_check_calls.specs.Decides.{Decides};
 ghost use Rattle.qp_check_sources.specs.AsSource.{some_may_end, may_spill};
 
-use crate::records::{are_of_none, spills_cut, spills_in};
+use crate::records::are_of_none;
 use crate::stops::{Stops, may_stop};
 use crate::tries::tries_differ;
 use qp_check_calls::Told;
+use qp_check_lanes::lane_parts::{spills_cut, spills_in};
 use qp_model::ends::may_cut;
 use qp_model::{Rec, Stim, System};
 use std::alloc::{AllocError, Global};

@@ -12,5 +12,4 @@ mod tries;
 mod underway;
 
 pub use lane::{is_source_lane, spill_stands};
-pub use records::spills_cut;
 pub use stops::{Stops, may_stop};

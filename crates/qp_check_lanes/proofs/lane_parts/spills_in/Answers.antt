@@ -4,7 +4,7 @@ use Rattle.std.proofs.lemmas.Iterator.Search.{any_from_yields_List}
 use Rattle.qp_model.specs.Record.{item_of}
 use Rattle.qp_model.specs.Ends.{is_spill}
 use Rattle.qp_check_lanes.proofs.ItemLemmas.{items-any}
-use Rattle.qp_check_kernel.proofs.one_order.spills_in.Goals as goal
+use Rattle.qp_check_lanes.proofs.lane_parts.spills_in.Goals as goal
 
 pub returns : goal.returns
 returns c =

@@ -1,8 +1,8 @@
 use Rattle.std.proofs.Common.{◌∙◌, Bool, not, ◌&&◌, ◌||◌, sym, ap}
 use Rattle.qp_model.specs.Ends.{is_spill, may_cut}
 use Rattle.qp_model.specs.Record.{item_of}
-use Rattle.qp_check_sources.proofs.ItemLemmas.{spills-cut, none-cut}
-use Rattle.qp_check_sources.proofs.records.spills_cut.Goals as goal
+use Rattle.qp_check_lanes.proofs.SpillLemmas.{spills-cut, none-cut}
+use Rattle.qp_check_lanes.proofs.lane_parts.spills_cut.Goals as goal
 
 pub returns-then-not-is_spill : goal.returns-then-not-is_spill
 returns-then-not-is_spill c =
