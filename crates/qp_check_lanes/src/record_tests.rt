@@ -8,29 +8,25 @@ ghost use Rattle.qp_model.specs.Lawful.{is_settle as settles};
 
 use qp_model::{Body, Rec};
 
+/// Whether the record is an assertion.
 pub fn is_assert(r: &Rec) -> bool
     ensures { result ≡ asserts (item_of r.now).body }
 {
-    matches!(
-        r.body(),
-        Body::NoEntry { .. }
-            | Body::NoBlock { .. }
-            | Body::Armed { .. }
-            | Body::BadTicks { .. }
-            | Body::NoLifo { .. }
-    )
+    qp_model::is_assert(r)
 }
 
+/// Whether the record tells that an object is at its budget.
 pub fn is_spent(r: &Rec) -> bool
     ensures { result ≡ spends (item_of r.now).body }
 {
-    matches!(r.body(), Body::Spent)
+    qp_model::is_spent(r)
 }
 
+/// Whether the record tells that its lane has no room.
 pub fn is_spill(r: &Rec) -> bool
     ensures { result ≡ spills (item_of r.now).body }
 {
-    matches!(r.body(), Body::Spill { .. })
+    qp_model::is_spill(r)
 }
 
 pub fn is_settle(r: &Rec) -> bool
