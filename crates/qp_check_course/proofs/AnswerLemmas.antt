@@ -10,7 +10,8 @@ use Rattle.qp_model.specs.Pieces.{Piece, bare, ends_at_point}
 use Rattle.qp_model.specs.Able.{chart_able}
 use Rattle.qp_model.specs.Acts.{Actor}
 use Rattle.std.specs.List.{list_all}
-use Rattle.qp_model.specs.ObjectShape.{is_assert, asserts_none}
+use Rattle.qp_model.specs.ObjectShape.{asserts_none}
+use Rattle.qp_model.specs.Ends.{is_assert}
 use Rattle.qp_check_calls.specs.declared.pieces.Piece as pieces
 use Rattle.qp_check_calls.specs.declared.pieces.Piece.TheVariants as piece
 use Rattle.qp_check_calls.specs.AsPiece.{as_piece}

@@ -16,7 +16,8 @@ use Rattle.qp_model.specs.declared.bodies.Body.TheVariants as item
 use Rattle.qp_model.specs.Told.{Told, Event}
 use Rattle.qp_model.specs.Groups.{is_post}
 use Rattle.qp_model.specs.Calls.{Deed, Sets, Says, Calls, deed_of, ok_after, is_assertion}
-use Rattle.qp_model.specs.ObjectShape.{is_assert, nothing_after, asserts_last, asserts_none}
+use Rattle.qp_model.specs.ObjectShape.{nothing_after, asserts_last, asserts_none}
+use Rattle.qp_model.specs.Ends.{is_assert}
 use Rattle.qp_model.specs.Acts.{Config, Actor, names_of}
 use Rattle.qp_model.specs.OutputSummary.{is_took, is_done}
 use Rattle.qp_model.proofs.BlockLemmas.{Block, Exits, Enters, Inits, Acts, Locks, spread, Blocks, step-blocks, start-blocks}

@@ -7,7 +7,7 @@ use Rattle.qp_model.specs.declared.systems.ObjectDef.{ObjectDef}
 use Rattle.qp_model.specs.Able.{chart_able}
 use Rattle.qp_model.specs.Acts.{Actor}
 use Rattle.qp_model.specs.Course.{actor, chart_at}
-use Rattle.qp_model.specs.ObjectShape.{is_assert}
+use Rattle.qp_model.specs.Ends.{is_assert}
 use Rattle.qp_check_calls.specs.declared.pieces.Piece.{Piece}
 use Rattle.qp_check_calls.specs.declared.pieces.Piece.TheVariants.{Tell, Point}
 use Rattle.qp_check_course.specs.Machine.{State}

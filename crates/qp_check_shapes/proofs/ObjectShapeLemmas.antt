@@ -7,7 +7,8 @@ use Rattle.qp_model.specs.declared.bodies.Entry.{Entry}
 use Rattle.qp_model.specs.Told.{Told}
 use Rattle.qp_model.specs.Shapes.{Drops}
 use Rattle.qp_model.specs.Course.{Cut, Whole, Stopped, Anywhere}
-use Rattle.qp_model.specs.ObjectShape.{CutGroups, HasShape, is_assert, nothing_after, asserts_last}
+use Rattle.qp_model.specs.ObjectShape.{CutGroups, HasShape, nothing_after, asserts_last}
+use Rattle.qp_model.specs.Ends.{is_assert}
 use Rattle.qp_check_shapes.specs.ShapeAction.{IsWhole}
 use Rattle.qp_check_shapes.specs.GroupsRead.{Breaks}
 use Rattle.qp_check_shapes.specs.GroupsLast.{LastOf, start_cut, is_anywhere, is_cut, is_unbegun, kinds}

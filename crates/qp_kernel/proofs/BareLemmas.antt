@@ -12,11 +12,11 @@ use Rattle.qp_model.specs.declared.bodies.Body.TheVariants as body
 use Rattle.qp_model.specs.Told.{Told, ToldItem, plain}
 use Rattle.qp_model.specs.Knowing.{told_alone}
 use Rattle.qp_model.specs.Pieces.{Tell, Point, bare}
-use Rattle.qp_model.specs.Ends.{is_turn_mark, is_end}
+use Rattle.qp_model.specs.Ends.{is_assert, is_turn_mark, is_end}
 use Rattle.qp_model.specs.KernelLane.{Setting, Reading, lane_next}
 use Rattle.qp_model.specs.Points.{is_look, begins_row}
 use Rattle.qp_model.specs.Lawful.{dispatched}
-use Rattle.qp_model.specs.ObjectShape.{HasShape, CutGroups, ObjectGroups, Ends, OutOfBudget, BreaksStep, asserts_last, nothing_after, is_assert}
+use Rattle.qp_model.specs.ObjectShape.{HasShape, CutGroups, ObjectGroups, Ends, OutOfBudget, BreaksStep, asserts_last, nothing_after}
 use Rattle.qp_model.specs.Course.{Cut, Whole, Stopped, FollowsTo}
 use Rattle.qp_model.proofs.GroupLemmas.{bare-append}
 use Rattle.qp_model.proofs.LastLemmas.{follows-shape}

@@ -23,7 +23,7 @@ use Rattle.qp_model.specs.Course.{Starts, Steps, Course, Follows, FollowsAs, Fol
 use Rattle.qp_model.proofs.CourseLemmas.{through-follows}
 use Rattle.qp_model.proofs.GroupLemmas.{bare-append, bare-tell, bare-pieces_of}
 use Rattle.qp_model.proofs.FitsLemmas.{is_calm, is_deferral, is_other, Calm, Ending, Answers, answer-assert, fits-calm, calm-drops}
-use Rattle.qp_model.specs.ObjectShape.{is_assert}
+use Rattle.qp_model.specs.Ends.{is_assert}
 
 -- the records of two lists, one after another
 pub kept-append : (room : ℕ) (old mid : List Entry) (g h : List Told) → kept_after room old g ≡ Some mid → kept_after room old (g ++ h) ≡ kept_after room mid h

@@ -13,7 +13,7 @@ use Rattle.qp_model.specs.Calls as call
 use Rattle.qp_model.specs.Calls.{Call, Answer, Granted, Refused, Flushed, AtQueue, AtPool, AtTimer, AtTicks, AtFront, is_assertion}
 use Rattle.qp_model.specs.Parts.{timer_number}
 use Rattle.qp_model.specs.Shapes.{Fits, FitsAny, MakesBlock, MakesNew, again_by, MakesAgain, MakesAgainNow, Posts, PostsFront, PostsNew, PostsNewFront, Forwards, PostsOne, PostsToAll, PostsUpTo, NoBlockFor, Drops, releases_by, Releases, Flushes, Publishes, PublishesFirst, PublishesLast, raising, restoring, Defers, Recalls, Subscribes, Unsubscribes, Arms, Rearms, Disarms}
-use Rattle.qp_model.specs.ObjectShape.{is_assert}
+use Rattle.qp_model.specs.Ends.{is_assert}
 
 -- a record of a call that is neither deferral nor an assertion
 unfoldable pub is_calm : Body → Bool

@@ -17,11 +17,11 @@ use Rattle.qp_model.specs.Pieces.{Piece, bare}
 use Rattle.qp_model.specs.Course.{Cut, Whole, Stopped, Anywhere, FollowsTo}
 use Rattle.qp_model.specs.Sequence.{joined, EachPart, Sequence}
 use Rattle.qp_model.specs.Groups.{IsAction, SaysValue, MakesCall, Actions, IsGroup, IsMove, IsAct, IsLocked, is_move, Groups, IsLast, Asserts, Stops, StopsInPublication, BreaksOff, Plainly, UnderCeiling}
-use Rattle.qp_model.specs.ObjectShape.{StartGroup, BrokenStart, StepHead, is_head, StepGroup, BrokenStep, IsTurn, Dispatches, FindsEmpty, LooksOnly, IsTail, Ends, OutOfBudget, BreaksStep, ObjectGroups, CutGroups, is_assert, nothing_after, asserts_last, asserts_none, HasShape}
+use Rattle.qp_model.specs.ObjectShape.{StartGroup, BrokenStart, StepHead, is_head, StepGroup, BrokenStep, IsTurn, Dispatches, FindsEmpty, LooksOnly, IsTail, Ends, OutOfBudget, BreaksStep, ObjectGroups, CutGroups, nothing_after, asserts_last, asserts_none, HasShape}
 use Rattle.qp_model.proofs.FitsLemmas.{is_calm, is_deferral, Usual, usual, Ending, Answers, any-usual, calm-drops, all-append}
 use Rattle.qp_model.proofs.CutLemmas.{follows-groups}
 use Rattle.qp_model.specs.Record.{Item}
-use Rattle.qp_model.specs.Ends.{ends_last, is_end, is_spent, is_spill}
+use Rattle.qp_model.specs.Ends.{is_assert, ends_last, is_end, is_spent, is_spill}
 
 -- none of the records is an assertion
 abbrev pub Quiet : List Told → Type 0

@@ -16,7 +16,8 @@ use Rattle.qp_model.specs.Pieces.{Piece, Point, bare, tell, pieces_of}
 use Rattle.qp_model.specs.Acts.{Config, Actor, Moment, Later, DoesCall, DoesDeed, DoesTask, Does, Notes, names_of}
 use Rattle.qp_model.specs.Step.{Step, StepBehind, Closes, at_leaf, moment}
 use Rattle.qp_model.specs.Course.{Starts, Steps, Course, Follows, FollowsAs, FollowsThrough, FollowsThroughAs, actor, first_config, chart_at, at_start}
-use Rattle.qp_model.specs.ObjectShape.{is_assert, asserts_none}
+use Rattle.qp_model.specs.ObjectShape.{asserts_none}
+use Rattle.qp_model.specs.Ends.{is_assert}
 use Rattle.qp_model.proofs.CourseLemmas.{through-follows}
 use Rattle.qp_model.proofs.FitsLemmas.{Usual, Ending, Answers, answer-assert, fits-usual}
 use Rattle.qp_model.proofs.GroupLemmas.{bare-append, bare-tell, bare-pieces_of}

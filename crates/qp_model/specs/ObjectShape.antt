@@ -6,6 +6,7 @@ use Rattle.qp_model.specs.declared.bodies.Entry.{Entry}
 use Rattle.qp_model.specs.declared.bodies.Body.{Body}
 use Rattle.qp_model.specs.declared.bodies.Body.TheVariants as item
 use Rattle.qp_model.specs.Told.{Told, Known, plain}
+use Rattle.qp_model.specs.Ends.{is_assert}
 use Rattle.qp_model.specs.Shapes.{Drops}
 use Rattle.qp_model.specs.Sequence.{Sequence}
 use Rattle.qp_model.specs.Groups.{Groups, BreaksOff}
@@ -72,14 +73,6 @@ unfolding ObjectGroups
 CutGroups sys o nils Whole bs = ObjectGroups sys o nils false bs
 CutGroups sys o nils Stopped bs = (bs ≡ []) ⊎ ObjectGroups sys o nils true bs
 CutGroups sys o nils Anywhere bs = (back : List Told) × ((bs ++ back ≡ []) ⊎ ObjectGroups sys o nils true (bs ++ back))
-
-abbrev pub is_assert : Body → Bool
-is_assert (item.NoEntry a f l m) = true
-is_assert (item.NoBlock p n free) = true
-is_assert (item.Armed t n c) = true
-is_assert (item.BadTicks t ticks interval) = true
-is_assert (item.NoLifo a f l m) = true
-is_assert _ = false
 
 abbrev pub nothing_after : Bool → List Told → Bool
 nothing_after asserted [] = true

@@ -11,13 +11,12 @@ use Rattle.qp_model.specs.declared.bodies.Body.TheVariants as body
 use Rattle.qp_model.specs.Record.{Item}
 use Rattle.qp_model.specs.Told.{Told, ToldItem, for_object}
 use Rattle.qp_model.specs.Knowing.{told_alone}
-use Rattle.qp_model.specs.Ends.{is_end, is_turn_mark, is_spent, is_spill, ends_last}
+use Rattle.qp_model.specs.Ends.{is_assert, is_end, is_turn_mark, is_spent, is_spill, ends_last}
 use Rattle.qp_model.specs.End.{took_count, takes_of}
 use Rattle.qp_model.specs.Home.{is_look_at}
 use Rattle.qp_model.specs.HomeLane.{are_at_home, is_at_home, taken_by, nil_counts, seen_counts}
 use Rattle.qp_model.specs.KernelLane.{role_of, Drops}
 use Rattle.qp_model.specs.Lawful.{dispatched}
-use Rattle.qp_model.specs.ObjectShape as shape
 use Rattle.qp_model.specs.ObjectShape.{asserts_last, nothing_after}
 use Rattle.qp_model.proofs.KernelRowLemmas.{IsOwnRole}
 use Rattle.qp_model.proofs.NumberLemmas.{count-append}
@@ -212,7 +211,7 @@ last-append o x [] us = refl
 last-append o x (t ∷ ts) us = last-append o (nil_by o x t.of t.told.body) ts us
 
 -- Where nothing follows what ends a lane, nothing follows an assertion of the object.
-no-assert : (b : Body) → is_end b ≡ false → shape.is_assert b ≡ false
+no-assert : (b : Body) → is_end b ≡ false → is_assert b ≡ false
 no-assert (body.NoEntry a f l m) h = absurd (cc)
 no-assert (body.NoBlock p n free) h = absurd (cc)
 no-assert (body.Armed t n c) h = absurd (cc)
@@ -255,9 +254,9 @@ ends-asserts o (t ∷ u ∷ us) h =
     let parts = and_parts (not (is_end t.told.body)) (ends_last (untold_all (u ∷ us))) h in
     by (no-assert t.told.body (not-true (is_end t.told.body) parts.0)) (ends-asserts o (u ∷ us) parts.1) (home-cons o t (u ∷ us))
   where
-    by : shape.is_assert t.told.body ≡ false → asserts_last (home_told o (u ∷ us)) ≡ true
+    by : is_assert t.told.body ≡ false → asserts_last (home_told o (u ∷ us)) ≡ true
         → (home_told o (t ∷ u ∷ us) ≡ t.told ∷ home_told o (u ∷ us)) ⊎ (home_told o (t ∷ u ∷ us) ≡ home_told o (u ∷ us)) → asserts_last (home_told o (t ∷ u ∷ us)) ≡ true
     by none later (inl e) =
-        ap asserts_last e ∙ and_from (nothing_after (shape.is_assert t.told.body) (home_told o (u ∷ us))) (asserts_last (home_told o (u ∷ us)))
+        ap asserts_last e ∙ and_from (nothing_after (is_assert t.told.body) (home_told o (u ∷ us))) (asserts_last (home_told o (u ∷ us)))
         (ap (λ b. nothing_after b (home_told o (u ∷ us))) none ∙ none-after (home_told o (u ∷ us))) later
     by none later (inr e) = ap asserts_last e ∙ later
