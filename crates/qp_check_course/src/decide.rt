@@ -9,7 +9,6 @@ ghost use Rattle.qp_check_calls.specs.AsPiece.{as_piece, as_cut};
 ghost use Rattle.qp_check_calls.specs.Decides.{Decides};
 ghost use Rattle.qp_check_course.specs.Machine.{start_state, run};
 ghost use Rattle.qp_model.specs.ObjectShape.{asserts_none};
-ghost use Rattle.qp_model.specs.Ends.{is_assert};
 ghost use Rattle.qp_check_course.specs.Passing.{asserts_where_cut, is_none_told, told_well, run_told};
 ghost use Rattle.qp_check_course.specs.Decided.{ends_well};
 ghost use Rattle.qp_check_course.specs.Followable.{IsFollowable};
@@ -20,7 +19,7 @@ use crate::runs::{begin, ends_at_point, run, run_told};
 use crate::states::Actor;
 use qp_chart::Chart;
 use qp_check_calls::{Cut, Piece, Told};
-use qp_model::{Body, ObjectDef, System};
+use qp_model::{ObjectDef, System, is_asserted};
 use std::alloc::{AllocError, Global};
 
 /// The chart of a system with this number, from 1.
@@ -94,30 +93,17 @@ fn reads_pieces(
     }
 }
 
-fn is_assert(t: &Told) -> bool
-    ensures { result ≡ is_assert t.now.body }
-{
-    match &t.body {
-        Body::NoEntry { .. }
-        | Body::NoBlock { .. }
-        | Body::Armed { .. }
-        | Body::BadTicks { .. }
-        | Body::NoLifo { .. } => true,
-        _ => false,
-    }
-}
-
 fn asserts_none(told: &[Told]) -> bool
     ensures { result ≡ asserts_none told.now }
 {
-    told.iter().all(|t| !is_assert(t))
+    told.iter().all(|t| !is_asserted(&t.body))
 }
 
 fn piece_asserts(piece: &Piece) -> bool
     ensures { result ≡ piece_asserts piece.now }
 {
     match piece {
-        Piece::Tell(t) => is_assert(t),
+        Piece::Tell(t) => is_asserted(&t.body),
         Piece::Point => false,
     }
 }

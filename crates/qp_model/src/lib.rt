@@ -32,6 +32,6 @@ pub use systems::{
     Charts, ObjectDef, ObjectDefs, PoolDef, PoolDefs, SignalDef, SignalDefs, System, TimerDef,
     TimerDefs, Values,
 };
-pub use telling::{ceiling_after, is_assert, is_spent, is_spill, kinds_tell};
+pub use telling::{ceiling_after, is_assert, is_asserted, is_spent, is_spill, kinds_tell};
 pub use touches::{Named, Touched};
 pub use words::Word;

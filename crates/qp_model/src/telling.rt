@@ -20,7 +20,8 @@ pub fn is_assert(r: &Rec) -> bool
     r.kind == kinds::ASSERT && is_asserted(&r.body())
 }
 
-fn is_asserted(body: &Body) -> bool
+/// Whether a record that says so is an assertion.
+pub fn is_asserted(body: &Body) -> bool
     ensures { result ≡ is_assert body.now }
 {
     matches!(
