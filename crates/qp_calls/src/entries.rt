@@ -14,7 +14,7 @@ use crate::ops::Ops;
 use crate::pools::pool_for;
 use crate::tokens::{Entry, Hold};
 use qp_base::{Ev, Steps};
-use qp_model::System;
+use qp_model::{System, stops};
 use std::sync::ledger::Ledger;
 
 /// What a refused call answers.
@@ -77,7 +77,9 @@ fn unposted<O: Ops>(ops: &mut O, e: Entry, margin: Option<u8>) -> Did
         }
         None => {
             ops.leave(e);
-            Did::Assert { code: 1 }
+            Did::Assert {
+                code: stops::NO_ENTRY,
+            }
         }
     }
 }
@@ -113,7 +115,9 @@ pub(crate) fn post_front<O: Ops, L: Ledger>(ops: &mut O, e: Entry, steps: &mut S
         Claim::Done => Did::Value(1),
         Claim::Short { entry, .. } => {
             ops.leave(entry);
-            Did::Assert { code: 5 }
+            Did::Assert {
+                code: stops::NO_LIFO,
+            }
         }
     }
 }

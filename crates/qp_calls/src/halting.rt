@@ -7,7 +7,7 @@ ghost use Rattle.qp_calls.specs.Notes.{spills_in};
 
 use crate::answers::RoomFault;
 use crate::ops::Ops;
-use qp_model::Rec;
+use qp_model::{Rec, stops};
 
 /// How a lane without room has stopped.
 #[derive(Drop)]
@@ -26,12 +26,12 @@ pub fn halt<O: Ops>(ops: &mut O, fault: RoomFault) -> Halted
 {
     match fault {
         RoomFault::Memory => {
-            ops.stop(7);
+            ops.stop(stops::MEMORY);
             Halted::Memory
         }
         RoomFault::LaneFull { len } => {
             ops.note(Rec::spill(len));
-            ops.stop(6);
+            ops.stop(stops::SPENT);
             Halted::Full
         }
     }

@@ -20,7 +20,7 @@ use qp_base::Steps;
 use qp_calls::{Ops, Take};
 use qp_dispatch::{Step, Turn};
 use qp_kernel::{Irq, Kernel, World};
-use qp_model::{Rec, System};
+use qp_model::{Rec, System, stops};
 use qp_tells::Tells;
 use std::marker::Brand;
 use std::sync::Wait;
@@ -92,7 +92,7 @@ pub fn look<R: Wait, W: World, L: Ledger>(
 {
     ready(world)?;
     if kernel.looks == u32::MAX {
-        world.stop(7);
+        world.stop(stops::MEMORY);
         return Err(Halt::Memory);
     }
     kernel.looks += 1;
@@ -102,7 +102,7 @@ pub fn look<R: Wait, W: World, L: Ledger>(
         Irq::Nothing => Ok(false),
         Irq::Stopped => Err(Halt::Stopped),
         Irq::Memory => {
-            world.stop(7);
+            world.stop(stops::MEMORY);
             Err(Halt::Memory)
         }
     }
@@ -163,7 +163,7 @@ fn visit<R: Wait, W: World, G: Tells>(
     }
     if objects.taken(p) >= at.budget {
         world.note(Rec::spent(p));
-        world.stop(6);
+        world.stop(stops::SPENT);
         return Err(Halt::Stopped);
     }
     if let Some(_) = world.stopped() {
@@ -243,7 +243,7 @@ pub fn step<O: Ops>(
     ensures rows { StepsRow at.now.sys.now (terms_of at.now) (O.lane world.old) (O.lane world.new) result }
 {
     let Some(p) = top(kernel) else {
-        world.stop(7);
+        world.stop(stops::MEMORY);
         return Err(Halt::Memory);
     };
     let mut ceiling = objects.ceiling;

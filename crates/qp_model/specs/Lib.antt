@@ -38,6 +38,7 @@ pub mod Able
 pub mod Kernels
 pub mod KernelLane
 pub mod Ends
+pub mod Stops
 pub mod OneOrder
 pub mod KernelLaws
 pub mod Home

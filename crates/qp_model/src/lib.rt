@@ -18,6 +18,7 @@ pub mod promises;
 mod reading;
 mod record;
 mod stimulus;
+pub mod stops;
 mod systems;
 mod telling;
 mod touches;

@@ -11,7 +11,7 @@ use crate::home::Home;
 use qp_calls::{Ops, Take};
 use qp_dispatch::{Step, Turn};
 use qp_kernel_turns::{Halt, ready};
-use qp_model::{Rec, System};
+use qp_model::{Rec, System, stops};
 use qp_tells::Tells;
 use std::sync::Wait;
 
@@ -52,7 +52,7 @@ fn look_only<O: Ops>(ops: &mut O, sys: &System, home: &mut Home, budget: u32) ->
         return Ok(());
     }
     ops.note(Rec::spent(me));
-    ops.stop(6);
+    ops.stop(stops::SPENT);
     Err(Halt::Stopped)
 }
 

@@ -41,7 +41,7 @@ pub(crate) fn pause<R: Wait>(rt: &R, lane: &mut BellLane<'_>, me: u8) -> Result<
         return Err(Halt::Stopped);
     }
     let Ok(()) = park(rt, lane, me) else {
-        lane.ringing.stop(7);
+        lane.ringing.stop(qp_model::stops::MEMORY);
         return Err(Halt::Memory);
     };
     Ok(true)
