@@ -10,7 +10,7 @@ use Rattle.qp_model.specs.declared.systems.System.{System}
 use Rattle.qp_model.specs.Parts.{is_static}
 use Rattle.qp_model.specs.Sound.{IsSound, IsSoundSignal}
 use Rattle.qp_model.proofs.ListLemmas.{nothing-left, every-at}
-use Rattle.qp_calls.specs.Notes.{MayNote, MayStop, last_code, spills_in, stop_code, told_note, told_as}
+use Rattle.qp_calls.specs.Notes.{MayNote, MayStop, last_code, spills_told, stop_code, told_note, told_as}
 use Rattle.qp_calls.specs.LaneView.{LaneView, GrowsOf, ceiling_in}
 use Rattle.qp_calls.specs.declared.answers.RoomFault.{RoomFault}
 use Rattle.qp_calls.specs.Clauses.{IsFault, IsEvent}
@@ -42,7 +42,7 @@ spilled n r v w is here grown =
     subst (λ k. GrowsOf 0 (plain (item.Spill k) ∷ []) v w) here mine
 
 -- the `spill` of a full lane may be added, and the lane may stop behind it
-pub spill-may : (n : ℕ) (r : Rec) (v : LaneView) → item_of r ≡ record { of = 0; body = item.Spill n } → n ≡ length v.told → 1000000 < n + 8 → spills_in v.told ≡ false → MayNote r v
+pub spill-may : (n : ℕ) (r : Rec) (v : LaneView) → item_of r ≡ record { of = 0; body = item.Spill n } → n ≡ length v.told → 1000000 < n + 8 → spills_told v.told ≡ false → MayNote r v
 unfolding MayNote
 spill-may n r v is here full none = rw (spill-body n r is) (here, omega (arith, full), none)
 

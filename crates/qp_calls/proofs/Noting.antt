@@ -7,25 +7,25 @@ use Rattle.qp_model.specs.declared.bodies.Body.TheVariants.{Spill, BadTicks}
 use Rattle.qp_model.specs.Record.{item_of, body_of}
 use Rattle.qp_model.specs.Ends.{is_spill}
 use Rattle.qp_calls.specs.LaneView.{LaneView, Adds, GrowsOf, ceiling_in}
-use Rattle.qp_calls.specs.Notes.{IsNote, MayNote, is_note, spare_after, told_as, told_note}
+use Rattle.qp_calls.specs.Notes.{IsNote, MayNote, needs_spare_alone, spare_after, told_as, told_note}
 use Rattle.qp_model.proofs.RecordLemmas.{body-is, of-is}
 
-is_a_note : (b : Body) (v : LaneView) → is_note b ≡ true → 0 < v.spare → IsNote b v
+is_a_note : (b : Body) (v : LaneView) → needs_spare_alone b ≡ true → 0 < v.spare → IsNote b v
 is_a_note (Spill n) v h s = absurd (cc)
 is_a_note (BadTicks t n i) v h s = absurd (cc)
 is_a_note _ v h s = (h, s)
 
-no_spill : (b : Body) → is_note b ≡ true → is_spill b ≡ false
+no_spill : (b : Body) → needs_spare_alone b ≡ true → is_spill b ≡ false
 no_spill (Spill n) h = absurd (cc)
 no_spill _ h = refl
 
 -- a note may be added
-pub may-note : (o : ℕ) (b : Body) (r : Rec) (v : LaneView) → item_of r ≡ record { of = o; body = b } → is_note b ≡ true → 0 < v.spare → MayNote r v
+pub may-note : (o : ℕ) (b : Body) (r : Rec) (v : LaneView) → item_of r ≡ record { of = o; body = b } → needs_spare_alone b ≡ true → 0 < v.spare → MayNote r v
 unfolding MayNote
 may-note o b r v is note spare = rw (body-is o b r is) (is_a_note b v note spare)
 
 -- and is then the lane's last record
-pub adds-note : (o : ℕ) (b : Body) (r : Rec) (v w : LaneView) → item_of r ≡ record { of = o; body = b } → is_note b ≡ true → o ≡ v.by → 0 < v.spare
+pub adds-note : (o : ℕ) (b : Body) (r : Rec) (v w : LaneView) → item_of r ≡ record { of = o; body = b } → needs_spare_alone b ≡ true → o ≡ v.by → 0 < v.spare
     → GrowsOf r.of (told_note r v) v w → w.spare ≡ spare_after r v.spare → Adds (told_as (ceiling_in 0 v.told) b ∷ []) v w
 unfolding told_note spare_after
 adds-note o b r v w is note by some grown spare =
@@ -45,7 +45,7 @@ pub still-by : (o : ℕ) (q r : LaneView) → q ≡ r → o ≡ r.by → o ≡ q
 still-by o q r same by = rw same by
 
 -- a note that states an entry
-pub adds-stated : (make : model.Entry → Body) (o : ℕ) (x e : model.Entry) (r : Rec) (v w : LaneView) → x ≡ e → item_of r ≡ record { of = o; body = make x } → is_note (make x) ≡ true
+pub adds-stated : (make : model.Entry → Body) (o : ℕ) (x e : model.Entry) (r : Rec) (v w : LaneView) → x ≡ e → item_of r ≡ record { of = o; body = make x } → needs_spare_alone (make x) ≡ true
     → o ≡ v.by → 0 < v.spare → GrowsOf r.of (told_note r v) v w → w.spare ≡ spare_after r v.spare → Adds (told_as (ceiling_in 0 v.told) (make e) ∷ []) v w
 adds-stated make o x e r v w same is note by some grown spare =
     subst (λ y. Adds (told_as (ceiling_in 0 v.told) (make y) ∷ []) v w) same (adds-note o (make x) r v w is note by some grown spare)

@@ -11,38 +11,38 @@ use Rattle.qp_model.specs.Shapes.{ticks_fit}
 use Rattle.qp_calls.specs.LaneView.{LaneView, ceiling_in}
 
 -- a note that needs spare and nothing else
-abbrev pub is_note : Body → Bool
-is_note Begin = true
-is_note (Run s k) = true
-is_note Unhandled = true
-is_note (Exit s) = true
-is_note (Enter s) = true
-is_note (Init s) = true
-is_note (Say v) = true
-is_note Done = true
-is_note (Lock c) = true
-is_note (Unlock c) = true
-is_note (Defer e) = true
-is_note NoDefer = true
-is_note (Recall e) = true
-is_note NoRecall = true
-is_note (Flush e) = true
-is_note (Stim k look) = true
-is_note Settle = true
-is_note Spent = true
-is_note (Look k floor) = true
-is_note (Rest k) = true
-is_note _ = false
+abbrev pub needs_spare_alone : Body → Bool
+needs_spare_alone Begin = true
+needs_spare_alone (Run s k) = true
+needs_spare_alone Unhandled = true
+needs_spare_alone (Exit s) = true
+needs_spare_alone (Enter s) = true
+needs_spare_alone (Init s) = true
+needs_spare_alone (Say v) = true
+needs_spare_alone Done = true
+needs_spare_alone (Lock c) = true
+needs_spare_alone (Unlock c) = true
+needs_spare_alone (Defer e) = true
+needs_spare_alone NoDefer = true
+needs_spare_alone (Recall e) = true
+needs_spare_alone NoRecall = true
+needs_spare_alone (Flush e) = true
+needs_spare_alone (Stim k look) = true
+needs_spare_alone Settle = true
+needs_spare_alone Spent = true
+needs_spare_alone (Look k floor) = true
+needs_spare_alone (Rest k) = true
+needs_spare_alone _ = false
 
--- a `spill` stands in the lane
-abbrev pub spills_in : List ToldItem → Bool
-spills_in told = list_any (λ t. is_spill t.told.body) told
+-- a `spill` stands among the records as they are told
+abbrev pub spills_told : List ToldItem → Bool
+spills_told told = list_any (λ t. is_spill t.told.body) told
 
 -- Assertion 4 states values that no timer takes. A `spill` states the length of its lane, which is nearly full and has none yet.
 abbrev pub IsNote : Body → LaneView → Type 0
-IsNote (Spill n) v = (n ≡ length v.told) × (999992 < n) × IsFalse (spills_in v.told)
+IsNote (Spill n) v = (n ≡ length v.told) × (999992 < n) × IsFalse (spills_told v.told)
 IsNote (BadTicks t ticks interval) v = IsFalse (ticks_fit ticks interval) × (0 < v.spare)
-IsNote b v = IsTrue (is_note b) × (0 < v.spare)
+IsNote b v = IsTrue (needs_spare_alone b) × (0 < v.spare)
 
 unfoldable pub MayNote : Rec → LaneView → Type 0
 unfolding body_of ticks_fit

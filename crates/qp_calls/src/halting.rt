@@ -3,7 +3,7 @@
 ghost use Rattle.std.specs.Prelude.{◌≡◌, false};
 ghost use Rattle.qp_calls.specs.Clauses.{IsFault};
 ghost use Rattle.qp_calls.specs.Halting.{Halts};
-ghost use Rattle.qp_calls.specs.Notes.{spills_in};
+ghost use Rattle.qp_calls.specs.Notes.{spills_told};
 
 use crate::answers::RoomFault;
 use crate::ops::Ops;
@@ -21,7 +21,7 @@ pub enum Halted {
 /// Stops a lane by what `room` answered. The `spill` of a full lane is its last record.
 pub fn halt<O: Ops>(ops: &mut O, fault: RoomFault) -> Halted
     requires fault { IsFault (O.lane ops.old) fault }
-    requires spills { spills_in (O.lane ops.old).told ≡ false }
+    requires spills { spills_told (O.lane ops.old).told ≡ false }
     ensures { Halts (O.lane ops.old) (O.lane ops.new) result }
 {
     match fault {

@@ -10,7 +10,7 @@ use Rattle.qp_model.specs.Sources.{priorities}
 use Rattle.qp_model.specs.Told.{Told, ToldItem, plain, for_object}
 use Rattle.qp_calls.specs.Tokens.{hands_after, hands_by}
 use Rattle.qp_calls.specs.LaneView.{LaneView, Adds, Grows, Roomier, own_after}
-use Rattle.qp_calls.specs.Notes.{spills_in}
+use Rattle.qp_calls.specs.Notes.{spills_told}
 use Rattle.qp_calls.specs.Clauses.{Stops}
 use Rattle.qp_calls.proofs.Growing.{gains-none, grows-room, grows-then}
 use Rattle.qp_calls_stimulus.specs.declared.calling.Called.{Called}
@@ -90,10 +90,10 @@ module _ (sys : System) (s : Stim) (place look : ℕ) (v r n : LaneView) (room :
       record { g = begun place look cut.one; mid = mid; grows = grows; own = λ a. own-same (begun place look cut.one) v mid a grows (aloof-begun place look cut.one aloof); dry = h }
 
   -- no `spill` stands in the lane yet
-  pub cut-unspilled : (mid : LaneView) → spills_in v.told ≡ false → CallsCut sys s n mid → spills_in mid.told ≡ false
+  pub cut-unspilled : (mid : LaneView) → spills_told v.told ≡ false → CallsCut sys s n mid → spills_told mid.told ≡ false
   unfolding begins
   cut-unspilled mid none cut =
-      let noted : spills_in n.told ≡ false =
+      let noted : spills_told n.told ≡ false =
       rw (begins.told, list_any-append (λ (t : ToldItem). is_spill t.told.body) v.told (for_object v.by (plain (body.Stim place look)) ∷ []), none) refl in
       cut-spills sys s cut.asserted cut.one cut.back n mid noted cut.grows cut.some (cut.fits sim)
 

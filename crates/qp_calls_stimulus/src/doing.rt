@@ -4,7 +4,7 @@ ghost use Rattle.std.specs.Prelude.{◌≡◌, false};
 ghost use Rattle.qp_model.specs.Sound.{IsSound};
 ghost use Rattle.qp_stim.specs.Rules.{StimFits};
 ghost use Rattle.qp_calls.specs.Clauses.{IsFault};
-ghost use Rattle.qp_calls.specs.Notes.{spills_in};
+ghost use Rattle.qp_calls.specs.Notes.{spills_told};
 ghost use Rattle.qp_calls_stimulus.specs.Stimulating.{Halts, KeepsOwn, Stimulates};
 
 use crate::calling::{Called, make};
@@ -30,7 +30,7 @@ pub enum Stimulated {
 /// Stops the lane where it has no room, or memory was refused.
 fn give_up<O: Ops>(ops: &mut O, fault: RoomFault) -> Stimulated
     requires fault { IsFault (O.lane ops.old) fault }
-    requires spills { spills_in (O.lane ops.old).told ≡ false }
+    requires spills { spills_told (O.lane ops.old).told ≡ false }
     ensures { Halts (O.lane ops.old) (O.lane ops.new) result }
 {
     match halt(ops, fault) {
@@ -56,7 +56,7 @@ pub fn stimulus<O: Ops, L: Ledger, G: Tells>(
     requires sound { IsSound sys.now }
     requires none { (O.lane ops.old).by ≡ 0 }
     requires fits { StimFits sys.now s.now }
-    requires spills { spills_in (O.lane ops.old).told ≡ false }
+    requires spills { spills_told (O.lane ops.old).told ≡ false }
     ensures stimulates { Stimulates sys.now s.now place look (O.lane ops.old) (O.lane ops.new) result }
     ensures own { KeepsOwn (O.lane ops.old) (O.lane ops.new) }
 {

@@ -11,7 +11,7 @@ use Rattle.qp_model.specs.declared.record.Rec.{Rec}
 use Rattle.qp_model.specs.Record.{item_of}
 use Rattle.qp_model.specs.History.{lane_items}
 use Rattle.qp_model.specs.OneOrder.{look_of, look_numbers}
-use Rattle.qp_check_lanes.specs.Options.{is_look}
+use Rattle.qp_check_lanes.specs.Options.{is_this_number}
 use Rattle.qp_check_kernel.specs.OneOrder.{last_of}
 use Rattle.qp_check_lanes.proofs.ItemLemmas.{items-up_to, items-none}
 
@@ -29,14 +29,14 @@ module _ (lane : List Rec) (i : ℕ) (r : Rec) (inside : i < length lane) (is : 
       ap look_numbers (items-up_to lane i r inside is) ∙ filter_map-append (λ x. option_map (λ l. l.0) (look_of x.body)) (lane_items (take i lane)) (item_of r ∷ [])
       ∙ ap (λ o. look_numbers (lane_items (take i lane)) ++ filter_map (λ k. k) (o ∷ [])) (sym says)
 
-  pub looks-more : (k : ℕ) (new old : Bool) → new ≡ (old || is_look k look) → old ≡ has (look_numbers (lane_items (take i lane))) k
+  pub looks-more : (k : ℕ) (new old : Bool) → new ≡ (old || is_this_number k look) → old ≡ has (look_numbers (lane_items (take i lane))) k
       → new ≡ has (look_numbers (lane_items (take (i + 1) lane))) k
   looks-more k new old e f =
       let front = look_numbers (lane_items (take i lane)) in
-      e ∙ ap (λ b. b || is_look k look) f ∙ ap (λ b. has front k || b) (go look)
+      e ∙ ap (λ b. b || is_this_number k look) f ∙ ap (λ b. has front k || b) (go look)
       ∙ sym (ap (λ l. has l k) look_numbers-more ∙ list_any-append (λ y. y == k) front (filter_map (λ x. x) (look ∷ [])))
     where
-      go : (o : Option ℕ) → is_look k o ≡ has (filter_map (λ x. x) (o ∷ [])) k
+      go : (o : Option ℕ) → is_this_number k o ≡ has (filter_map (λ x. x) (o ∷ [])) k
       go None = refl
       go (Some n) = sym (or-false (n == k))
 

@@ -8,7 +8,7 @@ use Rattle.qp_model.specs.Record.{item_of}
 use Rattle.qp_model.specs.History.{lane_items}
 use Rattle.qp_model.specs.OneOrder.{is_stim_at}
 use Rattle.std.specs.declared.option.Option.{Option}
-use Rattle.qp_check_lanes.specs.Options.{is_look}
+use Rattle.qp_check_lanes.specs.Options.{is_this_number}
 use Rattle.qp_check_lanes.proofs.ItemLemmas.{items-up_to, items-none}
 
 module _ (lane : List Rec) (i : ℕ) (r : Rec) (inside : i < length lane) (is : r ≡ get_or lane i r) (k : ℕ) where
@@ -17,10 +17,10 @@ module _ (lane : List Rec) (i : ℕ) (r : Rec) (inside : i < length lane) (is : 
   stim-more = ap (list_any (λ x. is_stim_at k x.body)) (items-up_to lane i r inside is) ∙ list_any-append (λ x. is_stim_at k x.body) (lane_items (take i lane)) (item_of r ∷ []) ∙ ap (λ b. list_any (λ x. is_stim_at k x.body) (lane_items (take i lane)) || b) (or-false (is_stim_at k (item_of r).body))
 
   -- the look of the record is added
-  pub stim-added : (new now old : Bool) (look : Option ℕ) → new ≡ (now || is_look k look) → now ≡ (old || list_any (λ x. is_stim_at k x.body) (lane_items (take i lane)))
-      → is_stim_at k (item_of r).body ≡ is_look k look → new ≡ (old || list_any (λ x. is_stim_at k x.body) (lane_items (take (i + 1) lane)))
+  pub stim-added : (new now old : Bool) (look : Option ℕ) → new ≡ (now || is_this_number k look) → now ≡ (old || list_any (λ x. is_stim_at k x.body) (lane_items (take i lane)))
+      → is_stim_at k (item_of r).body ≡ is_this_number k look → new ≡ (old || list_any (λ x. is_stim_at k x.body) (lane_items (take (i + 1) lane)))
   stim-added new now old look e f g =
-      e ∙ ap (λ b. b || is_look k look) f ∙ or_assoc old (list_any (λ x. is_stim_at k x.body) (lane_items (take i lane))) (is_look k look)
+      e ∙ ap (λ b. b || is_this_number k look) f ∙ or_assoc old (list_any (λ x. is_stim_at k x.body) (lane_items (take i lane))) (is_this_number k look)
       ∙ ap (λ b. old || b) (ap (λ b. list_any (λ x. is_stim_at k x.body) (lane_items (take i lane)) || b) (sym g) ∙ sym stim-more)
 
 pub stim-none : (k : ℕ) (b : Bool) → b ≡ (b || list_any (λ x. is_stim_at k x.body) (lane_items []))

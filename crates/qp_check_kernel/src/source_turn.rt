@@ -6,7 +6,7 @@ ghost use Rattle.std.specs.Option.{option_map};
 ghost use Rattle.qp_model.specs.Record.{item_of};
 ghost use Rattle.qp_model.specs.OneOrder.{enters, leaves, is_stim as stims, may_act, turned};
 ghost use Rattle.qp_check_kernel.specs.AsPlaced.{as_placed, said_at};
-ghost use Rattle.qp_check_lanes.specs.Options.{is_look};
+ghost use Rattle.qp_check_lanes.specs.Options.{is_this_number};
 ghost use Rattle.qp_check_lanes.specs.WordTotals.{count_in};
 ghost use Rattle.qp_check_kernel.specs.Turns.{as_turn, left_from, first_acting, next_turn};
 
@@ -35,7 +35,7 @@ pub struct Turn {
 /// The queue that an entry comes to.
 #[tactic(auto, unfolding(qp_model::specs::Record::item_of))]
 fn entered(r: &Rec) -> Option<u64>
-    ensures { (o : ℕ) → enters o (item_of r.now) ≡ is_look o result }
+    ensures { (o : ℕ) → enters o (item_of r.now) ≡ is_this_number o result }
 {
     match r.body() {
         Body::Post { a, .. } => Some(a),
@@ -47,7 +47,7 @@ fn entered(r: &Rec) -> Option<u64>
 /// The queue that an entry leaves.
 #[tactic(auto, unfolding(qp_model::specs::Record::item_of))]
 fn left(r: &Rec) -> Option<u64>
-    ensures { (o : ℕ) → leaves o (item_of r.now) ≡ is_look o result }
+    ensures { (o : ℕ) → leaves o (item_of r.now) ≡ is_this_number o result }
 {
     match r.body() {
         Body::Took { .. } => Some(u64::from(r.of)),
@@ -64,7 +64,7 @@ fn is_stim(x: Placed) -> bool
 
 /// The source that begins a stimulus.
 fn beginner(x: Placed) -> Option<u64>
-    ensures { (s : ℕ) → (stims (as_placed x.entry) && (x.entry.lane == s)) ≡ is_look s result }
+    ensures { (s : ℕ) → (stims (as_placed x.entry) && (x.entry.lane == s)) ≡ is_this_number s result }
 {
     if is_stim(x) {
         Some(x.lane as u64)

@@ -7,7 +7,7 @@ ghost use Rattle.std.specs.Ordering.{nat_cmp};
 ghost use Rattle.qp_model.specs.History.{lane_items};
 ghost use Rattle.qp_model.specs.OneOrder.{is_stim_at};
 ghost use Rattle.qp_model.specs.Record.{item_of};
-ghost use Rattle.qp_check_lanes.specs.Options.{is_look};
+ghost use Rattle.qp_check_lanes.specs.Options.{is_this_number};
 
 use qp_model::{Body, Lane, Rec};
 use std::alloc::{AllocError, Global};
@@ -16,7 +16,7 @@ use std::collections::BTreeSet;
 /// The look of a `stim`.
 #[tactic(auto, unfolding(qp_model::specs::Record::item_of))]
 fn stim_look(r: &Rec) -> Option<u64>
-    ensures { (k : ℕ) → is_stim_at k (item_of r.now).body ≡ is_look k result }
+    ensures { (k : ℕ) → is_stim_at k (item_of r.now).body ≡ is_this_number k result }
 {
     match r.body() {
         Body::Stim { k, .. } => Some(k),
@@ -25,7 +25,7 @@ fn stim_look(r: &Rec) -> Option<u64>
 }
 
 pub fn add(looks: &mut BTreeSet<u64>, look: Option<u64>) -> Result<(), AllocError>
-    ensures { OnOk result ((k : ℕ) → contains nat_cmp looks.new k ≡ (contains nat_cmp looks.old k || is_look k look)) }
+    ensures { OnOk result ((k : ℕ) → contains nat_cmp looks.new k ≡ (contains nat_cmp looks.old k || is_this_number k look)) }
 {
     if let Some(k) = look {
         looks.insert(k)?;

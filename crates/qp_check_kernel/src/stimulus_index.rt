@@ -5,7 +5,7 @@ ghost use Rattle.std.specs.Option.{option_map_or};
 ghost use Rattle.qp_model.specs.History.{lane_items};
 ghost use Rattle.qp_model.specs.Record.{item_of};
 ghost use Rattle.qp_model.specs.OneOrder.{belongs, part_of_look, parts_of_look};
-ghost use Rattle.qp_check_lanes.specs.Options.{is_look};
+ghost use Rattle.qp_check_lanes.specs.Options.{is_this_number};
 ghost use Rattle.qp_check_kernel.specs.AsPlaced.{as_placed};
 ghost use Rattle.qp_check_kernel.specs.StimulusIndex.{parts_at};
 
@@ -106,7 +106,7 @@ impl<'a> Index<'a> {
     /// The same where the record belongs to a look.
     fn put_in(&mut self, alloc: Global, look: Option<u64>, x: Placed<'a>) -> Result<(), AllocError>
         ensures { OnOk result ((k : ℕ) → parts_at self.new k ≡ parts_at self.old k ++
-            (if is_look k look then as_placed x.entry ∷ [] else [])) }
+            (if is_this_number k look then as_placed x.entry ∷ [] else [])) }
     {
         match look {
             Some(look) => self.put_at(alloc, look, x),
@@ -159,7 +159,7 @@ impl<'a> Index<'a> {
 /// The look to whose stimulus a record belongs, where the record before it belongs to this one.
 #[tactic(auto, unfolding(qp_model::specs::Record::item_of))]
 fn look_after(r: &Rec, cuts: bool, look: Option<u64>) -> Option<u64>
-    ensures { (k : ℕ) → is_look k result ≡ belongs k cuts (is_look k look) (item_of r.now).body }
+    ensures { (k : ℕ) → is_this_number k result ≡ belongs k cuts (is_this_number k look) (item_of r.now).body }
 {
     match r.body() {
         Body::Stim { k, .. } => Some(k),

@@ -7,7 +7,7 @@ abbrev pub allowed : {A : Type 0} → Bool → A → Option A
 allowed true x = Some x
 allowed false x = None
 
--- the look is this one
-abbrev pub is_look : ℕ → Option ℕ → Bool
-is_look k None = false
-is_look k (Some n) = n == k
+-- the number is there, and is this one
+abbrev pub is_this_number : ℕ → Option ℕ → Bool
+is_this_number k None = false
+is_this_number k (Some n) = n == k

@@ -6,7 +6,7 @@ ghost use Rattle.qp_model.specs.declared.words.Word.{Word};
 ghost use Rattle.qp_model.specs.declared.words.Word.TheVariants as word_kind;
 ghost use Rattle.qp_model.specs.History.{same_word};
 ghost use Rattle.qp_model.specs.Touches.{as_touch, as_word};
-ghost use Rattle.qp_check_lanes.specs.Options.{is_look};
+ghost use Rattle.qp_check_lanes.specs.Options.{is_this_number};
 ghost use Rattle.qp_check_lanes.specs.WordTotals.{count_in, count_at, is_next_at, drawn_at};
 
 use qp_model::{Named, Touched};
@@ -70,7 +70,7 @@ impl Counts {
     /// Counts this number, if there is one.
     pub fn count(&mut self, k: Option<u64>) -> Result<(), AllocError>
         requires { (q : ℕ) → count_in self.old q + 1 < 2 ^ 64 }
-        ensures { OnOk result ((q : ℕ) → count_in self.new q ≡ count_in self.old q + (if is_look q k then 1 else 0)) }
+        ensures { OnOk result ((q : ℕ) → count_in self.new q ≡ count_in self.old q + (if is_this_number q k then 1 else 0)) }
     {
         match k {
             Some(k) => self.add(k),

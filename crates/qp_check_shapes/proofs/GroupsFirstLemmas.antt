@@ -10,7 +10,7 @@ use Rattle.qp_model.specs.Told.{Told, Known, Nothing, Former, plain, raised}
 use Rattle.qp_model.specs.Groups.{is_move}
 use Rattle.qp_check_shapes.specs.ShapeRelease.{Leaves}
 use Rattle.qp_check_shapes.specs.GroupsRead.{ReadsAll, IsElement, Notes, Acts, Locks, is_outer}
-use Rattle.qp_check_shapes.specs.GroupsFirst.{is_note, former_of, unlock_first, behind_unlock, done_first, behind_done}
+use Rattle.qp_check_shapes.specs.GroupsFirst.{is_told_move, former_of, unlock_first, behind_unlock, done_first, behind_done}
 use Rattle.qp_check_shapes.proofs.ShapeReleaseLemmas.{when-passed}
 use Rattle.qp_check_shapes.proofs.GroupsReadLemmas.{Parts, reads-close}
 use Rattle.qp_check_shapes.proofs.GroupsElementLemmas.{element-parts}
@@ -47,14 +47,14 @@ none-empty P filled = λ g rest is h. by g rest is h
     by (t ∷ ts) rest is h = cc
 
 -- the first record of a note
-note-is : (t : Told) → is_note t.body t.known ≡ true → (b : Body) × (is_move b ≡ true) × (t ≡ plain b)
+note-is : (t : Told) → is_told_move t.body t.known ≡ true → (b : Body) × (is_move b ≡ true) × (t ≡ plain b)
 note-is t h = by t.known refl h
   where
-    by : (known : Known) → t.known ≡ known → is_note t.body known ≡ true → (b : Body) × (is_move b ≡ true) × (t ≡ plain b)
+    by : (known : Known) → t.known ≡ known → is_told_move t.body known ≡ true → (b : Body) × (is_move b ≡ true) × (t ≡ plain b)
     by Nothing is h = (t.body, h, told-is t t.body Nothing refl is)
     by known is h = absurd (false≢true h)
 
-pub note-leaves : (W : List Told → Type 0) → Parts is_outer W → (t : Told) (ts : List Told) → is_note t.body t.known ≡ true → Leaves (IsElement W) (t ∷ ts) (Some ts)
+pub note-leaves : (W : List Told → Type 0) → Parts is_outer W → (t : Told) (ts : List Told) → is_told_move t.body t.known ≡ true → Leaves (IsElement W) (t ∷ ts) (Some ts)
 note-leaves W laws t ts h =
     let note = note-is t h in
     let one : IsElement W (t ∷ []) = Notes note.0 note.1 (ap (λ u. u ∷ []) note.2) in
@@ -141,7 +141,7 @@ locked-leaves W laws t ts rest f h reads = leaves-at (IsElement W) (t ∷ ts) (b
         ap (behind_unlock f) close ∙ ap (λ x. behind_unlock f (plain (item.Unlock x) ∷ other)) same ∙ rw (same_number f) refl
 
 -- an action, where the first record is no note and raises no ceiling
-pub acts-leaves : (W : List Told → Type 0) → (t : Told) (ts : List Told) (r : Option (List Told)) → is_note t.body t.known ≡ false → former_of t.body t.known ≡ None
+pub acts-leaves : (W : List Told → Type 0) → (t : Told) (ts : List Told) (r : Option (List Told)) → is_told_move t.body t.known ≡ false → former_of t.body t.known ≡ None
     → Leaves W (t ∷ ts) r → Leaves (IsElement W) (t ∷ ts) r
 acts-leaves W t ts r not_note none l = leaves-at (IsElement W) (t ∷ ts) r sound whole
   where
@@ -153,7 +153,7 @@ acts-leaves W t ts r not_note none l = leaves-at (IsElement W) (t ∷ ts) r soun
     whole g other is (Notes b k e) =
         let all : t ∷ ts ≡ plain b ∷ other = is ∙ ap (λ us. us ++ other) e in
         let first : plain b ≡ t = cc in
-        let test : is_note t.body t.known ≡ true = subst (λ (x : Told). is_note x.body x.known ≡ true) first k in absurd (cc)
+        let test : is_told_move t.body t.known ≡ true = subst (λ (x : Told). is_told_move x.body x.known ≡ true) first k in absurd (cc)
     whole g other is (Locks f c inner s e) =
         let all : t ∷ ts ≡ raised (max f c) f ∷ ((inner ++ (plain (item.Unlock f) ∷ [])) ++ other) = is ∙ ap (λ us. us ++ other) e in
         let first : raised (max f c) f ≡ t = cc in
@@ -163,7 +163,7 @@ acts-leaves W t ts r not_note none l = leaves-at (IsElement W) (t ∷ ts) r soun
 pub none-group : (P : List Told → Type 0) → (P [] → ⊥) → (told : List Told) → told ≡ [] → Leaves P told None
 none-group P filled told is = subst (λ us. Leaves P us None) (sym is) (none-empty P filled)
 
-pub note-group : (W : List Told → Type 0) → Parts is_outer W → (told : List Told) (t : Told) (ts : List Told) → told ≡ t ∷ ts → is_note t.body t.known ≡ true → Leaves (IsElement W) told (Some ts)
+pub note-group : (W : List Told → Type 0) → Parts is_outer W → (told : List Told) (t : Told) (ts : List Told) → told ≡ t ∷ ts → is_told_move t.body t.known ≡ true → Leaves (IsElement W) told (Some ts)
 note-group W laws told t ts is h = subst (λ us. Leaves (IsElement W) us (Some ts)) (sym is) (note-leaves W laws t ts h)
 
 pub locked-group : (W : List Told → Type 0) → Parts is_outer W → (told : List Told) (t : Told) (ts rest : List Told) (f : ℕ) (r : Option (List Told)) → told ≡ t ∷ ts → former_of t.body t.known ≡ Some f
@@ -171,7 +171,7 @@ pub locked-group : (W : List Told → Type 0) → Parts is_outer W → (told : L
 locked-group W laws told t ts rest f r is h reads behind =
     subst (λ us. Leaves (IsElement W) us r) (sym is) (subst (λ x. Leaves (IsElement W) (t ∷ ts) x) (sym behind) (locked-leaves W laws t ts rest f h reads))
 
-pub acts-group : (W : List Told → Type 0) (told : List Told) (t : Told) (ts : List Told) (r : Option (List Told)) → told ≡ t ∷ ts → is_note t.body t.known ≡ false → former_of t.body t.known ≡ None
+pub acts-group : (W : List Told → Type 0) (told : List Told) (t : Told) (ts : List Told) (r : Option (List Told)) → told ≡ t ∷ ts → is_told_move t.body t.known ≡ false → former_of t.body t.known ≡ None
     → Leaves W told r → Leaves (IsElement W) told r
 acts-group W told t ts r is not_note none l =
     subst (λ us. Leaves (IsElement W) us r) (sym is) (acts-leaves W t ts r not_note none (subst (λ us. Leaves W us r) is l))

@@ -9,7 +9,7 @@ use Rattle.qp_model.specs.Shapes.{Drops}
 use Rattle.qp_model.specs.Groups.{IsLast}
 use Rattle.qp_model.specs.ObjectShape.{StartGroup, BrokenStart, StepGroup, BrokenStep, IsTurn, Dispatches, FindsEmpty, LooksOnly, IsTail, Ends, OutOfBudget, BreaksStep, ObjectGroups}
 use Rattle.qp_check_shapes.specs.ShapeAction.{IsWhole}
-use Rattle.qp_check_shapes.specs.ObjectRead.{Kinds, Closes, is_look, IsTurnOf, Steps, Finds, IsTailOf, EndsHere, IsSpent, BreaksOffIn, TakesOnly, ReleasesOnly, TurnsOf, IsObjectOf, Starts, BreaksStart}
+use Rattle.qp_check_shapes.specs.ObjectRead.{Kinds, Closes, looks_at_queue, IsTurnOf, Steps, Finds, IsTailOf, EndsHere, IsSpent, BreaksOffIn, TakesOnly, ReleasesOnly, TurnsOf, IsObjectOf, Starts, BreaksStart}
 use Rattle.qp_check_shapes.proofs.GroupsSequenceLemmas.{sequence-one, sequence-map}
 use Rattle.qp_check_shapes.proofs.GroupsActionLemmas.{groups-elements, elements-groups, off-breaks, breaks-off}
 
@@ -30,7 +30,7 @@ of-turn sys o nils g (Steps e head body h c is) =
     Dispatches (e, head, c.0, c.1, h, elements-groups sys o (Some e) c.0 c.2, c.3, is ∙ ap (λ us. head ++ us) c.4)
 of-turn sys o nils g (Finds b look h is) = by b look is
   where
-    by : (b : Body) → is_look b ≡ true → g ≡ plain b ∷ [] → IsTurn sys o nils g
+    by : (b : Body) → looks_at_queue b ≡ true → g ≡ plain b ∷ [] → IsTurn sys o nils g
     by (item.Nil f l m) look is = FindsEmpty f l m h is
     by (item.Seen p f l m) look is = LooksOnly p f l m h is
     by b look is = absurd (false≢true look)

@@ -9,7 +9,7 @@ use Rattle.qp_model.specs.Sequence.{Sequence}
 use Rattle.qp_model.specs.ObjectShape.{StepHead, is_head, takes}
 use Rattle.qp_model.proofs.ListLemmas.{nil-front}
 use Rattle.qp_check_shapes.specs.GroupsRead.{ReadsAll, IsElement, Breaks, is_close, is_outer}
-use Rattle.qp_check_shapes.specs.ObjectRead.{Kinds, Closes, is_look, IsTurnOf, Steps, Finds, FrontOf, IsTailOf, EndsHere, IsSpent, BreaksOffIn, TakesOnly, ReleasesOnly, TurnsOf}
+use Rattle.qp_check_shapes.specs.ObjectRead.{Kinds, Closes, looks_at_queue, IsTurnOf, Steps, Finds, FrontOf, IsTailOf, EndsHere, IsSpent, BreaksOffIn, TakesOnly, ReleasesOnly, TurnsOf}
 use Rattle.qp_check_shapes.proofs.GroupsReadLemmas.{Parts, Lasts, compare, outer-behind, reads-last, no-close}
 use Rattle.qp_check_shapes.proofs.GroupsElementLemmas.{element-parts, end-lasts}
 
@@ -89,11 +89,11 @@ bodies-same k laws d e b gs c hs same x y is =
     laws.releases e z.1 gs y.1 hs z.3 y.3 (done-same (k.act (Some e)) (laws.acts (Some e)) z.0 (z.1 ++ gs) y.0 (y.1 ++ hs) z.2 y.2 (sym left ∙ is ∙ right))
 
 -- a look isn't a `took`
-pub look-not : (b : Body) → is_look b ≡ true → (f l m : ℕ) (e : Entry) → item.Took f l m e ≡ b → ⊥
-look-not b look f l m e is = let test : is_look (item.Took f l m e) ≡ true = subst (λ x. is_look x ≡ true) (sym is) look in cc
+pub look-not : (b : Body) → looks_at_queue b ≡ true → (f l m : ℕ) (e : Entry) → item.Took f l m e ≡ b → ⊥
+look-not b look f l m e is = let test : looks_at_queue (item.Took f l m e) ≡ true = subst (λ x. looks_at_queue x ≡ true) (sym is) look in cc
 
 -- a turn that looks is one record
-finds-same : (k : Kinds) (nils : Bool) (b : Body) (gs h hs : List Told) → is_look b ≡ true → IsTurnOf k.act k.release nils h → plain b ∷ gs ≡ h ++ hs → gs ≡ hs
+finds-same : (k : Kinds) (nils : Bool) (b : Body) (gs h hs : List Told) → looks_at_queue b ≡ true → IsTurnOf k.act k.release nils h → plain b ∷ gs ≡ h ++ hs → gs ≡ hs
 finds-same k nils b gs h hs look (Steps e head body u c e1) is =
     absurd (head-not e head (body ++ hs) gs b u (λ f l m. look-not b look f l m e) (sym (is ∙ ap (λ us. us ++ hs) e1 ∙ append_assoc head body hs)))
 finds-same k nils b gs h hs look (Finds x y n e1) is = let all : plain b ∷ gs ≡ plain x ∷ hs = is ∙ ap (λ us. us ++ hs) e1 in cc
@@ -123,7 +123,7 @@ tail-behind k nils laws last g rest (IsSpent e) (Finds b look n e1) is =
     let all : plain item.Spent ∷ [] ≡ plain b ∷ rest = sym e ∙ is ∙ ap (λ us. us ++ rest) e1 in
     let first : plain item.Spent ≡ plain b = cc in
     let body : item.Spent ≡ b = ap (λ (x : Told). x.body) first in
-    let test : is_look item.Spent ≡ true = subst (λ x. is_look x ≡ true) (sym body) look in absurd (cc)
+    let test : looks_at_queue item.Spent ≡ true = subst (λ x. looks_at_queue x ≡ true) (sym body) look in absurd (cc)
 tail-behind k nils laws last g rest (IsSpent e) (Steps d head body s c e1) is =
     absurd (head-not d head (body ++ rest) [] item.Spent s (λ f l m e. cc) (sym (sym e ∙ is ∙ ap (λ us. us ++ rest) e1 ∙ append_assoc head body rest)))
 tail-behind k nils laws last g rest (BreaksOffIn e head body on s b e1) (Finds x look n e2) is =

@@ -11,7 +11,7 @@ use Rattle.qp_model.specs.ObjectShape.{StepHead, is_head, takes}
 use Rattle.qp_check_shapes.specs.ShapeRelease.{Leaves}
 use Rattle.qp_check_shapes.specs.GroupsRead.{ReadsAll, IsElement, is_close, is_outer}
 use Rattle.qp_check_shapes.specs.GroupsFirst.{behind_done}
-use Rattle.qp_check_shapes.specs.ObjectRead.{Closes, is_look, IsTurnOf, Steps, Finds}
+use Rattle.qp_check_shapes.specs.ObjectRead.{Closes, looks_at_queue, IsTurnOf, Steps, Finds}
 use Rattle.qp_check_shapes.specs.ObjectFirst.{taken_first, taken_entry, tells_head, behind_head, look_first, behind_look, begin_first, behind_begin}
 use Rattle.qp_check_shapes.proofs.ShapeReleaseLemmas.{when-passed}
 use Rattle.qp_check_shapes.proofs.GroupsReadLemmas.{Parts, reads-close}
@@ -99,10 +99,10 @@ closes-none W D laws told rest reads none = leaves-at (Closes W D) told None (λ
         (is ∙ ap (λ us. us ++ other) c.4 ∙ append_assoc c.0 (plain item.Done ∷ c.1) other) in
         let some : behind_done rest ≡ Some (c.1 ++ other) = ap behind_done close in absurd (cc)
 
-look-entry : (b : Body) (told rest : List Told) → is_look b ≡ true → told ≡ plain b ∷ rest → taken_entry told ≡ None
+look-entry : (b : Body) (told rest : List Told) → looks_at_queue b ≡ true → told ≡ plain b ∷ rest → taken_entry told ≡ None
 look-entry b told rest look is = ap taken_entry is ∙ by b look
   where
-    by : (b : Body) → is_look b ≡ true → taken_entry (plain b ∷ rest) ≡ None
+    by : (b : Body) → looks_at_queue b ≡ true → taken_entry (plain b ∷ rest) ≡ None
     by (item.Nil f l m) look = refl
     by (item.Seen p f l m) look = refl
     by b look = absurd (false≢true look)
@@ -145,14 +145,14 @@ turn-headless act release nils told e taken_is none = leaves-at (IsTurnOf act re
         let step = turn-steps act release nils told g other e (sym taken_is) t is in
         let both : None ≡ Some (step.0 ++ other) = none ∙ step.2 in absurd (cc)
 
-look-is : (nils : Bool) (told rest : List Told) → behind_look nils told ≡ Some rest → (b : Body) × (is_look b ≡ true) × (nils ≡ true) × (told ≡ plain b ∷ rest)
+look-is : (nils : Bool) (told rest : List Told) → behind_look nils told ≡ Some rest → (b : Body) × (looks_at_queue b ≡ true) × (nils ≡ true) × (told ≡ plain b ∷ rest)
 look-is nils [] rest h = absurd (cc)
 look-is nils (t ∷ ts) rest h = by t.known refl h
   where
-    by : (known : Known) → t.known ≡ known → look_first nils t.body known ts ≡ Some rest → (b : Body) × (is_look b ≡ true) × (nils ≡ true) × (t ∷ ts ≡ plain b ∷ rest)
+    by : (known : Known) → t.known ≡ known → look_first nils t.body known ts ≡ Some rest → (b : Body) × (looks_at_queue b ≡ true) × (nils ≡ true) × (t ∷ ts ≡ plain b ∷ rest)
     by Nothing is_known h =
-        let test = when-passed (is_look t.body && nils) ts rest h in
-        let tests = and_parts (is_look t.body) nils test.0 in
+        let test = when-passed (looks_at_queue t.body && nils) ts rest h in
+        let tests = and_parts (looks_at_queue t.body) nils test.0 in
         let whole : t ≡ plain t.body = told-is t _ _ refl is_known in
         let behind : ts ≡ rest = test.1 in
         (t.body, tests.0, tests.1, ap (λ u. u ∷ ts) whole ∙ ap (λ us. plain t.body ∷ us) behind)

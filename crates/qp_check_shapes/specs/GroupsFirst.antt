@@ -7,10 +7,10 @@ use Rattle.qp_model.specs.Told.{Told, Known, Nothing, Former}
 use Rattle.qp_model.specs.Groups.{is_move}
 use Rattle.qp_check_shapes.specs.ShapeRelease.{when}
 
--- a note
-abbrev pub is_note : Body → Known → Bool
-is_note body Nothing = is_move body
-is_note body known = false
+-- a note beside which nothing is known
+abbrev pub is_told_move : Body → Known → Bool
+is_told_move body Nothing = is_move body
+is_told_move body known = false
 
 -- the ceiling before it was raised
 abbrev pub former_of : Body → Known → Option ℕ

@@ -8,7 +8,7 @@ use Rattle.qp_model.specs.Told.{Told, Known, Nothing, Left}
 use Rattle.qp_model.specs.ObjectShape.{is_head}
 use Rattle.qp_check_shapes.specs.ShapeRelease.{when, behind_back}
 use Rattle.qp_check_shapes.specs.ShapePublication.{is_done}
-use Rattle.qp_check_shapes.specs.ObjectRead.{is_look}
+use Rattle.qp_check_shapes.specs.ObjectRead.{looks_at_queue}
 
 -- the entry that a step takes
 abbrev pub taken_first : Body → Known → Option Entry
@@ -35,7 +35,7 @@ behind_head (t ∷ rest) = behind_second rest
 
 -- behind a queue found empty, or looked at, where that is recorded
 abbrev pub look_first : Bool → Body → Known → List Told → Option (List Told)
-look_first nils body Nothing rest = when (is_look body && nils) rest
+look_first nils body Nothing rest = when (looks_at_queue body && nils) rest
 look_first nils body known rest = None
 
 abbrev pub behind_look : Bool → List Told → Option (List Told)

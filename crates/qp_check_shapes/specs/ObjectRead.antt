@@ -27,15 +27,15 @@ unfolding Sequence
 Closes W M bs = (g more : List Told) × Sequence (IsElement W) g × M more × (bs ≡ g ++ (plain item.Done ∷ more))
 
 -- a queue found empty, or looked at in the place of a take
-abbrev pub is_look : Body → Bool
-is_look (item.Nil f l m) = true
-is_look (item.Seen p f l m) = true
-is_look _ = false
+abbrev pub looks_at_queue : Body → Bool
+looks_at_queue (item.Nil f l m) = true
+looks_at_queue (item.Seen p f l m) = true
+looks_at_queue _ = false
 
 -- a step, or such a look
 pub data IsTurnOf (act : Option Entry → List Told → Type 0) (release : Entry → List Told → Type 0) (nils : Bool) (bs : List Told) : Type 0 where
   Steps : (e : Entry) (head body : List Told) → StepHead e head → Closes (act (Some e)) (release e) body → bs ≡ head ++ body → IsTurnOf act release nils bs
-  Finds : (b : Body) → IsTrue (is_look b) → IsTrue nils → bs ≡ plain b ∷ [] → IsTurnOf act release nils bs
+  Finds : (b : Body) → IsTrue (looks_at_queue b) → IsTrue nils → bs ≡ plain b ∷ [] → IsTurnOf act release nils bs
 
 -- a front of a release
 unfoldable pub FrontOf : (List Told → Type 0) → List Told → Type 0

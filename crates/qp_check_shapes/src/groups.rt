@@ -5,7 +5,7 @@ ghost use Rattle.std.specs.Option.{option_map};
 ghost use Rattle.qp_check_shapes.specs.ShapeRelease.{Leaves};
 ghost use Rattle.qp_check_shapes.specs.ShapeAction.{IsWhole};
 ghost use Rattle.qp_check_shapes.specs.GroupsRead.{ReadsAll, IsElement};
-ghost use Rattle.qp_check_shapes.specs.GroupsFirst.{is_note, former_of, behind_unlock, behind_done};
+ghost use Rattle.qp_check_shapes.specs.GroupsFirst.{is_told_move, former_of, behind_unlock, behind_done};
 
 use crate::shape_action::behind_action;
 use crate::shape_scene::Scene;
@@ -14,8 +14,8 @@ use qp_check_calls::{Known, Told};
 use qp_model::{Body, Entry};
 
 /// Whether a record is an exit, an entry, or an initial transition.
-fn is_note(t: &Told) -> bool
-    ensures { result ≡ is_note t.now.body t.now.known }
+fn is_told_move(t: &Told) -> bool
+    ensures { result ≡ is_told_move t.now.body t.now.known }
 {
     match (&t.body, &t.known) {
         (Body::Exit { .. } | Body::Enter { .. } | Body::Init { .. }, Known::Nothing) => true,
@@ -80,7 +80,7 @@ pub fn behind_group<'a>(scene: &Scene, now: Option<Entry>, told: &'a [Told]) -> 
 {
     match told.split_first() {
         Some((first, rest)) => {
-            if is_note(first) {
+            if is_told_move(first) {
                 return Some(rest);
             }
             match former_of(first) {

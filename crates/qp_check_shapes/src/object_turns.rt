@@ -6,7 +6,7 @@ ghost use Rattle.qp_model.specs.Shapes.{Drops};
 ghost use Rattle.qp_check_shapes.specs.ShapeRelease.{Leaves};
 ghost use Rattle.qp_check_shapes.specs.ShapeAction.{IsWhole};
 ghost use Rattle.qp_check_shapes.specs.GroupsRead.{ReadsAll};
-ghost use Rattle.qp_check_shapes.specs.ObjectRead.{Closes, IsTurnOf, is_look};
+ghost use Rattle.qp_check_shapes.specs.ObjectRead.{Closes, IsTurnOf, looks_at_queue};
 ghost use Rattle.qp_check_shapes.specs.ObjectFirst.{taken_first, taken_entry, tells_head, behind_second, behind_head, behind_look};
 
 use crate::groups::{behind_done, behind_groups};
@@ -53,8 +53,8 @@ pub fn behind_head<'a>(told: &'a [Told]) -> Option<&'a [Told]>
 }
 
 /// Whether a record is a look at a queue, whether or not that was found empty.
-fn is_look(body: &Body) -> bool
-    ensures { result ≡ is_look body.now }
+fn looks_at_queue(body: &Body) -> bool
+    ensures { result ≡ looks_at_queue body.now }
 {
     matches!(body, Body::Nil { .. } | Body::Seen { .. })
 }
@@ -65,7 +65,7 @@ fn behind_look<'a>(nils: bool, told: &'a [Told]) -> Option<&'a [Told]>
 {
     let (first, rest) = told.split_first()?;
     match &first.known {
-        Known::Nothing => when(is_look(&first.body) && nils, rest),
+        Known::Nothing => when(looks_at_queue(&first.body) && nils, rest),
         _ => None,
     }
 }

@@ -22,7 +22,7 @@ use Rattle.qp_calls.specs.declared.answers.RoomFault.{RoomFault}
 use Rattle.qp_calls.specs.Tokens.{Token, hands_after, hands_by}
 use Rattle.qp_calls.specs.Counting.{count_of}
 use Rattle.qp_calls.specs.LaneView.{LaneView, Grows, GrowsOf, Roomier, ceiling_in}
-use Rattle.qp_calls.specs.Notes.{MayNote, is_note, spare_after, told_note, told_as}
+use Rattle.qp_calls.specs.Notes.{MayNote, needs_spare_alone, spare_after, told_note, told_as}
 use Rattle.qp_calls.specs.Clauses.{IsFault, Stands, entry_of}
 use Rattle.qp_calls.specs.Groups.{Refused}
 use Rattle.qp_calls.specs.Deferring.{ChangeAlike, StandAll, is_named, tokens_in}
@@ -43,11 +43,11 @@ use Rattle.qp_model.proofs.RecordLemmas.{body-is, of-is}
 
 -- Notes.
 
-pub note-here : (r : Rec) (a v : LaneView) → Roomier a v → IsTrue (is_note (body_of r)) → 8 ≤ v.spare → MayNote r v
+pub note-here : (r : Rec) (a v : LaneView) → Roomier a v → IsTrue (needs_spare_alone (body_of r)) → 8 ≤ v.spare → MayNote r v
 unfolding MayNote item_of
 note-here r a v room is some = may-note r.of (body_of r) r v refl is (omega (arith, some))
 
-pub noted : (r : Rec) (a v w : LaneView) → Roomier a v → IsTrue (is_note (body_of r)) → a.by ≡ r.of → 8 ≤ v.spare → GrowsOf r.of (told_note r v) v w → w.spare ≡ spare_after r v.spare
+pub noted : (r : Rec) (a v w : LaneView) → Roomier a v → IsTrue (needs_spare_alone (body_of r)) → a.by ≡ r.of → 8 ≤ v.spare → GrowsOf r.of (told_note r v) v w → w.spare ≡ spare_after r v.spare
     → Grows (told_note r a) a w
 unfolding told_note item_of
 noted r a v w room is mine some grown spare =
@@ -59,7 +59,7 @@ noted r a v w room is mine some grown spare =
 pub rec-mine : (me : ℕ) (b : Body) (r : Rec) (v : LaneView) → item_of r ≡ record { of = me; body = b } → v.by ≡ me → v.by ≡ r.of
 rec-mine me b r v is by = by ∙ sym (of-is me b r is)
 
-pub rec-note : (me : ℕ) (b : Body) (r : Rec) → item_of r ≡ record { of = me; body = b } → is_note b ≡ true → IsTrue (is_note (body_of r))
+pub rec-note : (me : ℕ) (b : Body) (r : Rec) → item_of r ≡ record { of = me; body = b } → needs_spare_alone b ≡ true → IsTrue (needs_spare_alone (body_of r))
 rec-note me b r is note = rw (body-is me b r is) note
 
 pub rec-told : (me : ℕ) (b : Body) (r : Rec) (v w : LaneView) → item_of r ≡ record { of = me; body = b } → Grows (told_note r v) v w → Grows (told_as (ceiling_in 0 v.told) b ∷ []) v w
@@ -105,7 +105,7 @@ keeps-same k m list leaf = record { leaf = leaf; room = rw list refl; few = λ f
 record IsPlain (b : Body) (c : ℕ) (v : LaneView) : Type 0 where
   told : told_as c b ≡ plain b
   quiet : Quiet (plain b ∷ [])
-  note : is_note b ≡ true
+  note : needs_spare_alone b ≡ true
   hands : hands_after v.hands (for_object v.by (plain b) ∷ []) ≡ v.hands
 
 note-plain : (t : Task) (b : Body) (c : ℕ) (v : LaneView) → note_of t ≡ Some b → IsPlain b c v
@@ -127,7 +127,7 @@ note-plain t b c v is = by t is
     by (task.Raise x) e = absurd (cc)
     by task.Restore e = absurd (cc)
 
-pub is-noted : (t : Task) (b : Body) (v : LaneView) → note_of t ≡ Some b → is_note b ≡ true
+pub is-noted : (t : Task) (b : Body) (v : LaneView) → note_of t ≡ Some b → needs_spare_alone b ≡ true
 is-noted t b v is = (note-plain t b 0 v is).note
 
 pub goes-note : (me ceiling : ℕ) (at : Moment) (t : Task) (b : Body) (k : Lasting) (v w : LaneView) → note_of t ≡ Some b → Grows (told_as (ceiling_in 0 v.told) b ∷ []) v w

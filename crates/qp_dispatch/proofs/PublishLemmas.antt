@@ -34,7 +34,7 @@ use Rattle.qp_calls.specs.declared.did.Did.TheVariants as did
 use Rattle.qp_calls.specs.Tokens.{with_entry, without_entry}
 use Rattle.qp_calls.specs.Counting.{times}
 use Rattle.qp_calls.specs.LaneView.{LaneView, Grows, ceiling_in}
-use Rattle.qp_calls.specs.Notes.{spills_in}
+use Rattle.qp_calls.specs.Notes.{spills_told}
 use Rattle.qp_calls.specs.Clauses.{Stands, entry_of}
 use Rattle.qp_calls.specs.Entries.{Unmade}
 use Rattle.qp_calls.specs.Raising.{raised_to}
@@ -113,7 +113,7 @@ first-lane c ms g v w h grows is =
     (ap (λ y. ceiling_in 0 y) told ∙ ceiling-append 0 (v.told ++ map (for_object v.by) h.front) (map (for_object v.by) (raising 1 c ms))
     ∙ ap (λ y. ceiling_in y (map (for_object v.by) (raising 1 c ms))) before ∙ raised-ceiling v.by c ms)
 
-first-spills : (c : ℕ) (ms : List ℕ) (g : List Told) (v w : LaneView) → Raises c ms g → Grows g v w → spills_in v.told ≡ false → spills_in w.told ≡ false
+first-spills : (c : ℕ) (ms : List ℕ) (g : List Told) (v w : LaneView) → Raises c ms g → Grows g v w → spills_told v.told ≡ false → spills_told w.told ≡ false
 first-spills c ms g v w h grows none =
     let calm : Spillless g = subst (λ x. Spillless x) (sym h.is) (spillless-append h.front (raising 1 c ms) (quiet-spillless h.front h.quiet) (raising-calm c ms)) in
     rw grows.told (spills-append v.by v.told g none calm)
@@ -146,7 +146,7 @@ last-lane c x y ms raised g v w h grows is was not here =
     ∙ ceiling-append 0 v.told (map (for_object v.by) (restoring 1 c ms)) ∙ ap (λ z. ceiling_in z (map (for_object v.by) (restoring 1 c ms))) (sym here)
     ∙ restored-ceiling v.by c x y ms raised is was not)
 
-last-spills : (c : ℕ) (ms : List ℕ) (g : List Told) (v w : LaneView) → Restores c ms g → Grows g v w → spills_in v.told ≡ false → spills_in w.told ≡ false
+last-spills : (c : ℕ) (ms : List ℕ) (g : List Told) (v w : LaneView) → Restores c ms g → Grows g v w → spills_told v.told ≡ false → spills_told w.told ≡ false
 last-spills c ms g v w h grows none =
     let calm : Spillless g = subst (λ x. Spillless x) (sym h.is) (spillless-append (restoring 1 c ms) h.rel (restoring-calm c ms) (quiet-spillless h.rel h.quiet)) in
     rw grows.told (spills-append v.by v.told g none calm)

@@ -14,7 +14,7 @@ use Rattle.qp_model.specs.Calls as call
 use Rattle.qp_model.specs.Calls.{Call, Answer, Granted, Refused, Flushed, AtQueue, AtPool, AtTimer, AtTicks, AtFront}
 use Rattle.qp_model.specs.Shapes.{Fits, MakesBlock, MakesNew, again_by, MakesAgain, MakesAgainNow, Posts, PostsFront, PostsNew, PostsNewFront, Forwards, PostsOne, NoBlockFor, Drops, releases_by, Releases, Flushes, Defers, Recalls, Subscribes, Unsubscribes, Arms, Rearms, Disarms}
 use Rattle.qp_calls.specs.LaneView.{ceiling_in}
-use Rattle.qp_calls.specs.Notes.{spills_in}
+use Rattle.qp_calls.specs.Notes.{spills_told}
 use Rattle.qp_calls.proofs.NoteLemmas.{ceiling-append}
 use Rattle.qp_dispatch.specs.CallsDone.{is_single}
 
@@ -205,15 +205,15 @@ spillless-append (t ∷ g) h a b = go (is_spill t.body) a (spillless-append g h)
     go false k ih = ih k b
 
 -- without a `spill` before and among the records there is none behind them
-pub spills-append : (o : ℕ) (told : List ToldItem) (g : List Told) → spills_in told ≡ false → Spillless g → spills_in (told ++ map (for_object o) g) ≡ false
+pub spills-append : (o : ℕ) (told : List ToldItem) (g : List Told) → spills_told told ≡ false → Spillless g → spills_told (told ++ map (for_object o) g) ≡ false
 spills-append o [] [] a b = refl
 spills-append o [] (t ∷ g) a b = go (is_spill t.body) b (spills-append o [] g a)
   where
-    go : (u : Bool) → (u || list_any (λ t. is_spill t.body) g) ≡ false → (Spillless g → spills_in (map (for_object o) g) ≡ false) → (u || spills_in (map (for_object o) g)) ≡ false
+    go : (u : Bool) → (u || list_any (λ t. is_spill t.body) g) ≡ false → (Spillless g → spills_told (map (for_object o) g) ≡ false) → (u || spills_told (map (for_object o) g)) ≡ false
     go true k ih = absurd (cc)
     go false k ih = ih k
 spills-append o (x ∷ told) g a b = go (is_spill x.told.body) a (spills-append o told g)
   where
-    go : (u : Bool) → (u || spills_in told) ≡ false → (spills_in told ≡ false → Spillless g → spills_in (told ++ map (for_object o) g) ≡ false) → (u || spills_in (told ++ map (for_object o) g)) ≡ false
+    go : (u : Bool) → (u || spills_told told) ≡ false → (spills_told told ≡ false → Spillless g → spills_told (told ++ map (for_object o) g) ≡ false) → (u || spills_told (told ++ map (for_object o) g)) ≡ false
     go true k ih = absurd (cc)
     go false k ih = ih k b

@@ -26,7 +26,7 @@ use Rattle.qp_model.proofs.StepLemmas.{advances-reaches, goes_on-done, goes_on-f
 use Rattle.qp_calls.specs.declared.tokens.Entry.{Entry}
 use Rattle.qp_calls.specs.Tokens.{Token, hands_after, hands_by}
 use Rattle.qp_calls.specs.LaneView.{LaneView, Grows, GrowsOf}
-use Rattle.qp_calls.specs.Notes.{MayNote, MayStop, last_code, spills_in, told_note}
+use Rattle.qp_calls.specs.Notes.{MayNote, MayStop, last_code, spills_told, told_note}
 use Rattle.qp_calls.specs.Clauses.{Stops, entry_of, event_of, params_of}
 use Rattle.qp_calls.specs.Entries.{Released}
 use Rattle.qp_calls.specs.Deferring.{ChangeAlike, StandAll, is_named, kept_in, tokens_in}

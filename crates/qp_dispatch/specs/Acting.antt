@@ -15,7 +15,7 @@ use Rattle.qp_calls.specs.declared.did.Did.{Did}
 use Rattle.qp_calls.specs.declared.did.Did.TheVariants as did
 use Rattle.qp_calls.specs.declared.tokens.Entry.{Entry}
 use Rattle.qp_calls.specs.LaneView.{LaneView, Grows, ceiling_in}
-use Rattle.qp_calls.specs.Notes.{last_code, spills_in}
+use Rattle.qp_calls.specs.Notes.{last_code, spills_told}
 use Rattle.qp_calls.specs.Clauses.{IsFault}
 use Rattle.qp_calls.specs.Deferring.{ChangeAlike, StandAll, kept_in}
 use Rattle.qp_dispatch.specs.declared.lasting.Lasting.{Lasting}
@@ -31,7 +31,7 @@ StandBeside k m v w =
 -- the lane has the ceiling that it had, and no `spill` if it had none
 pub record Calm (v w : LaneView) : Type 0 where
   pub ceiling : ceiling_in 0 w.told ≡ ceiling_in 0 v.told
-  pub spills : spills_in v.told ≡ false → spills_in w.told ≡ false
+  pub spills : spills_told v.told ≡ false → spills_told w.told ≡ false
 
 -- no action changes the leaf or the capacity of the deferred list, which stays within it
 pub record Keeps (k m : Lasting) : Type 0 where

@@ -15,7 +15,7 @@ use Rattle.qp_model.specs.Step.{Publishing, Remainder, DoesLeft, tasks_left, pub
 use Rattle.qp_model.specs.Standing.{Reaches}
 use Rattle.qp_calls.specs.declared.tokens.Entry.{Entry}
 use Rattle.qp_calls.specs.LaneView.{LaneView, Grows, ceiling_in}
-use Rattle.qp_calls.specs.Notes.{last_code, spills_in}
+use Rattle.qp_calls.specs.Notes.{last_code, spills_told}
 use Rattle.qp_calls.specs.Clauses.{IsFault, entry_of}
 use Rattle.qp_calls.specs.Deferring.{ChangeAlike, StandAll}
 use Rattle.qp_calls.specs.Publishing.{AreObjects}
@@ -61,7 +61,7 @@ pub record Goes (me : ℕ) (at : Moment) (pre : List Task) (points : List Piece)
   pub reaches : (chart : Chart) (ts : List Task) (leaf : ℕ)
       → Reaches v.sys (actor_of me chart k) at (left_by u (pre ++ ts) leaf) (config_of k) (tell g ++ points) (left_by y ts leaf) (config_of m)
   pub lane : ceiling ≡ ceiling_in 0 v.told → later ≡ ceiling_in 0 w.told
-  pub spills : spills_in v.told ≡ false → spills_in w.told ≡ false
+  pub spills : spills_told v.told ≡ false → spills_told w.told ≡ false
   pub keeps : Keeps k m
   pub hands : ChangeAlike (map entry_of (held_by k u)) (map entry_of (held_by m y)) v w
   pub stand : StandWith k u m y v w
@@ -92,7 +92,7 @@ pub record CutShort (me : ℕ) (at : Moment) (pre : List Task)
   pub g : List Told
   pub grows : Grows g v w
   pub front : (g ≡ []) ⊎ GoesFurther me at pre k u g v
-  pub spills : spills_in v.told ≡ false → spills_in w.told ≡ false
+  pub spills : spills_told v.told ≡ false → spills_told w.told ≡ false
   pub stand : StandWith k u m y v w
 
 abbrev pub Parts : ℕ → Moment → List Task → ℕ → ℕ → Lasting → Option Under → Lasting → Option Under → LaneView → LaneView → Part → Type 0

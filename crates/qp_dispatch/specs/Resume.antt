@@ -21,7 +21,7 @@ use Rattle.qp_model.specs.Able.{chart_able, task_able}
 use Rattle.qp_calls.specs.declared.tokens.Entry.{Entry}
 use Rattle.qp_calls.specs.declared.tokens.Entry.TheVariants as token
 use Rattle.qp_calls.specs.LaneView.{LaneView, Grows, GrowsOf, ceiling_in}
-use Rattle.qp_calls.specs.Notes.{last_code, spills_in}
+use Rattle.qp_calls.specs.Notes.{last_code, spills_told}
 use Rattle.qp_calls.specs.Halting.{HaltsDry, HaltsFull}
 use Rattle.qp_calls.specs.Clauses.{Stops, entry_of, event_of}
 use Rattle.qp_calls.specs.declared.answers.RoomFault.{RoomFault}
@@ -57,7 +57,7 @@ pub record IsLaneOf (home : Setting) (ceiling : ℕ) (v : LaneView) : Type 0 whe
   pub mine : v.by ≡ home.me
   pub serves : v.serves home.me ≡ true
   pub told : ceiling ≡ ceiling_in 0 v.told
-  pub spills : spills_in v.told ≡ false
+  pub spills : spills_told v.told ≡ false
 
 -- what is left of a step may be done
 pub record IsGoing (home : Setting) (k : Lasting) (g : Going) (v : LaneView) : Type 0 where

@@ -13,7 +13,7 @@ use Rattle.qp_model.specs.Standing.{Reaches}
 use Rattle.qp_model.specs.Able.{task_able}
 use Rattle.qp_calls.specs.declared.tokens.Entry.{Entry}
 use Rattle.qp_calls.specs.LaneView.{LaneView, Grows, ceiling_in}
-use Rattle.qp_calls.specs.Notes.{last_code, spills_in}
+use Rattle.qp_calls.specs.Notes.{last_code, spills_told}
 use Rattle.qp_calls.specs.Clauses.{IsFault, entry_of}
 use Rattle.qp_calls.specs.Deferring.{ChangeAlike, StandAll, kept_in}
 use Rattle.qp_chart_compiled.specs.declared.compiled.Compiled.{Compiled}
@@ -101,7 +101,7 @@ pub record Runs (stops : Bool) (home : Setting) (at : Moment) (ends : List Piece
   pub done : List Task
   pub split : ts ≡ done ++ rest
   pub lane : ceiling ≡ ceiling_in 0 v.told → later ≡ ceiling_in 0 w.told
-  pub spills : spills_in v.told ≡ false → spills_in w.told ≡ false
+  pub spills : spills_told v.told ≡ false → spills_told w.told ≡ false
   pub keeps : Keeps k m
   pub hands : ChangeAlike (map entry_of (held_by k u)) (map entry_of (held_by m y)) v w
   pub stand : StandWith k u m y v w
@@ -128,7 +128,7 @@ pub record RunCut (stops : Bool) (home : Setting) (at : Moment) (k : Lasting) (u
   pub begins : (leaf : ℕ) → (more : List Piece) × (end : Option Config)
       × DoesLeft v.sys (actor_of home.me home.chart k) at (left_by u ts leaf).publishing (left_by u ts leaf).posts
       (left_by u ts leaf).tasks (config_of k) (ps ++ more) end × (end ≡ None → bare more ≡ [] → ⊥)
-  pub spills : spills_in v.told ≡ false → spills_in w.told ≡ false
+  pub spills : spills_told v.told ≡ false → spills_told w.told ≡ false
   pub stand : StandWith k u m y v w
 
 abbrev pub RunsTo : Bool → Setting → Moment → ℕ → ℕ → Lasting → Left → Lasting → Left → LaneView → LaneView → Ran → Type 0

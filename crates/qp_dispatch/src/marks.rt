@@ -5,7 +5,7 @@ ghost use Rattle.qp_chart.specs.Task as task;
 ghost use Rattle.qp_model.specs.Record.{body_of};
 ghost use Rattle.qp_model.specs.Acts.{Moment};
 ghost use Rattle.qp_calls.specs.LaneView.{Grows, ceiling_in};
-ghost use Rattle.qp_calls.specs.Notes.{is_note, told_note};
+ghost use Rattle.qp_calls.specs.Notes.{needs_spare_alone, told_note};
 ghost use Rattle.qp_calls.specs.Groups.{Refused};
 ghost use Rattle.qp_dispatch.specs.Parts.{Parts};
 
@@ -17,7 +17,7 @@ use qp_model::Rec;
 /// Adds a note of the object set by `by`.
 pub(crate) fn note<O: Ops>(ops: &mut O, r: Rec) -> Result<(), RoomFault>
     requires mine { (O.lane ops.old).by ≡ r.of }
-    requires note { IsTrue (is_note (body_of r)) }
+    requires note { IsTrue (needs_spare_alone (body_of r)) }
     ensures ok { IfOk result (λ _. Grows (told_note r (O.lane ops.old)) (O.lane ops.old) (O.lane ops.new)) }
     ensures err { IfErr result (λ fault. Refused fault (O.lane ops.old) (O.lane ops.new)) }
 {

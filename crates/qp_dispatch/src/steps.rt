@@ -3,7 +3,7 @@
 ghost use Rattle.std.specs.Prelude.{◌≡◌, Some, None, false};
 ghost use Rattle.qp_model.specs.Step.{whole_step};
 ghost use Rattle.qp_model.specs.Sound.{IsSound};
-ghost use Rattle.qp_calls.specs.Notes.{spills_in};
+ghost use Rattle.qp_calls.specs.Notes.{spills_told};
 ghost use Rattle.qp_calls.specs.Clauses.{IsFault, Stands, event_of, params_of};
 ghost use Rattle.qp_calls.specs.declared.tokens.Entry.TheVariants as token;
 ghost use Rattle.qp_chart_compiled.specs.Compiled.{IsCompiled};
@@ -134,7 +134,7 @@ fn take_up<O: Ops>(ops: &mut O, home: &Home<'_>, lasting: &Lasting, e: Entry) ->
 /// Stops the lane where it has no room, or memory was refused.
 pub(crate) fn give_up<O: Ops>(ops: &mut O, fault: RoomFault) -> Step
     requires fault { IsFault (O.lane ops.old) fault }
-    requires spills { spills_in (O.lane ops.old).told ≡ false }
+    requires spills { spills_told (O.lane ops.old).told ≡ false }
     ensures { Halts (O.lane ops.old) (O.lane ops.new) result }
 {
     match halt(ops, fault) {

@@ -11,7 +11,7 @@ use Rattle.qp_model.proofs.RecordLemmas.{body-is}
 use Rattle.qp_calls.specs.declared.did.Did.{Did}
 use Rattle.qp_calls.specs.Groups.{Answers}
 use Rattle.qp_calls.specs.LaneView.{Grows, GrowsOf, LaneView, Roomier, ceiling_in}
-use Rattle.qp_calls.specs.Notes.{spills_in, told_note}
+use Rattle.qp_calls.specs.Notes.{spills_told, told_note}
 use Rattle.qp_dispatch.proofs.Quiet.{Quiet, fits-quiet, quiet-ceiling, quiet-spillless, spills-append}
 use Rattle.qp_dispatch.specs.Objects.{works_for}
 use Rattle.qp_dispatch.specs.Resume.{IsLaneOf}
@@ -38,7 +38,7 @@ base-quiet sys c o g v w grows quiet b = record {
   of = grows.sys ∙ b.of;
   serves = λ p. grows.serves p ∙ b.serves p;
   told = b.told ∙ sym (quiet-ceiling o v.told g quiet) ∙ ap (ceiling_in 0) (sym grows.told);
-  spills = subst (λ t. spills_in t ≡ false) (sym grows.told) (spills-append o v.told g b.spills (quiet-spillless g quiet));
+  spills = subst (λ t. spills_told t ≡ false) (sym grows.told) (spills-append o v.told g b.spills (quiet-spillless g quiet));
 }
 
 -- a note of a look, and one of a rest
@@ -70,7 +70,7 @@ lane-base sys c d o g home v mid w b grows lane is = record {
   of = ap (λ x. x.sys) is ∙ grows.sys ∙ b.of;
   serves = λ p. ap (λ x. x.serves p) is ∙ grows.serves p ∙ b.serves p;
   told = lane.told ∙ ap (λ x. ceiling_in 0 x.told) (sym is);
-  spills = subst (λ x. spills_in x.told ≡ false) (sym is) lane.spills;
+  spills = subst (λ x. spills_told x.told ≡ false) (sym is) lane.spills;
 }
 
 -- nothing has happened in a new world, in which each lane serves each object

@@ -7,7 +7,7 @@ use Rattle.qp_model.specs.Course.{chart_at}
 use Rattle.qp_model.specs.Sound.{IsSound}
 use Rattle.qp_model.specs.WordLaw.{is_object}
 use Rattle.qp_calls.specs.LaneView.{LaneView, ceiling_in}
-use Rattle.qp_calls.specs.Notes.{spills_in}
+use Rattle.qp_calls.specs.Notes.{spills_told}
 use Rattle.qp_calls.specs.Deferring.{StandAll, kept_in}
 use Rattle.qp_chart_compiled.specs.Compiled.{IsCompiled}
 use Rattle.qp_dispatch.specs.declared.steps.Position.TheVariants as standing
@@ -24,7 +24,7 @@ pub record IsBase (sys : System) (ceiling : ℕ) (v : LaneView) : Type 0 where
   pub of : v.sys ≡ sys
   pub serves : (o : ℕ) → v.serves o ≡ true
   pub told : ceiling ≡ ceiling_in 0 v.told
-  pub spills : spills_in v.told ≡ false
+  pub spills : spills_told v.told ≡ false
 
 -- an object of the system with its chart
 pub record IsKnown (sys : System) (a : Actor) : Type 0 where

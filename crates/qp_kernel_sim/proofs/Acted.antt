@@ -15,7 +15,7 @@ use Rattle.qp_model.specs.OneOrder.{stim_of}
 use Rattle.qp_model.specs.Sources.{StimFits}
 use Rattle.qp_model.specs.Kernels.{sim}
 use Rattle.qp_calls.specs.LaneView.{LaneView, Happening, placed_by}
-use Rattle.qp_calls.specs.Notes.{spills_in}
+use Rattle.qp_calls.specs.Notes.{spills_told}
 use Rattle.qp_model_order.specs.Placing.{AreBehind}
 use Rattle.qp_model_order.specs.SourceRun.{untold, untold_all}
 use Rattle.qp_model_order.specs.Stimulus.{source_items}
@@ -98,12 +98,12 @@ begun-few n (x ∷ hs) h =
     go true (t ∷ ts) e = omega arith
 
 -- no `spill` stands in the lane of a source whose stimuli came whole
-pub none-spilled : (n : ℕ) (hs : List Happening) → list_all is_unspilled hs ≡ true → spills_in (lane_told n hs) ≡ false
+pub none-spilled : (n : ℕ) (hs : List Happening) → list_all is_unspilled hs ≡ true → spills_told (lane_told n hs) ≡ false
 unfolding told_by
 none-spilled n [] h = refl
 none-spilled n (x ∷ hs) h =
     let parts = and_parts _ _ h in
-    ap spills_in (map-append (for_object 0) (cond (x.source == n) x.told []) (told_by n hs))
+    ap spills_told (map-append (for_object 0) (cond (x.source == n) x.told []) (told_by n hs))
     ∙ joined (cond (x.source == n) x.told []) (lane_told n hs) (go (x.source == n) x.told parts.0) (none-spilled n hs parts.1)
   where
     go : (u : Bool) (g : List Told) → not (list_any (λ t. is_spill t.body) g) ≡ true → list_any (λ t. is_spill t.body) (cond u g []) ≡ false
@@ -114,7 +114,7 @@ none-spilled n (x ∷ hs) h =
         not-true true k = absurd (cc)
         not-true false k = refl
 
-    joined : (g : List Told) (ts : List ToldItem) → list_any (λ t. is_spill t.body) g ≡ false → spills_in ts ≡ false → spills_in (map (for_object 0) g ++ ts) ≡ false
+    joined : (g : List Told) (ts : List ToldItem) → list_any (λ t. is_spill t.body) g ≡ false → spills_told ts ≡ false → spills_told (map (for_object 0) g ++ ts) ≡ false
     joined [] ts a b = b
     joined (t ∷ g) ts a b = ors (is_spill t.body) _ a (λ k. joined g ts k b)
       where

@@ -4,7 +4,7 @@ ghost use Rattle.std.specs.Prelude.{◌≡◌, ◌<◌, [], false, get_or};
 ghost use Rattle.qp_model.specs.Sound.{IsSound};
 ghost use Rattle.qp_model.specs.declared.stimulus.Stim.TheVariants as stim;
 ghost use Rattle.qp_stim.specs.Rules.{StimFits};
-ghost use Rattle.qp_calls.specs.Notes.{spills_in};
+ghost use Rattle.qp_calls.specs.Notes.{spills_told};
 ghost use Rattle.qp_kernel.specs.Happenings.{lane_told};
 ghost use Rattle.qp_plain.specs.NewWorld.{chosen, lanes_in};
 ghost use Rattle.qp_plain.specs.WorldView.{world_view};
@@ -36,7 +36,7 @@ pub(crate) fn visit<L: Ledger>(
     requires made_for { (world_view plain.old).sys ≡ sys.now }
     requires sound { IsSound sys.now }
     requires fits { StimFits sys.now s.now }
-    requires spills { spills_in (get_or (world_view plain.old).aside.told source []) ≡ false }
+    requires spills { spills_told (get_or (world_view plain.old).aside.told source []) ≡ false }
     requires tells { get_or (world_view plain.old).aside.told source [] ≡ lane_told source done.now.list }
     requires rests { s.now ≡ stim.Settle → Rests (world_view plain.old) }
     ensures { Visits source sys.now s.now place look done.now.list result.1.list (world_view plain.old) (world_view plain.new) result.0 }

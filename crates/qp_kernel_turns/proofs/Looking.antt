@@ -10,7 +10,7 @@ use Rattle.qp_model.specs.Told.{ToldItem}
 use Rattle.qp_model.specs.KernelLane.{Reading, Looking, above, floor_in, looking_at, threshold_of}
 use Rattle.qp_model_order.specs.RunOrder.{has_stim}
 use Rattle.qp_calls.specs.LaneView.{LaneView, ceiling_in}
-use Rattle.qp_calls.specs.Notes.{spills_in}
+use Rattle.qp_calls.specs.Notes.{spills_told}
 use Rattle.qp_kernel.specs.Happenings.{lanes_of}
 use Rattle.qp_kernel.specs.LaneZero.{setting}
 use Rattle.qp_model.specs.Ends.{asserted, may_cut}
@@ -35,7 +35,7 @@ pub record GoesFor (ts : List ToldItem) (v w : LaneView) : Type 0 where
   pub serves : (o : ℕ) → w.serves o ≡ v.serves o
   pub hands : w.hands ≡ v.hands
   pub ceiling : ceiling_in 0 w.told ≡ ceiling_in 0 v.told
-  pub spills : spills_in w.told ≡ false
+  pub spills : spills_told w.told ≡ false
 
 pub lane-on : (sys : System) (ceiling : ℕ) (ts : List ToldItem) (v w : LaneView) → IsLane sys ceiling v → GoesFor ts v w → IsLane sys ceiling w
 lane-on sys ceiling ts v w lane goes = record {

@@ -25,7 +25,7 @@ use Rattle.qp_model_order.specs.SourceRun.{untold, untold_all}
 use Rattle.qp_calls.specs.Clauses.{entry_of}
 use Rattle.qp_calls.specs.Deferring.{StandAll, is_named, kept_in}
 use Rattle.qp_calls.specs.LaneView.{Gains, Grows, LaneView, ceiling_in}
-use Rattle.qp_calls.specs.Notes.{last_code, spills_in, stop_code}
+use Rattle.qp_calls.specs.Notes.{last_code, spills_told, stop_code}
 use Rattle.qp_dispatch.specs.declared.objects.Object.{Object}
 use Rattle.qp_dispatch.specs.declared.lasting.Lasting.{Lasting}
 use Rattle.qp_dispatch.specs.declared.steps.Position.{Position}
@@ -453,7 +453,7 @@ module _ (sys : System) (sound : IsSound sys) (terms : Terms) (looks : ℕ) (fro
     follow-w : ChangeAlike (map entry_of (held_in x.lasting x.stage)) (map entry_of (held_in later.object.lasting later.object.stage)) V mid → HandsFollow xs v zs w
     follow-w h = follow-put xs zs p its.slot later v w at-place puts (λ t. rw w-is (h t))
 
-    lane-w : (g : List Told) → Grows g V mid → level ≡ ceiling_in 0 mid.told → spills_in mid.told ≡ false → IsLane sys zs.ceiling w
+    lane-w : (g : List Told) → Grows g V mid → level ≡ ceiling_in 0 mid.told → spills_told mid.told ≡ false → IsLane sys zs.ceiling w
     lane-w g h ceiling none = record {
       of = sys-w g h ∙ k.lane.of;
       told = at-level ∙ ceiling ∙ sym (ap (λ u. ceiling_in 0 u.told) w-is);

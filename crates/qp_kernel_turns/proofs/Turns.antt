@@ -15,7 +15,7 @@ use Rattle.qp_model_order.specs.Placing.{AreBehind}
 use Rattle.qp_model_order.proofs.OrderLaws.{stimuli_are_their_own}
 use Rattle.qp_model_order.proofs.StimulusForm.{items-append}
 use Rattle.qp_calls.specs.LaneView.{GrowsOf, LaneView, Roomier, ceiling_in}
-use Rattle.qp_calls.specs.Notes.{spills_in, told_as, told_note}
+use Rattle.qp_calls.specs.Notes.{spills_told, told_as, told_note}
 use Rattle.qp_calls.specs.Tokens.{hands_after, hands_by}
 use Rattle.qp_calls.proofs.NoteLemmas.{ceiling-append}
 use Rattle.qp_dispatch.proofs.Quiet.{spills-append}
@@ -43,7 +43,7 @@ noted o b r v w is grown =
     subst (λ i. GrowsOf i (told_as (ceiling_in 0 v.told) b ∷ []) v w) mine (subst (λ x. GrowsOf r.of (told_as (ceiling_in 0 v.told) x ∷ []) v w) here grown)
 
 -- `room` and a look, and what happens in it
-pub look-goes : (n floor : ℕ) (v v1 v2 : LaneView) → Roomier v v1 → GrowsOf 0 (plain (body.Look n floor) ∷ []) v1 v2 → spills_in v.told ≡ false → GoesFor (look_told n floor ∷ []) v v2
+pub look-goes : (n floor : ℕ) (v v1 v2 : LaneView) → Roomier v v1 → GrowsOf 0 (plain (body.Look n floor) ∷ []) v1 v2 → spills_told v.told ≡ false → GoesFor (look_told n floor ∷ []) v v2
 unfolding hands_after hands_by ceiling_in
 look-goes n floor v v1 v2 room grown none =
     let told : v2.told ≡ v.told ++ look_told n floor ∷ [] = grown.told ∙ ap (λ u. u.told ++ look_told n floor ∷ []) room.same in

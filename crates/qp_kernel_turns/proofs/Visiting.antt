@@ -21,7 +21,7 @@ use Rattle.qp_calls.specs.Clauses.{EventIs, TakesIt, entry_of}
 use Rattle.qp_calls.specs.Counting.{count_of}
 use Rattle.qp_calls.specs.Deferring.{ChangeAlike, StandAll, is_named, tokens_in}
 use Rattle.qp_calls.specs.LaneView.{LaneView, ceiling_in}
-use Rattle.qp_calls.specs.Notes.{spills_in}
+use Rattle.qp_calls.specs.Notes.{spills_told}
 use Rattle.qp_calls.specs.declared.tokens.Entry.{Entry}
 use Rattle.qp_calls.specs.declared.tokens.Entry.TheVariants as token
 use Rattle.qp_calls.proofs.CountLemmas.{count-with, tokens-append, taken-hands}
@@ -79,7 +79,7 @@ took-ceiling : (told : List ToldItem) (f l m : ℕ) (e : model.Entry) (ev : Even
 unfolding ceiling_in
 took-ceiling told f l m e ev p = ceiling-append 0 told (for_object p (taken f l m e ev) ∷ [])
 
-took-spills : (told : List ToldItem) (f l m : ℕ) (e : model.Entry) (ev : Event) (p : ℕ) → spills_in told ≡ false → spills_in (told ++ for_object p (taken f l m e ev) ∷ []) ≡ false
+took-spills : (told : List ToldItem) (f l m : ℕ) (e : model.Entry) (ev : Event) (p : ℕ) → spills_told told ≡ false → spills_told (told ++ for_object p (taken f l m e ev) ∷ []) ≡ false
 took-spills told f l m e ev p none = spills-append p told (taken f l m e ev ∷ []) none refl
 
 module _ (sys : System) (sound : IsSound sys) (terms : Terms) (looks : ℕ) (stack : List ℕ) (xs : Objects) (v : LaneView) (p : ℕ) (others : List ℕ) (f l m : ℕ)
@@ -244,7 +244,7 @@ module _ (sys : System) (sound : IsSound sys) (terms : Terms) (looks : ℕ) (sta
         same-ceiling : ceiling_in 0 z.told ≡ ceiling_in 0 w.told
         same-ceiling = rw takes.adds.grows.told (took-ceiling w.told takes.f takes.l takes.m (entry_of e) ev p)
 
-        no-spill : spills_in z.told ≡ false
+        no-spill : spills_told z.told ≡ false
         no-spill = rw takes.adds.grows.told (took-spills w.told takes.f takes.l takes.m (entry_of e) ev p lane-w.spills)
 
     lanes-z : lanes_of z ≡ lanes_of v

@@ -16,7 +16,7 @@ use Rattle.qp_calls.specs.declared.answers.Counts.{Counts}
 use Rattle.qp_calls.specs.declared.tokens.Entry.{Entry}
 use Rattle.qp_calls.specs.LaneView.{GrowsOf, LaneView, Roomier, ceiling_in}
 use Rattle.qp_calls.specs.Clauses.{Sees, Stops, TakesIt}
-use Rattle.qp_calls.specs.Notes.{MayStop, last_code, spills_in, told_note}
+use Rattle.qp_calls.specs.Notes.{MayStop, last_code, spills_told, told_note}
 use Rattle.qp_calls.specs.Tokens.{hands_after, hands_by}
 use Rattle.qp_calls.proofs.NoteLemmas.{last-snoc, ceiling-append}
 use Rattle.qp_dispatch.proofs.Quiet.{spills-append}
@@ -45,7 +45,7 @@ use Rattle.qp_kernel_turns.proofs.Visiting.{at-place, at-rest, entered, entered-
 use Rattle.qp_kernel_turns.proofs.Turns.{noted}
 use Rattle.qp_model.proofs.AbleLemmas.{some-same}
 
-pub seen-goes : (p : ℕ) (c : Counts) (v v1 v2 : LaneView) → Roomier v v1 → Sees p v1 v2 c → spills_in v.told ≡ false → GoesFor (seen_told p c.f c.l c.m ∷ []) v v2
+pub seen-goes : (p : ℕ) (c : Counts) (v v1 v2 : LaneView) → Roomier v v1 → Sees p v1 v2 c → spills_told v.told ≡ false → GoesFor (seen_told p c.f c.l c.m ∷ []) v v2
 unfolding hands_after hands_by ceiling_in
 seen-goes p c v v1 v2 room sees none =
     let grown = sees.0.grows in

@@ -20,7 +20,7 @@ use Rattle.qp_calls.specs.Counting.{count_of}
 use Rattle.qp_calls.specs.Clauses.{entry_of}
 use Rattle.qp_calls.specs.Deferring.{is_named, kept_in, tokens_in}
 use Rattle.qp_calls.specs.LaneView.{LaneView, ceiling_in}
-use Rattle.qp_calls.specs.Notes.{spills_in}
+use Rattle.qp_calls.specs.Notes.{spills_told}
 use Rattle.qp_chart_compiled.specs.Compiled.{IsCompiled}
 use Rattle.qp_dispatch.specs.declared.objects.Object.{Object}
 use Rattle.qp_dispatch.specs.declared.steps.Going.{Going}
@@ -118,7 +118,7 @@ KnowsAll sys xs v stages entries =
 pub record IsLane (sys : System) (ceiling : ℕ) (v : LaneView) : Type 0 where
   pub of : v.sys ≡ sys
   pub told : ceiling ≡ ceiling_in 0 v.told
-  pub spills : spills_in v.told ≡ false
+  pub spills : spills_told v.told ≡ false
   pub serves : (d : ObjectDef) → object_at sys d.priority ≡ Some d → v.serves d.priority ≡ true
 
 -- The kernel has looked so often, and these are the objects whose steps are under way, the outermost first.

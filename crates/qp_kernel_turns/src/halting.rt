@@ -2,7 +2,7 @@
 
 ghost use Rattle.std.specs.Prelude.{◌≡◌, false};
 ghost use Rattle.qp_calls.specs.Clauses.{IsFault};
-ghost use Rattle.qp_calls.specs.Notes.{spills_in};
+ghost use Rattle.qp_calls.specs.Notes.{spills_told};
 ghost use Rattle.qp_kernel_turns.specs.Halting.{Halts, Readies};
 
 use qp_calls::{Halted, Ops, RoomFault, halt};
@@ -19,7 +19,7 @@ pub enum Halt {
 /// Stops the lane where it has no room, or memory was refused.
 fn give_up<O: Ops>(ops: &mut O, fault: RoomFault) -> Halt
     requires fault { IsFault (O.lane ops.old) fault }
-    requires spills { spills_in (O.lane ops.old).told ≡ false }
+    requires spills { spills_told (O.lane ops.old).told ≡ false }
     ensures { Halts (O.lane ops.old) (O.lane ops.new) result }
 {
     match halt(ops, fault) {
@@ -30,7 +30,7 @@ fn give_up<O: Ops>(ops: &mut O, fault: RoomFault) -> Halt
 
 /// Looks at the stop word, and makes room for eight records.
 pub fn ready<O: Ops>(ops: &mut O) -> Result<(), Halt>
-    requires { spills_in (O.lane ops.old).told ≡ false }
+    requires { spills_told (O.lane ops.old).told ≡ false }
     ensures { Readies (O.lane ops.old) (O.lane ops.new) result }
 {
     match ops.stopped() {

@@ -13,7 +13,7 @@ use Rattle.qp_model.specs.Sources.{SeesEmpty, SeesEntry, priorities}
 use Rattle.qp_calls.specs.declared.answers.Counts as counts
 use Rattle.qp_calls.specs.LaneView.{Grows, GrowsOf, LaneView, Roomier}
 use Rattle.qp_calls.specs.Halting.{HaltsDry, HaltsFull}
-use Rattle.qp_calls.specs.Notes.{spills_in}
+use Rattle.qp_calls.specs.Notes.{spills_told}
 use Rattle.qp_calls_stimulus.specs.Settling.{SeesNone, SeesSome, SettleCut}
 use Rattle.qp_port_cursor.specs.declared.cursor.Cursor.{Cursor}
 use Rattle.qp_model.specs.Kernels.{sim}
@@ -158,7 +158,7 @@ module _ (sys : System) (x y : Cursor) (v0 v1 v2 w : LaneView) (at : IsCursorAt 
         finds-cut sys v0 w u (opening_of x) cut.g cut.rest (opens.opened ∙ ap (λ ts. ts ++ map (for_object 0) (opening_of x)) former) opening_none
         (plain-seen cut.g (cut-is-plain sys cut.g cut.rest cut.some (cut.fits sim))) (cut.fits sim) (subst (λ o. GrowsOf o cut.g w u) opens.here.none cut.grows) still_clear
 
-    pub cut-unspilled : spills_in u.told ≡ false
+    pub cut-unspilled : spills_told u.told ≡ false
     cut-unspilled = unspilled-told u.told (cut-calm sys (mine x) (done x) w opens.here u u cut)
 
     pub cut-stops : (z : LaneView) → HaltsFull u z → StopsThere sys x y v0 z

@@ -15,7 +15,7 @@ use Rattle.qp_model.specs.Ends.{is_end, is_spill, may_cut, may_cut}
 use Rattle.qp_model.specs.Sources.{SourceRuns, AllDone, BeforeStimulus, EndsIn, none_twice}
 use Rattle.qp_calls.specs.LaneView.{LaneView, Gains, Grows, GrowsOf}
 use Rattle.qp_calls.specs.LaneLaws.{IsWithinLimit}
-use Rattle.qp_calls.specs.Notes.{spills_in}
+use Rattle.qp_calls.specs.Notes.{spills_told}
 use Rattle.qp_calls.specs.Clauses.{Stops}
 use Rattle.qp_model_order.specs.SourceRun.{untold_all}
 use Rattle.qp_model_order.specs.Laws.{stimulus_told}
@@ -58,7 +58,7 @@ module _ (sys : System) (ss : List Stim) (n : ℕ) (v : LaneView) (at : IsSource
   done-at = record { is_calm = calm-at; runs = λ kernel may. subst (λ ts. SourceRuns sys kernel 1 (take n ss) AllDone (told_alone ts)) front-is (at.runs kernel may) }
 
 -- no record of a calm lane is a `spill`
-pub unspilled-told : (told : List ToldItem) → list_any (λ i. is_end i.body) (untold_all told) ≡ false → spills_in told ≡ false
+pub unspilled-told : (told : List ToldItem) → list_any (λ i. is_end i.body) (untold_all told) ≡ false → spills_told told ≡ false
 unspilled-told [] h = refl
 unspilled-told (t ∷ ts) h =
     let parts = or_parts (is_end t.told.body) (list_any (λ i. is_end i.body) (untold_all ts)) h in
@@ -84,10 +84,10 @@ runs-long sys kernel k (s ∷ ss) g (inr (inr h)) =
     let both = length-append h.1 h.2 in
     omega (arith, later, long, both)
 
-regular-all : (told : List ToldItem) → spills_in told ≡ false → count_by (λ t. not (is_spill t.told.body)) told ≡ length told
+regular-all : (told : List ToldItem) → spills_told told ≡ false → count_by (λ t. not (is_spill t.told.body)) told ≡ length told
 regular-all [] h = refl
 regular-all (t ∷ ts) h =
-    let parts = or_parts (is_spill t.told.body) (spills_in ts) h in
+    let parts = or_parts (is_spill t.told.body) (spills_told ts) h in
     let later = regular-all ts parts.1 in
     let first = count-cons (λ (u : ToldItem). not (is_spill u.told.body)) t ts in
     let here : as_one (not (is_spill t.told.body)) ≡ 1 = ap (λ b. as_one (not b)) parts.0 in

@@ -10,7 +10,7 @@ use Rattle.qp_model.specs.Told.{plain, for_object}
 use Rattle.qp_calls.specs.LaneView.{LaneView, GrowsOf}
 use Rattle.qp_calls.specs.LaneLaws.{IsWithinLimit}
 use Rattle.qp_calls.specs.Clauses.{Stops}
-use Rattle.qp_calls.specs.Notes.{last_code, spills_in}
+use Rattle.qp_calls.specs.Notes.{last_code, spills_told}
 use Rattle.qp_calls.proofs.NoteLemmas.{last-snoc}
 use Rattle.qp_dispatch.specs.declared.objects.Turn.{Turn}
 use Rattle.qp_dispatch.specs.declared.objects.Turn.TheVariants as turn
@@ -150,7 +150,7 @@ module _ (sys : System) (x : Cursor) (v : LaneView) (at : IsCursorAt sys x v) (c
   pub few-begun : IsWithinLimit v → x.begun ≤ 1000000
   few-begun within = few-done sys (mine x) x.begun v here within
 
-  pub unspilled : spills_in v.told ≡ false
+  pub unspilled : spills_told v.told ≡ false
   unspilled = unspilled-told v.told here.calm
 
   module _ (s : Stim) (lt : x.begun < length (mine x)) (is : s ≡ get_or (mine x) x.begun s) where

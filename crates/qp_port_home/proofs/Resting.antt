@@ -23,7 +23,7 @@ use Rattle.qp_calls.specs.Clauses.{Counted, Sees, Stops, TakesNone, last_nil, sa
 use Rattle.qp_calls.specs.Counting.{count_of}
 use Rattle.qp_calls.specs.LaneView as shown
 use Rattle.qp_calls.specs.LaneView.{AddsOf, Gains, GrowsOf, LaneView, Looks, NotShown, Own, Roomier, ceiling_in, mark_after, mark_by, own_after}
-use Rattle.qp_calls.specs.Notes.{spills_in}
+use Rattle.qp_calls.specs.Notes.{spills_told}
 use Rattle.qp_calls.specs.Tokens.{hands_after, hands_by}
 use Rattle.qp_calls.proofs.NoteLemmas.{ceiling-append}
 use Rattle.qp_dispatch.specs.Lasts.{config_of}
@@ -106,7 +106,7 @@ seen-own p a f l m o = refl
 pub record IsQuiet (t : ToldItem) : Type 0 where
   pub ceiling : (n : ℕ) → ceiling_in n (t ∷ []) ≡ n
   pub hands : (v w : LaneView) → Gains (t ∷ []) v w → w.hands ≡ v.hands
-  pub spills : (ts : List ToldItem) → spills_in ts ≡ false → spills_in (ts ++ t ∷ []) ≡ false
+  pub spills : (ts : List ToldItem) → spills_told ts ≡ false → spills_told (ts ++ t ∷ []) ≡ false
 
 nil-quiet : (p f l m : ℕ) → IsQuiet (for_object p (plain (body.Nil f l m)))
 unfolding ceiling_in hands_after hands_by
@@ -122,7 +122,7 @@ module _ (sys : System) (sound : IsSound sys) (budget : ℕ) (x : Home) (v : Lan
 
   -- At rest again.
 
-  resting : (looked : Bool) (w : LaneView) → w.sys ≡ v.sys → ((o : ℕ) → w.serves o ≡ v.serves o) → w.hands ≡ v.hands → ceiling_in 0 w.told ≡ ceiling_in 0 v.told → spills_in w.told ≡ false
+  resting : (looked : Bool) (w : LaneView) → w.sys ≡ v.sys → ((o : ℕ) → w.serves o ≡ v.serves o) → w.hands ≡ v.hands → ceiling_in 0 w.told ≡ ceiling_in 0 v.told → spills_told w.told ≡ false
       → Rests sys h.d h.chart budget (w.own h.d.priority) looked w.told h.es h.c → IsHome sys budget (record x { looked = looked }) w
   resting looked w of serves hands ceiling spills records = record {
     d = h.d;
@@ -153,7 +153,7 @@ module _ (sys : System) (sound : IsSound sys) (budget : ℕ) (x : Home) (v : Lan
   -- no record came
   pub resting-same : (w : LaneView) → w.sys ≡ v.sys → w.told ≡ v.told → ((o : ℕ) → w.serves o ≡ v.serves o) → w.own h.d.priority ≡ v.own h.d.priority → w.hands ≡ v.hands → IsHome sys budget x w
   resting-same w of told serves own hands =
-      resting x.looked w of serves hands (ap (ceiling_in 0) told) (ap spills_in told ∙ h.at.spills)
+      resting x.looked w of serves hands (ap (ceiling_in 0) told) (ap spills_told told ∙ h.at.spills)
       (subst (λ o. Rests sys h.d h.chart budget o x.looked w.told h.es h.c) (sym own) (subst (λ ts. Rests sys h.d h.chart budget (v.own h.d.priority) x.looked ts h.es h.c) (sym told) h.records))
 
   pub resting-room : (w : LaneView) → Roomier v w → IsHome sys budget x w
@@ -164,7 +164,7 @@ module _ (sys : System) (sound : IsSound sys) (budget : ℕ) (x : Home) (v : Lan
       → IsHome sys budget (record x { looked = looked }) w
   resting-behind looked t w quiet g records =
       resting looked w g.sys g.serves (quiet.hands v w g) (ap (ceiling_in 0) g.told ∙ ceiling-append 0 v.told (t ∷ []) ∙ quiet.ceiling (ceiling_in 0 v.told))
-      (subst (λ ts. spills_in ts ≡ false) (sym g.told) (quiet.spills v.told h.at.spills)) (subst (λ ts. Rests sys h.d h.chart budget (w.own h.d.priority) looked ts h.es h.c) (sym g.told) records)
+      (subst (λ ts. spills_told ts ≡ false) (sym g.told) (quiet.spills v.told h.at.spills)) (subst (λ ts. Rests sys h.d h.chart budget (w.own h.d.priority) looked ts h.es h.c) (sym g.told) records)
 
   -- The queue is found empty.
 

@@ -18,7 +18,7 @@ use Rattle.qp_calls.specs.Clauses.{entry_of}
 use Rattle.qp_calls.specs.Counting.{count_of, times}
 use Rattle.qp_calls.specs.Deferring.{StandAll, is_named, tokens_in}
 use Rattle.qp_calls.specs.LaneView.{Grows, LaneView, Own, ceiling_in}
-use Rattle.qp_calls.specs.Notes.{spills_in}
+use Rattle.qp_calls.specs.Notes.{spills_told}
 use Rattle.qp_calls.specs.Tokens.{Token}
 use Rattle.qp_chart_compiled.specs.Compiled.{IsCompiled}
 use Rattle.qp_dispatch.specs.declared.lasting.Lasting.{Lasting}
@@ -108,7 +108,7 @@ module _ (sys : System) (sound : IsSound sys) (x : Home) (v : LaneView) (made : 
         mine = refl;
         serves = ap v.serves is-me ∙ serves;
         told = made.ceiling ∙ sym (ap (ceiling_in 0) empty.told);
-        spills = ap spills_in empty.told;
+        spills = ap spills_told empty.told;
       };
     };
     unstarted = made.object.made.unstarted;
@@ -145,7 +145,7 @@ module _ (sys : System) (sound : IsSound sys) (x : Home) (v : LaneView) (made : 
       lane = ap (λ u. u.sys) w-is ∙ t.grows.sys ∙ empty.of;
       serves = ap (λ u. u.serves d.priority) w-is ∙ t.grows.serves d.priority ∙ serves;
       ceiling = t.lane.told ∙ sym (ap (λ u. ceiling_in 0 u.told) w-is);
-      spills = ap (λ u. spills_in u.told) w-is ∙ t.lane.spills;
+      spills = ap (λ u. spills_told u.told) w-is ∙ t.lane.spills;
       only = λ n. ap (λ u. count_of n u.hands) w-is ∙ only n;
     };
     es = [];

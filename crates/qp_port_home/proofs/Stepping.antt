@@ -22,7 +22,7 @@ use Rattle.qp_calls.specs.Clauses.{entry_of}
 use Rattle.qp_calls.specs.Counting.{count_of}
 use Rattle.qp_calls.specs.Deferring.{ChangeAlike, StandAll, is_named, kept_in}
 use Rattle.qp_calls.specs.LaneView.{Grows, LaneView, ceiling_in}
-use Rattle.qp_calls.specs.Notes.{spills_in}
+use Rattle.qp_calls.specs.Notes.{spills_told}
 use Rattle.qp_calls.specs.Tokens.{Token}
 use Rattle.qp_chart_compiled.specs.Compiled.{IsCompiled}
 use Rattle.qp_dispatch.specs.declared.lasting.Lasting.{Lasting}
@@ -174,7 +174,7 @@ module _ (sys : System) (sound : IsSound sys) (budget : ℕ) (waits : Bool) (x :
     more-w : HasMore (v.own o) (w.own o)
     more-w = more-own o (map (for_object x.object.me) g) v w (ap (λ u. u.own o) w-is ∙ grows.own o)
 
-    is-in : (b : Bool) → y.lasting.list.entries.capacity ≡ k.list.entries.capacity → list_all (is_named sys) (held_in y.lasting y.stage) ≡ true → level ≡ ceiling_in 0 mid.told → spills_in mid.told ≡ false
+    is-in : (b : Bool) → y.lasting.list.entries.capacity ≡ k.list.entries.capacity → list_all (is_named sys) (held_in y.lasting y.stage) ≡ true → level ≡ ceiling_in 0 mid.told → spills_told mid.told ≡ false
         → ChangeAlike (map entry_of (held_in k st)) (map entry_of (held_in y.lasting y.stage)) V mid → IsIn sys h.d h.chart (record x { object = y; ceiling = level; busy = b }) w
     is-in b room named ceiling spills alike = record {
       found = h.at.found;
@@ -188,7 +188,7 @@ module _ (sys : System) (sound : IsSound sys) (budget : ℕ) (waits : Bool) (x :
       lane = sys-w;
       serves = ap (λ u. u.serves o) w-is ∙ grows.serves o ∙ h.at.serves;
       ceiling = ceiling ∙ sym (ap (λ u. ceiling_in 0 u.told) w-is);
-      spills = ap (λ u. spills_in u.told) w-is ∙ spills;
+      spills = ap (λ u. spills_told u.told) w-is ∙ spills;
       only = λ t. ap (λ u. count_of t u.hands) w-is ∙ only t;
     }
       where

@@ -14,7 +14,7 @@ use Rattle.qp_calls.specs.Counting.{count_of}
 use Rattle.qp_calls.specs.Tokens.{Token}
 use Rattle.qp_calls.specs.Deferring.{is_named}
 use Rattle.qp_calls.specs.LaneView.{LaneView, ceiling_in}
-use Rattle.qp_calls.specs.Notes.{spills_in}
+use Rattle.qp_calls.specs.Notes.{spills_told}
 use Rattle.qp_chart_compiled.specs.Compiled.{IsCompiled}
 use Rattle.qp_dispatch.specs.Objects.{IsNew, home_of}
 use Rattle.qp_dispatch.specs.Resume.{held_in}
@@ -50,7 +50,7 @@ pub record IsIn (sys : System) (d : ObjectDef) (chart : Chart) (x : Home) (v : L
   pub lane : v.sys ≡ sys
   pub serves : v.serves d.priority ≡ true
   pub ceiling : x.ceiling ≡ ceiling_in 0 v.told
-  pub spills : spills_in v.told ≡ false
+  pub spills : spills_told v.told ≡ false
   pub only : (t : Token) → count_of t v.hands ≡ own_count t x.object
 
 -- the object rests, and whole groups stand in its lane

@@ -3,7 +3,7 @@ use Rattle.std.proofs.Common.{◌≡◌, ℕ, Bool, List, refl, sym, ◌∙◌, 
 use Rattle.qp_model.specs.declared.systems.System.{System}
 use Rattle.qp_model_order.specs.RunOrder.{has_stim}
 use Rattle.qp_calls.specs.LaneView.{LaneView, ceiling_in}
-use Rattle.qp_calls.specs.Notes.{spills_in}
+use Rattle.qp_calls.specs.Notes.{spills_told}
 use Rattle.qp_dispatch.specs.declared.objects.Turn.{Turn}
 use Rattle.qp_dispatch.specs.declared.objects.Turn.TheVariants as turn
 use Rattle.qp_kernel.specs.declared.kernel.Kernel.{Kernel}
@@ -51,7 +51,7 @@ module _ (v w : LaneView) (more : SeenMore v w) where
           lane = record {
             of = more.sees.sys ∙ k.lane.of;
             told = k.lane.told ∙ ap (ceiling_in 0) (sym more.sees.told);
-            spills = ap spills_in more.sees.told ∙ k.lane.spills;
+            spills = ap spills_told more.sees.told ∙ k.lane.spills;
             serves = λ d found. more.same.serves d.priority ∙ k.lane.serves d found;
           };
           running = k.running;

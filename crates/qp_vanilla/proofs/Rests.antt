@@ -11,7 +11,7 @@ use Rattle.qp_model.specs.Told.{plain}
 use Rattle.qp_model_order.specs.RunOrder.{placed}
 use Rattle.qp_model_order.specs.SourceRun.{untold}
 use Rattle.qp_calls.specs.LaneView.{GrowsOf, LaneView, Roomier, ceiling_in, mark_after, mark_by, own_after, Own}
-use Rattle.qp_calls.specs.Notes.{spills_in, told_note}
+use Rattle.qp_calls.specs.Notes.{spills_told, told_note}
 use Rattle.qp_calls.specs.Tokens.{hands_after, hands_by}
 use Rattle.qp_calls.proofs.Growing.{room-then}
 use Rattle.qp_calls.proofs.NoteLemmas.{ceiling-append}
@@ -42,7 +42,7 @@ rest-own : (q k : ℕ) (o : Own) → own_after q o (rest_told k ∷ []) ≡ o
 unfolding own_after
 rest-own q k o = refl
 
-rest-goes : (n : ℕ) (v v1 v2 : LaneView) → Roomier v v1 → GrowsOf 0 (plain (body.Rest n) ∷ []) v1 v2 → spills_in v.told ≡ false → GoesFor (rest_told n ∷ []) v v2
+rest-goes : (n : ℕ) (v v1 v2 : LaneView) → Roomier v v1 → GrowsOf 0 (plain (body.Rest n) ∷ []) v1 v2 → spills_told v.told ≡ false → GoesFor (rest_told n ∷ []) v v2
 unfolding hands_after hands_by ceiling_in
 rest-goes n v v1 v2 room grown none =
     let told : v2.told ≡ v.told ++ rest_told n ∷ [] = grown.told ∙ ap (λ u. u.told ++ rest_told n ∷ []) room.same in

@@ -15,7 +15,7 @@ use Rattle.qp_model_order.specs.SourceRun.{untold_all}
 use Rattle.qp_calls.specs.Clauses.{last_nil, nil_by}
 use Rattle.qp_calls.specs.LaneLaws.{IsWithinLimit}
 use Rattle.qp_calls.specs.LaneView.{Counts, LaneView, NotShown, Shown}
-use Rattle.qp_calls.specs.Notes.{spills_in}
+use Rattle.qp_calls.specs.Notes.{spills_told}
 use Rattle.qp_port_home_law.specs.HomeLanes.{LooksOnce, looks_in}
 use Rattle.qp_port_home.specs.declared.home.Home.{Home}
 use Rattle.qp_port_home.specs.Turning.{HomeIdles}
@@ -90,10 +90,10 @@ counts-one : (b : Bool) → b ≡ false → one_if (not b) ≡ 1
 counts-one b h = rw h refl
 
 -- records without a `spill`
-pub calm-count : (told : List ToldItem) → spills_in told ≡ false → count_by (λ t. not (is_spill t.told.body)) told ≡ length told
+pub calm-count : (told : List ToldItem) → spills_told told ≡ false → count_by (λ t. not (is_spill t.told.body)) told ≡ length told
 calm-count [] h = refl
 calm-count (t ∷ told) h =
-    let parts = or_parts (is_spill t.told.body) (spills_in told) h in
+    let parts = or_parts (is_spill t.told.body) (spills_told told) h in
     let apart = parts.0 in
     let rest = calm-count told parts.1 in
     let one = counts-one (is_spill t.told.body) apart in

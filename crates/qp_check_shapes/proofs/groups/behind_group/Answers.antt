@@ -13,10 +13,10 @@ returns-in-None c =
     (element-parts (IsWhole c.args.scene.now.sys.now c.args.scene.now.o c.args.now) (whole-parts c.args.scene.now.sys.now c.args.scene.now.o c.args.now)).filled c.args.told.now
     (empty-is c.args.told.now c.in-None.ensures.cases)
 
-pub returns-then-is_note : goal.returns-then-is_note
-returns-then-is_note c =
+pub returns-then-is_told_move : goal.returns-then-is_told_move
+returns-then-is_told_move c =
     note-group (IsWhole c.args.scene.now.sys.now c.args.scene.now.o c.args.now) (whole-parts c.args.scene.now.sys.now c.args.scene.now.o c.args.now) c.args.told.now c.in-Some.first.now c.in-Some.rest.now
-    c.in-Some.ensures.cases.0 (sym c.if-is_note.ensures)
+    c.in-Some.ensures.cases.0 (sym c.if-is_told_move.ensures)
 
 pub returns-in-Some-former_of : goal.returns-in-Some-former_of
 returns-in-Some-former_of c =
@@ -25,5 +25,5 @@ returns-in-Some-former_of c =
 
 pub returns-in-None-former_of : goal.returns-in-None-former_of
 returns-in-None-former_of c =
-    acts-group (IsWhole c.args.scene.now.sys.now c.args.scene.now.o c.args.now) c.args.told.now c.in-Some.first.now c.in-Some.rest.now _ c.in-Some.ensures.cases.0 (sym c.if-is_note.ensures)
+    acts-group (IsWhole c.args.scene.now.sys.now c.args.scene.now.o c.args.now) c.args.told.now c.in-Some.first.now c.in-Some.rest.now _ c.in-Some.ensures.cases.0 (sym c.if-is_told_move.ensures)
     (sym c.in-None-former_of.ensures) c.behind_action.ensures

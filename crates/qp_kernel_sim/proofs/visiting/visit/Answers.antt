@@ -1,5 +1,5 @@
 use Rattle.std.proofs.Common.{ℕ, ◌∙◌, ap, subst}
-use Rattle.qp_calls.specs.Notes.{spills_in}
+use Rattle.qp_calls.specs.Notes.{spills_told}
 use Rattle.qp_plain.specs.NewWorld.{GoesTo}
 use Rattle.qp_kernel_sim.proofs.Beside.{there-sys, there-told}
 use Rattle.qp_kernel_sim.proofs.Visited.{visited}
@@ -11,7 +11,7 @@ stimulus-answer-requires-clause-of g c =
 
 pub stimulus-answer-requires-clause-spills : goal.stimulus-answer-requires-clause-spills
 stimulus-answer-requires-clause-spills g c =
-    ap spills_in (there-told c.args.source c.args.plain.now c.go-home.new.self c.by-former.new.self c.requires.home c.requires.some c.go-home.ensures.goes c.by-former.ensures.set)
+    ap spills_told (there-told c.args.source c.args.plain.now c.go-home.new.self c.by-former.new.self c.requires.home c.requires.some c.go-home.ensures.goes c.by-former.ensures.set)
     ∙ c.requires.spills
 
 pub returns : goal.returns

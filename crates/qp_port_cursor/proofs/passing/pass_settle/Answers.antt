@@ -1,7 +1,7 @@
 use Rattle.std.proofs.Common.{◌∙◌, ap, subst, Ok}
 use Rattle.qp_calls_stimulus.specs.declared.settling.Sight.{Sight}
 use Rattle.qp_calls_stimulus.specs.Settling.{SettlesTo}
-use Rattle.qp_calls.specs.Notes.{spills_in}
+use Rattle.qp_calls.specs.Notes.{spills_told}
 use Rattle.qp_port_cursor.proofs.Going.{unspilled-told}
 use Rattle.qp_port_cursor.proofs.Ending.{cut-starves, cut-stops, cut-unspilled, passes-found, passes-yes}
 use Rattle.qp_port_cursor.proofs.Waiting.{found-here, halts-starve, halts-stop}
@@ -11,7 +11,7 @@ pub returns-in-Some-clause-passes : goal.returns-in-Some-clause-passes
 returns-in-Some-clause-passes g c = found-here c.args.sys.now c.args.source.now _ (g.O.Ops.lane c.look.new.ops) c.in-Some.p c.in-Some.now c.requires.knows c.requires.stands c.in-Some.ensures.0 c.in-Some.ensures.1
 
 pub ready-requires : goal.ready-requires
-ready-requires g c = ap spills_in c.in_default.ensures.0.told ∙ unspilled-told (g.O.Ops.lane c.args.ops.now).told c.requires.knows.at.calm
+ready-requires g c = ap spills_told c.in_default.ensures.0.told ∙ unspilled-told (g.O.Ops.lane c.args.ops.now).told c.requires.knows.at.calm
 
 pub returns-in-Err-Stopped-clause-passes : goal.returns-in-Err-Stopped-clause-passes
 returns-in-Err-Stopped-clause-passes g c =

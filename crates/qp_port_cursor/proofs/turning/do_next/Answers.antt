@@ -1,7 +1,7 @@
 use Rattle.std.proofs.Common.{◌≡◌, ◌+◌, ◌-◌, ◌<◌, List, [], length, get_or, refl, ◌∙◌, ap, subst, inl, inr, arith}
 use Rattle.qp_model.specs.declared.stimulus.Stim.{Stim}
 use Rattle.qp_calls.specs.LaneView.{LaneView}
-use Rattle.qp_calls.specs.Notes.{spills_in}
+use Rattle.qp_calls.specs.Notes.{spills_told}
 use Rattle.qp_calls_stimulus.specs.declared.doing.Stimulated.TheVariants as stimulated
 use Rattle.qp_calls_stimulus.specs.Stimulating.{Stimulates}
 use Rattle.qp_port_cursor.specs.At.{mine}
@@ -30,7 +30,7 @@ overflow_add-place g c =
 
 pub stimulus-answer-requires-clause-spills : goal.stimulus-answer-requires-clause-spills
 stimulus-answer-requires-clause-spills g c =
-    ap (λ (u : LaneView). spills_in u.told) c.in_default-stopped.ensures.0 ∙ unspilled c.args.sys.now c.args.source.now _ c.requires.knows c.if-source.false
+    ap (λ (u : LaneView). spills_told u.told) c.in_default-stopped.ensures.0 ∙ unspilled c.args.sys.now c.args.source.now _ c.requires.knows c.if-source.false
 
 pub returns-in-Done-clause-does : goal.returns-in-Done-clause-does
 returns-in-Done-clause-does g c =

@@ -3,7 +3,7 @@ use Rattle.std.proofs.lemmas.List.{length-map}
 use Rattle.qp_model.specs.declared.stimulus.Stim.{Stim}
 use Rattle.qp_model.specs.Told.{for_object}
 use Rattle.qp_calls.specs.LaneView.{Happening}
-use Rattle.qp_calls.specs.Notes.{spills_in}
+use Rattle.qp_calls.specs.Notes.{spills_told}
 use Rattle.qp_kernel.specs.Happenings.{told_by}
 use Rattle.qp_plain.specs.NewWorld.{chosen}
 use Rattle.qp_plain.specs.WorldView.{world_view}
@@ -55,7 +55,7 @@ visit-answer-requires-clause-within g c =
 pub visit-answer-requires-clause-spills : goal.visit-answer-requires-clause-spills
 visit-answer-requires-clause-spills g c =
     let w = c.args.self.now in
-    ap spills_in (w.holds.sources (c.args.j + 1) (omega arith) (omega (arith, c.requires.place)))
+    ap spills_told (w.holds.sources (c.args.j + 1) (omega arith) (omega (arith, c.requires.place)))
     ∙ none-spilled (c.args.j + 1) w.done.list ((still w c.requires.live).counts refl).calm
 
 pub visit-answer-requires-clause-rests : goal.visit-answer-requires-clause-rests
