@@ -10,14 +10,14 @@ use Rattle.qp_model.specs.declared.record.Rec.{Rec}
 use Rattle.qp_model.specs.declared.bodies.Body.{Body}
 use Rattle.qp_model.specs.declared.bodies.Body.TheVariants as body
 use Rattle.qp_model.specs.Record.{Item, item_of}
-use Rattle.qp_model.specs.Ends.{is_spill, spills_in}
+use Rattle.qp_model.specs.Ends.{is_nil, is_spill, spills_in}
 use Rattle.qp_model.specs.History.{lane_items}
 use Rattle.qp_model.proofs.RecordLemmas.{lane_items-more}
 use Rattle.qp_calls.specs.declared.answers.Counts as counts
 use Rattle.qp_calls.specs.LaneView.{Shown, Counts, NotShown}
 use Rattle.qp_calls.specs.Clauses.{nil_by}
 use Rattle.qp_calls.specs.Notes.{stop_code}
-use Rattle.qp_calls_log.specs.Lane.{is_nil, is_plain, nil_of, last_nil_in, is_caused_in}
+use Rattle.qp_calls_log.specs.Lane.{is_plain, nil_of, last_nil_in, is_caused_in}
 
 abbrev pub regular : List Item → ℕ
 regular items = count_by (λ i. not (is_spill i.body)) items

@@ -3,9 +3,8 @@ use Rattle.std.specs.Prelude.{ℕ, ◌==◌, nat_lt, Bool, true, false, not, ◌
 use Rattle.std.specs.declared.option.Option.{Option}
 use Rattle.std.specs.List.{list_any}
 use Rattle.qp_model.specs.declared.bodies.Body.{Body}
-use Rattle.qp_model.specs.declared.bodies.Body.TheVariants.{Nil}
 use Rattle.qp_model.specs.Record.{Item}
-use Rattle.qp_model.specs.Ends.{is_spill}
+use Rattle.qp_model.specs.Ends.{is_nil, is_spill}
 use Rattle.qp_calls.specs.declared.answers.Counts as counts
 use Rattle.qp_calls.specs.LaneView.{Shown, Counts, NotShown}
 use Rattle.qp_calls.specs.Clauses.{nil_by}
@@ -15,10 +14,6 @@ use Rattle.qp_calls.specs.Notes.{stop_code}
 abbrev pub spill_place : Bool → ℕ
 spill_place true = 0
 spill_place false = 1
-
-abbrev pub is_nil : Body → Bool
-is_nil (Nil f l m) = true
-is_nil _ = false
 
 -- neither a `nil` nor a `spill`
 abbrev pub is_plain : Body → Bool

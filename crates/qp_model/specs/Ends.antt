@@ -17,6 +17,11 @@ abbrev pub is_spent : Body → Bool
 is_spent body.Spent = true
 is_spent _ = false
 
+-- the queue was found empty
+abbrev pub is_nil : Body → Bool
+is_nil (body.Nil f l m) = true
+is_nil _ = false
+
 -- a record of a turn without a step: the queue was found empty, or the budget is taken
 abbrev pub is_turn_mark : Body → Bool
 is_turn_mark (body.Nil f l m) = true

@@ -9,6 +9,7 @@ use Rattle.qp_model.specs.declared.bodies.Entry.{Entry}
 use Rattle.qp_model.specs.declared.bodies.Body.{Body}
 use Rattle.qp_model.specs.declared.bodies.Body.TheVariants as item
 use Rattle.qp_model.specs.Told.{Told}
+use Rattle.qp_model.specs.Ends.{is_nil}
 use Rattle.qp_model.specs.Calls.{Answer, is_assertion}
 use Rattle.qp_model.specs.Sequence.{Sequence, EachPart, joined}
 use Rattle.qp_model.specs.Shapes.{Drops}
@@ -16,10 +17,6 @@ use Rattle.qp_model.specs.Groups.{is_move, IsAction, SaysValue, MakesCall, Actio
 use Rattle.qp_model.specs.ObjectShape.{StartGroup, BrokenStart, is_head, StepHead, StepGroup, BrokenStep, IsTurn, Dispatches, FindsEmpty, LooksOnly, IsTail, Ends, OutOfBudget, BreaksStep, ObjectGroups, CutGroups}
 use Rattle.qp_model.specs.Course.{Cut, Whole, Stopped, Anywhere}
 use Rattle.qp_model.proofs.FitsLemmas.{is_calm, is_deferral, Usual, usual, assertion_of, Ending, Answers, calm-drops, any-usual, all-append}
-
-abbrev pub is_nil : Body → Bool
-is_nil (item.Nil f l m) = true
-is_nil b = false
 
 -- no record of these finds the queue empty
 abbrev pub Nilless : List Told → Type 0

@@ -20,7 +20,7 @@ use Rattle.qp_model.specs.declared.bodies.Body.TheVariants as body
 use Rattle.qp_model.specs.Record.{Item}
 use Rattle.qp_model.specs.Told.{Event}
 use Rattle.qp_model.specs.Knowing.{Facts, told, records_of, event_of, ceiling_after}
-use Rattle.qp_model.specs.Ends.{is_spill, is_assert, is_end, is_turn_mark, spills_in, spills_cut, ends_last, may_cut}
+use Rattle.qp_model.specs.Ends.{is_nil, is_spill, is_assert, is_end, is_turn_mark, spills_in, spills_cut, ends_last, may_cut}
 use Rattle.qp_model.specs.History.{all_items, lane_items, hist, is_numbered, drawn_on, touch, touch_of}
 use Rattle.qp_model.specs.Machine.{Machine, after, after_from, is_allowed, allowed_from}
 use Rattle.qp_model.specs.Line.{line}
@@ -51,7 +51,7 @@ use Rattle.qp_sim_unique.specs.Tidy.{run_order, unspilt, IsTidy}
 use Rattle.qp_sim_unique.proofs.FrontLemmas.{from-behind, may-next}
 use Rattle.qp_sim_unique.proofs.ComesLemmas.{comes-front, known-front}
 use Rattle.qp_sim_unique.proofs.StackLemmas.{found-in}
-use Rattle.qp_sim_unique.proofs.NilLemmas.{is_nil, Nilless, cut-nilless}
+use Rattle.qp_sim_unique.proofs.NilLemmas.{Nilless, cut-nilless}
 use Rattle.qp_sim_unique.proofs.JournalLemmas.{Threaded, kept_zero, inside, in-order, each-unspilt, cut-shape, kept-front, kept-none}
 use Rattle.qp_sim_unique.proofs.Sides.{EndsOwn, MayEnd, HasKernel, in_kernel, no-port, held_to}
 use Rattle.qp_check_sources.proofs.LaneLemmas.{runs-flag}
