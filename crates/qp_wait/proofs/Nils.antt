@@ -5,12 +5,13 @@ use Rattle.std.proofs.lemmas.Bool.{or_parts}
 use Rattle.std.proofs.lemmas.Bool.Decides.{nat_tests}
 use Rattle.qp_model.specs.declared.bodies.Body.{Body}
 use Rattle.qp_model.specs.declared.bodies.Body.TheVariants as body
+use Rattle.qp_model.specs.Ends.{is_nil}
 use Rattle.qp_model.specs.Told.{ToldItem, for_object, plain}
 use Rattle.qp_model.proofs.NumberLemmas.{count-append}
 use Rattle.qp_wait_lane.specs.Parked.{is_empty_look, is_park_place}
 use Rattle.qp_kernel.specs.Turning.{seen_told}
 use Rattle.qp_port_home.specs.Takes.{AddsEmpty, AddsNoTake, AddsTook, is_take, is_took}
-use Rattle.qp_wait.specs.Waiting.{holds_place, is_nil, is_nil_at, steps_in}
+use Rattle.qp_wait.specs.Waiting.{holds_place, is_nil_at, steps_in}
 
 self-test : (n : ℕ) → (n == n) ≡ true
 self-test n = grind (arith, nat_tests)

@@ -3,8 +3,7 @@ use Rattle.std.specs.Prelude.{◌≡◌, ◌⊎◌, ℕ, ◌+◌, ◌<◌, ◌�
 use Rattle.std.specs.declared.result.Result.{Result}
 use Rattle.std.specs.List.{count_by, list_any}
 use Rattle.std.specs.Option.{option_map_or}
-use Rattle.qp_model.specs.declared.bodies.Body.{Body}
-use Rattle.qp_model.specs.declared.bodies.Body.TheVariants.{Nil}
+use Rattle.qp_model.specs.Ends.{is_nil}
 use Rattle.qp_model.specs.Told.{ToldItem}
 use Rattle.qp_dispatch.specs.declared.objects.Turn.{Turn}
 use Rattle.qp_dispatch.specs.declared.objects.Turn.TheVariants as turn
@@ -14,10 +13,6 @@ use Rattle.qp_wait_bells.specs.Tallies.{one_where}
 use Rattle.qp_wait_lane.specs.declared.lane.BellLane.{BellLane}
 use Rattle.qp_wait_lane.specs.Lane.{bell_view, empty_looks, last_takes}
 use Rattle.qp_wait_lane.specs.Parked.{parks_of}
-
-abbrev pub is_nil : Body → Bool
-is_nil (Nil f l m) = true
-is_nil _ = false
 
 abbrev pub is_nil_at : List ToldItem → ℕ → Bool
 is_nil_at told n = option_map_or (λ t. is_nil t.told.body) (slice_get told n) false
