@@ -1,1 +1,2 @@
 pub mod NewWorlds
+mod LaneLemmas

@@ -1,5 +1,5 @@
-use Rattle.qp_calls_stimulus_tests.specs.Trial.{IsBase}
-use Rattle.qp_calls_stimulus_tests.proofs.trial.notes.Given as goal
+use Rattle.qp_kernel_turns_tests.specs.Trial.{IsBase}
+use Rattle.qp_kernel_turns_tests.proofs.trial.notes.Given as goal
 
 -- a trial may go on
 abbrev pub invariant-loop-i : goal.invariant-loop-i

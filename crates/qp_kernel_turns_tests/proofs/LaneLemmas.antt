@@ -18,7 +18,7 @@ use Rattle.qp_plain.specs.WorldView.{world_view}
 use Rattle.qp_plain_sound.specs.View.{view_of}
 use Rattle.qp_calls_stimulus.specs.Stimulating.{Happens}
 use Rattle.qp_calls_stimulus.proofs.Halting.{happens-unspilled}
-use Rattle.qp_calls_stimulus_tests.specs.Trial.{IsBase}
+use Rattle.qp_kernel_turns_tests.specs.Trial.{IsBase}
 
 rest-told : (o k : ℕ) (r : Rec) (v : LaneView) → item_of r ≡ record { of = o; body = Rest k } → told_note r v ≡ plain (Rest k) ∷ []
 unfolding told_note

@@ -1,4 +1,4 @@
-use Rattle.qp_calls_stimulus_tests.proofs.trial.run.Given as goal
+use Rattle.qp_kernel_turns_tests.proofs.trial.run.Given as goal
 
 -- the ledger is the new one
 abbrev pub ghosts-play : goal.ghosts-play

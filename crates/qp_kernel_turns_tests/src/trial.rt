@@ -4,7 +4,7 @@ ghost use Rattle.std.specs.Prelude.{◌≡◌, ◌<◌, IfSome};
 ghost use Rattle.std.specs.List.{AllByRecursion};
 ghost use Rattle.qp_model.specs.Sound.{IsSound};
 ghost use Rattle.qp_stim.specs.Rules.{StimFits};
-ghost use Rattle.qp_calls_stimulus_tests.specs.Trial.{IsBase};
+ghost use Rattle.qp_kernel_turns_tests.specs.Trial.{IsBase};
 
 use qp_base::{Gate, Steps};
 use qp_calls::Ops;

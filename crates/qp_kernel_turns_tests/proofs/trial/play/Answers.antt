@@ -1,5 +1,5 @@
-use Rattle.qp_calls_stimulus_tests.proofs.LaneLemmas.{base-happens}
-use Rattle.qp_calls_stimulus_tests.proofs.trial.play.Goals as goal
+use Rattle.qp_kernel_turns_tests.proofs.LaneLemmas.{base-happens}
+use Rattle.qp_kernel_turns_tests.proofs.trial.play.Goals as goal
 
 pub loop-s-preserved : goal.loop-s-preserved
 loop-s-preserved g c = record {

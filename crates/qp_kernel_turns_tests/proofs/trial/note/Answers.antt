@@ -1,8 +1,8 @@
 use Rattle.std.proofs.Common.{refl, arith}
 use Rattle.qp_model.specs.declared.bodies.Body.TheVariants.{Rest}
 use Rattle.qp_calls.proofs.Noting.{may-note}
-use Rattle.qp_calls_stimulus_tests.proofs.LaneLemmas.{base-rest}
-use Rattle.qp_calls_stimulus_tests.proofs.trial.note.Goals as goal
+use Rattle.qp_kernel_turns_tests.proofs.LaneLemmas.{base-rest}
+use Rattle.qp_kernel_turns_tests.proofs.trial.note.Goals as goal
 
 pub note-requires : goal.note-requires
 note-requires g c = may-note 0 (Rest 0) c.rest.result _ c.rest.ensures refl (omega (arith, c.in-Ok.ensures.ok))
