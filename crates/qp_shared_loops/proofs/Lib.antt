@@ -6,3 +6,4 @@ pub mod Laying
 pub mod Giving
 pub mod Taking
 pub mod Freeing
+pub mod Remainders

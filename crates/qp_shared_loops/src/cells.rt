@@ -13,6 +13,7 @@ ghost use Rattle.qp_shared_loops.specs.Ends.{PostEnds, PostFirstEnds};
 
 use crate::last_in::claim_entry_last_in;
 use crate::posts::claim_entry;
+use crate::rings::in_ring;
 use atomic_table::Seat;
 use qp_base::Steps;
 use qp_shared_words::Words;
@@ -40,7 +41,7 @@ fn behind_last(ring: u8, posts: u64) -> u16
     ensures value { result ≡ posts % (ring + 1) }
     ensures within { result < 256 }
 {
-    (posts % (u64::from(ring) + 1)) as u16
+    in_ring(ring, posts)
 }
 
 /// The cell before the front entry of a queue, by its last-in posts and its takes.
@@ -50,8 +51,8 @@ fn before_front(ring: u8, lifos: u64, takes: u64) -> u16
     ensures value { result ≡ (takes + ring * lifos + ring) % (ring + 1) }
     ensures within { result < 256 }
 {
-    let ring = u64::from(ring);
-    ((takes + ring * lifos + ring) % (ring + 1)) as u16
+    let size = u64::from(ring);
+    in_ring(ring, takes + size * lifos + size)
 }
 
 /// Posts an entry, where more entries of the queue are free than the margin, None counting as 0: claims it as `claim_entry` does,

@@ -6,4 +6,5 @@ pub mod gives;
 pub mod last_in;
 mod operations;
 pub mod posts;
+mod rings;
 pub mod takes;

@@ -16,6 +16,7 @@ ghost use Rattle.qp_shared_loops.specs.Coded.{entry_in};
 ghost use Rattle.qp_shared_loops.specs.Ends.{Empties, IsNamed, KnowsEvent, TakeEnds};
 
 use crate::operations::add;
+use crate::rings::in_ring;
 use atomic_table::Seat;
 use qp_calls::{Counts, Entry, Hold};
 use qp_shared_words::Words;
@@ -58,8 +59,7 @@ fn front(ring: u8, lifos: u64, takes: u64) -> u16
     ensures value { result ≡ (takes + ring * lifos) % (ring + 1) }
     ensures within { result < 256 }
 {
-    let ring = u64::from(ring);
-    ((takes + ring * lifos) % (ring + 1)) as u16
+    in_ring(ring, takes + u64::from(ring) * lifos)
 }
 
 /// Waits until the front cell is laid, and empties it. The lane only reads while it waits.
