@@ -63,7 +63,8 @@ pub fn claim_entry<L: Ledger>(
             words, seat, by, object, margin, pool, block, name, found, steps,
         );
         if now == found {
-            return (now, true);
+            // Not `now`: what the caller makes of this needn't wait for the exchange.
+            return (found, true);
         }
         if free_in(ring, now) <= least {
             return (now, false);
