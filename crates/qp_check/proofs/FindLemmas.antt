@@ -52,9 +52,6 @@ module _ (n : ℕ) (P : ObjectDef → Type 0) (ds : List ObjectDef) where
   abbrev pub From : ℕ → Type 0
   From i = (o : Option Broken) → Finds (at_objects n P (drop i ds)) o → Finds (at_objects n P ds) o
 
-  pub from-first : From 0
-  from-first = λ o h. h
-
   pub from-last : (i : ℕ) → length ds ≤ i → From i → (whole : List ObjectDef) → ds ≡ whole → Finds (at_objects n P whole) None
   from-last i le from whole same = rw (← same) (from None (rw (drop_all i ds le) tt))
 

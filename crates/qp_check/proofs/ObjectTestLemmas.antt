@@ -1,6 +1,5 @@
 -- The definitions of one object, by the tests of their parts.
-use Rattle.std.proofs.Common.{◌≡◌, ℕ, zero, suc, ◌+◌, ◌<◌, ◌≤◌, ◌==◌, Bool, true, false, not, ◌||◌, List, [], ◌∷◌, ◌++◌, length, map, take, drop, set, get_or, refl, ap, sym, ◌∙◌, arith}
-use Rattle.std.specs.List.{AllByRecursion}
+use Rattle.std.proofs.Common.{◌≡◌, ℕ, zero, suc, ◌+◌, ◌<◌, ◌==◌, Bool, true, false, not, ◌||◌, List, [], ◌∷◌, ◌++◌, length, map, take, drop, set, get_or, refl, ap, sym, ◌∙◌, arith}
 use Rattle.std.proofs.lemmas.Bool.Decides.{nat_tests}
 use Rattle.std.proofs.Math.Seq.{take-append_seam}
 use Rattle.qp_model.specs.declared.systems.System.{System}
@@ -87,14 +86,3 @@ mapped-twice f g (x ∷ xs) = ap (λ zs. g (f x) ∷ zs) (mapped-twice f g xs)
 -- a slice of a whole vector, written over by as many
 pub written-whole : {X : Type 0} (n : ℕ) (old new : List X) → n ≡ length old → length new ≡ length old → take n (new ++ drop (length new) old) ≡ new
 written-whole n old new is same = let e : n ≡ length new = omega arith in rw e (take-append_seam new (drop (length new) old))
-
-pub take-whole : {X : Type 0} (xs : List X) (i : ℕ) → length xs ≤ i → take i xs ≡ xs
-take-whole [] zero le = refl
-take-whole [] (suc i) le = refl
-take-whole (x ∷ xs) zero le = absurd (omega arith)
-take-whole (x ∷ xs) (suc i) le = ap (λ ys. x ∷ ys) (take-whole xs i (omega arith))
-
-pub all-at : {X : Type 0} (P : X → Type 0) (xs : List X) (i : ℕ) (x : X) → AllByRecursion P xs → i < length xs → x ≡ get_or xs i x → P x
-all-at P [] i x all lt is = absurd (omega arith)
-all-at P (y ∷ ys) zero x all lt is = rw is all.0
-all-at P (y ∷ ys) (suc i) x all lt is = all-at P ys i x all.1 (omega arith) is

@@ -40,9 +40,6 @@ pub is_of-is : (q : Option ℕ) (n : ℕ) → is_of q n ≡ true → q ≡ Some 
 is_of-is None n h = absurd (cc)
 is_of-is (Some m) n h = let same : m ≡ n = grind (arith, nat_tests) in cc
 
-pub is_of-some : (n : ℕ) → is_of (Some n) n ≡ true
-is_of-some n = same_number n
-
 module _ (sys : System) (o : ℕ) (now : Option Entry) (kept : List Entry) (a : Answer) (k : List Entry) where
   -- stages that read the same first records read the same
   pub at-same : (s r : CallStage) → ((body : Body) (known : Known) → stage_next sys o now kept s body known ≡ stage_next sys o now kept r body known)

@@ -9,7 +9,7 @@ use Rattle.qp_model.specs.Calls.{Answer}
 use Rattle.qp_check_calls.specs.CallState.{CallStage, Whole, CallState}
 use Rattle.qp_check_calls.specs.CallStateNext.{stage_next, list_after, call_state_next}
 use Rattle.qp_check_calls.specs.Reads.{Reads}
-use Rattle.qp_check_calls.specs.CallStateLaws.{ReadsNext, ReadsEnd, ReadsWhole, ReadsOnce}
+use Rattle.qp_check_calls.specs.CallStateLaws.{ReadsNext, ReadsEnd, ReadsWhole}
 
 pub reads-end : ReadsEnd
 unfolding Reads
@@ -75,14 +75,3 @@ module _ (sys : System) (o : ℕ) (now : Option Entry) where
 
 pub reads-whole : ReadsWhole
 reads-whole sys o now own answer had kept g h = (at-whole sys o now had own answer kept g).0 h
-
-pub reads-once : ReadsOnce
-reads-once sys o now rest a b kept new [] h k =
-    let one = at-ended sys o now rest.kept rest.stage a kept h in
-    let two = at-ended sys o now rest.kept rest.stage b new k in
-    (cc, cc)
-reads-once sys o now rest a b kept new (t ∷ g) h k =
-    let one = (reads-next sys o now rest a kept t g).0 h in
-    let two = (reads-next sys o now rest b new t g).0 k in
-    let same : two.0 ≡ one.0 = cc in
-    reads-once sys o now one.0 a b kept new g one.2 (subst (λ x. Reads sys o now x b new g) same two.2)

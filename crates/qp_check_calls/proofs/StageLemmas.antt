@@ -7,6 +7,3 @@ use Rattle.qp_check_calls.specs.CallStateNext.{only}
 pub only-passed : (passed : Bool) (s next : CallStage) → only passed s ≡ Some next → (passed ≡ true) × (s ≡ next)
 only-passed true s next h = (refl, cc)
 only-passed false s next h = absurd (cc)
-
-pub only-true : (passed : Bool) (s : CallStage) → passed ≡ true → only passed s ≡ Some s
-only-true passed s h = rw h refl

@@ -1,7 +1,7 @@
 -- Notes and other single records, and what is read of them.
 use Rattle.std.proofs.Common.{◌≡◌, ℕ, ◌+◌, ◌==◌, max, Bool, true, false, ◌&&◌, refl, ◌∙◌, ap, subst, Some}
 use Rattle.std.proofs.lemmas.Bool.{and_from, eqb-true, and_parts, false≢true}
-use Rattle.std.proofs.lemmas.Option.{none-some}
+use Rattle.std.proofs.lemmas.Option.{none-some, same_Some}
 use Rattle.qp_model.specs.declared.bodies.Entry.{Entry}
 use Rattle.qp_model.specs.declared.bodies.Body.{Body}
 use Rattle.qp_model.specs.declared.bodies.Body.TheVariants as item
@@ -95,12 +95,9 @@ pub taken-is : (e : Entry) (ev : Event) (body : Body) (known : Known) → taken_
     → (f l m : ℕ) × (record_of body known ≡ taken f l m e ev)
 unfolding taken_by
 taken-is e ev (item.Took f l m d) (told.OfEvent w) h =
-    let entry : d ≡ e = ap (λ (x : Entry × Event). x.0) (first_some h) in
-    let event : w ≡ ev = ap (λ (x : Entry × Event). x.1) (first_some h) in
+    let entry : d ≡ e = ap (λ (x : Entry × Event). x.0) (same_Some _ _ h) in
+    let event : w ≡ ev = ap (λ (x : Entry × Event). x.1) (same_Some _ _ h) in
     (f, l, m, subst (λ x. record_of (item.Took f l m d) (told.OfEvent w) ≡ taken f l m x ev) entry (ap (λ x. taken f l m d x) event))
-  where
-    first_some : {X : Type 0} {x y : X} → Some x ≡ Some y → x ≡ y
-    first_some e = cc
 taken-is e ev body known h = absurd (none-some _ h)
 
 pub dropped-is : (e : Entry) (x : ℕ × ℕ) (body : Body) (known : Known) → dropped_by e body known ≡ Some x

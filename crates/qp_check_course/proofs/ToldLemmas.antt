@@ -181,9 +181,6 @@ module _ (begin : ReadsBegin) (whole : ReadsWhole) (reads_next : ReadsNext) (fir
   tail-stops (Tell t ∷ us) back s e ready h at = absurd (cc)
 
   module _ (c : Config) (within : length c.kept ≤ a.room) where
-    start : State
-    start = start_state a c
-
     -- the states read it
     pub fronts-told : (cut : Cut) (g : List Told) (ps : List Piece) → bare ps ≡ g
         → Fronts begin whole reads_next first open_next open_reads sys a able c within cut ps

@@ -1,7 +1,7 @@
 -- Counts of references under an operation, and references that are compared with others.
-use Rattle.std.proofs.Common.{◌≡◌, ℕ, zero, suc, ◌+◌, ◌-◌, ◌≤◌, ◌<◌, ◌==◌, nat_lt, Bool, true, false, ◌&&◌, ◌||◌, cond, List, [], ◌∷◌, length, get_or, set, refl, ap, sym, ◌∙◌, arith}
+use Rattle.std.proofs.Common.{◌≡◌, ℕ, zero, suc, ◌-◌, ◌≤◌, ◌<◌, ◌==◌, nat_lt, Bool, true, false, ◌&&◌, ◌||◌, cond, List, [], ◌∷◌, length, get_or, set, refl, ap, sym, ◌∙◌, arith}
 use Rattle.std.specs.List.{list_all}
-use Rattle.std.proofs.lemmas.Bool.{and_from, or_right, lt-ltb}
+use Rattle.std.proofs.lemmas.Bool.{and_from, and_right, lt-ltb, or_right}
 use Rattle.std.proofs.lemmas.Bool.Decides.{nat_tests}
 use Rattle.qp_chart.specs.StateTree.{has}
 use Rattle.qp_model.specs.End.{same_numbers}
@@ -39,9 +39,6 @@ without-absent k (x ∷ xs) h = go (x == k) h (without-absent k xs)
     go true h later = cc
     go false h later = ap (λ ys. x ∷ ys) (later h)
 
-pub counted-none : (counts : List ℕ) → ((k : ℕ) → get_or counts k 0 ≡ 0) → Counted [] counts 0
-counted-none counts h = record { total = refl; each = λ k. sym (h k) }
-
 above-none : (n : ℕ) → nat_lt 0 n ≡ true → 0 < n
 above-none n h = grind (arith, nat_tests)
 
@@ -54,21 +51,6 @@ module _ (names counts : List ℕ) (many : ℕ) (h : Counted names counts many) 
 
   pub count-le : (k : ℕ) → get_or counts k 0 ≤ many
   count-le k = omega (arith, places-within_length k names, h.each k, h.total)
-
-  pub counted-add : (k : ℕ) → k < length counts → (v : ℕ) → v ≡ get_or counts k 0 + 1 → Counted (k ∷ names) (set counts k v) (many + 1)
-  counted-add k lt v is = record { total = omega (arith, h.total); each = λ j. each j (k == j) refl }
-    where
-      each : (j : ℕ) → (b : Bool) → (k == j) ≡ b → cond (k == j) (suc (places j names)) (places j names) ≡ get_or (set counts k v) j 0
-      each j true e =
-          let same : (j == k) ≡ true = grind (arith, nat_tests) in
-          let at : j ≡ k = grind (arith, nat_tests) in
-          let was : places j names ≡ get_or counts j 0 = h.each j in
-          let here : get_or counts j 0 ≡ get_or counts k 0 = ap (λ i. get_or counts i 0) at in
-          let more : suc (places j names) ≡ v = omega arith in
-          rw (e, get-set counts k j v lt, same) more
-      each j false e =
-          let other : (j == k) ≡ false = grind (arith, nat_tests) in
-          rw (e, get-set counts k j v lt, other) (h.each j)
 
   pub counted-remove : (k : ℕ) → 0 < get_or counts k 0 → (v m : ℕ) → v ≡ get_or counts k 0 - 1 → m ≡ many - 1 → Counted (without_one k names) (set counts k v) m
   counted-remove k some v m is less = record { total = omega (arith, h.total, less, length-without k names held); each = λ j. each j (j == k) refl }
@@ -95,13 +77,6 @@ module _ (names counts : List ℕ) (many : ℕ) (h : Counted names counts many) 
   all-counted : (others : List ℕ) → list_all (λ k. nat_lt 0 (get_or counts k 0)) others ≡ list_all (λ k. has names k) others
   all-counted [] = refl
   all-counted (x ∷ xs) = rw (has-counted x, all-counted xs) refl
-
-  pub same-not-long : (others : List ℕ) → (many ≡ length others → ⊥) → false ≡ same_numbers names others
-  same-not-long others ne =
-      let total : many ≡ length names = h.total in
-      let apart : length names ≡ length others → ⊥ = λ e. ne (total ∙ e) in
-      let no : (length names == length others) ≡ false = grind (arith, nat_tests) in
-      rw no refl
 
   pub same-not-all : (others : List ℕ) → list_all (λ k. nat_lt 0 (get_or counts k 0)) others ≡ false → false ≡ same_numbers names others
   same-not-all others fails = rw (sym (all-counted others) ∙ fails) (sym (go ((length names == length others) && list_all (λ x. has others x) names)))
@@ -134,11 +109,7 @@ not-all-of p (x ∷ xs) k held fails = go (x == k) refl held (not-all-of p xs k)
   where
     go : (b : Bool) → (x == k) ≡ b → (b || has xs k) ≡ true → (has xs k ≡ true → p k ≡ false → list_all p xs ≡ false) → (p x && list_all p xs) ≡ false
     go true e held later = let at : x ≡ k = grind (arith, nat_tests) in rw (at, fails) refl
-    go false e held later = and-false (p x) (later held fails)
-      where
-        and-false : (a : Bool) {b : Bool} → b ≡ false → (a && b) ≡ false
-        and-false true h = h
-        and-false false h = refl
+    go false e held later = and_right (p x) _ (later held fails)
 
 -- each reference that stands is one of the others, which are marked
 module _ (names counts : List ℕ) (many : ℕ) (h : Counted names counts many) (marks : List Bool) (others : List ℕ) (marked : (k : ℕ) → k < length counts → get_or marks k false ≡ has others k) where

@@ -1,10 +1,10 @@
 -- The stimuli that stand in a look, found one after another.
-use Rattle.std.proofs.Common.{◌≡◌, ◌∙◌, ℕ, ◌+◌, ◌<◌, ◌==◌, ◌&&◌, List, [], ◌∷◌, ◌++◌, map, length, take, get_or, Some, None, ap, sym, refl, append-nil}
+use Rattle.std.proofs.Common.{◌≡◌, ◌∙◌, ℕ, ◌+◌, ◌<◌, List, [], ◌∷◌, ◌++◌, map, length, take, get_or, Some, None, ap, sym, refl, append-nil}
 use Rattle.std.specs.declared.option.Option.{Option}
 use Rattle.std.specs.Option.{option_map}
 use Rattle.std.specs.List.{filter_map}
 use Rattle.std.proofs.lemmas.List.Elements.{filter_map-append}
-use Rattle.qp_model.specs.OneOrder.{Placed, stim_of, is_turn}
+use Rattle.qp_model.specs.OneOrder.{Placed, stim_of}
 use Rattle.qp_model.specs.OneOrder as order
 use Rattle.qp_check_kernel.specs.declared.stimulus_index.Placed as code
 use Rattle.qp_check_kernel.specs.declared.source_turn.Turn.{Turn}
@@ -12,7 +12,7 @@ use Rattle.qp_check_kernel.specs.declared.order_turns.InLook.{InLook}
 use Rattle.qp_check_kernel.specs.declared.order_turns.InLook.TheVariants.{Nothing, Once, Often}
 use Rattle.qp_check_kernel.specs.AsPlaced.{as_placed}
 use Rattle.qp_check_kernel.specs.Turns.{as_turn}
-use Rattle.qp_check_kernel.specs.OrderTurns.{turn_in, turns_in, turns_on, is_right, found_of, as_found}
+use Rattle.qp_check_kernel.specs.OrderTurns.{turn_in, turns_in, turns_on, found_of, as_found}
 use Rattle.qp_check_lanes.proofs.ItemLemmas.{map-up_to}
 
 found_of-more : (ts : List order.Turn) (t : order.Turn) (found : InLook) (s : Turn) → as_turn s ≡ t → as_found found ≡ found_of ts → as_found (turns_on found (Some s)) ≡ found_of (ts ++ t ∷ [])
@@ -25,25 +25,6 @@ found_of-more (a ∷ []) t Often s e h = cc
 found_of-more (a ∷ b ∷ ts) t Nothing s e h = cc
 found_of-more (a ∷ b ∷ ts) t (Once _) s e h = cc
 found_of-more (a ∷ b ∷ ts) t Often s e h = refl
-
--- what was found answers whether just this stimulus stands there
-pub right-is : (t : Option order.Turn) (found : InLook) (ts : List order.Turn) → as_found found ≡ found_of ts → is_right t found ≡ is_turn t ts
-right-is None Nothing [] h = refl
-right-is None Nothing (a ∷ []) h = cc
-right-is None Nothing (a ∷ b ∷ ts) h = cc
-right-is None (Once s) [] h = cc
-right-is None (Once s) (a ∷ ts) h = refl
-right-is None Often [] h = cc
-right-is None Often (a ∷ ts) h = refl
-right-is (Some t) Nothing [] h = refl
-right-is (Some t) Nothing (a ∷ []) h = cc
-right-is (Some t) Nothing (a ∷ b ∷ ts) h = cc
-right-is (Some t) (Once s) [] h = cc
-right-is (Some t) (Once s) (a ∷ []) h = let e : as_turn s ≡ a = cc in ap (λ (x : order.Turn). (x.source == t.source) && (x.place == t.place)) e
-right-is (Some t) (Once s) (a ∷ b ∷ ts) h = cc
-right-is (Some t) Often [] h = cc
-right-is (Some t) Often (a ∷ []) h = cc
-right-is (Some t) Often (a ∷ b ∷ ts) h = refl
 
 module _ (part : List code.Placed) (i : ℕ) (x : code.Placed) (inside : i < length part) (is : x ≡ get_or part i x) where
   pub found-more : (found new : InLook) (turn : Option Turn) → new ≡ turns_on found turn → option_map as_turn turn ≡ turn_in (as_placed x)

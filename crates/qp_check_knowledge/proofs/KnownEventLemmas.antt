@@ -5,7 +5,7 @@ use Rattle.std.specs.List.{filter, AllWithin}
 use Rattle.std.specs.List.Sorted.{IsNonDecreasingBy}
 use Rattle.std.proofs.Math.ListN.{get_or-map}
 use Rattle.std.proofs.Math.Seq.{get_or-append_seam}
-use Rattle.std.proofs.lemmas.List.{get_or-take, get_or_append_left, length-map, length-take-le}
+use Rattle.std.proofs.lemmas.List.{get_or-take, get_or_append_left, get_or_default, length-map, length-take-le}
 use Rattle.std.proofs.lemmas.Bool.Decides.{nat_tests}
 use Rattle.qp_model.specs.declared.bodies.Body.{Body}
 use Rattle.qp_model.specs.declared.bodies.Body.TheVariants.{New, Back}
@@ -103,11 +103,6 @@ rise-put xs k i le rise below a c d before lt =
         let a_from : k ≤ a = grind (arith, nat_tests) in
         rw (last long a (omega arith), last long c (omega arith)) (omega arith)
 
-any-default : {X : Type 0} (xs : List X) (j : ℕ) (d e : X) → j < length xs → get_or xs j d ≡ get_or xs j e
-any-default [] j d e lt = absurd (omega arith)
-any-default (x ∷ xs) zero d e lt = refl
-any-default (x ∷ xs) (suc j) d e lt = any-default xs j d e (omega arith)
-
 -- a number is at most, or below, another where a greater one is
 pub up-to : (name m n : ℕ) → m ≤ n → nat_le n name ≡ true → nat_le m name ≡ true
 up-to name m n le h = grind (arith, nat_tests)
@@ -133,7 +128,7 @@ module _ {X : Type 0} (f : X → Item) (xs : List X) (items : List Item) (view :
   -- a test of all elements between two places
   pub items-passed : (p : ℕ → Bool) (t : Bool) (m n : ℕ) → n ≤ length xs → AllWithin (λ x. p (from_of (f x).body) ≡ t) xs m n → X
       → (j : ℕ) (d : Item) → m ≤ j → j < n → p (from_of (get_or items j d).body) ≡ t
-  items-passed p t m n le all x j d ge lt = ap (λ i. p (from_of i.body)) (any-default items j d (f x) (omega (arith, long-items)) ∙ sym (at-item j x)) ∙ all j x ge lt
+  items-passed p t m n le all x j d ge lt = ap (λ i. p (from_of i.body)) (get_or_default items j d (f x) (omega (arith, long-items)) ∙ sym (at-item j x)) ∙ all j x ge lt
 
   module _ (r : ℕ) where
     pub event-none : AllWithin (λ x. nat_le (from_of (f x).body) r ≡ false) xs 0 (length xs) → last_from r None items ≡ None

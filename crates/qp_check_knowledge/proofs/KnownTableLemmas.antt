@@ -1,7 +1,7 @@
 -- Tables of what a word held, made in a walk over its history and read by number.
 use Rattle.std.proofs.Common.{◌≡◌, ℕ, zero, suc, ◌+◌, ◌-◌, ◌<◌, ◌≤◌, ◌==◌, min, nat_lt, Bool, true, false, cond, List, [], ◌∷◌, ◌++◌, length, take, refl, ap, sym, ◌∙◌, append_assoc, arith}
 use Rattle.std.proofs.lemmas.Bool.Decides.{nat_tests}
-use Rattle.qp_model.specs.declared.bodies.Body.TheVariants.{Inc, Dec}
+use Rattle.qp_model.specs.declared.bodies.Body.TheVariants.{Dec}
 use Rattle.qp_model.specs.Record.{Item}
 use Rattle.qp_model.specs.Lists.{without_one}
 use Rattle.qp_model.specs.Machine.{Machine, after_from}
@@ -105,16 +105,6 @@ length-dropped k (x ∷ xs) = go (x == k) (length-dropped k xs) (places-within x
 module _ (s : Refs) (counts new : Counts) (total : ℕ) (h : IsCounted s counts total) where
   pub counted-each : (q : ℕ) → count_in counts q ≤ total
   counted-each q = omega (arith, h.each q, h.all, places-within_length q s.names)
-
-  pub counted-inc : (p b r : ℕ) → ((q : ℕ) → count_in new q ≡ count_in counts q + cond (r == q) 1 0) → IsCounted (refs_next s (Inc p b r)) new (total + 1)
-  counted-inc p b r added = record {
-    each = λ k. added k ∙ ap (λ n. n + cond (r == k) 1 0) (h.each k) ∙ go (r == k) (places k s.names);
-    all = omega (arith, h.all);
-  }
-    where
-      go : (b : Bool) (n : ℕ) → n + cond b 1 0 ≡ cond b (suc n) n
-      go true n = omega arith
-      go false n = omega arith
 
   counted_dec : (p b d k left : ℕ) → ((q : ℕ) → count_in new q ≡ count_in counts q - cond (k == q) 1 0)
       → left ≡ total - cond (nat_lt 0 (places k s.names)) 1 0 → IsCounted (refs_next s (Dec p b d k)) new left

@@ -1,5 +1,5 @@
 -- The records of an object as told, found in a walk over its lane.
-use Rattle.std.proofs.Common.{◌≡◌, ◌∙◌, ℕ, ◌+◌, ◌<◌, ◌≤◌, ◌==◌, Bool, true, false, not, ◌&&◌, ◌||◌, cond, List, [], ◌∷◌, ◌++◌, length, drop, get_or, ap, sym, refl, append_assoc, append-nil}
+use Rattle.std.proofs.Common.{◌≡◌, ◌∙◌, ℕ, ◌+◌, ◌<◌, ◌≤◌, ◌==◌, Bool, true, false, not, ◌&&◌, cond, List, [], ◌∷◌, ◌++◌, length, drop, get_or, ap, sym, refl, append_assoc, append-nil}
 use Rattle.std.specs.List.{filter}
 use Rattle.std.proofs.lemmas.List.{at_drop_all}
 use Rattle.qp_model.specs.declared.record.Rec.{Rec}
@@ -12,7 +12,6 @@ use Rattle.qp_model.specs.Ends.{is_spill}
 use Rattle.qp_model.specs.Knowing.{Facts, ceiling_after, records_of, told}
 use Rattle.qp_model.specs.Home.{is_look_at, own_items}
 use Rattle.qp_model.specs.Sources.{source_records}
-use Rattle.qp_model.proofs.LineLemmas.{same_number}
 use Rattle.qp_check_knowledge.specs.Looks.{counted}
 use Rattle.qp_check_lanes.proofs.ItemLemmas.{items-from, items-none}
 
@@ -34,21 +33,6 @@ counted-body true o i = by ((i.of == 0) && is_look_at o i.body)
     by : (b : Bool) → (cond b (record { of = o; body = i.body }) i).body ≡ i.body
     by true = refl
     by false = refl
-
--- it is one of o, or a look that counts
-pub counted-of : (looks : Bool) (o : ℕ) (i : Item) → ((counted looks o i).of == o) ≡ ((i.of == o) || ((looks && (i.of == 0)) && is_look_at o i.body))
-counted-of false o i = or-none (i.of == o)
-  where
-    or-none : (b : Bool) → b ≡ (b || false)
-    or-none true = refl
-    or-none false = refl
-counted-of true o i = by ((i.of == 0) && is_look_at o i.body) (i.of == o) refl
-  where
-    by : (b c : Bool) → (i.of == o) ≡ c → ((cond b (record { of = o; body = i.body }) i).of == o) ≡ (c || b)
-    by true true e = same_number o
-    by true false e = same_number o
-    by false true e = e
-    by false false e = e
 
 -- all records of o alone
 pub own-plain : (o : ℕ) (is : List Item) → own_items false o is ≡ is

@@ -92,14 +92,3 @@ length_from key k (suc n) xs = ap suc (length_from key (suc k) n xs)
 pub length-grouped : (key : Item → Option ℕ) (size : ℕ) (xs : List Item) → length (grouped key size xs) ≡ size
 unfolding grouped
 length-grouped key size xs = length_from key 0 size xs
-
-get_from : (key : Item → Option ℕ) (k n j : ℕ) (xs : List Item) (d : List Item) → j < n → get_or (grouped_from key k n xs) j d ≡ of_key key (k + j) xs
-unfolding grouped_from
-get_from key k zero j xs d lt = absurd (omega arith)
-get_from key k (suc n) zero xs d lt = let e : k ≡ k + zero = omega arith in ap (λ m. of_key key m xs) e
-get_from key k (suc n) (suc j) xs d lt = let e : suc k + j ≡ k + suc j = omega arith in get_from key (suc k) n j xs d (omega arith) ∙ ap (λ m. of_key key m xs) e
-
--- a group by its key
-pub get-grouped : (key : Item → Option ℕ) (size j : ℕ) (xs : List Item) (d : List Item) → j < size → get_or (grouped key size xs) j d ≡ of_key key j xs
-unfolding grouped
-get-grouped key size j xs d lt = let e : 0 + j ≡ j = omega arith in get_from key 0 size j xs d lt ∙ ap (λ m. of_key key m xs) e

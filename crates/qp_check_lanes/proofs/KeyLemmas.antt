@@ -2,14 +2,10 @@
 use Rattle.std.proofs.Common.{◌≡◌, ◌∙◌, ℕ, ◌==◌, Bool, true, false, ◌&&◌, cond, List, [], ◌∷◌, ◌++◌, ap, sym, refl, arith, append-nil, Option, Some}
 use Rattle.std.specs.Option.{unwrap_or}
 use Rattle.std.proofs.lemmas.Bool.Decides.{nat_tests}
-use Rattle.std.proofs.Math.Bool.{and-true}
 use Rattle.std.specs.Cmp.{tied_then, unsigned_tied}
 use Rattle.std.specs.Ordering.{is_eq, nat_cmp, ordering_then}
-use Rattle.qp_model.specs.declared.words.Word.{Word}
-use Rattle.qp_model.specs.declared.words.Word.TheVariants as word
-use Rattle.qp_model.specs.History.{same_word}
 use Rattle.qp_model.specs.Record.{Item}
-use Rattle.qp_check_lanes.specs.Keys.{key_cmp, key_of, same_key}
+use Rattle.qp_check_lanes.specs.Keys.{key_cmp, same_key}
 
 pub same-cmp : (x y : ℕ × ℕ × ℕ) → is_eq (key_cmp x y) ≡ same_key x y
 same-cmp x y =
@@ -29,14 +25,6 @@ key-is x y h =
     let second : x.1 ≡ y.1 = grind (arith, nat_tests) in
     let third : x.2 ≡ y.2 = grind (arith, nat_tests) in
     λ i. (first i, second i, third i)
-
-pub same-word : (v w : Word) → same_key (key_of v) (key_of w) ≡ same_word v w
-same-word (word.Pool p) (word.Pool q) = and-true (p == q)
-same-word (word.Block p b) (word.Block q c) = refl
-same-word (word.Queue a) (word.Queue c) = and-true (a == c)
-same-word (word.Signal s) (word.Signal t) = and-true (s == t)
-same-word (word.Timer t) (word.Timer u) = and-true (t == u)
-same-word _ _ = refl
 
 -- a record put into the row of one number
 pub row-put : (n b : ℕ) (row before : List Item) (i : Item) → row ≡ before → cond (same_key (n, 0, 0) (b, 0, 0)) (row ++ i ∷ []) row ≡ before ++ cond (n == b) (i ∷ []) []

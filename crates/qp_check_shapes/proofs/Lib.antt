@@ -7,7 +7,6 @@ pub mod ShapeSoundLemmas
 pub mod ShapeUnitLemmas
 pub mod ShapeAssertionLemmas
 pub mod ShapeAssertedLemmas
-pub mod ShapeSameLemmas
 pub mod ShapeStageLemmas
 pub mod ShapeRunLemmas
 pub mod ShapePublishLemmas

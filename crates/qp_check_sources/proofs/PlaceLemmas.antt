@@ -36,9 +36,6 @@ objects-at ds i none h =
     let number : ObjectDef → ℕ = λ d. d.priority in
     drop-map number i ds ∙ ap (map number) (drop_more ds i none h) ∙ ap (λ xs. (get_or ds i none).priority ∷ xs) (sym (drop-map number (i + 1) ds))
 
-pub objects-past : (ds : List ObjectDef) (i : ℕ) → length ds ≤ i → drop i (map (λ (d : ObjectDef). d.priority) ds) ≡ []
-objects-past ds i h = let number : ObjectDef → ℕ = λ d. d.priority in drop-map number i ds ∙ ap (map number) (drop_all i ds h)
-
 pub objects-is : (ds : List ObjectDef) (i : ℕ) (d none : ObjectDef) → true ≡ nat_lt i (length ds) → d ≡ get_or ds i none
     → drop i (map (λ (d : ObjectDef). d.priority) ds) ≡ d.priority ∷ drop (i + 1) (map (λ (d : ObjectDef). d.priority) ds)
 objects-is ds i d none inside is =

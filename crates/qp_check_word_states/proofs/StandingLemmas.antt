@@ -3,7 +3,7 @@ use Rattle.std.proofs.Common.{◌≡◌, ℕ, zero, suc, ◌+◌, ◌-◌, ◌�
 use Rattle.std.proofs.lemmas.Bool.{and_parts}
 use Rattle.std.proofs.lemmas.Bool.Decides.{nat_tests}
 use Rattle.qp_chart.specs.StateTree.{has}
-use Rattle.qp_model.specs.declared.bodies.Body.TheVariants.{Inc, Dec}
+use Rattle.qp_model.specs.declared.bodies.Body.TheVariants.{Dec}
 use Rattle.qp_model.specs.Lists.{without_one}
 use Rattle.qp_model.specs.References.{Refs, refs_may, refs_next}
 use Rattle.qp_model.specs.Lives.{is_empty}
@@ -80,25 +80,6 @@ get_or-cleared (x ∷ xs) (suc k) (suc j) = get_or-cleared xs k j ∙ ap (λ t. 
     same m n = grind (arith, nat_tests)
 
 module _ (s : Refs) (flags : List Bool) (standing : ℕ) (h : Stands s flags standing) where
-  pub stands-inc : (p b r : ℕ) → refs_may s (Inc p b r) ≡ true → Stands (refs_next s (Inc p b r)) (flags ++ true ∷ []) (standing + 1)
-  stands-inc p b r may =
-      let at : r ≡ length flags = let e : r ≡ s.count = grind (arith, nat_tests) in e ∙ h.counted in
-      record {
-        counted = omega (arith, h.counted, length-append flags (true ∷ []));
-        total = omega (arith, h.total);
-        each = λ k. each r at k (r == k) refl;
-      }
-    where
-      each : (r : ℕ) → r ≡ length flags → (k : ℕ) → (same : Bool) → (r == k) ≡ same → cond (r == k) (suc (places k s.names)) (places k s.names) ≡ cond (get_or (flags ++ true ∷ []) k false) 1 0
-      each r at k true e =
-          let here : (k == length flags) ≡ true = grind (arith, nat_tests) in
-          let le : length flags ≤ k = grind (arith, nat_tests) in
-          let none : places k s.names ≡ 0 = h.each k ∙ ap (λ b. cond b 1 0) (get_or-beyond flags k le) in
-          rw (e, none, get_or-last flags true k, here) refl
-      each r at k false e =
-          let elsewhere : (k == length flags) ≡ false = grind (arith, nat_tests) in
-          rw (e, get_or-last flags true k, elsewhere) (h.each k)
-
   pub stands-dec : (p b d k : ℕ) → refs_may s (Dec p b d k) ≡ true → Stands (refs_next s (Dec p b d k)) (set flags k false ++ false ∷ []) (standing - 1)
   stands-dec p b d k may =
       let held : has s.names k ≡ true = (and_parts (d == s.count) (has s.names k) may).1 in

@@ -1,10 +1,10 @@
 -- The first that fails, walked over words and over definitions.
-use Rattle.std.proofs.Common.{◌≡◌, ℕ, zero, suc, ◌+◌, ◌-◌, ◌*◌, ◌<◌, ◌≤◌, nat_lt, nat_le, Bool, true, false, not, ◌&&◌, cond, List, [], ◌∷◌, ◌++◌, length, map, drop, get_or, refl, ap, sym, ◌∙◌, Some, None, arith}
+use Rattle.std.proofs.Common.{◌≡◌, ◌+◌, ◌-◌, ◌*◌, ◌≤◌, nat_lt, nat_le, Bool, true, false, not, ◌&&◌, cond, List, [], ◌∷◌, ◌++◌, map, drop, refl, ap, sym, ◌∙◌, Some, None}
 use Rattle.std.specs.declared.option.Option.{Option}
-use Rattle.std.specs.List.{filter, flat_map, list_all, AllByRecursion}
+use Rattle.std.specs.List.{filter, flat_map, AllByRecursion}
 use Rattle.std.specs.Prelude.{slice_get}
 use Rattle.std.specs.Option.{option_map_or}
-use Rattle.std.proofs.lemmas.Bool.{and_from, and_parts}
+use Rattle.std.proofs.lemmas.Bool.{and_from}
 use Rattle.qp_model.specs.declared.systems.PoolDef.{PoolDef}
 use Rattle.std.proofs.lemmas.Bool.Decides.{nat_tests}
 use Rattle.std.proofs.lemmas.List.Folds.{list_all-append}
@@ -100,12 +100,6 @@ module _ (sys : System) (lanes : List (List Rec)) where
       (λ _. broken-behind (tries_at (rule_holds sys lanes) rule.FreeBlocks ws) _ _
       (λ _. broken-behind (tries_at (rule_holds sys lanes) rule.References ws) _ _
       (λ none. ap (λ ts. first_broken (ts ++ tries_by (rule_holds sys lanes) (rule.Line ∷ rule.ShownNumbers ∷ rule.Subscribers ∷ rule.TimeEvents ∷ []) ws)) (same-lives ws none))))
-
--- an element of a list that passes a test
-pub list_all-at : {X : Type 0} (p : X → Bool) (xs : List X) (i : ℕ) (x : X) → list_all p xs ≡ true → i < length xs → x ≡ get_or xs i x → p x ≡ true
-list_all-at p [] i x all lt is = absurd (omega arith)
-list_all-at p (y ∷ ys) zero x all lt is = ap p is ∙ (and_parts _ _ all).0
-list_all-at p (y ∷ ys) (suc i) x all lt is = list_all-at p ys i x (and_parts _ _ all).1 (omega arith) is
 
 pub broken-all : (sys : System) (lanes : List (List Rec)) (ws : List Word) (b : Option Broken) → ws ≡ words_of sys
     → b ≡ first_broken (tries_by (rule_test sys lanes) word_rules ws) → b ≡ first_broken (word_tries sys lanes)

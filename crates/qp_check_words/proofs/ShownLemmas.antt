@@ -28,10 +28,6 @@ list_all-and p q (x ∷ xs) = swap (p x) (list_all p xs) (q x) (list_all q xs) �
     swap true false false d = refl
     swap false b c d = refl
 
-pub list_all-same : (p q : Item → Bool) → ((i : Item) → p i ≡ q i) → (xs : List Item) → list_all p xs ≡ list_all q xs
-list_all-same p q same [] = refl
-list_all-same p q same (x ∷ xs) = rw (same x, list_all-same p q same xs) refl
-
 list_all-key : (k : ℕ) (says : Item → Bool) (xs : List Item) → list_all says (filter (λ i. has_key k (shown_key i)) xs) ≡ list_all (λ i. not (has_key k (shown_key i)) || says i) xs
 list_all-key k says xs =
     list_all_within (λ i. not (has_key k (shown_key i)) || says i) (λ i. has_key k (shown_key i)) says (λ i h. rw h refl) (λ i h. rw h refl) xs

@@ -2,7 +2,7 @@
 use Rattle.std.proofs.Common.{◌≡◌, ℕ, zero, suc, ◌+◌, ◌<◌, ◌≤◌, ◌==◌, nat_lt, nat_le, Bool, true, false, ◌&&◌, cond, List, [], ◌∷◌, ◌++◌, length, map, refl, ap, sym, ◌∙◌, subst, Some, arith}
 use Rattle.std.specs.Prelude.{is_some}
 use Rattle.std.specs.List.{filter, flat_map, find, list_all, AllByRecursion}
-use Rattle.std.proofs.lemmas.Bool.{and_from, and_parts}
+use Rattle.std.proofs.lemmas.Bool.{and_from, and_parts, le-leb, leb-true, lt-ltb}
 use Rattle.std.proofs.lemmas.Bool.Decides.{nat_tests}
 use Rattle.std.proofs.lemmas.List.Folds.{list_all-append}
 use Rattle.qp_model.specs.declared.systems.System.{System}
@@ -92,21 +92,18 @@ module _ (sys : System) (p : Word → Bool) where
   above-zero : (n : ℕ) → nat_lt 0 n ≡ true → 1 ≤ n
   above-zero n h = grind (arith, nat_tests)
 
-  at-most : (m n : ℕ) → nat_le m n ≡ true → m ≤ n
-  at-most m n h = grind (arith, nat_tests)
-
   below-zero : (m n : ℕ) → nat_lt m n ≡ true → m < 0 + n
   below-zero m n h = grind (arith, nat_tests)
 
   pool-range : (q : ℕ) → is_pool sys q ≡ true → (1 ≤ q) × (q < 1 + length sys.pools)
-  pool-range q is = (above-zero q (and_parts (nat_lt 0 q) (nat_le q (length sys.pools)) is).0, omega (arith, at-most q (length sys.pools) (and_parts (nat_lt 0 q) (nat_le q (length sys.pools)) is).1))
+  pool-range q is = (above-zero q (and_parts (nat_lt 0 q) (nat_le q (length sys.pools)) is).0, omega (arith, leb-true q (length sys.pools) (and_parts (nat_lt 0 q) (nat_le q (length sys.pools)) is).1))
 
   signal-range : (s : ℕ) → is_signal sys s ≡ true → (4 ≤ s) × (s < 4 + length sys.signals)
   signal-range s is =
-      (at-most 4 s (and_parts (nat_le 4 s) (nat_lt s (length sys.signals + 4)) is).0, omega (arith, below-zero s (length sys.signals + 4) (and_parts (nat_le 4 s) (nat_lt s (length sys.signals + 4)) is).1))
+      (leb-true 4 s (and_parts (nat_le 4 s) (nat_lt s (length sys.signals + 4)) is).0, omega (arith, below-zero s (length sys.signals + 4) (and_parts (nat_le 4 s) (nat_lt s (length sys.signals + 4)) is).1))
 
   timer-range : (t : ℕ) → is_timer sys t ≡ true → (1 ≤ t) × (t < 1 + length sys.timers)
-  timer-range t is = (above-zero t (and_parts (nat_lt 0 t) (nat_le t (length sys.timers)) is).0, omega (arith, at-most t (length sys.timers) (and_parts (nat_lt 0 t) (nat_le t (length sys.timers)) is).1))
+  timer-range t is = (above-zero t (and_parts (nat_lt 0 t) (nat_le t (length sys.timers)) is).0, omega (arith, leb-true t (length sys.timers) (and_parts (nat_lt 0 t) (nat_le t (length sys.timers)) is).1))
 
   pub sites-from : AllByRecursion (λ d. d.priority < 256) sys.objects → list_all p (words_of sys) ≡ true → AllSites sys p
   unfolding words_of is_object object_at is_block
@@ -134,16 +131,10 @@ module _ (sys : System) (p : Word → Bool) where
       (whole (pool_words sys ++ block_words sys) (queue_words sys)
       (whole (pool_words sys) (block_words sys)
       (all-counted (λ n. word.Pool n) p 1 (length sys.pools) (λ q ge lt. s.pools q (pool q ge lt)))
-      (all-pieces (words_of_pool sys) p 1 (length sys.pools) (λ q ge lt. all-counted (λ b. word.Block q b) p 0 (blocks_of sys q) (λ b from less. s.blocks q b (and_from _ _ (pool q ge lt) (below b (blocks_of sys q) (omega arith)))))))
+      (all-pieces (words_of_pool sys) p 1 (length sys.pools) (λ q ge lt. all-counted (λ b. word.Block q b) p 0 (blocks_of sys q) (λ b from less. s.blocks q b (and_from _ _ (pool q ge lt) (lt-ltb b (blocks_of sys q) (omega arith)))))))
       (passed-all (λ n. word.Queue n) p (λ a. is_object sys a) 0 256 s.queues))
-      (all-counted (λ n. word.Signal n) p 4 (length sys.signals) (λ n ge lt. s.signals n (and_from _ _ (at_most 4 n ge) (below n (length sys.signals + 4) (omega arith))))))
-      (all-counted (λ n. word.Timer n) p 1 (length sys.timers) (λ n ge lt. s.timers n (and_from _ _ (below 0 n (omega arith)) (at_most n (length sys.timers) (omega arith)))))
+      (all-counted (λ n. word.Signal n) p 4 (length sys.signals) (λ n ge lt. s.signals n (and_from _ _ (le-leb 4 n ge) (lt-ltb n (length sys.signals + 4) (omega arith))))))
+      (all-counted (λ n. word.Timer n) p 1 (length sys.timers) (λ n ge lt. s.timers n (and_from _ _ (lt-ltb 0 n (omega arith)) (le-leb n (length sys.timers) (omega arith)))))
     where
-      below : (m n : ℕ) → m < n → nat_lt m n ≡ true
-      below m n h = grind (arith, nat_tests)
-
-      at_most : (m n : ℕ) → m ≤ n → nat_le m n ≡ true
-      at_most m n h = grind (arith, nat_tests)
-
       pool : (q : ℕ) → 1 ≤ q → q < 1 + length sys.pools → is_pool sys q ≡ true
-      pool q ge lt = and_from _ _ (below 0 q (omega arith)) (at_most q (length sys.pools) (omega arith))
+      pool q ge lt = and_from _ _ (lt-ltb 0 q (omega arith)) (le-leb q (length sys.pools) (omega arith))

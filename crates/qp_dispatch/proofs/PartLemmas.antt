@@ -1,10 +1,8 @@
 -- Parts of an agenda, as the records that they add.
-use Rattle.std.proofs.Common.{◌≡◌, ℕ, ◌≤◌, max, true, false, List, [], ◌∷◌, ◌++◌, map, refl, sym, ◌∙◌, ap, subst, arith, inl, inr, ◌⊎◌, IsTrue, Option, Some, None, append-nil}
+use Rattle.std.proofs.Common.{◌≡◌, ℕ, ◌≤◌, max, true, List, [], ◌∷◌, ◌++◌, map, refl, sym, ◌∙◌, ap, subst, arith, inl, IsTrue, Option, Some, None, append-nil}
 use Rattle.std.specs.List.{list_all}
 use Rattle.std.proofs.lemmas.Bool.{and_parts}
-use Rattle.qp_chart.specs.declared.expression.Bound.{Bound}
 use Rattle.qp_chart.specs.declared.actions.Plain.{Plain}
-use Rattle.qp_chart.specs.declared.actions.Plain.TheVariants as action
 use Rattle.qp_chart.specs.Task as task
 use Rattle.qp_chart.specs.Task.{Task}
 use Rattle.qp_model.specs.declared.record.Rec.{Rec}
@@ -34,8 +32,8 @@ use Rattle.qp_calls.proofs.NoteLemmas.{ceiling-append}
 use Rattle.qp_dispatch.specs.declared.lasting.Lasting.{Lasting}
 use Rattle.qp_dispatch.specs.declared.part.Under.{Under}
 use Rattle.qp_dispatch.specs.Lasts.{config_of, actor_of}
-use Rattle.qp_dispatch.specs.Acting.{ActDone, ActAsserts, ActBegins, ActCut, Keeps, is_publication}
-use Rattle.qp_dispatch.specs.Parts.{Goes, Asserts, CutShort, GoesFurther, StandWith, held_by}
+use Rattle.qp_dispatch.specs.Acting.{ActDone, ActAsserts, Keeps}
+use Rattle.qp_dispatch.specs.Parts.{Goes, Asserts, CutShort, StandWith, held_by}
 use Rattle.qp_dispatch.proofs.Quiet.{Quiet, spills-append}
 use Rattle.qp_dispatch.proofs.ActLemmas.{all-right, calm-quiet, counts-join}
 use Rattle.qp_model.proofs.ListLemmas.{list_all-front}
@@ -229,20 +227,3 @@ asserts-act me code at p k m v w h = record {
   last = h.last;
   stand = λ others all. rw (bare-held m others) (h.stand others (rw (bare-held k others) at all));
 }
-
-pub cut-act : (me : ℕ) (at : Moment) (p : Plain) (k m : Lasting) (v w : LaneView) → ActCut me at p k m v w → CutShort me at (task.Do p ∷ []) k None m None v w
-cut-act me at p k m v w h = record {
-  g = h.g;
-  grows = h.grows;
-  front = by h.front;
-  spills = h.calm.spills;
-  stand = λ others all. rw (bare-held m others) (h.stand others (rw (bare-held k others) at all));
-}
-  where
-    by : (h.g ≡ []) ⊎ ActBegins me at p k h.g v → (h.g ≡ []) ⊎ GoesFurther me at (task.Do p ∷ []) k None h.g v
-    by (inl e) = inl e
-    by (inr b) = inr (record { rest = b.rest; after = b.after; few = b.few; reaches = b.reaches })
-
-pub not-publication : (p : Plain) → ((sig : ℕ) (pars : List Bound) (reserve : Option ℕ) → p ≡ action.Publish sig pars reserve → ⊥) → is_publication p ≡ false
-not-publication (action.Publish sig pars reserve) h = absurd (h sig pars reserve refl)
-not-publication _ h = refl

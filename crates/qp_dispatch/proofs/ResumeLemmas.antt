@@ -1,5 +1,5 @@
 -- Steps that go on, by runs of their agendas.
-use Rattle.std.proofs.Common.{◌≡◌, ℕ, zero, suc, ◌+◌, ◌-◌, ◌<◌, ◌≤◌, true, false, List, [], ◌∷◌, ◌++◌, map, length, take, slice_get, refl, sym, ◌∙◌, ap, subst, arith, inl, inr, Option, Some, None, append_assoc, append-nil}
+use Rattle.std.proofs.Common.{◌≡◌, ℕ, zero, suc, ◌+◌, ◌-◌, ◌≤◌, true, false, List, [], ◌∷◌, ◌++◌, map, length, take, slice_get, refl, sym, ◌∙◌, ap, subst, arith, inl, inr, Option, Some, None, append_assoc, append-nil}
 use Rattle.std.specs.List.{AllByRecursion, list_all}
 use Rattle.std.specs.Option.{option_map_or}
 use Rattle.qp_chart.specs.Expr.{Names}
@@ -26,7 +26,7 @@ use Rattle.qp_model.proofs.StepLemmas.{advances-reaches, goes_on-done, goes_on-f
 use Rattle.qp_calls.specs.declared.tokens.Entry.{Entry}
 use Rattle.qp_calls.specs.Tokens.{Token, hands_after, hands_by}
 use Rattle.qp_calls.specs.LaneView.{LaneView, Grows, GrowsOf}
-use Rattle.qp_calls.specs.Notes.{MayNote, MayStop, last_code, spills_told, told_note}
+use Rattle.qp_calls.specs.Notes.{MayNote, spills_told, told_note}
 use Rattle.qp_calls.specs.Clauses.{Stops, entry_of, event_of, params_of}
 use Rattle.qp_calls.specs.Entries.{Released}
 use Rattle.qp_calls.specs.Deferring.{ChangeAlike, StandAll, is_named, kept_in, tokens_in}
@@ -47,7 +47,7 @@ use Rattle.qp_dispatch.specs.Lasts.{config_of, actor_of, moment_of, names_at}
 use Rattle.qp_dispatch.specs.CallsDone.{StandsIn}
 use Rattle.qp_dispatch.specs.Parts.{held_by, left_by}
 use Rattle.qp_dispatch.specs.SoundFor.{MayTask}
-use Rattle.qp_dispatch.specs.Runs.{CanEnd, MayRun, RunAsserts, RunCut, Runs, Setting, hand_of, tasks_in}
+use Rattle.qp_dispatch.specs.Runs.{RunAsserts, RunCut, Runs, Setting, hand_of, tasks_in}
 use Rattle.qp_dispatch.specs.Resume.{BeginsOn, EndsAsserted, Halts, IsGoing, IsLaneOf, ReleasesEntry, Resumes, ToEnd, ToPoint, entry_here, event_at, event_in, held_in, left_of, step_entry}
 use Rattle.qp_dispatch.proofs.ActLemmas.{calm-quiet, counts-join, stand-change}
 use Rattle.qp_dispatch.proofs.Quiet.{quiet-drops}
@@ -56,9 +56,6 @@ use Rattle.qp_dispatch.proofs.PartLemmas.{stand-in}
 use Rattle.qp_dispatch.proofs.PublishLemmas.{one-less}
 use Rattle.qp_dispatch.proofs.RunLemmas.{able-behind, stand-hand, stand-left}
 use Rattle.qp_model.proofs.ListLemmas.{list_all-front, every-at, nil-front, every-behind}
-
-pub assert-stop : (code : ℕ) (w : LaneView) → 0 < code → last_code w.told ≡ code → MayStop code w
-assert-stop code w some last = inr (some, last)
 
 -- What is left of a step.
 
@@ -78,23 +75,6 @@ tasks-of (Some u) ts leaf = refl
 
 moment-is : (work : Work) (hand : Entry) → work.entry ≡ Some hand → moment_of work ≡ moment (event_of work.ev) (entry_here work.entry)
 moment-is work hand is = rw is refl
-
--- what a run rests on, within a step
-pub run-may : (home : Setting) (k : Lasting) (g : Going) (ceiling : ℕ) (v : LaneView) → 0 < home.me → IsLaneOf home ceiling v → IsGoing home k g v
-    → MayRun home g.work.entry k g.left.under (tasks_in home g.left) ceiling v
-run-may home k g ceiling v some lane going = rw going.is (record {
-  of = lane.of;
-  mine = lane.mine;
-  some = some;
-  serves = lane.serves;
-  may = going.may;
-  publishing = going.publishing;
-  stand = going.stand;
-  lane = lane.told;
-})
-
-pub run-can : (home : Setting) (k : Lasting) (g : Going) (v : LaneView) → IsGoing home k g v → CanEnd home (moment_of g.work) k (tasks_in home g.left)
-run-can home k g v going = record { able = rw going.is going.able; few = going.few }
 
 more-alike : (es ds fs : List Entry) (v w : LaneView) → ChangeAlike (map entry_of es) (map entry_of ds) v w → ChangeAlike (map entry_of (es ++ fs)) (map entry_of (ds ++ fs)) v w
 more-alike es ds fs v w alike t = omega (arith, alike t, counts-join t es fs, counts-join t ds fs)

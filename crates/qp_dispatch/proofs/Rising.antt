@@ -151,10 +151,6 @@ fits-mild sys o now (call.Arm t ticks interval) answer g one is h = arms-mild _ 
 fits-mild sys o now (call.Rearm t ticks) answer g one is h = rearms-mild _ ticks answer g is h.0
 fits-mild sys o now (call.Disarm t) answer g one is h = disarms-mild _ answer g is h
 
--- a reference
-abbrev pub Refers : Token → Type 0
-Refers t = (p b r : ℕ) × (t ≡ Held p b r)
-
 -- a loose block taken out leaves the references
 loose-out : (p b r q c : ℕ) (u : Bool) (hands : List Token) → count_of (Held p b r) (take_out (Loose q c u) hands) ≡ count_of (Held p b r) hands
 unfolding take_out times

@@ -7,14 +7,7 @@ use Rattle.qp_calls.specs.Deferring.{StandAll, kept_in}
 use Rattle.qp_calls.proofs.CountLemmas.{stand-more, taken-hands}
 use Rattle.qp_dispatch.specs.declared.lasting.Lasting.{Lasting}
 use Rattle.qp_dispatch.specs.Resume.{IsTaken}
-use Rattle.qp_dispatch.specs.declared.objects.Object.{Object}
-use Rattle.qp_dispatch.specs.Objects.{BeginsStep, IsObject, MayResume}
-use Rattle.qp_model.specs.declared.systems.System.{System}
 
 -- the deferred entries stood, and stand beside it
 pub taken-is : (k : Lasting) (me : ℕ) (e : Entry) (v w : LaneView) → StandAll k.list.entries.items v → length (kept_in k.list) ≤ k.list.entries.capacity → TakesIt me e v w → IsTaken k e w
 taken-is k me e v w all few t = record { stand = stand-more k.list.entries.items e v w all t.stands (taken-hands me e v w t) t.adds.grows.sys; few = few }
-
-pub begun-may : (sys : System) (ceiling : ℕ) (e : Entry) (x y : Object) (v : LaneView) → IsObject sys ceiling x v → IsTaken x.lasting e v → BeginsStep e x y → MayResume sys ceiling y v
-begun-may sys ceiling e x y v at taken begins =
-    rw begins (record { at = record { chart = at.chart; is = at.is; ready = at.ready; compiled = at.compiled; lane = at.lane }; under_way = taken })

@@ -54,16 +54,12 @@ one-order_kernel kernel one = by (one-order_is kernel one)
 fits-alike : (sys : System) (s : Stim) (asserted : Bool) (g : List Told) → StimFits sys sim s asserted g → StimFits sys qv s asserted g
 unfolding StimFits Settles
 fits-alike sys (stim.Post to ev margin reserve) asserted g h = h
-fits-alike sys (stim.Publish ev reserve) asserted g h = h
-fits-alike sys (stim.Tick rate) asserted g h = h
-fits-alike sys stim.Settle asserted g h = h
+fits-alike sys _ asserted g h = h
 
 ends-alike : (sys : System) (s : Stim) (end : SourceEnd) (g : List Told) → EndsIn sys sim s end g → EndsIn sys qv s end g
 unfolding EndsIn StimFits Settles
 ends-alike sys (stim.Post to ev margin reserve) _ g h = h
-ends-alike sys (stim.Publish ev reserve) _ g h = h
-ends-alike sys (stim.Tick rate) _ g h = h
-ends-alike sys stim.Settle _ g h = h
+ends-alike sys _ _ g h = h
 
 runs-on : (sys : System) (k : ℕ) (ss : List Stim) (end : SourceEnd) (g : List Told) → SourceRuns sys sim k ss end g → SourceRuns sys qv k ss end g
 unfolding SourceRuns

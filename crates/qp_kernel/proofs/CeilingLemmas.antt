@@ -10,7 +10,6 @@ use Rattle.qp_model.specs.KernelLane.{Role, Looks, Sees, Takes, Ends, Rests, Hol
 pub ceiling-role : (c : ℕ) (b : Body) → ceiling_of c (role_of b) ≡ ceiling_after c b
 unfolding role_of
 ceiling-role c (body.Lock x) = refl
-ceiling-role c (body.Unlock x) = refl
 ceiling-role c _ = refl
 
 looking-ceiling : (s : Setting) (k : Reading) (ps : List ℕ) → (looking_at s k ps).ceiling ≡ k.ceiling
@@ -43,15 +42,7 @@ module _ (s : Setting) (k next : Reading) (o : ℕ) where
   look-moves (Looks n floor) h =
       let is = if-some ((o == 0) && (n == k.looks + 1) && (floor == floor_in s.sys s.kernel k.running k.ceiling)) (looking_at s (record k { looks = n }) (above s.sys floor)) next h in
       ap (λ x. x.ceiling) (sym is) ∙ looking-ceiling s (record k { looks = n }) (above s.sys floor)
-  look-moves (Sees p f l m) h = absurd (cc)
-  look-moves Takes h = absurd (cc)
-  look-moves Ends h = absurd (cc)
-  look-moves (Rests n) h = absurd (cc)
-  look-moves (Holds c) h = absurd (cc)
-  look-moves Drops h = absurd (cc)
-  look-moves RunsOut h = absurd (cc)
-  look-moves Spills h = absurd (cc)
-  look-moves Acts h = absurd (cc)
+  look-moves _ h = absurd (cc)
 
   seen-moves : (p : ℕ) (others : List ℕ) (r : Role) → seen_next s k p others o r ≡ Some next → Moves k r next
   seen-moves p others (Sees q f l m) h =
@@ -61,27 +52,14 @@ module _ (s : Setting) (k next : Reading) (o : ℕ) where
       by : (b : Bool) → (cond b (record k { place = Chosen p }) (looking_at s k others)).ceiling ≡ k.ceiling
       by true = refl
       by false = looking-ceiling s k others
-  seen-moves p others (Looks n floor) h = absurd (cc)
-  seen-moves p others Takes h = absurd (cc)
-  seen-moves p others Ends h = absurd (cc)
-  seen-moves p others (Rests n) h = absurd (cc)
-  seen-moves p others (Holds c) h = absurd (cc)
-  seen-moves p others Drops h = absurd (cc)
-  seen-moves p others RunsOut h = absurd (cc)
-  seen-moves p others Spills h = absurd (cc)
-  seen-moves p others Acts h = absurd (cc)
+  seen-moves p others _ h = absurd (cc)
 
   own-moves : (p : ℕ) (outer : List ℕ) (r : Role) → own_next k p outer r ≡ Some next → Moves k r next
   own-moves p outer Ends h = let is : record k { running = outer; place = Ended p } ≡ next = cc in ap (λ x. x.ceiling) (sym is)
   own-moves p outer (Holds c) h = let is : record k { ceiling = c } ≡ next = cc in ap (λ x. x.ceiling) (sym is)
   own-moves p outer Drops h = let is : k ≡ next = cc in ap (λ x. x.ceiling) (sym is)
   own-moves p outer Acts h = let is : k ≡ next = cc in ap (λ x. x.ceiling) (sym is)
-  own-moves p outer (Looks n floor) h = absurd (cc)
-  own-moves p outer (Sees q f l m) h = absurd (cc)
-  own-moves p outer Takes h = absurd (cc)
-  own-moves p outer (Rests n) h = absurd (cc)
-  own-moves p outer RunsOut h = absurd (cc)
-  own-moves p outer Spills h = absurd (cc)
+  own-moves p outer _ h = absurd (cc)
 
   inside-moves : (running : List ℕ) (r : Role) → inside_next s k running o r ≡ Some next → Moves k r next
   unfolding inside_next
@@ -95,27 +73,12 @@ module _ (s : Setting) (k next : Reading) (o : ℕ) where
   found-moves : (p : ℕ) (r : Role) → found_next k p o r ≡ Some next → Moves k r next
   found-moves p Takes h = ap (λ x. x.ceiling) (sym (if-some (o == p) (record k { running = p ∷ k.running; place = Inside; stepped = true }) next h))
   found-moves p RunsOut h = ap (λ x. x.ceiling) (sym (if-some (o == p) (record k { place = Halted }) next h))
-  found-moves p (Looks n floor) h = absurd (cc)
-  found-moves p (Sees q f l m) h = absurd (cc)
-  found-moves p Ends h = absurd (cc)
-  found-moves p (Rests n) h = absurd (cc)
-  found-moves p (Holds c) h = absurd (cc)
-  found-moves p Drops h = absurd (cc)
-  found-moves p Spills h = absurd (cc)
-  found-moves p Acts h = absurd (cc)
+  found-moves p _ h = absurd (cc)
 
   ended-moves : (p : ℕ) (r : Role) → ended_next s k p o r ≡ Some next → Moves k r next
   unfolding ended_next
   ended-moves p Drops h = ap (λ x. x.ceiling) (sym (if-some (o == p) k next h))
-  ended-moves p (Looks n floor) h = look-moves (Looks n floor) h
-  ended-moves p (Sees q f l m) h = look-moves (Sees q f l m) h
-  ended-moves p Takes h = look-moves Takes h
-  ended-moves p Ends h = look-moves Ends h
-  ended-moves p (Rests n) h = look-moves (Rests n) h
-  ended-moves p (Holds c) h = look-moves (Holds c) h
-  ended-moves p RunsOut h = look-moves RunsOut h
-  ended-moves p Spills h = look-moves Spills h
-  ended-moves p Acts h = look-moves Acts h
+  ended-moves p r h = look-moves r h
 
   rest-moves : (r : Role) → rest_next s k o r ≡ Some next → Moves k r next
   rest-moves (Rests n) h =
@@ -125,15 +88,7 @@ module _ (s : Setting) (k next : Reading) (o : ℕ) where
       base : (b : Bool) → (cond b (record k { place = Again }) (record k { place = Over; idle = cond k.stepped k.idle (k.idle + 1); stepped = false })).ceiling ≡ k.ceiling
       base true = refl
       base false = refl
-  rest-moves (Looks n floor) h = absurd (cc)
-  rest-moves (Sees q f l m) h = absurd (cc)
-  rest-moves Takes h = absurd (cc)
-  rest-moves Ends h = absurd (cc)
-  rest-moves (Holds c) h = absurd (cc)
-  rest-moves Drops h = absurd (cc)
-  rest-moves RunsOut h = absurd (cc)
-  rest-moves Spills h = absurd (cc)
-  rest-moves Acts h = absurd (cc)
+  rest-moves _ h = absurd (cc)
 
   place-moves : (r : Role) (place : Upcoming) → place_next s k o r place ≡ Some next → Moves k r next
   unfolding place_next
@@ -155,12 +110,7 @@ module _ (s : Setting) (k next : Reading) (o : ℕ) where
   start-moves others (Holds c) h = let is : record k { ceiling = c } ≡ next = cc in ap (λ x. x.ceiling) (sym is)
   start-moves others Drops h = let is : k ≡ next = cc in ap (λ x. x.ceiling) (sym is)
   start-moves others Acts h = let is : k ≡ next = cc in ap (λ x. x.ceiling) (sym is)
-  start-moves others (Looks n floor) h = absurd (cc)
-  start-moves others (Sees q f l m) h = absurd (cc)
-  start-moves others Takes h = absurd (cc)
-  start-moves others (Rests n) h = absurd (cc)
-  start-moves others RunsOut h = absurd (cc)
-  start-moves others Spills h = absurd (cc)
+  start-moves others _ h = absurd (cc)
 
   started-moves : (r : Role) (us : List ℕ) → started_next s k o r us ≡ Some next → Moves k r next
   unfolding started_next
@@ -174,15 +124,7 @@ module _ (s : Setting) (k next : Reading) (o : ℕ) where
   role-moves : (r : Role) → role_next s k o r ≡ Some next → Moves k r next
   unfolding role_next
   role-moves Spills h = ap (λ x. x.ceiling) (sym (if-some (o == 0) (record k { unstarted = []; place = Halted }) next h))
-  role-moves (Looks n floor) h = started-moves (Looks n floor) k.unstarted h
-  role-moves (Sees q f l m) h = started-moves (Sees q f l m) k.unstarted h
-  role-moves Takes h = started-moves Takes k.unstarted h
-  role-moves Ends h = started-moves Ends k.unstarted h
-  role-moves (Rests n) h = started-moves (Rests n) k.unstarted h
-  role-moves (Holds c) h = started-moves (Holds c) k.unstarted h
-  role-moves Drops h = started-moves Drops k.unstarted h
-  role-moves RunsOut h = started-moves RunsOut k.unstarted h
-  role-moves Acts h = started-moves Acts k.unstarted h
+  role-moves r h = started-moves r k.unstarted h
 
 -- a record more moves the ceiling as it says
 pub ceiling-next : (s : Setting) (k next : Reading) (i : Item) → lane_next s k i ≡ Some next → next.ceiling ≡ ceiling_after k.ceiling i.body

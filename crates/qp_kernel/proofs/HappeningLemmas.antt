@@ -106,9 +106,7 @@ runs-count sys k (s ∷ ss) g (inr (inl h)) = absurd (never s h.1 h.4)
   where
     never : (s : Stim) (one : List Told) → EndsIn sys sim s AllDone one → ⊥
     never (stim.Post to ev margin reserve) one e = e
-    never (stim.Publish ev reserve) one e = e
-    never (stim.Tick rate) one e = e
-    never stim.Settle one e = e
+    never _ one e = e
 runs-count sys k (s ∷ ss) g (inr (inr h)) =
     let one = h.1 in
     let rest = h.2 in

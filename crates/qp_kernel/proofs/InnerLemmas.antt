@@ -4,7 +4,7 @@ use Rattle.std.specs.Prelude.{⊤, ◌⊎◌}
 use Rattle.std.specs.Bool.{MatchBool}
 use Rattle.std.specs.List.{list_all}
 use Rattle.std.specs.Option.{is_some}
-use Rattle.std.proofs.lemmas.Bool.{and_parts}
+use Rattle.std.proofs.lemmas.Bool.{and_parts, not-true}
 use Rattle.qp_chart.specs.Task.{Task, Begin, Run, Unhandled, Exit, Enter, Init, Done, Do, Raise, Restore}
 use Rattle.qp_model.specs.declared.systems.System.{System}
 use Rattle.qp_model.specs.declared.bodies.Body.{Body}
@@ -77,17 +77,7 @@ points-inner (t ∷ ts) h =
 call-inner : (x : Call) (g : List Told) → Usual g → AreInner (pieces_of x g)
 unfolding pieces_of
 call-inner (call.Publish sig pars reserve) g h = points-inner g h
-call-inner (call.Post to sig pars margin reserve) g h = tell-inner g h
-call-inner (call.Lifo sig pars reserve) g h = tell-inner g h
-call-inner (call.Forward to margin) g h = tell-inner g h
-call-inner call.Defer g h = tell-inner g h
-call-inner call.Recall g h = tell-inner g h
-call-inner call.Flush g h = tell-inner g h
-call-inner (call.Subscribe sig) g h = tell-inner g h
-call-inner (call.Unsubscribe sig) g h = tell-inner g h
-call-inner (call.Arm t ticks interval) g h = tell-inner g h
-call-inner (call.Rearm t ticks) g h = tell-inner g h
-call-inner (call.Disarm t) g h = tell-inner g h
+call-inner _ g h = tell-inner g h
 
 -- an assertion has no point behind it
 assert-piece : (t : Told) (b : Body) (answer : Answer) → assertion_of b ≡ Some answer → (piece_of t b ≡ Tell t ∷ []) × (is_assert b ≡ true)
@@ -103,17 +93,7 @@ asserted-last : (x : Call) (front : List Told) (t : Told) (answer : Answer) → 
 unfolding pieces_of with_points
 asserted-last (call.Publish sig pars reserve) front t answer h =
     with_points-append front (t ∷ []) ∙ ap (λ x. with_points front ++ x) (append-nil (piece_of t t.body) ∙ (assert-piece t t.body answer h).0)
-asserted-last (call.Post to sig pars margin reserve) front t answer h = tell-append front (t ∷ [])
-asserted-last (call.Lifo sig pars reserve) front t answer h = tell-append front (t ∷ [])
-asserted-last (call.Forward to margin) front t answer h = tell-append front (t ∷ [])
-asserted-last call.Defer front t answer h = tell-append front (t ∷ [])
-asserted-last call.Recall front t answer h = tell-append front (t ∷ [])
-asserted-last call.Flush front t answer h = tell-append front (t ∷ [])
-asserted-last (call.Subscribe sig) front t answer h = tell-append front (t ∷ [])
-asserted-last (call.Unsubscribe sig) front t answer h = tell-append front (t ∷ [])
-asserted-last (call.Arm x ticks interval) front t answer h = tell-append front (t ∷ [])
-asserted-last (call.Rearm x ticks) front t answer h = tell-append front (t ∷ [])
-asserted-last (call.Disarm x) front t answer h = tell-append front (t ∷ [])
+asserted-last _ front t answer h = tell-append front (t ∷ [])
 
 -- pieces of the inside, and then what is to come
 abbrev pub InnerThen : Later → List Piece → Type 0
@@ -122,9 +102,6 @@ InnerThen later ps = (front : List Piece) × AreInner front × (d : Config) × (
 -- or an assertion behind them
 abbrev pub FailsIn : Type 0 → List Piece → Type 0
 FailsIn failed ps = (front : List Piece) × AreInner front × (t : Told) × (is_assert t.body ≡ true) × (ps ≡ front ++ Tell t ∷ []) × failed
-
-inner-note : (b : Body) → IsInner b → AreInner (Tell (plain b) ∷ [])
-inner-note b h = (h, tt)
 
 module _ (sys : System) (a : Actor) (at : Moment) where
   call-form : (c : Config) (later : Later) (failed : Type 0) (x : Call) (ps : List Piece) → DoesCall sys a at.entry c later failed x ps → InnerThen later ps ⊎ FailsIn failed ps
@@ -193,23 +170,11 @@ module _ (sys : System) (a : Actor) (at : Moment) where
     where
       by : (t : Task) → is_done t ≡ true → DoesTask sys a at c (λ d rest. (rest ≡ []) × (mid ≡ Some d)) (mid ≡ None) t ps → Form ps mid
       by Done closing h = record { front = []; inner = tt; last = plain item.Done; whole = h.1 ∙ ap (λ x. Tell (plain item.Done) ∷ x) h.2.0; which = inl (refl, (c, h.2.1)) }
-      by (Do p) closing h = absurd (cc)
-      by (Raise x) closing h = absurd (cc)
-      by Restore closing h = absurd (cc)
-      by Begin closing h = absurd (cc)
-      by (Run s k) closing h = absurd (cc)
-      by Unhandled closing h = absurd (cc)
-      by (Exit s) closing h = absurd (cc)
-      by (Enter s) closing h = absurd (cc)
-      by (Init s) closing h = absurd (cc)
+      by _ closing h = absurd (cc)
   does-form (t ∷ u ∷ ts) c ps mid closing h =
       let parts = and_parts (not (is_done t)) (closes (u ∷ ts)) closing in
       by (task-form c (λ d rest. Does sys a at (u ∷ ts) d rest mid) (mid ≡ None) t ps (not-true (is_done t) parts.0) h) (λ d rest k. does-form (u ∷ ts) d rest mid parts.1 k)
     where
-      not-true : (b : Bool) → not b ≡ true → b ≡ false
-      not-true true h = absurd (cc)
-      not-true false h = refl
-
       by : InnerThen (λ d rest. Does sys a at (u ∷ ts) d rest mid) ps ⊎ FailsIn (mid ≡ None) ps → ((d : Config) (rest : List Piece) → Does sys a at (u ∷ ts) d rest mid → Form rest mid) → Form ps mid
       by (inl k) go = form-behind k.0 k.3 ps mid k.1 k.4 (go k.2 k.3 k.5)
       by (inr k) go = form-failed ps mid k

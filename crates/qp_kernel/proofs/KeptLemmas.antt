@@ -2,10 +2,12 @@
 use Rattle.std.proofs.Common.{◌≡◌, ℕ, ◌<◌, ◌≤◌, ◌==◌, nat_lt, Bool, true, false, cond, List, [], ◌∷◌, ◌++◌, length, drop, refl, ap, arith, Option, Some, None, length-append}
 use Rattle.std.specs.Option.{option_and_then}
 use Rattle.std.proofs.lemmas.Bool.Decides.{nat_tests}
+use Rattle.std.proofs.lemmas.List.{length-drop}
 use Rattle.qp_model.specs.declared.systems.System.{System}
 use Rattle.qp_model.specs.declared.bodies.Entry.{Entry}
 use Rattle.qp_model.specs.declared.bodies.Body.{Body}
 use Rattle.qp_model.specs.declared.bodies.Body.TheVariants as item
+use Rattle.qp_model.specs.Line.{is_front}
 use Rattle.qp_model.specs.Told.{Told}
 use Rattle.qp_model.specs.Pieces.{Piece, bare}
 use Rattle.qp_model.specs.Acts.{Config, Actor}
@@ -13,43 +15,29 @@ use Rattle.qp_model.specs.Deferral.{keep, kept_after}
 use Rattle.qp_model.specs.Course.{Course}
 use Rattle.qp_model.proofs.DeferralLemmas.{Kept, course-keeps}
 use Rattle.qp_model.proofs.AbleLemmas.{some-same}
+use Rattle.qp_model.proofs.KernelLaneLemmas.{granted}
 
-dropped : (old : List Entry) → length (drop 1 old) ≤ length old
-dropped [] = omega arith
-dropped (e ∷ old) = omega arith
+same : (room : ℕ) (kept new : List Entry) → kept ≡ new → length kept ≤ room → length new ≤ room
+same room kept new is h = omega (arith, ap length is)
+
+dropped : (room : ℕ) (kept new : List Entry) → drop 1 kept ≡ new → length kept ≤ room → length new ≤ room
+dropped room kept new is h = omega (arith, ap length is, length-drop 1 kept)
 
 keep-within : (room : ℕ) (old new : List Entry) (b : Body) → keep room old b ≡ Some new → length old ≤ room → length new ≤ room
 unfolding keep
-keep-within room old new (item.Defer e) is few = by (nat_lt (length old) room) refl is
-  where
-    by : (v : Bool) → nat_lt (length old) room ≡ v → cond v (Some (old ++ e ∷ [])) None ≡ Some new → length new ≤ room
-    by true t is =
-        let less : length old < room = grind (arith, nat_tests, t) in
-        let long = length-append old (e ∷ []) in
-        let same : length (old ++ e ∷ []) ≡ length new = ap length (some-same is) in
-        omega (arith, less, long, same)
-    by false t is = absurd (cc)
+keep-within room old new (item.Defer e) is few =
+    let at = granted (nat_lt (length old) room) (old ++ e ∷ []) new is in
+    let less : length old < room = grind (arith, nat_tests, at.0) in
+    omega (arith, less, ap length at.1, length-append old (e ∷ []))
 keep-within room old new item.NoDefer is few = by (nat_lt (length old) room) is
   where
     by : (v : Bool) → cond v None (Some old) ≡ Some new → length new ≤ room
     by true is = absurd (cc)
-    by false is = let same : length old ≡ length new = ap length (some-same is) in omega (arith, same, few)
-keep-within room old new (item.Recall e) is few = by _ is
-  where
-    by : (v : Bool) → cond v (Some (drop 1 old)) None ≡ Some new → length new ≤ room
-    by true is = let same : length (drop 1 old) ≡ length new = ap length (some-same is) in let less = dropped old in omega (arith, same, few, less)
-    by false is = absurd (cc)
-keep-within room old new (item.Flush e) is few = by _ is
-  where
-    by : (v : Bool) → cond v (Some (drop 1 old)) None ≡ Some new → length new ≤ room
-    by true is = let same : length (drop 1 old) ≡ length new = ap length (some-same is) in let less = dropped old in omega (arith, same, few, less)
-    by false is = absurd (cc)
-keep-within room old new item.NoRecall is few = by (length old == 0) is
-  where
-    by : (v : Bool) → cond v (Some old) None ≡ Some new → length new ≤ room
-    by true is = let same : length old ≡ length new = ap length (some-same is) in omega (arith, same, few)
-    by false is = absurd (cc)
-keep-within room old new _ is few = let same : length old ≡ length new = ap length (some-same is) in omega (arith, same, few)
+    by false is = same room old new (some-same is) few
+keep-within room old new (item.Recall e) is few = dropped room old new (granted (is_front e old) (drop 1 old) new is).1 few
+keep-within room old new (item.Flush e) is few = dropped room old new (granted (is_front e old) (drop 1 old) new is).1 few
+keep-within room old new item.NoRecall is few = same room old new (granted (length old == 0) old new is).1 few
+keep-within room old new b is few = same room old new (some-same is) few
 
 pub kept-within : (room : ℕ) (old new : List Entry) (g : List Told) → kept_after room old g ≡ Some new → length old ≤ room → length new ≤ room
 unfolding kept_after

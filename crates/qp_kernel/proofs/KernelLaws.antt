@@ -6,7 +6,7 @@ use Rattle.qp_kernel.specs.Stages.{Stage}
 use Rattle.qp_model.specs.Told.{ToldItem}
 use Rattle.qp_model.specs.Step.{whole_step}
 use Rattle.qp_model.specs.Course.{actor}
-use Rattle.qp_model.specs.KernelLane.{Reading, Upcoming, Inside, Looking, Chosen, Ended, Resting, Again, Over, Halted, above}
+use Rattle.qp_model.specs.KernelLane.{Reading, Upcoming, Inside, Ended, Resting, Again, Over, Halted, above}
 use Rattle.qp_model.proofs.KernelRowLemmas.{IsWithin, MayLook}
 use Rattle.qp_kernel.specs.LaneZero.{setting, HasOneRow, HasRows, LaneZero}
 use Rattle.qp_kernel.specs.Turning.{KernelState, Stands, Terms, IsInStep, IsLookPlace, kernel_in}
@@ -26,10 +26,9 @@ may-look kernel Inside (p ∷ outer) h = h
 may-look kernel (Ended p) running h = h
 may-look kernel Again running h = h
 may-look kernel Over running h = h
-may-look kernel (Looking p others) running h = absurd h
-may-look kernel (Chosen p) running h = absurd h
 may-look kernel Resting running h = absurd h
 may-look kernel Halted running h = absurd h
+may-look kernel _ running h = absurd h
 
 -- the state without an owed point, and back
 module _ (sys : System) (terms : Terms) (s : KernelState) where

@@ -283,7 +283,7 @@ in_order-happens sys looks n floor base v u w of gains hap next same no_stim h =
 
 -- The run stops early.
 
-none-last : ends_last [] ≡ true
+pub none-last : ends_last [] ≡ true
 unfolding ends_last
 none-last = refl
 

@@ -13,7 +13,7 @@ use Rattle.qp_model.specs.Home.{lane_at}
 use Rattle.qp_model.specs.Knowing.{told_lane}
 use Rattle.qp_model.specs.Kernels.{has_one_order}
 use Rattle.qp_model.specs.Sites.{object_at}
-use Rattle.qp_model.specs.Ends.{is_end, ends_last, quiet}
+use Rattle.qp_model.specs.Ends.{is_end, quiet}
 use Rattle.qp_model.specs.End.{end_of}
 use Rattle.qp_model.specs.Lawful.{facts_of, source_lanes}
 use Rattle.qp_model.proofs.TakenLemmas.{drop-head}
@@ -32,10 +32,7 @@ use Rattle.qp_kernel.proofs.AlikeKernels.{one-order, one-row}
 use Rattle.qp_kernel.proofs.ZeroEndLemmas.{zero-quiet}
 use Rattle.qp_kernel.proofs.ZeroLawful.{IsFound, all-found}
 use Rattle.qp_kernel.proofs.LawfulLemmas.{lawful}
-
-none-last : ends_last [] ≡ true
-unfolding ends_last
-none-last = refl
+use Rattle.qp_kernel.proofs.OrderGrowth.{none-last}
 
 -- what is found among objects of which each is so is so
 find-all : {A : Type 0} (P : A → Type 0) (p : A → Bool) (xs : List A) (x : A) → AllByRecursion P xs → find p xs ≡ Some x → P x

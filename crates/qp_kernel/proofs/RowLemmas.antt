@@ -3,7 +3,7 @@ use Rattle.std.proofs.Common.{◌≡◌, ℕ, ◌+◌, ◌≤◌, ◌==◌, Bool
 use Rattle.std.proofs.lemmas.Bool.Decides.{nat_tests}
 use Rattle.qp_model.specs.declared.systems.System.{System}
 use Rattle.qp_model.specs.Kernels.{sim, qk, qv}
-use Rattle.qp_model.specs.KernelLane.{Setting, Reading, Upcoming, Inside, Looking, Chosen, Ended, Resting, Again, Over, Halted, base_ended, found_none, looking_at, lane_on, unread}
+use Rattle.qp_model.specs.KernelLane.{Setting, Reading, Upcoming, Inside, Resting, Again, Over, base_ended, found_none, looking_at, lane_on, unread}
 use Rattle.qp_model.specs.End.{took_count}
 use Rattle.qp_model.proofs.KernelRowLemmas.{MayLook}
 use Rattle.qp_kernel.specs.Stages as stage
@@ -27,14 +27,8 @@ zero-new sys kernel budget now upto numbered = record {
 
 -- a look that may stand where the kernel isn't `qk` stands in its only row, which isn't over
 pub look-idle : (kernel : ℕ) (place : Upcoming) (running : List ℕ) (idle : ℕ) → (kernel == qk) ≡ false → MayLook kernel place running → HasOneRow place idle → idle ≡ 0
-look-idle kernel Inside running idle single may h = h
-look-idle kernel (Ended p) running idle single may h = h
-look-idle kernel Again running idle single may h = h
 look-idle kernel Over running idle single may h = let no : (kernel == qk) ≡ true = grind (arith, nat_tests, may) in absurd (cc)
-look-idle kernel (Looking p others) running idle single may h = h
-look-idle kernel (Chosen p) running idle single may h = h
-look-idle kernel Resting running idle single may h = h
-look-idle kernel Halted running idle single may h = h
+look-idle kernel _ running idle single may h = h
 
 -- at the end of a row at the base, one row stays one row
 pub one-row_base : (s : Setting) (k : Reading) → k.idle ≡ 0 → HasOneRow (base_ended s k).place (base_ended s k).idle

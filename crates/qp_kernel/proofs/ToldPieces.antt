@@ -7,7 +7,7 @@ use Rattle.qp_model.specs.declared.bodies.Body.{Body}
 use Rattle.qp_model.specs.declared.bodies.Body.TheVariants as body
 use Rattle.qp_model.specs.Told.{Told, ToldItem, for_object}
 use Rattle.qp_model.specs.Pieces.{Piece, Tell, Point, tell}
-use Rattle.qp_model.specs.KernelLane.{Setting, Reading, Upcoming, Inside, Looking, Chosen, Ended, Resting, Again, Over, Halted, lane_next, lane_on, ceiling_of, role_of}
+use Rattle.qp_model.specs.KernelLane.{Setting, Reading, Upcoming, Inside, lane_next, lane_on, ceiling_of, role_of}
 use Rattle.qp_model.specs.Points.{is_look, begins_row}
 use Rattle.qp_model.specs.Ends.{is_turn_mark}
 use Rattle.qp_model.proofs.KernelRowLemmas.{own-next, start-next, IsOwnRole, IsWithin, no-row}
@@ -47,13 +47,7 @@ pieces-look o k n t some zero look = rw (zero, not-zero o some, look) (go k.plac
     go : (place : Upcoming) (running : List ℕ) → cond (begins_row o place running true) (Point ∷ []) [] ≡ owed_point (row_of place running) o
     go Inside [] = sym (none-owed o some)
     go Inside (p ∷ outer) = refl
-    go (Looking p others) running = sym (none-owed o some)
-    go (Chosen p) running = sym (none-owed o some)
-    go (Ended p) running = sym (none-owed o some)
-    go Resting running = sym (none-owed o some)
-    go Again running = sym (none-owed o some)
-    go Over running = sym (none-owed o some)
-    go Halted running = sym (none-owed o some)
+    go _ running = sym (none-owed o some)
 
 -- a record of another object, or of none, that is no look, is no piece
 pub pieces-other : (o : ℕ) (k : Reading) (t : ToldItem) → (t.of == o) ≡ false → is_look t.told.body ≡ false → told_pieces_at o k t ≡ []

@@ -16,7 +16,7 @@ use Rattle.qp_model.proofs.StepLemmas.{goes_on-completes, starts-completes}
 use Rattle.qp_model.proofs.CourseLemmas.{follows-whole, follows-course, follows-stopped, follows-point, follows-anywhere, follows-none, course-start}
 use Rattle.qp_model.proofs.ListLemmas.{nil-front}
 use Rattle.qp_kernel.specs.Stages as stage
-use Rattle.qp_kernel.specs.Stages.{Stage, IsReady, ComesTo, may_wait, is_resting}
+use Rattle.qp_kernel.specs.Stages.{Stage, ComesTo, may_wait, is_resting}
 use Rattle.qp_kernel.specs.Turning.{IsWithinStep}
 use Rattle.qp_kernel.proofs.StageLemmas.{comes-within}
 
@@ -40,9 +40,7 @@ module _ (sys : System) (d : ObjectDef) (chart : Chart) (is : chart_at sys d.cha
   pub follows-resting : (es : List Entry) (ps : List Piece) (s : Stage) → ComesTo sys (actor d chart) (first_config d) es ps s → is_resting s ≡ true → FollowsTo sys d Whole ps
   unfolding ComesTo Leaves
   follows-resting es ps (stage.Resting c) h rests = follows-whole sys d chart is es ps c h.0
-  follows-resting es ps stage.Unstarted h rests = absurd (cc)
-  follows-resting es ps (stage.Begun ev e left c) h rests = absurd (cc)
-  follows-resting es ps (stage.Paused ev e left c) h rests = absurd (cc)
+  follows-resting es ps _ h rests = absurd (cc)
 
   -- one that waits, whether or not it owes its point
   pub follows-waiting : (b : Bool) (es : List Entry) (ps : List Piece) (s : Stage) → ComesTo sys (actor d chart) (first_config d) es (ps ++ point_if b) s → may_wait s ≡ true → FollowsTo sys d Stopped ps

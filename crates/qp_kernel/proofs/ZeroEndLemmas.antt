@@ -13,7 +13,7 @@ use Rattle.qp_model.specs.declared.bodies.Body.TheVariants as body
 use Rattle.qp_model.specs.Record.{Item}
 use Rattle.qp_model.specs.Told.{Told, ToldItem, Event, for_object, plain}
 use Rattle.qp_model.specs.Pieces.{Piece, Point, tell}
-use Rattle.qp_model.specs.KernelLane.{Setting, Reading, Upcoming, Inside, Looking, Chosen, Ended, Resting, Again, Over, Halted, lane_next, lane_on, unread, role_of, role_next, Drops}
+use Rattle.qp_model.specs.KernelLane.{Setting, Reading, Upcoming, Looking, Chosen, Ended, Over, Halted, lane_next, lane_on, unread, role_of, role_next, Drops}
 use Rattle.std.specs.Option.{unwrap_or, option_and_then}
 use Rattle.qp_model.specs.Points.{begins_row}
 use Rattle.qp_model.specs.Ends.{is_turn_mark, is_assert, is_spent, is_spill, is_end, may_cut, spills_cut, ends_last, spills_in}
@@ -35,20 +35,14 @@ use Rattle.qp_kernel.specs.Turning.{AreNumbered, AreAble, IsWithinStep}
 use Rattle.qp_model_order.proofs.CalmLemmas.{are_calm, calm-parts, calm-no_spill, calm-ends_last, calm-spills_cut, calm-spents_follow, calm-states, calm-all, no_spill-cuts, IsMild, mild-follow, mild-cut, mild-states, mild-all, mild-no_spill}
 use Rattle.qp_model_order.proofs.StimLemmas.{any-both}
 use Rattle.qp_kernel.proofs.BareLemmas.{own-unmarked, own-calm, own-append, follows-own, shape-spent}
-use Rattle.qp_kernel.proofs.WaitLemmas.{point_if, stopped-anywhere, follows-resting, follows-waiting, follows-failed, follows-failed_start, follows-cut, follows-cut_start}
+use Rattle.qp_kernel.proofs.WaitLemmas.{stopped-anywhere, follows-resting, follows-waiting, follows-failed, follows-failed_start, follows-cut, follows-cut_start}
 use Rattle.qp_kernel.proofs.ZeroLemmas.{own-takes, ends-told, told-unmarked, AreDrops, drops-told, done-takes, reads-done}
 use Rattle.qp_kernel.proofs.ToldPieces.{pieces-then, pieces-one, pieces-other, none-owed, not-zero, pieces-told, AreOwn, AreTold, own-told, told-append, ceiling_through, pieces_for, reads-own, reads-start}
 use Rattle.qp_model.proofs.NumberLemmas.{count-append}
 
 row-idle : (place : Upcoming) (idle : ℕ) → HasOneRow place idle → idle ≤ 1
 row-idle Over idle h = h
-row-idle Inside idle h = omega (arith, h)
-row-idle (Looking p others) idle h = omega (arith, h)
-row-idle (Chosen p) idle h = omega (arith, h)
-row-idle (Ended p) idle h = omega (arith, h)
-row-idle Resting idle h = omega (arith, h)
-row-idle Again idle h = omega (arith, h)
-row-idle Halted idle h = omega (arith, h)
+row-idle _ idle h = omega (arith, h)
 
 few-rows : (kernel : ℕ) (place : Upcoming) (idle : ℕ) → HasRows kernel place idle → idle ≤ most_rows kernel idle
 few-rows kernel place idle h = by (kernel == qk) refl
@@ -74,9 +68,6 @@ more-rows {sys} {kernel} {budget} {end} {most} {more} le ends = record {
   states = ends.states;
   budgets = ends.budgets;
 }
-
-owed-is : (owed o : ℕ) → owed_point owed o ≡ point_if (owed == o)
-owed-is owed o = refl
 
 module _ (sys : System) (kernel budget : ℕ) (told : List ToldItem) (now has : ℕ → Bool) (upto : ℕ) (k : Reading) (owed : ℕ) (stages : ℕ → Stage) (entries : ℕ → List Entry)
     (old : LaneZero sys kernel budget told now upto k owed stages entries) (agree : Agree upto has now) where

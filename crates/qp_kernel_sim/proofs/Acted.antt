@@ -2,7 +2,7 @@
 use Rattle.std.proofs.Common.{◌≡◌, ◌≢◌, ℕ, zero, suc, ◌+◌, ◌<◌, ◌≤◌, ◌==◌, nat_lt, Bool, true, false, not, cond, ◌||◌, List, [], ◌∷◌, ◌++◌, map, length, drop, get_or, slice_set, refl, sym, ◌∙◌, ap, subst, arith, length-append}
 use Rattle.std.specs.List.{list_all, list_any, count_by}
 use Rattle.std.specs.Option.{is_some}
-use Rattle.std.proofs.lemmas.Bool.{and_parts, eqb-true, eqb-false}
+use Rattle.std.proofs.lemmas.Bool.{and_parts, eqb-false, eqb-true, not-true}
 use Rattle.std.proofs.lemmas.Bool.Decides.{nat_tests}
 use Rattle.std.proofs.lemmas.List.{map-append, append-nil, length-map, length-set, get_or-set_same, get_or-set_other, drop_all}
 use Rattle.qp_model.specs.declared.stimulus.Stim.{Stim}
@@ -109,10 +109,6 @@ none-spilled n (x ∷ hs) h =
     go : (u : Bool) (g : List Told) → not (list_any (λ t. is_spill t.body) g) ≡ true → list_any (λ t. is_spill t.body) (cond u g []) ≡ false
     go false g e = refl
     go true g e = not-true _ e
-      where
-        not-true : (b : Bool) → not b ≡ true → b ≡ false
-        not-true true k = absurd (cc)
-        not-true false k = refl
 
     joined : (g : List Told) (ts : List ToldItem) → list_any (λ t. is_spill t.body) g ≡ false → spills_told ts ≡ false → spills_told (map (for_object 0) g ++ ts) ≡ false
     joined [] ts a b = b

@@ -3,6 +3,7 @@ use Rattle.std.proofs.Common.{◌≡◌, ◌≢◌, ℕ, zero, suc, ◌<◌, ◌
 use Rattle.std.specs.List.{list_all, list_any}
 use Rattle.std.proofs.lemmas.Bool.Decides.{nat_tests}
 use Rattle.std.proofs.lemmas.List.{get_or-set_same, set-get_or}
+use Rattle.std.proofs.lemmas.Bool.{and_right}
 use Rattle.qp_model.specs.declared.words.Word.{Word}
 use Rattle.qp_model.specs.declared.bodies.Entry.{Entry}
 use Rattle.qp_model.specs.Told.{Told, ToldItem, for_object}
@@ -301,8 +302,4 @@ module _ (source former : ℕ) (a b c d e f : PlainWorld) (home : chosen a ≡ 0
       none-all : (ps : List Purse) (k : ℕ) (p : Purse) → k < length ps → is_codeless (get_or ps k p) ≡ false → list_all is_codeless ps ≡ false
       none-all [] k p lt h = absurd (omega (arith, lt))
       none-all (x ∷ ps) zero p lt h = rw h refl
-      none-all (x ∷ ps) (suc k) p lt h = and-false (is_codeless x) (none-all ps k p (omega (arith, lt)) h)
-        where
-          and-false : (u : Bool) {v : Bool} → v ≡ false → (u && v) ≡ false
-          and-false true h = h
-          and-false false h = refl
+      none-all (x ∷ ps) (suc k) p lt h = and_right (is_codeless x) _ (none-all ps k p (omega (arith, lt)) h)

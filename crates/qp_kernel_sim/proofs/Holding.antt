@@ -5,7 +5,7 @@ use Rattle.std.proofs.lemmas.List.{map-append, append-nil, length-map}
 use Rattle.qp_model.specs.declared.stimulus.Stim.{Stim}
 use Rattle.qp_model.specs.declared.words.Word.{Word}
 use Rattle.qp_model.specs.Told.{ToldItem}
-use Rattle.qp_calls.specs.LaneView.{LaneView, Happening, Shown, Gains, Looks, Roomier, placed_by, is_codeless}
+use Rattle.qp_calls.specs.LaneView.{LaneView, Happening, Shown, Gains, Looks, placed_by, is_codeless}
 use Rattle.qp_model_order.specs.SourceRun.{untold, untold_all}
 use Rattle.qp_kernel.specs.Happenings.{run_order, rises}
 use Rattle.qp_kernel_sim.specs.SimHolds.{SimHolds}
@@ -52,6 +52,3 @@ module _ (plan : List (List Stim)) (begun : List ℕ) (last : ℕ) (halted : Boo
 
   pub holds-looks : (a : Word) (n : ℕ) (x : Shown) (v w : LaneView) → Looks a n x v w → Holds v → Holds w
   holds-looks a n x v w l h = holds-still v w l.told l.lane l.log l.aside h
-
-  pub holds-roomier : (v w : LaneView) → Roomier v w → Holds v → Holds w
-  holds-roomier v w r h = holds-still v w (ap (λ x. x.told) r.same) (ap (λ x. x.lane) r.same) (ap (λ x. x.log) r.same) (ap (λ x. x.aside) r.same) h

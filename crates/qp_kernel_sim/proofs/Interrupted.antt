@@ -93,9 +93,6 @@ kept-same v = record {
 }
 
 -- Where a code was found, a lane has handed one in.
-bare-stops : Purse → Bool
-bare-stops p = no_code p.stops
-
 all-put_back : (p : Purse → Bool) (xs : List Purse) (k : ℕ) (d y : Purse) → list_all p (slice_set xs k y) ≡ true → p (get_or xs k d) ≡ true → list_all p xs ≡ true
 all-put_back p [] k d y h here = refl
 all-put_back p (x ∷ xs) zero d y h here = and_from _ _ here (and_parts _ _ h).1

@@ -1,17 +1,13 @@
 -- What a call does to a lane it does to the lane with its stimuli and what has happened.
-use Rattle.std.proofs.Common.{◌≡◌, ℕ, zero, suc, Bool, true, false, List, refl, ap, Some, None, Ok, Err}
+use Rattle.std.proofs.Common.{ℕ, zero, suc, Bool, true, false, List, refl}
 use Rattle.std.specs.declared.option.Option.{Option}
-use Rattle.std.specs.declared.result.Result.{Result}
 use Rattle.std.specs.Bool.{MatchBool}
-use Rattle.std.specs.Result.{OnErr}
 use Rattle.qp_model.specs.declared.stimulus.Stim.{Stim}
 use Rattle.qp_model.specs.declared.words.Word.{Word}
 use Rattle.qp_model.specs.Told.{Told, ToldItem, Event}
 use Rattle.qp_calls.specs.declared.tokens.Hold.{Hold}
 use Rattle.qp_calls.specs.declared.tokens.Fresh.{Fresh}
 use Rattle.qp_calls.specs.declared.tokens.Entry.{Entry}
-use Rattle.qp_calls.specs.declared.answers.RoomFault.{RoomFault}
-use Rattle.qp_calls.specs.declared.answers.RoomFault.TheVariants as fault
 use Rattle.qp_calls.specs.declared.answers.Counts as counts
 use Rattle.qp_calls.specs.declared.answers.Give.{Give}
 use Rattle.qp_calls.specs.declared.answers.Give.TheVariants as give
@@ -25,8 +21,8 @@ use Rattle.qp_calls.specs.declared.answers.Arm as arming
 use Rattle.qp_calls.specs.declared.answers.Arm.TheVariants as armed
 use Rattle.qp_calls.specs.declared.answers.Tick as ticking
 use Rattle.qp_calls.specs.declared.answers.Tick.TheVariants as ticked
-use Rattle.qp_calls.specs.LaneView.{LaneView, Happening, Shown, NotShown, Gains, GrowsOf, AddsOf, Roomier, Looks, is_known}
-use Rattle.qp_calls.specs.Clauses.{Tries, Draws, Faults, Gives, Makes, MakesMore, DropsOne, LetsGo, GoesBack, ShowsQueue, Claims, ClaimsFront, EventIs, Stands, Takes, Sees, Counted, Does, Subscribing, Unsubscribing, Reads, Arms, Disarms, Rearms, TicksOne, Stopped, last_nil, same_counts}
+use Rattle.qp_calls.specs.LaneView.{LaneView, Happening, Shown, NotShown, Gains, GrowsOf, AddsOf, Looks, is_known}
+use Rattle.qp_calls.specs.Clauses.{Draws, Gives, Makes, MakesMore, DropsOne, LetsGo, GoesBack, ShowsQueue, Claims, ClaimsFront, EventIs, Stands, Takes, Sees, Counted, Does, Subscribing, Unsubscribing, Reads, Arms, Disarms, Rearms, TicksOne, last_nil, same_counts}
 use Rattle.qp_calls.specs.declared.tokens.Entry.TheVariants as token
 use Rattle.qp_model.specs.declared.bodies.Body.{Body}
 use Rattle.qp_model.specs.declared.bodies.Body.TheVariants.{Spill, BadTicks}
@@ -93,21 +89,6 @@ module _ (plan : List (List Stim)) (hs : List Happening) (v w : LaneView) where
     log = l.log;
     aside = l.aside;
   }
-
-  pub roomier : Roomier v w → Roomier s t
-  roomier r = record { same = ap (seated plan hs) r.same; more = r.more }
-
-  pub refused : (r : Result (Unit {0}) RoomFault) → OnErr r (w ≡ v) → OnErr r (t ≡ s)
-  refused (Ok u) h = tt
-  refused (Err f) h = ap (seated plan hs) h
-
-  pub faults : (r : Result (Unit {0}) RoomFault) → Faults v r → Faults s r
-  faults (Ok u) h = h
-  faults (Err fault.Memory) h = h
-  faults (Err (fault.LaneFull len)) h = h
-
-  pub tries : (a : Word) (own before after : ℕ) → Tries a own before after v w → Tries a own before after s t
-  tries a own before after h = record { up = h.up; few = h.few }
 
   draws : (a : Word) (x : Shown) → Draws a x v w → Draws a x s t
   draws a x d = record { up = d.up; says = d.says }
@@ -220,10 +201,6 @@ module _ (plan : List (List Stim)) (hs : List Happening) (v w : LaneView) where
   ticks-one k ticked.Idle x = (x.0, adds _ _ x.1)
   ticks-one k ticked.Down x = (x.0, x.1, (x.2.0, adds _ _ x.2.1, x.2.2))
   ticks-one k ticked.Fired x = (x.0, (x.1.0, adds _ _ x.1.1, x.1.2))
-
-  pub stopped : (r : Option ℕ) → Stopped v w r → Stopped s t r
-  stopped None x = (ap (seated plan hs) x.0, x.1, x.2, x.3)
-  stopped (Some code) x = (ap (seated plan hs) x.0, x.1, x.2, x.3)
 
   note : (b : Body) → IsNote b s → IsNote b v
   note (Spill n) h = h

@@ -75,9 +75,6 @@ module _ (w : PlainWorld) where
   pub long-beside : length (world_view w).aside.purses ≡ lanes_in w
   long-beside = ap length purses-aside ∙ length-set (purses w) (chosen w) no_purse ∙ long-purses
 
-  pub within-purses : chosen w < length (purses w)
-  within-purses = subst (λ n. chosen w < n) (sym long-purses) w.book.within
-
   abbrev pub own_purse : Purse
   own_purse = record { spare = (world_view w).spare; stops = (world_view w).stops; answered = (world_view w).answered }
 

@@ -40,14 +40,6 @@ taken-resumes sys ceiling level p xs ys v w answer r =
 pub begin-none : (k : Kernel) (xs : Objects) → Begin 0 k k xs xs
 begin-none k xs = record { steps = omega arith; taken = omega arith }
 
-pub begin-then : (m n : ℕ) (k l j : Kernel) (xs ys zs : Objects) → Begin m k l xs ys → Begin n l j ys zs → Begin (m + n) k j xs zs
-begin-then m n k l j xs ys zs one two =
-    let a = one.steps in
-    let b = two.steps in
-    let c = one.taken in
-    let d = two.taken in
-    record { steps = omega (arith, a, b); taken = omega (arith, c, d) }
-
 -- Rounds.
 
 pub counted-none : (k : Kernel) (xs : Objects) → k.steps ≤ k.looks → AreCounted k k xs xs

@@ -12,7 +12,7 @@ use Rattle.qp_calls.specs.declared.tokens.Entry.{Entry}
 use Rattle.qp_calls.specs.Clauses.{Sees, Stops, TakesIt}
 use Rattle.qp_calls.specs.LaneView.{Gains, Grows, GrowsOf, LaneView, Roomier, placed_by}
 use Rattle.qp_calls.specs.Notes.{last_code, told_note}
-use Rattle.qp_calls.proofs.Growing.{gains-none, room-gains, room-then}
+use Rattle.qp_calls.proofs.Growing.{gains-none, room-then}
 use Rattle.qp_calls.proofs.NoteLemmas.{last-snoc}
 use Rattle.qp_dispatch.specs.declared.steps.Step.{Step}
 use Rattle.qp_dispatch.specs.declared.steps.Step.TheVariants as step
@@ -102,9 +102,6 @@ gains-goes acts ts v w g = record {
 
 pub goes-none : (acts : Bool) (v : LaneView) → LaneGoes acts v v
 goes-none acts v = gains-goes acts [] v v (gains-none v)
-
-pub roomier-goes : (acts : Bool) (v w : LaneView) → Roomier v w → LaneGoes acts v w
-roomier-goes acts v w room = gains-goes acts [] v w (room-gains v w room)
 
 -- the codes that a lane handed in and found are no part of what is kept
 pub keeps-codes : (acts : Bool) (v m : LaneView) (stops answered : List ℕ) → KeepsLane acts v m → KeepsLane acts v (record m { stops = stops; answered = answered })

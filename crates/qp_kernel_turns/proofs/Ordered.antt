@@ -102,9 +102,6 @@ halts-behind acts sys u v w halt.Stopped of plan h = record { of = h.of ∙ of; 
 
 -- A look.
 
-both : (a b c : Bool) → a ≡ true → b ≡ true → c ≡ true → (a && b && c) ≡ true
-both a b c x y z = rw (x, y, z) refl
-
 -- the stop word was asked in vain, and records have come
 pub unset-still : (ts : List ToldItem) (v w : LaneView) → Gains ts v w → is_unset v ≡ true → is_unset w ≡ true
 unset-still ts v w gains h =
@@ -112,9 +109,6 @@ unset-still ts v w gains h =
     ∙ ap (λ a. no_code w.stops && no_code a && list_all is_codeless v.aside.purses) gains.answered
     ∙ ap (λ a. no_code a && no_code v.answered && list_all is_codeless v.aside.purses) gains.stops
     ∙ h
-
-pub unset-is : (v : LaneView) → v.stops ≡ [] → v.answered ≡ [] → IsTrue (list_all is_codeless v.aside.purses) → is_unset v ≡ true
-unset-is v stops answered aside = both (no_code v.stops) (no_code v.answered) (list_all is_codeless v.aside.purses) (ap no_code stops) (ap no_code answered) aside
 
 module _ (acts : Bool) (sys : System) (looks n floor : ℕ) (base : Bool) (v u w : LaneView) (of : v.sys ≡ sys) (gains : Gains (look_told n floor ∷ []) v u)
     (next : n ≡ looks + 1) (same : base ≡ (floor == 0)) (h : InOrder acts sys looks v) where
@@ -234,10 +228,6 @@ seen-none sys floor place v all i d from its high = absurd (never sys.objects i 
     never [] k le e = absurd (cc)
     never (x ∷ xs) zero le e = absurd (omega (arith, le))
     never (x ∷ xs) (suc k) le e = never xs k (omega (arith, le)) e
-
--- the next objects were passed too
-pub passed-then : (acts : Bool) (sys : System) (floor more place : ℕ) (a b d : Stand) → PassedInOrder acts sys floor more a b → PassedInOrder acts sys floor place b d → PassedInOrder acts sys floor place a d
-passed-then acts sys floor more place a b d one two = record { order = two.order; none = λ base acting h. two.none base acting (one.none base acting h); empty = two.empty; stays = λ p h. two.stays p (one.stays p h) }
 
 -- it went onward before
 pub halts-from : (acts : Bool) (sys : System) (xs : Objects) (v : LaneView) (ys : Objects) (u w : LaneView) (h : Halt) → v.sys ≡ sys → u.sys ≡ sys → GoesOnward xs v ys u → HaltsInOrder acts sys u w h → HaltsInOrder acts sys v w h

@@ -29,9 +29,6 @@ stays-by v w own rise p h =
     let up = rise p in
     omega (arith, h, same, up)
 
-pub stays-then : (u v w : LaneView) → PendingStays u v → PendingStays v w → PendingStays u w
-stays-then u v w one two p h = two p (one p h)
-
 -- a look, and what another lane did in it
 pub look-stays : (n floor : ℕ) (v v1 v2 v3 : LaneView) → Roomier v v1 → GrowsOf 0 (plain (body.Look n floor) ∷ []) v1 v2 → IsLaneKept v2 v3 → PendingStays v v3
 look-stays n floor v v1 v2 v3 room grown kept =

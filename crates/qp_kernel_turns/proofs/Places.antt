@@ -1,7 +1,7 @@
 -- Objects at their priorities, and the references that they keep.
-use Rattle.std.proofs.Common.{◌≡◌, ◌≢◌, ℕ, zero, suc, ◌+◌, ◌<◌, ◌≤◌, true, List, [], ◌∷◌, map, length, refl, sym, ◌∙◌, ap, Option, Some, None, arith}
+use Rattle.std.proofs.Common.{◌≡◌, ◌≢◌, ℕ, zero, suc, ◌+◌, ◌≤◌, true, List, [], ◌∷◌, map, refl, sym, ◌∙◌, ap, Option, Some, None, arith}
 use Rattle.std.specs.Prelude.{get_or, slice_get, slice_set}
-use Rattle.std.proofs.lemmas.Option.{get_or_from_slice_get, slice_get_within}
+use Rattle.std.proofs.lemmas.Option.{get_or_from_slice_get}
 use Rattle.std.specs.List.{list_all}
 use Rattle.std.specs.Option.{is_some}
 use Rattle.qp_calls.specs.Tokens.{Token}
@@ -96,6 +96,3 @@ pub at-none : (xs : List (Option Slot)) (i p : ℕ) (x : Option Slot) (slot : Sl
 at-none xs i p x slot at there read is =
     let one : get_or xs p x ≡ Some slot = get_or_from_slice_get xs p (Some slot) x there in
     let all : None ≡ Some slot = sym is ∙ read ∙ ap (λ n. get_or xs n x) at ∙ one in cc
-
-pub in-places : (xs : List (Option Slot)) (i p : ℕ) (slot : Slot) → i ≡ p → slice_get xs p ≡ Some (Some slot) → i < length xs
-in-places xs i p slot at there = rw at (slice_get_within xs p (Some slot) there)

@@ -1,10 +1,11 @@
 -- From one look of a row to the next, and to its end.
-use Rattle.std.proofs.Common.{◌≡◌, ℕ, suc, cond, ◌-◌, ◌<◌, ◌==◌, Bool, true, false, ◌||◌, List, [], ◌∷◌, ◌++◌, length, reverse, refl, sym, ◌∙◌, ap, subst, inl, inr, Some, None, arith}
-use Rattle.std.specs.Prelude.{slice_get, ◌⊎◌}
+use Rattle.std.proofs.Common.{◌≡◌, ℕ, suc, cond, ◌-◌, ◌==◌, Bool, true, false, ◌||◌, List, [], ◌∷◌, ◌++◌, length, reverse, refl, sym, ◌∙◌, ap, subst, Some, None, arith}
+use Rattle.std.specs.Prelude.{slice_get}
 use Rattle.std.specs.List.{AllByRecursion, find}
 use Rattle.std.specs.Option.{option_map_or}
 use Rattle.std.proofs.lemmas.List.{reverse-append, reverse-reverse}
 use Rattle.std.proofs.lemmas.Bool.Decides.{nat_tests}
+use Rattle.std.proofs.lemmas.Bool.{or_right}
 use Rattle.qp_chart.specs.StateTree.{has}
 use Rattle.qp_model.specs.declared.systems.System.{System}
 use Rattle.qp_model.specs.declared.systems.ObjectDef.{ObjectDef}
@@ -14,7 +15,6 @@ use Rattle.qp_model.specs.KernelLane.{Again, Over, floor_in, looking_at, thresho
 use Rattle.qp_model.specs.Sites.{object_at}
 use Rattle.qp_model_order.specs.RunOrder.{has_stim}
 use Rattle.qp_calls.specs.LaneView.{LaneView}
-use Rattle.qp_calls.specs.Notes.{last_code}
 use Rattle.qp_kernel.specs.Happenings.{lanes_of}
 use Rattle.qp_kernel.specs.LaneZero.{row_of, setting}
 use Rattle.qp_kernel.specs.Stages as stage
@@ -24,7 +24,7 @@ use Rattle.qp_kernel.proofs.RowLemmas.{looking-again, looking-over, looking-over
 use Rattle.qp_kernel_turns.specs.declared.objects.Objects.{Objects}
 use Rattle.qp_kernel_turns.specs.Objects.{threshold_in, threshold_there}
 use Rattle.qp_kernel_turns.specs.Knowing.{HasStack, IsNamed, IsRunning, IsScanning, KnowsAt, MayLook, is_busy, is_paused}
-use Rattle.qp_kernel_turns.specs.Turning.{AreHeld, Entered, GoesOnward, Idled, IsOver, Looked, Passed, Stepped, RunsTop, Stand, Stood, TurnStopped, floor_of, row_below}
+use Rattle.qp_kernel_turns.specs.Turning.{AreHeld, Entered, GoesOnward, Idled, IsOver, Looked, Passed, Stepped, RunsTop, Stand, Stood, floor_of, row_below}
 use Rattle.qp_kernel_turns.specs.Ordering.{AreSeenEmpty, IdlesInOrder, IsSeenEmpty, LookedInOrder, NoneActs, PassedInOrder}
 use Rattle.qp_kernel_turns.proofs.SoundObjects.{numbered}
 use Rattle.qp_kernel_turns.proofs.Places.{follow-none, follow-then}
@@ -40,13 +40,6 @@ onward-none xs v = record { hands = follow-none xs v v refl; answered = refl; pl
 
 pub onward-then : (xs : Objects) (v : LaneView) (ys : Objects) (w : LaneView) (zs : Objects) (u : LaneView) → GoesOnward xs v ys w → GoesOnward ys w zs u → GoesOnward xs v zs u
 onward-then xs v ys w zs u one two = record { hands = follow-then xs v ys w zs u one.hands two.hands; answered = two.answered ∙ one.answered; plan = two.plan ∙ one.plan }
-
-pub stopped-from : (sys : System) (terms : Terms) (xs : Objects) (v : LaneView) (ys : Objects) (w u : LaneView) → GoesOnward xs v ys w → TurnStopped sys terms w u → TurnStopped sys terms v u
-stopped-from sys terms xs v ys w u on stop = record { zero = stop.zero; why = by stop.why }
-  where
-    by : (0 < last_code u.told) ⊎ (length w.answered < length u.answered) → (0 < last_code u.told) ⊎ (length v.answered < length u.answered)
-    by (inl h) = inl h
-    by (inr h) = inr (subst (λ l. length l < length u.answered) on.answered h)
 
 -- The thresholds of the objects under way.
 
@@ -84,10 +77,6 @@ module _ (sys : System) (terms : Terms) (looks : ℕ) (stack : List ℕ) (xs : O
   paused-busy (stage.Resting c) h = absurd (cc)
   paused-busy (stage.Begun ev e left c) h = absurd (cc)
 
-  or-right : (a b : Bool) → b ≡ true → (a || b) ≡ true
-  or-right true b h = refl
-  or-right false b h = h
-
   -- the step at the top goes on
   pub runs-on : (front : List ℕ) (p : ℕ) → stack ≡ front ++ p ∷ [] → KnowsAt (IsRunning sys p) sys terms looks stack xs v
   runs-on front p is =
@@ -102,7 +91,7 @@ module _ (sys : System) (terms : Terms) (looks : ℕ) (stack : List ℕ) (xs : O
             named = k.at.stack.named;
             descends = k.at.stack.descends;
             rests = k.at.stack.rests;
-            waits = λ o h. k.at.stack.waits o (ap (λ ps. has ps o) running ∙ or-right (p == o) (has (reverse front) o) h);
+            waits = λ o h. k.at.stack.waits o (ap (λ ps. has ps o) running ∙ or_right (p == o) (has (reverse front) o) h);
           };
           owed = k.at.owed;
           step = record {

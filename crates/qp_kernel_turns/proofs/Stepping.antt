@@ -113,13 +113,13 @@ busy-is sys d chart x v (stage.Resting c) busy h = absurd (cc)
 
 -- The lane, while it works for an object.
 
-event-by : (st : Position) (o : ℕ) (v : LaneView) → event_in st (works_for o v) ≡ event_in st v
+pub event-by : (st : Position) (o : ℕ) (v : LaneView) → event_in st (works_for o v) ≡ event_in st v
 event-by standing.Between o v = refl
 event-by (standing.Taken (token.Static sig)) o v = refl
 event-by (standing.Taken (token.Pool h)) o v = refl
 event-by (standing.Within g) o v = refl
 
-left-by : (home : Setting) (k : Lasting) (st : Position) (o : ℕ) (v : LaneView) → left_of home k st (works_for o v) ≡ left_of home k st v
+pub left-by : (home : Setting) (k : Lasting) (st : Position) (o : ℕ) (v : LaneView) → left_of home k st (works_for o v) ≡ left_of home k st v
 left-by home k standing.Between o v = refl
 left-by home k (standing.Taken (token.Static sig)) o v = refl
 left-by home k (standing.Taken (token.Pool h)) o v = refl
@@ -145,7 +145,7 @@ under-way-by home k (standing.Within g) o v h = record {
   few = h.few;
 }
 
-tasks-of : (u : Option Under) (ts : List Task) (leaf : ℕ) → (left_by_under u ts leaf).tasks ≡ ts
+pub tasks-of : (u : Option Under) (ts : List Task) (leaf : ℕ) → (left_by_under u ts leaf).tasks ≡ ts
 unfolding tasks_left publishing_left
 tasks-of None ts leaf = refl
 tasks-of (Some u) ts leaf = refl
@@ -380,9 +380,6 @@ module _ (sys : System) (sound : IsSound sys) (terms : Terms) (looks : ℕ) (fro
 
   -- A `spill`.
   module _ (y : Lasting) (z : Position) (mid w : LaneView) (told : w.told ≡ mid.told) (lanes : lanes_of w ≡ lanes_of v) (b : EndsSpilled home x.lasting x.stage y z V mid) where
-    many : ℕ
-    many = length b.mid.told
-
     spilled-told : w.told ≡ s.told ++ (map (for_object p) b.g ++ spill_told (length b.mid.told) ∷ [])
     spilled-told =
         told ∙ ap (λ u. u.told) b.stops ∙ b.spills.told ∙ ap (λ ts. ts ++ spill_told (length b.mid.told) ∷ []) (grown b.g b.mid b.grows ∙ ap (λ ts. ts ++ map (for_object p) b.g) (sym k.told))
@@ -476,9 +473,6 @@ module _ (sys : System) (sound : IsSound sys) (terms : Terms) (looks : ℕ) (fro
 
     started-w : later.object.started ≡ true
     started-w = ap (λ o. o.started) same ∙ turn.started
-
-    me-w : later.object.me ≡ x.me
-    me-w = ap (λ o. o.me) same
 
     home-w : home_of sys n.chart later.object ≡ home
     home-w = ap (home_of sys n.chart) same

@@ -16,7 +16,7 @@ pub seen-mark_own : (p n f l m : ℕ) → mark_after (word.Queue p) n (seen_told
 unfolding mark_after mark_by
 seen-mark_own p n f l m = let self : (p == p) ≡ true = grind (arith, nat_tests) in rw self refl
 
-nil-mark_own : (p n f l m : ℕ) → mark_after (word.Queue p) n (for_object p (plain (body.Nil f l m)) ∷ []) ≡ f + l + m
+pub nil-mark_own : (p n f l m : ℕ) → mark_after (word.Queue p) n (for_object p (plain (body.Nil f l m)) ∷ []) ≡ f + l + m
 unfolding mark_after mark_by
 nil-mark_own p n f l m = let self : (p == p) ≡ true = grind (arith, nat_tests) in rw self refl
 

@@ -74,9 +74,6 @@ module _ (sys : System) (sound : IsSound sys) (terms : Terms) (a : Stand) (k : S
   lanes-two : lanes_of v2 ≡ lanes_of a.lane
   lanes-two = same-lanes a.lane v2 (grown.plan ∙ ap (λ u. u.plan) room.same) (grown.happened ∙ ap (λ u. u.happened) room.same)
 
-  stack-of : List ℕ
-  stack-of = a.stack
-
   abbrev b : Stand
   b = record a { looks = n; lane = v3 }
 

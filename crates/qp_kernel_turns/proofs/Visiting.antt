@@ -62,7 +62,7 @@ resting-is (stage.Paused ev e left c) h = absurd (cc)
 pub self-moved : (stages : ℕ → Stage) (p : ℕ) (s : Stage) → moved stages p s p ≡ s
 self-moved stages p s = let self : (p == p) ≡ true = grind (arith, nat_tests) in rw self refl
 
-taken-alike : (k : Lasting) (me : ℕ) (e : Entry) (v w : LaneView) → TakesIt me e v w → ChangeAlike (map entry_of (held_in k standing.Between)) (map entry_of (held_in k (standing.Taken e))) v w
+pub taken-alike : (k : Lasting) (me : ℕ) (e : Entry) (v w : LaneView) → TakesIt me e v w → ChangeAlike (map entry_of (held_in k standing.Between)) (map entry_of (held_in k (standing.Taken e))) v w
 taken-alike k me e v w t x =
     let hands : count_of x w.hands ≡ _ = ap (count_of x) (taken-hands me e v w t) ∙ count-with x (entry_of e) v.hands in
     let old : count_of x (tokens_in (map entry_of (k.list.entries.items ++ []))) ≡ count_of x (tokens_in (map entry_of k.list.entries.items)) = ap (λ es. count_of x (tokens_in (map entry_of es))) (append-nil k.list.entries.items) in
@@ -70,12 +70,12 @@ taken-alike k me e v w t x =
     ap (λ es. count_of x (tokens_in es)) (map-append entry_of k.list.entries.items (e ∷ [])) ∙ tokens-append x (map entry_of k.list.entries.items) (entry_of e) in
     omega (arith, hands, old, new)
 
-event-is : (e : Entry) (w : LaneView) → EventIs e w → w.event (entry_of e) ≡ event_at e w
+pub event-is : (e : Entry) (w : LaneView) → EventIs e w → w.event (entry_of e) ≡ event_at e w
 unfolding entry_of
 event-is (token.Static sig) w h = h
 event-is (token.Pool x) w h = refl
 
-took-ceiling : (told : List ToldItem) (f l m : ℕ) (e : model.Entry) (ev : Event) (p : ℕ) → ceiling_in 0 (told ++ for_object p (taken f l m e ev) ∷ []) ≡ ceiling_in 0 told
+pub took-ceiling : (told : List ToldItem) (f l m : ℕ) (e : model.Entry) (ev : Event) (p : ℕ) → ceiling_in 0 (told ++ for_object p (taken f l m e ev) ∷ []) ≡ ceiling_in 0 told
 unfolding ceiling_in
 took-ceiling told f l m e ev p = ceiling-append 0 told (for_object p (taken f l m e ev) ∷ [])
 
@@ -172,9 +172,6 @@ module _ (sys : System) (sound : IsSound sys) (terms : Terms) (looks : ℕ) (sta
     after-stands =
         step_begins sys terms found p n.object n.chart takes.f takes.l takes.m (entry_of e) ev c (numbered sys sound) (able sys sound) object-is positive found-stands at.owed at.stack.started refl config.1
         (omega (arith, few, counted))
-
-    k-slot : Lasting
-    k-slot = its.slot.object.lasting
 
     alike : ChangeAlike (map entry_of (held_in its.slot.object.lasting its.slot.object.stage)) (map entry_of (held_in later.object.lasting later.object.stage)) w z
     alike = rw (begins, at-rest.between) (taken-alike its.slot.object.lasting p e w z takes)

@@ -1,7 +1,7 @@
 -- The events in the blocks, and which blocks a pool has.
 use Rattle.std.proofs.Common.{◌≡◌, ℕ, zero, suc, ◌<◌, ◌≤◌, ◌==◌, nat_lt, nat_le, Bool, true, List, [], ◌∷◌, length, get_or, sym, ◌∙◌, ap, subst, arith, IsTrue, Some}
 use Rattle.std.specs.List.{list_all}
-use Rattle.std.proofs.lemmas.Bool.{and_from, and_parts}
+use Rattle.std.proofs.lemmas.Bool.{and_from, and_parts, le-leb, lt-ltb}
 use Rattle.std.proofs.lemmas.Bool.Decides.{nat_tests}
 use Rattle.std.proofs.lemmas.Option.{same_Some}
 use Rattle.qp_base.specs.declared.event.Ev.{Ev}
@@ -80,12 +80,6 @@ free-block w p b q h is first =
 pub pool-fits : (w : PlainWorld) (p : ℕ) (ev : Event) → FitsPool (world_view w).sys p ev → IsTrue (is_pool w.sys.now p) × IsTrue (is_event w.sys.now ev)
 unfolding view_of
 pool-fits w p ev h =
-    let some : nat_lt 0 p ≡ true = lt 0 p h.some in
-    let within : nat_le p (length w.sys.now.pools) ≡ true = le p (length w.sys.now.pools) h.there in
+    let some : nat_lt 0 p ≡ true = lt-ltb 0 p h.some in
+    let within : nat_le p (length w.sys.now.pools) ≡ true = le-leb p (length w.sys.now.pools) h.there in
     (and_from _ _ some within, event-to w.sys.now ev h.event)
-  where
-    le : (a b : ℕ) → a ≤ b → nat_le a b ≡ true
-    le a b e = grind (arith, nat_tests)
-
-    lt : (a b : ℕ) → a < b → nat_lt a b ≡ true
-    lt a b e = grind (arith, nat_tests)

@@ -2,7 +2,7 @@
 use Rattle.std.proofs.Common.{◌≡◌, ℕ, zero, suc, ◌+◌, ◌-◌, ◌<◌, ◌≤◌, ◌==◌, nat_lt, Bool, true, false, not, cond, List, [], ◌∷◌, ◌++◌, length, map, get_or, slice_get, slice_set, replicate, refl, sym, ◌∙◌, ap, subst, arith, is_some, Option, Some, None, length-append}
 use Rattle.std.specs.List.{list_all, AllByRecursion, find}
 use Rattle.std.specs.Option.{option_map_or}
-use Rattle.std.proofs.lemmas.Bool.{and_from, and_parts}
+use Rattle.std.proofs.lemmas.Bool.{and_from, and_parts, not-true}
 use Rattle.std.proofs.lemmas.Bool.Decides.{nat_tests}
 use Rattle.std.proofs.lemmas.List.{length-set, length-replicate}
 use Rattle.std.proofs.lemmas.List.Sums.{sum_by-cons}
@@ -107,15 +107,11 @@ new-parts g h =
     let c = and_parts _ _ a.1 in
     let d = and_parts _ _ c.1 in
     let none : (g.spare == 0) ≡ true = b.1 in
-    record { recs = nothing g.recs.items b.0; spare = grind (arith, nat_tests, none); spilled = flip g.spilled c.0; stops = d.0; answered = d.1 }
+    record { recs = nothing g.recs.items b.0; spare = grind (arith, nat_tests, none); spilled = not-true g.spilled c.0; stops = d.0; answered = d.1 }
   where
     nothing : (rs : List Rec) → no_recs rs ≡ true → rs ≡ []
     nothing [] e = refl
     nothing (r ∷ rs) e = absurd (cc)
-
-    flip : (v : Bool) → not v ≡ true → v ≡ false
-    flip true e = sym e
-    flip false e = refl
 
 pub is-new : (g : Log) → g.recs.items ≡ [] → g.spare ≡ 0 → g.spilled ≡ false → g.stops.list ≡ [] → g.answered.list ≡ [] → is_new g ≡ true
 is-new g recs spare spilled stops answered = rw (recs, spare, spilled, stops, answered) refl

@@ -1,7 +1,7 @@
 -- What stands in the hands of a world, and which record may come.
 use Rattle.std.proofs.Common.{◌≡◌, ℕ, ◌+◌, ◌-◌, ◌<◌, ◌≤◌, nat_lt, nat_le, true, List, ◌∷◌, length, refl, subst, arith, IsTrue, Option, Some, None, inl, inr}
 use Rattle.std.specs.Option.{unwrap_or}
-use Rattle.std.proofs.lemmas.Bool.{and_from, and_parts}
+use Rattle.std.proofs.lemmas.Bool.{and_from, and_parts, le-leb, lt-ltb}
 use Rattle.std.proofs.lemmas.Bool.Decides.{nat_tests}
 use Rattle.qp_model.specs.Sites.{ring_of}
 use Rattle.qp_model.specs.WordLaw.{is_block, is_object, is_timer}
@@ -81,15 +81,9 @@ pub owned-timer : (w : PlainWorld) (t : ℕ) → Owns (world_view w) t → IsTru
 unfolding view_of
 owned-timer w t owns =
     let lt = slice_get_within w.sys.now.timers (t - 1) owns.timer owns.there in
-    let some : nat_lt 0 t ≡ true = lt-true 0 t owns.some in
-    let within : nat_le t (length w.sys.now.timers) ≡ true = le-true t (length w.sys.now.timers) (omega (arith, lt, owns.some)) in
+    let some : nat_lt 0 t ≡ true = lt-ltb 0 t owns.some in
+    let within : nat_le t (length w.sys.now.timers) ≡ true = le-leb t (length w.sys.now.timers) (omega (arith, lt, owns.some)) in
     and_from _ _ some within
-  where
-    lt-true : (a b : ℕ) → a < b → nat_lt a b ≡ true
-    lt-true a b h = grind (arith, nat_tests)
-
-    le-true : (a b : ℕ) → a ≤ b → nat_le a b ≡ true
-    le-true a b h = grind (arith, nat_tests)
 
 -- a token that stands names a pool
 pub stands-token : (w : PlainWorld) (e : Entry) → Stands e (world_view w) → is_token e ≡ true

@@ -47,10 +47,6 @@ module _ (w : PlainWorld) (b : Book) (r : Rec) (gains : Gains r w.book b) (a f l
   pub now : IsQueue w.sys.now (lists_of w.book) a f l m
   now = record { object = h; firsts = f_is ∙ ap (λ x. x.f) line_is; lasts = l_is ∙ ap (λ x. x.l) line_is; takes = m_is ∙ ap (λ x. x.m) line_is }
 
-  -- a record that shows the queue
-  pub shown-holds : (o : ℕ) (body : Body) → item_of r ≡ record { of = o; body = body } → MayCome (step_at w b r) o body → ((v : Word) → drawn_on v (touch_of o body) ≡ false) → With w.queues.items
-  shown-holds o body says may off = quiet w b r gains o body says may off
-
   -- a record that draws on it
   pub moved-holds : (o n : ℕ) (body : Body) (next : Queue) → item_of r ≡ record { of = o; body = body } → MayCome (step_at w b r) o body → touch_of o body ≡ Draws (word.Queue a) n
       → n ≡ suc (f + l + m) → next.ring ≡ q.ring → next.line ≡ line_next q.line body → With (slice_set w.queues.items a next)

@@ -1,7 +1,7 @@
 -- The calls on blocks do what their clauses say.
-use Rattle.std.proofs.Common.{◌≡◌, ℕ, suc, ◌+◌, ◌<◌, ◌≤◌, ◌==◌, Bool, true, false, not, ◌&&◌, [], ◌∷◌, length, take, refl, sym, ◌∙◌, ap, subst, arith, IsTrue, inl, inr, Option, Some, None, take_all, length-append}
+use Rattle.std.proofs.Common.{◌≡◌, ℕ, suc, ◌+◌, ◌<◌, ◌≤◌, ◌==◌, Bool, true, false, ◌&&◌, [], ◌∷◌, length, take, refl, sym, ◌∙◌, ap, subst, arith, IsTrue, inl, inr, Option, Some, None, take_all, length-append}
 use Rattle.std.specs.Option.{unwrap_or}
-use Rattle.std.proofs.lemmas.Bool.{and_from, lt-ltb}
+use Rattle.std.proofs.lemmas.Bool.{and_from, lt-ltb, not-true}
 use Rattle.std.proofs.lemmas.List.{take-append-le}
 use Rattle.qp_chart.specs.StateTree.{has}
 use Rattle.qp_model.specs.declared.words.Word.TheVariants as word
@@ -77,11 +77,7 @@ module _ (s : Step) (p n b from : ℕ) (ev : Event) (ext : Extends s s.by (New p
   bare_after : (refs_in s.more p b).names ≡ []
   bare_after =
       ap (λ x. x.names) (refs-same s s.by body ext.world ext.grown ext.says may p b refl)
-      ∙ (ext.world.sound.block p b m.block).idle (free_out _ (sym (free-life s.sys s.lanes ext.world.sound.words p b m.block) ∙ first-has b _ m.lowest))
-    where
-      free_out : (v : Bool) → not v ≡ true → v ≡ false
-      free_out true e = cc
-      free_out false e = refl
+      ∙ (ext.world.sound.block p b m.block).idle (not-true _ (sym (free-life s.sys s.lanes ext.world.sound.words p b m.block) ∙ first-has b _ m.lowest))
 
   pub given-done : (reserve : Option ℕ) → unwrap_or reserve 0 < length (pool_in s.sys s.lanes p).free
       → Gives p reserve ev (before s) (behind s) (give.Given (record { pool = p; block = b; used = false }))

@@ -1,7 +1,7 @@
 -- Events of entries; a take does what its clause says.
 use Rattle.std.proofs.Common.{◌≡◌, ℕ, suc, ◌+◌, ◌-◌, ◌<◌, ◌≤◌, ◌==◌, nat_lt, nat_le, true, false, ◌&&◌, List, [], ◌∷◌, length, slice_get, refl, sym, ◌∙◌, ap, subst, arith, IsTrue, Option, Some, None}
 use Rattle.std.specs.Option.{option_map_or}
-use Rattle.std.proofs.lemmas.Bool.{and_from, and_parts}
+use Rattle.std.proofs.lemmas.Bool.{and_from, and_parts, le-leb, lt-ltb}
 use Rattle.std.proofs.lemmas.Bool.Decides.{nat_tests}
 use Rattle.std.proofs.lemmas.Option.{slice_get_within, same_Some}
 use Rattle.qp_chart.specs.StateTree.{has}
@@ -57,14 +57,8 @@ event-from sys ev h =
 
 pub event-to : (sys : System) (ev : Event) → IsEvent sys ev → IsTrue (is_event sys ev)
 event-to sys ev h =
-    and_from _ _ (and_from _ _ (le-true 4 ev.sig h.from) (lt-true ev.sig (length sys.signals + 4) h.within)) (same-true (length ev.pars) (params_of sys ev.sig) h.params)
+    and_from _ _ (and_from _ _ (le-leb 4 ev.sig h.from) (lt-ltb ev.sig (length sys.signals + 4) h.within)) (same-true (length ev.pars) (params_of sys ev.sig) h.params)
   where
-    le-true : (x y : ℕ) → x ≤ y → nat_le x y ≡ true
-    le-true x y k = grind (arith, nat_tests)
-
-    lt-true : (x y : ℕ) → x < y → nat_lt x y ≡ true
-    lt-true x y k = grind (arith, nat_tests)
-
     same-true : (x y : ℕ) → x ≡ y → (x == y) ≡ true
     same-true x y k = grind (arith, nat_tests)
 

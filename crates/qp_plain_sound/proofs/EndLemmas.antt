@@ -2,7 +2,7 @@
 use Rattle.std.proofs.Common.{◌≡◌, ◌≢◌, ℕ, zero, suc, ◌+◌, ◌<◌, ◌==◌, nat_lt, nat_le, Bool, true, false, not, ◌&&◌, ◌||◌, cond, List, [], ◌∷◌, ◌++◌, length, refl, sym, ◌∙◌, ap, subst, arith, IsTrue, inl, inr, Some, append_assoc}
 use Rattle.std.specs.List.{list_all, find}
 use Rattle.std.specs.Option.{is_some}
-use Rattle.std.proofs.lemmas.Bool.{and_from}
+use Rattle.std.proofs.lemmas.Bool.{and_from, or_right}
 use Rattle.std.proofs.lemmas.Bool.Decides.{nat_tests}
 use Rattle.qp_chart.specs.StateTree.{has}
 use Rattle.qp_model.specs.declared.record.Rec.{Rec}
@@ -181,12 +181,8 @@ module _ (sys : System) (lanes : List (List Rec)) (hands : List Token) (deferred
           let same = names-tokens p b r some deferred in
           omega (arith, owned, none, held, same)
 
-      or-true : (u v : Bool) → v ≡ true → (u || v) ≡ true
-      or-true true v k = refl
-      or-true false v k = k
-
       go : (out : Bool) → (life_in lanes p b).out ≡ out → (has (pool_in sys lanes p).free b || same_numbers (refs_in lanes p b).names (names_on p b deferred)) ≡ true
-      go out e = or-true _ _ (numbers-same (refs_in lanes p b).names (names_on p b deferred) names)
+      go out e = or_right _ _ (numbers-same (refs_in lanes p b).names (names_on p b deferred) names)
 
   abbrev pool_rests : ℕ → Bool
   pool_rests k = all_below (blocks_of sys (suc k)) (block_rests sys (all_items lanes) deferred (suc k))

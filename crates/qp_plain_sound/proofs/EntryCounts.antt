@@ -11,7 +11,7 @@ use Rattle.qp_model.specs.declared.systems.System.{System}
 use Rattle.qp_model.specs.declared.bodies.Body.{Body}
 use Rattle.qp_model.specs.declared.bodies.Body.TheVariants.{Took, Post, Lifo}
 use Rattle.qp_model.specs.Record.{Item}
-use Rattle.qp_model.specs.History.{Touch, Draws, Shows, Neither, touch, touch_of, same_word, drawn_on, drawn_as, drawn_below, numbered, hist, all_items, total, is_numbered}
+use Rattle.qp_model.specs.History.{Touch, Draws, touch, touch_of, same_word, drawn_on, drawn_as, drawn_below, numbered, hist, all_items, total, is_numbered}
 use Rattle.qp_model.specs.Machine.{after, after_from, is_allowed, allowed_from}
 use Rattle.qp_model.specs.Line.{Line, line, line_may, line_next}
 use Rattle.qp_model.specs.OneOrder.{Placed, enters, leaves}
@@ -23,7 +23,6 @@ use Rattle.qp_plain_sound.specs.Log.{log_of, items_of}
 use Rattle.qp_plain_sound.specs.Sound.{SoundWorld}
 use Rattle.qp_plain_sound.specs.WordStates.{line_in}
 use Rattle.qp_plain_sound.proofs.LogTotals.{times-log}
-use Rattle.qp_plain_sound.proofs.Standing.{line-in}
 use Rattle.qp_plain_sound.proofs.Times.{times-append}
 
 -- A record stands once among those that draw a number of its word.
@@ -75,8 +74,7 @@ counted_once w (Draws v mark) n b on below =
     let above : 0 < mark = grind (arith, nat_tests) in
     let within : mark ≤ n = grind (arith, nat_tests) in
     once w v mark n b on above within
-counted_once w (Shows v mark) n b on below = absurd (cc)
-counted_once w Neither n b on below = absurd (cc)
+counted_once w _ n b on below = absurd (cc)
 
 filter_times : (p q : Item → Bool) (i : Item) (is : List Item) → times p (filter q (i ∷ is)) ≡ times p (filter q is) + one (q i && p i)
 unfolding times
@@ -198,6 +196,3 @@ module _ (sys : System) (lanes : List (List Rec)) (order : List ℕ) (world : So
 
   pub left-counts : count_by (λ x. leaves a x.item) (log_of lanes order) ≡ (line_in sys lanes a).m
   left-counts = by_log (λ i. leaves a i) (λ i h. leaves_on a i.of i.body h) ∙ omega (arith, moved.went)
-
-  pub entries-count : length (line_in sys lanes a).entries + (line_in sys lanes a).m ≡ (line_in sys lanes a).f + (line_in sys lanes a).l
-  entries-count = (line-in sys lanes world.sound.words a object).counted

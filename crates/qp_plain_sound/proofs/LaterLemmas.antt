@@ -1,7 +1,7 @@
 -- A record that may come is later than all that is known, and what it states of its own word has been reached.
-use Rattle.std.proofs.Common.{◌≡◌, ℕ, zero, suc, ◌+◌, ◌<◌, ◌≤◌, ◌==◌, nat_lt, nat_le, Bool, true, false, ◌||◌, List, [], ◌∷◌, ◌++◌, length, refl, sym, ◌∙◌, ap, subst, arith, IsTrue, ◌⊎◌, inl, inr, Option}
+use Rattle.std.proofs.Common.{◌≡◌, ℕ, zero, suc, ◌+◌, ◌<◌, ◌≤◌, ◌==◌, Bool, true, false, List, [], ◌∷◌, ◌++◌, length, refl, sym, ◌∙◌, ap, subst, arith, IsTrue, ◌⊎◌, inl, inr, Option}
 use Rattle.std.specs.List.{list_all}
-use Rattle.std.proofs.lemmas.Bool.{and_from, and_parts, or_right}
+use Rattle.std.proofs.lemmas.Bool.{and_from, and_parts, le-leb, lt-ltb, or_right}
 use Rattle.std.proofs.lemmas.Bool.Decides.{nat_tests}
 use Rattle.qp_chart.specs.StateTree.{has}
 use Rattle.qp_model.specs.declared.record.Rec.{Rec}
@@ -206,12 +206,6 @@ module _ (sys : System) (before : List (List Rec)) (lane : List Rec) (behind : L
       let up = more (word.Signal s) in
       omega (arith, is_n, up, was, now)
 
-  le-to : (x y : ℕ) → x ≤ y → nat_le x y ≡ true
-  le-to x y h = grind (arith, nat_tests)
-
-  lt-to : (x y : ℕ) → x < y → nat_lt x y ≡ true
-  lt-to x y h = grind (arith, nat_tests)
-
   taken-made : (f l m : ℕ) (e : Entry) → May sys lanes hands o (Took f l m e) → is_made (all_items new_lanes) e ≡ true
   unfolding May
   taken-made f l m e t = still-made e (front-made sys lanes hands old o e t.2.others t.2.queue.object (few o t.2.queue.object) t.2.front)
@@ -225,9 +219,9 @@ module _ (sys : System) (before : List (List Rec)) (lane : List Rec) (behind : L
       go (Took f l m e) t up = taken-made f l m e t
       go (New p n c from sig pars) t up =
           let lt = long-pool p n (block-pool sys p c t.block).0 t.number (up (word.Pool p) (same_number p)) in
-          le-to n (length (hist (word.Pool p) (all_items new_lanes))) (omega (arith, lt))
-      go (Dec p c d k) t up = lt-to d _ (long-block p c d t.block t.number (up (word.Block p c) (and_from _ _ (same_number p) (same_number c))))
-      go (Same sig n) t up = le-to n _ (long-signal sig n t.signal t.number)
+          le-leb n (length (hist (word.Pool p) (all_items new_lanes))) (omega (arith, lt))
+      go (Dec p c d k) t up = lt-ltb d _ (long-block p c d t.block t.number (up (word.Block p c) (and_from _ _ (same_number p) (same_number c))))
+      go (Same sig n) t up = le-leb n _ (long-signal sig n t.signal t.number)
       go _ t up = refl
 
   pub handled-now : handles_made (all_items new_lanes) b ≡ true
@@ -237,7 +231,7 @@ module _ (sys : System) (before : List (List Rec)) (lane : List Rec) (behind : L
       go : (c : Body) → May sys lanes hands o c → ((w : Word) → drawn_on w (touch_of o c) ≡ true → total w (all_items new_lanes) ≡ suc (total w (all_items lanes)))
           → handles_made (all_items new_lanes) c ≡ true
       go (Took f l m e) t up = taken-made f l m e t
-      go (Inc p c n) t up = or_right (p == 0) _ (lt-to n _ (long-block p c n t.block t.number (up (word.Block p c) (and_from _ _ (same_number p) (same_number c)))))
+      go (Inc p c n) t up = or_right (p == 0) _ (lt-ltb n _ (long-block p c n t.block t.number (up (word.Block p c) (and_from _ _ (same_number p) (same_number c)))))
       go (Dec p c d k) t up = still-made (entry p c k) (held-is_made sys lanes hands old p c k t.token)
       go (Post a f l m e) t up = still-made e (owned-made sys lanes hands old e t.2.owned.token)
       go (Lifo f l m e) t up = still-made e (owned-made sys lanes hands old e t.2.owned.token)

@@ -209,5 +209,4 @@ new-lane sys n at spare purses lt = record {
     shown (word.Pool p) = ap (λ x. FreeBlocks (length x.free)) (pool-first sys n p) ∙ ap FreeBlocks (length-count_up 0 (blocks_of sys p))
     shown (word.Block p b) = rw (refs-first n p b) refl
     shown (word.Queue a) = rw (line-first sys n a) refl
-    shown (word.Signal s) = refl
-    shown (word.Timer t) = refl
+    shown _ = refl

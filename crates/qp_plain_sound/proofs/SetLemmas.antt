@@ -1,7 +1,7 @@
 -- A set of subscribers as bits.
 use Rattle.std.proofs.Common.{◌≡◌, ℕ, zero, suc, ◌+◌, ◌-◌, ◌*◌, ◌/◌, ◌%◌, ◌^◌, ◌<◌, ◌==◌, nat_lt, Bool, true, false, not, ◌&&◌, ◌||◌, cond, List, [], ◌∷◌, refl, sym, ◌∙◌, ap, subst, arith, IsTrue, pow_pos}
 use Rattle.std.specs.List.{list_all}
-use Rattle.std.proofs.lemmas.Bool.{and_from, and_parts}
+use Rattle.std.proofs.lemmas.Bool.{and_from, and_parts, not-true}
 use Rattle.std.proofs.lemmas.Bool.Decides.{nat_tests}
 use Rattle.std.proofs.lemmas.List.Sums.{sum_by-cons}
 use Rattle.std.specs.Int.{bit_at}
@@ -134,10 +134,6 @@ bits-has (suc j ∷ ms) h k =
   where
     sum : bits_of_set (suc j ∷ ms) ≡ 2 ^ j + bits_of_set ms
     sum = sum_by-cons (λ p. 2 ^ p / 2) (suc j) ms ∙ ap (λ x. x + bits_of_set ms) (bit-suc j)
-
-    not-true : (u : Bool) → not u ≡ true → u ≡ false
-    not-true true e = cc
-    not-true false e = refl
 
     both-suc : (x y : ℕ) (u : Bool) → (x == y) ≡ u → (suc x == suc y) ≡ u
     both-suc x y true e = grind (arith, nat_tests)

@@ -1,6 +1,6 @@
 -- Blocks are given out and come back: a sound world stays sound.
-use Rattle.std.proofs.Common.{◌≡◌, ℕ, suc, ◌<◌, ◌==◌, Bool, true, false, not, ◌&&◌, cond, List, [], ◌∷◌, ◌++◌, length, refl, sym, ◌∙◌, ap, subst, arith, IsTrue, take_all, Option, Some, None}
-use Rattle.std.proofs.lemmas.Bool.{and_from}
+use Rattle.std.proofs.Common.{◌≡◌, ℕ, suc, ◌<◌, ◌==◌, Bool, true, false, ◌&&◌, cond, List, [], ◌∷◌, ◌++◌, length, refl, sym, ◌∙◌, ap, subst, arith, IsTrue, take_all, Option, Some, None}
+use Rattle.std.proofs.lemmas.Bool.{and_from, not-true}
 use Rattle.std.proofs.lemmas.Bool.Decides.{nat_tests}
 use Rattle.qp_chart.specs.StateTree.{has}
 use Rattle.qp_model.specs.declared.record.Rec.{Rec}
@@ -87,11 +87,7 @@ module _ (sys : System) (before : List (List Rec)) (lane : List Rec) (behind : L
       in_list (x ∷ xs) e = rw e refl
 
       free_out : (life_in old_lanes p b).out ≡ false
-      free_out = flipped_out _ (sym (free-life sys old_lanes old.words p b h) ∙ in_list _ first)
-        where
-          flipped_out : (v : Bool) → not v ≡ true → v ≡ false
-          flipped_out true e = cc
-          flipped_out false e = refl
+      free_out = not-true _ (sym (free-life sys old_lanes old.words p b h) ∙ in_list _ first)
 
       new-words : Words sys new_lanes
       unfolding pool_in

@@ -37,15 +37,6 @@ take_out-absent t (x ∷ xs) h = go (same_token t x) h (take_out-absent t xs)
 pub stands-times : (t : Token) (hands : List Token) → stands t hands ≡ true → 0 < times (same_token t) hands
 stands-times t hands h = let n = times-take_out t t hands h in let k : one (same_token t t) ≡ 1 = rw (same-self t) refl in omega (arith, n, k)
 
-pub absent-times : (t : Token) (hands : List Token) → stands t hands ≡ false → times (same_token t) hands ≡ 0
-unfolding stands times
-absent-times t [] h = refl
-absent-times t (x ∷ xs) h = go (same_token t x) h (absent-times t xs)
-  where
-    go : (b : Bool) → (b || list_any (λ y. same_token t y) xs) ≡ false → (list_any (λ y. same_token t y) xs ≡ false → times (same_token t) xs ≡ 0) → one b + times (same_token t) xs ≡ 0
-    go true e later = cc
-    go false e later = let k = later e in omega (arith, k)
-
 pub all-take_out : (p : Token → Bool) (t : Token) (hands : List Token) → list_all p hands ≡ true → list_all p (take_out t hands) ≡ true
 unfolding take_out
 all-take_out p t [] h = refl

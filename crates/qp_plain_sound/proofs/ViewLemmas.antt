@@ -246,8 +246,7 @@ module _ (sys : System) (lanes : List (List Rec)) (order : List ℕ) (at : ℕ) 
       go (word.Pool p) k = here (λ ls. shown_in sys ls (word.Pool p)) (rw (pool-stays sys _ _ _ r this is p k) refl)
       go (word.Block p c) k = here (λ ls. shown_in sys ls (word.Block p c)) (rw (refs-stays sys _ _ _ r this is p c k) refl)
       go (word.Queue a) k = here (λ ls. shown_in sys ls (word.Queue a)) (rw (line-stays sys _ _ _ r this is a k) refl)
-      go (word.Signal s) k = refl
-      go (word.Timer t) k = refl
+      go _ k = refl
 
   -- The line of a queue on which the record draws a number.
   pub line-still : (a : ℕ) → drawn_on (word.Queue a) (touch_of o b) ≡ false → line_in sys more a ≡ line_in sys lanes a

@@ -10,10 +10,9 @@ use Rattle.qp_model.specs.declared.systems.ObjectDef.{ObjectDef}
 use Rattle.qp_dispatch.specs.declared.objects.Turn.{Turn}
 use Rattle.qp_port_home.specs.declared.home.Home.{Home}
 use Rattle.qp_port_home.specs.At.{IsMade}
-use Rattle.qp_port_cursor.specs.declared.cursor.Cursor.{Cursor}
 use Rattle.qp_port.specs.declared.job.Job.{Job}
 use Rattle.qp_port.specs.declared.job.Job.TheVariants as job
-use Rattle.qp_port.specs.Making.{AddsAll, AddsOne, AreAllMade, HomesMade, IsAtBegin, IsFresh, IsHomeMade, IsSourceMade, IsThis, MadesHome, MadesNothing, MadesSource, SourcesMade}
+use Rattle.qp_port.specs.Making.{AddsAll, AddsOne, AreAllMade, HomesMade, IsFresh, IsHomeMade, IsThis, MadesHome, MadesNothing, SourcesMade}
 use Rattle.qp_port.specs.Rows.{IsNothing}
 
 -- the first of a list is taken out
@@ -125,7 +124,3 @@ made-nothing sys budget s b t x fresh is = record { fresh = fresh; its = subst I
 
 pub made-home : (sys : System) (budget : ℕ) (d : ObjectDef) (home : Home) (s : System) (b : ℕ) (t : Turn) (x : Job) → IsMade sys d.priority home → IsFresh sys budget s b t → IsThis (job.Home home) x → MadesHome sys budget d s b t x
 made-home sys budget d home s b t x made fresh is = record { fresh = fresh; its = subst (IsHomeMade sys d) (sym is) made }
-
-pub made-source : (sys : System) (budget : ℕ) (stimuli : List (List Stim)) (k : ℕ) (cursor : Cursor) (s : System) (b : ℕ) (t : Turn) (x : Job) → IsAtBegin stimuli k cursor → IsFresh sys budget s b t → IsThis (job.Source cursor) x
-    → MadesSource sys budget stimuli k s b t x
-made-source sys budget stimuli k cursor s b t x made fresh is = record { fresh = fresh; its = subst (IsSourceMade stimuli k) (sym is) made }

@@ -1,5 +1,5 @@
 -- Rows of workers.
-use Rattle.std.proofs.Common.{◌≡◌, ℕ, ◌+◌, ◌-◌, ◌<◌, ◌≤◌, ◌==◌, Bool, true, false, cond, List, [], ◌∷◌, ◌++◌, map, length, drop, get_or, refl, sym, ◌∙◌, ap, subst, arith, Option, Some, None, inl, inr, IsTrue}
+use Rattle.std.proofs.Common.{◌≡◌, ℕ, ◌+◌, ◌-◌, ◌<◌, ◌≤◌, ◌==◌, Bool, true, false, cond, List, [], ◌∷◌, ◌++◌, map, length, drop, get_or, refl, sym, ◌∙◌, ap, subst, arith, Option, Some, None, inl, IsTrue}
 use Rattle.std.specs.List.{AllByRecursion, list_all, list_any}
 use Rattle.std.specs.Prelude.{◌⊎◌}
 use Rattle.std.proofs.lemmas.Bool.{and_parts, or_parts}
@@ -128,10 +128,6 @@ same-then Same still (x ∷ xs) (y ∷ ys) [] h k = absurd k
 pub ready-left : {T : Type 0} (P Q : T → Type 0) (ws : List T) → AreReady P ws → AreReady (λ w. P w ⊎ Q w) ws
 ready-left P Q [] h = tt
 ready-left P Q (w ∷ ws) h = (inl h.0, ready-left P Q ws h.1)
-
-pub ready-right : {T : Type 0} (P Q : T → Type 0) (ws : List T) → AreReady Q ws → AreReady (λ w. P w ⊎ Q w) ws
-ready-right P Q [] h = tt
-ready-right P Q (w ∷ ws) h = (inr h.0, ready-right P Q ws h.1)
 
 -- lanes without rows have few
 pub few-rows : {T : Type 0} (numbers : T → Numbers) (more : ℕ) → ((w : T) → (numbers w).rows ≡ 0) → (ws : List T) → HasFewRows numbers more ws

@@ -14,30 +14,26 @@ use Rattle.qp_model.specs.Sound.{IsSound}
 use Rattle.qp_calls.specs.LaneView.{LaneView}
 use Rattle.qp_dispatch.specs.declared.objects.Turn.{Turn}
 use Rattle.qp_dispatch.specs.declared.objects.Turn.TheVariants as turn
-use Rattle.qp_kernel_turns.specs.Lanes.{KeepsLane, LaneStarts, LaneTurns, SameLane}
 use Rattle.qp_kernel_turns.proofs.SoundObjects.{sound-object}
-use Rattle.qp_dispatch.specs.declared.steps.Step.{Step}
-use Rattle.qp_dispatch.specs.declared.steps.Step.TheVariants as step
 use Rattle.qp_port_law.specs.Homes.{HomeEnds}
 use Rattle.qp_port_law.specs.SourcesLeft.{SourceLeaves}
 use Rattle.qp_port_home_law.proofs.HomeLaws.{unstarted_home_ends}
 use Rattle.qp_port_home.specs.declared.home.Home.{Home}
-use Rattle.qp_port_home.specs.Turning.{HomeStarts, HomeStops, HomeTurns}
+use Rattle.qp_port_home.specs.Turning.{HomeStarts}
 use Rattle.qp_port_home.proofs.Resting.{home-of, stops-found}
 use Rattle.qp_port_cursor.specs.declared.cursor.Cursor.{Cursor}
 use Rattle.qp_port_phases.specs.declared.lanes.Passed.{Passed}
 use Rattle.qp_port_phases.specs.declared.lanes.Passed.TheVariants as passed
 use Rattle.qp_port_phases.specs.Passing.{PassesTo}
-use Rattle.qp_port_phases.specs.Stopping.{HasStarved, HasStopped, Hears}
-use Rattle.qp_port_cursor.proofs.Hearing.{hears-itself, lane-hears, passes-hands, passes-hear, passes-to, starts-hear, turns-hear, why-starved, why-stopped}
+use Rattle.qp_port_phases.specs.Stopping.{Hears}
+use Rattle.qp_port_cursor.proofs.Hearing.{passes-hands, passes-hear, passes-to, why-starved, why-stopped}
 use Rattle.qp_port_cursor.specs.At.{IsCursorAt, mine}
 use Rattle.qp_port_cursor.specs.Turning.{IsSameSource, SourceTurns}
 use Rattle.qp_port_cursor.specs.Passing.{Passes}
 use Rattle.qp_port_cursor.proofs.Standing.{may-stop}
 use Rattle.qp_port.specs.declared.job.Job.{Job}
 use Rattle.qp_port.specs.declared.job.Job.TheVariants as job
-use Rattle.qp_port_cursor.specs.Answers.{is_idle, is_short}
-use Rattle.qp_port.specs.Jobs.{JobBegins, JobEnds, JobPasses, JobRests, JobStands, JobStops, JobTurns, TurnsFrom}
+use Rattle.qp_port.specs.Jobs.{JobBegins, JobEnds, JobPasses, JobRests, JobStands, JobStops}
 use Rattle.qp_port.specs.Workers.{MayBegin, MayEnd, MayTurn}
 
 found-priority : (o : ℕ) (ds : List ObjectDef) (d : ObjectDef) → find (λ x. x.priority == o) ds ≡ Some d → d.priority ≡ o
@@ -57,48 +53,14 @@ priority-is sys o d found = found-priority o sys.objects d found
 
 -- A lane stays the same one.
 
-keeps-same : (v w : LaneView) → KeepsLane false v w → SameLane v w
-keeps-same v w k = record { sys = k.same.sys; lane = k.same.lane; world = k.same.world; plan = k.same.plan; happened = k.still refl; serves = k.same.serves }
-
-pub turns-same : (v w : LaneView) (t : Turn) → LaneTurns false v w t → SameLane v w
-turns-same v w turn.Idle h = keeps-same v w h.keeps
-turns-same v w turn.Stopped h = keeps-same v w h.keeps
-turns-same v w turn.Memory h = keeps-same v w h.keeps
-
-pub starts-same : (v w : LaneView) (s : Step) → LaneStarts v w s → SameLane v w
-starts-same v w step.Point h = absurd h
-starts-same v w step.Done h = keeps-same v w h.keeps
-starts-same v w step.Stopped h = keeps-same v w h.keeps
-starts-same v w step.Memory h = keeps-same v w h.keeps
-
 -- Objects.
 
-pub home-turned : (sys : System) (budget me : ℕ) (y : Home) (v w : LaneView) (t : Turn) → HomeTurns sys budget me y w t → LaneTurns false v w t → y.me ≡ me → JobStands sys budget t (job.Home y) w
-home-turned sys budget me y v w turn.Idle h lane same = h.home
-home-turned sys budget me y v w turn.Stopped h lane same = (subst (λ o. HomeStops sys budget o y w) (sym same) h, why-stopped v w lane.handed)
-home-turned sys budget me y v w turn.Memory h lane same = why-starved v w lane.handed
-
-pub home-stopped : (sys : System) (budget me : ℕ) (y : Home) (w : LaneView) → ((n : ℕ) → HomeStops sys n me y w) → y.me ≡ me → HomeStops sys budget y.me y w
-home-stopped sys budget me y w h same = subst (λ o. HomeStops sys budget o y w) (sym same) (h budget)
-
 -- Why a start stopped.
-
-pub started-hears : (v w : LaneView) (s : Step) → LaneStarts v w s → Hears v w
-started-hears v w s h = starts-hear v w s h
-
-pub started-stopped : (v w : LaneView) → LaneStarts v w step.Stopped → HasStopped w
-started-stopped v w h = why-stopped v w h.handed
-
-pub started-starved : (v w : LaneView) → LaneStarts v w step.Memory → HasStarved w
-started-starved v w h = why-starved v w h.handed
 
 -- Sources.
 
 mine-same : (x y : Cursor) → IsSameSource x y → mine y ≡ mine x
 mine-same x y same = ap (λ (p : List (List Stim)). get_or p (y.source - 1) []) (ap (λ s. s.now) same.0) ∙ ap (λ k. get_or x.stim.now (k - 1) []) same.1
-
-pub source-same : (x y : Cursor) → IsSameSource x y → mine y ≡ mine x
-source-same x y same = mine-same x y same
 
 pub source-turned : (sys : System) (budget : ℕ) (x y : Cursor) (v w : LaneView) (t : Turn) → SourceTurns sys x y v w t → IsSameSource x y → JobStands sys budget t (job.Source y) w
 source-turned sys budget x y v w turn.Idle h same = h.goes.at
@@ -107,11 +69,6 @@ source-turned sys budget x y v w turn.Stopped h same = (
   why-stopped v w h.why,
 )
 source-turned sys budget x y v w turn.Memory h same = why-starved v w h.stops
-
-pub source-lane : (sys : System) (x y : Cursor) (v w : LaneView) (t : Turn) → SourceTurns sys x y v w t → SameLane v w
-source-lane sys x y v w turn.Idle h = h.goes.keeps
-source-lane sys x y v w turn.Stopped h = h.keeps
-source-lane sys x y v w turn.Memory h = h.keeps
 
 pub source-passed : (sys : System) (budget : ℕ) (x y : Cursor) (v w : LaneView) (p : Passed) → Passes sys x y v w p → IsSameSource x y → JobPasses sys budget p (job.Source y) w
 source-passed sys budget x y v w passed.Yes h same = h.stays.at
@@ -122,34 +79,7 @@ source-passed sys budget x y v w passed.Stopped h same = (
 )
 source-passed sys budget x y v w passed.Memory h same = why-starved v w h.starves.stops
 
-pub passed-lane : (sys : System) (x y : Cursor) (v w : LaneView) (p : Passed) → Passes sys x y v w p → SameLane v w
-passed-lane sys x y v w passed.Yes h = h.stays.along.keeps
-passed-lane sys x y v w (passed.Found p now) h = h.stays.along.keeps
-passed-lane sys x y v w passed.Stopped h = h.stops.keeps
-passed-lane sys x y v w passed.Memory h = h.starves.keeps
-
 -- What a turn leaves, whatever runs in the lane.
-
-pub job-hears : (sys : System) (budget : ℕ) (x y : Job) (v w : LaneView) (t : Turn) → JobTurns sys budget x y v w t → Hears v w
-job-hears sys budget job.Nothing job.Nothing v w t h = subst (Hears v) (sym h.1) (hears-itself v)
-job-hears sys budget (job.Home x) (job.Home y) v w t h = lane-hears false v w t h.1
-job-hears sys budget (job.Source x) (job.Source y) v w t h = turns-hear sys x y v w t h
-job-hears sys budget job.Nothing (job.Home y) v w t h = absurd h
-job-hears sys budget job.Nothing (job.Source y) v w t h = absurd h
-job-hears sys budget (job.Home x) job.Nothing v w t h = absurd h
-job-hears sys budget (job.Home x) (job.Source y) v w t h = absurd h
-job-hears sys budget (job.Source x) job.Nothing v w t h = absurd h
-job-hears sys budget (job.Source x) (job.Home y) v w t h = absurd h
-
-pub turns-from : (sys : System) (budget : ℕ) (s : Turn) (x : Job) (v : LaneView) (t : Turn) (y : Job) (w : LaneView) → is_idle s ≡ true → JobTurns sys budget x y v w t → TurnsFrom sys budget s x v t y w
-turns-from sys budget turn.Idle x v t y w idle h = h
-turns-from sys budget turn.Stopped x v t y w idle h = absurd (cc)
-turns-from sys budget turn.Memory x v t y w idle h = absurd (cc)
-
-pub turns-none : (sys : System) (budget : ℕ) (t : Turn) (x : Job) (v : LaneView) → is_idle t ≡ false → TurnsFrom sys budget t x v t x v
-turns-none sys budget turn.Idle x v idle = absurd (cc)
-turns-none sys budget turn.Stopped x v idle = (refl, refl, refl)
-turns-none sys budget turn.Memory x v idle = (refl, refl, refl)
 
 -- What passing a `settle`, or a try, leaves.
 
@@ -161,17 +91,6 @@ source-passed_to sys x y v w p at h = passes-to sys x y v w p at.at.of h
 
 pub source-passed_hands : (sys : System) (x y : Cursor) (v w : LaneView) (p : Passed) → Passes sys x y v w p → w.hands ≡ v.hands
 source-passed_hands sys x y v w p h = passes-hands sys x y v w p h
-
--- one that has stopped before does nothing
-pub stopped-passes : (sys : System) (budget : ℕ) (t : Turn) (x : Job) (v : LaneView) → is_idle t ≡ false → is_short t ≡ false → MayTurn sys budget t x v → PassesTo v v passed.Stopped
-stopped-passes sys budget turn.Idle x v none long h = absurd (cc)
-stopped-passes sys budget turn.Stopped x v none long h = inr (refl, h.stands.1)
-stopped-passes sys budget turn.Memory x v none long h = absurd (cc)
-
-pub starved-passes : (sys : System) (budget : ℕ) (t : Turn) (x : Job) (v : LaneView) → is_short t ≡ true → MayTurn sys budget t x v → PassesTo v v passed.Memory
-starved-passes sys budget turn.Idle x v short h = absurd (cc)
-starved-passes sys budget turn.Stopped x v short h = absurd (cc)
-starved-passes sys budget turn.Memory x v short h = inr (refl, h.stands)
 
 -- The lane may end where its job rests, and where it hasn't begun.
 
@@ -202,12 +121,6 @@ turn-end sys budget t x v h = record { sound = h.sound; ends = stands-end sys h.
 
 pub begin-end : (sys : System) (budget : ℕ) (t : Turn) (x : Job) (v : LaneView) → MayBegin sys budget t x v → MayEnd sys budget t x v
 begin-end sys budget t x v h = record { sound = h.sound; ends = subst (λ (u : Turn). JobEnds sys budget u x v) (sym h.idle) (begins-stop sys h.sound budget v x h.begins) }
-
--- a worker that rests takes its turn, one that has ended stays as it is
-pub idle-rests : (sys : System) (budget : ℕ) (t : Turn) (x : Job) (v : LaneView) → is_idle t ≡ true → JobStands sys budget t x v → JobRests sys budget x v
-idle-rests sys budget turn.Idle x v idle h = h
-idle-rests sys budget turn.Stopped x v idle h = absurd (cc)
-idle-rests sys budget turn.Memory x v idle h = absurd (cc)
 
 pub end-either : (sys : System) (budget : ℕ) (t : Turn) (x : Job) (v : LaneView) → MayTurn sys budget t x v ⊎ MayBegin sys budget t x v → MayEnd sys budget t x v
 end-either sys budget t x v (inl h) = turn-end sys budget t x v h

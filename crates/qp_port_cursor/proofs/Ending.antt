@@ -27,18 +27,6 @@ use Rattle.qp_port_cursor.proofs.Tries.{cut-is-plain, plain-seen}
 use Rattle.qp_port_cursor.proofs.Settling.{cut-calm, cut-hands, cut-leaves, settled-at, shows-now, tried-at}
 use Rattle.qp_port_cursor.proofs.Waiting.{full-stops, full-there, starves-there, stops-behind}
 
-pub glances-room : (v w : LaneView) → Roomier v w → Glances v w
-glances-room v w room = record {
-  told = rw room.same refl;
-  by = rw room.same refl;
-  rise = λ x. rw room.same (omega arith);
-  shown = λ x e. rw room.same refl;
-  hands = rw room.same refl;
-  stops = rw room.same refl;
-  answered = rw room.same refl;
-  keeps = rw room.same (record { sys = refl; lane = refl; world = refl; plan = refl; happened = refl; serves = λ o. refl });
-}
-
 clear-room : (v w : LaneView) → Roomier v w → (p : ℕ) → IsClear v p → IsClear w p
 clear-room v w room p k = record { f = k.f; l = k.l; m = k.m; mark = rw room.same k.mark; shown = rw room.same k.shown; empty = k.empty }
 

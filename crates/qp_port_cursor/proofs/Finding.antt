@@ -1,8 +1,8 @@
 -- No look of a call showed an entry.
-use Rattle.std.proofs.Common.{◌≡◌, ℕ, ◌+◌, ◌==◌, Bool, true, false, ◌&&◌, ◌||◌, List, [], ◌∷◌, ◌++◌, map, length, refl, sym, ◌∙◌, ap, subst, inl, inr, arith, append-nil, append_assoc}
+use Rattle.std.proofs.Common.{◌≡◌, ℕ, ◌+◌, ◌==◌, Bool, true, false, ◌&&◌, List, [], ◌∷◌, ◌++◌, map, length, refl, sym, ◌∙◌, ap, subst, inl, inr, arith, append-nil, append_assoc}
 use Rattle.std.specs.Prelude.{⊤}
 use Rattle.std.specs.List.{AllByRecursion, list_any}
-use Rattle.std.proofs.lemmas.Bool.{or_parts}
+use Rattle.std.proofs.lemmas.Bool.{or_parts, or_right}
 use Rattle.std.proofs.lemmas.Bool.Decides.{nat_tests}
 use Rattle.std.proofs.lemmas.List.Folds.{list_any-append}
 use Rattle.qp_model.specs.declared.systems.System.{System}
@@ -42,11 +42,7 @@ seen-behind w ts us p (inl k) = inl k
 seen-behind w ts us p (inr k) =
     inr
     (ap (λ is. list_any (λ i. shows_empty p i.body) is) (untold-append ts us) ∙ list_any-append (λ i. shows_empty p i.body) (untold_all ts) (untold_all us)
-    ∙ either (list_any (λ i. shows_empty p i.body) (untold_all ts)) (list_any (λ i. shows_empty p i.body) (untold_all us)) k)
-  where
-    either : (a b : Bool) → b ≡ true → (a || b) ≡ true
-    either true b e = refl
-    either false b e = e
+    ∙ or_right (list_any (λ i. shows_empty p i.body) (untold_all ts)) (list_any (λ i. shows_empty p i.body) (untold_all us)) k)
 
 -- by looks that added nothing
 pub finds-glanced : (sys : System) (v u : LaneView) → Glances v u → AllByRecursion (IsClear u) (priorities sys) → FindsNone sys v u

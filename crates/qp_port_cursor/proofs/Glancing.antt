@@ -49,7 +49,7 @@ glances-none v = record {
   keeps = record { sys = refl; lane = refl; world = refl; plan = refl; happened = refl; serves = λ o. refl };
 }
 
-looks-rise : (w : Word) (n : ℕ) (s : Shown) (u v : LaneView) → Looks w n s u v → (x : Word) → u.mark x ≤ v.mark x
+pub looks-rise : (w : Word) (n : ℕ) (s : Shown) (u v : LaneView) → Looks w n s u v → (x : Word) → u.mark x ≤ v.mark x
 looks-rise w n s u v h x = by (same_word w x) refl
   where
     by : (b : Bool) → same_word w x ≡ b → u.mark x ≤ v.mark x

@@ -68,9 +68,7 @@ unspilled-told (t ∷ ts) h =
 none-done : (sys : System) (kernel : ℕ) (s : Stim) (g : List Told) → EndsIn sys kernel s AllDone g → ⊥
 unfolding EndsIn
 none-done sys kernel stim.Settle g h = h
-none-done sys kernel (stim.Post to ev margin reserve) g h = h
-none-done sys kernel (stim.Publish ev reserve) g h = h
-none-done sys kernel (stim.Tick rate) g h = h
+none-done sys kernel _ g h = h
 
 -- so many stimuli have at least as many records
 pub runs-long : (sys : System) (kernel k : ℕ) (ss : List Stim) (g : List Told) → SourceRuns sys kernel k ss AllDone g → length ss ≤ length g

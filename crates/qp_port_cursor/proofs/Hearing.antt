@@ -10,9 +10,7 @@ use Rattle.qp_calls.specs.LaneView.{LaneView}
 use Rattle.qp_calls.specs.Notes.{last_code}
 use Rattle.qp_dispatch.specs.declared.objects.Turn.{Turn}
 use Rattle.qp_dispatch.specs.declared.objects.Turn.TheVariants as turn
-use Rattle.qp_dispatch.specs.declared.steps.Step.{Step}
-use Rattle.qp_dispatch.specs.declared.steps.Step.TheVariants as step
-use Rattle.qp_kernel_turns.specs.Lanes.{HandsCode, HasFound, LaneStarts, LaneTurns}
+use Rattle.qp_kernel_turns.specs.Lanes.{HandsCode, HasFound, LaneTurns}
 use Rattle.qp_port_phases.specs.declared.lanes.Passed.{Passed}
 use Rattle.qp_port_phases.specs.declared.lanes.Passed.TheVariants as passed
 use Rattle.qp_port_phases.specs.Passing.{AddsLook, IsOpening, PassesTo, TriesOnce}
@@ -20,7 +18,6 @@ use Rattle.qp_port_phases.specs.Stopping.{HasStarved, HasStopped, Hears, StopsNo
 use Rattle.qp_port_cursor.specs.declared.cursor.Cursor.{Cursor}
 use Rattle.qp_port_cursor.specs.At.{done}
 use Rattle.qp_port_cursor.specs.Passing.{Passes, TriedOnce, opening_of}
-use Rattle.qp_port_cursor.specs.Turning.{SourceTurns}
 use Rattle.qp_port_cursor.proofs.Seeing.{SeenMore}
 
 -- Codes are heard of.
@@ -66,22 +63,10 @@ lane-hears acts v w turn.Idle h = hears-none v w h.stops h.answered
 lane-hears acts v w turn.Stopped h = hears-why v w h.handed
 lane-hears acts v w turn.Memory h = hears-one 7 v w h.handed
 
-pub starts-hear : (v w : LaneView) (s : Step) → LaneStarts v w s → Hears v w
-starts-hear v w step.Point h = absurd h
-starts-hear v w step.Done h = hears-none v w h.stops h.answered
-starts-hear v w step.Stopped h = hears-why v w h.handed
-starts-hear v w step.Memory h = hears-one 7 v w h.handed
-
-pub turns-hear : (sys : System) (x y : Cursor) (v w : LaneView) (t : Turn) → SourceTurns sys x y v w t → Hears v w
-turns-hear sys x y v w turn.Idle h = hears-none v w h.goes.stops h.goes.answered
-turns-hear sys x y v w turn.Stopped h = hears-why v w h.why
-turns-hear sys x y v w turn.Memory h = hears-one 7 v w h.stops
-
 pub passes-hear : (sys : System) (x y : Cursor) (v w : LaneView) (p : Passed) → Passes sys x y v w p → Hears v w
-passes-hear sys x y v w passed.Yes h = hears-none v w h.stays.along.stops h.stays.along.answered
-passes-hear sys x y v w (passed.Found p c) h = hears-none v w h.stays.along.stops h.stays.along.answered
 passes-hear sys x y v w passed.Stopped h = hears-why v w h.stops.why
 passes-hear sys x y v w passed.Memory h = hears-one 7 v w h.starves.stops
+passes-hear sys x y v w _ h = hears-none v w h.stays.along.stops h.stays.along.answered
 
 -- Why a lane has stopped.
 
@@ -139,7 +124,6 @@ passes-to sys x y v w passed.Stopped of h = inl (stops-now v w h.stops.why)
 passes-to sys x y v w passed.Memory of h = inl h.starves.stops
 
 pub passes-hands : (sys : System) (x y : Cursor) (v w : LaneView) (p : Passed) → Passes sys x y v w p → w.hands ≡ v.hands
-passes-hands sys x y v w passed.Yes h = h.stays.along.hands
-passes-hands sys x y v w (passed.Found p c) h = h.stays.along.hands
 passes-hands sys x y v w passed.Stopped h = h.hands
 passes-hands sys x y v w passed.Memory h = h.hands
+passes-hands sys x y v w _ h = h.stays.along.hands

@@ -1,12 +1,11 @@
 -- The lane of a source, with tries, while the run goes on, and where it ends.
-use Rattle.std.proofs.Common.{◌≡◌, ℕ, ◌+◌, ◌<◌, ◌==◌, nat_lt, Bool, true, false, not, ◌&&◌, ◌||◌, List, [], ◌∷◌, ◌++◌, map, length, refl, sym, ◌∙◌, ap, subst, arith, append-nil}
+use Rattle.std.proofs.Common.{◌≡◌, ℕ, ◌+◌, ◌<◌, ◌==◌, Bool, true, false, not, ◌||◌, List, [], ◌∷◌, ◌++◌, map, length, refl, sym, ◌∙◌, ap, subst, arith, append-nil}
 use Rattle.std.specs.Prelude.{◌≢◌}
 use Rattle.std.specs.List.{list_all, list_any, filter, filter_map}
 use Rattle.std.proofs.lemmas.Bool.{or_parts}
 use Rattle.std.proofs.lemmas.List.{map-append, length-map}
 use Rattle.std.proofs.lemmas.List.Elements.{filter_map-append, filter-append}
 use Rattle.std.proofs.lemmas.List.Folds.{list_any-append}
-use Rattle.std.proofs.lemmas.Bool.Decides.{nat_tests}
 use Rattle.qp_model.specs.declared.stimulus.Stim.{Stim}
 use Rattle.qp_model.specs.declared.systems.System.{System}
 use Rattle.qp_model.specs.declared.bodies.Body.TheVariants as body
@@ -19,9 +18,9 @@ use Rattle.qp_model.specs.End.{spills_state}
 use Rattle.qp_model.specs.Sources.{StimFits, SourceEnd, AllDone, AtAssert, InStimulus, SourceRuns, entry_seen, look_may, may_end, none_twice}
 use Rattle.qp_model_order.specs.SourceRun.{untold, untold_all, source_told}
 use Rattle.qp_model_order.specs.Placing.{AreBehind, spill_item}
-use Rattle.qp_model_order.specs.Stimulus.{ArePlain, source_items}
+use Rattle.qp_model_order.specs.Stimulus.{source_items}
 use Rattle.qp_model_order.specs.Laws.{stimulus_told}
-use Rattle.qp_model_order.proofs.CalmLemmas.{calm-parts, calm-no_spill, calm-ends_last, calm-spills_cut, calm-states, IsMild, mild-cut, mild-states, mild-no_spill}
+use Rattle.qp_model_order.proofs.CalmLemmas.{calm-no_spill, calm-ends_last, calm-spills_cut, calm-states, IsMild, mild-cut, mild-states, mild-no_spill}
 use Rattle.qp_model_order.proofs.StimLemmas.{any-both}
 use Rattle.qp_model_order.proofs.SourceLemmas.{runs-stimulus, runs-asserted, runs-cut}
 use Rattle.qp_model_order.proofs.StimulusForm.{stimulus-form, stimulus-items, cut-plain, cut-items}
@@ -29,28 +28,16 @@ use Rattle.qp_model.proofs.FitsLemmas.{all-append}
 use Rattle.qp_model.proofs.KnowingLemmas.{told-source}
 use Rattle.qp_port_law.specs.SourcesLeft.{SourceLeaves}
 use Rattle.qp_port_cursor.specs.At.{tries_in}
+use Rattle.qp_model_order.proofs.SourceLanes.{stated, stim-ends, alone-source, unspilled, calm-unspent, plain-mild}
 
 pub untold-append : (ts us : List ToldItem) → untold_all (ts ++ us) ≡ untold_all ts ++ untold_all us
 untold-append ts us = map-append untold ts us
 
-pub alone-source : (g : List Told) → list_all (λ i. i.of == 0) (source_items g) ≡ true
-alone-source [] = refl
-alone-source (t ∷ ts) = alone-source ts
-
 pub alone-append : (ts : List ToldItem) (g : List Told) → told_alone (ts ++ map (for_object 0) g) ≡ told_alone ts ++ g
 alone-append ts g = map-append (λ t. t.told) ts (map (for_object 0) g) ∙ ap (λ x. told_alone ts ++ x) (told-source g)
 
--- records without a `spill` are all told
-unspilled : (ts : List ToldItem) → spills_in (untold_all ts) ≡ false → source_told ts ≡ told_alone ts
-unspilled [] h = refl
-unspilled (t ∷ ts) h = let parts = or_parts (is_spill t.told.body) (spills_in (untold_all ts)) h in rw parts.0 (ap (λ x. t.told ∷ x) (unspilled ts parts.1))
-
 source_told-append : (ts us : List ToldItem) → source_told (ts ++ us) ≡ source_told ts ++ source_told us
 source_told-append ts us = ap told_alone (filter-append (λ t. not (is_spill t.told.body)) ts us) ∙ map-append (λ t. t.told) (filter (λ t. not (is_spill t.told.body)) ts) (filter (λ t. not (is_spill t.told.body)) us)
-
-calm-unspent : (is : List Item) → list_any (λ i. is_end i.body) is ≡ false → list_any (λ i. is_spent i.body) is ≡ false
-calm-unspent [] h = refl
-calm-unspent (i ∷ is) h = let parts = or_parts (is_end i.body) (list_any (λ i. is_end i.body) is) h in rw ((calm-parts i.body parts.0).1, calm-unspent is parts.1) refl
 
 pub tries-append : (ts us : List ToldItem) → tries_in (ts ++ us) ≡ tries_in ts ++ tries_in us
 tries-append ts us = ap (λ x. filter_map (λ i. entry_seen i.body) x) (untold-append ts us) ∙ filter_map-append (λ i. entry_seen i.body) (untold_all ts) (untold_all us)
@@ -90,21 +77,6 @@ still sys kernel end ss told stop old runs may =
       unspent = calm-unspent (untold_all told) old.calm;
       states = ap (spills_state 0) (sym whole) ∙ calm-states 0 (untold_all told) [] old.calm refl;
     }
-
-plain-mild : (g : List Told) → ArePlain g → IsMild (source_items g)
-plain-mild [] h = tt
-plain-mild (t ∷ ts) h = let parts = calm-parts t.body h.0.calm in (parts.1, parts.2, plain-mild ts h.1)
-
-stim-ends : (p look : ℕ) (is : List Item) → ends_last is ≡ true → ends_last (record { of = 0; body = body.Stim p look } ∷ is) ≡ true
-unfolding ends_last
-stim-ends p look [] h = refl
-stim-ends p look (i ∷ is) h = h
-
-stated : (n at : ℕ) → n ≡ at → 999992 < n → ((n == at) && nat_lt 999992 at && true) ≡ true
-stated n at same many =
-    let one : (n == at) ≡ true = grind (arith, nat_tests, same) in
-    let two : nat_lt 999992 at ≡ true = grind (arith, nat_tests, many, same) in
-    rw (one, two) refl
 
 -- the lane has no room, where it may stop
 pub full-lane : (sys : System) (kernel end : ℕ) (ss : List Stim) (told : List ToldItem) (stop : SourceEnd) (n : ℕ) → may_cut end ≡ true → Calm told

@@ -12,9 +12,7 @@ begins-some (x ∷ xs) zero s h = let same : x ≡ s = cc in head x xs ∙ ap (�
   where
     head : (y : Stim) (ys : List Stim) → begins_settle (y ∷ ys) ≡ begins_settle (y ∷ [])
     head stim.Settle ys = refl
-    head (stim.Post to ev margin reserve) ys = refl
-    head (stim.Publish ev reserve) ys = refl
-    head (stim.Tick rate) ys = refl
+    head _ ys = refl
 begins-some (x ∷ xs) (suc n) s h = begins-some xs n s h
 
 begins-none : (ss : List Stim) (n : ℕ) → slice_get ss n ≡ None → begins_settle (drop n ss) ≡ false

@@ -1,15 +1,13 @@
 -- A lane that has only seen more: one that met another, looked at counts or asked whether it was stopped.
-use Rattle.std.proofs.Common.{◌≡◌, ℕ, ◌≤◌, Bool, true, false, List, ◌∷◌, length, refl, ap, subst, arith, Option, Some, None}
-use Rattle.qp_model.specs.declared.words.Word.{Word}
+use Rattle.std.proofs.Common.{◌≡◌, ℕ, ◌≤◌, List, ◌∷◌, length, refl, ap, arith, Option, Some, None}
 use Rattle.qp_model.specs.declared.words.Word.TheVariants as word
-use Rattle.qp_model.specs.History.{same_word}
-use Rattle.qp_model.proofs.KnowingLemmas.{same_word-is}
 use Rattle.qp_calls.specs.declared.answers.Counts as counts
 use Rattle.qp_calls.specs.Clauses.{Counted, Stopped}
-use Rattle.qp_calls.specs.LaneView.{LaneView, Looks, Shown}
+use Rattle.qp_calls.specs.LaneView.{LaneView}
 use Rattle.qp_calls_meet.specs.Meeting.{Met}
 use Rattle.qp_kernel_turns.specs.Lanes.{SameLane}
 use Rattle.qp_port_cursor.specs.Laws.{SeesMore}
+use Rattle.qp_port_cursor.proofs.Glancing.{looks-rise}
 
 -- nothing of it changed but what it has seen, and the codes that it found
 pub record SeenMore (v w : LaneView) : Type 0 where
@@ -41,13 +39,6 @@ seen-met v u w h = record {
   stops = ap (λ x. x.stops) h.same;
   heard = let same = ap (λ x. length x.answered) h.same in omega (arith, same);
 }
-
-looks-rise : (w : Word) (n : ℕ) (s : Shown) (u v : LaneView) → Looks w n s u v → (x : Word) → u.mark x ≤ v.mark x
-looks-rise w n s u v h x = by (same_word w x) refl
-  where
-    by : (b : Bool) → same_word w x ≡ b → u.mark x ≤ v.mark x
-    by false e = let same = h.mark x e in omega (arith, same)
-    by true e = subst (λ y. u.mark y ≤ v.mark y) (same_word-is w x e) (let here = h.here in let up = h.rise in omega (arith, here, up))
 
 pub seen-counted : (p : ℕ) (v w : LaneView) (c : counts.Counts) → Counted p v w c → SeenMore v w
 seen-counted p v w c h = record {

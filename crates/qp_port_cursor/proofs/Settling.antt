@@ -27,7 +27,8 @@ use Rattle.qp_port_law.specs.SourcesLeft.{SourceLeaves}
 use Rattle.qp_calls_stimulus.specs.Settling.{SeesNone, SeesSome, SettleCut}
 use Rattle.qp_port_cursor.specs.At.{IsKnownTry, IsSourceAt, tries_in}
 use Rattle.qp_port_cursor.specs.Passing.{IsClear, IsOpen, ShowsEntry}
-use Rattle.qp_port_cursor.proofs.Leaving.{Calm, alone-append, alone-source, full-lane, no-look, tries-append, tries-quiet, untold-append}
+use Rattle.qp_port_cursor.proofs.Leaving.{Calm, alone-append, full-lane, no-look, tries-append, tries-quiet, untold-append}
+use Rattle.qp_model_order.proofs.SourceLanes.{alone-source}
 use Rattle.qp_port_cursor.proofs.Going.{known-later}
 use Rattle.qp_port_cursor.proofs.Tries.{EndsTry, cut-is-plain, entry-ends, pick, plain-calm, plain-seen, same-is, settle-alone, settle-plain, settles-behind, tries-more, twice-snoc}
 
@@ -117,9 +118,6 @@ module _ (sys : System) (ss : List Stim) (n : ℕ) (w : LaneView) (o : IsOpen sy
     calm_with none =
         ap (λ ts. list_any (λ i. is_end i.body) (untold_all ts)) its.told
         ∙ rw (untold-append w.told (map (for_object 0) g)) (any-both (λ i. is_end i.body) (untold_all w.told) (source_items g) o.calm none)
-
-    tries_with : tries_in u.told ≡ tries_in w.told ++ tries_in (map (for_object 0) g)
-    tries_with = ap tries_in its.told ∙ tries-append w.told (map (for_object 0) g)
 
     -- plain ones
     module _ (is_plain : ArePlain g) where

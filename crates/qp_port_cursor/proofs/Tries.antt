@@ -1,8 +1,8 @@
 -- Tries of a `settle`, one behind another.
-use Rattle.std.proofs.Common.{◌≡◌, ℕ, zero, suc, ◌+◌, ◌<◌, ◌==◌, nat_lt, Bool, true, false, not, ◌&&◌, ◌||◌, List, [], ◌∷◌, ◌++◌, refl, sym, ◌∙◌, ap, subst, inl, inr, ◌⊎◌, arith, append_assoc, append-nil}
+use Rattle.std.proofs.Common.{◌≡◌, ℕ, zero, suc, ◌+◌, ◌<◌, ◌==◌, nat_lt, Bool, true, false, not, ◌||◌, List, [], ◌∷◌, ◌++◌, refl, sym, ◌∙◌, ap, subst, inl, inr, ◌⊎◌, arith, append_assoc, append-nil}
 use Rattle.std.specs.Prelude.{◌≢◌}
 use Rattle.std.specs.List.{list_all, list_any, filter_map, AllByRecursion}
-use Rattle.std.proofs.lemmas.Bool.{and_parts}
+use Rattle.std.proofs.lemmas.Bool.{and_from, and_parts, or_right}
 use Rattle.std.proofs.lemmas.Bool.Decides.{nat_tests}
 use Rattle.qp_model.specs.declared.stimulus.Stim.TheVariants as stim
 use Rattle.qp_model.specs.declared.systems.System.{System}
@@ -93,10 +93,6 @@ unfolding SeesEntry
 entry-ends [] one h = absurd h
 entry-ends (o ∷ os) one h = by h.5 (λ k. entry-ends os h.3 k)
   where
-    either : (a b : Bool) → b ≡ true → (a || b) ≡ true
-    either true b e = refl
-    either false b e = e
-
     by : ((h.0 + h.1 ≡ h.2) × SeesEntry os h.3) ⊎ ((h.2 < h.0 + h.1) × (h.3 ≡ [])) → (SeesEntry os h.3 → EndsTry os h.3) → EndsTry (o ∷ os) one
     by (inl k) later =
         let on = later k.1 in
@@ -109,7 +105,7 @@ entry-ends (o ∷ os) one h = by h.5 (λ k. entry-ends os h.3 k)
           is = h.4 ∙ ap (λ g. plain (body.Seen o h.0 h.1 h.2) ∷ g) on.is;
           some = on.some;
           plain_are = (empty-plain o h.0 h.1 h.2 k.0, on.plain_are);
-          its = either (o == on.p) (list_any (λ q. q == on.p) os) on.its;
+          its = or_right (o == on.p) (list_any (λ q. q == on.p) os) on.its;
         }
     by (inr k) later =
         record {
@@ -150,11 +146,8 @@ twice-snoc [] x h k = refl
 twice-snoc (y ∷ ys) x h k =
     let parts = and_parts (not (list_any (same_list y) ys)) (none_twice ys) h in
     let more = and_parts (not (same_list y x)) (list_all (λ z. not (same_list z x)) ys) k in
-    both (not (list_any (same_list y) (ys ++ x ∷ []))) (none_twice (ys ++ x ∷ [])) (none ys parts.0) (twice-snoc ys x parts.1 more.1)
+    and_from (not (list_any (same_list y) (ys ++ x ∷ []))) (none_twice (ys ++ x ∷ [])) (none ys parts.0) (twice-snoc ys x parts.1 more.1)
   where
-    both : (a b : Bool) → a ≡ true → b ≡ true → (a && b) ≡ true
-    both a b e f = rw (e, f) refl
-
     here : not (same_list y x) ≡ true
     here = (and_parts (not (same_list y x)) (list_all (λ z. not (same_list z x)) ys) k).0
 

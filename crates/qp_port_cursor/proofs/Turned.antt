@@ -21,7 +21,7 @@ use Rattle.qp_kernel_turns.specs.Lanes.{HandsCode, HasFound, SameLane}
 use Rattle.qp_calls_stimulus.specs.Stimulating.{Stimulates, Asserts, Spills, Happens, begun}
 use Rattle.qp_port_cursor.specs.declared.cursor.Cursor.{Cursor}
 use Rattle.qp_port_cursor.specs.At.{IsCursorAt, IsSourceAt, at_settle_in, begins_settle, left_in, mine}
-use Rattle.qp_port_cursor.specs.Turning.{BreaksOff, CursorGoes, DoesNoSettle, EndsIn, SourceIdles, SourceStarves, SourceStops, SourceTurns, UnlessIdle, DoesNext}
+use Rattle.qp_port_cursor.specs.Turning.{BreaksOff, CursorGoes, DoesNoSettle, EndsIn, SourceIdles, SourceStops, SourceTurns, UnlessIdle, DoesNext}
 use Rattle.qp_port_cursor.proofs.Going.{same-gains, same-stops, went, failed, spilled, full, elsewhere, few-done, unspilled-told}
 
 same-none : (v : LaneView) → SameLane v v
@@ -100,29 +100,19 @@ turns-then sys x y z u v w turn.Memory a h = record {
 
 pub breaks-then : (sys : System) (x y z : Cursor) (u v w : LaneView) (t : Turn) → CursorGoes sys x y u v → UnlessIdle sys y z v w t → UnlessIdle sys x z u w t
 breaks-then sys x y z u v w turn.Idle a h = tt
-breaks-then sys x y z u v w turn.Stopped a h = record { before = h.before; goes = goes-then sys x y z u v h.before a h.goes; stands = h.stands; s = h.s; next = h.next; ends = h.ends }
-breaks-then sys x y z u v w turn.Memory a h = record { before = h.before; goes = goes-then sys x y z u v h.before a h.goes; stands = h.stands; s = h.s; next = h.next; ends = h.ends }
+breaks-then sys x y z u v w _ a h = record { before = h.before; goes = goes-then sys x y z u v h.before a h.goes; stands = h.stands; s = h.s; next = h.next; ends = h.ends }
 
 -- Where the cursor rests.
-module _ (sys : System) (x : Cursor) (v : LaneView) (at : IsCursorAt sys x v) where
-  pub idles : (at_settle_in x || not (left_in x)) ≡ true → SourceIdles sys x x v v
-  idles rests = record { goes = goes-none sys x v at; rests = rests }
-
 pub rests-settling : (x : Cursor) → x.settling ≡ true → (at_settle_in x || not (left_in x)) ≡ true
 rests-settling x e = rw e refl
 
 pub rests-done : (x : Cursor) → x.settling ≡ false → length (mine x) ≤ x.begun → (at_settle_in x || not (left_in x)) ≡ true
 rests-done x e le = rw (e, drop_all x.begun (mine x) le) refl
 
-pub rests-settle : (x : Cursor) (s : Stim) → x.settling ≡ false → x.begun < length (mine x) → s ≡ get_or (mine x) x.begun s → s ≡ stim.Settle → (at_settle_in x || not (left_in x)) ≡ true
-rests-settle x s e lt is here = rw (e, drop_more (mine x) x.begun s lt, sym is, here) refl
-
 -- where it doesn't: before a stimulus that is no `settle`
 no-settle : (s : Stim) (ss : List Stim) → (s ≡ stim.Settle → ⊥) → begins_settle (s ∷ ss) ≡ false
 no-settle stim.Settle ss other = absurd (other refl)
-no-settle (stim.Post to ev margin reserve) ss other = refl
-no-settle (stim.Publish ev reserve) ss other = refl
-no-settle (stim.Tick rate) ss other = refl
+no-settle _ ss other = refl
 
 pub any-default : {A : Type 0} (xs : List A) (i : ℕ) (a b c : A) → i < length xs → a ≡ get_or xs i b → a ≡ get_or xs i c
 any-default [] i a b c lt e = absurd (omega (arith, lt))
@@ -169,8 +159,7 @@ module _ (sys : System) (x : Cursor) (v : LaneView) (at : IsCursorAt sys x v) (c
 
         by : (u : Turn) → EndsIn sys s (x.begun + 1) v w u → UnlessIdle sys x x v w u
         by turn.Idle k = absurd k
-        by turn.Stopped k = its-end turn.Stopped k
-        by turn.Memory k = its-end turn.Memory k
+        by u k = its-end u k
 
     pub finds-stop : (code : ℕ) (w : LaneView) → w ≡ record v { answered = code ∷ v.answered } → SourceStops sys x x v w
     finds-stop code w e = record {
@@ -252,14 +241,6 @@ module _ (sys : System) (x : Cursor) (v : LaneView) (at : IsCursorAt sys x v) (c
       stops-here (inl h) = stops-asserted h
       stops-here (inr (inl h)) = stops-spilled h
       stops-here (inr (inr h)) = stops-full h
-
-      pub exhausted : Stimulates sys s place 0 v w stimulated.Memory → SourceStarves v w
-      exhausted h = record {
-        ts = map (for_object v.by) h.g;
-        told = ap (λ u. u.told) h.dry.stops ∙ h.grows.told;
-        stops = ap (λ u. u.stops) h.dry.stops ∙ ap (λ cs. 7 ∷ cs) h.grows.stops;
-        keeps = same-stops 7 v h.mid w (same-gains _ v h.mid h.grows) h.dry.stops;
-      }
 
       -- a stimulus that is no `settle` has no tries
       pub never : (s ≡ stim.Settle → ⊥) → Stimulates sys s place 0 v w stimulated.Tried → ⊥

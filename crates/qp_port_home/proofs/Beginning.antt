@@ -1,25 +1,19 @@
 -- The step of an object begins with the entry that its lane has taken.
-use Rattle.std.proofs.Common.{◌≡◌, ℕ, ◌+◌, ◌<◌, true, false, List, [], ◌∷◌, ◌++◌, map, refl, sym, ◌∙◌, ap, subst, arith, append-nil, length-append}
+use Rattle.std.proofs.Common.{◌≡◌, ℕ, ◌+◌, ◌<◌, true, false, [], ◌∷◌, ◌++◌, map, refl, sym, ◌∙◌, ap, subst, arith, append-nil, length-append}
 use Rattle.std.specs.List.{list_all}
-use Rattle.std.proofs.lemmas.List.{map-append}
 use Rattle.qp_model.specs.declared.systems.System.{System}
-use Rattle.qp_model.specs.declared.bodies.Entry as model
 use Rattle.qp_model.specs.Course.{actor}
 use Rattle.qp_model.specs.Sound.{IsSound}
 use Rattle.qp_model.specs.Step.{whole_step}
-use Rattle.qp_model.specs.Told.{Event, ToldItem, for_object, taken}
+use Rattle.qp_model.specs.Told.{Event, for_object, taken}
 use Rattle.qp_calls.specs.declared.tokens.Entry.{Entry}
-use Rattle.qp_calls.specs.declared.tokens.Entry.TheVariants as token
-use Rattle.qp_calls.specs.Clauses.{EventIs, TakesIt, entry_of}
+use Rattle.qp_calls.specs.Clauses.{TakesIt, entry_of}
 use Rattle.qp_calls.specs.Counting.{count_of}
-use Rattle.qp_calls.specs.Deferring.{ChangeAlike, StandAll, is_named, tokens_in}
+use Rattle.qp_calls.specs.Deferring.{ChangeAlike, StandAll, is_named}
 use Rattle.qp_calls.specs.LaneView.{LaneView, ceiling_in}
 use Rattle.qp_calls.specs.Tokens.{Token}
-use Rattle.qp_calls.proofs.CountLemmas.{count-with, taken-hands, tokens-append}
-use Rattle.qp_calls.proofs.NoteLemmas.{ceiling-append}
 use Rattle.qp_dispatch.specs.declared.lasting.Lasting.{Lasting}
 use Rattle.qp_dispatch.specs.declared.objects.Object.{Object}
-use Rattle.qp_dispatch.specs.declared.steps.Position.TheVariants as standing
 use Rattle.qp_dispatch.specs.Lasts.{actor_of, config_of}
 use Rattle.qp_dispatch.specs.Objects.{BeginsStep, home_of}
 use Rattle.qp_dispatch.specs.Resume.{IsTaken, event_at, held_in}
@@ -32,23 +26,7 @@ use Rattle.qp_port_home_law.proofs.HomeLaws.{home_step_begins}
 use Rattle.qp_port_home.specs.declared.home.Home.{Home}
 use Rattle.qp_port_home.specs.At.{IsBusyHome, IsHome}
 use Rattle.qp_port_home.proofs.Resting.{home-of, more-own}
-
-taken-alike : (k : Lasting) (me : ℕ) (e : Entry) (v w : LaneView) → TakesIt me e v w → ChangeAlike (map entry_of (held_in k standing.Between)) (map entry_of (held_in k (standing.Taken e))) v w
-taken-alike k me e v w t x =
-    let hands : count_of x w.hands ≡ _ = ap (count_of x) (taken-hands me e v w t) ∙ count-with x (entry_of e) v.hands in
-    let old : count_of x (tokens_in (map entry_of (k.list.entries.items ++ []))) ≡ count_of x (tokens_in (map entry_of k.list.entries.items)) = ap (λ es. count_of x (tokens_in (map entry_of es))) (append-nil k.list.entries.items) in
-    let new : count_of x (tokens_in (map entry_of (k.list.entries.items ++ e ∷ []))) ≡ _ =
-    ap (λ es. count_of x (tokens_in es)) (map-append entry_of k.list.entries.items (e ∷ [])) ∙ tokens-append x (map entry_of k.list.entries.items) (entry_of e) in
-    omega (arith, hands, old, new)
-
-event-is : (e : Entry) (w : LaneView) → EventIs e w → w.event (entry_of e) ≡ event_at e w
-unfolding entry_of
-event-is (token.Static sig) w h = h
-event-is (token.Pool x) w h = refl
-
-took-ceiling : (told : List ToldItem) (f l m : ℕ) (e : model.Entry) (ev : Event) (p : ℕ) → ceiling_in 0 (told ++ for_object p (taken f l m e ev) ∷ []) ≡ ceiling_in 0 told
-unfolding ceiling_in
-took-ceiling told f l m e ev p = ceiling-append 0 told (for_object p (taken f l m e ev) ∷ [])
+use Rattle.qp_kernel_turns.proofs.Visiting.{taken-alike, event-is, took-ceiling}
 
 module _ (sys : System) (sound : IsSound sys) (budget : ℕ) (x : Home) (v w : LaneView) (e : Entry) (y : Object) (h : IsHome sys budget x v) (few : x.object.taken < budget) (takes : TakesIt x.me e v w)
     (begins : BeginsStep e x.object y) where

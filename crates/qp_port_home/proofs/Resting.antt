@@ -22,7 +22,7 @@ use Rattle.qp_calls.specs.declared.answers.Counts as counts
 use Rattle.qp_calls.specs.Clauses.{Counted, Sees, Stops, TakesNone, last_nil, same_counts}
 use Rattle.qp_calls.specs.Counting.{count_of}
 use Rattle.qp_calls.specs.LaneView as shown
-use Rattle.qp_calls.specs.LaneView.{AddsOf, Gains, GrowsOf, LaneView, Looks, NotShown, Own, Roomier, ceiling_in, mark_after, mark_by, own_after}
+use Rattle.qp_calls.specs.LaneView.{AddsOf, Gains, GrowsOf, LaneView, Looks, NotShown, Own, Roomier, ceiling_in, own_after}
 use Rattle.qp_calls.specs.Notes.{spills_told}
 use Rattle.qp_calls.specs.Tokens.{hands_after, hands_by}
 use Rattle.qp_calls.proofs.NoteLemmas.{ceiling-append}
@@ -36,15 +36,14 @@ use Rattle.qp_kernel_turns.specs.declared.halting.Halt.TheVariants as halt
 use Rattle.qp_kernel_turns.specs.Halting.{Halts}
 use Rattle.qp_kernel_turns.proofs.Resting.{PassBy, pass-both, pass-kernel}
 use Rattle.qp_kernel_turns.proofs.SoundObjects.{able, numbered}
-use Rattle.qp_kernel_turns.proofs.Taking.{seen-mark_own}
+use Rattle.qp_kernel_turns.proofs.Taking.{seen-mark_own, nil-mark_own}
 use Rattle.qp_port_home_law.specs.Laws.{HasMore, IsHomeOf, Rests}
 use Rattle.qp_port_home_law.proofs.HomeRecords.{last-append}
 use Rattle.qp_port_home_law.proofs.HomeLaws.{full_home_ends, look_is_told, nil_is_told, own_rises, resting_home_ends, resting_home_leaves, spent_home_ends}
 use Rattle.qp_port_home.specs.declared.home.Home.{Home}
 use Rattle.qp_port_home.specs.At.{IsHome, IsIn}
 use Rattle.qp_port_home.proofs.Lanes.{counts-goes}
-use Rattle.qp_kernel_turns.proofs.Lanes.{goes-none}
-use Rattle.qp_port_home.specs.Turning.{HomeHalts, HomeIdles, HomeStops, IsToLook, KnowsEntry, StaysEmpty}
+use Rattle.qp_port_home.specs.Turning.{HomeHalts, HomeIdles, HomeStops, KnowsEntry, StaysEmpty}
 
 pub home-of : (sys : System) (sound : IsSound sys) (d : ObjectDef) (chart : Chart) → object_at sys d.priority ≡ Some d → chart_at sys d.chart ≡ Some chart → IsHomeOf sys d chart
 home-of sys sound d chart found its = record { some = numbered sys sound d found; its = its; able = able sys sound d chart found its }
@@ -89,10 +88,6 @@ pass-spent p o = by (o == p)
     by : (b : Bool) → dispatched (told_alone (cond b (for_object o (plain body.Spent) ∷ []) [])) ≡ []
     by true = refl
     by false = refl
-
-nil-mark : (p n f l m : ℕ) → mark_after (word.Queue p) n (for_object p (plain (body.Nil f l m)) ∷ []) ≡ f + l + m
-unfolding mark_after mark_by
-nil-mark p n f l m = let self : (p == p) ≡ true = grind (arith, nat_tests) in rw self refl
 
 nil-own : (p a f l m : ℕ) (o : Own) → own_after a o (for_object p (plain (body.Nil f l m)) ∷ []) ≡ o
 unfolding own_after
@@ -238,7 +233,7 @@ module _ (sys : System) (sound : IsSound sys) (budget : ℕ) (x : Home) (v : Lan
                 (subst (λ o. Rests sys h.d h.chart budget o x.looked (v.told ++ for_object x.me (plain (body.Nil f l m)) ∷ []) h.es h.c) (sym (adds.grows.own h.d.priority ∙ nil-own x.me h.d.priority f l m (v.own h.d.priority)))
                 (subst (λ p. Rests sys h.d h.chart budget (v.own h.d.priority) x.looked (v.told ++ for_object p (plain (body.Nil f l m)) ∷ []) h.es h.c) (sym h.at.me)
                 (nil_is_told sys h.d h.chart budget (v.own h.d.priority) x.looked v.told h.es h.c f l m its is-l is-m t.empty (subst (λ p. same_counts (last_nil p NotShown v.told) f l m ≡ false) h.at.me is) h.records)));
-            empty = record { f = f; l = l; m = m; says = t.shows.says; none = t.empty; mark = adds.grows.mark (word.Queue x.me) ∙ nil-mark x.me (v.mark (word.Queue x.me)) f l m; own = sym mine.1 };
+            empty = record { f = f; l = l; m = m; says = t.shows.says; none = t.empty; mark = adds.grows.mark (word.Queue x.me) ∙ nil-mark_own x.me (v.mark (word.Queue x.me)) f l m; own = sym mine.1 };
             told = λ unseen. ap (last_nil x.me NotShown) adds.grows.told ∙ nil-last x.me f l m v.told;
           }
 
@@ -294,10 +289,6 @@ module _ (sys : System) (sound : IsSound sys) (budget : ℕ) (x : Home) (v : Lan
       let m-is = own.1 in
       let here = looks.0.here in
       record { f = c.f; mark = omega (arith, here, l-is, m-is); some = omega (arith, some, l-is, m-is) }
-
-  -- nothing is known of the queue
-  pub to-look : x.looked ≡ false → IsToLook sys budget x v v
-  to-look unseen = record { home = h; goes = goes-none false v; told = refl; spare = refl; entry = λ seen. absurd (let wrong : true ≡ false = sym seen ∙ unseen in cc) }
 
   -- it was found empty, and is so still, or isn't
   pub stays : (w : LaneView) (c : counts.Counts) → Counted x.me v w c → x.looked ≡ true → (b : Bool) → nat_le (c.f + c.l) c.m ≡ b → StaysEmpty sys budget x v w b

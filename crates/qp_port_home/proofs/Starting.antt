@@ -91,9 +91,6 @@ module _ (sys : System) (sound : IsSound sys) (x : Home) (v : LaneView) (made : 
   serves : v.serves d.priority ≡ true
   serves = ap v.serves number ∙ empty.serves
 
-  no-kept : held_in k x.object.stage ≡ []
-  no-kept = ap (held_in k) made.object.made.between ∙ append-nil k.list.entries.items ∙ made.object.made.first.empty
-
   -- it may start
   pub may-start : MayStart sys x.ceiling x.object V
   unfolding times ceiling_in

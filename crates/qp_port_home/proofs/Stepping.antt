@@ -1,7 +1,6 @@
 -- The step of an object goes on: to its next scheduling point, to its end, or to the end of its lane.
-use Rattle.std.proofs.Common.{◌≡◌, ℕ, ◌+◌, ◌≤◌, Bool, true, false, List, [], ◌∷◌, ◌++◌, map, length, refl, sym, ◌∙◌, ap, subst, inl, inr, Option, Some, None, arith, append_assoc, append-nil}
+use Rattle.std.proofs.Common.{◌≡◌, ℕ, ◌+◌, ◌≤◌, Bool, true, false, List, [], ◌∷◌, ◌++◌, map, length, refl, sym, ◌∙◌, ap, subst, inl, inr, Some, None, arith, append_assoc, append-nil}
 use Rattle.std.specs.List.{list_all}
-use Rattle.qp_chart.specs.Task.{Task}
 use Rattle.qp_model.specs.declared.systems.System.{System}
 use Rattle.qp_model.specs.declared.systems.ObjectDef.{ObjectDef}
 use Rattle.qp_model.specs.declared.bodies.Entry as model
@@ -13,11 +12,10 @@ use Rattle.qp_model.specs.Pieces.{Point, tell}
 use Rattle.qp_model.specs.Sites.{object_at}
 use Rattle.qp_model.specs.Sound.{IsSound}
 use Rattle.qp_model.specs.Standing.{Advances}
-use Rattle.qp_model.specs.Step.{GoesOn, Remainder, moment, publishing_left, tasks_left}
+use Rattle.qp_model.specs.Step.{GoesOn, Remainder, moment}
 use Rattle.qp_model.specs.declared.bodies.Body.TheVariants as body
 use Rattle.qp_model.specs.Told.{Event, Told, ToldItem, for_object, plain}
 use Rattle.qp_model.proofs.AbleLemmas.{some-same}
-use Rattle.qp_calls.specs.declared.tokens.Entry.TheVariants as token
 use Rattle.qp_calls.specs.Clauses.{entry_of}
 use Rattle.qp_calls.specs.Counting.{count_of}
 use Rattle.qp_calls.specs.Deferring.{ChangeAlike, StandAll, is_named, kept_in}
@@ -27,14 +25,13 @@ use Rattle.qp_calls.specs.Tokens.{Token}
 use Rattle.qp_chart_compiled.specs.Compiled.{IsCompiled}
 use Rattle.qp_dispatch.specs.declared.lasting.Lasting.{Lasting}
 use Rattle.qp_dispatch.specs.declared.objects.Object.{Object}
-use Rattle.qp_dispatch.specs.declared.part.Under.{Under}
 use Rattle.qp_dispatch.specs.declared.steps.Position.{Position}
 use Rattle.qp_dispatch.specs.declared.steps.Position.TheVariants as standing
 use Rattle.qp_dispatch.specs.declared.steps.Step.{Step}
 use Rattle.qp_dispatch.specs.declared.steps.Step.TheVariants as step
 use Rattle.qp_dispatch.specs.Lasts.{actor_of, config_of}
 use Rattle.qp_dispatch.specs.Objects.{MayResume, ObjectResumes, ResumesAs, home_of, works_for}
-use Rattle.qp_dispatch.specs.Parts.{held_by, left_by as left_by_under}
+use Rattle.qp_dispatch.specs.Parts.{held_by}
 use Rattle.qp_dispatch.specs.Resume.{BeginsOn, EndsAsserted, EndsSpilled, IsGoing, IsUnderWay, ToEnd, ToPoint, event_in, held_in, left_of, step_entry}
 use Rattle.qp_dispatch.specs.Resume.{IsReady as ObjectReady}
 use Rattle.qp_dispatch.specs.Runs.{Setting, hand_of, tasks_in}
@@ -45,7 +42,7 @@ use Rattle.qp_port_law.specs.Homes.{HomeEnds}
 use Rattle.qp_kernel_turns.specs.Knowing.{IsInTurn, own_count}
 use Rattle.qp_kernel_turns.proofs.Closing.{closes-left}
 use Rattle.qp_kernel_turns.proofs.SoundObjects.{ready}
-use Rattle.qp_kernel_turns.proofs.Stepping.{under-way-by}
+use Rattle.qp_kernel_turns.proofs.Stepping.{under-way-by, event-by, left-by, tasks-of}
 use Rattle.qp_port_home_law.specs.Laws.{HasMore, IsBusy, IsHomeOf, Rests}
 use Rattle.qp_port_home_law.proofs.HomeRecords.{AreInside, drops-inside, inside-then, own-inside}
 use Rattle.qp_port_home_law.proofs.HomeSteps.{done-inside, point-inside}
@@ -59,24 +56,6 @@ use Rattle.qp_port_home.proofs.Resting.{home-of, more-own}
 use Rattle.qp_port_home.proofs.Takes.{inside-none, no-take-then}
 use Rattle.std.proofs.lemmas.List.{length-map}
 use Rattle.std.proofs.Common.{length-append}
-
--- what a step reads of its lane doesn't depend on the object for which it works
-event-by : (st : Position) (o : ℕ) (v : LaneView) → event_in st (works_for o v) ≡ event_in st v
-event-by standing.Between o v = refl
-event-by (standing.Taken (token.Static sig)) o v = refl
-event-by (standing.Taken (token.Pool h)) o v = refl
-event-by (standing.Within g) o v = refl
-
-left-by : (home : Setting) (k : Lasting) (st : Position) (o : ℕ) (v : LaneView) → left_of home k st (works_for o v) ≡ left_of home k st v
-left-by home k standing.Between o v = refl
-left-by home k (standing.Taken (token.Static sig)) o v = refl
-left-by home k (standing.Taken (token.Pool h)) o v = refl
-left-by home k (standing.Within g) o v = refl
-
-tasks-of : (u : Option Under) (ts : List Task) (leaf : ℕ) → (left_by_under u ts leaf).tasks ≡ ts
-unfolding tasks_left publishing_left
-tasks-of None ts leaf = refl
-tasks-of (Some u) ts leaf = refl
 
 -- the run stops while the step waits
 pub stops-waiting : (sys : System) (sound : IsSound sys) (budget : ℕ) (x : Home) (v w : LaneView) (code : ℕ) → IsBusyHome sys budget true x v → w ≡ record v { answered = code ∷ v.answered } → HomeStops sys budget x.me x w

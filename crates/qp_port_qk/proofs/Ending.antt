@@ -1,5 +1,5 @@
 -- What runs in a lane may end there, where the run stops early.
-use Rattle.std.proofs.Common.{◌≡◌, ℕ, ◌≤◌, Bool, true, false, List, [], refl, sym, ◌∙◌, ap, subst, ◌⊎◌, inl, inr, arith}
+use Rattle.std.proofs.Common.{◌≡◌, ℕ, ◌≤◌, Bool, false, List, [], refl, sym, ◌∙◌, ap, subst, ◌⊎◌, inl, inr, arith}
 use Rattle.qp_model.specs.declared.systems.System.{System}
 use Rattle.qp_model.specs.Ends.{may_cut}
 use Rattle.qp_model.specs.KernelLane.{is_over}
@@ -21,12 +21,9 @@ use Rattle.qp_kernel_turns.specs.TurnRows.{idle_rows}
 use Rattle.qp_kernel_turns.proofs.BaseRows.{idle-is}
 use Rattle.qp_port_rests.specs.Laws.{HasTurned, IsAtBase}
 use Rattle.qp_port_rests.proofs.Turned.{turned_kernels_end}
-use Rattle.qp_port_phases.specs.Stopping.{HasStarved, Hears}
-use Rattle.qp_port_cursor.proofs.Hearing.{starts-hear, why-starved}
 use Rattle.qp_port_cursor.proofs.Standing.{may-stop}
 use Rattle.qp_port_qk.specs.declared.job.Job.{Job}
 use Rattle.qp_port_qk.specs.declared.job.Job.TheVariants as job
-use Rattle.qp_port_cursor.specs.Answers.{is_idle}
 use Rattle.qp_port_qk.specs.Jobs.{JobEnds, JobMayEnd, JobRests, JobStands, JobStarts, JobStops}
 use Rattle.qp_port_qk.specs.KernelRests.{KernelBegins, KernelEnds, KernelRests}
 use Rattle.qp_port_qk.specs.Workers.{MayEnd, MayTurn}
@@ -62,16 +59,6 @@ pub starts-end : (sys : System) (budget : ℕ) (sound : IsSound sys) (t : Turn) 
 starts-end sys budget sound turn.Idle x v h = rests-end sys budget sound x v h
 starts-end sys budget sound turn.Stopped x v h = h
 starts-end sys budget sound turn.Memory x v h = h
-
-pub starts-stand : (sys : System) (budget : ℕ) (t : Turn) (x : Job) (v : LaneView) → is_idle t ≡ true → JobStarts sys budget t x v → JobStands sys budget t x v
-starts-stand sys budget turn.Idle x v idle h = h
-starts-stand sys budget turn.Stopped x v idle h = absurd (cc)
-starts-stand sys budget turn.Memory x v idle h = absurd (cc)
-
-pub idle-is_turn : (t : Turn) → is_idle t ≡ true → t ≡ turn.Idle
-idle-is_turn turn.Idle h = refl
-idle-is_turn turn.Stopped h = absurd (cc)
-idle-is_turn turn.Memory h = absurd (cc)
 
 -- Starts.
 
@@ -116,12 +103,6 @@ starts-same v w step.Point h = absurd h
 starts-same v w step.Done h = keeps-same v w h.keeps
 starts-same v w step.Stopped h = keeps-same v w h.keeps
 starts-same v w step.Memory h = keeps-same v w h.keeps
-
-pub started-hears : (v w : LaneView) (s : Step) → LaneStarts v w s → Hears v w
-started-hears v w s h = starts-hear v w s h
-
-pub started-starved : (v w : LaneView) → LaneStarts v w step.Memory → HasStarved w
-started-starved v w h = why-starved v w h.handed
 
 pub stopped-ends : (sys : System) (budget : ℕ) (v w : LaneView) → StartStopped sys v w → KernelEnds sys budget w
 stopped-ends sys budget v w h end early = (h.turn (under_qk budget)).zero end early

@@ -1,5 +1,5 @@
 -- What a turn leaves of a lane, and of what is counted.
-use Rattle.std.proofs.Common.{◌≡◌, ℕ, ◌+◌, ◌-◌, ◌<◌, ◌≤◌, ◌==◌, Bool, true, false, cond, List, [], ◌∷◌, ◌++◌, map, length, reverse, get_or, refl, sym, ◌∙◌, ap, subst, inr, arith}
+use Rattle.std.proofs.Common.{◌≡◌, ℕ, ◌+◌, ◌-◌, ◌<◌, ◌≤◌, ◌==◌, Bool, true, false, cond, List, [], ◌∷◌, ◌++◌, map, length, reverse, get_or, refl, sym, ◌∙◌, ap, subst, arith}
 use Rattle.std.specs.Prelude.{IsTrue}
 use Rattle.std.specs.List.{count_by}
 use Rattle.std.proofs.lemmas.Bool.Decides.{nat_tests}
@@ -34,7 +34,7 @@ use Rattle.qp_kernel_turns.specs.Turning.{Stood, TurnsTo, stand_of}
 use Rattle.qp_kernel_turns.specs.TurnRows.{TurnsRows, bare_row, idle_rows}
 use Rattle.qp_kernel_turns.proofs.Places.{follow-then}
 use Rattle.qp_kernel_turns.proofs.RoundRows.{object-there}
-use Rattle.qp_port_phases.specs.Rows.{CountsBy, CountsOn, Numbers, PassCounts, SeesEntry}
+use Rattle.qp_port_phases.specs.Rows.{CountsOn, SeesEntry}
 use Rattle.qp_port_law.specs.SourcesLeft.{SourceLeaves}
 use Rattle.qp_port_rests.specs.Laws.{IsAtBase}
 use Rattle.qp_port_cursor.specs.declared.cursor.Cursor.{Cursor}
@@ -42,17 +42,15 @@ use Rattle.qp_port_phases.specs.declared.lanes.Passed.{Passed}
 use Rattle.qp_port_phases.specs.declared.lanes.Passed.TheVariants as passed
 use Rattle.qp_port_phases.specs.Passing.{PassesTo}
 use Rattle.qp_port_phases.specs.Stopping.{Hears}
-use Rattle.qp_port_cursor.proofs.Hearing.{lane-hears, passes-hands, passes-hear, passes-to, turns-hear, why-starved, why-stopped}
+use Rattle.qp_port_cursor.proofs.Hearing.{passes-hands, passes-hear, passes-to, why-starved, why-stopped}
 use Rattle.qp_port_cursor.specs.At.{IsCursorAt, mine}
 use Rattle.qp_port_cursor.specs.Passing.{Passes, settles_of}
 use Rattle.qp_port_cursor.specs.Turning.{IsSameSource, SourceTurns}
-use Rattle.qp_port_qk.specs.declared.job.Job.{Job}
 use Rattle.qp_port_qk.specs.declared.job.Job.TheVariants as job
-use Rattle.qp_port_cursor.specs.Answers.{is_idle, is_short, turn_by}
-use Rattle.qp_port_qk.specs.Jobs.{JobStands, JobTurns, KernelStands, TurnsFrom}
+use Rattle.qp_port_cursor.specs.Answers.{turn_by}
+use Rattle.qp_port_qk.specs.Jobs.{JobStands, KernelStands}
 use Rattle.qp_port_qk.specs.KernelRests.{KernelRests}
 use Rattle.qp_port_qk.specs.Numbers.{numbers_of}
-use Rattle.qp_port_qk.specs.Workers.{MayTurn}
 
 -- At the base a look may stand.
 
@@ -184,20 +182,10 @@ kernel-counts acts sys budget xs ys k l v w turn.Memory alone h lane rows = reco
   pending = λ none p is sees. absurd (cc);
 }
 
--- a worker that has ended does nothing
-pub counts-still : (v : LaneView) (m : Numbers) → CountsOn v m m
-counts-still v m = record { lost = λ none. none; settles = λ none. omega arith; rows = λ none. omega arith; pending = λ none p is sees. omega arith }
-
-pub tries-still : (m : Numbers) → CountsBy 0 m m
-tries-still m = record { lost = λ none. none; settles = λ none. omega arith; rows = λ none. omega arith }
-
 -- Sources.
 
 mine-same : (x y : Cursor) → IsSameSource x y → mine y ≡ mine x
 mine-same x y same = ap (λ (p : List (List Stim)). get_or p (y.source - 1) []) (ap (λ s. s.now) same.0) ∙ ap (λ k. get_or x.stim.now (k - 1) []) same.1
-
-pub source-same : (x y : Cursor) → IsSameSource x y → mine y ≡ mine x
-source-same x y same = mine-same x y same
 
 pub source-turned : (sys : System) (budget : ℕ) (x y : Cursor) (v w : LaneView) (t : Turn) → SourceTurns sys x y v w t → IsSameSource x y → JobStands sys budget t (job.Source y) w
 source-turned sys budget x y v w turn.Idle h same = h.goes.at
@@ -206,11 +194,6 @@ source-turned sys budget x y v w turn.Stopped h same = (
   why-stopped v w h.why,
 )
 source-turned sys budget x y v w turn.Memory h same = why-starved v w h.stops
-
-pub source-lane : (sys : System) (x y : Cursor) (v w : LaneView) (t : Turn) → SourceTurns sys x y v w t → SameLane v w
-source-lane sys x y v w turn.Idle h = h.goes.keeps
-source-lane sys x y v w turn.Stopped h = h.keeps
-source-lane sys x y v w turn.Memory h = h.keeps
 
 pub source-counts : (sys : System) (budget : ℕ) (x y : Cursor) (v w : LaneView) (t : Turn) → SourceTurns sys x y v w t → CountsOn v (numbers_of sys budget turn.Idle (job.Source x) v) (numbers_of sys budget t (job.Source y) w)
 source-counts sys budget x y v w turn.Idle h =
@@ -233,38 +216,7 @@ source-passed sys budget x y v w passed.Stopped h same = (
 )
 source-passed sys budget x y v w passed.Memory h same = why-starved v w h.starves.stops
 
-pub passed-lane : (sys : System) (x y : Cursor) (v w : LaneView) (p : Passed) → Passes sys x y v w p → SameLane v w
-passed-lane sys x y v w passed.Yes h = h.stays.along.keeps
-passed-lane sys x y v w (passed.Found p now) h = h.stays.along.keeps
-passed-lane sys x y v w passed.Stopped h = h.stops.keeps
-passed-lane sys x y v w passed.Memory h = h.starves.keeps
-
-pub passed-counts : (sys : System) (budget : ℕ) (x y : Cursor) (v w : LaneView) (p : Passed) → Passes sys x y v w p
-    → PassCounts (numbers_of sys budget turn.Idle (job.Source x) v) (numbers_of sys budget (turn_by p) (job.Source y) w) p
-passed-counts sys budget x y v w passed.Yes h = record { lost = λ none. refl; settles = λ none. h.settled; rows = λ none. omega arith }
-passed-counts sys budget x y v w (passed.Found p now) h =
-    record { lost = λ none. refl; settles = λ none. let more = settles-grow v.told h.stays.along.ts w.told h.stays.along.told in omega (arith, more); rows = λ none. omega arith }
-passed-counts sys budget x y v w passed.Stopped h =
-    record { lost = λ none. refl; settles = λ none. let more = settles-grow v.told h.stops.ts w.told h.stops.told in omega (arith, more); rows = λ none. omega arith }
-passed-counts sys budget x y v w passed.Memory h = record { lost = λ none. absurd (cc); settles = λ none. absurd (cc); rows = λ none. absurd (cc) }
-
 -- What a turn leaves, whatever runs in the lane.
-
-pub job-hears : (acts : Bool) (sys : System) (budget : ℕ) (x y : Job) (v w : LaneView) (t : Turn) → JobTurns acts sys budget x y v w t → Hears v w
-job-hears acts sys budget (job.Kernel xs k) (job.Kernel ys l) v w t h = lane-hears acts v w t h.lane
-job-hears acts sys budget (job.Source x) (job.Source y) v w t h = turns-hear sys x y v w t h
-job-hears acts sys budget (job.Kernel xs k) (job.Source y) v w t h = absurd h
-job-hears acts sys budget (job.Source x) (job.Kernel ys l) v w t h = absurd h
-
-pub turns-from : (acts : Bool) (sys : System) (budget : ℕ) (s : Turn) (x : Job) (v : LaneView) (t : Turn) (y : Job) (w : LaneView) → is_idle s ≡ true → JobTurns acts sys budget x y v w t → TurnsFrom acts sys budget s x v t y w
-turns-from acts sys budget turn.Idle x v t y w idle h = h
-turns-from acts sys budget turn.Stopped x v t y w idle h = absurd (cc)
-turns-from acts sys budget turn.Memory x v t y w idle h = absurd (cc)
-
-pub turns-none : (acts : Bool) (sys : System) (budget : ℕ) (t : Turn) (x : Job) (v : LaneView) → is_idle t ≡ false → TurnsFrom acts sys budget t x v t x v
-turns-none acts sys budget turn.Idle x v idle = absurd (cc)
-turns-none acts sys budget turn.Stopped x v idle = (refl, refl, refl)
-turns-none acts sys budget turn.Memory x v idle = (refl, refl, refl)
 
 -- What passing a `settle`, or a try, leaves.
 
@@ -276,14 +228,3 @@ source-passed_to sys x y v w p at h = passes-to sys x y v w p at.at.of h
 
 pub source-passed_hands : (sys : System) (x y : Cursor) (v w : LaneView) (p : Passed) → Passes sys x y v w p → w.hands ≡ v.hands
 source-passed_hands sys x y v w p h = passes-hands sys x y v w p h
-
--- one that has stopped before does nothing
-pub stopped-passes : (acts : Bool) (sys : System) (budget : ℕ) (t : Turn) (x : Job) (v : LaneView) → is_idle t ≡ false → is_short t ≡ false → MayTurn acts sys budget t x v → PassesTo v v passed.Stopped
-stopped-passes acts sys budget turn.Idle x v none long h = absurd (cc)
-stopped-passes acts sys budget turn.Stopped x v none long h = inr (refl, h.stands.1)
-stopped-passes acts sys budget turn.Memory x v none long h = absurd (cc)
-
-pub starved-passes : (acts : Bool) (sys : System) (budget : ℕ) (t : Turn) (x : Job) (v : LaneView) → is_short t ≡ true → MayTurn acts sys budget t x v → PassesTo v v passed.Memory
-starved-passes acts sys budget turn.Idle x v short h = absurd (cc)
-starved-passes acts sys budget turn.Stopped x v short h = absurd (cc)
-starved-passes acts sys budget turn.Memory x v short h = inr (refl, h.stands)

@@ -7,6 +7,7 @@ use Rattle.std.proofs.lemmas.Bool.{and_from, and_parts}
 use Rattle.std.proofs.lemmas.Bool.Decides.{nat_tests}
 use Rattle.std.proofs.lemmas.List.{length-map}
 use Rattle.std.proofs.lemmas.List.Quantifiers.{position-Some}
+use Rattle.std.proofs.lemmas.Option.{same_Some}
 use Rattle.qp_model.specs.declared.systems.System.{System}
 use Rattle.qp_model.specs.declared.bodies.Entry.{Entry}
 use Rattle.qp_model.specs.declared.bodies.Body.{Body}
@@ -533,9 +534,6 @@ module _ (sys : System) (o : ℕ) (P : Claims) where
     good-more [] e all good = (good, tt)
     good-more (x ∷ xs) e all good = (all.0, good-more xs e all.1 good)
 
-    some-same : {A : Type 0} {x y : A} → Some x ≡ Some y → x ≡ y
-    some-same e = cc
-
     -- what a call leaves of the deferred list: its entries are good, and their tokens stand
     record Keeps (B : Bag) (g : List Told) (new : List Entry) (F : Bag) : Type 0 where
       leads : Leads B g (λ t. bag_of new t + F t)
@@ -547,7 +545,7 @@ module _ (sys : System) (o : ℕ) (P : Claims) where
     deferred room old new head e kept calm = go (nat_lt (length old) room) (sym (kept-append room old old head (plain (item.Defer e) ∷ []) calm) ∙ kept)
       where
         go : (fits : Bool) → option_and_then (λ rest. Some rest) (cond fits (Some (old ++ e ∷ [])) None) ≡ Some new → new ≡ old ++ e ∷ []
-        go true h = sym (some-same h)
+        go true h = sym (same_Some _ _ h)
         go false h = absurd (cc)
 
     calm-again : (room : ℕ) (kept : List Entry) (old : Entry) (head : List Told) (e : Entry) → MakesAgain old head e → kept_after room kept head ≡ Some kept
@@ -564,14 +562,14 @@ module _ (sys : System) (o : ℕ) (P : Claims) where
       where
         go : (fits : Bool) → option_and_then (λ rest. Some rest) (cond fits None (Some old)) ≡ Some new → new ≡ old
         go true h = absurd (cc)
-        go false h = sym (some-same h)
+        go false h = sym (same_Some _ _ h)
 
     refused-recall : (room : ℕ) (old new : List Entry) → kept_after room old (plain item.NoRecall ∷ []) ≡ Some new → new ≡ old
     unfolding kept_after keep
     refused-recall room old new h = go (length old == 0) h
       where
         go : (none : Bool) → option_and_then (λ rest. Some rest) (cond none (Some old) None) ≡ Some new → new ≡ old
-        go true h = sym (some-same h)
+        go true h = sym (same_Some _ _ h)
         go false h = absurd (cc)
 
     defers-keeps : (now : Entry) (room : ℕ) (old new : List Entry) (answer : Answer) (g : List Told) (F : Bag) → P.Good now → AllGood old → NoLoose F
@@ -638,7 +636,7 @@ module _ (sys : System) (o : ℕ) (P : Claims) where
         let first : kept_after room others head ≡ Some others = calm-again room others k head e makes in
         let second : kept_after room others one ≡ Some others = subst (λ x. kept_after room others x ≡ Some others) (sym is) (kept-append room others others head _ first) in
         let third : kept_after room others rel ≡ Some others = kept-calm room others rel (calm-drops k rel drops) in
-        some-same (sym kept ∙ kept-append room others others one rel second ∙ third)
+        same_Some _ _ (sym kept ∙ kept-append room others others one rel second ∙ third)
 
     recalls-keeps : (room : ℕ) (old new : List Entry) (answer : Answer) (g : List Told) (F : Bag) → P.names.Object o → AllGood old → NoLoose F → is_assertion answer ≡ false
         → Recalls o answer g → kept_after room old g ≡ Some new → Keeps (λ t. bag_of old t + F t) g new F
@@ -689,7 +687,7 @@ module _ (sys : System) (o : ℕ) (P : Claims) where
     flushes-keeps : (room n : ℕ) (old new : List Entry) (g : List Told) (F : Bag) → AllGood old → Flushes n g → kept_after room old g ≡ Some new → Keeps (λ t. bag_of old t + F t) g new F
     unfolding Flushes hands_by kept_after
     flushes-keeps room zero old new g F all is kept =
-        let same : new ≡ old = sym (some-same (subst (λ x. kept_after room old x ≡ Some new) is kept)) in
+        let same : new ≡ old = sym (same_Some _ _ (subst (λ x. kept_after room old x ≡ Some new) is kept)) in
         let B : Bag = λ t. bag_of old t + F t in
         record {
           leads = leads-same B (λ t. bag_of new t + F t) g [] is

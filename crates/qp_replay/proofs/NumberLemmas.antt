@@ -2,7 +2,7 @@
 -- drawn once each and nothing beyond them is shown.
 use Rattle.std.proofs.Common.{◌≡◌, ◌∙◌, ℕ, zero, suc, ◌+◌, ◌≤◌, ◌<◌, ◌==◌, nat_lt, nat_le, Bool, true, false, not, ◌&&◌, ◌||◌, cond, List, [], ◌∷◌, ◌++◌, length, ⊎_elim, refl, sym, ap, subst, arith, append_assoc, length-append}
 use Rattle.std.specs.List.{filter, list_all}
-use Rattle.std.proofs.lemmas.Bool.{cases_eq, cases_lt, and_from, and_parts}
+use Rattle.std.proofs.lemmas.Bool.{and_from, and_parts, cases_eq, cases_lt, le-leb, lt-ltb}
 use Rattle.std.proofs.lemmas.Bool.Decides.{nat_tests}
 use Rattle.std.proofs.lemmas.List.Elements.{filter-append}
 use Rattle.qp_model.specs.declared.words.Word.{Word}
@@ -131,15 +131,12 @@ next-draw w all A i B m inv order is = ⊎_elim (λ e. e) (λ ne. absurd (wrong 
         let less : suc c < m = grind (arith, nat_tests, up, ne) in
         let some : c < all = grind (arith, nat_tests, less, down) in
         let former : drawn w c A ≡ 0 = none-drawn w c (λ k. draws_to w c (touch k)) A (λ k h. to-not w c c (touch k) (omega arith) h) inv.low in
-        let later : drawn w c B ≡ 0 = none-drawn w c (λ k. not (touch_first (touch k) (touch i))) B (λ k h. first-not w c (touch i) (touch k) (λ v e. rw is (and_from _ _ e (is-less (suc c) m less))) h) (and_parts _ _ order.sorted).0 in
+        let later : drawn w c B ≡ 0 = none-drawn w c (λ k. not (touch_first (touch k) (touch i))) B (λ k h. first-not w c (touch i) (touch k) (λ v e. rw is (and_from _ _ e (lt-ltb (suc c) m less))) h) (and_parts _ _ order.sorted).0 in
         let mine : drawn_as w c (touch i) ≡ false = rw is (apart (same_word w w) ne) in
         let one = sym (drawn-split w c A i B) ∙ inv.once c some in
         let none : cond {A = ℕ} (drawn_as w c (touch i)) 1 0 ≡ 0 = rw mine refl in
         omega (arith, one, former, later, none)
       where
-        is-less : (a b : ℕ) → a < b → nat_lt a b ≡ true
-        is-less a b less = grind (arith, nat_tests, less)
-
         apart : (s : Bool) → (m ≡ suc (total w A) → ⊥) → (s && (m == suc (total w A))) ≡ false
         apart false ne = refl
         apart true ne = grind (arith, nat_tests, ne)
@@ -151,12 +148,6 @@ same-sym v w e = subst (λ x. same_word x v ≡ true) (same_word-is v w e) (same
 next-show : (w : Word) (all : ℕ) (A : List Item) (i : Item) (B : List Item) (m : ℕ) → Inv w all A (i ∷ B) → Sorted A (i ∷ B) → touch i ≡ Shows w m → m ≡ total w A
 next-show w all A i B m inv order is = ⊎_elim (λ e. e) (λ ne. ⊎_elim (λ less. absurd (too-low less)) (λ le. absurd (too-high (omega (arith, le, ne)))) (cases_lt m (total w A))) (cases_eq m (total w A))
   where
-    is-less : (a b : ℕ) → a < b → nat_lt a b ≡ true
-    is-less a b less = grind (arith, nat_tests, less)
-
-    is-le : (a b : ℕ) → a ≤ b → nat_le a b ≡ true
-    is-le a b le = grind (arith, nat_tests, le)
-
     mine : (n : ℕ) → cond {A = ℕ} (drawn_as w n (touch i)) 1 0 ≡ 0
     mine n = rw is refl
 
@@ -167,7 +158,7 @@ next-show w all A i B m inv order is = ⊎_elim (λ e. e) (λ ne. ⊎_elim (λ l
         go zero e less = omega (arith, less)
         go (suc n) e less =
             let some : n < all = omega (arith, e, inv.part) in
-            let former : drawn w n A ≡ 0 = none-drawn w n (λ a. not (touch_first (touch i) (touch a))) A (λ a h. behind-not w n (touch i) (touch a) (λ v same. rw is (and_from _ _ (same-sym v w same) (is-less m (suc n) less))) h) (and_parts _ _ order.behind).0 in
+            let former : drawn w n A ≡ 0 = none-drawn w n (λ a. not (touch_first (touch i) (touch a))) A (λ a h. behind-not w n (touch i) (touch a) (λ v same. rw is (and_from _ _ (same-sym v w same) (lt-ltb m (suc n) less))) h) (and_parts _ _ order.behind).0 in
             let later : drawn w n B ≡ 0 = none-drawn w n (λ k. draws_above w (total w A) (touch k)) B (λ k h. above-not w (total w A) n (touch k) (omega (arith, e)) h) (and_parts _ _ inv.high).1 in
             let one = sym (drawn-split w n A i B) ∙ inv.once n some in
             let none = mine n in
@@ -181,7 +172,7 @@ next-show w all A i B m inv order is = ⊎_elim (λ e. e) (λ ne. ⊎_elim (λ l
         let down : nat_le m all ≡ true = rw (is, here) at to in
         let some : c < all = grind (arith, nat_tests, less, down) in
         let former : drawn w c A ≡ 0 = none-drawn w c (λ k. draws_to w c (touch k)) A (λ k h. to-not w c c (touch k) (omega arith) h) inv.low in
-        let later : drawn w c B ≡ 0 = none-drawn w c (λ k. not (touch_first (touch k) (touch i))) B (λ k h. first-not w c (touch i) (touch k) (λ v e. rw is (and_from _ _ e (is-le (suc c) m less))) h) (and_parts _ _ order.sorted).0 in
+        let later : drawn w c B ≡ 0 = none-drawn w c (λ k. not (touch_first (touch k) (touch i))) B (λ k h. first-not w c (touch i) (touch k) (λ v e. rw is (and_from _ _ e (le-leb (suc c) m less))) h) (and_parts _ _ order.sorted).0 in
         let one = sym (drawn-split w c A i B) ∙ inv.once c some in
         let none = mine c in
         omega (arith, one, former, later, none)
@@ -249,7 +240,7 @@ inv-draw w all A i B m inv order is =
     let mine : cond {A = ℕ} (drawn_as w c (touch i)) 1 0 ≡ 1 = rw it-is refl in
     let one = sym (drawn-split w c A i B) ∙ inv.once c some in
     let later : drawn w c B ≡ 0 = omega (arith, one, former, mine) in
-    let last : draws_to w (suc c) (touch i) ≡ true = rw (is, here) (is-le m (suc c) (omega (arith, next))) in
+    let last : draws_to w (suc c) (touch i) ≡ true = rw (is, here) (le-leb m (suc c) (omega (arith, next))) in
     record {
       once = λ n less. ap (drawn w n) (append_assoc A (i ∷ []) B) ∙ inv.once n less;
       within = (and_parts _ _ inv.within).1;
@@ -263,9 +254,6 @@ inv-draw w all A i B m inv order is =
 
     same : (a b : ℕ) → a ≡ b → (a == b) ≡ true
     same a b e = grind (arith, nat_tests, e)
-
-    is-le : (a b : ℕ) → a ≤ b → nat_le a b ≡ true
-    is-le a b le = grind (arith, nat_tests, le)
 
 inv-other : (w : Word) (all : ℕ) (A : List Item) (i : Item) (B : List Item) → Inv w all A (i ∷ B) → drawn_on w (touch i) ≡ false → Inv w all (A ++ i ∷ []) B
 inv-other w all A i B inv off =

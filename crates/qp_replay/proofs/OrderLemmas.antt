@@ -1,7 +1,7 @@
 -- An order so far, and one record more in it.
 use Rattle.std.proofs.Common.{◌≡◌, ◌≢◌, ◌∙◌, ℕ, zero, suc, ◌+◌, ◌-◌, ◌≤◌, ◌<◌, ◌==◌, nat_lt, Bool, true, false, ◌&&◌, Some, List, [], ◌∷◌, ◌++◌, length, get_or, set, take, replicate, Contains, IsTrue, ◌⊎◌, ⊎_elim, inl, inr, refl, sym, ap, subst, arith, add-one, append_assoc, append-nil, get_or-set_same, get_or-set_other, length-set}
 use Rattle.std.specs.Prelude.{slice_get, IsPermutation}
-use Rattle.std.proofs.lemmas.Bool.{cases_eq, cases_lt}
+use Rattle.std.proofs.lemmas.Bool.{cases_eq, cases_lt, lt-ltb}
 use Rattle.std.proofs.lemmas.Bool.Decides.{nat_tests}
 use Rattle.std.proofs.lemmas.List.{take_all}
 use Rattle.std.proofs.lemmas.List.Elements.{Contains-append_left, Contains-push, Contains-push_cases}
@@ -268,10 +268,7 @@ fewer st n each next = let at = lane-of st.lanes n (front st n) next in left-les
 -- an order in which no lane has a record left
 module _ (st : Standing) (order : List RecordPlace) (kept : Kept st order) (none : (n : ℕ) → HasNext st n → ⊥) where
   at-end : (n : ℕ) → length (get_or st.lanes n []) ≤ front st n
-  at-end n = ⊎_elim (λ less. absurd (none n (record-test st.lanes n (front st n) ∙ is-less (front st n) (length (get_or st.lanes n [])) less))) (λ le. le) (cases_lt (front st n) (length (get_or st.lanes n [])))
-    where
-      is-less : (a b : ℕ) → a < b → nat_lt a b ≡ true
-      is-less a b less = grind (arith, nat_tests, less)
+  at-end n = ⊎_elim (λ less. absurd (none n (record-test st.lanes n (front st n) ∙ lt-ltb (front st n) (length (get_or st.lanes n [])) less))) (λ le. le) (cases_lt (front st n) (length (get_or st.lanes n [])))
 
   pub has-all : (x : RecordPlace) → IsTrue (is_record st.lanes x) → Contains order x
   has-all x is = let at = (lane-of st.lanes x.lane x.at is).1 in let end = at-end x.lane in kept.passed x is (omega (arith, at, end))

@@ -174,10 +174,6 @@ module _ (sys : System) (sound : IsSound sys) (P : Claims) (rules : Rules sys P)
   unfolding hands_by
   settle rest c = then (plain item.Settle ∷ []) rest (still sys 0 P (λ t. 0) (plain item.Settle) (λ H. tt) (λ H. refl)) c
 
-  begins : (k look : ℕ) (rest : List Told) → Alone rest → Alone (plain (item.Stim k look) ∷ rest)
-  unfolding hands_by
-  begins k look rest c = then (plain (item.Stim k look) ∷ []) rest (still sys 0 P (λ t. 0) (plain (item.Stim k look)) (λ H. tt) (λ H. refl)) c
-
   empty-alone : (os : List ℕ) (g : List Told) → AllByRecursion (λ o. IsTrue (is_object sys o)) os → SeesEmpty os g → Alone g
   unfolding SeesEmpty
   empty-alone [] g objects h = same g [] h (leads-nil sys 0 P (λ t. 0))

@@ -1,7 +1,7 @@
 -- The next record of a serial order: its words are then as it says.
 use Rattle.std.proofs.Common.{◌≡◌, ◌∙◌, ℕ, zero, suc, ◌+◌, ◌-◌, ◌<◌, ◌≤◌, ◌==◌, nat_lt, nat_le, Bool, true, false, not, ◌&&◌, ◌||◌, cond, List, [], ◌∷◌, ◌++◌, length, take, filter, refl, append-nil, append_assoc, sym, ap, subst, arith, ◌⊎◌, inl, inr, Some, IsTrue}
 use Rattle.std.specs.List.{cons_option, list_all}
-use Rattle.std.proofs.lemmas.Bool.{not-true, and_parts, eqb-true}
+use Rattle.std.proofs.lemmas.Bool.{and_parts, eqb-true, leb-true, ltb-true, not-true}
 use Rattle.std.proofs.lemmas.Bool.Decides.{nat_tests}
 use Rattle.std.proofs.lemmas.List.Elements.{filter-append, filter_map-append}
 use Rattle.qp_chart.specs.StateTree.{has}
@@ -182,12 +182,6 @@ module _ (sys : System) (lanes : List (List Rec)) (order A B : List RecordPlace)
         go true is h = inl (eqb-true e.pool 0 is)
         go false is h = inr (stands-too (token_of e) h)
 
-    le-is : (a b : ℕ) → nat_le a b ≡ true → a ≤ b
-    le-is a b h = grind (arith, nat_tests, h)
-
-    lt-is : (a b : ℕ) → nat_lt a b ≡ true → a < b
-    lt-is a b h = grind (arith, nat_tests, h)
-
     some-is : (n : ℕ) → not (n == 0) ≡ true → 0 < n
     some-is n h = grind (arith, nat_tests, h)
 
@@ -234,7 +228,7 @@ module _ (sys : System) (lanes : List (List Rec)) (order A B : List RecordPlace)
             eqb-true f (s.f + 1) one.0,
             record {
               queue = record { object = h; firsts = refl; lasts = eqb-true l s.l one.1; takes = eqb-true m s.m two.1 };
-              room = le-is (length s.entries) (ring_of sys a) all.1;
+              room = leb-true (length s.entries) (ring_of sys a) all.1;
               owned = owned-is e good inside;
             },
           )
@@ -254,7 +248,7 @@ module _ (sys : System) (lanes : List (List Rec)) (order A B : List RecordPlace)
             eqb-true l (s.l + 1) one.1,
             record {
               queue = record { object = h; firsts = eqb-true f s.f one.0; lasts = refl; takes = eqb-true m s.m two.1 };
-              room = le-is (length s.entries) (ring_of sys o) all.1;
+              room = leb-true (length s.entries) (ring_of sys o) all.1;
               owned = owned-is e good inside;
             },
           )
@@ -284,7 +278,7 @@ module _ (sys : System) (lanes : List (List Rec)) (order A B : List RecordPlace)
           let says : ((((s.f == f) && (s.l == l)) && (s.m == m)) && nat_le (ring_of sys a + 1 - (f + l - m)) margin) ≡ true =
           subst (λ b. (line (ring_of sys a)).says (line_in sys W a) b ≡ true) (ap (λ k. k.body) is) (line-shown a (f + l + m) h (touches (item.Full a f l m margin) _ is refl)) in
           let all = and_parts (((s.f == f) && (s.l == l)) && (s.m == m)) (nat_le (ring_of sys a + 1 - (f + l - m)) margin) says in
-          (counts-is a f l m h all.0, le-is (ring_of sys a + 1 - (f + l - m)) margin all.1)
+          (counts-is a f l m h all.0, leb-true (ring_of sys a + 1 - (f + l - m)) margin all.1)
         where
           s : Line
           s = line_in sys W a
@@ -317,7 +311,7 @@ module _ (sys : System) (lanes : List (List Rec)) (order A B : List RecordPlace)
           let s = pool-shown p n h (touches (item.Short p n free reserve) _ is refl) in
           let says : ((length (pool_in sys W p).free == free) && nat_le free reserve) ≡ true = subst (λ b. (free_blocks (blocks_of sys p)).says (pool_in sys W p) b ≡ true) (ap (λ k. k.body) is) s.1 in
           let all = and_parts (length (pool_in sys W p).free == free) (nat_le free reserve) says in
-          (record { pool = h; number = s.0; free_blocks = sym (eqb-true (length (pool_in sys W p).free) free all.0) }, le-is free reserve all.1)
+          (record { pool = h; number = s.0; free_blocks = sym (eqb-true (length (pool_in sys W p).free) free all.0) }, leb-true free reserve all.1)
 
       pub no_block-may : (p n free : ℕ) → Is (item.NoBlock p n free) → IsTrue (is_pool sys p) → May sys W G o (item.NoBlock p n free)
       unfolding May
@@ -400,7 +394,7 @@ module _ (sys : System) (lanes : List (List Rec)) (order A B : List RecordPlace)
           subst (λ k. time_event.may (clock_in W t) k ≡ true) is (clock-drawn t (suc n) h (touches (item.Tick t n counter) _ is refl)) in
           let all = and_parts ((n == (clock_in W t).count) && ((clock_in W t).counter == counter + 1)) (nat_lt 0 counter) may in
           let two = and_parts (n == (clock_in W t).count) ((clock_in W t).counter == counter + 1) all.0 in
-          (record { timer = h; number = eqb-true n (clock_in W t).count two.0; is_counter = sym (eqb-true (clock_in W t).counter (counter + 1) two.1) }, lt-is 0 counter all.1)
+          (record { timer = h; number = eqb-true n (clock_in W t).count two.0; is_counter = sym (eqb-true (clock_in W t).counter (counter + 1) two.1) }, ltb-true 0 counter all.1)
 
       pub fire-may : (t n reload : ℕ) → Is (item.Fire t n reload) → IsTrue (is_timer sys t) → May sys W G o (item.Fire t n reload)
       unfolding May

@@ -21,14 +21,14 @@ use Rattle.qp_model.specs.Pieces.{Piece, Tell}
 use Rattle.qp_model.specs.KernelLane.{Drops, role_of, Setting, Upcoming, Inside, Chosen, Ended, Again, Over, Reading, looking_at, lane_next, lane_on}
 use Rattle.qp_model.specs.Acts.{Actor}
 use Rattle.qp_model.specs.Points.{pieces_at, pieces_in, is_look, begins_row}
-use Rattle.qp_check_calls.specs.CallState.{Goal, ToQueue, ToFront, ToDeferred, ToSet, CallStage, Begins, Puts, Flushes, Whole, CallState}
+use Rattle.qp_check_calls.specs.CallState.{Goal, ToDeferred, CallStage, Begins, Puts, Flushes, Whole, CallState}
 use Rattle.qp_check_calls.specs.CallStateNext.{put_next, queue_next, set_next, new_next, block_next, event_next, now_next, defer_next, recall_next, flush_next, arm_next, rearm_next, begin_next, stage_next, stage_answer, list_after, call_state_next}
 use Rattle.qp_check_sources.specs.TickState.{Reaching, Fired, Vain, tick_next}
 use Rattle.qp_check_sources.specs.SettleState.{Before, Seeing, settle_next}
 use Rattle.qp_check_sources.specs.Underway.{Underway, Calling, Ticking, Settling, underway_next, underway_done, underway_asserted, underway_tried}
 use Rattle.qp_check_course.specs.Note.{Note, tells, note_of, taken_by, raised_from, dropped_by, comes_back}
 use Rattle.qp_check_course.specs.Goes.{moment_of}
-use Rattle.qp_check_course.specs.Machine.{State, Between, Telling, Raising, AtPoint, InCall, AtPost, Releasing, Returning, Asserted, tell_next, is_end, expects_point}
+use Rattle.qp_check_course.specs.Machine.{State, Between, Telling, Raising, InCall, Releasing, Returning, Asserted, tell_next, is_end, expects_point}
 use Rattle.qp_sim_unique.proofs.KernelLemmas.{Slot, Starts, Runs, Releases, IsLook, IsSeen, IsTook, IsSpent, IsRest, Went, IsDone, GoesOn, no-threads, slot-of}
 use Rattle.qp_sim_unique.proofs.StackLemmas.{NotOf, PlaceAway, Away, away-looked}
 use Rattle.qp_model.proofs.KernelLaneLemmas.{granted}
@@ -124,10 +124,8 @@ module _ (w : Facts) (s : Setting) (p : ℕ) (some : p ≡ 0 → ⊥) where
 module _ (sys : System) (o : ℕ) (now : Option Entry) (kept : List Entry) (f l m : ℕ) (e : Entry) (k : Known) where
   put-untaken : (goal : Goal) (x : Entry) → put_next sys o kept goal x (body.Took f l m e) k ≡ None
   unfolding put_next queue_next set_next
-  put-untaken (ToQueue to margin behind) x = refl
-  put-untaken (ToFront recalled) x = refl
   put-untaken ToDeferred x = refl
-  put-untaken (ToSet sig) x = refl
+  put-untaken _ x = refl
 
   new-untaken : (fixed : Bool) (sig : ℕ) (pars : List ℕ) (reserve : Option ℕ) (goal : Goal) → new_next fixed sys o kept sig pars reserve goal (body.Took f l m e) k ≡ None
   unfolding new_next block_next
@@ -180,8 +178,6 @@ note-role : (b : Body) (n : Note) (k : Known) → tells n b k ≡ true → role_
 unfolding tells note_of role_of
 note-role (body.Dec p b d r) n told_specs.Nothing h role = cc
 note-role (body.Back p m b to) n told_specs.Nothing h role = cc
-note-role (body.Dec p b d r) n k h role = cc
-note-role (body.Back p m b to) n k h role = cc
 note-role b n k h role = cc
 
 taken-role : (b : Body) (k : Known) → role_of b ≡ Drops → taken_by b k ≡ None
@@ -200,17 +196,16 @@ must-release sys a (Between c) later t role h = absurd (let x = mapped _ (taken_
 must-release sys a (Telling way n ends ts leaf c) later t role h = absurd (note-role t.body n t.known (granted _ _ _ h).0 role)
 must-release sys a (Raising way ceiling ts leaf c) later t role h =
     absurd (let x = mapped _ (raised_from ceiling t.body t.known) later h in let no : None ≡ Some x.0 = sym (raised-role ceiling t.body t.known role) ∙ x.1 in cc)
-must-release sys a (AtPoint ev e ts leaf c) later t role h = absurd (cc)
 must-release sys a (InCall way inner rest ts leaf c) later t role h =
     record {
       unended = refl;
       unpointed = refl;
       untaken = λ f l m e k. rw (stage-untaken sys a.o (moment_of way).entry rest.kept f l m e k rest.stage) refl;
     }
-must-release sys a (AtPost way rest ts leaf c) later t role h = absurd (cc)
 must-release sys a (Releasing e c) later t role h = record { unended = refl; unpointed = refl; untaken = λ f l m x k. refl }
 must-release sys a (Returning p b d c) later t role h = record { unended = refl; unpointed = refl; untaken = λ f l m x k. refl }
 must-release sys a Asserted later t role h = absurd (cc)
+must-release sys a _ later t role h = absurd (cc)
 
 -- a stimulus that is done, or ended in its assertion, goes on by nothing; and with one thread none tries in vain
 whole-none : (sys : System) (o : ℕ) (now : Option Entry) (rest : CallState) (t : Told) → ((stage_answer rest.stage ≡ None) → ⊥) → call_state_next sys o now rest t ≡ None
@@ -244,8 +239,7 @@ one-tries : (kernel : ℕ) → has_one_order kernel ≡ true → may_try kernel 
 one-tries kernel one = let none = no-threads kernel one in rw (none.0, none.1) refl
 
 pub untried : (kernel : ℕ) → has_one_order kernel ≡ true → (u : Underway) → underway_tried kernel u ≡ true → ⊥
-untried kernel one (Calling rest) h = cc
-untried kernel one (Ticking rest) h = cc
 untried kernel one (Settling (Before true)) h = let no : may_try kernel ≡ false = one-tries kernel one in cc
 untried kernel one (Settling (Before false)) h = cc
 untried kernel one (Settling (Seeing left)) h = cc
+untried kernel one _ h = cc

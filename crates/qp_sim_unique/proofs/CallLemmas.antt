@@ -131,7 +131,6 @@ module _ (sys : System) (h : Held) where
   put-alone o kept (ToFront recalled) e b k next counted is comes = front-alone o recalled e b k next counted is comes
   put-alone o kept ToDeferred e (item.Defer x) Nothing next counted is comes =
       let e1 : x ≡ e = same_entry-is x e ((only-passed _ _ _ is).0) in rw e1 refl
-  put-alone o kept ToDeferred e b k next counted is comes = absurd (cc)
   put-alone o kept (ToSet sig) e (item.Pub s n set) Nothing next counted is comes =
       let test : (s == sig) ≡ true = (only-passed _ _ _ is).0 in
       let e1 : s ≡ sig = grind (arith, nat_tests) in
@@ -139,7 +138,7 @@ module _ (sys : System) (h : Held) where
       let e2 : n ≡ (h.sets sig).count = grind (arith, nat_tests) in
       let e3 : bits_of_set (h.sets sig).members ≡ set = grind (arith, nat_tests) in
       rw (e1, e2, e3) refl
-  put-alone o kept (ToSet sig) e b k next counted is comes = absurd (cc)
+  put-alone o kept _ e b k next counted is comes = absurd (cc)
 
   refer-alone : (o p b : ℕ) (goal : Goal) (body : Body) (k : Known) (next : CallStage) → refer_next p b goal body k ≡ Some next
       → comes_next sys h o body ≡ true → refer_told h p b ≡ tells body k

@@ -1,7 +1,7 @@
 -- A record in range: it says something that its form knows, with as many numbers as its kind has.
 use Rattle.std.proofs.Common.{◌≡◌, ℕ, zero, suc, ◌+◌, ◌≤◌, ◌==◌, nat_le, Bool, true, false, not, ◌&&◌, ◌||◌, cond, List, [], ◌∷◌, map, length, refl, ◌∙◌, ap, subst, Option, Some, None, slice_get, slice_index, arith}
 use Rattle.std.specs.List.{list_all}
-use Rattle.std.proofs.lemmas.Bool.{and_from, and_parts, or_right}
+use Rattle.std.proofs.lemmas.Bool.{and_from, and_parts, not-true, or_right}
 use Rattle.std.proofs.lemmas.Bool.Decides.{nat_tests}
 use Rattle.std.proofs.lemmas.List.{length-map}
 use Rattle.qp_model.specs.declared.bodies.Body.{Body}
@@ -75,10 +75,6 @@ module _ (rests : Bool) where
   takes : ℕ → ℕ → Bool
   takes k n = nat_le BEGIN k && nat_le k LOOK && not (k == NEW) && not (k == ASSERT) && not (k == REST) && (suc n == slice_index counts k)
 
-  other : (b : Bool) → not b ≡ true → b ≡ false
-  other true h = absurd (cc)
-  other false h = refl
-
   counted : (k n : ℕ) (form : List ℕ → Body) → ((nums : List ℕ) → is_said_by rests (form nums) ≡ true → length nums ≡ n) → takes k n ≡ true → IsCounted k form
   unfolding IsCounted takes
   counted k n form lengths t o nums h =
@@ -86,8 +82,8 @@ module _ (rests : Bool) where
       let b = and_parts _ (not (k == REST)) a.0 in
       let c = and_parts _ (not (k == ASSERT)) b.0 in
       let d = and_parts _ (not (k == NEW)) c.0 in
-      let no_new = other (k == NEW) d.1 in
-      let no_assert = other (k == ASSERT) c.1 in
+      let no_new = not-true (k == NEW) d.1 in
+      let no_assert = not-true (k == ASSERT) c.1 in
       let count : has_count k (o ∷ nums) ≡ true = rw (no_new, no_assert) (ap (λ m. suc m == slice_index counts k) (lengths nums h) ∙ a.1) in
       let ends = and_parts (nat_le BEGIN k) (nat_le k LOOK) d.0 in
       (and_from _ _ (and_from _ _ ends.0 (known-kind rests k ends.1)) count, or_right rests _ b.1)

@@ -67,12 +67,10 @@ module _ (sys : System) (h : Held) (a : Actor) (counted : IsCounted h) where
     where
       former-is : (n : ℕ) → Former n ≡ Former h.ceiling → n ≡ h.ceiling
       former-is n e = cc
-  tell-alone (AtPoint ev e ts leaf c) later t comes is = absurd (cc)
   tell-alone (InCall way inner rest ts leaf c) later t comes is =
       let x = mapped _ (call_state_next sys a.o (moment_of way).entry rest t) later is in
       let y = mapped _ (stage_next sys a.o (moment_of way).entry rest.kept rest.stage t.body t.known) x.0 x.1 in
       ap (option_map Tell) (call_goes_on_alone sys h a.o (moment_of way).entry rest.kept rest.stage y.0 t counted comes y.1)
-  tell-alone (AtPost way rest ts leaf c) later t comes is = absurd (cc)
   tell-alone (Releasing e c) later t comes is =
       let x = mapped _ (dropped_by e t.body t.known) later is in
       let whole : t ≡ dropped e.pool e.block x.0.0 e.name x.0.1 = dropped-is e x.0 t.body t.known x.1 in
@@ -84,6 +82,7 @@ module _ (sys : System) (h : Held) (a : Actor) (counted : IsCounted h) where
       let same = returned-alone sys h a.o p b d x.0 (subst (Comes sys h a.o) whole comes) in
       ap (λ y. Some (Tell y)) (same ∙ sym whole)
   tell-alone Asserted later t comes is = absurd (cc)
+  tell-alone _ later t comes is = absurd (cc)
 
   point-alone : (s later : State) → point_next a s ≡ Some later → piece_told sys h a s ≡ Some Point
   unfolding point_next piece_told

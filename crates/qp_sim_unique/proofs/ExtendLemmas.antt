@@ -75,9 +75,6 @@ module _ (sys : System) (charts : (p : ℕ) (d : ObjectDef) → object_at sys p 
             rw (own, known) refl
         by false own = rw own refl
 
-    there : Reading
-    there = (step sys charts stimuli mode bounded positive a xs front i la k g.one).0
-
     next-is : (step sys charts stimuli mode bounded positive b xs front i lb k g.two).0 ≡ (step sys charts stimuli mode bounded positive a xs front i la k g.one).0
     next-is =
         some-same (sym (step sys charts stimuli mode bounded positive b xs front i lb k g.two).1 ∙ sym (next-same sys mode.kernel a.has b.has k i g.looks new)

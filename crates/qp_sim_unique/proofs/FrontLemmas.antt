@@ -8,7 +8,7 @@ use Rattle.std.proofs.Math.Seq.{take-append_seam}
 use Rattle.std.specs.List.{filter, list_all, AllByRecursion}
 use Rattle.qp_model.specs.declared.words.Word.{Word}
 use Rattle.qp_model.specs.Record.{Item}
-use Rattle.qp_model.specs.History.{Touch, Draws, Shows, Neither, touch, same_word, drawn_on, drawn_as, drawn_below, total, numbered, is_numbered, hist}
+use Rattle.qp_model.specs.History.{Touch, Draws, Shows, touch, same_word, drawn_on, drawn_as, drawn_below, total, numbered, is_numbered, hist}
 use Rattle.qp_model.specs.Places.{is_next, in_order}
 use Rattle.qp_model.specs.Machine.{Machine, after, is_allowed, shown_by, is_shown}
 use Rattle.qp_model.proofs.ListLemmas.{all_below_at}
@@ -72,8 +72,7 @@ only-one p all i inside passes one = by (filter p all) refl one
 -- what draws a number of w
 pub draws-is : (w : Word) (t : Touch) → drawn_on w t ≡ true → (mark : ℕ) × (t ≡ Draws w mark)
 draws-is w (Draws v mark) h = (mark, ap (λ x. Draws x mark) (same_word-is v w h))
-draws-is w (Shows v mark) h = absurd (cc)
-draws-is w Neither h = absurd (cc)
+draws-is w _ h = absurd (cc)
 
 -- the history up to a number
 numbered-more : (w : Word) (all : List Item) (k n : ℕ) → k ≤ n → (more : List Item) × (numbered w all n ≡ numbered w all k ++ more)

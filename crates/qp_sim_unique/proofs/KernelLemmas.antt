@@ -279,12 +279,11 @@ module _ (sys : System) (kernel : ℕ) (f g : ℕ → Bool) (k : Reading) where
       by [] = look-same o r new
       by (p ∷ outer) = rw (look-same o r new) refl
   place-same o r same new (Looking p others) = seen-same p others o r same
-  place-same o r same new (Chosen p) = refl
   place-same o r same new (Ended p) = ended-same p o r new
   place-same o r same new Resting = rest-same o r same
   place-same o r same new Again = look-same o r new
   place-same o r same new Over = rw (look-same o r new) refl
-  place-same o r same new Halted = refl
+  place-same o r same new _ = refl
 
   started-same : (o : ℕ) (r : Role) → f k.looks ≡ g k.looks → ((n floor : ℕ) → r ≡ Looks n floor → f n ≡ g n) → (us : List ℕ)
       → started_next first k o r us ≡ started_next second k o r us

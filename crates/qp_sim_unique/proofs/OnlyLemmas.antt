@@ -1,6 +1,6 @@
 -- A lawful journal of a run with one thread without a `spill` is tidy, and so the only one of its kernel.
 use Rattle.std.proofs.Common.{◌≡◌, ◌∙◌, ◌⊎◌, inl, inr, append-nil, not, ℕ, zero, suc, ◌+◌, ◌<◌, ◌≤◌, ◌==◌, nat_le, nat_lt, Bool, true, false, cond, List, [], ◌∷◌, ◌++◌, map, length, get_or, Some, None, refl, sym, ap, subst, arith}
-use Rattle.std.proofs.lemmas.Bool.{false≢true, and_from, and_parts, ne_eqb}
+use Rattle.std.proofs.lemmas.Bool.{and_from, and_parts, false≢true, ne_eqb, not-true}
 use Rattle.std.proofs.lemmas.Bool.Decides.{nat_tests}
 use Rattle.std.proofs.lemmas.List.{append_assoc, length-map, map-append}
 use Rattle.std.specs.declared.option.Option.{Option}
@@ -97,10 +97,7 @@ beyond (l ∷ ls) (suc m) few = beyond ls m (omega (arith, few))
 same-word_test : (sys : System) (w : Word) → has_its_word sys w ≡ has_word sys w
 unfolding has_word
 same-word_test sys (word.Pool p) = refl
-same-word_test sys (word.Block p b) = refl
-same-word_test sys (word.Queue a) = refl
-same-word_test sys (word.Signal s) = refl
-same-word_test sys (word.Timer t) = refl
+same-word_test sys _ = refl
 
 names-all : (sys : System) (is : List Item) → list_all (λ i. is_on (has_its_word sys) (touch i)) is ≡ true → list_all (λ i. names_its sys i.of i.body) is ≡ true
 unfolding names_its
@@ -117,10 +114,6 @@ names-all sys (i ∷ is) h = let parts = and_parts _ _ h in and_from _ _ (by (to
 abbrev spills : List Item → List Item
 spills lane = filter (λ i. is_spill i.body) lane
 
-negated : (b : Bool) → not b ≡ true → b ≡ false
-negated true h = absurd (cc)
-negated false h = refl
-
 -- it stands last
 cut-parts : (end : ℕ) (is : List Item) → spills_cut end is ≡ true → unspilt is ++ spills is ≡ is
 unfolding spills_cut
@@ -132,7 +125,7 @@ cut-parts end (i ∷ []) h = by (is_spill i.body)
     by false = refl
 cut-parts end (i ∷ j ∷ is) h =
     let parts = and_parts (not (is_spill i.body)) _ h in
-    by (is_spill i.body) (negated (is_spill i.body) parts.0) (cut-parts end (j ∷ is) parts.1)
+    by (is_spill i.body) (not-true (is_spill i.body) parts.0) (cut-parts end (j ∷ is) parts.1)
   where
     by : (b : Bool) → b ≡ false → unspilt (j ∷ is) ++ spills (j ∷ is) ≡ j ∷ is
         → cond (not b) (i ∷ unspilt (j ∷ is)) (unspilt (j ∷ is)) ++ cond b (i ∷ spills (j ∷ is)) (spills (j ∷ is)) ≡ i ∷ j ∷ is

@@ -250,7 +250,6 @@ module _ (lanes : List (List Rec)) (all : List Placed) (are : (a : ℕ) → lane
             let less : other < mark = let t : nat_lt other mark ≡ true = parts.1 in grind (arith, nat_tests) in
             let drawn = more w mark is in
             omega (arith, low, high, less, counts w, drawn)
-        by (Draws w mark) Neither is one two first = cc
         by (Shows w mark) (Draws v other) is one two first =
             let parts = and_parts _ _ first in
             let same : v ≡ w = same_word-is v w parts.0 in
@@ -260,10 +259,8 @@ module _ (lanes : List (List Rec)) (all : List Placed) (are : (a : ℕ) → lane
             let less : other ≤ mark = grind (arith, nat_tests) in
             omega (arith, low, high, less, counts w)
         by (Shows w mark) (Shows v other) is one two first = cc
-        by (Shows w mark) Neither is one two first = cc
-        by Neither (Draws v other) is one two first = cc
-        by Neither (Shows v other) is one two first = cc
-        by Neither Neither is one two first = cc
+        by _ Neither is one two first = cc
+        by Neither _ is one two first = cc
 
     none-before : (xs : List Placed) (z : Placed) (us : List Placed) (u : Placed) (vs : List Placed) → all ≡ xs ++ z ∷ (us ++ u ∷ vs)
         → must_precede lanes (place_behind (xs ++ z ∷ us) u) (place_behind xs z) ≡ true → ⊥

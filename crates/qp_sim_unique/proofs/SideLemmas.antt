@@ -1,6 +1,6 @@
 -- What is known of a lawful, tidy journal of a run with one thread.
 use Rattle.std.proofs.Common.{◌≡◌, ◌∙◌, ℕ, ◌+◌, ◌==◌, Bool, true, false, not, ◌||◌, cond, List, [], ◌∷◌, ◌++◌, length, Some, None, refl, sym, ap, subst, inl, inr, ◌⊎◌, arith, append-nil}
-use Rattle.std.proofs.lemmas.Bool.{and_parts, ne_eqb}
+use Rattle.std.proofs.lemmas.Bool.{and_parts, ne_eqb, not-true}
 use Rattle.std.proofs.lemmas.Bool.Decides.{nat_tests}
 use Rattle.std.proofs.lemmas.List.{append_assoc, map-append}
 use Rattle.std.proofs.lemmas.List.Elements.{filter-append}
@@ -120,10 +120,6 @@ empty : (ring : ℕ) → length (after (line ring) []).entries + (after (line ri
 unfolding after after_from
 empty ring = refl
 
-negated : (b : Bool) → not b ≡ true → b ≡ false
-negated true h = absurd (cc)
-negated false h = refl
-
 -- a `spill` that lane 0 reads is of no object
 spill-none : (w : Facts) (s : Setting) (p : ℕ) → (p ≡ 0 → ⊥) → (k : Reading) (i : Item) → is_spill i.body ≡ true → (last : Reading) → lane_on s k (i ∷ []) ≡ Some last → pieces_at w p k i ≡ []
 unfolding pieces_at lane_on lane_next role_next role_of
@@ -149,10 +145,10 @@ spill-behind end o (i ∷ []) cut last h = absurd (cc)
 spill-behind end o (i ∷ j ∷ []) cut last h =
     let parts = and_parts (is_spill j.body) _ h in
     let own : i.of ≡ o = let test : (i.of == o) ≡ true = parts.1 in grind (arith, nat_tests) in
-    let first : is_spill i.body ≡ false = negated (is_spill i.body) (and_parts (not (is_spill i.body)) _ cut).0 in
-    ([], i, rw (first, parts.0) refl, own, negated (is_end i.body) (and_parts (not (is_end i.body)) _ last).0)
+    let first : is_spill i.body ≡ false = not-true (is_spill i.body) (and_parts (not (is_spill i.body)) _ cut).0 in
+    ([], i, rw (first, parts.0) refl, own, not-true (is_end i.body) (and_parts (not (is_end i.body)) _ last).0)
 spill-behind end o (i ∷ j ∷ k ∷ is) cut last h =
-    let first : is_spill i.body ≡ false = negated (is_spill i.body) (and_parts (not (is_spill i.body)) _ cut).0 in
+    let first : is_spill i.body ≡ false = not-true (is_spill i.body) (and_parts (not (is_spill i.body)) _ cut).0 in
     let more = spill-behind end o (j ∷ k ∷ is) (and_parts (not (is_spill i.body)) _ cut).1 (and_parts (not (is_end i.body)) _ last).1 h in
     (i ∷ more.0, more.1, by (is_spill i.body) first more.2, more.3, more.4)
   where

@@ -1,6 +1,6 @@
 -- The lanes of sources and the budgets of a lawful journal of a run with one thread.
 use Rattle.std.proofs.Common.{◌≡◌, ◌∙◌, ◌⊎◌, inl, inr, append-nil, ℕ, suc, ◌+◌, ◌<◌, ◌≤◌, ◌==◌, nat_le, nat_lt, Bool, true, false, not, ◌&&◌, ◌||◌, cond, List, [], ◌∷◌, ◌++◌, map, length, drop, get_or, Some, None, refl, sym, ap, subst, arith}
-use Rattle.std.proofs.lemmas.Bool.{and_from, and_parts, ne_eqb}
+use Rattle.std.proofs.lemmas.Bool.{and_from, and_parts, ne_eqb, or_right}
 use Rattle.std.proofs.lemmas.Bool.Decides.{nat_tests}
 use Rattle.std.proofs.lemmas.List.{append_assoc, length-append, map-append}
 use Rattle.std.proofs.lemmas.List.Sums.{sum_by-cons}
@@ -319,7 +319,7 @@ module _ (sys : System) (stimuli : List (List Stim)) (j : Journal) (law : Lawful
         end.1,
         end.2,
         λ e. let spilt = within runs.0 (spills_in at.1) e runs.2 in (
-          or-right (spills_in (lane_items (lane_at j 0))) (list_any spills_in (source_lanes sys j))
+          or_right (spills_in (lane_items (lane_at j 0))) (list_any spills_in (source_lanes sys j))
               (ap (list_any spills_in) at.3 ∙ any-at spills_in at.0 at.1 at.2 spilt),
           subst (λ x. spill_free < length x) at.4 (long-at at.0 at.1 at.2 at.3 spilt),
         ),
@@ -329,10 +329,6 @@ module _ (sys : System) (stimuli : List (List Stim)) (j : Journal) (law : Lawful
           → (end : SourceState) × (source_after sys kernel (Some (Between 1 (get_or stimuli (length front) []))) (records_of (facts_of sys j) 0 0 l) ≡ Some end) × (source_stops kernel end stop ≡ true)
       by None e stop h = absurd (cc)
       by (Some end) e stop h = (end, e, h)
-
-      or-right : (a b : Bool) → b ≡ true → (a || b) ≡ true
-      or-right true b h = refl
-      or-right false b h = h
 
       within : (stop : SourceEnd) (spills : Bool) → stop ≡ InStimulus → may_end j.end spills stop ≡ true → spills ≡ true
       within stop spills e may =

@@ -17,7 +17,7 @@ use Rattle.qp_model.specs.Told as told_specs
 use Rattle.qp_model.specs.Told.{Told, Known, plain}
 use Rattle.qp_model.specs.Knowing.{Facts, told, known_of, records_of, ceiling_after}
 use Rattle.qp_model.specs.Kernels.{has_one_order}
-use Rattle.qp_model.specs.Sources.{SourceEnd, AllDone, BeforeStimulus, AfterTry, AtAssert, InStimulus, look_may}
+use Rattle.qp_model.specs.Sources.{SourceEnd, AfterTry, AtAssert, InStimulus, look_may}
 use Rattle.qp_model.specs.OneOrder.{Placed, stim_of, is_stim, begun}
 use Rattle.qp_check_sources.specs.Underway.{Underway, underway_begin, underway_next, underway_done}
 use Rattle.qp_check_sources.specs.SourceState.{SourceState, Between, Within, source_next, source_after, source_stops, stim_next, goes_on}
@@ -218,5 +218,4 @@ pub stops-none : (sys : System) (kernel : ℕ) (one : has_one_order kernel ≡ t
 stops-none sys kernel one u k left AfterTry t h not = absurd (untried kernel one u h)
 stops-none sys kernel one u k left AtAssert t h not = asserted-none sys kernel u t h
 stops-none sys kernel one u k left InStimulus t h not = absurd (not refl)
-stops-none sys kernel one u k left AllDone t h not = done-none sys kernel u t (and_parts (underway_done u) _ h).0
-stops-none sys kernel one u k left BeforeStimulus t h not = done-none sys kernel u t (and_parts (underway_done u) _ h).0
+stops-none sys kernel one u k left _ t h not = done-none sys kernel u t (and_parts (underway_done u) _ h).0

@@ -12,7 +12,7 @@ use Rattle.qp_model.specs.declared.bodies.Body.TheVariants as body
 use Rattle.qp_model.specs.KindSorts.{is_malformed, kind_in}
 use Rattle.qp_model.specs.OutputSummary.{is_back_of, is_done, is_new_of, is_took}
 use Rattle.qp_model.specs.Record.{Item}
-use Rattle.qp_summary.specs.Counting.{AreBlocks, AreCounts, AreNone, AreTurns, IsCountAt, IsTold, back_of, counted, done_of, given_by, giver, most, taker, took_of}
+use Rattle.qp_summary.specs.Counting.{AreBlocks, AreCounts, AreTurns, IsCountAt, IsTold, back_of, counted, done_of, given_by, giver, most, taker, took_of}
 use Rattle.qp_summary.specs.declared.turns.Turns.{Turns}
 use Rattle.qp_summary.specs.declared.blocks.Blocks.{Blocks}
 use Rattle.qp_model.proofs.NumberLemmas.{count-append}
@@ -51,15 +51,6 @@ more-counts test items x b is =
     omega (arith, whole, last, its)
 
 module _ (size : ℕ) (test : ℕ → Item → Bool) (counts : List ℕ) where
-  pub none-counts : AreNone size counts → AreCounts size test counts []
-  none-counts none = record {
-    many = none.0;
-    each = λ k n at.
-        let zero : n ≡ 0 = none.1 k n at in
-        let empty : count_by (test k) [] ≡ 0 = refl in
-        omega (arith, zero, empty);
-  }
-
   module _ (items : List Item) (x : Item) (are : AreCounts size test counts items) where
     -- one that isn't counted
     pub counts-skip : ((k : ℕ) → test k x ≡ false) → AreCounts size test counts (items ++ x ∷ [])

@@ -1,29 +1,26 @@
 -- What the lines say is what the summary of the journal has.
 use Rattle.std.proofs.Common.{◌≡◌, ◌∙◌, ℕ, zero, suc, ◌+◌, ◌==◌, Bool, true, false, not, List, [], ◌∷◌, ◌++◌, length, take, get_or, cond, refl, ◌<◌, sym, ap, subst, Option, Some, None, Ok, Err, arith}
 use Rattle.std.specs.Prelude.{codes, decimal}
-use Rattle.std.specs.List.{filter, count_by, AllByRecursion}
+use Rattle.std.specs.List.{filter, count_by}
 use Rattle.std.proofs.lemmas.List.Sums.{sum_by-cons}
 use Rattle.qp_chart.specs.declared.checked.Chart.{Chart}
 use Rattle.qp_model.specs.declared.journals.Journal.{Journal}
 use Rattle.qp_model.specs.declared.systems.System.{System}
 use Rattle.qp_model.specs.declared.systems.ObjectDef.{ObjectDef}
 use Rattle.qp_model.specs.declared.systems.PoolDef.{PoolDef}
-use Rattle.qp_model.specs.declared.stimulus.Stim.{Stim}
-use Rattle.qp_model.specs.declared.words.Word.TheVariants as word
 use Rattle.qp_model.specs.declared.bodies.Body.{Body}
 use Rattle.qp_model.specs.declared.bodies.Body.TheVariants as body
 use Rattle.qp_model.specs.Course.{chart_at}
 use Rattle.qp_model.specs.Ends.{is_turn_mark}
-use Rattle.qp_model.specs.History.{all_items, touch, touch_of}
+use Rattle.qp_model.specs.History.{all_items}
 use Rattle.qp_model.specs.Home.{by_object}
-use Rattle.qp_model.specs.Lawful.{Lawful, ObjectHolds, CourseHolds, cut_of, dispatched, facts_of}
-use Rattle.qp_model.specs.OutputSummary.{is_took, is_done, taken_in, all_done, CourseLeaves, config_text, name_in, values_text, IsStateText, IsObjectLine, AreObjectLines, IsSummary, is_new_of, is_back_of, pool_line, pool_lines}
+use Rattle.qp_model.specs.Lawful.{CourseHolds, cut_of, dispatched, facts_of}
+use Rattle.qp_model.specs.OutputSummary.{is_took, is_done, taken_in, all_done, CourseLeaves, config_text, name_in, values_text, IsStateText, IsObjectLine, AreObjectLines, IsSummary, pool_line, pool_lines}
 use Rattle.qp_model.specs.Record.{Item}
 use Rattle.qp_model.specs.Told.{Told}
 use Rattle.qp_check_course.specs.Followable.{IsFollowable}
 use Rattle.qp_check_course.specs.Standing.{FollowSomehow, LeavesAt, StandsAt}
 use Rattle.qp_check_course.specs.declared.standing.Standing.{Standing}
-use Rattle.qp_check_histories.specs.Marks.{word_use, touched}
 use Rattle.qp_base.specs.Counts.{Rose}
 use Rattle.qp_base.specs.Sink.{appended, AppendsPrefix}
 use Rattle.qp_summary.specs.declared.summary.SummaryFault.TheVariants as fault
@@ -88,14 +85,6 @@ pub course-follows : (sys : System) (j : Journal) (d : ObjectDef) (g : List Told
 unfolding CourseHolds FollowSomehow
 course-follows sys j d g is h = (cut_of sys j d.priority, h.0, h.1 ∙ sym is, h.2)
 
--- each object of a lawful journal does
-pub lawful-courses : (sys : System) (stimuli : List (List Stim)) (j : Journal) → Lawful sys stimuli j → AllByRecursion (CourseHolds sys j) sys.objects
-lawful-courses sys stimuli j lawful = go sys.objects lawful.objects
-  where
-    go : (ds : List ObjectDef) → AllByRecursion (ObjectHolds sys j) ds → AllByRecursion (CourseHolds sys j) ds
-    go [] all = tt
-    go (d ∷ ds) all = (all.0.course, go ds all.1)
-
 -- one more line
 pub lines-then : (sys : System) (j : Journal) (ds : List ObjectDef) (d : ObjectDef) (lines : List (List ℕ)) (line : List ℕ)
     → AreObjectLines sys j ds lines → IsObjectLine sys j d line → AreObjectLines sys j (ds ++ d ∷ []) (lines ++ line ∷ [])
@@ -113,23 +102,6 @@ pools-next items p (d ∷ ds) (suc i) lt =
     let e : suc i + 1 ≡ suc (i + 1) = omega arith in
     let n : p + 1 + i ≡ p + suc i = omega arith in
     rw e (ap (λ ls. pool_line items p ∷ ls) (pools-next items (p + 1) ds i (omega arith) ∙ ap (λ n. pool_lines items (p + 1) (take i ds) ++ pool_line items n ∷ []) n))
-
-new-touches : (p o : ℕ) (b : Body) → is_new_of p b ≡ true → word_use (word.Pool p) (touch_of o b) ≡ true
-new-touches p o (body.New pool n b from sig pars) h = rw h refl
-new-touches p o b h = absurd (cc)
-
-back-touches : (p o : ℕ) (b : Body) → is_back_of p b ≡ true → word_use (word.Pool p) (touch_of o b) ≡ true
-back-touches p o (body.Back pool n b to) h = rw h refl
-back-touches p o b h = absurd (cc)
-
--- the records that give a pool's blocks out or back are among those on the pool
-pub given-counts : (p : ℕ) (items : List Item) → count_by (λ i. is_new_of p i.body) (touched (word.Pool p) items) ≡ count_by (λ i. is_new_of p i.body) items
-unfolding touched
-given-counts p items = filter-counts (λ (i : Item). is_new_of p i.body) (λ i. word_use (word.Pool p) (touch i)) (λ i h. new-touches p i.of i.body h) items
-
-pub back-counts : (p : ℕ) (items : List Item) → count_by (λ i. is_back_of p i.body) (touched (word.Pool p) items) ≡ count_by (λ i. is_back_of p i.body) items
-unfolding touched
-back-counts p items = filter-counts (λ (i : Item). is_back_of p i.body) (λ i. word_use (word.Pool p) (touch i)) (λ i h. back-touches p i.of i.body h) items
 
 -- the front of a list with its next element
 pub front-next : {X : Type 0} (xs : List X) (i : ℕ) (x : X) → i < length xs → x ≡ get_or xs i x → take (i + 1) xs ≡ take i xs ++ x ∷ []
@@ -165,7 +137,3 @@ module _ {T : Type 0} (x : T) (sys : System) (j : Journal) (lines : List (List �
 pub writes-none : (T : Type 0) (sys : System) (j : Journal) (w : Option (List ℕ)) (f : ℕ) → Writes {T = T} (Err fault.Memory) sys j w w f f
 unfolding Writes Fails
 writes-none T sys j w f = (refl, refl)
-
--- the records of an object, as the tables know them
-pub same-records : (own sys : System) (k j : Journal) (o : ℕ) → own ≡ sys → k ≡ j → by_object (facts_of own k) k o ≡ by_object (facts_of sys j) j o
-same-records own sys k j o one two = ap (λ s. by_object (facts_of s k) k o) one ∙ ap (λ x. by_object (facts_of sys x) x o) two

@@ -33,9 +33,6 @@ first-here o later (At c p) h = rw h refl
 pub first-later : (o later : Option Fault) (e : SystemFault) → o ≡ None → IsFirst later e → IsFirst (option_or o later) e
 first-later o later e none h = rw none h
 
-pub none-both : (o later : Option Fault) → o ≡ None → later ≡ None → option_or o later ≡ None
-none-both o later none rest = rw none rest
-
 -- the first of some faults
 pub first-head : (o : Option Fault) (os : List (Option Fault)) (e : SystemFault) → IsFirst o e → IsFirst (first_of (o ∷ os)) e
 unfolding first_of

@@ -6,7 +6,7 @@ use Rattle.std.specs.List.{find, list_all, list_any, sum_by}
 use Rattle.std.specs.Str.{bytes_eq}
 use Rattle.std.proofs.lemmas.Bool.{lt-ltb, le-ltb}
 use Rattle.std.proofs.lemmas.List.{take_more, map-append, length-map}
-use Rattle.std.proofs.lemmas.List.Sums.{sum_by-append}
+use Rattle.std.proofs.lemmas.List.Sums.{sum_by-append, sum_by_push}
 use Rattle.arrayvec.specs.ArrayString.{ArrayString}
 use Rattle.qp_chart_names.specs.declared.place.Part.TheVariants.{Key, Pos}
 use Rattle.qp_chart_names.specs.Keys.{CHART, OBJECT, VARS, PRIORITY, THRESHOLD}
@@ -121,16 +121,9 @@ module _ (charts : List RawChart) (earlier : List RawObject) (k : ℕ) (o : RawO
           (none-next _ _ (fault_if-fails _ _ _ (le-ltb o.threshold o.priority high))
           (none-next _ _ (fault_if-fails _ _ _ (ap (nat_lt 64) sum-is ∙ le-ltb 64 (timers + length c.timer) few)) none-last))))
 
--- one more of a sum
-sum_by-more : {A : Type 0} (f : A → ℕ) (xs : List A) (x : A) → sum_by f (xs ++ x ∷ []) ≡ sum_by f xs + f x
-sum_by-more f xs x =
-    let both : sum_by f (xs ++ x ∷ []) ≡ sum_by f xs + (0 + f x) = sum_by-append f xs (x ∷ []) in
-    let one : 0 + f x ≡ f x = omega arith in
-    both ∙ ap (λ n. sum_by f xs + n) one
-
 pub sum-more : {X A : Type 0} (f : A → ℕ) (view : X → A) (xs : List X) (i : ℕ) (x : X) (m : ℕ) → i < length xs → x ≡ get_or xs i x
     → m ≡ sum_by f (map view (take i xs)) → m + f (view x) ≡ sum_by f (map view (take (i + 1) xs))
 sum-more f view xs i x m inside is so_far =
     let front : take (i + 1) xs ≡ take i xs ++ x ∷ [] = take_more xs i x inside ∙ ap (λ z. take i xs ++ z ∷ []) (sym is) in
     let fronts : map view (take (i + 1) xs) ≡ map view (take i xs) ++ view x ∷ [] = ap (map view) front ∙ map-append view (take i xs) (x ∷ []) in
-    rw (fronts, sum_by-more f (map view (take i xs)) (view x), so_far) refl
+    rw (fronts, sum_by_push f (map view (take i xs)) (view x), so_far) refl

@@ -75,9 +75,6 @@ module _ (a b : System) (h : Alike a b) (j : Journal) where
         ∙ (λ i. (ps : List Piece) × (bare ps ≡ dispatched (by_object (facts_of b j) j d.priority))
         × follows_to-same a b (fits-same a b h) h.charts d (cut_of b j d.priority) ps i)
 
-    object-to : ObjectHolds a j d → ObjectHolds b j d
-    object-to o = record { shapes = shapes-to o.shapes; deferral = subst IsTrue deferral-same o.deferral; course = subst (λ X. X) course-same o.course }
-
   -- an object without the unused room of its name
   shapes-bare : (d : ObjectDef) → ShapesHold b j d → ShapesHold b j (bare_object d)
   shapes-bare d s = record { shape = s.shape; home = s.home }

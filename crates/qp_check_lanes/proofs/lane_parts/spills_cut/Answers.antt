@@ -1,4 +1,4 @@
-use Rattle.std.proofs.Common.{◌∙◌, Bool, not, ◌&&◌, ◌||◌, sym, ap}
+use Rattle.std.proofs.Common.{◌∙◌, not, ◌&&◌, ◌||◌, sym, ap}
 use Rattle.qp_model.specs.Ends.{is_spill, may_cut}
 use Rattle.qp_model.specs.Record.{item_of}
 use Rattle.qp_check_lanes.proofs.SpillLemmas.{spills-cut, none-cut}

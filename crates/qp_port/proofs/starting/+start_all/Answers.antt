@@ -1,4 +1,4 @@
-use Rattle.qp_port.proofs.Rows.{same-rows, ready-right}
+use Rattle.qp_port.proofs.Rows.{same-rows}
 use Rattle.qp_port.proofs.starting.+start_all.Goals as goal
 
 pub returns-then-not-start-clause-same : goal.returns-then-not-start-clause-same

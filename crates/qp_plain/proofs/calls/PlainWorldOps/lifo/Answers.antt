@@ -14,11 +14,8 @@ use Rattle.qp_plain.proofs.Turns.{tries-drawn, tries-shown}
 use Rattle.qp_model.specs.declared.bodies.Body.TheVariants.{Lifo}
 use Rattle.qp_plain.proofs.QueueCalls as queue
 use Rattle.qp_plain.proofs.QueueTable.{there, put, kept, few}
+use Rattle.qp_plain.proofs.SignalTable.{mine}
 use Rattle.qp_plain.proofs.calls.PlainWorldOps.lifo.Goals as goal
-
-mine : (w : PlainWorld) → IsTrue (is_object (world_view w).sys (world_view w).by) → IsTrue (is_object w.sys.now w.by)
-unfolding view_of
-mine w h = h
 
 full : (w : PlainWorld) (b : ℕ) (q : Queue) (free : ℕ) → IsTrue (is_object w.sys.now b) → q ≡ record { line = line_in w.sys.now (lists_of w.book) b; ring = ring_of w.sys.now b }
     → free ≡ q.ring + 1 - length q.line.entries → free ≡ 0 → length q.line.entries ≡ q.ring + 1
