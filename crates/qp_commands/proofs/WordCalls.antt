@@ -13,7 +13,7 @@ use Rattle.clap.specs.declared.builder.value_parser.ValueParser.TheVariants as v
 use Rattle.clap.specs.declared.parser.matches.ValueSource.TheVariants.{CommandLine}
 use Rattle.clap.proofs.OnLiterals.{clap_on_literals}
 use Rattle.qp_commands.specs.declared.values.Kernel.{Kernel}
-use Rattle.qp_commands.specs.declared.values.Kernel.TheVariants.{Sim, Qk, Port, Qv}
+use Rattle.qp_commands.specs.declared.values.Kernel.TheVariants.{Sim, Qk, Port, Wait, Qv}
 use Rattle.qp_commands.specs.declared.values.Form.{Form}
 use Rattle.qp_commands.specs.declared.values.Form.TheVariants.{One, Two}
 use Rattle.qp_commands.specs.declared.values.Output.{Output}
@@ -176,6 +176,7 @@ unfolding run_app clap_on_literals
 kernel_stands Sim = refl
 kernel_stands Qk = refl
 kernel_stands Port = refl
+kernel_stands Wait = refl
 kernel_stands Qv = refl
 
 out_stands : (k : Text) (out : Output) → fold (walked run_rules []) (standing (kernel_held k) 1) (codes "--out" ∷ word_of_output out ∷ [])
@@ -196,6 +197,7 @@ unfolding run_app clap_on_literals
 kernel_faultless Sim = refl
 kernel_faultless Qk = refl
 kernel_faultless Port = refl
+kernel_faultless Wait = refl
 kernel_faultless Qv = refl
 
 out_faultless : (k : Text) (out : Output) → walk_fault (built run_app).top [] (standing (kernel_held k) 1) (codes "--out" ∷ word_of_output out ∷ []) ≡ []
@@ -242,6 +244,7 @@ unfolding kernel_in
 kernel_in-word Sim = refl
 kernel_in-word Qk = refl
 kernel_in-word Port = refl
+kernel_in-word Wait = refl
 kernel_in-word Qv = refl
 
 output_in-word : (o : Output) → output_in (Some (word_of_output o)) ≡ Some o

@@ -3,7 +3,7 @@ use Rattle.std.specs.Prelude.{codes, decimal, ℕ, ◌≡◌, ◌≢◌, ◌≤�
 use Rattle.std.specs.List.{list_all}
 use Rattle.clap.specs.Words.{Text}
 use Rattle.qp_commands.specs.declared.values.Kernel.{Kernel}
-use Rattle.qp_commands.specs.declared.values.Kernel.TheVariants.{Sim, Qk, Port, Qv}
+use Rattle.qp_commands.specs.declared.values.Kernel.TheVariants.{Sim, Qk, Port, Wait, Qv}
 use Rattle.qp_commands.specs.declared.values.Kind.{Kind}
 use Rattle.qp_commands.specs.declared.values.Kind.TheVariants.{Frames, Journal}
 use Rattle.qp_commands.specs.declared.values.Output.{Output}
@@ -58,6 +58,7 @@ abbrev pub word_of_kernel : Kernel → Text
 word_of_kernel Sim = codes "sim"
 word_of_kernel Qk = codes "qk"
 word_of_kernel Port = codes "port"
+word_of_kernel Wait = codes "wait"
 word_of_kernel Qv = codes "qv"
 
 abbrev pub word_of_kind : Kind → Text

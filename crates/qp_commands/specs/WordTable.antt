@@ -9,7 +9,7 @@ use Rattle.qp_text.specs.Numbers.{number_of}
 use Rattle.qp_commands.specs.declared.asking.Command.{Command}
 use Rattle.qp_commands.specs.declared.asking.Command.TheVariants.{Run, Decode, Migrate, Check, Replay, Generate}
 use Rattle.qp_commands.specs.declared.values.Kernel.{Kernel}
-use Rattle.qp_commands.specs.declared.values.Kernel.TheVariants.{Sim, Qk, Port, Qv}
+use Rattle.qp_commands.specs.declared.values.Kernel.TheVariants.{Sim, Qk, Port, Wait, Qv}
 use Rattle.qp_commands.specs.declared.values.Kind.{Kind}
 use Rattle.qp_commands.specs.declared.values.Kind.TheVariants.{Journal, Frames}
 use Rattle.qp_commands.specs.declared.values.Output.{Output}
@@ -80,7 +80,8 @@ kernel_in (Some word) =
     if bytes_eq word (codes "sim") then Some Sim
     else (if bytes_eq word (codes "qk") then Some Qk
     else (if bytes_eq word (codes "port") then Some Port
-    else (if bytes_eq word (codes "qv") then Some Qv else None)))
+    else (if bytes_eq word (codes "wait") then Some Wait
+    else (if bytes_eq word (codes "qv") then Some Qv else None))))
 
 -- the number, where it is from 1 to the most
 abbrev pub within : ℕ → ℕ → Option ℕ
@@ -120,6 +121,7 @@ abbrev pub is_form_of : Kernel → Form → Bool
 is_form_of Sim form = true
 is_form_of Qk form = true
 is_form_of Port form = true
+is_form_of Wait form = true
 is_form_of Qv One = false
 is_form_of Qv Two = true
 
@@ -128,12 +130,14 @@ abbrev pub has_threads : Kernel → Bool
 has_threads Sim = false
 has_threads Qk = true
 has_threads Port = true
+has_threads Wait = true
 has_threads Qv = false
 
 abbrev pub default_form : Kernel → Form
 default_form Sim = One
 default_form Qk = One
 default_form Port = One
+default_form Wait = One
 default_form Qv = Two
 
 -- the form, where a journal of this kernel has it

@@ -13,6 +13,8 @@ pub enum Kernel {
     Qk,
     /// Each object and each source in a thread of its own.
     Port,
+    /// The same, but a thread of an object parks where its queue is empty.
+    Wait,
     /// The cooperative kernel: one step at a time.
     Qv,
 }
@@ -63,6 +65,7 @@ pub(crate) fn kernel_of(value: Option<&str>) -> Option<Kernel>
         None | Some("sim") => Some(Kernel::Sim),
         Some("qk") => Some(Kernel::Qk),
         Some("port") => Some(Kernel::Port),
+        Some("wait") => Some(Kernel::Wait),
         Some("qv") => Some(Kernel::Qv),
         Some(_) => None,
     }
@@ -146,7 +149,7 @@ pub(crate) fn form_under(kernel: Kernel, value: Option<&str>) -> Option<Form>
     ensures { result ≡ form_under kernel (option_map (λ word. word.now) value.entry) }
 {
     match kernel {
-        Kernel::Sim | Kernel::Qk | Kernel::Port => form_of(value, Form::One),
+        Kernel::Sim | Kernel::Qk | Kernel::Port | Kernel::Wait => form_of(value, Form::One),
         Kernel::Qv => match form_of(value, Form::Two) {
             Some(Form::Two) => Some(Form::Two),
             _ => None,

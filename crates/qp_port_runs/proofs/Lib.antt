@@ -1,5 +1,5 @@
 pub mod Lanes
-mod PortLanes
-mod PortSealing
+pub mod PortLanes
+pub mod PortSealing
 pub mod QkSealing
 pub mod Worlds

@@ -21,7 +21,7 @@ pub struct Threaded {
 
 /// Seals the lanes of a run, which tells whether nothing was left to be done. Where something was, no journal of a quiet end is
 /// given: then a lane stopped for want of memory.
-pub(crate) fn seal(
+pub fn seal(
     shared: &Shared<'_>,
     lanes: Vec<SharedLane<'_>>,
     rests: Vec<Rest>,

@@ -90,6 +90,14 @@ fn gate_two_objects(rt: HostRuntime) -> Result<(), Fail> {
     Ok(())
 }
 
+/// And so they are in the waiting port.
+#[test]
+fn gate_two_parking_objects(rt: HostRuntime) -> Result<(), Fail> {
+    let files = [("system", TWO), ("stimuli", "")];
+    assert!(rt; meet(&rt, rt.alloc(), "wait", &files, 6)?);
+    Ok(())
+}
+
 /// Under `qk` lane 0 is the kernel's, and lane 1 that of the source.
 #[test]
 fn gate_kernel_and_source(rt: HostRuntime) -> Result<(), Fail> {

@@ -96,5 +96,6 @@ fn settled_posts_come_to_the_same_under_each_kernel(rt: HostRuntime) -> Result<(
     see(&rt, alloc, "sim", false)?;
     see(&rt, alloc, "qk", true)?;
     see(&rt, alloc, "port", true)?;
+    see(&rt, alloc, "wait", true)?;
     Ok(())
 }

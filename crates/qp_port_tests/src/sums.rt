@@ -54,6 +54,12 @@ fn eight_sources_add_up_under_port(rt: HostRuntime) -> Result<(), Fail> {
 }
 
 #[test]
+fn eight_sources_add_up_under_wait(rt: HostRuntime) -> Result<(), Fail> {
+    assert!(rt; adds_up(&rt, rt.alloc(), "wait")?);
+    Ok(())
+}
+
+#[test]
 fn eight_sources_add_up_under_qk(rt: HostRuntime) -> Result<(), Fail> {
     assert!(rt; adds_up(&rt, rt.alloc(), "qk")?);
     Ok(())

@@ -15,7 +15,7 @@ use Rattle.qp_system.specs.SystemOf.{IsSystemOf, RefusesSystem}
 use Rattle.qp_system.proofs.LawLemmas.{systems_have_no_fault, refusals_are_one}
 use Rattle.qp_run.specs.declared.status.Status.{Status}
 use Rattle.qp_commands.specs.declared.values.Kernel.{Kernel}
-use Rattle.qp_commands.specs.declared.values.Kernel.TheVariants.{Sim, Qk, Port, Qv}
+use Rattle.qp_commands.specs.declared.values.Kernel.TheVariants.{Sim, Qk, Port, Wait, Qv}
 use Rattle.qp_commands.specs.declared.values.Kind.{Kind}
 use Rattle.qp_commands.specs.declared.values.Kind.TheVariants.{Frames, Journal as Text}
 use Rattle.qp_run.specs.Checks.{JudgesFiles, JudgesFound, JudgesSecond, JudgesStimuli, JudgesSystem, JudgesThird, verdict_answer}
@@ -102,6 +102,7 @@ module _ (bytes : List ℕ) where
   }
   under-carries s t p q sources Qk budget j is = thread-carries s t p q sources qk budget j is
   under-carries s t p q sources Port budget j is = thread-carries s t p q sources port budget j is
+  under-carries s t p q sources Wait budget j is = thread-carries s t p q sources port budget j is
   under-carries s t p q sources Qv budget j is = record {
     run = qv-carries s t p q sources budget j is.run;
     only = λ short other runs. is.only short other (qv-carries t s q p sources budget other runs);

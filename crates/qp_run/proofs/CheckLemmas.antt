@@ -19,7 +19,7 @@ use Rattle.qp_run.specs.declared.status.Status.{Status}
 use Rattle.qp_run.specs.declared.status.Status.TheVariants.{Memory}
 use Rattle.qp_commands.specs.declared.values.Kind.TheVariants.{Journal}
 use Rattle.qp_run.specs.Checks.{AreLawful, IsLawfulText, Judges, JudgesFiles, JudgesFound, JudgesSecond, JudgesSystem, JudgesThird, JudgesStimuli, third, verdict_answer}
-use Rattle.qp_run.specs.Conversions.{Held, Refuses, said, written}
+use Rattle.qp_run.specs.Conversions.{Held, said, written}
 use Rattle.qp_run.specs.Loads.{IsLoaded}
 use Rattle.qp_run.specs.Verdict.{AgreesCheck, FailsToLoad, JudgesCall, is_failure}
 use Rattle.qp_run.specs.Refusals.{RefusesFirst, RefusesSecond}
@@ -47,15 +47,6 @@ pub found-judged : (sys : System) (sources : List (List Stim)) (found : Result (
     → found ≡ Ok (form, j) → IsVerdict (trials sys sources j) v → JudgesFound sys sources found (verdict_answer v)
 found-judged sys sources found form j v is verdict =
     subst (λ x. JudgesFound sys sources x (verdict_answer v)) (sym is) (v, verdict, refl)
-
-third_fails : (status : Status) → status ≡ Memory → is_failure (third status) ≡ true
-third_fails status memory = ap (λ s. is_failure (third s)) memory
-
-pub found-refused : (sys : System) (sources : List (List Stim)) (bytes : List ℕ) (refused status : Status) → status ≡ third refused
-    → Refuses Journal bytes refused → (is_failure status ≡ true) ⊎ JudgesFound sys sources (said Journal bytes) status
-found-refused sys sources bytes refused status is (of, inl memory) = inl (ap is_failure is ∙ third_fails refused memory)
-found-refused sys sources bytes refused status is (of, inr says) =
-    inr (subst (λ x. JudgesFound sys sources x status) (sym says) is)
 
 -- what is answered on the three files
 module _ (o : Option Held) (system stimuli held : List ℕ) where

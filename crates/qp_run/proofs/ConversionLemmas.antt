@@ -1,5 +1,5 @@
 -- Journals that are read from a file and written again.
-use Rattle.std.proofs.Common.{◌≡◌, ℕ, ◌⊎◌, true, false, List, Option, IfSome, Result, Ok, Err, refl, sym, ap, ◌∙◌, inl, inr}
+use Rattle.std.proofs.Common.{◌≡◌, ℕ, ◌⊎◌, true, false, List, Option, Result, Ok, Err, refl, sym, ap, ◌∙◌, inl, inr}
 use Rattle.std.proofs.lemmas.Bool.{cond-true, cond-false}
 use Rattle.std.proofs.lemmas.Option.{IfSome_then}
 use Rattle.qp_model.specs.declared.journals.Journal as journal
@@ -21,9 +21,8 @@ use Rattle.qp_run.specs.declared.status.Status.{Status}
 use Rattle.qp_run.specs.declared.status.Status.TheVariants.{Done, Refused}
 use Rattle.qp_commands.specs.declared.values.Kind.{Kind}
 use Rattle.qp_commands.specs.declared.values.Kind.TheVariants.{Journal, Frames}
-use Rattle.qp_run.specs.Conversions.{AnswersJournal, HasJournal, Held, IsWrittenAs, Refuses, answer_on, frame_refusal, frames_said, migrate_on, said, text_refusal, text_said, written, other_form}
-use Rattle.qp_run.specs.Loads.{IsLoaded}
-use Rattle.qp_run.specs.Verdict.{AgreesJournal, FailsToLoad, is_failure}
+use Rattle.qp_run.specs.Conversions.{HasJournal, Held, IsWrittenAs, Refuses, answer_on, frame_refusal, frames_said, migrate_on, said, text_refusal, text_said, written, other_form}
+use Rattle.qp_run.specs.Verdict.{AgreesJournal, is_failure}
 use Rattle.qp_run.proofs.VerdictLemmas.{IfSome-all}
 
 -- what is written of a journal in range says this journal
@@ -61,19 +60,6 @@ fed-refuses (Err other) fault bytes answer stands =
 module _ (o : Option Held) (name : List ℕ) (kind : Kind) (on : journal.Journal → Status) where
   abbrev Told : Status → Type 0
   Told answer = AgreesJournal o kind on name answer
-
-  -- the file was not loaded
-  pub told-load : (answer : Status) → IfSome o (λ held. FailsToLoad 1 (held name) answer) → Told answer
-  told-load answer told = IfSome_then o told by
-    where
-      by : (held : Held) → FailsToLoad 1 (held name) answer → (is_failure answer ≡ true) ⊎ AnswersJournal kind on (held name) answer
-      by held (inl failed) = inl failed
-      by held (inr ends) = inr (inl ends)
-
-  -- the file is refused
-  pub told-refused : (answer : Status) (bytes : List ℕ) → IfSome o (λ held. IsLoaded (held name) bytes) → Refuses kind bytes answer → Told answer
-  told-refused answer bytes loaded (of, inl memory) = IfSome-all o (λ held. inl (ap is_failure memory))
-  told-refused answer bytes loaded (of, inr refused) = IfSome_then o loaded (λ held is. inr (inr (bytes, is, sym (ap (answer_on on) refused))))
 
   -- the file has a journal
   pub told-journal : (form : ℕ) (j : journal.Journal) (answer : Status) → HasJournal o name kind form j → (is_failure answer ≡ true) ⊎ (answer ≡ on j) → Told answer

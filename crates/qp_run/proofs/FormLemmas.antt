@@ -23,7 +23,7 @@ use Rattle.qp_summary.specs.Written.{HasStimuli}
 use Rattle.qp_kernel_runs.specs.SimRun.{IsQvRun, IsSimRun}
 use Rattle.qp_run.specs.Printed.{IsRunUnder}
 use Rattle.qp_commands.specs.declared.values.Kernel.{Kernel}
-use Rattle.qp_commands.specs.declared.values.Kernel.TheVariants.{Sim, Qk, Port, Qv}
+use Rattle.qp_commands.specs.declared.values.Kernel.TheVariants.{Sim, Qk, Port, Wait, Qv}
 use Rattle.qp_commands.specs.declared.values.Form.{Form}
 use Rattle.qp_commands.specs.declared.values.Form.TheVariants.{One, Two}
 use Rattle.qp_commands.specs.WordTable.{is_form_of, number_of_form}
@@ -113,6 +113,7 @@ pub run-lawful : (sys : System) (sources : List (List stimulus.Stim)) (kernel : 
 run-lawful sys sources Sim budget j is = is.run.lawful
 run-lawful sys sources Qk budget j is = is.lawful
 run-lawful sys sources Port budget j is = is.lawful
+run-lawful sys sources Wait budget j is = is.lawful
 run-lawful sys sources Qv budget j is = is.run.run.lawful
 
 -- it has each form of its kernel, and is in range for it
@@ -138,6 +139,8 @@ module _ (sys : System) (sources : List (List stimulus.Stim)) (budget : ℕ) (j 
   run-form Qk is Two fits = refl
   run-form Port is One fits = (port-written is).has
   run-form Port is Two fits = refl
+  run-form Wait is One fits = (port-written is).has
+  run-form Wait is Two fits = refl
   run-form Qv is One fits = absurd (false≢true fits)
   run-form Qv is Two fits = refl
 
@@ -146,6 +149,7 @@ module _ (sys : System) (sources : List (List stimulus.Stim)) (budget : ℕ) (j 
   run-range Sim is to fits = range-moves 1 to j (sim-written is.run).range (run-form Sim is to fits)
   run-range Qk is to fits = range-moves 1 to j (qk-written is).range (run-form Qk is to fits)
   run-range Port is to fits = range-moves 1 to j (port-written is).range (run-form Port is to fits)
+  run-range Wait is to fits = range-moves 1 to j (port-written is).range (run-form Wait is to fits)
   run-range Qv is to fits = range-moves 2 to j (qv-written is.run).range (run-form Qv is to fits)
 
 -- it has few lanes

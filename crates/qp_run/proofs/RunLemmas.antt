@@ -14,7 +14,7 @@ use Rattle.qp_model.specs.Kernels.{sim, qv, has_one_order}
 use Rattle.qp_model.specs.Lawful.{Lawful}
 use Rattle.qp_kernel_runs.specs.SimRun.{IsQvRun, IsSimRun}
 use Rattle.qp_commands.specs.declared.values.Kernel.{Kernel}
-use Rattle.qp_commands.specs.declared.values.Kernel.TheVariants.{Sim, Qk, Port, Qv}
+use Rattle.qp_commands.specs.declared.values.Kernel.TheVariants.{Sim, Qk, Port, Wait, Qv}
 use Rattle.qp_sim_unique.specs.Tidy.{LacksStimulus, is_short}
 use Rattle.qp_run.specs.Laws.{HasSpill, HaveSpilt, MayBeTwo, MayLeave}
 use Rattle.qp_run.specs.Printed.{HaltedFull, IsOnlyRun, IsRunUnder}
@@ -87,4 +87,5 @@ pub journals-either : (kernel : Kernel) (budget : ℕ) (sys : System) (sources :
 journals-either Sim budget sys sources i j is are = runs-either (λ other. IsSimRun sys sources budget other) i j is are
 journals-either Qk budget sys sources i j is are = inr tt
 journals-either Port budget sys sources i j is are = inr tt
+journals-either Wait budget sys sources i j is are = inr tt
 journals-either Qv budget sys sources i j is are = runs-either (λ other. IsQvRun sys sources budget other) i j is are

@@ -1,12 +1,10 @@
 -- What a call is to answer, file by file.
-use Rattle.std.proofs.Common.{◌≡◌, ℕ, ◌<◌, true, false, List, length, Option, Some, None, IfSome, Result, Ok, Err, ◌⊎◌, refl, sym, ap, subst, ◌∙◌, arith, inl, inr}
-use Rattle.std.specs.Prelude.{IsSomeAnd}
+use Rattle.std.proofs.Common.{◌≡◌, ℕ, true, false, List, length, Option, Some, None, IfSome, Result, Ok, Err, ◌⊎◌, refl, sym, ap, subst, ◌∙◌, arith, inl, inr}
 use Rattle.std.proofs.lemmas.Bool.{false≢true}
 use Rattle.std.proofs.lemmas.List.{take_all}
 use Rattle.std.proofs.lemmas.Option.{IfSome_then}
 use Rattle.qp_base.specs.Counts.{Rose}
 use Rattle.qp_base.specs.Sink.{AppendsPrefix, appended}
-use Rattle.qp_base.specs.Limits.{file_limit}
 use Rattle.qp_model.specs.declared.stimulus.Stim.{Stim}
 use Rattle.qp_model.specs.declared.systems.System.{System}
 use Rattle.qp_stim.specs.Stimuli.{Fault, stimuli_of}
@@ -16,7 +14,7 @@ use Rattle.qp_run.specs.declared.status.Status.TheVariants.{Done, Words, Absent,
 use Rattle.qp_run.specs.Conversions.{Held, PrintsOne, decode_on, migrate_on}
 use Rattle.qp_commands.specs.declared.values.Kernel.{Kernel}
 use Rattle.qp_commands.specs.declared.values.Kind.TheVariants.{Frames}
-use Rattle.qp_run.specs.Loads.{EndsAtLoad, IsLoaded}
+use Rattle.qp_run.specs.Loads.{IsLoaded}
 use Rattle.qp_run.specs.Notes.{line_of, names_file, is_done}
 use Rattle.qp_run.specs.Refusals.{RefusesFirst, RefusesSecond}
 use Rattle.qp_run.specs.Verdict.{Agrees, AgreesCheck, AgreesFiles, AgreesJournal, AgreesRun, AnswersFiles, AnswersSystem, AnswersStimuli, AnswersWords, Count, Counts, FailsToLoad, HasCause, HasRisen, IsAnswer, IsInput, IsPutFor, Noted, Stands, AnswersSources, EndsMade, EndsRun, is_failure, quiet}
@@ -30,17 +28,6 @@ IfSome-all (Some x) f = f x
 pub IfSome-both : {A : Type 0} {P Q R : A → Type 0} (o : Option A) → IfSome o P → IfSome o Q → ((x : A) → P x → Q x → R x) → IfSome o R
 IfSome-both None p q f = p
 IfSome-both (Some x) p q f = f x p q
-
-pub absent-told : (o : Option Held) (name : List ℕ) (file : ℕ) → IfSome o (λ held. held name ≡ None) → IfSome o (λ held. FailsToLoad file (held name) (Absent file))
-absent-told o name file told = IfSome_then o told (λ held none. let ends : EndsAtLoad file (held name) (Absent file) = subst (λ h. EndsAtLoad file h (Absent file)) (sym none) refl in inr ends)
-
-pub long-told : (o : Option Held) (name : List ℕ) (file len : ℕ) → IfSome o (λ held. IsSomeAnd (held name) (λ bytes. length bytes ≡ len)) → file_limit < len
-    → IfSome o (λ held. FailsToLoad file (held name) (TooLong file len))
-long-told o name file len told beyond = IfSome_then o told (λ held some. inr (ends (held name) some))
-  where
-    ends : (h : Option (List ℕ)) → IsSomeAnd h (λ bytes. length bytes ≡ len) → EndsAtLoad file h (TooLong file len)
-    ends None never = absurd never
-    ends (Some bytes) is = (rw is beyond, ap (TooLong file) (sym is))
 
 -- words that ask for nothing
 pub told-unnamed : (o : Option Held) → IfSome o (λ held. Agrees held None Words)

@@ -12,7 +12,7 @@ use Rattle.qp_replay.specs.declared.places.Replayed.TheVariants.{Cycle}
 use Rattle.qp_replay.specs.Text.{replayed_text}
 use Rattle.qp_run.specs.declared.status.Status.{Status}
 use Rattle.qp_commands.specs.declared.values.Kernel.{Kernel}
-use Rattle.qp_commands.specs.declared.values.Kernel.TheVariants.{Sim, Qk, Port, Qv}
+use Rattle.qp_commands.specs.declared.values.Kernel.TheVariants.{Sim, Qk, Port, Wait, Qv}
 use Rattle.qp_commands.specs.declared.values.Output.{Output}
 use Rattle.qp_commands.specs.declared.values.Output.TheVariants.{Summary}
 use Rattle.qp_commands.specs.WordTable.{Asked, CheckWords, generate, number_of_form, replay, run}
@@ -42,6 +42,7 @@ abbrev pub MayBeTwo : Kernel → (i j : journal.Journal) → Type 0
 MayBeTwo Sim i j = HaveSpilt i j
 MayBeTwo Qk i j = ⊤
 MayBeTwo Port i j = ⊤
+MayBeTwo Wait i j = ⊤
 MayBeTwo Qv i j = HaveSpilt i j
 
 -- two runs of one system and its stimuli, which are named so, under one kernel with one budget, that may leave two journals

@@ -18,7 +18,7 @@ use Rattle.qp_sim_unique.specs.Tidy.{is_short}
 use Rattle.qp_run.specs.declared.status.Status.{Status}
 use Rattle.qp_run.specs.declared.status.Status.TheVariants.{Memory}
 use Rattle.qp_commands.specs.declared.values.Kernel.{Kernel}
-use Rattle.qp_commands.specs.declared.values.Kernel.TheVariants.{Sim, Qk, Port, Qv}
+use Rattle.qp_commands.specs.declared.values.Kernel.TheVariants.{Sim, Qk, Port, Wait, Qv}
 use Rattle.qp_commands.specs.declared.values.Output.{Output}
 use Rattle.qp_commands.specs.declared.values.Output.TheVariants.{Whole, Summary}
 use Rattle.qp_run.specs.Conversions.{IsWrittenAs, written}
@@ -47,6 +47,7 @@ abbrev pub IsRunUnder : Kernel → System → List (List Stim) → ℕ → Journ
 IsRunUnder Sim sys sources budget j = IsOnlyRun (λ other. IsSimRun sys sources budget other) j
 IsRunUnder Qk sys sources budget j = IsThreadRun qk sys sources budget j
 IsRunUnder Port sys sources budget j = IsThreadRun port sys sources budget j
+IsRunUnder Wait sys sources budget j = IsThreadRun port sys sources budget j
 IsRunUnder Qv sys sources budget j = IsOnlyRun (λ other. IsQvRun sys sources budget other) j
 
 -- what is printed of a journal: the whole of it in this form, or the lines of its summary one after another

@@ -7,7 +7,7 @@ use crate::status::Status;
 use qp_kernel_end::Rest;
 use qp_kernel_runs::Simulated;
 use qp_model::Journal;
-use qp_port_runs::{Sealed, Threaded};
+use qp_wait_runs::{Sealed, Threaded};
 
 /// A run that has ended: its journal, and where its objects rest.
 #[derive(Drop)]

@@ -30,8 +30,8 @@ use qp_gen::generate;
 use qp_kernel_end::{Rest, outcome_of};
 use qp_kernel_runs::{Simulated, qv_with_rests, sim_with_rests};
 use qp_model::{Journal, Stimuli, System};
-use qp_port_runs::{run_port, run_qk};
 use qp_summary::{SummaryFault, write_summary_at};
+use qp_wait_runs::{run_port, run_qk, run_wait};
 use std::alloc::Global;
 use std::sync::Wait;
 use std::thread::Threads;
@@ -152,6 +152,7 @@ fn run_under<R: Threads + Wait + Sync, G: Gate>(
         Kernel::Sim => run_alone(rt, alloc, system, stimuli, budget).map(Ran::Alone),
         Kernel::Qk => run_qk(rt, alloc, system, stimuli, budget, gate).map(Ran::Threaded),
         Kernel::Port => run_port(rt, alloc, system, stimuli, budget, gate).map(Ran::Threaded),
+        Kernel::Wait => run_wait(rt, alloc, system, stimuli, budget, gate).map(Ran::Threaded),
         Kernel::Qv => run_in_turn(rt, alloc, system, stimuli, budget).map(Ran::Alone),
     }
 }

@@ -16,7 +16,7 @@ use crate::runs::{run_files, run_made};
 use crate::status::Status;
 use qp_base::{Gate, Shelf, Sink};
 use qp_commands::{Command, command_of};
-use qp_port_runs::Sealed;
+use qp_wait_runs::Sealed;
 use std::alloc::{AllocError, Global};
 use std::sync::Wait;
 use std::thread::Threads;

@@ -73,6 +73,10 @@ lane-send ν =
       ),
     )
 
+-- for a type that has a lane in a field
+pub shared-lane-field : (ν : NamedLft) → IsSend (its.the_field ν).row
+shared-lane-field ν = let a = lane-send ν in search (crosses, sendable) depth 40
+
 pub shared-lane-send : (ν : NamedLft) → IsSend (its.the_row ν)
 shared-lane-send ν = let a = lane-send ν in search (crosses, sendable) depth 40
 

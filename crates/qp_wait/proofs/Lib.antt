@@ -4,3 +4,4 @@ pub mod LastLook
 pub mod Nils
 pub mod Parts
 pub mod Waiting
+pub mod Handed

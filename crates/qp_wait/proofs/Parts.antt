@@ -14,7 +14,7 @@ use Rattle.qp_port_home.specs.At.{IsHome}
 use Rattle.qp_port_home.specs.Turning.{HomeHalts}
 use Rattle.qp_port_home.proofs.Resting.{stops-found}
 use Rattle.qp_wait_bells.specs.Tallies.{one_where}
-use Rattle.qp_wait_rings.specs.Lane.{ringing_view}
+use Rattle.qp_wait_lane.specs.Handed.{ringing_view}
 use Rattle.qp_wait_lane.specs.declared.lane.BellLane.{BellLane}
 use Rattle.qp_wait_lane.specs.Lane.{KeepsPerch, LooksAtCount, bell_view}
 use Rattle.qp_wait_lane.specs.Parked.{is_park_place, parks_of}

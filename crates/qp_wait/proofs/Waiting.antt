@@ -3,7 +3,7 @@ use Rattle.std.proofs.Common.{◌≡◌, ◌⊎◌, ℕ, ◌+◌, ◌<◌, ◌%�
 use Rattle.qp_model.specs.Told.{ToldItem}
 use Rattle.qp_port_home.specs.Takes.{AddsEmpty, AddsNoTake, AddsTook}
 use Rattle.qp_wait_bells.specs.Tallies.{one_where}
-use Rattle.qp_wait_rings.specs.Lane.{ringing_view}
+use Rattle.qp_wait_lane.specs.Handed.{ringing_view}
 use Rattle.qp_wait_lane.specs.declared.lane.BellLane.{BellLane}
 use Rattle.qp_wait_lane.specs.Lane.{SaysOne, bell_view}
 use Rattle.qp_wait_lane.specs.Parked.{parks_of}

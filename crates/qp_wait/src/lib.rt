@@ -6,4 +6,5 @@ mod pausing;
 mod steps;
 mod turning;
 
+pub use qp_wait_lane::{BellLane, BellRoot, Bells};
 pub use turning::wait_turn;

@@ -1,3 +1,4 @@
 pub mod Saying
 pub mod Parking
 pub mod CrossingLemmas
+pub mod Handed

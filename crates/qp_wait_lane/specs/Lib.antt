@@ -3,3 +3,4 @@ pub mod Ropes
 pub mod Rooted
 pub mod Lane
 pub mod LaneLaws
+pub mod Handed

@@ -2,7 +2,7 @@
 
 ghost use Rattle.std.specs.Prelude.{◌≡◌, ◌<◌, map, IfOk, OnErr, IfErr};
 ghost use Rattle.qp_model.specs.Sources.{priorities};
-ghost use Rattle.qp_shared.specs.Lane.{lane_view};
+ghost use Rattle.qp_wait_rings.specs.Handed.{lane_view};
 ghost use Rattle.qp_wait_bells.specs.Tallies.{with_added};
 
 use crate::closings::Closings;
@@ -12,9 +12,8 @@ use crate::lane::BellLane;
 use atomic_table::Seat;
 use qp_base::Memory;
 use qp_model::System;
-use qp_shared::SharedLane;
 use qp_wait_bells::{Tallies, Tally, add, new_tallies, seat_of};
-use qp_wait_rings::{Cord, RingingLane};
+use qp_wait_rings::{Cord, RingingLane, SharedLane};
 use std::alloc::Global;
 
 /// What threads share: a parker for each object, and a count of the sources that aren't at their end and of the entries that were
@@ -67,7 +66,7 @@ impl Bells {
     }
 
     /// A cord for each object.
-    fn cords<'a>(&'a self, alloc: Global, root: &mut BellRoot) -> Result<Vec<Cord<'a>>, Memory>
+    fn cords(&self, alloc: Global, root: &mut BellRoot) -> Result<Vec<Cord>, Memory>
         requires root { IsRootOf self.now root.old }
         ensures root { IsRootOf self.now root.new }
         ensures cords { IfOk result (λ cs. AreLooseFor self.now cs.items) }

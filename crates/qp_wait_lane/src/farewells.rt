@@ -7,13 +7,13 @@ use qp_wait_rings::{Cord, ring_all};
 
 /// How often a lane noted every parker, modulo 2^64, with cords of its own for that.
 #[derive(Drop)]
-pub struct Farewells<'a> {
-    pub cords: Vec<Cord<'a>>,
+pub struct Farewells {
+    pub cords: Vec<Cord>,
     pub said: u64,
     ghost all: { have_all said cords.items ≡ true },
 }
 
-impl Farewells<'_> {
+impl Farewells {
     /// Notes every parker once.
     pub fn say(&mut self)
         ensures said { self.new.said ≡ (self.old.said + 1) % 2 ^ 64 }

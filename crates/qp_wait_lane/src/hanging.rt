@@ -63,11 +63,11 @@ pub(crate) fn hang(
     hang(alloc, rest, wakers, ropes)
 }
 
-/// A cord for each object, with a new pass.
-pub(crate) fn add_cords<'a>(
-    wakers: &'a [Waking],
+/// A cord for each object, with a waker and a pass of its own.
+pub(crate) fn add_cords(
+    wakers: &[Waking],
     ropes: &mut [Rope],
-    cords: &mut Vec<Cord<'a>>,
+    cords: &mut Vec<Cord>,
 ) -> Result<(), Memory>
     requires ropes { AreRopes wakers.now ropes.old }
     requires none { are_unpulled cords.old.items ≡ true }
@@ -81,9 +81,12 @@ pub(crate) fn add_cords<'a>(
     let Some((rope, others)) = ropes.split_first_mut() else {
         return Ok(());
     };
+    let Ok(waker) = waking.waker.clone() else {
+        return Err(Memory);
+    };
     let cord = Cord {
         object: waking.object,
-        waker: &waking.waker,
+        waker,
         pass: pass_of(&waking.waker, &mut rope.pass),
         pulls: 0,
     };

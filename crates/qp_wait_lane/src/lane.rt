@@ -5,7 +5,7 @@ ghost use Rattle.std.specs.List.{count_by, list_all};
 ghost use Rattle.qp_model.specs.History.{lane_items};
 ghost use Rattle.qp_model.specs.WordLaw.{is_object};
 ghost use Rattle.qp_model_order.specs.SourceRun.{untold_all};
-ghost use Rattle.qp_shared.specs.Lane.{lane_view};
+ghost use Rattle.qp_wait_rings.specs.Handed.{lane_view};
 ghost use Rattle.qp_wait_rings.specs.Lane.{ringing_view};
 ghost use Rattle.qp_wait_rings.specs.Records.{is_claim, is_refusal, posts_on, since};
 ghost use Rattle.qp_wait_lane.specs.Parked.{HasParked, HasParked-prop, HasPerch, is_park_place, object_of, parks_of, parks_shown};
@@ -15,8 +15,7 @@ use crate::farewells::Farewells;
 use crate::perch::Perch;
 use qp_base::Memory;
 use qp_model::Rec;
-use qp_shared::SharedLane;
-use qp_wait_rings::RingingLane;
+use qp_wait_rings::{RingingLane, SharedLane};
 use std::sync::Wait;
 
 /// A lane of the waiting port. Its posts ring; beside that it notes every parker at a farewell, takes off the count what its turns
@@ -24,7 +23,7 @@ use std::sync::Wait;
 #[derive(Drop)]
 pub struct BellLane<'a> {
     pub ringing: RingingLane<'a>,
-    pub farewells: Farewells<'a>,
+    pub farewells: Farewells,
     pub closings: Closings<'a>,
     pub perch: Option<Perch>,
     ghost parked: { HasParked farewells.cords.items perch (ringing_view ringing) } by { HasParked-prop farewells.cords.items perch (ringing_view ringing) },

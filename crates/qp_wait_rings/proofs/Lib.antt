@@ -1,3 +1,4 @@
 pub mod Counting
 pub mod Quiet
 pub mod CordLemmas
+pub mod CrossingLemmas

@@ -3,3 +3,4 @@ pub mod Cords
 pub mod Rung
 pub mod Lane
 pub mod LaneLaws
+pub mod Handed

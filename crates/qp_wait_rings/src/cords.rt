@@ -6,7 +6,7 @@ ghost use Rattle.qp_wait_rings.specs.Cords.{RingsOne, count_in, has_cord};
 use crate::cord::Cord;
 
 /// Gives a note to the parker of object `a`.
-pub(crate) fn ring(cords: &mut [Cord<'_>], a: u8)
+pub(crate) fn ring(cords: &mut [Cord], a: u8)
     requires { has_cord a cords.old ≡ true }
     ensures { RingsOne a cords.old cords.new }
 {
@@ -19,7 +19,7 @@ pub(crate) fn ring(cords: &mut [Cord<'_>], a: u8)
 }
 
 /// Gives a note to every parker.
-pub fn ring_all(cords: &mut [Cord<'_>])
+pub fn ring_all(cords: &mut [Cord])
     ensures pulls { map (λ c. c.pulls) cords.new ≡ map (λ c. (c.pulls + 1) % 2 ^ 64) cords.old }
     ensures objects { map (λ c. c.object) cords.new ≡ map (λ c. c.object) cords.old }
 {
@@ -29,7 +29,7 @@ pub fn ring_all(cords: &mut [Cord<'_>])
 }
 
 /// The notes given to object `a`, modulo 2^64; 0 where there is no such object.
-pub fn pulls_of(cords: &[Cord<'_>], a: u8) -> u64
+pub fn pulls_of(cords: &[Cord], a: u8) -> u64
     ensures { result ≡ count_in a cords.now }
 {
     let Some((one, rest)) = cords.split_first() else {

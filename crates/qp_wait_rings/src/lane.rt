@@ -36,7 +36,7 @@ impl<'a> RingingLane<'a> {
         lane: SharedLane<'a>,
         count: &'a Tallies,
         seat: Seat<(), Tally>,
-        cords: Vec<Cord<'a>>,
+        cords: Vec<Cord>,
     ) -> RingingLane<'a>
         requires own { seat.table_id ≡ count.now.shared.table_id }
         requires some { 0 < count.now.shared.table_id.words }

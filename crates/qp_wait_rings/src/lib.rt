@@ -11,4 +11,5 @@ mod ringing;
 
 pub use cord::Cord;
 pub use cords::{pulls_of, ring_all};
+pub use qp_shared::SharedLane;
 pub use ringing::RingingLane;

@@ -27,7 +27,7 @@ pub(crate) fn open_one(count: &Tallies, seat: &mut Seat<(), Tally>, opened: &mut
 pub(crate) fn settle(
     count: &Tallies,
     seat: &mut Seat<(), Tally>,
-    cords: &mut [Cord<'_>],
+    cords: &mut [Cord],
     refused: &mut u64,
     a: u8,
     claim: &Claim,

@@ -16,7 +16,7 @@ pub struct RingingLane<'a> {
     pub lane: SharedLane<'a>,
     pub count: &'a Tallies,
     pub seat: Seat<(), Tally>,
-    pub cords: Vec<Cord<'a>>,
+    pub cords: Vec<Cord>,
     pub opened: u64,
     pub refused: u64,
     pub from: usize,

@@ -18,13 +18,13 @@ use Rattle.qp_port_home.specs.At.{HasEmptyLane}
 use Rattle.qp_shared.specs.declared.shared.Shared.{Shared}
 use Rattle.qp_shared.specs.Starting.{AreFirst, serves_one}
 use Rattle.qp_wait_rings.specs.declared.ringing.RingingLane.{RingingLane}
-use Rattle.qp_wait_rings.specs.Lane.{ringing_view}
-use Rattle.qp_wait_lane.specs.declared.bells.Bells.{Bells}
-use Rattle.qp_wait_lane.specs.declared.lane.BellLane.{BellLane}
-use Rattle.qp_wait_lane.specs.Lane.{BeginsAt, bell_view}
-use Rattle.qp_wait_lane.specs.Parked.{HasParked}
-use Rattle.qp_wait_lane.specs.Rooted.{AreBellsOf}
-use Rattle.qp_wait_lane.proofs.Parking.{parked-still}
+use Rattle.qp_wait.specs.Handed.{ringing_view}
+use Rattle.qp_wait.specs.Handed.{Bells}
+use Rattle.qp_wait.specs.Handed.{BellLane}
+use Rattle.qp_wait.specs.Handed.{BeginsAt, bell_view}
+use Rattle.qp_wait.specs.Handed.{HasParked}
+use Rattle.qp_wait.specs.Handed.{AreBellsOf}
+use Rattle.qp_wait.proofs.Handed.{parked-still}
 use Rattle.qp_wait_tests.specs.Lamps.{HasGrown, IsLamp, IsLampLane}
 
 -- each lane of the tables is one of their system

@@ -6,8 +6,8 @@ use Rattle.qp_model.specs.Parts.{is_static}
 use Rattle.qp_model.specs.Told.{ToldItem}
 use Rattle.qp_model.specs.WordLaw.{is_object}
 use Rattle.qp_calls.specs.LaneView.{LaneView}
-use Rattle.qp_wait_lane.specs.declared.lane.BellLane.{BellLane}
-use Rattle.qp_wait_lane.specs.Lane.{bell_view}
+use Rattle.qp_wait.specs.Handed.{BellLane}
+use Rattle.qp_wait.specs.Handed.{bell_view}
 
 -- its first object has priority 1, and its first signal is static
 pub record IsLamp (sys : System) : Type 0 where

@@ -12,7 +12,7 @@ use qp_base::Steps;
 use qp_calls::{Did, Ops, post_static};
 use qp_model::System;
 use qp_shared::Shared;
-use qp_wait_lane::{BellLane, Bells};
+use qp_wait::{BellLane, Bells};
 use qp_wait_rings::RingingLane;
 use std::alloc::Global;
 use std::marker::Brand;

@@ -3,7 +3,7 @@
 ghost use Rattle.std.specs.Prelude.{◌≡◌, ◌≤◌, true};
 ghost use Rattle.qp_model.specs.Sound.{IsSound};
 ghost use Rattle.qp_port_home.specs.At.{HasEmptyLane, IsHome, IsMade};
-ghost use Rattle.qp_wait_lane.specs.Lane.{bell_view};
+ghost use Rattle.qp_wait.specs.Handed.{bell_view};
 ghost use Rattle.qp_wait_tests.specs.Lamps.{IsLamp};
 
 use crate::lanes::triple;
@@ -14,8 +14,7 @@ use qp_dispatch::{Step, Turn};
 use qp_model::System;
 use qp_port_home::Home;
 use qp_shared::Shared;
-use qp_wait::wait_turn;
-use qp_wait_lane::{BellLane, Bells};
+use qp_wait::{BellLane, Bells, wait_turn};
 use std::alloc::Global;
 use std::sync::Wait;
 use std::test::Fail;

@@ -1,5 +1,5 @@
 use Rattle.std.proofs.Common.{false, refl, subst, sym, true}
-use Rattle.qp_wait_rings.specs.Lane.{ringing_view}
+use Rattle.qp_wait_lane.specs.Handed.{ringing_view}
 use Rattle.qp_wait_lane.specs.Lane.{LooksAtCount}
 use Rattle.qp_wait.specs.Pausing.{HasLook}
 use Rattle.qp_wait.proofs.Parts.{looked, not-parked-then, parked-then, rests-same}

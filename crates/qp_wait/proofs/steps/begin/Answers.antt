@@ -1,4 +1,4 @@
-use Rattle.qp_wait_rings.specs.Lane.{ringing_view}
+use Rattle.qp_wait_lane.specs.Handed.{ringing_view}
 use Rattle.qp_wait_lane.proofs.Parking.{parked-still}
 use Rattle.qp_wait.proofs.Growing.{lane-grown}
 use Rattle.qp_wait.proofs.steps.begin.Goals as goal

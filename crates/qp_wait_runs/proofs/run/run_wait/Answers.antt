@@ -1,0 +1,53 @@
+use Rattle.std.proofs.Common.{◌≡◌, ◌+◌, ◌<◌, length, map, ap, arith, subst, ◌∙◌}
+use Rattle.std.specs.Prelude.{IfOk}
+use Rattle.qp_model.specs.declared.systems.System.{System}
+use Rattle.qp_model.specs.Kernels.{port}
+use Rattle.qp_port_runs.specs.Handed.{SealsLanes}
+use Rattle.qp_port_runs.specs.Handed.{AreNewLanes}
+use Rattle.qp_port_runs.specs.Handed.{lane_view}
+use Rattle.qp_port_runs.specs.Handed.{serves_one}
+use Rattle.qp_port_runs.proofs.Lanes.{all-lanes}
+use Rattle.qp_port_runs.proofs.PortLanes.{new-port_lanes, same-as}
+use Rattle.qp_port_runs.proofs.PortSealing.{port-rests, port-run}
+use Rattle.qp_wait_runs.proofs.run.run_wait.Goals as goal
+
+pub run_ringing-requires-clause-lanes : goal.run_ringing-requires-clause-lanes
+run_ringing-requires-clause-lanes g c κs within =
+    let first = c.in_ok-lanes.ensures in
+    let system = c.in_ok-shared.ensures.system in
+    let objects = ap (λ (s : System). length s.objects) system in
+    let more = ap (λ (s : System). length s.objects) c.sys.view_is in
+    let sources = ap length c.stim.view_is in
+    let a = c.len.ensures in
+    let b = c.len-2.ensures in
+    let few_objects = c.requires.sound.few_objects in
+    let few = c.requires.fit.few in
+    subst (λ s. AreNewLanes s c.args.stim.now (map lane_view c.in_ok-lanes.lanes.items)) system
+    (new-port_lanes c.in_ok-shared.shared _ c.args.stim.now (map lane_view c.in_ok-lanes.lanes.items) (omega (arith, objects, more, sources, a, b, few_objects, few)) first)
+
+pub seal-requires : goal.seal-requires
+seal-requires g c =
+    let more = ap (λ (s : System). length s.objects) c.sys.view_is in
+    let sources = ap length c.stim.view_is in
+    let a = c.len.ensures in
+    let b = c.len-2.ensures in
+    let few_objects = c.requires.sound.few_objects in
+    let few = c.requires.fit.few in
+    record {
+      all = all-lanes c.in_ok-shared.shared _ (serves_one c.in_ok-shared.shared.sys.now) (map lane_view c.in_ok-lanes.lanes.items) (map lane_view c.in_ok-lanes-2.field-0.lanes.items)
+          (omega (arith, more, sources, a, b, few_objects, few)) c.in_ok-lanes.ensures (same-as _ _ c.in_ok-lanes-2.ensures.lanes);
+    }
+
+pub returns-clause-run : goal.returns-clause-run
+returns-clause-run g c =
+    let run = c.in_ok-lanes-2.field-0 in
+    let vs = map lane_view run.lanes.items in
+    port-run c.args.sys.now c.args.stim.now c.args.budget run.done run.rests.items vs c.requires.sound c.in_ok-lanes-2.ensures.run c.seal.result
+    (subst (λ s. IfOk c.seal.result (λ x. SealsLanes s port c.args.budget vs x.sealed.journal)) c.in_ok-shared.ensures.system c.seal.ensures.seals) c.seal.ensures.quiet
+
+pub returns-clause-rests : goal.returns-clause-rests
+returns-clause-rests g c =
+    let run = c.in_ok-lanes-2.field-0 in
+    let vs = map lane_view run.lanes.items in
+    port-rests c.args.sys.now c.args.stim.now c.args.budget run.done run.rests.items vs c.requires.sound c.in_ok-lanes-2.ensures.run c.seal.result
+    (subst (λ s. IfOk c.seal.result (λ x. SealsLanes s port c.args.budget vs x.sealed.journal)) c.in_ok-shared.ensures.system c.seal.ensures.seals) c.seal.ensures.quiet c.seal.ensures.rests
