@@ -58,7 +58,7 @@ class Files(unittest.TestCase):
     def test_faults(self) -> None:
         table = (
             ("case = 1\n", "has [[case]] tables"), ("[[case]]\n", "case 1: name is missing"), (CASE + "colour = 1\n", "'colour' is no key"),
-            (CASE + 'kernel = "rtos"\n', "a kernel is sim, qv, qk or port"), (CASE + "object.lamp = { colour = 1 }\n", "object lamp: 'colour' is no key"),
+            (CASE + 'kernel = "rtos"\n', "a kernel is sim, qv, qk, port or wait"), (CASE + "object.lamp = { colour = 1 }\n", "object lamp: 'colour' is no key"),
             ("[[case", "cases.toml: "), ("case = [1]\n", "has [[case]] tables"),
             (CASE.replace('"go.txt"', "7"), "stimuli must be a text"), (CASE + "kernel = 5\n", "kernel must be a kernel, or a list"),
             (CASE + "kernel = []\n", "kernel must be a kernel, or a list"), (CASE + "end = 1\n", "end must be 0, 3 or 4"),
@@ -90,8 +90,8 @@ class Files(unittest.TestCase):
                 self.write(CASE + 'kernel = "sim"\n' + text)
                 status, printed, _ = answer(str(self.folder))
                 self.assertEqual(status, 1 if told else 0)
-                self.assertEqual([line.strip() for line in printed.splitlines()[1:-4]], told)
-                self.assertEqual([line[:4] for line in printed.splitlines()[-4:-1]], ["pass"] * 3, "the others are judged alone")
+                self.assertEqual([line.strip() for line in printed.splitlines()[1:-5]], told)
+                self.assertEqual([line[:4] for line in printed.splitlines()[-5:-1]], ["pass"] * 4, "the others are judged alone")
 
     @unittest.skipUnless(is_built(), "the program isn't built")
     def test_a_system_that_is_refused_is_explained(self) -> None:
@@ -113,8 +113,8 @@ class Files(unittest.TestCase):
         self.write(CASE + CASE.replace('"a"', '"b"'))
         status, printed, _ = answer("--cover", "--low", str(self.folder))
         self.assertEqual(status, 0)
-        self.assertEqual(printed.splitlines()[8:], [
-            "8 passed, 0 failed", f"{self.folder}/lamp.toml:", "chart lamp: 1 of 1 row taken",
+        self.assertEqual(printed.splitlines()[10:], [
+            "10 passed, 0 failed", f"{self.folder}/lamp.toml:", "chart lamp: 1 of 1 row taken",
             "            size  least free  most used", "queue lamp     2           1          1",
         ])
 
@@ -269,4 +269,4 @@ class Examples(unittest.TestCase):
 
     def test_the_program(self) -> None:
         ran = subprocess.run([TOP / "tools" / "qptest", EXAMPLES / "clock"], capture_output=True, text=True)
-        self.assertEqual((ran.returncode, ran.stdout.splitlines()[-1]), (0, "12 passed, 0 failed"))
+        self.assertEqual((ran.returncode, ran.stdout.splitlines()[-1]), (0, "15 passed, 0 failed"))

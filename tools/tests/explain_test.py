@@ -146,7 +146,7 @@ class Lines(unittest.TestCase):
             ("check", "a", "b", "c", "d"): "'d' is a word too many: qp check SYSTEM STIMULI JOURNAL",
             ("run", "--trace", "a", "b"): "`run` has no option '--trace'",
             ("run", "--kernal", "qv", "a", "b"): "`run` has no option '--kernal'; did you mean `--kernel`?",
-            ("run", "--kernel", "rtos", "a", "b"): "--kernel is sim, qv, qk or port, not 'rtos'",
+            ("run", "--kernel", "rtos", "a", "b"): "--kernel is sim, qv, qk, port or wait, not 'rtos'",
             ("run", "--kernel", "port", "--form", "3", "a", "b"): "--form is 1 or 2, not '3'",
             ("run", "--kernel", "qv", "--form=1", "a", "b"): "a journal of qv has form 2 alone",
             ("run", "--budget", "0", "a", "b"): "--budget is a number, 1 to 1000000, not '0'",
@@ -391,7 +391,7 @@ class Launcher(unittest.TestCase):
     def test_right_words_are_the_programs(self) -> None:
         for words in (("run", "lamp.toml", "go.txt"), ("run", "--out", "summary", "lamp.toml", "go.txt"),
                       ("run", "--kernel=qv", "--budget", "7", "--", "lamp.toml", "go.txt"), ("run", "--kernel", "qk", "lamp.toml", "go.txt"),
-                      ("run", "--kernel=port", "--form=2", "lamp.toml", "go.txt"), ("gen", "1")):
+                      ("run", "--kernel=port", "--form=2", "lamp.toml", "go.txt"), ("run", "--kernel", "wait", "lamp.toml", "go.txt"), ("gen", "1")):
             self.assertEqual(self.call(*words)[0::2], (0, ""), words)
 
     def test_a_terminal_has_the_explanation(self) -> None:

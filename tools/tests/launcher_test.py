@@ -90,7 +90,8 @@ class Launcher(unittest.TestCase):
     def test_bad_words(self) -> None:
         self.build("qp: bad words\n", 1)
         self.assertEqual(self.call("walk"), (1, "output\n", "qp: bad words\n    no command is called 'walk'; `qp help` has them\n"))
-        for right in (("--budget", "1"), ("--kernel", "qk"), ("--kernel=port", "--form", "1"), ("--kernel=qv", "--form=2")):
+        for right in (("--budget", "1"), ("--kernel", "qk"), ("--kernel=port", "--form", "1"), ("--kernel=qv", "--form=2"),
+                      ("--kernel=wait",)):
             with self.subTest(right):
                 self.assertEqual(self.call("run", *right, "lamp.toml", "go.txt"), (1, "output\n", "qp: bad words\n"))
-        self.assertIn("--kernel is sim, qv, qk or port", self.call("run", "--kernel", "rtos", "lamp.toml", "go.txt")[2])
+        self.assertIn("--kernel is sim, qv, qk, port or wait", self.call("run", "--kernel", "rtos", "lamp.toml", "go.txt")[2])

@@ -7,7 +7,7 @@ from pathlib import Path
 from typing import Any
 
 #: The kernels with one thread, in which a run is the only one of its files, and those with threads, in which two may differ.
-ONE_THREAD, THREADED = ("sim", "qv"), ("qk", "port")
+ONE_THREAD, THREADED = ("sim", "qv"), ("qk", "port", "wait")
 KERNELS = ONE_THREAD + THREADED
 
 

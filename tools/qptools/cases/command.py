@@ -26,7 +26,7 @@ USAGE = """usage: qptest [--cover] [--low] FOLDER ..   runs all cases of the fil
        qptest low SYSTEM JOURNAL ..         prints the least that was free in queues and pools (getQueueMin, getPoolMin)
        qptest orders [--kernel sim|qv] [--most N] SYSTEM STIMULI
                                             runs the orders of the sources' stimuli, at most N (1000), and prints their outcomes
-       qptest orders --kernel qk|port [--most N] SYSTEM STIMULI
+       qptest orders --kernel qk|port|wait [--most N] SYSTEM STIMULI
                                             runs the stimuli N times (100), in whatever order the threads make, and prints the outcomes
 
 A case runs under each kernel, and each journal is judged and replayed; what else is expected is asked under the kernels that the

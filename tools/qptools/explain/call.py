@@ -3,7 +3,7 @@
 from typing import NamedTuple
 
 #: The kernels in which a run has threads, so that two runs of the same words may differ.
-THREADED = ("qk", "port")
+THREADED = ("qk", "port", "wait")
 
 #: Each command with its files and its options; each option has a value.
 COMMANDS: dict[str, tuple[tuple[str, ...], dict[str, tuple[str, ...]]]] = {
