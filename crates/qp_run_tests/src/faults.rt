@@ -194,7 +194,7 @@ impl World<'_> {
 
 /// Each command and kernel: a lamp that is switched on, with a pool or without, and five philosophers, whose journal is given as text and as
 /// frames. Of a run with threads it is the summary, which is the same each time.
-const CALLS: [Call; 13] = [
+const CALLS: [Call; 14] = [
     (&["run", "lamp", "go"], b'\n', 2),
     (&["run", "--kernel", "qv", "lamp", "go"], b'\n', 2),
     (&["gen", "1"], b'\n', 0),
@@ -208,6 +208,11 @@ const CALLS: [Call; 13] = [
     ),
     (
         &["run", "--kernel", "port", "--out", "summary", "lamp", "go"],
+        b'\n',
+        2,
+    ),
+    (
+        &["run", "--kernel", "wait", "--out", "summary", "lamp", "go"],
         b'\n',
         2,
     ),
