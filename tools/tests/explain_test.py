@@ -366,6 +366,13 @@ class Lines(unittest.TestCase):
                     self.assertIn(said, told[0])
                     self.assertEqual(len(told) > 1, other == note)
 
+    def test_want_of_memory(self) -> None:
+        """Where threads of objects park, a thread that the system didn't make is want of memory too."""
+        for kernel, lines in (("sim", 1), ("port", 1), ("wait", 2)):
+            told = explanation(["run", "--kernel", kernel, "lamp.toml", "go.txt"], "qp: memory\n")
+            self.assertEqual((told[0].split(":")[0], len(told)), ("memory was refused", lines), kernel)
+            self.assertEqual(["made no thread" in line for line in told[1:]], [True] * (lines - 1))
+
 
 @unittest.skipUnless(is_built(), "the program isn't built")
 class Launcher(unittest.TestCase):
