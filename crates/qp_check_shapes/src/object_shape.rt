@@ -6,6 +6,7 @@ ghost use Rattle.qp_check_calls.specs.AsPiece.{as_cut};
 ghost use Rattle.qp_check_calls.specs.Decides.{Decides};
 ghost use Rattle.qp_model.specs.Shapes.{Drops};
 ghost use Rattle.qp_model.specs.ObjectShape.{CutGroups, HasShape, nothing_after, asserts_last};
+ghost use Rattle.qp_model.specs.Ends.{is_assert};
 ghost use Rattle.qp_check_shapes.specs.ShapeAction.{IsWhole};
 ghost use Rattle.qp_check_shapes.specs.GroupsLast.{LastOf, kinds, start_cut, is_anywhere, is_cut, is_unbegun};
 ghost use Rattle.qp_check_shapes.specs.GroupsRead.{Breaks};
@@ -19,7 +20,7 @@ use crate::shape_action::is_done;
 use crate::shape_release::behind_back;
 use crate::shape_scene::Scene;
 use qp_check_calls::{Cut, Known, Told};
-use qp_model::{Body, Entry, is_asserted};
+use qp_model::{Body, Entry};
 
 /// How a start may break off: it stops at no scheduling point.
 fn start_cut(cut: Cut) -> Cut
@@ -189,6 +190,20 @@ fn has_groups(scene: &Scene, nils: bool, cut: Cut, told: &[Told]) -> bool
     }
 }
 
+/// Whether a record is one of an assertion.
+fn is_assert(t: &Told) -> bool
+    ensures { result ≡ is_assert t.now.body }
+{
+    match &t.body {
+        Body::NoEntry { .. }
+        | Body::NoBlock { .. }
+        | Body::Armed { .. }
+        | Body::BadTicks { .. }
+        | Body::NoLifo { .. } => true,
+        _ => false,
+    }
+}
+
 fn nothing_after(asserted: bool, rest: &[Told]) -> bool
     ensures { result ≡ nothing_after asserted rest.now }
 {
@@ -203,7 +218,7 @@ fn asserts_last(told: &[Told]) -> bool
     loop {
         match left.split_first() {
             Some((first, rest)) => {
-                if nothing_after(is_asserted(&first.body), rest) {
+                if nothing_after(is_assert(first), rest) {
                     left = rest;
                 } else {
                     return false;
