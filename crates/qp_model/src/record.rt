@@ -18,6 +18,8 @@ pub(crate) fn numbers(xs: &[u64]) -> ArrayVec<u64, 13>
     ensures { result.items ≡ xs.now }
 {
     let mut nums = ArrayVec::new();
-    let _ = nums.try_extend_from_slice(xs);
+    for x in xs {
+        nums.push(*x);
+    }
     nums
 }

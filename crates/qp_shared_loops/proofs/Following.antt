@@ -71,11 +71,6 @@ more-there sys w z u x n last saw other =
     let ne : mark_in (place_of w) x ≢ mark_in (place_of w) n = λ e. other (sym last ∙ saw.same (ap (mark_in (place_of w)) last ∙ e)) in
     omega arith
 
--- so a count of a queue's word that is raised by one stays within its bits
-pub first-fits : (a x : ℕ) → mark_in (queue_at a) x < mark_in (queue_at a) (x + 1) → x % 2097152 + 1 < 2097152
-first-fits a x more =
-    let h = high-mark (queue_at a) x (omega arith) in let h' = high-mark (queue_at a) (x + 1) (omega arith) in omega arith
-
 pub last-fits : (a x : ℕ) → mark_in (queue_at a) x < mark_in (queue_at a) (x + 2097152) → x / 2097152 % 2097152 + 1 < 2097152
 last-fits a x more =
     let h = high-mark (queue_at a) x (omega arith) in let h' = high-mark (queue_at a) (x + 2097152) (omega arith) in omega arith
@@ -99,21 +94,12 @@ module _ (sys : System) (a ring least : ℕ) (margin : Option ℕ) (f x : ℕ) (
   pub enough-free : least < f → unwrap_or margin 0 < free_in (ring_of sys a) x
   enough-free lt = subst (λ (z : ℕ × ℕ). z.0 < z.1) (λ i. (least_is i, (f_is ∙ ap (λ r. free_in r x) ring_is) i)) lt
 
-  pub few-free : f ≤ least → free_in (ring_of sys a) x ≤ unwrap_or margin 0
-  few-free le = subst (λ (z : ℕ × ℕ). z.1 ≤ z.0) (λ i. (least_is i, (f_is ∙ ap (λ r. free_in r x) ring_is) i)) le
-
 -- counts of tries
 pub no-tries : (s a b : ℕ) → a ≤ b → s + a ≤ s + b
 no-tries s a b le = omega arith
 
 pub one-try : (s s1 s2 m m1 m2 : ℕ) → s2 ≡ s1 + 1 → s1 + m ≤ s + m1 → m1 < m2 → s2 + m ≤ s + m2
 one-try s s1 s2 m m1 m2 e le lt = omega arith
-
-pub last-try : (s s1 s2 m m1 : ℕ) → s2 ≡ s1 + 1 → s1 + m ≤ s + m1 → s2 + m ≤ s + 1 + m1
-last-try s s1 s2 m m1 e le = omega arith
-
-pub some-tries : (s s1 m m1 : ℕ) → s1 + m ≤ s + m1 → s1 + m ≤ s + 1 + m1
-some-tries s s1 m m1 le = omega arith
 
 pub less-left : (n m1 m2 : ℕ) → m1 < n → m1 < m2 → n - m2 < n - m1
 less-left n m1 m2 lt more = omega arith

@@ -1,5 +1,5 @@
 -- Looks and tries of a last-in post.
-use Rattle.std.proofs.Common.{◌≡◌, ◌≢◌, ℕ, ◌+◌, ◌<◌, Bool, cond, sym, ap, subst, ◌∙◌, arith, eq-eqb, ne_eqb}
+use Rattle.std.proofs.Common.{◌≡◌, ◌≢◌, ℕ, ◌+◌, ◌<◌, Bool, cond, sym, ap, subst, ◌∙◌, arith, ne_eqb}
 use Rattle.qp_model.specs.declared.systems.System.{System}
 use Rattle.qp_model.specs.declared.bodies.Entry.{Entry}
 use Rattle.qp_model.specs.declared.words.Word.TheVariants as word
@@ -8,20 +8,14 @@ use Rattle.qp_table.specs.Rule.{queue_at, mark_in}
 use Rattle.qp_table.specs.After.{glanced, noted}
 use Rattle.qp_table.specs.declared.view.View.{View}
 use Rattle.qp_shared_steps.specs.Told.{free_in, eyed_last, EyeLastTold, put_first_at, LastTold}
-use Rattle.qp_shared_loops.specs.Ends.{seeing, IsShort, full_rec, PutsFirst, PutsNone}
-use Rattle.qp_shared_loops.proofs.Following.{Seen, queue-then, sees-none, sees-one, sees-then, more-there, last-fits, last-is}
+use Rattle.qp_shared_loops.specs.Ends.{seeing, full_rec, PutsFirst}
+use Rattle.qp_shared_loops.proofs.Following.{Seen, queue-then, sees-one, sees-then, more-there, last-fits, last-is}
 
 module _ (ring a : ℕ) (v : View) (x : ℕ) where
-  eyed-full : free_in ring x ≡ 0 → eyed_last ring a v x ≡ noted v (queue_at a) x (full_rec a x)
-  eyed-full none = ap (λ (t : Bool). cond {A = View} t (noted v (queue_at a) x (full_rec a x)) (glanced v (queue_at a) x)) (eq-eqb (free_in ring x) 0 none)
-
   eyed-free : 0 < free_in ring x → eyed_last ring a v x ≡ glanced v (queue_at a) x
   eyed-free some = ap (λ (t : Bool). cond {A = View} t (noted v (queue_at a) x (full_rec a x)) (glanced v (queue_at a) x)) (ne_eqb (free_in ring x) 0 (λ e. absurd (omega arith)))
 
 module _ (sys : System) (a : ℕ) where
-  pub looked-full : (v u : View) (n : ℕ) → EyeLastTold sys a v n u → free_in (ring_of sys a) n ≡ 0 → IsShort sys a n → PutsNone sys a v n u
-  looked-full v u n t none short = record { glances = v.seen; more = sees-none v.seen; is = t.0 ∙ eyed-full (ring_of sys a) a v n none; few = none; short = short; told = t.1 }
-
   pub looked-free : (v u : View) (n : ℕ) → EyeLastTold sys a v n u → 0 < free_in (ring_of sys a) n → Seen sys a v u n
   looked-free v u n t some =
       let is : u ≡ glanced v (queue_at a) n = t.0 ∙ eyed-free (ring_of sys a) a v n some in
@@ -37,16 +31,6 @@ module _ (sys : System) (a : ℕ) where
       fits = last-fits a old (more-there sys (word.Queue a) z u old (old + 2097152) (last-is sys a v z old seen) t.1.saw (λ e. omega arith));
       told = queue-then sys a v z u old old (old + 2097152) seen t.1;
     })
-
-    pub puts-none : n ≢ old → free_in (ring_of sys a) n ≡ 0 → IsShort sys a n → PutsNone sys a v n u
-    puts-none other none short = let t = (told.1 other).1 in record {
-      glances = z.seen;
-      more = seen.more;
-      is = t.0 ∙ (eyed-full (ring_of sys a) a z n none ∙ ap (λ (y : View). noted y (queue_at a) n (full_rec a n)) seen.is);
-      few = none;
-      short = short;
-      told = queue-then sys a v z u old n n seen t.1;
-    }
 
     pub puts-on : n ≢ old → 0 < free_in (ring_of sys a) n → Seen sys a v u n × (mark_in (queue_at a) old < mark_in (queue_at a) n)
     puts-on other some =

@@ -1,18 +1,18 @@
 -- The cell of a post.
-use Rattle.std.proofs.Common.{◌≡◌, ℕ, suc, ◌+◌, ◌-◌, ◌*◌, ◌%◌, ◌<◌, ◌&&◌, List, [], ◌∷◌, ◌++◌, Bool, cond, refl, sym, ap, subst, ◌∙◌, arith, eq-eqb}
+use Rattle.std.proofs.Common.{◌≡◌, ℕ, ◌+◌, ◌-◌, ◌*◌, ◌%◌, ◌<◌, ◌&&◌, List, [], ◌∷◌, ◌++◌, cond, refl, sym, subst, ◌∙◌, arith, eq-eqb}
 use Rattle.std.specs.declared.option.Option.{Option}
 use Rattle.qp_model.specs.declared.systems.System.{System}
 use Rattle.qp_model.specs.declared.bodies.Entry.{Entry}
 use Rattle.qp_model.specs.Sites.{ring_of}
 use Rattle.qp_table.specs.Counting.{many}
 use Rattle.qp_table.specs.Rule.{queue_at, mark_in, is_place}
-use Rattle.qp_table.specs.After.{place, laid}
+use Rattle.qp_table.specs.After.{place}
 use Rattle.qp_table.specs.QueueLaws.{f_in, l_in, m_in, cells_of}
 use Rattle.qp_table.specs.declared.view.CellPlace.{CellPlace}
 use Rattle.qp_table.specs.declared.view.View.{View}
 use Rattle.qp_table.proofs.Counting.{many-snoc}
-use Rattle.qp_shared_steps.specs.Told.{QueueTold, before_front}
-use Rattle.qp_shared_loops.specs.Ends.{Claims, Posts, PutsFirst, PostsFirst}
+use Rattle.qp_shared_steps.specs.Told.{before_front}
+use Rattle.qp_shared_loops.specs.Ends.{Claims, PutsFirst}
 
 pub place-here : (a j : ℕ) (e : Entry) (k : ℕ) → cond {A = ℕ} (is_place a j e (place a j e k)) 1 0 ≡ 1
 place-here a j e k = λ i. cond {A = ℕ} ((eq-eqb a a refl i && eq-eqb j j refl i) && ((eq-eqb e.pool e.pool refl i && eq-eqb e.block e.block refl i) && eq-eqb e.name e.name refl i)) 1 0
@@ -20,30 +20,9 @@ place-here a j e k = λ i. cond {A = ℕ} ((eq-eqb a a refl i && eq-eqb j j refl
 place-there : (a j : ℕ) (e : Entry) (k : ℕ) (xs : List CellPlace) → 0 < many (is_place a j e) (xs ++ place a j e k ∷ [])
 place-there a j e k xs = let m = many-snoc (is_place a j e) xs (place a j e k) in let one = place-here a j e k in omega arith
 
--- what was told of a view stands where a cell is laid besides
-queue-laid : (sys : System) (a j : ℕ) (e : Entry) (v u : View) (n x : ℕ) → QueueTold sys a v u n x → QueueTold sys a v (laid u a j e) n x
-queue-laid sys a j e v u n x t = record {
-  found = t.found;
-  saw = record { here = t.saw.here; value = t.saw.value; others = t.saw.others; le = t.saw.le; same = t.saw.same };
-  mark = t.mark;
-  small = t.small;
-  takes = t.takes;
-  own = t.own;
-}
-
 module _ (sys : System) (a o : ℕ) (margin : Option ℕ) (e : Entry) (v : View) (x : ℕ) (z : View) (c : Claims sys a o margin e v x z) where
   pub claim-there : (j : ℕ) → j ≡ f_in x % (ring_of sys a + 1) → 0 < many (is_place a j e) z.claims
   claim-there j is = subst (λ (y : View). 0 < many (is_place a j e) y.claims) (sym c.is) (subst (λ i. 0 < many (is_place a i e) (v.claims ++ place a (f_in x % (ring_of sys a + 1)) e (mark_in (queue_at a) (x + 1)) ∷ [])) (sym is) (place-there a (f_in x % (ring_of sys a + 1)) e (mark_in (queue_at a) (x + 1)) v.claims))
-
-  pub posts-it : (j : ℕ) (u : View) → j ≡ f_in x % (ring_of sys a + 1) → u ≡ laid z a j e → Posts sys a o margin e v x u
-  posts-it j u j_is is = record {
-    glances = c.glances;
-    more = c.more;
-    is = is ∙ (λ i. laid (c.is i) a (j_is i) e);
-    enough = c.enough;
-    fits = c.fits;
-    told = subst (λ (y : View). QueueTold sys a v y x (x + 1)) (sym is) (queue-laid sys a j e v z x (x + 1) c.told);
-  }
 
 -- the cell before the front, by a function's numbers
 before-is : (sys : System) (a ring x j : ℕ) → ring ≡ ring_of sys a → j ≡ (m_in x + ring * l_in x + ring) % (ring + 1) → j ≡ before_front sys a x
@@ -55,13 +34,3 @@ before-is sys a ring x j ring_is is = is ∙ (λ i. (m_in x + back i * l_in x + 
 module _ (sys : System) (a : ℕ) (e : Entry) (v : View) (x : ℕ) (z : View) (c : PutsFirst sys a e v x z) (ring j : ℕ) (ring_is : ring ≡ ring_of sys a) (j_is : j ≡ (m_in x + ring * l_in x + ring) % (ring + 1)) where
   pub first-there : 0 < many (is_place a j e) z.claims
   first-there = subst (λ (y : View). 0 < many (is_place a j e) y.claims) (sym c.is) (subst (λ i. 0 < many (is_place a i e) (v.claims ++ place a (before_front sys a x) e (mark_in (queue_at a) (x + 2097152)) ∷ [])) (sym (before-is sys a ring x j ring_is j_is)) (place-there a (before_front sys a x) e (mark_in (queue_at a) (x + 2097152)) v.claims))
-
-  pub posts-first : (u : View) → u ≡ laid z a j e → PostsFirst sys a e v x u
-  posts-first u is = record {
-    glances = c.glances;
-    more = c.more;
-    is = is ∙ (λ i. laid (c.is i) a (before-is sys a ring x j ring_is j_is i) e);
-    enough = c.enough;
-    fits = c.fits;
-    told = subst (λ (y : View). QueueTold sys a v y x (x + 2097152)) (sym is) (queue-laid sys a j e v z x (x + 2097152) c.told);
-  }

@@ -1,5 +1,5 @@
 -- A queue has no more entries than cells.
-use Rattle.std.proofs.Common.{◌≡◌, ℕ, ◌+◌, ◌/◌, ◌%◌, ◌<◌, ◌≤◌, arith, IsTrue}
+use Rattle.std.proofs.Common.{ℕ, arith, IsTrue}
 use Rattle.qp_model.specs.declared.systems.System.{System}
 use Rattle.qp_model.specs.WordLaw.{is_object}
 use Rattle.qp_table.specs.Rule.{queue_at}

@@ -37,13 +37,16 @@ static RECIPROCALS: [u32; 256] = [
 
 /// The remainder by the size of a ring, which is one more than `ring`: the cell of a queue's entry by its place among all.
 ///
-/// A product guesses how often the size goes into `n`; where the guess is wrong, a division tells it. So the table decides the time and
-/// not the result. Below 2^24 each guess is right, but for size 1.
+/// Where the size is a power of two, a mask tells it. Elsewhere a product guesses how often the size goes into `n`; where the guess is
+/// wrong, a division tells it. So the table decides the time and not the result. Below 2^24 each guess is right.
 pub(crate) fn in_ring(ring: u8, n: u64) -> u16
     ensures value { result ≡ n % (ring + 1) }
     ensures within { result < 256 }
 {
     let size = u64::from(ring) + 1;
+    if size.is_power_of_two() {
+        return (n & u64::from(ring)) as u16;
+    }
     let times = n.wrapping_mul(u64::from(RECIPROCALS[usize::from(ring)])) >> 32;
     let below = times * size;
     if below <= n && n - below < size {

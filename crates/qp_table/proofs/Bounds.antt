@@ -1,8 +1,7 @@
 -- How large numbers, counters and free maps get.
-use Rattle.std.proofs.Common.{◌≡◌, ℕ, zero, suc, ◌+◌, ◌*◌, ◌^◌, ◌<◌, ◌≤◌, ◌==◌, nat_lt, map, List, [], ◌∷◌, Bool, true, false, not, cond, ◌&&◌, ◌||◌, length, refl, sym, ap, subst, ◌∙◌, arith, eqb, eq-eqb, ne_eqb, eqb-true, true≢false, length-append, pow-suc, pow_mono, mul-add, IsTrue}
+use Rattle.std.proofs.Common.{◌≡◌, ℕ, zero, suc, ◌+◌, ◌*◌, ◌^◌, ◌<◌, ◌≤◌, ◌==◌, nat_lt, List, [], ◌∷◌, Bool, true, false, not, cond, ◌&&◌, ◌||◌, length, refl, sym, ap, subst, ◌∙◌, arith, eqb, eq-eqb, ne_eqb, eqb-true, true≢false, length-append, pow-suc, pow_mono, mul-add, IsTrue}
 use mathlib.Core.Logic.{dite}
 use native.Mathlib.Decide.{ℕ_discrete}
-use Rattle.std.specs.List.{filter}
 use Rattle.std.proofs.lemmas.Bool.{and_parts}
 use Rattle.std.proofs.lemmas.Bool.Decides.{nat_tests}
 use Rattle.qp_chart.specs.StateTree.{has}
@@ -11,39 +10,24 @@ use Rattle.qp_model.specs.declared.systems.System.{System}
 use Rattle.qp_model.specs.declared.words.Word.TheVariants as word
 use Rattle.qp_model.specs.declared.bodies.Body.{Body}
 use Rattle.qp_model.specs.declared.bodies.Body.TheVariants.{New, Back, Inc, Dec}
-use Rattle.qp_model.specs.Record.{Item}
 use Rattle.qp_model.specs.Lists.{count_up, without_one, without_all, with_number, is_first}
 use Rattle.qp_model.specs.History.{hist, lane_items, all_items}
 use Rattle.qp_model.specs.FreeBlocks.{Pool, pool_next, pool_may, free_blocks}
 use Rattle.qp_model.specs.References.{Refs, refs_next, refs_may, references}
-use Rattle.qp_model.specs.Line.{Line, line}
-use Rattle.qp_model.specs.Sites.{ring_of, blocks_of}
-use Rattle.qp_model.specs.WordLaw.{is_pool, is_block, is_object}
+use Rattle.qp_model.specs.Sites.{blocks_of}
+use Rattle.qp_model.specs.WordLaw.{is_pool, is_block}
 use Rattle.qp_model.proofs.HistoryLemmas.{length-hist, total-length}
 use Rattle.qp_model.proofs.MachineLemmas.{after-keeps, count-after}
-use Rattle.qp_model.proofs.LineLemmas.{line_is, IsLine, line-counts}
 use Rattle.qp_model.proofs.WordLawLemmas.{free_blocks-counts, references-counts}
 use Rattle.qp_table.specs.Counting.{Each, many}
 use Rattle.qp_table.specs.Now.{Now, Leaves}
 use Rattle.qp_table.specs.Rule.{bits_value}
 use Rattle.qp_model.proofs.RecordLemmas.{lane-length}
 
-length-map : (f : Rec → Item) (xs : List Rec) → length (map f xs) ≡ length xs
-length-map f [] = refl
-length-map f (x ∷ xs) = ap suc (length-map f xs)
-
 all-length : (m : ℕ) (lanes : List (List Rec)) → Each (λ (l : List Rec). length l ≤ m) lanes → length (all_items lanes) ≤ m * length lanes
 unfolding all_items
 all-length m [] e = omega arith
 all-length m (l ∷ ls) e = let r = all-length m ls e.1 in let s = lane-length l in let x = e.0 in omega (arith, length-append (lane_items l) (all_items ls), mul-add m 1 (length ls))
-
-filter-length : {X : Type 0} (p : X → Bool) (xs : List X) → length (filter p xs) ≤ length xs
-filter-length p [] = omega arith
-filter-length {X} p (x ∷ xs) = go (p x) (filter-length p xs)
-  where
-    go : (b : Bool) → length (filter p xs) ≤ length xs → length (cond b (x ∷ filter p xs) (filter p xs)) ≤ suc (length xs)
-    go true h = omega arith
-    go false h = omega arith
 
 -- ascending from lo, below n
 abbrev pub Ascends : ℕ → ℕ → List ℕ → Type 0
@@ -183,13 +167,6 @@ module _ (sys : System) (lanes : List (List Rec)) (now : Now) (leaves : Leaves s
   refs-once p b h = subst (λ (s : Refs). Once s.names) (leaves.refs p b h)
       (after-keeps references (λ (s : Refs). Each (λ r. r < s.count) s.names × Once s.names) (λ s i m a. once-step s i.body m a) (tt, λ k. omega arith) (hist (word.Block p b) (all_items lanes)) (leaves.law.blocks p b h).allowed).1
 
-  pub line-sound : (a : ℕ) → IsTrue (is_object sys a) → IsLine (ring_of sys a) (now.line a) × ((now.line a).f + (now.line a).l + (now.line a).m ≤ 49000049)
-  line-sound a h =
-      let k = leaves.law.queues a h in
-      let c = ap (λ (s : Line). s.f + s.l + s.m) (sym (leaves.line a h)) ∙ (count-after (line (ring_of sys a)) (line-counts (ring_of sys a)) (hist (word.Queue a) (all_items lanes)) k.allowed ∙ length-hist (word.Queue a) (all_items lanes) k.numbers) in
-      let t = total-length (word.Queue a) (all_items lanes) in let f = few in
-      (subst (IsLine (ring_of sys a)) (leaves.line a h) (line_is (ring_of sys a) (hist (word.Queue a) (all_items lanes)) k.allowed), omega arith)
-
 pub bits-below : (lo n : ℕ) (xs : List ℕ) → Ascends lo n xs → bits_value xs + 2 ^ lo ≤ 2 ^ n
 bits-below lo n [] a = let p : 2 ^ lo ≤ 2 ^ n = pow_mono a in omega arith
 bits-below lo n (x ∷ xs) a = let r = bits-below (x + 1) n xs a.2 in let p : 2 ^ lo ≤ 2 ^ x = pow_mono a.0 in let d : 2 ^ (x + 1) ≡ 2 ^ x * 2 = (let e : x + 1 ≡ suc x = omega arith in ap (λ z. 2 ^ z) e ∙ pow-suc 2 x) in omega arith
@@ -244,10 +221,6 @@ or-comm : (a b c : Bool) → (a || (b || c)) ≡ (b || (a || c))
 or-comm true true c = refl
 or-comm true false c = refl
 or-comm false b c = refl
-
-or-false : (a : Bool) → (a || false) ≡ (false || a)
-or-false true = refl
-or-false false = refl
 
 pub has-with : (b c : ℕ) (xs : List ℕ) → has (with_number b xs) c ≡ (eqb b c || has xs c)
 has-with b c [] = refl

@@ -1,6 +1,5 @@
 -- Sums over lists with one element changed, added or taken out.
-use Rattle.std.proofs.Common.{◌≡◌, ℕ, zero, suc, ◌+◌, ◌<◌, ◌≤◌, ◌≢◌, List, [], ◌∷◌, ◌++◌, Bool, true, false, cond, length, set, take, refl, sym, ap, arith}
-use Rattle.std.proofs.lemmas.List.{take-append-le}
+use Rattle.std.proofs.Common.{◌≡◌, ℕ, zero, suc, ◌+◌, ◌<◌, ◌≤◌, ◌≢◌, List, [], ◌∷◌, ◌++◌, Bool, true, false, cond, length, set, refl, sym, ap, arith}
 use mathlib.Core.Option.{some, some-injective, some-ne-none}
 use lib.ListN.{get_elem?}
 use Rattle.qp_table.specs.Counting.{Each, total, many, without}
@@ -67,10 +66,6 @@ module _ {A : Type 0} where
   pub many-without : (p q : A → Bool) (b : Bool) → ((x : A) → p x ≡ true → q x ≡ b) → (xs : List A) → 0 < many p xs → many q (without p xs) + cond b 1 0 ≡ many q xs
   many-without p q b same [] h = absurd (omega arith)
   many-without p q b same (x ∷ xs) h = without-one p q b same x xs (many-without p q b same xs) (p x) refl h
-
-  -- the first so many stay so in a longer list
-  pub take-longer : (n : ℕ) (xs ys : List A) → n ≤ length xs → take n (xs ++ ys) ≡ take n xs
-  take-longer n xs ys h = take-append-le n xs ys h
 
   pub get-last : (xs : List A) (x : A) → get_elem? (xs ++ x ∷ []) (length xs) ≡ some x
   get-last [] x = refl

@@ -25,9 +25,6 @@ use Rattle.qp_model.proofs.WordLawLemmas.{references-counts}
 use Rattle.qp_model.proofs.ReferenceLemmas.{Alive, words-inc, words-dec, held-inc, held-dec}
 use Rattle.qp_table.specs.Now.{Now, at, at_two, with_refs, with_line, with_given, content_by, content_from, Leaves}
 
-same-eqb : (a b : ℕ) → (a == b) ≡ eqb a b
-same-eqb a b = refl
-
 -- one changed, and the others
 pub at-here : {X : Type 0} (p : ℕ) (x : X) (f : ℕ → X) → at p x f p ≡ x
 at-here p x f = ap (λ (t : Bool). cond t x (f p)) (eq-eqb p p refl)

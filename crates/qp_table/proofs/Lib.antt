@@ -4,8 +4,6 @@ pub mod Thin
 pub mod Ends
 pub mod Start
 pub mod Running
-pub mod Trying
-pub mod Taking
 pub mod LawLemmas
 pub mod Counting
 pub mod Growing

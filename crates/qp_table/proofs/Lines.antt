@@ -165,14 +165,3 @@ module _ (s t j : ℕ) (en : Entry) where
   pub re-else : (u : ℕ) → u ≢ j → (xs : List InLine) → cell_value u (after xs) ≡ cell_value u xs
   re-else u n [] = refl
   re-else u n (i ∷ is) = re-else-cons u n (p i) i is refl (re-else u n is)
-
-  -- before the change the cell had what the stage says
-  was-cons : (b : Bool) (i : InLine) (is : List InLine) → p i ≡ b → Absent i.cell is → (0 < many p is → cell_value j is ≡ cond (eqb s 1) (code en) 0) → 0 < cond b 1 0 + many p is → cell_value j (i ∷ is) ≡ cond (eqb s 1) (code en) 0
-  was-cons true i is e d rest l = let z = item-is s j en i e in rw (eq-eqb i.cell j z.1) (λ x. cond (eqb (z.0 x) 1) (code (z.2 x)) 0)
-  was-cons false i is e d rest l = dite (ℕ_discrete i.cell j)
-      (λ same. let a = none-passes is (subst (λ (z : ℕ). Absent z is) same d) in absurd (omega arith))
-      (λ other. rw (ne_eqb i.cell j other) (rest (omega arith)))
-
-  pub was-cell : (xs : List InLine) → Distinct xs → 0 < many p xs → cell_value j xs ≡ cond (eqb s 1) (code en) 0
-  was-cell [] d l = absurd (omega arith)
-  was-cell (i ∷ is) d l = was-cons (p i) i is refl d.0 (was-cell is d.1) l

@@ -7,11 +7,10 @@ use Rattle.qp_model.specs.declared.bodies.Body.TheVariants.{Short, NoBlock, Nil,
 use Rattle.qp_model.specs.declared.systems.System.{System}
 use Rattle.qp_model.specs.Record.{Item, item_of, body_of, body_at}
 use Rattle.qp_model.specs.declared.words.Word.{Word}
-use Rattle.qp_model.specs.History.{drawn_on, touch}
+use Rattle.qp_model.specs.History.{drawn_on, touch, hist, all_items}
 use Rattle.qp_model.specs.Sites.{ring_of, blocks_of}
 use Rattle.qp_model.specs.WordLaw.{is_pool, is_block, is_object}
 use Rattle.qp_model.specs.declared.words.Word.TheVariants as word
-use Rattle.qp_model.specs.History.{hist, all_items}
 use Rattle.qp_model.specs.Machine.{after}
 use Rattle.qp_model.specs.FreeBlocks.{Pool, free_blocks}
 use Rattle.qp_model.specs.Lives.{life_of}

@@ -25,13 +25,12 @@ use Rattle.qp_table.proofs.Records.{post-leaves, lifo-leaves, took-leaves}
 use Rattle.qp_table.proofs.Bounds.{refs-count, refs-named}
 use Rattle.qp_table.proofs.Views.{total-two, records-logged, quiet-same, quiet-noted}
 use Rattle.qp_table.proofs.Tokens.{b2n, standing, held-stands}
-use Rattle.qp_table.proofs.Kept.{events-same, shows-queue}
+use Rattle.qp_table.proofs.Kept.{events-same, shows-queue, queue-same}
 use Rattle.qp_table.proofs.Step.{Lane, lane, leaves-here, drawn-step}
 use Rattle.qp_table.proofs.Marks.{high-mark, own-counts, first-small, line-shows}
 use Rattle.qp_table.proofs.Growth.{grows-queue}
 use Rattle.qp_table.proofs.Lines.{entries-length}
 use Rattle.qp_table.proofs.Queue.{fresh_item, queue-post, queue-lifo, queue-took}
-use Rattle.qp_table.proofs.Kept.{queue-same}
 use Rattle.qp_table.proofs.QueueSums.{tokens-line, spent-many, gained-many, item, item-eq, here-meets, else-meets, stage-apart, places-less, queues-one, serves-same, serves-else, serves-home, bump-many}
 
 -- what the records say

@@ -5,7 +5,7 @@ use Rattle.qp_model.specs.declared.record.Rec.{Rec}
 use Rattle.qp_model.specs.declared.systems.System.{System}
 use Rattle.qp_model.specs.declared.words.Word.TheVariants as word
 use Rattle.qp_model.specs.declared.bodies.Entry.{Entry}
-use Rattle.qp_model.specs.declared.bodies.Body.TheVariants.{New, Short, Back, NoBlock, Post, Lifo, Took}
+use Rattle.qp_model.specs.declared.bodies.Body.TheVariants.{New, Short, Back, NoBlock, Post, Lifo, Took, Nil, Seen, Full, NoEntry, NoLifo}
 use Rattle.qp_model.specs.Record.{Item, item_of}
 use Rattle.qp_model.specs.Lists.{without_all, with_number, is_first}
 use Rattle.qp_model.specs.History.{Draws, Shows, touch, drawn_on, hist, all_items}
@@ -18,14 +18,10 @@ use Rattle.qp_model.specs.Sites.{ring_of, blocks_of}
 use Rattle.qp_model.specs.WordLaw.{is_pool, is_block, is_object}
 use Rattle.qp_model.proofs.MachineLemmas.{after-append}
 use Rattle.qp_model.proofs.WordLemmas.{Held, hist-held-draws, hist-stays}
-use Rattle.qp_model.proofs.LineLemmas.{same_number, held-post, held-lifo, held-took}
-use Rattle.qp_model.proofs.WordLawLemmas.{free_blocks-counts, words-queue}
-use Rattle.qp_model.proofs.ReferenceLemmas.{Alive, words-new, words-back, held-new, held-back, alive-referred}
+use Rattle.qp_model.proofs.LineLemmas.{same_number, held-post, held-lifo, held-took, held-seen, held-nil, held-full, held-no_entry, held-no_lifo}
+use Rattle.qp_model.proofs.WordLawLemmas.{free_blocks-counts, words-queue, words-pool}
+use Rattle.qp_model.proofs.ReferenceLemmas.{Alive, words-new, words-back, held-new, held-back, alive-referred, held-short, held-no_block}
 use Rattle.qp_table.specs.Now.{Now, with_line, with_given, content_from, Leaves}
-use Rattle.qp_model.specs.declared.bodies.Body.TheVariants.{Nil, Seen, Full, NoEntry, NoLifo}
-use Rattle.qp_model.proofs.WordLawLemmas.{words-pool}
-use Rattle.qp_model.proofs.ReferenceLemmas.{held-short, held-no_block}
-use Rattle.qp_model.proofs.LineLemmas.{held-seen, held-nil, held-full, held-no_entry, held-no_lifo}
 use Rattle.qp_model.proofs.LifeLemmas.{free-out}
 use Rattle.qp_table.proofs.Growing.{content-append, block-count, pool-leaves, queue-leaves, shown-leaves}
 
@@ -117,9 +113,6 @@ module _ (sys : System) (before : List (List Rec)) (lane : List Rec) (behind : L
     module _ (a : ℕ) (object : IsTrue (is_object sys a)) where
       abbrev held_line : Held Line (line (ring_of sys a)) (word.Queue a) (before ++ lane ∷ behind) (now.line a)
       held_line = record { keeps = leaves.law.queues a object; state = leaves.line a object }
-
-      abbrev mark : ℕ
-      mark = (now.line a).f + (now.line a).l + (now.line a).m
 
       -- a record on the queue of a, after which it holds s
       drawn-line : (i : Item) → item_of r ≡ i → (s : Line) (n : ℕ) → touch i ≡ Draws (word.Queue a) n → Held Line (line (ring_of sys a)) (word.Queue a) grown s → Leaves sys grown (with_line now a s)

@@ -1,19 +1,16 @@
 -- The steps of a running lane, from the lemmas of the rule.
-use Rattle.std.proofs.Common.{◌≡◌, ℕ, ◌+◌, ◌*◌, ◌/◌, ◌%◌, ◌^◌, ◌<◌, ◌≤◌, List, [], ◌∷◌, Bool, cond, length, set, get_or, refl, sym, ap, subst, arith, mod-eq_of_lt, lt-ltb}
-use lib.Seq.{set-get_or}
+use Rattle.std.proofs.Common.{◌≡◌, ℕ, ◌+◌, ◌*◌, ◌/◌, ◌%◌, ◌<◌, ◌≤◌, List, [], ◌∷◌, Bool, cond, set, get_or, refl, sym, ap, subst, arith, mod-eq_of_lt, lt-ltb}
 use Rattle.qp_model.specs.declared.systems.System.{System}
 use Rattle.qp_table.specs.Counting.{Each, many}
-use Rattle.qp_table.specs.Rule.{pool_at, block_at, mark_in, fills_of, is_spot, is_ref, Holds}
-use Rattle.qp_table.specs.After.{rec_of, began, doubled, dropped, put_back, glanced, Steps, HasRoom}
+use Rattle.qp_table.specs.Rule.{block_at, mark_in, fills_of, is_spot, is_ref, Holds}
+use Rattle.qp_table.specs.After.{rec_of, began, doubled, dropped, Steps, HasRoom}
 use Rattle.qp_table.specs.declared.view.Glance.{Glance}
 use Rattle.qp_table.specs.declared.view.View.{View}
 use Rattle.qp_table.proofs.Counting.{each-map}
 use Rattle.qp_table.proofs.Views.{SawFrom}
-use Rattle.qp_table.proofs.Tokens.{fresh-alone, used-alone, standing, held-stands}
-use Rattle.qp_table.proofs.Steps.{inc-says, dec-says, back-says, begins, doubles, drops, puts_back, block-below, x-is, y-is, dec-counts}
-use Rattle.qp_table.specs.Whole.{SeenBelow, Dropped, TellsAll}
-use Rattle.qp_table.proofs.Looks.{looks}
-use Rattle.qp_table.proofs.Ends.{whole}
+use Rattle.qp_table.proofs.Tokens.{fresh-alone, standing, held-stands}
+use Rattle.qp_table.proofs.Steps.{inc-says, dec-says, begins, doubles, drops, block-below, x-is, dec-counts}
+use Rattle.qp_table.specs.Whole.{SeenBelow, Dropped}
 
 -- an addition that does not wrap
 added : (n k : ℕ) → n < 49000050 * 4294967296 → k < 9000000000 → (n + k) % 18446744073709551616 ≡ n + k
@@ -38,13 +35,6 @@ module _ (sys : System) (id : ℕ) (v : View) (own : HasRoom v) (o p b : ℕ) wh
         (refl, omega arith, seen-below words holds.was (block_at p b) (n / 4294967296) v.seen mk (holds.seen.each id v at_id), omega arith),
       )
 
-pub whole-steps : (sys : System) (id : ℕ) (v : View) → length v.logs + length v.lane_numbers ≡ 49 → Steps sys id v 0 (λ n. n) (TellsAll sys v)
-whole-steps sys id v all words views holds at_id small = (
-  glanced v 0 (get_or words 0 0),
-  subst (λ (ws : List ℕ). Holds sys ws (set views id (glanced v 0 (get_or words 0 0)))) (sym (set-get_or words 0 0)) (looks sys words views holds id v at_id 0 (omega arith)),
-  (refl, whole sys words views holds id v at_id all),
-)
-
 -- The other additions: the first reference, another, and a block that comes back
 module _ (sys : System) (id : ℕ) (v : View) (own : HasRoom v) (o p b : ℕ) where
   pub begin-steps : 0 < many (is_spot p b) v.fresh → many (fills_of p b) v.fills ≡ 0
@@ -66,16 +56,4 @@ module _ (sys : System) (id : ℕ) (v : View) (own : HasRoom v) (o p b : ℕ) wh
         doubled v (block_at p b) (n + 4294967297) (rec_of 17 o (p ∷ b ∷ (n / 4294967296) ∷ [])) p b (n / 4294967296),
         subst (λ (y : ℕ). Holds sys (set words (block_at p b) y) (set views id (doubled v (block_at p b) (n + 4294967297) (rec_of 17 o (p ∷ b ∷ (n / 4294967296) ∷ [])) p b (n / 4294967296)))) (sym m) (doubles sys words views holds id v at_id own o p b alone.0 r (n + 4294967297) _ (inc-says o p b (n / 4294967296)) mine refl),
         refl,
-      )
-
-  pub back-steps : (k : ℕ) → k ≡ 4294967296 + 2 ^ b → k < 9000000000 → 0 < many (is_spot p b) v.used
-      → Steps sys id v (pool_at p) (λ n. (n + k) % 18446744073709551616) (λ n u. (to : ℕ) × (u ≡ put_back v (pool_at p) (n + k) (rec_of 19 o (p ∷ (n / 4294967296) ∷ b ∷ to ∷ [])) p b))
-  back-steps k is small_k mine words views holds at_id small =
-      let alone = used-alone sys views holds.now id v at_id holds.tokens p b mine in
-      let n = get_or words (pool_at p) 0 in
-      let y = y-is sys words views holds id v at_id own o p b alone.0 in let y0 = y.0 in let y1 = y.1 in let y2 = y.2 in
-      let m = added n k (omega arith) small_k in (
-        put_back v (pool_at p) (n + k) (rec_of 19 o (p ∷ (n / 4294967296) ∷ b ∷ (holds.now.refs p b).count ∷ [])) p b,
-        subst (λ (z : ℕ). Holds sys (set words (pool_at p) z) (set views id (put_back v (pool_at p) (n + k) (rec_of 19 o (p ∷ (n / 4294967296) ∷ b ∷ (holds.now.refs p b).count ∷ [])) p b))) (sym m) (puts_back sys words views holds id v at_id own o p b alone.0 (n + k) _ (back-says o p (n / 4294967296) b (holds.now.refs p b).count) mine (omega arith)),
-        ((holds.now.refs p b).count, refl),
       )

@@ -32,9 +32,6 @@ own-lane lanes views id v g gs logs at_id head =
     let e = ap length s.2 in let c = logs.count in
     record { before = s.0; behind = s.1; is = s.2; place = s.3; inside = omega (arith, length-append s.0 (g.recs ∷ s.1)) }
 
-some-log : (v : View) (g : Log) (gs : List Log) → v.logs ≡ g ∷ gs → 0 < length v.logs
-some-log v g gs e = rw e (omega arith)
-
 logged-some : (r : Rec) (v u : View) (g : Log) (gs : List Log) → v.logs ≡ g ∷ gs → u.logs ≡ logged r v.logs → 0 < length u.logs
 logged-some r v u g gs head e = rw (e, head) (omega arith)
 

@@ -111,10 +111,6 @@ fewer-gives p b (g ∷ gs) = go (gives_of p b g) refl (fewer-gives p b gs)
     go true e r = omega arith
     go false e r = let z = ap b2n e in omega arith
 
-none-long : (xs : List ℕ) → lives xs ≡ 0 → length xs ≡ 0
-none-long [] e = refl
-none-long (x ∷ xs) e = absurd (omega arith)
-
 module _ (sys : System) (words : List ℕ) (views : List View) (holds : Holds sys words views) (id : ℕ) (v : View) (at_id : get_elem? views id ≡ some v) (own : HasRoom v) (o p b : ℕ) where
   abbrev now : Now
   now = holds.now

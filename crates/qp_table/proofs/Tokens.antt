@@ -1,5 +1,5 @@
 -- Where the blocks and references stand, after a step of one view.
-use Rattle.std.proofs.Common.{◌≡◌, ℕ, ◌+◌, ◌<◌, ◌≤◌, ◌≢◌, ◌⊎◌, List, [], ◌∷◌, ◌++◌, Bool, true, false, cond, ◌&&◌, ◌||◌, length, set, refl, sym, ap, subst, ◌∙◌, inl, inr, arith, eqb, true≢false, eq-eqb, ne_eqb, eqb-true}
+use Rattle.std.proofs.Common.{◌≡◌, ℕ, ◌+◌, ◌<◌, ◌≤◌, ◌≢◌, ◌⊎◌, List, [], ◌∷◌, ◌++◌, Bool, true, false, cond, ◌&&◌, ◌||◌, length, set, refl, sym, ap, subst, ◌∙◌, inl, inr, arith, eqb, eq-eqb, ne_eqb, eqb-true}
 use mathlib.Core.Option.{some}
 use mathlib.Core.Logic.{dite}
 use native.Mathlib.Decide.{ℕ_discrete}
@@ -163,10 +163,6 @@ pub each-two : (Q : ℕ → ℕ → Type 0) (p b : ℕ) → Q p b → ((q c : �
 each-two Q p b here else q c = dite (ℕ_discrete q p)
     (λ e. dite (ℕ_discrete c b) (λ d. subst (λ z. Q z c) (sym e) (subst (Q p) (sym d) here)) (λ n. else q c (inr n)))
     (λ n. else q c (inl n))
-
-pub lives-none : (xs : List ℕ) → length xs ≡ 0 → lives xs ≡ 0
-lives-none [] e = refl
-lives-none (x ∷ xs) e = absurd (omega arith)
 
 pub lives-counted : (xs : List ℕ) → lives xs + cond (eqb (length xs) 0) 1 0 ≡ 1
 lives-counted [] = refl

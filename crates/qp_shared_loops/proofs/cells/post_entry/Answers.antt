@@ -1,7 +1,5 @@
-use Rattle.std.proofs.Common.{Bool, subst}
+use Rattle.std.proofs.Common.{Bool, subst, ◌+◌, ◌%◌, ap, ◌∙◌}
 use Rattle.qp_model.specs.declared.bodies.Entry.{Entry}
-use Rattle.qp_model.specs.Sites.{ring_of}
-use Rattle.std.proofs.Common.{◌+◌, ◌%◌, ap, ◌∙◌}
 use Rattle.qp_shared_loops.specs.Ends.{ClaimEnds}
 use Rattle.qp_shared_loops.proofs.Laying.{claim-there}
 use Rattle.qp_shared_loops.proofs.cells.post_entry.Goals as goal

@@ -1,4 +1,4 @@
-use Rattle.std.proofs.Common.{◌+◌, ◌∙◌, drop, refl, sym, ap, arith}
+use Rattle.std.proofs.Common.{◌+◌, ◌∙◌, drop, refl, sym, ap}
 use Rattle.qp_table.specs.After.{fills_for, filled}
 use Rattle.qp_shared_loops.specs.Ends.{filling}
 use Rattle.qp_shared_loops.proofs.Giving.{signal-written, value-left, value-written, kept-fresh}

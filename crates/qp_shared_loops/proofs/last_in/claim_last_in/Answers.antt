@@ -1,4 +1,4 @@
-use Rattle.std.proofs.Common.{ℕ, ◌+◌, ◌*◌, arith, sym, subst, eqb}
+use Rattle.std.proofs.Common.{ℕ, ◌+◌, ◌*◌, sym, subst, eqb}
 use prog.Atomic.{either}
 use Rattle.qp_model.specs.declared.bodies.Entry.{Entry}
 use Rattle.qp_table.specs.After.{Steps}

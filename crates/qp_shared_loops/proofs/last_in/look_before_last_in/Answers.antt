@@ -1,4 +1,4 @@
-use Rattle.std.proofs.Common.{ℕ, ◌+◌, ◌*◌, arith, sym, subst}
+use Rattle.std.proofs.Common.{ℕ, ◌+◌, ◌*◌, sym, subst}
 use Rattle.qp_table.specs.After.{Steps}
 use Rattle.qp_shared_steps.specs.Told.{EyeLastTold}
 use Rattle.qp_shared_steps.proofs.LawLemmas.{last_eyes_tell}

@@ -1,4 +1,4 @@
-use Rattle.std.proofs.Common.{ℕ, ◌/◌, ◌%◌, Bool, cond, sym, ap, ◌∙◌, eq-eqb, ne_eqb}
+use Rattle.std.proofs.Common.{◌/◌, ◌%◌, Bool, cond, sym, ap, ◌∙◌, eq-eqb, ne_eqb}
 use Rattle.qp_model.specs.declared.bodies.Entry.{Entry}
 use Rattle.qp_model.specs.Record.{entry}
 use Rattle.qp_calls.specs.declared.tokens.Hold.{Hold}
