@@ -1,3 +1,4 @@
+pub mod ActsLemmas
 pub mod Completes
 pub mod CourseLemmas
 pub mod PublicationLemmas
