@@ -8,13 +8,13 @@ use Rattle.qp_base.specs.Sink.{AppendsPrefix, appended}
 use Rattle.qp_base.specs.declared.course.Course.{Course}
 use Rattle.qp_base.specs.declared.course.Course.TheVariants.{Open}
 use Rattle.qp_base.proofs.GatheringLemmas.{told-all}
-use Rattle.qp_run.specs.declared.status.Status.{Status}
-use Rattle.qp_run.specs.declared.status.Status.TheVariants.{Done, Asserted, Spent, WriteFault}
-use Rattle.qp_run.specs.Conversions.{Held, PrintsOne}
-use Rattle.qp_run.specs.Verdict.{Agrees, AnswersWords, Count, Counts, HasCause, HasRisen, IsCall, IsOutput, IsPutFor, Noted, Prints, Stands, Stream, quiet}
+use Rattle.qp_run_parts.specs.declared.status.Status.{Status}
+use Rattle.qp_run_parts.specs.declared.status.Status.TheVariants.{Done, Asserted, Spent, WriteFault}
+use Rattle.qp_run_parts.specs.Conversions.{Held, PrintsOne}
+use Rattle.qp_run_parts.specs.Verdict.{Agrees, AnswersWords, Count, Counts, HasCause, HasRisen, IsCall, IsOutput, IsPutFor, Noted, Prints, Stands, Stream, quiet}
 use Rattle.qp_commands.specs.WordTable.{Asked}
-use Rattle.qp_run.proofs.CallLemmas.{call-stands}
-use Rattle.qp_run.proofs.VerdictLemmas.{prefix-whole}
+use Rattle.qp_run_parts.proofs.CallLemmas.{call-stands}
+use Rattle.qp_run_parts.proofs.VerdictLemmas.{prefix-whole}
 
 -- at first what was put is what the sink below had got
 pub first-told : (course : Course) (gone : ℕ) (held : List ℕ) (below : Option (List ℕ)) → course ≡ Open → held ≡ [] → told_by course gone held below ≡ below

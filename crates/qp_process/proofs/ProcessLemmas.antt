@@ -2,7 +2,7 @@
 use Rattle.std.proofs.Common.{◌≡◌, false, refl}
 use Rattle.std.specs.declared.io.ErrorKind.{ErrorKind}
 use Rattle.std.specs.declared.io.ErrorKind.TheVariants.{InvalidData}
-use Rattle.qp_run.specs.Notes.{names_file}
+use Rattle.qp_run_parts.specs.Notes.{names_file}
 use Rattle.qp_process.specs.Process.{unread}
 
 -- the line names no file

@@ -8,11 +8,11 @@ use Rattle.std.specs.declared.io.ErrorKind.TheVariants.{InvalidData}
 use Rattle.std.specs.declared.vec.IntoIter.{IntoIter}
 use Rattle.std.specs.Vec.Iter.{into_iter_items}
 use Rattle.clap.specs.Words.{Text}
-use Rattle.qp_run.specs.declared.status.Status.{Status}
-use Rattle.qp_run.specs.declared.status.Status.TheVariants.{Words, Memory}
-use Rattle.qp_run.specs.Conversions.{Held}
-use Rattle.qp_run.specs.Notes.{number_of}
-use Rattle.qp_run.specs.Verdict.{Counts, IsCall, IsPutFor, Noted, Stands, Stream}
+use Rattle.qp_run_parts.specs.declared.status.Status.{Status}
+use Rattle.qp_run_parts.specs.declared.status.Status.TheVariants.{Words, Memory}
+use Rattle.qp_run_parts.specs.Conversions.{Held}
+use Rattle.qp_run_parts.specs.Notes.{number_of}
+use Rattle.qp_run_parts.specs.Verdict.{Counts, IsCall, IsPutFor, Noted, Stands, Stream}
 use Rattle.qp_commands.specs.WordTable.{command_in}
 
 -- the arguments of a process, as `env::args` gives them

@@ -2,8 +2,8 @@
 
 ghost use Rattle.std.specs.Prelude.{◌≡◌};
 ghost use Rattle.std.specs.Process.{exit_status};
-ghost use Rattle.qp_run.specs.Notes.{number_of};
-ghost use Rattle.qp_run.specs.Verdict.{IsCall, count_of, stream_of, writes_of};
+ghost use Rattle.qp_run_parts.specs.Notes.{number_of};
+ghost use Rattle.qp_run_parts.specs.Verdict.{IsCall, count_of, stream_of, writes_of};
 ghost use Rattle.qp_commands.specs.WordTable.{command_in};
 ghost use Rattle.qp_process.specs.Process.{EndsUntold, EndsWith, IsAnswered, words_in};
 

@@ -1,8 +1,8 @@
 //! Calls whose output is gathered.
 
 ghost use Rattle.std.specs.Prelude.{◌≡◌, length, IfSome, option_map};
-ghost use Rattle.qp_run.specs.Sealed.{Seals};
-ghost use Rattle.qp_run.specs.Verdict.{IsCall, count_of, stream_of, writes_of};
+ghost use Rattle.qp_run_parts.specs.Sealed.{Seals};
+ghost use Rattle.qp_run_parts.specs.Verdict.{IsCall, count_of, stream_of, writes_of};
 ghost use Rattle.qp_commands.specs.WordTable.{command_in, texts};
 
 use qp_base::{Beginning, Gate, Gathered, Shelf, Sink};

@@ -2,21 +2,18 @@
 ghost use Rattle.std.specs.Prelude.{◌≡◌, ◌≢◌, ◌⊎◌, true, false, Option, Some, IfSome, option_map};
 ghost use Rattle.qp_base.specs.Counts.{Rose};
 ghost use Rattle.qp_base.specs.Sink.{AppendsPrefix, appended};
-ghost use Rattle.qp_run.specs.Notes.{names_file};
-ghost use Rattle.qp_run.specs.Sealed.{Seals};
-ghost use Rattle.qp_run.specs.Verdict.{Agrees, AnswersWords, HasCause, IsCall, IsNamed, IsPutFor, Noted, Prints, Stands, count_of, stream_of, writes_of};
+ghost use Rattle.qp_run_parts.specs.Notes.{names_file};
+ghost use Rattle.qp_run_parts.specs.Sealed.{Seals};
+ghost use Rattle.qp_run_parts.specs.Verdict.{Agrees, AnswersWords, HasCause, IsCall, IsNamed, IsPutFor, Noted, Prints, Stands, count_of, stream_of, writes_of};
 ghost use Rattle.qp_commands.specs.WordTable.{Asked, asked_of, command_in, is_in_limits, texts};
-ghost use Rattle.qp_run.specs.declared.status.Status.{Status};
+ghost use Rattle.qp_run_parts.specs.declared.status.Status.{Status};
 
-use crate::checking::check_files;
-use crate::conversions::{decode, migrate};
-use crate::ran::{Finished, kept_seal};
-use crate::replaying::replay_files;
-use crate::runs::{run_files, run_made};
-use crate::status::Status;
 use qp_base::{Gate, Shelf, Sink};
 use qp_commands::{Command, command_of};
-use qp_wait_runs::Sealed;
+use qp_run_parts::{Finished, Sealed, Status};
+use qp_run_parts::{
+    check_files, decode, kept_seal, migrate, replay_files, run_files, run_made,
+};
 use std::alloc::{AllocError, Global};
 use std::sync::Wait;
 use std::thread::Threads;

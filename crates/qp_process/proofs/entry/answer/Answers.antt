@@ -1,6 +1,6 @@
 use Rattle.std.proofs.Common.{◌∙◌, ap}
 use Rattle.std.specs.IoError.{error_kind}
-use Rattle.qp_run.specs.Notes.{names_file}
+use Rattle.qp_run_parts.specs.Notes.{names_file}
 use Rattle.qp_process.proofs.ProcessLemmas.{unread-plain}
 use Rattle.qp_process.proofs.entry.answer.Goals as goal
 

@@ -1,6 +1,6 @@
 use Rattle.std.proofs.Common.{◌≡◌, ◌∙◌, ap, map, string_bytes}
 use Rattle.qp_commands.specs.WordTable.{command_in, texts}
-use Rattle.qp_run.proofs.CallLemmas.{memory-call}
+use Rattle.qp_run_parts.proofs.CallLemmas.{memory-call}
 use Rattle.qp_process.specs.Process.{words_in}
 use Rattle.qp_process.proofs.entry.call.Goals as goal
 

@@ -1,10 +1,10 @@
 use Rattle.std.proofs.Common.{◌+◌, ◌∙◌, ap, refl, subst, sym}
 use Rattle.qp_base.specs.Counts.{Rose}
 use Rattle.qp_base.specs.Gathering.{IsBegun, told}
-use Rattle.qp_run.specs.Verdict.{Count, Stream}
+use Rattle.qp_run_parts.specs.Verdict.{Count, Stream}
 use Rattle.qp_commands.specs.WordTable.{command_in, texts}
-use Rattle.qp_run.proofs.CallLemmas.{memory-call}
-use Rattle.qp_run.proofs.SealLemmas.{failed-seals, whole-seals}
+use Rattle.qp_run_parts.proofs.CallLemmas.{memory-call}
+use Rattle.qp_run_parts.proofs.SealLemmas.{failed-seals, whole-seals}
 use Rattle.qp_process.proofs.PieceLemmas.{first-told, part-call, whole-call}
 use Rattle.qp_process.proofs.pieces.gathered.Goals as goal
 

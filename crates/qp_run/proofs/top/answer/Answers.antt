@@ -1,7 +1,7 @@
 use Rattle.std.proofs.Common.{refl, sym}
 use Rattle.qp_commands.proofs.LimitLemmas.{asked-limits}
-use Rattle.qp_run.proofs.VerdictLemmas.{told-unnamed}
-use Rattle.qp_run.proofs.SealLemmas.{unended-seals}
+use Rattle.qp_run_parts.proofs.VerdictLemmas.{told-unnamed}
+use Rattle.qp_run_parts.proofs.SealLemmas.{unended-seals}
 use Rattle.qp_run.proofs.top.answer.Goals as goal
 
 pub returns-in-Ok-None-clause-told : goal.returns-in-Ok-None-clause-told

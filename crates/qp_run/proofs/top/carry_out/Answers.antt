@@ -1,7 +1,7 @@
 use Rattle.std.proofs.Common.{refl}
 use Rattle.std.proofs.lemmas.Bool.{and_parts}
 use Rattle.qp_commands.proofs.LimitLemmas.{limit-few, limit-some}
-use Rattle.qp_run.proofs.VerdictLemmas.{agrees-check, agrees-decode, agrees-generate, agrees-migrate, agrees-replay, agrees-run}
+use Rattle.qp_run_parts.proofs.VerdictLemmas.{agrees-check, agrees-decode, agrees-generate, agrees-migrate, agrees-replay, agrees-run}
 use Rattle.qp_run.proofs.top.carry_out.Goals as goal
 
 pub returns-in-Run-clause-told : goal.returns-in-Run-clause-told

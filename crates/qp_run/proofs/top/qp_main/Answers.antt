@@ -1,7 +1,7 @@
 use Rattle.qp_commands.specs.WordTable.{command_in, texts}
-use Rattle.qp_run.specs.Verdict.{count_of, stream_of, writes_of}
-use Rattle.qp_run.proofs.CallLemmas.{call-stands}
-use Rattle.qp_run.proofs.SealLemmas.{seals-stand}
+use Rattle.qp_run_parts.specs.Verdict.{count_of, stream_of, writes_of}
+use Rattle.qp_run_parts.proofs.CallLemmas.{call-stands}
+use Rattle.qp_run_parts.proofs.SealLemmas.{seals-stand}
 use Rattle.qp_run.proofs.top.qp_main.Goals as goal
 
 pub returns-clause-call : goal.returns-clause-call

@@ -1,10 +1,10 @@
 use Rattle.std.proofs.Common.{◌∙◌, ap, sym}
 use Rattle.std.proofs.lemmas.Bool.{false≢true}
-use Rattle.qp_run.specs.Notes.{names_file}
-use Rattle.qp_run.specs.Verdict.{IsPutFor}
-use Rattle.qp_run.specs.declared.status.Status.TheVariants.{Memory}
-use Rattle.qp_run.proofs.CallLemmas.{memory-put, stands-memory}
-use Rattle.qp_run.proofs.VerdictLemmas.{noted-put, noted-wider}
+use Rattle.qp_run_parts.specs.Notes.{names_file}
+use Rattle.qp_run_parts.specs.Verdict.{IsPutFor}
+use Rattle.qp_run_parts.specs.declared.status.Status.TheVariants.{Memory}
+use Rattle.qp_run_parts.proofs.CallLemmas.{memory-put, stands-memory}
+use Rattle.qp_run_parts.proofs.VerdictLemmas.{noted-put, noted-wider}
 use Rattle.qp_run.proofs.top.report.Goals as goal
 
 pub returns-in-Ok-clause-notes : goal.returns-in-Ok-clause-notes

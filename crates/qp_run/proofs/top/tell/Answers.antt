@@ -1,5 +1,5 @@
 use Rattle.std.proofs.Common.{◌∙◌, sym}
-use Rattle.qp_run.proofs.VerdictLemmas.{noted-put, noted-done, not-done}
+use Rattle.qp_run_parts.proofs.VerdictLemmas.{noted-put, noted-done, not-done}
 use Rattle.qp_run.proofs.top.tell.Goals as goal
 
 pub returns-then-is_done-clause-notes : goal.returns-then-is_done-clause-notes

@@ -1,5 +1,0 @@
-use Rattle.qp_run.proofs.AnswerLaw.{one-answer}
-use Rattle.qp_run.proofs.laws.one_answer.Goals as goal
-
-pub returns : goal.returns
-returns c = one-answer

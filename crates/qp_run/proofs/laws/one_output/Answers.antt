@@ -1,5 +1,0 @@
-use Rattle.qp_run.proofs.OutputLaw.{one-output}
-use Rattle.qp_run.proofs.laws.one_output.Goals as goal
-
-pub returns : goal.returns
-returns c = one-output
