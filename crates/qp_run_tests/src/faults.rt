@@ -1,76 +1,23 @@
 //! Calls of which something fails: each put of their output in turn, each load, and the put of the note; line by line and in pieces.
 
-use crate::samples::{Ended, LAMP, TABLE, ask, shelf};
+use crate::asked::{Ended, Failing, NOTHING, World};
+use crate::samples::{LAMP, TABLE};
 use qp_process::Flow;
-use std::alloc::{AllocError, Global};
+use std::alloc::Global;
 use std::process::Abort;
-use std::str::from_utf8;
 use std::sync::Wait;
-use std::test::Fail;
 use std::thread::Threads;
 
 /// A call: its words, the byte that ends each of its puts where they go line by line, and how many files it loads.
 type Call = (&'static [&'static str], u8, u64);
 
-/// The files of a call, and how its output goes on.
-#[derive(Clone, Copy)]
-struct World<'t> {
-    files: &'t [(&'t str, &'t str)],
-    frames: &'t [u8],
-    flow: Flow,
+/// Whether the byte of this number is the last of a put.
+fn ends_put(flow: Flow, whole: &[u8], i: usize, is_end: bool) -> bool {
+    i.saturating_add(1) == whole.len() || is_end && flow == Flow::Lines
 }
-
-/// What is to fail: loads by their numbers, and puts of the output and of the note, each with how many bytes it keeps.
-#[derive(Clone, Copy)]
-struct Failing<'f> {
-    loads: &'f [u64],
-    puts: &'f [(u64, u64)],
-    notes: &'f [(u64, u64)],
-}
-
-const NOTHING: Failing<'static> = Failing {
-    loads: &[],
-    puts: &[],
-    notes: &[],
-};
 
 impl World<'_> {
-    /// What a call comes to.
-    fn ask<R: Threads + Wait + Sync>(
-        &self,
-        waits: &R,
-        alloc: Global,
-        words: &[&str],
-        failing: Failing<'_>,
-    ) -> Result<Ended, AllocError> {
-        let mut files = shelf(alloc, self.files, self.frames, failing.loads)?;
-        ask(
-            waits,
-            alloc,
-            words,
-            &mut files,
-            self.flow,
-            1 << 16,
-            failing.puts,
-            failing.notes,
-        )
-    }
-
-    /// Whether a call has this answer, output and note.
-    fn is_so<R: Threads + Wait + Sync>(
-        &self,
-        waits: &R,
-        alloc: Global,
-        words: &[&str],
-        failing: Failing<'_>,
-        want: (u8, &[u8], &str),
-    ) -> Result<bool, AllocError> {
-        let (answer, out, note) = want;
-        let ended = self.ask(waits, alloc, words, failing)?;
-        Ok(ended.is(answer, out, note))
-    }
-
-    /// Whether the put of this number, which begins at this place of the whole output, leaves what it has kept: no byte, or one.
+    /// Whether the put of this number leaves what it has kept of an output of which so many bytes have gone on then.
     fn keeps<R: Threads + Wait + Sync>(
         &self,
         waits: &R,
@@ -79,116 +26,96 @@ impl World<'_> {
         whole: &[u8],
         put: u64,
         start: usize,
-    ) -> Result<bool, AllocError> {
-        let mut is_right = true;
-        for kept in [0u8, 1] {
-            let end = start.saturating_add(usize::from(kept));
-            let front = whole.get(..end).unwrap_or(&[]);
-            let puts = [(put, u64::from(kept))];
-            let failing = Failing {
-                puts: &puts,
-                ..NOTHING
-            };
-            let want = (7, front, "qp: write fault\n");
-            is_right &= self.is_so(waits, alloc, words, failing, want)?;
-        }
-        Ok(is_right)
+        kept: u8,
+    ) -> bool {
+        let end = start.saturating_add(usize::from(kept));
+        let front = whole.get(..end).unwrap_or(&[]);
+        let failing = Failing {
+            puts: &[(put, u64::from(kept))],
+            ..NOTHING
+        };
+        self.is_so(
+            waits,
+            alloc,
+            words,
+            &failing,
+            (7, front, "qp: write fault\n"),
+        )
     }
 
-    /// How many puts of a call were tried, each of which failed in turn and left what it should; None where one left something else.
-    fn puts<R: Threads + Wait + Sync>(
+    /// Whether each put of a call that fails in turn leaves what it should, after keeping no byte or one, and it has no more of them.
+    fn puts_fail<R: Threads + Wait + Sync>(
         &self,
         waits: &R,
         alloc: Global,
         words: &[&str],
         ends: u8,
         whole: &[u8],
-    ) -> Result<Option<u64>, AllocError> {
+    ) -> bool {
+        let mut is_right = true;
         let (mut put, mut start) = (0u64, 0usize);
-        for piece in whole.split_inclusive(|byte| *byte == ends) {
-            if !self.keeps(waits, alloc, words, whole, put, start)? {
-                return Ok(None);
+        for (i, byte) in whole.iter().enumerate() {
+            if ends_put(self.flow, whole, i, *byte == ends) {
+                is_right &= self.keeps(waits, alloc, words, whole, put, start, 0);
+                is_right &= self.keeps(waits, alloc, words, whole, put, start, 1);
+                put = put.saturating_add(1);
+                start = i.saturating_add(1);
             }
-            put = put.saturating_add(1);
-            start = match self.flow {
-                Flow::Lines => start.saturating_add(piece.len()),
-                Flow::Pieces => return Ok(Some(1)),
-            };
         }
-        Ok(Some(put))
+        let failing = Failing {
+            puts: &[(put, 0)],
+            ..NOTHING
+        };
+        is_right && self.is_so(waits, alloc, words, &failing, (0, whole, ""))
     }
 
-    /// Whether a call has as many puts as it is to have, and each that fails leaves what it should.
-    fn puts_fail<R: Threads + Wait + Sync>(
+    /// Whether a call is done and has an output, each of whose puts fails as it should.
+    fn is_put<R: Threads + Wait + Sync>(&self, waits: &R, alloc: Global, call: &Call) -> bool {
+        let (words, ends, _) = call;
+        let whole = self.ask(waits, alloc, words, &NOTHING);
+        let bytes = whole.bytes();
+        whole.is_done() && !bytes.is_empty() && self.puts_fail(waits, alloc, words, *ends, bytes)
+    }
+
+    /// Whether a call of which these loads and these puts of the note fail comes to this answer, output and note.
+    fn fails_so<'f, R: Threads + Wait + Sync>(
         &self,
         waits: &R,
         alloc: Global,
-        (words, ends, _): &Call,
-    ) -> Result<bool, AllocError> {
-        let whole = self.ask(waits, alloc, words, NOTHING)?;
-        let bytes = whole.out.bytes();
-        if whole.answer != 0 || !whole.note.bytes().is_empty() || bytes.is_empty() {
-            return Ok(false);
-        }
-        let Some(puts) = self.puts(waits, alloc, words, *ends, bytes)? else {
-            return Ok(false);
-        };
-        let puts = [(puts, 0)];
+        words: &[&str],
+        loads: &'f [u64],
+        notes: &'f [(u64, u64)],
+        want: (u8, &[u8], &str),
+    ) -> bool {
         let failing = Failing {
-            puts: &puts,
+            loads,
+            notes,
             ..NOTHING
         };
-        self.is_so(waits, alloc, words, failing, (0, bytes, ""))
+        self.is_so(waits, alloc, words, &failing, want)
     }
 
     /// Whether each load of a call that fails is told, puts nothing, and is a failed write where its note can't be put.
-    fn loads_fail<R: Threads + Wait + Sync>(
-        &self,
-        waits: &R,
-        alloc: Global,
-        (words, _, loads): &Call,
-    ) -> Result<bool, AllocError> {
+    fn loads_fail<R: Threads + Wait + Sync>(&self, waits: &R, alloc: Global, call: &Call) -> bool {
+        let (words, _, loads) = call;
         let mut is_right = true;
         for load in 0..*loads {
-            let loads = [load];
-            let failing = Failing {
-                loads: &loads,
-                ..NOTHING
-            };
-            is_right &= self.is_so(waits, alloc, words, failing, (6, b"", "qp: read fault\n"))?;
-            for (kept, note) in [(0, ""), (1, "q")] {
-                let notes = [(0, kept)];
-                let both = Failing {
-                    notes: &notes,
-                    ..failing
-                };
-                is_right &= self.is_so(waits, alloc, words, both, (7, b"", note))?;
-            }
+            let told = "qp: read fault\n";
+            is_right &= self.fails_so(waits, alloc, words, &[load], &[], (6, b"", told));
+            is_right &= self.fails_so(waits, alloc, words, &[load], &[(0, 0)], (7, b"", ""));
+            is_right &= self.fails_so(waits, alloc, words, &[load], &[(0, 1)], (7, b"", "q"));
         }
-        Ok(is_right)
+        is_right
     }
-}
 
-impl World<'_> {
     /// Whether a call has this answer and note, and is a failed write with the same output where the note's put fails.
-    fn note_fails<R: Threads + Wait + Sync>(
-        &self,
-        waits: &R,
-        alloc: Global,
-        (words, answer, note): &Noted,
-    ) -> Result<bool, AllocError> {
-        let ended = self.ask(waits, alloc, words, NOTHING)?;
-        let out = ended.out.bytes();
-        let mut is_right = ended.answer == *answer && ended.note.bytes() == note.as_bytes();
-        for (kept, front) in [(0, ""), (1, "q")] {
-            let notes = [(0, kept)];
-            let failing = Failing {
-                notes: &notes,
-                ..NOTHING
-            };
-            is_right &= self.is_so(waits, alloc, words, failing, (7, out, front))?;
-        }
-        Ok(is_right)
+    fn is_noted<R: Threads + Wait + Sync>(&self, waits: &R, alloc: Global, noted: &Noted) -> bool {
+        let (words, answer, note) = noted;
+        let ended = self.ask(waits, alloc, words, &NOTHING);
+        let out = ended.bytes();
+        ended.is(*answer, out, note)
+            && self.fails_so(waits, alloc, words, &[], &[(0, 0)], (7, out, ""))
+            && self.fails_so(waits, alloc, words, &[], &[(0, 1)], (7, out, "q"))
     }
 }
 
@@ -242,41 +169,44 @@ const FILES: [(&str, &str); 5] = [
 ];
 
 /// Asserts it of each call, whose output goes on so.
-fn expect<R: Abort + Threads + Wait + Sync>(
-    rt: &R,
-    alloc: Global,
-    world: &World<'_>,
-) -> Result<(), AllocError> {
+fn expect<R: Abort + Threads + Wait + Sync>(rt: &R, alloc: Global, world: &World<'_>) {
     for (i, call) in CALLS.iter().enumerate() {
-        let is_right = world.puts_fail(rt, alloc, call)? && world.loads_fail(rt, alloc, call)?;
+        let is_right = world.is_put(rt, alloc, call) && world.loads_fail(rt, alloc, call);
         assert!(rt; is_right, "call {i}");
     }
-    Ok(())
+}
+
+/// The same over these files, a journal, and one as frames.
+fn expect_beside<R: Abort + Threads + Wait + Sync>(
+    rt: &R,
+    alloc: Global,
+    journal: &Ended,
+    frames: &Ended,
+) {
+    let [lamp, pooled, go, table, two] = FILES;
+    let files = [lamp, pooled, go, table, two, ("journal", journal.text())];
+    for flow in [Flow::Lines, Flow::Pieces] {
+        let world = World {
+            files: &files,
+            frames: frames.bytes(),
+            flow,
+        };
+        expect(rt, alloc, &world);
+    }
 }
 
 #[test]
-fn each_put_and_each_load_fails_in_turn(rt: HostRuntime) -> Result<(), Fail> {
+fn each_put_and_each_load_fails_in_turn(rt: HostRuntime) {
     let alloc = rt.alloc();
     let world = World {
         files: &FILES,
         frames: &[],
         flow: Flow::Lines,
     };
-    let journal = world.ask(&rt, alloc, &["run", "table", "two"], NOTHING)?;
-    let frames = ["run", "--out", "frames", "table", "two"];
-    let frames = world.ask(&rt, alloc, &frames, NOTHING)?;
-    let [lamp, pooled, go, table, two] = FILES;
-    let journal = ("journal", from_utf8(journal.out.bytes()).unwrap_or(""));
-    let files = [lamp, pooled, go, table, two, journal];
-    for flow in [Flow::Lines, Flow::Pieces] {
-        let world = World {
-            files: &files,
-            frames: frames.out.bytes(),
-            flow,
-        };
-        expect(&rt, alloc, &world)?;
-    }
-    Ok(())
+    let journal = world.ask(&rt, alloc, &["run", "table", "two"], &NOTHING);
+    let words = ["run", "--out", "frames", "table", "two"];
+    let frames = world.ask(&rt, alloc, &words, &NOTHING);
+    expect_beside(&rt, alloc, &journal, &frames);
 }
 
 /// Words, the number of the answer, and the note.
@@ -324,7 +254,7 @@ const NOTED_FILES: [(&str, &str); 6] = [
 ];
 
 #[test]
-fn a_note_that_fails_is_a_failed_write(rt: HostRuntime) -> Result<(), Fail> {
+fn a_note_that_fails_is_a_failed_write(rt: HostRuntime) {
     let alloc = rt.alloc();
     for flow in [Flow::Lines, Flow::Pieces] {
         let world = World {
@@ -333,8 +263,7 @@ fn a_note_that_fails_is_a_failed_write(rt: HostRuntime) -> Result<(), Fail> {
             flow,
         };
         for noted in &NOTED {
-            assert!(rt; world.note_fails(&rt, alloc, noted)?, "status {}", noted.1);
+            assert!(rt; world.is_noted(&rt, alloc, noted), "status {}", noted.1);
         }
     }
-    Ok(())
 }

@@ -1,12 +1,11 @@
 //! Calls whose output goes on in pieces, to sinks that take all of it and to sinks that fail.
 
-use crate::samples::{LAMP, ask, shelf};
-use qp_base::MemShelf;
+use crate::asked::{Failing, World};
+use crate::samples::LAMP;
 use qp_process::Flow;
 use std::alloc::{AllocError, Global};
 use std::process::Abort;
 use std::sync::Wait;
-use std::test::Fail;
 use std::thread::Threads;
 
 /// The room for the output, its puts that fail and those of the note, each with how many bytes it keeps; and what the call comes to: the
@@ -29,26 +28,23 @@ struct Call<'t> {
 }
 
 /// Whether the call comes to what the case says.
-fn is_so<R: Threads + Wait + Sync>(
-    waits: &R,
-    alloc: Global,
-    call: &Call<'_>,
-    files: &mut MemShelf,
-    case: &Case,
-) -> Result<bool, AllocError> {
+fn is_so<R: Threads + Wait + Sync>(waits: &R, alloc: Global, call: &Call<'_>, case: &Case) -> bool {
     let (room, puts, notes, answer, len, note) = *case;
-    let ended = ask(
-        waits,
-        alloc,
-        call.words,
-        files,
-        Flow::Pieces,
+    let world = World {
+        files: call.files,
+        frames: &[],
+        flow: Flow::Pieces,
+    };
+    let failing = Failing {
         room,
+        loads: &[],
         puts,
         notes,
-    )?;
-    let front = call.whole.as_bytes().get(..len).unwrap_or(&[]);
-    Ok(front.len() == len && ended.is(answer, front, note))
+    };
+    match call.whole.as_bytes().get(..len) {
+        Some(front) => world.is_so(waits, alloc, call.words, &failing, (answer, front, note)),
+        None => false,
+    }
 }
 
 /// Asserts that the call comes to what each case says.
@@ -57,34 +53,39 @@ fn expect<R: Abort + Threads + Wait + Sync>(
     alloc: Global,
     call: &Call<'_>,
     cases: &[Case],
-) -> Result<(), AllocError> {
-    let mut files = shelf(alloc, call.files, &[], &[])?;
+) {
     for (i, case) in cases.iter().enumerate() {
-        assert!(rt; is_so(rt, alloc, call, &mut files, case)?, "case {i}");
+        assert!(rt; is_so(rt, alloc, call, case), "case {i}");
     }
-    Ok(())
 }
 
 /// A journal of so many records, each a line of 8 bytes, and 27 bytes besides.
 fn journal(alloc: Global, records: usize) -> Result<String, AllocError> {
-    let records = "begin 1\n".repeat(alloc, records)?;
-    format!(in alloc; "qp 1 0 100000\nlane 0\n{records}end 0\n")
+    let mut text = String::from_str(alloc, "qp 1 0 100000\nlane 0\n")?;
+    for _ in 0..records {
+        text.push_str("begin 1\n")?;
+    }
+    text.push_str("end 0\n")?;
+    Ok(text)
 }
 
-/// The same of what `migrate --to 1` makes of a journal in form 1, which is the journal again.
+/// The same of what `migrate --to 1` makes of a journal in form 1, which is the journal again. Whether there was memory for it.
 fn expect_again<R: Abort + Threads + Wait + Sync>(
     rt: &R,
     alloc: Global,
     records: usize,
     cases: &[Case],
-) -> Result<(), AllocError> {
-    let text = journal(alloc, records)?;
+) -> bool {
+    let Ok(text) = journal(alloc, records) else {
+        return false;
+    };
     let call = Call {
         words: &["migrate", "--to", "1", "journal"],
         files: &[("journal", text.as_str())],
         whole: text.as_str(),
     };
-    expect(rt, alloc, &call, cases)
+    expect(rt, alloc, &call, cases);
+    true
 }
 
 const FAULT: &str = "qp: write fault\n";
@@ -114,7 +115,7 @@ const SHORT: [Case; 3] = [
 ];
 
 /// A run of the lamp that spends its budget, which is one event, and has two.
-const SPENDING: Call<'static> = Call {
+const SPENDING: Call = Call {
     words: &["run", "--budget", "1", "system", "stimuli"],
     files: &[
         ("system", LAMP),
@@ -152,7 +153,7 @@ const SPENT: [Case; 3] = [
 ];
 
 /// A refusal puts nothing but its line.
-const REFUSED: Call<'static> = Call {
+const REFUSED: Call = Call {
     words: &["decode", "x.qs"],
     files: &[],
     whole: "",
@@ -161,11 +162,9 @@ const REFUSED: Call<'static> = Call {
 const REFUSALS: [Case; 1] = [(0, &[(0, 0)], &[], 2, 0, "qp: x.qs: absent\n")];
 
 #[test]
-fn outputs_go_on_in_pieces(rt: HostRuntime) -> Result<(), Fail> {
+fn outputs_go_on_in_pieces(rt: HostRuntime) {
     let alloc = rt.alloc();
-    expect_again(&rt, alloc, 20000, &LONG)?;
-    expect_again(&rt, alloc, 3, &SHORT)?;
-    expect(&rt, alloc, &SPENDING, &SPENT)?;
-    expect(&rt, alloc, &REFUSED, &REFUSALS)?;
-    Ok(())
+    assert!(rt; expect_again(&rt, alloc, 20000, &LONG) && expect_again(&rt, alloc, 3, &SHORT));
+    expect(&rt, alloc, &SPENDING, &SPENT);
+    expect(&rt, alloc, &REFUSED, &REFUSALS);
 }

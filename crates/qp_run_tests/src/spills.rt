@@ -4,8 +4,8 @@
 //! before it, and each other step 5, since a lamp that is on doesn't handle the event. So 999,990 records stand before the last look, and
 //! the last step takes 3 up to its take.
 
-use crate::samples::{LAMP, ask, shelf};
-use qp_base::MemShelf;
+use crate::asked::{NOTHING, World};
+use crate::samples::LAMP;
 use qp_process::Flow;
 use std::alloc::{AllocError, Global};
 use std::sync::Wait;
@@ -13,11 +13,6 @@ use std::thread::Threads;
 
 /// So many events are posted.
 const EVENTS: u64 = 199_998;
-
-fn stimuli(alloc: Global) -> Result<String, AllocError> {
-    let posts = "post lamp GO\n".repeat(alloc, EVENTS as usize)?;
-    format!(in alloc; "source 1\n{posts}")
-}
 
 /// The start and the first step.
 const START: &str = "qp 1 0 1000000
@@ -34,47 +29,43 @@ enter 1 2
 done 1
 ";
 
-/// The look that finds event `k`, its take, and the lines behind it.
-fn put_step(text: &mut String, alloc: Global, k: u64, behind: &str) -> Result<(), AllocError> {
-    let before = k.saturating_sub(1);
-    let lines = format!(in alloc;
+/// The look that finds the event behind so many, its take, and the lines behind it.
+fn put_step(text: &mut String, before: u64, behind: &str) -> Result<(), AllocError> {
+    let k = before.saturating_add(1);
+    write!(
+        text,
         "look 0 {k} 0\nseen 0 1 {k} 0 {before}\ntook 1 {k} 0 {k} 0 4 0\n{behind}"
-    )?;
-    text.push_str(lines.as_str())
+    )
 }
 
-/// The post of event `k`.
-fn put_post(text: &mut String, alloc: Global, k: u64) -> Result<(), AllocError> {
-    let before = k.saturating_sub(1);
-    let lines = format!(in alloc; "stim 0 {k} {k}\npost 0 1 {k} 0 {before} 0 4 0\n")?;
-    text.push_str(lines.as_str())
+/// The post of the event behind so many.
+fn put_post(text: &mut String, before: u64) -> Result<(), AllocError> {
+    let k = before.saturating_add(1);
+    write!(text, "stim 0 {k} {k}\npost 0 1 {k} 0 {before} 0 4 0\n")
 }
 
 /// The journal whose lane 0 goes on behind the last take with these lines.
-fn put_journal(text: &mut String, alloc: Global, last: &str) -> Result<(), AllocError> {
-    text.push_str(START)?;
-    for k in 2..EVENTS {
-        put_step(text, alloc, k, "none 1\ndone 1\n")?;
+fn journal(alloc: Global, last: &str) -> Result<String, AllocError> {
+    let mut text = String::from_str(alloc, START)?;
+    for before in 1..EVENTS - 1 {
+        put_step(&mut text, before, "none 1\ndone 1\n")?;
     }
-    put_step(text, alloc, EVENTS, last)?;
+    put_step(&mut text, EVENTS - 1, last)?;
     text.push_str("lane 1\n")?;
-    for k in 1..=EVENTS {
-        put_post(text, alloc, k)?;
+    for before in 0..EVENTS {
+        put_post(&mut text, before)?;
     }
-    text.push_str("end 4\n")
+    text.push_str("end 4\n")?;
+    Ok(text)
 }
 
-/// The system, the stimuli, and the journal that ends so.
-fn files(alloc: Global, last: &str) -> Result<MemShelf, AllocError> {
-    let stimuli = stimuli(alloc)?;
-    let mut journal = String::new(alloc);
-    put_journal(&mut journal, alloc, last)?;
-    let files = [
-        ("system", LAMP),
-        ("stimuli", stimuli.as_str()),
-        ("journal", journal.as_str()),
-    ];
-    shelf(alloc, &files, &[], &[])
+/// The stimuli.
+fn stimuli(alloc: Global) -> Result<String, AllocError> {
+    let mut text = String::from_str(alloc, "source 1\n")?;
+    for _ in 0..EVENTS {
+        text.push_str("post lamp GO\n")?;
+    }
+    Ok(text)
 }
 
 /// What stands behind the last take, the number of the answer, what is printed, and the note.
@@ -84,37 +75,44 @@ const ENDS: [(&str, u8, &str, &str); 3] = [
     ("spill 0 999995\n", 8, "", "qp: broken D21 whole\n"),
 ];
 
-/// Whether `check` comes to this where the journal ends so.
-fn is_told<R: Threads + Wait + Sync>(
+/// Whether `check` of a journal comes to this.
+fn is_told<'t, R: Threads + Wait + Sync>(
+    waits: &R,
+    alloc: Global,
+    stimuli: &'t str,
+    journal: &'t str,
+    want: (u8, &[u8], &str),
+) -> bool {
+    let world = World {
+        files: &[("system", LAMP), ("stimuli", stimuli), ("journal", journal)],
+        frames: &[],
+        flow: Flow::Lines,
+    };
+    let words = ["check", "system", "stimuli", "journal"];
+    world.is_so(waits, alloc, &words, &NOTHING, want)
+}
+
+/// The same of the journal that ends so.
+fn is_told_of<R: Threads + Wait + Sync>(
     waits: &R,
     alloc: Global,
     last: &str,
-    answer: u8,
-    said: &str,
-    note: &str,
-) -> Result<bool, AllocError> {
-    let words = ["check", "system", "stimuli", "journal"];
-    let mut files = files(alloc, last)?;
-    let ended = ask(
-        waits,
-        alloc,
-        &words,
-        &mut files,
-        Flow::Lines,
-        1000,
-        &[],
-        &[],
-    )?;
-    Ok(ended.is(answer, said.as_bytes(), note))
+    want: (u8, &[u8], &str),
+) -> bool {
+    let Ok(stimuli) = stimuli(alloc) else {
+        return false;
+    };
+    match journal(alloc, last) {
+        Ok(journal) => is_told(waits, alloc, stimuli.as_str(), journal.as_str(), want),
+        Err(_) => false,
+    }
 }
 
 /// A `spill` cuts a step behind its take, or stands behind a whole step; it states the records before it.
 #[test]
 fn a_spill_cuts_a_step_or_stands_behind_it(rt: HostRuntime) {
     for (last, answer, said, note) in &ENDS {
-        assert!(rt;
-            is_told(&rt, rt.alloc(), last, *answer, said, note) == Ok(true),
-            "{last}"
-        );
+        let want = (*answer, said.as_bytes(), *note);
+        assert!(rt; is_told_of(&rt, rt.alloc(), last, want), "{last}");
     }
 }

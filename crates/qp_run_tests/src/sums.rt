@@ -1,10 +1,9 @@
 //! A sum by eight sources, each on a thread of its own.
 
-use crate::asked::ask;
-use qp_base::NoGate;
+use crate::asked::{NOTHING, World};
+use qp_process::Flow;
 use std::alloc::{AllocError, Global};
 use std::sync::Wait;
-use std::test::Fail;
 use std::thread::Threads;
 
 const SUM: &str = "qp = 1
@@ -36,31 +35,43 @@ fn posts(alloc: Global) -> Result<String, AllocError> {
     Ok(text)
 }
 
-/// Whether the sum is right, and all blocks came back.
-fn adds_up<R: Threads + Wait + Sync>(rt: &R, alloc: Global, kernel: &str) -> Result<bool, Fail> {
-    let stimuli = posts(alloc)?;
-    let files = [("system", SUM), ("stimuli", stimuli.as_str())];
+/// Whether the sum of these stimuli is right, and all blocks came back.
+fn is_summed<R: Threads + Wait + Sync>(
+    rt: &R,
+    alloc: Global,
+    words: &[&str],
+    stimuli: &str,
+) -> bool {
+    let world = World {
+        files: &[("system", SUM), ("stimuli", stimuli)],
+        frames: &[],
+        flow: Flow::Lines,
+    };
+    world.is_so(rt, alloc, words, &NOTHING, (0, SUMMARY.as_bytes(), ""))
+}
+
+/// The same under a kernel, where the posts are made first.
+fn adds_up<R: Threads + Wait + Sync>(rt: &R, alloc: Global, kernel: &str) -> bool {
     let words = [
         "run", "--kernel", kernel, "--out", "summary", "system", "stimuli",
     ];
-    let run = ask(rt, alloc, &words, &files, &NoGate)?;
-    Ok(run.text() == SUMMARY)
+    match posts(alloc) {
+        Ok(stimuli) => is_summed(rt, alloc, &words, stimuli.as_str()),
+        Err(_) => false,
+    }
 }
 
 #[test]
-fn eight_sources_add_up_under_port(rt: HostRuntime) -> Result<(), Fail> {
-    assert!(rt; adds_up(&rt, rt.alloc(), "port")?);
-    Ok(())
+fn eight_sources_add_up_under_port(rt: HostRuntime) {
+    assert!(rt; adds_up(&rt, rt.alloc(), "port"));
 }
 
 #[test]
-fn eight_sources_add_up_under_wait(rt: HostRuntime) -> Result<(), Fail> {
-    assert!(rt; adds_up(&rt, rt.alloc(), "wait")?);
-    Ok(())
+fn eight_sources_add_up_under_wait(rt: HostRuntime) {
+    assert!(rt; adds_up(&rt, rt.alloc(), "wait"));
 }
 
 #[test]
-fn eight_sources_add_up_under_qk(rt: HostRuntime) -> Result<(), Fail> {
-    assert!(rt; adds_up(&rt, rt.alloc(), "qk")?);
-    Ok(())
+fn eight_sources_add_up_under_qk(rt: HostRuntime) {
+    assert!(rt; adds_up(&rt, rt.alloc(), "qk"));
 }
