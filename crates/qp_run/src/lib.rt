@@ -3,8 +3,8 @@
 
 mod top;
 
-pub use qp_run_parts::laws;
-pub use qp_run_parts::{Objects, Place, Sealed, Status, SummaryFault, Threaded};
-pub use qp_run_parts::{generate, kept_seal, kernel_turn, rerun, write_summary};
-pub use qp_run_parts::{run_port, run_qk, run_qv, run_sim, run_wait};
+pub use qp_run_parts::{
+    Objects, Place, Sealed, Status, SummaryFault, Threaded, generate, kept_seal, kernel_turn, laws,
+    rerun, run_port, run_qk, run_qv, run_sim, run_wait, write_summary,
+};
 pub use top::{Answered, answer, qp_main, report, tell};

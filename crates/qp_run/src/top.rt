@@ -10,9 +10,9 @@ ghost use Rattle.qp_run_parts.specs.declared.status.Status.{Status};
 
 use qp_base::{Gate, Shelf, Sink};
 use qp_commands::{Command, command_of};
-use qp_run_parts::{Finished, Sealed, Status};
 use qp_run_parts::{
-    check_files, decode, kept_seal, migrate, replay_files, run_files, run_made,
+    Finished, Sealed, Status, check_files, decode, kept_seal, migrate, replay_files, run_files,
+    run_made,
 };
 use std::alloc::{AllocError, Global};
 use std::sync::Wait;
