@@ -8,8 +8,10 @@ ghost use Rattle.qp_side_words.specs.Told.{last_seen, counter_in, interval_in, e
 
 use crate::steps::{About, Words, exchange, look};
 use atomic_table::Seat;
+use qp_base::Steps;
 use qp_side_words::SideView;
 use std::marker::Brand;
+use std::sync::ledger::Ledger;
 
 /// What one operation adds to the number of a word.
 const UNIT: u64 = 1 << 32;
@@ -87,7 +89,8 @@ pub fn look_at(words: &Words, seat: &mut Seat<(), SideView>, t: u8) -> u64
 }
 
 /// Arms a time event where its word is `old`, as it was last seen, and answers the word that was found.
-pub fn arm(
+/// The try is counted.
+pub fn arm<L: Ledger>(
     words: &Words,
     seat: &mut Seat<(), SideView>,
     object: u8,
@@ -95,6 +98,7 @@ pub fn arm(
     ticks: u16,
     interval: u16,
     old: u64,
+    steps: &mut Steps<L>,
 ) -> u64
     requires own { seat.old.table_id ≡ words.now.shared.table_id }
     requires wide { words.now.shared.table_id.words ≡ 4489 }
@@ -104,8 +108,10 @@ pub fn arm(
     requires idle { counter_in old ≡ 0 }
     requires small { old < 1152921504606846976 }
     ensures same { (seat.new.table_id ≡ seat.old.table_id) × (seat.new.id ≡ seat.old.id) × (seat.new.me.1 ≡ seat.old.me.1) }
+    ensures counted { steps.new ≡ steps.old + 1 }
     ensures told { ArmTold object t ticks interval old ((old / 4294967296 + 1) * 4294967296 + interval * 65536 + ticks) seat.old.me.0 result seat.new.me.0 }
 {
+    steps.step();
     let new = (old / UNIT + 1) * UNIT + interval as u64 * 65536 + ticks as u64;
     let about = About {
         by: object,
@@ -121,7 +127,15 @@ pub fn arm(
 }
 
 /// Disarms a time event where its word is `old`, as it was last seen, and answers the word that was found.
-pub fn disarm(words: &Words, seat: &mut Seat<(), SideView>, object: u8, t: u8, old: u64) -> u64
+/// The try is counted.
+pub fn disarm<L: Ledger>(
+    words: &Words,
+    seat: &mut Seat<(), SideView>,
+    object: u8,
+    t: u8,
+    old: u64,
+    steps: &mut Steps<L>,
+) -> u64
     requires own { seat.old.table_id ≡ words.now.shared.table_id }
     requires wide { words.now.shared.table_id.words ≡ 4489 }
     requires room { HasRoom seat.old.me.0.view }
@@ -130,8 +144,10 @@ pub fn disarm(words: &Words, seat: &mut Seat<(), SideView>, object: u8, t: u8, o
     requires armed { 0 < counter_in old }
     requires small { old < 1152921504606846976 }
     ensures same { (seat.new.table_id ≡ seat.old.table_id) × (seat.new.id ≡ seat.old.id) × (seat.new.me.1 ≡ seat.old.me.1) }
+    ensures counted { steps.new ≡ steps.old + 1 }
     ensures told { DisarmTold object t old (old + 4294967296 - counter_in old) seat.old.me.0 result seat.new.me.0 }
 {
+    steps.step();
     let new = old + UNIT - old % 65536;
     let about = About {
         by: object,
@@ -147,13 +163,15 @@ pub fn disarm(words: &Words, seat: &mut Seat<(), SideView>, object: u8, t: u8, o
 }
 
 /// Arms a time event anew where its word is `old`, as it was last seen, and answers the word that was found.
-pub fn rearm(
+/// The try is counted.
+pub fn rearm<L: Ledger>(
     words: &Words,
     seat: &mut Seat<(), SideView>,
     object: u8,
     t: u8,
     ticks: u16,
     old: u64,
+    steps: &mut Steps<L>,
 ) -> u64
     requires own { seat.old.table_id ≡ words.now.shared.table_id }
     requires wide { words.now.shared.table_id.words ≡ 4489 }
@@ -162,8 +180,10 @@ pub fn rearm(
     requires last { last_seen (timer_at t) seat.old.me.0 ≡ old }
     requires small { old < 1152921504606846976 }
     ensures same { (seat.new.table_id ≡ seat.old.table_id) × (seat.new.id ≡ seat.old.id) × (seat.new.me.1 ≡ seat.old.me.1) }
+    ensures counted { steps.new ≡ steps.old + 1 }
     ensures told { RearmTold object t ticks old (old + 4294967296 + ticks - counter_in old) seat.old.me.0 result seat.new.me.0 }
 {
+    steps.step();
     let new = old + UNIT + ticks as u64 - old % 65536;
     let about = About {
         by: object,
@@ -192,7 +212,15 @@ fn ticked(old: u64) -> u64
 }
 
 /// One tick of a time event where its word is `old`, as it was last seen, and answers the word that was found.
-pub fn tick(words: &Words, seat: &mut Seat<(), SideView>, object: u8, t: u8, old: u64) -> u64
+/// The try is counted.
+pub fn tick<L: Ledger>(
+    words: &Words,
+    seat: &mut Seat<(), SideView>,
+    object: u8,
+    t: u8,
+    old: u64,
+    steps: &mut Steps<L>,
+) -> u64
     requires own { seat.old.table_id ≡ words.now.shared.table_id }
     requires wide { words.now.shared.table_id.words ≡ 4489 }
     requires room { HasRoom seat.old.me.0.view }
@@ -201,8 +229,10 @@ pub fn tick(words: &Words, seat: &mut Seat<(), SideView>, object: u8, t: u8, old
     requires armed { 0 < counter_in old }
     requires small { old < 1152921504606846976 }
     ensures same { (seat.new.table_id ≡ seat.old.table_id) × (seat.new.id ≡ seat.old.id) × (seat.new.me.1 ≡ seat.old.me.1) }
+    ensures counted { steps.new ≡ steps.old + 1 }
     ensures told { TickTold object t old (old + 4294967295 + cond (eqb (counter_in old) 1) (interval_in old) 0) seat.old.me.0 result seat.new.me.0 }
 {
+    steps.step();
     let new = ticked(old);
     let about = About {
         by: object,

@@ -38,8 +38,7 @@ pub(crate) fn try_arm<L: Ledger>(
         return (found, false);
     }
     loop {
-        steps.step();
-        let now = arm(words, seat, object, t, ticks, interval, found);
+        let now = arm(words, seat, object, t, ticks, interval, found, steps);
         if now == found {
             return (now, true);
         }
@@ -72,8 +71,7 @@ pub(crate) fn try_disarm<L: Ledger>(
         return (found, false);
     }
     loop {
-        steps.step();
-        let now = disarm(words, seat, object, t, found);
+        let now = disarm(words, seat, object, t, found, steps);
         if now == found {
             return (now, true);
         }
@@ -104,8 +102,7 @@ pub(crate) fn try_rearm<L: Ledger>(
 {
     let mut found = look_at(words, seat, t);
     loop {
-        steps.step();
-        let now = rearm(words, seat, object, t, ticks, found);
+        let now = rearm(words, seat, object, t, ticks, found, steps);
         if now == found {
             return now;
         }
@@ -135,8 +132,7 @@ pub(crate) fn try_tick<L: Ledger>(
         return (found, false);
     }
     loop {
-        steps.step();
-        let now = tick(words, seat, object, t, found);
+        let now = tick(words, seat, object, t, found, steps);
         if now == found {
             return (now, true);
         }
