@@ -14,7 +14,7 @@ use Rattle.qp_chart.specs.declared.checked.Chart.{Chart}
 use Rattle.qp_chart.specs.StateTree.{state_at, up}
 use Rattle.qp_chart.specs.Handler.{Handler, passes, first_row, handler_at, rows_of, handler_on, handler}
 use Rattle.qp_chart.specs.MainState.{main_state, exited, entered}
-use Rattle.qp_chart.specs.Task.{Task, Begin, Run, Unhandled, Exit, Enter, Init, Done, Do, Raise, Restore, act_tasks, tasks_of, acts_at, exits, entries}
+use Rattle.qp_chart.specs.Task.{Task, Done, Do, Restore, act_tasks, tasks_of, acts_at, exits, entries}
 use Rattle.qp_chart.specs.Drill.{init_of, initial, drill_to, drill}
 use Rattle.qp_chart.specs.Agenda.{crossing, transition, moves, handled, ended, step_plan, start_plan}
 use Rattle.qp_model.specs.declared.systems.System.{System}
@@ -40,30 +40,12 @@ module _ (sys : System) where
   able-more (action.Post to sig pars margin reserve) h = h
   able-more (action.Lifo sig pars reserve) h = h
   able-more (action.Publish sig pars reserve) h = h
-  able-more (action.Forward to margin) h = refl
-  able-more action.Defer h = refl
-  able-more (action.Set var value) h = refl
-  able-more (action.Say value) h = refl
-  able-more action.Recall h = refl
-  able-more action.Flush h = refl
-  able-more (action.Subscribe sig) h = refl
-  able-more (action.Unsubscribe sig) h = refl
-  able-more (action.Arm timer ticks interval) h = refl
-  able-more (action.Rearm timer ticks) h = refl
-  able-more (action.Disarm timer) h = refl
+  able-more _ h = refl
 
   task-more : (t : Task) → task_able sys false t ≡ true → task_able sys true t ≡ true
   unfolding task_able
   task-more (Do p) h = able-more p h
-  task-more Begin h = refl
-  task-more (Run s k) h = refl
-  task-more Unhandled h = refl
-  task-more (Exit s) h = refl
-  task-more (Enter s) h = refl
-  task-more (Init s) h = refl
-  task-more Done h = refl
-  task-more (Raise c) h = refl
-  task-more Restore h = refl
+  task-more _ h = refl
 
   pub tasks-more : (ts : List Task) → list_all (task_able sys false) ts ≡ true → list_all (task_able sys true) ts ≡ true
   tasks-more [] h = refl

@@ -327,20 +327,12 @@ DeedAble sys now d = Unit {0}
 
 deed-able : (sys : System) (now : Option Entry) (names : Names) (p : Plain) → is_able sys (is_some now) p ≡ true → DeedAble sys now (deed_of names p)
 unfolding is_able deed_of DeedAble CallAble values_of
-deed-able sys now names (action.Set var value) h = tt
-deed-able sys now names (action.Say value) h = tt
 deed-able sys now names (action.Post to sig pars margin reserve) h = rw length-map h
 deed-able sys now names (action.Lifo sig pars reserve) h = rw length-map h
 deed-able sys now names (action.Forward to margin) h = h
 deed-able sys now names (action.Publish sig pars reserve) h = rw length-map h
 deed-able sys now names action.Defer h = h
-deed-able sys now names action.Recall h = tt
-deed-able sys now names action.Flush h = tt
-deed-able sys now names (action.Subscribe sig) h = tt
-deed-able sys now names (action.Unsubscribe sig) h = tt
-deed-able sys now names (action.Arm timer ticks interval) h = tt
-deed-able sys now names (action.Rearm timer ticks) h = tt
-deed-able sys now names (action.Disarm timer) h = tt
+deed-able sys now names _ h = tt
 
 -- the first of a list that passes a test, and its rest
 pub able-first : (f : Task → Bool) (t : Task) (ts : List Task) → list_all f (t ∷ ts) ≡ true → f t ≡ true

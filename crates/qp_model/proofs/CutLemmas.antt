@@ -191,17 +191,7 @@ module _ (sys : System) (a : Actor) (at : Moment) where
 
       by : (x : Call) → Fits sys a.o at.entry x answer g → pieces_of x g ≡ front ++ (q ∷ m) → IsLast sys a.o at.entry true (bare front)
       by (call.Publish sig pars reserve) fits e = published sig pars reserve fits e (points-cut g front q m e h)
-      by (call.Post to sig pars margin reserve) fits e = stops (tells-cut g front q m e h)
-      by (call.Lifo sig pars reserve) fits e = stops (tells-cut g front q m e h)
-      by (call.Forward to margin) fits e = stops (tells-cut g front q m e h)
-      by call.Defer fits e = stops (tells-cut g front q m e h)
-      by call.Recall fits e = stops (tells-cut g front q m e h)
-      by call.Flush fits e = stops (tells-cut g front q m e h)
-      by (call.Subscribe sig) fits e = stops (tells-cut g front q m e h)
-      by (call.Unsubscribe sig) fits e = stops (tells-cut g front q m e h)
-      by (call.Arm t ticks interval) fits e = stops (tells-cut g front q m e h)
-      by (call.Rearm t ticks) fits e = stops (tells-cut g front q m e h)
-      by (call.Disarm t) fits e = stops (tells-cut g front q m e h)
+      by _ fits e = stops (tells-cut g front q m e h)
 
   -- whole actions stand before the cut, and then it is cut in what is to come
   abbrev pub ActionsOn : Config → Later → List Piece → List Piece → List Piece → Type 0

@@ -1,5 +1,5 @@
 -- The deferred list of a course: its records leave the list that its configuration has.
-use Rattle.std.proofs.Common.{◌≡◌, ℕ, max, Bool, true, false, not, ◌&&◌, List, [], ◌∷◌, ◌++◌, refl, sym, ◌∙◌, ap, subst, inl, inr, ◌⊎◌, Option, Some, None, is_some, append-nil, cond}
+use Rattle.std.proofs.Common.{◌≡◌, ℕ, max, Bool, true, false, ◌&&◌, List, [], ◌∷◌, ◌++◌, refl, sym, ◌∙◌, ap, subst, inl, inr, ◌⊎◌, Option, Some, None, is_some, append-nil, cond}
 use Rattle.std.specs.Bool.{MatchBool}
 use Rattle.std.specs.Option.{option_and_then}
 use Rattle.std.specs.List.{list_all, filter}
@@ -19,7 +19,7 @@ use Rattle.qp_model.specs.Deferral.{keep, kept_after, KeepsDeferred}
 use Rattle.qp_model.specs.Pieces.{Piece, Point, bare, tell, pieces_of}
 use Rattle.qp_model.specs.Acts.{Config, Actor, Moment, Later, DoesCall, DoesDeed, DoesTask, Does, names_of}
 use Rattle.qp_model.specs.Step.{Step, StepBehind, Closes, at_leaf, moment}
-use Rattle.qp_model.specs.Course.{Starts, Steps, Course, Follows, FollowsAs, FollowsTo, Cut, Whole, Stopped, Anywhere, at_start, actor, first_config, chart_at}
+use Rattle.qp_model.specs.Course.{Starts, Steps, Course, Follows, FollowsAs, FollowsTo, Cut, Whole, at_start, actor, first_config, chart_at}
 use Rattle.qp_model.proofs.CourseLemmas.{through-follows}
 use Rattle.qp_model.proofs.GroupLemmas.{bare-append, bare-tell, bare-pieces_of}
 use Rattle.qp_model.proofs.FitsLemmas.{is_calm, is_deferral, is_other, Calm, Ending, Answers, answer-assert, fits-calm, calm-drops}
@@ -45,17 +45,6 @@ keep-other room old (item.Recall e) h = absurd (cc)
 keep-other room old item.NoRecall h = absurd (cc)
 keep-other room old (item.Flush e) h = absurd (cc)
 keep-other room old b h = refl
-
--- so do all such records
-pub kept-others : (room : ℕ) (old : List Entry) (g : List Told) → list_all (λ t. not (is_deferral t.body)) g ≡ true → kept_after room old g ≡ Some old
-unfolding kept_after
-kept-others room old [] h = refl
-kept-others room old (t ∷ g) h = by (is_deferral t.body) refl h (kept-others room old g)
-  where
-    by : (b : Bool) → is_deferral t.body ≡ b → (not b && list_all (λ t. not (is_deferral t.body)) g) ≡ true
-        → (list_all (λ t. not (is_deferral t.body)) g ≡ true → kept_after room old g ≡ Some old) → option_and_then (λ rest. kept_after room rest g) (keep room old t.body) ≡ Some old
-    by true is h go = absurd (cc)
-    by false is h go = rw (keep-other room old t.body is) (go h)
 
 -- records that are none of deferral may be left out
 pub kept-filter : (room : ℕ) (f : Told → Bool) → ((t : Told) → f t ≡ false → is_deferral t.body ≡ false) → (old : List Entry) (g : List Told)
@@ -125,8 +114,6 @@ call-kept sys a now x answer g old new fits keeps = by x refl keeps
         either false h = kept-calm a.room old g h
 
     by : (y : Call) → x ≡ y → KeepsDeferred a.room y g old new → kept_after a.room old g ≡ Some new
-    by call.Defer is k = k
-    by call.Recall is k = k
     by call.Flush is k = k.0
     by (call.Post to sig pars margin reserve) is k = answered (call.Post to sig pars margin reserve) refl (subst (λ z. Fits sys a.o now z answer g) is fits) k
     by (call.Lifo sig pars reserve) is k = answered (call.Lifo sig pars reserve) refl (subst (λ z. Fits sys a.o now z answer g) is fits) k
@@ -137,6 +124,7 @@ call-kept sys a now x answer g old new fits keeps = by x refl keeps
     by (call.Arm t ticks interval) is k = answered (call.Arm t ticks interval) refl (subst (λ z. Fits sys a.o now z answer g) is fits) k
     by (call.Rearm t ticks) is k = answered (call.Rearm t ticks) refl (subst (λ z. Fits sys a.o now z answer g) is fits) k
     by (call.Disarm t) is k = answered (call.Disarm t) refl (subst (λ z. Fits sys a.o now z answer g) is fits) k
+    by _ is k = k
 
 -- records that leave the list of the configuration after them, or some list after an assertion
 unfoldable pub Kept : ℕ → List Entry → List Told → Option Config → Type 0
@@ -309,5 +297,4 @@ follows-deferral sys d cut ps h = by cut h
 
     by : (cut : Cut) → FollowsTo sys d cut ps → is_some (kept_after d.defer [] (bare ps)) ≡ true
     by Whole k = by_chart (chart_at sys d.chart) ps (through-follows sys d ps k)
-    by Stopped k = longer k.0 k.1
-    by Anywhere k = longer k.0 k.1
+    by _ k = longer k.0 k.1

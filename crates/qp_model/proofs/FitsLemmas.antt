@@ -1,5 +1,5 @@
 -- Which kinds of records a call makes: an assertion only as the last, deferral only for `defer`, `recall` and `flush`, and no note of a step.
-use Rattle.std.proofs.Common.{◌≡◌, ℕ, zero, suc, Bool, true, false, ◌&&◌, ◌||◌, List, [], ◌∷◌, ◌++◌, refl, sym, ◌∙◌, ap, subst, inl, inr, Option, Some, None, append_assoc}
+use Rattle.std.proofs.Common.{◌≡◌, ℕ, zero, suc, Bool, true, false, ◌||◌, List, [], ◌∷◌, ◌++◌, refl, sym, ◌∙◌, ap, subst, inl, inr, Option, Some, None, append_assoc}
 use Rattle.std.specs.Bool.{MatchBool}
 use Rattle.std.specs.List.{list_all}
 use Rattle.std.proofs.lemmas.Bool.{and_from, and_parts}
@@ -143,21 +143,9 @@ Answers P answer g = MatchBool (is_assertion answer) (Ending P answer g) (P g)
 no_block-calm : (fixed : Bool) (sizes pars : List ℕ) (reserve : Option ℕ) (answer : Answer) (g : List Told) → NoBlockFor fixed sizes pars reserve answer g → Answers Calm answer g
 unfolding NoBlockFor Answers Ending is_calm
 no_block-calm fixed sizes pars None AtPool g h = ([], plain (item.NoBlock h.0 h.1 h.2), refl, refl, h.5)
+no_block-calm fixed sizes pars None _ g h = absurd h
 no_block-calm fixed sizes pars (Some r) Refused g h = rw h.5 refl
-no_block-calm fixed sizes pars None Granted g h = absurd h
-no_block-calm fixed sizes pars None Refused g h = absurd h
-no_block-calm fixed sizes pars None (Flushed n) g h = absurd h
-no_block-calm fixed sizes pars None AtQueue g h = absurd h
-no_block-calm fixed sizes pars None AtTimer g h = absurd h
-no_block-calm fixed sizes pars None AtTicks g h = absurd h
-no_block-calm fixed sizes pars None AtFront g h = absurd h
-no_block-calm fixed sizes pars (Some r) Granted g h = absurd h
-no_block-calm fixed sizes pars (Some r) (Flushed n) g h = absurd h
-no_block-calm fixed sizes pars (Some r) AtQueue g h = absurd h
-no_block-calm fixed sizes pars (Some r) AtPool g h = absurd h
-no_block-calm fixed sizes pars (Some r) AtTimer g h = absurd h
-no_block-calm fixed sizes pars (Some r) AtTicks g h = absurd h
-no_block-calm fixed sizes pars (Some r) AtFront g h = absurd h
+no_block-calm fixed sizes pars (Some r) _ g h = absurd h
 
 posts-calm : (ring to : ℕ) (margin : Option ℕ) (head : List Told) (e : Entry) (answer : Answer) (g : List Told) → Calm head → Posts ring to margin head e answer g → Answers Calm answer g
 unfolding Posts Answers Ending is_calm
@@ -182,12 +170,7 @@ front-calm : (o : ℕ) (head : List Told) (e : Entry) (answer : Answer) (g : Lis
 unfolding PostsFront Answers Ending is_calm
 front-calm o head e Granted g c h = calm-same h.3 (calm-append head (plain (item.Lifo h.0 h.1 h.2 e) ∷ []) c (one (plain (item.Lifo h.0 h.1 h.2 e)) refl))
 front-calm o head e AtFront g c h = (head, plain (item.NoLifo o h.0 h.1 h.2), c, refl, h.3)
-front-calm o head e Refused g c h = absurd h
-front-calm o head e (Flushed n) g c h = absurd h
-front-calm o head e AtQueue g c h = absurd h
-front-calm o head e AtPool g c h = absurd h
-front-calm o head e AtTimer g c h = absurd h
-front-calm o head e AtTicks g c h = absurd h
+front-calm o head e _ g c h = absurd h
 
 post_one-calm : (ring : ℕ) (e : Entry) (to : ℕ) (answer : Answer) (g : List Told) → PostsOne ring e to answer g → Answers Calm answer g
 unfolding PostsOne
@@ -241,45 +224,27 @@ publishes-calm fixed sizes rings o sig pars reserve Granted g h =
     calm-same h.9 (calm-append h.3 (h.4 ++ h.5) (first-calm fixed sizes o sig pars reserve h.0 h.1 h.2 h.3 h.6) (calm-append h.4 h.5 (all-calm rings h.0 h.2 h.4 h.7) (last-calm o h.0 h.1 h.2 h.5 h.8)))
 publishes-calm fixed sizes rings o sig pars reserve AtQueue g h =
     ending-same Calm AtQueue h.7 (ending-before Calm calm-append AtQueue h.3 h.4 (first-calm fixed sizes o sig pars reserve h.0 h.1 h.2 h.3 h.5) (up_to-calm rings h.0 h.2 h.4 h.6))
-publishes-calm fixed sizes rings o sig pars reserve Refused g h = no_block-calm fixed sizes pars reserve Refused g h
-publishes-calm fixed sizes rings o sig pars reserve (Flushed n) g h = no_block-calm fixed sizes pars reserve (Flushed n) g h
-publishes-calm fixed sizes rings o sig pars reserve AtPool g h = no_block-calm fixed sizes pars reserve AtPool g h
-publishes-calm fixed sizes rings o sig pars reserve AtTimer g h = no_block-calm fixed sizes pars reserve AtTimer g h
-publishes-calm fixed sizes rings o sig pars reserve AtTicks g h = no_block-calm fixed sizes pars reserve AtTicks g h
-publishes-calm fixed sizes rings o sig pars reserve AtFront g h = no_block-calm fixed sizes pars reserve AtFront g h
+publishes-calm fixed sizes rings o sig pars reserve answer g h = no_block-calm fixed sizes pars reserve answer g h
 
 arms-calm : (t ticks interval : ℕ) (answer : Answer) (g : List Told) → Arms t ticks interval answer g → Answers Calm answer g
 unfolding Arms Answers Ending is_calm
 arms-calm t ticks interval Granted g h = rw h.1 refl
 arms-calm t ticks interval AtTimer g h = ([], plain (item.Armed t h.0 h.1), refl, refl, h.2)
 arms-calm t ticks interval AtTicks g h = ([], plain (item.BadTicks t ticks interval), refl, refl, h)
-arms-calm t ticks interval Refused g h = absurd h
-arms-calm t ticks interval (Flushed n) g h = absurd h
-arms-calm t ticks interval AtQueue g h = absurd h
-arms-calm t ticks interval AtPool g h = absurd h
-arms-calm t ticks interval AtFront g h = absurd h
+arms-calm t ticks interval _ g h = absurd h
 
 rearms-calm : (t ticks : ℕ) (answer : Answer) (g : List Told) → Rearms t ticks answer g → Answers Calm answer g
 unfolding Rearms Answers Ending is_calm
 rearms-calm t ticks Granted g h = rw h.2 refl
 rearms-calm t ticks Refused g h = rw h.1 refl
 rearms-calm t ticks AtTicks g h = ([], plain (item.BadTicks t ticks 0), refl, refl, h)
-rearms-calm t ticks (Flushed n) g h = absurd h
-rearms-calm t ticks AtQueue g h = absurd h
-rearms-calm t ticks AtPool g h = absurd h
-rearms-calm t ticks AtTimer g h = absurd h
-rearms-calm t ticks AtFront g h = absurd h
+rearms-calm t ticks _ g h = absurd h
 
 disarms-calm : (t : ℕ) (answer : Answer) (g : List Told) → Disarms t answer g → Answers Calm answer g
 unfolding Disarms Answers is_calm
 disarms-calm t Granted g h = rw h.2 refl
 disarms-calm t Refused g h = rw h.1 refl
-disarms-calm t (Flushed n) g h = absurd h
-disarms-calm t AtQueue g h = absurd h
-disarms-calm t AtPool g h = absurd h
-disarms-calm t AtTimer g h = absurd h
-disarms-calm t AtTicks g h = absurd h
-disarms-calm t AtFront g h = absurd h
+disarms-calm t _ g h = absurd h
 
 -- a call that is no matter of the deferred list leaves calm records, up to an assertion
 pub fits-calm : (sys : System) (o : ℕ) (now : Option Entry) (x : Call) (answer : Answer) (g : List Told) → is_other x ≡ true → Fits sys o now x answer g → Answers Calm answer g
@@ -290,9 +255,6 @@ fits-calm sys o now (call.Lifo sig pars reserve) answer g is (inl h) = no_block-
 fits-calm sys o now (call.Lifo sig pars reserve) answer g is (inr h) = front-calm o h.0 h.1 answer g (calm-new _ _ sig pars reserve h.0 h.1 h.2) h.3
 fits-calm sys o now (call.Forward to margin) answer g is h = posts-calm _ to margin h.0 h.1 answer g (calm-again_now now h.0 h.1 h.2) h.3
 fits-calm sys o now (call.Publish sig pars reserve) answer g is h = publishes-calm _ _ _ o sig pars reserve answer g h
-fits-calm sys o now call.Defer answer g is h = absurd (cc)
-fits-calm sys o now call.Recall answer g is h = absurd (cc)
-fits-calm sys o now call.Flush answer g is h = absurd (cc)
 fits-calm sys o now (call.Subscribe sig) Granted g is h = rw h.1 refl
 fits-calm sys o now (call.Subscribe sig) Refused g is h = rw h.1 refl
 fits-calm sys o now (call.Unsubscribe sig) Granted g is h = rw h.1 refl
@@ -312,6 +274,7 @@ fits-calm sys o now (call.Unsubscribe sig) AtPool g is h = absurd h
 fits-calm sys o now (call.Unsubscribe sig) AtTimer g is h = absurd h
 fits-calm sys o now (call.Unsubscribe sig) AtTicks g is h = absurd h
 fits-calm sys o now (call.Unsubscribe sig) AtFront g is h = absurd h
+fits-calm sys o now _ answer g is h = absurd (cc)
 
 ending-usual : (answer : Answer) (g : List Told) → Ending Calm answer g → Ending Usual answer g
 unfolding Ending
@@ -329,12 +292,7 @@ defers-usual : (now : Option Entry) (answer : Answer) (g : List Told) → Defers
 unfolding Defers Answers is_deferral is_calm
 defers-usual now Granted g h = subst (λ us. Usual us) (sym h.3) (usual-append h.0 (plain (item.Defer h.1) ∷ []) (usual h.0 (calm-again_now now h.0 h.1 h.2)) refl)
 defers-usual now Refused g h = rw h refl
-defers-usual now (Flushed n) g h = absurd h
-defers-usual now AtQueue g h = absurd h
-defers-usual now AtPool g h = absurd h
-defers-usual now AtTimer g h = absurd h
-defers-usual now AtTicks g h = absurd h
-defers-usual now AtFront g h = absurd h
+defers-usual now _ g h = absurd h
 
 recalls-usual : (o : ℕ) (answer : Answer) (g : List Told) → Recalls o answer g → Answers Usual answer g
 unfolding Recalls Answers is_deferral is_calm
@@ -346,11 +304,7 @@ recalls-usual o Refused g h = rw h refl
 recalls-usual o AtFront g h =
     ending-same Usual AtFront h.6
     (ending-before Usual usual-append AtFront (plain (item.Recall h.0) ∷ []) h.3 refl (ending-usual AtFront h.3 (front-calm o h.2 h.1 AtFront h.3 (calm-again h.0 h.2 h.1 h.4) h.5)))
-recalls-usual o (Flushed n) g h = absurd h
-recalls-usual o AtQueue g h = absurd h
-recalls-usual o AtPool g h = absurd h
-recalls-usual o AtTimer g h = absurd h
-recalls-usual o AtTicks g h = absurd h
+recalls-usual o _ g h = absurd h
 
 flushes-usual : (n : ℕ) (g : List Told) → Flushes n g → Usual g
 unfolding Flushes is_deferral is_calm
@@ -371,15 +325,7 @@ fits-usual sys o now call.Flush AtPool g h = absurd h
 fits-usual sys o now call.Flush AtTimer g h = absurd h
 fits-usual sys o now call.Flush AtTicks g h = absurd h
 fits-usual sys o now call.Flush AtFront g h = absurd h
-fits-usual sys o now (call.Post to sig pars margin reserve) answer g h = answers-usual answer g (fits-calm sys o now (call.Post to sig pars margin reserve) answer g refl h)
-fits-usual sys o now (call.Lifo sig pars reserve) answer g h = answers-usual answer g (fits-calm sys o now (call.Lifo sig pars reserve) answer g refl h)
-fits-usual sys o now (call.Forward to margin) answer g h = answers-usual answer g (fits-calm sys o now (call.Forward to margin) answer g refl h)
-fits-usual sys o now (call.Publish sig pars reserve) answer g h = answers-usual answer g (fits-calm sys o now (call.Publish sig pars reserve) answer g refl h)
-fits-usual sys o now (call.Subscribe sig) answer g h = answers-usual answer g (fits-calm sys o now (call.Subscribe sig) answer g refl h)
-fits-usual sys o now (call.Unsubscribe sig) answer g h = answers-usual answer g (fits-calm sys o now (call.Unsubscribe sig) answer g refl h)
-fits-usual sys o now (call.Arm t ticks interval) answer g h = answers-usual answer g (fits-calm sys o now (call.Arm t ticks interval) answer g refl h)
-fits-usual sys o now (call.Rearm t ticks) answer g h = answers-usual answer g (fits-calm sys o now (call.Rearm t ticks) answer g refl h)
-fits-usual sys o now (call.Disarm t) answer g h = answers-usual answer g (fits-calm sys o now (call.Disarm t) answer g refl h)
+fits-usual sys o now x answer g h = answers-usual answer g (fits-calm sys o now x answer g refl h)
 
 -- the same of a shape
 pub any-usual : (sys : System) (o : ℕ) (now : Option Entry) (x : Call) (answer : Answer) (g : List Told) → FitsAny sys o now x answer g → Answers Usual answer g

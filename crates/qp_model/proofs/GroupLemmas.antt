@@ -50,17 +50,7 @@ bare-with_points (t ∷ g) = bare-append (piece_of t t.body) (with_points g) ∙
 pub bare-pieces_of : (x : Call) (g : List Told) → bare (pieces_of x g) ≡ g
 unfolding pieces_of
 bare-pieces_of (call.Publish sig pars reserve) g = bare-with_points g
-bare-pieces_of (call.Post to sig pars margin reserve) g = bare-tell g
-bare-pieces_of (call.Lifo sig pars reserve) g = bare-tell g
-bare-pieces_of (call.Forward to margin) g = bare-tell g
-bare-pieces_of call.Defer g = bare-tell g
-bare-pieces_of call.Recall g = bare-tell g
-bare-pieces_of call.Flush g = bare-tell g
-bare-pieces_of (call.Subscribe sig) g = bare-tell g
-bare-pieces_of (call.Unsubscribe sig) g = bare-tell g
-bare-pieces_of (call.Arm t ticks interval) g = bare-tell g
-bare-pieces_of (call.Rearm t ticks) g = bare-tell g
-bare-pieces_of (call.Disarm t) g = bare-tell g
+bare-pieces_of _ g = bare-tell g
 
 each-group : (sys : System) (o : ℕ) (now : Option Entry) (parts : List (List Told)) → EachPart (IsAction sys o now) parts → EachPart (IsGroup sys o now) parts
 unfolding EachPart

@@ -7,7 +7,7 @@ use Rattle.std.proofs.lemmas.Bool.Decides.{nat_tests}
 use Rattle.std.proofs.lemmas.List.Elements.{filter-append}
 use Rattle.qp_model.specs.declared.words.Word.{Word}
 use Rattle.qp_model.specs.Record.{Item}
-use Rattle.qp_model.specs.History.{touch, same_word, Touch, Draws, Shows, Neither, drawn_on, drawn_as, drawn_below, total, numbered, hist, is_numbered}
+use Rattle.qp_model.specs.History.{touch, same_word, Touch, Draws, drawn_on, drawn_as, drawn_below, total, numbered, hist, is_numbered}
 use Rattle.qp_model.proofs.ListLemmas.{all_below_at, all_below_from, filter-insert_not, length_filter-insert, filter-insert_only, filter-none, list_all-insert}
 use Rattle.qp_model.specs.Places.{in_order, is_next}
 use Rattle.qp_model.specs.declared.words.Word.TheVariants as word
@@ -15,24 +15,21 @@ use Rattle.qp_model.specs.declared.words.Word.TheVariants as word
 -- the number that a record draws is one
 pub drawn_as-on : (w : Word) (n : ℕ) (t : Touch) → drawn_as w n t ≡ true → drawn_on w t ≡ true
 drawn_as-on w n (Draws v k) h = (and_parts _ _ h).0
-drawn_as-on w n (Shows v k) h = cc
-drawn_as-on w n Neither h = cc
+drawn_as-on w n _ h = cc
 
 drawn_as-other : (w : Word) (n k : ℕ) (t : Touch) → drawn_as w n t ≡ true → k < n → drawn_as w k t ≡ false
 drawn_as-other w n k (Draws v j) h lt =
     let here : (j == suc n) ≡ true = (and_parts _ _ h).1 in
     let same : same_word v w ≡ true = (and_parts _ _ h).0 in
     rw same (grind (arith, nat_tests))
-drawn_as-other w n k (Shows v j) h lt = refl
-drawn_as-other w n k Neither h lt = refl
+drawn_as-other w n k _ h lt = refl
 
 pub drawn_as-below : (w : Word) (n : ℕ) (t : Touch) → drawn_as w n t ≡ true → drawn_below w (suc n) t ≡ true
 drawn_as-below w n (Draws v j) h =
     let here : (j == suc n) ≡ true = (and_parts _ _ h).1 in
     let same : same_word v w ≡ true = (and_parts _ _ h).0 in
     rw same (grind (arith, nat_tests))
-drawn_as-below w n (Shows v j) h = refl
-drawn_as-below w n Neither h = refl
+drawn_as-below w n _ h = refl
 
 drawn_below-not : (w : Word) (n : ℕ) (t : Touch) → drawn_below w n t ≡ true → drawn_as w n t ≡ false
 drawn_below-not w n (Draws v j) h = go (same_word v w) h
@@ -40,8 +37,7 @@ drawn_below-not w n (Draws v j) h = go (same_word v w) h
     go : (b : Bool) → (not b || (nat_lt 0 j && nat_le j n)) ≡ true → (b && (j == suc n)) ≡ false
     go true e = grind (arith, nat_tests)
     go false e = refl
-drawn_below-not w n (Shows v j) h = refl
-drawn_below-not w n Neither h = refl
+drawn_below-not w n _ h = refl
 
 drawn_below-more : (w : Word) (n : ℕ) (t : Touch) → drawn_below w n t ≡ true → drawn_below w (suc n) t ≡ true
 drawn_below-more w n (Draws v j) h = go (same_word v w) h
@@ -49,18 +45,15 @@ drawn_below-more w n (Draws v j) h = go (same_word v w) h
     go : (b : Bool) → (not b || (nat_lt 0 j && nat_le j n)) ≡ true → (not b || (nat_lt 0 j && nat_le j (suc n))) ≡ true
     go true e = grind (arith, nat_tests)
     go false e = refl
-drawn_below-more w n (Shows v j) h = refl
-drawn_below-more w n Neither h = refl
+drawn_below-more w n _ h = refl
 
 not_drawn : (w : Word) (n : ℕ) (t : Touch) → drawn_on w t ≡ false → drawn_as w n t ≡ false
 not_drawn w n (Draws v k) h = rw h refl
-not_drawn w n (Shows v k) h = refl
-not_drawn w n Neither h = refl
+not_drawn w n _ h = refl
 
 not_drawn_below : (w : Word) (n : ℕ) (t : Touch) → drawn_on w t ≡ false → drawn_below w n t ≡ true
 not_drawn_below w n (Draws v k) h = rw h refl
-not_drawn_below w n (Shows v k) h = refl
-not_drawn_below w n Neither h = refl
+not_drawn_below w n _ h = refl
 
 -- a history has as many records as numbers are drawn
 length-numbered : (w : Word) (items : List Item) (n : ℕ) → ((k : ℕ) → k < n → (length (filter (λ j. drawn_as w k (touch j)) items) == 1) ≡ true) → length (numbered w items n) ≡ n
@@ -176,11 +169,8 @@ unfolding total
 no-total w = refl
 
 pub same_word-refl : (w : Word) → same_word w w ≡ true
-same_word-refl (word.Pool p) = grind (arith, nat_tests)
 same_word-refl (word.Block p b) = let one : (p == p) ≡ true = grind (arith, nat_tests) in let two : (b == b) ≡ true = grind (arith, nat_tests) in and_from _ _ one two
-same_word-refl (word.Queue a) = grind (arith, nat_tests)
-same_word-refl (word.Signal s) = grind (arith, nat_tests)
-same_word-refl (word.Timer t) = grind (arith, nat_tests)
+same_word-refl _ = grind (arith, nat_tests)
 
 -- a record's place in an order
 pub in_order-at : (before xs : List Item) (i : Item) (ys : List Item) → in_order before (xs ++ i ∷ ys) ≡ true → is_next (before ++ xs) (touch i) ≡ true

@@ -44,31 +44,11 @@ ceiling_on-snoc before i r is = ceiling_on-append 0 before (i ∷ []) ∙ ap (λ
 pub Looks-is : (b : Body) (n floor : ℕ) → role_of b ≡ Looks n floor → b ≡ body.Look n floor
 unfolding role_of
 Looks-is (body.Look k x) n floor e = cc
-Looks-is (body.Seen p f l m) n floor e = absurd (cc)
-Looks-is (body.Took f l m x) n floor e = absurd (cc)
-Looks-is body.Done n floor e = absurd (cc)
-Looks-is (body.Rest k) n floor e = absurd (cc)
-Looks-is (body.Lock c) n floor e = absurd (cc)
-Looks-is (body.Unlock c) n floor e = absurd (cc)
-Looks-is (body.Dec p b d k) n floor e = absurd (cc)
-Looks-is (body.Back p x b to) n floor e = absurd (cc)
-Looks-is body.Spent n floor e = absurd (cc)
-Looks-is (body.Spill x) n floor e = absurd (cc)
 Looks-is _ n floor e = absurd (cc)
 
 pub Sees-is : (b : Body) (q f l m : ℕ) → role_of b ≡ Sees q f l m → b ≡ body.Seen q f l m
 unfolding role_of
-Sees-is (body.Look k x) q f l m e = absurd (cc)
 Sees-is (body.Seen p g h n) q f l m e = cc
-Sees-is (body.Took g h n x) q f l m e = absurd (cc)
-Sees-is body.Done q f l m e = absurd (cc)
-Sees-is (body.Rest k) q f l m e = absurd (cc)
-Sees-is (body.Lock c) q f l m e = absurd (cc)
-Sees-is (body.Unlock c) q f l m e = absurd (cc)
-Sees-is (body.Dec p b d k) q f l m e = absurd (cc)
-Sees-is (body.Back p x b to) q f l m e = absurd (cc)
-Sees-is body.Spent q f l m e = absurd (cc)
-Sees-is (body.Spill x) q f l m e = absurd (cc)
 Sees-is _ q f l m e = absurd (cc)
 
 item-is : (i : Item) (b : Body) → (i.of == 0) ≡ true → i.body ≡ b → i ≡ record { of = 0; body = b }
@@ -185,15 +165,7 @@ module _ (s : Setting) (before : List Item) (i : Item) where
       (looked_at s (before ++ i ∷ []) (record k { looks = n }) (above s.sys floor) kept.0 kept.1 none
       (record { front = before; empties = []; n = n; stands = rw (sym level) (ap (λ x. before ++ x ∷ []) look); none = tt; objects = []; saw = tt; all = ap (λ x. above s.sys x) level })
       (rw (sym level) (above_ones s.sys floor)))
-  look_reads k next (Sees p f l m) is h none e = absurd (cc)
-  look_reads k next Takes is h none e = absurd (cc)
-  look_reads k next Ends is h none e = absurd (cc)
-  look_reads k next (Rests n) is h none e = absurd (cc)
-  look_reads k next (Holds c) is h none e = absurd (cc)
-  look_reads k next Drops is h none e = absurd (cc)
-  look_reads k next RunsOut is h none e = absurd (cc)
-  look_reads k next Spills is h none e = absurd (cc)
-  look_reads k next Acts is h none e = absurd (cc)
+  look_reads k next _ is h none e = absurd (cc)
 
   seen_reads : (k next : Reading) (p : ℕ) (others : List ℕ) (r : Role) → role_of i.body ≡ r → IsRead s before k → k.unstarted ≡ []
       → PlaceIs s.sys (floor_in s.sys s.kernel k.running k.ceiling) before (Looking p others)
@@ -233,15 +205,7 @@ module _ (s : Setting) (before : List Item) (i : Item) where
             all = append_assoc looked.objects (p ∷ []) others ∙ looked.all;
           })
           there.1.1)
-  seen_reads k next p others (Looks n floor) is h none there e = absurd (cc)
-  seen_reads k next p others Takes is h none there e = absurd (cc)
-  seen_reads k next p others Ends is h none there e = absurd (cc)
-  seen_reads k next p others (Rests n) is h none there e = absurd (cc)
-  seen_reads k next p others (Holds c) is h none there e = absurd (cc)
-  seen_reads k next p others Drops is h none there e = absurd (cc)
-  seen_reads k next p others RunsOut is h none there e = absurd (cc)
-  seen_reads k next p others Spills is h none there e = absurd (cc)
-  seen_reads k next p others Acts is h none there e = absurd (cc)
+  seen_reads k next p others _ is h none there e = absurd (cc)
 
   -- a record that changes neither the steps under way nor the ceiling, and leaves the reading in its place
   read_on : (k : Reading) (r : Role) → role_of i.body ≡ r → IsRead s before k
@@ -274,12 +238,7 @@ module _ (s : Setting) (before : List Item) (i : Item) where
   own_reads k next p outer (Holds c) is h none runs inside e = let to : record k { ceiling = c } ≡ next = cc in subst (IsRead s (before ++ i ∷ [])) to (held k c is h inside)
   own_reads k next p outer Drops is h none runs inside e = let to : k ≡ next = cc in subst (IsRead s (before ++ i ∷ [])) to (read_on k Drops is h refl refl (rw inside tt))
   own_reads k next p outer Acts is h none runs inside e = let to : k ≡ next = cc in subst (IsRead s (before ++ i ∷ [])) to (read_on k Acts is h refl refl (rw inside tt))
-  own_reads k next p outer (Looks n floor) is h none runs inside e = absurd (cc)
-  own_reads k next p outer (Sees q f l m) is h none runs inside e = absurd (cc)
-  own_reads k next p outer Takes is h none runs inside e = absurd (cc)
-  own_reads k next p outer (Rests n) is h none runs inside e = absurd (cc)
-  own_reads k next p outer RunsOut is h none runs inside e = absurd (cc)
-  own_reads k next p outer Spills is h none runs inside e = absurd (cc)
+  own_reads k next p outer _ is h none runs inside e = absurd (cc)
 
   inside_reads : (k next : Reading) (running : List ℕ) (r : Role) → role_of i.body ≡ r → IsRead s before k → k.unstarted ≡ [] → k.running ≡ running → k.place ≡ Inside
       → inside_next s k running i.of r ≡ Some next → IsRead s (before ++ i ∷ []) next
@@ -307,14 +266,7 @@ module _ (s : Setting) (before : List Item) (i : Item) where
       let ok = granted _ _ next e in
       let kept = stays k next RunsOut is h refl refl in
       subst (IsRead s (before ++ i ∷ [])) ok.1 (record { running = kept.0; ceiling = kept.1; starts = rw none tt; place = tt })
-  found_reads k next p (Looks n floor) is h none found e = absurd (cc)
-  found_reads k next p (Sees q f l m) is h none found e = absurd (cc)
-  found_reads k next p Ends is h none found e = absurd (cc)
-  found_reads k next p (Rests n) is h none found e = absurd (cc)
-  found_reads k next p (Holds c) is h none found e = absurd (cc)
-  found_reads k next p Drops is h none found e = absurd (cc)
-  found_reads k next p Spills is h none found e = absurd (cc)
-  found_reads k next p Acts is h none found e = absurd (cc)
+  found_reads k next p _ is h none found e = absurd (cc)
 
   ended_reads : (k next : Reading) (p : ℕ) (r : Role) → role_of i.body ≡ r → IsRead s before k → k.unstarted ≡ [] → k.place ≡ Ended p
       → ended_next s k p i.of r ≡ Some next → IsRead s (before ++ i ∷ []) next
@@ -322,15 +274,7 @@ module _ (s : Setting) (before : List Item) (i : Item) where
   ended_reads k next p Drops is h none ended e =
       let ok = granted _ _ next e in
       subst (IsRead s (before ++ i ∷ [])) ok.1 (read_on k Drops is h refl refl (rw ended tt))
-  ended_reads k next p (Looks n floor) is h none ended e = look_reads k next (Looks n floor) is h none e
-  ended_reads k next p (Sees q f l m) is h none ended e = look_reads k next (Sees q f l m) is h none e
-  ended_reads k next p Takes is h none ended e = look_reads k next Takes is h none e
-  ended_reads k next p Ends is h none ended e = look_reads k next Ends is h none e
-  ended_reads k next p (Rests n) is h none ended e = look_reads k next (Rests n) is h none e
-  ended_reads k next p (Holds c) is h none ended e = look_reads k next (Holds c) is h none e
-  ended_reads k next p RunsOut is h none ended e = look_reads k next RunsOut is h none e
-  ended_reads k next p Spills is h none ended e = look_reads k next Spills is h none e
-  ended_reads k next p Acts is h none ended e = look_reads k next Acts is h none e
+  ended_reads k next p r is h none ended e = look_reads k next r is h none e
 
   rest_reads : (k next : Reading) (r : Role) → role_of i.body ≡ r → IsRead s before k → k.unstarted ≡ [] → rest_next s k i.of r ≡ Some next → IsRead s (before ++ i ∷ []) next
   rest_reads k next (Rests n) is h none e =
@@ -342,15 +286,7 @@ module _ (s : Setting) (before : List Item) (i : Item) where
           → IsRead s (before ++ i ∷ []) (cond b (record k { place = Again }) (record k { place = Over; idle = cond k.stepped k.idle (k.idle + 1); stepped = false }))
       go true kept = record { running = kept.0; ceiling = kept.1; starts = rw none tt; place = tt }
       go false kept = record { running = kept.0; ceiling = kept.1; starts = rw none tt; place = tt }
-  rest_reads k next (Looks n floor) is h none e = absurd (cc)
-  rest_reads k next (Sees q f l m) is h none e = absurd (cc)
-  rest_reads k next Takes is h none e = absurd (cc)
-  rest_reads k next Ends is h none e = absurd (cc)
-  rest_reads k next (Holds c) is h none e = absurd (cc)
-  rest_reads k next Drops is h none e = absurd (cc)
-  rest_reads k next RunsOut is h none e = absurd (cc)
-  rest_reads k next Spills is h none e = absurd (cc)
-  rest_reads k next Acts is h none e = absurd (cc)
+  rest_reads k next _ is h none e = absurd (cc)
 
   place_reads : (k next : Reading) (place : Upcoming) (r : Role) → role_of i.body ≡ r → IsRead s before k → k.unstarted ≡ [] → k.place ≡ place
       → place_next s k i.of r place ≡ Some next → IsRead s (before ++ i ∷ []) next
@@ -390,12 +326,7 @@ module _ (s : Setting) (before : List Item) (i : Item) where
       go (Holds c) is e first (none, inside) = let to : record k { ceiling = c } ≡ next = cc in subst (IsRead s (before ++ i ∷ [])) to (held k c is h inside)
       go Drops is e first (none, inside) = let to : k ≡ next = cc in subst (IsRead s (before ++ i ∷ [])) to (read_on k Drops is h refl refl (rw inside tt))
       go Acts is e first (none, inside) = let to : k ≡ next = cc in subst (IsRead s (before ++ i ∷ [])) to (read_on k Acts is h refl refl (rw inside tt))
-      go (Looks n floor) is e first ok = absurd (cc)
-      go (Sees q f l m) is e first ok = absurd (cc)
-      go Takes is e first ok = absurd (cc)
-      go (Rests n) is e first ok = absurd (cc)
-      go RunsOut is e first ok = absurd (cc)
-      go Spills is e first ok = absurd (cc)
+      go _ is e first ok = absurd (cc)
 
   started_reads : (k next : Reading) (us : List ℕ) (r : Role) → role_of i.body ≡ r → IsRead s before k → k.unstarted ≡ us
       → started_next s k i.of r us ≡ Some next → IsRead s (before ++ i ∷ []) next
@@ -413,15 +344,7 @@ module _ (s : Setting) (before : List Item) (i : Item) where
       let ok = granted _ _ next e in
       let kept = stays k next Spills is h refl refl in
       subst (IsRead s (before ++ i ∷ [])) ok.1 (record { running = kept.0; ceiling = kept.1; starts = tt; place = tt })
-  role_reads k next (Looks n floor) is h e = started_reads k next k.unstarted (Looks n floor) is h refl e
-  role_reads k next (Sees q f l m) is h e = started_reads k next k.unstarted (Sees q f l m) is h refl e
-  role_reads k next Takes is h e = started_reads k next k.unstarted Takes is h refl e
-  role_reads k next Ends is h e = started_reads k next k.unstarted Ends is h refl e
-  role_reads k next (Rests n) is h e = started_reads k next k.unstarted (Rests n) is h refl e
-  role_reads k next (Holds c) is h e = started_reads k next k.unstarted (Holds c) is h refl e
-  role_reads k next Drops is h e = started_reads k next k.unstarted Drops is h refl e
-  role_reads k next RunsOut is h e = started_reads k next k.unstarted RunsOut is h refl e
-  role_reads k next Acts is h e = started_reads k next k.unstarted Acts is h refl e
+  role_reads k next r is h e = started_reads k next k.unstarted r is h refl e
 
   lane_reads : (k next : Reading) → IsRead s before k → lane_next s k i ≡ Some next → IsRead s (before ++ i ∷ []) next
   unfolding lane_next
@@ -442,20 +365,16 @@ takes_found s k next o e = started k.unstarted e
 
     at : (place : Upcoming) → k.place ≡ place → place_next s k o Takes place ≡ Some next → k.place ≡ Chosen o
     at Inside is e = inside k.running e
-    at (Looking p others) is e = absurd (cc)
     at (Chosen p) is e =
         let ok = granted (o == p) (record k { running = p ∷ k.running; place = Inside; stepped = true }) next e in
         let same : o ≡ p = grind (arith, nat_tests, ok.0) in
         is ∙ ap (λ x. Chosen x) (sym same)
-    at (Ended p) is e = absurd (cc)
-    at Resting is e = absurd (cc)
-    at Again is e = absurd (cc)
     at Over is e = go (s.kernel == qk) e
       where
         go : (b : Bool) → cond b (look_next s k o Takes) None ≡ Some next → k.place ≡ Chosen o
         go true e = absurd (cc)
         go false e = absurd (cc)
-    at Halted is e = absurd (cc)
+    at _ is e = absurd (cc)
 
     started : (us : List ℕ) → started_next s k o Takes us ≡ Some next → k.place ≡ Chosen o
     started [] e = at k.place refl e
@@ -546,17 +465,13 @@ rests_found s k next o n e = started k.unstarted e
 
     at : (place : Upcoming) → k.place ≡ place → place_next s k o (Rests n) place ≡ Some next → k.place ≡ Resting
     at Inside is e = inside k.running e
-    at (Looking p others) is e = absurd (cc)
-    at (Chosen p) is e = absurd (cc)
-    at (Ended p) is e = absurd (cc)
     at Resting is e = is
-    at Again is e = absurd (cc)
     at Over is e = go (s.kernel == qk) e
       where
         go : (b : Bool) → cond b (look_next s k o (Rests n)) None ≡ Some next → k.place ≡ Resting
         go true e = absurd (cc)
         go false e = absurd (cc)
-    at Halted is e = absurd (cc)
+    at _ is e = absurd (cc)
 
     started : (us : List ℕ) → started_next s k o (Rests n) us ≡ Some next → k.place ≡ Resting
     started [] e = at k.place refl e

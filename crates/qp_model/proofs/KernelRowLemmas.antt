@@ -9,7 +9,7 @@ use Rattle.qp_model.specs.declared.bodies.Body.TheVariants as body
 use Rattle.qp_model.specs.Record.{Item}
 use Rattle.qp_model.specs.Knowing.{Facts}
 use Rattle.qp_model.specs.Kernels.{qk}
-use Rattle.qp_model.specs.KernelLane.{Role, Looks, Sees, Takes, Ends, Rests, Holds, Drops, RunsOut, Spills, Acts, role_of, ceiling_of, Setting, floor_in, above, Upcoming, Inside, Looking, Chosen, Ended, Resting, Again, Over, Halted, Reading, base_ended, looking_at, look_next, inside_next, ended_next, place_next, started_next, role_next, lane_next, lane_on}
+use Rattle.qp_model.specs.KernelLane.{Role, Looks, Holds, Drops, Acts, role_of, ceiling_of, Setting, floor_in, above, Upcoming, Inside, Looking, Chosen, Ended, Resting, Again, Over, Halted, Reading, base_ended, looking_at, look_next, inside_next, ended_next, place_next, started_next, role_next, lane_next, lane_on}
 use Rattle.qp_model.specs.Points.{pieces_at, pieces_in, begins_row}
 
 pub lane_on-append : (s : Setting) (k : Reading) (xs ys : List Item) → lane_on s k (xs ++ ys) ≡ option_and_then (λ m. lane_on s m ys) (lane_on s k xs)
@@ -65,13 +65,7 @@ unfolding role_next started_next place_next inside_next
 own-role s k p outer (Holds c) at own = let self : (p == p) ≡ true = grind (arith, nat_tests) in rw (at.started, at.inside, at.running, self) refl
 own-role s k p outer Drops at own = let self : (p == p) ≡ true = grind (arith, nat_tests) in rw (at.started, at.inside, at.running, self) refl
 own-role s k p outer Acts at own = let self : (p == p) ≡ true = grind (arith, nat_tests) in rw (at.started, at.inside, at.running, self) refl
-own-role s k p outer (Looks n floor) at own = absurd own
-own-role s k p outer (Sees q f l m) at own = absurd own
-own-role s k p outer Takes at own = absurd own
-own-role s k p outer Ends at own = absurd own
-own-role s k p outer (Rests n) at own = absurd own
-own-role s k p outer RunsOut at own = absurd own
-own-role s k p outer Spills at own = absurd own
+own-role s k p outer _ at own = absurd own
 
 -- a record of the running object moves the ceiling alone
 pub own-next : (s : Setting) (k : Reading) (p : ℕ) (outer : List ℕ) (i : Item) → IsWithin k p outer → IsOwn p i → lane_next s k i ≡ Some (record k { ceiling = ceiling_of k.ceiling (role_of i.body) })
@@ -83,13 +77,7 @@ unfolding role_next started_next
 own-start s k o others (Holds c) first own = let self : (o == o) ≡ true = grind (arith, nat_tests) in rw (first, self) refl
 own-start s k o others Drops first own = let self : (o == o) ≡ true = grind (arith, nat_tests) in rw (first, self) refl
 own-start s k o others Acts first own = let self : (o == o) ≡ true = grind (arith, nat_tests) in rw (first, self) refl
-own-start s k o others (Looks n floor) first own = absurd own
-own-start s k o others (Sees q f l m) first own = absurd own
-own-start s k o others Takes first own = absurd own
-own-start s k o others Ends first own = absurd own
-own-start s k o others (Rests n) first own = absurd own
-own-start s k o others RunsOut first own = absurd own
-own-start s k o others Spills first own = absurd own
+own-start s k o others _ first own = absurd own
 
 -- a start goes on by its object's records
 pub start-next : (s : Setting) (k : Reading) (o : ℕ) (others : List ℕ) (i : Item) → k.unstarted ≡ o ∷ others → IsOwn o i → lane_next s k i ≡ Some (record k { ceiling = ceiling_of k.ceiling (role_of i.body) })
@@ -126,10 +114,9 @@ look-place s k n floor Inside (p ∷ outer) may at = let other : (0 == p) ≡ fa
 look-place s k n floor (Ended p) running may at = refl
 look-place s k n floor Again running may at = refl
 look-place s k n floor Over running may at = let is : (s.kernel == qk) ≡ true = grind (arith, nat_tests, may) in rw is refl
-look-place s k n floor (Looking p others) running may at = absurd may
-look-place s k n floor (Chosen p) running may at = absurd may
 look-place s k n floor Resting running may at = absurd may
 look-place s k n floor Halted running may at = absurd may
+look-place s k n floor _ running may at = absurd may
 
 -- a look with the next count and the floor that stands looks at the objects above it
 pub look-next : (s : Setting) (k : Reading) (n floor : ℕ) → k.unstarted ≡ [] → MayLook s.kernel k.place k.running → n ≡ k.looks + 1 → floor ≡ floor_in s.sys s.kernel k.running k.ceiling
@@ -185,10 +172,4 @@ rest-next s k started at = let self : (k.looks == k.looks) ≡ true = grind (ari
 pub no-row : (o : ℕ) (place : Upcoming) (running : List ℕ) → begins_row o place running false ≡ false
 no-row o Inside [] = refl
 no-row o Inside (p ∷ outer) = refl
-no-row o (Looking p others) running = refl
-no-row o (Chosen p) running = refl
-no-row o (Ended p) running = refl
-no-row o Resting running = refl
-no-row o Again running = refl
-no-row o Over running = refl
-no-row o Halted running = refl
+no-row o _ running = refl

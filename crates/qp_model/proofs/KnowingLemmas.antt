@@ -13,7 +13,7 @@ use Rattle.qp_model.specs.declared.bodies.Body.{Body}
 use Rattle.qp_model.specs.declared.bodies.Body.TheVariants.{Took, New, Dec, Back, Same}
 use Rattle.qp_model.specs.Record.{Item}
 use Rattle.qp_model.specs.Told.{Event, Free, Left, Member, for_object, Told}
-use Rattle.qp_model.specs.History.{touch, Draws, same_word, drawn_on, drawn_as, total, hist, is_numbered, Touch, Shows, Neither}
+use Rattle.qp_model.specs.History.{touch, Draws, same_word, drawn_on, drawn_as, total, hist, is_numbered, Touch}
 use Rattle.qp_model.specs.Machine.{after}
 use Rattle.qp_model.specs.FreeBlocks.{free_blocks}
 use Rattle.qp_model.specs.References.{references}
@@ -141,22 +141,6 @@ module _ (sys : System) (xs : List Item) (i : Item) (ys : List Item) (later : Is
   all_settled-stays [] settled = tt
   all_settled-stays (j ∷ js) settled = (settled-stays j.body settled.0, all_settled-stays js settled.1)
 
-  -- the records of an object in a lane, as they were told
-  pub records_of-stays : (o c : ℕ) (lane : List Item) → AllSettled (xs ++ ys) lane
-      → records_of (record { sys = sys; items = xs ++ i ∷ ys }) o c lane ≡ records_of (record { sys = sys; items = xs ++ ys }) o c lane
-  unfolding AllSettled records_of told
-  records_of-stays o c [] settled = refl
-  records_of-stays o c (j ∷ js) settled = go (j.of == o) (known-stays o c j.body settled.0) (records_of-stays o (ceiling_after c j.body) js settled.1)
-    where
-      go : (mine : Bool) → known_of (record { sys = sys; items = xs ++ i ∷ ys }) o c j.body ≡ known_of (record { sys = sys; items = xs ++ ys }) o c j.body
-          → records_of (record { sys = sys; items = xs ++ i ∷ ys }) o (ceiling_after c j.body) js ≡ records_of (record { sys = sys; items = xs ++ ys }) o (ceiling_after c j.body) js
-          → cond mine (record { body = j.body; known = known_of (record { sys = sys; items = xs ++ i ∷ ys }) o c j.body } ∷ records_of (record { sys = sys; items = xs ++ i ∷ ys }) o (ceiling_after c j.body) js)
-          (records_of (record { sys = sys; items = xs ++ i ∷ ys }) o (ceiling_after c j.body) js)
-          ≡ cond mine (record { body = j.body; known = known_of (record { sys = sys; items = xs ++ ys }) o c j.body } ∷ records_of (record { sys = sys; items = xs ++ ys }) o (ceiling_after c j.body) js)
-          (records_of (record { sys = sys; items = xs ++ ys }) o (ceiling_after c j.body) js)
-      go true k e = rw (k, e) refl
-      go false k e = e
-
   -- and all records of a lane
   pub told_lane-stays : (c : ℕ) (lane : List Item) → AllSettled (xs ++ ys) lane
       → told_lane (record { sys = sys; items = xs ++ i ∷ ys }) c lane ≡ told_lane (record { sys = sys; items = xs ++ ys }) c lane
@@ -269,5 +253,4 @@ next-draws w before (Draws v mark) on next =
     let here : mark ≡ suc (total w before) = same ∙ ap (λ u. suc (total u before)) is in
     let test : (mark == suc (total w before)) ≡ true = grind (arith, nat_tests, here) in
     and_from _ _ on test
-next-draws w before (Shows v mark) on next = absurd (cc)
-next-draws w before Neither on next = absurd (cc)
+next-draws w before _ on next = absurd (cc)

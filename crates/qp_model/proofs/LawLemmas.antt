@@ -1,5 +1,5 @@
 -- The laws of lawful journals.
-use Rattle.std.proofs.Common.{◌≡◌, ◌≢◌, ℕ, suc, zero, ◌+◌, ◌<◌, ◌==◌, nat_lt, Bool, true, false, not, ◌||◌, cond, List, [], ◌∷◌, length, refl, sym, ◌∙◌, subst, Some, None, inl, inr, ◌⊎◌, arith}
+use Rattle.std.proofs.Common.{◌≡◌, ◌≢◌, ℕ, suc, zero, ◌+◌, ◌<◌, ◌==◌, nat_lt, Bool, true, false, not, ◌||◌, cond, List, [], ◌∷◌, length, refl, sym, ◌∙◌, subst, Some, None, arith}
 use Rattle.std.specs.Prelude.{⊤, IsTrue}
 use Rattle.std.specs.declared.option.Option.{Option}
 use Rattle.std.specs.Bool.{MatchBool}
@@ -22,7 +22,7 @@ use Rattle.qp_model.specs.Kernels.{port, qv}
 use Rattle.qp_model.specs.Home.{lane_at}
 use Rattle.qp_model.specs.KernelLane.{Reading, lane_read}
 use Rattle.qp_model.specs.Ends.{quiet, asserted, spent, spills_in}
-use Rattle.qp_model.specs.Sources.{SourceRuns, SourceEnd, AllDone, BeforeStimulus, AfterTry, AtAssert, InStimulus, may_end, source_records}
+use Rattle.qp_model.specs.Sources.{SourceRuns, SourceEnd, AllDone, may_end, source_records}
 use Rattle.qp_model.specs.End.{end_of, lines_empty, block_rests, blocks_rest}
 use Rattle.qp_model.specs.Lawful.{KernelHolds, SourceLanes, EndHolds, reading_holds, is_settle, setting_of, facts_of, lanes_before, deferred_of}
 use Rattle.qp_model.specs.Laws.{StepsBeginAboveTheFloor, CooperativeStepsStandAlone, KernelRestsWhereAllAreEmpty, QuietEndLeavesNothing, QueueIsEmpty, BlockRests, StimuliDone}
@@ -93,10 +93,7 @@ blocks_at_rest sys j h (suc k) b is =
 
 all_done : (spills : Bool) (stop : SourceEnd) → may_end quiet spills stop ≡ true → stop ≡ AllDone
 all_done spills AllDone h = refl
-all_done spills BeforeStimulus h = cc
-all_done spills AfterTry h = cc
-all_done spills AtAssert h = cc
-all_done spills InStimulus h = cc
+all_done spills _ h = cc
 
 sources_done : (sys : System) (j : Journal) → j.end ≡ quiet → (n : ℕ) (stimuli : List (List Stim)) → SourceLanes sys j n stimuli → StimuliDone sys j n stimuli
 unfolding SourceLanes StimuliDone

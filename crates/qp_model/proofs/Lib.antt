@@ -1,4 +1,3 @@
-pub mod ActsLemmas
 pub mod Completes
 pub mod CourseLemmas
 pub mod PublicationLemmas

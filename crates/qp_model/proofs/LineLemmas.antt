@@ -1,5 +1,5 @@
 -- A queue's word when an entry is posted, taken or seen.
-use Rattle.std.proofs.Common.{◌≡◌, ℕ, suc, ◌+◌, ◌-◌, ◌≤◌, ◌==◌, nat_le, true, List, [], ◌∷◌, ◌++◌, length, drop, refl, sym, ap, arith, length-append, subst}
+use Rattle.std.proofs.Common.{◌≡◌, ℕ, suc, ◌+◌, ◌-◌, ◌≤◌, ◌==◌, nat_le, true, List, [], ◌∷◌, ◌++◌, length, drop, refl, sym, ap, arith, length-append}
 use Rattle.std.proofs.lemmas.Bool.{and_from, and_parts}
 use Rattle.std.proofs.lemmas.Bool.Decides.{nat_tests}
 use Rattle.qp_model.specs.declared.record.Rec.{Rec}
@@ -9,7 +9,6 @@ use Rattle.qp_model.specs.declared.bodies.Body.{Body}
 use Rattle.qp_model.specs.declared.bodies.Body.TheVariants.{Post, Lifo, Took, Nil, Seen, Full, NoEntry, NoLifo}
 use Rattle.qp_model.specs.Record.{Item, item_of}
 use Rattle.qp_model.specs.Line.{Line, line, line_may, line_next, same_entry, is_front, counts_are}
-use Rattle.qp_model.specs.History.{hist, all_items}
 use Rattle.qp_model.specs.Machine.{after, is_allowed}
 use Rattle.qp_model.proofs.MachineLemmas.{Counts, after-keeps}
 use Rattle.qp_model.proofs.WordLemmas.{Held, held-draws, held-shows}
@@ -53,9 +52,6 @@ line_stays ring s _ h is = cc
 
 pub line_is : (ring : ℕ) (history : List Item) → is_allowed (line ring) history ≡ true → IsLine ring (after (line ring) history)
 line_is ring history h = after-keeps (line ring) (IsLine ring) (λ s i may is. line_stays ring s i.body may is) (record { counted = refl; fits = omega arith }) history h
-
-pub held-is_line : (ring a : ℕ) (lanes : List (List Rec)) (s : Line) → Held Line (line ring) (word.Queue a) lanes s → IsLine ring s
-held-is_line ring a lanes s held = subst (IsLine ring) held.state (line_is ring (hist (word.Queue a) (all_items lanes)) held.keeps.allowed)
 
 -- A record at the end of a lane that stands among others, for the queue of a, which has this line now.
 module _ (before : List (List Rec)) (lane : List Rec) (behind : List (List Rec)) (r : Rec) (ring a : ℕ) (s : Line)

@@ -6,7 +6,7 @@ use Rattle.std.proofs.lemmas.Bool.Decides.{nat_tests}
 use Rattle.qp_model.specs.declared.words.Word.{Word}
 use Rattle.qp_model.specs.declared.bodies.Body.{Body}
 use Rattle.qp_model.specs.Record.{Item}
-use Rattle.qp_model.specs.History.{touch, same_word, Touch, Draws, Shows, Neither, drawn_on, shown_on, hist, total, is_numbered, drawn_as}
+use Rattle.qp_model.specs.History.{touch, same_word, Touch, Draws, Shows, drawn_on, shown_on, hist, total, is_numbered, drawn_as}
 use Rattle.qp_model.specs.Machine.{Machine, after_from, after, allowed_from, is_allowed, shown_by, is_shown}
 use Rattle.qp_model.proofs.ListLemmas.{list_all-insert}
 use Rattle.qp_model.proofs.HistoryLemmas.{hist-draws, hist-other, drawn_as-on}
@@ -96,26 +96,23 @@ module _ {S : Type 0} (m : Machine S) where
 
     pub shown_by-more : (b : Body) (t : Touch) → shown_by m w history b t ≡ true → shown_by m w (history ++ i ∷ []) b t ≡ true
     unfolding shown_by
-    shown_by-more b (Draws v n) h = refl
-    shown_by-more b Neither h = refl
     shown_by-more b (Shows v n) h = go (same_word v w) h
       where
         go : (same : Bool) → cond same (nat_le n (length history) && m.says (after m (take n history)) b) true ≡ true
             → cond same (nat_le n (length (history ++ i ∷ [])) && m.says (after m (take n (history ++ i ∷ []))) b) true ≡ true
         go true e = within b n e
         go false e = refl
+    shown_by-more b _ h = refl
 
   -- a record that doesn't show the word shows nothing wrong of it
   pub shown_by-none : (w : Word) (history : List Item) (b : Body) (t : Touch) → shown_on w t ≡ false → shown_by m w history b t ≡ true
   unfolding shown_by
-  shown_by-none w history b (Draws v n) h = refl
   shown_by-none w history b (Shows v n) h = rw h refl
-  shown_by-none w history b Neither h = refl
+  shown_by-none w history b _ h = refl
 
   drawn-not_shown : (w : Word) (t : Touch) → drawn_on w t ≡ true → shown_on w t ≡ false
   drawn-not_shown w (Draws v n) h = refl
-  drawn-not_shown w (Shows v n) h = cc
-  drawn-not_shown w Neither h = cc
+  drawn-not_shown w _ h = cc
 
   pub is_shown-draws : (w : Word) (xs : List Item) (i : Item) (ys : List Item) → is_numbered w (xs ++ ys) ≡ true → drawn_as w (total w (xs ++ ys)) (touch i) ≡ true
       → is_shown m w (xs ++ ys) ≡ true → is_shown m w (xs ++ i ∷ ys) ≡ true

@@ -84,13 +84,7 @@ module _ (sys : System) (a : Actor) (at : Moment) where
       by (Calls x) h = call-noteless c later failed x ps h
   task-notes c later failed (Raise ceiling) ps h = inl (record c { former = h.0 }, h.1.0, ap (λ us. notes_in (bare us)) h.1.1, h.1.2)
   task-notes c later failed Restore ps h = inl (c, h.2.0, ap (λ us. notes_in (bare us)) h.1 ∙ ap (λ us. notes_in (bare us)) h.2.1, h.2.2)
-  task-notes c later failed Begin ps h = inl (c, h.0, ap (λ us. notes_in (bare us)) h.1, h.2)
-  task-notes c later failed (Run s k) ps h = inl (c, h.0, ap (λ us. notes_in (bare us)) h.1, h.2)
-  task-notes c later failed Unhandled ps h = inl (c, h.0, ap (λ us. notes_in (bare us)) h.1, h.2)
-  task-notes c later failed (Exit s) ps h = inl (c, h.0, ap (λ us. notes_in (bare us)) h.1, h.2)
-  task-notes c later failed (Enter s) ps h = inl (c, h.0, ap (λ us. notes_in (bare us)) h.1, h.2)
-  task-notes c later failed (Init s) ps h = inl (c, h.0, ap (λ us. notes_in (bare us)) h.1, h.2)
-  task-notes c later failed Done ps h = inl (c, h.0, ap (λ us. notes_in (bare us)) h.1, h.2)
+  task-notes c later failed _ ps h = inl (c, h.0, ap (λ us. notes_in (bare us)) h.1, h.2)
 
   -- tasks that are done to their end leave just their notes
   pub does-notes : (ts : List Task) (c d : Config) (ps : List Piece) → Does sys a at ts c ps (Some d) → notes_in (bare ps) ≡ notes_of ts

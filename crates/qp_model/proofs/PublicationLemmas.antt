@@ -7,7 +7,7 @@ use Rattle.qp_model.specs.declared.bodies.Entry.{Entry}
 use Rattle.qp_model.specs.declared.bodies.Body.TheVariants as item
 use Rattle.qp_model.specs.Told.{Told, plain}
 use Rattle.qp_model.specs.Calls as call
-use Rattle.qp_model.specs.Calls.{Call, Answer, Granted, Refused, AtQueue, AtPool}
+use Rattle.qp_model.specs.Calls.{Granted, AtQueue}
 use Rattle.qp_model.specs.Sites.{ring_of}
 use Rattle.qp_model.specs.Parts.{is_static, sizes_of}
 use Rattle.qp_model.specs.Shapes.{Fits, Drops, releases_by, Releases, MakesBlock, MakesNew, again_by, MakesAgain, Posts, PostsOne, PostsToAll, PostsUpTo, PublishesFirst, PublishesLast, Publishes, raising, restoring}

@@ -9,7 +9,7 @@ use Rattle.qp_model.specs.declared.bodies.Body.{Body}
 use Rattle.qp_model.specs.declared.bodies.Body.TheVariants as item
 use Rattle.qp_model.specs.Told.{Told, plain, raised}
 use Rattle.qp_model.specs.Calls as call
-use Rattle.qp_model.specs.Calls.{Call, Answer, Granted, AtQueue, Deed, Sets, Says, Calls, deed_of, ok_after, is_assertion}
+use Rattle.qp_model.specs.Calls.{Call, Answer, Granted, AtQueue, Sets, Says, Calls, deed_of, ok_after, is_assertion}
 use Rattle.qp_model.specs.Parts.{is_static, sizes_of}
 use Rattle.qp_model.specs.Sites.{ring_of}
 use Rattle.qp_model.specs.Shapes.{Fits, PostsOne, PublishesFirst, PublishesLast}
@@ -61,9 +61,8 @@ module _ (sys : System) (a : Actor) (at : Moment) where
         by_task (Enter s) is = with_note (Enter s) (item.Enter s) (cc) (λ body mid h. (body, refl, h))
         by_task (Init s) is = with_note (Init s) (item.Init s) (cc) (λ body mid h. (body, refl, h))
         by_task Done is = with_note Done item.Done (cc) (λ body mid h. (body, refl, h))
-        by_task (Do p) is = absurd (cc)
-        by_task (Raise x) is = absurd (cc)
         by_task Restore is = absurd (cc)
+        by_task _ is = absurd (cc)
 
     -- `locked` begins: the ceiling is raised
     pub reaches-raise : (ceiling former : ℕ)

@@ -1,7 +1,6 @@
 -- Blocks and pools: references made and dropped, blocks given out and given back.
-use Rattle.std.proofs.Common.{◌≡◌, ℕ, suc, ◌+◌, ◌<◌, ◌≤◌, ◌==◌, nat_lt, nat_le, Bool, true, false, not, ◌||◌, cond, List, [], ◌∷◌, ◌++◌, length, refl, sym, ◌∙◌, ap, subst, IsTrue, ◌⊎◌, inl, inr, Option, Some, None, arith, take_all, length-append}
+use Rattle.std.proofs.Common.{◌≡◌, ℕ, suc, ◌+◌, ◌<◌, ◌≤◌, ◌==◌, nat_lt, nat_le, Bool, true, false, not, ◌||◌, cond, List, [], ◌∷◌, ◌++◌, length, refl, sym, ◌∙◌, ap, subst, IsTrue, ◌⊎◌, inl, inr, Option, Some, None, arith, take_all}
 use Rattle.std.proofs.lemmas.Bool.{and_parts}
-use Rattle.qp_model.proofs.MachineLemmas.{after-append}
 use Rattle.std.specs.List.{cons_option}
 use Rattle.std.proofs.lemmas.Bool.Decides.{nat_tests}
 use Rattle.qp_chart.specs.StateTree.{has}
@@ -22,7 +21,7 @@ use Rattle.qp_model.specs.WordLaw.{Words, is_pool, is_block}
 use Rattle.qp_model.proofs.WordLemmas.{Held, held-draws, held-shows, hist-held-draws, hist-stays}
 use Rattle.qp_model.proofs.LineLemmas.{same_number}
 use Rattle.qp_model.proofs.WordLawLemmas.{free_blocks-counts, references-counts, words-block, words-pool}
-use Rattle.qp_model.proofs.LifeLemmas.{lives-grow, lives-new, lives-back, lives-other, free-out, edge-within}
+use Rattle.qp_model.proofs.LifeLemmas.{lives-grow, lives-new, lives-back, lives-other, free-out}
 
 -- A record at the end of a lane that stands among others, for block b of pool p, to which these references stand.
 module _ (before : List (List Rec)) (lane : List Rec) (behind : List (List Rec)) (r : Rec) (p b : ℕ) (s : Refs)
@@ -237,15 +236,3 @@ alive-referred blocks b pool block below out stands = record {
     given : (v : Bool) → not v ≡ false → v ≡ true
     given true e = refl
     given false e = cc
-
--- a block that has just been given out is alive
-pub alive-given : (b : ℕ) (pool block : List Item) (o p n from sig : ℕ) (pars : List ℕ) → from ≡ length block
-    → Alive b (pool ++ record { of = o; body = New p n b from sig pars } ∷ []) block
-alive-given b pool block o p n from sig pars from_is =
-    let ends : after (life_of b) (pool ++ record { of = o; body = New p n b from sig pars } ∷ []) ≡ record { out = true; edge = from } =
-    after-append (life_of b) pool (record { of = o; body = New p n b from sig pars }) ∙ rw (same_number b) refl in
-    record { out = rw ends refl; going = inl (ap (λ t. t.edge) ends ∙ from_is) }
-
--- after an operation the life of a block has begun earlier than its last operation
-pub used-after : (b : ℕ) (pool block : List Item) (i : Item) → HasLives b pool block → (after (life_of b) pool).edge < length (block ++ i ∷ [])
-used-after b pool block i old = omega (arith, length-append block (i ∷ []), edge-within b pool block old)

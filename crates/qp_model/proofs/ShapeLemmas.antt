@@ -12,7 +12,7 @@ use Rattle.qp_model.specs.Acts.{Config, Actor, Moment, DoesTask, Does, names_of}
 use Rattle.qp_model.specs.Step.{Step, StepBehind, Closes, at_leaf, moment}
 use Rattle.qp_model.specs.Course.{Starts, Steps, Course, at_start}
 use Rattle.qp_model.specs.Sequence.{Sequence}
-use Rattle.qp_model.specs.ObjectShape.{StartGroup, BrokenStart, StepHead, is_head, StepGroup, BrokenStep, IsTurn, Dispatches, FindsEmpty, LooksOnly, IsTail, Ends, OutOfBudget, BreaksStep, ObjectGroups}
+use Rattle.qp_model.specs.ObjectShape.{StartGroup, BrokenStart, StepHead, is_head, StepGroup, BrokenStep, IsTurn, Dispatches, IsTail, Ends, BreaksStep, ObjectGroups}
 use Rattle.qp_model.proofs.SequenceLemmas.{sequence-none, sequence-cons, sequence-snoc}
 use Rattle.qp_model.proofs.BlockLemmas.{Blocks, step-blocks, start-blocks}
 use Rattle.qp_model.proofs.GroupLemmas.{bare-append, bare-tell, GroupsThen, GroupsFail, blocks-parts}
@@ -214,31 +214,9 @@ module _ (sys : System) (a : Actor) where
       let parts = course-turns nils first d es ps h in
       inr (parts.0, parts.1, [], parts.2, parts.3, Ends refl, parts.4 ∙ ap (λ us. parts.0 ++ us) (sym (append-nil parts.1)))
 
-  -- behind a course that goes on `spent` may stand
-  pub course-spent : (nils cuts : Bool) (first d : Config) (es : List Entry) (ps : List Piece) → Course sys a first es ps (Some d)
-      → ObjectGroups sys a.o nils cuts (bare ps ++ plain item.Spent ∷ [])
-  unfolding ObjectGroups
-  course-spent nils cuts first d es ps h =
-      let parts = course-turns nils first d es ps h in
-      inr (
-        parts.0,
-        parts.1,
-        plain item.Spent ∷ [],
-        parts.2,
-        parts.3,
-        OutOfBudget refl,
-        ap (λ us. us ++ plain item.Spent ∷ []) parts.4 ∙ append_assoc parts.0 parts.1 (plain item.Spent ∷ []),
-      )
-
 -- a turn more: a step, or a queue found empty, or looked at
 pub turn-step : (sys : System) (o : ℕ) (nils : Bool) (turns one : List Told) → Sequence (IsTurn sys o nils) turns → StepGroup sys o one → Sequence (IsTurn sys o nils) (turns ++ one)
 turn-step sys o nils turns one h k = sequence-snoc (IsTurn sys o nils) turns one h (Dispatches k)
-
-pub turn-nil : (sys : System) (o : ℕ) (turns : List Told) (f l m : ℕ) → Sequence (IsTurn sys o true) turns → Sequence (IsTurn sys o true) (turns ++ plain (item.Nil f l m) ∷ [])
-turn-nil sys o turns f l m h = sequence-snoc (IsTurn sys o true) turns (plain (item.Nil f l m) ∷ []) h (FindsEmpty f l m refl refl)
-
-pub turn-look : (sys : System) (o : ℕ) (turns : List Told) (p f l m : ℕ) → Sequence (IsTurn sys o true) turns → Sequence (IsTurn sys o true) (turns ++ plain (item.Seen p f l m) ∷ [])
-turn-look sys o turns p f l m h = sequence-snoc (IsTurn sys o true) turns (plain (item.Seen p f l m) ∷ []) h (LooksOnly p f l m refl refl)
 
 -- a start, turns, and what may stand behind them
 pub groups-of : (sys : System) (o : ℕ) (nils cuts : Bool) (start turns tail : List Told) → StartGroup sys o start → Sequence (IsTurn sys o nils) turns → IsTail sys o cuts tail

@@ -18,15 +18,6 @@ use Rattle.qp_model.proofs.ReachLemmas.{reaches-done}
 use Rattle.qp_model.proofs.Completes.{completes, release, release_drops, again_any}
 
 module _ (sys : System) (a : Actor) (ev : Event) (e : Entry) where
-  pub advances-none : (left : Remainder) (c : Config) → Advances sys a ev e left c [] left c
-  unfolding Advances
-  advances-none left c qs end h = h
-
-  pub advances-trans : (left next later : Remainder) (c d f : Config) (g h : List Piece)
-      → Advances sys a ev e left c g next d → Advances sys a ev e next d h later f → Advances sys a ev e left c (g ++ h) later f
-  unfolding Advances
-  advances-trans left next later c d f g h one two qs end k = rw append_assoc (one (h ++ qs) end (two qs end k))
-
   -- a step advances as its agenda reaches
   pub advances-reaches : (left later : Remainder) (c d : Config) (g : List Piece) → left.leaf ≡ later.leaf
       → Reaches sys a (moment ev e) left c g later d → Advances sys a ev e left c g later d

@@ -15,13 +15,13 @@ use Rattle.qp_model.specs.declared.bodies.Body.{Body}
 use Rattle.qp_model.specs.declared.bodies.Body.TheVariants as item
 use Rattle.qp_model.specs.Told.{Told, plain, taken, raised}
 use Rattle.qp_model.specs.Calls as call
-use Rattle.qp_model.specs.Calls.{Call, Answer, Granted, Refused, Flushed, AtQueue, AtPool, AtTimer, AtTicks, AtFront, Deed, Sets, Says, Calls, deed_of, ok_after, is_assertion}
+use Rattle.qp_model.specs.Calls.{Call, Answer, AtTicks, Deed, Sets, Says, Calls, deed_of, ok_after, is_assertion}
 use Rattle.qp_model.specs.Parts.{timer_number}
 use Rattle.qp_model.specs.Shapes.{Fits, NoBlockFor, Posts, PostsFront, PostsNew, PostsNewFront, Forwards, Publishes, Defers, Recalls, Subscribes, Unsubscribes, Arms, Rearms, Disarms, ticks_fit}
 use Rattle.qp_model.specs.Pieces.{Piece, Tell, Point, bare, tell, pieces_of}
 use Rattle.qp_model.specs.Acts.{Config, Actor, Moment, DoesDeed, DoesTask, Does, names_of}
 use Rattle.qp_model.specs.Step.{StepBehind, Step, Closes, moment}
-use Rattle.qp_model.specs.Course.{Cut, Whole, Stopped, Anywhere, FollowsTo, Follows, FollowsAs, Course, Starts, Steps, actor, at_start, chart_at, first_config}
+use Rattle.qp_model.specs.Course.{Cut, Whole, FollowsTo, Follows, FollowsAs, Course, Starts, Steps, actor, at_start, chart_at, first_config}
 use Rattle.qp_model.specs.CourseLaws as law
 use Rattle.qp_model.specs.CourseLaws.{RefusesTicks, IsAgenda, OfStart, OfStep, WereRefused}
 use Rattle.qp_model.proofs.CourseLemmas.{through-follows}
@@ -114,12 +114,7 @@ module _ (t ticks interval : ℕ) where
   refused-call sys o now (call.Forward to (Some m)) g h k = absurd h.3
   refused-call sys o now (call.Publish sig pars None) g h k = absurd h
   refused-call sys o now (call.Publish sig pars (Some r)) g h k = absurd h
-  refused-call sys o now call.Defer g h k = absurd h
-  refused-call sys o now call.Recall g h k = absurd h
-  refused-call sys o now call.Flush g h k = absurd h
-  refused-call sys o now (call.Subscribe sig) g h k = absurd h
-  refused-call sys o now (call.Unsubscribe sig) g h k = absurd h
-  refused-call sys o now (call.Disarm timer) g h k = absurd h
+  refused-call sys o now _ g h k = absurd h
 
   call-refuses : (sys : System) (o : ℕ) (now : Option Entry) (x : Call) (answer : Answer) (g : List Told) → Fits sys o now x answer g
       → In (plain (item.BadTicks t ticks interval)) g → RefusesTicks sys o t ticks interval (Calls x)
@@ -325,8 +320,7 @@ module _ (t ticks interval : ℕ) where
         → (chart : Chart) × (chart_at sys d.chart ≡ Some chart) × WereRefused sys (actor d chart) t ticks interval
     unfolding FollowsTo
     cut-refuses Whole ps h k = follows-refuses ps (through-follows sys d ps h) k
-    cut-refuses Stopped ps h k = follows-refuses (ps ++ h.0) h.1 (in-more ps h.0 k)
-    cut-refuses Anywhere ps h k = follows-refuses (ps ++ h.0) h.1 (in-more ps h.0 k)
+    cut-refuses _ ps h k = follows-refuses (ps ++ h.0) h.1 (in-more ps h.0 k)
 
 pub assertion_shows_ticks : law.AssertionShowsTicks
 unfolding law.AssertionShowsTicks

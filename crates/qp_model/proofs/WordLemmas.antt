@@ -49,8 +49,7 @@ mark-draws w n (Draws v k) h =
     let here : (k == suc n) ≡ true = (and_parts _ _ h).1 in
     let is : k ≡ suc n = grind (arith, nat_tests) in
     rw (same, is) refl
-mark-draws w n (Shows v k) h = cc
-mark-draws w n Neither h = cc
+mark-draws w n _ h = cc
 
 pub mark-none : (w : Word) (t : Touch) → mark_of w t ≡ None → (drawn_on w t ≡ false) × (shown_on w t ≡ false)
 mark-none w (Draws v k) h = (go (same_word v w) h, refl)
@@ -67,15 +66,12 @@ mark-none w Neither h = (refl, refl)
 
 shown-not_drawn : (w : Word) (t : Touch) → shown_on w t ≡ true → drawn_on w t ≡ false
 shown-not_drawn w (Draws v k) h = cc
-shown-not_drawn w (Shows v k) h = refl
-shown-not_drawn w Neither h = refl
+shown-not_drawn w _ h = refl
 
 -- a record that shows w at a place of its history, and says what w held there
 shown_by-says : {S : Type 0} (m : Machine S) (w : Word) (history : List Item) (b : Body) (t : Touch) (n : ℕ) → mark_of w t ≡ Some n
     → n ≤ length history → m.says (after m (take n history)) b ≡ true → shown_by m w history b t ≡ true
 unfolding shown_by
-shown_by-says m w history b (Draws v k) n mark le says = refl
-shown_by-says m w history b Neither n mark le says = refl
 shown_by-says m w history b (Shows v k) n mark le says = go (same_word v w) mark
   where
     go : (same : Bool) → cond same (Some k) None ≡ Some n → cond same (nat_le k (length history) && m.says (after m (take k history)) b) true ≡ true
@@ -84,6 +80,7 @@ shown_by-says m w history b (Shows v k) n mark le says = go (same_word v w) mark
         let test : nat_le n (length history) ≡ true = grind (arith, nat_tests) in
         rw is (and_from _ _ test says)
     go false e = refl
+shown_by-says m w history b _ n mark le says = refl
 
 -- the marks of a lane on w are at most a number that is at least the count of w's operations
 module _ {S : Type 0} (m : Machine S) (w : Word) (items : List Item) (n : ℕ) (numbers : is_numbered w items ≡ true) (more : total w items ≤ n) where
@@ -226,19 +223,6 @@ module _ (before : List (List Rec)) (lane : List Rec) (behind : List (List Rec))
           stays (shown-not_drawn w (touch i) shows)
           (shown_by-says m w (hist w (xs ++ ys)) i.body (touch i) (m.count s) mark (omega arith) now)
           (marks-more (m.count s) mark (omega arith))
-
-      -- a record that shows what the word held after its first n operations, where no mark of its lane is above n
-      pub held-shows_earlier : (n : ℕ) → mark_of w (touch i) ≡ Some n → shown_on w (touch i) ≡ true → n ≤ m.count s
-          → m.says (after m (take n (hist w (all_items (before ++ lane ∷ behind))))) i.body ≡ true → list_all (λ x. nat_le x n) (marks w (lane_items lane)) ≡ true
-          → Held S m w (before ++ (lane ++ r ∷ []) ∷ behind) s
-      unfolding xs ys
-      held-shows_earlier n mark shows within says lower =
-          let long : length (hist w (xs ++ ys)) ≡ m.count s = length-hist w (xs ++ ys) numbers ∙ sym count-total in
-          let then : m.says (after m (take n (hist w (xs ++ ys)))) i.body ≡ true = rw (sym all_items-split) says in
-          stays (shown-not_drawn w (touch i) shows)
-          (shown_by-says m w (hist w (xs ++ ys)) i.body (touch i) n mark (omega arith) then)
-          (marks_rise-change w before behind lane (lane ++ r ∷ [])
-          (λ rising. rw (marks-grown w, mark) (never_falls-last (marks w (lane_items lane)) n rising lower)) old.keeps.marks)
 
       -- a record that is on another word, or on none
       pub held-other : mark_of w (touch i) ≡ None → Held S m w (before ++ (lane ++ r ∷ []) ∷ behind) s

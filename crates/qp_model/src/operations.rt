@@ -7,7 +7,7 @@ ghost use Rattle.qp_model.specs.declared.bodies.Body.TheVariants.{Arm, Armed, Ba
 
 use crate::bodies::Entry;
 use crate::kinds;
-use crate::record::{Rec, numbers};
+use crate::record::{Rec, add_numbers, numbers};
 use qp_base::Ev;
 
 impl Rec {
@@ -62,7 +62,7 @@ impl Rec {
             from,
             u64::from(ev.sig),
         ]);
-        let _ = nums.try_extend_from_slice(ev.pars.as_slice());
+        add_numbers(&mut nums, ev.pars.as_slice());
         Rec {
             kind: kinds::NEW,
             of: o,

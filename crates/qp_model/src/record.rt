@@ -1,6 +1,6 @@
 //! Records: the items of a lane.
 
-ghost use Rattle.std.specs.Prelude.{◌≡◌, ◌≤◌, length};
+ghost use Rattle.std.specs.Prelude.{◌≡◌, ◌+◌, ◌++◌, ◌≤◌, length};
 
 use arrayvec::ArrayVec;
 
@@ -22,4 +22,14 @@ pub(crate) fn numbers(xs: &[u64]) -> ArrayVec<u64, 13>
         nums.push(*x);
     }
     nums
+}
+
+/// Adds these numbers one by one: by a slice they went through copies on the stack.
+pub(crate) fn add_numbers(nums: &mut ArrayVec<u64, 13>, xs: &[u64])
+    requires { length nums.old.items + length xs.now ≤ 13 }
+    ensures { nums.new.items ≡ nums.old.items ++ xs.now }
+{
+    for x in xs {
+        nums.push(*x);
+    }
 }
