@@ -14,6 +14,7 @@ use Rattle.qp_calls_log.specs.contracts.codes.Codes as codes
 use Rattle.qp_calls_log.specs.contracts.log.Log as log
 use Rattle.qp_side.specs.contracts.seat.SideSeat as side
 use Rattle.qp_shared_lane.specs.contracts.lane.LaneState as lane
+use Rattle.qp_shared_lane.specs.contracts.rings.Rings as rings
 use Rattle.qp_shared.specs.contracts.lane.SharedLane as its
 use Rattle.qp_shared.specs.contracts.shared.Shared as words
 
@@ -39,19 +40,23 @@ log-send =
 side-send : (ν : NamedLft) → IsSend (side.the_field ν).row
 side-send ν = search (crosses, sendable, table.the_sync, seat.the_send) depth 40
 
+rings-send : (ν : NamedLft) → IsSend (rings.the_field ν).row
+rings-send ν = let system = sys-sync in search (crosses, sendable) depth 40
+
 lane-send : (ν : NamedLft) → IsSend (lane.the_field ν).row
 lane-send ν =
     let system = sys-sync in
+    let lengths = rings-send ν in
     let records = log-send in
     let beside = side-send ν in
     struct_send (shape (lane.the_type ν)) (
       search sendable depth 40,
       (
-        search (crosses, sendable, table.the_sync) depth 40,
+        search sendable depth 40,
         (
-          search (sendable, seat.the_send) depth 40,
+          search (crosses, sendable, table.the_sync) depth 40,
           (
-            search sendable depth 40,
+            search (sendable, seat.the_send) depth 40,
             (
               search sendable depth 40,
               (
@@ -62,7 +67,10 @@ lane-send ν =
                     search sendable depth 40,
                     (
                       search sendable depth 40,
-                      tt,
+                      (
+                        search sendable depth 40,
+                        tt,
+                      ),
                     ),
                   ),
                 ),

@@ -99,6 +99,7 @@ fn take_in(
     let SharedLane { state } = lane;
     let LaneState {
         sys: _,
+        rings: _,
         words: _,
         seat: mut own,
         side: other,

@@ -61,6 +61,7 @@ impl Shared<'_> {
         let SharedLane { state } = others.remove(0);
         let LaneState {
             sys: _,
+            rings: _,
             words: _,
             mut seat,
             side,

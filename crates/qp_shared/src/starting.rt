@@ -16,7 +16,7 @@ use crate::shared::{Root, Shared};
 use atomic_table::Seat;
 use qp_base::Memory;
 use qp_calls_log::Log;
-use qp_shared_lane::{LaneState, SideSeat};
+use qp_shared_lane::{LaneState, Rings, SideSeat};
 use qp_shared_seats::{side, table};
 use qp_shared_side::seats::give_seat;
 use qp_shared_views::Numbers;
@@ -57,6 +57,7 @@ impl Shared<'_> {
         SharedLane {
             state: LaneState {
                 sys: self.sys,
+                rings: Rings::of(self.sys),
                 words: &self.words,
                 seat,
                 side: SideSeat {

@@ -4,7 +4,9 @@
 mod lane;
 pub mod laws;
 mod putting;
+mod rings;
 
 pub use lane::LaneState;
 pub use putting::{put, put_nil, put_spill};
 pub use qp_side::SideSeat;
+pub use rings::Rings;

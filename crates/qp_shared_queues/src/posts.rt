@@ -94,7 +94,7 @@ pub fn claim<L: Ledger>(
     ensures tries { Tries (word.Queue to) (draws_claimed result)
         steps.old steps.new (state_view lane.old) (state_view lane.new) }
 {
-    let ring = lane.sys.ring_of(u64::from(to));
+    let ring = lane.rings.ring_of(to);
     let (pool, block, name) = parts(&e);
     let (found, posted) = post_entry(
         lane.words,
@@ -124,7 +124,7 @@ pub fn lifo<L: Ledger>(lane: &mut LaneState<'_>, e: Entry, steps: &mut Steps<L>)
     ensures tries { Tries (word.Queue (state_view lane.old).by) (draws_claimed result)
         steps.old steps.new (state_view lane.old) (state_view lane.new) }
 {
-    let ring = lane.sys.ring_of(u64::from(lane.by));
+    let ring = lane.rings.ring_of(lane.by);
     let (pool, block, name) = parts(&e);
     let (found, posted) = post_entry_last_in(
         lane.words,

@@ -20,7 +20,7 @@ pub fn take<R: Wait>(lane: &mut LaneState<'_>, rt: &R, me: u8) -> Take
     requires serves { IsTrue ((state_view lane.old).serves me) }
     ensures { Takes me (state_view lane.old) (state_view lane.new) result }
 {
-    let ring = lane.sys.ring_of(u64::from(me));
+    let ring = lane.rings.ring_of(me);
     let last = lane.log.nils[usize::from(me)];
     let (found, taken) = take_entry(rt, lane.words, &mut lane.seat, me, ring, last);
     let now = counts_in(found);

@@ -27,6 +27,7 @@ invariant_of-lane c =
       wide = l.wide;
       key = l.key;
       side_key = l.side_key;
+      rings_key = l.rings_key;
       holds = subst (λ z. LaneHolds l.sys.now l.count l.ceiling l.log l.numbers.list z l.side.seat.me.0) (sym u)
           (lane-keeps (world_in l) l.sys.now l.by l.count l.ceiling l.log l.numbers.list l.seat.me.0 o.seat.me.0 l.side.seat.me.0 (standing (world_in o) o.sys.now o.by o.log o.seat.me.0 o.side.seat.me.0) (told_by o.log o.numbers.list o.seat.me.0) o.log.spare
           c.requires.sys (subst (λ k. IsOnePast k (met l.seat.me.0 o.seat.me.0)) l.key past) l.holds);

@@ -1,4 +1,4 @@
-use Rattle.std.proofs.Common.{◌+◌, ◌≤◌, sym, subst, ◌∙◌}
+use Rattle.std.proofs.Common.{◌+◌, ◌≤◌, ap, sym, subst, ◌∙◌}
 use Rattle.qp_model.specs.declared.systems.System.{System}
 use Rattle.qp_model.specs.declared.bodies.Entry as model
 use Rattle.qp_model.specs.declared.words.Word.TheVariants as word
@@ -14,6 +14,9 @@ use Rattle.qp_shared_queues.proofs.Entries.{stands-in, in-hand-by, codable-by}
 use Rattle.qp_shared_queues.proofs.Claiming.{AnswerIs, claim-holds, claims-for, claim-tries}
 use Rattle.qp_shared_queues.proofs.posts.claim.Goals as goal
 
+pub ring_of-ring-requires : goal.ring_of-ring-requires
+ring_of-ring-requires g c = object-small c.args.lane.now c.args.to c.requires.object
+
 pub post_entry-found-requires-clause-object : goal.post_entry-found-requires-clause-object
 post_entry-found-requires-clause-object g c = object-key c.args.lane.now c.args.to c.requires.object
 
@@ -21,7 +24,7 @@ pub post_entry-found-requires-clause-low : goal.post_entry-found-requires-clause
 post_entry-found-requires-clause-low g c = object-small c.args.lane.now c.args.to c.requires.object
 
 pub post_entry-found-requires-clause-ring : goal.post_entry-found-requires-clause-ring
-post_entry-found-requires-clause-ring g c = c.ring_of-ring.ensures ∙ (λ i. ring_of (sym c.args.lane.now.key i) (c.from.ensures i))
+post_entry-found-requires-clause-ring g c = c.ring_of-ring.ensures ∙ ap (λ k. ring_of k c.args.to) (c.args.lane.now.rings_key ∙ sym c.args.lane.now.key)
 
 pub post_entry-found-requires-clause-room : goal.post_entry-found-requires-clause-room
 post_entry-found-requires-clause-room g c = room c.args.lane.now c.requires.room

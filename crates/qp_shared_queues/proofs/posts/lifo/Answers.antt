@@ -1,4 +1,4 @@
-use Rattle.std.proofs.Common.{◌+◌, ◌≤◌, sym, subst, ◌∙◌}
+use Rattle.std.proofs.Common.{◌+◌, ◌≤◌, ap, sym, subst, ◌∙◌}
 use Rattle.qp_model.specs.declared.systems.System.{System}
 use Rattle.qp_model.specs.declared.bodies.Entry as model
 use Rattle.qp_model.specs.declared.words.Word.TheVariants as word
@@ -15,6 +15,9 @@ use Rattle.qp_shared_queues.proofs.Claiming.{AnswerIs}
 use Rattle.qp_shared_queues.proofs.LastIn.{lifo-holds, lifos-for, lifo-tries}
 use Rattle.qp_shared_queues.proofs.posts.lifo.Goals as goal
 
+pub ring_of-ring-requires : goal.ring_of-ring-requires
+ring_of-ring-requires g c = by-object-small c.args.lane.now c.requires.object
+
 pub post_entry_last_in-found-requires-clause-object : goal.post_entry_last_in-found-requires-clause-object
 post_entry_last_in-found-requires-clause-object g c = by-object-key c.args.lane.now c.requires.object
 
@@ -22,7 +25,7 @@ pub post_entry_last_in-found-requires-clause-low : goal.post_entry_last_in-found
 post_entry_last_in-found-requires-clause-low g c = by-object-small c.args.lane.now c.requires.object
 
 pub post_entry_last_in-found-requires-clause-ring : goal.post_entry_last_in-found-requires-clause-ring
-post_entry_last_in-found-requires-clause-ring g c = c.ring_of-ring.ensures ∙ (λ i. ring_of (sym c.args.lane.now.key i) (c.from.ensures i))
+post_entry_last_in-found-requires-clause-ring g c = c.ring_of-ring.ensures ∙ ap (λ k. ring_of k c.args.lane.now.by) (c.args.lane.now.rings_key ∙ sym c.args.lane.now.key)
 
 pub post_entry_last_in-found-requires-clause-room : goal.post_entry_last_in-found-requires-clause-room
 post_entry_last_in-found-requires-clause-room g c = room c.args.lane.now c.requires.room

@@ -16,8 +16,11 @@ use Rattle.qp_shared_queues.proofs.Taken.{take-holds, takes-it-for}
 use Rattle.qp_shared_queues.proofs.Nils.{last-is, again-holds, takes-again, nil-holds, takes-nil}
 use Rattle.qp_shared_queues.proofs.takes.take.Goals as goal
 
+pub ring_of-ring-requires : goal.ring_of-ring-requires
+ring_of-ring-requires g c = object-small c.args.lane.now c.args.me c.requires.object
+
 pub index-last-requires : goal.index-last-requires
-index-last-requires g c = let small = object-small c.args.lane.now c.args.me c.requires.object in omega (arith, small, c.from-2.ensures, c.args.lane.now.log.seats, c.args.lane.now.log.nils.ok.0)
+index-last-requires g c = let small = object-small c.args.lane.now c.args.me c.requires.object in omega (arith, small, c.from.ensures, c.args.lane.now.log.seats, c.args.lane.now.log.nils.ok.0)
 
 pub take_entry-found-requires-clause-object : goal.take_entry-found-requires-clause-object
 take_entry-found-requires-clause-object g c = object-key c.args.lane.now c.args.me c.requires.object
@@ -26,7 +29,7 @@ pub take_entry-found-requires-clause-low : goal.take_entry-found-requires-clause
 take_entry-found-requires-clause-low g c = object-small c.args.lane.now c.args.me c.requires.object
 
 pub take_entry-found-requires-clause-ring : goal.take_entry-found-requires-clause-ring
-take_entry-found-requires-clause-ring g c = c.ring_of-ring.ensures ∙ (λ i. ring_of (sym c.args.lane.now.key i) (c.from.ensures i))
+take_entry-found-requires-clause-ring g c = c.ring_of-ring.ensures ∙ ap (λ k. ring_of k c.args.me) (c.args.lane.now.rings_key ∙ sym c.args.lane.now.key)
 
 pub take_entry-found-requires-clause-room : goal.take_entry-found-requires-clause-room
 take_entry-found-requires-clause-room g c = room c.args.lane.now c.requires.room
@@ -66,7 +69,7 @@ invariant_of-lane-then-tells-clause-holds g c = let l = c.args.lane.now in
     let ends = subst (λ (z : System × Option token.Entry). TakeEnds z.0 (is_new c.index-last.result.now) c.args.me l.seat.me.0 c.take_entry-found.result.0 z.1 c.take_entry-found.new.seat.me.0) (λ i. (l.key i, c.in-None.is i)) c.take_entry-found.ensures.ends in
     let small = object-small l c.args.me c.requires.object in
     again-holds l c.args.me c.take_entry-found.result.0 c.index-last.result.now c.take_entry-found.new.seat.me.0 c.tells.result ends small
-    (last-is l.log.nils.items c.args.me c.from-2.result c.index-last.result.now c.from-2.ensures (omega (arith, small, c.from-2.ensures, l.log.seats)) c.index-last.ensures)
+    (last-is l.log.nils.items c.args.me c.from.result c.index-last.result.now c.from.ensures (omega (arith, small, c.from.ensures, l.log.seats)) c.index-last.ensures)
     (c.tells.ensures ∙ ap (λ (k : counts.Counts). same_counts (last_nil_in c.args.me NotShown (lane_items l.log.recs.items)) k.f k.l k.m) c.counts_in-now.ensures) c.if-tells.true
 
 pub returns-then-tells : goal.returns-then-tells
@@ -74,7 +77,7 @@ returns-then-tells g c = let l = c.args.lane.now in
     let ends = subst (λ (z : System × Option token.Entry). TakeEnds z.0 (is_new c.index-last.result.now) c.args.me l.seat.me.0 c.take_entry-found.result.0 z.1 c.take_entry-found.new.seat.me.0) (λ i. (l.key i, c.in-None.is i)) c.take_entry-found.ensures.ends in
     let small = object-small l c.args.me c.requires.object in
     let z = takes-again l c.args.me c.take_entry-found.result.0 c.index-last.result.now c.take_entry-found.new.seat.me.0 c.tells.result ends small
-    (last-is l.log.nils.items c.args.me c.from-2.result c.index-last.result.now c.from-2.ensures (omega (arith, small, c.from-2.ensures, l.log.seats)) c.index-last.ensures)
+    (last-is l.log.nils.items c.args.me c.from.result c.index-last.result.now c.from.ensures (omega (arith, small, c.from.ensures, l.log.seats)) c.index-last.ensures)
     (c.tells.ensures ∙ ap (λ (k : counts.Counts). same_counts (last_nil_in c.args.me NotShown (lane_items l.log.recs.items)) k.f k.l k.m) c.counts_in-now.ensures) c.if-tells.true in
     subst (λ (k : counts.Counts). TakesNone c.args.me k.f k.l k.m (state_view l) (then_view l l.log l.numbers.list c.take_entry-found.new.seat.me.0)) (sym c.counts_in-now.ensures) z
 
@@ -86,7 +89,7 @@ invariant_of-lane-in-None-clause-holds g c = let l = c.args.lane.now in
     let ends = subst (λ (z : System × Option token.Entry). TakeEnds z.0 (is_new c.index-last.result.now) c.args.me l.seat.me.0 c.take_entry-found.result.0 z.1 c.take_entry-found.new.seat.me.0) (λ i. (l.key i, c.in-None.is i)) c.take_entry-found.ensures.ends in
     let small = object-small l c.args.me c.requires.object in
     nil-holds l c.args.me c.take_entry-found.result.0 c.index-last.result.now c.take_entry-found.new.seat.me.0 c.tells.result ends small
-    (last-is l.log.nils.items c.args.me c.from-2.result c.index-last.result.now c.from-2.ensures (omega (arith, small, c.from-2.ensures, l.log.seats)) c.index-last.ensures)
+    (last-is l.log.nils.items c.args.me c.from.result c.index-last.result.now c.from.ensures (omega (arith, small, c.from.ensures, l.log.seats)) c.index-last.ensures)
     (c.tells.ensures ∙ ap (λ (k : counts.Counts). same_counts (last_nil_in c.args.me NotShown (lane_items l.log.recs.items)) k.f k.l k.m) c.counts_in-now.ensures) c.if-tells.false c.put_nil.new.log c.put_nil.new.numbers.list c.nil-rec.result c.put_nil.ensures.put
     (c.nil-rec.ensures ∙ ap (λ (k : counts.Counts). record { of = c.args.me; body = Nil k.f k.l k.m }) c.counts_in-now.ensures)
 
@@ -95,7 +98,7 @@ returns-else-tells g c = let l = c.args.lane.now in
     let ends = subst (λ (z : System × Option token.Entry). TakeEnds z.0 (is_new c.index-last.result.now) c.args.me l.seat.me.0 c.take_entry-found.result.0 z.1 c.take_entry-found.new.seat.me.0) (λ i. (l.key i, c.in-None.is i)) c.take_entry-found.ensures.ends in
     let small = object-small l c.args.me c.requires.object in
     let z = takes-nil l c.args.me c.take_entry-found.result.0 c.index-last.result.now c.take_entry-found.new.seat.me.0 c.tells.result ends small
-    (last-is l.log.nils.items c.args.me c.from-2.result c.index-last.result.now c.from-2.ensures (omega (arith, small, c.from-2.ensures, l.log.seats)) c.index-last.ensures)
+    (last-is l.log.nils.items c.args.me c.from.result c.index-last.result.now c.from.ensures (omega (arith, small, c.from.ensures, l.log.seats)) c.index-last.ensures)
     (c.tells.ensures ∙ ap (λ (k : counts.Counts). same_counts (last_nil_in c.args.me NotShown (lane_items l.log.recs.items)) k.f k.l k.m) c.counts_in-now.ensures) c.if-tells.false c.put_nil.new.log c.put_nil.new.numbers.list c.nil-rec.result c.put_nil.ensures.put
     (c.nil-rec.ensures ∙ ap (λ (k : counts.Counts). record { of = c.args.me; body = Nil k.f k.l k.m }) c.counts_in-now.ensures) c.put_nil.ensures.spare in
     subst (λ (k : counts.Counts). TakesNone c.args.me k.f k.l k.m (state_view l) (then_view l c.put_nil.new.log c.put_nil.new.numbers.list c.take_entry-found.new.seat.me.0)) (sym c.counts_in-now.ensures) z

@@ -21,6 +21,7 @@ invariant_of-result-2 c = record {
   wide = c.args.self.now.wide;
   key = c.args.self.now.key;
   side_key = c.args.self.now.side_key;
+  rings_key = c.of.ensures;
   holds = holds-at c.args.self.now.sys.now c.requires.sound c.args.count c.args._number c.args.log c.requires.bare c.new.result.list c.new.ensures c.args.seat.me.0 c.args.side.me.0 c.requires.views;
 }
 
