@@ -3,3 +3,5 @@ pub mod SameLanes
 pub mod LaneLemmas
 pub mod KernelLemmas
 pub mod JudgeLemmas
+pub mod LampLemmas
+pub mod Sets

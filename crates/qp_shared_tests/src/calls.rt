@@ -10,18 +10,17 @@ ghost use Rattle.qp_shared_tests.specs.Lanes.{IsSame};
 use crate::events::{event, fits_first};
 use crate::lanes::{pair, seal_pair};
 use crate::objects::has_object;
-use crate::shown::shown;
+use crate::shown::shown_behind;
 use crate::systems::{TWO, system};
 use qp_base::{Ev, Steps};
 use qp_calls::{Counts, Did, Give, Ops, post_static};
 use qp_calls_meet::Meets;
-use qp_model::System;
 use qp_model::kernels::PORT;
+use qp_model::{Rec, System};
 use qp_shared::{Shared, SharedLane};
 use std::alloc::Global;
 use std::marker::Brand;
 use std::sync::ledger::{Blank, Ledger};
-use std::test::Fail;
 
 /// Posts the first signal to object 1. Whether that was done.
 fn post_go<O: Ops, L: Ledger>(ops: &mut O, sys: &System, blank: Blank) -> bool
@@ -68,7 +67,7 @@ fn leave_one<O: Ops, L: Ledger>(ops: &mut O, ev: &Ev, blank: Blank)
 
 /// The second lane posts to object 1 and leaves a block, and the first meets it. Answers what the queue shows to the first, and the records
 /// of the second.
-fn meet(alloc: Global, sys: &System, ev: &Ev) -> Option<(Counts, String)>
+fn meet(alloc: Global, sys: &System, ev: &Ev) -> Option<String>
     requires sound { IsSound sys.now }
     requires one { IsTrue (is_object sys.now 1) }
     requires fits { FitsPool sys.now 1 (event_of ev.now) }
@@ -77,32 +76,49 @@ fn meet(alloc: Global, sys: &System, ev: &Ev) -> Option<(Counts, String)>
         return None;
     };
     let (mut first, mut second) = pair(&shared, root)?;
-    if !post_go::<SharedLane<'_>, Brand>(&mut second, sys, Blank::new(1)) {
-        return None;
-    }
+    let posted = post_go::<SharedLane<'_>, Brand>(&mut second, sys, Blank::new(1));
     let counts = counts_behind(&mut first, &mut second, 1);
     leave_one::<SharedLane<'_>, Brand>(&mut second, ev, Blank::new(1));
-    let Ok(text) = shown(alloc, second.records(), true) else {
+    let text = told(alloc, counts, second.records());
+    let sealed = seal_pair(alloc, &shared, first, second, PORT);
+    only_if(posted && sealed.is_some(), text)
+}
+
+/// The counts of a queue, and records, as a text.
+fn told(alloc: Global, counts: Counts, records: &[Rec]) -> String {
+    let numbers = [
+        u64::from(counts.f),
+        u64::from(counts.l),
+        u64::from(counts.m),
+    ];
+    shown_behind(alloc, &numbers, records)
+}
+
+fn only_if(condition: bool, text: String) -> Option<String> {
+    if condition { Some(text) } else { None }
+}
+
+/// What is seen of two lanes of this system that meet, if its objects and its blocks are there.
+fn seen_of(alloc: Global, sys: &System) -> Option<String>
+    requires { IsSound sys.now }
+{
+    let ev = event(sys, 5, 7)?;
+    if !has_object(sys, 1) || !fits_first(sys, &ev) {
         return None;
-    };
-    seal_pair(alloc, &shared, first, second, PORT)?;
-    Some((counts, text))
+    }
+    meet(alloc, sys, &ev)
+}
+
+fn seen(alloc: Global) -> Option<String> {
+    let sys = system(alloc, TWO)?;
+    seen_of(alloc, &sys)
 }
 
 #[test]
-fn a_lane_that_met_another_sees_its_post(rt: HostRuntime) -> Result<(), Fail> {
-    let alloc = rt.alloc();
-    let sys = system(alloc, TWO)?;
-    let Some(ev) = event(&sys, 5, 7) else {
-        return Err(Fail::from("event"));
-    };
-    if !has_object(&sys, 1) || !fits_first(&sys, &ev) {
-        return Err(Fail::from("system"));
-    }
-    let Some((counts, text)) = meet(alloc, &sys, &ev) else {
-        return Err(Fail::from("memory"));
-    };
-    assert!(rt; counts.f == 1 && counts.l == 0 && counts.m == 0);
-    assert_eq!(rt; text.as_str(), "post 0 1 1 0 0 0 4 0, new 0 1 0 0 0 5 7");
-    Ok(())
+fn a_lane_that_met_another_sees_its_post(rt: HostRuntime) {
+    let seen = seen(rt.alloc());
+    assert_eq!(rt;
+        seen.as_deref(),
+        Some(" 1 0 0: post 0 1 1 0 0 0 4 0, new 0 1 0 0 0 5 7")
+    );
 }

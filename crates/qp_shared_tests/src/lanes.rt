@@ -25,7 +25,7 @@ pub(crate) fn pair<'a>(
     Some((first, second))
 }
 
-/// The three lanes of two objects under `port`.
+/// The three lanes of two objects under `port`, or those of one and a source.
 pub(crate) fn triple<'a>(
     shared: &'a Shared<'_>,
     root: Root,
@@ -35,7 +35,7 @@ pub(crate) fn triple<'a>(
     requires its { shared.now.sys.now ≡ sys.now }
     ensures { IfSome result (λ p. AreFirst shared.now 3 (serves_one shared.now.sys.now) (lane_view p.0 ∷ lane_view p.1 ∷ lane_view p.2 ∷ [])) }
 {
-    if sys.objects.items.len() != 2 {
+    if sys.objects.items.len() > 2 {
         return None;
     }
     let Ok(mut lanes) = shared.port_lanes(root, 3) else {

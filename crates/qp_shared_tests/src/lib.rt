@@ -1,7 +1,8 @@
 //! Tests of the tables that threads share: worked examples over lanes on one thread, each call of a lane, and posts and takes of lanes on
-//! threads beside one another.
+//! threads beside one another. Of the waiting port: single calls of its lanes, and a turn over an empty queue. Of the side table by itself: each
+//! call of a seat, and the end of two seats.
 //!
-//! They stand beside qp_shared, over its public calls, so that it isn't proved a second time for them.
+//! They stand beside the crates that they are of, over their public calls, so that none of those is proved a second time for them.
 #![tactic(auto)]
 
 #[cfg(test)]
@@ -13,6 +14,8 @@ mod judged;
 #[cfg(test)]
 mod kernel;
 #[cfg(test)]
+mod lamps;
+#[cfg(test)]
 mod lanes;
 #[cfg(test)]
 mod objects;
@@ -21,8 +24,18 @@ mod players;
 #[cfg(test)]
 mod posts;
 #[cfg(test)]
+mod rings;
+#[cfg(test)]
 mod rows;
+#[cfg(test)]
+mod seats;
 #[cfg(test)]
 mod shown;
 #[cfg(test)]
+mod sides;
+#[cfg(test)]
+mod stops;
+#[cfg(test)]
 mod systems;
+#[cfg(test)]
+mod turns;

@@ -20,7 +20,6 @@ use qp_port_workers::Worker;
 use qp_shared::{Sealed, Shared};
 use std::alloc::Global;
 use std::sync::Wait;
-use std::test::Fail;
 use std::thread::{Threads, join_mut};
 
 /// So many rounds each thread plays: in each it posts twice and takes twice.
@@ -137,8 +136,12 @@ fn contend<'x, R: Threads + Wait + Sync>(
         },
     );
     let (second, last, whole) = beside(rt, one, two);
-    let sealed = seal_triple(alloc, &shared, first, second, last, PORT)?;
-    if whole { Some(sealed) } else { None }
+    let sealed = seal_triple(alloc, &shared, first, second, last, PORT);
+    only_if(whole, sealed)
+}
+
+fn only_if(whole: bool, sealed: Option<Sealed>) -> Option<Sealed> {
+    if whole { sealed } else { None }
 }
 
 /// How many records of this kind the journal has.
@@ -154,26 +157,43 @@ fn count(journal: &Journal, kind: u8) -> u64 {
     n
 }
 
+/// What is seen of two lanes that played: whether entries were posted, how many blocks didn't come back and how many entries weren't taken,
+/// and the first law that is broken.
+type Seen = (bool, u64, u64, Option<u8>);
+
+fn seen_in(alloc: Global, sys: &System, journal: &Journal) -> Option<Seen>
+    requires { IsSound sys.now }
+{
+    let stim = stimuli(alloc, sys, "")?;
+    let posts = count(journal, kinds::POST);
+    Some((
+        posts > 0,
+        count(journal, kinds::NEW).abs_diff(count(journal, kinds::BACK)),
+        posts.abs_diff(count(journal, kinds::TOOK)),
+        broken(alloc, sys, &stim, journal),
+    ))
+}
+
+/// What is seen of two lanes that play in this system, if it has what they play with.
+fn seen_of<R: Threads + Wait + Sync>(rt: &R, alloc: Global, sys: &System) -> Option<Seen>
+    requires { IsSound sys.now }
+{
+    let ev = event(sys, 5, 7)?;
+    if !may_play(sys, &ev) {
+        return None;
+    }
+    let sealed = contend(rt, alloc, sys, &ev)?;
+    seen_in(alloc, sys, sealed.journal())
+}
+
+fn seen<R: Threads + Wait + Sync>(rt: &R, alloc: Global) -> Option<Seen> {
+    let sys = system(alloc, TWO)?;
+    seen_of(rt, alloc, &sys)
+}
+
 /// Each block came back, each entry was taken, and no law of words is broken: those are tried before those of objects, of which the first is
 /// broken, since bare takes are no steps of a chart.
 #[test]
-fn two_threads_share_a_pool_and_two_queues(rt: HostRuntime) -> Result<(), Fail> {
-    let alloc = rt.alloc();
-    let sys = system(alloc, TWO)?;
-    let Some(ev) = event(&sys, 5, 7) else {
-        return Err(Fail::from("event"));
-    };
-    if !may_play(&sys, &ev) {
-        return Err(Fail::from("system"));
-    }
-    let Some(sealed) = contend(&rt, alloc, &sys, &ev) else {
-        return Err(Fail::from("memory"));
-    };
-    let journal = sealed.journal();
-    assert!(rt; count(journal, kinds::POST) > 0);
-    assert_eq!(rt; count(journal, kinds::NEW), count(journal, kinds::BACK));
-    assert_eq!(rt; count(journal, kinds::POST), count(journal, kinds::TOOK));
-    let stim = stimuli(alloc, &sys, "")?;
-    assert_eq!(rt; broken(alloc, &sys, &stim, journal), Some(15));
-    Ok(())
+fn two_threads_share_a_pool_and_two_queues(rt: HostRuntime) {
+    assert_eq!(rt; seen(&rt, rt.alloc()), Some((true, 0, 0, Some(15))));
 }

@@ -1,13 +1,15 @@
 //! Worked examples over two lanes on one thread.
 
+ghost use Rattle.qp_model.specs.Sound.{IsSound};
+ghost use Rattle.qp_stim.specs.Rules.{StimuliFit};
+
 use crate::judged::broken;
 use crate::kernel::run;
 use crate::shown::shown;
 use crate::systems::{THREE, one, stimuli, system};
-use qp_model::Journal;
+use qp_model::{Journal, Rec, Stimuli, System};
 use std::alloc::{AllocError, Global};
 use std::sync::Wait;
-use std::test::Fail;
 
 /// A system, its stimuli, and what its two lanes then have. The records of the kernel's lane end so; those of the source's lane begin so.
 struct Row {
@@ -118,41 +120,90 @@ const ROWS: &[Row] = &[
     },
 ];
 
-/// Whether the journal ends as the row says, and its lanes have the records of the row.
-fn agrees(alloc: Global, journal: &Journal, row: &Row) -> Result<bool, AllocError> {
-    let [kernel, source] = journal.lanes.items.as_slice() else {
-        return Ok(false);
-    };
-    let its = shown(alloc, source.items.as_slice(), true)?;
-    let lane = shown(alloc, kernel.items.as_slice(), row.looks)?;
-    Ok(
-        journal.end == row.end
-            && its.as_str().starts_with(row.source)
-            && lane.as_str().ends_with(row.kernel),
-    )
+/// Whether the records of a lane begin so.
+fn begin(alloc: Global, records: &[Rec], text: &str) -> bool {
+    shown(alloc, records, true).as_str().starts_with(text)
 }
 
-/// Runs a row, and fails with its name where its journal isn't lawful or has other records.
-fn see<R: Wait>(rt: &R, alloc: Global, row: &Row) -> Result<(), Fail> {
-    let file = text(alloc, &row.file)?;
-    let sys = system(alloc, file.as_str())?;
-    let stim = stimuli(alloc, &sys, row.stimuli)?;
-    let Some(sealed) = run(rt, alloc, &sys, &stim) else {
-        return Err(Fail::from("memory"));
+/// Whether the records of a lane end so, with those of rows of looks or without them.
+fn end(alloc: Global, records: &[Rec], looks: bool, text: &str) -> bool {
+    shown(alloc, records, looks).as_str().ends_with(text)
+}
+
+/// How the journal differs from what the row says of its end and of the records of its lanes.
+fn differs(alloc: Global, journal: &Journal, row: &Row) -> &'static str {
+    let [kernel, source] = journal.lanes.items.as_slice() else {
+        return "other lanes";
     };
-    if broken(alloc, &sys, &stim, sealed.journal()) != Some(0) {
-        return Err(Fail::new(format_args!("{}: not lawful", row.name)));
+    if journal.end != row.end {
+        return "another end";
     }
-    if !agrees(alloc, sealed.journal(), row)? {
-        return Err(Fail::new(format_args!("{}: other records", row.name)));
+    if !begin(alloc, source.items.as_slice(), row.source) {
+        return "other records of the source's lane";
     }
-    Ok(())
+    if !end(alloc, kernel.items.as_slice(), row.looks, row.kernel) {
+        return "other records of the kernel's lane";
+    }
+    ""
+}
+
+/// What is wrong with the journal of a row.
+fn wrong(alloc: Global, sys: &System, stim: &Stimuli, journal: &Journal, row: &Row) -> &'static str
+    requires sound { IsSound sys.now }
+    requires fit { StimuliFit sys.now stim.now }
+{
+    if broken(alloc, sys, stim, journal) != Some(0) {
+        return "not lawful";
+    }
+    differs(alloc, journal, row)
+}
+
+/// The same, where the journal is that of a run.
+fn wrong_in_run<R: Wait>(
+    rt: &R,
+    alloc: Global,
+    sys: &System,
+    stim: &Stimuli,
+    row: &Row,
+) -> &'static str
+    requires sound { IsSound sys.now }
+    requires fit { StimuliFit sys.now stim.now }
+{
+    match run(rt, alloc, sys, stim) {
+        Some(sealed) => wrong(alloc, sys, stim, sealed.journal(), row),
+        None => "memory",
+    }
+}
+
+/// The same, where the stimuli are read first.
+fn wrong_in_system<R: Wait>(rt: &R, alloc: Global, sys: &System, row: &Row) -> &'static str
+    requires { IsSound sys.now }
+{
+    match stimuli(alloc, sys, row.stimuli) {
+        Some(stim) => wrong_in_run(rt, alloc, sys, &stim, row),
+        None => "stimuli",
+    }
+}
+
+/// The same, where the system is read from its file first.
+fn wrong_in_file<R: Wait>(rt: &R, alloc: Global, file: &str, row: &Row) -> &'static str {
+    match system(alloc, file) {
+        Some(sys) => wrong_in_system(rt, alloc, &sys, row),
+        None => "system",
+    }
+}
+
+/// The same, where the file is written first.
+fn wrong_in_row<R: Wait>(rt: &R, alloc: Global, row: &Row) -> &'static str {
+    match text(alloc, &row.file) {
+        Ok(file) => wrong_in_file(rt, alloc, file.as_str(), row),
+        Err(_) => "memory",
+    }
 }
 
 #[test]
-fn rows_have_their_records_over_two_lanes(rt: HostRuntime) -> Result<(), Fail> {
+fn rows_have_their_records_over_two_lanes(rt: HostRuntime) {
     for row in ROWS {
-        see(&rt, rt.alloc(), row)?;
+        assert_eq!(rt; wrong_in_row(&rt, rt.alloc(), row), "", "{}", row.name);
     }
-    Ok(())
 }

@@ -1,6 +1,6 @@
 //! Systems and stimuli from texts.
 
-ghost use Rattle.std.specs.Prelude.{IfOk};
+ghost use Rattle.std.specs.Prelude.{IfSome};
 ghost use Rattle.qp_model.specs.Sound.{IsSound};
 ghost use Rattle.qp_stim.specs.Rules.{StimuliFit};
 
@@ -8,7 +8,6 @@ use qp_model::{Stimuli, System};
 use qp_stim::stimuli_of_bytes;
 use qp_system::system_of_bytes;
 use std::alloc::{AllocError, Global};
-use std::test::Fail;
 
 /// Signals 4 to 8: GO, X, TA and TB are static, N has a parameter.
 const SIGNALS: &str =
@@ -73,19 +72,16 @@ state = [{ name = 's' }]
 ";
 
 /// The system of a file.
-pub(crate) fn system(alloc: Global, file: &str) -> Result<System, Fail>
-    ensures { IfOk result (λ sys. IsSound sys) }
+pub(crate) fn system(alloc: Global, file: &str) -> Option<System>
+    ensures { IfSome result (λ sys. IsSound sys) }
 {
-    Ok(system_of_bytes(alloc, file.as_bytes())?)
+    system_of_bytes(alloc, file.as_bytes()).ok()
 }
 
 /// The stimuli of a file.
-pub(crate) fn stimuli(alloc: Global, sys: &System, file: &str) -> Result<Stimuli, Fail>
+pub(crate) fn stimuli(alloc: Global, sys: &System, file: &str) -> Option<Stimuli>
     requires { IsSound sys.now }
-    ensures { IfOk result (λ stim. StimuliFit sys.now stim) }
+    ensures { IfSome result (λ stim. StimuliFit sys.now stim) }
 {
-    match stimuli_of_bytes(alloc, sys, file.as_bytes()) {
-        Ok(stim) => Ok(stim),
-        Err(_) => Err(Fail::from("stimuli")),
-    }
+    stimuli_of_bytes(alloc, sys, file.as_bytes()).ok()
 }
