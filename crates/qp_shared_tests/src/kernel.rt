@@ -126,10 +126,10 @@ pub(crate) fn run<R: Wait>(rt: &R, alloc: Global, sys: &System, stim: &Stimuli) 
     requires sound { IsSound sys.now }
     requires fit { StimuliFit sys.now stim.now }
 {
-    let Ok((shared, root)) = Shared::new(alloc, sys) else {
+    let Ok(objects) = Objects::new(alloc, sys) else {
         return None;
     };
-    let Ok(objects) = Objects::new(alloc, sys) else {
+    let Ok((shared, root)) = Shared::new(alloc, sys) else {
         return None;
     };
     let (first, mut second) = pair(&shared, root)?;

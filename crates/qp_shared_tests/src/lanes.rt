@@ -20,8 +20,12 @@ pub(crate) fn pair<'a>(
     let Ok(mut lanes) = shared.lanes(root, 2) else {
         return None;
     };
-    let second = lanes.pop()?;
-    let first = lanes.pop()?;
+    let Some(second) = lanes.pop() else {
+        unreachable!()
+    };
+    let Some(first) = lanes.pop() else {
+        unreachable!()
+    };
     Some((first, second))
 }
 
@@ -41,9 +45,15 @@ pub(crate) fn triple<'a>(
     let Ok(mut lanes) = shared.port_lanes(root, 3) else {
         return None;
     };
-    let last = lanes.pop()?;
-    let second = lanes.pop()?;
-    let first = lanes.pop()?;
+    let Some(last) = lanes.pop() else {
+        unreachable!()
+    };
+    let Some(second) = lanes.pop() else {
+        unreachable!()
+    };
+    let Some(first) = lanes.pop() else {
+        unreachable!()
+    };
     Some((first, second, last))
 }
 
