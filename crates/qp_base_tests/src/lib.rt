@@ -1,8 +1,16 @@
-//! Tests of the edges of the program: shelves, sinks and the gate, and of the counter of steps.
+//! Tests of the edges of the program, which are shelves, sinks and the gate, and of the counter of steps; and of the language of charts:
+//! expressions, actions, and the paths of faults.
 //!
-//! They stand beside qp_base, over its public calls, so that it isn't proved a second time for them.
+//! They stand beside qp_base and qp_chart, over their public calls, so that neither is proved a second time for them. The faults of whole
+//! charts are in the tables of qp_verdicts.
 #![tactic(auto)]
 
+#[cfg(test)]
+mod actions;
+#[cfg(test)]
+mod expressions;
+#[cfg(test)]
+mod paths;
 #[cfg(test)]
 mod shelves;
 #[cfg(test)]

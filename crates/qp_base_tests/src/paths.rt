@@ -1,8 +1,7 @@
 //! Paths of faults as text.
 
 use qp_chart::{Part, Path, key};
-use std::alloc::{AllocError, Global};
-use std::test::Fail;
+use std::alloc::Global;
 
 /// Paths in two parts, and their texts.
 const PATHS: [(&[Part], &[Part], &str); 3] = [
@@ -26,24 +25,20 @@ const PATHS: [(&[Part], &[Part], &str); 3] = [
 ];
 
 /// Whether a path is printed so. A path has at most eight parts.
-fn is_printed(
-    alloc: Global,
-    front: &[Part],
-    rest: &[Part],
-    text: &str,
-) -> Result<bool, AllocError> {
+fn is_printed(alloc: Global, front: &[Part], rest: &[Part], text: &str) -> bool {
     if front.len() > 8 || rest.len() > 8 - front.len() {
-        return Ok(false);
+        return false;
     }
-    let shown = Path::of(front, rest).to_string(alloc)?;
-    Ok(shown.as_str() == text)
+    match Path::of(front, rest).to_string(alloc) {
+        Ok(shown) => shown.as_str() == text,
+        Err(_) => false,
+    }
 }
 
 /// Keys are printed by their words, places as numbers, with dots between.
 #[test]
-fn paths_print_as_words_and_places(rt: HostRuntime) -> Result<(), Fail> {
+fn paths_print_as_words_and_places(rt: HostRuntime) {
     for (front, rest, text) in &PATHS {
-        assert!(rt; is_printed(rt.alloc(), front, rest, text)?, "{text}");
+        assert!(rt; is_printed(rt.alloc(), front, rest, text), "{text}");
     }
-    Ok(())
 }

@@ -1,7 +1,7 @@
 //! Texts of actions: each alternative of the grammar, each way out of it, and the actions of worked examples.
 
 use qp_chart::{Action, ExprFault, PlainAction, read_action};
-use std::test::Fail;
+use std::alloc::Global;
 
 #[derive(Clone, Copy, PartialEq, Eq)]
 enum Kind {
@@ -149,20 +149,26 @@ const ALTERNATIVES: [Case; 29] = [
     ),
 ];
 
+/// Whether a text is an action of which this is seen.
+fn is_seen(alloc: Global, text: &str, want: &Shape) -> bool {
+    match read_action(alloc, text) {
+        Ok(action) => shape_of(&action) == *want,
+        Err(_) => false,
+    }
+}
+
 /// Each alternative of the lines of actions.
 #[test]
-fn alternatives_of_actions(rt: HostRuntime) -> Result<(), Fail> {
+fn alternatives_of_actions(rt: HostRuntime) {
     for (text, kind, margin, reserve, count) in &ALTERNATIVES {
-        let action = read_action(rt.alloc(), text)?;
         let want = Shape {
             kind: *kind,
             margin: *margin,
             reserve: *reserve,
             count: *count,
         };
-        assert!(rt; shape_of(&action) == want, "{text}");
+        assert!(rt; is_seen(rt.alloc(), text, &want), "{text}");
     }
-    Ok(())
 }
 
 const ACTIONS: [&str; 62] = [
