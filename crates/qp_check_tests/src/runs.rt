@@ -1,11 +1,10 @@
 //! Lane 0 with its orders and settles, ends and budgets, and deferred entries.
 
-ghost use Rattle.std.specs.Prelude.{◌≡◌, IfOk};
 ghost use Rattle.qp_check_histories.specs.Numbers.{WordsFit};
 
 use crate::samples::{
     PORT, Part, Parts, QK, QV, Row, SIM, go, journal, lane, nothing, object, one_lane, records,
-    stimuli, two_lanes,
+    stimuli, two_lanes, with_pool,
 };
 use qp_check_end::ending::end_holds;
 use qp_check_end::journal_end::end_is_right;
@@ -19,7 +18,7 @@ use qp_model::kinds::{
     ASSERT, BEGIN, DEFER, DONE, FLUSH, INC, LIFO, LOCK, LOOK, NEW, NODEFER, NONE, NORECALL, POST,
     RECALL, REST, SEEN, SETTLE, SPENT, SPILL, STIM, TOOK,
 };
-use qp_model::{Journal, Lane, PoolDef, Rec, Stim, Stimuli, System};
+use qp_model::{Journal, Lane, Rec, Stim, Stimuli, System};
 use std::alloc::{AllocError, Global};
 
 /// Object 1 starts, takes its event in look 1, and runs.
@@ -354,16 +353,6 @@ fn ends(alloc: Global, end: u8, lane0: Parts, source: Part) -> Result<bool, Allo
     let sys = system(alloc, &[1])?;
     let j = journal(SIM, end, two_lanes(alloc, lane0, source)?);
     Ok(end_is_right(&sys, &j))
-}
-
-/// A pool of two blocks, and an object with a ring of 1.
-fn with_pool(alloc: Global) -> Result<System, AllocError>
-    ensures { IfOk result (λ s. WordsFit s) }
-{
-    let mut sys = nothing(alloc);
-    sys.pools.items.push(PoolDef { size: 1, blocks: 2 })?;
-    sys.objects.items.push(object(alloc, "lamp", 1, 1))?;
-    Ok(sys)
 }
 
 fn end_stands(alloc: Global, sys: &System, j: &Journal) -> Result<bool, AllocError>

@@ -1,12 +1,13 @@
 //! What the tests have in common: records, lanes and journals as constants state them, systems, and stimuli.
 
 ghost use Rattle.std.specs.Prelude.{◌≡◌, [], IfOk, length};
+ghost use Rattle.qp_check_histories.specs.Numbers.{WordsFit};
 
 use arrayvec::{ArrayString, ArrayVec};
 use qp_base::Ev;
 use qp_model::{
-    Charts, Journal, Lane, Lanes, ObjectDef, ObjectDefs, PoolDefs, Rec, SignalDef, SignalDefs,
-    Source, Stim, Stimuli, System, TimerDefs, Values,
+    Charts, Journal, Lane, Lanes, ObjectDef, ObjectDefs, PoolDef, PoolDefs, Rec, SignalDef,
+    SignalDefs, Source, Stim, Stimuli, System, TimerDefs, Values,
 };
 use std::alloc::{AllocError, Global};
 
@@ -98,10 +99,11 @@ pub fn journal(kernel: u8, end: u8, lanes: Lanes) -> Journal {
     }
 }
 
-/// No pool, no signal, no object and no time event.
+/// No pool, no signal, no chart, no object and no time event.
 pub fn nothing(alloc: Global) -> System
     ensures pools { result.pools ≡ [] }
     ensures signals { result.signals ≡ [] }
+    ensures charts { result.charts ≡ [] }
     ensures objects { result.objects ≡ [] }
     ensures timers { result.timers ≡ [] }
 {
@@ -124,7 +126,7 @@ pub fn nothing(alloc: Global) -> System
     }
 }
 
-fn name_of(text: &str) -> ArrayString<24> {
+pub fn name_of(text: &str) -> ArrayString<24> {
     ArrayString::from(text).unwrap_or_default()
 }
 
@@ -136,8 +138,10 @@ pub fn signal(name: &str, params: u8, fixed: bool) -> SignalDef {
     }
 }
 
-/// An object with this ring, and room for one deferred entry.
-pub fn object(alloc: Global, name: &str, priority: u8, ring: u8) -> ObjectDef {
+/// An object of chart 1 with this ring, and room for one deferred entry.
+pub fn object(alloc: Global, name: &str, priority: u8, ring: u8) -> ObjectDef
+    ensures { result.chart ≡ 1 }
+{
     ObjectDef {
         name: name_of(name),
         chart: 1,
@@ -149,6 +153,23 @@ pub fn object(alloc: Global, name: &str, priority: u8, ring: u8) -> ObjectDef {
             items: Vec::new(alloc),
         },
     }
+}
+
+/// An object of priority 1 with a ring of 1.
+pub fn lamp(alloc: Global) -> ObjectDef
+    ensures { result.chart ≡ 1 }
+{
+    object(alloc, "lamp", 1, 1)
+}
+
+/// A pool of two blocks, and the lamp.
+pub fn with_pool(alloc: Global) -> Result<System, AllocError>
+    ensures { IfOk result (λ s. WordsFit s) }
+{
+    let mut sys = nothing(alloc);
+    sys.pools.items.push(PoolDef { size: 1, blocks: 2 })?;
+    sys.objects.items.push(lamp(alloc))?;
+    Ok(sys)
 }
 
 /// The event of signal 4, which has no parameter.

@@ -7,8 +7,8 @@ use Rattle.qp_chart.specs.declared.checked.State.{State}
 use Rattle.qp_chart.specs.declared.checked.Chart.{Chart}
 use Rattle.qp_model.specs.declared.systems.System.{System}
 use Rattle.qp_model.specs.Able.{state_able, chart_able}
-use Rattle.qp_judge_tests.proofs.EmptyLemmas.{found-empty}
-use Rattle.qp_judge_tests.proofs.courses.is_idle.Goals as goal
+use Rattle.qp_check_tests.proofs.EmptyLemmas.{found-empty}
+use Rattle.qp_check_tests.proofs.courses.is_idle.Goals as goal
 
 one-more : (p : State → Bool) (items states : List State) (i : ℕ) (s : State) → items ≡ states → i < length items → s ≡ get_or items i s → list_all p (take i states) ≡ true → p s ≡ true
     → list_all p (take (i + 1) states) ≡ true

@@ -8,15 +8,16 @@ ghost use Rattle.qp_model.specs.declared.systems.ObjectDef.{ObjectDef};
 ghost use Rattle.qp_model.specs.Able.{state_able, chart_able};
 ghost use Rattle.qp_check_course.specs.Followable.{IsFollowable};
 
-use crate::samples::Line::{Begin, Done, Enter, Init, Run, Taken, TakenUnknown, Unhandled};
-use crate::samples::{Line, lamp, name, put_told};
+use crate::lines::Line::{Begin, Done, Enter, Init, Run, Taken, TakenUnknown, Unhandled};
+use crate::lines::{Line, put_told};
+use crate::samples::{lamp, name_of, nothing};
 use qp_chart::{
     Chart, ChartFault, Env, Name, Names, ObjNames, RawChart, RawRows, RawState, RawStates,
     RawTimers, SigNames, State, Texts, Vars,
 };
 use qp_check_calls::{Cut, Known, Piece, Told};
 use qp_check_course::{Task, follows, follows_with_points, start_plan, step_plan};
-use qp_model::{Body, Charts, ObjectDefs, PoolDefs, SignalDefs, System, TimerDefs};
+use qp_model::{Body, System};
 use std::alloc::{AllocError, Global};
 
 fn texts(alloc: Global) -> Texts
@@ -31,7 +32,7 @@ fn state(alloc: Global, own: &str, parent: Option<Name>, init: Option<Name>) -> 
     ensures { IsReadableState result }
 {
     RawState {
-        name: name(own),
+        name: name_of(own),
         parent,
         entry: texts(alloc),
         exit: texts(alloc),
@@ -48,11 +49,11 @@ fn nested(alloc: Global) -> Result<RawChart, AllocError>
     ensures { IfOk result (λ chart. (names : Names) → length names.signals ≡ 0 → length names.objects ≡ 0 → IsReadable names chart) }
 {
     let mut items = Vec::new(alloc);
-    items.push(state(alloc, "outer", None, Some(name("inner"))))?;
-    items.push(state(alloc, "inner", Some(name("outer")), None))?;
+    items.push(state(alloc, "outer", None, Some(name_of("inner"))))?;
+    items.push(state(alloc, "inner", Some(name_of("outer")), None))?;
     Ok(RawChart {
-        name: name("nested"),
-        init: name("outer"),
+        name: name_of("nested"),
+        init: name_of("outer"),
         init_do: texts(alloc),
         vars: Vars {
             items: Vec::new(alloc),
@@ -132,14 +133,20 @@ fn passes_over(alloc: Global, chart: &Chart) -> bool {
     }
 }
 
+/// Whether the plan of a step, or else that of a start, is right.
+fn is_planned(alloc: Global, steps: bool) -> bool {
+    match chart(alloc) {
+        Ok(chart) if steps => passes_over(alloc, &chart),
+        Ok(chart) => starts(alloc, &chart),
+        Err(_) => false,
+    }
+}
+
 #[test]
 fn plans(rt: HostRuntime) {
-    let Ok(chart) = chart(rt.alloc()) else {
-        assert!(rt; false, "no chart");
-        return;
-    };
-    assert!(rt; starts(rt.alloc(), &chart));
-    assert!(rt; passes_over(rt.alloc(), &chart));
+    for steps in &[false, true] {
+        assert!(rt; is_planned(rt.alloc(), *steps), "steps: {steps}");
+    }
 }
 
 fn has_no_action(s: &State) -> bool
@@ -174,23 +181,9 @@ fn system_of(alloc: Global, chart: Chart) -> Result<System, AllocError>
     requires { (sys : System) → chart_able sys chart ≡ true }
     ensures { IfOk result (λ sys. (d : ObjectDef) → d.chart ≡ 1 → IsFollowable sys d) }
 {
-    let mut items = Vec::new(alloc);
-    items.push(chart)?;
-    Ok(System {
-        pools: PoolDefs {
-            items: Vec::new(alloc),
-        },
-        signals: SignalDefs {
-            items: Vec::new(alloc),
-        },
-        charts: Charts { items },
-        objects: ObjectDefs {
-            items: Vec::new(alloc),
-        },
-        timers: TimerDefs {
-            items: Vec::new(alloc),
-        },
-    })
+    let mut sys = nothing(alloc);
+    sys.charts.items.push(chart)?;
+    Ok(sys)
 }
 
 /// A system of the chart of two states alone.
@@ -275,20 +268,31 @@ fn do_follow_with_points(alloc: Global, sys: &System, records: &[Piece]) -> Resu
     follows_with_points(alloc, sys, &lamp(alloc), Cut::Anywhere, records)
 }
 
+/// The same in the system of the chart.
+fn is_course(alloc: Global, cut: Cut, front: usize, behind: &[Line]) -> Option<bool> {
+    match system(alloc) {
+        Some(sys) => do_follow(alloc, &sys, cut, front, behind).ok(),
+        None => None,
+    }
+}
+
+fn is_course_with_points(alloc: Global, records: &[Piece]) -> Option<bool> {
+    match system(alloc) {
+        Some(sys) => do_follow_with_points(alloc, &sys, records).ok(),
+        None => None,
+    }
+}
+
 /// A start and a step follow their chart, and a start has no point.
 #[test]
 fn courses(rt: HostRuntime) {
-    let Some(sys) = system(rt.alloc()) else {
-        assert!(rt; false, "no system");
-        return;
-    };
     for (i, (cut, front, behind, want)) in LISTS.iter().enumerate() {
         assert!(rt;
-            do_follow(rt.alloc(), &sys, *cut, *front, behind) == Ok(*want),
+            is_course(rt.alloc(), *cut, *front, behind) == Some(*want),
             "list {i}"
         );
     }
     for (records, want) in &POINTS {
-        assert!(rt; do_follow_with_points(rt.alloc(), &sys, records) == Ok(*want));
+        assert!(rt; is_course_with_points(rt.alloc(), records) == Some(*want));
     }
 }

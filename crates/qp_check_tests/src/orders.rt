@@ -1,9 +1,10 @@
+//! Orders and cycles of the records of small journals.
+
 use qp_check_lanes::keys::key_of;
-use qp_model::{Journal, Named, Rec, Touched};
+use qp_model::{Journal, Rec, Touched};
 use qp_replay::{At, Replayed, is_small, ordered};
 use qp_text::read_journal;
-use std::alloc::{AllocError, Global};
-use std::test::Fail;
+use std::alloc::Global;
 
 /// One lamp that a source switches on.
 const LAMP: &[u8] =
@@ -27,34 +28,33 @@ const BETWEEN: &[u8] =
 const STRANGE: &[u8] =
     b"qp 1 2 1\nlane 0\nsub 1 5 7\nlane 1\nsub 2 5 3\nlane 2\nsub 3 5 3\nsame 3 5 4\nend 0\n";
 
-/// A journal, and what was answered of it.
-#[derive(Drop)]
-struct Case {
-    journal: Journal,
-    answer: Replayed,
-}
+/// Lanes without a record.
+const EMPTY: &[u8] = b"qp 1 0 1\nlane 0\nlane 1\nend 0\n";
 
-/// None where the text is no journal.
-fn replayed(rt: HostRuntime, text: &[u8]) -> Result<Option<Case>, AllocError> {
-    let Ok(found) = read_journal(rt.alloc(), text) else {
-        return Ok(None);
-    };
-    let journal = found.journal;
-    if !is_small(&journal.lanes) {
-        return Ok(None);
-    }
-    let answer = ordered(rt.alloc(), &journal.lanes)?;
-    Ok(Some(Case { journal, answer }))
-}
+/// The order of the lamp's records: the lane and the place of each.
+const OF_LAMP: [(u32, u32); 14] = [
+    (0, 0),
+    (0, 1),
+    (0, 2),
+    (0, 3),
+    (1, 0),
+    (1, 1),
+    (0, 4),
+    (0, 5),
+    (0, 6),
+    (0, 7),
+    (0, 8),
+    (0, 9),
+    (0, 10),
+    (0, 11),
+];
 
-/// Whether the order of a journal's records is this one, by lanes and places.
-fn is_order(rt: HostRuntime, text: &[u8], want: &[(u32, u32)]) -> Result<bool, AllocError> {
-    let Some(case) = replayed(rt, text)? else {
-        return Ok(false);
-    };
-    match &case.answer {
-        Replayed::Order(order) => Ok(is_same(&order.items, want)),
-        Replayed::Cycle(_) => Ok(false),
+/// What is answered of a journal; None where it is too large, or there is no memory.
+fn replayed(alloc: Global, journal: &Journal) -> Option<Replayed> {
+    if is_small(&journal.lanes) {
+        ordered(alloc, &journal.lanes).ok()
+    } else {
+        None
     }
 }
 
@@ -66,57 +66,52 @@ fn is_same(order: &[At], want: &[(u32, u32)]) -> bool {
     same
 }
 
-#[test]
-fn one_lamp_has_the_order_of_its_run(rt: HostRuntime) -> Result<(), Fail> {
-    let want = [
-        (0, 0),
-        (0, 1),
-        (0, 2),
-        (0, 3),
-        (1, 0),
-        (1, 1),
-        (0, 4),
-        (0, 5),
-        (0, 6),
-        (0, 7),
-        (0, 8),
-        (0, 9),
-        (0, 10),
-        (0, 11),
-    ];
-    assert!(rt; is_order(rt, LAMP, &want)?);
-    Ok(())
+fn has_order(alloc: Global, journal: &Journal, want: &[(u32, u32)]) -> bool {
+    match replayed(alloc, journal) {
+        Some(Replayed::Order(order)) => is_same(&order.items, want),
+        _ => false,
+    }
 }
 
-#[test]
-fn lanes_apart_come_one_after_another(rt: HostRuntime) -> Result<(), Fail> {
-    assert!(rt; is_order(rt, APART, &[(1, 0), (1, 1), (2, 0)])?);
-    assert!(rt; is_order(rt, b"qp 1 0 1\nlane 0\nlane 1\nend 0\n", &[])?);
-    Ok(())
+/// Whether the text is a journal, and the order of its records this one, by lanes and places.
+fn is_order(alloc: Global, text: &[u8], want: &[(u32, u32)]) -> bool {
+    match read_journal(alloc, text) {
+        Ok(found) => has_order(alloc, &found.journal, want),
+        Err(_) => false,
+    }
 }
 
+/// A journal of `sim` gives the order in which it was made.
 #[test]
-fn a_look_stands_between_what_it_shows_and_what_it_does_not(rt: HostRuntime) -> Result<(), Fail> {
-    assert!(rt; is_order(rt, BETWEEN, &[(0, 0), (1, 0), (1, 1), (0, 1)])?);
-    assert!(rt; is_order(rt, STRANGE, &[(1, 0), (2, 0), (2, 1), (0, 0)])?);
-    Ok(())
+fn one_lamp_has_the_order_of_its_run(rt: HostRuntime) {
+    assert!(rt; is_order(rt.alloc(), LAMP, &OF_LAMP));
 }
 
-fn key(word: Named) -> (u64, u64, u64) {
-    key_of(word)
+/// Lanes that share no word stand one behind the other, the lowest first.
+#[test]
+fn lanes_apart_come_one_after_another(rt: HostRuntime) {
+    assert!(rt; is_order(rt.alloc(), APART, &[(1, 0), (1, 1), (2, 0)]));
+    assert!(rt; is_order(rt.alloc(), EMPTY, &[]));
+}
+
+/// A record that shows a word stands behind the operations that it shows, and before the next one.
+#[test]
+fn a_look_stands_between_what_it_shows_and_what_it_does_not(rt: HostRuntime) {
+    assert!(rt; is_order(rt.alloc(), BETWEEN, &[(0, 0), (1, 0), (1, 1), (0, 1)]));
+    assert!(rt; is_order(rt.alloc(), STRANGE, &[(1, 0), (2, 0), (2, 1), (0, 0)]));
 }
 
 /// By the definition: the first draws a lower number, or one that the second shows, or shows none of the second's.
 fn touches_first(a: &Rec, b: &Rec) -> bool {
     match (Touched::by(a), Touched::by(b)) {
         (Touched::Draws { word: v, mark: m }, Touched::Draws { word: w, mark: n }) => {
-            key(v) == key(w) && m < n
+            key_of(v) == key_of(w) && m < n
         }
         (Touched::Draws { word: v, mark: m }, Touched::Shows { word: w, mark: n }) => {
-            key(v) == key(w) && m <= n
+            key_of(v) == key_of(w) && m <= n
         }
         (Touched::Shows { word: v, mark: m }, Touched::Draws { word: w, mark: n }) => {
-            key(v) == key(w) && m < n
+            key_of(v) == key_of(w) && m < n
         }
         _ => false,
     }
@@ -156,20 +151,23 @@ fn goes_round(j: &Journal, cycle: &[At]) -> bool {
 }
 
 /// Whether a cycle is answered of the journal, and is one.
-fn is_cycle(rt: HostRuntime, text: &[u8]) -> Result<bool, AllocError> {
-    let Some(case) = replayed(rt, text)? else {
-        return Ok(false);
-    };
-    match &case.answer {
-        Replayed::Order(_) => Ok(false),
-        Replayed::Cycle(cycle) => Ok(goes_round(&case.journal, &cycle.items)),
+fn has_cycle(alloc: Global, journal: &Journal) -> bool {
+    match replayed(alloc, journal) {
+        Some(Replayed::Cycle(cycle)) => goes_round(journal, &cycle.items),
+        _ => false,
     }
 }
 
-#[test]
-fn looks_past_one_another_go_round(rt: HostRuntime) -> Result<(), Fail> {
-    for text in [ROUND, EARLY] {
-        assert!(rt; is_cycle(rt, text)?);
+fn is_cycle(alloc: Global, text: &[u8]) -> bool {
+    match read_journal(alloc, text) {
+        Ok(found) => has_cycle(alloc, &found.journal),
+        Err(_) => false,
     }
-    Ok(())
+}
+
+/// Journals without an order give a cycle.
+#[test]
+fn looks_past_one_another_go_round(rt: HostRuntime) {
+    assert!(rt; is_cycle(rt.alloc(), ROUND));
+    assert!(rt; is_cycle(rt.alloc(), EARLY));
 }

@@ -2,8 +2,8 @@ use Rattle.std.proofs.Common.{◌≡◌, true, [], refl}
 use Rattle.qp_chart.specs.declared.checked.State.{State}
 use Rattle.qp_model.specs.declared.systems.System.{System}
 use Rattle.qp_model.specs.Able.{state_able}
-use Rattle.qp_judge_tests.proofs.EmptyLemmas.{found-empty}
-use Rattle.qp_judge_tests.proofs.courses.has_no_action.Goals as goal
+use Rattle.qp_check_tests.proofs.EmptyLemmas.{found-empty}
+use Rattle.qp_check_tests.proofs.courses.has_no_action.Goals as goal
 
 idle : (s : State) → s.entry ≡ [] → s.exit ≡ [] → s.init_do ≡ [] → s.row ≡ [] → (sys : System) → state_able sys s ≡ true
 unfolding state_able

@@ -1,69 +1,31 @@
-//! What the tests have in common: a small system, and records as they are told, each as a line of a table.
+//! Records as they are told, each as a line of a table, and a small system.
 
-ghost use Rattle.std.specs.Prelude.{◌≡◌};
-
-use arrayvec::{ArrayString, ArrayVec};
+use crate::samples::{signal, with_pool};
+use arrayvec::ArrayVec;
 use qp_check_calls::{Known, Told};
-use qp_model::{
-    Body, Charts, Entry, ObjectDef, ObjectDefs, Params, PoolDef, PoolDefs, SignalDef, SignalDefs,
-    System, TimerDef, TimerDefs, Values,
-};
+use qp_model::{Body, Entry, Params, System, TimerDef};
 use std::alloc::{AllocError, Global};
 
-pub fn name(text: &str) -> ArrayString<24> {
-    ArrayString::from(text).unwrap_or_default()
-}
-
-/// An object of priority 1 with a ring of 1.
-pub fn lamp(alloc: Global) -> ObjectDef
-    ensures { result.chart ≡ 1 }
-{
-    ObjectDef {
-        name: name("lamp"),
-        chart: 1,
-        priority: 1,
-        threshold: 1,
-        ring: 1,
-        defer: 1,
-        vars: Values {
-            items: Vec::new(alloc),
-        },
-    }
-}
-
-/// A pool of two blocks, the static signal 4, the lamp, and a time event of rate 0.
-pub fn system(alloc: Global) -> Result<System, AllocError> {
-    let go = SignalDef {
-        name: name("GO"),
-        params: 0,
-        fixed: true,
-    };
+fn add_signal_and_timer(sys: &mut System) -> Result<(), AllocError> {
     let timer = TimerDef {
         object: 1,
         sig: 4,
         rate: 0,
     };
-    Ok(System {
-        pools: PoolDefs {
-            items: vec![in alloc; PoolDef { size: 1, blocks: 2 }]?,
-        },
-        signals: SignalDefs {
-            items: vec![in alloc; go]?,
-        },
-        charts: Charts {
-            items: Vec::new(alloc),
-        },
-        objects: ObjectDefs {
-            items: vec![in alloc; lamp(alloc)]?,
-        },
-        timers: TimerDefs {
-            items: vec![in alloc; timer]?,
-        },
-    })
+    sys.signals.items.push(signal("GO", 0, true))?;
+    sys.timers.items.push(timer)?;
+    Ok(())
+}
+
+/// A pool of two blocks, the static signal 4, the lamp, and a time event of rate 0.
+pub fn system(alloc: Global) -> Result<System, AllocError> {
+    let mut sys = with_pool(alloc)?;
+    add_signal_and_timer(&mut sys)?;
+    Ok(sys)
 }
 
 /// A record beside which nothing is known.
-fn plain(body: Body) -> Told {
+pub fn plain(body: Body) -> Told {
     beside(body, Known::Nothing)
 }
 
@@ -75,10 +37,6 @@ pub fn no_pars() -> Params {
     Params {
         items: ArrayVec::new(),
     }
-}
-
-pub const fn entry(pool: u64, block: u64, name: u64) -> Entry {
-    Entry { pool, block, name }
 }
 
 /// Reference 0 of block 0, and reference 7.

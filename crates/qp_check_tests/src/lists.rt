@@ -1,17 +1,17 @@
 //! Lists of object 1: an action or a call that ends in its assertion at their front, publications, and the shape of the whole list.
 
-use crate::samples::Line::{
+use crate::lines::Line::{
     Back, BadTicks, Begin, Done, Dropped, Flush, Full, Given, Lifo, Nil, NoDefer, NoEntry, Posted,
     Raised, Recall, Referred, Restored, Say, Seen, Shown, Spent, Taken, TakenUnknown, Unhandled,
 };
-use crate::samples::{Line, POOLED, STATIC, all_told, system};
+use crate::lines::{Line, POOLED, STATIC, all_told, system};
 use qp_check_calls::{Cut, Told};
 use qp_check_shapes::{
     Scene, asserts, behind_action, behind_assertion, behind_unit, has_shape, is_front,
     stops_in_publication,
 };
 use qp_model::{Entry, System};
-use std::alloc::Global;
+use std::alloc::{AllocError, Global};
 
 /// An entry of signal 5 without a block, which none has.
 const UNPOOLED: Entry = Entry {
@@ -204,20 +204,18 @@ fn is_answered(sys: &System, asked: Asked, told: &[Told]) -> bool {
 }
 
 /// Whether it is answered so of the records of these lines.
-fn is_answered_of(alloc: Global, sys: &System, asked: Asked, lines: &[Line]) -> bool {
-    match all_told(alloc, lines) {
-        Ok(told) => is_answered(sys, asked, told.as_slice()),
-        Err(_) => false,
-    }
+fn is_answered_of(alloc: Global, asked: Asked, lines: &[Line]) -> Result<bool, AllocError> {
+    let told = all_told(alloc, lines)?;
+    let sys = system(alloc)?;
+    Ok(is_answered(&sys, asked, told.as_slice()))
 }
 
 #[test]
 fn lists(rt: HostRuntime) {
-    let Ok(sys) = system(rt.alloc()) else {
-        assert!(rt; false, "no memory");
-        return;
-    };
     for (i, (asked, lines)) in LISTS.iter().enumerate() {
-        assert!(rt; is_answered_of(rt.alloc(), &sys, *asked, lines), "list {i}");
+        assert!(rt;
+            is_answered_of(rt.alloc(), *asked, lines) == Ok(true),
+            "list {i}"
+        );
     }
 }

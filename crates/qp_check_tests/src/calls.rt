@@ -1,9 +1,7 @@
 //! The records of a call, read one by one.
 
-use crate::samples::Line::{
-    Back, Dropped, Flush, Given, Posted, Raised, Referred, Restored, Shown,
-};
-use crate::samples::{Line, POOLED_7, entry, no_pars, system, told};
+use crate::lines::Line::{Back, Dropped, Flush, Given, Posted, Raised, Referred, Restored, Shown};
+use crate::lines::{Line, POOLED_7, no_pars, system, told};
 use qp_check_calls::{Answer, Call, CallState, Kept};
 use qp_model::Entry;
 use std::alloc::{AllocError, Global};
@@ -97,7 +95,7 @@ fn calls(rt: HostRuntime) {
 /// Whether a flush takes the entry that is kept; its block comes back.
 fn flushes(alloc: Global) -> bool {
     let mut kept = Kept::none(alloc);
-    if kept.items.push_back(entry(1, 0, 7)).is_err() {
+    if kept.items.push_back(POOLED_7).is_err() {
         return false;
     }
     let lines = [Flush(POOLED_7), Dropped(7, 0), Back(2)];
