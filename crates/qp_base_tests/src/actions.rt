@@ -236,15 +236,19 @@ const ACTIONS: [&str; 62] = [
     "unsubscribe N",
 ];
 
+fn is_read(alloc: Global, text: &str) -> bool {
+    read_action(alloc, text).is_ok()
+}
+
 /// The actions of the worked examples, and the edges of the grammar: spaces may be left out, and sixteen levels are allowed.
 #[test]
 fn texts_that_are_actions(rt: HostRuntime) {
     for text in &ACTIONS {
-        assert!(rt; read_action(rt.alloc(), text).is_ok(), "{text}");
+        assert!(rt; is_read(rt.alloc(), text), "{text}");
     }
 }
 
-const NO_ACTIONS: [&str; 95] = [
+const NO_ACTIONS: [&str; 104] = [
     "x",
     "x =",
     "= 1",
@@ -340,9 +344,6 @@ const NO_ACTIONS: [&str; 95] = [
     "locked 1 []",
     "locked 1 [defer",
     "locked 1 [locked 2 [defer]]",
-];
-
-const NO_LOCKED: [&str; 9] = [
     "locked 1 defer",
     "locked x [defer]",
     "locked -1 [defer]",
@@ -354,11 +355,14 @@ const NO_LOCKED: [&str; 9] = [
     "locked 1 [defer] defer",
 ];
 
+fn is_bad(alloc: Global, text: &str) -> bool {
+    matches!(read_action(alloc, text), Err(ExprFault::Bad))
+}
+
 /// Each way out of the lines of actions.
 #[test]
 fn texts_that_are_no_actions(rt: HostRuntime) {
-    for text in NO_ACTIONS.iter().chain(&NO_LOCKED) {
-        let bad = matches!(read_action(rt.alloc(), text), Err(ExprFault::Bad));
-        assert!(rt; bad, "{text}");
+    for text in &NO_ACTIONS {
+        assert!(rt; is_bad(rt.alloc(), text), "{text}");
     }
 }

@@ -65,54 +65,67 @@ const PUTS: [(u8, usize, usize); 4] = [
 ];
 
 /// Whether the puts work, with as many bytes gone on as they say.
-fn are_put(alloc: Global, sink: &mut OverMemory) -> Result<bool, AllocError> {
-    for (byte, len, below) in PUTS {
-        if !put(alloc, sink, byte, len)? || sink.inner().bytes().len() != below {
-            return Ok(false);
+fn are_put(alloc: Global, sink: &mut OverMemory) -> bool {
+    for (byte, len, below) in &PUTS {
+        if put(alloc, sink, *byte, *len) != Ok(true) || sink.inner().bytes().len() != *below {
+            return false;
         }
     }
-    Ok(true)
+    true
+}
+
+fn add(bytes: &mut Vec<u8>, byte: u8, len: usize) -> Result<(), AllocError> {
+    for _ in 0..len {
+        bytes.push(byte)?;
+    }
+    Ok(())
 }
 
 /// All bytes of the puts, in order.
 fn all_bytes(alloc: Global) -> Result<Vec<u8>, AllocError> {
     let mut bytes = Vec::new(alloc);
-    for (byte, len, _) in PUTS {
-        for _ in 0..len {
-            bytes.push(byte)?;
-        }
+    for (byte, len, _) in &PUTS {
+        add(&mut bytes, *byte, *len)?;
     }
     Ok(bytes)
 }
 
+/// Whether a flush works, behind which these bytes have gone on.
+fn flushes(sink: &mut OverMemory, want: &[u8]) -> bool {
+    sink.flush().is_ok() && sink.inner().bytes() == want
+}
+
 /// Whether all bytes are handed on in order, and nothing is left behind a flush.
-fn hands_on(alloc: Global, sink: &mut OverMemory, want: &[u8]) -> Result<bool, AllocError> {
-    if !are_put(alloc, sink)? {
-        return Ok(false);
-    }
-    if sink.flush().is_err() || sink.inner().bytes() != want {
-        return Ok(false);
-    }
-    Ok(sink.flush().is_ok() && sink.inner().bytes() == want)
+fn hands_on(alloc: Global, mut sink: OverMemory, want: &[u8]) -> bool {
+    let hands_on = are_put(alloc, &mut sink)
+        && flushes(&mut sink, want)
+        && flushes(&mut sink, want);
+    let below = sink.into_inner();
+    hands_on && below.bytes() == want
 }
 
 /// The same of a new sink.
-fn gathers(alloc: Global) -> Result<bool, AllocError> {
-    let want = all_bytes(alloc)?;
-    let mut sink = gathered(alloc, &[])?;
-    Ok(hands_on(alloc, &mut sink, &want)? && sink.into_inner().bytes() == want.as_slice())
+fn gathers(alloc: Global, want: &[u8]) -> bool {
+    match gathered(alloc, &[]) {
+        Ok(sink) => hands_on(alloc, sink, want),
+        Err(_) => false,
+    }
 }
 
 #[test]
 fn a_sink_that_gathers_hands_on_all_bytes_in_order(rt: HostRuntime) {
-    assert!(rt; gathers(rt.alloc()) == Ok(true));
+    let gathers = match all_bytes(rt.alloc()) {
+        Ok(want) => gathers(rt.alloc(), want.as_slice()),
+        Err(_) => false,
+    };
+    assert!(rt; gathers);
 }
 
 /// Whether all puts work.
 fn put_all(alloc: Global, sink: &mut OverMemory) -> Result<bool, AllocError> {
     let mut is_well = true;
-    for (byte, len, _) in PUTS {
-        is_well &= put(alloc, sink, byte, len)?;
+    for (byte, len, _) in &PUTS {
+        is_well &= put(alloc, sink, *byte, *len)?;
     }
     Ok(is_well)
 }
