@@ -23,14 +23,22 @@ const ENTRY: Entry = Entry {
 
 /// Whether each of these shows no word.
 fn are_notes(records: &[Rec]) -> bool {
-    records.iter().all(|rec| is_note(rec))
+    for rec in records {
+        if !is_note(rec) {
+            return false;
+        }
+    }
+    true
 }
 
 /// Whether each of these shows this word with its number.
 fn are_on(word: Word, records: &[(u64, Rec)]) -> bool {
-    records
-        .iter()
-        .all(|(number, rec)| is_on(rec, word, *number))
+    for (number, rec) in records {
+        if !is_on(rec, word, *number) {
+            return false;
+        }
+    }
+    true
 }
 
 /// Notes of a step show no word.

@@ -160,9 +160,18 @@ fn stands(alloc: Global, case: &Case) -> Result<bool, AllocError> {
     })
 }
 
+/// The first case of which something else is answered.
+fn first_wrong(alloc: Global) -> Option<usize> {
+    for (i, case) in CASES.iter().enumerate() {
+        if stands(alloc, case) != Ok(true) {
+            return Some(i);
+        }
+    }
+    None
+}
+
 #[test]
 fn told(rt: HostRuntime) {
-    for (i, case) in CASES.iter().enumerate() {
-        assert!(rt; stands(rt.alloc(), case) == Ok(true), "case {i}");
-    }
+    let wrong = first_wrong(rt.alloc());
+    assert!(rt; wrong.is_none(), "case {wrong:?}");
 }

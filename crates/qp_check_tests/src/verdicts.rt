@@ -178,12 +178,18 @@ const JOURNALS: [Case; 21] = [
     (SIM, &[LOOKS, SOURCE], 7, NOT_ITS_END),
 ];
 
+/// The first journal of which something else is said.
+fn first_wrong(alloc: Global) -> Option<usize> {
+    for (i, (kernel, lanes, end, want)) in JOURNALS.iter().enumerate() {
+        if verdict(alloc, *kernel, lanes, *end) != Ok(*want) {
+            return Some(i);
+        }
+    }
+    None
+}
+
 #[test]
 fn journals(rt: HostRuntime) {
-    for (i, (kernel, lanes, end, want)) in JOURNALS.iter().enumerate() {
-        assert!(rt;
-            verdict(rt.alloc(), *kernel, lanes, *end) == Ok(*want),
-            "case {i}"
-        );
-    }
+    let wrong = first_wrong(rt.alloc());
+    assert!(rt; wrong.is_none(), "case {wrong:?}");
 }
