@@ -26,10 +26,10 @@ leave_one-requires-clause-fits c =
     let one = c.in_ok-first.ensures.each 1 (lane_view c.in_ok-first.second) refl in
     subst (λ s. FitsPool s 1 (event_of c.args.ev.now)) (sym (c.counts_behind-counts.ensures.other.sys ∙ (c.post_go-posted.ensures.sys ∙ (one.sys_is ∙ c.in-Ok.ensures.system)))) c.requires.fits
 
-pub seal_pair-requires-clause-first : goal.seal_pair-requires-clause-first
-seal_pair-requires-clause-first c = lane-of c.in-Ok.shared 2 0 _ _ (lane_view c.in_ok-first.first) _ c.in_ok-first.ensures refl c.counts_behind-counts.ensures.lane
+pub seal_pair-sealed-requires-clause-first : goal.seal_pair-sealed-requires-clause-first
+seal_pair-sealed-requires-clause-first c = lane-of c.in-Ok.shared 2 0 _ _ (lane_view c.in_ok-first.first) _ c.in_ok-first.ensures refl c.counts_behind-counts.ensures.lane
 
-pub seal_pair-requires-clause-second : goal.seal_pair-requires-clause-second
-seal_pair-requires-clause-second c =
+pub seal_pair-sealed-requires-clause-second : goal.seal_pair-sealed-requires-clause-second
+seal_pair-sealed-requires-clause-second c =
     lane-of c.in-Ok.shared 2 1 _ _ (lane_view c.in_ok-first.second) _ c.in_ok-first.ensures refl
     (same-then _ _ _ (same-then _ _ _ c.post_go-posted.ensures c.counts_behind-counts.ensures.other) c.leave_one.ensures)

@@ -24,15 +24,15 @@ beside-second-requires-clause-two g c κs within =
     (subst (λ t. IsPlayer t.sys.now t.ev.now t.me t.to (lane_view c.in_ok-first.last)) (sym c.player-two.ensures.at)
     (first-plays c.in-Ok.shared c.args.sys.now c.args.ev.now 2 2 1 _ (lane_view c.in_ok-first.last) c.in-Ok.ensures.system c.in_ok-first.ensures refl c.requires.two_stands c.requires.two c.requires.one c.requires))
 
-pub seal_triple-requires-clause-first : goal.seal_triple-requires-clause-first
-seal_triple-requires-clause-first g c = lane-of c.in-Ok.shared 3 0 _ _ (lane_view c.in_ok-first.first) _ c.in_ok-first.ensures refl (same-itself _)
+pub seal_triple-sealed-requires-clause-first : goal.seal_triple-sealed-requires-clause-first
+seal_triple-sealed-requires-clause-first g c = lane-of c.in-Ok.shared 3 0 _ _ (lane_view c.in_ok-first.first) _ c.in_ok-first.ensures refl (same-itself _)
 
-pub seal_triple-requires-clause-second : goal.seal_triple-requires-clause-second
-seal_triple-requires-clause-second g c =
+pub seal_triple-sealed-requires-clause-second : goal.seal_triple-sealed-requires-clause-second
+seal_triple-sealed-requires-clause-second g c =
     lane-of c.in-Ok.shared 3 1 _ _ (lane_view c.in_ok-first.second) _ c.in_ok-first.ensures refl
     (subst (λ l. IsSame (lane_view l) (lane_view c.beside-second.result.0)) c.player-one.ensures.lane c.beside-second.ensures.one)
 
-pub seal_triple-requires-clause-last : goal.seal_triple-requires-clause-last
-seal_triple-requires-clause-last g c =
+pub seal_triple-sealed-requires-clause-last : goal.seal_triple-sealed-requires-clause-last
+seal_triple-sealed-requires-clause-last g c =
     lane-of c.in-Ok.shared 3 2 _ _ (lane_view c.in_ok-first.last) _ c.in_ok-first.ensures refl
     (subst (λ l. IsSame (lane_view l) (lane_view c.beside-second.result.1)) c.player-two.ensures.lane c.beside-second.ensures.two)
