@@ -40,6 +40,7 @@ pub(crate) fn release<O: Ops>(ops: &mut O, h: Hold)
 }
 
 /// Drops an entry's reference, if it has one.
+#[inline(always)]
 pub(crate) fn drop_entry<O: Ops>(ops: &mut O, e: Entry)
     requires room { 2 ≤ (O.lane ops.old).spare }
     requires stands { Stands e (O.lane ops.old) }
@@ -85,6 +86,7 @@ fn unposted<O: Ops>(ops: &mut O, e: Entry, margin: Option<u8>) -> Did
 }
 
 /// Posts an entry.
+#[inline(always)]
 pub(crate) fn post_entry<O: Ops, L: Ledger>(
     ops: &mut O,
     to: u8,

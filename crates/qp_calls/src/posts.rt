@@ -44,6 +44,7 @@ pub fn post_new<O: Ops, L: Ledger>(
 }
 
 /// Posts a static event.
+#[inline(always)]
 pub fn post_static<O: Ops, L: Ledger>(
     ops: &mut O,
     to: u8,
@@ -123,6 +124,7 @@ pub fn lifo_new<O: Ops, L: Ledger>(
 }
 
 /// Ends a step: drops the reference of its entry. The answer is 1.
+#[inline(always)]
 pub fn end_step<O: Ops>(ops: &mut O, e: Entry) -> Result<Did, RoomFault>
     requires { Stands e (O.lane ops.old) }
     ensures ok { IfOk result (λ did. EndsStep (entry_of e) did (O.lane ops.old) (O.lane ops.new)) }

@@ -12,6 +12,7 @@ use qp_shared_lane::{LaneState, put, put_spill};
 use std::mem;
 
 /// Makes spare for at least eight records. A refusal changes nothing: a lane with no room for eight more, or else want of memory.
+#[inline(always)]
 pub fn room(lane: &mut LaneState<'_>) -> Result<(), RoomFault>
     ensures ok { OnOk result (8 ≤ (state_view lane.new).spare) }
     ensures err { Faults (state_view lane.old) result }

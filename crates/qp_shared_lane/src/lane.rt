@@ -12,8 +12,8 @@ use qp_shared_words::Words;
 use qp_side::SideSeat;
 use qp_table::View;
 
-/// The lane of one thread: the lengths of its system's rings, its seats on both tables, the object for which it adds records, how many lanes the table became, the
-/// ceiling of its last `lock` or `unlock`, its log, and in proofs alone a number beside each record.
+/// The lane of one thread: the lengths of its system's rings, its seats on both tables, the object for which it adds records, how many
+/// lanes the table became, the ceiling of its last `lock` or `unlock`, its log, and in proofs alone a number beside each record.
 #[derive(Drop)]
 pub struct LaneState<'a> {
     pub sys: &'a System,

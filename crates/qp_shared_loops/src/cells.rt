@@ -58,6 +58,7 @@ fn before_front(ring: u8, lifos: u64, takes: u64) -> u16
 /// Posts an entry, where more entries of the queue are free than the margin, None counting as 0: claims it as `claim_entry` does,
 /// and then lays its cell. Answers the queue's word as it was when the entry was claimed or too few were free, and whether it is
 /// posted. `ring` is the queue's.
+#[inline(always)]
 pub fn post_entry<L: Ledger>(
     words: &Words,
     seat: &mut Seat<(), View>,

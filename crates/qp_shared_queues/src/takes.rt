@@ -14,6 +14,7 @@ use qp_shared_loops::takes::{parts, take_entry};
 use std::sync::Wait;
 
 /// Takes the front entry. It waits only for a poster that has claimed the front entry and not yet laid it.
+#[inline(always)]
 pub fn take<R: Wait>(lane: &mut LaneState<'_>, rt: &R, me: u8) -> Take
     requires room { 0 < (state_view lane.old).spare }
     requires object { IsTrue (is_object (state_view lane.old).sys me) }

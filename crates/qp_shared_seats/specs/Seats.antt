@@ -36,12 +36,12 @@ pub record IsOnePast (sys : System) (v : View) : Type 0 where
   pub first : (w : Word) → IsTrue (is_here sys w) → first_value sys w ≡ was (place_of w) (mark_in (place_of w) (first_value sys w))
 
 -- a look that changes nothing tells this
-abbrev pub StaysTold : (View → Type 0) → View → ℕ → View → Type 0
-StaysTold P v n u = (u ≡ v) × P v
+abbrev pub StaysTold : (View → Type 0) → View → View → Type 0
+StaysTold P v u = (u ≡ v) × P v
 
 -- the root of the side table becomes the seat of a lane
 abbrev pub with_number : ℕ → SideView → SideView
 with_number n v = record v { view = record v.view { logs = record { number = n; recs = [] } ∷ []; lane_numbers = without (is_number n) v.view.lane_numbers } }
 
-abbrev pub NumberTold : ℕ → SideView → ℕ → SideView → Type 0
-NumberTold n v k u = u ≡ with_number n v
+abbrev pub NumberTold : ℕ → SideView → SideView → Type 0
+NumberTold n v u = u ≡ with_number n v

@@ -1,6 +1,6 @@
 //! Seats on the words of the event table.
 
-ghost use Rattle.std.specs.Prelude.{◌≡◌, ℕ, ◌+◌, ◌<◌, [], length};
+ghost use Rattle.std.specs.Prelude.{◌≡◌, ◌+◌, ◌<◌, [], length};
 ghost use Rattle.qp_table.specs.Counting.{many};
 ghost use Rattle.qp_table.specs.Rule.{is_number};
 ghost use Rattle.qp_table.specs.After.{Steps, nothing, onlooker, joined};
@@ -114,47 +114,47 @@ pub fn join_seats(words: &Words, seat: &mut Seat<(), View>, other: Seat<(), View
     words.shared.join_seat::<Together>(seat, other);
 }
 
-/// What a look tells of the view before, the number found and the view after. Its caller picks it.
+/// What a look tells of the view before and the view after. Its caller picks it.
 trait Tells {
-    ghost tells: { View → ℕ → View → Type 0 };
+    ghost tells: { View → View → Type 0 };
 }
 
 impl Tells for Brand {
-    ghost tells = { λ v n u. Unit {0} };
+    ghost tells = { λ v u. Unit {0} };
 }
 
 struct Tell<T: Tells>(PhantomData<T>);
 
 impl<T: Tells> Play<(), View> for Tell<T> {
-    ghost then = { λ st m n m'. T.tells m.0 n m'.0 };
+    ghost then = { λ st m n m'. T.tells m.0 m'.0 };
 }
 
-fn look<T: Tells>(words: &Words, seat: &mut Seat<(), View>) -> u64
+fn look<T: Tells>(words: &Words, seat: &mut Seat<(), View>)
     requires own { (seat.old.table_id ≡ words.now.shared.table_id) × (0 < words.now.shared.table_id.words) }
-    requires keeps { Steps words.now.shared.key seat.old.id seat.old.me.0 0 (λ n. n) (T.tells seat.old.me.0) }
+    requires keeps { Steps words.now.shared.key seat.old.id seat.old.me.0 0 (λ n. n) (λ n. T.tells seat.old.me.0) }
     ensures same { (seat.new.table_id ≡ seat.old.table_id) × (seat.new.id ≡ seat.old.id) }
-    ensures told { T.tells seat.old.me.0 result seat.new.me.0 }
+    ensures told { T.tells seat.old.me.0 seat.new.me.0 }
 {
-    words.shared.load::<Tell<T>>(seat, 0)
+    words.shared.load::<Tell<T>>(seat, 0);
 }
 
 /// A look that changes nothing. It tells that all that the seat saw of a word at one number of operations is one value.
-pub fn know_past(words: &Words, seat: &mut Seat<(), View>) -> u64
+pub fn know_past(words: &Words, seat: &mut Seat<(), View>)
     requires own { seat.old.table_id ≡ words.now.shared.table_id }
     requires wide { words.now.shared.table_id.words ≡ 21128 }
     ensures same { (seat.new.table_id ≡ seat.old.table_id) × (seat.new.id ≡ seat.old.id) }
-    ensures told { StaysTold (IsOnePast words.now.shared.key) seat.old.me.0 result seat.new.me.0 }
+    ensures told { StaysTold (IsOnePast words.now.shared.key) seat.old.me.0 seat.new.me.0 }
 {
-    look::<Brand>(words, seat)
+    look::<Brand>(words, seat);
 }
 
 /// The seat with all lanes, and with all numbers that were given to none, looks and so knows the end of the table.
-pub fn know_end(words: &Words, seat: &mut Seat<(), View>) -> u64
+pub fn know_end(words: &Words, seat: &mut Seat<(), View>)
     requires own { seat.old.table_id ≡ words.now.shared.table_id }
     requires wide { words.now.shared.table_id.words ≡ 21128 }
     requires all { length seat.old.me.0.logs + length seat.old.me.0.lane_numbers ≡ 49 }
     ensures same { (seat.new.table_id ≡ seat.old.table_id) × (seat.new.id ≡ seat.old.id) }
-    ensures told { StaysTold (AtEnd words.now.shared.key) seat.old.me.0 result seat.new.me.0 }
+    ensures told { StaysTold (AtEnd words.now.shared.key) seat.old.me.0 seat.new.me.0 }
 {
-    look::<Brand>(words, seat)
+    look::<Brand>(words, seat);
 }
