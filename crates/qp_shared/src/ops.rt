@@ -13,6 +13,7 @@ impl Ops for SharedLane<'_> {
 
     ghost lane = { lane_view };
 
+    #[inline(always)]
     fn room(&mut self) -> Result<(), RoomFault> {
         qp_shared_blocks::room(&mut self.state)
     }
@@ -59,6 +60,7 @@ impl Ops for SharedLane<'_> {
         qp_shared_blocks::par(&mut self.state, h, j)
     }
 
+    #[inline(always)]
     fn claim<L: Ledger>(
         &mut self,
         to: u8,
@@ -73,6 +75,7 @@ impl Ops for SharedLane<'_> {
         qp_shared_queues::lifo(&mut self.state, e, steps)
     }
 
+    #[inline(always)]
     fn take<R: Wait>(&mut self, rt: &R, me: u8) -> Take {
         qp_shared_queues::take(&mut self.state, rt, me)
     }

@@ -13,6 +13,7 @@ use qp_model::Rec;
 use qp_shared_views::Numbers;
 
 /// Adds a record that is neither a `nil` nor a `spill`, and the number beside it.
+#[inline(always)]
 pub fn put(log: &mut Log, numbers: &mut Numbers, rec: Rec, number: u64)
     requires room { 0 < log.old.spare }
     requires plain { is_plain (item_of rec).body ≡ true }

@@ -30,6 +30,7 @@ pub(crate) fn stated(pool: u8, block: u16, name: u64) -> qp_model::Entry
 }
 
 /// The record of a post at these counts: of the entry posted, or of too few free entries.
+#[inline(always)]
 fn post_rec(
     by: u8,
     to: u8,
