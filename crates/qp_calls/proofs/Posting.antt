@@ -9,11 +9,10 @@ use Rattle.qp_model.specs.Parts.{is_static, first_pool, sizes_of}
 use Rattle.qp_model.specs.Shapes.{Posts, PostsFront, MakesBlock, MakesNew, NoBlockFor}
 use Rattle.qp_calls.specs.declared.did.Did.{Did}
 use Rattle.qp_calls.specs.declared.did.Did.TheVariants as did
-use Rattle.qp_calls.specs.declared.tokens.Hold.{Hold}
 use Rattle.qp_calls.specs.declared.tokens.Fresh.{Fresh}
 use Rattle.qp_calls.specs.declared.tokens.Entry.{Entry}
 use Rattle.qp_calls.specs.declared.tokens.Entry.TheVariants as token
-use Rattle.qp_calls.specs.Tokens.{Held, Loose, take_out, without_entry, hands_after, hands_by}
+use Rattle.qp_calls.specs.Tokens.{Hold, Held, Loose, take_out, without_entry, hands_after, hands_by}
 use Rattle.qp_calls.specs.LaneView.{LaneView, Grows}
 use Rattle.qp_calls.specs.Clauses.{GivesOut, GivesNone, Makes, PostsIt, PostsNot, PutsFront, PutsNot, Stands, StandsFresh, entry_of}
 use Rattle.qp_calls.specs.Entries.{Made, Unmade, PostsEntry, PostsFirst, Refuses, Released, Unposted, is_value}

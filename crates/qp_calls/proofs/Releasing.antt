@@ -5,10 +5,9 @@ use Rattle.qp_model.specs.declared.bodies.Body.TheVariants.{Back, Inc}
 use Rattle.qp_model.specs.Record.{entry}
 use Rattle.qp_model.specs.Told.{Told, plain, dropped}
 use Rattle.qp_model.specs.Shapes.{Drops, Releases, MakesAgain}
-use Rattle.qp_calls.specs.declared.tokens.Hold.{Hold}
 use Rattle.qp_calls.specs.declared.tokens.Fresh.{Fresh}
 use Rattle.qp_calls.specs.declared.tokens.Entry.TheVariants as token
-use Rattle.qp_calls.specs.Tokens.{Token, Held, Loose, take_out, stands, with_entry, without_entry, hands_after, hands_by}
+use Rattle.qp_calls.specs.Tokens.{Hold, Token, Held, Loose, take_out, stands, with_entry, without_entry, hands_after, hands_by}
 use Rattle.qp_calls.specs.LaneView.{LaneView, Grows, Adds, mark_after, mark_by}
 use Rattle.qp_calls.specs.Clauses.{DropsOne, GoesBack, MakesMore, Stands, entry_of}
 use Rattle.qp_calls.specs.Entries.{Release, Again}

@@ -19,10 +19,9 @@ use Rattle.qp_model.specs.WordLaw.{is_object}
 use Rattle.qp_calls.specs.declared.answers.RoomFault.{RoomFault}
 use Rattle.qp_calls.specs.declared.did.Did.{Did}
 use Rattle.qp_calls.specs.declared.did.Did.TheVariants as did
-use Rattle.qp_calls.specs.declared.tokens.Hold.{Hold}
 use Rattle.qp_calls.specs.declared.tokens.Entry.{Entry}
 use Rattle.qp_calls.specs.declared.tokens.Entry.TheVariants as token
-use Rattle.qp_calls.specs.Tokens.{without_entry}
+use Rattle.qp_calls.specs.Tokens.{Hold, without_entry}
 use Rattle.qp_calls.specs.LaneView.{LaneView, Grows, Roomier}
 use Rattle.qp_calls.specs.Clauses.{IsEvent, Stands, StandsHold, entry_of}
 use Rattle.qp_calls.specs.Entries.{Released}

@@ -18,7 +18,6 @@ use Rattle.qp_model.specs.Told.{Told, ToldItem, Event, plain, taken, given, drop
 use Rattle.qp_model.specs.Sites.{ring_of}
 use Rattle.qp_model.specs.Parts.{is_static, room_before, sizes_of, members}
 use Rattle.qp_model.specs.WordLaw.{is_object}
-use Rattle.qp_calls.specs.declared.tokens.Hold.{Hold}
 use Rattle.qp_calls.specs.declared.tokens.Fresh.{Fresh}
 use Rattle.qp_calls.specs.declared.tokens.Entry.{Entry}
 use Rattle.qp_calls.specs.declared.tokens.Entry.TheVariants as token
@@ -37,7 +36,7 @@ use Rattle.qp_calls.specs.declared.answers.Arm as arming
 use Rattle.qp_calls.specs.declared.answers.Arm.TheVariants as armed
 use Rattle.qp_calls.specs.declared.answers.Tick as ticking
 use Rattle.qp_calls.specs.declared.answers.Tick.TheVariants as ticked
-use Rattle.qp_calls.specs.Tokens.{Held, Loose, stands}
+use Rattle.qp_calls.specs.Tokens.{Hold, Held, Loose, stands}
 use Rattle.qp_calls.specs.LaneView.{LaneView, Shown, FreeBlocks, References, Counts, NotShown, Adds, AddsOf, Looks, is_codeless}
 
 -- Tokens and entries.

@@ -1,5 +1,5 @@
 -- How a lane stops that has no room.
-use Rattle.std.specs.Prelude.{ℕ, ◌<◌, ◌≤◌, [], ◌∷◌, length}
+use Rattle.std.specs.Prelude.{◌<◌, ◌≤◌, [], ◌∷◌, length}
 use Rattle.qp_model.specs.declared.bodies.Body.TheVariants as body
 use Rattle.qp_model.specs.Told.{plain}
 use Rattle.qp_calls.specs.LaneView.{LaneView, GrowsOf}

@@ -6,6 +6,12 @@ use Rattle.qp_model.specs.declared.bodies.Body.{Body}
 use Rattle.qp_model.specs.declared.bodies.Body.TheVariants.{Took, New, Inc, Dec, Back, Post, Lifo}
 use Rattle.qp_model.specs.Told.{Told, ToldItem, Known, Left}
 
+-- a reference to a block: its name is the number of the operation that made it
+pub record Hold : Type 0 where
+  pub pool : ℕ
+  pub block : ℕ
+  pub name : ℕ
+
 -- a reference, or a block that none names
 pub data Token : Type 0 where
   Held : (p b r : ℕ) → Token

@@ -12,6 +12,7 @@ use qp_base::Ev;
 
 impl Rec {
     /// `entry` is taken from the queue of `o`; the counts are those after it.
+    #[inline(always)]
     pub fn took(o: u8, f: u32, l: u32, m: u32, entry: Entry) -> Rec
         ensures { item_of result ≡ record { of = o; body = Took f l m entry } }
     {
@@ -120,6 +121,7 @@ impl Rec {
     }
 
     /// `entry` is posted to `a`; the counts are those after it.
+    #[inline(always)]
     pub fn post(o: u8, a: u8, f: u32, l: u32, m: u32, entry: Entry) -> Rec
         ensures { item_of result ≡ record { of = o; body = Post a f l m entry } }
     {

@@ -13,6 +13,7 @@ pub struct Rec {
 }
 
 /// These numbers, as a record holds them.
+#[inline(always)]
 pub(crate) fn numbers(xs: &[u64]) -> ArrayVec<u64, 13>
     requires { length xs.now ≤ 13 }
     ensures { result.items ≡ xs.now }

@@ -12,11 +12,10 @@ use Rattle.qp_model.specs.Lists.{is_first, with_number, without_all}
 use Rattle.qp_model.specs.History.{drawn_on, touch_of}
 use Rattle.qp_model.specs.FreeBlocks.{Pool}
 use Rattle.qp_model.specs.WordLaw.{is_pool, is_block}
-use Rattle.qp_calls.specs.declared.tokens.Hold.{Hold}
 use Rattle.qp_calls.specs.declared.tokens.Fresh.{Fresh}
 use Rattle.qp_calls.specs.declared.answers.Give.TheVariants as give
 use Rattle.qp_calls.specs.declared.answers.Dec.TheVariants as dec
-use Rattle.qp_calls.specs.Tokens.{Held, Loose, stands}
+use Rattle.qp_calls.specs.Tokens.{Hold, Held, Loose, stands}
 use Rattle.qp_calls.specs.Clauses.{Gives, Makes, MakesMore, LetsGo, GoesBack, StandsHold, StandsFresh, event_of, shortage_of}
 use Rattle.qp_plain_words.specs.declared.block.BlockWord.{BlockWord}
 use Rattle.qp_plain_sound.specs.May.{May}

@@ -9,7 +9,7 @@ use Rattle.qp_plain.specs.Tables.{place}
 use Rattle.qp_plain.specs.World.{WorldHolds}
 use Rattle.qp_plain.proofs.Calling.{BlockIs}
 use Rattle.qp_plain.proofs.Few.{refs-few, names-counted}
-use Rattle.qp_calls.specs.declared.tokens.Hold.{Hold}
+use Rattle.qp_calls.specs.Tokens.{Hold}
 
 pub put : (w : PlainWorld) (b : Book) (p k at : ℕ) (x : BlockWord) → at ≡ place p k → WorldHolds w.sys.now (lists_of b) b.order.items w.pools.items (slice_set w.blocks.items (place p k) x) w.cells.items w.queues.items w.signals.items w.timers.items
     → WorldHolds w.sys.now (lists_of b) b.order.items w.pools.items (slice_set w.blocks.items at x) w.cells.items w.queues.items w.signals.items w.timers.items

@@ -17,7 +17,7 @@ use Rattle.qp_model.specs.FreeBlocks.{Pool, free_blocks, pool_may, pool_next}
 use Rattle.qp_model.specs.Sites.{blocks_of}
 use Rattle.qp_model.specs.WordLaw.{is_pool, is_block}
 use Rattle.qp_model.proofs.ListLemmas.{all-with, all-without, all-counted}
-use Rattle.qp_calls.specs.declared.tokens.Hold.{Hold}
+use Rattle.qp_calls.specs.Tokens.{Hold}
 use Rattle.qp_calls.specs.Clauses.{StandsHold, IsEvent, FitsPool, event_of}
 use Rattle.qp_plain_sound.specs.Sound.{is_event}
 use Rattle.qp_plain_sound.specs.View.{view_of}

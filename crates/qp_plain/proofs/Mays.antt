@@ -6,11 +6,10 @@ use Rattle.std.proofs.lemmas.Bool.Decides.{nat_tests}
 use Rattle.qp_model.specs.Sites.{ring_of}
 use Rattle.qp_model.specs.WordLaw.{is_block, is_object, is_timer}
 use Rattle.std.proofs.lemmas.Option.{slice_get_within}
-use Rattle.qp_calls.specs.declared.tokens.Hold.{Hold}
 use Rattle.qp_calls.specs.declared.tokens.Fresh.{Fresh}
 use Rattle.qp_calls.specs.declared.tokens.Entry.{Entry}
 use Rattle.qp_calls.specs.declared.tokens.Entry.TheVariants as token
-use Rattle.qp_calls.specs.Tokens.{Held, Loose, stands}
+use Rattle.qp_calls.specs.Tokens.{Hold, Held, Loose, stands}
 use Rattle.qp_calls.specs.Clauses.{Owns, Stands, StandsHold, StandsFresh, entry_of, refusal_of, shortage_of}
 use Rattle.qp_plain_sound.specs.May.{May, IsOwned, IsPool, IsQueue}
 use Rattle.qp_plain_sound.specs.Sound.{hands_in, names_block, is_good}

@@ -161,6 +161,11 @@ impl<'a> Ops for PlainWorld<'a> {
                 if !self.book.tells(me, now) {
                     self.book
                         .add_nil(Rec::nil(me, now.f, now.l, now.m), me, now);
+                    return Take::Empty {
+                        f: now.f,
+                        l: now.l,
+                        m: now.m,
+                    };
                 }
                 Take::Empty {
                     f: now.f,

@@ -16,11 +16,10 @@ use Rattle.qp_model.specs.Sites.{blocks_of}
 use Rattle.qp_model.specs.Knowing.{free_before, left_after, known_of, told}
 use Rattle.qp_model.specs.WordLaw.{is_block, is_pool}
 use Rattle.qp_model.proofs.HistoryLemmas.{length-hist}
-use Rattle.qp_calls.specs.declared.tokens.Hold.{Hold}
 use Rattle.qp_calls.specs.declared.tokens.Fresh.{Fresh}
 use Rattle.qp_calls.specs.declared.answers.Give.TheVariants as give
 use Rattle.qp_calls.specs.LaneView.{FreeBlocks, References}
-use Rattle.qp_calls.specs.Tokens.{Held, Loose, stands, take_out}
+use Rattle.qp_calls.specs.Tokens.{Hold, Held, Loose, stands, take_out}
 use Rattle.qp_calls.specs.Clauses.{Gives, Makes, DropsOne, shortage_of, StandsHold, StandsFresh}
 use Rattle.qp_plain_sound.specs.WordStates.{pool_in, refs_in}
 use Rattle.qp_plain_sound.specs.Sound.{SoundWorld, facts_in, hands_in, names_block}

@@ -18,10 +18,9 @@ use Rattle.qp_model.specs.Line.{Line}
 use Rattle.qp_model.specs.Parts.{is_static}
 use Rattle.qp_model.specs.Knowing.{event_of, event_known, known_of, told}
 use Rattle.qp_model.specs.WordLaw.{is_object, is_block}
-use Rattle.qp_calls.specs.declared.tokens.Hold.{Hold}
 use Rattle.qp_calls.specs.declared.tokens.Entry.{Entry}
 use Rattle.qp_calls.specs.declared.tokens.Entry.TheVariants as token
-use Rattle.qp_calls.specs.Tokens.{Held, stands, with_entry}
+use Rattle.qp_calls.specs.Tokens.{Hold, Held, stands, with_entry}
 use Rattle.qp_calls.specs.Clauses.{Stands, EventIs, IsEvent, entry_of, params_of}
 use Rattle.qp_calls.specs.Deferring.{is_named}
 use Rattle.qp_calls.proofs.HandLemmas.{held-first}

@@ -12,7 +12,7 @@ use Rattle.qp_model.specs.Told.{Event}
 use Rattle.qp_model.specs.Sites.{ring_of}
 use Rattle.qp_model.specs.Subscribers.{bits_of_set}
 use Rattle.qp_model.specs.WordLaw.{is_object}
-use Rattle.qp_calls.specs.declared.tokens.Hold.{Hold}
+use Rattle.qp_calls.specs.Tokens.{Hold}
 use Rattle.qp_calls.specs.declared.tokens.Fresh.{Fresh}
 use Rattle.qp_calls.specs.declared.tokens.Entry.{Entry}
 use Rattle.qp_calls.specs.declared.answers.Give.TheVariants as give

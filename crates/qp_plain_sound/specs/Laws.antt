@@ -15,10 +15,9 @@ use Rattle.qp_model.specs.Places.{in_order}
 use Rattle.qp_model.specs.End.{lines_empty, blocks_rest}
 use Rattle.qp_model.specs.Sound.{IsSound}
 use Rattle.qp_model.specs.WordLaw.{Words, is_block}
-use Rattle.qp_calls.specs.declared.tokens.Hold.{Hold}
 use Rattle.qp_calls.specs.Clauses.{StandsHold}
 use Rattle.qp_calls.specs.LaneView.{Gains, GrowsOf, IsNew, LaneView, Purse, ceiling_in, is_known, mark_by, own_of}
-use Rattle.qp_calls.specs.Tokens.{Token, hands_by}
+use Rattle.qp_calls.specs.Tokens.{Hold, Token, hands_by}
 use Rattle.qp_calls.specs.LaneLaws.{IsWithinLimit, HasCauses}
 use Rattle.qp_calls.specs.Notes.{MayNote, MayStop, told_note, stop_code}
 use Rattle.qp_plain_sound.specs.Log.{Orders, empty_lanes, lane_of, log_of, items_of}

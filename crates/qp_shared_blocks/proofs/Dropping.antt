@@ -18,10 +18,9 @@ use Rattle.qp_table.specs.declared.view.View.{View}
 use Rattle.qp_table.proofs.Counting.{many-snoc}
 use Rattle.qp_table.proofs.Marks.{low-mark}
 use Rattle.qp_table.proofs.Steps.{dec-says}
-use Rattle.qp_calls.specs.Tokens.{Token, Held, Loose, same_token, token_of, take_out, stands, with_left, hands_by, hands_after, handles}
+use Rattle.qp_calls.specs.Tokens.{Hold, Token, Held, Loose, same_token, token_of, take_out, stands, with_left, hands_by, hands_after, handles}
 use Rattle.qp_calls.specs.LaneView.{LaneView, Gains, References}
 use Rattle.qp_calls.specs.Clauses.{DropsOne, StandsHold}
-use Rattle.qp_calls.specs.declared.tokens.Hold.{Hold}
 use Rattle.qp_calls.proofs.HandLemmas.{same-equal}
 use Rattle.qp_calls_log.specs.declared.log.Log.{Log}
 use Rattle.qp_shared_views.specs.Words.{place_of, mark_seen, shown_seen}

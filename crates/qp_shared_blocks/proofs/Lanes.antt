@@ -4,9 +4,8 @@ use Rattle.qp_model.specs.declared.systems.System.{System}
 use Rattle.qp_table.specs.Counting.{many}
 use Rattle.qp_table.specs.Rule.{is_ref, is_spot, is_entry}
 use Rattle.qp_table.specs.After.{HasRoom, ref}
-use Rattle.qp_calls.specs.Tokens.{Held, Loose, stands}
+use Rattle.qp_calls.specs.Tokens.{Hold, Held, Loose, stands}
 use Rattle.qp_calls.specs.Clauses.{StandsHold, StandsFresh}
-use Rattle.qp_calls.specs.declared.tokens.Hold.{Hold}
 use Rattle.qp_calls.specs.declared.tokens.Fresh.{Fresh}
 use Rattle.qp_shared_views.specs.Lane.{lane_of, has_content, is_read}
 use Rattle.qp_shared_views.proofs.Hands.{read-has, read-small}

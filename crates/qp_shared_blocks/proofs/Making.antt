@@ -21,10 +21,9 @@ use Rattle.qp_table.specs.declared.view.View.{View}
 use Rattle.qp_table.proofs.Counting.{many-snoc, many-without}
 use Rattle.qp_table.proofs.Marks.{low-mark}
 use Rattle.qp_table.proofs.Steps.{inc-says}
-use Rattle.qp_calls.specs.Tokens.{Token, Held, Loose, same_token, token_of, take_out, stands, hands_by, hands_after, handles}
+use Rattle.qp_calls.specs.Tokens.{Hold, Token, Held, Loose, same_token, token_of, take_out, stands, hands_by, hands_after, handles}
 use Rattle.qp_calls.specs.LaneView.{LaneView, Gains, References}
 use Rattle.qp_calls.specs.Clauses.{Makes, MakesMore, StandsHold, StandsFresh}
-use Rattle.qp_calls.specs.declared.tokens.Hold.{Hold}
 use Rattle.qp_calls.specs.declared.tokens.Fresh.{Fresh}
 use Rattle.qp_calls.proofs.HandLemmas.{same-equal}
 use Rattle.qp_calls_log.specs.declared.log.Log.{Log}

@@ -1,6 +1,6 @@
 //! Takes: the front entry of a queue is taken by the lane that serves it, which waits for its cell to be laid.
 
-ghost use Rattle.std.specs.Prelude.{◌≡◌, ◌+◌, ◌*◌, ◌%◌, ◌<◌, length, IsTrue};
+ghost use Rattle.std.specs.Prelude.{◌≡◌, ◌+◌, ◌*◌, ◌%◌, ◌<◌, length, IfNone, IfSome, IsTrue};
 ghost use Rattle.std.specs.List.{list_any};
 ghost use Rattle.qp_model.specs.Record.{entry};
 ghost use Rattle.qp_model.specs.Sites.{ring_of};
@@ -62,8 +62,43 @@ fn front(ring: u8, lifos: u64, takes: u64) -> u16
     in_ring(ring, takes + u64::from(ring) * lifos)
 }
 
+/// Reads the front cell, and empties it where it is laid. None where it isn't, and nothing changes.
+fn empty_if_laid(
+    words: &Words,
+    seat: &mut Seat<(), View>,
+    object: u8,
+    cell: u16,
+    lifos: u64,
+    takes: u64,
+) -> Option<Entry>
+    requires own { seat.old.table_id ≡ words.now.shared.table_id }
+    requires wide { words.now.shared.table_id.words ≡ 21128 }
+    requires object { IsTrue (is_object words.now.shared.key object) }
+    requires low { (object < 33) × (cell < 256) }
+    requires front { cell ≡ front_cell words.now.shared.key object lifos takes }
+    requires log { 0 < length seat.old.me.0.logs }
+    requires serves { IsTrue (list_any (is_serve object) seat.old.me.0.serves) }
+    requires lifos { lifos ≡ records (is_lifo object) seat.old.me.0.logs }
+    requires takes { takes ≡ records (is_took object) seat.old.me.0.logs }
+    requires idle { many (on_queue object) seat.old.me.0.takes ≡ 0 }
+    ensures same { (seat.new.table_id ≡ seat.old.table_id) × (seat.new.id ≡ seat.old.id) }
+    ensures emptied { IfSome result (λ e. Empties words.now.shared.key object cell e seat.old.me.0 seat.new.me.0) }
+    ensures still { IfNone result (seat.new.me.0 ≡ seat.old.me.0) }
+{
+    if look_at_cell(words, seat, object, cell) == 0 {
+        return None;
+    }
+    let code = empty_front(words, seat, object, cell, lifos, takes);
+    if code == 0 {
+        return None;
+    }
+    Some(entry_in(code))
+}
+
 /// Waits until the front cell is laid, and empties it. The lane only reads while it waits.
-fn empty_when_laid<R: Wait>(
+#[cold]
+#[inline(never)]
+fn empty_once_laid<R: Wait>(
     rt: &R,
     words: &Words,
     seat: &mut Seat<(), View>,
@@ -86,14 +121,40 @@ fn empty_when_laid<R: Wait>(
     ensures emptied { Empties words.now.shared.key object cell result seat.old.me.0 seat.new.me.0 }
 {
     for _ in rt.forever() {
-        if look_at_cell(words, seat, object, cell) != 0 {
-            let code = empty_front(words, seat, object, cell, lifos, takes);
-            if code != 0 {
-                return entry_in(code);
-            }
+        if let Some(entry) = empty_if_laid(words, seat, object, cell, lifos, takes) {
+            return entry;
         }
     }
     unreachable!()
+}
+
+/// Empties the front cell, at once where it is laid.
+fn empty_when_laid<R: Wait>(
+    rt: &R,
+    words: &Words,
+    seat: &mut Seat<(), View>,
+    object: u8,
+    cell: u16,
+    lifos: u64,
+    takes: u64,
+) -> Entry
+    requires own { seat.old.table_id ≡ words.now.shared.table_id }
+    requires wide { words.now.shared.table_id.words ≡ 21128 }
+    requires object { IsTrue (is_object words.now.shared.key object) }
+    requires low { (object < 33) × (cell < 256) }
+    requires front { cell ≡ front_cell words.now.shared.key object lifos takes }
+    requires log { 0 < length seat.old.me.0.logs }
+    requires serves { IsTrue (list_any (is_serve object) seat.old.me.0.serves) }
+    requires lifos { lifos ≡ records (is_lifo object) seat.old.me.0.logs }
+    requires takes { takes ≡ records (is_took object) seat.old.me.0.logs }
+    requires idle { many (on_queue object) seat.old.me.0.takes ≡ 0 }
+    ensures same { (seat.new.table_id ≡ seat.old.table_id) × (seat.new.id ≡ seat.old.id) }
+    ensures emptied { Empties words.now.shared.key object cell result seat.old.me.0 seat.new.me.0 }
+{
+    if let Some(entry) = empty_if_laid(words, seat, object, cell, lifos, takes) {
+        return entry;
+    }
+    empty_once_laid(rt, words, seat, object, cell, lifos, takes)
 }
 
 /// Frees the entry of a take, and answers the queue's word as it was. The lane then knows the event of a reference.

@@ -11,7 +11,7 @@ use Rattle.qp_model.specs.declared.words.Word.{Word}
 use Rattle.qp_model.specs.declared.words.Word.TheVariants as word
 use Rattle.qp_model.specs.Record.{body_of}
 use Rattle.qp_model.specs.Told.{Event, Told, ToldItem, for_object, plain}
-use Rattle.qp_calls.specs.declared.tokens.Hold.{Hold}
+use Rattle.qp_calls.specs.Tokens.{Hold}
 use Rattle.qp_calls.specs.declared.tokens.Fresh.{Fresh}
 use Rattle.qp_calls.specs.declared.tokens.Entry.{Entry}
 use Rattle.qp_calls.specs.declared.answers.Counts as counts

@@ -1,6 +1,5 @@
-use Rattle.std.proofs.Common.{◌≡◌, ◌≤◌, ◌+◌, length, arith, subst, inr, []}
+use Rattle.std.proofs.Common.{◌≤◌, ◌+◌, length, arith, subst}
 use Rattle.qp_calls.specs.Clauses.{IsFault}
-use Rattle.qp_calls.specs.declared.answers.RoomFault.TheVariants as fault
 use Rattle.qp_calls.proofs.NoteLemmas.{full-is, spill-may, spill-stop, spilled}
 use Rattle.qp_calls.proofs.halting.halt.Goals as goal
 

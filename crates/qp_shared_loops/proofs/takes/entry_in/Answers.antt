@@ -1,7 +1,7 @@
 use Rattle.std.proofs.Common.{◌/◌, ◌%◌, Bool, cond, sym, ap, ◌∙◌, eq-eqb, ne_eqb}
 use Rattle.qp_model.specs.declared.bodies.Entry.{Entry}
 use Rattle.qp_model.specs.Record.{entry}
-use Rattle.qp_calls.specs.declared.tokens.Hold.{Hold}
+use Rattle.qp_calls.specs.Tokens.{Hold}
 use Rattle.qp_calls.specs.Clauses.{entry_of}
 use Rattle.qp_shared_loops.proofs.takes.entry_in.Goals as goal
 

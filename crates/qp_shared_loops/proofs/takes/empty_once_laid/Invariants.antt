@@ -1,5 +1,5 @@
 use Rattle.std.proofs.Common.{◌≡◌}
-use Rattle.qp_shared_loops.proofs.takes.empty_when_laid.Given as goal
+use Rattle.qp_shared_loops.proofs.takes.empty_once_laid.Given as goal
 
 abbrev pub invariant-loop : goal.invariant-loop
 invariant-loop g l = record {
