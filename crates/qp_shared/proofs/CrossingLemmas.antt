@@ -12,7 +12,8 @@ use Rattle.qp_model.specs.contracts.record.Rec as rec
 use Rattle.qp_calls.specs.contracts.answers.Counts as counts
 use Rattle.qp_calls_log.specs.contracts.codes.Codes as codes
 use Rattle.qp_calls_log.specs.contracts.log.Log as log
-use Rattle.qp_side.specs.contracts.seat.SideSeat as side
+use Rattle.qp_side.proofs.CrossingLemmas.{side-send}
+use Rattle.qp_shared_lane.specs.contracts.ends.Ends as ends
 use Rattle.qp_shared_lane.specs.contracts.lane.LaneState as lane
 use Rattle.qp_shared_lane.specs.contracts.rings.Rings as rings
 use Rattle.qp_shared.specs.contracts.lane.SharedLane as its
@@ -37,11 +38,11 @@ log-send =
     let c = codes-send in
     search (crosses, sendable, option.the_send) depth 40
 
-side-send : (ν : NamedLft) → IsSend (side.the_field ν).row
-side-send ν = search (crosses, sendable, table.the_sync, seat.the_send) depth 40
-
 rings-send : (ν : NamedLft) → IsSend (rings.the_field ν).row
 rings-send ν = let system = sys-sync in search (crosses, sendable) depth 40
+
+ends-send : IsSend ends.the_field.row
+ends-send = search (crosses, sendable) depth 40
 
 lane-send : (ν : NamedLft) → IsSend (lane.the_field ν).row
 lane-send ν =
@@ -49,6 +50,7 @@ lane-send ν =
     let lengths = rings-send ν in
     let records = log-send in
     let beside = side-send ν in
+    let lives = ends-send in
     struct_send (shape (lane.the_type ν)) (
       search sendable depth 40,
       (
@@ -69,7 +71,10 @@ lane-send ν =
                       search sendable depth 40,
                       (
                         search sendable depth 40,
-                        tt,
+                        (
+                          search sendable depth 40,
+                          tt,
+                        ),
                       ),
                     ),
                   ),

@@ -98,29 +98,13 @@ fn take_in(
 {
     let SharedLane { state } = lane;
     let LaneState {
-        sys: _,
-        rings: _,
-        words: _,
         seat: mut own,
         side: other,
-        by: _,
-        count: _,
-        ceiling: _,
         log,
-        numbers: _,
+        ..
     } = state;
-    let SideSeat {
-        words: _,
-        seat: its,
-    } = other;
-    let Log {
-        recs,
-        spare: _,
-        spilled: _,
-        nils: _,
-        stops: _,
-        answered: _,
-    } = log;
+    let SideSeat { seat: its, .. } = other;
+    let Log { recs, .. } = log;
     let all = table::move_all(words, &mut own);
     table::join_seats(words, seat, all);
     qp_shared_side::seats::join_seats(side, beside, its);

@@ -60,29 +60,16 @@ impl Shared<'_> {
         let mut records = room;
         let SharedLane { state } = others.remove(0);
         let LaneState {
-            sys: _,
-            rings: _,
-            words: _,
             mut seat,
             side,
-            by: _,
-            count: _,
-            ceiling: _,
             log,
-            numbers: _,
+            ..
         } = state;
         let SideSeat {
-            words: _,
             seat: mut beside,
+            ..
         } = side;
-        let Log {
-            recs,
-            spare: _,
-            spilled: _,
-            nils: _,
-            stops: _,
-            answered: _,
-        } = log;
+        let Log { recs, .. } = log;
         records.push_reserved(Lane { items: recs });
         let records = gather(
             &self.words,

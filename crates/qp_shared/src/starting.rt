@@ -16,7 +16,7 @@ use crate::shared::{Root, Shared};
 use atomic_table::Seat;
 use qp_base::Memory;
 use qp_calls_log::Log;
-use qp_shared_lane::{LaneState, Rings, SideSeat};
+use qp_shared_lane::{Ends, LaneState, Rings, SideSeat};
 use qp_shared_seats::{side, table};
 use qp_shared_side::seats::give_seat;
 use qp_shared_views::Numbers;
@@ -64,6 +64,7 @@ impl Shared<'_> {
                     words: &self.side,
                     seat: side,
                 },
+                ends: Ends::none(),
                 by: 0,
                 count,
                 ceiling: 0,

@@ -1,5 +1,5 @@
 -- A used block comes back.
-use Rattle.std.proofs.Common.{◌≡◌, ℕ, zero, suc, ◌+◌, ◌-◌, ◌*◌, ◌/◌, ◌%◌, ◌^◌, ◌<◌, ◌≤◌, ◌==◌, ◌&&◌, List, [], ◌∷◌, ◌++◌, Bool, true, false, cond, length, refl, sym, ap, subst, ◌∙◌, arith, eqb, eqb-true, IsTrue}
+use Rattle.std.proofs.Common.{◌≡◌, ℕ, suc, ◌+◌, ◌-◌, ◌*◌, ◌/◌, ◌%◌, ◌^◌, ◌<◌, ◌≤◌, ◌==◌, ◌&&◌, List, [], ◌∷◌, Bool, true, false, cond, slice_index, refl, sym, ap, subst, ◌∙◌, arith, eqb, eqb-true, IsTrue}
 use Rattle.std.specs.Prelude.{count_ones}
 use Rattle.std.specs.List.{list_any}
 use Rattle.std.proofs.lemmas.Bool.{and_parts}
@@ -10,39 +10,37 @@ use Rattle.qp_model.specs.declared.record.Rec.{Rec}
 use Rattle.qp_model.specs.declared.systems.System.{System}
 use Rattle.qp_model.specs.declared.words.Word.{Word}
 use Rattle.qp_model.specs.declared.words.Word.TheVariants as word
-use Rattle.qp_model.specs.declared.bodies.Entry.{Entry}
 use Rattle.qp_model.specs.declared.bodies.Body.TheVariants.{Back}
 use Rattle.qp_model.specs.Record.{Item, item_of}
 use Rattle.qp_model.specs.Told.{ToldItem, plain, for_object}
 use Rattle.qp_table.specs.Counting.{many, without}
-use Rattle.qp_table.specs.Rule.{pool_at, block_at, mark_in, is_ref, is_spot, is_spot_at, is_entry, is_serve}
-use Rattle.qp_table.specs.After.{rec_of, put_back}
+use Rattle.qp_table.specs.Rule.{pool_at, mark_in, is_ref, is_spot, is_spot_at, is_entry, is_serve}
+use Rattle.qp_table.specs.After.{rec_of}
 use Rattle.qp_table.specs.declared.view.Glance.{Glance}
 use Rattle.qp_table.specs.declared.view.Spot.{Spot}
 use Rattle.qp_table.specs.declared.view.View.{View}
 use Rattle.qp_table.proofs.Counting.{many-without}
 use Rattle.qp_table.proofs.Marks.{low-mark}
 use Rattle.qp_table.proofs.Steps.{back-says}
-use Rattle.qp_table.proofs.Tokens.{at-le}
-use Rattle.qp_calls.specs.Tokens.{Token, Held, Loose, same_token, token_of, take_out, stands, hands_by, hands_after, handles}
-use Rattle.qp_calls.specs.LaneView.{LaneView, Gains, FreeBlocks}
+use Rattle.qp_calls.specs.Tokens.{Token, Held, Loose, same_token, take_out, stands, hands_by, hands_after}
+use Rattle.qp_calls.specs.LaneView.{Gains, FreeBlocks}
 use Rattle.qp_calls.specs.Clauses.{GoesBack, StandsFresh}
 use Rattle.qp_calls.specs.declared.tokens.Fresh.{Fresh}
 use Rattle.qp_calls_log.specs.declared.log.Log.{Log}
-use Rattle.qp_shared_views.specs.Words.{place_of, is_here, value_seen, mark_seen, shown_seen}
+use Rattle.qp_shared_views.specs.Words.{place_of, is_here, value_seen, mark_seen}
 use Rattle.qp_shared_views.specs.Lane.{lane_of, tokens, tokens_in, event_seen, told_as}
-use Rattle.qp_shared_views.specs.Telling.{Saw, Touches}
 use Rattle.qp_shared_views.proofs.Gaining.{mark-here, mark-was, mark-rises, shown-here}
 use Rattle.qp_shared_views.proofs.Hands.{tokens-out, loose-true}
 use Rattle.qp_shared_steps.specs.Told.{HasPlace}
 use Rattle.qp_shared_lane.specs.declared.lane.LaneState.{LaneState}
-use Rattle.qp_shared_lane.specs.Holds.{LaneHolds, told_by, IsRead}
+use Rattle.qp_shared_lane.specs.Holds.{LaneHolds, told_by}
 use Rattle.qp_shared_lane.specs.Lane.{world_in, lane_with, state_view}
 use Rattle.qp_shared_lane.specs.More.{IsPut, OnTable}
 use Rattle.qp_shared_lane.specs.Laws.{Kept}
 use Rattle.qp_shared_lane.proofs.LawLemmas.{table_records_keep_the_lane}
 use Rattle.qp_shared_blocks.specs.Ends.{ReturnTold}
 use Rattle.qp_shared_blocks.proofs.Lanes.{used-place, used}
+use Rattle.qp_shared_blocks.proofs.Used.{end-known}
 use Rattle.qp_shared_blocks.proofs.Parts.{grown-same, read-fewer, still-same}
 
 without-le : {A : Type 0} (p q : A → Bool) (xs : List A) → many q (without p xs) ≤ many q xs
@@ -164,14 +162,14 @@ module _ (l : LaneState) (f : Fresh) (u : View) (m n : ℕ) (g : Log) (more : Li
     };
   }
 
--- the same, by what was read of the block; its word was looked at before
-module _ (l : LaneState) (f : Fresh) (p b : ℕ) (same : record { pool = p; block = b; used = f.used } ≡ f) (stand : StandsFresh f (state_view l)) (old : f.used ≡ true) (mid u : View) (looked : mid ≡ l.seat.me.0) (m n : ℕ) (g : Log) (more : List ℕ) (r : Rec)
-    (end : 0 < many (is_spot_at p b m) l.seat.me.0.used) (told : ReturnTold l.words.now.shared.key l.by p b m mid n u) (put : IsPut r 0 l.log l.numbers.list g more) (is : item_of r ≡ record { of = l.by; body = Back p (n / 4294967296) b m }) where
+-- the same, by what was read of the token; the lane remembers where the block's life ended
+module _ (l : LaneState) (f : Fresh) (p b : ℕ) (same : record { pool = p; block = b; used = f.used } ≡ f) (stand : StandsFresh f (state_view l)) (old : f.used ≡ true) (u : View) (m n : ℕ) (g : Log) (more : List ℕ) (r : Rec)
+    (known : m ≡ slice_index l.ends.at (32 * p + b)) (told : ReturnTold l.words.now.shared.key l.by p b m l.seat.me.0 n u) (put : IsPut r 0 l.log l.numbers.list g more) (is : item_of r ≡ record { of = l.by; body = Back p (n / 4294967296) b m }) where
   end-of : 0 < many (is_spot_at f.pool f.block m) l.seat.me.0.used
-  end-of = subst (λ (x : Fresh). 0 < many (is_spot_at x.pool x.block m) l.seat.me.0.used) same end
+  end-of = end-known l.ends.at l.seat.me.0.used f.pool f.block m l.ended (used-place l f stand old) (used l f stand old) (subst (λ (x : Fresh). m ≡ slice_index l.ends.at (32 * x.pool + x.block)) same known)
 
   told-of : ReturnTold l.sys.now l.by f.pool f.block m l.seat.me.0 n u
-  told-of = subst (λ (x : Fresh). ReturnTold l.sys.now l.by x.pool x.block m l.seat.me.0 n u) same (subst (λ (z : View). ReturnTold l.sys.now l.by p b m z n u) looked (subst (λ s. ReturnTold s l.by p b m mid n u) l.key told))
+  told-of = subst (λ (x : Fresh). ReturnTold l.sys.now l.by x.pool x.block m l.seat.me.0 n u) same (subst (λ s. ReturnTold s l.by p b m l.seat.me.0 n u) l.key told)
 
   is-of : item_of r ≡ record { of = l.by; body = Back f.pool (n / 4294967296) f.block m }
   is-of = is ∙ ap (λ (x : Fresh). record { of = l.by; body = Back x.pool (n / 4294967296) x.block m }) same

@@ -1,40 +1,19 @@
--- Another reference, and the steps by which a used block comes back.
-use Rattle.std.proofs.Common.{◌≡◌, ℕ, ◌+◌, ◌*◌, ◌/◌, ◌%◌, ◌^◌, ◌<◌, ◌≤◌, ◌==◌, List, [], ◌∷◌, Bool, true, false, cond, length, get_or, nat_lt, pow_mono, refl, sym, ap, subst, ◌∙◌, arith}
+-- Another reference, and the step by which a used block comes back.
+use Rattle.std.proofs.Common.{◌≡◌, ℕ, ◌+◌, ◌%◌, ◌^◌, ◌<◌, ◌≤◌, ◌==◌, List, [], ◌∷◌, Bool, true, false, cond, nat_lt, pow_mono, refl, arith}
 use Rattle.std.proofs.lemmas.Bool.Decides.{nat_tests}
 use Rattle.std.proofs.lemmas.Nat.{pow_pos}
 use Rattle.qp_model.specs.declared.systems.System.{System}
 use Rattle.qp_model.specs.Lists.{with_number}
 use Rattle.qp_model.specs.Sites.{blocks_of}
 use Rattle.qp_table.specs.Counting.{many}
-use Rattle.qp_table.specs.Rule.{pool_at, block_at, lives, is_ref, is_spot, is_spot_at, bits_value, Holds}
+use Rattle.qp_table.specs.Rule.{pool_at, block_at, is_ref, is_spot_at}
 use Rattle.qp_table.specs.After.{HasRoom, Steps}
 use Rattle.qp_table.specs.declared.view.View.{View}
 use Rattle.qp_table.proofs.Bounds.{Ascends, pool-ascends, map-small, bits-on}
-use Rattle.qp_table.proofs.Counting.{total-at}
 use Rattle.qp_table.proofs.Steps.{pool-of, x-is}
-use Rattle.qp_table.proofs.Tokens.{at-le, at-some, held-stands, standing, used-alone}
-use Rattle.qp_shared_steps.specs.Told.{BackTold}
+use Rattle.qp_table.proofs.Tokens.{at-le, held-stands, standing, used-alone}
 use Rattle.qp_shared_steps.proofs.LawLemmas.{backs_tell, more_references_tell}
-use Rattle.qp_shared_words.proofs.Still.{still}
-use Rattle.qp_shared_blocks.specs.Ends.{AnotherTold, EndTold, ReturnTold}
-
-none-named : (xs : List ℕ) → lives xs ≡ 0 → length xs ≡ 0
-none-named [] e = refl
-none-named (x ∷ xs) e = absurd (omega arith)
-
-pub ends-tell : (sys : System) (id : ℕ) (v : View) (p b : ℕ) → 0 < many (is_spot p b) v.used → Steps sys id v (block_at p b) (λ n. n) (EndTold p b v)
-ends-tell sys id v p b mine words views holds at small =
-    let z = still sys id v (block_at p b) words views holds at small in
-    let a = at-some p b v.used mine in
-    let alone = used-alone sys views holds.now id v at holds.tokens p b mine in
-    let t = total-at (λ (y : View). many (is_spot_at p b a.0) y.used) views id v at in
-    let one = a.1 in
-    let worn = holds.tokens.worn p b a.0 (omega arith) in
-    let none : length (holds.now.refs p b).names ≡ 0 = none-named (holds.now.refs p b).names alone.2 in
-    let shows = holds.shows.blocks p b alone.0 in
-    let w1 = worn.1 in
-    let is : get_or words (block_at p b) 0 / 4294967296 ≡ a.0 = omega arith in
-    (z.0, z.1, (z.2, subst (λ n. 0 < many (is_spot_at p b n) v.used) (sym is) a.1))
+use Rattle.qp_shared_blocks.specs.Ends.{AnotherTold, ReturnTold}
 
 with-ascends : (b lo n : ℕ) (xs : List ℕ) → lo ≤ b → b < n → Ascends lo n xs → Ascends lo n (with_number b xs)
 with-ascends b lo n [] l h a = (l, h, omega arith)

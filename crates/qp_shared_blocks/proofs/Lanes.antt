@@ -1,8 +1,7 @@
 -- What a call has of its lane.
-use Rattle.std.proofs.Common.{◌≡◌, ℕ, ◌+◌, ◌<◌, ◌≤◌, List, [], ◌∷◌, ◌++◌, refl, sym, ap, subst, ◌∙◌, arith, IsTrue, true, false}
-use Rattle.qp_model.specs.declared.systems.System.{System}
+use Rattle.std.proofs.Common.{◌≡◌, ℕ, ◌<◌, sym, subst, arith, IsTrue, true, false}
 use Rattle.qp_table.specs.Counting.{many}
-use Rattle.qp_table.specs.Rule.{is_ref, is_spot, is_entry}
+use Rattle.qp_table.specs.Rule.{is_ref, is_spot}
 use Rattle.qp_table.specs.After.{HasRoom, ref}
 use Rattle.qp_calls.specs.Tokens.{Hold, Held, Loose, stands}
 use Rattle.qp_calls.specs.Clauses.{StandsHold, StandsFresh}
@@ -58,3 +57,7 @@ hold-is p b k h x y z = (λ i. record { pool = x i; block = y i; name = z i })
 
 pub fresh-is : (p b : ℕ) (f : Fresh) → p ≡ f.pool → b ≡ f.block → record { pool = p; block = b; used = f.used } ≡ f
 fresh-is p b f x y = (λ i. record { pool = x i; block = y i; used = f.used })
+
+-- the same of a used block, by what was read of its token
+pub used-by : (l : LaneState) (f : Fresh) (p b : ℕ) → p ≡ f.pool → b ≡ f.block → StandsFresh f (state_view l) → f.used ≡ true → HasPlace p b × (0 < many (is_spot p b) l.seat.me.0.used)
+used-by l f p b x y is old = subst (λ (z : Fresh). HasPlace z.pool z.block × (0 < many (is_spot z.pool z.block) l.seat.me.0.used)) (sym (fresh-is p b f x y)) (used-place l f is old, used l f is old)

@@ -1,4 +1,5 @@
 pub mod Ends
+pub mod Used
 pub mod Lanes
 pub mod Parts
 pub mod Notes

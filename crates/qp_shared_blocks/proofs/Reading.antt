@@ -1,5 +1,5 @@
 -- The event of a reference in the hands, read in place.
-use Rattle.std.proofs.Common.{◌≡◌, ℕ, suc, ◌+◌, ◌%◌, ◌<◌, ◌≤◌, List, [], ◌∷◌, length, get_or, min, refl, sym, ap, subst, ◌∙◌, arith, Some}
+use Rattle.std.proofs.Common.{◌≡◌, ℕ, suc, ◌+◌, ◌%◌, ◌<◌, ◌≤◌, ◌∷◌, length, min, sym, ap, subst, ◌∙◌, arith, Some}
 use Rattle.std.specs.Prelude.{slice_get, slice_index}
 use Rattle.std.proofs.lemmas.Option.{slice_get-get_or}
 use Rattle.qp_model.specs.Record.{entry}
@@ -13,10 +13,15 @@ use Rattle.qp_shared_views.specs.Lane.{lane_of, event_seen}
 use Rattle.qp_shared_steps.specs.Told.{ReadTold}
 use Rattle.qp_shared_lane.specs.declared.lane.LaneState.{LaneState}
 use Rattle.qp_shared_lane.specs.Holds.{LaneHolds}
+use Rattle.qp_shared_lane.specs.Used.{HasEnds}
+use Rattle.qp_shared_lane.proofs.Used.{ends-same}
 use Rattle.qp_shared_lane.specs.Lane.{world_in, lane_with, state_view}
 
 -- a look that leaves the view
 module _ (l : LaneState) (u : View) (same : u ≡ l.seat.me.0) where
+  pub still-ended : HasEnds l.ends.at u.used
+  still-ended = ends-same l.ends.at l.seat.me.0 u (ap (λ (z : View). z.used) same) l.ended
+
   pub still-holds : LaneHolds l.sys.now l.count l.ceiling l.log l.numbers.list u l.side.seat.me.0
   still-holds = subst (λ (z : View). LaneHolds l.sys.now l.count l.ceiling l.log l.numbers.list z l.side.seat.me.0) (sym same) l.holds
 

@@ -1,14 +1,8 @@
 -- What steps on blocks tell beyond those of the words.
-use Rattle.std.specs.Prelude.{◌≡◌, ℕ, ◌+◌, ◌/◌, ◌%◌, ◌^◌, ◌<◌}
+use Rattle.std.specs.Prelude.{ℕ, ◌+◌, ◌%◌, ◌^◌, ◌<◌}
 use Rattle.qp_model.specs.declared.systems.System.{System}
-use Rattle.qp_table.specs.Counting.{many}
-use Rattle.qp_table.specs.Rule.{is_spot_at}
 use Rattle.qp_table.specs.declared.view.View.{View}
 use Rattle.qp_shared_steps.specs.Told.{BackTold, MoreTold}
-
--- the word of a used block shows after how many operations its life ended
-abbrev pub EndTold : ℕ → ℕ → View → ℕ → View → Type 0
-EndTold p b v n u = (u ≡ v) × (0 < many (is_spot_at p b (n / 4294967296)) v.used)
 
 -- a used block comes back, whose bit was not in the map
 abbrev pub ReturnTold : System → ℕ → ℕ → ℕ → ℕ → View → ℕ → View → Type 0

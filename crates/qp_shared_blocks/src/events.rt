@@ -29,6 +29,7 @@ pub fn par(lane: &mut LaneState<'_>, h: &Hold, j: usize) -> u64
     ensures stays { state_view lane.new ≡ state_view lane.old }
 {
     let (pool, block, name) = (h.pool(), h.block(), h.name());
+    // An event has at most eight parameters, behind its signal.
     let place = j.min(7) as u8 + 1;
     read_event(lane.words, &mut lane.seat, pool, block, name, place)
 }

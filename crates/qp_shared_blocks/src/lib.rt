@@ -7,7 +7,7 @@ mod leaving;
 mod noting;
 mod references;
 mod returning;
-mod steps;
+pub mod steps;
 
 pub use events::{par, sig};
 pub use giving::give;

@@ -40,7 +40,8 @@ pub fn inc(lane: &mut LaneState<'_>, h: &Hold) -> Hold
     Hold::of(pool, block, found / UNIT)
 }
 
-/// Drops the reference. `Last` exactly where no other was left. Beside the record stands how many were left.
+/// Drops the reference. `Last` exactly where no other was left: then the lane remembers after how many operations the block's life
+/// ended. Beside the record stands how many were left.
 pub fn dec(lane: &mut LaneState<'_>, h: Hold) -> Dec
     requires room { 0 < (state_view lane.old).spare }
     requires stands { StandsHold h (state_view lane.old) }
@@ -52,6 +53,7 @@ pub fn dec(lane: &mut LaneState<'_>, h: Hold) -> Dec
     let rec = Rec::dec(lane.by, pool, block, found / UNIT, name);
     put(&mut lane.log, &mut lane.numbers, rec, left);
     if left == 0 {
+        lane.ends.set(pool, block, found / UNIT + 1);
         Dec::Last(Fresh::of(pool, block, true))
     } else {
         Dec::Kept

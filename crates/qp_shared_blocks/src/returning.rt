@@ -4,12 +4,13 @@ ghost use Rattle.std.specs.Prelude.{◌<◌, IsTrue};
 ghost use Rattle.qp_calls.specs.Clauses.{GoesBack, StandsFresh};
 ghost use Rattle.qp_shared_lane.specs.Lane.{state_view};
 
-use crate::steps::{put_back, read_end};
+use crate::steps::put_back;
 use qp_calls::Fresh;
 use qp_model::Rec;
 use qp_shared_lane::{LaneState, put};
 
-/// Gives the block back. Its record states after how many operations its life ended, which its word shows.
+/// Gives the block back. Its record states after how many operations its life ended, which the lane remembers since it dropped the last
+/// reference.
 pub fn back(lane: &mut LaneState<'_>, f: Fresh)
     requires room { 0 < (state_view lane.old).spare }
     requires stands { StandsFresh f (state_view lane.old) }
@@ -17,7 +18,7 @@ pub fn back(lane: &mut LaneState<'_>, f: Fresh)
     ensures { GoesBack f (state_view lane.old) (state_view lane.new) }
 {
     let (pool, block) = (f.pool(), f.block());
-    let end = read_end(lane.words, &mut lane.seat, pool, block);
+    let end = lane.ends.of(pool, block);
     let found = put_back(lane.words, &mut lane.seat, lane.by, pool, block, end);
     let rec = Rec::back(lane.by, pool, (found / 4294967296) as u32, block, end);
     put(&mut lane.log, &mut lane.numbers, rec, 0);

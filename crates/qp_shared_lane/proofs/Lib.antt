@@ -1,3 +1,4 @@
+pub mod Used
 pub mod Telling
 pub mod Keeping
 pub mod Adding

@@ -1,3 +1,4 @@
+pub mod Used
 pub mod Holds
 pub mod Lane
 pub mod More

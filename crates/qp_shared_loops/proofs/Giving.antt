@@ -1,5 +1,5 @@
 -- Looks and tries of a give, the event that is written, and the beginning that is read.
-use Rattle.std.proofs.Common.{◌≡◌, ℕ, suc, ◌+◌, ◌-◌, ◌*◌, ◌/◌, ◌<◌, ◌&&◌, List, [], ◌∷◌, length, drop, get_or, Bool, true, cond, refl, sym, ap, subst, ◌∙◌, arith, add-one, drop-cons, eq-eqb, IsTrue}
+use Rattle.std.proofs.Common.{◌≡◌, ℕ, suc, ◌+◌, ◌*◌, ◌/◌, ◌<◌, ◌&&◌, List, [], ◌∷◌, length, drop, get_or, Bool, true, cond, refl, sym, ap, subst, ◌∙◌, arith, add-one, drop-cons, eq-eqb, IsTrue}
 use Rattle.std.specs.declared.option.Option.{Option}
 use Rattle.qp_model.specs.declared.systems.System.{System}
 use Rattle.qp_model.specs.declared.words.Word.TheVariants as word

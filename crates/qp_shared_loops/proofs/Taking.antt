@@ -1,16 +1,20 @@
 -- Looks of a take, the front cell, and the entry that is freed.
-use Rattle.std.proofs.Common.{◌≡◌, ◌≢◌, ℕ, ◌+◌, ◌-◌, ◌<◌, ◌≤◌, ◌&&◌, [], Bool, cond, refl, sym, ap, subst, ◌∙◌, arith, eqb, eq-eqb, ne_eqb, IsTrue}
+use Rattle.std.proofs.Common.{◌≡◌, ◌≢◌, ℕ, ◌+◌, ◌-◌, ◌*◌, ◌%◌, ◌<◌, ◌≤◌, ◌&&◌, List, Bool, cond, refl, sym, ap, subst, ◌∙◌, arith, eqb, eq-eqb, ne_eqb, IsTrue}
+use Rattle.std.specs.Prelude.{length}
 use Rattle.std.specs.List.{list_any}
 use Rattle.qp_model.specs.declared.systems.System.{System}
 use Rattle.qp_model.specs.declared.bodies.Entry.{Entry}
+use Rattle.qp_model.specs.Sites.{ring_of}
 use Rattle.qp_table.specs.Counting.{many}
-use Rattle.qp_table.specs.Rule.{queue_at, mark_in, Codable, is_place, is_serve}
-use Rattle.qp_table.specs.After.{glanced, noted, emptied, learned, place}
-use Rattle.qp_table.specs.QueueLaws.{f_in, l_in, m_in}
+use Rattle.qp_table.specs.Rule.{queue_at, mark_in, Codable, is_place, is_serve, on_queue}
+use Rattle.qp_table.specs.After.{HasRoom, glanced, noted, emptied, learned, place}
+use Rattle.qp_table.specs.QueueLaws.{f_in, l_in, m_in, cells_of}
+use Rattle.qp_table.specs.declared.view.Log.{Log}
 use Rattle.qp_table.specs.declared.view.View.{View}
 use Rattle.qp_table.proofs.Counting.{many-snoc}
 use Rattle.qp_table.proofs.Marks.{high-mark}
 use Rattle.qp_shared_steps.specs.Told.{QueueTold, NilTold, nil_rec, freed, FreeTold}
+use Rattle.qp_shared_words.specs.Fronts.{KnowsFront}
 use Rattle.qp_shared_loops.specs.Ends.{seeing, KnowsEvent, Takes}
 use Rattle.qp_shared_loops.proofs.Following.{Seen, queue-then, sees-one}
 
@@ -24,6 +28,18 @@ module _ (sys : System) (is_new : ℕ → Bool) (a : ℕ) (v z : View) (x : ℕ)
 
   pub seen-some : Seen sys a v z x
   seen-some = record { is = looked ∙ ap (λ (y : View). seeing y.seen v) (sym looked); more = sees-one v z _ looked; told = told.1 }
+
+-- behind its look the lane knows the front of the queue
+pub knows-front : (sys : System) (a ring j : ℕ) (v z : View) (x : ℕ) → Seen sys a v z x → HasRoom v → IsTrue (list_any (is_serve a) v.serves) → many (on_queue a) v.takes ≡ 0 → ring ≡ ring_of sys a → j ≡ (m_in x + ring * l_in x) % (ring + 1) → KnowsFront sys a j z
+knows-front sys a ring j v z x seen room serves idle ring_is j_is =
+    let mine = seen.told.own serves in
+    let last : ring ≡ cells_of sys a - 1 = omega arith in
+    subst (KnowsFront sys a j) (sym seen.is) (record {
+      serves = serves;
+      log = subst (λ (gs : List Log). 0 < length gs) (sym room.is) (omega arith);
+      idle = idle;
+      cell = j_is ∙ (λ i. (mine.1 i + last i * mine.0 i) % (ring_is i + 1));
+    })
 
 pub take-there : (a j : ℕ) (e : Entry) (z u : View) → u ≡ emptied z a j e → 0 < many (is_place a j e) u.takes
 take-there a j e z u is = subst (λ (y : View). 0 < many (is_place a j e) y.takes) (sym is)

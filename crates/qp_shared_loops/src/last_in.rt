@@ -12,11 +12,12 @@ ghost use Rattle.qp_shared_views.specs.Words.{value_seen};
 ghost use Rattle.qp_shared_steps.specs.Told.{free_in, EyeLastTold, LastTold};
 ghost use Rattle.qp_shared_loops.specs.Ends.{IsShort, LastInEnds};
 
-use crate::operations::{exchange, look};
 use crate::posts::free_in;
 use atomic_table::Seat;
 use qp_base::Steps;
 use qp_shared_words::Words;
+use qp_shared_words::places::queue_at;
+use qp_shared_words::steps::{About, NOTHING, exchange, look};
 use qp_table::View;
 use std::marker::Brand;
 use std::sync::ledger::Ledger;
@@ -31,8 +32,11 @@ fn look_before_last_in(words: &Words, seat: &mut Seat<(), View>, object: u8) -> 
     ensures told { EyeLastTold words.now.shared.key object seat.old.me.0 result seat.new.me.0 }
     ensures short { IsShort words.now.shared.key object result }
 {
-    let word = 4224 + 8 * usize::from(object);
-    look::<Brand>(words, seat, word, object)
+    let about = About {
+        to: object,
+        ..NOTHING
+    };
+    look::<Brand>(words, seat, queue_at(object), about)
 }
 
 /// Tries to claim the cell before the front, by the lane that serves the queue, and answers the word that was found. The try is counted.
@@ -62,18 +66,14 @@ fn claim_last_in<L: Ledger>(
     ensures short { IsShort words.now.shared.key object result }
 {
     steps.step();
-    let word = 4224 + 8 * usize::from(object);
-    exchange::<Brand>(
-        words,
-        seat,
-        word,
-        old,
-        old + 2097152,
-        object,
+    let about = About {
+        to: object,
         pool,
-        block,
+        low: block,
         name,
-    )
+        ..NOTHING
+    };
+    exchange::<Brand>(words, seat, queue_at(object), old, old + 2097152, about)
 }
 
 /// Claims the cell before the front of a queue, by the lane that serves it, where an entry is free. It looks, and then

@@ -4,7 +4,6 @@
 pub mod cells;
 pub mod gives;
 pub mod last_in;
-mod operations;
 pub mod posts;
 mod rings;
 pub mod takes;

@@ -7,20 +7,21 @@ ghost use Rattle.qp_model.specs.Sites.{ring_of};
 ghost use Rattle.qp_model.specs.WordLaw.{is_object};
 ghost use Rattle.qp_calls.specs.Clauses.{entry_of};
 ghost use Rattle.qp_table.specs.Counting.{many};
-ghost use Rattle.qp_table.specs.Rule.{is_place, on_queue, is_serve, is_lifo, is_took, records};
+ghost use Rattle.qp_table.specs.Rule.{is_place, on_queue, is_serve};
 ghost use Rattle.qp_table.specs.After.{HasRoom};
-ghost use Rattle.qp_table.specs.QueueLaws.{front_cell};
 ghost use Rattle.qp_shared_steps.specs.Told.{FreeTold};
+ghost use Rattle.qp_shared_words.specs.Fronts.{KnowsFront};
 ghost use Rattle.qp_shared_words.specs.Nils.{is_new};
 ghost use Rattle.qp_shared_loops.specs.Coded.{entry_in};
 ghost use Rattle.qp_shared_loops.specs.Ends.{Empties, IsNamed, KnowsEvent, TakeEnds};
 
-use crate::operations::add;
 use crate::rings::in_ring;
 use atomic_table::Seat;
 use qp_calls::{Counts, Entry, Hold};
 use qp_shared_words::Words;
+use qp_shared_words::places::queue_at;
 use qp_shared_words::queues::{empty_front, look_at_cell, look_before_take};
+use qp_shared_words::steps::{About, NOTHING, add};
 use qp_table::View;
 use std::marker::Brand;
 use std::sync::Wait;
@@ -63,24 +64,12 @@ fn front(ring: u8, lifos: u64, takes: u64) -> u16
 }
 
 /// Reads the front cell, and empties it where it is laid. None where it isn't, and nothing changes.
-fn empty_if_laid(
-    words: &Words,
-    seat: &mut Seat<(), View>,
-    object: u8,
-    cell: u16,
-    lifos: u64,
-    takes: u64,
-) -> Option<Entry>
+fn empty_if_laid(words: &Words, seat: &mut Seat<(), View>, object: u8, cell: u16) -> Option<Entry>
     requires own { seat.old.table_id ≡ words.now.shared.table_id }
     requires wide { words.now.shared.table_id.words ≡ 21128 }
     requires object { IsTrue (is_object words.now.shared.key object) }
     requires low { (object < 33) × (cell < 256) }
-    requires front { cell ≡ front_cell words.now.shared.key object lifos takes }
-    requires log { 0 < length seat.old.me.0.logs }
-    requires serves { IsTrue (list_any (is_serve object) seat.old.me.0.serves) }
-    requires lifos { lifos ≡ records (is_lifo object) seat.old.me.0.logs }
-    requires takes { takes ≡ records (is_took object) seat.old.me.0.logs }
-    requires idle { many (on_queue object) seat.old.me.0.takes ≡ 0 }
+    requires front { KnowsFront words.now.shared.key object cell seat.old.me.0 }
     ensures same { (seat.new.table_id ≡ seat.old.table_id) × (seat.new.id ≡ seat.old.id) }
     ensures emptied { IfSome result (λ e. Empties words.now.shared.key object cell e seat.old.me.0 seat.new.me.0) }
     ensures still { IfNone result (seat.new.me.0 ≡ seat.old.me.0) }
@@ -88,7 +77,7 @@ fn empty_if_laid(
     if look_at_cell(words, seat, object, cell) == 0 {
         return None;
     }
-    let code = empty_front(words, seat, object, cell, lifos, takes);
+    let code = empty_front(words, seat, object, cell);
     if code == 0 {
         return None;
     }
@@ -104,24 +93,17 @@ fn empty_once_laid<R: Wait>(
     seat: &mut Seat<(), View>,
     object: u8,
     cell: u16,
-    lifos: u64,
-    takes: u64,
 ) -> Entry
     requires own { seat.old.table_id ≡ words.now.shared.table_id }
     requires wide { words.now.shared.table_id.words ≡ 21128 }
     requires object { IsTrue (is_object words.now.shared.key object) }
     requires low { (object < 33) × (cell < 256) }
-    requires front { cell ≡ front_cell words.now.shared.key object lifos takes }
-    requires log { 0 < length seat.old.me.0.logs }
-    requires serves { IsTrue (list_any (is_serve object) seat.old.me.0.serves) }
-    requires lifos { lifos ≡ records (is_lifo object) seat.old.me.0.logs }
-    requires takes { takes ≡ records (is_took object) seat.old.me.0.logs }
-    requires idle { many (on_queue object) seat.old.me.0.takes ≡ 0 }
+    requires front { KnowsFront words.now.shared.key object cell seat.old.me.0 }
     ensures same { (seat.new.table_id ≡ seat.old.table_id) × (seat.new.id ≡ seat.old.id) }
     ensures emptied { Empties words.now.shared.key object cell result seat.old.me.0 seat.new.me.0 }
 {
     for _ in rt.forever() {
-        if let Some(entry) = empty_if_laid(words, seat, object, cell, lifos, takes) {
+        if let Some(entry) = empty_if_laid(words, seat, object, cell) {
             return entry;
         }
     }
@@ -135,26 +117,19 @@ fn empty_when_laid<R: Wait>(
     seat: &mut Seat<(), View>,
     object: u8,
     cell: u16,
-    lifos: u64,
-    takes: u64,
 ) -> Entry
     requires own { seat.old.table_id ≡ words.now.shared.table_id }
     requires wide { words.now.shared.table_id.words ≡ 21128 }
     requires object { IsTrue (is_object words.now.shared.key object) }
     requires low { (object < 33) × (cell < 256) }
-    requires front { cell ≡ front_cell words.now.shared.key object lifos takes }
-    requires log { 0 < length seat.old.me.0.logs }
-    requires serves { IsTrue (list_any (is_serve object) seat.old.me.0.serves) }
-    requires lifos { lifos ≡ records (is_lifo object) seat.old.me.0.logs }
-    requires takes { takes ≡ records (is_took object) seat.old.me.0.logs }
-    requires idle { many (on_queue object) seat.old.me.0.takes ≡ 0 }
+    requires front { KnowsFront words.now.shared.key object cell seat.old.me.0 }
     ensures same { (seat.new.table_id ≡ seat.old.table_id) × (seat.new.id ≡ seat.old.id) }
     ensures emptied { Empties words.now.shared.key object cell result seat.old.me.0 seat.new.me.0 }
 {
-    if let Some(entry) = empty_if_laid(words, seat, object, cell, lifos, takes) {
+    if let Some(entry) = empty_if_laid(words, seat, object, cell) {
         return entry;
     }
-    empty_once_laid(rt, words, seat, object, cell, lifos, takes)
+    empty_once_laid(rt, words, seat, object, cell)
 }
 
 /// Frees the entry of a take, and answers the queue's word as it was. The lane then knows the event of a reference.
@@ -177,25 +152,23 @@ fn free_entry(
     ensures told { FreeTold words.now.shared.key object cell (record { pool = pool; block = block; name = name }) seat.old.me.0 result seat.new.me.0 }
     ensures event { KnowsEvent words.now.shared.key (record { pool = pool; block = block; name = name }) seat.new.me.0 }
 {
-    let word = 4224 + 8 * usize::from(object);
-    add::<Brand>(
-        words,
-        seat,
-        word,
-        4398046511104,
-        object,
-        cell,
+    let about = About {
+        to: object,
         pool,
-        block,
+        low: block,
         name,
-    )
+        old: cell,
+        ..NOTHING
+    };
+    add::<Brand>(words, seat, queue_at(object), 4398046511104, about)
 }
 
 /// Takes the front entry of a queue, by the lane that serves it. It looks; where the queue isn't empty, it reads the front cell until
 /// that is laid, empties it and frees the entry. Answers the queue's word as it was when the entry was freed or none was there,
 /// and the entry. `ring` is the queue's, and `last` the counts that the lane last told of the empty queue.
 ///
-/// It waits only for a poster that has claimed the front entry and not yet laid it.
+/// Where a poster has claimed the front entry and not yet laid it, it waits, and only reads meanwhile. That it waits for nothing else is
+/// read off the code: no clause says for what.
 // Each locked step waits for the writes before it, so a call with its answer in memory costs some two nanoseconds.
 #[inline(always)]
 pub fn take_entry<R: Wait>(
@@ -224,7 +197,7 @@ pub fn take_entry<R: Wait>(
         return (found, None);
     }
     let cell = front(ring, lifos, takes);
-    let entry = empty_when_laid(rt, words, seat, object, cell, lifos, takes);
+    let entry = empty_when_laid(rt, words, seat, object, cell);
     let (pool, block, name) = parts(&entry);
     let now = free_entry(words, seat, object, u64::from(cell), pool, block, name);
     (now, Some(entry))

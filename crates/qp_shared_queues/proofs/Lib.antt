@@ -1,4 +1,5 @@
 pub mod Views
+pub mod Used
 pub mod Lane
 pub mod Noting
 pub mod Posting

@@ -7,15 +7,17 @@ ghost use Rattle.qp_model.specs.Record.{entry, item_of};
 ghost use Rattle.qp_model.specs.WordLaw.{is_object};
 ghost use Rattle.qp_calls.specs.Clauses.{Claims, ClaimsFront, Stands, Tries, draws_claimed};
 ghost use Rattle.qp_shared_lane.specs.Lane.{state_view};
-ghost use Rattle.qp_shared_queues.specs.Bodies.{lifo_body, post_body};
+ghost use Rattle.qp_shared_queues.specs.Bodies.{IsPutAs, lifo_body, post_body};
 
 use crate::counting::counts_in;
 use qp_base::Steps;
 use qp_calls::{Claim, Counts, Entry};
+use qp_calls_log::Log;
 use qp_model::Rec;
 use qp_shared_lane::{LaneState, put};
 use qp_shared_loops::cells::{post_entry, post_entry_last_in};
 use qp_shared_loops::takes::parts;
+use qp_shared_views::Numbers;
 use std::sync::ledger::Ledger;
 
 /// An entry as records state it.
@@ -29,29 +31,39 @@ pub(crate) fn stated(pool: u8, block: u16, name: u64) -> qp_model::Entry
     }
 }
 
-/// The record of a post at these counts: of the entry posted, or of too few free entries.
+/// Adds the record of a post at these counts: of the entry posted, or of too few free entries.
+// Each of the three goes straight to its place; one that is chosen among them before would go by the stack.
 #[inline(always)]
-fn post_rec(
+fn put_post(
+    log: &mut Log,
+    numbers: &mut Numbers,
     by: u8,
     to: u8,
     margin: Option<u8>,
     now: Counts,
     e: qp_model::Entry,
     posted: bool,
-) -> Rec
-    requires { now.f < 2097152 }
-    ensures { item_of result ≡ record { of = by; body = post_body posted margin to now.f now.l now.m e } }
+)
+    requires room { 0 < log.old.spare }
+    requires counts { now.f < 2097152 }
+    ensures put { IsPutAs (record { of = by; body = post_body posted margin to now.f now.l now.m e }) log.old numbers.old.list log.new numbers.new.list }
+    ensures spare { log.new.spare + 1 ≡ log.old.spare }
 {
     if posted {
-        return Rec::post(by, to, now.f + 1, now.l, now.m, e);
+        let rec = Rec::post(by, to, now.f + 1, now.l, now.m, e);
+        put(log, numbers, rec, 0);
+        return;
     }
-    match margin {
-        Some(margin) => Rec::full(by, to, now.f, now.l, now.m, margin),
-        None => Rec::no_entry(by, to, now.f, now.l, now.m),
+    if let Some(margin) = margin {
+        let rec = Rec::full(by, to, now.f, now.l, now.m, margin);
+        put(log, numbers, rec, 0);
+        return;
     }
+    let rec = Rec::no_entry(by, to, now.f, now.l, now.m);
+    put(log, numbers, rec, 0);
 }
 
-/// The same of a last-in post.
+/// The record of a last-in post at these counts: of the entry posted, or of none that is free.
 fn lifo_rec(a: u8, now: Counts, e: qp_model::Entry, posted: bool) -> Rec
     requires { now.l < 2097152 }
     ensures { item_of result ≡ record { of = a; body = lifo_body posted a now.f now.l now.m e } }
@@ -111,8 +123,17 @@ pub fn claim<L: Ledger>(
         steps,
     );
     let now = counts_in(found);
-    let rec = post_rec(lane.by, to, margin, now, stated(pool, block, name), posted);
-    put(&mut lane.log, &mut lane.numbers, rec, 0);
+    let said = stated(pool, block, name);
+    put_post(
+        &mut lane.log,
+        &mut lane.numbers,
+        lane.by,
+        to,
+        margin,
+        now,
+        said,
+        posted,
+    );
     answer(posted, e, now)
 }
 

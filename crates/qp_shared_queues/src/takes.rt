@@ -13,7 +13,7 @@ use qp_shared_lane::{LaneState, put, put_nil};
 use qp_shared_loops::takes::{parts, take_entry};
 use std::sync::Wait;
 
-/// Takes the front entry. It waits only for a poster that has claimed the front entry and not yet laid it.
+/// Takes the front entry. Where a poster has claimed it and not yet laid it, this waits, and only reads meanwhile.
 #[inline(always)]
 pub fn take<R: Wait>(lane: &mut LaneState<'_>, rt: &R, me: u8) -> Take
     requires room { 0 < (state_view lane.old).spare }

@@ -3,14 +3,15 @@
 ghost use Rattle.std.specs.Prelude.{◌≡◌, ◌+◌, ◌<◌, [], length};
 ghost use Rattle.qp_table.specs.Counting.{many};
 ghost use Rattle.qp_table.specs.Rule.{is_number};
-ghost use Rattle.qp_table.specs.After.{Steps, nothing, onlooker, joined};
+ghost use Rattle.qp_table.specs.After.{nothing, onlooker, joined};
 ghost use Rattle.qp_table.specs.declared.view.View.{View};
 ghost use Rattle.qp_shared_side.specs.Seats.{in_set};
 ghost use Rattle.qp_shared_seats.specs.Seats.{IsOnePast, IsUnused, MayPart, StaysTold, lane_new, root_left};
 ghost use Rattle.qp_shared_seats.specs.End.{AtEnd};
 
-use atomic_table::{Join, Play, Seat, Split};
+use atomic_table::{Join, Seat, Split};
 use qp_shared_words::Words;
+use qp_shared_words::steps::{NOTHING, look};
 use qp_table::View;
 use std::marker::{Brand, PhantomData};
 
@@ -114,30 +115,6 @@ pub fn join_seats(words: &Words, seat: &mut Seat<(), View>, other: Seat<(), View
     words.shared.join_seat::<Together>(seat, other);
 }
 
-/// What a look tells of the view before and the view after. Its caller picks it.
-trait Tells {
-    ghost tells: { View → View → Type 0 };
-}
-
-impl Tells for Brand {
-    ghost tells = { λ v u. Unit {0} };
-}
-
-struct Tell<T: Tells>(PhantomData<T>);
-
-impl<T: Tells> Play<(), View> for Tell<T> {
-    ghost then = { λ st m n m'. T.tells m.0 m'.0 };
-}
-
-fn look<T: Tells>(words: &Words, seat: &mut Seat<(), View>)
-    requires own { (seat.old.table_id ≡ words.now.shared.table_id) × (0 < words.now.shared.table_id.words) }
-    requires keeps { Steps words.now.shared.key seat.old.id seat.old.me.0 0 (λ n. n) (λ n. T.tells seat.old.me.0) }
-    ensures same { (seat.new.table_id ≡ seat.old.table_id) × (seat.new.id ≡ seat.old.id) }
-    ensures told { T.tells seat.old.me.0 seat.new.me.0 }
-{
-    words.shared.load::<Tell<T>>(seat, 0);
-}
-
 /// A look that changes nothing. It tells that all that the seat saw of a word at one number of operations is one value.
 pub fn know_past(words: &Words, seat: &mut Seat<(), View>)
     requires own { seat.old.table_id ≡ words.now.shared.table_id }
@@ -145,7 +122,7 @@ pub fn know_past(words: &Words, seat: &mut Seat<(), View>)
     ensures same { (seat.new.table_id ≡ seat.old.table_id) × (seat.new.id ≡ seat.old.id) }
     ensures told { StaysTold (IsOnePast words.now.shared.key) seat.old.me.0 seat.new.me.0 }
 {
-    look::<Brand>(words, seat);
+    look::<Brand>(words, seat, 0, NOTHING);
 }
 
 /// The seat with all lanes, and with all numbers that were given to none, looks and so knows the end of the table.
@@ -156,5 +133,5 @@ pub fn know_end(words: &Words, seat: &mut Seat<(), View>)
     ensures same { (seat.new.table_id ≡ seat.old.table_id) × (seat.new.id ≡ seat.old.id) }
     ensures told { StaysTold (AtEnd words.now.shared.key) seat.old.me.0 seat.new.me.0 }
 {
-    look::<Brand>(words, seat);
+    look::<Brand>(words, seat, 0, NOTHING);
 }

@@ -18,5 +18,5 @@ abbrev pub MayPart : System → ℕ → SideView → SideView → SideView → T
 MayPart sys id v left right = (words : List ℕ) (views : List SideView) → SideHolds sys words views → get_elem? views id ≡ some v → SideHolds sys words (slice_set views id left ++ right ∷ [])
 
 -- a look that changes nothing tells the whole
-abbrev pub WholeTold : System → SideView → ℕ → SideView → Type 0
-WholeTold sys v n u = (u ≡ v) × IsSideWhole sys v
+abbrev pub WholeTold : System → SideView → SideView → Type 0
+WholeTold sys v u = (u ≡ v) × IsSideWhole sys v

@@ -6,7 +6,7 @@ ghost use Rattle.qp_table.specs.After.{HasRoom};
 ghost use Rattle.qp_side_words.specs.Rule.{timer_at};
 ghost use Rattle.qp_side_words.specs.Told.{last_seen, counter_in, interval_in, eyed_armed, eyed_idle, eyed_clock, EyeTimerTold, ArmTold, DisarmTold, RearmTold, TickTold};
 
-use crate::steps::{About, Words, exchange, look};
+use crate::steps::{About, NOTHING, Words, exchange, look};
 use atomic_table::Seat;
 use qp_base::Steps;
 use qp_side_words::SideView;
@@ -34,13 +34,8 @@ pub fn look_to_arm(words: &Words, seat: &mut Seat<(), SideView>, object: u8, t: 
 {
     let about = About {
         by: object,
-        to: 0,
         timer: t,
-        bit: 0,
-        ticks: 0,
-        interval: 0,
-        old: 0,
-        new: 0,
+        ..NOTHING
     };
     look::<Brand>(words, seat, timer_at(t), about)
 }
@@ -56,13 +51,8 @@ pub fn look_if_armed(words: &Words, seat: &mut Seat<(), SideView>, object: u8, t
 {
     let about = About {
         by: object,
-        to: 0,
         timer: t,
-        bit: 0,
-        ticks: 0,
-        interval: 0,
-        old: 0,
-        new: 0,
+        ..NOTHING
     };
     look::<Brand>(words, seat, timer_at(t), about)
 }
@@ -76,14 +66,8 @@ pub fn look_at(words: &Words, seat: &mut Seat<(), SideView>, t: u8) -> u64
     ensures told { EyeTimerTold (eyed_clock t) t seat.old.me.0 result seat.new.me.0 }
 {
     let about = About {
-        by: 0,
-        to: 0,
         timer: t,
-        bit: 0,
-        ticks: 0,
-        interval: 0,
-        old: 0,
-        new: 0,
+        ..NOTHING
     };
     look::<Brand>(words, seat, timer_at(t), about)
 }
@@ -115,13 +99,12 @@ pub fn arm<L: Ledger>(
     let new = (old / UNIT + 1) * UNIT + interval as u64 * 65536 + ticks as u64;
     let about = About {
         by: object,
-        to: 0,
         timer: t,
-        bit: 0,
         ticks,
         interval,
         old,
         new,
+        ..NOTHING
     };
     exchange::<Brand>(words, seat, timer_at(t), old, new, about)
 }
@@ -151,13 +134,10 @@ pub fn disarm<L: Ledger>(
     let new = old + UNIT - old % 65536;
     let about = About {
         by: object,
-        to: 0,
         timer: t,
-        bit: 0,
-        ticks: 0,
-        interval: 0,
         old,
         new,
+        ..NOTHING
     };
     exchange::<Brand>(words, seat, timer_at(t), old, new, about)
 }
@@ -187,13 +167,11 @@ pub fn rearm<L: Ledger>(
     let new = old + UNIT + ticks as u64 - old % 65536;
     let about = About {
         by: object,
-        to: 0,
         timer: t,
-        bit: 0,
         ticks,
-        interval: 0,
         old,
         new,
+        ..NOTHING
     };
     exchange::<Brand>(words, seat, timer_at(t), old, new, about)
 }
@@ -236,13 +214,10 @@ pub fn tick<L: Ledger>(
     let new = ticked(old);
     let about = About {
         by: object,
-        to: 0,
         timer: t,
-        bit: 0,
-        ticks: 0,
-        interval: 0,
         old,
         new,
+        ..NOTHING
     };
     exchange::<Brand>(words, seat, timer_at(t), old, new, about)
 }

@@ -4,7 +4,7 @@
 pub mod clocks;
 pub mod seats;
 pub mod signals;
-mod steps;
+pub mod steps;
 pub mod stops;
 
 pub use steps::{Law, Words};

@@ -10,7 +10,7 @@ ghost use Rattle.qp_side_words.specs.declared.SideView.{SideView};
 ghost use Rattle.qp_side_words.specs.Told.{root_less, seat_with, both_of, no_seat, side_root};
 ghost use Rattle.qp_shared_side.specs.Seats.{in_set, MayPart, WholeTold};
 
-use crate::steps::{About, Words, look};
+use crate::steps::{NOTHING, Words, look};
 use atomic_table::{Join, Seat, Split, Table};
 use qp_base::Memory;
 use qp_model::System;
@@ -121,22 +121,12 @@ pub fn join_seats(words: &Words, seat: &mut Seat<(), SideView>, other: Seat<(), 
 
 /// The seat with all numbers, of which some are logs', looks at the stop word, and so knows the whole: the records of all seats keep the law of
 /// the words of signals and time events, and each code that was found was handed in.
-pub fn know_whole(words: &Words, seat: &mut Seat<(), SideView>) -> u64
+pub fn know_whole(words: &Words, seat: &mut Seat<(), SideView>)
     requires own { seat.old.table_id ≡ words.now.shared.table_id }
     requires wide { words.now.shared.table_id.words ≡ 4489 }
     requires all { length seat.old.me.0.view.logs + length seat.old.me.0.view.lane_numbers ≡ 49 }
     ensures same { (seat.new.table_id ≡ seat.old.table_id) × (seat.new.id ≡ seat.old.id) × (seat.new.me.1 ≡ seat.old.me.1) }
-    ensures told { WholeTold words.now.shared.key seat.old.me.0 result seat.new.me.0 }
+    ensures told { WholeTold words.now.shared.key seat.old.me.0 seat.new.me.0 }
 {
-    let about = About {
-        by: 0,
-        to: 0,
-        timer: 0,
-        bit: 0,
-        ticks: 0,
-        interval: 0,
-        old: 0,
-        new: 0,
-    };
-    look::<Brand>(words, seat, 4488, about)
+    look::<Brand>(words, seat, 4488, NOTHING);
 }

@@ -8,7 +8,7 @@ ghost use Rattle.qp_table.specs.After.{HasRoom};
 ghost use Rattle.qp_side_words.specs.Rule.{signal_at, member_in};
 ghost use Rattle.qp_side_words.specs.Told.{bit_value, EyeSignalTold, SubTold, UnsubTold, PubTold};
 
-use crate::steps::{About, Words, add, look};
+use crate::steps::{About, NOTHING, Words, add, look};
 use atomic_table::Seat;
 use qp_side_words::SideView;
 use std::marker::Brand;
@@ -47,12 +47,8 @@ pub fn look_for(words: &Words, seat: &mut Seat<(), SideView>, object: u8, sig: u
     let about = About {
         by: object,
         to: sig,
-        timer: 0,
         bit,
-        ticks: 0,
-        interval: 0,
-        old: 0,
-        new: 0,
+        ..NOTHING
     };
     look::<Brand>(words, seat, signal_at(sig), about)
 }
@@ -74,12 +70,7 @@ pub fn put(words: &Words, seat: &mut Seat<(), SideView>, object: u8, sig: u16) -
     let about = About {
         by: object,
         to: sig,
-        timer: 0,
-        bit: 0,
-        ticks: 0,
-        interval: 0,
-        old: 0,
-        new: 0,
+        ..NOTHING
     };
     add::<Brand>(words, seat, signal_at(sig), UNIT + bit_of(object), about)
 }
@@ -101,12 +92,7 @@ pub fn take(words: &Words, seat: &mut Seat<(), SideView>, object: u8, sig: u16) 
     let about = About {
         by: object,
         to: sig,
-        timer: 0,
-        bit: 0,
-        ticks: 0,
-        interval: 0,
-        old: 0,
-        new: 0,
+        ..NOTHING
     };
     add::<Brand>(words, seat, signal_at(sig), UNIT - bit_of(object), about)
 }
@@ -124,12 +110,7 @@ pub fn look_at_all(words: &Words, seat: &mut Seat<(), SideView>, object: u8, sig
     let about = About {
         by: object,
         to: sig,
-        timer: 0,
-        bit: 0,
-        ticks: 0,
-        interval: 0,
-        old: 0,
-        new: 0,
+        ..NOTHING
     };
     look::<Brand>(words, seat, signal_at(sig), about)
 }

@@ -24,7 +24,7 @@ impl TableRule<(), SideView, System> for Law {
 }
 
 /// What a step tells: of the view before, the number found and the view after. Its caller picks it.
-pub(crate) trait Tells {
+pub trait Tells {
     ghost tells: { SideView → ℕ → SideView → Type 0 };
 }
 
@@ -32,7 +32,7 @@ impl Tells for Brand {
     ghost tells = { λ v n u. Unit {0} };
 }
 
-pub(crate) struct Tell<T: Tells>(PhantomData<T>);
+pub struct Tell<T: Tells>(PhantomData<T>);
 
 impl<T: Tells> Play<(), SideView> for Tell<T> {
     ghost then = { λ st m n m'. T.tells m.0 n m'.0 × (m'.1 ≡ m.1) };
@@ -43,7 +43,7 @@ pub type Words = Table<(), SideView, System, Law, Global>;
 
 /// What a step is about, for its proof alone: the object for which the seat works, the signal or time event, and numbers of the step.
 #[derive(Clone, Copy, Drop)]
-pub(crate) struct About {
+pub struct About {
     pub by: u8,
     pub to: u16,
     pub timer: u8,
@@ -54,8 +54,20 @@ pub(crate) struct About {
     pub new: u64,
 }
 
+/// What a step is about that needs no more than its word.
+pub const NOTHING: About = About {
+    by: 0,
+    to: 0,
+    timer: 0,
+    bit: 0,
+    ticks: 0,
+    interval: 0,
+    old: 0,
+    new: 0,
+};
+
 /// Reads a word.
-pub(crate) fn look<T: Tells>(
+pub fn look<T: Tells>(
     words: &Words,
     seat: &mut Seat<(), SideView>,
     word: usize,

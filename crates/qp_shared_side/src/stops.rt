@@ -3,7 +3,7 @@
 ghost use Rattle.std.specs.Prelude.{◌≡◌, ◌<◌, ◌≤◌, ◌∷◌, length};
 ghost use Rattle.qp_side_words.specs.Told.{FoundTold};
 
-use crate::steps::{About, Words, exchange, look};
+use crate::steps::{About, NOTHING, Words, exchange, look};
 use atomic_table::Seat;
 use qp_side_words::SideView;
 use std::marker::Brand;
@@ -23,13 +23,7 @@ pub fn hand_in(words: &Words, seat: &mut Seat<(), SideView>, code: u8)
 {
     let about = About {
         by: code,
-        to: 0,
-        timer: 0,
-        bit: 0,
-        ticks: 0,
-        interval: 0,
-        old: 0,
-        new: 0,
+        ..NOTHING
     };
     exchange::<Brand>(words, seat, STOP, 0, code as u64, about);
 }
@@ -41,15 +35,5 @@ pub fn find(words: &Words, seat: &mut Seat<(), SideView>) -> u64
     ensures same { (seat.new.table_id ≡ seat.old.table_id) × (seat.new.id ≡ seat.old.id) × (seat.new.me.1 ≡ seat.old.me.1) }
     ensures told { FoundTold seat.old.me.0 result seat.new.me.0 }
 {
-    let about = About {
-        by: 0,
-        to: 0,
-        timer: 0,
-        bit: 0,
-        ticks: 0,
-        interval: 0,
-        old: 0,
-        new: 0,
-    };
-    look::<Brand>(words, seat, STOP, about)
+    look::<Brand>(words, seat, STOP, NOTHING)
 }

@@ -28,10 +28,11 @@ drops-tell sys id v own o p b k pos mine words views holds at small =
     let there = held-stands sys views holds.now id v at holds.tokens p b k pos mine in
     let alone = standing sys views holds.now id v at holds.tokens p b k there in
     let n = get_or words (block_at p b) 0 in let low = z.2.3 in let some_left = z.2.1 in
-    let m = low-mark (block_at p b) n low in let m' = low-mark (block_at p b) (n + 4294967295) low in (
+    let m = low-mark (block_at p b) n low in let m' = low-mark (block_at p b) (n + 4294967295) low in
+    let f = total-at (λ (y : View). many (is_spot p b) y.used) views id v at in let g = alone.4 in (
       z.0,
       z.1,
-      (z.2.0, word-told sys words views holds id v z.0 at (word.Block p b) alone.0 (n + 4294967295) (omega arith) (ap (λ (y : View). y.seen) z.2.0), some_left),
+      (z.2.0, word-told sys words views holds id v z.0 at (word.Block p b) alone.0 (n + 4294967295) (omega arith) (ap (λ (y : View). y.seen) z.2.0), some_left, omega arith),
     )
 
 ref-held : (p b k : ℕ) (v u : View) → u.hands ≡ v.hands ++ ref p b k ∷ [] → 0 < many (is_ref p b k) u.hands

@@ -33,11 +33,11 @@ IsEvent sys event = HasEvent sys event × (0 < length event)
 
 -- Blocks.
 
--- a reference is dropped: the word counted one
+-- a reference is dropped: the word counted one, and no block of this place is used here
 abbrev pub DropTold : System → ℕ → ℕ → ℕ → ℕ → View → ℕ → View → Type 0
 DropTold sys o p b k v n u =
     (u ≡ dropped v (block_at p b) (n + 4294967295) (rec_of 18 o (p ∷ b ∷ (n / 4294967296) ∷ k ∷ [])) p b k)
-    × WordTold sys (word.Block p b) v u n (n + 4294967295) × (0 < n % 4294967296)
+    × WordTold sys (word.Block p b) v u n (n + 4294967295) × (0 < n % 4294967296) × (many (is_spot p b) v.used ≡ 0)
 
 -- the first reference: the word counted none, and the lane learns the event
 abbrev pub FirstTold : System → ℕ → ℕ → ℕ → View → ℕ → View → Type 0

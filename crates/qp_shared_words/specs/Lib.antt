@@ -1,1 +1,2 @@
 pub mod Nils
+pub mod Fronts

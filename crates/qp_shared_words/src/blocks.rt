@@ -11,7 +11,7 @@ ghost use Rattle.qp_shared_views.specs.Lane.{has_content};
 ghost use Rattle.qp_shared_steps.specs.Told.{HasPlace, DropTold, FirstTold, FromTold, FillTold, ReadTold, EyePoolTold, IsLowest, GiveTold};
 
 use crate::places::{block_at, event_at, pool_at};
-use crate::steps::{About, Words, add, exchange_for, look, store};
+use crate::steps::{About, NOTHING, Words, add, exchange_for, look, store};
 use atomic_table::Seat;
 use qp_base::{Ev, Steps};
 use qp_table::View;
@@ -49,14 +49,10 @@ pub fn drop_reference(
 {
     let about = About {
         by,
-        to: 0,
         pool,
         block,
-        low: 0,
         name,
-        old: 0,
-        new: 0,
-        margin: None,
+        ..NOTHING
     };
     add::<Brand>(words, seat, block_at(pool, block), UNIT - 1, about)
 }
@@ -74,14 +70,9 @@ pub fn first_reference(words: &Words, seat: &mut Seat<(), View>, by: u8, pool: u
 {
     let about = About {
         by,
-        to: 0,
         pool,
         block,
-        low: 0,
-        name: 0,
-        old: 0,
-        new: 0,
-        margin: None,
+        ..NOTHING
     };
     add::<Brand>(words, seat, block_at(pool, block), UNIT + 1, about)
 }
@@ -96,15 +87,9 @@ pub fn read_beginning(words: &Words, seat: &mut Seat<(), View>, pool: u8, block:
     ensures told { (at : ℕ) → 0 < many (is_spot_at pool block at) seat.old.me.0.fresh → FromTold words.now.shared.key pool block at seat.old.me.0 result seat.new.me.0 }
 {
     let about = About {
-        by: 0,
-        to: 0,
         pool,
         block,
-        low: 0,
-        name: 0,
-        old: 0,
-        new: 0,
-        margin: None,
+        ..NOTHING
     };
     look::<Brand>(words, seat, block_at(pool, block), about)
 }
@@ -121,15 +106,11 @@ pub fn fill(words: &Words, seat: &mut Seat<(), View>, pool: u8, block: u8, place
     ensures told { FillTold pool block place value seat.old.me.0 value seat.new.me.0 }
 {
     let about = About {
-        by: 0,
         to: place,
         pool,
         block,
-        low: 0,
-        name: 0,
-        old: 0,
         new: value,
-        margin: None,
+        ..NOTHING
     };
     store::<Brand>(words, seat, event_at(pool, block, place), value, about)
 }
@@ -153,15 +134,11 @@ pub fn read_event(
     ensures told { ReadTold words.now.shared.key pool block name place seat.old.me.0 result seat.new.me.0 }
 {
     let about = About {
-        by: 0,
         to: place,
         pool,
         block,
-        low: 0,
         name,
-        old: 0,
-        new: 0,
-        margin: None,
+        ..NOTHING
     };
     look::<Brand>(words, seat, event_at(pool, block, place), about)
 }
@@ -185,14 +162,9 @@ pub fn look_at_pool(
 {
     let about = About {
         by,
-        to: 0,
         pool,
-        block: 0,
-        low: 0,
-        name: 0,
-        old: 0,
-        new: 0,
         margin: reserve,
+        ..NOTHING
     };
     look::<Brand>(words, seat, pool_at(pool), about)
 }
@@ -226,14 +198,11 @@ pub fn try_give<L: Ledger>(
     steps.step();
     let about = About {
         by,
-        to: 0,
         pool,
         block,
-        low: 0,
-        name: 0,
         old,
-        new: 0,
         margin: reserve,
+        ..NOTHING
     };
     exchange_for::<Brand>(
         words,

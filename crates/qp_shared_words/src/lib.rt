@@ -3,9 +3,9 @@
 
 pub mod blocks;
 mod first;
-mod places;
+pub mod places;
 pub mod queues;
-mod steps;
+pub mod steps;
 
 pub use first::new_words;
 pub use steps::{Law, Words};

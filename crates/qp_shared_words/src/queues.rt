@@ -1,21 +1,21 @@
 //! The steps on queues and their cells. Each is one atomic operation, under the rule of the event table.
 
-ghost use Rattle.std.specs.Prelude.{◌≡◌, ◌+◌, ◌/◌, ◌<◌, ◌≤◌, length, IsTrue};
-ghost use Rattle.std.specs.List.{list_any};
+ghost use Rattle.std.specs.Prelude.{◌≡◌, ◌+◌, ◌/◌, ◌<◌, ◌≤◌, IsTrue};
 ghost use Rattle.std.specs.Option.{unwrap_or};
 ghost use Rattle.qp_model.specs.declared.words.Word.TheVariants as word;
 ghost use Rattle.qp_model.specs.Sites.{ring_of};
 ghost use Rattle.qp_model.specs.WordLaw.{is_object};
 ghost use Rattle.qp_table.specs.Counting.{many};
-ghost use Rattle.qp_table.specs.Rule.{is_place, on_queue, is_serve, is_lifo, is_took, records, code};
+ghost use Rattle.qp_table.specs.Rule.{is_place, code};
 ghost use Rattle.qp_table.specs.After.{HasRoom, InHand};
-ghost use Rattle.qp_table.specs.QueueLaws.{cells_of, front_cell};
+ghost use Rattle.qp_table.specs.QueueLaws.{cells_of};
 ghost use Rattle.qp_shared_views.specs.Words.{value_seen};
+ghost use Rattle.qp_shared_words.specs.Fronts.{KnowsFront};
 ghost use Rattle.qp_shared_words.specs.Nils.{is_new};
 ghost use Rattle.qp_shared_steps.specs.Told.{LookTold, SeenTold, NilTold, EyeTold, free_in, TryTold, LayTold, SwapTold};
 
 use crate::places::{cell_at, queue_at};
-use crate::steps::{About, Words, exchange, look, look_again, store, swap};
+use crate::steps::{About, NOTHING, Words, exchange, look, look_again, store, swap};
 use atomic_table::Seat;
 use qp_base::Steps;
 use qp_calls::Counts;
@@ -32,15 +32,8 @@ pub fn look_at_queue(words: &Words, seat: &mut Seat<(), View>, object: u8) -> u6
     ensures told { LookTold words.now.shared.key object seat.old.me.0 result seat.new.me.0 }
 {
     let about = About {
-        by: 0,
         to: object,
-        pool: 0,
-        block: 0,
-        low: 0,
-        name: 0,
-        old: 0,
-        new: 0,
-        margin: None,
+        ..NOTHING
     };
     look::<Brand>(words, seat, queue_at(object), about)
 }
@@ -55,15 +48,8 @@ pub fn see_queue(words: &Words, seat: &mut Seat<(), View>, object: u8) -> u64
     ensures told { SeenTold words.now.shared.key object seat.old.me.0 result seat.new.me.0 }
 {
     let about = About {
-        by: 0,
         to: object,
-        pool: 0,
-        block: 0,
-        low: 0,
-        name: 0,
-        old: 0,
-        new: 0,
-        margin: None,
+        ..NOTHING
     };
     look::<Brand>(words, seat, queue_at(object), about)
 }
@@ -83,15 +69,8 @@ pub fn look_before_take(
     ensures told { NilTold words.now.shared.key (is_new last) object seat.old.me.0 result seat.new.me.0 }
 {
     let about = About {
-        by: 0,
         to: object,
-        pool: 0,
-        block: 0,
-        low: 0,
-        name: 0,
-        old: 0,
-        new: 0,
-        margin: None,
+        ..NOTHING
     };
     look_again::<Brand>(words, seat, queue_at(object), about, last)
 }
@@ -114,13 +93,8 @@ pub fn look_before_post(
     let about = About {
         by,
         to: object,
-        pool: 0,
-        block: 0,
-        low: 0,
-        name: 0,
-        old: 0,
-        new: 0,
         margin,
+        ..NOTHING
     };
     look::<Brand>(words, seat, queue_at(object), about)
 }
@@ -156,12 +130,11 @@ pub fn claim<L: Ledger>(
         by,
         to: object,
         pool,
-        block: 0,
         low: block,
         name,
         old,
-        new: 0,
         margin,
+        ..NOTHING
     };
     exchange::<Brand>(words, seat, queue_at(object), old, old + 1, about)
 }
@@ -188,15 +161,13 @@ pub fn lay(
     ensures told { LayTold object cell (record { pool = pool; block = block; name = name }) seat.old.me.0 value seat.new.me.0 }
 {
     let about = About {
-        by: 0,
         to: object,
         pool,
-        block: 0,
         low: block,
         name,
         old: u64::from(cell),
         new: value,
-        margin: None,
+        ..NOTHING
     };
     store::<Brand>(words, seat, cell_at(object, cell), value, about)
 }
@@ -210,51 +181,26 @@ pub fn look_at_cell(words: &Words, seat: &mut Seat<(), View>, object: u8, cell: 
     ensures still { seat.new.me.0 ≡ seat.old.me.0 }
 {
     let about = About {
-        by: 0,
         to: object,
-        pool: 0,
-        block: 0,
-        low: 0,
-        name: 0,
-        old: 0,
-        new: 0,
-        margin: None,
+        ..NOTHING
     };
     look::<Brand>(words, seat, cell_at(object, cell), about)
 }
 
 /// Empties the front cell, which the lane that serves the queue knows by its own counts, and answers what was found there.
-pub fn empty_front(
-    words: &Words,
-    seat: &mut Seat<(), View>,
-    object: u8,
-    cell: u16,
-    lifos: u64,
-    takes: u64,
-) -> u64
+pub fn empty_front(words: &Words, seat: &mut Seat<(), View>, object: u8, cell: u16) -> u64
     requires own { seat.old.table_id ≡ words.now.shared.table_id }
     requires wide { words.now.shared.table_id.words ≡ 21128 }
     requires object { IsTrue (is_object words.now.shared.key object) }
     requires low { (object < 33) × (cell < 256) }
-    requires front { cell ≡ front_cell words.now.shared.key object lifos takes }
-    requires log { 0 < length seat.old.me.0.logs }
-    requires serves { IsTrue (list_any (is_serve object) seat.old.me.0.serves) }
-    requires lifos { lifos ≡ records (is_lifo object) seat.old.me.0.logs }
-    requires takes { takes ≡ records (is_took object) seat.old.me.0.logs }
-    requires idle { many (on_queue object) seat.old.me.0.takes ≡ 0 }
+    requires front { KnowsFront words.now.shared.key object cell seat.old.me.0 }
     ensures same { (seat.new.table_id ≡ seat.old.table_id) × (seat.new.id ≡ seat.old.id) }
     ensures told { SwapTold words.now.shared.key object cell seat.old.me.0 result seat.new.me.0 }
 {
     let about = About {
-        by: 0,
         to: object,
-        pool: 0,
-        block: 0,
-        low: 0,
-        name: 0,
         old: u64::from(cell),
-        new: 0,
-        margin: None,
+        ..NOTHING
     };
     swap::<Brand>(words, seat, cell_at(object, cell), 0, about)
 }

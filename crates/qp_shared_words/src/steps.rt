@@ -26,7 +26,7 @@ impl TableRule<(), View, System> for Law {
 }
 
 /// What a step tells: of the view before, the number found and the view after. Its caller picks it.
-pub(crate) trait Tells {
+pub trait Tells {
     ghost tells: { View → ℕ → View → Type 0 };
 }
 
@@ -34,7 +34,7 @@ impl Tells for Brand {
     ghost tells = { λ v n u. Unit {0} };
 }
 
-pub(crate) struct Tell<T: Tells>(PhantomData<T>);
+pub struct Tell<T: Tells>(PhantomData<T>);
 
 impl<T: Tells> Play<(), View> for Tell<T> {
     ghost then = { λ st m n m'. T.tells m.0 n m'.0 };
@@ -45,7 +45,7 @@ pub type Words = Table<(), View, System, Law, Global>;
 
 /// What a step is about, for its proof alone: the object for which the lane works, a queue, a block or an entry, and numbers of the step. `low` is an entry's block or, of a static one, its signal.
 #[derive(Clone, Copy, Drop)]
-pub(crate) struct About {
+pub struct About {
     pub by: u8,
     pub to: u8,
     pub pool: u8,
@@ -57,13 +57,21 @@ pub(crate) struct About {
     pub margin: Option<u8>,
 }
 
+/// What a step is about that needs no more than its word.
+pub const NOTHING: About = About {
+    by: 0,
+    to: 0,
+    pool: 0,
+    block: 0,
+    low: 0,
+    name: 0,
+    old: 0,
+    new: 0,
+    margin: None,
+};
+
 /// Reads a word.
-pub(crate) fn look<T: Tells>(
-    words: &Words,
-    seat: &mut Seat<(), View>,
-    word: usize,
-    _about: About,
-) -> u64
+pub fn look<T: Tells>(words: &Words, seat: &mut Seat<(), View>, word: usize, _about: About) -> u64
     requires own { (seat.old.table_id ≡ words.now.shared.table_id) × (word < words.now.shared.table_id.words) }
     requires keeps { Steps words.now.shared.key seat.old.id seat.old.me.0 word (λ n. n) (T.tells seat.old.me.0) }
     ensures same { (seat.new.table_id ≡ seat.old.table_id) × (seat.new.id ≡ seat.old.id) }
@@ -89,7 +97,7 @@ pub(crate) fn look_again<T: Tells>(
 }
 
 /// Adds to a word.
-pub(crate) fn add<T: Tells>(
+pub fn add<T: Tells>(
     words: &Words,
     seat: &mut Seat<(), View>,
     word: usize,
@@ -105,7 +113,7 @@ pub(crate) fn add<T: Tells>(
 }
 
 /// Sets a word to `new` where it is `old`, and answers what was found.
-pub(crate) fn exchange<T: Tells>(
+pub fn exchange<T: Tells>(
     words: &Words,
     seat: &mut Seat<(), View>,
     word: usize,

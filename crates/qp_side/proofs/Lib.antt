@@ -5,3 +5,4 @@ pub mod Serving
 pub mod Permuting
 pub mod EndLemmas
 pub mod Finishing
+pub mod CrossingLemmas

@@ -7,9 +7,13 @@ fn shares<T: Sync>() {}
 
 fn goes<T: Send>() {}
 
-/// Threads share the side table. A seat may go to another thread, and so may the root.
+/// Threads share the side table, and the root may go to another thread.
 pub fn side_crosses_threads() {
     shares::<Side>();
-    goes::<SideSeat<'static>>();
     goes::<SideRoot>();
+}
+
+/// A seat may go to another thread.
+pub fn seats_cross_threads<'a>() {
+    goes::<SideSeat<'a>>();
 }

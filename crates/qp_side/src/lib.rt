@@ -10,6 +10,6 @@ mod stopping;
 mod timers;
 mod tries;
 
-pub use crossing::side_crosses_threads;
+pub use crossing::{seats_cross_threads, side_crosses_threads};
 pub use seat::SideSeat;
 pub use side::{Side, SideRoot};

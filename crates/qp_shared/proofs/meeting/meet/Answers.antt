@@ -5,6 +5,7 @@ use Rattle.qp_calls_meet.specs.Meeting.{Met}
 use Rattle.qp_shared_lane.specs.Holds.{LaneHolds, told_by}
 use Rattle.qp_shared_lane.specs.Lane.{standing, lane_with, world_in, state_view}
 use Rattle.qp_shared_lane.specs.declared.lane.LaneState.{LaneState}
+use Rattle.qp_shared_lane.proofs.Used.{ends-same}
 use Rattle.qp_shared_seats.specs.Seats.{IsOnePast}
 use Rattle.qp_shared_views.specs.Lane.{lane_of}
 use Rattle.qp_shared.proofs.Meetings.{met, joined-onlooker, same-table, lane-meets, lane-keeps}
@@ -28,6 +29,7 @@ invariant_of-lane c =
       key = l.key;
       side_key = l.side_key;
       rings_key = l.rings_key;
+      ended = ends-same l.ends.at l.seat.me.0 c.know_past.new.seat.me.0 (ap (λ (z : View). z.used) u) l.ended;
       holds = subst (λ z. LaneHolds l.sys.now l.count l.ceiling l.log l.numbers.list z l.side.seat.me.0) (sym u)
           (lane-keeps (world_in l) l.sys.now l.by l.count l.ceiling l.log l.numbers.list l.seat.me.0 o.seat.me.0 l.side.seat.me.0 (standing (world_in o) o.sys.now o.by o.log o.seat.me.0 o.side.seat.me.0) (told_by o.log o.numbers.list o.seat.me.0) o.log.spare
           c.requires.sys (subst (λ k. IsOnePast k (met l.seat.me.0 o.seat.me.0)) l.key past) l.holds);

@@ -1,8 +1,8 @@
-use Rattle.std.proofs.Common.{◌≡◌, ◌+◌, ◌∙◌, ap, sym, subst, arith}
+use Rattle.std.proofs.Common.{◌+◌, ap, sym, subst}
 use Rattle.qp_calls.specs.Clauses.{StandsHold}
 use Rattle.qp_shared_lane.specs.Lane.{state_view}
 use Rattle.qp_shared_blocks.proofs.Lanes.{held, held-place, held-known, hold-is}
-use Rattle.qp_shared_blocks.proofs.Reading.{still-holds, still-view, par-is}
+use Rattle.qp_shared_blocks.proofs.Reading.{still-ended, still-holds, still-view, par-is}
 use Rattle.qp_shared_blocks.proofs.events.par.Goals as goal
 
 stand : (c : goal.After-read_event-arg-1) → StandsHold (record { pool = c.pool-pool.result; block = c.block-block.result; name = c.name-name.result }) (state_view c.args.lane.now)
@@ -16,6 +16,9 @@ read_event-requires-clause-hand c = held c.args.lane.now (record { pool = c.pool
 
 pub read_event-requires-clause-known : goal.read_event-requires-clause-known
 read_event-requires-clause-known c = held-known c.args.lane.now (record { pool = c.pool-pool.result; block = c.block-block.result; name = c.name-name.result }) (stand c)
+
+pub invariant_of-lane-clause-ended : goal.invariant_of-lane-clause-ended
+invariant_of-lane-clause-ended c = still-ended c.args.lane.now c.read_event.new.seat.me.0 c.read_event.ensures.told.0
 
 pub invariant_of-lane-clause-holds : goal.invariant_of-lane-clause-holds
 invariant_of-lane-clause-holds c = still-holds c.args.lane.now c.read_event.new.seat.me.0 c.read_event.ensures.told.0

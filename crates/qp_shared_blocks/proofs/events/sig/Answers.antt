@@ -1,9 +1,9 @@
-use Rattle.std.proofs.Common.{◌≡◌, refl, sym, subst}
+use Rattle.std.proofs.Common.{refl, sym, subst}
 use Rattle.qp_calls.specs.Clauses.{StandsHold}
 use Rattle.qp_shared_views.specs.Lane.{lane_of}
 use Rattle.qp_shared_lane.specs.Lane.{state_view}
 use Rattle.qp_shared_blocks.proofs.Lanes.{held, held-place, held-known, hold-is}
-use Rattle.qp_shared_blocks.proofs.Reading.{still-holds, still-view, read-same, event-is, sig-is}
+use Rattle.qp_shared_blocks.proofs.Reading.{still-ended, still-holds, still-view, event-is, sig-is}
 use Rattle.qp_shared_blocks.proofs.events.sig.Goals as goal
 
 stand : (c : goal.After-read_event-arg-1) → StandsHold (record { pool = c.pool-pool.result; block = c.block-block.result; name = c.name-name.result }) (state_view c.args.lane.now)
@@ -17,6 +17,9 @@ read_event-found-requires-clause-hand c = held c.args.lane.now (record { pool = 
 
 pub read_event-found-requires-clause-known : goal.read_event-found-requires-clause-known
 read_event-found-requires-clause-known c = held-known c.args.lane.now (record { pool = c.pool-pool.result; block = c.block-block.result; name = c.name-name.result }) (stand c)
+
+pub invariant_of-lane-clause-ended : goal.invariant_of-lane-clause-ended
+invariant_of-lane-clause-ended c = still-ended c.args.lane.now c.read_event-found.new.seat.me.0 c.read_event-found.ensures.told.0
 
 pub invariant_of-lane-clause-holds : goal.invariant_of-lane-clause-holds
 invariant_of-lane-clause-holds c = still-holds c.args.lane.now c.read_event-found.new.seat.me.0 c.read_event-found.ensures.told.0

@@ -1,10 +1,11 @@
-use Rattle.std.proofs.Common.{◌≡◌, ◌≤◌, sym, subst, ◌∙◌, refl}
+use Rattle.std.proofs.Common.{◌≤◌, sym, subst, ◌∙◌}
 use Rattle.std.specs.Option.{unwrap_or}
 use Rattle.qp_model.specs.WordLaw.{is_pool}
 use Rattle.qp_table.specs.Rule.{IsContent}
 use Rattle.qp_calls.specs.Clauses.{event_of}
 use Rattle.std.specs.Bool.{IsTrue}
 use Rattle.qp_shared_blocks.proofs.Lanes.{spare-is, room}
+use Rattle.qp_shared_blocks.proofs.Used.{give-ended}
 use Rattle.qp_shared_blocks.proofs.Gives.{fits-pool, fits-small, fits-content, give-holds, give-out, give-tries, none-holds, none-given, none-tries, none-few}
 use Rattle.qp_shared_blocks.proofs.giving.give.Goals as goal
 
@@ -36,12 +37,20 @@ put-requires-in-None-clause-room g c = spare-is c.args.lane.now c.requires.room
 pub invariant_of-lane-clause-own : goal.invariant_of-lane-clause-own
 invariant_of-lane-clause-own g c = c.give_block-found.ensures.same.0 ∙ c.args.lane.now.own
 
+pub invariant_of-lane-clause-ended : goal.invariant_of-lane-clause-ended
+invariant_of-lane-clause-ended g c = let l = c.args.lane.now in
+    give-ended l.words.now.shared.key c.args.pool l.by c.args.reserve c.args.ev.now.sig c.args.ev.now.pars.items l.seat.me.0 c.give_block-found.result.0 c.give_block-found.result.1 c.give_block-found.new.seat.me.0 l.ends.at c.give_block-found.ensures.ends l.ended
+
 pub invariant_of-lane-clause-holds : goal.invariant_of-lane-clause-holds
 invariant_of-lane-clause-holds g c = give-holds c.args.lane.now c.args.pool c.args.reserve (event_of c.args.ev.now) c.give_block-found.result.0 c.give_block-found.result.1 c.in-Some.life c.in-Some.is c.give_block-found.new.seat.me.0 c.give_block-found.ensures.ends c.requires.fits
     c.put.new.log c.put.new.numbers.list c.new-rec.result c.from.result c.put.ensures.put (c.from.ensures ∙ c.free_by-free.ensures) c.new-rec.ensures
 
 pub invariant_of-lane-in-None-clause-own : goal.invariant_of-lane-in-None-clause-own
 invariant_of-lane-in-None-clause-own g c = c.give_block-found.ensures.same.0 ∙ c.args.lane.now.own
+
+pub invariant_of-lane-in-None-clause-ended : goal.invariant_of-lane-in-None-clause-ended
+invariant_of-lane-in-None-clause-ended g c = let l = c.args.lane.now in
+    give-ended l.words.now.shared.key c.args.pool l.by c.args.reserve c.args.ev.now.sig c.args.ev.now.pars.items l.seat.me.0 c.give_block-found.result.0 c.give_block-found.result.1 c.give_block-found.new.seat.me.0 l.ends.at c.give_block-found.ensures.ends l.ended
 
 pub invariant_of-lane-in-None-clause-holds : goal.invariant_of-lane-in-None-clause-holds
 invariant_of-lane-in-None-clause-holds g c = none-holds c.args.lane.now c.args.pool c.args.reserve (event_of c.args.ev.now) c.give_block-found.result.0 c.give_block-found.result.1 c.in-None.is c.give_block-found.new.seat.me.0 c.give_block-found.ensures.ends c.requires.fits

@@ -1,7 +1,8 @@
-use Rattle.std.proofs.Common.{◌≡◌, false, sym, subst, ◌∙◌}
+use Rattle.std.proofs.Common.{sym, subst, ◌∙◌}
 use Rattle.qp_calls.specs.Clauses.{StandsFresh}
 use Rattle.qp_shared_lane.specs.Lane.{state_view}
 use Rattle.qp_shared_blocks.proofs.Lanes.{spare-is, room, fresh, fresh-place, fresh-is}
+use Rattle.qp_shared_blocks.proofs.Used.{first-ended}
 use Rattle.qp_shared_blocks.proofs.Making.{first-holds, first-clause}
 use Rattle.qp_shared_blocks.proofs.references.first.Goals as goal
 
@@ -22,6 +23,10 @@ put-requires-clause-room c = spare-is c.args.lane.now c.requires.room
 
 pub invariant_of-lane-clause-own : goal.invariant_of-lane-clause-own
 invariant_of-lane-clause-own c = c.first_reference-found.ensures.same.0 ∙ c.args.lane.now.own
+
+pub invariant_of-lane-clause-ended : goal.invariant_of-lane-clause-ended
+invariant_of-lane-clause-ended c = let l = c.args.lane.now in
+    first-ended l.words.now.shared.key l.by c.pool-pool.result c.block-block.result l.seat.me.0 c.first_reference-found.new.seat.me.0 c.first_reference-found.result l.ends.at c.first_reference-found.ensures.told l.ended
 
 pub invariant_of-lane-clause-holds : goal.invariant_of-lane-clause-holds
 invariant_of-lane-clause-holds c = first-holds c.args.lane.now c.args.f c.pool-pool.result c.block-block.result (fresh-is c.pool-pool.result c.block-block.result c.args.f c.pool-pool.ensures c.block-block.ensures) c.requires.stands c.requires.unused

@@ -1,7 +1,8 @@
-use Rattle.std.proofs.Common.{◌≡◌, sym, subst, ◌∙◌}
+use Rattle.std.proofs.Common.{sym, subst, ◌∙◌}
 use Rattle.qp_calls.specs.Clauses.{StandsHold}
 use Rattle.qp_shared_lane.specs.Lane.{state_view}
 use Rattle.qp_shared_blocks.proofs.Lanes.{spare-is, room, held, held-place, hold-is}
+use Rattle.qp_shared_blocks.proofs.Used.{another-ended}
 use Rattle.qp_shared_blocks.proofs.Making.{inc-holds, inc-clause}
 use Rattle.qp_shared_blocks.proofs.references.inc.Goals as goal
 
@@ -22,6 +23,10 @@ put-requires-clause-room c = spare-is c.args.lane.now c.requires.room
 
 pub invariant_of-lane-clause-own : goal.invariant_of-lane-clause-own
 invariant_of-lane-clause-own c = c.another-found.ensures.same.0 ∙ c.args.lane.now.own
+
+pub invariant_of-lane-clause-ended : goal.invariant_of-lane-clause-ended
+invariant_of-lane-clause-ended c = let l = c.args.lane.now in
+    another-ended l.words.now.shared.key l.by c.pool-pool.result c.block-block.result l.seat.me.0 c.another-found.new.seat.me.0 c.another-found.result l.ends.at c.another-found.ensures.told l.ended
 
 pub invariant_of-lane-clause-holds : goal.invariant_of-lane-clause-holds
 invariant_of-lane-clause-holds c = inc-holds c.args.lane.now c.args.h.now c.pool-pool.result c.block-block.result c.name-name.result

@@ -6,8 +6,13 @@ use Rattle.qp_table.specs.Rule.{is_place}
 use Rattle.qp_shared_steps.specs.Told.{FreeTold}
 use Rattle.qp_shared_words.specs.Nils.{is_new}
 use Rattle.qp_shared_loops.specs.Ends.{KnowsEvent}
-use Rattle.qp_shared_loops.proofs.Taking.{seen-some, take-there, takes-it}
+use Rattle.qp_shared_loops.proofs.Taking.{knows-front, seen-some, take-there, takes-it}
 use Rattle.qp_shared_loops.proofs.takes.take_entry.Goals as goal
+
+pub empty_when_laid-entry-requires-clause-front : goal.empty_when_laid-entry-requires-clause-front
+empty_when_laid-entry-requires-clause-front g c = knows-front c.args.words.now.shared.key c.args.object c.args.ring c.front-cell.result c.args.seat.now.me.0 c.look_before_take-found.new.seat.me.0 c.look_before_take-found.result
+    (seen-some c.args.words.now.shared.key (is_new c.args.last) c.args.object c.args.seat.now.me.0 c.look_before_take-found.new.seat.me.0 c.look_before_take-found.result c.look_before_take-found.ensures.told c.if-found-lifos.false)
+    c.requires.room c.requires.serves c.requires.idle c.requires.ring c.front-cell.ensures.value
 
 pub free_entry-now-requires-clause-take : goal.free_entry-now-requires-clause-take
 free_entry-now-requires-clause-take g c =

@@ -1,5 +1,7 @@
-use Rattle.std.proofs.Common.{subst, ◌∙◌}
+use Rattle.std.proofs.Common.{ap, subst, ◌∙◌}
 use Rattle.qp_shared_steps.specs.Told.{SeenTold}
+use Rattle.qp_table.specs.declared.view.View.{View}
+use Rattle.qp_shared_lane.proofs.Used.{ends-same}
 use Rattle.qp_shared_queues.proofs.Lane.{object-key, spare-is, room}
 use Rattle.qp_shared_queues.proofs.Looking.{seen-holds, sees-for}
 use Rattle.qp_shared_queues.proofs.looks.seen.Goals as goal
@@ -15,6 +17,10 @@ put-requires-clause-room c = spare-is c.args.lane.now c.requires.room
 
 pub invariant_of-lane-clause-own : goal.invariant_of-lane-clause-own
 invariant_of-lane-clause-own c = c.see_queue-found.ensures.same.0 ∙ c.args.lane.now.own
+
+pub invariant_of-lane-clause-ended : goal.invariant_of-lane-clause-ended
+invariant_of-lane-clause-ended c = let l = c.args.lane.now in
+    ends-same l.ends.at l.seat.me.0 c.see_queue-found.new.seat.me.0 (ap (λ (z : View). z.used) c.see_queue-found.ensures.told.0) l.ended
 
 pub invariant_of-lane-clause-holds : goal.invariant_of-lane-clause-holds
 invariant_of-lane-clause-holds c = let l = c.args.lane.now in

@@ -9,6 +9,7 @@ use Rattle.qp_calls.specs.declared.answers.Counts as counts
 use Rattle.qp_shared_views.specs.Words.{value_seen}
 use Rattle.qp_shared_loops.specs.Ends.{PostFirstEnds}
 use Rattle.qp_shared_queues.specs.Bodies.{lifo_body}
+use Rattle.qp_shared_queues.proofs.Used.{lifo-ended}
 use Rattle.qp_shared_queues.proofs.Lane.{by-object-key, by-object-small, by-serves, idle, spare-is, room}
 use Rattle.qp_shared_queues.proofs.Entries.{stands-in, in-hand-by, codable-by}
 use Rattle.qp_shared_queues.proofs.Claiming.{AnswerIs}
@@ -47,6 +48,10 @@ put-requires-clause-room g c = spare-is c.args.lane.now c.requires.room
 
 pub invariant_of-lane-clause-own : goal.invariant_of-lane-clause-own
 invariant_of-lane-clause-own g c = c.post_entry_last_in-found.ensures.same.0 ∙ c.args.lane.now.own
+
+pub invariant_of-lane-clause-ended : goal.invariant_of-lane-clause-ended
+invariant_of-lane-clause-ended g c = let l = c.args.lane.now in
+    lifo-ended l.words.now.shared.key l.by (entry c.parts-pool.result.0 c.parts-pool.result.1 c.parts-pool.result.2) l.seat.me.0 c.post_entry_last_in-found.result.0 c.post_entry_last_in-found.result.1 c.post_entry_last_in-found.new.seat.me.0 l.ends.at c.post_entry_last_in-found.ensures.ends l.ended
 
 pub invariant_of-lane-clause-holds : goal.invariant_of-lane-clause-holds
 invariant_of-lane-clause-holds g c = let l = c.args.lane.now in

@@ -11,6 +11,7 @@ use Rattle.qp_calls_log.specs.Lane.{last_nil_in}
 use Rattle.qp_shared_lane.specs.Lane.{state_view}
 use Rattle.qp_shared_words.specs.Nils.{is_new}
 use Rattle.qp_shared_loops.specs.Ends.{TakeEnds}
+use Rattle.qp_shared_queues.proofs.Used.{take-ended}
 use Rattle.qp_shared_queues.proofs.Lane.{then_view, object-key, object-small, serves-there, idle, spare-is, room}
 use Rattle.qp_shared_queues.proofs.Taken.{take-holds, takes-it-for}
 use Rattle.qp_shared_queues.proofs.Nils.{last-is, again-holds, takes-again, nil-holds, takes-nil}
@@ -49,6 +50,10 @@ put_nil-requires-clause-room g c = spare-is c.args.lane.now c.requires.room
 pub invariant_of-lane-clause-own : goal.invariant_of-lane-clause-own
 invariant_of-lane-clause-own g c = c.take_entry-found.ensures.same.0 ∙ c.args.lane.now.own
 
+pub invariant_of-lane-clause-ended : goal.invariant_of-lane-clause-ended
+invariant_of-lane-clause-ended g c = let l = c.args.lane.now in
+    take-ended l.words.now.shared.key (is_new c.index-last.result.now) c.args.me l.seat.me.0 c.take_entry-found.result.0 c.take_entry-found.result.1 c.take_entry-found.new.seat.me.0 l.ends.at c.take_entry-found.ensures.ends l.ended
+
 pub invariant_of-lane-clause-holds : goal.invariant_of-lane-clause-holds
 invariant_of-lane-clause-holds g c = let l = c.args.lane.now in
     let ends = subst (λ (z : System × Option token.Entry). TakeEnds z.0 (is_new c.index-last.result.now) c.args.me l.seat.me.0 c.take_entry-found.result.0 z.1 c.take_entry-found.new.seat.me.0) (λ i. (l.key i, c.in-Some.is i)) c.take_entry-found.ensures.ends in
@@ -63,6 +68,10 @@ returns-in-Some g c = let l = c.args.lane.now in
 
 pub invariant_of-lane-then-tells-clause-own : goal.invariant_of-lane-then-tells-clause-own
 invariant_of-lane-then-tells-clause-own g c = c.take_entry-found.ensures.same.0 ∙ c.args.lane.now.own
+
+pub invariant_of-lane-then-tells-clause-ended : goal.invariant_of-lane-then-tells-clause-ended
+invariant_of-lane-then-tells-clause-ended g c = let l = c.args.lane.now in
+    take-ended l.words.now.shared.key (is_new c.index-last.result.now) c.args.me l.seat.me.0 c.take_entry-found.result.0 c.take_entry-found.result.1 c.take_entry-found.new.seat.me.0 l.ends.at c.take_entry-found.ensures.ends l.ended
 
 pub invariant_of-lane-then-tells-clause-holds : goal.invariant_of-lane-then-tells-clause-holds
 invariant_of-lane-then-tells-clause-holds g c = let l = c.args.lane.now in
@@ -83,6 +92,10 @@ returns-then-tells g c = let l = c.args.lane.now in
 
 pub invariant_of-lane-in-None-clause-own : goal.invariant_of-lane-in-None-clause-own
 invariant_of-lane-in-None-clause-own g c = c.take_entry-found.ensures.same.0 ∙ c.args.lane.now.own
+
+pub invariant_of-lane-in-None-clause-ended : goal.invariant_of-lane-in-None-clause-ended
+invariant_of-lane-in-None-clause-ended g c = let l = c.args.lane.now in
+    take-ended l.words.now.shared.key (is_new c.index-last.result.now) c.args.me l.seat.me.0 c.take_entry-found.result.0 c.take_entry-found.result.1 c.take_entry-found.new.seat.me.0 l.ends.at c.take_entry-found.ensures.ends l.ended
 
 pub invariant_of-lane-in-None-clause-holds : goal.invariant_of-lane-in-None-clause-holds
 invariant_of-lane-in-None-clause-holds g c = let l = c.args.lane.now in

@@ -30,6 +30,7 @@ invariant_of-lane c = record {
   key = c.args.lane.now.key;
   side_key = (λ i. (c.subscribe-rec.ensures.same.0 i).now.shared.key) ∙ c.args.lane.now.side_key;
   rings_key = c.args.lane.now.rings_key;
+  ended = c.args.lane.now.ended;
   holds = (subscribed c.args.lane.now c.subscribe-rec.new.self.seat.me.0 c.put.new.log c.put.new.numbers.list c.subscribe-rec.result 1 c.put.ensures.put c.put.ensures.spare c.args.sig (own-signal c.args.lane.now c.args.sig c.requires.signal) (own-object c.args.lane.now c.requires.serves) (c.subscribe-rec.result.kind == 31) refl (subst (λ k. Subscribes k c.args.lane.now.by c.args.sig c.args.lane.now.side.seat.me.0 c.subscribe-rec.result c.subscribe-rec.new.self.seat.me.0) c.args.lane.now.side_key c.subscribe-rec.ensures.subscribes)).0;
 }
 

@@ -25,6 +25,7 @@ invariant_of-lane c = record {
   key = c.args.lane.now.key;
   side_key = (λ i. (c.subscribers-rec.ensures.same.0 i).now.shared.key) ∙ c.args.lane.now.side_key;
   rings_key = c.args.lane.now.rings_key;
+  ended = c.args.lane.now.ended;
   holds = (reads c.args.lane.now c.subscribers-rec.new.self.seat.me.0 c.put.new.log c.put.new.numbers.list c.subscribers-rec.result 0 c.put.ensures.put c.put.ensures.spare c.args.sig (own-signal c.args.lane.now c.args.sig c.requires.signal) (get_or c.deref.result.now 2 0) (subst (λ k. ShowsSet k c.args.lane.now.by c.args.sig c.args.lane.now.side.seat.me.0 c.subscribers-rec.result c.subscribers-rec.new.self.seat.me.0) c.args.lane.now.side_key c.subscribers-rec.ensures.shows) (ap (λ xs. get_or xs 2 0) (c.deref.ensures.0 ∙ ap (λ (r : Rec). r.nums.items) c.subscribers-rec.ensures.shows.is))).0;
 }
 

@@ -30,6 +30,7 @@ invariant_of-lane c = record {
   key = c.args.lane.now.key;
   side_key = (λ i. (c.unsubscribe-rec.ensures.same.0 i).now.shared.key) ∙ c.args.lane.now.side_key;
   rings_key = c.args.lane.now.rings_key;
+  ended = c.args.lane.now.ended;
   holds = (unsubscribed c.args.lane.now c.unsubscribe-rec.new.self.seat.me.0 c.put.new.log c.put.new.numbers.list c.unsubscribe-rec.result 0 c.put.ensures.put c.put.ensures.spare c.args.sig (own-signal c.args.lane.now c.args.sig c.requires.signal) (own-object c.args.lane.now c.requires.serves) (c.unsubscribe-rec.result.kind == 32) refl (subst (λ k. Unsubscribes k c.args.lane.now.by c.args.sig c.args.lane.now.side.seat.me.0 c.unsubscribe-rec.result c.unsubscribe-rec.new.self.seat.me.0) c.args.lane.now.side_key c.unsubscribe-rec.ensures.unsubscribes)).0;
 }
 

@@ -28,6 +28,7 @@ invariant_of-lane g c = record {
   key = c.args.lane.now.key;
   side_key = (λ i. (c.arm-rec.ensures.same.0 i).now.shared.key) ∙ c.args.lane.now.side_key;
   rings_key = c.args.lane.now.rings_key;
+  ended = c.args.lane.now.ended;
   holds = (arms c.args.lane.now c.arm-rec.new.self.seat.me.0 c.put.new.log c.put.new.numbers.list c.arm-rec.result 0 c.put.ensures.put c.put.ensures.spare c.args.t c.args.ticks c.args.interval (subst (λ b. MatchBool b (IsArmed c.args.lane.now.sys.now c.args.lane.now.by c.args.t c.args.ticks c.args.interval c.args.lane.now.side.seat.me.0 c.arm-rec.result c.arm-rec.new.self.seat.me.0) (WasArmed c.args.lane.now.sys.now c.args.lane.now.by c.args.t c.args.lane.now.side.seat.me.0 c.arm-rec.result c.arm-rec.new.self.seat.me.0)) (eq-eqb c.arm-rec.result.kind 34 c.if-rec-eq-ARM.true) (subst (λ k. ArmsTimer k c.args.lane.now.by c.args.t c.args.ticks c.args.interval c.args.lane.now.side.seat.me.0 c.arm-rec.result c.arm-rec.new.self.seat.me.0) c.args.lane.now.side_key c.arm-rec.ensures.arms))).0;
 }
 
@@ -52,6 +53,7 @@ invariant_of-lane-2 g c = record {
   key = c.args.lane.now.key;
   side_key = (λ i. (c.arm-rec.ensures.same.0 i).now.shared.key) ∙ c.args.lane.now.side_key;
   rings_key = c.args.lane.now.rings_key;
+  ended = c.args.lane.now.ended;
   holds = (arms-not c.args.lane.now c.arm-rec.new.self.seat.me.0 c.put-2.new.log c.put-2.new.numbers.list c.arm-rec.result 0 c.put-2.ensures.put c.put-2.ensures.spare c.args.t c.args.ticks c.args.interval (get_or c.deref.result.now 2 0) (get_or c.deref-2.result.now 3 0) (subst (λ b. MatchBool b (IsArmed c.args.lane.now.sys.now c.args.lane.now.by c.args.t c.args.ticks c.args.interval c.args.lane.now.side.seat.me.0 c.arm-rec.result c.arm-rec.new.self.seat.me.0) (WasArmed c.args.lane.now.sys.now c.args.lane.now.by c.args.t c.args.lane.now.side.seat.me.0 c.arm-rec.result c.arm-rec.new.self.seat.me.0)) (ne_eqb c.arm-rec.result.kind 34 c.if-rec-eq-ARM.false) (subst (λ k. ArmsTimer k c.args.lane.now.by c.args.t c.args.ticks c.args.interval c.args.lane.now.side.seat.me.0 c.arm-rec.result c.arm-rec.new.self.seat.me.0) c.args.lane.now.side_key c.arm-rec.ensures.arms)) (ap (λ xs. get_or xs 2 0) (c.deref.ensures.0 ∙ ap (λ (r : Rec). r.nums.items) (subst (λ b. MatchBool b (IsArmed c.args.lane.now.sys.now c.args.lane.now.by c.args.t c.args.ticks c.args.interval c.args.lane.now.side.seat.me.0 c.arm-rec.result c.arm-rec.new.self.seat.me.0) (WasArmed c.args.lane.now.sys.now c.args.lane.now.by c.args.t c.args.lane.now.side.seat.me.0 c.arm-rec.result c.arm-rec.new.self.seat.me.0)) (ne_eqb c.arm-rec.result.kind 34 c.if-rec-eq-ARM.false) (subst (λ k. ArmsTimer k c.args.lane.now.by c.args.t c.args.ticks c.args.interval c.args.lane.now.side.seat.me.0 c.arm-rec.result c.arm-rec.new.self.seat.me.0) c.args.lane.now.side_key c.arm-rec.ensures.arms)).is)) (ap (λ xs. get_or xs 3 0) (c.deref-2.ensures.0 ∙ ap (λ (r : Rec). r.nums.items) (subst (λ b. MatchBool b (IsArmed c.args.lane.now.sys.now c.args.lane.now.by c.args.t c.args.ticks c.args.interval c.args.lane.now.side.seat.me.0 c.arm-rec.result c.arm-rec.new.self.seat.me.0) (WasArmed c.args.lane.now.sys.now c.args.lane.now.by c.args.t c.args.lane.now.side.seat.me.0 c.arm-rec.result c.arm-rec.new.self.seat.me.0)) (ne_eqb c.arm-rec.result.kind 34 c.if-rec-eq-ARM.false) (subst (λ k. ArmsTimer k c.args.lane.now.by c.args.t c.args.ticks c.args.interval c.args.lane.now.side.seat.me.0 c.arm-rec.result c.arm-rec.new.self.seat.me.0) c.args.lane.now.side_key c.arm-rec.ensures.arms)).is))).0;
 }
 

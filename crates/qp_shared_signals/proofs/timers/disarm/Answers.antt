@@ -27,6 +27,7 @@ invariant_of-lane g c = record {
   key = c.args.lane.now.key;
   side_key = (λ i. (c.disarm-rec.ensures.same.0 i).now.shared.key) ∙ c.args.lane.now.side_key;
   rings_key = c.args.lane.now.rings_key;
+  ended = c.args.lane.now.ended;
   holds = (disarms-not c.args.lane.now c.disarm-rec.new.self.seat.me.0 c.put.new.log c.put.new.numbers.list c.disarm-rec.result 0 c.put.ensures.put c.put.ensures.spare c.args.t (subst (λ b. MatchBool b (IsDisarmed c.args.lane.now.sys.now c.args.lane.now.by c.args.t c.args.lane.now.side.seat.me.0 c.disarm-rec.result c.disarm-rec.new.self.seat.me.0) (IsIdle c.args.lane.now.sys.now c.args.lane.now.by c.args.t c.args.lane.now.side.seat.me.0 c.disarm-rec.result c.disarm-rec.new.self.seat.me.0)) (ne_eqb c.disarm-rec.result.kind 35 c.if-rec-ne-DISARM.true) (subst (λ k. DisarmsTimer k c.args.lane.now.by c.args.t c.args.lane.now.side.seat.me.0 c.disarm-rec.result c.disarm-rec.new.self.seat.me.0) c.args.lane.now.side_key c.disarm-rec.ensures.disarms))).0;
 }
 
@@ -51,6 +52,7 @@ invariant_of-lane-2 g c = record {
   key = c.args.lane.now.key;
   side_key = (λ i. (c.disarm-rec.ensures.same.0 i).now.shared.key) ∙ c.args.lane.now.side_key;
   rings_key = c.args.lane.now.rings_key;
+  ended = c.args.lane.now.ended;
   holds = (disarms c.args.lane.now c.disarm-rec.new.self.seat.me.0 c.put-2.new.log c.put-2.new.numbers.list c.disarm-rec.result 0 c.put-2.ensures.put c.put-2.ensures.spare c.args.t (get_or c.deref.result.now 2 0) (subst (λ b. MatchBool b (IsDisarmed c.args.lane.now.sys.now c.args.lane.now.by c.args.t c.args.lane.now.side.seat.me.0 c.disarm-rec.result c.disarm-rec.new.self.seat.me.0) (IsIdle c.args.lane.now.sys.now c.args.lane.now.by c.args.t c.args.lane.now.side.seat.me.0 c.disarm-rec.result c.disarm-rec.new.self.seat.me.0)) (eq-eqb c.disarm-rec.result.kind 35 c.if-rec-ne-DISARM.false) (subst (λ k. DisarmsTimer k c.args.lane.now.by c.args.t c.args.lane.now.side.seat.me.0 c.disarm-rec.result c.disarm-rec.new.self.seat.me.0) c.args.lane.now.side_key c.disarm-rec.ensures.disarms)) (ap (λ xs. get_or xs 2 0) (c.deref.ensures.0 ∙ ap (λ (r : Rec). r.nums.items) (subst (λ b. MatchBool b (IsDisarmed c.args.lane.now.sys.now c.args.lane.now.by c.args.t c.args.lane.now.side.seat.me.0 c.disarm-rec.result c.disarm-rec.new.self.seat.me.0) (IsIdle c.args.lane.now.sys.now c.args.lane.now.by c.args.t c.args.lane.now.side.seat.me.0 c.disarm-rec.result c.disarm-rec.new.self.seat.me.0)) (eq-eqb c.disarm-rec.result.kind 35 c.if-rec-ne-DISARM.false) (subst (λ k. DisarmsTimer k c.args.lane.now.by c.args.t c.args.lane.now.side.seat.me.0 c.disarm-rec.result c.disarm-rec.new.self.seat.me.0) c.args.lane.now.side_key c.disarm-rec.ensures.disarms)).is))).0;
 }
 

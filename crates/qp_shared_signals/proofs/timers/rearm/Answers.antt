@@ -26,6 +26,7 @@ invariant_of-lane g c = record {
   key = c.args.lane.now.key;
   side_key = (λ i. (c.rearm-rec.ensures.same.0 i).now.shared.key) ∙ c.args.lane.now.side_key;
   rings_key = c.args.lane.now.rings_key;
+  ended = c.args.lane.now.ended;
   holds = (rearms c.args.lane.now c.rearm-rec.new.self.seat.me.0 c.put.new.log c.put.new.numbers.list c.rearm-rec.result 0 c.put.ensures.put c.put.ensures.spare c.args.t c.args.ticks (get_or c.deref.result.now 2 0) (subst (λ k. RearmsTimer k c.args.lane.now.by c.args.t c.args.ticks c.args.lane.now.side.seat.me.0 c.rearm-rec.result c.rearm-rec.new.self.seat.me.0) c.args.lane.now.side_key c.rearm-rec.ensures.rearms) (ap (λ xs. get_or xs 2 0) (c.deref.ensures.0 ∙ ap (λ (r : Rec). r.nums.items) (subst (λ k. RearmsTimer k c.args.lane.now.by c.args.t c.args.ticks c.args.lane.now.side.seat.me.0 c.rearm-rec.result c.rearm-rec.new.self.seat.me.0) c.args.lane.now.side_key c.rearm-rec.ensures.rearms).is))).0;
 }
 

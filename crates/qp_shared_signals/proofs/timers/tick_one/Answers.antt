@@ -25,6 +25,7 @@ invariant_of-lane g c = record {
   key = c.args.lane.now.key;
   side_key = (λ i. (c.tick_one-rec.ensures.same.0 i).now.shared.key) ∙ c.args.lane.now.side_key;
   rings_key = c.args.lane.now.rings_key;
+  ended = c.args.lane.now.ended;
   holds = (ticks c.args.lane.now c.tick_one-rec.new.self.seat.me.0 c.put.new.log c.put.new.numbers.list c.tick_one-rec.result 0 c.put.ensures.put c.put.ensures.spare c.args.t c.tick_by-answer.result (c.tick_one-rec.result.kind == 37) (c.tick_one-rec.result.kind == 39) c.tick_by-answer.ensures.idle c.tick_by-answer.ensures.fired c.tick_by-answer.ensures.down (subst (λ k. TicksTimer k c.args.lane.now.by c.args.t c.args.lane.now.side.seat.me.0 c.tick_one-rec.result c.tick_one-rec.new.self.seat.me.0) c.args.lane.now.side_key c.tick_one-rec.ensures.ticks)).0;
 }
 

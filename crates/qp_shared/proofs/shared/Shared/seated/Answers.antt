@@ -1,7 +1,10 @@
 use Rattle.std.proofs.Common.{refl, ap, sym, subst, length, ◌∙◌}
 use Rattle.qp_model.specs.Sound.{IsSound}
 use Rattle.qp_side_words.specs.declared.SideView.{SideView}
+use Rattle.qp_table.specs.declared.view.View.{View}
 use Rattle.qp_shared_views.specs.Lane.{lane_of}
+use Rattle.qp_shared_lane.specs.Used.{HasEnds}
+use Rattle.qp_shared_lane.proofs.Used.{ends-none}
 use Rattle.qp_shared.specs.Starting.{world_name}
 use Rattle.qp_shared.proofs.First.{holds-at, starts-at, side-fitting}
 use Rattle.qp_shared.proofs.shared.Shared.seated.Goals as goal
@@ -22,6 +25,7 @@ invariant_of-result-2 c = record {
   key = c.args.self.now.key;
   side_key = c.args.self.now.side_key;
   rings_key = c.of.ensures;
+  ended = subst (HasEnds c.none.result.at) (sym (ap (λ (z : View). z.used) c.requires.views.table)) (ends-none c.none.result.at);
   holds = holds-at c.args.self.now.sys.now c.requires.sound c.args.count c.args._number c.args.log c.requires.bare c.new.result.list c.new.ensures c.args.seat.me.0 c.args.side.me.0 c.requires.views;
 }
 
