@@ -1,8 +1,9 @@
 //! Calls of a lane that no run of a system makes, and a meeting.
 
-ghost use Rattle.std.specs.Prelude.{◌≡◌, ◌<◌, IsTrue, true};
+ghost use Rattle.std.specs.Prelude.{◌≡◌, ◌+◌, ◌<◌, ◌≤◌, IsTrue, true};
 ghost use Rattle.qp_model.specs.Sound.{IsSound};
 ghost use Rattle.qp_model.specs.WordLaw.{is_object};
+ghost use Rattle.qp_model.specs.declared.words.Word.TheVariants as word;
 ghost use Rattle.qp_calls.specs.Clauses.{FitsPool, event_of};
 ghost use Rattle.qp_calls_meet.specs.Meeting.{IsTogether};
 ghost use Rattle.qp_shared_tests.specs.Lanes.{IsSame};
@@ -37,12 +38,13 @@ fn post_go<O: Ops, L: Ledger>(ops: &mut O, sys: &System, blank: Blank) -> bool
     matches!(post_static(ops, 1, 4, None, &mut steps), Ok(Did::Value(1)))
 }
 
-/// What the queue of an object shows to a lane that has met another.
+/// What the queue of an object shows to a lane that has met another: all that the other has seen of it.
 fn counts_behind<O: Meets>(ops: &mut O, other: &mut O, p: u8) -> Counts
     requires object { IsTrue (is_object (O.lane ops.old).sys p) }
     requires together { IsTogether (O.lane ops.old) (O.lane other.old) }
     ensures lane { IsSame (O.lane ops.old) (O.lane ops.new) }
     ensures other { IsSame (O.lane other.old) (O.lane other.new) }
+    ensures shown { (O.lane other.old).mark (word.Queue p) ≤ result.f + result.l + result.m }
 {
     ops.meet(other);
     ops.counts(p)

@@ -82,6 +82,48 @@ const ROWS: &[Row] = &[
         end: 3,
     },
     Row {
+        name: "a give refused at its reserve",
+        file: File::One(
+            3,
+            0,
+            1,
+            "state = [{ name = 's', row = [{ on = 'GO', do = ['post me N(1)', 'post me N(2) reserve 0', 'say ok'] }] }]",
+        ),
+        stimuli: "source 1\npost lamp GO\n",
+        looks: false,
+        kernel: "took 1 1 0 1 0 4 0, run 1 1 1, new 1 1 0 0 0 5 1, inc 1 1 0 0, post 1 1 2 0 1 1 0 0, short 1 1 1 0 0, say 1 0, done 1, took 1 2 0 2 1 0 0, none 1, done 1, dec 1 1 0 1 0, back 1 1 1 0 2",
+        source: "stim 0 1 0, post 0 1 1 0 0 0 4 0",
+        end: 0,
+    },
+    Row {
+        name: "an assertion of a pool",
+        file: File::One(
+            3,
+            0,
+            1,
+            "state = [{ name = 's', row = [{ on = 'GO', do = ['post me N(1)', 'post me N(2)', 'say ok'] }] }]",
+        ),
+        stimuli: "source 1\npost lamp GO\n",
+        looks: false,
+        kernel: "took 1 1 0 1 0 4 0, run 1 1 1, new 1 1 0 0 0 5 1, inc 1 1 0 0, post 1 1 2 0 1 1 0 0, assert 1 2 1 1 0",
+        source: "stim 0 1 0, post 0 1 1 0 0 0 4 0",
+        end: 3,
+    },
+    Row {
+        name: "an assertion of a last-in post",
+        file: File::One(
+            0,
+            0,
+            2,
+            "state = [{ name = 's', row = [{ on = 'GO', do = ['post me X', 'lifo X'] }] }]",
+        ),
+        stimuli: "source 1\npost lamp GO\n",
+        looks: false,
+        kernel: "took 1 1 0 1 0 4 0, run 1 1 1, post 1 1 2 0 1 0 6 0, assert 1 5 1 2 0 1",
+        source: "stim 0 1 0, post 0 1 1 0 0 0 4 0",
+        end: 3,
+    },
+    Row {
         name: "time events",
         file: File::One(
             3,
