@@ -1,11 +1,13 @@
 -- Lanes as their table gave them out, and players behind their turns.
-use Rattle.std.proofs.Common.{◌≡◌, ℕ, suc, ◌+◌, Bool, true, List, [], ◌∷◌, ◌++◌, length, take, drop, slice_get, refl, ◌∙◌, ap, subst, arith, Some, length-append}
+use Rattle.std.proofs.Common.{◌≡◌, ℕ, zero, suc, ◌+◌, ◌<◌, ◌==◌, Bool, true, List, [], ◌∷◌, ◌++◌, length, take, drop, slice_get, refl, sym, ◌∙◌, ap, subst, arith, Some, length-append}
+use Rattle.std.specs.List.{count_by}
 use Rattle.qp_base.specs.declared.event.Ev.{Ev}
 use Rattle.qp_model.specs.declared.systems.System.{System}
 use Rattle.qp_model.specs.WordLaw.{is_object}
 use Rattle.qp_calls.specs.LaneView.{LaneView}
 use Rattle.qp_port_workers.specs.Turns.{TurnEach}
 use Rattle.qp_shared.specs.declared.shared.Shared.{Shared}
+use Rattle.qp_shared.specs.Ending.{AreAll}
 use Rattle.qp_shared.specs.Starting.{AreFirst, serves_one}
 use Rattle.qp_shared_tests.specs.Lanes.{IsLaneOf, IsPlayer, IsSame, MayPlay}
 
@@ -31,6 +33,35 @@ first-plays s sys ev i me to vs v its h at serves mine other may =
       event = may.event;
       pooled = may.pooled;
     }
+
+-- Lanes that are all of their tables.
+
+each-of-two : (n : ℕ) → n < 2 → count_by (λ (k : ℕ). k == n) (0 ∷ 1 ∷ []) ≡ 1
+each-of-two zero few = refl
+each-of-two (suc zero) few = refl
+each-of-two (suc (suc n)) few = absurd (omega (arith, few))
+
+pub all-two : (s : Shared) (a b : LaneView) → IsLaneOf s 2 0 a → IsLaneOf s 2 1 b → AreAll s (a ∷ b ∷ [])
+all-two s a b x y = record {
+  some = omega arith;
+  worlds = (x.world, (y.world, tt));
+  systems = (x.sys, (y.sys, tt));
+  once = λ n few. subst (λ (ks : List ℕ). count_by (λ (k : ℕ). k == n) ks ≡ 1) (λ i. sym x.number i ∷ sym y.number i ∷ []) (each-of-two n few);
+}
+
+each-of-three : (n : ℕ) → n < 3 → count_by (λ (k : ℕ). k == n) (2 ∷ 0 ∷ 1 ∷ []) ≡ 1
+each-of-three zero few = refl
+each-of-three (suc zero) few = refl
+each-of-three (suc (suc zero)) few = refl
+each-of-three (suc (suc (suc n))) few = absurd (omega (arith, few))
+
+pub all-three : (s : Shared) (a b c : LaneView) → IsLaneOf s 3 0 a → IsLaneOf s 3 1 b → IsLaneOf s 3 2 c → AreAll s (c ∷ a ∷ b ∷ [])
+all-three s a b c x y z = record {
+  some = omega arith;
+  worlds = (z.world, (x.world, (y.world, tt)));
+  systems = (z.sys, (x.sys, (y.sys, tt)));
+  once = λ n few. subst (λ (ks : List ℕ). count_by (λ (k : ℕ). k == n) ks ≡ 1) (λ i. sym z.number i ∷ sym x.number i ∷ sym y.number i ∷ []) (each-of-three n few);
+}
 
 -- Two that took their turns.
 
