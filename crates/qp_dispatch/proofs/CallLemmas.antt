@@ -11,7 +11,7 @@ use Rattle.qp_model.specs.declared.systems.System.{System}
 use Rattle.qp_model.specs.declared.bodies.Entry as model
 use Rattle.qp_model.specs.Told.{Told, Event}
 use Rattle.qp_model.specs.Calls as call
-use Rattle.qp_model.specs.Calls.{Call, Calls, bits_of, deed_of, object_of, values_of, Answer, Granted, Refused, Flushed, AtQueue, AtPool, AtTimer, AtTicks, AtFront, is_assertion}
+use Rattle.qp_model.specs.Calls.{Call, Calls, bits_of, deed_of, object_of, values_of, Answer, Granted, Refused, Flushed, is_assertion}
 use Rattle.qp_model.specs.Deferral.{KeepsDeferred}
 use Rattle.qp_model.specs.Shapes.{Fits}
 use Rattle.qp_calls.specs.declared.answers.RoomFault.{RoomFault}

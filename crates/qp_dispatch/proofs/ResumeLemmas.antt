@@ -1,5 +1,5 @@
 -- Steps that go on, by runs of their agendas.
-use Rattle.std.proofs.Common.{◌≡◌, ℕ, zero, suc, ◌+◌, ◌-◌, ◌≤◌, true, false, List, [], ◌∷◌, ◌++◌, map, length, take, slice_get, refl, sym, ◌∙◌, ap, subst, arith, inl, inr, Option, Some, None, append_assoc, append-nil}
+use Rattle.std.proofs.Common.{◌≡◌, ℕ, zero, suc, ◌+◌, ◌-◌, ◌≤◌, true, List, [], ◌∷◌, ◌++◌, map, length, take, slice_get, refl, sym, ◌∙◌, ap, subst, arith, inl, inr, Option, Some, None, append_assoc, append-nil}
 use Rattle.std.specs.List.{AllByRecursion, list_all}
 use Rattle.std.specs.Option.{option_map_or}
 use Rattle.qp_chart.specs.Expr.{Names}
@@ -9,11 +9,9 @@ use Rattle.qp_chart.specs.Task.{Task}
 use Rattle.qp_model.specs.declared.systems.SignalDef.{SignalDef}
 use Rattle.qp_model.specs.Sound.{IsSound}
 use Rattle.qp_model.specs.declared.systems.System.{System}
-use Rattle.qp_model.specs.declared.record.Rec.{Rec}
 use Rattle.qp_model.specs.declared.bodies.Entry as model
 use Rattle.qp_model.specs.declared.bodies.Body.TheVariants as item
-use Rattle.qp_model.specs.Record.{item_of}
-use Rattle.qp_model.specs.Told.{Told, Event, plain, for_object}
+use Rattle.qp_model.specs.Told.{Told, Event, plain}
 use Rattle.qp_model.specs.Shapes.{Drops, releases_by}
 use Rattle.qp_model.specs.Pieces.{Piece, Point, bare, tell}
 use Rattle.qp_model.specs.Acts.{Config, Actor}
@@ -26,14 +24,12 @@ use Rattle.qp_model.proofs.StepLemmas.{advances-reaches, goes_on-done, goes_on-f
 use Rattle.qp_calls.specs.declared.tokens.Entry.{Entry}
 use Rattle.qp_calls.specs.Tokens.{Token, hands_after, hands_by}
 use Rattle.qp_calls.specs.LaneView.{LaneView, Grows, GrowsOf}
-use Rattle.qp_calls.specs.Notes.{MayNote, spills_told, told_note}
 use Rattle.qp_calls.specs.Clauses.{Stops, entry_of, event_of, params_of}
 use Rattle.qp_calls.specs.Entries.{Released}
 use Rattle.qp_calls.specs.Deferring.{ChangeAlike, StandAll, is_named, kept_in, tokens_in}
 use Rattle.qp_calls.specs.Counting.{times, count_of}
 use Rattle.qp_calls.proofs.CountLemmas.{stand-same}
 use Rattle.qp_calls.proofs.Growing.{grows-then}
-use Rattle.qp_calls.proofs.NoteLemmas.{last-snoc, spill-body, spilled}
 use Rattle.qp_dispatch.specs.declared.lasting.Lasting.{Lasting}
 use Rattle.qp_dispatch.specs.declared.part.Under.{Under}
 use Rattle.qp_dispatch.specs.declared.runs.Left.{Left}

@@ -1,23 +1,12 @@
 -- Where no source may act at the base and all queues are empty, all stimuli are done.
-use Rattle.std.proofs.Common.{◌≡◌, ◌≢◌, ℕ, zero, suc, ◌+◌, ◌-◌, ◌<◌, ◌==◌, Bool, true, false, ◌&&◌, cond, List, [], ◌∷◌, ◌++◌, map, length, take, drop, refl, sym, ◌∙◌, ap, arith, inl, inr, Option, Some, None}
-use Rattle.std.specs.List.{count_by, find, enumerate_from}
-use Rattle.std.specs.Option.{option_map, is_some}
-use Rattle.std.proofs.lemmas.Bool.Decides.{nat_tests}
-use Rattle.std.proofs.lemmas.List.Sums.{sum_by-cons}
+use Rattle.std.proofs.Common.{◌≡◌, ℕ, zero, suc, ◌+◌, ◌-◌, Bool, true, false, ◌&&◌, cond, List, [], ◌∷◌, ◌++◌, map, length, take, drop, refl, sym, ◌∙◌, ap, Option, Some, None}
+use Rattle.std.specs.List.{find, enumerate_from}
+use Rattle.std.specs.Option.{option_map}
 use Rattle.qp_model.specs.declared.stimulus.Stim.{Stim}
 use Rattle.qp_model.specs.declared.stimulus.Stim.TheVariants as stim
 use Rattle.qp_model.specs.declared.systems.System.{System}
 use Rattle.qp_model.specs.declared.bodies.Body.TheVariants as body
-use Rattle.qp_model.specs.Record.{Item}
-use Rattle.qp_model.specs.Told.{Told, plain, for_object}
-use Rattle.qp_model.specs.Knowing.{told_alone}
-use Rattle.qp_model.specs.Sources.{SourceRuns, AllDone, EndsIn, StimFits}
-use Rattle.qp_model.specs.OneOrder.{Placed, Turn, stim_of, is_stim, begun, acted_last, all_empty, may_act, left_after, turned, acts_next}
-use Rattle.qp_calls.specs.LaneView.{Happening}
-use Rattle.qp_model_order.specs.Placing.{all_placed, AreBehind}
-use Rattle.qp_model_order.specs.Stimulus.{source_items}
-use Rattle.qp_model_order.proofs.OrderLaws.{stimuli_are_their_own}
-use Rattle.qp_kernel.proofs.HappeningLemmas.{begun-told, runs-count}
+use Rattle.qp_model.specs.OneOrder.{Placed, begun, acted_last, all_empty, may_act, left_after, turned, acts_next}
 
 -- nothing is left behind as many as were done
 pub take-all : {A : Type 0} (n : ℕ) (xs : List A) → drop (length (take n xs)) xs ≡ [] → take n xs ≡ xs

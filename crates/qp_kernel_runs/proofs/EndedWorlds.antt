@@ -1,14 +1,11 @@
 -- What a world of `sim` leaves.
-use Rattle.std.proofs.Common.{◌≡◌, ℕ, ◌+◌, List, sym, ◌∙◌, ap, subst, IsTrue, refl}
+use Rattle.std.proofs.Common.{◌≡◌, List, sym, ◌∙◌, ap, subst, refl}
 use Rattle.std.specs.List.{count_by}
 use Rattle.qp_model.specs.declared.record.Rec.{Rec}
 use Rattle.qp_model.specs.declared.stimulus.Stim.{Stim}
 use Rattle.qp_model.specs.declared.systems.System.{System}
 use Rattle.qp_model.specs.OneOrder.{Placed, enters, leaves}
-use Rattle.qp_model.specs.WordLaw.{is_object}
-use Rattle.qp_plain_sound.specs.WordStates.{line_in}
 use Rattle.qp_plain_sound.proofs.EntryCounts.{entered-counts, left-counts}
-use Rattle.qp_kernel.specs.Happenings.{order_of}
 use Rattle.qp_kernel_sim.specs.declared.world.SimWorld.{SimWorld}
 use Rattle.qp_kernel_sim.specs.SimView.{sim_view}
 use Rattle.qp_kernel_sim.specs.SimEnded.{IsSimEnded}

@@ -1,16 +1,14 @@
 -- The journal that a run leaves, and what it begins with.
-use Rattle.std.proofs.Common.{◌≡◌, ◌≢◌, ℕ, ◌==◌, Bool, true, false, ◌||◌, cond, List, [], refl, sym, ◌∙◌, ap, subst, arith}
+use Rattle.std.proofs.Common.{◌≡◌, ◌≢◌, ℕ, ◌==◌, Bool, true, false, cond, List, refl, sym, ◌∙◌, ap, subst, arith}
 use Rattle.std.specs.List.{list_any}
 use Rattle.std.proofs.lemmas.Bool.Decides.{nat_tests}
 use Rattle.qp_model.specs.declared.record.Rec.{Rec}
 use Rattle.qp_model.specs.declared.stimulus.Stim.{Stim}
 use Rattle.qp_model.specs.declared.systems.System.{System}
-use Rattle.qp_model.specs.declared.journals.Journal.{Journal}
 use Rattle.qp_model.specs.Record.{Item}
 use Rattle.qp_model.specs.Ends.{is_assert, is_end, may_cut}
 use Rattle.qp_model.specs.End.{end_of}
 use Rattle.qp_model.specs.History.{all_items}
-use Rattle.qp_model.specs.Sound.{IsSound}
 use Rattle.qp_stim.specs.Rules.{StimuliFit}
 use Rattle.qp_calls.specs.LaneView.{IsNew, LaneView}
 use Rattle.qp_kernel_end.specs.declared.journal.Outcome.{Outcome}
@@ -18,11 +16,9 @@ use Rattle.qp_kernel_end.specs.Outcome.{end_by, outcome_of}
 use Rattle.qp_kernel_end.proofs.OutcomeLemmas.{its-end}
 use Rattle.qp_plain.specs.declared.world.PlainWorld.{PlainWorld}
 use Rattle.qp_plain.specs.NewWorld.{IsNewWorld}
-use Rattle.qp_plain.specs.WorldView.{world_view}
 use Rattle.qp_plain_sound.specs.View.{view_of}
 use Rattle.qp_kernel_sim.specs.declared.world.SimWorld.{SimWorld}
 use Rattle.qp_kernel_sim.specs.NewSim.{IsSim}
-use Rattle.qp_kernel_sim.specs.Seating.{seated}
 use Rattle.qp_kernel_sim.specs.SimView.{sim_view}
 use Rattle.qp_kernel_turns.specs.declared.objects.Objects.{Objects}
 use Rattle.qp_kernel_turns.specs.Objects.{AreMade}

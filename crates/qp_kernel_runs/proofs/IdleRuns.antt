@@ -1,5 +1,5 @@
 -- A run that comes to its end by itself leaves a lawful journal.
-use Rattle.std.proofs.Common.{◌≡◌, ℕ, ◌+◌, ◌<◌, ◌==◌, Bool, true, false, ◌&&◌, ◌≤◌, cond, List, [], ◌∷◌, map, length, take, drop, refl, sym, ◌∙◌, ap, subst, arith, IsTrue, Option, Some, None}
+use Rattle.std.proofs.Common.{◌≡◌, ℕ, ◌+◌, ◌<◌, ◌==◌, Bool, true, false, ◌≤◌, cond, List, [], ◌∷◌, map, length, take, drop, refl, sym, ◌∙◌, ap, subst, arith, Option, Some, None}
 use Rattle.std.specs.Option.{is_some}
 use Rattle.std.specs.List.{list_all, count_by, find, AllByRecursion}
 use Rattle.std.proofs.lemmas.Bool.Decides.{nat_tests}
@@ -9,13 +9,11 @@ use Rattle.qp_model.specs.declared.systems.System.{System}
 use Rattle.qp_model.specs.declared.systems.ObjectDef.{ObjectDef}
 use Rattle.qp_model.specs.declared.journals.Journal.{Journal}
 use Rattle.qp_model.specs.declared.words.Word.TheVariants as word
-use Rattle.qp_model.specs.declared.bodies.Entry.{Entry}
 use Rattle.qp_model.specs.Told.{Told, ToldItem, for_object}
-use Rattle.qp_model.specs.History.{all_items, lane_items}
-use Rattle.qp_model.specs.Home.{lane_at}
+use Rattle.qp_model.specs.History.{all_items}
 use Rattle.qp_model.specs.Kernels.{sim}
-use Rattle.qp_model.specs.Knowing.{told_lane, told_alone}
-use Rattle.qp_model.specs.Lawful.{Lawful, facts_of, source_lanes, deferred_of}
+use Rattle.qp_model.specs.Knowing.{told_alone}
+use Rattle.qp_model.specs.Lawful.{Lawful, source_lanes, deferred_of}
 use Rattle.qp_model.specs.OneOrder.{enters, leaves, all_empty, begun, stim_of}
 use Rattle.qp_model.specs.Sites.{object_at}
 use Rattle.qp_model.specs.WordLaw.{is_object}
@@ -25,7 +23,6 @@ use Rattle.qp_model.specs.End.{lines_empty, blocks_rest}
 use Rattle.qp_calls.specs.Counting.{count_of}
 use Rattle.qp_calls.specs.Deferring.{tokens_in}
 use Rattle.qp_calls.specs.LaneView.{LaneView, Counts, Shown}
-use Rattle.qp_calls.specs.Tokens.{Token}
 use Rattle.qp_model_order.specs.RunOrder.{has_stim, RunsInOrder}
 use Rattle.qp_model_order.specs.SourceRun.{SourceGoes, untold_all}
 use Rattle.qp_plain_sound.specs.Sound.{hands_in}
@@ -38,7 +35,7 @@ use Rattle.qp_plain_sound.proofs.Standing.{line-in}
 use Rattle.qp_kernel.specs.Stages.{is_resting}
 use Rattle.qp_kernel.specs.Run.{SourcesGo}
 use Rattle.qp_kernel.specs.QuietRun.{IsQuietRun}
-use Rattle.qp_kernel.specs.Turning.{AreAble, Stands, Terms, kernel_in}
+use Rattle.qp_kernel.specs.Turning.{AreAble, Terms, kernel_in}
 use Rattle.qp_kernel.specs.Laws.{kept_by}
 use Rattle.qp_kernel.specs.Happenings.{SourcesMarch, begun_by, lane_told, lanes_of, order_of, told_by}
 use Rattle.qp_kernel.proofs.ZeroLawful.{IsFound, all-found}

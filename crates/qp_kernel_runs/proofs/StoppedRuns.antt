@@ -1,7 +1,6 @@
 -- A run that stopped early leaves a lawful journal.
-use Rattle.std.proofs.Common.{◌≡◌, ℕ, ◌+◌, ◌<◌, ◌==◌, Bool, true, false, List, [], ◌∷◌, map, length, refl, sym, ◌∙◌, ap, subst, arith}
+use Rattle.std.proofs.Common.{◌≡◌, ℕ, ◌+◌, ◌<◌, ◌==◌, Bool, true, false, List, [], ◌∷◌, length, refl, sym, ◌∙◌, ap, subst, arith}
 use Rattle.std.specs.List.{list_all}
-use Rattle.std.proofs.lemmas.Bool.Decides.{nat_tests}
 use Rattle.qp_model.specs.declared.record.Rec.{Rec}
 use Rattle.qp_model.specs.declared.stimulus.Stim.{Stim}
 use Rattle.qp_model.specs.declared.systems.System.{System}
@@ -17,18 +16,17 @@ use Rattle.qp_model.specs.WordLaw.{Words}
 use Rattle.qp_model.specs.Sound.{IsSound}
 use Rattle.qp_model.specs.Ends.{may_cut, quiet}
 use Rattle.qp_model.specs.End.{end_of, has_room}
-use Rattle.qp_calls.specs.LaneView.{LaneView, Happening}
+use Rattle.qp_calls.specs.LaneView.{LaneView}
 use Rattle.qp_model_order.specs.RunOrder.{items_of, has_stim, EndsInOrder}
 use Rattle.qp_model_order.specs.SourceRun.{SourceEnds, untold_all}
-use Rattle.qp_plain_sound.specs.Log.{log_of}
 use Rattle.qp_plain_sound.proofs.LawLemmas.{log-numbered, by-the_book}
 use Rattle.qp_kernel.specs.ZeroEnds.{ZeroEnds}
 use Rattle.qp_kernel.specs.Run.{SourcesEnd, IsRun}
-use Rattle.qp_kernel.specs.Happenings.{SourcesHalt, lane_told, lanes_of, order_of}
+use Rattle.qp_kernel.specs.Happenings.{SourcesHalt, lanes_of, order_of}
 use Rattle.qp_kernel.proofs.LawfulLemmas.{lawful}
 use Rattle.qp_kernel_runs.specs.Left.{IsLeft, IsStopped}
 use Rattle.qp_kernel.proofs.AlikeKernels.{one-order}
-use Rattle.qp_kernel_runs.proofs.LeftLemmas.{facts-are, zero-told, zero-items, source-told, sources-are}
+use Rattle.qp_kernel_runs.proofs.LeftLemmas.{zero-told, zero-items, source-told, sources-are}
 use Rattle.qp_kernel.specs.Turning.{Terms, kernel_in}
 use Rattle.qp_kernel.proofs.DeferredLemmas.{no-port}
 

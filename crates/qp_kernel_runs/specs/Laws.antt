@@ -1,5 +1,5 @@
 -- The laws of runs on one thread.
-use Rattle.std.specs.Prelude.{◌≡◌, ℕ, ◌==◌, true, List}
+use Rattle.std.specs.Prelude.{◌≡◌, ◌==◌, true, List}
 use Rattle.qp_model.specs.declared.record.Rec.{Rec}
 use Rattle.qp_model.specs.declared.stimulus.Stim.{Stim}
 use Rattle.qp_model.specs.declared.systems.System.{System}

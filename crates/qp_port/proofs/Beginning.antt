@@ -8,14 +8,11 @@ use Rattle.qp_model.specs.Sound.{IsSound}
 use Rattle.qp_model.proofs.TakenLemmas.{drop-head}
 use Rattle.qp_stim.specs.Rules.{StimuliFit}
 use Rattle.qp_calls.specs.LaneView.{LaneView}
-use Rattle.qp_calls_meet.specs.Meeting.{IsTogether}
 use Rattle.qp_dispatch.specs.declared.objects.Turn.{Turn}
 use Rattle.qp_dispatch.specs.declared.objects.Turn.TheVariants as turn
 use Rattle.qp_port_workers.specs.Turns.{AreReady}
 use Rattle.qp_port_phases.specs.Lanes.{AreTogether}
-use Rattle.qp_port_home.specs.At.{HasEmptyLane, IsMade}
-use Rattle.qp_port_cursor.specs.declared.cursor.Cursor.{Cursor}
-use Rattle.qp_port_cursor.specs.At.{mine}
+use Rattle.qp_port_home.specs.At.{IsMade}
 use Rattle.qp_port_cursor.proofs.Standing.{new-stand}
 use Rattle.qp_port.specs.declared.job.Job.{Job}
 use Rattle.qp_port.specs.declared.job.Job.TheVariants as job

@@ -1,7 +1,7 @@
 -- From workers whose run has ended to what their lanes are.
-use Rattle.std.proofs.Common.{◌≡◌, ℕ, zero, suc, ◌+◌, ◌<◌, ◌≤◌, ◌==◌, Bool, true, false, ◌&&◌, cond, List, [], ◌∷◌, ◌++◌, map, refl, sym, ◌∙◌, ap, subst, inl, inr, arith, append-nil, append_assoc, Some, None, Option}
-use Rattle.std.specs.Prelude.{◌⊎◌, slice_get, pos, IsTrue}
-use Rattle.std.specs.List.{AllByRecursion, find, list_all, list_any}
+use Rattle.std.proofs.Common.{◌≡◌, ℕ, zero, suc, ◌+◌, ◌<◌, ◌≤◌, ◌==◌, Bool, true, false, cond, List, [], ◌∷◌, ◌++◌, map, refl, sym, ◌∙◌, ap, subst, inl, inr, arith, append-nil, append_assoc, Some, None, Option}
+use Rattle.std.specs.Prelude.{pos, IsTrue}
+use Rattle.std.specs.List.{AllByRecursion, find, list_any}
 use Rattle.std.specs.Option.{is_some}
 use Rattle.std.proofs.lemmas.Bool.Decides.{nat_tests}
 use Rattle.qp_chart.specs.declared.checked.Chart.{Chart}
@@ -24,7 +24,7 @@ use Rattle.qp_model.proofs.ObjectLemmas.{found-passes}
 use Rattle.qp_calls.specs.Counting.{count_of}
 use Rattle.qp_calls.specs.Deferring.{tokens_in}
 use Rattle.qp_calls.specs.Clauses.{entry_of}
-use Rattle.qp_calls.specs.LaneView.{Counts, LaneView}
+use Rattle.qp_calls.specs.LaneView.{LaneView}
 use Rattle.qp_calls.specs.Tokens.{Token}
 use Rattle.qp_dispatch.specs.Lasts.{config_of}
 use Rattle.qp_dispatch.specs.Resume.{held_in}
@@ -34,7 +34,7 @@ use Rattle.qp_kernel.specs.ZeroEnds.{own_told}
 use Rattle.qp_kernel_end.specs.declared.rest.Rest.{Rest}
 use Rattle.qp_kernel_end.specs.Rests.{IsRestIn, IsRestOf}
 use Rattle.qp_port_workers.specs.Turns.{AreReady}
-use Rattle.qp_port_phases.specs.Quiet.{AllBelow, AreEmpty, HasEnded, IsEmpty, IsQuiet}
+use Rattle.qp_port_phases.specs.Quiet.{AllBelow, AreEmpty, HasEnded, IsEmpty}
 use Rattle.qp_port_quiet.specs.Laws.{IsLastLook}
 use Rattle.qp_port_quiet.specs.Sealed.{IsLaneAt}
 use Rattle.qp_port_law.specs.Homes.{HomeEnds}
@@ -42,20 +42,17 @@ use Rattle.qp_port_law.specs.HomesRest.{RestsWith}
 use Rattle.qp_port_law.specs.SourcesLeft.{SourceLeaves}
 use Rattle.qp_port_law.proofs.HomePlaces.{below-next, nothing-before}
 use Rattle.qp_model.proofs.HomeLemmas.{AreBelow}
-use Rattle.qp_port_home_law.specs.HomeLanes.{IsWholeHome}
 use Rattle.qp_port_home.specs.declared.home.Home.{Home}
 use Rattle.qp_port_home.specs.At.{IsHome}
 use Rattle.qp_port_home.proofs.Resting.{home-of}
 use Rattle.qp_port_sealed.specs.Lanes.{AreAtRest, HaveNone, HomesAre, SourcesAre}
-use Rattle.qp_port_sealed.specs.PortLanes.{PortRests}
 use Rattle.qp_port_sealed.specs.Rests.{AreTold}
-use Rattle.qp_port_cursor.specs.At.{mine}
 use Rattle.qp_port_cursor.proofs.Standing.{done-end}
 use Rattle.qp_port.specs.declared.job.Job.{Job}
 use Rattle.qp_port.specs.declared.job.Job.TheVariants as job
-use Rattle.qp_port.specs.Ends.{HasRun, MayEndEarly, MayEndQuietly}
+use Rattle.qp_port.specs.Ends.{HasRun}
 use Rattle.qp_port.specs.Jobs.{JobRests, JobStops, is_left_in}
-use Rattle.qp_port.specs.Resting.{AreShown, IsShownAt, IsShownBy, IsShownIn}
+use Rattle.qp_port.specs.Resting.{AreShown, IsShownBy, IsShownIn}
 use Rattle.qp_port.specs.Rows.{AreWorkers, IsHomeOf, IsNothing, IsRow, IsSourceOf}
 use Rattle.qp_port.proofs.QuietHomes.{quiet-home}
 use Rattle.qp_port.proofs.Rows.{ready-none}

@@ -1,6 +1,6 @@
 -- The lane of an object that rests, where nothing is left to be done.
-use Rattle.std.proofs.Common.{◌≡◌, ℕ, Bool, true, false, List, [], ◌∷◌, ◌++◌, length, refl, sym, ◌∙◌, ap, subst, arith, Some, None, Option, append-nil}
-use Rattle.std.specs.List.{list_all, list_any}
+use Rattle.std.proofs.Common.{◌≡◌, ℕ, Bool, true, false, List, [], ◌++◌, refl, sym, ◌∙◌, ap, subst, arith, None, append-nil}
+use Rattle.std.specs.List.{list_all}
 use Rattle.std.proofs.lemmas.Bool.{and_from}
 use Rattle.qp_chart.specs.declared.checked.Chart.{Chart}
 use Rattle.qp_model.specs.declared.systems.System.{System}
@@ -9,11 +9,11 @@ use Rattle.qp_model.specs.declared.bodies.Entry.{Entry}
 use Rattle.qp_model.specs.Record.{Item}
 use Rattle.qp_model.specs.Told.{ToldItem}
 use Rattle.qp_model.specs.Acts.{Config}
-use Rattle.qp_model.specs.Ends.{ends_last, is_end, may_cut}
-use Rattle.qp_model.specs.End.{took_count, spents_follow, spills_state}
+use Rattle.qp_model.specs.Ends.{ends_last, may_cut}
+use Rattle.qp_model.specs.End.{spents_follow, spills_state}
 use Rattle.qp_model.specs.HomeLane.{is_home_lane, all_differ}
 use Rattle.qp_model.specs.ObjectShape.{CutGroups, Ends}
-use Rattle.qp_model.specs.Course.{Cut, Whole, FollowsTo, actor, first_config, chart_at}
+use Rattle.qp_model.specs.Course.{Whole, FollowsTo}
 use Rattle.qp_model.proofs.ShapeLemmas.{groups-of}
 use Rattle.qp_model_order.specs.SourceRun.{untold_all}
 use Rattle.qp_model_order.proofs.CalmLemmas.{calm-all, calm-ends_last, calm-parts, calm-spents_follow, calm-states}

@@ -1,5 +1,5 @@
 -- Rows of workers.
-use Rattle.std.proofs.Common.{◌≡◌, ℕ, ◌+◌, ◌-◌, ◌<◌, ◌≤◌, ◌==◌, Bool, true, false, cond, List, [], ◌∷◌, ◌++◌, map, length, drop, get_or, refl, sym, ◌∙◌, ap, subst, arith, Option, Some, None, inl, IsTrue}
+use Rattle.std.proofs.Common.{◌≡◌, ℕ, ◌-◌, Bool, true, false, List, [], ◌∷◌, map, sym, ◌∙◌, subst, arith, inl, IsTrue}
 use Rattle.std.specs.List.{AllByRecursion, list_all, list_any}
 use Rattle.std.specs.Prelude.{◌⊎◌}
 use Rattle.std.proofs.lemmas.Bool.{and_parts, or_parts}
@@ -15,13 +15,12 @@ use Rattle.qp_dispatch.specs.declared.objects.Turn.TheVariants as turn
 use Rattle.qp_port_phases.specs.Lanes.{AreOneTable, AreTogether, SameEach}
 use Rattle.qp_port_phases.specs.Rows.{HasFewRows, Numbers}
 use Rattle.qp_port_workers.specs.Turns.{AreReady}
-use Rattle.qp_port_cursor.specs.At.{mine}
 use Rattle.qp_port.specs.declared.job.Job.{Job}
 use Rattle.qp_port.specs.declared.job.Job.TheVariants as job
 use Rattle.qp_port_cursor.specs.Answers.{is_idle, is_short}
 use Rattle.qp_port.specs.Jobs.{IsSameJob, JobEnds, JobRests, JobStands, JobStops}
 use Rattle.qp_port.specs.Rows.{AreSameLanes, AreWorkers, IsHomeOf, IsNothing, IsRow, IsSourceOf}
-use Rattle.qp_port.specs.Workers.{IsSameWorker, MayEnd, MayTurn}
+use Rattle.qp_port.specs.Workers.{MayEnd, MayTurn}
 
 pub ready-map : {T : Type 0} (P Q : T → Type 0) → ((w : T) → P w → Q w) → (ws : List T) → AreReady P ws → AreReady Q ws
 ready-map P Q f [] h = tt

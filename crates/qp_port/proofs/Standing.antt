@@ -1,14 +1,11 @@
 -- Where what runs in a lane stands, by what its calls say.
-use Rattle.std.proofs.Common.{◌≡◌, ℕ, ◌+◌, ◌-◌, ◌<◌, ◌≤◌, ◌==◌, Bool, true, false, cond, List, [], ◌∷◌, get_or, refl, sym, ◌∙◌, ap, subst, arith, Option, Some, None, inl, inr}
+use Rattle.std.proofs.Common.{◌≡◌, ℕ, ◌-◌, ◌==◌, Bool, true, false, cond, List, [], ◌∷◌, get_or, refl, sym, ◌∙◌, ap, subst, arith, Some, inl, inr}
 use Rattle.std.specs.Prelude.{◌⊎◌}
 use Rattle.std.specs.List.{find}
 use Rattle.std.proofs.lemmas.Bool.Decides.{nat_tests}
-use Rattle.qp_chart.specs.declared.checked.Chart.{Chart}
 use Rattle.qp_model.specs.declared.stimulus.Stim.{Stim}
 use Rattle.qp_model.specs.declared.systems.System.{System}
 use Rattle.qp_model.specs.declared.systems.ObjectDef.{ObjectDef}
-use Rattle.qp_model.specs.Course.{chart_at}
-use Rattle.qp_model.specs.Ends.{may_cut}
 use Rattle.qp_model.specs.Sites.{object_at}
 use Rattle.qp_model.specs.Sound.{IsSound}
 use Rattle.qp_calls.specs.LaneView.{LaneView}
@@ -19,7 +16,6 @@ use Rattle.qp_port_law.specs.Homes.{HomeEnds}
 use Rattle.qp_port_law.specs.SourcesLeft.{SourceLeaves}
 use Rattle.qp_port_home_law.proofs.HomeLaws.{unstarted_home_ends}
 use Rattle.qp_port_home.specs.declared.home.Home.{Home}
-use Rattle.qp_port_home.specs.Turning.{HomeStarts}
 use Rattle.qp_port_home.proofs.Resting.{home-of, stops-found}
 use Rattle.qp_port_cursor.specs.declared.cursor.Cursor.{Cursor}
 use Rattle.qp_port_phases.specs.declared.lanes.Passed.{Passed}

@@ -1,5 +1,5 @@
 -- What is counted of a worker.
-use Rattle.std.specs.Prelude.{◌≡◌, ◌≤◌, false, true, refl}
+use Rattle.std.specs.Prelude.{true}
 use Rattle.std.proofs.Common.{arith}
 use Rattle.qp_calls.specs.LaneView.{LaneView}
 use Rattle.qp_port_phases.specs.Rows.{CountsOn, Numbers}

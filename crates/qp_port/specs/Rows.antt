@@ -1,12 +1,9 @@
 -- Rows of lanes: the first, one for each object, one for each source.
-use Rattle.std.specs.Prelude.{◌≡◌, ℕ, ◌≤◌, true, List, [], ◌∷◌, ⊤}
-use Rattle.std.specs.List.{AllByRecursion}
+use Rattle.std.specs.Prelude.{◌≡◌, ℕ, true, List, [], ◌∷◌, ⊤}
 use Rattle.qp_model.specs.declared.stimulus.Stim.{Stim}
 use Rattle.qp_model.specs.declared.systems.System.{System}
 use Rattle.qp_model.specs.declared.systems.ObjectDef.{ObjectDef}
-use Rattle.qp_model.specs.Sound.{IsSound}
 use Rattle.qp_calls.specs.LaneView.{IsNew, LaneView}
-use Rattle.qp_dispatch.specs.declared.objects.Turn.{Turn}
 use Rattle.qp_kernel_turns.specs.Lanes.{SameLane}
 use Rattle.qp_port_cursor.specs.At.{mine}
 use Rattle.qp_port.specs.declared.job.Job.{Job}

@@ -1,5 +1,5 @@
 -- A lawful journal of `port` can be written: its lanes have records of objects of at most 32 alone, or of none.
-use Rattle.std.proofs.Common.{◌≡◌, ◌∙◌, ℕ, suc, ◌+◌, ◌<◌, ◌≤◌, ◌==◌, Bool, true, false, not, ◌&&◌, ◌||◌, List, [], ◌∷◌, ◌++◌, length, drop, refl, sym, ap, subst, arith, append_assoc, append-nil}
+use Rattle.std.proofs.Common.{◌≡◌, ◌∙◌, ℕ, suc, ◌+◌, ◌≤◌, ◌==◌, Bool, true, false, not, ◌&&◌, ◌||◌, List, [], ◌∷◌, ◌++◌, length, drop, refl, sym, ap, subst, arith, append_assoc, append-nil}
 use Rattle.std.specs.Prelude.{slice_get}
 use Rattle.std.specs.Option.{unwrap_or}
 use Rattle.std.specs.List.{AllByRecursion}
@@ -18,7 +18,7 @@ use Rattle.qp_model.specs.Home.{lane_at, home_of}
 use Rattle.qp_model.specs.HomeLane.{are_at_home, is_at_home, is_home_lane, taken_by}
 use Rattle.qp_model.specs.Kernels.{port}
 use Rattle.qp_model.specs.Ends.{may_cut}
-use Rattle.qp_model.specs.Lawful.{Lawful, ObjectHolds, SourceLanes, lanes_before}
+use Rattle.qp_model.specs.Lawful.{ObjectHolds, SourceLanes, lanes_before}
 use Rattle.qp_model.specs.Sound.{IsSound}
 use Rattle.qp_model.specs.Laws.{Ascend}
 use Rattle.qp_model.proofs.HomeLemmas.{AreBelow}

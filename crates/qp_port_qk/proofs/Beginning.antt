@@ -9,12 +9,10 @@ use Rattle.qp_model.specs.Sound.{IsSound}
 use Rattle.qp_model.proofs.TakenLemmas.{drop-head}
 use Rattle.qp_stim.specs.Rules.{StimuliFit}
 use Rattle.qp_calls.specs.LaneView.{LaneView}
-use Rattle.qp_calls_meet.specs.Meeting.{IsTogether}
 use Rattle.qp_dispatch.specs.declared.objects.Turn.{Turn}
 use Rattle.qp_dispatch.specs.declared.objects.Turn.TheVariants as turn
 use Rattle.qp_port_workers.specs.Turns.{AreReady}
 use Rattle.qp_port_phases.specs.Lanes.{AreTogether}
-use Rattle.qp_port_cursor.specs.At.{IsCursorAt, mine}
 use Rattle.qp_port_cursor.proofs.Standing.{new-stand}
 use Rattle.qp_port_qk.specs.declared.job.Job.{Job}
 use Rattle.qp_port_qk.specs.declared.job.Job.TheVariants as job

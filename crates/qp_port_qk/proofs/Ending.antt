@@ -1,7 +1,6 @@
 -- What runs in a lane may end there, where the run stops early.
-use Rattle.std.proofs.Common.{◌≡◌, ℕ, ◌≤◌, Bool, false, List, [], refl, sym, ◌∙◌, ap, subst, ◌⊎◌, inl, inr, arith}
+use Rattle.std.proofs.Common.{◌≡◌, ℕ, Bool, false, [], refl, sym, ◌∙◌, ap, subst, ◌⊎◌, inl, inr, arith}
 use Rattle.qp_model.specs.declared.systems.System.{System}
-use Rattle.qp_model.specs.Ends.{may_cut}
 use Rattle.qp_model.specs.KernelLane.{is_over}
 use Rattle.qp_model.specs.Kernels.{qk}
 use Rattle.qp_model.specs.Sound.{IsSound}

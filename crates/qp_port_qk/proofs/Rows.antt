@@ -1,5 +1,5 @@
 -- Rows of workers.
-use Rattle.std.proofs.Common.{◌≡◌, ℕ, ◌+◌, ◌≤◌, ◌==◌, Bool, true, false, cond, List, [], ◌∷◌, map, refl, sym, ◌∙◌, ap, subst, arith}
+use Rattle.std.proofs.Common.{◌≡◌, ℕ, ◌+◌, Bool, true, false, List, [], ◌∷◌, map, refl, ◌∙◌, ap, arith}
 use Rattle.std.specs.List.{list_all, list_any}
 use Rattle.std.proofs.lemmas.Bool.{and_parts, or_parts}
 use Rattle.qp_model.specs.declared.stimulus.Stim.{Stim}
@@ -17,7 +17,7 @@ use Rattle.qp_port_qk.specs.declared.job.Job.{Job}
 use Rattle.qp_port_qk.specs.declared.job.Job.TheVariants as job
 use Rattle.qp_port_cursor.specs.Answers.{is_idle, is_short}
 use Rattle.qp_port_qk.specs.Jobs.{IsSameJob, JobEnds, JobMayEnd, JobRests, JobStands}
-use Rattle.qp_port_qk.specs.Numbers.{job_rows, numbers_of}
+use Rattle.qp_port_qk.specs.Numbers.{numbers_of}
 use Rattle.qp_port_qk.specs.Rows.{AreSameLanes, AreSources, IsKernel, IsRow, IsSourceOf}
 use Rattle.qp_port_qk.specs.Workers.{MayEnd, MayTurn}
 

@@ -1,9 +1,8 @@
 -- From workers before their start to the lanes that their run leaves.
-use Rattle.std.proofs.Common.{◌≡◌, ℕ, zero, suc, ◌+◌, ◌≤◌, ◌==◌, Bool, true, false, ◌&&◌, List, [], ◌∷◌, ◌++◌, map, length, take, refl, sym, ◌∙◌, ap, subst, inl, inr, arith, Option, Some, None, Result, Ok, Err}
+use Rattle.std.proofs.Common.{◌≡◌, ℕ, zero, suc, ◌+◌, ◌≤◌, Bool, true, false, ◌&&◌, List, [], ◌∷◌, ◌++◌, map, length, take, refl, sym, ◌∙◌, ap, subst, inl, inr, arith, Option, Some, None, Result, Ok, Err}
 use Rattle.std.specs.Prelude.{◌⊎◌, IsTrue, IfOk, OnOk}
 use Rattle.std.proofs.lemmas.Bool.{or_parts}
-use Rattle.std.specs.List.{AllByRecursion, find, list_all, list_any}
-use Rattle.std.specs.Option.{is_some}
+use Rattle.std.specs.List.{AllByRecursion, list_all, list_any}
 use Rattle.qp_model.specs.declared.stimulus.Stim.{Stim}
 use Rattle.qp_model.specs.declared.systems.System.{System}
 use Rattle.qp_model.specs.declared.systems.ObjectDef.{ObjectDef}
@@ -34,7 +33,7 @@ use Rattle.qp_port_workers.specs.Turns.{AreReady}
 use Rattle.qp_port_phases.specs.declared.phases.Ended.{Ended}
 use Rattle.qp_port_phases.specs.declared.phases.Ended.TheVariants as ended
 use Rattle.qp_port_phases.specs.Lanes.{AreObjects, AreOneTable, SameEach}
-use Rattle.qp_port_phases.specs.Quiet.{AllBelow, AreEmpty, FirstFound, HasEnded, IsEmpty, IsQuiet}
+use Rattle.qp_port_phases.specs.Quiet.{AllBelow, AreEmpty, FirstFound, HasEnded, IsEmpty}
 use Rattle.qp_port_phases.specs.Stopping.{AnyStopped, HasStopped}
 use Rattle.qp_port_phases.specs.Rows.{HasFewRows}
 use Rattle.qp_port_law.specs.SourcesLeft.{SourceLeaves}
@@ -46,10 +45,10 @@ use Rattle.qp_port_sealed.specs.QkLanes.{QkRests}
 use Rattle.qp_port_cursor.proofs.Standing.{done-end}
 use Rattle.qp_port_qk.specs.declared.job.Job.{Job}
 use Rattle.qp_port_qk.specs.declared.job.Job.TheVariants as job
-use Rattle.qp_port_qk.specs.Ends.{HasRun, MayEndQuietly, MayEndSo, is_over}
+use Rattle.qp_port_qk.specs.Ends.{HasRun, is_over}
 use Rattle.qp_port_cursor.specs.Answers.{is_idle, is_short}
-use Rattle.qp_port_qk.specs.Jobs.{JobMayEnd, JobRests, JobStands, JobStops, is_left_in}
-use Rattle.qp_port_qk.specs.KernelRests.{KernelEnds, KernelRests}
+use Rattle.qp_port_qk.specs.Jobs.{JobMayEnd, JobRests, JobStands, is_left_in}
+use Rattle.qp_port_qk.specs.KernelRests.{KernelEnds}
 use Rattle.qp_port_qk.specs.Numbers.{job_rows, numbers_of}
 use Rattle.qp_port_qk.specs.Resting.{AreLeft, AreShownBy, AreShownFirst}
 use Rattle.qp_port_qk.specs.Rows.{AreSameLanes, AreSources, IsKernel, IsRow, IsSourceOf}

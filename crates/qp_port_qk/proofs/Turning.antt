@@ -1,5 +1,5 @@
 -- What a turn leaves of a lane, and of what is counted.
-use Rattle.std.proofs.Common.{◌≡◌, ℕ, ◌+◌, ◌-◌, ◌<◌, ◌≤◌, ◌==◌, Bool, true, false, cond, List, [], ◌∷◌, ◌++◌, map, length, reverse, get_or, refl, sym, ◌∙◌, ap, subst, arith}
+use Rattle.std.proofs.Common.{◌≡◌, ℕ, ◌+◌, ◌-◌, ◌≤◌, ◌==◌, Bool, true, false, cond, List, [], ◌∷◌, ◌++◌, length, reverse, get_or, refl, sym, ◌∙◌, ap, subst, arith}
 use Rattle.std.specs.Prelude.{IsTrue}
 use Rattle.std.specs.List.{count_by}
 use Rattle.std.proofs.lemmas.Bool.Decides.{nat_tests}
@@ -11,7 +11,6 @@ use Rattle.qp_model.specs.KernelLane.{Again, Chosen, Ended, Halted, Inside, Look
 use Rattle.qp_model.specs.Kernels.{qk}
 use Rattle.qp_model.specs.Lawful.{is_settle}
 use Rattle.qp_model.specs.Sites.{object_at}
-use Rattle.qp_model.specs.Sound.{IsSound}
 use Rattle.qp_model.specs.Told.{ToldItem}
 use Rattle.qp_model.specs.WordLaw.{is_object}
 use Rattle.qp_model.proofs.NumberLemmas.{count-append}
@@ -30,8 +29,8 @@ use Rattle.qp_kernel_turns.specs.Knowing.{HasStack, KnowsAt, MayLook}
 use Rattle.qp_kernel_turns.specs.Lanes.{IsFront, KeepsLane, LaneTurns, SameLane}
 use Rattle.qp_kernel_turns.specs.Ordering.{InOrder, TurnsInOrder}
 use Rattle.qp_kernel_turns.specs.Pending.{Pending}
-use Rattle.qp_kernel_turns.specs.Turning.{Stood, TurnsTo, stand_of}
-use Rattle.qp_kernel_turns.specs.TurnRows.{TurnsRows, bare_row, idle_rows}
+use Rattle.qp_kernel_turns.specs.Turning.{TurnsTo, stand_of}
+use Rattle.qp_kernel_turns.specs.TurnRows.{TurnsRows, bare_row}
 use Rattle.qp_kernel_turns.proofs.Places.{follow-then}
 use Rattle.qp_kernel_turns.proofs.RoundRows.{object-there}
 use Rattle.qp_port_phases.specs.Rows.{CountsOn, SeesEntry}

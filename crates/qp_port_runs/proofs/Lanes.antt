@@ -1,5 +1,5 @@
 -- The lanes that a table became are those that a run takes, and the lanes that it leaves are all of them.
-use Rattle.std.proofs.Common.{◌≡◌, ℕ, zero, suc, ◌+◌, ◌<◌, ◌≤◌, ◌==◌, Bool, true, false, List, [], ◌∷◌, map, length, cond, slice_get, refl, sym, ◌∙◌, ap, subst, arith, eqb-true, Some}
+use Rattle.std.proofs.Common.{◌≡◌, ℕ, suc, ◌+◌, ◌<◌, ◌≤◌, ◌==◌, Bool, true, false, List, [], ◌∷◌, length, cond, slice_get, refl, sym, ◌∙◌, ap, subst, arith, eqb-true, Some}
 use Rattle.std.specs.Prelude.{⊤}
 use Rattle.std.specs.List.{count_by}
 use Rattle.std.specs.Option.{is_some}
@@ -11,7 +11,6 @@ use Rattle.qp_model.specs.Sites.{object_at}
 use Rattle.qp_model.specs.WordLaw.{is_object}
 use Rattle.qp_calls.specs.LaneView.{LaneView}
 use Rattle.qp_kernel.proofs.HappeningLemmas.{count-cons}
-use Rattle.qp_kernel_turns.specs.Lanes.{SameLane}
 use Rattle.qp_table.specs.Counting.{Each}
 use Rattle.qp_shared.specs.declared.shared.Shared.{Shared}
 use Rattle.qp_shared.specs.Ending.{AreAll}

@@ -1,5 +1,5 @@
 -- The lanes that a table became for a port are those that its run takes.
-use Rattle.std.proofs.Common.{◌≡◌, ℕ, zero, suc, ◌+◌, ◌-◌, ◌==◌, eqb, ne_eqb, not, ◌&&◌, Bool, true, false, List, [], ◌∷◌, map, length, slice_get, refl, sym, ◌∙◌, ap, subst, arith, Some}
+use Rattle.std.proofs.Common.{◌≡◌, ℕ, suc, ◌+◌, ◌-◌, ◌==◌, eqb, ne_eqb, not, ◌&&◌, true, false, List, [], ◌∷◌, length, slice_get, refl, sym, ◌∙◌, subst, arith, Some}
 use Rattle.std.specs.Option.{option_map_or}
 use Rattle.std.proofs.lemmas.Bool.Decides.{nat_tests}
 use Rattle.qp_model.specs.declared.stimulus.Stim.{Stim}

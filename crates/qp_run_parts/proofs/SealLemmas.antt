@@ -1,8 +1,7 @@
 -- Which sealed journal a call leaves.
-use Rattle.std.proofs.Common.{◌≡◌, ◌∙◌, ℕ, Bool, true, false, ◌&&◌, cond, List, Option, Some, None, refl, sym, ap, subst, ◌⊎◌, inl, inr}
+use Rattle.std.proofs.Common.{◌≡◌, ◌∙◌, ℕ, Bool, true, false, ◌&&◌, cond, List, Option, Some, None, refl, sym, ap, subst, inl, inr}
 use Rattle.std.specs.Prelude.{MatchBool}
 use Rattle.std.proofs.lemmas.Bool.{false≢true}
-use Rattle.qp_base.specs.Sink.{appended}
 use Rattle.qp_model.specs.declared.journals.Journal.{Journal}
 use Rattle.qp_model.specs.declared.stimulus.Stim.{Stim}
 use Rattle.qp_model.specs.declared.systems.System.{System}
@@ -12,10 +11,10 @@ use Rattle.qp_commands.specs.WordTable.{Asked, check, decode, generate, has_thre
 use Rattle.qp_run_parts.specs.declared.status.Status.{Status}
 use Rattle.qp_run_parts.specs.declared.status.Status.TheVariants as status
 use Rattle.qp_run_parts.specs.declared.status.Status.TheVariants.{Memory, WriteFault}
-use Rattle.qp_run_parts.specs.Conversions.{Held, IsWrittenAs}
+use Rattle.qp_run_parts.specs.Conversions.{Held}
 use Rattle.qp_run_parts.specs.Printed.{IsPrinted, IsRunUnder, PrintsOf}
 use Rattle.qp_run_parts.specs.Sealed.{IsSealed, IsSealedRun, Seals, SealsOne, is_run_ended, kept_seal}
-use Rattle.qp_run_parts.specs.Verdict.{Count, IsInput, Stands, Stream, is_refusal}
+use Rattle.qp_run_parts.specs.Verdict.{Count, Stands, Stream, is_refusal}
 
 abbrev pub no_journal : Option Journal
 no_journal = None

@@ -1,29 +1,25 @@
 -- A lane where nothing has happened.
-use Rattle.std.proofs.Common.{◌≡◌, ℕ, zero, suc, ◌+◌, ◌-◌, ◌*◌, ◌/◌, ◌%◌, ◌<◌, ◌≤◌, Bool, true, false, ◌&&◌, ◌||◌, cond, List, [], ◌∷◌, ◌++◌, length, map, refl, sym, ◌∙◌, ap, subst, arith, eqb, ltb, nat_le, IsTrue}
+use Rattle.std.proofs.Common.{◌≡◌, ℕ, zero, suc, ◌+◌, ◌-◌, ◌*◌, ◌/◌, ◌%◌, Bool, true, false, ◌&&◌, cond, List, [], ◌∷◌, length, refl, sym, ◌∙◌, ap, subst, arith, eqb, ltb, nat_le, IsTrue}
 use Rattle.std.specs.Prelude.{Option, None, Some, slice_get, count_ones}
 use Rattle.std.specs.Option.{option_map_or}
-use Rattle.std.specs.List.{list_all, list_any, filter}
-use Rattle.qp_model.specs.declared.record.Rec.{Rec}
+use Rattle.std.specs.List.{list_all, list_any}
 use Rattle.qp_model.specs.declared.systems.System.{System}
 use Rattle.qp_model.specs.declared.bodies.Entry.{Entry}
 use Rattle.qp_model.specs.declared.words.Word.{Word}
 use Rattle.qp_model.specs.declared.words.Word.TheVariants as word
-use Rattle.qp_model.specs.Told.{ToldItem}
 use Rattle.qp_model.specs.Lists.{count_up}
 use Rattle.qp_model.specs.History.{marks, lane_items}
 use Rattle.qp_model.specs.Machine.{after, after_from, is_allowed, allowed_from}
 use Rattle.qp_model.specs.Sites.{blocks_of}
-use Rattle.qp_model.specs.FreeBlocks.{free_blocks}
 use Rattle.qp_model.specs.WordLaw.{is_signal, is_timer}
 use Rattle.qp_model.specs.Sound.{IsSound, IsSoundSignal}
 use Rattle.qp_model.proofs.ListLemmas.{every-at}
 use Rattle.qp_model.specs.Parts.{is_static}
 use Rattle.qp_model.specs.declared.systems.SignalDef.{SignalDef}
-use Rattle.qp_calls.specs.LaneView.{LaneView, IsNew, Shown, FreeBlocks, References, Counts, NotShown, first_shown, handled_in, ceiling_in, own_after}
+use Rattle.qp_calls.specs.LaneView.{Shown, FreeBlocks, first_shown, handled_in, ceiling_in, own_after}
 use Rattle.qp_calls.specs.Tokens.{Token, Held, Loose, token_of, hands_after}
 use Rattle.qp_calls_log.specs.declared.log.Log.{Log}
-use Rattle.qp_table.specs.Counting.{Each, many}
-use Rattle.qp_table.specs.Rule.{Fitting, params_of, pool_at, block_at, queue_at, mark_in, bits_value, is_serve, is_entry, is_spot}
+use Rattle.qp_table.specs.Rule.{params_of, mark_in, bits_value, is_serve}
 use Rattle.qp_table.specs.After.{nothing}
 use Rattle.qp_table.specs.declared.view.Serve.{Serve}
 use Rattle.qp_table.specs.declared.view.View.{View}

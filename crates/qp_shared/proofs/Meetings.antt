@@ -1,5 +1,5 @@
 -- A lane that has seen what another has.
-use Rattle.std.proofs.Common.{◌≡◌, ℕ, ◌+◌, ◌<◌, ◌≤◌, max, Bool, true, false, cond, List, [], ◌∷◌, ◌++◌, length, refl, sym, ◌∙◌, ap, subst, arith, IsTrue}
+use Rattle.std.proofs.Common.{◌≡◌, ℕ, ◌+◌, ◌≤◌, max, true, false, List, ◌++◌, refl, arith}
 use Rattle.std.proofs.lemmas.List.{append-nil}
 use Rattle.qp_model.specs.declared.systems.System.{System}
 use Rattle.qp_model.specs.declared.words.Word.{Word}
@@ -10,14 +10,13 @@ use Rattle.qp_calls_log.specs.declared.log.Log.{Log}
 use Rattle.qp_calls_meet.specs.Meeting.{is_met, Met}
 use Rattle.qp_table.specs.After.{joined, onlooker}
 use Rattle.qp_table.specs.declared.view.View.{View}
-use Rattle.qp_shared_views.specs.Words.{is_here, mark_seen}
+use Rattle.qp_shared_views.specs.Words.{mark_seen}
 use Rattle.qp_shared_views.specs.Lane.{Standing, lane_of, lane_mark, number_of, own_recs}
 use Rattle.qp_shared_views.specs.Telling.{is_on_table, Meets}
 use Rattle.qp_shared_views.proofs.LawLemmas.{meets_see_both}
 use Rattle.qp_side_words.specs.declared.SideView.{SideView}
 use Rattle.qp_shared_lane.specs.Holds.{LaneHolds, told_by}
-use Rattle.qp_shared_lane.specs.Lane.{standing, lane_with, world_of, world_in, state_view}
-use Rattle.qp_shared_lane.specs.More.{Follows, SideFollows, AddsNothing}
+use Rattle.qp_shared_lane.specs.Lane.{standing, lane_with, state_view}
 use Rattle.qp_shared_lane.specs.declared.lane.LaneState.{LaneState}
 use Rattle.qp_shared_lane.proofs.LawLemmas.{looks_keep_the_lane, worlds_name_tables}
 use Rattle.qp_shared_seats.specs.Seats.{IsOnePast}

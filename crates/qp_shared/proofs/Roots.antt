@@ -1,9 +1,8 @@
 -- The root, before and after a lane was given out.
-use Rattle.std.proofs.Common.{◌≡◌, ℕ, zero, suc, ◌+◌, ◌-◌, ◌<◌, ◌≤◌, Bool, true, false, cond, List, [], ◌∷◌, length, refl, sym, ◌∙◌, ap, subst, arith, eqb, eq-eqb, ne_eqb}
+use Rattle.std.proofs.Common.{◌≡◌, ℕ, zero, suc, ◌+◌, ◌-◌, ◌<◌, ◌≤◌, Bool, cond, List, [], ◌∷◌, length, refl, sym, ◌∙◌, ap, arith, eq-eqb, ne_eqb}
 use Rattle.qp_model.specs.Lists.{count_up}
-use Rattle.qp_table.specs.Counting.{Each, many, without}
+use Rattle.qp_table.specs.Counting.{many, without}
 use Rattle.qp_table.specs.Rule.{is_number}
-use Rattle.qp_table.specs.First.{IsFresh}
 use Rattle.qp_table.specs.After.{nothing, newcomer, passing, failing}
 use Rattle.qp_table.specs.declared.view.Serve.{Serve}
 use Rattle.qp_table.specs.declared.view.View.{View}

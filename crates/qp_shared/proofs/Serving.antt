@@ -1,5 +1,5 @@
 -- Which objects a lane is given, and which are left.
-use Rattle.std.proofs.Common.{◌≡◌, ◌≢◌, ℕ, zero, suc, ◌+◌, ◌-◌, ◌*◌, ◌%◌, ◌^◌, ◌<◌, ◌≤◌, ◌==◌, Bool, true, false, not, ◌&&◌, ◌||◌, cond, List, [], ◌∷◌, length, take, slice_get, get_or, refl, sym, ◌∙◌, ap, subst, arith, ltb, eqb, eqb-true, eq-eqb, ne_eqb, pow_mono, true≢false, IsTrue, Some, None, Option, is_some, if◌then◌else◌}
+use Rattle.std.proofs.Common.{◌≡◌, ℕ, zero, suc, ◌+◌, ◌-◌, ◌*◌, ◌%◌, ◌^◌, ◌<◌, ◌≤◌, ◌==◌, Bool, true, false, not, ◌&&◌, ◌||◌, cond, List, [], ◌∷◌, length, take, slice_get, get_or, refl, sym, ◌∙◌, ap, subst, arith, ltb, eqb, eqb-true, eq-eqb, ne_eqb, pow_mono, Some, None, Option, is_some, if◌then◌else◌}
 use Rattle.std.specs.List.{list_any, find, AllByRecursion}
 use Rattle.std.specs.Option.{option_map_or}
 use Rattle.std.specs.Int.{bit_at}

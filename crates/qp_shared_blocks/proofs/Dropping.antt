@@ -1,31 +1,29 @@
 -- A reference is dropped.
-use Rattle.std.proofs.Common.{◌≡◌, ℕ, zero, suc, ◌+◌, ◌-◌, ◌*◌, ◌/◌, ◌%◌, ◌<◌, ◌≤◌, ◌==◌, ◌&&◌, ◌||◌, List, [], ◌∷◌, ◌++◌, Bool, true, false, cond, length, refl, sym, ap, subst, ◌∙◌, arith, eqb, eq-eqb, ne_eqb, IsTrue}
+use Rattle.std.proofs.Common.{◌≡◌, ℕ, zero, suc, ◌+◌, ◌-◌, ◌/◌, ◌%◌, ◌<◌, ◌≤◌, ◌==◌, ◌&&◌, List, [], ◌∷◌, ◌++◌, Bool, true, false, cond, refl, sym, ap, subst, ◌∙◌, arith, eqb, eq-eqb, ne_eqb, IsTrue}
 use Rattle.std.specs.List.{list_any}
 use Rattle.std.proofs.lemmas.Bool.{and_from}
 use Rattle.qp_model.specs.declared.record.Rec.{Rec}
 use Rattle.qp_model.specs.declared.systems.System.{System}
 use Rattle.qp_model.specs.declared.words.Word.{Word}
 use Rattle.qp_model.specs.declared.words.Word.TheVariants as word
-use Rattle.qp_model.specs.declared.bodies.Entry.{Entry}
 use Rattle.qp_model.specs.declared.bodies.Body.TheVariants.{Dec}
 use Rattle.qp_model.specs.Record.{Item, item_of}
 use Rattle.qp_model.specs.Told.{ToldItem, Left, dropped, for_object}
 use Rattle.qp_table.specs.Counting.{many, without}
-use Rattle.qp_table.specs.Rule.{block_at, mark_in, is_ref, is_spot, is_spot_at, is_entry, is_serve}
-use Rattle.qp_table.specs.After.{rec_of, dropped as dropped_view, spot, ref}
+use Rattle.qp_table.specs.Rule.{block_at, mark_in, is_ref, is_spot, is_spot_at, is_serve}
+use Rattle.qp_table.specs.After.{rec_of, spot, ref}
 use Rattle.qp_table.specs.declared.view.Spot.{Spot}
 use Rattle.qp_table.specs.declared.view.View.{View}
 use Rattle.qp_table.proofs.Counting.{many-snoc}
 use Rattle.qp_table.proofs.Marks.{low-mark}
 use Rattle.qp_table.proofs.Steps.{dec-says}
-use Rattle.qp_calls.specs.Tokens.{Hold, Token, Held, Loose, same_token, token_of, take_out, stands, with_left, hands_by, hands_after, handles}
-use Rattle.qp_calls.specs.LaneView.{LaneView, Gains, References}
+use Rattle.qp_calls.specs.Tokens.{Hold, Token, Held, Loose, same_token, token_of, take_out, stands, with_left, hands_by, hands_after}
+use Rattle.qp_calls.specs.LaneView.{References}
 use Rattle.qp_calls.specs.Clauses.{DropsOne, StandsHold}
 use Rattle.qp_calls.proofs.HandLemmas.{same-equal}
 use Rattle.qp_calls_log.specs.declared.log.Log.{Log}
-use Rattle.qp_shared_views.specs.Words.{place_of, mark_seen, shown_seen}
+use Rattle.qp_shared_views.specs.Words.{mark_seen}
 use Rattle.qp_shared_views.specs.Lane.{lane_of, tokens, tokens_in, has_content, event_seen, told_as}
-use Rattle.qp_shared_views.specs.Telling.{Saw, Touches}
 use Rattle.qp_shared_views.proofs.Gaining.{mark-here, mark-was, mark-rises, shown-here}
 use Rattle.qp_shared_views.proofs.Hands.{tokens-out, refs-out, loose-true}
 use Rattle.qp_shared_steps.specs.Told.{DropTold, HasPlace}

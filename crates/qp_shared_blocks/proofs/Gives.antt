@@ -1,5 +1,5 @@
 -- A block is given out, or too few are free.
-use Rattle.std.proofs.Common.{◌≡◌, ℕ, zero, suc, ◌+◌, ◌-◌, ◌*◌, ◌/◌, ◌%◌, ◌^◌, ◌<◌, ◌≤◌, ◌==◌, ◌&&◌, ◌||◌, List, [], ◌∷◌, ◌++◌, append_assoc, Bool, true, false, cond, length, nat_lt, nat_le, refl, sym, ap, subst, ◌∙◌, arith, eqb, eqb-true, eq-eqb, IsTrue, Option, Some, None, if◌then◌else◌}
+use Rattle.std.proofs.Common.{◌≡◌, ℕ, suc, ◌+◌, ◌-◌, ◌*◌, ◌/◌, ◌%◌, ◌<◌, ◌≤◌, ◌==◌, ◌&&◌, ◌||◌, List, [], ◌∷◌, ◌++◌, append_assoc, Bool, true, false, cond, length, nat_lt, nat_le, refl, sym, ap, subst, ◌∙◌, arith, eqb, eqb-true, eq-eqb, IsTrue, Option, Some, None, if◌then◌else◌}
 use Rattle.std.specs.Prelude.{count_ones}
 use Rattle.std.specs.Option.{unwrap_or}
 use Rattle.std.specs.List.{list_any}
@@ -10,41 +10,35 @@ use Rattle.qp_model.specs.declared.record.Rec.{Rec}
 use Rattle.qp_model.specs.declared.systems.System.{System}
 use Rattle.qp_model.specs.declared.words.Word.{Word}
 use Rattle.qp_model.specs.declared.words.Word.TheVariants as word
-use Rattle.qp_model.specs.declared.bodies.Entry.{Entry}
-use Rattle.qp_model.specs.declared.bodies.Body.{Body}
-use Rattle.qp_model.specs.declared.bodies.Body.TheVariants.{New, Short, NoBlock}
+use Rattle.qp_model.specs.declared.bodies.Body.TheVariants.{New, NoBlock}
 use Rattle.qp_model.specs.Record.{Item, item_of}
 use Rattle.qp_model.specs.Told.{ToldItem, Event, given, plain, for_object}
 use Rattle.qp_model.specs.History.{mark_of, touch, touch_of, same_word}
 use Rattle.qp_model.specs.WordLaw.{is_pool}
 use Rattle.qp_table.specs.TwoTables.{on_side, on_table}
 use Rattle.qp_table.specs.Counting.{many}
-use Rattle.qp_table.specs.Rule.{pool_at, block_at, mark_in, is_ref, is_spot, is_spot_at, is_entry, is_serve, IsContent}
-use Rattle.qp_table.specs.After.{rec_of, noted, spot}
+use Rattle.qp_table.specs.Rule.{pool_at, block_at, mark_in, is_ref, is_spot, is_entry, is_serve, IsContent}
+use Rattle.qp_table.specs.After.{rec_of, spot}
 use Rattle.qp_table.specs.declared.view.Glance.{Glance}
-use Rattle.qp_table.specs.declared.view.Spot.{Spot}
 use Rattle.qp_table.specs.declared.view.View.{View}
 use Rattle.qp_table.proofs.Counting.{many-snoc}
 use Rattle.qp_table.proofs.Marks.{low-mark}
 use Rattle.qp_table.proofs.Steps.{new-says}
 use Rattle.qp_table.proofs.Looks.{short-says, no_block-says}
 use Rattle.qp_calls.specs.Tokens.{Token, Held, Loose, same_token, token_of, hands_by, hands_after, handles}
-use Rattle.qp_calls.specs.LaneView.{LaneView, Shown, Gains, FreeBlocks, References, first_shown}
-use Rattle.qp_calls.specs.Clauses.{IsEvent, FitsPool, GivesOut, GivesNone as NoneGiven, Tries, event_of, shortage_of}
+use Rattle.qp_calls.specs.LaneView.{Shown, Gains, FreeBlocks, References, first_shown}
+use Rattle.qp_calls.specs.Clauses.{FitsPool, GivesOut, GivesNone as NoneGiven, Tries, shortage_of}
 use Rattle.qp_calls.specs.declared.tokens.Fresh.{Fresh}
 use Rattle.qp_calls_log.specs.declared.log.Log.{Log}
-use Rattle.qp_shared_views.specs.Words.{place_of, is_here, value_seen, mark_seen, shown_seen, as_shown}
+use Rattle.qp_shared_views.specs.Words.{value_seen, mark_seen, shown_seen, as_shown}
 use Rattle.qp_shared_views.specs.Lane.{lane_of, lane_mark, tokens, tokens_in, event_seen, told_as, number_of}
-use Rattle.qp_shared_views.specs.Telling.{Saw, Touches, TouchesTwo, Rises, is_on_table}
+use Rattle.qp_shared_views.specs.Telling.{Saw, Touches, TouchesTwo, Rises}
 use Rattle.qp_shared_views.proofs.Gaining.{mark-here, mark-was, mark-else, mark-rises, shown-here, shown-else}
 use Rattle.qp_shared_views.proofs.LawLemmas.{seen_words_rise, gives_gain}
 use Rattle.qp_shared_views.proofs.Saying.{same-more, logged-one, logged-number}
 use Rattle.qp_shared_views.proofs.Hands.{eq-turned}
-use Rattle.qp_side_words.specs.declared.SideView.{SideView}
-use Rattle.qp_side_words.specs.Rule.{signal_at}
-use Rattle.qp_side_words.specs.Told.{last_seen}
 use Rattle.qp_shared_steps.specs.Told.{HasPlace, free_of, shortage_rec}
-use Rattle.qp_shared_loops.specs.Ends.{Gives, GivesNone, GiveEnds, was_seen_as, seeing, word_without}
+use Rattle.qp_shared_loops.specs.Ends.{Gives, GivesNone, GiveEnds, was_seen_as, word_without}
 use Rattle.qp_shared_loops.specs.declared.gives.Life.{Life}
 use Rattle.qp_shared_lane.specs.declared.lane.LaneState.{LaneState}
 use Rattle.qp_shared_lane.specs.Holds.{LaneHolds, told_by, was_seen, side_mark, is_borne_out, IsPlaced}
@@ -54,7 +48,7 @@ use Rattle.qp_shared_lane.specs.Laws.{Kept, RecordKept}
 use Rattle.qp_shared_lane.proofs.LawLemmas.{records_keep_the_lane, table_records_keep_the_lane}
 use Rattle.qp_shared_lane.proofs.Adding.{side-skips}
 use Rattle.qp_shared_lane.proofs.Keeping.{keeps-all}
-use Rattle.qp_shared_blocks.proofs.Parts.{grown-same, read-fewer, still-same, placed-same, worn-same, seen-last, spot-is}
+use Rattle.qp_shared_blocks.proofs.Parts.{grown-same, read-fewer, still-same, placed-same, worn-same}
 
 -- What the event needs.
 

@@ -1,11 +1,10 @@
 -- A reference is made: the first one to a block, and another one.
-use Rattle.std.proofs.Common.{◌≡◌, ◌⊎◌, ℕ, zero, suc, ◌+◌, ◌-◌, ◌*◌, ◌/◌, ◌%◌, ◌<◌, ◌≤◌, ◌==◌, ◌&&◌, ◌||◌, List, [], ◌∷◌, ◌++◌, Bool, true, false, cond, length, nat_lt, refl, sym, ap, subst, ◌∙◌, arith, eqb, eqb-true, eq-eqb, IsTrue, if◌then◌else◌}
+use Rattle.std.proofs.Common.{◌≡◌, ℕ, suc, ◌+◌, ◌-◌, ◌/◌, ◌%◌, ◌<◌, ◌≤◌, ◌==◌, ◌&&◌, ◌||◌, List, [], ◌∷◌, ◌++◌, Bool, true, false, cond, nat_lt, refl, sym, ap, subst, ◌∙◌, arith, eqb, eqb-true, eq-eqb, IsTrue, if◌then◌else◌}
 use Rattle.std.specs.List.{list_any}
 use Rattle.std.proofs.lemmas.Bool.{and_from, and_parts, or_left, or_right}
 use Rattle.std.proofs.lemmas.Bool.Decides.{nat_tests}
 use Rattle.std.proofs.lemmas.List.Folds.{list_any-append}
 use Rattle.qp_model.specs.declared.record.Rec.{Rec}
-use Rattle.qp_model.specs.declared.systems.System.{System}
 use Rattle.qp_model.specs.declared.words.Word.{Word}
 use Rattle.qp_model.specs.declared.words.Word.TheVariants as word
 use Rattle.qp_model.specs.declared.bodies.Entry.{Entry}
@@ -13,8 +12,8 @@ use Rattle.qp_model.specs.declared.bodies.Body.TheVariants.{Inc}
 use Rattle.qp_model.specs.Record.{Item, item_of}
 use Rattle.qp_model.specs.Told.{ToldItem, Event, plain, for_object}
 use Rattle.qp_table.specs.Counting.{many, without}
-use Rattle.qp_table.specs.Rule.{block_at, mark_in, is_ref, is_spot, is_spot_at, is_entry, is_serve, event_in}
-use Rattle.qp_table.specs.After.{rec_of, began, doubled, learned, spot, ref}
+use Rattle.qp_table.specs.Rule.{block_at, mark_in, is_ref, is_spot, is_entry, is_serve, event_in}
+use Rattle.qp_table.specs.After.{rec_of, ref}
 use Rattle.qp_table.specs.declared.view.Content.{Content}
 use Rattle.qp_table.specs.declared.view.Spot.{Spot}
 use Rattle.qp_table.specs.declared.view.View.{View}
@@ -22,19 +21,19 @@ use Rattle.qp_table.proofs.Counting.{many-snoc, many-without}
 use Rattle.qp_table.proofs.Marks.{low-mark}
 use Rattle.qp_table.proofs.Steps.{inc-says}
 use Rattle.qp_calls.specs.Tokens.{Hold, Token, Held, Loose, same_token, token_of, take_out, stands, hands_by, hands_after, handles}
-use Rattle.qp_calls.specs.LaneView.{LaneView, Gains, References}
-use Rattle.qp_calls.specs.Clauses.{Makes, MakesMore, StandsHold, StandsFresh}
+use Rattle.qp_calls.specs.LaneView.{References}
+use Rattle.qp_calls.specs.Clauses.{Makes, MakesMore, StandsFresh}
 use Rattle.qp_calls.specs.declared.tokens.Fresh.{Fresh}
 use Rattle.qp_calls.proofs.HandLemmas.{same-equal}
 use Rattle.qp_calls_log.specs.declared.log.Log.{Log}
-use Rattle.qp_shared_views.specs.Words.{place_of, mark_seen, shown_seen}
+use Rattle.qp_shared_views.specs.Words.{mark_seen, shown_seen}
 use Rattle.qp_shared_views.specs.Lane.{lane_of, event_at, event_seen, tokens, tokens_in, has_content, is_read, told_as}
-use Rattle.qp_shared_views.specs.Telling.{Saw, Touches}
+use Rattle.qp_shared_views.specs.Telling.{Saw}
 use Rattle.qp_shared_views.proofs.Gaining.{mark-here, mark-was, mark-rises, shown-here}
 use Rattle.qp_shared_views.proofs.Hands.{tokens-out, refs-in, eq-turned}
 use Rattle.qp_shared_steps.specs.Told.{FirstTold, HasPlace}
 use Rattle.qp_shared_lane.specs.declared.lane.LaneState.{LaneState}
-use Rattle.qp_shared_lane.specs.Holds.{LaneHolds, told_by, IsRead, IsPlaced}
+use Rattle.qp_shared_lane.specs.Holds.{LaneHolds, told_by, IsRead}
 use Rattle.qp_shared_lane.specs.Lane.{world_in, lane_with, state_view}
 use Rattle.qp_shared_lane.specs.More.{IsPut, Grown, OnTable}
 use Rattle.qp_shared_lane.specs.Laws.{Kept}

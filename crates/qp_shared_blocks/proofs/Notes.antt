@@ -1,28 +1,24 @@
 -- Room, and notes.
-use Rattle.std.proofs.Common.{◌≡◌, ℕ, zero, suc, ◌+◌, ◌<◌, ◌≤◌, ◌||◌, List, [], ◌∷◌, ◌++◌, Bool, true, false, length, map, refl, sym, ap, subst, ◌∙◌, arith, IsTrue}
-use Rattle.std.specs.List.{list_any}
-use Rattle.std.proofs.lemmas.Bool.{or_left}
+use Rattle.std.proofs.Common.{◌≡◌, ℕ, ◌≤◌, ◌||◌, List, [], ◌∷◌, Bool, true, false, length, map, refl, sym, ap, subst, ◌∙◌, arith}
 use Rattle.qp_model.specs.declared.record.Rec.{Rec}
 use Rattle.qp_model.specs.declared.bodies.Entry.{Entry}
 use Rattle.qp_model.specs.declared.bodies.Body.{Body}
 use Rattle.qp_model.specs.declared.bodies.Body.TheVariants.{Took, New, Dec, Lock, Same, Spill}
-use Rattle.qp_model.specs.Record.{Item, item_of, body_of}
+use Rattle.qp_model.specs.Record.{item_of, body_of}
 use Rattle.qp_model.specs.Ends.{is_spill}
-use Rattle.qp_model.specs.History.{Neither, touch_of}
-use Rattle.qp_model.specs.Told.{Told, ToldItem, Known, Former, Event, for_object}
+use Rattle.qp_model.specs.History.{touch_of}
+use Rattle.qp_model.specs.Told.{ToldItem, Event, for_object}
 use Rattle.qp_model.specs.Knowing.{ceiling_after}
 use Rattle.qp_model.proofs.RecordLemmas.{lane-length}
-use Rattle.qp_table.specs.declared.view.View.{View}
 use Rattle.qp_calls.specs.LaneView.{LaneView, Roomier, GrowsOf, Gains, handled_in, ceiling_in}
-use Rattle.qp_calls.specs.Notes.{IsNote, MayNote, told_as as noted_as, told_note, spare_after}
-use Rattle.qp_calls.specs.Tokens.{Token, hands_by, hands_after, handles}
+use Rattle.qp_calls.specs.Notes.{IsNote, MayNote, told_as as noted_as, told_note}
+use Rattle.qp_calls.specs.Tokens.{Token, hands_after, handles}
 use Rattle.qp_calls_log.specs.declared.log.Log.{Log}
 use Rattle.qp_calls_log.specs.LaneLaws.{TellsLog, told-items}
-use Rattle.qp_calls_log.specs.Lane.{is_plain}
-use Rattle.qp_calls_log.proofs.NoteLemmas.{note-off, note-hands, note-handles, first-spill, other-note, spare-kept, spare-less}
-use Rattle.qp_shared_views.specs.Lane.{lane_of, told_as, event_seen}
+use Rattle.qp_calls_log.proofs.NoteLemmas.{note-off, note-hands, note-handles}
+use Rattle.qp_shared_views.specs.Lane.{lane_of, told_as}
 use Rattle.qp_shared_lane.specs.declared.lane.LaneState.{LaneState}
-use Rattle.qp_shared_lane.specs.Holds.{LaneHolds, told_by, FormerIs}
+use Rattle.qp_shared_lane.specs.Holds.{LaneHolds, FormerIs}
 use Rattle.qp_shared_lane.specs.Lane.{world_in, lane_with, state_view}
 use Rattle.qp_shared_lane.specs.More.{IsPut, IsNoted}
 use Rattle.qp_shared_lane.specs.Laws.{Kept, LogKept}

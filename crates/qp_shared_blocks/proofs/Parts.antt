@@ -1,30 +1,22 @@
 -- Parts of what a step on a block owes: tokens, what was read, and used blocks.
-use Rattle.std.proofs.Common.{◌≡◌, ◌≢◌, ℕ, zero, suc, ◌+◌, ◌/◌, ◌%◌, ◌<◌, ◌≤◌, ◌==◌, ◌&&◌, ◌||◌, List, [], ◌∷◌, ◌++◌, Bool, true, false, cond, length, refl, sym, ap, subst, ◌∙◌, arith, eqb, eqb-true, ltb, eq-eqb, ne_eqb, IsTrue}
-use Rattle.std.specs.List.{list_any}
+use Rattle.std.proofs.Common.{◌≡◌, ℕ, ◌+◌, ◌≤◌, ◌&&◌, List, [], ◌∷◌, ◌++◌, Bool, true, false, cond, refl, sym, ap, subst, ◌∙◌, arith, eqb, eqb-true, eq-eqb, IsTrue}
 use Rattle.std.proofs.lemmas.Bool.{and_from, and_parts, or_left, or_right}
 use Rattle.std.proofs.lemmas.List.Folds.{list_any-append}
 use Rattle.qp_model.specs.declared.systems.System.{System}
 use Rattle.qp_model.specs.declared.words.Word.{Word}
 use Rattle.qp_model.specs.declared.words.Word.TheVariants as word
 use Rattle.qp_model.specs.declared.bodies.Entry.{Entry}
-use Rattle.qp_model.specs.declared.bodies.Body.TheVariants.{Dec}
-use Rattle.qp_model.specs.Told.{ToldItem, Told, Left, dropped, for_object}
 use Rattle.qp_table.specs.Counting.{many, without}
-use Rattle.qp_table.specs.Rule.{block_at, mark_in, is_ref, is_spot, is_spot_at, is_entry}
+use Rattle.qp_table.specs.Rule.{is_spot, is_spot_at, is_entry}
 use Rattle.qp_table.specs.After.{spot, ref}
 use Rattle.qp_table.specs.declared.view.Glance.{Glance}
 use Rattle.qp_table.specs.declared.view.Content.{Content}
-use Rattle.qp_table.specs.declared.view.Spot.{Spot}
 use Rattle.qp_table.specs.declared.view.View.{View}
-use Rattle.qp_table.proofs.Counting.{many-snoc}
-use Rattle.qp_calls.specs.Tokens.{Token, Held, Loose, same_token, token_of, take_out, stands, with_left, hands_by, hands_after, handles}
-use Rattle.qp_calls.proofs.HandLemmas.{same-equal}
+use Rattle.qp_calls.specs.Tokens.{Token, Held, Loose, token_of}
 use Rattle.qp_shared_views.specs.Words.{mark_seen}
-use Rattle.qp_shared_views.specs.Lane.{tokens, tokens_in, has_content, is_read, event_seen}
-use Rattle.qp_shared_views.proofs.Hands.{tokens-out, refs-out, loose-true}
-use Rattle.qp_shared_steps.specs.Told.{HasPlace}
+use Rattle.qp_shared_views.specs.Lane.{tokens, has_content, is_read, event_seen}
 use Rattle.qp_shared_lane.specs.Holds.{IsRead, IsStill, IsPlaced, IsWorn, was_seen}
-use Rattle.qp_shared_lane.specs.More.{Grown, SeesMore}
+use Rattle.qp_shared_lane.specs.More.{Grown}
 
 -- Where nothing else was read.
 pub grown-same : (v u : View) → u.contents ≡ v.contents → Grown v u

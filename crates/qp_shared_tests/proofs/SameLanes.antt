@@ -17,7 +17,7 @@ use Rattle.qp_calls.specs.declared.answers.RoomFault.{RoomFault}
 use Rattle.qp_calls.specs.declared.answers.Take.{Take}
 use Rattle.qp_calls.specs.declared.answers.Take.TheVariants as take
 use Rattle.qp_calls.specs.declared.did.Did.{Did}
-use Rattle.qp_calls.specs.Clauses.{Counted, Gives, Takes, TakesNone, last_nil, same_counts}
+use Rattle.qp_calls.specs.Clauses.{Counted, Gives, Takes, last_nil, same_counts}
 use Rattle.qp_calls.specs.Groups.{DoesCall, EndsStep, Refused}
 use Rattle.qp_calls.specs.LaneView.{AddsOf, Counts, Gains, LaneView, Looks, NotShown, Roomier}
 use Rattle.qp_calls_meet.specs.Meeting.{Met}

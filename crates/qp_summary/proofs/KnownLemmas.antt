@@ -1,5 +1,5 @@
 -- The line of an object by its counts and its rest.
-use Rattle.std.proofs.Common.{◌≡◌, ◌≢◌, ◌∙◌, ℕ, ◌+◌, ◌==◌, ◌&&◌, Bool, true, false, cond, List, [], ◌∷◌, ◌++◌, refl, sym, ap, subst, Option, Some, None, arith}
+use Rattle.std.proofs.Common.{◌≡◌, ◌≢◌, ◌∙◌, ℕ, ◌+◌, ◌==◌, ◌&&◌, Bool, true, false, cond, List, [], ◌∷◌, ◌++◌, refl, sym, ap, subst, Some, arith}
 use Rattle.std.specs.Prelude.{codes, decimal}
 use Rattle.std.specs.List.{AllByRecursion, count_by, find}
 use Rattle.std.proofs.lemmas.Bool.Decides.{nat_tests}
@@ -15,11 +15,11 @@ use Rattle.qp_model.specs.Home.{by_object, home_of, lane_at}
 use Rattle.qp_model.specs.Kernels.{port}
 use Rattle.qp_model.specs.Knowing.{Facts, ceiling_after, records_of, told}
 use Rattle.qp_model.specs.Lawful.{facts_of}
-use Rattle.qp_model.specs.OutputSummary.{CourseLeaves, IsObjectLine, IsStateText, all_done, config_text, is_done, is_took, name_in, taken_in, values_text}
+use Rattle.qp_model.specs.OutputSummary.{IsObjectLine, IsStateText, all_done, config_text, is_done, is_took, name_in, taken_in, values_text}
 use Rattle.qp_model.specs.Record.{Item}
 use Rattle.qp_model.specs.Told.{Told}
 use Rattle.qp_kernel_end.specs.declared.rest.Rest.{Rest}
-use Rattle.qp_kernel_end.specs.Rests.{IsRestIn, IsRestOf}
+use Rattle.qp_kernel_end.specs.Rests.{IsRestOf}
 use Rattle.qp_summary.specs.Resting.{LeavesRest}
 use Rattle.qp_summary.specs.Counting.{done_of, took_of}
 

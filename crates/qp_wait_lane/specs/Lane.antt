@@ -1,6 +1,5 @@
 -- What contracts see of a lane of the waiting port.
-use Rattle.std.specs.Prelude.{◌≡◌, ℕ, ◌+◌, ◌≤◌, ◌%◌, ◌^◌, ◌==◌, Bool, List, [], ◌∷◌, length, if◌then◌else◌, Some, None}
-use Rattle.std.specs.declared.option.Option.{Option}
+use Rattle.std.specs.Prelude.{◌≡◌, ℕ, ◌+◌, ◌≤◌, ◌%◌, ◌^◌, ◌==◌, Bool, List, [], ◌∷◌, length, if◌then◌else◌}
 use Rattle.crossbeam_utils.specs.Token.{parker_view}
 use Rattle.qp_calls.specs.LaneView.{LaneView}
 use Rattle.qp_wait_bells.specs.Tallies.{one_where}

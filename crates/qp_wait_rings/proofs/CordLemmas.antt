@@ -1,7 +1,7 @@
 -- A lane whose posts ring, behind more records.
-use Rattle.std.proofs.Common.{◌≡◌, ℕ, ◌+◌, ◌%◌, ◌^◌, ◌<◌, ◌≤◌, ◌==◌, nat_lt, Bool, true, false, not, ◌&&◌, ◌||◌, List, [], ◌∷◌, ◌++◌, map, length, take, append-nil, get_or, slice_get, slice_set, zero, suc, cond, refl, sym, ◌∙◌, ap, subst, arith, length-append, Option, Some, None, IsTrue}
+use Rattle.std.proofs.Common.{◌≡◌, ℕ, ◌+◌, ◌%◌, ◌^◌, ◌<◌, ◌≤◌, ◌==◌, nat_lt, Bool, true, false, not, ◌||◌, List, [], ◌∷◌, ◌++◌, map, length, take, append-nil, get_or, slice_get, slice_set, zero, suc, cond, refl, sym, ◌∙◌, ap, subst, arith, length-append, Option, Some, None, IsTrue}
 use Rattle.std.proofs.Math.ListN.{drop}
-use Rattle.std.specs.List.{count_by, find, list_all, list_any}
+use Rattle.std.specs.List.{count_by, find, list_any}
 use Rattle.std.proofs.lemmas.Bool.{and_parts}
 use Rattle.std.proofs.lemmas.List.{length-map}
 use Rattle.qp_model.proofs.AbleLemmas.{some-same}
@@ -20,7 +20,7 @@ use Rattle.qp_calls.specs.declared.tokens.Entry.{Entry}
 use Rattle.qp_calls.specs.declared.answers.Claim.{Claim}
 use Rattle.qp_calls.specs.declared.answers.Claim.TheVariants as claim
 use Rattle.qp_wait_bells.specs.declared.tally.Tally.{Tally}
-use Rattle.qp_calls.specs.Clauses.{Claims, ClaimsFront, PostsIt, PostsNot, PutsFront, PutsNot, entry_of, refusal_of}
+use Rattle.qp_calls.specs.Clauses.{Claims, ClaimsFront, PostsIt, PostsNot, PutsFront, PutsNot, entry_of}
 use Rattle.qp_calls.specs.LaneLaws.{IsWithinLimit}
 use Rattle.qp_calls.specs.LaneView.{AddsOf, LaneView}
 use Rattle.qp_wait_rings.specs.declared.cord.Cord.{Cord}

@@ -1,10 +1,8 @@
 -- What a lane's calls leave of it: its records are a front of the later ones, and all but two calls add neither a post nor a refusal.
 use Rattle.std.proofs.Common.{◌≡◌, ℕ, zero, suc, ◌+◌, Bool, true, false, not, ◌||◌, List, [], ◌∷◌, ◌++◌, refl, sym, ◌∙◌, ap, append-nil, Option, Some, None}
-use Rattle.std.specs.declared.result.Result.{Result}
 use Rattle.std.specs.Bool.{MatchBool}
 use Rattle.std.specs.List.{list_all}
 use Rattle.qp_model.specs.declared.record.Rec.{Rec}
-use Rattle.qp_model.specs.declared.systems.System.{System}
 use Rattle.qp_model.specs.declared.bodies.Body.{Body}
 use Rattle.qp_model.specs.declared.bodies.Body.TheVariants.{Post, Lifo, Full, NoEntry, NoLifo, Lock, Nil}
 use Rattle.qp_model.specs.declared.words.Word.{Word}

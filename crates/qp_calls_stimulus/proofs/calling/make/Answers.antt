@@ -1,4 +1,4 @@
-use Rattle.std.proofs.Common.{Bool, Ok, refl, subst}
+use Rattle.std.proofs.Common.{Ok, refl, subst}
 use Rattle.std.proofs.lemmas.Result.{err_from_is_err_and}
 use Rattle.qp_model.specs.declared.stimulus.Stim.{Stim}
 use Rattle.qp_model.specs.declared.stimulus.Stim.TheVariants as stim

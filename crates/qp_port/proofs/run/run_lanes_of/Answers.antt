@@ -1,4 +1,4 @@
-use Rattle.std.proofs.Common.{◌+◌, ◌∙◌, length, map, arith}
+use Rattle.std.proofs.Common.{◌∙◌, map, arith}
 use Rattle.std.proofs.lemmas.List.{length-map}
 use denote.Param.Send.{sendable}
 use Rattle.qp_port.proofs.CrossingLemmas.{worker-send}

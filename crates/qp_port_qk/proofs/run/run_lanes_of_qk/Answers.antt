@@ -1,6 +1,6 @@
 use denote.Param.Send.{sendable}
 use Rattle.qp_port_qk.proofs.CrossingLemmas.{worker-send}
-use Rattle.std.proofs.Common.{◌≡◌, ◌⊎◌, ap, arith, length, map, sym, subst, ◌∙◌, false, Some, true}
+use Rattle.std.proofs.Common.{◌≡◌, ◌⊎◌, arith, map, sym, subst, ◌∙◌, false, Some, true}
 use Rattle.std.specs.Prelude.{IfOk, OnOk}
 use Rattle.std.specs.List.{list_all}
 use Rattle.qp_port_phases.specs.declared.phases.Ended.TheVariants as ended

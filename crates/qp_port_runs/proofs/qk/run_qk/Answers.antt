@@ -1,5 +1,5 @@
 use denote.Param.Send.{sendable}
-use Rattle.std.proofs.Common.{◌≡◌, ◌+◌, ◌<◌, length, map, ap, arith, subst, ◌∙◌}
+use Rattle.std.proofs.Common.{length, map, ap, arith, subst}
 use Rattle.std.specs.Prelude.{IfOk}
 use Rattle.qp_model.specs.Kernels.{qk}
 use Rattle.qp_port_quiet.specs.Sealed.{SealsLanes}

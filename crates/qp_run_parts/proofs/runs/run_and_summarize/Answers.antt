@@ -4,7 +4,7 @@ use Rattle.qp_commands.specs.declared.values.Form.TheVariants.{One}
 use Rattle.qp_commands.specs.declared.values.Output.TheVariants.{Summary}
 use Rattle.qp_run_parts.specs.Printed.{made_budget}
 use Rattle.qp_run_parts.proofs.AbleLemmas.{sound-judgeable}
-use Rattle.qp_run_parts.proofs.FormLemmas.{run-form, run-lawful, run-range}
+use Rattle.qp_run_parts.proofs.FormLemmas.{run-form, run-range}
 use Rattle.qp_run_parts.proofs.PrintedLemmas.{journal-printed, memory-printed}
 use Rattle.qp_run_parts.proofs.runs.run_and_summarize.Goals as goal
 

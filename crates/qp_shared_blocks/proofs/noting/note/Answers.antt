@@ -1,4 +1,4 @@
-use Rattle.std.proofs.Common.{◌≡◌, ◌+◌, true, false, sym, ◌∙◌}
+use Rattle.std.proofs.Common.{true, false, sym, ◌∙◌}
 use Rattle.qp_calls_log.proofs.NoteLemmas.{first-spill, other-note, spare-kept, spare-less}
 use Rattle.qp_shared_views.specs.Lane.{lane_of}
 use Rattle.qp_shared_lane.specs.Lane.{state_view}

@@ -1,9 +1,9 @@
-use Rattle.std.proofs.Common.{◌≡◌, ℕ, ◌+◌, ◌≤◌, length, sym, ap, ◌∙◌, arith, Ok}
+use Rattle.std.proofs.Common.{arith}
 use Rattle.qp_model.specs.History.{lane_items}
 use Rattle.qp_model.proofs.RecordLemmas.{lane-length}
 use Rattle.qp_calls_log.proofs.LogLemmas.{length-kinds}
 use Rattle.qp_shared_views.specs.Lane.{lane_of}
-use Rattle.qp_shared_blocks.proofs.Notes.{told-long, room-holds, roomier, stays, room-refused}
+use Rattle.qp_shared_blocks.proofs.Notes.{told-long, room-holds, roomier, stays}
 use Rattle.qp_shared_blocks.proofs.noting.room.Goals as goal
 
 pub overflow_cast-result : goal.overflow_cast-result

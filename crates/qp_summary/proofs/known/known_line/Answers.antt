@@ -1,4 +1,4 @@
-use Rattle.std.proofs.Common.{◌≡◌, ◌+◌, ◌<◌, ◌∙◌, ◌++◌, ◌∷◌, ap, arith, lit<, rules, subst, sym}
+use Rattle.std.proofs.Common.{◌≡◌, ◌+◌, ◌∙◌, ◌++◌, ◌∷◌, ap, arith, rules, subst, sym}
 use Rattle.std.specs.Prelude.{codes, decimal, string_bytes}
 use Rattle.qp_model.specs.History.{lane_items}
 use Rattle.qp_model.specs.Home.{by_object, lane_at}

@@ -1,5 +1,5 @@
 use denote.Param.Send.{sendable}
-use Rattle.std.proofs.Common.{◌≡◌, ◌≤◌, length, map, sym, subst, ap, arith}
+use Rattle.std.proofs.Common.{◌≡◌, map, sym, subst}
 use Rattle.qp_port_runs.specs.Handed.{HasRun}
 use Rattle.qp_port_runs.specs.Handed.{AreNewLanes, AreSameLanes}
 use Rattle.qp_port_runs.proofs.Worlds.{ok-one, ok-three}

@@ -1,4 +1,4 @@
-use Rattle.std.proofs.Common.{◌≡◌, ◌+◌, ◌<◌, length, map, ap, arith, subst, ◌∙◌}
+use Rattle.std.proofs.Common.{length, map, ap, arith, subst}
 use Rattle.std.specs.Prelude.{IfOk}
 use Rattle.qp_model.specs.declared.systems.System.{System}
 use Rattle.qp_model.specs.Kernels.{port}

@@ -1,4 +1,4 @@
-use Rattle.std.proofs.Common.{map, sym, ap, subst, ◌∙◌, ◌≡◌, ◌∷◌}
+use Rattle.std.proofs.Common.{map, sym, ap, subst, ◌≡◌, ◌∷◌}
 use Rattle.qp_shared.specs.Lane.{lane_view}
 use Rattle.qp_shared.specs.Starting.{AreGiven, rest_of}
 use Rattle.qp_shared.proofs.shared.Shared.all_lanes.Goals as goal

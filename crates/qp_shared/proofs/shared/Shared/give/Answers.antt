@@ -1,11 +1,11 @@
-use Rattle.std.proofs.Common.{◌≡◌, ◌∙◌, ap, sym, subst}
+use Rattle.std.proofs.Common.{◌∙◌, ap, sym, subst}
 use Rattle.qp_table.specs.Counting.{Each}
 use Rattle.qp_table.specs.First.{IsFresh}
 use Rattle.qp_table.specs.declared.view.View.{View}
 use Rattle.qp_side_words.specs.declared.SideView.{SideView}
 use Rattle.qp_shared_side.specs.Seats.{in_set}
-use Rattle.qp_shared.proofs.Serving.{gets, all-left, none-left, failing-fresh}
-use Rattle.qp_shared.proofs.Roots.{number-left, given-views, root-left, side-left}
+use Rattle.qp_shared.proofs.Serving.{failing-fresh}
+use Rattle.qp_shared.proofs.Roots.{given-views, root-left, side-left}
 use Rattle.qp_shared.proofs.shared.Shared.give.Goals as goal
 
 pub seated-requires-clause-views : goal.seated-requires-clause-views

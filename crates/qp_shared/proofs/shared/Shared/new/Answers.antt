@@ -1,4 +1,4 @@
-use Rattle.std.proofs.Common.{◌≡◌, ◌∙◌, ap, sym, subst}
+use Rattle.std.proofs.Common.{◌≡◌, ap, sym, subst}
 use Rattle.std.specs.List.{list_any}
 use Rattle.qp_table.specs.Counting.{Each}
 use Rattle.qp_table.specs.First.{IsFresh, first_serves}

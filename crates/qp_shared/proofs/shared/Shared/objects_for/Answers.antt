@@ -1,4 +1,4 @@
-use Rattle.std.proofs.Common.{◌≡◌, ◌-◌, sym, ap, ◌∙◌, true}
+use Rattle.std.proofs.Common.{◌-◌, ap, ◌∙◌}
 use Rattle.qp_model.specs.declared.systems.System.{System}
 use Rattle.qp_shared.proofs.Serving.{bits-for, no-bits-for, found-at, none-at}
 use Rattle.qp_shared.proofs.shared.Shared.objects_for.Goals as goal

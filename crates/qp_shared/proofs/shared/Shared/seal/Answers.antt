@@ -1,4 +1,4 @@
-use Rattle.std.proofs.Common.{◌≡◌, ◌∙◌, ◌+◌, ◌<◌, ℕ, List, [], ◌∷◌, ◌++◌, length, map, slice_index_or, sym, ap, subst, refl, eq-eqb, arith}
+use Rattle.std.proofs.Common.{◌≡◌, ◌∙◌, ◌+◌, List, [], ◌∷◌, ◌++◌, length, map, slice_index_or, sym, ap, subst, refl, eq-eqb, arith}
 use Rattle.std.specs.List.{remove}
 use Rattle.std.proofs.lemmas.List.{length-map}
 use Rattle.qp_model.specs.declared.record.Rec.{Rec}
@@ -6,7 +6,6 @@ use Rattle.qp_model.specs.declared.systems.System.{System}
 use Rattle.qp_model.specs.declared.journals.Journal.{Journal}
 use Rattle.qp_model.specs.End.{end_of}
 use Rattle.qp_model.specs.History.{all_items}
-use Rattle.qp_calls.specs.LaneView.{LaneView}
 use Rattle.qp_port_quiet.specs.Sealed.{SealsLanes}
 use Rattle.qp_table.specs.Counting.{Each}
 use Rattle.qp_table.specs.declared.view.View.{View}

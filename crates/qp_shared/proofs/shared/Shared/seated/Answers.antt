@@ -1,4 +1,4 @@
-use Rattle.std.proofs.Common.{refl, ap, sym, subst, length, ◌∙◌}
+use Rattle.std.proofs.Common.{refl, ap, sym, subst, length}
 use Rattle.qp_model.specs.Sound.{IsSound}
 use Rattle.qp_side_words.specs.declared.SideView.{SideView}
 use Rattle.qp_table.specs.declared.view.View.{View}

@@ -1,4 +1,4 @@
-use Rattle.std.proofs.Common.{◌∙◌, refl, sym}
+use Rattle.std.proofs.Common.{refl, sym}
 use Rattle.qp_model.specs.Record.{item_of}
 use Rattle.qp_summary.proofs.CountLemmas.{back-more, block-skip, given-more}
 use Rattle.qp_summary.proofs.blocks.Blocks.add.Goals as goal

@@ -1,4 +1,4 @@
-use Rattle.std.proofs.Common.{◌≡◌, ◌+◌, ◌%◌, ◌^◌, arith, ap}
+use Rattle.std.proofs.Common.{◌+◌, ◌%◌, ◌^◌, arith, ap}
 use Rattle.qp_wait_lane.proofs.lane.BellLane.closed.Goals as goal
 
 pub returns-clause-refusals : goal.returns-clause-refusals

@@ -1,9 +1,8 @@
-use Rattle.std.proofs.Common.{◌≡◌, ◌∙◌}
+use Rattle.std.proofs.Common.{◌∙◌}
 use Rattle.qp_wait_lane.specs.Lane.{bell_view}
 use Rattle.qp_wait_rings.proofs.CordLemmas.{cord-there}
 use Rattle.qp_wait_lane.proofs.Parking.{both-notes, count-all, given-count}
 use Rattle.qp_wait_lane.specs.Lane.{given_in}
-use Rattle.qp_wait_rings.specs.Cords.{count_in}
 use Rattle.qp_wait_lane.proofs.lane.BellLane.farewells.Goals as goal
 
 pub returns-clause-notes : goal.returns-clause-notes
