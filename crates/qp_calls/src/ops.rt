@@ -127,7 +127,7 @@ pub trait Ops {
         ensures tries { Tries (word.Queue (lane self.old).by) (draws_claimed result)
             steps.old steps.new (lane self.old) (lane self.new) };
 
-    /// Takes the front entry. It waits only for a poster that has claimed the front entry and not yet laid it.
+    /// Takes the front entry. Where a poster has claimed it and not yet laid it, an implementation may wait for it.
     fn take<R: Wait>(&mut self, rt: &R, me: u8) -> Take
         requires room { 0 < (lane self.old).spare }
         requires object { IsTrue (is_object (lane self.old).sys me) }

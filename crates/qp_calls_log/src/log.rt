@@ -45,6 +45,22 @@ fn are(last: Option<Counts>, now: Counts) -> bool
     }
 }
 
+/// Makes room for so many more records. A list without records is made anew, so that its memory comes from the thread that works
+/// in the lane, and lists of lanes grow apart. A refusal changes no record and no room.
+fn make_more(recs: &mut Vec<Rec>, more: usize) -> Result<(), Memory>
+    ensures items { recs.new.items ≡ recs.old.items }
+    ensures len { vec_len recs.new ≡ vec_len recs.old }
+    ensures ok { OnOk result (vec_len recs.new + more ≤ vec_capacity recs.new) }
+    ensures refused { OnErr result (vec_capacity recs.new ≡ vec_capacity recs.old) }
+{
+    if recs.is_empty() {
+        let alloc = *recs.allocator();
+        *recs = Vec::with_capacity(alloc, more).map_err(|_| Memory)?;
+        return Ok(());
+    }
+    recs.reserve(more).map_err(|_| Memory)
+}
+
 impl Log {
     /// A lane with no record, and the place for a `spill`.
     pub fn new(alloc: Global) -> Result<Log, Memory>
@@ -125,9 +141,7 @@ impl Log {
         ensures stops { self.new.stops.list ≡ self.old.stops.list }
         ensures answered { self.new.answered.list ≡ self.old.answered.list }
     {
-        let Ok(()) = self.recs.reserve(9) else {
-            return Err(Memory);
-        };
+        make_more(&mut self.recs, 9)?;
         let more = 8 - self.spare;
         self.spare = 8;
         Ok(more)

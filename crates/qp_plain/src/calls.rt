@@ -158,20 +158,17 @@ impl<'a> Ops for PlainWorld<'a> {
                 Take::Taken(e)
             }
             None => {
-                if !self.book.tells(me, now) {
-                    self.book
-                        .add_nil(Rec::nil(me, now.f, now.l, now.m), me, now);
-                    return Take::Empty {
-                        f: now.f,
-                        l: now.l,
-                        m: now.m,
-                    };
-                }
-                Take::Empty {
+                let empty = Take::Empty {
                     f: now.f,
                     l: now.l,
                     m: now.m,
+                };
+                if !self.book.tells(me, now) {
+                    self.book
+                        .add_nil(Rec::nil(me, now.f, now.l, now.m), me, now);
+                    return empty;
                 }
+                empty
             }
         }
     }

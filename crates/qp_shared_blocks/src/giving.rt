@@ -5,25 +5,15 @@ ghost use Rattle.std.specs.Option.{unwrap_or};
 ghost use Rattle.qp_model.specs.Record.{item_of};
 ghost use Rattle.qp_model.specs.declared.words.Word.TheVariants as word;
 ghost use Rattle.qp_calls.specs.Clauses.{FitsPool, Gives, Tries, draws_given, event_of, shortage_of};
-ghost use Rattle.qp_shared_steps.specs.Told.{free_of};
 ghost use Rattle.qp_shared_lane.specs.Lane.{state_view};
 
 use qp_base::{Ev, Steps};
 use qp_calls::{Fresh, Give};
 use qp_model::Rec;
 use qp_shared_lane::{LaneState, put};
-use qp_shared_loops::gives::give_block;
+use qp_shared_loops::gives::{free_of, give_block};
+use qp_shared_views::UNIT;
 use std::sync::ledger::Ledger;
-
-/// What one operation adds to the number of a pool's word.
-const UNIT: u64 = 1 << 32;
-
-/// How many blocks are free by a pool's word.
-fn free_by(word: u64) -> u8
-    ensures { result ≡ free_of word }
-{
-    ((word % UNIT) as u32).count_ones() as u8
-}
 
 /// The record of too few free blocks.
 fn shortage(o: u8, pool: u8, n: u32, free: u8, reserve: Option<u8>) -> Rec
@@ -54,7 +44,7 @@ pub fn give<L: Ledger>(
     let by = lane.by;
     let (found, given) = give_block(lane.words, &mut lane.seat, by, pool, reserve, ev, steps);
     let n = (found / UNIT) as u32;
-    let free = free_by(found);
+    let free = free_of(found);
     match given {
         Some(life) => {
             let rec = Rec::new(by, pool, n, life.block, life.from, ev);

@@ -8,10 +8,8 @@ use crate::steps::another;
 use qp_calls::{Dec, Fresh, Hold};
 use qp_model::Rec;
 use qp_shared_lane::{LaneState, put};
+use qp_shared_views::UNIT;
 use qp_shared_words::blocks::{drop_reference, first_reference};
-
-/// What one operation adds to the number of a block's word.
-const UNIT: u64 = 1 << 32;
 
 /// Makes the first reference to a block.
 pub fn first(lane: &mut LaneState<'_>, f: Fresh) -> Hold

@@ -8,6 +8,7 @@ use crate::steps::put_back;
 use qp_calls::Fresh;
 use qp_model::Rec;
 use qp_shared_lane::{LaneState, put};
+use qp_shared_views::UNIT;
 
 /// Gives the block back. Its record states after how many operations its life ended, which the lane remembers since it dropped the last
 /// reference.
@@ -20,6 +21,6 @@ pub fn back(lane: &mut LaneState<'_>, f: Fresh)
     let (pool, block) = (f.pool(), f.block());
     let end = lane.ends.of(pool, block);
     let found = put_back(lane.words, &mut lane.seat, lane.by, pool, block, end);
-    let rec = Rec::back(lane.by, pool, (found / 4294967296) as u32, block, end);
+    let rec = Rec::back(lane.by, pool, (found / UNIT) as u32, block, end);
     put(&mut lane.log, &mut lane.numbers, rec, 0);
 }

@@ -1,7 +1,7 @@
 //! Steps on blocks that tell more than those of qp_shared_words: another reference, and that by which a used block comes back. Each is one
 //! of its atomic operations.
 
-ghost use Rattle.std.specs.Prelude.{◌≡◌, ◌^◌, ◌<◌, ◌≤◌};
+ghost use Rattle.std.specs.Prelude.{◌≡◌, ◌<◌};
 ghost use Rattle.qp_table.specs.Counting.{many};
 ghost use Rattle.qp_table.specs.Rule.{is_ref, is_spot_at};
 ghost use Rattle.qp_table.specs.After.{HasRoom};
@@ -9,20 +9,13 @@ ghost use Rattle.qp_shared_steps.specs.Told.{HasPlace};
 ghost use Rattle.qp_shared_blocks.specs.Ends.{AnotherTold, ReturnTold};
 
 use atomic_table::Seat;
+use qp_shared_views::UNIT;
 use qp_shared_words::Words;
+use qp_shared_words::blocks::bit_of;
 use qp_shared_words::places::{block_at, pool_at};
 use qp_shared_words::steps::{About, NOTHING, add};
 use qp_table::View;
 use std::marker::Brand;
-
-/// The bit of a block in its pool's map.
-fn bit_of(block: u8) -> u64
-    requires { block < 32 }
-    ensures value { result ≡ 2 ^ block }
-    ensures most { result ≤ 2147483648 }
-{
-    1 << block
-}
 
 /// Puts back a used block, whose life ended at `at` operations, and answers the pool's word as it was.
 pub fn put_back(
@@ -48,13 +41,7 @@ pub fn put_back(
         old: at,
         ..NOTHING
     };
-    add::<Brand>(
-        words,
-        seat,
-        pool_at(pool),
-        4294967296 + bit_of(block),
-        about,
-    )
+    add::<Brand>(words, seat, pool_at(pool), UNIT + bit_of(block), about)
 }
 
 /// Makes a reference beside the one in hand, and answers the block's word as it was.

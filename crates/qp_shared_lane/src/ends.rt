@@ -11,7 +11,9 @@ pub struct Ends {
 
 impl Ends {
     /// Where nothing has ended.
-    pub fn none() -> Ends {
+    pub fn none() -> Ends
+        ensures { (i : ℕ) → i < 512 → slice_index result.at i ≡ 0 }
+    {
         Ends { at: [0; 512] }
     }
 

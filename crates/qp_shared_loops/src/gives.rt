@@ -13,6 +13,7 @@ ghost use Rattle.qp_shared_loops.specs.Ends.{BlockEnds, GiveEnds, filling};
 
 use atomic_table::Seat;
 use qp_base::{Ev, Steps};
+use qp_shared_views::UNIT;
 use qp_shared_words::Words;
 use qp_shared_words::blocks::{fill, look_at_pool, read_beginning, try_give};
 use qp_table::View;
@@ -26,10 +27,10 @@ pub struct Life {
 }
 
 /// How many blocks are free by a pool's word.
-pub(crate) fn free_of(word: u64) -> u64
+pub fn free_of(word: u64) -> u8
     ensures { result ≡ free_of word }
 {
-    u64::from((word % 4294967296).count_ones())
+    ((word % UNIT) as u32).count_ones() as u8
 }
 
 /// The lowest free block by a pool's word.
@@ -38,7 +39,7 @@ fn lowest(word: u64) -> u8
     ensures lowest { IsLowest result (word % 4294967296) }
     ensures within { result < 32 }
 {
-    ((word % 4294967296) as u32).trailing_zeros() as u8
+    ((word % UNIT) as u32).trailing_zeros() as u8
 }
 
 /// Gives out the lowest free block, where more blocks are free than the reserve. Its event is still to be written.
@@ -62,7 +63,7 @@ fn give_lowest<L: Ledger>(
     ensures up { steps.old ≤ steps.new }
     ensures tries { steps.new + mark_in (pool_at pool) (value_seen words.now.shared.key (word.Pool pool) seat.old.me.0.seen) ≤ steps.old + 1 + mark_in (pool_at pool) result.0 }
 {
-    let least = u64::from(reserve.unwrap_or(0));
+    let least = reserve.unwrap_or(0);
     let mut found = look_at_pool(words, seat, by, pool, reserve);
     if free_of(found) <= least {
         return (found, None);
@@ -128,7 +129,7 @@ pub fn give_block<L: Ledger>(
     match given {
         Some(block) => {
             write_event(words, seat, pool, block, ev);
-            let from = read_beginning(words, seat, pool, block) / 4294967296;
+            let from = read_beginning(words, seat, pool, block) / UNIT;
             (found, Some(Life { block, from }))
         }
         None => (found, None),

@@ -73,7 +73,7 @@ fn claim_last_in<L: Ledger>(
         name,
         ..NOTHING
     };
-    exchange::<Brand>(words, seat, queue_at(object), old, old + 2097152, about)
+    exchange::<Brand, About>(words, seat, queue_at(object), old, old + 2097152, about)
 }
 
 /// Claims the cell before the front of a queue, by the lane that serves it, where an entry is free. It looks, and then

@@ -33,20 +33,17 @@ pub fn take<R: Wait>(lane: &mut LaneState<'_>, rt: &R, me: u8) -> Take
             Take::Taken(e)
         }
         None => {
-            if lane.log.tells(me, now) {
-                return Take::Empty {
-                    f: now.f,
-                    l: now.l,
-                    m: now.m,
-                };
-            }
-            let rec = Rec::nil(me, now.f, now.l, now.m);
-            put_nil(&mut lane.log, &mut lane.numbers, rec, me, now);
-            Take::Empty {
+            let empty = Take::Empty {
                 f: now.f,
                 l: now.l,
                 m: now.m,
+            };
+            if lane.log.tells(me, now) {
+                return empty;
             }
+            let rec = Rec::nil(me, now.f, now.l, now.m);
+            put_nil(&mut lane.log, &mut lane.numbers, rec, me, now);
+            empty
         }
     }
 }

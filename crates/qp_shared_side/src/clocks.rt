@@ -9,12 +9,10 @@ ghost use Rattle.qp_side_words.specs.Told.{last_seen, counter_in, interval_in, e
 use crate::steps::{About, NOTHING, Words, exchange, look};
 use atomic_table::Seat;
 use qp_base::Steps;
+use qp_shared_views::UNIT;
 use qp_side_words::SideView;
 use std::marker::Brand;
 use std::sync::ledger::Ledger;
-
-/// What one operation adds to the number of a word.
-const UNIT: u64 = 1 << 32;
 
 /// The word of a time event.
 fn timer_at(t: u8) -> usize

@@ -10,11 +10,9 @@ ghost use Rattle.qp_side_words.specs.Told.{bit_value, EyeSignalTold, SubTold, Un
 
 use crate::steps::{About, NOTHING, Words, add, look};
 use atomic_table::Seat;
+use qp_shared_views::UNIT;
 use qp_side_words::SideView;
 use std::marker::Brand;
-
-/// What one operation adds to the number of a word.
-const UNIT: u64 = 1 << 32;
 
 /// What an object adds to a set.
 fn bit_of(object: u8) -> u64

@@ -5,3 +5,6 @@ pub mod laws;
 mod numbers;
 
 pub use numbers::Numbers;
+
+/// What one operation adds to the number of a pool's, a block's, a signal's or a time event's word.
+pub const UNIT: u64 = 1 << 32;

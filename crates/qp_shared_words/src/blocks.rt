@@ -11,18 +11,16 @@ ghost use Rattle.qp_shared_views.specs.Lane.{has_content};
 ghost use Rattle.qp_shared_steps.specs.Told.{HasPlace, DropTold, FirstTold, FromTold, FillTold, ReadTold, EyePoolTold, IsLowest, GiveTold};
 
 use crate::places::{block_at, event_at, pool_at};
-use crate::steps::{About, NOTHING, Words, add, exchange_for, look, store};
+use crate::steps::{About, NOTHING, Words, add, exchange, look, store};
 use atomic_table::Seat;
 use qp_base::{Ev, Steps};
+use qp_shared_views::UNIT;
 use qp_table::View;
 use std::marker::Brand;
 use std::sync::ledger::Ledger;
 
-/// What one operation adds to the number of a pool's or a block's word.
-const UNIT: u64 = 1 << 32;
-
 /// The bit of a block in its pool's map.
-fn bit_of(block: u8) -> u64
+pub fn bit_of(block: u8) -> u64
     requires { block < 32 }
     ensures value { result ≡ 2 ^ block }
     ensures most { result ≤ 2147483648 }
@@ -204,13 +202,12 @@ pub fn try_give<L: Ledger>(
         margin: reserve,
         ..NOTHING
     };
-    exchange_for::<Brand>(
+    exchange::<Brand, (About, &Ev)>(
         words,
         seat,
         pool_at(pool),
         old,
         old + UNIT - bit_of(block),
-        about,
-        ev,
+        (about, ev),
     )
 }

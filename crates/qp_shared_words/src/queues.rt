@@ -15,7 +15,7 @@ ghost use Rattle.qp_shared_words.specs.Nils.{is_new};
 ghost use Rattle.qp_shared_steps.specs.Told.{LookTold, SeenTold, NilTold, EyeTold, free_in, TryTold, LayTold, SwapTold};
 
 use crate::places::{cell_at, queue_at};
-use crate::steps::{About, NOTHING, Words, exchange, look, look_again, store, swap};
+use crate::steps::{About, NOTHING, Words, exchange, look, store, swap};
 use atomic_table::Seat;
 use qp_base::Steps;
 use qp_calls::Counts;
@@ -70,9 +70,10 @@ pub fn look_before_take(
 {
     let about = About {
         to: object,
+        last,
         ..NOTHING
     };
-    look_again::<Brand>(words, seat, queue_at(object), about, last)
+    look::<Brand>(words, seat, queue_at(object), about)
 }
 
 /// Looks at a queue for a post, with a record where at most the margin is free.
@@ -136,7 +137,7 @@ pub fn claim<L: Ledger>(
         margin,
         ..NOTHING
     };
-    exchange::<Brand>(words, seat, queue_at(object), old, old + 1, about)
+    exchange::<Brand, About>(words, seat, queue_at(object), old, old + 1, about)
 }
 
 /// Writes the cell of a claim: the code of its entry.

@@ -9,7 +9,6 @@ ghost use Rattle.qp_table.specs.First.{first_serves};
 ghost use Rattle.qp_table.specs.Whole.{later_lanes};
 
 use atomic_table::{Play, Seat, Table, TableRule};
-use qp_base::Ev;
 use qp_calls::Counts;
 use qp_model::System;
 use qp_table::View;
@@ -43,7 +42,7 @@ impl<T: Tells> Play<(), View> for Tell<T> {
 /// The 21,128 words of one event table, which threads share.
 pub type Words = Table<(), View, System, Law, Global>;
 
-/// What a step is about, for its proof alone: the object for which the lane works, a queue, a block or an entry, and numbers of the step. `low` is an entry's block or, of a static one, its signal.
+/// What a step is about, for its proof alone: the object for which the lane works, a queue, a block or an entry, and numbers of the step. `low` is an entry's block or, of a static one, its signal; `last` are the counts that the queue's last `nil` showed.
 #[derive(Clone, Copy, Drop)]
 pub struct About {
     pub by: u8,
@@ -55,6 +54,7 @@ pub struct About {
     pub old: u64,
     pub new: u64,
     pub margin: Option<u8>,
+    pub last: Option<Counts>,
 }
 
 /// What a step is about that needs no more than its word.
@@ -68,26 +68,11 @@ pub const NOTHING: About = About {
     old: 0,
     new: 0,
     margin: None,
+    last: None,
 };
 
 /// Reads a word.
 pub fn look<T: Tells>(words: &Words, seat: &mut Seat<(), View>, word: usize, _about: About) -> u64
-    requires own { (seat.old.table_id ≡ words.now.shared.table_id) × (word < words.now.shared.table_id.words) }
-    requires keeps { Steps words.now.shared.key seat.old.id seat.old.me.0 word (λ n. n) (T.tells seat.old.me.0) }
-    ensures same { (seat.new.table_id ≡ seat.old.table_id) × (seat.new.id ≡ seat.old.id) }
-    ensures told { T.tells seat.old.me.0 result seat.new.me.0 }
-{
-    words.shared.load::<Tell<T>>(seat, word)
-}
-
-/// Reads a word, by what the lane found there before.
-pub(crate) fn look_again<T: Tells>(
-    words: &Words,
-    seat: &mut Seat<(), View>,
-    word: usize,
-    _about: About,
-    _last: Option<Counts>,
-) -> u64
     requires own { (seat.old.table_id ≡ words.now.shared.table_id) × (word < words.now.shared.table_id.words) }
     requires keeps { Steps words.now.shared.key seat.old.id seat.old.me.0 word (λ n. n) (T.tells seat.old.me.0) }
     ensures same { (seat.new.table_id ≡ seat.old.table_id) × (seat.new.id ≡ seat.old.id) }
@@ -112,34 +97,14 @@ pub fn add<T: Tells>(
     words.shared.fetch_add::<Tell<T>>(seat, word, k)
 }
 
-/// Sets a word to `new` where it is `old`, and answers what was found.
-pub fn exchange<T: Tells>(
+/// Sets a word to `new` where it is `old`, and answers what was found. `A` is what the step is about: `About`, or that and an event.
+pub fn exchange<T: Tells, A: Copy>(
     words: &Words,
     seat: &mut Seat<(), View>,
     word: usize,
     old: u64,
     new: u64,
-    _about: About,
-) -> u64
-    requires own { (seat.old.table_id ≡ words.now.shared.table_id) × (word < words.now.shared.table_id.words) }
-    requires keeps { Steps words.now.shared.key seat.old.id seat.old.me.0 word (λ n. either (n == old) new n) (T.tells seat.old.me.0) }
-    ensures same { (seat.new.table_id ≡ seat.old.table_id) × (seat.new.id ≡ seat.old.id) }
-    ensures told { T.tells seat.old.me.0 result seat.new.me.0 }
-{
-    words
-        .shared
-        .compare_exchange::<Tell<T>>(seat, word, old, new)
-}
-
-/// Sets a word to `new` where it is `old`, for an event, and answers what was found.
-pub(crate) fn exchange_for<T: Tells>(
-    words: &Words,
-    seat: &mut Seat<(), View>,
-    word: usize,
-    old: u64,
-    new: u64,
-    _about: About,
-    _ev: &Ev,
+    _about: A,
 ) -> u64
     requires own { (seat.old.table_id ≡ words.now.shared.table_id) × (word < words.now.shared.table_id.words) }
     requires keeps { Steps words.now.shared.key seat.old.id seat.old.me.0 word (λ n. either (n == old) new n) (T.tells seat.old.me.0) }

@@ -6,9 +6,6 @@ ghost use Rattle.qp_table.specs.After.{rec_of};
 use arrayvec::ArrayVec;
 use qp_model::Rec;
 
-/// What one operation adds to the number of a word.
-pub(crate) const UNIT: u64 = 1 << 32;
-
 pub(crate) fn record_of(kind: u8, object: u8, numbers: &[u64]) -> Rec
     requires { length numbers.now ≤ 13 }
     ensures { result ≡ rec_of kind object numbers.now }

@@ -4,10 +4,11 @@ ghost use Rattle.std.specs.Prelude.{◌≡◌, [], ◌∷◌, ◌++◌, ◌<◌,
 ghost use Rattle.qp_model.specs.WordLaw.{is_object, is_signal};
 ghost use Rattle.qp_side_words.specs.Told.{bit_in};
 
-use crate::records::{UNIT, record_of};
+use crate::records::record_of;
 use crate::seat::SideSeat;
 use qp_model::{Rec, kinds};
 use qp_shared_side::signals::{look_at_all, look_for, put, take};
+use qp_shared_views::UNIT;
 
 /// Whether the word of a signal has the object as a subscriber.
 fn has_bit(word: u64, object: u8) -> bool

@@ -5,11 +5,12 @@ ghost use Rattle.std.specs.Prelude.{◌≡◌, [], ◌∷◌, ◌++◌, ◌<◌,
 ghost use Rattle.qp_model.specs.WordLaw.{is_timer};
 ghost use Rattle.qp_model.specs.declared.words.Word.TheVariants as word;
 
-use crate::records::{UNIT, record_of};
+use crate::records::record_of;
 use crate::seat::SideSeat;
 use crate::tries::{try_arm, try_disarm, try_rearm, try_tick};
 use qp_base::Steps;
 use qp_model::{Rec, kinds};
+use qp_shared_views::UNIT;
 use std::sync::ledger::Ledger;
 
 impl SideSeat<'_> {

@@ -25,7 +25,7 @@ pub give_block-found-requires-clause-content : goal.give_block-found-requires-cl
 give_block-found-requires-clause-content g c = subst (λ s. IsContent s c.args.ev.now.sig c.args.ev.now.pars.items) (sym c.args.lane.now.key) (fits-content c.args.lane.now c.args.pool (event_of c.args.ev.now) c.requires.fits)
 
 pub shortage-rec-requires : goal.shortage-rec-requires
-shortage-rec-requires g c = subst (λ k. k ≤ unwrap_or c.args.reserve 0) (sym c.free_by-free.ensures)
+shortage-rec-requires g c = subst (λ k. k ≤ unwrap_or c.args.reserve 0) (sym c.free_of-free.ensures)
     (none-few c.args.lane.now.words.now.shared.key c.args.pool c.args.lane.now.by c.args.reserve c.args.ev.now.sig c.args.ev.now.pars.items c.args.lane.now.seat.me.0 c.give_block-found.result.0 c.give_block-found.result.1 c.give_block-found.new.seat.me.0 c.give_block-found.ensures.ends c.in-None.is)
 
 pub put-requires-clause-room : goal.put-requires-clause-room
@@ -43,7 +43,7 @@ invariant_of-lane-clause-ended g c = let l = c.args.lane.now in
 
 pub invariant_of-lane-clause-holds : goal.invariant_of-lane-clause-holds
 invariant_of-lane-clause-holds g c = give-holds c.args.lane.now c.args.pool c.args.reserve (event_of c.args.ev.now) c.give_block-found.result.0 c.give_block-found.result.1 c.in-Some.life c.in-Some.is c.give_block-found.new.seat.me.0 c.give_block-found.ensures.ends c.requires.fits
-    c.put.new.log c.put.new.numbers.list c.new-rec.result c.from.result c.put.ensures.put (c.from.ensures ∙ c.free_by-free.ensures) c.new-rec.ensures
+    c.put.new.log c.put.new.numbers.list c.new-rec.result c.from.result c.put.ensures.put (c.from.ensures ∙ c.free_of-free.ensures) c.new-rec.ensures
 
 pub invariant_of-lane-in-None-clause-own : goal.invariant_of-lane-in-None-clause-own
 invariant_of-lane-in-None-clause-own g c = c.give_block-found.ensures.same.0 ∙ c.args.lane.now.own
@@ -54,20 +54,20 @@ invariant_of-lane-in-None-clause-ended g c = let l = c.args.lane.now in
 
 pub invariant_of-lane-in-None-clause-holds : goal.invariant_of-lane-in-None-clause-holds
 invariant_of-lane-in-None-clause-holds g c = none-holds c.args.lane.now c.args.pool c.args.reserve (event_of c.args.ev.now) c.give_block-found.result.0 c.give_block-found.result.1 c.in-None.is c.give_block-found.new.seat.me.0 c.give_block-found.ensures.ends c.requires.fits
-    c.put-in-None.new.log c.put-in-None.new.numbers.list c.shortage-rec.result c.put-in-None.ensures.put c.free_by-free.result c.free_by-free.ensures c.shortage-rec.ensures
+    c.put-in-None.new.log c.put-in-None.new.numbers.list c.shortage-rec.result c.put-in-None.ensures.put c.free_of-free.result c.free_of-free.ensures c.shortage-rec.ensures
 
 pub returns-in-Some-clause-gives : goal.returns-in-Some-clause-gives
 returns-in-Some-clause-gives g c = give-out c.args.lane.now c.args.pool c.args.reserve (event_of c.args.ev.now) c.give_block-found.result.0 c.give_block-found.result.1 c.in-Some.life c.in-Some.is c.give_block-found.new.seat.me.0 c.give_block-found.ensures.ends c.requires.fits
-    c.put.new.log c.put.new.numbers.list c.new-rec.result c.from.result c.put.ensures.put (c.from.ensures ∙ c.free_by-free.ensures) c.new-rec.ensures c.of.result c.of.ensures c.put.ensures.spare
+    c.put.new.log c.put.new.numbers.list c.new-rec.result c.from.result c.put.ensures.put (c.from.ensures ∙ c.free_of-free.ensures) c.new-rec.ensures c.of.result c.of.ensures c.put.ensures.spare
 
 pub returns-in-Some-clause-tries : goal.returns-in-Some-clause-tries
 returns-in-Some-clause-tries g c = give-tries c.args.lane.now c.args.pool c.args.reserve (event_of c.args.ev.now) c.give_block-found.result.0 c.give_block-found.result.1 c.in-Some.life c.in-Some.is c.give_block-found.new.seat.me.0 c.give_block-found.ensures.ends c.requires.fits
-    c.put.new.log c.put.new.numbers.list c.new-rec.result c.from.result c.put.ensures.put (c.from.ensures ∙ c.free_by-free.ensures) c.new-rec.ensures c.args.steps.now c.give_block-found.new.steps c.give_block-found.ensures.up c.give_block-found.ensures.tries
+    c.put.new.log c.put.new.numbers.list c.new-rec.result c.from.result c.put.ensures.put (c.from.ensures ∙ c.free_of-free.ensures) c.new-rec.ensures c.args.steps.now c.give_block-found.new.steps c.give_block-found.ensures.up c.give_block-found.ensures.tries
 
 pub returns-in-None-clause-gives : goal.returns-in-None-clause-gives
 returns-in-None-clause-gives g c = none-given c.args.lane.now c.args.pool c.args.reserve (event_of c.args.ev.now) c.give_block-found.result.0 c.give_block-found.result.1 c.in-None.is c.give_block-found.new.seat.me.0 c.give_block-found.ensures.ends c.requires.fits
-    c.put-in-None.new.log c.put-in-None.new.numbers.list c.shortage-rec.result c.put-in-None.ensures.put c.free_by-free.result c.free_by-free.ensures c.shortage-rec.ensures c.put-in-None.ensures.spare
+    c.put-in-None.new.log c.put-in-None.new.numbers.list c.shortage-rec.result c.put-in-None.ensures.put c.free_of-free.result c.free_of-free.ensures c.shortage-rec.ensures c.put-in-None.ensures.spare
 
 pub returns-in-None-clause-tries : goal.returns-in-None-clause-tries
 returns-in-None-clause-tries g c = none-tries c.args.lane.now c.args.pool c.args.reserve (event_of c.args.ev.now) c.give_block-found.result.0 c.give_block-found.result.1 c.in-None.is c.give_block-found.new.seat.me.0 c.give_block-found.ensures.ends c.requires.fits
-    c.put-in-None.new.log c.put-in-None.new.numbers.list c.shortage-rec.result c.put-in-None.ensures.put c.free_by-free.result c.free_by-free.ensures c.shortage-rec.ensures c.args.steps.now c.give_block-found.new.steps c.give_block-found.ensures.up c.give_block-found.ensures.tries
+    c.put-in-None.new.log c.put-in-None.new.numbers.list c.shortage-rec.result c.put-in-None.ensures.put c.free_of-free.result c.free_of-free.ensures c.shortage-rec.ensures c.args.steps.now c.give_block-found.new.steps c.give_block-found.ensures.up c.give_block-found.ensures.tries

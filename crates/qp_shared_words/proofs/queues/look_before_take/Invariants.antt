@@ -2,5 +2,5 @@ use Rattle.qp_shared_steps.specs.Told.{NilTold}
 use Rattle.qp_shared_words.specs.Nils.{is_new}
 use Rattle.qp_shared_words.proofs.queues.look_before_take.Given as goal
 
-abbrev pub ghosts-look_again : goal.ghosts-look_again
-ghosts-look_again a = record { tells = NilTold a.words.now.shared.key (is_new a._last) a._about.to }
+abbrev pub ghosts-look : goal.ghosts-look
+ghosts-look a = record { tells = NilTold a.words.now.shared.key (is_new a._about.last) a._about.to }

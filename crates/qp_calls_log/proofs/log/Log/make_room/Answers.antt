@@ -15,12 +15,12 @@ place-le false = omega arith
 pub invariant_of-self-2 : goal.invariant_of-self-2
 invariant_of-self-2 c =
     let s = c.args.self.now in
-    let is = c.in-Ok.ensures.items in
+    let is = c.in_ok-make_more.ensures.items in
     let all = length-kinds (lane_items s.recs.items) in
     let long = lane-length s.recs.items in
     let place = place-le s.spilled in
     record {
-      roomy = omega (arith, place, c.in-Ok.ensures.ok, c.in-Ok.ensures.len);
+      roomy = omega (arith, place, c.in_ok-make_more.ensures.ok, c.in_ok-make_more.ensures.len);
       few = subst (λ (z : List Rec). regular (lane_items z) + 8 ≤ 1000000) (sym is) (omega (arith, all, long, c.requires.free));
       spills = subst (λ (z : List Rec). spills (lane_items z) + spill_place s.spilled ≡ 1) (sym is) s.spills;
       seats = s.seats;
