@@ -1,11 +1,14 @@
 //! Expressions: the value that each line of the grammar gives, each way out of it, and the expressions of worked examples.
 
-use arrayvec::ArrayString;
+ghost use Rattle.std.specs.Prelude.{◌≤◌, length};
+
 use qp_chart::{BindFault, Env, ExprFault, Name, bind, eval, read_expr};
 use std::alloc::Global;
 
-fn name(text: &str) -> Name {
-    ArrayString::from(text).unwrap_or_default()
+fn name(text: &str) -> Name
+    requires { length text.now ≤ 24 }
+{
+    Name::from(text).unwrap()
 }
 
 /// The value of an expression of the variables n = 1, total = 6, used = 27 and x = 0, of the parameters 3, 4, 8 and one of 64 set bits,

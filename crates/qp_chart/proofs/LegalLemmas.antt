@@ -6,7 +6,6 @@ use Rattle.std.proofs.lemmas.Bool.{not-false}
 use Rattle.std.proofs.lemmas.Bool.Decides.{nat_tests}
 use Rattle.std.proofs.lemmas.Option.{none-some, slice_get_past}
 use Rattle.std.proofs.lemmas.List.{length-map}
-use Rattle.arrayvec.specs.ArrayString.{ArrayString}
 use Rattle.qp_chart_names.specs.declared.raw.RawChart.{RawChart}
 use Rattle.qp_chart_names.specs.declared.raw.RawState.{RawState}
 use Rattle.qp_chart_names.specs.declared.raw.Names.{Names}
@@ -80,9 +79,9 @@ number-inside names q = by (number_in 1 names q) refl
 parent-inside : (raw : RawChart) (x : RawState) → IsInside (length raw.state) (parent_number raw x)
 parent-inside raw x = by x.parent
   where
-    by : (o : Option ArrayString) → IsInside (length raw.state) (option_and_then (λ (name : ArrayString). state_number raw name.bytes) o)
+    by : (o : Option (List ℕ)) → IsInside (length raw.state) (option_and_then (λ (name : (List ℕ)). state_number raw name) o)
     by None = tt
-    by (Some name) = subst (λ n. IsInside n (state_number raw name.bytes)) (length-map raw.state (λ (s : RawState). s.name.bytes)) (number-inside (state_names raw.state) name.bytes)
+    by (Some name) = subst (λ n. IsInside n (state_number raw name)) (length-map raw.state (λ (s : RawState). s.name)) (number-inside (state_names raw.state) name)
 
 flat-inside : (n : ℕ) (g : RawState → Option ℕ) → ((x : RawState) → IsInside n (g x)) → (xs : List RawState) (i : ℕ) → IsInside n (option_flatten (slice_get (map g xs) i))
 flat-inside n g each [] i = tt
@@ -143,9 +142,9 @@ module _ (names : Names) (raw : RawChart) (chart : Chart) (none : chart_fault na
 
   some_state : 1 ≤ length (parents_of raw)
   some_state =
-      let above = number_in-above 1 (state_names raw.state) raw.init.bytes chart.init made.init in
-      let below = number_in-below 1 (state_names raw.state) raw.init.bytes chart.init made.init in
-      omega (arith, above, below, count, length-map raw.state (λ (s : RawState). s.name.bytes))
+      let above = number_in-above 1 (state_names raw.state) raw.init chart.init made.init in
+      let below = number_in-below 1 (state_names raw.state) raw.init chart.init made.init in
+      omega (arith, above, below, count, length-map raw.state (λ (s : RawState). s.name))
 
   short : (s : ℕ) → length (path_in (parents_of raw) (suc (length (parents_of raw))) (Some s)) ≤ length (parents_of raw)
   unfolding path_in
@@ -204,10 +203,10 @@ module _ (names : Names) (raw : RawChart) (chart : Chart) (none : chart_fault na
       let init_fine = (none-both _ _ (none-both _ _ (none-both _ _ fine_here).1).1).0 in
       rw (up-is t) (by x.init (subst (Refers (state_number raw) x.init) init found.2.init) init_fine)
     where
-      by : (key : Option ArrayString) → Refers (state_number raw) key (Some t) → init_fault raw s key ≡ None → is_below_in (parents_of raw) t s ≡ true
+      by : (key : Option (List ℕ)) → Refers (state_number raw) key (Some t) → init_fault raw s key ≡ None → is_below_in (parents_of raw) t s ≡ true
       by None refers fine = absurd refers
       by (Some name) refers fine =
-          let astray : is_astray raw s (state_number raw name.bytes) ≡ false = fault_if-None _ _ _ (none-both _ _ (none-both _ _ fine).1).0 in
+          let astray : is_astray raw s (state_number raw name) ≡ false = fault_if-None _ _ _ (none-both _ _ (none-both _ _ fine).1).0 in
           not-false _ (subst (λ o. is_astray raw s o ≡ false) refers astray)
 
 -- what the check promises of the tree

@@ -1,14 +1,13 @@
 -- The table of transitions: a contains b, b contains c, and so on to f; a contains g, which contains h; k stands at the top.
 use Rattle.std.specs.Prelude.{◌≡◌, refl, ℕ, List, [], ◌∷◌, Some, None}
 use Rattle.std.specs.declared.option.Option.{Option}
-use Rattle.arrayvec.specs.ArrayString.{ArrayString}
 use Rattle.qp_chart.specs.declared.checked.State.{State}
 use Rattle.qp_chart.specs.declared.checked.Chart.{Chart}
 use Rattle.qp_chart.specs.Task.{Task, Exit, Enter, Init}
 use Rattle.qp_chart.specs.Agenda.{transition}
 
-abbrev anonymous : ArrayString
-anonymous = record { bytes = []; spare = [] }
+abbrev anonymous : (List ℕ)
+anonymous = []
 
 -- a state without actions and rows
 abbrev state : Option ℕ → Option ℕ → State

@@ -4,7 +4,6 @@ use Rattle.std.specs.declared.option.Option.{Option}
 use Rattle.std.specs.Option.{is_none}
 use Rattle.std.specs.List.{list_any}
 use Rattle.std.specs.Str.{bytes_eq}
-use Rattle.arrayvec.specs.ArrayString.{ArrayString}
 use Rattle.qp_chart_names.specs.declared.place.Part.{Part}
 use Rattle.qp_chart_names.specs.declared.place.Part.TheVariants.{Key, Pos}
 use Rattle.qp_chart_names.specs.Keys.{STATE, TIMER, SIGNAL, ROW, PARENT, ENTRY, EXIT, INIT, INIT_DO, ON, WHEN, DO, TO}
@@ -30,14 +29,14 @@ row_place k j = Key STATE ∷ Pos k ∷ Key ROW ∷ Pos j ∷ []
 
 -- an earlier row has the same signal and no guard
 abbrev pub is_covered : List RawRow → RawRow → Bool
-is_covered earlier row = list_any (λ before. bytes_eq before.on.bytes row.on.bytes && is_none before.when) earlier
+is_covered earlier row = list_any (λ before. bytes_eq before.on row.on && is_none before.when) earlier
 
 -- the first fault of a time event: its signal isn't declared, or isn't static
 unfoldable pub timer_fault : Names → ℕ → RawTimer → Option Fault
 timer_fault names k timer =
     first_of
-    (undeclared (signal_number names timer.signal.bytes) (Key TIMER ∷ Pos k ∷ Key SIGNAL ∷ [])
-    ∷ fault_if (not (is_static names timer.signal.bytes)) RANGE (Key TIMER ∷ Pos k ∷ Key SIGNAL ∷ [])
+    (undeclared (signal_number names timer.signal) (Key TIMER ∷ Pos k ∷ Key SIGNAL ∷ [])
+    ∷ fault_if (not (is_static names timer.signal)) RANGE (Key TIMER ∷ Pos k ∷ Key SIGNAL ∷ [])
     ∷ [])
 
 -- the parent of the k-th state isn't declared
@@ -50,22 +49,22 @@ is_astray chart k None = false
 is_astray chart k (Some target) = not (is_below_in (parents_of chart) target k)
 
 -- the first fault of an initial target: it isn't declared, or isn't properly below its state
-unfoldable pub init_fault : RawChart → ℕ → Option ArrayString → Option Fault
+unfoldable pub init_fault : RawChart → ℕ → Option (List ℕ) → Option Fault
 init_fault chart k None = None
 init_fault chart k (Some name) =
     first_of
-    (undeclared (state_number chart name.bytes) (state_place k ++ Key INIT ∷ [])
-    ∷ fault_if (is_astray chart k (state_number chart name.bytes)) INIT_NOT_BELOW (state_place k ++ Key INIT ∷ [])
+    (undeclared (state_number chart name) (state_place k ++ Key INIT ∷ [])
+    ∷ fault_if (is_astray chart k (state_number chart name)) INIT_NOT_BELOW (state_place k ++ Key INIT ∷ [])
     ∷ [])
 
 -- the first fault of a row: `on`, a row before it, `when`, `do`, `to`
 unfoldable pub row_fault : Names → RawChart → List Part → List RawRow → RawRow → Option Fault
 row_fault names chart at earlier row =
     first_of
-    (undeclared (signal_number names row.on.bytes) (at ++ Key ON ∷ [])
+    (undeclared (signal_number names row.on) (at ++ Key ON ∷ [])
     ∷ fault_if (is_covered earlier row) TWO_ROWS at
-    ∷ when_fault chart (params_of names row.on.bytes) (at ++ Key WHEN ∷ []) row.when
-    ∷ texts_fault names chart (Some (params_of names row.on.bytes)) at DO row.acts
+    ∷ when_fault chart (params_of names row.on) (at ++ Key WHEN ∷ []) row.when
+    ∷ texts_fault names chart (Some (params_of names row.on)) at DO row.acts
     ∷ undeclared_key (state_number chart) row.to (at ++ Key TO ∷ [])
     ∷ [])
 
@@ -101,7 +100,7 @@ frame_fault names chart =
 unfoldable pub body_fault : Names → RawChart → Option Fault
 body_fault names chart =
     first_of
-    (undeclared (state_number chart chart.init.bytes) (Key INIT ∷ [])
+    (undeclared (state_number chart chart.init) (Key INIT ∷ [])
     ∷ texts_fault names chart None [] INIT_DO chart.init_do
     ∷ first_in (state_fault names chart) 1 chart.state
     ∷ [])

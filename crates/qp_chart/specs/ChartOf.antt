@@ -24,14 +24,14 @@ AreActsOf names chart inside texts acts = Corresponds (IsActOfText names chart i
 -- a time event
 pub record IsTimerOf (names : Names) (raw : RawTimer) (timer : Timer) : Type 0 where
   pub name : timer.name ≡ raw.name
-  pub signal : signal_number names raw.signal.bytes ≡ Some timer.signal
+  pub signal : signal_number names raw.signal ≡ Some timer.signal
   pub rate : timer.rate ≡ raw.rate
 
 -- a row; its texts may use the parameters of its signal
 pub record IsRowOf (names : Names) (chart : RawChart) (raw : RawRow) (row : Row) : Type 0 where
-  pub on : signal_number names raw.on.bytes ≡ Some row.on
-  pub when : IsGuardOf chart (params_of names raw.on.bytes) raw.when row.when
-  pub acts : AreActsOf names chart (Some (params_of names raw.on.bytes)) raw.acts row.acts
+  pub on : signal_number names raw.on ≡ Some row.on
+  pub when : IsGuardOf chart (params_of names raw.on) raw.when row.when
+  pub acts : AreActsOf names chart (Some (params_of names raw.on)) raw.acts row.acts
   pub to : Refers (state_number chart) raw.to row.to
 
 -- a state
@@ -46,14 +46,14 @@ pub record IsStateOf (names : Names) (chart : RawChart) (raw : RawState) (state 
 
 -- a chart's start and its states
 pub record IsBodyOf (names : Names) (raw : RawChart) (start : ℕ) (acts : List Act) (states : List State) : Type 0 where
-  pub init : state_number raw raw.init.bytes ≡ Some start
+  pub init : state_number raw raw.init ≡ Some start
   pub init_do : AreActsOf names raw None raw.init_do acts
   pub state : Corresponds (IsStateOf names raw) raw.state states
 
 -- a chart
 pub record IsChartOf (names : Names) (raw : RawChart) (chart : Chart) : Type 0 where
   pub name : chart.name ≡ raw.name
-  pub init : state_number raw raw.init.bytes ≡ Some chart.init
+  pub init : state_number raw raw.init ≡ Some chart.init
   pub init_do : AreActsOf names raw None raw.init_do chart.init_do
   pub vars : chart.vars ≡ raw.vars
   pub timer : Corresponds (IsTimerOf names) raw.timer chart.timer

@@ -9,7 +9,8 @@ use Rattle.qp_chart_text.specs.declared.operators.Unary.{Unary}
 use Rattle.qp_chart_text.specs.declared.operators.Unary.TheVariants as unary
 use Rattle.qp_chart_text.specs.declared.operators.Binary.{Binary}
 use Rattle.qp_chart_text.specs.declared.operators.Binary.TheVariants as binary
-use Rattle.qp_chart.specs.declared.expression.Bound.{Bound, Num, Var, Ok, Me, Par, One', Two'}
+use Rattle.qp_chart.specs.declared.expression.Bound.{Bound}
+use Rattle.qp_chart.specs.Tree.{Num, Var, Ok, Me, Par, One, Two}
 
 -- what the names of an expression stand for
 pub record Names : Type 0 where
@@ -57,8 +58,8 @@ value_of names (Var v) = unwrap_or (slice_get names.vars v) (pos 0)
 value_of names Ok = names.ok
 value_of names Me = pos names.me
 value_of names (Par j) = cast_signed w64 (unwrap_or (slice_get names.pars (j - 1)) 0)
-value_of names (One' op p x) = unary_value op (value_of names x)
-value_of names (Two' op p x q y) = binary_value op (value_of names x) (value_of names y)
+value_of names (One op x) = unary_value op (value_of names x)
+value_of names (Two op x y) = binary_value op (value_of names x) (value_of names y)
 
 -- the numbers of variables and parameters stand below these counts; parameters are numbered from 1
 unfoldable pub InRange : (vars pars : ℕ) → Bound → Type 0
@@ -67,5 +68,5 @@ InRange vars pars (Var v) = v < vars
 InRange vars pars Ok = Unit {0}
 InRange vars pars Me = Unit {0}
 InRange vars pars (Par j) = (1 ≤ j) × (j ≤ pars)
-InRange vars pars (One' op p x) = InRange vars pars x
-InRange vars pars (Two' op p x q y) = InRange vars pars x × InRange vars pars y
+InRange vars pars (One op x) = InRange vars pars x
+InRange vars pars (Two op x y) = InRange vars pars x × InRange vars pars y

@@ -1,3 +1,5 @@
+pub mod Tree
+pub mod TreeOf
 pub mod Expr
 pub mod StateTree
 pub mod Handler

@@ -13,7 +13,7 @@ use Rattle.qp_chart_names.specs.RawNumbers.{state_number}
 
 -- the number of the state round this one
 abbrev pub parent_number : RawChart → RawState → Option ℕ
-parent_number chart state = option_and_then (λ name. state_number chart name.bytes) state.parent
+parent_number chart state = option_and_then (λ name. state_number chart name) state.parent
 
 -- the parents of the states, in order
 abbrev pub parents_of : RawChart → List (Option ℕ)

@@ -6,7 +6,7 @@ ghost use Rattle.std.specs.List.{list_any, position};
 ghost use Rattle.qp_chart.specs.Binding.{Binds, IsCause};
 ghost use Rattle.qp_chart_names.specs.Known.{is_named, words, has_word, knows};
 
-use crate::expression::Bound;
+use crate::expression::{Bound, Node};
 use qp_chart_names::known::is_known;
 use qp_chart_text::{Binary, Expr, Name, Unary};
 use std::alloc::{AllocError, AllocFailed, Global};
@@ -60,23 +60,29 @@ pub fn bind(alloc: Global, e: &Expr, vars: &[Name], params: u8) -> Result<Bound,
 }
 
 // The bound expression, or the first fault from the left.
-#[tactic(auto, unfolding(qp_chart_text::specs::Terms::term_of, qp_chart_names::specs::Known::knows, qp_chart_names::specs::Known::reaches, crate::specs::Binding::named, crate::specs::Expr::InRange))]
+#[tactic(auto, unfolding(qp_chart_text::specs::Terms::term_of, qp_chart_names::specs::Known::knows, qp_chart_names::specs::Known::reaches, crate::specs::Binding::named, crate::specs::Binding::bound_in, crate::specs::Expr::InRange))]
 fn resolve(alloc: Global, e: &Expr, vars: &[Name], params: u8) -> Result<Bound, BindFault>
     requires { length vars.now ≤ 16 }
     ensures ok { IfOk result (Binds (words vars.now) params (term_of e.now)) }
     ensures refused { IfErr result (IsCause (words vars.now) params (term_of e.now)) }
 {
     match e {
-        Expr::Num(n) => Ok(Bound::Num(*n)),
+        Expr::Num(n) => Ok(Bound {
+            node: Node::Num(*n),
+        }),
         Expr::Var(name) => match place(name, vars) {
-            Some(v) => Ok(Bound::Var(v as u8)),
+            Some(v) => Ok(Bound {
+                node: Node::Var(v as u8),
+            }),
             None => Err(BindFault::NoName),
         },
-        Expr::Ok => Ok(Bound::Ok),
-        Expr::Me => Ok(Bound::Me),
+        Expr::Ok => Ok(Bound { node: Node::Ok }),
+        Expr::Me => Ok(Bound { node: Node::Me }),
         Expr::Par(j) => {
             if 1 <= *j && *j <= params {
-                Ok(Bound::Par(*j))
+                Ok(Bound {
+                    node: Node::Par(*j),
+                })
             } else {
                 Err(BindFault::NoParameter)
             }
@@ -94,27 +100,31 @@ fn resolve(alloc: Global, e: &Expr, vars: &[Name], params: u8) -> Result<Bound, 
 }
 
 // An operator and its operand.
-#[tactic(auto, unfolding(qp_chart_names::specs::Known::knows, qp_chart_names::specs::Known::reaches, crate::specs::Binding::named, crate::specs::Expr::InRange))]
+#[tactic(auto, unfolding(qp_chart_names::specs::Known::knows, qp_chart_names::specs::Known::reaches, crate::specs::Binding::named, crate::specs::Binding::bound_in, crate::specs::Expr::InRange))]
 fn one(alloc: Global, op: Unary, inner: Bound) -> Result<Bound, BindFault>
     ensures ok { (names : List Word) (params : ℕ) (e : Term) → Binds names params e inner → IfOk result (Binds names params (One op e)) }
     ensures memory { IfErr result (λ e. e ≡ BindFault.Memory) }
 {
-    Ok(Bound::One(op, Box::new(alloc, inner)?))
+    Ok(Bound {
+        node: Node::One(op, Box::new(alloc, inner)?),
+    })
 }
 
 // An operator and its operands.
-#[tactic(auto, unfolding(qp_chart_names::specs::Known::knows, qp_chart_names::specs::Known::reaches, crate::specs::Binding::named, crate::specs::Expr::InRange))]
+#[tactic(auto, unfolding(qp_chart_names::specs::Known::knows, qp_chart_names::specs::Known::reaches, crate::specs::Binding::named, crate::specs::Binding::bound_in, crate::specs::Expr::InRange))]
 fn two(alloc: Global, op: Binary, left: Bound, right: Bound) -> Result<Bound, BindFault>
     ensures ok { (names : List Word) (params : ℕ) (e f : Term) → Binds names params e left → Binds names params f right →
         IfOk result (Binds names params (Two op e f)) }
     ensures memory { IfErr result (λ e. e ≡ BindFault.Memory) }
 {
-    Ok(Bound::Two(op, Box::new(alloc, left)?, Box::new(alloc, right)?))
+    Ok(Bound {
+        node: Node::Two(op, Box::new(alloc, left)?, Box::new(alloc, right)?),
+    })
 }
 
 // The first place of a name among the variables.
 fn place(name: &Name, vars: &[Name]) -> Option<usize>
-    ensures { result ≡ position (is_named name.now.bytes) vars.now }
+    ensures { result ≡ position (is_named name.now) vars.now }
 {
     vars.iter().position(|v| v == name)
 }

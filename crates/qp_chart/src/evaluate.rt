@@ -5,7 +5,7 @@ ghost use Rattle.std.specs.Option.{unwrap_or};
 ghost use Rattle.std.specs.Int.{w64, cast_signed};
 ghost use Rattle.qp_chart.specs.Expr.{value_of, unary_value, binary_value, names_in, of_truth};
 
-use crate::expression::Bound;
+use crate::expression::{Bound, Node};
 use qp_chart_text::{Binary, Unary};
 
 /// What the names of an expression stand for: the object's variables in ascending name, the parameters of the event,
@@ -23,14 +23,14 @@ pub struct Env<'a> {
 pub fn eval(e: &Bound, env: &Env<'_>) -> i64
     ensures { result ≡ value_of (names_in env.now) e.now }
 {
-    match e {
-        Bound::Num(n) => *n,
-        Bound::Var(v) => variable(env.vars, *v),
-        Bound::Ok => env.ok,
-        Bound::Me => i64::from(env.me),
-        Bound::Par(j) => parameter(env.pars, *j),
-        Bound::One(op, x) => unary(*op, eval(x, env)),
-        Bound::Two(op, x, y) => {
+    match &e.node {
+        Node::Num(n) => *n,
+        Node::Var(v) => variable(env.vars, *v),
+        Node::Ok => env.ok,
+        Node::Me => i64::from(env.me),
+        Node::Par(j) => parameter(env.pars, *j),
+        Node::One(op, x) => unary(*op, eval(x, env)),
+        Node::Two(op, x, y) => {
             let left = eval(x, env);
             binary(*op, left, eval(y, env))
         }

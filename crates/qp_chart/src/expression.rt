@@ -3,9 +3,17 @@
 use qp_chart_text::{Binary, Unary};
 use std::marker::Model;
 
-/// An expression whose names are resolved.
+/// An expression whose names are resolved. Contracts see what it says, and not where its parts lie.
+#[cycle(bound)]
 #[derive(Drop)]
-pub enum Bound {
+pub struct Bound {
+    pub node: Node,
+}
+
+/// How an expression is made.
+#[cycle(bound)]
+#[derive(Drop)]
+pub enum Node {
     Num(i64),
     Var(u8),
     Ok,
@@ -13,6 +21,24 @@ pub enum Bound {
     Par(u8),
     One(Unary, Box<Bound>),
     Two(Binary, Box<Bound>, Box<Bound>),
+}
+
+impl Model for Bound {
+    ghost use Rattle.qp_chart.specs.Tree.{Tree, tree_code, size_of};
+
+    ghost Value = { Tree };
+
+    ghost coded = { tree_code };
+
+    ghost use Rattle.qp_chart.specs.TreeOf.{tree_of};
+
+    ghost view = { λ b. tree_of b.node };
+
+    ghost size = { size_of };
+
+    ghost use Rattle.std.proofs.Common.{arith};
+
+    ghost size_decreases = { λ b h. Prim.grind (arith) };
 }
 
 /// Some expressions, in order. Contracts see the list.

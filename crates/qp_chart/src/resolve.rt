@@ -56,8 +56,8 @@ fn bounds(
 }
 
 fn declared_signal(scope: &Scope<'_>, name: &Name) -> u16
-    requires { is_some (signal_number scope.now.names.now name.now.bytes) ≡ true }
-    ensures { signal_number scope.now.names.now name.now.bytes ≡ Some result }
+    requires { is_some (signal_number scope.now.names.now name.now) ≡ true }
+    ensures { signal_number scope.now.names.now name.now ≡ Some result }
 {
     match scope.signal_number(name) {
         Some(number) => number,
@@ -66,8 +66,8 @@ fn declared_signal(scope: &Scope<'_>, name: &Name) -> u16
 }
 
 fn declared_timer(scope: &Scope<'_>, name: &Name) -> u8
-    requires { is_some (timer_number scope.now.chart.now name.now.bytes) ≡ true }
-    ensures { timer_number scope.now.chart.now name.now.bytes ≡ Some result }
+    requires { is_some (timer_number scope.now.chart.now name.now) ≡ true }
+    ensures { timer_number scope.now.chart.now name.now ≡ Some result }
 {
     match scope.timer_number(name) {
         Some(number) => number,
@@ -76,8 +76,8 @@ fn declared_timer(scope: &Scope<'_>, name: &Name) -> u8
 }
 
 fn declared_variable(scope: &Scope<'_>, name: &Name) -> u8
-    requires { is_some (variable_number scope.now.chart.now name.now.bytes) ≡ true }
-    ensures { variable_number scope.now.chart.now name.now.bytes ≡ Some result }
+    requires { is_some (variable_number scope.now.chart.now name.now) ≡ true }
+    ensures { variable_number scope.now.chart.now name.now ≡ Some result }
 {
     match scope.variable_number(name) {
         Some(number) => number,
@@ -134,8 +134,8 @@ fn resolved_set(
     var: &Name,
     value: &Expr,
 ) -> Result<Plain, ChartFault>
-    requires { IsAllowed scope.now.names.now scope.now.chart.now inside (Set var.now.bytes (term_of value.now)) }
-    ensures ok { IfOk result (IsPlainOf scope.now.names.now scope.now.chart.now (params_in inside) (Set var.now.bytes (term_of value.now))) }
+    requires { IsAllowed scope.now.names.now scope.now.chart.now inside (Set var.now (term_of value.now)) }
+    ensures ok { IfOk result (IsPlainOf scope.now.names.now scope.now.chart.now (params_in inside) (Set var.now (term_of value.now))) }
     ensures memory { IfErr result (IsFault None) }
 {
     let var = declared_variable(scope, var);
@@ -229,9 +229,9 @@ fn resolved_arm(
     ticks: &Expr,
     interval: &Expr,
 ) -> Result<Plain, ChartFault>
-    requires { IsAllowed scope.now.names.now scope.now.chart.now inside (Arm timer.now.bytes (term_of ticks.now) (term_of interval.now)) }
+    requires { IsAllowed scope.now.names.now scope.now.chart.now inside (Arm timer.now (term_of ticks.now) (term_of interval.now)) }
     ensures ok { IfOk result (IsPlainOf scope.now.names.now scope.now.chart.now (params_in inside)
-        (Arm timer.now.bytes (term_of ticks.now) (term_of interval.now))) }
+        (Arm timer.now (term_of ticks.now) (term_of interval.now))) }
     ensures memory { IfErr result (IsFault None) }
 {
     let timer = declared_timer(scope, timer);
@@ -252,8 +252,8 @@ fn resolved_rearm(
     timer: &Name,
     ticks: &Expr,
 ) -> Result<Plain, ChartFault>
-    requires { IsAllowed scope.now.names.now scope.now.chart.now inside (Rearm timer.now.bytes (term_of ticks.now)) }
-    ensures ok { IfOk result (IsPlainOf scope.now.names.now scope.now.chart.now (params_in inside) (Rearm timer.now.bytes (term_of ticks.now))) }
+    requires { IsAllowed scope.now.names.now scope.now.chart.now inside (Rearm timer.now (term_of ticks.now)) }
+    ensures ok { IfOk result (IsPlainOf scope.now.names.now scope.now.chart.now (params_in inside) (Rearm timer.now (term_of ticks.now))) }
     ensures memory { IfErr result (IsFault None) }
 {
     let timer = declared_timer(scope, timer);

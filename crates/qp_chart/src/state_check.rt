@@ -82,7 +82,7 @@ fn checked_state(
 
 /// The number of the state that the key `parent` names.
 fn parent_of(scope: &Scope<'_>, parent: &Option<Name>) -> Option<u8>
-    ensures { result ≡ option_and_then (λ name. state_number scope.now.chart.now name.bytes) parent.now }
+    ensures { result ≡ option_and_then (λ name. state_number scope.now.chart.now name) parent.now }
 {
     match parent {
         Some(name) => scope.state_number(name),

@@ -2,7 +2,7 @@
 
 ghost use Rattle.qp_chart_compiled.specs.Compiled.{IsCompiled};
 
-use qp_chart::{Bound, Chart, Env, Plain};
+use qp_chart::{Bound, Chart, Env, Node, Plain};
 use qp_chart_compiled::{Agenda, Compiled, Task};
 use qp_system::system_of_bytes;
 use std::alloc::{AllocError, Global};
@@ -17,7 +17,7 @@ fn chart_of(alloc: Global, text: &str) -> Option<Chart> {
 /// A plain action: a `say` with its number.
 fn shown_plain(alloc: Global, plain: &Plain) -> Result<String, AllocError> {
     match plain {
-        Plain::Say(Bound::Num(n)) => format!(in alloc; "say {n}"),
+        Plain::Say(Bound { node: Node::Num(n) }) => format!(in alloc; "say {n}"),
         _ => String::from_str(alloc, "another action"),
     }
 }

@@ -8,7 +8,6 @@ use Rattle.qp_chart_names.specs.Faults.{Fault, fault, fault_if, first_in, IsFaul
 use Rattle.qp_chart_names.specs.NameFaults.{undeclared, undeclared_key}
 use Rattle.qp_chart_names.specs.Pairs.{Corresponds}
 use Rattle.qp_chart_names.specs.RawNumbers.{Refers}
-use Rattle.arrayvec.specs.ArrayString.{ArrayString}
 use Rattle.qp_chart_names.specs.declared.place.Part.{Part}
 
 -- what is found first is the first fault
@@ -43,7 +42,7 @@ none-last = refl
 pub undeclared-None : {o : Option ℕ} {n : ℕ} (place : List Part) → o ≡ Some n → undeclared o place ≡ None
 undeclared-None place e = rw e refl
 
-pub undeclared_key-None : (number : List ℕ → Option ℕ) (key : Option ArrayString) (to : Option ℕ) (place : List Part) → Refers number key to → undeclared_key number key place ≡ None
+pub undeclared_key-None : (number : List ℕ → Option ℕ) (key : Option (List ℕ)) (to : Option ℕ) (place : List Part) → Refers number key to → undeclared_key number key place ≡ None
 undeclared_key-None number None to place h = refl
 undeclared_key-None number (Some name) None place h = absurd h
 undeclared_key-None number (Some name) (Some n) place h = undeclared-None place h
@@ -110,7 +109,7 @@ IfErr-weaker (Ok x) P Q h p = tt
 IfErr-weaker (Err e) P Q h p = h e p
 
 -- what an optional key names
-pub Refers-is : (number : List ℕ → Option ℕ) (key : Option ArrayString) (to : Option ℕ) → Refers number key to → option_and_then (λ (name : ArrayString). number name.bytes) key ≡ to
+pub Refers-is : (number : List ℕ → Option ℕ) (key : Option (List ℕ)) (to : Option ℕ) → Refers number key to → option_and_then (λ (name : (List ℕ)). number name) key ≡ to
 Refers-is number None None h = refl
 Refers-is number None (Some n) h = absurd h
 Refers-is number (Some name) None h = absurd h

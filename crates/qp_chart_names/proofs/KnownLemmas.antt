@@ -1,11 +1,10 @@
 -- Names among the variables.
-use Rattle.std.proofs.Common.{◌≡◌, ◌||◌, List, [], ◌∷◌, nat_eq, refl, ap}
+use Rattle.std.proofs.Common.{ℕ, ◌≡◌, ◌||◌, List, [], ◌∷◌, nat_eq, refl, ap}
 use Rattle.std.specs.List.{list_any}
 use Rattle.std.specs.Cmp.Lexicographic.{pointwise}
-use Rattle.arrayvec.specs.ArrayString.{ArrayString}
 use Rattle.qp_chart_text.specs.Terms.{Word}
 use Rattle.qp_chart_names.specs.Known.{is_named, words, has_word}
 
-pub any_named : (name : Word) (vars : List ArrayString) → list_any (is_named name) vars ≡ has_word (words vars) name
+pub any_named : (name : Word) (vars : List (List ℕ)) → list_any (is_named name) vars ≡ has_word (words vars) name
 any_named name [] = refl
-any_named name (v ∷ vars) = ap (λ b. pointwise nat_eq v.bytes name || b) (any_named name vars)
+any_named name (v ∷ vars) = ap (λ b. pointwise nat_eq v name || b) (any_named name vars)

@@ -7,7 +7,6 @@ use Rattle.std.proofs.lemmas.Slice.Eq.{bytes_eq-Decides}
 use Rattle.std.proofs.lemmas.Bool.{false≢true}
 use Rattle.std.proofs.lemmas.Option.{none-some}
 use Rattle.std.specs.List.{list_any}
-use Rattle.arrayvec.specs.ArrayString.{ArrayString}
 use Rattle.qp_chart_names.specs.Known.{words}
 use Rattle.qp_chart_names.specs.declared.places.Places.{Places}
 use Rattle.qp_chart_names.specs.Numbering.{number_in, number_at, IsNumbering, Adds}
@@ -143,6 +142,6 @@ number_at-range name_of k xs places q n known e =
     (number_in-above k (map name_of xs) q n is, omega (arith, number_in-below k (map name_of xs) q n is, length-map xs name_of))
 
 -- names taken out of things
-pub words-map : {A : Type 0} (name_of : A → ArrayString) (xs : List A) → words (map name_of xs) ≡ map (λ x. (name_of x).bytes) xs
+pub words-map : {A : Type 0} (name_of : A → (List ℕ)) (xs : List A) → words (map name_of xs) ≡ map (λ x. (name_of x)) xs
 words-map name_of [] = refl
-words-map name_of (x ∷ xs) = ap (λ rest. (name_of x).bytes ∷ rest) (words-map name_of xs)
+words-map name_of (x ∷ xs) = ap (λ rest. (name_of x) ∷ rest) (words-map name_of xs)

@@ -2,16 +2,15 @@
 use Rattle.std.specs.Prelude.{ℕ, nat_le, nat_eq, ◌&&◌, Bool, true, List, map}
 use Rattle.std.specs.List.{list_any}
 use Rattle.std.specs.Cmp.Lexicographic.{pointwise}
-use Rattle.arrayvec.specs.ArrayString.{ArrayString}
 use Rattle.qp_chart_text.specs.Terms.{Word, Term, Num, Var, Ok, Me, Par, One, Two}
 
 -- the names' bytes
-abbrev pub words : List ArrayString → List Word
-words names = map (λ n. n.bytes) names
+abbrev pub words : List (List ℕ) → List Word
+words names = map (λ n. n) names
 
 -- the name has these bytes
-abbrev pub is_named : Word → ArrayString → Bool
-is_named name v = pointwise nat_eq v.bytes name
+abbrev pub is_named : Word → (List ℕ) → Bool
+is_named name v = pointwise nat_eq v name
 
 -- the word stands in the list
 abbrev pub has_word : List Word → Word → Bool

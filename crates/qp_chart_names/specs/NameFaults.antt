@@ -3,7 +3,6 @@ use Rattle.std.specs.Prelude.{ℕ, ◌-◌, List, [], ◌∷◌, take, Some, Non
 use Rattle.std.specs.declared.option.Option.{Option}
 use Rattle.std.specs.List.{list_any}
 use Rattle.std.specs.Str.{bytes_eq}
-use Rattle.arrayvec.specs.ArrayString.{ArrayString}
 use Rattle.qp_chart_names.specs.declared.place.Part.{Part}
 use Rattle.qp_chart_names.specs.declared.place.Part.TheVariants.{Key, Pos}
 use Rattle.qp_chart_names.specs.Keys.{STATE, TIMER, NAME}
@@ -18,9 +17,9 @@ undeclared None place = fault NO_SUCH_NAME place
 undeclared (Some n) place = None
 
 -- an optional key whose name isn't declared
-abbrev pub undeclared_key : (List ℕ → Option ℕ) → Option ArrayString → List Part → Option Fault
+abbrev pub undeclared_key : (List ℕ → Option ℕ) → Option (List ℕ) → List Part → Option Fault
 undeclared_key number None place = None
-undeclared_key number (Some name) place = undeclared (number name.bytes) place
+undeclared_key number (Some name) place = undeclared (number name) place
 
 -- an earlier thing has the name of the k-th
 unfoldable pub double_at : ℕ → List (List ℕ) → ℕ → List ℕ → Option Fault

@@ -15,7 +15,7 @@ number_in k (x ∷ xs) name = if bytes_eq name x then Some k else number_in (k +
 
 -- the number that a table has for a name
 unfoldable pub number_at : Places → List ℕ → Option ℕ
-number_at places name = get_by (λ k. slice_cmp nat_cmp name k.bytes) places.map
+number_at places name = get_by (λ k. slice_cmp nat_cmp name k) places.map
 
 -- the table numbers these names from k, in order
 abbrev pub IsNumbering : ℕ → List (List ℕ) → Places → Type 0

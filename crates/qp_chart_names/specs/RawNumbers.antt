@@ -2,7 +2,6 @@
 use Rattle.std.specs.Prelude.{◌≡◌, ℕ, ℤ, ◌-◌, List, map, slice_get, Some, None}
 use Rattle.std.specs.declared.option.Option.{Option}
 use Rattle.std.specs.Option.{option_and_then}
-use Rattle.arrayvec.specs.ArrayString.{ArrayString}
 use Rattle.qp_chart_names.specs.declared.raw.RawChart.{RawChart}
 use Rattle.qp_chart_names.specs.declared.raw.RawState.{RawState}
 use Rattle.qp_chart_names.specs.declared.raw.RawTimer.{RawTimer}
@@ -13,23 +12,23 @@ use Rattle.qp_chart_names.specs.Numbering.{number_in}
 
 -- the names of these states
 abbrev pub state_names : List RawState → List (List ℕ)
-state_names states = map (λ state. state.name.bytes) states
+state_names states = map (λ state. state.name) states
 
 -- the names of these time events
 abbrev pub timer_names : List RawTimer → List (List ℕ)
-timer_names timers = map (λ timer. timer.name.bytes) timers
+timer_names timers = map (λ timer. timer.name) timers
 
 -- the names of these variables
-abbrev pub variable_names : List (ArrayString × ℤ) → List (List ℕ)
-variable_names vars = map (λ var. var.0.bytes) vars
+abbrev pub variable_names : List ((List ℕ) × ℤ) → List (List ℕ)
+variable_names vars = map (λ var. var.0) vars
 
 -- the names of these signals
 abbrev pub signal_names : List SigName → List (List ℕ)
-signal_names signals = map (λ signal. signal.name.bytes) signals
+signal_names signals = map (λ signal. signal.name) signals
 
 -- the names of these objects
 abbrev pub object_names : List ObjName → List (List ℕ)
-object_names objects = map (λ object. object.name.bytes) objects
+object_names objects = map (λ object. object.name) objects
 
 -- states are numbered from 1
 abbrev pub state_number : RawChart → List ℕ → Option ℕ
@@ -60,8 +59,8 @@ unfoldable pub object_named : Names → List ℕ → Option ObjName
 object_named names name = option_and_then (λ place. slice_get names.objects place) (number_in 0 (object_names names.objects) name)
 
 -- an optional key and the number of what it names
-abbrev pub Refers : (List ℕ → Option ℕ) → Option ArrayString → Option ℕ → Type 0
+abbrev pub Refers : (List ℕ → Option ℕ) → Option (List ℕ) → Option ℕ → Type 0
 Refers number None None = Unit {0}
 Refers number None (Some n) = ⊥
 Refers number (Some name) None = ⊥
-Refers number (Some name) (Some n) = number name.bytes ≡ Some n
+Refers number (Some name) (Some n) = number name ≡ Some n

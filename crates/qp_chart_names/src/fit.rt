@@ -141,13 +141,13 @@ fn fits_byte(number: Option<i64>) -> bool
 
 /// Whether a reserve is in range, and stands on no static signal.
 fn may_reserve(scope: &Scope<'_>, signal: &Name, reserve: Option<i64>) -> bool
-    ensures { result ≡ (is_byte reserve && not (is_some reserve && is_static scope.now.names.now signal.now.bytes)) }
+    ensures { result ≡ (is_byte reserve && not (is_some reserve && is_static scope.now.names.now signal.now)) }
 {
     fits_byte(reserve) && !(reserve.is_some() && signal_is_static(scope, signal))
 }
 
 pub fn signal_is_static(scope: &Scope<'_>, signal: &Name) -> bool
-    ensures { result ≡ is_static scope.now.names.now signal.now.bytes }
+    ensures { result ≡ is_static scope.now.names.now signal.now }
 {
     match scope.signal_named(signal) {
         Some(signal) => signal.fixed,
@@ -209,7 +209,7 @@ fn event_is_fit(scope: &Scope<'_>, params: u8, event: &EventTree) -> bool
 
 /// How many parameters the signal has.
 pub fn count_of(scope: &Scope<'_>, signal: &Name) -> u8
-    ensures { result ≡ params_of scope.now.names.now signal.now.bytes }
+    ensures { result ≡ params_of scope.now.names.now signal.now }
 {
     match scope.signal_named(signal) {
         Some(signal) => signal.params,

@@ -25,7 +25,7 @@ pub fn is_known(e: &Expr, vars: &[Name]) -> bool
 
 // Whether a name is among the variables.
 fn has_name(name: &Name, vars: &[Name]) -> bool
-    ensures { result ≡ list_any (is_named name.now.bytes) vars.now }
+    ensures { result ≡ list_any (is_named name.now) vars.now }
 {
     vars.iter().any(|v| v == name)
 }

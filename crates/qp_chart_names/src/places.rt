@@ -23,14 +23,14 @@ impl Places {
     }
 
     pub fn get(&self, name: &Name) -> Option<u16>
-        ensures { result ≡ number_at self.now name.now.bytes }
+        ensures { result ≡ number_at self.now name.now }
     {
         self.map.get(name).copied()
     }
 
     /// Gives the name this number, and tells whether the name was new. A known name keeps its number.
     pub fn add(&mut self, name: &Name, number: u16) -> Result<bool, AllocError>
-        ensures { IfOk result (λ added. Adds self.old self.new name.now.bytes number added) }
+        ensures { IfOk result (λ added. Adds self.old self.new name.now number added) }
     {
         if self.map.contains_key(name) {
             return Ok(false);

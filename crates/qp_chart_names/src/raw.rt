@@ -11,10 +11,9 @@ pub struct Vars {
 }
 
 impl Model for Vars {
-    ghost use Rattle.std.specs.Prelude.{List, ℤ};
-    ghost use Rattle.arrayvec.specs.ArrayString.{ArrayString};
+    ghost use Rattle.std.specs.Prelude.{List, ℕ, ℤ};
 
-    ghost Value = { List (ArrayString × ℤ) };
+    ghost Value = { List (List ℕ × ℤ) };
 
     ghost view = { λ b. b.items.items };
 }

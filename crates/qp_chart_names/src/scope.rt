@@ -32,14 +32,14 @@ pub struct Scope<'a> {
 impl Scope<'_> {
     /// The number of the signal of this name.
     pub fn signal_number(&self, name: &Name) -> Option<u16>
-        ensures { result ≡ signal_number self.now.names.now name.now.bytes }
+        ensures { result ≡ signal_number self.now.names.now name.now }
     {
         self.tables.signals.get(name)
     }
 
     /// The signal of this name.
     pub fn signal_named(&self, name: &Name) -> Option<&SigName>
-        ensures { option_copied result ≡ signal_named self.now.names.now name.now.bytes }
+        ensures { option_copied result ≡ signal_named self.now.names.now name.now }
     {
         match self.tables.signals.get(name) {
             Some(number) => self.names.signals.as_slice().get(number as usize - 4),
@@ -49,7 +49,7 @@ impl Scope<'_> {
 
     /// The object of this name.
     pub fn object_named(&self, name: &Name) -> Option<&ObjName>
-        ensures { option_copied result ≡ object_named self.now.names.now name.now.bytes }
+        ensures { option_copied result ≡ object_named self.now.names.now name.now }
     {
         match self.tables.objects.get(name) {
             Some(place) => self.names.objects.as_slice().get(place as usize),
@@ -59,7 +59,7 @@ impl Scope<'_> {
 
     /// The number of the time event of this name.
     pub fn timer_number(&self, name: &Name) -> Option<u8>
-        ensures { result ≡ timer_number self.now.chart.now name.now.bytes }
+        ensures { result ≡ timer_number self.now.chart.now name.now }
     {
         match self.tables.timers.get(name) {
             Some(number) => Some(number as u8),
@@ -69,7 +69,7 @@ impl Scope<'_> {
 
     /// The number of the variable of this name.
     pub fn variable_number(&self, name: &Name) -> Option<u8>
-        ensures { result ≡ variable_number self.now.chart.now name.now.bytes }
+        ensures { result ≡ variable_number self.now.chart.now name.now }
     {
         match self.tables.variables.get(name) {
             Some(number) => Some(number as u8),
@@ -79,7 +79,7 @@ impl Scope<'_> {
 
     /// The number of the state of this name.
     pub fn state_number(&self, name: &Name) -> Option<u8>
-        ensures { result ≡ state_number self.now.chart.now name.now.bytes }
+        ensures { result ≡ state_number self.now.chart.now name.now }
     {
         match self.tables.states.get(name) {
             Some(number) => Some(number as u8),
@@ -97,8 +97,8 @@ impl Scope<'_> {
     /// The number of the signal that the key at this place names.
     pub fn signal(&self, name: &Name, at: &[Part], key: u8) -> Result<u16, ChartFault>
         requires { length at.now < 8 }
-        ensures ok { IfOk result (λ n. signal_number self.now.names.now name.now.bytes ≡ Some n) }
-        ensures fault { IfErr result (IsFault (undeclared (signal_number self.now.names.now name.now.bytes) (at.now ++ Key key ∷ []))) }
+        ensures ok { IfOk result (λ n. signal_number self.now.names.now name.now ≡ Some n) }
+        ensures fault { IfErr result (IsFault (undeclared (signal_number self.now.names.now name.now) (at.now ++ Key key ∷ []))) }
     {
         match self.signal_number(name) {
             Some(number) => Ok(number),
@@ -109,8 +109,8 @@ impl Scope<'_> {
     /// The number of the state that the key at this place names.
     pub fn state(&self, name: &Name, at: &[Part], key: u8) -> Result<u8, ChartFault>
         requires { length at.now < 8 }
-        ensures ok { IfOk result (λ n. state_number self.now.chart.now name.now.bytes ≡ Some n) }
-        ensures fault { IfErr result (IsFault (undeclared (state_number self.now.chart.now name.now.bytes) (at.now ++ Key key ∷ []))) }
+        ensures ok { IfOk result (λ n. state_number self.now.chart.now name.now ≡ Some n) }
+        ensures fault { IfErr result (IsFault (undeclared (state_number self.now.chart.now name.now) (at.now ++ Key key ∷ []))) }
     {
         match self.state_number(name) {
             Some(number) => Ok(number),

@@ -3,7 +3,7 @@ use Rattle.std.proofs.Common.{◌≡◌, ◌≤◌, inl, inr, ℕ, ℤ, zero, su
 use Rattle.qp_chart_text.specs.declared.tokens.Keyword.{Keyword}
 use Rattle.qp_chart_text.specs.declared.tokens.Keyword.TheVariants as key
 use Rattle.qp_chart_text.specs.Terms.{Word, Term, Address, ToMe, ToObject, Event, Order, Set, Say, Post, Lifo, Forward, Publish, Defer, Recall, Flush, Subscribe, Unsubscribe, Arm, Rearm, Disarm, Command, Plain, Locked}
-use Rattle.qp_chart_text.specs.Tokens.{Tok, ◌>>=◌, tokens_of_text}
+use Rattle.qp_chart_text.specs.Tokens.{Tok}
 use Rattle.qp_chart_text.specs.Tokens as tok
 use Rattle.qp_chart_text.specs.Reading.{operator_at, expr_at, after_close}
 use Rattle.qp_chart_text.specs.ReadingActions.{after_open, after_comma, after_assign, after_semicolon, after_open_list, after_close_list, name_at, number_at, receiver_at, margin_at, reserve_at, plain_command_at, more_terms, terms_at, pars_at, event_at, set_at, say_at, post_at, lifo_at, forward_at, publish_at, arm_at, rearm_at, behind, plain_at, more_orders, orders_at, locked_at, command_at}

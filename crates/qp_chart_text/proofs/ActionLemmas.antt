@@ -2,7 +2,7 @@
 use Rattle.std.proofs.Common.{◌≡◌, ◌<◌, ◌≤◌, ℕ, zero, suc, List, [], ◌∷◌, ◌++◌, length, Some, None, refl, sym, ◌∙◌, arith, subst}
 use Rattle.qp_chart_text.specs.declared.trees.ExprFault.{ExprFault}
 use Rattle.qp_chart_text.specs.Terms.{Term, Order}
-use Rattle.qp_chart_text.specs.Tokens.{Tok, ◌>>=◌}
+use Rattle.qp_chart_text.specs.Tokens.{Tok}
 use Rattle.qp_chart_text.specs.Tokens as tok
 use Rattle.qp_chart_text.specs.Reading.{Fails, Part, expr_at}
 use Rattle.qp_chart_text.specs.ReadingActions.{after_comma, after_semicolon, next_term, more_terms, plain_at, next_order, more_orders}

@@ -13,7 +13,7 @@ use Rattle.std.proofs.Common.{Result}
 use Rattle.qp_chart_text.specs.declared.trees.Expr.{Expr}
 use Rattle.qp_chart_text.specs.declared.trees.ExprFault.{ExprFault}
 use Rattle.qp_chart_text.specs.declared.trees.ExprFault.TheVariants as fault
-use Rattle.qp_chart_text.specs.Terms.{Word, Term, term_of}
+use Rattle.qp_chart_text.specs.Terms.{Term, term_of}
 use Rattle.qp_chart_text.specs.Terms as term
 use Rattle.qp_chart_text.specs.Tokens.{Tok, ◌>>=◌, tokens_of_text}
 use Rattle.qp_chart_text.specs.Tokens as tok

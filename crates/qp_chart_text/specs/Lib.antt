@@ -1,3 +1,4 @@
+pub mod Room
 pub mod Terms
 pub mod Tokens
 pub mod Reading

@@ -60,7 +60,7 @@ pub data Command : Type 0 where
 -- what an expression says
 unfoldable pub term_of : expr.Expr → Term
 term_of (expr.Num n) = Num n
-term_of (expr.Var name) = Var name.bytes
+term_of (expr.Var name) = Var name
 term_of expr.Ok = Ok
 term_of expr.Me = Me
 term_of (expr.Par j) = Par j
@@ -69,16 +69,16 @@ term_of (expr.Two' op p x q y) = Two op (term_of x) (term_of y)
 
 abbrev pub address_of : receiver.Receiver → Address
 address_of to.Me = ToMe
-address_of (to.Object name) = ToObject name.bytes
+address_of (to.Object name) = ToObject name
 
 unfoldable pub event_of : event.EventTree → Event
 unfolding term_of
-event_of e = record { signal = e.signal.bytes; pars = map term_of e.pars }
+event_of e = record { signal = e.signal; pars = map term_of e.pars }
 
 -- what a plain action says
 unfoldable pub order_of : plain.PlainAction → Order
 unfolding term_of event_of
-order_of (act.Set var value) = Set var.bytes (term_of value)
+order_of (act.Set var value) = Set var (term_of value)
 order_of (act.Say value) = Say (term_of value)
 order_of (act.Post to event margin reserve) = Post (address_of to) (event_of event) margin reserve
 order_of (act.Lifo event reserve) = Lifo (event_of event) reserve
@@ -87,11 +87,11 @@ order_of (act.Publish event reserve) = Publish (event_of event) reserve
 order_of act.Defer = Defer
 order_of act.Recall = Recall
 order_of act.Flush = Flush
-order_of (act.Subscribe signal) = Subscribe signal.bytes
-order_of (act.Unsubscribe signal) = Unsubscribe signal.bytes
-order_of (act.Arm timer ticks interval) = Arm timer.bytes (term_of ticks) (term_of interval)
-order_of (act.Rearm timer ticks) = Rearm timer.bytes (term_of ticks)
-order_of (act.Disarm timer) = Disarm timer.bytes
+order_of (act.Subscribe signal) = Subscribe signal
+order_of (act.Unsubscribe signal) = Unsubscribe signal
+order_of (act.Arm timer ticks interval) = Arm timer (term_of ticks) (term_of interval)
+order_of (act.Rearm timer ticks) = Rearm timer (term_of ticks)
+order_of (act.Disarm timer) = Disarm timer
 
 -- what an action says
 unfoldable pub command_of : action.Action → Command

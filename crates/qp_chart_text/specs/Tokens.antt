@@ -32,7 +32,7 @@ pub data Tok : Type 0 where
 abbrev pub tok_of : Token → Tok
 tok_of (token.Num n) = Num n
 tok_of (token.Key k) = Key k
-tok_of (token.Name name) = Name name.bytes
+tok_of (token.Name name) = Name name
 tok_of token.Ok = Ok
 tok_of token.Me = Me
 tok_of (token.Par j) = Par j

@@ -7,12 +7,12 @@ ghost use Rattle.qp_chart_text.specs.Reading.{Gives};
 ghost use Rattle.qp_chart_text.specs.ReadingActions.{more_terms, terms_at, pars_at, event_at, set_at, say_at, post_at, lifo_at, forward_at, publish_at, arm_at, rearm_at, behind, plain_at, more_orders, orders_at, locked_at, command_at, command_of_text};
 ghost use Rattle.qp_chart_text.specs.ActionGrammar.{IsActionText};
 
+use crate::names::Name;
 use crate::parser::expr_at;
 use crate::phrases::{
     after_assign, after_close, after_close_list, after_comma, after_open, after_open_list,
     after_semicolon, margin_at, name_at, number_at, receiver_at, reserve_at,
 };
-use crate::text::Name;
 use crate::tokens::{Keyword, Token, read_tokens};
 use crate::trees::{Action, EventTree, Expr, ExprFault, Exprs, PlainAction, PlainActions};
 use std::alloc::Global;
@@ -162,7 +162,7 @@ fn behind(
 // What stands behind the name of a variable.
 #[tactic(auto, unfolding(crate::specs::ReadingActions::set_at, crate::specs::Terms::order_of))]
 fn set_at(alloc: Global, var: Name, tokens: &[Token]) -> Result<(PlainAction, &[Token]), ExprFault>
-    ensures exact { Gives (λ x. (order_of x.0, map tok_of x.1.now)) result (set_at var.bytes (map tok_of tokens.now)) }
+    ensures exact { Gives (λ x. (order_of x.0, map tok_of x.1.now)) result (set_at var (map tok_of tokens.now)) }
     ensures no_longer { IfOk result (λ x. length x.1.now ≤ length tokens.now) }
 {
     let Some(rest) = after_assign(tokens) else {

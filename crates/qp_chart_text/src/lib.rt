@@ -3,6 +3,7 @@
 
 mod action_parser;
 mod grammar_laws;
+mod names;
 mod operators;
 mod parser;
 mod phrases;
@@ -12,7 +13,8 @@ mod trees;
 
 pub use action_parser::read_action;
 pub use grammar_laws::{one_action, one_expression};
+pub use names::Name;
 pub use operators::{Binary, Unary};
 pub use parser::read_expr;
-pub use text::{Name, Text, Texts};
+pub use text::{Text, Texts};
 pub use trees::{Action, EventTree, Expr, ExprFault, Exprs, PlainAction, PlainActions, Receiver};

@@ -7,7 +7,7 @@ ghost use Rattle.qp_chart_text.specs.Tokens.{tok_of};
 ghost use Rattle.qp_chart_text.specs.Reading.{Gives, after_close};
 ghost use Rattle.qp_chart_text.specs.ReadingActions.{after_open, after_comma, after_assign, after_semicolon, after_open_list, after_close_list, name_at, number_at, receiver_at, margin_at, reserve_at};
 
-use crate::text::Name;
+use crate::names::Name;
 use crate::tokens::{Keyword, Token};
 use crate::trees::{ExprFault, Receiver};
 
@@ -98,7 +98,7 @@ pub fn after_close_list(tokens: &[Token]) -> Option<&[Token]>
 /// A name.
 #[tactic(auto, unfolding(crate::specs::ReadingActions::name_at))]
 pub fn name_at(tokens: &[Token]) -> Option<(Name, &[Token])>
-    ensures exact { option_map (λ x. (x.0.bytes, map tok_of x.1.now)) result ≡ name_at (map tok_of tokens.now) }
+    ensures exact { option_map (λ x. (x.0, map tok_of x.1.now)) result ≡ name_at (map tok_of tokens.now) }
     ensures no_longer { IfSome result (λ x. length x.1.now ≤ length tokens.now) }
 {
     match tokens {

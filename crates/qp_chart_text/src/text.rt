@@ -1,11 +1,7 @@
-//! Names and texts of a system file.
+//! Texts of a system file.
 ghost use Rattle.std.specs.Prelude.{◌≡◌};
 
-use arrayvec::ArrayString;
 use std::marker::Model;
-
-/// A name of a system file: a letter or `_`, then letters, digits and `_`, 1 to 24 bytes in all.
-pub type Name = ArrayString<24>;
 
 /// The text of an action or a guard. Contracts see its bytes.
 #[derive(Drop)]

@@ -8,8 +8,8 @@ ghost use Rattle.std.specs.Str.{IsAscii};
 ghost use Rattle.qp_chart_text.specs.Tokens.{tok_of, keyword_of, atom_of, word_token, number_token, number_in, value_after, name_token, mark_of, mark_at, token_at, tokens_of_text, is_letter, is_word_byte, is_space};
 ghost use Rattle.qp_chart_text.specs.Reading.{Gives};
 
+use crate::names::Name;
 use crate::operators::Binary;
-use crate::text::Name;
 use crate::trees::ExprFault;
 use std::alloc::Global;
 

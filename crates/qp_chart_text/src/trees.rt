@@ -1,8 +1,8 @@
 //! Expressions and actions as their texts have them: no name is resolved.
 ghost use Rattle.std.specs.Prelude.{◌≡◌};
 
+use crate::names::Name;
 use crate::operators::{Binary, Unary};
-use crate::text::Name;
 use std::alloc::{AllocError, AllocFailed};
 use std::marker::Model;
 

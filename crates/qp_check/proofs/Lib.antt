@@ -6,3 +6,4 @@ pub mod ObjectTestLemmas
 pub mod PieceLemmas
 pub mod RunPartLemmas
 pub mod SourceFindLemmas
+pub mod VerdictLemmas

@@ -1,6 +1,6 @@
 //! The agendas of a chart of two states, and lists that follow it.
 
-ghost use Rattle.std.specs.Prelude.{◌≡◌, true, length, IsTrue, IfOk, IfSome};
+ghost use Rattle.std.specs.Prelude.{◌≡◌, ◌≤◌, true, length, IsTrue, IfOk, IfSome};
 ghost use Rattle.qp_chart_names.specs.declared.raw.Names.{Names};
 ghost use Rattle.qp_chart_names.specs.Readable.{IsReadable, IsReadableState};
 ghost use Rattle.qp_model.specs.declared.systems.System.{System};
@@ -29,6 +29,7 @@ fn texts(alloc: Global) -> Texts
 }
 
 fn state(alloc: Global, own: &str, parent: Option<Name>, init: Option<Name>) -> RawState
+    requires { length own.now ≤ 24 }
     ensures { IsReadableState result }
 {
     RawState {

@@ -1,10 +1,11 @@
 //! What the tests have in common: records, lanes and journals as constants state them, systems, and stimuli.
 
-ghost use Rattle.std.specs.Prelude.{◌≡◌, [], IfOk, length};
+ghost use Rattle.std.specs.Prelude.{◌≡◌, ◌≤◌, [], IfOk, length};
 ghost use Rattle.qp_check_histories.specs.Numbers.{WordsFit};
 
-use arrayvec::{ArrayString, ArrayVec};
+use arrayvec::ArrayVec;
 use qp_base::Ev;
+use qp_chart::Name;
 use qp_model::{
     Charts, Journal, Lane, Lanes, ObjectDef, ObjectDefs, PoolDef, PoolDefs, Rec, SignalDef,
     SignalDefs, Source, Stim, Stimuli, System, TimerDefs, Values,
@@ -126,11 +127,15 @@ pub fn nothing(alloc: Global) -> System
     }
 }
 
-pub fn name_of(text: &str) -> ArrayString<24> {
-    ArrayString::from(text).unwrap_or_default()
+pub fn name_of(text: &str) -> Name
+    requires { length text.now ≤ 24 }
+{
+    Name::from(text).unwrap()
 }
 
-pub fn signal(name: &str, params: u8, fixed: bool) -> SignalDef {
+pub fn signal(name: &str, params: u8, fixed: bool) -> SignalDef
+    requires { length name.now ≤ 24 }
+{
     SignalDef {
         name: name_of(name),
         params,
@@ -140,6 +145,7 @@ pub fn signal(name: &str, params: u8, fixed: bool) -> SignalDef {
 
 /// An object of chart 1 with this ring, and room for one deferred entry.
 pub fn object(alloc: Global, name: &str, priority: u8, ring: u8) -> ObjectDef
+    requires { length name.now ≤ 24 }
     ensures { result.chart ≡ 1 }
 {
     ObjectDef {

@@ -7,7 +7,7 @@ use std::alloc::{AllocError, Global};
 use std::test::Fail;
 
 fn put_object(text: &mut String, alloc: Global, object: &ObjectDef) -> Result<(), AllocError> {
-    let name = &object.name;
+    let name = object.name.as_str();
     let (chart, priority, threshold) = (object.chart, object.priority, object.threshold);
     let (ring, defer, vars) = (object.ring, object.defer, object.vars.items.as_slice());
     let line = format!(in alloc;

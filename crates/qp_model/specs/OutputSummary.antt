@@ -5,7 +5,6 @@ use Rattle.std.specs.Bool.{MatchBool}
 use Rattle.std.specs.Option.{option_map_or}
 use Rattle.std.specs.Fmt.{signed_decimal}
 use Rattle.std.specs.List.{count_by, list_all}
-use Rattle.arrayvec.specs.ArrayString.{ArrayString}
 use Rattle.qp_chart.specs.declared.checked.Chart.{Chart}
 use Rattle.qp_chart.specs.declared.checked.State.{State}
 use Rattle.qp_model.specs.declared.systems.System.{System}
@@ -53,13 +52,13 @@ CourseLeaves sys d chart ts c =
 
 -- the name of a state
 abbrev pub name_in : List State → ℕ → List ℕ
-name_in states leaf = option_map_or (λ s. s.name.bytes) (slice_get states (leaf - 1)) []
+name_in states leaf = option_map_or (λ s. s.name) (slice_get states (leaf - 1)) []
 
 -- each variable with its value, after a space
-abbrev pub values_text : List (ArrayString × ℤ) → List ℤ → List ℕ
+abbrev pub values_text : List ((List ℕ) × ℤ) → List ℤ → List ℕ
 values_text [] values = []
 values_text (v ∷ vs) [] = []
-values_text (v ∷ vs) (x ∷ xs) = 32 ∷ v.0.bytes ++ codes "=" ++ signed_decimal x ++ values_text vs xs
+values_text (v ∷ vs) (x ∷ xs) = 32 ∷ v.0 ++ codes "=" ++ signed_decimal x ++ values_text vs xs
 
 -- the state and the variables of an object
 abbrev pub config_text : Chart → Config → List ℕ
@@ -77,7 +76,7 @@ unfoldable pub IsObjectLine : System → Journal → ObjectDef → List ℕ → 
 unfolding IsStateText by_object chart_at facts_of
 IsObjectLine sys j d line =
     (text : List ℕ) × IsStateText sys d (chart_at sys d.chart) (by_object (facts_of sys j) j d.priority) text
-    × (line ≡ codes "object " ++ d.name.bytes ++ 32 ∷ decimal (taken_in (by_object (facts_of sys j) j d.priority)) ++ 32 ∷ text ++ codes "\n")
+    × (line ≡ codes "object " ++ d.name ++ 32 ∷ decimal (taken_in (by_object (facts_of sys j) j d.priority)) ++ 32 ∷ text ++ codes "\n")
 
 abbrev pub is_new_of : ℕ → Body → Bool
 is_new_of p (body.New pool n b from sig pars) = pool == p

@@ -1,6 +1,5 @@
 -- Journals with their summaries, whose systems have names.
 use Rattle.std.specs.Prelude.{codes, ℕ, pos, negsuc, true, List, [], ◌∷◌, ◌++◌, decimal, Some, None}
-use Rattle.arrayvec.specs.ArrayString.{ArrayString}
 use Rattle.qp_chart.specs.declared.checked.Chart.{Chart}
 use Rattle.qp_chart.specs.declared.checked.State.{State}
 use Rattle.qp_chart.specs.declared.checked.Row.{Row}
@@ -8,8 +7,8 @@ use Rattle.qp_model.specs.declared.systems.ObjectDef.{ObjectDef}
 use Rattle.qp_model.specs.declared.systems.System.{System}
 use Rattle.qp_model_rows.specs.Systems.{row, signal}
 
-abbrev pub named : List ℕ → ArrayString
-named bytes = record { bytes = bytes; spare = [] }
+abbrev pub named : List ℕ → (List ℕ)
+named bytes = bytes
 
 abbrev pub named_state : List ℕ → List Row → State
 named_state text rows = record { name = named text; parent = None; entry = []; exit = []; init = None; init_do = []; row = rows }

@@ -1,7 +1,6 @@
 -- The systems and stimuli of the journals.
 use Rattle.std.specs.Prelude.{ℕ, Bool, true, false, List, [], ◌∷◌, pos, Some, None}
 use Rattle.std.specs.declared.option.Option.{Option}
-use Rattle.arrayvec.specs.ArrayString.{ArrayString}
 use Rattle.qp_chart.specs.declared.checked.Chart.{Chart}
 use Rattle.qp_chart.specs.declared.checked.State.{State}
 use Rattle.qp_chart.specs.declared.checked.Row.{Row}
@@ -11,7 +10,8 @@ use Rattle.qp_chart.specs.declared.actions.Act.TheVariants as act
 use Rattle.qp_chart.specs.declared.actions.Plain.{Plain}
 use Rattle.qp_chart.specs.declared.actions.Plain.TheVariants as action
 use Rattle.qp_chart.specs.declared.actions.Target.TheVariants as target
-use Rattle.qp_chart.specs.declared.expression.Bound.{Bound, Num, Ok}
+use Rattle.qp_chart.specs.declared.expression.Bound.{Bound}
+use Rattle.qp_chart.specs.Tree.{Num, Ok}
 use Rattle.qp_model.specs.declared.systems.SignalDef.{SignalDef}
 use Rattle.qp_model.specs.declared.systems.ObjectDef.{ObjectDef}
 use Rattle.qp_model.specs.declared.systems.TimerDef.{TimerDef}
@@ -20,8 +20,8 @@ use Rattle.qp_model.specs.declared.stimulus.Stim.{Stim}
 use Rattle.qp_model.specs.declared.stimulus.Stim.TheVariants as stim
 
 -- names say nothing here
-abbrev pub unnamed : ArrayString
-unnamed = record { bytes = []; spare = [] }
+abbrev pub unnamed : (List ℕ)
+unnamed = []
 
 -- a signal by its count of parameters, and whether it is static
 abbrev pub signal : ℕ → Bool → SignalDef

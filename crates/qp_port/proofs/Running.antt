@@ -26,7 +26,7 @@ use Rattle.qp_port_phases.specs.Quiet.{FirstFound, HasEnded}
 use Rattle.qp_port_phases.specs.Stopping.{AnyStopped, HasStopped}
 use Rattle.qp_port.specs.declared.job.Job.{Job}
 use Rattle.qp_port.specs.Ends.{HasRun}
-use Rattle.qp_port_cursor.specs.Answers.{is_idle, is_short}
+use Rattle.qp_port_cursor.specs.Answers.{IsFed, is_idle, is_short}
 use Rattle.qp_port.specs.Jobs.{JobRests, JobStops, is_left_in}
 use Rattle.qp_port.specs.Resting.{AreShown}
 use Rattle.qp_port.specs.Rows.{AreSameLanes, IsRow}
@@ -104,6 +104,16 @@ module _ {T : Type 0} (s : T → System) (b : T → ℕ) (t : T → Turn) (work 
       by true e none more here = inr (more none)
       by false e none more here = inl (here e)
 
+  fed-either : (w : T) → is_short (t w) ≡ false → MayTurn (s w) (b w) (t w) (work w) (view w) ⊎ MayBegin (s w) (b w) (t w) (work w) (view w) → IsFed (view w)
+  fed-either w long (inl h) = h.fed long
+  fed-either w long (inr h) = h.fed
+
+  -- none handed in 7
+  pub all-fed : (ws : List T) → list_any (λ w. is_short (t w)) ws ≡ false → AreReady (λ w. MayTurn (s w) (b w) (t w) (work w) (view w) ⊎ MayBegin (s w) (b w) (t w) (work w) (view w)) ws
+      → AllByRecursion IsFed (map view ws)
+  all-fed [] long h = tt
+  all-fed (w ∷ ws) long h = let parts = or_parts (is_short (t w)) (list_any (λ u. is_short (t u)) ws) long in (fed-either w parts.0 h.0, all-fed ws parts.1 h.1)
+
   first-halted : (memory : Bool) (xs ys : List T) → FirstFound view memory xs ys → AnyStopped (map view ys)
   first-halted memory (x ∷ xs) (y ∷ ys) h = let long = ap length h.answered in inl (inr (omega (arith, long)))
   first-halted memory [] ys h = absurd h
@@ -153,3 +163,9 @@ module _ (sys : System) (stimuli : List (List Stim)) (budget : ℕ) (sound : IsS
   cause-left (Ok run) of done_in h how stopped each long left = λ not_done.
       subst AnyStopped (sym (ap (map see) h ∙ map-both lane see ys))
       (cause s b t work (λ w. see (lane w)) xs ys how stopped each long (left not_done))
+
+  pub fed-left : {R E : Type 0} (result : Result R E) (of : R → List L) → IfOk result (λ run. of run ≡ map lane ys)
+      → AreReady (λ w. MayTurn (s w) (b w) (t w) (work w) (see (lane w)) ⊎ MayBegin (s w) (b w) (t w) (work w) (see (lane w))) ys → OnOk result (list_any (λ w. is_short (t w)) ys ≡ false)
+      → IfOk result (λ run. AllByRecursion IsFed (map see (of run)))
+  fed-left (Err e) of h each long = tt
+  fed-left (Ok run) of h each long = subst (AllByRecursion IsFed) (sym (ap (map see) h ∙ map-both lane see ys)) (all-fed s b t work (λ w. see (lane w)) ys long each)

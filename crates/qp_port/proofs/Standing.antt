@@ -23,9 +23,11 @@ use Rattle.qp_port_phases.specs.declared.lanes.Passed.TheVariants as passed
 use Rattle.qp_port_phases.specs.Passing.{PassesTo}
 use Rattle.qp_port_phases.specs.Stopping.{Hears}
 use Rattle.qp_port_cursor.proofs.Hearing.{passes-hands, passes-hear, passes-to, why-starved, why-stopped}
+use Rattle.qp_port_cursor.specs.Answers.{Feeds, is_idle, turn_by}
 use Rattle.qp_port_cursor.specs.At.{IsCursorAt, mine}
 use Rattle.qp_port_cursor.specs.Turning.{IsSameSource, SourceTurns}
 use Rattle.qp_port_cursor.specs.Passing.{Passes}
+use Rattle.qp_port_cursor.proofs.Feeding.{idle-long}
 use Rattle.qp_port_cursor.proofs.Standing.{may-stop}
 use Rattle.qp_port.specs.declared.job.Job.{Job}
 use Rattle.qp_port.specs.declared.job.Job.TheVariants as job
@@ -87,6 +89,16 @@ source-passed_to sys x y v w p at h = passes-to sys x y v w p at.at.of h
 
 pub source-passed_hands : (sys : System) (x y : Cursor) (v w : LaneView) (p : Passed) → Passes sys x y v w p → w.hands ≡ v.hands
 source-passed_hands sys x y v w p h = passes-hands sys x y v w p h
+
+-- behind a turn, a try or a start it may take another turn
+pub may-turn : (sys : System) (budget : ℕ) (t u : Turn) (x y : Job) (v w : LaneView) → MayTurn sys budget t x v → is_idle t ≡ true → JobStands sys budget u y w → Feeds v w u → MayTurn sys budget u y w
+may-turn sys budget t u x y v w h idle stands feeds = record { sound = h.sound; few = h.few; stands = stands; fed = λ long. feeds long (h.fed (idle-long t idle)) }
+
+pub may-pass : (sys : System) (budget : ℕ) (t u : Turn) (p : Passed) (x y : Job) (v w : LaneView) → MayTurn sys budget t x v → is_idle t ≡ true → JobPasses sys budget p y w → Feeds v w (turn_by p) → u ≡ turn_by p → MayTurn sys budget u y w
+may-pass sys budget t u p x y v w h idle passes feeds is = subst (λ a. MayTurn sys budget a y w) (sym is) (may-turn sys budget t (turn_by p) x y v w h idle passes feeds)
+
+pub may-start : (sys : System) (budget : ℕ) (t u : Turn) (x y : Job) (v w : LaneView) → MayBegin sys budget t x v → JobStands sys budget u y w → Feeds v w u → MayTurn sys budget u y w
+may-start sys budget t u x y v w h stands feeds = record { sound = h.sound; few = h.few; stands = stands; fed = λ long. feeds long h.fed }
 
 -- The lane may end where its job rests, and where it hasn't begun.
 

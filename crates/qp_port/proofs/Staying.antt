@@ -12,6 +12,7 @@ use Rattle.qp_port_law.specs.Homes.{HomeEnds}
 use Rattle.qp_port_law.specs.SourcesLeft.{SourceLeaves}
 use Rattle.qp_port_home.proofs.Resting.{resting-same}
 use Rattle.qp_port_cursor.specs.At.{mine}
+use Rattle.qp_port_cursor.proofs.Feeding.{fed-seen}
 use Rattle.qp_port_cursor.proofs.Hearing.{hears-seen, starved-seen, stopped-seen}
 use Rattle.qp_port_cursor.proofs.Seeing.{SeenMore}
 use Rattle.qp_port_cursor.proofs.Standing.{stay}
@@ -41,7 +42,12 @@ module _ (sys : System) (sound : IsSound sys) (budget : ℕ) (v w : LaneView) (m
   stands-stay turn.Memory x h = starved-seen v w more h
 
 pub may-turn_still : (sys : System) (budget : ℕ) (t : Turn) (x : Job) (v w : LaneView) → SeenMore v w → MayTurn sys budget t x v → MayTurn sys budget t x w
-may-turn_still sys budget t x v w more h = record { sound = h.sound; few = h.few; stands = stands-stay sys h.sound budget v w more t x h.stands }
+may-turn_still sys budget t x v w more h = record {
+  sound = h.sound;
+  few = h.few;
+  stands = stands-stay sys h.sound budget v w more t x h.stands;
+  fed = λ long. fed-seen v w more (h.fed long);
+}
 
 pub same-job : (x : Job) → IsSameJob x x
 same-job job.Nothing = tt

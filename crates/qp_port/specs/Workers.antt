@@ -1,7 +1,8 @@
 -- A worker: a lane with what runs in it.
 use Rattle.std.proofs.Common.{◌∙◌}
-use Rattle.std.specs.Prelude.{◌≡◌, ℕ, ◌≤◌, refl}
+use Rattle.std.specs.Prelude.{◌≡◌, ℕ, ◌≤◌, false, refl}
 use Rattle.qp_port_phases.specs.Stopping.{Hears}
+use Rattle.qp_port_cursor.specs.Answers.{IsFed, is_short}
 use Rattle.qp_port_cursor.proofs.Hearing.{hears-itself, hears-then}
 use Rattle.qp_model.specs.declared.systems.System.{System}
 use Rattle.qp_model.specs.Sound.{IsSound}
@@ -20,12 +21,15 @@ pub record MayBegin (sys : System) (budget : ℕ) (t : Turn) (x : Job) (v : Lane
   pub few : budget ≤ 1000000
   pub idle : t ≡ turn.Idle
   pub begins : JobBegins sys x v
+  pub fed : IsFed v
 
--- It may take a turn, or be met and looked at like another. Where its last turn stopped, it does nothing more.
+-- It may take a turn, or be met and looked at like another. Where its last turn stopped, it does nothing more. It has handed in 7 for want of memory
+-- alone.
 pub record MayTurn (sys : System) (budget : ℕ) (t : Turn) (x : Job) (v : LaneView) : Type 0 where
   pub sound : IsSound sys
   pub few : budget ≤ 1000000
   pub stands : JobStands sys budget t x v
+  pub fed : is_short t ≡ false → IsFed v
 
 -- the run has ended
 pub record MayEnd (sys : System) (budget : ℕ) (t : Turn) (x : Job) (v : LaneView) : Type 0 where

@@ -5,6 +5,7 @@ ghost use Rattle.qp_port_phases.specs.Passing.{PassesTo};
 ghost use Rattle.qp_port_phases.specs.Stopping.{Hears};
 ghost use Rattle.qp_model.specs.Sound.{IsSound};
 ghost use Rattle.qp_kernel_turns.specs.Lanes.{SameLane};
+ghost use Rattle.qp_port_cursor.specs.Answers.{Feeds, turn_by};
 ghost use Rattle.qp_port.specs.declared.job.Job.TheVariants as job;
 ghost use Rattle.qp_port.specs.Jobs.{IsSameJob, JobBegins, JobPasses, JobRests, JobStands, JobTurns, is_left_in, stands_at_settle};
 
@@ -36,6 +37,7 @@ fn start_home<O: Ops>(ops: &mut O, sys: &System, home: &mut Home, budget: u32) -
     ensures same { home.new.me ≡ home.old.me }
     ensures lane { SameLane (O.lane ops.old) (O.lane ops.new) }
     ensures hears { Hears (O.lane ops.old) (O.lane ops.new) }
+    ensures feeds { Feeds (O.lane ops.old) (O.lane ops.new) result }
 {
     let _ = budget;
     match home.start(ops, sys) {
@@ -54,6 +56,7 @@ pub(crate) fn start_job<O: Ops>(ops: &mut O, sys: &System, job: &mut Job<'_>, bu
     ensures same { IsSameJob job.old job.new }
     ensures lane { SameLane (O.lane ops.old) (O.lane ops.new) }
     ensures hears { Hears (O.lane ops.old) (O.lane ops.new) }
+    ensures feeds { Feeds (O.lane ops.old) (O.lane ops.new) result }
 {
     match job {
         Job::Home(home) => start_home(ops, sys, home, budget),
@@ -79,6 +82,7 @@ pub(crate) fn run_job<R: Wait, O: Ops, G: Tells, T: Turns<O>>(
     ensures same { IsSameJob job.old job.new }
     ensures lane { SameLane (O.lane ops.old) (O.lane ops.new) }
     ensures hears { Hears (O.lane ops.old) (O.lane ops.new) }
+    ensures feeds { Feeds (O.lane ops.old) (O.lane ops.new) result }
     ensures turns { JobTurns sys.now budget job.old job.new (O.lane ops.old) (O.lane ops.new) result }
 {
     match job {
@@ -109,6 +113,7 @@ pub(crate) fn pass_job<O: Ops>(ops: &mut O, sys: &System, job: &mut Job<'_>, bud
     ensures same { IsSameJob job.old job.new }
     ensures lane { SameLane (O.lane ops.old) (O.lane ops.new) }
     ensures hears { Hears (O.lane ops.old) (O.lane ops.new) }
+    ensures feeds { Feeds (O.lane ops.old) (O.lane ops.new) (turn_by result) }
 {
     let _ = budget;
     match job {

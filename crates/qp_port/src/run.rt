@@ -1,13 +1,13 @@
 //! The run over given lanes: starts, phases, and what is left.
 
 ghost use Rattle.std.specs.Prelude.{◌≡◌, ◌≤◌, ◌⊎◌, IfOk, OnOk, map, true, false};
-ghost use Rattle.std.specs.List.{list_all, list_any};
+ghost use Rattle.std.specs.List.{AllByRecursion, list_all, list_any};
 ghost use Rattle.qp_model.specs.Sound.{IsSound};
 ghost use Rattle.qp_stim.specs.Rules.{StimuliFit};
 ghost use Rattle.qp_port_phases.specs.declared.phases.Ended.TheVariants as ended;
 ghost use Rattle.qp_port_phases.specs.Stopping.{AnyStopped};
 ghost use Rattle.qp_port.specs.Ends.{HasRun};
-ghost use Rattle.qp_port_cursor.specs.Answers.{is_idle, is_short};
+ghost use Rattle.qp_port_cursor.specs.Answers.{IsFed, is_idle, is_short};
 ghost use Rattle.qp_port.specs.Resting.{AreShown};
 ghost use Rattle.qp_port.specs.Rows.{AreNewLanes, AreSameLanes};
 
@@ -104,7 +104,8 @@ fn left_of<O: Meets + Drop, G: Gate, T: Turns<O>>(
 
 /// Runs the system on its stimuli over these lanes, which are new: the first stays empty, each object has one, by ascending priority,
 /// and so has each source. Objects take their turns as the terms say, and no object takes more events than the budget. The hook is
-/// called where a phase begins. Want of memory alone leaves nothing. Something is left to be done only where a lane has stopped.
+/// called where a phase begins. Want of memory alone leaves nothing, and what is left no lane has cut for it. Something is left to be
+/// done only where a lane has stopped.
 pub fn run_lanes_of<
     R: Threads + Wait + Sync,
     O: Meets + Send + Drop,
@@ -125,6 +126,7 @@ pub fn run_lanes_of<
     ensures lanes { IfOk result (λ run. AreSameLanes (map O.lane lanes.items) (map O.lane run.lanes.items)) }
     ensures run { IfOk result (λ run. HasRun at.now.sys.now at.now.stim.now at.now.budget run.done run.rests.items (map O.lane run.lanes.items)) }
     ensures cause { IfOk result (λ run. run.done ≡ false → AnyStopped (map O.lane run.lanes.items)) }
+    ensures fed { IfOk result (λ run. AllByRecursion IsFed (map O.lane run.lanes.items)) }
 {
     let Ok(objects) = objects_of(alloc, at.sys) else {
         return Err(Memory);
@@ -151,6 +153,7 @@ pub fn run_lanes_of_port<R: Threads + Wait + Sync, O: Meets + Send + Drop, G: Ga
     ensures lanes { IfOk result (λ run. AreSameLanes (map O.lane lanes.items) (map O.lane run.lanes.items)) }
     ensures run { IfOk result (λ run. HasRun sys.now stim.now budget run.done run.rests.items (map O.lane run.lanes.items)) }
     ensures cause { IfOk result (λ run. run.done ≡ false → AnyStopped (map O.lane run.lanes.items)) }
+    ensures fed { IfOk result (λ run. AllByRecursion IsFed (map O.lane run.lanes.items)) }
 {
     let at = Terms {
         sys,

@@ -13,3 +13,4 @@ mod Nexts
 pub mod Standing
 pub mod Seeing
 pub mod Hearing
+pub mod Feeding

@@ -1,5 +1,7 @@
 -- Answers of turns.
-use Rattle.std.specs.Prelude.{Bool, true, false}
+use Rattle.std.specs.Prelude.{◌≡◌, ◌==◌, Bool, true, false}
+use Rattle.std.specs.List.{list_any}
+use Rattle.qp_calls.specs.LaneView.{LaneView}
 use Rattle.qp_dispatch.specs.declared.objects.Turn.{Turn}
 use Rattle.qp_dispatch.specs.declared.objects.Turn.TheVariants as turn
 use Rattle.qp_port_phases.specs.declared.lanes.Passed.{Passed}
@@ -21,3 +23,11 @@ turn_by passed.Yes = turn.Idle
 turn_by (passed.Found p now) = turn.Idle
 turn_by passed.Stopped = turn.Stopped
 turn_by passed.Memory = turn.Memory
+
+-- no 7 was handed in, which tells of want of memory
+abbrev pub IsFed : LaneView → Type 0
+IsFed v = list_any (λ code. code == 7) v.stops ≡ false
+
+-- a turn with this answer handed in none, unless memory was refused in it
+abbrev pub Feeds : LaneView → LaneView → Turn → Type 0
+Feeds v w t = is_short t ≡ false → IsFed v → IsFed w

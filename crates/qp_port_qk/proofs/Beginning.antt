@@ -13,6 +13,7 @@ use Rattle.qp_dispatch.specs.declared.objects.Turn.{Turn}
 use Rattle.qp_dispatch.specs.declared.objects.Turn.TheVariants as turn
 use Rattle.qp_port_workers.specs.Turns.{AreReady}
 use Rattle.qp_port_phases.specs.Lanes.{AreTogether}
+use Rattle.qp_port_cursor.proofs.Feeding.{fed-new}
 use Rattle.qp_port_cursor.proofs.Standing.{new-stand}
 use Rattle.qp_port_qk.specs.declared.job.Job.{Job}
 use Rattle.qp_port_qk.specs.declared.job.Job.TheVariants as job
@@ -27,21 +28,23 @@ got (y ∷ ys) zero x h = let same : y ≡ x = cc in (same, omega arith)
 got (y ∷ ys) (suc n) x h = let more = got ys n x h in let few = more.1 in (more.0, omega (arith, few))
 
 module _ (acts : Bool) (alone : acts ≡ false) (sys : System) (stimuli : List (List Stim)) (budget : ℕ) (sound : IsSound sys) (fit : StimuliFit sys stimuli) (few : budget ≤ 1000000) where
-  fresh-begin : (s : System) (b : ℕ) (t : Turn) (x : Job) (v : LaneView) → IsFreshWorker sys budget s b t → JobBegins sys x v → MayBegin acts s b t x v
-  fresh-begin s b t x v fresh h = record {
+  fresh-begin : (s : System) (b : ℕ) (t : Turn) (x : Job) (v : LaneView) → IsFreshWorker sys budget s b t → JobBegins sys x v → v.stops ≡ [] → MayBegin acts s b t x v
+  fresh-begin s b t x v fresh h none = record {
     alone = alone;
     sound = subst IsSound (sym fresh.sys_is) sound;
     few = let same = fresh.budget_is in omega (arith, same, few);
     idle = fresh.idle;
     begins = subst (λ u. JobBegins u x v) (sym fresh.sys_is) h;
+    fed = fed-new v none;
   }
 
-  fresh-turn : (s : System) (b : ℕ) (t : Turn) (x : Job) (v : LaneView) → IsFreshWorker sys budget s b t → JobRests sys budget x v → MayTurn acts s b t x v
-  fresh-turn s b t x v fresh h = record {
+  fresh-turn : (s : System) (b : ℕ) (t : Turn) (x : Job) (v : LaneView) → IsFreshWorker sys budget s b t → JobRests sys budget x v → v.stops ≡ [] → MayTurn acts s b t x v
+  fresh-turn s b t x v fresh h none = record {
     alone = alone;
     sound = subst IsSound (sym fresh.sys_is) sound;
     few = let same = fresh.budget_is in omega (arith, same, few);
     stands = subst (λ u. JobStands u b t x v) (sym fresh.sys_is) (subst (λ n. JobStands sys n t x v) (sym fresh.budget_is) (subst (λ a. JobStands sys budget a x v) (sym fresh.idle) h));
+    fed = λ long. fed-new v none;
   }
 
   kernel-begins : (world : List ℕ) (x : Job) (v : LaneView) → IsKernelMade sys x → IsNewOf sys world v → ((d : ObjectDef) → object_at sys d.priority ≡ Some d → v.serves d.priority ≡ true) → v.plan ≡ [] → JobBegins sys x v × IsKernel x
@@ -99,7 +102,7 @@ module _ (acts : Bool) (alone : acts ≡ false) (sys : System) (stimuli : List (
         let one = source-begins world n ss more (work w) (view w) made.0.its at new.0 in
         let behind = sources-begin (n + 1) more ws (drop-head n stimuli ss more at).1 made.1 new.1 in
         record {
-          ready = (fresh-turn (s w) (b w) (t w) (work w) (view w) made.0.fresh one.0, behind.ready);
+          ready = (fresh-turn (s w) (b w) (t w) (work w) (view w) made.0.fresh one.0 new.0.new.stops, behind.ready);
           row = (one.1, behind.row);
           terms = ((made.0.fresh.sys_is, made.0.fresh.budget_is), behind.terms);
           here = ((new.0.world_is, new.0.of), behind.here);
@@ -133,7 +136,7 @@ module _ (acts : Bool) (alone : acts ≡ false) (sys : System) (stimuli : List (
         first = made.first;
         others = made.sources;
         are = made.workers_are;
-        begin = rw made.workers_are (fresh-begin (s made.first) (b made.first) (t made.first) (work made.first) (see (lane made.first)) made.kernel.fresh one.0, behind.ready);
+        begin = rw made.workers_are (fresh-begin (s made.first) (b made.first) (t made.first) (work made.first) (see (lane made.first)) made.kernel.fresh one.0 all.0.new.stops, behind.ready);
         row = rw made.workers_are (one.1, behind.row);
         terms = rw made.workers_are ((made.kernel.fresh.sys_is, made.kernel.fresh.budget_is), behind.terms);
         together_are = together s b t work (λ w. see (lane w)) world (see (lane made.first)) refl all.0.of made.sources behind.here;

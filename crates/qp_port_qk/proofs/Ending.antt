@@ -42,7 +42,7 @@ stops-end sys budget (job.Kernel xs k) v h = h.ends
 stops-end sys budget (job.Source x) v h = h
 
 pub turns-end : (acts : Bool) (sys : System) (budget : ℕ) (t : Turn) (x : Job) (v : LaneView) → MayTurn acts sys budget t x v → MayEnd sys budget t x v
-turns-end acts sys budget t x v h = record { sound = h.sound; ends = by t h.stands }
+turns-end acts sys budget t x v h = record { sound = h.sound; ends = by t h.stands; fed = h.fed }
   where
     by : (t : Turn) → JobStands sys budget t x v → JobEnds sys budget t x v
     by turn.Idle k = rests-end sys budget h.sound x v k

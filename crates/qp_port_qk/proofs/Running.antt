@@ -46,7 +46,7 @@ use Rattle.qp_port_cursor.proofs.Standing.{done-end}
 use Rattle.qp_port_qk.specs.declared.job.Job.{Job}
 use Rattle.qp_port_qk.specs.declared.job.Job.TheVariants as job
 use Rattle.qp_port_qk.specs.Ends.{HasRun, is_over}
-use Rattle.qp_port_cursor.specs.Answers.{is_idle, is_short}
+use Rattle.qp_port_cursor.specs.Answers.{IsFed, is_idle, is_short}
 use Rattle.qp_port_qk.specs.Jobs.{JobMayEnd, JobRests, JobStands, is_left_in}
 use Rattle.qp_port_qk.specs.KernelRests.{KernelEnds}
 use Rattle.qp_port_qk.specs.Numbers.{job_rows, numbers_of}
@@ -249,6 +249,16 @@ module _ {T : Type 0} (acts : Bool) (s : T → System) (b : T → ℕ) (t : T �
       by true e none more here = inr (more none)
       by false e none more here = inl (here e)
 
+  fed-either : (w : T) → is_short (t w) ≡ false → MayTurn acts (s w) (b w) (t w) (work w) (view w) ⊎ MayEnd (s w) (b w) (t w) (work w) (view w) → IsFed (view w)
+  fed-either w long (inl h) = h.fed long
+  fed-either w long (inr h) = h.fed long
+
+  -- none handed in 7
+  pub all-fed : (ws : List T) → list_any (λ w. is_short (t w)) ws ≡ false → AreReady (λ w. MayTurn acts (s w) (b w) (t w) (work w) (view w) ⊎ MayEnd (s w) (b w) (t w) (work w) (view w)) ws
+      → AllByRecursion IsFed (map view ws)
+  all-fed [] long h = tt
+  all-fed (w ∷ ws) long h = let parts = or_parts (is_short (t w)) (list_any (λ u. is_short (t u)) ws) long in (fed-either w parts.0 h.0, all-fed ws parts.1 h.1)
+
   first-halted : (memory : Bool) (xs ys : List T) → FirstFound view memory xs ys → AnyStopped (map view ys)
   first-halted memory (x ∷ xs) (y ∷ ys) h = let long = ap length h.answered in inl (inr (omega (arith, long)))
   first-halted memory [] ys h = absurd h
@@ -269,6 +279,10 @@ pub ok-map : {A E : Type 0} (P Q : A → Type 0) → ((a : A) → P a → Q a) �
 ok-map P Q f (Ok a) h = f a h
 ok-map P Q f (Err e) h = tt
 
+pub ok-both : {A E : Type 0} (C : Type 0) (P Q : A → Type 0) → ((a : A) → P a → C → Q a) → (r : Result A E) → IfOk r P → OnOk r C → IfOk r Q
+ok-both C P Q f (Ok a) h k = f a h k
+ok-both C P Q f (Err e) h k = tt
+
 pub ok-all : {A E : Type 0} (C : Type 0) (P Q R S : A → Type 0) → ((a : A) → P a → Q a → C → R a → S a) → (r : Result A E) → IfOk r P → IfOk r Q → OnOk r C → IfOk r R → IfOk r S
 ok-all C P Q R S f (Ok a) h k m n = f a h k m n
 ok-all C P Q R S f (Err e) h k m n = tt
@@ -283,6 +297,9 @@ lanes-left lane see ls ms xs ys given left same =
 
 pub cause-left : {T L : Type 0} (lane : T → L) (see : L → LaneView) (ms : List L) (ys : List T) → ms ≡ map lane ys → AnyStopped (map (λ w. see (lane w)) ys) → AnyStopped (map see ms)
 cause-left lane see ms ys left some = subst AnyStopped (sym (ap (map see) left ∙ seen-both lane see ys)) some
+
+pub fed-left : {T L : Type 0} (lane : T → L) (see : L → LaneView) (ms : List L) (ys : List T) → ms ≡ map lane ys → AllByRecursion IsFed (map (λ w. see (lane w)) ys) → AllByRecursion IsFed (map see ms)
+fed-left lane see ms ys left all = subst (AllByRecursion IsFed) (sym (ap (map see) left ∙ seen-both lane see ys)) all
 
 pub run-left : {T L : Type 0} (lane : T → L) (see : L → LaneView) (sys : System) (stimuli : List (List Stim)) (budget : ℕ) (done : Bool) (rests : List Rest) (ms : List L) (ys : List T) → ms ≡ map lane ys
     → HasRun sys stimuli budget done rests (map (λ w. see (lane w)) ys) → HasRun sys stimuli budget done rests (map see ms)

@@ -20,6 +20,7 @@ use Rattle.qp_kernel_turns.proofs.Staying.{all-still, all-wait}
 use Rattle.qp_port_law.specs.SourcesLeft.{SourceLeaves}
 use Rattle.qp_port_cursor.specs.At.{mine}
 use Rattle.qp_port_cursor.specs.Passing.{settles_of}
+use Rattle.qp_port_cursor.proofs.Feeding.{fed-seen}
 use Rattle.qp_port_cursor.proofs.Hearing.{hears-seen, starved-seen, stopped-seen}
 use Rattle.qp_port_cursor.proofs.Seeing.{SeenMore}
 use Rattle.qp_port_cursor.proofs.Standing.{stay}
@@ -101,7 +102,13 @@ module _ (v w : LaneView) (more : SeenMore v w) where
   job-stands sys budget turn.Memory x h = starved-seen v w more h
 
   pub may-turn_still : (acts : Bool) (sys : System) (budget : ℕ) (t : Turn) (x : Job) → MayTurn acts sys budget t x v → MayTurn acts sys budget t x w
-  may-turn_still acts sys budget t x h = record { alone = h.alone; sound = h.sound; few = h.few; stands = job-stands sys budget t x h.stands }
+  may-turn_still acts sys budget t x h = record {
+    alone = h.alone;
+    sound = h.sound;
+    few = h.few;
+    stands = job-stands sys budget t x h.stands;
+    fed = λ long. fed-seen v w more (h.fed long);
+  }
 
   rows-still : (sys : System) (terms : Terms) → idle_rows sys terms w ≡ idle_rows sys terms v
   rows-still sys terms = ap (λ ts. idle_in sys terms ts (has_stim (lanes_of w))) more.sees.told ∙ ap (λ l. idle_in sys terms v.told (has_stim l)) lanes

@@ -9,19 +9,21 @@ use Rattle.qp_dispatch.specs.declared.objects.Turn.{Turn}
 use Rattle.qp_kernel_turns.specs.Lanes.{SameLane}
 use Rattle.qp_port_workers.specs.Turns.{AreReady}
 use Rattle.qp_port_phases.specs.Stopping.{Hears}
+use Rattle.qp_port_cursor.specs.Answers.{IsFed, is_short}
 use Rattle.qp_port_cursor.proofs.Hearing.{hears-itself, hears-then}
 use Rattle.qp_port_qk.specs.declared.job.Job.{Job}
 use Rattle.qp_port_qk.specs.declared.job.Job.TheVariants as job
 use Rattle.qp_dispatch.specs.declared.objects.Turn.TheVariants as turn
 use Rattle.qp_port_qk.specs.Jobs.{IsSameJob, JobBegins, JobEnds, JobStands}
 
--- It may take a turn, or be met and looked at like another. Where its last turn stopped, it does nothing more. In the looks of its world nothing
--- happens.
+-- It may take a turn, or be met and looked at like another. Where its last turn stopped, it does nothing more. It has handed in 7 for want of memory
+-- alone. In the looks of its world nothing happens.
 pub record MayTurn (acts : Bool) (sys : System) (budget : ℕ) (t : Turn) (x : Job) (v : LaneView) : Type 0 where
   pub alone : acts ≡ false
   pub sound : IsSound sys
   pub few : budget ≤ 1000000
   pub stands : JobStands sys budget t x v
+  pub fed : is_short t ≡ false → IsFed v
 
 -- it hasn't started
 pub record MayBegin (acts : Bool) (sys : System) (budget : ℕ) (t : Turn) (x : Job) (v : LaneView) : Type 0 where
@@ -30,11 +32,13 @@ pub record MayBegin (acts : Bool) (sys : System) (budget : ℕ) (t : Turn) (x : 
   pub few : budget ≤ 1000000
   pub idle : t ≡ turn.Idle
   pub begins : JobBegins sys x v
+  pub fed : IsFed v
 
 -- the run has ended
 pub record MayEnd (sys : System) (budget : ℕ) (t : Turn) (x : Job) (v : LaneView) : Type 0 where
   pub sound : IsSound sys
   pub ends : JobEnds sys budget t x v
+  pub fed : is_short t ≡ false → IsFed v
 
 -- the same worker, with the same lane, which forgets no code that it heard of
 pub record IsSameWorker (s t : System) (b c : ℕ) (i j : Job) (v w : LaneView) : Type 0 where

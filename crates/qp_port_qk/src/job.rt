@@ -8,7 +8,7 @@ ghost use Rattle.qp_kernel_turns.specs.Lanes.{SameLane};
 ghost use Rattle.qp_port_phases.specs.Passing.{PassesTo};
 ghost use Rattle.qp_port_phases.specs.Rows.{CountsOn, PassCounts};
 ghost use Rattle.qp_port_phases.specs.Stopping.{Hears};
-ghost use Rattle.qp_port_cursor.specs.Answers.{is_short, turn_by};
+ghost use Rattle.qp_port_cursor.specs.Answers.{Feeds, is_short, turn_by};
 ghost use Rattle.qp_port_qk.specs.Jobs.{IsSameJob, JobBegins, JobRests, JobStands, JobStarts, JobTurns, KernelStands, KernelTurns, is_left_in, stands_at_settle};
 ghost use Rattle.qp_port_qk.specs.KernelRests.{KernelBegins, KernelRests};
 ghost use Rattle.qp_port_qk.specs.Numbers.{job_rows, numbers_of};
@@ -44,6 +44,7 @@ fn start_kernel<O: Ops>(
     ensures starts { JobStarts sys.now budget result (job.Kernel objects.new kernel.now) (O.lane ops.new) }
     ensures lane { SameLane (O.lane ops.old) (O.lane ops.new) }
     ensures hears { Hears (O.lane ops.old) (O.lane ops.new) }
+    ensures feeds { Feeds (O.lane ops.old) (O.lane ops.new) result }
     ensures none { is_short result ≡ false → job_rows sys.now budget (job.Kernel objects.new kernel.now) (O.lane ops.new) ≡ 0 }
 {
     let _ = budget;
@@ -64,6 +65,7 @@ pub(crate) fn start_job<O: Ops>(ops: &mut O, sys: &System, job: &mut Job<'_>, bu
     ensures same { IsSameJob job.old job.new }
     ensures lane { SameLane (O.lane ops.old) (O.lane ops.new) }
     ensures hears { Hears (O.lane ops.old) (O.lane ops.new) }
+    ensures feeds { Feeds (O.lane ops.old) (O.lane ops.new) result }
     ensures none { is_short result ≡ false → job_rows sys.now budget job.new (O.lane ops.new) ≡ 0 }
 {
     match job {
@@ -90,6 +92,7 @@ fn run_kernel<R: Wait, W: World, G: Tells>(
     ensures turns { KernelTurns W.acts sys.now budget objects.old kernel.old (W.lane world.old) objects.new kernel.new (W.lane world.new) result }
     ensures lane { SameLane (W.lane world.old) (W.lane world.new) }
     ensures hears { Hears (W.lane world.old) (W.lane world.new) }
+    ensures feeds { Feeds (W.lane world.old) (W.lane world.new) result }
     ensures counts { CountsOn (W.lane world.old) (numbers_of sys.now budget turn.Idle (job.Kernel objects.old kernel.old) (W.lane world.old))
         (numbers_of sys.now budget result (job.Kernel objects.new kernel.new) (W.lane world.new)) }
 {
@@ -120,6 +123,7 @@ pub(crate) fn run_job<R: Wait, W: World, G: Tells>(
     ensures same { IsSameJob job.old job.new }
     ensures lane { SameLane (W.lane world.old) (W.lane world.new) }
     ensures hears { Hears (W.lane world.old) (W.lane world.new) }
+    ensures feeds { Feeds (W.lane world.old) (W.lane world.new) result }
     ensures counts { CountsOn (W.lane world.old) (numbers_of sys.now budget turn.Idle job.old (W.lane world.old)) (numbers_of sys.now budget result job.new (W.lane world.new)) }
 {
     match job {
@@ -137,6 +141,7 @@ pub(crate) fn pass_job<O: Ops>(ops: &mut O, sys: &System, job: &mut Job<'_>, bud
     ensures same { IsSameJob job.old job.new }
     ensures lane { SameLane (O.lane ops.old) (O.lane ops.new) }
     ensures hears { Hears (O.lane ops.old) (O.lane ops.new) }
+    ensures feeds { Feeds (O.lane ops.old) (O.lane ops.new) (turn_by result) }
     ensures tries { PassesTo (O.lane ops.old) (O.lane ops.new) result }
     ensures hands { (O.lane ops.new).hands ≡ (O.lane ops.old).hands }
     ensures counts { PassCounts (numbers_of sys.now budget turn.Idle job.old (O.lane ops.old)) (numbers_of sys.now budget (turn_by result) job.new (O.lane ops.new)) result }

@@ -1,13 +1,13 @@
 //! The run over given lanes: the start of all objects, phases, and what is left.
 
 ghost use Rattle.std.specs.Prelude.{◌≡◌, ◌≤◌, ◌⊎◌, IfOk, OnOk, Some, map, true, false};
-ghost use Rattle.std.specs.List.{list_all, list_any};
+ghost use Rattle.std.specs.List.{AllByRecursion, list_all, list_any};
 ghost use Rattle.qp_model.specs.Sound.{IsSound};
 ghost use Rattle.qp_stim.specs.Rules.{StimuliFit};
 ghost use Rattle.qp_port_phases.specs.declared.phases.Ended.TheVariants as ended;
 ghost use Rattle.qp_port_phases.specs.Stopping.{AnyStopped};
 ghost use Rattle.qp_port_qk.specs.Ends.{HasRun, is_over};
-ghost use Rattle.qp_port_cursor.specs.Answers.{is_idle, is_short};
+ghost use Rattle.qp_port_cursor.specs.Answers.{IsFed, is_idle, is_short};
 ghost use Rattle.qp_port_qk.specs.Resting.{AreLeft, AreShownFirst};
 ghost use Rattle.qp_port_qk.specs.Rows.{AreNewLanes, AreSameLanes};
 
@@ -129,7 +129,7 @@ fn rests_left<W: World + Meets, G: Gate>(
 
 /// Runs the system on its stimuli over these lanes, which are new, in a world in whose looks nothing happens: the first serves all
 /// objects, and each source has one of the others. No object takes more events than the budget. Want of memory alone leaves
-/// nothing. Something is left to be done only where a lane has stopped.
+/// nothing, and what is left no lane has cut for it. Something is left to be done only where a lane has stopped.
 pub fn run_lanes_of_qk<R: Threads + Wait + Sync, W: World + Meets + Send + Drop, G: Gate>(
     rt: &R,
     alloc: Global,
@@ -147,6 +147,7 @@ pub fn run_lanes_of_qk<R: Threads + Wait + Sync, W: World + Meets + Send + Drop,
     ensures lanes { IfOk result (λ run. AreSameLanes (map W.lane lanes.items) (map W.lane run.lanes.items)) }
     ensures run { IfOk result (λ run. HasRun sys.now stim.now budget run.done run.rests.items (map W.lane run.lanes.items)) }
     ensures cause { IfOk result (λ run. run.done ≡ false → AnyStopped (map W.lane run.lanes.items)) }
+    ensures fed { IfOk result (λ run. AllByRecursion IsFed (map W.lane run.lanes.items)) }
 {
     let Ok(objects) = objects_of(alloc, sys) else {
         return Err(Memory);

@@ -3,3 +3,4 @@ pub mod PortLanes
 pub mod PortSealing
 pub mod QkSealing
 pub mod Worlds
+pub mod Stopped

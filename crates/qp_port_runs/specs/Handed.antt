@@ -6,3 +6,4 @@ pub use Rattle.qp_port_quiet.specs.Sealed.{SealsLanes}
 pub use Rattle.qp_port_sealed.specs.ThreadRun.{IsThreadRun}
 pub use Rattle.qp_shared.specs.Lane.{lane_view}
 pub use Rattle.qp_shared.specs.Starting.{serves_one}
+pub use Rattle.qp_shared.specs.WasSealed.{WasSealedFor}

@@ -1,8 +1,11 @@
 //! A run under `qk` over lanes in whose looks nothing happens.
 
-ghost use Rattle.std.specs.Prelude.{◌≡◌, ◌≤◌, IfOk, map};
+ghost use Rattle.std.specs.Prelude.{◌≡◌, ◌≤◌, IfOk, false, map};
+ghost use Rattle.std.specs.List.{AllByRecursion};
 ghost use Rattle.qp_model.specs.Sound.{IsSound};
 ghost use Rattle.qp_stim.specs.Rules.{StimuliFit};
+ghost use Rattle.qp_port_cursor.specs.Answers.{IsFed};
+ghost use Rattle.qp_port_phases.specs.Stopping.{AnyStopped};
 ghost use Rattle.qp_port_qk.specs.Ends.{HasRun};
 ghost use Rattle.qp_port_qk.specs.Rows.{AreNewLanes, AreSameLanes};
 
@@ -71,6 +74,8 @@ pub(crate) fn run_alone<R: Threads + Wait + Sync, O: Meets + Send + Drop, G: Gat
     requires lanes { AreNewLanes sys.now stim.now (map O.lane lanes.items) }
     ensures lanes { IfOk result (λ run. AreSameLanes (map O.lane lanes.items) (map O.lane run.lanes.items)) }
     ensures run { IfOk result (λ run. HasRun sys.now stim.now budget run.done run.rests.items (map O.lane run.lanes.items)) }
+    ensures cause { IfOk result (λ run. run.done ≡ false → AnyStopped (map O.lane run.lanes.items)) }
+    ensures fed { IfOk result (λ run. AllByRecursion IsFed (map O.lane run.lanes.items)) }
 {
     let Ok(worlds) = all_alone(alloc, lanes) else {
         return Err(Memory);

@@ -6,6 +6,7 @@ ghost use Rattle.qp_model.specs.Sound.{IsSound};
 ghost use Rattle.qp_stim.specs.Rules.{StimuliFit};
 ghost use Rattle.qp_kernel_end.specs.Rests.{AreRestsIn};
 ghost use Rattle.qp_port_sealed.specs.ThreadRun.{IsThreadRun};
+ghost use Rattle.qp_shared.specs.WasSealed.{WasSealedFor};
 
 use crate::alone::run_alone;
 use crate::sealing::{Threaded, seal};
@@ -33,6 +34,7 @@ pub fn run_qk<R: Threads + Wait + Sync, G: Gate>(
     requires fit { StimuliFit sys.now stim.now }
     requires few { budget ≤ 1000000 }
     ensures run { IfOk result (λ run. IsThreadRun qk sys.now stim.now budget run.sealed.journal) }
+    ensures sealed { IfOk result (λ run. WasSealedFor sys.now run.sealed.journal) }
     ensures rests { IfOk result (λ run. AreRestsIn sys.now run.sealed.journal run.rests.items) }
 {
     let count = 1 + stim.sources.len();

@@ -2,3 +2,4 @@ pub mod LaneLemmas
 pub mod PortLemmas
 pub mod QkLemmas
 pub mod RestLemmas
+pub mod StartsLemmas

@@ -4,3 +4,4 @@ pub mod QkLanes
 pub mod Rests
 pub mod Laws
 pub mod ThreadRun
+pub mod StartsFirst

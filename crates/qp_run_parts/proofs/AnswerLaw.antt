@@ -1,21 +1,19 @@
 -- No call over files has two answers.
 use Rattle.std.proofs.Common.{◌≡◌, ℕ, ◌≤◌, List, length, Option, Some, None, Result, Ok, Err, ◌⊎◌, refl, sym, ap, subst, ◌∙◌, arith, inl, inr}
-use Rattle.qp_system_alike.proofs.LawLemmas.{lawful_journals_are_one, stimuli_are_one, verdicts_are_one}
 use Rattle.qp_base.specs.Limits.{file_limit}
 use Rattle.qp_model.specs.declared.stimulus.Stim.{Stim}
 use Rattle.qp_model.specs.declared.systems.System.{System}
-use Rattle.qp_model.specs.Kernels.{port, qk}
-use Rattle.qp_port_sealed.specs.ThreadRun.{IsThreadRun}
-use Rattle.qp_model.proofs.LawLemmas.{kernel_rests_where_all_are_empty}
-use Rattle.qp_kernel_runs.specs.SimRun.{IsQvRun, IsSimRun}
 use Rattle.qp_stim.specs.Stimuli.{Fault, stimuli_of}
 use Rattle.qp_system_tables.specs.declared.fault.SystemFault.{SystemFault}
 use Rattle.qp_system_tables.specs.declared.fault.SystemFault.TheVariants.{Memory as NoMemory}
 use Rattle.qp_system.specs.SystemOf.{IsSystemOf, RefusesSystem}
 use Rattle.qp_system.proofs.LawLemmas.{systems_have_no_fault, refusals_are_one}
+use Rattle.qp_system.proofs.SystemOne.{systems_are_one}
+use Rattle.qp_check.specs.Judged.{IsVerdict, trials}
+use Rattle.qp_check.proofs.VerdictLemmas.{verdicts_are_one}
 use Rattle.qp_run_parts.specs.declared.status.Status.{Status}
 use Rattle.qp_commands.specs.declared.values.Kernel.{Kernel}
-use Rattle.qp_commands.specs.declared.values.Kernel.TheVariants.{Sim, Qk, Port, Wait, Qv}
+use Rattle.qp_commands.specs.declared.values.Kernel.TheVariants.{Sim}
 use Rattle.qp_commands.specs.declared.values.Kind.{Kind}
 use Rattle.qp_commands.specs.declared.values.Kind.TheVariants.{Frames, Journal as Text}
 use Rattle.qp_run_parts.specs.Checks.{JudgesFiles, JudgesFound, JudgesSecond, JudgesStimuli, JudgesSystem, JudgesThird, verdict_answer}
@@ -25,7 +23,7 @@ use Rattle.qp_run_parts.specs.Endings.{ending_of}
 use Rattle.qp_run_parts.specs.Laws.{EndRuns, MayBeTwo, OneAnswer}
 use Rattle.qp_run_parts.specs.Loads.{EndsAtLoad, IsLoaded}
 use Rattle.qp_model.specs.declared.journals.Journal.{Journal}
-use Rattle.qp_run_parts.specs.Printed.{IsRunUnder, made_budget}
+use Rattle.qp_run_parts.specs.Printed.{made_budget}
 use Rattle.qp_commands.specs.WordTable.{check, decode, generate, migrate, number_of_form, replay, run}
 use Rattle.qp_run_parts.specs.Verdict.{AnswersFiles, AnswersSources, AnswersStimuli, AnswersSystem, EndsMade, EndsRun, IsAnswer, IsInput}
 use Rattle.qp_run_parts.specs.Refusals.{RefusesFirst, system_refusal}
@@ -57,6 +55,10 @@ ends-either AreNamed kernel budget sys sources named a b (i, is, ends) (j, are, 
     by (inl same) = inl (ends ∙ ap ending_of same ∙ sym others)
     by (inr two) = inr (record { sys = sys; sources = sources; named = named; first = i; second = j; first_run = is; second_run = are; may_be_two = two }, ends, others)
 
+-- a text of stimuli says the same to each system of the same bytes
+pub stimuli-one : (bytes : List ℕ) (s t : System) (text : List ℕ) → IsSystemOf bytes s → IsSystemOf bytes t → stimuli_of s text ≡ stimuli_of t text
+stimuli-one bytes s t text p q = ap (λ x. stimuli_of x text) (systems_are_one bytes s t p q)
+
 -- the answers of two systems of the same bytes
 module _ (bytes : List ℕ) where
   fault-one : (f g : SystemFault) (a b : Status) → RefusesSystem bytes f → (f ≡ NoMemory → ⊥) → a ≡ system_refusal f
@@ -74,44 +76,9 @@ module _ (bytes : List ℕ) where
   system-goes_on : (sys : System) (a : Status) → IsSystemOf bytes sys → RefusesFirst bytes a → ⊥
   system-goes_on sys a read (f, refuses, other, is) = other (systems_have_no_fault bytes sys f read refuses)
 
-  -- a run of one of the systems is one of the other
-  sim-carries : (s t : System) → IsSystemOf bytes s → IsSystemOf bytes t → (sources : List (List Stim)) (budget : ℕ) (j : Journal) → IsSimRun s sources budget j → IsSimRun t sources budget j
-  sim-carries s t p q sources budget j is =
-      record { kernel = is.kernel; budget_is = is.budget_is; lawful = lawful_journals_are_one bytes s t sources j p q is.lawful }
-
-  thread-carries : (s t : System) → IsSystemOf bytes s → IsSystemOf bytes t → (sources : List (List Stim)) (kernel budget : ℕ) (j : Journal)
-      → IsThreadRun kernel s sources budget j → IsThreadRun kernel t sources budget j
-  thread-carries s t p q sources kernel budget j is =
-      record { kernel_is = is.kernel_is; budget_is = is.budget_is; lawful = lawful_journals_are_one bytes s t sources j p q is.lawful }
-
-  qv-carries : (s t : System) → IsSystemOf bytes s → IsSystemOf bytes t → (sources : List (List Stim)) (budget : ℕ) (j : Journal) → IsQvRun s sources budget j → IsQvRun t sources budget j
-  qv-carries s t p q sources budget j is =
-      let lawful = lawful_journals_are_one bytes s t sources j p q is.run.lawful in
-      record {
-        run = record { kernel = is.run.kernel; budget_is = is.run.budget_is; lawful = lawful };
-        steps = is.steps;
-        rests = kernel_rests_where_all_are_empty t sources j lawful (λ e. let wrong : 3 ≡ port = sym is.run.kernel ∙ e in cc);
-      }
-
-  pub under-carries : (s t : System) → IsSystemOf bytes s → IsSystemOf bytes t → (sources : List (List Stim)) (kernel : Kernel) (budget : ℕ) (j : Journal)
-      → IsRunUnder kernel s sources budget j → IsRunUnder kernel t sources budget j
-  under-carries s t p q sources Sim budget j is = record {
-    run = sim-carries s t p q sources budget j is.run;
-    only = λ short other runs. is.only short other (sim-carries t s q p sources budget other runs);
-    only_unspilt = λ unspilt other runs clean. is.only_unspilt unspilt other (sim-carries t s q p sources budget other runs) clean;
-  }
-  under-carries s t p q sources Qk budget j is = thread-carries s t p q sources qk budget j is
-  under-carries s t p q sources Port budget j is = thread-carries s t p q sources port budget j is
-  under-carries s t p q sources Wait budget j is = thread-carries s t p q sources port budget j is
-  under-carries s t p q sources Qv budget j is = record {
-    run = qv-carries s t p q sources budget j is.run;
-    only = λ short other runs. is.only short other (qv-carries t s q p sources budget other runs);
-    only_unspilt = λ unspilt other runs clean. is.only_unspilt unspilt other (qv-carries t s q p sources budget other runs) clean;
-  }
-
+  -- a run of the one system is one of the other
   run-carries : (s t : System) → IsSystemOf bytes s → IsSystemOf bytes t → (sources : List (List Stim)) (kernel : Kernel) (budget : ℕ) (a : Status) → EndsRun s sources kernel budget a → EndsRun t sources kernel budget a
-  run-carries s t p q sources kernel budget a (j, is, ends) =
-      (j, under-carries s t p q sources kernel budget j is, ends)
+  run-carries s t p q sources kernel budget a is = subst (λ x. EndsRun x sources kernel budget a) (systems_are_one bytes s t p q) is
 
   module _ (AreNamed : System → List (List Stim) → Type 0) (kernel : Kernel) (budget : ℕ) (s t : System) (p : IsSystemOf bytes s) (q : IsSystemOf bytes t) where
     sources-run : (found : Result (List (List Stim)) Fault) → ((sources : List (List Stim)) → found ≡ Ok sources → AreNamed s sources) → (a b : Status)
@@ -128,7 +95,7 @@ module _ (bytes : List ℕ) where
         sources-run (stimuli_of s text) (λ sources says. named text sources loaded says) a b is (subst (λ x. AnswersSources t kernel budget x b) same are)
       where
         same : stimuli_of t other ≡ stimuli_of s text
-        same = ap (stimuli_of t) (loaded-one held other text found loaded) ∙ sym (stimuli_are_one bytes s t text p q)
+        same = ap (stimuli_of t) (loaded-one held other text found loaded) ∙ sym (stimuli-one bytes s t text p q)
 
   system-run : (AreNamed : System → List (List Stim) → Type 0) (kernel : Kernel) (budget : ℕ) (held : Option (List ℕ))
       → ((s : System) → IsSystemOf bytes s → (text : List ℕ) (sources : List (List Stim)) → IsLoaded held text → stimuli_of s text ≡ Ok sources → AreNamed s sources)
@@ -159,7 +126,7 @@ module _ (system stimuli : Option (List ℕ)) (kernel : Kernel) (budget : ℕ) (
   on-stimuli one of (inr (found, loaded, is)) = subst (λ x. AnswersSources one kernel budget x answer) same is
     where
       same : stimuli_of one found ≡ Ok sources
-      same = ap (stimuli_of one) (loaded-one stimuli found text loaded stimuli_held) ∙ stimuli_are_one bytes one sys text of read ∙ says
+      same = ap (stimuli_of one) (loaded-one stimuli found text loaded stimuli_held) ∙ stimuli-one bytes one sys text of read ∙ says
 
   on-system : AnswersSystem bytes stimuli kernel budget answer → EndsRun sys sources kernel budget answer
   on-system (inl refuses) = absurd (system-goes_on bytes sys answer read refuses)
@@ -175,7 +142,7 @@ runs-one : (AreNamed : System → List (List Stim) → Type 0) (bytes text : Lis
     → IsSystemOf bytes s → IsSystemOf bytes t → stimuli_of s text ≡ Ok xs → stimuli_of t text ≡ Ok ys
     → (kernel : Kernel) (budget : ℕ) (a b : Status) → EndsRun s xs kernel budget a → EndsRun t ys kernel budget b → (a ≡ b) ⊎ EndRuns AreNamed kernel budget a b
 runs-one AreNamed bytes text s t xs ys named p q says tells kernel budget a b is are =
-    let both : Ok ys ≡ Ok xs = sym tells ∙ sym (stimuli_are_one bytes s t text p q) ∙ says in
+    let both : Ok ys ≡ Ok xs = sym tells ∙ sym (stimuli-one bytes s t text p q) ∙ says in
     let same : ys ≡ xs = cc in
     ends-either AreNamed kernel budget s xs named a b is (run-carries bytes t s q p xs kernel budget b (subst (λ zs. EndsRun t zs kernel budget b) same are))
 
@@ -200,7 +167,7 @@ module _ (bytes : List ℕ) where
         → JudgesFound s sources found a → JudgesFound t sources found b → a ≡ b
     found-one sources (Err refusal) a b is are = is ∙ sym are
     found-one sources (Ok (form, j)) a b (v, judged, is) (w, also, are) =
-        is ∙ ap verdict_answer (verdicts_are_one bytes s t sources j v w p q judged also) ∙ sym are
+        is ∙ ap verdict_answer (verdicts_are_one t sources j v w (subst (λ x. IsVerdict (trials x sources j) v) (systems_are_one bytes s t p q) judged) also) ∙ sym are
 
     third-one : (sources : List (List Stim)) (held : Option (List ℕ)) (a b : Status) → JudgesThird s sources held a → JudgesThird t sources held b → a ≡ b
     third-one sources held a b (inl is) (inl are) = ends-one 3 held a b is are
@@ -222,7 +189,7 @@ module _ (bytes : List ℕ) where
         sources-one held (stimuli_of s text) a b is (subst (λ x. JudgesStimuli t held x b) same are)
       where
         same : stimuli_of t other ≡ stimuli_of s text
-        same = ap (stimuli_of t) (loaded-one stimuli other text found loaded) ∙ sym (stimuli_are_one bytes s t text p q)
+        same = ap (stimuli_of t) (loaded-one stimuli other text found loaded) ∙ sym (stimuli-one bytes s t text p q)
 
   judged-one : (stimuli held : Option (List ℕ)) (a b : Status) → JudgesSystem bytes stimuli held a → JudgesSystem bytes stimuli held b → a ≡ b
   judged-one stimuli held a b (inl (f, is, other, answer)) (inl (g, are, another, also)) = fault-one bytes f g a b is other answer are another also

@@ -1,7 +1,6 @@
 -- A journal of three files, judged file by file.
 use Rattle.std.proofs.Common.{◌≡◌, ℕ, ◌⊎◌, true, List, Option, IfSome, Result, Ok, Err, refl, sym, ap, subst, ◌∙◌, inl, inr}
 use Rattle.std.proofs.lemmas.Option.{IfSome_then}
-use Rattle.qp_system_alike.proofs.LawLemmas.{stimuli_are_one, verdicts_carry_over}
 use Rattle.qp_check_words.specs.declared.verdict.Verdict.{Verdict}
 use Rattle.qp_check_words.specs.declared.verdict.Verdict.TheVariants.{Lawful}
 use Rattle.qp_check.specs.Judged.{IsVerdict, trials}
@@ -14,6 +13,7 @@ use Rattle.qp_model.specs.Sound.{IsSound}
 use Rattle.qp_model.proofs.ObjectLemmas.{priorities-are_bytes}
 use Rattle.qp_system.specs.SystemOf.{IsSystemOf}
 use Rattle.qp_system.proofs.LawLemmas.{systems_have_no_fault}
+use Rattle.qp_system.proofs.SystemOne.{systems_are_one}
 use Rattle.qp_text.specs.TextLaw.{IsWritable}
 use Rattle.qp_run_parts.specs.declared.status.Status.{Status}
 use Rattle.qp_run_parts.specs.declared.status.Status.TheVariants.{Memory}
@@ -24,7 +24,7 @@ use Rattle.qp_run_parts.specs.Loads.{IsLoaded}
 use Rattle.qp_run_parts.specs.Verdict.{AgreesCheck, FailsToLoad, JudgesCall, is_failure}
 use Rattle.qp_run_parts.specs.Refusals.{RefusesFirst, RefusesSecond}
 use Rattle.qp_commands.specs.WordTable.{CheckWords, check_words}
-use Rattle.qp_run_parts.proofs.AnswerLaw.{loaded-goes_on, loaded-one}
+use Rattle.qp_run_parts.proofs.AnswerLaw.{loaded-goes_on, loaded-one, stimuli-one}
 use Rattle.qp_run_parts.proofs.ConversionLemmas.{said-written}
 use Rattle.qp_run_parts.proofs.VerdictLemmas.{IfSome-all, IfSome-both}
 
@@ -144,7 +144,7 @@ module _ (system stimuli held : Option (List ℕ)) (bytes text : List ℕ) (sys 
       subst (λ x. JudgesFound one sources x answer) (text-said form j found (writable, loaded-one held (written Journal form j) found journal_held loaded)) is
 
   on-stimuli : (one : System) → IsSystemOf bytes one → JudgesStimuli one held (stimuli_of one text) answer → Judges one sources j answer
-  on-stimuli one of is = on-third one (subst (λ x. JudgesStimuli one held x answer) (stimuli_are_one bytes one sys text of read ∙ says) is)
+  on-stimuli one of is = on-third one (subst (λ x. JudgesStimuli one held x answer) (stimuli-one bytes one sys text of read ∙ says) is)
 
   on-second : (one : System) → IsSystemOf bytes one → JudgesSecond one stimuli held answer → Judges one sources j answer
   on-second one of (inl ends) = absurd (loaded-goes_on 2 stimuli text answer stimuli_held ends)
@@ -153,10 +153,7 @@ module _ (system stimuli held : Option (List ℕ)) (bytes text : List ℕ) (sys 
 
   on-system : JudgesSystem bytes stimuli held answer → Judges sys sources j answer
   on-system (inl (fault, refuses, other, is)) = absurd (other (systems_have_no_fault bytes sys fault read refuses))
-  on-system (inr (one, of, is)) = by (on-second one of is)
-    where
-      by : Judges one sources j answer → Judges sys sources j answer
-      by (v, judged, answers) = (v, verdicts_carry_over bytes one sys sources j v of read judged, answers)
+  on-system (inr (one, of, is)) = subst (λ x. Judges x sources j answer) (systems_are_one bytes one sys of read) (on-second one of is)
 
   pub files-judged : JudgesFiles system stimuli held answer → Judges sys sources j answer
   unfolding JudgesFiles

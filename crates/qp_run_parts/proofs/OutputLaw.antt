@@ -1,6 +1,5 @@
 -- No call over files has two outputs, but for those of runs that may leave two journals and those of cycles.
 use Rattle.std.proofs.Common.{◌≡◌, ℕ, List, Some, None, Result, Ok, ◌⊎◌, sym, ap, subst, ◌∙◌, inl, inr}
-use Rattle.qp_system_alike.proofs.LawLemmas.{stimuli_are_one, summaries_carry_over}
 use Rattle.qp_model.specs.declared.journals.Journal as journal
 use Rattle.qp_model.specs.declared.stimulus.Stim.{Stim}
 use Rattle.qp_model.specs.declared.systems.System.{System}
@@ -16,6 +15,7 @@ use Rattle.qp_stim.specs.Stimuli.{stimuli_of}
 use Rattle.qp_summary.specs.Written.{joined}
 use Rattle.qp_system.specs.SystemOf.{IsSystemOf}
 use Rattle.qp_system.proofs.LawLemmas.{systems_are_sound}
+use Rattle.qp_system.proofs.SystemOne.{systems_are_one}
 use Rattle.qp_commands.specs.declared.values.Kernel.{Kernel}
 use Rattle.qp_commands.specs.declared.values.Kernel.TheVariants.{Sim}
 use Rattle.qp_commands.specs.declared.values.Kind.{Kind}
@@ -32,7 +32,7 @@ use Rattle.qp_run_parts.specs.Laws.{MayBeTwo, OneOutput, PrintCycles, PrintRuns}
 use Rattle.qp_run_parts.specs.Printed.{IsPrintOf, PrintsMade, PrintsOf, PrintsRun, made_budget}
 use Rattle.qp_run_parts.specs.Replays.{IsReplayText, IsReplayed}
 use Rattle.qp_run_parts.specs.Verdict.{IsInput, IsRun}
-use Rattle.qp_run_parts.proofs.AnswerLaw.{loaded-one, under-carries}
+use Rattle.qp_run_parts.proofs.AnswerLaw.{loaded-one, stimuli-one}
 use Rattle.qp_run_parts.proofs.ConversionLemmas.{said-written}
 use Rattle.qp_run_parts.proofs.RunLemmas.{journals-either}
 
@@ -62,23 +62,15 @@ prints-either AreNamed kernel budget sys sources named sound output form a b x y
     )
 
 -- what is printed of a run of one of the systems of the same bytes is printed of the other's
-print-carries : (bytes : List ℕ) (s t : System) → IsSystemOf bytes s → IsSystemOf bytes t → (output : Output) (form : ℕ) (j : journal.Journal) (x : List ℕ)
-    → IsPrintOf output form s j x → IsPrintOf output form t j x
-unfolding IsPrintOf
-print-carries bytes s t p q (Whole kind) form j x is = is
-print-carries bytes s t p q Summary form j x (lines, is, whole) = (lines, summaries_carry_over bytes s t j lines p q is, whole)
-
 prints-carry : (bytes : List ℕ) (s t : System) → IsSystemOf bytes s → IsSystemOf bytes t → (sources : List (List Stim)) (kernel : Kernel) (budget : ℕ) (output : Output) (form : ℕ) (a : Status) (x : List ℕ)
     → PrintsRun s sources kernel budget output form a x → PrintsRun t sources kernel budget output form a x
-unfolding PrintsRun PrintsOf
-prints-carry bytes s t p q sources kernel budget output form a x (j, is, shape, range, (ends, print)) =
-    (j, under-carries bytes s t p q sources kernel budget j is, shape, range, (ends, print-carries bytes s t p q output form j x print))
+prints-carry bytes s t p q sources kernel budget output form a x is = subst (λ y. PrintsRun y sources kernel budget output form a x) (systems_are_one bytes s t p q) is
 
 outputs-one : (AreNamed : System → List (List Stim) → Type 0) (bytes text : List ℕ) (s t : System) (xs ys : List (List Stim)) → AreNamed s xs → IsSystemOf bytes s → IsSystemOf bytes t → stimuli_of s text ≡ Ok xs → stimuli_of t text ≡ Ok ys
     → (kernel : Kernel) (budget : ℕ) (output : Output) (form : ℕ) (a b : Status) (x y : List ℕ)
     → PrintsRun s xs kernel budget output form a x → PrintsRun t ys kernel budget output form b y → ((a ≡ b) × (x ≡ y)) ⊎ PrintRuns AreNamed kernel budget output form a b x y
 outputs-one AreNamed bytes text s t xs ys named p q says tells kernel budget output form a b x y is are =
-    let both : Ok ys ≡ Ok xs = sym tells ∙ sym (stimuli_are_one bytes s t text p q) ∙ says in
+    let both : Ok ys ≡ Ok xs = sym tells ∙ sym (stimuli-one bytes s t text p q) ∙ says in
     let same : ys ≡ xs = cc in
     prints-either AreNamed kernel budget s xs named (systems_are_sound bytes s p) output form a b x y is
     (prints-carry bytes t s q p xs kernel budget output form b y (subst (λ zs. PrintsRun t zs kernel budget output form b y) same are))

@@ -1,10 +1,11 @@
 -- Which sealed journal a call leaves.
 use Rattle.std.proofs.Common.{◌≡◌, ◌∙◌, ℕ, Bool, true, false, ◌&&◌, cond, List, Option, Some, None, refl, sym, ap, subst, inl, inr}
-use Rattle.std.specs.Prelude.{MatchBool}
+use Rattle.std.specs.Prelude.{IfOk, IfSome, IsOkAnd, MatchBool, MatchResult, Ok, Err, Result}
 use Rattle.std.proofs.lemmas.Bool.{false≢true}
 use Rattle.qp_model.specs.declared.journals.Journal.{Journal}
 use Rattle.qp_model.specs.declared.stimulus.Stim.{Stim}
 use Rattle.qp_model.specs.declared.systems.System.{System}
+use Rattle.qp_wait_runs.specs.Handed.{WasSealedFor}
 use Rattle.qp_commands.specs.declared.values.Kernel.{Kernel}
 use Rattle.qp_commands.specs.declared.values.Output.{Output}
 use Rattle.qp_commands.specs.WordTable.{Asked, check, decode, generate, has_threads, migrate, number_of_form, replay, run}
@@ -13,7 +14,8 @@ use Rattle.qp_run_parts.specs.declared.status.Status.TheVariants as status
 use Rattle.qp_run_parts.specs.declared.status.Status.TheVariants.{Memory, WriteFault}
 use Rattle.qp_run_parts.specs.Conversions.{Held}
 use Rattle.qp_run_parts.specs.Printed.{IsPrinted, IsRunUnder, PrintsOf}
-use Rattle.qp_run_parts.specs.Sealed.{IsSealed, IsSealedRun, Seals, SealsOne, is_run_ended, kept_seal}
+use Rattle.qp_run_parts.specs.declared.ran.Ran.{Ran}
+use Rattle.qp_run_parts.specs.Sealed.{IsSealed, IsSealedRun, Seals, SealsOne, is_run_ended, kept_seal, sealed_in}
 use Rattle.qp_run_parts.specs.Verdict.{Count, Stands, Stream, is_refusal}
 
 abbrev pub no_journal : Option Journal
@@ -34,28 +36,36 @@ left-as threads answer P Q seal each left = by (threads && is_run_ended answer) 
 
 -- ---- of a run
 
+-- a run with threads that has ended was sealed for its system
+pub sealed-on : {T E : Type 0} (sys : System) (journal : T → Journal) (threaded : T → Ran) → ((x : T) → sealed_in (threaded x) ≡ Some (journal x)) → (r : Result T E) (s : Result Ran E)
+    → MatchResult r (λ x. IsOkAnd s (λ y. y ≡ threaded x)) (λ e. s ≡ Err e) → IfOk r (λ x. WasSealedFor sys (journal x)) → IfOk s (λ y. IfSome (sealed_in y) (WasSealedFor sys))
+sealed-on sys journal threaded is (Ok x) (Ok y) at was = subst (λ o. IfSome o (WasSealedFor sys)) (sym (ap sealed_in at ∙ is x)) was
+sealed-on sys journal threaded is (Ok x) (Err e) at was = tt
+sealed-on sys journal threaded is (Err d) (Ok y) at was = absurd (cc)
+sealed-on sys journal threaded is (Err d) (Err e) at was = tt
+
 module _ (sys : System) (sources : List (List Stim)) (kernel : Kernel) (budget : ℕ) (output : Output) (form : ℕ) (old new : Option (List ℕ)) where
   -- the journal that was printed
-  printed-one : (j : Journal) (faults faults' : ℕ) (answer : Status) → IsRunUnder kernel sys sources budget j → is_run_ended answer ≡ true
+  printed-one : (j : Journal) (faults faults' : ℕ) (answer : Status) → IsRunUnder kernel sys sources budget j → WasSealedFor sys j → is_run_ended answer ≡ true
       → IsPrinted (PrintsOf output form sys j) old new faults faults' answer → IsSealedRun sys sources kernel budget output form old new answer j
   unfolding IsPrinted
-  printed-one j faults faults' answer is ended (inl (memory, same)) = absurd (false≢true (sym (ap is_run_ended memory) ∙ ended))
-  printed-one j faults faults' answer is ended (inr (told, whole, prints, inl (same, got))) =
-      record { run = is; whole = whole; prints = subst (λ s. PrintsOf output form sys j s whole) (sym same) prints; got = got }
-  printed-one j faults faults' answer is ended (inr (told, whole, prints, inr (failed, part, rose))) = absurd (false≢true (sym (ap is_run_ended failed) ∙ ended))
+  printed-one j faults faults' answer is was ended (inl (memory, same)) = absurd (false≢true (sym (ap is_run_ended memory) ∙ ended))
+  printed-one j faults faults' answer is was ended (inr (told, whole, prints, inl (same, got))) =
+      record { run = is; sealed = was; whole = whole; prints = subst (λ s. PrintsOf output form sys j s whole) (sym same) prints; got = got }
+  printed-one j faults faults' answer is was ended (inr (told, whole, prints, inr (failed, part, rose))) = absurd (false≢true (sym (ap is_run_ended failed) ∙ ended))
 
-  pub run-left : (j : Journal) (faults faults' : ℕ) (answer : Status) (sealed seal : Option Journal) → IsRunUnder kernel sys sources budget j
+  pub run-left : (j : Journal) (faults faults' : ℕ) (answer : Status) (sealed seal : Option Journal) → IsRunUnder kernel sys sources budget j → IfSome sealed (WasSealedFor sys)
       → IsPrinted (PrintsOf output form sys j) old new faults faults' answer → sealed ≡ cond (has_threads kernel) (Some j) None → seal ≡ kept_seal answer sealed
       → SealsOne (has_threads kernel) answer (IsSealedRun sys sources kernel budget output form old new answer) seal
-  run-left j faults faults' answer sealed seal is printed its kept =
-      by (has_threads kernel) (is_run_ended answer) refl (kept ∙ ap (λ o. cond (is_run_ended answer) o None) its)
+  run-left j faults faults' answer sealed seal is was printed its kept =
+      by (has_threads kernel) (is_run_ended answer) refl (kept ∙ ap (λ o. cond (is_run_ended answer) o None) its) (subst (λ o. IfSome o (WasSealedFor sys)) its was)
     where
-      by : (threads ended : Bool) → is_run_ended answer ≡ ended → seal ≡ cond ended (cond threads (Some j) None) None
+      by : (threads ended : Bool) → is_run_ended answer ≡ ended → seal ≡ cond ended (cond threads (Some j) None) None → IfSome (cond threads (Some j) None) (WasSealedFor sys)
           → MatchBool (threads && ended) ((j : Journal) × (seal ≡ Some j) × IsSealedRun sys sources kernel budget output form old new answer j) (seal ≡ None)
-      by true true ended same = (j, same, printed-one j faults faults' answer is ended printed)
-      by true false ended same = same
-      by false true ended same = same
-      by false false ended same = same
+      by true true ended same here = (j, same, printed-one j faults faults' answer is here ended printed)
+      by true false ended same here = same
+      by false true ended same here = same
+      by false false ended same here = same
 
 -- ---- of the call
 

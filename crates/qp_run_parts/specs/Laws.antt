@@ -45,7 +45,7 @@ MayBeTwo Port i j = ⊤
 MayBeTwo Wait i j = ⊤
 MayBeTwo Qv i j = HaveSpilt i j
 
--- two runs of one system and its stimuli, which are named so, under one kernel with one budget, that may leave two journals
+-- two lawful journals of one system and its stimuli, which are named so, with one kernel and one budget, that may be two
 pub record TwoRuns (AreNamed : System → List (List Stim) → Type 0) (kernel : Kernel) (budget : ℕ) : Type 0 where
   pub sys : System
   pub sources : List (List Stim)

@@ -42,7 +42,7 @@ pub record IsOnlyRun (IsRun : Journal → Type 0) (j : Journal) : Type 0 where
   pub only : IsOnlyJournal IsRun j
   pub only_unspilt : IsOnlyUnspilt IsRun j
 
--- a journal that a run of this system and these stimuli may leave under this kernel with this budget
+-- a lawful journal of this system and these stimuli, of this kernel and with this budget
 abbrev pub IsRunUnder : Kernel → System → List (List Stim) → ℕ → Journal → Type 0
 IsRunUnder Sim sys sources budget j = IsOnlyRun (λ other. IsSimRun sys sources budget other) j
 IsRunUnder Qk sys sources budget j = IsThreadRun qk sys sources budget j

@@ -5,6 +5,7 @@ use Rattle.qp_kernel_end.specs.declared.rest.Rest.{Rest}
 use Rattle.qp_model.specs.declared.journals.Journal.{Journal}
 use Rattle.qp_model.specs.declared.stimulus.Stim.{Stim}
 use Rattle.qp_model.specs.declared.systems.System.{System}
+use Rattle.qp_wait_runs.specs.Handed.{WasSealedFor}
 use Rattle.qp_commands.specs.declared.values.Kernel.{Kernel}
 use Rattle.qp_commands.specs.declared.values.Output.{Output}
 use Rattle.qp_commands.specs.WordTable.{Asked, has_threads, number_of_form, run}
@@ -40,13 +41,14 @@ is_run_ended answer = false
 abbrev pub kept_seal : Status → Option Journal → Option Journal
 kept_seal answer seal = if is_run_ended answer then seal else None
 
--- what a call leaves: such a journal where it runs with threads and ends as its run did, and else none
+-- what a call leaves: a lawful one of this kind where it runs with threads and ends as its run did, and else none
 abbrev pub SealsOne : (threads : Bool) → Status → (Journal → Type 0) → Option Journal → Type 0
 SealsOne threads answer IsIt seal = MatchBool (threads && is_run_ended answer) ((j : Journal) × (seal ≡ Some j) × IsIt j) (seal ≡ None)
 
--- such a journal may be left by a run of this system and these stimuli, and is the very one that was printed or summed up
+-- a lawful journal of a run of this system and these stimuli, sealed of the lanes of one table for it, and the very one that was printed or summed up
 pub record IsSealedRun (sys : System) (sources : List (List Stim)) (kernel : Kernel) (budget : ℕ) (output : Output) (form : ℕ) (old new : Option (List ℕ)) (answer : Status) (j : Journal) : Type 0 where
   pub run : IsRunUnder kernel sys sources budget j
+  pub sealed : WasSealedFor sys j
   pub whole : List ℕ
   pub prints : PrintsOf output form sys j answer whole
   pub got : new ≡ appended old whole

@@ -27,7 +27,7 @@ use Rattle.qp_run_parts.specs.Replays.{IsReplayed}
 use Rattle.qp_commands.specs.WordTable.{Asked, CheckWords, check, decode, generate, migrate, number_of_form, operand_in, replay, run}
 use Rattle.qp_text.specs.TextLaw.{IsWritable}
 
--- the answer on a run of this system and these stimuli: what the records of a journal that such a run may leave say
+-- the answer on a run of this system and these stimuli: what the records of a lawful journal of them say
 abbrev pub EndsRun : System → List (List Stim) → Kernel → ℕ → Status → Type 0
 EndsRun sys sources kernel budget answer = (j : journal.Journal) × IsRunUnder kernel sys sources budget j × (answer ≡ ending_of j)
 

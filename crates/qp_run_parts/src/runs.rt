@@ -1,5 +1,5 @@
 //! Runs, and what of them is printed.
-ghost use Rattle.std.specs.Prelude.{ℕ, ◌≡◌, ◌≢◌, ◌⊎◌, ◌<◌, ◌≤◌, length, true, IfOk, IfErr, IsTrue, None, Some, if◌then◌else◌, option_map};
+ghost use Rattle.std.specs.Prelude.{ℕ, ◌≡◌, ◌≢◌, ◌⊎◌, ◌<◌, ◌≤◌, length, true, IfOk, IfErr, IfSome, IsTrue, None, Some, if◌then◌else◌, option_map};
 ghost use Rattle.std.specs.List.{AllByRecursion, list_all};
 ghost use Rattle.qp_check_course.specs.Followable.{IsFollowable};
 ghost use Rattle.qp_model.specs.Ends.{ends_last};
@@ -9,6 +9,7 @@ ghost use Rattle.qp_model.specs.Sound.{IsSound};
 ghost use Rattle.qp_kernel_end.specs.Rests.{AreRestsIn};
 ghost use Rattle.qp_stim.specs.Rules.{StimuliFit};
 ghost use Rattle.qp_summary.specs.Written.{HasStimuli};
+ghost use Rattle.qp_wait_runs.specs.Handed.{WasSealedFor};
 ghost use Rattle.qp_run_parts.specs.Conversions.{PrintsOne};
 ghost use Rattle.qp_run_parts.specs.Endings.{ending_of};
 ghost use Rattle.qp_run_parts.specs.Printed.{IsPrinted, IsRunUnder, PrintsMade, PrintsOf, PrintsRun, made_budget};
@@ -147,6 +148,7 @@ fn run_under<R: Threads + Wait + Sync, G: Gate>(
     ensures run { IfOk result (λ ran. IsRunUnder kernel system.now stimuli.now budget (journal_of ran)) }
     ensures rests { IfOk result (λ ran. AreRestsIn system.now (journal_of ran) (rests_of ran)) }
     ensures seal { IfOk result (λ ran. sealed_in ran ≡ if has_threads kernel then Some (journal_of ran) else None) }
+    ensures sealed { IfOk result (λ ran. IfSome (sealed_in ran) (WasSealedFor system.now)) }
 {
     match kernel {
         Kernel::Sim => run_alone(rt, alloc, system, stimuli, budget).map(Ran::Alone),

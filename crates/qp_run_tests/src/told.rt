@@ -31,7 +31,7 @@ settle
 post lamp GO
 ";
 
-/// Under `port` the first object takes entries 1 to 4 in lane 1, and the second 1 and 2 in lane 2. Lane 3 is the source's, with its
+/// Under `port` and under `wait` the first object takes entries 1 to 4 in lane 1, and the second 1 and 2 in lane 2. Lane 3 is the source's, with its
 /// stimuli 1, 2, 4 and 6: no turn does a `settle`.
 const PORT: u64 = 0x56_0006_001E_0000;
 
@@ -54,6 +54,11 @@ fn is_told<R: Threads + Wait + Sync>(rt: &R, alloc: Global, kernel: &str, wanted
 #[test]
 fn each_step_is_told_once_under_port(rt: HostRuntime) {
     assert!(rt; is_told(&rt, rt.alloc(), "port", PORT));
+}
+
+#[test]
+fn each_step_is_told_once_under_wait(rt: HostRuntime) {
+    assert!(rt; is_told(&rt, rt.alloc(), "wait", PORT));
 }
 
 #[test]

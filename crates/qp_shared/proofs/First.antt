@@ -113,7 +113,7 @@ module _ (sys : System) (sound : IsSound sys) (count n : ℕ) (g : Log) (bare : 
     hands = λ t. ap (λ ts. tokens t (hands_after [] ts)) nothing-told ∙ no-tokens t;
     read = λ e l. absurd (omega arith);
     handled = λ e h. absurd (no-handled e (subst (λ ts. handled_in (token_of e) ts ≡ true) nothing-told h));
-    still = record { fills = refl; claims = refl; takes = refl };
+    still = record { fills = refl; claims = refl; takes = refl; done = refl; begun = λ p b. omega arith };
     placed = λ p b l. absurd (omega arith);
     worn = λ p b k l. absurd (omega arith);
     behind = λ w on. subst (λ rs. list_all (λ m. nat_le m (mark_seen sys v.seen w)) (marks w (lane_items rs)) ≡ true) (sym bare.recs) (none-behind (mark_seen sys v.seen w) w);

@@ -6,3 +6,4 @@ pub mod Meetings
 pub mod Handing
 pub mod Taken
 pub mod CrossingLemmas
+mod Carrying

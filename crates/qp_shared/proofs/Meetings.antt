@@ -106,7 +106,7 @@ module _ (world : List ℕ) (sys : System) (by count ceiling : ℕ) (g : Log) (n
         serves = λ o. refl;
         grown = λ e has. (has, refl);
         read = h.read;
-        still = record { fills = h.still.fills; claims = h.still.claims; takes = h.still.takes };
+        still = record { fills = h.still.fills; claims = h.still.claims; takes = h.still.takes; done = h.still.done; begun = h.still.begun };
         placed = h.placed;
         worn = λ p b n l. let a = h.worn p b n l in let r = rise (word.Block p b) in omega arith;
         rise = rise;

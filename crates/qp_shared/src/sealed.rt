@@ -5,6 +5,7 @@ ghost use Rattle.std.specs.Vec.{vec_capacity};
 ghost use Rattle.qp_port_quiet.specs.Sealed.{SealsLanes};
 ghost use Rattle.qp_shared.specs.Lane.{lane_view, records_of};
 ghost use Rattle.qp_shared.specs.Ending.{AreAll};
+ghost use Rattle.qp_shared.specs.WasSealed.{WasSealed, WasSealed-prop, WasSealedFor};
 
 use crate::ending::{end_of, gather};
 use crate::lane::SharedLane;
@@ -15,16 +16,18 @@ use qp_model::{Journal, Lane, Lanes};
 use qp_shared_lane::{LaneState, SideSeat};
 use qp_shared_seats::table;
 
-/// A journal into which all lanes of one table were sealed. Only `Shared::finish` makes one, and it can't be copied.
+/// A journal into which all lanes of one table were sealed, and which carries that it is so.
 #[derive(Drop)]
 pub struct Sealed {
     journal: Journal,
+    ghost of: { WasSealed journal } by { WasSealed-prop journal },
 }
 
 impl Sealed {
     /// The journal.
     pub fn journal(&self) -> &Journal
-        ensures { result.now ≡ self.now.journal }
+        ensures is { result.now ≡ self.now.journal }
+        ensures of { WasSealed result.now }
     {
         &self.journal
     }
@@ -42,19 +45,21 @@ impl Shared<'_> {
         requires all { AreAll self.now (map lane_view lanes.items) }
         ensures records { IfOk result (λ s. s.journal.lanes ≡ map records_of lanes.entry.items) }
         ensures seals { IfOk result (λ s. SealsLanes self.now.sys.now kernel budget (map lane_view lanes.entry.items) s.journal) }
+        ensures sealed { IfOk result (λ s. WasSealedFor self.now.sys.now s.journal) }
     {
         let Ok(room) = Vec::with_capacity(self.alloc, lanes.len()) else {
             return Err(Memory);
         };
-        Ok(self.seal(lanes, room, kernel, budget))
+        let journal = self.seal(lanes, room, kernel, budget);
+        Ok(Sealed { journal })
     }
 
-    fn seal(&self, lanes: Vec<SharedLane<'_>>, room: Vec<Lane>, kernel: u8, budget: u32) -> Sealed
+    fn seal(&self, lanes: Vec<SharedLane<'_>>, room: Vec<Lane>, kernel: u8, budget: u32) -> Journal
         requires all { AreAll self.now (map lane_view lanes.items) }
         requires empty { room.items ≡ [] }
         requires room { length lanes.items ≤ vec_capacity room }
-        ensures records { result.journal.lanes ≡ map records_of lanes.entry.items }
-        ensures seals { SealsLanes self.now.sys.now kernel budget (map lane_view lanes.entry.items) result.journal }
+        ensures records { result.lanes ≡ map records_of lanes.entry.items }
+        ensures seals { SealsLanes self.now.sys.now kernel budget (map lane_view lanes.entry.items) result }
     {
         let mut others = lanes;
         let mut records = room;
@@ -83,13 +88,11 @@ impl Shared<'_> {
         qp_shared_side::seats::know_whole(&self.side, &mut beside);
         let lanes = Lanes { items: records };
         let end = end_of(&lanes);
-        Sealed {
-            journal: Journal {
-                kernel,
-                budget,
-                lanes,
-                end,
-            },
+        Journal {
+            kernel,
+            budget,
+            lanes,
+            end,
         }
     }
 }

@@ -133,7 +133,7 @@ module _ (l : LaneState) (f : Fresh) (u : View) (m n : ℕ) (g : Log) (more : Li
     serves = λ o. ap (λ (z : View). list_any (is_serve o) z.serves) told.0.0;
     grown = grown-same v u (ap (λ (z : View). z.contents) told.0.0);
     read = read-fewer v u (ap (λ (z : View). z.contents) told.0.0) (λ e. let i = ap (λ (z : View). many (is_entry e) z.hands) told.0.0 in omega arith) l.holds.read;
-    still = still-same v u (ap (λ (z : View). z.fills) told.0.0) (ap (λ (z : View). z.claims) told.0.0) (ap (λ (z : View). z.takes) told.0.0) l.holds.still;
+    still = still-same v u (ap (λ (z : View). z.fills) told.0.0) (ap (λ (z : View). z.claims) told.0.0) (ap (λ (z : View). z.takes) told.0.0) (ap (λ (z : View). z.gives) told.0.0) (ap (λ (z : View). z.fresh) told.0.0) l.holds.still;
     placed = λ q c h. l.holds.placed q c (let i = ap (λ (z : View). many (is_spot q c) z.fresh) told.0.0 in let j = ap (λ (z : View). many (is_spot q c) z.used) told.0.0 in let k = without-le (is_spot f.pool f.block) (is_spot q c) v.used in omega arith);
     worn = λ q c k h. let j = ap (λ (z : View). many (is_spot_at q c k) z.used) told.0.0 in let o = without-le (is_spot f.pool f.block) (is_spot_at q c k) v.used in let a = l.holds.worn q c k (omega arith) in let b = rises (word.Block q c) in omega arith;
     hands_are = back-hands (hands_after [] (told_by l.log l.numbers.list v)) v u f.pool f.block l.holds.hands here mine (ap (λ (z : View). z.hands) told.0.0) (ap (λ (z : View). z.fresh) told.0.0) (ap (λ (z : View). z.used) told.0.0);

@@ -157,7 +157,7 @@ module _ (l : LaneState) (h : Hold) (u : View) (n : ℕ) (g : Log) (more : List 
     serves = λ o. ap (λ (z : View). list_any (is_serve o) z.serves) told.0;
     grown = grown-same v u (ap (λ (z : View). z.contents) told.0);
     read = read-without v u (ref h.pool h.block h.name) (ap (λ (z : View). z.contents) told.0) (ap (λ (z : View). z.hands) told.0) l.holds.read;
-    still = still-same v u (ap (λ (z : View). z.fills) told.0) (ap (λ (z : View). z.claims) told.0) (ap (λ (z : View). z.takes) told.0) l.holds.still;
+    still = still-same v u (ap (λ (z : View). z.fills) told.0) (ap (λ (z : View). z.claims) told.0) (ap (λ (z : View). z.takes) told.0) (ap (λ (z : View). z.gives) told.0) (ap (λ (z : View). z.fresh) told.0) l.holds.still;
     placed = drop-placed (hands_after [] (told_by l.log l.numbers.list v)) v u h.pool h.block h.name left ((n + 4294967295) / 4294967296) l.holds.hands here mine (ap (λ (z : View). z.hands) told.0) (ap (λ (z : View). z.fresh) told.0) used-is place l.holds.placed;
     worn = drop-worn (hands_after [] (told_by l.log l.numbers.list v)) v u h.pool h.block h.name left ((n + 4294967295) / 4294967296) l.holds.hands here mine (ap (λ (z : View). z.hands) told.0) (ap (λ (z : View). z.fresh) told.0) used-is l.sys.now rises (let a = mark-now in let b = end-is in omega arith) l.holds.worn;
     hands_are = drop-hands (hands_after [] (told_by l.log l.numbers.list v)) v u h.pool h.block h.name left ((n + 4294967295) / 4294967296) l.holds.hands here mine (ap (λ (z : View). z.hands) told.0) (ap (λ (z : View). z.fresh) told.0) used-is;

@@ -37,6 +37,7 @@ use Rattle.qp_shared_views.proofs.Gaining.{mark-here, mark-was, mark-else, mark-
 use Rattle.qp_shared_views.proofs.LawLemmas.{seen_words_rise, gives_gain}
 use Rattle.qp_shared_views.proofs.Saying.{same-more, logged-one, logged-number}
 use Rattle.qp_shared_views.proofs.Hands.{eq-turned}
+use Rattle.qp_shared_steps.specs.Asked.{size_of}
 use Rattle.qp_shared_steps.specs.Told.{HasPlace, free_of, shortage_rec}
 use Rattle.qp_shared_loops.specs.Ends.{Gives, GivesNone, GiveEnds, was_seen_as, word_without}
 use Rattle.qp_shared_loops.specs.declared.gives.Life.{Life}
@@ -48,6 +49,7 @@ use Rattle.qp_shared_lane.specs.Laws.{Kept, RecordKept}
 use Rattle.qp_shared_lane.proofs.LawLemmas.{records_keep_the_lane, table_records_keep_the_lane}
 use Rattle.qp_shared_lane.proofs.Adding.{side-skips}
 use Rattle.qp_shared_lane.proofs.Keeping.{keeps-all}
+use Rattle.qp_shared_blocks.proofs.Begun.{still-given}
 use Rattle.qp_shared_blocks.proofs.Parts.{grown-same, read-fewer, still-same, placed-same, worn-same}
 
 -- What the event needs.
@@ -58,6 +60,10 @@ fits-pool l p ev fits = let a = fits.some in let b = fits.there in let x : nat_l
 
 pub fits-small : (l : LaneState) (p : ℕ) (ev : Event) → FitsPool (state_view l).sys p ev → p < 16
 fits-small l p ev fits = (l.holds.fitting.small p (fits-pool l p ev fits)).0
+
+pub fits-size : (l : LaneState) (p : ℕ) (ev : Event) → FitsPool (state_view l).sys p ev → length ev.pars ≤ size_of l.sys.now p
+unfolding lane_of
+fits-size l p ev fits = fits.size
 
 pub fits-content : (l : LaneState) (p : ℕ) (ev : Event) → FitsPool (state_view l).sys p ev → IsContent l.sys.now ev.sig ev.pars
 unfolding lane_of
@@ -130,7 +136,7 @@ module _ (l : LaneState) (p : ℕ) (reserve : Option ℕ) (u : View) (x : ℕ) (
     serves = λ o. ap (λ (z : View). list_any (is_serve o) z.serves) told.is;
     grown = grown-same v u (ap (λ (z : View). z.contents) told.is);
     read = read-fewer v u (ap (λ (z : View). z.contents) told.is) (λ e. let i = ap (λ (z : View). many (is_entry e) z.hands) told.is in omega arith) l.holds.read;
-    still = still-same v u (ap (λ (z : View). z.fills) told.is) (ap (λ (z : View). z.claims) told.is) (ap (λ (z : View). z.takes) told.is) l.holds.still;
+    still = still-same v u (ap (λ (z : View). z.fills) told.is) (ap (λ (z : View). z.claims) told.is) (ap (λ (z : View). z.takes) told.is) (ap (λ (z : View). z.gives) told.is) (ap (λ (z : View). z.fresh) told.is) l.holds.still;
     placed = placed-same v u (ap (λ (z : View). z.fresh) told.is) (ap (λ (z : View). z.used) told.is) l.holds.placed;
     worn = worn-same l.sys.now v u (mark-rises l.sys.now (word.Pool p) v u x told.told.saw) (ap (λ (z : View). z.used) told.is) l.holds.worn;
     hands_are = λ t. ap (tokens t) (hands-is reserve (hands_after [] (told_by l.log l.numbers.list v))) ∙ (l.holds.hands t ∙ same-tokens t);
@@ -256,7 +262,7 @@ module _ (l : LaneState) (p : ℕ) (reserve : Option ℕ) (ev : Event) (b from :
     serves = λ o. ap (λ (z : View). list_any (is_serve o) z.serves) told.is;
     grown = grown-same was u (ap (λ (z : View). z.contents) told.is);
     read = read-fewer was u (ap (λ (z : View). z.contents) told.is) (λ e. let i = ap (λ (z : View). many (is_entry e) z.hands) told.is in omega arith) l.holds.read;
-    still = record { fills = ap (λ (z : View). z.fills) told.is; claims = ap (λ (z : View). z.claims) told.is ∙ l.holds.still.claims; takes = ap (λ (z : View). z.takes) told.is ∙ l.holds.still.takes };
+    still = still-given p b (ev.sig ∷ ev.pars) from was u (ap (λ (z : View). z.fills) told.is) (ap (λ (z : View). z.claims) told.is) (ap (λ (z : View). z.takes) told.is) (ap (λ (z : View). z.gives) told.is) (ap (λ (z : View). z.fresh) told.is) l.holds.still;
     placed = new-placed was u p b from (ap (λ (z : View). z.fresh) told.is) (ap (λ (z : View). z.used) told.is) told.place l.holds.placed;
     worn = worn-same l.sys.now was u rises (ap (λ (z : View). z.used) told.is) l.holds.worn;
     rise = rises;

@@ -8,6 +8,7 @@ use Rattle.qp_calls.specs.Clauses.{StandsHold, StandsFresh}
 use Rattle.qp_calls.specs.declared.tokens.Fresh.{Fresh}
 use Rattle.qp_shared_views.specs.Lane.{lane_of, has_content, is_read}
 use Rattle.qp_shared_views.proofs.Hands.{read-has, read-small}
+use Rattle.qp_shared_steps.specs.Asked.{is_begun}
 use Rattle.qp_shared_steps.specs.Told.{HasPlace}
 use Rattle.qp_shared_lane.specs.declared.lane.LaneState.{LaneState}
 use Rattle.qp_shared_lane.specs.Lane.{state_view}
@@ -43,6 +44,10 @@ module _ (l : LaneState) where
   pub used : (f : Fresh) → StandsFresh f (state_view l) → f.used ≡ true → 0 < many (is_spot f.pool f.block) l.seat.me.0.used
   unfolding lane_of
   used f is old = let z = hands_stand l.sys.now l.count l.ceiling l.log l.numbers.list l.seat.me.0 l.side.seat.me.0 l.holds (Loose f.pool f.block true) in z (subst (λ b. IsTrue (stands (Loose f.pool f.block b) (state_view l).hands)) old is.1)
+
+  -- whose give is finished
+  pub begun : (f : Fresh) → StandsFresh f (state_view l) → f.used ≡ false → 0 < many (is_begun f.pool f.block) l.seat.me.0.gives
+  begun f is new = let z = fresh f is new in let n = l.holds.still.begun f.pool f.block in omega arith
 
   pub fresh-place : (f : Fresh) → StandsFresh f (state_view l) → f.used ≡ false → HasPlace f.pool f.block
   fresh-place f is new = let z = fresh f is new in l.holds.placed f.pool f.block (omega arith)

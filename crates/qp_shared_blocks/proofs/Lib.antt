@@ -2,6 +2,7 @@ pub mod Ends
 pub mod Used
 pub mod Lanes
 pub mod Parts
+pub mod Begun
 pub mod Notes
 pub mod Reading
 pub mod Dropping

@@ -40,6 +40,7 @@ use Rattle.qp_shared_lane.specs.Laws.{Kept}
 use Rattle.qp_shared_lane.proofs.LawLemmas.{table_records_keep_the_lane}
 use Rattle.qp_shared_blocks.specs.Ends.{AnotherTold}
 use Rattle.qp_shared_blocks.proofs.Lanes.{fresh-place, fresh}
+use Rattle.qp_shared_blocks.proofs.Begun.{still-first}
 use Rattle.qp_shared_blocks.proofs.Parts.{still-same, placed-same, worn-same, held-parts}
 
 -- What was read, with one event more.
@@ -217,7 +218,7 @@ module _ (l : LaneState) (f : Fresh) (u : View) (n : ℕ) (g : Log) (more : List
     serves = λ o. ap (λ (z : View). list_any (is_serve o) z.serves) told.1;
     grown = grown-more v u (record { entry = ref f.pool f.block (n / 4294967296); event = told.0 }) (ap (λ (z : View). z.contents) told.1);
     read = read-more v u f.pool f.block (n / 4294967296) told.0 (ap (λ (z : View). z.contents) told.1) (ap (λ (z : View). z.hands) told.1) place (omega arith) l.holds.read;
-    still = still-same v u (ap (λ (z : View). z.fills) told.1) (ap (λ (z : View). z.claims) told.1) (ap (λ (z : View). z.takes) told.1) l.holds.still;
+    still = still-first f.pool f.block v u (ap (λ (z : View). z.fills) told.1) (ap (λ (z : View). z.claims) told.1) (ap (λ (z : View). z.takes) told.1) (ap (λ (z : View). z.gives) told.1) (ap (λ (z : View). z.fresh) told.1) mine l.holds.still;
     placed = λ q c h. l.holds.placed q c (let i = ap (λ (z : View). many (is_spot q c) z.fresh) told.1 in let j = ap (λ (z : View). many (is_spot q c) z.used) told.1 in let k = without-le (is_spot f.pool f.block) (is_spot q c) v.fresh in omega arith);
     worn = worn-same l.sys.now v u (made-rises l f.pool f.block u n place told.2.saw few) (ap (λ (z : View). z.used) told.1) l.holds.worn;
     hands_are = began-hands (hands_after [] (told_by l.log l.numbers.list v)) v u f.pool f.block (n / 4294967296) l.holds.hands here mine (ap (λ (z : View). z.hands) told.1) (ap (λ (z : View). z.fresh) told.1) (ap (λ (z : View). z.used) told.1);
@@ -298,7 +299,7 @@ module _ (l : LaneState) (h : Hold) (u : View) (n : ℕ) (g : Log) (more : List 
     serves = λ o. ap (λ (z : View). list_any (is_serve o) z.serves) told.0.1;
     grown = grown-more before u (record { entry = ref h.pool h.block (n / 4294967296); event = told.0.0 }) (ap (λ (z : View). z.contents) told.0.1);
     read = read-more before u h.pool h.block (n / 4294967296) told.0.0 (ap (λ (z : View). z.contents) told.0.1) (ap (λ (z : View). z.hands) told.0.1) there (omega arith) l.holds.read;
-    still = still-same before u (ap (λ (z : View). z.fills) told.0.1) (ap (λ (z : View). z.claims) told.0.1) (ap (λ (z : View). z.takes) told.0.1) l.holds.still;
+    still = still-same before u (ap (λ (z : View). z.fills) told.0.1) (ap (λ (z : View). z.claims) told.0.1) (ap (λ (z : View). z.takes) told.0.1) (ap (λ (z : View). z.gives) told.0.1) (ap (λ (z : View). z.fresh) told.0.1) l.holds.still;
     placed = placed-same before u (ap (λ (z : View). z.fresh) told.0.1) (ap (λ (z : View). z.used) told.0.1) l.holds.placed;
     worn = worn-same l.sys.now before u (made-rises l h.pool h.block u n there told.0.2.saw less) (ap (λ (z : View). z.used) told.0.1) l.holds.worn;
     hands_are = λ t. ap (λ hs. tokens t (Held h.pool h.block (n / 4294967296) ∷ hs)) loose

@@ -1,5 +1,6 @@
 -- Parts of what a step on a block owes: tokens, what was read, and used blocks.
 use Rattle.std.proofs.Common.{◌≡◌, ℕ, ◌+◌, ◌≤◌, ◌&&◌, List, [], ◌∷◌, ◌++◌, Bool, true, false, cond, refl, sym, ap, subst, ◌∙◌, arith, eqb, eqb-true, eq-eqb, IsTrue}
+use Rattle.std.specs.List.{list_any}
 use Rattle.std.proofs.lemmas.Bool.{and_from, and_parts, or_left, or_right}
 use Rattle.std.proofs.lemmas.List.Folds.{list_any-append}
 use Rattle.qp_model.specs.declared.systems.System.{System}
@@ -15,6 +16,7 @@ use Rattle.qp_table.specs.declared.view.View.{View}
 use Rattle.qp_calls.specs.Tokens.{Token, Held, Loose, token_of}
 use Rattle.qp_shared_views.specs.Words.{mark_seen}
 use Rattle.qp_shared_views.specs.Lane.{tokens, has_content, is_read, event_seen}
+use Rattle.qp_shared_steps.specs.Asked.{is_unfinished, is_begun}
 use Rattle.qp_shared_lane.specs.Holds.{IsRead, IsStill, IsPlaced, IsWorn, was_seen}
 use Rattle.qp_shared_lane.specs.More.{Grown}
 
@@ -36,8 +38,14 @@ read-fewer v u contents fewer read e h = let f = fewer e in let z = read e (omeg
 pub read-without : (v u : View) (d : Entry) → u.contents ≡ v.contents → u.hands ≡ without (is_entry d) v.hands → IsRead v → IsRead u
 read-without v u d contents hands = read-fewer v u contents (λ e. let l = without-le (is_entry d) (is_entry e) v.hands in let i = ap (many (is_entry e)) hands in omega arith)
 
-pub still-same : (v u : View) → u.fills ≡ v.fills → u.claims ≡ v.claims → u.takes ≡ v.takes → IsStill v → IsStill u
-still-same v u fills claims takes s = record { fills = fills ∙ s.fills; claims = claims ∙ s.claims; takes = takes ∙ s.takes }
+pub still-same : (v u : View) → u.fills ≡ v.fills → u.claims ≡ v.claims → u.takes ≡ v.takes → u.gives ≡ v.gives → u.fresh ≡ v.fresh → IsStill v → IsStill u
+still-same v u fills claims takes gives fresh s = record {
+  fills = fills ∙ s.fills;
+  claims = claims ∙ s.claims;
+  takes = takes ∙ s.takes;
+  done = (λ i. list_any (is_unfinished (fills i)) (gives i)) ∙ s.done;
+  begun = λ p b. let f = ap (many (is_spot p b)) fresh in let g = ap (many (is_begun p b)) gives in let n = s.begun p b in omega arith;
+}
 
 pub placed-same : (v u : View) → u.fresh ≡ v.fresh → u.used ≡ v.used → IsPlaced v → IsPlaced u
 placed-same v u fresh used placed p b h = placed p b (let f = ap (many (is_spot p b)) fresh in let g = ap (many (is_spot p b)) used in omega arith)

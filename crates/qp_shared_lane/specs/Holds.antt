@@ -1,5 +1,5 @@
 -- What ties a lane's records to what it knows of both tables.
-use Rattle.std.specs.Prelude.{◌≡◌, ℕ, ◌+◌, ◌-◌, ◌/◌, ◌%◌, ◌<◌, ◌≤◌, eqb, nat_le, Bool, true, false, ◌&&◌, List, [], ◌∷◌, ◌++◌, cond, length, count_ones, IsTrue}
+use Rattle.std.specs.Prelude.{◌≡◌, ℕ, ◌+◌, ◌-◌, ◌/◌, ◌%◌, ◌<◌, ◌≤◌, eqb, nat_le, Bool, true, false, ◌&&◌, List, [], ◌∷◌, ◌++◌, cond, length, count_ones, IsTrue, IsFalse}
 use Rattle.std.proofs.Props.{props}
 use Rattle.std.specs.List.{filter, list_all, list_any}
 use Rattle.qp_model.specs.declared.record.Rec.{Rec}
@@ -27,6 +27,7 @@ use Rattle.qp_calls_log.specs.declared.Log.{Log}
 use Rattle.qp_shared_views.specs.Words.{mark_seen}
 use Rattle.qp_shared_views.specs.Lane.{own_recs, on_table_of, tell, event_seen, has_content, is_read, tokens, tokens_in, number_of}
 use Rattle.qp_shared_views.specs.Telling.{is_on_table}
+use Rattle.qp_shared_steps.specs.Asked.{is_unfinished, is_begun}
 use Rattle.qp_shared_steps.specs.Told.{HasPlace}
 use Rattle.qp_side_words.specs.Rule.{SideFitting, signal_at, timer_at, member_by}
 use Rattle.qp_side_words.specs.Told.{last_seen}
@@ -128,11 +129,13 @@ KnowSubscribers-prop serves before (t ∷ ts) = hlevel (SubscriberIs-prop serves
 
 -- Between calls.
 
--- no fill, no claim and no take is under way
+-- no fill, no claim and no take is under way, no give is unfinished, and each fresh block has a give the beginning of whose life was read
 pub record IsStill (v : View) : Type 0 where
   pub fills : v.fills ≡ []
   pub claims : v.claims ≡ []
   pub takes : v.takes ≡ []
+  pub done : IsFalse (list_any (is_unfinished v.fills) v.gives)
+  pub begun : (p b : ℕ) → many (is_spot p b) v.fresh ≤ many (is_begun p b) v.gives
 
 -- a fresh or used block has its words
 abbrev pub IsPlaced : View → Type 0

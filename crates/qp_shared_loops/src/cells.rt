@@ -57,7 +57,7 @@ fn before_front(ring: u8, lifos: u64, takes: u64) -> u16
 
 /// Posts an entry, where more entries of the queue are free than the margin, None counting as 0: claims it as `claim_entry` does,
 /// and then lays its cell. Answers the queue's word as it was when the entry was claimed or too few were free, and whether it is
-/// posted. `ring` is the queue's.
+/// posted. `ring` is the queue's, on which the seat has no claim.
 #[inline(always)]
 pub fn post_entry<L: Ledger>(
     words: &Words,
@@ -78,6 +78,7 @@ pub fn post_entry<L: Ledger>(
     requires ring { ring ≡ ring_of words.now.shared.key object }
     requires room { HasRoom seat.old.me.0 }
     requires hand { InHand words.now.shared.key (record { pool = pool; block = block; name = name }) seat.old.me.0 }
+    requires none { many (on_queue object) seat.old.me.0.claims ≡ 0 }
     requires codable { Codable words.now.shared.key (record { pool = pool; block = block; name = name }) }
     ensures same { (seat.new.table_id ≡ seat.old.table_id) × (seat.new.id ≡ seat.old.id) }
     ensures ends { PostEnds words.now.shared.key object by margin (record { pool = pool; block = block; name = name }) seat.old.me.0 result.0 result.1 seat.new.me.0 }
@@ -114,6 +115,7 @@ pub fn post_entry_last_in<L: Ledger>(
     requires ring { ring ≡ ring_of words.now.shared.key object }
     requires room { HasRoom seat.old.me.0 }
     requires hand { InHand words.now.shared.key (record { pool = pool; block = block; name = name }) seat.old.me.0 }
+    requires none { many (on_queue object) seat.old.me.0.claims ≡ 0 }
     requires codable { Codable words.now.shared.key (record { pool = pool; block = block; name = name }) }
     requires serves { IsTrue (list_any (is_serve object) seat.old.me.0.serves) }
     requires idle { many (on_queue object) seat.old.me.0.takes ≡ 0 }

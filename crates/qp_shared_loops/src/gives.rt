@@ -1,13 +1,15 @@
 //! Gives: the lowest free block of a pool is given out by tries, until a try succeeds or too few blocks are free; then its event is
 //! written, and its own word is looked at.
 
-ghost use Rattle.std.specs.Prelude.{◌≡◌, ◌+◌, ◌%◌, ◌<◌, ◌≤◌, [], ◌∷◌, IsTrue};
+ghost use Rattle.std.specs.Prelude.{◌≡◌, ◌+◌, ◌%◌, ◌<◌, ◌≤◌, ℕ, [], ◌∷◌, IsFalse, IsTrue, get_or, length};
+ghost use Rattle.std.specs.List.{list_any};
 ghost use Rattle.qp_model.specs.declared.words.Word.TheVariants as word;
 ghost use Rattle.qp_model.specs.WordLaw.{is_pool};
 ghost use Rattle.qp_table.specs.Counting.{many};
 ghost use Rattle.qp_table.specs.Rule.{pool_at, mark_in, is_spot, IsContent};
 ghost use Rattle.qp_table.specs.After.{HasRoom, fills_for};
 ghost use Rattle.qp_shared_views.specs.Words.{value_seen};
+ghost use Rattle.qp_shared_steps.specs.Asked.{size_of, is_unfinished, is_asked};
 ghost use Rattle.qp_shared_steps.specs.Told.{free_of, HasPlace, IsLowest};
 ghost use Rattle.qp_shared_loops.specs.Ends.{BlockEnds, GiveEnds, filling};
 
@@ -42,7 +44,7 @@ fn lowest(word: u64) -> u8
     ((word % UNIT) as u32).trailing_zeros() as u8
 }
 
-/// Gives out the lowest free block, where more blocks are free than the reserve. Its event is still to be written.
+/// Gives out the lowest free block, where more blocks are free than the reserve and no give is unfinished. Its event is still to be written.
 fn give_lowest<L: Ledger>(
     words: &Words,
     seat: &mut Seat<(), View>,
@@ -57,6 +59,8 @@ fn give_lowest<L: Ledger>(
     requires small { pool < 16 }
     requires pool { IsTrue (is_pool words.now.shared.key pool) }
     requires room { HasRoom seat.old.me.0 }
+    requires fits { length ev.now.pars.items ≤ size_of words.now.shared.key pool }
+    requires done { IsFalse (list_any (is_unfinished seat.old.me.0.fills) seat.old.me.0.gives) }
     requires content { IsContent words.now.shared.key ev.now.sig ev.now.pars.items }
     ensures same { (seat.new.table_id ≡ seat.old.table_id) × (seat.new.id ≡ seat.old.id) }
     ensures ends { BlockEnds words.now.shared.key pool by reserve ev.now.sig ev.now.pars.items seat.old.me.0 result.0 result.1 seat.new.me.0 }
@@ -88,6 +92,7 @@ fn write_event(words: &Words, seat: &mut Seat<(), View>, pool: u8, block: u8, ev
     requires place { HasPlace pool block }
     requires fresh { 0 < many (is_spot pool block) seat.old.me.0.fresh }
     requires left { seat.old.me.0.fills ≡ fills_for pool block 0 (ev.now.sig ∷ ev.now.pars.items) }
+    requires asked { (j : ℕ) → j < length (ev.now.sig ∷ ev.now.pars.items) → IsTrue (list_any (is_asked pool block j (get_or (ev.now.sig ∷ ev.now.pars.items) j 0)) seat.old.me.0.gives) }
     ensures same { (seat.new.table_id ≡ seat.old.table_id) × (seat.new.id ≡ seat.old.id) }
     ensures written { seat.new.me.0 ≡ filling [] seat.old.me.0 }
 {
@@ -100,8 +105,8 @@ fn write_event(words: &Words, seat: &mut Seat<(), View>, pool: u8, block: u8, ev
 
 /// Gives out the lowest free block of a pool for an event, where more blocks are free than the reserve, None counting as 0.
 /// It looks, and then tries until the word is still as it was last seen, or shows too few free blocks; a block that is given
-/// out gets its event, and its word is looked at. Answers the pool's word as it was when the block was given out or too few
-/// were free, and the block.
+/// out gets its event, and its word is looked at, so the give is finished. Answers the pool's word as it was when the block was given
+/// out or too few were free, and the block.
 ///
 /// Tries are at most one more than others made operations on the word meanwhile.
 pub fn give_block<L: Ledger>(
@@ -118,6 +123,8 @@ pub fn give_block<L: Ledger>(
     requires small { pool < 16 }
     requires pool { IsTrue (is_pool words.now.shared.key pool) }
     requires room { HasRoom seat.old.me.0 }
+    requires fits { length ev.now.pars.items ≤ size_of words.now.shared.key pool }
+    requires done { IsFalse (list_any (is_unfinished seat.old.me.0.fills) seat.old.me.0.gives) }
     requires content { IsContent words.now.shared.key ev.now.sig ev.now.pars.items }
     requires still { seat.old.me.0.fills ≡ [] }
     ensures same { (seat.new.table_id ≡ seat.old.table_id) × (seat.new.id ≡ seat.old.id) }

@@ -86,6 +86,7 @@ module _ (l : LaneState) (a : ℕ) (margin : Option ℕ) (e : Entry) (x : ℕ) (
       fills = ap (λ (z : View). z.fills) c.is;
       claims = ap (λ (z : View). z.claims) c.is ∙ claims-gone a (f_in x % (ring_of l.sys.now a + 1)) (entry_of e) (mark_in (queue_at a) (x + 1)) l.seat.me.0.claims l.holds.still.claims;
       takes = ap (λ (z : View). z.takes) c.is;
+      gives = ap (λ (z : View). z.gives) c.is;
     }
 
     sees : SeesMore l.seat.me.0.seen u.seen

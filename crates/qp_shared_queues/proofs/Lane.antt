@@ -70,6 +70,9 @@ module _ (l : LaneState) where
   pub idle : (o : ℕ) → many (on_queue o) l.seat.me.0.takes ≡ 0
   idle o = ap (many (on_queue o)) l.holds.still.takes
 
+  pub no-claim : (o : ℕ) → many (on_queue o) l.seat.me.0.claims ≡ 0
+  no-claim o = ap (many (on_queue o)) l.holds.still.claims
+
   pub spare-is : 0 < (state_view l).spare → 0 < l.log.spare
   unfolding lane_of
   spare-is h = h

@@ -59,6 +59,7 @@ module _ (l : LaneState) (e : Entry) (x : ℕ) (u : View) (h : Log) (more : List
       fills = ap (λ (z : View). z.fills) c.is;
       claims = ap (λ (z : View). z.claims) c.is ∙ claims-gone l.by (before_front l.sys.now l.by x) (entry_of e) (mark_in (queue_at l.by) (x + 2097152)) l.seat.me.0.claims l.holds.still.claims;
       takes = ap (λ (z : View). z.takes) c.is;
+      gives = ap (λ (z : View). z.gives) c.is;
     }
 
     sees : SeesMore l.seat.me.0.seen u.seen

@@ -40,6 +40,7 @@ module _ (l : LaneState) (a n : ℕ) (u : View) (is : u ≡ glanced l.seat.me.0 
     fills = ap (λ (z : View). z.fills) is;
     claims = ap (λ (z : View). z.claims) is;
     takes = ap (λ (z : View). z.takes) is;
+    gives = ap (λ (z : View). z.gives) is;
   }
 
   follows : Follows l.sys.now l.seat.me.0 u

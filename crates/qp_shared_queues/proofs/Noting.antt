@@ -73,6 +73,7 @@ module _ (l : LaneState) (a o x k : ℕ) (b : Body) (glances : List Glance) (rec
     fills = ap (λ (z : View). z.fills) is;
     claims = ap (λ (z : View). z.claims) is;
     takes = ap (λ (z : View). z.takes) is;
+    gives = ap (λ (z : View). z.gives) is;
   }
 
   contents : u.contents ≡ l.seat.me.0.contents

@@ -105,6 +105,7 @@ module _ (l : LaneState) (a x : ℕ) (r : Entry) (u : View) (h : Log) (more : Li
     fills = part (λ (z : View). z.fills) l.seat.me.0.fills refl refl;
     claims = part (λ (z : View). z.claims) l.seat.me.0.claims refl refl;
     takes = part (λ (z : View). z.takes) l.seat.me.0.takes gone gone;
+    gives = part (λ (z : View). z.gives) l.seat.me.0.gives refl refl;
   }
 
   logs : u.logs ≡ done.logs

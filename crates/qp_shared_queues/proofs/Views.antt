@@ -13,6 +13,7 @@ use Rattle.qp_table.specs.declared.view.View.{View}
 use Rattle.qp_calls.specs.Tokens.{Token, Held, Loose}
 use Rattle.qp_shared_views.specs.Words.{mark_seen}
 use Rattle.qp_shared_views.specs.Lane.{event_seen, has_content, is_read, tokens_in}
+use Rattle.qp_shared_steps.specs.Asked.{is_unfinished, is_begun}
 use Rattle.qp_shared_lane.specs.Holds.{IsRead, IsStill, IsPlaced, IsWorn}
 use Rattle.qp_shared_lane.specs.More.{Grown, SeesMore}
 
@@ -43,9 +44,16 @@ pub record Alike (v u : View) : Type 0 where
   pub fills : u.fills ≡ v.fills
   pub claims : u.claims ≡ v.claims
   pub takes : u.takes ≡ v.takes
+  pub gives : u.gives ≡ v.gives
 
 pub still-alike : (v u : View) → Alike v u → IsStill v → IsStill u
-still-alike v u a s = record { fills = a.fills ∙ s.fills; claims = a.claims ∙ s.claims; takes = a.takes ∙ s.takes }
+still-alike v u a s = record {
+  fills = a.fills ∙ s.fills;
+  claims = a.claims ∙ s.claims;
+  takes = a.takes ∙ s.takes;
+  done = (λ i. list_any (is_unfinished (a.fills i)) (a.gives i)) ∙ s.done;
+  begun = λ p b. let f = ap (many (is_spot p b)) a.fresh in let g = ap (many (is_begun p b)) a.gives in let n = s.begun p b in omega arith;
+}
 
 -- one glance behind others
 pub sees-last : (v u : View) (glances : List Glance) (g : Glance) → SeesMore v.seen glances → u.seen ≡ glances ++ g ∷ [] → SeesMore v.seen u.seen

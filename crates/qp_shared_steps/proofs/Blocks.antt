@@ -41,7 +41,7 @@ ref-held p b k v u e =
     let one : cond {A = ℕ} (is_ref p b k (ref p b k)) 1 0 ≡ 1 = ap (λ (t : Bool). cond {A = ℕ} t 1 0) (ref-here p b k k ∙ eq-eqb k k refl) in omega arith
 
 pub first-tells : FirstReferencesTell
-first-tells sys id v own o p b mine written words views holds at small =
+first-tells sys id v own o p b mine given written words views holds at small =
     let z = begin-steps sys id v own o p b mine written words views holds at small in
     let alone = fresh-alone sys views holds.now id v at holds.tokens p b mine in
     let n = get_or words (block_at p b) 0 in
@@ -113,5 +113,5 @@ beginnings-tell sys id v p b m mine words views holds at small =
     )
 
 pub fills-tell : FillsTell
-fills-tell sys id v p b j x mine low left words views holds at small =
+fills-tell sys id v p b j x mine low left asked words views holds at small =
     let alone = fresh-alone sys views holds.now id v at holds.tokens p b mine in (filled v p b j x, fills sys words views holds id v at p b alone.0 j x low left, refl)

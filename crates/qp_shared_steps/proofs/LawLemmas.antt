@@ -10,7 +10,7 @@ pub drops_tell : DropsTell
 drops_tell sys id v own o p b k pos mine words views holds at small = drops-tell sys id v own o p b k pos mine words views holds at small
 
 pub first_references_tell : FirstReferencesTell
-first_references_tell sys id v own o p b mine written words views holds at small = first-tells sys id v own o p b mine written words views holds at small
+first_references_tell sys id v own o p b mine given written words views holds at small = first-tells sys id v own o p b mine given written words views holds at small
 
 pub more_references_tell : MoreReferencesTell
 more_references_tell sys id v own o p b k pos mine words views holds at small = more-tells sys id v own o p b k pos mine words views holds at small
@@ -22,7 +22,7 @@ pub beginnings_tell : BeginningsTell
 beginnings_tell sys id v p b m mine words views holds at small = beginnings-tell sys id v p b m mine words views holds at small
 
 pub fills_tell : FillsTell
-fills_tell sys id v p b j x mine low left words views holds at small = fills-tell sys id v p b j x mine low left words views holds at small
+fills_tell sys id v p b j x mine low left asked words views holds at small = fills-tell sys id v p b j x mine low left asked words views holds at small
 
 pub looks_tell : LooksTell
 looks_tell sys id v a object words views holds at small = looks-tell sys id v a object words views holds at small
@@ -46,7 +46,7 @@ pub last_tries_tell : LastTriesTell
 last_tries_tell sys id v own a object e old mine serves idle last free words views holds at small = last-tries-tell sys id v own a object e old mine serves idle last free words views holds at small
 
 pub lays_tell : LaysTell
-lays_tell sys id v a j e object inside mine words views holds at small = lays-tell sys id v a j e object inside mine words views holds at small
+lays_tell sys id v a j e object inside mine first words views holds at small = lays-tell sys id v a j e object inside mine first words views holds at small
 
 pub swaps_tell : SwapsTell
 swaps_tell sys id v a l m object has_log serves l_is m_is idle words views holds at small = swaps-tell sys id v a l m object has_log serves l_is m_is idle words views holds at small
@@ -61,4 +61,4 @@ pub pool_eyes_tell : PoolEyesTell
 pool_eyes_tell sys id v own p pool o reserve words views holds at small = pool-eyes-tell sys id v own p pool o reserve words views holds at small
 
 pub gives_tell : GivesTell
-gives_tell sys id v own p pool o reserve b sig pars old new content last lowest new_is words views holds at small = gives-tell sys id v own p pool o reserve b sig pars old new content last lowest new_is words views holds at small
+gives_tell sys id v own p pool o reserve b sig pars old new done fits content last lowest new_is words views holds at small = gives-tell sys id v own p pool o reserve b sig pars old new done fits content last lowest new_is words views holds at small

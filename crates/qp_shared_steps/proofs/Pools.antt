@@ -87,7 +87,7 @@ pool-eyes-tell sys id v own p pool o reserve words views holds at small =
     (u, same-word sys id v own p pool words views holds at u h.0, (refl, look-word sys words views holds id v u at (word.Pool p) pool h.1))
 
 pub gives-tell : GivesTell
-gives-tell sys id v own p pool o reserve b sig pars old new content last lowest new_is words views holds at small =
+gives-tell sys id v own p pool o reserve b sig pars old new done fits content last lowest new_is words views holds at small =
     let x = get_or words (pool_at p) 0 in
     dite (ℕ_discrete (get_or words (pool_at p) 0) old)
     (λ same.

@@ -59,7 +59,7 @@ nil-tells sys id v room a object is_new words views holds at small =
     go false e low = (looks sys words views holds id v at (queue_at a) low, refl)
 
 pub lays-tell : LaysTell
-lays-tell sys id v a j e object inside mine words views holds at small = (laid v a j e, lays sys words views holds id v at a object j e inside mine, refl)
+lays-tell sys id v a j e object inside mine first words views holds at small = (laid v a j e, lays sys words views holds id v at a object j e inside mine, refl)
 
 pub some-serve : (a : ℕ) (xs : List Serve) → IsTrue (list_any (is_serve a) xs) → 0 < many (is_serve a) xs
 some-serve a [] h = absurd (cc)

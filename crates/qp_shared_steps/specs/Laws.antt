@@ -1,5 +1,5 @@
 -- Each step of a lane keeps the rule of the event table and tells the lane what it found, whatever the other lanes are.
-use Rattle.std.specs.Prelude.{◌≡◌, List, ℕ, ◌+◌, ◌%◌, ◌^◌, ◌<◌, eqb, Bool, length, IsTrue}
+use Rattle.std.specs.Prelude.{◌≡◌, List, ℕ, ◌+◌, ◌%◌, ◌^◌, ◌<◌, ◌≤◌, eqb, Bool, length, IsTrue, IsFalse}
 use Rattle.std.specs.declared.option.Option.{Option}
 use Rattle.std.specs.Option.{unwrap_or}
 use prog.Atomic.{either}
@@ -16,6 +16,7 @@ use Rattle.qp_table.specs.declared.view.View.{View}
 use Rattle.qp_table.specs.QueueLaws.{cells_of, front_cell}
 use Rattle.qp_shared_views.specs.Words.{value_seen}
 use Rattle.qp_shared_views.specs.Lane.{has_content}
+use Rattle.qp_shared_steps.specs.Asked.{size_of, is_unfinished, is_begun, is_asked, IsOldest}
 use Rattle.qp_shared_steps.specs.Told.{ReadTold, EyePoolTold, IsLowest, GiveTold, DropTold, FirstTold, MoreTold, BackTold, FromTold, FillTold, LookTold, SeenTold, NilTold, free_in, EyeTold, TryTold, LayTold, SwapTold, FreeTold, EyeLastTold, LastTold}
 
 -- Blocks.
@@ -23,8 +24,9 @@ use Rattle.qp_shared_steps.specs.Told.{ReadTold, EyePoolTold, IsLowest, GiveTold
 abbrev pub DropsTell : Type 0
 DropsTell = (sys : System) (id : ℕ) (v : View) → HasRoom v → (o p b k : ℕ) → 0 < p → 0 < many (is_ref p b k) v.hands → Steps sys id v (block_at p b) (λ n. (n + 4294967295) % 18446744073709551616) (DropTold sys o p b k v)
 
+-- of a block whose give is finished: the beginning of its life was read, and its words are written
 abbrev pub FirstReferencesTell : Type 0
-FirstReferencesTell = (sys : System) (id : ℕ) (v : View) → HasRoom v → (o p b : ℕ) → 0 < many (is_spot p b) v.fresh → many (fills_of p b) v.fills ≡ 0 → Steps sys id v (block_at p b) (λ n. (n + 4294967297) % 18446744073709551616) (FirstTold sys o p b v)
+FirstReferencesTell = (sys : System) (id : ℕ) (v : View) → HasRoom v → (o p b : ℕ) → 0 < many (is_spot p b) v.fresh → 0 < many (is_begun p b) v.gives → many (fills_of p b) v.fills ≡ 0 → Steps sys id v (block_at p b) (λ n. (n + 4294967297) % 18446744073709551616) (FirstTold sys o p b v)
 
 abbrev pub MoreReferencesTell : Type 0
 MoreReferencesTell = (sys : System) (id : ℕ) (v : View) → HasRoom v → (o p b k : ℕ) → 0 < p → 0 < many (is_ref p b k) v.hands → Steps sys id v (block_at p b) (λ n. (n + 4294967297) % 18446744073709551616) (MoreTold sys o p b v)
@@ -35,8 +37,9 @@ BacksTell = (sys : System) (id : ℕ) (v : View) → HasRoom v → (o p b m k : 
 abbrev pub BeginningsTell : Type 0
 BeginningsTell = (sys : System) (id : ℕ) (v : View) (p b m : ℕ) → 0 < many (is_spot_at p b m) v.fresh → Steps sys id v (block_at p b) (λ n. n) (FromTold sys p b m v)
 
+-- a value that a give of the block asks for
 abbrev pub FillsTell : Type 0
-FillsTell = (sys : System) (id : ℕ) (v : View) (p b j x : ℕ) → 0 < many (is_spot p b) v.fresh → j < 9 → 0 < many (is_value p b j x) v.fills → Steps sys id v (event_at p b j) (λ n. x) (FillTold p b j x v)
+FillsTell = (sys : System) (id : ℕ) (v : View) (p b j x : ℕ) → 0 < many (is_spot p b) v.fresh → j < 9 → 0 < many (is_value p b j x) v.fills → IsTrue (list_any (is_asked p b j x) v.gives) → Steps sys id v (event_at p b j) (λ n. x) (FillTold p b j x v)
 
 -- of a reference in hand whose event was learned
 abbrev pub ReadsTell : Type 0
@@ -47,9 +50,9 @@ ReadsTell = (sys : System) (id : ℕ) (v : View) (p b k j : ℕ) → 0 < p → 0
 abbrev pub PoolEyesTell : Type 0
 PoolEyesTell = (sys : System) (id : ℕ) (v : View) → HasRoom v → (p : ℕ) → IsTrue (is_pool sys p) → (o : ℕ) (reserve : Option ℕ) → Steps sys id v (pool_at p) (λ n. n) (EyePoolTold sys p o reserve v)
 
--- where the map last seen has a block, the lowest of which is b
+-- where no give is unfinished, the pool's blocks have room for the event, and the map last seen has a block, the lowest of which is b
 abbrev pub GivesTell : Type 0
-GivesTell = (sys : System) (id : ℕ) (v : View) → HasRoom v → (p : ℕ) → IsTrue (is_pool sys p) → (o : ℕ) (reserve : Option ℕ) (b sig : ℕ) (pars : List ℕ) (old new : ℕ) → IsContent sys sig pars → value_seen sys (word.Pool p) v.seen ≡ old → IsLowest b (old % 4294967296) → new + 2 ^ b ≡ old + 4294967296
+GivesTell = (sys : System) (id : ℕ) (v : View) → HasRoom v → (p : ℕ) → IsTrue (is_pool sys p) → (o : ℕ) (reserve : Option ℕ) (b sig : ℕ) (pars : List ℕ) (old new : ℕ) → IsFalse (list_any (is_unfinished v.fills) v.gives) → length pars ≤ size_of sys p → IsContent sys sig pars → value_seen sys (word.Pool p) v.seen ≡ old → IsLowest b (old % 4294967296) → new + 2 ^ b ≡ old + 4294967296
     → Steps sys id v (pool_at p) (λ n. either (eqb n old) new n) (GiveTold sys p o reserve b sig pars v old new)
 
 -- Queues.
@@ -71,8 +74,9 @@ abbrev pub TriesTell : Type 0
 TriesTell = (sys : System) (id : ℕ) (v : View) → HasRoom v → (a : ℕ) → IsTrue (is_object sys a) → (o : ℕ) (margin : Option ℕ) (e : Entry) (old : ℕ) → InHand sys e v → value_seen sys (word.Queue a) v.seen ≡ old → unwrap_or margin 0 < free_in (ring_of sys a) old
     → Steps sys id v (queue_at a) (λ n. either (eqb n old) (old + 1) n) (TryTold sys a o margin e v old)
 
+-- of the lane's oldest claim on the queue
 abbrev pub LaysTell : Type 0
-LaysTell = (sys : System) (id : ℕ) (v : View) (a j : ℕ) (e : Entry) → IsTrue (is_object sys a) → j < cells_of sys a → 0 < many (is_place a j e) v.claims → Steps sys id v (cell_at a j) (λ n. code e) (LayTold a j e v)
+LaysTell = (sys : System) (id : ℕ) (v : View) (a j : ℕ) (e : Entry) → IsTrue (is_object sys a) → j < cells_of sys a → 0 < many (is_place a j e) v.claims → IsOldest a j e v.claims → Steps sys id v (cell_at a j) (λ n. code e) (LayTold a j e v)
 
 -- the front cell is known by the lane's own counts
 abbrev pub SwapsTell : Type 0

@@ -40,7 +40,7 @@ fn post_go<O: Ops, L: Ledger>(ops: &mut O, margin: Option<u8>, blank: Blank) -> 
     }
 }
 
-/// A post: its answer, and the notes given to object 1 since the lane rings.
+/// A post: its answer, and the notes that the lane gave to object 1.
 fn post_and_count(lane: &mut BellLane<'_>, margin: Option<u8>) -> Option<(u16, u32)>
     requires { IsLampLane lane.old }
     ensures { IsLampLane lane.new }

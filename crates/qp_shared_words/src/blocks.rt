@@ -1,6 +1,7 @@
 //! The steps on pools and blocks. Each is one atomic operation, under the rule of the event table.
 
-ghost use Rattle.std.specs.Prelude.{◌≡◌, ℕ, ◌+◌, ◌-◌, ◌%◌, ◌^◌, ◌<◌, ◌≤◌, IsTrue};
+ghost use Rattle.std.specs.Prelude.{◌≡◌, ℕ, ◌+◌, ◌-◌, ◌%◌, ◌^◌, ◌<◌, ◌≤◌, IsFalse, IsTrue, length};
+ghost use Rattle.std.specs.List.{list_any};
 ghost use Rattle.qp_model.specs.declared.words.Word.TheVariants as word;
 ghost use Rattle.qp_model.specs.WordLaw.{is_pool};
 ghost use Rattle.qp_table.specs.Counting.{many};
@@ -8,6 +9,7 @@ ghost use Rattle.qp_table.specs.Rule.{is_ref, is_spot, is_spot_at, fills_of, is_
 ghost use Rattle.qp_table.specs.After.{HasRoom, ref};
 ghost use Rattle.qp_shared_views.specs.Words.{value_seen};
 ghost use Rattle.qp_shared_views.specs.Lane.{has_content};
+ghost use Rattle.qp_shared_steps.specs.Asked.{size_of, is_unfinished, is_begun, is_asked};
 ghost use Rattle.qp_shared_steps.specs.Told.{HasPlace, DropTold, FirstTold, FromTold, FillTold, ReadTold, EyePoolTold, IsLowest, GiveTold};
 
 use crate::places::{block_at, event_at, pool_at};
@@ -55,13 +57,14 @@ pub fn drop_reference(
     add::<Brand>(words, seat, block_at(pool, block), UNIT - 1, about)
 }
 
-/// Makes the first reference to a fresh block, and answers its word as it was.
+/// Makes the first reference to a fresh block whose give is finished, and answers its word as it was.
 pub fn first_reference(words: &Words, seat: &mut Seat<(), View>, by: u8, pool: u8, block: u8) -> u64
     requires own { seat.old.table_id ≡ words.now.shared.table_id }
     requires wide { words.now.shared.table_id.words ≡ 21128 }
     requires place { HasPlace pool block }
     requires room { HasRoom seat.old.me.0 }
     requires fresh { 0 < many (is_spot pool block) seat.old.me.0.fresh }
+    requires begun { 0 < many (is_begun pool block) seat.old.me.0.gives }
     requires written { many (fills_of pool block) seat.old.me.0.fills ≡ 0 }
     ensures same { (seat.new.table_id ≡ seat.old.table_id) × (seat.new.id ≡ seat.old.id) }
     ensures told { FirstTold words.now.shared.key by pool block seat.old.me.0 result seat.new.me.0 }
@@ -92,7 +95,7 @@ pub fn read_beginning(words: &Words, seat: &mut Seat<(), View>, pool: u8, block:
     look::<Brand>(words, seat, block_at(pool, block), about)
 }
 
-/// Writes an event word of a fresh block.
+/// Writes an event word of a fresh block, which its give asks for.
 pub fn fill(words: &Words, seat: &mut Seat<(), View>, pool: u8, block: u8, place: u8, value: u64)
     requires own { seat.old.table_id ≡ words.now.shared.table_id }
     requires wide { words.now.shared.table_id.words ≡ 21128 }
@@ -100,6 +103,7 @@ pub fn fill(words: &Words, seat: &mut Seat<(), View>, pool: u8, block: u8, place
     requires low { place < 9 }
     requires fresh { 0 < many (is_spot pool block) seat.old.me.0.fresh }
     requires left { 0 < many (is_value pool block place value) seat.old.me.0.fills }
+    requires asked { IsTrue (list_any (is_asked pool block place value) seat.old.me.0.gives) }
     ensures same { (seat.new.table_id ≡ seat.old.table_id) × (seat.new.id ≡ seat.old.id) }
     ensures told { FillTold pool block place value seat.old.me.0 value seat.new.me.0 }
 {
@@ -168,7 +172,7 @@ pub fn look_at_pool(
 }
 
 /// Tries to give out the pool's lowest free block where the pool's word is `old`, as it was last seen, and answers the word that was found.
-/// The try is counted.
+/// No give of the seat is unfinished. The try is counted.
 pub fn try_give<L: Ledger>(
     words: &Words,
     seat: &mut Seat<(), View>,
@@ -185,6 +189,8 @@ pub fn try_give<L: Ledger>(
     requires small { (pool < 16) × (block < 32) × (old < 9223372036854775808) }
     requires pool { IsTrue (is_pool words.now.shared.key pool) }
     requires room { HasRoom seat.old.me.0 }
+    requires fits { length ev.now.pars.items ≤ size_of words.now.shared.key pool }
+    requires done { IsFalse (list_any (is_unfinished seat.old.me.0.fills) seat.old.me.0.gives) }
     requires content { IsContent words.now.shared.key ev.now.sig ev.now.pars.items }
     requires last { value_seen words.now.shared.key (word.Pool pool) seat.old.me.0.seen ≡ old }
     requires lowest { IsLowest block (old % 4294967296) }

@@ -12,6 +12,7 @@ ghost use Rattle.qp_table.specs.QueueLaws.{cells_of};
 ghost use Rattle.qp_shared_views.specs.Words.{value_seen};
 ghost use Rattle.qp_shared_words.specs.Fronts.{KnowsFront};
 ghost use Rattle.qp_shared_words.specs.Nils.{is_new};
+ghost use Rattle.qp_shared_steps.specs.Asked.{IsOldest};
 ghost use Rattle.qp_shared_steps.specs.Told.{LookTold, SeenTold, NilTold, EyeTold, free_in, TryTold, LayTold, SwapTold};
 
 use crate::places::{cell_at, queue_at};
@@ -140,7 +141,7 @@ pub fn claim<L: Ledger>(
     exchange::<Brand, About>(words, seat, queue_at(object), old, old + 1, about)
 }
 
-/// Writes the cell of a claim: the code of its entry.
+/// Writes the cell of the seat's oldest claim on the queue: the code of its entry.
 pub fn lay(
     words: &Words,
     seat: &mut Seat<(), View>,
@@ -157,6 +158,7 @@ pub fn lay(
     requires low { (object < 33) × (cell < 256) }
     requires inside { cell < cells_of words.now.shared.key object }
     requires claim { 0 < many (is_place object cell (record { pool = pool; block = block; name = name })) seat.old.me.0.claims }
+    requires oldest { IsOldest object cell (record { pool = pool; block = block; name = name }) seat.old.me.0.claims }
     requires value { value ≡ code (record { pool = pool; block = block; name = name }) }
     ensures same { (seat.new.table_id ≡ seat.old.table_id) × (seat.new.id ≡ seat.old.id) }
     ensures told { LayTold object cell (record { pool = pool; block = block; name = name }) seat.old.me.0 value seat.new.me.0 }

@@ -190,7 +190,7 @@ one-line : (sys : System) (j : Journal) (d : ObjectDef) → IsFollowable sys d �
 unfolding IsObjectLine
 one-line sys j d f x y (one, first, is) (two, second, are) =
     let ts : List Told = by_object (facts_of sys j) j d.priority in
-    is ∙ ap (λ text. codes "object " ++ d.name.bytes ++ 32 ∷ decimal (taken_in ts) ++ 32 ∷ text ++ codes "\n") (one-text sys d f ts one two first second) ∙ sym are
+    is ∙ ap (λ text. codes "object " ++ d.name ++ 32 ∷ decimal (taken_in ts) ++ 32 ∷ text ++ codes "\n") (one-text sys d f ts one two first second) ∙ sym are
 
 same-lines : (sys : System) (j : Journal) (ds : List ObjectDef) → AllByRecursion (IsFollowable sys) ds → (xs ys : List (List ℕ)) → AreObjectLines sys j ds xs → AreObjectLines sys j ds ys → xs ≡ ys
 unfolding AreObjectLines

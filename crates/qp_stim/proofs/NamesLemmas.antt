@@ -17,7 +17,7 @@ use Rattle.qp_stim.specs.Maps.{text_in}
 -- objects from place i on, the first of which was put in last
 pub text_in-object : (bytes : List ℕ) (m n : BTreeMap (Bor (List ℕ)) ℕ) (i : ℕ) (ds : List ObjectDef) (d : ObjectDef)
     → tree.UpdatesBy (λ x y. slice_cmp nat_cmp x.now y.now) (λ k. slice_cmp nat_cmp bytes k.now) m n (Some d.priority)
-    → i < length ds → d ≡ get_or ds i d → bytes ≡ d.name.bytes
+    → i < length ds → d ≡ get_or ds i d → bytes ≡ d.name
     → ((name : List ℕ) → text_in m name ≡ object_in (drop (i + 1) ds) name)
     → (name : List ℕ) → text_in n name ≡ object_in (drop i ds) name
 text_in-object bytes m n i ds d updates below is same known name =
@@ -30,7 +30,7 @@ text_in-object bytes m n i ds d updates below is same known name =
 
 pub text_in-signal : (bytes : List ℕ) (m n : BTreeMap (Bor (List ℕ)) Signal) (i k : ℕ) (ds : List SignalDef) (d : SignalDef)
     → tree.UpdatesBy (λ x y. slice_cmp nat_cmp x.now y.now) (λ k. slice_cmp nat_cmp bytes k.now) m n (Some (record { number = k; params = d.params; fixed = d.fixed }))
-    → i < length ds → d ≡ get_or ds i d → bytes ≡ d.name.bytes
+    → i < length ds → d ≡ get_or ds i d → bytes ≡ d.name
     → ((name : List ℕ) → text_in m name ≡ signal_in (k + 1) (drop (i + 1) ds) name)
     → (name : List ℕ) → text_in n name ≡ signal_in k (drop i ds) name
 text_in-signal bytes m n i k ds d updates below is same known name =

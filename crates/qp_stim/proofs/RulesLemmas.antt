@@ -1,5 +1,5 @@
 -- What is read fits the system.
-use Rattle.std.proofs.Common.{◌≡◌, ℕ, suc, ◌+◌, ◌-◌, ◌^◌, ◌<◌, ◌≤◌, Bool, true, false, cond, not, ◌&&◌, ◌||◌, ◌==◌, nat_lt, nat_le, List, [], ◌∷◌, ◌++◌, length, Some, None, Ok, Err, refl, sym, ◌∙◌, ap, subst, arith, is_some, length-append}
+use Rattle.std.proofs.Common.{◌≡◌, ℕ, suc, ◌+◌, ◌-◌, ◌^◌, ◌<◌, ◌≤◌, Bool, true, false, cond, not, ◌&&◌, ◌||◌, ◌==◌, nat_lt, nat_le, List, [], ◌∷◌, length, Some, None, Ok, Err, refl, sym, ◌∙◌, ap, subst, arith, is_some, length-append}
 use Rattle.std.specs.Prelude.{IfSome, IfOk, ⊤, slice_get}
 use Rattle.std.specs.declared.option.Option.{Option}
 use Rattle.std.specs.declared.result.Result.{Result}
@@ -33,7 +33,7 @@ few_by false s rest first others = others
 few_in : (n : ℕ) (ds : List SignalDef) → AllByRecursion (λ d. d.params ≤ 8) ds → (name : List ℕ) → IfSome (signal_in n ds name) (λ s. s.params ≤ 8)
 few_in n [] all name = tt
 few_in n (d ∷ ds) all name =
-    few_by (bytes_eq d.name.bytes name) (record { number = n; params = d.params; fixed = d.fixed }) (signal_in (n + 1) ds name) all.0 (few_in (n + 1) ds all.1 name)
+    few_by (bytes_eq d.name name) (record { number = n; params = d.params; fixed = d.fixed }) (signal_in (n + 1) ds name) all.0 (few_in (n + 1) ds all.1 name)
 
 -- a system whose signals have at most eight parameters
 pub names_of-few : (sys : System) → AllByRecursion (λ d. d.params ≤ 8) sys.signals → FewParams (names_of sys)
@@ -57,7 +57,7 @@ object_by to false d ds rest others h = any_later to d ds (others h)
 
 object_in-Some : (ds : List ObjectDef) (name : List ℕ) (to : ℕ) → object_in ds name ≡ Some to → Any (HasPriority to) ds
 object_in-Some [] name to h = cc
-object_in-Some (d ∷ ds) name to h = object_by to (bytes_eq d.name.bytes name) d ds (object_in ds name) (object_in-Some ds name to) h
+object_in-Some (d ∷ ds) name to h = object_by to (bytes_eq d.name name) d ds (object_in ds name) (object_in-Some ds name to) h
 
 -- a signal that was found is declared
 record Declared (n : ℕ) (ds : List SignalDef) (s : Signal) : Type 0 where
@@ -85,7 +85,7 @@ signal_by n s false d ds rest others h =
 signal_in-Some : (n : ℕ) (ds : List SignalDef) (name : List ℕ) (s : Signal) → signal_in n ds name ≡ Some s → Declared n ds s
 signal_in-Some n [] name s h = cc
 signal_in-Some n (d ∷ ds) name s h =
-    signal_by n s (bytes_eq d.name.bytes name) d ds (signal_in (n + 1) ds name) (signal_in-Some (n + 1) ds name s) h
+    signal_by n s (bytes_eq d.name name) d ds (signal_in (n + 1) ds name) (signal_in-Some (n + 1) ds name s) h
 
 chosen_Ok : {A : Type 0} (b : Bool) (code : ℕ) (r : Result A ℕ) (x : A) → cond b (Err code) r ≡ Ok x → (b ≡ false) × (r ≡ Ok x)
 chosen_Ok true code r x h = cc

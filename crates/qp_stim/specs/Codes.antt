@@ -11,7 +11,7 @@ use Rattle.qp_stim.specs.declared.verdict.Step.TheVariants.{Skips, Opens, Adds}
 use Rattle.qp_stim.specs.LineCodes.{GRAMMAR, UNDECLARED, RANGE, SOURCE, COUNT}
 use Rattle.qp_stim.specs.Parts.{is_skipped}
 use Rattle.qp_stim.specs.Names.{Dictionary}
-use Rattle.qp_stim.specs.Grammar.{Said, Event, said_of}
+use Rattle.qp_stim.specs.Grammar.{Said, said_of}
 use Rattle.qp_stim.specs.Grammar as line
 
 -- a number that stands and exceeds the limit

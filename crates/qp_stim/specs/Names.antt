@@ -25,12 +25,12 @@ pub record Dictionary : Type 0 where
 
 abbrev pub object_in : List ObjectDef → List ℕ → Option ℕ
 object_in [] name = None
-object_in (d ∷ ds) name = if bytes_eq d.name.bytes name then Some d.priority else object_in ds name
+object_in (d ∷ ds) name = if bytes_eq d.name name then Some d.priority else object_in ds name
 
 -- signals are numbered in the order in which they are declared, here from n on
 abbrev pub signal_in : ℕ → List SignalDef → List ℕ → Option Signal
 signal_in n [] name = None
-signal_in n (d ∷ ds) name = if bytes_eq d.name.bytes name then Some (record { number = n; params = d.params; fixed = d.fixed }) else signal_in (n + 1) ds name
+signal_in n (d ∷ ds) name = if bytes_eq d.name name then Some (record { number = n; params = d.params; fixed = d.fixed }) else signal_in (n + 1) ds name
 
 -- each signal has at most eight parameters
 abbrev pub FewParams : Dictionary → Type 0

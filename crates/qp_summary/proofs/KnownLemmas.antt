@@ -84,6 +84,6 @@ module _ (sys : System) (j : Journal) (other : j.kernel ≢ port) (o : ℕ) wher
 
 -- the line with its text
 pub known-line : (sys : System) (j : Journal) (d : ObjectDef) (text line : List ℕ) (taken : ℕ) → taken ≡ taken_in (by_object (facts_of sys j) j d.priority)
-    → IsStateText sys d (chart_at sys d.chart) (by_object (facts_of sys j) j d.priority) text → line ≡ codes "object " ++ d.name.bytes ++ 32 ∷ decimal taken ++ 32 ∷ text ++ codes "\n" → IsObjectLine sys j d line
+    → IsStateText sys d (chart_at sys d.chart) (by_object (facts_of sys j) j d.priority) text → line ≡ codes "object " ++ d.name ++ 32 ∷ decimal taken ++ 32 ∷ text ++ codes "\n" → IsObjectLine sys j d line
 unfolding IsObjectLine
-known-line sys j d text line taken same state is = (text, state, is ∙ ap (λ n. codes "object " ++ d.name.bytes ++ 32 ∷ decimal n ++ 32 ∷ text ++ codes "\n") same)
+known-line sys j d text line taken same state is = (text, state, is ∙ ap (λ n. codes "object " ++ d.name ++ 32 ∷ decimal n ++ 32 ∷ text ++ codes "\n") same)

@@ -112,7 +112,7 @@ front-next (y ∷ ys) (suc i) x lt is =
     rw e (ap (λ zs. y ∷ zs) (front-next ys i x (omega arith) is))
 
 pub object-line : (sys : System) (j : Journal) (d : ObjectDef) (text line : List ℕ) → IsStateText sys d (chart_at sys d.chart) (by_object (facts_of sys j) j d.priority) text
-    → line ≡ codes "object " ++ d.name.bytes ++ 32 ∷ decimal (taken_in (by_object (facts_of sys j) j d.priority)) ++ 32 ∷ text ++ codes "\n"
+    → line ≡ codes "object " ++ d.name ++ 32 ∷ decimal (taken_in (by_object (facts_of sys j) j d.priority)) ++ 32 ∷ text ++ codes "\n"
     → IsObjectLine sys j d line
 unfolding IsObjectLine
 object-line sys j d text line state is = (text, state, is)

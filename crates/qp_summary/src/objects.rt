@@ -35,6 +35,7 @@ fn push_values(text: &mut String, vars: &[(Name, i64)], values: &[i64]) -> Resul
         [(name, _), vars @ ..] => match values {
             [] => Ok(()),
             [value, values @ ..] => {
+                let name = name.as_str();
                 write!(text, " {name}={value}")?;
                 push_values(text, vars, values)
             }

@@ -12,12 +12,11 @@ use Rattle.qp_chart_names.specs.declared.place.Part.{Part}
 use Rattle.qp_chart_names.specs.Faults.{Fault, fault_if, first_in}
 use Rattle.qp_model.specs.declared.systems.PoolDef.{PoolDef}
 use Rattle.qp_model.specs.declared.systems.SignalDef.{SignalDef}
-use Rattle.qp_system_tables.specs.Raw.{Pool, Signal, Chart, Object}
+use Rattle.qp_chart_names.specs.declared.raw.RawChart.{RawChart}
+use Rattle.qp_system_tables.specs.declared.raw.RawObject.{RawObject}
 use Rattle.qp_system.specs.Between.{sizes_fault, signal_fault, chart_named, timers_of, placing_fault, first_behind, no_pool_fault, is_without_pool}
 use Rattle.qp_model.specs.Sound.{SizesAscend}
-use Rattle.qp_system_tables.specs.Views.{pool_view, signal_view}
 use Rattle.qp_model.proofs.NumberLemmas.{every}
-use Rattle.qp_model.proofs.ListLemmas.{list_any-map}
 use Rattle.qp_chart.proofs.ChartTree.{none-both}
 
 none-two : (o later : Option Fault) → option_or o later ≡ None → (o ≡ None) × (later ≡ None)
@@ -29,11 +28,6 @@ pub fault_if-None : (test : Bool) (code : ℕ) (path : List Part) → fault_if t
 fault_if-None true code path h = absurd (none-some _ (sym h))
 fault_if-None false code path h = refl
 
--- what holds of the things that are seen holds of what they are seen of
-pub every-unmap : {X A : Type 0} (P : A → Type 0) (view : X → A) (xs : List X) → AllByRecursion P (map view xs) → AllByRecursion (λ x. P (view x)) xs
-every-unmap P view [] h = tt
-every-unmap P view (x ∷ xs) h = (h.0, every-unmap P view xs h.1)
-
 -- what each thing has that has no fault behind those before it
 each-behind : {A : Type 0} (f : List A → ℕ → A → Option Fault) (P : A → Type 0) → ((earlier : List A) (k : ℕ) (x : A) → f earlier k x ≡ None → P x)
     → (earlier : List A) (k : ℕ) (xs : List A) → first_behind f earlier k xs ≡ None → AllByRecursion P xs
@@ -44,53 +38,53 @@ each-behind f P step earlier k (x ∷ xs) h =
     (step earlier k x two.0, each-behind f P step (earlier ++ x ∷ []) (k + 1) xs two.1)
 
 -- a static signal has no parameters
-signal-bare : (earlier : List Signal) (k : ℕ) (s : Signal) → signal_fault earlier k s ≡ None → (s.fixed && not (s.params == 0)) ≡ false
+signal-bare : (earlier : List SignalDef) (k : ℕ) (s : SignalDef) → signal_fault earlier k s ≡ None → (s.fixed && not (s.params == 0)) ≡ false
 unfolding signal_fault
 signal-bare earlier k s h = fault_if-None _ _ _ (none-both _ _ (none-both _ _ h).1).0
 
-pub signals-bare : (signals : List Signal) → first_behind signal_fault [] 1 signals ≡ None → AllByRecursion (λ s. (s.fixed && not (s.params == 0)) ≡ false) signals
+pub signals-bare : (signals : List SignalDef) → first_behind signal_fault [] 1 signals ≡ None → AllByRecursion (λ s. (s.fixed && not (s.params == 0)) ≡ false) signals
 signals-bare signals h = each-behind signal_fault (λ s. (s.fixed && not (s.params == 0)) ≡ false) signal-bare [] 1 signals h
 
-module _ (charts : List Chart) where
+module _ (charts : List RawChart) where
   -- an object's chart is declared, and its threshold isn't below its priority
-  pub record IsPlaced (o : Object) : Type 0 where
+  pub record IsPlaced (o : RawObject) : Type 0 where
     pub chart : is_none (chart_named charts o.chart) ≡ false
     pub threshold : nat_lt o.threshold o.priority ≡ false
 
-  placed : (earlier : List Object) (k : ℕ) (o : Object) → placing_fault charts earlier k o ≡ None → IsPlaced o
+  placed : (earlier : List RawObject) (k : ℕ) (o : RawObject) → placing_fault charts earlier k o ≡ None → IsPlaced o
   unfolding placing_fault
   placed earlier k o h =
       let a = none-both _ _ h in
       let d = none-both _ _ (none-both _ _ (none-both _ _ a.1).1).1 in
       record { chart = fault_if-None _ _ _ a.0; threshold = fault_if-None _ _ _ d.0 }
 
-  pub each-placed : (objects : List Object) → first_behind (placing_fault charts) [] 1 objects ≡ None → AllByRecursion IsPlaced objects
+  pub each-placed : (objects : List RawObject) → first_behind (placing_fault charts) [] 1 objects ≡ None → AllByRecursion IsPlaced objects
   each-placed objects h = each-behind (placing_fault charts) IsPlaced placed [] 1 objects h
 
   -- no object before it has its priority
-  once : (earlier : List Object) (k : ℕ) (o : Object) → placing_fault charts earlier k o ≡ None → list_any (λ p. p.priority == o.priority) earlier ≡ false
+  once : (earlier : List RawObject) (k : ℕ) (o : RawObject) → placing_fault charts earlier k o ≡ None → list_any (λ p. p.priority == o.priority) earlier ≡ false
   unfolding placing_fault
   once earlier k o h = fault_if-None _ _ _ (none-both _ _ (none-both _ _ (none-both _ _ h).1).1).0
 
   -- there are few time events up to it
-  few : (earlier : List Object) (k : ℕ) (o : Object) → placing_fault charts earlier k o ≡ None → sum_by (timers_of charts) earlier + timers_of charts o ≤ 64
+  few : (earlier : List RawObject) (k : ℕ) (o : RawObject) → placing_fault charts earlier k o ≡ None → sum_by (timers_of charts) earlier + timers_of charts o ≤ 64
   unfolding placing_fault
   few earlier k o h =
       let d = none-both _ _ (none-both _ _ (none-both _ _ (none-both _ _ h).1).1).1 in
       let test : nat_lt 64 (sum_by (timers_of charts) earlier + timers_of charts o) ≡ false = fault_if-None _ _ _ (none-both _ _ d.1).0 in
       grind (arith, nat_tests, test)
 
-  differs-more : (earlier : List Object) (x : Object) (xs : List Object) → AllByRecursion (λ o. list_any (λ p. p.priority == o.priority) (earlier ++ x ∷ []) ≡ false) xs
+  differs-more : (earlier : List RawObject) (x : RawObject) (xs : List RawObject) → AllByRecursion (λ o. list_any (λ p. p.priority == o.priority) (earlier ++ x ∷ []) ≡ false) xs
       → AllByRecursion (λ o. list_any (λ p. p.priority == o.priority) earlier ≡ false) xs × AllByRecursion (λ n. (x.priority == n) ≡ false) (map (λ o. o.priority) xs)
   differs-more earlier x [] h = (tt, tt)
   differs-more earlier x (o ∷ os) h =
       let rest = differs-more earlier x os h.1 in
-      let joined : (list_any (λ (p : Object). p.priority == o.priority) earlier || list_any (λ (p : Object). p.priority == o.priority) (x ∷ [])) ≡ false = sym (list_any-append (λ (p : Object). p.priority == o.priority) earlier (x ∷ [])) ∙ h.0 in
+      let joined : (list_any (λ (p : RawObject). p.priority == o.priority) earlier || list_any (λ (p : RawObject). p.priority == o.priority) (x ∷ [])) ≡ false = sym (list_any-append (λ (p : RawObject). p.priority == o.priority) earlier (x ∷ [])) ∙ h.0 in
       let two = or_parts _ _ joined in
       let one = or_parts _ _ two.1 in
       ((two.0, rest.0), (one.0, rest.1))
 
-  distinct-behind : (earlier : List Object) (k : ℕ) (xs : List Object) → first_behind (placing_fault charts) earlier k xs ≡ None
+  distinct-behind : (earlier : List RawObject) (k : ℕ) (xs : List RawObject) → first_behind (placing_fault charts) earlier k xs ≡ None
       → AllByRecursion (λ o. list_any (λ p. p.priority == o.priority) earlier ≡ false) xs × IsDistinct (λ m n. m == n) (map (λ o. o.priority) xs)
   unfolding first_behind IsDistinct
   distinct-behind earlier k [] h = (tt, tt)
@@ -101,10 +95,10 @@ module _ (charts : List Chart) where
       ((once earlier k x two.0, more.0), (more.1, rest.1))
 
   -- priorities differ
-  pub priorities-distinct : (objects : List Object) → first_behind (placing_fault charts) [] 1 objects ≡ None → IsDistinct (λ m n. m == n) (map (λ o. o.priority) objects)
+  pub priorities-distinct : (objects : List RawObject) → first_behind (placing_fault charts) [] 1 objects ≡ None → IsDistinct (λ m n. m == n) (map (λ o. o.priority) objects)
   priorities-distinct objects h = (distinct-behind [] 1 objects h).1
 
-  few-behind : (earlier : List Object) (k : ℕ) (xs : List Object) → sum_by (timers_of charts) earlier ≤ 64 → first_behind (placing_fault charts) earlier k xs ≡ None
+  few-behind : (earlier : List RawObject) (k : ℕ) (xs : List RawObject) → sum_by (timers_of charts) earlier ≤ 64 → first_behind (placing_fault charts) earlier k xs ≡ None
       → sum_by (timers_of charts) earlier + sum_by (timers_of charts) xs ≤ 64
   unfolding first_behind
   few-behind earlier k [] so_far h = omega arith
@@ -118,7 +112,7 @@ module _ (charts : List Chart) where
       omega (arith, sum, one, both, rest)
 
   -- all objects have few time events in all
-  pub timers-few : (objects : List Object) → first_behind (placing_fault charts) [] 1 objects ≡ None → sum_by (timers_of charts) objects ≤ 64
+  pub timers-few : (objects : List RawObject) → first_behind (placing_fault charts) [] 1 objects ≡ None → sum_by (timers_of charts) objects ≤ 64
   timers-few objects h = let all = few-behind [] 1 objects (omega arith) h in omega (arith, all)
 
 -- sizes above one are above those below it
@@ -126,18 +120,18 @@ above-more : (a b : ℕ) (ps : List PoolDef) → a < b → AllByRecursion (λ p.
 above-more a b [] h all = tt
 above-more a b (p ∷ ps) h all = (omega (arith, all.0), above-more a b ps h all.1)
 
-sizes-above : (k b : ℕ) (ps : List PoolDef) → sizes_fault k (Some b) (map pool_view ps) ≡ None → AllByRecursion (λ p. b < p.size) ps × SizesAscend ps
+sizes-above : (k b : ℕ) (ps : List PoolDef) → sizes_fault k (Some b) ps ≡ None → AllByRecursion (λ p. b < p.size) ps × SizesAscend ps
 unfolding sizes_fault
 sizes-above k b [] h = (tt, tt)
 sizes-above k b (p ∷ ps) h =
-    let two = none-two _ (sizes_fault (k + 1) (Some p.size) (map pool_view ps)) h in
+    let two = none-two _ (sizes_fault (k + 1) (Some p.size) ps) h in
     let test : nat_le p.size b ≡ false = fault_if-None _ _ _ two.0 in
     let high : b < p.size = grind (arith, nat_tests, test) in
     let rest = sizes-above (k + 1) p.size ps two.1 in
     ((high, above-more b p.size ps high rest.0), rest)
 
 -- the sizes of pools ascend
-pub sizes-ascend : (pools : List PoolDef) → sizes_fault 1 None (map pool_view pools) ≡ None → SizesAscend pools
+pub sizes-ascend : (pools : List PoolDef) → sizes_fault 1 None pools ≡ None → SizesAscend pools
 unfolding sizes_fault
 sizes-ascend [] h = tt
 sizes-ascend (p ∷ ps) h = sizes-above (1 + 1) p.size ps h
@@ -155,14 +149,13 @@ not-both a true h free = refl
 not-both true false h free = cc
 not-both false false h free = cc
 
-pooled : (pools : List PoolDef) (s : SignalDef) → is_without_pool (map pool_view pools) (signal_view s) ≡ false → s.fixed ≡ false → list_any (λ p. nat_le s.params p.size) pools ≡ true
-pooled pools s h free = sym (list_any-map (λ (p : Pool). nat_le s.params p.size) pool_view pools) ∙ not-both _ _ h free
+pooled : (pools : List PoolDef) (s : SignalDef) → is_without_pool pools s ≡ false → s.fixed ≡ false → list_any (λ p. nat_le s.params p.size) pools ≡ true
+pooled pools s h free = not-both _ _ h free
 
 -- a signal that isn't static has a pool
-pub signals-pooled : (pools : List PoolDef) (signals : List SignalDef) → no_pool_fault (map pool_view pools) (map signal_view signals) ≡ None
+pub signals-pooled : (pools : List PoolDef) (signals : List SignalDef) → no_pool_fault pools signals ≡ None
     → AllByRecursion (λ s. s.fixed ≡ false → list_any (λ p. nat_le s.params p.size) pools ≡ true) signals
 unfolding no_pool_fault
 signals-pooled pools signals h =
-    every (λ s. is_without_pool (map pool_view pools) (signal_view s) ≡ false) (λ s. s.fixed ≡ false → list_any (λ p. nat_le s.params p.size) pools ≡ true) (pooled pools) signals
-    (every-unmap (λ s. is_without_pool (map pool_view pools) s ≡ false) signal_view signals
-    (each-in _ (λ s. is_without_pool (map pool_view pools) s ≡ false) (λ k s none. fault_if-None _ _ _ none) 1 (map signal_view signals) h))
+    every (λ s. is_without_pool pools s ≡ false) (λ s. s.fixed ≡ false → list_any (λ p. nat_le s.params p.size) pools ≡ true) (pooled pools) signals
+    (each-in _ (λ s. is_without_pool pools s ≡ false) (λ k s none. fault_if-None _ _ _ none) 1 signals h)

@@ -9,46 +9,43 @@ use Rattle.qp_chart_names.specs.declared.place.Path.{Path}
 use Rattle.qp_chart_names.specs.Faults.{Fault}
 use Rattle.qp_system_tables.specs.declared.fault.SystemFault.TheVariants.{Memory, NotToml, At}
 use Rattle.qp_system_tables.specs.declared.raw.RawSystem.{RawSystem}
-use Rattle.qp_system_tables.specs.Raw.{Raw}
 use Rattle.qp_system_tables.specs.Tables.{raw_of}
 use Rattle.qp_system_tables.specs.Document.{TreeGives}
 use Rattle.qp_system.specs.Later.{later_fault}
 use Rattle.qp_system.specs.SystemOf.{HasFault}
 use Rattle.qp_system.specs.SystemLaw.{SystemsAreSound, SystemsHaveNoFault, RefusalsAreOne}
-use Rattle.qp_system_tables.specs.Views.{raw_view}
-use Rattle.qp_system.proofs.SeenLemmas.{later-alike}
 use Rattle.qp_system.proofs.SoundLemmas.{system-is_sound}
 
 -- bytes are one tree, which is read one way
-pub tree-one : (bytes : List ℕ) (r s : Result Raw Fault) → TreeGives bytes r → TreeGives bytes s → r ≡ s
+pub tree-one : (bytes : List ℕ) (r s : Result RawSystem Fault) → TreeGives bytes r → TreeGives bytes s → r ≡ s
 unfolding TreeGives
 tree-one bytes r s h k =
     let same : h.0 ≡ k.0 = same_Some h.0 k.0 (sym h.2 ∙ k.2) in
     sym h.3 ∙ ap raw_of same ∙ k.3
 
--- the tables of the same bytes look alike
-pub raws-alike : (bytes : List ℕ) (a b : RawSystem) → TreeGives bytes (Ok (raw_view a)) → TreeGives bytes (Ok (raw_view b)) → raw_view a ≡ raw_view b
-raws-alike bytes a b h k = let same = tree-one bytes (Ok (raw_view a)) (Ok (raw_view b)) h k in cc
+-- bytes have one set of tables
+pub raws-one : (bytes : List ℕ) (a b : RawSystem) → TreeGives bytes (Ok a) → TreeGives bytes (Ok b) → a ≡ b
+raws-one bytes a b h k = let same = tree-one bytes (Ok a) (Ok b) h k in cc
 
-no-toml : (bytes : List ℕ) (r : Result Raw Fault) → TreeGives bytes r → (IsUtf8 bytes → parse_document bytes ≡ None) → ⊥
+no-toml : (bytes : List ℕ) (r : Result RawSystem Fault) → TreeGives bytes r → (IsUtf8 bytes → parse_document bytes ≡ None) → ⊥
 unfolding TreeGives
 no-toml bytes r h none = none-some h.0 (sym (none h.1) ∙ h.2)
 
 -- bytes that are a tree without a fault have none
-no-fault : (bytes : List ℕ) (raw : RawSystem) (f : Fault) → TreeGives bytes (Ok (raw_view raw)) → later_fault raw ≡ None → HasFault bytes f → ⊥
+no-fault : (bytes : List ℕ) (raw : RawSystem) (f : Fault) → TreeGives bytes (Ok raw) → later_fault raw ≡ None → HasFault bytes f → ⊥
 unfolding HasFault
-no-fault bytes raw f h none (inl k) = let same = tree-one bytes (Ok (raw_view raw)) (Err f) h k in cc
+no-fault bytes raw f h none (inl k) = let same = tree-one bytes (Ok raw) (Err f) h k in cc
 no-fault bytes raw f h none (inr k) =
-    none-some f (sym none ∙ later-alike raw k.0 (raws-alike bytes raw k.0 h k.1) ∙ k.2)
+    none-some f (sym none ∙ ap later_fault (raws-one bytes raw k.0 h k.1) ∙ k.2)
 
 -- the first fault of bytes is one
 fault-one : (bytes : List ℕ) (f g : Fault) → HasFault bytes f → HasFault bytes g → f ≡ g
 unfolding HasFault
 fault-one bytes f g (inl h) (inl k) = let same = tree-one bytes (Err f) (Err g) h k in cc
-fault-one bytes f g (inl h) (inr k) = let same = tree-one bytes (Err f) (Ok (raw_view k.0)) h k.1 in cc
-fault-one bytes f g (inr h) (inl k) = let same = tree-one bytes (Ok (raw_view h.0)) (Err g) h.1 k in cc
+fault-one bytes f g (inl h) (inr k) = let same = tree-one bytes (Err f) (Ok k.0) h k.1 in cc
+fault-one bytes f g (inr h) (inl k) = let same = tree-one bytes (Ok h.0) (Err g) h.1 k in cc
 fault-one bytes f g (inr h) (inr k) =
-    let same : Some f ≡ Some g = sym h.2 ∙ later-alike h.0 k.0 (raws-alike bytes h.0 k.0 h.1 k.1) ∙ k.2 in cc
+    let same : Some f ≡ Some g = sym h.2 ∙ ap later_fault (raws-one bytes h.0 k.0 h.1 k.1) ∙ k.2 in cc
 
 path-same : (p q : Path) → p.0.items ≡ q.0.items → p ≡ q
 path-same p q e = let make : List Part → Path = λ parts. record { 0 = record { items = parts } } in ap make e

@@ -10,8 +10,7 @@ pub mod TimerLemmas
 pub mod SoundChartLemmas
 pub mod SoundLemmas
 pub mod SystemLemmas
-pub mod SeenLemmas
-pub mod DeedLemmas
 pub mod LawLemmas
 pub mod OnceLemmas
-pub mod SameLemmas
+pub mod OneChart
+pub mod SystemOne

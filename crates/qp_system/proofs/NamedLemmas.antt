@@ -1,5 +1,5 @@
 -- Charts by their names and numbers.
-use Rattle.std.proofs.Common.{◌≡◌, ℕ, suc, ◌+◌, ◌-◌, ◌≤◌, Bool, true, false, not, nat_lt, cond, List, [], ◌∷◌, length, map, Some, None, refl, sym, ◌∙◌, ap, arith}
+use Rattle.std.proofs.Common.{◌≡◌, ℕ, suc, ◌+◌, ◌-◌, ◌≤◌, Bool, true, false, not, nat_lt, cond, List, [], ◌∷◌, length, Some, None, refl, sym, ◌∙◌, ap, arith}
 use Rattle.std.specs.declared.option.Option.{Option}
 use Rattle.std.specs.Option.{is_none, option_map}
 use Rattle.std.specs.List.{find, position_or_len, slice_get}
@@ -9,16 +9,13 @@ use Rattle.std.proofs.lemmas.Option.{none-some}
 use Rattle.qp_chart_names.specs.Numbering.{number_in}
 use Rattle.qp_chart_names.specs.declared.raw.RawChart.{RawChart}
 use Rattle.qp_chart_names.proofs.NumberingLemmas.{number_in-above, bytes_eq-sym}
-use Rattle.qp_system.specs.Between.{chart_named}
 use Rattle.qp_system.specs.SystemOf.{chart_names}
 use Rattle.qp_system.specs.Placed.{chart_place}
-use Rattle.qp_system_tables.specs.Views.{chart_view}
-use Rattle.qp_system.proofs.PlacingLemmas.{find-map}
 use Rattle.qp_model.proofs.NumberLemmas.{one-more}
 
 -- the first chart of a name
 abbrev pub first_named : List RawChart → List ℕ → Option RawChart
-first_named charts name = find (λ c. bytes_eq c.name.bytes name) charts
+first_named charts name = find (λ c. bytes_eq c.name name) charts
 
 -- the chart of this number, where the first has number k, is the first of its name
 abbrev pub IsNamed : ℕ → List RawChart → List ℕ → ℕ → Type 0
@@ -28,22 +25,22 @@ IsNamed k charts name n = (c : RawChart) × (slice_get charts (n - k) ≡ Some c
 pub number-names : (k : ℕ) (charts : List RawChart) (name : List ℕ) (n : ℕ) → number_in k (chart_names charts) name ≡ Some n → IsNamed k charts name n
 unfolding number_in
 number-names k [] name n h = absurd (none-some n h)
-number-names k (c ∷ cs) name n h = by (λ e. number-names (k + 1) cs name n e) (bytes_eq name c.name.bytes) refl h
+number-names k (c ∷ cs) name n h = by (λ e. number-names (k + 1) cs name n e) (bytes_eq name c.name) refl h
   where
     after : k + 1 ≤ n → n - k ≡ suc (n - (k + 1))
     after high = omega (arith, high)
 
     by : (number_in (k + 1) (chart_names cs) name ≡ Some n → IsNamed (k + 1) cs name n)
-        → (b : Bool) → bytes_eq name c.name.bytes ≡ b → cond {A = Option ℕ} b (Some k) (number_in (k + 1) (chart_names cs) name) ≡ Some n → IsNamed k (c ∷ cs) name n
+        → (b : Bool) → bytes_eq name c.name ≡ b → cond {A = Option ℕ} b (Some k) (number_in (k + 1) (chart_names cs) name) ≡ Some n → IsNamed k (c ∷ cs) name n
     by later true test e =
         let here : k ≡ n = cc in
         let start : n - k ≡ 0 = omega (arith, here) in
-        let found : bytes_eq c.name.bytes name ≡ true = bytes_eq-sym c.name.bytes name ∙ test in
+        let found : bytes_eq c.name name ≡ true = bytes_eq-sym c.name name ∙ test in
         (c, rw start refl, rw found refl)
     by later false test e =
         let rest = later e in
         let high = number_in-above (k + 1) (chart_names cs) name n e in
-        let passed : bytes_eq c.name.bytes name ≡ false = bytes_eq-sym c.name.bytes name ∙ test in
+        let passed : bytes_eq c.name name ≡ false = bytes_eq-sym c.name name ∙ test in
         (rest.0, rw (after high) rest.1, rw passed rest.2)
 
 none-later : {A B : Type 0} (b : Bool) (x : A) (y : B) (l : Option A) (r : Option B) → is_none l ≡ is_none r → is_none (cond {A = Option A} b (Some x) l) ≡ is_none (cond {A = Option B} b (Some y) r)
@@ -55,24 +52,20 @@ pub number-none : (k : ℕ) (charts : List RawChart) (name : List ℕ) → is_no
 unfolding number_in
 number-none k [] name = refl
 number-none k (c ∷ cs) name =
-    rw (bytes_eq-sym c.name.bytes name) (none-later (bytes_eq name c.name.bytes) k c (number_in (k + 1) (chart_names cs) name) (first_named cs name) (number-none (k + 1) cs name))
-
--- the chart of a name, as the file's tables have it
-pub named-view : (charts : List RawChart) (name : List ℕ) → chart_named (map chart_view charts) name ≡ option_map chart_view (first_named charts name)
-named-view charts name = find-map (λ c. bytes_eq c.name name) chart_view charts
+    rw (bytes_eq-sym c.name name) (none-later (bytes_eq name c.name) k c (number_in (k + 1) (chart_names cs) name) (first_named cs name) (number-none (k + 1) cs name))
 
 none-less : (n : ℕ) → nat_lt 0 (suc n) ≡ true
 none-less n = grind (arith, nat_tests)
 
 -- the place of the first chart of a name, or how many there are
 abbrev passed_by : List RawChart → List ℕ → ℕ
-passed_by charts name = position_or_len (λ c. bytes_eq c.name.bytes name) charts
+passed_by charts name = position_or_len (λ c. bytes_eq c.name name) charts
 
 -- the number of a chart's name, by its place
 pub number-position : (k : ℕ) (charts : List RawChart) (name : List ℕ) → number_in k (chart_names charts) name ≡ option_map (λ i. k + i) (chart_place charts name)
 unfolding number_in
 number-position k [] name = refl
-number-position k (c ∷ cs) name = rw (bytes_eq-sym name c.name.bytes) (by (number-position (k + 1) cs name) (bytes_eq c.name.bytes name))
+number-position k (c ∷ cs) name = rw (bytes_eq-sym name c.name) (by (number-position (k + 1) cs name) (bytes_eq c.name name))
   where
     shifted : (b : Bool) → option_map (λ i. (k + 1) + i) (cond {A = Option ℕ} b (Some (passed_by cs name)) None) ≡ option_map (λ i. k + i) (cond {A = Option ℕ} b (Some (1 + passed_by cs name)) None)
     shifted true = let same : (k + 1) + passed_by cs name ≡ k + (1 + passed_by cs name) = omega arith in ap (λ n. Some n) same

@@ -1,24 +1,8 @@
 -- Two lists side by side.
-use Rattle.std.proofs.Common.{◌≡◌, ℕ, zero, suc, List, [], ◌∷◌, map, Some, refl, subst}
+use Rattle.std.proofs.Common.{◌≡◌, ℕ, zero, suc, List, [], ◌∷◌, Some, refl, subst}
 use Rattle.std.specs.List.{AllByRecursion, slice_get}
 use Rattle.std.proofs.lemmas.Option.{none-some}
 use Rattle.qp_chart_names.specs.Pairs.{Corresponds}
-
--- two lists that look alike, each beside its own
-pub pairs-alike : {A B C D : Type 0} (R S : A → B → Type 0) (view : A → C) (told said : B → D) → ((x y : A) (u v : B) → R x u → S y v → view x ≡ view y → told u ≡ said v)
-    → (xs ys : List A) (us vs : List B) → Corresponds R xs us → Corresponds S ys vs → map view xs ≡ map view ys → map told us ≡ map said vs
-unfolding Corresponds
-pairs-alike R S view told said step [] [] [] [] p q e = refl
-pairs-alike R S view told said step [] [] [] (v ∷ vs) p q e = absurd q
-pairs-alike R S view told said step [] [] (u ∷ us) vs p q e = absurd p
-pairs-alike R S view told said step [] (y ∷ ys) us vs p q e = cc
-pairs-alike R S view told said step (x ∷ xs) [] us vs p q e = cc
-pairs-alike R S view told said step (x ∷ xs) (y ∷ ys) [] vs p q e = absurd p
-pairs-alike R S view told said step (x ∷ xs) (y ∷ ys) (u ∷ us) [] p q e = absurd q
-pairs-alike R S view told said step (x ∷ xs) (y ∷ ys) (u ∷ us) (v ∷ vs) p q e =
-    let head : view x ≡ view y = cc in
-    let tail : map view xs ≡ map view ys = cc in
-    rw (step x y u v p.0 q.0 head, pairs-alike R S view told said step xs ys us vs p.1 q.1 tail) refl
 
 -- what holds of the first of each pair is carried to the second
 pub Corresponds-every : {A B : Type 0} (R : A → B → Type 0) (P : A → Type 0) (Q : B → Type 0) → ((x : A) (y : B) → R x y → P x → Q y)

@@ -19,7 +19,6 @@ use Rattle.qp_chart_names.specs.Codes.{RANGE}
 use Rattle.qp_chart_names.proofs.FaultLemmas.{none-next, none-last}
 use Rattle.qp_model.specs.declared.systems.PoolDef.{PoolDef}
 use Rattle.qp_system.specs.Between.{first_behind, sizes_fault, is_not_above}
-use Rattle.qp_system_tables.specs.Views.{pool_view}
 use Rattle.qp_system.specs.Passes.{IsFirst, Passes}
 use Rattle.qp_system_tables.specs.Refused.{fault_at}
 
@@ -49,60 +48,59 @@ fault_if-holds test code path e holds h = rw (h, holds) refl
 pub fault_if-fails : (test : Bool) (code : ℕ) (path : List Part) → test ≡ false → fault_if test code path ≡ None
 fault_if-fails test code path fails = rw fails refl
 
-module _ {X A : Type 0} (f : List A → ℕ → A → Option Fault) (view : X → A) (xs : List X) where
+module _ {A : Type 0} (f : List A → ℕ → A → Option Fault) (xs : List A) where
   -- what is left from the i-th thing on
   abbrev pub rest : ℕ → Option Fault
-  rest i = first_behind f (map view (take i xs)) (i + 1) (map view (drop i xs))
+  rest i = first_behind f (take i xs) (i + 1) (drop i xs)
 
-  pub rest-next : (i : ℕ) (x : X) → i < length xs → x ≡ get_or xs i x → rest i ≡ option_or (f (map view (take i xs)) (i + 1) (view x)) (rest (i + 1))
+  pub rest-next : (i : ℕ) (x : A) → i < length xs → x ≡ get_or xs i x → rest i ≡ option_or (f (take i xs) (i + 1) x) (rest (i + 1))
   unfolding first_behind
   rest-next i x inside is =
       let item : drop i xs ≡ x ∷ drop (i + 1) xs = drop_more xs i x inside ∙ ap (λ y. y ∷ drop (i + 1) xs) (sym is) in
       let front : take (i + 1) xs ≡ take i xs ++ x ∷ [] = take_more xs i x inside ∙ ap (λ z. take i xs ++ z ∷ []) (sym is) in
-      let fronts : map view (take (i + 1) xs) ≡ map view (take i xs) ++ view x ∷ [] = ap (map view) front ∙ map-append view (take i xs) (x ∷ []) in
-      rw (item, fronts) refl
+      rw (item, front) refl
 
   -- the things before the i-th have no fault
   abbrev pub Clear : ℕ → Type 0
-  Clear i = first_behind f [] 1 (map view xs) ≡ rest i
+  Clear i = first_behind f [] 1 xs ≡ rest i
 
   pub clear-none : Clear 0
   clear-none = refl
 
-  pub clear-one : (i : ℕ) (x : X) → Clear i → i < length xs → x ≡ get_or xs i x → f (map view (take i xs)) (i + 1) (view x) ≡ None → Clear (i + 1)
+  pub clear-one : (i : ℕ) (x : A) → Clear i → i < length xs → x ≡ get_or xs i x → f (take i xs) (i + 1) x ≡ None → Clear (i + 1)
   clear-one i x clear inside is none = clear ∙ rest-next i x inside is ∙ ap (λ o. option_or o (rest (i + 1))) none
 
-  pub first-at : (i : ℕ) (x : X) (e : SystemFault) → Clear i → i < length xs → x ≡ get_or xs i x → IsFirst (f (map view (take i xs)) (i + 1) (view x)) e
-      → IsFirst (first_behind f [] 1 (map view xs)) e
+  pub first-at : (i : ℕ) (x : A) (e : SystemFault) → Clear i → i < length xs → x ≡ get_or xs i x → IsFirst (f (take i xs) (i + 1) x) e
+      → IsFirst (first_behind f [] 1 xs) e
   first-at i x e clear inside is h = rw (clear ∙ rest-next i x inside is) (first-here _ (rest (i + 1)) e h)
 
-  pub clear-all : (i : ℕ) → Clear i → length xs ≤ i → first_behind f [] 1 (map view xs) ≡ None
+  pub clear-all : (i : ℕ) → Clear i → length xs ≤ i → first_behind f [] 1 xs ≡ None
   unfolding first_behind
-  clear-all i clear end = clear ∙ ap (λ (l : List X). first_behind f (map view (take i xs)) (i + 1) (map view l)) (drop_all i xs end)
+  clear-all i clear end = clear ∙ ap (λ (l : List A). first_behind f (take i xs) (i + 1) l) (drop_all i xs end)
 
 module _ (xs : List PoolDef) where
   sizes-next : (i : ℕ) (before : Option ℕ) (d : PoolDef) → i < length xs
-      → sizes_fault (i + 1) before (map pool_view (drop i xs))
-      ≡ option_or (fault_if (is_not_above before (get_or xs i d).size) RANGE (Key POOL ∷ Pos (i + 1) ∷ Key SIZE ∷ [])) (sizes_fault ((i + 1) + 1) (Some (get_or xs i d).size) (map pool_view (drop (i + 1) xs)))
+      → sizes_fault (i + 1) before (drop i xs)
+      ≡ option_or (fault_if (is_not_above before (get_or xs i d).size) RANGE (Key POOL ∷ Pos (i + 1) ∷ Key SIZE ∷ [])) (sizes_fault ((i + 1) + 1) (Some (get_or xs i d).size) (drop (i + 1) xs))
   unfolding sizes_fault
   sizes-next i before d inside = let item : drop i xs ≡ get_or xs i d ∷ drop (i + 1) xs = drop_more xs i d inside in rw item refl
 
   -- a size that is above the one before it
-  pub sizes-one : (i : ℕ) (before : Option ℕ) (d : PoolDef) (whole : Option Fault) → whole ≡ sizes_fault (i + 1) before (map pool_view (drop i xs)) → i < length xs
-      → is_not_above before (get_or xs i d).size ≡ false → whole ≡ sizes_fault ((i + 1) + 1) (Some (get_or xs i d).size) (map pool_view (drop (i + 1) xs))
+  pub sizes-one : (i : ℕ) (before : Option ℕ) (d : PoolDef) (whole : Option Fault) → whole ≡ sizes_fault (i + 1) before (drop i xs) → i < length xs
+      → is_not_above before (get_or xs i d).size ≡ false → whole ≡ sizes_fault ((i + 1) + 1) (Some (get_or xs i d).size) (drop (i + 1) xs)
   sizes-one i before d whole so_far inside above =
       so_far ∙ sizes-next i before d inside
-      ∙ ap (λ b. option_or (fault_if b RANGE (Key POOL ∷ Pos (i + 1) ∷ Key SIZE ∷ [])) (sizes_fault ((i + 1) + 1) (Some (get_or xs i d).size) (map pool_view (drop (i + 1) xs)))) above
+      ∙ ap (λ b. option_or (fault_if b RANGE (Key POOL ∷ Pos (i + 1) ∷ Key SIZE ∷ [])) (sizes_fault ((i + 1) + 1) (Some (get_or xs i d).size) (drop (i + 1) xs))) above
 
   -- a size that isn't
-  pub sizes-at : (i : ℕ) (before : Option ℕ) (d : PoolDef) (whole : Option Fault) (e : SystemFault) → whole ≡ sizes_fault (i + 1) before (map pool_view (drop i xs)) → i < length xs
+  pub sizes-at : (i : ℕ) (before : Option ℕ) (d : PoolDef) (whole : Option Fault) (e : SystemFault) → whole ≡ sizes_fault (i + 1) before (drop i xs) → i < length xs
       → is_not_above before (get_or xs i d).size ≡ true → e ≡ fault_at RANGE (Key POOL ∷ Pos (i + 1) ∷ Key SIZE ∷ []) → IsFirst whole e
   sizes-at i before d whole e so_far inside not_above h =
-      rw (so_far ∙ sizes-next i before d inside) (first-here _ (sizes_fault ((i + 1) + 1) (Some (get_or xs i d).size) (map pool_view (drop (i + 1) xs))) e (fault_if-holds _ _ _ e not_above h))
+      rw (so_far ∙ sizes-next i before d inside) (first-here _ (sizes_fault ((i + 1) + 1) (Some (get_or xs i d).size) (drop (i + 1) xs)) e (fault_if-holds _ _ _ e not_above h))
 
-  pub sizes-all : (i : ℕ) (before : Option ℕ) (whole : Option Fault) → whole ≡ sizes_fault (i + 1) before (map pool_view (drop i xs)) → length xs ≤ i → whole ≡ None
+  pub sizes-all : (i : ℕ) (before : Option ℕ) (whole : Option Fault) → whole ≡ sizes_fault (i + 1) before (drop i xs) → length xs ≤ i → whole ≡ None
   unfolding sizes_fault
-  sizes-all i before whole so_far end = so_far ∙ ap (λ (l : List PoolDef). sizes_fault (i + 1) before (map pool_view l)) (drop_all i xs end)
+  sizes-all i before whole so_far end = so_far ∙ ap (λ (l : List PoolDef). sizes_fault (i + 1) before l) (drop_all i xs end)
 
 -- what is left to pass
 pub passes-tail : {X : Type 0} (o : Option Fault) (os : List (Option Fault)) (r : Result X SystemFault) → o ≡ None → Passes (first_of os) r → Passes (first_of (o ∷ os)) r
@@ -113,12 +111,12 @@ pub passes-last : {X : Type 0} (o : Option Fault) (r : Result X SystemFault) →
 passes-last o (Ok x) h = none-next o [] h none-last
 passes-last o (Err e) h = first-head o [] e h
 
-module _ {X A : Type 0} (f : ℕ → A → Option Fault) (view : X → A) (xs : List X) where
+module _ {A : Type 0} (f : ℕ → A → Option Fault) (xs : List A) where
   -- what is left from the i-th thing on, each seen by itself
   abbrev pub left : ℕ → Option Fault
-  left i = first_in f (i + 1) (map view (drop i xs))
+  left i = first_in f (i + 1) (drop i xs)
 
-  left-next : (i : ℕ) (x : X) → i < length xs → x ≡ get_or xs i x → left i ≡ option_or (f (i + 1) (view x)) (left (i + 1))
+  left-next : (i : ℕ) (x : A) → i < length xs → x ≡ get_or xs i x → left i ≡ option_or (f (i + 1) x) (left (i + 1))
   unfolding first_in
   left-next i x inside is =
       let item : drop i xs ≡ x ∷ drop (i + 1) xs = drop_more xs i x inside ∙ ap (λ y. y ∷ drop (i + 1) xs) (sym is) in
@@ -126,20 +124,20 @@ module _ {X A : Type 0} (f : ℕ → A → Option Fault) (view : X → A) (xs : 
 
   -- the things before the i-th have no fault by themselves
   abbrev pub Passed : ℕ → Type 0
-  Passed i = first_in f 1 (map view xs) ≡ left i
+  Passed i = first_in f 1 xs ≡ left i
 
   pub passed-none : Passed 0
   passed-none = refl
 
-  pub passed-one : (i : ℕ) (x : X) → Passed i → i < length xs → x ≡ get_or xs i x → f (i + 1) (view x) ≡ None → Passed (i + 1)
+  pub passed-one : (i : ℕ) (x : A) → Passed i → i < length xs → x ≡ get_or xs i x → f (i + 1) x ≡ None → Passed (i + 1)
   passed-one i x passed inside is none = passed ∙ left-next i x inside is ∙ ap (λ o. option_or o (left (i + 1))) none
 
-  pub passed-at : (i : ℕ) (x : X) (e : SystemFault) → Passed i → i < length xs → x ≡ get_or xs i x → IsFirst (f (i + 1) (view x)) e → IsFirst (first_in f 1 (map view xs)) e
+  pub passed-at : (i : ℕ) (x : A) (e : SystemFault) → Passed i → i < length xs → x ≡ get_or xs i x → IsFirst (f (i + 1) x) e → IsFirst (first_in f 1 xs) e
   passed-at i x e passed inside is h = rw (passed ∙ left-next i x inside is) (first-here _ (left (i + 1)) e h)
 
-  pub passed-all : (i : ℕ) → Passed i → length xs ≤ i → first_in f 1 (map view xs) ≡ None
+  pub passed-all : (i : ℕ) → Passed i → length xs ≤ i → first_in f 1 xs ≡ None
   unfolding first_in
-  passed-all i passed end = passed ∙ ap (λ (l : List X). first_in f (i + 1) (map view l)) (drop_all i xs end)
+  passed-all i passed end = passed ∙ ap (λ (l : List A). first_in f (i + 1) l) (drop_all i xs end)
 
 -- one more of a list that is read off another
 pub map-more : {X A : Type 0} (f : X → A) (xs : List X) (ys : List A) (i : ℕ) (x : X) → i < length xs → x ≡ get_or xs i x → ys ≡ map f (take i xs) → ys ++ f x ∷ [] ≡ map f (take (i + 1) xs)
@@ -147,11 +145,6 @@ map-more f xs ys i x inside is so_far =
     let front : take (i + 1) xs ≡ take i xs ++ x ∷ [] = take_more xs i x inside ∙ ap (λ z. take i xs ++ z ∷ []) (sym is) in
     let fronts : map f (take (i + 1) xs) ≡ map f (take i xs) ++ f x ∷ [] = ap (map f) front ∙ map-append f (take i xs) (x ∷ []) in
     rw (fronts, so_far) refl
-
--- things seen as they are
-pub map-same : {X : Type 0} (xs : List X) → map (λ x. x) xs ≡ xs
-map-same [] = refl
-map-same (x ∷ xs) = rw (map-same xs) refl
 
 -- charts of few members may be checked, whatever they may name outside themselves
 readable-one : (names : Names) (c : RawChart) → length names.signals ≤ 200 → length names.objects ≤ 32 → IsFewChart c → IsReadable names c

@@ -1,5 +1,5 @@
 -- What a file without a fault has.
-use Rattle.std.proofs.Common.{◌≡◌, ℕ, ◌≤◌, ◌==◌, ◌&&◌, Bool, true, false, not, nat_le, List, [], ◌∷◌, map, Some, None, refl, sym, subst, arith}
+use Rattle.std.proofs.Common.{◌≡◌, ℕ, ◌≤◌, ◌==◌, ◌&&◌, Bool, true, false, not, nat_le, List, Some, None, refl, sym, arith}
 use Rattle.std.specs.declared.option.Option.{Option}
 use Rattle.std.specs.Option.{option_map}
 use Rattle.std.specs.List.{AllByRecursion, IsDistinct, list_any, sum_by}
@@ -10,15 +10,12 @@ use Rattle.qp_chart_names.specs.declared.raw.Names.{Names}
 use Rattle.qp_chart_names.specs.Faults.{Fault}
 use Rattle.qp_chart.specs.ChartFaults.{chart_fault}
 use Rattle.qp_chart.proofs.ChartTree.{none-both}
-use Rattle.qp_system_tables.specs.declared.raw.RawObject.{RawObject}
 use Rattle.qp_system_tables.specs.declared.raw.RawSystem.{RawSystem}
-use Rattle.qp_system_tables.specs.Raw.{Object}
 use Rattle.qp_system.specs.Between.{between_fault, timers_of}
 use Rattle.qp_system.specs.Later.{later_of, later_fault}
 use Rattle.qp_model.specs.Sound.{SizesAscend}
 use Rattle.qp_system.specs.Within.{names_of, in_chart, within_chart, charts_fault}
-use Rattle.qp_system_tables.specs.Views.{signal_view, chart_view, object_view}
-use Rattle.qp_system.proofs.BehindLemmas.{every-unmap, each-in, signals-bare, IsPlaced, each-placed, priorities-distinct, timers-few, sizes-ascend, signals-pooled}
+use Rattle.qp_system.proofs.BehindLemmas.{each-in, signals-bare, IsPlaced, each-placed, priorities-distinct, timers-few, sizes-ascend, signals-pooled}
 use Rattle.qp_system.proofs.OrderLemmas.{priorities}
 use Rattle.qp_model.proofs.NumberLemmas.{every}
 
@@ -27,18 +24,14 @@ pub record IsPassed (raw : RawSystem) : Type 0 where
   pub sizes : SizesAscend raw.pools
   pub bare : AllByRecursion (λ s. s.fixed ≡ true → s.params ≡ 0) raw.signals
   pub pooled : AllByRecursion (λ s. s.fixed ≡ false → list_any (λ p. nat_le s.params p.size) raw.pools ≡ true) raw.signals
-  pub placed : AllByRecursion (λ o. IsPlaced (map chart_view raw.charts) (object_view o)) raw.objects
+  pub placed : AllByRecursion (IsPlaced raw.charts) raw.objects
   pub distinct : IsDistinct (λ m n. m == n) (priorities raw.objects)
-  pub timers : sum_by (timers_of (map chart_view raw.charts)) (map object_view raw.objects) ≤ 64
+  pub timers : sum_by (timers_of raw.charts) raw.objects ≤ 64
   pub charts : AllByRecursion (λ c. chart_fault (names_of raw.signals raw.objects) c ≡ None) raw.charts
 
 bare-test : (f : Bool) (n : ℕ) → (f && not (n == 0)) ≡ false → f ≡ true → n ≡ 0
 bare-test true n h fixed = grind (arith, nat_tests, h)
 bare-test false n h fixed = cc
-
-priorities-view : (os : List RawObject) → map (λ (o : Object). o.priority) (map object_view os) ≡ priorities os
-priorities-view [] = refl
-priorities-view (o ∷ os) = rw (priorities-view os) refl
 
 chart-none : (k : ℕ) (o : Option Fault) → option_map (in_chart k) o ≡ None → o ≡ None
 chart-none k None h = refl
@@ -61,11 +54,11 @@ passed-from raw h =
     let placing = none-both _ _ objects.1 in
     record {
       sizes = sizes-ascend raw.pools sizes.0;
-      bare = every (λ s. ((signal_view s).fixed && not ((signal_view s).params == 0)) ≡ false) (λ s. s.fixed ≡ true → s.params ≡ 0) (λ s t. bare-test s.fixed s.params t) raw.signals
-          (every-unmap (λ s. (s.fixed && not (s.params == 0)) ≡ false) signal_view raw.signals (signals-bare (map signal_view raw.signals) signals.0));
+      bare = every (λ s. (s.fixed && not (s.params == 0)) ≡ false) (λ s. s.fixed ≡ true → s.params ≡ 0) (λ s t. bare-test s.fixed s.params t) raw.signals
+          (signals-bare raw.signals signals.0);
       pooled = signals-pooled raw.pools raw.signals pool.0;
-      placed = every-unmap (IsPlaced (map chart_view raw.charts)) object_view raw.objects (each-placed (map chart_view raw.charts) (map object_view raw.objects) placing.0);
-      distinct = subst (IsDistinct (λ m n. m == n)) (priorities-view raw.objects) (priorities-distinct (map chart_view raw.charts) (map object_view raw.objects) placing.0);
-      timers = timers-few (map chart_view raw.charts) (map object_view raw.objects) placing.0;
+      placed = each-placed raw.charts raw.objects placing.0;
+      distinct = priorities-distinct raw.charts raw.objects placing.0;
+      timers = timers-few raw.charts raw.objects placing.0;
       charts = charts-none (names_of raw.signals raw.objects) raw.charts within.0;
     }

@@ -3,7 +3,6 @@ use Rattle.std.proofs.Common.{◌≡◌, ℕ, ◌+◌, ◌≤◌, Bool, true, fa
 use Rattle.std.specs.Bool.{⊤}
 use Rattle.std.specs.declared.option.Option.{Option}
 use Rattle.std.specs.Option.{option_or}
-use Rattle.arrayvec.specs.ArrayString.{ArrayString}
 use Rattle.qp_chart_names.specs.declared.place.Part.{Part}
 use Rattle.qp_chart_names.specs.declared.place.Part.TheVariants.{Key, Pos}
 use Rattle.qp_chart_names.specs.declared.raw.Names.{Names}
@@ -48,9 +47,9 @@ short-undeclared : (o : Option ℕ) (path : List Part) → length path ≤ 6 →
 short-undeclared None path h = h
 short-undeclared (Some n) path h = tt
 
-short-key : (number : List ℕ → Option ℕ) (key : Option ArrayString) (path : List Part) → length path ≤ 6 → Short (undeclared_key number key path)
+short-key : (number : List ℕ → Option ℕ) (key : Option (List ℕ)) (path : List Part) → length path ≤ 6 → Short (undeclared_key number key path)
 short-key number None path h = tt
-short-key number (Some name) path h = short-undeclared (number name.bytes) path h
+short-key number (Some name) path h = short-undeclared (number name) path h
 
 short-action : (names : Names) (chart : RawChart) (inside : Option ℕ) (place : List Part) (c : Option Command) → length place ≤ 6 → Short (action_fault names chart inside place c)
 unfolding action_fault
@@ -92,7 +91,7 @@ short-tree parents =
     short-head _ _ (short-in (loop_at parents) 1 parents (λ k p. short-if _ _ _ (omega arith)))
     (short-head _ _ (short-in (depth_at parents) 1 parents (λ k p. short-if _ _ _ (omega arith))) short-end)
 
-short-init : (chart : RawChart) (k : ℕ) (init : Option ArrayString) → Short (init_fault chart k init)
+short-init : (chart : RawChart) (k : ℕ) (init : Option (List ℕ)) → Short (init_fault chart k init)
 unfolding init_fault
 short-init chart k None = tt
 short-init chart k (Some name) = short-head _ _ (short-undeclared _ _ (omega arith)) (short-head _ _ (short-if _ _ _ (omega arith)) short-end)

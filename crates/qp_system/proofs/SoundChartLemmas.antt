@@ -1,5 +1,5 @@
 -- The charts of a system that was read are sound.
-use Rattle.std.proofs.Common.{◌≡◌, ℕ, ℤ, pos, ◌+◌, ◌-◌, ◌<◌, ◌≤◌, ◌==◌, ◌&&◌, Bool, true, false, not, nat_le, List, [], ◌∷◌, length, map, get_or, ◌⊎◌, inl, inr, Some, None, refl, sym, ◌∙◌, ap, subst, arith}
+use Rattle.std.proofs.Common.{◌≡◌, ℕ, ℤ, pos, ◌+◌, ◌-◌, ◌<◌, ◌≤◌, ◌==◌, Bool, true, false, not, nat_le, List, [], ◌∷◌, length, map, get_or, ◌⊎◌, inl, inr, Some, None, refl, sym, ◌∙◌, ap, subst, arith}
 use Rattle.std.specs.declared.option.Option.{Option}
 use Rattle.std.specs.Option.{option_map, option_and_then, unwrap_or}
 use Rattle.std.specs.List.{AllByRecursion, Contains, list_all, slice_get}
@@ -9,7 +9,6 @@ use Rattle.std.proofs.lemmas.List.Elements.{recursion_from_All}
 use Rattle.std.proofs.lemmas.List.Sorted.{Contains-permutation}
 use Rattle.std.proofs.lemmas.Bool.Decides.{nat_tests}
 use Rattle.std.proofs.lemmas.Option.{slice_get-map, slice_get_cases, slice_get_read}
-use Rattle.arrayvec.specs.ArrayString.{ArrayString}
 use Rattle.qp_chart.specs.declared.expression.Bound.{Bound}
 use Rattle.qp_chart.specs.declared.actions.Target.{Target}
 use Rattle.qp_chart.specs.declared.actions.Plain as plain
@@ -69,7 +68,7 @@ module _ (sys : System) (raw : RawSystem) (signals : sys.signals ≡ raw.signals
       high =
           let below = number_in-below 4 (signal_names names.signals) q sig h in
           let count = length-map raw.signals signal_name in
-          let again = length-map (map signal_name raw.signals) (λ (s : _). s.name.bytes) in
+          let again = length-map (map signal_name raw.signals) (λ (s : _). s.name) in
           omega (arith, below, count, again)
 
       by : ((x : SignalDef) × (sig - 4 < length raw.signals) × (slice_get raw.signals (sig - 4) ≡ Some x) × (get_or raw.signals (sig - 4) x ≡ x)) ⊎ ((length raw.signals ≤ sig - 4) × (slice_get raw.signals (sig - 4) ≡ None))
@@ -124,7 +123,7 @@ module _ (sys : System) (raw : RawSystem) (signals : sys.signals ≡ raw.signals
 
   module _ (c : RawChart) (chart : Chart) (vars : chart.vars ≡ c.vars) (timers : length c.timer ≡ length chart.timer) (states : length c.state ≡ length chart.state) where
     var-count : length (variable_names c.vars) ≡ length chart.vars
-    var-count = length-map c.vars (λ (v : ArrayString × ℤ). v.0.bytes) ∙ sym (ap length vars)
+    var-count = length-map c.vars (λ (v : (List ℕ) × ℤ). v.0) ∙ sym (ap length vars)
 
     reaches : (inside : Option ℕ) (e : Term) (b : Bound) → IsBoundOf c (params_in inside) e b → Reaches chart inside b
     reaches inside e b h = rw var-count at h.in_range
@@ -133,27 +132,27 @@ module _ (sys : System) (raw : RawSystem) (signals : sys.signals ≡ raw.signals
     state-inside q s h =
         let low = number_in-above 1 (state_names c.state) q s h in
         let high = number_in-below 1 (state_names c.state) q s h in
-        (low, omega (arith, high, states, length-map c.state (λ (s : RawState). s.name.bytes)))
+        (low, omega (arith, high, states, length-map c.state (λ (s : RawState). s.name)))
 
     timer-inside : (q : List ℕ) (t : ℕ) → timer_number c q ≡ Some t → IsTimer chart t
     timer-inside q t h =
         let low = number_in-above 1 (timer_names c.timer) q t h in
         let high = number_in-below 1 (timer_names c.timer) q t h in
-        (low, omega (arith, high, timers, length-map c.timer (λ (t : _). t.name.bytes)))
+        (low, omega (arith, high, timers, length-map c.timer (λ (t : _). t.name)))
 
-    state-key : (x : Option ArrayString) (s : Option ℕ) → Refers (state_number c) x s → IsState chart s
+    state-key : (x : Option (List ℕ)) (s : Option ℕ) → Refers (state_number c) x s → IsState chart s
     state-key x None h = tt
     state-key None (Some s) h = absurd h
-    state-key (Some name) (Some s) h = state-inside name.bytes s h
+    state-key (Some name) (Some s) h = state-inside name s h
 
     -- a parent is a state of the chart
-    parent-inside : (x : Option ArrayString) → IsState chart (option_and_then (λ name. state_number c name.bytes) x)
+    parent-inside : (x : Option (List ℕ)) → IsState chart (option_and_then (λ name. state_number c name) x)
     parent-inside None = tt
-    parent-inside (Some name) = by (state_number c name.bytes) refl
+    parent-inside (Some name) = by (state_number c name) refl
       where
-        by : (n : Option ℕ) → state_number c name.bytes ≡ n → IsState chart n
+        by : (n : Option ℕ) → state_number c name ≡ n → IsState chart n
         by None is = tt
-        by (Some s) is = state-inside name.bytes s is
+        by (Some s) is = state-inside name s is
 
     free-reserve : (s : SignalDef) (event : Event) (z : Option ℤ) (r : Option ℕ) → is_static names event.signal ≡ s.fixed → reserve_allowed names event z ≡ true → IsByteOf z r → s.fixed ≡ true → r ≡ None
     free-reserve s event z None static allowed byte fixed = refl
@@ -235,13 +234,13 @@ module _ (sys : System) (raw : RawSystem) (signals : sys.signals ≡ raw.signals
 
     row-sound : (x : RawRow) (r : Row) → IsRowOf names c x r → IsReadableRow x → IsSoundRow sys chart r
     row-sound x r made few =
-        let s = declared x.on.bytes r.on made.on in
-        let params = params-is x.on.bytes s.0 s.2 in
+        let s = declared x.on r.on made.on in
+        let params = params-is x.on s.0 s.2 in
         record {
           signal = s.0;
           on = s.1;
           when = guard-sound s.0.params x.when r.when (subst (λ n. IsGuardOf c n x.when r.when) params made.when);
-          few_acts = acts-few (Some (params_of names x.on.bytes)) x.acts r.acts made.acts few;
+          few_acts = acts-few (Some (params_of names x.on)) x.acts r.acts made.acts few;
           acts = acts-sound (Some s.0.params) x.acts r.acts (subst (λ n. AreActsOf names c (Some n) x.acts r.acts) params made.acts);
           to = state-key x.to r.to made.to;
         }
@@ -270,7 +269,7 @@ module _ (sys : System) (raw : RawSystem) (signals : sys.signals ≡ raw.signals
         few_timers = rw (sym timers) few.timers;
         few_vars = rw made.vars few.vars;
         few_init_do = acts-few c chart made.vars timers states None c.init_do chart.init_do made.init_do few.init_do;
-        init = state-inside c chart made.vars timers states c.init.bytes chart.init made.init;
+        init = state-inside c chart made.vars timers states c.init chart.init made.init;
         init_do = acts-sound c chart made.vars timers states None c.init_do chart.init_do made.init_do;
         states = Corresponds-every (IsStateOf names c) IsReadableState (IsSoundState sys chart) (state-sound c chart made.vars timers states) c.state chart.state made.state (recursion_from_All IsReadableState c.state few.each);
       }

@@ -25,10 +25,9 @@ use Rattle.qp_system_tables.specs.Document.{RefusesBytes}
 use Rattle.qp_system.specs.Placed.{chart_place, HasChart, IsWithin}
 use Rattle.qp_system.specs.SystemOf.{chart_names, first_value, first_values, IsObjectOf, AreObjectsOf, HasFault, RefusesSystem}
 use Rattle.qp_model.specs.Sound.{timer_of, timers_of}
-use Rattle.qp_system_tables.specs.Views.{chart_view, object_view}
 use Rattle.qp_system.proofs.BehindLemmas.{IsPlaced}
 use Rattle.qp_system_tables.proofs.FewLemmas.{IsInRange}
-use Rattle.qp_system.proofs.NamedLemmas.{number-none, number-position, named-view}
+use Rattle.qp_system.proofs.NamedLemmas.{number-none, number-position}
 use Rattle.qp_system.proofs.OrderLemmas.{Ascend-sorted}
 use Rattle.qp_system.proofs.PassedLemmas.{IsPassed, passed-from}
 use Rattle.qp_system_tables.proofs.RangeLemmas.{ObjectInRange}
@@ -53,17 +52,16 @@ is-some : {A : Type 0} (o : Option A) → is_none o ≡ false → IsSome o
 is-some None h = cc
 is-some (Some x) h = refl
 
-placed-has_chart : (charts : List RawChart) (o : RawObject) → IsPlaced (map chart_view charts) (object_view o) → HasChart charts o
+placed-has_chart : (charts : List RawChart) (o : RawObject) → IsPlaced charts o → HasChart charts o
 placed-has_chart charts o h =
-    is-some (chart_place charts o.chart.bytes)
-    (sym (none-map (λ i. 1 + i) (chart_place charts o.chart.bytes)) ∙ ap is_none (sym (number-position 1 charts o.chart.bytes)) ∙ number-none 1 charts o.chart.bytes
-    ∙ sym (none-map chart_view _) ∙ ap is_none (sym (named-view charts o.chart.bytes)) ∙ h.chart)
+    is-some (chart_place charts o.chart)
+    (sym (none-map (λ i. 1 + i) (chart_place charts o.chart)) ∙ ap is_none (sym (number-position 1 charts o.chart)) ∙ number-none 1 charts o.chart ∙ h.chart)
 
 -- the charts of objects that were moved are declared
-pub all-have_charts : (charts : List RawChart) (raws order : List RawObject) → AllByRecursion (λ o. IsPlaced (map chart_view charts) (object_view o)) raws → IsPermutation raws order → All (HasChart charts) order
+pub all-have_charts : (charts : List RawChart) (raws order : List RawObject) → AllByRecursion (IsPlaced charts) raws → IsPermutation raws order → All (HasChart charts) order
 all-have_charts charts raws order h moved =
     All-permutation (HasChart charts) raws order moved
-    (All-from_recursion (HasChart charts) raws (every (λ o. IsPlaced (map chart_view charts) (object_view o)) (HasChart charts) (placed-has_chart charts) raws h))
+    (All-from_recursion (HasChart charts) raws (every (IsPlaced charts) (HasChart charts) (placed-has_chart charts) raws h))
 
 -- the numbers of the charts of objects are inside
 pub all-within : (raws : List RawChart) (charts : List Chart) (order : List RawObject) (objects : List ObjectDef) → length raws ≡ length charts → Corresponds (IsObjectOf raws) order objects → All (IsWithin charts) objects
@@ -72,9 +70,9 @@ all-within raws charts order objects count pairs =
   where
     step : (o : RawObject) (d : ObjectDef) → IsObjectOf raws o d → IsWithin charts d
     step o d made =
-        let low = number_in-above 1 (chart_names raws) o.chart.bytes d.chart made.chart in
-        let high = number_in-below 1 (chart_names raws) o.chart.bytes d.chart made.chart in
-        (low, omega (arith, high, count, length-map raws (λ (c : RawChart). c.name.bytes)))
+        let low = number_in-above 1 (chart_names raws) o.chart d.chart made.chart in
+        let high = number_in-below 1 (chart_names raws) o.chart d.chart made.chart in
+        (low, omega (arith, high, count, length-map raws (λ (c : RawChart). c.name)))
 
 -- objects that were sorted and made are those of the file
 pub objects-of : (bytes : List ℕ) (raw : RawSystem) (charts : List Chart) (order : List RawObject) (objects : List ObjectDef) → IsChecked bytes raw charts
@@ -83,7 +81,7 @@ objects-of bytes raw charts order objects checked moved up pairs =
     let range : IsInRange raw = read-in_range bytes raw checked.read in
     let passed : IsPassed raw = passed-from raw checked.passed in
     let some : AllByRecursion (λ o. 0 < o.priority) raw.objects =
-    every (λ o. ObjectInRange (object_view o)) (λ o. 0 < o.priority) (λ o h. omega (arith, h.0.0)) raw.objects (recursion_from_All (λ o. ObjectInRange (object_view o)) raw.objects range.objects) in
+    every ObjectInRange (λ o. 0 < o.priority) (λ o h. omega (arith, h.0.0)) raw.objects (recursion_from_All ObjectInRange raw.objects range.objects) in
     record {
       order = order;
       same = moved;
@@ -92,7 +90,7 @@ objects-of bytes raw charts order objects checked moved up pairs =
     }
 
 -- an object made of its table and its chart
-pub object-of : (charts : List RawChart) (raw : RawObject) (place : ℕ) (chart : RawChart) (values : List ℤ) → chart_place charts raw.chart.bytes ≡ Some place → place < length charts
+pub object-of : (charts : List RawChart) (raw : RawObject) (place : ℕ) (chart : RawChart) (values : List ℤ) → chart_place charts raw.chart ≡ Some place → place < length charts
     → chart ≡ get_or charts place chart → values ≡ map (first_value raw.vars) chart.vars
     → IsObjectOf charts raw (record { name = raw.name; chart = place + 1; priority = raw.priority; threshold = raw.threshold; ring = raw.queue; defer = raw.defer; vars = values })
 object-of charts raw place chart values found inside is valued =
@@ -101,7 +99,7 @@ object-of charts raw place chart values found inside is valued =
     let at = slice_get_read charts (length charts) place chart refl inside is in
     record {
       name = refl;
-      chart = number-position 1 charts raw.chart.bytes ∙ ap (option_map (λ i. 1 + i)) found ∙ ap (λ n. Some n) number;
+      chart = number-position 1 charts raw.chart ∙ ap (option_map (λ i. 1 + i)) found ∙ ap (λ n. Some n) number;
       priority = refl;
       threshold = refl;
       ring = refl;

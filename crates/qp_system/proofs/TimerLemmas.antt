@@ -1,5 +1,5 @@
 -- The time events of a system that was read.
-use Rattle.std.proofs.Common.{◌≡◌, ℕ, ◌-◌, ◌≤◌, ◌==◌, Bool, true, false, List, [], ◌∷◌, ◌++◌, map, Some, None, refl, sym, ap, arith}
+use Rattle.std.proofs.Common.{◌≡◌, ℕ, ◌-◌, ◌≤◌, ◌==◌, Bool, true, false, List, [], ◌∷◌, map, Some, None, refl, sym, ap, arith}
 use Rattle.std.specs.declared.option.Option.{Option}
 use Rattle.std.specs.Option.{option_map, option_and_then, unwrap_or}
 use Rattle.std.specs.List.{All, AllByRecursion, find, flat_map, slice_get}
@@ -22,7 +22,6 @@ use Rattle.qp_chart_names.proofs.NumberingLemmas.{number_in-above}
 use Rattle.qp_model.specs.declared.systems.SignalDef.{SignalDef}
 use Rattle.qp_model.specs.declared.systems.ObjectDef.{ObjectDef}
 use Rattle.qp_system_tables.specs.declared.raw.RawObject.{RawObject}
-use Rattle.qp_system_tables.specs.Views.{timer_view}
 use Rattle.qp_system.specs.Within.{signal_name, names_of}
 use Rattle.qp_system.proofs.BehindLemmas.{fault_if-None, each-in}
 use Rattle.qp_system_tables.proofs.RangeLemmas.{TimerInRange}
@@ -62,33 +61,33 @@ module _ (signals : List SignalDef) (objects : List RawObject) where
       by None at = let no = rw at at found in cc
       by (Some s) at = let yes = rw at at found in (s, at, yes)
 
-  timer-fits : (raw : RawTimer) (t : Timer) → IsTimerOf names raw t → (is_static names raw.signal.bytes ≡ true) × TimerInRange (timer_view raw) → Fits signals t
+  timer-fits : (raw : RawTimer) (t : Timer) → IsTimerOf names raw t → (is_static names raw.signal ≡ true) × TimerInRange raw → Fits signals t
   unfolding signal_named
   timer-fits raw t made h =
-      let at = static-at raw.signal.bytes t.signal h.0 (ap (option_and_then (λ m. slice_get (map signal_name signals) (m - 4))) (sym made.signal)) in
+      let at = static-at raw.signal t.signal h.0 (ap (option_and_then (λ m. slice_get (map signal_name signals) (m - 4))) (sym made.signal)) in
       record {
-        from_four = number_in-above 4 (signal_names names.signals) raw.signal.bytes t.signal made.signal;
+        from_four = number_in-above 4 (signal_names names.signals) raw.signal t.signal made.signal;
         signal = at.0;
         is_signal = at.1;
         static = at.2;
         rate = rw made.rate h.1.1;
       }
 
-  static-timer : (k : ℕ) (t : RawTimer) → timer_fault names k t ≡ None → is_static names t.signal.bytes ≡ true
+  static-timer : (k : ℕ) (t : RawTimer) → timer_fault names k t ≡ None → is_static names t.signal ≡ true
   unfolding timer_fault
   static-timer k t h = not-false _ (fault_if-None _ _ _ (none-both _ _ (none-both _ _ h).1).0)
 
   -- the time events of a chart without a fault
-  pub timers-fit : (raw : RawChart) (chart : Chart) → IsChartOf names raw chart → (chart_fault names raw ≡ None) × All (λ t. TimerInRange (timer_view t)) raw.timer → AllByRecursion (Fits signals) chart.timer
+  pub timers-fit : (raw : RawChart) (chart : Chart) → IsChartOf names raw chart → (chart_fault names raw ≡ None) × All TimerInRange raw.timer → AllByRecursion (Fits signals) chart.timer
   unfolding chart_fault parts_fault frame_fault
   timers-fit raw chart made h =
       let parts = (none-both _ _ (none-both _ _ h.0).1).0 in
       let frame = none-both _ _ parts in
       let timers = none-both _ _ frame.0 in
-      let static = each-in (timer_fault names) (λ t. is_static names t.signal.bytes ≡ true) static-timer 1 raw.timer timers.0 in
-      let both = every-two (λ t. is_static names t.signal.bytes ≡ true) (λ t. TimerInRange (timer_view t)) (λ t. (is_static names t.signal.bytes ≡ true) × TimerInRange (timer_view t))
-      (λ t p q. (p, q)) raw.timer static (recursion_from_All (λ t. TimerInRange (timer_view t)) raw.timer h.1) in
-      Corresponds-every (IsTimerOf names) (λ t. (is_static names t.signal.bytes ≡ true) × TimerInRange (timer_view t)) (Fits signals) timer-fits raw.timer chart.timer made.timer both
+      let static = each-in (timer_fault names) (λ t. is_static names t.signal ≡ true) static-timer 1 raw.timer timers.0 in
+      let both = every-two (λ t. is_static names t.signal ≡ true) TimerInRange (λ t. (is_static names t.signal ≡ true) × TimerInRange t)
+      (λ t p q. (p, q)) raw.timer static (recursion_from_All TimerInRange raw.timer h.1) in
+      Corresponds-every (IsTimerOf names) (λ t. (is_static names t.signal ≡ true) × TimerInRange t) (Fits signals) timer-fits raw.timer chart.timer made.timer both
 
 -- an object of this priority is found
 abbrev pub IsOwned : List ObjectDef → ℕ → Type 0

@@ -8,7 +8,11 @@ use Rattle.qp_chart_names.specs.declared.place.Part.TheVariants.{Key, Pos}
 use Rattle.qp_chart_names.specs.Keys.{POOL, SIGNAL, CHART, OBJECT, SIZE, NAME, STATIC, VARS, PRIORITY, THRESHOLD}
 use Rattle.qp_chart_names.specs.Codes.{RANGE, DOUBLE, NO_SUCH_NAME, TOO_MANY, NO_POOL}
 use Rattle.qp_chart_names.specs.Faults.{Fault, fault_if, first_of, first_in}
-use Rattle.qp_system_tables.specs.Raw.{Pool, Signal, Chart, Object, Raw}
+use Rattle.qp_model.specs.declared.systems.PoolDef.{PoolDef}
+use Rattle.qp_model.specs.declared.systems.SignalDef.{SignalDef}
+use Rattle.qp_chart_names.specs.declared.raw.RawChart.{RawChart}
+use Rattle.qp_system_tables.specs.declared.raw.RawObject.{RawObject}
+use Rattle.qp_system_tables.specs.declared.raw.RawSystem.{RawSystem}
 
 -- the size isn't above the one before it
 abbrev pub is_not_above : Option ℕ → ℕ → Bool
@@ -16,7 +20,7 @@ is_not_above None size = false
 is_not_above (Some before) size = nat_le size before
 
 -- sizes of pools ascend; the first of these has place k
-unfoldable pub sizes_fault : ℕ → Option ℕ → List Pool → Option Fault
+unfoldable pub sizes_fault : ℕ → Option ℕ → List PoolDef → Option Fault
 sizes_fault k before [] = None
 sizes_fault k before (p ∷ ps) =
     option_or (fault_if (is_not_above before p.size) RANGE (Key POOL ∷ Pos k ∷ Key SIZE ∷ [])) (sizes_fault (k + 1) (Some p.size) ps)
@@ -26,7 +30,7 @@ abbrev pub name_fault : ℕ → List (List ℕ) → ℕ → List ℕ → Option 
 name_fault list earlier k name = fault_if (list_any (bytes_eq name) earlier) DOUBLE (Key list ∷ Pos k ∷ Key NAME ∷ [])
 
 -- a signal behind these: its name stands before, or it is static and has parameters
-unfoldable pub signal_fault : List Signal → ℕ → Signal → Option Fault
+unfoldable pub signal_fault : List SignalDef → ℕ → SignalDef → Option Fault
 signal_fault earlier k s =
     first_of
     (name_fault SIGNAL (map (λ t. t.name) earlier) k s.name
@@ -34,27 +38,27 @@ signal_fault earlier k s =
     ∷ [])
 
 -- a chart behind these
-unfoldable pub chart_fault : List Chart → ℕ → Chart → Option Fault
+unfoldable pub chart_fault : List RawChart → ℕ → RawChart → Option Fault
 chart_fault earlier k c = name_fault CHART (map (λ d. d.name) earlier) k c.name
 
 -- an object behind these, by its name
-unfoldable pub object_fault : List Object → ℕ → Object → Option Fault
+unfoldable pub object_fault : List RawObject → ℕ → RawObject → Option Fault
 object_fault earlier k o = name_fault OBJECT (map (λ p. p.name) earlier) k o.name
 
 -- the first chart of this name
-abbrev pub chart_named : List Chart → List ℕ → Option Chart
+abbrev pub chart_named : List RawChart → List ℕ → Option RawChart
 chart_named charts name = find (λ c. bytes_eq c.name name) charts
 
 -- the chart has a variable of each of these names
-abbrev pub has_vars : Chart → Object → Bool
+abbrev pub has_vars : RawChart → RawObject → Bool
 has_vars c o = list_all (λ var. list_any (λ own. bytes_eq own.0 var.0) c.vars) o.vars
 
 -- how many time events an object has
-abbrev pub timers_of : List Chart → Object → ℕ
-timers_of charts o = option_map_or (λ c. length c.timers) (chart_named charts o.chart) 0
+abbrev pub timers_of : List RawChart → RawObject → ℕ
+timers_of charts o = option_map_or (λ c. length c.timer) (chart_named charts o.chart) 0
 
 -- an object behind these: its chart, its variables, its priority, its threshold, and the time events up to it
-unfoldable pub placing_fault : List Chart → List Object → ℕ → Object → Option Fault
+unfoldable pub placing_fault : List RawChart → List RawObject → ℕ → RawObject → Option Fault
 placing_fault charts earlier k o =
     first_of
     (fault_if (is_none (chart_named charts o.chart)) NO_SUCH_NAME (Key OBJECT ∷ Pos k ∷ Key CHART ∷ [])
@@ -70,7 +74,7 @@ first_behind f earlier k [] = None
 first_behind f earlier k (x ∷ xs) = option_or (f earlier k x) (first_behind f (earlier ++ x ∷ []) (k + 1) xs)
 
 -- the first fault between tables, before those within charts
-unfoldable pub between_fault : Raw → Option Fault
+unfoldable pub between_fault : RawSystem → Option Fault
 between_fault raw =
     first_of
     (sizes_fault 1 None raw.pools
@@ -81,13 +85,13 @@ between_fault raw =
     ∷ [])
 
 -- no pool has blocks for a signal that isn't static
-abbrev pub is_without_pool : List Pool → Signal → Bool
+abbrev pub is_without_pool : List PoolDef → SignalDef → Bool
 is_without_pool pools s = not s.fixed && not (list_any (λ p. nat_le s.params p.size) pools)
 
 -- the first signal without a pool among these
-unfoldable pub no_pool_fault : List Pool → List Signal → Option Fault
+unfoldable pub no_pool_fault : List PoolDef → List SignalDef → Option Fault
 no_pool_fault pools signals = first_in (λ k s. fault_if (is_without_pool pools s) NO_POOL (Key SIGNAL ∷ Pos k ∷ [])) 1 signals
 
 -- the first signal without a pool, after the faults within charts
-abbrev pub pools_fault : Raw → Option Fault
+abbrev pub pools_fault : RawSystem → Option Fault
 pools_fault raw = no_pool_fault raw.pools raw.signals

@@ -1,5 +1,5 @@
 -- The first fault of a system whose tables have none by themselves.
-use Rattle.std.specs.Prelude.{List, [], ◌∷◌, map}
+use Rattle.std.specs.Prelude.{List, [], ◌∷◌}
 use Rattle.std.specs.declared.option.Option.{Option}
 use Rattle.qp_chart_names.specs.declared.raw.RawChart.{RawChart}
 use Rattle.qp_chart_names.specs.Faults.{Fault, first_of}
@@ -10,7 +10,6 @@ use Rattle.qp_system_tables.specs.declared.raw.RawSystem.{RawSystem}
 use Rattle.qp_system.specs.Between.{between_fault, no_pool_fault}
 use Rattle.qp_system_tables.specs.Few.{whole}
 use Rattle.qp_system.specs.Within.{names_of, charts_fault}
-use Rattle.qp_system_tables.specs.Views.{pool_view, signal_view}
 
 -- the first fault between these tables, within the charts, and of a signal without a pool
 unfoldable pub later_of : List PoolDef → List SignalDef → List RawChart → List RawObject → Option Fault
@@ -18,7 +17,7 @@ later_of pools signals charts objects =
     first_of
     (between_fault (whole pools signals charts objects)
     ∷ charts_fault (names_of signals objects) charts
-    ∷ no_pool_fault (map pool_view pools) (map signal_view signals)
+    ∷ no_pool_fault pools signals
     ∷ [])
 
 -- the same of a whole system

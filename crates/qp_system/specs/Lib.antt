@@ -5,6 +5,4 @@ pub mod Later
 pub mod Checked
 pub mod SystemOf
 pub mod Placed
-pub mod Deeds
-pub mod Same
 pub mod SystemLaw

@@ -10,11 +10,11 @@ use Rattle.qp_system_tables.specs.declared.raw.RawObject.{RawObject}
 
 -- the place of the first chart of this name, from 0
 abbrev pub chart_place : List RawChart → List ℕ → Option ℕ
-chart_place charts name = position (λ chart. bytes_eq chart.name.bytes name) charts
+chart_place charts name = position (λ chart. bytes_eq chart.name name) charts
 
 -- the object's chart is one of these
 abbrev pub HasChart : List RawChart → RawObject → Type 0
-HasChart charts raw = IsSome (chart_place charts raw.chart.bytes)
+HasChart charts raw = IsSome (chart_place charts raw.chart)
 
 -- the object's chart has a number among these
 abbrev pub IsWithin : List Chart → ObjectDef → Type 0

@@ -3,7 +3,6 @@ use Rattle.std.specs.Prelude.{◌≡◌, ℕ, List, ◌⊎◌}
 use Rattle.qp_model.specs.declared.systems.System.{System}
 use Rattle.qp_system_tables.specs.declared.fault.SystemFault.{SystemFault}
 use Rattle.qp_system_tables.specs.declared.fault.SystemFault.TheVariants.{Memory}
-use Rattle.qp_system.specs.Same.{SayTheSame}
 use Rattle.qp_model.specs.Sound.{IsSound}
 use Rattle.qp_system.specs.SystemOf.{IsSystemOf, RefusesSystem}
 
@@ -19,6 +18,6 @@ SystemsHaveNoFault = (bytes : List ℕ) (sys : System) (e : SystemFault) → IsS
 abbrev pub RefusalsAreOne : Type 0
 RefusalsAreOne = (bytes : List ℕ) (e f : SystemFault) → RefusesSystem bytes e → RefusesSystem bytes f → (e ≡ Memory) ⊎ (f ≡ Memory) ⊎ (e ≡ f)
 
--- two systems of the same bytes say the same
+-- the bytes of a file are one system
 abbrev pub SystemsAreOne : Type 0
-SystemsAreOne = (bytes : List ℕ) (a b : System) → IsSystemOf bytes a → IsSystemOf bytes b → SayTheSame a b
+SystemsAreOne = (bytes : List ℕ) (a b : System) → IsSystemOf bytes a → IsSystemOf bytes b → a ≡ b

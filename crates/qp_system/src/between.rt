@@ -5,7 +5,6 @@ ghost use Rattle.std.specs.List.{list_any};
 ghost use Rattle.qp_system.specs.Between.{between_fault, no_pool_fault};
 ghost use Rattle.qp_system_tables.specs.Few.{whole};
 ghost use Rattle.qp_system.specs.Passes.{Passes};
-ghost use Rattle.qp_system_tables.specs.Views.{pool_view, signal_view};
 
 use crate::placing::objects_placed;
 use crate::twice::{charts_pass, objects_pass, signals_pass, sizes_ascend};
@@ -49,7 +48,7 @@ fn has_no_pool(pools: &[PoolDef], signal: &SignalDef) -> bool
 /// Refuses a system with a signal that isn't static and fits no pool.
 pub fn pools_pass(pools: &[PoolDef], signals: &[SignalDef]) -> Result<(), SystemFault>
     requires { length signals.now ≤ 200 }
-    ensures { Passes (no_pool_fault (map pool_view pools.now) (map signal_view signals.now)) result }
+    ensures { Passes (no_pool_fault pools.now signals.now) result }
 {
     for (i, signal) in signals.iter().enumerate() {
         if has_no_pool(pools, signal) {

@@ -26,14 +26,14 @@ pub fn by_priority(mut objects: RawObjects) -> RawObjects
 
 /// The place of the chart of this name.
 fn place_of(charts: &[RawChart], name: &Name) -> Option<usize>
-    ensures { result ≡ chart_place charts.now name.now.bytes }
+    ensures { result ≡ chart_place charts.now name.now }
 {
     charts.iter().position(|chart| chart.name == *name)
 }
 
 /// The object's own first value of the variable of this name.
 fn own_value<'a>(own: &'a [(Name, i64)], name: &Name) -> Option<&'a (Name, i64)>
-    ensures { option_copied result ≡ find (λ v. bytes_eq v.0.bytes name.now.bytes) own.now }
+    ensures { option_copied result ≡ find (λ v. bytes_eq v.0 name.now) own.now }
 {
     own.iter().find(|value| value.0 == *name)
 }

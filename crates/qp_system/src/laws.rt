@@ -17,8 +17,7 @@ pub fn refusals_are_one()
     ensures { RefusalsAreOne }
 {}
 
-/// Two systems of the same bytes say the same. They differ at most in the unused room of their names, of which nothing
-/// is promised, and in where the parts of their expressions lie.
+/// The bytes of a file are one system.
 pub fn systems_are_one()
     ensures { SystemsAreOne }
 {}

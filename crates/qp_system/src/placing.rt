@@ -6,7 +6,6 @@ ghost use Rattle.std.specs.Option.{option_copied};
 ghost use Rattle.std.specs.Str.{bytes_eq};
 ghost use Rattle.qp_system.specs.Between.{timers_of, placing_fault, first_behind};
 ghost use Rattle.qp_system.specs.Passes.{Passes};
-ghost use Rattle.qp_system_tables.specs.Views.{chart_view, object_view};
 
 use crate::twice::member_fault;
 use qp_chart::{Name, Part, Path, RawChart, code, key};
@@ -17,20 +16,20 @@ const MOST_TIMERS: usize = 64;
 
 /// The first chart of this name.
 fn chart_of<'a>(charts: &'a [RawChart], name: &Name) -> Option<&'a RawChart>
-    ensures { option_copied result ≡ find (λ c. bytes_eq c.name.bytes name.now.bytes) charts.now }
+    ensures { option_copied result ≡ find (λ c. bytes_eq c.name name.now) charts.now }
 {
     charts.iter().find(|chart| chart.name == *name)
 }
 
 fn has_var(own: &[(Name, i64)], name: &Name) -> bool
-    ensures { result ≡ list_any (λ v. bytes_eq v.0.bytes name.now.bytes) own.now }
+    ensures { result ≡ list_any (λ v. bytes_eq v.0 name.now) own.now }
 {
     own.iter().any(|var| var.0 == *name)
 }
 
 /// Whether each of these variables is one of the chart's own.
 fn has_all(own: &[(Name, i64)], vars: &[(Name, i64)]) -> bool
-    ensures { result ≡ list_all (λ var. list_any (λ v. bytes_eq v.0.bytes var.0.bytes) own.now) vars.now }
+    ensures { result ≡ list_all (λ var. list_any (λ v. bytes_eq v.0 var.0) own.now) vars.now }
 {
     vars.iter().all(|var| has_var(own, &var.0))
 }
@@ -49,10 +48,10 @@ fn object_placed(
     place: u16,
     object: &RawObject,
 ) -> Result<usize, SystemFault>
-    requires sum { timers ≡ sum_by (timers_of (map chart_view charts.now)) (map object_view earlier.now) }
+    requires sum { timers ≡ sum_by (timers_of charts.now) earlier.now }
     requires few { timers ≤ 64 }
-    ensures passes { Passes (placing_fault (map chart_view charts.now) (map object_view earlier.now) place (object_view object.now)) result }
-    ensures total { IfOk result (λ total. (total ≡ timers + timers_of (map chart_view charts.now) (object_view object.now)) ×
+    ensures passes { Passes (placing_fault charts.now earlier.now place object.now) result }
+    ensures total { IfOk result (λ total. (total ≡ timers + timers_of charts.now object.now) ×
         (total ≤ 64)) }
 {
     let Some(chart) = chart_of(charts, &object.chart) else {
@@ -80,7 +79,7 @@ fn object_placed(
 /// Refuses objects whose chart or variables aren't declared, whose priority stands twice or is above their threshold, and too many time events.
 pub fn objects_placed(charts: &[RawChart], objects: &[RawObject]) -> Result<(), SystemFault>
     requires { length objects.now ≤ 200 }
-    ensures { Passes (first_behind (placing_fault (map chart_view charts.now)) [] 1 (map object_view objects.now)) result }
+    ensures { Passes (first_behind (placing_fault charts.now) [] 1 objects.now) result }
 {
     let mut timers = 0;
     for (i, object) in objects.iter().enumerate() {

@@ -7,7 +7,6 @@ ghost use Rattle.qp_chart_names.specs.declared.place.Part.TheVariants.{Key, Pos}
 ghost use Rattle.qp_system.specs.Between.{is_not_above, sizes_fault, first_behind, signal_fault, chart_fault, object_fault};
 ghost use Rattle.qp_system.specs.Passes.{Passes};
 ghost use Rattle.qp_system_tables.specs.Refused.{fault_at};
-ghost use Rattle.qp_system_tables.specs.Views.{pool_view, signal_view, chart_view, object_view};
 
 use qp_chart::{Name, Part, Path, RawChart, code, key};
 use qp_model::{PoolDef, SignalDef};
@@ -35,7 +34,7 @@ fn is_at_most(before: Option<u8>, size: u8) -> bool
 /// Refuses pools whose sizes don't ascend.
 pub fn sizes_ascend(pools: &[PoolDef]) -> Result<(), SystemFault>
     requires { length pools.now ≤ 200 }
-    ensures { Passes (sizes_fault 1 None (map pool_view pools.now)) result }
+    ensures { Passes (sizes_fault 1 None pools.now) result }
 {
     let mut before = None;
     for (i, pool) in pools.iter().enumerate() {
@@ -54,14 +53,14 @@ fn has_needless_parameters(signal: &SignalDef) -> bool
 }
 
 fn signal_is_named(signals: &[SignalDef], name: &Name) -> bool
-    ensures { result ≡ list_any (λ x. bytes_eq name.now.bytes x.name.bytes) signals.now }
+    ensures { result ≡ list_any (λ x. bytes_eq name.now x.name) signals.now }
 {
     signals.iter().any(|signal| *name == signal.name)
 }
 
 /// A signal behind others.
 fn signal_passes(earlier: &[SignalDef], place: u16, signal: &SignalDef) -> Result<(), SystemFault>
-    ensures { Passes (signal_fault (map signal_view earlier.now) place (signal_view signal.now)) result }
+    ensures { Passes (signal_fault earlier.now place signal.now) result }
 {
     if signal_is_named(earlier, &signal.name) {
         return Err(member_fault(code::DOUBLE, key::SIGNAL, place, key::NAME));
@@ -75,7 +74,7 @@ fn signal_passes(earlier: &[SignalDef], place: u16, signal: &SignalDef) -> Resul
 /// Refuses signals of one name, and static signals with parameters.
 pub fn signals_pass(signals: &[SignalDef]) -> Result<(), SystemFault>
     requires { length signals.now ≤ 200 }
-    ensures { Passes (first_behind signal_fault [] 1 (map signal_view signals.now)) result }
+    ensures { Passes (first_behind signal_fault [] 1 signals.now) result }
 {
     for (i, signal) in signals.iter().enumerate() {
         signal_passes(&signals[..i], i as u16 + 1, signal)?;
@@ -84,14 +83,14 @@ pub fn signals_pass(signals: &[SignalDef]) -> Result<(), SystemFault>
 }
 
 fn chart_is_named(charts: &[RawChart], name: &Name) -> bool
-    ensures { result ≡ list_any (λ x. bytes_eq name.now.bytes x.name.bytes) charts.now }
+    ensures { result ≡ list_any (λ x. bytes_eq name.now x.name) charts.now }
 {
     charts.iter().any(|chart| *name == chart.name)
 }
 
 /// A chart behind others.
 fn chart_passes(earlier: &[RawChart], place: u16, chart: &RawChart) -> Result<(), SystemFault>
-    ensures { Passes (chart_fault (map chart_view earlier.now) place (chart_view chart.now)) result }
+    ensures { Passes (chart_fault earlier.now place chart.now) result }
 {
     if chart_is_named(earlier, &chart.name) {
         return Err(member_fault(code::DOUBLE, key::CHART, place, key::NAME));
@@ -102,7 +101,7 @@ fn chart_passes(earlier: &[RawChart], place: u16, chart: &RawChart) -> Result<()
 /// Refuses charts of one name.
 pub fn charts_pass(charts: &[RawChart]) -> Result<(), SystemFault>
     requires { length charts.now ≤ 200 }
-    ensures { Passes (first_behind chart_fault [] 1 (map chart_view charts.now)) result }
+    ensures { Passes (first_behind chart_fault [] 1 charts.now) result }
 {
     for (i, chart) in charts.iter().enumerate() {
         chart_passes(&charts[..i], i as u16 + 1, chart)?;
@@ -111,14 +110,14 @@ pub fn charts_pass(charts: &[RawChart]) -> Result<(), SystemFault>
 }
 
 fn object_is_named(objects: &[RawObject], name: &Name) -> bool
-    ensures { result ≡ list_any (λ x. bytes_eq name.now.bytes x.name.bytes) objects.now }
+    ensures { result ≡ list_any (λ x. bytes_eq name.now x.name) objects.now }
 {
     objects.iter().any(|object| *name == object.name)
 }
 
 /// An object behind others.
 fn object_passes(earlier: &[RawObject], place: u16, object: &RawObject) -> Result<(), SystemFault>
-    ensures { Passes (object_fault (map object_view earlier.now) place (object_view object.now)) result }
+    ensures { Passes (object_fault earlier.now place object.now) result }
 {
     if object_is_named(earlier, &object.name) {
         return Err(member_fault(code::DOUBLE, key::OBJECT, place, key::NAME));
@@ -129,7 +128,7 @@ fn object_passes(earlier: &[RawObject], place: u16, object: &RawObject) -> Resul
 /// Refuses objects of one name.
 pub fn objects_pass(objects: &[RawObject]) -> Result<(), SystemFault>
     requires { length objects.now ≤ 200 }
-    ensures { Passes (first_behind object_fault [] 1 (map object_view objects.now)) result }
+    ensures { Passes (first_behind object_fault [] 1 objects.now) result }
 {
     for (i, object) in objects.iter().enumerate() {
         object_passes(&objects[..i], i as u16 + 1, object)?;

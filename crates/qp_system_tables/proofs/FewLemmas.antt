@@ -1,11 +1,9 @@
 -- A system that was read has no list with more members than its file may have.
-use Rattle.std.proofs.Common.{◌≡◌, ℕ, ℤ, ◌+◌, ◌≤◌, Bool, true, false, nat_le, cond, List, [], ◌∷◌, ◌++◌, length, map, get_or, Some, None, Ok, Err, refl, sym, subst, arith}
+use Rattle.std.proofs.Common.{◌≡◌, ℕ, ℤ, ◌+◌, ◌≤◌, Bool, true, false, nat_le, cond, List, [], ◌∷◌, ◌++◌, length, get_or, Some, None, Ok, Err, refl, sym, subst, arith}
 use Rattle.std.specs.Prelude.{All, nat_lt}
 use Rattle.std.specs.declared.option.Option.{Option}
 use Rattle.std.specs.declared.result.Result.{Result}
 use Rattle.std.specs.Option.{option_and_then}
-use Rattle.std.proofs.lemmas.List.{length-map}
-use Rattle.std.proofs.Math.ListN.{get_or-map}
 use Rattle.std.proofs.lemmas.Bool.Decides.{nat_tests}
 use Rattle.toml.specs.Data.{Data, Members, as_table, as_str}
 use Rattle.qp_chart_names.specs.declared.place.Part.{Part}
@@ -14,18 +12,16 @@ use Rattle.qp_chart_names.specs.Codes.{TOO_MANY, RANGE}
 use Rattle.qp_chart_names.specs.Faults.{Fault}
 use Rattle.qp_system_tables.specs.Tree.{◌>>=◌, refuse, at_key, knows, defaulted, needed, optional}
 use Rattle.qp_system_tables.specs.Values.{number_of, name_of, text_of, tables_of, texts_of, some_texts, short_texts, vars_of, some_vars, named_vars, all_integers, items_of_kind, allowed}
-use Rattle.arrayvec.specs.ArrayString.{ArrayString}
 use Rattle.qp_chart_names.specs.Keys.{QP, POOL, SIGNAL, CHART, OBJECT, NAME, PARENT, INIT, INIT_DO, VARS, TIMER, STATE, ENTRY, EXIT, ROW, ON, WHEN, DO, TO}
 use Rattle.qp_chart_names.specs.declared.raw.RawState.{RawState}
 use Rattle.qp_chart_names.specs.declared.raw.RawChart.{RawChart}
 use Rattle.qp_chart_names.specs.Readable.{IsReadableRow, IsReadableState}
 use Rattle.qp_system_tables.specs.declared.raw.RawSystem.{RawSystem}
-use Rattle.qp_system_tables.specs.Raw.{Row, State, Chart, Raw}
+use Rattle.qp_chart_names.specs.declared.raw.RawRow.{RawRow}
 use Rattle.qp_system_tables.specs.Tables.{read_tables, initial, pool_at, signal_at, row_at, timer_at, state_at, chart_at, object_at, raw_of}
 use Rattle.qp_system_tables.specs.Few.{IsFewChart, IsFew}
 use Rattle.qp_system_tables.proofs.ReadLemmas.{Between, bind-Ok, ok-same, defaulted-Ok, needed-Ok, tables_of-counted, tables-few, listed}
 use Rattle.qp_system_tables.proofs.RangeLemmas.{PoolInRange, pool_at-range, SignalInRange, signal_at-range, TimerInRange, timer_at-range, ObjectInRange, object_at-range}
-use Rattle.qp_system_tables.specs.Views.{pool_view, signal_view, timer_view, row_view, state_view, chart_view, object_view, raw_view}
 
 short-step : (b : Bool) (t : List ℕ) (r : Result (List (List ℕ)) Fault) (path : List Part) (xs : List (List ℕ))
     → cond {A = Result (List (List ℕ)) Fault} b (r >>= λ ts. Ok (t ∷ ts)) (refuse RANGE path) ≡ Ok xs → (ys : List (List ℕ)) × (r ≡ Ok ys) × (t ∷ ys ≡ xs)
@@ -85,10 +81,10 @@ vars-few : (place : List Part) (v : Data) (xs : List (List ℕ × ℤ)) → vars
 unfolding vars_of
 vars-few place v xs h = some_vars-few place (option_and_then (λ members. all_integers members) (as_table v)) xs h
 
-abbrev pub FewRow : Row → Type 0
+abbrev pub FewRow : RawRow → Type 0
 FewRow r = length r.acts ≤ 16
 
-row-few : (at : List Part) (t : Members) (r : Row) → row_at at t ≡ Ok r → FewRow r
+row-few : (at : List Part) (t : Members) (r : RawRow) → row_at at t ≡ Ok r → FewRow r
 unfolding row_at
 row-few at t r h =
     let a = bind-Ok (knows (ON ∷ WHEN ∷ DO ∷ TO ∷ []) at t) _ r h in
@@ -96,14 +92,14 @@ row-few at t r h =
     let c = bind-Ok (optional text_of WHEN at t) _ r b.2 in
     let d = bind-Ok (defaulted [] texts_of DO at t) _ r c.2 in
     let e = bind-Ok (optional name_of TO at t) _ r d.2 in
-    let q : Row = record { on = b.0; when = c.0; acts = d.0; to = e.0 } in
+    let q : RawRow = record { on = b.0; when = c.0; acts = d.0; to = e.0 } in
     let same : q ≡ r = ok-same q r e.2 in
     subst FewRow same (acts-few DO at t d.0 d.1)
 
-abbrev pub FewState : State → Type 0
-FewState s = (length s.entry ≤ 16) × (length s.exit ≤ 16) × (length s.init_do ≤ 16) × (length s.rows ≤ 32) × All FewRow s.rows
+abbrev pub FewState : RawState → Type 0
+FewState s = (length s.entry ≤ 16) × (length s.exit ≤ 16) × (length s.init_do ≤ 16) × (length s.row ≤ 32) × All FewRow s.row
 
-state-few : (at : List Part) (t : Members) (s : State) → state_at at t ≡ Ok s → FewState s
+state-few : (at : List Part) (t : Members) (s : RawState) → state_at at t ≡ Ok s → FewState s
 unfolding state_at
 state-few at t s h =
     let a = bind-Ok (knows (NAME ∷ PARENT ∷ ENTRY ∷ EXIT ∷ INIT ∷ INIT_DO ∷ ROW ∷ []) at t) _ s h in
@@ -114,15 +110,15 @@ state-few at t s h =
     let f = bind-Ok (initial (at ++ Key INIT ∷ []) (at_key INIT t) (at_key INIT_DO t)) _ s e.2 in
     let g = bind-Ok (defaulted [] texts_of INIT_DO at t) _ s f.2 in
     let i = bind-Ok (read_tables row_at (at ++ Key ROW ∷ []) (defaulted [] (tables_of 0 32) ROW at t)) _ s g.2 in
-    let q : State = record { name = b.0; parent = c.0; entry = d.0; exit = e.0; init = f.0; init_do = g.0; rows = i.0 } in
+    let q : RawState = record { name = b.0; parent = c.0; entry = d.0; exit = e.0; init = f.0; init_do = g.0; row = i.0 } in
     let same : q ≡ s = ok-same q s i.2 in
     let rows = listed FewRow row_at (λ n. n ≤ 32) (at ++ Key ROW ∷ []) (defaulted [] (tables_of 0 32) ROW at t) i.0 (λ ts. defaulted-Ok (λ (l : List Members). length l ≤ 32) [] (tables_of 0 32) ROW at t ts (omega arith) (tables-few 0 32)) row-few i.1 in
     subst FewState same (acts-few ENTRY at t d.0 d.1, acts-few EXIT at t e.0 e.1, acts-few INIT_DO at t g.0 g.1, rows.1, rows.0)
 
-abbrev pub FewChart : Chart → Type 0
-FewChart c = (length c.init_do ≤ 16) × (length c.vars ≤ 16) × (length c.timers ≤ 8) × (length c.states ≤ 64) × All FewState c.states × All TimerInRange c.timers
+abbrev pub FewChart : RawChart → Type 0
+FewChart c = (length c.init_do ≤ 16) × (length c.vars ≤ 16) × (length c.timer ≤ 8) × (length c.state ≤ 64) × All FewState c.state × All TimerInRange c.timer
 
-chart-few : (at : List Part) (t : Members) (k : Chart) → chart_at at t ≡ Ok k → FewChart k
+chart-few : (at : List Part) (t : Members) (k : RawChart) → chart_at at t ≡ Ok k → FewChart k
 unfolding chart_at
 chart-few at t k h =
     let a = bind-Ok (knows (NAME ∷ INIT ∷ INIT_DO ∷ VARS ∷ TIMER ∷ STATE ∷ []) at t) _ k h in
@@ -132,19 +128,19 @@ chart-few at t k h =
     let e = bind-Ok (defaulted [] (vars_of (Some 16)) VARS at t) _ k d.2 in
     let f = bind-Ok (read_tables timer_at (at ++ Key TIMER ∷ []) (defaulted [] (tables_of 0 8) TIMER at t)) _ k e.2 in
     let g = bind-Ok (read_tables state_at (at ++ Key STATE ∷ []) (needed (tables_of 1 64) STATE at t)) _ k f.2 in
-    let q : Chart = record { name = b.0; init = c.0; init_do = d.0; vars = e.0; timers = f.0; states = g.0 } in
+    let q : RawChart = record { name = b.0; init = c.0; init_do = d.0; vars = e.0; timer = f.0; state = g.0 } in
     let same : q ≡ k = ok-same q k g.2 in
     let vars = defaulted-Ok (λ (l : List (List ℕ × ℤ)). length l ≤ 16) [] (vars_of (Some 16)) VARS at t e.0 (omega arith) vars-few e.1 in
     let timers = listed TimerInRange timer_at (λ n. n ≤ 8) (at ++ Key TIMER ∷ []) (defaulted [] (tables_of 0 8) TIMER at t) f.0 (λ ts. defaulted-Ok (λ (l : List Members). length l ≤ 8) [] (tables_of 0 8) TIMER at t ts (omega arith) (tables-few 0 8)) timer_at-range f.1 in
     let states = listed FewState state_at (λ n. n ≤ 64) (at ++ Key STATE ∷ []) (needed (tables_of 1 64) STATE at t) g.0 (λ ts. needed-Ok (λ (l : List Members). length l ≤ 64) (tables_of 1 64) STATE at t ts (tables-few 1 64)) state-few g.1 in
     subst FewChart same (acts-few INIT_DO at t d.0 d.1, vars, timers.1, states.1, states.0, timers.0)
 
-abbrev pub FewRaw : Raw → Type 0
+abbrev pub FewRaw : RawSystem → Type 0
 FewRaw r =
     (length r.pools ≤ 15) × (length r.signals ≤ 200) × Between 1 32 (length r.charts) × Between 1 32 (length r.objects) × All FewChart r.charts
     × All PoolInRange r.pools × All SignalInRange r.signals × All ObjectInRange r.objects
 
-raw-few : (t : Members) (r : Raw) → raw_of t ≡ Ok r → FewRaw r
+raw-few : (t : Members) (r : RawSystem) → raw_of t ≡ Ok r → FewRaw r
 unfolding raw_of
 raw-few t r h =
     let a = bind-Ok (knows (QP ∷ POOL ∷ SIGNAL ∷ CHART ∷ OBJECT ∷ []) [] t) _ r h in
@@ -153,7 +149,7 @@ raw-few t r h =
     let d = bind-Ok (read_tables signal_at (Key SIGNAL ∷ []) (defaulted [] (tables_of 0 200) SIGNAL [] t)) _ r c.2 in
     let e = bind-Ok (read_tables chart_at (Key CHART ∷ []) (needed (tables_of 1 32) CHART [] t)) _ r d.2 in
     let f = bind-Ok (read_tables object_at (Key OBJECT ∷ []) (needed (tables_of 1 32) OBJECT [] t)) _ r e.2 in
-    let q : Raw = record { pools = c.0; signals = d.0; charts = e.0; objects = f.0 } in
+    let q : RawSystem = record { pools = c.0; signals = d.0; charts = e.0; objects = f.0 } in
     let same : q ≡ r = ok-same q r f.2 in
     let pools = listed PoolInRange pool_at (λ n. n ≤ 15) (Key POOL ∷ []) (defaulted [] (tables_of 0 15) POOL [] t) c.0 (λ ts. defaulted-Ok (λ (l : List Members). length l ≤ 15) [] (tables_of 0 15) POOL [] t ts (omega arith) (tables-few 0 15)) pool_at-range c.1 in
     let signals = listed SignalInRange signal_at (λ n. n ≤ 200) (Key SIGNAL ∷ []) (defaulted [] (tables_of 0 200) SIGNAL [] t) d.0 (λ ts. defaulted-Ok (λ (l : List Members). length l ≤ 200) [] (tables_of 0 200) SIGNAL [] t ts (omega arith) (tables-few 0 200)) signal_at-range d.1 in
@@ -161,62 +157,39 @@ raw-few t r h =
     let objects = listed ObjectInRange object_at (Between 1 32) (Key OBJECT ∷ []) (needed (tables_of 1 32) OBJECT [] t) f.0 (λ ts. needed-Ok (λ (l : List Members). Between 1 32 (length l)) (tables_of 1 32) OBJECT [] t ts (tables_of-counted 1 32)) object_at-range f.1 in
     subst FewRaw same (pools.1, signals.1, charts.1, objects.1, charts.0, pools.0, signals.0, objects.0)
 
--- what holds of the things that are seen holds of what they are seen of
-all-unmap : {X A : Type 0} (P : A → Type 0) (Q : X → Type 0) (view : X → A) → ((x : X) → P (view x) → Q x) → (xs : List X) → All P (map view xs) → All Q xs
-all-unmap P Q view step xs h =
-    λ k d inside. step (get_or xs k d) (rw (sym (get_or-map view xs k d)) (h k (view d) (rw (length-map xs view) inside)))
+-- what holds of some things, of all members
+all-of : {A : Type 0} (P Q : A → Type 0) → ((x : A) → P x → Q x) → (xs : List A) → All P xs → All Q xs
+all-of P Q step xs h = λ k d inside. step (get_or xs k d) (h k d inside)
 
-state-is_readable : (s : RawState) → FewState (state_view s) → IsReadableState s
-state-is_readable s h = record {
-  entry = h.0;
-  exit = h.1;
-  init_do = h.2;
-  row = rw (sym (length-map s.row row_view)) h.3;
-  rows = all-unmap FewRow IsReadableRow row_view (λ r k. k) s.row h.4;
-}
+state-is_readable : (s : RawState) → FewState s → IsReadableState s
+state-is_readable s h = record { entry = h.0; exit = h.1; init_do = h.2; row = h.3; rows = all-of FewRow IsReadableRow (λ r k. k) s.row h.4 }
 
-abbrev var_view : ArrayString × ℤ → List ℕ × ℤ
-var_view v = (v.0.bytes, v.1)
-
-chart-is_few : (c : RawChart) → FewChart (chart_view c) → IsFewChart c
-chart-is_few c h = record {
-  init_do = h.0;
-  vars = rw (sym (length-map c.vars var_view)) h.1;
-  timers = rw (sym (length-map c.timer timer_view)) h.2;
-  states = rw (sym (length-map c.state state_view)) h.3;
-  each = all-unmap FewState IsReadableState state_view state-is_readable c.state h.4;
-}
+chart-is_few : (c : RawChart) → FewChart c → IsFewChart c
+chart-is_few c h = record { init_do = h.0; vars = h.1; timers = h.2; states = h.3; each = all-of FewState IsReadableState state-is_readable c.state h.4 }
 
 -- a system that was read
-pub raw-is_few : (t : Members) (raw : RawSystem) → raw_of t ≡ Ok (raw_view raw) → IsFew raw
+pub raw-is_few : (t : Members) (raw : RawSystem) → raw_of t ≡ Ok raw → IsFew raw
 raw-is_few t raw e =
-    let h = raw-few t (raw_view raw) e in
-    record {
-      pools = rw (sym (length-map raw.pools pool_view)) h.0;
-      signals = rw (sym (length-map raw.signals signal_view)) h.1;
-      charts = rw (sym (length-map raw.charts chart_view)) h.2.1;
-      objects = rw (sym (length-map raw.objects object_view)) h.3.1;
-      each = all-unmap FewChart IsFewChart chart_view chart-is_few raw.charts h.4;
-    }
+    let h = raw-few t raw e in
+    record { pools = h.0; signals = h.1; charts = h.2.1; objects = h.3.1; each = all-of FewChart IsFewChart chart-is_few raw.charts h.4 }
 
 -- the numbers of these tables are in their ranges, and there are as many of them as there must be
 pub record IsInRange (raw : RawSystem) : Type 0 where
   pub some_charts : 1 ≤ length raw.charts
   pub some_objects : 1 ≤ length raw.objects
-  pub pools : All (λ p. PoolInRange (pool_view p)) raw.pools
-  pub signals : All (λ s. SignalInRange (signal_view s)) raw.signals
-  pub timers : All (λ c. All (λ t. TimerInRange (timer_view t)) c.timer) raw.charts
-  pub objects : All (λ o. ObjectInRange (object_view o)) raw.objects
+  pub pools : All PoolInRange raw.pools
+  pub signals : All SignalInRange raw.signals
+  pub timers : All (λ c. All TimerInRange c.timer) raw.charts
+  pub objects : All ObjectInRange raw.objects
 
-pub raw-is_in_range : (t : Members) (raw : RawSystem) → raw_of t ≡ Ok (raw_view raw) → IsInRange raw
+pub raw-is_in_range : (t : Members) (raw : RawSystem) → raw_of t ≡ Ok raw → IsInRange raw
 raw-is_in_range t raw e =
-    let h = raw-few t (raw_view raw) e in
+    let h = raw-few t raw e in
     record {
-      some_charts = rw (sym (length-map raw.charts chart_view)) h.2.0;
-      some_objects = rw (sym (length-map raw.objects object_view)) h.3.0;
-      pools = all-unmap PoolInRange (λ p. PoolInRange (pool_view p)) pool_view (λ p k. k) raw.pools h.5;
-      signals = all-unmap SignalInRange (λ s. SignalInRange (signal_view s)) signal_view (λ s k. k) raw.signals h.6;
-      timers = all-unmap FewChart (λ c. All (λ t. TimerInRange (timer_view t)) c.timer) chart_view
-          (λ c k. all-unmap TimerInRange (λ t. TimerInRange (timer_view t)) timer_view (λ t i. i) c.timer k.5) raw.charts h.4;
-      objects = all-unmap ObjectInRange (λ o. ObjectInRange (object_view o)) object_view (λ o k. k) raw.objects h.7;
+      some_charts = h.2.0;
+      some_objects = h.3.0;
+      pools = h.5;
+      signals = h.6;
+      timers = all-of FewChart (λ c. All TimerInRange c.timer) (λ c k. k.5) raw.charts h.4;
+      objects = h.7;
     }

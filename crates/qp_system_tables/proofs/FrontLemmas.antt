@@ -4,7 +4,7 @@ use Rattle.std.specs.declared.option.Option.{Option}
 use Rattle.std.specs.declared.result.Result.{Result}
 use Rattle.std.specs.Option.{option_map}
 use Rattle.std.proofs.Math.Seq.{drop-cons}
-use Rattle.std.proofs.lemmas.List.{append-nil, drop_all, map-append}
+use Rattle.std.proofs.lemmas.List.{append-nil, drop_all}
 use Rattle.std.proofs.lemmas.Bool.Decides.{nat_tests}
 use Rattle.toml.specs.Data.{Data, Members}
 use Rattle.toml.specs.View.{view, items_view}
@@ -187,12 +187,12 @@ each-refused {A} read place front i ts table at e whole h is here invariant refu
     (ap (λ (t : Bor Table). read (place ++ Pos (i + 1) ∷ []) (members t)) (sym is) ∙ ap (λ p. read p (members table)) (sym here) ∙ found))
 
 -- a table that the program reads
-pub each-read : {A X : Type 0} (read : List Part → Members → Result A Fault) (view : X → A) (place : List Part) (items new : List X) (x : X) (i : ℕ) (ts : List (Bor Table))
+pub each-read : {A : Type 0} (read : List Part → Members → Result A Fault) (place : List Part) (items new : List A) (x : A) (i : ℕ) (ts : List (Bor Table))
     (table : Bor Table) (at : List Part) (whole : Result (List A) Fault) → i < length ts → table ≡ get_or ts i table → at ≡ place ++ Pos (i + 1) ∷ []
-    → with_front (map view items) (each read place (i + 1) (map members (drop i ts))) ≡ whole → read at (members table) ≡ Ok (view x) → new ≡ items ++ x ∷ []
-    → with_front (map view new) (each read place (i + 1 + 1) (map members (drop (i + 1) ts))) ≡ whole
-each-read read view place items new x i ts table at whole h is here invariant found pushed =
-    ap (λ f. with_front f (each read place (i + 1 + 1) (map members (drop (i + 1) ts)))) (ap (map view) pushed ∙ map-append view items (x ∷ []))
-    ∙ each-turn read place (map view items) i ts table (view x) h
+    → with_front items (each read place (i + 1) (map members (drop i ts))) ≡ whole → read at (members table) ≡ Ok x → new ≡ items ++ x ∷ []
+    → with_front new (each read place (i + 1 + 1) (map members (drop (i + 1) ts))) ≡ whole
+each-read read place items new x i ts table at whole h is here invariant found pushed =
+    ap (λ f. with_front f (each read place (i + 1 + 1) (map members (drop (i + 1) ts)))) pushed
+    ∙ each-turn read place items i ts table x h
     (ap (λ (t : Bor Table). read (place ++ Pos (i + 1) ∷ []) (members t)) (sym is) ∙ ap (λ p. read p (members table)) (sym here) ∙ found)
     ∙ invariant

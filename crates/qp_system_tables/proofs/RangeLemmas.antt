@@ -8,7 +8,10 @@ use Rattle.qp_chart_names.specs.declared.place.Part.{Part}
 use Rattle.qp_chart_names.specs.Codes.{RANGE}
 use Rattle.qp_chart_names.specs.Keys.{SIZE, BLOCKS, NAME, PARAMS, STATIC, SIGNAL, RATE, CHART, PRIORITY, THRESHOLD, QUEUE, DEFER, VARS}
 use Rattle.qp_chart_names.specs.Faults.{Fault}
-use Rattle.qp_system_tables.specs.Raw.{Pool, Signal, Timer, Object}
+use Rattle.qp_model.specs.declared.systems.PoolDef.{PoolDef}
+use Rattle.qp_model.specs.declared.systems.SignalDef.{SignalDef}
+use Rattle.qp_chart_names.specs.declared.raw.RawTimer.{RawTimer}
+use Rattle.qp_system_tables.specs.declared.raw.RawObject.{RawObject}
 use Rattle.qp_system_tables.specs.Tree.{refuse, knows, needed, defaulted}
 use Rattle.qp_system_tables.specs.Values.{number_of, number_in, within, name_of, flag_of, vars_of}
 use Rattle.qp_system_tables.specs.Tables.{pool_at, signal_at, timer_at, object_at}
@@ -45,51 +48,51 @@ defaulted-range : (least most default key : ℕ) (at : List Part) (t : Members) 
     → defaulted default (number_of least most) key at t ≡ Ok n → Between least most n
 defaulted-range least most default key at t n base h = defaulted-Ok (Between least most) default (number_of least most) key at t n base (number_of-range least most) h
 
-abbrev pub PoolInRange : Pool → Type 0
+abbrev pub PoolInRange : PoolDef → Type 0
 PoolInRange p = Between 0 8 p.size × Between 1 32 p.blocks
 
-pub pool_at-range : (at : List Part) (t : Members) (p : Pool) → pool_at at t ≡ Ok p → PoolInRange p
+pub pool_at-range : (at : List Part) (t : Members) (p : PoolDef) → pool_at at t ≡ Ok p → PoolInRange p
 unfolding pool_at
 pool_at-range at t p h =
     let a = bind-Ok (knows (SIZE ∷ BLOCKS ∷ []) at t) _ p h in
     let b = bind-Ok (needed (number_of 0 8) SIZE at t) _ p a.2 in
     let c = bind-Ok (needed (number_of 1 32) BLOCKS at t) _ p b.2 in
-    let q : Pool = record { size = b.0; blocks = c.0 } in
+    let q : PoolDef = record { size = b.0; blocks = c.0 } in
     let same : q ≡ p = ok-same q p c.2 in
     subst PoolInRange same (needed-range 0 8 SIZE at t b.0 b.1, needed-range 1 32 BLOCKS at t c.0 c.1)
 
-abbrev pub SignalInRange : Signal → Type 0
+abbrev pub SignalInRange : SignalDef → Type 0
 SignalInRange s = Between 0 8 s.params
 
-pub signal_at-range : (at : List Part) (t : Members) (s : Signal) → signal_at at t ≡ Ok s → SignalInRange s
+pub signal_at-range : (at : List Part) (t : Members) (s : SignalDef) → signal_at at t ≡ Ok s → SignalInRange s
 unfolding signal_at
 signal_at-range at t s h =
     let a = bind-Ok (knows (NAME ∷ PARAMS ∷ STATIC ∷ []) at t) _ s h in
     let b = bind-Ok (needed name_of NAME at t) _ s a.2 in
     let c = bind-Ok (defaulted 0 (number_of 0 8) PARAMS at t) _ s b.2 in
     let d = bind-Ok (defaulted false flag_of STATIC at t) _ s c.2 in
-    let q : Signal = record { name = b.0; params = c.0; fixed = d.0 } in
+    let q : SignalDef = record { name = b.0; params = c.0; fixed = d.0 } in
     let same : q ≡ s = ok-same q s d.2 in
     subst SignalInRange same (defaulted-range 0 8 0 PARAMS at t c.0 (omega arith, omega arith) c.1)
 
-abbrev pub TimerInRange : Timer → Type 0
+abbrev pub TimerInRange : RawTimer → Type 0
 TimerInRange t = Between 0 3 t.rate
 
-pub timer_at-range : (at : List Part) (t : Members) (r : Timer) → timer_at at t ≡ Ok r → TimerInRange r
+pub timer_at-range : (at : List Part) (t : Members) (r : RawTimer) → timer_at at t ≡ Ok r → TimerInRange r
 unfolding timer_at
 timer_at-range at t r h =
     let a = bind-Ok (knows (NAME ∷ SIGNAL ∷ RATE ∷ []) at t) _ r h in
     let b = bind-Ok (needed name_of NAME at t) _ r a.2 in
     let c = bind-Ok (needed name_of SIGNAL at t) _ r b.2 in
     let d = bind-Ok (needed (number_of 0 3) RATE at t) _ r c.2 in
-    let q : Timer = record { name = b.0; signal = c.0; rate = d.0 } in
+    let q : RawTimer = record { name = b.0; signal = c.0; rate = d.0 } in
     let same : q ≡ r = ok-same q r d.2 in
     subst TimerInRange same (needed-range 0 3 RATE at t d.0 d.1)
 
-abbrev pub ObjectInRange : Object → Type 0
+abbrev pub ObjectInRange : RawObject → Type 0
 ObjectInRange o = Between 1 32 o.priority × Between 1 32 o.threshold × Between 0 255 o.queue × Between 0 255 o.defer
 
-pub object_at-range : (at : List Part) (t : Members) (o : Object) → object_at at t ≡ Ok o → ObjectInRange o
+pub object_at-range : (at : List Part) (t : Members) (o : RawObject) → object_at at t ≡ Ok o → ObjectInRange o
 unfolding object_at
 object_at-range at t o h =
     let a = bind-Ok (knows (NAME ∷ CHART ∷ PRIORITY ∷ THRESHOLD ∷ QUEUE ∷ DEFER ∷ VARS ∷ []) at t) _ o h in
@@ -100,7 +103,7 @@ object_at-range at t o h =
     let f = bind-Ok (needed (number_of 0 255) QUEUE at t) _ o e.2 in
     let g = bind-Ok (defaulted 0 (number_of 0 255) DEFER at t) _ o f.2 in
     let i = bind-Ok (defaulted [] (vars_of None) VARS at t) _ o g.2 in
-    let q : Object = record { name = b.0; chart = c.0; priority = d.0; threshold = e.0; queue = f.0; defer = g.0; vars = i.0 } in
+    let q : RawObject = record { name = b.0; chart = c.0; priority = d.0; threshold = e.0; queue = f.0; defer = g.0; vars = i.0 } in
     let same : q ≡ o = ok-same q o i.2 in
     let priority = needed-range 1 32 PRIORITY at t d.0 d.1 in
     subst ObjectInRange same (

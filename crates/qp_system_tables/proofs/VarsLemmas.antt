@@ -3,8 +3,7 @@ use Rattle.std.proofs.Common.{◌≡◌, ℕ, ◌+◌, ◌<◌, ◌≤◌, List,
 use Rattle.std.specs.declared.result.Result.{Result}
 use Rattle.std.specs.Option.{option_map}
 use Rattle.std.proofs.Math.Seq.{drop-cons}
-use Rattle.std.proofs.lemmas.List.{append-nil, drop_all, map-append}
-use Rattle.arrayvec.specs.ArrayString.{ArrayString}
+use Rattle.std.proofs.lemmas.List.{append-nil, drop_all}
 use Rattle.toml.specs.Data.{as_integer}
 use Rattle.toml.specs.View.{view, members_view}
 use Rattle.toml.specs.declared.value.Value.{Value}
@@ -13,7 +12,6 @@ use Rattle.qp_chart_names.specs.Faults.{Fault}
 use Rattle.qp_system_tables.specs.declared.fault.SystemFault.{SystemFault}
 use Rattle.qp_system_tables.specs.Tree.{◌>>=◌}
 use Rattle.qp_system_tables.specs.Values.{allowed, named_vars, all_integers}
-use Rattle.qp_system_tables.specs.Views.{vars_view}
 use Rattle.qp_system_tables.specs.Refused.{Fails}
 use Rattle.qp_system_tables.specs.Front.{with_front}
 use Rattle.qp_system_tables.proofs.FrontLemmas.{Fails-through, with_front-more, with_front-end, option-front-more, option-front-none}
@@ -54,17 +52,17 @@ named-refused place front i vars d e whole h invariant refused =
     ∙ ap (with_front front) (named-first place i vars d h ∙ named-Err place (pair_view (get_or vars i d)) (map pair_view (drop (i + 1) vars)) f found))
 
 -- a variable that is read
-pub named-read : (place : List Part) (items new : List (ArrayString × ℤ)) (name : ArrayString) (i : ℕ) (vars : List Pair) (d : Pair)
-    (whole : Result (List (List ℕ × ℤ)) Fault) → i < length vars → with_front (vars_view items) (named_vars place (map pair_view (drop i vars))) ≡ whole
-    → allowed place (get_or vars i d).0.now ≡ Ok name.bytes → new ≡ items ++ (name, (get_or vars i d).1) ∷ []
-    → with_front (vars_view new) (named_vars place (map pair_view (drop (i + 1) vars))) ≡ whole
+pub named-read : (place : List Part) (items new : List ((List ℕ) × ℤ)) (name : (List ℕ)) (i : ℕ) (vars : List Pair) (d : Pair)
+    (whole : Result (List (List ℕ × ℤ)) Fault) → i < length vars → with_front items (named_vars place (map pair_view (drop i vars))) ≡ whole
+    → allowed place (get_or vars i d).0.now ≡ Ok name → new ≡ items ++ (name, (get_or vars i d).1) ∷ []
+    → with_front new (named_vars place (map pair_view (drop (i + 1) vars))) ≡ whole
 named-read place items new name i vars d whole h invariant found pushed =
     let more = map pair_view (drop (i + 1) vars) in
     let value = (get_or vars i d).1 in
     ap (λ f. with_front f (named_vars place more))
-    (ap vars_view pushed ∙ map-append (λ (var : ArrayString × ℤ). (var.0.bytes, var.1)) items ((name, value) ∷ []))
-    ∙ sym (ap (with_front (vars_view items)) (named-first place i vars d h ∙ named-Ok place (pair_view (get_or vars i d)) more name.bytes found)
-    ∙ with_front-more (vars_view items) (name.bytes, value) (named_vars place more))
+    pushed
+    ∙ sym (ap (with_front items) (named-first place i vars d h ∙ named-Ok place (pair_view (get_or vars i d)) more name found)
+    ∙ with_front-more items (name, value) (named_vars place more))
     ∙ invariant
 
 -- all variables are read

@@ -8,12 +8,10 @@ use Rattle.qp_chart_names.specs.Faults.{Fault}
 use Rattle.qp_system_tables.specs.declared.fault.SystemFault.{SystemFault}
 use Rattle.qp_system_tables.specs.declared.fault.SystemFault.TheVariants.{Memory, NotToml, At}
 use Rattle.qp_system_tables.specs.declared.raw.RawSystem.{RawSystem}
-use Rattle.qp_system_tables.specs.Raw.{Raw}
 use Rattle.qp_system_tables.specs.Tables.{raw_of}
-use Rattle.qp_system_tables.specs.Views.{raw_view}
 
 -- the bytes are the TOML text of a tree that reading takes to this
-unfoldable pub TreeGives : List ℕ → Result Raw Fault → Type 0
+unfoldable pub TreeGives : List ℕ → Result RawSystem Fault → Type 0
 TreeGives bytes read = (tree : Members) × IsUtf8 bytes × (parse_document bytes ≡ Some tree) × (raw_of tree ≡ read)
 
 abbrev pub RefusesBytes : SystemFault → List ℕ → Type 0
@@ -23,5 +21,5 @@ RefusesBytes (At code path) bytes = TreeGives bytes (Err (record { code = code; 
 
 -- the tables of the bytes, or why there are none, unless memory ran out
 abbrev pub FromBytes : Result RawSystem SystemFault → List ℕ → Type 0
-FromBytes (Ok raw) bytes = TreeGives bytes (Ok (raw_view raw))
+FromBytes (Ok raw) bytes = TreeGives bytes (Ok raw)
 FromBytes (Err fault) bytes = RefusesBytes fault bytes

@@ -1,13 +1,11 @@
 -- A system whose lists are as long as its file may have them.
-use Rattle.std.specs.Prelude.{List, ◌≤◌, length, map, All}
+use Rattle.std.specs.Prelude.{List, ◌≤◌, length, All}
 use Rattle.qp_chart_names.specs.declared.raw.RawChart.{RawChart}
 use Rattle.qp_chart_names.specs.Readable.{IsReadableState}
 use Rattle.qp_model.specs.declared.systems.PoolDef.{PoolDef}
 use Rattle.qp_model.specs.declared.systems.SignalDef.{SignalDef}
 use Rattle.qp_system_tables.specs.declared.raw.RawObject.{RawObject}
 use Rattle.qp_system_tables.specs.declared.raw.RawSystem.{RawSystem}
-use Rattle.qp_system_tables.specs.Raw.{Raw}
-use Rattle.qp_system_tables.specs.Views.{pool_view, signal_view, chart_view, object_view}
 
 -- the lists of a chart
 pub record IsFewChart (chart : RawChart) : Type 0 where
@@ -26,10 +24,5 @@ pub record IsFew (raw : RawSystem) : Type 0 where
   pub each : All IsFewChart raw.charts
 
 -- the system of these lists
-abbrev pub whole : List PoolDef → List SignalDef → List RawChart → List RawObject → Raw
-whole pools signals charts objects = record {
-  pools = map pool_view pools;
-  signals = map signal_view signals;
-  charts = map chart_view charts;
-  objects = map object_view objects;
-}
+abbrev pub whole : List PoolDef → List SignalDef → List RawChart → List RawObject → RawSystem
+whole pools signals charts objects = record { pools = pools; signals = signals; charts = charts; objects = objects }

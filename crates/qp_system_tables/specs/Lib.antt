@@ -1,10 +1,8 @@
-pub mod Raw
 pub mod Tree
 pub mod Names
 pub mod Values
 pub mod Tables
 pub mod Few
 pub mod Refused
-pub mod Views
 pub mod Front
 pub mod Document

@@ -9,7 +9,14 @@ use Rattle.qp_chart_names.specs.declared.place.Part.TheVariants.{Key}
 use Rattle.qp_chart_names.specs.Keys.{QP, POOL, SIGNAL, CHART, OBJECT, SIZE, BLOCKS, NAME, PARAMS, STATIC, INIT, INIT_DO, VARS, TIMER, STATE, RATE, PARENT, ENTRY, EXIT, ROW, ON, WHEN, DO, TO, PRIORITY, QUEUE, DEFER, THRESHOLD}
 use Rattle.qp_chart_names.specs.Codes.{MISSING}
 use Rattle.qp_chart_names.specs.Faults.{Fault}
-use Rattle.qp_system_tables.specs.Raw.{Pool, Signal, Timer, Row, State, Chart, Object, Raw}
+use Rattle.qp_model.specs.declared.systems.PoolDef.{PoolDef}
+use Rattle.qp_model.specs.declared.systems.SignalDef.{SignalDef}
+use Rattle.qp_chart_names.specs.declared.raw.RawTimer.{RawTimer}
+use Rattle.qp_chart_names.specs.declared.raw.RawRow.{RawRow}
+use Rattle.qp_chart_names.specs.declared.raw.RawState.{RawState}
+use Rattle.qp_chart_names.specs.declared.raw.RawChart.{RawChart}
+use Rattle.qp_system_tables.specs.declared.raw.RawObject.{RawObject}
+use Rattle.qp_system_tables.specs.declared.raw.RawSystem.{RawSystem}
 use Rattle.qp_system_tables.specs.Tree.{◌>>=◌, refuse, at_key, knows, needed, defaulted, optional, each}
 use Rattle.qp_system_tables.specs.Values.{number_of, name_of, text_of, flag_of, texts_of, vars_of, tables_of}
 
@@ -17,14 +24,14 @@ use Rattle.qp_system_tables.specs.Values.{number_of, name_of, text_of, flag_of, 
 abbrev pub read_tables : {A : Type 0} → (List Part → Members → Result A Fault) → List Part → Result (List Members) Fault → Result (List A) Fault
 read_tables read place tables = tables >>= λ ts. each read place 1 ts
 
-unfoldable pub pool_at : List Part → Members → Result Pool Fault
+unfoldable pub pool_at : List Part → Members → Result PoolDef Fault
 pool_at at table = do
   _ ← knows (SIZE ∷ BLOCKS ∷ []) at table
   size ← needed (number_of 0 8) SIZE at table
   blocks ← needed (number_of 1 32) BLOCKS at table
   Ok (record { size = size; blocks = blocks })
 
-unfoldable pub signal_at : List Part → Members → Result Signal Fault
+unfoldable pub signal_at : List Part → Members → Result SignalDef Fault
 signal_at at table = do
   _ ← knows (NAME ∷ PARAMS ∷ STATIC ∷ []) at table
   name ← needed name_of NAME at table
@@ -32,7 +39,7 @@ signal_at at table = do
   fixed ← defaulted false flag_of STATIC at table
   Ok (record { name = name; params = params; fixed = fixed })
 
-unfoldable pub timer_at : List Part → Members → Result Timer Fault
+unfoldable pub timer_at : List Part → Members → Result RawTimer Fault
 timer_at at table = do
   _ ← knows (NAME ∷ SIGNAL ∷ RATE ∷ []) at table
   name ← needed name_of NAME at table
@@ -40,7 +47,7 @@ timer_at at table = do
   rate ← needed (number_of 0 3) RATE at table
   Ok (record { name = name; signal = signal; rate = rate })
 
-unfoldable pub row_at : List Part → Members → Result Row Fault
+unfoldable pub row_at : List Part → Members → Result RawRow Fault
 row_at at table = do
   _ ← knows (ON ∷ WHEN ∷ DO ∷ TO ∷ []) at table
   on ← needed name_of ON at table
@@ -63,7 +70,7 @@ abbrev pub initial : List Part → Option Data → Option Data → Result (Optio
 initial place (Some value) acts = name_of place value >>= λ name. Ok (Some name)
 initial place None acts = if has_items acts then refuse MISSING place else Ok None
 
-unfoldable pub state_at : List Part → Members → Result State Fault
+unfoldable pub state_at : List Part → Members → Result RawState Fault
 state_at at table = do
   _ ← knows (NAME ∷ PARENT ∷ ENTRY ∷ EXIT ∷ INIT ∷ INIT_DO ∷ ROW ∷ []) at table
   name ← needed name_of NAME at table
@@ -73,9 +80,9 @@ state_at at table = do
   init ← initial (at ++ Key INIT ∷ []) (at_key INIT table) (at_key INIT_DO table)
   init_do ← defaulted [] texts_of INIT_DO at table
   rows ← read_tables row_at (at ++ Key ROW ∷ []) (defaulted [] (tables_of 0 32) ROW at table)
-  Ok (record { name = name; parent = parent; entry = entry; exit = exit; init = init; init_do = init_do; rows = rows })
+  Ok (record { name = name; parent = parent; entry = entry; exit = exit; init = init; init_do = init_do; row = rows })
 
-unfoldable pub chart_at : List Part → Members → Result Chart Fault
+unfoldable pub chart_at : List Part → Members → Result RawChart Fault
 chart_at at table = do
   _ ← knows (NAME ∷ INIT ∷ INIT_DO ∷ VARS ∷ TIMER ∷ STATE ∷ []) at table
   name ← needed name_of NAME at table
@@ -84,9 +91,9 @@ chart_at at table = do
   vars ← defaulted [] (vars_of (Some 16)) VARS at table
   timers ← read_tables timer_at (at ++ Key TIMER ∷ []) (defaulted [] (tables_of 0 8) TIMER at table)
   states ← read_tables state_at (at ++ Key STATE ∷ []) (needed (tables_of 1 64) STATE at table)
-  Ok (record { name = name; init = init; init_do = init_do; vars = vars; timers = timers; states = states })
+  Ok (record { name = name; init = init; init_do = init_do; vars = vars; timer = timers; state = states })
 
-unfoldable pub object_at : List Part → Members → Result Object Fault
+unfoldable pub object_at : List Part → Members → Result RawObject Fault
 object_at at table = do
   _ ← knows (NAME ∷ CHART ∷ PRIORITY ∷ THRESHOLD ∷ QUEUE ∷ DEFER ∷ VARS ∷ []) at table
   name ← needed name_of NAME at table
@@ -99,7 +106,7 @@ object_at at table = do
   Ok (record { name = name; chart = chart; priority = priority; threshold = threshold; queue = queue; defer = defer; vars = vars })
 
 -- the whole tree, in the order of the keys
-unfoldable pub raw_of : Members → Result Raw Fault
+unfoldable pub raw_of : Members → Result RawSystem Fault
 raw_of table = do
   _ ← knows (QP ∷ POOL ∷ SIGNAL ∷ CHART ∷ OBJECT ∷ []) [] table
   version ← needed (number_of 1 1) QP [] table

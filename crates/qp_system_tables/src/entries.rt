@@ -20,13 +20,8 @@ use toml::Table;
 
 /// What one table of a list says.
 pub trait Entry: Drop {
-    /// What contracts see.
-    ghost Seen: { Type 0 };
-
-    ghost seen: { Self → Seen };
-
     /// The reading of a table at a path.
-    ghost reading: { List Part → Members → Result Seen Fault };
+    ghost reading: { List Part → Members → Result Self Fault };
 
     /// How long that path may be.
     ghost depth: { ℕ };
@@ -34,7 +29,7 @@ pub trait Entry: Drop {
     /// Reads a table.
     fn read(alloc: Global, section: Section) -> Result<Self, SystemFault>
         requires { length section.at.now ≤ depth }
-        ensures { Gives seen result (reading section.entry.at.now (table_view section.entry.table.now)) };
+        ensures { Gives (λ entry. entry) result (reading section.entry.at.now (table_view section.entry.table.now)) };
 }
 
 /// The entries of a list, in order.
@@ -46,7 +41,7 @@ fn entries<T: Entry>(
     requires few { length tables.now ≤ 200 }
     requires room { length place.at.now + 2 ≤ T.depth }
     requires shallow { T.depth ≤ 6 }
-    ensures { Gives (λ v. map T.seen v.items) result (each T.reading (place.entry.at.now ++ Key place.entry.key ∷ []) 1
+    ensures { Gives (λ v. v.items) result (each T.reading (place.entry.at.now ++ Key place.entry.key ∷ []) 1
         (map (λ t. table_view t.now) tables.now)) }
 {
     let mut items = Vec::new(alloc);
@@ -68,7 +63,7 @@ pub fn needed_entries<T: Entry>(
     requires few { count.most ≤ 200 }
     requires room { length section.at.now + 2 ≤ T.depth }
     requires shallow { T.depth ≤ 6 }
-    ensures { Gives (λ v. map T.seen v.items) result (read_tables T.reading (section.entry.at.now ++ Key key ∷ [])
+    ensures { Gives (λ v. v.items) result (read_tables T.reading (section.entry.at.now ++ Key key ∷ [])
         (needed (tables_of count.least count.most) key section.entry.at.now (table_view section.entry.table.now))) }
 {
     let tables = needed_tables(alloc, section, key, count)?;
@@ -85,7 +80,7 @@ pub fn entries_or_none<T: Entry>(
     requires few { most ≤ 200 }
     requires room { length section.at.now + 2 ≤ T.depth }
     requires shallow { T.depth ≤ 6 }
-    ensures { Gives (λ v. map T.seen v.items) result (read_tables T.reading (section.entry.at.now ++ Key key ∷ [])
+    ensures { Gives (λ v. v.items) result (read_tables T.reading (section.entry.at.now ++ Key key ∷ [])
         (defaulted [] (tables_of 0 most) key section.entry.at.now (table_view section.entry.table.now))) }
 {
     let tables = tables_or_none(alloc, section, key, most)?;

@@ -1,10 +1,8 @@
 //! Objects, and the whole file.
 
 ghost use Rattle.toml.specs.View.{table_view};
-ghost use Rattle.qp_system_tables.specs.Raw.{Object};
 ghost use Rattle.qp_system_tables.specs.Refused.{Gives};
 ghost use Rattle.qp_system_tables.specs.Tables.{object_at, raw_of};
-ghost use Rattle.qp_system_tables.specs.Views.{object_view, raw_view};
 
 use crate::entries::{Entry, entries_or_none, needed_entries};
 use crate::fault::SystemFault;
@@ -30,10 +28,6 @@ const LENGTHS: Range = Range {
 const PARTS: Count = Count { least: 1, most: 32 };
 
 impl Entry for RawObject {
-    ghost Seen = { Object };
-
-    ghost seen = { object_view };
-
     ghost reading = { object_at };
 
     ghost depth = { 6 };
@@ -71,7 +65,7 @@ impl Entry for RawObject {
 /// The system of a tree, with its names not looked up.
 #[tactic(auto, unfolding(crate::specs::Tables::raw_of))]
 pub fn raw_system(alloc: Global, table: &Table) -> Result<RawSystem, SystemFault>
-    ensures { Gives raw_view result (raw_of (table_view table.now)) }
+    ensures { Gives (λ raw. raw) result (raw_of (table_view table.now)) }
 {
     let section = Section { at: &[], table };
     section.knows(&[key::QP, key::POOL, key::SIGNAL, key::CHART, key::OBJECT])?;

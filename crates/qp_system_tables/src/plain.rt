@@ -1,8 +1,6 @@
 //! Pools and signals.
 
-ghost use Rattle.qp_system_tables.specs.Raw.{Pool, Signal};
 ghost use Rattle.qp_system_tables.specs.Tables.{pool_at, signal_at};
-ghost use Rattle.qp_system_tables.specs.Views.{pool_view, signal_view};
 
 use crate::entries::Entry;
 use crate::fault::SystemFault;
@@ -14,10 +12,6 @@ use qp_model::{PoolDef, SignalDef};
 use std::alloc::Global;
 
 impl Entry for PoolDef {
-    ghost Seen = { Pool };
-
-    ghost seen = { pool_view };
-
     ghost reading = { pool_at };
 
     ghost depth = { 6 };
@@ -32,10 +26,6 @@ impl Entry for PoolDef {
 }
 
 impl Entry for SignalDef {
-    ghost Seen = { Signal };
-
-    ghost seen = { signal_view };
-
     ghost reading = { signal_at };
 
     ghost depth = { 6 };

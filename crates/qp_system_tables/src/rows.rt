@@ -1,8 +1,6 @@
 //! Time events and rows.
 
-ghost use Rattle.qp_system_tables.specs.Raw.{Timer, Row};
 ghost use Rattle.qp_system_tables.specs.Tables.{timer_at, row_at};
-ghost use Rattle.qp_system_tables.specs.Views.{timer_view, row_view};
 
 use crate::entries::Entry;
 use crate::fault::SystemFault;
@@ -13,10 +11,6 @@ use qp_chart::{RawRow, RawTimer, key};
 use std::alloc::Global;
 
 impl Entry for RawTimer {
-    ghost Seen = { Timer };
-
-    ghost seen = { timer_view };
-
     ghost reading = { timer_at };
 
     ghost depth = { 6 };
@@ -32,10 +26,6 @@ impl Entry for RawTimer {
 }
 
 impl Entry for RawRow {
-    ghost Seen = { Row };
-
-    ghost seen = { row_view };
-
     ghost reading = { row_at };
 
     ghost depth = { 6 };

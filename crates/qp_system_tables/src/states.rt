@@ -5,11 +5,9 @@ ghost use Rattle.std.specs.Option.{option_map};
 ghost use Rattle.toml.specs.View.{table_view, view};
 ghost use Rattle.qp_chart_names.specs.declared.place.Part.TheVariants.{Key};
 ghost use Rattle.qp_chart_names.specs.Keys as key;
-ghost use Rattle.qp_system_tables.specs.Raw.{State, Chart};
 ghost use Rattle.qp_system_tables.specs.Refused.{Gives};
 ghost use Rattle.qp_system_tables.specs.Tree.{at_key};
 ghost use Rattle.qp_system_tables.specs.Tables.{initial, has_items, state_at, chart_at};
-ghost use Rattle.qp_system_tables.specs.Views.{state_view, chart_view};
 
 use crate::entries::{Entry, entries_or_none, needed_entries};
 use crate::fault::SystemFault;
@@ -36,7 +34,7 @@ fn is_filled_list(value: Option<&Value>) -> bool
 
 /// The initial state of a state, which has to stand where the state has initial actions.
 fn initial_name(section: Section) -> Result<Option<Name>, SystemFault>
-    ensures { Gives (option_map (λ name. name.bytes)) result (initial (section.entry.at.now ++ Key key.INIT ∷ [])
+    ensures { Gives (option_map (λ name. name)) result (initial (section.entry.at.now ++ Key key.INIT ∷ [])
         (at_key key.INIT (table_view section.entry.table.now)) (at_key key.INIT_DO (table_view section.entry.table.now))) }
 {
     let place = section.place(key::INIT);
@@ -48,10 +46,6 @@ fn initial_name(section: Section) -> Result<Option<Name>, SystemFault>
 }
 
 impl Entry for RawState {
-    ghost Seen = { State };
-
-    ghost seen = { state_view };
-
     ghost reading = { state_at };
 
     ghost depth = { 4 };
@@ -87,10 +81,6 @@ impl Entry for RawState {
 }
 
 impl Entry for RawChart {
-    ghost Seen = { Chart };
-
-    ghost seen = { chart_view };
-
     ghost reading = { chart_at };
 
     ghost depth = { 2 };

@@ -19,7 +19,7 @@ use toml::Value;
 /// A text that has to be a name.
 #[tactic(auto, unfolding(crate::specs::Values::allowed))]
 pub fn allowed_name(place: KeyPlace, text: &str) -> Result<Name, SystemFault>
-    ensures { Gives (λ name. name.bytes) result (allowed (place.entry.at.now ++ Key place.entry.key ∷ []) text.now) }
+    ensures { Gives (λ name. name) result (allowed (place.entry.at.now ++ Key place.entry.key ∷ []) text.now) }
 {
     match Name::from(text) {
         Ok(name) if is_allowed(text) => Ok(name),
@@ -30,7 +30,7 @@ pub fn allowed_name(place: KeyPlace, text: &str) -> Result<Name, SystemFault>
 /// A name.
 #[tactic(auto, unfolding(crate::specs::Values::name_of))]
 pub fn name(place: KeyPlace, value: &Value) -> Result<Name, SystemFault>
-    ensures { Gives (λ name. name.bytes) result (name_of (place.entry.at.now ++ Key place.entry.key ∷ []) (view value.now)) }
+    ensures { Gives (λ name. name) result (name_of (place.entry.at.now ++ Key place.entry.key ∷ []) (view value.now)) }
 {
     match value.as_str() {
         None => Err(place.refuse(code::WRONG_KIND)),
@@ -41,7 +41,7 @@ pub fn name(place: KeyPlace, value: &Value) -> Result<Name, SystemFault>
 /// The name at a key that has to stand.
 #[tactic(auto, unfolding(crate::specs::Tree::needed))]
 pub fn needed_name(section: Section, key: u8) -> Result<Name, SystemFault>
-    ensures { Gives (λ name. name.bytes) result (needed name_of key section.entry.at.now (table_view section.entry.table.now)) }
+    ensures { Gives (λ name. name) result (needed name_of key section.entry.at.now (table_view section.entry.table.now)) }
 {
     let place = section.place(key);
     match section.value(key) {
@@ -53,7 +53,7 @@ pub fn needed_name(section: Section, key: u8) -> Result<Name, SystemFault>
 /// The name at a key that may be missing.
 #[tactic(auto, unfolding(crate::specs::Tree::optional))]
 pub fn optional_name(section: Section, key: u8) -> Result<Option<Name>, SystemFault>
-    ensures { Gives (option_map (λ name. name.bytes)) result (optional name_of key section.entry.at.now
+    ensures { Gives (option_map (λ name. name)) result (optional name_of key section.entry.at.now
         (table_view section.entry.table.now)) }
 {
     match section.value(key) {

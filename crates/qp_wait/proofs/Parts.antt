@@ -14,7 +14,7 @@ use Rattle.qp_port_home.specs.At.{IsHome}
 use Rattle.qp_port_home.specs.Turning.{HomeHalts}
 use Rattle.qp_port_home.proofs.Resting.{stops-found}
 use Rattle.qp_wait_bells.specs.Tallies.{one_where}
-use Rattle.qp_wait_lane.specs.Handed.{ringing_view}
+use Rattle.qp_wait_lane.specs.Handed.{lane_view, ringing_view}
 use Rattle.qp_wait_lane.specs.declared.lane.BellLane.{BellLane}
 use Rattle.qp_wait_lane.specs.Lane.{KeepsPerch, LooksAtCount, bell_view}
 use Rattle.qp_wait_lane.specs.Parked.{is_park_place, parks_of}
@@ -51,8 +51,8 @@ module _ (x w : BellLane) (keeps : KeepsPerch x w) where
 
   pub parks-by : (me place : ℕ) (r : Result (Unit {0}) Memory) → (is_park_place me (bell_view x).told place ≡ true) × ((k : ℕ) → place < k → is_park_place me (bell_view x).told k ≡ false)
       → OnOk r (parks_of w.perch ≡ parks_of x.perch ++ place ∷ []) → OnErr r (parks_of w.perch ≡ parks_of x.perch) → Parks me x w r
-  parks-by me place (Ok u) look one two = record { rests = kept; lane = ap ringing_view keeps.ringing; place = place; look = look.0; last = look.1; parks = one }
-  parks-by me place (Err e) look one two = record { rests = kept; lane = ap ringing_view keeps.ringing; parks = two }
+  parks-by me place (Ok u) look one two = record { rests = kept; lane = ap lane_view keeps.ringing.lane; place = place; look = look.0; last = look.1; parks = one; spent = keeps.ringing.found }
+  parks-by me place (Err e) look one two = record { rests = kept; lane = ap lane_view keeps.ringing.lane; parks = two }
 
 pub looked : (over : Bool) (x y : BellLane) → LooksAtCount over x y → HasNotParked over x y
 looked over x y looks = record {
@@ -80,6 +80,7 @@ parked-then me x y w one two = record {
   look = subst (λ v. is_park_place me v.told two.place ≡ true) one.lane two.look;
   last = λ k less. subst (λ v. is_park_place me v.told k ≡ false) one.lane (two.last k less);
   parks = two.parks ∙ ap (λ ks. ks ++ two.place ∷ []) one.parks;
+  spent = two.spent;
 }
 
 -- The run stops where the queue was found empty.

@@ -1,5 +1,5 @@
 -- What comes where a queue was found empty.
-use Rattle.std.specs.Prelude.{◌≡◌, ℕ, ◌+◌, ◌<◌, true, false, Bool, List, [], ◌∷◌, ◌++◌, Some, Ok, Err}
+use Rattle.std.specs.Prelude.{◌≡◌, ℕ, ◌+◌, ◌<◌, true, false, Bool, List, [], ◌∷◌, ◌++◌, Some, None, Ok, Err}
 use Rattle.std.specs.declared.result.Result.{Result}
 use Rattle.qp_base.specs.declared.faults.Memory.{Memory}
 use Rattle.qp_model.specs.Told.{ToldItem}
@@ -30,6 +30,7 @@ pub record HasParkedAt (me : ℕ) (old new : BellLane) : Type 0 where
   pub look : is_park_place me (bell_view old).told place ≡ true
   pub last : (k : ℕ) → place < k → is_park_place me (bell_view old).told k ≡ false
   pub parks : parks_of new.perch ≡ parks_of old.perch ++ place ∷ []
+  pub spent : new.ringing.found ≡ None
 
 -- it didn't
 pub record HasNotParked (over : Bool) (old new : BellLane) : Type 0 where

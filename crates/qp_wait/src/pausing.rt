@@ -1,8 +1,8 @@
 //! Where a turn found its queue empty.
 
-ghost use Rattle.std.specs.Prelude.{◌≤◌, length};
+ghost use Rattle.std.specs.Prelude.{◌≡◌, ◌≤◌, Some, length};
 ghost use Rattle.qp_wait_lane.specs.Lane.{bell_view};
-ghost use Rattle.qp_wait.specs.Pausing.{HasLook, Parks, Pauses};
+ghost use Rattle.qp_wait.specs.Pausing.{HasLook, IsShort, Parks, Pauses};
 
 use crate::looking::last_look;
 use qp_base::Memory;
@@ -14,6 +14,7 @@ use std::sync::Wait;
 /// Parks behind the last look that found the queue of object `me` empty. A lane that hasn't the object's parker gets the answer of a
 /// want of memory.
 fn park<R: Wait>(rt: &R, lane: &mut BellLane<'_>, me: u8) -> Result<(), Memory>
+    requires found { lane.old.ringing.found ≡ Some me }
     requires look { HasLook me (bell_view lane.old).told }
     requires few { length (bell_view lane.old).told ≤ 1000000 }
     ensures { Parks me lane.old lane.new result }
@@ -28,8 +29,9 @@ fn park<R: Wait>(rt: &R, lane: &mut BellLane<'_>, me: u8) -> Result<(), Memory>
 }
 
 /// Behind the look that found the queue of object `me` empty. Where nothing is on the count the turn is over: false. Else the stop word
-/// is looked at, and the lane parks.
+/// is looked at, and the lane parks. What the look found is used up then.
 pub(crate) fn pause<R: Wait>(rt: &R, lane: &mut BellLane<'_>, me: u8) -> Result<bool, Halt>
+    requires found { lane.old.ringing.found ≡ Some me }
     requires look { HasLook me (bell_view lane.old).told }
     requires few { length (bell_view lane.old).told ≤ 1000000 }
     ensures { Pauses me lane.old lane.new result }
@@ -45,4 +47,11 @@ pub(crate) fn pause<R: Wait>(rt: &R, lane: &mut BellLane<'_>, me: u8) -> Result<
         return Err(Halt::Memory);
     };
     Ok(true)
+}
+
+/// The turn ends as for want of memory.
+pub(crate) fn give_up(lane: &mut BellLane<'_>)
+    ensures { IsShort lane.old lane.new }
+{
+    lane.ringing.stop(qp_model::stops::MEMORY);
 }

@@ -8,7 +8,7 @@ ghost use Rattle.qp_port_home.specs.Turning.{HomeTurns, LooksTo};
 ghost use Rattle.qp_wait_lane.specs.Lane.{bell_view};
 ghost use Rattle.qp_wait.specs.Waiting.{RoundWaits, TurnWaits};
 
-use crate::pausing::pause;
+use crate::pausing::{give_up, pause};
 use crate::steps::{begin, finish};
 use qp_dispatch::Turn;
 use qp_kernel_turns::Halt;
@@ -40,6 +40,9 @@ fn rounds<R: Wait, G: Tells>(
     for _ in rt.forever() {
         if begin(rt, lane, sys, home, number, budget, gate)? {
             finish(rt, lane, sys, home, budget, &mut said)?;
+        } else if !lane.has_found(home.priority()) {
+            give_up(lane);
+            return Err(Halt::Memory);
         } else if !pause(rt, lane, home.priority())? {
             return Ok(());
         }

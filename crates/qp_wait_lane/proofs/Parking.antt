@@ -1,9 +1,10 @@
 -- Where a lane parked, behind more records, and the notes that it gave.
-use Rattle.std.proofs.Common.{◌≡◌, ℕ, zero, suc, ◌+◌, ◌%◌, ◌^◌, ◌==◌, Bool, true, false, ◌||◌, List, [], ◌∷◌, ◌++◌, cond, refl, sym, ◌∙◌, ap, subst, arith, Option}
+use Rattle.std.proofs.Common.{◌≡◌, ℕ, zero, suc, ◌+◌, ◌%◌, ◌^◌, ◌==◌, Bool, true, false, ◌||◌, List, [], ◌∷◌, ◌++◌, cond, refl, sym, ◌∙◌, ap, subst, arith, Option, Some, Result, Ok, Err, OnOk, OnErr}
 use Rattle.std.specs.List.{list_all}
 use Rattle.std.proofs.lemmas.Bool.{and_from, and_parts}
 use Rattle.std.proofs.lemmas.Bool.Decides.{nat_tests}
 use Rattle.crossbeam_utils.specs.Token.{parker_view}
+use Rattle.qp_base.specs.declared.faults.Memory.{Memory}
 use Rattle.qp_model.specs.Sources.{priorities}
 use Rattle.qp_model.specs.Told.{ToldItem}
 use Rattle.qp_calls.specs.LaneView.{LaneView}
@@ -39,6 +40,20 @@ place-more me told [] n h one = and_from (is_park_place me told n) true one refl
 place-more me told (k ∷ ns) n h one =
     let parts = and_parts (is_park_place me told k) (list_all (is_park_place me told) ns) h in
     and_from (is_park_place me told k) (list_all (is_park_place me told) (ns ++ n ∷ [])) parts.0 (place-more me told ns n parts.1 one)
+
+-- a park, or none
+pub parked-again : (cords : List Cord) (p q : Perch) (v w : LaneView) (place : ℕ) (r : Result (Unit {0}) Memory) → w ≡ v → HasParked cords (Some p) v → is_park_place p.object v.told place ≡ true → q.object ≡ p.object
+    → OnOk r (q.parks.items ≡ p.parks.items ++ place ∷ []) → OnErr r (q.parks.items ≡ p.parks.items) → HasParked cords (Some q) w
+parked-again cords p q v w place (Ok u) is h look same one two = record {
+  objects = h.objects ∙ ap (λ x. priorities x.sys) (sym is);
+  places = subst (λ x. list_all (is_park_place q.object x.told) q.parks.items ≡ true) (sym is) (subst (λ o. list_all (is_park_place o v.told) q.parks.items ≡ true) (sym same)
+      (subst (λ ns. list_all (is_park_place p.object v.told) ns ≡ true) (sym one) (place-more p.object v.told p.parks.items place h.places look)));
+}
+parked-again cords p q v w place (Err e) is h look same one two = record {
+  objects = h.objects ∙ ap (λ x. priorities x.sys) (sym is);
+  places = subst (λ x. list_all (is_park_place q.object x.told) q.parks.items ≡ true) (sym is) (subst (λ o. list_all (is_park_place o v.told) q.parks.items ≡ true) (sym same)
+      (subst (λ ns. list_all (is_park_place p.object v.told) ns ≡ true) (sym two) h.places));
+}
 
 -- Notes by the cords.
 

@@ -1,20 +1,19 @@
 -- What contracts see of a lane of the waiting port.
-use Rattle.std.specs.Prelude.{◌≡◌, ℕ, ◌+◌, ◌≤◌, ◌%◌, ◌^◌, ◌==◌, Bool, List, [], ◌∷◌, length, if◌then◌else◌}
+use Rattle.std.specs.Prelude.{◌≡◌, ℕ, ◌+◌, ◌≤◌, ◌%◌, ◌^◌, ◌==◌, Bool, List, [], ◌∷◌, if◌then◌else◌}
 use Rattle.crossbeam_utils.specs.Token.{parker_view}
 use Rattle.qp_calls.specs.LaneView.{LaneView}
 use Rattle.qp_wait_bells.specs.Tallies.{one_where}
 use Rattle.qp_wait_rings.specs.declared.cord.Cord.{Cord}
-use Rattle.qp_wait_rings.specs.Lane.{ringing_view}
+use Rattle.qp_wait_rings.specs.Lane.{Forgets, ringing_view}
 use Rattle.qp_wait_lane.specs.declared.lane.BellLane.{BellLane}
 use Rattle.qp_wait_lane.specs.Parked.{object_of, parks_of}
 
 abbrev pub bell_view : BellLane → LaneView
 bell_view l = ringing_view l.ringing
 
--- a lane that begins to ring; it has said no farewell, closed nothing, and not parked
+-- a lane whose posts ring from its first record on; it has said no farewell, closed nothing, and not parked
 pub record BeginsAt (v : LaneView) (l : BellLane) : Type 0 where
   pub lane : bell_view l ≡ v
-  pub from : l.ringing.from ≡ length v.told
   pub opened : l.ringing.opened ≡ 0
   pub refused : l.ringing.refused ≡ 0
   pub ended : l.closings.ended ≡ 0
@@ -72,9 +71,9 @@ pub record LooksAtCount (empty : Bool) (old new : BellLane) : Type 0 where
   pub looks : empty_looks new ≡ empty_looks old + one_where empty
   pub lasts : last_takes new ≡ last_takes old
 
--- all but its list of parks is as it was
+-- all but its list of parks, and what it found, is as it was; that is used up
 pub record KeepsPerch (old new : BellLane) : Type 0 where
-  pub ringing : new.ringing ≡ old.ringing
+  pub ringing : Forgets old.ringing new.ringing
   pub farewells : new.farewells ≡ old.farewells
   pub closings : new.closings ≡ old.closings
   pub object : object_of new.perch ≡ object_of old.perch

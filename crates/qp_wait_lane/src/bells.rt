@@ -1,6 +1,6 @@
 //! The parkers of a system and the count of what keeps their threads awake.
 
-ghost use Rattle.std.specs.Prelude.{◌≡◌, ◌<◌, map, IfOk, OnErr, IfErr};
+ghost use Rattle.std.specs.Prelude.{◌≡◌, ◌<◌, [], map, IfOk, OnErr, IfErr};
 ghost use Rattle.qp_model.specs.Sources.{priorities};
 ghost use Rattle.qp_wait_rings.specs.Handed.{lane_view};
 ghost use Rattle.qp_wait_bells.specs.Tallies.{with_added};
@@ -39,7 +39,7 @@ pub struct BellFault<'a> {
 }
 
 impl Bells {
-    ghost use Rattle.qp_wait_lane.specs.Rooted.{AreBellsOf, AreLooseFor, IsRootOf};
+    ghost use Rattle.qp_wait_lane.specs.Rooted.{AreBellsOf, AreLooseFor, HangsOn, IsRootOf};
     ghost use Rattle.qp_wait_lane.specs.Lane.{BeginsAt};
 
     /// The bells of a system, on whose count is nothing, and their root.
@@ -80,7 +80,7 @@ impl Bells {
         Ok(cords)
     }
 
-    /// Wraps a lane, whose posts ring from now on. It gets the parker of object `me`, unless another lane has it; 0 is for a lane that
+    /// Wraps a lane without records, whose posts ring. It gets the parker of object `me`, unless another lane has it; 0 is for a lane that
     /// parks for none. Want of memory alone refuses it.
     pub fn bell<'a>(
         &'a self,
@@ -90,9 +90,11 @@ impl Bells {
         me: u8,
     ) -> Result<BellLane<'a>, BellFault<'a>>
         requires root { IsRootOf self.now root.old }
+        requires fresh { (lane_view lane).told ≡ [] }
         requires system { AreBellsOf (lane_view lane).sys self.now }
         ensures root { IsRootOf self.now root.new }
         ensures begins { IfOk result (BeginsAt (lane_view lane.entry)) }
+        ensures hangs { IfOk result (HangsOn self.now) }
         ensures refused { IfErr result (λ fault. fault.lane ≡ lane.entry) }
     {
         let Ok(posts) = self.cords(alloc, root) else {

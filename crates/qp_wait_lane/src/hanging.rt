@@ -2,7 +2,7 @@
 
 ghost use Rattle.std.specs.Prelude.{◌≡◌, ◌++◌, [], true, map, IfOk, IfSome, OnOk};
 ghost use Rattle.qp_wait_rings.specs.Cords.{are_unpulled};
-ghost use Rattle.qp_wait_lane.specs.Ropes.{AreRopes};
+ghost use Rattle.qp_wait_lane.specs.Ropes.{AreRopes, IsPerchAt, parkers_of, wakes};
 
 use crate::perch::Perch;
 use crossbeam_utils::sync::parker::Pass;
@@ -73,6 +73,7 @@ pub(crate) fn add_cords(
     requires none { are_unpulled cords.old.items ≡ true }
     ensures ropes { AreRopes wakers.now ropes.new }
     ensures objects { OnOk result (map (λ c. c.object) cords.new.items ≡ map (λ c. c.object) cords.old.items ++ map (λ w. w.object) wakers.now) }
+    ensures parkers { OnOk result (parkers_of cords.new.items ≡ parkers_of cords.old.items ++ map wakes wakers.now) }
     ensures none { OnOk result (are_unpulled cords.new.items ≡ true) }
 {
     let Some((waking, later)) = wakers.split_first() else {
@@ -106,6 +107,7 @@ pub(crate) fn perch_of(
     requires ropes { AreRopes wakers.now ropes.old }
     ensures ropes { AreRopes wakers.now ropes.new }
     ensures object { IfSome result (λ p. p.object ≡ me) }
+    ensures parker { IfSome result (IsPerchAt wakers.now) }
     ensures none { IfSome result (λ p. p.parks.items ≡ []) }
 {
     let Some((waking, later)) = wakers.split_first() else {

@@ -1,13 +1,13 @@
 //! What a lane of the waiting port is, and tells of itself.
 
-ghost use Rattle.std.specs.Prelude.{◌≡◌, ℕ, ◌+◌, ◌%◌, ◌^◌, ◌++◌, ◌∷◌, [], IsTrue, OnErr, OnOk, true, length};
+ghost use Rattle.std.specs.Prelude.{◌≡◌, ℕ, ◌+◌, ◌%◌, ◌^◌, ◌++◌, ◌∷◌, [], IsTrue, OnErr, OnOk, Some, true, length};
 ghost use Rattle.std.specs.List.{count_by, list_all};
 ghost use Rattle.qp_model.specs.History.{lane_items};
 ghost use Rattle.qp_model.specs.WordLaw.{is_object};
 ghost use Rattle.qp_model_order.specs.SourceRun.{untold_all};
 ghost use Rattle.qp_wait_rings.specs.Handed.{lane_view};
 ghost use Rattle.qp_wait_rings.specs.Lane.{ringing_view};
-ghost use Rattle.qp_wait_rings.specs.Records.{is_claim, is_refusal, posts_on, since};
+ghost use Rattle.qp_wait_rings.specs.Records.{is_claim, is_refusal, posts_on};
 ghost use Rattle.qp_wait_lane.specs.Parked.{HasParked, HasParked-prop, HasPerch, is_park_place, object_of, parks_of, parks_shown};
 
 use crate::closings::Closings;
@@ -41,7 +41,7 @@ impl<'a> BellLane<'a> {
 
     /// What the lane added to the count: one for each claim.
     pub fn opened(&self) -> u64
-        ensures claims { result ≡ count_by is_claim (since self.now.ringing.from (bell_view self.now).told) }
+        ensures claims { result ≡ count_by is_claim (bell_view self.now).told }
         ensures seats { result ≡ self.now.ringing.seat.me.0.added + self.now.closings.seat.me.0.added }
     {
         self.ringing.opened
@@ -49,15 +49,15 @@ impl<'a> BellLane<'a> {
 
     /// What it took off, modulo 2^64: one for each claim that was refused, for each step that its turns finished and for each end.
     pub fn closed(&self) -> u64
-        ensures refusals { result ≡ (count_by is_refusal (since self.now.ringing.from (bell_view self.now).told) + self.now.closings.ended) % 2 ^ 64 }
+        ensures refusals { result ≡ (count_by is_refusal (bell_view self.now).told + self.now.closings.ended) % 2 ^ 64 }
         ensures seats { result ≡ (self.now.ringing.seat.me.0.taken + self.now.closings.seat.me.0.taken) % 2 ^ 64 }
     {
         self.ringing.refused.wrapping_add(self.closings.ended)
     }
 
-    /// The notes that its posts gave to object `a`: the posts on that queue since they ring.
+    /// The notes that its posts gave to object `a`: the posts on that queue.
     pub fn rings(&self, a: u8) -> u32
-        ensures { result ≡ count_by (posts_on a) (since self.now.ringing.from (bell_view self.now).told) }
+        ensures { result ≡ count_by (posts_on a) (bell_view self.now).told }
     {
         self.ringing.rings(a)
     }
@@ -78,7 +78,7 @@ impl<'a> BellLane<'a> {
     /// Its farewells, modulo 2^64. With the notes that its posts gave they are all notes that it gave to an object.
     pub fn farewells(&self) -> u64
         ensures said { result ≡ self.now.farewells.said }
-        ensures notes { (a : ℕ) → IsTrue (is_object (bell_view self.now).sys a) → notes_to a self.now % 2 ^ 64 ≡ (count_by (posts_on a) (since self.now.ringing.from (bell_view self.now).told) + result) % 2 ^ 64 }
+        ensures notes { (a : ℕ) → IsTrue (is_object (bell_view self.now).sys a) → notes_to a self.now % 2 ^ 64 ≡ (count_by (posts_on a) (bell_view self.now).told + result) % 2 ^ 64 }
     {
         self.farewells.said
     }
@@ -123,16 +123,28 @@ impl<'a> BellLane<'a> {
         }
     }
 
-    /// Parks behind the look at this place, until a note is there. Where the list of places can't grow it doesn't park.
+    /// Whether its last look, or take, was at the queue of object `me`, and found it empty.
+    pub fn has_found(&self, me: u8) -> bool
+        ensures { result ≡ true → self.now.ringing.found ≡ Some me }
+    {
+        self.ringing.has_found(me)
+    }
+
+    /// Parks behind the look at this place, until a note is there. Where the list of places can't grow it doesn't park. What its last look found is used up: no two parks
+    /// stand behind one look.
     pub fn park<R: Wait>(&mut self, rt: &R, place: u32) -> Result<(), Memory>
         requires some { HasPerch (object_of self.old.perch) self.old.perch }
+        requires found { self.old.ringing.found ≡ Some (object_of self.old.perch) }
         requires look { is_park_place (object_of self.old.perch) (bell_view self.old).told place ≡ true }
         ensures lane { KeepsPerch self.old self.new }
         ensures parked { OnOk result (parks_of self.new.perch ≡ parks_of self.old.perch ++ place ∷ []) }
         ensures refused { OnErr result (parks_of self.new.perch ≡ parks_of self.old.perch) }
     {
         match &mut self.perch {
-            Some(perch) => perch.park(rt, place),
+            Some(perch) => {
+                self.ringing.forget();
+                perch.park(rt, place)
+            }
             None => unreachable!(),
         }
     }

@@ -1,5 +1,5 @@
 -- A lane whose posts ring, behind more records.
-use Rattle.std.proofs.Common.{◌≡◌, ℕ, ◌+◌, ◌%◌, ◌^◌, ◌<◌, ◌≤◌, ◌==◌, nat_lt, Bool, true, false, not, ◌||◌, List, [], ◌∷◌, ◌++◌, map, length, take, append-nil, get_or, slice_get, slice_set, zero, suc, cond, refl, sym, ◌∙◌, ap, subst, arith, length-append, Option, Some, None, IsTrue}
+use Rattle.std.proofs.Common.{◌≡◌, ℕ, ◌+◌, ◌%◌, ◌^◌, ◌<◌, ◌≤◌, ◌==◌, nat_lt, Bool, true, false, not, ◌||◌, List, [], ◌∷◌, ◌++◌, map, length, take, append-nil, get_or, slice_get, slice_set, zero, suc, cond, refl, sym, ◌∙◌, ap, subst, arith, Option, Some, None, IsTrue}
 use Rattle.std.proofs.Math.ListN.{drop}
 use Rattle.std.specs.List.{count_by, find, list_any}
 use Rattle.std.proofs.lemmas.Bool.{and_parts}
@@ -23,11 +23,12 @@ use Rattle.qp_wait_bells.specs.declared.tally.Tally.{Tally}
 use Rattle.qp_calls.specs.Clauses.{Claims, ClaimsFront, PostsIt, PostsNot, PutsFront, PutsNot, entry_of}
 use Rattle.qp_calls.specs.LaneLaws.{IsWithinLimit}
 use Rattle.qp_calls.specs.LaneView.{AddsOf, LaneView}
+use Rattle.qp_model.proofs.NumberLemmas.{count-append}
 use Rattle.qp_wait_rings.specs.declared.cord.Cord.{Cord}
 use Rattle.qp_wait_rings.specs.Cords.{AreLoose, RingsOne, Settles, are_unpulled, count_in, has_cord}
-use Rattle.qp_wait_rings.specs.Records.{has_posted, is_claim, is_post_on, is_refusal, is_refused, is_silent, posts_on, since}
+use Rattle.qp_wait_rings.specs.Records.{has_posted, is_claim, is_post_on, is_refusal, is_refused, is_silent, posts_on}
 use Rattle.qp_wait_rings.specs.Rung.{HasRung}
-use Rattle.qp_wait_rings.proofs.Counting.{count-drop, count-more, count-none, count-one, since-append}
+use Rattle.qp_wait_rings.proofs.Counting.{count-more, count-none, count-one}
 use Rattle.qp_wait_rings.proofs.Quiet.{Grown, Quietly}
 
 -- What silent records aren't.
@@ -60,37 +61,32 @@ post-plain : (a o : ℕ) (b : Body) → is_post_on a o b ≡ true → not (is_sp
 post-plain a o (Spill n) h = absurd (cc)
 post-plain a o _ h = refl
 
-few-of : (p : ToldItem → Bool) (from : ℕ) (v : LaneView) → ((t : ToldItem) → p t ≡ true → not (is_spill t.told.body) ≡ true) → IsWithinLimit v → count_by p (since from v.told) + v.spare ≤ 1000000
-few-of p from v plain within =
-    let drop = count-drop p from v.told in
+few-of : (p : ToldItem → Bool) (v : LaneView) → ((t : ToldItem) → p t ≡ true → not (is_spill t.told.body) ≡ true) → IsWithinLimit v → count_by p v.told + v.spare ≤ 1000000
+few-of p v plain within =
     let more = count-more p (λ t. not (is_spill t.told.body)) v.told plain in
-    omega (arith, drop, more, within)
+    omega (arith, more, within)
 
-pub few-posts : (a from : ℕ) (v : LaneView) → IsWithinLimit v → count_by (posts_on a) (since from v.told) + v.spare ≤ 1000000
-few-posts a from v within = few-of (posts_on a) from v (λ t. post-plain a t.of t.told.body) within
+pub few-posts : (a : ℕ) (v : LaneView) → IsWithinLimit v → count_by (posts_on a) v.told + v.spare ≤ 1000000
+few-posts a v within = few-of (posts_on a) v (λ t. post-plain a t.of t.told.body) within
 
-pub few-claims : (from : ℕ) (v : LaneView) → IsWithinLimit v → count_by is_claim (since from v.told) + v.spare ≤ 1000000
-few-claims from v within = few-of is_claim from v (λ t. claim-plain t.told.body) within
+pub few-claims : (v : LaneView) → IsWithinLimit v → count_by is_claim v.told + v.spare ≤ 1000000
+few-claims v within = few-of is_claim v (λ t. claim-plain t.told.body) within
 
-pub few-refusals : (from : ℕ) (v : LaneView) → IsWithinLimit v → count_by is_refusal (since from v.told) + v.spare ≤ 1000000
-few-refusals from v within = few-of is_refusal from v (λ t. refused-plain t.told.body) within
+pub few-refusals : (v : LaneView) → IsWithinLimit v → count_by is_refusal v.told + v.spare ≤ 1000000
+few-refusals v within = few-of is_refusal v (λ t. refused-plain t.told.body) within
 
 -- The lane goes on.
 
-module _ (from opened refused : ℕ) (cords : List Cord) (v w : LaneView) (h : HasRung from opened refused cords v) where
-  counted : (p : ToldItem → Bool) (g : Grown v w) → count_by p (since from w.told) ≡ count_by p (since from v.told) + count_by p g.ts
-  counted p g = ap (λ ts. count_by p (since from ts)) g.told ∙ since-append p from v.told g.ts h.began
+module _ (opened refused : ℕ) (cords : List Cord) (v w : LaneView) (h : HasRung opened refused cords v) where
+  counted : (p : ToldItem → Bool) (g : Grown v w) → count_by p w.told ≡ count_by p v.told + count_by p g.ts
+  counted p g = ap (λ ts. count_by p ts) g.told ∙ count-append p v.told g.ts
 
-  begins-before : (g : Grown v w) → from ≤ length w.told
-  begins-before g = let long = ap length g.told ∙ length-append v.told g.ts in let before = h.began in omega (arith, long, before)
-
-  same-count : (p : ToldItem → Bool) (q : Quietly v w) → ((t : ToldItem) → is_silent t ≡ true → p t ≡ false) → count_by p (since from w.told) ≡ count_by p (since from v.told)
+  same-count : (p : ToldItem → Bool) (q : Quietly v w) → ((t : ToldItem) → is_silent t ≡ true → p t ≡ false) → count_by p w.told ≡ count_by p v.told
   same-count p q apart = let all = counted p q.grown in let none = count-none p is_silent q.grown.ts apart q.silent in omega (arith, all, none)
 
   -- by calls that add neither a post nor a refusal
-  pub rung-still : Quietly v w → HasRung from opened refused cords w
+  pub rung-still : Quietly v w → HasRung opened refused cords w
   rung-still q = record {
-    began = begins-before q.grown;
     objects = h.objects ∙ ap priorities (sym q.grown.sys);
     rang = λ a. h.rang a ∙ sym (same-count (posts_on a) q (λ t. not-post a t.of t.told.body));
     opened_is = h.opened_is ∙ sym (same-count is_claim q (λ t. not-claim (is_claim t)));
@@ -102,33 +98,31 @@ module _ (from opened refused : ℕ) (cords : List Cord) (v w : LaneView) (h : H
     abbrev one : Grown v w
     one = record { sys = adds.grows.sys; ts = for_object o t ∷ []; told = adds.grows.told }
 
-    one-count : (p : ToldItem → Bool) (b : Bool) → p (for_object o t) ≡ b → count_by p (since from w.told) ≡ count_by p (since from v.told) + cond b 1 0
-    one-count p b is = counted p one ∙ ap (λ n. count_by p (since from v.told) + n) (count-one p (for_object o t) b is)
+    one-count : (p : ToldItem → Bool) (b : Bool) → p (for_object o t) ≡ b → count_by p w.told ≡ count_by p v.told + cond b 1 0
+    one-count p b is = counted p one ∙ ap (λ n. count_by p v.told + n) (count-one p (for_object o t) b is)
 
-    opened-more : opened + 1 ≡ count_by is_claim (since from w.told)
+    opened-more : opened + 1 ≡ count_by is_claim w.told
     opened-more = let more = one-count is_claim true claims in let was = h.opened_is in omega (arith, more, was)
 
     pub rung-posted : (more : List Cord) → is_refused t.body ≡ false → is_post_on a o t.body ≡ true → ((b : ℕ) → (a == b) ≡ false → is_post_on b o t.body ≡ false)
         → map (λ c. c.object) more ≡ map (λ c. c.object) cords → count_in a more ≡ (count_in a cords + 1) % 2 ^ 64
-        → ((b : ℕ) → (a == b) ≡ false → count_in b more ≡ count_in b cords) → count_by (posts_on a) (since from v.told) < 1000000 → HasRung from (opened + 1) refused more w
+        → ((b : ℕ) → (a == b) ≡ false → count_in b more ≡ count_in b cords) → count_by (posts_on a) v.told < 1000000 → HasRung (opened + 1) refused more w
     rung-posted more taken mine others objects its rest few = record {
-      began = begins-before one;
       objects = objects ∙ h.objects ∙ ap priorities (sym one.sys);
       rang = λ b. by b (a == b) refl;
       opened_is = opened-more;
       refused_is = let same = one-count is_refusal false taken in let was = h.refused_is in omega (arith, same, was);
     }
       where
-        by : (b : ℕ) (test : Bool) → (a == b) ≡ test → count_in b more ≡ count_by (posts_on b) (since from w.told)
+        by : (b : ℕ) (test : Bool) → (a == b) ≡ test → count_in b more ≡ count_by (posts_on b) w.told
         by b false other = rest b other ∙ h.rang b ∙ (let same = one-count (posts_on b) false (others b other) in omega (arith, same))
         by b true same =
             let here : a ≡ b = grind (arith, nat_tests, same) in
-            subst (λ k. count_in k more ≡ count_by (posts_on k) (since from w.told)) here
+            subst (λ k. count_in k more ≡ count_by (posts_on k) w.told) here
             (let up = one-count (posts_on a) true mine in let was = h.rang a in omega (arith, up, was, its, few))
 
-    pub rung-refused : is_refused t.body ≡ true → ((b : ℕ) → is_post_on b o t.body ≡ false) → HasRung from (opened + 1) (refused + 1) cords w
+    pub rung-refused : is_refused t.body ≡ true → ((b : ℕ) → is_post_on b o t.body ≡ false) → HasRung (opened + 1) (refused + 1) cords w
     rung-refused taken none = record {
-      began = begins-before one;
       objects = h.objects ∙ ap priorities (sym one.sys);
       rang = λ b. h.rang b ∙ (let same = one-count (posts_on b) false (none b) in omega (arith, same));
       opened_is = opened-more;
@@ -141,37 +135,37 @@ module _ (from opened refused : ℕ) (cords : List Cord) (v w : LaneView) (h : H
   self-test n = grind (arith, nat_tests)
 
   module _ (a : ℕ) (more : List Cord) (rings : RingsOne a cords more) (within : IsWithinLimit v) (room : 0 < v.spare) where
-    few : count_by (posts_on a) (since from v.told) < 1000000
-    few = let most = few-posts a from v within in omega (arith, most, room)
+    few : count_by (posts_on a) v.told < 1000000
+    few = let most = few-posts a v within in omega (arith, most, room)
 
-    pub claimed : (e : Entry) (margin : Option ℕ) → PostsIt a e margin v w → HasRung from (opened + 1) refused more w
+    pub claimed : (e : Entry) (margin : Option ℕ) → PostsIt a e margin v w → HasRung (opened + 1) refused more w
     claimed e margin p = rung-posted a v.by (plain (Post a p.f p.l p.m (entry_of e))) p.adds refl more refl (self-test a) (λ b other. other) rings.objects rings.its rings.others few
 
-    pub put-front : (e : Entry) → a ≡ v.by → PutsFront e v w → HasRung from (opened + 1) refused more w
+    pub put-front : (e : Entry) → a ≡ v.by → PutsFront e v w → HasRung (opened + 1) refused more w
     put-front e mine p =
         let here : (v.by == a) ≡ true = subst (λ n. (n == a) ≡ true) mine (self-test a) in
         rung-posted a v.by (plain (Lifo p.f p.l p.m (entry_of e))) p.adds refl more refl here (λ b other. subst (λ n. (n == b) ≡ false) mine other) rings.objects rings.its rings.others few
 
-  pub claim-refused : (to : ℕ) (e same : Entry) (margin : Option ℕ) (f l m : ℕ) → PostsNot to e same margin f l m v w → HasRung from (opened + 1) (refused + 1) cords w
+  pub claim-refused : (to : ℕ) (e same : Entry) (margin : Option ℕ) (f l m : ℕ) → PostsNot to e same margin f l m v w → HasRung (opened + 1) (refused + 1) cords w
   claim-refused to e same (Some k) f l m p = rung-refused to v.by (plain (Full to f l m k)) p.adds refl refl (λ b. refl)
   claim-refused to e same None f l m p = rung-refused to v.by (plain (NoEntry to f l m)) p.adds refl refl (λ b. refl)
 
-  pub front-refused : (e same : Entry) (f l m : ℕ) → PutsNot e same f l m v w → HasRung from (opened + 1) (refused + 1) cords w
+  pub front-refused : (e same : Entry) (f l m : ℕ) → PutsNot e same f l m v w → HasRung (opened + 1) (refused + 1) cords w
   front-refused e same f l m p = rung-refused v.by v.by (plain (NoLifo v.by f l m)) p.adds refl refl (λ b. refl)
 
   -- a claim that was settled
   module _ (within : IsWithinLimit v) (room : 0 < v.spare) (later : ℕ) (one : later ≡ opened + 1) (more : List Cord) (refused_now : ℕ) (was is : Tally) where
-    pub claim-settled : (to : ℕ) (e : Entry) (margin : Option ℕ) (r : Claim) → Claims to e margin v w r → Settles to cords more refused refused_now was is r → HasRung from later refused_now more w
-    claim-settled to e margin claim.Done p s = subst (λ n. HasRung from n refused_now more w) (sym one) (subst (λ n. HasRung from (opened + 1) n more w) (sym s.refused_is) (claimed to more s.cords within room e margin p))
+    pub claim-settled : (to : ℕ) (e : Entry) (margin : Option ℕ) (r : Claim) → Claims to e margin v w r → Settles to cords more refused refused_now was is r → HasRung later refused_now more w
+    claim-settled to e margin claim.Done p s = subst (λ n. HasRung n refused_now more w) (sym one) (subst (λ n. HasRung (opened + 1) n more w) (sym s.refused_is) (claimed to more s.cords within room e margin p))
     claim-settled to e margin (claim.Short same f l m) p s =
-        subst (λ n. HasRung from n refused_now more w) (sym one)
-        (subst (λ n. HasRung from (opened + 1) n more w) (sym s.refused_is) (subst (λ cs. HasRung from (opened + 1) (refused + 1) cs w) (sym s.cords) (claim-refused to e same margin f l m p)))
+        subst (λ n. HasRung n refused_now more w) (sym one)
+        (subst (λ n. HasRung (opened + 1) n more w) (sym s.refused_is) (subst (λ cs. HasRung (opened + 1) (refused + 1) cs w) (sym s.cords) (claim-refused to e same margin f l m p)))
 
-    pub front-settled : (a : ℕ) (e : Entry) (r : Claim) → a ≡ v.by → ClaimsFront e v w r → Settles a cords more refused refused_now was is r → HasRung from later refused_now more w
-    front-settled a e claim.Done mine p s = subst (λ n. HasRung from n refused_now more w) (sym one) (subst (λ n. HasRung from (opened + 1) n more w) (sym s.refused_is) (put-front a more s.cords within room e mine p))
+    pub front-settled : (a : ℕ) (e : Entry) (r : Claim) → a ≡ v.by → ClaimsFront e v w r → Settles a cords more refused refused_now was is r → HasRung later refused_now more w
+    front-settled a e claim.Done mine p s = subst (λ n. HasRung n refused_now more w) (sym one) (subst (λ n. HasRung (opened + 1) n more w) (sym s.refused_is) (put-front a more s.cords within room e mine p))
     front-settled a e (claim.Short same f l m) mine p s =
-        subst (λ n. HasRung from n refused_now more w) (sym one)
-        (subst (λ n. HasRung from (opened + 1) n more w) (sym s.refused_is) (subst (λ cs. HasRung from (opened + 1) (refused + 1) cs w) (sym s.cords) (front-refused e same f l m p)))
+        subst (λ n. HasRung n refused_now more w) (sym one)
+        (subst (λ n. HasRung (opened + 1) n more w) (sym s.refused_is) (subst (λ cs. HasRung (opened + 1) (refused + 1) cs w) (sym s.cords) (front-refused e same f l m p)))
 
 -- what the seat took off, behind a claim that was settled
 pub settled-taken : (a : ℕ) (old new : List Cord) (refused more : ℕ) (was is : Tally) (r : Claim) → was.taken ≡ refused → Settles a old new refused more was is r → is.taken ≡ more
@@ -311,11 +305,9 @@ none-in a (c ∷ cs) h =
     by true none rest = none
     by false none rest = rest
 
-pub rung-begun : (from : ℕ) (cords : List Cord) (v : LaneView) → from ≡ length v.told → AreLoose v.sys cords → HasRung from 0 0 cords v
-rung-begun from cords v here loose =
-    let none : since from v.told ≡ [] = ap (λ n. drop n v.told) here ∙ drop-all v.told in
+pub rung-begun : (cords : List Cord) (v : LaneView) → v.told ≡ [] → AreLoose v.sys cords → HasRung 0 0 cords v
+rung-begun cords v none loose =
     record {
-      began = omega (arith, here);
       objects = loose.objects;
       rang = λ a. none-in a cords loose.none ∙ sym (ap (count_by (posts_on a)) none);
       opened_is = sym (ap (count_by is_claim) none);

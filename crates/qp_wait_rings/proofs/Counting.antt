@@ -1,14 +1,8 @@
 -- Records of a lane, counted.
-use Rattle.std.proofs.Common.{◌≡◌, ℕ, zero, suc, ◌+◌, ◌≤◌, Bool, true, false, List, [], ◌∷◌, ◌++◌, length, cond, refl, ◌∙◌, ap, arith, zero-add}
-use Rattle.std.proofs.Math.ListN.{drop}
+use Rattle.std.proofs.Common.{◌≡◌, ℕ, ◌+◌, ◌≤◌, Bool, true, false, List, [], ◌∷◌, cond, refl, ◌∙◌, ap, arith, zero-add}
 use Rattle.std.specs.List.{count_by, list_all}
 use Rattle.std.proofs.lemmas.Bool.{and_parts}
-use Rattle.std.proofs.lemmas.List.{drop-append-le}
 use Rattle.qp_model.proofs.NumberLemmas.{count-append}
-
--- behind more records
-pub since-append : {A : Type 0} (p : A → Bool) (from : ℕ) (xs ys : List A) → from ≤ length xs → count_by p (drop from (xs ++ ys)) ≡ count_by p (drop from xs) + count_by p ys
-since-append p from xs ys few = ap (count_by p) (drop-append-le from xs ys few) ∙ count-append p (drop from xs) ys
 
 pub count-cons : {A : Type 0} (p : A → Bool) (x : A) (xs : List A) → count_by p (x ∷ xs) ≡ cond (p x) 1 0 + count_by p xs
 count-cons p x xs = count-append p (x ∷ []) xs ∙ ap (λ n. n + count_by p xs) (zero-add (cond (p x) 1 0))
@@ -41,8 +35,3 @@ count-more p q (x ∷ xs) within =
     by true false h = absurd (let wrong : false ≡ true = h refl in cc)
     by false true h = omega arith
     by false false h = omega arith
-
-pub count-drop : {A : Type 0} (p : A → Bool) (n : ℕ) (xs : List A) → count_by p (drop n xs) ≤ count_by p xs
-count-drop p zero xs = omega arith
-count-drop p (suc n) [] = omega arith
-count-drop p (suc n) (x ∷ xs) = let rest = count-drop p n xs in let all = count-cons p x xs in omega (arith, rest, all)

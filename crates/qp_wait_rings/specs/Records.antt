@@ -1,6 +1,5 @@
 -- Which records ring, add to the count, and take off it again.
-use Rattle.std.specs.Prelude.{ℕ, ◌==◌, Bool, true, false, not, ◌||◌, List}
-use Rattle.std.proofs.Math.ListN.{drop}
+use Rattle.std.specs.Prelude.{ℕ, ◌==◌, Bool, true, false, not, ◌||◌}
 use Rattle.qp_model.specs.declared.bodies.Body.{Body}
 use Rattle.qp_model.specs.declared.bodies.Body.TheVariants.{Post, Lifo, Full, NoEntry, NoLifo}
 use Rattle.qp_model.specs.Told.{ToldItem}
@@ -35,7 +34,3 @@ is_claim t = has_posted t.told.body || is_refused t.told.body
 -- neither a post nor a claim that was refused
 abbrev pub is_silent : ToldItem → Bool
 is_silent t = not (has_posted t.told.body || is_refused t.told.body)
-
--- the records behind so many
-abbrev pub since : ℕ → List ToldItem → List ToldItem
-since from told = drop from told

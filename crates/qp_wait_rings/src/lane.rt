@@ -1,17 +1,18 @@
 //! What a ringing lane tells of itself.
 
-ghost use Rattle.std.specs.Prelude.{◌≡◌, ◌<◌};
+ghost use Rattle.std.specs.Prelude.{◌≡◌, ◌<◌, [], Some, true};
 ghost use Rattle.std.specs.List.{count_by};
 ghost use Rattle.qp_model.specs.History.{lane_items};
 ghost use Rattle.qp_shared.specs.Lane.{lane_view};
 ghost use Rattle.qp_model_order.specs.SourceRun.{untold_all};
-ghost use Rattle.qp_wait_rings.specs.Records.{is_claim, is_refusal, posts_on, since};
+ghost use Rattle.qp_wait_rings.specs.Lane.{found_at};
+ghost use Rattle.qp_wait_rings.specs.Records.{posts_on};
 
 use crate::cord::Cord;
 use crate::cords::pulls_of;
 use crate::ringing::RingingLane;
 use atomic_table::Seat;
-use qp_calls::Ops;
+use qp_calls::{Counts, Ops};
 use qp_model::Rec;
 use qp_shared::SharedLane;
 use qp_wait_bells::{Tallies, Tally};
@@ -26,25 +27,37 @@ pub(crate) fn object_of(lane: &mut SharedLane<'_>) -> u8
     o
 }
 
+/// What a look with these counts found empty.
+pub(crate) fn empty_at(p: u8, now: &Counts) -> Option<u8>
+    ensures { result ≡ found_at p now.now }
+{
+    if u64::from(now.f) + u64::from(now.l) <= u64::from(now.m) {
+        Some(p)
+    } else {
+        None
+    }
+}
+
 impl<'a> RingingLane<'a> {
-    ghost use Rattle.qp_wait_rings.specs.Lane.{BeginsToRing, ringing_view};
+    ghost use Rattle.qp_wait_rings.specs.Lane.{BeginsToRing, Forgets, ringing_view};
     ghost use Rattle.qp_wait_rings.specs.Cords.{AreLoose};
     ghost use Rattle.qp_wait_bells.specs.Tallies.{no_tally};
 
-    /// The lane with these parts, whose posts ring from now on.
+    /// A lane without records, with these parts, whose posts ring.
     pub fn new(
         lane: SharedLane<'a>,
         count: &'a Tallies,
         seat: Seat<(), Tally>,
         cords: Vec<Cord>,
     ) -> RingingLane<'a>
+        requires fresh { (lane_view lane).told ≡ [] }
         requires own { seat.table_id ≡ count.now.shared.table_id }
         requires some { 0 < count.now.shared.table_id.words }
         requires none { seat.me.0 ≡ no_tally }
         requires loose { AreLoose (lane_view lane).sys cords.items }
-        ensures { BeginsToRing (lane_view lane.entry) result }
+        ensures begins { BeginsToRing (lane_view lane.entry) result }
+        ensures cords { result.cords.items ≡ cords.items }
     {
-        let from = lane.records().len();
         RingingLane {
             lane,
             count,
@@ -52,7 +65,7 @@ impl<'a> RingingLane<'a> {
             cords,
             opened: 0,
             refused: 0,
-            from,
+            found: None,
         }
     }
 
@@ -63,11 +76,28 @@ impl<'a> RingingLane<'a> {
         self.lane.records()
     }
 
-    /// The notes that its posts gave to object `a`: the posts on that queue since they ring.
+    /// The notes that its posts gave to object `a`: the posts on that queue.
     pub fn rings(&self, a: u8) -> u32
-        ensures { result ≡ count_by (posts_on a) (since self.now.from (ringing_view self.now).told) }
+        ensures { result ≡ count_by (posts_on a) (ringing_view self.now).told }
     {
         pulls_of(self.cords.as_slice(), a) as u32
+    }
+
+    /// Whether its last look, or take, was at the queue of object `me`, and found it empty.
+    pub fn has_found(&self, me: u8) -> bool
+        ensures { result ≡ true → self.now.found ≡ Some me }
+    {
+        match self.found {
+            Some(a) => a == me,
+            None => false,
+        }
+    }
+
+    /// What it found is used up.
+    pub fn forget(&mut self)
+        ensures { Forgets self.old self.new }
+    {
+        self.found = None;
     }
 
     /// Gives the lane back.
@@ -81,7 +111,7 @@ impl<'a> RingingLane<'a> {
             cords: _,
             opened: _,
             refused: _,
-            from: _,
+            found: _,
         } = self;
         lane
     }

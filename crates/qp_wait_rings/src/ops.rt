@@ -1,6 +1,6 @@
 //! The calls of a lane, of which posts ring.
 
-use crate::lane::object_of;
+use crate::lane::{empty_at, object_of};
 use crate::posts::{open_one, settle};
 use crate::ringing::RingingLane;
 use qp_base::{Ev, Steps};
@@ -10,7 +10,10 @@ use std::sync::Wait;
 use std::sync::ledger::Ledger;
 
 impl Ops for RingingLane<'_> {
-    ghost use Rattle.qp_wait_rings.specs.Lane.{ringing_view};
+    ghost use Rattle.std.specs.Prelude.{◌≡◌, ◌<◌, IsTrue};
+    ghost use Rattle.qp_model.specs.WordLaw.{is_object};
+    ghost use Rattle.qp_calls.specs.Clauses.{Counted, Sees, Stopped, Takes};
+    ghost use Rattle.qp_wait_rings.specs.Lane.{found_at, found_by, ringing_view};
     ghost use Rattle.qp_wait_rings.specs.LaneLaws.{keeps-limit, has-causes};
 
     ghost lane = { ringing_view };
@@ -96,16 +99,40 @@ impl Ops for RingingLane<'_> {
         claim
     }
 
-    fn take<R: Wait>(&mut self, rt: &R, me: u8) -> Take {
-        self.lane.take(rt, me)
+    fn take<R: Wait>(&mut self, rt: &R, me: u8) -> Take
+        requires room { 0 < (ringing_view self.old).spare }
+        requires object { IsTrue (is_object (ringing_view self.old).sys me) }
+        requires serves { IsTrue ((ringing_view self.old).serves me) }
+        ensures takes { Takes me (ringing_view self.old) (ringing_view self.new) result }
+        ensures found { self.new.found ≡ found_by me result }
+    {
+        let take = self.lane.take(rt, me);
+        self.found = match &take {
+            Take::Taken(_) => None,
+            Take::Empty { .. } => Some(me),
+        };
+        take
     }
 
-    fn seen(&mut self, p: u8) -> Counts {
-        self.lane.seen(p)
+    fn seen(&mut self, p: u8) -> Counts
+        requires room { 0 < (ringing_view self.old).spare }
+        requires object { IsTrue (is_object (ringing_view self.old).sys p) }
+        ensures sees { Sees p (ringing_view self.old) (ringing_view self.new) result }
+        ensures found { self.new.found ≡ found_at p result }
+    {
+        let now = self.lane.seen(p);
+        self.found = empty_at(p, &now);
+        now
     }
 
-    fn counts(&mut self, p: u8) -> Counts {
-        self.lane.counts(p)
+    fn counts(&mut self, p: u8) -> Counts
+        requires object { IsTrue (is_object (ringing_view self.old).sys p) }
+        ensures counted { Counted p (ringing_view self.old) (ringing_view self.new) result }
+        ensures found { self.new.found ≡ found_at p result }
+    {
+        let now = self.lane.counts(p);
+        self.found = empty_at(p, &now);
+        now
     }
 
     fn subscribe(&mut self, sig: u16) -> bool {
@@ -140,7 +167,10 @@ impl Ops for RingingLane<'_> {
         self.lane.stop(code);
     }
 
-    fn stopped(&mut self) -> Option<u8> {
+    fn stopped(&mut self) -> Option<u8>
+        ensures stops { Stopped (ringing_view self.old) (ringing_view self.new) result }
+        ensures found { self.new.found ≡ self.old.found }
+    {
         self.lane.stopped()
     }
 

@@ -33,6 +33,7 @@ fn add<'a>(
     ringing: &mut Vec<BellLane<'a>>,
 ) -> Result<(), Memory>
     requires root { IsRootOf bells.now root.old }
+    requires fresh { (lane_view lane).told ≡ [] }
     requires system { AreBellsOf (lane_view lane).sys bells.now }
     ensures root { IsRootOf bells.now root.new }
     ensures lane { OnOk result (map bell_view ringing.new.items ≡ map bell_view ringing.old.items ++ lane_view lane.entry ∷ []) }
@@ -58,6 +59,7 @@ pub(crate) fn all_ringing<'a>(
     requires root { IsRootOf bells.now root.old }
     requires bells { AreBellsOf sys.now bells.now }
     requires systems { AllByRecursion (λ l. (lane_view l).sys ≡ sys.now) lanes.items }
+    requires fresh { AllByRecursion (λ l. (lane_view l).told ≡ []) lanes.items }
     ensures root { IsRootOf bells.now root.new }
     ensures lanes { IfOk result (λ ringing. map bell_view ringing.items ≡ map lane_view lanes.entry.items) }
 {

@@ -1,14 +1,17 @@
 //! A run of the waiting port.
 
-ghost use Rattle.std.specs.Prelude.{◌≡◌, ◌≤◌, IfOk, map};
+ghost use Rattle.std.specs.Prelude.{◌≡◌, ◌≤◌, IfOk, false, map};
+ghost use Rattle.std.specs.List.{AllByRecursion};
 ghost use Rattle.qp_model.specs.Kernels.{port};
 ghost use Rattle.qp_model.specs.Sound.{IsSound};
 ghost use Rattle.qp_stim.specs.Rules.{StimuliFit};
+ghost use Rattle.qp_port_cursor.specs.Answers.{IsFed};
+ghost use Rattle.qp_port_phases.specs.Stopping.{AnyStopped};
 ghost use Rattle.qp_port_runs.specs.Handed.{AreRestsIn};
 ghost use Rattle.qp_port_runs.specs.Handed.{HasRun};
 ghost use Rattle.qp_port_runs.specs.Handed.{AreNewLanes, AreSameLanes};
 ghost use Rattle.qp_port_runs.specs.Handed.{IsThreadRun};
-ghost use Rattle.qp_port_runs.specs.Handed.{lane_view};
+ghost use Rattle.qp_port_runs.specs.Handed.{WasSealedFor, lane_view};
 ghost use Rattle.qp_wait.specs.Handed.{bell_view};
 ghost use Rattle.qp_wait.specs.Handed.{AreBellsOf, IsRootOf};
 
@@ -59,6 +62,8 @@ fn run_ringing<'a, R: Threads + Wait + Sync, G: Gate>(
     requires lanes { AreNewLanes at.now.sys.now at.now.stim.now (map lane_view lanes.items) }
     ensures lanes { IfOk result (λ run. AreSameLanes (map lane_view lanes.entry.items) (map lane_view run.lanes.items)) }
     ensures run { IfOk result (λ run. HasRun at.now.sys.now at.now.stim.now at.now.budget run.done run.rests.items (map lane_view run.lanes.items)) }
+    ensures cause { IfOk result (λ run. run.done ≡ false → AnyStopped (map lane_view run.lanes.items)) }
+    ensures fed { IfOk result (λ run. AllByRecursion IsFed (map lane_view run.lanes.items)) }
 {
     let lanes = all_ringing(alloc, bells, &mut root, at.sys, lanes)?;
     let stim = at.stim;
@@ -87,6 +92,7 @@ pub fn run_wait<R: Threads + Wait + Sync, G: Gate>(
     requires fit { StimuliFit sys.now stim.now }
     requires few { budget ≤ 1000000 }
     ensures run { IfOk result (λ run. IsThreadRun port sys.now stim.now budget run.sealed.journal) }
+    ensures sealed { IfOk result (λ run. WasSealedFor sys.now run.sealed.journal) }
     ensures rests { IfOk result (λ run. AreRestsIn sys.now run.sealed.journal run.rests.items) }
 {
     let (bells, bell_root) = Bells::new(alloc, sys)?;

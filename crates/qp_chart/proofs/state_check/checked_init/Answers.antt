@@ -22,7 +22,7 @@ returns-then-not-is_below-clause-fault c =
     let s = c.args.scope.now in
     let number = c.in_ok-target.ensures.ok in
     let below : is_below_in (parents_of s.chart.now) c.in_ok-target.target c.args.place ≡ false = rw c.requires at (sym c.if-not-is_below.ensures) in
-    let astray : true ≡ is_astray s.chart.now c.args.place (state_number s.chart.now c.in-Some.name.bytes) = rw (number, below) refl in
+    let astray : true ≡ is_astray s.chart.now c.args.place (state_number s.chart.now c.in-Some.name) = rw (number, below) refl in
     rw c.in-Some.is (found-next _ _ _ (undeclared-None _ number) (found-first _ _ _ (fault_if-true _ _ _ _ astray c.below.ensures)))
 
 pub returns-clause-ok : goal.returns-clause-ok
@@ -31,5 +31,5 @@ returns-clause-ok c =
     let s = c.args.scope.now in
     let number = c.in_ok-target.ensures.ok in
     let below : is_below_in (parents_of s.chart.now) c.in_ok-target.target c.args.place ≡ true = rw c.requires at (sym c.if-not-is_below.ensures) in
-    let astray : false ≡ is_astray s.chart.now c.args.place (state_number s.chart.now c.in-Some.name.bytes) = rw (number, below) refl in
+    let astray : false ≡ is_astray s.chart.now c.args.place (state_number s.chart.now c.in-Some.name) = rw (number, below) refl in
     rw c.in-Some.is (none-next _ _ (undeclared-None _ number) (none-next _ _ (fault_if-false _ _ _ astray) none-last), number)

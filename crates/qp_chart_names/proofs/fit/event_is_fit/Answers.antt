@@ -12,7 +12,7 @@ unfolding event_of
 returns-then-as_slice-count_of c =
     let s = c.args.scope.now in
     let e = c.args.event.now in
-    let count : length (map term_of e.pars) ≡ params_of s.names.now e.signal.bytes =
+    let count : length (map term_of e.pars) ≡ params_of s.names.now e.signal =
     length-map e.pars term_of ∙ ap length (sym c.as_slice.ensures) ∙ c.if-as_slice-count_of.true ∙ c.count_of.ensures in
     and-both _ _ _ (eq-eqb _ _ count)
     ((rw c.as_slice-then-as_slice-count_of.ensures at c.all_reach.ensures) ∙ sym (list_all-map (λ t. reaches c.args.params t) term_of e.pars))

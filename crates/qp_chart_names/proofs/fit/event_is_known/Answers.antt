@@ -12,5 +12,5 @@ unfolding event_of
 returns-then-is_some c =
     let s = c.args.scope.now in
     let e = c.args.event.now in
-    let declared : is_some (signal_number s.names.now e.signal.bytes) ≡ true = sym (ap is_some c.signal_number.ensures) ∙ sym c.is_some.ensures ∙ c.if-is_some.true in
+    let declared : is_some (signal_number s.names.now e.signal) ≡ true = sym (ap is_some c.signal_number.ensures) ∙ sym c.is_some.ensures ∙ c.if-is_some.true in
     and-both _ _ _ declared ((rw c.as_slice.ensures at c.all_known.ensures) ∙ sym (list_all-map (λ t. term_known s.chart.now t) term_of e.pars))

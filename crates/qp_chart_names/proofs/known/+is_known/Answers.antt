@@ -7,4 +7,4 @@ use Rattle.qp_chart_names.proofs.known.+is_known.Goals as goal
 pub returns-in-Var : goal.returns-in-Var
 unfolding term_of knows
 returns-in-Var t c =
-    c.has_name.ensures ∙ any_named c.in-Var.name.bytes c.args.vars.now ∙ ap (λ e. knows (words c.args.vars.now) (term_of e)) (sym c.in-Var.is)
+    c.has_name.ensures ∙ any_named c.in-Var.name c.args.vars.now ∙ ap (λ e. knows (words c.args.vars.now) (term_of e)) (sym c.in-Var.is)

@@ -1,5 +1,4 @@
-use Rattle.std.proofs.Common.{arith}
-use Rattle.arrayvec.specs.ArrayString.{ArrayString}
+use Rattle.std.proofs.Common.{List, ℕ, arith}
 use Rattle.qp_chart_names.proofs.NumberingLemmas.{IsNumbering-none, IsNumbering-more}
 use Rattle.qp_chart_names.proofs.tables.numbered.Goals as goal
 
@@ -8,5 +7,5 @@ loop-i-init c = IsNumbering-none c.args.first _ c.new-places.ensures
 
 pub loop-i-preserved : goal.loop-i-preserved
 loop-i-preserved c =
-    IsNumbering-more (λ (n : ArrayString). n.bytes) c.args.first c.args.names.now c.loop-i.i c.index-names-i.result c.loop-i.places c.add.new.self _ _
+    IsNumbering-more (λ (n : (List ℕ)). n) c.args.first c.args.names.now c.loop-i.i c.index-names-i.result c.loop-i.places c.add.new.self _ _
     c.loop-i-test.true c.index-names-i.is (omega arith) c.loop-i.invariant c.in_ok-add.ensures

@@ -1,6 +1,5 @@
-use Rattle.std.proofs.Common.{◌≡◌, ◌∙◌, ap}
+use Rattle.std.proofs.Common.{List, ℕ, ◌≡◌, ◌∙◌, ap}
 use Rattle.std.specs.Prelude.{ℤ}
-use Rattle.arrayvec.specs.ArrayString.{ArrayString}
 use Rattle.qp_chart_names.specs.declared.raw.SigName.{SigName}
 use Rattle.qp_chart_names.specs.declared.raw.ObjName.{ObjName}
 use Rattle.qp_chart_names.specs.Known.{words}
@@ -15,7 +14,7 @@ returns-clause-ok c =
     let objects : words c.as_slice-5.result.now ≡ object_names c.args.names.now.objects =
     ap words (c.as_slice-5.ensures.value ∙ c.in_ok-objects.ensures) ∙ rw c.as_slice-2.ensures (words-map (λ (o : ObjName). o.name) _) in
     let listed : words c.in_ok-vars.vars.items ≡ variable_names c.args.raw.now.vars =
-    ap words c.in_ok-vars.ensures ∙ rw c.as_slice-3.ensures (words-map (λ (v : ArrayString × ℤ). v.0) _) in
+    ap words c.in_ok-vars.ensures ∙ rw c.as_slice-3.ensures (words-map (λ (v : (List ℕ) × ℤ). v.0) _) in
     let vars : words c.as_slice-6.result.now ≡ variable_names c.args.raw.now.vars = ap words c.as_slice-6.ensures.value ∙ listed in (
       c.in_ok-timers.ensures.ok.0,
       record {

@@ -1,4 +1,5 @@
 use Rattle.std.proofs.Common.{subst}
+use Rattle.qp_port_cursor.proofs.Feeding.{passes-feed}
 use Rattle.qp_port.specs.Jobs.{JobRests}
 use Rattle.qp_port.proofs.Standing.{source-passed, source-passed_hands, source-passed_hears, source-passed_to}
 use Rattle.qp_port.proofs.job.pass_job.Goals as goal
@@ -23,3 +24,8 @@ pub returns-clause-hears : goal.returns-clause-hears
 returns-clause-hears g c =
     let lane = g.O.Ops.lane in
     source-passed_hears c.args.sys.now c.in-Source.source c.pass_settle.new.source (lane c.args.ops.now) (lane c.pass_settle.new.ops) c.pass_settle.result c.pass_settle.ensures.passes
+
+pub returns-clause-feeds : goal.returns-clause-feeds
+returns-clause-feeds g c =
+    let lane = g.O.Ops.lane in
+    passes-feed c.args.sys.now c.in-Source.source c.pass_settle.new.source (lane c.args.ops.now) (lane c.pass_settle.new.ops) c.pass_settle.result c.pass_settle.ensures.passes

@@ -5,7 +5,7 @@ use Rattle.qp_port.proofs.CrossingLemmas.{worker-send}
 use Rattle.qp_port.proofs.Rows.{ready-map}
 use Rattle.qp_port.proofs.Beginning.{all-begin, lanes-long}
 use Rattle.qp_port.proofs.Standing.{end-either}
-use Rattle.qp_port.proofs.Running.{cause-left, lanes-left, one-table, run-left}
+use Rattle.qp_port.proofs.Running.{cause-left, fed-left, lanes-left, one-table, run-left}
 use Rattle.qp_port.proofs.run.run_lanes_of.Goals as goal
 
 pub new_workers-requires-clause-many : goal.new_workers-requires-clause-many
@@ -66,3 +66,12 @@ returns-clause-cause g c =
     cause-left c.args.at.now.sys.now c.args.at.now.stim.now c.args.at.now.budget c.requires.sound c.requires.fit c.requires.few (λ w. w.sys.now) (λ w. w.budget) (λ w. w.turn) (λ w. w.job) (λ w. w.lane) lane c.in_ok-workers.workers.items begun
     c.run_workers-over.result.workers.items c.run_workers-over.ensures.same c.left_of.result (λ run. run.lanes.items) (λ run. run.done) c.left_of.ensures.lanes c.run_workers-over.result.how
     c.run_workers-over.ensures.stopped c.run_workers-over.ensures.each c.left_of.ensures.short c.left_of.ensures.cause
+
+pub returns-clause-fed : goal.returns-clause-fed
+returns-clause-fed g c =
+    let lane = g.O.Ops.lane in
+    let begun =
+    all-begin c.args.at.now.sys.now c.args.at.now.stim.now c.args.at.now.budget c.requires.sound c.requires.fit c.requires.few (λ w. w.sys.now) (λ w. w.budget) (λ w. w.turn) (λ w. w.job) (λ w. w.lane) lane c.args.lanes.items c.in_ok-workers.workers.items
+    c.in_ok-workers.ensures c.requires.lanes in
+    fed-left c.args.at.now.sys.now c.args.at.now.stim.now c.args.at.now.budget c.requires.sound c.requires.fit c.requires.few (λ w. w.sys.now) (λ w. w.budget) (λ w. w.turn) (λ w. w.job) (λ w. w.lane) lane c.in_ok-workers.workers.items begun
+    c.run_workers-over.result.workers.items c.run_workers-over.ensures.same c.left_of.result (λ run. run.lanes.items) c.left_of.ensures.lanes c.run_workers-over.ensures.each c.left_of.ensures.short

@@ -1,3 +1,4 @@
+use Rattle.qp_port_cursor.proofs.Feeding.{lane-feeds}
 use Rattle.qp_port_cursor.proofs.Hearing.{lane-hears}
 use Rattle.qp_port_qk.proofs.Turning.{base-looks, kernel-counts, kernel-same, kernel-turned, order-alone, plan-fits}
 use Rattle.qp_port_qk.proofs.job.run_kernel.Goals as goal
@@ -23,6 +24,7 @@ returns g c =
       stands = kernel-turned g.W.World.acts sys c.args.budget c.args.objects.now c.kernel_turn.new.objects c.args.kernel.now c.kernel_turn.new.kernel v w c.kernel_turn.result c.requires.rests e.goes e.order e.rests e.counted e.lane;
       turns = record { goes = e.goes; order = e.order; lane = e.lane };
       hears = lane-hears g.W.World.acts v w c.kernel_turn.result e.lane;
+      feeds = lane-feeds g.W.World.acts v w c.kernel_turn.result e.lane;
       lane = kernel-same g.W.World.acts v w c.kernel_turn.result c.requires.alone e.lane;
       counts = kernel-counts g.W.World.acts sys c.args.budget c.args.objects.now c.kernel_turn.new.objects c.args.kernel.now c.kernel_turn.new.kernel v w c.kernel_turn.result c.requires.alone c.requires.rests e.lane e.rows;
     }

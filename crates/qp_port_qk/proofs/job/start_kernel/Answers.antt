@@ -1,4 +1,7 @@
+use Rattle.std.proofs.Common.{false}
+use Rattle.qp_dispatch.specs.declared.objects.Turn.TheVariants as turn
 use Rattle.qp_dispatch.specs.declared.steps.Step.TheVariants as step
+use Rattle.qp_port_cursor.proofs.Feeding.{lane-feeds}
 use Rattle.qp_port_cursor.proofs.Hearing.{why-stopped}
 use Rattle.qp_port_qk.proofs.Ending.{kernel-started, started-none, starts-same, stopped-ends, stopped-none}
 use Rattle.qp_port_qk.proofs.job.start_kernel.Goals as goal
@@ -20,3 +23,12 @@ returns-in-Stopped-clause-starts g c =
 
 pub returns-in-Stopped-clause-none : goal.returns-in-Stopped-clause-none
 returns-in-Stopped-clause-none g c = λ free. stopped-none c.args.sys.now c.args.budget (g.O.Ops.lane c.args.ops.now) (g.O.Ops.lane c.start.new.ops) c.in-Stopped.ensures.goes
+
+pub returns-in-Done-clause-feeds : goal.returns-in-Done-clause-feeds
+returns-in-Done-clause-feeds g c = lane-feeds false (g.O.Ops.lane c.args.ops.now) (g.O.Ops.lane c.start.new.ops) turn.Idle c.in-Done.ensures.lane
+
+pub returns-in-Stopped-clause-feeds : goal.returns-in-Stopped-clause-feeds
+returns-in-Stopped-clause-feeds g c = lane-feeds false (g.O.Ops.lane c.args.ops.now) (g.O.Ops.lane c.start.new.ops) turn.Stopped c.in-Stopped.ensures.lane
+
+pub returns-in-Memory-clause-feeds : goal.returns-in-Memory-clause-feeds
+returns-in-Memory-clause-feeds g c = lane-feeds false (g.O.Ops.lane c.args.ops.now) (g.O.Ops.lane c.start.new.ops) turn.Memory c.in-Memory.ensures.lane

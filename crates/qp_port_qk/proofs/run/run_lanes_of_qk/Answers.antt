@@ -2,9 +2,9 @@ use denote.Param.Send.{sendable}
 use Rattle.qp_port_qk.proofs.CrossingLemmas.{worker-send}
 use Rattle.std.proofs.Common.{◌≡◌, ◌⊎◌, arith, map, sym, subst, ◌∙◌, false, Some, true}
 use Rattle.std.specs.Prelude.{IfOk, OnOk}
-use Rattle.std.specs.List.{list_all}
+use Rattle.std.specs.List.{AllByRecursion, list_all}
 use Rattle.qp_port_phases.specs.declared.phases.Ended.TheVariants as ended
-use Rattle.qp_port_cursor.specs.Answers.{is_idle, is_short}
+use Rattle.qp_port_cursor.specs.Answers.{IsFed, is_idle, is_short}
 use Rattle.qp_port_qk.specs.Resting.{AreLeft}
 use Rattle.std.specs.List.{list_any}
 use Rattle.std.proofs.lemmas.List.{length-map}
@@ -16,7 +16,7 @@ use Rattle.qp_port_qk.specs.Workers.{FirstBegins, IsSameWorker, MayBegin, MayEnd
 use Rattle.qp_port_qk.proofs.Ending.{either-end}
 use Rattle.qp_port_qk.proofs.Rows.{ready-map}
 use Rattle.qp_port_qk.proofs.Beginning.{all-begin, new-many}
-use Rattle.qp_port_qk.proofs.Running.{cause, cause-left, each-long, lanes-left, ok-all, ok-map, one-table, ran, run-left, same-lanes, taken-whole}
+use Rattle.qp_port_qk.proofs.Running.{all-fed, cause, cause-left, each-long, fed-left, lanes-left, ok-all, ok-both, ok-map, one-table, ran, run-left, same-lanes, taken-whole}
 use Rattle.qp_port_qk.proofs.run.run_lanes_of_qk.Goals as goal
 
 pub new_workers-requires-clause-many : goal.new_workers-requires-clause-many
@@ -98,3 +98,16 @@ returns-clause-cause g c =
     (subst (λ us. IfOk c.left_of.result (λ run. run.lanes.items ≡ map (λ w. w.lane) us)) whole c.left_of.ensures.lanes)
     (subst (λ us. OnOk c.left_of.result (list_any (λ w. is_short w.turn) us ≡ false)) whole c.left_of.ensures.short)
     (subst (λ us. IfOk c.left_of.result (λ run. run.done ≡ false → (is_over c.start_and_run-how.result ≡ false) ⊎ (list_all (λ w. is_idle w.turn) us ≡ false))) whole c.left_of.ensures.cause)
+
+pub returns-clause-fed : goal.returns-clause-fed
+returns-clause-fed g c =
+    let ys = c.start_and_run-how.new.workers in
+    let went = c.start_and_run-how.ensures in
+    let a = c.as_mut_slice.ensures.len in
+    let b = each-long (λ a b. IsSameWorker a.sys.now b.sys.now a.budget b.budget a.job b.job (g.W.Ops.lane a.lane) (g.W.Ops.lane b.lane)) c.as_mut_slice.result.now ys c.start_and_run-how.ensures.same in
+    let whole = taken-whole c.in_ok-workers.workers.len ys _ (omega (arith, a, b)) in
+    ok-both (list_any (λ w. is_short w.turn) ys ≡ false) (λ run. run.lanes.items ≡ map (λ w. w.lane) ys) (λ run. AllByRecursion IsFed (map g.W.Ops.lane run.lanes.items))
+    (λ run lanes short. fed-left (λ w. w.lane) g.W.Ops.lane run.lanes.items ys lanes
+    (all-fed g.W.World.acts (λ w. w.sys.now) (λ w. w.budget) (λ w. w.turn) (λ w. w.job) (λ w. g.W.Ops.lane w.lane) ys short went.each))
+    c.left_of.result (subst (λ us. IfOk c.left_of.result (λ run. run.lanes.items ≡ map (λ w. w.lane) us)) whole c.left_of.ensures.lanes)
+    (subst (λ us. OnOk c.left_of.result (list_any (λ w. is_short w.turn) us ≡ false)) whole c.left_of.ensures.short)

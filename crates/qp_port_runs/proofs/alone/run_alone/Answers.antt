@@ -1,7 +1,10 @@
-use Rattle.std.proofs.Common.{◌≡◌, map, sym, subst}
+use Rattle.std.proofs.Common.{◌≡◌, false, map, sym, subst, ◌∙◌}
+use Rattle.std.specs.List.{AllByRecursion}
+use Rattle.qp_port_cursor.specs.Answers.{IsFed}
+use Rattle.qp_port_phases.specs.Stopping.{AnyStopped}
 use Rattle.qp_port_qk.specs.Ends.{HasRun}
 use Rattle.qp_port_qk.specs.Rows.{AreNewLanes, AreSameLanes}
-use Rattle.qp_port_runs.proofs.Worlds.{ok-one, ok-three, through}
+use Rattle.qp_port_runs.proofs.Worlds.{ok-one, ok-three, ok-two, through}
 use Rattle.qp_port_runs.proofs.alone.run_alone.Goals as goal
 
 pub run_lanes_of_qk-requires-clause-lanes : goal.run_lanes_of_qk-requires-clause-lanes
@@ -25,3 +28,18 @@ returns-clause-run g c =
     (subst (λ rs. HasRun c.args.sys.now c.args.stim.now c.args.budget run.done rs (map g.O.Ops.lane x.lanes.items)) (sym rests)
     (subst (HasRun c.args.sys.now c.args.stim.now c.args.budget run.done run.rests.items) (sym (through (λ w. w.lane) g.O.Ops.lane run.lanes.items x.lanes.items (sym lanes))) c.in_ok-run.ensures.run)))
     c.run_done.result c.run_done.ensures.lanes c.run_done.ensures.rests c.run_done.ensures.done
+
+pub returns-clause-cause : goal.returns-clause-cause
+returns-clause-cause g c =
+    let run = c.in_ok-run.run' in
+    ok-two (λ x. x.lanes.items ≡ map (λ w. w.lane) run.lanes.items) (λ x. x.done ≡ run.done)
+    (λ x. x.done ≡ false → AnyStopped (map g.O.Ops.lane x.lanes.items))
+    (λ x lanes done not. subst AnyStopped (sym (through (λ w. w.lane) g.O.Ops.lane run.lanes.items x.lanes.items (sym lanes))) (c.in_ok-run.ensures.cause (sym done ∙ not)))
+    c.run_done.result c.run_done.ensures.lanes c.run_done.ensures.done
+
+pub returns-clause-fed : goal.returns-clause-fed
+returns-clause-fed g c =
+    let run = c.in_ok-run.run' in
+    ok-one (λ x. x.lanes.items ≡ map (λ w. w.lane) run.lanes.items) (λ x. AllByRecursion IsFed (map g.O.Ops.lane x.lanes.items))
+    (λ x lanes. subst (AllByRecursion IsFed) (sym (through (λ w. w.lane) g.O.Ops.lane run.lanes.items x.lanes.items (sym lanes))) c.in_ok-run.ensures.fed)
+    c.run_done.result c.run_done.ensures.lanes

@@ -6,6 +6,7 @@ use Rattle.qp_model.specs.Kernels.{port}
 use Rattle.qp_port_quiet.specs.Sealed.{SealsLanes}
 use Rattle.qp_port.specs.Rows.{AreNewLanes}
 use Rattle.qp_shared.specs.Lane.{lane_view}
+use Rattle.qp_shared.specs.WasSealed.{WasSealedFor}
 use Rattle.qp_shared.specs.Starting.{serves_one}
 use Rattle.qp_shared.proofs.CrossingLemmas.{shared-lane-send}
 use Rattle.qp_port_runs.proofs.Lanes.{all-lanes}
@@ -41,6 +42,8 @@ seal-requires g c =
     record {
       all = all-lanes c.in_ok-shared.shared _ (serves_one c.in_ok-shared.shared.sys.now) (map lane_view c.in_ok-lanes.lanes.items) (map lane_view c.in_ok-lanes-2.field-0.lanes.items)
           (omega (arith, more, sources, a, b, few_objects, few)) c.in_ok-lanes.ensures (same-as _ _ c.in_ok-lanes-2.ensures.lanes);
+      cause = c.in_ok-lanes-2.ensures.cause;
+      fed = c.in_ok-lanes-2.ensures.fed;
     }
 
 pub returns-clause-run : goal.returns-clause-run
@@ -56,3 +59,6 @@ returns-clause-rests g c =
     let vs = map lane_view run.lanes.items in
     port-rests c.args.sys.now c.args.stim.now c.args.budget run.done run.rests.items vs c.requires.sound c.in_ok-lanes-2.ensures.run c.seal.result
     (subst (λ s. IfOk c.seal.result (λ x. SealsLanes s port c.args.budget vs x.sealed.journal)) c.in_ok-shared.ensures.system c.seal.ensures.seals) c.seal.ensures.quiet c.seal.ensures.rests
+
+pub returns-clause-sealed : goal.returns-clause-sealed
+returns-clause-sealed g c = subst (λ s. IfOk c.seal.result (λ x. WasSealedFor s x.sealed.journal)) c.in_ok-shared.ensures.system c.seal.ensures.sealed

@@ -5,6 +5,7 @@ use Rattle.qp_model.specs.Kernels.{qk}
 use Rattle.qp_port_quiet.specs.Sealed.{SealsLanes}
 use Rattle.qp_port_qk.specs.Rows.{AreNewLanes}
 use Rattle.qp_shared.specs.Lane.{lane_view}
+use Rattle.qp_shared.specs.WasSealed.{WasSealedFor}
 use Rattle.qp_shared.specs.Starting.{serves_all}
 use Rattle.qp_shared.proofs.CrossingLemmas.{shared-lane-send}
 use Rattle.qp_port_runs.proofs.Lanes.{all-lanes, new-lanes}
@@ -30,6 +31,8 @@ seal-requires g c =
     record {
       all = all-lanes c.in_ok-shared.shared _ (serves_all c.in_ok-shared.shared.sys.now) (map lane_view c.in_ok-lanes.lanes.items) (map lane_view c.in_ok-lanes-2.field-0.lanes.items)
           (omega (arith, sources, a, few)) c.in_ok-lanes.ensures c.in_ok-lanes-2.ensures.lanes;
+      cause = c.in_ok-lanes-2.ensures.cause;
+      fed = c.in_ok-lanes-2.ensures.fed;
     }
 
 pub returns-clause-run : goal.returns-clause-run
@@ -45,3 +48,6 @@ returns-clause-rests g c =
     let vs = map lane_view run.lanes.items in
     qk-rests c.sealed_qk_runs_are_lawful.ensures c.args.sys.now c.args.stim.now c.args.budget run.done run.rests.items vs c.requires.sound c.in_ok-lanes-2.ensures.run c.seal.result
     (subst (λ s. IfOk c.seal.result (λ x. SealsLanes s qk c.args.budget vs x.sealed.journal)) c.in_ok-shared.ensures.system c.seal.ensures.seals) c.seal.ensures.quiet c.seal.ensures.rests
+
+pub returns-clause-sealed : goal.returns-clause-sealed
+returns-clause-sealed g c = subst (λ s. IfOk c.seal.result (λ x. WasSealedFor s x.sealed.journal)) c.in_ok-shared.ensures.system c.seal.ensures.sealed

@@ -39,7 +39,7 @@ returns-in-Ok-clause-out g c =
 pub returns-in-Ok-clause-seal : goal.returns-in-Ok-clause-seal
 returns-in-Ok-clause-seal g c =
     rw c.finished.ensures.status (run-left c.args.system.now c.args.stimuli.now c.args.kernel c.args.budget c.args.output (number_of_form c.args.form) _ _
-    (journal_of c.in-Ok.ran) _ _ c.print-status.result (sealed_in c.in-Ok.ran) _ c.in-Ok.ensures.run (rw c.journal.ensures at c.print-status.ensures) c.in-Ok.ensures.seal
+    (journal_of c.in-Ok.ran) _ _ c.print-status.result (sealed_in c.in-Ok.ran) _ c.in-Ok.ensures.run c.in-Ok.ensures.sealed (rw c.journal.ensures at c.print-status.ensures) c.in-Ok.ensures.seal
     c.finished.ensures.seal)
 
 pub returns-in-Err-clause-out : goal.returns-in-Err-clause-out

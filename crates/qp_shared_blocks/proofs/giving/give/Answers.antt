@@ -1,12 +1,13 @@
-use Rattle.std.proofs.Common.{◌≤◌, sym, subst, ◌∙◌}
+use Rattle.std.proofs.Common.{◌≤◌, length, sym, subst, ◌∙◌}
 use Rattle.std.specs.Option.{unwrap_or}
 use Rattle.qp_model.specs.WordLaw.{is_pool}
 use Rattle.qp_table.specs.Rule.{IsContent}
 use Rattle.qp_calls.specs.Clauses.{event_of}
+use Rattle.qp_shared_steps.specs.Asked.{size_of}
 use Rattle.std.specs.Bool.{IsTrue}
 use Rattle.qp_shared_blocks.proofs.Lanes.{spare-is, room}
 use Rattle.qp_shared_blocks.proofs.Used.{give-ended}
-use Rattle.qp_shared_blocks.proofs.Gives.{fits-pool, fits-small, fits-content, give-holds, give-out, give-tries, none-holds, none-given, none-tries, none-few}
+use Rattle.qp_shared_blocks.proofs.Gives.{fits-pool, fits-small, fits-size, fits-content, give-holds, give-out, give-tries, none-holds, none-given, none-tries, none-few}
 use Rattle.qp_shared_blocks.proofs.giving.give.Goals as goal
 
 pub give_block-found-requires-clause-small : goal.give_block-found-requires-clause-small
@@ -17,6 +18,12 @@ give_block-found-requires-clause-pool g c = subst (λ s. IsTrue (is_pool s c.arg
 
 pub give_block-found-requires-clause-still : goal.give_block-found-requires-clause-still
 give_block-found-requires-clause-still g c = c.args.lane.now.holds.still.fills
+
+pub give_block-found-requires-clause-fits : goal.give_block-found-requires-clause-fits
+give_block-found-requires-clause-fits g c = subst (λ s. length c.args.ev.now.pars.items ≤ size_of s c.args.pool) (sym c.args.lane.now.key) (fits-size c.args.lane.now c.args.pool (event_of c.args.ev.now) c.requires.fits)
+
+pub give_block-found-requires-clause-done : goal.give_block-found-requires-clause-done
+give_block-found-requires-clause-done g c = c.args.lane.now.holds.still.done
 
 pub give_block-found-requires-clause-room : goal.give_block-found-requires-clause-room
 give_block-found-requires-clause-room g c = room c.args.lane.now c.requires.room

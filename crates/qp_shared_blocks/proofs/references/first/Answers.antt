@@ -1,7 +1,7 @@
 use Rattle.std.proofs.Common.{sym, subst, ◌∙◌}
 use Rattle.qp_calls.specs.Clauses.{StandsFresh}
 use Rattle.qp_shared_lane.specs.Lane.{state_view}
-use Rattle.qp_shared_blocks.proofs.Lanes.{spare-is, room, fresh, fresh-place, fresh-is}
+use Rattle.qp_shared_blocks.proofs.Lanes.{spare-is, room, fresh, begun, fresh-place, fresh-is}
 use Rattle.qp_shared_blocks.proofs.Used.{first-ended}
 use Rattle.qp_shared_blocks.proofs.Making.{first-holds, first-clause}
 use Rattle.qp_shared_blocks.proofs.references.first.Goals as goal
@@ -17,6 +17,9 @@ first_reference-found-requires-clause-room c = room c.args.lane.now c.requires.r
 
 pub first_reference-found-requires-clause-fresh : goal.first_reference-found-requires-clause-fresh
 first_reference-found-requires-clause-fresh c = fresh c.args.lane.now (record { pool = c.pool-pool.result; block = c.block-block.result; used = c.args.f.used }) (stand c) c.requires.unused
+
+pub first_reference-found-requires-clause-begun : goal.first_reference-found-requires-clause-begun
+first_reference-found-requires-clause-begun c = begun c.args.lane.now (record { pool = c.pool-pool.result; block = c.block-block.result; used = c.args.f.used }) (stand c) c.requires.unused
 
 pub put-requires-clause-room : goal.put-requires-clause-room
 put-requires-clause-room c = spare-is c.args.lane.now c.requires.room

@@ -1,7 +1,9 @@
-use Rattle.std.proofs.Common.{◌+◌, ◌∙◌, drop, refl, sym, ap}
+use Rattle.std.proofs.Common.{◌+◌, ◌∙◌, suc, IsTrue, drop, get_or, length, refl, sym, ap, subst, arith}
+use Rattle.std.specs.List.{list_any}
 use Rattle.qp_table.specs.After.{fills_for, filled}
+use Rattle.qp_shared_steps.specs.Asked.{is_asked}
 use Rattle.qp_shared_loops.specs.Ends.{filling}
-use Rattle.qp_shared_loops.proofs.Giving.{signal-written, value-left, value-written, kept-fresh}
+use Rattle.qp_shared_loops.proofs.Giving.{signal-written, value-left, value-written, kept-asked, kept-fresh}
 use Rattle.qp_shared_loops.proofs.gives.write_event.Goals as goal
 
 pub loop-at-init : goal.loop-at-init
@@ -27,3 +29,12 @@ fill-requires-in-loop-at-clause-fresh c = kept-fresh c.args.pool c.args.block (f
 
 pub fill-requires-in-loop-at-clause-left : goal.fill-requires-in-loop-at-clause-left
 fill-requires-in-loop-at-clause-left c = value-left c.args.pool c.args.block c.loop-at.at c.as_slice-pars.result.now _ c.args.seat.now.me.0 c.loop-at.seat.me.0 c.loop-at-test.true refl c.loop-at.invariant.left
+
+pub fill-requires-clause-asked : goal.fill-requires-clause-asked
+fill-requires-clause-asked c = subst (λ n. IsTrue (list_any (is_asked c.args.pool c.args.block 0 n) c.args.seat.now.me.0.gives)) (sym c.from.ensures) (c.requires.asked 0 (omega arith))
+
+pub fill-requires-in-loop-at-clause-asked : goal.fill-requires-in-loop-at-clause-asked
+fill-requires-in-loop-at-clause-asked c =
+    let ps = sym c.as_slice-pars.ensures.value in let inside = c.loop-at-test.true in let n = ap length ps in
+    kept-asked c.args.pool c.args.block c.loop-at.at c.args.ev.now.sig c.args.ev.now.pars.items _ (fills_for c.args.pool c.args.block (c.loop-at.at + 1) (drop c.loop-at.at c.as_slice-pars.result.now)) c.args.seat.now.me.0 c.loop-at.seat.me.0
+    (ap (λ xs. get_or xs c.loop-at.at 0) (sym ps)) c.loop-at.invariant.left (c.requires.asked (suc c.loop-at.at) (omega arith))

@@ -10,7 +10,7 @@ use Rattle.qp_shared_views.specs.Words.{value_seen}
 use Rattle.qp_shared_loops.specs.Ends.{PostEnds}
 use Rattle.qp_shared_queues.specs.Bodies.{post_body}
 use Rattle.qp_shared_queues.proofs.Used.{post-ended}
-use Rattle.qp_shared_queues.proofs.Lane.{object-key, object-small, spare-is, room}
+use Rattle.qp_shared_queues.proofs.Lane.{object-key, object-small, no-claim, spare-is, room}
 use Rattle.qp_shared_queues.proofs.Entries.{stands-in, in-hand-by, codable-by}
 use Rattle.qp_shared_queues.proofs.Claiming.{AnswerIs, claim-holds, claims-for, claim-tries}
 use Rattle.qp_shared_queues.proofs.posts.claim.Goals as goal
@@ -32,6 +32,9 @@ post_entry-found-requires-clause-room g c = room c.args.lane.now c.requires.room
 
 pub post_entry-found-requires-clause-hand : goal.post_entry-found-requires-clause-hand
 post_entry-found-requires-clause-hand g c = in-hand-by c.args.lane.now c.args.e (entry c.parts-pool.result.0 c.parts-pool.result.1 c.parts-pool.result.2) c.requires.stands c.parts-pool.ensures
+
+pub post_entry-found-requires-clause-none : goal.post_entry-found-requires-clause-none
+post_entry-found-requires-clause-none g c = no-claim c.args.lane.now c.args.to
 
 pub post_entry-found-requires-clause-codable : goal.post_entry-found-requires-clause-codable
 post_entry-found-requires-clause-codable g c = codable-by c.args.lane.now c.args.e (entry c.parts-pool.result.0 c.parts-pool.result.1 c.parts-pool.result.2) c.requires.stands c.parts-pool.ensures

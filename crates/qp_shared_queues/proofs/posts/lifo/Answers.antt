@@ -10,7 +10,7 @@ use Rattle.qp_shared_views.specs.Words.{value_seen}
 use Rattle.qp_shared_loops.specs.Ends.{PostFirstEnds}
 use Rattle.qp_shared_queues.specs.Bodies.{lifo_body}
 use Rattle.qp_shared_queues.proofs.Used.{lifo-ended}
-use Rattle.qp_shared_queues.proofs.Lane.{by-object-key, by-object-small, by-serves, idle, spare-is, room}
+use Rattle.qp_shared_queues.proofs.Lane.{by-object-key, by-object-small, by-serves, idle, no-claim, spare-is, room}
 use Rattle.qp_shared_queues.proofs.Entries.{stands-in, in-hand-by, codable-by}
 use Rattle.qp_shared_queues.proofs.Claiming.{AnswerIs}
 use Rattle.qp_shared_queues.proofs.LastIn.{lifo-holds, lifos-for, lifo-tries}
@@ -33,6 +33,9 @@ post_entry_last_in-found-requires-clause-room g c = room c.args.lane.now c.requi
 
 pub post_entry_last_in-found-requires-clause-hand : goal.post_entry_last_in-found-requires-clause-hand
 post_entry_last_in-found-requires-clause-hand g c = in-hand-by c.args.lane.now c.args.e (entry c.parts-pool.result.0 c.parts-pool.result.1 c.parts-pool.result.2) c.requires.stands c.parts-pool.ensures
+
+pub post_entry_last_in-found-requires-clause-none : goal.post_entry_last_in-found-requires-clause-none
+post_entry_last_in-found-requires-clause-none g c = no-claim c.args.lane.now c.args.lane.now.by
 
 pub post_entry_last_in-found-requires-clause-codable : goal.post_entry_last_in-found-requires-clause-codable
 post_entry_last_in-found-requires-clause-codable g c = codable-by c.args.lane.now c.args.e (entry c.parts-pool.result.0 c.parts-pool.result.1 c.parts-pool.result.2) c.requires.stands c.parts-pool.ensures

@@ -11,3 +11,6 @@ pub post_both-requires : goal.post_both-requires
 post_both-requires c =
     lamp-lane c.args.sys.now (lane_view c.in_ok-last.last) c.in-Ok.lane (its-system c.args.shared.now c.args.sys.now 2 _ (lane_view c.in_ok-last.last) c.requires.its c.in_ok-last.ensures refl) c.requires.lamp
     c.in-Ok.ensures.begins
+
+pub bell-requires-clause-fresh : goal.bell-requires-clause-fresh
+bell-requires-clause-fresh c = (c.in_ok-last.ensures.each 2 (lane_view c.in_ok-last.last) refl).new.told

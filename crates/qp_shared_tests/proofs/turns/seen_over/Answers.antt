@@ -9,3 +9,6 @@ bell-requires-clause-system g c =
 
 pub seen_in-requires-clause-empty : goal.seen_in-requires-clause-empty
 seen_in-requires-clause-empty g c = empty-lane c.args.shared.now c.args.sys.now _ (lane_view c.in_ok-second.second) c.in-Ok.lane c.requires.its c.in_ok-second.ensures refl c.requires.lamp c.in-Ok.ensures.begins
+
+pub bell-requires-clause-fresh : goal.bell-requires-clause-fresh
+bell-requires-clause-fresh g c = (c.in_ok-second.ensures.each 1 (lane_view c.in_ok-second.second) refl).new.told

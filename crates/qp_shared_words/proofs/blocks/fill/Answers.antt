@@ -9,4 +9,4 @@ store-requires-clause-own c = let p = c.requires.place.1 in let b = c.requires.p
 
 pub store-requires-clause-keeps : goal.store-requires-clause-keeps
 store-requires-clause-keeps c = subst (λ w. Steps c.args.words.now.shared.key c.args.seat.now.id c.args.seat.now.me.0 w (λ n. c.args.value) (FillTold c.args.pool c.args.block c.args.place c.args.value c.args.seat.now.me.0)) (sym c.event_at.ensures)
-    (fills_tell c.args.words.now.shared.key c.args.seat.now.id c.args.seat.now.me.0 c.args.pool c.args.block c.args.place c.args.value c.requires.fresh c.requires.low c.requires.left)
+    (fills_tell c.args.words.now.shared.key c.args.seat.now.id c.args.seat.now.me.0 c.args.pool c.args.block c.args.place c.args.value c.requires.fresh c.requires.low c.requires.left c.requires.asked)

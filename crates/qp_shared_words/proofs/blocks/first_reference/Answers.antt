@@ -9,4 +9,4 @@ add-requires-clause-own c = let p = c.requires.place.1 in let b = c.requires.pla
 
 pub add-requires-clause-keeps : goal.add-requires-clause-keeps
 add-requires-clause-keeps c = subst (λ w. Steps c.args.words.now.shared.key c.args.seat.now.id c.args.seat.now.me.0 w (λ n. (n + 4294967297) % 18446744073709551616) (FirstTold c.args.words.now.shared.key c.args.by c.args.pool c.args.block c.args.seat.now.me.0)) (sym c.block_at.ensures)
-    (first_references_tell c.args.words.now.shared.key c.args.seat.now.id c.args.seat.now.me.0 c.requires.room c.args.by c.args.pool c.args.block c.requires.fresh c.requires.written)
+    (first_references_tell c.args.words.now.shared.key c.args.seat.now.id c.args.seat.now.me.0 c.requires.room c.args.by c.args.pool c.args.block c.requires.fresh c.requires.begun c.requires.written)

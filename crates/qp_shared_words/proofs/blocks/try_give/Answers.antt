@@ -15,7 +15,7 @@ exchange-requires-clause-own g c = let p = c.requires.small.0 in let w = c.requi
 pub exchange-requires-clause-keeps : goal.exchange-requires-clause-keeps
 exchange-requires-clause-keeps g c = subst (λ w. Steps c.args.words.now.shared.key c.args.seat.now.id c.args.seat.now.me.0 w (λ n. either (eqb n c.args.old) (c.args.old + 4294967296 - c.bit_of.result) n) (λ n u. GiveTold c.args.words.now.shared.key c.args.pool c.args.by c.args.reserve c.args.block c.args.ev.now.sig c.args.ev.now.pars.items c.args.seat.now.me.0 c.args.old (c.args.old + 4294967296 - c.bit_of.result) n u × (n < 9223372036854775808))) (sym c.pool_at.ensures)
     (with-few c.args.words.now.shared.key c.args.seat.now.id c.args.seat.now.me.0 c.args.pool (λ n. either (eqb n c.args.old) (c.args.old + 4294967296 - c.bit_of.result) n) (GiveTold c.args.words.now.shared.key c.args.pool c.args.by c.args.reserve c.args.block c.args.ev.now.sig c.args.ev.now.pars.items c.args.seat.now.me.0 c.args.old (c.args.old + 4294967296 - c.bit_of.result)) c.requires.pool
-    (gives_tell c.args.words.now.shared.key c.args.seat.now.id c.args.seat.now.me.0 c.requires.room c.args.pool c.requires.pool c.args.by c.args.reserve c.args.block c.args.ev.now.sig c.args.ev.now.pars.items c.args.old (c.args.old + 4294967296 - c.bit_of.result) c.requires.content c.requires.last c.requires.lowest
+    (gives_tell c.args.words.now.shared.key c.args.seat.now.id c.args.seat.now.me.0 c.requires.room c.args.pool c.requires.pool c.args.by c.args.reserve c.args.block c.args.ev.now.sig c.args.ev.now.pars.items c.args.old (c.args.old + 4294967296 - c.bit_of.result) c.requires.done c.requires.fits c.requires.content c.requires.last c.requires.lowest
     (let m = c.bit_of.ensures.most in ap (λ k. c.args.old + 4294967296 - c.bit_of.result + k) (sym c.bit_of.ensures.value) ∙ omega arith)))
 
 pub returns-clause-told : goal.returns-clause-told

@@ -11,6 +11,6 @@ loop-place-preserved c =
     record {
       in_range = omega (arith, c.loop-place.invariant.in_range);
       known = text_in-object c.as_bytes.result.now c.loop-place.objects c.insert.new.self (c.loop-place.place - 1) c.args.sys.now.objects c.index-object.result.now
-          c.in_ok-insert.ensures.updates (omega (arith, c.loop-place.invariant.in_range)) (c.index-object.ensures ∙ ap (λ s. get_or s.objects (c.loop-place.place - 1) c.index-object.result.now) c.sys.view_is) (c.as_bytes.ensures.value ∙ c.as_str.ensures.value)
+          c.in_ok-insert.ensures.updates (omega (arith, c.loop-place.invariant.in_range)) (c.index-object.ensures ∙ ap (λ s. get_or s.objects (c.loop-place.place - 1) c.index-object.result.now) c.sys.view_is) (c.as_bytes.ensures.value ∙ c.as_str.ensures)
           (subst P back c.loop-place.invariant.known);
     }

@@ -13,6 +13,6 @@ loop-place-preserved c =
     record {
       in_range = omega (arith, c.loop-place.invariant.in_range);
       known = text_in-signal c.as_bytes.result.now c.loop-place.signals c.insert.new.self (c.loop-place.place - 1) (c.loop-place.place - 1 + 4) c.args.sys.now.signals c.index-signal.result.now
-          c.in_ok-insert.ensures.updates (omega (arith, c.loop-place.invariant.in_range)) (c.index-signal.ensures ∙ ap (λ s. get_or s.signals (c.loop-place.place - 1) c.index-signal.result.now) c.sys.view_is) (c.as_bytes.ensures.value ∙ c.as_str.ensures.value)
+          c.in_ok-insert.ensures.updates (omega (arith, c.loop-place.invariant.in_range)) (c.index-signal.ensures ∙ ap (λ s. get_or s.signals (c.loop-place.place - 1) c.index-signal.result.now) c.sys.view_is) (c.as_bytes.ensures.value ∙ c.as_str.ensures)
           (subst Q shift (subst P back c.loop-place.invariant.known));
     }

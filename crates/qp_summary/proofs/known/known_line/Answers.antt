@@ -25,9 +25,9 @@ returns-in_ok-line_of-in-Some-2 c =
     let own = sym c.in-Some.ensures in
     let rest = subst (LeavesRest sys d chart its) (sym c.rest_at.ensures) (found-rest sys d chart its c.args.rests.now own c.requires.rests) in
     let state = (rw c.in-Some-2.is at c.in_ok-text-in-Some-done.ensures) sys d its own (its-done sys j c.requires.kernel d.priority c.in-Some-taken.taken c.in-Some-done.done took dones) rest in
-    let name : c.as_str.result.now ≡ d.name.bytes = search rules in
+    let name : c.as_str.result.now ≡ d.name = search rules in
     let text : c.deref.result.now ≡ string_bytes c.in-Some-2.text = search rules in
     known-line sys j d (string_bytes c.in-Some-2.text) (string_bytes c.in_ok-line_of-in-Some-2.field-0) c.in-Some-taken.taken
     (its-taken sys j c.requires.kernel d.priority c.in-Some-taken.taken c.in-Some-done.done took dones) state
     (c.in_ok-line_of-in-Some-2.ensures ∙ ap (λ n. codes "object " ++ n ++ 32 ∷ decimal c.in-Some-taken.taken ++ 32 ∷ c.deref.result.now ++ codes "\n") name
-    ∙ ap (λ t. codes "object " ++ d.name.bytes ++ 32 ∷ decimal c.in-Some-taken.taken ++ 32 ∷ t ++ codes "\n") text)
+    ∙ ap (λ t. codes "object " ++ d.name ++ 32 ∷ decimal c.in-Some-taken.taken ++ 32 ∷ t ++ codes "\n") text)

@@ -32,13 +32,13 @@ returns-in_ok-text-in-Some c =
     let stands = c.standing.ensures sys d (dispatched all) c.requires.followable follow on.leaves in
     let state = subst (λ (ts : List Told). IsStateText sys d (chart_at sys d.chart) ts (string_bytes c.in_ok-text-in-Some.text)) same (c.in_ok-text-in-Some.ensures all stands) in
     let taken : c.in-Some.came.taken ≡ taken_in (by_object (facts_of sys j) j o) = (let plus : c.in-Some.came.taken ≡ c.in-Some.came.taken + 0 = omega arith in plus) ∙ on.taken ∙ ap taken_in same in
-    let name : c.as_str.result.now ≡ d.name.bytes = search rules in
+    let name : c.as_str.result.now ≡ d.name = search rules in
     let text : c.deref.result.now ≡ string_bytes c.in_ok-text-in-Some.text = search rules in
     IfOk-weaker c.line_of.result _ _
     (λ line told. object-line sys j d (string_bytes c.in_ok-text-in-Some.text) (string_bytes line) state
     (told ∙ ap (λ n. codes "object " ++ n ++ 32 ∷ decimal c.in-Some.came.taken ++ 32 ∷ c.deref.result.now ++ codes "\n") name
-    ∙ ap (λ n. codes "object " ++ d.name.bytes ++ 32 ∷ decimal n ++ 32 ∷ c.deref.result.now ++ codes "\n") taken
-    ∙ ap (λ t. codes "object " ++ d.name.bytes ++ 32 ∷ decimal (taken_in (by_object (facts_of sys j) j o)) ++ 32 ∷ t ++ codes "\n") text))
+    ∙ ap (λ n. codes "object " ++ d.name ++ 32 ∷ decimal n ++ 32 ∷ c.deref.result.now ++ codes "\n") taken
+    ∙ ap (λ t. codes "object " ++ d.name ++ 32 ∷ decimal (taken_in (by_object (facts_of sys j) j o)) ++ 32 ∷ t ++ codes "\n") text))
     c.line_of.ensures
 
 pub returns-in-None : goal.returns-in-None

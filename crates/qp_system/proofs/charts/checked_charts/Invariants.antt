@@ -7,6 +7,6 @@ use Rattle.qp_system.proofs.charts.checked_charts.Given as goal
 
 abbrev pub invariant-loop-i : goal.invariant-loop-i
 invariant-loop-i l = record {
-  passed : Passed (within_chart l.names) (λ c. c) l.charts l.i;
+  passed : Passed (within_chart l.names) l.charts l.i;
   made : Corresponds (IsChartOf l.names) (take l.i l.charts) l.items.items;
 }

@@ -4,11 +4,10 @@ use Rattle.qp_system_tables.specs.declared.raw.RawSystem.{RawSystem}
 use Rattle.qp_system.specs.Checked.{HasLater}
 use Rattle.qp_system_tables.specs.Document.{TreeGives}
 use Rattle.qp_system_tables.specs.Few.{IsFew}
-use Rattle.qp_system_tables.specs.Views.{raw_view}
 use Rattle.qp_system_tables.proofs.FewLemmas.{raw-is_few}
 use Rattle.qp_system.proofs.checked.checked_of_bytes.Goals as goal
 
-read-is_few : (bytes : List ℕ) (raw : RawSystem) → TreeGives bytes (Ok (raw_view raw)) → IsFew raw
+read-is_few : (bytes : List ℕ) (raw : RawSystem) → TreeGives bytes (Ok raw) → IsFew raw
 unfolding TreeGives
 read-is_few bytes raw h = raw-is_few h.0 raw h.3
 

@@ -1,13 +1,12 @@
-use Rattle.std.proofs.Common.{◌≡◌, ◌≤◌, map, take}
+use Rattle.std.proofs.Common.{◌≡◌, ◌≤◌, take}
 use Rattle.std.specs.List.{sum_by}
 use Rattle.qp_system.specs.Between.{placing_fault, timers_of}
-use Rattle.qp_system_tables.specs.Views.{chart_view, object_view}
 use Rattle.qp_system.proofs.PassLemmas.{Clear}
 use Rattle.qp_system.proofs.placing.objects_placed.Given as goal
 
 abbrev pub invariant-loop-i : goal.invariant-loop-i
 invariant-loop-i l = record {
-  clear : Clear (placing_fault (map chart_view l.charts)) object_view l.objects l.i;
-  total : l.timers ≡ sum_by (timers_of (map chart_view l.charts)) (map object_view (take l.i l.objects));
+  clear : Clear (placing_fault l.charts) l.objects l.i;
+  total : l.timers ≡ sum_by (timers_of l.charts) (take l.i l.objects);
   few : l.timers ≤ 64;
 }

@@ -1,7 +1,6 @@
 use Rattle.qp_system.specs.Between.{chart_fault}
-use Rattle.qp_system_tables.specs.Views.{chart_view}
 use Rattle.qp_system.proofs.PassLemmas.{Clear}
 use Rattle.qp_system.proofs.twice.charts_pass.Given as goal
 
 abbrev pub invariant-loop-i : goal.invariant-loop-i
-invariant-loop-i l = Clear chart_fault chart_view l.charts l.i
+invariant-loop-i l = Clear chart_fault l.charts l.i

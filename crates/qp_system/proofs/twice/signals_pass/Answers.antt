@@ -1,23 +1,22 @@
 use Rattle.std.proofs.lemmas.Result.{err_from_is_err_and}
 use Rattle.qp_system.specs.Between.{signal_fault}
-use Rattle.qp_system_tables.specs.Views.{signal_view}
 use Rattle.qp_system.proofs.PassLemmas.{clear-none, clear-one, clear-all, first-at}
 use Rattle.qp_system.proofs.twice.signals_pass.Goals as goal
 
 pub loop-i-init : goal.loop-i-init
-loop-i-init c = clear-none signal_fault signal_view c.args.signals.now
+loop-i-init c = clear-none signal_fault c.args.signals.now
 
 pub returns-in_err-signal_passes : goal.returns-in_err-signal_passes
 returns-in_err-signal_passes c =
     let p = err_from_is_err_and c.from_residual.result c.from_residual.ensures.1 in
     rw (p.1, p.2)
-    (first-at signal_fault signal_view c.args.signals.now c.loop-i.i c.index-signals-i.result _ c.loop-i.invariant c.loop-i-test.true c.index-signals-i.is
+    (first-at signal_fault c.args.signals.now c.loop-i.i c.index-signals-i.result _ c.loop-i.invariant c.loop-i-test.true c.index-signals-i.is
     c.in_err-signal_passes.ensures)
 
 pub loop-i-preserved : goal.loop-i-preserved
 loop-i-preserved c =
-    clear-one signal_fault signal_view c.args.signals.now c.loop-i.i c.index-signals-i.result c.loop-i.invariant c.loop-i-test.true c.index-signals-i.is
+    clear-one signal_fault c.args.signals.now c.loop-i.i c.index-signals-i.result c.loop-i.invariant c.loop-i-test.true c.index-signals-i.is
     c.in_ok-signal_passes.ensures
 
 pub returns : goal.returns
-returns c = clear-all signal_fault signal_view c.args.signals.now c.loop-i.i c.loop-i.invariant c.loop-i-test.false
+returns c = clear-all signal_fault c.args.signals.now c.loop-i.i c.loop-i.invariant c.loop-i-test.false

@@ -4,7 +4,6 @@ use Rattle.std.proofs.lemmas.Result.{err_from_is_err_and}
 use mir.Val.{SFits}
 use Rattle.qp_chart_names.specs.declared.place.Part.TheVariants.{Key}
 use Rattle.qp_system_tables.specs.Values.{named_vars}
-use Rattle.qp_system_tables.specs.Views.{vars_view}
 use Rattle.qp_system_tables.proofs.VarsLemmas.{Pair, pair_view, named-refused, named-read, named-last}
 use Rattle.qp_system_tables.proofs.vars.named.Goals as goal
 
@@ -17,7 +16,7 @@ returns-in_err-name c =
     let place = c.args.place.at.now ++ Key c.args.place.key ∷ [] in
     let p = err_from_is_err_and c.from_residual.result c.from_residual.ensures.1 in
     rw (p.1, p.2)
-    (named-refused place (vars_view c.loop-text.items.items) c.loop-text.text-index c.args.vars.now none c.in_err-name.field-0.0
+    (named-refused place c.loop-text.items.items c.loop-text.text-index c.args.vars.now none c.in_err-name.field-0.0
     (named_vars place (map pair_view c.args.vars.now)) c.loop-text-test.true c.loop-text.invariant c.in_err-name.ensures)
 
 pub loop-text-preserved : goal.loop-text-preserved
@@ -33,4 +32,4 @@ loop-text-preserved c =
 pub returns : goal.returns
 returns c =
     let place = c.args.place.at.now ++ Key c.args.place.key ∷ [] in
-    sym c.loop-text.invariant ∙ named-last place (vars_view c.loop-text.items.items) c.loop-text.text-index c.args.vars.now c.loop-text-test.false
+    sym c.loop-text.invariant ∙ named-last place c.loop-text.items.items c.loop-text.text-index c.args.vars.now c.loop-text-test.false

@@ -1,4 +1,4 @@
-use Rattle.std.proofs.Common.{false, refl, subst, sym, true}
+use Rattle.std.proofs.Common.{ap, false, refl, subst, sym, true, ◌∙◌}
 use Rattle.qp_wait_lane.specs.Handed.{ringing_view}
 use Rattle.qp_wait_lane.specs.Lane.{LooksAtCount}
 use Rattle.qp_wait.specs.Pausing.{HasLook}
@@ -10,10 +10,13 @@ returns-then-is_over g c = looked true c.args.lane.now c.is_over.new.self (subst
 
 pub park-requires-clause-look : goal.park-requires-clause-look
 park-requires-clause-look g c =
-    subst (λ v. HasLook c.args.me v.told) (sym c.in_default.ensures.0) (subst (λ r. HasLook c.args.me (ringing_view r).told) (sym c.is_over.ensures.ringing) c.requires.look)
+    subst (λ v. HasLook c.args.me v.told) (sym c.in_default.ensures.stops.0) (subst (λ r. HasLook c.args.me (ringing_view r).told) (sym c.is_over.ensures.ringing) c.requires.look)
 
 pub returns : goal.returns
 returns g c =
     let some = subst (λ b. LooksAtCount b c.args.lane.now c.is_over.new.self) c.if-is_over.false c.is_over.ensures in
     parked-then c.args.me c.args.lane.now _ c.park.new.lane
-    (not-parked-then c.args.lane.now c.is_over.new.self _ (looked false c.args.lane.now c.is_over.new.self some) (record { rests = rests-same c.is_over.new.self _ refl refl; lane = c.in_default.ensures.0; parks = refl })) c.in-Ok.ensures
+    (not-parked-then c.args.lane.now c.is_over.new.self _ (looked false c.args.lane.now c.is_over.new.self some) (record { rests = rests-same c.is_over.new.self _ refl refl; lane = c.in_default.ensures.stops.0; parks = refl })) c.in-Ok.ensures
+
+pub park-requires-clause-found : goal.park-requires-clause-found
+park-requires-clause-found g c = c.in_default.ensures.found ∙ ap (λ r. r.found) c.is_over.ensures.ringing ∙ c.requires.found

@@ -13,11 +13,19 @@ add-requires-clause-system c =
     let all = rw steps at at.invariant.4 in
     subst (λ s. AreBellsOf s c.args.bells.now) (sym all.0) c.requires.bells
 
+pub add-requires-clause-fresh : goal.add-requires-clause-fresh
+add-requires-clause-fresh c =
+    let at = c.loop-lane in
+    let steps : into_iter_items at.lane-iterator ≡ c.in-Some.lane ∷ into_iter_items c.next.new.self = c.in-Some.ensures.steps.0 in
+    let all = rw steps at at.invariant.5 in
+    all.0
+
 pub loop-lane-preserved : goal.loop-lane-preserved
 loop-lane-preserved c =
     let at = c.loop-lane in
     let steps : into_iter_items at.lane-iterator ≡ c.in-Some.lane ∷ into_iter_items c.next.new.self = c.in-Some.ensures.steps.0 in
-    let all = rw steps at at.invariant.4 in (
+    let all = rw steps at at.invariant.4 in
+    let fresh = rw steps at at.invariant.5 in (
       append_assoc at.yielded (c.in-Some.lane ∷ []) _ ∙ rw (← steps) at.invariant.0,
       c.in_ok-add.ensures.lane ∙ ap (λ vs. vs ++ lane_view c.in-Some.lane ∷ []) at.invariant.1 ∙ sym (map-append lane_view at.yielded (c.in-Some.lane ∷ [])),
       let was = at.invariant.2 in
@@ -26,6 +34,7 @@ loop-lane-preserved c =
           omega (arith, was, gone, short),
       c.in_ok-add.ensures.root,
       all.1,
+      fresh.1,
     )
 
 pub returns-clause-lanes : goal.returns-clause-lanes

@@ -1,4 +1,4 @@
-use Rattle.std.proofs.Common.{◌≡◌, ◌++◌, map, length}
+use Rattle.std.proofs.Common.{◌≡◌, ◌++◌, [], map, length}
 use Rattle.std.specs.List.{AllByRecursion}
 use Rattle.std.specs.Vec.Iter.{into_iter_items, into_iter_len}
 use Rattle.qp_port_runs.specs.Handed.{lane_view}
@@ -13,3 +13,4 @@ invariant-loop-lane l =
     × (into_iter_len l.lane-iterator ≡ length (into_iter_items l.lane-iterator))
     × IsRootOf l.bells l.root
     × AllByRecursion (λ x. (lane_view x).sys ≡ l.sys) (into_iter_items l.lane-iterator)
+    × AllByRecursion (λ x. (lane_view x).told ≡ []) (into_iter_items l.lane-iterator)

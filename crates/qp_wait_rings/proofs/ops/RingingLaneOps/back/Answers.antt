@@ -4,4 +4,4 @@ use Rattle.qp_wait_rings.proofs.Quiet.{back-quiet}
 use Rattle.qp_wait_rings.proofs.ops.RingingLaneOps.back.Goals as goal
 
 pub invariant_of-self-clause-rung : goal.invariant_of-self-clause-rung
-invariant_of-self-clause-rung c = let l = c.args.self.now in rung-still l.from l.opened l.refused l.cords.items (lane_view l.lane) (lane_view c.back.new.self) l.rung (back-quiet c.args.f (lane_view l.lane) (lane_view c.back.new.self) c.back.ensures)
+invariant_of-self-clause-rung c = let l = c.args.self.now in rung-still l.opened l.refused l.cords.items (lane_view l.lane) (lane_view c.back.new.self) l.rung (back-quiet c.args.f (lane_view l.lane) (lane_view c.back.new.self) c.back.ensures)

@@ -4,4 +4,4 @@ use Rattle.qp_wait_rings.proofs.Quiet.{by-quiet}
 use Rattle.qp_wait_rings.proofs.ops.RingingLaneOps.by.Goals as goal
 
 pub invariant_of-self-clause-rung : goal.invariant_of-self-clause-rung
-invariant_of-self-clause-rung c = let l = c.args.self.now in rung-still l.from l.opened l.refused l.cords.items (lane_view l.lane) (lane_view c.by.new.self) l.rung (by-quiet c.args.o (lane_view l.lane) (lane_view c.by.new.self) c.by.ensures.set)
+invariant_of-self-clause-rung c = let l = c.args.self.now in rung-still l.opened l.refused l.cords.items (lane_view l.lane) (lane_view c.by.new.self) l.rung (by-quiet c.args.o (lane_view l.lane) (lane_view c.by.new.self) c.by.ensures.set)

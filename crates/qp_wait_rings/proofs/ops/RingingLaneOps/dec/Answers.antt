@@ -4,4 +4,4 @@ use Rattle.qp_wait_rings.proofs.Quiet.{dec-quiet}
 use Rattle.qp_wait_rings.proofs.ops.RingingLaneOps.dec.Goals as goal
 
 pub invariant_of-self-clause-rung : goal.invariant_of-self-clause-rung
-invariant_of-self-clause-rung c = let l = c.args.self.now in rung-still l.from l.opened l.refused l.cords.items (lane_view l.lane) (lane_view c.dec.new.self) l.rung (dec-quiet c.args.h (lane_view l.lane) (lane_view c.dec.new.self) c.dec.result c.dec.ensures)
+invariant_of-self-clause-rung c = let l = c.args.self.now in rung-still l.opened l.refused l.cords.items (lane_view l.lane) (lane_view c.dec.new.self) l.rung (dec-quiet c.args.h (lane_view l.lane) (lane_view c.dec.new.self) c.dec.result c.dec.ensures)

@@ -4,4 +4,4 @@ use Rattle.qp_wait_rings.proofs.Quiet.{first-quiet}
 use Rattle.qp_wait_rings.proofs.ops.RingingLaneOps.first.Goals as goal
 
 pub invariant_of-self-clause-rung : goal.invariant_of-self-clause-rung
-invariant_of-self-clause-rung c = let l = c.args.self.now in rung-still l.from l.opened l.refused l.cords.items (lane_view l.lane) (lane_view c.first.new.self) l.rung (first-quiet c.args.f.pool c.args.f.block 1 (lane_view l.lane) (lane_view c.first.new.self) c.first.result c.first.ensures)
+invariant_of-self-clause-rung c = let l = c.args.self.now in rung-still l.opened l.refused l.cords.items (lane_view l.lane) (lane_view c.first.new.self) l.rung (first-quiet c.args.f.pool c.args.f.block 1 (lane_view l.lane) (lane_view c.first.new.self) c.first.result c.first.ensures)

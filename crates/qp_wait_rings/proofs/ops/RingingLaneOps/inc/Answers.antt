@@ -4,4 +4,4 @@ use Rattle.qp_wait_rings.proofs.Quiet.{inc-quiet}
 use Rattle.qp_wait_rings.proofs.ops.RingingLaneOps.inc.Goals as goal
 
 pub invariant_of-self-clause-rung : goal.invariant_of-self-clause-rung
-invariant_of-self-clause-rung c = let l = c.args.self.now in rung-still l.from l.opened l.refused l.cords.items (lane_view l.lane) (lane_view c.inc.new.self) l.rung (inc-quiet c.args.h.now (lane_view l.lane) (lane_view c.inc.new.self) c.inc.result c.inc.ensures)
+invariant_of-self-clause-rung c = let l = c.args.self.now in rung-still l.opened l.refused l.cords.items (lane_view l.lane) (lane_view c.inc.new.self) l.rung (inc-quiet c.args.h.now (lane_view l.lane) (lane_view c.inc.new.self) c.inc.result c.inc.ensures)

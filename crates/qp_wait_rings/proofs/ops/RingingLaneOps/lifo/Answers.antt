@@ -11,7 +11,7 @@ use Rattle.qp_wait_rings.proofs.ops.RingingLaneOps.lifo.Goals as goal
 pub open_one-requires-clause-few : goal.open_one-requires-clause-few
 open_one-requires-clause-few g c =
     let l = c.args.self.now in
-    let most = few-claims l.from (lane_view l.lane) (keeps-limit l.lane) in
+    let most = few-claims (lane_view l.lane) (keeps-limit l.lane) in
     let room = c.requires.room in
     let is = l.rung.opened_is in
     omega (arith, most, room, is)
@@ -24,7 +24,7 @@ settle-requires-clause-there g c =
 pub settle-requires-clause-few : goal.settle-requires-clause-few
 settle-requires-clause-few g c =
     let l = c.args.self.now in
-    let most = few-refusals l.from (lane_view l.lane) (keeps-limit l.lane) in
+    let most = few-refusals (lane_view l.lane) (keeps-limit l.lane) in
     let room = c.requires.room in
     let is = l.rung.refused_is in
     omega (arith, most, room, is)
@@ -40,8 +40,8 @@ invariant_of-self g c =
       rung =
           let long = settled-long c.object_of-me.result c.as_mut_slice.result.now c.settle.new.cords l.refused c.settle.new.refused c.open_one.new.seat.me.0 c.settle.new.seat.me.0 c.lifo-claim.result c.settle.ensures.settles ∙ ap length c.as_mut_slice.ensures.value in
           let len = sym c.as_mut_slice.ensures.len ∙ ap length c.as_mut_slice.ensures.value in
-          subst (λ cs. HasRung l.from c.open_one.new.opened c.settle.new.refused cs (lane_view c.lifo-claim.new.self)) (sym (whole l.cords.len c.settle.new.cords l.cords.items len long))
-          (front-settled l.from l.opened l.refused l.cords.items (lane_view l.lane) (lane_view c.lifo-claim.new.self) l.rung (keeps-limit l.lane) c.requires.room c.open_one.new.opened c.open_one.ensures.opened
+          subst (λ cs. HasRung c.open_one.new.opened c.settle.new.refused cs (lane_view c.lifo-claim.new.self)) (sym (whole l.cords.len c.settle.new.cords l.cords.items len long))
+          (front-settled l.opened l.refused l.cords.items (lane_view l.lane) (lane_view c.lifo-claim.new.self) l.rung (keeps-limit l.lane) c.requires.room c.open_one.new.opened c.open_one.ensures.opened
           c.settle.new.cords c.settle.new.refused c.open_one.new.seat.me.0 c.settle.new.seat.me.0 c.object_of-me.result c.args.e c.lifo-claim.result c.object_of-me.ensures.object
           (subst (λ u. ClaimsFront c.args.e u (lane_view c.lifo-claim.new.self) c.lifo-claim.result) c.object_of-me.ensures.stays c.lifo-claim.ensures.claims)
           (subst (λ cs. Settles c.object_of-me.result cs c.settle.new.cords l.refused c.settle.new.refused c.open_one.new.seat.me.0 c.settle.new.seat.me.0 c.lifo-claim.result) c.as_mut_slice.ensures.value c.settle.ensures.settles));

@@ -4,4 +4,4 @@ use Rattle.qp_wait_rings.proofs.Quiet.{note-quiet}
 use Rattle.qp_wait_rings.proofs.ops.RingingLaneOps.note.Goals as goal
 
 pub invariant_of-self-clause-rung : goal.invariant_of-self-clause-rung
-invariant_of-self-clause-rung c = let l = c.args.self.now in rung-still l.from l.opened l.refused l.cords.items (lane_view l.lane) (lane_view c.note.new.self) l.rung (note-quiet c.args.r (lane_view l.lane) (lane_view c.note.new.self) c.requires c.note.ensures.grows)
+invariant_of-self-clause-rung c = let l = c.args.self.now in rung-still l.opened l.refused l.cords.items (lane_view l.lane) (lane_view c.note.new.self) l.rung (note-quiet c.args.r (lane_view l.lane) (lane_view c.note.new.self) c.requires c.note.ensures.grows)

@@ -4,4 +4,4 @@ use Rattle.qp_wait_rings.proofs.Quiet.{same-quiet}
 use Rattle.qp_wait_rings.proofs.ops.RingingLaneOps.par.Goals as goal
 
 pub invariant_of-self-clause-rung : goal.invariant_of-self-clause-rung
-invariant_of-self-clause-rung c = let l = c.args.self.now in rung-still l.from l.opened l.refused l.cords.items (lane_view l.lane) (lane_view c.par.new.self) l.rung (same-quiet (lane_view l.lane) (lane_view c.par.new.self) c.par.ensures.stays)
+invariant_of-self-clause-rung c = let l = c.args.self.now in rung-still l.opened l.refused l.cords.items (lane_view l.lane) (lane_view c.par.new.self) l.rung (same-quiet (lane_view l.lane) (lane_view c.par.new.self) c.par.ensures.stays)

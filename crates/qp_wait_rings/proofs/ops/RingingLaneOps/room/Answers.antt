@@ -4,4 +4,4 @@ use Rattle.qp_wait_rings.proofs.Quiet.{room-quiet}
 use Rattle.qp_wait_rings.proofs.ops.RingingLaneOps.room.Goals as goal
 
 pub invariant_of-self-clause-rung : goal.invariant_of-self-clause-rung
-invariant_of-self-clause-rung c = let l = c.args.self.now in rung-still l.from l.opened l.refused l.cords.items (lane_view l.lane) (lane_view c.room.new.self) l.rung (room-quiet (lane_view l.lane) (lane_view c.room.new.self) c.room.ensures.stays)
+invariant_of-self-clause-rung c = let l = c.args.self.now in rung-still l.opened l.refused l.cords.items (lane_view l.lane) (lane_view c.room.new.self) l.rung (room-quiet (lane_view l.lane) (lane_view c.room.new.self) c.room.ensures.stays)

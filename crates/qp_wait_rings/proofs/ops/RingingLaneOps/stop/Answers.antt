@@ -4,4 +4,4 @@ use Rattle.qp_wait_rings.proofs.Quiet.{stop-quiet}
 use Rattle.qp_wait_rings.proofs.ops.RingingLaneOps.stop.Goals as goal
 
 pub invariant_of-self-clause-rung : goal.invariant_of-self-clause-rung
-invariant_of-self-clause-rung c = let l = c.args.self.now in rung-still l.from l.opened l.refused l.cords.items (lane_view l.lane) (lane_view c.stop.new.self) l.rung (stop-quiet c.args.code (lane_view l.lane) (lane_view c.stop.new.self) c.stop.ensures)
+invariant_of-self-clause-rung c = let l = c.args.self.now in rung-still l.opened l.refused l.cords.items (lane_view l.lane) (lane_view c.stop.new.self) l.rung (stop-quiet c.args.code (lane_view l.lane) (lane_view c.stop.new.self) c.stop.ensures)

@@ -4,4 +4,4 @@ use Rattle.qp_wait_rings.proofs.Quiet.{subscribe-quiet}
 use Rattle.qp_wait_rings.proofs.ops.RingingLaneOps.subscribe.Goals as goal
 
 pub invariant_of-self-clause-rung : goal.invariant_of-self-clause-rung
-invariant_of-self-clause-rung c = let l = c.args.self.now in rung-still l.from l.opened l.refused l.cords.items (lane_view l.lane) (lane_view c.subscribe.new.self) l.rung (subscribe-quiet c.args.sig (lane_view l.lane) (lane_view c.subscribe.new.self) c.subscribe.result c.subscribe.ensures)
+invariant_of-self-clause-rung c = let l = c.args.self.now in rung-still l.opened l.refused l.cords.items (lane_view l.lane) (lane_view c.subscribe.new.self) l.rung (subscribe-quiet c.args.sig (lane_view l.lane) (lane_view c.subscribe.new.self) c.subscribe.result c.subscribe.ensures)

@@ -4,4 +4,4 @@ use Rattle.qp_wait_rings.proofs.Quiet.{reads-quiet}
 use Rattle.qp_wait_rings.proofs.ops.RingingLaneOps.subscribers.Goals as goal
 
 pub invariant_of-self-clause-rung : goal.invariant_of-self-clause-rung
-invariant_of-self-clause-rung c = let l = c.args.self.now in rung-still l.from l.opened l.refused l.cords.items (lane_view l.lane) (lane_view c.subscribers.new.self) l.rung (reads-quiet c.args.sig (lane_view l.lane) (lane_view c.subscribers.new.self) c.subscribers.result c.subscribers.ensures)
+invariant_of-self-clause-rung c = let l = c.args.self.now in rung-still l.opened l.refused l.cords.items (lane_view l.lane) (lane_view c.subscribers.new.self) l.rung (reads-quiet c.args.sig (lane_view l.lane) (lane_view c.subscribers.new.self) c.subscribers.result c.subscribers.ensures)

@@ -1,0 +1,5 @@
+mod Seating
+mod BlockSteps
+mod PoolSteps
+mod QueueSteps
+mod Laws

@@ -1,0 +1,3 @@
+pub mod CoreStep
+pub mod Ops
+pub mod Laws
