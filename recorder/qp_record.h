@@ -15,7 +15,10 @@
  *               QPR_NOTE_ENTRY() and QPR_NOTE_EXIT(), which are to be the critical section's entry and exit.
  *
  * A record is written whole or not at all. One for whose longest form there is no room is lost and counted, and the numbers
- * of the records that follow show the gap. A record writes at most QPR_LONGEST bytes; nothing else loops.
+ * of the records that follow show the gap. A record writes at most QPR_LONGEST bytes.
+ *
+ * Three functions, which are there in each form and do nothing where recording is off: qpr_open() gives a buffer its bytes,
+ * qpr_take() takes them out in pieces, and qpr_close() says that the run has ended.
  */
 #ifndef QP_RECORD_H
 #define QP_RECORD_H
@@ -40,6 +43,9 @@
 /* A post without a margin, an event without a reserve: what finds no room is an assertion. */
 #define QPR_NONE_ASKED (-1)
 
+/* The bytes before those of a piece, see qpr_take(). */
+enum { QPR_HEAD = 24 };
+
 #if QP_RECORD != QPR_OFF
 
 /* ---- what the framework provides --------------------------------------------------------------------------------------- */
@@ -63,7 +69,8 @@
 enum {
     QPR_WHOS = 49,      /* 1 to 32 objects, 33 to 48 sources */
     QPR_PARAMS = 8,     /* the most parameters of an event */
-    QPR_HEAD = 16,      /* bytes before those of a piece, see qpr_take() */
+    QPR_LAYOUT = 2,     /* of a piece: the first one had neither a number nor a check */
+    QPR_MOST = 0xFFFF,  /* the most bytes of records in a piece */
     QPR_RECORD_HEAD = 3, /* bytes before those of a record's numbers */
     QPR_NUMBER = 5,     /* the most bytes of a number of 32 bits */
     QPR_LONG = 10,      /* of one of 64 bits */
@@ -91,8 +98,13 @@ struct qpr_buffer {
     uint32_t read;
     uint32_t lost;      /* records that found no room */
     uint32_t told;      /* how many of them a piece has told */
+    uint32_t whole;     /* the bytes written before the first lost one */
+    uint32_t pieces;    /* how many were taken */
     uint8_t next;       /* the number of the next record, which a lost one draws too */
+    uint8_t end;        /* one of QPR_RUNS, QPR_ENDS, QPR_ENDED */
 };
+
+enum { QPR_RUNS, QPR_ENDS /* the last piece isn't taken yet */, QPR_ENDED };
 
 struct qpr_state {
     struct qpr_buffer buffers[QPR_BUFFERS];
@@ -100,6 +112,7 @@ struct qpr_state {
     uint32_t words[QPR_WORDS];
 #endif
     uint8_t who;
+    uint8_t opened; /* buffers */
 };
 
 /* Stands once, at the outermost level of one file. */
@@ -155,7 +168,9 @@ static inline int qpr_open_record(struct qpr_cursor *c, uint8_t kind, uint32_t m
 #endif
     uint8_t const number = to->next++;
     if (to->size - (to->written - to->read) < QPR_RECORD_HEAD + most) {
-        ++to->lost;
+        if (to->lost++ == 0u) {
+            to->whole = to->written;
+        }
         return 0;
     }
     c->to = to;
@@ -215,42 +230,85 @@ static inline void qpr_open(uint8_t who, uint8_t *bytes, uint32_t size) {
     while ((size & (size - 1u)) != 0u) {
         size &= size - 1u;
     }
+    qpr.opened = (uint8_t)(qpr.opened + (b->size == 0u));
     b->bytes = bytes;
     b->size = size;
 }
 
-static inline void qpr_four(uint8_t *out, uint32_t value) {
-    for (unsigned i = 0; i < 4u; ++i) {
-        out[i] = (uint8_t)(value >> (8u * i));
+/* The run has ended, quietly or at an assertion: the piece that takes this buffer's last bytes says so, and one without bytes does
+ * where they are taken already. A buffer that isn't closed is one of a run that just stops. */
+static inline void qpr_close(uint8_t who) {
+    struct qpr_buffer *b = &qpr.buffers[who < QPR_BUFFERS ? who : 0];
+    if (b->end == QPR_RUNS) {
+        b->end = QPR_ENDS;
     }
 }
 
-/* Moves what a buffer has into `out`, at most `room` bytes (more than QPR_HEAD), as one piece of a trace: "QPR", the form, who,
- * three zeros, the count of bytes and of records lost so far with the least significant byte first, and the bytes. Answers how
- * many bytes were written, 0 where there is nothing to tell. To be called where no record of this buffer is being written: in the
- * critical section, or by the thread whose buffer it is, or behind its end. */
+static inline void qpr_two(uint8_t *out, uint32_t value) {
+    out[0] = (uint8_t)value;
+    out[1] = (uint8_t)(value >> 8);
+}
+
+static inline void qpr_four(uint8_t *out, uint32_t value) {
+    qpr_two(out, value);
+    qpr_two(out + 2, value >> 16);
+}
+
+/* The CRC-32 of IEEE 802.3 over these bytes too, by halves of a byte: 64 bytes of constants. Begins with ~0, ends with ~. */
+static inline uint32_t qpr_crc(uint32_t crc, uint8_t const *bytes, uint32_t n) {
+    static uint32_t const of[16] = {
+        0x00000000u, 0x1DB71064u, 0x3B6E20C8u, 0x26D930ACu, 0x76DC4190u, 0x6B6B51F4u, 0x4DB26158u, 0x5005713Cu,
+        0xEDB88320u, 0xF00F9344u, 0xD6D6A3E8u, 0xCB61B38Cu, 0x9B64C2B0u, 0x86D3D2D4u, 0xA00AE278u, 0xBDBDF21Cu
+    };
+    for (uint32_t i = 0; i < n; ++i) {
+        crc ^= bytes[i];
+        crc = of[crc & 15u] ^ (crc >> 4);
+        crc = of[crc & 15u] ^ (crc >> 4);
+    }
+    return crc;
+}
+
+/* Moves what a buffer has into `out`, at most `room` bytes (more than QPR_HEAD), as one piece of a trace, and answers how many bytes
+ * were written, 0 where there is nothing to tell. To be called where no record of this buffer is being written: in the critical
+ * section, or by the thread whose buffer it is, or behind its end. A piece has, each number with its least significant byte first:
+ *
+ *    0  "QPR"                           8  4 bytes: its number in its buffer, from 0
+ *    3  QPR_LAYOUT and the form        12  4 bytes: records lost so far
+ *    4  who                            16  4 bytes: the bytes of records before the first lost one
+ *    5  how many buffers there are,    20  4 bytes: the CRC-32 of the 20 bytes before and of the records
+ *       and 128 in the last piece      24  the records
+ *    6  2 bytes: those of its records
+ */
 static inline uint32_t qpr_take(uint8_t who, uint8_t *out, uint32_t room) {
     struct qpr_buffer *b = &qpr.buffers[who < QPR_BUFFERS ? who : 0];
-    uint32_t n = b->written - b->read;
-    if (room <= (uint32_t)QPR_HEAD || (n == 0u && b->lost == b->told)) {
+    uint32_t const held = b->written - b->read;
+    if (room <= (uint32_t)QPR_HEAD || (held == 0u && b->lost == b->told && b->end != QPR_ENDS)) {
         return 0u;
     }
-    if (n > room - (uint32_t)QPR_HEAD) {
-        n = room - (uint32_t)QPR_HEAD;
-    }
+    uint32_t const fits = room - (uint32_t)QPR_HEAD < QPR_MOST ? room - (uint32_t)QPR_HEAD : QPR_MOST;
+    uint32_t const n = held < fits ? held : fits;
+    int const is_last = b->end == QPR_ENDS && n == held;
     out[0] = (uint8_t)'Q';
     out[1] = (uint8_t)'P';
     out[2] = (uint8_t)'R';
-    out[3] = QP_RECORD;
+    out[3] = (uint8_t)(QPR_LAYOUT << 4 | QP_RECORD);
     out[4] = who;
-    out[5] = out[6] = out[7] = 0u;
-    qpr_four(out + 8, n);
+    out[5] = (uint8_t)(qpr.opened | (is_last ? 0x80u : 0u));
+    qpr_two(out + 6, n);
+    qpr_four(out + 8, b->pieces++);
     qpr_four(out + 12, b->lost);
+    qpr_four(out + 16, b->whole);
+    uint8_t const *const bytes = b->bytes;
+    uint32_t const first = b->read, mask = b->size - 1u;
     for (uint32_t i = 0; i < n; ++i) {
-        out[QPR_HEAD + i] = b->bytes[(b->read + i) & (b->size - 1u)];
+        out[QPR_HEAD + i] = bytes[(first + i) & mask];
     }
+    qpr_four(out + 20, ~qpr_crc(qpr_crc(~(uint32_t)0, out, 20u), out + QPR_HEAD, n));
     b->read += n;
     b->told = b->lost;
+    if (is_last) {
+        b->end = QPR_ENDED;
+    }
     return (uint32_t)QPR_HEAD + n;
 }
 
@@ -418,6 +476,20 @@ static inline void qpr_assert_ticks(uint32_t t, uint32_t ticks, uint32_t interva
 
 struct qpr_off;
 #define QPR_STATE() struct qpr_off
+
+static inline void qpr_open(uint8_t who, uint8_t *bytes, uint32_t size) {
+    (void)who;
+    (void)bytes;
+    (void)size;
+}
+static inline void qpr_close(uint8_t who) { (void)who; }
+static inline uint32_t qpr_take(uint8_t who, uint8_t *out, uint32_t room) {
+    (void)who;
+    (void)out;
+    (void)room;
+    return 0u;
+}
+
 #define QPR_BY(whom) ((void)0)
 #define QPR_SWITCH(whom) ((void)0)
 #define QPR_RESTORE() ((void)0)

@@ -1,6 +1,6 @@
 /* A run: PROGRAM STIMULI TRACE [FAULT]. Objects start one after another; then each has its thread, and so has each source. It
  * ends where all sources are done and all objects wait, or at an assertion. With QF_JITTER in the environment threads meet more
- * often. */
+ * often. With QF_AT_ONCE, and one buffer, everything stops at an assertion as on a board, in the middle of what others do. */
 #include <errno.h>
 #include <stdio.h>
 #include <stdlib.h>
@@ -14,7 +14,11 @@
 #define QF_RECORD_BYTES 0x100000 /* of each of the recorder's buffers */
 #endif
 
-enum { PIECE = 4096, PATIENCE = 10 /* seconds */ };
+#ifndef QF_PIECE
+#define QF_PIECE 4096 /* the most bytes of a piece of the trace */
+#endif
+
+enum { PATIENCE = 10 /* seconds */ };
 
 QActive *QActive_registry_[QF_MAX_ACTIVE + 1];
 
@@ -23,6 +27,9 @@ static pthread_cond_t l_moved = PTHREAD_COND_INITIALIZER;
 static bool l_isStopped;
 static bool l_isStarting = true;
 static bool l_hasJitter;
+static bool l_stopsAtOnce;
+static unsigned l_nSources;
+static char const *l_trace;
 static QEvt l_statics[QF_MAX_SIG];
 
 #if QP_RECORD
@@ -67,6 +74,52 @@ void QF_wait_(pthread_cond_t *more) { pthread_cond_wait(more, &l_section); }
 void QF_wakeWatcher_(void) { pthread_cond_signal(&l_moved); }
 bool QF_isStopped_(void) { return l_isStopped; }
 
+/* ---- the recorder's buffers ---- */
+
+static void openBuffers(void) {
+#if QP_RECORD == 1
+    static uint8_t bytes[QF_RECORD_BYTES];
+    qpr_open(0, bytes, sizeof bytes);
+#elif QP_RECORD == 2
+    static uint8_t bytes[QPR_WHOS][QF_RECORD_BYTES];
+    for (unsigned p = 1; p <= QF_MAX_ACTIVE; ++p) {
+        if (QActive_registry_[p] != NULL) {
+            qpr_open(QPR_OBJECT(p), bytes[QPR_OBJECT(p)], sizeof bytes[0]);
+        }
+    }
+    for (unsigned i = 1; i <= l_nSources; ++i) {
+        qpr_open(QPR_SOURCE(i), bytes[QPR_SOURCE(i)], sizeof bytes[0]);
+    }
+#endif
+}
+
+/* The whole trace, at the end of the run: a piece of each buffer in turn. */
+static int writeTrace(void) {
+#if QP_RECORD
+    static uint8_t piece[QF_PIECE];
+    FILE *const out = fopen(l_trace, "wb");
+    bool isWritten = out != NULL, hasMore = true;
+    for (unsigned who = 0; who < QPR_BUFFERS; ++who) {
+        if (qpr.buffers[who].size != 0) {
+            qpr_close((uint8_t)who);
+        }
+    }
+    while (isWritten && hasMore) {
+        hasMore = false;
+        for (unsigned who = 0; isWritten && who < QPR_BUFFERS; ++who) {
+            uint32_t const n = qpr_take((uint8_t)who, piece, sizeof piece);
+            isWritten = fwrite(piece, 1, n, out) == n;
+            hasMore = hasMore || n != 0;
+        }
+    }
+    if (out == NULL || fclose(out) != 0 || !isWritten) {
+        fprintf(stderr, "%s: can't be written\n", l_trace);
+        return 7;
+    }
+#endif
+    return 0;
+}
+
 static void stop(void) {
     l_isStopped = true;
     for (unsigned p = 1; p <= QF_MAX_ACTIVE; ++p) {
@@ -78,6 +131,9 @@ static void stop(void) {
 }
 
 void QF_onAssert_(void) {
+    if (l_stopsAtOnce) {
+        _Exit(writeTrace());
+    }
     stop();
     QF_CRIT_EXIT();
     if (l_isStarting) {
@@ -181,39 +237,6 @@ static void runObjects(void) {
     }
 }
 
-/* ---- the recorder's buffers ---- */
-
-#if QP_RECORD
-static void openBuffers(void) {
-#if QP_RECORD == 1
-    static uint8_t bytes[QF_RECORD_BYTES];
-    qpr_open(0, bytes, sizeof bytes);
-#else
-    static uint8_t bytes[QPR_WHOS][QF_RECORD_BYTES];
-    for (unsigned who = 1; who < QPR_WHOS; ++who) {
-        qpr_open((uint8_t)who, bytes[who], sizeof bytes[who]);
-    }
-#endif
-}
-
-static int writeTrace(char const *file) {
-    static uint8_t piece[PIECE];
-    FILE *const out = fopen(file, "wb");
-    bool isWritten = out != NULL;
-    for (unsigned who = 0; isWritten && who < QPR_BUFFERS; ++who) {
-        uint32_t n;
-        while (isWritten && (n = qpr_take((uint8_t)who, piece, sizeof piece)) != 0) {
-            isWritten = fwrite(piece, 1, n, out) == n;
-        }
-    }
-    if (out == NULL || fclose(out) != 0 || !isWritten) {
-        fprintf(stderr, "%s: can't be written\n", file);
-        return 7;
-    }
-    return 0;
-}
-#endif
-
 int main(int argc, char **argv) {
     if (argc < 3) {
         fprintf(stderr, "usage: %s STIMULI TRACE [FAULT]\n", argv[0]);
@@ -222,21 +245,17 @@ int main(int argc, char **argv) {
 #ifdef QF_FAULTS
     QF_fault = argc > 3 ? atoi(argv[3]) : 0;
 #endif
+    l_trace = argv[2];
     l_hasJitter = getenv("QF_JITTER") != NULL;
+    l_stopsAtOnce = QP_RECORD == 1 && getenv("QF_AT_ONCE") != NULL;
     for (unsigned i = 0; i < QF_app.nSignals; ++i) {
         l_statics[Q_USER_SIG + i].sig = (QSignal)(Q_USER_SIG + i);
     }
     QF_poolInit_();
     QF_app.start();
-    QF_readSources_(argv[1]);
-#if QP_RECORD
+    l_nSources = QF_readSources_(argv[1]);
     openBuffers();
-#endif
     startObjects();
     runObjects();
-#if QP_RECORD
-    return writeTrace(argv[2]);
-#else
-    return 0;
-#endif
+    return writeTrace();
 }

@@ -8,8 +8,9 @@ name's word are those of its lives one after another.
 from bisect import bisect_right
 from collections import defaultdict
 from dataclasses import dataclass
+from heapq import heappop, heappush
 
-from .trace import Raw
+from .records import Raw
 
 Block = tuple[int, int]
 
@@ -32,11 +33,46 @@ class Life:
         return self.name_from + real - self.real_from
 
 
+class _Lives:
+    """The lives of one real block by the number at which each begins; of two with the same number the later one counts."""
+
+    def __init__(self) -> None:
+        self._begins: list[int] = []
+        self._lives: list[Life] = []
+
+    def add(self, life: Life) -> None:
+        at = bisect_right(self._begins, life.real_from)
+        self._begins.insert(at, life.real_from)
+        self._lives.insert(at, life)
+
+    def at(self, number: int) -> Life | None:
+        at = bisect_right(self._begins, number)
+        return self._lives[at - 1] if at else None
+
+
+class _Names:
+    """The names of one pool's blocks."""
+
+    def __init__(self) -> None:
+        self._most = 0
+        self._free: list[int] = []
+
+    def least_free(self) -> int:
+        """Gives out the least name that is free."""
+        if self._free:
+            return heappop(self._free)
+        self._most += 1
+        return self._most - 1
+
+    def give_back(self, name: int) -> None:
+        heappush(self._free, name)
+
+
 class Blocks:
     """All lives of a trace."""
 
     def __init__(self, lanes: dict[int, list[Raw]]):
-        self._lives: dict[Block, list[Life]] = defaultdict(list)
+        self._lives: dict[Block, _Lives] = defaultdict(_Lives)
         self._of_new: dict[tuple[int, int], Life] = {}
         self._of_back: dict[tuple[int, int], Life | None] = {}
         ordered = self._name_blocks(lanes)
@@ -45,9 +81,7 @@ class Blocks:
 
     def life(self, block: Block, number: int) -> Life | None:
         """The life in which a real block's word has its operation of this number, or the last one before."""
-        lives = self._lives[block]
-        at = bisect_right([life.real_from for life in lives], number)
-        return lives[at - 1] if at else None
+        return self._lives[block].at(number) if block in self._lives else None
 
     def of_new(self, pool: int, number: int) -> Life:
         return self._of_new[pool, number]
@@ -60,17 +94,18 @@ class Blocks:
         found = [raw for lane in lanes.values() for raw in lane if raw.word in ("new", "back")]
         ordered: list[Life] = []
         out: dict[Block, Life] = {}
+        names: dict[int, _Names] = defaultdict(_Names)
         for raw in sorted(found, key=lambda raw: (raw.values[0], raw.number)):
             pool, block = raw.values[:2]
+            former = out.pop((pool, block), None)
             if raw.word == "back":
-                self._of_back[pool, raw.number] = out.pop((pool, block), None) or self.life((pool, block), raw.shown)
+                if former:
+                    names[pool].give_back(former.name)
+                self._of_back[pool, raw.number] = former or self.life((pool, block), raw.shown)
                 continue
-            former = out.get((pool, block))
-            used = {life.name for (of, _), life in out.items() if of == pool}
-            name = former.name if former else next(name for name in range(len(used) + 1) if name not in used)
+            name = former.name if former else names[pool].least_free()
             life = Life(pool, block, name, raw.values[2], raw.shown)
-            self._lives[pool, block].append(life)
-            self._lives[pool, block].sort(key=lambda life: life.real_from)
+            self._lives[pool, block].add(life)
             self._of_new[pool, raw.number] = out[pool, block] = life
             ordered.append(life)
         return ordered
@@ -87,3 +122,4 @@ class Blocks:
         for life in ordered:
             life.name_from = totals[life.pool, life.name]
             totals[life.pool, life.name] += life.length
+

@@ -1,11 +1,17 @@
 """A lane's records as those of a journal: what objects and sources have in common."""
 
+from collections import deque
+from collections.abc import Callable
+
+from qpviewer.faults import Fault
+
 from .blocks import Block, Life
 from .queues import Entry, take_out
+from .records import KINDS, LAST_OBJECT, Raw, who_is
 from .told import Told
-from .trace import LAST_OBJECT, Raw
 
-SIGNED = 2**64
+#: The value of the highest of 64 bits.
+SIGN = 2**63
 #: Records on a block, before the first of which its `new` is written.
 _ON_BLOCK = {"inc": 0, "dec": 0, "back": 0, "lifo": 0, "defer": 0, "post": 1}
 
@@ -25,12 +31,14 @@ class Lane:
         self._made: dict[Block, Entry] = {}
         self._due: list[Entry] = []
         self._waiting: dict[Block, Raw] = {}
-        self._deferred: list[Entry] = []
+        self._deferred: deque[Entry] = deque()
         self._step: Entry | None = None
         self._former: Raw | None = None
+        words = [word for word, _, _ in KINDS.values() if hasattr(self, f"_{word}")]
+        self._writers: dict[str, Callable[[int, Raw], None]] = {word: getattr(self, f"_{word}") for word in words}
 
     def put(self, word: str, *numbers: int) -> None:
-        self.lines.append(" ".join([word, *map(str, numbers)]))
+        self.lines.append(f"{word} {' '.join(map(str, numbers))}")
 
     def write(self, at: int, raw: Raw) -> None:
         """Takes the lane's next record."""
@@ -38,7 +46,10 @@ class Lane:
             block = raw.values[_ON_BLOCK[raw.word]:][:2]
             if block in self._waiting:
                 self._write_new(self._waiting.pop(block))
-        getattr(self, f"_{raw.word}")(at, raw)
+        writer = self._writers.get(raw.word)
+        if writer is None:
+            raise Fault("", f"{who_is(self._who)}: record {at + 1} is `{raw.word}`, which none of its sort makes")
+        writer(at, raw)
         self._former = raw
 
     def close(self) -> None:
@@ -167,7 +178,7 @@ class Lane:
     _begin = _none = _enter = _exit = _init = _lock = _unlock = _nodefer = _norecall = _settle = _plain
 
     def _say(self, at: int, raw: Raw) -> None:
-        self.put("say", self._object, raw.values[0] % SIGNED)
+        self.put("say", self._object, (raw.values[0] + SIGN) % (2 * SIGN) - SIGN)
 
     def _assert(self, at: int, raw: Raw) -> None:
         code, *values = raw.values

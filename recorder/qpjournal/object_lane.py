@@ -2,8 +2,8 @@
 
 from .lane import Lane
 from .queues import Entry
+from .records import Raw
 from .told import Told
-from .trace import Raw
 
 #: Where a step ends for who looks for its row.
 _ENDS = {"took", "nil", "begin"}
@@ -22,16 +22,19 @@ class ObjectLane(Lane):
 
     def write_all(self) -> None:
         raws = self._told.lanes.get(self._who, [])
+        is_raised = False
         for at, raw in enumerate(raws):
+            if is_raised and not self._posts_left: # not before there is a next record: a lane may stop behind the last post
+                self.put("unlock", self._object, self._ceilings.pop())
+                is_raised = False
             self.write(at, raw)
             if raw.word == "took":
                 self._write_run(raws, at)
             elif raw.word == "pub":
                 self._raise_ceiling(raws[at + 1:at + 2])
+                is_raised = self._posts_left > 0
             elif raw.word == "post" and self._posts_left:
                 self._posts_left -= 1
-                if not self._posts_left:
-                    self.put("unlock", self._object, self._ceilings.pop())
         self.close()
 
     def _done(self, at: int, raw: Raw) -> None:
@@ -70,7 +73,8 @@ class ObjectLane(Lane):
 
     def _write_run(self, raws: list[Raw], took: int) -> None:
         handled = None
-        for raw in raws[took + 1:]:
+        for at in range(took + 1, len(raws)):
+            raw = raws[at]
             if raw.word in _ENDS:
                 break
             if raw.word == "run":
@@ -87,15 +91,19 @@ class ObjectLane(Lane):
     def _row(self, handled: int | None) -> tuple[int, int]:
         """The state that handles the step's event, and the first of its rows for it."""
         entry = self._step or Entry(0, 0)
-        for state in self._path[::-1] if handled is None else [handled]:
-            if rows := self._rows(state, entry.signal):
-                if len(rows) > 1:
-                    self._told.notes.append(
-                        f"object {self._object}: state {state} has {len(rows)} rows for signal {entry.signal}; QPR_RUN has to "
-                        "say which one is taken, and the first is written"
-                    )
-                return state, rows[0]
-        return handled or (self._path[-1] if self._path else 0), 0
+        found = self._candidates(entry.signal, handled)
+        if len(found) > 1:
+            where = f"state {handled} has" if handled is not None else "the states that it is in have"
+            self._told.notes.append(
+                f"object {self._object}: {where} {len(found)} rows for signal {entry.signal}; QPR_RUN has to "
+                "say which one is taken, and the first is written"
+            )
+        return found[0] if found else (handled or (self._path[-1] if self._path else 0), 0)
+
+    def _candidates(self, signal: int, handled: int | None) -> list[tuple[int, int]]:
+        """The rows for a signal in the state that handles it, or, where that isn't known, in all that the object is in."""
+        states = self._path[::-1] if handled is None else [handled]
+        return [(state, row) for state in states for row in self._rows(state, signal)]
 
     def _rows(self, state: int, signal: int) -> list[int]:
         states = self._told.objects[self._object].chart.states

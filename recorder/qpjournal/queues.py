@@ -1,11 +1,11 @@
 """Queues: the entry of each take, and how many posts and takes there were."""
 
 from bisect import bisect_left
-from collections import defaultdict
+from collections import defaultdict, deque
 from typing import NamedTuple
 
 from .blocks import Blocks, Life
-from .trace import Raw
+from .records import Raw
 
 Place = tuple[int, int]
 
@@ -51,11 +51,12 @@ def entries_of(lanes: dict[int, list[Raw]], blocks: Blocks) -> dict[Place, Entry
     return found
 
 
-def take_out(line: list[Entry], pool: int, what: int) -> Entry:
-    """Takes the first entry of this event out of a list; where none stands, an entry of its own."""
+def take_out(line: deque[Entry], pool: int, what: int) -> Entry:
+    """Takes the first entry of this event out of a line; where none stands, an entry of its own."""
     for at, entry in enumerate(line):
         if (entry.pool, entry.what) == (pool, what):
-            return line.pop(at)
+            del line[at]
+            return entry
     return Entry(pool, what)
 
 
@@ -82,12 +83,12 @@ class Queues:
         return number - lifos - takes, lifos, takes
 
     def _fold(self, queue: int, operations: list[tuple[int, Place, Raw]], entries: dict[Place, Entry]) -> None:
-        line: list[Entry] = []
+        line: deque[Entry] = deque()
         for number, place, raw in operations:
             if raw.word == "post":
                 line.append(entries[place])
             elif raw.word == "lifo":
-                line.insert(0, entries[place])
+                line.appendleft(entries[place])
                 self._lifos[queue].append(number)
             else:
                 self.taken[place] = take_out(line, *raw.values)

@@ -1,8 +1,9 @@
 """The lane of a source: its stimuli, and the lines that say them."""
 
 from .lane import Lane
+from .records import STIM_TICK, Raw
+from .stimulus import StimulusLines
 from .told import Told
-from .trace import LAST_OBJECT, STIM_POST, STIM_PUBLISH, STIM_TICK, Raw
 
 
 class SourceLane(Lane):
@@ -15,7 +16,7 @@ class SourceLane(Lane):
     def __init__(self, told: Told, who: int):
         super().__init__(told, who)
         self.stimuli: list[str] = []
-        self._name = f"source {who - LAST_OBJECT}"
+        self._lines = StimulusLines(told, who)
 
     def write_all(self) -> None:
         raws = list(enumerate(self._told.lanes.get(self._who, [])))
@@ -29,7 +30,7 @@ class SourceLane(Lane):
     def _stimulus(self, head: Raw, raws: list[tuple[int, Raw]], start: int, end: int) -> None:
         self.close()
         self._due = []
-        self.stimuli.append(self._line(head, [raw for _, raw in raws]))
+        self.stimuli.append(self._lines.line(head, [raw for _, raw in raws]))
         self.put("stim", 0, len(self.stimuli), 0)
         if head.word == "settle":
             self.write(*raws[0])
@@ -38,29 +39,6 @@ class SourceLane(Lane):
         else:
             for at, raw in raws[1:]:
                 self.write(at, raw)
-
-    def _line(self, head: Raw, raws: list[Raw]) -> str:
-        if head.word == "settle":
-            return "settle"
-        call, *values = head.values
-        if call == STIM_TICK:
-            return f"tick {values[0]}"
-        if call == STIM_PUBLISH:
-            signal, reserve = values
-            return " ".join(["publish", self._event_text(signal, raws), *_asked("reserve", reserve)])
-        priority, signal, margin, reserve = values
-        target = self._told.objects.get(priority)
-        name = target.name if target else f"object-{priority}"
-        return " ".join(["post", name, self._event_text(signal, raws), *_asked("margin", margin), *_asked("reserve", reserve)])
-
-    def _event_text(self, signal: int, raws: list[Raw]) -> str:
-        known = self._told.signals.get(signal)
-        name = known.name if known else f"signal-{signal}"
-        params = (0,) * self._told.params_of(signal)
-        for raw in raws:
-            if raw.word == "new":
-                params = self._told.blocks.of_new(raw.values[0], raw.number).params or params
-        return f"{name}({','.join(map(str, params))})" if params else name
 
     # Ticks.
 
@@ -76,8 +54,9 @@ class SourceLane(Lane):
         if moments := self._told.moments:
             before, behind = moments[self._who, start], moments[self._who, end]
             for timer in self._unarmed(rate, groups):
-                shown = self._told.timers.idle_between(timer, before.get(timer, 0), behind.get(timer, 0))
-                groups.append((timer, [(-1, Raw(self._who, "idle", (timer,), shown))]))
+                least = before.get(timer, 0)
+                shown = self._told.timers.idle_between(timer, least, behind.get(timer, 0))
+                groups.append((timer, [(-1, Raw(self._who, "idle", (timer,), least if shown is None else shown))]))
         for _, group in sorted(groups, key=lambda group: group[0]):
             for at, raw in group:
                 self.write(at, raw)
@@ -91,7 +70,3 @@ class SourceLane(Lane):
             if event.timer.rate == rate and event.number not in told and event.number < min(stopped, default=65)
         ]
 
-
-def _asked(word: str, value: int) -> list[str]:
-    """A margin or a reserve as a line has it; the record's number is one more, and 0 where none is asked."""
-    return [word, str(value - 1)] if value else []

@@ -5,8 +5,8 @@ from qpviewer.system_parts import Object, Signal, System
 from .blocks import Blocks
 from .counting import Moments
 from .queues import Queues, entries_of
+from .records import LAST_OBJECT, Raw
 from .timers import Timers
-from .trace import LAST_OBJECT, Raw
 
 
 class Told:

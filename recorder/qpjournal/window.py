@@ -5,7 +5,7 @@ before a step or a stimulus. So an object with a queue of one place is added, an
 """
 
 from bisect import bisect_right
-from collections import defaultdict
+from collections import Counter, defaultdict
 
 from qpviewer.faults import Fault
 from qpviewer.journal import Record
@@ -26,9 +26,9 @@ def window(text: str, system: System, made: Made) -> tuple[str, Made]:
     priority = next((p for p in range(LAST_PRIORITY, 0, -1) if all(p != entry.priority for entry in system.objects)), 0)
     if not priority or len(made.sources) == SOURCES or NAME in system.signals or NAME in system.charts:
         raise Fault("", "a window needs a free priority, a free source, and its own name free")
-    lanes = [[_record(line) for line in lane] for lane in made.lanes]
+    lanes = records_of(made)
     objects = len(system.objects)
-    kept = _whole(lanes, objects)
+    kept = whole(made, lanes, objects)
     notes = made.notes + [
         f"{_lane_name(system, lane)}: {len(records) - kept[lane]} of {len(records)} records are left out"
         for lane, records in enumerate(lanes) if kept[lane] < len(records)
@@ -46,6 +46,11 @@ def window(text: str, system: System, made: Made) -> tuple[str, Made]:
         "at which the journal ends"
     )
     return _with_object(text, priority), Made([*made.sources, [line, line]], found, ASSERTED_END, notes)
+
+
+def records_of(made: Made) -> list[list[Record]]:
+    """The records of each lane."""
+    return [[_record(line) for line in lane] for lane in made.lanes]
 
 
 def _record(line: str) -> Record:
@@ -83,18 +88,12 @@ def _seen_too(lane: list[str], system: System, priority: int) -> list[str]:
 
 # What is whole: lanes end before a step or a stimulus, and each word's numbers are drawn up to some number.
 
-def _whole(lanes: list[list[Record]], objects: int) -> list[int]:
+def whole(made: Made, lanes: list[list[Record]], objects: int) -> list[int]:
     """How many records of each lane are kept."""
     left = _references_left(lanes)
-    ends = [_object_ends(lane, left) if number <= objects else _source_ends(lane, left, objects) for number, lane in enumerate(lanes)]
-    touches = [[(at, touch) for at, record in enumerate(lane) for touch in _touches(record)] for lane in lanes]
-    kept = [lane_ends[-1] for lane_ends in ends]
-    while True:
-        limits = _limits(touches, kept)
-        cut = [_cut(touched, kept[lane], ends[lane], limits) for lane, touched in enumerate(touches)]
-        if cut == kept:
-            return kept
-        kept = cut
+    ends = [_object_ends(lane, left) for lane in lanes[:objects + 1]]
+    ends += [_source_ends(lane, is_whole) for lane, is_whole in zip(lanes[objects + 1:], made.is_last_whole)]
+    return _Kept(lanes, ends).all()
 
 
 def _touches(record: Record) -> list[Touch]:
@@ -106,28 +105,58 @@ def _touches(record: Record) -> list[Touch]:
     return found
 
 
-def _limits(touches: list[list[tuple[int, Touch]]], kept: list[int]) -> dict[Word, int]:
-    """For each word the first number that no kept record draws."""
-    drawn: dict[Word, set[int]] = defaultdict(set)
-    for lane, touched in enumerate(touches):
-        for at, touch in touched:
-            if touch.draws and at < kept[lane]:
-                drawn[touch.word].add(touch.number)
-    limits: dict[Word, int] = {}
-    for word, numbers in drawn.items():
-        limits[word] = next(number for number in range(len(numbers) + 1) if number not in numbers)
-    return limits
+class _Kept:
+    """How much of each lane is kept, so that no record touches a word beyond the first number that none draws.
 
+    What is cut lowers such numbers, and what touches a word beyond one is cut in turn. Each record is looked at once for each word
+    that it touches.
+    """
 
-def _cut(touched: list[tuple[int, Touch]], kept: int, ends: list[int], limits: dict[Word, int]) -> int:
-    """How many records of a lane are kept where words have these limits."""
-    for at, touch in touched:
-        if at >= kept:
-            break
-        limit = limits.get(touch.word, 0)
-        if touch.number >= limit + (not touch.draws):
-            return ends[bisect_right(ends, at) - 1]
-    return kept
+    def __init__(self, lanes: list[list[Record]], ends: list[list[int]]):
+        self._ends = ends
+        self._kept = [len(lane) for lane in lanes]
+        self._touches = [[_touches(record) for record in lane] for lane in lanes]
+        #: How many kept records draw each number of a word; the first that none draws.
+        self._drawn: dict[Word, Counter[int]] = defaultdict(Counter)
+        self._limits: dict[Word, int] = {}
+        #: What touches each word, as the limit that it needs, and its place; the highest limit last.
+        self._needs: dict[Word, list[tuple[int, int, int]]] = defaultdict(list)
+        self._lowered: list[Word] = []
+        for lane, records in enumerate(self._touches):
+            for at, touched in enumerate(records):
+                for touch in touched:
+                    self._needs[touch.word].append((touch.number + touch.draws, lane, at))
+                    if touch.draws:
+                        self._drawn[touch.word][touch.number] += 1
+
+    def all(self) -> list[int]:
+        for word, needs in self._needs.items():
+            needs.sort()
+            numbers = self._drawn[word]
+            self._limits[word] = next(number for number in range(len(numbers) + 1) if not numbers[number])
+        for lane, ends in enumerate(self._ends):
+            self._cut(lane, ends[-1])
+        self._lowered = list(self._needs)
+        while self._lowered:
+            self._keep_within(self._lowered.pop())
+        return self._kept
+
+    def _keep_within(self, word: Word) -> None:
+        needs = self._needs[word]
+        while needs and needs[-1][0] > self._limits[word]:
+            _, lane, at = needs.pop()
+            if at < self._kept[lane]:
+                self._cut(lane, self._ends[lane][bisect_right(self._ends[lane], at) - 1])
+
+    def _cut(self, lane: int, kept: int) -> None:
+        for touched in self._touches[lane][kept:self._kept[lane]]:
+            for word, number, draws in touched:
+                if draws:
+                    self._drawn[word][number] -= 1
+                    if number < self._limits[word] and not self._drawn[word][number]:
+                        self._limits[word] = number
+                        self._lowered.append(word)
+        self._kept[lane] = kept
 
 
 def _references_left(lanes: list[list[Record]]) -> dict[tuple[int, int, int], int]:
@@ -174,22 +203,7 @@ def _is_whole(step: list[Record], left: dict[tuple[int, int, int], int]) -> bool
     return len(released) == 1 + (left[pool, block, number] == 0)
 
 
-def _source_ends(lane: list[Record], left: dict[tuple[int, int, int], int], objects: int) -> list[int]:
+def _source_ends(lane: list[Record], is_last_whole: bool) -> list[int]:
     """After how many records a lane's stimuli are whole."""
     ends = [at for at, record in enumerate(lane) if record.word == "stim"] or [0]
-    last = lane[ends[-1] + 1:]
-    return ends + [len(lane)] * (bool(last) and _is_done(last, left, objects))
-
-
-def _is_done(stimulus: list[Record], left: dict[tuple[int, int, int], int], objects: int) -> bool:
-    """Of a tick it isn't known whether it went over all its time events."""
-    words = [record.word for record in stimulus]
-    if words[0] == "settle":
-        return len(words) == 1 + objects
-    if words[-1] == "dec":
-        _, pool, block, number, _ = stimulus[-1].numbers
-        return left[pool, block, number] > 0
-    if "pub" in words:
-        members = stimulus[words.index("pub")].numbers[3]
-        return words[-1] == "back" or "inc" not in words and words.count("post") == members.bit_count()
-    return words[-1] in ("short", "back") or words in (["full"], ["post"], ["new", "inc", "post"])
+    return ends + [len(lane)] * is_last_whole

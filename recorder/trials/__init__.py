@@ -8,5 +8,9 @@
 | `lawful` | many runs of each example |
 | `seeded` | each seeded fault with its verdict and its record |
 | `stopped` | traces that just stop, and buffers that overflow |
-| `reading` | traces that aren't any, without a compiler |
+| `at_once` | runs that stop at once at an assertion |
+| `hurt` | traces that a line hurts |
+| `following` | traces that are followed over a pseudo-terminal |
+| `reading` | traces by hand, without a compiler |
+| `wire` | pieces made by hand, and taken apart |
 """

@@ -9,7 +9,7 @@ from concurrent.futures import ThreadPoolExecutor
 from pathlib import Path
 from typing import NamedTuple
 
-from .places import EXAMPLE
+from .places import EXAMPLE, RECORDER
 
 SANITIZERS = {"address": "address,undefined", "thread": "thread"}
 #: A line that a framework adds to be recorded.
@@ -38,7 +38,7 @@ class Build(NamedTuple):
 
 #: The flags of each kind.
 KINDS = {
-    "plain": [], "faults": ["-DQF_FAULTS"], "small": ["-DQF_RECORD_BYTES=256"],
+    "plain": [], "faults": ["-DQF_FAULTS"], "small": ["-DQF_RECORD_BYTES=256"], "pieces": ["-DQF_PIECE=200"],
     **{name: [f"-fsanitize={of}", "-fno-sanitize-recover=all", "-g"] for name, of in SANITIZERS.items()},
 }
 
@@ -88,7 +88,34 @@ def left_when_off(compiler: str, folder: Path) -> list[str]:
         return [file.name for file, one, other in zip(files, as_is, without) if one != other]
 
 
+#: Who has buffers, and doesn't ask whether recording is on.
+_CALLS = """#include "qp_record.h"
+QPR_STATE();
+int main(void) {
+    static uint8_t bytes[64], piece[64 + QPR_HEAD];
+    qpr_open(0, bytes, sizeof bytes);
+    QPR_BY(QPR_OBJECT(1));
+    QPR_BEGIN();
+    qpr_close(0);
+    return (int)qpr_take(0, piece, sizeof piece);
+}
+"""
+
+
+def calls_left_when_off(compiler: str, folder: Path) -> bool:
+    """Whether something is left of calls of the recorder's functions with the recorder off. Raises `NotBuilt`."""
+    calls, nothing = folder / "calls.c", folder / "nothing.c"
+    calls.write_text(_CALLS)
+    nothing.write_text("int main(void) { return 0; }\n")
+    words = [compiler, "-std=c99", "-Wall", "-Wextra", "-pedantic", "-Wconversion", "-Wshadow", "-Werror", f"-I{RECORDER}", "-c", calls]
+    made = subprocess.run([*words, "-o", folder / "calls.o"], stderr=subprocess.PIPE, text=True)
+    if made.returncode:
+        raise NotBuilt(f"{compiler}, calls of the recorder's functions with the recorder off: {made.stderr}")
+    return _assembly(compiler, calls) != _assembly(compiler, nothing)
+
+
 def _assembly(compiler: str, file: Path) -> str:
-    words = [compiler, "-std=c99", "-D_POSIX_C_SOURCE=200809L", "-DQP_RECORD=0", "-O2", "-w", "-S", "-o", "-", file]
+    words = [compiler, "-std=c99", "-D_POSIX_C_SOURCE=200809L", f"-I{RECORDER}", "-DQP_RECORD=0", "-O2", "-w", "-S", "-o", "-", file]
     made = subprocess.run(words, stdout=subprocess.PIPE, check=True, text=True)
-    return re.sub(r"(?m)^\s*\.(file|ident).*\n", "", made.stdout)
+    without_names = re.sub(r"(?m)^\s*\.(file|ident).*\n", "", made.stdout)
+    return re.sub(r"\.LF([BE])\d+", r".LF\1", without_names) # functions that nothing calls are counted, too

@@ -5,8 +5,9 @@ import subprocess
 from dataclasses import dataclass
 from pathlib import Path
 
-from qpjournal.making import Made, make
-from qpjournal.trace import read_trace
+from qpjournal.command import judgeable
+from qpjournal.making import Made
+from qpjournal.trace import Trace, read_trace
 from qpviewer.journal import Journal, read_journal
 from qpviewer.stimuli import read_stimuli
 from qpviewer.system import read_system
@@ -35,11 +36,12 @@ class Judged:
     files: tuple[Path, Path, Path]
 
 
-def run(program: Path, stimuli: Path, trace: Path, fault: int = 0) -> None:
-    """A run under threads that meet often."""
+def run(program: Path, stimuli: Path, trace: Path, fault: int = 0, at_once: bool = False) -> None:
+    """A run under threads that meet often; at an assertion they stop at once, or each at its step's end."""
     words = [program, stimuli, trace, *([str(fault)] if fault else [])]
+    meet = {"QF_JITTER": "1"} | ({"QF_AT_ONCE": "1"} if at_once else {})
     try:
-        done = subprocess.run(words, env=os.environ | {"QF_JITTER": "1"}, stderr=subprocess.PIPE, text=True, timeout=PATIENCE)
+        done = subprocess.run(words, env=os.environ | meet, stderr=subprocess.PIPE, text=True, timeout=PATIENCE)
     except subprocess.TimeoutExpired:
         raise NotRun(f"{program.name}: no end after {PATIENCE} s") from None
     if done.returncode or done.stderr:
@@ -48,8 +50,18 @@ def run(program: Path, stimuli: Path, trace: Path, fault: int = 0) -> None:
 
 def judge(of: Run, trace: Path, folder: Path) -> Judged:
     """The verdict on a trace."""
-    system = read_system(of.system.read_bytes())
-    return judge_made(system, of.system, make(system, read_trace(trace.read_bytes())), folder)
+    return judge_trace(of.system, read_trace(trace.read_bytes()), folder)
+
+
+def judge_trace(system_file: Path, trace: Trace, folder: Path) -> Judged:
+    """The verdict on what `qp_journal --window` makes of a trace."""
+    text = system_file.read_text()
+    found = judgeable(text, read_system(text.encode()), trace)
+    if found.system is not None:
+        folder.mkdir(exist_ok=True)
+        system_file = folder / "system.toml"
+        system_file.write_text(found.system)
+    return judge_made(read_system((found.system or text).encode()), system_file, found.made, folder)
 
 
 def judge_made(system: System, system_file: Path, made: Made, folder: Path) -> Judged:

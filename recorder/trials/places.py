@@ -25,7 +25,10 @@ RUNS = {
     "workshop": Run("workshop", EXAMPLE / "workshop.toml", EXAMPLE / "workshop.txt"),
     "pressed": Run("workshop", EXAMPLE / "workshop.toml", EXAMPLE / "pressed.txt"),
     "crowd": Run("workshop", EXAMPLE / "workshop.toml", EXAMPLE / "crowd.txt"),
+    "hunger": Run("philosophers", ROOT / "examples" / "philosophers" / "table.toml", EXAMPLE / "hunger.txt"),
 }
+#: Runs that come to an assertion, most times.
+ASSERTING = ("crowd", "hunger")
 #: Runs of other stimuli stand beside these.
 EXAMPLES = ("lamp", "telemetry", "philosophers", "workshop")
 APPS = sorted({run.app for run in RUNS.values()})
