@@ -81,6 +81,13 @@ class Chromium:
                     raise RuntimeError(f"{method}: {answer['error']['message']}")
                 return answer["result"]
 
+    def processor_seconds(self) -> dict[int, float]:
+        """The processor's time that each of the browser's processes took so far."""
+        page, self._session = self._session, None
+        processes = self.call("SystemInfo.getProcessInfo")["processInfo"]
+        self._session = page
+        return {process["id"]: process["cpuTime"] for process in processes}
+
     def view(self, width: int, height: int, dark: bool = False) -> None:
         """The window's size, and whether the system asks for dark colours."""
         self.call("Emulation.setDeviceMetricsOverride", width=width, height=height, deviceScaleFactor=1, mobile=False)
@@ -88,14 +95,14 @@ class Chromium:
         self.call("Emulation.setEmulatedMedia", features=[scheme])
 
     def open(self, page: Path, fragment: str = "") -> float:
-        """Opens a file and waits until it is drawn; answers the seconds."""
-        begin = time.monotonic()
+        """Opens a file and waits until it is drawn; answers the processor's seconds, which are no more where others use it too."""
+        before = self.processor_seconds()
         self.call("Page.navigate", url="about:blank")
         self.call("Page.navigate", url=page.resolve().as_uri() + fragment)
         while self.value("document.readyState") != "complete" or "file:" not in self.value("location.href"):
             time.sleep(0.02)
         self.settle()
-        return time.monotonic() - begin
+        return sum(spent - before.get(process, 0) for process, spent in self.processor_seconds().items())
 
     def settle(self) -> None:
         """Waits until two frames are drawn."""

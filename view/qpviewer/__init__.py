@@ -20,6 +20,9 @@ journal whose text is in the format, lawful or not.
 | `verdict`, `suspects` with `sites`, `object_suspects`, `lane_suspects`, `tree` | a verdict, and the first record of an object or a lane that doesn't fit |
 | `foreign` | what a journal names and its system doesn't have |
 | `record_words`, `run_text` | records in words, and runs as text |
+| `beside`, `perfetto` | two runs side by side, and a run as trace events |
+| `holders` | who holds the blocks of a pool |
+| `positions` | the line of each value of a system's file |
 | `coverage`, `low_water` | rows taken, and the least that was free, over any number of journals |
 | `page` | the page: its parts, style and script in one file |
 """

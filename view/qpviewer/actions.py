@@ -1,17 +1,15 @@
-"""Reads actions and expressions of charts (docs/FORMATS.md, section 2), and values of expressions.
+"""Reads actions and expressions of charts (docs/FORMATS.md, section 2) as trees, and the values of expressions.
 
-It is a second reading of them, for who looks for the place of a verdict; a text that isn't in the grammar is a `Fault`.
+It is the one place in Python where they are read: for the place of a verdict, for what a refusal means, and for C that is printed of
+a chart. A text that isn't in the grammar is a `Fault`.
 """
 
 import re
 from collections import deque
-from collections.abc import Callable, Mapping
+from collections.abc import Callable, Iterator, Mapping
 from dataclasses import dataclass, field
 
 from .faults import Fault
-
-Names = Mapping[str, int]
-Expr = Callable[[Names], int]
 
 _TOKEN = re.compile(r" *([0-9]+|[A-Za-z_][A-Za-z0-9_]*|\|\||&&|==|!=|<=|>=|[-+*/%<>!()\[\],;=])", re.ASCII)
 _NUMBER = re.compile(r"[0-9]+", re.ASCII)
@@ -19,9 +17,46 @@ _BITS = 2**64
 _HIGH = 2**63
 
 
+@dataclass(frozen=True)
+class Number:
+    """A number as it is written, without a sign."""
+
+    value: int
+
+
+@dataclass(frozen=True)
+class Name:
+    """A variable, a parameter, `ok` or `me`."""
+
+    name: str
+
+
+@dataclass(frozen=True)
+class Unary:
+    """`-` or `!` before an expression."""
+
+    operator: str
+    operand: "Expr"
+
+
+@dataclass(frozen=True)
+class Binary:
+    """An operator between two expressions."""
+
+    operator: str
+    left: "Expr"
+    right: "Expr"
+
+
+Expr = Number | Name | Unary | Binary
+
+
 @dataclass
 class Action:
-    """An action: its word (`set` for an assignment), whom or what it names, its expressions, and its margin and reserve."""
+    """An action: its word (`set` for an assignment), whom or what it names, its expressions, and its margin and reserve.
+
+    `text` is the whole text's, also of an action within `locked`.
+    """
 
     word: str
     text: str
@@ -37,6 +72,33 @@ class Action:
 def wrapped(value: int) -> int:
     """A value in 64 bits with a sign."""
     return (value + _HIGH) % _BITS - _HIGH
+
+
+def value_of(tree: Expr, names: Mapping[str, int]) -> int:
+    """An expression's value where names have these. Raises `KeyError` for a name that isn't among them."""
+    match tree:
+        case Number(value):
+            return value
+        case Name(name):
+            return names[name]
+        case Unary("-", operand):
+            return wrapped(-value_of(operand, names))
+        case Unary(_, operand):
+            return int(not value_of(operand, names))
+        case Binary(operator, left, right):
+            return wrapped(_OPERATIONS[operator](value_of(left, names), value_of(right, names)))
+
+
+def names_in(tree: Expr) -> Iterator[str]:
+    """The names of an expression from the left, each as often as it stands there."""
+    match tree:
+        case Name(name):
+            yield name
+        case Unary(_, operand):
+            yield from names_in(operand)
+        case Binary(_, left, right):
+            yield from names_in(left)
+            yield from names_in(right)
 
 
 def read_action(text: str) -> Action:
@@ -82,6 +144,12 @@ class _Reader:
         self._tokens.popleft()
         return True
 
+    def _number(self) -> int:
+        token = self._take()
+        if not _NUMBER.fullmatch(token):
+            raise Fault("", f"{self._text!r} isn't an action or an expression")
+        return int(token)
+
     def end(self) -> None:
         if self._tokens:
             raise Fault("", f"{self._text!r} isn't an action or an expression")
@@ -91,7 +159,7 @@ class _Reader:
     def action(self) -> Action:
         if not self._takes("locked"):
             return self._plain()
-        action = Action("locked", self._text, ceiling=int(self._take()))
+        action = Action("locked", self._text, ceiling=self._number())
         self._take("[")
         action.inner.append(self._plain())
         while self._takes(";"):
@@ -122,9 +190,9 @@ class _Reader:
                 self._take("=")
                 return Action("set", self._text, name=word, values=[self.expression()])
         if self._takes("margin"):
-            action.margin = int(self._take())
+            action.margin = self._number()
         if self._takes("reserve"):
-            action.reserve = int(self._take())
+            action.reserve = self._number()
         return action
 
     def _event(self, action: Action) -> None:
@@ -149,27 +217,20 @@ class _Reader:
             return self._unary()
         left = self._line(level + 1)
         while self._next() in _LEVELS[level]:
-            left = _joined(self._take(), left, self._line(level + 1))
+            left = Binary(self._take(), left, self._line(level + 1))
             if level == _COMPARISONS:
                 break
         return left
 
     def _unary(self) -> Expr:
-        if self._takes("-"):
-            value = self._unary()
-            return lambda names: wrapped(-value(names))
-        if self._takes("!"):
-            other = self._unary()
-            return lambda names: int(not other(names))
+        if self._next() in ("-", "!"):
+            return Unary(self._take(), self._unary())
         if self._takes("("):
             inner = self.expression()
             self._take(")")
             return inner
         token = self._take()
-        if _NUMBER.fullmatch(token):
-            number = int(token)
-            return lambda names: number
-        return lambda names: names[token]
+        return Number(int(token)) if _NUMBER.fullmatch(token) else Name(token)
 
 
 def _divided(left: int, right: int) -> int:
@@ -190,8 +251,3 @@ _LEVELS: list[dict[str, Callable[[int, int], int]]] = [
     {"*": lambda a, b: a * b, "/": _divided, "%": lambda a, b: 0 if b == 0 else a - b * _divided(a, b)},
 ]
 _OPERATIONS = {token: operation for level in _LEVELS for token, operation in level.items()}
-
-
-def _joined(token: str, left: Expr, right: Expr) -> Expr:
-    operation = _OPERATIONS[token]
-    return lambda names: wrapped(operation(left(names), right(names)))

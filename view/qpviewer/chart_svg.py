@@ -5,7 +5,7 @@ from html import escape
 from .chart_layout import PAD, Box, Edge, Initial, Picture
 
 #: On a narrow page a picture shrinks to this share of its width; below that it is moved sideways.
-NARROWEST = 0.72
+NARROWEST = 0.84
 
 
 def chart_svg(picture: Picture, name: str) -> str:

@@ -1,12 +1,15 @@
 """Where an object's course fails (D7): the first record that isn't what its chart makes of its events."""
 
+import contextlib
+from bisect import bisect_right
 from collections import defaultdict
+from functools import lru_cache
 from typing import NamedTuple
 
-from .actions import Action, Names, read_action, read_expression, wrapped
+from .actions import Action, Expr, read_action, read_expression, value_of, wrapped
 from .faults import Fault
 from .journal import Journal
-from .object_places import failure_at, records_of
+from .object_places import failure_at, records_by_object
 from .shapes import Entry, Group, References, Shapes, Unfit
 from .system_parts import Object, Row, State, System
 from .tree import main_state, path_of
@@ -26,19 +29,72 @@ class _Asserted(Exception):
     """An assertion ends the object's records."""
 
 
+class Assigned(NamedTuple):
+    """A variable's new value, known behind a record that stands at a place of a lane."""
+
+    lane: int
+    at: int
+    name: str
+    value: int
+
+
 def course_failure(system: System, journal: Journal, owner: Object) -> Failure | None:
     """The first record that isn't what the chart makes of the events; none where its texts can't be read."""
-    spots = records_of(system, journal, owner)
-    course = _Course(system, owner, Shapes(spots, References.of(journal), owner.priority), _Events(journal))
-    try:
-        course.follow()
-    except _Asserted:
+    return Courses(system, journal, References.of(journal)).failure(owner)
+
+
+class Courses:
+    """The courses of a journal's objects. What they share, the records by object and the events of blocks, is read once."""
+
+    def __init__(self, system: System, journal: Journal, references: References):
+        self._system, self._journal, self._references = system, journal, references
+        self._spots = records_by_object(system, journal)
+        self._events = _Events(journal)
+
+    def assignments(self, owner: Object) -> list[Assigned]:
+        """The values that an object's variables get, in order, as far as the chart can be followed."""
+        course, spots = self._course(owner), self._spots[owner.priority]
+        with contextlib.suppress(_Asserted, Fault, KeyError, Unfit):
+            course.follow()
+        return [Assigned(spots[at - 1].lane, spots[at - 1].at, name, value) for at, name, value in course.assigned]
+
+    def action_that_asserts(self, owner: Object) -> str:
+        """The text of the action at which an object's records end with an assertion; nothing where the chart can't be followed up to there."""
+        course = self._course(owner)
+        try:
+            course.follow()
+        except _Asserted:
+            return course.doing
+        except (Fault, KeyError, Unfit):
+            return ""
+        return ""
+
+    def failure(self, owner: Object) -> Failure | None:
+        """The first record that isn't what the chart makes of the events; none where its texts can't be read."""
+        spots = self._spots[owner.priority]
+        try:
+            self._course(owner).follow()
+        except _Asserted:
+            return None
+        except Unfit as unfit:
+            return failure_at(spots, unfit) if unfit.at < len(spots) or not self._journal.status else None
+        except (Fault, KeyError):
+            return None
         return None
-    except Unfit as unfit:
-        return failure_at(spots, unfit) if unfit.at < len(spots) or not journal.status else None
-    except (Fault, KeyError):
-        return None
-    return None
+
+    def _course(self, owner: Object) -> "_Course":
+        shapes = Shapes(self._spots[owner.priority], self._references, owner.priority)
+        return _Course(self._system, owner, shapes, self._events)
+
+
+@lru_cache(maxsize=None)
+def _action(text: str) -> Action:
+    return read_action(text)
+
+
+@lru_cache(maxsize=None)
+def _guard(text: str) -> Expr:
+    return read_expression(text)
 
 
 class _Events:
@@ -51,13 +107,16 @@ class _Events:
                 if record.word == "new":
                     _, pool, _, block, begins, signal, *params = record.numbers
                     self._lives[pool, block].append((begins, Event(signal, tuple(params))))
+        for lives in self._lives.values():
+            lives.sort()
 
     def of(self, entry: Entry) -> Event:
         pool, block, reference = entry
         if pool == 0:
             return Event(block)
-        begun = [life for life in self._lives[pool, block] if life[0] <= reference]
-        return max(begun)[1] if begun else Event(0)
+        lives = self._lives[pool, block]
+        begun = bisect_right(lives, reference, key=lambda life: life[0])
+        return lives[begun - 1][1] if begun else Event(0)
 
 
 class _Course:
@@ -70,6 +129,8 @@ class _Course:
         self._ok = 0
         self._event = Event(0)
         self._now: Entry | None = None
+        self.doing = ""
+        self.assigned: list[tuple[int, str, int]] = []
         self._timers = {event.timer.name: event.number for event in system.time_events if event.owner is owner}
         self._priorities = {other.name: other.priority for other in system.objects} | {"me": owner.priority}
 
@@ -122,7 +183,9 @@ class _Course:
     def _handler(self) -> tuple[State, int, Row] | None:
         for state in path_of(self._leaf):
             for number, row in enumerate(state.rows, 1):
-                if row.on.number == self._event.signal and (row.when is None or read_expression(row.when)(self._names())):
+                if row.on.number == self._event.signal and (
+                    row.when is None or value_of(_guard(row.when), self._names())
+                ):
                     return state, number, row
         return None
 
@@ -147,18 +210,21 @@ class _Course:
 
     # Actions.
 
-    def _names(self) -> Names:
+    def _names(self) -> dict[str, int]:
         params = {f"p{place}": wrapped(value) for place, value in enumerate(self._event.params, 1)}
         return self._vars | params | {"ok": self._ok, "me": self._owner.priority}
 
     def _do_all(self, texts: list[str]) -> None:
         for text in texts:
-            self._do(read_action(text))
+            self.doing = text
+            self._do(_action(text))
 
     def _do(self, action: Action) -> None:
-        values = [value(self._names()) for value in action.values]
+        values = [value_of(value, self._names()) for value in action.values]
         match action.word:
             case "set":
+                if self._vars[action.name] != values[0]:
+                    self.assigned.append((self._shapes.at, action.name, values[0]))
                 self._vars[action.name] = values[0]
             case "say":
                 if self._shapes.next_word() != "say":

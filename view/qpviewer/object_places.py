@@ -8,13 +8,21 @@ from .word_places import Failure, Spot
 
 def records_of(system: System, journal: Journal, owner: Object) -> list[Spot]:
     """An object's records: those of its home lane that are its own, looks at its own queue in `port` included."""
-    home = 1 + system.objects.index(owner) if journal.kernel == PORT else 0
-    if home >= len(journal.lanes):
-        return []
-    return [
-        Spot(home, at, record) for at, record in enumerate(journal.lanes[home])
-        if record.numbers[0] == owner.priority or journal.kernel == PORT and record.word == "seen"
-    ]
+    return records_by_object(system, journal)[owner.priority]
+
+
+def records_by_object(system: System, journal: Journal) -> dict[int, list[Spot]]:
+    """The records of all objects by their priorities, in one pass over their lanes."""
+    found: dict[int, list[Spot]] = {owner.priority: [] for owner in system.objects}
+    if journal.kernel == PORT:
+        for home, (owner, records) in enumerate(zip(system.objects, journal.lanes[1:]), 1):
+            own = ((at, record) for at, record in enumerate(records) if record.numbers[0] == owner.priority or record.word == "seen")
+            found[owner.priority] = [Spot(home, at, record) for at, record in own]
+        return found
+    for at, record in enumerate(journal.lanes[0] if journal.lanes else []):
+        if (own := found.get(record.numbers[0])) is not None:
+            own.append(Spot(0, at, record))
+    return found
 
 
 def shape_failure(system: System, journal: Journal, owner: Object) -> Failure | None:

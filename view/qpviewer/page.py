@@ -30,14 +30,15 @@ _OBJECT_HEADS = (
 _POOL_HEADS = ("Pool", "Block size", "Blocks", "Fewest free", "Given", "Returned")
 
 
-def page_of(story: Story, names: tuple[str, str, str], verdict: Verdict | None = None) -> str:
-    """The page of a run; `names` are those of the system's file, the stimuli's and the journal's. It opens at the record of a
-    verdict, or where the run was stopped."""
+def page_of(story: Story, names: tuple[str, str, str], verdict: Verdict | None = None, opens_at: int | None = None) -> str:
+    """The page of a run; `names` are those of the system's file, the stimuli's and the journal's. It opens at the record that is asked for, or
+    at that of a verdict, or where the run was stopped, or else at its first stimulus."""
     system, journal = story.system, story.journal
     count = len(story.order.places)
     stop = story.stop()
     judged = record_of(verdict, story) if verdict else None
-    opens_at = judged[0] if judged else stop or 0
+    if opens_at is None:
+        opens_at = judged[0] if judged else stop if stop is not None else story.first_stimulus()
     facts = [
         f"kernel {KERNELS[journal.kernel]}", f"form {journal.form}", f"budget {journal.budget:,}",
         f"{count:,} record{'' if count == 1 else 's'}", f"{_ENDS[journal.status]} (end {journal.status})",
@@ -49,7 +50,7 @@ def page_of(story: Story, names: tuple[str, str, str], verdict: Verdict | None =
         stop=_stop(story, stop),
         notices="".join(f'<p class="notice" role="note">{notice}</p>' for notice in _notices(story, verdict, judged)),
         meaning=escape(story.order.meaning),
-        charts="\n".join(_chart(place, chart, story) for place, chart in enumerate(system.charts.values())),
+        charts=_charts(story),
         objects=_table("Objects", _OBJECT_HEADS, story.object_lines()),
         pools=_table("Pools", _POOL_HEADS, story.pool_lines()) if system.pools else "",
         records="\n".join(f"{lane} {record.text}" for lane, record in story.records()),
@@ -72,7 +73,9 @@ def _stop(story: Story, stop: int | None) -> str:
     if stop is None:
         return ""
     who, words = story.in_words(stop)
-    return f'<p class="stop"><b>{escape(who)}</b> {escape(words)}, at {_link(stop)}</p>'
+    action = story.asserting_action(stop)
+    doing = f", doing <code>{escape(action)}</code>" if action else ""
+    return f'<p class="stop"><b>{escape(who)}</b> {escape(words)}{doing}, at {_link(stop)}</p>'
 
 
 def _notices(story: Story, verdict: Verdict | None, judged: tuple[int, str] | None) -> list[str]:
@@ -97,10 +100,14 @@ def _notices(story: Story, verdict: Verdict | None, judged: tuple[int, str] | No
     return notices
 
 
-def _chart(place: int, chart: Chart, story: Story) -> str:
-    users = [entry.name for entry in reversed(story.system.objects) if entry.chart is chart]
+def _charts(story: Story) -> str:
     coverage = Coverage(story.system)
     coverage.add(story.journal)
+    return "\n".join(_chart(place, chart, story, coverage) for place, chart in enumerate(story.system.charts.values()))
+
+
+def _chart(place: int, chart: Chart, story: Story, coverage: Coverage) -> str:
+    users = [entry.name for entry in reversed(story.system.objects) if entry.chart is chart]
     room = min(_WHO, len(", ".join(users)))
     facts = []
     if users:

@@ -18,8 +18,11 @@ class RecordWords:
     def __init__(self, names: Names):
         self.names = names
 
-    def words(self, record: Record, event: str, stimulus: str) -> str:
-        """A record's words; `event` is the one that it tells of, and `stimulus` the one that a `stim` begins."""
+    def words(self, record: Record, event: str, stimulus: str, is_last_drop: bool = False) -> str:
+        """A record's words; `event` is the one that it tells of, `stimulus` the one that a `stim` begins, and `is_last_drop` says of a `dec`
+        that no reference to its block is left."""
+        if is_last_drop:
+            return f"drops the last reference of block {record.numbers[1]}.{record.numbers[2]}"
         if record.word == "stim":
             return f"stimulus {record.numbers[1]}: {stimulus}"
         if record.word in _OF_EVENT:

@@ -39,25 +39,40 @@ class Group:
 
 @dataclass
 class References:
-    """How many references to its block each drop leaves."""
+    """How many references to its block each drop leaves, and which drops are of the only reference that stands."""
 
     left: dict[tuple[int, int, int], int] = field(default_factory=dict)
+    last: set[tuple[int, int, int]] = field(default_factory=set)
 
     @staticmethod
     def of(journal: Journal) -> "References":
-        operations: dict[tuple[int, int], list[tuple[int, int]]] = defaultdict(list)
+        operations: dict[tuple[int, int], list[tuple[int, int | None]]] = defaultdict(list)
         for lane in journal.lanes:
             for record in lane:
                 if record.word in ("inc", "dec"):
-                    _, pool, block, number, *_ = record.numbers
-                    operations[pool, block].append((number, 1 if record.word == "inc" else -1))
+                    _, pool, block, number, *dropped = record.numbers
+                    operations[pool, block].append((number, dropped[0] if dropped else None))
         found = References()
-        for (pool, block), changes in operations.items():
-            standing = 0
-            for number, change in sorted(changes):
-                standing += change
-                found.left[pool, block, number] = standing
+        for block, changes in operations.items():
+            found._walk(block, sorted(changes, key=lambda change: change[0]))
         return found
+
+    def _walk(self, block: tuple[int, int], changes: list[tuple[int, int | None]]) -> None:
+        """Takes the operations of a block in order: what makes a reference has its number, what drops one names it."""
+        count, standing = 0, set()
+        for number, dropped in changes:
+            count += 1 if dropped is None else -1
+            self.left[*block, number] = count
+            if dropped is None:
+                standing.add(number)
+            elif dropped in standing:
+                standing.remove(dropped)
+                if not standing:
+                    self.last.add((*block, number))
+
+    def is_last_drop(self, record: Record) -> bool:
+        """Whether a record drops the last reference to its block, which stood."""
+        return record.word == "dec" and record.numbers[1:4] in self.last
 
 
 class Shapes:

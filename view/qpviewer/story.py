@@ -1,14 +1,17 @@
 """A run as the page's script draws it: one value of lists, numbers and texts."""
 
 from dataclasses import fields
+from functools import cached_property
 from typing import Any
 
+from .course_places import Courses
 from .foreign import Foreign, first_foreign
 from .journal import KERNELS, PORT, QK, SIM, Journal, Record
 from .naming import Names
 from .order import order_of
 from .record_words import RecordWords
 from .rows import LineRow, Rows
+from .shapes import References
 from .steps_told import Ceiling, Step, StepsTold, Stimulus
 from .system_parts import Object, System
 from .words_told import WordsTold
@@ -23,6 +26,7 @@ class Story:
         self.rows = Rows(journal, system)
         self.names = Names(system)
         self._told = RecordWords(self.names)
+        self._references = References.of(journal)
         self.words = WordsTold(system, self.names)
         self.steps = StepsTold(system, self.rows, self.words)
         self._row_of: list[int] = []
@@ -38,17 +42,31 @@ class Story:
         """The records in order, each with its lane."""
         return [(lane, self.journal.lanes[lane][at]) for lane, at in self.order.places]
 
+    def record_at(self, index: int) -> Record:
+        """The record at a place in the order."""
+        lane, at = self.order.places[index]
+        return self.journal.lanes[lane][at]
+
+    @cached_property
+    def courses(self) -> Courses:
+        """The courses of the objects through their charts."""
+        return Courses(self.system, self.journal, self._references)
+
     def line_of(self, index: int) -> int:
         """The line of the journal's text that has a record, from 1: behind the head stands each lane behind its own."""
         lane, at = self.order.places[index]
         return 2 + sum(len(records) + 1 for records in self.journal.lanes[:lane]) + at + 1
 
+    def row_of(self, index: int) -> int:
+        """The row of the time line in which a record stands."""
+        return self._row_of[index]
+
     def in_words(self, index: int) -> tuple[str, str]:
         """Who made a record, as its row is called, and what it says."""
-        lane, at = self.order.places[index]
-        record = self.journal.lanes[lane][at]
+        record = self.record_at(index)
         row = self.rows.rows[self._row_of[index]]
-        return row.name, self._told.words(record, self._events[index] or "an event", self.stimulus_of(row, record))
+        event = self._events[index] or "an event"
+        return row.name, self._told.words(record, event, self.stimulus_of(row, record), self._references.is_last_drop(record))
 
     def stimulus_of(self, row: LineRow, record: Record) -> str:
         """The line of the stimulus that a `stim` of this row begins; nothing for another record."""
@@ -67,6 +85,16 @@ class Story:
             if stops:
                 return min(stops, key=lambda index: places[index][0])
         return None
+
+    def first_stimulus(self) -> int:
+        """Where the first stimulus stands in the order; 0 where there is none."""
+        return min((stimulus.first for stimulus in self.steps.stimuli), default=0)
+
+    def asserting_action(self, index: int) -> str:
+        """The text of the chart's action whose assertion stands at a record; nothing for another record."""
+        record = self.record_at(index)
+        owner = next((entry for entry in self.system.objects if entry.priority == record.numbers[0]), None)
+        return self.courses.action_that_asserts(owner) if record.word == "assert" and owner else ""
 
     def foreign(self) -> Foreign | None:
         """The first record that names what the system doesn't have."""
@@ -91,7 +119,8 @@ class Story:
             "arrows": self.words.arrows,
             "marks": self.steps.marks,
             "opensAt": opens_at,
-            "changes": self.words.changes,
+            "changes": self._changes(),
+            "lastDrops": [index for index, (_, record) in enumerate(self.records()) if self._references.is_last_drop(record)],
             "labels": self.words.labels,
             "sources": self.stimuli,
             "objects": [self._object(entry) for entry in reversed(self.system.objects)],
@@ -107,6 +136,16 @@ class Story:
             "timers": [f"{event.owner.name}.{event.timer.name}" for event in self.system.time_events],
         }
 
+    def _changes(self) -> list[list]:
+        """What the records change, in order: words, steps, and the variables of the charts."""
+        index_of = {place: index for index, place in enumerate(self.order.places)}
+        found = [
+            ["assigned", index_of[one.lane, one.at], owner.priority, one.name, str(one.value)]
+            for owner in self.system.objects if owner.vars
+            for one in self.courses.assignments(owner)
+        ]
+        return sorted([*self.words.changes, *found], key=lambda change: change[1])
+
     def _row(self, place: int) -> dict[str, Any]:
         row = self.rows.rows[place]
         return {"kind": row.kind, "name": row.name, "priority": row.object.priority if row.object else 0}
@@ -116,6 +155,7 @@ class Story:
         return {
             "name": entry.name, "priority": entry.priority, "chart": charts.index(entry.chart),
             "capacity": entry.queue + 1, "canDefer": entry.defer > 0, "lengths": self.words.lengths[entry.priority],
+            "vars": {name: str(value) for name, value in entry.vars.items()},
         }
 
     def object_lines(self) -> list[list[str]]:

@@ -7,9 +7,12 @@ function placeOfAddress(hash = location.hash) {
 }
 
 // The address follows the chosen record, once no other one has been chosen for a moment: a browser takes few changes.
+// A page beside another one has none of its own.
 const ADDRESS_DELAY = 200;
+const hasAddress = location.protocol !== "about:";
 let addressTimer = 0;
 function followByAddress() {
+  if (!hasAddress) return;
   clearTimeout(addressTimer);
   addressTimer = setTimeout(() => {
     if (placeOfAddress() !== view.selected) history.replaceState(null, "", `#record=${view.selected + 1}`);
@@ -70,9 +73,16 @@ function search() {
   const what = wanted();
   view.hits = [];
   if (!isAny(what)) for (let index = 0; index < count; index += 1) if (isHit(index, what)) view.hits.push(index);
-  setList(byId("only").checked ? view.hits : null);
+  setList(byId("only").checked && !isAny(what) ? view.hits : null);
   if (view.hits.length && !view.hits.includes(view.selected)) goToHit(1);
   else select(view.selected, { move: false });
+}
+
+// Nothing is searched for any more; what is chosen stays.
+function clearSearch() {
+  for (const id of ["text", "kind", "owner"]) byId(id).value = "";
+  byId("text").blur();
+  search();
 }
 
 function showHits() {
@@ -87,6 +97,13 @@ function goToHit(direction) {
   const below = countBelow(hits.length, (k) => hits[k], selected);
   const next = direction > 0 ? below + (hits[below] === selected ? 1 : 0) : below - 1;
   select(hits[(next + hits.length) % hits.length]);
+}
+
+// Marks the chosen record; what lies between it and the one chosen later is counted. A second time it takes the mark away.
+function toggleMark() {
+  view.mark = view.mark === view.selected ? null : view.selected;
+  requestDraw();
+  showMoment(view.selected);
 }
 
 // The next or the previous record of the same row.

@@ -40,7 +40,10 @@ function byRow(rows) {
 }
 
 const recordsOfRow = byRow(model.rowOf);
+// The records that post an entry, in order.
+const posts = wordAt.flatMap((word, index) => (word === "post" || word === "lifo" ? [index] : []));
 const stepsOfRow = byRow(steps.row);
+const stimuliOfRow = byRow(model.stimuli.row);
 
 // How many of the ascending numbers `key(0)`, `key(1)` .. below `size` are less than `value`.
 function countBelow(size, key, value) {
@@ -84,7 +87,7 @@ class Moment {
     this.index = -1;
     this.next = 0;
     this.objects = new Map();
-    for (const { priority } of model.objects) this.object(priority);
+    for (const { priority, vars } of model.objects) this.object(priority).vars = new Map(Object.entries(vars));
     this.blocks = new Map();
     this.counters = new Map();
     this.ceilings = new Map();
@@ -93,7 +96,7 @@ class Moment {
 
   object(priority) {
     if (!this.objects.has(priority)) {
-      this.objects.set(priority, { state: 0, queue: [], deferred: [], current: null, said: null });
+      this.objects.set(priority, { state: 0, queue: [], deferred: [], current: null, said: null, vars: new Map() });
     }
     return this.objects.get(priority);
   }
@@ -110,7 +113,7 @@ class Moment {
     copy.index = this.index;
     copy.next = this.next;
     for (const [priority, object] of this.objects) {
-      copy.objects.set(priority, { ...object, queue: [...object.queue], deferred: [...object.deferred] });
+      copy.objects.set(priority, { ...object, queue: [...object.queue], deferred: [...object.deferred], vars: new Map(object.vars) });
     }
     for (const [key, block] of this.blocks) copy.blocks.set(key, { ...block, references: new Set(block.references) });
     for (const kind of ["counters", "ceilings", "subscribers"]) copy[kind] = new Map(this[kind]);
@@ -137,6 +140,7 @@ const CHANGES = {
   deferred: (moment, priority, ...entry) => moment.object(priority).deferred.push(entryOf(...entry)),
   undeferred: (moment, priority) => moment.object(priority).deferred.shift(),
   state: (moment, priority, state) => { moment.object(priority).state = state; },
+  assigned: (moment, priority, name, value) => moment.object(priority).vars.set(name, value),
   said: (moment, priority, value) => { moment.object(priority).said = value; },
   given: (moment, pool, block, label) => Object.assign(moment.block(pool, block), { given: true, label }),
   returned: (moment, pool, block) => { moment.block(pool, block).given = false; },

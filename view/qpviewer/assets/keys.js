@@ -27,6 +27,8 @@ const KEYS = [
   [["/"], "/", "search: text", () => byId("text").focus()],
   [["n"], "n", "next match", () => goToHit(1)],
   [["N", "Shift+N"], "Shift N", "previous match", () => goToHit(-1)],
+  [["m"], "m", "mark this record, or take the mark away", toggleMark],
+  [["Escape"], "Esc", "clear the search", clearSearch],
   [["t"], "t", "theme: auto, light, dark", nextTheme],
   [["?"], "?", "this list", () => byId("help").showModal()],
 ];

@@ -59,9 +59,9 @@ function drawLabels() {
     const row = model.rows[band.row];
     if (row.kind !== "object") return labelText("name", 10, middle, shorten(row.name, letters));
     const state = stateName(row.priority, moment.object(row.priority).state);
-    return labelText("name", 10, band.y + 20, shorten(row.name, letters - 3))
-      + labelText("value", right, band.y + 20, String(row.priority))
-      + labelText("state-name", 10, band.y + 36, shorten(state, letters));
+    return labelText("name", 10, band.y + 26, shorten(row.name, letters - 3))
+      + labelText("value", right, band.y + 26, String(row.priority))
+      + labelText("state-name", 10, band.y + band.height - TRACK.above - 1, shorten(state, letters));
   }).join("");
 }
 
@@ -108,12 +108,18 @@ function drawCursor() {
   return `<rect class="cursor" x="${px(x)}" y="0" width="${px(Math.max(view.scale, 1.5))}" height="${lineHeight}"/>`;
 }
 
+// The mark, from which what lies up to the chosen record is counted.
+function drawMark() {
+  if (view.mark === null) return "";
+  return `<path class="mark-line" d="M${px(middleOf(view.mark))} 0V${lineHeight}"/>`;
+}
+
 function drawLine() {
   drawAxis();
   drawWindow();
   const { bars, texts } = drawBars();
   const layers = [
-    drawCursor(), drawCeilings(), drawTicks(), drawInterruptions(), bars, drawArrows(), texts, drawMarks(), drawStrips(),
+    drawCursor(), drawMark(), drawCeilings(), drawTicks(), drawStates(), drawInterruptions(), bars, drawArrows(), texts, drawMarks(), drawStrips(),
   ];
   byId("line").innerHTML = `${drawBands()}<g class="labels">${drawLabels()}</g>`
     + `<svg id="plot" x="${SVG.label}" width="${view.width}" height="${lineHeight}">${layers.join("")}</svg>`

@@ -14,7 +14,7 @@ for (const id of ["kind", "owner", "only"]) byId(id).addEventListener("change", 
 byId("text").addEventListener("input", search);
 byId("text").addEventListener("keydown", (event) => {
   if (event.key === "Enter") goToHit(event.shiftKey ? -1 : 1);
-  else if (event.key === "Escape") byId("text").blur();
+  else if (event.key === "Escape") clearSearch();
 });
 byId("list").addEventListener("scroll", drawList);
 isNarrowPage.addEventListener("change", () => setList(list.shown));
@@ -45,14 +45,18 @@ function fillControls() {
 fillLegend();
 fillControls();
 resizeLine();
-if (view.scale < NARROW) setView(0, NARROW_START);
+// A long run is first shown in part, from a little before its first stimulus on.
+const BEFORE_FIRST = 0.1;
+if (view.scale < NARROW) setView(columns[model.stimuli.first[0] ?? 0] - BEFORE_FIRST * (view.width / NARROW_START), NARROW_START);
 new ResizeObserver(resizeLine).observe(byId("line-scroll"));
 setList(null);
 select(placeOfAddress() ?? model.opensAt);
-// A link to the record that the address still names changes no address, so a click on it chooses by itself.
+// A link to a record chooses by itself: the address may still name that record, and in a page beside another one it is the outer page's.
 document.addEventListener("click", (event) => {
   const link = event.target.closest("a[href^='#record=']");
-  if (link) select(placeOfAddress(link.hash));
+  if (!link || event.ctrlKey || event.metaKey) return;
+  event.preventDefault();
+  select(placeOfAddress(link.hash));
 });
 addEventListener("hashchange", () => { if (placeOfAddress() !== null) select(placeOfAddress()); });
 if (!count) { showMoment(-1); showSelectedChart(); }

@@ -1,11 +1,12 @@
 // The panels under the time line: the state at a record, the charts, the list of records.
 
-const entryWords = (entry) => labelOf(entry.label) + (entry.pool ? ` · ${entry.pool}.${entry.block} r${entry.reference}` : "");
+const entryWords = (entry) => labelOf(entry.label) + (entry.pool ? ` · ${entry.pool}.${entry.block}\u00a0r${entry.reference}` : "");
+
+// A narrow page leaves such fields out.
+const NONE = '<span class="none">–</span>';
 
 function chips(entries) {
-  return entries.length
-    ? `<ol class="chips">${entries.map((entry) => `<li>${escapeText(entryWords(entry))}</li>`).join("")}</ol>`
-    : '<span class="none">–</span>';
+  return entries.length ? `<ol class="chips">${entries.map((entry) => `<li>${escapeText(entryWords(entry))}</li>`).join("")}</ol>` : NONE;
 }
 
 // What an object is doing at a record.
@@ -44,18 +45,26 @@ function factList(facts) {
 }
 
 const hasDeferred = model.changes.some(([word]) => word === "deferred");
+const hasVars = model.objects.some(({ vars }) => Object.keys(vars).length);
 const hasSaid = model.changes.some(([word]) => word === "said");
+
+// An object's state, with its variables below.
+function stateCell(priority, { state, vars }) {
+  const values = [...vars].map(([name, value]) => `<span>${escapeText(name)} = ${escapeText(value)}</span>`).join(", ");
+  return escapeText(stateName(priority, state)) + (values && `<div class="vars">${values}</div>`);
+}
 
 function objectTable(moment, index) {
   const rows = model.objects.map(({ name, priority }) => {
     const object = moment.object(priority);
+    const step = doing(priority, index);
     return [
-      escapeText(name), escapeText(stateName(priority, object.state)), escapeText(doing(priority, index)),
-      chips(object.queue), chips(object.deferred), object.said ?? '<span class="none">–</span>',
+      escapeText(name), stateCell(priority, object), step === "–" ? NONE : escapeText(step),
+      chips(object.queue), chips(object.deferred), object.said ?? NONE,
     ];
   });
   const shown = [0, 1, 2, 3, ...(hasDeferred ? [4] : []), ...(hasSaid ? [5] : [])];
-  const heads = ["Object", "State", "Step", "Queue, next first", "Deferred, oldest first", "Last said"];
+  const heads = ["Object", hasVars ? "State, variables" : "State", "Step", "Queue, next first", "Deferred, oldest first", "Last said"];
   return table(shown.map((k) => heads[k]), rows.map((row) => shown.map((k) => row[k])));
 }
 
@@ -83,6 +92,18 @@ function otherFacts(moment) {
   return facts.length ? factList(facts) : "";
 }
 
+const takes = steps.first.filter((first, step) => steps.label[step] >= 0);
+
+// What lies between the mark and a record: records, steps that begin, posts.
+function betweenMarks(index) {
+  if (view.mark === null) return "";
+  const [from, to] = [Math.min(view.mark, index), Math.max(view.mark, index)];
+  const within = (list, size) => countBelow(size, (k) => list[k], to) - countBelow(size, (k) => list[k], from);
+  const parts = [[to - from, "record"], [within(takes, takes.length), "step"], [within(posts, posts.length), "post"]];
+  const words = parts.map(([number, one]) => `${grouped(number)} ${one}${number === 1 ? "" : "s"}`);
+  return `<p class="between">From record ${grouped(from + 1)} to record ${grouped(to + 1)}: ${words.join(", ")}</p>`;
+}
+
 function showMoment(index) {
   if (!count) {
     byId("moment").innerHTML = '<p class="small">This journal has no records.</p>';
@@ -92,7 +113,7 @@ function showMoment(index) {
   const moment = momentAt(index);
   byId("moment").innerHTML = `<p class="record-line"><code>${escapeText(record.text)}</code> `
     + `<span class="soft">lane ${record.lane}, record ${grouped(index + 1)}</span></p>`
-    + objectTable(moment, index) + blockTable(moment) + otherFacts(moment);
+    + betweenMarks(index) + objectTable(moment, index) + blockTable(moment) + otherFacts(moment);
 }
 
 // The step that a record belongs to, or else the last one of its object before it; -1 where there is none.

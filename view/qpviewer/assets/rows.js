@@ -35,8 +35,111 @@ function stepBar(step, dense, texts) {
   return markup;
 }
 
+// The state of each object, as spans in a track of its own; states keep their colour.
+const STATE_LOOKS = 8;
+const statesOfRow = model.rows.map(() => []);
+for (const [word, index, priority, state] of model.changes) {
+  const row = word === "state" ? rowOfObject.get(priority) : undefined;
+  if (row !== undefined) statesOfRow[row].push([index, state]);
+}
+
+// Where a pixel has more columns than five, what lies in a bin of some pixels is summed up.
+const DENSE = 0.2;
+const BIN = 2;
+const DEGREES = 8;
+
+// From where to where an object is in which state, in columns, as far as it is in view.
+function stateSpans(own) {
+  const end = view.start + view.width / view.scale;
+  const spans = [];
+  for (let k = Math.max(countBelow(own.length, (n) => columns[own[n][0]], Math.floor(view.start)) - 1, 0); k < own.length; k += 1) {
+    const [index, state] = own[k];
+    if (columns[index] > end) break;
+    spans.push({ state, first: columns[index], last: k + 1 < own.length ? columns[own[k + 1][0]] : lastColumn + 1 });
+  }
+  return spans;
+}
+
+// The same by bins, each with the state that takes most of it.
+function binnedSpans(spans) {
+  const perBin = BIN / view.scale;
+  const found = [];
+  let next = 0;
+  for (let from = view.start; from < Math.min(view.start + view.width / view.scale, lastColumn + 1); from += perBin) {
+    const shares = new Map();
+    while (next < spans.length && spans[next].last <= from) next += 1;
+    for (let k = next; k < spans.length && spans[k].first < from + perBin; k += 1) {
+      const share = Math.min(spans[k].last, from + perBin) - Math.max(spans[k].first, from);
+      shares.set(spans[k].state, (shares.get(spans[k].state) ?? 0) + share);
+    }
+    const [state] = [...shares].reduce((most, other) => (other[1] > most[1] ? other : most), [0, 0]);
+    if (found.length && found.at(-1).state === state) found.at(-1).last = from + perBin;
+    else found.push({ state, first: from, last: from + perBin });
+  }
+  return found;
+}
+
+const STATE_LETTER = 6.4;
+
+function statesOfBand(band) {
+  const { priority } = model.rows[band.row];
+  const top = band.y + band.height - TRACK.above - TRACK.height;
+  const exact = stateSpans(statesOfRow[band.row]);
+  const shapes = [];
+  const texts = [];
+  let drawn = -1;
+  for (const { state, first, last } of view.scale < DENSE ? binnedSpans(exact) : exact) {
+    const [left, right] = [Math.max(xOf(first), -2), Math.min(xOf(last), view.width + 2)];
+    if (!state || Math.round(right) <= drawn) continue;
+    drawn = Math.round(right);
+    const place = `x="${px(left)}" y="${px(top)}" height="${TRACK.height}"`;
+    shapes.push(`<rect class="state-span s${state % STATE_LOOKS}" ${place} width="${px(Math.max(right - left, 1))}"/>`);
+    if (right - left >= 10) shapes.push(`<rect class="state-edge s${state % STATE_LOOKS}" ${place} width="1.5"/>`);
+    const from = Math.max(left, 0) + 4;
+    const letters = Math.floor((right - from - 2) / STATE_LETTER);
+    if (letters >= 3) texts.push(labelText("state-text", px(from), px(top + 10), shorten(stateName(priority, state), letters)));
+  }
+  return shapes.join("") + texts.join("");
+}
+
+const drawStates = () => rowBands.filter(isObjectBand).map(statesOfBand).join("");
+
+// How much of each bin steps or stimuli take, in degrees, of which little has a finer scale than much.
+
+function densityOf(things, numbers, band) {
+  const bins = new Float64Array(Math.ceil(view.width / BIN) + 1);
+  const perBin = BIN / view.scale;
+  const from = countBelow(numbers.length, (k) => columns[things.last[numbers[k]]], Math.floor(view.start));
+  for (let k = from; k < numbers.length; k += 1) {
+    const left = (columns[things.first[numbers[k]]] - view.start) / perBin;
+    const right = (columns[things.last[numbers[k]]] + 1 - view.start) / perBin;
+    if (left >= bins.length) break;
+    for (let bin = Math.max(Math.floor(left), 0); bin < right && bin < bins.length; bin += 1) {
+      bins[bin] += Math.min(right, bin + 1) - Math.max(left, bin);
+    }
+  }
+  const [top, bottom] = barEdges(band.row);
+  const paths = Array.from({ length: DEGREES }, () => "");
+  bins.forEach((share, bin) => {
+    if (share > 0) paths[Math.min(Math.floor(Math.sqrt(share) * DEGREES), DEGREES - 1)] += `M${bin * BIN} ${px(top)}h${BIN}V${px(bottom)}h${-BIN}Z`;
+  });
+  return paths;
+}
+
+const shade = (look, degree, path) => `<path class="shade ${look}" fill-opacity="${(degree + 1) / DEGREES}" d="${path}"/>`;
+
+function shadesOfBand(look, things, numbers, band) {
+  if (!numbers.length) return "";
+  return densityOf(things, numbers, band).map((path, degree) => path && shade(look, degree, path)).join("");
+}
+
+const drawDensity = () => rowBands.map((band) => shadesOfBand("d0", steps, stepsOfRow[band.row], band)
+  + shadesOfBand("stim", model.stimuli, stimuliOfRow[band.row], band)).join("");
+
 // The bars, and the texts that stand on them above the arrows.
 function drawBars() {
+  byId("line-panel").classList.toggle("summed", view.scale < DENSE);
+  if (view.scale < DENSE) return { bars: drawDensity(), texts: "" };
   const dense = new Spans();
   const texts = [];
   let markup = "";
@@ -77,6 +180,7 @@ function drawInterruptions() {
 function drawCeilings() {
   const { ceilings } = model;
   let markup = "";
+  if (view.scale < DENSE) return markup;
   for (let number = 0; number < ceilings.first.length; number += 1) {
     const [first, last] = [columns[ceilings.first[number]], columns[ceilings.last[number]] + 1];
     if (!inView(first, last)) continue;
@@ -177,7 +281,7 @@ function markSymbol(word, x, y) {
 // Marks stand as letters where there is room; where records are narrow, all but stops are thin lines.
 function drawMarks() {
   const lastOf = rowBands.map(() => -Infinity);
-  const paths = { refused: "", aside: "", pub: "" };
+  const paths = { refused: new Set(), aside: new Set(), pub: new Set() };
   let markup = "";
   for (const [index, word] of model.marks) {
     const column = columns[index];
@@ -189,7 +293,7 @@ function drawMarks() {
     if (look === "stops" || (view.scale >= NARROW && x - lastOf[row] >= 14)) {
       markup += markSymbol(word, x, y);
       lastOf[row] = x;
-    } else paths[look] += `M${px(x)} ${y + 2}v8`;
+    } else paths[look].add(`M${Math.round(x) + 0.5} ${y + 2}v8`);
   }
-  return Object.entries(paths).map(([look, path]) => path && `<path class="more-marks ${look}" d="${path}"/>`).join("") + markup;
+  return Object.entries(paths).map(([look, path]) => (path.size ? `<path class="more-marks ${look}" d="${[...path].join("")}"/>` : "")).join("") + markup;
 }

@@ -25,6 +25,9 @@ function stimulusWords(row, place) {
   return model.sources[source]?.[place - 1] ?? `stimulus ${place}`;
 }
 
+// The records that drop the last reference to a block.
+const lastDrops = new Set(model.lastDrops);
+
 // What a record says, without who says it.
 const TOLD = {
   begin: () => "starts",
@@ -40,7 +43,7 @@ const TOLD = {
   new: ([, pool, , block], event) => `gets block ${pool}.${block} for ${event}`,
   short: ([, pool, , free, reserve]) => `is refused: pool ${pool} has ${free} free, reserve ${reserve}`,
   inc: ([, pool, block, r]) => `makes reference ${r} of block ${pool}.${block}`,
-  dec: ([, pool, block, , k]) => `drops reference ${k} of block ${pool}.${block}`,
+  dec: ([, pool, block, , k], event, text, isLast) => `drops ${isLast ? "the last reference" : `reference ${k}`} of block ${pool}.${block}`,
   back: ([, pool, , block]) => `gives block ${pool}.${block} back`,
   post: ([, queue], event) => `posts ${event} to ${objectName(queue)}`,
   lifo: (n, event) => `posts ${event} to itself, in front`,
@@ -78,7 +81,7 @@ function inWords(index) {
     ? `stimulus ${record.numbers[1]}: ${stimulusWords(row, record.numbers[1])}`
     : record.word === "say"
       ? `says ${signed(record.text.split(" ")[2])}`
-      : TOLD[record.word](record.numbers, labelOf(labelAt[index]), record.text);
+      : TOLD[record.word](record.numbers, labelOf(labelAt[index]), record.text, lastDrops.has(index));
   return { who: model.rows[row].name, words };
 }
 

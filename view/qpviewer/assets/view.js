@@ -1,6 +1,6 @@
 // The view of the time line: its bands, which columns are in view and how wide they are.
 
-const SVG = { label: 172, axis: 26, overview: 34, object: 46, other: 28, strip: 36, head: 24 };
+const SVG = { label: 172, axis: 26, overview: 34, object: 62, other: 30, strip: 36, head: 24 };
 // So many pixels has a letter of a name at most, as a rule.
 const LETTER = 7.6;
 const WIDEST_RECORD = 64;
@@ -14,7 +14,7 @@ const MARK_LETTERS = {
 const DEPTHS = 6;
 const depthLook = (depth) => `d${Math.min(depth, DEPTHS - 1)}`;
 
-const view = { start: 0, scale: 1, width: 0, selected: 0, pointed: -1, hits: [] };
+const view = { start: 0, scale: 1, width: 0, selected: 0, mark: null, pointed: -1, hits: [] };
 const escapeText = (text) => text.replace(/[&<>"]/g, (c) => ({ "&": "&amp;", "<": "&lt;", ">": "&gt;", '"': "&quot;" })[c]);
 const px = (value) => Math.round(value * 10) / 10;
 const xOf = (column) => (column - view.start) * view.scale;
@@ -39,12 +39,17 @@ const bands = (() => {
 const rowBands = bands.filter((band) => band.kind === "row");
 const lineHeight = bands.at(-1).y + bands.at(-1).height + 6;
 
+// The track of an object's states lies below its bars, above the ticks.
+const TRACK = { height: 13, above: 10 };
+const isObjectBand = (band) => model.rows[band.row].kind === "object";
+
 // The upper and lower edge of the bars of a row.
 function barEdges(row, depth = 0) {
   const band = rowBands[row];
   const inset = Math.min(depth, 2) * 2;
   const top = band.height > 40 ? 18 : 5;
-  return [band.y + top + inset, band.y + band.height - 7 - inset];
+  const below = isObjectBand(band) ? TRACK.above + TRACK.height + 2 : 10;
+  return [band.y + top + inset, band.y + band.height - below - inset];
 }
 
 // How wide a column is where the whole run is in view.
